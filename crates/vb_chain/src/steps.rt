@@ -1,7 +1,6 @@
 // The walk along a chain.
 
 ghost use Rattle.std.specs.Prelude.{◌≡◌, ◌↔◌, ◌+◌, ◌*◌, ◌<◌, ◌≤◌, ◌^◌, IfOk, IfErr, IsOkAnd, List, length, Bool};
-ghost use Rattle.vb_ram.specs.Pages.{page_at};
 ghost use Rattle.vb_chain.specs.Table.{descriptor_at};
 ghost use Rattle.vb_chain.specs.Rules.{flag, first_fault, piece_of};
 ghost use Rattle.vb_chain.specs.Chain.{ChainGives, FaultGives};
@@ -60,12 +59,12 @@ pub fn walk<G: GuestBytes>(
     head: u16,
     size: u16,
 ) -> Result<ArrayVec<Piece, 128>, ChainFault>
-    requires table { table < length (G.pages ram.now) }
+    requires table { table < length (G.mem ram.now) }
     requires size { size ≤ 128 }
-    ensures chain { IfOk result (λ pieces. ChainGives (descriptor_at (G.pages ram.now) table) size (4096 * length (G.pages ram.now)) head pieces.items) }
-    ensures fault { IfErr result (λ f. FaultGives (descriptor_at (G.pages ram.now) table) size (4096 * length (G.pages ram.now)) head f) }
-    ensures each_chain { (pieces : List Piece) → ChainGives (descriptor_at (G.pages ram.now) table) size (4096 * length (G.pages ram.now)) head pieces → IsOkAnd result (λ got. got.items ≡ pieces) }
-    ensures each_fault { (f : ChainFault) → FaultGives (descriptor_at (G.pages ram.now) table) size (4096 * length (G.pages ram.now)) head f → result ≡ Err f }
+    ensures chain { IfOk result (λ pieces. ChainGives (descriptor_at (G.mem ram.now) table) size (4096 * length (G.mem ram.now)) head pieces.items) }
+    ensures fault { IfErr result (λ f. FaultGives (descriptor_at (G.mem ram.now) table) size (4096 * length (G.mem ram.now)) head f) }
+    ensures each_chain { (pieces : List Piece) → ChainGives (descriptor_at (G.mem ram.now) table) size (4096 * length (G.mem ram.now)) head pieces → IsOkAnd result (λ got. got.items ≡ pieces) }
+    ensures each_fault { (f : ChainFault) → FaultGives (descriptor_at (G.mem ram.now) table) size (4096 * length (G.mem ram.now)) head f → result ≡ Err f }
 {
     follow(ram, table, head, size)
 }
@@ -76,15 +75,15 @@ fn follow<G: GuestBytes>(
     head: u16,
     size: u16,
 ) -> Result<ArrayVec<Piece, 128>, ChainFault>
-    requires table { table < length (G.pages ram.now) }
+    requires table { table < length (G.mem ram.now) }
     requires size { size ≤ 128 }
-    ensures chain { IfOk result (λ pieces. ChainGives (descriptor_at (G.pages ram.now) table) size (4096 * length (G.pages ram.now)) head pieces.items) }
-    ensures fault { IfErr result (λ f. FaultGives (descriptor_at (G.pages ram.now) table) size (4096 * length (G.pages ram.now)) head f) }
+    ensures chain { IfOk result (λ pieces. ChainGives (descriptor_at (G.mem ram.now) table) size (4096 * length (G.mem ram.now)) head pieces.items) }
+    ensures fault { IfErr result (λ f. FaultGives (descriptor_at (G.mem ram.now) table) size (4096 * length (G.mem ram.now)) head f) }
 {
     if head >= size {
         return Err(ChainFault::BadHead);
     }
-    let end = 4096 * u64::from(ram.page_count());
+    let end = 4096 * u64::from(ram.pages());
     let mut pieces = ArrayVec::new();
     let mut writing = false;
     let mut index = head;

@@ -1,16 +1,16 @@
 // The descriptor table at the start of a page.
 
 ghost use Rattle.std.specs.Prelude.{◌≡◌, ◌+◌, ◌*◌, ◌<◌, IsSome, length};
-ghost use Rattle.vb_ram.specs.Pages.{page_at, SameBut};
+ghost use Rattle.vb_ram.specs.Pages.{frame_at, SameBut};
 ghost use Rattle.vb_chain.specs.Table.{descriptor_at};
 
 use crate::Descriptor;
 use vb_ram::{GuestBytes, read_u16, read_u32, read_u64, write_u16, write_u32, write_u64};
 
 pub fn read_descriptor<G: GuestBytes>(ram: &G, page: u32, index: u16) -> Descriptor
-    requires page { page < length (G.pages ram.now) }
+    requires page { page < length (G.mem ram.now) }
     requires index { index < 256 }
-    ensures { result ≡ descriptor_at (G.pages ram.now) page index }
+    ensures { result ≡ descriptor_at (G.mem ram.now) page index }
 {
     let at = 16 * usize::from(index);
     Descriptor {
@@ -22,12 +22,12 @@ pub fn read_descriptor<G: GuestBytes>(ram: &G, page: u32, index: u16) -> Descrip
 }
 
 pub fn write_descriptor<G: GuestBytes>(ram: &mut G, page: u32, index: u16, descriptor: Descriptor)
-    requires page { page < length (G.pages ram.old) }
-    requires backed { IsSome (page_at (G.pages ram.old) page) }
+    requires page { page < length (G.mem ram.old) }
+    requires backed { IsSome (frame_at (G.mem ram.old) page) }
     requires index { index < 256 }
     ensures part { G.part ram.new ≡ G.part ram.old }
-    ensures put { descriptor_at (G.pages ram.new) page index ≡ descriptor }
-    ensures rest { SameBut (G.pages ram.old) (G.pages ram.new) page (16 * index) (16 * index + 16) }
+    ensures put { descriptor_at (G.mem ram.new) page index ≡ descriptor }
+    ensures rest { SameBut (G.mem ram.old) (G.mem ram.new) page (16 * index) (16 * index + 16) }
 {
     let at = 16 * usize::from(index);
     write_u64(ram, page, at, descriptor.addr);

@@ -1,7 +1,7 @@
 // A chain as a driver writes it.
 
 ghost use Rattle.std.specs.Prelude.{◌≡◌, ◌≢◌, ℕ, ◌+◌, ◌*◌, ◌<◌, ◌≤◌, IsSome, length, slice_index, slice_index_or};
-ghost use Rattle.vb_ram.specs.Pages.{page_at, SameBut};
+ghost use Rattle.vb_ram.specs.Pages.{frame_at, SameBut};
 ghost use Rattle.vb_chain.specs.Table.{descriptor_at};
 ghost use Rattle.vb_chain.specs.Written.{flags_of, linked, IsRoute};
 
@@ -27,14 +27,14 @@ pub fn write_chain<G: GuestBytes>(
     path: &[u16],
     pieces: &[Piece],
 )
-    requires page { table < length (G.pages ram.old) }
-    requires backed { IsSome (page_at (G.pages ram.old) table) }
+    requires page { table < length (G.mem ram.old) }
+    requires backed { IsSome (frame_at (G.mem ram.old) table) }
     requires size { size ≤ 256 }
     requires pair { length path.now ≡ length pieces.now }
     requires route { IsRoute size path.now }
-    ensures put { (k : ℕ) → k < length path.now → descriptor_at (G.pages ram.new) table (slice_index path.now k) ≡ linked path.now pieces.now k }
-    ensures others { (i : ℕ) → ((k : ℕ) → k < length path.now → slice_index path.now k ≢ i) → descriptor_at (G.pages ram.new) table i ≡ descriptor_at (G.pages ram.old) table i }
-    ensures rest { SameBut (G.pages ram.old) (G.pages ram.new) table 0 (16 * size) }
+    ensures put { (k : ℕ) → k < length path.now → descriptor_at (G.mem ram.new) table (slice_index path.now k) ≡ linked path.now pieces.now k }
+    ensures others { (i : ℕ) → ((k : ℕ) → k < length path.now → slice_index path.now k ≢ i) → descriptor_at (G.mem ram.new) table i ≡ descriptor_at (G.mem ram.old) table i }
+    ensures rest { SameBut (G.mem ram.old) (G.mem ram.new) table 0 (16 * size) }
 {
     for k in 0..path.len() {
         let piece = pieces[k];

@@ -1,14 +1,14 @@
 // Numbers in guest memory, lowest byte first.
 
 ghost use Rattle.std.specs.Prelude.{◌≡◌, ◌^◌, ◌<◌, IsSome};
-ghost use Rattle.vb_ram.specs.Pages.{field, page_at, Covers, PutField};
+ghost use Rattle.vb_ram.specs.Pages.{field, frame_at, Covers, PutField};
 
 use crate::GuestBytes;
 
 /// The number in the 2 bytes at an offset.
 pub fn read_u16<G: GuestBytes>(ram: &G, page: u32, offset: usize) -> u16
-    requires { Covers (G.pages ram.now) page offset 2 }
-    ensures { result ≡ field 2 (G.pages ram.now) page offset }
+    requires { Covers (G.mem ram.now) page offset 2 }
+    ensures { result ≡ field 2 (G.mem ram.now) page offset }
 {
     let mut bytes = [0; 2];
     let _ = ram.read(page, offset, &mut bytes);
@@ -17,9 +17,9 @@ pub fn read_u16<G: GuestBytes>(ram: &G, page: u32, offset: usize) -> u16
 
 /// Puts a number into the 2 bytes at an offset.
 pub fn write_u16<G: GuestBytes>(ram: &mut G, page: u32, offset: usize, value: u16)
-    requires covers { Covers (G.pages ram.old) page offset 2 }
-    requires backed { IsSome (page_at (G.pages ram.old) page) }
-    ensures put { PutField 2 (G.pages ram.old) (G.pages ram.new) page offset value }
+    requires covers { Covers (G.mem ram.old) page offset 2 }
+    requires backed { IsSome (frame_at (G.mem ram.old) page) }
+    ensures put { PutField 2 (G.mem ram.old) (G.mem ram.new) page offset value }
     ensures part { G.part ram.new ≡ G.part ram.old }
 {
     let bytes = value.to_le_bytes();
@@ -28,8 +28,8 @@ pub fn write_u16<G: GuestBytes>(ram: &mut G, page: u32, offset: usize, value: u1
 
 /// The number in the 4 bytes at an offset.
 pub fn read_u32<G: GuestBytes>(ram: &G, page: u32, offset: usize) -> u32
-    requires { Covers (G.pages ram.now) page offset 4 }
-    ensures { result ≡ field 4 (G.pages ram.now) page offset }
+    requires { Covers (G.mem ram.now) page offset 4 }
+    ensures { result ≡ field 4 (G.mem ram.now) page offset }
 {
     let mut bytes = [0; 4];
     let _ = ram.read(page, offset, &mut bytes);
@@ -38,9 +38,9 @@ pub fn read_u32<G: GuestBytes>(ram: &G, page: u32, offset: usize) -> u32
 
 /// Puts a number into the 4 bytes at an offset.
 pub fn write_u32<G: GuestBytes>(ram: &mut G, page: u32, offset: usize, value: u32)
-    requires covers { Covers (G.pages ram.old) page offset 4 }
-    requires backed { IsSome (page_at (G.pages ram.old) page) }
-    ensures put { PutField 4 (G.pages ram.old) (G.pages ram.new) page offset value }
+    requires covers { Covers (G.mem ram.old) page offset 4 }
+    requires backed { IsSome (frame_at (G.mem ram.old) page) }
+    ensures put { PutField 4 (G.mem ram.old) (G.mem ram.new) page offset value }
     ensures part { G.part ram.new ≡ G.part ram.old }
 {
     let bytes = value.to_le_bytes();
@@ -49,8 +49,8 @@ pub fn write_u32<G: GuestBytes>(ram: &mut G, page: u32, offset: usize, value: u3
 
 /// The number in the 8 bytes at an offset.
 pub fn read_u64<G: GuestBytes>(ram: &G, page: u32, offset: usize) -> u64
-    requires { Covers (G.pages ram.now) page offset 8 }
-    ensures { result ≡ field 8 (G.pages ram.now) page offset }
+    requires { Covers (G.mem ram.now) page offset 8 }
+    ensures { result ≡ field 8 (G.mem ram.now) page offset }
 {
     let mut bytes = [0; 8];
     let _ = ram.read(page, offset, &mut bytes);
@@ -59,9 +59,9 @@ pub fn read_u64<G: GuestBytes>(ram: &G, page: u32, offset: usize) -> u64
 
 /// Puts a number into the 8 bytes at an offset.
 pub fn write_u64<G: GuestBytes>(ram: &mut G, page: u32, offset: usize, value: u64)
-    requires covers { Covers (G.pages ram.old) page offset 8 }
-    requires backed { IsSome (page_at (G.pages ram.old) page) }
-    ensures put { PutField 8 (G.pages ram.old) (G.pages ram.new) page offset value }
+    requires covers { Covers (G.mem ram.old) page offset 8 }
+    requires backed { IsSome (frame_at (G.mem ram.old) page) }
+    ensures put { PutField 8 (G.mem ram.old) (G.mem ram.new) page offset value }
     ensures part { G.part ram.new ≡ G.part ram.old }
 {
     let bytes = value.to_le_bytes();

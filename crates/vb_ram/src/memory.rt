@@ -56,7 +56,7 @@ fn put(old: &mut [u8], offset: usize, bytes: &[u8])
 }
 
 impl Ram {
-    ghost use Rattle.vb_ram.specs.Frames.{pages_of};
+    ghost use Rattle.vb_ram.specs.Frames.{pages_of, seen_of};
 
     /// Memory of so many pages, with no frame.
     pub fn new(alloc: Global, pages: u32) -> Result<Ram, AllocError>
@@ -71,7 +71,7 @@ impl Ram {
 
     /// Gives a page a frame, and fills it with zeros.
     pub fn supply(&mut self, page: u32, mut frame: Frame) -> Result<(), Refused>
-        ensures ok { OnOk result (Supplied (pages_of self.old.pages.items) (pages_of self.new.pages.items) page) }
+        ensures ok { OnOk result (Supplied (pages_of self.old.pages.items) (pages_of self.new.pages.items) page frame.number) }
         ensures answers { page < length (pages_of self.old.pages.items) → page_at (pages_of self.old.pages.items) page ≡ None → IsOk result }
         ensures err { OnErr result (self.new ≡ self.old) }
     {
@@ -89,7 +89,7 @@ impl Ram {
     /// Takes a page's frame away.
     pub fn discard(&mut self, page: u32) -> Option<Frame>
         ensures none { IfNone result (self.new ≡ self.old) }
-        ensures some { IfSome result (λ f. (page_at (pages_of self.old.pages.items) page ≡ Some f.bytes.items) × Discarded (pages_of self.old.pages.items) (pages_of self.new.pages.items) page) }
+        ensures some { IfSome result (λ f. (page_at (pages_of self.old.pages.items) page ≡ Some (seen_of f)) × Discarded (pages_of self.old.pages.items) (pages_of self.new.pages.items) page) }
     {
         if page as usize >= self.pages.len() {
             return None;
@@ -113,11 +113,11 @@ impl GuestBytes for Ram {
     ghost use Rattle.vb_ram.specs.Part.{no_part};
     ghost use Rattle.vb_ram.specs.Frames.{pages_of};
 
-    ghost pages = { λ r. pages_of r.pages.items };
+    ghost mem = { λ r. pages_of r.pages.items };
 
     ghost part = { λ r. no_part };
 
-    fn page_count(&self) -> u32 {
+    fn pages(&self) -> u32 {
         self.pages.len() as u32
     }
 

@@ -1,7 +1,7 @@
 // A driver's end whose requests have several descriptors.
 
 ghost use Rattle.std.specs.Prelude.{◌≡◌, ◌≢◌, ℕ, ◌+◌, ◌*◌, ◌%◌, ◌<◌, ◌≤◌, ◌∷◌, ◌++◌, [], List, IsSome, IfOk, OnErr, IfSome, IfNone, length, take, count_by, slice_index, slice_index_or};
-ghost use Rattle.vb_ram.specs.Pages.{page_at, SameBut};
+ghost use Rattle.vb_ram.specs.Pages.{frame_at, SameBut};
 ghost use Rattle.vb_chain.specs.Table.{descriptor_at};
 ghost use Rattle.vb_chain.specs.Written.{linked, IsRoute};
 ghost use Rattle.vb_ring.specs.Ring.{IsSize, Shows, IsFreeRoute, is_free, Marked, Posted};
@@ -52,12 +52,12 @@ fn mark(owner: &mut [Option<u16>; 128], path: &[u16], head: u16)
 impl ChainRing {
     /// Publishes a request of these pieces.
     pub fn add<G: GuestBytes>(&mut self, ram: &mut G, pieces: &[Piece]) -> Result<u16, Full>
-        requires page { self.old.page < length (G.pages ram.old) }
-        requires backed { IsSome (page_at (G.pages ram.old) self.old.page) }
+        requires page { self.old.page < length (G.mem ram.old) }
+        requires backed { IsSome (frame_at (G.mem ram.old) self.old.page) }
         requires some { 0 < length pieces.now }
-        ensures full { OnErr result ((count_by is_free (take self.old.size self.old.owner) < length pieces.now) × (self.new ≡ self.old) × (G.pages ram.new ≡ G.pages ram.old)) }
-        ensures posted { IfOk result (λ h. (path : List ℕ) × Posted (G.pages ram.old) (G.pages ram.new) self.old.page self.old.size self.old.owner self.new.owner pieces.now h path) }
-        ensures shown { IfOk result (λ h. (heads : List ℕ) (pairs : List (ℕ × ℕ)) → length heads % 65536 ≡ self.old.published → Shows (G.pages ram.old) self.old.page self.old.size heads pairs → Shows (G.pages ram.new) self.old.page self.old.size (heads ++ h ∷ []) pairs) }
+        ensures full { OnErr result ((count_by is_free (take self.old.size self.old.owner) < length pieces.now) × (self.new ≡ self.old) × (G.mem ram.new ≡ G.mem ram.old)) }
+        ensures posted { IfOk result (λ h. (path : List ℕ) × Posted (G.mem ram.old) (G.mem ram.new) self.old.page self.old.size self.old.owner self.new.owner pieces.now h path) }
+        ensures shown { IfOk result (λ h. (heads : List ℕ) (pairs : List (ℕ × ℕ)) → length heads % 65536 ≡ self.old.published → Shows (G.mem ram.old) self.old.page self.old.size heads pairs → Shows (G.mem ram.new) self.old.page self.old.size (heads ++ h ∷ []) pairs) }
         ensures counted { IfOk result (λ _. (self.new.published ≡ (self.old.published + 1) % 65536) × (self.new.page ≡ self.old.page) × (self.new.size ≡ self.old.size)) }
     {
         let Some(path) = free_route(&self.owner, self.size, pieces.len()) else {
@@ -82,15 +82,15 @@ fn post_chain<G: GuestBytes>(
     pieces: &[Piece],
 )
     requires size { IsSize size }
-    requires page { page < length (G.pages ram.old) }
-    requires backed { IsSome (page_at (G.pages ram.old) page) }
+    requires page { page < length (G.mem ram.old) }
+    requires backed { IsSome (frame_at (G.mem ram.old) page) }
     requires some { 0 < length path.now }
     requires pair { length path.now ≡ length pieces.now }
     requires route { IsRoute size path.now }
-    ensures shown { (heads : List ℕ) (pairs : List (ℕ × ℕ)) → length heads % 65536 ≡ next → Shows (G.pages ram.old) page size heads pairs → Shows (G.pages ram.new) page size (heads ++ slice_index path.now 0 ∷ []) pairs }
-    ensures put { (k : ℕ) → k < length path.now → descriptor_at (G.pages ram.new) page (slice_index path.now k) ≡ linked path.now pieces.now k }
-    ensures others { (i : ℕ) → i < size → ((k : ℕ) → k < length path.now → slice_index path.now k ≢ i) → descriptor_at (G.pages ram.new) page i ≡ descriptor_at (G.pages ram.old) page i }
-    ensures rest { SameBut (G.pages ram.old) (G.pages ram.new) page 0 (18 * size + 4) }
+    ensures shown { (heads : List ℕ) (pairs : List (ℕ × ℕ)) → length heads % 65536 ≡ next → Shows (G.mem ram.old) page size heads pairs → Shows (G.mem ram.new) page size (heads ++ slice_index path.now 0 ∷ []) pairs }
+    ensures put { (k : ℕ) → k < length path.now → descriptor_at (G.mem ram.new) page (slice_index path.now k) ≡ linked path.now pieces.now k }
+    ensures others { (i : ℕ) → i < size → ((k : ℕ) → k < length path.now → slice_index path.now k ≢ i) → descriptor_at (G.mem ram.new) page i ≡ descriptor_at (G.mem ram.old) page i }
+    ensures rest { SameBut (G.mem ram.old) (G.mem ram.new) page 0 (18 * size + 4) }
 {
     write_chain(ram, page, size, path, pieces);
     publish(ram, page, size, next, path[0]);

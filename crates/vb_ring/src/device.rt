@@ -1,7 +1,7 @@
 // The device's end.
 
 ghost use Rattle.std.specs.Prelude.{◌≡◌, ℕ, ◌+◌, ◌*◌, ◌%◌, ◌<◌, ◌≤◌, ◌∷◌, ◌++◌, [], List, IsSome, IfOk, OnErr, length, slice_get, IsTrue};
-ghost use Rattle.vb_ram.specs.Pages.{page_at, SameBut};
+ghost use Rattle.vb_ram.specs.Pages.{frame_at, SameBut};
 ghost use Rattle.vb_ring.specs.Ring.{IsSize, Shows};
 ghost use Rattle.std.specs.Prelude.{Option, Result, IsOkAnd, IsSomeAnd, IfSome, IfNone, IfErr, ◌↔◌, if◌then◌else◌, true, false, slice_get};
 ghost use Rattle.std.specs.Int.{is_power_of_two};
@@ -69,17 +69,17 @@ impl Queue {
         &mut self,
         ram: &G,
     ) -> Result<Option<Taken>, ChainFault>
-        requires page { self.old.page < length (G.pages ram.now) }
+        requires page { self.old.page < length (G.mem ram.now) }
         ensures not_ready { self.old.ready ≡ false → result ≡ Ok None }
-        ensures none { next_entry (G.pages ram.now) self.old.page self.old.size self.old.taken ≡ Ok None → result ≡ Ok None }
-        ensures jump { (f : ChainFault) → self.old.ready ≡ true → next_entry (G.pages ram.now) self.old.page self.old.size self.old.taken ≡ Err f → result ≡ Err f }
-        ensures chain { (h : ℕ) (pieces : List Piece) → self.old.ready ≡ true → next_entry (G.pages ram.now) self.old.page self.old.size self.old.taken ≡ Ok (Some h) → ChainGives (descriptor_at (G.pages ram.now) self.old.page) self.old.size (4096 * length (G.pages ram.now)) h pieces → IsOkAnd result (λ got. IsSomeAnd got (λ x. (x.head ≡ h) × (x.pieces.items ≡ pieces))) }
-        ensures fault { (h : ℕ) (f : ChainFault) → self.old.ready ≡ true → next_entry (G.pages ram.now) self.old.page self.old.size self.old.taken ≡ Ok (Some h) → FaultGives (descriptor_at (G.pages ram.now) self.old.page) self.old.size (4096 * length (G.pages ram.now)) h f → result ≡ Err f }
-        ensures found { IfOk result (λ got. IfSome got (λ x. ChainGives (descriptor_at (G.pages ram.now) self.old.page) self.old.size (4096 * length (G.pages ram.now)) x.head x.pieces.items)) }
+        ensures none { next_entry (G.mem ram.now) self.old.page self.old.size self.old.taken ≡ Ok None → result ≡ Ok None }
+        ensures jump { (f : ChainFault) → self.old.ready ≡ true → next_entry (G.mem ram.now) self.old.page self.old.size self.old.taken ≡ Err f → result ≡ Err f }
+        ensures chain { (h : ℕ) (pieces : List Piece) → self.old.ready ≡ true → next_entry (G.mem ram.now) self.old.page self.old.size self.old.taken ≡ Ok (Some h) → ChainGives (descriptor_at (G.mem ram.now) self.old.page) self.old.size (4096 * length (G.mem ram.now)) h pieces → IsOkAnd result (λ got. IsSomeAnd got (λ x. (x.head ≡ h) × (x.pieces.items ≡ pieces))) }
+        ensures fault { (h : ℕ) (f : ChainFault) → self.old.ready ≡ true → next_entry (G.mem ram.now) self.old.page self.old.size self.old.taken ≡ Ok (Some h) → FaultGives (descriptor_at (G.mem ram.now) self.old.page) self.old.size (4096 * length (G.mem ram.now)) h f → result ≡ Err f }
+        ensures found { IfOk result (λ got. IfSome got (λ x. ChainGives (descriptor_at (G.mem ram.now) self.old.page) self.old.size (4096 * length (G.mem ram.now)) x.head x.pieces.items)) }
         ensures taken { IfOk result (λ got. IfSome got (λ _. self.new ≡ record self.old { taken = (self.old.taken + 1) % 65536 })) }
         ensures waits { IfOk result (λ got. IfNone got (self.new ≡ self.old)) }
         ensures kept { OnErr result (self.new ≡ self.old) }
-        ensures shown { (heads : List ℕ) (t : ℕ) → ShowsAvail (G.pages ram.now) self.old.page self.old.size heads → t % 65536 ≡ self.old.taken → t ≤ length heads → length heads ≤ t + self.old.size → next_entry (G.pages ram.now) self.old.page self.old.size self.old.taken ≡ Ok (slice_get heads t) }
+        ensures shown { (heads : List ℕ) (t : ℕ) → ShowsAvail (G.mem ram.now) self.old.page self.old.size heads → t % 65536 ≡ self.old.taken → t ≤ length heads → length heads ≤ t + self.old.size → next_entry (G.mem ram.now) self.old.page self.old.size self.old.taken ≡ Ok (slice_get heads t) }
     {
         if !self.ready {
             return Ok(None);
@@ -98,14 +98,14 @@ impl Queue {
 
     /// Uses a chain.
     pub fn add_used<G: GuestBytes>(&mut self, ram: &mut G, head: u16, len: u32)
-        requires page { self.old.page < length (G.pages ram.old) }
-        requires backed { IsSome (page_at (G.pages ram.old) self.old.page) }
+        requires page { self.old.page < length (G.mem ram.old) }
+        requires backed { IsSome (frame_at (G.mem ram.old) self.old.page) }
         requires ready { IsTrue self.old.ready }
         requires head { head < self.old.size }
         ensures counted { self.new ≡ record self.old { used = (self.old.used + 1) % 65536 } }
-        ensures shown { (heads : List ℕ) (pairs : List (ℕ × ℕ)) → length pairs % 65536 ≡ self.old.used → Shows (G.pages ram.old) self.old.page self.old.size heads pairs → Shows (G.pages ram.new) self.old.page self.old.size heads (pairs ++ (head, len) ∷ []) }
+        ensures shown { (heads : List ℕ) (pairs : List (ℕ × ℕ)) → length pairs % 65536 ≡ self.old.used → Shows (G.mem ram.old) self.old.page self.old.size heads pairs → Shows (G.mem ram.new) self.old.page self.old.size heads (pairs ++ (head, len) ∷ []) }
         ensures part { G.part ram.new ≡ G.part ram.old }
-        ensures rest { SameBut (G.pages ram.old) (G.pages ram.new) self.old.page (18 * self.old.size + 10) (26 * self.old.size + 12) }
+        ensures rest { SameBut (G.mem ram.old) (G.mem ram.new) self.old.page (18 * self.old.size + 10) (26 * self.old.size + 12) }
     {
         put_used(ram, self.page, self.size, self.used, head, len);
         self.used = self.used.wrapping_add(1);

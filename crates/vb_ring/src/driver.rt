@@ -1,7 +1,7 @@
 // The driver's end.
 
 ghost use Rattle.std.specs.Prelude.{◌≡◌, ◌≢◌, ℕ, ◌+◌, ◌*◌, ◌%◌, ◌<◌, ◌≤◌, ◌∷◌, ◌++◌, [], List, IsSome, IfOk, OnErr, length, take, position, not, true, false, slice_set, ok_or, slice_get, IfSome, IfNone, slice_index_or, count_by};
-ghost use Rattle.vb_ram.specs.Pages.{page_at, SameBut};
+ghost use Rattle.vb_ram.specs.Pages.{frame_at, SameBut};
 ghost use Rattle.vb_chain.specs.Table.{descriptor_at};
 ghost use Rattle.vb_ring.specs.Ring.{IsSize, Shows, IsLowestFree, used_answer};
 
@@ -57,17 +57,17 @@ impl DriverRing {
 
     /// Publishes one descriptor.
     pub fn add<G: GuestBytes>(&mut self, ram: &mut G, descriptor: Descriptor) -> Result<u16, Full>
-        requires page { self.old.page < length (G.pages ram.old) }
-        requires backed { IsSome (page_at (G.pages ram.old) self.old.page) }
+        requires page { self.old.page < length (G.mem ram.old) }
+        requires backed { IsSome (frame_at (G.mem ram.old) self.old.page) }
         ensures head { IfOk result (IsLowestFree self.old.busy self.old.size) }
         ensures none { OnErr result ((k : ℕ) → k < self.old.size → slice_index_or self.old.busy k true ≡ true) }
         ensures taken { IfOk result (λ h. self.new ≡ record self.old { published = (self.old.published + 1) % 65536; busy = slice_set self.old.busy h true }) }
-        ensures full { OnErr result (self.new ≡ self.old × (G.pages ram.new ≡ G.pages ram.old)) }
-        ensures shown { IfOk result (λ h. (heads : List ℕ) (pairs : List (ℕ × ℕ)) → length heads % 65536 ≡ self.old.published → Shows (G.pages ram.old) self.old.page self.old.size heads pairs → Shows (G.pages ram.new) self.old.page self.old.size (heads ++ h ∷ []) pairs) }
+        ensures full { OnErr result (self.new ≡ self.old × (G.mem ram.new ≡ G.mem ram.old)) }
+        ensures shown { IfOk result (λ h. (heads : List ℕ) (pairs : List (ℕ × ℕ)) → length heads % 65536 ≡ self.old.published → Shows (G.mem ram.old) self.old.page self.old.size heads pairs → Shows (G.mem ram.new) self.old.page self.old.size (heads ++ h ∷ []) pairs) }
         ensures part { G.part ram.new ≡ G.part ram.old }
-        ensures put { IfOk result (λ h. descriptor_at (G.pages ram.new) self.old.page h ≡ descriptor) }
-        ensures others { IfOk result (λ h. (i : ℕ) → i < self.old.size → i ≢ h → descriptor_at (G.pages ram.new) self.old.page i ≡ descriptor_at (G.pages ram.old) self.old.page i) }
-        ensures rest { IfOk result (λ _. SameBut (G.pages ram.old) (G.pages ram.new) self.old.page 0 (18 * self.old.size + 4)) }
+        ensures put { IfOk result (λ h. descriptor_at (G.mem ram.new) self.old.page h ≡ descriptor) }
+        ensures others { IfOk result (λ h. (i : ℕ) → i < self.old.size → i ≢ h → descriptor_at (G.mem ram.new) self.old.page i ≡ descriptor_at (G.mem ram.old) self.old.page i) }
+        ensures rest { IfOk result (λ _. SameBut (G.mem ram.old) (G.mem ram.new) self.old.page 0 (18 * self.old.size + 4)) }
     {
         let Some(head) = self.next_head() else {
             return Err(Full::NoneFree);
@@ -90,8 +90,8 @@ impl DriverRing {
 
     /// Takes the next head that the device has used.
     pub fn take_used<G: GuestBytes>(&mut self, ram: &G) -> Result<Option<u16>, RingFault>
-        requires page { self.old.page < length (G.pages ram.now) }
-        ensures value { result ≡ used_answer (G.pages ram.now) self.old.page self.old.size self.old.seen (count_by (λ b. b) (take self.old.size self.old.busy)) self.old.busy }
+        requires page { self.old.page < length (G.mem ram.now) }
+        ensures value { result ≡ used_answer (G.mem ram.now) self.old.page self.old.size self.old.seen (count_by (λ b. b) (take self.old.size self.old.busy)) self.old.busy }
         ensures taken { IfOk result (λ got. IfSome got (λ h. self.new ≡ record self.old { seen = (self.old.seen + 1) % 65536; busy = slice_set self.old.busy h false })) }
         ensures waits { IfOk result (λ got. IfNone got (self.new ≡ self.old)) }
         ensures kept { OnErr result (self.new ≡ self.old) }

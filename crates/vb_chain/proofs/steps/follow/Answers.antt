@@ -8,7 +8,7 @@ use Rattle.vb_chain.proofs.steps.follow.Goals as goal
 
 pub loop-visited-init : goal.loop-visited-init
 loop-visited-init g c =
-    let d = descriptor_at (g.G.GuestBytes.pages c.args.ram.now) c.args.table in
+    let d = descriptor_at (g.G.GuestBytes.mem c.args.ram.now) c.args.table in
     let start = walked_init d c.args.size (4096 * c.from-end.result) c.args.head (omega arith) in
     record {
       more = omega arith;
@@ -18,15 +18,15 @@ loop-visited-init g c =
 
 pub returns-in-Some-clause-fault : goal.returns-in-Some-clause-fault
 returns-in-Some-clause-fault g c =
-    let d = descriptor_at (g.G.GuestBytes.pages c.args.ram.now) c.args.table in
+    let d = descriptor_at (g.G.GuestBytes.mem c.args.ram.now) c.args.table in
     let end = 4096 * c.from-end.result in
     let broken = ap (first_fault c.args.size end c.loop-visited.writing c.loop-visited.visited) (sym c.read_descriptor-descriptor.ensures) ∙ sym c.fault_of.ensures ∙ c.in-Some.is in
     let told = walked_fault d c.args.size end c.args.head c.loop-visited.invariant.walked.0 _ _ _ _ c.in-Some.fault c.loop-visited.invariant.walked.1 broken in
-    subst (λ (n : ℕ). FaultGives d c.args.size (4096 * n) c.args.head c.in-Some.fault) (c.from-end.ensures ∙ c.page_count.ensures) told
+    subst (λ (n : ℕ). FaultGives d c.args.size (4096 * n) c.args.head c.in-Some.fault) (c.from-end.ensures ∙ c.pages.ensures) told
 
 pub returns-then-not-has-clause-chain : goal.returns-then-not-has-clause-chain
 returns-then-not-has-clause-chain g c =
-    let d = descriptor_at (g.G.GuestBytes.pages c.args.ram.now) c.args.table in
+    let d = descriptor_at (g.G.GuestBytes.mem c.args.ram.now) c.args.table in
     let end = 4096 * c.from-end.result in
     let x = c.read_descriptor-descriptor.result in
     let is : x ≡ d c.loop-visited.index = c.read_descriptor-descriptor.ensures in
@@ -36,12 +36,12 @@ returns-then-not-has-clause-chain g c =
     let pieces : c.push.new.self.items ≡ c.loop-visited.pieces.items ++ piece_of (d c.loop-visited.index) ∷ [] =
     c.push.ensures.items ∙ ap (λ (b : Bool). c.loop-visited.pieces.items ++ record { addr = x.addr; len = x.len; writable = b } ∷ []) c.has-writable.ensures
     ∙ ap (λ y. c.loop-visited.pieces.items ++ piece_of y ∷ []) is in
-    subst (λ (n : ℕ). ChainGives d c.args.size (4096 * n) c.args.head c.push.new.self.items) (c.from-end.ensures ∙ c.page_count.ensures)
+    subst (λ (n : ℕ). ChainGives d c.args.size (4096 * n) c.args.head c.push.new.self.items) (c.from-end.ensures ∙ c.pages.ensures)
     (subst (λ (ps : List Piece). ChainGives d c.args.size end c.args.head ps) (sym pieces) told)
 
 pub loop-visited-preserved : goal.loop-visited-preserved
 loop-visited-preserved g c =
-    let d = descriptor_at (g.G.GuestBytes.pages c.args.ram.now) c.args.table in
+    let d = descriptor_at (g.G.GuestBytes.mem c.args.ram.now) c.args.table in
     let end = 4096 * c.from-end.result in
     let x = c.read_descriptor-descriptor.result in
     let is : x ≡ d c.loop-visited.index = c.read_descriptor-descriptor.ensures in

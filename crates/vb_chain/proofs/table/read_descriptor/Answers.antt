@@ -7,7 +7,7 @@ use Rattle.vb_chain.proofs.table.read_descriptor.Goals as goal
 pub returns : goal.returns
 unfolding descriptor_at
 returns g c =
-    let mem = g.G.GuestBytes.pages c.args.ram.now in
+    let mem = g.G.GuestBytes.mem c.args.ram.now in
     let at : 16 * c.from-at.result ≡ 16 * c.args.index = ap (λ n. 16 * n) c.from-at.ensures in
     same_parts _ _
     (c.read_u64.ensures ∙ ap (field 8 mem c.args.page) at)

@@ -11,8 +11,8 @@ use Rattle.vb_chain.proofs.written.write_chain.Goals.{then-k-path, else-k-path}
 
 pub loop-k-preserved : goal.loop-k-preserved
 loop-k-preserved g c =
-    let old = g.G.GuestBytes.pages c.loop-k.ram in
-    let new = g.G.GuestBytes.pages c.write_descriptor.new.ram in
+    let old = g.G.GuestBytes.mem c.loop-k.ram in
+    let new = g.G.GuestBytes.mem c.write_descriptor.new.ram in
     let t = c.args.table in
     let path = c.args.path.now in
     let k = c.loop-k.k in

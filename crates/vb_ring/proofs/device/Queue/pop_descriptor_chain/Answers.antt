@@ -15,15 +15,15 @@ returns-then-not-self-clause-shown g c heads t shows at low near =
 
 pub returns-in-Ok-clause-chain : goal.returns-in-Ok-clause-chain
 returns-in-Ok-clause-chain g c h pieces ready next gives =
-    let d = descriptor_at (g.G.GuestBytes.pages c.args.ram.now) c.args.self.now.page in
-    let end = 4096 * length (g.G.GuestBytes.pages c.args.ram.now) in
+    let d = descriptor_at (g.G.GuestBytes.mem c.args.ram.now) c.args.self.now.page in
+    let end = 4096 * length (g.G.GuestBytes.mem c.args.ram.now) in
     let same = same_head _ c.in_ok-head.field-0 h c.in-Some.head c.in_ok-head.ensures.value c.in-Some.is next in
     (sym same, c.in-Ok.ensures.each_chain pieces (subst (λ (n : ℕ). ChainGives d c.args.self.now.size end n pieces) same gives))
 
 pub returns-in-Ok-clause-fault : goal.returns-in-Ok-clause-fault
 returns-in-Ok-clause-fault g c h f ready next gives =
-    let d = descriptor_at (g.G.GuestBytes.pages c.args.ram.now) c.args.self.now.page in
-    let end = 4096 * length (g.G.GuestBytes.pages c.args.ram.now) in
+    let d = descriptor_at (g.G.GuestBytes.mem c.args.ram.now) c.args.self.now.page in
+    let end = 4096 * length (g.G.GuestBytes.mem c.args.ram.now) in
     let same = same_head _ c.in_ok-head.field-0 h c.in-Some.head c.in_ok-head.ensures.value c.in-Some.is next in
     let other : c.walk.result ≡ Err f = c.walk.ensures.each_fault f (subst (λ (n : ℕ). FaultGives d c.args.self.now.size end n f) same gives) in
     let this = c.in-Ok.is in
@@ -31,15 +31,15 @@ returns-in-Ok-clause-fault g c h f ready next gives =
 
 pub returns-in-Err-clause-chain : goal.returns-in-Err-clause-chain
 returns-in-Err-clause-chain g c h pieces ready next gives =
-    let d = descriptor_at (g.G.GuestBytes.pages c.args.ram.now) c.args.self.now.page in
-    let end = 4096 * length (g.G.GuestBytes.pages c.args.ram.now) in
+    let d = descriptor_at (g.G.GuestBytes.mem c.args.ram.now) c.args.self.now.page in
+    let end = 4096 * length (g.G.GuestBytes.mem c.args.ram.now) in
     let same = same_head _ c.in_ok-head.field-0 h c.in-Some.head c.in_ok-head.ensures.value c.in-Some.is next in
     c.in-Err.ensures.each_chain pieces (subst (λ (n : ℕ). ChainGives d c.args.self.now.size end n pieces) same gives)
 
 pub returns-in-Err-clause-fault : goal.returns-in-Err-clause-fault
 returns-in-Err-clause-fault g c h f ready next gives =
-    let d = descriptor_at (g.G.GuestBytes.pages c.args.ram.now) c.args.self.now.page in
-    let end = 4096 * length (g.G.GuestBytes.pages c.args.ram.now) in
+    let d = descriptor_at (g.G.GuestBytes.mem c.args.ram.now) c.args.self.now.page in
+    let end = 4096 * length (g.G.GuestBytes.mem c.args.ram.now) in
     let same = same_head _ c.in_ok-head.field-0 h c.in-Some.head c.in_ok-head.ensures.value c.in-Some.is next in
     let other : c.walk.result ≡ Err f = c.walk.ensures.each_fault f (subst (λ (n : ℕ). FaultGives d c.args.self.now.size end n f) same gives) in
     let this = c.in-Err.is in
