@@ -27,10 +27,12 @@ pub const MAX_GUESTS: u32 = 8;
 
 /// Pages of a guest: a power of two in this range.
 pub const MIN_GUEST_PAGES: u32 = 64;
+
 pub const MAX_GUEST_PAGES: u32 = 16_384;
 
 /// Descriptors of each of a guest's queues: a power of two in this range.
 pub const MIN_QUEUE_SIZE: u32 = 2;
+
 pub const MAX_QUEUE_SIZE: u32 = 128;
 
 /// Processors of a guest, at least one.

@@ -105,43 +105,70 @@ impl Numbers {
 #[derive(Drop)]
 pub enum Reply {
     /// The new guest's number.
-    Plugged { guest: u32 },
+    Plugged {
+        guest: u32,
+    },
     /// It was done.
     Done,
     /// The driver is initialised.
     Ready,
     /// The first page of the block that was handed out.
-    Page { start: u32 },
+    Page {
+        start: u32,
+    },
     /// What was read.
-    ReadBytes { bytes: Bytes },
+    ReadBytes {
+        bytes: Bytes,
+    },
     /// The request's head, and how many pages it names.
-    Posted { head: u32, pages: u32 },
+    Posted {
+        head: u32,
+        pages: u32,
+    },
     /// The statistics buffer was filled and made available.
     Filled,
     /// No request was used, or the statistics buffer wasn't.
     NotUsed,
     /// The used request's head, and how many pages it named.
-    Reaped { head: u32, pages: u32 },
+    Reaped {
+        head: u32,
+        pages: u32,
+    },
     /// The head of the chain that was taken.
-    Taken { head: u32 },
+    Taken {
+        head: u32,
+    },
     /// No chain is available.
     Empty,
     /// The page that was visited, and whether it had a frame.
-    Worked { page: u32, freed: bool },
+    Worked {
+        page: u32,
+        freed: bool,
+    },
     /// There is no page to visit.
     Idle,
     /// The head of the chain that was used.
-    Finished { head: u32 },
+    Finished {
+        head: u32,
+    },
     /// The page was swept; whether it had a frame.
-    Swept { freed: bool },
+    Swept {
+        freed: bool,
+    },
     /// The statistics buffer was used.
     Asked,
     /// The new targets, by rising number of guest.
-    Targets { pages: Numbers },
+    Targets {
+        pages: Numbers,
+    },
     /// How many pages each place has.
-    Places { counts: PlaceCounts },
+    Places {
+        counts: PlaceCounts,
+    },
     /// Pages as maximal rising runs.
-    Pages { runs: PageRuns },
+    Pages {
+        runs: PageRuns,
+    },
     /// The count of ballooned pages, the configuration's two numbers, and the status.
     Balloon {
         ballooned: u32,
@@ -155,9 +182,14 @@ pub enum Reply {
         total: Option<u64>,
     },
     /// The page's frame, if it has one.
-    Backing { frame: Option<u32> },
+    Backing {
+        frame: Option<u32>,
+    },
     /// How many frames are in use, and how many are not.
-    Frames { used: u32, free: u32 },
+    Frames {
+        used: u32,
+        free: u32,
+    },
     /// It was refused.
     Refused(Refusal),
 }
