@@ -1,0 +1,9 @@
+//! A balloon device's status and features, and the port through which a driver reaches it:
+//! VIRTIO 1.1, sections 2.1, 2.2, 3.1.1 and 5.5.
+#![tactic(auto)]
+
+mod bits;
+mod port;
+
+pub use bits::{Features, Status, StatusFault};
+pub use port::Port;
