@@ -85,13 +85,18 @@ is_out_of_order status write =
 
 -- ---- the rules
 
+-- the features that FEATURES_OK asks for: MUST_TELL_HOST is the profile's demand, VERSION_1 that of VIRTIO 1.1, 6.1
+abbrev pub feature_tests : ℕ → List StatusTest
+feature_tests negotiated =
+    (not (must_tell_host negotiated) ⇒ MustTellMissing)
+    ∷ (not (version_1 negotiated) ⇒ VersionMissing)
+    ∷ []
+
 abbrev pub status_tests : ℕ → ℕ → ℕ → List StatusTest
 status_tests status negotiated write =
     (not (contains write status) ⇒ ClearsBit)
     ∷ (is_out_of_order status write ⇒ OutOfOrder)
-    ∷ ((adds status write features_ok && not (must_tell_host negotiated)) ⇒ MustTellMissing)
-    ∷ ((adds status write features_ok && not (version_1 negotiated)) ⇒ VersionMissing)
-    ∷ []
+    ∷ (if adds status write features_ok then feature_tests negotiated else [])
 
 -- why a write of the status is refused, where it is, at these negotiated features; a write of 0 resets
 abbrev pub status_refusal : ℕ → ℕ → ℕ → Option StatusRefusal

@@ -20,6 +20,13 @@ bitflag_items! {
     }
 }
 
+impl Status {
+    /// The two bits that the standard leaves unused.
+    pub(crate) const UNUSED_16: Status = Status(16);
+
+    pub(crate) const UNUSED_32: Status = Status(32);
+}
+
 impl Flags for Status {
     type Bits = u8;
 
@@ -53,6 +60,50 @@ bitflag_items! {
         const DEFLATE_ON_OOM = 4;
         const REPORTING = 32;
         const VERSION_1 = 0x1_0000_0000;
+    }
+}
+
+impl Features {
+    /// What the device offers: all five.
+    pub const OFFERED: Features = Features(0x1_0000_0027);
+
+    ghost use Rattle.std.specs.Prelude.{◌≡◌};
+    ghost use Rattle.vb_model.specs.Guest.{must_tell_host, stats_vq, deflate_on_oom, reporting, version_1};
+    ghost use Rattle.vb_status.specs.Bits.{feature_bits};
+
+    /// Whether a page that is given up is used again only after the host was told.
+    pub fn must_tell_host(self) -> bool
+        ensures { result ≡ must_tell_host (feature_bits self) }
+    {
+        self.contains(Features::MUST_TELL_HOST)
+    }
+
+    /// Whether there is a statistics queue.
+    pub fn stats_vq(self) -> bool
+        ensures { result ≡ stats_vq (feature_bits self) }
+    {
+        self.contains(Features::STATS_VQ)
+    }
+
+    /// Whether the driver may take pages back when the guest runs out of memory.
+    pub fn deflate_on_oom(self) -> bool
+        ensures { result ≡ deflate_on_oom (feature_bits self) }
+    {
+        self.contains(Features::DEFLATE_ON_OOM)
+    }
+
+    /// Whether there is a queue for reports of free blocks (profile).
+    pub fn reporting(self) -> bool
+        ensures { result ≡ reporting (feature_bits self) }
+    {
+        self.contains(Features::REPORTING)
+    }
+
+    /// Whether the device and its driver keep to VIRTIO 1.
+    pub fn version_1(self) -> bool
+        ensures { result ≡ version_1 (feature_bits self) }
+    {
+        self.contains(Features::VERSION_1)
     }
 }
 

@@ -4,6 +4,8 @@
 
 mod bits;
 mod port;
+mod rules;
 
 pub use bits::{Features, Status, StatusFault};
 pub use port::Port;
+pub use rules::{negotiate, write_status};

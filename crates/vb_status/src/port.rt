@@ -22,7 +22,7 @@ pub trait Port: GuestBytes {
         ensures answer { refusal_in result ≡ status_refusal (Self.part self.old).status (Self.part self.old).features (status_bits write) }
         ensures ok { OnOk result (Self.part self.new ≡ after_status (status_bits write) (Self.part self.old)) }
         ensures err { OnErr result (Self.part self.new ≡ Self.part self.old) }
-        ensures mem { Self.pages self.new ≡ Self.pages self.old };
+        ensures mem { Self.mem self.new ≡ Self.mem self.old };
 
     /// Accepts these features in place of those that were negotiated before; refused for OutOfOrder
     /// (the status isn't ACKNOWLEDGE and DRIVER alone), FeatureNotOffered.
@@ -30,7 +30,7 @@ pub trait Port: GuestBytes {
         ensures answer { refusal_in result ≡ negotiate_refusal (Self.part self.old).status (feature_bits wanted) }
         ensures ok { OnOk result (Self.part self.new ≡ record (Self.part self.old) { features = feature_bits wanted }) }
         ensures err { OnErr result (Self.part self.new ≡ Self.part self.old) }
-        ensures mem { Self.pages self.new ≡ Self.pages self.old };
+        ensures mem { Self.mem self.new ≡ Self.mem self.old };
 
     /// How many pages the host wants in the balloon (`num_pages`).
     fn target(&self) -> u32
@@ -39,5 +39,5 @@ pub trait Port: GuestBytes {
     /// Tells the host how many pages the driver has in the balloon (`actual`).
     fn set_actual(&mut self, pages: u32)
         ensures part { Self.part self.new ≡ record (Self.part self.old) { actual = pages } }
-        ensures mem { Self.pages self.new ≡ Self.pages self.old };
+        ensures mem { Self.mem self.new ≡ Self.mem self.old };
 }
