@@ -3,9 +3,11 @@
 #![tactic(auto)]
 
 mod bits;
+mod memory;
 mod port;
 mod rules;
 
 pub use bits::{Features, Status, StatusFault};
+pub use memory::MemoryPort;
 pub use port::Port;
 pub use rules::{negotiate, write_status};
