@@ -2,7 +2,9 @@
 
 ghost use Rattle.std.specs.Prelude.{ℕ, Bool, List, ◌≡◌, Some, false};
 ghost use Rattle.vb_model.specs.Run.{History, Run, Steps, last_world};
-ghost use Rattle.vb_model.specs.Safe.{Safe};
+ghost use Rattle.vb_model.specs.Safe.{Safe, IsHonest};
+ghost use Rattle.vb_model.specs.Consistent.{IsConsistent};
+ghost use Rattle.vb_model.specs.Orderly.{IsOrderly};
 ghost use Rattle.vb_model.specs.GuestRun.{InOneLife, Alone};
 ghost use Rattle.vb_model.specs.declared.calls.Event.{Event};
 ghost use Rattle.vb_model.specs.declared.replies.Reply.{Reply};
@@ -12,6 +14,20 @@ ghost use Rattle.vb_model.specs.World.{World, guest_at};
 /// Every run is safe, whatever events come in whatever order.
 pub fn every_run_is_safe()
     ensures safe { (frames : ℕ) (spares : List Bool) (h : History) → Run frames spares h → Safe h }
+{}
+
+/// In every state of a run an honest guest's parts agree: each used page lies in one held block, and
+/// each giving, taking or reporting page is named by one request of the kind, and no other page is;
+/// a page is ballooned where it is lent, or named by a used inflate or by a deflate on its way.
+pub fn honest_guests_are_consistent()
+    ensures consistent { (frames : ℕ) (spares : List Bool) (h : History) → Run frames spares h → (n i : ℕ) (g : Guest) → IsHonest h n i g → IsConsistent g }
+{}
+
+/// In every state of a run an honest guest is in order: requests of one kind have different heads
+/// and distinct pages, no more pages are visited than named, no more requests are outstanding than
+/// may be, just the first pages are reserved, and the status is 0, 15 or 131.
+pub fn honest_guests_are_in_order()
+    ensures orderly { (frames : ℕ) (spares : List Bool) (h : History) → Run frames spares h → (n i : ℕ) (g : Guest) → IsHonest h n i g → IsOrderly g }
 {}
 
 /// Within one life of an honest guest its calls and their replies are a run of its own: of other
