@@ -2,7 +2,8 @@
 use Rattle.std.proofs.Common.{◌≡◌, ◌≢◌, ℕ, zero, suc, ◌+◌, ◌<◌, List, Option, Some, None, length, get_or, set, replicate, refl, sym, ◌∙◌, ap, inl, inr}
 use Rattle.std.proofs.lemmas.Bool.{cases_eq}
 use Rattle.std.proofs.lemmas.List.{get_or-set_same, get_or-set_other, get_or_default, length-set}
-use Rattle.vb_ram.specs.Pages.{Page, Pages, byte_of, byte_at, number_of, contents_of, zero_page, page_at, frame_at, contents_at, IsWhole, Wrote, Supplied}
+use Rattle.vb_model.specs.Guest.{zero_page}
+use Rattle.vb_ram.specs.Pages.{Page, Pages, byte_of, byte_at, number_of, contents_of, page_at, frame_at, contents_at, IsWhole, Wrote, Supplied}
 use Rattle.vb_ram.specs.Contents.{length-zero_page, zero_page-at}
 use Rattle.vb_ram.specs.Memory.{IsMemory}
 use Rattle.vb_ram.specs.Put.{PutAt}

@@ -3,8 +3,9 @@ use Rattle.std.specs.Prelude.{◌≡◌, ℕ, ◌+◌, ◌-◌, ◌<◌, ◌≤�
 use Rattle.std.proofs.Common.{sym, ◌∙◌, ap, arith, inl, inr}
 use Rattle.std.proofs.lemmas.Bool.{cases_eq, cases_lt}
 use Rattle.std.proofs.lemmas.List.{get_or-replicate, get_or_past, length-replicate, ext_get_or, length-take-le, length-drop, length-append, get_or-take, get_or-drop, get_or_append_left, get_or-append_right}
+use Rattle.vb_model.specs.Guest.{zero_page}
 use Rattle.vb_model.specs.Driver.{overwritten}
-use Rattle.vb_ram.specs.Pages.{Page, Pages, zero_page, byte_of, contents_of, number_of, page_at, frame_at, contents_at, byte_at, IsWhole, SameBut, SameIn, Wrote, Supplied, Discarded}
+use Rattle.vb_ram.specs.Pages.{Page, Pages, byte_of, contents_of, number_of, page_at, frame_at, contents_at, byte_at, IsWhole, SameBut, SameIn, Wrote, Supplied, Discarded}
 
 -- so many zeros, at any offset
 zeros-at : (n k : ℕ) → slice_index (replicate n 0) k ≡ 0

@@ -1,24 +1,19 @@
 // How large a guest is.
 
 ghost use Rattle.std.specs.Prelude.{◌≡◌, Option, Some, None, if◌then◌else◌};
-ghost use Rattle.vb_model.specs.World.{is_config};
+ghost use Rattle.std.specs.Prelude.{◌&&◌};
+ghost use Rattle.vb_model.specs.Limits.{is_config, is_between, is_power_of_two};
 
-/// How many pages a guest may have: the powers of two from 64 to 16,384 (profile).
-pub const PAGE_COUNTS: [u32; 9] = [64, 128, 256, 512, 1024, 2048, 4096, 8192, 16_384];
-
-/// How many descriptors a queue may have: the powers of two from 2 to 128 (profile; VIRTIO 1.1, 2.6,
-/// allows up to 32,768).
-pub const QUEUE_SIZES: [u16; 7] = [2, 4, 8, 16, 32, 64, 128];
-
-/// How many processors a guest may have at most, and one at least (profile).
-pub const MAX_PROCESSORS: u32 = 4;
+use vb_model::limits::{
+    MAX_GUEST_PAGES, MAX_PROCESSORS, MAX_QUEUE_SIZE, MIN_GUEST_PAGES, MIN_QUEUE_SIZE,
+};
 
 /// How large a guest is: plain data, which may be beyond the limits.
 #[derive(Clone, Copy, Debug, PartialEq, Eq)]
 pub struct Config {
     /// Pages of memory.
     pub pages: u32,
-    /// Descriptors of each queue.
+    /// Descriptors of each queue (VIRTIO 1.1, 2.6).
     pub queue_size: u16,
     /// Processors, each with a list of free pages.
     pub processors: u32,
@@ -31,22 +26,49 @@ impl Config {
             then Some (record { pages = pages; queue_size = queue_size; processors = processors })
             else None) }
     {
-        let queue_size = u16::try_from(queue_size).ok()?;
-        let config = Config {
+        if !are_within_limits(pages, queue_size, processors) {
+            return None;
+        }
+        Some(Config {
             pages,
-            queue_size,
+            queue_size: queue_size as u16,
             processors,
-        };
-        config.is_within_limits().then_some(config)
+        })
     }
 
-    /// Whether each size is one that a guest may have: pages, descriptors and processors within
-    /// `PAGE_COUNTS`, `QUEUE_SIZES` and 1 to `MAX_PROCESSORS`.
+    /// Whether each size is one that a guest may have: pages and descriptors a power of two, and all
+    /// three within their bounds (profile).
     pub fn is_within_limits(&self) -> bool
         ensures { result ≡ is_config self.now.pages self.now.queue_size self.now.processors }
     {
-        PAGE_COUNTS.contains(&self.pages)
-            && QUEUE_SIZES.contains(&self.queue_size)
-            && (1..=MAX_PROCESSORS).contains(&self.processors)
+        are_within_limits(self.pages, u32::from(self.queue_size), self.processors)
     }
+}
+
+fn are_within_limits(pages: u32, queue_size: u32, processors: u32) -> bool
+    ensures { result ≡ is_config pages queue_size processors }
+{
+    let pages_fit = is_power_between(pages, MIN_GUEST_PAGES, MAX_GUEST_PAGES);
+    let queue_fits = is_power_between(queue_size, MIN_QUEUE_SIZE, MAX_QUEUE_SIZE);
+    let processors_fit = is_between(processors, 1, MAX_PROCESSORS);
+    pages_fit & (queue_fits & processors_fit)
+}
+
+fn is_power_between(number: u32, least: u32, most: u32) -> bool
+    ensures { result ≡ (is_between least most number && is_power_of_two number) }
+{
+    is_between(number, least, most) & is_power_of_two(number)
+}
+
+fn is_between(number: u32, least: u32, most: u32) -> bool
+    ensures { result ≡ is_between least most number }
+{
+    (least..=most).contains(&number)
+}
+
+/// Whether the number is a power of two, in the words of the definitions.
+fn is_power_of_two(number: u32) -> bool
+    ensures { result ≡ is_power_of_two number }
+{
+    (0..32).any(|exponent| 2u32.pow(exponent) == number)
 }

@@ -2,7 +2,7 @@
 
 ghost use Rattle.std.specs.Prelude.{◌≡◌, ◌+◌, ◌≤◌, IfOk, IfErr, length};
 ghost use Rattle.vb_ram.specs.Put.{PutAt};
-ghost use Rattle.vb_ram.specs.Pages.{zero_page};
+ghost use Rattle.vb_model.specs.Guest.{zero_page};
 
 use crate::{PAGE_SIZE, RamFault};
 use std::alloc::Global;

@@ -15,16 +15,17 @@ mod fields;
 mod frame;
 mod memory;
 
-pub use config::{Config, MAX_PROCESSORS, PAGE_COUNTS, QUEUE_SIZES};
+pub use config::Config;
 pub use fields::{read_u16, read_u32, read_u64, write_u16, write_u32, write_u64};
 pub use frame::Frame;
 pub use memory::{Ram, SupplyRefused};
 
 use std::alloc::AllocError;
 use thiserror::Error;
+use vb_model::limits;
 
 /// The bytes of a page, and of a frame.
-pub const PAGE_SIZE: usize = 4096;
+pub const PAGE_SIZE: usize = limits::PAGE_SIZE as usize;
 
 /// Why a call on guest memory is refused.
 #[derive(Clone, Copy, Debug, PartialEq, Eq, Error)]

@@ -1,5 +1,6 @@
 use Rattle.std.proofs.Common.{◌≡◌, ℕ, List, ◌∙◌, ap, vec_len}
-use Rattle.vb_ram.specs.Pages.{Page, zero_page}
+use Rattle.vb_model.specs.Guest.{zero_page}
+use Rattle.vb_ram.specs.Pages.{Page}
 use Rattle.vb_ram.specs.Contents.{zero_page_is}
 use Rattle.vb_ram.proofs.frame.Frame.clear.Goals as goal
 
