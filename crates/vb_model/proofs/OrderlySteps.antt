@@ -19,10 +19,10 @@ use Rattle.vb_model.specs.Tests.{is_in, pages_where}
 use Rattle.vb_model.specs.Pages.{Block, pages_of, pages_of_all, is_free, is_used, is_giving, is_lent, is_taking, is_reporting, is_stranded, place_of, placed}
 use Rattle.vb_model.specs.Requests.{Request, Requests, no_requests, outstanding, Kind, Inflating, Deflating, Reporting_free, kind_of_queue, place_after, Buffer, NoBuffer, BufferPosted, BufferTaken, BufferDone}
 use Rattle.vb_model.specs.Guest.{Guest, Config, fresh, requests, with_requests}
-use Rattle.vb_model.specs.Refusals.{refusal_of, feature_refusal, tests, room, inflate_count, deflate_count, oom_count, reported_blocks}
+use Rattle.vb_model.specs.Refusals.{refusal_of, tests, room, inflate_count, deflate_count, oom_count, reported_blocks}
 use Rattle.vb_model.specs.Driver.{Reaps, Fills, Written, pages_needed, stranded_first, lowest_lent, reaped}
 use Rattle.vb_model.specs.Device.{Takes, TakesBuffer, Finishes, Asks, settled, used, visited}
-use Rattle.vb_model.specs.Life.{Negotiates, lacking, place_after_reset, after_reset}
+use Rattle.vb_model.specs.Life.{feature_refusal, Negotiates, lacking, place_after_reset, after_reset}
 use Rattle.vb_model.specs.Rogue.{Scribbled}
 use Rattle.vb_model.specs.Step.{Performs, HonestStep}
 use Rattle.vb_model.specs.Consistent.{IsConsistent}

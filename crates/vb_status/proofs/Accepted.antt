@@ -2,7 +2,10 @@
 use Rattle.std.proofs.Common.{◌≡◌, ℕ, Bool, true, false, not, eqb, ◌&&◌, List, [], ◌∷◌, Option, Some, None, cond, refl, sym, subst, ap, ◌∙◌, IsTrue, ◌⊎◌, inl, inr}
 use Rattle.std.proofs.lemmas.Bool.{false≢true, eqb-true}
 use Rattle.vb_model.specs.Guest.{must_tell_host, version_1, offered_features}
-use Rattle.vb_model.specs.Status.{StatusRefusal, StatusTest, ClearsBit, OutOfOrder, FeatureNotOffered, MustTellMissing, VersionMissing, ◌⇒◌, first_refusal, contains, adds, is_out_of_order, feature_tests, status_tests, features_ok, negotiate_refusal, negotiate_tests}
+use Rattle.vb_model.specs.declared.replies.Refusal.{Refusal}
+use Rattle.vb_model.specs.declared.replies.Refusal.TheVariants.{ClearsBit, OutOfOrder, FeatureNotOffered, MustTellMissing, VersionMissing}
+use Rattle.vb_model.specs.Refusals.{Test, ◌⇒◌, first_refusal}
+use Rattle.vb_model.specs.Status.{contains, adds, is_out_of_order, needed_tests, status_tests, features_ok, negotiate_refusal, negotiate_tests}
 use Rattle.vb_status.specs.Agreement.{Request, Write, Negotiate, Agreement, refusal_of, after_request, Leads, unplugged}
 
 -- the status has FEATURES_OK only with the two features

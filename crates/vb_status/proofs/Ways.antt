@@ -2,7 +2,8 @@
 use Rattle.std.proofs.Common.{◌≡◌, ◌≢◌, ℕ, zero, suc, ◌+◌, ◌<◌, Bool, true, false, not, eqb, ◌&&◌, ◌||◌, List, [], ◌∷◌, None, cond, refl, sym, subst, ap, ◌∙◌, ◌⊎◌, inl, inr, below_more, arith}
 use Rattle.std.proofs.lemmas.Bool.{false≢true, eqb-true, eq-eqb}
 use Rattle.std.proofs.lemmas.Bool.Decides.{nat_tests}
-use Rattle.vb_model.specs.Status.{contains, is_out_of_order, first_refusal, status_tests}
+use Rattle.vb_model.specs.Refusals.{first_refusal}
+use Rattle.vb_model.specs.Status.{contains, is_out_of_order, status_tests}
 use Rattle.vb_status.specs.Agreement.{Request, Write, Negotiate, Agreement, refusal_of, after_request, Leads, AreSteps, changes, unplugged}
 use Rattle.vb_status.proofs.Accepted.{accepted_write}
 

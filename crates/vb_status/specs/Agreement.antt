@@ -1,7 +1,11 @@
 -- What a driver and its device agree on, request by request, until the device is ready: VIRTIO 1.1, 3.1.1.
 use Rattle.std.specs.Prelude.{◌≡◌, ℕ, suc, ◌+◌, ◌^◌, ◌<◌, ◌==◌, not, List, [], ◌∷◌, Option, Some, None, MatchOption, if◌then◌else◌, ◌≢◌}
 use Rattle.vb_model.specs.Guest.{offered_features, must_tell_host, version_1}
-use Rattle.vb_model.specs.Status.{StatusRefusal, FeatureNotOffered, ◌⇒◌, first_refusal, contains, feature_tests, features_ok, failed, status_refusal, negotiate_refusal}
+use Rattle.vb_model.specs.declared.replies.Refusal.{Refusal}
+use Rattle.vb_model.specs.declared.replies.Refusal.TheVariants.{FeatureNotOffered}
+use Rattle.vb_model.specs.Refusals.{◌⇒◌, first_refusal}
+use Rattle.vb_model.specs.Life.{feature_refusal}
+use Rattle.vb_model.specs.Status.{contains, needed_tests, features_ok, failed, status_refusal, negotiate_refusal}
 
 pub data Request : Type 0 where
   Write : ℕ → Request
@@ -12,7 +16,7 @@ pub record Agreement : Type 0 where
   pub features : ℕ
 
 -- why the request is refused, where it is
-abbrev pub refusal_of : Agreement → Request → Option StatusRefusal
+abbrev pub refusal_of : Agreement → Request → Option Refusal
 refusal_of a (Write status) = status_refusal a.status a.features status
 refusal_of a (Negotiate wanted) = negotiate_refusal a.status wanted
 
@@ -43,7 +47,7 @@ changes status (Write next ∷ requests) = if next == status then changes status
 changes status (Negotiate wanted ∷ requests) = changes status requests
 
 -- what the requests leave, up to the first that is refused
-abbrev pub outcome : Agreement → List Request → Agreement × Option StatusRefusal
+abbrev pub outcome : Agreement → List Request → Agreement × Option Refusal
 outcome a [] = (a, None)
 outcome a (request ∷ requests) = elim (refusal_of a request) [ None ↦ outcome (after_request a request) requests | Some refusal ↦ (a, Some refusal) ]
 
@@ -51,14 +55,10 @@ outcome a (request ∷ requests) = elim (refusal_of a request) [ None ↦ outcom
 abbrev pub initialisation : ℕ → List Request
 initialisation wanted = Write 0 ∷ Write 1 ∷ Write 3 ∷ Negotiate wanted ∷ Write 11 ∷ Write 15 ∷ []
 
--- why a device isn't initialised with these features, where it isn't
-abbrev pub initialisation_refusal : ℕ → Option StatusRefusal
-initialisation_refusal wanted = first_refusal ((not (contains offered_features wanted) ⇒ FeatureNotOffered) ∷ feature_tests wanted)
-
 -- where it stands after an initialisation: ready, or at ACKNOWLEDGE and DRIVER with what was negotiated
-abbrev pub initialised : ℕ → Agreement × Option StatusRefusal
+abbrev pub initialised : ℕ → Agreement × Option Refusal
 initialised wanted =
-    elim (initialisation_refusal wanted) [
+    elim (feature_refusal wanted) [
       | None ↦ (record { status = 15; features = wanted }, None)
       | Some refusal ↦ (record { status = 3; features = if contains offered_features wanted then wanted else 0 }, Some refusal)
     ]
