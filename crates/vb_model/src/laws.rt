@@ -1,6 +1,6 @@
 //! Laws about the definitions. Each is the contract of a function that does nothing.
 
-ghost use Rattle.std.specs.Prelude.{ℕ, Bool, List, ◌≡◌, Some, false};
+ghost use Rattle.std.specs.Prelude.{ℕ, Bool, List, [], ◌∷◌, ◌≡◌, Some, false};
 ghost use Rattle.vb_model.specs.Run.{History, Run, Steps, last_world};
 ghost use Rattle.vb_model.specs.Safe.{Safe, IsHonest};
 ghost use Rattle.vb_model.specs.Consistent.{IsConsistent};
@@ -8,6 +8,7 @@ ghost use Rattle.vb_model.specs.Orderly.{IsOrderly};
 ghost use Rattle.vb_model.specs.GuestRun.{InOneLife, Alone};
 ghost use Rattle.vb_model.specs.declared.calls.Event.{Event};
 ghost use Rattle.vb_model.specs.declared.replies.Reply.{Reply};
+ghost use Rattle.vb_model.specs.declared.replies.Reply.TheVariants.{Plugged, Ready, Page, Done, Posted, Taken, Finished, Reaped};
 ghost use Rattle.vb_model.specs.Guest.{Guest};
 ghost use Rattle.vb_model.specs.World.{World, guest_at};
 
@@ -36,4 +37,11 @@ pub fn a_guest_runs_alone()
     ensures alone { (n : ℕ) (w : World) (events : List Event) (replies : List Reply) (after : List World) (g new : Guest)
         → Steps w events replies after → InOneLife n events → guest_at w.guests n ≡ Some g
         → guest_at (last_world w after).guests n ≡ Some new → new.rogue ≡ false → Alone n events replies g new }
+{}
+
+/// A run that is one, so that what is promised of runs is promised of something: a guest is plugged
+/// in and initialised, writes to a page of its own, and gives four pages to the host.
+pub fn a_run_is_there()
+    ensures run { (h : History) × Run 64 (false ∷ []) h
+        × (h.replies ≡ Plugged 0 ∷ Ready ∷ Page 16 ∷ Done ∷ Done ∷ Posted 0 4 ∷ Taken 0 ∷ Finished 0 ∷ Reaped 0 4 ∷ []) }
 {}
