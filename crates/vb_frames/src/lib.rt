@@ -11,7 +11,6 @@ mod table;
 mod tests;
 
 pub use table::{FrameTable, a_table_gives_the_least};
-
 use thiserror::Error;
 use vb_ram::Frame;
 

@@ -68,10 +68,12 @@ fn least_free(out: &[bool], full: &[bool]) -> Option<usize>
     requires { IsGrouped out.now full.now }
     ensures { MatchOption result (AllOut out.now) (λ n. IsFree out.now n × ((m : ℕ) → m < n → is_out out.now m ≡ true)) }
 {
-    let group = first_free(full)?;
-    match first_free(group_flags(out, group)) {
-        Some(place) => Some(group * GROUP + place),
-        None => unreachable!(),
+    match first_free(full) {
+        None => None,
+        Some(group) => match first_free(group_flags(out, group)) {
+            Some(place) => Some(group * GROUP + place),
+            None => unreachable!(),
+        },
     }
 }
 

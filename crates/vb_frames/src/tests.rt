@@ -5,8 +5,8 @@ ghost use Rattle.vb_model.specs.declared.calls.Claim.{Claim};
 ghost use Rattle.vb_frames.specs.Out.{AllAnswered, after_claims, is_out};
 
 use crate::{FrameKeeper, FrameTable, Refused};
-use std::alloc::AllocError;
 use std::process::Abort;
+use std::test::Fail;
 use vb_ram::Frame;
 
 /// A keeper of one table that refuses its third claim.
@@ -61,7 +61,7 @@ fn expect_number(rt: &impl Abort, claimed: Result<Frame, Refused>, number: u32) 
 }
 
 #[test]
-fn a_table_gives_the_least_number(rt: HostRuntime) -> Result<(), AllocError> {
+fn a_table_gives_the_least_number(rt: HostRuntime) -> Result<(), Fail> {
     let mut table = FrameTable::new(rt.alloc(), 600)?;
     for number in 0..599 {
         let _ = expect_number(&rt, table.claim(), number);
