@@ -1,5 +1,5 @@
 -- What an accepted write or negotiation says.
-use Rattle.std.proofs.Common.{◌≡◌, ℕ, Bool, true, false, not, eqb, ◌&&◌, List, [], ◌∷◌, Option, Some, None, cond, refl, sym, subst, ap, ◌∙◌, IsTrue, ◌⊎◌, inl, inr}
+use Rattle.std.proofs.Common.{◌≡◌, ℕ, Bool, true, false, not, eqb, ◌&&◌, List, [], ◌∷◌, None, cond, refl, subst, IsTrue, ◌⊎◌, inl, inr}
 use Rattle.std.proofs.lemmas.Bool.{false≢true, eqb-true}
 use Rattle.vb_model.specs.Guest.{must_tell_host, version_1, offered_features}
 use Rattle.vb_model.specs.declared.replies.Refusal.{Refusal}
@@ -40,7 +40,7 @@ write_keeps : (a : Agreement) (w : ℕ) (reset : Bool) → cond reset None (firs
 write_keeps a w true h s = λ e. absurd (false≢true e)
 write_keeps a w false h s = λ e.
     elim (added_or_there (contains a.status features_ok) (contains w features_ok) e) [
-      inl there ↦ s there
+      | inl there ↦ s there
       | inr added ↦ let both = (accepted_write a.status a.features w h).2 added in (both.0, both.1)
     ]
 

@@ -89,9 +89,9 @@ failing false false s z e t = absurd (false≢true e)
 follows : (p : Stage) (w : ℕ) → w < 256 → may_follow (number p) w ≡ true → (w ≡ number p) ⊎ ((w ≡ number (next p)) ⊎ (w ≡ number p + 128))
 follows p w h e =
     elim (following (may_follow (number p) w) (eqb w (number p)) (eqb w (number (next p))) (eqb w (number p + 128)) e (below 256 (follows_rightly p) (all_follow p) w h)) [
-      inl same ↦ inl (eqb-true w (number p) same)
+      | inl same ↦ inl (eqb-true w (number p) same)
       | inr other ↦ elim other [
-        inl on ↦ inr (inl (eqb-true w (number (next p)) on))
+        | inl on ↦ inr (inl (eqb-true w (number (next p)) on))
         | inr gone ↦ inr (inr (eqb-true w (number p + 128) gone))
       ]
     ]
@@ -151,11 +151,11 @@ leads_on p [] a last at h steps e = at_the_end p (sym at ∙ ap (λ (x : Agreeme
 leads_on p (Write w ∷ requests) a last at h steps e =
     let arrived = led_to a w (eqb w 0) refl steps.0 in
     elim (follows p w steps.1 (may_write a w (number p) at steps.0 h.0)) [
-      inl same ↦ subst (λ (b : Bool). cond b (changes (number p) requests) (w ∷ changes w requests) ≡ rest p) (sym (eq-eqb w (number p) same))
-        (leads_on p requests (after_request a (Write w)) last (arrived ∙ same) h.1 steps.2 e)
+      | inl same ↦ subst (λ (b : Bool). cond b (changes (number p) requests) (w ∷ changes w requests) ≡ rest p) (sym (eq-eqb w (number p) same))
+          (leads_on p requests (after_request a (Write w)) last (arrived ∙ same) h.1 steps.2 e)
       | inr other ↦ elim other [
-        inl on ↦ subst (λ (v : ℕ). cond (eqb v (number p)) (changes (number p) requests) (v ∷ changes v requests) ≡ rest p) (sym on)
-          (one_on p requests (leads_on (next p) requests (after_request a (Write w)) last (arrived ∙ on) h.1 steps.2 e))
+        | inl on ↦ subst (λ (v : ℕ). cond (eqb v (number p)) (changes (number p) requests) (v ∷ changes v requests) ≡ rest p) (sym on)
+            (one_on p requests (leads_on (next p) requests (after_request a (Write w)) last (arrived ∙ on) h.1 steps.2 e))
         | inr gone ↦ absurd (never_ready p requests (after_request a (Write w)) last (arrived ∙ gone) h.1 steps.2 e)
       ]
     ]

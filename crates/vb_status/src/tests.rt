@@ -2,7 +2,7 @@
 
 use crate::{Features, MemoryPort, Port, Status, StatusFault, negotiate, write_status};
 use bitflags::Flags;
-use std::alloc::AllocError;
+use std::test::Fail;
 use std::process::Abort;
 use vb_ram::{GuestBytes, Ram};
 
@@ -83,7 +83,7 @@ fn numbers_its_faults(rt: HostRuntime) {
 }
 
 #[test]
-fn a_port_keeps_what_is_written(rt: HostRuntime) -> Result<(), AllocError> {
+fn a_port_keeps_what_is_written(rt: HostRuntime) -> Result<(), Fail> {
     let mut port = MemoryPort::new(Ram::new(rt.alloc(), 64)?);
     assert_eq!(rt; port.pages(), 64);
     assert!(rt; port.write_status(status(1)) == Ok(()));
