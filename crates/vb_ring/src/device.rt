@@ -6,19 +6,19 @@ ghost use Rattle.vb_ring.specs.Ring.{IsSize, Shows};
 ghost use Rattle.std.specs.Prelude.{Option, Result, IsOkAnd, IsSomeAnd, IfSome, IfNone, IfErr, ◌↔◌, if◌then◌else◌, true, false, slice_get};
 ghost use Rattle.std.specs.Int.{is_power_of_two};
 ghost use Rattle.vb_chain.specs.Table.{descriptor_at};
+ghost use Rattle.vb_chain.specs.declared.Piece.{Piece};
 ghost use Rattle.vb_chain.specs.Chain.{ChainGives, FaultGives};
 ghost use Rattle.vb_ring.specs.Ring.{ShowsAvail, next_entry};
 
 use crate::{next_head, put_used};
-use arrayvec::ArrayVec;
-use vb_chain::{ChainFault, Piece, walk};
+use vb_chain::{Chain, ChainFault, walk};
 use vb_ram::GuestBytes;
 
 /// A chain that was taken.
 #[derive(Drop)]
 pub struct Taken {
     pub head: u16,
-    pub pieces: ArrayVec<Piece, 128>,
+    pub chain: Chain,
 }
 
 /// What a device remembers of a ring.
@@ -73,9 +73,9 @@ impl Queue {
         ensures not_ready { self.old.ready ≡ false → result ≡ Ok None }
         ensures none { next_entry (G.mem ram.now) self.old.page self.old.size self.old.taken ≡ Ok None → result ≡ Ok None }
         ensures jump { (f : ChainFault) → self.old.ready ≡ true → next_entry (G.mem ram.now) self.old.page self.old.size self.old.taken ≡ Err f → result ≡ Err f }
-        ensures chain { (h : ℕ) (pieces : List Piece) → self.old.ready ≡ true → next_entry (G.mem ram.now) self.old.page self.old.size self.old.taken ≡ Ok (Some h) → ChainGives (descriptor_at (G.mem ram.now) self.old.page) self.old.size (4096 * length (G.mem ram.now)) h pieces → IsOkAnd result (λ got. IsSomeAnd got (λ x. (x.head ≡ h) × (x.pieces.items ≡ pieces))) }
+        ensures chain { (h : ℕ) (pieces : List Piece) → self.old.ready ≡ true → next_entry (G.mem ram.now) self.old.page self.old.size self.old.taken ≡ Ok (Some h) → ChainGives (descriptor_at (G.mem ram.now) self.old.page) self.old.size (4096 * length (G.mem ram.now)) h pieces → IsOkAnd result (λ got. IsSomeAnd got (λ x. (x.head ≡ h) × (x.chain ≡ pieces))) }
         ensures fault { (h : ℕ) (f : ChainFault) → self.old.ready ≡ true → next_entry (G.mem ram.now) self.old.page self.old.size self.old.taken ≡ Ok (Some h) → FaultGives (descriptor_at (G.mem ram.now) self.old.page) self.old.size (4096 * length (G.mem ram.now)) h f → result ≡ Err f }
-        ensures found { IfOk result (λ got. IfSome got (λ x. ChainGives (descriptor_at (G.mem ram.now) self.old.page) self.old.size (4096 * length (G.mem ram.now)) x.head x.pieces.items)) }
+        ensures found { IfOk result (λ got. IfSome got (λ x. ChainGives (descriptor_at (G.mem ram.now) self.old.page) self.old.size (4096 * length (G.mem ram.now)) x.head x.chain)) }
         ensures taken { IfOk result (λ got. IfSome got (λ _. self.new ≡ record self.old { taken = (self.old.taken + 1) % 65536 })) }
         ensures waits { IfOk result (λ got. IfNone got (self.new ≡ self.old)) }
         ensures kept { OnErr result (self.new ≡ self.old) }
@@ -88,9 +88,9 @@ impl Queue {
             return Ok(None);
         };
         match walk(ram, self.page, head, self.size) {
-            Ok(pieces) => {
+            Ok(chain) => {
                 self.taken = self.taken.wrapping_add(1);
-                Ok(Some(Taken { head, pieces }))
+                Ok(Some(Taken { head, chain }))
             }
             Err(fault) => Err(fault),
         }
