@@ -1,5 +1,9 @@
 //! The lines of a script: for each its words, in order.
 
+ghost use Rattle.std.specs.Prelude.{◌≡◌, ◌≤◌, IfOk, IsTrue};
+ghost use Rattle.vb_model.specs.Brought.{is_brought};
+ghost use Rattle.vb_sim.specs.Lines.{is_pace_brought};
+
 use crate::words::{LineFault, Words};
 use hex::FromHexError;
 use std::alloc::Global;
@@ -24,7 +28,9 @@ pub enum Pace {
 
 impl Pace {
     /// Whether such devices are there so far; a script has no line for the others.
-    pub fn is_brought(self) -> bool {
+    pub fn is_brought(self) -> bool
+        ensures { result ≡ is_pace_brought self }
+    {
         match self {
             Pace::Immediate => true,
             Pace::Paced => false,
@@ -33,7 +39,10 @@ impl Pace {
 }
 
 /// `host FRAMES`: how many frames the host has.
-pub fn host(line: &[u8]) -> Result<u32, LineFault> {
+pub fn host(line: &[u8]) -> Result<u32, LineFault>
+    ensures some { IfOk result (λ frames. 1 ≤ frames) }
+    ensures bound { IfOk result (λ frames. frames ≤ 65_536) }
+{
     let mut words = Words::of(line);
     if words.word()? != b"host".as_slice() {
         return Err(LineFault::Bad);
@@ -65,7 +74,9 @@ pub fn spare(line: &[u8]) -> Result<Option<Pace>, LineFault> {
 }
 
 /// The event of a line, if it is answered so far.
-pub fn event(alloc: Global, line: &[u8]) -> Result<Event, LineFault> {
+pub fn event(alloc: Global, line: &[u8]) -> Result<Event, LineFault>
+    ensures { IfOk result (λ event. IsTrue (is_brought event)) }
+{
     let mut words = Words::of(line);
     let name = words.word()?;
     let event = match name {

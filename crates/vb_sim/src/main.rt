@@ -2,11 +2,15 @@
 #![tactic(auto)]
 
 mod lines;
+mod play;
+mod replies;
+mod run;
 mod script;
 mod words;
 
+pub use run::run_script;
 pub use script::{Script, ScriptFault, parse};
 
 fn main(rt: HostRuntime) {
-    let _ = parse(rt.alloc(), b"host 5");
+    let _ = run_script(rt.alloc(), rt.reader(), std::io::writer(&rt), std::io::writer(&rt));
 }

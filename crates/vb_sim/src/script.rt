@@ -1,7 +1,8 @@
 //! Scripts: a host, its spare devices, and what happens.
 
-ghost use Rattle.std.specs.Prelude.{◌≡◌, ◌<◌, length};
+ghost use Rattle.std.specs.Prelude.{◌≡◌, ◌<◌, ◌≤◌, length, vec_len, All, IsTrue, IfOk};
 ghost use Rattle.std.specs.Iterator.{at_most};
+ghost use Rattle.vb_model.specs.Brought.{is_brought};
 
 use crate::lines::{Pace, event, host, spare};
 use crate::words::LineFault;
@@ -21,6 +22,10 @@ pub struct Script {
     pub spares: Vec<Pace>,
     /// What happens.
     pub events: Vec<Event>,
+    pub ghost some_frames: { 1 ≤ frames },
+    pub ghost frames_in_bound: { frames ≤ 65_536 },
+    pub ghost spares_in_bound: { vec_len spares ≤ 64 },
+    pub ghost all_brought: { All (λ event. IsTrue (is_brought event)) events.items },
 }
 
 /// Why a text gives no script.
