@@ -1,8 +1,11 @@
 -- The contracts of the ring's calls, put together from what their parts give.
 use Rattle.std.specs.Prelude.{◌≡◌, ◌≢◌, ℕ, ◌+◌, ◌*◌, ◌%◌, ◌<◌, ◌≤◌, nat_lt, Bool, true, false, List, [], ◌∷◌, ◌++◌, Option, Some, None, Result, Ok, Err, IfOk, if◌then◌else◌, length, take, slice_get, slice_index, slice_index_or, refl}
-use Rattle.std.proofs.Common.{sym, ◌∙◌, ap, subst, arith, inl, inr}
+use Rattle.std.proofs.Common.{sym, ◌∙◌, ap, subst, arith, inl, inr, min}
 use Rattle.std.proofs.lemmas.Bool.{cases_eq, lt-ltb, le-ltb}
-use Rattle.std.proofs.lemmas.List.{length_push, length-map, get_or-map}
+use Rattle.std.proofs.lemmas.List.{length_push, length-map, get_or-map, length-take, take_at, get_or_past}
+use Rattle.vb_model.proofs.Tables.{length-each_from}
+use Rattle.vb_ring.specs.Numbers.{length-numbers}
+use Rattle.vb_ring.proofs.Puts.{publishes}
 use Rattle.std.proofs.lemmas.Option.{slice_get-get_or, slice_get_past}
 use Rattle.vb_model.specs.Tests.{is_in, one_if}
 use Rattle.vb_ram.specs.Pages.{Pages, SameBut}
@@ -16,8 +19,8 @@ use Rattle.vb_ring.specs.declared.driver.Full.TheVariants.{TooFewFree}
 use Rattle.vb_ring.specs.declared.driver.RingBroken.{RingBroken}
 use Rattle.vb_ring.specs.declared.driver.RingBroken.TheVariants.{NotOutstanding}
 use Rattle.vb_ring.specs.Layout.{Fits}
-use Rattle.vb_ring.specs.Entries.{is_head, next_id, only_head}
-use Rattle.vb_ring.specs.Ends.{DriverEnd, IsDriverEnd, DeviceEnd, IsDeviceEnd, free_descriptors, next_path, outstanding, add_answer, after_add, used_answer, after_take}
+use Rattle.vb_ring.specs.Entries.{is_own, is_head, next_id, only_head}
+use Rattle.vb_ring.specs.Ends.{DriverEnd, IsDriverEnd, DeviceEnd, IsDeviceEnd, free_descriptors, next_path, claimed, released, outstanding, add_answer, after_add, used_answer, after_take}
 use Rattle.vb_ring.specs.Owners.{not_in}
 use Rattle.vb_ring.specs.Meaning.{UsedElem, no_elem, ids, times, Shows, ShowsEntries, Tracks}
 use Rattle.vb_ring.specs.FrameLaws.{outside_in}
@@ -87,8 +90,14 @@ next_route r n = record {
 
 -- ---- take_used
 
-only_out : (owner : List (Option ℕ)) (id : ℕ) → is_head owner id ≡ true → only_head owner (Ok (Some id)) ≡ Ok (Some id)
+pub only_out : (owner : List (Option ℕ)) (id : ℕ) → is_head owner id ≡ true → only_head owner (Ok (Some id)) ≡ Ok (Some id)
 only_out owner id e = ap (λ (b : Bool). if b then Ok (Some id) else Err NotOutstanding) e
+
+pub only_unknown : (owner : List (Option ℕ)) (id : ℕ) → is_head owner id ≡ false → only_head owner (Ok (Some id)) ≡ Err NotOutstanding
+only_unknown owner id e = ap (λ (b : Bool). if b then Ok (Some id) else Err NotOutstanding) e
+
+pub past_unknown : (owner : List (Option ℕ)) (id : ℕ) → length owner ≤ id → is_head owner id ≡ false
+past_unknown owner id past = ap (is_own id) (get_or_past owner id None past)
 
 pub takes_by : (mem : Pages) (r : DriverEnd) (result : Result (Option ℕ) RingBroken) → IsDriverEnd r → outstanding r ≤ r.size → result ≡ used_answer mem r → TakesUsedBy mem r (after_take r result) result
 takes_by mem r result is_end most is = record {
@@ -135,3 +144,42 @@ adds_used_by old new q head count is_end w = record {
       (λ i lt. puts_descriptors old new q.layout q.size q.next_used head count i is_end.fits w lt)
       (puts_entries old new q.layout q.size q.next_used head count heads elems is_end.fits w at shows.entries) out shows;
 }
+
+-- an add, by what was written along a path that is the next one
+pub adds_along : (m1 m2 m3 : Pages) (r : DriverEnd) (pieces : List Piece) (path : List ℕ) (new : List (Option ℕ)) → path ≡ next_path r (length pieces) → IsDriverEnd r → 0 < length pieces → length path ≡ length pieces
+    → ((k : ℕ) → k < length path → descriptor_at m2 r.layout.table (slice_index path k) ≡ linked path pieces k)
+    → ((i : ℕ) → ((k : ℕ) → k < length path → slice_index path k ≢ i) → descriptor_at m2 r.layout.table i ≡ descriptor_at m1 r.layout.table i)
+    → SameBut m1 m2 r.layout.table 0 (16 * r.size) → PutsAvail m2 m3 r.layout r.size r.published (slice_index path 0) → new ≡ claimed path (slice_index path 0) r.owner
+    → AddsBy m1 m3 r (record r { published = (r.published + 1) % 65536; owner = new }) pieces (Ok (slice_index path 0))
+adds_along m1 m2 m3 r pieces path new along is_end some len put others table w owner =
+    let n : ℕ = length pieces in
+    let inside : (k : ℕ) → k < length path → slice_index path k < r.size =
+    subst (λ (xs : List ℕ). (k : ℕ) → k < length xs → slice_index xs k < r.size) (sym along) (λ k h. (next_path-free r n k h).0) in
+    let links : Links m1 m3 r.layout r.size path pieces = links_kept m1 m2 m3 r.layout r.size r.published (slice_index path 0) path pieces is_end.fits len inside put others w in
+    let pubs : Publishes m1 m3 r.layout r.size r.published (slice_index path 0) = publishes m1 m2 m3 r.layout r.size r.published (slice_index path 0) table w in
+    let enough : n ≤ length (free_descriptors r) = omega (arith, len, ap length along, length-take n (free_descriptors r)) in
+    let ok : AddsBy m1 m3 r (after_add r n (Ok (slice_index path 0))) pieces (Ok (slice_index path 0)) =
+    adds_ok m1 m3 r pieces (slice_index path 0) is_end some enough (ap (λ (xs : List ℕ). slice_index xs 0) (sym along))
+    (subst (λ (xs : List ℕ). Links m1 m3 r.layout r.size xs pieces) along links) pubs in
+    subst (λ (xs : List (Option ℕ)). AddsBy m1 m3 r (record r { published = (r.published + 1) % 65536; owner = xs }) pieces (Ok (slice_index path 0)))
+    (sym (owner ∙ ap (λ (xs : List ℕ). claimed xs (slice_index path 0) r.owner) along)) ok
+
+-- ---- where the table is the first part of a longer one
+
+pub adds_after : (m1 m2 m3 : Pages) (r now : DriverEnd) (pieces : List Piece) (path : List ℕ) (new more : List (Option ℕ)) → r ≡ now → path ≡ next_path r (length pieces) → IsDriverEnd r → 0 < length pieces → length path ≡ length pieces
+    → ((k : ℕ) → k < length path → descriptor_at m2 r.layout.table (slice_index path k) ≡ linked path pieces k)
+    → ((i : ℕ) → ((k : ℕ) → k < length path → slice_index path k ≢ i) → descriptor_at m2 r.layout.table i ≡ descriptor_at m1 r.layout.table i)
+    → SameBut m1 m2 r.layout.table 0 (16 * r.size) → PutsAvail m2 m3 r.layout r.size r.published (slice_index path 0) → new ≡ claimed path (slice_index path 0) r.owner
+    → AddsBy m1 m3 now (record r { published = (r.published + 1) % 65536; owner = take r.size (new ++ more) }) pieces (Ok (slice_index path 0))
+adds_after m1 m2 m3 r now pieces path new more same along is_end some len put others table w owner =
+    let count : length new ≡ r.size = ap length owner ∙ length-each_from 0 (λ i old. if is_in i path then Some (slice_index path 0) else old) r.owner ∙ is_end.table in
+    subst (λ (v : DriverEnd). AddsBy m1 m3 v (record r { published = (r.published + 1) % 65536; owner = take r.size (new ++ more) }) pieces (Ok (slice_index path 0))) same
+    (adds_along m1 m2 m3 r pieces path (take r.size (new ++ more)) along is_end some len put others table w (take_at new more r.size count ∙ owner))
+
+pub takes_after : (mem : Pages) (r now : DriverEnd) (new more : List (Option ℕ)) (id : ℕ) → r ≡ now → IsDriverEnd r → next_id mem r.layout r.size r.seen (outstanding r) ≡ Ok (Some id) → is_head r.owner id ≡ true → new ≡ released id r.owner
+    → TakesUsedBy mem now (record r { seen = (r.seen + 1) % 65536; owner = take r.size (new ++ more) }) (Ok (Some id))
+takes_after mem r now new more id same is_end next out owner =
+    let count : length new ≡ r.size = ap length owner ∙ length-map r.owner (λ old. if is_own id old then None else old) ∙ is_end.table in
+    subst (λ (v : DriverEnd). TakesUsedBy mem v (record r { seen = (r.seen + 1) % 65536; owner = take r.size (new ++ more) }) (Ok (Some id))) same
+    (subst (λ (xs : List (Option ℕ)). TakesUsedBy mem r (record r { seen = (r.seen + 1) % 65536; owner = xs }) (Ok (Some id))) (sym (take_at new more r.size count ∙ owner))
+    (takes_by mem r (Ok (Some id)) is_end (length-numbers (is_head r.owner) r.size) (sym (ap (only_head r.owner) next ∙ only_out r.owner id out))))

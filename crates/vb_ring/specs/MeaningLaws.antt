@@ -413,7 +413,7 @@ fresh_shows mem l q a u = record {
 -- A fresh driver's end has no head out.
 fresh_none : (q i : ℕ) → is_head (replicate q None) i ≡ false
 fresh_none q i = elim (cases_lt i q) [
-  | inl l ↦ ap (is_own i) (get_or-replicate q None i None l)
+  | inl l ↦ ap (is_own i) (get_or-replicate {A = Option ℕ} q i None None l)
   | inr past ↦ ap (is_own i) (get_or_past (replicate {A = Option ℕ} q None) i None (omega (arith, length-replicate {A = Option ℕ} q None)))
 ]
 

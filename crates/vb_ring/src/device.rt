@@ -32,14 +32,13 @@ pub struct Queue {
 }
 
 impl Model for Queue {
-    ghost use Rattle.vb_ring.specs.Ends.{DeviceEnd};
-    ghost use Rattle.vb_ring.specs.Layout.{Fits};
+    ghost use Rattle.vb_ring.specs.Ends.{DeviceEnd, IsDeviceEnd};
 
     ghost Value = { DeviceEnd };
 
     ghost view = { λ s. record { layout = s.layout; size = s.size; ready = s.ready; next_avail = s.next_avail; next_used = s.next_used } };
 
-    ghost invariant = { λ s. Fits s.layout s.size };
+    ghost invariant = { λ s. IsDeviceEnd (record { layout = s.layout; size = s.size; ready = s.ready; next_avail = s.next_avail; next_used = s.next_used }) };
 }
 
 impl Queue {

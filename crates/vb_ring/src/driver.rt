@@ -42,14 +42,13 @@ pub struct DriverRing {
 
 impl Model for DriverRing {
     ghost use Rattle.std.specs.Prelude.{take};
-    ghost use Rattle.vb_ring.specs.Ends.{DriverEnd};
-    ghost use Rattle.vb_ring.specs.Layout.{Fits};
+    ghost use Rattle.vb_ring.specs.Ends.{DriverEnd, IsDriverEnd};
 
     ghost Value = { DriverEnd };
 
     ghost view = { λ s. record { layout = s.layout; size = s.size; published = s.published; seen = s.seen; owner = take s.size s.owner } };
 
-    ghost invariant = { λ s. Fits s.layout s.size };
+    ghost invariant = { λ s. IsDriverEnd (record { layout = s.layout; size = s.size; published = s.published; seen = s.seen; owner = take s.size s.owner }) };
 }
 
 impl DriverRing {
@@ -111,8 +110,10 @@ impl DriverRing {
     {
         let size = usize::from(self.size);
         let most = count_heads(&self.owner[..size]);
-        let Some(id) = next_used(ram, self.layout, self.size, self.seen, most)? else {
-            return Ok(None);
+        let id = match next_used(ram, self.layout, self.size, self.seen, most) {
+            Ok(Some(id)) => id,
+            Ok(None) => return Ok(None),
+            Err(broken) => return Err(broken),
         };
         if id >= u32::from(self.size) || !is_head(&self.owner[..size], id as u16) {
             return Err(RingBroken::NotOutstanding);

@@ -16,21 +16,21 @@ answer_none r o a b = cc
 pub returns-then-not-self : goal.returns-then-not-self
 returns-then-not-self g c =
     let old : DeviceEnd = record { layout = c.self.inside.layout; size = c.self.inside.size; ready = c.self.inside.ready; next_avail = c.self.inside.next_avail; next_used = c.self.inside.next_used } in
-    let is_end : IsDeviceEnd old = record { fits = c.self.invariant; next_avail = search rules; next_used = search rules } in
+    let is_end : IsDeviceEnd old = c.self.invariant in
     let idle : c.self.inside.ready ≡ false = search rules in
     subst (λ (v : DeviceEnd). PopsBy (g.G.GuestBytes.mem c.args.ram.now) v v (Ok None)) c.self.view_is (pops_idle (g.G.GuestBytes.mem c.args.ram.now) old is_end idle)
 
 pub returns-in_default : goal.returns-in_default
 returns-in_default g c =
     let old : DeviceEnd = record { layout = c.self.inside.layout; size = c.self.inside.size; ready = c.self.inside.ready; next_avail = c.self.inside.next_avail; next_used = c.self.inside.next_used } in
-    let is_end : IsDeviceEnd old = record { fits = c.self.invariant; next_avail = search rules; next_used = search rules } in
+    let is_end : IsDeviceEnd old = c.self.invariant in
     subst (λ (v : DeviceEnd). PopsBy (g.G.GuestBytes.mem c.args.ram.now) v v (Ok None)) c.self.view_is
     (pops_none (g.G.GuestBytes.mem c.args.ram.now) old is_end (answer_none _ c.in_ok-head.field-0 c.in_ok-head.ensures c.in_default.is))
 
 pub returns-in-Ok : goal.returns-in-Ok
 returns-in-Ok g c =
     let old : DeviceEnd = record { layout = c.self.inside.layout; size = c.self.inside.size; ready = c.self.inside.ready; next_avail = c.self.inside.next_avail; next_used = c.self.inside.next_used } in
-    let is_end : IsDeviceEnd old = record { fits = c.self.invariant; next_avail = search rules; next_used = search rules } in
+    let is_end : IsDeviceEnd old = c.self.invariant in
     let ready : c.self.inside.ready ≡ true = search rules in
     let taken : Taken = record { head = c.in-Some.head; pieces = c.in-Ok.pieces } in
     subst (λ (v : DeviceEnd). PopsBy (g.G.GuestBytes.mem c.args.ram.now) v (after_pop old (Ok (Some taken))) (Ok (Some taken))) c.self.view_is
@@ -40,7 +40,7 @@ returns-in-Ok g c =
 pub returns-in-Err : goal.returns-in-Err
 returns-in-Err g c =
     let old : DeviceEnd = record { layout = c.self.inside.layout; size = c.self.inside.size; ready = c.self.inside.ready; next_avail = c.self.inside.next_avail; next_used = c.self.inside.next_used } in
-    let is_end : IsDeviceEnd old = record { fits = c.self.invariant; next_avail = search rules; next_used = search rules } in
+    let is_end : IsDeviceEnd old = c.self.invariant in
     let ready : c.self.inside.ready ≡ true = search rules in
     subst (λ (v : DeviceEnd). PopsBy (g.G.GuestBytes.mem c.args.ram.now) v v (Err c.in-Err.fault)) c.self.view_is
     (pops_fault (g.G.GuestBytes.mem c.args.ram.now) old c.in-Some.head c.in-Err.fault is_end ready (answer_is _ c.in_ok-head.field-0 c.in-Some.head c.in_ok-head.ensures c.in-Some.is)
