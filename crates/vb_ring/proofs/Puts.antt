@@ -18,6 +18,7 @@ puts_avail m1 m2 m3 l q next head entry index = record {
     bytes = λ p o out. byte_kept m2 m3 _ _ _ p o index.rest out.1.0 ∙ byte_kept m1 m2 _ _ _ p o entry.rest out.0;
     others = λ p out. index.rest.others p out.1.0 ∙ entry.rest.others p out.0;
     backing = λ p. index.rest.backing p ∙ entry.rest.backing p;
+    sizes = λ p. index.rest.sizes p ∙ entry.rest.sizes p;
     count = index.rest.count ∙ entry.rest.count;
   };
 }
@@ -36,6 +37,7 @@ puts_used m1 m2 m3 m4 l q next head count id len index = record {
         ∙ byte_kept m1 m2 _ _ _ p o id.rest (λ i. out.0 (record { page = i.page; from = omega (arith, i.from); to = omega (arith, i.to) }));
     others = λ p out. index.rest.others p out.1.0 ∙ len.rest.others p out.0 ∙ id.rest.others p out.0;
     backing = λ p. index.rest.backing p ∙ len.rest.backing p ∙ id.rest.backing p;
+    sizes = λ p. index.rest.sizes p ∙ len.rest.sizes p ∙ id.rest.sizes p;
     count = index.rest.count ∙ len.rest.count ∙ id.rest.count;
   };
 }
@@ -49,6 +51,7 @@ publishes m1 m2 m3 l q next head table put = record {
     bytes = λ p o out. put.rest.bytes p o out.1 ∙ byte_kept m1 m2 _ _ _ p o table out.0;
     others = λ p out. put.rest.others p out.1 ∙ table.others p out.0;
     backing = λ p. put.rest.backing p ∙ table.backing p;
+    sizes = λ p. put.rest.sizes p ∙ table.sizes p;
     count = put.rest.count ∙ table.count;
   };
 }

@@ -1,6 +1,6 @@
 -- What a call on a ring leaves as it was.
 use Rattle.std.specs.Prelude.{◌≡◌, ◌≢◌, ℕ, ◌+◌, ◌<◌, ◌≤◌, List, [], ◌∷◌, length}
-use Rattle.vb_ram.specs.Pages.{Pages, byte_at, page_at, frame_at}
+use Rattle.vb_ram.specs.Pages.{Pages, byte_at, page_at, frame_at, contents_at}
 
 -- Bytes of a page, from an offset up to another.
 pub record Extent : Type 0 where
@@ -29,4 +29,5 @@ pub record SameOutside (old new : Pages) (extents : List Extent) : Type 0 where
   pub bytes : (p o : ℕ) → IsOutside extents p o → byte_at new p o ≡ byte_at old p o
   pub others : (p : ℕ) → IsOther extents p → page_at new p ≡ page_at old p
   pub backing : (p : ℕ) → frame_at new p ≡ frame_at old p
+  pub sizes : (p : ℕ) → length (contents_at new p) ≡ length (contents_at old p)
   pub count : length new ≡ length old

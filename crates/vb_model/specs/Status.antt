@@ -1,0 +1,100 @@
+-- A device's status and the features that are agreed on: VIRTIO 1.1, 2.1, 2.2 and 3.1.1; which writes are refused and in what order they are tested is the profile's.
+use Rattle.std.specs.Prelude.{ℕ, Bool, not, ◌==◌, ◌&&◌, ◌||◌, nat_lt, List, [], ◌∷◌, if◌then◌else◌, Option, Some, None, count_by, bit_and}
+use Rattle.std.specs.List.{list_any}
+use Rattle.vb_model.specs.declared.replies.Refusal.{Refusal}
+use Rattle.vb_model.specs.declared.replies.Refusal.TheVariants.{ClearsBit, OutOfOrder, FeatureNotOffered, MustTellMissing, VersionMissing}
+use Rattle.vb_model.specs.Refusals.{Test, ◌⇒◌, first_refusal}
+use Rattle.vb_model.specs.Guest.{offered_features, must_tell_host, version_1}
+
+-- ---- the bits of the status, which has eight
+
+abbrev pub acknowledge : ℕ
+acknowledge = 1
+
+abbrev pub driver : ℕ
+driver = 2
+
+abbrev pub driver_ok : ℕ
+driver_ok = 4
+
+abbrev pub features_ok : ℕ
+features_ok = 8
+
+abbrev pub needs_reset : ℕ
+needs_reset = 64
+
+abbrev pub failed : ℕ
+failed = 128
+
+-- the steps of an initialisation, in their order: VIRTIO 1.1, 3.1.1
+abbrev pub steps : List ℕ
+steps = acknowledge ∷ driver ∷ features_ok ∷ driver_ok ∷ []
+
+-- two bits that the standard leaves unused, and the one that the device alone sets
+abbrev pub not_for_drivers : List ℕ
+not_for_drivers = 16 ∷ 32 ∷ needs_reset ∷ []
+
+-- ---- what a write does
+
+abbrev pub contains : ℕ → ℕ → Bool
+contains set bits = bit_and set bits == bits
+
+-- the bit is in the write and isn't set yet
+abbrev pub adds : ℕ → ℕ → ℕ → Bool
+adds status write bit = contains write bit && not (contains status bit)
+
+-- one of these is added
+abbrev pub adds_any : ℕ → ℕ → List ℕ → Bool
+adds_any status write bits = list_any (adds status write) bits
+
+-- more than one of these is added
+abbrev pub adds_more : ℕ → ℕ → List ℕ → Bool
+adds_more status write bits = nat_lt 1 (count_by (adds status write) bits)
+
+-- a step is added whose forerunner isn't set
+abbrev pub skips : ℕ → ℕ → Bool
+skips status write =
+    adds status write driver && not (contains status acknowledge)
+    || adds status write features_ok && not (contains status driver)
+    || adds status write driver_ok && not (contains status features_ok)
+
+-- the device needs a reset, or the driver gave up
+abbrev pub is_broken : ℕ → Bool
+is_broken status = contains status needs_reset || contains status failed
+
+abbrev pub is_out_of_order : ℕ → ℕ → Bool
+is_out_of_order status write =
+    adds_more status write steps
+    || skips status write
+    || adds_any status write not_for_drivers
+    || adds status write failed && adds_any status write steps
+    || adds_any status write steps && is_broken status
+
+-- ---- the rules
+
+-- the features that FEATURES_OK asks for (VIRTIO 1.1, 2.2 and 6): MUST_TELL_HOST is the profile's demand, VERSION_1 that of VIRTIO 1.1, 6.1
+abbrev pub needed_tests : ℕ → List Test
+needed_tests negotiated =
+    (not (must_tell_host negotiated) ⇒ MustTellMissing)
+    ∷ (not (version_1 negotiated) ⇒ VersionMissing)
+    ∷ []
+
+abbrev pub status_tests : ℕ → ℕ → ℕ → List Test
+status_tests status negotiated write =
+    (not (contains write status) ⇒ ClearsBit)
+    ∷ (is_out_of_order status write ⇒ OutOfOrder)
+    ∷ (if adds status write features_ok then needed_tests negotiated else [])
+
+-- why a write of the status is refused, where it is, at these negotiated features; a write of 0 resets
+abbrev pub status_refusal : ℕ → ℕ → ℕ → Option Refusal
+status_refusal status negotiated write = if write == 0 then None else first_refusal (status_tests status negotiated write)
+
+abbrev pub negotiate_tests : ℕ → ℕ → List Test
+negotiate_tests status wanted =
+    (not (status == 3) ⇒ OutOfOrder)
+    ∷ (not (contains offered_features wanted) ⇒ FeatureNotOffered)
+    ∷ []
+
+-- why these features are refused, where they are: they are negotiated between DRIVER and FEATURES_OK
+abbrev pub negotiate_refusal : ℕ → ℕ → Option Refusal
+negotiate_refusal status wanted = first_refusal (negotiate_tests status wanted)

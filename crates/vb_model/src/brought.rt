@@ -1,0 +1,49 @@
+//! Which events are answered so far.
+
+ghost use Rattle.std.specs.Prelude.{◌≡◌};
+ghost use Rattle.vb_model.specs.Brought.{is_call_brought, is_query_brought, is_brought};
+
+use crate::calls::{Call, Event, Query};
+
+impl Call {
+    /// Whether guests answer the call so far.
+    pub fn is_brought(&self) -> bool
+        ensures { result ≡ is_call_brought self.now }
+    {
+        matches!(
+            self,
+            Call::Init { .. }
+                | Call::Alloc { .. }
+                | Call::Read { .. }
+                | Call::Write { .. }
+                | Call::Inflate { .. }
+                | Call::Reap { .. }
+                | Call::Take { .. }
+                | Call::Finish { .. }
+                | Call::SetTarget { .. }
+        )
+    }
+}
+
+impl Query {
+    /// Whether guests answer the query so far.
+    pub fn is_brought(&self) -> bool
+        ensures { result ≡ is_query_brought self.now }
+    {
+        matches!(self, Query::Backing { .. })
+    }
+}
+
+impl Event {
+    /// Whether the world answers the event so far; a script has no line for the others.
+    pub fn is_brought(&self) -> bool
+        ensures { result ≡ is_brought self.now }
+    {
+        match self {
+            Event::Plug { .. } | Event::Frames => true,
+            Event::Guest { call, .. } => call.is_brought(),
+            Event::Query { query, .. } => query.is_brought(),
+            Event::Unplug { .. } | Event::Restart { .. } | Event::Balance { .. } => false,
+        }
+    }
+}

@@ -1,0 +1,196 @@
+//! What may be asked of a guest and of the world.
+
+ghost use Rattle.std.specs.Prelude.{◌≡◌};
+
+use crate::places::Place;
+use std::marker::Model;
+
+/// Bytes that a call writes or a reply brings. A contract sees the list.
+#[derive(Drop)]
+pub struct Bytes {
+    items: Vec<u8>,
+}
+
+impl Model for Bytes {
+    ghost use Rattle.std.specs.Prelude.{List, ℕ};
+
+    ghost Value = { List ℕ };
+
+    ghost view = { λ bytes. bytes.items.items };
+}
+
+impl Bytes {
+    /// These bytes.
+    pub fn new(items: Vec<u8>) -> Bytes
+        ensures { result ≡ items.items }
+    {
+        Bytes { items }
+    }
+
+    /// The bytes, to read.
+    pub fn as_slice(&self) -> &[u8]
+        ensures { result.now ≡ self.now }
+    {
+        &self.items
+    }
+}
+
+/// A call on one guest: by what runs in it, by its balloon driver, or by the device behind it.
+/// Pages, orders, queues and processors are numbers from 0 on; any number may be passed.
+#[derive(Drop)]
+pub enum Call {
+    /// The driver initialises the device and asks for these features (VIRTIO 1.1, 3.1.1).
+    Init {
+        features: u64,
+    },
+    /// The driver resets the device (VIRTIO 1.1, 2.1).
+    Reset,
+    /// A processor asks for a block of 2^order pages (Gorman, chapter 6).
+    Alloc {
+        cpu: u32,
+        order: u32,
+    },
+    /// A processor gives back a block that it or another one was handed.
+    Free {
+        cpu: u32,
+        start: u32,
+        order: u32,
+    },
+    /// Bytes of a used page are read.
+    Read {
+        page: u32,
+        offset: u32,
+        len: u32,
+    },
+    /// Bytes of a used page are written.
+    Write {
+        page: u32,
+        offset: u32,
+        bytes: Bytes,
+    },
+    /// Bytes of any page are written: the guest is rogue from then on (profile).
+    Scribble {
+        page: u32,
+        offset: u32,
+        bytes: Bytes,
+    },
+    /// The driver offers at most so many pages to the host (VIRTIO 1.1, 5.5.6).
+    Inflate {
+        pages: u32,
+    },
+    /// The driver asks for at most so many pages back, as far as the target allows.
+    Deflate {
+        pages: u32,
+    },
+    /// The same, whatever the target (VIRTIO 1.1, 5.5.6, with DEFLATE_ON_OOM).
+    Oom {
+        pages: u32,
+    },
+    /// The driver reports free blocks from a page on (profile).
+    Report {
+        from: u32,
+    },
+    /// The driver fills the statistics buffer (VIRTIO 1.1, 5.5.6.3).
+    Stats,
+    /// The driver takes the next used request of a queue (VIRTIO 1.1, 2.6.14).
+    Reap {
+        queue: u32,
+    },
+    /// The device takes the next request of a queue (VIRTIO 1.1, 2.6).
+    Take {
+        queue: u32,
+    },
+    /// The device visits one page of a request (profile).
+    Work,
+    /// The device uses a taken request, by its index among those of the queue.
+    Finish {
+        queue: u32,
+        index: u32,
+    },
+    /// The host discards what it still has of a ballooned page (profile).
+    Sweep {
+        page: u32,
+    },
+    /// The device asks for statistics (VIRTIO 1.1, 5.5.6.3).
+    Ask,
+    /// The host sets how many pages it wants, the configuration's num_pages (VIRTIO 1.1, 5.5.4).
+    SetTarget {
+        pages: u32,
+    },
+}
+
+/// A question about one guest, which changes nothing.
+#[derive(Clone, Copy, Debug, PartialEq, Eq)]
+pub enum Query {
+    /// How many pages each place has.
+    Places,
+    /// Which pages are at a place.
+    PagesAt(Place),
+    /// Which pages the device holds to be ballooned.
+    PagesBallooned,
+    /// The count of ballooned pages, the configuration, and the status.
+    Balloon,
+    /// The last statistics.
+    Memory,
+    /// Which frame backs a page.
+    Backing { page: u32 },
+}
+
+/// What may happen to the world: one line of a script.
+#[derive(Drop)]
+pub enum Event {
+    /// A guest of this configuration is plugged in, with the first spare device.
+    Plug {
+        pages: u32,
+        queue_size: u32,
+        processors: u32,
+    },
+    /// A guest goes, and its frames with it.
+    Unplug {
+        guest: u32,
+    },
+    /// A guest begins a new life.
+    Restart {
+        guest: u32,
+    },
+    /// A call on a guest.
+    Guest {
+        guest: u32,
+        call: Call,
+    },
+    /// A question about a guest.
+    Query {
+        guest: u32,
+        query: Query,
+    },
+    /// All guests get targets, so that no guest is asked for pages below this floor of free memory.
+    Balance {
+        floor: u32,
+    },
+    /// How many frames are in use.
+    Frames,
+}
+
+/// What a call's claim of a frame was answered.
+#[derive(Clone, Copy, Debug, PartialEq, Eq)]
+pub enum Claim {
+    /// The frame of this number.
+    Gave(u32),
+    /// No frame is left.
+    GaveNoFrame,
+    /// There was no memory for the frame's bytes.
+    GaveNoMemory,
+}
+
+/// Who makes a guest's calls where guests run on threads.
+#[derive(Clone, Copy, Debug, PartialEq, Eq)]
+pub enum Actor {
+    /// What starts the guest.
+    Starter,
+    /// One of a guest's processors.
+    Processor { guest: u32, cpu: u32 },
+    /// What does the device's work for a guest.
+    Worker { guest: u32 },
+    /// What sets all targets.
+    Balancer,
+}

@@ -1,0 +1,36 @@
+//! Where the queues of a balloon device stand in guest memory. The numbers of queues 0 to 2 are
+//! those of VIRTIO 1.1, 5.5.2; all pages, and queue 4, are the profile's.
+
+/// The queue of inflate requests.
+pub const INFLATE_QUEUE: u32 = 0;
+
+/// The queue of deflate requests.
+pub const DEFLATE_QUEUE: u32 = 1;
+
+/// The queue of the statistics buffer.
+pub const STATISTICS_QUEUE: u32 = 2;
+
+/// The queue of page reports.
+pub const REPORT_QUEUE: u32 = 4;
+
+/// The pages in which the rings of these four queues stand.
+pub const INFLATE_RING_PAGE: u32 = 0;
+
+pub const DEFLATE_RING_PAGE: u32 = 1;
+
+pub const STATISTICS_RING_PAGE: u32 = 2;
+
+pub const REPORT_RING_PAGE: u32 = 3;
+
+/// Bytes of the buffer of one inflate or deflate request: as many little-endian 32-bit page
+/// numbers as a request may name.
+pub const REQUEST_BUFFER_SIZE: u32 = 1024;
+
+/// The first of the pages that hold the buffers of inflate requests, and of deflate requests: four
+/// buffers a page, in the order of their heads.
+pub const INFLATE_BUFFERS_PAGE: u32 = 4;
+
+pub const DEFLATE_BUFFERS_PAGE: u32 = 8;
+
+/// The page of the statistics buffer.
+pub const STATISTICS_PAGE: u32 = 12;

@@ -1,0 +1,195 @@
+//! What events are answered.
+
+ghost use Rattle.std.specs.Prelude.{◌≡◌};
+
+use crate::calls::Bytes;
+use crate::places::{PageRuns, PlaceCounts};
+use std::marker::Model;
+
+/// Why an event was refused.
+#[derive(Clone, Copy, Debug, PartialEq, Eq)]
+pub enum Refusal {
+    /// No guest has the number.
+    NoGuest,
+    /// A guest of this configuration can't be.
+    BadConfig,
+    /// As many guests are plugged in as may be.
+    TooMany,
+    /// No spare device is left.
+    NoDevice,
+    /// The order is above the largest.
+    BadOrder,
+    /// The guest has no such processor.
+    BadCpu,
+    /// No block of the order is wholly free.
+    NoPages,
+    /// The page isn't used, or no allocation of just that block is held.
+    NotHeld,
+    /// The device isn't initialised, or its driver has given up.
+    NotReady,
+    /// As many requests are outstanding as may be.
+    QueueFull,
+    /// There is no page to move.
+    Nothing,
+    /// The used ring holds what no device would write.
+    RingBroken,
+    /// The feature wasn't negotiated.
+    NoFeature,
+    /// The device was initialised and not reset since.
+    AlreadyUp,
+    /// A feature is wanted that the device doesn't offer.
+    FeatureNotOffered,
+    /// MUST_TELL_HOST isn't among the negotiated features.
+    MustTellMissing,
+    /// VERSION_1 isn't among the negotiated features.
+    VersionMissing,
+    /// A status bit that is set is missing from the write.
+    ClearsBit,
+    /// A status bit, or the negotiation of features, isn't next in order.
+    OutOfOrder,
+    /// There is no queue of this number, or its feature wasn't negotiated.
+    NoQueue,
+    /// The device has found a fault and waits for a reset.
+    NeedsReset,
+    /// As many chains of the queue are taken as may be.
+    Busy,
+    /// The chain breaks the rule of this number, from 1 to 10.
+    Broken { rule: u32 },
+    /// No taken chain has the index, or the statistics buffer isn't taken.
+    NotTaken,
+    /// Some page of the request wasn't visited yet.
+    NotWorked,
+    /// The page isn't ballooned.
+    NotBallooned,
+    /// The bytes don't lie in one page of the guest's memory.
+    OutOfRam,
+    /// No frame is left.
+    NoFrame,
+    /// There was no memory.
+    NoMemory,
+    /// The guests can't spare so many of the pages that the host lacks.
+    Short { missing: u32 },
+}
+
+/// Numbers. A contract sees the list.
+#[derive(Drop)]
+pub struct Numbers {
+    items: Vec<u32>,
+}
+
+impl Model for Numbers {
+    ghost use Rattle.std.specs.Prelude.{List, ℕ};
+
+    ghost Value = { List ℕ };
+
+    ghost view = { λ numbers. numbers.items.items };
+}
+
+impl Numbers {
+    /// These numbers.
+    pub fn new(items: Vec<u32>) -> Numbers
+        ensures { result ≡ items.items }
+    {
+        Numbers { items }
+    }
+
+    /// The numbers, to read.
+    pub fn as_slice(&self) -> &[u32]
+        ensures { result.now ≡ self.now }
+    {
+        &self.items
+    }
+}
+
+/// What an event is answered.
+#[derive(Drop)]
+pub enum Reply {
+    /// The new guest's number.
+    Plugged {
+        guest: u32,
+    },
+    /// It was done.
+    Done,
+    /// The driver is initialised.
+    Ready,
+    /// The first page of the block that was handed out.
+    Page {
+        start: u32,
+    },
+    /// What was read.
+    ReadBytes {
+        bytes: Bytes,
+    },
+    /// The request's head, and how many pages it names.
+    Posted {
+        head: u32,
+        pages: u32,
+    },
+    /// The statistics buffer was filled and made available.
+    Filled,
+    /// No request was used, or the statistics buffer wasn't.
+    NotUsed,
+    /// The used request's head, and how many pages it named.
+    Reaped {
+        head: u32,
+        pages: u32,
+    },
+    /// The head of the chain that was taken.
+    Taken {
+        head: u32,
+    },
+    /// No chain is available.
+    Empty,
+    /// The page that was visited, and whether it had a frame.
+    Worked {
+        page: u32,
+        freed: bool,
+    },
+    /// There is no page to visit.
+    Idle,
+    /// The head of the chain that was used.
+    Finished {
+        head: u32,
+    },
+    /// The page was swept; whether it had a frame.
+    Swept {
+        freed: bool,
+    },
+    /// The statistics buffer was used.
+    Asked,
+    /// The new targets, by rising number of guest.
+    Targets {
+        pages: Numbers,
+    },
+    /// How many pages each place has.
+    Places {
+        counts: PlaceCounts,
+    },
+    /// Pages as maximal rising runs.
+    Pages {
+        runs: PageRuns,
+    },
+    /// The count of ballooned pages, the configuration's two numbers, and the status.
+    Balloon {
+        ballooned: u32,
+        actual: u32,
+        target: u32,
+        status: u32,
+    },
+    /// The last statistics, in bytes, as far as they are known.
+    Statistics {
+        free: Option<u64>,
+        total: Option<u64>,
+    },
+    /// The page's frame, if it has one.
+    Backing {
+        frame: Option<u32>,
+    },
+    /// How many frames are in use, and how many are not.
+    Frames {
+        used: u32,
+        free: u32,
+    },
+    /// It was refused.
+    Refused(Refusal),
+}

@@ -1,0 +1,6 @@
+use Rattle.std.proofs.Common.{◌∙◌}
+use Rattle.vb_status.proofs.BitLemmas.{contains_bit}
+use Rattle.vb_status.proofs.bits.Features.deflate_on_oom.Goals as goal
+
+pub returns : goal.returns
+returns c = c.contains.ensures tt ∙ contains_bit 2 _

@@ -1,0 +1,6 @@
+use Rattle.std.proofs.Common.{◌∙◌}
+use Rattle.vb_status.proofs.BitLemmas.{contains_bit}
+use Rattle.vb_status.proofs.bits.Features.must_tell_host.Goals as goal
+
+pub returns : goal.returns
+returns c = c.contains.ensures tt ∙ contains_bit 0 _
