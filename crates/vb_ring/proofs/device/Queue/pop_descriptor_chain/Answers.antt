@@ -32,7 +32,7 @@ returns-in-Ok g c =
     let old : DeviceEnd = record { layout = c.self.inside.layout; size = c.self.inside.size; ready = c.self.inside.ready; next_avail = c.self.inside.next_avail; next_used = c.self.inside.next_used } in
     let is_end : IsDeviceEnd old = c.self.invariant in
     let ready : c.self.inside.ready ≡ true = search rules in
-    let taken : Taken = record { head = c.in-Some.head; pieces = c.in-Ok.pieces } in
+    let taken : Taken = record { head = c.in-Some.head; chain = c.in-Ok.chain } in
     subst (λ (v : DeviceEnd). PopsBy (g.G.GuestBytes.mem c.args.ram.now) v (after_pop old (Ok (Some taken))) (Ok (Some taken))) c.self.view_is
     (pops_chain (g.G.GuestBytes.mem c.args.ram.now) old taken is_end ready (answer_is _ c.in_ok-head.field-0 c.in-Some.head c.in_ok-head.ensures c.in-Some.is)
     c.in-Ok.ensures.chain c.in-Ok.ensures.each_chain (λ f gives. (let wrong = c.in-Ok.ensures.each_fault f gives in cc)))
