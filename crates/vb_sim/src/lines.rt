@@ -55,8 +55,18 @@ pub fn host(line: &[u8]) -> Result<u32, LineFault>
     Ok(frames)
 }
 
-/// `spare immediate` or `spare paced`, if the line is about a spare at all.
+/// The pace of a spare device, if the line is about one at all; a pace that isn't there so far
+/// makes a bad line.
 pub fn spare(line: &[u8]) -> Result<Option<Pace>, LineFault> {
+    let pace = any_spare(line)?;
+    match pace {
+        Some(pace) if !pace.is_brought() => Err(LineFault::Bad),
+        _ => Ok(pace),
+    }
+}
+
+/// `spare immediate` or `spare paced`, if the line is about a spare at all.
+fn any_spare(line: &[u8]) -> Result<Option<Pace>, LineFault> {
     let mut words = Words::of(line);
     if words.word()? != b"spare".as_slice() {
         return Ok(None);
@@ -67,9 +77,6 @@ pub fn spare(line: &[u8]) -> Result<Option<Pace>, LineFault> {
         _ => return Err(LineFault::Bad),
     };
     words.end()?;
-    if !pace.is_brought() {
-        return Err(LineFault::Bad);
-    }
     Ok(Some(pace))
 }
 
@@ -77,6 +84,15 @@ pub fn spare(line: &[u8]) -> Result<Option<Pace>, LineFault> {
 pub fn event(alloc: Global, line: &[u8]) -> Result<Event, LineFault>
     ensures { IfOk result (λ event. IsTrue (is_brought event)) }
 {
+    let event = any_event(alloc, line)?;
+    if !event.is_brought() {
+        return Err(LineFault::Bad);
+    }
+    Ok(event)
+}
+
+/// The event of a line, whether it is answered so far or not.
+fn any_event(alloc: Global, line: &[u8]) -> Result<Event, LineFault> {
     let mut words = Words::of(line);
     let name = words.word()?;
     let event = match name {
@@ -92,9 +108,6 @@ pub fn event(alloc: Global, line: &[u8]) -> Result<Event, LineFault>
         _ => guest_event(alloc, name, &mut words)?,
     };
     words.end()?;
-    if !event.is_brought() {
-        return Err(LineFault::Bad);
-    }
     Ok(event)
 }
 
