@@ -66,7 +66,7 @@ pub fn spare(line: &[u8]) -> Result<Option<Pace>, LineFault> {
 }
 
 /// `spare immediate` or `spare paced`, if the line is about a spare at all.
-fn any_spare(line: &[u8]) -> Result<Option<Pace>, LineFault> {
+pub fn any_spare(line: &[u8]) -> Result<Option<Pace>, LineFault> {
     let mut words = Words::of(line);
     if words.word()? != b"spare".as_slice() {
         return Ok(None);
@@ -92,7 +92,7 @@ pub fn event(alloc: Global, line: &[u8]) -> Result<Event, LineFault>
 }
 
 /// The event of a line, whether it is answered so far or not.
-fn any_event(alloc: Global, line: &[u8]) -> Result<Event, LineFault> {
+pub fn any_event(alloc: Global, line: &[u8]) -> Result<Event, LineFault> {
     let mut words = Words::of(line);
     let name = words.word()?;
     let event = match name {

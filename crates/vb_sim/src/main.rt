@@ -7,16 +7,17 @@ mod play;
 mod replies;
 mod run;
 mod script;
+#[cfg(test)]
+mod tests;
 mod words;
 
 use arguments::{ArgumentsFault, USAGE, read_arguments};
-use run::{BAD_ARGUMENTS, RunFault, report};
-use std::env;
-use std::rt::Env;
-use std::process::ExitCode;
-
 pub use run::run_script;
+use run::{BAD_ARGUMENTS, RunFault, report};
 pub use script::{Script, ScriptFault, parse};
+use std::env;
+use std::process::ExitCode;
+use std::rt::Env;
 
 fn main(rt: HostRuntime) -> ExitCode {
     let status = match read_command_line(&rt) {

@@ -94,7 +94,5 @@ fn with_digit(value: u32, digit: u8) -> Option<u32>
     if !digit.is_ascii_digit() {
         return None;
     }
-    value
-        .checked_mul(10)?
-        .checked_add(u32::from(digit - b'0'))
+    value.checked_mul(10)?.checked_add(u32::from(digit - b'0'))
 }
