@@ -1,6 +1,6 @@
 //! Each line of the format, and each way to be none.
 
-use crate::lines::{Pace, any_event, any_spare, event, host, spare};
+use crate::lines::{Pace, any_event, any_spare, event, features, host, spare};
 use crate::words::{LineFault, number};
 use std::alloc::Global;
 use std::test::Fail;
@@ -56,15 +56,6 @@ fn lines_of_the_driver(rt: HostRuntime) -> Result<(), Fail> {
             plain,
             Call::Init {
                 features: 0x0000_0001_0000_0027
-            }
-        )
-    );
-    let some = call(alloc, b"init 7 00000000fFfEaB26")?;
-    assert!(rt;
-        matches!(
-            some,
-            Call::Init {
-                features: 0xfffe_ab26
             }
         )
     );
@@ -216,7 +207,7 @@ fn bad_lines(rt: HostRuntime) {
         b"write 0 16 0 0g",
         b"write 0 16 0 ab cd",
         b"init",
-        b"init 0 27",
+        b"init 0 0000000100000027",
         b"init 0 00000000100000027",
         b"init 0 000000010000002g",
         b"init 0 0000000100000027 0",
@@ -284,6 +275,15 @@ fn numbers(rt: HostRuntime) {
     assert_eq!(rt; number(b"42949672950"), None);
     assert_eq!(rt; number(b""), None);
     assert_eq!(rt; number(b"1_0"), None);
+}
+
+#[test]
+fn features_as_digits(rt: HostRuntime) {
+    assert_eq!(rt; features(b"0000000100000027"), Some(0x0000_0001_0000_0027));
+    assert_eq!(rt; features(b"80000000fFfEaB26"), Some(0x8000_0000_fffe_ab26));
+    assert_eq!(rt; features(b"000000010000002g"), None);
+    assert_eq!(rt; features(b"27"), None);
+    assert_eq!(rt; features(b"00000000100000027"), None);
 }
 
 #[test]
