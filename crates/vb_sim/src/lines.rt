@@ -1,6 +1,8 @@
 //! The lines of a script: for each its words, in order.
 
-ghost use Rattle.std.specs.Prelude.{◌≡◌, ◌≤◌, IfOk, IsTrue};
+ghost use Rattle.std.specs.Prelude.{◌≡◌, ◌≢◌, ◌≤◌, IfOk, IsOk, IsTrue, MatchOption};
+ghost use Rattle.hex.specs.Hex.{decode_of, decode_sized};
+ghost use Rattle.vb_sim.specs.Numbers.{IsByteWord, ShowsBits};
 ghost use Rattle.vb_model.specs.Brought.{is_brought};
 ghost use Rattle.vb_sim.specs.Lines.{is_pace_brought};
 
@@ -13,6 +15,9 @@ use vb_model::{Bytes, Call, Event, Place, Query};
 /// The features that a driver asks for where a line names none (VIRTIO 1.1, 5.5.3 and 6):
 /// MUST_TELL_HOST, STATS_VQ, DEFLATE_ON_OOM, page reporting (profile) and VERSION_1.
 pub const DEFAULT_FEATURES: u64 = 0x1_0000_0027;
+
+/// Whether a line may name the features that a driver asks for. So far it asks for the default ones.
+const FEATURES_ARE_BROUGHT: bool = false;
 
 /// Hexadecimal digits of a line's features.
 const FEATURE_DIGITS: usize = 16;
@@ -55,8 +60,18 @@ pub fn host(line: &[u8]) -> Result<u32, LineFault>
     Ok(frames)
 }
 
-/// `spare immediate` or `spare paced`, if the line is about a spare at all.
+/// The pace of a spare device, if the line is about one at all; a pace that isn't there so far
+/// makes a bad line.
 pub fn spare(line: &[u8]) -> Result<Option<Pace>, LineFault> {
+    let pace = any_spare(line)?;
+    match pace {
+        Some(pace) if !pace.is_brought() => Err(LineFault::Bad),
+        _ => Ok(pace),
+    }
+}
+
+/// `spare immediate` or `spare paced`, if the line is about a spare at all.
+pub fn any_spare(line: &[u8]) -> Result<Option<Pace>, LineFault> {
     let mut words = Words::of(line);
     if words.word()? != b"spare".as_slice() {
         return Ok(None);
@@ -67,9 +82,6 @@ pub fn spare(line: &[u8]) -> Result<Option<Pace>, LineFault> {
         _ => return Err(LineFault::Bad),
     };
     words.end()?;
-    if !pace.is_brought() {
-        return Err(LineFault::Bad);
-    }
     Ok(Some(pace))
 }
 
@@ -77,6 +89,15 @@ pub fn spare(line: &[u8]) -> Result<Option<Pace>, LineFault> {
 pub fn event(alloc: Global, line: &[u8]) -> Result<Event, LineFault>
     ensures { IfOk result (λ event. IsTrue (is_brought event)) }
 {
+    let event = any_event(alloc, line)?;
+    if !event.is_brought() {
+        return Err(LineFault::Bad);
+    }
+    Ok(event)
+}
+
+/// The event of a line, whether it is answered so far or not.
+pub fn any_event(alloc: Global, line: &[u8]) -> Result<Event, LineFault> {
     let mut words = Words::of(line);
     let name = words.word()?;
     let event = match name {
@@ -92,9 +113,6 @@ pub fn event(alloc: Global, line: &[u8]) -> Result<Event, LineFault>
         _ => guest_event(alloc, name, &mut words)?,
     };
     words.end()?;
-    if !event.is_brought() {
-        return Err(LineFault::Bad);
-    }
     Ok(event)
 }
 
@@ -250,24 +268,41 @@ fn wanted_features(words: &mut Words<'_>) -> Result<u64, LineFault> {
     if words.is_at_end() {
         return Ok(DEFAULT_FEATURES);
     }
+    if !FEATURES_ARE_BROUGHT {
+        return Err(LineFault::Bad);
+    }
     features(words.word()?).ok_or(LineFault::Bad)
 }
 
-/// The feature bits that 16 hexadecimal digits show.
-fn features(word: &[u8]) -> Option<u64> {
+/// The feature bits that 16 hexadecimal digits show, the first digit the highest four.
+pub fn features(word: &[u8]) -> Option<u64>
+    ensures { MatchOption result (¬ IsOk (decode_sized word.now 8)) (λ bits. ShowsBits word.now bits) }
+{
     let mut bytes = [0u8; FEATURE_DIGITS / 2];
     hex::decode_to_slice(word, &mut bytes).ok()?;
     Some(u64::from_be_bytes(bytes))
 }
 
 /// The bytes that hexadecimal digits of either case show: at least one, at most a page of them.
-fn bytes(alloc: Global, word: &[u8]) -> Result<Bytes, LineFault> {
+fn bytes(alloc: Global, word: &[u8]) -> Result<Bytes, LineFault>
+    ensures ok { IfOk result (λ bytes. IsByteWord word.now × (decode_of word.now ≡ Ok bytes)) }
+    ensures bad { result ≡ Err LineFault.Bad → ¬ IsByteWord word.now }
+{
     if word.is_empty() || word.len() > 2 * PAGE_SIZE as usize {
         return Err(LineFault::Bad);
     }
     match hex::decode(alloc, word) {
         Ok(bytes) => Ok(Bytes::new(bytes)),
-        Err(FromHexError::OutOfMemory) => Err(LineFault::Memory),
-        Err(_) => Err(LineFault::Bad),
+        Err(fault) => Err(decoding_fault(fault)),
+    }
+}
+
+/// What a line is answered whose word isn't decoded.
+fn decoding_fault(fault: FromHexError) -> LineFault
+    ensures { result ≡ LineFault.Bad → fault ≢ FromHexError.OutOfMemory }
+{
+    match fault {
+        FromHexError::OutOfMemory => LineFault::Memory,
+        _ => LineFault::Bad,
     }
 }

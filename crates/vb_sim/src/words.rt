@@ -1,5 +1,8 @@
 //! The words of a line, read one after the other.
 
+ghost use Rattle.std.specs.Prelude.{◌≡◌, ◌+◌, ◌-◌, ◌*◌, ◌^◌, ◌<◌, SomeIff};
+ghost use Rattle.vb_sim.specs.Numbers.{IsDecimal, IsDigit, decimal_value};
+
 use std::alloc::AllocError;
 
 /// The bytes between words.
@@ -71,7 +74,9 @@ impl<'a> Words<'a> {
 }
 
 /// The number that decimal digits show, any leading zeros among them, if it fits 32 bits.
-pub fn number(word: &[u8]) -> Option<u32> {
+pub fn number(word: &[u8]) -> Option<u32>
+    ensures { SomeIff result (IsDecimal word.now × (decimal_value word.now < 2 ^ 32)) (decimal_value word.now) }
+{
     if word.is_empty() {
         return None;
     }
@@ -83,11 +88,11 @@ pub fn number(word: &[u8]) -> Option<u32> {
 }
 
 /// The number with one more digit behind it.
-fn with_digit(value: u32, digit: u8) -> Option<u32> {
+fn with_digit(value: u32, digit: u8) -> Option<u32>
+    ensures { SomeIff result (IsDigit digit × (value * 10 + (digit - 48) < 2 ^ 32)) (value * 10 + (digit - 48)) }
+{
     if !digit.is_ascii_digit() {
         return None;
     }
-    value
-        .checked_mul(10)?
-        .checked_add(u32::from(digit - b'0'))
+    value.checked_mul(10)?.checked_add(u32::from(digit - b'0'))
 }
