@@ -15,6 +15,9 @@ mod fields;
 mod frame;
 mod memory;
 
+#[cfg(test)]
+mod tests;
+
 pub use config::Config;
 pub use fields::{read_u16, read_u32, read_u64, write_u16, write_u32, write_u64};
 pub use frame::Frame;
