@@ -66,8 +66,18 @@ fn descriptors_have_their_bytes(rt: HostRuntime) -> Result<(), Fail> {
             next: 1,
         },
     );
-    expect_bytes(&rt, &ram, 0, b"\x00\x40\x00\x00\x00\x00\x00\x00\x10\x00\x00\x00\x00\x00\x00\x00");
-    expect_bytes(&rt, &ram, 16, b"\x00\x00\x01\x00\x00\x00\x00\x00\x00\x00\x01\x00\x03\x00\x01\x00");
+    expect_bytes(
+        &rt,
+        &ram,
+        0,
+        b"\x00\x40\x00\x00\x00\x00\x00\x00\x10\x00\x00\x00\x00\x00\x00\x00",
+    );
+    expect_bytes(
+        &rt,
+        &ram,
+        16,
+        b"\x00\x00\x01\x00\x00\x00\x00\x00\x00\x00\x01\x00\x03\x00\x01\x00",
+    );
     assert!(rt; ram.pages() == 64);
     assert!(rt; read_descriptor(&ram, 0, 0) == at(0, 0));
     Ok(())
@@ -91,8 +101,18 @@ fn a_written_chain_has_its_bytes(rt: HostRuntime) -> Result<(), Fail> {
     assert!(rt; ram.pages() == 64);
     assert!(rt; ram.backing(0).is_some());
     write_chain(&mut ram, 0, 8, &[0, 1], &pieces);
-    expect_bytes(&rt, &ram, 0, b"\x00\x00\x01\x00\x00\x00\x00\x00\x00\x00\x01\x00\x03\x00\x01\x00");
-    expect_bytes(&rt, &ram, 16, b"\x00\x00\x02\x00\x00\x00\x00\x00\x00\x00\x02\x00\x02\x00\x00\x00");
+    expect_bytes(
+        &rt,
+        &ram,
+        0,
+        b"\x00\x00\x01\x00\x00\x00\x00\x00\x00\x00\x01\x00\x03\x00\x01\x00",
+    );
+    expect_bytes(
+        &rt,
+        &ram,
+        16,
+        b"\x00\x00\x02\x00\x00\x00\x00\x00\x00\x00\x02\x00\x02\x00\x00\x00",
+    );
     match walk(&ram, 0, 0, 8) {
         Ok(chain) => assert!(rt; chain.pieces() == pieces.as_slice()),
         Err(_) => assert!(rt; false),

@@ -15,7 +15,6 @@ mod fields;
 mod frame;
 mod laws;
 mod memory;
-
 #[cfg(test)]
 mod tests;
 
@@ -26,7 +25,6 @@ pub use laws::{
     a_page_is_its_frame_and_bytes, a_read_gives_bytes, a_write_replaces_bytes, memory_stays_whole,
 };
 pub use memory::{Ram, SupplyRefused};
-
 use std::alloc::AllocError;
 use thiserror::Error;
 use vb_model::limits;

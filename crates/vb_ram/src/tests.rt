@@ -1,7 +1,7 @@
 // Values from the formats, and each call with ample memory.
 
 use crate::{
-    Config, Frame, GuestBytes, RamFault, Ram, read_u16, read_u32, read_u64, write_u16, write_u32,
+    Config, Frame, GuestBytes, Ram, RamFault, read_u16, read_u32, read_u64, write_u16, write_u32,
     write_u64,
 };
 use std::alloc::Global;
@@ -98,7 +98,13 @@ fn numbers_stand_lowest_byte_first(rt: HostRuntime) -> Result<(), Fail> {
     write_u64(&mut ram, 0, 0, 0x0000_0102_0304_0506);
     write_u32(&mut ram, 0, 8, 16);
     write_u16(&mut ram, 0, 12, 0xabcd);
-    expect_bytes(&rt, &ram, 0, 0, &[6, 5, 4, 3, 2, 1, 0, 0, 16, 0, 0, 0, 0xcd, 0xab, 0, 0]);
+    expect_bytes(
+        &rt,
+        &ram,
+        0,
+        0,
+        &[6, 5, 4, 3, 2, 1, 0, 0, 16, 0, 0, 0, 0xcd, 0xab, 0, 0],
+    );
     assert!(rt; read_u64(&ram, 0, 0) == 0x0000_0102_0304_0506);
     assert!(rt; read_u32(&ram, 0, 8) == 16);
     assert!(rt; read_u16(&ram, 0, 12) == 0xabcd);
