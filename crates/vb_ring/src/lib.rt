@@ -11,3 +11,6 @@ mod owners;
 pub use device::{Queue, Taken};
 pub use driver::{DriverRing, Full, RingBroken};
 pub use layout::{Layout, MAX_QUEUE_SIZE, RingArea};
+
+#[cfg(test)]
+mod tests;
