@@ -190,3 +190,189 @@ fn indices_wrap(rt: HostRuntime) -> Result<(), Fail> {
     expect_bytes(&rt, &ram, 0, 46, [4, 0]);
     Ok(())
 }
+
+/// Numbers that look random, from a seed (xorshift).
+#[derive(Drop)]
+struct Numbers {
+    state: u64,
+}
+
+impl Numbers {
+    fn next(&mut self) -> u64 {
+        self.state ^= self.state << 13;
+        self.state ^= self.state >> 7;
+        self.state ^= self.state << 17;
+        self.state
+    }
+
+    fn below(&mut self, limit: u64) -> u64 {
+        self.next().checked_rem(limit).unwrap_or(0)
+    }
+}
+
+fn put(bytes: &mut [u8], at: usize, count: usize, value: u64) {
+    let mut rest = value;
+    for k in 0..count {
+        if let Some(byte) = bytes.get_mut(at.wrapping_add(k)) {
+            *byte = (rest % 256) as u8;
+        }
+        rest /= 256;
+    }
+}
+
+fn number(bytes: &[u8], at: usize, count: usize) -> u64 {
+    let mut value: u64 = 0;
+    for k in (0..count).rev() {
+        let byte = bytes.get(at.wrapping_add(k)).copied().unwrap_or(0);
+        value = value.wrapping_mul(256).wrapping_add(u64::from(byte));
+    }
+    value
+}
+
+/// A ring of 8 descriptors: mostly with small indices and numbers, so that chains come about.
+fn random_ring(numbers: &mut Numbers, bytes: &mut [u8]) {
+    for at in 0..bytes.len() {
+        put(bytes, at, 1, numbers.below(256));
+    }
+    if numbers.below(8) > 0 {
+        put(bytes, 130, 2, numbers.below(11));
+    }
+    for i in 0..8 {
+        put(bytes, 132 + 2 * i, 2, numbers.below(9));
+        if numbers.below(8) > 0 {
+            put(bytes, 16 * i, 8, numbers.below(270_000));
+            put(bytes, 16 * i + 8, 4, numbers.below(5000));
+            let flags = if numbers.below(12) > 0 { numbers.below(4) } else { numbers.below(65536) };
+            put(bytes, 16 * i + 12, 2, flags);
+            let limit = if numbers.below(12) > 0 { 8 } else { 10 };
+            put(bytes, 16 * i + 14, 2, numbers.below(limit));
+        }
+    }
+}
+
+/// A descriptor as the second reading sees it.
+#[derive(Clone, Copy)]
+struct Link {
+    addr: u64,
+    len: u64,
+    flags: u64,
+    next: u64,
+}
+
+impl Link {
+    fn at(bytes: &[u8], index: u64) -> Link {
+        let at = index.wrapping_mul(16) as usize;
+        Link {
+            addr: number(bytes, at, 8),
+            len: number(bytes, at.wrapping_add(8), 4),
+            flags: number(bytes, at.wrapping_add(12), 2),
+            next: number(bytes, at.wrapping_add(14), 2),
+        }
+    }
+
+    fn has(&self, flag: u64) -> bool {
+        self.flags & flag != 0
+    }
+}
+
+/// The descriptors from a head on, as long as there is a next one in the table, at most 8.
+fn links_from(alloc: Global, bytes: &[u8], head: u64) -> Result<Vec<Link>, Fail> {
+    let mut links = Vec::new(alloc);
+    let mut index = head;
+    for _ in 0..8 {
+        let link = Link::at(bytes, index);
+        links.push(link)?;
+        if !link.has(1) || link.next >= 8 {
+            break;
+        }
+        index = link.next;
+    }
+    Ok(links)
+}
+
+/// The first rule that a descriptor breaks, after these others.
+fn broken(before: &[Link], link: &Link, end: u64) -> Option<ChainFault> {
+    let over = link.addr.checked_add(link.len).is_none_or(|last| last > end);
+    let turns = before.iter().any(|other| other.has(2)) && !link.has(2);
+    let rules = [
+        (link.has(4), ChainFault::Indirect),
+        (over, ChainFault::OutOfRam),
+        (turns, ChainFault::WrongDirection),
+        (link.has(1) && link.next >= 8, ChainFault::BadNext),
+        (link.has(1) && before.len() >= 7, ChainFault::TooLong),
+    ];
+    for (is_broken, fault) in rules {
+        if is_broken {
+            return Some(fault);
+        }
+    }
+    None
+}
+
+/// The ring's next chain by a second reading of the rules: its head and descriptors.
+fn second_reading(
+    alloc: Global,
+    bytes: &[u8],
+    taken: u64,
+) -> Result<Result<Option<(u64, Vec<Link>)>, ChainFault>, Fail> {
+    let ahead = number(bytes, 130, 2).wrapping_sub(taken) % 65536;
+    if ahead == 0 {
+        return Ok(Ok(None));
+    }
+    if ahead > 8 {
+        return Ok(Err(ChainFault::IndexJump));
+    }
+    let head = number(bytes, 132 + 2 * (taken % 8) as usize, 2);
+    if head >= 8 {
+        return Ok(Err(ChainFault::BadHead));
+    }
+    let links = links_from(alloc, bytes, head)?;
+    for k in 0..links.len() {
+        if let Some(fault) = broken(&links[..k], &links[k], 64 * 4096) {
+            return Ok(Err(fault));
+        }
+    }
+    Ok(Ok(Some((head, links))))
+}
+
+fn agree(got: &Result<Option<Taken>, ChainFault>, want: &Result<Option<(u64, Vec<Link>)>, ChainFault>) -> bool {
+    match (got, want) {
+        (Ok(None), Ok(None)) => true,
+        (Err(fault), Err(other)) => fault == other,
+        (Ok(Some(taken)), Ok(Some((head, links)))) => {
+            let pieces = taken.chain.pieces();
+            let same = |(piece, link): (&Piece, &Link)| {
+                piece.addr == link.addr && u64::from(piece.len) == link.len && piece.writable == link.has(2)
+            };
+            u64::from(taken.head) == *head && pieces.len() == links.len() && pieces.iter().zip(links).all(same)
+        }
+        _ => false,
+    }
+}
+
+#[test]
+fn rings_of_any_bytes(rt: HostRuntime) -> Result<(), Fail> {
+    let mut ram = memory(&rt, rt.alloc())?;
+    let mut queue = ready_queue(&rt, 0, 8);
+    let mut numbers = Numbers {
+        state: 88_172_645_463_325_252,
+    };
+    let mut bytes = [0; 222];
+    let mut chains: u32 = 0;
+    for round in 0..20_000 {
+        random_ring(&mut numbers, &mut bytes);
+        assert!(rt; ram.write(0, 0, &bytes).is_ok());
+        queue.set_ready(true);
+        for taken in 0..9 {
+            let want = second_reading(rt.alloc(), &bytes, taken)?;
+            let got = pop(&rt, &mut queue, &ram);
+            assert!(rt; agree(&got, &want), "{round}, {taken}");
+            if !matches!(got, Ok(Some(_))) {
+                break;
+            }
+            chains = chains.wrapping_add(1);
+        }
+    }
+    assert!(rt; chains > 10_000, "{chains}");
+    Ok(())
+}
