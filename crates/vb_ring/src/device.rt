@@ -55,6 +55,28 @@ impl Queue {
         }
     }
 
+    /// Where the queue's ring lies.
+    pub fn layout(&self) -> Layout
+        ensures is_end { IsDeviceEnd self.now }
+        ensures value { result ≡ self.now.layout }
+    {
+        self.layout
+    }
+
+    /// How many descriptors it has.
+    pub fn size(&self) -> u16
+        ensures { result ≡ self.now.size }
+    {
+        self.size
+    }
+
+    /// Whether it was made ready.
+    pub fn is_ready(&self) -> bool
+        ensures { result ≡ self.now.ready }
+    {
+        self.ready
+    }
+
     /// Gives the queue a size, and so a layout: true where it is a power of two from 2 to `MAX_QUEUE_SIZE`, else nothing is changed.
     pub fn set_size(&mut self, size: u16) -> bool
         ensures is_end { IsDeviceEnd self.new }

@@ -67,6 +67,14 @@ impl DriverRing {
         }
     }
 
+    /// Where the ring lies.
+    pub fn layout(&self) -> Layout
+        ensures is_end { IsDriverEnd self.now }
+        ensures value { result ≡ self.now.layout }
+    {
+        self.layout
+    }
+
     /// The head of the next `add`: the lowest free descriptor, if one is free.
     pub fn next_head(&self) -> Option<u16>
         ensures is_end { IsDriverEnd self.now }

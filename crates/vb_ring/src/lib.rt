@@ -5,9 +5,17 @@
 mod device;
 mod driver;
 mod entries;
+mod laws;
 mod layout;
 mod owners;
 
 pub use device::{Queue, Taken};
 pub use driver::{DriverRing, Full, RingBroken};
+pub use laws::{
+    an_added_chain_is_read_back, chains_that_are_out_stay, other_pages_leave_a_ring_alone,
+    single_heads_stay_low, zeroed_pages_show_nothing,
+};
 pub use layout::{Layout, MAX_QUEUE_SIZE, RingArea};
+
+#[cfg(test)]
+mod tests;
