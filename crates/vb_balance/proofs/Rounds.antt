@@ -1,5 +1,5 @@
 -- One guest after the other gives.
-use Rattle.std.proofs.Common.{◌≡◌, ◌≢◌, ℕ, ◌+◌, ◌-◌, ◌<◌, ◌≤◌, Bool, true, false, not, cond, List, length, get_or, set, map, replicate, sum, sum_by, count_by, slice_index, sym, subst, ap, ◌∙◌, ◌⊎◌, inl, inr, arith, zero, suc, refl, [], ◌∷◌, ◌++◌, take, drop, min}
+use Rattle.std.proofs.Common.{◌≡◌, ◌≢◌, ℕ, ◌-◌, ◌<◌, ◌≤◌, Bool, true, false, not, cond, List, length, get_or, set, map, replicate, sum, sum_by, count_by, sym, subst, ap, ◌∙◌, inl, inr, arith, zero, suc, refl, [], ◌∷◌, ◌++◌, take, drop, min}
 use Rattle.std.proofs.lemmas.Bool.{false≢true, cases_Bool}
 use Rattle.std.proofs.lemmas.Bool.Decides.{eqb_tells}
 use Rattle.std.proofs.lemmas.List.{length-replicate, length-map, length-set, get_or-set_same, get_or-set_other, get_or-replicate}

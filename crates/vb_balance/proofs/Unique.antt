@@ -1,5 +1,5 @@
 -- Two lists of targets are the same.
-use Rattle.std.proofs.Common.{◌≡◌, ℕ, ◌<◌, ◌≤◌, List, length, slice_index, sym, ◌∙◌, subst, ap, ◌⊎◌, inl, inr, arith}
+use Rattle.std.proofs.Common.{◌≡◌, ℕ, ◌<◌, List, length, slice_index, sym, ◌∙◌, subst, ◌⊎◌, inl, inr, arith}
 use Rattle.std.proofs.lemmas.Bool.{cases_order}
 use Rattle.vb_model.specs.Balance.{Need, AreTargets, GivesBefore, spare_at}
 use Rattle.vb_balance.proofs.Lists.{same_by_sum, somewhere_more}

@@ -1,5 +1,5 @@
 -- A table's claims are the model's.
-use Rattle.std.proofs.Common.{◌≡◌, ◌≢◌, ℕ, ◌+◌, ◌<◌, ◌≤◌, Bool, true, false, List, [], ◌∷◌, length, set, get_or, sym, subst, ap, ◌∙◌, ◌⊎◌, inl, inr, arith, refl}
+use Rattle.std.proofs.Common.{◌≡◌, ℕ, ◌<◌, Bool, true, false, List, [], ◌∷◌, length, set, sym, subst, ap, ◌∙◌, ◌⊎◌, inl, inr}
 use Rattle.std.proofs.lemmas.Bool.{false≢true}
 use Rattle.std.proofs.lemmas.Bool.Decides.{eqb_tells}
 use Rattle.std.proofs.lemmas.List.{length-set, get_or-set_same, get_or-set_other}
@@ -7,7 +7,7 @@ use Rattle.vb_model.specs.declared.calls.Claim.{Claim}
 use Rattle.vb_model.specs.declared.calls.Claim.TheVariants.{Gave, GaveNoFrame, GaveNoMemory}
 use Rattle.vb_model.specs.World.{Gives}
 use Rattle.vb_frames.specs.Returns.{same_gives}
-use Rattle.vb_frames.specs.Out.{is_out, IsFree, AllOut, AllAnswered, TableAnswers}
+use Rattle.vb_frames.specs.Out.{is_out, AllAnswered, TableAnswers}
 
 -- the frames that are out after one was given
 out_after : (out : List Bool) (f x : ℕ) → is_out (set out f true) x ≡ true → (is_out out x ≡ true) ⊎ (x ≡ f)

@@ -1,6 +1,6 @@
 -- Laws of claims and returns, for the crates above.
-use Rattle.std.specs.Prelude.{◌≡◌, ◌≢◌, ℕ, zero, suc, ◌<◌, Bool, true, false, List, [], ◌∷◌, length, slice_set, ◌⊎◌}
-use Rattle.std.proofs.Common.{arith, inl, inr, sym, ap, ◌∙◌, set}
+use Rattle.std.specs.Prelude.{◌≡◌, ℕ, zero, suc, ◌<◌, Bool, true, false, List, [], ◌∷◌, length, slice_set, ◌⊎◌}
+use Rattle.std.proofs.Common.{arith, inl, inr, sym, ap, set}
 use Rattle.vb_model.specs.declared.calls.Claim.{Claim}
 use Rattle.vb_model.specs.declared.calls.Claim.TheVariants.{Gave, GaveNoFrame, GaveNoMemory}
 use Rattle.vb_model.specs.World.{Gives}

@@ -1,4 +1,4 @@
-use Rattle.std.proofs.Common.{◌≡◌, List, Bool, false, set, ap, ◌∙◌}
+use Rattle.std.proofs.Common.{List, Bool, false, set, ap, ◌∙◌}
 use Rattle.vb_frames.specs.Returns.{given_back}
 use Rattle.vb_frames.proofs.tests.claim_two.Goals as goal
 
