@@ -1,11 +1,30 @@
 //! Whole runs: what is written where, and the exit status, also where reading or writing fails.
 
+ghost use Rattle.std.specs.Prelude.{◌≡◌, vec_len, IfOk};
+
+use crate::play::Play;
 use crate::run::run_script;
-use std::alloc::Global;
+use crate::script::Script;
+use std::alloc::{AllocError, Global};
 use std::io;
 use std::io::{ErrorKind, Read, Write};
 use std::process::Abort;
 use std::test::Fail;
+use vb_model::{Refusal, Reply};
+
+/// A host without guests.
+#[derive(Drop)]
+struct Empty;
+
+impl Play for Empty {
+    fn play(&mut self, alloc: Global, script: &Script) -> Result<Vec<Reply>, AllocError> {
+        let mut replies = Vec::with_capacity(alloc, script.events.len())?;
+        for _event in &script.events {
+            replies.push(Reply::Refused(Refusal::NoGuest))?;
+        }
+        Ok(replies)
+    }
+}
 
 /// A reader of these bytes, a few at a time, which may fail behind them.
 #[derive(Drop)]
@@ -72,7 +91,7 @@ fn run(alloc: Global, text: &[u8], fails: bool, room: usize) -> Outcome {
         text: &mut errors,
         room,
     };
-    let status = run_script(alloc, input, out, err);
+    let status = run_script(alloc, &mut Empty, input, out, err);
     Outcome {
         output,
         errors,
@@ -165,10 +184,17 @@ fn a_byte_too_many_is_a_fault_of_input(rt: HostRuntime) {
     let alloc = rt.alloc();
     let (mut output, mut errors) = (Vec::new(alloc), Vec::new(alloc));
     let most = 67_108_864;
-    let status = run_script(alloc, LineFeeds { left: most }, &mut output, &mut errors);
+    let status = run_script(
+        alloc,
+        &mut Empty,
+        LineFeeds { left: most },
+        &mut output,
+        &mut errors,
+    );
     assert_eq!(rt; status, 0);
     let status = run_script(
         alloc,
+        &mut Empty,
         LineFeeds { left: most + 1 },
         &mut output,
         &mut errors,
