@@ -16,7 +16,7 @@ use Rattle.vb_pages.specs.Held.{HeldBlocks}
 use Rattle.vb_pages.specs.PageState.{PageState, page_count, is_free_page, is_held_page, is_unreserved, IsWhollyFree, IsApart, IsKept, HasRoomIn}
 use Rattle.vb_pages.proofs.Sets.{is_inside, length-with_pages, length-without_pages, same_bool, without_parts, without_old, in_block, not_in_block}
 use Rattle.vb_pages.proofs.AreasLemmas.{length-unreserved, has-unreserved}
-use Rattle.vb_pages.proofs.ListsLemmas.{times, times_in, times_out, one_if_le, one_if_true, one_if_false, takes_pages_times}
+use Rattle.vb_pages.proofs.ListsLemmas.{times, times_in, times_out, one_if_le, one_if_true, one_if_false, takes_pages_times, page_block}
 use Rattle.vb_pages.proofs.FreeLemmas.{free_of, flat, flat-empty, flat-replicate, nothing, drained_times, serves_times, serves_length, tries_none, given_times, given_length, block_times, length-takes_pages}
 use Rattle.vb_pages.proofs.HeldLemmas.{held_of}
 
@@ -316,3 +316,31 @@ state_of free held = record { free = free; held = held }
 
 pub same_state : (f g : FreePages) (xs ys : List Block) → f ≡ g → xs ≡ ys → state_of f xs ≡ state_of g ys
 same_state f g xs ys e l = ap (λ (x : FreePages). state_of x xs) e ∙ ap (λ (bs : List Block). state_of g bs) l
+
+-- ---- what left may come back
+
+room_of : (f new : FreePages) (h : HeldBlocks) (s k : ℕ) → IsKept f h → length new.areas ≡ length f.areas → IsBlock (block_at s k) → ((p : ℕ) → s ≤ p → p < s + 2 ^ k → times_free new p + 1 ≤ times_free f p) → HasRoomIn (state_of new h.blocks) (block_at s k)
+room_of f new h s k kept l block less =
+    let pos : 0 < 2 ^ k = pow_pos k in
+    let first = unreserved_below f h.blocks s (omega (arith, kept.apart s, less s (omega arith) (omega arith))) in
+    let last = unreserved_below f h.blocks (s + 2 ^ k - 1) (omega (arith, kept.apart (s + 2 ^ k - 1), less (s + 2 ^ k - 1) (omega arith) (omega arith))) in
+    (block, first.0, omega (arith, last.1, l), λ p a e.
+      let most = one_if_le (is_unreserved (record { free = f; held = h.blocks }) p) in
+      (free_none new p (omega (arith, kept.apart p, less p a e, most)), count_none (covers p) h.blocks (omega (arith, kept.apart p, less p a e, most))))
+
+pub isolated_room : (f new : FreePages) (h : HeldBlocks) (order from : ℕ) (got : Option FreeBlock) → IsSound f → IsKept f h → IsolatesFrom f order from got new → IfSome got (λ b. HasRoomIn (state_of new h.blocks) (block_at b.start b.order))
+isolated_room f new h order from None sound kept i = tt
+isolated_room f new h order from (Some b) sound kept i =
+    room_of f new h b.start b.order kept
+    (ap (λ (x : FreePages). length x.areas) i.1 ∙ (length-without_pages (pages_of (block_at b.start b.order)) (drained f).areas ∙ length-with_pages (in_lists f) f.areas))
+    i.0.maximal.is_block
+    (λ p a e.
+      let o : one_if (covers p (block_at b.start b.order)) ≡ 1 = ap one_if (bounds_cover p b.start b.order a e) in
+      omega (arith, o, isolated_times f new order from b sound i p))
+
+pub singles_room : (f new : FreePages) (h : HeldBlocks) (pages : List ℕ) → IsSound f → IsKept f h → TakesPages (drained f).areas pages new.areas → new.lists ≡ (drained f).lists → (p : ℕ) → is_in p pages ≡ true → HasRoomIn (state_of new h.blocks) (block_at p 0)
+singles_room f new h pages sound kept t l p i =
+    room_of f new h p 0 kept (length-takes_pages (drained f).areas new.areas pages t ∙ length-with_pages (in_lists f) f.areas) (page_block p) (λ q a e.
+      let same : q ≡ p = omega arith in
+      let some : 1 ≤ times q pages = times_in q pages (ap (λ (n : ℕ). is_in n pages) same ∙ i) in
+      omega (arith, some, singles_times f new pages sound t l q))

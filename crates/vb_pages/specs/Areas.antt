@@ -4,7 +4,8 @@
 use Rattle.std.specs.Prelude.{◌≡◌, ℕ, ◌+◌, ◌<◌, ◌≤◌, Bool, true, false, not, ◌&&◌, ◌||◌, nat_le, List, [], ◌∷◌, length, map, Option, Some, None, IsTrue, slice_index_or}
 use Rattle.std.specs.List.{range_with_len}
 use Rattle.vb_model.specs.Tests.{is_in, each_page}
-use Rattle.vb_model.specs.Pages.{Block, size, pages_of, is_aligned, reserved_pages}
+use Rattle.vb_model.specs.Limits.{reserved_pages}
+use Rattle.vb_model.specs.Pages.{Block, size, pages_of, is_aligned}
 
 -- a set of pages is a flag a page; a page that isn't there isn't in it
 abbrev pub has : List Bool → ℕ → Bool

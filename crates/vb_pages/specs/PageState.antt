@@ -2,7 +2,9 @@
 use Rattle.std.specs.Prelude.{◌≡◌, ℕ, zero, suc, ◌+◌, ◌-◌, ◌^◌, ◌<◌, ◌≤◌, Bool, true, false, ◌==◌, ◌||◌, ◌&&◌, not, nat_lt, nat_le, List, [], ◌∷◌, length, map, replicate, Option, Some, None, Result, Ok, Err, MatchOption, count_by, IsTrue}
 use Rattle.std.specs.List.{list_any}
 use Rattle.vb_model.specs.Tests.{is_in, one_if}
-use Rattle.vb_model.specs.Pages.{Block, pages_of, size, covers, is_same_block, reserved_pages}
+use Rattle.vb_model.specs.declared.limits.TheConstants.{MIN_GUEST_PAGES, MAX_GUEST_PAGES, MAX_PROCESSORS}
+use Rattle.vb_model.specs.Limits.{reserved_pages}
+use Rattle.vb_model.specs.Pages.{Block, pages_of, size, covers, is_same_block}
 use Rattle.vb_model.specs.Driver.{with_block, without_block}
 use Rattle.vb_pages.specs.declared.FreeBlock.{FreeBlock}
 use Rattle.vb_pages.specs.declared.PageFault.{PageFault}
@@ -87,7 +89,7 @@ pub record IsKept (free : FreePages) (held : HeldBlocks) : Type 0 where
 
 -- how many pages and processors a guest may have
 abbrev pub IsSize : ℕ → ℕ → Type 0
-IsSize pages cpus = (64 ≤ pages) × (pages ≤ 16384) × (1 ≤ cpus) × (cpus ≤ 4)
+IsSize pages cpus = (MIN_GUEST_PAGES ≤ pages) × (pages ≤ MAX_GUEST_PAGES) × (1 ≤ cpus) × (cpus ≤ MAX_PROCESSORS)
 
 -- the block is there, and each of its pages was taken: it is neither reserved nor free nor held
 abbrev pub HasRoomIn : PageState → Block → Type 0

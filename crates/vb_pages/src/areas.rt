@@ -7,9 +7,10 @@ ghost use Rattle.vb_pages.specs.Areas.{has, with_pages, without_pages, unreserve
 ghost use Rattle.vb_pages.specs.Tiles.{IsBuddy, HasRoom, IsTiled, set_of, IsLowestListed};
 
 use crate::table::Table;
-use crate::{FreeBlock, MAX_ORDER, RESERVED_PAGES};
+use crate::FreeBlock;
 use std::alloc::{AllocError, Global};
 use std::marker::Model;
+use vb_model::limits::{MAX_ORDER, RESERVED_PAGES};
 
 /// How many pages a block of the order has.
 pub fn size_of(order: u32) -> u32

@@ -7,10 +7,10 @@ ghost use Rattle.vb_model.specs.Driver.{with_block, without_block};
 ghost use Rattle.vb_pages.specs.Table.{order_at};
 ghost use Rattle.vb_pages.specs.Areas.{block_at, IsBlock};
 
-use crate::MAX_ORDER;
 use crate::areas::size_of;
 use std::alloc::{AllocError, Global};
 use std::marker::Model;
+use vb_model::limits::MAX_ORDER;
 
 /// Whether a block of this order starts at the page.
 fn is_at(orders: &[Option<u8>], page: u32, order: u32) -> bool

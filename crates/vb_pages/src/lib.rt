@@ -1,4 +1,8 @@
-//! The guest's page allocator: buddy areas with lists per processor.
+//! The guest's page allocator: buddy areas with a list for each processor.
+//!
+//! Blocks of a power of two, their halving and merging and lists per processor are those of Gorman,
+//! "Understanding the Linux Virtual Memory Manager", chapter 6. Which block a request gets, the sizes of
+//! the lists and all numbers are the profile's.
 #![tactic(auto)]
 
 mod areas;
@@ -9,13 +13,12 @@ mod pages;
 mod starts;
 mod table;
 
+#[cfg(test)]
+mod tests;
+
 pub use pages::Pages;
 
-/// The greatest order of a block.
-pub const MAX_ORDER: u32 = 9;
-
-/// The pages at the start that hold rings and buffers (profile).
-pub const RESERVED_PAGES: u32 = 16;
+use thiserror::Error;
 
 /// A free block: 2^order pages from a multiple of as many on.
 #[derive(Clone, Copy, Debug, PartialEq, Eq)]
@@ -25,14 +28,18 @@ pub struct FreeBlock {
 }
 
 /// Why a call on pages is refused.
-#[derive(Clone, Copy, Debug, PartialEq, Eq)]
+#[derive(Clone, Copy, Debug, PartialEq, Eq, Error)]
 pub enum PageFault {
     /// An order over 9.
+    #[error("bad order")]
     BadOrder = 1,
     /// No such processor.
+    #[error("bad cpu")]
     BadCpu = 2,
-    /// No free block of the order.
+    /// No aligned block of the order is wholly free.
+    #[error("no pages")]
     NoPages = 3,
     /// No allocation of just that block.
+    #[error("not held")]
     NotHeld = 4,
 }

@@ -10,10 +10,11 @@ ghost use Rattle.vb_pages.specs.PageState.{PageState, page_count, cpu_count, is_
 
 use crate::free::FreePages;
 use crate::held::Held;
-use crate::{FreeBlock, MAX_ORDER, PageFault};
+use crate::{FreeBlock, PageFault};
 use arrayvec::ArrayVec;
 use std::alloc::{AllocError, Global};
 use std::marker::Model;
+use vb_model::limits::MAX_ORDER;
 
 /// The pages of a guest: free ones in the buddy areas and in a list for each processor, and held blocks.
 #[derive(Drop)]
@@ -123,6 +124,7 @@ impl Pages {
         requires enough { count ≤ free_count self.old.free }
         ensures taken { TakesFree self.old out.new.items self.new }
         ensures count { length out.new.items ≡ count }
+        ensures room { (page : ℕ) → IsTrue (is_in page out.new.items) → HasRoomIn self.new (block_at page 0) }
         ensures left { (page : ℕ) → one_if (is_free_page self.new page) + count_by (λ p. p == page) out.new.items ≡ one_if (is_free_page self.old page) }
     {
         self.free.take_pages(count, out);
@@ -150,6 +152,7 @@ impl Pages {
     /// all lists were drained.
     pub fn isolate(&mut self, order: u32, from: u32) -> Option<FreeBlock>
         ensures isolated { Isolates self.old order from result self.new }
+        ensures room { IfSome result (λ b. HasRoomIn self.new (block_at b.start b.order)) }
         ensures left { IfSome result (λ b. (page : ℕ) → is_free_page self.new page ≡ (is_free_page self.old page && not (covers page (block_at b.start b.order)))) }
     {
         self.free.isolate(order, from)

@@ -3,10 +3,10 @@
 ghost use Rattle.std.specs.Prelude.{◌≡◌, ℕ, ◌<◌, ◌≤◌, List, length, replicate, slice_set, Some, None, IfOk, IsTrue, ◌↔◌};
 ghost use Rattle.vb_pages.specs.Table.{order_at, IsLowestStart};
 
-use crate::MAX_ORDER;
 use crate::starts::StartList;
 use std::alloc::{AllocError, Global};
 use std::marker::Model;
+use vb_model::limits::MAX_ORDER;
 
 /// Blocks by the page where they start.
 #[derive(Drop)]

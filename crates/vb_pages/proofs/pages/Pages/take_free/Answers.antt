@@ -10,7 +10,7 @@ use Rattle.vb_pages.specs.Held.{HeldBlocks}
 use Rattle.vb_pages.specs.PageState.{PageState, is_free_page, is_held_block, HasRoomIn, IsKept}
 use Rattle.vb_pages.proofs.FreeLemmas.{free_of, nothing, drained_times, serves_is_block, given_times, flat-empty, flat-replicate}
 use Rattle.vb_pages.proofs.HeldLemmas.{held_of}
-use Rattle.vb_pages.proofs.PagesLemmas.{kept_at, state_of, same_state, drained_kept, out_kept, out_free, out_there, out_outside, out_left, none_free, free_same, free_gained, back_room, back_kept, given_kept, given_gained, isolated_kept, isolated_left, singles_kept, singles_left, fresh_kept, map_nothing}
+use Rattle.vb_pages.proofs.PagesLemmas.{kept_at, state_of, same_state, drained_kept, out_kept, out_free, out_there, out_outside, out_left, none_free, free_same, free_gained, back_room, back_kept, given_kept, given_gained, isolated_kept, isolated_left, singles_kept, singles_left, singles_room, fresh_kept, map_nothing}
 use Rattle.vb_model.specs.Tests.{one_if}
 use Rattle.vb_pages.proofs.pages.Pages.take_free.Goals as goal
 
@@ -23,3 +23,7 @@ returns-clause-left c p =
     let v : state_of c.self.inside.free c.self.inside.held.blocks ≡ c.args.self.now = c.self.view_is in
     singles_left c.self.inside.free c.take_pages.new.self c.self.inside.held c.take_pages.new.out.items c.take_pages.ensures.sound c.self.invariant c.take_pages.ensures.taken c.take_pages.ensures.lists p
     ∙ ap (λ (x : PageState). one_if (is_free_page x p)) v
+
+pub returns-clause-room : goal.returns-clause-room
+returns-clause-room c p i =
+    singles_room c.self.inside.free c.take_pages.new.self c.self.inside.held c.take_pages.new.out.items c.take_pages.ensures.sound c.self.invariant c.take_pages.ensures.taken c.take_pages.ensures.lists p i
