@@ -61,10 +61,12 @@ adds_ok old new r pieces h is_end some fits first links pubs = record {
   entries = λ heads elems at shows. publishes_entries old new r.layout r.size r.published h heads elems is_end.fits pubs at shows;
   shown = λ heads elems s tracks shows.
       let after = added_tracks old new r pieces h heads elems s is_end links some fits first tracks in
-      let entries : ShowsEntries new r.layout r.size (heads ++ h ∷ []) elems = publishes_entries old new r.layout r.size r.published h heads elems is_end.fits pubs tracks.published shows.entries in
-      (tracks_shows new (after_add r (length pieces) (Ok h)) (heads ++ h ∷ []) elems s after.0 entries
-      (λ j. omega (arith, shows.among j, times-push j heads h))
-      (omega (arith, length_push heads h, tracks.count, tracks.few, after.1)), after.0);
+      let entries : ShowsEntries new r.layout r.size (heads ++ h ∷ []) elems = publishes_entries old new r.layout r.size r.published h heads elems is_end.fits pubs tracks.published shows.entries in (
+        tracks_shows new (after_add r (length pieces) (Ok h)) (heads ++ h ∷ []) elems s after.0 entries
+            (λ j. omega (arith, shows.among j, times-push j heads h))
+            (omega (arith, length_push heads h, tracks.count, tracks.few, after.1)),
+        after.0,
+      );
 }
 
 -- the descriptors that were written stay through the publication
@@ -114,6 +116,7 @@ takes_by mem r result is_end most is = record {
   where
     next_elem : (elems : List UsedElem) (s : ℕ) → s < length elems → slice_get (ids elems) s ≡ Some (slice_index_or elems s no_elem).id
     next_elem elems s lt = slice_get-get_or (ids elems) s 0 (omega (arith, length-map elems (λ e. e.id))) ∙ ap Some (get_or-map (λ e. e.id) elems s no_elem 0 lt)
+
     shown : (heads : List ℕ) (elems : List UsedElem) (s : ℕ) → Tracks mem r heads elems s → Shows mem r.layout r.size heads elems → result ≡ Ok (slice_get (ids elems) s)
     shown heads elems s tracks shows =
         let fewer = fewer_used mem r.layout r.size heads elems shows in

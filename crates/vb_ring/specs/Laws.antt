@@ -41,6 +41,7 @@ answer_ok a n h x r is e = elim (cases_lt a n) [
   where
     err_ok : (r : Result ℕ Full) (h : ℕ) → r ≡ Ok h → r ≡ Err TooFewFree → ⊥
     err_ok r h p q = cc
+
     same_ok : (r : Result ℕ Full) (h x : ℕ) → r ≡ Ok h → r ≡ Ok x → h ≡ x
     same_ok r h x p q = cc
 
@@ -82,9 +83,11 @@ next_low r h single next =
   where
     some_same : (a b : ℕ) → Some a ≡ Some b → a ≡ b
     some_same a b e = cc
+
     get_some : (xs : List ℕ) (h : ℕ) → slice_get xs 0 ≡ Some h → 0 < length xs
     get_some [] h e = cc
     get_some (x ∷ xs) h e = omega arith
+
     taken : (r : DriverEnd) (h : ℕ) → 0 < length (free_descriptors r) → slice_index (free_descriptors r) 0 ≡ h → (i : ℕ) → i < h → (b : Bool) → is_free r.owner i ≡ b → is_free r.owner i ≡ false
     taken r h some first i l false e = e
     taken r h some first i l true e =
@@ -103,6 +106,7 @@ claimed_single h owner lt =
   where
     zero_of : (k : ℕ) → k < 1 → k ≡ 0
     zero_of k l = omega arith
+
     at : (i : ℕ) → (i ≡ h) ⊎ (i ≢ h) → (if is_in i (h ∷ []) then Some h else slice_index_or owner i None) ≡ slice_index_or (slice_set owner h (Some h)) i None
     at i (inl e) =
         ap (λ (b : Bool). if b then Some h else slice_index_or owner i None) (ap (λ n. is_in n (h ∷ [])) e ∙ is_in-at (h ∷ []) 0 (omega arith))

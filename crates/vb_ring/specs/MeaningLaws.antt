@@ -260,30 +260,32 @@ added_tracks m1 m3 r pieces h heads elems s is_end links some fits first tracks 
     let head_new : is_head new h ≡ true = own_self h _ (ap (λ i. slice_index_or new i None) (sym first) ∙ mine 0 begin) in
     let same : (i : ℕ) → i ≢ h → is_head r.owner i ≡ is_head new i = λ i ne. same_by path h r.owner new i ne mine rest (λ k l. (free k l).1) (is_in i path) refl in
     let gain : length (numbers (is_head new) r.size) ≡ outstanding r + 1 = length_gain (is_head r.owner) (is_head new) r.size h (omega (arith, (free 0 begin).0, first)) head_old head_new same in
-    let both : length (free_descriptors r) + outstanding r ≤ r.size = length_two (is_free r.owner) (is_head r.owner) r.size (λ i e. ap (is_own i) (free_none _ e)) in
-    (record {
-      published = omega (arith, length_push heads h, tracks.published);
-      seen = tracks.seen;
-      few = tracks.few;
-      count = omega (arith, length_push heads h, tracks.count, gain);
-      out = λ j. elim (cases_eq j h) [
-        | inl e ↦ omega (arith, times-push j heads h, one_is h j (sym e), tracks.out j, ap one_if (ap (is_head r.owner) e ∙ head_old), ap one_if (ap (is_head new) e ∙ head_new))
-        | inr ne ↦ omega (arith, times-push j heads h, one_other h j (λ e. ne (sym e)), tracks.out j, ap one_if (same j ne))
-      ];
-      owns = λ j out xs whole k l. elim (cases_eq j h) [
-        | inl e ↦
-            let along = written_path (descriptor_at m3 r.layout.table) r.size h path pieces (λ i lt. links.put i (omega (arith, len))) first begin xs
-                (subst (λ (n : ℕ). IsTablePath (descriptor_at m3 r.layout.table) r.size n xs) e whole) k l in
-            ap (λ i. slice_index_or new i None) along.1 ∙ mine k along.0 ∙ ap Some (sym e)
-        | inr ne ↦
-            let apart : (i : ℕ) → slice_index_or r.owner i None ≡ Some j → is_in i path ≡ false =
-            λ i own. nowhere_in path i (λ n lt e. none_some j _ (free n lt).1 (ap (λ x. slice_index_or r.owner x None) e ∙ own)) in
-            let old : slice_index_or r.owner (slice_index xs k) None ≡ Some j =
-            path_good (descriptor_at m1 r.layout.table) (descriptor_at m3 r.layout.table) r.size j (λ i. slice_index_or r.owner i None ≡ Some j) xs whole
-            (λ i lt own. links.others i lt (apart i own)) (tracks.owns j (same j ne ∙ out)) k l in
-            rest (slice_index xs k) (apart (slice_index xs k) old) ∙ old
-      ];
-    }, omega (arith, both))
+    let both : length (free_descriptors r) + outstanding r ≤ r.size = length_two (is_free r.owner) (is_head r.owner) r.size (λ i e. ap (is_own i) (free_none _ e)) in (
+      record {
+        published = omega (arith, length_push heads h, tracks.published);
+        seen = tracks.seen;
+        few = tracks.few;
+        count = omega (arith, length_push heads h, tracks.count, gain);
+        out = λ j. elim (cases_eq j h) [
+          | inl e ↦ omega (arith, times-push j heads h, one_is h j (sym e), tracks.out j, ap one_if (ap (is_head r.owner) e ∙ head_old), ap one_if (ap (is_head new) e ∙ head_new))
+          | inr ne ↦ omega (arith, times-push j heads h, one_other h j (λ e. ne (sym e)), tracks.out j, ap one_if (same j ne))
+        ];
+        owns = λ j out xs whole k l. elim (cases_eq j h) [
+          | inl e ↦
+              let along = written_path (descriptor_at m3 r.layout.table) r.size h path pieces (λ i lt. links.put i (omega (arith, len))) first begin xs
+              (subst (λ (n : ℕ). IsTablePath (descriptor_at m3 r.layout.table) r.size n xs) e whole) k l in
+              ap (λ i. slice_index_or new i None) along.1 ∙ mine k along.0 ∙ ap Some (sym e)
+          | inr ne ↦
+              let apart : (i : ℕ) → slice_index_or r.owner i None ≡ Some j → is_in i path ≡ false =
+              λ i own. nowhere_in path i (λ n lt e. none_some j _ (free n lt).1 (ap (λ x. slice_index_or r.owner x None) e ∙ own)) in
+              let old : slice_index_or r.owner (slice_index xs k) None ≡ Some j =
+              path_good (descriptor_at m1 r.layout.table) (descriptor_at m3 r.layout.table) r.size j (λ i. slice_index_or r.owner i None ≡ Some j) xs whole
+              (λ i lt own. links.others i lt (apart i own)) (tracks.owns j (same j ne ∙ out)) k l in
+              rest (slice_index xs k) (apart (slice_index xs k) old) ∙ old
+        ];
+      },
+      omega (arith, both),
+    )
   where
     same_by : (path : List ℕ) (h : ℕ) (old new : List (Option ℕ)) (i : ℕ) → i ≢ h → ((k : ℕ) → k < length path → slice_index_or new (slice_index path k) None ≡ Some h)
         → ((n : ℕ) → is_in n path ≡ false → slice_index_or new n None ≡ slice_index_or old n None) → ((k : ℕ) → k < length path → slice_index_or old (slice_index path k) None ≡ None)
@@ -303,6 +305,7 @@ next_used_out mem r heads elems s tracks among lt = at (is_head r.owner id) refl
   where
     id : ℕ
     id = (slice_index_or elems s no_elem).id
+
     at : (b : Bool) → is_head r.owner id ≡ b → is_head r.owner id ≡ true
     at true e = e
     at false e = absurd (omega (arith, tracks.out id, ap one_if e, times-next id elems s lt, one_is id id refl, times-take id elems (s + 1), among id))

@@ -101,7 +101,10 @@ impl Queue {
     }
 
     /// Takes the next chain that the driver has published.
-    pub fn pop_descriptor_chain<G: GuestBytes>(&mut self, ram: &G) -> Result<Option<Taken>, ChainFault>
+    pub fn pop_descriptor_chain<G: GuestBytes>(
+        &mut self,
+        ram: &G,
+    ) -> Result<Option<Taken>, ChainFault>
         requires { IsInside (G.mem ram.now) self.old.layout }
         ensures { PopsBy (G.mem ram.now) self.old self.new result }
     {

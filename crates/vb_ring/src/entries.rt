@@ -19,7 +19,12 @@ pub fn put_avail<G: GuestBytes>(ram: &mut G, layout: Layout, size: u16, next: u1
 {
     let ring = layout.avail;
     let start = usize::from(ring.offset);
-    write_u16(ram, ring.page, start + 4 + 2 * usize::from(next % size), head);
+    write_u16(
+        ram,
+        ring.page,
+        start + 4 + 2 * usize::from(next % size),
+        head,
+    );
     write_u16(ram, ring.page, start + 2, next.wrapping_add(1));
 }
 

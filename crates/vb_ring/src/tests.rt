@@ -17,7 +17,12 @@ fn memory(rt: &impl Abort, alloc: Global) -> Result<Ram, RamFault> {
     Ok(ram)
 }
 
-fn add(rt: &impl Abort, ring: &mut DriverRing, ram: &mut Ram, pieces: &[Piece]) -> Result<u16, Full> {
+fn add(
+    rt: &impl Abort,
+    ring: &mut DriverRing,
+    ram: &mut Ram,
+    pieces: &[Piece],
+) -> Result<u16, Full> {
     let layout = ring.layout();
     assert!(rt; ram.backing(layout.table).is_some());
     assert!(rt; ram.backing(layout.avail.page).is_some());
@@ -112,7 +117,13 @@ fn sizes(rt: HostRuntime) {
     }
 }
 
-fn expect_bytes<const N: usize>(rt: &impl Abort, ram: &Ram, page: u32, offset: usize, want: [u8; N]) {
+fn expect_bytes<const N: usize>(
+    rt: &impl Abort,
+    ram: &Ram,
+    page: u32,
+    offset: usize,
+    want: [u8; N],
+) {
     let mut bytes = [0; N];
     assert!(rt; ram.read(page, offset, &mut bytes).is_ok());
     assert_eq!(rt; bytes, want, "at {page}, {offset}");
@@ -123,20 +134,50 @@ fn bytes_of_a_ring(rt: HostRuntime) -> Result<(), Fail> {
     let mut ram = memory(&rt, rt.alloc())?;
     let mut ring = DriverRing::new(0, 8);
     let mut queue = ready_queue(&rt, 0, 8);
-    assert_eq!(rt; add(&rt, &mut ring, &mut ram, &[readable(0x4000, 16)]), Ok(0));
-    expect_bytes(&rt, &ram, 0, 0, [0, 0x40, 0, 0, 0, 0, 0, 0, 0x10, 0, 0, 0, 0, 0, 0, 0]);
+    assert_eq!(rt;
+        add(&rt, &mut ring, &mut ram, &[readable(0x4000, 16)]),
+        Ok(0)
+    );
+    expect_bytes(
+        &rt,
+        &ram,
+        0,
+        0,
+        [0, 0x40, 0, 0, 0, 0, 0, 0, 0x10, 0, 0, 0, 0, 0, 0, 0],
+    );
     expect_bytes(&rt, &ram, 0, 128, [0, 0, 1, 0, 0, 0]);
     assert_eq!(rt; pop_head(&rt, &mut queue, &ram), 0);
     add_used(&rt, &mut queue, &mut ram, 0);
     expect_bytes(&rt, &ram, 0, 152, [0, 0, 1, 0, 0, 0, 0, 0, 0, 0, 0, 0]);
     let mut buffers = DriverRing::new(2, 8);
-    assert_eq!(rt; add(&rt, &mut buffers, &mut ram, &[readable(0xc000, 20)]), Ok(0));
-    expect_bytes(&rt, &ram, 2, 0, [0, 0xc0, 0, 0, 0, 0, 0, 0, 0x14, 0, 0, 0, 0, 0, 0, 0]);
+    assert_eq!(rt;
+        add(&rt, &mut buffers, &mut ram, &[readable(0xc000, 20)]),
+        Ok(0)
+    );
+    expect_bytes(
+        &rt,
+        &ram,
+        2,
+        0,
+        [0, 0xc0, 0, 0, 0, 0, 0, 0, 0x14, 0, 0, 0, 0, 0, 0, 0],
+    );
     let mut reports = DriverRing::new(3, 8);
     let blocks = [writable(0x10000, 0x10000), writable(0x20000, 0x20000)];
     assert_eq!(rt; add(&rt, &mut reports, &mut ram, &blocks), Ok(0));
-    expect_bytes(&rt, &ram, 3, 0, [0, 0, 1, 0, 0, 0, 0, 0, 0, 0, 1, 0, 3, 0, 1, 0]);
-    expect_bytes(&rt, &ram, 3, 16, [0, 0, 2, 0, 0, 0, 0, 0, 0, 0, 2, 0, 2, 0, 0, 0]);
+    expect_bytes(
+        &rt,
+        &ram,
+        3,
+        0,
+        [0, 0, 1, 0, 0, 0, 0, 0, 0, 0, 1, 0, 3, 0, 1, 0],
+    );
+    expect_bytes(
+        &rt,
+        &ram,
+        3,
+        16,
+        [0, 0, 2, 0, 0, 0, 0, 0, 0, 0, 2, 0, 2, 0, 0, 0],
+    );
     Ok(())
 }
 
@@ -145,12 +186,22 @@ fn several_descriptors_in_any_order(rt: HostRuntime) -> Result<(), Fail> {
     let mut ram = memory(&rt, rt.alloc())?;
     let mut ring = DriverRing::new(1, 8);
     let mut queue = ready_queue(&rt, 1, 8);
-    let three = [readable(0x4000, 1), readable(0x5000, 2), writable(0x6000, 3)];
+    let three = [
+        readable(0x4000, 1),
+        readable(0x5000, 2),
+        writable(0x6000, 3),
+    ];
     assert_eq!(rt; ring.next_head(), Some(0));
     assert_eq!(rt; add(&rt, &mut ring, &mut ram, &three), Ok(0));
     assert_eq!(rt; add(&rt, &mut ring, &mut ram, &three), Ok(3));
-    assert_eq!(rt; add(&rt, &mut ring, &mut ram, &three), Err(Full::TooFewFree));
-    assert_eq!(rt; add(&rt, &mut ring, &mut ram, &[writable(0x7000, 4)]), Ok(6));
+    assert_eq!(rt;
+        add(&rt, &mut ring, &mut ram, &three),
+        Err(Full::TooFewFree)
+    );
+    assert_eq!(rt;
+        add(&rt, &mut ring, &mut ram, &[writable(0x7000, 4)]),
+        Ok(6)
+    );
     assert_eq!(rt; ring.outstanding(), 3);
     assert_eq!(rt; take_used(&rt, &mut ring, &ram), Ok(None));
     for head in [0, 3, 6] {
@@ -166,12 +217,18 @@ fn several_descriptors_in_any_order(rt: HostRuntime) -> Result<(), Fail> {
     assert_eq!(rt; ring.outstanding(), 0);
     assert_eq!(rt; ring.next_head(), Some(0));
     add_used(&rt, &mut queue, &mut ram, 0);
-    assert_eq!(rt; take_used(&rt, &mut ring, &ram), Err(RingBroken::IndexAhead));
+    assert_eq!(rt;
+        take_used(&rt, &mut ring, &ram),
+        Err(RingBroken::IndexAhead)
+    );
     assert_eq!(rt; add(&rt, &mut ring, &mut ram, &three), Ok(0));
     assert_eq!(rt; take_used(&rt, &mut ring, &ram), Ok(Some(0)));
     assert_eq!(rt; add(&rt, &mut ring, &mut ram, &three), Ok(0));
     add_used(&rt, &mut queue, &mut ram, 1);
-    assert_eq!(rt; take_used(&rt, &mut ring, &ram), Err(RingBroken::NotOutstanding));
+    assert_eq!(rt;
+        take_used(&rt, &mut ring, &ram),
+        Err(RingBroken::NotOutstanding)
+    );
     Ok(())
 }
 
@@ -181,7 +238,11 @@ fn indices_wrap(rt: HostRuntime) -> Result<(), Fail> {
     let mut ring = DriverRing::new(0, 2);
     let mut queue = ready_queue(&rt, 0, 2);
     for round in 0..65540 {
-        assert_eq!(rt; add(&rt, &mut ring, &mut ram, &[readable(0x4000, 4)]), Ok(0), "{round}");
+        assert_eq!(rt;
+            add(&rt, &mut ring, &mut ram, &[readable(0x4000, 4)]),
+            Ok(0),
+            "{round}"
+        );
         assert_eq!(rt; pop_head(&rt, &mut queue, &ram), 0, "{round}");
         add_used(&rt, &mut queue, &mut ram, 0);
         assert_eq!(rt; take_used(&rt, &mut ring, &ram), Ok(Some(0)), "{round}");
@@ -242,7 +303,11 @@ fn random_ring(numbers: &mut Numbers, bytes: &mut [u8]) {
         if numbers.below(8) > 0 {
             put(bytes, 16 * i, 8, numbers.below(270_000));
             put(bytes, 16 * i + 8, 4, numbers.below(5000));
-            let flags = if numbers.below(12) > 0 { numbers.below(4) } else { numbers.below(65536) };
+            let flags = if numbers.below(12) > 0 {
+                numbers.below(4)
+            } else {
+                numbers.below(65536)
+            };
             put(bytes, 16 * i + 12, 2, flags);
             let limit = if numbers.below(12) > 0 { 8 } else { 10 };
             put(bytes, 16 * i + 14, 2, numbers.below(limit));
@@ -292,7 +357,10 @@ fn links_from(alloc: Global, bytes: &[u8], head: u64) -> Result<Vec<Link>, Fail>
 
 /// The first rule that a descriptor breaks, after these others.
 fn broken(before: &[Link], link: &Link, end: u64) -> Option<ChainFault> {
-    let over = link.addr.checked_add(link.len).is_none_or(|last| last > end);
+    let over = link
+        .addr
+        .checked_add(link.len)
+        .is_none_or(|last| last > end);
     let turns = before.iter().any(|other| other.has(2)) && !link.has(2);
     let rules = [
         (link.has(4), ChainFault::Indirect),
@@ -335,16 +403,23 @@ fn second_reading(
     Ok(Ok(Some((head, links))))
 }
 
-fn agree(got: &Result<Option<Taken>, ChainFault>, want: &Result<Option<(u64, Vec<Link>)>, ChainFault>) -> bool {
+fn agree(
+    got: &Result<Option<Taken>, ChainFault>,
+    want: &Result<Option<(u64, Vec<Link>)>, ChainFault>,
+) -> bool {
     match (got, want) {
         (Ok(None), Ok(None)) => true,
         (Err(fault), Err(other)) => fault == other,
         (Ok(Some(taken)), Ok(Some((head, links)))) => {
             let pieces = taken.chain.pieces();
             let same = |(piece, link): (&Piece, &Link)| {
-                piece.addr == link.addr && u64::from(piece.len) == link.len && piece.writable == link.has(2)
+                piece.addr == link.addr
+                    && u64::from(piece.len) == link.len
+                    && piece.writable == link.has(2)
             };
-            u64::from(taken.head) == *head && pieces.len() == links.len() && pieces.iter().zip(links).all(same)
+            u64::from(taken.head) == *head
+                && pieces.len() == links.len()
+                && pieces.iter().zip(links).all(same)
         }
         _ => false,
     }
