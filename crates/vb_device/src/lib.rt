@@ -1,0 +1,9 @@
+//! Balloon devices behind one trait (VIRTIO 1.1, 5.5): what a device's guest memory, status,
+//! queues, ballooned pages and loose frames are before and after each call.
+#![tactic(auto)]
+
+mod claimed;
+mod device;
+
+pub use claimed::Claimed;
+pub use device::Device;
