@@ -8,3 +8,5 @@ pub mod Request
 pub mod Calls
 pub mod RequestLaws
 pub mod QueueState
+pub mod Base
+pub mod BaseCalls

@@ -20,7 +20,7 @@ abbrev pub bytes_from : Pages → ℕ → ℕ → List ℕ
 bytes_from mem addr len = map (byte_of_address mem) (range_with_len addr len)
 
 -- The bytes of all pieces in a row.
-abbrev pub bytes_of : Pages → List Piece → List ℕ
+unfoldable pub bytes_of : Pages → List Piece → List ℕ
 bytes_of mem pieces = flat_map (λ piece. bytes_from mem piece.addr piece.len) pieces
 
 abbrev pub total_length : List Piece → ℕ
@@ -32,7 +32,7 @@ total_length pieces = sum_by (λ piece. piece.len) pieces
 abbrev pub number_at : List ℕ → ℕ → ℕ
 number_at bytes k = from_le_bytes w32 (take 4 (drop (4 * k) bytes))
 
-abbrev pub numbers_of : List ℕ → List ℕ
+unfoldable pub numbers_of : List ℕ → List ℕ
 numbers_of bytes = map (number_at bytes) (range_with_len 0 (length bytes / 4))
 
 -- Each number once, where it first stands.

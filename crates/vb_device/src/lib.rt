@@ -3,6 +3,7 @@
 #![tactic(auto)]
 
 mod claimed;
+mod request;
 mod device;
 
 pub use claimed::Claimed;
