@@ -1,3 +1,4 @@
 pub mod Once
-pub mod Marks
 pub mod Bytes
+pub mod Chains
+pub mod Takes

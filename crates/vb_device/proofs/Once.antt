@@ -1,10 +1,10 @@
 -- Numbers, each once.
 use Rattle.std.specs.Prelude.{◌≡◌, ℕ, ◌+◌, ◌<◌, ◌≤◌, Bool, true, false, not, ◌==◌, ◌||◌, nat_le, nat_lt, IsTrue, List, [], ◌∷◌, ◌++◌, length, filter, if◌then◌else◌, Option, Some, None, All, refl, cond}
-use Rattle.std.proofs.Common.{sym, ◌∙◌, ap, subst, arith, ◌/◌, get_or, take, drop, drop-cons, add-one}
+use Rattle.std.proofs.Common.{sym, ◌∙◌, eq-eqb, ap, subst, arith, ◌/◌, get_or, take, drop, drop-cons, add-one}
 use Rattle.std.proofs.lemmas.Bool.{eqb-true, ltb-false, leb-false}
 use Rattle.std.proofs.lemmas.List.Elements.{filter-append, All-filter}
 use Rattle.std.proofs.lemmas.List.Folds.{list_any-append}
-use Rattle.std.proofs.lemmas.List.{append-nil, take_more, take-append-drop}
+use Rattle.std.proofs.lemmas.List.{append-nil, take_more, take-append-drop, length_push}
 use Rattle.std.proofs.lemmas.List.FromFn.{length-map-range_with_len, get_or-map-range_with_len}
 use Rattle.std.proofs.lemmas.Grind.{common_steps}
 use Rattle.vb_model.specs.Tests.{is_in}
@@ -12,51 +12,67 @@ use Rattle.vb_model.specs.Driver.{AllDistinct}
 use Rattle.vb_chain.specs.declared.ChainFault.{ChainFault}
 use Rattle.vb_device.specs.Request.{each_once, number_fault, first_of_both, first_number_fault, numbers_of, number_at}
 
+true_false : true ≡ false → ⊥
+true_false e = cc
+
 -- all numbers but this one
 abbrev but : ℕ → List ℕ → List ℕ
 but m ns = filter (λ k. not (k == m)) ns
 
+but_step : (n m x : ℕ) (xs : List ℕ) (b : Bool) → (x == m) ≡ b → (m == n) ≡ false → is_in n (but m xs) ≡ is_in n xs → is_in n (cond (not (x == m)) (x ∷ but m xs) (but m xs)) ≡ ((x == n) || is_in n xs)
+but_step n m x xs true e ne ih =
+    let other : (x == n) ≡ false = ap (λ k. k == n) (eqb-true x m e) ∙ ne in
+    ap (λ v. is_in n (cond (not v) (x ∷ but m xs) (but m xs))) e ∙ (ih ∙ sym (ap (λ v. v || is_in n xs) other))
+but_step n m x xs false e ne ih = ap (λ v. is_in n (cond (not v) (x ∷ but m xs) (but m xs))) e ∙ ap (λ v. (x == n) || v) ih
+
 -- a number that isn't left out is in the list as before
 is_in-but : (n m : ℕ) (ns : List ℕ) → (m == n) ≡ false → is_in n (but m ns) ≡ is_in n ns
 is_in-but n m [] ne = refl
-is_in-but n m (x ∷ xs) ne = step (x == m) refl
-  where
-    step : (b : Bool) → (x == m) ≡ b → is_in n (cond (not (x == m)) (x ∷ but m xs) (but m xs)) ≡ is_in n (x ∷ xs)
-    step true e =
-        let same : x ≡ m = eqb-true x m e in
-        let other : (x == n) ≡ false = ap (λ k. k == n) same ∙ ne in
-        rw e (rw other (is_in-but n m xs ne))
-    step false e = rw e (ap (λ b. (x == n) || b) (is_in-but n m xs ne))
+is_in-but n m (x ∷ xs) ne = but_step n m x xs (x == m) refl ne (is_in-but n m xs ne)
+
+once_step : (n x : ℕ) (xs : List ℕ) (b : Bool) → (x == n) ≡ b → is_in n (each_once xs) ≡ is_in n xs → ((x == n) || is_in n (but x (each_once xs))) ≡ ((x == n) || is_in n xs)
+once_step n x xs true e ih = ap (λ v. v || is_in n (but x (each_once xs))) e ∙ sym (ap (λ v. v || is_in n xs) e)
+once_step n x xs false e ih = ap (λ v. (x == n) || v) (is_in-but n x (each_once xs) e ∙ ih)
 
 -- a list's numbers are those of the list with each once
 pub is_in-each_once : (n : ℕ) (ns : List ℕ) → is_in n (each_once ns) ≡ is_in n ns
 is_in-each_once n [] = refl
-is_in-each_once n (x ∷ xs) = step (x == n) refl
-  where
-    step : (b : Bool) → (x == n) ≡ b → ((x == n) || is_in n (but x (each_once xs))) ≡ ((x == n) || is_in n xs)
-    step true e = rw e refl
-    step false e = rw e (is_in-but n x (each_once xs) e ∙ is_in-each_once n xs)
+is_in-each_once n (x ∷ xs) = once_step n x xs (x == n) refl (is_in-each_once n xs)
+
+but_self : (m : ℕ) → but m (m ∷ []) ≡ []
+but_self m = ap (λ v. cond (not v) (m ∷ []) []) (eq-eqb m m refl)
+
+not_eq_sym : (m n : ℕ) (b : Bool) → (n == m) ≡ b → (m == n) ≡ false → (n == m) ≡ false
+not_eq_sym m n true e f = absurd (true_false (sym (eq-eqb m n (sym (eqb-true n m e))) ∙ f))
+not_eq_sym m n false e f = e
+
+but_other : (m n : ℕ) → (m == n) ≡ false → but m (n ∷ []) ≡ n ∷ []
+but_other m n f = ap (λ v. cond (not v) (n ∷ []) []) (not_eq_sym m n (n == m) refl f)
+
+put_last : List ℕ → ℕ → Bool → List ℕ
+put_last xs n b = if b then xs else xs ++ n ∷ []
+
+push_step : (m n : ℕ) (ms : List ℕ) (b c : Bool) → is_in n ms ≡ b → (m == n) ≡ c → each_once (ms ++ n ∷ []) ≡ put_last (each_once ms) n (is_in n ms)
+    → (m ∷ but m (each_once (ms ++ n ∷ []))) ≡ put_last (m ∷ but m (each_once ms)) n ((m == n) || is_in n ms)
+unfolding put_last
+push_step m n ms true true e f ih =
+    ap (λ xs. m ∷ but m xs) (ih ∙ ap (put_last (each_once ms) n) e) ∙ sym (ap (put_last (m ∷ but m (each_once ms)) n) (ap (λ v. v || is_in n ms) f))
+push_step m n ms true false e f ih =
+    ap (λ xs. m ∷ but m xs) (ih ∙ ap (put_last (each_once ms) n) e) ∙ sym (ap (put_last (m ∷ but m (each_once ms)) n) (ap (λ v. v || is_in n ms) f ∙ e))
+push_step m n ms false true e f ih =
+    ap (λ xs. m ∷ but m xs) (ih ∙ ap (put_last (each_once ms) n) e)
+    ∙ (ap (λ xs. m ∷ xs) (filter-append (λ k. not (k == m)) (each_once ms) (n ∷ []) ∙ (ap (λ xs. but m (each_once ms) ++ xs) (ap (λ k. but m (k ∷ [])) (sym (eqb-true m n f)) ∙ but_self m) ∙ append-nil (but m (each_once ms))))
+    ∙ sym (ap (put_last (m ∷ but m (each_once ms)) n) (ap (λ v. v || is_in n ms) f)))
+push_step m n ms false false e f ih =
+    ap (λ xs. m ∷ but m xs) (ih ∙ ap (put_last (each_once ms) n) e)
+    ∙ (ap (λ xs. m ∷ xs) (filter-append (λ k. not (k == m)) (each_once ms) (n ∷ []) ∙ ap (λ xs. but m (each_once ms) ++ xs) (but_other m n f))
+    ∙ sym (ap (put_last (m ∷ but m (each_once ms)) n) (ap (λ v. v || is_in n ms) f ∙ e)))
 
 -- one more number
 pub each_once_push : (ns : List ℕ) (n : ℕ) → each_once (ns ++ n ∷ []) ≡ (if is_in n ns then each_once ns else each_once ns ++ n ∷ [])
+unfolding put_last
 each_once_push [] n = refl
-each_once_push (m ∷ ms) n = step (is_in n ms) refl (m == n) refl (each_once_push ms n)
-  where
-    step : (b : Bool) → is_in n ms ≡ b → (c : Bool) → (m == n) ≡ c → each_once (ms ++ n ∷ []) ≡ (if is_in n ms then each_once ms else each_once ms ++ n ∷ [])
-        → (m ∷ but m (each_once (ms ++ n ∷ []))) ≡ (if ((m == n) || is_in n ms) then (m ∷ but m (each_once ms)) else (m ∷ but m (each_once ms)) ++ n ∷ [])
-    step true e true f ih = rw ih (rw (e, f) refl)
-    step true e false f ih = rw ih (rw (e, f) refl)
-    step false e true f ih =
-        let same : m ≡ n = eqb-true m n f in
-        let gone : but m (n ∷ []) ≡ [] = ap (λ k. but m (k ∷ [])) (sym same) ∙ self m in
-        rw ih (rw (e, f) (ap (λ ks. m ∷ ks) (filter-append (λ k. not (k == m)) (each_once ms) (n ∷ []) ∙ ap (λ ks. but m (each_once ms) ++ ks) gone ∙ append-nil _)))
-    step false e false f ih =
-        let kept : but m (n ∷ []) ≡ n ∷ [] = other f in
-        rw ih (rw (e, f) (ap (λ ks. m ∷ ks) (filter-append (λ k. not (k == m)) (each_once ms) (n ∷ []) ∙ ap (λ ks. but m (each_once ms) ++ ks) kept)))
-    self : (m : ℕ) → but m (m ∷ []) ≡ []
-    self m = grind (arith, common_steps)
-    other : (m == n) ≡ false → but m (n ∷ []) ≡ n ∷ []
-    other f = grind (arith, common_steps)
+each_once_push (m ∷ ms) n = push_step m n ms (is_in n ms) (m == n) refl refl (each_once_push ms n)
 
 -- ---- faults
 
@@ -90,16 +106,17 @@ sound_more count ns k number lt at before here =
     ∙ (ap (λ o. first_of_both o (first_number_fault count (get_or ns k 0 ∷ []))) before
     ∙ ap (λ o. first_of_both o None) (ap (number_fault count) at ∙ here)))
 
--- one more number, which was there or is new
-pub once_old : (ns pages : List ℕ) (k number : ℕ) → k < length ns → get_or ns k 0 ≡ number → pages ≡ each_once (take k ns) → is_in number pages ≡ true → pages ≡ each_once (take (k + 1) ns)
-once_old ns pages k number lt at so_far old =
-    let there : is_in number (take k ns) ≡ true = sym (is_in-each_once number (take k ns)) ∙ (ap (is_in number) (sym so_far) ∙ old) in
-    sym (ap each_once (take_more ns k 0 lt ∙ ap (λ n. take k ns ++ n ∷ []) at) ∙ (each_once_push (take k ns) number ∙ rw there (sym so_far)))
+-- one more number, put behind the others where it is new
+pub once_more : (ns pages new : List ℕ) (k number : ℕ) → k < length ns → get_or ns k 0 ≡ number → pages ≡ each_once (take k ns) → new ≡ (if is_in number pages then pages else pages ++ number ∷ []) → new ≡ each_once (take (k + 1) ns)
+once_more ns pages new k number lt at so_far is =
+    let put : List ℕ → Bool → List ℕ = λ xs b. if b then xs else xs ++ number ∷ [] in
+    let same : is_in number pages ≡ is_in number (take k ns) = ap (is_in number) so_far ∙ is_in-each_once number (take k ns) in
+    is ∙ (ap (put pages) same ∙ (ap (λ xs. put xs (is_in number (take k ns))) so_far
+    ∙ sym (ap each_once (take_more ns k 0 lt ∙ ap (λ n. take k ns ++ n ∷ []) at) ∙ each_once_push (take k ns) number)))
 
-pub once_new : (ns pages : List ℕ) (k number : ℕ) → k < length ns → get_or ns k 0 ≡ number → pages ≡ each_once (take k ns) → is_in number pages ≡ false → pages ++ number ∷ [] ≡ each_once (take (k + 1) ns)
-once_new ns pages k number lt at so_far new =
-    let absent : is_in number (take k ns) ≡ false = sym (is_in-each_once number (take k ns)) ∙ (ap (is_in number) (sym so_far) ∙ new) in
-    sym (ap each_once (take_more ns k 0 lt ∙ ap (λ n. take k ns ++ n ∷ []) at) ∙ (each_once_push (take k ns) number ∙ rw absent (ap (λ xs. xs ++ number ∷ []) (sym so_far))))
+pub once_few : (pages new : List ℕ) (number : ℕ) (b : Bool) → new ≡ (if b then pages else pages ++ number ∷ []) → length new ≤ length pages + 1
+once_few pages new number true e = omega (arith, ap (λ (xs : List ℕ). length xs) e)
+once_few pages new number false e = omega (arith, ap (λ (xs : List ℕ). length xs) e, length_push pages number)
 
 -- ---- the numbers of some bytes
 

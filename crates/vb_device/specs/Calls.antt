@@ -6,9 +6,9 @@ use Rattle.vb_model.specs.declared.replies.Refusal.{Refusal}
 use Rattle.vb_model.specs.declared.replies.Refusal.TheVariants.{Broken}
 use Rattle.vb_model.specs.Layout.{ring_page}
 use Rattle.vb_model.specs.Requests.{Request}
-use Rattle.vb_model.specs.Guest.{no_statistics}
+use Rattle.vb_model.specs.Guest.{no_statistics, zero_page}
 use Rattle.vb_ram.specs.declared.config.Config.{Config}
-use Rattle.vb_ram.specs.Pages.{Page, Pages, zero_page, frame_at}
+use Rattle.vb_ram.specs.Pages.{Page, Pages, frame_at}
 use Rattle.vb_ram.specs.Part.{Part, QueuePart, no_queue}
 use Rattle.vb_chain.specs.declared.ChainFault.{ChainFault}
 use Rattle.vb_chain.specs.declared.Piece.{Piece}

@@ -29,9 +29,12 @@ started ready size ring =
       taken = [];
     }
 
--- Pages that a request names: none of them reserved, no page twice, and no more than may be.
+-- The same queue that begins anew, ready or not.
+abbrev pub restarted : Bool → QueueState → QueueState
+restarted ready q = record { ring = record q.ring { ready = ready; next_avail = 0; next_used = 0 }; taken = [] }
+
+-- Pages that a request names: none of them reserved, and no page twice.
 pub record AreNamed (pages : List ℕ) : Type 0 where
-  pub few : length pages ≤ 256
   pub above : All (λ page. 16 ≤ page) pages
   pub distinct : AllDistinct pages
 

@@ -3,8 +3,9 @@
 #![tactic(auto)]
 
 mod claimed;
-mod request;
 mod device;
+mod queue;
+mod request;
 
 pub use claimed::Claimed;
 pub use device::Device;

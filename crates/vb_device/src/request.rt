@@ -1,7 +1,8 @@
 // The pages that a chain of queue 0 or 1 names.
 
-ghost use Rattle.std.specs.Prelude.{◌≡◌, ℕ, ◌+◌, ◌*◌, ◌/◌, ◌^◌, ◌<◌, ◌≤◌, ◌++◌, List, Ok, Err, Some, None, All, MatchResult, MatchOption, length, take};
+ghost use Rattle.std.specs.Prelude.{◌≡◌, ℕ, ◌+◌, ◌*◌, ◌/◌, ◌^◌, ◌<◌, ◌≤◌, ◌++◌, ◌∷◌, [], if◌then◌else◌, List, Ok, Err, Some, None, All, MatchResult, MatchOption, length, take};
 ghost use Rattle.std.specs.List.{list_any};
+ghost use Rattle.vb_model.specs.Tests.{is_in};
 ghost use Rattle.vb_device.specs.Request.{byte_of_address, bytes_from, bytes_of, total_length, number_at, numbers_of, number_fault, pages_of_numbers, is_request_length, page_request};
 
 use arrayvec::ArrayVec;
@@ -97,6 +98,23 @@ fn number_fault(count: u32, number: u32) -> Option<ChainFault>
     }
 }
 
+/// Whether the page is among these.
+fn is_named(pages: &[u32], number: u32) -> bool
+    ensures { result ≡ is_in number pages.now }
+{
+    pages.contains(&number)
+}
+
+/// Puts a page behind the others, unless it is there.
+fn add_once(pages: &mut ArrayVec<u32, 256>, number: u32)
+    requires { length pages.old.items < 256 }
+    ensures { pages.new.items ≡ (if is_in number pages.old.items then pages.old.items else pages.old.items ++ number ∷ []) }
+{
+    if !is_named(pages, number) {
+        pages.push(number);
+    }
+}
+
 /// The pages that the numbers in these bytes are, each once, or what is wrong with the first wrong
 /// one.
 fn pages_of(count: u32, bytes: &[u8]) -> Result<ArrayVec<u32, 256>, ChainFault>
@@ -109,9 +127,7 @@ fn pages_of(count: u32, bytes: &[u8]) -> Result<ArrayVec<u32, 256>, ChainFault>
         if let Some(fault) = number_fault(count, number) {
             return Err(fault);
         }
-        if !pages.contains(&number) {
-            pages.push(number);
-        }
+        add_once(&mut pages, number);
     }
     Ok(pages)
 }
