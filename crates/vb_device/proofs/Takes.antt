@@ -1,6 +1,6 @@
 -- A take of the next chain of a queue, put together from what the ring's end and the request's bytes give.
 use Rattle.std.specs.Prelude.{◌≡◌, ℕ, ◌+◌, ◌%◌, ◌<◌, Bool, true, List, [], ◌∷◌, ◌++◌, Option, Some, None, Result, Ok, Err, refl}
-use Rattle.std.proofs.Common.{sym, ◌∙◌, ap, subst, arith}
+use Rattle.std.proofs.Common.{sym, ◌∙◌, ap, subst, arith, zero, suc, get_or, length}
 use Rattle.vb_model.specs.Requests.{Request}
 use Rattle.vb_ram.specs.Pages.{Pages}
 use Rattle.vb_chain.specs.declared.ChainFault.{ChainFault}
@@ -89,3 +89,8 @@ next_right mem r1 r2 taken t pages ready pops is =
           (ap (λ n. Ok (Some n)) chain.0, after ∙ (ap (λ n. with_request n pages (at r1 taken)) chain.0 ∙ ap (λ xs. with_request h xs (at r1 taken)) (same_pages (page_request mem t.chain) pages ps is (ap (page_request mem) chain.1 ∙ good))));
       means = (pages, t.chain, pops.found.1, pops.found.2, is, after);
     }
+
+-- a list of one
+pub one_all : {A : Type 0} (P : A → Type 0) (x : A) → P x → (k : ℕ) (d : A) → k < length (x ∷ []) → P (get_or (x ∷ []) k d)
+one_all P x here zero d lt = here
+one_all P x here (suc k) d lt = absurd (omega arith)

@@ -2,6 +2,7 @@
 //! queues, ballooned pages and loose frames are before and after each call.
 #![tactic(auto)]
 
+mod base;
 mod claimed;
 mod device;
 mod queue;
