@@ -1,7 +1,7 @@
 -- What the parts of a device's calls do.
 use Rattle.std.specs.Prelude.{◌≡◌, ℕ, Bool, true, false, nat_le, List, [], ◌∷◌, length, Option, Some, None, Result, Ok, Err, bit_or}
 use Rattle.vb_model.specs.declared.replies.Refusal.{Refusal}
-use Rattle.vb_model.specs.declared.replies.Refusal.TheVariants.{NotReady, NeedsReset, Busy, Broken, NotTaken}
+use Rattle.vb_model.specs.declared.replies.Refusal.TheVariants.{NotReady, NeedsReset, Busy, Broken}
 use Rattle.vb_model.specs.Status.{needs_reset}
 use Rattle.vb_model.specs.Requests.{Request}
 use Rattle.vb_model.specs.Refusals.{◌⇒◌, first_refusal}
@@ -62,8 +62,3 @@ pub record GivesUsed (q index : ℕ) (r : Request) (m1 m2 : Pages) (p1 p2 : Part
 pub record BaseFinishes (q index : ℕ) (m1 m2 : Pages) (p1 p2 : Part) (result : Result Request Refusal) : Type 0 where
   pub refused : (why : Refusal) → finish_refusal q index p1 ≡ Some why → (result ≡ Err why) × (p2 ≡ p1) × (m2 ≡ m1)
   pub finished : (r : Request) → finish_refusal q index p1 ≡ None → taken_at q index p1 ≡ Some r → GivesUsed q index r m1 m2 p1 p2 result
-
--- The part of a finish that the taken requests decide.
-pub record GivesOut (q index : ℕ) (m1 m2 : Pages) (p1 p2 : Part) (result : Result Request Refusal) : Type 0 where
-  pub none : taken_at q index p1 ≡ None → (result ≡ Err NotTaken) × (p2 ≡ p1) × (m2 ≡ m1)
-  pub some : (r : Request) → taken_at q index p1 ≡ Some r → GivesUsed q index r m1 m2 p1 p2 result

@@ -1,15 +1,16 @@
 // What devices of every kind keep: memory, status, queues and loose frames.
 
 ghost use Rattle.std.specs.Prelude.{◌≡◌, ◌<◌, ◌≤◌, ◌+◌, ℕ, [], ◌∷◌, ◌++◌, Err, is_some, true, false, None, Some, IsSome, IsOk, OnOk, OnErr, length, replicate, vec_capacity};
+ghost use Rattle.std.specs.Option.{option_to_list};
 ghost use Rattle.vb_model.specs.Driver.{AllDistinct};
 ghost use Rattle.vb_model.specs.Layout.{ring_page};
 ghost use Rattle.vb_model.specs.Limits.{is_config};
 ghost use Rattle.vb_model.specs.Status.{contains, driver_ok};
-ghost use Rattle.vb_ram.specs.Pages.{frame_at, Supplied, IsWhole};
+ghost use Rattle.vb_ram.specs.Pages.{frame_at, number_of, Supplied, IsWhole};
 ghost use Rattle.vb_ring.specs.Layout.{IsInside};
 ghost use Rattle.vb_status.specs.Bits.{status_bits};
 ghost use Rattle.vb_device.specs.Base.{numbers_of_frames};
-ghost use Rattle.vb_device.specs.BaseCalls.{TakesFrom, GivesOut, BaseFinishes, status_refusal, refusal_in};
+ghost use Rattle.vb_device.specs.BaseCalls.{TakesFrom, BaseFinishes, status_refusal};
 ghost use Rattle.vb_device.specs.Calls.{IsUnused, attached, TakesBy, HandsBack};
 ghost use Rattle.vb_device.specs.Discards.{discarded, frames_behind};
 ghost use Rattle.vb_device.specs.Faults.{rule_of};
@@ -99,6 +100,20 @@ fn take_from<G: GuestBytes>(
     }
 }
 
+/// Puts a frame, if there is one, behind the loose ones.
+fn put_loose(loose: &mut Vec<Frame>, frame: Option<Frame>)
+    requires { length loose.old.items < vec_capacity loose.old }
+    ensures numbers { numbers_of_frames loose.new.items ≡ numbers_of_frames loose.old.items ++ option_to_list (number_of frame) }
+    ensures count { length loose.new.items ≤ length loose.old.items + 1 }
+    ensures capacity { vec_capacity loose.new ≡ vec_capacity loose.old }
+{
+    let _loose = loose.as_slice();
+    match frame {
+        Some(frame) => loose.push_reserved(frame),
+        None => {}
+    }
+}
+
 /// Takes the frames of these pages away; those that there were are loose now, in the pages' order.
 fn discard_all(ram: &mut Ram, loose: &mut Vec<Frame>, pages: &[u32])
     requires room { length loose.old.items + length pages.now ≤ vec_capacity loose.old }
@@ -108,9 +123,8 @@ fn discard_all(ram: &mut Ram, loose: &mut Vec<Frame>, pages: &[u32])
     ensures capacity { vec_capacity loose.new ≡ vec_capacity loose.old }
 {
     for page in pages {
-        if let Some(frame) = ram.discard(*page) {
-            loose.push_reserved(frame);
-        }
+        let frame = ram.discard(*page);
+        put_loose(loose, frame);
     }
 }
 
@@ -155,59 +169,83 @@ impl DeviceBase {
 
     /// `NotReady` where the driver isn't done with the initialisation or has given up, and
     /// `NeedsReset` after a fault.
-    pub(crate) fn check_ready(&self) -> Result<(), Refusal>
-        ensures { refusal_in result ≡ status_refusal self.now.part.status }
+    pub(crate) fn status_refusal(&self) -> Option<Refusal>
+        ensures { result ≡ status_refusal self.now.part.status }
     {
         if !self.status.contains(Status::DRIVER_OK) || self.status.contains(Status::FAILED) {
-            return Err(Refusal::NotReady);
+            Some(Refusal::NotReady)
+        } else if self.status.contains(Status::DEVICE_NEEDS_RESET) {
+            Some(Refusal::NeedsReset)
+        } else {
+            None
         }
-        if self.status.contains(Status::DEVICE_NEEDS_RESET) {
-            return Err(Refusal::NeedsReset);
+    }
+
+    /// Takes the next chain of queue 0.
+    fn take_inflate(&mut self) -> Result<Option<u16>, Refusal>
+        ensures { TakesBy 0 self.old.mem self.new.mem self.old.part self.new.part result }
+    {
+        if let Some(why) = self.status_refusal() {
+            return Err(why);
         }
-        Ok(())
+        take_from(&mut self.inflate, &self.ram, &mut self.status)
+    }
+
+    /// Takes the next chain of queue 1.
+    fn take_deflate(&mut self) -> Result<Option<u16>, Refusal>
+        ensures { TakesBy 1 self.old.mem self.new.mem self.old.part self.new.part result }
+    {
+        if let Some(why) = self.status_refusal() {
+            return Err(why);
+        }
+        take_from(&mut self.deflate, &self.ram, &mut self.status)
     }
 
     /// Takes the next chain of queue 0 or 1.
     pub(crate) fn take(&mut self, queue: u32) -> Result<Option<u16>, Refusal>
         ensures { TakesBy queue self.old.mem self.new.mem self.old.part self.new.part result }
     {
-        if queue != INFLATE_QUEUE && queue != DEFLATE_QUEUE {
-            return Err(Refusal::NoQueue);
-        }
-        self.check_ready()?;
-        if queue == INFLATE_QUEUE {
-            take_from(&mut self.inflate, &self.ram, &mut self.status)
-        } else {
-            take_from(&mut self.deflate, &self.ram, &mut self.status)
+        match queue {
+            INFLATE_QUEUE => self.take_inflate(),
+            DEFLATE_QUEUE => self.take_deflate(),
+            _ => Err(Refusal::NoQueue),
         }
     }
 
-    /// The frames of an inflate's pages go, and its chain is used.
+    /// Uses a taken chain of queue 0: its pages lose their frames.
     fn finish_inflate(&mut self, index: u32) -> Result<TakenRequest, Refusal>
-        requires backed { IsSome (frame_at self.old.mem INFLATE_RING_PAGE) }
-        requires ready { contains self.old.part.status driver_ok ≡ true }
+        requires backed { contains self.old.part.status driver_ok ≡ true → IsSome (frame_at self.old.mem INFLATE_RING_PAGE) }
         requires room { length self.old.part.loose ≤ length self.old.mem }
-        ensures { GivesOut 0 index self.old.mem self.new.mem self.old.part self.new.part result }
+        ensures { BaseFinishes 0 index self.old.mem self.new.mem self.old.part self.new.part result }
     {
-        let Some(request) = self.inflate.remove(index) else {
-            return Err(Refusal::NotTaken);
-        };
-        discard_all(&mut self.ram, &mut self.loose, request.pages());
-        self.inflate.add_used(&mut self.ram, request.head());
-        Ok(request)
+        if let Some(why) = self.status_refusal() {
+            return Err(why);
+        }
+        match self.inflate.remove(index) {
+            None => Err(Refusal::NotTaken),
+            Some(request) => {
+                discard_all(&mut self.ram, &mut self.loose, request.pages());
+                self.inflate.add_used(&mut self.ram, request.head());
+                Ok(request)
+            }
+        }
     }
 
-    /// The chain of a deflate is used.
+    /// Uses a taken chain of queue 1.
     fn finish_deflate(&mut self, index: u32) -> Result<TakenRequest, Refusal>
-        requires backed { IsSome (frame_at self.old.mem DEFLATE_RING_PAGE) }
-        requires ready { contains self.old.part.status driver_ok ≡ true }
-        ensures { GivesOut 1 index self.old.mem self.new.mem self.old.part self.new.part result }
+        requires backed { contains self.old.part.status driver_ok ≡ true → IsSome (frame_at self.old.mem DEFLATE_RING_PAGE) }
+        ensures { BaseFinishes 1 index self.old.mem self.new.mem self.old.part self.new.part result }
     {
-        let Some(request) = self.deflate.remove(index) else {
-            return Err(Refusal::NotTaken);
-        };
-        self.deflate.add_used(&mut self.ram, request.head());
-        Ok(request)
+        if let Some(why) = self.status_refusal() {
+            return Err(why);
+        }
+        match self.deflate.remove(index) {
+            None => Err(Refusal::NotTaken),
+            Some(request) => {
+                self.deflate.add_used(&mut self.ram, request.head());
+                Ok(request)
+            }
+        }
     }
 
     /// Uses a taken chain of queue 0 or 1, and gives the request out.
@@ -216,14 +254,10 @@ impl DeviceBase {
         requires room { length self.old.part.loose ≤ length self.old.mem }
         ensures { BaseFinishes queue index self.old.mem self.new.mem self.old.part self.new.part result }
     {
-        if queue != INFLATE_QUEUE && queue != DEFLATE_QUEUE {
-            return Err(Refusal::NoQueue);
-        }
-        self.check_ready()?;
-        if queue == INFLATE_QUEUE {
-            self.finish_inflate(index)
-        } else {
-            self.finish_deflate(index)
+        match queue {
+            INFLATE_QUEUE => self.finish_inflate(index),
+            DEFLATE_QUEUE => self.finish_deflate(index),
+            _ => Err(Refusal::NoQueue),
         }
     }
 
@@ -257,7 +291,8 @@ impl DeviceBase {
 
     /// Takes the frame of one page away, if it has one; says whether it had.
     pub(crate) fn discard(&mut self, page: u32) -> bool
-        requires { length self.old.part.loose ≤ length self.old.mem }
+        requires attached { 0 < length self.old.mem }
+        requires room { length self.old.part.loose ≤ length self.old.mem }
         ensures answer { result ≡ is_some (frame_at self.old.mem page) }
         ensures mem { self.new.mem ≡ discarded (page ∷ []) self.old.mem }
         ensures part { self.new.part ≡ record self.old.part { loose = self.old.part.loose ++ frames_behind self.old.mem (page ∷ []) } }

@@ -1,6 +1,6 @@
 // A queue of page requests: the device's end of its ring, and the requests that were taken.
 
-ghost use Rattle.std.specs.Prelude.{◌≡◌, ◌<◌, ◌≤◌, ◌+◌, [], ◌++◌, ◌∷◌, All, IfSome, IsTrue, true, false, nat_le, length, slice_get, remove};
+ghost use Rattle.std.specs.Prelude.{◌≡◌, ◌<◌, ◌≤◌, ◌+◌, [], ◌++◌, ◌∷◌, All, IfSome, IfNone, IsTrue, true, false, nat_le, length, slice_get, remove};
 ghost use Rattle.std.specs.Int.{is_power_of_two};
 ghost use Rattle.vb_ring.specs.Layout.{layout_of, IsInside, IsBacked};
 ghost use Rattle.vb_ring.specs.Ends.{IsDeviceEnd};
@@ -149,7 +149,8 @@ impl RequestQueue {
     pub(crate) fn remove(&mut self, index: u32) -> Option<TakenRequest>
         ensures value { result ≡ slice_get self.old.taken index }
         ensures head { IfSome result (λ r. r.head < self.old.ring.size) }
-        ensures rest { self.new ≡ record self.old { taken = remove self.old.taken index } }
+        ensures none { IfNone result (self.new ≡ self.old) }
+        ensures rest { IfSome result (λ _. self.new ≡ record self.old { taken = remove self.old.taken index }) }
     {
         if index as usize >= self.taken.len() {
             return None;
