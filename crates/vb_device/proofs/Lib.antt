@@ -3,6 +3,7 @@ pub mod Bytes
 pub mod Chains
 pub mod Takes
 pub mod TakesBy
+pub mod Finishes
 pub mod FromNext
 pub mod Discards
 pub mod Sizes

@@ -6,5 +6,5 @@ use Rattle.vb_device.proofs.base.DeviceBase.take.Goals as goal
 
 pub returns-in_default : goal.returns-in_default
 returns-in_default c =
-    let far : 2 ≤ c.args.queue = omega (arith, c.in_default.not-0, c.in_default.not-1) in
+    let far : 2 ≤ c.args.queue = omega arith in
     refused_take c.args.queue c.args.self.now.mem c.args.self.now.part NoQueue (take_no_queue c.args.queue c.args.self.now.part far) (take_no_queue c.args.queue c.args.self.now.part far, refl)
