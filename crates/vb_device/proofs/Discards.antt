@@ -25,18 +25,18 @@ discarded-at pages mem q = each_page-get (λ page old. cond (is_in page pages) N
 pub discarded-length : (pages : List ℕ) (mem : Pages) → length (discarded pages mem) ≡ length mem
 discarded-length pages mem = length-each_from 0 (λ page old. cond (is_in page pages) None old) mem
 
-in_more : (pages : List ℕ) (i q : ℕ) → i < length pages → is_in q (take (i + 1) pages) ≡ (is_in q (take i pages) || ((get_or pages i 0 == q) || false))
+pub in_more : (pages : List ℕ) (i q : ℕ) → i < length pages → is_in q (take (i + 1) pages) ≡ (is_in q (take i pages) || ((get_or pages i 0 == q) || false))
 in_more pages i q lt = ap (is_in q) (take_more pages i 0 lt) ∙ list_any-append (λ m. m == q) (take i pages) (get_or pages i 0 ∷ [])
 
-or_true : (a b : Bool) → b ≡ true → (a || (b || false)) ≡ true
+pub or_true : (a b : Bool) → b ≡ true → (a || (b || false)) ≡ true
 or_true true b e = refl
 or_true false b e = ap (λ v. v || false) e
 
-or_false : (a b : Bool) → b ≡ false → (a || (b || false)) ≡ a
+pub or_false : (a b : Bool) → b ≡ false → (a || (b || false)) ≡ a
 or_false true b e = refl
 or_false false b e = ap (λ v. v || false) e
 
-not_equal : (p q : ℕ) (b : Bool) → (p == q) ≡ b → q ≢ p → b ≡ false
+pub not_equal : (p q : ℕ) (b : Bool) → (p == q) ≡ b → q ≢ p → b ≡ false
 not_equal p q true e ne = absurd (ne (sym (eqb-true p q e)))
 not_equal p q false e ne = refl
 

@@ -7,3 +7,5 @@ pub mod Finishes
 pub mod FromNext
 pub mod Discards
 pub mod Sizes
+pub mod Marks
+pub mod Over

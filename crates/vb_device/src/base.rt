@@ -9,7 +9,7 @@ ghost use Rattle.vb_model.specs.Status.{contains, driver_ok};
 ghost use Rattle.vb_ram.specs.Pages.{frame_at, number_of, Supplied, IsWhole};
 ghost use Rattle.vb_ring.specs.Layout.{IsInside};
 ghost use Rattle.vb_status.specs.Bits.{status_bits};
-ghost use Rattle.vb_device.specs.Base.{numbers_of_frames};
+ghost use Rattle.vb_device.specs.Base.{numbers_of_frames, IsPlain};
 ghost use Rattle.vb_device.specs.BaseCalls.{TakesFrom, BaseFinishes, status_refusal};
 ghost use Rattle.vb_device.specs.Calls.{IsUnused, attached, TakesBy, HandsBack};
 ghost use Rattle.vb_device.specs.Discards.{discarded, frames_behind};
@@ -131,7 +131,9 @@ fn discard_all(ram: &mut Ram, loose: &mut Vec<Frame>, pages: &[u32])
 impl DeviceBase {
     /// A device that isn't attached.
     pub(crate) fn new(alloc: Global) -> DeviceBase
-        ensures { result.mem ≡ [] }
+        ensures mem { result.mem ≡ [] }
+        ensures loose { result.part.loose ≡ [] }
+        ensures plain { IsPlain result.part }
     {
         DeviceBase {
             ram: Ram::empty(alloc),
@@ -143,6 +145,13 @@ impl DeviceBase {
             deflate: RequestQueue::new(DEFLATE_RING_PAGE),
             loose: Vec::new(alloc),
         }
+    }
+
+    /// The device is immediate and has no frames of its own.
+    pub(crate) fn is_plain(&self)
+        ensures { IsPlain self.now.part }
+    {
+        let _ = &self.status;
     }
 
     /// Gives the device a guest of this size.
@@ -216,7 +225,8 @@ impl DeviceBase {
     fn finish_inflate(&mut self, index: u32) -> Result<TakenRequest, Refusal>
         requires backed { contains self.old.part.status driver_ok ≡ true → IsSome (frame_at self.old.mem INFLATE_RING_PAGE) }
         requires room { length self.old.part.loose ≤ length self.old.mem }
-        ensures { BaseFinishes 0 index self.old.mem self.new.mem self.old.part self.new.part result }
+        ensures by { BaseFinishes 0 index self.old.mem self.new.mem self.old.part self.new.part result }
+        ensures count { length self.new.mem ≡ length self.old.mem }
     {
         if let Some(why) = self.status_refusal() {
             return Err(why);
@@ -234,7 +244,8 @@ impl DeviceBase {
     /// Uses a taken chain of queue 1.
     fn finish_deflate(&mut self, index: u32) -> Result<TakenRequest, Refusal>
         requires backed { contains self.old.part.status driver_ok ≡ true → IsSome (frame_at self.old.mem DEFLATE_RING_PAGE) }
-        ensures { BaseFinishes 1 index self.old.mem self.new.mem self.old.part self.new.part result }
+        ensures by { BaseFinishes 1 index self.old.mem self.new.mem self.old.part self.new.part result }
+        ensures count { length self.new.mem ≡ length self.old.mem }
     {
         if let Some(why) = self.status_refusal() {
             return Err(why);
@@ -252,7 +263,8 @@ impl DeviceBase {
     pub(crate) fn finish(&mut self, queue: u32, index: u32) -> Result<TakenRequest, Refusal>
         requires backed { contains self.old.part.status driver_ok ≡ true → IsSome (frame_at self.old.mem (ring_page queue)) }
         requires room { length self.old.part.loose ≤ length self.old.mem }
-        ensures { BaseFinishes queue index self.old.mem self.new.mem self.old.part self.new.part result }
+        ensures by { BaseFinishes queue index self.old.mem self.new.mem self.old.part self.new.part result }
+        ensures count { length self.new.mem ≡ length self.old.mem }
     {
         match queue {
             INFLATE_QUEUE => self.finish_inflate(index),

@@ -5,8 +5,11 @@
 mod base;
 mod claimed;
 mod device;
+mod flags;
+mod immediate;
 mod queue;
 mod request;
 
 pub use claimed::Claimed;
 pub use device::Device;
+pub use immediate::ImmediateDevice;

@@ -13,8 +13,8 @@ use Rattle.vb_device.proofs.TakesBy.{status_ok}
 use Rattle.vb_device.proofs.Finishes.{finishes_deflate}
 use Rattle.vb_device.proofs.base.DeviceBase.finish_deflate.Goals as goal
 
-pub returns-in-Some-remove : goal.returns-in-Some-remove
-returns-in-Some-remove c =
+pub returns-in-Some-remove-clause-by : goal.returns-in-Some-remove-clause-by
+returns-in-Some-remove-clause-by c =
     let open_status : status_refusal (status_bits c.self.inside.status) ≡ None = search rules in
     let taken : slice_get c.self.inside.deflate.taken c.args.index ≡ Some c.in-Some-remove.request = sym c.remove.ensures.value ∙ c.in-Some-remove.is in
     let rest : c.remove.new.self ≡ record c.self.inside.deflate { taken = remove c.self.inside.deflate.taken c.args.index } = c.in-Some-remove.ensures.rest in

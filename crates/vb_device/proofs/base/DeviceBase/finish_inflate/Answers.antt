@@ -38,8 +38,8 @@ invariant_of-self-in-Some-remove c =
     c.discard_all.ensures.capacity (c.add_used.ensures.adds.state ∙ ap (λ (r : DeviceEnd). record r { next_used = (r.next_used + 1) % 65536 }) ring)
     (has_pages c.self.inside.ram c.self.inside.inflate.taken c.args.index c.in-Some-remove.request c.self.invariant.inflate_none taken)
 
-pub returns-in-Some-remove : goal.returns-in-Some-remove
-returns-in-Some-remove c =
+pub returns-in-Some-remove-clause-by : goal.returns-in-Some-remove-clause-by
+returns-in-Some-remove-clause-by c =
     let open_status : status_refusal (status_bits c.self.inside.status) ≡ None = search rules in
     let taken : slice_get c.self.inside.inflate.taken c.args.index ≡ Some c.in-Some-remove.request = sym c.remove.ensures.value ∙ c.in-Some-remove.is in
     let rest : c.remove.new.self ≡ record c.self.inside.inflate { taken = remove c.self.inside.inflate.taken c.args.index } = c.in-Some-remove.ensures.rest in
@@ -54,3 +54,7 @@ returns-in-Some-remove c =
     subst (λ (v : DeviceState). BaseFinishes 0 c.args.index v.mem c.add_used.new.ram v.part (base_part (status_bits c.self.inside.status) (feature_bits c.self.inside.features) c.self.inside.target c.self.inside.actual c.add_used.new.self c.self.inside.deflate c.discard_all.new.loose.items) (Ok c.in-Some-remove.request)) c.self.view_is
     (finishes_inflate c.self.inside.ram c.discard_all.new.ram c.add_used.new.ram (status_bits c.self.inside.status) (feature_bits c.self.inside.features) c.self.inside.target c.self.inside.actual c.args.index c.self.inside.inflate c.add_used.new.self c.self.inside.deflate c.self.inside.loose.items c.discard_all.new.loose.items c.in-Some-remove.request open_status taken
     c.self.invariant.inflate_ring (c.self.invariant.inflate_ready (status_ok (status_bits c.self.inside.status) open_status)) gone numbers adds left)
+
+pub returns-in-Some-remove-clause-count : goal.returns-in-Some-remove-clause-count
+returns-in-Some-remove-clause-count c =
+    c.add_used.ensures.adds.puts.rest.count ∙ (ap (λ (m : Pages). length m) c.discard_all.ensures.mem ∙ (discarded-length c.pages.result.now c.self.inside.ram ∙ ap (λ (v : DeviceState). length v.mem) c.self.view_is))
