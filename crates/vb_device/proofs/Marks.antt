@@ -18,12 +18,12 @@ one_is false = refl
 pub count_set : (flags : List Bool) (i : ℕ) (flag old : Bool) → i < length flags → get_or flags i old ≡ old → count_by (λ b. b) (set flags i flag) + one_if old ≡ count_by (λ b. b) flags + one_if flag
 count_set flags i flag old lt at =
     let whole = sum_by-set (λ b. cond b 1 0) flags i flag old lt in
-    omega (arith, whole, one_is flag, one_is old, ap (λ b. cond b 1 0) at)
+    omega (arith, whole, one_is flag, one_is old, ap {B = ℕ} (λ (b : Bool). cond b 1 0) at)
 
 pub count_has : (flags : List Bool) (i : ℕ) (old : Bool) → i < length flags → get_or flags i old ≡ old → one_if old ≤ count_by (λ b. b) flags
 count_has flags i old lt at =
     let some = get_or-le-sum_by (λ b. cond b 1 0) flags i old lt in
-    omega (arith, some, one_is old, ap (λ b. cond b 1 0) at)
+    omega (arith, some, one_is old, ap {B = ℕ} (λ (b : Bool). cond b 1 0) at)
 
 pub flagged-length : (pages : List ℕ) (flag : Bool) (flags : List Bool) → length (flagged pages flag flags) ≡ length flags
 flagged-length pages flag flags = length-each_from 0 (λ page old. cond (is_in page pages) flag old) flags
