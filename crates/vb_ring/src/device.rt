@@ -1,6 +1,6 @@
 // The device's end.
 
-ghost use Rattle.std.specs.Prelude.{◌≡◌, ℕ, ◌<◌, ◌≤◌, ◌↔◌, IsTrue, true, false, if◌then◌else◌};
+ghost use Rattle.std.specs.Prelude.{◌≡◌, ℕ, ◌+◌, ◌%◌, ◌<◌, ◌≤◌, ◌↔◌, IsTrue, true, false, if◌then◌else◌};
 ghost use Rattle.std.specs.Int.{is_power_of_two};
 ghost use Rattle.vb_ram.specs.Pages.{Pages};
 ghost use Rattle.vb_ring.specs.Layout.{layout_of, IsInside, IsBacked};
@@ -121,6 +121,13 @@ impl Queue {
             }
             Err(fault) => Err(fault),
         }
+    }
+
+    /// Goes back by one chain, so that the one that was popped last stands next again.
+    pub fn go_to_previous_position(&mut self)
+        ensures { self.new ≡ record self.old { next_avail = (self.old.next_avail + 65535) % 65536 } }
+    {
+        self.next_avail = self.next_avail.wrapping_sub(1);
     }
 
     /// Adds a chain to the used ring; `len` is how many bytes were written into it.

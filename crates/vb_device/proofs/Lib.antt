@@ -1,0 +1,11 @@
+pub mod Once
+pub mod Bytes
+pub mod Chains
+pub mod Takes
+pub mod TakesBy
+pub mod Finishes
+pub mod FromNext
+pub mod Discards
+pub mod Sizes
+pub mod Marks
+pub mod Over
