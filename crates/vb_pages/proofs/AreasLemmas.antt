@@ -67,5 +67,5 @@ unreserved_is set n l to from =
     same_sets set (unreserved n) (l ∙ sym (length-unreserved n))
     (λ p h. has-unreserved n p (omega (arith, is_inside set p h, l)) ∙ le-leb 16 p (to p h))
     (λ p h.
-      let b : p < n = omega (arith, is_inside (unreserved n) p h, length-unreserved n) in
-      from p (leb-true 16 p (sym (has-unreserved n p b) ∙ h)) b)
+    let b : p < n = omega (arith, is_inside (unreserved n) p h, length-unreserved n) in
+    from p (leb-true 16 p (sym (has-unreserved n p b) ∙ h)) b)

@@ -91,7 +91,7 @@ with_times set xs once p =
                 omega (arith, h, o, n)
             | inr not_was ↦
                 let none : has (with_pages xs set) p ≡ false =
-                    false_from_ne_true (has (with_pages xs set) p) (λ e. elim (with_cases xs set p e) [ inl old ↦ both_ways (has set p) not_was old | inr new ↦ both_ways (is_in p xs) f new ]) in
+                false_from_ne_true (has (with_pages xs set) p) (λ e. elim (with_cases xs set p e) [ inl old ↦ both_ways (has set p) not_was old | inr new ↦ both_ways (is_in p xs) f new ]) in
                 let h : one_if (has (with_pages xs set) p) ≡ 0 = ap one_if none in
                 let o : one_if (has set p) ≡ 0 = ap one_if not_was in
                 omega (arith, h, o, n)
@@ -168,9 +168,9 @@ covers_one s p =
       | inl e ↦ let q : s ≡ p = eqb-true s p e in ap one_if (covers_is p (block_at s 0) true (in_block s 0 p (omega arith) (omega arith)) ∙ sym e)
       | inr n ↦
           ap one_if (covers_is p (block_at s 0) false (false_from_ne_true (is_in p (pages_of (block_at s 0))) (λ i.
-            let b = block_bounds s 0 p i in
-            let q : s ≡ p = omega (arith, b.0, b.1) in
-            both_ways (s == p) n (eq-eqb s p q))) ∙ sym n)
+          let b = block_bounds s 0 p i in
+          let q : s ≡ p = omega (arith, b.0, b.1) in
+          both_ways (s == p) n (eq-eqb s p q))) ∙ sym n)
     ]
 
 pub takes_page_times : (set new : List Bool) (s : ℕ) → Takes set 0 (Some s) new → (p : ℕ) → one_if (has new p) + one_if (s == p) ≡ one_if (has set p)

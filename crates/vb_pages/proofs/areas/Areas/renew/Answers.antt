@@ -24,5 +24,5 @@ pub returns : goal.returns
 returns c =
     let v : set_of c.self.inside.table ≡ c.args.self.now = c.self.view_is in
     let n : c.pages-pages.result ≡ length c.args.self.now =
-        c.pages-pages.ensures ∙ (ap length c.clear.ensures ∙ (length-replicate {A = Option ℕ} (length c.self.inside.table) None ∙ (sym (length-set_of c.self.inside.table) ∙ ap length v))) in
+    c.pages-pages.ensures ∙ (ap length c.clear.ensures ∙ (length-replicate {A = Option ℕ} (length c.self.inside.table) None ∙ (sym (length-set_of c.self.inside.table) ∙ ap length v))) in
     c.fill.ensures ∙ ap unreserved n

@@ -26,10 +26,11 @@ pub returns-in_default-clause-same : goal.returns-in_default-clause-same
 returns-in_default-clause-same c e =
     let f = c.self.inside.free in
     let v : state_of f c.self.inside.held.blocks ≡ c.args.self.now = c.self.view_is in
-    let drains : c.take.new.self ≡ drained f = c.in_default.ensures.serves.2 in
-    ((λ p. ap (λ (x : FreePages). is_free x p) drains ∙ (free_same f (drained f) p (drained_times f c.take.ensures.sound p) ∙ ap (λ (x : PageState). is_free_page x p) v)),
-    ap (λ (x : PageState). x.held) v,
-    ap (λ (x : FreePages). x.lists) drains ∙ ap (λ (x : PageState). map (λ (l : List ℕ). nothing) x.free.lists) v)
+    let drains : c.take.new.self ≡ drained f = c.in_default.ensures.serves.2 in (
+      (λ p. ap (λ (x : FreePages). is_free x p) drains ∙ (free_same f (drained f) p (drained_times f c.take.ensures.sound p) ∙ ap (λ (x : PageState). is_free_page x p) v)),
+      ap (λ (x : PageState). x.held) v,
+      ap (λ (x : FreePages). x.lists) drains ∙ ap (λ (x : PageState). map (λ (l : List ℕ). nothing) x.free.lists) v,
+    )
 
 pub add-requires-clause-block : goal.add-requires-clause-block
 add-requires-clause-block c = serves_is_block c.self.inside.free c.take.new.self c.args.cpu c.args.order c.in-Some.start c.in-Some.ensures.serves
@@ -53,9 +54,10 @@ invariant_of-self-2 c =
 pub returns-clause-was_free : goal.returns-clause-was_free
 returns-clause-was_free c =
     let l : c.args.cpu < length c.self.inside.free.lists = omega arith in
-    let v : state_of c.self.inside.free c.self.inside.held.blocks ≡ c.args.self.now = c.self.view_is in
-    (serves_is_block c.self.inside.free c.take.new.self c.args.cpu c.args.order c.in-Some.start c.in-Some.ensures.serves,
-    λ p t. ap (λ (x : PageState). is_free_page x p) (sym v) ∙ out_free c.self.inside.free c.take.new.self c.self.inside.held c.args.cpu c.args.order c.in-Some.start c.take.ensures.sound c.self.invariant l c.in-Some.ensures.serves p t)
+    let v : state_of c.self.inside.free c.self.inside.held.blocks ≡ c.args.self.now = c.self.view_is in (
+      serves_is_block c.self.inside.free c.take.new.self c.args.cpu c.args.order c.in-Some.start c.in-Some.ensures.serves,
+      λ p t. ap (λ (x : PageState). is_free_page x p) (sym v) ∙ out_free c.self.inside.free c.take.new.self c.self.inside.held c.args.cpu c.args.order c.in-Some.start c.take.ensures.sound c.self.invariant l c.in-Some.ensures.serves p t,
+    )
 
 pub returns-clause-left : goal.returns-clause-left
 returns-clause-left c p =
