@@ -1,5 +1,3 @@
-pub mod Once
-pub mod Bytes
 pub mod Chains
 pub mod Takes
 pub mod TakesBy

@@ -10,3 +10,6 @@ pub mod RequestLaws
 pub mod QueueState
 pub mod Base
 pub mod BaseCalls
+pub mod Once
+pub mod Bytes
+pub mod OneRequest

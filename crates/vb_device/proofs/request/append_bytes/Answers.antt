@@ -1,7 +1,7 @@
 use Rattle.std.proofs.Common.{◌∙◌, ap, arith, ◌+◌, ℕ, List, length}
 use Rattle.std.proofs.lemmas.List.{length_push}
 use Rattle.vb_device.specs.Request.{byte_of_address}
-use Rattle.vb_device.proofs.Bytes.{bytes_more}
+use Rattle.vb_device.specs.Bytes.{bytes_more}
 use Rattle.vb_device.proofs.request.append_bytes.Goals as goal
 
 pub loop-i-preserved : goal.loop-i-preserved
