@@ -4,6 +4,7 @@
 
 mod arguments;
 mod lines;
+mod names;
 mod play;
 mod replies;
 mod run;

@@ -6,6 +6,7 @@ ghost use Rattle.vb_sim.specs.Numbers.{IsByteWord, ShowsBits};
 ghost use Rattle.vb_model.specs.Brought.{is_brought};
 ghost use Rattle.vb_sim.specs.Lines.{is_pace_brought};
 
+use crate::names::{NAMES, Name, find};
 use crate::words::{LineFault, Words};
 use hex::FromHexError;
 use std::alloc::Global;
@@ -21,6 +22,21 @@ const FEATURES_ARE_BROUGHT: bool = false;
 
 /// Hexadecimal digits of a line's features.
 const FEATURE_DIGITS: usize = 16;
+
+/// Which pages `pages G PLACE` asks for.
+static PLACES: [(&[u8], Query); 8] = [
+    (b"free", Query::PagesAt(Place::Free)),
+    (b"used", Query::PagesAt(Place::Used)),
+    (b"giving", Query::PagesAt(Place::Giving)),
+    (b"lent", Query::PagesAt(Place::Lent)),
+    (b"taking", Query::PagesAt(Place::Taking)),
+    (b"stranded", Query::PagesAt(Place::Stranded)),
+    (b"reporting", Query::PagesAt(Place::Reporting)),
+    (b"ballooned", Query::PagesBallooned),
+];
+
+/// The paces that a line of a spare device names.
+static PACES: [(&[u8], Pace); 2] = [(b"immediate", Pace::Immediate), (b"paced", Pace::Paced)];
 
 /// How a spare device goes about its work.
 #[derive(Clone, Copy, Debug, PartialEq, Eq)]
@@ -76,11 +92,7 @@ pub fn any_spare(line: &[u8]) -> Result<Option<Pace>, LineFault> {
     if words.word()? != b"spare".as_slice() {
         return Ok(None);
     }
-    let pace = match words.word()? {
-        b"immediate" => Pace::Immediate,
-        b"paced" => Pace::Paced,
-        _ => return Err(LineFault::Bad),
-    };
+    let pace = find(&PACES, words.word()?).ok_or(LineFault::Bad)?;
     words.end()?;
     Ok(Some(pace))
 }
@@ -99,47 +111,70 @@ pub fn event(alloc: Global, line: &[u8]) -> Result<Event, LineFault>
 /// The event of a line, whether it is answered so far or not.
 pub fn any_event(alloc: Global, line: &[u8]) -> Result<Event, LineFault> {
     let mut words = Words::of(line);
-    let name = words.word()?;
-    let event = match name {
-        b"plug" => Event::Plug {
-            pages: words.number()?,
-            queue_size: words.number()?,
-            processors: words.number()?,
-        },
-        b"balance" => Event::Balance {
-            floor: words.number()?,
-        },
-        b"frames" => Event::Frames,
-        _ => guest_event(alloc, name, &mut words)?,
-    };
+    let event = first_event(alloc, &mut words)?;
     words.end()?;
     Ok(event)
 }
 
-/// An event of one guest, whose number is the first word behind the name.
-fn guest_event(alloc: Global, name: &[u8], words: &mut Words<'_>) -> Result<Event, LineFault> {
-    let guest = words.number()?;
-    if let Some(query) = query(name, words)? {
-        return Ok(Event::Query { guest, query });
-    }
+/// The event that the next words name; there may be more words behind it.
+fn first_event(alloc: Global, words: &mut Words<'_>) -> Result<Event, LineFault> {
+    let name = find(&NAMES, words.word()?).ok_or(LineFault::Bad)?;
     match name {
-        b"unplug" => Ok(Event::Unplug { guest }),
-        b"restart" => Ok(Event::Restart { guest }),
-        _ => {
-            let call = call(alloc, name, words)?;
-            Ok(Event::Guest { guest, call })
-        }
+        Name::Plug => plug(words),
+        Name::Balance => balance(words),
+        Name::Frames => Ok(Event::Frames),
+        _ => guest_event(alloc, name, words),
     }
 }
 
+/// The rest of `plug PAGES QUEUE_SIZE PROCESSORS`.
+fn plug(words: &mut Words<'_>) -> Result<Event, LineFault> {
+    let [pages, queue_size, processors] = words.numbers::<3>()?;
+    Ok(Event::Plug {
+        pages,
+        queue_size,
+        processors,
+    })
+}
+
+/// The rest of `balance FLOOR`.
+fn balance(words: &mut Words<'_>) -> Result<Event, LineFault> {
+    let floor = words.number()?;
+    Ok(Event::Balance { floor })
+}
+
+/// An event of one guest, whose number is the first word behind the name.
+fn guest_event(alloc: Global, name: Name, words: &mut Words<'_>) -> Result<Event, LineFault> {
+    let guest = words.number()?;
+    match name {
+        Name::Unplug => Ok(Event::Unplug { guest }),
+        Name::Restart => Ok(Event::Restart { guest }),
+        _ => match query(name, words)? {
+            Some(query) => Ok(Event::Query { guest, query }),
+            None => guest_call(alloc, guest, name, words),
+        },
+    }
+}
+
+/// A call on this guest.
+fn guest_call(
+    alloc: Global,
+    guest: u32,
+    name: Name,
+    words: &mut Words<'_>,
+) -> Result<Event, LineFault> {
+    let call = call(alloc, name, words)?;
+    Ok(Event::Guest { guest, call })
+}
+
 /// A question about a guest, if the name is one's.
-fn query(name: &[u8], words: &mut Words<'_>) -> Result<Option<Query>, LineFault> {
+fn query(name: Name, words: &mut Words<'_>) -> Result<Option<Query>, LineFault> {
     let query = match name {
-        b"places" => Query::Places,
-        b"pages" => pages(words.word()?)?,
-        b"balloon" => Query::Balloon,
-        b"memory" => Query::Memory,
-        b"backing" => Query::Backing {
+        Name::Places => Query::Places,
+        Name::Pages => find(&PLACES, words.word()?).ok_or(LineFault::Bad)?,
+        Name::Balloon => Query::Balloon,
+        Name::Memory => Query::Memory,
+        Name::Backing => Query::Backing {
             page: words.number()?,
         },
         _ => return Ok(None),
@@ -147,112 +182,90 @@ fn query(name: &[u8], words: &mut Words<'_>) -> Result<Option<Query>, LineFault>
     Ok(Some(query))
 }
 
-/// Which pages `pages G PLACE` asks for.
-fn pages(place: &[u8]) -> Result<Query, LineFault> {
-    match place {
-        b"free" => Ok(Query::PagesAt(Place::Free)),
-        b"used" => Ok(Query::PagesAt(Place::Used)),
-        b"giving" => Ok(Query::PagesAt(Place::Giving)),
-        b"lent" => Ok(Query::PagesAt(Place::Lent)),
-        b"taking" => Ok(Query::PagesAt(Place::Taking)),
-        b"stranded" => Ok(Query::PagesAt(Place::Stranded)),
-        b"reporting" => Ok(Query::PagesAt(Place::Reporting)),
-        b"ballooned" => Ok(Query::PagesBallooned),
-        _ => Err(LineFault::Bad),
-    }
-}
-
 /// A call on a guest: by the host or the device, by the balloon driver, or by what runs in it.
-fn call(alloc: Global, name: &[u8], words: &mut Words<'_>) -> Result<Call, LineFault> {
-    if let Some(call) = device_call(name, words)? {
-        return Ok(call);
-    }
-    if let Some(call) = driver_call(name, words)? {
-        return Ok(call);
-    }
-    memory_call(alloc, name, words)
-}
-
-/// A call of the device, or the host's new target, if the name is one's.
-fn device_call(name: &[u8], words: &mut Words<'_>) -> Result<Option<Call>, LineFault> {
-    let call = match name {
-        b"take" => Call::Take {
-            queue: words.number()?,
-        },
-        b"work" => Call::Work,
-        b"finish" => Call::Finish {
-            queue: words.number()?,
-            index: words.number()?,
-        },
-        b"sweep" => Call::Sweep {
-            page: words.number()?,
-        },
-        b"ask" => Call::Ask,
-        b"target" => Call::SetTarget {
-            pages: words.number()?,
-        },
-        _ => return Ok(None),
-    };
-    Ok(Some(call))
-}
-
-/// A call of the balloon driver, if the name is one's.
-fn driver_call(name: &[u8], words: &mut Words<'_>) -> Result<Option<Call>, LineFault> {
-    let call = match name {
-        b"init" => Call::Init {
-            features: wanted_features(words)?,
-        },
-        b"reset" => Call::Reset,
-        b"inflate" => Call::Inflate {
-            pages: words.number()?,
-        },
-        b"deflate" => Call::Deflate {
-            pages: words.number()?,
-        },
-        b"oom" => Call::Oom {
-            pages: words.number()?,
-        },
-        b"report" => Call::Report {
-            from: words.number()?,
-        },
-        b"stats" => Call::Stats,
-        b"reap" => Call::Reap {
-            queue: words.number()?,
-        },
-        _ => return Ok(None),
-    };
-    Ok(Some(call))
-}
-
-/// A call that allocates, frees, reads or writes pages.
-fn memory_call(alloc: Global, name: &[u8], words: &mut Words<'_>) -> Result<Call, LineFault> {
+fn call(alloc: Global, name: Name, words: &mut Words<'_>) -> Result<Call, LineFault> {
     match name {
-        b"alloc" => Ok(Call::Alloc {
-            cpu: words.number()?,
-            order: words.number()?,
-        }),
-        b"free" => Ok(Call::Free {
-            cpu: words.number()?,
-            start: words.number()?,
-            order: words.number()?,
-        }),
-        b"read" => Ok(Call::Read {
-            page: words.number()?,
-            offset: words.number()?,
-            len: positive(words.number()?)?,
-        }),
-        b"write" => Ok(Call::Write {
-            page: words.number()?,
-            offset: words.number()?,
-            bytes: bytes(alloc, words.word()?)?,
-        }),
-        b"scribble" => Ok(Call::Scribble {
-            page: words.number()?,
-            offset: words.number()?,
-            bytes: bytes(alloc, words.word()?)?,
-        }),
+        Name::Work => Ok(Call::Work),
+        Name::Ask => Ok(Call::Ask),
+        Name::Reset => Ok(Call::Reset),
+        Name::Stats => Ok(Call::Stats),
+        Name::Init => init(words),
+        Name::Finish => finish(words),
+        Name::Alloc => alloc_block(words),
+        Name::Free => free_block(words),
+        Name::Read => read(words),
+        Name::Write => write(alloc, words),
+        Name::Scribble => scribble(alloc, words),
+        _ => call_of_number(name, words.number()?),
+    }
+}
+
+/// A call that one number says all of.
+fn call_of_number(name: Name, number: u32) -> Result<Call, LineFault> {
+    match name {
+        Name::Take => Ok(Call::Take { queue: number }),
+        Name::Sweep => Ok(Call::Sweep { page: number }),
+        Name::Target => Ok(Call::SetTarget { pages: number }),
+        Name::Inflate => Ok(Call::Inflate { pages: number }),
+        Name::Deflate => Ok(Call::Deflate { pages: number }),
+        Name::Oom => Ok(Call::Oom { pages: number }),
+        Name::Report => Ok(Call::Report { from: number }),
+        Name::Reap => Ok(Call::Reap { queue: number }),
         _ => Err(LineFault::Bad),
     }
+}
+
+/// The rest of `init G FEATURES`, the last word of which may be left out.
+fn init(words: &mut Words<'_>) -> Result<Call, LineFault> {
+    let features = wanted_features(words)?;
+    Ok(Call::Init { features })
+}
+
+/// The rest of `finish G QUEUE INDEX`.
+fn finish(words: &mut Words<'_>) -> Result<Call, LineFault> {
+    let [queue, index] = words.numbers::<2>()?;
+    Ok(Call::Finish { queue, index })
+}
+
+/// The rest of `alloc G CPU ORDER`.
+fn alloc_block(words: &mut Words<'_>) -> Result<Call, LineFault> {
+    let [cpu, order] = words.numbers::<2>()?;
+    Ok(Call::Alloc { cpu, order })
+}
+
+/// The rest of `free G CPU START ORDER`.
+fn free_block(words: &mut Words<'_>) -> Result<Call, LineFault> {
+    let [cpu, start, order] = words.numbers::<3>()?;
+    Ok(Call::Free { cpu, start, order })
+}
+
+/// The rest of `read G PAGE OFFSET LEN`.
+fn read(words: &mut Words<'_>) -> Result<Call, LineFault> {
+    let [page, offset, len] = words.numbers::<3>()?;
+    let len = positive(len)?;
+    Ok(Call::Read { page, offset, len })
+}
+
+/// The rest of `write G PAGE OFFSET BYTES`.
+fn write(alloc: Global, words: &mut Words<'_>) -> Result<Call, LineFault> {
+    let [page, offset] = words.numbers::<2>()?;
+    let bytes = bytes(alloc, words.word()?)?;
+    Ok(Call::Write {
+        page,
+        offset,
+        bytes,
+    })
+}
+
+/// The rest of `scribble G PAGE OFFSET BYTES`.
+fn scribble(alloc: Global, words: &mut Words<'_>) -> Result<Call, LineFault> {
+    let [page, offset] = words.numbers::<2>()?;
+    let bytes = bytes(alloc, words.word()?)?;
+    Ok(Call::Scribble {
+        page,
+        offset,
+        bytes,
+    })
 }
 
 /// The number, if it is at least 1.

@@ -71,6 +71,15 @@ impl<'a> Words<'a> {
     pub fn number(&mut self) -> Result<u32, LineFault> {
         number(self.word()?).ok_or(LineFault::Bad)
     }
+
+    /// The next words as numbers of at most 32 bits each.
+    pub fn numbers<const N: usize>(&mut self) -> Result<[u32; N], LineFault> {
+        let mut numbers = [0; N];
+        for next in &mut numbers {
+            *next = self.number()?;
+        }
+        Ok(numbers)
+    }
 }
 
 /// The number that decimal digits show, any leading zeros among them, if it fits 32 bits.

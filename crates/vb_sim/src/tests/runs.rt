@@ -9,7 +9,6 @@ use std::alloc::{AllocError, Global};
 use std::io;
 use std::io::{ErrorKind, Read, Write};
 use std::process::Abort;
-use std::test::Fail;
 use vb_model::{Refusal, Reply};
 
 /// A host without guests.
@@ -99,69 +98,53 @@ fn run(alloc: Global, text: &[u8], fails: bool, room: usize) -> Outcome {
     }
 }
 
-/// Checks what a run of this script writes, and its exit status.
-fn check(rt: &impl Abort, alloc: Global, text: &[u8], output: &[u8], errors: &[u8], status: u8) {
-    let outcome = run(alloc, text, false, usize::MAX);
-    assert_eq!(rt; outcome.output.as_slice(), output);
-    assert_eq!(rt; outcome.errors.as_slice(), errors);
-    assert_eq!(rt; outcome.status, status);
+/// Checks what a run writes, and its exit status.
+fn check(rt: &impl Abort, outcome: Outcome, output: &str, errors: &str, status: u8) {
+    assert!(rt; outcome.status == status);
+    assert!(rt; outcome.output.as_slice() == output.as_bytes());
+    assert!(rt; outcome.errors.as_slice() == errors.as_bytes());
 }
 
-#[test]
-fn a_script_without_lines_runs_to_nothing(rt: HostRuntime) {
-    check(&rt, rt.alloc(), b"", b"", b"", 0);
-    check(&rt, rt.alloc(), b"\n\n# host 0\r\t\0\xff\n\n#", b"", b"", 0);
-}
+/// Scripts, each with what is written of it to the output and to the errors, and the exit status.
+static SCRIPTS: [(&[u8], &str, &str, u8); 7] = [
+    (b"", "", "", 0),
+    (b"\n\n# host 0\r\t\0\xff\n\n#", "", "", 0),
+    (b"host 64\n", "", "", 0),
+    (
+        b"# first\nhost 64\n\nspare immediate\ntake 0 0\n#\nreap 0 0",
+        "no guest\nno guest\n",
+        "",
+        0,
+    ),
+    (
+        b"# first\nhost 64\n\nspare immediate\ntake 0 0\n#\nwork 0",
+        "",
+        "script: line 7: bad line\n",
+        1,
+    ),
+    (
+        b"host 64\nplug 64 8\nplug\nframes\n",
+        "",
+        "script: line 2: bad line\n",
+        1,
+    ),
+    (b"frames\n", "", "script: line 1: bad line\n", 1),
+];
 
 #[test]
-fn each_event_has_a_reply(rt: HostRuntime) {
-    check(&rt, rt.alloc(), b"host 64\n", b"", b"", 0);
-    let script = b"# first\nhost 64\n\nspare immediate\ntake 0 0\n#\nwork 0";
-    check(
-        &rt,
-        rt.alloc(),
-        script,
-        b"",
-        b"script: line 7: bad line\n",
-        1,
-    );
-    let script = b"# first\nhost 64\n\nspare immediate\ntake 0 0\n#\nreap 0 0";
-    check(&rt, rt.alloc(), script, b"no guest\nno guest\n", b"", 0);
-}
-
-#[test]
-fn the_first_bad_line_is_named(rt: HostRuntime) {
-    let script = b"host 64\nplug 64 8\nplug\nframes\n";
-    check(
-        &rt,
-        rt.alloc(),
-        script,
-        b"",
-        b"script: line 2: bad line\n",
-        1,
-    );
-    check(
-        &rt,
-        rt.alloc(),
-        b"frames\n",
-        b"",
-        b"script: line 1: bad line\n",
-        1,
-    );
+fn each_event_has_a_reply_or_the_first_bad_line_is_named(rt: HostRuntime) {
+    for (script, output, errors, status) in &SCRIPTS {
+        let outcome = run(rt.alloc(), script, false, usize::MAX);
+        check(&rt, outcome, output, errors, *status);
+    }
 }
 
 #[test]
 fn a_fault_of_a_stream_is_status_4(rt: HostRuntime) {
     let script = b"host 64\nframes\n";
-    let outcome = run(rt.alloc(), script, true, usize::MAX);
-    assert_eq!(rt; outcome.status, 4);
-    assert!(rt; outcome.output.is_empty() && outcome.errors.is_empty());
-    let outcome = run(rt.alloc(), script, false, 0);
-    assert_eq!(rt; outcome.status, 4);
-    assert!(rt; outcome.errors.is_empty());
-    let outcome = run(rt.alloc(), b"frames\n", false, 0);
-    assert_eq!(rt; outcome.status, 4);
-    assert!(rt; outcome.output.is_empty());
+    check(&rt, run(rt.alloc(), script, true, usize::MAX), "", "", 4);
+    check(&rt, run(rt.alloc(), script, false, 0), "", "", 4);
+    check(&rt, run(rt.alloc(), b"frames\n", false, 0), "", "", 4);
 }
 
 /// A reader of so many line feeds.
@@ -179,26 +162,17 @@ impl Read for LineFeeds {
     }
 }
 
+/// The exit status of a run over so many line feeds, which has to write nothing.
+fn status_of_line_feeds(rt: &impl Abort, alloc: Global, left: usize) -> u8 {
+    let (mut output, mut errors) = (Vec::new(alloc), Vec::new(alloc));
+    let input = LineFeeds { left };
+    let status = run_script(alloc, &mut Empty, input, &mut output, &mut errors);
+    assert!(rt; output.is_empty() && errors.is_empty());
+    status
+}
+
 #[test]
 fn a_byte_too_many_is_a_fault_of_input(rt: HostRuntime) {
-    let alloc = rt.alloc();
-    let (mut output, mut errors) = (Vec::new(alloc), Vec::new(alloc));
-    let most = 67_108_864;
-    let status = run_script(
-        alloc,
-        &mut Empty,
-        LineFeeds { left: most },
-        &mut output,
-        &mut errors,
-    );
-    assert_eq!(rt; status, 0);
-    let status = run_script(
-        alloc,
-        &mut Empty,
-        LineFeeds { left: most + 1 },
-        &mut output,
-        &mut errors,
-    );
-    assert_eq!(rt; status, 4);
-    assert!(rt; output.is_empty() && errors.is_empty());
+    assert!(rt; status_of_line_feeds(&rt, rt.alloc(), 67_108_864) == 0);
+    assert!(rt; status_of_line_feeds(&rt, rt.alloc(), 67_108_865) == 4);
 }

@@ -3,7 +3,7 @@
 use crate::arguments::{ArgumentsFault, read_arguments};
 use crate::lines::Pace;
 use crate::script::{Script, ScriptFault, parse};
-use std::alloc::Global;
+use std::alloc::{AllocError, Global};
 use std::process::Abort;
 use std::test::Fail;
 
@@ -41,79 +41,95 @@ fn a_text_without_lines_is_no_script(rt: HostRuntime) {
     }
 }
 
+/// Texts, each with the number of its first bad line.
+static OUT_OF_PLACE: [(&[u8], u64); 8] = [
+    (b"frames", 1),
+    (b"\n#\nspare immediate\nhost 64", 3),
+    (b"host 64\nhost 64", 2),
+    (b"host 64\nframes\nspare immediate", 3),
+    (b"host 64\n\n \nhost", 3),
+    (b"host 64\r\nframes\r\n", 1),
+    (b"host 64\n #\n", 2),
+    (b"host 64\nframes\nframes\nfree\nread", 4),
+];
+
 #[test]
 fn lines_out_of_place(rt: HostRuntime) {
-    check_bad(&rt, rt.alloc(), b"frames", 1);
-    check_bad(&rt, rt.alloc(), b"\n#\nspare immediate\nhost 64", 3);
-    check_bad(&rt, rt.alloc(), b"host 64\nhost 64", 2);
-    check_bad(&rt, rt.alloc(), b"host 64\nframes\nspare immediate", 3);
-    check_bad(&rt, rt.alloc(), b"host 64\n\n \nhost", 3);
-    check_bad(&rt, rt.alloc(), b"host 64\r\nframes\r\n", 1);
-    check_bad(&rt, rt.alloc(), b"host 64\n #\n", 2);
-    check_bad(&rt, rt.alloc(), b"host 64\nframes\nframes\nfree\nread", 4);
+    for (text, line) in &OUT_OF_PLACE {
+        check_bad(&rt, rt.alloc(), text, *line);
+    }
+}
+
+/// A text of this start, and so many times this part behind it.
+fn repeated(alloc: Global, start: &[u8], part: &[u8], count: usize) -> Result<Vec<u8>, Fail> {
+    let mut text = Vec::from_slice(alloc, start)?;
+    for _ in 0..count {
+        text.extend_from_slice(part)?;
+    }
+    Ok(text)
+}
+
+/// A host with so many spare devices.
+fn with_spares(alloc: Global, count: usize) -> Result<Vec<u8>, Fail> {
+    repeated(alloc, b"host 1\n", b"spare immediate\n", count)
 }
 
 #[test]
 fn no_more_than_64_spares(rt: HostRuntime) -> Result<(), Fail> {
-    let mut text = Vec::from_slice(rt.alloc(), b"host 1\n")?;
-    for _ in 0..64 {
-        text.extend_from_slice(b"spare immediate\n")?;
-    }
-    let most = script(rt.alloc(), text.as_slice())?;
-    assert_eq!(rt; most.spares.len(), 64);
-    text.extend_from_slice(b"spare immediate\n")?;
-    check_bad(&rt, rt.alloc(), text.as_slice(), 66);
+    let most = with_spares(rt.alloc(), 64)?;
+    assert!(rt; script(rt.alloc(), most.as_slice())?.spares.len() == 64);
+    let more = with_spares(rt.alloc(), 65)?;
+    check_bad(&rt, rt.alloc(), more.as_slice(), 66);
     Ok(())
+}
+
+/// A write of so many bytes.
+fn with_bytes(alloc: Global, count: usize) -> Result<Vec<u8>, Fail> {
+    repeated(alloc, b"host 1\nwrite 0 16 0 ", b"aB", count)
 }
 
 #[test]
 fn bytes_of_a_page_and_no_more(rt: HostRuntime) -> Result<(), Fail> {
-    let mut text = Vec::from_slice(rt.alloc(), b"host 1\nwrite 0 16 0 ")?;
-    for _ in 0..4096 {
-        text.extend_from_slice(b"aB")?;
-    }
-    let most = script(rt.alloc(), text.as_slice())?;
-    assert_eq!(rt; most.events.len(), 1);
-    text.extend_from_slice(b"00")?;
-    check_bad(&rt, rt.alloc(), text.as_slice(), 2);
+    let most = with_bytes(rt.alloc(), 4096)?;
+    assert!(rt; script(rt.alloc(), most.as_slice())?.events.len() == 1);
+    let more = with_bytes(rt.alloc(), 4097)?;
+    check_bad(&rt, rt.alloc(), more.as_slice(), 2);
     Ok(())
 }
 
 /// What the words behind the program's name ask for.
-fn arguments(alloc: Global, words: &[&str]) -> Result<Result<(), ArgumentsFault>, Fail> {
-    let mut all = vec![in alloc; String::from_str(alloc, "vb_sim")?]?;
+fn arguments(alloc: Global, words: &[&str]) -> Result<(), ArgumentsFault> {
+    let mut all = Vec::new(alloc);
+    let program = String::from_str(alloc, "vb_sim")?;
+    all.push(program).map_err(AllocError::from)?;
     for word in words {
-        all.push(String::from_str(alloc, word)?)?;
+        let word = String::from_str(alloc, word)?;
+        all.push(word).map_err(AllocError::from)?;
     }
-    Ok(read_arguments(alloc, all.as_slice()))
+    read_arguments(alloc, all.as_slice())
 }
 
+/// Words that ask for nothing, neither alone nor behind `run`.
+static REFUSED: [&str; 11] = [
+    "",
+    "--",
+    "help",
+    "--help",
+    "-h",
+    "-V",
+    "--version",
+    "threads",
+    "ru",
+    "RUN",
+    "--bells",
+];
+
 #[test]
-fn command_lines(rt: HostRuntime) -> Result<(), Fail> {
-    assert_eq!(rt; arguments(rt.alloc(), &[])?, Ok(()));
-    assert_eq!(rt; arguments(rt.alloc(), &["run"])?, Ok(()));
-    let words = [
-        "",
-        "--",
-        "help",
-        "--help",
-        "-h",
-        "-V",
-        "--version",
-        "threads",
-        "ru",
-        "RUN",
-        "--bells",
-    ];
-    for word in words {
-        assert_eq!(rt;
-            arguments(rt.alloc(), &[word])?,
-            Err(ArgumentsFault::Refused)
-        );
-        assert_eq!(rt;
-            arguments(rt.alloc(), &["run", word])?,
-            Err(ArgumentsFault::Refused)
-        );
+fn command_lines(rt: HostRuntime) {
+    assert!(rt; arguments(rt.alloc(), &[]) == Ok(()));
+    assert!(rt; arguments(rt.alloc(), &["run"]) == Ok(()));
+    for word in &REFUSED {
+        assert!(rt; arguments(rt.alloc(), &[word]) == Err(ArgumentsFault::Refused));
+        assert!(rt; arguments(rt.alloc(), &["run", word]) == Err(ArgumentsFault::Refused));
     }
-    Ok(())
 }
