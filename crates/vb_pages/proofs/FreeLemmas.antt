@@ -1,23 +1,22 @@
 -- Free pages: how often each is free, before and after a call.
-use Rattle.std.proofs.Common.{◌≡◌, ℕ, zero, suc, ◌+◌, ◌-◌, ◌*◌, ◌%◌, ◌^◌, ◌<◌, ◌≤◌, ◌⊎◌, inl, inr, Bool, true, false, not, cond, List, [], ◌∷◌, ◌++◌, length, get_or, set, take, drop, map, reverse, replicate, Option, Some, None, refl, sym, ◌∙◌, ap, subst, arith, rules, length-append}
-use Rattle.std.specs.Prelude.{◌==◌, ◌||◌, ◌&&◌, count_by, nat_lt, nat_le, IsPermutation, MatchOption}
+use Rattle.std.proofs.Common.{◌≡◌, ℕ, zero, suc, ◌+◌, ◌%◌, ◌^◌, ◌<◌, ◌≤◌, inl, inr, Bool, true, false, cond, List, [], ◌∷◌, ◌++◌, length, get_or, set, take, drop, map, reverse, replicate, Option, Some, None, refl, sym, ◌∙◌, ap, subst, arith, length-append}
+use Rattle.std.specs.Prelude.{◌==◌, count_by, nat_lt, MatchOption}
 use Rattle.std.specs.List.{flat_map}
-use Rattle.std.proofs.lemmas.List.{get_or-set_same, get_or-set_other, set-set, set-get_or, set_past, length-set, length-map, length-replicate, get_or-replicate, get_or_past, take-append-drop, length-take, length-drop, length-reverse, reverse-append, nil_from_length, take_more, flat_map_more, take_all, same_lists, get_or_default, drop_all, append-nil}
-use Rattle.std.proofs.lemmas.Bool.{cases_lt, cases_eq, cases_Bool, both_ways, eq-eqb, eqb-true, ne_eqb, cond-true, cond-false, or_parts, ltb-true, lt-ltb, false_from_ne_true, or_left, or_right}
-use Rattle.std.proofs.lemmas.Nat.{pow_pos}
+use Rattle.std.proofs.lemmas.List.{get_or-set_same, get_or-set_other, set-set, set-get_or, length-set, length-map, take-append-drop, length-drop, length-reverse, reverse-append, nil_from_length, take_more, flat_map_more, take_all, same_lists, get_or_default, drop_all, append-nil}
+use Rattle.std.proofs.lemmas.Bool.{cases_eq, cases_Bool, both_ways, eq-eqb, eqb-true, ne_eqb, cond-true, cond-false, or_parts, lt-ltb, false_from_ne_true}
 use Rattle.std.proofs.lemmas.List.Sorted.{sum_by-IsPermutation, length_permutation}
 use Rattle.std.proofs.lemmas.List.Sums.{sum_by-append, sum_by-cons}
 use Rattle.std.specs.Prelude.{sum_by}
 use Rattle.vb_model.specs.Tests.{is_in, one_if}
-use Rattle.vb_model.specs.Pages.{Block, size, pages_of, covers}
+use Rattle.vb_model.specs.Pages.{pages_of, covers}
 use Rattle.vb_model.proofs.PageSteps.{covers_is}
-use Rattle.vb_pages.specs.Areas.{has, with_pages, without_pages, unreserved, block_at, IsBlock, LiesIn, HasNoBlock, IsChosen, Takes, IsMaximal, IsLowestFrom}
+use Rattle.vb_pages.specs.Areas.{has, with_pages, without_pages, unreserved, block_at, IsBlock, HasNoBlock, IsChosen, Takes, IsMaximal, IsLowestFrom}
 use Rattle.vb_pages.specs.declared.FreeBlock.{FreeBlock}
-use Rattle.vb_pages.specs.FreePages.{FreePages, in_lists, is_free, times_free, free_count, list_of, with_list, drained, TakesPages, Refills, Pops, TakesSingle, Tries, Serves, spilled, given_back, IsSound, HasRoomFor}
-use Rattle.vb_pages.proofs.Sets.{is_inside, without_parts, with_cases, with_old, with_new, length-with_pages, length-without_pages, in_block, block_bounds}
+use Rattle.vb_pages.specs.FreePages.{FreePages, in_lists, is_free, times_free, list_of, with_list, drained, TakesPages, Refills, Pops, TakesSingle, Tries, Serves, given_back, IsSound, HasRoomFor}
+use Rattle.vb_pages.proofs.Sets.{is_inside, without_parts, with_cases, with_old, with_new, length-with_pages, length-without_pages, block_bounds}
 use Rattle.vb_pages.proofs.Aligned.{aligned_down}
 use Rattle.vb_pages.proofs.AreasLemmas.{length-unreserved, count_without_block, count_zero, taken_inside}
-use Rattle.vb_pages.proofs.ListsLemmas.{times, times-cons, times-append, times-one, times_in, times_out, one_if_le, one_if_true, one_if_false, Once, with_times, with_none, with_append, with_append_turned, takes_times, takes_page_times, takes_pages_times, takes_more, no_page, page_block, covers_one}
+use Rattle.vb_pages.proofs.ListsLemmas.{times, times-append, times-one, times_out, one_if_le, Once, with_times, with_none, with_append_turned, takes_times, takes_pages_times, takes_more, no_page, page_block, covers_one}
 
 abbrev pub flat : List (List ℕ) → List ℕ
 flat lists = flat_map (λ list. list) lists
@@ -120,8 +119,8 @@ room_once f s k sound room p =
 pub block_sound : (f : FreePages) (s k : ℕ) → IsSound f → HasRoomFor f s k → IsSound (record f { areas = with_pages (pages_of (block_at s k)) f.areas })
 block_sound f s k sound room = record {
   once = λ p.
-    let e : one_if (nat_lt p (length (with_pages (pages_of (block_at s k)) f.areas))) ≡ one_if (nat_lt p (length f.areas)) = ap (λ (n : ℕ). one_if (nat_lt p n)) (length-with_pages (pages_of (block_at s k)) f.areas) in
-    omega (arith, block_times f s k sound room p, room_once f s k sound room p, e);
+      let e : one_if (nat_lt p (length (with_pages (pages_of (block_at s k)) f.areas))) ≡ one_if (nat_lt p (length f.areas)) = ap (λ (n : ℕ). one_if (nat_lt p n)) (length-with_pages (pages_of (block_at s k)) f.areas) in
+      omega (arith, block_times f s k sound room p, room_once f s k sound room p, e);
   short = sound.short;
   few = sound.few;
   small = omega (arith, sound.small, length-with_pages (pages_of (block_at s k)) f.areas);
@@ -200,12 +199,12 @@ single_sound f cpu new rest got sound l h =
     sound_from f (record { areas = new; lists = set f.lists cpu rest }) sound (single_areas f.areas new (list_of f cpu) rest got h) (length-set f.lists cpu rest)
     (λ p. omega (arith, single_times f.areas new (list_of f cpu) rest got h p, times-set p f.lists cpu rest l))
     (λ i.
-      elim (cases_eq i cpu) [
-        | inl same ↦
-            let e : get_or (set f.lists cpu rest) i nothing ≡ rest = ap (λ (n : ℕ). get_or (set f.lists cpu rest) n nothing) same ∙ get_or-set_same f.lists cpu rest nothing l in
-            omega (arith, ap length e, single_length f.areas new (list_of f cpu) rest got h (sound.short cpu))
-        | inr differ ↦ omega (arith, ap length (get_or-set_other f.lists cpu i rest nothing differ), sound.short i)
-      ])
+    elim (cases_eq i cpu) [
+      | inl same ↦
+          let e : get_or (set f.lists cpu rest) i nothing ≡ rest = ap (λ (n : ℕ). get_or (set f.lists cpu rest) n nothing) same ∙ get_or-set_same f.lists cpu rest nothing l in
+          omega (arith, ap length e, single_length f.areas new (list_of f cpu) rest got h (sound.short cpu))
+      | inr differ ↦ omega (arith, ap length (get_or-set_other f.lists cpu i rest nothing differ), sound.short i)
+    ])
 
 abbrev pub free_of : List Bool → List (List ℕ) → FreePages
 free_of areas lists = record { areas = areas; lists = lists }
@@ -277,15 +276,15 @@ module _ (areas : List Bool) (lists : List (List ℕ)) (once : Once areas (flat 
   pub next_drained : (after : List Bool) → after ≡ with_pages (get_or left i nothing) new → count_by (λ f. f) after ≡ count_by (λ f. f) new + length (get_or left i nothing) → IsDrainedSoFar areas lists (i + 1) after (set left i nothing)
   next_drained after e n = record {
     set =
-      e ∙ (ap (λ (x : List Bool). with_pages (get_or left i nothing) x) so_far.set
-      ∙ (ap (λ (xs : List ℕ). with_pages xs (with_pages (flat (take i lists)) areas)) next_is
-      ∙ (with_append_turned (get_or lists i nothing) (flat (take i lists)) areas ∙ ap (λ (xs : List ℕ). with_pages xs areas) (sym (flat_more lists i inside)))));
+        e ∙ (ap (λ (x : List Bool). with_pages (get_or left i nothing) x) so_far.set
+        ∙ (ap (λ (xs : List ℕ). with_pages xs (with_pages (flat (take i lists)) areas)) next_is
+        ∙ (with_append_turned (get_or lists i nothing) (flat (take i lists)) areas ∙ ap (λ (xs : List ℕ). with_pages xs areas) (sym (flat_more lists i inside)))));
     count = omega (arith, n, so_far.count, ap length (flat_more lists i inside), length-append (flat (take i lists)) (get_or lists i nothing), ap length next_is);
     empty = λ k h.
-      elim (cases_eq k i) [
-        | inl same ↦ ap (λ (m : ℕ). get_or (set left i nothing) m nothing) same ∙ get_or-set_same left i nothing nothing (omega (arith, so_far.long))
-        | inr differ ↦ get_or-set_other left i k nothing nothing differ ∙ so_far.empty k (omega arith)
-      ];
+        elim (cases_eq k i) [
+          | inl same ↦ ap (λ (m : ℕ). get_or (set left i nothing) m nothing) same ∙ get_or-set_same left i nothing nothing (omega (arith, so_far.long))
+          | inr differ ↦ get_or-set_other left i k nothing nothing differ ∙ so_far.empty k (omega arith)
+        ];
     rest = λ k h. get_or-set_other left i k nothing nothing (λ e. omega arith) ∙ so_far.rest k (omega arith);
     long = length-set left i nothing ∙ so_far.long;
   }
@@ -293,11 +292,12 @@ module _ (areas : List Bool) (lists : List (List ℕ)) (once : Once areas (flat 
 -- all lists are in the areas
 pub all_drained : (areas : List Bool) (lists : List (List ℕ)) (i : ℕ) (new : List Bool) (left : List (List ℕ)) → length lists ≤ i → IsDrainedSoFar areas lists i new left → (new ≡ with_pages (flat lists) areas) × (count_by (λ f. f) new ≡ count_by (λ f. f) areas + length (flat lists)) × (left ≡ map (λ (l : List ℕ). nothing) lists)
 all_drained areas lists i new left h d =
-    let all : flat (take i lists) ≡ flat lists = ap flat (take_all i lists h) in
-    (d.set ∙ ap (λ (xs : List ℕ). with_pages xs areas) all,
-    omega (arith, d.count, ap length all),
-    same_lists left (map (λ (l : List ℕ). nothing) lists) (d.long ∙ sym (length-map lists (λ (l : List ℕ). nothing))) (λ k e l.
-      get_or_default left k e nothing l ∙ (d.empty k (omega (arith, d.long)) ∙ (sym (list-empty lists k) ∙ get_or_default (map (λ (x : List ℕ). nothing) lists) k nothing e (omega (arith, d.long, length-map lists (λ (x : List ℕ). nothing)))))))
+    let all : flat (take i lists) ≡ flat lists = ap flat (take_all i lists h) in (
+      d.set ∙ ap (λ (xs : List ℕ). with_pages xs areas) all,
+      omega (arith, d.count, ap length all),
+      same_lists left (map (λ (l : List ℕ). nothing) lists) (d.long ∙ sym (length-map lists (λ (l : List ℕ). nothing))) (λ k e l.
+          get_or_default left k e nothing l ∙ (d.empty k (omega (arith, d.long)) ∙ (sym (list-empty lists k) ∙ get_or_default (map (λ (x : List ℕ). nothing) lists) k nothing e (omega (arith, d.long, length-map lists (λ (x : List ℕ). nothing)))))),
+    )
 
 -- ---- single pages, one after the other
 
@@ -328,22 +328,22 @@ takes_pages_sound f new pages sound t = areas_sound f new sound (length-takes_pa
 pub without_sound : (f : FreePages) (pages : List ℕ) → IsSound f → IsSound (free_of (without_pages pages f.areas) f.lists)
 without_sound f pages sound =
     areas_sound f (without_pages pages f.areas) sound (length-without_pages pages f.areas) (λ p.
-      elim (cases_Bool (has (without_pages pages f.areas) p)) [
-        | inl t ↦ let e : one_if (has f.areas p) ≡ 1 = ap one_if (without_parts pages f.areas p t).0 in omega (arith, e, one_if_le (has (without_pages pages f.areas) p))
-        | inr n ↦ let e : one_if (has (without_pages pages f.areas) p) ≡ 0 = ap one_if n in omega (arith, e)
-      ])
+    elim (cases_Bool (has (without_pages pages f.areas) p)) [
+      | inl t ↦ let e : one_if (has f.areas p) ≡ 1 = ap one_if (without_parts pages f.areas p t).0 in omega (arith, e, one_if_le (has (without_pages pages f.areas) p))
+      | inr n ↦ let e : one_if (has (without_pages pages f.areas) p) ≡ 0 = ap one_if n in omega (arith, e)
+    ])
 
 -- all pages are free
 pub fresh_sound : (n : ℕ) (lists : List (List ℕ)) → n ≤ 16384 → length lists ≤ 4 → flat lists ≡ [] → ((i : ℕ) → get_or lists i nothing ≡ nothing) → IsSound (free_of (unreserved n) lists)
 fresh_sound n lists small few none empty = record {
   once = λ p.
-    let e : times p (flat lists) ≡ 0 = ap (times p) none in
-    elim (cases_Bool (has (unreserved n) p)) [
-      | inl t ↦
-          let l : one_if (nat_lt p (length (unreserved n))) ≡ 1 = ap one_if (lt-ltb p (length (unreserved n)) (is_inside (unreserved n) p t)) in
-          omega (arith, e, l, one_if_le (has (unreserved n) p))
-      | inr f ↦ let z : one_if (has (unreserved n) p) ≡ 0 = ap one_if f in omega (arith, e, z)
-    ];
+      let e : times p (flat lists) ≡ 0 = ap (times p) none in
+      elim (cases_Bool (has (unreserved n) p)) [
+        | inl t ↦
+            let l : one_if (nat_lt p (length (unreserved n))) ≡ 1 = ap one_if (lt-ltb p (length (unreserved n)) (is_inside (unreserved n) p t)) in
+            omega (arith, e, l, one_if_le (has (unreserved n) p))
+        | inr f ↦ let z : one_if (has (unreserved n) p) ≡ 0 = ap one_if f in omega (arith, e, z)
+      ];
   short = λ cpu. omega (arith, ap length (empty cpu));
   few = few;
   small = omega (arith, length-unreserved n, small);
@@ -376,10 +376,10 @@ module _ (f : FreePages) (cpu s : ℕ) (sound : IsSound f) (l : cpu < length f.l
   pushed_sound short = record {
     once = longer_times;
     short = λ i.
-      elim (cases_eq i cpu) [
-        | inl same ↦ omega (arith, ap (λ (n : ℕ). length (get_or (set f.lists cpu longer) n nothing)) same, ap length (get_or-set_same f.lists cpu longer nothing l), short)
-        | inr differ ↦ omega (arith, ap length (get_or-set_other f.lists cpu i longer nothing differ), sound.short i)
-      ];
+        elim (cases_eq i cpu) [
+          | inl same ↦ omega (arith, ap (λ (n : ℕ). length (get_or (set f.lists cpu longer) n nothing)) same, ap length (get_or-set_same f.lists cpu longer nothing l), short)
+          | inr differ ↦ omega (arith, ap length (get_or-set_other f.lists cpu i longer nothing differ), sound.short i)
+        ];
     few = omega (arith, sound.few, length-set f.lists cpu longer);
     small = sound.small;
   }
@@ -396,13 +396,13 @@ module _ (f : FreePages) (cpu s : ℕ) (sound : IsSound f) (l : cpu < length f.l
   pub spilled_sound : IsSound (free_of (with_pages (take 8 longer) f.areas) (set f.lists cpu (drop 8 longer)))
   spilled_sound = record {
     once = λ p.
-      let e : one_if (nat_lt p (length (with_pages (take 8 longer) f.areas))) ≡ one_if (nat_lt p (length f.areas)) = ap (λ (n : ℕ). one_if (nat_lt p n)) (length-with_pages (take 8 longer) f.areas) in
-      omega (arith, e, with_times f.areas (take 8 longer) front_once p, longer_times p, front_times p, times-set p f.lists cpu longer l, times-set p f.lists cpu (drop 8 longer) l);
+        let e : one_if (nat_lt p (length (with_pages (take 8 longer) f.areas))) ≡ one_if (nat_lt p (length f.areas)) = ap (λ (n : ℕ). one_if (nat_lt p n)) (length-with_pages (take 8 longer) f.areas) in
+        omega (arith, e, with_times f.areas (take 8 longer) front_once p, longer_times p, front_times p, times-set p f.lists cpu longer l, times-set p f.lists cpu (drop 8 longer) l);
     short = λ i.
-      elim (cases_eq i cpu) [
-        | inl same ↦ omega (arith, ap (λ (n : ℕ). length (get_or (set f.lists cpu (drop 8 longer)) n nothing)) same, ap length (get_or-set_same f.lists cpu (drop 8 longer) nothing l), length-drop 8 longer, longer_length, sound.short cpu)
-        | inr differ ↦ omega (arith, ap length (get_or-set_other f.lists cpu i (drop 8 longer) nothing differ), sound.short i)
-      ];
+        elim (cases_eq i cpu) [
+          | inl same ↦ omega (arith, ap (λ (n : ℕ). length (get_or (set f.lists cpu (drop 8 longer)) n nothing)) same, ap length (get_or-set_same f.lists cpu (drop 8 longer) nothing l), length-drop 8 longer, longer_length, sound.short cpu)
+          | inr differ ↦ omega (arith, ap length (get_or-set_other f.lists cpu i (drop 8 longer) nothing differ), sound.short i)
+        ];
     few = omega (arith, sound.few, length-set f.lists cpu (drop 8 longer));
     small = omega (arith, sound.small, length-with_pages (take 8 longer) f.areas);
   }
@@ -470,12 +470,12 @@ rows_back n ys xs e l =
 pub all_nothing : (ys xs : List (List ℕ)) → length ys ≡ length xs → ((k : ℕ) → k < length xs → get_or ys k nothing ≡ nothing) → ys ≡ map (λ (l : List ℕ). nothing) xs
 all_nothing ys xs l h =
     same_lists ys (map (λ (x : List ℕ). nothing) xs) (l ∙ sym (length-map xs (λ (x : List ℕ). nothing))) (λ k e b.
-      get_or_default ys k e nothing b ∙ (h k (omega (arith, l)) ∙ (sym (list-empty xs k) ∙ get_or_default (map (λ (x : List ℕ). nothing) xs) k nothing e (omega (arith, l, length-map xs (λ (x : List ℕ). nothing))))))
+    get_or_default ys k e nothing b ∙ (h k (omega (arith, l)) ∙ (sym (list-empty xs k) ∙ get_or_default (map (λ (x : List ℕ). nothing) xs) k nothing e (omega (arith, l, length-map xs (λ (x : List ℕ). nothing))))))
 
 pub isolated_sound : (f : FreePages) (new : List Bool) (order from : ℕ) (got : Option FreeBlock) → IsSound f
     → MatchOption got
-      (((start larger : ℕ) → order ≤ larger → from ≤ start → IsMaximal f.areas (block_at start larger) → ⊥) × (new ≡ f.areas))
-      (λ b. IsLowestFrom f.areas order from (block_at b.start b.order) × (new ≡ without_pages (pages_of (block_at b.start b.order)) f.areas))
+    (((start larger : ℕ) → order ≤ larger → from ≤ start → IsMaximal f.areas (block_at start larger) → ⊥) × (new ≡ f.areas))
+    (λ b. IsLowestFrom f.areas order from (block_at b.start b.order) × (new ≡ without_pages (pages_of (block_at b.start b.order)) f.areas))
     → IsSound (free_of new f.lists)
 isolated_sound f new order from None sound h = subst (λ (x : List Bool). IsSound (free_of x f.lists)) (sym h.1) sound
 isolated_sound f new order from (Some b) sound h = subst (λ (x : List Bool). IsSound (free_of x f.lists)) (sym h.1) (without_sound f (pages_of (block_at b.start b.order)) sound)

@@ -1,17 +1,16 @@
 -- Held blocks in a table.
-use Rattle.std.proofs.Common.{◌≡◌, ◌≢◌, ℕ, zero, suc, ◌+◌, ◌-◌, ◌%◌, ◌^◌, ◌<◌, ◌≤◌, ◌⊎◌, inl, inr, Bool, true, false, cond, List, [], ◌∷◌, length, get_or, set, replicate, Option, Some, None, refl, sym, ◌∙◌, ap, subst, arith, rules}
-use Rattle.std.specs.Prelude.{◌==◌, ◌&&◌, ◌||◌, nat_lt, nat_le}
+use Rattle.std.proofs.Common.{◌≡◌, ℕ, zero, suc, ◌+◌, ◌-◌, ◌%◌, ◌^◌, ◌<◌, ◌≤◌, inl, inr, Bool, true, false, List, [], ◌∷◌, length, set, replicate, Option, Some, None, refl, sym, ◌∙◌, ap, arith}
+use Rattle.std.specs.Prelude.{◌==◌, nat_lt, nat_le}
 use Rattle.std.specs.List.{list_any}
-use Rattle.std.proofs.lemmas.List.{get_or-set_same, get_or-set_other, get_or-replicate, length-set, length-replicate, get_or_past}
-use Rattle.std.proofs.lemmas.Bool.{cases_lt, cases_eq, cases_Bool, both_ways, or_cases, or_left, or_right, and_parts, and_from, eqb-true, eq-eqb, ne_eqb, ltb-true, lt-ltb, le-ltb, le-leb, leb-true, cond-true, cond-false, and_left, false_from_ne_true}
+use Rattle.std.proofs.lemmas.List.{get_or-set_same, get_or-set_other, get_or-replicate, length-replicate}
+use Rattle.std.proofs.lemmas.Bool.{cases_eq, both_ways, or_cases, or_left, or_right, and_parts, and_from, eqb-true, eq-eqb, ne_eqb, ltb-true, lt-ltb, le-ltb, le-leb, leb-true, cond-true, cond-false, and_left, false_from_ne_true}
 use Rattle.std.proofs.lemmas.Nat.{pow_pos}
-use Rattle.vb_model.specs.Pages.{Block, size, covers, is_same_block}
+use Rattle.vb_model.specs.Pages.{Block, covers, is_same_block}
 use Rattle.vb_model.specs.Driver.{with_block, without_block}
 use Rattle.vb_pages.specs.Table.{order_at}
 use Rattle.vb_pages.specs.Areas.{block_at, IsBlock}
 use Rattle.vb_pages.specs.Held.{HeldBlocks, blocks_from, blocks_of, IsAligned}
 use Rattle.vb_pages.proofs.Aligned.{aligned_same, floor_aligned}
-use Rattle.vb_pages.proofs.Sets.{same_bool}
 use Rattle.vb_pages.proofs.TableLemmas.{is_there}
 
 moved : (f i : ℕ) → suc f + i ≡ f + suc i
@@ -131,14 +130,14 @@ covers_found p k t e = let pos : 0 < 2 ^ k = pow_pos k in at_covers p (p - p % 2
 pub covers_not_found : (p : ℕ) (t : List (Option ℕ)) → IsAligned t → ((k : ℕ) → k < 10 → order_at t (p - p % 2 ^ k) ≡ Some k → ⊥) → list_any (covers p) (blocks_of t) ≡ false
 covers_not_found p t aligned none =
     false_from_ne_true (list_any (covers p) (blocks_of t)) (λ h.
-      let q = covers_at p t h in
-      let k = q.1 in
-      let pos : 0 < 2 ^ k = pow_pos k in
-      let low : p - p % 2 ^ k ≤ p = omega arith in
-      let high : p < (p - p % 2 ^ k) + 2 ^ k = omega arith in
-      let same : p - p % 2 ^ k ≡ q.0 = aligned_same (p - p % 2 ^ k) q.0 (2 ^ k) p (floor_aligned p (2 ^ k) pos) (aligned.aligned q.0 k q.2) low high q.3 q.4 in
-      let nine : k ≤ 9 = aligned.bounded q.0 k q.2 in
-      none k (omega arith) (ap (order_at t) same ∙ q.2))
+    let q = covers_at p t h in
+    let k = q.1 in
+    let pos : 0 < 2 ^ k = pow_pos k in
+    let low : p - p % 2 ^ k ≤ p = omega arith in
+    let high : p < (p - p % 2 ^ k) + 2 ^ k = omega arith in
+    let same : p - p % 2 ^ k ≡ q.0 = aligned_same (p - p % 2 ^ k) q.0 (2 ^ k) p (floor_aligned p (2 ^ k) pos) (aligned.aligned q.0 k q.2) low high q.3 q.4 in
+    let nine : k ≤ 9 = aligned.bounded q.0 k q.2 in
+    none k (omega arith) (ap (order_at t) same ∙ q.2))
 
 pub with_aligned : (s k : ℕ) (t : List (Option ℕ)) → s < length t → IsBlock (block_at s k) → IsAligned t → IsAligned (set t s (Some k))
 with_aligned s k t l b h = record { bounded = λ r j e. (both r j e).0; aligned = λ r j e. (both r j e).1 }

@@ -1,17 +1,15 @@
 -- Pages that move between a list and the areas: how often each is there.
-use Rattle.std.proofs.Common.{◌≡◌, ℕ, zero, suc, ◌+◌, ◌-◌, ◌%◌, ◌^◌, ◌<◌, ◌≤◌, ◌⊎◌, inl, inr, Bool, true, false, not, List, [], ◌∷◌, ◌++◌, length, Option, Some, None, refl, sym, ◌∙◌, ap, subst, arith, rules, length-append}
-use Rattle.std.specs.Prelude.{◌==◌, ◌||◌, ◌&&◌, count_by, nat_lt, nat_le}
-use Rattle.std.specs.List.{list_any}
+use Rattle.std.proofs.Common.{◌≡◌, ℕ, ◌+◌, ◌%◌, ◌^◌, ◌<◌, ◌≤◌, inl, inr, Bool, true, false, List, [], ◌∷◌, ◌++◌, length, Some, refl, sym, ◌∙◌, ap, subst, arith, length-append}
+use Rattle.std.specs.Prelude.{◌==◌, count_by, nat_lt}
 use Rattle.std.proofs.lemmas.List.Folds.{list_any-append}
-use Rattle.std.proofs.lemmas.Bool.{cases_lt, cases_eq, cases_Bool, both_ways, or_cases, or_parts, or_left, or_right, eqb-true, eq-eqb, ne_eqb, ltb-true, lt-ltb, false_from_ne_true}
-use Rattle.std.proofs.lemmas.Nat.{pow_pos}
+use Rattle.std.proofs.lemmas.Bool.{cases_Bool, both_ways, or_cases, or_parts, or_left, or_right, eqb-true, eq-eqb, ltb-true, false_from_ne_true}
 use Rattle.vb_model.specs.Tests.{is_in, one_if}
-use Rattle.vb_model.specs.Pages.{Block, size, pages_of, covers}
+use Rattle.vb_model.specs.Pages.{pages_of, covers}
 use Rattle.vb_model.proofs.Tables.{count_by-cons, count_by-append}
 use Rattle.vb_model.proofs.PageSteps.{covers_is}
-use Rattle.vb_pages.specs.Areas.{has, with_pages, without_pages, block_at, IsBlock, LiesIn, HasNoBlock, IsChosen, Takes}
+use Rattle.vb_pages.specs.Areas.{has, with_pages, without_pages, block_at, IsBlock, HasNoBlock, Takes}
 use Rattle.vb_pages.specs.FreePages.{TakesPages}
-use Rattle.vb_pages.proofs.Sets.{is_inside, with_union, with_cases, with_old, with_new, has-with_pages, without_parts, without_old, length-with_pages, count_one, same_sets, in_block, block_bounds}
+use Rattle.vb_pages.proofs.Sets.{with_union, with_cases, with_old, with_new, without_parts, without_old, length-with_pages, count_one, same_sets, in_block, block_bounds}
 use Rattle.vb_pages.proofs.AreasLemmas.{taken_inside}
 
 -- how often a page is in a list
@@ -91,7 +89,7 @@ with_times set xs once p =
                 omega (arith, h, o, n)
             | inr not_was ↦
                 let none : has (with_pages xs set) p ≡ false =
-                    false_from_ne_true (has (with_pages xs set) p) (λ e. elim (with_cases xs set p e) [ inl old ↦ both_ways (has set p) not_was old | inr new ↦ both_ways (is_in p xs) f new ]) in
+                false_from_ne_true (has (with_pages xs set) p) (λ e. elim (with_cases xs set p e) [ inl old ↦ both_ways (has set p) not_was old | inr new ↦ both_ways (is_in p xs) f new ]) in
                 let h : one_if (has (with_pages xs set) p) ≡ 0 = ap one_if none in
                 let o : one_if (has set p) ≡ 0 = ap one_if not_was in
                 omega (arith, h, o, n)
@@ -168,9 +166,9 @@ covers_one s p =
       | inl e ↦ let q : s ≡ p = eqb-true s p e in ap one_if (covers_is p (block_at s 0) true (in_block s 0 p (omega arith) (omega arith)) ∙ sym e)
       | inr n ↦
           ap one_if (covers_is p (block_at s 0) false (false_from_ne_true (is_in p (pages_of (block_at s 0))) (λ i.
-            let b = block_bounds s 0 p i in
-            let q : s ≡ p = omega (arith, b.0, b.1) in
-            both_ways (s == p) n (eq-eqb s p q))) ∙ sym n)
+          let b = block_bounds s 0 p i in
+          let q : s ≡ p = omega (arith, b.0, b.1) in
+          both_ways (s == p) n (eq-eqb s p q))) ∙ sym n)
     ]
 
 pub takes_page_times : (set new : List Bool) (s : ℕ) → Takes set 0 (Some s) new → (p : ℕ) → one_if (has new p) + one_if (s == p) ≡ one_if (has set p)

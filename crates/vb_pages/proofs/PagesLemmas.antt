@@ -1,23 +1,23 @@
 -- Each page is free or held at most once, before and after a call.
-use Rattle.std.proofs.Common.{◌≡◌, ℕ, zero, suc, ◌+◌, ◌-◌, ◌^◌, ◌<◌, ◌≤◌, ◌⊎◌, inl, inr, Bool, true, false, not, cond, List, [], ◌∷◌, ◌++◌, length, get_or, map, replicate, Option, Some, None, MatchOption, IfSome, refl, sym, ◌∙◌, ap, subst, arith, rules}
-use Rattle.std.specs.Prelude.{◌==◌, ◌||◌, ◌&&◌, count_by, nat_lt, nat_le}
+use Rattle.std.proofs.Common.{◌≡◌, ℕ, ◌+◌, ◌-◌, ◌^◌, ◌<◌, ◌≤◌, inl, inr, Bool, true, false, not, cond, List, [], ◌∷◌, length, map, replicate, Option, Some, None, MatchOption, IfSome, refl, sym, ◌∙◌, ap, subst, arith}
+use Rattle.std.specs.Prelude.{◌||◌, ◌&&◌, count_by, nat_lt, nat_le}
 use Rattle.std.specs.List.{list_any}
-use Rattle.std.proofs.lemmas.Bool.{cases_lt, cases_eq, cases_Bool, both_ways, or_cases, or_parts, or_left, or_right, and_parts, and_from, and_left, and_right, not_from_true, not_from_false, le-leb, leb-true, lt-ltb, ltb-true, false_from_ne_true}
+use Rattle.std.proofs.lemmas.Bool.{cases_lt, cases_Bool, both_ways, or_cases, or_parts, or_right, and_parts, and_from, and_right, not_from_true, not_from_false, le-leb, leb-true, lt-ltb, ltb-true, false_from_ne_true}
 use Rattle.std.proofs.lemmas.Nat.{pow_pos}
 use Rattle.vb_model.specs.Tests.{is_in, one_if}
-use Rattle.vb_model.specs.Pages.{Block, size, pages_of, covers, is_same_block}
+use Rattle.vb_model.specs.Pages.{Block, pages_of, covers, is_same_block}
 use Rattle.vb_model.specs.Driver.{with_block, without_block}
 use Rattle.vb_model.proofs.Tables.{count_by-cons}
 use Rattle.vb_model.proofs.PageSteps.{count-without_block}
 use Rattle.vb_pages.specs.declared.FreeBlock.{FreeBlock}
-use Rattle.vb_pages.specs.Areas.{has, with_pages, without_pages, unreserved, block_at, IsBlock, LiesIn, HasNoBlock, IsMaximal, IsLowestFrom}
+use Rattle.vb_pages.specs.Areas.{has, with_pages, without_pages, unreserved, block_at, IsBlock, LiesIn, IsMaximal, IsLowestFrom}
 use Rattle.vb_pages.specs.FreePages.{FreePages, in_lists, is_free, times_free, drained, TakesPages, Tries, Serves, given_back, IsSound, HasRoomFor}
 use Rattle.vb_pages.specs.Held.{HeldBlocks}
-use Rattle.vb_pages.specs.PageState.{PageState, page_count, is_free_page, is_held_page, is_unreserved, IsWhollyFree, IsApart, IsKept, HasRoomIn}
+use Rattle.vb_pages.specs.PageState.{PageState, is_unreserved, IsKept, HasRoomIn}
 use Rattle.vb_pages.proofs.Sets.{is_inside, length-with_pages, length-without_pages, same_bool, without_parts, without_old, in_block, not_in_block}
 use Rattle.vb_pages.proofs.AreasLemmas.{length-unreserved, has-unreserved}
-use Rattle.vb_pages.proofs.ListsLemmas.{times, times_in, times_out, one_if_le, one_if_true, one_if_false, takes_pages_times, page_block}
-use Rattle.vb_pages.proofs.FreeLemmas.{free_of, flat, flat-empty, flat-replicate, nothing, drained_times, serves_times, serves_length, tries_none, given_times, given_length, block_times, length-takes_pages}
+use Rattle.vb_pages.proofs.ListsLemmas.{times, times_in, times_out, one_if_le, one_if_true, takes_pages_times, page_block}
+use Rattle.vb_pages.proofs.FreeLemmas.{free_of, flat, flat-empty, nothing, drained_times, serves_times, serves_length, tries_none, given_times, given_length, block_times, length-takes_pages}
 use Rattle.vb_pages.proofs.HeldLemmas.{held_of}
 
 -- ---- blocks that cover a page
@@ -36,6 +36,7 @@ count_none test (b ∷ bs) h = step (test b) refl (count_none test bs)
   where
     all : count_by test (b ∷ bs) ≡ one_if (test b) + count_by test bs
     all = count_by-cons test b bs
+
     step : (v : Bool) → test b ≡ v → (count_by test bs ≤ 0 → list_any test bs ≡ false) → (v || list_any test bs) ≡ false
     step true e ih = let o : one_if (test b) ≡ 1 = ap one_if e in absurd (omega (arith, all, o))
     step false e ih = ih (omega (arith, all))
@@ -163,9 +164,9 @@ module _ (f g : FreePages) (h : HeldBlocks) (cpu order s : ℕ) (sound : IsSound
 pub none_free : (f : FreePages) (h : HeldBlocks) (cpu order : ℕ) → IsSound f → IsKept f h → Tries (drained f) cpu order None (drained f) → (s : ℕ) → IsBlock (block_at s order) → ((p : ℕ) → covers p (block_at s order) ≡ true → is_free f p ≡ true) → ⊥
 none_free f h cpu order sound kept t s b free =
     (tries_none (drained f) (drained f) cpu order t).1 s b (λ p a e.
-      let some = some_free f p (free p (bounds_cover p s order a e)) in
-      let none : times p (in_lists (drained f)) ≡ 0 = ap (times p) (flat-empty f.lists) in
-      one_if_true (has (drained f).areas p) (omega (arith, some, none, drained_times f sound p)))
+    let some = some_free f p (free p (bounds_cover p s order a e)) in
+    let none : times p (in_lists (drained f)) ≡ 0 = ap (times p) (flat-empty f.lists) in
+    one_if_true (has (drained f).areas p) (omega (arith, some, none, drained_times f sound p)))
 
 -- a held block comes back
 module _ (f : FreePages) (h : HeldBlocks) (s k : ℕ) (kept : IsKept f h) (held : list_any (λ x. is_same_block x (block_at s k)) h.blocks ≡ true) (block : IsBlock (block_at s k)) where
@@ -177,10 +178,13 @@ module _ (f : FreePages) (h : HeldBlocks) (s k : ℕ) (kept : IsKept f h) (held 
       let pos : 0 < 2 ^ k = pow_pos k in
       let last : covers (s + 2 ^ k - 1) (block_at s k) ≡ true = bounds_cover (s + 2 ^ k - 1) s k (omega arith) (omega arith) in
       let o : one_if (covers (s + 2 ^ k - 1) (block_at s k)) ≡ 1 = ap one_if last in
-      let q = unreserved_below f h.blocks (s + 2 ^ k - 1) (omega (arith, kept.apart (s + 2 ^ k - 1), held_count (s + 2 ^ k - 1), o)) in
-      (block, omega (arith, q.1), λ p a e.
-        let c : one_if (covers p (block_at s k)) ≡ 1 = ap one_if (bounds_cover p s k a e) in
-        free_none f p (omega (arith, kept.apart p, held_count p, c, one_if_le (is_unreserved (record { free = f; held = h.blocks }) p))))
+      let q = unreserved_below f h.blocks (s + 2 ^ k - 1) (omega (arith, kept.apart (s + 2 ^ k - 1), held_count (s + 2 ^ k - 1), o)) in (
+        block,
+        omega (arith, q.1),
+        λ p a e.
+            let c : one_if (covers p (block_at s k)) ≡ 1 = ap one_if (bounds_cover p s k a e) in
+            free_none f p (omega (arith, kept.apart p, held_count p, c, one_if_le (is_unreserved (record { free = f; held = h.blocks }) p))),
+      )
 
   pub back_kept : (cpu : ℕ) → IsSound f → cpu < length f.lists → IsKept (given_back cpu s k f) (held_of h.pages (without_block (block_at s k) h.blocks))
   back_kept cpu sound l = kept_times f (given_back cpu s k f) h (without_block (block_at s k) h.blocks) kept (given_length f cpu s k sound l back_room) (λ p. omega (arith, given_times f cpu s k sound l back_room p, held_count p))
@@ -192,24 +196,24 @@ room_for f h s k room = (room.0, room.2, λ p a e. (room.3 p a e).0)
 pub given_kept : (f : FreePages) (h : HeldBlocks) (s k : ℕ) → IsSound f → IsKept f h → HasRoomIn (record { free = f; held = h.blocks }) (block_at s k) → IsKept (free_of (with_pages (pages_of (block_at s k)) f.areas) f.lists) h
 given_kept f h s k sound kept room = record {
   apart = λ p.
-    let r = same_room f (free_of (with_pages (pages_of (block_at s k)) f.areas) f.lists) h.blocks h.blocks p (length-with_pages (pages_of (block_at s k)) f.areas) in
-    let t = block_times f s k sound (room_for f h s k room) p in
-    elim (cases_Bool (covers p (block_at s k))) [
-      | inl c ↦
-          let b = covers_bounds p s k c in
-          let o : one_if (covers p (block_at s k)) ≡ 1 = ap one_if c in
-          let free : times_free f p ≤ 0 =
-              elim (cases_lt 0 (times_free f p)) [
-                | inl some ↦ absurd (both_ways (is_free f p) (room.3 p b.0 b.1).0 (free_some f p some))
-                | inr no_times ↦ no_times
-              ] in
-          let held : count_by (covers p) h.blocks ≡ 0 = none_count (covers p) h.blocks (room.3 p b.0 b.1).1 in
-          let u : one_if (is_unreserved (record { free = f; held = h.blocks }) p) ≡ 1 = ap one_if (and_from (nat_le 16 p) (nat_lt p (length f.areas)) (le-leb 16 p (omega (arith, room.1, b.0))) (lt-ltb p (length f.areas) (omega (arith, room.2, b.1)))) in
-          omega (arith, r, t, o, free, held, u)
-      | inr n ↦
-          let o : one_if (covers p (block_at s k)) ≡ 0 = ap one_if n in
-          omega (arith, r, t, o, kept.apart p)
-    ];
+      let r = same_room f (free_of (with_pages (pages_of (block_at s k)) f.areas) f.lists) h.blocks h.blocks p (length-with_pages (pages_of (block_at s k)) f.areas) in
+      let t = block_times f s k sound (room_for f h s k room) p in
+      elim (cases_Bool (covers p (block_at s k))) [
+        | inl c ↦
+            let b = covers_bounds p s k c in
+            let o : one_if (covers p (block_at s k)) ≡ 1 = ap one_if c in
+            let free : times_free f p ≤ 0 =
+            elim (cases_lt 0 (times_free f p)) [
+              | inl some ↦ absurd (both_ways (is_free f p) (room.3 p b.0 b.1).0 (free_some f p some))
+              | inr no_times ↦ no_times
+            ] in
+            let held : count_by (covers p) h.blocks ≡ 0 = none_count (covers p) h.blocks (room.3 p b.0 b.1).1 in
+            let u : one_if (is_unreserved (record { free = f; held = h.blocks }) p) ≡ 1 = ap one_if (and_from (nat_le 16 p) (nat_lt p (length f.areas)) (le-leb 16 p (omega (arith, room.1, b.0))) (lt-ltb p (length f.areas) (omega (arith, room.2, b.1)))) in
+            omega (arith, r, t, o, free, held, u)
+        | inr n ↦
+            let o : one_if (covers p (block_at s k)) ≡ 0 = ap one_if n in
+            omega (arith, r, t, o, kept.apart p)
+      ];
   pages = kept.pages ∙ sym (length-with_pages (pages_of (block_at s k)) f.areas);
 }
 
@@ -217,15 +221,15 @@ given_kept f h s k sound kept room = record {
 pub fresh_kept : (n : ℕ) (lists : List (List ℕ)) → flat lists ≡ [] → IsKept (free_of (unreserved n) lists) (held_of n [])
 fresh_kept n lists none = record {
   apart = λ p.
-    let e : times p (flat lists) ≡ 0 = ap (times p) none in
-    elim (cases_Bool (has (unreserved n) p)) [
-      | inl t ↦
-          let l : p < n = omega (arith, is_inside (unreserved n) p t, length-unreserved n) in
-          let a : nat_le 16 p ≡ true = sym (has-unreserved n p l) ∙ t in
-          let u : one_if (nat_le 16 p && nat_lt p (length (unreserved n))) ≡ 1 = ap one_if (and_from (nat_le 16 p) (nat_lt p (length (unreserved n))) a (lt-ltb p (length (unreserved n)) (is_inside (unreserved n) p t))) in
-          omega (arith, e, u, one_if_le (has (unreserved n) p))
-      | inr f ↦ let z : one_if (has (unreserved n) p) ≡ 0 = ap one_if f in omega (arith, e, z)
-    ];
+      let e : times p (flat lists) ≡ 0 = ap (times p) none in
+      elim (cases_Bool (has (unreserved n) p)) [
+        | inl t ↦
+            let l : p < n = omega (arith, is_inside (unreserved n) p t, length-unreserved n) in
+            let a : nat_le 16 p ≡ true = sym (has-unreserved n p l) ∙ t in
+            let u : one_if (nat_le 16 p && nat_lt p (length (unreserved n))) ≡ 1 = ap one_if (and_from (nat_le 16 p) (nat_lt p (length (unreserved n))) a (lt-ltb p (length (unreserved n)) (is_inside (unreserved n) p t))) in
+            omega (arith, e, u, one_if_le (has (unreserved n) p))
+        | inr f ↦ let z : one_if (has (unreserved n) p) ≡ 0 = ap one_if f in omega (arith, e, z)
+      ];
   pages = sym (length-unreserved n);
 }
 
@@ -254,14 +258,14 @@ without_times set s k p inside =
           let o : one_if (covers p (block_at s k)) ≡ 1 = ap one_if c in
           let h : one_if (has set p) ≡ 1 = ap one_if (inside p b.0 b.1) in
           let gone : has (without_pages (pages_of (block_at s k)) set) p ≡ false =
-              false_from_ne_true (has (without_pages (pages_of (block_at s k)) set) p) (λ w. both_ways (is_in p (pages_of (block_at s k))) (without_parts (pages_of (block_at s k)) set p w).1 (in_block s k p b.0 b.1)) in
+          false_from_ne_true (has (without_pages (pages_of (block_at s k)) set) p) (λ w. both_ways (is_in p (pages_of (block_at s k))) (without_parts (pages_of (block_at s k)) set p w).1 (in_block s k p b.0 b.1)) in
           let n : one_if (has (without_pages (pages_of (block_at s k)) set) p) ≡ 0 = ap one_if gone in
           omega (arith, o, h, n)
       | inr c ↦
           let o : one_if (covers p (block_at s k)) ≡ 0 = ap one_if c in
           let out : is_in p (pages_of (block_at s k)) ≡ false = not_in_block s k p (λ a e. both_ways (covers p (block_at s k)) c (bounds_cover p s k a e)) in
           let same : has (without_pages (pages_of (block_at s k)) set) p ≡ has set p =
-              same_bool (has (without_pages (pages_of (block_at s k)) set) p) (has set p) (λ w. (without_parts (pages_of (block_at s k)) set p w).0) (λ w. without_old (pages_of (block_at s k)) set p w out) in
+          same_bool (has (without_pages (pages_of (block_at s k)) set) p) (has set p) (λ w. (without_parts (pages_of (block_at s k)) set p w).0) (λ w. without_old (pages_of (block_at s k)) set p w out) in
           omega (arith, o, ap one_if same)
     ]
 
@@ -323,10 +327,14 @@ room_of : (f new : FreePages) (h : HeldBlocks) (s k : ℕ) → IsKept f h → le
 room_of f new h s k kept l block less =
     let pos : 0 < 2 ^ k = pow_pos k in
     let first = unreserved_below f h.blocks s (omega (arith, kept.apart s, less s (omega arith) (omega arith))) in
-    let last = unreserved_below f h.blocks (s + 2 ^ k - 1) (omega (arith, kept.apart (s + 2 ^ k - 1), less (s + 2 ^ k - 1) (omega arith) (omega arith))) in
-    (block, first.0, omega (arith, last.1, l), λ p a e.
-      let most = one_if_le (is_unreserved (record { free = f; held = h.blocks }) p) in
-      (free_none new p (omega (arith, kept.apart p, less p a e, most)), count_none (covers p) h.blocks (omega (arith, kept.apart p, less p a e, most))))
+    let last = unreserved_below f h.blocks (s + 2 ^ k - 1) (omega (arith, kept.apart (s + 2 ^ k - 1), less (s + 2 ^ k - 1) (omega arith) (omega arith))) in (
+      block,
+      first.0,
+      omega (arith, last.1, l),
+      λ p a e.
+          let most = one_if_le (is_unreserved (record { free = f; held = h.blocks }) p) in
+          (free_none new p (omega (arith, kept.apart p, less p a e, most)), count_none (covers p) h.blocks (omega (arith, kept.apart p, less p a e, most))),
+    )
 
 pub isolated_room : (f new : FreePages) (h : HeldBlocks) (order from : ℕ) (got : Option FreeBlock) → IsSound f → IsKept f h → IsolatesFrom f order from got new → IfSome got (λ b. HasRoomIn (state_of new h.blocks) (block_at b.start b.order))
 isolated_room f new h order from None sound kept i = tt
@@ -335,12 +343,12 @@ isolated_room f new h order from (Some b) sound kept i =
     (ap (λ (x : FreePages). length x.areas) i.1 ∙ (length-without_pages (pages_of (block_at b.start b.order)) (drained f).areas ∙ length-with_pages (in_lists f) f.areas))
     i.0.maximal.is_block
     (λ p a e.
-      let o : one_if (covers p (block_at b.start b.order)) ≡ 1 = ap one_if (bounds_cover p b.start b.order a e) in
-      omega (arith, o, isolated_times f new order from b sound i p))
+    let o : one_if (covers p (block_at b.start b.order)) ≡ 1 = ap one_if (bounds_cover p b.start b.order a e) in
+    omega (arith, o, isolated_times f new order from b sound i p))
 
 pub singles_room : (f new : FreePages) (h : HeldBlocks) (pages : List ℕ) → IsSound f → IsKept f h → TakesPages (drained f).areas pages new.areas → new.lists ≡ (drained f).lists → (p : ℕ) → is_in p pages ≡ true → HasRoomIn (state_of new h.blocks) (block_at p 0)
 singles_room f new h pages sound kept t l p i =
     room_of f new h p 0 kept (length-takes_pages (drained f).areas new.areas pages t ∙ length-with_pages (in_lists f) f.areas) (page_block p) (λ q a e.
-      let same : q ≡ p = omega arith in
-      let some : 1 ≤ times q pages = times_in q pages (ap (λ (n : ℕ). is_in n pages) same ∙ i) in
-      omega (arith, some, singles_times f new pages sound t l q))
+    let same : q ≡ p = omega arith in
+    let some : 1 ≤ times q pages = times_in q pages (ap (λ (n : ℕ). is_in n pages) same ∙ i) in
+    omega (arith, some, singles_times f new pages sound t l q))

@@ -1,12 +1,12 @@
 -- Sets of pages.
-use Rattle.std.proofs.Common.{◌≡◌, ℕ, zero, suc, ◌+◌, ◌-◌, ◌^◌, ◌<◌, ◌≤◌, ◌⊎◌, inl, inr, Bool, true, false, not, ◌&&◌, ◌||◌, List, [], ◌∷◌, length, get_or, refl, sym, ◌∙◌, ap, arith, rules}
-use Rattle.std.specs.List.{list_any, range_with_len}
+use Rattle.std.proofs.Common.{◌≡◌, ℕ, zero, suc, ◌+◌, ◌-◌, ◌^◌, ◌<◌, ◌≤◌, ◌⊎◌, inl, inr, Bool, true, false, not, ◌&&◌, ◌||◌, List, [], ◌∷◌, length, get_or, refl, sym, ◌∙◌, ap, arith}
+use Rattle.std.specs.List.{range_with_len}
 use Rattle.std.specs.Prelude.{◌==◌, count_by, slice_set as put}
 use Rattle.std.proofs.lemmas.Nat.{pow_pos}
 use Rattle.std.proofs.lemmas.List.{same_lists, get_or_default, get_or_past, get_or-set_same, get_or-set_other, length-set}
 use Rattle.std.proofs.lemmas.Bool.{cases_lt, cases_eq, cases_Bool, eq-eqb, ne_eqb, or_from, and_right, not_from_true, both_ways, or_cases, or_left, or_right, and_parts, and_from, not-true, not_from_false, false_from_ne_true}
-use Rattle.vb_model.specs.Tests.{is_in, each_page, one_if}
-use Rattle.vb_model.specs.Pages.{Block, size, pages_of}
+use Rattle.vb_model.specs.Tests.{is_in, one_if}
+use Rattle.vb_model.specs.Pages.{pages_of}
 use Rattle.vb_model.proofs.Tables.{length-each_from, each_page-get, count_by-cons}
 use Rattle.vb_model.proofs.PageSteps.{is_in-range, outside-range}
 use Rattle.vb_pages.proofs.Aligned.{pow_twice}
@@ -26,7 +26,7 @@ is_inside set p h =
 pub same_sets : (a b : List Bool) → length a ≡ length b → ((p : ℕ) → has a p ≡ true → has b p ≡ true) → ((p : ℕ) → has b p ≡ true → has a p ≡ true) → a ≡ b
 same_sets a b l f g =
     same_lists a b l (λ k d h.
-      get_or_default a k d false h ∙ (same_bool (has a k) (has b k) (f k) (g k) ∙ sym (get_or_default b k d false (omega (arith, l)))))
+    get_or_default a k d false h ∙ (same_bool (has a k) (has b k) (f k) (g k) ∙ sym (get_or_default b k d false (omega (arith, l)))))
 
 -- ---- pages that come and go
 
@@ -93,6 +93,7 @@ with_union ps qs rs set split left right =
           | inl old ↦ elim (with_cases qs set p old) [ inl older ↦ with_old rs set p older | inr new ↦ with_new rs set p l (right p new) ]
           | inr new ↦ with_new rs set p l (left p new)
         ]
+
     from : (p : ℕ) → has (with_pages rs set) p ≡ true → has (with_pages ps (with_pages qs set)) p ≡ true
     from p h =
         let l : p < length set = omega (arith, is_inside (with_pages rs set) p h, length-with_pages rs set) in
@@ -111,6 +112,7 @@ with_without ps set inside =
   where
     to : (p : ℕ) → has (with_pages ps (without_pages ps set)) p ≡ true → has set p ≡ true
     to p h = elim (with_cases ps (without_pages ps set) p h) [ inl old ↦ (without_parts ps set p old).0 | inr new ↦ inside p new ]
+
     from : (p : ℕ) → has set p ≡ true → has (with_pages ps (without_pages ps set)) p ≡ true
     from p h =
         elim (cases_Bool (is_in p ps)) [
@@ -126,6 +128,7 @@ without_with ps set outside =
     to p h =
         let q = without_parts ps (with_pages ps set) p h in
         elim (with_cases ps set p q.0) [ inl old ↦ old | inr new ↦ absurd (both_ways (is_in p ps) q.1 new) ]
+
     from : (p : ℕ) → has set p ≡ true → has (without_pages ps (with_pages ps set)) p ≡ true
     from p h =
         elim (cases_Bool (is_in p ps)) [
@@ -139,11 +142,11 @@ halves s k set =
     let twice : 2 ^ suc k ≡ 2 ^ k + 2 ^ k = pow_twice k in
     with_union (pages_of (block_at s k)) (pages_of (block_at (s + 2 ^ k) k)) (pages_of (block_at s (suc k))) set
     (λ p h.
-      let b = block_bounds s (suc k) p h in
-      elim (cases_lt p (s + 2 ^ k)) [
-        | inl l ↦ inl (in_block s k p b.0 l)
-        | inr l ↦ inr (in_block (s + 2 ^ k) k p l (omega (arith, b.1)))
-      ])
+    let b = block_bounds s (suc k) p h in
+    elim (cases_lt p (s + 2 ^ k)) [
+      | inl l ↦ inl (in_block s k p b.0 l)
+      | inr l ↦ inr (in_block (s + 2 ^ k) k p l (omega (arith, b.1)))
+    ])
     (λ p h. let b = block_bounds s k p h in in_block s (suc k) p b.0 (omega (arith, b.1)))
     (λ p h. let b = block_bounds (s + 2 ^ k) k p h in in_block s (suc k) p (omega (arith, b.0)) (omega (arith, b.1)))
 
@@ -152,11 +155,11 @@ halves_turned s k set =
     let twice : 2 ^ suc k ≡ 2 ^ k + 2 ^ k = pow_twice k in
     with_union (pages_of (block_at (s + 2 ^ k) k)) (pages_of (block_at s k)) (pages_of (block_at s (suc k))) set
     (λ p h.
-      let b = block_bounds s (suc k) p h in
-      elim (cases_lt p (s + 2 ^ k)) [
-        | inl l ↦ inr (in_block s k p b.0 l)
-        | inr l ↦ inl (in_block (s + 2 ^ k) k p l (omega (arith, b.1)))
-      ])
+    let b = block_bounds s (suc k) p h in
+    elim (cases_lt p (s + 2 ^ k)) [
+      | inl l ↦ inr (in_block s k p b.0 l)
+      | inr l ↦ inl (in_block (s + 2 ^ k) k p l (omega (arith, b.1)))
+    ])
     (λ p h. let b = block_bounds (s + 2 ^ k) k p h in in_block s (suc k) p (omega (arith, b.0)) (omega (arith, b.1)))
     (λ p h. let b = block_bounds s k p h in in_block s (suc k) p b.0 (omega (arith, b.1)))
 
@@ -172,16 +175,16 @@ with_cons p ps set =
 with_one : (p : ℕ) (set : List Bool) → p < length set → with_pages (p ∷ []) set ≡ put set p true
 with_one p set l =
     same_lists (with_pages (p ∷ []) set) (put set p true) (length-with_pages (p ∷ []) set ∙ sym (length-set set p true)) (λ k d h.
-      let k_in : k < length set = omega (arith, length-with_pages (p ∷ []) set) in
-      get_or_default (with_pages (p ∷ []) set) k d false h ∙ (has-with_pages (p ∷ []) set k k_in ∙
-      elim (cases_eq k p) [
-        | inl same ↦
-            let t : (p == k) ≡ true = eq-eqb p k (sym same) in
-            or_right (has set k) ((p == k) || false) (or_left (p == k) false t) ∙ (sym (get_or-set_same set p true d l) ∙ ap (λ (n : ℕ). get_or (put set p true) n d) (sym same))
-        | inr differ ↦
-            let f : (p == k) ≡ false = ne_eqb p k (λ e. differ (sym e)) in
-            ap (λ (b : Bool). has set k || (b || false)) f ∙ (or_false (has set k) ∙ (get_or_default set k false d k_in ∙ sym (get_or-set_other set p k true d differ)))
-      ]))
+    let k_in : k < length set = omega (arith, length-with_pages (p ∷ []) set) in
+    get_or_default (with_pages (p ∷ []) set) k d false h ∙ (has-with_pages (p ∷ []) set k k_in ∙
+    elim (cases_eq k p) [
+      | inl same ↦
+          let t : (p == k) ≡ true = eq-eqb p k (sym same) in
+          or_right (has set k) ((p == k) || false) (or_left (p == k) false t) ∙ (sym (get_or-set_same set p true d l) ∙ ap (λ (n : ℕ). get_or (put set p true) n d) (sym same))
+      | inr differ ↦
+          let f : (p == k) ≡ false = ne_eqb p k (λ e. differ (sym e)) in
+          ap (λ (b : Bool). has set k || (b || false)) f ∙ (or_false (has set k) ∙ (get_or_default set k false d k_in ∙ sym (get_or-set_other set p k true d differ)))
+    ]))
   where
     or_false : (b : Bool) → (b || (false || false)) ≡ b
     or_false true = refl
@@ -200,8 +203,8 @@ count_range zero s set l h = ap (count_by (λ f. f)) (same_sets (with_pages [] s
 count_range (suc n) s set l h =
     let one : count_by (λ f. f) (with_pages (s ∷ []) set) ≡ count_by (λ f. f) set + 1 = count_one s set (omega arith) (h s (omega arith) (omega arith)) in
     let rest : count_by (λ f. f) (with_pages (range_with_len (s + 1) n) (with_pages (s ∷ []) set)) ≡ count_by (λ f. f) (with_pages (s ∷ []) set) + n =
-        count_range n (s + 1) (with_pages (s ∷ []) set) (omega (arith, length-with_pages (s ∷ []) set)) (λ p a b.
-          has-with_pages (s ∷ []) set p (omega arith) ∙ or_from (has set p) (is_in p (s ∷ [])) (h p (omega arith) (omega arith)) (ap (λ (v : Bool). v || false) (ne_eqb s p (λ e. omega arith)))) in
+    count_range n (s + 1) (with_pages (s ∷ []) set) (omega (arith, length-with_pages (s ∷ []) set)) (λ p a b.
+    has-with_pages (s ∷ []) set p (omega arith) ∙ or_from (has set p) (is_in p (s ∷ [])) (h p (omega arith) (omega arith)) (ap (λ (v : Bool). v || false) (ne_eqb s p (λ e. omega arith)))) in
     ap (count_by (λ f. f)) (with_cons s (range_with_len (s + 1) n) set) ∙ omega (arith, one, rest)
 
 pub count_without : (s k : ℕ) (set : List Bool) → ((p : ℕ) → s ≤ p → p < s + 2 ^ k → has set p ≡ true) → count_by (λ f. f) set ≡ count_by (λ f. f) (without_pages (pages_of (block_at s k)) set) + 2 ^ k

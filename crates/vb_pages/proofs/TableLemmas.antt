@@ -1,10 +1,9 @@
 -- The pages of a table that pass a test, around one page.
-use Rattle.std.proofs.Common.{◌≡◌, ◌≢◌, ℕ, zero, suc, ◌+◌, ◌-◌, ◌<◌, ◌≤◌, ◌⊎◌, inl, inr, [], ◌∷◌, ◌++◌, List, length, get_or, set, take, drop, map, Bool, true, false, cond, Option, Some, None, slice_get, MatchOption, eqb, refl, sym, ◌∙◌, ap, subst, arith, rules, length-append, add-one, replicate}
-use Rattle.std.specs.List.{range_with_len}
+use Rattle.std.proofs.Common.{◌≡◌, ◌≢◌, ℕ, zero, suc, ◌+◌, ◌-◌, ◌<◌, ◌≤◌, inl, inr, [], ◌∷◌, ◌++◌, List, length, get_or, set, take, drop, Bool, true, false, cond, Option, Some, None, slice_get, refl, sym, ◌∙◌, ap, arith, length-append, replicate}
 use Rattle.std.proofs.lemmas.List.{set_split, set-get_or, take-append-drop, length-take, length-drop, get_or-set_same, get_or-set_other, same_lists, length-set, length-replicate, get_or_past, get_or-drop}
 use Rattle.std.proofs.lemmas.List.FromFn.{get_or-map-range_with_len, length-map-range_with_len}
-use Rattle.std.proofs.lemmas.Bool.{cases_lt, cases_eq, lt-ltb, eqb-true, eq-eqb, ne_eqb, both_ways}
-use Rattle.vb_model.specs.Tests.{pages_from, pages_where}
+use Rattle.std.proofs.lemmas.Bool.{cases_lt, cases_eq, eqb-true, eq-eqb, ne_eqb, both_ways}
+use Rattle.vb_model.specs.Tests.{pages_from}
 use Rattle.vb_pages.specs.Starts.{Starts, AllBelow, AllFrom}
 use Rattle.vb_pages.specs.Table.{order_at, is_order, starts_of, index_of, IsLowestStart}
 
@@ -17,6 +16,7 @@ module _ {A : Type 0} (test : A → Bool) where
     where
       moved : pages_from (suc f + length u) test w ≡ pages_from (f + suc (length u)) test w
       moved = let e : suc f + length u ≡ f + suc (length u) = omega arith in ap (λ (n : ℕ). pages_from n test w) e
+
       step : (v : Bool) → pages_from (suc f) test (u ++ w) ≡ pages_from (suc f) test u ++ pages_from (suc f + length u) test w → cond v (f ∷ pages_from (suc f) test (u ++ w)) (pages_from (suc f) test (u ++ w)) ≡ cond v (f ∷ pages_from (suc f) test u) (pages_from (suc f) test u) ++ pages_from (f + suc (length u)) test w
       step true ih = ap (λ (ns : List ℕ). f ∷ ns) (ih ∙ ap (λ (ns : List ℕ). pages_from (suc f) test u ++ ns) moved)
       step false ih = ih ∙ ap (λ (ns : List ℕ). pages_from (suc f) test u ++ ns) moved
@@ -37,7 +37,6 @@ module _ {A : Type 0} (test : A → Bool) where
       step : (v : Bool) → length (pages_from (suc f) test u) ≤ length u → length (cond v (f ∷ pages_from (suc f) test u) (pages_from (suc f) test u)) ≤ suc (length u)
       step true h = omega arith
       step false h = omega arith
-
 
 -- ---- around one page
 
@@ -175,9 +174,11 @@ head_from k f (x ∷ w) = step (is_order k x) refl (head_from k (suc f) w)
       where
         found : order_at (x ∷ w) (s - f) ≡ Some k
         found = let e : s - f ≡ suc (s - suc f) = omega (arith, h.0) in ap (order_at (x ∷ w)) e ∙ h.1
+
         at : (i : ℕ) → order_at (x ∷ w) i ≡ Some k → s ≤ f + i
         at zero e = absurd (both_ways (is_order k x) n (ap (is_order k) e ∙ is_order-self k))
         at (suc i) e = omega (arith, h.2 i e)
+
     step : (v : Bool) → is_order k x ≡ v → HeadIs k (suc f) w (slice_get (pages_from (suc f) (is_order k) w) 0) → HeadIs k f (x ∷ w) (slice_get (cond v (f ∷ pages_from (suc f) (is_order k) w) (pages_from (suc f) (is_order k) w)) 0)
     step true e h = (omega arith, ap (order_at (x ∷ w)) (let z : f - f ≡ 0 = omega arith in z) ∙ is_order-true k x e, λ i q. omega arith)
     step false e h = later (slice_get (pages_from (suc f) (is_order k) w) 0) e h
@@ -210,6 +211,7 @@ lowest_after k n t = step (slice_get (pages_from (length (take n t)) (is_order k
   where
     at : (i : ℕ) → order_at (drop n t) i ≡ order_at t (n + i)
     at i = get_or-drop n t i None
+
     step : (o : Option ℕ) → HeadIs k (length (take n t)) (drop n t) o → IsLowestStart t k n o
     step None h = λ page l e.
         let q : n + (page - n) ≡ page = omega arith in
@@ -217,11 +219,14 @@ lowest_after k n t = step (slice_get (pages_from (length (take n t)) (is_order k
     step (Some s) h =
         let i : s - length (take n t) < length (drop n t) = is_there (drop n t) (s - length (take n t)) k h.1 in
         let m : length (take n t) ≡ n = omega (arith, i, length-drop n t, length-take n t) in
-        let q : n + (s - length (take n t)) ≡ s = omega (arith, m, h.0) in
-        (ap (order_at t) (sym q) ∙ (sym (at (s - length (take n t))) ∙ h.1), omega (arith, m, h.0), λ page l e.
-          let r : n + (page - n) ≡ page = omega arith in
-          let low : s ≤ length (take n t) + (page - n) = h.2 (page - n) (at (page - n) ∙ (ap (order_at t) r ∙ e)) in
-          omega (arith, m, low))
+        let q : n + (s - length (take n t)) ≡ s = omega (arith, m, h.0) in (
+          ap (order_at t) (sym q) ∙ (sym (at (s - length (take n t))) ∙ h.1),
+          omega (arith, m, h.0),
+          λ page l e.
+              let r : n + (page - n) ≡ page = omega arith in
+              let low : s ≤ length (take n t) + (page - n) = h.2 (page - n) (at (page - n) ∙ (ap (order_at t) r ∙ e)) in
+              omega (arith, m, low),
+        )
 
 pub lowest_first : (k : ℕ) (t : List (Option ℕ)) → IsLowestStart t k 0 (slice_get (starts_of k t) 0)
 unfolding starts_of after_of
@@ -240,15 +245,15 @@ starts-none k n = none_from k 0 n
 pub index-none : (n : ℕ) (xs : List Starts) → length xs ≡ 10 → ((k : ℕ) (d : Starts) → k < 10 → get_or xs k d ≡ entry [] n) → xs ≡ index_of (replicate n None)
 index-none n xs l h =
     same_lists xs (index_of (replicate n None)) (l ∙ sym (length-index_of (replicate n None))) (λ k d lt.
-      let b : k < 10 = omega (arith, l) in
-      h k d b ∙ (ap (λ (ys : List ℕ). entry ys n) (sym (starts-none k n))
-      ∙ (ap (λ (m : ℕ). entry (starts_of k (replicate n None)) m) (sym (length-replicate n None)) ∙ sym (index_at (replicate n None) k d b))))
+    let b : k < 10 = omega (arith, l) in
+    h k d b ∙ (ap (λ (ys : List ℕ). entry ys n) (sym (starts-none k n))
+    ∙ (ap (λ (m : ℕ). entry (starts_of k (replicate n None)) m) (sym (length-replicate n None)) ∙ sym (index_at (replicate n None) k d b))))
 
 pub index-emptied : (xs ys : List Starts) (t : List (Option ℕ)) → xs ≡ index_of t → length ys ≡ length xs → ((k : ℕ) (d : Starts) → k < length xs → get_or ys k d ≡ record (get_or xs k d) { items = [] }) → ys ≡ index_of (replicate (length t) None)
 index-emptied xs ys t e l h =
     let ten : length xs ≡ 10 = ap length e ∙ length-index_of t in
     index-none (length t) ys (l ∙ ten) (λ k d lt.
-      h k d (omega (arith, ten)) ∙ (ap (λ (zs : List Starts). entry [] (get_or zs k d).room) e ∙ ap (λ (x : Starts). entry [] x.room) (index_at t k d lt)))
+    h k d (omega (arith, ten)) ∙ (ap (λ (zs : List Starts). entry [] (get_or zs k d).room) e ∙ ap (λ (x : Starts). entry [] x.room) (index_at t k d lt)))
 
 pub same_entry : (a b : Starts) → a.items ≡ b.items → a.room ≡ b.room → a ≡ b
 same_entry a b e f = ap (λ (xs : List ℕ). entry xs a.room) e ∙ ap (λ (n : ℕ). entry b.items n) f

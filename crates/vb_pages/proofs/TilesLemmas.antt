@@ -1,17 +1,17 @@
 -- Blocks that a table lists: which are maximal in the set that they make up, and what a change of one does to it.
-use Rattle.std.proofs.Common.{◌≡◌, ◌≢◌, ℕ, zero, suc, ◌+◌, ◌-◌, ◌*◌, ◌%◌, ◌^◌, ◌<◌, ◌≤◌, min, ◌⊎◌, inl, inr, Bool, true, false, not, ◌||◌, ◌&&◌, List, [], ◌∷◌, length, get_or, set, replicate, map, Option, Some, None, eqb, refl, sym, ◌∙◌, ap, subst, arith, rules}
+use Rattle.std.proofs.Common.{◌≡◌, ◌≢◌, ℕ, zero, suc, ◌+◌, ◌-◌, ◌%◌, ◌^◌, ◌<◌, ◌≤◌, min, ◌⊎◌, inl, inr, Bool, true, false, not, List, length, set, replicate, Option, Some, None, refl, sym, ◌∙◌, ap, subst, arith}
 use Rattle.std.specs.List.{list_any, range_with_len}
 use Rattle.std.proofs.lemmas.List.{get_or-set_same, get_or-set_other, length-set, length-replicate, get_or-replicate}
 use Rattle.std.proofs.lemmas.List.FromFn.{get_or-map-range_with_len, length-map-range_with_len}
 use Rattle.std.proofs.lemmas.Nat.{pow_pos}
 use Rattle.std.proofs.lemmas.Bool.{cases_lt, cases_eq, cases_Bool, both_ways, or_cases, or_left, or_right, eq-eqb, eqb-true, false_from_ne_true, and_right, not_from_true}
-use Rattle.vb_model.specs.Pages.{Block, size, pages_of}
+use Rattle.vb_model.specs.Pages.{Block, pages_of}
 use Rattle.vb_pages.specs.declared.FreeBlock.{FreeBlock}
 use Rattle.vb_pages.specs.Table.{order_at, is_order, IsLowestStart}
 use Rattle.vb_model.specs.Tests.{is_in}
 use Rattle.vb_pages.specs.Tiles.{is_covered, set_of, IsPlaced, IsMerged, IsBuddy, HasRoom, IsTiled, IsLowestListed}
 use Rattle.vb_pages.specs.Areas.{has, with_pages, without_pages, block_at, IsBlock, LiesIn, LiesWithin, IsMaximal, HasNoBlock, IsChosen}
-use Rattle.vb_pages.proofs.Aligned.{aligned_step, aligned_same, right_half, left_of, aligned_add, aligned_down, end_aligned, pow_aligned, pow_twice, floor_aligned}
+use Rattle.vb_pages.proofs.Aligned.{aligned_step, aligned_same, right_half, aligned_down, end_aligned, pow_twice, floor_aligned}
 use Rattle.vb_pages.proofs.TableLemmas.{is_order-true, is_order-self, is_there}
 use Rattle.vb_pages.proofs.Sets.{same_sets, is_inside, length-with_pages, length-without_pages, with_old, with_new, with_cases, without_parts, without_old, in_block, block_bounds, not_in_block, has-without_pages, with_without, without_with, halves, halves_turned}
 
@@ -126,10 +126,10 @@ module _ (t : List (Option ℕ)) (placed : IsPlaced t) where
                   | inl lt ↦
                       let start_ok : y.start % 2 ^ suc j ≡ 0 = aligned_down y.start (suc j) y.order lt (placed.aligned y.start y.order y.listed) in
                       let low : y.start ≤ a =
-                          elim (cases_lt a y.start) [
-                            | inl past ↦ absurd (omega (arith, aligned_step a y.start (2 ^ suc j) e start_ok past, y.low))
-                            | inr ok ↦ ok
-                          ] in
+                      elim (cases_lt a y.start) [
+                        | inl past ↦ absurd (omega (arith, aligned_step a y.start (2 ^ suc j) e start_ok past, y.low))
+                        | inr ok ↦ ok
+                      ] in
                       record { start = y.start; order = y.order; listed = y.listed; low = low; high = omega (arith, y.high); large = omega arith }
                   | inr yle ↦
                       let xj : x.order ≡ j = omega (arith, x.large) in
@@ -189,10 +189,10 @@ module _ (t : List (Option ℕ)) (placed : IsPlaced t) where
     maximal = listed_maximal merged s k low.0;
     sufficient = l;
     smallest = λ c m o.
-      elim (cases_lt c.order k) [
-        | inl lt ↦ absurd (none c.start c.order o lt (maximal_listed merged c m))
-        | inr ge ↦ ge
-      ];
+        elim (cases_lt c.order k) [
+          | inl lt ↦ absurd (none c.start c.order o lt (maximal_listed merged c m))
+          | inr ge ↦ ge
+        ];
     lowest = λ c m e. low.2 c.start (omega arith) (maximal_listed merged c m ∙ ap (λ (i : ℕ). Some i) e);
   }
 
@@ -224,24 +224,28 @@ removed_set t s k placed e =
   where
     t' : List (Option ℕ)
     t' = set t s None
+
     block : List ℕ
     block = pages_of (block_at s k)
+
     l : s < length t
     l = is_there t s k e
+
     to : (p : ℕ) → has (set_of t') p ≡ true → has (without_pages block (set_of t)) p ≡ true
     to p h =
         let c = in_set t' p h in
         let q = kept t s c.start c.order l c.listed in
         let d : Covered t p = record { start = c.start; order = c.order; listed = q.1; low = c.low; high = c.high } in
         without_old block (set_of t) p (to_set t placed p d) (not_in_block s k p (λ a b. q.0 (one_start t placed p d (record { start = s; order = k; listed = e; low = a; high = b }))))
+
     from : (p : ℕ) → has (without_pages block (set_of t)) p ≡ true → has (set_of t') p ≡ true
     from p h =
         let q = without_parts block (set_of t) p h in
         let c = in_set t p q.0 in
         let differ : c.start ≢ s = λ same.
-            let o : c.order ≡ k = one_order t placed s c.order k (ap (order_at t) (sym same) ∙ c.listed) e in
-            let w : 2 ^ c.order ≡ 2 ^ k = ap (λ (i : ℕ). 2 ^ i) o in
-            both_ways (is_in p block) q.1 (in_block s k p (omega (arith, c.low, same)) (omega (arith, c.high, same, w))) in
+        let o : c.order ≡ k = one_order t placed s c.order k (ap (order_at t) (sym same) ∙ c.listed) e in
+        let w : 2 ^ c.order ≡ 2 ^ k = ap (λ (i : ℕ). 2 ^ i) o in
+        both_ways (is_in p block) q.1 (in_block s k p (omega (arith, c.low, same)) (omega (arith, c.high, same, w))) in
         to_set t' (removed_placed t s l placed) p (record { start = c.start; order = c.order; listed = get_or-set_other t s c.start None None differ ∙ c.listed; low = c.low; high = c.high })
 
 -- ---- a block comes to the table
@@ -284,18 +288,21 @@ module _ (t : List (Option ℕ)) (s k : ℕ) (placed : IsPlaced t) (room : HasRo
     where
       bounded : (r j : ℕ) → order_at (set t s (Some k)) r ≡ Some j → j ≤ 9
       bounded r j e = elim (entry_cases r j e) [ inl q ↦ omega (arith, q.1, room.bounded) | inr q ↦ placed.bounded r j q.1 ]
+
       aligned : (r j : ℕ) → order_at (set t s (Some k)) r ≡ Some j → r % 2 ^ j ≡ 0
       aligned r j e =
           elim (entry_cases r j e) [
             | inl q ↦ ap (λ (x : ℕ). x % 2 ^ j) q.0 ∙ (ap (λ (x : ℕ). s % 2 ^ x) q.1 ∙ room.aligned)
             | inr q ↦ placed.aligned r j q.1
           ]
+
       fits : (r j : ℕ) → order_at (set t s (Some k)) r ≡ Some j → r + 2 ^ j ≤ length (set t s (Some k))
       fits r j e =
           elim (entry_cases r j e) [
             | inl q ↦ let w : 2 ^ j ≡ 2 ^ k = ap (λ (i : ℕ). 2 ^ i) q.1 in omega (arith, room.fits, length-set t s (Some k), w, q.0)
             | inr q ↦ omega (arith, placed.fits r j q.1, length-set t s (Some k))
           ]
+
       apart : (r j q i : ℕ) → order_at (set t s (Some k)) r ≡ Some j → r < q → q < r + 2 ^ j → order_at (set t s (Some k)) q ≡ Some i → ⊥
       apart r j q i e a b f =
           elim (entry_cases r j e) [
@@ -341,8 +348,10 @@ module _ (t : List (Option ℕ)) (s k : ℕ) (placed : IsPlaced t) (room : HasRo
     where
       t' : List (Option ℕ)
       t' = set t s (Some k)
+
       block : List ℕ
       block = pages_of (block_at s k)
+
       to : (p : ℕ) → has (set_of t') p ≡ true → has (with_pages block (set_of t)) p ≡ true
       to p h =
           let c = in_set t' p h in
@@ -352,6 +361,7 @@ module _ (t : List (Option ℕ)) (s k : ℕ) (placed : IsPlaced t) (room : HasRo
                 with_new block (set_of t) p (omega (arith, length-set_of t, c.high, q.0, w, room.fits)) (in_block s k p (omega (arith, c.low, q.0)) (omega (arith, c.high, q.0, w)))
             | inr q ↦ with_old block (set_of t) p (to_set t placed p (record { start = c.start; order = c.order; listed = q.1; low = c.low; high = c.high }))
           ]
+
       from : (p : ℕ) → has (with_pages block (set_of t)) p ≡ true → has (set_of t') p ≡ true
       from p h =
           elim (with_cases block (set_of t) p h) [
@@ -372,13 +382,13 @@ pub no_buddy : (t : List (Option ℕ)) (s k b : ℕ) → IsBuddy s k b → (orde
 no_buddy t s k b buddy none =
     elim buddy [
       | inl q ↦ record {
-          right = λ e a nine. none (ap (order_at t) q.1 ∙ e);
-          left = λ r e f a nine. right_half r k a (ap (λ (n : ℕ). n % 2 ^ suc k) e ∙ q.0);
-        }
+        right = λ e a nine. none (ap (order_at t) q.1 ∙ e);
+        left = λ r e f a nine. right_half r k a (ap (λ (n : ℕ). n % 2 ^ suc k) e ∙ q.0);
+      }
       | inr q ↦ record {
-          right = λ e a nine. q.0 a;
-          left = λ r e f a nine. none (ap (order_at t) (let same : b ≡ r = omega (arith, q.1, e) in same) ∙ f);
-        }
+        right = λ e a nine. q.0 a;
+        left = λ r e f a nine. none (ap (order_at t) (let same : b ≡ r = omega (arith, q.1, e) in same) ∙ f);
+      }
     ]
 
 pub no_larger : (t : List (Option ℕ)) (s k : ℕ) → 9 ≤ k → HasNoBuddy t s k
@@ -429,7 +439,7 @@ module _ (t : List (Option ℕ)) (s k b low : ℕ) (placed : IsPlaced t) (room :
         aligned = elim left_case [ inl q ↦ q.2 | inr q ↦ q.2 ];
         fits = elim left_case [ inl q ↦ omega (arith, placed.fits b k listed, length-set t b None, q.0, q.1) | inr q ↦ omega (arith, room.fits, length-set t b None, q.0, q.1) ];
         outside = λ p l h.
-          false_from_ne_true (has (set_of after) p) (λ e.
+            false_from_ne_true (has (set_of after) p) (λ e.
             let parts = without_parts (pages_of (block_at b k)) (set_of t) p (ap (λ (x : List Bool). has x p) (sym gone) ∙ e) in
             elim (cases_Bool (is_in p (pages_of (block_at s k)))) [
               | inl i ↦ let q = block_bounds s k p i in both_ways (has (set_of t) p) (room.outside p q.0 q.1) parts.0
@@ -446,7 +456,7 @@ module _ (t : List (Option ℕ)) (s k b low : ℕ) (placed : IsPlaced t) (room :
                           | inr ge ↦ both_ways (is_in p (pages_of (block_at s k))) n (in_block s k p ge (omega (arith, q.0, q.1)))
                         ]
                   ]
-            ])
+            ]);
       }
 
 -- the upper half of a block goes in
@@ -469,10 +479,10 @@ module _ (t : List (Option ℕ)) (s k : ℕ) (placed : IsPlaced t) (room : HasRo
       record {
         right = λ e a nine. right_half s k room.aligned a;
         left = λ r e f a nine.
-          let same : r ≡ s = omega arith in
-          let empty : order_at t s ≡ None = room_empty t s (suc k) placed room in
-          let bad : Some k ≡ None = sym f ∙ (ap (order_at t) same ∙ empty) in
-          cc;
+            let same : r ≡ s = omega arith in
+            let empty : order_at t s ≡ None = room_empty t s (suc k) placed room in
+            let bad : Some k ≡ None = sym f ∙ (ap (order_at t) same ∙ empty) in
+            cc;
       }
 
   abbrev pub halved : List (Option ℕ)
@@ -489,7 +499,7 @@ module _ (t : List (Option ℕ)) (s k : ℕ) (placed : IsPlaced t) (room : HasRo
         aligned = aligned_down s k (suc k) (omega arith) room.aligned;
         fits = omega (arith, room.fits, length-set t (s + 2 ^ k) (Some k));
         outside = λ p l h.
-          false_from_ne_true (has (set_of halved) p) (λ e.
+            false_from_ne_true (has (set_of halved) p) (λ e.
             elim (with_cases (pages_of (block_at (s + 2 ^ k) k)) (set_of t) p (ap (λ (x : List Bool). has x p) (sym halved_set) ∙ e)) [
               | inl old ↦ both_ways (has (set_of t) p) (room.outside p l (omega arith)) old
               | inr new ↦ let q = block_bounds (s + 2 ^ k) k p new in omega (arith, q.0)
@@ -507,8 +517,8 @@ removed_room t s k placed e =
       aligned = placed.aligned s k e;
       fits = omega (arith, placed.fits s k e, length-set t s None);
       outside = λ p l h.
-        ap (λ (x : List Bool). has x p) (removed_set t s k placed e)
-        ∙ (has-without_pages (pages_of (block_at s k)) (set_of t) p ∙ and_right (has (set_of t) p) (not (is_in p (pages_of (block_at s k)))) (not_from_true (is_in p (pages_of (block_at s k))) (in_block s k p l h)));
+          ap (λ (x : List Bool). has x p) (removed_set t s k placed e)
+          ∙ (has-without_pages (pages_of (block_at s k)) (set_of t) p ∙ and_right (has (set_of t) p) (not (is_in p (pages_of (block_at s k)))) (not_from_true (is_in p (pages_of (block_at s k))) (in_block s k p l h)));
     }
 
 pub removed_tiled : (t : List (Option ℕ)) (s k : ℕ) → IsTiled t → order_at t s ≡ Some k → IsTiled (set t s None)
@@ -542,11 +552,11 @@ none_tiled n h = record {
 pub none_set : (n p : ℕ) → n ≤ 16384 → has (set_of (replicate n None)) p ≡ false
 none_set n p h =
     false_from_ne_true (has (set_of (replicate n None)) p) (λ e.
-      let c = in_set (replicate n None) p e in
-      let t = none_tiled n h in
-      let l : c.start < n = omega (arith, is_there (replicate n None) c.start c.order c.listed, length-replicate {A = Option ℕ} n None) in
-      let bad : Some c.order ≡ None = sym c.listed ∙ get_or-replicate n c.start None None l in
-      cc)
+    let c = in_set (replicate n None) p e in
+    let t = none_tiled n h in
+    let l : c.start < n = omega (arith, is_there (replicate n None) c.start c.order c.listed, length-replicate {A = Option ℕ} n None) in
+    let bad : Some c.order ≡ None = sym c.listed ∙ get_or-replicate n c.start None None l in
+    cc)
 
 -- ---- the lowest listed block, order by order
 
@@ -563,30 +573,45 @@ lowest_same t order from k None none h = λ s j a b c e.
       | inl same ↦ none s c (e ∙ ap (λ (i : ℕ). Some i) same)
       | inr differ ↦ h s j a (omega arith) c e
     ]
-lowest_same t order from k (Some x) none h =
-    (h.0, h.1, h.2, h.3, λ s j a b c e.
+lowest_same t order from k (Some x) none h = (
+  h.0,
+  h.1,
+  h.2,
+  h.3,
+  λ s j a b c e.
       elim (cases_eq j k) [
         | inl same ↦ absurd (none s c (e ∙ ap (λ (i : ℕ). Some i) same))
         | inr differ ↦ h.4 s j a (omega arith) c e
-      ])
+      ],
+)
 
 -- one that isn't lower
 pub lowest_kept : (t : List (Option ℕ)) (order from k s : ℕ) (x : FreeBlock) → IsLowestStart t k from (Some s) → x.start ≤ s → IsLowestBelow t order from k (Some x) → IsLowestBelow t order from (k + 1) (Some x)
-lowest_kept t order from k s x low le h =
-    (h.0, h.1, h.2, h.3, λ r j a b c e.
+lowest_kept t order from k s x low le h = (
+  h.0,
+  h.1,
+  h.2,
+  h.3,
+  λ r j a b c e.
       elim (cases_eq j k) [
         | inl same ↦ omega (arith, low.2 r c (e ∙ ap (λ (i : ℕ). Some i) same))
         | inr differ ↦ h.4 r j a (omega arith) c e
-      ])
+      ],
+)
 
 -- a lower one, or the first
 pub lowest_taken : (t : List (Option ℕ)) (order from k s : ℕ) (best : Option FreeBlock) → order ≤ k → IsLowestStart t k from (Some s) → ((x : FreeBlock) → best ≡ Some x → s < x.start) → k ≤ 9 → IsLowestBelow t order from k best → IsLowestBelow t order from (k + 1) (Some (record { start = s; order = k }))
-lowest_taken t order from k s best o low less nine h =
-    (low.0, o, nine, low.1, λ r j a b c e.
+lowest_taken t order from k s best o low less nine h = (
+  low.0,
+  o,
+  nine,
+  low.1,
+  λ r j a b c e.
       elim (cases_eq j k) [
         | inl same ↦ low.2 r c (e ∙ ap (λ (i : ℕ). Some i) same)
         | inr differ ↦ other best h less r j a (omega arith) c e
-      ])
+      ],
+)
   where
     other : (best : Option FreeBlock) → IsLowestBelow t order from k best → ((x : FreeBlock) → best ≡ Some x → s < x.start) → (r j : ℕ) → order ≤ j → j < k → from ≤ r → order_at t r ≡ Some j → s ≤ r
     other None h less = λ r j a b c e. absurd (h r j a b c e)

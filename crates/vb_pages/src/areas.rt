@@ -6,8 +6,8 @@ ghost use Rattle.vb_pages.specs.Table.{order_at};
 ghost use Rattle.vb_pages.specs.Areas.{has, with_pages, without_pages, unreserved, block_at, IsBlock, IsMaximal, LiesOutside, Takes, IsLowestFrom};
 ghost use Rattle.vb_pages.specs.Tiles.{IsBuddy, HasRoom, IsTiled, set_of, IsLowestListed};
 
-use crate::table::Table;
 use crate::FreeBlock;
+use crate::table::Table;
 use std::alloc::{AllocError, Global};
 use std::marker::Model;
 use vb_model::limits::{MAX_ORDER, RESERVED_PAGES};

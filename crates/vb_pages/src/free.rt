@@ -165,7 +165,7 @@ impl FreePages {
         ensures isolated { MatchOption result
             (((start larger : ℕ) → order ≤ larger → from ≤ start → IsMaximal (drained self.old).areas (block_at start larger) → ⊥) × (self.new ≡ drained self.old))
             (λ b. IsLowestFrom (drained self.old).areas order from (block_at b.start b.order)
-                × (self.new ≡ record (drained self.old) { areas = without_pages (pages_of (block_at b.start b.order)) (drained self.old).areas })) }
+            × (self.new ≡ record (drained self.old) { areas = without_pages (pages_of (block_at b.start b.order)) (drained self.old).areas })) }
     {
         self.drain();
         self.areas.isolate(order, from)

@@ -12,12 +12,10 @@ mod lists;
 mod pages;
 mod starts;
 mod table;
-
 #[cfg(test)]
 mod tests;
 
 pub use pages::Pages;
-
 use thiserror::Error;
 
 /// A free block: 2^order pages from a multiple of as many on.

@@ -66,8 +66,20 @@ fn largest_guest(rt: HostRuntime) -> Result<(), Fail> {
     assert_eq!(rt; pages.alloc(3, 9), Ok(512));
     assert_eq!(rt; pages.alloc(3, 0), Ok(16));
     assert_eq!(rt; pages.alloc(2, 0), Ok(24));
-    assert_eq!(rt; pages.isolate(4, 0), Some(FreeBlock { start: 32, order: 5 }));
-    assert_eq!(rt; pages.isolate(6, 100), Some(FreeBlock { start: 128, order: 7 }));
+    assert_eq!(rt;
+        pages.isolate(4, 0),
+        Some(FreeBlock {
+            start: 32,
+            order: 5
+        })
+    );
+    assert_eq!(rt;
+        pages.isolate(6, 100),
+        Some(FreeBlock {
+            start: 128,
+            order: 7
+        })
+    );
     assert_eq!(rt; pages.free_count(), 16_368 - 512 - 2 - 32 - 128);
     Ok(())
 }
@@ -80,14 +92,31 @@ fn taken_and_given_back(rt: HostRuntime) -> Result<(), Fail> {
     assert!(rt; pages.free_count() >= 3);
     pages.take_free(3, &mut out);
     assert_eq!(rt; out.as_slice(), [16, 17, 18].as_slice());
-    assert_eq!(rt; pages.isolate(4, 0), Some(FreeBlock { start: 32, order: 5 }));
+    assert_eq!(rt;
+        pages.isolate(4, 0),
+        Some(FreeBlock {
+            start: 32,
+            order: 5
+        })
+    );
     assert_eq!(rt; pages.isolate(4, 0), None);
-    assert_eq!(rt; pages.isolate(3, 17), Some(FreeBlock { start: 24, order: 3 }));
-    assert_eq!(rt; pages.isolate(0, 0), Some(FreeBlock { start: 19, order: 0 }));
+    assert_eq!(rt;
+        pages.isolate(3, 17),
+        Some(FreeBlock {
+            start: 24,
+            order: 3
+        })
+    );
+    assert_eq!(rt;
+        pages.isolate(0, 0),
+        Some(FreeBlock {
+            start: 19,
+            order: 0
+        })
+    );
     assert_eq!(rt; pages.free_count(), 4);
     pages.renew();
     assert_eq!(rt; pages.free_count(), 48);
     assert_eq!(rt; pages.alloc(0, 4), Ok(16));
     Ok(())
 }
-

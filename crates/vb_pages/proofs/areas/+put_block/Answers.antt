@@ -1,4 +1,4 @@
-use Rattle.std.proofs.Common.{◌≡◌, ◌<◌, ◌≤◌, ◌^◌, ◌+◌, ◌-◌, ℕ, List, Bool, Option, Some, None, set, min, ap, subst, ◌∙◌, sym, inl, inr, arith, rules}
+use Rattle.std.proofs.Common.{◌≡◌, ◌<◌, ◌+◌, ℕ, List, Option, Some, None, set, min, ap, subst, ◌∙◌, sym, arith}
 use Rattle.std.proofs.lemmas.Bool.{both_ways}
 use Rattle.vb_model.specs.Pages.{pages_of}
 use Rattle.vb_pages.specs.Areas.{with_pages, block_at}
@@ -18,9 +18,13 @@ put_block-requires t c =
     let nine : k < 9 = c.if-order-lt-MAX_ORDER.true in
     let now : set table b None ≡ c.remove.new.self = sym c.remove.ensures in
     let low : min s b ≡ c.min.result = sym c.min.ensures in
-    let room = joined_room table s k b c.requires.tiled c.requires.room c.buddy_of-buddy.ensures listed nine in
-    (omega arith, (subst IsTiled now (joined_tiled table s k b c.requires.tiled c.requires.room c.buddy_of-buddy.ensures listed nine),
-    subst (λ (n : ℕ). HasRoom c.remove.new.self n (k + 1)) low (subst (λ (u : List (Option ℕ)). HasRoom u (min s b) (k + 1)) now room)))
+    let room = joined_room table s k b c.requires.tiled c.requires.room c.buddy_of-buddy.ensures listed nine in (
+      omega arith,
+      (
+        subst IsTiled now (joined_tiled table s k b c.requires.tiled c.requires.room c.buddy_of-buddy.ensures listed nine),
+        subst (λ (n : ℕ). HasRoom c.remove.new.self n (k + 1)) low (subst (λ (u : List (Option ℕ)). HasRoom u (min s b) (k + 1)) now room),
+      ),
+    )
 
 pub add-requires-clause-empty : goal.add-requires-clause-empty
 add-requires-clause-empty t c = room_empty c.args.table.now c.args.start c.args.order c.requires.tiled.placed c.requires.room
@@ -43,11 +47,11 @@ returns-else-order-lt-MAX_ORDER-clause-tiled t c =
     let s = c.args.start in
     let k = c.args.order in
     let alone : HasNoBuddy table s k =
-        elim c.else-order-lt-MAX_ORDER.branch [
-          | else-order-lt-MAX_ORDER-via-then-order-lt-MAX_ORDER+else-is_listed w ↦
-              no_buddy table s k c.buddy_of-buddy.result c.buddy_of-buddy.ensures (λ e. both_ways w.is_listed.result w.if-is_listed.false (w.is_listed.ensures.1 e))
-          | else-order-lt-MAX_ORDER-via-else-order-lt-MAX_ORDER w ↦ no_larger table s k w.if-order-lt-MAX_ORDER.false
-        ] in
+    elim c.else-order-lt-MAX_ORDER.branch [
+      | else-order-lt-MAX_ORDER-via-then-order-lt-MAX_ORDER+else-is_listed w ↦
+          no_buddy table s k c.buddy_of-buddy.result c.buddy_of-buddy.ensures (λ e. both_ways w.is_listed.result w.if-is_listed.false (w.is_listed.ensures.1 e))
+      | else-order-lt-MAX_ORDER-via-else-order-lt-MAX_ORDER w ↦ no_larger table s k w.if-order-lt-MAX_ORDER.false
+    ] in
     subst IsTiled (sym c.add.ensures) (added_tiled table s k c.requires.tiled c.requires.room alone)
 
 pub returns-else-order-lt-MAX_ORDER-clause-set : goal.returns-else-order-lt-MAX_ORDER-clause-set

@@ -1,4 +1,4 @@
-use Rattle.std.proofs.Common.{◌≡◌, ◌<◌, ◌≤◌, ◌^◌, ◌+◌, ◌-◌, ℕ, List, Bool, Option, Some, None, set, ap, subst, ◌∙◌, sym, arith}
+use Rattle.std.proofs.Common.{◌≡◌, ◌+◌, ◌-◌, ℕ, List, Bool, Option, Some, set, ap, subst, ◌∙◌, sym, arith}
 use Rattle.vb_model.specs.Pages.{pages_of}
 use Rattle.vb_pages.specs.Areas.{with_pages, without_pages, block_at}
 use Rattle.vb_pages.specs.Tiles.{HasRoom, IsTiled, set_of}
@@ -15,10 +15,16 @@ add-requires-clause-empty t c =
 
 pub put_rest-requires : goal.put_rest-requires
 put_rest-requires t c =
-    let now : set c.args.table.now (c.args.start + c.size_of.result) (Some (c.args.whole - 1)) ≡ c.add.new.self = sym c.add.ensures in
-    (omega arith, (subst IsTiled now (rest_tiled c.args.table.now c.args.start c.args.whole c.size_of.result c.requires.tiled c.requires.room (omega arith) c.size_of.ensures.size),
-    (subst (λ (u : List (Option ℕ)). HasRoom u c.args.start (c.args.whole - 1)) now (rest_room c.args.table.now c.args.start c.args.whole c.size_of.result c.requires.tiled c.requires.room (omega arith) c.size_of.ensures.size),
-    omega arith)))
+    let now : set c.args.table.now (c.args.start + c.size_of.result) (Some (c.args.whole - 1)) ≡ c.add.new.self = sym c.add.ensures in (
+      omega arith,
+      (
+        subst IsTiled now (rest_tiled c.args.table.now c.args.start c.args.whole c.size_of.result c.requires.tiled c.requires.room (omega arith) c.size_of.ensures.size),
+        (
+          subst (λ (u : List (Option ℕ)). HasRoom u c.args.start (c.args.whole - 1)) now (rest_room c.args.table.now c.args.start c.args.whole c.size_of.result c.requires.tiled c.requires.room (omega arith) c.size_of.ensures.size),
+          omega arith,
+        ),
+      ),
+    )
 
 pub returns-then-taken-whole-clause-set : goal.returns-then-taken-whole-clause-set
 returns-then-taken-whole-clause-set t c =

@@ -1,7 +1,7 @@
-use Rattle.std.proofs.Common.{◌≡◌, ◌<◌, ◌≤◌, ℕ, List, Option, Some, None, Bool, set, ap, subst, ◌∙◌, sym, arith, rules}
+use Rattle.std.proofs.Common.{◌≡◌, ◌≤◌, ℕ, List, Option, Some, None, set, ap, subst, ◌∙◌, sym, arith}
 use Rattle.vb_model.specs.Pages.{pages_of}
-use Rattle.vb_pages.specs.Areas.{without_pages, with_pages, block_at, HasNoBlock, IsChosen}
-use Rattle.vb_pages.specs.Table.{order_at, IsLowestStart}
+use Rattle.vb_pages.specs.Areas.{without_pages, with_pages, block_at}
+use Rattle.vb_pages.specs.Table.{IsLowestStart}
 use Rattle.vb_pages.specs.Tiles.{HasRoom, IsTiled, set_of}
 use Rattle.vb_pages.proofs.TilesLemmas.{removed_tiled, removed_room, chosen, none_inside, none_more, part_left}
 use Rattle.vb_pages.proofs.areas.take_block.Goals as goal
@@ -30,11 +30,12 @@ returns-in-Some-clause-taken c =
     let t = c.args.table.now in
     let s = c.in-Some.start in
     let k = c.loop-larger.larger in
-    let o : c.args.order ≤ k = omega arith in
-    ((k, chosen t c.requires.tiled.placed c.requires.tiled.merged c.args.order s k o c.loop-larger.invariant.1 (found d)),
-    c.put_rest.ensures.set
-    ∙ (ap (λ (u : List (Option ℕ)). without_pages (pages_of (block_at s c.args.order)) (with_pages (pages_of (block_at s k)) (set_of u))) (sym (left d))
-    ∙ part_left t s k c.args.order c.requires.tiled.placed (found d).0))
+    let o : c.args.order ≤ k = omega arith in (
+      (k, chosen t c.requires.tiled.placed c.requires.tiled.merged c.args.order s k o c.loop-larger.invariant.1 (found d)),
+      c.put_rest.ensures.set
+          ∙ (ap (λ (u : List (Option ℕ)). without_pages (pages_of (block_at s c.args.order)) (with_pages (pages_of (block_at s k)) (set_of u))) (sym (left d))
+          ∙ part_left t s k c.args.order c.requires.tiled.placed (found d).0),
+    )
 
 pub loop-larger-preserved : goal.loop-larger-preserved
 loop-larger-preserved c = (c.loop-larger.invariant.0, none_more c.args.table.now c.args.order c.loop-larger.larger (subst (λ (u : List (Option ℕ)). IsLowestStart u c.loop-larger.larger 0 None) c.loop-larger.invariant.0 c.in_default.ensures) c.loop-larger.invariant.1)
@@ -43,7 +44,9 @@ pub returns-clause-tiled : goal.returns-clause-tiled
 returns-clause-tiled c = subst IsTiled (sym c.loop-larger.invariant.0) c.requires.tiled
 
 pub returns-clause-taken : goal.returns-clause-taken
-returns-clause-taken c =
-    (none_inside c.args.table.now c.requires.tiled.placed c.requires.tiled.merged c.args.order (λ s k a e.
+returns-clause-taken c = (
+  none_inside c.args.table.now c.requires.tiled.placed c.requires.tiled.merged c.args.order (λ s k a e.
       let nine : k ≤ 9 = c.requires.tiled.placed.bounded s k e in
-      c.loop-larger.invariant.1 s k a (omega arith) e), ap set_of c.loop-larger.invariant.0)
+      c.loop-larger.invariant.1 s k a (omega arith) e),
+  ap set_of c.loop-larger.invariant.0,
+)

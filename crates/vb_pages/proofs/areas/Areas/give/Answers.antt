@@ -1,8 +1,8 @@
-use Rattle.std.proofs.Common.{◌≡◌, ◌≤◌, ◌<◌, ◌+◌, ◌^◌, ℕ, List, Bool, length, Fits, w32, ap, subst, ◌∙◌, sym, arith}
+use Rattle.std.proofs.Common.{◌≡◌, ◌≤◌, ◌+◌, ◌^◌, ℕ, List, Bool, length, ap, ◌∙◌, sym, arith}
 use Rattle.std.specs.Prelude.{count_by}
 use Rattle.std.proofs.lemmas.Bool.{eqb-true}
 use Rattle.vb_pages.specs.Areas.{has, block_at, LiesOutside}
-use Rattle.vb_pages.specs.Tiles.{set_of, HasRoom}
+use Rattle.vb_pages.specs.Tiles.{set_of}
 use Rattle.vb_pages.proofs.Sets.{count_le}
 use Rattle.vb_pages.proofs.TilesLemmas.{length-set_of}
 use Rattle.vb_pages.proofs.AreasLemmas.{count_with_block}
@@ -33,8 +33,9 @@ put_block-requires-clause-room c =
 
 pub invariant_of-self : goal.invariant_of-self
 invariant_of-self c =
-    let d = (goal.at.invariant_of-self c).After-self in
-    (c.put_block.ensures.tiled,
-    ap (λ (n : ℕ). n + c.size_of.result) c.self.invariant.1
-    ∙ (ap (λ (n : ℕ). count_by (λ f. f) (set_of c.self.inside.table) + n) c.size_of.ensures.size
-    ∙ (sym (count_with_block c.args.start c.args.order (set_of c.self.inside.table) (fits d) (outside d)) ∙ ap (count_by (λ f. f)) (sym c.put_block.ensures.set))))
+    let d = (goal.at.invariant_of-self c).After-self in (
+      c.put_block.ensures.tiled,
+      ap (λ (n : ℕ). n + c.size_of.result) c.self.invariant.1
+          ∙ (ap (λ (n : ℕ). count_by (λ f. f) (set_of c.self.inside.table) + n) c.size_of.ensures.size
+          ∙ (sym (count_with_block c.args.start c.args.order (set_of c.self.inside.table) (fits d) (outside d)) ∙ ap (count_by (λ f. f)) (sym c.put_block.ensures.set))),
+    )

@@ -1,10 +1,10 @@
-use Rattle.std.proofs.Common.{◌≡◌, ◌≤◌, ℕ, List, Bool, Option, None, replicate, length, ap, subst, ◌∙◌, sym, arith}
+use Rattle.std.proofs.Common.{◌≡◌, ◌≤◌, ℕ, List, Option, None, length, ap, subst, ◌∙◌, sym}
 use Rattle.std.specs.Prelude.{count_by}
 use Rattle.std.proofs.lemmas.List.{length-replicate}
 use Rattle.vb_pages.specs.Areas.{has, unreserved}
 use Rattle.vb_pages.specs.Tiles.{set_of, IsTiled}
 use Rattle.vb_pages.proofs.TilesLemmas.{none_tiled, none_set, length-set_of}
-use Rattle.vb_pages.proofs.AreasLemmas.{count_none, length-none_set}
+use Rattle.vb_pages.proofs.AreasLemmas.{count_none}
 use Rattle.vb_pages.proofs.areas.Areas.renew.Goals as goal
 
 pub invariant_of-self : goal.invariant_of-self
@@ -24,5 +24,5 @@ pub returns : goal.returns
 returns c =
     let v : set_of c.self.inside.table ≡ c.args.self.now = c.self.view_is in
     let n : c.pages-pages.result ≡ length c.args.self.now =
-        c.pages-pages.ensures ∙ (ap length c.clear.ensures ∙ (length-replicate {A = Option ℕ} (length c.self.inside.table) None ∙ (sym (length-set_of c.self.inside.table) ∙ ap length v))) in
+    c.pages-pages.ensures ∙ (ap length c.clear.ensures ∙ (length-replicate {A = Option ℕ} (length c.self.inside.table) None ∙ (sym (length-set_of c.self.inside.table) ∙ ap length v))) in
     c.fill.ensures ∙ ap unreserved n

@@ -1,16 +1,13 @@
-use Rattle.std.proofs.Common.{◌≡◌, ◌<◌, ◌≤◌, ◌+◌, ◌-◌, ◌^◌, ℕ, List, [], Bool, true, false, not, Option, Some, None, length, map, replicate, ap, subst, ◌∙◌, sym, refl, arith, rules}
-use Rattle.std.specs.Prelude.{◌&&◌, ◌||◌}
-use Rattle.std.specs.List.{list_any}
-use Rattle.std.proofs.lemmas.Bool.{both_ways}
-use Rattle.vb_model.specs.Pages.{Block, covers, is_same_block, pages_of}
-use Rattle.vb_model.specs.Driver.{with_block, without_block}
-use Rattle.vb_pages.specs.Areas.{block_at, unreserved, with_pages}
-use Rattle.vb_pages.specs.FreePages.{FreePages, is_free, drained, given_back}
-use Rattle.vb_pages.specs.Held.{HeldBlocks}
-use Rattle.vb_pages.specs.PageState.{PageState, is_free_page, is_held_block, HasRoomIn, IsKept}
-use Rattle.vb_pages.proofs.FreeLemmas.{free_of, nothing, drained_times, serves_is_block, given_times, flat-empty, flat-replicate}
+use Rattle.std.proofs.Common.{◌≡◌, ◌<◌, ℕ, List, not, length, map, ap, ◌∙◌, sym, refl, arith}
+use Rattle.std.specs.Prelude.{◌&&◌}
+use Rattle.vb_model.specs.Pages.{covers}
+use Rattle.vb_model.specs.Driver.{with_block}
+use Rattle.vb_pages.specs.Areas.{block_at}
+use Rattle.vb_pages.specs.FreePages.{FreePages, is_free, drained}
+use Rattle.vb_pages.specs.PageState.{PageState, is_free_page}
+use Rattle.vb_pages.proofs.FreeLemmas.{nothing, drained_times, serves_is_block}
 use Rattle.vb_pages.proofs.HeldLemmas.{held_of}
-use Rattle.vb_pages.proofs.PagesLemmas.{kept_at, state_of, same_state, drained_kept, out_kept, out_free, out_there, out_outside, out_left, none_free, free_same, free_gained, back_room, back_kept, given_kept, given_gained, isolated_kept, isolated_left, singles_kept, singles_left, fresh_kept, map_nothing}
+use Rattle.vb_pages.proofs.PagesLemmas.{kept_at, state_of, drained_kept, out_kept, out_free, out_there, out_outside, out_left, none_free, free_same}
 use Rattle.vb_pages.proofs.pages.Pages.alloc.Goals as goal
 
 pub invariant_of-self : goal.invariant_of-self
@@ -26,10 +23,11 @@ pub returns-in_default-clause-same : goal.returns-in_default-clause-same
 returns-in_default-clause-same c e =
     let f = c.self.inside.free in
     let v : state_of f c.self.inside.held.blocks ≡ c.args.self.now = c.self.view_is in
-    let drains : c.take.new.self ≡ drained f = c.in_default.ensures.serves.2 in
-    ((λ p. ap (λ (x : FreePages). is_free x p) drains ∙ (free_same f (drained f) p (drained_times f c.take.ensures.sound p) ∙ ap (λ (x : PageState). is_free_page x p) v)),
-    ap (λ (x : PageState). x.held) v,
-    ap (λ (x : FreePages). x.lists) drains ∙ ap (λ (x : PageState). map (λ (l : List ℕ). nothing) x.free.lists) v)
+    let drains : c.take.new.self ≡ drained f = c.in_default.ensures.serves.2 in (
+      (λ p. ap (λ (x : FreePages). is_free x p) drains ∙ (free_same f (drained f) p (drained_times f c.take.ensures.sound p) ∙ ap (λ (x : PageState). is_free_page x p) v)),
+      ap (λ (x : PageState). x.held) v,
+      ap (λ (x : FreePages). x.lists) drains ∙ ap (λ (x : PageState). map (λ (l : List ℕ). nothing) x.free.lists) v,
+    )
 
 pub add-requires-clause-block : goal.add-requires-clause-block
 add-requires-clause-block c = serves_is_block c.self.inside.free c.take.new.self c.args.cpu c.args.order c.in-Some.start c.in-Some.ensures.serves
@@ -53,9 +51,10 @@ invariant_of-self-2 c =
 pub returns-clause-was_free : goal.returns-clause-was_free
 returns-clause-was_free c =
     let l : c.args.cpu < length c.self.inside.free.lists = omega arith in
-    let v : state_of c.self.inside.free c.self.inside.held.blocks ≡ c.args.self.now = c.self.view_is in
-    (serves_is_block c.self.inside.free c.take.new.self c.args.cpu c.args.order c.in-Some.start c.in-Some.ensures.serves,
-    λ p t. ap (λ (x : PageState). is_free_page x p) (sym v) ∙ out_free c.self.inside.free c.take.new.self c.self.inside.held c.args.cpu c.args.order c.in-Some.start c.take.ensures.sound c.self.invariant l c.in-Some.ensures.serves p t)
+    let v : state_of c.self.inside.free c.self.inside.held.blocks ≡ c.args.self.now = c.self.view_is in (
+      serves_is_block c.self.inside.free c.take.new.self c.args.cpu c.args.order c.in-Some.start c.in-Some.ensures.serves,
+      λ p t. ap (λ (x : PageState). is_free_page x p) (sym v) ∙ out_free c.self.inside.free c.take.new.self c.self.inside.held c.args.cpu c.args.order c.in-Some.start c.take.ensures.sound c.self.invariant l c.in-Some.ensures.serves p t,
+    )
 
 pub returns-clause-left : goal.returns-clause-left
 returns-clause-left c p =
