@@ -1,21 +1,18 @@
 -- The areas as a set: counts, the lowest maximal block, and all pages but the reserved ones.
-use Rattle.std.proofs.Common.{◌≡◌, ℕ, zero, suc, ◌+◌, ◌-◌, ◌^◌, ◌<◌, ◌≤◌, Bool, true, false, List, [], ◌∷◌, length, get_or, Option, Some, None, replicate, refl, sym, ◌∙◌, ap, subst, arith, rules}
-use Rattle.std.specs.Prelude.{count_by, nat_le, map}
-use Rattle.std.specs.List.{range_with_len}
+use Rattle.std.proofs.Common.{◌≡◌, ℕ, suc, ◌+◌, ◌^◌, ◌<◌, ◌≤◌, Bool, true, false, List, [], ◌∷◌, length, Option, Some, None, replicate, refl, sym, ◌∙◌, ap, arith}
+use Rattle.std.specs.Prelude.{count_by, nat_le}
 use Rattle.std.proofs.lemmas.List.{length-replicate}
 use Rattle.std.proofs.lemmas.List.FromFn.{get_or-map-range_with_len, length-map-range_with_len}
-use Rattle.std.proofs.lemmas.Bool.{le-leb, leb-true, false_from_ne_true, both_ways, eqb-true}
-use Rattle.std.proofs.lemmas.Nat.{pow_pos}
+use Rattle.std.proofs.lemmas.Bool.{le-leb, leb-true}
 use Rattle.std.proofs.Math.Pow.{pow_mono}
-use Rattle.vb_model.specs.Tests.{is_in, one_if}
-use Rattle.vb_model.specs.Pages.{Block, size, pages_of}
+use Rattle.vb_model.specs.Tests.{one_if}
+use Rattle.vb_model.specs.Pages.{pages_of}
 use Rattle.vb_model.proofs.Tables.{count_by-cons}
 use Rattle.vb_pages.specs.declared.FreeBlock.{FreeBlock}
-use Rattle.vb_pages.specs.Areas.{has, with_pages, without_pages, unreserved, block_at, IsBlock, LiesIn, LiesOutside, IsMaximal, IsChosen, Takes, IsLowestFrom}
-use Rattle.vb_pages.specs.Table.{order_at}
-use Rattle.vb_pages.specs.Tiles.{set_of, IsTiled, HasRoom, IsLowestListed}
-use Rattle.vb_pages.proofs.Sets.{same_sets, is_inside, count_range, count_without, count_le}
-use Rattle.vb_pages.proofs.TilesLemmas.{length-set_of, listed_maximal, maximal_listed, listed_inside, none_set}
+use Rattle.vb_pages.specs.Areas.{has, with_pages, without_pages, unreserved, block_at, LiesIn, LiesOutside, IsMaximal, IsChosen, IsLowestFrom}
+use Rattle.vb_pages.specs.Tiles.{set_of, IsTiled, IsLowestListed}
+use Rattle.vb_pages.proofs.Sets.{same_sets, is_inside, count_range, count_without}
+use Rattle.vb_pages.proofs.TilesLemmas.{length-set_of, listed_maximal, maximal_listed, none_set}
 
 pub count_with_block : (s k : ℕ) (set : List Bool) → s + 2 ^ k ≤ length set → LiesOutside set (block_at s k) → count_by (λ f. f) (with_pages (pages_of (block_at s k)) set) ≡ count_by (λ f. f) set + 2 ^ k
 count_with_block s k set fits outside = count_range (2 ^ k) s set fits outside

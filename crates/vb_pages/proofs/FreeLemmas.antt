@@ -1,23 +1,22 @@
 -- Free pages: how often each is free, before and after a call.
-use Rattle.std.proofs.Common.{◌≡◌, ℕ, zero, suc, ◌+◌, ◌-◌, ◌*◌, ◌%◌, ◌^◌, ◌<◌, ◌≤◌, ◌⊎◌, inl, inr, Bool, true, false, not, cond, List, [], ◌∷◌, ◌++◌, length, get_or, set, take, drop, map, reverse, replicate, Option, Some, None, refl, sym, ◌∙◌, ap, subst, arith, rules, length-append}
-use Rattle.std.specs.Prelude.{◌==◌, ◌||◌, ◌&&◌, count_by, nat_lt, nat_le, IsPermutation, MatchOption}
+use Rattle.std.proofs.Common.{◌≡◌, ℕ, zero, suc, ◌+◌, ◌%◌, ◌^◌, ◌<◌, ◌≤◌, inl, inr, Bool, true, false, cond, List, [], ◌∷◌, ◌++◌, length, get_or, set, take, drop, map, reverse, replicate, Option, Some, None, refl, sym, ◌∙◌, ap, subst, arith, length-append}
+use Rattle.std.specs.Prelude.{◌==◌, count_by, nat_lt, MatchOption}
 use Rattle.std.specs.List.{flat_map}
-use Rattle.std.proofs.lemmas.List.{get_or-set_same, get_or-set_other, set-set, set-get_or, set_past, length-set, length-map, length-replicate, get_or-replicate, get_or_past, take-append-drop, length-take, length-drop, length-reverse, reverse-append, nil_from_length, take_more, flat_map_more, take_all, same_lists, get_or_default, drop_all, append-nil}
-use Rattle.std.proofs.lemmas.Bool.{cases_lt, cases_eq, cases_Bool, both_ways, eq-eqb, eqb-true, ne_eqb, cond-true, cond-false, or_parts, ltb-true, lt-ltb, false_from_ne_true, or_left, or_right}
-use Rattle.std.proofs.lemmas.Nat.{pow_pos}
+use Rattle.std.proofs.lemmas.List.{get_or-set_same, get_or-set_other, set-set, set-get_or, length-set, length-map, take-append-drop, length-drop, length-reverse, reverse-append, nil_from_length, take_more, flat_map_more, take_all, same_lists, get_or_default, drop_all, append-nil}
+use Rattle.std.proofs.lemmas.Bool.{cases_eq, cases_Bool, both_ways, eq-eqb, eqb-true, ne_eqb, cond-true, cond-false, or_parts, lt-ltb, false_from_ne_true}
 use Rattle.std.proofs.lemmas.List.Sorted.{sum_by-IsPermutation, length_permutation}
 use Rattle.std.proofs.lemmas.List.Sums.{sum_by-append, sum_by-cons}
 use Rattle.std.specs.Prelude.{sum_by}
 use Rattle.vb_model.specs.Tests.{is_in, one_if}
-use Rattle.vb_model.specs.Pages.{Block, size, pages_of, covers}
+use Rattle.vb_model.specs.Pages.{pages_of, covers}
 use Rattle.vb_model.proofs.PageSteps.{covers_is}
-use Rattle.vb_pages.specs.Areas.{has, with_pages, without_pages, unreserved, block_at, IsBlock, LiesIn, HasNoBlock, IsChosen, Takes, IsMaximal, IsLowestFrom}
+use Rattle.vb_pages.specs.Areas.{has, with_pages, without_pages, unreserved, block_at, IsBlock, HasNoBlock, IsChosen, Takes, IsMaximal, IsLowestFrom}
 use Rattle.vb_pages.specs.declared.FreeBlock.{FreeBlock}
-use Rattle.vb_pages.specs.FreePages.{FreePages, in_lists, is_free, times_free, free_count, list_of, with_list, drained, TakesPages, Refills, Pops, TakesSingle, Tries, Serves, spilled, given_back, IsSound, HasRoomFor}
-use Rattle.vb_pages.proofs.Sets.{is_inside, without_parts, with_cases, with_old, with_new, length-with_pages, length-without_pages, in_block, block_bounds}
+use Rattle.vb_pages.specs.FreePages.{FreePages, in_lists, is_free, times_free, list_of, with_list, drained, TakesPages, Refills, Pops, TakesSingle, Tries, Serves, given_back, IsSound, HasRoomFor}
+use Rattle.vb_pages.proofs.Sets.{is_inside, without_parts, with_cases, with_old, with_new, length-with_pages, length-without_pages, block_bounds}
 use Rattle.vb_pages.proofs.Aligned.{aligned_down}
 use Rattle.vb_pages.proofs.AreasLemmas.{length-unreserved, count_without_block, count_zero, taken_inside}
-use Rattle.vb_pages.proofs.ListsLemmas.{times, times-cons, times-append, times-one, times_in, times_out, one_if_le, one_if_true, one_if_false, Once, with_times, with_none, with_append, with_append_turned, takes_times, takes_page_times, takes_pages_times, takes_more, no_page, page_block, covers_one}
+use Rattle.vb_pages.proofs.ListsLemmas.{times, times-append, times-one, times_out, one_if_le, Once, with_times, with_none, with_append_turned, takes_times, takes_pages_times, takes_more, no_page, page_block, covers_one}
 
 abbrev pub flat : List (List ℕ) → List ℕ
 flat lists = flat_map (λ list. list) lists

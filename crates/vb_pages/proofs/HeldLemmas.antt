@@ -1,17 +1,16 @@
 -- Held blocks in a table.
-use Rattle.std.proofs.Common.{◌≡◌, ◌≢◌, ℕ, zero, suc, ◌+◌, ◌-◌, ◌%◌, ◌^◌, ◌<◌, ◌≤◌, ◌⊎◌, inl, inr, Bool, true, false, cond, List, [], ◌∷◌, length, get_or, set, replicate, Option, Some, None, refl, sym, ◌∙◌, ap, subst, arith, rules}
-use Rattle.std.specs.Prelude.{◌==◌, ◌&&◌, ◌||◌, nat_lt, nat_le}
+use Rattle.std.proofs.Common.{◌≡◌, ℕ, zero, suc, ◌+◌, ◌-◌, ◌%◌, ◌^◌, ◌<◌, ◌≤◌, inl, inr, Bool, true, false, List, [], ◌∷◌, length, set, replicate, Option, Some, None, refl, sym, ◌∙◌, ap, arith}
+use Rattle.std.specs.Prelude.{◌==◌, nat_lt, nat_le}
 use Rattle.std.specs.List.{list_any}
-use Rattle.std.proofs.lemmas.List.{get_or-set_same, get_or-set_other, get_or-replicate, length-set, length-replicate, get_or_past}
-use Rattle.std.proofs.lemmas.Bool.{cases_lt, cases_eq, cases_Bool, both_ways, or_cases, or_left, or_right, and_parts, and_from, eqb-true, eq-eqb, ne_eqb, ltb-true, lt-ltb, le-ltb, le-leb, leb-true, cond-true, cond-false, and_left, false_from_ne_true}
+use Rattle.std.proofs.lemmas.List.{get_or-set_same, get_or-set_other, get_or-replicate, length-replicate}
+use Rattle.std.proofs.lemmas.Bool.{cases_eq, both_ways, or_cases, or_left, or_right, and_parts, and_from, eqb-true, eq-eqb, ne_eqb, ltb-true, lt-ltb, le-ltb, le-leb, leb-true, cond-true, cond-false, and_left, false_from_ne_true}
 use Rattle.std.proofs.lemmas.Nat.{pow_pos}
-use Rattle.vb_model.specs.Pages.{Block, size, covers, is_same_block}
+use Rattle.vb_model.specs.Pages.{Block, covers, is_same_block}
 use Rattle.vb_model.specs.Driver.{with_block, without_block}
 use Rattle.vb_pages.specs.Table.{order_at}
 use Rattle.vb_pages.specs.Areas.{block_at, IsBlock}
 use Rattle.vb_pages.specs.Held.{HeldBlocks, blocks_from, blocks_of, IsAligned}
 use Rattle.vb_pages.proofs.Aligned.{aligned_same, floor_aligned}
-use Rattle.vb_pages.proofs.Sets.{same_bool}
 use Rattle.vb_pages.proofs.TableLemmas.{is_there}
 
 moved : (f i : ℕ) → suc f + i ≡ f + suc i

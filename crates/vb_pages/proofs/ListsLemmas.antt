@@ -1,17 +1,15 @@
 -- Pages that move between a list and the areas: how often each is there.
-use Rattle.std.proofs.Common.{◌≡◌, ℕ, zero, suc, ◌+◌, ◌-◌, ◌%◌, ◌^◌, ◌<◌, ◌≤◌, ◌⊎◌, inl, inr, Bool, true, false, not, List, [], ◌∷◌, ◌++◌, length, Option, Some, None, refl, sym, ◌∙◌, ap, subst, arith, rules, length-append}
-use Rattle.std.specs.Prelude.{◌==◌, ◌||◌, ◌&&◌, count_by, nat_lt, nat_le}
-use Rattle.std.specs.List.{list_any}
+use Rattle.std.proofs.Common.{◌≡◌, ℕ, ◌+◌, ◌%◌, ◌^◌, ◌<◌, ◌≤◌, inl, inr, Bool, true, false, List, [], ◌∷◌, ◌++◌, length, Some, refl, sym, ◌∙◌, ap, subst, arith, length-append}
+use Rattle.std.specs.Prelude.{◌==◌, count_by, nat_lt}
 use Rattle.std.proofs.lemmas.List.Folds.{list_any-append}
-use Rattle.std.proofs.lemmas.Bool.{cases_lt, cases_eq, cases_Bool, both_ways, or_cases, or_parts, or_left, or_right, eqb-true, eq-eqb, ne_eqb, ltb-true, lt-ltb, false_from_ne_true}
-use Rattle.std.proofs.lemmas.Nat.{pow_pos}
+use Rattle.std.proofs.lemmas.Bool.{cases_Bool, both_ways, or_cases, or_parts, or_left, or_right, eqb-true, eq-eqb, ltb-true, false_from_ne_true}
 use Rattle.vb_model.specs.Tests.{is_in, one_if}
-use Rattle.vb_model.specs.Pages.{Block, size, pages_of, covers}
+use Rattle.vb_model.specs.Pages.{pages_of, covers}
 use Rattle.vb_model.proofs.Tables.{count_by-cons, count_by-append}
 use Rattle.vb_model.proofs.PageSteps.{covers_is}
-use Rattle.vb_pages.specs.Areas.{has, with_pages, without_pages, block_at, IsBlock, LiesIn, HasNoBlock, IsChosen, Takes}
+use Rattle.vb_pages.specs.Areas.{has, with_pages, without_pages, block_at, IsBlock, HasNoBlock, Takes}
 use Rattle.vb_pages.specs.FreePages.{TakesPages}
-use Rattle.vb_pages.proofs.Sets.{is_inside, with_union, with_cases, with_old, with_new, has-with_pages, without_parts, without_old, length-with_pages, count_one, same_sets, in_block, block_bounds}
+use Rattle.vb_pages.proofs.Sets.{with_union, with_cases, with_old, with_new, without_parts, without_old, length-with_pages, count_one, same_sets, in_block, block_bounds}
 use Rattle.vb_pages.proofs.AreasLemmas.{taken_inside}
 
 -- how often a page is in a list

@@ -1,23 +1,23 @@
 -- Each page is free or held at most once, before and after a call.
-use Rattle.std.proofs.Common.{◌≡◌, ℕ, zero, suc, ◌+◌, ◌-◌, ◌^◌, ◌<◌, ◌≤◌, ◌⊎◌, inl, inr, Bool, true, false, not, cond, List, [], ◌∷◌, ◌++◌, length, get_or, map, replicate, Option, Some, None, MatchOption, IfSome, refl, sym, ◌∙◌, ap, subst, arith, rules}
-use Rattle.std.specs.Prelude.{◌==◌, ◌||◌, ◌&&◌, count_by, nat_lt, nat_le}
+use Rattle.std.proofs.Common.{◌≡◌, ℕ, ◌+◌, ◌-◌, ◌^◌, ◌<◌, ◌≤◌, inl, inr, Bool, true, false, not, cond, List, [], ◌∷◌, length, map, replicate, Option, Some, None, MatchOption, IfSome, refl, sym, ◌∙◌, ap, subst, arith}
+use Rattle.std.specs.Prelude.{◌||◌, ◌&&◌, count_by, nat_lt, nat_le}
 use Rattle.std.specs.List.{list_any}
-use Rattle.std.proofs.lemmas.Bool.{cases_lt, cases_eq, cases_Bool, both_ways, or_cases, or_parts, or_left, or_right, and_parts, and_from, and_left, and_right, not_from_true, not_from_false, le-leb, leb-true, lt-ltb, ltb-true, false_from_ne_true}
+use Rattle.std.proofs.lemmas.Bool.{cases_lt, cases_Bool, both_ways, or_cases, or_parts, or_right, and_parts, and_from, and_right, not_from_true, not_from_false, le-leb, leb-true, lt-ltb, ltb-true, false_from_ne_true}
 use Rattle.std.proofs.lemmas.Nat.{pow_pos}
 use Rattle.vb_model.specs.Tests.{is_in, one_if}
-use Rattle.vb_model.specs.Pages.{Block, size, pages_of, covers, is_same_block}
+use Rattle.vb_model.specs.Pages.{Block, pages_of, covers, is_same_block}
 use Rattle.vb_model.specs.Driver.{with_block, without_block}
 use Rattle.vb_model.proofs.Tables.{count_by-cons}
 use Rattle.vb_model.proofs.PageSteps.{count-without_block}
 use Rattle.vb_pages.specs.declared.FreeBlock.{FreeBlock}
-use Rattle.vb_pages.specs.Areas.{has, with_pages, without_pages, unreserved, block_at, IsBlock, LiesIn, HasNoBlock, IsMaximal, IsLowestFrom}
+use Rattle.vb_pages.specs.Areas.{has, with_pages, without_pages, unreserved, block_at, IsBlock, LiesIn, IsMaximal, IsLowestFrom}
 use Rattle.vb_pages.specs.FreePages.{FreePages, in_lists, is_free, times_free, drained, TakesPages, Tries, Serves, given_back, IsSound, HasRoomFor}
 use Rattle.vb_pages.specs.Held.{HeldBlocks}
-use Rattle.vb_pages.specs.PageState.{PageState, page_count, is_free_page, is_held_page, is_unreserved, IsWhollyFree, IsApart, IsKept, HasRoomIn}
+use Rattle.vb_pages.specs.PageState.{PageState, is_unreserved, IsKept, HasRoomIn}
 use Rattle.vb_pages.proofs.Sets.{is_inside, length-with_pages, length-without_pages, same_bool, without_parts, without_old, in_block, not_in_block}
 use Rattle.vb_pages.proofs.AreasLemmas.{length-unreserved, has-unreserved}
-use Rattle.vb_pages.proofs.ListsLemmas.{times, times_in, times_out, one_if_le, one_if_true, one_if_false, takes_pages_times, page_block}
-use Rattle.vb_pages.proofs.FreeLemmas.{free_of, flat, flat-empty, flat-replicate, nothing, drained_times, serves_times, serves_length, tries_none, given_times, given_length, block_times, length-takes_pages}
+use Rattle.vb_pages.proofs.ListsLemmas.{times, times_in, times_out, one_if_le, one_if_true, takes_pages_times, page_block}
+use Rattle.vb_pages.proofs.FreeLemmas.{free_of, flat, flat-empty, nothing, drained_times, serves_times, serves_length, tries_none, given_times, given_length, block_times, length-takes_pages}
 use Rattle.vb_pages.proofs.HeldLemmas.{held_of}
 
 -- ---- blocks that cover a page

@@ -1,10 +1,9 @@
 -- The pages of a table that pass a test, around one page.
-use Rattle.std.proofs.Common.{◌≡◌, ◌≢◌, ℕ, zero, suc, ◌+◌, ◌-◌, ◌<◌, ◌≤◌, ◌⊎◌, inl, inr, [], ◌∷◌, ◌++◌, List, length, get_or, set, take, drop, map, Bool, true, false, cond, Option, Some, None, slice_get, MatchOption, eqb, refl, sym, ◌∙◌, ap, subst, arith, rules, length-append, add-one, replicate}
-use Rattle.std.specs.List.{range_with_len}
+use Rattle.std.proofs.Common.{◌≡◌, ◌≢◌, ℕ, zero, suc, ◌+◌, ◌-◌, ◌<◌, ◌≤◌, inl, inr, [], ◌∷◌, ◌++◌, List, length, get_or, set, take, drop, Bool, true, false, cond, Option, Some, None, slice_get, refl, sym, ◌∙◌, ap, arith, length-append, replicate}
 use Rattle.std.proofs.lemmas.List.{set_split, set-get_or, take-append-drop, length-take, length-drop, get_or-set_same, get_or-set_other, same_lists, length-set, length-replicate, get_or_past, get_or-drop}
 use Rattle.std.proofs.lemmas.List.FromFn.{get_or-map-range_with_len, length-map-range_with_len}
-use Rattle.std.proofs.lemmas.Bool.{cases_lt, cases_eq, lt-ltb, eqb-true, eq-eqb, ne_eqb, both_ways}
-use Rattle.vb_model.specs.Tests.{pages_from, pages_where}
+use Rattle.std.proofs.lemmas.Bool.{cases_lt, cases_eq, eqb-true, eq-eqb, ne_eqb, both_ways}
+use Rattle.vb_model.specs.Tests.{pages_from}
 use Rattle.vb_pages.specs.Starts.{Starts, AllBelow, AllFrom}
 use Rattle.vb_pages.specs.Table.{order_at, is_order, starts_of, index_of, IsLowestStart}
 

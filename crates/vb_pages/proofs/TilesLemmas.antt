@@ -1,17 +1,17 @@
 -- Blocks that a table lists: which are maximal in the set that they make up, and what a change of one does to it.
-use Rattle.std.proofs.Common.{◌≡◌, ◌≢◌, ℕ, zero, suc, ◌+◌, ◌-◌, ◌*◌, ◌%◌, ◌^◌, ◌<◌, ◌≤◌, min, ◌⊎◌, inl, inr, Bool, true, false, not, ◌||◌, ◌&&◌, List, [], ◌∷◌, length, get_or, set, replicate, map, Option, Some, None, eqb, refl, sym, ◌∙◌, ap, subst, arith, rules}
+use Rattle.std.proofs.Common.{◌≡◌, ◌≢◌, ℕ, zero, suc, ◌+◌, ◌-◌, ◌%◌, ◌^◌, ◌<◌, ◌≤◌, min, ◌⊎◌, inl, inr, Bool, true, false, not, List, length, set, replicate, Option, Some, None, refl, sym, ◌∙◌, ap, subst, arith}
 use Rattle.std.specs.List.{list_any, range_with_len}
 use Rattle.std.proofs.lemmas.List.{get_or-set_same, get_or-set_other, length-set, length-replicate, get_or-replicate}
 use Rattle.std.proofs.lemmas.List.FromFn.{get_or-map-range_with_len, length-map-range_with_len}
 use Rattle.std.proofs.lemmas.Nat.{pow_pos}
 use Rattle.std.proofs.lemmas.Bool.{cases_lt, cases_eq, cases_Bool, both_ways, or_cases, or_left, or_right, eq-eqb, eqb-true, false_from_ne_true, and_right, not_from_true}
-use Rattle.vb_model.specs.Pages.{Block, size, pages_of}
+use Rattle.vb_model.specs.Pages.{Block, pages_of}
 use Rattle.vb_pages.specs.declared.FreeBlock.{FreeBlock}
 use Rattle.vb_pages.specs.Table.{order_at, is_order, IsLowestStart}
 use Rattle.vb_model.specs.Tests.{is_in}
 use Rattle.vb_pages.specs.Tiles.{is_covered, set_of, IsPlaced, IsMerged, IsBuddy, HasRoom, IsTiled, IsLowestListed}
 use Rattle.vb_pages.specs.Areas.{has, with_pages, without_pages, block_at, IsBlock, LiesIn, LiesWithin, IsMaximal, HasNoBlock, IsChosen}
-use Rattle.vb_pages.proofs.Aligned.{aligned_step, aligned_same, right_half, left_of, aligned_add, aligned_down, end_aligned, pow_aligned, pow_twice, floor_aligned}
+use Rattle.vb_pages.proofs.Aligned.{aligned_step, aligned_same, right_half, aligned_down, end_aligned, pow_twice, floor_aligned}
 use Rattle.vb_pages.proofs.TableLemmas.{is_order-true, is_order-self, is_there}
 use Rattle.vb_pages.proofs.Sets.{same_sets, is_inside, length-with_pages, length-without_pages, with_old, with_new, with_cases, without_parts, without_old, in_block, block_bounds, not_in_block, has-without_pages, with_without, without_with, halves, halves_turned}
 

@@ -1,5 +1,5 @@
 -- Held blocks: a table by page, seen as blocks by rising start.
-use Rattle.std.specs.Prelude.{◌≡◌, ℕ, suc, ◌%◌, ◌^◌, ◌≤◌, List, [], ◌∷◌, length, Option, Some, None}
+use Rattle.std.specs.Prelude.{◌≡◌, ℕ, suc, ◌%◌, ◌^◌, ◌≤◌, List, [], ◌∷◌, Option, Some, None}
 use Rattle.vb_model.specs.Pages.{Block}
 use Rattle.vb_pages.specs.Table.{order_at}
 use Rattle.vb_pages.specs.Areas.{block_at}

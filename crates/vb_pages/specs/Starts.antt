@@ -1,5 +1,5 @@
 -- A list of block starts, and the room that was reserved for it.
-use Rattle.std.specs.Prelude.{◌≡◌, ℕ, ◌<◌, ◌≤◌, List, length, slice_index}
+use Rattle.std.specs.Prelude.{ℕ, ◌<◌, ◌≤◌, List, length, slice_index}
 
 pub record Starts : Type 0 where
   pub items : List ℕ

@@ -1,5 +1,5 @@
 -- A table by page of the blocks that start there: an order a page, where a block does.
-use Rattle.std.specs.Prelude.{◌≡◌, ℕ, ◌≤◌, Bool, true, false, ◌==◌, List, length, map, Option, Some, None, slice_index_or}
+use Rattle.std.specs.Prelude.{◌≡◌, ℕ, ◌≤◌, Bool, false, ◌==◌, List, length, map, Option, Some, None, slice_index_or}
 use Rattle.std.specs.List.{range_with_len}
 use Rattle.vb_model.specs.Tests.{pages_where}
 use Rattle.vb_pages.specs.Starts.{Starts}

@@ -1,4 +1,4 @@
-use Rattle.std.proofs.Common.{◌≡◌, ◌<◌, ◌≤◌, ◌^◌, ◌+◌, ◌-◌, ℕ, List, Bool, Option, Some, None, set, ap, subst, ◌∙◌, sym, arith}
+use Rattle.std.proofs.Common.{◌≡◌, ◌+◌, ◌-◌, ℕ, List, Bool, Option, Some, set, ap, subst, ◌∙◌, sym, arith}
 use Rattle.vb_model.specs.Pages.{pages_of}
 use Rattle.vb_pages.specs.Areas.{with_pages, without_pages, block_at}
 use Rattle.vb_pages.specs.Tiles.{HasRoom, IsTiled, set_of}

@@ -1,4 +1,4 @@
-use Rattle.std.proofs.Common.{◌≡◌, ◌≤◌, ◌^◌, ◌+◌, ◌-◌, ◌*◌, ◌%◌, suc, inr, ap, ◌∙◌, sym, arith}
+use Rattle.std.proofs.Common.{◌≡◌, ◌^◌, ◌-◌, ◌*◌, ◌%◌, suc, inr, ap, ◌∙◌, arith}
 use Rattle.vb_pages.proofs.Aligned.{left_of, pow_twice}
 use Rattle.vb_pages.proofs.areas.buddy_of.Goals as goal
 

@@ -1,5 +1,3 @@
-use Rattle.std.proofs.Common.{◌≡◌, ◌<◌, ◌≤◌, ℕ, Option, Some, None}
-use Rattle.vb_pages.specs.Table.{order_at}
 use Rattle.vb_pages.proofs.TilesLemmas.{IsLowestBelow}
 use Rattle.vb_pages.proofs.areas.lowest_from.Given as goal
 

@@ -1,4 +1,4 @@
-use Rattle.std.proofs.Common.{◌≡◌, ◌≤◌, ◌^◌, ◌*◌, ◌%◌, arith}
+use Rattle.std.proofs.Common.{arith}
 use Rattle.std.proofs.lemmas.Nat.{one_shl}
 use Rattle.vb_pages.proofs.Aligned.{pow_small}
 use Rattle.vb_pages.proofs.areas.size_of.Goals as goal

@@ -1,7 +1,7 @@
-use Rattle.std.proofs.Common.{◌≡◌, ◌<◌, ◌≤◌, ℕ, List, Option, Some, None, Bool, set, ap, subst, ◌∙◌, sym, arith, rules}
+use Rattle.std.proofs.Common.{◌≡◌, ◌≤◌, ℕ, List, Option, Some, None, set, ap, subst, ◌∙◌, sym, arith}
 use Rattle.vb_model.specs.Pages.{pages_of}
-use Rattle.vb_pages.specs.Areas.{without_pages, with_pages, block_at, HasNoBlock, IsChosen}
-use Rattle.vb_pages.specs.Table.{order_at, IsLowestStart}
+use Rattle.vb_pages.specs.Areas.{without_pages, with_pages, block_at}
+use Rattle.vb_pages.specs.Table.{IsLowestStart}
 use Rattle.vb_pages.specs.Tiles.{HasRoom, IsTiled, set_of}
 use Rattle.vb_pages.proofs.TilesLemmas.{removed_tiled, removed_room, chosen, none_inside, none_more, part_left}
 use Rattle.vb_pages.proofs.areas.take_block.Goals as goal

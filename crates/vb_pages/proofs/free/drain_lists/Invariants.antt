@@ -1,6 +1,3 @@
-use Rattle.std.proofs.Common.{◌≡◌, ◌+◌, ◌<◌, ◌≤◌, ℕ, List, [], length, get_or, take}
-use Rattle.std.specs.Prelude.{count_by}
-use Rattle.std.specs.List.{flat_map}
 use Rattle.vb_pages.proofs.FreeLemmas.{IsDrainedSoFar}
 use Rattle.vb_pages.proofs.free.drain_lists.Given as goal
 

@@ -1,4 +1,4 @@
-use Rattle.std.proofs.Common.{rules, ◌≡◌, ltb, rules, arith}
+use Rattle.std.proofs.Common.{rules, ltb, rules}
 use Rattle.std.proofs.lemmas.List.Sorted.{IsPartitionPoint-from_clause}
 use Rattle.vb_pages.proofs.StartsLemmas.{partitioned, point_is}
 use Rattle.vb_pages.proofs.starts.place_of.Goals as goal

@@ -1,7 +1,6 @@
-use Rattle.std.proofs.Common.{◌≡◌, ◌≤◌, ◌<◌, ◌+◌, ℕ, List, [], ◌∷◌, Bool, true, false, ◌⊎◌, inl, inr, length, ap, subst, ◌∙◌, sym, refl, arith}
-use Rattle.std.specs.Prelude.{◌==◌, ◌||◌}
+use Rattle.std.proofs.Common.{◌≡◌, List, [], ◌∷◌, Bool, false, inl, inr, length, ap, ◌∙◌, sym, refl, arith}
+use Rattle.std.specs.Prelude.{◌==◌}
 use Rattle.std.proofs.lemmas.Bool.{or_cases, or_left, eqb-true, eq-eqb, both_ways, cases_eq}
-use Rattle.vb_model.specs.Tests.{is_in}
 use Rattle.vb_pages.specs.Areas.{has, with_pages}
 use Rattle.vb_pages.proofs.Sets.{with_cases, with_old, with_new, length-with_pages}
 use Rattle.vb_pages.proofs.AreasLemmas.{unreserved_is}

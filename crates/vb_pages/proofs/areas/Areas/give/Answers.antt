@@ -1,8 +1,8 @@
-use Rattle.std.proofs.Common.{◌≡◌, ◌≤◌, ◌<◌, ◌+◌, ◌^◌, ℕ, List, Bool, length, Fits, w32, ap, subst, ◌∙◌, sym, arith}
+use Rattle.std.proofs.Common.{◌≡◌, ◌≤◌, ◌+◌, ◌^◌, ℕ, List, Bool, length, ap, ◌∙◌, sym, arith}
 use Rattle.std.specs.Prelude.{count_by}
 use Rattle.std.proofs.lemmas.Bool.{eqb-true}
 use Rattle.vb_pages.specs.Areas.{has, block_at, LiesOutside}
-use Rattle.vb_pages.specs.Tiles.{set_of, HasRoom}
+use Rattle.vb_pages.specs.Tiles.{set_of}
 use Rattle.vb_pages.proofs.Sets.{count_le}
 use Rattle.vb_pages.proofs.TilesLemmas.{length-set_of}
 use Rattle.vb_pages.proofs.AreasLemmas.{count_with_block}

@@ -1,8 +1,7 @@
-use Rattle.std.proofs.Common.{◌≡◌, ◌≤◌, ◌<◌, ◌+◌, ◌-◌, ◌^◌, ℕ, List, Bool, Option, Some, None, length, set, MatchOption, ap, subst, ◌∙◌, sym, refl, arith}
+use Rattle.std.proofs.Common.{◌≡◌, List, Bool, Some, ap, subst, ◌∙◌, sym, refl, arith}
 use Rattle.std.specs.Prelude.{count_by}
 use Rattle.vb_model.specs.Pages.{pages_of}
-use Rattle.vb_pages.specs.declared.FreeBlock.{FreeBlock}
-use Rattle.vb_pages.specs.Areas.{has, without_pages, block_at, IsMaximal, IsLowestFrom, LiesIn}
+use Rattle.vb_pages.specs.Areas.{without_pages, block_at, IsMaximal, IsLowestFrom}
 use Rattle.vb_pages.specs.Table.{order_at}
 use Rattle.vb_pages.specs.Tiles.{set_of}
 use Rattle.vb_pages.proofs.TilesLemmas.{listed_inside, removed_tiled, removed_set}

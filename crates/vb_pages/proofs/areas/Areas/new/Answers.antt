@@ -1,4 +1,4 @@
-use Rattle.std.proofs.Common.{◌≡◌, ℕ, List, Bool, Option, None, replicate, length, ap, subst, ◌∙◌, sym, arith}
+use Rattle.std.proofs.Common.{◌≡◌, ℕ, List, Option, None, replicate, length, ap, subst, ◌∙◌, sym}
 use Rattle.std.specs.Prelude.{count_by}
 use Rattle.vb_pages.specs.Areas.{has}
 use Rattle.vb_pages.specs.Tiles.{set_of, IsTiled}

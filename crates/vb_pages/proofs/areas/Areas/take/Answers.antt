@@ -1,7 +1,5 @@
-use Rattle.std.proofs.Common.{◌≡◌, ◌≤◌, ◌+◌, ◌-◌, ◌^◌, ℕ, List, Bool, length, ap, subst, ◌∙◌, sym, arith}
+use Rattle.std.proofs.Common.{◌≡◌, ◌+◌, ◌^◌, ℕ, List, Bool, ap, ◌∙◌, sym, arith}
 use Rattle.std.specs.Prelude.{count_by}
-use Rattle.vb_model.specs.Pages.{pages_of}
-use Rattle.vb_pages.specs.Areas.{without_pages, block_at}
 use Rattle.vb_pages.specs.Tiles.{set_of}
 use Rattle.vb_pages.proofs.AreasLemmas.{count_without_block, taken_inside}
 use Rattle.vb_pages.proofs.areas.Areas.take.Goals as goal

@@ -1,7 +1,6 @@
-use Rattle.std.proofs.Common.{◌≡◌, ◌<◌, ◌≤◌, ◌+◌, ℕ, List, [], ◌∷◌, ◌++◌, Bool, Option, Some, None, length, get_or, set, take, drop, map, replicate, ap, subst, ◌∙◌, sym, refl, arith, rules}
-use Rattle.vb_model.specs.Pages.{pages_of}
-use Rattle.vb_pages.specs.Areas.{with_pages, without_pages, block_at, unreserved, HasNoBlock, Takes}
-use Rattle.vb_pages.specs.FreePages.{FreePages, IsSound, HasRoomFor, list_of, drained, Tries, Serves, TakesSingle, TakesPages, given_back}
+use Rattle.std.proofs.Common.{◌≡◌, ◌<◌, ◌≤◌, ◌+◌, ℕ, List, [], ◌∷◌, ◌++◌, Bool, length, set, take, drop, ap, subst, ◌∙◌, sym, arith}
+use Rattle.vb_pages.specs.Areas.{with_pages}
+use Rattle.vb_pages.specs.FreePages.{FreePages, IsSound, HasRoomFor, list_of}
 use Rattle.std.proofs.lemmas.List.{get_or_default, length-append}
 use Rattle.std.proofs.lemmas.Bool.{eqb-false}
 use Rattle.std.specs.Prelude.{◌==◌, false}

@@ -1,10 +1,6 @@
-use Rattle.std.proofs.Common.{◌≡◌, ◌<◌, ◌≤◌, ◌+◌, ℕ, List, [], ◌∷◌, ◌++◌, Bool, Option, Some, None, length, get_or, set, take, drop, map, replicate, ap, subst, ◌∙◌, sym, refl, arith, rules}
-use Rattle.vb_model.specs.Pages.{pages_of}
-use Rattle.vb_pages.specs.Areas.{with_pages, without_pages, block_at, unreserved, HasNoBlock, Takes}
-use Rattle.vb_pages.specs.FreePages.{FreePages, IsSound, HasRoomFor, list_of, drained, Tries, Serves, TakesSingle, TakesPages, given_back}
-use Rattle.std.proofs.lemmas.List.{get_or_default}
-use Rattle.vb_pages.proofs.ListsLemmas.{Once}
-use Rattle.vb_pages.proofs.AreasLemmas.{length-unreserved}
+use Rattle.std.proofs.Common.{◌≡◌, ℕ, List, ◌++◌, length, take, drop, map, ap, ◌∙◌, arith}
+use Rattle.vb_pages.specs.Areas.{unreserved}
+use Rattle.vb_pages.specs.FreePages.{FreePages}
 use Rattle.std.proofs.lemmas.List.{length-map}
 use Rattle.vb_pages.proofs.FreeLemmas.{rows_back, sound_at, all_nothing, fresh_sound, flat-empty, list-empty, free_of, same_free, nothing}
 use Rattle.vb_pages.proofs.free.FreePages.renew.Goals as goal

@@ -1,9 +1,5 @@
-use Rattle.std.proofs.Common.{◌≡◌, ◌<◌, ◌≤◌, ◌+◌, ℕ, List, [], ◌∷◌, ◌++◌, Bool, Option, Some, None, length, get_or, set, take, drop, map, replicate, ap, subst, ◌∙◌, sym, refl, arith, rules}
-use Rattle.vb_model.specs.Pages.{pages_of}
-use Rattle.vb_pages.specs.Areas.{with_pages, without_pages, block_at, unreserved, HasNoBlock, Takes}
-use Rattle.vb_pages.specs.FreePages.{FreePages, IsSound, HasRoomFor, list_of, drained, Tries, Serves, TakesSingle, TakesPages, given_back}
-use Rattle.std.proofs.lemmas.List.{get_or_default}
-use Rattle.vb_pages.proofs.ListsLemmas.{Once}
+use Rattle.std.proofs.Common.{subst}
+use Rattle.vb_pages.specs.FreePages.{FreePages, Tries}
 use Rattle.vb_pages.proofs.FreeLemmas.{serves_later}
 use Rattle.vb_pages.proofs.free.FreePages.take.Goals as goal
 

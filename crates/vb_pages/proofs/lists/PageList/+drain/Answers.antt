@@ -1,7 +1,7 @@
-use Rattle.std.proofs.Common.{◌≡◌, ◌<◌, ◌≤◌, ◌+◌, ℕ, List, [], ◌∷◌, Bool, length, ap, subst, ◌∙◌, sym, arith}
+use Rattle.std.proofs.Common.{◌≡◌, ◌+◌, ℕ, List, Bool, length, ap, subst, ◌∙◌, sym, arith}
 use Rattle.std.specs.Prelude.{count_by}
 use Rattle.vb_pages.specs.Areas.{with_pages}
-use Rattle.vb_pages.proofs.ListsLemmas.{Once, last_inside, last_outside, rest_once, rest_set, last_count, last_length, with_none}
+use Rattle.vb_pages.proofs.ListsLemmas.{Once, last_inside, rest_once, rest_set, last_count, last_length, with_none}
 use Rattle.vb_pages.proofs.lists.PageList.+drain.Goals as goal
 
 pub give-requires-clause-inside : goal.give-requires-clause-inside

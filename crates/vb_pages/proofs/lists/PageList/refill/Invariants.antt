@@ -1,4 +1,4 @@
-use Rattle.std.proofs.Common.{◌≡◌, ◌≤◌, ◌<◌, length}
+use Rattle.std.proofs.Common.{◌≤◌, ◌<◌, length}
 use Rattle.vb_pages.specs.Areas.{HasNoBlock}
 use Rattle.vb_pages.specs.FreePages.{TakesPages}
 use Rattle.vb_pages.proofs.lists.PageList.refill.Given as goal

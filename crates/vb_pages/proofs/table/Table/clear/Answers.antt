@@ -1,4 +1,4 @@
-use Rattle.std.proofs.Common.{◌≡◌, ◌≢◌, ◌<◌, ◌⊎◌, inl, inr, Some, None, List, ℕ, [], ◌∷◌, ◌++◌, length, get_or, arith, sym, ◌∙◌, ap, refl, rules, set, take, drop, replicate}
+use Rattle.std.proofs.Common.{◌≡◌, ◌<◌, inl, inr, None, List, ℕ, [], ◌++◌, length, get_or, arith, sym, ◌∙◌, ap, rules, set, take, drop, replicate}
 use Rattle.std.proofs.lemmas.List.{get_or-set_same, get_or-set_other, get_or_default, drop_all, take_all, append-nil}
 use Rattle.std.proofs.lemmas.Bool.{cases_eq}
 use Rattle.vb_pages.specs.Starts.{Starts}

@@ -1,7 +1,7 @@
 use Rattle.std.proofs.Common.{◌≡◌, ◌<◌, ℕ, List, Option, length, sym, ◌∙◌, ap, subst, arith, ◌++◌, slice_get}
 use Rattle.vb_pages.specs.Starts.{Starts}
-use Rattle.vb_pages.specs.Table.{index_of, starts_of, IsLowestStart}
-use Rattle.vb_pages.proofs.TableLemmas.{list_now, length-index_of, lowest_first, lowest_after, starts-split, before_of, after_of, before_below, after_above, entry}
+use Rattle.vb_pages.specs.Table.{index_of, IsLowestStart}
+use Rattle.vb_pages.proofs.TableLemmas.{list_now, length-index_of, lowest_after, starts-split, before_of, after_of, before_below, after_above}
 use Rattle.vb_pages.proofs.table.Table.first_from.Goals as goal
 
 pub index-requires : goal.index-requires

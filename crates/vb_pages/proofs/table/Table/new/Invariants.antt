@@ -1,4 +1,4 @@
-use Rattle.std.proofs.Common.{◌≡◌, ◌≤◌, map, [], List, ℕ}
+use Rattle.std.proofs.Common.{◌≡◌, map, []}
 use Rattle.std.specs.List.{range_with_len}
 use Rattle.vb_pages.proofs.TableLemmas.{entry}
 use Rattle.vb_pages.proofs.table.Table.new.Given as goal

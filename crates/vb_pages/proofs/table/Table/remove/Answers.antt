@@ -1,4 +1,4 @@
-use Rattle.std.proofs.Common.{◌≡◌, ◌<◌, Some, None, Option, List, ℕ, [], ◌∷◌, ◌++◌, length, get_or, arith, sym, ◌∙◌, ap, refl, rules, set}
+use Rattle.std.proofs.Common.{◌≡◌, ◌<◌, Some, Option, List, ℕ, ◌∷◌, ◌++◌, length, arith, sym, ◌∙◌, ap, set}
 use Rattle.vb_pages.specs.Starts.{Starts, AllFrom}
 use Rattle.vb_pages.specs.Table.{order_at, index_of}
 use Rattle.vb_pages.proofs.TableLemmas.{list_now, length-index_of, index-removed, starts-with, is_there, front_of, back_of, front_below, back_above, entry}
