@@ -7,7 +7,7 @@ ghost use Rattle.vb_model.specs.Brought.{is_brought};
 ghost use Rattle.vb_sim.specs.Lines.{is_pace_brought};
 
 use crate::names::{NAMES, Name, find};
-use crate::words::{LineFault, Words};
+use crate::words::{LineFault, Words, number};
 use hex::FromHexError;
 use std::alloc::Global;
 use vb_model::limits::{MAX_FRAMES, PAGE_SIZE};
@@ -68,11 +68,10 @@ pub fn host(line: &[u8]) -> Result<u32, LineFault>
     if words.word()? != b"host".as_slice() {
         return Err(LineFault::Bad);
     }
-    let frames = words.number()?;
+    let frames = number(words.last_word()?).ok_or(LineFault::Bad)?;
     if frames == 0 || frames > MAX_FRAMES {
         return Err(LineFault::Bad);
     }
-    words.end()?;
     Ok(frames)
 }
 
@@ -92,8 +91,7 @@ pub fn any_spare(line: &[u8]) -> Result<Option<Pace>, LineFault> {
     if words.word()? != b"spare".as_slice() {
         return Ok(None);
     }
-    let pace = find(&PACES, words.word()?).ok_or(LineFault::Bad)?;
-    words.end()?;
+    let pace = find(&PACES, words.last_word()?).ok_or(LineFault::Bad)?;
     Ok(Some(pace))
 }
 

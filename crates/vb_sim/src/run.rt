@@ -127,7 +127,8 @@ fn read_text<R: Read + Drop>(alloc: Global, input: R) -> Result<Vec<u8>, RunFaul
     Ok(text)
 }
 
-/// Runs a script and writes its replies, once all are there.
+/// Runs a script and writes its replies, once all are there. The memory to write them is taken
+/// before anything runs.
 fn write_replies<P: Play, O: Write + Drop>(
     alloc: Global,
     host: &mut P,
@@ -135,12 +136,30 @@ fn write_replies<P: Play, O: Write + Drop>(
     output: O,
 ) -> Result<(), RunFault> {
     let mut out = BufWriter::new(alloc, output)?;
+    play_into(alloc, host, script, &mut out)
+}
+
+/// Runs a script and writes its replies to `out`.
+fn play_into<P: Play, W: Write>(
+    alloc: Global,
+    host: &mut P,
+    script: &Script,
+    out: &mut W,
+) -> Result<(), RunFault> {
     let replies = host.play(alloc, script)?;
-    write_lines(&mut out, replies.as_slice()).map_err(|_fault| RunFault::Stream)
+    write_lines(out, replies.as_slice())
+}
+
+/// Writes a line for each reply; a fault of the stream ends the run.
+fn write_lines<W: Write>(out: &mut W, replies: &[Reply]) -> Result<(), RunFault> {
+    match write_all_lines(out, replies) {
+        Ok(()) => Ok(()),
+        Err(_fault) => Err(RunFault::Stream),
+    }
 }
 
 /// Writes a line for each reply.
-fn write_lines<W: Write>(out: &mut W, replies: &[Reply]) -> io::Result<()> {
+fn write_all_lines<W: Write>(out: &mut W, replies: &[Reply]) -> io::Result<()> {
     for reply in replies {
         write_reply(out, reply)?;
     }

@@ -9,7 +9,7 @@ use std::alloc::AllocError;
 const SPACE: u8 = b' ';
 
 /// Why a line gives nothing.
-#[derive(Clone, Copy, Debug, PartialEq, Eq)]
+#[derive(Clone, Copy, PartialEq, Eq)]
 pub enum LineFault {
     /// It isn't a line of the format, or not at its place in the script.
     Bad,
@@ -65,6 +65,13 @@ impl<'a> Words<'a> {
         } else {
             Err(LineFault::Bad)
         }
+    }
+
+    /// The next word, if it is the last one; a line that has no word left, or more, is bad.
+    pub fn last_word(&mut self) -> Result<&'a [u8], LineFault> {
+        let word = self.word()?;
+        self.end()?;
+        Ok(word)
     }
 
     /// The next word as a number of at most 32 bits.

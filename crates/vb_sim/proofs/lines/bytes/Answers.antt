@@ -1,4 +1,4 @@
-use Rattle.std.proofs.Common.{◌≡◌, ◌*◌, ◌<◌, ◌≤◌, ◌⊎◌, inl, inr, length, Ok, rules, arith}
+use Rattle.std.proofs.Common.{◌≡◌, ◌*◌, ◌<◌, ◌≤◌, inl, inr, length, Ok, rules, arith}
 use Rattle.hex.specs.Hex.{decode_of}
 use Rattle.vb_sim.proofs.Hex.{IsByteWord-decodes, not_byte_word}
 use Rattle.vb_sim.specs.declared.words.LineFault.TheVariants.{Bad}
