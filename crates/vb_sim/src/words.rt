@@ -9,7 +9,7 @@ use std::alloc::AllocError;
 const SPACE: u8 = b' ';
 
 /// Why a line gives nothing.
-#[derive(Clone, Copy, PartialEq, Eq)]
+#[derive(Clone, Copy, Debug, PartialEq, Eq)]
 pub enum LineFault {
     /// It isn't a line of the format, or not at its place in the script.
     Bad,
