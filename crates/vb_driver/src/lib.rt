@@ -1,0 +1,4 @@
+//! The balloon driver of a guest.
+#![tactic(auto)]
+
+mod places;
