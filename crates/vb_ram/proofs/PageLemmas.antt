@@ -1,75 +1,77 @@
-use Rattle.std.proofs.Common.{◌≡◌, ◌≢◌, ℕ, zero, suc, ◌+◌, ◌<◌, List, [], ◌∷◌, Option, Some, None, is_some, length, get_or, set, replicate, refl, sym, ◌∙◌, ap, arith}
-use Rattle.std.proofs.Common.{inl, inr}
-use Rattle.std.proofs.lemmas.Bool.{cases_eq, cases_lt}
-use Rattle.std.proofs.lemmas.List.{get_or-set_same, get_or-set_other, get_or_default, length-map, length-set, get_or-replicate, get_or_past, length-replicate}
-use Rattle.std.specs.Prelude.{IfSome}
-use Rattle.vb_ram.specs.declared.memory.Frame.{Frame}
-use Rattle.vb_ram.specs.Pages.{byte_of, byte_at, number_of, page_at, frame_at, Wrote, Supplied, Discarded}
-use Rattle.vb_ram.specs.Frames.{seen_of, page_of, pages_of}
+-- What a memory is where one of its pages was exchanged.
+use Rattle.std.proofs.Common.{◌≡◌, ◌≢◌, ℕ, zero, suc, ◌+◌, ◌<◌, List, Option, Some, None, length, get_or, set, replicate, refl, sym, ◌∙◌, ap, inl, inr}
+use Rattle.std.proofs.lemmas.Bool.{cases_eq}
+use Rattle.std.proofs.lemmas.List.{get_or-set_same, get_or-set_other, get_or_default, length-set}
+use Rattle.vb_model.specs.Guest.{zero_page}
+use Rattle.vb_ram.specs.Pages.{Page, Pages, byte_of, byte_at, number_of, contents_of, page_at, frame_at, contents_at, IsWhole, Wrote, Supplied}
+use Rattle.vb_ram.specs.Contents.{length-zero_page, zero_page-at}
+use Rattle.vb_ram.specs.Memory.{IsMemory}
 use Rattle.vb_ram.specs.Put.{PutAt}
 
--- what a page that is seen through its frames has
-pub page-pages_of : (xs : List (Option Frame)) (p : ℕ) → page_at (pages_of xs) p ≡ page_of (get_or xs p None)
-page-pages_of [] p = refl
-page-pages_of (x ∷ xs) zero = refl
-page-pages_of (x ∷ xs) (suc p) = page-pages_of xs p
+-- the page that was read is the page there
+pub page_read : (mem : Pages) (p : ℕ) (page : Option Page) → p < length mem → page ≡ get_or mem p page → page_at mem p ≡ page
+page_read mem p page lt e = get_or_default mem p None page lt ∙ sym e
 
-pub byte-pages_of : (xs : List (Option Frame)) (p o : ℕ) (page : Option Frame) → p < length xs → page ≡ get_or xs p page → byte_at (pages_of xs) p o ≡ byte_of (page_of page) o
+pub byte_read : (mem : Pages) (p o : ℕ) (page : Option Page) → p < length mem → page ≡ get_or mem p page → byte_at mem p o ≡ byte_of page o
 unfolding byte_at
-byte-pages_of xs p o page lt e =
-    ap (λ w. byte_of w o) (page-pages_of xs p) ∙ ap (λ w. byte_of (page_of w) o) (get_or_default xs p None page lt ∙ sym e)
+byte_read mem p o page lt e = ap (λ w. byte_of w o) (page_read mem p page lt e)
 
 -- a page that is there has been exchanged for one with other bytes
-pub wrote : (xs : List (Option Frame)) (p off : ℕ) (bs : List ℕ) (f g : Frame) (page : Option Frame) → p < length xs → page ≡ get_or xs p page → page ≡ Some f → g.number ≡ f.number → PutAt f.bytes.items g.bytes.items off bs → Wrote (pages_of xs) (pages_of (set xs p (Some g))) p off bs
+pub wrote : (mem : Pages) (p off : ℕ) (bs : List ℕ) (f g : Page) → p < length mem → page_at mem p ≡ Some f → g.number ≡ f.number → length g.bytes ≡ length f.bytes → PutAt f.bytes g.bytes off bs → Wrote mem (set mem p (Some g)) p off bs
 unfolding byte_at
-wrote xs p off bs f g page lt e is same_number put =
-    let was : page_at (pages_of xs) p ≡ Some (seen_of f) =
-    page-pages_of xs p ∙ ap page_of (get_or_default xs p None page lt ∙ sym e ∙ is) in
-    let now : page_at (pages_of (set xs p (Some g))) p ≡ Some (seen_of g) =
-    page-pages_of (set xs p (Some g)) p ∙ ap page_of (get_or-set_same xs p (Some g) None lt) in
-    let apart : (q : ℕ) → q ≢ p → page_at (pages_of (set xs p (Some g))) q ≡ page_at (pages_of xs) q =
-    λ q ne. page-pages_of (set xs p (Some g)) q ∙ ap page_of (get_or-set_other xs p q (Some g) None ne) ∙ sym (page-pages_of xs q) in
+wrote mem p off bs f g lt was same_number same_length put =
+    let now : page_at (set mem p (Some g)) p ≡ Some g = get_or-set_same mem p (Some g) None lt in
+    let apart : (q : ℕ) → q ≢ p → page_at (set mem p (Some g)) q ≡ page_at mem q =
+    λ q ne. get_or-set_other mem p q (Some g) None ne in
     record {
       written = λ k h. ap (λ w. byte_of w (off + k)) now ∙ put.written k h;
       rest = record {
         below = λ o h. ap (λ w. byte_of w o) now ∙ put.below o h ∙ sym (ap (λ w. byte_of w o) was);
         above = λ o h. ap (λ w. byte_of w o) now ∙ put.above o h ∙ sym (ap (λ w. byte_of w o) was);
         others = apart;
-        backing = λ q. elim (cases_eq q p) [ inl same ↦ ap (λ n. frame_at (pages_of (set xs p (Some g))) n) same ∙ ap number_of now ∙ ap Some same_number ∙ sym (ap number_of was) ∙ sym (ap (λ n. frame_at (pages_of xs) n) same) | inr ne ↦ ap number_of (apart q ne) ];
-        count = length-map (set xs p (Some g)) page_of ∙ length-set xs p (Some g) ∙ sym (length-map xs page_of);
+        backing = λ q. elim (cases_eq q p) [
+          | inl same ↦ ap (λ n. frame_at (set mem p (Some g)) n) same ∙ ap number_of now ∙ ap Some same_number ∙ sym (ap number_of was) ∙ sym (ap (λ n. frame_at mem n) same)
+          | inr ne ↦ ap number_of (apart q ne)
+        ];
+        sizes = λ q. elim (cases_eq q p) [
+          | inl same ↦ ap (λ n. length (contents_at (set mem p (Some g)) n)) same ∙ ap (λ w. length (contents_of w)) now ∙ same_length
+          ∙ sym (ap (λ w. length (contents_of w)) was) ∙ sym (ap (λ n. length (contents_at mem n)) same)
+          | inr ne ↦ ap (λ w. length (contents_of w)) (apart q ne)
+        ];
+        count = length-set mem p (Some g);
       };
     }
 
--- a page has been exchanged
-pub page_now : (xs : List (Option Frame)) (p : ℕ) (new : Option Frame) → p < length xs → page_at (pages_of (set xs p new)) p ≡ page_of new
-page_now xs p new lt = page-pages_of (set xs p new) p ∙ ap page_of (get_or-set_same xs p new None lt)
-
-pub page_others : (xs : List (Option Frame)) (p : ℕ) (new : Option Frame) (q : ℕ) → q ≢ p → page_at (pages_of (set xs p new)) q ≡ page_at (pages_of xs) q
-page_others xs p new q ne = page-pages_of (set xs p new) q ∙ ap page_of (get_or-set_other xs p q new None ne) ∙ sym (page-pages_of xs q)
-
-pub count_same : (xs : List (Option Frame)) (p : ℕ) (new : Option Frame) → length (pages_of (set xs p new)) ≡ length (pages_of xs)
-count_same xs p new = length-map (set xs p new) page_of ∙ length-set xs p new ∙ sym (length-map xs page_of)
-
--- a page of zeros
-pub supplied : (xs : List (Option Frame)) (p : ℕ) (f : Frame) → p < length xs → ((k : ℕ) → get_or f.bytes.items k 0 ≡ 0) → Supplied (pages_of xs) (pages_of (set xs p (Some f))) p f.number
+-- a page has been exchanged for one of zeros
+pub supplied : (mem : Pages) (p : ℕ) (f : Page) → p < length mem → f.bytes ≡ zero_page → Supplied mem (set mem p (Some f)) p f.number
 unfolding byte_at
-supplied xs p f lt zeros = record {
-  zero = λ o. ap (λ w. byte_of w o) (page_now xs p (Some f) lt) ∙ zeros o;
-  backed = ap number_of (page_now xs p (Some f) lt);
-  others = page_others xs p (Some f);
-  count = count_same xs p (Some f);
+supplied mem p f lt zeros =
+    let now : page_at (set mem p (Some f)) p ≡ Some f = get_or-set_same mem p (Some f) None lt in
+    record {
+      zero = λ o. ap (λ w. byte_of w o) now ∙ ap (λ (bs : List ℕ). get_or bs o 0) zeros ∙ zero_page-at o;
+      contents = ap contents_of now ∙ zeros;
+      backed = ap number_of now;
+      others = λ q ne. get_or-set_other mem p q (Some f) None ne;
+      count = length-set mem p (Some f);
+    }
+
+-- memory stays whole where a page is exchanged for a whole one
+pub is_memory-set : (count : ℕ) (mem : Pages) (p : ℕ) (page : Option Page) → p < length mem → IsMemory count mem → length (contents_of page) ≡ 4096 → IsMemory count (set mem p page)
+is_memory-set count mem p page lt is full = record {
+  few = is.few;
+  whole = record {
+    sizes = λ q. elim (cases_eq q p) [
+      | inl same ↦ ap (λ n. length (contents_at (set mem p page) n)) same ∙ ap (λ w. length (contents_of w)) (get_or-set_same mem p page None lt) ∙ full
+      | inr ne ↦ ap (λ w. length (contents_of w)) (get_or-set_other mem p q page None ne) ∙ is.whole.sizes q
+    ];
+  };
 }
 
-pub discarded : (xs : List (Option Frame)) (p : ℕ) (taken left was : Option Frame) → p < length xs → was ≡ get_or xs p was → taken ≡ was → left ≡ None
-    → IfSome taken (λ f. (page_at (pages_of xs) p ≡ Some (seen_of f)) × Discarded (pages_of xs) (pages_of (set xs p left)) p)
-discarded xs p (Some f) left was lt read is none = (
-  page-pages_of xs p ∙ ap page_of (get_or_default xs p None was lt ∙ sym read ∙ sym is),
-  record { bare = page_now xs p left lt ∙ ap page_of none; others = page_others xs p left; count = count_same xs p left },
-)
-discarded xs p None left was lt read is none = tt
+-- pages without frames
+pub bare_at : (n q : ℕ) → page_at (replicate n None) q ≡ None
+bare_at zero q = refl
+bare_at (suc n) zero = refl
+bare_at (suc n) (suc q) = bare_at n q
 
-pub zeros : (n k : ℕ) → get_or {A = ℕ} (replicate {A = ℕ} n 0) k 0 ≡ 0
-zeros n k = elim (cases_lt k n) [
-  | inl lt ↦ get_or-replicate n k 0 0 lt
-  | inr past ↦ (let len : length (replicate {A = ℕ} n 0) ≡ n = length-replicate {A = ℕ} n 0 in get_or_past (replicate {A = ℕ} n 0) k 0 (omega (arith, len)))
-]
+pub whole-bare : (n : ℕ) → IsWhole (replicate n None)
+whole-bare n = record { sizes = λ q. ap (λ w. length (contents_of w)) (bare_at n q) ∙ length-zero_page }

@@ -41,6 +41,7 @@ but_trans m1 m2 m3 p lo hi a b = record {
   above = λ o h. b.above o h ∙ a.above o h;
   others = λ q ne. b.others q ne ∙ a.others q ne;
   backing = λ q. b.backing q ∙ a.backing q;
+  sizes = λ q. b.sizes q ∙ a.sizes q;
   count = b.count ∙ a.count;
 }
 
@@ -50,6 +51,7 @@ but_wider old new p a b lo hi w l h = record {
   above = λ o u. w.above o (omega arith);
   others = w.others;
   backing = w.backing;
+  sizes = w.sizes;
   count = w.count;
 }
 

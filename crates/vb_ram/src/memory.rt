@@ -1,95 +1,82 @@
-// Pages with frames.
+// A guest's memory.
 
-ghost use Rattle.std.specs.Prelude.{◌≡◌, ℕ, ◌+◌, ◌<◌, ◌≤◌, ◌∷◌, List, Option, IsSome, IsOk, OnOk, OnErr, IfOk, IfSome, IfNone, length, slice_index, slice_get, vec_len, map, slice_set};
-ghost use Rattle.vb_ram.specs.Pages.{byte_at, page_at, field, Covers, Wrote, Supplied, Discarded};
-ghost use Rattle.std.specs.Prelude.{◌^◌, ◌↔◌, IsTrue};
-ghost use Rattle.vb_ram.specs.Put.{PutAt};
+ghost use Rattle.std.specs.Prelude.{◌≡◌, ℕ, ◌≤◌, ◌<◌, Option, Some, None, Err, IsSome, IsOk, OnOk, OnErr, IfOk, IfErr, IfNone, length, replicate};
+ghost use Rattle.vb_ram.specs.Pages.{page_at, frame_at, Covers, Supplied, Discarded, IsWhole};
 
-use crate::{GuestBytes, RamFault};
-use std::alloc::{AllocError, Global};
+use crate::{Frame, GuestBytes, PAGE_SIZE, RamFault};
+use std::alloc::Global;
+use std::marker::Model;
 
-const PAGE: usize = 4096;
-
-/// A frame: a number, and 4096 bytes.
-#[derive(Drop)]
-pub struct Frame {
-    number: u32,
-    bytes: Vec<u8>,
-    ghost full: { vec_len bytes ≡ 4096 },
-}
-
-/// A frame that was not taken.
-#[derive(Drop)]
-pub struct Refused {
-    pub frame: Frame,
-}
-
-/// A guest's memory.
+/// A guest's memory: pages, each with its frame or without one. Nothing is kept beside the bytes.
 #[derive(Drop)]
 pub struct Ram {
     pages: Vec<Option<Frame>>,
-    ghost few: { vec_len pages < 2 ^ 32 },
 }
 
-impl Frame {
-    /// A frame of zeros.
-    pub fn fresh(alloc: Global, number: u32) -> Result<Frame, AllocError>
-        ensures { IfOk result (λ f. f.number ≡ number) }
-    {
-        let bytes = vec![in alloc; 0; PAGE]?;
-        Ok(Frame { number, bytes })
-    }
+impl Model for Ram {
+    ghost use Rattle.std.specs.Prelude.{vec_len};
+    ghost use Rattle.vb_ram.specs.Pages.{Pages};
+    ghost use Rattle.vb_ram.specs.Memory.{IsMemory};
 
-    pub fn number(&self) -> u32
-        ensures { result ≡ self.now.number }
-    {
-        self.number
-    }
+    ghost Value = { Pages };
+
+    ghost view = { λ r. r.pages.items };
+
+    ghost invariant = { λ r. IsMemory (vec_len r.pages) r.pages.items };
 }
 
-/// Writes bytes from a place on.
-fn put(old: &mut [u8], offset: usize, bytes: &[u8])
-    requires { offset + length bytes.now ≤ length old.old }
-    ensures { PutAt old.old old.new offset bytes.now }
-{
-    old[offset..offset + bytes.len()].copy_from_slice(bytes);
+/// A frame that a page did not take, and why.
+#[derive(Drop)]
+pub struct SupplyRefused {
+    /// `OutOfRam` or `AlreadyBacked`.
+    pub fault: RamFault,
+    /// The very frame, as it was.
+    pub frame: Frame,
 }
 
 impl Ram {
-    ghost use Rattle.vb_ram.specs.Frames.{pages_of, seen_of};
-
-    /// Memory of so many pages, with no frame.
-    pub fn new(alloc: Global, pages: u32) -> Result<Ram, AllocError>
-        ensures { IfOk result (λ r. (length (pages_of r.pages.items) ≡ pages) × ((p : ℕ) → page_at (pages_of r.pages.items) p ≡ None)) }
+    /// Memory of so many pages, none of them with a frame. Refused with `Memory` alone.
+    pub fn new(alloc: Global, pages: u32) -> Result<Ram, RamFault>
+        ensures ok { IfOk result (λ ram. ram ≡ replicate pages None) }
+        ensures err { IfErr result (λ fault. fault ≡ RamFault.Memory) }
     {
         let mut all = Vec::with_capacity(alloc, pages as usize)?;
         for _made in 0..pages {
-            all.push(None)?;
+            all.push(None).map_err(|_| RamFault::Memory)?;
         }
         Ok(Ram { pages: all })
     }
 
-    /// Gives a page a frame, and fills it with zeros.
-    pub fn supply(&mut self, page: u32, mut frame: Frame) -> Result<(), Refused>
-        ensures ok { OnOk result (Supplied (pages_of self.old.pages.items) (pages_of self.new.pages.items) page frame.number) }
-        ensures answers { page < length (pages_of self.old.pages.items) → page_at (pages_of self.old.pages.items) page ≡ None → IsOk result }
+    /// Puts a frame behind a page, and fills it with zeros: what the frame held is gone.
+    ///
+    /// Refused with `OutOfRam` where there is no such page, then with `AlreadyBacked` where the
+    /// page has a frame. A refused call gives the frame back as it was, and changes nothing.
+    pub fn supply(&mut self, page: u32, mut frame: Frame) -> Result<(), SupplyRefused>
+        ensures answers { page < length self.old → frame_at self.old page ≡ None → IsOk result }
+        ensures out_of_ram { length self.old ≤ page → result ≡ Err (record { fault = RamFault.OutOfRam; frame = frame }) }
+        ensures already_backed { page < length self.old → IsSome (frame_at self.old page) → result ≡ Err (record { fault = RamFault.AlreadyBacked; frame = frame }) }
+        ensures ok { OnOk result (Supplied self.old self.new page frame.number) }
         ensures err { OnErr result (self.new ≡ self.old) }
     {
         if page as usize >= self.pages.len() {
-            return Err(Refused { frame });
+            let fault = RamFault::OutOfRam;
+            return Err(SupplyRefused { fault, frame });
         }
         if self.pages[page as usize].is_some() {
-            return Err(Refused { frame });
+            let fault = RamFault::AlreadyBacked;
+            return Err(SupplyRefused { fault, frame });
         }
-        frame.bytes.fill(0);
+        frame.clear();
         self.pages[page as usize] = Some(frame);
         Ok(())
     }
 
-    /// Takes a page's frame away.
+    /// Takes a page's frame away, with the bytes that it holds; none where the page has no frame or
+    /// there is no such page.
     pub fn discard(&mut self, page: u32) -> Option<Frame>
+        ensures frame { result ≡ page_at self.old page }
+        ensures after { Discarded self.old self.new page }
         ensures none { IfNone result (self.new ≡ self.old) }
-        ensures some { IfSome result (λ f. (page_at (pages_of self.old.pages.items) page ≡ Some (seen_of f)) × Discarded (pages_of self.old.pages.items) (pages_of self.new.pages.items) page) }
     {
         if page as usize >= self.pages.len() {
             return None;
@@ -97,11 +84,24 @@ impl Ram {
         self.pages[page as usize].take()
     }
 
-    fn check(&self, page: u32, offset: usize, len: usize) -> Result<(), RamFault>
-        ensures ok { OnOk result (Covers (pages_of self.now.pages.items) page offset len) }
-        ensures err { OnErr result (¬ (Covers (pages_of self.now.pages.items) page offset len)) }
+    /// The number of the frame behind a page; none where the page has no frame or there is no such
+    /// page.
+    pub fn backing(&self, page: u32) -> Option<u32>
+        ensures frame { result ≡ frame_at self.now page }
+        ensures whole { IsWhole self.now }
     {
-        if (page as usize) < self.pages.len() && offset <= PAGE && len <= PAGE - offset {
+        match self.pages.get(page as usize) {
+            Some(Some(frame)) => Some(frame.number()),
+            _ => None,
+        }
+    }
+
+    fn check(&self, page: u32, offset: usize, len: usize) -> Result<(), RamFault>
+        ensures answers { Covers self.now page offset len → IsOk result }
+        ensures ok { OnOk result (Covers self.now page offset len) }
+        ensures err { IfErr result (λ fault. fault ≡ RamFault.OutOfRam) }
+    {
+        if (page as usize) < self.pages.len() && offset <= PAGE_SIZE && len <= PAGE_SIZE - offset {
             Ok(())
         } else {
             Err(RamFault::OutOfRam)
@@ -111,11 +111,10 @@ impl Ram {
 
 impl GuestBytes for Ram {
     ghost use Rattle.vb_ram.specs.Part.{no_part};
-    ghost use Rattle.vb_ram.specs.Frames.{pages_of};
 
-    ghost mem = { λ r. pages_of r.pages.items };
+    ghost mem = { λ ram. ram };
 
-    ghost part = { λ r. no_part };
+    ghost part = { λ _. no_part };
 
     fn pages(&self) -> u32 {
         self.pages.len() as u32
@@ -124,7 +123,7 @@ impl GuestBytes for Ram {
     fn read(&self, page: u32, offset: usize, out: &mut [u8]) -> Result<(), RamFault> {
         self.check(page, offset, out.len())?;
         match &self.pages[page as usize] {
-            Some(frame) => out.copy_from_slice(&frame.bytes[offset..offset + out.len()]),
+            Some(frame) => out.copy_from_slice(&frame.bytes()[offset..offset + out.len()]),
             None => out.fill(0),
         }
         Ok(())
@@ -136,7 +135,7 @@ impl GuestBytes for Ram {
             return Ok(());
         }
         match &mut self.pages[page as usize] {
-            Some(frame) => put(&mut frame.bytes, offset, bytes),
+            Some(frame) => frame.put(offset, bytes),
             None => return Err(RamFault::NeedsFrame),
         }
         Ok(())

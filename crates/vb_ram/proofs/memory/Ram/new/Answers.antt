@@ -1,9 +1,10 @@
-use Rattle.std.proofs.Common.{◌∙◌, arith, ap}
-use Rattle.std.proofs.lemmas.List.{length-map}
-use Rattle.vb_ram.specs.Frames.{page_of}
-use Rattle.vb_ram.proofs.PageLemmas.{page-pages_of}
+use Rattle.std.proofs.Common.{◌^◌, ◌<◌, sym, arith, subst, vec_len}
+use Rattle.vb_ram.specs.Pages.{Pages}
+use Rattle.vb_ram.specs.Memory.{IsMemory}
+use Rattle.vb_ram.proofs.PageLemmas.{whole-bare}
 use Rattle.vb_ram.proofs.memory.Ram.new.Goals as goal
 
-pub returns : goal.returns
-returns c =
-    (omega (arith, length-map c.loop-made.all.items page_of), λ p. page-pages_of c.loop-made.all.items p ∙ ap page_of (c.loop-made.invariant.bare p))
+pub invariant_of-result : goal.invariant_of-result
+invariant_of-result c =
+    let few : vec_len c.loop-made.all < 2 ^ 32 = omega arith in
+    subst (λ (mem : Pages). IsMemory (vec_len c.loop-made.all) mem) (sym c.loop-made.invariant.bare) (record { few = few; whole = whole-bare c.loop-made._made })

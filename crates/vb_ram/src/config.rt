@@ -1,0 +1,74 @@
+// How large a guest is.
+
+ghost use Rattle.std.specs.Prelude.{◌≡◌, Option, Some, None, if◌then◌else◌};
+ghost use Rattle.std.specs.Prelude.{◌&&◌};
+ghost use Rattle.vb_model.specs.Limits.{is_config, is_between, is_power_of_two};
+
+use vb_model::limits::{
+    MAX_GUEST_PAGES, MAX_PROCESSORS, MAX_QUEUE_SIZE, MIN_GUEST_PAGES, MIN_QUEUE_SIZE,
+};
+
+/// How large a guest is: plain data, which may be beyond the limits.
+#[derive(Clone, Copy, Debug, PartialEq, Eq)]
+pub struct Config {
+    /// Pages of memory.
+    pub pages: u32,
+    /// Descriptors of each queue (VIRTIO 1.1, 2.6).
+    pub queue_size: u16,
+    /// Processors, each with a list of free pages.
+    pub processors: u32,
+}
+
+impl Config {
+    /// A guest of these sizes; none where one of them is beyond its limits.
+    pub fn new(pages: u32, queue_size: u32, processors: u32) -> Option<Config>
+        ensures { result ≡ (if is_config pages queue_size processors
+            then Some (record { pages = pages; queue_size = queue_size; processors = processors })
+            else None) }
+    {
+        if !are_within_limits(pages, queue_size, processors) {
+            return None;
+        }
+        Some(Config {
+            pages,
+            queue_size: queue_size as u16,
+            processors,
+        })
+    }
+
+    /// Whether each size is one that a guest may have: pages and descriptors a power of two, and all
+    /// three within their bounds (profile).
+    pub fn is_within_limits(&self) -> bool
+        ensures { result ≡ is_config self.now.pages self.now.queue_size self.now.processors }
+    {
+        are_within_limits(self.pages, u32::from(self.queue_size), self.processors)
+    }
+}
+
+fn are_within_limits(pages: u32, queue_size: u32, processors: u32) -> bool
+    ensures { result ≡ is_config pages queue_size processors }
+{
+    let pages_fit = is_power_between(pages, MIN_GUEST_PAGES, MAX_GUEST_PAGES);
+    let queue_fits = is_power_between(queue_size, MIN_QUEUE_SIZE, MAX_QUEUE_SIZE);
+    let processors_fit = is_between(processors, 1, MAX_PROCESSORS);
+    pages_fit & (queue_fits & processors_fit)
+}
+
+fn is_power_between(number: u32, least: u32, most: u32) -> bool
+    ensures { result ≡ (is_between least most number && is_power_of_two number) }
+{
+    is_between(number, least, most) & is_power_of_two(number)
+}
+
+fn is_between(number: u32, least: u32, most: u32) -> bool
+    ensures { result ≡ is_between least most number }
+{
+    (least..=most).contains(&number)
+}
+
+/// Whether the number is a power of two, in the words of the definitions.
+fn is_power_of_two(number: u32) -> bool
+    ensures { result ≡ is_power_of_two number }
+{
+    (0..32).any(|exponent| 2u32.pow(exponent) == number)
+}

@@ -1,0 +1,81 @@
+// A frame of the host.
+
+ghost use Rattle.std.specs.Prelude.{◌≡◌, ◌+◌, ◌≤◌, IfOk, IfErr, length};
+ghost use Rattle.vb_ram.specs.Put.{PutAt};
+ghost use Rattle.vb_model.specs.Guest.{zero_page};
+
+use crate::{PAGE_SIZE, RamFault};
+use std::alloc::Global;
+use std::marker::Model;
+
+/// A frame of the host: a number, and 4096 bytes. It can't be cloned, so whoever has it is the only
+/// one; that no other frame has its number is for those who make frames to keep.
+#[derive(Drop)]
+pub struct Frame {
+    number: u32,
+    bytes: Vec<u8>,
+}
+
+impl Model for Frame {
+    ghost use Rattle.std.specs.Prelude.{◌≡◌, vec_len};
+    ghost use Rattle.vb_ram.specs.Pages.{Page};
+
+    ghost Value = { Page };
+
+    ghost view = { λ f. record { number = f.number; bytes = f.bytes.items } };
+
+    ghost invariant = { λ f. vec_len f.bytes ≡ 4096 };
+}
+
+impl Frame {
+    /// A frame of this number, of zeros. Refused with `Memory` alone.
+    pub fn fresh(alloc: Global, number: u32) -> Result<Frame, RamFault>
+        ensures ok { IfOk result (λ frame. frame ≡ record { number = number; bytes = zero_page }) }
+        ensures err { IfErr result (λ fault. fault ≡ RamFault.Memory) }
+    {
+        let bytes = vec![in alloc; 0; PAGE_SIZE]?;
+        Ok(Frame { number, bytes })
+    }
+
+    /// The frame's number.
+    pub fn number(&self) -> u32
+        ensures number { result ≡ self.now.number }
+        ensures whole { length self.now.bytes ≡ 4096 }
+    {
+        self.number
+    }
+
+    /// The frame's bytes.
+    pub(crate) fn bytes(&self) -> &[u8]
+        ensures bytes { result.now ≡ self.now.bytes }
+        ensures whole { length result.now ≡ 4096 }
+    {
+        &self.bytes
+    }
+
+    /// Makes all bytes zeros.
+    pub(crate) fn clear(&mut self)
+        ensures { self.new ≡ record self.old { bytes = zero_page } }
+    {
+        self.bytes.fill(0);
+    }
+
+    /// Writes bytes from an offset on.
+    pub(crate) fn put(&mut self, offset: usize, bytes: &[u8])
+        requires { offset + length bytes.now ≤ 4096 }
+        ensures put { PutAt self.old.bytes self.new.bytes offset bytes.now }
+        ensures number { self.new.number ≡ self.old.number }
+        ensures len { length self.new.bytes ≡ length self.old.bytes }
+        ensures whole { length self.new.bytes ≡ 4096 }
+    {
+        put_bytes(&mut self.bytes, offset, bytes);
+    }
+}
+
+/// Writes bytes from an offset on.
+fn put_bytes(old: &mut [u8], offset: usize, bytes: &[u8])
+    requires { offset + length bytes.now ≤ length old.old }
+    ensures { PutAt old.old old.new offset bytes.now }
+{
+    old[offset..offset + bytes.len()].copy_from_slice(bytes);
+}
