@@ -1,1 +1,5 @@
 pub mod Places
+pub mod Coding
+pub mod State
+pub mod Answers
+pub mod Calls

@@ -1,4 +1,5 @@
 //! The balloon driver of a guest.
 #![tactic(auto)]
 
+mod memory;
 mod places;
