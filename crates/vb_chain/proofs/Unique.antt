@@ -90,11 +90,11 @@ breaks_same d q end head p s f g a b =
 
 pub chain_is_one : (d : ℕ → Descriptor) (q end head : ℕ) (xs ys : List Piece) → ChainGives d q end head xs → ChainGives d q end head ys → xs ≡ ys
 chain_is_one d q end head xs ys a b =
-    a.2 ∙ ap (map (λ i. piece_of (d i))) (chains_same d q end head a.0 b.0 a.1 b.1) ∙ sym b.2
+    a.pieces_are ∙ ap (map (λ i. piece_of (d i))) (chains_same d q end head a.path b.path a.chain b.chain) ∙ sym b.pieces_are
 
 pub chain_or_fault : (d : ℕ → Descriptor) (q end head : ℕ) (xs : List Piece) (f : ChainFault) → ChainGives d q end head xs → FaultGives d q end head f → ⊥
-chain_or_fault d q end head xs f a (inl b) = let inside = a.1.inside in let past = b.past in omega arith
-chain_or_fault d q end head xs f a (inr b) = not_both d q end head a.0 b.0 f a.1 b.1
+chain_or_fault d q end head xs f a (inl b) = let inside = a.chain.inside in let past = b.past in omega arith
+chain_or_fault d q end head xs f a (inr b) = not_both d q end head a.path b.0 f a.chain b.1
 
 pub fault_is_one : (d : ℕ → Descriptor) (q end head : ℕ) (f g : ChainFault) → FaultGives d q end head f → FaultGives d q end head g → f ≡ g
 fault_is_one d q end head f g (inl a) (inl b) = a.is ∙ sym b.is
@@ -103,12 +103,12 @@ fault_is_one d q end head f g (inr a) (inl b) = let past = b.past in let inside 
 fault_is_one d q end head f g (inr a) (inr b) = breaks_same d q end head a.0 b.0 f g a.1 b.1
 
 -- what an answer that is right says of each chain and each fault
-pub answer_chain : {T : Type 0} (view : T → List Piece) (d : ℕ → Descriptor) (q end head : ℕ) (r : Result T ChainFault) → IfOk r (λ got. ChainGives d q end head (view got)) → IfErr r (λ f. FaultGives d q end head f)
-    → (xs : List Piece) → ChainGives d q end head xs → IsOkAnd r (λ got. view got ≡ xs)
-answer_chain view d q end head (Ok got) a b xs c = chain_is_one d q end head (view got) xs a c
-answer_chain view d q end head (Err f) a b xs c = absurd (chain_or_fault d q end head xs f c b)
+pub answer_chain : (d : ℕ → Descriptor) (q end head : ℕ) (r : Result (List Piece) ChainFault) → IfOk r (ChainGives d q end head) → IfErr r (λ f. FaultGives d q end head f)
+    → (xs : List Piece) → ChainGives d q end head xs → IsOkAnd r (λ got. got ≡ xs)
+answer_chain d q end head (Ok got) a b xs c = chain_is_one d q end head got xs a c
+answer_chain d q end head (Err f) a b xs c = absurd (chain_or_fault d q end head xs f c b)
 
-pub answer_fault : {T : Type 0} (view : T → List Piece) (d : ℕ → Descriptor) (q end head : ℕ) (r : Result T ChainFault) → IfOk r (λ got. ChainGives d q end head (view got)) → IfErr r (λ f. FaultGives d q end head f)
+pub answer_fault : (d : ℕ → Descriptor) (q end head : ℕ) (r : Result (List Piece) ChainFault) → IfOk r (ChainGives d q end head) → IfErr r (λ f. FaultGives d q end head f)
     → (g : ChainFault) → FaultGives d q end head g → r ≡ Err g
-answer_fault view d q end head (Ok got) a b g c = absurd (chain_or_fault d q end head (view got) g a c)
-answer_fault view d q end head (Err f) a b g c = ap Err (fault_is_one d q end head f g b c)
+answer_fault d q end head (Ok got) a b g c = absurd (chain_or_fault d q end head got g a c)
+answer_fault d q end head (Err f) a b g c = ap Err (fault_is_one d q end head f g b c)

@@ -62,9 +62,9 @@ walked_fault d q end head path i index writing pieces f w e = inr (
 pub walked_chain : (d : ℕ → Descriptor) (q end head : ℕ) (path : List ℕ) (i index : ℕ) (writing : Bool) (pieces : List Piece) → Walked d q end head path i index writing pieces
     → i < q → first_fault q end writing i (d index) ≡ None → has_next (d index) ≡ false → ChainGives d q end head (pieces ++ piece_of (d index) ∷ [])
 walked_chain d q end head path i index writing pieces w lt e stop =
-    let all : take (i + 1) path ≡ path = take_all (i + 1) path (omega (arith, w.count)) in (
-      path,
-      record {
+    let all : take (i + 1) path ≡ path = take_all (i + 1) path (omega (arith, w.count)) in record {
+      path = path;
+      chain = record {
         inside = w.inside;
         is_path = w.is_path;
         short = omega (arith, w.count);
@@ -73,10 +73,10 @@ walked_chain d q end head path i index writing pieces w lt e stop =
           | inr ne ↦ w.sound k (omega (arith, w.count, ne))
         ];
         ends = λ k h. let at : k ≡ i = omega (arith, w.count) in ap (λ n. has_next (d (slice_index path n))) at ∙ ap (λ n. has_next (d n)) w.last ∙ stop;
-      },
-      ap (λ xs. xs ++ piece_of (d index) ∷ []) w.read ∙ ap (λ n. map (λ j. piece_of (d j)) (take i path) ++ piece_of (d n) ∷ []) (sym w.last)
-          ∙ sym (map_more (λ j. piece_of (d j)) path i 0 (omega (arith, w.count))) ∙ ap (map (λ j. piece_of (d j))) all,
-    )
+      };
+      pieces_are = ap (λ xs. xs ++ piece_of (d index) ∷ []) w.read ∙ ap (λ n. map (λ j. piece_of (d j)) (take i path) ++ piece_of (d n) ∷ []) (sym w.last)
+          ∙ sym (map_more (λ j. piece_of (d j)) path i 0 (omega (arith, w.count))) ∙ ap (map (λ j. piece_of (d j))) all;
+    }
 
 -- one descriptor more has been visited
 pub walked_more : (d : ℕ → Descriptor) (q end head : ℕ) (path : List ℕ) (i index : ℕ) (writing : Bool) (pieces : List Piece) → Walked d q end head path i index writing pieces

@@ -14,17 +14,17 @@ use Rattle.vb_chain.specs.Chain.{fault_at, IsChain, ChainGives}
 
 -- one descriptor with no NEXT, on which no rule is broken, is a chain
 pub single_chain : (d : ℕ → Descriptor) (q end head : ℕ) (x : Descriptor) → head < q → d head ≡ x → has_next x ≡ false → first_fault q end false 0 x ≡ None → ChainGives d q end head (piece_of x ∷ [])
-single_chain d q end head x lt is stop fine = (
-  head ∷ [],
-  record {
+single_chain d q end head x lt is stop fine = record {
+  path = head ∷ [];
+  chain = record {
     inside = lt;
     is_path = record { some = omega arith; begins = refl; onward = λ k h. absurd (omega arith); linked = λ k h. absurd (omega arith) };
     short = omega arith;
     sound = λ k h. let at : k ≡ 0 = omega arith in ap (fault_at d q end (head ∷ [])) at ∙ ap (first_fault q end false 0) is ∙ fine;
     ends = λ k h. let at : k ≡ 0 = omega arith in ap (λ n. has_next (d (slice_index (head ∷ []) n))) at ∙ ap has_next is ∙ stop;
-  },
-  ap (λ y. piece_of y ∷ []) (sym is),
-)
+  };
+  pieces_are = ap (λ y. piece_of y ∷ []) (sym is);
+}
 
 -- the flags say what they were made of
 pub flags_next : (more writable : Bool) (piece : Piece) (n : ℕ) → has_next (link_to (record piece { writable = writable }) more n) ≡ more
@@ -69,9 +69,9 @@ written_chain d q end path pieces route pair short sound put =
     let goes : (k : ℕ) → k < length path → has_next (d (slice_index path k)) ≡ nat_lt (k + 1) (length path) =
     λ k h. ap has_next (put k h) ∙ flags_next (nat_lt (k + 1) (length path)) (slice_index_or pieces k empty).writable (slice_index_or pieces k empty) (slice_index path (k + 1)) in
     let writes : (k : ℕ) → k < length path → is_writable (d (slice_index path k)) ≡ (slice_index_or pieces k empty).writable =
-    λ k h. ap is_writable (put k h) ∙ flags_writable (nat_lt (k + 1) (length path)) (slice_index_or pieces k empty).writable (slice_index_or pieces k empty) (slice_index path (k + 1)) in (
-      path,
-      record {
+    λ k h. ap is_writable (put k h) ∙ flags_writable (nat_lt (k + 1) (length path)) (slice_index_or pieces k empty).writable (slice_index_or pieces k empty) (slice_index path (k + 1)) in record {
+      path = path;
+      chain = record {
         inside = route.inside 0 (omega (arith, sound.some));
         is_path = record {
           some = omega (arith, sound.some);
@@ -93,12 +93,12 @@ written_chain d q end path pieces route pair short sound put =
             let to = route.inside (k + 1) on in
             (omega (arith, to, ap (λ y. y.next) (put k h)), omega (arith, on)));
         ends = λ k h. goes k (omega arith) ∙ le-ltb (k + 1) (length path) (omega arith);
-      },
-      ext_get_or empty pieces (map (λ i. piece_of (d i)) path) (sym (length-map path (λ i. piece_of (d i)) ∙ pair)) (λ i h.
+      };
+      pieces_are = ext_get_or empty pieces (map (λ i. piece_of (d i)) path) (sym (length-map path (λ i. piece_of (d i)) ∙ pair)) (λ i h.
           let lt : i < length path = omega arith in
           sym (get_or-map (λ n. piece_of (d n)) path i 0 empty lt ∙ ap piece_of (put i lt)
-          ∙ ap (λ (b : Bool). record (slice_index_or pieces i empty) { writable = b }) (flags_writable (nat_lt (i + 1) (length path)) (slice_index_or pieces i empty).writable (slice_index_or pieces i empty) (slice_index path (i + 1))))),
-    )
+          ∙ ap (λ (b : Bool). record (slice_index_or pieces i empty) { writable = b }) (flags_writable (nat_lt (i + 1) (length path)) (slice_index_or pieces i empty).writable (slice_index_or pieces i empty) (slice_index path (i + 1)))));
+    }
 
 same_any : (p s : ℕ → Bool) (xs : List ℕ) → ((k : ℕ) → k < length xs → p (slice_index xs k) ≡ s (slice_index xs k)) → list_any p xs ≡ list_any s xs
 same_any p s [] h = refl
@@ -125,3 +125,9 @@ chain_kept d e q end head path same c = record {
       ap (λ b. first_fault q end b k (e (slice_index path k))) front ∙ ap (first_fault q end (list_any (λ i. is_writable (d i)) (take k path)) k) (same k h) ∙ c.sound k h;
   ends = λ k h. ap has_next (same k (omega arith)) ∙ c.ends k h;
 }
+
+-- a chain has a piece, and no more pieces than the table has descriptors
+pub chain_size : (d : ℕ → Descriptor) (q end head : ℕ) (pieces : List Piece) → ChainGives d q end head pieces → (0 < length pieces) × (length pieces ≤ q)
+chain_size d q end head pieces gives =
+    let len : length pieces ≡ length gives.path = ap (λ (xs : List Piece). length xs) gives.pieces_are ∙ length-map gives.path (λ i. piece_of (d i)) in
+    (omega (arith, len, gives.chain.is_path.some), omega (arith, len, gives.chain.short))

@@ -1,33 +1,34 @@
 -- A chain as a driver writes it.
-use Rattle.std.specs.Prelude.{◌≡◌, ◌≢◌, ℕ, ◌+◌, ◌<◌, ◌≤◌, List, Bool, true, false, length, slice_index, slice_index_or, nat_lt}
+use Rattle.std.specs.Prelude.{◌≡◌, ◌≢◌, ℕ, ◌+◌, ◌<◌, ◌≤◌, List, Bool, true, false, length, slice_index, slice_index_or, nat_lt, bit_or}
 use Rattle.vb_chain.specs.declared.Descriptor.{Descriptor}
 use Rattle.vb_chain.specs.declared.Piece.{Piece}
+use Rattle.vb_chain.specs.declared.TheConstants.{VIRTQ_DESC_F_NEXT, VIRTQ_DESC_F_WRITE}
 
--- the flags of a descriptor that goes on or not, and is writable or not
+-- The flags of a descriptor that goes on or not, and is writable or not
 abbrev pub flags_of : Bool → Bool → ℕ
-flags_of true true = 3
-flags_of true false = 1
-flags_of false true = 2
+flags_of true true = bit_or VIRTQ_DESC_F_NEXT VIRTQ_DESC_F_WRITE
+flags_of true false = VIRTQ_DESC_F_NEXT
+flags_of false true = VIRTQ_DESC_F_WRITE
 flags_of false false = 0
 
--- no piece
+-- No piece
 abbrev pub empty : Piece
 empty = record { addr = 0; len = 0; writable = false }
 
--- the descriptor of a piece that goes on to another or not
+-- The descriptor of a piece that goes on to another or not
 abbrev pub link_to : Piece → Bool → ℕ → Descriptor
 link_to piece more next = record { addr = piece.addr; len = piece.len; flags = flags_of more piece.writable; next = next }
 
--- descriptor number k of a chain along a path
+-- Descriptor number k of a chain along a path
 abbrev pub linked : List ℕ → List Piece → ℕ → Descriptor
 linked path pieces k = link_to (slice_index_or pieces k empty) (nat_lt (k + 1) (length path)) (slice_index path (k + 1))
 
--- numbers of a table, no two of them equal
+-- Numbers of a table, no two of them equal
 pub record IsRoute (q : ℕ) (path : List ℕ) : Type 0 where
   pub inside : (k : ℕ) → k < length path → slice_index path k < q
   pub apart : (j k : ℕ) → j < k → k < length path → slice_index path j ≢ slice_index path k
 
--- pieces that a chain may have: some, none past the end of memory, and no readable one after a writable one
+-- Pieces that a chain may have: some, none past the end of memory, and no readable one after a writable one
 pub record AreSound (end : ℕ) (pieces : List Piece) : Type 0 where
   pub some : 0 < length pieces
   pub fit : (k : ℕ) → k < length pieces → (slice_index_or pieces k empty).addr + (slice_index_or pieces k empty).len ≤ end

@@ -2,24 +2,11 @@
 
 ghost use Rattle.std.specs.Prelude.{◌≡◌, ◌↔◌, ◌+◌, ◌*◌, ◌<◌, ◌≤◌, ◌^◌, IfOk, IfErr, IsOkAnd, List, length, Bool};
 ghost use Rattle.vb_chain.specs.Table.{descriptor_at};
-ghost use Rattle.vb_chain.specs.Rules.{flag, first_fault, piece_of};
+ghost use Rattle.vb_chain.specs.Rules.{first_fault};
 ghost use Rattle.vb_chain.specs.Chain.{ChainGives, FaultGives};
 
-use crate::{ChainFault, Descriptor, Piece, read_descriptor};
-use arrayvec::ArrayVec;
+use crate::{Chain, ChainFault, Descriptor, Piece, read_descriptor};
 use vb_ram::GuestBytes;
-
-const NEXT: u16 = 1;
-
-const WRITE: u16 = 2;
-
-const INDIRECT: u16 = 4;
-
-fn has(descriptor: &Descriptor, bit: u16) -> bool
-    ensures { result ≡ flag descriptor.now bit }
-{
-    descriptor.flags & bit != 0
-}
 
 /// The first rule that a descriptor breaks, after `visited` others.
 fn fault_of(
@@ -32,16 +19,16 @@ fn fault_of(
     requires { visited < size }
     ensures { result ≡ first_fault size end writing visited descriptor.now }
 {
-    if has(descriptor, INDIRECT) {
+    if descriptor.is_indirect() {
         return Some(ChainFault::Indirect);
     }
     if descriptor.addr > end || u64::from(descriptor.len) > end - descriptor.addr {
         return Some(ChainFault::OutOfRam);
     }
-    if writing && !has(descriptor, WRITE) {
+    if writing && !descriptor.is_writable() {
         return Some(ChainFault::WrongDirection);
     }
-    if has(descriptor, NEXT) {
+    if descriptor.has_next() {
         if descriptor.next >= size {
             return Some(ChainFault::BadNext);
         }
@@ -52,39 +39,48 @@ fn fault_of(
     None
 }
 
-/// The pieces of the chain from a head, or the first fault on the way.
+/// The chain from a head, through the table of `size` descriptors at the start of a page; or the
+/// first fault on the way (VIRTIO 1.1, 2.6.5).
+///
+/// `BadHead` where the head is `size` or more. Then each descriptor is tested in turn, in this
+/// order: `Indirect`; `OutOfRam` where `addr + len`, without wrapping, is past the end of memory;
+/// `WrongDirection` where it is to be read and one before it is to be written; and where NEXT is
+/// set, `BadNext` where `next` is `size` or more, and `TooLong` where it is number `size` of the
+/// chain. Other flag bits are ignored, and a length of 0 is accepted (profile).
 pub fn walk<G: GuestBytes>(
     ram: &G,
     table: u32,
     head: u16,
     size: u16,
-) -> Result<ArrayVec<Piece, 128>, ChainFault>
+) -> Result<Chain, ChainFault>
     requires table { table < length (G.mem ram.now) }
     requires size { size ≤ 128 }
-    ensures chain { IfOk result (λ pieces. ChainGives (descriptor_at (G.mem ram.now) table) size (4096 * length (G.mem ram.now)) head pieces.items) }
+    ensures chain { IfOk result (λ chain. ChainGives (descriptor_at (G.mem ram.now) table) size (4096 * length (G.mem ram.now)) head chain) }
     ensures fault { IfErr result (λ f. FaultGives (descriptor_at (G.mem ram.now) table) size (4096 * length (G.mem ram.now)) head f) }
-    ensures each_chain { (pieces : List Piece) → ChainGives (descriptor_at (G.mem ram.now) table) size (4096 * length (G.mem ram.now)) head pieces → IsOkAnd result (λ got. got.items ≡ pieces) }
+    ensures short { IfOk result (λ chain. (0 < length chain) × (length chain ≤ size)) }
+    ensures each_chain { (pieces : List Piece) → ChainGives (descriptor_at (G.mem ram.now) table) size (4096 * length (G.mem ram.now)) head pieces → IsOkAnd result (λ got. got ≡ pieces) }
     ensures each_fault { (f : ChainFault) → FaultGives (descriptor_at (G.mem ram.now) table) size (4096 * length (G.mem ram.now)) head f → result ≡ Err f }
 {
     follow(ram, table, head, size)
 }
 
+/// The walk itself, one descriptor after the other.
 fn follow<G: GuestBytes>(
     ram: &G,
     table: u32,
     head: u16,
     size: u16,
-) -> Result<ArrayVec<Piece, 128>, ChainFault>
+) -> Result<Chain, ChainFault>
     requires table { table < length (G.mem ram.now) }
     requires size { size ≤ 128 }
-    ensures chain { IfOk result (λ pieces. ChainGives (descriptor_at (G.mem ram.now) table) size (4096 * length (G.mem ram.now)) head pieces.items) }
+    ensures chain { IfOk result (λ chain. ChainGives (descriptor_at (G.mem ram.now) table) size (4096 * length (G.mem ram.now)) head chain) }
     ensures fault { IfErr result (λ f. FaultGives (descriptor_at (G.mem ram.now) table) size (4096 * length (G.mem ram.now)) head f) }
 {
     if head >= size {
         return Err(ChainFault::BadHead);
     }
     let end = 4096 * u64::from(ram.pages());
-    let mut pieces = ArrayVec::new();
+    let mut chain = Chain::empty();
     let mut writing = false;
     let mut index = head;
     for visited in 0..size {
@@ -92,15 +88,15 @@ fn follow<G: GuestBytes>(
         if let Some(fault) = fault_of(size, end, writing, visited, &descriptor) {
             return Err(fault);
         }
-        let writable = has(&descriptor, WRITE);
-        pieces.push(Piece {
+        let writable = descriptor.is_writable();
+        chain.push(Piece {
             addr: descriptor.addr,
             len: descriptor.len,
             writable,
         });
         writing |= writable;
-        if !has(&descriptor, NEXT) {
-            return Ok(pieces);
+        if !descriptor.has_next() {
+            return Ok(chain);
         }
         index = descriptor.next;
     }

@@ -1,4 +1,4 @@
-// The descriptor table at the start of a page.
+// A table of descriptors, at the start of a page.
 
 ghost use Rattle.std.specs.Prelude.{◌≡◌, ◌+◌, ◌*◌, ◌<◌, IsSome, length};
 ghost use Rattle.vb_ram.specs.Pages.{frame_at, SameBut};
@@ -7,6 +7,8 @@ ghost use Rattle.vb_chain.specs.Table.{descriptor_at};
 use crate::Descriptor;
 use vb_ram::{GuestBytes, read_u16, read_u32, read_u64, write_u16, write_u32, write_u64};
 
+/// Reads the descriptor of a number, in the table at the start of a page: 16 bytes each (VIRTIO 1.1,
+/// 2.6.5).
 pub fn read_descriptor<G: GuestBytes>(ram: &G, page: u32, index: u16) -> Descriptor
     requires page { page < length (G.mem ram.now) }
     requires index { index < 256 }
@@ -21,6 +23,7 @@ pub fn read_descriptor<G: GuestBytes>(ram: &G, page: u32, index: u16) -> Descrip
     }
 }
 
+/// Writes the descriptor of a number, in the table at the start of a page, and nothing else.
 pub fn write_descriptor<G: GuestBytes>(ram: &mut G, page: u32, index: u16, descriptor: Descriptor)
     requires page { page < length (G.mem ram.old) }
     requires backed { IsSome (frame_at (G.mem ram.old) page) }

@@ -1,23 +1,10 @@
 -- A device's status and the features that are agreed on: VIRTIO 1.1, 2.1, 2.2 and 3.1.1; which writes are refused and in what order they are tested is the profile's.
 use Rattle.std.specs.Prelude.{ℕ, Bool, not, ◌==◌, ◌&&◌, ◌||◌, nat_lt, List, [], ◌∷◌, if◌then◌else◌, Option, Some, None, count_by, bit_and}
 use Rattle.std.specs.List.{list_any}
+use Rattle.vb_model.specs.declared.replies.Refusal.{Refusal}
+use Rattle.vb_model.specs.declared.replies.Refusal.TheVariants.{ClearsBit, OutOfOrder, FeatureNotOffered, MustTellMissing, VersionMissing}
+use Rattle.vb_model.specs.Refusals.{Test, ◌⇒◌, first_refusal}
 use Rattle.vb_model.specs.Guest.{offered_features, must_tell_host, version_1}
-
-pub data StatusRefusal : Type 0 where
-  ClearsBit OutOfOrder FeatureNotOffered MustTellMissing VersionMissing : StatusRefusal
-
--- a condition, and why a write is refused where it holds and none before it does
-pub record StatusTest : Type 0 where
-  pub holds : Bool
-  pub refusal : StatusRefusal
-
-infix 3 ◌⇒◌
-abbrev pub ◌⇒◌ : Bool → StatusRefusal → StatusTest
-holds ⇒ refusal = record { holds = holds; refusal = refusal }
-
-abbrev pub first_refusal : List StatusTest → Option StatusRefusal
-first_refusal [] = None
-first_refusal (test ∷ tests) = if test.holds then Some test.refusal else first_refusal tests
 
 -- ---- the bits of the status, which has eight
 
@@ -85,29 +72,29 @@ is_out_of_order status write =
 
 -- ---- the rules
 
--- the features that FEATURES_OK asks for: MUST_TELL_HOST is the profile's demand, VERSION_1 that of VIRTIO 1.1, 6.1
-abbrev pub feature_tests : ℕ → List StatusTest
-feature_tests negotiated =
+-- the features that FEATURES_OK asks for (VIRTIO 1.1, 2.2 and 6): MUST_TELL_HOST is the profile's demand, VERSION_1 that of VIRTIO 1.1, 6.1
+abbrev pub needed_tests : ℕ → List Test
+needed_tests negotiated =
     (not (must_tell_host negotiated) ⇒ MustTellMissing)
     ∷ (not (version_1 negotiated) ⇒ VersionMissing)
     ∷ []
 
-abbrev pub status_tests : ℕ → ℕ → ℕ → List StatusTest
+abbrev pub status_tests : ℕ → ℕ → ℕ → List Test
 status_tests status negotiated write =
     (not (contains write status) ⇒ ClearsBit)
     ∷ (is_out_of_order status write ⇒ OutOfOrder)
-    ∷ (if adds status write features_ok then feature_tests negotiated else [])
+    ∷ (if adds status write features_ok then needed_tests negotiated else [])
 
 -- why a write of the status is refused, where it is, at these negotiated features; a write of 0 resets
-abbrev pub status_refusal : ℕ → ℕ → ℕ → Option StatusRefusal
+abbrev pub status_refusal : ℕ → ℕ → ℕ → Option Refusal
 status_refusal status negotiated write = if write == 0 then None else first_refusal (status_tests status negotiated write)
 
-abbrev pub negotiate_tests : ℕ → ℕ → List StatusTest
+abbrev pub negotiate_tests : ℕ → ℕ → List Test
 negotiate_tests status wanted =
     (not (status == 3) ⇒ OutOfOrder)
     ∷ (not (contains offered_features wanted) ⇒ FeatureNotOffered)
     ∷ []
 
 -- why these features are refused, where they are: they are negotiated between DRIVER and FEATURES_OK
-abbrev pub negotiate_refusal : ℕ → ℕ → Option StatusRefusal
+abbrev pub negotiate_refusal : ℕ → ℕ → Option Refusal
 negotiate_refusal status wanted = first_refusal (negotiate_tests status wanted)

@@ -15,8 +15,11 @@ pub const REPORT_QUEUE: u32 = 4;
 
 /// The pages in which the rings of these four queues stand.
 pub const INFLATE_RING_PAGE: u32 = 0;
+
 pub const DEFLATE_RING_PAGE: u32 = 1;
+
 pub const STATISTICS_RING_PAGE: u32 = 2;
+
 pub const REPORT_RING_PAGE: u32 = 3;
 
 /// Bytes of the buffer of one inflate or deflate request: as many little-endian 32-bit page
@@ -26,6 +29,7 @@ pub const REQUEST_BUFFER_SIZE: u32 = 1024;
 /// The first of the pages that hold the buffers of inflate requests, and of deflate requests: four
 /// buffers a page, in the order of their heads.
 pub const INFLATE_BUFFERS_PAGE: u32 = 4;
+
 pub const DEFLATE_BUFFERS_PAGE: u32 = 8;
 
 /// The page of the statistics buffer.

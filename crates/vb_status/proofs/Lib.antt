@@ -1,1 +1,3 @@
 pub mod BitLemmas
+pub mod Accepted
+pub mod Ways

@@ -1,10 +1,11 @@
 -- What a refused call says, in the words of the rules.
 use Rattle.std.specs.Prelude.{Option, Some, None, Result, Ok, Err}
-use Rattle.vb_model.specs.Status.{StatusRefusal, ClearsBit, OutOfOrder, FeatureNotOffered, MustTellMissing, VersionMissing}
+use Rattle.vb_model.specs.declared.replies.Refusal.{Refusal}
+use Rattle.vb_model.specs.declared.replies.Refusal.TheVariants.{ClearsBit, OutOfOrder, FeatureNotOffered, MustTellMissing, VersionMissing}
 use Rattle.vb_status.specs.declared.bits.StatusFault.{StatusFault}
 use Rattle.vb_status.specs.declared.bits.StatusFault.TheVariants.{ClearsBit as ClearsBitFault, OutOfOrder as OutOfOrderFault, FeatureNotOffered as FeatureNotOfferedFault, MustTellMissing as MustTellMissingFault, VersionMissing as VersionMissingFault}
 
-abbrev pub refusal_of_fault : StatusFault → StatusRefusal
+abbrev pub refusal_of_fault : StatusFault → Refusal
 refusal_of_fault ClearsBitFault = ClearsBit
 refusal_of_fault OutOfOrderFault = OutOfOrder
 refusal_of_fault FeatureNotOfferedFault = FeatureNotOffered
@@ -12,6 +13,6 @@ refusal_of_fault MustTellMissingFault = MustTellMissing
 refusal_of_fault VersionMissingFault = VersionMissing
 
 -- why the call was refused, where it was
-abbrev pub refusal_in : {T : Type 0} → Result T StatusFault → Option StatusRefusal
+abbrev pub refusal_in : {T : Type 0} → Result T StatusFault → Option Refusal
 refusal_in (Ok x) = None
 refusal_in (Err fault) = Some (refusal_of_fault fault)

@@ -3,11 +3,18 @@
 #![tactic(auto)]
 
 mod bits;
+mod laws;
 mod memory;
 mod port;
 mod rules;
+#[cfg(test)]
+mod tests;
 
 pub use bits::{Features, Status, StatusFault};
+pub use laws::{
+    an_initialisation_is_refused_for_its_features_alone, features_ok_has_its_features,
+    one_way_leads_to_ready,
+};
 pub use memory::MemoryPort;
 pub use port::Port;
 pub use rules::{negotiate, write_status};

@@ -2,7 +2,8 @@
 
 ghost use Rattle.std.specs.Prelude.{◌≡◌, ◌==◌, IfOk};
 ghost use Rattle.vb_model.specs.Guest.{must_tell_host, version_1};
-ghost use Rattle.vb_model.specs.Status.{status_refusal, negotiate_refusal, first_refusal, feature_tests, adds, adds_any, adds_more, skips, is_broken, is_out_of_order, steps, not_for_drivers};
+ghost use Rattle.vb_model.specs.Refusals.{first_refusal};
+ghost use Rattle.vb_model.specs.Status.{status_refusal, negotiate_refusal, needed_tests, adds, adds_any, adds_more, skips, is_broken, is_out_of_order, steps, not_for_drivers};
 ghost use Rattle.vb_status.specs.Answers.{refusal_in};
 ghost use Rattle.vb_status.specs.Bits.{status_bits, feature_bits};
 
@@ -97,7 +98,7 @@ pub fn write_status(
 
 /// Tests the two features that FEATURES_OK asks for.
 fn check_features(negotiated: Features) -> Result<(), StatusFault>
-    ensures { refusal_in result ≡ first_refusal (feature_tests (feature_bits negotiated)) }
+    ensures { refusal_in result ≡ first_refusal (needed_tests (feature_bits negotiated)) }
 {
     if !negotiated.must_tell_host() {
         return Err(StatusFault::MustTellMissing);

@@ -1,4 +1,4 @@
-use Rattle.std.proofs.Common.{◌≡◌, ◌≢◌, ◌∙◌, sym, ap, ◌+◌, ◌*◌, ℕ, length, arith, inl, inr}
+use Rattle.std.proofs.Common.{◌≡◌, ◌≢◌, ◌∙◌, sym, ap, ◌+◌, ◌*◌, ◌≤◌, ℕ, length, arith, inl, inr}
 use Rattle.std.specs.Prelude.{slice_index, slice_index_or, nat_lt}
 use Rattle.std.proofs.lemmas.Bool.{cases_eq, cases_lt}
 use Rattle.vb_ram.specs.Fields.{same_below, same_above, but_trans, but_wider}
@@ -6,6 +6,7 @@ use Rattle.vb_chain.specs.Table.{descriptor_at}
 use Rattle.vb_chain.specs.TableLaws.{descriptor_kept}
 use Rattle.vb_chain.specs.Written.{linked, link_to, empty}
 use Rattle.std.proofs.lemmas.List.{get_or_past}
+use Rattle.vb_chain.specs.ChainLaws.{written_chain}
 use Rattle.vb_chain.proofs.written.write_chain.Goals as goal
 use Rattle.vb_chain.proofs.written.write_chain.Goals.{then-k-path, else-k-path}
 
@@ -32,5 +33,12 @@ loop-k-preserved g c =
         | inr ne ↦ alone (slice_index path j) (c.requires.route.apart j k (omega (arith, ne)) (omega arith)) ∙ c.loop-k.invariant.put j (omega (arith, ne))
       ];
       others = λ i h. alone i (λ e. h k (omega arith) (sym e)) ∙ c.loop-k.invariant.others i h;
+      part = c.write_descriptor.ensures.part ∙ c.loop-k.invariant.part;
       rest = but_trans _ old new t 0 (16 * c.args.size) c.loop-k.invariant.rest (but_wider old new t _ _ 0 (16 * c.args.size) c.write_descriptor.ensures.rest (omega arith) (omega (arith, inside)));
     }
+
+pub returns-clause-chain : goal.returns-clause-chain
+returns-clause-chain g c sound short =
+    let mem = g.G.GuestBytes.mem c.loop-k.ram in
+    let all : length c.args.path.now ≤ c.loop-k.k = omega arith in
+    written_chain (descriptor_at mem c.args.table) c.args.size (4096 * length mem) c.args.path.now c.args.pieces.now c.requires.route c.requires.pair short sound (λ k h. c.loop-k.invariant.put k (omega arith))

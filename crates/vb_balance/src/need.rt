@@ -1,0 +1,54 @@
+// What guests have and can spare, and what they are asked to give.
+
+ghost use Rattle.std.specs.Prelude.{◌≡◌};
+
+use crate::GUESTS;
+use arrayvec::ArrayVec;
+use std::marker::Model;
+
+/// What a guest has, and what it can spare, in pages.
+#[derive(Clone, Copy, Debug, PartialEq, Eq)]
+pub struct GuestNeed {
+    pub pages: u32,
+    pub spare: u32,
+}
+
+impl Model for GuestNeed {
+    ghost use Rattle.vb_model.specs.Balance.{Need};
+
+    ghost Value = { Need };
+
+    ghost view = { λ n. record { pages = n.pages; spare = n.spare } };
+
+    ghost inverse = { λ n. record { pages = n.pages; spare = n.spare } };
+}
+
+/// A target for each guest, in pages, in the order of the needs.
+#[derive(Drop)]
+pub struct Targets {
+    pub(crate) pages: ArrayVec<u32, GUESTS>,
+}
+
+impl Model for Targets {
+    ghost use Rattle.std.specs.Prelude.{List, ℕ};
+
+    ghost Value = { List ℕ };
+
+    ghost view = { λ t. t.pages.items };
+}
+
+impl Targets {
+    /// The targets, in the order of the needs.
+    pub fn as_slice(&self) -> &[u32]
+        ensures { result.now ≡ self.now }
+    {
+        self.pages.as_slice()
+    }
+}
+
+/// The guests cannot spare enough.
+#[derive(Clone, Copy, Debug, PartialEq, Eq)]
+pub struct Short {
+    /// How many pages stay missing if all give what they can.
+    pub missing: u64,
+}

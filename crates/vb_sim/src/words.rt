@@ -1,0 +1,93 @@
+//! The words of a line, read one after the other.
+
+use std::alloc::AllocError;
+
+/// The bytes between words.
+const SPACE: u8 = b' ';
+
+/// Why a line gives nothing.
+#[derive(Clone, Copy, Debug, PartialEq, Eq)]
+pub enum LineFault {
+    /// It isn't a line of the format, or not at its place in the script.
+    Bad,
+    /// There was no memory for what it says.
+    Memory,
+}
+
+impl From<AllocError> for LineFault {
+    fn from(_fault: AllocError) -> LineFault {
+        LineFault::Memory
+    }
+}
+
+/// What is left of a line. Single spaces stand between its words, so a second space in a row, or
+/// one at either end, makes an empty word, which nothing accepts.
+#[derive(Drop)]
+pub struct Words<'a> {
+    rest: Option<&'a [u8]>,
+}
+
+impl<'a> Words<'a> {
+    /// All words of the line.
+    pub fn of(line: &'a [u8]) -> Words<'a> {
+        Words { rest: Some(line) }
+    }
+
+    /// The next word; a line that has no more is bad.
+    pub fn word(&mut self) -> Result<&'a [u8], LineFault> {
+        let Some(rest) = self.rest else {
+            return Err(LineFault::Bad);
+        };
+        match rest.iter().position(|byte| *byte == SPACE) {
+            Some(end) => {
+                self.rest = Some(&rest[end + 1..]);
+                Ok(&rest[..end])
+            }
+            None => {
+                self.rest = None;
+                Ok(rest)
+            }
+        }
+    }
+
+    /// Whether no word is left.
+    pub fn is_at_end(&self) -> bool {
+        self.rest.is_none()
+    }
+
+    /// A line that has more words is bad.
+    pub fn end(&self) -> Result<(), LineFault> {
+        if self.is_at_end() {
+            Ok(())
+        } else {
+            Err(LineFault::Bad)
+        }
+    }
+
+    /// The next word as a number of at most 32 bits.
+    pub fn number(&mut self) -> Result<u32, LineFault> {
+        number(self.word()?).ok_or(LineFault::Bad)
+    }
+}
+
+/// The number that decimal digits show, any leading zeros among them, if it fits 32 bits.
+pub fn number(word: &[u8]) -> Option<u32> {
+    if word.is_empty() {
+        return None;
+    }
+    let mut value: u32 = 0;
+    for digit in word {
+        value = with_digit(value, *digit)?;
+    }
+    Some(value)
+}
+
+/// The number with one more digit behind it.
+fn with_digit(value: u32, digit: u8) -> Option<u32> {
+    if !digit.is_ascii_digit() {
+        return None;
+    }
+    value
+        .checked_mul(10)?
+        .checked_add(u32::from(digit - b'0'))
+}
