@@ -7,7 +7,8 @@ use Rattle.vb_model.specs.Limits.{max_order, max_request_pages, ring_and_buffer_
 use Rattle.vb_model.specs.Pages.{Block, is_wholly_free, is_same_block}
 use Rattle.vb_model.specs.Guest.{deflate_on_oom}
 use Rattle.vb_model.specs.Status.{contains, driver_ok, is_broken}
-use Rattle.vb_model.specs.Refusals.{Test, ◌⇒◌, first_refusal, feature_tests}
+use Rattle.vb_model.specs.Refusals.{Test, ◌⇒◌, first_refusal}
+use Rattle.vb_model.specs.Life.{feature_tests}
 use Rattle.vb_ram.specs.Pages.{Pages, frame_at}
 use Rattle.vb_ram.specs.Part.{Part}
 use Rattle.vb_ring.specs.Ends.{outstanding, used_answer}

@@ -1,5 +1,5 @@
 -- What a driver's calls do, by old and new of guest memory, of the device's part and of the driver: VIRTIO 1.1, 3.1.1 and 5.5.6.
-use Rattle.std.specs.Prelude.{◌≡◌, ◌≢◌, ℕ, ◌+◌, ◌<◌, ◌≤◌, Bool, ◌==◌, nat_lt, List, [], ◌∷◌, ◌++◌, length, take, map, if◌then◌else◌, Option, Some, None, Result, Ok, Err, IfOk, IfErr, OnErr, OnOk, MatchOption, IsTrue, count_by, slice_set, bit_or}
+use Rattle.std.specs.Prelude.{◌≡◌, ◌≢◌, ℕ, ◌+◌, ◌%◌, ◌<◌, ◌≤◌, Bool, ◌==◌, nat_lt, List, [], ◌∷◌, ◌++◌, length, take, map, if◌then◌else◌, Option, Some, None, Result, Ok, Err, IfOk, IfErr, OnErr, OnOk, MatchOption, IsTrue, count_by, slice_set, bit_or}
 use Rattle.std.specs.List.{list_all}
 use Rattle.vb_model.specs.declared.places.Place.{Place}
 use Rattle.vb_model.specs.declared.places.Place.TheVariants.{Free, Used, Giving, Lent, Taking}
@@ -75,7 +75,7 @@ pub record Offers (m1 m2 : Pages) (p1 p2 : Part) (d1 d2 : DriverState) (count : 
   pub others : List ℕ
   pub free : IsTrue (list_all (λ page. is_free (place_of d1.places page)) others)
   pub distinct : AllDistinct others
-  pub count : length (stranded_first d1 count) + length others ≡ count
+  pub enough : length (stranded_first d1 count) + length others ≡ count
   pub posts : Posts m1 m2 d1.inflate d2.inflate (buffers_page 0) (stranded_first d1 count ++ others) posted.head
   pub pages : posted.pages ≡ count
   pub part : p2 ≡ p1

@@ -3,3 +3,4 @@ pub mod Coding
 pub mod State
 pub mod Answers
 pub mod Calls
+pub mod Areas

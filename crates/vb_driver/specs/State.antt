@@ -65,10 +65,10 @@ pub record AreRequests (side : Side) : Type 0 where
   pub buffers : length side.sent ≡ max_outstanding
 
 -- The queue's ring lies in its page.
-pub record IsQueue (side : Side) (queue size : ℕ) : Type 0 where
+pub record IsQueue (side : Side) (queue descriptors : ℕ) : Type 0 where
   pub requests : AreRequests side
-  pub layout : side.ring.layout ≡ layout_of (ring_page queue) size
-  pub size : side.ring.size ≡ size
+  pub layout : side.ring.layout ≡ layout_of (ring_page queue) descriptors
+  pub size : side.ring.size ≡ descriptors
 
 -- A page that a request names is giving or taking, and no other names it.
 pub record IsDriver (d : DriverState) : Type 0 where
