@@ -1,5 +1,9 @@
 pub mod Counting
 pub mod Placing
 pub mod Buffers
-pub mod Requests
+pub mod RequestTables
 pub mod Posting
+pub mod Naming
+pub mod Keeping
+pub mod Moving
+pub mod Refusing

@@ -20,7 +20,7 @@ use Rattle.vb_driver.specs.Coding.{Names, SameButBuffer}
 use Rattle.vb_driver.specs.State.{Side, AreRequests}
 use Rattle.vb_driver.specs.Calls.{Posts}
 use Rattle.vb_driver.proofs.Buffers.{buffer_apart, names_kept}
-use Rattle.vb_driver.proofs.Requests.{add_gives, next_path_is, head_low}
+use Rattle.vb_driver.proofs.RequestTables.{add_gives, next_path_is, head_low, requests_added_at}
 
 or_false : (a : Bool) → (a || false) ≡ a
 or_false true = refl
@@ -77,6 +77,7 @@ posts_at m1 m2 m3 r r2 sent base h a l pages s adds =
         backing = λ p. adds.publishes.rest.backing p ∙ s.wrote.backing p;
         count = adds.publishes.rest.count ∙ s.wrote.count;
       };
+      requests = requests_added_at r r2 sent h h pages s.requests s.is_end s.next small adds.state refl;
     }
 
 -- the head that was added is the one that was told

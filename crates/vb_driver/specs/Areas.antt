@@ -1,10 +1,10 @@
 -- What the driver uses of the page areas.
-use Rattle.std.specs.Prelude.{◌≡◌, ℕ, ◌<◌, Bool, true, false, ◌==◌, List, length, map, slice_index_or, if◌then◌else◌}
-use Rattle.std.specs.List.{list_any}
+use Rattle.std.specs.Prelude.{◌≡◌, ℕ, ◌<◌, Bool, true, false, ◌==◌, ◌&&◌, List, length, map, slice_index_or, if◌then◌else◌}
+use Rattle.std.specs.List.{list_any, list_all}
 use Rattle.vb_model.specs.declared.places.Place.{Place}
 use Rattle.vb_model.specs.declared.places.Place.TheVariants.{Used}
 use Rattle.vb_model.specs.Tests.{is_in, each_page}
-use Rattle.vb_model.specs.Pages.{Block, covers, is_free, place_of}
+use Rattle.vb_model.specs.Pages.{Block, covers, is_aligned, pages_of, is_free, place_of}
 use Rattle.vb_driver.specs.State.{DriverState, IsDriver}
 
 -- The pages that are free, by page, and the blocks that allocations hold, by rising start.
@@ -15,6 +15,10 @@ pub record AreasState : Type 0 where
 
 abbrev pub is_free_at : List Bool → ℕ → Bool
 is_free_at free page = slice_index_or free page false
+
+-- aligned, and each of its pages is free
+abbrev pub is_free_block : List Bool → Block → Bool
+is_free_block free b = is_aligned b && list_all (is_free_at free) (pages_of b)
 
 -- these pages are free, or aren't, from now on
 abbrev pub flagged : List ℕ → Bool → List Bool → List Bool

@@ -2,11 +2,12 @@
 use Rattle.std.specs.Prelude.{◌≡◌, ◌≢◌, ℕ, ◌+◌, ◌%◌, ◌<◌, ◌≤◌, Bool, ◌==◌, nat_lt, List, [], ◌∷◌, ◌++◌, length, take, map, if◌then◌else◌, Option, Some, None, Result, Ok, Err, IfOk, IfErr, OnErr, OnOk, MatchOption, IsTrue, count_by, slice_set, bit_or}
 use Rattle.std.specs.List.{list_all}
 use Rattle.vb_model.specs.declared.places.Place.{Place}
+use Rattle.vb_model.specs.declared.places.PlaceCounts.{PlaceCounts}
 use Rattle.vb_model.specs.declared.places.Place.TheVariants.{Free, Used, Giving, Lent, Taking}
 use Rattle.vb_model.specs.declared.replies.Refusal.{Refusal}
 use Rattle.vb_model.specs.declared.replies.Refusal.TheVariants.{RingBroken, AlreadyUp, NoFrame}
 use Rattle.vb_model.specs.Tests.{pages_where}
-use Rattle.vb_model.specs.Pages.{is_free, is_lent, is_stranded, is_lent_or_taking, place_of, placed, pages_of, is_wholly_free}
+use Rattle.vb_model.specs.Pages.{is_free, is_used, is_giving, is_lent, is_taking, is_stranded, is_reporting, is_lent_or_taking, place_of, placed, pages_of, is_wholly_free}
 use Rattle.vb_model.specs.Driver.{AllDistinct, with_block, without_block}
 use Rattle.vb_model.specs.Life.{place_after_reset, accepted_before}
 use Rattle.vb_model.specs.Limits.{max_outstanding}
@@ -23,7 +24,7 @@ use Rattle.vb_ring.specs.Calls.{TakesUsedBy}
 use Rattle.vb_driver.specs.declared.answers.Posted.{Posted}
 use Rattle.vb_driver.specs.declared.answers.Reaped.{Reaped}
 use Rattle.vb_driver.specs.Coding.{IsCoded, SameButBuffer}
-use Rattle.vb_driver.specs.State.{Side, DriverState, IsDriver, fresh_side, sent_by}
+use Rattle.vb_driver.specs.State.{Side, DriverState, AreRequests, IsDriver, fresh_side, sent_by}
 use Rattle.vb_driver.specs.Answers.{refusal_in, inflate_count, deflate_count, oom_count, block_at, alloc_tests, free_tests, inflate_tests, deflate_tests, oom_tests, reap_tests, init_tests}
 
 -- Nothing is changed.
@@ -31,6 +32,16 @@ pub record Unchanged (m1 m2 : Pages) (p1 p2 : Part) (d1 d2 : DriverState) : Type
   pub mem : m2 ≡ m1
   pub part : p2 ≡ p1
   pub driver : d2 ≡ d1
+
+-- How many pages each place has.
+pub record AreCountsOf (counts : PlaceCounts) (places : List Place) : Type 0 where
+  pub free : counts.free ≡ count_by is_free places
+  pub used : counts.used ≡ count_by is_used places
+  pub giving : counts.giving ≡ count_by is_giving places
+  pub lent : counts.lent ≡ count_by is_lent places
+  pub taking : counts.taking ≡ count_by is_taking places
+  pub stranded : counts.stranded ≡ count_by is_stranded places
+  pub reporting : counts.reporting ≡ count_by is_reporting places
 
 -- ---- pages of the guest's own
 
@@ -65,6 +76,7 @@ pub record Posts (m1 m2 : Pages) (s1 s2 : Side) (base : ℕ) (pages : List ℕ) 
   pub shown : (heads : List ℕ) (elems : List UsedElem) (s : ℕ) → Tracks m1 s1.ring heads elems s → Shows m1 s1.ring.layout s1.ring.size heads elems
       → Shows m2 s1.ring.layout s1.ring.size (heads ++ head ∷ []) elems × Tracks m2 s2.ring (heads ++ head ∷ []) elems s
   pub rest : SameButBuffer m1 m2 s1.ring.layout.table base head
+  pub requests : AreRequests s2
 
 -- The stranded pages that an inflate request offers first.
 abbrev pub stranded_first : DriverState → ℕ → List ℕ

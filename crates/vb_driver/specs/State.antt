@@ -2,7 +2,7 @@
 use Rattle.std.specs.Prelude.{◌≡◌, ℕ, ◌<◌, ◌≤◌, Bool, true, false, ◌==◌, ◌&&◌, not, List, [], length, min, sum_by, count_by, replicate, slice_index_or}
 use Rattle.vb_model.specs.declared.places.Place.{Place}
 use Rattle.vb_model.specs.Limits.{max_outstanding}
-use Rattle.vb_model.specs.Pages.{Block, place_of, is_free, is_giving, is_lent, is_taking, is_stranded}
+use Rattle.vb_model.specs.Pages.{Block, place_of, all_free, is_free, is_giving, is_lent, is_taking, is_stranded}
 use Rattle.vb_model.specs.Layout.{ring_page}
 use Rattle.vb_model.specs.Tests.{one_if}
 use Rattle.vb_ring.specs.Layout.{IsSize, layout_of}
@@ -53,8 +53,25 @@ naming page sent = sum_by (λ pages. count_by (λ p. p == page) pages) sent
 
 -- ---- a queue of which nothing is out
 
+abbrev pub fresh_at : ℕ → ℕ → Side
+fresh_at page size = record { ring = fresh_end (layout_of page size) size; sent = replicate max_outstanding [] }
+
 abbrev pub fresh_side : ℕ → ℕ → Side
-fresh_side queue size = record { ring = fresh_end (layout_of (ring_page queue) size) size; sent = replicate max_outstanding [] }
+fresh_side queue size = fresh_at (ring_page queue) size
+
+-- a driver as it is made
+abbrev pub fresh_driver : ℕ → ℕ → ℕ → DriverState
+fresh_driver pages queue_size processors =
+    record {
+      pages = pages;
+      queue_size = queue_size;
+      processors = processors;
+      places = all_free pages;
+      held = [];
+      inflate = fresh_side 0 queue_size;
+      deflate = fresh_side 1 queue_size;
+      features = 0;
+    }
 
 -- ---- what holds of each driver
 

@@ -1,8 +1,8 @@
 // Where each page of the guest is.
 
-ghost use Rattle.std.specs.Prelude.{◌≡◌, ◌≤◌, ◌<◌, ℕ, true, length, take, map, slice_set, count_by, IfOk};
+ghost use Rattle.std.specs.Prelude.{◌≡◌, ◌≤◌, ◌<◌, ◌+◌, ◌^◌, ℕ, true, length, take, map, slice_set, count_by, IfOk};
 ghost use Rattle.vb_model.specs.Tests.{is_in, pages_where};
-ghost use Rattle.vb_model.specs.Pages.{all_free, placed, place_of};
+ghost use Rattle.vb_model.specs.Pages.{all_free, placed, place_of, pages_of, is_lent_or_taking};
 ghost use Rattle.vb_model.specs.Life.{place_after_reset};
 ghost use Rattle.vb_driver.specs.Places.{number_of, is_at};
 
@@ -94,6 +94,25 @@ impl PlaceTable {
         for page in pages {
             self.set(*page, place);
         }
+    }
+
+    /// Moves the pages of a block to a place.
+    pub(crate) fn set_block(&mut self, start: u32, order: u32, place: Place)
+        requires order { order ≤ 9 }
+        requires inside { start + 2 ^ order ≤ length self.old }
+        ensures { self.new ≡ placed (pages_of (record { start = start; order = order })) place self.old }
+    {
+        let size = 1 << order;
+        for page in start..start + size {
+            self.set(page, place);
+        }
+    }
+
+    /// How many pages are lent or asked back.
+    pub(crate) fn in_balloon(&self) -> u32
+        ensures { result ≡ count_by is_lent_or_taking self.now }
+    {
+        self.counts[number_of(Place::Lent)] + self.counts[number_of(Place::Taking)]
     }
 
     /// The lowest pages that have a place, so many at most.

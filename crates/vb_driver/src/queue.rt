@@ -1,12 +1,12 @@
 // The driver's side of a queue of requests.
 
-ghost use Rattle.std.specs.Prelude.{◌≡◌, ◌<◌, ◌≤◌, ℕ, [], Ok, Err, None, Some, IfOk, IfErr, MatchOption, OnErr, OnOk, IsSome, length, slice_set, min};
+ghost use Rattle.std.specs.Prelude.{◌≡◌, ◌<◌, ◌≤◌, ℕ, [], Ok, Err, None, Some, IfOk, IfErr, MatchOption, OnErr, OnOk, IsSome, length, slice_set, min, replicate};
 ghost use Rattle.vb_model.specs.Limits.{max_outstanding};
 ghost use Rattle.vb_ram.specs.Pages.{frame_at};
 ghost use Rattle.vb_ring.specs.Layout.{IsSize, IsInside, layout_of};
 ghost use Rattle.vb_ring.specs.Ends.{outstanding, used_answer};
 ghost use Rattle.vb_ring.specs.Calls.{TakesUsedBy};
-ghost use Rattle.vb_driver.specs.State.{AreRequests, fresh_side, sent_by};
+ghost use Rattle.vb_driver.specs.State.{AreRequests, fresh_at, sent_by};
 ghost use Rattle.vb_driver.specs.Calls.{Posts, after_reap};
 
 use crate::memory::write_numbers;
@@ -60,7 +60,40 @@ impl Model for RequestQueue {
     ghost invariant = { λ q. AreRequests (record { ring = q.ring; sent = q.sent.items }) };
 }
 
+/// Forgets all requests.
+fn forget_all(sent: &mut [Sent])
+    ensures { sent.new ≡ replicate (length sent.old) [] }
+{
+    for k in 0..sent.len() {
+        sent[k] = Sent::none();
+    }
+}
+
 impl RequestQueue {
+    /// A queue of which nothing is out, whose ring of `size` descriptors lies in a page.
+    pub(crate) fn new(alloc: Global, page: u32, size: u16) -> Result<Self, AllocError>
+        requires { IsSize size }
+        ensures { IfOk result (λ queue. queue ≡ fresh_at page size) }
+    {
+        let mut sent = Vec::with_capacity(alloc, MAX_OUTSTANDING as usize)?;
+        for _ in 0..MAX_OUTSTANDING {
+            sent.push(Sent::none())?;
+        }
+        Ok(RequestQueue {
+            ring: DriverRing::new(page, size),
+            sent,
+        })
+    }
+
+    /// Begins anew in a page, with nothing out.
+    pub(crate) fn renew(&mut self, page: u32, size: u16)
+        requires { IsSize size }
+        ensures { self.new ≡ fresh_at page size }
+    {
+        self.ring = DriverRing::new(page, size);
+        forget_all(&mut self.sent);
+    }
+
     /// How many requests are out.
     pub(crate) fn outstanding(&self) -> u16
         ensures requests { AreRequests self.now }

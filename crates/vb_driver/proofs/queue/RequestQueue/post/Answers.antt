@@ -7,7 +7,7 @@ use Rattle.vb_driver.specs.Coding.{Names}
 use Rattle.vb_driver.specs.State.{Side, AreRequests}
 use Rattle.vb_driver.specs.Calls.{Posts}
 use Rattle.vb_driver.proofs.Buffers.{names_at}
-use Rattle.vb_driver.proofs.Requests.{head_there, head_small, requests_added_at, room_inside}
+use Rattle.vb_driver.proofs.RequestTables.{head_there, head_small, requests_added_at, room_inside}
 use Rattle.vb_driver.proofs.Posting.{Sending, added_head, posts_by}
 use Rattle.vb_driver.proofs.queue.RequestQueue.post.Goals as goal
 

@@ -1,7 +1,7 @@
 use Rattle.std.proofs.Common.{◌≡◌, ◌∙◌, ap, ℕ, [], Option, Some, Result, Ok}
 use Rattle.vb_ring.specs.Ends.{after_take}
 use Rattle.vb_ring.specs.declared.driver.RingBroken.{RingBroken}
-use Rattle.vb_driver.proofs.Requests.{requests_taken_at}
+use Rattle.vb_driver.proofs.RequestTables.{requests_taken_at}
 use Rattle.vb_driver.proofs.queue.RequestQueue.take_used.Goals as goal
 
 was : (r : Result (Option ℕ) RingBroken) (o : Option ℕ) (h : ℕ) → r ≡ Ok o → o ≡ Some h → r ≡ Ok (Some h)
