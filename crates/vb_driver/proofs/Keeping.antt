@@ -3,7 +3,7 @@ use Rattle.std.proofs.Common.{◌≡◌, ◌≢◌, ◌∙◌, sym, ap, subst, a
 use Rattle.std.proofs.lemmas.List.{same_lists, length-map, get_or-map, get_or_past, get_or_default}
 use Rattle.std.proofs.lemmas.Bool.{cases_lt, cases_Bool}
 use Rattle.vb_model.specs.Tests.{is_in, one_if, each_page, pages_where}
-use Rattle.vb_model.specs.Pages.{place_of, placed, is_free, is_used, is_giving, is_lent, is_taking, is_stranded, Block}
+use Rattle.vb_model.specs.Pages.{place_of, placed, is_free, is_used, is_giving, is_lent, is_taking, is_stranded, is_reporting, Block}
 use Rattle.vb_model.specs.declared.places.Place.{Place}
 use Rattle.vb_model.specs.declared.places.Place.TheVariants.{Reserved, Free, Used, Giving, Lent, Taking, Stranded, Reporting}
 use Rattle.vb_model.proofs.Tables.{each_page-get, length-each_from}
@@ -68,6 +68,7 @@ pub record Moves (d : DriverState) (areas areas2 : AreasState) (pages : List ℕ
   pub giving : (p : ℕ) → naming p i2.sent ≤ one_if (is_giving (cond (is_in p pages) to (place_of d.places p)))
   pub taking : (p : ℕ) → naming p e2.sent ≤ one_if (is_taking (cond (is_in p pages) to (place_of d.places p)))
   pub free : areas2.free ≡ map is_free (placed pages to d.places)
+  pub proper : is_reporting to ≡ false
 
 pub kept_moved : (d : DriverState) (areas areas2 : AreasState) (pages : List ℕ) (to : Place) (i2 e2 : Side) → Moves d areas areas2 pages to i2 e2
     → IsKept (record d { places = placed pages to d.places; inflate = i2; deflate = e2 }) areas2
@@ -83,6 +84,7 @@ kept_moved d areas areas2 pages to i2 e2 m =
         deflate = m.deflate;
         giving = λ p. omega (arith, m.giving p, ap (λ (v : Place). one_if (is_giving v)) (place p));
         taking = λ p. omega (arith, m.taking p, ap (λ (v : Place). one_if (is_taking v)) (place p));
+        unreported = λ p. ap is_reporting (place p) ∙ proper_at p (is_in p pages) refl (m.kept.driver.unreported p);
       };
       free = m.free;
       used = λ p covered. place p ∙ used_at p (is_in p pages) refl (m.kept.used p covered);
@@ -91,3 +93,6 @@ kept_moved d areas areas2 pages to i2 e2 m =
     used_at : (p : ℕ) (b : Bool) → is_in p pages ≡ b → place_of d.places p ≡ Used → cond (is_in p pages) to (place_of d.places p) ≡ Used
     used_at p true e is = (let wrong : true ≡ false = sym (ap is_used is) ∙ m.unused p e in cc)
     used_at p false e is = ap (λ v. cond v to (place_of d.places p)) e ∙ is
+    proper_at : (p : ℕ) (b : Bool) → is_in p pages ≡ b → is_reporting (place_of d.places p) ≡ false → is_reporting (cond (is_in p pages) to (place_of d.places p)) ≡ false
+    proper_at p true e old = ap (λ v. is_reporting (cond v to (place_of d.places p))) e ∙ m.proper
+    proper_at p false e old = ap (λ v. is_reporting (cond v to (place_of d.places p))) e ∙ old

@@ -7,3 +7,4 @@ pub mod Naming
 pub mod Keeping
 pub mod Moving
 pub mod Refusing
+pub mod Failing

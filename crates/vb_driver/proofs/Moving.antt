@@ -1,5 +1,5 @@
 -- The pages that each call moves.
-use Rattle.std.proofs.Common.{◌≡◌, ◌≢◌, ◌∙◌, sym, ap, subst, arith, refl, ℕ, suc, ◌+◌, ◌-◌, ◌<◌, ◌≤◌, Bool, true, false, cond, eqb, ◌||◌, ◌&&◌, ◌⊎◌, List, [], ◌∷◌, ◌++◌, length, take, get_or, set, map, count_by, inl, inr, Some, Ok, IsTrue}
+use Rattle.std.proofs.Common.{◌≡◌, ◌≢◌, ◌∙◌, sym, ap, subst, arith, refl, ℕ, zero, suc, replicate, ◌+◌, ◌-◌, ◌<◌, ◌≤◌, Bool, true, false, cond, eqb, ◌||◌, ◌&&◌, ◌⊎◌, List, [], ◌∷◌, ◌++◌, length, take, get_or, set, map, count_by, inl, inr, Some, Ok, IsTrue}
 use Rattle.std.proofs.lemmas.Bool.{cases_Bool, cases_lt}
 use Rattle.std.proofs.lemmas.List.{length-take, length-map, get_or-map, get_or_past}
 use Rattle.std.specs.List.{list_all}
@@ -10,15 +10,18 @@ use Rattle.vb_model.specs.Pages.{place_of, placed, is_free, is_used, is_giving, 
 use Rattle.vb_model.specs.declared.places.Place.{Place}
 use Rattle.vb_model.specs.declared.places.Place.TheVariants.{Reserved, Free, Used, Giving, Lent, Taking, Stranded, Reporting}
 use Rattle.vb_model.proofs.Tables.{pages_where-passes, is_in-take, is_in-append, list_all-at, count_by-cons}
+use Rattle.vb_model.specs.Life.{place_after_reset}
+use Rattle.vb_model.specs.Layout.{ring_page}
+use Rattle.vb_model.proofs.GuestSteps.{place_of-reset}
 use Rattle.vb_ram.specs.Pages.{Pages}
 use Rattle.vb_ring.specs.Ends.{after_add}
 use Rattle.vb_driver.specs.Places.{is_at}
-use Rattle.vb_driver.specs.State.{Side, DriverState, AreRequests, IsQueue, IsDriver, naming, sent_by}
-use Rattle.vb_driver.specs.Areas.{AreasState, IsKept, flagged, is_free_at}
+use Rattle.vb_driver.specs.State.{Side, DriverState, AreRequests, IsQueue, IsDriver, naming, sent_by, fresh_side}
+use Rattle.vb_driver.specs.Areas.{AreasState, IsKept, flagged, is_free_at, is_covered}
 use Rattle.vb_driver.specs.Calls.{Posts, lowest_lent, stranded_first, after_reap}
 use Rattle.vb_driver.proofs.Naming.{times_in, naming_more, naming_same, naming_less, named_place, named_once, once_lowest, once_append, once_distinct}
 use Rattle.vb_driver.proofs.Keeping.{Moves, kept_moved, there_by, free_same, free_flagged}
-use Rattle.vb_driver.proofs.RequestTables.{requests_taken}
+use Rattle.vb_driver.proofs.RequestTables.{requests_taken, requests_fresh}
 
 -- ---- tests of places
 
@@ -202,6 +205,7 @@ asked_kept m1 m2 d areas e2 base count head kept posts =
       taking = λ p. subst (λ (l : List (List ℕ)). naming p l ≤ one_if (is_taking (cond (is_in p pages) Taking (place_of d.places p)))) (sym sent)
           (naming_more p head pages d.deflate.sent is_taking Taking (place_of d.places p) small (kept.driver.taking p) (λ here. ap is_taking (lent p here)) (once_lowest p count is_lent d.places) refl);
       free = kept.free ∙ free_same d.places pages Taking (λ p place is. same_free p place is (is_in p pages) refl lent);
+      proper = refl;
     })
   where
     same_free : (p : ℕ) (place : Place) → place ≡ place_of d.places p → (b : Bool) → is_in p (lowest_lent d count) ≡ b → ((q : ℕ) → is_in q (lowest_lent d count) ≡ true → place_of d.places q ≡ Lent)
@@ -255,6 +259,7 @@ offered_kept m1 m2 d areas areas2 i2 base count head others kept free once taken
           (naming_more p head pages d.inflate.sent is_giving Giving (place_of d.places p) small (kept.driver.giving p) (λ here. idle_test (place_of d.places p) is_giving false refl refl (idle p here)) (once_all p) refl);
       taking = λ p. naming_same p pages d.deflate.sent is_taking Giving (place_of d.places p) (kept.driver.taking p) (λ here. idle_test (place_of d.places p) is_taking false refl refl (idle p here));
       free = taken ∙ (ap (flagged others false) kept.free ∙ free_flagged d.places pages others Giving false (λ p place is. agree p place is (is_in p others) (is_in p first) refl refl));
+      proper = refl;
     })
   where
     in_pages : (p : ℕ) → is_in p (stranded_first d count ++ others) ≡ (is_in p (stranded_first d count) || is_in p others)
@@ -291,6 +296,7 @@ lent_kept d areas head lt kept =
       giving = λ p. naming_less p head d.inflate.sent is_giving Lent (place_of d.places p) small (kept.driver.giving p);
       taking = λ p. naming_same p pages d.deflate.sent is_taking Lent (place_of d.places p) (kept.driver.taking p) (λ here. ap is_taking (giving_is (place_of d.places p) (giving p here)));
       free = kept.free ∙ free_same d.places pages Lent (λ p place is. same_free p place is (is_in p pages) refl giving);
+      proper = refl;
     })
   where
     same_free : (p : ℕ) (place : Place) → place ≡ place_of d.places p → (b : Bool) → is_in p (sent_by d.inflate head) ≡ b → ((q : ℕ) → is_in q (sent_by d.inflate head) ≡ true → is_giving (place_of d.places q) ≡ true)
@@ -313,6 +319,7 @@ freed_kept d areas areas2 head lt kept given =
       giving = λ p. naming_same p pages d.inflate.sent is_giving Free (place_of d.places p) (kept.driver.giving p) (λ here. ap is_giving (taking_is (place_of d.places p) (taking p here)));
       taking = λ p. naming_less p head d.deflate.sent is_taking Free (place_of d.places p) small (kept.driver.taking p);
       free = given ∙ (ap (flagged pages true) kept.free ∙ free_flagged d.places pages pages Free true (λ p place is. agree place (is_in p pages)));
+      proper = refl;
     })
   where
     agree : (place : Place) (b : Bool) → cond b true (is_free place) ≡ is_free (cond b Free place)
@@ -362,3 +369,89 @@ offered_inside d count p others free here = elim (is_in-append p (stranded_first
   | inl f ↦ there_by d.places p is_stranded refl (lowest_is d.places count is_stranded p f)
   | inr o ↦ there_by d.places p is_free refl (list_all-at (λ page. is_free (place_of d.places page)) others p free o)
 ]
+
+-- ---- the pages of a request that is out
+
+pub lent_inside : (d : DriverState) (areas : AreasState) (head p : ℕ) → head < 16 → IsKept d areas → is_in p (sent_by d.inflate head) ≡ true → p < length d.places
+lent_inside d areas head p lt kept here =
+    there_by d.places p is_giving refl (named_place p head d.inflate.sent is_giving (place_of d.places p) (omega (arith, kept.driver.inflate.requests.buffers)) (kept.driver.giving p) here)
+
+pub freed_taking : (d : DriverState) (areas : AreasState) (head p : ℕ) → head < 16 → IsKept d areas → is_in p (sent_by d.deflate head) ≡ true → place_of d.places p ≡ Taking
+freed_taking d areas head p lt kept here =
+    taking_is (place_of d.places p) (named_place p head d.deflate.sent is_taking (place_of d.places p) (omega (arith, kept.driver.deflate.requests.buffers)) (kept.driver.taking p) here)
+
+pub freed_once : (d : DriverState) (areas : AreasState) (head p : ℕ) → head < 16 → IsKept d areas → times_in p (sent_by d.deflate head) ≤ 1
+freed_once d areas head p lt kept = named_once p head d.deflate.sent is_taking (place_of d.places p) (omega (arith, kept.driver.deflate.requests.buffers)) (kept.driver.taking p)
+
+pub freed_uncovered : (d : DriverState) (areas : AreasState) (p : ℕ) → IsKept d areas → place_of d.places p ≡ Taking → is_covered p d.held ≡ false
+freed_uncovered d areas p kept is = at (is_covered p d.held) refl
+  where
+    at : (b : Bool) → is_covered p d.held ≡ b → is_covered p d.held ≡ false
+    at false e = e
+    at true e = (let wrong : true ≡ false = sym (ap is_used (kept.used p e)) ∙ ap is_used is in cc)
+
+pub freed_unfree : (d : DriverState) (areas : AreasState) (p : ℕ) → IsKept d areas → place_of d.places p ≡ Taking → is_free_at areas.free p ≡ false
+freed_unfree d areas p kept is = free_is_place d.places areas.free p kept.free ∙ ap is_free is
+
+pub freed_inside : (d : DriverState) (areas : AreasState) (p : ℕ) → IsKept d areas → place_of d.places p ≡ Taking → (p < length areas.free) × (p < length d.places)
+freed_inside d areas p kept is =
+    let inside : p < length d.places = there_by d.places p is_taking refl (ap is_taking is) in
+    (omega (arith, ap length kept.free, length-map d.places is_free), inside)
+
+-- ---- a reset
+
+free_after : (x : Place) → is_reporting x ≡ false → is_free (place_after_reset x) ≡ is_free x
+free_after Reserved e = refl
+free_after Free e = refl
+free_after Used e = refl
+free_after Giving e = refl
+free_after Lent e = refl
+free_after Taking e = refl
+free_after Stranded e = refl
+free_after Reporting e = cc
+
+reported_after : (x : Place) → is_reporting x ≡ false → is_reporting (place_after_reset x) ≡ false
+reported_after Reserved e = refl
+reported_after Free e = refl
+reported_after Used e = refl
+reported_after Giving e = refl
+reported_after Lent e = refl
+reported_after Taking e = refl
+reported_after Stranded e = refl
+reported_after Reporting e = cc
+
+free_all_after : (xs : List Place) → ((p : ℕ) → is_reporting (place_of xs p) ≡ false) → map is_free (map place_after_reset xs) ≡ map is_free xs
+free_all_after [] none = refl
+free_all_after (x ∷ xs) none =
+    let here : is_reporting x ≡ false = none 0 in
+    ap (λ v. v ∷ map is_free (map place_after_reset xs)) (free_after x here) ∙ ap (λ l. is_free x ∷ l) (free_all_after xs (λ p. none (suc p)))
+
+naming_none : (p n : ℕ) → naming p (replicate {A = List ℕ} n []) ≡ 0
+naming_none p zero = refl
+naming_none p (suc n) = let ih : naming p (replicate {A = List ℕ} n []) ≡ 0 = naming_none p n in omega (arith, ih)
+
+fresh_queue : (queue size : ℕ) → IsQueue (fresh_side queue size) queue size
+fresh_queue queue size = record {
+  requests = requests_fresh (ring_page queue) size (replicate {A = List ℕ} 16 []) refl;
+  layout = refl;
+  size = refl;
+}
+
+pub reset_kept : (d : DriverState) (areas : AreasState) (features : ℕ) → IsKept d areas
+    → IsKept (record d { places = map place_after_reset d.places; inflate = fresh_side 0 d.queue_size; deflate = fresh_side 1 d.queue_size; features = features }) areas
+reset_kept d areas features kept =
+    record {
+      driver = record {
+        table = length-map d.places place_after_reset ∙ kept.driver.table;
+        least = kept.driver.least;
+        most = kept.driver.most;
+        size = kept.driver.size;
+        inflate = fresh_queue 0 d.queue_size;
+        deflate = fresh_queue 1 d.queue_size;
+        giving = λ p. omega (arith, naming_none p 16);
+        taking = λ p. omega (arith, naming_none p 16);
+        unreported = λ p. ap is_reporting (place_of-reset d.places p) ∙ reported_after (place_of d.places p) (kept.driver.unreported p);
+      };
+      free = kept.free ∙ sym (free_all_after d.places kept.driver.unreported);
+      used = λ p covered. place_of-reset d.places p ∙ ap place_after_reset (kept.used p covered);
+    }

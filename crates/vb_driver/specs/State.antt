@@ -2,7 +2,7 @@
 use Rattle.std.specs.Prelude.{◌≡◌, ℕ, ◌<◌, ◌≤◌, Bool, true, false, ◌==◌, ◌&&◌, not, List, [], length, min, sum_by, count_by, replicate, slice_index_or}
 use Rattle.vb_model.specs.declared.places.Place.{Place}
 use Rattle.vb_model.specs.Limits.{max_outstanding}
-use Rattle.vb_model.specs.Pages.{Block, place_of, all_free, is_free, is_giving, is_lent, is_taking, is_stranded}
+use Rattle.vb_model.specs.Pages.{Block, place_of, all_free, is_free, is_giving, is_lent, is_taking, is_stranded, is_reporting}
 use Rattle.vb_model.specs.Layout.{ring_page}
 use Rattle.vb_model.specs.Tests.{one_if}
 use Rattle.vb_ring.specs.Layout.{IsSize, layout_of}
@@ -97,3 +97,5 @@ pub record IsDriver (d : DriverState) : Type 0 where
   pub deflate : IsQueue d.deflate 1 d.queue_size
   pub giving : (page : ℕ) → naming page d.inflate.sent ≤ one_if (is_giving (place_of d.places page))
   pub taking : (page : ℕ) → naming page d.deflate.sent ≤ one_if (is_taking (place_of d.places page))
+  -- reports come later
+  pub unreported : (page : ℕ) → is_reporting (place_of d.places page) ≡ false

@@ -100,6 +100,7 @@ impl Driver {
     ///
     /// Refused for `BadOrder` (over 9), `BadCpu` (no such processor), `NoPages` (no block of the
     /// order is wholly free); then nothing is changed.
+    #[tactic(none)]
     pub fn alloc(&mut self, cpu: u32, order: u32) -> Result<u32, Refusal>
         ensures { AllocatesBy self.old self.new cpu order result }
     {
@@ -112,6 +113,7 @@ impl Driver {
     ///
     /// Refused for `BadOrder`, `BadCpu`, `NotHeld` (no allocation of just this block is held); then
     /// nothing is changed.
+    #[tactic(none)]
     pub fn free(&mut self, cpu: u32, start: u32, order: u32) -> Result<(), Refusal>
         ensures { FreesBy self.old self.new cpu start order result }
     {

@@ -31,21 +31,20 @@ impl Driver {
         if !is_up(port) {
             return Err(Refusal::NotReady);
         }
-        match self.inflate.take_used(port) {
+        let used = match self.inflate.take_used(port) {
+            Ok(Some(used)) => used,
+            Ok(None) => return Ok(None),
             Err(_) => {
                 give_up(port);
-                Err(Refusal::RingBroken)
+                return Err(Refusal::RingBroken);
             }
-            Ok(None) => Ok(None),
-            Ok(Some((head, pages))) => {
-                places.set_all(&pages, Place::Lent);
-                port.set_actual(places.in_balloon());
-                Ok(Some(Reaped {
-                    head,
-                    pages: pages.len() as u32,
-                }))
-            }
-        }
+        };
+        places.set_all(&used.1, Place::Lent);
+        port.set_actual(places.in_balloon());
+        Ok(Some(Reaped {
+            head: used.0,
+            pages: used.1.len() as u32,
+        }))
     }
 
     /// Takes back the next deflate request that the device used: its pages are free from now on.
@@ -57,22 +56,21 @@ impl Driver {
         if !is_up(port) {
             return Err(Refusal::NotReady);
         }
-        match self.deflate.take_used(port) {
+        let used = match self.deflate.take_used(port) {
+            Ok(Some(used)) => used,
+            Ok(None) => return Ok(None),
             Err(_) => {
                 give_up(port);
-                Err(Refusal::RingBroken)
+                return Err(Refusal::RingBroken);
             }
-            Ok(None) => Ok(None),
-            Ok(Some((head, pages))) => {
-                self.areas.give_all(&pages);
-                places.set_all(&pages, Place::Free);
-                port.set_actual(places.in_balloon());
-                Ok(Some(Reaped {
-                    head,
-                    pages: pages.len() as u32,
-                }))
-            }
-        }
+        };
+        self.areas.give_all(&used.1);
+        places.set_all(&used.1, Place::Free);
+        port.set_actual(places.in_balloon());
+        Ok(Some(Reaped {
+            head: used.0,
+            pages: used.1.len() as u32,
+        }))
     }
 
     /// Takes back the next request of a queue that the device used, if there is one: the pages of
