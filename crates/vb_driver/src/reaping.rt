@@ -7,6 +7,7 @@ ghost use Rattle.vb_driver.specs.Calls.{ReapsBy};
 
 use crate::requests::is_up;
 use crate::{Driver, Reaped};
+use bitflags::Flags;
 use vb_model::layout::{DEFLATE_QUEUE, INFLATE_QUEUE};
 use vb_model::{Place, Refusal};
 use vb_status::{Port, Status};
@@ -17,7 +18,7 @@ fn give_up<P: Port>(port: &mut P)
     ensures part { P.part port.new ≡ record (P.part port.old) { status = bit_or (P.part port.old).status failed } }
     ensures mem { P.mem port.new ≡ P.mem port.old }
 {
-    let failed = port.status() | Status::FAILED;
+    let failed = port.status().union(Status::FAILED);
     let _ = port.write_status(failed);
 }
 
