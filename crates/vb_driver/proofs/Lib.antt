@@ -8,3 +8,4 @@ pub mod Keeping
 pub mod Moving
 pub mod Refusing
 pub mod Failing
+pub mod Sizes

@@ -6,7 +6,7 @@ use Rattle.std.specs.List.{list_all}
 use Rattle.std.proofs.lemmas.List.Sums.{sum_by-cons, count_by-le-length}
 use Rattle.std.proofs.lemmas.List.Folds.{list_any-append}
 use Rattle.vb_model.specs.Tests.{is_in, one_if, pages_from, pages_where}
-use Rattle.vb_model.specs.Pages.{place_of, placed, is_free, is_used, is_giving, is_lent, is_taking, is_stranded, is_reporting, is_lent_or_taking}
+use Rattle.vb_model.specs.Pages.{place_of, placed, is_free, is_used, is_giving, is_lent, is_taking, is_stranded, is_reporting, is_lent_or_taking, all_free}
 use Rattle.vb_model.specs.declared.places.Place.{Place}
 use Rattle.vb_model.specs.declared.places.Place.TheVariants.{Reserved, Free, Used, Giving, Lent, Taking, Stranded, Reporting}
 use Rattle.vb_model.proofs.Tables.{pages_where-passes, is_in-take, is_in-append, list_all-at, count_by-cons}
@@ -16,11 +16,15 @@ use Rattle.vb_model.proofs.GuestSteps.{place_of-reset}
 use Rattle.vb_ram.specs.Pages.{Pages}
 use Rattle.vb_ring.specs.Ends.{after_add}
 use Rattle.vb_driver.specs.Places.{is_at}
-use Rattle.vb_driver.specs.State.{Side, DriverState, AreRequests, IsQueue, IsDriver, naming, sent_by, fresh_side}
+use Rattle.vb_driver.specs.State.{Side, DriverState, AreRequests, IsQueue, IsDriver, naming, sent_by, fresh_side, fresh_driver}
 use Rattle.vb_driver.specs.Areas.{AreasState, IsKept, flagged, is_free_at, is_covered}
 use Rattle.vb_driver.specs.Calls.{Posts, lowest_lent, stranded_first, after_reap}
 use Rattle.vb_driver.proofs.Naming.{times_in, naming_more, naming_same, naming_less, named_place, named_once, once_lowest, once_append, once_distinct}
 use Rattle.vb_driver.proofs.Keeping.{Moves, kept_moved, there_by, free_same, free_flagged}
+use Rattle.std.proofs.lemmas.List.FromFn.{get_or-map-range_with_len, length-map-range_with_len}
+use Rattle.std.proofs.Common.{nat_lt}
+use Rattle.vb_ring.specs.Layout.{IsSize}
+use Rattle.vb_driver.proofs.Placing.{first_place}
 use Rattle.vb_driver.proofs.RequestTables.{requests_taken, requests_fresh}
 
 -- ---- tests of places
@@ -454,4 +458,35 @@ reset_kept d areas features kept =
       };
       free = kept.free ∙ sym (free_all_after d.places kept.driver.unreported);
       used = λ p covered. place_of-reset d.places p ∙ ap place_after_reset (kept.used p covered);
+    }
+
+-- ---- a driver as it is made
+
+reported_first : (b : Bool) → is_reporting (cond b Reserved Free) ≡ false
+reported_first true = refl
+reported_first false = refl
+
+reported_never : (n p : ℕ) → is_reporting (place_of (all_free n) p) ≡ false
+reported_never n p = elim (cases_lt p n) [
+  | inl lt ↦ ap is_reporting (get_or-map-range_with_len first_place 0 n p p Reserved lt (omega arith)) ∙ reported_first (nat_lt p 16)
+  | inr past ↦ ap is_reporting (get_or_past (all_free n) p Reserved (omega (arith, length-map-range_with_len first_place 0 n)))
+]
+
+pub fresh_kept : (pages size processors f : ℕ) (areas : AreasState) → 64 ≤ pages → pages ≤ 16384 → IsSize size → areas.free ≡ map is_free (all_free pages)
+    → IsKept (record (fresh_driver pages size processors) { features = f }) areas
+fresh_kept pages size processors f areas least most sized free =
+    record {
+      driver = record {
+        table = length-map-range_with_len first_place 0 pages;
+        least = least;
+        most = most;
+        size = sized;
+        inflate = fresh_queue 0 size;
+        deflate = fresh_queue 1 size;
+        giving = λ p. omega (arith, naming_none p 16);
+        taking = λ p. omega (arith, naming_none p 16);
+        unreported = reported_never pages;
+      };
+      free = free;
+      used = λ p covered. (let wrong : false ≡ true = covered in cc);
     }

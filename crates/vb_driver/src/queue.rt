@@ -76,7 +76,7 @@ impl RequestQueue {
         ensures { IfOk result (λ queue. queue ≡ fresh_at page size) }
     {
         let mut sent = Vec::with_capacity(alloc, MAX_OUTSTANDING as usize)?;
-        for _ in 0..MAX_OUTSTANDING {
+        for _head in 0..MAX_OUTSTANDING {
             sent.push(Sent::none())?;
         }
         Ok(RequestQueue {

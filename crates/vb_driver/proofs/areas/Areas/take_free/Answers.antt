@@ -1,5 +1,8 @@
 use Rattle.vb_driver.proofs.areas.Areas.take_free.Goals as goal
 
+pub new-requires : goal.new-requires
+new-requires c = ?
+
 pub returns-clause-count : goal.returns-clause-count
 returns-clause-count c = ?
 
@@ -11,6 +14,3 @@ returns-clause-distinct c = ?
 
 pub returns-clause-state : goal.returns-clause-state
 returns-clause-state c = ?
-
-pub new-requires : goal.new-requires
-new-requires c = omega arith

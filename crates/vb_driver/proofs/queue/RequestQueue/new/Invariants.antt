@@ -1,5 +1,5 @@
-use Rattle.std.proofs.Common.{◌≡◌, ◌∙◌, ◌<◌, ℕ, List, [], length, replicate}
+use Rattle.std.proofs.Common.{◌≡◌, ℕ, List, [], replicate}
 use Rattle.vb_driver.proofs.queue.RequestQueue.new.Given as goal
 
-abbrev pub invariant-loop : goal.invariant-loop
-invariant-loop l = ?
+abbrev pub invariant-loop-head : goal.invariant-loop-head
+invariant-loop-head l = l.sent.items ≡ replicate {A = List ℕ} l._head []
