@@ -51,32 +51,32 @@ counts_moved counts places page o n new old eight lt here was is small small2 al
     let some : 1 ≤ count_by (is_at old) places = let e : count_by (is_at old) places ≡ count_by (is_at (get_or places page old)) places = ap (λ v. count_by (is_at v) places) here in omega (arith, counts_some places page old lt) in
     record {
       each = λ which.
-        let w = number_of which in
-        let there : hit (number_of (get_or places page old)) w ≡ hit (number_of old) w = ap (λ v. hit (number_of v) w) (sym here) in
-        let moves : count_by (is_at which) (set places page new) + hit (number_of (get_or places page old)) w ≡ count_by (is_at which) places + hit (number_of new) w = count_moves places page which new old lt in
-        let before : get_or counts w 0 ≡ count_by (is_at which) places = all.each which in
-        let middle : get_or mid w 0 + hit o w ≡ count_by (is_at which) places = elim (cases_eq w o) [
-          | inl same ↦
-              let e : get_or mid w 0 ≡ get_or counts o 0 - 1 = ap (λ k. get_or mid k 0) same ∙ get_or-set_same counts o _ 0 (omega arith) in
-              let f : get_or counts w 0 ≡ get_or counts o 0 = ap (λ k. get_or counts k 0) same in
-              let h : hit o w ≡ 1 = hit_same o w (sym same) in
-              omega arith
-          | inr ne ↦
-              let e : get_or mid w 0 ≡ get_or counts w 0 = get_or-set_other counts o w _ 0 ne in
-              let h : hit o w ≡ 0 = hit_other o w (λ q. ne (sym q)) in
-              omega arith
-        ] in
-        let hits : hit o w ≡ hit (number_of old) w = ap (λ k. hit k w) was in
-        let hits2 : hit n w ≡ hit (number_of new) w = ap (λ k. hit k w) is in
-        elim (cases_eq w n) [
-          | inl same ↦
-              let e : get_or (set mid n (get_or mid n 0 + 1)) w 0 ≡ get_or mid n 0 + 1 = ap (λ k. get_or (set mid n (get_or mid n 0 + 1)) k 0) same ∙ get_or-set_same mid n _ 0 (omega arith) in
-              let f : get_or mid w 0 ≡ get_or mid n 0 = ap (λ k. get_or mid k 0) same in
-              let h : hit n w ≡ 1 = hit_same n w (sym same) in
-              omega arith
-          | inr ne ↦
-              let e : get_or (set mid n (get_or mid n 0 + 1)) w 0 ≡ get_or mid w 0 = get_or-set_other mid n w _ 0 ne in
-              let h : hit n w ≡ 0 = hit_other n w (λ q. ne (sym q)) in
-              omega arith
-        ];
+          let w = number_of which in
+          let there : hit (number_of (get_or places page old)) w ≡ hit (number_of old) w = ap (λ v. hit (number_of v) w) (sym here) in
+          let moves : count_by (is_at which) (set places page new) + hit (number_of (get_or places page old)) w ≡ count_by (is_at which) places + hit (number_of new) w = count_moves places page which new old lt in
+          let before : get_or counts w 0 ≡ count_by (is_at which) places = all.each which in
+          let middle : get_or mid w 0 + hit o w ≡ count_by (is_at which) places = elim (cases_eq w o) [
+            | inl same ↦
+                let e : get_or mid w 0 ≡ get_or counts o 0 - 1 = ap (λ k. get_or mid k 0) same ∙ get_or-set_same counts o _ 0 (omega arith) in
+                let f : get_or counts w 0 ≡ get_or counts o 0 = ap (λ k. get_or counts k 0) same in
+                let h : hit o w ≡ 1 = hit_same o w (sym same) in
+                omega arith
+            | inr ne ↦
+                let e : get_or mid w 0 ≡ get_or counts w 0 = get_or-set_other counts o w _ 0 ne in
+                let h : hit o w ≡ 0 = hit_other o w (λ q. ne (sym q)) in
+                omega arith
+          ] in
+          let hits : hit o w ≡ hit (number_of old) w = ap (λ k. hit k w) was in
+          let hits2 : hit n w ≡ hit (number_of new) w = ap (λ k. hit k w) is in
+          elim (cases_eq w n) [
+            | inl same ↦
+                let e : get_or (set mid n (get_or mid n 0 + 1)) w 0 ≡ get_or mid n 0 + 1 = ap (λ k. get_or (set mid n (get_or mid n 0 + 1)) k 0) same ∙ get_or-set_same mid n _ 0 (omega arith) in
+                let f : get_or mid w 0 ≡ get_or mid n 0 = ap (λ k. get_or mid k 0) same in
+                let h : hit n w ≡ 1 = hit_same n w (sym same) in
+                omega arith
+            | inr ne ↦
+                let e : get_or (set mid n (get_or mid n 0 + 1)) w 0 ≡ get_or mid w 0 = get_or-set_other mid n w _ 0 ne in
+                let h : hit n w ≡ 0 = hit_other n w (λ q. ne (sym q)) in
+                omega arith
+          ];
     }

@@ -38,12 +38,12 @@ free_flagged places pages others to flag agree =
     let n1 : length left ≡ length places = length-each_from 0 (λ page old. if is_in page others then flag else old) (map is_free places) ∙ length-map places is_free in
     let n2 : length moved ≡ length places = length-placed pages to places in
     same_lists left (map is_free moved) (n1 ∙ sym (length-map moved is_free ∙ n2)) (λ k d near.
-        let inside : k < length places = omega arith in
-        let here : place_of places k ≡ get_or places k Reserved = refl in
-        each_page-get (λ page old. if is_in page others then flag else old) (map is_free places) k d (λ far. absurd (omega (arith, length-map places is_free)))
-        ∙ (ap (λ v. cond (is_in k others) flag v) (get_or-map is_free places k Reserved d inside)
-        ∙ (agree k (place_of places k) refl
-        ∙ sym (get_or-map is_free moved k Reserved d (omega arith) ∙ ap is_free (placed-get pages to places k Reserved inside)))))
+    let inside : k < length places = omega arith in
+    let here : place_of places k ≡ get_or places k Reserved = refl in
+    each_page-get (λ page old. if is_in page others then flag else old) (map is_free places) k d (λ far. absurd (omega (arith, length-map places is_free)))
+    ∙ (ap (λ v. cond (is_in k others) flag v) (get_or-map is_free places k Reserved d inside)
+    ∙ (agree k (place_of places k) refl
+    ∙ sym (get_or-map is_free moved k Reserved d (omega arith) ∙ ap is_free (placed-get pages to places k Reserved inside)))))
 
 pub free_same : (places : List Place) (pages : List ℕ) (to : Place)
     → ((p : ℕ) (place : Place) → place ≡ place_of places p → is_free place ≡ is_free (cond (is_in p pages) to place))
@@ -52,10 +52,10 @@ free_same places pages to agree =
     let moved = placed pages to places in
     let n2 : length moved ≡ length places = length-placed pages to places in
     same_lists (map is_free places) (map is_free moved) (length-map places is_free ∙ sym (length-map moved is_free ∙ n2)) (λ k d near.
-        let inside : k < length places = omega (arith, length-map places is_free) in
-        get_or-map is_free places k Reserved d inside
-        ∙ (agree k (place_of places k) refl
-        ∙ sym (get_or-map is_free moved k Reserved d (omega arith) ∙ ap is_free (placed-get pages to places k Reserved inside))))
+    let inside : k < length places = omega (arith, length-map places is_free) in
+    get_or-map is_free places k Reserved d inside
+    ∙ (agree k (place_of places k) refl
+    ∙ sym (get_or-map is_free moved k Reserved d (omega arith) ∙ ap is_free (placed-get pages to places k Reserved inside))))
 
 -- ---- the whole
 
@@ -93,6 +93,7 @@ kept_moved d areas areas2 pages to i2 e2 m =
     used_at : (p : ℕ) (b : Bool) → is_in p pages ≡ b → place_of d.places p ≡ Used → cond (is_in p pages) to (place_of d.places p) ≡ Used
     used_at p true e is = (let wrong : true ≡ false = sym (ap is_used is) ∙ m.unused p e in cc)
     used_at p false e is = ap (λ v. cond v to (place_of d.places p)) e ∙ is
+
     proper_at : (p : ℕ) (b : Bool) → is_in p pages ≡ b → is_reporting (place_of d.places p) ≡ false → is_reporting (cond (is_in p pages) to (place_of d.places p)) ≡ false
     proper_at p true e old = ap (λ v. is_reporting (cond v to (place_of d.places p))) e ∙ m.proper
     proper_at p false e old = ap (λ v. is_reporting (cond v to (place_of d.places p))) e ∙ old

@@ -268,9 +268,11 @@ offered_kept m1 m2 d areas areas2 i2 base count head others kept free once taken
   where
     in_pages : (p : ℕ) → is_in p (stranded_first d count ++ others) ≡ (is_in p (stranded_first d count) || is_in p others)
     in_pages p = list_any-append (λ m. eqb m p) (stranded_first d count) others
+
     or_true : (a : Bool) → (a || true) ≡ true
     or_true true = refl
     or_true false = refl
+
     agree : (p : ℕ) (place : Place) → place ≡ place_of d.places p → (o f : Bool) → is_in p others ≡ o → is_in p (stranded_first d count) ≡ f
         → cond (is_in p others) false (is_free place) ≡ is_free (cond (is_in p (stranded_first d count ++ others)) Giving place)
     agree p place is true f e g =

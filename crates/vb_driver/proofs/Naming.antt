@@ -55,6 +55,7 @@ once_distinct p (x ∷ xs) d =
     opposite : (b : Bool) → IsTrue (not b) → b ≡ false
     opposite true h = cc
     opposite false h = refl
+
     one_most : (b : Bool) → one_if b ≤ 1
     one_most true = omega arith
     one_most false = omega arith
@@ -77,6 +78,7 @@ once_from p k test (x ∷ xs) = at (test x) (once_from p (suc k) test xs)
     one_most : (b : Bool) → one_if b ≤ 1
     one_most true = omega arith
     one_most false = omega arith
+
     at : (b : Bool) → times_in p (pages_from (suc k) test xs) ≤ 1 → times_in p (cond b (k ∷ pages_from (suc k) test xs) (pages_from (suc k) test xs)) ≤ 1
     at false rest = rest
     at true rest =
@@ -141,6 +143,7 @@ naming_less p h sent test to place lt old =
     one_most : (b : Bool) → one_if b ≤ 1
     one_most true = omega arith
     one_most false = omega arith
+
     at : (b : Bool) → is_in p (get_or sent h []) ≡ b → naming p (set sent h []) + times_in p (get_or sent h []) ≡ naming p sent + times_in p [] → one_if (test place) ≤ 1
         → naming p (set sent h []) ≤ one_if (test (cond (is_in p (get_or sent h [])) to place))
     at true e s most = (let some : 1 ≤ times_in p (get_or sent h []) = some_in p (get_or sent h []) e in omega arith)

@@ -39,16 +39,16 @@ placed_more xs x place ps lt =
     let n1 : length all ≡ length ps = length-placed (xs ++ x ∷ []) place ps in
     let n2 : length before ≡ length ps = length-placed xs place ps in
     same_lists all (set before x place) (omega (arith, length-set before x place)) (λ k d near.
-        let inside : k < length ps = omega arith in
-        let left : get_or all k d ≡ cond (is_in k (xs ++ x ∷ [])) place (get_or ps k d) = placed-get (xs ++ x ∷ []) place ps k d inside in
-        elim (cases_eq k x) [
-          | inl same ↦
-              let hit : is_in k (xs ++ x ∷ []) ≡ true = is_in-push k xs x ∙ (ap (λ v. is_in k xs || (v || false)) (eq-eqb x k (sym same)) ∙ or_true (is_in k xs)) in
-              left ∙ (ap (λ v. cond v place (get_or ps k d)) hit ∙ sym (ap (λ n. get_or (set before x place) n d) same ∙ get_or-set_same before x place d (omega arith)))
-          | inr ne ↦
-              let miss : is_in k (xs ++ x ∷ []) ≡ is_in k xs = is_in-push k xs x ∙ (ap (λ v. is_in k xs || (v || false)) (ne_eqb x k (λ e. ne (sym e))) ∙ or_false (is_in k xs)) in
-              left ∙ (ap (λ v. cond v place (get_or ps k d)) miss ∙ (sym (placed-get xs place ps k d inside) ∙ sym (get_or-set_other before x k place d ne)))
-        ])
+    let inside : k < length ps = omega arith in
+    let left : get_or all k d ≡ cond (is_in k (xs ++ x ∷ [])) place (get_or ps k d) = placed-get (xs ++ x ∷ []) place ps k d inside in
+    elim (cases_eq k x) [
+      | inl same ↦
+          let hit : is_in k (xs ++ x ∷ []) ≡ true = is_in-push k xs x ∙ (ap (λ v. is_in k xs || (v || false)) (eq-eqb x k (sym same)) ∙ or_true (is_in k xs)) in
+          left ∙ (ap (λ v. cond v place (get_or ps k d)) hit ∙ sym (ap (λ n. get_or (set before x place) n d) same ∙ get_or-set_same before x place d (omega arith)))
+      | inr ne ↦
+          let miss : is_in k (xs ++ x ∷ []) ≡ is_in k xs = is_in-push k xs x ∙ (ap (λ v. is_in k xs || (v || false)) (ne_eqb x k (λ e. ne (sym e))) ∙ or_false (is_in k xs)) in
+          left ∙ (ap (λ v. cond v place (get_or ps k d)) miss ∙ (sym (placed-get xs place ps k d inside) ∙ sym (get_or-set_other before x k place d ne)))
+    ])
 
 pub placed_none : (place : Place) (ps : List Place) → placed [] place ps ≡ ps
 placed_none place ps = same_lists (placed [] place ps) ps (length-placed [] place ps) (λ k d near. placed-get [] place ps k d (omega (arith, length-placed [] place ps)))
@@ -76,8 +76,8 @@ changing_more old now f i y c lt is =
 pub changed_all : (old now : List Place) (f : Place → Place) (i : ℕ) → Changing old now (λ k. f) i → length old ≤ i → now ≡ map f old
 changed_all old now f i c all =
     same_lists now (map f old) (c.same ∙ sym (length-map old f)) (λ k d near.
-        let inside : k < length old = omega (arith, c.same) in
-        c.put k d (omega arith) inside ∙ sym (get_or-map f old k d d inside))
+    let inside : k < length old = omega (arith, c.same) in
+    c.put k d (omega arith) inside ∙ sym (get_or-map f old k d d inside))
 
 abbrev pub first_place : ℕ → Place
 first_place page = if nat_lt page 16 then Reserved else Free
@@ -85,8 +85,8 @@ first_place page = if nat_lt page 16 then Reserved else Free
 pub filled_all : (n : ℕ) (now : List Place) (i : ℕ) → Changing (replicate n Reserved) now (λ k old. first_place k) i → n ≤ i → now ≡ all_free n
 filled_all n now i c all =
     same_lists now (all_free n) (c.same ∙ (length-replicate n Reserved ∙ sym (length-map (range_with_len 0 n) first_place ∙ length-range_with_len 0 n))) (λ k d near.
-        let inside : k < n = omega (arith, c.same, length-replicate n Reserved) in
-        c.put k d (omega arith) (omega (arith, length-replicate n Reserved)) ∙ sym (get_or-map-range_with_len first_place 0 n k k d inside (omega arith)))
+    let inside : k < n = omega (arith, c.same, length-replicate n Reserved) in
+    c.put k d (omega arith) (omega (arith, length-replicate n Reserved)) ∙ sym (get_or-map-range_with_len first_place 0 n k k d inside (omega arith)))
 
 -- ---- the pages that pass a test
 

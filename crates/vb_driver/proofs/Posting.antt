@@ -65,8 +65,8 @@ posts_at m1 m2 m3 r r2 sent base h a l pages s adds =
         names = names_kept m2 m3 (buffer_page base h) (buffer_offset h) pages (buffer_offset h + 1024) (same_page m2 m3 (buffer_page base h) (buffer_offset h) (buffer_offset h + 1024) (second (buffer_page base h) (above h))) (omega (arith, s.few)) s.names;
       };
       descriptors = λ i lt ne.
-        let out : is_in i (next_path r 1) ≡ false = ap (is_in i) path ∙ (or_false (eqb h i) ∙ ne_eqb h i (λ e. ne (sym e))) in
-        adds.links.others i lt out ∙ descriptor_apart m1 m2 T i first;
+          let out : is_in i (next_path r 1) ≡ false = ap (is_in i) path ∙ (or_false (eqb h i) ∙ ne_eqb h i (λ e. ne (sym e))) in
+          adds.links.others i lt out ∙ descriptor_apart m1 m2 T i first;
       entries = λ heads elems counted shows. adds.entries heads elems counted (entries_apart m1 m2 r.layout r.size heads elems s.is_end.fits.size first_avail first_used shows);
       shown = λ heads elems n tracks shows. adds.shown heads elems n (tracks_apart m1 m2 r heads elems n first tracks) (ring_apart m1 m2 r.layout r.size heads elems s.is_end.fits.size first first_avail first_used shows);
       rest = record {
@@ -97,4 +97,4 @@ posts_by m1 m2 m3 r r2 sent base h g a l pages s adds =
     let pieces : List Piece = record { addr = a; len = l; writable = false } ∷ [] in
     let same : h ≡ g = added_head m2 m3 r r2 h g pieces refl s.next adds in
     subst (λ (n : ℕ). Posts m1 m3 (record { ring = r; sent = sent }) (record { ring = r2; sent = set sent n pages }) base pages n) same
-        (posts_at m1 m2 m3 r r2 sent base h a l pages s (subst (λ (n : ℕ). AddsBy m2 m3 r r2 pieces (Ok n)) (sym same) adds))
+    (posts_at m1 m2 m3 r r2 sent base h a l pages s (subst (λ (n : ℕ). AddsBy m2 m3 r r2 pieces (Ok n)) (sym same) adds))

@@ -151,9 +151,11 @@ requests_taken r sent h all =
   where
     kept : (i : ℕ) (b : Bool) → is_own h (slice_index_or r.owner i None) ≡ b → slice_index_or (released h r.owner) i None ≡ cond b None (slice_index_or r.owner i None)
     kept i b e = released-at h r.owner i ∙ ap (λ v. cond v None (slice_index_or r.owner i None)) e
+
     at : (i : ℕ) (b : Bool) → is_own h (slice_index_or r.owner i None) ≡ b → is_free (released h r.owner) i ≡ false → is_head (released h r.owner) i ≡ true
     at i true e used = (let gone : true ≡ false = sym (ap is_none (kept i true e)) ∙ used in cc)
     at i false e used = ap (is_own i) (kept i false e) ∙ all.single i (sym (ap is_none (kept i false e)) ∙ used)
+
     at_few : (i : ℕ) (b : Bool) → is_own h (slice_index_or r.owner i None) ≡ b → is_head (released h r.owner) i ≡ true → i < 16
     at_few i true e head = (let gone : false ≡ true = sym (ap (is_own i) (kept i true e)) ∙ head in cc)
     at_few i false e head = all.few i (sym (ap (is_own i) (kept i false e)) ∙ head)

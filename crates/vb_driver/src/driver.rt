@@ -9,13 +9,13 @@ ghost use Rattle.vb_driver.specs.Calls.{AllocatesBy, FreesBy, AreCountsOf};
 use crate::areas::Areas;
 use crate::places::PlaceTable;
 use crate::queue::RequestQueue;
+use bitflags::Flags;
 use std::alloc::{AllocError, Global};
 use std::marker::Model;
 use vb_model::layout::{DEFLATE_RING_PAGE, INFLATE_RING_PAGE};
 use vb_model::{Place, PlaceCounts, Refusal};
 use vb_ram::Config;
 use vb_status::Features;
-use bitflags::Flags;
 
 /// The balloon driver of a guest (VIRTIO 1.1, 5.5.6): where each page of the guest is, the page
 /// areas, and the requests that are out.

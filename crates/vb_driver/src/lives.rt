@@ -16,8 +16,10 @@ impl Driver {
     {
         let _ = port.write_status(Status::empty());
         self.places.strand();
-        self.inflate.renew(INFLATE_RING_PAGE, self.config.queue_size);
-        self.deflate.renew(DEFLATE_RING_PAGE, self.config.queue_size);
+        self.inflate
+            .renew(INFLATE_RING_PAGE, self.config.queue_size);
+        self.deflate
+            .renew(DEFLATE_RING_PAGE, self.config.queue_size);
         self.features = Features::empty();
     }
 }

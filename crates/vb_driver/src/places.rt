@@ -9,8 +9,8 @@ ghost use Rattle.vb_driver.specs.Places.{number_of, is_at};
 use arrayvec::ArrayVec;
 use std::alloc::{AllocError, Global};
 use std::marker::Model;
-use vb_model::limits::RESERVED_PAGES;
 use vb_model::Place;
+use vb_model::limits::RESERVED_PAGES;
 
 /// The place of each page, and how many pages each place has. A contract sees the places.
 #[derive(Drop)]

@@ -150,7 +150,7 @@ impl RequestQueue {
         ensures next { IfOk result (λ got. MatchOption got
             ((used_answer (G.mem ram.now) self.old.ring ≡ Ok None) × (self.new ≡ self.old))
             (λ used. (used_answer (G.mem ram.now) self.old.ring ≡ Ok (Some used.0)) × (used.0 < max_outstanding)
-                × (used.1.items ≡ sent_by self.old used.0) × (self.new ≡ after_reap self.old used.0))) }
+            × (used.1.items ≡ sent_by self.old used.0) × (self.new ≡ after_reap self.old used.0))) }
     {
         let Some(head) = self.ring.take_used(ram)? else {
             return Ok(None);

@@ -63,8 +63,7 @@ impl Driver {
     fn oom_count(&self, n: u32) -> u32
         ensures { result ≡ oom_count self.now n }
     {
-        n.min(MAX_REQUEST_PAGES)
-            .min(self.places.count(Place::Lent))
+        n.min(MAX_REQUEST_PAGES).min(self.places.count(Place::Lent))
     }
 
     /// Whether a queue has as many requests as there may be.

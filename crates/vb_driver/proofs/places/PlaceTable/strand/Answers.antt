@@ -14,7 +14,7 @@ loop-page-preserved c =
     let inside : i < length old = omega (arith, c.loop-page-test.true, c.len-pages.ensures) in
     let P : List Place → Type 0 = λ l. Changing old l (λ k. place_after_reset) (i + 1) in
     subst P (sym c.set.ensures) (changing_more old c.loop-page.self (λ k. place_after_reset) i c.after_reset.result c.loop-page.invariant inside
-        (λ d. c.after_reset.ensures ∙ ap place_after_reset (c.place-place.ensures ∙ (c.loop-page.invariant.rest i Reserved (omega arith) ∙ get_or_default old i Reserved d inside))))
+    (λ d. c.after_reset.ensures ∙ ap place_after_reset (c.place-place.ensures ∙ (c.loop-page.invariant.rest i Reserved (omega arith) ∙ get_or_default old i Reserved d inside))))
 
 pub returns : goal.returns
 returns c =

@@ -76,9 +76,9 @@ returns-clause-posts g c =
     let at_page : c.args.base + c.from.result ≡ buffer_page c.args.base h = ap (λ (n : ℕ). c.args.base + n) c.from.ensures in
     let at_offset : 1024 * c.from-offset.result ≡ buffer_offset h = ap (λ (n : ℕ). 1024 * n) c.from-offset.ensures in
     let wrote : SameBut m1 m2 (buffer_page c.args.base h) (buffer_offset h) (buffer_offset h + 4 * length pages) =
-        subst (λ (n : ℕ). SameBut m1 m2 (buffer_page c.args.base h) (buffer_offset h) (buffer_offset h + 4 * n)) size
-        (subst (λ (n : ℕ). SameBut m1 m2 (buffer_page c.args.base h) n (n + 4 * length c.deref.result.now)) at_offset
-        (subst (λ (n : ℕ). SameBut m1 m2 n (1024 * c.from-offset.result) (1024 * c.from-offset.result + 4 * length c.deref.result.now)) at_page c.write_numbers.ensures.rest)) in
+    subst (λ (n : ℕ). SameBut m1 m2 (buffer_page c.args.base h) (buffer_offset h) (buffer_offset h + 4 * n)) size
+    (subst (λ (n : ℕ). SameBut m1 m2 (buffer_page c.args.base h) n (n + 4 * length c.deref.result.now)) at_offset
+    (subst (λ (n : ℕ). SameBut m1 m2 n (1024 * c.from-offset.result) (1024 * c.from-offset.result + 4 * length c.deref.result.now)) at_page c.write_numbers.ensures.rest)) in
     let ring_now : r ≡ c.args.self.now.ring = ap (λ (s : Side). s.ring) c.self.view_is in
     let sending : Sending m1 m2 m3 r c.add.new.self sent c.args.base h c.from-2.result (4 * c.len.result) pages = record {
       requests = c.self.invariant;
