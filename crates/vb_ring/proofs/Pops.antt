@@ -56,8 +56,8 @@ pops_none mem q is_end next = record {
 }
 
 pub pops_chain : (mem : Pages) (q : DeviceEnd) (taken : Taken) → IsDeviceEnd q → q.ready ≡ true → next_entry mem q.layout q.size q.next_avail ≡ Ok (Some taken.head)
-    → ChainGives (descriptor_at mem q.layout.table) q.size (4096 * length mem) taken.head taken.pieces.items
-    → ((pieces : List Piece) → ChainGives (descriptor_at mem q.layout.table) q.size (4096 * length mem) taken.head pieces → taken.pieces.items ≡ pieces)
+    → ChainGives (descriptor_at mem q.layout.table) q.size (4096 * length mem) taken.head taken.pieces
+    → ((pieces : List Piece) → ChainGives (descriptor_at mem q.layout.table) q.size (4096 * length mem) taken.head pieces → taken.pieces ≡ pieces)
     → ((f : ChainFault) → FaultGives (descriptor_at mem q.layout.table) q.size (4096 * length mem) taken.head f → ⊥) → PopsBy mem q (after_pop q (Ok (Some taken))) (Ok (Some taken))
 pops_chain mem q taken is_end ready next gives each_chain each_fault = record {
   is_end = is_end;

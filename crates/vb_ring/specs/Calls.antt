@@ -91,12 +91,12 @@ pub record PopsBy (mem : Pages) (q1 q2 : DeviceEnd) (result : Result (Option Tak
   pub jump : (f : ChainFault) → q1.ready ≡ true → next_entry mem q1.layout q1.size q1.next_avail ≡ Err f → result ≡ Err f
   pub chain : (h : ℕ) (pieces : List Piece) → q1.ready ≡ true → next_entry mem q1.layout q1.size q1.next_avail ≡ Ok (Some h)
       → ChainGives (descriptor_at mem q1.layout.table) q1.size (4096 * length mem) h pieces
-      → IsOkAnd result (λ got. IsSomeAnd got (λ taken. (taken.head ≡ h) × (taken.pieces.items ≡ pieces)))
+      → IsOkAnd result (λ got. IsSomeAnd got (λ taken. (taken.head ≡ h) × (taken.pieces ≡ pieces)))
   pub fault : (h : ℕ) (f : ChainFault) → q1.ready ≡ true → next_entry mem q1.layout q1.size q1.next_avail ≡ Ok (Some h)
       → FaultGives (descriptor_at mem q1.layout.table) q1.size (4096 * length mem) h f → result ≡ Err f
   pub found : IfOk result (λ got. IfSome got (λ taken. (q1.ready ≡ true)
       × (next_entry mem q1.layout q1.size q1.next_avail ≡ Ok (Some taken.head))
-      × ChainGives (descriptor_at mem q1.layout.table) q1.size (4096 * length mem) taken.head taken.pieces.items))
+      × ChainGives (descriptor_at mem q1.layout.table) q1.size (4096 * length mem) taken.head taken.pieces))
   pub shown : (heads : List ℕ) (t : ℕ) → ShowsAvail mem q1.layout q1.size heads → t % 65536 ≡ q1.next_avail → t ≤ length heads → length heads ≤ t + q1.size
       → next_entry mem q1.layout q1.size q1.next_avail ≡ Ok (slice_get heads t)
 

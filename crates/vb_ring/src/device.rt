@@ -9,16 +9,15 @@ ghost use Rattle.vb_ring.specs.Calls.{PopsBy, AddsUsedBy};
 
 use crate::entries::{next_avail, put_used};
 use crate::{Layout, MAX_QUEUE_SIZE};
-use arrayvec::ArrayVec;
 use std::marker::Model;
-use vb_chain::{ChainFault, Piece, walk};
+use vb_chain::{Chain, ChainFault, walk};
 use vb_ram::GuestBytes;
 
 /// A chain that was popped: its head, and the pieces of memory that its descriptors name.
 #[derive(Drop)]
 pub struct Taken {
     pub head: u16,
-    pub pieces: ArrayVec<Piece, 128>,
+    pub pieces: Chain,
 }
 
 /// The device's end of a split virtqueue.
