@@ -1,0 +1,10 @@
+pub mod Heads
+pub mod Taking
+pub mod Apart
+pub mod Finishing
+pub mod Posting
+pub mod Reaping
+pub mod Closing
+pub mod Refusing
+pub mod Chains
+pub mod TakeStep

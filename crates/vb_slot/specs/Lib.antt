@@ -1,0 +1,4 @@
+pub mod Line
+pub mod Stands
+pub mod Steps
+pub mod Replies

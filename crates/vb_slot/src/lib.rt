@@ -1,0 +1,2 @@
+//! One guest of a host: its balloon driver, and its boxed device with the guest's memory.
+#![tactic(auto)]
