@@ -12,8 +12,7 @@ use Rattle.vb_chain.specs.Chain.{ChainGives}
 use Rattle.vb_chain.specs.ChainLaws.{single_chain, no_fault}
 use Rattle.vb_driver.specs.Coding.{IsCoded, buffer_of}
 use Rattle.vb_device.specs.Request.{page_request}
-use Rattle.vb_device.specs.RequestLaws.{ArePages}
-use Rattle.vb_slot.specs.Line.{IsRequest}
+use Rattle.vb_slot.specs.Line.{AreRequested, IsRequest}
 
 -- its chain is one readable buffer
 pub coded_chain : (mem : Pages) (q size n : ℕ) (sent : List (List ℕ)) (r : Request) → buffers_page q ≤ 8 → 64 ≤ n → length mem ≡ n → IsRequest size n sent r
@@ -27,7 +26,7 @@ coded_chain mem q size n sent r low large len is code =
 -- a device reads the page numbers that were written
 abbrev pub ReadsCoded : Type 0
 ReadsCoded =
-    (mem : Pages) (page offset : ℕ) (pages : List ℕ) → ArePages (length mem) pages → offset + 4 * length pages ≤ 4096
+    (mem : Pages) (page offset : ℕ) (pages : List ℕ) → AreRequested (length mem) pages → offset + 4 * length pages ≤ 4096
     → ((k : ℕ) → k < length pages → field 4 mem page (offset + 4 * k) ≡ slice_index pages k)
     → page_request mem (record { addr = 4096 * page + offset; len = 4 * length pages; writable = false } ∷ []) ≡ Ok pages
 
@@ -36,5 +35,5 @@ pub coded_pages : ReadsCoded → (mem : Pages) (q size n : ℕ) (sent : List (Li
     → IsCoded mem (ring_page q) (buffers_page q) r.head r.pages
     → page_request mem (piece_of (buffer_of (buffers_page q) r.head (length r.pages)) ∷ []) ≡ Ok r.pages
 coded_pages reads mem q size n sent r len is code =
-    let A : ℕ → Type 0 = λ k. ArePages k r.pages in
+    let A : ℕ → Type 0 = λ k. AreRequested k r.pages in
     reads mem (buffer_page (buffers_page q) r.head) (buffer_offset r.head) r.pages (subst A (sym len) is.pages) (omega (arith, is.pages.few)) code.names.each

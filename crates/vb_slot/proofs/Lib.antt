@@ -8,3 +8,7 @@ pub mod Closing
 pub mod Refusing
 pub mod Chains
 pub mod TakeStep
+pub mod Discarding
+pub mod PagesKept
+pub mod FinishStep
+pub mod Writing

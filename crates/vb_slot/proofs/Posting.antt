@@ -20,8 +20,7 @@ use Rattle.vb_ring.specs.Meaning.{UsedElem, ids, times, Shows, Tracks}
 use Rattle.vb_driver.specs.Coding.{IsCoded}
 use Rattle.vb_driver.specs.State.{Side, AreRequests}
 use Rattle.vb_driver.specs.Calls.{Posts}
-use Rattle.vb_device.specs.RequestLaws.{ArePages}
-use Rattle.vb_slot.specs.Line.{Line, IsRequest, heads_of, used_of}
+use Rattle.vb_slot.specs.Line.{AreRequested, Line, IsRequest, heads_of, used_of}
 use Rattle.vb_slot.proofs.Heads.{times-published, times-used, headed-cons, headed-push, headed-all, length-published, length-used}
 use Rattle.vb_slot.proofs.Apart.{coded_kept, names_kept}
 
@@ -118,14 +117,14 @@ abbrev pub posted_side : Side → ℕ → List ℕ → Side
 posted_side s head pages = record { ring = after_add s.ring 1 (Ok head); sent = slice_set s.sent head pages }
 
 pub line_posted : (m1 m2 : Pages) (q n : ℕ) (side after : Side) (part : QueuePart) (rs : Requests) (head : ℕ) (pages : List ℕ)
-    → ring_page q < buffers_page q → AreRequests side → ArePages n pages → Line m1 q n side part rs → Posts m1 m2 side after (buffers_page q) pages head
+    → ring_page q < buffers_page q → AreRequests side → AreRequested n pages → Line m1 q n side part rs → Posts m1 m2 side after (buffers_page q) pages head
     → Line m2 q n after part (posting head pages rs)
 line_posted m1 m2 q n side after part rs head pages low single fine line did =
     let L : Side → Type 0 = λ s. Line m2 q n s part (posting head pages rs) in
     subst L (sym did.state) (line_posted_at m1 m2 q n side part rs head pages low single fine line (subst (λ s. Posts m1 m2 side s (buffers_page q) pages head) did.state did))
   where
     line_posted_at : (m1 m2 : Pages) (q n : ℕ) (side : Side) (part : QueuePart) (rs : Requests) (head : ℕ) (pages : List ℕ)
-        → ring_page q < buffers_page q → AreRequests side → ArePages n pages → Line m1 q n side part rs → Posts m1 m2 side (posted_side side head pages) (buffers_page q) pages head
+        → ring_page q < buffers_page q → AreRequests side → AreRequested n pages → Line m1 q n side part rs → Posts m1 m2 side (posted_side side head pages) (buffers_page q) pages head
         → Line m2 q n (posted_side side head pages) part (posting head pages rs)
     line_posted_at m1 m2 q n side part rs head pages low single fine line did =
         let r : Request = record { head = head; pages = pages; visited = 0 } in

@@ -6,6 +6,7 @@ use Rattle.vb_model.specs.declared.replies.Reply.{Reply}
 use Rattle.vb_model.specs.Tests.{one_if}
 use Rattle.vb_model.specs.Guest.{Guest}
 use Rattle.vb_model.specs.Step.{GuestStep}
+use Rattle.vb_model.specs.Orderly.{times}
 use Rattle.vb_frames.specs.Out.{is_out, AllAnswered}
 
 abbrev pub is_frame : ℕ → Option ℕ → Bool
@@ -35,3 +36,18 @@ pub record StepsAlone (New : Guest → Type 0) (g : Guest) (call : Call) (reply 
   pub stands : New new
   pub step : GuestStep g call [] reply new
   pub frames : new.frames ≡ g.frames
+
+-- A step that claims nothing, in which pages lose the frames of these numbers and no other.
+pub record StepsFreeing (New : Guest → Type 0) (loose : List ℕ) (g : Guest) (call : Call) (reply : Reply) : Type 0 where
+  pub new : Guest
+  pub stands : New new
+  pub step : GuestStep g call [] reply new
+  pub freed : (n : ℕ) → times n loose + backing_count n new ≡ backing_count n g
+
+-- Each of these frames is out, and none stands here twice.
+abbrev pub AreLoose : List ℕ → List Bool → Type 0
+AreLoose loose out = (n : ℕ) → times n loose ≤ one_if (is_out out n)
+
+-- They aren't out any more, and all others are as before.
+abbrev pub Returns : List ℕ → List Bool → List Bool → Type 0
+Returns loose old new = (n : ℕ) → one_if (is_out new n) + times n loose ≡ one_if (is_out old n)
