@@ -64,3 +64,6 @@ pub refused_alone : (m1 m2 : Pages) (p1 p2 : Part) (d1 d2 : DriverState) (g : Gu
     → Stands m1 p1 d1 g → refusal_of g call ≡ Some why → m2 ≡ m1 → p2 ≡ p1 → d2 ≡ d1 → StepsAlone (Stands m2 p2 d2) g call (Refused why)
 refused_alone m1 m2 p1 p2 d1 d2 g call why stands e m p d =
     steps_alone m1 m2 p1 p2 d1 d2 g call (Refused why) g stands (honest_refused g call why e) (ties_same m1 m2 p1 p2 d1 d2 g m p d stands.ties) refl
+
+pub stands_same : (m1 m2 : Pages) (p1 p2 : Part) (d : DriverState) (g : Guest) → m2 ≡ m1 → p2 ≡ p1 → Stands m1 p1 d g → Stands m2 p2 d g
+stands_same m1 m2 p1 p2 d g m p stands = subst (λ x. Stands x p2 d g) (sym m) (subst (λ x. Stands m1 x d g) (sym p) stands)

@@ -12,3 +12,9 @@ pub mod Discarding
 pub mod PagesKept
 pub mod FinishStep
 pub mod Writing
+pub mod WriteStep
+pub mod TargetStep
+pub mod Coded
+pub mod Freed
+pub mod Claimed
+pub mod ReadStep

@@ -4,6 +4,7 @@ use Rattle.std.proofs.Common.{sym, ◌∙◌, ap, subst, arith, inl, inr}
 use Rattle.vb_model.specs.declared.calls.Call.TheVariants.{Take}
 use Rattle.vb_model.specs.declared.replies.Refusal.{Refusal}
 use Rattle.vb_model.specs.declared.replies.Refusal.TheVariants.{NoQueue, NotReady, Busy}
+use Rattle.vb_model.specs.declared.replies.Reply.{Reply}
 use Rattle.vb_model.specs.declared.replies.Reply.TheVariants.{Taken, Empty, Refused}
 use Rattle.vb_model.specs.Layout.{ring_page, buffers_page}
 use Rattle.vb_model.specs.Requests.{Request, Requests, Inflating, Deflating}
@@ -191,3 +192,8 @@ take_step reads m1 m2 p1 p2 d g q result did stands =
         | inr none ↦ (let no = take_no_queue q g p1 none in take_refused m1 m2 p1 p2 d g q NoQueue result did stands no.0 no.1)
       ]
     ]
+
+pub take_replied : ReadsCoded → (m1 m2 : Pages) (p1 p2 : Part) (d : DriverState) (g : Guest) (q : ℕ) (result : Result (Option ℕ) Refusal) (reply : Reply)
+    → reply ≡ taken_reply result → TakesBy q m1 m2 p1 p2 result → Stands m1 p1 d g → StepsAlone (Stands m2 p2 d) g (Take q) reply
+take_replied reads m1 m2 p1 p2 d g q result reply replied did stands =
+    subst (λ r. StepsAlone (Stands m2 p2 d) g (Take q) r) (sym replied) (take_step reads m1 m2 p1 p2 d g q result did stands)

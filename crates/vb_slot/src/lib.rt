@@ -1,2 +1,7 @@
 //! One guest of a host: its balloon driver, and its boxed device with the guest's memory.
 #![tactic(auto)]
+
+mod device;
+mod frames;
+mod memory;
+mod port;
