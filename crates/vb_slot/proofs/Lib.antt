@@ -18,3 +18,7 @@ pub mod Coded
 pub mod Freed
 pub mod Claimed
 pub mod ReadStep
+pub mod Normal
+pub mod AllocStep
+pub mod Offered
+pub mod InflateStep

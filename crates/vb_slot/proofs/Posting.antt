@@ -25,7 +25,7 @@ use Rattle.vb_slot.proofs.Heads.{times-published, times-used, headed-cons, heade
 use Rattle.vb_slot.proofs.Apart.{coded_kept, names_kept}
 
 -- the first s of a list that begins with s others are those
-take_front : {A : Type 0} (xs ys : List A) → Rattle.std.specs.Prelude.take (length xs) (xs ++ ys) ≡ xs
+pub take_front : {A : Type 0} (xs ys : List A) → Rattle.std.specs.Prelude.take (length xs) (xs ++ ys) ≡ xs
 take_front [] ys = take_none ys
   where
     take_none : {A : Type 0} (ys : List A) → Rattle.std.specs.Prelude.take {A = A} 0 ys ≡ []

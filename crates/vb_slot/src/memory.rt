@@ -1,6 +1,6 @@
 // Bytes of a guest's pages.
 
-ghost use Rattle.std.specs.Prelude.{◌≡◌, ℕ, ◌<◌, ◌≤◌, ◌+◌, None, true, length, take, drop, IfOk, IsSome};
+ghost use Rattle.std.specs.Prelude.{◌≡◌, ℕ, ◌<◌, ◌≤◌, ◌+◌, None, true, false, length, take, drop, IfOk, IsSome};
 ghost use Rattle.vb_model.specs.Guest.{Guest};
 ghost use Rattle.vb_model.specs.Pages.{place_of, is_used};
 ghost use Rattle.vb_ram.specs.Pages.{frame_at, contents_at, Covers, Wrote, Supplied};
