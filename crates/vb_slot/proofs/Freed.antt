@@ -13,6 +13,7 @@ use Rattle.vb_model.specs.Guest.{Guest}
 use Rattle.vb_model.specs.Status.{contains, driver_ok}
 use Rattle.vb_ram.specs.Pages.{Pages, frame_at}
 use Rattle.vb_ram.specs.Part.{Part}
+use Rattle.vb_ram.specs.Limits.{config_limits}
 use Rattle.vb_driver.specs.State.{DriverState}
 use Rattle.vb_device.specs.Calls.{FinishesBy}
 use Rattle.vb_slot.specs.Stands.{Stands, IsIdle, IsRunning}
@@ -81,3 +82,7 @@ pub finish_replied : (Answers : List Bool → Claim → Type 0) (m1 m2 m3 : Page
 finish_replied Answers m1 m2 m3 p1 p2 p3 d g q i result reply out1 out2 replied did stands memory part back =
     subst (λ r. Steps (Stands m3 p3 d) Answers out1 out2 g (Finish q i) r) (sym replied)
     (steps_freed Answers m2 m3 p2 p3 d g (Finish q i) (finished_reply result) out1 out2 (finish_step m1 m2 p1 p2 d g q i result did stands) memory part back)
+
+-- a guest has 64 pages at the least
+pub large : (m : Pages) (p : Part) (d : DriverState) (g : Guest) → Stands m p d g → 64 ≤ length m
+large m p d g stands = omega (arith, (config_limits g.config.pages g.config.queue_size g.config.processors stands.ties.parts.config).pages_least, stands.ties.pages.length_is)

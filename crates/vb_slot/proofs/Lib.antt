@@ -22,3 +22,4 @@ pub mod Normal
 pub mod AllocStep
 pub mod Offered
 pub mod InflateStep
+pub mod ReapStep

@@ -24,10 +24,10 @@ abbrev pub used_next : List Request → Option ℕ
 used_next [] = None
 used_next (r ∷ rest) = Some r.head
 
-split_ids : (gone : List UsedElem) (rs : List Request) → ids (gone ++ used_of rs) ≡ ids gone ++ heads_of rs
+pub split_ids : (gone : List UsedElem) (rs : List Request) → ids (gone ++ used_of rs) ≡ ids gone ++ heads_of rs
 split_ids gone rs = map-append (λ (e : UsedElem). e.id) gone (used_of rs) ∙ ap (λ (l : List ℕ). ids gone ++ l) (ids-used rs)
 
-ids_length : (gone : List UsedElem) → length (ids gone) ≡ length gone
+pub ids_length : (gone : List UsedElem) → length (ids gone) ≡ length gone
 ids_length gone = Rattle.std.proofs.lemmas.List.length-map gone (λ e. e.id)
 
 pub answers_used : (mem : Pages) (q n : ℕ) (side : Side) (part : QueuePart) (posted taken done : List Request) (after : Rattle.vb_ring.specs.Ends.DriverEnd) (result : Result (Option ℕ) RingBroken)

@@ -2,6 +2,10 @@
 #![tactic(auto)]
 
 mod device;
+mod driver;
 mod frames;
 mod memory;
 mod port;
+mod slot;
+
+pub use slot::{GuestSlot, Slot};
