@@ -1,5 +1,5 @@
 -- Lists of numbers with one sum.
-use Rattle.std.proofs.Common.{◌≡◌, ℕ, zero, suc, ◌+◌, ◌<◌, ◌≤◌, List, [], ◌∷◌, length, get_or, sum, sum_by, sym, ap, ◌∙◌, refl, ◌⊎◌, inl, inr, arith}
+use Rattle.std.proofs.Common.{◌≡◌, ℕ, zero, suc, ◌<◌, ◌≤◌, List, [], ◌∷◌, length, get_or, sum, refl, ◌⊎◌, inl, inr, arith}
 use Rattle.std.proofs.lemmas.Bool.{cases_lt}
 use Rattle.std.proofs.lemmas.List.Sums.{sum_by-cons}
 
@@ -36,9 +36,9 @@ somewhere_more [] ys l = inr (λ i q. absurd (omega arith))
 somewhere_more (x ∷ xs) [] l = absurd (omega arith)
 somewhere_more (x ∷ xs) (y ∷ ys) l =
     elim (cases_lt y x) [
-      inl more ↦ inl (0, omega arith, more)
+      | inl more ↦ inl (0, omega arith, more)
       | inr le ↦ elim (somewhere_more xs ys (omega arith)) [
-        inl there ↦ inl (suc there.0, omega (arith, there.1), there.2)
+        | inl there ↦ inl (suc there.0, omega (arith, there.1), there.2)
         | inr nowhere ↦ inr (each le nowhere)
       ]
     ]

@@ -34,7 +34,7 @@ fn next_to_give(needs: &[GuestNeed], gave: &[bool]) -> Option<usize>
 
 /// How many pages more than frames there are.
 fn missing(needs: &[GuestNeed], frames: u32) -> u64
-    requires { length needs.now ≤ 8 }
+    requires { length needs.now ≤ MAX_GUESTS }
     ensures { result ≡ missing needs.now frames }
 {
     let mut pages: u64 = 0;
@@ -46,7 +46,7 @@ fn missing(needs: &[GuestNeed], frames: u32) -> u64
 
 /// Shares out what is missing.
 fn share(needs: &[GuestNeed], frames: u32, targets: &mut [u32], gave: &mut [bool]) -> u64
-    requires few { length needs.now ≤ 8 }
+    requires few { length needs.now ≤ MAX_GUESTS }
     requires targets { targets.old ≡ replicate (length needs.now) 0 }
     requires gave { gave.old ≡ replicate (length needs.now) false }
     ensures given { HaveGiven needs.now frames gave.new targets.new result }

@@ -47,12 +47,7 @@ fn fault_of(
 /// `WrongDirection` where it is to be read and one before it is to be written; and where NEXT is
 /// set, `BadNext` where `next` is `size` or more, and `TooLong` where it is number `size` of the
 /// chain. Other flag bits are ignored, and a length of 0 is accepted (profile).
-pub fn walk<G: GuestBytes>(
-    ram: &G,
-    table: u32,
-    head: u16,
-    size: u16,
-) -> Result<Chain, ChainFault>
+pub fn walk<G: GuestBytes>(ram: &G, table: u32, head: u16, size: u16) -> Result<Chain, ChainFault>
     requires table { table < length (G.mem ram.now) }
     requires size { size ≤ 128 }
     ensures chain { IfOk result (λ chain. ChainGives (descriptor_at (G.mem ram.now) table) size (4096 * length (G.mem ram.now)) head chain) }
@@ -65,12 +60,7 @@ pub fn walk<G: GuestBytes>(
 }
 
 /// The walk itself, one descriptor after the other.
-fn follow<G: GuestBytes>(
-    ram: &G,
-    table: u32,
-    head: u16,
-    size: u16,
-) -> Result<Chain, ChainFault>
+fn follow<G: GuestBytes>(ram: &G, table: u32, head: u16, size: u16) -> Result<Chain, ChainFault>
     requires table { table < length (G.mem ram.now) }
     requires size { size ≤ 128 }
     ensures chain { IfOk result (λ chain. ChainGives (descriptor_at (G.mem ram.now) table) size (4096 * length (G.mem ram.now)) head chain) }

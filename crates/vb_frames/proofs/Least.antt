@@ -1,27 +1,13 @@
 -- A table's claims are the model's.
-use Rattle.std.proofs.Common.{◌≡◌, ◌≢◌, ℕ, ◌+◌, ◌<◌, ◌≤◌, Bool, true, false, List, [], ◌∷◌, length, set, get_or, sym, subst, ap, ◌∙◌, ◌⊎◌, inl, inr, arith, refl}
+use Rattle.std.proofs.Common.{◌≡◌, ℕ, ◌<◌, Bool, true, false, List, [], ◌∷◌, length, set, sym, subst, ap, ◌∙◌, ◌⊎◌, inl, inr}
 use Rattle.std.proofs.lemmas.Bool.{false≢true}
 use Rattle.std.proofs.lemmas.Bool.Decides.{eqb_tells}
 use Rattle.std.proofs.lemmas.List.{length-set, get_or-set_same, get_or-set_other}
 use Rattle.vb_model.specs.declared.calls.Claim.{Claim}
 use Rattle.vb_model.specs.declared.calls.Claim.TheVariants.{Gave, GaveNoFrame, GaveNoMemory}
 use Rattle.vb_model.specs.World.{Gives}
-use Rattle.vb_frames.specs.Out.{is_out, IsFree, AllOut, AllAnswered, TableAnswers}
-
--- claims depend only on which frames are out
-pub same_gives : (frames : ℕ) (A B : ℕ → Type 0) (claims : List Claim) → ((x : ℕ) → x < frames → A x → B x) → ((x : ℕ) → x < frames → B x → A x) → Gives frames A claims → Gives frames B claims
-same_gives frames A B [] ab ba h = h
-same_gives frames A B (Gave f ∷ claims) ab ba h = (
-  h.0,
-  λ b. h.1 (ba f h.0 b),
-  λ x l. ab x (omega (arith, l, h.0)) (h.2 x l),
-  same_gives frames (λ x. A x ⊎ (x ≡ f)) (λ x. B x ⊎ (x ≡ f)) claims
-      (λ x l e. elim e [ inl a ↦ inl (ab x l a) | inr same ↦ inr same ])
-      (λ x l e. elim e [ inl b ↦ inl (ba x l b) | inr same ↦ inr same ])
-      h.3,
-)
-same_gives frames A B (GaveNoFrame ∷ claims) ab ba h = (λ x l. ab x l (h.0 x l), h.1)
-same_gives frames A B (GaveNoMemory ∷ claims) ab ba h = (h.0, h.1, λ b. h.2 (ba h.0 h.1 b), h.3)
+use Rattle.vb_frames.specs.Returns.{same_gives}
+use Rattle.vb_frames.specs.Out.{is_out, AllAnswered, TableAnswers}
 
 -- the frames that are out after one was given
 out_after : (out : List Bool) (f x : ℕ) → is_out (set out f true) x ≡ true → (is_out out x ≡ true) ⊎ (x ≡ f)

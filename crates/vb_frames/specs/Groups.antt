@@ -1,5 +1,5 @@
 -- The frames in groups of 256, and for each group whether all of it is out.
-use Rattle.std.specs.Prelude.{◌≡◌, ℕ, ◌+◌, ◌*◌, ◌<◌, ◌≤◌, Bool, true, false, List, length, slice_index_or}
+use Rattle.std.specs.Prelude.{◌≡◌, ℕ, ◌+◌, ◌*◌, ◌<◌, ◌≤◌, Bool, true, false, List, length}
 use Rattle.vb_frames.specs.Flags.{flag}
 
 -- the frame is in the group

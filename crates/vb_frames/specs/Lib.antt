@@ -1,3 +1,4 @@
 pub mod Flags
 pub mod Groups
 pub mod Out
+pub mod Returns

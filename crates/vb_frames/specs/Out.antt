@@ -25,12 +25,6 @@ claim_in (Ok frame) = Gave frame.number
 claim_in (Err NoFrame) = GaveNoFrame
 claim_in (Err Memory) = GaveNoMemory
 
--- a frame that is given was free and is out then, and else all stay
-abbrev pub Claims : List Bool → Claim → List Bool → Type 0
-Claims old (Gave n) new = IsFree old n × (new ≡ slice_set old n true)
-Claims old GaveNoFrame new = new ≡ old
-Claims old GaveNoMemory new = new ≡ old
-
 -- the frames that are out after these claims
 abbrev pub after_claims : List Bool → List Claim → List Bool
 after_claims out [] = out

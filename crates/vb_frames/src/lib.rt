@@ -1,10 +1,10 @@
 //! Who hands out a host's frames, and a table that does (profile).
 #![tactic(auto)]
 
-ghost use Rattle.std.specs.Prelude.{◌≡◌, Bool, List, IfOk, slice_set, true, false};
+ghost use Rattle.std.specs.Prelude.{◌≡◌, Bool, List, IfOk, OnErr, slice_set, true, false};
 ghost use Rattle.vb_model.specs.declared.calls.Claim.{Claim};
 ghost use Rattle.vb_model.specs.Guest.{zero_page};
-ghost use Rattle.vb_frames.specs.Out.{is_out, Claims, claim_in};
+ghost use Rattle.vb_frames.specs.Out.{is_out, IsFree, claim_in};
 
 mod table;
 #[cfg(test)]
@@ -35,7 +35,8 @@ pub trait FrameKeeper {
 
     /// Gives a frame of zeros, whose number wasn't out and is then. A refused claim changes nothing.
     fn claim(&mut self) -> Result<Frame, Refused>
-        ensures claimed { Claims (out self.old) (claim_in result) (out self.new) }
+        ensures given { IfOk result (λ frame. IsFree (out self.old) frame.number × (out self.new ≡ slice_set (out self.old) frame.number true)) }
+        ensures refused { OnErr result (out self.new ≡ out self.old) }
         ensures answer { answers (out self.old) (claim_in result) }
         ensures zeros { IfOk result (λ frame. frame.bytes ≡ zero_page) };
 

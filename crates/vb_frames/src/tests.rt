@@ -1,15 +1,16 @@
 // Claims one after the other, at a keeper that refuses and at a table.
 
-ghost use Rattle.std.specs.Prelude.{◌≡◌, ℕ, ◌+◌, ◌<◌, ◌≤◌, List, [], ◌∷◌, Bool, true, false, ◌≢◌, MatchResult, slice_set, length, IfOk};
+ghost use Rattle.std.specs.Prelude.{◌≡◌, ℕ, ◌+◌, ◌<◌, ◌≤◌, List, [], ◌∷◌, Bool, true, false, ◌≢◌, OnErr, IfOk};
 ghost use Rattle.vb_model.specs.declared.calls.Claim.{Claim};
-ghost use Rattle.vb_frames.specs.Out.{AllAnswered, after_claims, is_out};
+ghost use Rattle.vb_model.specs.declared.calls.Claim.TheVariants.{Gave};
+ghost use Rattle.vb_frames.specs.Out.{AllAnswered, after_claims};
 
 use crate::{FrameKeeper, FrameTable, Refused};
 use std::process::Abort;
 use std::test::Fail;
 use vb_ram::Frame;
 
-/// A keeper of one table that refuses its third claim.
+/// A keeper that refuses one of its claims, counted from 0.
 #[derive(Drop)]
 struct Refusing {
     table: FrameTable,
@@ -38,11 +39,12 @@ impl FrameKeeper for Refusing {
     }
 }
 
-/// Two frames, or none.
+/// Two frames, or none: what two claims of any keeper come to.
 fn claim_two<K: FrameKeeper>(keeper: &mut K) -> Result<(Frame, Frame), Refused>
-    ensures answers { (claims : List Claim) × AllAnswered K.answers (K.out keeper.old) claims }
-    ensures ok { IfOk result (λ frames. K.out keeper.new ≡ slice_set (slice_set (K.out keeper.old) frames.0.number true) frames.1.number true) }
-    ensures err { MatchResult result (λ frames. frames.0.number ≢ frames.1.number) (λ e. K.out keeper.new ≡ K.out keeper.old) }
+    ensures answers { IfOk result (λ frames. AllAnswered K.answers (K.out keeper.old) (Gave frames.0.number ∷ Gave frames.1.number ∷ [])) }
+    ensures ok { IfOk result (λ frames. K.out keeper.new ≡ after_claims (K.out keeper.old) (Gave frames.0.number ∷ Gave frames.1.number ∷ [])) }
+    ensures others { IfOk result (λ frames. frames.0.number ≢ frames.1.number) }
+    ensures err { OnErr result (K.out keeper.new ≡ K.out keeper.old) }
 {
     let first = keeper.claim()?;
     match keeper.claim() {
@@ -54,6 +56,16 @@ fn claim_two<K: FrameKeeper>(keeper: &mut K) -> Result<(Frame, Frame), Refused>
     }
 }
 
+fn return_the_next(rt: &impl Abort, table: &mut FrameTable, number: u32) {
+    match table.claim() {
+        Ok(frame) => {
+            assert_eq!(rt; frame.number(), number);
+            table.put_back(frame);
+        }
+        Err(_) => assert_eq!(rt; number, u32::MAX),
+    }
+}
+
 fn expect_number(rt: &impl Abort, claimed: Result<Frame, Refused>, number: u32) -> Frame {
     let frame = claimed.expect(rt, "a frame");
     assert_eq!(rt; frame.number(), number);
@@ -62,10 +74,39 @@ fn expect_number(rt: &impl Abort, claimed: Result<Frame, Refused>, number: u32) 
 
 #[test]
 fn a_table_gives_the_least_number(rt: HostRuntime) -> Result<(), Fail> {
-    let mut table = FrameTable::new(rt.alloc(), 600)?;
-    for number in 0..599 {
+    let mut table = FrameTable::new(rt.alloc(), 65_536)?;
+    for number in 0..600 {
         let _ = expect_number(&rt, table.claim(), number);
     }
-    assert_eq!(rt; table.used(), 599);
+    assert_eq!(rt; table.used(), 600);
+    return_the_next(&rt, &mut table, 600);
+    assert_eq!(rt; table.used(), 600);
+    for number in 600..65_536 {
+        let _ = expect_number(&rt, table.claim(), number);
+    }
+    assert!(rt; matches!(table.claim(), Err(Refused::NoFrame)));
+    assert_eq!(rt; table.used(), 65_536);
     Ok(())
+}
+
+#[test]
+fn two_claims_of_any_keeper_give_two_frames_or_none(rt: HostRuntime) -> Result<(), Fail> {
+    let mut table = FrameTable::new(rt.alloc(), 2)?;
+    assert!(rt; claim_two(&mut table).is_ok());
+    assert!(rt; claim_two(&mut table).is_err());
+    let mut keeper = Refusing {
+        table: FrameTable::new(rt.alloc(), 600)?,
+        claims: 0,
+        refuse_at: 3,
+    };
+    assert!(rt; claim_two(&mut keeper).is_ok());
+    assert!(rt; matches!(claim_two(&mut keeper), Err(Refused::NoFrame)));
+    assert_eq!(rt; keeper.table.used(), 2);
+    Ok(())
+}
+
+#[test]
+fn numbers_its_refusals(rt: HostRuntime) {
+    assert_eq!(rt; Refused::NoFrame as u8, 1);
+    assert_eq!(rt; Refused::Memory as u8, 2);
 }

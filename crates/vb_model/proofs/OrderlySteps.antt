@@ -1,8 +1,8 @@
 -- A call that an honest guest answers leaves it in order.
-use Rattle.std.proofs.Common.{◌≡◌, ℕ, zero, suc, ◌+◌, ◌<◌, ◌≤◌, Bool, true, false, cond, List, [], ◌∷◌, ◌++◌, length, take, replicate, refl, sym, ap, subst, ◌∙◌, ◌⊎◌, inl, inr, arith, ◌≢◌}
-use Rattle.std.specs.Prelude.{◌==◌, ◌&&◌, nat_lt, nat_le, min, Option, Some, None, slice_get, map, if◌then◌else◌}
+use Rattle.std.proofs.Common.{◌≡◌, ℕ, ◌<◌, Bool, true, false, cond, List, [], ◌∷◌, ◌++◌, length, refl, sym, ap, subst, ◌∙◌, inl, inr, arith, ◌≢◌}
+use Rattle.std.specs.Prelude.{◌&&◌, nat_lt, nat_le, Option, Some, None, slice_get, map, if◌then◌else◌}
 use Rattle.std.specs.List.{range_with_len}
-use Rattle.std.proofs.lemmas.List.{length-map, get_or_past}
+use Rattle.std.proofs.lemmas.List.{length-map}
 use Rattle.std.proofs.lemmas.List.FromFn.{length-range_with_len, get_or-map-range_with_len}
 use Rattle.std.proofs.lemmas.Bool.{leb-false, not-false}
 use Rattle.vb_model.specs.declared.places.Place.{Place}
@@ -14,24 +14,24 @@ use Rattle.vb_model.specs.declared.calls.Event.{Event}
 use Rattle.vb_model.specs.declared.replies.Refusal.{Refusal}
 use Rattle.vb_model.specs.declared.replies.Reply.{Reply}
 use Rattle.vb_model.specs.declared.replies.Reply.TheVariants.{Refused}
-use Rattle.vb_model.specs.Limits.{reserved_pages, min_reported_order, max_outstanding}
-use Rattle.vb_model.specs.Tests.{is_in, pages_where}
-use Rattle.vb_model.specs.Pages.{Block, pages_of, pages_of_all, is_free, is_used, is_giving, is_lent, is_taking, is_reporting, is_stranded, place_of, placed}
+use Rattle.vb_model.specs.Limits.{reserved_pages, min_reported_order}
+use Rattle.vb_model.specs.Tests.{is_in}
+use Rattle.vb_model.specs.Pages.{Block, pages_of, pages_of_all, is_free, is_used, is_giving, is_lent, is_taking, is_reporting, place_of, placed}
 use Rattle.vb_model.specs.Requests.{Request, Requests, no_requests, outstanding, Kind, Inflating, Deflating, Reporting_free, kind_of_queue, place_after, Buffer, NoBuffer, BufferPosted, BufferTaken, BufferDone}
 use Rattle.vb_model.specs.Guest.{Guest, Config, fresh, requests, with_requests}
-use Rattle.vb_model.specs.Refusals.{refusal_of, tests, room, inflate_count, deflate_count, oom_count, reported_blocks}
+use Rattle.vb_model.specs.Refusals.{refusal_of, tests, room, deflate_count, oom_count, reported_blocks}
 use Rattle.vb_model.specs.Driver.{Reaps, Fills, Written, pages_needed, stranded_first, lowest_lent, reaped}
 use Rattle.vb_model.specs.Device.{Takes, TakesBuffer, Finishes, Asks, settled, used, visited}
 use Rattle.vb_model.specs.Life.{feature_refusal, Negotiates, lacking, place_after_reset, after_reset}
 use Rattle.vb_model.specs.Rogue.{Scribbled}
 use Rattle.vb_model.specs.Step.{Performs, HonestStep}
 use Rattle.vb_model.specs.Consistent.{IsConsistent}
-use Rattle.vb_model.specs.Orderly.{times, AreOrderly, IsInOrder, IsOrderly, is_reserved}
+use Rattle.vb_model.specs.Orderly.{AreOrderly, IsOrderly, is_reserved}
 use Rattle.vb_model.specs.World.{World, WorldStep, guest_at}
 use Rattle.vb_model.proofs.Tables.{length-each_from}
-use Rattle.vb_model.proofs.PageSteps.{can_be_given, after_take, after_finish, after_reap}
+use Rattle.vb_model.proofs.PageSteps.{can_be_given, after_take, after_reap}
 use Rattle.vb_model.proofs.GuestSteps.{placed-get, not_reserved, held_used, inflate_giving, deflate_taking, report_reporting, place_of-reset, first_place}
-use Rattle.vb_model.proofs.CallSteps.{match_cases, supplying_cases, Idles, works_cases, not_refused, supplied, inflated_pages, lent_pages, wholly_free_pages, reported_pages}
+use Rattle.vb_model.proofs.CallSteps.{match_cases, supplying_cases, works_cases, not_refused, supplied, inflated_pages, lent_pages, wholly_free_pages, reported_pages}
 use Rattle.vb_model.proofs.InOrder.{no_requests_orderly, orderly_posting, orderly_take, orderly_work, orderly_finish, orderly_reap}
 use Rattle.vb_model.proofs.Distinct.{distinct_where, inflated_distinct}
 use Rattle.vb_model.proofs.Blocks.{reported_distinct}

@@ -5,6 +5,7 @@ ghost use Rattle.vb_model.specs.Run.{History, Run, Steps, last_world};
 ghost use Rattle.vb_model.specs.Safe.{Safe, IsHonest};
 ghost use Rattle.vb_model.specs.Consistent.{IsConsistent};
 ghost use Rattle.vb_model.specs.Orderly.{IsOrderly};
+ghost use Rattle.vb_model.specs.Blank.{IsBlank};
 ghost use Rattle.vb_model.specs.GuestRun.{InOneLife, Alone};
 ghost use Rattle.vb_model.specs.declared.calls.Event.{Event};
 ghost use Rattle.vb_model.specs.declared.replies.Reply.{Reply};
@@ -29,6 +30,11 @@ pub fn honest_guests_are_consistent()
 /// may be, just the first pages are reserved, and the status is 0, 15 or 131.
 pub fn honest_guests_are_in_order()
     ensures orderly { (frames : ℕ) (spares : List Bool) (h : History) → Run frames spares h → (n i : ℕ) (g : Guest) → IsHonest h n i g → IsOrderly g }
+{}
+
+/// In every state of a run a page of an honest guest that has no frame holds zeros.
+pub fn pages_without_frames_are_blank()
+    ensures blank { (frames : ℕ) (spares : List Bool) (h : History) → Run frames spares h → (n i : ℕ) (g : Guest) → IsHonest h n i g → IsBlank g }
 {}
 
 /// Within one life of an honest guest its calls and their replies are a run of its own: of other

@@ -35,7 +35,7 @@ wrote mem p off bs f g lt was same_number same_length put =
         ];
         sizes = λ q. elim (cases_eq q p) [
           | inl same ↦ ap (λ n. length (contents_at (set mem p (Some g)) n)) same ∙ ap (λ w. length (contents_of w)) now ∙ same_length
-          ∙ sym (ap (λ w. length (contents_of w)) was) ∙ sym (ap (λ n. length (contents_at mem n)) same)
+              ∙ sym (ap (λ w. length (contents_of w)) was) ∙ sym (ap (λ n. length (contents_at mem n)) same)
           | inr ne ↦ ap (λ w. length (contents_of w)) (apart q ne)
         ];
         count = length-set mem p (Some g);

@@ -13,13 +13,18 @@ ghost use Rattle.vb_ram.specs.Pages.{Pages, byte_at, frame_at, Covers, Wrote};
 mod config;
 mod fields;
 mod frame;
+mod laws;
 mod memory;
+#[cfg(test)]
+mod tests;
 
 pub use config::Config;
 pub use fields::{read_u16, read_u32, read_u64, write_u16, write_u32, write_u64};
 pub use frame::Frame;
+pub use laws::{
+    a_page_is_its_frame_and_bytes, a_read_gives_bytes, a_write_replaces_bytes, memory_stays_whole,
+};
 pub use memory::{Ram, SupplyRefused};
-
 use std::alloc::AllocError;
 use thiserror::Error;
 use vb_model::limits;

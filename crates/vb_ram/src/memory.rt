@@ -1,6 +1,6 @@
 // A guest's memory.
 
-ghost use Rattle.std.specs.Prelude.{◌≡◌, ℕ, ◌≤◌, ◌<◌, Option, Some, None, Err, IsSome, IsOk, OnOk, OnErr, IfOk, IfErr, IfNone, length, replicate};
+ghost use Rattle.std.specs.Prelude.{◌≡◌, ℕ, ◌≤◌, ◌<◌, [], Option, Some, None, Err, IsSome, IsOk, OnOk, OnErr, IfOk, IfErr, IfNone, length, replicate};
 ghost use Rattle.vb_ram.specs.Pages.{page_at, frame_at, Covers, Supplied, Discarded, IsWhole};
 
 use crate::{Frame, GuestBytes, PAGE_SIZE, RamFault};
@@ -45,6 +45,15 @@ impl Ram {
             all.push(None).map_err(|_| RamFault::Memory)?;
         }
         Ok(Ram { pages: all })
+    }
+
+    /// Memory of no pages, for which nothing is allocated.
+    pub fn empty(alloc: Global) -> Ram
+        ensures { result ≡ [] }
+    {
+        Ram {
+            pages: Vec::new(alloc),
+        }
     }
 
     /// Puts a frame behind a page, and fills it with zeros: what the frame held is gone.

@@ -1,113 +1,144 @@
 // The device's end.
 
-ghost use Rattle.std.specs.Prelude.{◌≡◌, ℕ, ◌+◌, ◌*◌, ◌%◌, ◌<◌, ◌≤◌, ◌∷◌, ◌++◌, [], List, IsSome, IfOk, OnErr, length, slice_get, IsTrue};
-ghost use Rattle.vb_ram.specs.Pages.{frame_at, SameBut};
-ghost use Rattle.vb_ring.specs.Ring.{IsSize, Shows};
-ghost use Rattle.std.specs.Prelude.{Option, Result, IsOkAnd, IsSomeAnd, IfSome, IfNone, IfErr, ◌↔◌, if◌then◌else◌, true, false, slice_get};
+ghost use Rattle.std.specs.Prelude.{◌≡◌, ℕ, ◌+◌, ◌%◌, ◌<◌, ◌≤◌, ◌↔◌, IsTrue, true, false, if◌then◌else◌};
 ghost use Rattle.std.specs.Int.{is_power_of_two};
-ghost use Rattle.vb_chain.specs.Table.{descriptor_at};
-ghost use Rattle.vb_chain.specs.declared.Piece.{Piece};
-ghost use Rattle.vb_chain.specs.Chain.{ChainGives, FaultGives};
-ghost use Rattle.vb_ring.specs.Ring.{ShowsAvail, next_entry};
+ghost use Rattle.vb_ram.specs.Pages.{Pages};
+ghost use Rattle.vb_ring.specs.Layout.{layout_of, IsInside, IsBacked};
+ghost use Rattle.vb_ring.specs.Ends.{IsDeviceEnd};
+ghost use Rattle.vb_ring.specs.Calls.{PopsBy, AddsUsedBy};
 
-use crate::{next_head, put_used};
+use crate::entries::{next_avail, put_used};
+use crate::{Layout, MAX_QUEUE_SIZE};
+use std::marker::Model;
 use vb_chain::{Chain, ChainFault, walk};
 use vb_ram::GuestBytes;
 
-/// A chain that was taken.
+/// A chain that was popped: its head, and its pieces.
 #[derive(Drop)]
 pub struct Taken {
     pub head: u16,
     pub chain: Chain,
 }
 
-/// What a device remembers of a ring.
+/// The device's end of a split virtqueue.
 #[derive(Drop)]
 pub struct Queue {
-    pub page: u32,
-    pub size: u16,
-    pub ready: bool,
-    pub taken: u16,
-    pub used: u16,
-    ghost sized: { IsSize size },
+    layout: Layout,
+    size: u16,
+    ready: bool,
+    next_avail: u16,
+    next_used: u16,
+}
+
+impl Model for Queue {
+    ghost use Rattle.vb_ring.specs.Ends.{DeviceEnd, IsDeviceEnd};
+
+    ghost Value = { DeviceEnd };
+
+    ghost view = { λ s. record { layout = s.layout; size = s.size; ready = s.ready; next_avail = s.next_avail; next_used = s.next_used } };
+
+    ghost invariant = { λ s. IsDeviceEnd (record { layout = s.layout; size = s.size; ready = s.ready; next_avail = s.next_avail; next_used = s.next_used }) };
 }
 
 impl Queue {
+    /// A queue from page `page` on that isn't ready, of the greatest size.
     pub fn new(page: u32) -> Queue
-        ensures { (result.page ≡ page) × (result.size ≡ 2) × (result.ready ≡ false) }
+        ensures is_end { IsDeviceEnd result }
+        ensures value { result ≡ record { layout = layout_of page 128; size = 128; ready = false; next_avail = 0; next_used = 0 } }
     {
         Queue {
-            page,
-            size: 2,
+            layout: Layout::at(page, MAX_QUEUE_SIZE),
+            size: MAX_QUEUE_SIZE,
             ready: false,
-            taken: 0,
-            used: 0,
+            next_avail: 0,
+            next_used: 0,
         }
     }
 
-    /// Gives the queue a size: a power of two from 2 to 128.
-    pub fn set_size(&mut self, size: u16) -> bool
-        ensures answer { IsTrue result ↔ (IsTrue (is_power_of_two size) × (2 ≤ size) × (size ≤ 128)) }
-        ensures set { self.new.size ≡ (if result then size else self.old.size) }
-        ensures rest { (self.new.page ≡ self.old.page) × (self.new.ready ≡ self.old.ready) × (self.new.taken ≡ self.old.taken) × (self.new.used ≡ self.old.used) }
+    /// Where the queue's ring lies.
+    pub fn layout(&self) -> Layout
+        ensures is_end { IsDeviceEnd self.now }
+        ensures value { result ≡ self.now.layout }
     {
-        let fits = size.is_power_of_two() && size >= 2 && size <= 128;
+        self.layout
+    }
+
+    /// How many descriptors it has.
+    pub fn size(&self) -> u16
+        ensures { result ≡ self.now.size }
+    {
+        self.size
+    }
+
+    /// Whether it was made ready.
+    pub fn is_ready(&self) -> bool
+        ensures { result ≡ self.now.ready }
+    {
+        self.ready
+    }
+
+    /// Gives the queue a size, and so a layout: true where it is a power of two from 2 to `MAX_QUEUE_SIZE`, else nothing is changed.
+    pub fn set_size(&mut self, size: u16) -> bool
+        ensures is_end { IsDeviceEnd self.new }
+        ensures answer { IsTrue result ↔ (IsTrue (is_power_of_two size) × (2 ≤ size) × (size ≤ 128)) }
+        ensures set { self.new ≡ (if result then record self.old { layout = layout_of self.old.layout.table size; size = size } else self.old) }
+    {
+        let fits = size.is_power_of_two() && size >= 2 && size <= MAX_QUEUE_SIZE;
         if fits {
+            self.layout = Layout::at(self.layout.table, size);
             self.size = size;
         }
         fits
     }
 
+    /// Starts the queue, or stops it. Either way both counts begin at 0 again, as a driver that starts over has them.
     pub fn set_ready(&mut self, ready: bool)
-        ensures { self.new ≡ record self.old { ready = ready } }
+        ensures { self.new ≡ record self.old { ready = ready; next_avail = 0; next_used = 0 } }
     {
         self.ready = ready;
+        self.next_avail = 0;
+        self.next_used = 0;
     }
 
-    /// Takes the next chain.
+    /// Takes the next chain that the driver has published.
     pub fn pop_descriptor_chain<G: GuestBytes>(
         &mut self,
         ram: &G,
     ) -> Result<Option<Taken>, ChainFault>
-        requires page { self.old.page < length (G.mem ram.now) }
-        ensures not_ready { self.old.ready ≡ false → result ≡ Ok None }
-        ensures none { next_entry (G.mem ram.now) self.old.page self.old.size self.old.taken ≡ Ok None → result ≡ Ok None }
-        ensures jump { (f : ChainFault) → self.old.ready ≡ true → next_entry (G.mem ram.now) self.old.page self.old.size self.old.taken ≡ Err f → result ≡ Err f }
-        ensures chain { (h : ℕ) (pieces : List Piece) → self.old.ready ≡ true → next_entry (G.mem ram.now) self.old.page self.old.size self.old.taken ≡ Ok (Some h) → ChainGives (descriptor_at (G.mem ram.now) self.old.page) self.old.size (4096 * length (G.mem ram.now)) h pieces → IsOkAnd result (λ got. IsSomeAnd got (λ x. (x.head ≡ h) × (x.chain ≡ pieces))) }
-        ensures fault { (h : ℕ) (f : ChainFault) → self.old.ready ≡ true → next_entry (G.mem ram.now) self.old.page self.old.size self.old.taken ≡ Ok (Some h) → FaultGives (descriptor_at (G.mem ram.now) self.old.page) self.old.size (4096 * length (G.mem ram.now)) h f → result ≡ Err f }
-        ensures found { IfOk result (λ got. IfSome got (λ x. ChainGives (descriptor_at (G.mem ram.now) self.old.page) self.old.size (4096 * length (G.mem ram.now)) x.head x.chain)) }
-        ensures taken { IfOk result (λ got. IfSome got (λ _. self.new ≡ record self.old { taken = (self.old.taken + 1) % 65536 })) }
-        ensures waits { IfOk result (λ got. IfNone got (self.new ≡ self.old)) }
-        ensures kept { OnErr result (self.new ≡ self.old) }
-        ensures shown { (heads : List ℕ) (t : ℕ) → ShowsAvail (G.mem ram.now) self.old.page self.old.size heads → t % 65536 ≡ self.old.taken → t ≤ length heads → length heads ≤ t + self.old.size → next_entry (G.mem ram.now) self.old.page self.old.size self.old.taken ≡ Ok (slice_get heads t) }
+        requires { IsInside (G.mem ram.now) self.old.layout }
+        ensures { PopsBy (G.mem ram.now) self.old self.new result }
     {
         if !self.ready {
             return Ok(None);
         }
-        let Some(head) = next_head(ram, self.page, self.size, self.taken)? else {
+        let Some(head) = next_avail(ram, self.layout, self.size, self.next_avail)? else {
             return Ok(None);
         };
-        match walk(ram, self.page, head, self.size) {
+        match walk(ram, self.layout.table, head, self.size) {
             Ok(chain) => {
-                self.taken = self.taken.wrapping_add(1);
+                self.next_avail = self.next_avail.wrapping_add(1);
                 Ok(Some(Taken { head, chain }))
             }
             Err(fault) => Err(fault),
         }
     }
 
-    /// Uses a chain.
+    /// Goes back by one chain, so that the one that was popped last stands next again.
+    pub fn go_to_previous_position(&mut self)
+        ensures { self.new ≡ record self.old { next_avail = (self.old.next_avail + 65535) % 65536 } }
+    {
+        self.next_avail = self.next_avail.wrapping_sub(1);
+    }
+
+    /// Adds a chain to the used ring; `len` is how many bytes were written into it.
     pub fn add_used<G: GuestBytes>(&mut self, ram: &mut G, head: u16, len: u32)
-        requires page { self.old.page < length (G.mem ram.old) }
-        requires backed { IsSome (frame_at (G.mem ram.old) self.old.page) }
+        requires backed { IsBacked (G.mem ram.old) self.old.layout }
         requires ready { IsTrue self.old.ready }
         requires head { head < self.old.size }
-        ensures counted { self.new ≡ record self.old { used = (self.old.used + 1) % 65536 } }
-        ensures shown { (heads : List ℕ) (pairs : List (ℕ × ℕ)) → length pairs % 65536 ≡ self.old.used → Shows (G.mem ram.old) self.old.page self.old.size heads pairs → Shows (G.mem ram.new) self.old.page self.old.size heads (pairs ++ (head, len) ∷ []) }
+        ensures adds { AddsUsedBy (G.mem ram.old) (G.mem ram.new) self.old self.new head len }
         ensures part { G.part ram.new ≡ G.part ram.old }
-        ensures rest { SameBut (G.mem ram.old) (G.mem ram.new) self.old.page (18 * self.old.size + 10) (26 * self.old.size + 12) }
     {
-        put_used(ram, self.page, self.size, self.used, head, len);
-        self.used = self.used.wrapping_add(1);
+        put_used(ram, self.layout, self.size, self.next_used, head, len);
+        self.next_used = self.next_used.wrapping_add(1);
     }
 }

@@ -1,109 +1,134 @@
 // The driver's end.
 
-ghost use Rattle.std.specs.Prelude.{◌≡◌, ◌≢◌, ℕ, ◌+◌, ◌*◌, ◌%◌, ◌<◌, ◌≤◌, ◌∷◌, ◌++◌, [], List, IsSome, IfOk, OnErr, length, take, position, not, true, false, slice_set, ok_or, slice_get, IfSome, IfNone, slice_index_or, count_by};
-ghost use Rattle.vb_ram.specs.Pages.{frame_at, SameBut};
-ghost use Rattle.vb_chain.specs.Table.{descriptor_at};
-ghost use Rattle.vb_ring.specs.Ring.{IsSize, Shows, IsLowestFree, used_answer};
+ghost use Rattle.std.specs.Prelude.{◌≡◌, ℕ, ◌<◌, List, length};
+ghost use Rattle.vb_ram.specs.Pages.{Pages};
+ghost use Rattle.vb_ring.specs.Layout.{layout_of, IsSize, Fits, IsInside, IsBacked};
+ghost use Rattle.vb_ring.specs.Ends.{IsDriverEnd, next_head, outstanding, fresh_end};
+ghost use Rattle.vb_ring.specs.Meaning.{UsedElem};
+ghost use Rattle.vb_ring.specs.Calls.{AddsBy, TakesUsedBy};
 
-use crate::{RingFault, next_used, post};
-use vb_chain::Descriptor;
+use crate::Layout;
+use crate::entries::{next_used, put_avail};
+use crate::owners::{claim, count_heads, free_path, is_head, lowest_free, release};
+use std::marker::Model;
+use vb_chain::{Piece, write_chain};
 use vb_ram::GuestBytes;
 
-/// No descriptor is free.
+/// Why `add` refuses: fewer descriptors are free than the chain has pieces.
 #[derive(Clone, Copy, Debug, PartialEq, Eq)]
 pub enum Full {
-    NoneFree,
+    TooFewFree,
 }
 
-/// What a driver remembers of a ring.
+/// What a used ring says that no device may say.
+#[derive(Clone, Copy, Debug, PartialEq, Eq)]
+pub enum RingBroken {
+    /// Its index is further ahead than there are outstanding chains.
+    IndexAhead,
+    /// The element's id is no head of an outstanding chain.
+    NotOutstanding,
+}
+
+/// The driver's end of a split virtqueue. It remembers how many chains it published and how many used
+/// elements it has seen, and for each descriptor the head of the chain that it belongs to.
 #[derive(Drop)]
 pub struct DriverRing {
-    pub page: u32,
-    pub size: u16,
-    pub published: u16,
-    pub seen: u16,
-    pub busy: [bool; 128],
-    ghost sized: { IsSize size },
+    layout: Layout,
+    size: u16,
+    published: u16,
+    seen: u16,
+    owner: [Option<u16>; 128],
+}
+
+impl Model for DriverRing {
+    ghost use Rattle.std.specs.Prelude.{take};
+    ghost use Rattle.vb_ring.specs.Ends.{DriverEnd, IsDriverEnd};
+
+    ghost Value = { DriverEnd };
+
+    ghost view = { λ s. record { layout = s.layout; size = s.size; published = s.published; seen = s.seen; owner = take s.size s.owner } };
+
+    ghost invariant = { λ s. IsDriverEnd (record { layout = s.layout; size = s.size; published = s.published; seen = s.seen; owner = take s.size s.owner }) };
 }
 
 impl DriverRing {
-    /// A ring of which nothing was published, in a page of zeros.
+    /// A ring of `size` descriptors from page `page` on, of which nothing is out. Its pages are to be zeroed before the first `add`.
     pub fn new(page: u32, size: u16) -> DriverRing
         requires { IsSize size }
-        ensures { (result.page ≡ page) × (result.size ≡ size) × (result.published ≡ 0) × (result.seen ≡ 0) }
+        ensures is_end { IsDriverEnd result }
+        ensures value { result ≡ fresh_end (layout_of page size) size }
     {
         DriverRing {
-            page,
+            layout: Layout::at(page, size),
             size,
             published: 0,
             seen: 0,
-            busy: [false; 128],
+            owner: [None; 128],
         }
     }
 
-    /// The head of the next request: the lowest free descriptor.
+    /// Where the ring lies.
+    pub fn layout(&self) -> Layout
+        ensures is_end { IsDriverEnd self.now }
+        ensures value { result ≡ self.now.layout }
+    {
+        self.layout
+    }
+
+    /// The head of the next `add`: the lowest free descriptor, if one is free.
     pub fn next_head(&self) -> Option<u16>
-        ensures table { length self.now.busy ≡ 128 }
-        ensures found { IfSome result (IsLowestFree self.now.busy self.now.size) }
-        ensures none { IfNone result ((k : ℕ) → k < self.now.size → slice_index_or self.now.busy k true ≡ true) }
+        ensures is_end { IsDriverEnd self.now }
+        ensures value { result ≡ next_head self.now }
     {
-        for i in 0..self.size {
-            if !self.busy[usize::from(i)] {
-                return Some(i);
-            }
-        }
-        None
+        lowest_free(&self.owner[..usize::from(self.size)])
     }
 
-    /// Publishes one descriptor.
-    pub fn add<G: GuestBytes>(&mut self, ram: &mut G, descriptor: Descriptor) -> Result<u16, Full>
-        requires page { self.old.page < length (G.mem ram.old) }
-        requires backed { IsSome (frame_at (G.mem ram.old) self.old.page) }
-        ensures head { IfOk result (IsLowestFree self.old.busy self.old.size) }
-        ensures none { OnErr result ((k : ℕ) → k < self.old.size → slice_index_or self.old.busy k true ≡ true) }
-        ensures taken { IfOk result (λ h. self.new ≡ record self.old { published = (self.old.published + 1) % 65536; busy = slice_set self.old.busy h true }) }
-        ensures full { OnErr result (self.new ≡ self.old × (G.mem ram.new ≡ G.mem ram.old)) }
-        ensures shown { IfOk result (λ h. (heads : List ℕ) (pairs : List (ℕ × ℕ)) → length heads % 65536 ≡ self.old.published → Shows (G.mem ram.old) self.old.page self.old.size heads pairs → Shows (G.mem ram.new) self.old.page self.old.size (heads ++ h ∷ []) pairs) }
-        ensures part { G.part ram.new ≡ G.part ram.old }
-        ensures put { IfOk result (λ h. descriptor_at (G.mem ram.new) self.old.page h ≡ descriptor) }
-        ensures others { IfOk result (λ h. (i : ℕ) → i < self.old.size → i ≢ h → descriptor_at (G.mem ram.new) self.old.page i ≡ descriptor_at (G.mem ram.old) self.old.page i) }
-        ensures rest { IfOk result (λ _. SameBut (G.mem ram.old) (G.mem ram.new) self.old.page 0 (18 * self.old.size + 4)) }
+    /// How many chains were added and not taken back.
+    pub fn outstanding(&self) -> u16
+        ensures is_end { IsDriverEnd self.now }
+        ensures value { result ≡ outstanding self.now }
     {
-        let Some(head) = self.next_head() else {
-            return Err(Full::NoneFree);
+        count_heads(&self.owner[..usize::from(self.size)])
+    }
+
+    /// Publishes a chain of these pieces on the lowest free descriptors, in rising order (VIRTIO 1.1, 2.6.13),
+    /// and answers its head.
+    pub fn add<G: GuestBytes>(&mut self, ram: &mut G, pieces: &[Piece]) -> Result<u16, Full>
+        requires backed { IsBacked (G.mem ram.old) self.old.layout }
+        requires some { 0 < length pieces.now }
+        ensures adds { AddsBy (G.mem ram.old) (G.mem ram.new) self.old self.new pieces.now result }
+        ensures part { G.part ram.new ≡ G.part ram.old }
+    {
+        let Some(path) = free_path(&self.owner[..usize::from(self.size)], pieces.len()) else {
+            return Err(Full::TooFewFree);
         };
-        post(ram, self.page, self.size, self.published, head, descriptor);
+        let path: &[u16] = &path;
+        let head = path[0];
+        write_chain(ram, self.layout.table, self.size, path, pieces);
+        put_avail(ram, self.layout, self.size, self.published, head);
         self.published = self.published.wrapping_add(1);
-        self.busy[usize::from(head)] = true;
+        claim(&mut self.owner[..usize::from(self.size)], path, head);
         Ok(head)
     }
 
-    /// How many heads are out.
-    pub fn outstanding(&self) -> u16
-        ensures { result ≡ count_by (λ b. b) (take self.now.size self.now.busy) }
+    /// Takes the next chain that the device has used, and answers its head; its descriptors are free again (VIRTIO 1.1, 2.6.14).
+    pub fn take_used<G: GuestBytes>(&mut self, ram: &G) -> Result<Option<u16>, RingBroken>
+        requires { IsInside (G.mem ram.now) self.old.layout }
+        ensures { TakesUsedBy (G.mem ram.now) self.old self.new result }
     {
-        self.busy[..usize::from(self.size)]
-            .iter()
-            .filter(|busy| **busy)
-            .count() as u16
-    }
-
-    /// Takes the next head that the device has used.
-    pub fn take_used<G: GuestBytes>(&mut self, ram: &G) -> Result<Option<u16>, RingFault>
-        requires page { self.old.page < length (G.mem ram.now) }
-        ensures value { result ≡ used_answer (G.mem ram.now) self.old.page self.old.size self.old.seen (count_by (λ b. b) (take self.old.size self.old.busy)) self.old.busy }
-        ensures taken { IfOk result (λ got. IfSome got (λ h. self.new ≡ record self.old { seen = (self.old.seen + 1) % 65536; busy = slice_set self.old.busy h false })) }
-        ensures waits { IfOk result (λ got. IfNone got (self.new ≡ self.old)) }
-        ensures kept { OnErr result (self.new ≡ self.old) }
-    {
-        let Some(id) = next_used(ram, self.page, self.size, self.seen, self.outstanding())? else {
-            return Ok(None);
+        let size = usize::from(self.size);
+        let most = count_heads(&self.owner[..size]);
+        let id = match next_used(ram, self.layout, self.size, self.seen, most) {
+            Ok(Some(id)) => id,
+            Ok(None) => return Ok(None),
+            Err(broken) => return Err(broken),
         };
-        if id >= u32::from(self.size) || !self.busy[id as usize] {
-            return Err(RingFault::RingBroken);
+        if id >= u32::from(self.size) || !is_head(&self.owner[..size], id as u16) {
+            return Err(RingBroken::NotOutstanding);
         }
+        let head = id as u16;
+        release(&mut self.owner[..size], head);
         self.seen = self.seen.wrapping_add(1);
-        self.busy[id as usize] = false;
-        Ok(Some(id as u16))
+        Ok(Some(head))
     }
 }

@@ -104,7 +104,10 @@ fn write_counts<W: Write>(out: &mut W, counts: PlaceCounts) -> io::Result<()> {
         reporting,
     } = counts;
     write!(out, "free {free} used {used} giving {giving} lent {lent} ")?;
-    write!(out, "taking {taking} stranded {stranded} reporting {reporting}")
+    write!(
+        out,
+        "taking {taking} stranded {stranded} reporting {reporting}"
+    )
 }
 
 /// Writes runs of pages, one page alone by its number.

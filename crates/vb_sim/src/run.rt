@@ -1,6 +1,6 @@
 //! The run of a script, from its bytes to the exit status.
 
-use crate::play::play;
+use crate::play::Play;
 use crate::replies::write_reply;
 use crate::script::{Script, ScriptFault, parse};
 use std::alloc::{AllocError, Global};
@@ -76,15 +76,17 @@ impl From<io::Error> for RunFault {
     }
 }
 
-/// Reads a script from `input`, runs it, and writes a line for each event to `output`. Answers the
-/// exit status; where it is 1 or 3, `errors` has a line that says why, and `output` nothing.
-pub fn run_script<R, O, E>(alloc: Global, input: R, output: O, mut errors: E) -> u8
+/// Reads a script from `input`, runs it on `host`, and writes a line for each event to `output`.
+/// Answers the exit status; where it is 1 or 3, `errors` has a line that says why, and `output`
+/// nothing.
+pub fn run_script<P, R, O, E>(alloc: Global, host: &mut P, input: R, output: O, mut errors: E) -> u8
 where
+    P: Play,
     R: Read + Drop,
     O: Write + Drop,
     E: Write + Drop,
 {
-    match answer(alloc, input, output) {
+    match answer(alloc, host, input, output) {
         Ok(()) => SUCCESS,
         Err(fault) => report(&fault, &mut errors),
     }
@@ -102,15 +104,16 @@ pub fn report<E: Write>(fault: &RunFault, errors: &mut E) -> u8 {
 }
 
 /// Reads a script, runs it and writes its replies.
-fn answer<R: Read + Drop, O: Write + Drop>(
+fn answer<P: Play, R: Read + Drop, O: Write + Drop>(
     alloc: Global,
+    host: &mut P,
     input: R,
     output: O,
 ) -> Result<(), RunFault> {
     let text = read_text(alloc, input)?;
     match parse(alloc, text.as_slice())? {
         None => Ok(()),
-        Some(script) => write_replies(alloc, &script, output),
+        Some(script) => write_replies(alloc, host, &script, output),
     }
 }
 
@@ -124,19 +127,39 @@ fn read_text<R: Read + Drop>(alloc: Global, input: R) -> Result<Vec<u8>, RunFaul
     Ok(text)
 }
 
-/// Runs a script and writes its replies, once all are there.
-fn write_replies<O: Write + Drop>(
+/// Runs a script and writes its replies, once all are there. The memory to write them is taken
+/// before anything runs.
+fn write_replies<P: Play, O: Write + Drop>(
     alloc: Global,
+    host: &mut P,
     script: &Script,
     output: O,
 ) -> Result<(), RunFault> {
     let mut out = BufWriter::new(alloc, output)?;
-    let replies = play(alloc, script)?;
-    write_lines(&mut out, replies.as_slice()).map_err(|_fault| RunFault::Stream)
+    play_into(alloc, host, script, &mut out)
+}
+
+/// Runs a script and writes its replies to `out`.
+fn play_into<P: Play, W: Write>(
+    alloc: Global,
+    host: &mut P,
+    script: &Script,
+    out: &mut W,
+) -> Result<(), RunFault> {
+    let replies = host.play(alloc, script)?;
+    write_lines(out, replies.as_slice())
+}
+
+/// Writes a line for each reply; a fault of the stream ends the run.
+fn write_lines<W: Write>(out: &mut W, replies: &[Reply]) -> Result<(), RunFault> {
+    match write_all_lines(out, replies) {
+        Ok(()) => Ok(()),
+        Err(_fault) => Err(RunFault::Stream),
+    }
 }
 
 /// Writes a line for each reply.
-fn write_lines<W: Write>(out: &mut W, replies: &[Reply]) -> io::Result<()> {
+fn write_all_lines<W: Write>(out: &mut W, replies: &[Reply]) -> io::Result<()> {
     for reply in replies {
         write_reply(out, reply)?;
     }

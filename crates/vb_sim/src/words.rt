@@ -1,12 +1,15 @@
 //! The words of a line, read one after the other.
 
+ghost use Rattle.std.specs.Prelude.{◌≡◌, ◌+◌, ◌-◌, ◌*◌, ◌^◌, ◌<◌, SomeIff};
+ghost use Rattle.vb_sim.specs.Numbers.{IsDecimal, IsDigit, decimal_value};
+
 use std::alloc::AllocError;
 
 /// The bytes between words.
 const SPACE: u8 = b' ';
 
 /// Why a line gives nothing.
-#[derive(Clone, Copy, Debug, PartialEq, Eq)]
+#[derive(Clone, Copy, PartialEq, Eq)]
 pub enum LineFault {
     /// It isn't a line of the format, or not at its place in the script.
     Bad,
@@ -64,14 +67,32 @@ impl<'a> Words<'a> {
         }
     }
 
+    /// The next word, if it is the last one; a line that has no word left, or more, is bad.
+    pub fn last_word(&mut self) -> Result<&'a [u8], LineFault> {
+        let word = self.word()?;
+        self.end()?;
+        Ok(word)
+    }
+
     /// The next word as a number of at most 32 bits.
     pub fn number(&mut self) -> Result<u32, LineFault> {
         number(self.word()?).ok_or(LineFault::Bad)
     }
+
+    /// The next words as numbers of at most 32 bits each.
+    pub fn numbers<const N: usize>(&mut self) -> Result<[u32; N], LineFault> {
+        let mut numbers = [0; N];
+        for next in &mut numbers {
+            *next = self.number()?;
+        }
+        Ok(numbers)
+    }
 }
 
 /// The number that decimal digits show, any leading zeros among them, if it fits 32 bits.
-pub fn number(word: &[u8]) -> Option<u32> {
+pub fn number(word: &[u8]) -> Option<u32>
+    ensures { SomeIff result (IsDecimal word.now × (decimal_value word.now < 2 ^ 32)) (decimal_value word.now) }
+{
     if word.is_empty() {
         return None;
     }
@@ -83,11 +104,11 @@ pub fn number(word: &[u8]) -> Option<u32> {
 }
 
 /// The number with one more digit behind it.
-fn with_digit(value: u32, digit: u8) -> Option<u32> {
+fn with_digit(value: u32, digit: u8) -> Option<u32>
+    ensures { SomeIff result (IsDigit digit × (value * 10 + (digit - 48) < 2 ^ 32)) (value * 10 + (digit - 48)) }
+{
     if !digit.is_ascii_digit() {
         return None;
     }
-    value
-        .checked_mul(10)?
-        .checked_add(u32::from(digit - b'0'))
+    value.checked_mul(10)?.checked_add(u32::from(digit - b'0'))
 }

@@ -2,8 +2,8 @@
 
 use crate::{Features, MemoryPort, Port, Status, StatusFault, negotiate, write_status};
 use bitflags::Flags;
-use std::test::Fail;
 use std::process::Abort;
+use std::test::Fail;
 use vb_ram::{GuestBytes, Ram};
 
 fn status(bits: u8) -> Status {

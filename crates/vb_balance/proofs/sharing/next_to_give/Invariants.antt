@@ -1,4 +1,4 @@
-use Rattle.std.proofs.Common.{◌≡◌, ℕ, ◌<◌, true, false, length, MatchOption}
+use Rattle.std.proofs.Common.{◌≡◌, ℕ, ◌<◌, true, false, MatchOption}
 use Rattle.vb_model.specs.Balance.{GivesBefore}
 use Rattle.vb_balance.specs.Giving.{has_given}
 use Rattle.vb_balance.proofs.sharing.next_to_give.Given as goal

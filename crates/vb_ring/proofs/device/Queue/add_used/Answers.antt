@@ -1,9 +1,13 @@
-use Rattle.std.proofs.Common.{arith}
-use Rattle.vb_ring.specs.RingLaws.{avail_apart}
+use Rattle.std.proofs.Common.{subst, rules, arith, ◌+◌, ◌%◌}
+use Rattle.vb_ring.specs.Ends.{DeviceEnd, IsDeviceEnd}
+use Rattle.vb_ring.specs.Calls.{AddsUsedBy}
+use Rattle.vb_ring.proofs.Assemble.{adds_used_by}
 use Rattle.vb_ring.proofs.device.Queue.add_used.Goals as goal
 
-pub returns-clause-shown : goal.returns-clause-shown
-returns-clause-shown g c heads pairs at shows = record {
-  avail = avail_apart _ _ c.args.self.now.page c.args.self.now.size heads (omega arith) c.put_used.ensures.rest shows.avail;
-  used = c.put_used.ensures.shown pairs at shows.used;
-}
+pub returns-clause-adds : goal.returns-clause-adds
+returns-clause-adds g c =
+    let old : DeviceEnd = record { layout = c.self.inside.layout; size = c.self.inside.size; ready = c.self.inside.ready; next_avail = c.self.inside.next_avail; next_used = c.self.inside.next_used } in
+    let new : DeviceEnd = record old { next_used = (c.self.inside.next_used + 1) % 65536 } in
+    let is_end : IsDeviceEnd old = c.self.invariant in
+    subst (λ (v : DeviceEnd). AddsUsedBy (g.G.GuestBytes.mem c.args.ram.now) (g.G.GuestBytes.mem c.put_used.new.ram) v new c.args.head c.args.len) c.self.view_is
+    (adds_used_by (g.G.GuestBytes.mem c.args.ram.now) (g.G.GuestBytes.mem c.put_used.new.ram) old c.args.head c.args.len is_end c.put_used.ensures.puts)

@@ -1,46 +1,47 @@
-use Rattle.std.proofs.Common.{◌≡◌, sym, ℕ, ◌*◌, length, subst, Result, Ok, Err, Option, Some}
+use Rattle.std.proofs.Common.{◌≡◌, ◌∙◌, ◌+◌, ◌%◌, ℕ, Bool, true, false, List, Option, Some, None, Result, Ok, Err, sym, ap, subst, rules}
 use Rattle.vb_chain.specs.declared.ChainFault.{ChainFault}
-use Rattle.vb_chain.specs.Table.{descriptor_at}
-use Rattle.vb_chain.specs.Chain.{ChainGives, FaultGives}
-use Rattle.vb_ring.specs.RingLaws.{entry_shown}
+use Rattle.vb_ring.specs.declared.device.Taken.{Taken}
+use Rattle.vb_ring.specs.Ends.{DeviceEnd, IsDeviceEnd}
+use Rattle.vb_ring.specs.Calls.{PopsBy, after_pop}
+use Rattle.vb_ring.proofs.Pops.{pops_idle, pops_none, pops_chain, pops_fault}
 use Rattle.vb_ring.proofs.device.Queue.pop_descriptor_chain.Goals as goal
 
--- one answer names one head
-same_head : (r : Result (Option ℕ) ChainFault) (o : Option ℕ) (h k : ℕ) → Ok o ≡ r → o ≡ Some k → r ≡ Ok (Some h) → h ≡ k
-same_head r o h k a b e = cc
+-- what was answered, by what it is
+answer_is : (r : Result (Option ℕ) ChainFault) (o : Option ℕ) (h : ℕ) → Ok o ≡ r → o ≡ Some h → r ≡ Ok (Some h)
+answer_is r o h a b = cc
 
-pub returns-then-not-self-clause-shown : goal.returns-then-not-self-clause-shown
-returns-then-not-self-clause-shown g c heads t shows at low near =
-    entry_shown _ c.args.self.now.page c.args.self.now.size heads t c.args.self.now.taken c.args.self.now.sized shows at low near
+answer_none : (r : Result (Option ℕ) ChainFault) (o : Option ℕ) → Ok o ≡ r → o ≡ None → r ≡ Ok None
+answer_none r o a b = cc
 
-pub returns-in-Ok-clause-chain : goal.returns-in-Ok-clause-chain
-returns-in-Ok-clause-chain g c h pieces ready next gives =
-    let d = descriptor_at (g.G.GuestBytes.mem c.args.ram.now) c.args.self.now.page in
-    let end = 4096 * length (g.G.GuestBytes.mem c.args.ram.now) in
-    let same = same_head _ c.in_ok-head.field-0 h c.in-Some.head c.in_ok-head.ensures.value c.in-Some.is next in
-    (sym same, c.in-Ok.ensures.each_chain pieces (subst (λ (n : ℕ). ChainGives d c.args.self.now.size end n pieces) same gives))
+pub returns-then-not-self : goal.returns-then-not-self
+returns-then-not-self g c =
+    let old : DeviceEnd = record { layout = c.self.inside.layout; size = c.self.inside.size; ready = c.self.inside.ready; next_avail = c.self.inside.next_avail; next_used = c.self.inside.next_used } in
+    let is_end : IsDeviceEnd old = c.self.invariant in
+    let idle : c.self.inside.ready ≡ false = search rules in
+    subst (λ (v : DeviceEnd). PopsBy (g.G.GuestBytes.mem c.args.ram.now) v v (Ok None)) c.self.view_is (pops_idle (g.G.GuestBytes.mem c.args.ram.now) old is_end idle)
 
-pub returns-in-Ok-clause-fault : goal.returns-in-Ok-clause-fault
-returns-in-Ok-clause-fault g c h f ready next gives =
-    let d = descriptor_at (g.G.GuestBytes.mem c.args.ram.now) c.args.self.now.page in
-    let end = 4096 * length (g.G.GuestBytes.mem c.args.ram.now) in
-    let same = same_head _ c.in_ok-head.field-0 h c.in-Some.head c.in_ok-head.ensures.value c.in-Some.is next in
-    let other : c.walk.result ≡ Err f = c.walk.ensures.each_fault f (subst (λ (n : ℕ). FaultGives d c.args.self.now.size end n f) same gives) in
-    let this = c.in-Ok.is in
-    cc
+pub returns-in_default : goal.returns-in_default
+returns-in_default g c =
+    let old : DeviceEnd = record { layout = c.self.inside.layout; size = c.self.inside.size; ready = c.self.inside.ready; next_avail = c.self.inside.next_avail; next_used = c.self.inside.next_used } in
+    let is_end : IsDeviceEnd old = c.self.invariant in
+    subst (λ (v : DeviceEnd). PopsBy (g.G.GuestBytes.mem c.args.ram.now) v v (Ok None)) c.self.view_is
+    (pops_none (g.G.GuestBytes.mem c.args.ram.now) old is_end (answer_none _ c.in_ok-head.field-0 c.in_ok-head.ensures c.in_default.is))
 
-pub returns-in-Err-clause-chain : goal.returns-in-Err-clause-chain
-returns-in-Err-clause-chain g c h pieces ready next gives =
-    let d = descriptor_at (g.G.GuestBytes.mem c.args.ram.now) c.args.self.now.page in
-    let end = 4096 * length (g.G.GuestBytes.mem c.args.ram.now) in
-    let same = same_head _ c.in_ok-head.field-0 h c.in-Some.head c.in_ok-head.ensures.value c.in-Some.is next in
-    c.in-Err.ensures.each_chain pieces (subst (λ (n : ℕ). ChainGives d c.args.self.now.size end n pieces) same gives)
+pub returns-in-Ok : goal.returns-in-Ok
+returns-in-Ok g c =
+    let old : DeviceEnd = record { layout = c.self.inside.layout; size = c.self.inside.size; ready = c.self.inside.ready; next_avail = c.self.inside.next_avail; next_used = c.self.inside.next_used } in
+    let is_end : IsDeviceEnd old = c.self.invariant in
+    let ready : c.self.inside.ready ≡ true = search rules in
+    let taken : Taken = record { head = c.in-Some.head; chain = c.in-Ok.chain } in
+    subst (λ (v : DeviceEnd). PopsBy (g.G.GuestBytes.mem c.args.ram.now) v (after_pop old (Ok (Some taken))) (Ok (Some taken))) c.self.view_is
+    (pops_chain (g.G.GuestBytes.mem c.args.ram.now) old taken is_end ready (answer_is _ c.in_ok-head.field-0 c.in-Some.head c.in_ok-head.ensures c.in-Some.is)
+    c.in-Ok.ensures.chain c.in-Ok.ensures.each_chain (λ f gives. (let wrong = c.in-Ok.ensures.each_fault f gives in cc)))
 
-pub returns-in-Err-clause-fault : goal.returns-in-Err-clause-fault
-returns-in-Err-clause-fault g c h f ready next gives =
-    let d = descriptor_at (g.G.GuestBytes.mem c.args.ram.now) c.args.self.now.page in
-    let end = 4096 * length (g.G.GuestBytes.mem c.args.ram.now) in
-    let same = same_head _ c.in_ok-head.field-0 h c.in-Some.head c.in_ok-head.ensures.value c.in-Some.is next in
-    let other : c.walk.result ≡ Err f = c.walk.ensures.each_fault f (subst (λ (n : ℕ). FaultGives d c.args.self.now.size end n f) same gives) in
-    let this = c.in-Err.is in
-    cc
+pub returns-in-Err : goal.returns-in-Err
+returns-in-Err g c =
+    let old : DeviceEnd = record { layout = c.self.inside.layout; size = c.self.inside.size; ready = c.self.inside.ready; next_avail = c.self.inside.next_avail; next_used = c.self.inside.next_used } in
+    let is_end : IsDeviceEnd old = c.self.invariant in
+    let ready : c.self.inside.ready ≡ true = search rules in
+    subst (λ (v : DeviceEnd). PopsBy (g.G.GuestBytes.mem c.args.ram.now) v v (Err c.in-Err.fault)) c.self.view_is
+    (pops_fault (g.G.GuestBytes.mem c.args.ram.now) old c.in-Some.head c.in-Err.fault is_end ready (answer_is _ c.in_ok-head.field-0 c.in-Some.head c.in_ok-head.ensures c.in-Some.is)
+    (λ pieces gives. c.in-Err.ensures.each_chain pieces gives) (λ f gives. (let same = c.in-Err.ensures.each_fault f gives in cc)))

@@ -1,6 +1,6 @@
 use Rattle.std.proofs.Common.{rules}
-use Rattle.vb_ring.proofs.Powers.{power_divides}
+use Rattle.vb_ring.specs.Powers.{size_of_power}
 use Rattle.vb_ring.proofs.device.Queue.set_size.Goals as goal
 
-pub invariant_of-self : goal.invariant_of-self
-invariant_of-self c = record { sized = record { least = search rules; most = search rules; divides = power_divides c.args.size (search rules) (search rules) } }
+pub at-self-inside-requires : goal.at-self-inside-requires
+at-self-inside-requires c = size_of_power c.args.size (search rules) (search rules) (search rules)

@@ -1,0 +1,9 @@
+pub mod Chains
+pub mod Takes
+pub mod TakesBy
+pub mod Finishes
+pub mod FromNext
+pub mod Discards
+pub mod Sizes
+pub mod Marks
+pub mod Over

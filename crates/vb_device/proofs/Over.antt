@@ -1,0 +1,108 @@
+-- A device that keeps ballooned pages, from one that has ballooned nothing.
+use Rattle.std.specs.Prelude.{◌≡◌, ℕ, ◌+◌, ◌%◌, ◌<◌, ◌≤◌, ◌==◌, Bool, true, false, List, [], ◌∷◌, ◌++◌, length, Option, Some, None, Result, Ok, Err, if◌then◌else◌, refl}
+use Rattle.std.proofs.Common.{sym, ◌∙◌, ap, subst, arith, inl, inr}
+use Rattle.std.proofs.lemmas.Bool.{cases_eq}
+use Rattle.vb_model.specs.declared.replies.Refusal.{Refusal}
+use Rattle.vb_model.specs.declared.replies.Refusal.TheVariants.{NoQueue, Broken}
+use Rattle.vb_model.specs.Requests.{Request}
+use Rattle.vb_ram.specs.Pages.{Pages}
+use Rattle.vb_ram.specs.Part.{Part, QueuePart}
+use Rattle.vb_chain.specs.declared.ChainFault.{ChainFault}
+use Rattle.vb_device.specs.Conditions.{finish_refusal}
+use Rattle.vb_device.specs.Faults.{Breaks}
+use Rattle.vb_device.specs.Discards.{flagged}
+use Rattle.vb_device.specs.BaseCalls.{GivesUsed, BaseFinishes}
+use Rattle.vb_device.specs.Calls.{taking, TakeMeans, TakesBy, FinishesBy, Uses}
+use Rattle.vb_device.proofs.TakesBy.{finish_no_queue}
+
+-- the part with these flags
+abbrev pub over : List Bool → Part → Part
+over flags part = record part { ballooned = flags }
+
+with_over : (a b c : Bool) (flags : List Bool) (x : QueuePart) (p : Part)
+    → over flags (if a then record p { inflate = x } else (if b then record p { deflate = x } else (if c then record p { statistics = x } else record p { report = x })))
+    ≡ (if a then record (over flags p) { inflate = x } else (if b then record (over flags p) { deflate = x } else (if c then record (over flags p) { statistics = x } else record (over flags p) { report = x })))
+with_over true b c flags x p = refl
+with_over false true c flags x p = refl
+with_over false false true flags x p = refl
+with_over false false false flags x p = refl
+
+taking_over : (q h : ℕ) (pages : List ℕ) (flags : List Bool) (p : Part) → over flags (taking q h pages p) ≡ taking q h pages (over flags p)
+taking_over q h pages flags p = with_over (q == 0) (q == 1) (q == 2) flags _ p
+
+breaks_over : (fault : ChainFault) (flags : List Bool) (p1 p2 : Part) (result : Result (Option ℕ) Refusal) → Breaks fault p1 p2 result → Breaks fault (over flags p1) (over flags p2) result
+breaks_over fault flags p1 p2 result b = record { answer = b.answer; part = ap (over flags) b.part }
+
+means_over : (q : ℕ) (mem : Pages) (flags : List Bool) (p1 p2 : Part) (result : Result (Option ℕ) Refusal) → TakeMeans q mem p1 p2 result → TakeMeans q mem (over flags p1) (over flags p2) result
+means_over q mem flags p1 p2 (Ok None) m = (m.0, ap (over flags) m.1)
+means_over q mem flags p1 p2 (Ok (Some h)) m = (m.0, (m.1.0, record { next = m.1.1.next; pieces = m.1.1.pieces; chain = m.1.1.chain; request = m.1.1.request }, ap (over flags) m.1.2 ∙ taking_over q h m.1.0 flags p1))
+means_over q mem flags p1 p2 (Err (Broken rule)) m = (m.0, ap (over flags) m.1)
+means_over q mem flags p1 p2 (Err why) m = (m.0, ap (over flags) m.1)
+
+pub takes_over : (q : ℕ) (m1 m2 : Pages) (flags : List Bool) (p1 p2 : Part) (result : Result (Option ℕ) Refusal) → TakesBy q m1 m2 p1 p2 result → TakesBy q m1 m2 (over flags p1) (over flags p2) result
+takes_over q m1 m2 flags p1 p2 result t = record {
+  memory = t.memory;
+  refused = λ why e. ((t.refused why e).0, ap (over flags) (t.refused why e).1);
+  empty = λ e n. ((t.empty e n).0, ap (over flags) (t.empty e n).1);
+  jump = λ f e n. breaks_over f flags p1 p2 result (t.jump f e n);
+  fault = λ h f e n g. breaks_over f flags p1 p2 result (t.fault h f e n g);
+  wrong = λ h pieces f e n g r. breaks_over f flags p1 p2 result (t.wrong h pieces f e n g r);
+  takes = λ h pieces pages e n g r. ((t.takes h pieces pages e n g r).0, ap (over flags) (t.takes h pieces pages e n g r).1 ∙ taking_over q h pages flags p1);
+  means = means_over q m1 flags p1 p2 result t.means;
+}
+
+-- ---- finish
+
+ok_err : (r : Request) (why : Refusal) → Ok r ≡ Err why → ⊥
+ok_err r why e = cc
+
+same_ok : (o : Result Request Refusal) (x y : Request) → o ≡ Ok x → o ≡ Ok y → x ≡ y
+same_ok o x y a b = cc
+
+same_err : (o : Result Request Refusal) (x y : Refusal) → o ≡ Err x → o ≡ Err y → x ≡ y
+same_err o x y a b = cc
+
+pub finishes_err : (q index : ℕ) (m1 m2 : Pages) (flags : List Bool) (p1 p2 : Part) (why : Refusal) → BaseFinishes q index m1 m2 p1 p2 (Err why) → FinishesBy q index m1 m2 (over flags p1) (over flags p2) (Err why)
+finishes_err q index m1 m2 flags p1 p2 why b = record {
+  refused = λ w e. (ap Err (same_err (Err why) why w refl (b.refused w e).0), ap (over flags) (b.refused w e).1, (b.refused w e).2);
+  finished = λ x e at. absurd (ok_err x why (sym (b.finished x e at).answer));
+}
+
+finishes_0 : (index : ℕ) (m1 m2 : Pages) (flags : List Bool) (p1 p2 : Part) (r : Request) → BaseFinishes 0 index m1 m2 p1 p2 (Ok r) → FinishesBy 0 index m1 m2 (over flags p1) (over (flagged r.pages true flags) p2) (Ok r.head)
+finishes_0 index m1 m2 flags p1 p2 r b = record {
+  refused = λ w e. absurd (ok_err r w (b.refused w e).0);
+  finished = λ x e at.
+      let used = b.finished x e at in
+      let same : r ≡ x = same_ok (Ok r) r x refl used.answer in
+      record {
+        answer = ap (λ (y : Request). Ok y.head) same;
+        part = ap (λ (y : Request). over (flagged y.pages true flags) p2) same ∙ ap (over (flagged x.pages true flags)) used.part;
+        memory = used.memory;
+      };
+}
+
+finishes_1 : (index : ℕ) (m1 m2 : Pages) (flags : List Bool) (p1 p2 : Part) (r : Request) → BaseFinishes 1 index m1 m2 p1 p2 (Ok r) → FinishesBy 1 index m1 m2 (over flags p1) (over (flagged r.pages false flags) p2) (Ok r.head)
+finishes_1 index m1 m2 flags p1 p2 r b = record {
+  refused = λ w e. absurd (ok_err r w (b.refused w e).0);
+  finished = λ x e at.
+      let used = b.finished x e at in
+      let same : r ≡ x = same_ok (Ok r) r x refl used.answer in
+      record {
+        answer = ap (λ (y : Request). Ok y.head) same;
+        part = ap (λ (y : Request). over (flagged y.pages false flags) p2) same ∙ ap (over (flagged x.pages false flags)) used.part;
+        memory = used.memory;
+      };
+}
+
+pub finishes_ok : (q index : ℕ) (m1 m2 : Pages) (flags : List Bool) (p1 p2 : Part) (r : Request) → BaseFinishes q index m1 m2 p1 p2 (Ok r) → FinishesBy q index m1 m2 (over flags p1) (over (flagged r.pages (q == 0) flags) p2) (Ok r.head)
+finishes_ok q index m1 m2 flags p1 p2 r b = elim (cases_eq q 0) [
+  | inl zero ↦
+      subst (λ (n : ℕ). FinishesBy n index m1 m2 (over flags p1) (over (flagged r.pages (n == 0) flags) p2) (Ok r.head)) (sym zero)
+      (finishes_0 index m1 m2 flags p1 p2 r (subst (λ (n : ℕ). BaseFinishes n index m1 m2 p1 p2 (Ok r)) zero b))
+  | inr some ↦ elim (cases_eq q 1) [
+    | inl one ↦
+        subst (λ (n : ℕ). FinishesBy n index m1 m2 (over flags p1) (over (flagged r.pages (n == 0) flags) p2) (Ok r.head)) (sym one)
+        (finishes_1 index m1 m2 flags p1 p2 r (subst (λ (n : ℕ). BaseFinishes n index m1 m2 p1 p2 (Ok r)) one b))
+    | inr more ↦ absurd (ok_err r NoQueue (b.refused NoQueue (finish_no_queue q index p1 (omega (arith, some, more)))).0)
+  ]
+]

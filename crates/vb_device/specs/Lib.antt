@@ -1,0 +1,15 @@
+pub mod State
+pub mod Queues
+pub mod Conditions
+pub mod Faults
+pub mod Own
+pub mod Discards
+pub mod Request
+pub mod Calls
+pub mod RequestLaws
+pub mod QueueState
+pub mod Base
+pub mod BaseCalls
+pub mod Once
+pub mod Bytes
+pub mod OneRequest

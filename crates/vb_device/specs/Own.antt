@@ -1,0 +1,11 @@
+-- The numbers of the frames that a device gave out of its own (profile), as a set.
+use Rattle.std.specs.Prelude.{ℕ, Bool, not, ◌==◌, List, filter}
+use Rattle.vb_model.specs.Tests.{is_in}
+
+-- Whether the number is among them.
+abbrev pub has : List ℕ → ℕ → Bool
+has own number = is_in number own
+
+-- All of them but this one.
+abbrev pub without : List ℕ → ℕ → List ℕ
+without own number = filter (λ n. not (n == number)) own

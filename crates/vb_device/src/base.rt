@@ -1,0 +1,377 @@
+// What devices of every kind keep: memory, status, queues and loose frames.
+
+ghost use Rattle.std.specs.Prelude.{◌≡◌, ◌<◌, ◌≤◌, ◌+◌, ℕ, [], ◌∷◌, ◌++◌, Err, is_some, true, false, None, Some, IsSome, IsOk, OnOk, OnErr, length, replicate, vec_capacity};
+ghost use Rattle.std.specs.Option.{option_to_list};
+ghost use Rattle.vb_model.specs.Driver.{AllDistinct};
+ghost use Rattle.vb_model.specs.Layout.{ring_page};
+ghost use Rattle.vb_model.specs.Limits.{is_config};
+ghost use Rattle.vb_model.specs.Status.{contains, driver_ok};
+ghost use Rattle.vb_ram.specs.Pages.{frame_at, number_of, Supplied, IsWhole};
+ghost use Rattle.vb_ring.specs.Layout.{IsInside};
+ghost use Rattle.vb_status.specs.Bits.{status_bits};
+ghost use Rattle.vb_device.specs.Base.{numbers_of_frames, IsPlain};
+ghost use Rattle.vb_device.specs.BaseCalls.{TakesFrom, BaseFinishes, status_refusal};
+ghost use Rattle.vb_device.specs.Calls.{IsUnused, attached, TakesBy, HandsBack};
+ghost use Rattle.vb_device.specs.Discards.{discarded, frames_behind};
+ghost use Rattle.vb_device.specs.Faults.{rule_of};
+
+use crate::queue::{RequestQueue, TakenRequest};
+use bitflags::Flags;
+use std::alloc::{AllocError, Global};
+use std::marker::Model;
+use vb_chain::ChainFault;
+use vb_model::Refusal;
+use vb_model::layout::{DEFLATE_QUEUE, DEFLATE_RING_PAGE, INFLATE_QUEUE, INFLATE_RING_PAGE};
+use vb_ram::{Config, Frame, GuestBytes, Ram, RamFault, SupplyRefused};
+use vb_status::{Features, Port, Status, StatusFault, negotiate, write_status};
+
+/// Loose frames beyond one a page for which there is room: those of one request.
+const SPARE_ROOM: usize = 256;
+
+/// A device but for the set of its ballooned pages.
+#[derive(Drop)]
+pub(crate) struct DeviceBase {
+    ram: Ram,
+    status: Status,
+    features: Features,
+    target: u32,
+    actual: u32,
+    inflate: RequestQueue,
+    deflate: RequestQueue,
+    loose: Vec<Frame>,
+}
+
+impl Model for DeviceBase {
+    ghost use Rattle.std.specs.Prelude.{vec_capacity};
+    ghost use Rattle.vb_status.specs.Bits.{status_bits, feature_bits};
+    ghost use Rattle.vb_device.specs.State.{DeviceState};
+    ghost use Rattle.vb_device.specs.Base.{base_part, IsBase};
+
+    ghost Value = { DeviceState };
+
+    ghost view = { λ s. record { mem = s.ram; part = base_part (status_bits s.status) (feature_bits s.features) s.target s.actual s.inflate s.deflate s.loose.items } };
+
+    ghost invariant = { λ s. IsBase s.ram (status_bits s.status) s.inflate s.deflate (vec_capacity s.loose) };
+}
+
+/// The number of the rule that a fault breaks.
+fn rule_of(fault: ChainFault) -> u32
+    ensures { result ≡ rule_of fault }
+{
+    match fault {
+        ChainFault::BadHead => 1,
+        ChainFault::BadNext => 2,
+        ChainFault::TooLong => 3,
+        ChainFault::Indirect => 4,
+        ChainFault::WrongDirection => 5,
+        ChainFault::OutOfRam => 6,
+        ChainFault::IndexJump => 7,
+        ChainFault::BadLength => 8,
+        ChainFault::BadPage => 9,
+        ChainFault::ReservedPage => 10,
+    }
+}
+
+/// Takes the next chain of a queue, where the driver is ready.
+fn take_from<G: GuestBytes>(
+    requests: &mut RequestQueue,
+    ram: &G,
+    status: &mut Status,
+) -> Result<Option<u16>, Refusal>
+    requires inside { 0 < length (G.mem ram.now) → IsInside (G.mem ram.now) requests.old.ring.layout }
+    requires idle { length (G.mem ram.now) ≡ 0 → requests.old.ring.next_avail ≡ 0 }
+    requires ready { requests.old.ring.ready ≡ true }
+    ensures { TakesFrom (G.mem ram.now) requests.old requests.new (status_bits status.old) (status_bits status.new) result }
+{
+    if requests.is_full() {
+        return Err(Refusal::Busy);
+    }
+    if ram.pages() == 0 {
+        return Ok(None);
+    }
+    match requests.take(ram) {
+        Ok(head) => Ok(head),
+        Err(fault) => {
+            status.insert(Status::DEVICE_NEEDS_RESET);
+            Err(Refusal::Broken {
+                rule: rule_of(fault),
+            })
+        }
+    }
+}
+
+/// Puts a frame, if there is one, behind the loose ones.
+fn put_loose(loose: &mut Vec<Frame>, frame: Option<Frame>)
+    requires { length loose.old.items < vec_capacity loose.old }
+    ensures numbers { numbers_of_frames loose.new.items ≡ numbers_of_frames loose.old.items ++ option_to_list (number_of frame) }
+    ensures count { length loose.new.items ≤ length loose.old.items + 1 }
+    ensures capacity { vec_capacity loose.new ≡ vec_capacity loose.old }
+{
+    let _loose = loose.as_slice();
+    match frame {
+        Some(frame) => loose.push_reserved(frame),
+        None => {}
+    }
+}
+
+/// Takes the frames of these pages away; those that there were are loose now, in the pages' order.
+fn discard_all(ram: &mut Ram, loose: &mut Vec<Frame>, pages: &[u32])
+    requires room { length loose.old.items + length pages.now ≤ vec_capacity loose.old }
+    requires distinct { AllDistinct pages.now }
+    ensures mem { ram.new ≡ discarded pages.now ram.old }
+    ensures loose { numbers_of_frames loose.new.items ≡ numbers_of_frames loose.old.items ++ frames_behind ram.old pages.now }
+    ensures capacity { vec_capacity loose.new ≡ vec_capacity loose.old }
+{
+    for page in pages {
+        let frame = ram.discard(*page);
+        put_loose(loose, frame);
+    }
+}
+
+impl DeviceBase {
+    /// A device that isn't attached.
+    pub(crate) fn new(alloc: Global) -> DeviceBase
+        ensures mem { result.mem ≡ [] }
+        ensures loose { result.part.loose ≡ [] }
+        ensures plain { IsPlain result.part }
+    {
+        DeviceBase {
+            ram: Ram::empty(alloc),
+            status: Status::empty(),
+            features: Features::empty(),
+            target: 0,
+            actual: 0,
+            inflate: RequestQueue::new(INFLATE_RING_PAGE),
+            deflate: RequestQueue::new(DEFLATE_RING_PAGE),
+            loose: Vec::new(alloc),
+        }
+    }
+
+    /// The device is immediate and has no frames of its own.
+    pub(crate) fn is_plain(&self)
+        ensures { IsPlain self.now.part }
+    {
+        let _ = &self.status;
+    }
+
+    /// Gives the device a guest of this size.
+    pub(crate) fn attach(&mut self, alloc: Global, config: Config) -> Result<(), AllocError>
+        requires unused { IsUnused self.old.mem self.old.part }
+        requires config { is_config config.pages config.queue_size config.processors ≡ true }
+        ensures mem { OnOk result (self.new.mem ≡ replicate config.pages None) }
+        ensures part { OnOk result (self.new.part ≡ record (attached config self.old.part) { ballooned = [] }) }
+        ensures err { OnErr result (self.new ≡ self.old) }
+    {
+        let Ok(ram) = Ram::new(alloc, config.pages) else {
+            return Err(AllocError);
+        };
+        self.loose.reserve(config.pages as usize + SPARE_ROOM)?;
+        self.ram = ram;
+        self.status = Status::empty();
+        self.features = Features::empty();
+        self.target = 0;
+        self.actual = 0;
+        self.inflate.set_size(config.queue_size);
+        self.deflate.set_size(config.queue_size);
+        Ok(())
+    }
+
+    /// `NotReady` where the driver isn't done with the initialisation or has given up, and
+    /// `NeedsReset` after a fault.
+    pub(crate) fn status_refusal(&self) -> Option<Refusal>
+        ensures { result ≡ status_refusal self.now.part.status }
+    {
+        if !self.status.contains(Status::DRIVER_OK) || self.status.contains(Status::FAILED) {
+            Some(Refusal::NotReady)
+        } else if self.status.contains(Status::DEVICE_NEEDS_RESET) {
+            Some(Refusal::NeedsReset)
+        } else {
+            None
+        }
+    }
+
+    /// Takes the next chain of queue 0.
+    fn take_inflate(&mut self) -> Result<Option<u16>, Refusal>
+        ensures { TakesBy 0 self.old.mem self.new.mem self.old.part self.new.part result }
+    {
+        if let Some(why) = self.status_refusal() {
+            return Err(why);
+        }
+        take_from(&mut self.inflate, &self.ram, &mut self.status)
+    }
+
+    /// Takes the next chain of queue 1.
+    fn take_deflate(&mut self) -> Result<Option<u16>, Refusal>
+        ensures { TakesBy 1 self.old.mem self.new.mem self.old.part self.new.part result }
+    {
+        if let Some(why) = self.status_refusal() {
+            return Err(why);
+        }
+        take_from(&mut self.deflate, &self.ram, &mut self.status)
+    }
+
+    /// Takes the next chain of queue 0 or 1.
+    pub(crate) fn take(&mut self, queue: u32) -> Result<Option<u16>, Refusal>
+        ensures { TakesBy queue self.old.mem self.new.mem self.old.part self.new.part result }
+    {
+        match queue {
+            INFLATE_QUEUE => self.take_inflate(),
+            DEFLATE_QUEUE => self.take_deflate(),
+            _ => Err(Refusal::NoQueue),
+        }
+    }
+
+    /// Uses a taken chain of queue 0: its pages lose their frames.
+    fn finish_inflate(&mut self, index: u32) -> Result<TakenRequest, Refusal>
+        requires backed { contains self.old.part.status driver_ok ≡ true → IsSome (frame_at self.old.mem INFLATE_RING_PAGE) }
+        requires room { length self.old.part.loose ≤ length self.old.mem }
+        ensures by { BaseFinishes 0 index self.old.mem self.new.mem self.old.part self.new.part result }
+        ensures count { length self.new.mem ≡ length self.old.mem }
+    {
+        if let Some(why) = self.status_refusal() {
+            return Err(why);
+        }
+        match self.inflate.remove(index) {
+            None => Err(Refusal::NotTaken),
+            Some(request) => {
+                discard_all(&mut self.ram, &mut self.loose, request.pages());
+                self.inflate.add_used(&mut self.ram, request.head());
+                Ok(request)
+            }
+        }
+    }
+
+    /// Uses a taken chain of queue 1.
+    fn finish_deflate(&mut self, index: u32) -> Result<TakenRequest, Refusal>
+        requires backed { contains self.old.part.status driver_ok ≡ true → IsSome (frame_at self.old.mem DEFLATE_RING_PAGE) }
+        ensures by { BaseFinishes 1 index self.old.mem self.new.mem self.old.part self.new.part result }
+        ensures count { length self.new.mem ≡ length self.old.mem }
+    {
+        if let Some(why) = self.status_refusal() {
+            return Err(why);
+        }
+        match self.deflate.remove(index) {
+            None => Err(Refusal::NotTaken),
+            Some(request) => {
+                self.deflate.add_used(&mut self.ram, request.head());
+                Ok(request)
+            }
+        }
+    }
+
+    /// Uses a taken chain of queue 0 or 1, and gives the request out.
+    pub(crate) fn finish(&mut self, queue: u32, index: u32) -> Result<TakenRequest, Refusal>
+        requires backed { contains self.old.part.status driver_ok ≡ true → IsSome (frame_at self.old.mem (ring_page queue)) }
+        requires room { length self.old.part.loose ≤ length self.old.mem }
+        ensures by { BaseFinishes queue index self.old.mem self.new.mem self.old.part self.new.part result }
+        ensures count { length self.new.mem ≡ length self.old.mem }
+    {
+        match queue {
+            INFLATE_QUEUE => self.finish_inflate(index),
+            DEFLATE_QUEUE => self.finish_deflate(index),
+            _ => Err(Refusal::NoQueue),
+        }
+    }
+
+    /// Puts a frame behind a page.
+    pub(crate) fn supply(&mut self, page: u32, frame: Frame) -> Result<(), SupplyRefused>
+        ensures answers { page < length self.old.mem → frame_at self.old.mem page ≡ None → IsOk result }
+        ensures out_of_ram { length self.old.mem ≤ page → result ≡ Err (record { fault = RamFault.OutOfRam; frame = frame }) }
+        ensures already_backed { page < length self.old.mem → IsSome (frame_at self.old.mem page) → result ≡ Err (record { fault = RamFault.AlreadyBacked; frame = frame }) }
+        ensures ok { OnOk result (Supplied self.old.mem self.new.mem page frame.number) }
+        ensures err { OnErr result (self.new.mem ≡ self.old.mem) }
+        ensures part { self.new.part ≡ self.old.part }
+    {
+        self.ram.supply(page, frame)
+    }
+
+    /// The number of the frame behind a page.
+    pub(crate) fn backing(&self, page: u32) -> Option<u32>
+        ensures frame { result ≡ frame_at self.now.mem page }
+        ensures whole { IsWhole self.now.mem }
+    {
+        self.ram.backing(page)
+    }
+
+    /// Sets the target.
+    pub(crate) fn set_target(&mut self, pages: u32)
+        ensures part { self.new.part ≡ record self.old.part { target = pages } }
+        ensures mem { self.new.mem ≡ self.old.mem }
+    {
+        self.target = pages;
+    }
+
+    /// Takes the frame of one page away, if it has one; says whether it had.
+    pub(crate) fn discard(&mut self, page: u32) -> bool
+        requires attached { 0 < length self.old.mem }
+        requires room { length self.old.part.loose ≤ length self.old.mem }
+        ensures answer { result ≡ is_some (frame_at self.old.mem page) }
+        ensures mem { self.new.mem ≡ discarded (page ∷ []) self.old.mem }
+        ensures part { self.new.part ≡ record self.old.part { loose = self.old.part.loose ++ frames_behind self.old.mem (page ∷ []) } }
+    {
+        let had = self.ram.backing(page).is_some();
+        discard_all(&mut self.ram, &mut self.loose, &[page]);
+        had
+    }
+
+    /// Gives out the last loose frame.
+    pub(crate) fn hand_back(&mut self) -> Option<Frame>
+        ensures frame { HandsBack self.old.part self.new.part result }
+        ensures mem { self.new.mem ≡ self.old.mem }
+    {
+        self.loose.pop()
+    }
+}
+
+impl GuestBytes for DeviceBase {
+    ghost mem = { λ d. d.mem };
+
+    ghost part = { λ d. d.part };
+
+    fn pages(&self) -> u32 {
+        self.ram.pages()
+    }
+
+    fn read(&self, page: u32, offset: usize, out: &mut [u8]) -> Result<(), RamFault> {
+        self.ram.read(page, offset, out)
+    }
+
+    fn write(&mut self, page: u32, offset: usize, bytes: &[u8]) -> Result<(), RamFault> {
+        self.ram.write(page, offset, bytes)
+    }
+}
+
+impl Port for DeviceBase {
+    fn status(&self) -> Status {
+        self.status
+    }
+
+    fn write_status(&mut self, write: Status) -> Result<(), StatusFault> {
+        let status = write_status(self.status, self.features, write)?;
+        let starts = write.contains(Status::DRIVER_OK) && !self.status.contains(Status::DRIVER_OK);
+        self.status = status;
+        if write.is_empty() {
+            self.features = Features::empty();
+            self.actual = 0;
+            self.inflate.set_ready(false);
+            self.deflate.set_ready(false);
+        } else if starts {
+            self.inflate.set_ready(true);
+            self.deflate.set_ready(true);
+        }
+        Ok(())
+    }
+
+    fn negotiate(&mut self, wanted: Features) -> Result<(), StatusFault> {
+        self.features = negotiate(self.status, wanted)?;
+        Ok(())
+    }
+
+    fn target(&self) -> u32 {
+        self.target
+    }
+
+    fn set_actual(&mut self, pages: u32) {
+        self.actual = pages;
+    }
+}

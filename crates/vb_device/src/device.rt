@@ -1,0 +1,115 @@
+// What a host sees of a device.
+
+ghost use Rattle.std.specs.Prelude.{◌≡◌, ◌≤◌, ◌<◌, ℕ, [], true, false, None, IsSome, IsOk, OnOk, OnErr, length, replicate, count_by};
+ghost use Rattle.vb_model.specs.Guest.{is_ballooned};
+ghost use Rattle.vb_model.specs.Layout.{ring_page};
+ghost use Rattle.vb_model.specs.Limits.{is_config};
+ghost use Rattle.vb_model.specs.Status.{contains, driver_ok};
+ghost use Rattle.vb_ram.specs.Pages.{frame_at, Supplied, IsWhole};
+ghost use Rattle.vb_device.specs.Calls.{IsUnused, attached, TakesBy, FinishesBy, SweepsBy, HandsBack, Claims, PutsBack};
+
+use crate::Claimed;
+use std::alloc::{AllocError, Global};
+use vb_model::Refusal;
+use vb_ram::{Config, Frame, RamFault, SupplyRefused};
+use vb_status::Port;
+
+/// A balloon device with the memory of its guest (VIRTIO 1.1, 5.5). What a driver sees of it is its
+/// `Port`; the calls here are the host's.
+///
+/// A frame that a call takes from a page is loose in the device until `hand_back` gives it out.
+/// Only `attach` takes memory, and `claim` of a device that has frames of its own.
+pub trait Device: Port + Drop {
+    /// Gives an unused device a guest of this size: memory with no frame, and nothing initialised.
+    /// Refused for want of memory alone; then nothing is changed.
+    fn attach(&mut self, alloc: Global, config: Config) -> Result<(), AllocError>
+        requires unused { IsUnused (Self.mem self.old) (Self.part self.old) }
+        requires config { is_config config.pages config.queue_size config.processors ≡ true }
+        ensures mem { OnOk result (Self.mem self.new ≡ replicate config.pages None) }
+        ensures part { OnOk result (Self.part self.new ≡ attached config (Self.part self.old)) }
+        ensures err { OnErr result (Self.mem self.new ≡ Self.mem self.old × (Self.part self.new ≡ Self.part self.old)) };
+
+    /// Puts a frame behind a page, and fills it with zeros: what the frame held is gone.
+    ///
+    /// Refused with `OutOfRam` where there is no such page, then with `AlreadyBacked` where the
+    /// page has a frame. A refused call gives the frame back as it was, and changes nothing.
+    fn supply(&mut self, page: u32, frame: Frame) -> Result<(), SupplyRefused>
+        ensures answers { page < length (Self.mem self.old) → frame_at (Self.mem self.old) page ≡ None → IsOk result }
+        ensures out_of_ram { length (Self.mem self.old) ≤ page → result ≡ Err (record { fault = RamFault.OutOfRam; frame = frame }) }
+        ensures already_backed { page < length (Self.mem self.old) → IsSome (frame_at (Self.mem self.old) page) → result ≡ Err (record { fault = RamFault.AlreadyBacked; frame = frame }) }
+        ensures ok { OnOk result (Supplied (Self.mem self.old) (Self.mem self.new) page frame.number) }
+        ensures err { OnErr result (Self.mem self.new ≡ Self.mem self.old) }
+        ensures part { Self.part self.new ≡ Self.part self.old };
+
+    /// The number of the frame behind a page; none where the page has no frame or there is no such
+    /// page.
+    fn backing(&self, page: u32) -> Option<u32>
+        ensures frame { result ≡ frame_at (Self.mem self.now) page }
+        ensures whole { IsWhole (Self.mem self.now) };
+
+    /// Whether the device visits the pages of an inflate or a report one by one before it finishes
+    /// the request (profile).
+    fn paced(&self) -> bool
+        ensures { result ≡ (Self.part self.now).paced };
+
+    /// Whether the device has frames of its own (profile). No call changes it, and one that has
+    /// none has given none out.
+    fn keeps(&self) -> bool
+        ensures flag { result ≡ (Self.part self.now).keeps }
+        ensures none { result ≡ false → (Self.part self.now).own ≡ [] };
+
+    /// Sets how many pages the host wants in the balloon (`num_pages`).
+    fn set_target(&mut self, pages: u32)
+        ensures part { Self.part self.new ≡ record (Self.part self.old) { target = pages } }
+        ensures mem { Self.mem self.new ≡ Self.mem self.old };
+
+    /// Takes the next chain that the driver has made available on queue 0 or 1, and remembers the
+    /// pages that it names; answers its head, or none where no chain is available.
+    ///
+    /// Refused with `NoQueue`, `NotReady`, `NeedsReset`, and `Busy` where 16 chains of the queue
+    /// are taken, tested in this order; then with `Broken` where the bytes that the driver wrote
+    /// break a rule: DEVICE_NEEDS_RESET is set then. Nothing else is changed by a refusal.
+    fn take(&mut self, queue: u32) -> Result<Option<u16>, Refusal>
+        ensures { TakesBy queue (Self.mem self.old) (Self.mem self.new) (Self.part self.old) (Self.part self.new) result };
+
+    /// Uses the taken chain of this number, from 0, on a queue; answers its head. An inflate's
+    /// pages lose the frames that they still have and become ballooned, a deflate's stop being
+    /// ballooned.
+    ///
+    /// Refused with `NoQueue`, `NotReady`, `NeedsReset`, `NotTaken` where there is no such chain,
+    /// and `NotWorked` where a paced device hasn't visited all its pages, tested in this order. A
+    /// refusal changes nothing.
+    fn finish(&mut self, queue: u32, index: u32) -> Result<u16, Refusal>
+        requires backed { contains (Self.part self.old).status driver_ok ≡ true → IsSome (frame_at (Self.mem self.old) (ring_page queue)) }
+        requires room { length (Self.part self.old).loose ≤ length (Self.mem self.old) }
+        ensures { FinishesBy queue index (Self.mem self.old) (Self.mem self.new) (Self.part self.old) (Self.part self.new) result };
+
+    /// Takes the frame of a ballooned page away; answers whether it had one. Refused with
+    /// `NotReady`, `NeedsReset` and `NotBallooned`, tested in this order; a refusal changes nothing.
+    fn sweep(&mut self, page: u32) -> Result<bool, Refusal>
+        requires { length (Self.part self.old).loose ≤ length (Self.mem self.old) }
+        ensures { SweepsBy page (Self.mem self.old) (Self.mem self.new) (Self.part self.old) (Self.part self.new) result };
+
+    /// Whether the page is ballooned.
+    fn ballooned(&self, page: u32) -> bool
+        ensures { result ≡ is_ballooned (Self.part self.now).ballooned page };
+
+    /// How many pages are ballooned.
+    fn ballooned_count(&self) -> u32
+        ensures { result ≡ count_by (λ flag. flag) (Self.part self.now).ballooned };
+
+    /// Gives out the last of the loose frames; none exactly where no frame is loose.
+    fn hand_back(&mut self) -> Option<Frame>
+        ensures frame { HandsBack (Self.part self.old) (Self.part self.new) result }
+        ensures mem { Self.mem self.new ≡ Self.mem self.old };
+
+    /// Claims a frame of the device's own for a page of its guest.
+    fn claim(&mut self) -> Claimed
+        ensures frame { Claims (Self.part self.old) (Self.part self.new) result }
+        ensures mem { Self.mem self.new ≡ Self.mem self.old };
+
+    /// Takes a frame back that the device gave out of its own; any other comes back to the caller.
+    fn put_back(&mut self, frame: Frame) -> Option<Frame>
+        ensures frame { PutsBack (Self.part self.old) (Self.part self.new) frame result }
+        ensures mem { Self.mem self.new ≡ Self.mem self.old };
+}

@@ -1,0 +1,173 @@
+// The device that does all its work when it finishes a request.
+
+ghost use Rattle.std.specs.Prelude.{◌≡◌, [], true, false, length};
+ghost use Rattle.vb_device.specs.Calls.{IsUnused};
+
+use crate::base::DeviceBase;
+use crate::flags::PageFlags;
+use crate::{Claimed, Device};
+use bitflags::Flags;
+use std::alloc::{AllocError, Global};
+use std::marker::Model;
+use vb_model::Refusal;
+use vb_model::layout::INFLATE_QUEUE;
+use vb_ram::{Config, Frame, GuestBytes, RamFault, SupplyRefused};
+use vb_status::{Features, Port, Status, StatusFault};
+
+/// A balloon device that discards an inflate's pages when the request is finished, and has no
+/// frames of its own (profile).
+#[derive(Drop)]
+pub struct ImmediateDevice {
+    base: DeviceBase,
+    ballooned: PageFlags,
+}
+
+impl Model for ImmediateDevice {
+    ghost use Rattle.std.specs.Prelude.{◌≡◌, length};
+    ghost use Rattle.vb_device.specs.State.{DeviceState};
+
+    ghost Value = { DeviceState };
+
+    ghost view = { λ s. record { mem = s.base.mem; part = record s.base.part { ballooned = s.ballooned } } };
+
+    ghost invariant = { λ s. length s.ballooned ≡ length s.base.mem };
+}
+
+impl ImmediateDevice {
+    /// A device that no guest has yet.
+    pub fn new(alloc: Global) -> ImmediateDevice
+        ensures unused { IsUnused result.mem result.part }
+        ensures paced { result.part.paced ≡ false }
+        ensures keeps { result.part.keeps ≡ false }
+        ensures own { result.part.own ≡ [] }
+    {
+        ImmediateDevice {
+            base: DeviceBase::new(alloc),
+            ballooned: PageFlags::empty(alloc),
+        }
+    }
+}
+
+impl GuestBytes for ImmediateDevice {
+    ghost mem = { λ d. d.mem };
+
+    ghost part = { λ d. d.part };
+
+    fn pages(&self) -> u32 {
+        self.base.pages()
+    }
+
+    fn read(&self, page: u32, offset: usize, out: &mut [u8]) -> Result<(), RamFault> {
+        self.base.read(page, offset, out)
+    }
+
+    fn write(&mut self, page: u32, offset: usize, bytes: &[u8]) -> Result<(), RamFault> {
+        self.base.write(page, offset, bytes)
+    }
+}
+
+impl Port for ImmediateDevice {
+    fn status(&self) -> Status {
+        self.base.status()
+    }
+
+    fn write_status(&mut self, write: Status) -> Result<(), StatusFault> {
+        self.base.write_status(write)?;
+        if write.is_empty() {
+            self.ballooned.clear();
+        }
+        Ok(())
+    }
+
+    fn negotiate(&mut self, wanted: Features) -> Result<(), StatusFault> {
+        self.base.negotiate(wanted)
+    }
+
+    fn target(&self) -> u32 {
+        self.base.target()
+    }
+
+    fn set_actual(&mut self, pages: u32) {
+        self.base.set_actual(pages);
+    }
+}
+
+impl Device for ImmediateDevice {
+    fn attach(&mut self, alloc: Global, config: Config) -> Result<(), AllocError> {
+        let ballooned = PageFlags::new(alloc, config.pages)?;
+        self.base.attach(alloc, config)?;
+        self.ballooned = ballooned;
+        Ok(())
+    }
+
+    fn supply(&mut self, page: u32, frame: Frame) -> Result<(), SupplyRefused> {
+        self.base.supply(page, frame)
+    }
+
+    fn backing(&self, page: u32) -> Option<u32> {
+        self.base.backing(page)
+    }
+
+    fn paced(&self) -> bool {
+        self.base.is_plain();
+        false
+    }
+
+    fn keeps(&self) -> bool {
+        self.base.is_plain();
+        false
+    }
+
+    fn set_target(&mut self, pages: u32) {
+        self.base.set_target(pages);
+    }
+
+    fn take(&mut self, queue: u32) -> Result<Option<u16>, Refusal> {
+        self.base.take(queue)
+    }
+
+    fn finish(&mut self, queue: u32, index: u32) -> Result<u16, Refusal> {
+        match self.base.finish(queue, index) {
+            Err(why) => Err(why),
+            Ok(request) => {
+                self.ballooned
+                    .set_all(request.pages(), queue == INFLATE_QUEUE);
+                Ok(request.head())
+            }
+        }
+    }
+
+    fn sweep(&mut self, page: u32) -> Result<bool, Refusal> {
+        match self.base.status_refusal() {
+            Some(why) => Err(why),
+            None => {
+                if !self.ballooned.get(page) {
+                    return Err(Refusal::NotBallooned);
+                }
+                Ok(self.base.discard(page))
+            }
+        }
+    }
+
+    fn ballooned(&self, page: u32) -> bool {
+        self.ballooned.get(page)
+    }
+
+    fn ballooned_count(&self) -> u32 {
+        self.ballooned.count()
+    }
+
+    fn hand_back(&mut self) -> Option<Frame> {
+        self.base.hand_back()
+    }
+
+    fn claim(&mut self) -> Claimed {
+        self.base.is_plain();
+        Claimed::AskHost
+    }
+
+    fn put_back(&mut self, frame: Frame) -> Option<Frame> {
+        self.base.is_plain();
+        Some(frame)
+    }
+}

@@ -1,0 +1,15 @@
+//! Balloon devices behind one trait (VIRTIO 1.1, 5.5): what a device's guest memory, status,
+//! queues, ballooned pages and loose frames are before and after each call.
+#![tactic(auto)]
+
+mod base;
+mod claimed;
+mod device;
+mod flags;
+mod immediate;
+mod queue;
+mod request;
+
+pub use claimed::Claimed;
+pub use device::Device;
+pub use immediate::ImmediateDevice;

@@ -1,0 +1,172 @@
+// A queue of page requests: the device's end of its ring, and the requests that were taken.
+
+ghost use Rattle.std.specs.Prelude.{◌≡◌, ◌<◌, ◌≤◌, ◌+◌, [], ◌++◌, ◌∷◌, All, IfSome, IfNone, IsTrue, true, false, nat_le, length, slice_get, remove};
+ghost use Rattle.std.specs.Int.{is_power_of_two};
+ghost use Rattle.vb_ring.specs.Layout.{layout_of, IsInside, IsBacked};
+ghost use Rattle.vb_ring.specs.Ends.{IsDeviceEnd};
+ghost use Rattle.vb_ring.specs.Calls.{AddsUsedBy};
+ghost use Rattle.vb_device.specs.QueueState.{started, restarted, AreNamed, TakesNext};
+
+use crate::request::page_request;
+use arrayvec::ArrayVec;
+use std::marker::Model;
+use vb_chain::ChainFault;
+use vb_ram::GuestBytes;
+use vb_ring::Queue;
+
+/// Requests of a queue that may be taken at a time.
+const MAX_TAKEN: usize = 16;
+
+/// A request that was taken and isn't finished yet: the head of its chain, and the pages that it
+/// names, each once.
+#[derive(Drop)]
+pub(crate) struct TakenRequest {
+    head: u16,
+    pages: ArrayVec<u32, 256>,
+}
+
+impl Model for TakenRequest {
+    ghost use Rattle.vb_model.specs.Requests.{Request};
+    ghost use Rattle.vb_device.specs.QueueState.{AreNamed};
+
+    ghost Value = { Request };
+
+    ghost view = { λ r. record { head = r.head; pages = r.pages.items; visited = 0 } };
+
+    ghost invariant = { λ r. AreNamed r.pages.items };
+}
+
+impl Default for TakenRequest {
+    fn default() -> Self {
+        TakenRequest {
+            head: 0,
+            pages: ArrayVec::new(),
+        }
+    }
+}
+
+impl TakenRequest {
+    /// The head of its chain.
+    pub(crate) fn head(&self) -> u16
+        ensures { result ≡ self.now.head }
+    {
+        self.head
+    }
+
+    /// The pages that it names.
+    pub(crate) fn pages(&self) -> &[u32]
+        ensures pages { result.now ≡ self.now.pages }
+        ensures named { AreNamed result.now }
+        ensures few { length result.now ≤ 256 }
+    {
+        &self.pages
+    }
+}
+
+/// The device's end of a queue of page requests.
+#[derive(Drop)]
+pub(crate) struct RequestQueue {
+    queue: Queue,
+    taken: ArrayVec<TakenRequest, 16>,
+}
+
+impl Model for RequestQueue {
+    ghost use Rattle.std.specs.Prelude.{◌<◌, All};
+    ghost use Rattle.vb_device.specs.QueueState.{QueueState};
+
+    ghost Value = { QueueState };
+
+    ghost view = { λ q. record { ring = q.queue; taken = q.taken.items } };
+
+    ghost invariant = { λ q. All (λ r. r.head < q.queue.size) q.taken.items };
+}
+
+impl RequestQueue {
+    /// A queue whose ring is in this page, and which isn't ready.
+    pub(crate) fn new(page: u32) -> RequestQueue
+        ensures { result ≡ started false 128 (record { layout = layout_of page 128; size = 128; ready = false; next_avail = 0; next_used = 0 }) }
+    {
+        RequestQueue {
+            queue: Queue::new(page),
+            taken: ArrayVec::new(),
+        }
+    }
+
+    /// Gives the queue so many descriptors; nothing is taken, and it isn't ready.
+    pub(crate) fn set_size(&mut self, size: u16)
+        requires { IsTrue (is_power_of_two size) × (2 ≤ size) × (size ≤ 128) }
+        ensures { self.new ≡ started false size self.old.ring }
+    {
+        self.taken.clear();
+        let _sized = self.queue.set_size(size);
+        self.queue.set_ready(false);
+    }
+
+    /// Starts or stops the queue; nothing is taken.
+    pub(crate) fn set_ready(&mut self, ready: bool)
+        ensures { self.new ≡ restarted ready self.old }
+    {
+        self.taken.clear();
+        self.queue.set_ready(ready);
+    }
+
+    /// Whether as many requests are taken as may be.
+    pub(crate) fn is_full(&self) -> bool
+        ensures { result ≡ nat_le 16 (length self.now.taken) }
+    {
+        self.taken.len() >= MAX_TAKEN
+    }
+
+    /// Takes the next chain as a request: answers its head, or none where no chain is available.
+    pub(crate) fn take<G: GuestBytes>(&mut self, ram: &G) -> Result<Option<u16>, ChainFault>
+        requires inside { IsInside (G.mem ram.now) self.old.ring.layout }
+        requires ready { self.old.ring.ready ≡ true }
+        requires room { length self.old.taken < 16 }
+        ensures { TakesNext (G.mem ram.now) self.old self.new result }
+    {
+        match self.queue.pop_descriptor_chain(ram) {
+            Err(fault) => Err(fault),
+            Ok(found) => match found {
+                None => Ok(None),
+                Some(taken) => match page_request(ram, taken.chain.pieces()) {
+                    Ok(pages) => {
+                        self.taken.push(TakenRequest {
+                            head: taken.head,
+                            pages,
+                        });
+                        Ok(Some(taken.head))
+                    }
+                    Err(wrong) => {
+                        self.queue.go_to_previous_position();
+                        Err(wrong)
+                    }
+                },
+            },
+        }
+    }
+
+    /// Takes the request of this number out; those behind it close up.
+    pub(crate) fn remove(&mut self, index: u32) -> Option<TakenRequest>
+        ensures value { result ≡ slice_get self.old.taken index }
+        ensures head { IfSome result (λ r. r.head < self.old.ring.size) }
+        ensures none { IfNone result (self.new ≡ self.old) }
+        ensures rest { IfSome result (λ _. self.new ≡ record self.old { taken = remove self.old.taken index }) }
+    {
+        if index as usize >= self.taken.len() {
+            return None;
+        }
+        Some(self.taken.remove(index as usize))
+    }
+
+    /// Adds a chain to the used ring, with length 0.
+    pub(crate) fn add_used<G: GuestBytes>(&mut self, ram: &mut G, head: u16)
+        requires backed { IsBacked (G.mem ram.old) self.old.ring.layout }
+        requires ready { self.old.ring.ready ≡ true }
+        requires head { head < self.old.ring.size }
+        ensures adds { AddsUsedBy (G.mem ram.old) (G.mem ram.new) self.old.ring self.new.ring head 0 }
+        ensures taken { self.new.taken ≡ self.old.taken }
+        ensures part { G.part ram.new ≡ G.part ram.old }
+    {
+        self.queue.add_used(ram, head, 0);
+    }
+}

@@ -1,0 +1,10 @@
+pub mod StartsLemmas
+pub mod TableLemmas
+pub mod Aligned
+pub mod Sets
+pub mod TilesLemmas
+pub mod AreasLemmas
+pub mod ListsLemmas
+pub mod FreeLemmas
+pub mod HeldLemmas
+pub mod PagesLemmas

@@ -1,0 +1,73 @@
+-- Sets of pages and the blocks that lie in them.
+-- Blocks of a power of two, their halving and merging: Gorman, "Understanding the Linux Virtual Memory Manager", chapter 6.
+-- Which block a request gets is the profile's.
+use Rattle.std.specs.Prelude.{◌≡◌, ℕ, ◌+◌, ◌<◌, ◌≤◌, Bool, false, not, ◌&&◌, ◌||◌, nat_le, List, map, Option, Some, None, IsTrue, slice_index_or}
+use Rattle.std.specs.List.{range_with_len}
+use Rattle.vb_model.specs.Tests.{is_in, each_page}
+use Rattle.vb_model.specs.Limits.{reserved_pages}
+use Rattle.vb_model.specs.Pages.{Block, size, pages_of, is_aligned}
+
+-- a set of pages is a flag a page; a page that isn't there isn't in it
+abbrev pub has : List Bool → ℕ → Bool
+has set page = slice_index_or set page false
+
+-- these pages come to the set
+unfoldable pub with_pages : List ℕ → List Bool → List Bool
+with_pages pages set = each_page (λ page old. old || is_in page pages) set
+
+-- these pages leave the set
+unfoldable pub without_pages : List ℕ → List Bool → List Bool
+without_pages pages set = each_page (λ page old. old && not (is_in page pages)) set
+
+-- all of n pages but the reserved ones
+unfoldable pub unreserved : ℕ → List Bool
+unreserved n = map (λ page. nat_le reserved_pages page) (range_with_len 0 n)
+
+abbrev pub block_at : ℕ → ℕ → Block
+block_at start order = record { start = start; order = order }
+
+-- an aligned block of order 0 to 9
+abbrev pub IsBlock : Block → Type 0
+IsBlock b = (b.order ≤ 9) × IsTrue (is_aligned b)
+
+-- each of its pages is in the set
+abbrev pub LiesIn : List Bool → Block → Type 0
+LiesIn set b = (page : ℕ) → b.start ≤ page → page < b.start + size b → IsTrue (has set page)
+
+-- none of its pages is in the set
+abbrev pub LiesOutside : List Bool → Block → Type 0
+LiesOutside set b = (page : ℕ) → b.start ≤ page → page < b.start + size b → has set page ≡ false
+
+-- its pages are among those of the other
+abbrev pub LiesWithin : Block → Block → Type 0
+LiesWithin b c = (c.start ≤ b.start) × (b.start + size b ≤ c.start + size c)
+
+-- a block of the set that lies in no larger one
+pub record IsMaximal (set : List Bool) (b : Block) : Type 0 where
+  pub is_block : IsBlock b
+  pub inside : LiesIn set b
+  pub alone : (c : Block) → IsBlock c → LiesIn set c → LiesWithin b c → c.order ≤ b.order
+
+-- of the maximal blocks of the smallest sufficient order, the one with the lowest start
+pub record IsChosen (set : List Bool) (order : ℕ) (b : Block) : Type 0 where
+  pub maximal : IsMaximal set b
+  pub sufficient : order ≤ b.order
+  pub smallest : (c : Block) → IsMaximal set c → order ≤ c.order → b.order ≤ c.order
+  pub lowest : (c : Block) → IsMaximal set c → c.order ≡ b.order → b.start ≤ c.start
+
+-- no block of this order lies in the set
+abbrev pub HasNoBlock : List Bool → ℕ → Type 0
+HasNoBlock set order = (start : ℕ) → IsBlock (block_at start order) → LiesIn set (block_at start order) → ⊥
+
+-- what a request of this order takes from the set: the lowest part of the chosen block; the rest stays
+abbrev pub Takes : List Bool → ℕ → Option ℕ → List Bool → Type 0
+Takes set order None new = HasNoBlock set order × (new ≡ set)
+Takes set order (Some start) new =
+    ((larger : ℕ) × IsChosen set order (block_at start larger)) × (new ≡ without_pages (pages_of (block_at start order)) set)
+
+-- the lowest maximal block of at least this order that starts at or after a page
+pub record IsLowestFrom (set : List Bool) (order from : ℕ) (b : Block) : Type 0 where
+  pub maximal : IsMaximal set b
+  pub sufficient : order ≤ b.order
+  pub after : from ≤ b.start
+  pub lowest : (c : Block) → IsMaximal set c → order ≤ c.order → from ≤ c.start → b.start ≤ c.start

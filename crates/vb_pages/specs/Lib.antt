@@ -1,0 +1,7 @@
+pub mod Starts
+pub mod Table
+pub mod Areas
+pub mod Tiles
+pub mod FreePages
+pub mod Held
+pub mod PageState

@@ -1,0 +1,5 @@
+use Rattle.vb_ring.specs.Laws.{added_apart, claimed_single}
+use Rattle.vb_ring.proofs.laws.chains_that_are_out_stay.Goals as goal
+
+pub returns : goal.returns
+returns c = added_apart

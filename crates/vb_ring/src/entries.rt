@@ -1,0 +1,98 @@
+// The words of the two rings (VIRTIO 1.1, 2.6.6 and 2.6.8).
+
+ghost use Rattle.std.specs.Prelude.{◌≡◌, ◌+◌, ◌*◌, ◌%◌, ◌<◌, ◌≤◌, IsSome};
+ghost use Rattle.vb_ram.specs.Pages.{field, frame_at};
+ghost use Rattle.vb_ring.specs.Layout.{Fits, IsInside, IsBacked};
+ghost use Rattle.vb_ring.specs.Entries.{avail_index, avail_place, used_index, used_place, next_entry, next_id};
+ghost use Rattle.vb_ring.specs.Calls.{PutsAvail, PutsUsed};
+
+use crate::{Layout, RingBroken};
+use vb_chain::ChainFault;
+use vb_ram::{GuestBytes, read_u16, read_u32, write_u16, write_u32};
+
+/// Puts a head into the available ring, after `next` others.
+pub fn put_avail<G: GuestBytes>(ram: &mut G, layout: Layout, size: u16, next: u16, head: u16)
+    requires fits { Fits layout size }
+    requires backed { IsBacked (G.mem ram.old) layout }
+    ensures puts { PutsAvail (G.mem ram.old) (G.mem ram.new) layout size next head }
+    ensures part { G.part ram.new ≡ G.part ram.old }
+{
+    let ring = layout.avail;
+    let start = usize::from(ring.offset);
+    write_u16(
+        ram,
+        ring.page,
+        start + 4 + 2 * usize::from(next % size),
+        head,
+    );
+    write_u16(ram, ring.page, start + 2, next.wrapping_add(1));
+}
+
+/// The head that stands after the `taken` ones, if there is one.
+pub fn next_avail<G: GuestBytes>(
+    ram: &G,
+    layout: Layout,
+    size: u16,
+    taken: u16,
+) -> Result<Option<u16>, ChainFault>
+    requires fits { Fits layout size }
+    requires inside { IsInside (G.mem ram.now) layout }
+    ensures { result ≡ next_entry (G.mem ram.now) layout size taken }
+{
+    let ring = layout.avail;
+    let start = usize::from(ring.offset);
+    let ahead = read_u16(ram, ring.page, start + 2).wrapping_sub(taken);
+    if ahead == 0 {
+        Ok(None)
+    } else if ahead <= size {
+        Ok(Some(read_u16(ram, ring.page, start + 4 + 2 * usize::from(taken % size))))
+    } else {
+        Err(ChainFault::IndexJump)
+    }
+}
+
+/// Puts an element into the used ring, after `next` others.
+pub fn put_used<G: GuestBytes>(
+    ram: &mut G,
+    layout: Layout,
+    size: u16,
+    next: u16,
+    head: u16,
+    len: u32,
+)
+    requires fits { Fits layout size }
+    requires backed { IsBacked (G.mem ram.old) layout }
+    ensures puts { PutsUsed (G.mem ram.old) (G.mem ram.new) layout size next head len }
+    ensures part { G.part ram.new ≡ G.part ram.old }
+{
+    let ring = layout.used;
+    let start = usize::from(ring.offset);
+    let place = start + 4 + 8 * usize::from(next % size);
+    write_u32(ram, ring.page, place, u32::from(head));
+    write_u32(ram, ring.page, place + 4, len);
+    write_u16(ram, ring.page, start + 2, next.wrapping_add(1));
+}
+
+/// The id that stands after the `seen` ones, if there is one; at most `most` may stand there.
+pub fn next_used<G: GuestBytes>(
+    ram: &G,
+    layout: Layout,
+    size: u16,
+    seen: u16,
+    most: u16,
+) -> Result<Option<u32>, RingBroken>
+    requires fits { Fits layout size }
+    requires inside { IsInside (G.mem ram.now) layout }
+    ensures { result ≡ next_id (G.mem ram.now) layout size seen most }
+{
+    let ring = layout.used;
+    let start = usize::from(ring.offset);
+    let ahead = read_u16(ram, ring.page, start + 2).wrapping_sub(seen);
+    if ahead == 0 {
+        Ok(None)
+    } else if ahead <= most {
+        Ok(Some(read_u32(ram, ring.page, start + 4 + 8 * usize::from(seen % size))))
+    } else {
+        Err(RingBroken::IndexAhead)
+    }
+}

@@ -1,0 +1,6 @@
+//! What the contracts leave open: the text of scripts and replies, and the exit statuses.
+
+mod lines;
+mod replies;
+mod runs;
+mod scripts;
