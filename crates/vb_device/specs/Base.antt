@@ -38,7 +38,6 @@ pub record IsBase (mem : Pages) (status : ℕ) (inflate deflate : QueueState) (c
   pub inflate_none : length mem ≡ 0 → inflate.taken ≡ []
   pub deflate_none : length mem ≡ 0 → deflate.taken ≡ []
 
-
 -- An immediate device that has no frames of its own.
 pub record IsPlain (part : Part) : Type 0 where
   pub paced : part.paced ≡ false

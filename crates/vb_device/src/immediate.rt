@@ -130,7 +130,8 @@ impl Device for ImmediateDevice {
         match self.base.finish(queue, index) {
             Err(why) => Err(why),
             Ok(request) => {
-                self.ballooned.set_all(request.pages(), queue == INFLATE_QUEUE);
+                self.ballooned
+                    .set_all(request.pages(), queue == INFLATE_QUEUE);
                 Ok(request.head())
             }
         }

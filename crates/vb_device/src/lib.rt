@@ -7,9 +7,13 @@ mod claimed;
 mod device;
 mod flags;
 mod immediate;
+mod laws;
 mod queue;
 mod request;
+#[cfg(test)]
+mod tests;
 
 pub use claimed::Claimed;
 pub use device::Device;
 pub use immediate::ImmediateDevice;
+pub use laws::{a_request_names_pages_of_the_guest, a_written_request_is_read};

@@ -7,7 +7,14 @@ use Rattle.vb_device.proofs.flags.PageFlags.set.Goals as goal
 pub overflow_add-self : goal.overflow_add-self
 overflow_add-self c =
     let inside : c.args.page < length c.self.inside.flags.items = search rules in
-    omega (arith, count_set c.self.inside.flags.items c.args.page c.args.flag c.index-old.result.now inside (sym c.index-old.ensures),
-    count_has c.self.inside.flags.items c.args.page c.index-old.result.now inside (sym c.index-old.ensures),
-    count_by-le-length (λ b. b) (set c.self.inside.flags.items c.args.page c.args.flag), length-set c.self.inside.flags.items c.args.page c.args.flag,
-    c.self.invariant.0, c.self.invariant.1, c.bit.ensures, c.bit-2.ensures)
+    omega (
+      arith,
+      count_set c.self.inside.flags.items c.args.page c.args.flag c.index-old.result.now inside (sym c.index-old.ensures),
+      count_has c.self.inside.flags.items c.args.page c.index-old.result.now inside (sym c.index-old.ensures),
+      count_by-le-length (λ b. b) (set c.self.inside.flags.items c.args.page c.args.flag),
+      length-set c.self.inside.flags.items c.args.page c.args.flag,
+      c.self.invariant.0,
+      c.self.invariant.1,
+      c.bit.ensures,
+      c.bit-2.ensures,
+    )
