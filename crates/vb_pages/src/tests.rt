@@ -3,6 +3,8 @@
 ghost use Rattle.std.specs.Prelude.{◌≡◌, ◌≤◌, ◌<◌, length};
 ghost use Rattle.vb_pages.specs.FreePages.{free_count};
 
+mod walk;
+
 use crate::{FreeBlock, PageFault, Pages};
 use arrayvec::ArrayVec;
 use std::test::Fail;
