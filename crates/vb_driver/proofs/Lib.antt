@@ -9,3 +9,5 @@ pub mod Moving
 pub mod Refusing
 pub mod Failing
 pub mod Sizes
+pub mod Flags
+pub mod Allocating

@@ -1,10 +1,15 @@
 -- What the driver uses of the page areas.
 use Rattle.std.specs.Prelude.{◌≡◌, ℕ, ◌<◌, Bool, true, false, ◌==◌, ◌&&◌, List, length, map, slice_index_or, if◌then◌else◌}
-use Rattle.std.specs.List.{list_any, list_all}
+use Rattle.std.specs.List.{list_any, list_all, range_with_len}
 use Rattle.vb_model.specs.declared.places.Place.{Place}
 use Rattle.vb_model.specs.declared.places.Place.TheVariants.{Used}
 use Rattle.vb_model.specs.Tests.{is_in, each_page}
 use Rattle.vb_model.specs.Pages.{Block, covers, is_aligned, pages_of, is_free, place_of}
+use Rattle.vb_model.specs.declared.replies.Refusal.{Refusal}
+use Rattle.vb_model.specs.declared.replies.Refusal.TheVariants.{BadOrder, BadCpu, NoPages, NotHeld}
+use Rattle.vb_pages.specs.declared.PageFault.{PageFault}
+use Rattle.vb_pages.specs.declared.PageFault.TheVariants.{BadOrder as OrderTooLarge, BadCpu as NoSuchCpu, NoPages as NoFreeBlock, NotHeld as NoSuchBlock}
+use Rattle.vb_pages.specs.PageState.{PageState, page_count, cpu_count, is_free_page}
 use Rattle.vb_driver.specs.State.{DriverState, IsDriver}
 
 -- The pages that are free, by page, and the blocks that allocations hold, by rising start.
@@ -12,6 +17,21 @@ pub record AreasState : Type 0 where
   pub free : List Bool
   pub held : List Block
   pub processors : ℕ
+
+-- whether each page is free
+unfoldable pub flags_of : PageState → List Bool
+flags_of s = map (is_free_page s) (range_with_len 0 (page_count s))
+
+-- what the driver sees of the allocator
+abbrev pub areas_of : PageState → AreasState
+areas_of s = record { free = flags_of s; held = s.held; processors = cpu_count s }
+
+-- how the driver refuses what the allocator refuses
+abbrev pub refusal_of : PageFault → Refusal
+refusal_of OrderTooLarge = BadOrder
+refusal_of NoSuchCpu = BadCpu
+refusal_of NoFreeBlock = NoPages
+refusal_of NoSuchBlock = NotHeld
 
 abbrev pub is_free_at : List Bool → ℕ → Bool
 is_free_at free page = slice_index_or free page false

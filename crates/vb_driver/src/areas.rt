@@ -5,51 +5,54 @@ ghost use Rattle.std.specs.List.{list_all, list_any, range_with_len};
 ghost use Rattle.vb_model.specs.Tests.{is_in};
 ghost use Rattle.vb_model.specs.Pages.{pages_of, is_free, all_free, is_same_block};
 ghost use Rattle.vb_model.specs.Driver.{AllDistinct, with_block, without_block};
-ghost use Rattle.vb_model.specs.Limits.{max_order};
+ghost use Rattle.vb_model.specs.Limits.{max_order, reserved_pages};
 ghost use Rattle.vb_model.specs.Refusals.{◌⇒◌, first_refusal};
 ghost use Rattle.vb_model.specs.declared.replies.Refusal.TheVariants.{BadOrder, BadCpu, NoPages, NotHeld};
+ghost use Rattle.vb_pages.specs.PageState.{IsSize};
 ghost use Rattle.vb_driver.specs.Answers.{refusal_in, block_at};
-ghost use Rattle.vb_driver.specs.Areas.{AreApart, is_free_at, is_covered, flagged, is_free_block};
+ghost use Rattle.vb_driver.specs.Areas.{AreApart, is_free_at, is_covered, flagged, is_free_block, refusal_of};
 
 use arrayvec::ArrayVec;
 use std::alloc::{AllocError, Global};
 use std::marker::Model;
 use vb_model::Refusal;
+use vb_pages::{PageFault, Pages};
 
-#[derive(Clone, Copy)]
-struct HeldBlock {
-    start: u32,
-    order: u32,
-}
-
-/// The areas of a guest: which pages are free, and which blocks are held.
+/// The areas of a guest: which pages are free, and which blocks are held. A contract sees neither
+/// the buddy areas nor the lists of the processors, where a free page may stand.
 #[derive(Drop)]
 pub(crate) struct Areas {
-    free: Vec<bool>,
-    held: Vec<HeldBlock>,
-    processors: u32,
+    pages: Pages,
 }
 
 impl Model for Areas {
-    ghost use Rattle.std.specs.Prelude.{map};
-    ghost use Rattle.vb_driver.specs.Areas.{AreasState};
+    ghost use Rattle.vb_driver.specs.Areas.{AreasState, areas_of};
 
     ghost Value = { AreasState };
 
-    ghost view = { λ a. record { free = a.free.items; held = map (λ h. record { start = h.start; order = h.order }) a.held.items; processors = a.processors } };
+    ghost view = { λ a. areas_of a.pages };
 }
 
-#[tactic(none)]
+/// How the driver refuses what the allocator refuses.
+fn refusal_of(fault: PageFault) -> Refusal
+    ensures { result ≡ refusal_of fault }
+{
+    match fault {
+        PageFault::BadOrder => Refusal::BadOrder,
+        PageFault::BadCpu => Refusal::BadCpu,
+        PageFault::NoPages => Refusal::NoPages,
+        PageFault::NotHeld => Refusal::NotHeld,
+    }
+}
+
 impl Areas {
     /// The areas of a guest as it is plugged in.
     pub(crate) fn new(alloc: Global, pages: u32, processors: u32) -> Result<Self, AllocError>
-        requires { pages ≤ 16384 }
+        requires { IsSize pages processors }
         ensures { IfOk result (λ areas. areas ≡ record { free = map is_free (all_free pages); held = []; processors = processors }) }
     {
         Ok(Areas {
-            free: Vec::with_capacity(alloc, pages as usize)?,
-            held: Vec::new(alloc),
-            processors,
+            pages: Pages::new(alloc, pages, processors)?,
         })
     }
 
@@ -60,8 +63,11 @@ impl Areas {
         ensures free { IfOk result (λ start. IsTrue (is_free_block self.old.free (block_at start order))) }
         ensures state { IfOk result (λ start. self.new ≡ record self.old { free = flagged (pages_of (block_at start order)) false self.old.free; held = with_block (block_at start order) self.old.held }) }
     {
-        let _ = (cpu, order);
-        Err(Refusal::NoPages)
+        self.pages.pages_are_apart();
+        match self.pages.alloc(cpu, order) {
+            Ok(start) => Ok(start),
+            Err(fault) => Err(refusal_of(fault)),
+        }
     }
 
     /// Frees a block that an allocation holds.
@@ -71,8 +77,12 @@ impl Areas {
         ensures state { OnOk result (self.new ≡ record self.old { free = flagged (pages_of (block_at start order)) true self.old.free; held = without_block (block_at start order) self.old.held }) }
         ensures apart { AreApart self.new }
     {
-        let _ = (cpu, start, order);
-        Err(Refusal::NotHeld)
+        let freed = self.pages.free(cpu, start, order);
+        self.pages.pages_are_apart();
+        match freed {
+            Ok(()) => Ok(()),
+            Err(fault) => Err(refusal_of(fault)),
+        }
     }
 
     /// Takes single free pages, so many; the lists of all processors are drained first.
@@ -84,28 +94,34 @@ impl Areas {
         ensures distinct { AllDistinct result.items }
         ensures state { self.new ≡ record self.old { free = flagged result.items false self.old.free } }
     {
-        let _ = count;
-        ArrayVec::new()
+        self.pages.pages_are_apart();
+        let mut taken = ArrayVec::new();
+        self.pages.take_free(count, &mut taken);
+        taken
     }
 
     /// Gives a page back that was taken.
-    pub(crate) fn give_free(&mut self, page: u32)
+    fn give_free(&mut self, page: u32)
+        requires unreserved { reserved_pages ≤ page }
         requires inside { page < length self.old.free }
         requires taken { is_free_at self.old.free page ≡ false }
         requires uncovered { is_covered page self.old.held ≡ false }
         ensures { self.new ≡ record self.old { free = flagged (page ∷ []) true self.old.free } }
     {
-        let _ = page;
+        self.pages.give_free(page);
     }
 
     /// Gives these pages back, which were taken and of which none stands twice.
     pub(crate) fn give_all(&mut self, pages: &[u32])
+        requires unreserved { (page : ℕ) → is_in page pages.now ≡ true → reserved_pages ≤ page }
         requires inside { (page : ℕ) → is_in page pages.now ≡ true → page < length self.old.free }
         requires taken { (page : ℕ) → is_in page pages.now ≡ true → is_free_at self.old.free page ≡ false }
         requires uncovered { (page : ℕ) → is_in page pages.now ≡ true → is_covered page self.old.held ≡ false }
         requires once { (page : ℕ) → count_by (λ p. p == page) pages.now ≤ 1 }
         ensures { self.new ≡ record self.old { free = flagged pages.now true self.old.free } }
     {
-        let _ = pages;
+        for page in pages {
+            self.give_free(*page);
+        }
     }
 }

@@ -1,7 +1,47 @@
+use Rattle.std.proofs.Common.{◌≡◌, ◌∙◌, sym, subst, ap, ℕ, true, false, Ok, Err, IfOk, OnErr, IsTrue, Result, nat_le, nat_lt, length, not, ◌∷◌, []}
+use Rattle.std.specs.List.{list_any, range_with_len}
+use Rattle.vb_model.specs.Pages.{pages_of}
+use Rattle.vb_model.specs.Driver.{with_block}
+use Rattle.vb_model.specs.Refusals.{first_refusal, ◌⇒◌}
+use Rattle.vb_model.specs.declared.replies.Refusal.{Refusal}
+use Rattle.vb_model.specs.declared.replies.Refusal.TheVariants.{BadOrder, BadCpu, NoPages}
+use Rattle.vb_pages.specs.PageState.{PageState}
+use Rattle.vb_driver.specs.Answers.{refusal_in, block_at}
+use Rattle.vb_driver.specs.Areas.{AreasState, areas_of, is_free_block, flagged}
+use Rattle.vb_driver.proofs.Allocating.{answered, IsServed, alloc_refusal, alloc_refused, alloc_free, alloc_state}
+use Rattle.vb_driver.proofs.areas.Areas.alloc.Goals.{in-Ok, in-Err}
 use Rattle.vb_driver.proofs.areas.Areas.alloc.Goals as goal
 
-pub returns-clause-refusal : goal.returns-clause-refusal
-returns-clause-refusal c = ?
-
-pub returns-clause-refused : goal.returns-clause-refused
-returns-clause-refused c = ?
+pub returns : goal.returns
+returns c =
+    let s : PageState = c.self.inside.pages in
+    let new : PageState = c.alloc.new.self in
+    let n = c.args.order in
+    let cpu = c.args.cpu in
+    let is : c.match-alloc.result ≡ answered c.alloc.result = elim c.match-alloc.branch [
+      | in-Ok w ↦ w.result-is ∙ sym (ap answered w.in-Ok.is)
+      | in-Err w ↦ w.result-is ∙ (ap Err w.refusal_of.ensures ∙ sym (ap answered w.in-Err.is))
+    ] in
+    let served : IsServed s new cpu n c.alloc.result = record {
+      apart = c.pages_are_apart.ensures;
+      bad_order = c.alloc.ensures.bad_order;
+      bad_cpu = c.alloc.ensures.bad_cpu;
+      never = c.alloc.ensures.never;
+      unchanged = c.alloc.ensures.unchanged;
+      allocates = c.alloc.ensures.allocates;
+      was_free = c.alloc.ensures.was_free;
+      held = c.alloc.ensures.held;
+      left = c.alloc.ensures.left;
+      none = c.alloc.ensures.none;
+      same = c.alloc.ensures.same;
+    } in
+    record {
+      refusal = subst (λ (v : AreasState). refusal_in c.match-alloc.result ≡ first_refusal ((nat_lt 9 n ⇒ BadOrder) ∷ (nat_le v.processors cpu ⇒ BadCpu) ∷ (not (list_any (λ start. is_free_block v.free (block_at start n)) (range_with_len 0 (length v.free))) ⇒ NoPages) ∷ [])) c.self.view_is
+          (ap refusal_in is ∙ alloc_refusal s new cpu n c.alloc.result served);
+      refused = subst (λ (v : AreasState). OnErr c.match-alloc.result (areas_of new ≡ v)) c.self.view_is
+          (subst (λ (r : Result ℕ Refusal). OnErr r (areas_of new ≡ areas_of s)) (sym is) (alloc_refused s new cpu n c.alloc.result served));
+      free = subst (λ (v : AreasState). IfOk c.match-alloc.result (λ start. IsTrue (is_free_block v.free (block_at start n)))) c.self.view_is
+          (subst (λ (r : Result ℕ Refusal). IfOk r (λ start. IsTrue (is_free_block (areas_of s).free (block_at start n)))) (sym is) (alloc_free s new cpu n c.alloc.result served));
+      state = subst (λ (v : AreasState). IfOk c.match-alloc.result (λ start. areas_of new ≡ record v { free = flagged (pages_of (block_at start n)) false v.free; held = with_block (block_at start n) v.held })) c.self.view_is
+          (subst (λ (r : Result ℕ Refusal). IfOk r (λ start. areas_of new ≡ record (areas_of s) { free = flagged (pages_of (block_at start n)) false (areas_of s).free; held = with_block (block_at start n) (areas_of s).held })) (sym is) (alloc_state s new cpu n c.alloc.result served));
+    }

@@ -1,4 +1,20 @@
+use Rattle.std.proofs.Common.{◌≡◌, ◌<◌, sym, subst, ap, ◌∷◌, [], true, false, length}
+use Rattle.vb_pages.specs.PageState.{PageState}
+use Rattle.vb_driver.specs.Areas.{AreasState, areas_of, is_free_at, is_covered, flagged}
+use Rattle.vb_driver.proofs.Allocating.{given_room, given_state}
 use Rattle.vb_driver.proofs.areas.Areas.give_free.Goals as goal
 
+pub give_free-requires : goal.give_free-requires
+give_free-requires c =
+    let s : PageState = c.self.inside.pages in
+    given_room s c.args.page c.requires.unreserved
+    (subst (λ (v : AreasState). c.args.page < length v.free) (sym c.self.view_is) c.requires.inside)
+    (subst (λ (v : AreasState). is_free_at v.free c.args.page ≡ false) (sym c.self.view_is) c.requires.taken)
+    (subst (λ (v : AreasState). is_covered c.args.page v.held ≡ false) (sym c.self.view_is) c.requires.uncovered)
+
 pub returns : goal.returns
-returns c = ?
+returns c =
+    let s : PageState = c.self.inside.pages in
+    let new : PageState = c.give_free.new.self in
+    subst (λ (v : AreasState). areas_of new ≡ record v { free = flagged (c.args.page ∷ []) true v.free }) c.self.view_is
+    (given_state s new c.args.page c.give_free.ensures.given c.give_free.ensures.gained)

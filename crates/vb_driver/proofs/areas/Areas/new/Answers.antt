@@ -1,10 +1,11 @@
+use Rattle.std.proofs.Common.{◌≡◌, ◌∙◌, ap}
+use Rattle.std.proofs.lemmas.List.{length-replicate}
+use Rattle.vb_pages.specs.PageState.{PageState, fresh}
+use Rattle.vb_driver.specs.Areas.{AreasState, areas_of}
+use Rattle.vb_driver.proofs.Flags.{fresh_flags, same_areas}
 use Rattle.vb_driver.proofs.areas.Areas.new.Goals as goal
 
-pub overflow_cast-pages : goal.overflow_cast-pages
-overflow_cast-pages c = ?
-
-pub returns-in_err-with_capacity : goal.returns-in_err-with_capacity
-returns-in_err-with_capacity c = ?
-
 pub returns : goal.returns
-returns c = ?
+returns c =
+    let s : PageState = fresh c.args.pages c.args.processors in
+    ap areas_of c.in_ok-new.ensures ∙ same_areas (areas_of s) _ (fresh_flags c.args.pages c.args.processors) Rattle.std.proofs.Common.refl (length-replicate c.args.processors _)

@@ -1,0 +1,237 @@
+-- Which pages the allocator has free, as a flag a page.
+use Rattle.std.proofs.Common.{◌≡◌, ◌≢◌, ◌∙◌, sym, ap, subst, arith, refl, ℕ, zero, suc, ◌+◌, ◌^◌, ◌<◌, ◌≤◌, Bool, true, false, cond, eqb, not, ◌||◌, ◌&&◌, ◌⊎◌, List, [], ◌∷◌, ◌++◌, length, take, drop, get_or, set, map, count_by, inl, inr, IsTrue, Option, Some, None, nat_le, nat_lt, if◌then◌else◌, replicate, eq-eqb}
+use Rattle.std.specs.List.{list_any, list_all, range_with_len}
+use Rattle.std.proofs.lemmas.Bool.{cases_Bool, cases_lt, cases_eq, and_parts, and_from, or_parts, both_ways, false_from_ne_true, not-true, ne_eqb, leb-true, ltb-true, ltb-false, le-leb, lt-leb}
+use Rattle.std.proofs.lemmas.Nat.{pow_pos}
+use Rattle.std.proofs.lemmas.List.{same_lists, get_or_past, length-set, length-map, get_or-map, take_more}
+use Rattle.std.proofs.lemmas.List.Sums.{sum_by-take-le}
+use Rattle.std.proofs.lemmas.List.Folds.{list_any_at, list_any_none}
+use Rattle.std.proofs.lemmas.List.FromFn.{get_or-map-range_with_len, length-map-range_with_len, get_or-range_with_len, length-range_with_len}
+use Rattle.vb_model.specs.Tests.{is_in, one_if, each_page}
+use Rattle.vb_model.specs.declared.places.Place.TheVariants.{Reserved, Free}
+use Rattle.vb_model.specs.Pages.{Block, covers, pages_of, is_aligned, is_free, all_free}
+use Rattle.vb_model.specs.Driver.{AllDistinct}
+use Rattle.vb_model.proofs.Tables.{each_page-get, length-each_from, count_by-cons, count_by-append}
+use Rattle.vb_model.proofs.PageSteps.{covers_is, is_in-range}
+use Rattle.vb_pages.specs.Areas.{has, with_pages, unreserved}
+use Rattle.vb_pages.specs.FreePages.{FreePages, in_lists, drained, times_free, is_free as is_free_in, list_of, with_list, spilled, given_back, Tries, Serves, free_count}
+use Rattle.vb_pages.specs.PageState.{PageState, page_count, cpu_count, is_free_page, is_unreserved, IsApart, fresh}
+use Rattle.vb_pages.proofs.Sets.{length-with_pages}
+use Rattle.vb_pages.proofs.AreasLemmas.{length-unreserved, has-unreserved}
+use Rattle.vb_pages.proofs.ListsLemmas.{one_if_true}
+use Rattle.vb_pages.proofs.FreeLemmas.{flat-replicate}
+use Rattle.vb_driver.specs.Answers.{block_at}
+use Rattle.vb_driver.specs.Areas.{AreasState, flags_of, areas_of, is_free_at, is_free_block, flagged}
+use Rattle.vb_driver.proofs.Naming.{times_in, some_in, zero_out}
+use Rattle.vb_driver.proofs.Placing.{first_place, is_in-push}
+
+-- ---- a page's flag
+
+pub length_flags : (s : PageState) → length (flags_of s) ≡ page_count s
+unfolding flags_of
+length_flags s = length-map-range_with_len (is_free_page s) 0 (page_count s)
+
+pub flag_at : (s : PageState) (p : ℕ) (d : Bool) → p < page_count s → get_or (flags_of s) p d ≡ is_free_page s p
+unfolding flags_of
+flag_at s p d lt = get_or-map-range_with_len (is_free_page s) 0 (page_count s) p p d lt (omega arith)
+
+-- a page with a flag is free
+pub flag_free : (s : PageState) (p : ℕ) → is_free_at (flags_of s) p ≡ true → is_free_page s p ≡ true
+flag_free s p h = elim (cases_lt p (page_count s)) [
+  | inl lt ↦ sym (flag_at s p false lt) ∙ h
+  | inr past ↦ (let wrong : false ≡ true = sym (get_or_past (flags_of s) p false (omega (arith, length_flags s))) ∙ h in cc)
+]
+
+some_times : (s : PageState) (p : ℕ) → is_free_page s p ≡ true → 1 ≤ times_free s.free p
+some_times s p h = at (has s.free.areas p) refl
+  where
+    at : (b : Bool) → has s.free.areas p ≡ b → 1 ≤ times_free s.free p
+    at true e = (let one : one_if (has s.free.areas p) ≡ 1 = ap one_if e in omega arith)
+    at false e = omega (arith, some_in p (in_lists s.free) (ap (λ v. v || is_in p (in_lists s.free)) (sym e) ∙ h))
+
+-- a free page is there, and isn't reserved
+pub free_inside : (s : PageState) (p : ℕ) → IsApart s → is_free_page s p ≡ true → p < page_count s
+free_inside s p apart h =
+    let some : 1 ≤ one_if (is_unreserved s p) = omega (arith, apart p, some_times s p h) in
+    ltb-true p (page_count s) (and_parts (nat_le 16 p) (nat_lt p (page_count s)) (one_if_true (is_unreserved s p) some)).1
+
+pub free_flag : (s : PageState) (p : ℕ) → IsApart s → is_free_page s p ≡ true → is_free_at (flags_of s) p ≡ true
+free_flag s p apart h = flag_at s p false (free_inside s p apart h) ∙ h
+
+-- a page in a held block isn't free
+pub held_unfree : (s : PageState) (p : ℕ) → IsApart s → list_any (covers p) s.held ≡ true → is_free_at (flags_of s) p ≡ false
+held_unfree s p apart covered =
+    false_from_ne_true (is_free_at (flags_of s) p) (λ h.
+    let free : 1 ≤ times_free s.free p = some_times s p (flag_free s p h) in
+    let held : 1 ≤ count_by (covers p) s.held = some_covers s.held covered in
+    omega (arith, apart p, one_most (is_unreserved s p)))
+  where
+    one_most : (b : Bool) → one_if b ≤ 1
+    one_most true = omega arith
+    one_most false = omega arith
+
+    step : (b : Bool) (rest : Bool) (n : ℕ) → (b || rest) ≡ true → (rest ≡ true → 1 ≤ n) → 1 ≤ one_if b + n
+    step true rest n h k = omega arith
+    step false rest n h k = omega (arith, k h)
+
+    some_covers : (held : List Block) → list_any (covers p) held ≡ true → 1 ≤ count_by (covers p) held
+    some_covers [] h = cc
+    some_covers (b ∷ held) h = omega (arith, count_by-cons (covers p) b held, step (covers p b) (list_any (covers p) held) (count_by (covers p) held) h (some_covers held))
+
+-- ---- flags that change
+
+pub same_areas : (a b : AreasState) → a.free ≡ b.free → a.held ≡ b.held → a.processors ≡ b.processors → a ≡ b
+same_areas a b f h p = ap (λ (x : List Bool). made x a.held a.processors) f ∙ (ap (λ (x : List Block). made b.free x a.processors) h ∙ ap (λ (x : ℕ). made b.free b.held x) p)
+  where
+    made : List Bool → List Block → ℕ → AreasState
+    made free held processors = record { free = free; held = held; processors = processors }
+
+pub flagged_at : (pages : List ℕ) (flag : Bool) (free : List Bool) (p : ℕ) → p < length free → is_free_at (flagged pages flag free) p ≡ cond (is_in p pages) flag (is_free_at free p)
+flagged_at pages flag free p lt = each_page-get (λ page old. if is_in page pages then flag else old) free p false (λ far. absurd (omega arith))
+
+pub length-flagged : (pages : List ℕ) (flag : Bool) (free : List Bool) → length (flagged pages flag free) ≡ length free
+length-flagged pages flag free = length-each_from 0 (λ page old. if is_in page pages then flag else old) free
+
+pub flags_moved : (s new : PageState) (pages : List ℕ) (flag : Bool) → page_count new ≡ page_count s
+    → ((p : ℕ) → is_free_page new p ≡ cond (is_in p pages) flag (is_free_page s p)) → flags_of new ≡ flagged pages flag (flags_of s)
+flags_moved s new pages flag size agree =
+    same_lists (flags_of new) (flagged pages flag (flags_of s)) (length_flags new ∙ (size ∙ sym (length-flagged pages flag (flags_of s) ∙ length_flags s))) (λ k d near.
+    let here : k < page_count new = omega (arith, length_flags new) in
+    let there : k < page_count s = omega (arith, size) in
+    flag_at new k d here
+    ∙ (agree k
+    ∙ sym (each_page-get (λ page old. if is_in page pages then flag else old) (flags_of s) k d (λ far. absurd (omega (arith, length_flags s)))
+    ∙ ap (λ (v : Bool). cond (is_in k pages) flag v) (flag_at s k d there))))
+
+pub flags_same : (s new : PageState) → page_count new ≡ page_count s → ((p : ℕ) → is_free_page new p ≡ is_free_page s p) → flags_of new ≡ flags_of s
+flags_same s new size agree =
+    same_lists (flags_of new) (flags_of s) (length_flags new ∙ (size ∙ sym (length_flags s))) (λ k d near.
+    let here : k < page_count new = omega (arith, length_flags new) in
+    flag_at new k d here ∙ (agree k ∙ sym (flag_at s k d (omega (arith, size)))))
+
+pub left_by : (p : ℕ) (b : Block) (old : Bool) → (old && not (covers p b)) ≡ cond (is_in p (pages_of b)) false old
+left_by p b old = at (is_in p (pages_of b)) refl old
+  where
+    at : (v : Bool) → is_in p (pages_of b) ≡ v → (old : Bool) → (old && not (covers p b)) ≡ cond (is_in p (pages_of b)) false old
+    at true e true = ap not (covers_is p b true e) ∙ sym (ap (λ v. cond v false true) e)
+    at true e false = sym (ap (λ v. cond v false false) e)
+    at false e true = ap not (covers_is p b false e) ∙ sym (ap (λ v. cond v false true) e)
+    at false e false = sym (ap (λ v. cond v false false) e)
+
+pub gained_by : (p : ℕ) (b : Block) (old : Bool) → (old || covers p b) ≡ cond (is_in p (pages_of b)) true old
+gained_by p b old = at (is_in p (pages_of b)) refl old
+  where
+    at : (v : Bool) → is_in p (pages_of b) ≡ v → (old : Bool) → (old || covers p b) ≡ cond (is_in p (pages_of b)) true old
+    at true e true = sym (ap (λ v. cond v true true) e)
+    at true e false = covers_is p b true e ∙ sym (ap (λ v. cond v true false) e)
+    at false e true = sym (ap (λ v. cond v true true) e)
+    at false e false = covers_is p b false e ∙ sym (ap (λ v. cond v true false) e)
+
+-- what these pages left behind, where each stands once
+pub taken_by : (p : ℕ) (pages : List ℕ) (new old : Bool) → one_if new + times_in p pages ≡ one_if old → new ≡ cond (is_in p pages) false old
+taken_by p pages new old sum = at (is_in p pages) refl new old sum
+  where
+    at : (v : Bool) → is_in p pages ≡ v → (new old : Bool) → one_if new + times_in p pages ≡ one_if old → new ≡ cond (is_in p pages) false old
+    at true e true true s = absurd (omega (arith, some_in p pages e))
+    at true e true false s = absurd (omega arith)
+    at true e false old s = sym (ap (λ v. cond v false old) e)
+    at false e true true s = sym (ap (λ v. cond v false true) e)
+    at false e true false s = absurd (omega arith)
+    at false e false true s = absurd (omega (arith, zero_out p pages e))
+    at false e false false s = sym (ap (λ v. cond v false false) e)
+
+-- ---- as many processors, and pages, as before
+
+drained_cpus : (f : FreePages) → length (drained f).lists ≡ length f.lists
+drained_cpus f = length-map f.lists (λ (list : List ℕ). [])
+
+tries_cpus : (f new : FreePages) (cpu order : ℕ) (got : Option ℕ) → Tries f cpu order got new → length new.lists ≡ length f.lists
+tries_cpus f new cpu zero got h = ap length h.2 ∙ length-set f.lists cpu h.0
+tries_cpus f new cpu (suc order) got h = ap length h.1
+
+pub serves_cpus : (f new : FreePages) (cpu order start : ℕ) → Serves f cpu order (Some start) new → length new.lists ≡ length f.lists
+serves_cpus f new cpu order start h =
+    elim h [
+      | inl now ↦ tries_cpus f new cpu order (Some start) now
+      | inr later ↦ tries_cpus (drained f) new cpu order (Some start) later.1 ∙ drained_cpus f
+    ]
+
+pub record SameSizes (f new : FreePages) : Type 0 where
+  pub pages : length new.areas ≡ length f.areas
+  pub cpus : length new.lists ≡ length f.lists
+
+pub drained_sizes : (f : FreePages) → SameSizes f (drained f)
+drained_sizes f = record { pages = length-with_pages (in_lists f) f.areas; cpus = drained_cpus f }
+
+pub given_sizes : (f : FreePages) (cpu start order : ℕ) → SameSizes f (given_back cpu start order f)
+given_sizes f cpu start (suc order) = record { pages = length-with_pages (pages_of (block_at start (suc order))) f.areas; cpus = refl }
+given_sizes f cpu start zero =
+    let longer = with_list cpu (list_of f cpu ++ start ∷ []) f in
+    at (eqb (length (list_of longer cpu)) 16) longer refl (length-set f.lists cpu (list_of f cpu ++ start ∷ []))
+  where
+    at : (v : Bool) (g : FreePages) → g.areas ≡ f.areas → length g.lists ≡ length f.lists
+        → SameSizes f (cond v (record { areas = with_pages (take 8 (list_of g cpu)) g.areas; lists = set g.lists cpu (drop 8 (list_of g cpu)) }) g)
+    at true g areas lists = record {
+      pages = length-with_pages (take 8 (list_of g cpu)) g.areas ∙ ap length areas;
+      cpus = length-set g.lists cpu (drop 8 (list_of g cpu)) ∙ lists;
+    }
+    at false g areas lists = record { pages = ap length areas; cpus = lists }
+
+-- ---- a guest as it is plugged in
+
+or_false : (v : Bool) → (v || false) ≡ v
+or_false true = refl
+or_false false = refl
+
+turned : (v : Bool) (k : ℕ) → nat_lt k 16 ≡ v → nat_le 16 k ≡ is_free (cond v Reserved Free)
+turned true k e = lt-leb 16 k (ltb-true k 16 e)
+turned false k e = le-leb 16 k (ltb-false k 16 e)
+
+free_first : (pages cpus k : ℕ) → k < pages → is_free_page (fresh pages cpus) k ≡ is_free (first_place k)
+free_first pages cpus k lt =
+    ap (λ (l : List ℕ). has (unreserved pages) k || is_in k l) (flat-replicate cpus)
+    ∙ (or_false (has (unreserved pages) k) ∙ (has-unreserved pages k lt ∙ turned (nat_lt k 16) k refl))
+
+pub fresh_flags : (pages cpus : ℕ) → flags_of (fresh pages cpus) ≡ map is_free (all_free pages)
+fresh_flags pages cpus =
+    let s = fresh pages cpus in
+    let size : page_count s ≡ pages = length-unreserved pages in
+    let all : length (all_free pages) ≡ pages = length-map-range_with_len first_place 0 pages in
+    same_lists (flags_of s) (map is_free (all_free pages)) (length_flags s ∙ (size ∙ sym (length-map (all_free pages) is_free ∙ all))) (λ k d near.
+    let here : k < pages = omega (arith, length_flags s) in
+    flag_at s k d (omega arith)
+    ∙ (free_first pages cpus k here
+    ∙ sym (get_or-map is_free (all_free pages) k Reserved d (omega arith) ∙ ap is_free (get_or-map-range_with_len first_place 0 pages k k Reserved here (omega arith)))))
+
+-- ---- pages that come back one by one
+
+pub flagged_none : (flag : Bool) (free : List Bool) → flagged [] flag free ≡ free
+flagged_none flag free = same_lists (flagged [] flag free) free (length-flagged [] flag free) (λ k d near.
+  each_page-get (λ page old. if is_in page [] then flag else old) free k d (λ far. absurd (omega (arith, length-flagged [] flag free))))
+
+twice : (a b flag old : Bool) → cond (a || (b || false)) flag old ≡ cond (b || false) flag (cond a flag old)
+twice true true flag old = refl
+twice true false flag old = refl
+twice false b flag old = refl
+
+pub flagged_more : (xs : List ℕ) (x : ℕ) (flag : Bool) (free : List Bool) → flagged (xs ++ x ∷ []) flag free ≡ flagged (x ∷ []) flag (flagged xs flag free)
+flagged_more xs x flag free =
+    let before = flagged xs flag free in
+    let all = flagged (xs ++ x ∷ []) flag free in
+    let size : length before ≡ length free = length-flagged xs flag free in
+    same_lists all (flagged (x ∷ []) flag before) (length-flagged (xs ++ x ∷ []) flag free ∙ sym (length-flagged (x ∷ []) flag before ∙ size)) (λ k d near.
+    let inside : k < length free = omega (arith, length-flagged (xs ++ x ∷ []) flag free) in
+    each_page-get (λ page old. if is_in page (xs ++ x ∷ []) then flag else old) free k d (λ far. absurd (omega arith))
+    ∙ (ap (λ v. cond v flag (get_or free k d)) (is_in-push k xs x)
+    ∙ (twice (is_in k xs) (eqb x k) flag (get_or free k d)
+    ∙ sym (each_page-get (λ page old. if is_in page (x ∷ []) then flag else old) before k d (λ far. absurd (omega arith))
+    ∙ ap (λ v. cond (eqb x k || false) flag v) (each_page-get (λ page old. if is_in page xs then flag else old) free k d (λ far. absurd (omega arith)))))))
+
+-- a page that stands once isn't among those before it
+pub not_before : (pages : List ℕ) (i : ℕ) → i < length pages → times_in (get_or pages i 0) pages ≤ 1 → is_in (get_or pages i 0) (take i pages) ≡ false
+not_before pages i lt once =
+    let x = get_or pages i 0 in
+    false_from_ne_true (is_in x (take i pages)) (λ h.
+    let more : times_in x (take (i + 1) pages) ≡ times_in x (take i pages ++ x ∷ []) = ap (times_in x) (take_more pages i 0 lt) in
+    let one : times_in x (x ∷ []) ≡ 1 = count_by-cons (λ q. eqb q x) x [] ∙ ap (λ v. one_if v + 0) (eq-eqb x x refl) in
+    omega (arith, some_in x (take i pages) h, count_by-append (λ q. eqb q x) (take i pages) (x ∷ []), sum_by-take-le (λ q. cond (eqb q x) 1 0) pages (i + 1)))
