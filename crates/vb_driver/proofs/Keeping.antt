@@ -7,6 +7,7 @@ use Rattle.vb_model.specs.Pages.{place_of, placed, is_free, is_used, is_giving, 
 use Rattle.vb_model.specs.declared.places.Place.{Place}
 use Rattle.vb_model.specs.declared.places.Place.TheVariants.{Reserved, Free, Used, Giving, Lent, Taking, Stranded, Reporting}
 use Rattle.vb_model.proofs.Tables.{each_page-get, length-each_from}
+use Rattle.vb_driver.specs.Places.{is_at}
 use Rattle.vb_driver.specs.State.{Side, DriverState, AreRequests, IsQueue, IsDriver, naming}
 use Rattle.vb_driver.specs.Areas.{AreasState, IsKept, is_covered, flagged}
 use Rattle.vb_driver.proofs.Placing.{length-placed, placed-get}
@@ -59,20 +60,23 @@ free_same places pages to agree =
 
 -- ---- the whole
 
-pub record Moves (d : DriverState) (areas areas2 : AreasState) (pages : List ℕ) (to : Place) (i2 e2 : Side) : Type 0 where
+-- pages that move to a place, as blocks come to be held, or no more
+pub record Changes (d : DriverState) (areas areas2 : AreasState) (pages : List ℕ) (to : Place) (held2 : List Block) (i2 e2 : Side) : Type 0 where
   pub kept : IsKept d areas
   pub there : (p : ℕ) → is_in p pages ≡ true → p < length d.places
-  pub unused : (p : ℕ) → is_in p pages ≡ true → is_used (place_of d.places p) ≡ false
+  pub unreserved : (p : ℕ) → is_in p pages ≡ true → is_at Reserved (place_of d.places p) ≡ false
   pub inflate : IsQueue i2 0 d.queue_size
   pub deflate : IsQueue e2 1 d.queue_size
   pub giving : (p : ℕ) → naming p i2.sent ≤ one_if (is_giving (cond (is_in p pages) to (place_of d.places p)))
   pub taking : (p : ℕ) → naming p e2.sent ≤ one_if (is_taking (cond (is_in p pages) to (place_of d.places p)))
   pub free : areas2.free ≡ map is_free (placed pages to d.places)
+  pub processors : areas2.processors ≡ areas.processors
   pub proper : is_reporting to ≡ false
+  pub used : (p : ℕ) → is_covered p held2 ≡ true → cond (is_in p pages) to (place_of d.places p) ≡ Used
 
-pub kept_moved : (d : DriverState) (areas areas2 : AreasState) (pages : List ℕ) (to : Place) (i2 e2 : Side) → Moves d areas areas2 pages to i2 e2
-    → IsKept (record d { places = placed pages to d.places; inflate = i2; deflate = e2 }) areas2
-kept_moved d areas areas2 pages to i2 e2 m =
+pub kept_changed : (d : DriverState) (areas areas2 : AreasState) (pages : List ℕ) (to : Place) (held2 : List Block) (i2 e2 : Side) → Changes d areas areas2 pages to held2 i2 e2
+    → IsKept (record d { places = placed pages to d.places; held = held2; inflate = i2; deflate = e2 }) areas2
+kept_changed d areas areas2 pages to held2 i2 e2 m =
     let place : (p : ℕ) → place_of (placed pages to d.places) p ≡ cond (is_in p pages) to (place_of d.places p) = λ p. place_placed pages to d.places p (m.there p) in
     record {
       driver = record {
@@ -87,13 +91,50 @@ kept_moved d areas areas2 pages to i2 e2 m =
         unreported = λ p. ap is_reporting (place p) ∙ proper_at p (is_in p pages) refl (m.kept.driver.unreported p);
       };
       free = m.free;
-      used = λ p covered. place p ∙ used_at p (is_in p pages) refl (m.kept.used p covered);
+      used = λ p covered. place p ∙ m.used p covered;
+      reserved = λ p low. place p ∙ reserved_at p (is_in p pages) refl (m.kept.reserved p low);
+      processors = m.processors ∙ m.kept.processors;
     }
+  where
+    proper_at : (p : ℕ) (b : Bool) → is_in p pages ≡ b → is_reporting (place_of d.places p) ≡ false → is_reporting (cond (is_in p pages) to (place_of d.places p)) ≡ false
+    proper_at p true e old = ap (λ v. is_reporting (cond v to (place_of d.places p))) e ∙ m.proper
+    proper_at p false e old = ap (λ v. is_reporting (cond v to (place_of d.places p))) e ∙ old
+
+    reserved_at : (p : ℕ) (b : Bool) → is_in p pages ≡ b → place_of d.places p ≡ Reserved → cond (is_in p pages) to (place_of d.places p) ≡ Reserved
+    reserved_at p true e is = (let wrong : true ≡ false = sym (ap (is_at Reserved) is) ∙ m.unreserved p e in cc)
+    reserved_at p false e is = ap (λ v. cond v to (place_of d.places p)) e ∙ is
+
+-- pages that are in no held block, and move
+pub record Moves (d : DriverState) (areas areas2 : AreasState) (pages : List ℕ) (to : Place) (i2 e2 : Side) : Type 0 where
+  pub kept : IsKept d areas
+  pub there : (p : ℕ) → is_in p pages ≡ true → p < length d.places
+  pub unreserved : (p : ℕ) → is_in p pages ≡ true → is_at Reserved (place_of d.places p) ≡ false
+  pub unused : (p : ℕ) → is_in p pages ≡ true → is_used (place_of d.places p) ≡ false
+  pub inflate : IsQueue i2 0 d.queue_size
+  pub deflate : IsQueue e2 1 d.queue_size
+  pub giving : (p : ℕ) → naming p i2.sent ≤ one_if (is_giving (cond (is_in p pages) to (place_of d.places p)))
+  pub taking : (p : ℕ) → naming p e2.sent ≤ one_if (is_taking (cond (is_in p pages) to (place_of d.places p)))
+  pub free : areas2.free ≡ map is_free (placed pages to d.places)
+  pub processors : areas2.processors ≡ areas.processors
+  pub proper : is_reporting to ≡ false
+
+pub kept_moved : (d : DriverState) (areas areas2 : AreasState) (pages : List ℕ) (to : Place) (i2 e2 : Side) → Moves d areas areas2 pages to i2 e2
+    → IsKept (record d { places = placed pages to d.places; inflate = i2; deflate = e2 }) areas2
+kept_moved d areas areas2 pages to i2 e2 m =
+    kept_changed d areas areas2 pages to d.held i2 e2 (record {
+      kept = m.kept;
+      there = m.there;
+      unreserved = m.unreserved;
+      inflate = m.inflate;
+      deflate = m.deflate;
+      giving = m.giving;
+      taking = m.taking;
+      free = m.free;
+      processors = m.processors;
+      proper = m.proper;
+      used = λ p covered. used_at p (is_in p pages) refl (m.kept.used p covered);
+    })
   where
     used_at : (p : ℕ) (b : Bool) → is_in p pages ≡ b → place_of d.places p ≡ Used → cond (is_in p pages) to (place_of d.places p) ≡ Used
     used_at p true e is = (let wrong : true ≡ false = sym (ap is_used is) ∙ m.unused p e in cc)
     used_at p false e is = ap (λ v. cond v to (place_of d.places p)) e ∙ is
-
-    proper_at : (p : ℕ) (b : Bool) → is_in p pages ≡ b → is_reporting (place_of d.places p) ≡ false → is_reporting (cond (is_in p pages) to (place_of d.places p)) ≡ false
-    proper_at p true e old = ap (λ v. is_reporting (cond v to (place_of d.places p))) e ∙ m.proper
-    proper_at p false e old = ap (λ v. is_reporting (cond v to (place_of d.places p))) e ∙ old

@@ -11,3 +11,4 @@ pub mod Failing
 pub mod Sizes
 pub mod Flags
 pub mod Allocating
+pub mod Owning

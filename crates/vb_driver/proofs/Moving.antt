@@ -1,6 +1,6 @@
 -- The pages that each call moves.
 use Rattle.std.proofs.Common.{◌≡◌, ◌≢◌, ◌∙◌, sym, ap, subst, arith, refl, ℕ, zero, suc, replicate, ◌+◌, ◌-◌, ◌<◌, ◌≤◌, Bool, true, false, cond, eqb, ◌||◌, ◌&&◌, ◌⊎◌, List, [], ◌∷◌, ◌++◌, length, take, get_or, set, map, count_by, inl, inr, Some, Ok, IsTrue}
-use Rattle.std.proofs.lemmas.Bool.{cases_Bool, cases_lt}
+use Rattle.std.proofs.lemmas.Bool.{cases_Bool, cases_lt, lt-ltb}
 use Rattle.std.proofs.lemmas.List.{length-take, length-map, get_or-map, get_or_past}
 use Rattle.std.specs.List.{list_all}
 use Rattle.std.proofs.lemmas.List.Sums.{sum_by-cons, count_by-le-length}
@@ -202,6 +202,7 @@ asked_kept m1 m2 d areas e2 base count head kept posts =
     kept_moved d areas areas pages Taking d.inflate e2 (record {
       kept = kept;
       there = λ p here. there_by d.places p is_lent refl (lowest_is d.places count is_lent p here);
+      unreserved = λ p here. ap (is_at Reserved) (lent p here);
       unused = λ p here. ap is_used (lent p here);
       inflate = kept.driver.inflate;
       deflate = posted_queue m1 m2 d.deflate e2 base 1 d.queue_size head pages kept.driver.deflate posts;
@@ -209,6 +210,7 @@ asked_kept m1 m2 d areas e2 base count head kept posts =
       taking = λ p. subst (λ (l : List (List ℕ)). naming p l ≤ one_if (is_taking (cond (is_in p pages) Taking (place_of d.places p)))) (sym sent)
           (naming_more p head pages d.deflate.sent is_taking Taking (place_of d.places p) small (kept.driver.taking p) (λ here. ap is_taking (lent p here)) (once_lowest p count is_lent d.places) refl);
       free = kept.free ∙ free_same d.places pages Taking (λ p place is. same_free p place is (is_in p pages) refl lent);
+      processors = refl;
       proper = refl;
     })
   where
@@ -240,10 +242,10 @@ idle_test place test b s f (idle_stranded e) = ap test e ∙ s
 idle_test place test b s f (idle_free e) = ap test e ∙ f
 
 pub offered_kept : (m1 m2 : Pages) (d : DriverState) (areas areas2 : AreasState) (i2 : Side) (base count head : ℕ) (others : List ℕ) → IsKept d areas
-    → list_all (λ page. is_free (place_of d.places page)) others ≡ true → ((p : ℕ) → times_in p others ≤ 1) → areas2.free ≡ flagged others false areas.free
+    → list_all (λ page. is_free (place_of d.places page)) others ≡ true → ((p : ℕ) → times_in p others ≤ 1) → areas2.free ≡ flagged others false areas.free → areas2.processors ≡ areas.processors
     → Posts m1 m2 d.inflate i2 base (stranded_first d count ++ others) head
     → IsKept (record d { places = placed (stranded_first d count ++ others) Giving d.places; inflate = i2 }) areas2
-offered_kept m1 m2 d areas areas2 i2 base count head others kept free once taken posts =
+offered_kept m1 m2 d areas areas2 i2 base count head others kept free once taken processors posts =
     let first = stranded_first d count in
     let pages = first ++ others in
     let idle : (p : ℕ) → is_in p pages ≡ true → Idle (place_of d.places p) = λ p here. elim (is_in-append p first others here) [
@@ -256,6 +258,7 @@ offered_kept m1 m2 d areas areas2 i2 base count head others kept free once taken
     kept_moved d areas areas2 pages Giving i2 d.deflate (record {
       kept = kept;
       there = λ p here. there_by d.places p (λ v. is_stranded v || is_free v) refl (idle_test (place_of d.places p) (λ v. is_stranded v || is_free v) true refl refl (idle p here));
+      unreserved = λ p here. idle_test (place_of d.places p) (is_at Reserved) false refl refl (idle p here);
       unused = λ p here. idle_test (place_of d.places p) is_used false refl refl (idle p here);
       inflate = posted_queue m1 m2 d.inflate i2 base 0 d.queue_size head pages kept.driver.inflate posts;
       deflate = kept.driver.deflate;
@@ -263,6 +266,7 @@ offered_kept m1 m2 d areas areas2 i2 base count head others kept free once taken
           (naming_more p head pages d.inflate.sent is_giving Giving (place_of d.places p) small (kept.driver.giving p) (λ here. idle_test (place_of d.places p) is_giving false refl refl (idle p here)) (once_all p) refl);
       taking = λ p. naming_same p pages d.deflate.sent is_taking Giving (place_of d.places p) (kept.driver.taking p) (λ here. idle_test (place_of d.places p) is_taking false refl refl (idle p here));
       free = taken ∙ (ap (flagged others false) kept.free ∙ free_flagged d.places pages others Giving false (λ p place is. agree p place is (is_in p others) (is_in p first) refl refl));
+      processors = processors;
       proper = refl;
     })
   where
@@ -296,12 +300,14 @@ lent_kept d areas head lt kept =
     kept_moved d areas areas pages Lent (after_reap d.inflate head) d.deflate (record {
       kept = kept;
       there = λ p here. there_by d.places p is_giving refl (giving p here);
+      unreserved = λ p here. ap (is_at Reserved) (giving_is (place_of d.places p) (giving p here));
       unused = λ p here. ap is_used (giving_is (place_of d.places p) (giving p here));
       inflate = reaped_queue d.inflate 0 d.queue_size head kept.driver.inflate;
       deflate = kept.driver.deflate;
       giving = λ p. naming_less p head d.inflate.sent is_giving Lent (place_of d.places p) small (kept.driver.giving p);
       taking = λ p. naming_same p pages d.deflate.sent is_taking Lent (place_of d.places p) (kept.driver.taking p) (λ here. ap is_taking (giving_is (place_of d.places p) (giving p here)));
       free = kept.free ∙ free_same d.places pages Lent (λ p place is. same_free p place is (is_in p pages) refl giving);
+      processors = refl;
       proper = refl;
     })
   where
@@ -310,21 +316,23 @@ lent_kept d areas head lt kept =
     same_free p place is true e giving = ap is_free (is ∙ giving_is (place_of d.places p) (giving p e)) ∙ sym (ap (λ v. is_free (cond v Lent place)) e)
     same_free p place is false e giving = sym (ap (λ v. is_free (cond v Lent place)) e)
 
-pub freed_kept : (d : DriverState) (areas areas2 : AreasState) (head : ℕ) → head < 16 → IsKept d areas → areas2.free ≡ flagged (sent_by d.deflate head) true areas.free
+pub freed_kept : (d : DriverState) (areas areas2 : AreasState) (head : ℕ) → head < 16 → IsKept d areas → areas2.free ≡ flagged (sent_by d.deflate head) true areas.free → areas2.processors ≡ areas.processors
     → IsKept (record d { places = placed (sent_by d.deflate head) Free d.places; deflate = after_reap d.deflate head }) areas2
-freed_kept d areas areas2 head lt kept given =
+freed_kept d areas areas2 head lt kept given processors =
     let pages = sent_by d.deflate head in
     let small : head < length d.deflate.sent = omega (arith, kept.driver.deflate.requests.buffers) in
     let taking : (p : ℕ) → is_in p pages ≡ true → is_taking (place_of d.places p) ≡ true = λ p here. named_place p head d.deflate.sent is_taking (place_of d.places p) small (kept.driver.taking p) here in
     kept_moved d areas areas2 pages Free d.inflate (after_reap d.deflate head) (record {
       kept = kept;
       there = λ p here. there_by d.places p is_taking refl (taking p here);
+      unreserved = λ p here. ap (is_at Reserved) (taking_is (place_of d.places p) (taking p here));
       unused = λ p here. ap is_used (taking_is (place_of d.places p) (taking p here));
       inflate = kept.driver.inflate;
       deflate = reaped_queue d.deflate 1 d.queue_size head kept.driver.deflate;
       giving = λ p. naming_same p pages d.inflate.sent is_giving Free (place_of d.places p) (kept.driver.giving p) (λ here. ap is_giving (taking_is (place_of d.places p) (taking p here)));
       taking = λ p. naming_less p head d.deflate.sent is_taking Free (place_of d.places p) small (kept.driver.taking p);
       free = given ∙ (ap (flagged pages true) kept.free ∙ free_flagged d.places pages pages Free true (λ p place is. agree place (is_in p pages)));
+      processors = processors;
       proper = refl;
     })
   where
@@ -357,7 +365,7 @@ others_there d count len free is len_is there =
 pub first_few : (d : DriverState) (count : ℕ) → length (stranded_first d count) ≤ count
 first_few d count = omega (arith, length-take count (pages_where is_stranded d.places))
 
-list_all_same : (f h : ℕ → Bool) (xs : List ℕ) → ((p : ℕ) → f p ≡ h p) → list_all f xs ≡ list_all h xs
+pub list_all_same : (f h : ℕ → Bool) (xs : List ℕ) → ((p : ℕ) → f p ≡ h p) → list_all f xs ≡ list_all h xs
 list_all_same f h [] same = refl
 list_all_same f h (x ∷ xs) same = ap (λ v. v && list_all f xs) (same x) ∙ ap (λ v. h x && v) (list_all_same f h xs same)
 
@@ -403,6 +411,12 @@ pub freed_inside : (d : DriverState) (areas : AreasState) (p : ℕ) → IsKept d
 freed_inside d areas p kept is =
     let inside : p < length d.places = there_by d.places p is_taking refl (ap is_taking is) in
     (omega (arith, ap length kept.free, length-map d.places is_free), inside)
+
+pub freed_unreserved : (d : DriverState) (areas : AreasState) (p : ℕ) → IsKept d areas → place_of d.places p ≡ Taking → 16 ≤ p
+freed_unreserved d areas p kept is = elim (cases_lt p 16) [
+  | inl low ↦ (let wrong : true ≡ false = sym (ap is_taking is) ∙ ap is_taking (kept.reserved p low) in cc)
+  | inr far ↦ far
+]
 
 -- ---- a reset
 
@@ -460,6 +474,8 @@ reset_kept d areas features kept =
       };
       free = kept.free ∙ sym (free_all_after d.places kept.driver.unreported);
       used = λ p covered. place_of-reset d.places p ∙ ap place_after_reset (kept.used p covered);
+      reserved = λ p low. place_of-reset d.places p ∙ ap place_after_reset (kept.reserved p low);
+      processors = kept.processors;
     }
 
 -- ---- a driver as it is made
@@ -474,9 +490,15 @@ reported_never n p = elim (cases_lt p n) [
   | inr past ↦ ap is_reporting (get_or_past (all_free n) p Reserved (omega (arith, length-map-range_with_len first_place 0 n)))
 ]
 
-pub fresh_kept : (pages size processors f : ℕ) (areas : AreasState) → 64 ≤ pages → pages ≤ 16384 → IsSize size → areas.free ≡ map is_free (all_free pages)
+reserved_first : (n p : ℕ) → p < 16 → place_of (all_free n) p ≡ Reserved
+reserved_first n p low = elim (cases_lt p n) [
+  | inl lt ↦ get_or-map-range_with_len first_place 0 n p p Reserved lt (omega arith) ∙ ap (λ (b : Bool). cond b Reserved Free) (lt-ltb p 16 low)
+  | inr past ↦ get_or_past (all_free n) p Reserved (omega (arith, length-map-range_with_len first_place 0 n))
+]
+
+pub fresh_kept : (pages size processors f : ℕ) (areas : AreasState) → 64 ≤ pages → pages ≤ 16384 → IsSize size → areas.free ≡ map is_free (all_free pages) → areas.processors ≡ processors
     → IsKept (record (fresh_driver pages size processors) { features = f }) areas
-fresh_kept pages size processors f areas least most sized free =
+fresh_kept pages size processors f areas least most sized free cpus =
     record {
       driver = record {
         table = length-map-range_with_len first_place 0 pages;
@@ -491,4 +513,6 @@ fresh_kept pages size processors f areas least most sized free =
       };
       free = free;
       used = λ p covered. (let wrong : false ≡ true = covered in cc);
+      reserved = reserved_first pages;
+      processors = cpus;
     }

@@ -53,6 +53,22 @@ placed_more xs x place ps lt =
 pub placed_none : (place : Place) (ps : List Place) → placed [] place ps ≡ ps
 placed_none place ps = same_lists (placed [] place ps) ps (length-placed [] place ps) (λ k d near. placed-get [] place ps k d (omega (arith, length-placed [] place ps)))
 
+-- a block's pages, up to the next
+pub range_push : (start k : ℕ) → range_with_len start (suc k) ≡ range_with_len start k ++ (start + k) ∷ []
+range_push start zero = ap (λ (n : ℕ). n ∷ []) (omega arith)
+range_push start (suc k) =
+    let tail : range_with_len (start + 1) (suc k) ≡ range_with_len (start + 1) k ++ (start + suc k) ∷ [] = range_push (start + 1) k ∙ ap (λ (n : ℕ). range_with_len (start + 1) k ++ n ∷ []) (omega arith) in
+    ap (λ (l : List ℕ). start ∷ l) tail
+
+pub placed_next : (start page : ℕ) (place : Place) (ps : List Place) → start ≤ page → page < length ps
+    → set (placed (range_with_len start (page - start)) place ps) page place ≡ placed (range_with_len start (page + 1 - start)) place ps
+placed_next start page place ps from lt =
+    let k = page - start in
+    let here : start + k ≡ page = omega arith in
+    let next : suc k ≡ page + 1 - start = omega arith in
+    sym (placed_more (range_with_len start k) page place ps lt)
+    ∙ ap (λ (l : List ℕ). placed l place ps) (ap (λ (n : ℕ). range_with_len start k ++ n ∷ []) (sym here) ∙ (sym (range_push start k) ∙ ap (λ (n : ℕ). range_with_len start n) next))
+
 -- ---- each page to a place of its own
 
 -- the first i entries have changed

@@ -2,7 +2,8 @@
 use Rattle.std.specs.Prelude.{◌≡◌, ℕ, ◌<◌, Bool, true, false, ◌==◌, ◌&&◌, List, length, map, slice_index_or, if◌then◌else◌}
 use Rattle.std.specs.List.{list_any, list_all, range_with_len}
 use Rattle.vb_model.specs.declared.places.Place.{Place}
-use Rattle.vb_model.specs.declared.places.Place.TheVariants.{Used}
+use Rattle.vb_model.specs.declared.places.Place.TheVariants.{Reserved, Used}
+use Rattle.vb_model.specs.Limits.{reserved_pages}
 use Rattle.vb_model.specs.Tests.{is_in, each_page}
 use Rattle.vb_model.specs.Pages.{Block, covers, is_aligned, pages_of, is_free, place_of}
 use Rattle.vb_model.specs.declared.replies.Refusal.{Refusal}
@@ -51,8 +52,10 @@ is_covered page held = list_any (covers page) held
 pub record AreApart (areas : AreasState) : Type 0 where
   pub apart : (page : ℕ) → is_covered page areas.held ≡ true → is_free_at areas.free page ≡ false
 
--- The areas are those of the driver: they have just the free pages, and the held blocks have used pages alone.
+-- The areas are those of the driver: they have just the free pages and as many processors, the held blocks have used pages alone, and the first pages are reserved.
 pub record IsKept (d : DriverState) (areas : AreasState) : Type 0 where
   pub driver : IsDriver d
   pub free : areas.free ≡ map is_free d.places
   pub used : (page : ℕ) → is_covered page d.held ≡ true → place_of d.places page ≡ Used
+  pub reserved : (page : ℕ) → page < reserved_pages → place_of d.places page ≡ Reserved
+  pub processors : areas.processors ≡ d.processors

@@ -100,25 +100,31 @@ impl Driver {
     ///
     /// Refused for `BadOrder` (over 9), `BadCpu` (no such processor), `NoPages` (no block of the
     /// order is wholly free); then nothing is changed.
-    #[tactic(none)]
     pub fn alloc(&mut self, cpu: u32, order: u32) -> Result<u32, Refusal>
         ensures { AllocatesBy self.old self.new cpu order result }
     {
-        let start = self.areas.alloc(cpu, order)?;
-        self.places.set_block(start, order, Place::Used);
-        Ok(start)
+        match self.areas.alloc(cpu, order) {
+            Ok(start) => {
+                self.places.set_block(start, order, Place::Used);
+                Ok(start)
+            }
+            Err(refusal) => Err(refusal),
+        }
     }
 
     /// Frees a block that an allocation holds.
     ///
     /// Refused for `BadOrder`, `BadCpu`, `NotHeld` (no allocation of just this block is held); then
     /// nothing is changed.
-    #[tactic(none)]
     pub fn free(&mut self, cpu: u32, start: u32, order: u32) -> Result<(), Refusal>
         ensures { FreesBy self.old self.new cpu start order result }
     {
-        self.areas.free(cpu, start, order)?;
-        self.places.set_block(start, order, Place::Free);
-        Ok(())
+        match self.areas.free(cpu, start, order) {
+            Ok(()) => {
+                self.places.set_block(start, order, Place::Free);
+                Ok(())
+            }
+            Err(refusal) => Err(refusal),
+        }
     }
 }

@@ -47,6 +47,15 @@ fn number_of(place: Place) -> usize
     }
 }
 
+/// How many pages a block of the order has.
+fn size_of(order: u32) -> u32
+    requires { order ≤ 9 }
+    ensures size { result ≡ 2 ^ order }
+    ensures small { result ≤ 512 }
+{
+    1 << order
+}
+
 impl PlaceTable {
     /// The place of a page; one that isn't there counts as reserved.
     pub(crate) fn place(&self, page: u32) -> Place
@@ -102,8 +111,8 @@ impl PlaceTable {
         requires inside { start + 2 ^ order ≤ length self.old }
         ensures { self.new ≡ placed (pages_of (record { start = start; order = order })) place self.old }
     {
-        let size = 1 << order;
-        for page in start..start + size {
+        let _places = &self.places;
+        for page in start..start + size_of(order) {
             self.set(page, place);
         }
     }

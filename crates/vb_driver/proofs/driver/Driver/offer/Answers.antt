@@ -40,7 +40,7 @@ invariant_of-self g c =
     let placed_is : c.set_all.new.self ≡ placed (stranded_first d c.args.count ++ others) Giving d.places = c.set_all.ensures ∙ ap (λ (l : List ℕ). placed l Giving d.places) (c.deref-2.ensures.0 ∙ items) in
     let posts : Posts m1 m2 d.inflate c.post-head.new.self 4 (stranded_first d c.args.count ++ others) c.post-head.result = subst (λ (l : List ℕ). Posts m1 m2 d.inflate c.post-head.new.self 4 l c.post-head.result) items c.post-head.ensures.posts in
     let free = others_free d c.self.inside.areas.free others c.self.invariant.free c.take_free-others.ensures.free in
-    let kept = offered_kept m1 m2 d c.self.inside.areas c.take_free-others.new.self c.post-head.new.self 4 c.args.count c.post-head.result others c.self.invariant free (λ p. once_distinct p others c.take_free-others.ensures.distinct) (ap (λ (a : AreasState). a.free) c.take_free-others.ensures.state) posts in
+    let kept = offered_kept m1 m2 d c.self.inside.areas c.take_free-others.new.self c.post-head.new.self 4 c.args.count c.post-head.result others c.self.invariant free (λ p. once_distinct p others c.take_free-others.ensures.distinct) (ap (λ (a : AreasState). a.free) c.take_free-others.ensures.state) (ap (λ (a : AreasState). a.processors) c.take_free-others.ensures.state) posts in
     let held : c.take_free-others.new.self.held ≡ d.held = ap (λ (a : AreasState). a.held) c.take_free-others.ensures.state in
     subst (λ (ps : List Place). IsKept (record d { places = ps; held = c.take_free-others.new.self.held; inflate = c.post-head.new.self }) c.take_free-others.new.self) (sym placed_is)
     (subst (λ (hs : List Rattle.vb_model.specs.Pages.Block). IsKept (record d { places = placed (stranded_first d c.args.count ++ others) Giving d.places; held = hs; inflate = c.post-head.new.self }) c.take_free-others.new.self) (sym held) kept)

@@ -7,8 +7,16 @@ use Rattle.vb_driver.specs.State.{Side, DriverState, sent_by}
 use Rattle.vb_driver.specs.Areas.{AreasState, IsKept}
 use Rattle.vb_driver.specs.contracts.driver.Driver.{the_view}
 use Rattle.vb_driver.proofs.Naming.{times_in}
-use Rattle.vb_driver.proofs.Moving.{lent_inside, lent_kept, freed_taking, freed_once, freed_uncovered, freed_unfree, freed_inside, freed_kept}
+use Rattle.vb_driver.proofs.Moving.{lent_inside, lent_kept, freed_taking, freed_once, freed_uncovered, freed_unfree, freed_inside, freed_unreserved, freed_kept}
 use Rattle.vb_driver.proofs.driver.Driver.reap_freed.Goals as goal
+
+pub give_all-requires-clause-unreserved : goal.give_all-requires-clause-unreserved
+give_all-requires-clause-unreserved g c p here =
+    let d = the_view c.self.inside in
+    let head = c.in-Ok-Some.used.0 in
+    let next = rw c.in-Ok-Some.field-0-is at c.in-Ok-Some.ensures.next in
+    let items : c.deref.result.now ≡ sent_by d.deflate head = c.deref.ensures.0 ∙ next.2 in
+    freed_unreserved d c.self.inside.areas p c.self.invariant (freed_taking d c.self.inside.areas head p next.1 c.self.invariant (ap (is_in p) (sym items) ∙ here))
 
 pub give_all-requires-clause-inside : goal.give_all-requires-clause-inside
 give_all-requires-clause-inside g c p here =
@@ -63,4 +71,4 @@ invariant_of-self-2 g c =
     subst (λ (v : List Place). IsKept (record d { places = v; held = c.give_all.new.self.held; deflate = c.take_used.new.self }) c.give_all.new.self) (sym moved)
     (subst (λ (v : List Block). IsKept (record d { places = placed (sent_by d.deflate head) Free d.places; held = v; deflate = c.take_used.new.self }) c.give_all.new.self) (sym held)
     (subst (λ (v : Side). IsKept (record d { places = placed (sent_by d.deflate head) Free d.places; deflate = v }) c.give_all.new.self) (sym next.3)
-    (freed_kept d areas c.give_all.new.self head next.1 c.self.invariant free)))
+    (freed_kept d areas c.give_all.new.self head next.1 c.self.invariant free (ap (λ (v : AreasState). v.processors) c.give_all.ensures))))

@@ -1,0 +1,173 @@
+-- The pages of the guest's own: blocks that are allocated and freed.
+use Rattle.std.proofs.Common.{◌≡◌, ◌∙◌, sym, ap, subst, arith, refl, ℕ, zero, suc, ◌+◌, ◌-◌, ◌^◌, ◌<◌, ◌≤◌, Bool, true, false, cond, eqb, not, ◌||◌, ◌&&◌, ◌⊎◌, List, [], ◌∷◌, length, map, inl, inr, IsTrue, Option, Some, None, Result, Ok, Err, nat_le, nat_lt}
+use Rattle.std.specs.List.{list_any, list_all, range_with_len}
+use Rattle.std.proofs.lemmas.Bool.{cases_Bool, cases_lt, and_parts, or_cases, or_left, or_right, both_ways, eqb-true, ltb-false, leb-true, ltb-true}
+use Rattle.std.proofs.lemmas.Nat.{pow_pos}
+use Rattle.std.proofs.lemmas.List.{length-map, get_or_past}
+use Rattle.vb_model.specs.Tests.{is_in, one_if}
+use Rattle.vb_model.specs.Pages.{Block, size, covers, pages_of, is_aligned, is_same_block, is_wholly_free, place_of, placed, is_free, is_used, is_giving, is_taking}
+use Rattle.vb_model.specs.Driver.{with_block, without_block}
+use Rattle.vb_model.specs.Refusals.{first_refusal, ◌⇒◌}
+use Rattle.vb_model.specs.declared.places.Place.{Place}
+use Rattle.vb_model.specs.declared.places.Place.TheVariants.{Reserved, Free, Used}
+use Rattle.vb_model.specs.declared.replies.Refusal.{Refusal}
+use Rattle.vb_model.proofs.Tables.{list_all-at}
+use Rattle.vb_model.proofs.PageSteps.{covers_is, is_in-range}
+use Rattle.vb_pages.proofs.Sets.{in_block, block_bounds}
+use Rattle.vb_driver.specs.Places.{is_at}
+use Rattle.vb_driver.specs.State.{Side, DriverState, naming}
+use Rattle.vb_driver.specs.Answers.{block_at}
+use Rattle.vb_driver.specs.Areas.{AreasState, AreApart, IsKept, is_free_at, is_covered, is_free_block, flagged}
+use Rattle.vb_driver.proofs.Naming.{naming_same}
+use Rattle.vb_driver.proofs.Keeping.{Changes, kept_changed, there_by, free_flagged}
+use Rattle.vb_driver.proofs.Flags.{flagged_at}
+use Rattle.vb_driver.proofs.Moving.{free_is_place, free_is, list_all_same}
+
+-- ---- free blocks
+
+list_any_same : {A : Type 0} (f h : A → Bool) (xs : List A) → ((x : A) → f x ≡ h x) → list_any f xs ≡ list_any h xs
+list_any_same f h [] same = refl
+list_any_same f h (x ∷ xs) same = ap (λ (v : Bool). v || list_any f xs) (same x) ∙ ap (λ (v : Bool). h x || v) (list_any_same f h xs same)
+
+pub whole_is : (places : List Place) (free : List Bool) (b : Block) → free ≡ map is_free places → is_free_block free b ≡ is_wholly_free places b
+whole_is places free b is = ap (λ (v : Bool). is_aligned b && v) (list_all_same (is_free_at free) (λ page. is_free (place_of places page)) (pages_of b) (λ p. free_is_place places free p is))
+
+-- a block of the areas is one of the driver
+pub blocks_same : (d : DriverState) (areas : AreasState) (order : ℕ) → IsKept d areas
+    → list_any (λ start. is_free_block areas.free (block_at start order)) (range_with_len 0 (length areas.free)) ≡ list_any (λ start. is_wholly_free d.places (block_at start order)) (range_with_len 0 d.pages)
+blocks_same d areas order kept =
+    ap (λ (n : ℕ). list_any (λ start. is_free_block areas.free (block_at start order)) (range_with_len 0 n)) (ap length kept.free ∙ (length-map d.places is_free ∙ kept.driver.table))
+    ∙ list_any_same (λ start. is_free_block areas.free (block_at start order)) (λ start. is_wholly_free d.places (block_at start order)) (range_with_len 0 d.pages) (λ start. whole_is d.places areas.free (block_at start order) kept.free)
+
+-- an answer that isn't refused passes the first test
+pub first_passes : {T : Type 0} (result : Result T Refusal) (first second third : Bool) (a b c : Refusal) (x : T) → result ≡ Ok x
+    → Rattle.vb_driver.specs.Answers.refusal_in result ≡ first_refusal ((first ⇒ a) ∷ (second ⇒ b) ∷ (third ⇒ c) ∷ []) → first ≡ false
+first_passes result true second third a b c x is e = (let wrong : None ≡ Some a = sym (ap Rattle.vb_driver.specs.Answers.refusal_in is) ∙ e in cc)
+first_passes result false second third a b c x is e = refl
+
+-- a block whose last page is there lies within
+block_inside : (n : ℕ) (b : Block) → ((p : ℕ) → is_in p (pages_of b) ≡ true → p < n) → b.start + 2 ^ b.order ≤ n
+block_inside n b there =
+    let some = pow_pos b.order in
+    let last = b.start + (2 ^ b.order - 1) in
+    let here : last < n = there last (in_block b.start b.order last (omega arith) (omega arith)) in
+    omega arith
+
+-- ---- blocks that are held
+
+swap : (x y z : Bool) → (x || (y || z)) ≡ (y || (x || z))
+swap true true z = refl
+swap true false z = refl
+swap false true z = refl
+swap false false z = refl
+
+pub covered_with : (p : ℕ) (b : Block) (held : List Block) → is_covered p (with_block b held) ≡ (covers p b || is_covered p held)
+covered_with p b [] = refl
+covered_with p b (h ∷ held) = at (nat_lt b.start h.start) (covered_with p b held)
+  where
+    at : (v : Bool) → is_covered p (with_block b held) ≡ (covers p b || is_covered p held) → is_covered p (cond v (b ∷ h ∷ held) (h ∷ with_block b held)) ≡ (covers p b || (covers p h || is_covered p held))
+    at true ih = refl
+    at false ih = ap (λ (v : Bool). covers p h || v) ih ∙ swap (covers p h) (covers p b) (is_covered p held)
+
+pub covered_without : (p : ℕ) (b : Block) (held : List Block) → is_covered p (without_block b held) ≡ true → is_covered p held ≡ true
+covered_without p b [] covered = covered
+covered_without p b (x ∷ held) covered = at (is_same_block x b) covered (covered_without p b held)
+  where
+    at : (v : Bool) → is_covered p (cond v held (x ∷ without_block b held)) ≡ true → (is_covered p (without_block b held) ≡ true → is_covered p held ≡ true) → (covers p x || is_covered p held) ≡ true
+    at true h ih = or_right (covers p x) (is_covered p held) h
+    at false h ih = elim (or_cases (covers p x) (is_covered p (without_block b held)) h) [
+      | inl here ↦ or_left (covers p x) (is_covered p held) here
+      | inr later ↦ or_right (covers p x) (is_covered p held) (ih later)
+    ]
+
+pub covered_held : (p : ℕ) (b : Block) (held : List Block) → list_any (λ h. is_same_block h b) held ≡ true → covers p b ≡ true → is_covered p held ≡ true
+covered_held p b [] found covered = found
+covered_held p b (x ∷ held) found covered =
+    elim (or_cases (is_same_block x b) (list_any (λ h. is_same_block h b) held) found) [
+      | inl same ↦
+          let parts = and_parts (eqb x.start b.start) (eqb x.order b.order) same in
+          let start : x.start ≡ b.start = eqb-true x.start b.start parts.0 in
+          let order : x.order ≡ b.order = eqb-true x.order b.order parts.1 in
+          or_left (covers p x) (is_covered p held) (ap (λ (n : ℕ). covers p (block_at n x.order)) start ∙ (ap (λ (n : ℕ). covers p (block_at b.start n)) order ∙ covered))
+      | inr later ↦ or_right (covers p x) (is_covered p held) (covered_held p b held later covered)
+    ]
+
+-- ---- a block is allocated
+
+-- each page of a free block is free
+block_free : (d : DriverState) (areas : AreasState) (b : Block) (p : ℕ) → IsKept d areas → is_free_block areas.free b ≡ true → is_in p (pages_of b) ≡ true → place_of d.places p ≡ Free
+block_free d areas b p kept whole here =
+    let all = (and_parts (is_aligned b) (list_all (is_free_at areas.free) (pages_of b)) whole).1 in
+    free_is (place_of d.places p) (sym (free_is_place d.places areas.free p kept.free) ∙ list_all-at (is_free_at areas.free) (pages_of b) p all here)
+
+pub free_block_inside : (d : DriverState) (areas : AreasState) (b : Block) → IsKept d areas → is_free_block areas.free b ≡ true → b.start + 2 ^ b.order ≤ length d.places
+free_block_inside d areas b kept whole = block_inside (length d.places) b (λ p here. there_by d.places p is_free refl (ap is_free (block_free d areas b p kept whole here)))
+
+pub allocated_kept : (d : DriverState) (areas areas2 : AreasState) (b : Block) → IsKept d areas → is_free_block areas.free b ≡ true
+    → areas2.free ≡ flagged (pages_of b) false areas.free → areas2.processors ≡ areas.processors
+    → IsKept (record d { places = placed (pages_of b) Used d.places; held = with_block b d.held }) areas2
+allocated_kept d areas areas2 b kept whole taken processors =
+    let pages = pages_of b in
+    let free : (p : ℕ) → is_in p pages ≡ true → place_of d.places p ≡ Free = λ p here. block_free d areas b p kept whole here in
+    kept_changed d areas areas2 pages Used (with_block b d.held) d.inflate d.deflate (record {
+      kept = kept;
+      there = λ p here. there_by d.places p is_free refl (ap is_free (free p here));
+      unreserved = λ p here. ap (is_at Reserved) (free p here);
+      inflate = kept.driver.inflate;
+      deflate = kept.driver.deflate;
+      giving = λ p. naming_same p pages d.inflate.sent is_giving Used (place_of d.places p) (kept.driver.giving p) (λ here. ap is_giving (free p here));
+      taking = λ p. naming_same p pages d.deflate.sent is_taking Used (place_of d.places p) (kept.driver.taking p) (λ here. ap is_taking (free p here));
+      free = taken ∙ (ap (flagged pages false) kept.free ∙ free_flagged d.places pages pages Used false (λ p place is. agree place (is_in p pages)));
+      processors = processors;
+      proper = refl;
+      used = λ p covered. used_at p (is_in p pages) refl (sym (covered_with p b d.held) ∙ covered);
+    })
+  where
+    agree : (place : Place) (v : Bool) → cond v false (is_free place) ≡ is_free (cond v Used place)
+    agree place true = refl
+    agree place false = refl
+
+    used_at : (p : ℕ) (v : Bool) → is_in p (pages_of b) ≡ v → (covers p b || is_covered p d.held) ≡ true → cond (is_in p (pages_of b)) Used (place_of d.places p) ≡ Used
+    used_at p true e covered = ap (λ (v : Bool). cond v Used (place_of d.places p)) e
+    used_at p false e covered = ap (λ (v : Bool). cond v Used (place_of d.places p)) e ∙ kept.used p (ap (λ (v : Bool). v || is_covered p d.held) (sym (covers_is p b false e)) ∙ covered)
+
+-- ---- a block is freed
+
+-- each page of a held block is used
+block_used : (d : DriverState) (areas : AreasState) (b : Block) (p : ℕ) → IsKept d areas → list_any (λ h. is_same_block h b) d.held ≡ true → is_in p (pages_of b) ≡ true → place_of d.places p ≡ Used
+block_used d areas b p kept held here = kept.used p (covered_held p b d.held held (covers_is p b true here))
+
+pub held_block_inside : (d : DriverState) (areas : AreasState) (b : Block) → IsKept d areas → list_any (λ h. is_same_block h b) d.held ≡ true → b.start + 2 ^ b.order ≤ length d.places
+held_block_inside d areas b kept held = block_inside (length d.places) b (λ p here. there_by d.places p is_used refl (ap is_used (block_used d areas b p kept held here)))
+
+pub block_freed_kept : (d : DriverState) (areas areas2 : AreasState) (b : Block) → IsKept d areas → list_any (λ h. is_same_block h b) d.held ≡ true
+    → areas2.free ≡ flagged (pages_of b) true areas.free → areas2.held ≡ without_block b d.held → areas2.processors ≡ areas.processors → AreApart areas2
+    → IsKept (record d { places = placed (pages_of b) Free d.places; held = without_block b d.held }) areas2
+block_freed_kept d areas areas2 b kept held given rest processors apart =
+    let pages = pages_of b in
+    let used : (p : ℕ) → is_in p pages ≡ true → place_of d.places p ≡ Used = λ p here. block_used d areas b p kept held here in
+    kept_changed d areas areas2 pages Free (without_block b d.held) d.inflate d.deflate (record {
+      kept = kept;
+      there = λ p here. there_by d.places p is_used refl (ap is_used (used p here));
+      unreserved = λ p here. ap (is_at Reserved) (used p here);
+      inflate = kept.driver.inflate;
+      deflate = kept.driver.deflate;
+      giving = λ p. naming_same p pages d.inflate.sent is_giving Free (place_of d.places p) (kept.driver.giving p) (λ here. ap is_giving (used p here));
+      taking = λ p. naming_same p pages d.deflate.sent is_taking Free (place_of d.places p) (kept.driver.taking p) (λ here. ap is_taking (used p here));
+      free = given ∙ (ap (flagged pages true) kept.free ∙ free_flagged d.places pages pages Free true (λ p place is. agree place (is_in p pages)));
+      processors = processors;
+      proper = refl;
+      used = λ p covered. used_at p (is_in p pages) refl covered (used p);
+    })
+  where
+    agree : (place : Place) (v : Bool) → cond v true (is_free place) ≡ is_free (cond v Free place)
+    agree place true = refl
+    agree place false = refl
+
+    used_at : (p : ℕ) (v : Bool) → is_in p (pages_of b) ≡ v → is_covered p (without_block b d.held) ≡ true → (is_in p (pages_of b) ≡ true → place_of d.places p ≡ Used) → cond (is_in p (pages_of b)) Free (place_of d.places p) ≡ Used
+    used_at p true e covered used =
+        let inside : p < length areas.free = omega (arith, ap length kept.free, length-map d.places is_free, there_by d.places p is_used refl (ap is_used (used e))) in
+        let free : is_free_at areas2.free p ≡ true = ap (λ (l : List Bool). is_free_at l p) given ∙ (flagged_at (pages_of b) true areas.free p inside ∙ ap (λ (v : Bool). cond v true (is_free_at areas.free p)) e) in
+        let unfree : is_free_at areas2.free p ≡ false = apart.apart p (ap (is_covered p) rest ∙ covered) in
+        absurd (both_ways (is_free_at areas2.free p) unfree free)
+    used_at p false e covered used = ap (λ (v : Bool). cond v Free (place_of d.places p)) e ∙ kept.used p (covered_without p b d.held covered)
