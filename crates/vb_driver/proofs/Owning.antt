@@ -10,13 +10,13 @@ use Rattle.vb_model.specs.Driver.{with_block, without_block}
 use Rattle.vb_model.specs.Refusals.{first_refusal, ◌⇒◌}
 use Rattle.vb_model.specs.declared.places.Place.{Place}
 use Rattle.vb_model.specs.declared.places.Place.TheVariants.{Reserved, Free, Used}
-use Rattle.vb_model.specs.declared.replies.Refusal.{Refusal}
+use Rattle.vb_model.specs.declared.replies.Refusal.TheVariants.{BadOrder, BadCpu, NoPages, NotHeld}
 use Rattle.vb_model.proofs.Tables.{list_all-at}
 use Rattle.vb_model.proofs.PageSteps.{covers_is, is_in-range}
 use Rattle.vb_pages.proofs.Sets.{in_block, block_bounds}
 use Rattle.vb_driver.specs.Places.{is_at}
 use Rattle.vb_driver.specs.State.{Side, DriverState, naming}
-use Rattle.vb_driver.specs.Answers.{block_at}
+use Rattle.vb_driver.specs.Answers.{block_at, alloc_tests}
 use Rattle.vb_driver.specs.Areas.{AreasState, AreApart, IsKept, is_free_at, is_covered, is_free_block, flagged}
 use Rattle.vb_driver.proofs.Naming.{naming_same}
 use Rattle.vb_driver.proofs.Keeping.{Changes, kept_changed, there_by, free_flagged}
@@ -39,11 +39,13 @@ blocks_same d areas order kept =
     ap (λ (n : ℕ). list_any (λ start. is_free_block areas.free (block_at start order)) (range_with_len 0 n)) (ap length kept.free ∙ (length-map d.places is_free ∙ kept.driver.table))
     ∙ list_any_same (λ start. is_free_block areas.free (block_at start order)) (λ start. is_wholly_free d.places (block_at start order)) (range_with_len 0 d.pages) (λ start. whole_is d.places areas.free (block_at start order) kept.free)
 
--- an answer that isn't refused passes the first test
-pub first_passes : {T : Type 0} (result : Result T Refusal) (first second third : Bool) (a b c : Refusal) (x : T) → result ≡ Ok x
-    → Rattle.vb_driver.specs.Answers.refusal_in result ≡ first_refusal ((first ⇒ a) ∷ (second ⇒ b) ∷ (third ⇒ c) ∷ []) → first ≡ false
-first_passes result true second third a b c x is e = (let wrong : None ≡ Some a = sym (ap Rattle.vb_driver.specs.Answers.refusal_in is) ∙ e in cc)
-first_passes result false second third a b c x is e = refl
+-- the areas refuse an allocation as the driver does
+pub alloc_tests_same : (d : DriverState) (areas : AreasState) (cpu order : ℕ) → IsKept d areas
+    → first_refusal ((nat_lt 9 order ⇒ BadOrder) ∷ (nat_le areas.processors cpu ⇒ BadCpu) ∷ (not (list_any (λ start. is_free_block areas.free (block_at start order)) (range_with_len 0 (length areas.free))) ⇒ NoPages) ∷ []) ≡ first_refusal (alloc_tests d cpu order)
+alloc_tests_same d areas cpu order kept =
+    let some = list_any (λ start. is_free_block areas.free (block_at start order)) (range_with_len 0 (length areas.free)) in
+    ap (λ (n : ℕ). first_refusal ((nat_lt 9 order ⇒ BadOrder) ∷ (nat_le n cpu ⇒ BadCpu) ∷ (not some ⇒ NoPages) ∷ [])) kept.processors
+    ∙ ap (λ (v : Bool). first_refusal ((nat_lt 9 order ⇒ BadOrder) ∷ (nat_le d.processors cpu ⇒ BadCpu) ∷ (not v ⇒ NoPages) ∷ [])) (blocks_same d areas order kept)
 
 -- a block whose last page is there lies within
 block_inside : (n : ℕ) (b : Block) → ((p : ℕ) → is_in p (pages_of b) ≡ true → p < n) → b.start + 2 ^ b.order ≤ n
@@ -139,6 +141,16 @@ block_used d areas b p kept held here = kept.used p (covered_held p b d.held hel
 
 pub held_block_inside : (d : DriverState) (areas : AreasState) (b : Block) → IsKept d areas → list_any (λ h. is_same_block h b) d.held ≡ true → b.start + 2 ^ b.order ≤ length d.places
 held_block_inside d areas b kept held = block_inside (length d.places) b (λ p here. there_by d.places p is_used refl (ap is_used (block_used d areas b p kept held here)))
+
+-- what a free that isn't refused gave back was held
+pub freed_was_held : (held : List Block) (b : Block) (processors cpu : ℕ) → None ≡ first_refusal ((nat_lt 9 b.order ⇒ BadOrder) ∷ (nat_le processors cpu ⇒ BadCpu) ∷ (not (list_any (λ h. is_same_block h b) held) ⇒ NotHeld) ∷ []) → list_any (λ h. is_same_block h b) held ≡ true
+freed_was_held held b processors cpu e = at (nat_lt 9 b.order) (nat_le processors cpu) (list_any (λ h. is_same_block h b) held) e
+  where
+    at : (x y v : Bool) → None ≡ first_refusal ((x ⇒ BadOrder) ∷ (y ⇒ BadCpu) ∷ (not v ⇒ NotHeld) ∷ []) → v ≡ true
+    at true y v e = cc
+    at false true v e = cc
+    at false false true e = refl
+    at false false false e = cc
 
 pub block_freed_kept : (d : DriverState) (areas areas2 : AreasState) (b : Block) → IsKept d areas → list_any (λ h. is_same_block h b) d.held ≡ true
     → areas2.free ≡ flagged (pages_of b) true areas.free → areas2.held ≡ without_block b d.held → areas2.processors ≡ areas.processors → AreApart areas2
