@@ -1,32 +1,31 @@
 -- What the allocator answers, as the driver sees it.
-use Rattle.std.proofs.Common.{◌≡◌, ◌∙◌, sym, ap, subst, arith, refl, ℕ, zero, suc, ◌+◌, ◌^◌, ◌<◌, ◌≤◌, Bool, true, false, cond, eqb, not, ◌||◌, ◌&&◌, ◌⊎◌, ◌↔◌, List, [], ◌∷◌, ◌++◌, length, take, get_or, map, inl, inr, IsTrue, Option, Some, None, Result, Ok, Err, IfOk, OnOk, OnErr, nat_le, nat_lt, count_by, eq-eqb}
+use Rattle.std.proofs.Common.{◌≡◌, ◌∙◌, sym, ap, subst, arith, refl, ℕ, suc, ◌+◌, ◌^◌, ◌<◌, ◌≤◌, Bool, true, false, eqb, not, ◌||◌, ◌&&◌, ◌⊎◌, ◌↔◌, List, [], ◌∷◌, length, get_or, map, inl, inr, IsTrue, Option, Result, Ok, Err, IfOk, OnOk, OnErr, nat_le, nat_lt, count_by, eq-eqb}
 use Rattle.std.specs.List.{list_any, list_all, range_with_len}
-use Rattle.std.proofs.lemmas.Bool.{cases_Bool, cases_lt, cases_eq, and_parts, and_from, or_cases, false_from_ne_true, not_from_false, ne_eqb, ltb-true, leb-true, lt-ltb, le-ltb, le-leb, lt-leb}
+use Rattle.std.proofs.lemmas.Bool.{cases_lt, and_parts, and_from, false_from_ne_true, not_from_false, ne_eqb, ltb-true, leb-true, lt-ltb, le-ltb, le-leb, lt-leb}
 use Rattle.std.proofs.lemmas.Nat.{pow_pos}
-use Rattle.std.proofs.lemmas.List.{length-map}
 use Rattle.std.proofs.lemmas.List.Sums.{count_by-le-length}
 use Rattle.std.proofs.lemmas.List.Folds.{list_any_at, list_any_none}
 use Rattle.std.proofs.lemmas.List.FromFn.{get_or-range_with_len, length-range_with_len}
 use Rattle.vb_model.specs.Tests.{is_in, one_if}
-use Rattle.vb_model.specs.Pages.{Block, covers, pages_of, is_aligned}
+use Rattle.vb_model.specs.Pages.{covers, pages_of, is_aligned}
 use Rattle.vb_model.specs.Driver.{AllDistinct, with_block, without_block}
 use Rattle.vb_model.specs.Refusals.{first_refusal, ◌⇒◌}
 use Rattle.vb_model.specs.declared.replies.Refusal.{Refusal}
 use Rattle.vb_model.specs.declared.replies.Refusal.TheVariants.{BadOrder, BadCpu, NoPages}
 use Rattle.vb_model.proofs.Tables.{count_by-cons, list_all-at}
-use Rattle.vb_model.proofs.PageSteps.{covers_is, is_in-range}
+use Rattle.vb_model.proofs.PageSteps.{covers_is}
 use Rattle.vb_pages.specs.declared.PageFault.{PageFault}
 use Rattle.vb_pages.specs.declared.PageFault.TheVariants.{BadOrder as OrderTooLarge, BadCpu as NoSuchCpu, NoPages as NoFreeBlock, NotHeld as NoSuchBlock}
-use Rattle.vb_pages.specs.Areas.{has, IsBlock, with_pages}
+use Rattle.vb_pages.specs.Areas.{has, IsBlock}
 use Rattle.vb_pages.specs.FreePages.{FreePages, in_lists, drained, free_count}
 use Rattle.vb_pages.specs.PageState.{PageState, page_count, cpu_count, is_free_page, is_held_page, IsApart, IsWhollyFree, Allocates, TakesFree, freed, given, HasRoomIn}
-use Rattle.vb_pages.proofs.Sets.{length-with_pages, in_block, block_bounds}
+use Rattle.vb_pages.proofs.Sets.{length-with_pages, in_block}
 use Rattle.vb_pages.proofs.ListsLemmas.{page_block}
 use Rattle.vb_pages.proofs.FreeLemmas.{serves_length, length-takes_pages}
 use Rattle.vb_driver.specs.Answers.{refusal_in, block_at}
-use Rattle.vb_driver.specs.Areas.{AreasState, AreApart, flags_of, areas_of, refusal_of, is_free_at, is_covered, is_free_block, flagged}
-use Rattle.vb_driver.proofs.Naming.{times_in, some_in, zero_out}
-use Rattle.vb_driver.proofs.Flags.{length_flags, flag_at, flag_free, free_flag, free_inside, held_unfree, same_areas, flags_moved, flags_same, left_by, gained_by, taken_by, serves_cpus, SameSizes, drained_sizes, given_sizes}
+use Rattle.vb_driver.specs.Areas.{AreApart, flags_of, areas_of, refusal_of, is_free_at, is_covered, is_free_block, flagged}
+use Rattle.vb_driver.proofs.Naming.{times_in, some_in}
+use Rattle.vb_driver.proofs.Flags.{length_flags, flag_at, flag_free, free_flag, free_inside, held_unfree, same_areas, flags_moved, flags_same, left_by, gained_by, taken_by, serves_cpus, drained_sizes, given_sizes}
 
 -- the driver's answer, by the allocator's
 abbrev pub answered : {T : Type 0} → Result T PageFault → Result T Refusal
@@ -68,8 +67,8 @@ covered_in p start order h =
 not_whole : (s : PageState) (start order : ℕ) → order ≤ 9 → (IsBlock (block_at start order) → IsWhollyFree s (block_at start order) → ⊥) → is_free_block (flags_of s) (block_at start order) ≡ false
 not_whole s start order small none =
     false_from_ne_true (is_free_block (flags_of s) (block_at start order)) (λ t.
-      let parts = and_parts (is_aligned (block_at start order)) (list_all (is_free_at (flags_of s)) (pages_of (block_at start order))) t in
-      none (small, parts.0) (λ p covered. flag_free s p (list_all-at (is_free_at (flags_of s)) (pages_of (block_at start order)) p parts.1 (covered_in p start order covered))))
+    let parts = and_parts (is_aligned (block_at start order)) (list_all (is_free_at (flags_of s)) (pages_of (block_at start order))) t in
+    none (small, parts.0) (λ p covered. flag_free s p (list_all-at (is_free_at (flags_of s)) (pages_of (block_at start order)) p parts.1 (covered_in p start order covered))))
 
 no_block : (s : PageState) (order : ℕ) → order ≤ 9 → ((start : ℕ) → IsBlock (block_at start order) → IsWhollyFree s (block_at start order) → ⊥) → has_block s order ≡ false
 no_block s order small none =
@@ -238,11 +237,12 @@ taken_free s new pages apart left =
 
 pub distinct_once : (pages : List ℕ) → ((p : ℕ) → times_in p pages ≤ 1) → AllDistinct pages
 distinct_once [] once = tt
-distinct_once (x ∷ xs) once =
-    (not_from_false (is_in x xs) (false_from_ne_true (is_in x xs) (λ h.
-    let one : one_if (eqb x x) ≡ 1 = ap one_if (eq-eqb x x refl) in
-    omega (arith, once x, count_by-cons (λ q. eqb q x) x xs, some_in x xs h))),
-    distinct_once xs (λ p. omega (arith, once p, count_by-cons (λ q. eqb q p) x xs)))
+distinct_once (x ∷ xs) once = (
+  not_from_false (is_in x xs) (false_from_ne_true (is_in x xs) (λ h.
+      let one : one_if (eqb x x) ≡ 1 = ap one_if (eq-eqb x x refl) in
+      omega (arith, once x, count_by-cons (λ q. eqb q x) x xs, some_in x xs h))),
+  distinct_once xs (λ p. omega (arith, once p, count_by-cons (λ q. eqb q p) x xs)),
+)
 
 pub taken_once : (new old : Bool) (n : ℕ) → one_if new + n ≡ one_if old → n ≤ 1
 taken_once new true n h = omega arith
@@ -251,10 +251,14 @@ taken_once new false n h = omega arith
 pub given_room : (s : PageState) (page : ℕ) → 16 ≤ page → page < length (flags_of s) → is_free_at (flags_of s) page ≡ false → is_covered page s.held ≡ false → HasRoomIn s (block_at page 0)
 given_room s page unreserved inside taken uncovered =
     let lt : page < page_count s = omega (arith, length_flags s) in
-    let unfree : is_free_page s page ≡ false = sym (flag_at s page false lt) ∙ taken in
-    (page_block page, unreserved, omega arith, λ p from to.
-    let same : page ≡ p = omega arith in
-    (subst (λ (n : ℕ). is_free_page s n ≡ false) same unfree, subst (λ (n : ℕ). is_held_page s n ≡ false) same uncovered))
+    let unfree : is_free_page s page ≡ false = sym (flag_at s page false lt) ∙ taken in (
+      page_block page,
+      unreserved,
+      omega arith,
+      λ p from to.
+          let same : page ≡ p = omega arith in
+          (subst (λ (n : ℕ). is_free_page s n ≡ false) same unfree, subst (λ (n : ℕ). is_held_page s n ≡ false) same uncovered),
+    )
 
 pub given_state : (s new : PageState) (page : ℕ) → new ≡ given (block_at page 0) s → ((p : ℕ) → is_free_page new p ≡ (is_free_page s p || covers p (block_at page 0)))
     → areas_of new ≡ record (areas_of s) { free = flagged (page ∷ []) true (flags_of s) }

@@ -1,27 +1,24 @@
 -- Which pages the allocator has free, as a flag a page.
-use Rattle.std.proofs.Common.{◌≡◌, ◌≢◌, ◌∙◌, sym, ap, subst, arith, refl, ℕ, zero, suc, ◌+◌, ◌^◌, ◌<◌, ◌≤◌, Bool, true, false, cond, eqb, not, ◌||◌, ◌&&◌, ◌⊎◌, List, [], ◌∷◌, ◌++◌, length, take, drop, get_or, set, map, count_by, inl, inr, IsTrue, Option, Some, None, nat_le, nat_lt, if◌then◌else◌, replicate, eq-eqb}
-use Rattle.std.specs.List.{list_any, list_all, range_with_len}
-use Rattle.std.proofs.lemmas.Bool.{cases_Bool, cases_lt, cases_eq, and_parts, and_from, or_parts, both_ways, false_from_ne_true, not-true, ne_eqb, leb-true, ltb-true, ltb-false, le-leb, lt-leb}
-use Rattle.std.proofs.lemmas.Nat.{pow_pos}
+use Rattle.std.proofs.Common.{◌≡◌, ◌∙◌, sym, ap, arith, refl, ℕ, zero, suc, ◌+◌, ◌<◌, ◌≤◌, Bool, true, false, cond, eqb, not, ◌||◌, ◌&&◌, List, [], ◌∷◌, ◌++◌, length, take, drop, get_or, set, map, count_by, inl, inr, Option, Some, nat_le, nat_lt, if◌then◌else◌, eq-eqb}
+use Rattle.std.specs.List.{list_any}
+use Rattle.std.proofs.lemmas.Bool.{cases_lt, and_parts, false_from_ne_true, ltb-true, ltb-false, le-leb, lt-leb}
 use Rattle.std.proofs.lemmas.List.{same_lists, get_or_past, length-set, length-map, get_or-map, take_more}
 use Rattle.std.proofs.lemmas.List.Sums.{sum_by-take-le}
-use Rattle.std.proofs.lemmas.List.Folds.{list_any_at, list_any_none}
-use Rattle.std.proofs.lemmas.List.FromFn.{get_or-map-range_with_len, length-map-range_with_len, get_or-range_with_len, length-range_with_len}
-use Rattle.vb_model.specs.Tests.{is_in, one_if, each_page}
+use Rattle.std.proofs.lemmas.List.FromFn.{get_or-map-range_with_len, length-map-range_with_len}
+use Rattle.vb_model.specs.Tests.{is_in, one_if}
 use Rattle.vb_model.specs.declared.places.Place.TheVariants.{Reserved, Free}
-use Rattle.vb_model.specs.Pages.{Block, covers, pages_of, is_aligned, is_free, all_free}
-use Rattle.vb_model.specs.Driver.{AllDistinct}
+use Rattle.vb_model.specs.Pages.{Block, covers, pages_of, is_free, all_free}
 use Rattle.vb_model.proofs.Tables.{each_page-get, length-each_from, count_by-cons, count_by-append}
-use Rattle.vb_model.proofs.PageSteps.{covers_is, is_in-range}
+use Rattle.vb_model.proofs.PageSteps.{covers_is}
 use Rattle.vb_pages.specs.Areas.{has, with_pages, unreserved}
-use Rattle.vb_pages.specs.FreePages.{FreePages, in_lists, drained, times_free, is_free as is_free_in, list_of, with_list, spilled, given_back, Tries, Serves, free_count}
-use Rattle.vb_pages.specs.PageState.{PageState, page_count, cpu_count, is_free_page, is_unreserved, IsApart, fresh}
+use Rattle.vb_pages.specs.FreePages.{FreePages, in_lists, drained, times_free, list_of, with_list, given_back, Tries, Serves}
+use Rattle.vb_pages.specs.PageState.{PageState, page_count, is_free_page, is_unreserved, IsApart, fresh}
 use Rattle.vb_pages.proofs.Sets.{length-with_pages}
 use Rattle.vb_pages.proofs.AreasLemmas.{length-unreserved, has-unreserved}
 use Rattle.vb_pages.proofs.ListsLemmas.{one_if_true}
 use Rattle.vb_pages.proofs.FreeLemmas.{flat-replicate}
 use Rattle.vb_driver.specs.Answers.{block_at}
-use Rattle.vb_driver.specs.Areas.{AreasState, flags_of, areas_of, is_free_at, is_free_block, flagged}
+use Rattle.vb_driver.specs.Areas.{AreasState, flags_of, is_free_at, flagged}
 use Rattle.vb_driver.proofs.Naming.{times_in, some_in, zero_out}
 use Rattle.vb_driver.proofs.Placing.{first_place, is_in-push}
 
@@ -207,7 +204,7 @@ fresh_flags pages cpus =
 
 pub flagged_none : (flag : Bool) (free : List Bool) → flagged [] flag free ≡ free
 flagged_none flag free = same_lists (flagged [] flag free) free (length-flagged [] flag free) (λ k d near.
-  each_page-get (λ page old. if is_in page [] then flag else old) free k d (λ far. absurd (omega (arith, length-flagged [] flag free))))
+    each_page-get (λ page old. if is_in page [] then flag else old) free k d (λ far. absurd (omega (arith, length-flagged [] flag free))))
 
 twice : (a b flag old : Bool) → cond (a || (b || false)) flag old ≡ cond (b || false) flag (cond a flag old)
 twice true true flag old = refl

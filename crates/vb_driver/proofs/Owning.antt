@@ -1,25 +1,25 @@
 -- The pages of the guest's own: blocks that are allocated and freed.
-use Rattle.std.proofs.Common.{◌≡◌, ◌∙◌, sym, ap, subst, arith, refl, ℕ, zero, suc, ◌+◌, ◌-◌, ◌^◌, ◌<◌, ◌≤◌, Bool, true, false, cond, eqb, not, ◌||◌, ◌&&◌, ◌⊎◌, List, [], ◌∷◌, length, map, inl, inr, IsTrue, Option, Some, None, Result, Ok, Err, nat_le, nat_lt}
+use Rattle.std.proofs.Common.{◌≡◌, ◌∙◌, sym, ap, arith, refl, ℕ, ◌+◌, ◌-◌, ◌^◌, ◌<◌, ◌≤◌, Bool, true, false, cond, eqb, not, ◌||◌, ◌&&◌, List, [], ◌∷◌, length, map, inl, inr, None, nat_le, nat_lt}
 use Rattle.std.specs.List.{list_any, list_all, range_with_len}
-use Rattle.std.proofs.lemmas.Bool.{cases_Bool, cases_lt, and_parts, or_cases, or_left, or_right, both_ways, eqb-true, ltb-false, leb-true, ltb-true}
+use Rattle.std.proofs.lemmas.Bool.{and_parts, or_cases, or_left, or_right, both_ways, eqb-true}
 use Rattle.std.proofs.lemmas.Nat.{pow_pos}
-use Rattle.std.proofs.lemmas.List.{length-map, get_or_past}
-use Rattle.vb_model.specs.Tests.{is_in, one_if}
-use Rattle.vb_model.specs.Pages.{Block, size, covers, pages_of, is_aligned, is_same_block, is_wholly_free, place_of, placed, is_free, is_used, is_giving, is_taking}
+use Rattle.std.proofs.lemmas.List.{length-map}
+use Rattle.vb_model.specs.Tests.{is_in}
+use Rattle.vb_model.specs.Pages.{Block, covers, pages_of, is_aligned, is_same_block, is_wholly_free, place_of, placed, is_free, is_used, is_giving, is_taking}
 use Rattle.vb_model.specs.Driver.{with_block, without_block}
 use Rattle.vb_model.specs.Refusals.{first_refusal, ◌⇒◌}
 use Rattle.vb_model.specs.declared.places.Place.{Place}
 use Rattle.vb_model.specs.declared.places.Place.TheVariants.{Reserved, Free, Used}
 use Rattle.vb_model.specs.declared.replies.Refusal.TheVariants.{BadOrder, BadCpu, NoPages, NotHeld}
 use Rattle.vb_model.proofs.Tables.{list_all-at}
-use Rattle.vb_model.proofs.PageSteps.{covers_is, is_in-range}
-use Rattle.vb_pages.proofs.Sets.{in_block, block_bounds}
+use Rattle.vb_model.proofs.PageSteps.{covers_is}
+use Rattle.vb_pages.proofs.Sets.{in_block}
 use Rattle.vb_driver.specs.Places.{is_at}
-use Rattle.vb_driver.specs.State.{Side, DriverState, naming}
+use Rattle.vb_driver.specs.State.{DriverState}
 use Rattle.vb_driver.specs.Answers.{block_at, alloc_tests}
 use Rattle.vb_driver.specs.Areas.{AreasState, AreApart, IsKept, is_free_at, is_covered, is_free_block, flagged}
 use Rattle.vb_driver.proofs.Naming.{naming_same}
-use Rattle.vb_driver.proofs.Keeping.{Changes, kept_changed, there_by, free_flagged}
+use Rattle.vb_driver.proofs.Keeping.{kept_changed, there_by, free_flagged}
 use Rattle.vb_driver.proofs.Flags.{flagged_at}
 use Rattle.vb_driver.proofs.Moving.{free_is_place, free_is, list_all_same}
 

@@ -1,7 +1,6 @@
 -- What the driver uses of the page areas.
-use Rattle.std.specs.Prelude.{◌≡◌, ℕ, ◌<◌, Bool, true, false, ◌==◌, ◌&&◌, List, length, map, slice_index_or, if◌then◌else◌}
+use Rattle.std.specs.Prelude.{◌≡◌, ℕ, ◌<◌, Bool, true, false, ◌&&◌, List, map, slice_index_or, if◌then◌else◌}
 use Rattle.std.specs.List.{list_any, list_all, range_with_len}
-use Rattle.vb_model.specs.declared.places.Place.{Place}
 use Rattle.vb_model.specs.declared.places.Place.TheVariants.{Reserved, Used}
 use Rattle.vb_model.specs.Limits.{reserved_pages}
 use Rattle.vb_model.specs.Tests.{is_in, each_page}

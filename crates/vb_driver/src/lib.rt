@@ -10,6 +10,8 @@ mod places;
 mod queue;
 mod reaping;
 mod requests;
+#[cfg(test)]
+mod tests;
 
 pub use answers::{Posted, Reaped};
 pub use driver::Driver;

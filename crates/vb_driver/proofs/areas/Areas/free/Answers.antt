@@ -1,4 +1,4 @@
-use Rattle.std.proofs.Common.{◌≡◌, ◌∙◌, sym, subst, ap, true, Ok, Err, OnOk, Result}
+use Rattle.std.proofs.Common.{◌≡◌, ◌∙◌, sym, subst, ap, true, Err, OnOk, Result}
 use Rattle.vb_model.specs.Pages.{pages_of}
 use Rattle.vb_model.specs.Driver.{without_block}
 use Rattle.vb_model.specs.declared.replies.Refusal.{Refusal}

@@ -1,6 +1,5 @@
-use Rattle.std.proofs.Common.{◌≡◌, ◌∙◌, ◌<◌, ◌∷◌, [], sym, ap, subst, arith, ℕ, List, Bool, true, false, cond, length, take, get_or}
+use Rattle.std.proofs.Common.{◌∙◌, ◌∷◌, [], sym, ap, arith, ℕ, List, Bool, true, cond, length, take, get_or}
 use Rattle.std.proofs.lemmas.List.{take_more}
-use Rattle.vb_model.specs.Tests.{is_in}
 use Rattle.vb_driver.specs.Areas.{AreasState, flagged, is_free_at, is_covered}
 use Rattle.vb_driver.proofs.Placing.{is_in-at}
 use Rattle.vb_driver.proofs.Flags.{flagged_none, flagged_more, flagged_at, length-flagged, not_before}

@@ -1,4 +1,4 @@
-use Rattle.std.proofs.Common.{◌≡◌, ◌<◌, sym, subst, ap, ◌∷◌, [], true, false, length}
+use Rattle.std.proofs.Common.{◌≡◌, ◌<◌, sym, subst, ◌∷◌, [], true, false, length}
 use Rattle.vb_pages.specs.PageState.{PageState}
 use Rattle.vb_driver.specs.Areas.{AreasState, areas_of, is_free_at, is_covered, flagged}
 use Rattle.vb_driver.proofs.Allocating.{given_room, given_state}

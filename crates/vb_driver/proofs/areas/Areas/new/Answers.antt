@@ -1,7 +1,7 @@
 use Rattle.std.proofs.Common.{◌≡◌, ◌∙◌, ap}
 use Rattle.std.proofs.lemmas.List.{length-replicate}
 use Rattle.vb_pages.specs.PageState.{PageState, fresh}
-use Rattle.vb_driver.specs.Areas.{AreasState, areas_of}
+use Rattle.vb_driver.specs.Areas.{areas_of}
 use Rattle.vb_driver.proofs.Flags.{fresh_flags, same_areas}
 use Rattle.vb_driver.proofs.areas.Areas.new.Goals as goal
 

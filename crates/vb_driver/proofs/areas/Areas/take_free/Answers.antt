@@ -1,4 +1,4 @@
-use Rattle.std.proofs.Common.{◌≡◌, ◌≤◌, sym, subst, ap, arith, true, false, length, IsTrue}
+use Rattle.std.proofs.Common.{◌≡◌, ◌≤◌, sym, subst, arith, false, IsTrue}
 use Rattle.std.specs.Prelude.{count_by}
 use Rattle.std.specs.List.{list_all}
 use Rattle.vb_pages.specs.PageState.{PageState, is_free_page}

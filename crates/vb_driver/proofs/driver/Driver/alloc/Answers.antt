@@ -1,4 +1,4 @@
-use Rattle.std.proofs.Common.{◌≡◌, ◌∙◌, sym, ap, subst, ℕ, List, Ok, Err}
+use Rattle.std.proofs.Common.{◌≡◌, ◌∙◌, sym, ap, subst, List, Ok, Err}
 use Rattle.vb_model.specs.Pages.{Block, pages_of, placed}
 use Rattle.vb_model.specs.Driver.{with_block}
 use Rattle.vb_model.specs.declared.places.Place.{Place}

@@ -1,11 +1,9 @@
-use Rattle.std.proofs.Common.{◌≡◌, ◌∙◌, sym, ap, subst, ℕ, List, true}
-use Rattle.std.specs.List.{list_any}
-use Rattle.vb_model.specs.Pages.{Block, pages_of, placed, is_same_block}
+use Rattle.std.proofs.Common.{◌≡◌, sym, ap, subst, List}
+use Rattle.vb_model.specs.Pages.{Block, pages_of, placed}
 use Rattle.vb_model.specs.Driver.{without_block}
 use Rattle.vb_model.specs.declared.places.Place.{Place}
 use Rattle.vb_model.specs.declared.places.Place.TheVariants.{Free}
 use Rattle.vb_driver.specs.Answers.{block_at}
-use Rattle.vb_driver.specs.State.{DriverState}
 use Rattle.vb_driver.specs.Areas.{AreasState, IsKept}
 use Rattle.vb_driver.specs.contracts.driver.Driver.{the_view}
 use Rattle.vb_driver.proofs.Owning.{freed_was_held, held_block_inside, block_freed_kept}
