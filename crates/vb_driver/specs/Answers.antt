@@ -1,5 +1,5 @@
 -- Why a driver's call is refused, in the order in which it is tested (profile).
-use Rattle.std.specs.Prelude.{ℕ, ◌+◌, ◌-◌, Bool, not, ◌==◌, ◌&&◌, nat_lt, nat_le, List, [], ◌∷◌, Option, Some, None, Result, Ok, Err, is_some, is_err, min, max}
+use Rattle.std.specs.Prelude.{ℕ, ◌+◌, ◌-◌, Bool, not, ◌==◌, ◌&&◌, nat_lt, nat_le, List, [], ◌∷◌, Option, Some, None, Result, Ok, Err, is_some, is_err, min, max, if◌then◌else◌}
 use Rattle.std.specs.List.{list_any, list_all, range_with_len}
 use Rattle.vb_model.specs.declared.replies.Refusal.{Refusal}
 use Rattle.vb_model.specs.declared.replies.Refusal.TheVariants.{BadOrder, BadCpu, NoPages, NotHeld, NotReady, QueueFull, Nothing, RingBroken, NoFeature, AlreadyUp, NoQueue, NoFrame}
@@ -7,7 +7,7 @@ use Rattle.vb_model.specs.Limits.{max_order, max_request_pages, ring_and_buffer_
 use Rattle.vb_model.specs.Pages.{Block, is_wholly_free, is_same_block}
 use Rattle.vb_model.specs.Guest.{deflate_on_oom}
 use Rattle.vb_model.specs.Status.{contains, driver_ok, is_broken}
-use Rattle.vb_model.specs.Refusals.{Test, ◌⇒◌}
+use Rattle.vb_model.specs.Refusals.{Test, ◌⇒◌, first_refusal}
 use Rattle.vb_model.specs.Life.{feature_tests}
 use Rattle.vb_ram.specs.Pages.{Pages, frame_at}
 use Rattle.vb_ram.specs.Part.{Part}

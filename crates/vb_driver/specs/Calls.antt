@@ -1,5 +1,5 @@
 -- What a driver's calls do, by old and new of guest memory, of the device's part and of the driver: VIRTIO 1.1, 3.1.1 and 5.5.6.
-use Rattle.std.specs.Prelude.{◌≡◌, ◌≢◌, ℕ, ◌+◌, ◌%◌, ◌<◌, ◌≤◌, ◌==◌, List, [], ◌∷◌, ◌++◌, length, take, map, if◌then◌else◌, Option, Some, None, Result, Ok, IfOk, IfErr, OnErr, OnOk, MatchOption, IsTrue, count_by, slice_set, bit_or}
+use Rattle.std.specs.Prelude.{◌≡◌, ◌≢◌, ℕ, ◌+◌, ◌%◌, ◌<◌, ◌≤◌, Bool, ◌==◌, nat_lt, List, [], ◌∷◌, ◌++◌, length, take, map, if◌then◌else◌, Option, Some, None, Result, Ok, Err, IfOk, IfErr, OnErr, OnOk, MatchOption, IsTrue, count_by, slice_set, bit_or}
 use Rattle.std.specs.List.{list_all}
 use Rattle.vb_model.specs.declared.places.Place.{Place}
 use Rattle.vb_model.specs.declared.places.PlaceCounts.{PlaceCounts}
@@ -11,7 +11,7 @@ use Rattle.vb_model.specs.Pages.{is_free, is_used, is_giving, is_lent, is_taking
 use Rattle.vb_model.specs.Driver.{AllDistinct, with_block, without_block}
 use Rattle.vb_model.specs.Life.{place_after_reset, accepted_before}
 use Rattle.vb_model.specs.Limits.{max_outstanding}
-use Rattle.vb_model.specs.Layout.{buffers_page}
+use Rattle.vb_model.specs.Layout.{ring_page, buffers_page}
 use Rattle.vb_model.specs.Status.{failed}
 use Rattle.vb_model.specs.Refusals.{first_refusal}
 use Rattle.vb_ram.specs.Pages.{Pages, byte_at, page_at, frame_at}

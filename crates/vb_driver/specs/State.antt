@@ -1,5 +1,5 @@
 -- What a balloon driver keeps.
-use Rattle.std.specs.Prelude.{◌≡◌, ℕ, ◌<◌, ◌≤◌, true, false, ◌==◌, List, [], length, min, sum_by, count_by, replicate, slice_index_or}
+use Rattle.std.specs.Prelude.{◌≡◌, ℕ, ◌<◌, ◌≤◌, Bool, true, false, ◌==◌, ◌&&◌, not, List, [], length, min, sum_by, count_by, replicate, slice_index_or}
 use Rattle.vb_model.specs.declared.places.Place.{Place}
 use Rattle.vb_model.specs.Limits.{max_outstanding}
 use Rattle.vb_model.specs.Pages.{Block, place_of, all_free, is_free, is_giving, is_lent, is_taking, is_stranded, is_reporting}
