@@ -9,3 +9,4 @@ pub mod Moving
 pub mod Refusing
 pub mod Failing
 pub mod Sizes
+pub mod Zeroing
