@@ -10,3 +10,4 @@ pub mod Refusing
 pub mod Failing
 pub mod Sizes
 pub mod Zeroing
+pub mod Starting
