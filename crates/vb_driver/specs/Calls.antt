@@ -14,7 +14,7 @@ use Rattle.vb_model.specs.Limits.{max_outstanding}
 use Rattle.vb_model.specs.Layout.{ring_page, buffers_page}
 use Rattle.vb_model.specs.Status.{failed}
 use Rattle.vb_model.specs.Refusals.{first_refusal}
-use Rattle.vb_ram.specs.Pages.{Pages}
+use Rattle.vb_ram.specs.Pages.{Pages, byte_at, page_at, frame_at, contents_at}
 use Rattle.vb_ram.specs.Part.{Part}
 use Rattle.vb_status.specs.After.{after_reset}
 use Rattle.vb_chain.specs.Table.{descriptor_at}
@@ -23,7 +23,7 @@ use Rattle.vb_ring.specs.Meaning.{UsedElem, ShowsEntries, Shows, Tracks}
 use Rattle.vb_ring.specs.Calls.{TakesUsedBy}
 use Rattle.vb_driver.specs.declared.answers.Posted.{Posted}
 use Rattle.vb_driver.specs.declared.answers.Reaped.{Reaped}
-use Rattle.vb_driver.specs.Coding.{IsCoded, SameButBuffer, AreZeroed}
+use Rattle.vb_driver.specs.Coding.{IsCoded, SameButBuffer}
 use Rattle.vb_driver.specs.State.{Side, DriverState, AreRequests, IsDriver, fresh_side, sent_by}
 use Rattle.vb_driver.specs.Answers.{refusal_in, inflate_count, deflate_count, oom_count, block_at, alloc_tests, free_tests, inflate_tests, deflate_tests, oom_tests, reap_tests, init_tests}
 
@@ -179,7 +179,11 @@ pub record Starts (m1 m2 : Pages) (p1 p2 : Part) (d1 d2 : DriverState) (wanted :
   pub driver : d2 ≡ record d1 { inflate = fresh_side 0 d1.queue_size; deflate = fresh_side 1 d1.queue_size; features = wanted }
   pub inflate : IsNewRing m2 d2.inflate
   pub deflate : IsNewRing m2 d2.deflate
-  pub rings : AreZeroed m1 m2 4
+  pub zero : (page offset : ℕ) → page < 4 → offset < 4096 → byte_at m2 page offset ≡ 0
+  pub others : (page : ℕ) → 4 ≤ page → page_at m2 page ≡ page_at m1 page
+  pub backing : (page : ℕ) → frame_at m2 page ≡ frame_at m1 page
+  pub sizes : (page : ℕ) → length (contents_at m2 page) ≡ length (contents_at m1 page)
+  pub count : length m2 ≡ length m1
 
 -- The device and its driver agree on the features (1 + 2 + 8).
 pub record Agrees (m1 m2 : Pages) (p1 p2 : Part) (d1 d2 : DriverState) (wanted : ℕ) : Type 0 where

@@ -89,7 +89,7 @@ impl Driver {
     /// `MustTellMissing` and `VersionMissing` (these two features are needed): the driver gives
     /// up then, by FAILED in the status.
     pub fn init<P: Port>(&mut self, port: &mut P, wanted: Features) -> Result<(), Refusal>
-        requires { 64 ≤ length (P.mem port.old) }
+        requires memory { 64 ≤ length (P.mem port.old) }
         ensures { InitsBy (P.mem port.old) (P.mem port.new) (P.part port.old) (P.part port.new) self.old self.new (feature_bits wanted) result }
     {
         let _places = &self.places;

@@ -26,7 +26,8 @@ returns-in-Err g c =
     let fine : is_err c.negotiate.result ≡ false = sym c.is_err.ensures.value ∙ c.if-is_err.false in
     let three : began.status ≡ 3 = ap (λ (p : Part). p.status) c.begin.ensures.part in
     let offered : negotiate_refusal 3 w ≡ None = ap (λ (n : ℕ). negotiate_refusal n w) (sym three) ∙ (sym c.negotiate.ensures.answer ∙ none_ok c.negotiate.result fine) in
-    let here : agreed ≡ record (after_reset p1) { status = 3; features = w } = at_ok c.negotiate.result _ fine c.negotiate.ensures.ok ∙ ap (λ (p : Part). record p { features = w }) c.begin.ensures.part in
+    let took : agreed ≡ record began { features = w } = at_ok c.negotiate.result _ fine c.negotiate.ensures.ok in
+    let here : agreed ≡ record (after_reset p1) { status = 3; features = w } = took ∙ ap (λ (p : Part). record p { features = w }) c.begin.ensures.part in
     let bits : c.union-agreed.result.0 ≡ 11 = c.union-agreed.ensures tt ∙ ap (λ (n : ℕ). bit_or n 8) (c.status.ensures ∙ ap (λ (p : Part). p.status) here) in
     let answer : Some refusal ≡ status_refusal 3 w 11 = c.in-Err.ensures.answer ∙ (ap (λ (p : Part). status_refusal p.status p.features c.union-agreed.result.0) here ∙ ap (status_refusal 3 w) bits) in
     let same : accepted_before refusal w ≡ w = accepted_then w refusal answer in
