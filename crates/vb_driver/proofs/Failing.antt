@@ -1,5 +1,5 @@
 -- FAILED may be added to any status.
-use Rattle.std.proofs.Common.{◌≡◌, ◌∙◌, sym, ap, refl, arith, ℕ, ◌<◌, ◌≤◌, Bool, true, false, not, ◌&&◌, List, Option, None, Some, is_none, cond, eqb, bit_or, length, get_or, eq-eqb, zero-add}
+use Rattle.std.proofs.Common.{◌≡◌, ◌∙◌, ap, refl, arith, ℕ, ◌<◌, Bool, true, false, not, ◌&&◌, Option, None, Some, is_none, cond, eqb, bit_or, get_or, eq-eqb, zero-add}
 use Rattle.std.specs.List.{list_all, range_with_len}
 use Rattle.std.proofs.lemmas.List.Folds.{list_any_at}
 use Rattle.std.proofs.lemmas.List.FromFn.{length-range_with_len, get_or-range_with_len}

@@ -1,9 +1,9 @@
 -- A device is asked for features, and its rings begin.
-use Rattle.std.proofs.Common.{◌≡◌, ◌∙◌, sym, ap, subst, refl, arith, ℕ, ◌+◌, ◌*◌, ◌<◌, ◌≤◌, Bool, true, false, not, List, [], ◌∷◌, Option, None, Some, Result, Ok, Err, is_err, OnOk}
+use Rattle.std.proofs.Common.{◌≡◌, ap, refl, arith, ℕ, ◌<◌, Bool, true, false, not, [], ◌∷◌, None, Some, Result, Ok, Err, is_err, OnOk}
 use Rattle.vb_model.specs.declared.replies.Refusal.{Refusal}
 use Rattle.vb_model.specs.declared.replies.Refusal.TheVariants.{OutOfOrder, FeatureNotOffered, MustTellMissing, VersionMissing}
 use Rattle.vb_model.specs.Guest.{offered_features, must_tell_host, version_1}
-use Rattle.vb_model.specs.Refusals.{Test, ◌⇒◌, first_refusal}
+use Rattle.vb_model.specs.Refusals.{◌⇒◌, first_refusal}
 use Rattle.vb_model.specs.Status.{contains, negotiate_refusal, status_refusal, status_tests}
 use Rattle.vb_model.specs.Life.{feature_refusal, accepted_before}
 use Rattle.vb_ram.specs.Pages.{Pages}

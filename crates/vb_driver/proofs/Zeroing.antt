@@ -1,8 +1,8 @@
 -- Zeros written to guest memory.
-use Rattle.std.proofs.Common.{◌≡◌, ◌≢◌, ◌∙◌, sym, ap, arith, ℕ, ◌+◌, ◌-◌, ◌*◌, ◌<◌, ◌≤◌, List, replicate, length, inl, inr, IsSome, Result, OnOk, IsOk}
+use Rattle.std.proofs.Common.{◌≡◌, ◌∙◌, sym, ap, arith, ℕ, ◌+◌, ◌-◌, ◌<◌, ◌≤◌, replicate, length, inl, inr}
 use Rattle.std.proofs.lemmas.Bool.{cases_lt, cases_eq}
 use Rattle.std.proofs.lemmas.List.{length-replicate, get_or-replicate}
-use Rattle.vb_ram.specs.Pages.{Pages, byte_at, frame_at, SameBut, Wrote}
+use Rattle.vb_ram.specs.Pages.{Pages, byte_at, SameBut, Wrote}
 use Rattle.vb_ram.specs.Fields.{same_page, but_trans, but_wider}
 use Rattle.vb_driver.specs.Coding.{AreZeroed}
 

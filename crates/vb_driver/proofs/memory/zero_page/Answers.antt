@@ -1,4 +1,4 @@
-use Rattle.std.proofs.Common.{◌≡◌, ◌∙◌, sym, ap, subst, arith, ℕ, ◌+◌, ◌*◌, ◌<◌, IsSome, replicate, length}
+use Rattle.std.proofs.Common.{◌∙◌, sym, subst, arith, ℕ, ◌*◌, ◌<◌, IsSome, replicate, length}
 use Rattle.std.proofs.lemmas.List.{length-replicate}
 use Rattle.vb_ram.specs.Pages.{frame_at, Covers, Wrote}
 use Rattle.vb_driver.proofs.Buffers.{at_ok}

@@ -1,4 +1,4 @@
-use Rattle.std.proofs.Common.{◌≡◌, ◌∙◌}
+use Rattle.std.proofs.Common.{◌∙◌}
 use Rattle.vb_driver.proofs.Zeroing.{pages_more}
 use Rattle.vb_driver.proofs.memory.zero_rings.Goals as goal
 

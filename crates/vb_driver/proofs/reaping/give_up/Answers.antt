@@ -1,7 +1,5 @@
-use Rattle.std.proofs.Common.{◌≡◌, ◌∙◌, ◌<◌, sym, ap, arith, ℕ, bit_or, Option, None, Some, Result, Ok, Err, OnOk}
-use Rattle.vb_model.specs.declared.replies.Refusal.{Refusal}
+use Rattle.std.proofs.Common.{◌≡◌, ◌∙◌, ◌<◌, sym, ap, arith, ℕ, bit_or, None, Result, Ok, Err, OnOk}
 use Rattle.vb_model.specs.Status.{status_refusal}
-use Rattle.vb_ram.specs.Part.{Part}
 use Rattle.vb_status.specs.After.{after_status}
 use Rattle.vb_status.specs.Answers.{refusal_in}
 use Rattle.vb_status.specs.declared.bits.StatusFault.{StatusFault}

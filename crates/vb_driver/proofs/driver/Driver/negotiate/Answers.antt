@@ -1,7 +1,7 @@
-use Rattle.std.proofs.Common.{◌≡◌, ◌∙◌, sym, ap, subst, refl, ℕ, bit_or, false, Option, None, Some, is_err}
+use Rattle.std.proofs.Common.{◌≡◌, ◌∙◌, sym, ap, subst, refl, ℕ, bit_or, false, None, Some, is_err}
 use Rattle.vb_model.specs.declared.replies.Refusal.{Refusal}
 use Rattle.vb_model.specs.Status.{negotiate_refusal, status_refusal}
-use Rattle.vb_model.specs.Life.{feature_refusal, accepted_before}
+use Rattle.vb_model.specs.Life.{accepted_before}
 use Rattle.vb_ram.specs.Part.{Part}
 use Rattle.vb_status.specs.After.{after_reset}
 use Rattle.vb_status.specs.Answers.{refusal_of_fault}

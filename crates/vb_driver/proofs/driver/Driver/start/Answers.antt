@@ -1,4 +1,4 @@
-use Rattle.std.proofs.Common.{◌≡◌, sym, subst, arith}
+use Rattle.std.proofs.Common.{sym, subst, arith}
 use Rattle.vb_ram.specs.Pages.{Pages}
 use Rattle.vb_driver.specs.State.{Side}
 use Rattle.vb_driver.specs.Coding.{AreZeroed}
