@@ -10,6 +10,8 @@ mod places;
 mod queue;
 mod reaping;
 mod requests;
+#[cfg(test)]
+mod tests_lives;
 
 pub use answers::{Posted, Reaped};
 pub use driver::Driver;
