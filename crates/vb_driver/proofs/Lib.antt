@@ -12,3 +12,5 @@ pub mod Sizes
 pub mod Flags
 pub mod Allocating
 pub mod Owning
+pub mod Zeroing
+pub mod Starting

@@ -9,12 +9,12 @@ use Rattle.vb_model.specs.declared.replies.Refusal.TheVariants.{RingBroken, Alre
 use Rattle.vb_model.specs.Tests.{pages_where}
 use Rattle.vb_model.specs.Pages.{is_free, is_used, is_giving, is_lent, is_taking, is_stranded, is_reporting, is_lent_or_taking, place_of, placed, pages_of, is_wholly_free}
 use Rattle.vb_model.specs.Driver.{AllDistinct, with_block, without_block}
-use Rattle.vb_model.specs.Life.{place_after_reset, accepted_before}
+use Rattle.vb_model.specs.Life.{place_after_reset, feature_refusal, accepted_before}
 use Rattle.vb_model.specs.Limits.{max_outstanding}
 use Rattle.vb_model.specs.Layout.{ring_page, buffers_page}
 use Rattle.vb_model.specs.Status.{failed}
 use Rattle.vb_model.specs.Refusals.{first_refusal}
-use Rattle.vb_ram.specs.Pages.{Pages, byte_at, page_at, frame_at}
+use Rattle.vb_ram.specs.Pages.{Pages, byte_at, page_at, frame_at, contents_at}
 use Rattle.vb_ram.specs.Part.{Part}
 use Rattle.vb_status.specs.After.{after_reset}
 use Rattle.vb_chain.specs.Table.{descriptor_at}
@@ -173,7 +173,7 @@ pub record IsNewRing (mem : Pages) (side : Side) : Type 0 where
   pub shows : Shows mem side.ring.layout side.ring.size [] []
   pub tracks : Tracks mem side.ring [] [] 0
 
--- The rings begin anew in zeroed pages, and the device is told so.
+-- The rings begin anew in zeroed pages, and the device is told so: its status is ACKNOWLEDGE, DRIVER, FEATURES_OK and DRIVER_OK (1 + 2 + 8 + 4).
 pub record Starts (m1 m2 : Pages) (p1 p2 : Part) (d1 d2 : DriverState) (wanted : ℕ) : Type 0 where
   pub part : p2 ≡ record (after_reset p1) { status = 15; features = wanted }
   pub driver : d2 ≡ record d1 { inflate = fresh_side 0 d1.queue_size; deflate = fresh_side 1 d1.queue_size; features = wanted }
@@ -182,7 +182,14 @@ pub record Starts (m1 m2 : Pages) (p1 p2 : Part) (d1 d2 : DriverState) (wanted :
   pub zero : (page offset : ℕ) → page < 4 → offset < 4096 → byte_at m2 page offset ≡ 0
   pub others : (page : ℕ) → 4 ≤ page → page_at m2 page ≡ page_at m1 page
   pub backing : (page : ℕ) → frame_at m2 page ≡ frame_at m1 page
+  pub sizes : (page : ℕ) → length (contents_at m2 page) ≡ length (contents_at m1 page)
   pub count : length m2 ≡ length m1
+
+-- The device and its driver agree on the features (1 + 2 + 8).
+pub record Agrees (m1 m2 : Pages) (p1 p2 : Part) (d1 d2 : DriverState) (wanted : ℕ) : Type 0 where
+  pub mem : m2 ≡ m1
+  pub part : p2 ≡ record (after_reset p1) { status = 11; features = wanted }
+  pub driver : d2 ≡ record d1 { features = wanted }
 
 -- The driver gives up, where the device was asked for features that it refused (128 + 2 + 1).
 pub record GivesUp (m1 m2 : Pages) (p1 p2 : Part) (d1 d2 : DriverState) (features : ℕ) : Type 0 where
@@ -194,6 +201,12 @@ abbrev pub InitRefused : Refusal → Pages → Pages → Part → Part → Drive
 InitRefused AlreadyUp m1 m2 p1 p2 d1 d2 wanted = Unchanged m1 m2 p1 p2 d1 d2
 InitRefused NoFrame m1 m2 p1 p2 d1 d2 wanted = Unchanged m1 m2 p1 p2 d1 d2
 InitRefused refusal m1 m2 p1 p2 d1 d2 wanted = GivesUp m1 m2 p1 p2 d1 d2 (accepted_before refusal wanted)
+
+-- The device is reset, and then asked for the features.
+pub record NegotiatesBy {T : Type 0} (m1 m2 : Pages) (p1 p2 : Part) (d1 d2 : DriverState) (wanted : ℕ) (result : Result T Refusal) : Type 0 where
+  pub refusal : refusal_in result ≡ feature_refusal wanted
+  pub refused : IfErr result (λ refusal. GivesUp m1 m2 p1 p2 d1 d2 (accepted_before refusal wanted))
+  pub agrees : OnOk result (Agrees m1 m2 p1 p2 d1 d2 wanted)
 
 pub record InitsBy {T : Type 0} (m1 m2 : Pages) (p1 p2 : Part) (d1 d2 : DriverState) (wanted : ℕ) (result : Result T Refusal) : Type 0 where
   pub driver : IsDriver d1

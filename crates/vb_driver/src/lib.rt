@@ -12,6 +12,8 @@ mod reaping;
 mod requests;
 #[cfg(test)]
 mod tests;
+#[cfg(test)]
+mod tests_lives;
 
 pub use answers::{Posted, Reaped};
 pub use driver::Driver;

@@ -1,13 +1,109 @@
 // A guest's driver starts, and starts over (VIRTIO 1.1, 2.1 and 3.1.1).
 
-ghost use Rattle.vb_driver.specs.Calls.{ResetsBy};
+ghost use Rattle.std.specs.Prelude.{◌≡◌, ◌<◌, ◌≤◌, ℕ, IsSome, length};
+ghost use Rattle.vb_ram.specs.Pages.{frame_at};
+ghost use Rattle.vb_status.specs.After.{after_reset, with_new_queues};
+ghost use Rattle.vb_status.specs.Answers.{refusal_of_fault};
+ghost use Rattle.vb_status.specs.Bits.{feature_bits};
+ghost use Rattle.vb_driver.specs.State.{IsDriver, fresh_side};
+ghost use Rattle.vb_driver.specs.Coding.{AreZeroed};
+ghost use Rattle.vb_driver.specs.Calls.{IsNewRing, InitsBy, NegotiatesBy, ResetsBy};
 
 use crate::Driver;
+use crate::memory::{all_backed, zero_rings};
+use crate::reaping::give_up;
 use bitflags::Flags;
+use vb_model::Refusal;
 use vb_model::layout::{DEFLATE_RING_PAGE, INFLATE_RING_PAGE};
-use vb_status::{Features, Port, Status};
+use vb_status::{Features, Port, Status, StatusFault};
+
+/// A refusal in the words of the driver's calls.
+fn refusal_of(fault: StatusFault) -> Refusal
+    ensures { result ≡ refusal_of_fault fault }
+{
+    match fault {
+        StatusFault::ClearsBit => Refusal::ClearsBit,
+        StatusFault::OutOfOrder => Refusal::OutOfOrder,
+        StatusFault::FeatureNotOffered => Refusal::FeatureNotOffered,
+        StatusFault::MustTellMissing => Refusal::MustTellMissing,
+        StatusFault::VersionMissing => Refusal::VersionMissing,
+    }
+}
+
+/// Resets the device, and tells it that a driver has found it and knows what it is.
+fn begin<P: Port>(port: &mut P)
+    ensures part { P.part port.new ≡ record (after_reset (P.part port.old)) { status = 3 } }
+    ensures mem { P.mem port.new ≡ P.mem port.old }
+{
+    let _ = port.write_status(Status::empty());
+    let _ = port.write_status(Status::ACKNOWLEDGE);
+    let _ = port.write_status(Status::ACKNOWLEDGE.union(Status::DRIVER));
+}
 
 impl Driver {
+    /// Resets the device and agrees with it on the features, or gives up.
+    fn negotiate<P: Port>(&mut self, port: &mut P, wanted: Features) -> Result<(), Refusal>
+        ensures { NegotiatesBy (P.mem port.old) (P.mem port.new) (P.part port.old) (P.part port.new) self.old self.new (feature_bits wanted) result }
+    {
+        begin(port);
+        self.features = Features::empty();
+        if port.negotiate(wanted).is_err() {
+            give_up(port);
+            return Err(Refusal::FeatureNotOffered);
+        }
+        self.features = wanted;
+        let agreed = port.status().union(Status::FEATURES_OK);
+        if let Err(fault) = port.write_status(agreed) {
+            give_up(port);
+            return Err(refusal_of(fault));
+        }
+        Ok(())
+    }
+
+    /// Begins the rings anew in zeroed pages, and tells the device that they are ready.
+    fn start<P: Port>(&mut self, port: &mut P)
+        requires status { (P.part port.old).status ≡ 11 }
+        requires memory { 64 ≤ length (P.mem port.old) }
+        requires backed { (p : ℕ) → p < 13 → IsSome (frame_at (P.mem port.old) p) }
+        ensures part { P.part port.new ≡ record (with_new_queues (P.part port.old)) { status = 15 } }
+        ensures driver { self.new ≡ record self.old { inflate = fresh_side 0 self.old.queue_size; deflate = fresh_side 1 self.old.queue_size } }
+        ensures inflate { IsNewRing (P.mem port.new) self.new.inflate }
+        ensures deflate { IsNewRing (P.mem port.new) self.new.deflate }
+        ensures rings { AreZeroed (P.mem port.old) (P.mem port.new) 4 }
+    {
+        zero_rings(port);
+        self.inflate
+            .renew(INFLATE_RING_PAGE, self.config.queue_size);
+        self.deflate
+            .renew(DEFLATE_RING_PAGE, self.config.queue_size);
+        let ready = port.status().union(Status::DRIVER_OK);
+        let _ = port.write_status(ready);
+    }
+
+    /// Initialises the device with these features (VIRTIO 1.1, 3.1.1 and 5.5.5): nothing is out from
+    /// then on, and the rings' pages are zeroed. The driver can be initialised again only once the
+    /// device was reset.
+    ///
+    /// Refused for `AlreadyUp` (the status isn't 0), `NoFrame` (one of the pages of the rings and
+    /// buffers, 0 to 12, has no frame); then nothing is changed. Refused for `FeatureNotOffered`,
+    /// `MustTellMissing` and `VersionMissing` (these two features are needed): the driver gives
+    /// up then, by FAILED in the status.
+    pub fn init<P: Port>(&mut self, port: &mut P, wanted: Features) -> Result<(), Refusal>
+        requires memory { 64 ≤ length (P.mem port.old) }
+        ensures { InitsBy (P.mem port.old) (P.mem port.new) (P.part port.old) (P.part port.new) self.old self.new (feature_bits wanted) result }
+    {
+        let _places = &self.places;
+        if !port.status().is_empty() {
+            return Err(Refusal::AlreadyUp);
+        }
+        if !all_backed(port) {
+            return Err(Refusal::NoFrame);
+        }
+        self.negotiate(port, wanted)?;
+        self.start(port);
+        Ok(())
+    }
+
     /// Resets the device: nothing is out any more and no feature is accepted. Pages that were lent,
     /// or named by a request, are stranded: the host may have them, and they are offered first once
     /// the device is initialised again.

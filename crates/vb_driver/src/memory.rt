@@ -1,10 +1,16 @@
 // What the driver writes into guest memory beside its rings.
 
-ghost use Rattle.std.specs.Prelude.{◌≡◌, ◌+◌, ◌*◌, ◌<◌, IsSome, is_some, length};
-ghost use Rattle.vb_ram.specs.Pages.{frame_at, Covers, SameBut};
-ghost use Rattle.vb_driver.specs.Coding.{Names};
+ghost use Rattle.std.specs.Prelude.{◌≡◌, ℕ, ◌+◌, ◌*◌, ◌<◌, ◌≤◌, IsSome, is_some, length};
+ghost use Rattle.vb_ram.specs.Pages.{byte_at, frame_at, Covers, SameBut};
+ghost use Rattle.vb_driver.specs.Coding.{Names, AreZeroed};
+ghost use Rattle.vb_driver.specs.Answers.{has_frames};
 
-use vb_ram::{GuestBytes, write_u32};
+use vb_model::layout::{INFLATE_BUFFERS_PAGE, INFLATE_RING_PAGE};
+use vb_model::limits::RING_AND_BUFFER_PAGES;
+use vb_ram::{GuestBytes, PAGE_SIZE, write_u32};
+
+/// How many zeros are written at a time.
+const ZEROS: usize = 256;
 
 /// Writes page numbers from an offset of a page on, as the buffer of a request has them
 /// (VIRTIO 1.1, 5.5.6).
@@ -31,4 +37,45 @@ pub(crate) fn has_frame<G: GuestBytes>(ram: &mut G, page: u32) -> bool
     let mut byte = [0];
     let _ = ram.read(page, 0, &mut byte);
     ram.write(page, 0, &byte).is_ok()
+}
+
+/// Whether all pages of rings and buffers have frames; nothing is changed.
+pub(crate) fn all_backed<G: GuestBytes>(ram: &mut G) -> bool
+    requires { 64 ≤ length (G.mem ram.old) }
+    ensures value { result ≡ has_frames (G.mem ram.old) }
+    ensures mem { G.mem ram.new ≡ G.mem ram.old }
+    ensures part { G.part ram.new ≡ G.part ram.old }
+{
+    for page in 0..RING_AND_BUFFER_PAGES {
+        if !has_frame(ram, page) {
+            return false;
+        }
+    }
+    true
+}
+
+/// Makes all bytes of a page zeros.
+fn zero_page<G: GuestBytes>(ram: &mut G, page: u32)
+    requires inside { page < length (G.mem ram.old) }
+    requires backed { IsSome (frame_at (G.mem ram.old) page) }
+    ensures zero { (offset : ℕ) → offset < 4096 → byte_at (G.mem ram.new) page offset ≡ 0 }
+    ensures rest { SameBut (G.mem ram.old) (G.mem ram.new) page 0 4096 }
+    ensures part { G.part ram.new ≡ G.part ram.old }
+{
+    let zeros = [0; ZEROS];
+    for k in 0..PAGE_SIZE / ZEROS {
+        let _ = ram.write(page, ZEROS * k, &zeros);
+    }
+}
+
+/// Makes all bytes of the rings' pages zeros.
+pub(crate) fn zero_rings<G: GuestBytes>(ram: &mut G)
+    requires memory { 64 ≤ length (G.mem ram.old) }
+    requires backed { (p : ℕ) → p < 13 → IsSome (frame_at (G.mem ram.old) p) }
+    ensures zeroed { AreZeroed (G.mem ram.old) (G.mem ram.new) 4 }
+    ensures part { G.part ram.new ≡ G.part ram.old }
+{
+    for page in INFLATE_RING_PAGE..INFLATE_BUFFERS_PAGE {
+        zero_page(ram, page);
+    }
 }

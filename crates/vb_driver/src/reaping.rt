@@ -13,8 +13,7 @@ use vb_model::{Place, Refusal};
 use vb_status::{Port, Status};
 
 /// Tells the device that its driver has given up.
-fn give_up<P: Port>(port: &mut P)
-    requires { is_up (P.part port.old).status ≡ true }
+pub(crate) fn give_up<P: Port>(port: &mut P)
     ensures part { P.part port.new ≡ record (P.part port.old) { status = bit_or (P.part port.old).status failed } }
     ensures mem { P.mem port.new ≡ P.mem port.old }
 {

@@ -8,7 +8,7 @@ use Rattle.std.proofs.lemmas.Nat.{mod_below}
 use Rattle.std.proofs.lemmas.Bool.{cases_eq, cases_lt}
 use Rattle.std.proofs.Math.Nat.{mod-mod_of_dvd, dvd_of_mod-eq-zero, div-add-mod, mul-le-mul_left}
 use Rattle.vb_ram.specs.Pages.{byte_at, page_at, Pages, field, SameIn}
-use Rattle.vb_ram.specs.Fields.{field_zero, same_page, field_in}
+use Rattle.vb_ram.specs.Fields.{same_page, field_in}
 use Rattle.vb_chain.specs.declared.Descriptor.{Descriptor}
 use Rattle.vb_chain.specs.Table.{descriptor_at}
 use Rattle.vb_chain.specs.TableLaws.{descriptor_kept}
@@ -188,12 +188,17 @@ id_shown mem l q most elems s seen size fits shows at low near =
 
 -- ---- fresh and untouched pages
 
--- Zeroed pages show two empty lists.
-pub fresh_entries : (mem : Pages) (l : Layout) (q : ℕ) → ((k : ℕ) → byte_at mem l.avail.page k ≡ 0) → ((k : ℕ) → byte_at mem l.used.page k ≡ 0) → ShowsEntries mem l q [] []
+-- Where both indices are 0, the rings show two empty lists.
+pub fresh_entries : (mem : Pages) (l : Layout) (q : ℕ) → field 2 mem l.avail.page (avail_index l) ≡ 0 → field 2 mem l.used.page (used_index l) ≡ 0 → ShowsEntries mem l q [] []
 fresh_entries mem l q a u = record {
-  avail = record { index = field_zero 2 mem l.avail.page (avail_index l) a; entries = λ k lt near. absurd (omega arith) };
-  used = record { index = field_zero 2 mem l.used.page (used_index l) u; ids = λ k lt near. absurd (omega arith); lens = λ k lt near. absurd (omega arith) };
+  avail = record { index = a; entries = λ k lt near. absurd (omega arith) };
+  used = record { index = u; ids = λ k lt near. absurd (omega arith); lens = λ k lt near. absurd (omega arith) };
 }
+
+-- Two zeros are the number 0.
+pub index_zero : (mem : Pages) (p o : ℕ) → byte_at mem p o ≡ 0 → byte_at mem p (o + 1) ≡ 0 → field 2 mem p o ≡ 0
+unfolding field
+index_zero mem p o a b = omega (arith, a, b)
 
 -- Where the rings' pages are as before, they show what they showed.
 pub entries_apart : (old new : Pages) (l : Layout) (q : ℕ) (heads : List ℕ) (elems : List UsedElem) → IsSize q → page_at new l.avail.page ≡ page_at old l.avail.page → page_at new l.used.page ≡ page_at old l.used.page

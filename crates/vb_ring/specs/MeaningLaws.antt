@@ -17,13 +17,13 @@ use Rattle.vb_chain.specs.ChainLaws.{flags_next}
 use Rattle.vb_chain.specs.Written.{linked, empty}
 use Rattle.vb_ring.specs.declared.layout.Layout.{Layout}
 use Rattle.vb_ring.specs.Layout.{IsSize, Fits, layout_of}
-use Rattle.vb_ring.specs.Entries.{is_own, is_head, next_id, only_head}
+use Rattle.vb_ring.specs.Entries.{avail_index, used_index, is_own, is_head, next_id, only_head}
 use Rattle.vb_ring.specs.Numbers.{numbers, numbers_pass, numbers_rise, numbers_none, length_gain, length_two, length-numbers}
 use Rattle.vb_ring.specs.Ends.{DriverEnd, IsDriverEnd, is_free, free_descriptors, heads_out, outstanding, next_path, claimed, released, after_add, after_take, used_answer, fresh_end}
 use Rattle.vb_ring.specs.Owners.{is_in-at, is_in-some, not_in, nowhere_in, take_inside, claimed-at, released-at}
 use Rattle.vb_ring.specs.Meaning.{UsedElem, no_elem, ids, times, IsOut, IsTablePath, ShowsAvail, ShowsUsed, ShowsEntries, Shows, Tracks}
 use Rattle.vb_ring.specs.Calls.{Links}
-use Rattle.vb_ring.specs.EntryLaws.{id_shown, entries_apart, fresh_entries}
+use Rattle.vb_ring.specs.EntryLaws.{id_shown, entries_apart, fresh_entries, index_zero}
 
 -- ---- how often a head stands in a list
 
@@ -403,15 +403,20 @@ tracks_apart old new r heads elems s same tracks = record {
   owns = λ j out xs whole. tracks.owns j out xs (table_path_kept (descriptor_at old r.layout.table) (descriptor_at new r.layout.table) r.size j xs (λ i lt. descriptor_apart old new r.layout.table i same) whole);
 }
 
--- Zeroed pages show two empty lists.
-pub fresh_shows : (mem : Pages) (l : Layout) (q : ℕ) → ((k : ℕ) → byte_at mem l.avail.page k ≡ 0) → ((k : ℕ) → byte_at mem l.used.page k ≡ 0) → Shows mem l q [] []
-fresh_shows mem l q a u = record {
-  entries = fresh_entries mem l q a u;
-  among = λ h. omega arith;
-  most = omega arith;
-  once = λ h. omega arith;
-  apart = λ h j ne out_h. absurd (omega (arith, out_h));
-}
+-- Pages of zeros show two empty lists.
+pub fresh_shows : (mem : Pages) (l : Layout) (q : ℕ) → Fits l q → ((k : ℕ) → k < 4096 → byte_at mem l.avail.page k ≡ 0) → ((k : ℕ) → k < 4096 → byte_at mem l.used.page k ≡ 0) → Shows mem l q [] []
+fresh_shows mem l q fits a u =
+    let a1 = a (avail_index l) (omega (arith, fits.avail)) in
+    let a2 = a (avail_index l + 1) (omega (arith, fits.avail)) in
+    let u1 = u (used_index l) (omega (arith, fits.used)) in
+    let u2 = u (used_index l + 1) (omega (arith, fits.used)) in
+    record {
+      entries = fresh_entries mem l q (index_zero mem l.avail.page (avail_index l) a1 a2) (index_zero mem l.used.page (used_index l) u1 u2);
+      among = λ h. omega arith;
+      most = omega arith;
+      once = λ h. omega arith;
+      apart = λ h j ne out_h. absurd (omega (arith, out_h));
+    }
 
 -- A fresh driver's end has no head out.
 fresh_none : (q i : ℕ) → is_head (replicate q None) i ≡ false

@@ -7,7 +7,7 @@ ghost use Rattle.vb_chain.specs.Table.{descriptor_at};
 ghost use Rattle.vb_chain.specs.Chain.{ChainGives};
 ghost use Rattle.vb_chain.specs.Written.{AreSound};
 ghost use Rattle.vb_ring.specs.declared.layout.Layout.{Layout};
-ghost use Rattle.vb_ring.specs.Layout.{IsSize};
+ghost use Rattle.vb_ring.specs.Layout.{IsSize, Fits};
 ghost use Rattle.vb_ring.specs.Ends.{DriverEnd, next_head, outstanding, fresh_end};
 ghost use Rattle.vb_ring.specs.Meaning.{UsedElem, Shows, Tracks};
 ghost use Rattle.vb_ring.specs.Calls.{AddsBy};
@@ -28,7 +28,7 @@ pub fn chains_that_are_out_stay()
 
 /// Zeroed pages show two empty lists, and a fresh driver's end tracks them.
 pub fn zeroed_pages_show_nothing()
-    ensures { (mem : Pages) (l : Layout) (q : ℕ) → ((k : ℕ) → byte_at mem l.avail.page k ≡ 0) → ((k : ℕ) → byte_at mem l.used.page k ≡ 0)
+    ensures { (mem : Pages) (l : Layout) (q : ℕ) → Fits l q → ((k : ℕ) → k < 4096 → byte_at mem l.avail.page k ≡ 0) → ((k : ℕ) → k < 4096 → byte_at mem l.used.page k ≡ 0)
         → Shows mem l q [] [] × Tracks mem (fresh_end l q) [] [] 0 }
 {}
 

@@ -1,4 +1,4 @@
-use Rattle.std.proofs.Common.{◌≡◌, sym, subst, List}
+use Rattle.std.proofs.Common.{sym, subst, List}
 use Rattle.vb_model.specs.declared.places.Place.{Place}
 use Rattle.vb_status.specs.Bits.{feature_bits}
 use Rattle.vb_driver.specs.State.{Side, DriverState}

@@ -1,0 +1,10 @@
+use Rattle.std.proofs.Common.{◌≡◌, ℕ, ◌<◌, true, is_some}
+use Rattle.vb_ram.specs.Pages.{frame_at}
+use Rattle.vb_driver.proofs.memory.all_backed.Given as goal
+
+abbrev pub invariant-loop-page : goal.invariant-loop-page
+invariant-loop-page g l = record {
+  mem : g.G.GuestBytes.mem l.ram ≡ g.G.GuestBytes.mem l.initial.ram;
+  part : g.G.GuestBytes.part l.ram ≡ g.G.GuestBytes.part l.initial.ram;
+  backed : (p : ℕ) → p < l.page → is_some (frame_at (g.G.GuestBytes.mem l.initial.ram) p) ≡ true;
+}

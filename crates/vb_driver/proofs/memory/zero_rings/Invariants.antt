@@ -1,0 +1,9 @@
+use Rattle.std.proofs.Common.{◌≡◌}
+use Rattle.vb_driver.specs.Coding.{AreZeroed}
+use Rattle.vb_driver.proofs.memory.zero_rings.Given as goal
+
+abbrev pub invariant-loop-page : goal.invariant-loop-page
+invariant-loop-page g l = record {
+  zeroed : AreZeroed (g.G.GuestBytes.mem l.initial.ram) (g.G.GuestBytes.mem l.ram) l.page;
+  part : g.G.GuestBytes.part l.ram ≡ g.G.GuestBytes.part l.initial.ram;
+}
