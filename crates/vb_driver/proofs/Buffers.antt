@@ -1,0 +1,63 @@
+-- Writes of the driver to guest memory.
+use Rattle.std.proofs.Common.{◌≡◌, ◌≢◌, ◌∙◌, sym, ap, subst, arith, ℕ, ◌+◌, ◌-◌, ◌*◌, ◌/◌, ◌%◌, ◌<◌, ◌≤◌, List, length, inl, inr, Option, None, Result, Ok, Err, get_or, slice_index, OnOk, OnErr, IsOk}
+use Rattle.std.proofs.lemmas.Bool.{cases_lt, cases_eq}
+use Rattle.std.proofs.lemmas.List.{same_lists, get_or_default}
+use Rattle.std.proofs.Math.Nat.{div-add-mod}
+use Rattle.vb_model.specs.Layout.{buffer_page, buffer_offset}
+use Rattle.vb_ram.specs.Pages.{Page, Pages, page_at, field, byte_at, SameBut, SameIn, Wrote}
+use Rattle.vb_ram.specs.Fields.{field_in, same_below, same_above, same_other, same_trans}
+use Rattle.vb_ram.specs.Contents.{same_page_at, same_contents}
+use Rattle.vb_driver.specs.Coding.{Names, SameButBuffer}
+
+-- bytes that stood there already, written, change nothing
+pub wrote_same : (old new : Pages) (p off : ℕ) (bs : List ℕ) → Wrote old new p off bs → ((k : ℕ) → k < length bs → slice_index bs k ≡ byte_at old p (off + k)) → new ≡ old
+wrote_same old new p off bs w same =
+    let bytes : (o : ℕ) → byte_at new p o ≡ byte_at old p o = λ o. elim (cases_lt o off) [
+      | inl low ↦ w.rest.below o low
+      | inr high ↦ elim (cases_lt o (off + length bs)) [
+        | inl inside ↦
+            let at : off + (o - off) ≡ o = omega arith in
+            let short : o - off < length bs = omega arith in
+            ap (byte_at new p) (sym at) ∙ (w.written (o - off) short ∙ (same (o - off) short ∙ ap (byte_at old p) at))
+        | inr past ↦ w.rest.above o past
+      ]
+    ] in
+    let page : page_at new p ≡ page_at old p = same_page_at new old p (w.rest.backing p) (same_contents new old p (w.rest.sizes p) bytes) in
+    let each : (k : ℕ) → page_at new k ≡ page_at old k = λ k. elim (cases_eq k p) [
+      | inl is ↦ ap (page_at new) is ∙ (page ∙ sym (ap (page_at old) is))
+      | inr ne ↦ w.rest.others k ne
+    ] in
+    same_lists new old w.rest.count (λ k d lt. get_or_default new k d None lt ∙ (each k ∙ get_or_default old k None d (omega (arith, w.rest.count))))
+
+pub by_result : {T E : Type 0} (r : Result T E) (P Q R : Type 0) → OnOk r P → OnErr r Q → (P → R) → (Q → R) → R
+by_result (Ok x) P Q R ok err on_ok on_err = on_ok ok
+by_result (Err e) P Q R ok err on_ok on_err = on_err err
+
+pub at_ok : {T E : Type 0} (r : Result T E) (P : Type 0) → IsOk r → OnOk r P → P
+at_ok (Ok x) P is h = h
+at_ok (Err e) P is h = cc
+
+-- what is written to one buffer leaves the others alone
+pub buffer_apart : (old new : Pages) (base h k n : ℕ) → n ≤ 1024 → SameBut old new (buffer_page base h) (buffer_offset h) (buffer_offset h + n) → k ≢ h → SameIn old new (buffer_page base k) (buffer_offset k) (buffer_offset k + 1024)
+buffer_apart old new base h k n small but ne =
+    let hd = div-add-mod h 4 in
+    let kd = div-add-mod k 4 in
+    elim (cases_eq (k / 4) (h / 4)) [
+      | inl same ↦
+          let here : buffer_page base h ≡ buffer_page base k = ap (λ x. base + x) (sym same) in
+          let P : ℕ → Type 0 = λ p. SameIn old new p (buffer_offset k) (buffer_offset k + 1024) in
+          subst P here (elim (cases_lt (k % 4) (h % 4)) [
+            | inl less ↦ same_below old new _ _ _ _ _ but (omega arith)
+            | inr more ↦ same_above old new _ _ _ _ _ but (omega (arith, ne))
+          ])
+      | inr apart ↦ same_other old new _ _ _ _ _ _ but (omega (arith, apart))
+    ]
+
+pub names_at : (mem : Pages) (p o p' o' : ℕ) (xs ys : List ℕ) → p ≡ p' → o ≡ o' → xs ≡ ys → Names mem p o xs → Names mem p' o' ys
+names_at mem p o p' o' xs ys e f s n = subst (λ q. Names mem q o' ys) e (subst (λ q. Names mem p q ys) f (subst (λ zs. Names mem p o zs) s n))
+
+-- page numbers in a page that a write to another leaves
+pub names_kept : (old new : Pages) (p o : ℕ) (xs : List ℕ) (hi : ℕ) → SameIn old new p o hi → o + 4 * length xs ≤ hi → Names old p o xs → Names new p o xs
+names_kept old new p o xs hi same fits n = record {
+  each = λ k lt. field_in 4 old new p o hi (o + 4 * k) same (omega arith) (omega arith) ∙ n.each k lt;
+}

@@ -1,0 +1,82 @@
+-- Counts of places, as a page moves.
+use Rattle.std.proofs.Common.{◌≡◌, ◌≢◌, ◌∙◌, sym, ap, arith, ℕ, ◌+◌, ◌-◌, ◌<◌, ◌≤◌, Bool, true, false, cond, eqb, List, length, get_or, set, count_by, sum_by, inl, inr, eq-eqb, refl}
+use Rattle.std.proofs.lemmas.List.Sums.{sum_by-set, get_or-le-sum_by}
+use Rattle.std.proofs.lemmas.List.{get_or-set_same, get_or-set_other, length-set}
+use Rattle.std.proofs.lemmas.Bool.{cases_eq, ne_eqb}
+use Rattle.vb_model.specs.declared.places.Place.{Place}
+use Rattle.vb_model.specs.declared.places.Place.TheVariants.{Reserved, Free, Used, Giving, Lent, Taking, Stranded, Reporting}
+use Rattle.vb_driver.specs.Places.{number_of, is_at, AreCounts}
+
+pub number_small : (place : Place) → number_of place < 8
+number_small Reserved = omega arith
+number_small Free = omega arith
+number_small Used = omega arith
+number_small Giving = omega arith
+number_small Lent = omega arith
+number_small Taking = omega arith
+number_small Stranded = omega arith
+number_small Reporting = omega arith
+
+-- 1 where the numbers are equal
+abbrev pub hit : ℕ → ℕ → ℕ
+hit a b = cond (eqb a b) 1 0
+
+hit_same : (a b : ℕ) → a ≡ b → hit a b ≡ 1
+hit_same a b e = ap (λ v. cond v 1 0) (eq-eqb a b e)
+
+hit_other : (a b : ℕ) → (a ≡ b → ⊥) → hit a b ≡ 0
+hit_other a b ne = ap (λ v. cond v 1 0) (ne_eqb a b ne)
+
+-- how many pages have a place, as one moves
+count_moves : (places : List Place) (page : ℕ) (which new old : Place) → page < length places
+    → count_by (is_at which) (set places page new) + hit (number_of (get_or places page old)) (number_of which) ≡ count_by (is_at which) places + hit (number_of new) (number_of which)
+count_moves places page which new old lt = sum_by-set (λ x. cond (is_at which x) 1 0) places page new old lt
+
+-- a page's own place has a page
+pub counts_some : (places : List Place) (page : ℕ) (old : Place) → page < length places → 1 ≤ count_by (is_at (get_or places page old)) places
+counts_some places page old lt =
+    let here = get_or places page old in
+    let one : hit (number_of here) (number_of here) ≡ 1 = hit_same (number_of here) (number_of here) refl in
+    let low : hit (number_of here) (number_of here) ≤ count_by (is_at here) places = get_or-le-sum_by (λ x. cond (is_at here x) 1 0) places page old lt in
+    omega arith
+
+-- the counts after a page moved
+pub counts_moved : (counts : List ℕ) (places : List Place) (page o n : ℕ) (new was : Place) → length counts ≡ 8 → page < length places → was ≡ get_or places page was → o ≡ number_of was → n ≡ number_of new
+    → o < 8 → n < 8 → AreCounts counts places
+    → AreCounts (set (set counts o (get_or counts o 0 - 1)) n (get_or (set counts o (get_or counts o 0 - 1)) n 0 + 1)) (set places page new)
+counts_moved counts places page o n new old eight lt here was is small small2 all =
+    let mid = set counts o (get_or counts o 0 - 1) in
+    let size : length mid ≡ length counts = length-set counts o _ in
+    let own : get_or counts o 0 ≡ count_by (is_at old) places = ap (λ k. get_or counts k 0) was ∙ all.each old in
+    let some : 1 ≤ count_by (is_at old) places = let e : count_by (is_at old) places ≡ count_by (is_at (get_or places page old)) places = ap (λ v. count_by (is_at v) places) here in omega (arith, counts_some places page old lt) in
+    record {
+      each = λ which.
+          let w = number_of which in
+          let there : hit (number_of (get_or places page old)) w ≡ hit (number_of old) w = ap (λ v. hit (number_of v) w) (sym here) in
+          let moves : count_by (is_at which) (set places page new) + hit (number_of (get_or places page old)) w ≡ count_by (is_at which) places + hit (number_of new) w = count_moves places page which new old lt in
+          let before : get_or counts w 0 ≡ count_by (is_at which) places = all.each which in
+          let middle : get_or mid w 0 + hit o w ≡ count_by (is_at which) places = elim (cases_eq w o) [
+            | inl same ↦
+                let e : get_or mid w 0 ≡ get_or counts o 0 - 1 = ap (λ k. get_or mid k 0) same ∙ get_or-set_same counts o _ 0 (omega arith) in
+                let f : get_or counts w 0 ≡ get_or counts o 0 = ap (λ k. get_or counts k 0) same in
+                let h : hit o w ≡ 1 = hit_same o w (sym same) in
+                omega arith
+            | inr ne ↦
+                let e : get_or mid w 0 ≡ get_or counts w 0 = get_or-set_other counts o w _ 0 ne in
+                let h : hit o w ≡ 0 = hit_other o w (λ q. ne (sym q)) in
+                omega arith
+          ] in
+          let hits : hit o w ≡ hit (number_of old) w = ap (λ k. hit k w) was in
+          let hits2 : hit n w ≡ hit (number_of new) w = ap (λ k. hit k w) is in
+          elim (cases_eq w n) [
+            | inl same ↦
+                let e : get_or (set mid n (get_or mid n 0 + 1)) w 0 ≡ get_or mid n 0 + 1 = ap (λ k. get_or (set mid n (get_or mid n 0 + 1)) k 0) same ∙ get_or-set_same mid n _ 0 (omega arith) in
+                let f : get_or mid w 0 ≡ get_or mid n 0 = ap (λ k. get_or mid k 0) same in
+                let h : hit n w ≡ 1 = hit_same n w (sym same) in
+                omega arith
+            | inr ne ↦
+                let e : get_or (set mid n (get_or mid n 0 + 1)) w 0 ≡ get_or mid w 0 = get_or-set_other mid n w _ 0 ne in
+                let h : hit n w ≡ 0 = hit_other n w (λ q. ne (sym q)) in
+                omega arith
+          ];
+    }

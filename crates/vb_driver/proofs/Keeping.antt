@@ -1,0 +1,99 @@
+-- What holds of each driver, as pages move.
+use Rattle.std.proofs.Common.{◌≡◌, ◌≢◌, ◌∙◌, sym, ap, subst, arith, refl, ℕ, ◌+◌, ◌<◌, ◌≤◌, Bool, true, false, cond, eqb, ◌||◌, ◌⊎◌, List, [], ◌∷◌, ◌++◌, length, take, get_or, set, map, inl, inr, if◌then◌else◌}
+use Rattle.std.proofs.lemmas.List.{same_lists, length-map, get_or-map, get_or_past, get_or_default}
+use Rattle.std.proofs.lemmas.Bool.{cases_lt, cases_Bool}
+use Rattle.vb_model.specs.Tests.{is_in, one_if, each_page, pages_where}
+use Rattle.vb_model.specs.Pages.{place_of, placed, is_free, is_used, is_giving, is_lent, is_taking, is_stranded, is_reporting, Block}
+use Rattle.vb_model.specs.declared.places.Place.{Place}
+use Rattle.vb_model.specs.declared.places.Place.TheVariants.{Reserved, Free, Used, Giving, Lent, Taking, Stranded, Reporting}
+use Rattle.vb_model.proofs.Tables.{each_page-get, length-each_from}
+use Rattle.vb_driver.specs.State.{Side, DriverState, AreRequests, IsQueue, IsDriver, naming}
+use Rattle.vb_driver.specs.Areas.{AreasState, IsKept, is_covered, flagged}
+use Rattle.vb_driver.proofs.Placing.{length-placed, placed-get}
+
+-- ---- a page's place
+
+pub there_by : (places : List Place) (p : ℕ) (test : Place → Bool) → test Reserved ≡ false → test (place_of places p) ≡ true → p < length places
+there_by places p test fails passes = elim (cases_lt p (length places)) [
+  | inl lt ↦ lt
+  | inr past ↦ (let wrong : true ≡ false = sym passes ∙ (ap test (get_or_past places p Reserved past) ∙ fails) in cc)
+]
+
+pub place_placed : (pages : List ℕ) (to : Place) (places : List Place) (p : ℕ) → (is_in p pages ≡ true → p < length places) → place_of (placed pages to places) p ≡ cond (is_in p pages) to (place_of places p)
+place_placed pages to places p there =
+    each_page-get (λ page old. if is_in page pages then to else old) places p Reserved (λ far. at (is_in p pages) refl far)
+  where
+    at : (b : Bool) → is_in p pages ≡ b → length places ≤ p → cond (is_in p pages) to Reserved ≡ Reserved
+    at true e far = absurd (omega (arith, there e))
+    at false e far = ap (λ v. cond v to Reserved) e
+
+-- ---- free pages
+
+pub free_flagged : (places : List Place) (pages others : List ℕ) (to : Place) (flag : Bool)
+    → ((p : ℕ) (place : Place) → place ≡ place_of places p → cond (is_in p others) flag (is_free place) ≡ is_free (cond (is_in p pages) to place))
+    → flagged others flag (map is_free places) ≡ map is_free (placed pages to places)
+free_flagged places pages others to flag agree =
+    let left = flagged others flag (map is_free places) in
+    let moved = placed pages to places in
+    let n1 : length left ≡ length places = length-each_from 0 (λ page old. if is_in page others then flag else old) (map is_free places) ∙ length-map places is_free in
+    let n2 : length moved ≡ length places = length-placed pages to places in
+    same_lists left (map is_free moved) (n1 ∙ sym (length-map moved is_free ∙ n2)) (λ k d near.
+    let inside : k < length places = omega arith in
+    let here : place_of places k ≡ get_or places k Reserved = refl in
+    each_page-get (λ page old. if is_in page others then flag else old) (map is_free places) k d (λ far. absurd (omega (arith, length-map places is_free)))
+    ∙ (ap (λ v. cond (is_in k others) flag v) (get_or-map is_free places k Reserved d inside)
+    ∙ (agree k (place_of places k) refl
+    ∙ sym (get_or-map is_free moved k Reserved d (omega arith) ∙ ap is_free (placed-get pages to places k Reserved inside)))))
+
+pub free_same : (places : List Place) (pages : List ℕ) (to : Place)
+    → ((p : ℕ) (place : Place) → place ≡ place_of places p → is_free place ≡ is_free (cond (is_in p pages) to place))
+    → map is_free places ≡ map is_free (placed pages to places)
+free_same places pages to agree =
+    let moved = placed pages to places in
+    let n2 : length moved ≡ length places = length-placed pages to places in
+    same_lists (map is_free places) (map is_free moved) (length-map places is_free ∙ sym (length-map moved is_free ∙ n2)) (λ k d near.
+    let inside : k < length places = omega (arith, length-map places is_free) in
+    get_or-map is_free places k Reserved d inside
+    ∙ (agree k (place_of places k) refl
+    ∙ sym (get_or-map is_free moved k Reserved d (omega arith) ∙ ap is_free (placed-get pages to places k Reserved inside))))
+
+-- ---- the whole
+
+pub record Moves (d : DriverState) (areas areas2 : AreasState) (pages : List ℕ) (to : Place) (i2 e2 : Side) : Type 0 where
+  pub kept : IsKept d areas
+  pub there : (p : ℕ) → is_in p pages ≡ true → p < length d.places
+  pub unused : (p : ℕ) → is_in p pages ≡ true → is_used (place_of d.places p) ≡ false
+  pub inflate : IsQueue i2 0 d.queue_size
+  pub deflate : IsQueue e2 1 d.queue_size
+  pub giving : (p : ℕ) → naming p i2.sent ≤ one_if (is_giving (cond (is_in p pages) to (place_of d.places p)))
+  pub taking : (p : ℕ) → naming p e2.sent ≤ one_if (is_taking (cond (is_in p pages) to (place_of d.places p)))
+  pub free : areas2.free ≡ map is_free (placed pages to d.places)
+  pub proper : is_reporting to ≡ false
+
+pub kept_moved : (d : DriverState) (areas areas2 : AreasState) (pages : List ℕ) (to : Place) (i2 e2 : Side) → Moves d areas areas2 pages to i2 e2
+    → IsKept (record d { places = placed pages to d.places; inflate = i2; deflate = e2 }) areas2
+kept_moved d areas areas2 pages to i2 e2 m =
+    let place : (p : ℕ) → place_of (placed pages to d.places) p ≡ cond (is_in p pages) to (place_of d.places p) = λ p. place_placed pages to d.places p (m.there p) in
+    record {
+      driver = record {
+        table = length-placed pages to d.places ∙ m.kept.driver.table;
+        least = m.kept.driver.least;
+        most = m.kept.driver.most;
+        size = m.kept.driver.size;
+        inflate = m.inflate;
+        deflate = m.deflate;
+        giving = λ p. omega (arith, m.giving p, ap (λ (v : Place). one_if (is_giving v)) (place p));
+        taking = λ p. omega (arith, m.taking p, ap (λ (v : Place). one_if (is_taking v)) (place p));
+        unreported = λ p. ap is_reporting (place p) ∙ proper_at p (is_in p pages) refl (m.kept.driver.unreported p);
+      };
+      free = m.free;
+      used = λ p covered. place p ∙ used_at p (is_in p pages) refl (m.kept.used p covered);
+    }
+  where
+    used_at : (p : ℕ) (b : Bool) → is_in p pages ≡ b → place_of d.places p ≡ Used → cond (is_in p pages) to (place_of d.places p) ≡ Used
+    used_at p true e is = (let wrong : true ≡ false = sym (ap is_used is) ∙ m.unused p e in cc)
+    used_at p false e is = ap (λ v. cond v to (place_of d.places p)) e ∙ is
+
+    proper_at : (p : ℕ) (b : Bool) → is_in p pages ≡ b → is_reporting (place_of d.places p) ≡ false → is_reporting (cond (is_in p pages) to (place_of d.places p)) ≡ false
+    proper_at p true e old = ap (λ v. is_reporting (cond v to (place_of d.places p))) e ∙ m.proper
+    proper_at p false e old = ap (λ v. is_reporting (cond v to (place_of d.places p))) e ∙ old

@@ -1,0 +1,11 @@
+pub mod Counting
+pub mod Placing
+pub mod Buffers
+pub mod RequestTables
+pub mod Posting
+pub mod Naming
+pub mod Keeping
+pub mod Moving
+pub mod Refusing
+pub mod Failing
+pub mod Sizes

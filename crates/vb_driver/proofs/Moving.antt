@@ -1,0 +1,494 @@
+-- The pages that each call moves.
+use Rattle.std.proofs.Common.{◌≡◌, ◌≢◌, ◌∙◌, sym, ap, subst, arith, refl, ℕ, zero, suc, replicate, ◌+◌, ◌-◌, ◌<◌, ◌≤◌, Bool, true, false, cond, eqb, ◌||◌, ◌&&◌, ◌⊎◌, List, [], ◌∷◌, ◌++◌, length, take, get_or, set, map, count_by, inl, inr, Some, Ok, IsTrue}
+use Rattle.std.proofs.lemmas.Bool.{cases_Bool, cases_lt}
+use Rattle.std.proofs.lemmas.List.{length-take, length-map, get_or-map, get_or_past}
+use Rattle.std.specs.List.{list_all}
+use Rattle.std.proofs.lemmas.List.Sums.{sum_by-cons, count_by-le-length}
+use Rattle.std.proofs.lemmas.List.Folds.{list_any-append}
+use Rattle.vb_model.specs.Tests.{is_in, one_if, pages_from, pages_where}
+use Rattle.vb_model.specs.Pages.{place_of, placed, is_free, is_used, is_giving, is_lent, is_taking, is_stranded, is_reporting, is_lent_or_taking, all_free}
+use Rattle.vb_model.specs.declared.places.Place.{Place}
+use Rattle.vb_model.specs.declared.places.Place.TheVariants.{Reserved, Free, Used, Giving, Lent, Taking, Stranded, Reporting}
+use Rattle.vb_model.proofs.Tables.{pages_where-passes, is_in-take, is_in-append, list_all-at, count_by-cons}
+use Rattle.vb_model.specs.Life.{place_after_reset}
+use Rattle.vb_model.specs.Layout.{ring_page}
+use Rattle.vb_model.proofs.GuestSteps.{place_of-reset}
+use Rattle.vb_ram.specs.Pages.{Pages}
+use Rattle.vb_ring.specs.Ends.{after_add}
+use Rattle.vb_driver.specs.Places.{is_at}
+use Rattle.vb_driver.specs.State.{Side, DriverState, AreRequests, IsQueue, IsDriver, naming, sent_by, fresh_side, fresh_driver}
+use Rattle.vb_driver.specs.Areas.{AreasState, IsKept, flagged, is_free_at, is_covered}
+use Rattle.vb_driver.specs.Calls.{Posts, lowest_lent, stranded_first, after_reap}
+use Rattle.vb_driver.proofs.Naming.{times_in, naming_more, naming_same, naming_less, named_place, named_once, once_lowest, once_append, once_distinct}
+use Rattle.vb_driver.proofs.Keeping.{Moves, kept_moved, there_by, free_same, free_flagged}
+use Rattle.std.proofs.lemmas.List.FromFn.{get_or-map-range_with_len, length-map-range_with_len}
+use Rattle.std.proofs.Common.{nat_lt}
+use Rattle.vb_ring.specs.Layout.{IsSize}
+use Rattle.vb_driver.proofs.Placing.{first_place}
+use Rattle.vb_driver.proofs.RequestTables.{requests_taken, requests_fresh}
+
+-- ---- tests of places
+
+pub pages_same : (k : ℕ) (f h : Place → Bool) (xs : List Place) → ((x : Place) → f x ≡ h x) → pages_from k f xs ≡ pages_from k h xs
+pages_same k f h [] same = refl
+pages_same k f h (x ∷ xs) same = ap (λ v. cond v (k ∷ pages_from (suc k) f xs) (pages_from (suc k) f xs)) (same x) ∙ ap (λ (l : List ℕ). cond (h x) (k ∷ l) l) (pages_same (suc k) f h xs same)
+
+pub count_same : (f h : Place → Bool) (xs : List Place) → ((x : Place) → f x ≡ h x) → count_by f xs ≡ count_by h xs
+count_same f h [] same = refl
+count_same f h (x ∷ xs) same = count_by-cons f x xs ∙ (ap (λ v. one_if v + count_by f xs) (same x) ∙ (ap (λ n. one_if (h x) + n) (count_same f h xs same) ∙ sym (count_by-cons h x xs)))
+
+pub at_lent : (x : Place) → is_at Lent x ≡ is_lent x
+at_lent Reserved = refl
+at_lent Free = refl
+at_lent Used = refl
+at_lent Giving = refl
+at_lent Lent = refl
+at_lent Taking = refl
+at_lent Stranded = refl
+at_lent Reporting = refl
+
+pub at_stranded : (x : Place) → is_at Stranded x ≡ is_stranded x
+at_stranded Reserved = refl
+at_stranded Free = refl
+at_stranded Used = refl
+at_stranded Giving = refl
+at_stranded Lent = refl
+at_stranded Taking = refl
+at_stranded Stranded = refl
+at_stranded Reporting = refl
+
+pub at_giving : (x : Place) → is_at Giving x ≡ is_giving x
+at_giving Reserved = refl
+at_giving Free = refl
+at_giving Used = refl
+at_giving Giving = refl
+at_giving Lent = refl
+at_giving Taking = refl
+at_giving Stranded = refl
+at_giving Reporting = refl
+
+pub at_free : (x : Place) → is_at Free x ≡ is_free x
+at_free Reserved = refl
+at_free Free = refl
+at_free Used = refl
+at_free Giving = refl
+at_free Lent = refl
+at_free Taking = refl
+at_free Stranded = refl
+at_free Reporting = refl
+
+pub at_used : (x : Place) → is_at Used x ≡ is_used x
+at_used Reserved = refl
+at_used Free = refl
+at_used Used = refl
+at_used Giving = refl
+at_used Lent = refl
+at_used Taking = refl
+at_used Stranded = refl
+at_used Reporting = refl
+
+pub at_taking : (x : Place) → is_at Taking x ≡ is_taking x
+at_taking Reserved = refl
+at_taking Free = refl
+at_taking Used = refl
+at_taking Giving = refl
+at_taking Lent = refl
+at_taking Taking = refl
+at_taking Stranded = refl
+at_taking Reporting = refl
+
+pub at_reporting : (x : Place) → is_at Reporting x ≡ is_reporting x
+at_reporting Reserved = refl
+at_reporting Free = refl
+at_reporting Used = refl
+at_reporting Giving = refl
+at_reporting Lent = refl
+at_reporting Taking = refl
+at_reporting Stranded = refl
+at_reporting Reporting = refl
+
+pub in_balloon_is : (x : Place) → (cond (is_at Lent x) 1 0 + cond (is_at Taking x) 1 0) ≡ cond (is_lent_or_taking x) 1 0
+in_balloon_is Reserved = refl
+in_balloon_is Free = refl
+in_balloon_is Used = refl
+in_balloon_is Giving = refl
+in_balloon_is Lent = refl
+in_balloon_is Taking = refl
+in_balloon_is Stranded = refl
+in_balloon_is Reporting = refl
+
+pub count_in_balloon : (xs : List Place) → count_by (is_at Lent) xs + count_by (is_at Taking) xs ≡ count_by is_lent_or_taking xs
+count_in_balloon [] = refl
+count_in_balloon (x ∷ xs) = omega (arith, in_balloon_is x, count_in_balloon xs, sum_by-cons (λ y. cond (is_at Lent y) 1 0) x xs, sum_by-cons (λ y. cond (is_at Taking y) 1 0) x xs, sum_by-cons (λ y. cond (is_lent_or_taking y) 1 0) x xs)
+
+pub lent_is : (x : Place) → is_lent x ≡ true → x ≡ Lent
+lent_is Lent e = refl
+lent_is Reserved e = cc
+lent_is Free e = cc
+lent_is Used e = cc
+lent_is Giving e = cc
+lent_is Taking e = cc
+lent_is Stranded e = cc
+lent_is Reporting e = cc
+
+pub giving_is : (x : Place) → is_giving x ≡ true → x ≡ Giving
+giving_is Giving e = refl
+giving_is Reserved e = cc
+giving_is Free e = cc
+giving_is Used e = cc
+giving_is Lent e = cc
+giving_is Taking e = cc
+giving_is Stranded e = cc
+giving_is Reporting e = cc
+
+pub taking_is : (x : Place) → is_taking x ≡ true → x ≡ Taking
+taking_is Taking e = refl
+taking_is Reserved e = cc
+taking_is Free e = cc
+taking_is Used e = cc
+taking_is Lent e = cc
+taking_is Giving e = cc
+taking_is Stranded e = cc
+taking_is Reporting e = cc
+
+pub stranded_is : (x : Place) → is_stranded x ≡ true → x ≡ Stranded
+stranded_is Stranded e = refl
+stranded_is Reserved e = cc
+stranded_is Free e = cc
+stranded_is Used e = cc
+stranded_is Lent e = cc
+stranded_is Giving e = cc
+stranded_is Taking e = cc
+stranded_is Reporting e = cc
+
+pub free_is : (x : Place) → is_free x ≡ true → x ≡ Free
+free_is Free e = refl
+free_is Reserved e = cc
+free_is Stranded e = cc
+free_is Used e = cc
+free_is Lent e = cc
+free_is Giving e = cc
+free_is Taking e = cc
+free_is Reporting e = cc
+
+pub lowest_is : (places : List Place) (n : ℕ) (test : Place → Bool) (p : ℕ) → is_in p (take n (pages_where test places)) ≡ true → test (place_of places p) ≡ true
+lowest_is places n test p h = pages_where-passes test places p Reserved (is_in-take p n (pages_where test places) h)
+
+-- ---- a queue after a post, and after a reap
+
+pub posted_queue : (m1 m2 : Pages) (s1 s2 : Side) (base queue size head : ℕ) (pages : List ℕ) → IsQueue s1 queue size → Posts m1 m2 s1 s2 base pages head → IsQueue s2 queue size
+posted_queue m1 m2 s1 s2 base queue size head pages q p = record {
+  requests = p.requests;
+  layout = ap (λ (s : Side). s.ring.layout) p.state ∙ q.layout;
+  size = ap (λ (s : Side). s.ring.size) p.state ∙ q.size;
+}
+
+pub reaped_queue : (s1 : Side) (queue size head : ℕ) → IsQueue s1 queue size → IsQueue (after_reap s1 head) queue size
+reaped_queue s1 queue size head q = record {
+  requests = requests_taken s1.ring s1.sent head q.requests;
+  layout = q.layout;
+  size = q.size;
+}
+
+-- ---- lent pages are asked back
+
+pub asked_kept : (m1 m2 : Pages) (d : DriverState) (areas : AreasState) (e2 : Side) (base count head : ℕ) → IsKept d areas → Posts m1 m2 d.deflate e2 base (lowest_lent d count) head
+    → IsKept (record d { places = placed (lowest_lent d count) Taking d.places; deflate = e2 }) areas
+asked_kept m1 m2 d areas e2 base count head kept posts =
+    let pages = lowest_lent d count in
+    let lent : (p : ℕ) → is_in p pages ≡ true → place_of d.places p ≡ Lent = λ p here. lent_is (place_of d.places p) (lowest_is d.places count is_lent p here) in
+    let small : head < length d.deflate.sent = omega (arith, posts.small, kept.driver.deflate.requests.buffers) in
+    let sent : e2.sent ≡ set d.deflate.sent head pages = ap (λ (s : Side). s.sent) posts.state in
+    kept_moved d areas areas pages Taking d.inflate e2 (record {
+      kept = kept;
+      there = λ p here. there_by d.places p is_lent refl (lowest_is d.places count is_lent p here);
+      unused = λ p here. ap is_used (lent p here);
+      inflate = kept.driver.inflate;
+      deflate = posted_queue m1 m2 d.deflate e2 base 1 d.queue_size head pages kept.driver.deflate posts;
+      giving = λ p. naming_same p pages d.inflate.sent is_giving Taking (place_of d.places p) (kept.driver.giving p) (λ here. ap is_giving (lent p here));
+      taking = λ p. subst (λ (l : List (List ℕ)). naming p l ≤ one_if (is_taking (cond (is_in p pages) Taking (place_of d.places p)))) (sym sent)
+          (naming_more p head pages d.deflate.sent is_taking Taking (place_of d.places p) small (kept.driver.taking p) (λ here. ap is_taking (lent p here)) (once_lowest p count is_lent d.places) refl);
+      free = kept.free ∙ free_same d.places pages Taking (λ p place is. same_free p place is (is_in p pages) refl lent);
+      proper = refl;
+    })
+  where
+    same_free : (p : ℕ) (place : Place) → place ≡ place_of d.places p → (b : Bool) → is_in p (lowest_lent d count) ≡ b → ((q : ℕ) → is_in q (lowest_lent d count) ≡ true → place_of d.places q ≡ Lent)
+        → is_free place ≡ is_free (cond (is_in p (lowest_lent d count)) Taking place)
+    same_free p place is true e lent = ap is_free (is ∙ lent p e) ∙ sym (ap (λ v. is_free (cond v Taking place)) e)
+    same_free p place is false e lent = sym (ap (λ v. is_free (cond v Taking place)) e)
+
+-- ---- stranded and free pages are offered
+
+pub stranded_apart : (d : DriverState) (count p : ℕ) (others : List ℕ) → list_all (λ page. is_free (place_of d.places page)) others ≡ true → is_in p (stranded_first d count) ≡ true → is_in p others ≡ false
+stranded_apart d count p others free here = at (is_in p others) refl
+  where
+    at : (b : Bool) → is_in p others ≡ b → is_in p others ≡ false
+    at false e = e
+    at true e =
+        let yes_ : is_free (place_of d.places p) ≡ true = list_all-at (λ page. is_free (place_of d.places page)) others p free e in
+        let no_ : is_free (place_of d.places p) ≡ false = ap is_free (stranded_is (place_of d.places p) (lowest_is d.places count is_stranded p here)) in
+        let wrong : true ≡ false = sym yes_ ∙ no_ in
+        cc
+
+-- a page that may be offered
+pub data Idle (place : Place) : Type 0 where
+  idle_stranded : place ≡ Stranded → Idle place
+  idle_free : place ≡ Free → Idle place
+
+idle_test : (place : Place) (test : Place → Bool) (b : Bool) → test Stranded ≡ b → test Free ≡ b → Idle place → test place ≡ b
+idle_test place test b s f (idle_stranded e) = ap test e ∙ s
+idle_test place test b s f (idle_free e) = ap test e ∙ f
+
+pub offered_kept : (m1 m2 : Pages) (d : DriverState) (areas areas2 : AreasState) (i2 : Side) (base count head : ℕ) (others : List ℕ) → IsKept d areas
+    → list_all (λ page. is_free (place_of d.places page)) others ≡ true → ((p : ℕ) → times_in p others ≤ 1) → areas2.free ≡ flagged others false areas.free
+    → Posts m1 m2 d.inflate i2 base (stranded_first d count ++ others) head
+    → IsKept (record d { places = placed (stranded_first d count ++ others) Giving d.places; inflate = i2 }) areas2
+offered_kept m1 m2 d areas areas2 i2 base count head others kept free once taken posts =
+    let first = stranded_first d count in
+    let pages = first ++ others in
+    let idle : (p : ℕ) → is_in p pages ≡ true → Idle (place_of d.places p) = λ p here. elim (is_in-append p first others here) [
+      | inl f ↦ idle_stranded (stranded_is (place_of d.places p) (lowest_is d.places count is_stranded p f))
+      | inr o ↦ idle_free (free_is (place_of d.places p) (list_all-at (λ page. is_free (place_of d.places page)) others p free o))
+    ] in
+    let small : head < length d.inflate.sent = omega (arith, posts.small, kept.driver.inflate.requests.buffers) in
+    let sent : i2.sent ≡ set d.inflate.sent head pages = ap (λ (s : Side). s.sent) posts.state in
+    let once_all : (p : ℕ) → times_in p pages ≤ 1 = λ p. once_append p first others (once_lowest p count is_stranded d.places) (once p) (stranded_apart d count p others free) in
+    kept_moved d areas areas2 pages Giving i2 d.deflate (record {
+      kept = kept;
+      there = λ p here. there_by d.places p (λ v. is_stranded v || is_free v) refl (idle_test (place_of d.places p) (λ v. is_stranded v || is_free v) true refl refl (idle p here));
+      unused = λ p here. idle_test (place_of d.places p) is_used false refl refl (idle p here);
+      inflate = posted_queue m1 m2 d.inflate i2 base 0 d.queue_size head pages kept.driver.inflate posts;
+      deflate = kept.driver.deflate;
+      giving = λ p. subst (λ (l : List (List ℕ)). naming p l ≤ one_if (is_giving (cond (is_in p pages) Giving (place_of d.places p)))) (sym sent)
+          (naming_more p head pages d.inflate.sent is_giving Giving (place_of d.places p) small (kept.driver.giving p) (λ here. idle_test (place_of d.places p) is_giving false refl refl (idle p here)) (once_all p) refl);
+      taking = λ p. naming_same p pages d.deflate.sent is_taking Giving (place_of d.places p) (kept.driver.taking p) (λ here. idle_test (place_of d.places p) is_taking false refl refl (idle p here));
+      free = taken ∙ (ap (flagged others false) kept.free ∙ free_flagged d.places pages others Giving false (λ p place is. agree p place is (is_in p others) (is_in p first) refl refl));
+      proper = refl;
+    })
+  where
+    in_pages : (p : ℕ) → is_in p (stranded_first d count ++ others) ≡ (is_in p (stranded_first d count) || is_in p others)
+    in_pages p = list_any-append (λ m. eqb m p) (stranded_first d count) others
+
+    or_true : (a : Bool) → (a || true) ≡ true
+    or_true true = refl
+    or_true false = refl
+
+    agree : (p : ℕ) (place : Place) → place ≡ place_of d.places p → (o f : Bool) → is_in p others ≡ o → is_in p (stranded_first d count) ≡ f
+        → cond (is_in p others) false (is_free place) ≡ is_free (cond (is_in p (stranded_first d count ++ others)) Giving place)
+    agree p place is true f e g =
+        ap (λ v. cond v false (is_free place)) e ∙ sym (ap (λ v. is_free (cond v Giving place)) (in_pages p ∙ (ap (λ v. is_in p (stranded_first d count) || v) e ∙ or_true (is_in p (stranded_first d count)))))
+    agree p place is false true e g =
+        ap (λ v. cond v false (is_free place)) e
+        ∙ (ap is_free (is ∙ stranded_is (place_of d.places p) (lowest_is d.places count is_stranded p g))
+        ∙ sym (ap (λ v. is_free (cond v Giving place)) (in_pages p ∙ ap (λ v. v || is_in p others) g)))
+    agree p place is false false e g =
+        ap (λ v. cond v false (is_free place)) e
+        ∙ sym (ap (λ v. is_free (cond v Giving place)) (in_pages p ∙ (ap (λ v. v || is_in p others) g ∙ e)))
+
+-- ---- used requests are reaped
+
+pub lent_kept : (d : DriverState) (areas : AreasState) (head : ℕ) → head < 16 → IsKept d areas
+    → IsKept (record d { places = placed (sent_by d.inflate head) Lent d.places; inflate = after_reap d.inflate head }) areas
+lent_kept d areas head lt kept =
+    let pages = sent_by d.inflate head in
+    let small : head < length d.inflate.sent = omega (arith, kept.driver.inflate.requests.buffers) in
+    let giving : (p : ℕ) → is_in p pages ≡ true → is_giving (place_of d.places p) ≡ true = λ p here. named_place p head d.inflate.sent is_giving (place_of d.places p) small (kept.driver.giving p) here in
+    kept_moved d areas areas pages Lent (after_reap d.inflate head) d.deflate (record {
+      kept = kept;
+      there = λ p here. there_by d.places p is_giving refl (giving p here);
+      unused = λ p here. ap is_used (giving_is (place_of d.places p) (giving p here));
+      inflate = reaped_queue d.inflate 0 d.queue_size head kept.driver.inflate;
+      deflate = kept.driver.deflate;
+      giving = λ p. naming_less p head d.inflate.sent is_giving Lent (place_of d.places p) small (kept.driver.giving p);
+      taking = λ p. naming_same p pages d.deflate.sent is_taking Lent (place_of d.places p) (kept.driver.taking p) (λ here. ap is_taking (giving_is (place_of d.places p) (giving p here)));
+      free = kept.free ∙ free_same d.places pages Lent (λ p place is. same_free p place is (is_in p pages) refl giving);
+      proper = refl;
+    })
+  where
+    same_free : (p : ℕ) (place : Place) → place ≡ place_of d.places p → (b : Bool) → is_in p (sent_by d.inflate head) ≡ b → ((q : ℕ) → is_in q (sent_by d.inflate head) ≡ true → is_giving (place_of d.places q) ≡ true)
+        → is_free place ≡ is_free (cond (is_in p (sent_by d.inflate head)) Lent place)
+    same_free p place is true e giving = ap is_free (is ∙ giving_is (place_of d.places p) (giving p e)) ∙ sym (ap (λ v. is_free (cond v Lent place)) e)
+    same_free p place is false e giving = sym (ap (λ v. is_free (cond v Lent place)) e)
+
+pub freed_kept : (d : DriverState) (areas areas2 : AreasState) (head : ℕ) → head < 16 → IsKept d areas → areas2.free ≡ flagged (sent_by d.deflate head) true areas.free
+    → IsKept (record d { places = placed (sent_by d.deflate head) Free d.places; deflate = after_reap d.deflate head }) areas2
+freed_kept d areas areas2 head lt kept given =
+    let pages = sent_by d.deflate head in
+    let small : head < length d.deflate.sent = omega (arith, kept.driver.deflate.requests.buffers) in
+    let taking : (p : ℕ) → is_in p pages ≡ true → is_taking (place_of d.places p) ≡ true = λ p here. named_place p head d.deflate.sent is_taking (place_of d.places p) small (kept.driver.taking p) here in
+    kept_moved d areas areas2 pages Free d.inflate (after_reap d.deflate head) (record {
+      kept = kept;
+      there = λ p here. there_by d.places p is_taking refl (taking p here);
+      unused = λ p here. ap is_used (taking_is (place_of d.places p) (taking p here));
+      inflate = kept.driver.inflate;
+      deflate = reaped_queue d.deflate 1 d.queue_size head kept.driver.deflate;
+      giving = λ p. naming_same p pages d.inflate.sent is_giving Free (place_of d.places p) (kept.driver.giving p) (λ here. ap is_giving (taking_is (place_of d.places p) (taking p here)));
+      taking = λ p. naming_less p head d.deflate.sent is_taking Free (place_of d.places p) small (kept.driver.taking p);
+      free = given ∙ (ap (flagged pages true) kept.free ∙ free_flagged d.places pages pages Free true (λ p place is. agree place (is_in p pages)));
+      proper = refl;
+    })
+  where
+    agree : (place : Place) (b : Bool) → cond b true (is_free place) ≡ is_free (cond b Free place)
+    agree place true = refl
+    agree place false = refl
+
+-- ---- counts of what is moved
+
+pub length_pages : (k : ℕ) (test : Place → Bool) (xs : List Place) → length (pages_from k test xs) ≡ count_by test xs
+length_pages k test [] = refl
+length_pages k test (x ∷ xs) = at (test x) (length_pages (suc k) test xs) ∙ sym (count_by-cons test x xs)
+  where
+    at : (b : Bool) → length (pages_from (suc k) test xs) ≡ count_by test xs → length (cond b (k ∷ pages_from (suc k) test xs) (pages_from (suc k) test xs)) ≡ one_if b + count_by test xs
+    at true ih = omega arith
+    at false ih = omega arith
+
+pub count_map : (test : Place → Bool) (xs : List Place) → count_by (λ f. f) (map test xs) ≡ count_by test xs
+count_map test [] = refl
+count_map test (x ∷ xs) = count_by-cons (λ f. f) (test x) (map test xs) ∙ (ap (λ n. one_if (test x) + n) (count_map test xs) ∙ sym (count_by-cons test x xs))
+
+-- enough pages are free
+pub others_there : (d : DriverState) (count len : ℕ) (free : List Bool) → free ≡ map is_free d.places → len ≡ length (stranded_first d count) → count ≤ count_by is_stranded d.places + count_by is_free d.places
+    → count - len ≤ count_by (λ f. f) free
+others_there d count len free is len_is there =
+    let all : count_by (λ f. f) free ≡ count_by is_free d.places = ap (count_by (λ f. f)) is ∙ count_map is_free d.places in
+    let many : length (pages_where is_stranded d.places) ≡ count_by is_stranded d.places = length_pages 0 is_stranded d.places in
+    omega (arith, length-take count (pages_where is_stranded d.places))
+
+pub first_few : (d : DriverState) (count : ℕ) → length (stranded_first d count) ≤ count
+first_few d count = omega (arith, length-take count (pages_where is_stranded d.places))
+
+list_all_same : (f h : ℕ → Bool) (xs : List ℕ) → ((p : ℕ) → f p ≡ h p) → list_all f xs ≡ list_all h xs
+list_all_same f h [] same = refl
+list_all_same f h (x ∷ xs) same = ap (λ v. v && list_all f xs) (same x) ∙ ap (λ v. h x && v) (list_all_same f h xs same)
+
+pub free_is_place : (places : List Place) (free : List Bool) (p : ℕ) → free ≡ map is_free places → is_free_at free p ≡ is_free (place_of places p)
+free_is_place places free p is = ap (λ l. is_free_at l p) is ∙ elim (cases_lt p (length places)) [
+  | inl lt ↦ get_or-map is_free places p Reserved false lt
+  | inr past ↦ get_or_past (map is_free places) p false (omega (arith, length-map places is_free)) ∙ ap is_free (sym (get_or_past places p Reserved past))
+]
+
+pub others_free : (d : DriverState) (free : List Bool) (others : List ℕ) → free ≡ map is_free d.places → list_all (is_free_at free) others ≡ true → list_all (λ page. is_free (place_of d.places page)) others ≡ true
+others_free d free others is all = sym (list_all_same (is_free_at free) (λ page. is_free (place_of d.places page)) others (λ p. free_is_place d.places free p is)) ∙ all
+
+pub offered_inside : (d : DriverState) (count p : ℕ) (others : List ℕ) → list_all (λ page. is_free (place_of d.places page)) others ≡ true → is_in p (stranded_first d count ++ others) ≡ true → p < length d.places
+offered_inside d count p others free here = elim (is_in-append p (stranded_first d count) others here) [
+  | inl f ↦ there_by d.places p is_stranded refl (lowest_is d.places count is_stranded p f)
+  | inr o ↦ there_by d.places p is_free refl (list_all-at (λ page. is_free (place_of d.places page)) others p free o)
+]
+
+-- ---- the pages of a request that is out
+
+pub lent_inside : (d : DriverState) (areas : AreasState) (head p : ℕ) → head < 16 → IsKept d areas → is_in p (sent_by d.inflate head) ≡ true → p < length d.places
+lent_inside d areas head p lt kept here =
+    there_by d.places p is_giving refl (named_place p head d.inflate.sent is_giving (place_of d.places p) (omega (arith, kept.driver.inflate.requests.buffers)) (kept.driver.giving p) here)
+
+pub freed_taking : (d : DriverState) (areas : AreasState) (head p : ℕ) → head < 16 → IsKept d areas → is_in p (sent_by d.deflate head) ≡ true → place_of d.places p ≡ Taking
+freed_taking d areas head p lt kept here =
+    taking_is (place_of d.places p) (named_place p head d.deflate.sent is_taking (place_of d.places p) (omega (arith, kept.driver.deflate.requests.buffers)) (kept.driver.taking p) here)
+
+pub freed_once : (d : DriverState) (areas : AreasState) (head p : ℕ) → head < 16 → IsKept d areas → times_in p (sent_by d.deflate head) ≤ 1
+freed_once d areas head p lt kept = named_once p head d.deflate.sent is_taking (place_of d.places p) (omega (arith, kept.driver.deflate.requests.buffers)) (kept.driver.taking p)
+
+pub freed_uncovered : (d : DriverState) (areas : AreasState) (p : ℕ) → IsKept d areas → place_of d.places p ≡ Taking → is_covered p d.held ≡ false
+freed_uncovered d areas p kept is = at (is_covered p d.held) refl
+  where
+    at : (b : Bool) → is_covered p d.held ≡ b → is_covered p d.held ≡ false
+    at false e = e
+    at true e = (let wrong : true ≡ false = sym (ap is_used (kept.used p e)) ∙ ap is_used is in cc)
+
+pub freed_unfree : (d : DriverState) (areas : AreasState) (p : ℕ) → IsKept d areas → place_of d.places p ≡ Taking → is_free_at areas.free p ≡ false
+freed_unfree d areas p kept is = free_is_place d.places areas.free p kept.free ∙ ap is_free is
+
+pub freed_inside : (d : DriverState) (areas : AreasState) (p : ℕ) → IsKept d areas → place_of d.places p ≡ Taking → (p < length areas.free) × (p < length d.places)
+freed_inside d areas p kept is =
+    let inside : p < length d.places = there_by d.places p is_taking refl (ap is_taking is) in
+    (omega (arith, ap length kept.free, length-map d.places is_free), inside)
+
+-- ---- a reset
+
+free_after : (x : Place) → is_reporting x ≡ false → is_free (place_after_reset x) ≡ is_free x
+free_after Reserved e = refl
+free_after Free e = refl
+free_after Used e = refl
+free_after Giving e = refl
+free_after Lent e = refl
+free_after Taking e = refl
+free_after Stranded e = refl
+free_after Reporting e = cc
+
+reported_after : (x : Place) → is_reporting x ≡ false → is_reporting (place_after_reset x) ≡ false
+reported_after Reserved e = refl
+reported_after Free e = refl
+reported_after Used e = refl
+reported_after Giving e = refl
+reported_after Lent e = refl
+reported_after Taking e = refl
+reported_after Stranded e = refl
+reported_after Reporting e = cc
+
+free_all_after : (xs : List Place) → ((p : ℕ) → is_reporting (place_of xs p) ≡ false) → map is_free (map place_after_reset xs) ≡ map is_free xs
+free_all_after [] none = refl
+free_all_after (x ∷ xs) none =
+    let here : is_reporting x ≡ false = none 0 in
+    ap (λ v. v ∷ map is_free (map place_after_reset xs)) (free_after x here) ∙ ap (λ l. is_free x ∷ l) (free_all_after xs (λ p. none (suc p)))
+
+naming_none : (p n : ℕ) → naming p (replicate {A = List ℕ} n []) ≡ 0
+naming_none p zero = refl
+naming_none p (suc n) = let ih : naming p (replicate {A = List ℕ} n []) ≡ 0 = naming_none p n in omega (arith, ih)
+
+fresh_queue : (queue size : ℕ) → IsQueue (fresh_side queue size) queue size
+fresh_queue queue size = record {
+  requests = requests_fresh (ring_page queue) size (replicate {A = List ℕ} 16 []) refl;
+  layout = refl;
+  size = refl;
+}
+
+pub reset_kept : (d : DriverState) (areas : AreasState) (features : ℕ) → IsKept d areas
+    → IsKept (record d { places = map place_after_reset d.places; inflate = fresh_side 0 d.queue_size; deflate = fresh_side 1 d.queue_size; features = features }) areas
+reset_kept d areas features kept =
+    record {
+      driver = record {
+        table = length-map d.places place_after_reset ∙ kept.driver.table;
+        least = kept.driver.least;
+        most = kept.driver.most;
+        size = kept.driver.size;
+        inflate = fresh_queue 0 d.queue_size;
+        deflate = fresh_queue 1 d.queue_size;
+        giving = λ p. omega (arith, naming_none p 16);
+        taking = λ p. omega (arith, naming_none p 16);
+        unreported = λ p. ap is_reporting (place_of-reset d.places p) ∙ reported_after (place_of d.places p) (kept.driver.unreported p);
+      };
+      free = kept.free ∙ sym (free_all_after d.places kept.driver.unreported);
+      used = λ p covered. place_of-reset d.places p ∙ ap place_after_reset (kept.used p covered);
+    }
+
+-- ---- a driver as it is made
+
+reported_first : (b : Bool) → is_reporting (cond b Reserved Free) ≡ false
+reported_first true = refl
+reported_first false = refl
+
+reported_never : (n p : ℕ) → is_reporting (place_of (all_free n) p) ≡ false
+reported_never n p = elim (cases_lt p n) [
+  | inl lt ↦ ap is_reporting (get_or-map-range_with_len first_place 0 n p p Reserved lt (omega arith)) ∙ reported_first (nat_lt p 16)
+  | inr past ↦ ap is_reporting (get_or_past (all_free n) p Reserved (omega (arith, length-map-range_with_len first_place 0 n)))
+]
+
+pub fresh_kept : (pages size processors f : ℕ) (areas : AreasState) → 64 ≤ pages → pages ≤ 16384 → IsSize size → areas.free ≡ map is_free (all_free pages)
+    → IsKept (record (fresh_driver pages size processors) { features = f }) areas
+fresh_kept pages size processors f areas least most sized free =
+    record {
+      driver = record {
+        table = length-map-range_with_len first_place 0 pages;
+        least = least;
+        most = most;
+        size = sized;
+        inflate = fresh_queue 0 size;
+        deflate = fresh_queue 1 size;
+        giving = λ p. omega (arith, naming_none p 16);
+        taking = λ p. omega (arith, naming_none p 16);
+        unreported = reported_never pages;
+      };
+      free = free;
+      used = λ p covered. (let wrong : false ≡ true = covered in cc);
+    }

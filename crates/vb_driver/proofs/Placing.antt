@@ -1,0 +1,153 @@
+-- Tables of places, as pages move one by one.
+use Rattle.std.proofs.Common.{◌≡◌, ◌≢◌, ◌∙◌, sym, ap, arith, refl, ℕ, zero, suc, ◌+◌, ◌-◌, ◌<◌, ◌≤◌, Bool, true, false, cond, eqb, ◌||◌, List, [], ◌∷◌, ◌++◌, length, take, min, get_or, set, map, replicate, inl, inr, eq-eqb, append_assoc, append-nil, length-append, if◌then◌else◌, nat_lt}
+use Rattle.std.proofs.lemmas.List.{same_lists, get_or-set_same, get_or-set_other, length-set, get_or-map, length-map, take_more, get_or-replicate, length-replicate, take-append-le, length-take}
+use Rattle.std.proofs.lemmas.List.Folds.{list_any-append, list_any_at}
+use Rattle.std.proofs.lemmas.List.FromFn.{get_or-map-range_with_len, length-range_with_len}
+use Rattle.std.proofs.lemmas.Bool.{cases_eq, cases_lt, ne_eqb, cases_Bool}
+use Rattle.std.specs.List.{range_with_len}
+use Rattle.vb_model.specs.declared.places.Place.{Place}
+use Rattle.vb_model.specs.declared.places.Place.TheVariants.{Reserved, Free}
+use Rattle.vb_model.specs.Tests.{is_in, each_page, pages_from, pages_where}
+use Rattle.vb_model.specs.Pages.{placed, all_free}
+use Rattle.vb_driver.specs.Places.{number_of, is_at}
+use Rattle.vb_model.proofs.Tables.{length-each_from, each_page-get}
+
+-- ---- some pages to one place
+
+pub length-placed : (pages : List ℕ) (place : Place) (ps : List Place) → length (placed pages place ps) ≡ length ps
+length-placed pages place ps = length-each_from 0 (λ page old. if is_in page pages then place else old) ps
+
+pub placed-get : (pages : List ℕ) (place : Place) (ps : List Place) (k : ℕ) (d : Place) → k < length ps → get_or (placed pages place ps) k d ≡ cond (is_in k pages) place (get_or ps k d)
+placed-get pages place ps k d lt = each_page-get (λ page old. if is_in page pages then place else old) ps k d (λ far. absurd (omega arith))
+
+pub is_in-push : (k : ℕ) (xs : List ℕ) (x : ℕ) → is_in k (xs ++ x ∷ []) ≡ (is_in k xs || (eqb x k || false))
+is_in-push k xs x = list_any-append (λ m. eqb m k) xs (x ∷ [])
+
+or_false : (a : Bool) → (a || (false || false)) ≡ a
+or_false true = refl
+or_false false = refl
+
+or_true : (a : Bool) → (a || (true || false)) ≡ true
+or_true true = refl
+or_true false = refl
+
+-- one page more
+pub placed_more : (xs : List ℕ) (x : ℕ) (place : Place) (ps : List Place) → x < length ps → placed (xs ++ x ∷ []) place ps ≡ set (placed xs place ps) x place
+placed_more xs x place ps lt =
+    let all = placed (xs ++ x ∷ []) place ps in
+    let before = placed xs place ps in
+    let n1 : length all ≡ length ps = length-placed (xs ++ x ∷ []) place ps in
+    let n2 : length before ≡ length ps = length-placed xs place ps in
+    same_lists all (set before x place) (omega (arith, length-set before x place)) (λ k d near.
+    let inside : k < length ps = omega arith in
+    let left : get_or all k d ≡ cond (is_in k (xs ++ x ∷ [])) place (get_or ps k d) = placed-get (xs ++ x ∷ []) place ps k d inside in
+    elim (cases_eq k x) [
+      | inl same ↦
+          let hit : is_in k (xs ++ x ∷ []) ≡ true = is_in-push k xs x ∙ (ap (λ v. is_in k xs || (v || false)) (eq-eqb x k (sym same)) ∙ or_true (is_in k xs)) in
+          left ∙ (ap (λ v. cond v place (get_or ps k d)) hit ∙ sym (ap (λ n. get_or (set before x place) n d) same ∙ get_or-set_same before x place d (omega arith)))
+      | inr ne ↦
+          let miss : is_in k (xs ++ x ∷ []) ≡ is_in k xs = is_in-push k xs x ∙ (ap (λ v. is_in k xs || (v || false)) (ne_eqb x k (λ e. ne (sym e))) ∙ or_false (is_in k xs)) in
+          left ∙ (ap (λ v. cond v place (get_or ps k d)) miss ∙ (sym (placed-get xs place ps k d inside) ∙ sym (get_or-set_other before x k place d ne)))
+    ])
+
+pub placed_none : (place : Place) (ps : List Place) → placed [] place ps ≡ ps
+placed_none place ps = same_lists (placed [] place ps) ps (length-placed [] place ps) (λ k d near. placed-get [] place ps k d (omega (arith, length-placed [] place ps)))
+
+-- ---- each page to a place of its own
+
+-- the first i entries have changed
+pub record Changing (old now : List Place) (f : ℕ → Place → Place) (i : ℕ) : Type 0 where
+  pub same : length now ≡ length old
+  pub put : (k : ℕ) (d : Place) → k < i → k < length old → get_or now k d ≡ f k (get_or old k d)
+  pub rest : (k : ℕ) (d : Place) → i ≤ k → get_or now k d ≡ get_or old k d
+
+pub changing_more : (old now : List Place) (f : ℕ → Place → Place) (i : ℕ) (y : Place) → Changing old now f i → i < length old → ((d : Place) → y ≡ f i (get_or old i d)) → Changing old (set now i y) f (i + 1)
+changing_more old now f i y c lt is =
+    record {
+      same = length-set now i y ∙ c.same;
+      put = λ k d near inside. elim (cases_eq k i) [
+        | inl same ↦
+            ap (λ n. get_or (set now i y) n d) same ∙ (get_or-set_same now i y d (omega (arith, c.same)) ∙ (is d ∙ sym (ap (λ n. f n (get_or old n d)) same)))
+        | inr ne ↦ get_or-set_other now i k y d ne ∙ c.put k d (omega (arith, ne)) inside
+      ];
+      rest = λ k d far. get_or-set_other now i k y d (omega arith) ∙ c.rest k d (omega arith);
+    }
+
+pub changed_all : (old now : List Place) (f : Place → Place) (i : ℕ) → Changing old now (λ k. f) i → length old ≤ i → now ≡ map f old
+changed_all old now f i c all =
+    same_lists now (map f old) (c.same ∙ sym (length-map old f)) (λ k d near.
+    let inside : k < length old = omega (arith, c.same) in
+    c.put k d (omega arith) inside ∙ sym (get_or-map f old k d d inside))
+
+abbrev pub first_place : ℕ → Place
+first_place page = if nat_lt page 16 then Reserved else Free
+
+pub filled_all : (n : ℕ) (now : List Place) (i : ℕ) → Changing (replicate n Reserved) now (λ k old. first_place k) i → n ≤ i → now ≡ all_free n
+filled_all n now i c all =
+    same_lists now (all_free n) (c.same ∙ (length-replicate n Reserved ∙ sym (length-map (range_with_len 0 n) first_place ∙ length-range_with_len 0 n))) (λ k d near.
+    let inside : k < n = omega (arith, c.same, length-replicate n Reserved) in
+    c.put k d (omega arith) (omega (arith, length-replicate n Reserved)) ∙ sym (get_or-map-range_with_len first_place 0 n k k d inside (omega arith)))
+
+-- ---- the pages that pass a test
+
+pub pages_from-append : {A : Type 0} (first : ℕ) (test : A → Bool) (xs ys : List A) → pages_from first test (xs ++ ys) ≡ pages_from first test xs ++ pages_from (first + length xs) test ys
+pages_from-append first test [] ys = ap (λ n. pages_from n test ys) (omega arith)
+pages_from-append first test (x ∷ xs) ys =
+    let ih : pages_from (suc first) test (xs ++ ys) ≡ pages_from (suc first) test xs ++ pages_from (suc first + length xs) test ys = pages_from-append (suc first) test xs ys in
+    let at : pages_from (suc first + length xs) test ys ≡ pages_from (first + suc (length xs)) test ys = ap (λ n. pages_from n test ys) (omega arith) in
+    let tail : pages_from (suc first) test (xs ++ ys) ≡ pages_from (suc first) test xs ++ pages_from (first + suc (length xs)) test ys = ih ∙ ap (λ l. pages_from (suc first) test xs ++ l) at in
+    step (test x) (pages_from (suc first) test (xs ++ ys)) (pages_from (suc first) test xs) (pages_from (first + suc (length xs)) test ys) tail
+  where
+    step : (b : Bool) (all front back : List ℕ) → all ≡ front ++ back → cond b (first ∷ all) all ≡ cond b (first ∷ front) front ++ back
+    step true all front back e = ap (λ l. first ∷ l) e
+    step false all front back e = e
+
+-- one page more of a table
+pub pages_more : {A : Type 0} (test : A → Bool) (xs : List A) (i : ℕ) (d : A) → i < length xs → pages_where test (take (i + 1) xs) ≡ pages_where test (take i xs) ++ cond (test (get_or xs i d)) (i ∷ []) []
+pages_more test xs i d lt =
+    ap (pages_from 0 test) (take_more xs i d lt)
+    ∙ (pages_from-append 0 test (take i xs) (get_or xs i d ∷ [])
+    ∙ ap (λ n. pages_where test (take i xs) ++ cond (test (get_or xs i d)) (n ∷ []) []) (omega (arith, length-take i xs)))
+
+take_nil : (n : ℕ) → take {A = ℕ} n [] ≡ []
+take_nil zero = refl
+take_nil (suc n) = refl
+
+-- the first ones of a list that grows
+pub take_push : (most : ℕ) (xs : List ℕ) (x : ℕ) → length (take most xs) < most → take most (xs ++ x ∷ []) ≡ take most xs ++ x ∷ []
+take_push zero xs x lt = absurd (omega arith)
+take_push (suc most) [] x lt = ap (λ (l : List ℕ). x ∷ l) (take_nil most)
+take_push (suc most) (y ∷ xs) x lt = ap (λ l. y ∷ l) (take_push most xs x (omega arith))
+
+pub take_full : (most : ℕ) (xs ys : List ℕ) → most ≤ length (take most xs) → take most (xs ++ ys) ≡ take most xs
+take_full most xs ys full = take-append-le most xs ys (omega (arith, length-take most xs))
+
+-- an entry is among the entries
+pub is_in-at : (xs : List ℕ) (i : ℕ) → i < length xs → is_in (get_or xs i 0) xs ≡ true
+is_in-at xs i lt = list_any_at (λ m. eqb m (get_or xs i 0)) xs i 0 lt (eq-eqb (get_or xs i 0) (get_or xs i 0) refl)
+
+-- a scan for the first pages that have a place: the next page has it, or hasn't, or enough are found
+pub scan_hits : (items : List ℕ) (most i : ℕ) (place x : Place) (places : List Place) → i < length places → x ≡ get_or places i x → number_of x ≡ number_of place
+    → items ≡ take most (pages_where (is_at place) (take i places)) → length items < most → items ++ i ∷ [] ≡ take most (pages_where (is_at place) (take (i + 1) places))
+scan_hits items most i place x places lt here same so_far few =
+    let found = pages_where (is_at place) (take i places) in
+    let size : length items ≡ length (take most found) = ap length so_far in
+    let one : cond (is_at place (get_or places i x)) (i ∷ []) [] ≡ i ∷ [] = ap (λ v. cond v (i ∷ []) []) (ap (is_at place) (sym here) ∙ eq-eqb (number_of x) (number_of place) same) in
+    ap (λ l. l ++ i ∷ []) so_far
+    ∙ (sym (take_push most found i (omega arith))
+    ∙ sym (ap (take most) (pages_more (is_at place) places i x lt ∙ ap (λ l. found ++ l) one)))
+
+pub scan_misses : (items : List ℕ) (most i : ℕ) (place x : Place) (places : List Place) → i < length places → x ≡ get_or places i x → (number_of x ≡ number_of place → ⊥)
+    → items ≡ take most (pages_where (is_at place) (take i places)) → items ≡ take most (pages_where (is_at place) (take (i + 1) places))
+scan_misses items most i place x places lt here other so_far =
+    let found = pages_where (is_at place) (take i places) in
+    let none : cond (is_at place (get_or places i x)) (i ∷ []) [] ≡ [] = ap (λ v. cond v (i ∷ []) []) (ap (is_at place) (sym here) ∙ ne_eqb (number_of x) (number_of place) other) in
+    so_far ∙ sym (ap (take most) (pages_more (is_at place) places i x lt ∙ (ap (λ l. found ++ l) none ∙ append-nil found)))
+
+pub scan_ends : (items : List ℕ) (most i : ℕ) (place : Place) (places : List Place) → i < length places
+    → items ≡ take most (pages_where (is_at place) (take i places)) → most ≤ length items → items ≡ take most (pages_where (is_at place) (take (i + 1) places))
+scan_ends items most i place places lt so_far full =
+    let found = pages_where (is_at place) (take i places) in
+    let size : length items ≡ length (take most found) = ap length so_far in
+    let last = cond (is_at place (get_or places i Reserved)) (i ∷ []) [] in
+    so_far ∙ sym (ap (take most) (pages_more (is_at place) places i Reserved lt) ∙ take_full most found last (omega arith))

@@ -1,0 +1,4 @@
+use Rattle.vb_driver.proofs.areas.Areas.give_all.Goals as goal
+
+pub returns : goal.returns
+returns c = ?

@@ -1,0 +1,209 @@
+-- What a driver's calls do, by old and new of guest memory, of the device's part and of the driver: VIRTIO 1.1, 3.1.1 and 5.5.6.
+use Rattle.std.specs.Prelude.{◌≡◌, ◌≢◌, ℕ, ◌+◌, ◌%◌, ◌<◌, ◌≤◌, Bool, ◌==◌, nat_lt, List, [], ◌∷◌, ◌++◌, length, take, map, if◌then◌else◌, Option, Some, None, Result, Ok, Err, IfOk, IfErr, OnErr, OnOk, MatchOption, IsTrue, count_by, slice_set, bit_or}
+use Rattle.std.specs.List.{list_all}
+use Rattle.vb_model.specs.declared.places.Place.{Place}
+use Rattle.vb_model.specs.declared.places.PlaceCounts.{PlaceCounts}
+use Rattle.vb_model.specs.declared.places.Place.TheVariants.{Free, Used, Giving, Lent, Taking}
+use Rattle.vb_model.specs.declared.replies.Refusal.{Refusal}
+use Rattle.vb_model.specs.declared.replies.Refusal.TheVariants.{RingBroken, AlreadyUp, NoFrame}
+use Rattle.vb_model.specs.Tests.{pages_where}
+use Rattle.vb_model.specs.Pages.{is_free, is_used, is_giving, is_lent, is_taking, is_stranded, is_reporting, is_lent_or_taking, place_of, placed, pages_of, is_wholly_free}
+use Rattle.vb_model.specs.Driver.{AllDistinct, with_block, without_block}
+use Rattle.vb_model.specs.Life.{place_after_reset, accepted_before}
+use Rattle.vb_model.specs.Limits.{max_outstanding}
+use Rattle.vb_model.specs.Layout.{ring_page, buffers_page}
+use Rattle.vb_model.specs.Status.{failed}
+use Rattle.vb_model.specs.Refusals.{first_refusal}
+use Rattle.vb_ram.specs.Pages.{Pages, byte_at, page_at, frame_at}
+use Rattle.vb_ram.specs.Part.{Part}
+use Rattle.vb_status.specs.After.{after_reset}
+use Rattle.vb_chain.specs.Table.{descriptor_at}
+use Rattle.vb_ring.specs.Ends.{after_add, after_take, next_head, used_answer}
+use Rattle.vb_ring.specs.Meaning.{UsedElem, ShowsEntries, Shows, Tracks}
+use Rattle.vb_ring.specs.Calls.{TakesUsedBy}
+use Rattle.vb_driver.specs.declared.answers.Posted.{Posted}
+use Rattle.vb_driver.specs.declared.answers.Reaped.{Reaped}
+use Rattle.vb_driver.specs.Coding.{IsCoded, SameButBuffer}
+use Rattle.vb_driver.specs.State.{Side, DriverState, AreRequests, IsDriver, fresh_side, sent_by}
+use Rattle.vb_driver.specs.Answers.{refusal_in, inflate_count, deflate_count, oom_count, block_at, alloc_tests, free_tests, inflate_tests, deflate_tests, oom_tests, reap_tests, init_tests}
+
+-- Nothing is changed.
+pub record Unchanged (m1 m2 : Pages) (p1 p2 : Part) (d1 d2 : DriverState) : Type 0 where
+  pub mem : m2 ≡ m1
+  pub part : p2 ≡ p1
+  pub driver : d2 ≡ d1
+
+-- How many pages each place has.
+pub record AreCountsOf (counts : PlaceCounts) (places : List Place) : Type 0 where
+  pub free : counts.free ≡ count_by is_free places
+  pub used : counts.used ≡ count_by is_used places
+  pub giving : counts.giving ≡ count_by is_giving places
+  pub lent : counts.lent ≡ count_by is_lent places
+  pub taking : counts.taking ≡ count_by is_taking places
+  pub stranded : counts.stranded ≡ count_by is_stranded places
+  pub reporting : counts.reporting ≡ count_by is_reporting places
+
+-- ---- pages of the guest's own
+
+pub record AllocatesBy (d1 d2 : DriverState) (cpu order : ℕ) (result : Result ℕ Refusal) : Type 0 where
+  pub driver : IsDriver d1
+  pub refusal : refusal_in result ≡ first_refusal (alloc_tests d1 cpu order)
+  pub refused : OnErr result (d2 ≡ d1)
+  pub free : IfOk result (λ start. IsTrue (is_wholly_free d1.places (block_at start order)))
+  pub state : IfOk result (λ start. d2 ≡ record d1 { places = placed (pages_of (block_at start order)) Used d1.places; held = with_block (block_at start order) d1.held })
+
+abbrev pub after_free : DriverState → ℕ → ℕ → DriverState
+after_free d start order = record d { places = placed (pages_of (block_at start order)) Free d.places; held = without_block (block_at start order) d.held }
+
+pub record FreesBy {T : Type 0} (d1 d2 : DriverState) (cpu start order : ℕ) (result : Result T Refusal) : Type 0 where
+  pub driver : IsDriver d1
+  pub refusal : refusal_in result ≡ first_refusal (free_tests d1 cpu start order)
+  pub refused : OnErr result (d2 ≡ d1)
+  pub state : OnOk result (d2 ≡ after_free d1 start order)
+
+-- ---- requests
+
+-- A request for these pages goes out on a queue whose buffers begin at page `base`: it has the lowest head that none of the queue's requests has, stands coded in its buffer, and is published last.
+-- Other buffers, other pages, the used ring and the frames are as before.
+pub record Posts (m1 m2 : Pages) (s1 s2 : Side) (base : ℕ) (pages : List ℕ) (head : ℕ) : Type 0 where
+  pub lowest : next_head s1.ring ≡ Some head
+  pub small : head < max_outstanding
+  pub state : s2 ≡ record { ring = after_add s1.ring 1 (Ok head); sent = slice_set s1.sent head pages }
+  pub coded : IsCoded m2 s1.ring.layout.table base head pages
+  pub descriptors : (i : ℕ) → i < s1.ring.size → i ≢ head → descriptor_at m2 s1.ring.layout.table i ≡ descriptor_at m1 s1.ring.layout.table i
+  pub entries : (heads : List ℕ) (elems : List UsedElem) → length heads % 65536 ≡ s1.ring.published
+      → ShowsEntries m1 s1.ring.layout s1.ring.size heads elems → ShowsEntries m2 s1.ring.layout s1.ring.size (heads ++ head ∷ []) elems
+  pub shown : (heads : List ℕ) (elems : List UsedElem) (s : ℕ) → Tracks m1 s1.ring heads elems s → Shows m1 s1.ring.layout s1.ring.size heads elems
+      → Shows m2 s1.ring.layout s1.ring.size (heads ++ head ∷ []) elems × Tracks m2 s2.ring (heads ++ head ∷ []) elems s
+  pub rest : SameButBuffer m1 m2 s1.ring.layout.table base head
+  pub requests : AreRequests s2
+
+-- The stranded pages that an inflate request offers first.
+abbrev pub stranded_first : DriverState → ℕ → List ℕ
+stranded_first d count = take count (pages_where is_stranded d.places)
+
+-- Stranded pages, lowest first, then any free ones are offered to the host.
+pub record Offers (m1 m2 : Pages) (p1 p2 : Part) (d1 d2 : DriverState) (count : ℕ) (posted : Posted) : Type 0 where
+  pub others : List ℕ
+  pub free : IsTrue (list_all (λ page. is_free (place_of d1.places page)) others)
+  pub distinct : AllDistinct others
+  pub enough : length (stranded_first d1 count) + length others ≡ count
+  pub posts : Posts m1 m2 d1.inflate d2.inflate (buffers_page 0) (stranded_first d1 count ++ others) posted.head
+  pub pages : posted.pages ≡ count
+  pub part : p2 ≡ p1
+  pub state : d2 ≡ record d1 { places = placed (stranded_first d1 count ++ others) Giving d1.places; inflate = d2.inflate }
+
+pub record InflatesBy (m1 m2 : Pages) (p1 p2 : Part) (d1 d2 : DriverState) (n : ℕ) (result : Result Posted Refusal) : Type 0 where
+  pub driver : IsDriver d1
+  pub refusal : refusal_in result ≡ first_refusal (inflate_tests d1 p1 n)
+  pub refused : OnErr result (Unchanged m1 m2 p1 p2 d1 d2)
+  pub offers : IfOk result (Offers m1 m2 p1 p2 d1 d2 (inflate_count d1 p1.target n))
+
+-- The lowest lent pages.
+abbrev pub lowest_lent : DriverState → ℕ → List ℕ
+lowest_lent d count = take count (pages_where is_lent d.places)
+
+-- The lowest lent pages are asked back from the host.
+pub record AsksBack (m1 m2 : Pages) (p1 p2 : Part) (d1 d2 : DriverState) (count : ℕ) (posted : Posted) : Type 0 where
+  pub posts : Posts m1 m2 d1.deflate d2.deflate (buffers_page 1) (lowest_lent d1 count) posted.head
+  pub pages : posted.pages ≡ count
+  pub part : p2 ≡ p1
+  pub state : d2 ≡ record d1 { places = placed (lowest_lent d1 count) Taking d1.places; deflate = d2.deflate }
+
+pub record DeflatesBy (m1 m2 : Pages) (p1 p2 : Part) (d1 d2 : DriverState) (n : ℕ) (result : Result Posted Refusal) : Type 0 where
+  pub driver : IsDriver d1
+  pub refusal : refusal_in result ≡ first_refusal (deflate_tests d1 p1 n)
+  pub refused : OnErr result (Unchanged m1 m2 p1 p2 d1 d2)
+  pub asks : IfOk result (AsksBack m1 m2 p1 p2 d1 d2 (deflate_count d1 p1.target n))
+
+pub record DeflatesOnOomBy (m1 m2 : Pages) (p1 p2 : Part) (d1 d2 : DriverState) (n : ℕ) (result : Result Posted Refusal) : Type 0 where
+  pub driver : IsDriver d1
+  pub refusal : refusal_in result ≡ first_refusal (oom_tests d1 p1 n)
+  pub refused : OnErr result (Unchanged m1 m2 p1 p2 d1 d2)
+  pub asks : IfOk result (AsksBack m1 m2 p1 p2 d1 d2 (oom_count d1 n))
+
+-- ---- used requests
+
+-- A driver's side of queue 0, or of queue 1.
+abbrev pub side_of : ℕ → DriverState → Side
+side_of queue d = if queue == 0 then d.inflate else d.deflate
+
+abbrev pub with_side : ℕ → Side → DriverState → DriverState
+with_side queue side d = if queue == 0 then record d { inflate = side } else record d { deflate = side }
+
+-- Where the pages of a used request go.
+abbrev pub place_reaped : ℕ → Place
+place_reaped queue = if queue == 0 then Lent else Free
+
+-- The request is gone.
+abbrev pub after_reap : Side → ℕ → Side
+after_reap side head = record { ring = after_take side.ring (Ok (Some head)); sent = slice_set side.sent head [] }
+
+-- The used request's pages move on, and then `actual` is told.
+pub record Reaps (p1 p2 : Part) (d1 d2 : DriverState) (queue : ℕ) (reaped : Reaped) : Type 0 where
+  pub small : reaped.head < max_outstanding
+  pub pages : reaped.pages ≡ length (sent_by (side_of queue d1) reaped.head)
+  pub state : d2 ≡ with_side queue (after_reap (side_of queue d1) reaped.head) (record d1 { places = placed (sent_by (side_of queue d1) reaped.head) (place_reaped queue) d1.places })
+  pub part : p2 ≡ record p1 { actual = count_by is_lent_or_taking d2.places }
+
+-- What the answer says of the used request that stands next.
+abbrev pub next_of : Option Reaped → Option ℕ
+next_of None = None
+next_of (Some reaped) = Some reaped.head
+
+-- The driver gives up on a broken ring.
+abbrev pub after_refusal : Refusal → Part → Part
+after_refusal RingBroken part = record part { status = bit_or part.status failed }
+after_refusal _ part = part
+
+pub record ReapsBy (m1 m2 : Pages) (p1 p2 : Part) (d1 d2 : DriverState) (queue : ℕ) (result : Result (Option Reaped) Refusal) : Type 0 where
+  pub driver : IsDriver d1
+  pub mem : m2 ≡ m1
+  pub refusal : refusal_in result ≡ first_refusal (reap_tests m1 p1 (side_of queue d1) queue)
+  pub refused : OnErr result (d2 ≡ d1)
+  pub failed : IfErr result (λ refusal. p2 ≡ after_refusal refusal p1)
+  pub next : IfOk result (λ got. used_answer m1 (side_of queue d1).ring ≡ Ok (next_of got))
+  pub ring : OnOk result (TakesUsedBy m1 (side_of queue d1).ring (side_of queue d2).ring (used_answer m1 (side_of queue d1).ring))
+  pub reaps : IfOk result (λ got. MatchOption got ((p2 ≡ p1) × (d2 ≡ d1)) (Reaps p1 p2 d1 d2 queue))
+
+-- ---- lives
+
+-- The ring of a queue shows that nothing was published and nothing used.
+pub record IsNewRing (mem : Pages) (side : Side) : Type 0 where
+  pub shows : Shows mem side.ring.layout side.ring.size [] []
+  pub tracks : Tracks mem side.ring [] [] 0
+
+-- The rings begin anew in zeroed pages, and the device is told so.
+pub record Starts (m1 m2 : Pages) (p1 p2 : Part) (d1 d2 : DriverState) (wanted : ℕ) : Type 0 where
+  pub part : p2 ≡ record (after_reset p1) { status = 15; features = wanted }
+  pub driver : d2 ≡ record d1 { inflate = fresh_side 0 d1.queue_size; deflate = fresh_side 1 d1.queue_size; features = wanted }
+  pub inflate : IsNewRing m2 d2.inflate
+  pub deflate : IsNewRing m2 d2.deflate
+  pub zero : (page offset : ℕ) → page < 4 → offset < 4096 → byte_at m2 page offset ≡ 0
+  pub others : (page : ℕ) → 4 ≤ page → page_at m2 page ≡ page_at m1 page
+  pub backing : (page : ℕ) → frame_at m2 page ≡ frame_at m1 page
+  pub count : length m2 ≡ length m1
+
+-- The driver gives up, where the device was asked for features that it refused (128 + 2 + 1).
+pub record GivesUp (m1 m2 : Pages) (p1 p2 : Part) (d1 d2 : DriverState) (features : ℕ) : Type 0 where
+  pub mem : m2 ≡ m1
+  pub part : p2 ≡ record (after_reset p1) { status = 131; features = features }
+  pub driver : d2 ≡ record d1 { features = features }
+
+abbrev pub InitRefused : Refusal → Pages → Pages → Part → Part → DriverState → DriverState → ℕ → Type 0
+InitRefused AlreadyUp m1 m2 p1 p2 d1 d2 wanted = Unchanged m1 m2 p1 p2 d1 d2
+InitRefused NoFrame m1 m2 p1 p2 d1 d2 wanted = Unchanged m1 m2 p1 p2 d1 d2
+InitRefused refusal m1 m2 p1 p2 d1 d2 wanted = GivesUp m1 m2 p1 p2 d1 d2 (accepted_before refusal wanted)
+
+pub record InitsBy {T : Type 0} (m1 m2 : Pages) (p1 p2 : Part) (d1 d2 : DriverState) (wanted : ℕ) (result : Result T Refusal) : Type 0 where
+  pub driver : IsDriver d1
+  pub refusal : refusal_in result ≡ first_refusal (init_tests m1 p1 wanted)
+  pub refused : IfErr result (λ refusal. InitRefused refusal m1 m2 p1 p2 d1 d2 wanted)
+  pub starts : OnOk result (Starts m1 m2 p1 p2 d1 d2 wanted)
+
+-- A reset of the device: what was lent, or on its way, is stranded, and nothing is outstanding any more.
+pub record ResetsBy (m1 m2 : Pages) (p1 p2 : Part) (d1 d2 : DriverState) : Type 0 where
+  pub driver : IsDriver d1
+  pub mem : m2 ≡ m1
+  pub part : p2 ≡ after_reset p1
+  pub state : d2 ≡ record d1 { places = map place_after_reset d1.places; inflate = fresh_side 0 d1.queue_size; deflate = fresh_side 1 d1.queue_size; features = 0 }

@@ -1,0 +1,27 @@
+-- How a request stands in guest memory: VIRTIO 1.1, 5.5.6; where the buffers stand is the profile's.
+use Rattle.std.specs.Prelude.{◌≡◌, ◌≢◌, ℕ, ◌+◌, ◌*◌, ◌<◌, List, length, slice_index}
+use Rattle.vb_model.specs.Limits.{page_size}
+use Rattle.vb_model.specs.Layout.{buffer_page, buffer_offset}
+use Rattle.vb_ram.specs.Pages.{Pages, field, page_at, frame_at, SameIn}
+use Rattle.vb_chain.specs.declared.Descriptor.{Descriptor}
+use Rattle.vb_chain.specs.Table.{descriptor_at}
+
+-- the readable descriptor of n page numbers in buffer h, where the buffers begin at a page
+abbrev pub buffer_of : ℕ → ℕ → ℕ → Descriptor
+buffer_of base h n = record { addr = page_size * buffer_page base h + buffer_offset h; len = 4 * n; flags = 0; next = 0 }
+
+-- these page numbers stand at the offset of the page
+pub record Names (mem : Pages) (p o : ℕ) (pages : List ℕ) : Type 0 where
+  pub each : (k : ℕ) → k < length pages → field 4 mem p (o + 4 * k) ≡ slice_index pages k
+
+-- the table has the descriptor of buffer h, and the buffer these page numbers
+pub record IsCoded (mem : Pages) (table base h : ℕ) (pages : List ℕ) : Type 0 where
+  pub descriptor : descriptor_at mem table h ≡ buffer_of base h (length pages)
+  pub names : Names mem (buffer_page base h) (buffer_offset h) pages
+
+-- nothing but the ring's page and buffer h has changed
+pub record SameButBuffer (old new : Pages) (ring base h : ℕ) : Type 0 where
+  pub others : (p : ℕ) → p ≢ ring → p ≢ buffer_page base h → page_at new p ≡ page_at old p
+  pub buffers : (k : ℕ) → k ≢ h → SameIn old new (buffer_page base k) (buffer_offset k) (buffer_offset k + 1024)
+  pub backing : (p : ℕ) → frame_at new p ≡ frame_at old p
+  pub count : length new ≡ length old

@@ -1,0 +1,29 @@
+-- A table of places, and how many pages it has at each.
+use Rattle.std.specs.Prelude.{◌≡◌, ℕ, Bool, ◌==◌, List, length, ◌≤◌, slice_index, count_by}
+use Rattle.vb_model.specs.declared.places.Place.{Place}
+use Rattle.vb_model.specs.declared.places.Place.TheVariants.{Reserved, Free, Used, Giving, Lent, Taking, Stranded, Reporting}
+
+-- the places, numbered
+abbrev pub number_of : Place → ℕ
+number_of Reserved = 0
+number_of Free = 1
+number_of Used = 2
+number_of Giving = 3
+number_of Lent = 4
+number_of Taking = 5
+number_of Stranded = 6
+number_of Reporting = 7
+
+-- whether a page has the place
+abbrev pub is_at : Place → Place → Bool
+is_at place other = number_of other == number_of place
+
+-- the table of counts says of each place how many pages have it
+pub record AreCounts (counts : List ℕ) (places : List Place) : Type 0 where
+  pub each : (place : Place) → slice_index counts (number_of place) ≡ count_by (is_at place) places
+
+-- what holds of each table
+pub record IsTable (counts : List ℕ) (places : List Place) : Type 0 where
+  pub kinds : length counts ≡ 8
+  pub are_counts : AreCounts counts places
+  pub small : length places ≤ 16384

@@ -1,0 +1,101 @@
+-- What a balloon driver keeps.
+use Rattle.std.specs.Prelude.{◌≡◌, ℕ, ◌<◌, ◌≤◌, Bool, true, false, ◌==◌, ◌&&◌, not, List, [], length, min, sum_by, count_by, replicate, slice_index_or}
+use Rattle.vb_model.specs.declared.places.Place.{Place}
+use Rattle.vb_model.specs.Limits.{max_outstanding}
+use Rattle.vb_model.specs.Pages.{Block, place_of, all_free, is_free, is_giving, is_lent, is_taking, is_stranded, is_reporting}
+use Rattle.vb_model.specs.Layout.{ring_page}
+use Rattle.vb_model.specs.Tests.{one_if}
+use Rattle.vb_ring.specs.Layout.{IsSize, layout_of}
+use Rattle.vb_ring.specs.Entries.{is_head}
+use Rattle.vb_ring.specs.Ends.{DriverEnd, fresh_end, is_free as is_unused}
+
+-- Of a queue of requests: the driver's end of its ring, and by head the pages of each request that is out, none where no request has the head.
+pub record Side : Type 0 where
+  pub ring : DriverEnd
+  pub sent : List (List ℕ)
+
+-- A driver: how large its guest is, where each page is, the blocks that allocations hold, by rising start, its two queues, and the features that were accepted last.
+pub record DriverState : Type 0 where
+  pub pages : ℕ
+  pub queue_size : ℕ
+  pub processors : ℕ
+  pub places : List Place
+  pub held : List Block
+  pub inflate : Side
+  pub deflate : Side
+  pub features : ℕ
+
+-- ---- what is read off a driver
+
+abbrev pub free_count : DriverState → ℕ
+free_count d = count_by is_free d.places
+
+abbrev pub giving_count : DriverState → ℕ
+giving_count d = count_by is_giving d.places
+
+abbrev pub lent_count : DriverState → ℕ
+lent_count d = count_by is_lent d.places
+
+abbrev pub stranded_count : DriverState → ℕ
+stranded_count d = count_by is_stranded d.places
+
+-- how many requests of a queue there may be
+abbrev pub room : DriverState → ℕ
+room d = min d.queue_size max_outstanding
+
+-- the pages of the request with this head
+abbrev pub sent_by : Side → ℕ → List ℕ
+sent_by side head = slice_index_or side.sent head []
+
+-- how often the requests name a page
+abbrev pub naming : ℕ → List (List ℕ) → ℕ
+naming page sent = sum_by (λ pages. count_by (λ p. p == page) pages) sent
+
+-- ---- a queue of which nothing is out
+
+abbrev pub fresh_at : ℕ → ℕ → Side
+fresh_at page size = record { ring = fresh_end (layout_of page size) size; sent = replicate max_outstanding [] }
+
+abbrev pub fresh_side : ℕ → ℕ → Side
+fresh_side queue size = fresh_at (ring_page queue) size
+
+-- a driver as it is made
+abbrev pub fresh_driver : ℕ → ℕ → ℕ → DriverState
+fresh_driver pages queue_size processors =
+    record {
+      pages = pages;
+      queue_size = queue_size;
+      processors = processors;
+      places = all_free pages;
+      held = [];
+      inflate = fresh_side 0 queue_size;
+      deflate = fresh_side 1 queue_size;
+      features = 0;
+    }
+
+-- ---- what holds of each driver
+
+-- Each descriptor that is in use is a request of its own, and one of the first 16.
+pub record AreRequests (side : Side) : Type 0 where
+  pub single : (i : ℕ) → is_unused side.ring.owner i ≡ false → is_head side.ring.owner i ≡ true
+  pub few : (i : ℕ) → is_head side.ring.owner i ≡ true → i < max_outstanding
+  pub buffers : length side.sent ≡ max_outstanding
+
+-- The queue's ring lies in its page.
+pub record IsQueue (side : Side) (queue descriptors : ℕ) : Type 0 where
+  pub requests : AreRequests side
+  pub layout : side.ring.layout ≡ layout_of (ring_page queue) descriptors
+  pub size : side.ring.size ≡ descriptors
+
+-- A page that a request names is giving or taking, and no other names it.
+pub record IsDriver (d : DriverState) : Type 0 where
+  pub table : length d.places ≡ d.pages
+  pub least : 64 ≤ d.pages
+  pub most : d.pages ≤ 16384
+  pub size : IsSize d.queue_size
+  pub inflate : IsQueue d.inflate 0 d.queue_size
+  pub deflate : IsQueue d.deflate 1 d.queue_size
+  pub giving : (page : ℕ) → naming page d.inflate.sent ≤ one_if (is_giving (place_of d.places page))
+  pub taking : (page : ℕ) → naming page d.deflate.sent ≤ one_if (is_taking (place_of d.places page))
+  -- reports come later
+  pub unreported : (page : ℕ) → is_reporting (place_of d.places page) ≡ false

@@ -1,0 +1,111 @@
+// The guest's page areas, as the driver uses them.
+
+ghost use Rattle.std.specs.Prelude.{◌≡◌, ◌<◌, ◌≤◌, ◌==◌, ◌∷◌, [], ℕ, false, true, Ok, Err, IfOk, OnOk, OnErr, IsTrue, length, map, not, nat_lt, nat_le, count_by};
+ghost use Rattle.std.specs.List.{list_all, list_any, range_with_len};
+ghost use Rattle.vb_model.specs.Tests.{is_in};
+ghost use Rattle.vb_model.specs.Pages.{pages_of, is_free, all_free, is_same_block};
+ghost use Rattle.vb_model.specs.Driver.{AllDistinct, with_block, without_block};
+ghost use Rattle.vb_model.specs.Limits.{max_order};
+ghost use Rattle.vb_model.specs.Refusals.{◌⇒◌, first_refusal};
+ghost use Rattle.vb_model.specs.declared.replies.Refusal.TheVariants.{BadOrder, BadCpu, NoPages, NotHeld};
+ghost use Rattle.vb_driver.specs.Answers.{refusal_in, block_at};
+ghost use Rattle.vb_driver.specs.Areas.{AreApart, is_free_at, is_covered, flagged, is_free_block};
+
+use arrayvec::ArrayVec;
+use std::alloc::{AllocError, Global};
+use std::marker::Model;
+use vb_model::Refusal;
+
+#[derive(Clone, Copy)]
+struct HeldBlock {
+    start: u32,
+    order: u32,
+}
+
+/// The areas of a guest: which pages are free, and which blocks are held.
+#[derive(Drop)]
+pub(crate) struct Areas {
+    free: Vec<bool>,
+    held: Vec<HeldBlock>,
+    processors: u32,
+}
+
+impl Model for Areas {
+    ghost use Rattle.std.specs.Prelude.{map};
+    ghost use Rattle.vb_driver.specs.Areas.{AreasState};
+
+    ghost Value = { AreasState };
+
+    ghost view = { λ a. record { free = a.free.items; held = map (λ h. record { start = h.start; order = h.order }) a.held.items; processors = a.processors } };
+}
+
+#[tactic(none)]
+impl Areas {
+    /// The areas of a guest as it is plugged in.
+    pub(crate) fn new(alloc: Global, pages: u32, processors: u32) -> Result<Self, AllocError>
+        requires { pages ≤ 16384 }
+        ensures { IfOk result (λ areas. areas ≡ record { free = map is_free (all_free pages); held = []; processors = processors }) }
+    {
+        Ok(Areas {
+            free: Vec::with_capacity(alloc, pages as usize)?,
+            held: Vec::new(alloc),
+            processors,
+        })
+    }
+
+    /// Allocates a block.
+    pub(crate) fn alloc(&mut self, cpu: u32, order: u32) -> Result<u32, Refusal>
+        ensures refusal { refusal_in result ≡ first_refusal ((nat_lt max_order order ⇒ BadOrder) ∷ (nat_le self.old.processors cpu ⇒ BadCpu) ∷ (not (list_any (λ start. is_free_block self.old.free (block_at start order)) (range_with_len 0 (length self.old.free))) ⇒ NoPages) ∷ []) }
+        ensures refused { OnErr result (self.new ≡ self.old) }
+        ensures free { IfOk result (λ start. IsTrue (is_free_block self.old.free (block_at start order))) }
+        ensures state { IfOk result (λ start. self.new ≡ record self.old { free = flagged (pages_of (block_at start order)) false self.old.free; held = with_block (block_at start order) self.old.held }) }
+    {
+        let _ = (cpu, order);
+        Err(Refusal::NoPages)
+    }
+
+    /// Frees a block that an allocation holds.
+    pub(crate) fn free(&mut self, cpu: u32, start: u32, order: u32) -> Result<(), Refusal>
+        ensures refusal { refusal_in result ≡ first_refusal ((nat_lt max_order order ⇒ BadOrder) ∷ (nat_le self.old.processors cpu ⇒ BadCpu) ∷ (not (list_any (λ h. is_same_block h (block_at start order)) self.old.held) ⇒ NotHeld) ∷ []) }
+        ensures refused { OnErr result (self.new ≡ self.old) }
+        ensures state { OnOk result (self.new ≡ record self.old { free = flagged (pages_of (block_at start order)) true self.old.free; held = without_block (block_at start order) self.old.held }) }
+        ensures apart { AreApart self.new }
+    {
+        let _ = (cpu, start, order);
+        Err(Refusal::NotHeld)
+    }
+
+    /// Takes single free pages, so many; the lists of all processors are drained first.
+    pub(crate) fn take_free(&mut self, count: u32) -> ArrayVec<u32, 256>
+        requires few { count ≤ 256 }
+        requires free { count ≤ count_by (λ f. f) self.old.free }
+        ensures count { length result.items ≡ count }
+        ensures free { IsTrue (list_all (is_free_at self.old.free) result.items) }
+        ensures distinct { AllDistinct result.items }
+        ensures state { self.new ≡ record self.old { free = flagged result.items false self.old.free } }
+    {
+        let _ = count;
+        ArrayVec::new()
+    }
+
+    /// Gives a page back that was taken.
+    pub(crate) fn give_free(&mut self, page: u32)
+        requires inside { page < length self.old.free }
+        requires taken { is_free_at self.old.free page ≡ false }
+        requires uncovered { is_covered page self.old.held ≡ false }
+        ensures { self.new ≡ record self.old { free = flagged (page ∷ []) true self.old.free } }
+    {
+        let _ = page;
+    }
+
+    /// Gives these pages back, which were taken and of which none stands twice.
+    pub(crate) fn give_all(&mut self, pages: &[u32])
+        requires inside { (page : ℕ) → is_in page pages.now ≡ true → page < length self.old.free }
+        requires taken { (page : ℕ) → is_in page pages.now ≡ true → is_free_at self.old.free page ≡ false }
+        requires uncovered { (page : ℕ) → is_in page pages.now ≡ true → is_covered page self.old.held ≡ false }
+        requires once { (page : ℕ) → count_by (λ p. p == page) pages.now ≤ 1 }
+        ensures { self.new ≡ record self.old { free = flagged pages.now true self.old.free } }
+    {
+        let _ = pages;
+    }
+}

@@ -1,0 +1,124 @@
+// The balloon driver, and the pages of the guest's own.
+
+ghost use Rattle.std.specs.Prelude.{◌≡◌, ◌<◌, ◌≤◌, ◌+◌, ◌*◌, true, IfOk, IsTrue, length, count_by, min};
+ghost use Rattle.vb_model.specs.Limits.{is_config};
+ghost use Rattle.vb_model.specs.Pages.{place_of, is_used, is_free, is_giving, is_lent, is_taking, is_stranded, is_reporting, is_lent_or_taking};
+ghost use Rattle.vb_driver.specs.State.{IsDriver, fresh_driver};
+ghost use Rattle.vb_driver.specs.Calls.{AllocatesBy, FreesBy, AreCountsOf};
+
+use crate::areas::Areas;
+use crate::places::PlaceTable;
+use crate::queue::RequestQueue;
+use bitflags::Flags;
+use std::alloc::{AllocError, Global};
+use std::marker::Model;
+use vb_model::layout::{DEFLATE_RING_PAGE, INFLATE_RING_PAGE};
+use vb_model::{Place, PlaceCounts, Refusal};
+use vb_ram::Config;
+use vb_status::Features;
+
+/// The balloon driver of a guest (VIRTIO 1.1, 5.5.6): where each page of the guest is, the page
+/// areas, and the requests that are out.
+#[derive(Drop)]
+pub struct Driver {
+    pub(crate) config: Config,
+    pub(crate) places: PlaceTable,
+    pub(crate) areas: Areas,
+    pub(crate) inflate: RequestQueue,
+    pub(crate) deflate: RequestQueue,
+    pub(crate) features: Features,
+}
+
+impl Model for Driver {
+    ghost use Rattle.vb_status.specs.Bits.{feature_bits};
+    ghost use Rattle.vb_driver.specs.State.{DriverState};
+    ghost use Rattle.vb_driver.specs.Areas.{IsKept};
+
+    ghost Value = { DriverState };
+
+    ghost view = { λ d. record { pages = d.config.pages; queue_size = d.config.queue_size; processors = d.config.processors; places = d.places; held = d.areas.held; inflate = d.inflate; deflate = d.deflate; features = feature_bits d.features } };
+
+    ghost invariant = { λ d. IsKept (record { pages = d.config.pages; queue_size = d.config.queue_size; processors = d.config.processors; places = d.places; held = d.areas.held; inflate = d.inflate; deflate = d.deflate; features = feature_bits d.features }) d.areas };
+}
+
+impl Driver {
+    /// The driver of a guest as it is plugged in: all unreserved pages are free, nothing is out.
+    /// All memory that a driver needs is taken here; no other call takes any.
+    pub fn new(alloc: Global, config: Config) -> Result<Driver, AllocError>
+        requires { is_config config.pages config.queue_size config.processors ≡ true }
+        ensures { IfOk result (λ driver. driver ≡ fresh_driver config.pages config.queue_size config.processors) }
+    {
+        Ok(Driver {
+            config,
+            places: PlaceTable::new(alloc, config.pages)?,
+            areas: Areas::new(alloc, config.pages, config.processors)?,
+            inflate: RequestQueue::new(alloc, INFLATE_RING_PAGE, config.queue_size)?,
+            deflate: RequestQueue::new(alloc, DEFLATE_RING_PAGE, config.queue_size)?,
+            features: Features::empty(),
+        })
+    }
+
+    /// Where a page is; one past the end of memory counts as reserved.
+    pub fn place(&self, page: u32) -> Place
+        ensures { result ≡ place_of self.now.places page }
+    {
+        self.places.place(page)
+    }
+
+    /// How many pages each place has.
+    pub fn places(&self) -> PlaceCounts
+        ensures counts { AreCountsOf result self.now.places }
+        ensures driver { IsDriver self.now }
+    {
+        PlaceCounts {
+            free: self.places.count(Place::Free),
+            used: self.places.count(Place::Used),
+            giving: self.places.count(Place::Giving),
+            lent: self.places.count(Place::Lent),
+            taking: self.places.count(Place::Taking),
+            stranded: self.places.count(Place::Stranded),
+            reporting: self.places.count(Place::Reporting),
+        }
+    }
+
+    /// How many pages the driver has in the balloon: the lent ones, and those that it asks back
+    /// (`actual`, VIRTIO 1.1, 5.5.4).
+    pub fn actual(&self) -> u32
+        ensures { result ≡ count_by is_lent_or_taking self.now.places }
+    {
+        self.places.in_balloon()
+    }
+
+    /// Whether an allocation holds the page.
+    pub fn held(&self, page: u32) -> bool
+        ensures { result ≡ is_used (place_of self.now.places page) }
+    {
+        matches!(self.places.place(page), Place::Used)
+    }
+
+    /// Allocates a block of 2^order pages for a processor, and gives its first page.
+    ///
+    /// Refused for `BadOrder` (over 9), `BadCpu` (no such processor), `NoPages` (no block of the
+    /// order is wholly free); then nothing is changed.
+    #[tactic(none)]
+    pub fn alloc(&mut self, cpu: u32, order: u32) -> Result<u32, Refusal>
+        ensures { AllocatesBy self.old self.new cpu order result }
+    {
+        let start = self.areas.alloc(cpu, order)?;
+        self.places.set_block(start, order, Place::Used);
+        Ok(start)
+    }
+
+    /// Frees a block that an allocation holds.
+    ///
+    /// Refused for `BadOrder`, `BadCpu`, `NotHeld` (no allocation of just this block is held); then
+    /// nothing is changed.
+    #[tactic(none)]
+    pub fn free(&mut self, cpu: u32, start: u32, order: u32) -> Result<(), Refusal>
+        ensures { FreesBy self.old self.new cpu start order result }
+    {
+        self.areas.free(cpu, start, order)?;
+        self.places.set_block(start, order, Place::Free);
+        Ok(())
+    }
+}

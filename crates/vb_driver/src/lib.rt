@@ -1,0 +1,15 @@
+//! The balloon driver of a guest.
+#![tactic(auto)]
+
+mod answers;
+mod areas;
+mod driver;
+mod lives;
+mod memory;
+mod places;
+mod queue;
+mod reaping;
+mod requests;
+
+pub use answers::{Posted, Reaped};
+pub use driver::Driver;

@@ -1,0 +1,161 @@
+// Where each page of the guest is.
+
+ghost use Rattle.std.specs.Prelude.{◌≡◌, ◌≤◌, ◌<◌, ◌+◌, ◌^◌, ℕ, true, length, take, map, slice_set, count_by, IfOk};
+ghost use Rattle.vb_model.specs.Tests.{is_in, pages_where};
+ghost use Rattle.vb_model.specs.Pages.{all_free, placed, place_of, pages_of, is_lent_or_taking};
+ghost use Rattle.vb_model.specs.Life.{place_after_reset};
+ghost use Rattle.vb_driver.specs.Places.{number_of, is_at};
+
+use arrayvec::ArrayVec;
+use std::alloc::{AllocError, Global};
+use std::marker::Model;
+use vb_model::Place;
+use vb_model::limits::RESERVED_PAGES;
+
+/// The place of each page, and how many pages each place has. A contract sees the places.
+#[derive(Drop)]
+pub(crate) struct PlaceTable {
+    places: Vec<Place>,
+    counts: [u32; 8],
+}
+
+impl Model for PlaceTable {
+    ghost use Rattle.std.specs.Prelude.{List};
+    ghost use Rattle.vb_model.specs.declared.places.Place.{Place};
+    ghost use Rattle.vb_driver.specs.Places.{IsTable};
+
+    ghost Value = { List Place };
+
+    ghost view = { λ t. t.places.items };
+
+    ghost invariant = { λ t. IsTable t.counts t.places.items };
+}
+
+/// The number of a place in a table of counts.
+fn number_of(place: Place) -> usize
+    ensures { result ≡ number_of place }
+{
+    match place {
+        Place::Reserved => 0,
+        Place::Free => 1,
+        Place::Used => 2,
+        Place::Giving => 3,
+        Place::Lent => 4,
+        Place::Taking => 5,
+        Place::Stranded => 6,
+        Place::Reporting => 7,
+    }
+}
+
+impl PlaceTable {
+    /// The place of a page; one that isn't there counts as reserved.
+    pub(crate) fn place(&self, page: u32) -> Place
+        ensures { result ≡ place_of self.now page }
+    {
+        match self.places.get(page as usize) {
+            Some(place) => *place,
+            None => Place::Reserved,
+        }
+    }
+
+    /// Moves a page to a place.
+    pub(crate) fn set(&mut self, page: u32, place: Place)
+        requires { page < length self.old }
+        ensures { self.new ≡ slice_set self.old page place }
+    {
+        let page = page as usize;
+        let old = self.places[page];
+        self.counts[number_of(old)] -= 1;
+        self.counts[number_of(place)] += 1;
+        self.places[page] = place;
+    }
+
+    /// The table of a guest of so many pages as it is plugged in: all unreserved pages are free.
+    pub(crate) fn new(alloc: Global, pages: u32) -> Result<Self, AllocError>
+        requires most { pages ≤ 16384 }
+        requires least { 16 ≤ pages }
+        ensures { IfOk result (λ table. table ≡ all_free pages) }
+    {
+        let mut places = vec![in alloc; Place::Reserved; pages as usize]?;
+        let mut counts = [0; 8];
+        counts[number_of(Place::Reserved)] = pages;
+        let mut table = PlaceTable { places, counts };
+        for page in RESERVED_PAGES..pages {
+            table.set(page, Place::Free);
+        }
+        Ok(table)
+    }
+
+    /// Moves these pages to a place.
+    pub(crate) fn set_all(&mut self, pages: &[u32], place: Place)
+        requires { (page : ℕ) → is_in page pages.now ≡ true → page < length self.old }
+        ensures { self.new ≡ placed pages.now place self.old }
+    {
+        for page in pages {
+            self.set(*page, place);
+        }
+    }
+
+    /// Moves the pages of a block to a place.
+    pub(crate) fn set_block(&mut self, start: u32, order: u32, place: Place)
+        requires order { order ≤ 9 }
+        requires inside { start + 2 ^ order ≤ length self.old }
+        ensures { self.new ≡ placed (pages_of (record { start = start; order = order })) place self.old }
+    {
+        let size = 1 << order;
+        for page in start..start + size {
+            self.set(page, place);
+        }
+    }
+
+    /// How many pages are lent or asked back.
+    pub(crate) fn in_balloon(&self) -> u32
+        ensures { result ≡ count_by is_lent_or_taking self.now }
+    {
+        self.counts[number_of(Place::Lent)] + self.counts[number_of(Place::Taking)]
+    }
+
+    /// The lowest pages that have a place, so many at most.
+    pub(crate) fn lowest(&self, place: Place, most: u32) -> ArrayVec<u32, 256>
+        requires { most ≤ 256 }
+        ensures { result.items ≡ take most (pages_where (is_at place) self.now) }
+    {
+        let mut lowest = ArrayVec::new();
+        for page in 0..self.places.len() {
+            if lowest.len() < most as usize && number_of(self.places[page]) == number_of(place) {
+                lowest.push(page as u32);
+            }
+        }
+        lowest
+    }
+
+    /// Moves each page to the place that it has after a reset of the device.
+    pub(crate) fn strand(&mut self)
+        ensures { self.new ≡ map place_after_reset self.old }
+    {
+        let pages = self.places.len();
+        for page in 0..pages {
+            let page = page as u32;
+            let place = self.place(page);
+            self.set(page, after_reset(place));
+        }
+    }
+
+    /// How many pages have a place.
+    pub(crate) fn count(&self, place: Place) -> u32
+        ensures { result ≡ count_by (is_at place) self.now }
+    {
+        self.counts[number_of(place)]
+    }
+}
+
+/// The place that a page has after a reset of the device.
+fn after_reset(place: Place) -> Place
+    ensures { result ≡ place_after_reset place }
+{
+    match place {
+        Place::Giving | Place::Lent | Place::Taking => Place::Stranded,
+        Place::Reporting => Place::Free,
+        place => place,
+    }
+}

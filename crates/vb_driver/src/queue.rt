@@ -1,0 +1,161 @@
+// The driver's side of a queue of requests.
+
+ghost use Rattle.std.specs.Prelude.{◌≡◌, ◌<◌, ◌≤◌, ℕ, [], Ok, Err, None, Some, IfOk, IfErr, MatchOption, OnErr, OnOk, IsSome, length, slice_set, min, replicate};
+ghost use Rattle.vb_model.specs.Limits.{max_outstanding};
+ghost use Rattle.vb_ram.specs.Pages.{frame_at};
+ghost use Rattle.vb_ring.specs.Layout.{IsSize, IsInside, layout_of};
+ghost use Rattle.vb_ring.specs.Ends.{outstanding, used_answer};
+ghost use Rattle.vb_ring.specs.Calls.{TakesUsedBy};
+ghost use Rattle.vb_driver.specs.State.{AreRequests, fresh_at, sent_by};
+ghost use Rattle.vb_driver.specs.Calls.{Posts, after_reap};
+
+use crate::memory::write_numbers;
+use arrayvec::ArrayVec;
+use std::alloc::{AllocError, Global};
+use std::marker::Model;
+use vb_chain::Piece;
+use vb_model::layout::REQUEST_BUFFER_SIZE;
+use vb_model::limits::{MAX_OUTSTANDING, PAGE_SIZE};
+use vb_ram::GuestBytes;
+use vb_ring::{DriverRing, RingBroken};
+
+/// The pages of a request that is out; none where no request is.
+#[derive(Drop)]
+pub(crate) struct Sent {
+    pages: ArrayVec<u32, 256>,
+}
+
+impl Model for Sent {
+    ghost use Rattle.std.specs.Prelude.{List, ℕ};
+
+    ghost Value = { List ℕ };
+
+    ghost view = { λ s. s.pages.items };
+}
+
+impl Sent {
+    fn none() -> Self
+        ensures { result ≡ [] }
+    {
+        Sent {
+            pages: ArrayVec::new(),
+        }
+    }
+}
+
+/// The driver's end of a queue's ring, and the pages of each request that is out, by head.
+#[derive(Drop)]
+pub(crate) struct RequestQueue {
+    ring: DriverRing,
+    sent: Vec<Sent>,
+}
+
+impl Model for RequestQueue {
+    ghost use Rattle.vb_driver.specs.State.{Side, AreRequests};
+
+    ghost Value = { Side };
+
+    ghost view = { λ q. record { ring = q.ring; sent = q.sent.items } };
+
+    ghost invariant = { λ q. AreRequests (record { ring = q.ring; sent = q.sent.items }) };
+}
+
+/// Forgets all requests.
+fn forget_all(sent: &mut [Sent])
+    ensures { sent.new ≡ replicate (length sent.old) [] }
+{
+    for k in 0..sent.len() {
+        sent[k] = Sent::none();
+    }
+}
+
+impl RequestQueue {
+    /// A queue of which nothing is out, whose ring of `size` descriptors lies in a page.
+    pub(crate) fn new(alloc: Global, page: u32, size: u16) -> Result<Self, AllocError>
+        requires { IsSize size }
+        ensures { IfOk result (λ queue. queue ≡ fresh_at page size) }
+    {
+        let mut sent = Vec::with_capacity(alloc, MAX_OUTSTANDING as usize)?;
+        for _head in 0..MAX_OUTSTANDING {
+            sent.push(Sent::none())?;
+        }
+        Ok(RequestQueue {
+            ring: DriverRing::new(page, size),
+            sent,
+        })
+    }
+
+    /// Begins anew in a page, with nothing out.
+    pub(crate) fn renew(&mut self, page: u32, size: u16)
+        requires { IsSize size }
+        ensures { self.new ≡ fresh_at page size }
+    {
+        self.ring = DriverRing::new(page, size);
+        forget_all(&mut self.sent);
+    }
+
+    /// How many requests are out.
+    pub(crate) fn outstanding(&self) -> u16
+        ensures requests { AreRequests self.now }
+        ensures value { result ≡ outstanding self.now.ring }
+    {
+        self.ring.outstanding()
+    }
+
+    /// Posts a request for these pages, whose buffer is one of those that begin at page `base`.
+    pub(crate) fn post<G: GuestBytes>(
+        &mut self,
+        ram: &mut G,
+        base: u32,
+        pages: ArrayVec<u32, 256>,
+    ) -> u16
+        requires room { outstanding self.old.ring < min self.old.ring.size max_outstanding }
+        requires layout { self.old.ring.layout ≡ layout_of self.old.ring.layout.table self.old.ring.size }
+        requires low { self.old.ring.layout.table < 4 }
+        requires base_low { 4 ≤ base }
+        requires base_high { base ≤ 8 }
+        requires memory { 64 ≤ length (G.mem ram.old) }
+        requires backed { (p : ℕ) → p < 13 → IsSome (frame_at (G.mem ram.old) p) }
+        ensures posts { Posts (G.mem ram.old) (G.mem ram.new) self.old self.new base pages.items result }
+        ensures part { G.part ram.new ≡ G.part ram.old }
+    {
+        let Some(head) = self.ring.next_head() else {
+            unreachable!()
+        };
+        let page = base + u32::from(head / 4);
+        let offset = REQUEST_BUFFER_SIZE * u32::from(head % 4);
+        write_numbers(ram, page, offset as usize, &pages);
+        let piece = Piece {
+            addr: u64::from(PAGE_SIZE * page + offset),
+            len: 4 * pages.len() as u32,
+            writable: false,
+        };
+        let Ok(head) = self.ring.add(ram, &[piece]) else {
+            unreachable!()
+        };
+        self.sent[usize::from(head)] = Sent { pages };
+        head
+    }
+
+    /// Takes the next request that the device has used, and gives its head and its pages.
+    pub(crate) fn take_used<G: GuestBytes>(
+        &mut self,
+        ram: &G,
+    ) -> Result<Option<(u16, ArrayVec<u32, 256>)>, RingBroken>
+        requires { IsInside (G.mem ram.now) self.old.ring.layout }
+        ensures requests { AreRequests self.old }
+        ensures ring { TakesUsedBy (G.mem ram.now) self.old.ring self.new.ring (used_answer (G.mem ram.now) self.old.ring) }
+        ensures refused { IfErr result (λ fault. used_answer (G.mem ram.now) self.old.ring ≡ Err fault) }
+        ensures kept { OnErr result (self.new ≡ self.old) }
+        ensures next { IfOk result (λ got. MatchOption got
+            ((used_answer (G.mem ram.now) self.old.ring ≡ Ok None) × (self.new ≡ self.old))
+            (λ used. (used_answer (G.mem ram.now) self.old.ring ≡ Ok (Some used.0)) × (used.0 < max_outstanding)
+            × (used.1.items ≡ sent_by self.old used.0) × (self.new ≡ after_reap self.old used.0))) }
+    {
+        let Some(head) = self.ring.take_used(ram)? else {
+            return Ok(None);
+        };
+        let Sent { pages } = std::mem::replace(&mut self.sent[usize::from(head)], Sent::none());
+        Ok(Some((head, pages)))
+    }
+}

@@ -1,0 +1,183 @@
+// Pages are offered to the host, and asked back (VIRTIO 1.1, 5.5.6).
+
+ghost use Rattle.std.specs.Prelude.{◌≡◌, ◌<◌, ◌≤◌, ◌+◌, ◌==◌, ◌++◌, ℕ, true, Ok, Err, Some, None, IfOk, IfErr, MatchOption, OnErr, OnOk, IsSome, length, count_by, min};
+ghost use Rattle.vb_model.specs.Limits.{max_outstanding, max_request_pages};
+ghost use Rattle.vb_model.specs.Pages.{placed, is_lent_or_taking};
+ghost use Rattle.vb_ram.specs.Pages.{frame_at};
+ghost use Rattle.vb_ring.specs.Ends.{outstanding, used_answer};
+ghost use Rattle.vb_driver.specs.State.{IsDriver, room, stranded_count, free_count, lent_count, giving_count};
+ghost use Rattle.vb_driver.specs.Answers.{is_up, inflate_count, deflate_count, oom_count};
+ghost use Rattle.vb_driver.specs.Calls.{Offers, AsksBack, InflatesBy, DeflatesBy, DeflatesOnOomBy};
+
+use crate::queue::RequestQueue;
+use crate::{Driver, Posted};
+use arrayvec::ArrayVec;
+use bitflags::Flags;
+use vb_model::layout::{DEFLATE_BUFFERS_PAGE, INFLATE_BUFFERS_PAGE};
+use vb_model::limits::{MAX_OUTSTANDING, MAX_REQUEST_PAGES};
+use vb_model::{Place, Refusal};
+use vb_status::{Port, Status};
+
+/// Whether the device is initialised, and neither it nor its driver has failed.
+pub(crate) fn is_up<P: Port>(port: &P) -> bool
+    ensures { result ≡ is_up (P.part port.now).status }
+{
+    let status = port.status();
+    status.contains(Status::DRIVER_OK)
+        && !(status.contains(Status::DEVICE_NEEDS_RESET) || status.contains(Status::FAILED))
+}
+
+/// Puts more page numbers behind the first ones.
+fn append(pages: &mut ArrayVec<u32, 256>, more: &[u32])
+    requires { length pages.old.items + length more.now ≤ 256 }
+    ensures { pages.new.items ≡ pages.old.items ++ more.now }
+{
+    for page in more {
+        pages.push(*page);
+    }
+}
+
+impl Driver {
+    /// How many pages an inflate request offers, where n are wanted.
+    fn inflate_count(&self, target: u32, n: u32) -> u32
+        ensures { result ≡ inflate_count self.now target n }
+    {
+        let stranded = self.places.count(Place::Stranded);
+        let given = self.places.count(Place::Lent) + self.places.count(Place::Giving);
+        let there = stranded + self.places.count(Place::Free);
+        n.min(MAX_REQUEST_PAGES)
+            .min(stranded.max(target.saturating_sub(given)).min(there))
+    }
+
+    /// How many pages a deflate request asks back, where n are wanted.
+    fn deflate_count(&self, target: u32, n: u32) -> u32
+        ensures { result ≡ deflate_count self.now target n }
+    {
+        let lent = self.places.count(Place::Lent);
+        let given = lent + self.places.count(Place::Giving);
+        n.min(MAX_REQUEST_PAGES)
+            .min(lent.min(given.saturating_sub(target)))
+    }
+
+    /// How many pages are asked back where the guest is out of memory, where n are wanted.
+    fn oom_count(&self, n: u32) -> u32
+        ensures { result ≡ oom_count self.now n }
+    {
+        n.min(MAX_REQUEST_PAGES).min(self.places.count(Place::Lent))
+    }
+
+    /// Whether a queue has as many requests as there may be.
+    fn is_full(&self, queue: &RequestQueue) -> bool
+        ensures { result ≡ Rattle.std.specs.Prelude.nat_le (room self.now) (outstanding queue.now.ring) }
+    {
+        queue.outstanding() >= self.config.queue_size.min(MAX_OUTSTANDING as u16)
+    }
+
+    /// Offers so many pages: stranded ones first, lowest first, then free ones.
+    fn offer<P: Port>(&mut self, port: &mut P, count: u32) -> Posted
+        requires room { outstanding self.old.inflate.ring < room self.old }
+        requires few { count ≤ max_request_pages }
+        requires there { count ≤ stranded_count self.old + free_count self.old }
+        requires memory { 64 ≤ length (P.mem port.old) }
+        requires backed { (p : ℕ) → p < 13 → IsSome (frame_at (P.mem port.old) p) }
+        ensures { Offers (P.mem port.old) (P.mem port.new) (P.part port.old) (P.part port.new) self.old self.new count result }
+    {
+        let mut pages = self.places.lowest(Place::Stranded, count);
+        let others = self.areas.take_free(count - pages.len() as u32);
+        append(&mut pages, &others);
+        self.places.set_all(&pages, Place::Giving);
+        let head = self.inflate.post(port, INFLATE_BUFFERS_PAGE, pages);
+        Posted { head, pages: count }
+    }
+
+    /// Asks for so many of the lowest lent pages back.
+    fn ask_back<P: Port>(&mut self, port: &mut P, count: u32) -> Posted
+        requires room { outstanding self.old.deflate.ring < room self.old }
+        requires few { count ≤ max_request_pages }
+        requires there { count ≤ lent_count self.old }
+        requires memory { 64 ≤ length (P.mem port.old) }
+        requires backed { (p : ℕ) → p < 13 → IsSome (frame_at (P.mem port.old) p) }
+        ensures { AsksBack (P.mem port.old) (P.mem port.new) (P.part port.old) (P.part port.new) self.old self.new count result }
+    {
+        let pages = self.places.lowest(Place::Lent, count);
+        self.places.set_all(&pages, Place::Taking);
+        let head = self.deflate.post(port, DEFLATE_BUFFERS_PAGE, pages);
+        Posted { head, pages: count }
+    }
+
+    /// Offers pages to the host: at most n and 256, no more than the host's target lacks or than
+    /// are stranded, whichever is more, and no more than are stranded or free. Stranded pages go
+    /// first, lowest first.
+    ///
+    /// Refused for `NotReady` (the device isn't initialised, or has failed), `QueueFull` (16
+    /// requests of the queue are out, or as many as it has descriptors), `Nothing` (the number is
+    /// 0); then nothing is changed.
+    pub fn inflate<P: Port>(&mut self, port: &mut P, n: u32) -> Result<Posted, Refusal>
+        requires memory { 64 ≤ length (P.mem port.old) }
+        requires backed { is_up (P.part port.old).status ≡ true → (p : ℕ) → p < 13 → IsSome (frame_at (P.mem port.old) p) }
+        ensures { InflatesBy (P.mem port.old) (P.mem port.new) (P.part port.old) (P.part port.new) self.old self.new n result }
+    {
+        let queue = &self.inflate;
+        if !is_up(port) {
+            return Err(Refusal::NotReady);
+        }
+        if self.is_full(queue) {
+            return Err(Refusal::QueueFull);
+        }
+        let count = self.inflate_count(port.target(), n);
+        if count == 0 {
+            return Err(Refusal::Nothing);
+        }
+        Ok(self.offer(port, count))
+    }
+
+    /// Asks for the lowest lent pages back: at most n and 256, and no more than are above the
+    /// host's target, those on their way to it counted.
+    ///
+    /// Refused for `NotReady`, `QueueFull`, `Nothing`; then nothing is changed.
+    pub fn deflate<P: Port>(&mut self, port: &mut P, n: u32) -> Result<Posted, Refusal>
+        requires memory { 64 ≤ length (P.mem port.old) }
+        requires backed { is_up (P.part port.old).status ≡ true → (p : ℕ) → p < 13 → IsSome (frame_at (P.mem port.old) p) }
+        ensures { DeflatesBy (P.mem port.old) (P.mem port.new) (P.part port.old) (P.part port.new) self.old self.new n result }
+    {
+        let queue = &self.deflate;
+        if !is_up(port) {
+            return Err(Refusal::NotReady);
+        }
+        if self.is_full(queue) {
+            return Err(Refusal::QueueFull);
+        }
+        let count = self.deflate_count(port.target(), n);
+        if count == 0 {
+            return Err(Refusal::Nothing);
+        }
+        Ok(self.ask_back(port, count))
+    }
+
+    /// Asks for the lowest lent pages back where the guest runs out of memory (VIRTIO 1.1, 5.5.6):
+    /// at most n and 256, whatever the host's target.
+    ///
+    /// Refused for `NotReady`, `NoFeature` (DEFLATE_ON_OOM wasn't accepted), `QueueFull`,
+    /// `Nothing`; then nothing is changed.
+    pub fn oom<P: Port>(&mut self, port: &mut P, n: u32) -> Result<Posted, Refusal>
+        requires memory { 64 ≤ length (P.mem port.old) }
+        requires backed { is_up (P.part port.old).status ≡ true → (p : ℕ) → p < 13 → IsSome (frame_at (P.mem port.old) p) }
+        ensures { DeflatesOnOomBy (P.mem port.old) (P.mem port.new) (P.part port.old) (P.part port.new) self.old self.new n result }
+    {
+        let queue = &self.deflate;
+        if !is_up(port) {
+            return Err(Refusal::NotReady);
+        }
+        if !self.features.deflate_on_oom() {
+            return Err(Refusal::NoFeature);
+        }
+        if self.is_full(queue) {
+            return Err(Refusal::QueueFull);
+        }
+        let count = self.oom_count(n);
+        if count == 0 {
+            return Err(Refusal::Nothing);
+        }
+        Ok(self.ask_back(port, count))
+    }
+}

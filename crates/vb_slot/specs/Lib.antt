@@ -1,0 +1,5 @@
+pub mod Line
+pub mod Stands
+pub mod Steps
+pub mod Replies
+pub mod Answered

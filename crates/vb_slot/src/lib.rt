@@ -1,0 +1,11 @@
+//! One guest of a host: its balloon driver, and its boxed device with the guest's memory.
+#![tactic(auto)]
+
+mod device;
+mod driver;
+mod frames;
+mod memory;
+mod port;
+mod slot;
+
+pub use slot::{GuestSlot, Slot};
