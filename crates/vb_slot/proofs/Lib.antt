@@ -23,3 +23,5 @@ pub mod AllocStep
 pub mod Offered
 pub mod InflateStep
 pub mod ReapStep
+pub mod Supplying
+pub mod Claiming

@@ -4,6 +4,7 @@
 mod device;
 mod driver;
 mod frames;
+mod lives;
 mod memory;
 mod port;
 mod slot;
