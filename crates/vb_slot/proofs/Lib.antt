@@ -25,3 +25,4 @@ pub mod InflateStep
 pub mod ReapStep
 pub mod Supplying
 pub mod Claiming
+pub mod InitStep
