@@ -1,11 +1,10 @@
 -- A posted request, as its device finds it.
-use Rattle.std.specs.Prelude.{◌≡◌, ℕ, ◌+◌, ◌*◌, ◌/◌, ◌%◌, ◌<◌, ◌≤◌, List, [], ◌∷◌, All, length, Ok, false, slice_index, refl}
-use Rattle.std.proofs.Common.{sym, ◌∙◌, ap, subst, arith}
+use Rattle.std.specs.Prelude.{◌≡◌, ℕ, ◌*◌, ◌<◌, ◌≤◌, List, [], ◌∷◌, All, length, Ok, false, refl}
+use Rattle.std.proofs.Common.{sym, subst, arith}
 use Rattle.vb_model.specs.Layout.{ring_page, buffers_page, buffer_page, buffer_offset}
 use Rattle.vb_model.specs.Requests.{Request}
-use Rattle.vb_ram.specs.Pages.{Pages, field}
+use Rattle.vb_ram.specs.Pages.{Pages}
 use Rattle.vb_chain.specs.declared.Descriptor.{Descriptor}
-use Rattle.vb_chain.specs.declared.Piece.{Piece}
 use Rattle.vb_chain.specs.Table.{descriptor_at}
 use Rattle.vb_chain.specs.Rules.{piece_of}
 use Rattle.vb_chain.specs.Chain.{ChainGives}

@@ -1,6 +1,6 @@
 -- A call that an honest guest answers leaves its requests in order.
 use Rattle.std.specs.Prelude.{◌≡◌, ℕ, zero, suc, false, true, List, [], ◌∷◌, Option, Some, None, refl, ◌⊎◌}
-use Rattle.std.proofs.Common.{sym, ap, subst, inl, inr}
+use Rattle.std.proofs.Common.{sym, subst, inl, inr}
 use Rattle.vb_model.specs.declared.calls.Call.{Call}
 use Rattle.vb_model.specs.declared.calls.Call.TheVariants.{Init, Write, Scribble}
 use Rattle.vb_model.specs.declared.calls.Claim.{Claim}

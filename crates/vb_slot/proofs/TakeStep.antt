@@ -1,19 +1,18 @@
 -- The slot's take is a step of the guest.
-use Rattle.std.specs.Prelude.{◌≡◌, ℕ, ◌+◌, ◌*◌, ◌%◌, ◌<◌, ◌≤◌, ◌==◌, Bool, true, false, nat_le, List, [], ◌∷◌, ◌++◌, length, Result, Ok, Err, Option, Some, None, slice_get, refl, ◌⊎◌}
+use Rattle.std.specs.Prelude.{◌≡◌, ℕ, ◌*◌, ◌≤◌, Bool, true, false, nat_le, List, [], ◌∷◌, ◌++◌, length, Result, Ok, Option, Some, None, refl, ◌⊎◌}
 use Rattle.std.proofs.Common.{sym, ◌∙◌, ap, subst, arith, inl, inr}
 use Rattle.vb_model.specs.declared.calls.Call.TheVariants.{Take}
 use Rattle.vb_model.specs.declared.replies.Refusal.{Refusal}
 use Rattle.vb_model.specs.declared.replies.Refusal.TheVariants.{NoQueue, NotReady, Busy}
 use Rattle.vb_model.specs.declared.replies.Reply.{Reply}
-use Rattle.vb_model.specs.declared.replies.Reply.TheVariants.{Taken, Empty, Refused}
+use Rattle.vb_model.specs.declared.replies.Reply.TheVariants.{Taken, Empty}
 use Rattle.vb_model.specs.Layout.{ring_page, buffers_page}
 use Rattle.vb_model.specs.Requests.{Request, Requests, Inflating, Deflating}
 use Rattle.vb_model.specs.Guest.{Guest}
 use Rattle.vb_model.specs.Device.{Takes}
 use Rattle.vb_model.specs.Refusals.{◌⇒◌, first_refusal, refusal_of}
-use Rattle.vb_model.specs.Step.{Performs}
 use Rattle.vb_ram.specs.Pages.{Pages}
-use Rattle.vb_ram.specs.Part.{Part, QueuePart}
+use Rattle.vb_ram.specs.Part.{Part}
 use Rattle.vb_ram.specs.Limits.{config_limits}
 use Rattle.vb_chain.specs.Table.{descriptor_at}
 use Rattle.vb_chain.specs.Rules.{piece_of}
@@ -27,7 +26,7 @@ use Rattle.vb_device.specs.Conditions.{take_refusal}
 use Rattle.vb_device.specs.Queues.{queue_part}
 use Rattle.vb_device.specs.Calls.{TakesBy, taking}
 use Rattle.vb_slot.specs.Line.{Line, IsRequest, heads_of}
-use Rattle.vb_slot.specs.Stands.{Stands, Ties, IsIdle, IsRunning}
+use Rattle.vb_slot.specs.Stands.{Stands, Ties, IsRunning}
 use Rattle.vb_slot.specs.Steps.{StepsAlone}
 use Rattle.vb_slot.specs.Replies.{taken_reply}
 use Rattle.vb_slot.proofs.Heads.{get_after, none_after}
@@ -107,7 +106,10 @@ inflate_posted m1 m2 p1 p2 d g (r ∷ rest) result is did stands run free_part f
       parts = stands.ties.parts;
       pages = stands.ties.pages;
       queues = inr (record {
-        state = run.state; backed = run.backed; inflate_size = run.inflate_size; deflate_size = run.deflate_size;
+        state = run.state;
+        backed = run.backed;
+        inflate_size = run.inflate_size;
+        deflate_size = run.deflate_size;
         inflate = line_taken m1 0 g.config.pages d.inflate p1.inflate r rest g.inflate.taken g.inflate.done line;
         deflate = run.deflate;
       });
@@ -156,7 +158,10 @@ deflate_posted m1 m2 p1 p2 d g (r ∷ rest) result is did stands run free_part f
       parts = stands.ties.parts;
       pages = stands.ties.pages;
       queues = inr (record {
-        state = run.state; backed = run.backed; inflate_size = run.inflate_size; deflate_size = run.deflate_size;
+        state = run.state;
+        backed = run.backed;
+        inflate_size = run.inflate_size;
+        deflate_size = run.deflate_size;
         deflate = line_taken m1 1 g.config.pages d.deflate p1.deflate r rest g.deflate.taken g.deflate.done line;
         inflate = run.inflate;
       });
