@@ -1,15 +1,14 @@
 -- The slot's allocation is a step of the guest.
-use Rattle.std.specs.Prelude.{◌≡◌, ℕ, List, [], Result, Ok, Err, Option, Some, None, OnErr, IfOk, IsTrue, refl}
-use Rattle.std.proofs.Common.{sym, ◌∙◌, ap, subst, inl, inr}
+use Rattle.std.specs.Prelude.{◌≡◌, ℕ, [], Result, Ok, Err, refl}
+use Rattle.std.proofs.Common.{sym, subst, inl, inr}
 use Rattle.vb_model.specs.declared.calls.Call.TheVariants.{Alloc}
 use Rattle.vb_model.specs.declared.places.Place.TheVariants.{Used}
 use Rattle.vb_model.specs.declared.replies.Refusal.{Refusal}
 use Rattle.vb_model.specs.declared.replies.Reply.{Reply}
-use Rattle.vb_model.specs.declared.replies.Reply.TheVariants.{Page, Refused}
+use Rattle.vb_model.specs.declared.replies.Reply.TheVariants.{Page}
 use Rattle.vb_model.specs.Pages.{pages_of, placed}
 use Rattle.vb_model.specs.Guest.{Guest}
 use Rattle.vb_model.specs.Driver.{with_block}
-use Rattle.vb_model.specs.Refusals.{refusal_of}
 use Rattle.vb_ram.specs.Pages.{Pages}
 use Rattle.vb_ram.specs.Part.{Part}
 use Rattle.vb_driver.specs.State.{Side, DriverState}
@@ -32,10 +31,27 @@ by_result m p g si sd d2 cpu order (Ok start) did stands =
     let after : DriverState = driver_of new si sd in
     let there : Ties m p after new = record {
       parts = record {
-        honest = ties.parts.honest; buffer = ties.parts.buffer; report = ties.parts.report; config = ties.parts.config;
-        pages = refl; queue_size = refl; processors = refl; places = refl; held = refl; accepted = refl;
-        size = ties.parts.size; paced = ties.parts.paced; status = ties.parts.status; features = ties.parts.features; target = ties.parts.target; actual = ties.parts.actual;
-        ballooned = ties.parts.ballooned; last = ties.parts.last; keeps = ties.parts.keeps; own = ties.parts.own; loose = ties.parts.loose;
+        honest = ties.parts.honest;
+        buffer = ties.parts.buffer;
+        report = ties.parts.report;
+        config = ties.parts.config;
+        pages = refl;
+        queue_size = refl;
+        processors = refl;
+        places = refl;
+        held = refl;
+        accepted = refl;
+        size = ties.parts.size;
+        paced = ties.parts.paced;
+        status = ties.parts.status;
+        features = ties.parts.features;
+        target = ties.parts.target;
+        actual = ties.parts.actual;
+        ballooned = ties.parts.ballooned;
+        last = ties.parts.last;
+        keeps = ties.parts.keeps;
+        own = ties.parts.own;
+        loose = ties.parts.loose;
       };
       pages = ties.pages;
       queues = elim ties.queues [

@@ -1,6 +1,6 @@
 -- What leaves a queue of requests alone.
-use Rattle.std.specs.Prelude.{◌≡◌, ◌≢◌, ℕ, ◌+◌, ◌*◌, ◌/◌, ◌%◌, ◌<◌, ◌≤◌, List, ◌++◌, length, slice_index_or}
-use Rattle.std.proofs.Common.{sym, ◌∙◌, ap, subst, arith}
+use Rattle.std.specs.Prelude.{◌≡◌, ℕ, ◌+◌, ◌*◌, ◌<◌, ◌≤◌, List, ◌++◌, length, slice_index_or}
+use Rattle.std.proofs.Common.{sym, ◌∙◌, ap, arith}
 use Rattle.vb_model.specs.Layout.{ring_page, buffers_page, buffer_page, buffer_offset}
 use Rattle.vb_model.specs.Requests.{Request, Requests}
 use Rattle.vb_ram.specs.Pages.{Pages, page_at, SameIn}
@@ -9,7 +9,7 @@ use Rattle.vb_ram.specs.Fields.{field_in, same_page}
 use Rattle.vb_chain.specs.Table.{descriptor_at}
 use Rattle.vb_chain.specs.TableLaws.{descriptor_apart}
 use Rattle.vb_ring.specs.MeaningLaws.{ring_apart, tracks_apart}
-use Rattle.vb_driver.specs.Coding.{Names, IsCoded, SameButBuffer}
+use Rattle.vb_driver.specs.Coding.{Names, IsCoded}
 use Rattle.vb_driver.specs.State.{Side}
 use Rattle.vb_slot.specs.Line.{Line, IsRequest, heads_of, used_of}
 
@@ -44,11 +44,20 @@ line_apart old new q n side part rs same line =
     let avail = in_page q l.avail.page old new (ap (λ x. x.avail.page) line.layout) same.ring in
     let used = in_page q l.used.page old new (ap (λ x. x.used.page) line.layout) same.ring in
     record {
-      sized = line.sized; layout = line.layout; buffers = line.buffers; before = line.before; gone = line.gone;
+      sized = line.sized;
+      layout = line.layout;
+      buffers = line.buffers;
+      before = line.before;
+      gone = line.gone;
       shows = ring_apart old new l side.ring.size (line.before ++ heads_of rs.posted) (line.gone ++ used_of rs.done) line.sized table avail used line.shows;
       tracks = tracks_apart old new side.ring (line.before ++ heads_of rs.posted) (line.gone ++ used_of rs.done) (length line.gone) table line.tracks;
-      next_avail = line.next_avail; next_used = line.next_used; counted = line.counted; balance = line.balance;
-      posted = line.posted; taken = line.taken; done = line.done;
+      next_avail = line.next_avail;
+      next_used = line.next_used;
+      counted = line.counted;
+      balance = line.balance;
+      posted = line.posted;
+      taken = line.taken;
+      done = line.done;
       coded = λ k d lt.
           let x = slice_index_or rs.posted k d in
           let is = line.posted k d lt in

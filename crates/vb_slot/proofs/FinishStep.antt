@@ -1,6 +1,6 @@
 -- The slot's finish is a step of the guest.
-use Rattle.std.specs.Prelude.{◌≡◌, ◌≢◌, ℕ, ◌+◌, ◌*◌, ◌%◌, ◌<◌, ◌≤◌, ◌==◌, ◌||◌, Bool, true, false, List, [], ◌∷◌, ◌++◌, All, length, remove, Result, Ok, Err, Option, Some, None, is_some, IsSome, is_none, slice_get, slice_index_or, refl, ◌⊎◌}
-use Rattle.std.proofs.Common.{sym, ◌∙◌, ap, subst, arith, inl, inr, eq-eqb}
+use Rattle.std.specs.Prelude.{◌≡◌, ◌≢◌, ℕ, ◌+◌, ◌%◌, ◌<◌, ◌≤◌, ◌==◌, ◌||◌, Bool, true, false, List, [], ◌∷◌, ◌++◌, All, remove, Result, Option, Some, None, is_some, slice_get, refl, ◌⊎◌}
+use Rattle.std.proofs.Common.{sym, ◌∙◌, ap, subst, arith, inl, inr}
 use Rattle.std.specs.Option.{option_to_list}
 use Rattle.std.specs.List.{flat_map}
 use Rattle.std.proofs.lemmas.Bool.{eqb-true}
@@ -11,8 +11,8 @@ use Rattle.vb_model.specs.declared.replies.Refusal.{Refusal}
 use Rattle.vb_model.specs.declared.replies.Refusal.TheVariants.{NoQueue, NotReady}
 use Rattle.vb_model.specs.declared.replies.Reply.TheVariants.{Finished, Refused}
 use Rattle.vb_model.specs.Tests.{is_in}
-use Rattle.vb_model.specs.Layout.{ring_page, buffers_page}
-use Rattle.vb_model.specs.Requests.{Request, Requests, Inflating, Deflating}
+use Rattle.vb_model.specs.Layout.{ring_page}
+use Rattle.vb_model.specs.Requests.{Request, Inflating, Deflating}
 use Rattle.vb_model.specs.Guest.{Guest, frame_of}
 use Rattle.vb_model.specs.Device.{used, settled}
 use Rattle.vb_model.specs.Orderly.{times}
@@ -24,14 +24,14 @@ use Rattle.vb_ring.specs.Layout.{layout_of}
 use Rattle.vb_ring.specs.Ends.{DeviceEnd}
 use Rattle.vb_ring.specs.Calls.{AddsUsedBy}
 use Rattle.vb_driver.specs.State.{Side, DriverState}
-use Rattle.vb_device.specs.Conditions.{finish_refusal, taken_at}
+use Rattle.vb_device.specs.Conditions.{finish_refusal}
 use Rattle.vb_device.specs.Discards.{discarded, frames_behind, flagged}
-use Rattle.vb_device.specs.Calls.{FinishesBy, Uses, using}
-use Rattle.vb_slot.specs.Line.{Line, IsRequest, AreRequested}
-use Rattle.vb_slot.specs.Stands.{Stands, Ties, HasPages, IsIdle, IsRunning}
-use Rattle.vb_slot.specs.Steps.{StepsFreeing, backing_count}
+use Rattle.vb_device.specs.Calls.{FinishesBy, Uses}
+use Rattle.vb_slot.specs.Line.{IsRequest}
+use Rattle.vb_slot.specs.Stands.{Stands, Ties, IsRunning}
+use Rattle.vb_slot.specs.Steps.{StepsFreeing}
 use Rattle.vb_slot.specs.Replies.{finished_reply}
-use Rattle.vb_slot.proofs.Apart.{SameLine, line_apart, above_apart}
+use Rattle.vb_slot.proofs.Apart.{line_apart, above_apart}
 use Rattle.vb_slot.proofs.Finishing.{end_of, line_finished}
 use Rattle.vb_slot.proofs.Discarding.{frames_freed}
 use Rattle.vb_slot.proofs.PagesKept.{SamePages, pages_same, pages_discarded, page_undiscarded}
@@ -124,17 +124,34 @@ inflate_finished m1 m2 p1 p2 d g i r result is did stands run free =
     let part : handed_back p2 ≡ after = ap handed_back did.part in
     let there : Ties m2 after d new = record {
       parts = record {
-        honest = ties.parts.honest; buffer = ties.parts.buffer; report = ties.parts.report; config = ties.parts.config;
-        pages = ties.parts.pages; queue_size = ties.parts.queue_size; processors = ties.parts.processors; places = ties.parts.places; held = ties.parts.held; accepted = ties.parts.accepted;
-        size = ties.parts.size; paced = ties.parts.paced; status = ties.parts.status; features = ties.parts.features; target = ties.parts.target; actual = ties.parts.actual;
+        honest = ties.parts.honest;
+        buffer = ties.parts.buffer;
+        report = ties.parts.report;
+        config = ties.parts.config;
+        pages = ties.parts.pages;
+        queue_size = ties.parts.queue_size;
+        processors = ties.parts.processors;
+        places = ties.parts.places;
+        held = ties.parts.held;
+        accepted = ties.parts.accepted;
+        size = ties.parts.size;
+        paced = ties.parts.paced;
+        status = ties.parts.status;
+        features = ties.parts.features;
+        target = ties.parts.target;
+        actual = ties.parts.actual;
         ballooned = ap (λ (l : List Bool). flagged r.pages true l) ties.parts.ballooned;
-        last = ties.parts.last; keeps = ties.parts.keeps; own = ties.parts.own; loose = refl;
+        last = ties.parts.last;
+        keeps = ties.parts.keeps;
+        own = ties.parts.own;
+        loose = refl;
       };
       pages = pages_same bare m2 n _ _ same (pages_discarded m1 n g.frames g.contents r.pages ties.pages);
       queues = inr (record {
         state = run.state;
         backed = λ p lt. ap is_some (same.behind p ∙ ap number_of (low p (omega arith))) ∙ run.backed p lt;
-        inflate_size = run.inflate_size; deflate_size = run.deflate_size;
+        inflate_size = run.inflate_size;
+        deflate_size = run.deflate_size;
         inflate = line_finished bare m2 0 n d.inflate p1.inflate g.inflate i r _ (omega arith) mine is adds;
         deflate = line_apart bare m2 1 n d.deflate p1.deflate g.deflate (record { ring = apart 1 (omega arith); buffers = λ p from to. apart p (omega arith) }) other;
       });
@@ -197,17 +214,34 @@ deflate_finished m1 m2 p1 p2 d g i r result is did stands run free =
     let part : handed_back p2 ≡ after = ap handed_back did.part in
     let there : Ties m2 after d new = record {
       parts = record {
-        honest = ties.parts.honest; buffer = ties.parts.buffer; report = ties.parts.report; config = ties.parts.config;
-        pages = ties.parts.pages; queue_size = ties.parts.queue_size; processors = ties.parts.processors; places = ties.parts.places; held = ties.parts.held; accepted = ties.parts.accepted;
-        size = ties.parts.size; paced = ties.parts.paced; status = ties.parts.status; features = ties.parts.features; target = ties.parts.target; actual = ties.parts.actual;
+        honest = ties.parts.honest;
+        buffer = ties.parts.buffer;
+        report = ties.parts.report;
+        config = ties.parts.config;
+        pages = ties.parts.pages;
+        queue_size = ties.parts.queue_size;
+        processors = ties.parts.processors;
+        places = ties.parts.places;
+        held = ties.parts.held;
+        accepted = ties.parts.accepted;
+        size = ties.parts.size;
+        paced = ties.parts.paced;
+        status = ties.parts.status;
+        features = ties.parts.features;
+        target = ties.parts.target;
+        actual = ties.parts.actual;
         ballooned = ap (λ (l : List Bool). flagged r.pages false l) ties.parts.ballooned;
-        last = ties.parts.last; keeps = ties.parts.keeps; own = ties.parts.own; loose = refl;
+        last = ties.parts.last;
+        keeps = ties.parts.keeps;
+        own = ties.parts.own;
+        loose = refl;
       };
       pages = pages_same m1 m2 n _ _ same ties.pages;
       queues = inr (record {
         state = run.state;
         backed = λ p lt. ap is_some (same.behind p) ∙ run.backed p lt;
-        inflate_size = run.inflate_size; deflate_size = run.deflate_size;
+        inflate_size = run.inflate_size;
+        deflate_size = run.deflate_size;
         inflate = line_apart m1 m2 0 n d.inflate p1.inflate g.inflate (record { ring = apart 0 (omega arith); buffers = λ p from to. apart p (omega arith) }) run.inflate;
         deflate = line_finished m1 m2 1 n d.deflate p1.deflate g.deflate i r _ (omega arith) run.deflate is adds;
       });
@@ -242,7 +276,6 @@ deflate_finish m1 m2 p1 p2 d g i result o by did stands =
     by_refusal None is run model taken device =
         let (r, at) = test_some g.config.paced false (slice_get g.deflate.taken i) (model ∙ is) in
         deflate_finished m1 m2 p1 p2 d g i r result at (did.finished r (device ∙ is) (taken ∙ at)) stands run is
-
 
 pub finish_step : (m1 m2 : Pages) (p1 p2 : Part) (d : DriverState) (g : Guest) (q i : ℕ) (result : Result ℕ Refusal)
     → FinishesBy q i m1 m2 p1 p2 result → Stands m1 p1 d g → StepsFreeing (Stands m2 (handed_back p2) d) p2.loose g (Finish q i) (finished_reply result)

@@ -1,5 +1,5 @@
 -- The device uses a taken request.
-use Rattle.std.specs.Prelude.{◌≡◌, ◌≢◌, ℕ, ◌+◌, ◌*◌, ◌/◌, ◌%◌, ◌<◌, ◌≤◌, ◌==◌, true, List, [], ◌∷◌, ◌++◌, length, remove, Option, Some, None, slice_get, slice_index_or, refl}
+use Rattle.std.specs.Prelude.{◌≡◌, ◌≢◌, ℕ, ◌+◌, ◌%◌, ◌<◌, ◌==◌, true, List, [], ◌∷◌, ◌++◌, length, remove, Some, slice_get, slice_index_or, refl}
 use Rattle.std.proofs.Common.{sym, ◌∙◌, ap, subst, arith, append_assoc, eq-eqb}
 use Rattle.std.proofs.lemmas.List.{length_push, map_push}
 use Rattle.std.proofs.lemmas.List.Edits.{length-remove}
@@ -24,7 +24,6 @@ use Rattle.vb_slot.proofs.Apart.{coded_kept}
 abbrev pub end_of : Side → QueuePart → DeviceEnd
 end_of side part = record { layout = side.ring.layout; size = side.ring.size; ready = true; next_avail = part.next_avail; next_used = part.next_used }
 
-
 pub line_finished : (m1 m2 : Pages) (q n : ℕ) (side : Side) (part : QueuePart) (rs : Requests) (i : ℕ) (r : Request) (after : DeviceEnd)
     → ring_page q < buffers_page q → Line m1 q n side part rs → slice_get rs.taken i ≡ Some r → AddsUsedBy m1 m2 (end_of side part) after r.head 0
     → Line m2 q n side (record part { next_used = (part.next_used + 1) % 65536; taken = remove part.taken i }) (record rs { taken = remove rs.taken i; done = rs.done ++ (r ∷ []) })
@@ -47,7 +46,11 @@ line_finished m1 m2 q n side part rs i r after low line is adds =
     let table : l.table ≡ ring_page q = ap (λ x. x.table) line.layout in
     let used_page : l.used.page ≡ ring_page q = ap (λ x. x.used.page) line.layout in
     record {
-      sized = line.sized; layout = line.layout; buffers = line.buffers; before = line.before; gone = line.gone;
+      sized = line.sized;
+      layout = line.layout;
+      buffers = line.buffers;
+      before = line.before;
+      gone = line.gone;
       shows = subst Q grown (adds.shown heads elems line.next_used out line.shows);
       tracks = subst T grown (used_tracks m1 m2 side.ring heads elems e (length line.gone) adds.descriptors line.tracks);
       next_avail = line.next_avail;

@@ -1,6 +1,6 @@
 -- Frames that pages lost have gone back.
-use Rattle.std.specs.Prelude.{◌≡◌, ℕ, ◌+◌, ◌<◌, ◌≤◌, ◌==◌, if◌then◌else◌, Option, count_by, Bool, true, false, List, [], length, Result, IsSome, is_some, refl, ◌⊎◌}
-use Rattle.std.proofs.Common.{sym, ◌∙◌, ap, subst, arith, inl, inr}
+use Rattle.std.specs.Prelude.{◌≡◌, ℕ, ◌+◌, ◌<◌, ◌≤◌, ◌==◌, if◌then◌else◌, Option, count_by, Bool, true, false, List, [], length, Result, IsSome, ◌⊎◌}
+use Rattle.std.proofs.Common.{sym, ap, subst, arith, inl, inr}
 use Rattle.vb_model.specs.declared.calls.Call.{Call}
 use Rattle.vb_model.specs.declared.calls.Call.TheVariants.{Finish}
 use Rattle.vb_model.specs.declared.calls.Claim.{Claim}
@@ -16,7 +16,7 @@ use Rattle.vb_ram.specs.Part.{Part}
 use Rattle.vb_ram.specs.Limits.{config_limits}
 use Rattle.vb_driver.specs.State.{DriverState}
 use Rattle.vb_device.specs.Calls.{FinishesBy}
-use Rattle.vb_slot.specs.Stands.{Stands, IsIdle, IsRunning}
+use Rattle.vb_slot.specs.Stands.{Stands}
 use Rattle.vb_slot.specs.Steps.{is_frame, Steps, StepsAlone, StepsFreeing, AreOut, AreLoose, Returns}
 use Rattle.vb_slot.specs.Replies.{finished_reply}
 use Rattle.vb_slot.proofs.FinishStep.{handed_back, finish_step}

@@ -1,6 +1,6 @@
 -- How often heads stand in lists of requests and of used elements.
-use Rattle.std.specs.Prelude.{◌≡◌, ℕ, suc, ◌+◌, ◌<◌, ◌==◌, Bool, true, false, cond, List, [], ◌∷◌, ◌++◌, length, Option, Some, None, slice_get, slice_index_or, remove, refl, All}
-use Rattle.std.proofs.Common.{sym, ◌∙◌, ap, arith, take, drop, length-append}
+use Rattle.std.specs.Prelude.{◌≡◌, ℕ, suc, ◌+◌, ◌<◌, ◌==◌, Bool, true, false, cond, List, [], ◌∷◌, ◌++◌, length, Some, None, slice_get, slice_index_or, remove, refl, All}
+use Rattle.std.proofs.Common.{◌∙◌, ap, arith, take, drop, length-append}
 use Rattle.std.proofs.lemmas.List.{length-map, map-append}
 use Rattle.std.proofs.lemmas.List.Sums.{sum_by-remove}
 use Rattle.std.proofs.lemmas.List.Elements.{All-append, All-take, All-drop}

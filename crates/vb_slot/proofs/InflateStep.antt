@@ -1,40 +1,34 @@
 -- The slot's inflate is a step of the guest.
-use Rattle.std.specs.Prelude.{◌≡◌, ◌≢◌, ℕ, ◌+◌, ◌-◌, ◌<◌, ◌≤◌, ◌==◌, Bool, true, false, not, nat_le, List, [], ◌∷◌, ◌++◌, All, length, take, Result, Ok, Err, Option, Some, None, OnErr, IfOk, IsTrue, IsSome, is_some, min, max, refl, ◌⊎◌, slice_index_or}
+use Rattle.std.specs.Prelude.{◌≡◌, ◌≢◌, ℕ, ◌+◌, ◌<◌, ◌≤◌, ◌==◌, true, false, nat_le, [], ◌∷◌, ◌++◌, length, Result, Ok, Err, Option, Some, None, IsSome, is_some, refl, ◌⊎◌}
 use Rattle.std.proofs.Common.{sym, ◌∙◌, ap, subst, arith, inl, inr}
 use Rattle.std.proofs.lemmas.Bool.Decides.{nat_tests}
 use Rattle.std.proofs.lemmas.List.{length-append}
 use Rattle.vb_model.specs.declared.calls.Call.TheVariants.{Inflate}
-use Rattle.vb_model.specs.declared.places.Place.{Place}
-use Rattle.vb_model.specs.declared.places.Place.TheVariants.{Giving}
 use Rattle.vb_model.specs.declared.replies.Refusal.{Refusal}
 use Rattle.vb_model.specs.declared.replies.Refusal.TheVariants.{NotReady, QueueFull, Nothing}
 use Rattle.vb_model.specs.declared.replies.Reply.{Reply}
-use Rattle.vb_model.specs.declared.replies.Reply.TheVariants.{Posted, Refused}
-use Rattle.vb_model.specs.Tests.{is_in, pages_where}
+use Rattle.vb_model.specs.declared.replies.Reply.TheVariants.{Posted}
 use Rattle.vb_model.specs.Layout.{ring_page, buffers_page, buffer_page}
-use Rattle.vb_model.specs.Pages.{place_of, placed, is_free, is_stranded}
-use Rattle.vb_model.specs.Requests.{outstanding, posting, Inflating}
+use Rattle.vb_model.specs.Requests.{outstanding, Inflating}
 use Rattle.vb_model.specs.Guest.{Guest}
-use Rattle.vb_model.specs.Driver.{AllDistinct, stranded_first, asking}
-use Rattle.vb_model.specs.Orderly.{IsOrderly}
+use Rattle.vb_model.specs.Driver.{stranded_first, asking}
 use Rattle.vb_model.specs.Refusals.{◌⇒◌, first_refusal, refusal_of, inflate_count, room}
-use Rattle.vb_ram.specs.Pages.{Pages, page_at, frame_at, number_of, contents_of}
+use Rattle.vb_ram.specs.Pages.{Pages, frame_at, contents_of}
 use Rattle.vb_ram.specs.Part.{Part}
 use Rattle.vb_ring.specs.Ends.{outstanding as outstanding_in}
 use Rattle.vb_driver.specs.declared.answers.Posted.{Posted as PostedRequest}
 use Rattle.vb_driver.specs.Coding.{SameButBuffer}
 use Rattle.vb_driver.specs.State.{Side, DriverState, IsDriver}
 use Rattle.vb_driver.specs.Answers.{is_up, inflate_tests, inflate_count as driver_count}
-use Rattle.vb_driver.specs.Calls.{Posts, Offers, InflatesBy}
-use Rattle.vb_slot.specs.Line.{Line, AreRequested}
-use Rattle.vb_slot.specs.Stands.{Stands, Ties, HasPages, IsIdle, IsRunning}
+use Rattle.vb_driver.specs.Calls.{Offers, InflatesBy}
+use Rattle.vb_slot.specs.Stands.{Stands, Ties, IsRunning}
 use Rattle.vb_slot.specs.Steps.{StepsAlone}
 use Rattle.vb_slot.specs.Replies.{posted_reply}
 use Rattle.vb_slot.proofs.Apart.{SameLine, line_apart}
 use Rattle.vb_slot.proofs.Posting.{line_posted, least_head, outstanding_are}
 use Rattle.vb_slot.proofs.PagesKept.{SamePages, pages_same}
-use Rattle.vb_slot.proofs.Closing.{honest_performed, steps_alone, refused_alone, ties_same}
-use Rattle.vb_model.proofs.OrderlySteps.{honest_order}
+use Rattle.vb_slot.proofs.Closing.{honest_performed, steps_alone, refused_alone}
+use Rattle.vb_slot.proofs.Ordered.{honest_order}
 use Rattle.vb_slot.proofs.Offered.{last_sound, inflate_requested}
 use Rattle.vb_slot.proofs.Normal.{driver_of, driver_is}
 
@@ -91,7 +85,7 @@ inflate_offered m1 m2 p1 p2 g si sd d2 n posted driver did stands run free some 
     let new : Guest = asking Inflating posted.head pages g in
     let reply = ap (λ (k : ℕ). Posted posted.head k) did.pages in
     let step = honest_performed g (Inflate n) [] (Posted posted.head posted.pages) new free (refl, (posted.head, did.others, least, did.free, did.distinct, did.enough, reply, refl)) in
-    let orderly = honest_order g (Inflate n) [] (Posted posted.head posted.pages) new stands.consistent stands.orderly step ties.parts.honest in
+    let orderly = honest_order g (Inflate n) [] (Posted posted.head posted.pages) new ties.parts.honest stands.consistent stands.orderly step ties.parts.honest in
     let once = (last_sound g.inflate.posted (record { head = posted.head; pages = pages; visited = 0 }) orderly.inflating.posted).distinct in
     let count : length pages ≡ inflate_count g n = length-append (stranded_first g n) did.others ∙ did.enough in
     let asked = inflate_requested g n did.others stands.orderly did.free once (omega (arith, count, some)) (omega (arith, count)) in
@@ -103,10 +97,27 @@ inflate_offered m1 m2 p1 p2 g si sd d2 n posted driver did stands run free some 
     let after : DriverState = driver_of new d2.inflate sd in
     let there : Ties m2 p1 after new = record {
       parts = record {
-        honest = ties.parts.honest; buffer = ties.parts.buffer; report = ties.parts.report; config = ties.parts.config;
-        pages = refl; queue_size = refl; processors = refl; places = refl; held = refl; accepted = refl;
-        size = ties.parts.size; paced = ties.parts.paced; status = ties.parts.status; features = ties.parts.features; target = ties.parts.target; actual = ties.parts.actual;
-        ballooned = ties.parts.ballooned; last = ties.parts.last; keeps = ties.parts.keeps; own = ties.parts.own; loose = ties.parts.loose;
+        honest = ties.parts.honest;
+        buffer = ties.parts.buffer;
+        report = ties.parts.report;
+        config = ties.parts.config;
+        pages = refl;
+        queue_size = refl;
+        processors = refl;
+        places = refl;
+        held = refl;
+        accepted = refl;
+        size = ties.parts.size;
+        paced = ties.parts.paced;
+        status = ties.parts.status;
+        features = ties.parts.features;
+        target = ties.parts.target;
+        actual = ties.parts.actual;
+        ballooned = ties.parts.ballooned;
+        last = ties.parts.last;
+        keeps = ties.parts.keeps;
+        own = ties.parts.own;
+        loose = ties.parts.loose;
       };
       pages = pages_same m1 m2 g.config.pages _ _ (posted_same m1 m2 0 4 posted.head (omega arith) (omega arith) did.posts.small rest) ties.pages;
       queues = inr (record {

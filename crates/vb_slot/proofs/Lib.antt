@@ -4,6 +4,7 @@ pub mod Apart
 pub mod Finishing
 pub mod Posting
 pub mod Reaping
+pub mod Ordered
 pub mod Closing
 pub mod Refusing
 pub mod Chains
@@ -14,7 +15,6 @@ pub mod FinishStep
 pub mod Writing
 pub mod WriteStep
 pub mod TargetStep
-pub mod Coded
 pub mod Freed
 pub mod Claimed
 pub mod ReadStep

@@ -1,5 +1,5 @@
 -- The driver in the words of its guest.
-use Rattle.std.specs.Prelude.{◌≡◌, ℕ, List}
+use Rattle.std.specs.Prelude.{◌≡◌}
 use Rattle.std.proofs.Common.{◌∙◌, ap}
 use Rattle.vb_model.specs.Guest.{Guest}
 use Rattle.vb_ram.specs.Part.{Part}

@@ -1,15 +1,14 @@
 -- The pages of a new request.
-use Rattle.std.specs.Prelude.{◌≡◌, ◌≢◌, ℕ, zero, suc, ◌+◌, ◌<◌, ◌≤◌, ◌==◌, ◌||◌, Bool, true, false, not, nat_lt, List, [], ◌∷◌, ◌++◌, All, length, take, IsTrue, slice_index_or, refl, ◌⊎◌}
-use Rattle.std.specs.List.{list_all, list_any}
-use Rattle.std.proofs.Common.{sym, ◌∙◌, ap, subst, arith, inl, inr, eq-eqb}
+use Rattle.std.specs.Prelude.{◌≡◌, ℕ, zero, suc, ◌<◌, ◌≤◌, ◌==◌, ◌||◌, Bool, true, false, not, nat_lt, List, [], ◌∷◌, ◌++◌, All, length, IsTrue, slice_index_or, refl, ◌⊎◌}
+use Rattle.std.specs.List.{list_any}
+use Rattle.std.proofs.Common.{sym, ◌∙◌, ap, arith, inl, inr, eq-eqb}
 use Rattle.std.proofs.lemmas.Bool.{cases_lt}
 use Rattle.std.proofs.lemmas.Bool.Decides.{nat_tests}
-use Rattle.std.proofs.lemmas.List.{get_or_past, length-append}
-use Rattle.std.proofs.lemmas.List.Elements.{All-tail}
+use Rattle.std.proofs.lemmas.List.{get_or_past}
 use Rattle.vb_model.specs.declared.places.Place.{Place}
 use Rattle.vb_model.specs.declared.places.Place.TheVariants.{Reserved, Free, Used, Giving, Lent, Taking, Stranded, Reporting}
 use Rattle.vb_model.specs.Tests.{one_if, is_in}
-use Rattle.vb_model.specs.Pages.{place_of, is_free, is_stranded, is_lent}
+use Rattle.vb_model.specs.Pages.{place_of, is_lent}
 use Rattle.vb_model.specs.Guest.{Guest}
 use Rattle.vb_model.specs.Requests.{Request}
 use Rattle.vb_model.specs.Driver.{AllDistinct, AllFreePages, stranded_first, lowest_lent}
@@ -18,7 +17,6 @@ use Rattle.vb_model.proofs.CallSteps.{inflated_pages, lent_pages}
 use Rattle.vb_model.proofs.Tables.{count_by-cons}
 use Rattle.vb_model.specs.Orderly.{IsOrderly, is_reserved, times, IsRequestSound, AllRequestsSound}
 use Rattle.vb_slot.specs.Line.{AreRequested}
-
 
 -- pages none of which is at a reserved place are those of a request
 pub high_pages : (g : Guest) (pages : List ℕ) → IsOrderly g → ((page : ℕ) → is_in page pages ≡ true → is_reserved (place_of g.places page) ≡ false)
@@ -34,6 +32,7 @@ high_pages g pages orderly out =
         either_true : (b : Bool) → (b || true) ≡ true
         either_true true = refl
         either_true false = refl
+
     high_page : (g : Guest) (page : ℕ) → IsOrderly g → is_reserved (place_of g.places page) ≡ false → (16 ≤ page) × (page < g.config.pages)
     high_page g page orderly free = elim (cases_lt page g.config.pages) [
       | inl lt ↦ (let e : nat_lt page 16 ≡ false = sym (orderly.unreserved page lt) ∙ free in grind (arith, nat_tests), lt)
@@ -81,11 +80,13 @@ is_not false e = refl
 
 pub all_distinct : (ps : List ℕ) → ((p : ℕ) → times p ps ≤ 1) → AllDistinct ps
 all_distinct [] once = tt
-all_distinct (p ∷ ps) once =
-    (is_not (is_in p ps) (elim (either (is_in p ps)) [
-      | inr out ↦ out
-      | inl too ↦ absurd (omega (arith, once p, count_by-cons (λ (q : ℕ). q == p) p ps, ap one_if (eq-eqb p p refl), in_times p ps too))
-    ]), all_distinct ps (λ q. omega (arith, once q, count_by-cons (λ (x : ℕ). x == q) p ps)))
+all_distinct (p ∷ ps) once = (
+  is_not (is_in p ps) (elim (either (is_in p ps)) [
+    | inr out ↦ out
+    | inl too ↦ absurd (omega (arith, once p, count_by-cons (λ (q : ℕ). q == p) p ps, ap one_if (eq-eqb p p refl), in_times p ps too))
+  ]),
+  all_distinct ps (λ q. omega (arith, once q, count_by-cons (λ (x : ℕ). x == q) p ps)),
+)
 
 pub last_sound : (rs : List Request) (r : Request) → AllRequestsSound (rs ++ r ∷ []) → IsRequestSound r
 last_sound [] r all = all.0

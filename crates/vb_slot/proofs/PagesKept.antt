@@ -1,8 +1,8 @@
 -- What changes of memory leave of the guest's frames and contents.
-use Rattle.std.specs.Prelude.{◌≡◌, ◌≢◌, ℕ, ◌+◌, ◌<◌, ◌≤◌, Bool, true, false, if◌then◌else◌, List, [], length, Option, Some, None, slice_index_or, refl}
+use Rattle.std.specs.Prelude.{◌≡◌, ℕ, ◌≤◌, Bool, true, false, if◌then◌else◌, List, [], length, Option, None, slice_index_or, refl}
 use Rattle.std.proofs.Common.{sym, ◌∙◌, ap, arith}
 use Rattle.vb_model.specs.Tests.{is_in}
-use Rattle.vb_model.specs.Guest.{zero_page, frame_of}
+use Rattle.vb_model.specs.Guest.{zero_page}
 use Rattle.vb_ram.specs.Pages.{Page, Pages, number_of, contents_of, page_at, frame_at, contents_at}
 use Rattle.vb_ram.specs.Contents.{length-zero_page}
 use Rattle.vb_device.specs.Discards.{discarded}

@@ -1,14 +1,13 @@
 -- The driver posts a request.
 use Rattle.std.specs.Prelude.{◌≡◌, ◌≢◌, ℕ, ◌+◌, ◌*◌, ◌/◌, ◌%◌, ◌<◌, ◌≤◌, ◌==◌, Bool, true, false, List, [], ◌∷◌, ◌++◌, All, length, Option, Some, None, Ok, slice_get, slice_set, slice_index, slice_index_or, is_none, refl, ◌⊎◌}
-use Rattle.std.proofs.Common.{sym, ◌∙◌, ap, subst, arith, append_assoc, inl, inr, eq-eqb, length-append}
-use Rattle.std.proofs.lemmas.Bool.{cases_eq, cases_lt}
-use Rattle.std.proofs.lemmas.List.{length_push, map_push, length-set, get_or-set_same, get_or-set_other, length-map}
+use Rattle.std.proofs.Common.{sym, ◌∙◌, ap, subst, arith, append_assoc, inl, inr, eq-eqb}
+use Rattle.std.proofs.lemmas.Bool.{cases_eq}
+use Rattle.std.proofs.lemmas.List.{map_push, length-set, get_or-set_same, get_or-set_other}
 use Rattle.std.proofs.lemmas.List.Elements.{All-push}
 use Rattle.std.proofs.lemmas.Option.{get_or_from_slice_get, slice_get_within}
 use Rattle.std.proofs.lemmas.List.Sums.{get_or-le-sum_by}
 use Rattle.std.proofs.lemmas.Bool.Decides.{nat_tests}
 use Rattle.vb_model.specs.Tests.{one_if}
-use Rattle.vb_model.specs.Limits.{max_outstanding}
 use Rattle.vb_model.specs.Layout.{ring_page, buffers_page, buffer_page, buffer_offset}
 use Rattle.vb_model.specs.Requests.{Request, Requests, all_requests, headed, outstanding, posting, IsLeastHead}
 use Rattle.vb_ram.specs.Pages.{Pages}
@@ -21,8 +20,8 @@ use Rattle.vb_driver.specs.Coding.{IsCoded}
 use Rattle.vb_driver.specs.State.{Side, AreRequests}
 use Rattle.vb_driver.specs.Calls.{Posts}
 use Rattle.vb_slot.specs.Line.{AreRequested, Line, IsRequest, heads_of, used_of}
-use Rattle.vb_slot.proofs.Heads.{times-published, times-used, headed-cons, headed-push, headed-all, length-published, length-used}
-use Rattle.vb_slot.proofs.Apart.{coded_kept, names_kept}
+use Rattle.vb_slot.proofs.Heads.{times-published, headed-all, length-published}
+use Rattle.vb_slot.proofs.Apart.{names_kept}
 
 -- the first s of a list that begins with s others are those
 pub take_front : {A : Type 0} (xs ys : List A) → Rattle.std.specs.Prelude.take (length xs) (xs ++ ys) ≡ xs
@@ -144,12 +143,17 @@ line_posted m1 m2 q n side after part rs head pages low single fine line did =
         record { inside = lowest.inside; few = did.small; remembered = get_or-set_same side.sent head pages [] (omega (arith, did.small, line.buffers)); pages = fine } in
         let C : ℕ → Type 0 = λ p. IsCoded m2 p (buffers_page q) head pages in
         record {
-          sized = line.sized; layout = line.layout;
+          sized = line.sized;
+          layout = line.layout;
           buffers = length-set side.sent head pages ∙ line.buffers;
-          before = line.before; gone = line.gone;
+          before = line.before;
+          gone = line.gone;
           shows = subst Q grown shown.0;
           tracks = subst T grown shown.1;
-          next_avail = line.next_avail; next_used = line.next_used; counted = line.counted; balance = line.balance;
+          next_avail = line.next_avail;
+          next_used = line.next_used;
+          counted = line.counted;
+          balance = line.balance;
           posted = All-push (IsRequest side.ring.size n (slice_set side.sent head pages)) rs.posted r (still_out side.ring.size n side.sent head pages rs.posted (omega arith) line.posted) now;
           taken = still_out side.ring.size n side.sent head pages rs.taken (omega arith) line.taken;
           done = still_out side.ring.size n side.sent head pages rs.done (omega arith) line.done;

@@ -1,17 +1,16 @@
 -- The slot's reap is a step of the guest.
-use Rattle.std.specs.Prelude.{◌≡◌, ◌≢◌, ℕ, ◌+◌, ◌<◌, ◌≤◌, ◌==◌, Bool, true, false, not, nat_lt, if◌then◌else◌, List, [], ◌∷◌, ◌++◌, length, Result, Ok, Err, Option, Some, None, OnErr, OnOk, IfOk, is_err, slice_get, slice_index_or, count_by, drop, refl, ◌⊎◌}
+use Rattle.std.specs.Prelude.{◌≡◌, ℕ, ◌+◌, ◌≤◌, ◌==◌, Bool, true, false, not, nat_lt, if◌then◌else◌, List, [], ◌∷◌, ◌++◌, length, Result, Ok, Err, Option, Some, None, is_err, slice_get, count_by, drop, refl, ◌⊎◌}
 use Rattle.std.proofs.Common.{sym, ◌∙◌, ap, subst, arith, inl, inr, eq-eqb}
 use Rattle.std.proofs.lemmas.Bool.{le-ltb}
-use Rattle.std.proofs.lemmas.List.{length-map}
 use Rattle.vb_model.specs.declared.calls.Call.TheVariants.{Reap}
 use Rattle.vb_model.specs.declared.places.Place.TheVariants.{Lent, Free}
 use Rattle.vb_model.specs.declared.replies.Refusal.{Refusal}
 use Rattle.vb_model.specs.declared.replies.Refusal.TheVariants.{NoQueue, NotReady, RingBroken}
 use Rattle.vb_model.specs.declared.replies.Reply.{Reply}
-use Rattle.vb_model.specs.declared.replies.Reply.TheVariants.{NotUsed, Reaped, Refused}
+use Rattle.vb_model.specs.declared.replies.Reply.TheVariants.{NotUsed, Reaped}
 use Rattle.vb_model.specs.Tests.{one_if}
 use Rattle.vb_model.specs.Pages.{placed, is_lent_or_taking}
-use Rattle.vb_model.specs.Requests.{Request, Requests, outstanding, headed, all_requests, Inflating, Deflating}
+use Rattle.vb_model.specs.Requests.{Request, Requests, outstanding, headed, Inflating, Deflating}
 use Rattle.vb_model.specs.Guest.{Guest}
 use Rattle.vb_model.specs.Driver.{reaped, Reaps}
 use Rattle.vb_model.specs.Refusals.{◌⇒◌, first_refusal, tests, refusal_of, is_queue_of_requests}
@@ -21,18 +20,18 @@ use Rattle.vb_ring.specs.declared.driver.RingBroken.{RingBroken as Broken}
 use Rattle.vb_ring.specs.declared.driver.RingBroken.TheVariants.{NotOutstanding}
 use Rattle.vb_ring.specs.Entries.{is_head, only_head}
 use Rattle.vb_ring.specs.EntryLaws.{id_shown}
-use Rattle.vb_ring.specs.Ends.{DriverEnd, used_answer, after_take, outstanding as outstanding_in}
-use Rattle.vb_ring.specs.Meaning.{UsedElem, ids}
+use Rattle.vb_ring.specs.Ends.{used_answer, outstanding as outstanding_in}
+use Rattle.vb_ring.specs.Meaning.{ids}
 use Rattle.vb_ring.specs.Calls.{TakesUsedBy}
 use Rattle.vb_driver.specs.declared.answers.Reaped.{Reaped as ReapedRequest}
 use Rattle.vb_driver.specs.State.{Side, DriverState, sent_by}
 use Rattle.vb_driver.specs.Answers.{is_up, reap_tests}
-use Rattle.vb_driver.specs.Calls.{ReapsBy, Reaps as DriverReaps, after_reap, next_of, side_of, after_refusal}
+use Rattle.vb_driver.specs.Calls.{ReapsBy, after_reap, next_of, side_of, after_refusal}
 use Rattle.vb_slot.specs.Line.{Line, IsRequest, heads_of, used_of}
-use Rattle.vb_slot.specs.Stands.{Stands, Ties, IsIdle, IsRunning}
+use Rattle.vb_slot.specs.Stands.{Stands, Ties, IsRunning}
 use Rattle.vb_slot.specs.Steps.{StepsAlone}
 use Rattle.vb_slot.specs.Replies.{reaped_reply}
-use Rattle.vb_slot.proofs.Heads.{length-published, length-used, headed-all, headed-cons, get_after, none_after, ids-used}
+use Rattle.vb_slot.proofs.Heads.{length-used, headed-all, headed-cons, get_after, none_after}
 use Rattle.vb_slot.proofs.Posting.{headed_once, outstanding_are}
 use Rattle.vb_slot.proofs.Reaping.{used_next, split_ids, ids_length, line_reaped}
 use Rattle.vb_slot.proofs.Refusing.{queue_cases, no_requests_there}
@@ -87,7 +86,7 @@ idle_tests m p side down =
 running_tests : (m : Pages) (p : Part) (side : Side) (o : Option ℕ) → p.status ≡ 15 → used_answer m side.ring ≡ Ok o → (first_refusal (reap_tests m p side 0) ≡ None) × (first_refusal (reap_tests m p side 1) ≡ None)
 running_tests m p side o e answer =
     let P : ℕ → Result (Option ℕ) Broken → Type 0 = λ s r. (first_refusal ((not (nat_lt 0 2) ⇒ NoQueue) ∷ (not (is_up s) ⇒ NotReady) ∷ (is_err r ⇒ RingBroken) ∷ []) ≡ None)
-        × (first_refusal ((not (nat_lt 1 2) ⇒ NoQueue) ∷ (not (is_up s) ⇒ NotReady) ∷ (is_err r ⇒ RingBroken) ∷ []) ≡ None) in
+    × (first_refusal ((not (nat_lt 1 2) ⇒ NoQueue) ∷ (not (is_up s) ⇒ NotReady) ∷ (is_err r ⇒ RingBroken) ∷ []) ≡ None) in
     subst (λ s. P s (used_answer m side.ring)) (sym e) (subst (λ r. P 15 r) (sym answer) (refl, refl))
 
 -- a refused reap
@@ -136,10 +135,27 @@ inflate_reaped m1 m2 p1 p2 g si sd d2 (r ∷ rest) (Some x) is next did answer s
     let reap = line_reaped m1 0 n si p1.inflate g.inflate.posted g.inflate.taken r rest line taken in
     let there : Ties m1 (record p1 { actual = new.actual }) after new = record {
       parts = record {
-        honest = ties.parts.honest; buffer = ties.parts.buffer; report = ties.parts.report; config = ties.parts.config;
-        pages = refl; queue_size = refl; processors = refl; places = refl; held = refl; accepted = refl;
-        size = ties.parts.size; paced = ties.parts.paced; status = ties.parts.status; features = ties.parts.features; target = ties.parts.target; actual = refl;
-        ballooned = ties.parts.ballooned; last = ties.parts.last; keeps = ties.parts.keeps; own = ties.parts.own; loose = ties.parts.loose;
+        honest = ties.parts.honest;
+        buffer = ties.parts.buffer;
+        report = ties.parts.report;
+        config = ties.parts.config;
+        pages = refl;
+        queue_size = refl;
+        processors = refl;
+        places = refl;
+        held = refl;
+        accepted = refl;
+        size = ties.parts.size;
+        paced = ties.parts.paced;
+        status = ties.parts.status;
+        features = ties.parts.features;
+        target = ties.parts.target;
+        actual = refl;
+        ballooned = ties.parts.ballooned;
+        last = ties.parts.last;
+        keeps = ties.parts.keeps;
+        own = ties.parts.own;
+        loose = ties.parts.loose;
       };
       pages = ties.pages;
       queues = inr (record { state = run.state; backed = run.backed; inflate_size = run.inflate_size; deflate_size = run.deflate_size; inflate = reap; deflate = run.deflate });
@@ -198,10 +214,27 @@ deflate_reaped m1 m2 p1 p2 g si sd d2 (r ∷ rest) (Some x) is next did answer s
     let reap = line_reaped m1 1 n sd p1.deflate g.deflate.posted g.deflate.taken r rest line taken in
     let there : Ties m1 (record p1 { actual = new.actual }) after new = record {
       parts = record {
-        honest = ties.parts.honest; buffer = ties.parts.buffer; report = ties.parts.report; config = ties.parts.config;
-        pages = refl; queue_size = refl; processors = refl; places = refl; held = refl; accepted = refl;
-        size = ties.parts.size; paced = ties.parts.paced; status = ties.parts.status; features = ties.parts.features; target = ties.parts.target; actual = refl;
-        ballooned = ties.parts.ballooned; last = ties.parts.last; keeps = ties.parts.keeps; own = ties.parts.own; loose = ties.parts.loose;
+        honest = ties.parts.honest;
+        buffer = ties.parts.buffer;
+        report = ties.parts.report;
+        config = ties.parts.config;
+        pages = refl;
+        queue_size = refl;
+        processors = refl;
+        places = refl;
+        held = refl;
+        accepted = refl;
+        size = ties.parts.size;
+        paced = ties.parts.paced;
+        status = ties.parts.status;
+        features = ties.parts.features;
+        target = ties.parts.target;
+        actual = refl;
+        ballooned = ties.parts.ballooned;
+        last = ties.parts.last;
+        keeps = ties.parts.keeps;
+        own = ties.parts.own;
+        loose = ties.parts.loose;
       };
       pages = ties.pages;
       queues = inr (record { state = run.state; backed = run.backed; inflate_size = run.inflate_size; deflate_size = run.deflate_size; inflate = run.inflate; deflate = reap });

@@ -1,10 +1,10 @@
 -- The driver takes a used request.
-use Rattle.std.specs.Prelude.{◌≡◌, ◌≢◌, ℕ, ◌+◌, ◌%◌, ◌<◌, ◌≤◌, ◌==◌, Bool, true, false, List, [], ◌∷◌, ◌++◌, All, length, Option, Some, None, Result, Ok, Err, slice_get, slice_set, slice_index_or, refl}
+use Rattle.std.specs.Prelude.{◌≡◌, ℕ, ◌+◌, ◌%◌, ◌≤◌, ◌==◌, Bool, true, false, List, [], ◌∷◌, ◌++◌, length, Option, Some, None, Result, Ok, slice_get, refl}
 use Rattle.std.proofs.Common.{sym, ◌∙◌, ap, subst, arith, append_assoc, eq-eqb}
 use Rattle.std.proofs.lemmas.List.{length_push, length-set, map-append}
 use Rattle.std.proofs.lemmas.List.Elements.{All-tail}
 use Rattle.vb_model.specs.Tests.{one_if}
-use Rattle.vb_model.specs.Requests.{Request, Requests, all_requests, headed}
+use Rattle.vb_model.specs.Requests.{Request, Requests}
 use Rattle.vb_ram.specs.Pages.{Pages}
 use Rattle.vb_ram.specs.Part.{QueuePart}
 use Rattle.vb_ring.specs.declared.driver.RingBroken.{RingBroken}
@@ -64,7 +64,8 @@ line_reaped mem q n side part posted taken r rest line did =
     let T : List UsedElem → ℕ → Type 0 = λ x s. Tracks mem (after_reap side r.head).ring heads x s in
     let seen = did.tracks heads (line.gone ++ used_of (r ∷ rest)) (length line.gone) line.tracks line.shows (omega (arith, more)) in
     record {
-      sized = line.sized; layout = line.layout;
+      sized = line.sized;
+      layout = line.layout;
       buffers = length-set side.sent r.head [] ∙ line.buffers;
       before = line.before;
       gone = line.gone ++ e ∷ [];

@@ -1,15 +1,15 @@
 -- Device and model refuse the same calls.
-use Rattle.std.specs.Prelude.{◌≡◌, ℕ, ◌≤◌, ◌<◌, Bool, true, false, not, ◌==◌, ◌&&◌, ◌||◌, nat_le, nat_lt, List, [], ◌∷◌, length, Option, Some, None, is_some, is_none, slice_get, drop, refl, ◌⊎◌}
+use Rattle.std.specs.Prelude.{◌≡◌, ℕ, ◌≤◌, Bool, true, false, not, ◌==◌, ◌&&◌, ◌||◌, nat_le, List, [], ◌∷◌, length, Option, Some, is_some, is_none, slice_get, drop, refl, ◌⊎◌}
 use Rattle.std.proofs.Common.{sym, ◌∙◌, ap, subst, arith, inl, inr}
-use Rattle.std.proofs.lemmas.Bool.{cases_eq, cases_lt, le-ltb}
-use Rattle.vb_model.specs.declared.calls.Call.TheVariants.{Take, Finish, Reap, Sweep}
+use Rattle.std.proofs.lemmas.Bool.{cases_eq, le-ltb}
+use Rattle.vb_model.specs.declared.calls.Call.TheVariants.{Take, Finish}
 use Rattle.vb_model.specs.declared.replies.Refusal.{Refusal}
-use Rattle.vb_model.specs.declared.replies.Refusal.TheVariants.{NoQueue, NotReady, Busy, NotTaken, NotWorked, NotBallooned}
+use Rattle.vb_model.specs.declared.replies.Refusal.TheVariants.{NoQueue, NotReady, Busy, NotTaken, NotWorked}
 use Rattle.vb_model.specs.Requests.{Request, kind_of_queue}
-use Rattle.vb_model.specs.Guest.{Guest, is_ballooned}
-use Rattle.vb_model.specs.Refusals.{Test, ◌⇒◌, first_refusal, tests, refusal_of, is_there_yet, is_queue_of_requests, has_unvisited}
+use Rattle.vb_model.specs.Guest.{Guest}
+use Rattle.vb_model.specs.Refusals.{◌⇒◌, first_refusal, tests, refusal_of, is_there_yet, is_queue_of_requests, has_unvisited}
 use Rattle.vb_ram.specs.Part.{Part}
-use Rattle.vb_device.specs.Conditions.{take_tests, take_refusal, finish_tests, finish_refusal, sweep_refusal, has_chains}
+use Rattle.vb_device.specs.Conditions.{take_tests, take_refusal, finish_tests, finish_refusal, has_chains}
 use Rattle.vb_slot.proofs.Closing.{first_holds}
 
 -- a queue is the first, the second or none that is there

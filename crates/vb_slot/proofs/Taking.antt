@@ -1,27 +1,20 @@
 -- The device takes the next posted request.
-use Rattle.std.specs.Prelude.{◌≡◌, ℕ, ◌+◌, ◌*◌, ◌%◌, ◌<◌, ◌≤◌, ◌==◌, List, [], ◌∷◌, ◌++◌, length, Result, Ok, Err, Option, Some, None, slice_get, slice_index, refl, All, map, true, false}
-use Rattle.std.proofs.Common.{sym, ◌∙◌, ap, subst, arith, append_assoc, length-append}
+use Rattle.std.specs.Prelude.{◌≡◌, ℕ, ◌+◌, ◌%◌, List, [], ◌∷◌, ◌++◌, length, Ok, slice_get}
+use Rattle.std.proofs.Common.{sym, ap, subst, arith, append_assoc}
 use Rattle.std.proofs.lemmas.List.{length_push}
 use Rattle.std.proofs.lemmas.List.Elements.{All-push, All-tail}
-use Rattle.vb_model.specs.Tests.{one_if}
-use Rattle.vb_model.specs.Limits.{page_size}
-use Rattle.vb_model.specs.Layout.{ring_page, buffers_page, buffer_page, buffer_offset}
-use Rattle.vb_model.specs.Requests.{Request, Requests, headed}
+use Rattle.vb_model.specs.Layout.{ring_page, buffers_page}
+use Rattle.vb_model.specs.Requests.{Request, Requests}
 use Rattle.vb_ram.specs.Pages.{Pages}
 use Rattle.vb_ram.specs.Part.{QueuePart}
-use Rattle.vb_chain.specs.declared.ChainFault.{ChainFault}
-use Rattle.vb_chain.specs.declared.Piece.{Piece}
-use Rattle.vb_chain.specs.Table.{descriptor_at}
-use Rattle.vb_chain.specs.Rules.{piece_of}
-use Rattle.vb_chain.specs.Chain.{ChainGives}
 use Rattle.vb_ring.specs.Entries.{next_entry}
 use Rattle.vb_ring.specs.EntryLaws.{entry_shown}
 use Rattle.vb_ring.specs.Meaning.{UsedElem, ids, times, Shows}
 use Rattle.vb_ring.specs.MeaningLaws.{times-push}
-use Rattle.vb_driver.specs.Coding.{IsCoded, buffer_of}
+use Rattle.vb_driver.specs.Coding.{IsCoded}
 use Rattle.vb_driver.specs.State.{Side}
 use Rattle.vb_slot.specs.Line.{Line, IsRequest, heads_of, used_of}
-use Rattle.vb_slot.proofs.Heads.{length-published, length-used, get_after, none_after, headed-push, headed-cons}
+use Rattle.vb_slot.proofs.Heads.{length-published, length-used, headed-push}
 
 -- the device's next entry is the head after those taken before
 pub next_shown : (mem : Pages) (q n : ℕ) (side : Side) (part : QueuePart) (rs : Requests) → (line : Line mem q n side part rs)
@@ -36,7 +29,7 @@ next_shown mem q n side part rs line =
 pub line_taken : (mem : Pages) (q n : ℕ) (side : Side) (part : QueuePart) (r : Request) (rest taken done : List Request)
     → Line mem q n side part (record { posted = r ∷ rest; taken = taken; done = done })
     → Line mem q n side (record part { next_avail = (part.next_avail + 1) % 65536; taken = part.taken ++ (record { head = r.head; pages = r.pages; visited = 0 } ∷ []) })
-      (record { posted = rest; taken = taken ++ (record r { visited = 0 } ∷ []); done = done })
+    (record { posted = rest; taken = taken ++ (record r { visited = 0 } ∷ []); done = done })
 line_taken mem q n side part r rest taken done line =
     let r' : Request = record r { visited = 0 } in
     let moved : (line.before ++ r.head ∷ []) ++ heads_of rest ≡ line.before ++ heads_of (r ∷ rest) = append_assoc line.before (r.head ∷ []) (heads_of rest) in

@@ -1,6 +1,6 @@
 -- The slot's new target is a step of the guest.
 use Rattle.std.specs.Prelude.{◌≡◌, ℕ, [], refl}
-use Rattle.std.proofs.Common.{sym, ◌∙◌, ap, subst, inl, inr}
+use Rattle.std.proofs.Common.{inl, inr}
 use Rattle.vb_model.specs.declared.calls.Call.TheVariants.{SetTarget}
 use Rattle.vb_model.specs.declared.replies.Reply.TheVariants.{Done}
 use Rattle.vb_model.specs.Guest.{Guest}
@@ -19,10 +19,27 @@ target_step m1 m2 p1 p2 d g n memory part stands =
     let after : Part = record p1 { target = n } in
     let there : Ties m1 after d new = record {
       parts = record {
-        honest = ties.parts.honest; buffer = ties.parts.buffer; report = ties.parts.report; config = ties.parts.config;
-        pages = ties.parts.pages; queue_size = ties.parts.queue_size; processors = ties.parts.processors; places = ties.parts.places; held = ties.parts.held; accepted = ties.parts.accepted;
-        size = ties.parts.size; paced = ties.parts.paced; status = ties.parts.status; features = ties.parts.features; target = refl; actual = ties.parts.actual;
-        ballooned = ties.parts.ballooned; last = ties.parts.last; keeps = ties.parts.keeps; own = ties.parts.own; loose = ties.parts.loose;
+        honest = ties.parts.honest;
+        buffer = ties.parts.buffer;
+        report = ties.parts.report;
+        config = ties.parts.config;
+        pages = ties.parts.pages;
+        queue_size = ties.parts.queue_size;
+        processors = ties.parts.processors;
+        places = ties.parts.places;
+        held = ties.parts.held;
+        accepted = ties.parts.accepted;
+        size = ties.parts.size;
+        paced = ties.parts.paced;
+        status = ties.parts.status;
+        features = ties.parts.features;
+        target = refl;
+        actual = ties.parts.actual;
+        ballooned = ties.parts.ballooned;
+        last = ties.parts.last;
+        keeps = ties.parts.keeps;
+        own = ties.parts.own;
+        loose = ties.parts.loose;
       };
       pages = ties.pages;
       queues = elim ties.queues [

@@ -1,30 +1,28 @@
 -- The slot's write is a step of the guest.
-use Rattle.std.specs.Prelude.{◌≡◌, ◌≢◌, ℕ, ◌+◌, ◌<◌, ◌≤◌, ◌==◌, ◌||◌, Bool, true, false, not, nat_le, nat_lt, if◌then◌else◌, List, [], ◌∷◌, ◌++◌, length, Option, Some, None, IsSome, is_none, MatchOption, Result, Ok, Err, IsOk, slice_set, slice_index_or, count_by, refl, ◌⊎◌, ⊤}
+use Rattle.std.specs.Prelude.{◌≡◌, ℕ, ◌+◌, ◌<◌, ◌≤◌, Bool, true, false, not, if◌then◌else◌, List, [], ◌∷◌, length, Option, Some, None, IsSome, is_none, Result, Err, IsOk, slice_set, refl, ◌⊎◌}
 use Rattle.std.proofs.Common.{sym, ◌∙◌, ap, subst, arith, inl, inr}
 use Rattle.std.proofs.lemmas.Bool.{cases_lt}
 use Rattle.std.proofs.lemmas.Bool.Decides.{nat_tests}
-use Rattle.vb_model.specs.declared.calls.Call.{Call}
 use Rattle.vb_model.specs.declared.calls.Call.TheVariants.{Write}
 use Rattle.vb_model.specs.declared.calls.Claim.{Claim}
 use Rattle.vb_model.specs.declared.calls.Claim.TheVariants.{Gave, GaveNoFrame, GaveNoMemory}
 use Rattle.vb_model.specs.declared.replies.Refusal.{Refusal}
 use Rattle.vb_model.specs.declared.replies.Refusal.TheVariants.{NotHeld, OutOfRam, NoFrame, NoMemory}
 use Rattle.vb_model.specs.declared.replies.Reply.TheVariants.{Done, Refused}
-use Rattle.vb_model.specs.Tests.{one_if}
 use Rattle.vb_model.specs.Pages.{place_of, is_used}
 use Rattle.vb_model.specs.Guest.{Guest, frame_of, backed}
-use Rattle.vb_model.specs.Refusals.{Test, ◌⇒◌, first_refusal, refusal_of, is_outside}
+use Rattle.vb_model.specs.Refusals.{◌⇒◌, first_refusal, refusal_of, is_outside}
 use Rattle.vb_model.specs.Driver.{overwritten, pages_needed, Supplying, Written}
 use Rattle.vb_ram.specs.declared.RamFault.{RamFault}
 use Rattle.vb_ram.specs.declared.RamFault.TheVariants.{OutOfRam as OutOfMemory, NeedsFrame}
-use Rattle.vb_ram.specs.Pages.{Pages, page_at, frame_at, Covers, Wrote, Supplied}
+use Rattle.vb_ram.specs.Pages.{Pages, frame_at, Covers, Wrote, Supplied}
 use Rattle.vb_model.specs.Step.{HonestStep}
 use Rattle.vb_ram.specs.Part.{Part}
 use Rattle.vb_driver.specs.State.{DriverState}
-use Rattle.vb_frames.specs.Out.{is_out, AllAnswered, IsFree}
-use Rattle.vb_slot.specs.Stands.{Stands, Ties, HasPages, IsIdle, IsRunning}
-use Rattle.vb_slot.specs.Steps.{Steps, StepsAlone, backing_count}
-use Rattle.vb_slot.proofs.Closing.{first_holds, honest_refused, honest_performed, guest_step, still_stands, steps_alone, refused_alone, ties_same}
+use Rattle.vb_frames.specs.Out.{IsFree}
+use Rattle.vb_slot.specs.Stands.{Stands, Ties}
+use Rattle.vb_slot.specs.Steps.{Steps, StepsAlone}
+use Rattle.vb_slot.proofs.Closing.{first_holds, honest_performed, guest_step, still_stands, steps_alone, refused_alone, ties_same}
 use Rattle.vb_slot.proofs.Writing.{at_page, used_high, pages_wrote, pages_supplied, running_apart, idle_still, count_backed, out_more}
 
 either : (b : Bool) → (b ≡ true) ⊎ (b ≡ false)
@@ -118,26 +116,40 @@ write_unsupplied Answers out m1 m2 p1 p2 d g page off bs claim why said answer u
       | inl said_so ↦
           let E : Claim → Refusal → Type 0 = λ c w. Answers out c → Steps (Stands m2 p2 d) Answers out out g (Write page off bs) (Refused w) in
           subst (λ w. E claim w) (sym said_so.1) (subst (λ c. E c NoFrame) (sym said_so.0) (λ a. record {
-            claims = GaveNoFrame ∷ []; new = g; stands = same GaveNoFrame NoFrame (refused GaveNoFrame NoFrame (refl, (refl, refl))); step = guest_step g (Write page off bs) _ _ g stands.ties.parts.honest (refused GaveNoFrame NoFrame (refl, (refl, refl)));
-            answered = (a, refl); balance = λ n. refl })) answer
+            claims = GaveNoFrame ∷ [];
+            new = g;
+            stands = same GaveNoFrame NoFrame (refused GaveNoFrame NoFrame (refl, (refl, refl)));
+            step = guest_step g (Write page off bs) _ _ g stands.ties.parts.honest (refused GaveNoFrame NoFrame (refl, (refl, refl)));
+            answered = (a, refl);
+            balance = λ n. refl;
+          })) answer
       | inr said_so ↦
           let E : Claim → Refusal → Type 0 = λ c w. Answers out c → Steps (Stands m2 p2 d) Answers out out g (Write page off bs) (Refused w) in
           subst (λ w. E claim w) (sym said_so.1) (subst (λ c. E c NoMemory) (sym said_so.0) (λ a. record {
-            claims = GaveNoMemory ∷ []; new = g; stands = same GaveNoMemory NoMemory (refused GaveNoMemory NoMemory (refl, (refl, refl))); step = guest_step g (Write page off bs) _ _ g stands.ties.parts.honest (refused GaveNoMemory NoMemory (refl, (refl, refl)));
-            answered = (a, refl); balance = λ n. refl })) answer
+            claims = GaveNoMemory ∷ [];
+            new = g;
+            stands = same GaveNoMemory NoMemory (refused GaveNoMemory NoMemory (refl, (refl, refl)));
+            step = guest_step g (Write page off bs) _ _ g stands.ties.parts.honest (refused GaveNoMemory NoMemory (refl, (refl, refl)));
+            answered = (a, refl);
+            balance = λ n. refl;
+          })) answer
     ]
   where
     held : is_used (place_of g.places page) ≡ true
     held = ap (λ l. is_used (place_of l page)) (sym stands.ties.parts.places) ∙ used
+
     free : refusal_of g (Write page off bs) ≡ None
     free = write_tests g page off bs held ∙ ap (λ (b : Bool). first_refusal ((b ⇒ OutOfRam) ∷ [])) (inside_is g m1 page off (length bs) stands.ties.pages.length_is covers)
+
     needs : pages_needed page bs g ≡ page ∷ []
     needs = needs_one g page bs some (sym (stands.ties.pages.behind page) ∙ bare)
+
     refused : (c : Claim) (w : Refusal) → Supplying (page ∷ []) g (c ∷ []) (Refused w) g (λ supplied. Written page off bs supplied (Refused w) g)
         → HonestStep g (Write page off bs) (c ∷ []) (Refused w) g
     refused c w does =
         let W : List ℕ → Type 0 = λ l. Supplying l g (c ∷ []) (Refused w) g (λ supplied. Written page off bs supplied (Refused w) g) in
         honest_performed g (Write page off bs) (c ∷ []) (Refused w) g free (subst W (sym needs) does)
+
     same : (c : Claim) (w : Refusal) → HonestStep g (Write page off bs) (c ∷ []) (Refused w) g → Stands m2 p2 d g
     same c w step = still_stands m1 m2 p1 p2 d d g (Write page off bs) (c ∷ []) (Refused w) g stands step (ties_same m1 m2 p1 p2 d d g m p refl stands.ties)
 

@@ -9,13 +9,13 @@ use Rattle.vb_model.specs.declared.places.Place.{Place}
 use Rattle.vb_model.specs.declared.places.Place.TheVariants.{Used}
 use Rattle.vb_model.specs.Tests.{one_if, each_page}
 use Rattle.vb_model.specs.Pages.{place_of, is_used}
-use Rattle.vb_model.specs.Requests.{Request, Requests}
+use Rattle.vb_model.specs.Requests.{Requests}
 use Rattle.vb_model.specs.Guest.{Guest, zero_page, frame_of, backed}
 use Rattle.vb_model.specs.Driver.{overwritten}
 use Rattle.vb_model.specs.Orderly.{IsOrderly, is_reserved}
-use Rattle.vb_model.proofs.Tables.{length-each_from, each_page-get, count_by-cons}
+use Rattle.vb_model.proofs.Tables.{length-each_from, each_page-get}
 use Rattle.vb_ram.specs.Pages.{Pages, page_at, frame_at, contents_at, contents_of, number_of, Wrote, Supplied}
-use Rattle.vb_ram.specs.Contents.{contents_wrote, length-zero_page}
+use Rattle.vb_ram.specs.Contents.{contents_wrote}
 use Rattle.vb_ram.specs.Part.{Part}
 use Rattle.vb_driver.specs.State.{DriverState}
 use Rattle.vb_frames.specs.Out.{is_out}
@@ -164,6 +164,7 @@ pages_supplied m1 m2 n page frame frames contents lt bare has did = record {
     past_or p ne (inr past) =
         Rattle.std.proofs.lemmas.List.get_or_past (backed page frame frames) p None (omega (arith, length-at_page page (λ (old : Option ℕ). Some frame) frames))
         ∙ sym (Rattle.std.proofs.lemmas.List.get_or_past frames p None past)
+
     zeros : (x : Option Rattle.vb_ram.specs.Pages.Page) → number_of x ≡ None → contents_of x ≡ zero_page
     zeros None e = refl
     zeros (Some x) e = absurd cc

@@ -1,8 +1,8 @@
 // Frames come from the keeper, and loose ones go back to it.
 
-ghost use Rattle.std.specs.Prelude.{◌≡◌, false, [], IfOk};
+ghost use Rattle.std.specs.Prelude.{◌≡◌, false, true, [], IfOk, OnErr, slice_set};
 ghost use Rattle.vb_model.specs.Guest.{zero_page};
-ghost use Rattle.vb_frames.specs.Out.{Claims, claim_in};
+ghost use Rattle.vb_frames.specs.Out.{IsFree, claim_in};
 ghost use Rattle.vb_slot.specs.Steps.{AreLoose, Returns};
 
 use vb_device::{Claimed, Device};
@@ -17,7 +17,8 @@ pub(crate) fn claim_frame<D: Device, K: FrameKeeper>(
     requires { (D.part port.old).keeps ≡ false }
     ensures mem { D.mem port.new ≡ D.mem port.old }
     ensures part { D.part port.new ≡ D.part port.old }
-    ensures claimed { Claims (K.out keeper.old) (claim_in result) (K.out keeper.new) }
+    ensures given { IfOk result (λ frame. IsFree (K.out keeper.old) frame.number × (K.out keeper.new ≡ slice_set (K.out keeper.old) frame.number true)) }
+    ensures refused { OnErr result (K.out keeper.new ≡ K.out keeper.old) }
     ensures answer { K.answers (K.out keeper.old) (claim_in result) }
     ensures zeros { IfOk result (λ frame. frame.bytes ≡ zero_page) }
 {

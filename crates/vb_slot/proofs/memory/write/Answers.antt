@@ -1,8 +1,8 @@
 use Rattle.std.proofs.Common.{sym, ◌∙◌, ap, Err}
-use Rattle.vb_ram.specs.declared.RamFault.TheVariants.{OutOfRam, NeedsFrame, AlreadyBacked, Memory}
+use Rattle.vb_ram.specs.declared.RamFault.TheVariants.{OutOfRam}
 use Rattle.vb_slot.proofs.Closing.{stands_same}
 use Rattle.vb_slot.proofs.Freed.{steps_quiet}
-use Rattle.vb_slot.proofs.WriteStep.{write_not_held, write_backed, write_outside, needs_frame, not_covered, never_fault}
+use Rattle.vb_slot.proofs.WriteStep.{write_not_held, write_backed, write_outside, needs_frame, not_covered}
 use Rattle.vb_slot.proofs.memory.write.Goals as goal
 
 pub returns-then-not-held : goal.returns-then-not-held
