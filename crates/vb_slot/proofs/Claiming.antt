@@ -1,14 +1,14 @@
 -- What a call of `supply_from` makes of one page and of the rest.
-use Rattle.std.specs.Prelude.{◌≡◌, ℕ, suc, ◌+◌, ◌-◌, ◌<◌, ◌≤◌, Bool, true, false, not, cond, List, [], ◌∷◌, length, Option, Some, None, is_some, is_none, filter, Result, Ok, Err, slice_set, refl, ◌⊎◌}
+use Rattle.std.specs.Prelude.{◌≡◌, ℕ, suc, ◌+◌, ◌-◌, ◌<◌, ◌≤◌, Bool, true, false, not, cond, List, [], ◌∷◌, length, Option, Some, None, is_some, is_none, filter, Result, Ok, Err, slice_set, refl}
 use Rattle.std.specs.List.{range_with_len}
-use Rattle.std.proofs.Common.{sym, ◌∙◌, ap, subst, arith, inl, inr}
+use Rattle.std.proofs.Common.{sym, ◌∙◌, ap, subst, arith}
 use Rattle.vb_model.specs.declared.calls.Claim.{Claim}
 use Rattle.vb_model.specs.declared.calls.Claim.TheVariants.{Gave, GaveNoFrame, GaveNoMemory}
-use Rattle.vb_ram.specs.Pages.{Page, Pages, frame_at, number_of, Supplied}
+use Rattle.vb_ram.specs.Pages.{Pages, frame_at, number_of, Supplied}
 use Rattle.vb_frames.specs.declared.Refused.{Refused}
 use Rattle.vb_frames.specs.declared.Refused.TheVariants.{NoFrame, Memory}
-use Rattle.vb_frames.specs.Out.{is_out, IsFree, claim_in, AllAnswered}
-use Rattle.vb_slot.specs.Lives.{bare_from, AllSupplied, SuppliesBy}
+use Rattle.vb_frames.specs.Out.{IsFree, claim_in}
+use Rattle.vb_slot.specs.Lives.{bare_from, SuppliesBy}
 use Rattle.vb_slot.proofs.Supplying.{not_again, supplied_count, supplied_other, out_back}
 
 -- ---- the pages without frames

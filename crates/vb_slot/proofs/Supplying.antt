@@ -1,19 +1,19 @@
 -- Several pages get frames, one by one.
-use Rattle.std.specs.Prelude.{◌≡◌, ◌≢◌, ℕ, zero, suc, ◌+◌, ◌-◌, ◌<◌, ◌≤◌, ◌==◌, ◌||◌, Bool, true, false, not, if◌then◌else◌, cond, List, [], ◌∷◌, length, Option, Some, None, IsSome, is_some, is_none, filter, slice_set, slice_index_or, count_by, refl, ◌⊎◌}
-use Rattle.std.specs.List.{range_with_len, list_all}
+use Rattle.std.specs.Prelude.{◌≡◌, ◌≢◌, ℕ, zero, suc, ◌+◌, ◌<◌, ◌≤◌, ◌==◌, ◌||◌, Bool, true, false, not, if◌then◌else◌, cond, List, [], ◌∷◌, length, Option, Some, None, IsSome, is_some, filter, slice_set, count_by, refl, ◌⊎◌}
+use Rattle.std.specs.List.{range_with_len}
 use Rattle.std.proofs.Common.{sym, ◌∙◌, ap, subst, arith, inl, inr, eq-eqb}
-use Rattle.std.proofs.lemmas.Bool.{cases_eq, cases_lt, eqb-true, or_cases}
+use Rattle.std.proofs.lemmas.Bool.{cases_eq, eqb-true, or_cases}
 use Rattle.std.proofs.lemmas.List.{ext_get_or, length-set, get_or-set_same, get_or-set_other}
 use Rattle.vb_model.specs.declared.calls.Claim.{Claim}
 use Rattle.vb_model.specs.declared.calls.Claim.TheVariants.{Gave, GaveNoFrame, GaveNoMemory}
-use Rattle.vb_model.specs.Tests.{one_if, is_in, each_from, each_page}
-use Rattle.vb_model.specs.Guest.{frame_of, backed, all_backed}
+use Rattle.vb_model.specs.Tests.{one_if, is_in, each_from}
+use Rattle.vb_model.specs.Guest.{backed, all_backed}
 use Rattle.vb_model.specs.Driver.{given, claim_refusal, AreClaimsFor, AllDistinct}
-use Rattle.vb_ram.specs.Pages.{Pages, page_at, frame_at, number_of, Supplied}
+use Rattle.vb_ram.specs.Pages.{Pages, page_at, frame_at, number_of}
 use Rattle.vb_frames.specs.Out.{is_out, after_claims, AllAnswered}
 use Rattle.vb_slot.specs.Stands.{HasPages}
 use Rattle.vb_slot.specs.Steps.{is_frame}
-use Rattle.vb_slot.specs.Lives.{bare_from, AllSupplied}
+use Rattle.vb_slot.specs.Lives.{AllSupplied}
 use Rattle.vb_slot.proofs.Writing.{pages_supplied, count_backed, out_more}
 
 either : (b : Bool) → (b ≡ true) ⊎ (b ≡ false)
@@ -70,6 +70,7 @@ among test a (suc n) p from to passes = step (test a) refl (cases_eq a p) (among
   where
     behind : List ℕ
     behind = filter test (range_with_len (a + 1) n)
+
     step : (b : Bool) → test a ≡ b → (a ≡ p) ⊎ (a ≢ p) → (a + 1 ≤ p → p < a + 1 + n → test p ≡ true → is_in p (filter test (range_with_len (a + 1) n)) ≡ true) → is_in p (cond b (a ∷ filter test (range_with_len (a + 1) n)) (filter test (range_with_len (a + 1) n))) ≡ true
     step true is (inl e) later = ap (λ (b : Bool). b || is_in p (filter test (range_with_len (a + 1) n))) (eq-eqb a p e)
     step true is (inr ne) later = either_way (a == p) (later (omega arith) (omega arith) passes)
