@@ -26,3 +26,4 @@ pub mod ReapStep
 pub mod Supplying
 pub mod Claiming
 pub mod InitStep
+pub mod FreshStands

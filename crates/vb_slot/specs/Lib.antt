@@ -4,3 +4,4 @@ pub mod Steps
 pub mod Replies
 pub mod Answered
 pub mod Lives
+pub mod Spare

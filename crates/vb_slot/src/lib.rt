@@ -6,7 +6,9 @@ mod driver;
 mod frames;
 mod lives;
 mod memory;
+mod new;
 mod port;
 mod slot;
 
+pub use new::NoSlot;
 pub use slot::{GuestSlot, Slot};

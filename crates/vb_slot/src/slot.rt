@@ -10,12 +10,14 @@ ghost use Rattle.vb_slot.specs.Steps.{AreOut, Steps};
 use crate::device::{finish, set_target, take};
 use crate::driver::{alloc, inflate, reap};
 use crate::memory::{read, write};
+use crate::new::NoSlot;
 use crate::port::BoxedPort;
 use std::alloc::Global;
 use vb_device::Device;
 use vb_driver::Driver;
 use vb_frames::FrameKeeper;
 use vb_model::{Call, Query, Reply};
+use vb_ram::Config;
 
 /// What a host has of each guest: something that stands for a guest of the model, and whose calls
 /// are steps of that guest.
@@ -82,6 +84,38 @@ impl GuestSlot for Slot {
                 frame: self.port.backing(*page),
             },
             _ => unreachable!(),
+        }
+    }
+}
+
+impl Slot {
+    ghost use Rattle.std.specs.Prelude.{◌≡◌, true, IfOk, IfErr};
+    ghost use Rattle.vb_model.specs.Guest.{fresh};
+    ghost use Rattle.vb_model.specs.Limits.{is_config};
+    ghost use Rattle.vb_slot.specs.Spare.{IsSpare};
+
+    /// A guest of this size as it is plugged in, on a device that no guest has yet. Refused for want
+    /// of memory alone.
+    pub fn new(
+        alloc: Global,
+        device: Box<dyn Device + Send>,
+        config: Config,
+    ) -> Result<Slot, NoSlot>
+        requires spare { IsSpare (mem device) (part device) }
+        requires config { is_config config.pages config.queue_size config.processors ≡ true }
+        ensures made { IfOk result (λ slot. ⟦<Slot as GuestSlot>⟧.stands slot (fresh (record { pages = config.pages; queue_size = config.queue_size; processors = config.processors; paced = (part device).paced }) 0)) }
+        ensures refused { IfErr result (λ refused. (mem refused.device ≡ mem device) × (part refused.device ≡ part device)) }
+    {
+        let driver = match Driver::new(alloc, config) {
+            Ok(driver) => driver,
+            Err(_) => return Err(NoSlot { device }),
+        };
+        let mut port = BoxedPort { device };
+        match port.attach(alloc, config) {
+            Ok(()) => Ok(Slot { port, driver }),
+            Err(_) => Err(NoSlot {
+                device: port.device,
+            }),
         }
     }
 }
