@@ -3,3 +3,4 @@ pub mod Stands
 pub mod Steps
 pub mod Replies
 pub mod Answered
+pub mod Slots
