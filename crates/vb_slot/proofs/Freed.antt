@@ -1,5 +1,5 @@
 -- Frames that pages lost have gone back.
-use Rattle.std.specs.Prelude.{◌≡◌, ℕ, ◌+◌, ◌<◌, ◌≤◌, ◌==◌, if◌then◌else◌, Option, count_by, Bool, true, false, List, [], length, Result, IsSome, ◌⊎◌}
+use Rattle.std.specs.Prelude.{◌≡◌, ℕ, ◌+◌, ◌<◌, ◌≤◌, ◌==◌, if◌then◌else◌, Option, count_by, Bool, true, false, List, [], length, Result, IsSome, refl, ◌⊎◌}
 use Rattle.std.proofs.Common.{sym, ap, subst, arith, inl, inr}
 use Rattle.vb_model.specs.declared.calls.Call.{Call}
 use Rattle.vb_model.specs.declared.calls.Call.TheVariants.{Finish}
@@ -26,14 +26,15 @@ pub freed_loose : (New : Guest → Type 0) (loose : List ℕ) (g : Guest) (call 
 freed_loose New loose g call reply out step held n = omega (arith, step.freed n, held n)
 
 pub steps_freed : (Answers : List Bool → Claim → Type 0) (m2 m3 : Pages) (p2 p3 : Part) (d : DriverState) (g : Guest) (call : Call) (reply : Reply) (out1 out2 : List Bool)
-    → StepsFreeing (Stands m2 (handed_back p2) d) p2.loose g call reply → m3 ≡ m2 → p3 ≡ handed_back p2 → Returns p2.loose out1 out2 → Steps (Stands m3 p3 d) Answers out1 out2 g call reply
-steps_freed Answers m2 m3 p2 p3 d g call reply out1 out2 step memory part back = record {
+    → StepsFreeing (Stands m2 (handed_back p2) d) p2.loose g call reply → m3 ≡ m2 → p3 ≡ handed_back p2 → Returns p2.loose out1 out2 → length out2 ≡ length out1 → Steps (Stands m3 p3 d) Answers out1 out2 g call reply
+steps_freed Answers m2 m3 p2 p3 d g call reply out1 out2 step memory part back same = record {
   claims = [];
   new = step.new;
   stands = subst (λ m. Stands m p3 d step.new) (sym memory) (subst (λ p. Stands m2 p d step.new) (sym part) step.stands);
   step = step.step;
   answered = tt;
   balance = λ n. omega (arith, step.freed n, back n);
+  count = same;
 }
 
 -- a step in which no frame moves
@@ -45,6 +46,7 @@ steps_quiet New Answers out g call reply step = record {
   step = step.step;
   answered = tt;
   balance = λ n. ap (λ (frames : List (Option ℕ)). one_if (is_out out n) + count_by (is_frame n) frames) (sym step.frames);
+  count = refl;
 }
 
 -- ---- finish
@@ -78,10 +80,10 @@ pub finish_loose : (m1 m2 : Pages) (p1 p2 : Part) (d : DriverState) (g : Guest) 
 finish_loose m1 m2 p1 p2 d g q i result out did stands held = freed_loose _ p2.loose g (Finish q i) (finished_reply result) out (finish_step m1 m2 p1 p2 d g q i result did stands) held
 
 pub finish_replied : (Answers : List Bool → Claim → Type 0) (m1 m2 m3 : Pages) (p1 p2 p3 : Part) (d : DriverState) (g : Guest) (q i : ℕ) (result : Result ℕ Refusal) (reply : Reply) (out1 out2 : List Bool)
-    → reply ≡ finished_reply result → FinishesBy q i m1 m2 p1 p2 result → Stands m1 p1 d g → m3 ≡ m2 → p3 ≡ handed_back p2 → Returns p2.loose out1 out2 → Steps (Stands m3 p3 d) Answers out1 out2 g (Finish q i) reply
-finish_replied Answers m1 m2 m3 p1 p2 p3 d g q i result reply out1 out2 replied did stands memory part back =
+    → reply ≡ finished_reply result → FinishesBy q i m1 m2 p1 p2 result → Stands m1 p1 d g → m3 ≡ m2 → p3 ≡ handed_back p2 → Returns p2.loose out1 out2 → length out2 ≡ length out1 → Steps (Stands m3 p3 d) Answers out1 out2 g (Finish q i) reply
+finish_replied Answers m1 m2 m3 p1 p2 p3 d g q i result reply out1 out2 replied did stands memory part back same =
     subst (λ r. Steps (Stands m3 p3 d) Answers out1 out2 g (Finish q i) r) (sym replied)
-    (steps_freed Answers m2 m3 p2 p3 d g (Finish q i) (finished_reply result) out1 out2 (finish_step m1 m2 p1 p2 d g q i result did stands) memory part back)
+    (steps_freed Answers m2 m3 p2 p3 d g (Finish q i) (finished_reply result) out1 out2 (finish_step m1 m2 p1 p2 d g q i result did stands) memory part back same)
 
 -- a guest has 64 pages at the least
 pub large : (m : Pages) (p : Part) (d : DriverState) (g : Guest) → Stands m p d g → 64 ≤ length m

@@ -1,20 +1,18 @@
 -- A slot stands for its guest as it is plugged in.
-use Rattle.std.specs.Prelude.{◌≡◌, ℕ, ◌<◌, ◌≤◌, nat_lt, Bool, true, false, cond, if◌then◌else◌, List, [], length, map, Option, None, replicate, slice_index_or, refl, ◌⊎◌}
+use Rattle.std.specs.Prelude.{◌≡◌, ℕ, nat_lt, Bool, true, false, if◌then◌else◌, List, [], length, None, replicate, slice_index_or, refl}
 use Rattle.std.specs.List.{range_with_len}
 use Rattle.std.proofs.Common.{sym, ◌∙◌, ap, subst, arith, inl, inr}
 use Rattle.std.proofs.lemmas.Bool.{cases_lt}
 use Rattle.std.proofs.lemmas.List.{length-replicate, length-map, get_or-replicate, get_or_past}
 use Rattle.std.proofs.lemmas.List.FromFn.{length-range_with_len, get_or-map-range_with_len}
-use Rattle.vb_model.specs.declared.places.Place.{Place}
 use Rattle.vb_model.specs.declared.places.Place.TheVariants.{Reserved, Free}
 use Rattle.vb_model.specs.Limits.{is_config, reserved_pages}
-use Rattle.vb_model.specs.Pages.{place_of, all_free}
 use Rattle.vb_model.specs.Requests.{no_requests}
-use Rattle.vb_model.specs.Guest.{Guest, Config, fresh, zero_page, frame_of}
+use Rattle.vb_model.specs.Guest.{Guest, Config, fresh, zero_page}
 use Rattle.vb_model.specs.Orderly.{IsOrderly, AreOrderly, is_reserved}
 use Rattle.vb_model.proofs.GuestSteps.{fresh_consistent}
 use Rattle.vb_ram.specs.declared.config.Config.{Config as Sizes}
-use Rattle.vb_ram.specs.Pages.{Page, Pages, page_at, frame_at, contents_at, number_of, contents_of}
+use Rattle.vb_ram.specs.Pages.{Pages, number_of, contents_of}
 use Rattle.vb_ram.specs.Contents.{length-zero_page}
 use Rattle.vb_ram.specs.Part.{Part}
 use Rattle.vb_device.specs.Calls.{attached}

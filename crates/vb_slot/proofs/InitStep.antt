@@ -33,7 +33,7 @@ use Rattle.vb_slot.specs.Lives.{ready_reply, bare_from, AllSupplied, why_unsuppl
 use Rattle.vb_slot.proofs.Closing.{first_holds, honest_performed, guest_step, still_stands, refused_alone, ties_same}
 use Rattle.vb_slot.proofs.Freed.{steps_quiet, large}
 use Rattle.vb_slot.proofs.PagesKept.{pages_same}
-use Rattle.vb_slot.proofs.Supplying.{all_distinct, bounded, among, supplied_count, supplied_other, supplied_backed, pages_filled, frames_filled}
+use Rattle.vb_slot.proofs.Supplying.{all_distinct, bounded, among, supplied_count, supplied_other, supplied_backed, pages_filled, frames_filled, length-after_claims}
 
 either : (b : Bool) → (b ≡ true) ⊎ (b ≡ false)
 either true = inl refl
@@ -115,6 +115,7 @@ init_unsupplied Answers out1 out2 m1 m2 p1 p2 d g wanted why refusal is new did 
       step = guest_step g (Init wanted) claims (Refused refusal) g ties.parts.honest step;
       answered = did.answered;
       balance = λ n. ap (λ (o : List Bool). one_if (is_out o n) + count_by (is_frame n) g.frames) did.refused.1;
+      count = ap (λ (o : List Bool). length o) did.refused.1;
     }
 
 -- ---- the driver's answer
@@ -331,6 +332,7 @@ init_supplied Answers out1 out2 m1 m2 m3 p1 p2 p3 d1 d2 g wanted result status d
       balance = λ x. (
           let filled = frames_filled Answers x n pages claims out1 m1 m2 g.frames g.contents did.answer did.made did.answered distinct below did.supplied.0 ties.pages in
           ap (λ (o : List Bool). one_if (is_out o x) + count_by (is_frame x) g.frames) did.supplied.1 ∙ filled ∙ ap (λ (l : List (Option ℕ)). one_if (is_out out1 x) + count_by (is_frame x) l) (sym left.kept));
+      count = ap (λ (o : List Bool). length o) did.supplied.1 ∙ length-after_claims out1 claims;
     }
 
 -- memory is as large as it was

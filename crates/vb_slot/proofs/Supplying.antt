@@ -193,3 +193,9 @@ out_back out n free lt =
 -- a claimed frame is out
 pub out_now : (out : List Bool) (n : ℕ) → n < length out → is_out (slice_set out n true) n ≡ true
 out_now out n lt = get_or-set_same out n true false lt
+
+pub length-after_claims : (out : List Bool) (claims : List Claim) → length (after_claims out claims) ≡ length out
+length-after_claims out [] = refl
+length-after_claims out (Gave n ∷ claims) = length-after_claims (slice_set out n true) claims ∙ length-set out n true
+length-after_claims out (GaveNoFrame ∷ claims) = length-after_claims out claims
+length-after_claims out (GaveNoMemory ∷ claims) = length-after_claims out claims

@@ -2,6 +2,7 @@
 use Rattle.std.specs.Prelude.{◌≡◌, ℕ, ◌+◌, ◌<◌, ◌≤◌, Bool, true, false, not, if◌then◌else◌, List, [], ◌∷◌, length, Option, Some, None, IsSome, is_none, Result, Err, IsOk, slice_set, refl, ◌⊎◌}
 use Rattle.std.proofs.Common.{sym, ◌∙◌, ap, subst, arith, inl, inr}
 use Rattle.std.proofs.lemmas.Bool.{cases_lt}
+use Rattle.std.proofs.lemmas.List.{length-set}
 use Rattle.std.proofs.lemmas.Bool.Decides.{nat_tests}
 use Rattle.vb_model.specs.declared.calls.Call.TheVariants.{Write}
 use Rattle.vb_model.specs.declared.calls.Claim.{Claim}
@@ -122,6 +123,7 @@ write_unsupplied Answers out m1 m2 p1 p2 d g page off bs claim why said answer u
             step = guest_step g (Write page off bs) _ _ g stands.ties.parts.honest (refused GaveNoFrame NoFrame (refl, (refl, refl)));
             answered = (a, refl);
             balance = λ n. refl;
+            count = refl;
           })) answer
       | inr said_so ↦
           let E : Claim → Refusal → Type 0 = λ c w. Answers out c → Steps (Stands m2 p2 d) Answers out out g (Write page off bs) (Refused w) in
@@ -132,6 +134,7 @@ write_unsupplied Answers out m1 m2 p1 p2 d g page off bs claim why said answer u
             step = guest_step g (Write page off bs) _ _ g stands.ties.parts.honest (refused GaveNoMemory NoMemory (refl, (refl, refl)));
             answered = (a, refl);
             balance = λ n. refl;
+            count = refl;
           })) answer
     ]
   where
@@ -185,6 +188,7 @@ write_supplied Answers out m1 m2 m3 p1 p2 d g page off frame bs answer fresh use
       step = guest_step g (Write page off bs) (Gave frame ∷ []) Done new stands.ties.parts.honest step;
       answered = (answer, fresh, tt);
       balance = λ n. omega (arith, count_backed n page frame g.frames (omega (arith, stands.ties.pages.framed)) bare_too, out_more out n frame fresh.within fresh.free);
+      count = length-set out frame true;
     }
 
 pub write_no_frame : (Answers : List Bool → Claim → Type 0) (out1 out2 : List Bool) (m1 m2 : Pages) (p1 p2 : Part) (d : DriverState) (g : Guest) (page off : ℕ) (bs : List ℕ) → out2 ≡ out1 → Answers out1 GaveNoFrame

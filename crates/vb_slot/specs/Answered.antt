@@ -2,6 +2,8 @@
 use Rattle.std.specs.Prelude.{Bool, true, false}
 use Rattle.vb_model.specs.declared.calls.Call.{Call}
 use Rattle.vb_model.specs.declared.calls.Call.TheVariants.{Alloc, Read, Write, Inflate, Reap, Take, Finish, SetTarget}
+use Rattle.vb_model.specs.declared.calls.Query.{Query}
+use Rattle.vb_model.specs.declared.calls.Query.TheVariants.{Backing}
 
 abbrev pub is_answered : Call → Bool
 is_answered (Alloc cpu order) = true
@@ -13,3 +15,7 @@ is_answered (Take queue) = true
 is_answered (Finish queue index) = true
 is_answered (SetTarget pages) = true
 is_answered _ = false
+
+abbrev pub is_query_answered : Query → Bool
+is_query_answered (Backing page) = true
+is_query_answered _ = false

@@ -3,5 +3,6 @@ pub mod Stands
 pub mod Steps
 pub mod Replies
 pub mod Answered
+pub mod Slots
 pub mod Lives
 pub mod Spare

@@ -1,6 +1,6 @@
 // Frames come from the keeper, and loose ones go back to it.
 
-ghost use Rattle.std.specs.Prelude.{◌≡◌, false, true, [], IfOk, OnErr, slice_set};
+ghost use Rattle.std.specs.Prelude.{◌≡◌, false, true, [], length, IfOk, OnErr, slice_set};
 ghost use Rattle.vb_model.specs.Guest.{zero_page};
 ghost use Rattle.vb_frames.specs.Out.{IsFree, claim_in};
 ghost use Rattle.vb_slot.specs.Steps.{AreLoose, Returns};
@@ -37,6 +37,7 @@ pub(crate) fn return_loose<D: Device, K: FrameKeeper>(port: &mut D, keeper: &mut
     ensures mem { D.mem port.new ≡ D.mem port.old }
     ensures part { D.part port.new ≡ record (D.part port.old) { loose = [] } }
     ensures out { Returns (D.part port.old).loose (K.out keeper.old) (K.out keeper.new) }
+    ensures count { length (K.out keeper.new) ≡ length (K.out keeper.old) }
 {
     while let Some(frame) = port.hand_back() {
         match port.put_back(frame) {

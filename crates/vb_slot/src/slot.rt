@@ -1,10 +1,10 @@
 // One guest behind its calls.
 
 ghost use Rattle.std.specs.Prelude.{◌≡◌, ℕ, true};
-ghost use Rattle.vb_model.specs.Brought.{is_query_brought};
 ghost use Rattle.vb_model.specs.Guest.{Guest};
 ghost use Rattle.vb_model.specs.World.{Answers};
-ghost use Rattle.vb_slot.specs.Answered.{is_answered};
+ghost use Rattle.vb_slot.specs.Answered.{is_answered, is_query_answered};
+ghost use Rattle.vb_slot.specs.Slots.{stands_for};
 ghost use Rattle.vb_slot.specs.Steps.{AreOut, Steps};
 
 use crate::device::{finish, set_target, take};
@@ -39,7 +39,7 @@ pub trait GuestSlot: Drop {
     /// Answers a question about the guest.
     fn query(&self, alloc: Global, query: &Query) -> Reply
         requires stands { (g : Guest) × stands self.now g }
-        requires brought { is_query_brought query.now ≡ true }
+        requires answered { is_query_answered query.now ≡ true }
         ensures answer { (g : Guest) → stands self.now g → Answers query.now g result };
 }
 
@@ -50,12 +50,16 @@ pub struct Slot {
     driver: Driver,
 }
 
-impl GuestSlot for Slot {
-    ghost use Rattle.vb_slot.specs.Stands.{Stands};
-
-    ghost stands = { λ s g. Stands ((Device-box s.port.device).GuestBytes.mem s.port.device.value) ((Device-box s.port.device).GuestBytes.part s.port.device.value) s.driver g };
-
-    fn call<K: FrameKeeper>(&mut self, heap: Global, keeper: &mut K, call: &Call) -> Reply {
+impl Slot {
+    /// Answers a call on the guest. Frames that its pages gain are claimed from the keeper, and
+    /// those that they lose are put back.
+    pub fn call<K: FrameKeeper>(&mut self, heap: Global, keeper: &mut K, call: &Call) -> Reply
+        requires stands { (g : Guest) × stands_for mem part self.old g }
+        requires answered { is_answered call.now ≡ true }
+        requires held { (g : Guest) → stands_for mem part self.old g → AreOut g (K.out keeper.old) }
+        ensures step { (g : Guest) → stands_for mem part self.old g
+            → Steps (stands_for mem part self.new) K.answers (K.out keeper.old) (K.out keeper.new) g call.now result }
+    {
         match call {
             Call::Alloc { cpu, order } => alloc(&mut self.driver, &self.port, *cpu, *order),
             Call::Read { page, offset, len } => {
@@ -77,7 +81,12 @@ impl GuestSlot for Slot {
         }
     }
 
-    fn query(&self, alloc: Global, query: &Query) -> Reply {
+    /// Answers a question about the guest.
+    pub fn query(&self, alloc: Global, query: &Query) -> Reply
+        requires stands { (g : Guest) × stands_for mem part self.now g }
+        requires answered { is_query_answered query.now ≡ true }
+        ensures answer { (g : Guest) → stands_for mem part self.now g → Answers query.now g result }
+    {
         let _alloc = alloc;
         match query {
             Query::Backing { page } => Reply::Backing {
@@ -85,6 +94,20 @@ impl GuestSlot for Slot {
             },
             _ => unreachable!(),
         }
+    }
+}
+
+impl GuestSlot for Slot {
+    ghost use Rattle.vb_slot.specs.Stands.{Stands};
+
+    ghost stands = { λ s g. Stands ((Device-box s.port.device).GuestBytes.mem s.port.device.value) ((Device-box s.port.device).GuestBytes.part s.port.device.value) s.driver g };
+
+    fn call<K: FrameKeeper>(&mut self, heap: Global, keeper: &mut K, call: &Call) -> Reply {
+        self.call(heap, keeper, call)
+    }
+
+    fn query(&self, alloc: Global, query: &Query) -> Reply {
+        self.query(alloc, query)
     }
 }
 

@@ -13,4 +13,4 @@ return_loose-requires g c =
     }
 
 pub returns : goal.returns
-returns g c = λ guest stands. finish_replied _ _ _ _ _ _ _ _ guest _ _ _ _ _ _ c.finished_reply.ensures c.finish-answer.ensures stands c.return_loose.ensures.mem c.return_loose.ensures.part c.return_loose.ensures.out
+returns g c = λ guest stands. finish_replied _ _ _ _ _ _ _ _ guest _ _ _ _ _ _ c.finished_reply.ensures c.finish-answer.ensures stands c.return_loose.ensures.mem c.return_loose.ensures.part c.return_loose.ensures.out c.return_loose.ensures.count

@@ -12,6 +12,7 @@ invariant-loop-frame g l = record {
   out : (n : ℕ) → one_if (is_out (g.K.FrameKeeper.out l.keeper) n) + times n (g.D.GuestBytes.part l.fn.port).loose ≡ one_if (is_out (g.K.FrameKeeper.out l.fn.keeper) n) + times n (g.D.GuestBytes.part l.port).loose;
   loose : AreLoose (g.D.GuestBytes.part l.port).loose (g.K.FrameKeeper.out l.keeper);
   own : (g.D.GuestBytes.part l.port).own ≡ [];
+  count : length (g.K.FrameKeeper.out l.keeper) ≡ length (g.K.FrameKeeper.out l.fn.keeper);
 }
 
 abbrev pub decreases-loop-frame : goal.decreases-loop-frame

@@ -1,5 +1,5 @@
 use Rattle.vb_slot.proofs.Freed.{steps_quiet}
-use Rattle.vb_slot.proofs.slot.SlotGuestSlot.call.Goals as goal
+use Rattle.vb_slot.proofs.slot.Slot.call.Goals as goal
 
 pub returns-in-Alloc : goal.returns-in-Alloc
 returns-in-Alloc g c = record { step = λ guest stands. rw c.in-Alloc.is (steps_quiet _ g.K.FrameKeeper.answers _ guest _ _ (c.alloc.ensures guest stands)) }
