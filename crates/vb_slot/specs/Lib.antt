@@ -1,0 +1,8 @@
+pub mod Line
+pub mod Stands
+pub mod Steps
+pub mod Replies
+pub mod Answered
+pub mod Slots
+pub mod Lives
+pub mod Spare

@@ -1,0 +1,37 @@
+-- How what a driver or a device answers is replied.
+use Rattle.std.specs.Prelude.{ℕ, Bool, Option, Some, None, Result, Ok, Err}
+use Rattle.vb_model.specs.declared.replies.Refusal.{Refusal}
+use Rattle.vb_model.specs.declared.replies.Reply.{Reply}
+use Rattle.vb_model.specs.declared.replies.Reply.TheVariants.{Done, Page, Posted, Taken, Empty, Finished, NotUsed, Reaped, Swept, Refused}
+use Rattle.vb_driver.specs.declared.answers.Posted.{Posted as PostedRequest}
+use Rattle.vb_driver.specs.declared.answers.Reaped.{Reaped as ReapedRequest}
+
+abbrev pub taken_reply : Result (Option ℕ) Refusal → Reply
+taken_reply (Ok None) = Empty
+taken_reply (Ok (Some head)) = Taken head
+taken_reply (Err why) = Refused why
+
+abbrev pub finished_reply : Result ℕ Refusal → Reply
+finished_reply (Ok head) = Finished head
+finished_reply (Err why) = Refused why
+
+abbrev pub swept_reply : Result Bool Refusal → Reply
+swept_reply (Ok freed) = Swept freed
+swept_reply (Err why) = Refused why
+
+abbrev pub page_reply : Result ℕ Refusal → Reply
+page_reply (Ok start) = Page start
+page_reply (Err why) = Refused why
+
+abbrev pub posted_reply : Result PostedRequest Refusal → Reply
+posted_reply (Ok posted) = Posted posted.head posted.pages
+posted_reply (Err why) = Refused why
+
+abbrev pub reaped_reply : Result (Option ReapedRequest) Refusal → Reply
+reaped_reply (Ok None) = NotUsed
+reaped_reply (Ok (Some reaped)) = Reaped reaped.head reaped.pages
+reaped_reply (Err why) = Refused why
+
+abbrev pub done_reply : {T : Type 0} → Result T Refusal → Reply
+done_reply (Ok x) = Done
+done_reply (Err why) = Refused why
