@@ -118,6 +118,13 @@ impl FrameTable {
         Ok(FrameTable { alloc, out, full })
     }
 
+    /// How many frames there are.
+    pub fn frames(&self) -> u32
+        ensures { result ≡ length self.now }
+    {
+        self.out.len() as u32
+    }
+
     /// How many frames are out.
     pub fn used(&self) -> u32
         ensures { result ≡ count_by (λ out. out) self.now }

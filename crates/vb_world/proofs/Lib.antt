@@ -1,0 +1,5 @@
+pub mod Guests
+pub mod Frames
+pub mod Calls
+pub mod Plugs
+pub mod Runs

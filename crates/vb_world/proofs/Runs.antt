@@ -1,0 +1,47 @@
+-- A run of a host goes on.
+use Rattle.std.proofs.Common.{◌≡◌, ℕ, zero, suc, ◌≤◌, Bool, true, List, [], ◌∷◌, ◌++◌, length, take, refl, sym, ap, subst, ◌∙◌, arith}
+use Rattle.vb_model.specs.declared.calls.Event.{Event}
+use Rattle.vb_model.specs.declared.replies.Reply.{Reply}
+use Rattle.vb_model.specs.World.{World, WorldStep, made}
+use Rattle.vb_model.specs.Run.{Steps, last_world}
+use Rattle.vb_model.specs.RunLaws.{steps-push, last_world-push}
+use Rattle.vb_model.specs.Safe.{IsSafeRun}
+use Rattle.vb_model.proofs.Runs.{run_is_safe}
+
+-- From the world w the events may get these replies and lead to a world for which Holds.
+pub record Ran (Holds : World → Type 0) (w : World) (events : List Event) (replies : List Reply) : Type 0 where
+  pub after : List World
+  pub steps : Steps w events replies after
+  pub holds : Holds (last_world w after)
+
+pub ran_none : {Holds : World → Type 0} (w : World) → Holds w → Ran Holds w [] []
+ran_none w holds = record { after = []; steps = tt; holds = holds }
+
+pub ran_on : {Holds New : World → Type 0} (w : World) (events : List Event) (replies : List Reply) (event : Event) (reply : Reply) → Ran Holds w events replies
+    → ((v : World) → Holds v → (new : World) × New new × WorldStep v event reply new) → Ran New w (events ++ event ∷ []) (replies ++ reply ∷ [])
+ran_on {New = New} w events replies event reply ran step =
+    let (new, holds, happens) = step (last_world w ran.after) ran.holds in
+    record {
+      after = ran.after ++ new ∷ [];
+      steps = steps-push w events replies ran.after event reply new ran.steps happens;
+      holds = subst New (sym (last_world-push w ran.after new)) holds;
+    }
+
+pub safe_run : {Holds : World → Type 0} (frames : ℕ) (spares : List Bool) (events : List Event) (replies : List Reply) → Ran Holds (made frames spares) events replies
+    → (last : World) × Holds last × IsSafeRun (made frames spares) events replies last
+safe_run frames spares events replies ran = (
+  last_world (made frames spares) ran.after,
+  ran.holds,
+  record {
+    after = ran.after;
+    steps = ran.steps;
+    ends = refl;
+    safe = run_is_safe frames spares (record { first = made frames spares; events = events; replies = replies; after = ran.after }) (refl, ran.steps);
+  },
+)
+
+pub take_whole : {A : Type 0} (n : ℕ) (xs : List A) → length xs ≤ n → take n xs ≡ xs
+take_whole zero [] l = refl
+take_whole (suc n) [] l = refl
+take_whole zero (x ∷ xs) l = absurd (omega (arith, l))
+take_whole (suc n) (x ∷ xs) l = ap (λ (ys : List _). x ∷ ys) (take_whole n xs (omega (arith, l)))

@@ -1,0 +1,30 @@
+use Rattle.std.proofs.Common.{sym, refl, arith, ◌∙◌, subst, ap, ◌≡◌, ◌<◌, length}
+use Rattle.vb_ram.specs.Part.{Part}
+use Rattle.vb_ram.specs.Pages.{Pages}
+use Rattle.vb_slot.specs.Spare.{IsSpare}
+use Rattle.vb_world.proofs.Plugs.{plugged, not_plugged, device_back, spare_of, first_removed, spare_like}
+use Rattle.vb_world.proofs.world.World.plug_first_spare.Goals as goal
+
+pub returns-in_default : goal.returns-in_default
+returns-in_default g c = λ w host. (w, host, not_plugged _ _ _ _ _ w _ _ _ host (omega (arith, c.requires.some, c.args.self.now.spares.ok)))
+
+pub new-requires-clause-spare : goal.new-requires-clause-spare
+new-requires-clause-spare g c =
+    let (w, host) = c.requires.world in
+    let first = first_removed c.args.self.now.spares.items c.remove-device.result c.remove-device.new.self.items (omega (arith, c.requires.some, c.args.self.now.spares.ok)) c.remove-device.ensures.value c.remove-device.ensures.items in
+    (spare_of _ _ _ _ _ w c.remove-device.result c.remove-device.new.self.items host first).spare.0
+
+pub returns-in-Ok-new : goal.returns-in-Ok-new
+returns-in-Ok-new g c = λ w host.
+    let first = first_removed c.args.self.now.spares.items c.remove-device.result c.remove-device.new.self.items (omega (arith, c.requires.some, c.args.self.now.spares.ok)) c.remove-device.ensures.value c.remove-device.ensures.items in
+    let new = c.insert_reserved.ensures in
+    let key = c.in-Ok.ensures.1 ∙ (c.vacant_key.ensures.value ∙ sym new.key) in
+    rw key (plugged _ _ _ _ _ w c.insert_reserved.result c.in-Ok-new.slot c.insert_reserved.new.self c.remove-device.result c.remove-device.new.self.items
+        c.args.config.pages c.args.config.queue_size c.args.config.processors host first new.key new.was_vacant new.updates new.len new.capacity _ (λ p spare. spare.1) c.in-Ok-new.ensures.ok)
+
+pub returns-in-Err : goal.returns-in-Err
+returns-in-Err g c = λ w host.
+    let some : 0 < length c.args.self.now.spares.items = omega (arith, c.requires.some, c.args.self.now.spares.ok) in
+    let first = first_removed c.args.self.now.spares.items c.remove-device.result c.remove-device.new.self.items some c.remove-device.ensures.value c.remove-device.ensures.items in
+    let back = device_back _ _ _ _ _ w c.remove-device.result c.in-Err.refused.device c.remove-device.new.self.items host first (λ p. spare_like p c.in-Err.ensures.err.0 c.in-Err.ensures.err.1) in
+    (w, rw c.put_first.ensures back, not_plugged _ _ _ _ _ w _ _ _ host some)

@@ -1,0 +1,9 @@
+use Rattle.std.proofs.Common.{sym}
+use Rattle.vb_world.proofs.Calls.{guest_query, no_guest_query}
+use Rattle.vb_world.proofs.world.World.query.Goals as goal
+
+pub returns-in-Some : goal.returns-in-Some
+returns-in-Some g c = λ w host. guest_query _ _ _ _ _ w c.args.guest c.in-Some.slot.now _ _ host (sym c.in-Some.ensures) c.query.ensures.answer
+
+pub returns-in-None : goal.returns-in-None
+returns-in-None g c = λ w host. no_guest_query _ _ _ _ _ w c.args.guest _ host (sym c.in-None.ensures)

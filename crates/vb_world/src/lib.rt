@@ -1,0 +1,6 @@
+//! All guests of a host, and what happens to them.
+#![tactic(auto)]
+
+mod world;
+
+pub use world::World;

@@ -1,0 +1,176 @@
+// A host: its frames, its guests, and the devices that no guest has yet.
+
+ghost use Rattle.std.specs.Prelude.{◌≡◌, ◌<◌, ◌≤◌, ℕ, true, All, IfOk, IfErr, OnErr, map, vec_len, vec_capacity, ◌∷◌, List, Bool, IsTrue};
+ghost use Rattle.vb_model.specs.Brought.{is_brought, is_call_brought, is_query_brought};
+ghost use Rattle.vb_model.specs.Safe.{IsSafeRun};
+ghost use Rattle.vb_model.specs.World.{World as Model, WorldStep, PlugsIn, made};
+ghost use Rattle.vb_model.specs.declared.calls.Event.TheVariants.{Plug, Guest as OnGuest, Query as Asking, Frames as CountFrames};
+ghost use Rattle.vb_model.specs.Limits.{is_config, max_guests};
+ghost use Rattle.slab.specs.Slab.{slab_len};
+ghost use Rattle.vb_slot.specs.Spare.{IsSpare};
+ghost use Rattle.vb_world.specs.Hosts.{IsWorld};
+
+use slab::Slab;
+use std::alloc::{AllocError, Global};
+use vb_device::Device;
+use vb_frames::FrameTable;
+use vb_model::limits::MAX_GUESTS;
+use vb_model::{Call, Event, Query, Refusal, Reply};
+use vb_ram::Config;
+use vb_slot::{GuestSlot, Slot};
+
+/// A host with its frames, its guests, and the devices that no guest has yet.
+#[derive(Drop)]
+pub struct World {
+    table: FrameTable,
+    slots: Slab<Slot>,
+    spares: Vec<Box<dyn Device + Send>>,
+}
+
+/// Puts a device before the others, for which there is room.
+fn put_first(devices: &mut Vec<Box<dyn Device + Send>>, device: Box<dyn Device + Send>)
+    requires room { vec_len devices.old < vec_capacity devices.old }
+    ensures { devices.new.items ≡ device ∷ devices.old.items }
+{
+    match devices.insert(0, device) {
+        Ok(()) => {}
+        Err(_) => unreachable!(),
+    }
+}
+
+impl World {
+    /// A host of so many frames, 1 to 65,536, without guests. A plug takes the first of the spare
+    /// devices that are left. Want of memory is the only refusal.
+    pub fn new(
+        alloc: Global,
+        frames: u32,
+        spares: Vec<Box<dyn Device + Send>>,
+    ) -> Result<World, AllocError>
+        requires some { 0 < frames }
+        requires few { frames ≤ 65536 }
+        requires spares { All (λ d. IsSpare (mem d) (part d)) spares.items }
+        ensures { IfOk result (λ world. IsWorld mem part world (made frames (map (λ d. (part d).paced) spares.items))) }
+    {
+        Ok(World {
+            table: FrameTable::new(alloc, frames)?,
+            slots: Slab::with_capacity(alloc, MAX_GUESTS as usize)?,
+            spares,
+        })
+    }
+
+    /// How many frames back pages, and how many don't.
+    fn count_frames(&self) -> Reply
+        ensures { (w : Model) → IsWorld mem part self.now w → WorldStep w CountFrames result w }
+    {
+        let used = self.table.used();
+        Reply::Frames {
+            used,
+            free: self.table.frames() - used,
+        }
+    }
+
+    /// A call on a guest.
+    fn call(&mut self, alloc: Global, guest: u32, call: &Call) -> Reply
+        requires world { (w : Model) × IsWorld mem part self.old w }
+        requires brought { is_call_brought call.now ≡ true }
+        ensures { (w : Model) → IsWorld mem part self.old w → (new : Model) × IsWorld mem part self.new new × WorldStep w (OnGuest guest call.now) result new }
+    {
+        match self.slots.get_mut(guest as usize) {
+            Some(slot) => slot.call(alloc, &mut self.table, call),
+            None => Reply::Refused(Refusal::NoGuest),
+        }
+    }
+
+    /// A question about a guest.
+    fn query(&self, alloc: Global, guest: u32, query: &Query) -> Reply
+        requires world { (w : Model) × IsWorld mem part self.now w }
+        requires brought { is_query_brought query.now ≡ true }
+        ensures { (w : Model) → IsWorld mem part self.now w → WorldStep w (Asking guest query.now) result w }
+    {
+        match self.slots.get(guest as usize) {
+            Some(slot) => slot.query(alloc, query),
+            None => Reply::Refused(Refusal::NoGuest),
+        }
+    }
+
+    /// A guest is plugged in, with the first spare device.
+    fn plug(&mut self, alloc: Global, pages: u32, queue_size: u32, processors: u32) -> Reply
+        requires world { (w : Model) × IsWorld mem part self.old w }
+        ensures { (w : Model) → IsWorld mem part self.old w → (new : Model) × IsWorld mem part self.new new × WorldStep w (Plug pages queue_size processors) result new }
+    {
+        let Some(config) = Config::new(pages, queue_size, processors) else {
+            return Reply::Refused(Refusal::BadConfig);
+        };
+        if self.slots.len() >= MAX_GUESTS as usize {
+            return Reply::Refused(Refusal::TooMany);
+        }
+        if self.spares.is_empty() {
+            return Reply::Refused(Refusal::NoDevice);
+        }
+        self.plug_first_spare(alloc, config)
+    }
+
+    /// A guest of this configuration is plugged in, where there is a number for it and a device.
+    fn plug_first_spare(&mut self, alloc: Global, config: Config) -> Reply
+        requires world { (w : Model) × IsWorld mem part self.old w }
+        requires config { is_config config.pages config.queue_size config.processors ≡ true }
+        requires few { slab_len self.old.slots < max_guests }
+        requires some { 0 < vec_len self.old.spares }
+        ensures { (w : Model) → IsWorld mem part self.old w → (new : Model) × IsWorld mem part self.new new × PlugsIn config.pages config.queue_size config.processors w.spares w result new }
+    {
+        let Ok(guest) = u32::try_from(self.slots.vacant_key()) else {
+            return Reply::Refused(Refusal::NoMemory);
+        };
+        let device = self.spares.remove(0);
+        match Slot::new(alloc, device, config) {
+            Ok(slot) => {
+                self.slots.insert_reserved(slot);
+                Reply::Plugged { guest }
+            }
+            Err(refused) => {
+                put_first(&mut self.spares, refused.device);
+                Reply::Refused(Refusal::NoMemory)
+            }
+        }
+    }
+
+    /// What one event is answered, and what it leaves.
+    pub fn step(&mut self, alloc: Global, event: &Event) -> Reply
+        requires world { (w : Model) × IsWorld mem part self.old w }
+        requires brought { is_brought event.now ≡ true }
+        ensures { (w : Model) → IsWorld mem part self.old w → (new : Model) × IsWorld mem part self.new new × WorldStep w event.now result new }
+    {
+        match event {
+            Event::Plug {
+                pages,
+                queue_size,
+                processors,
+            } => self.plug(alloc, *pages, *queue_size, *processors),
+            Event::Guest { guest, call } => self.call(alloc, *guest, call),
+            Event::Query { guest, query } => self.query(alloc, *guest, query),
+            Event::Frames => self.count_frames(),
+            Event::Unplug { .. } | Event::Restart { .. } | Event::Balance { .. } => unreachable!(),
+        }
+    }
+
+    /// Lets events happen, one after the other, and gives what each is answered.
+    ///
+    /// Want of memory for the replies is the only refusal, and comes before the first event.
+    pub fn run(&mut self, alloc: Global, events: &[Event]) -> Result<Vec<Reply>, AllocError>
+        requires made { (frames : ℕ) × (spares : List Bool) × IsWorld mem part self.old (made frames spares) }
+        requires brought { All (λ event. IsTrue (is_brought event)) events.now }
+        ensures run { (frames : ℕ) (spares : List Bool) → IsWorld mem part self.old (made frames spares)
+            → IfOk result (λ replies. (last : Model) × IsWorld mem part self.new last × IsSafeRun (made frames spares) events.now replies.items last) }
+        ensures err { (w : Model) → IsWorld mem part self.old w → OnErr result (IsWorld mem part self.new w) }
+    {
+        let mut replies = Vec::with_capacity(alloc, events.len())?;
+        for event in events {
+            let reply = self.step(alloc, event);
+            match replies.push(reply) {
+                Ok(()) => {}
+                Err(_) => unreachable!(),
+            }
+        }
+        Ok(replies)
+    }
+}
