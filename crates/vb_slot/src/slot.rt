@@ -9,6 +9,7 @@ ghost use Rattle.vb_slot.specs.Steps.{AreOut, Steps};
 
 use crate::device::{finish, set_target, take};
 use crate::driver::{alloc, inflate, reap};
+use crate::lives::init;
 use crate::memory::{read, write};
 use crate::new::NoSlot;
 use crate::port::BoxedPort;
@@ -61,6 +62,7 @@ impl Slot {
             → Steps (stands_for mem part self.new) K.answers (K.out keeper.old) (K.out keeper.new) g call.now result }
     {
         match call {
+            Call::Init { features } => init(&mut self.driver, &mut self.port, keeper, *features),
             Call::Alloc { cpu, order } => alloc(&mut self.driver, &self.port, *cpu, *order),
             Call::Read { page, offset, len } => {
                 read(heap, &self.driver, &self.port, *page, *offset, *len)

@@ -3,3 +3,4 @@ pub mod Frames
 pub mod Calls
 pub mod Plugs
 pub mod Runs
+pub mod Brought

@@ -24,3 +24,6 @@ returns-in-Finish g c = record { step = λ guest stands. rw c.in-Finish.is (c.fi
 
 pub returns-in-SetTarget : goal.returns-in-SetTarget
 returns-in-SetTarget g c = record { step = λ guest stands. rw c.in-SetTarget.is (steps_quiet _ g.K.FrameKeeper.answers _ guest _ _ (c.set_target.ensures _ guest stands)) }
+
+pub returns-in-Init : goal.returns-in-Init
+returns-in-Init g c = record { step = λ guest stands. rw c.in-Init.is (c.init.ensures guest stands) }

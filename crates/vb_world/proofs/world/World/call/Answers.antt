@@ -3,7 +3,11 @@ use Rattle.std.specs.Prelude.{count_by}
 use Rattle.vb_slot.specs.Steps.{is_frame}
 use Rattle.vb_slot.proofs.SameFrames.{same_frames}
 use Rattle.vb_world.proofs.Calls.{guest_step, guest_frames, guest_of, no_guest_step}
+use Rattle.vb_world.proofs.Brought.{call_answered}
 use Rattle.vb_world.proofs.world.World.call.Goals as goal
+
+pub call-requires-clause-answered : goal.call-requires-clause-answered
+call-requires-clause-answered g c = call_answered _ c.requires.brought
 
 pub call-requires-clause-held : goal.call-requires-clause-held
 call-requires-clause-held g c =

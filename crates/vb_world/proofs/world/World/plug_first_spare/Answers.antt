@@ -20,11 +20,11 @@ returns-in-Ok-new g c = λ w host.
     let new = c.insert_reserved.ensures in
     let key = c.in-Ok.ensures.1 ∙ (c.vacant_key.ensures.value ∙ sym new.key) in
     rw key (plugged _ _ _ _ _ w c.insert_reserved.result c.in-Ok-new.slot c.insert_reserved.new.self c.remove-device.result c.remove-device.new.self.items
-        c.args.config.pages c.args.config.queue_size c.args.config.processors host first new.key new.was_vacant new.updates new.len new.capacity _ (λ p spare. spare.1) c.in-Ok-new.ensures.ok)
+        c.args.config.pages c.args.config.queue_size c.args.config.processors host first new.key new.was_vacant new.updates new.len new.capacity _ (λ p spare. spare.1) c.in-Ok-new.ensures.made)
 
 pub returns-in-Err : goal.returns-in-Err
 returns-in-Err g c = λ w host.
     let some : 0 < length c.args.self.now.spares.items = omega (arith, c.requires.some, c.args.self.now.spares.ok) in
     let first = first_removed c.args.self.now.spares.items c.remove-device.result c.remove-device.new.self.items some c.remove-device.ensures.value c.remove-device.ensures.items in
-    let back = device_back _ _ _ _ _ w c.remove-device.result c.in-Err.refused.device c.remove-device.new.self.items host first (λ p. spare_like p c.in-Err.ensures.err.0 c.in-Err.ensures.err.1) in
+    let back = device_back _ _ _ _ _ w c.remove-device.result c.in-Err.refused.device c.remove-device.new.self.items host first (λ p. spare_like p c.in-Err.ensures.refused.0 c.in-Err.ensures.refused.1) in
     (w, rw c.put_first.ensures back, not_plugged _ _ _ _ _ w _ _ _ host some)
