@@ -1,6 +1,6 @@
 //! The lines of a script: for each its words, in order.
 
-ghost use Rattle.std.specs.Prelude.{◌≡◌, ◌≢◌, ◌≤◌, IfOk, IsOk, IsTrue, MatchOption};
+ghost use Rattle.std.specs.Prelude.{◌≡◌, ◌≢◌, ◌≤◌, IfOk, IsOk, IsTrue, IfSome, MatchOption, true};
 ghost use Rattle.hex.specs.Hex.{decode_of, decode_sized};
 ghost use Rattle.vb_sim.specs.Numbers.{IsByteWord, ShowsBits};
 ghost use Rattle.vb_model.specs.Brought.{is_brought};
@@ -77,7 +77,9 @@ pub fn host(line: &[u8]) -> Result<u32, LineFault>
 
 /// The pace of a spare device, if the line is about one at all; a pace that isn't there so far
 /// makes a bad line.
-pub fn spare(line: &[u8]) -> Result<Option<Pace>, LineFault> {
+pub fn spare(line: &[u8]) -> Result<Option<Pace>, LineFault>
+    ensures { IfOk result (λ found. IfSome found (λ pace. is_pace_brought pace ≡ true)) }
+{
     let pace = any_spare(line)?;
     match pace {
         Some(pace) if !pace.is_brought() => Err(LineFault::Bad),

@@ -1,5 +1,6 @@
 //! The run of a script, from its bytes to the exit status.
 
+use crate::host::Host;
 use crate::play::Play;
 use crate::replies::write_reply;
 use crate::script::{Script, ScriptFault, parse};
@@ -76,10 +77,26 @@ impl From<io::Error> for RunFault {
     }
 }
 
-/// Reads a script from `input`, runs it on `host`, and writes a line for each event to `output`.
-/// Answers the exit status; where it is 1 or 3, `errors` has a line that says why, and `output`
-/// nothing.
-pub fn run_script<P, R, O, E>(alloc: Global, host: &mut P, input: R, output: O, mut errors: E) -> u8
+/// Reads a script from `input`, makes its host and devices, lets its events happen, and writes a
+/// line for each to `output`. Answers the exit status; where it is 1 or 3, `errors` has a line that
+/// says why, and `output` nothing.
+pub fn run_script<R, O, E>(alloc: Global, input: R, output: O, errors: E) -> u8
+where
+    R: Read + Drop,
+    O: Write + Drop,
+    E: Write + Drop,
+{
+    run_script_on(alloc, &mut Host, input, output, errors)
+}
+
+/// The same, on a host that is passed.
+pub fn run_script_on<P, R, O, E>(
+    alloc: Global,
+    host: &mut P,
+    input: R,
+    output: O,
+    mut errors: E,
+) -> u8
 where
     P: Play,
     R: Read + Drop,

@@ -1,8 +1,9 @@
 //! Scripts: a host, its spare devices, and what happens.
 
-ghost use Rattle.std.specs.Prelude.{◌≡◌, ◌<◌, ◌≤◌, length, vec_len, All, IsTrue, IfOk};
+ghost use Rattle.std.specs.Prelude.{◌≡◌, ◌<◌, ◌≤◌, length, vec_len, All, IsTrue, IfOk, true};
 ghost use Rattle.std.specs.Iterator.{at_most};
 ghost use Rattle.vb_model.specs.Brought.{is_brought};
+ghost use Rattle.vb_sim.specs.Lines.{is_pace_brought};
 
 use crate::lines::{Pace, event, host, spare};
 use crate::words::LineFault;
@@ -25,6 +26,7 @@ pub struct Script {
     pub ghost some_frames: { 1 ≤ frames },
     pub ghost frames_in_bound: { frames ≤ 65_536 },
     pub ghost spares_in_bound: { vec_len spares ≤ 64 },
+    pub ghost paces_brought: { All (λ pace. IsTrue (is_pace_brought pace)) spares.items },
     pub ghost all_brought: { All (λ event. IsTrue (is_brought event)) events.items },
 }
 
@@ -154,7 +156,9 @@ impl Script {
     }
 
     /// Adds a spare device. There may be no event before it, and not too many beside it.
-    fn add_spare(&mut self, pace: Pace) -> Result<(), LineFault> {
+    fn add_spare(&mut self, pace: Pace) -> Result<(), LineFault>
+        requires { is_pace_brought pace ≡ true }
+    {
         if !self.events.is_empty() || self.spares.len() >= MAX_SPARES {
             return Err(LineFault::Bad);
         }

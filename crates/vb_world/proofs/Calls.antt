@@ -120,5 +120,5 @@ module _ {S D : Type 0} (Stand : S → Guest → Type 0) (Spare : D → Bool →
       let has = guest_of n s host e in
       let step = steps has.guest has.stands in
       let gives = same_gives w.frames (λ f. is_out out f ≡ true) (IsOut w) step.claims (λ x l h. out_backs w out host.backed x h) (λ x l h. backs_out w out host.backed x h)
-          (subst (λ (k : ℕ). Gives k (λ f. is_out out f ≡ true) step.claims) host.frames (table_gives step.claims out step.answered)) in
+      (subst (λ (k : ℕ). Gives k (λ f. is_out out f ≡ true) step.claims) host.frames (table_gives step.claims out step.answered)) in
       (put_guest n (Some step.new) w, host_with n s s' out' call reply host e has step, rw has.there (step.claims, step.new, gives, step.step, refl))

@@ -95,5 +95,5 @@ out_within (b ∷ bs) (suc f) e = omega (arith, out_within bs f e)
 pub used_are_out : (w : World) (out : List Bool) → ((f : ℕ) → backing_of f w.guests ≡ one_if (is_out out f)) → used_frames w ≡ count_by (λ b. b) out
 used_are_out w out backed =
     let guests = below_guests (length out) _ refl (λ g. refl) w.guests
-        (λ i p f g there has. out_within out f (backs_out w out backed f (i, p, record { guest = g; is_there = there; has = has }))) in
+    (λ i p f g there has. out_within out f (backs_out w out backed f (i, p, record { guest = g; is_there = there; has = has }))) in
     sym guests ∙ (below_same (length out) (λ f. backing_of f w.guests) (λ f. one_if (is_out out f)) (λ f l. backed f) ∙ below_flags out)

@@ -3,4 +3,4 @@
 
 mod world;
 
-pub use world::World;
+pub use world::{World, add_spare};

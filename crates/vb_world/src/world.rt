@@ -1,6 +1,6 @@
 // A host: its frames, its guests, and the devices that no guest has yet.
 
-ghost use Rattle.std.specs.Prelude.{◌≡◌, ◌<◌, ◌≤◌, ℕ, true, All, IfOk, IfErr, OnErr, map, vec_len, vec_capacity, ◌∷◌, List, Bool, IsTrue};
+ghost use Rattle.std.specs.Prelude.{◌≡◌, ◌<◌, ◌≤◌, ℕ, true, All, IfOk, IfErr, OnErr, OnOk, map, ◌++◌, [], vec_len, vec_capacity, ◌∷◌, List, Bool, IsTrue};
 ghost use Rattle.vb_model.specs.Brought.{is_brought, is_call_brought, is_query_brought};
 ghost use Rattle.vb_model.specs.Safe.{IsSafeRun};
 ghost use Rattle.vb_model.specs.World.{World as Model, WorldStep, PlugsIn, made};
@@ -25,6 +25,20 @@ pub struct World {
     table: FrameTable,
     slots: Slab<Slot>,
     spares: Vec<Box<dyn Device + Send>>,
+}
+
+/// Adds a device behind the spare ones. Refused for want of memory alone; the device is gone then.
+pub fn add_spare(
+    spares: &mut Vec<Box<dyn Device + Send>>,
+    device: Box<dyn Device + Send>,
+) -> Result<(), AllocError>
+    requires spares { All (λ d. IsSpare (mem d) (part d)) spares.old.items }
+    requires device { IsSpare (mem device) (part device) }
+    ensures spares { All (λ d. IsSpare (mem d) (part d)) spares.new.items }
+    ensures added { OnOk result (spares.new.items ≡ spares.old.items ++ device ∷ []) }
+{
+    spares.push(device)?;
+    Ok(())
 }
 
 /// Puts a device before the others, for which there is room.

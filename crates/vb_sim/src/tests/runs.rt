@@ -3,7 +3,7 @@
 ghost use Rattle.std.specs.Prelude.{◌≡◌, vec_len, IfOk};
 
 use crate::play::Play;
-use crate::run::run_script;
+use crate::run::run_script_on;
 use crate::script::Script;
 use std::alloc::{AllocError, Global};
 use std::io;
@@ -90,7 +90,7 @@ fn run(alloc: Global, text: &[u8], fails: bool, room: usize) -> Outcome {
         text: &mut errors,
         room,
     };
-    let status = run_script(alloc, &mut Empty, input, out, err);
+    let status = run_script_on(alloc, &mut Empty, input, out, err);
     Outcome {
         output,
         errors,
@@ -166,7 +166,7 @@ impl Read for LineFeeds {
 fn status_of_line_feeds(rt: &impl Abort, alloc: Global, left: usize) -> u8 {
     let (mut output, mut errors) = (Vec::new(alloc), Vec::new(alloc));
     let input = LineFeeds { left };
-    let status = run_script(alloc, &mut Empty, input, &mut output, &mut errors);
+    let status = run_script_on(alloc, &mut Empty, input, &mut output, &mut errors);
     assert!(rt; output.is_empty() && errors.is_empty());
     status
 }

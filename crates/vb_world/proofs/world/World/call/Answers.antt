@@ -15,11 +15,17 @@ call-requires-clause-held g c =
     let is = sym c.in-Some.ensures.value in
     let has = guest_of _ _ _ _ _ w c.args.guest c.in-Some.slot.now host is in
     λ guest stands frame.
-      let same = ap (λ (frames : List (Option ℕ)). count_by (is_frame frame) frames) (same_frames has.stands stands) in
-      omega (arith, same, guest_frames _ _ _ _ _ w c.args.guest c.in-Some.slot.now host is has frame)
+    let same = ap (λ (frames : List (Option ℕ)). count_by (is_frame frame) frames) (same_frames has.stands stands) in
+    omega (arith, same, guest_frames _ _ _ _ _ w c.args.guest c.in-Some.slot.now host is has frame)
 
 pub returns-in-Some : goal.returns-in-Some
 returns-in-Some g c = λ w host. guest_step _ _ _ _ _ w c.args.guest c.in-Some.slot.now c.call.new.self _ _ _ host (sym c.in-Some.ensures.value) c.call.ensures.step
 
 pub returns-in-None : goal.returns-in-None
 returns-in-None g c = λ w host. (w, host, no_guest_step _ _ _ _ _ w c.args.guest _ host (sym c.in-None.ensures.value))
+
+pub call-requires-clause-stands : goal.call-requires-clause-stands
+call-requires-clause-stands g c =
+    let (w, host) = c.requires.world in
+    let has = guest_of _ _ _ _ _ w c.args.guest c.in-Some.slot.now host (sym c.in-Some.ensures.value) in
+    (has.guest, has.stands)

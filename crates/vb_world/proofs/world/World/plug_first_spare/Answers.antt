@@ -20,7 +20,7 @@ returns-in-Ok-new g c = λ w host.
     let new = c.insert_reserved.ensures in
     let key = c.in-Ok.ensures.1 ∙ (c.vacant_key.ensures.value ∙ sym new.key) in
     rw key (plugged _ _ _ _ _ w c.insert_reserved.result c.in-Ok-new.slot c.insert_reserved.new.self c.remove-device.result c.remove-device.new.self.items
-        c.args.config.pages c.args.config.queue_size c.args.config.processors host first new.key new.was_vacant new.updates new.len new.capacity _ (λ p spare. spare.1) c.in-Ok-new.ensures.made)
+    c.args.config.pages c.args.config.queue_size c.args.config.processors host first new.key new.was_vacant new.updates new.len new.capacity _ (λ p spare. spare.1) c.in-Ok-new.ensures.made)
 
 pub returns-in-Err : goal.returns-in-Err
 returns-in-Err g c = λ w host.

@@ -1,5 +1,5 @@
 use Rattle.std.proofs.Common.{sym}
-use Rattle.vb_world.proofs.Calls.{guest_query, no_guest_query}
+use Rattle.vb_world.proofs.Calls.{guest_of, guest_query, no_guest_query}
 use Rattle.vb_world.proofs.Brought.{query_answered}
 use Rattle.vb_world.proofs.world.World.query.Goals as goal
 
@@ -11,3 +11,9 @@ returns-in-Some g c = λ w host. guest_query _ _ _ _ _ w c.args.guest c.in-Some.
 
 pub returns-in-None : goal.returns-in-None
 returns-in-None g c = λ w host. no_guest_query _ _ _ _ _ w c.args.guest _ host (sym c.in-None.ensures)
+
+pub query-requires-clause-stands : goal.query-requires-clause-stands
+query-requires-clause-stands g c =
+    let (w, host) = c.requires.world in
+    let has = guest_of _ _ _ _ _ w c.args.guest c.in-Some.slot.now host (sym c.in-Some.ensures) in
+    (has.guest, has.stands)

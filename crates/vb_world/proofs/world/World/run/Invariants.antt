@@ -11,7 +11,7 @@ invariant-loop-event g l =
     record {
       ran : (w : World) → IsWorld (λ b. (goal.Device-dyn g (b.vtable, b.value)).GuestBytes.mem b.value) (λ b. (goal.Device-dyn g (b.vtable, b.value)).GuestBytes.part b.value) l.fn.self w
           → Ran (IsWorld (λ b. (goal.Device-dyn g (b.vtable, b.value)).GuestBytes.mem b.value) (λ b. (goal.Device-dyn g (b.vtable, b.value)).GuestBytes.part b.value) l.self) w
-              (take l.event-index l.events) l.replies.items;
+          (take l.event-index l.events) l.replies.items;
       brought : All (λ event. IsTrue (is_brought event)) l.events;
       room : length l.events ≤ vec_capacity l.replies;
       count : vec_len l.replies ≡ l.event-index;

@@ -1,0 +1,38 @@
+//! Runs a script of events on a host and its guests.
+#![tactic(auto)]
+
+mod arguments;
+mod host;
+mod lines;
+mod names;
+mod play;
+mod replies;
+mod run;
+mod script;
+#[cfg(test)]
+mod tests;
+mod words;
+
+use arguments::{ArgumentsFault, USAGE, read_arguments};
+use run::{BAD_ARGUMENTS, RunFault, report, run_script};
+use std::env;
+use std::process::ExitCode;
+use std::rt::Env;
+
+fn main(rt: HostRuntime) -> ExitCode {
+    let status = match read_command_line(&rt) {
+        Ok(()) => run_script(rt.alloc(), rt.reader(), rt.stdout(), rt.stderr()),
+        Err(ArgumentsFault::Memory) => report(&RunFault::Memory, &mut rt.stderr()),
+        Err(ArgumentsFault::Refused) => {
+            let _ = eprintln!(rt; "{USAGE}");
+            BAD_ARGUMENTS
+        }
+    };
+    ExitCode::from(status)
+}
+
+/// Reads the command line that the program was given.
+fn read_command_line(rt: &(impl Env + AllocGlobal)) -> Result<(), ArgumentsFault> {
+    let words: Vec<String> = env::args(rt)?.collect(rt.alloc())?;
+    read_arguments(rt.alloc(), words.as_slice())
+}
