@@ -1,6 +1,8 @@
 // The host that a script's events happen on.
 
-ghost use Rattle.std.specs.Prelude.{◌≡◌, ◌≤◌, List, Bool, IfOk, All, vec_len};
+ghost use Rattle.std.specs.Prelude.{◌≡◌, ◌≤◌, List, Bool, IfOk, IsTrue, All, length, vec_len};
+ghost use Rattle.vb_model.specs.Brought.{is_brought};
+ghost use Rattle.vb_sim.specs.Lines.{is_pace_brought};
 ghost use Rattle.vb_model.specs.World.{World as Model, made};
 ghost use Rattle.vb_model.specs.Safe.{IsSafeRun};
 
@@ -9,7 +11,7 @@ use crate::play::Play;
 use crate::script::Script;
 use std::alloc::{AllocError, Global};
 use vb_device::{Device, ImmediateDevice};
-use vb_model::Reply;
+use vb_model::{Event, Reply};
 use vb_world::{World, add_spare};
 
 /// A host of frames, with guests behind balloon devices.
@@ -18,18 +20,27 @@ pub struct Host;
 
 impl Play for Host {
     fn play(&mut self, alloc: Global, script: &Script) -> Result<Vec<Reply>, AllocError> {
-        play_script(alloc, script)
+        play_events(alloc, script.frames, &script.spares, &script.events)
     }
 }
 
-/// Makes a script's host and its devices, and lets its events happen: what they are answered is a
-/// run of the definitions, each state of which is safe.
-pub fn play_script(alloc: Global, script: &Script) -> Result<Vec<Reply>, AllocError>
-    ensures run { IfOk result (λ replies. (spares : List Bool) × (last : Model) × IsSafeRun (made script.now.frames spares) script.now.events.items replies.items last) }
-    ensures count { IfOk result (λ replies. vec_len replies ≡ vec_len script.now.events) }
+/// Makes a host of so many frames, 1 to 65,536, with spare devices of these paces, and lets events
+/// happen: what they are answered is a run of the definitions, each state of which is safe.
+fn play_events(
+    alloc: Global,
+    frames: u32,
+    paces: &[Pace],
+    events: &[Event],
+) -> Result<Vec<Reply>, AllocError>
+    requires some { 1 ≤ frames }
+    requires few { frames ≤ 65_536 }
+    requires paces { All (λ pace. IsTrue (is_pace_brought pace)) paces.now }
+    requires events { All (λ event. IsTrue (is_brought event)) events.now }
+    ensures run { IfOk result (λ replies. (spares : List Bool) × (last : Model) × IsSafeRun (made frames spares) events.now replies.items last) }
+    ensures count { IfOk result (λ replies. vec_len replies ≡ length events.now) }
 {
-    let mut spares: Vec<Box<dyn Device + Send>> = Vec::with_capacity(alloc, script.spares.len())?;
-    for pace in &script.spares {
+    let mut spares: Vec<Box<dyn Device + Send>> = Vec::with_capacity(alloc, paces.len())?;
+    for pace in paces {
         match pace {
             Pace::Immediate => {
                 let device = Box::new(alloc, ImmediateDevice::new(alloc))?;
@@ -38,6 +49,6 @@ pub fn play_script(alloc: Global, script: &Script) -> Result<Vec<Reply>, AllocEr
             Pace::Paced => unreachable!(),
         }
     }
-    let mut world = World::new(alloc, script.frames, spares)?;
-    world.run(alloc, &script.events)
+    let mut world = World::new(alloc, frames, spares)?;
+    world.run(alloc, events)
 }

@@ -45,3 +45,12 @@ take_whole zero [] l = refl
 take_whole (suc n) [] l = refl
 take_whole zero (x ∷ xs) l = absurd (omega (arith, l))
 take_whole (suc n) (x ∷ xs) l = ap (λ (ys : List _). x ∷ ys) (take_whole n xs (omega (arith, l)))
+
+-- each event has one reply
+pub as_many : (w : World) (events : List Event) (replies : List Reply) (after : List World) → Steps w events replies after → length replies ≡ length events
+as_many w [] [] [] s = refl
+as_many w (e ∷ events) (r ∷ replies) (next ∷ after) s = ap suc (as_many next events replies after s.1)
+as_many w [] [] (next ∷ after) s = refl
+as_many w [] (r ∷ replies) after s = absurd s
+as_many w (e ∷ events) [] after s = absurd s
+as_many w (e ∷ events) (r ∷ replies) [] s = absurd s
