@@ -7,7 +7,7 @@ use std::alloc::Global;
 use std::test::Fail;
 use vb_model::{Place, Refusal};
 use vb_ram::{Config, Frame, GuestBytes, Ram, RamFault};
-use vb_status::{Features, MemoryPort, Port, Status};
+use vb_status::{Features, MemoryPort, Port};
 
 /// All that a device offers.
 const ALL: u64 = 0x1_0000_0027;
@@ -27,90 +27,116 @@ fn driver(alloc: Global) -> Result<Driver, Fail> {
     Ok(Driver::new(alloc, config)?)
 }
 
-fn init(driver: &mut Driver, port: &mut MemoryPort, features: u64) -> Result<(), Refusal> {
-    if port.pages() < 64 {
-        return Err(Refusal::OutOfRam);
+/// A driver, and the port through which it reaches its device.
+#[derive(Drop)]
+struct Guest {
+    driver: Driver,
+    port: MemoryPort,
+}
+
+impl Guest {
+    fn new(alloc: Global, backed: u32) -> Result<Guest, Fail> {
+        Ok(Guest {
+            driver: driver(alloc)?,
+            port: port_over(alloc, backed)?,
+        })
     }
-    driver.init(port, Features::from_bits_retain(features))
-}
 
-fn reset(driver: &mut Driver, port: &mut MemoryPort) {
-    driver.reset(port);
-}
-
-fn inflate(driver: &mut Driver, port: &mut MemoryPort, n: u32) -> Result<Posted, Refusal> {
-    if port.pages() < 64 || !all_backed(port) {
-        return Err(Refusal::OutOfRam);
-    }
-    driver.inflate(port, n)
-}
-
-fn reap(driver: &mut Driver, port: &mut MemoryPort) -> Result<Option<Reaped>, Refusal> {
-    if port.pages() < 64 {
-        return Err(Refusal::OutOfRam);
-    }
-    driver.reap(port, 0)
-}
-
-/// The first element of queue 0's used ring is this head, and the ring's index is 1: where the
-/// queue has 8 descriptors the used ring begins at byte 152.
-fn finish_first(port: &mut MemoryPort, head: u8) -> Result<(), RamFault> {
-    port.write(0, 156, &[head, 0, 0, 0, 0, 0, 0, 0])?;
-    port.write(0, 154, &[1, 0])
-}
-
-/// The first two page numbers of a buffer of queue 0, which has 1024 bytes.
-fn first_numbers(port: &MemoryPort, buffer: usize) -> [u8; 8] {
-    let mut numbers = [0; 8];
-    if buffer < 4 {
-        let _ = port.read(4, 1024 * buffer, &mut numbers);
-    }
-    numbers
-}
-
-fn has_places(driver: &Driver, first: u32, last: u32, place: Place) -> bool {
-    for page in first..=last {
-        if driver.place(page) != place {
-            return false;
+    fn init(&mut self, features: u64) -> Result<(), Refusal> {
+        if self.port.pages() < 64 {
+            return Err(Refusal::OutOfRam);
         }
+        self.driver
+            .init(&mut self.port, Features::from_bits_retain(features))
     }
-    true
-}
 
-fn status(port: &MemoryPort) -> u8 {
-    port.status().bits()
+    fn reset(&mut self) {
+        self.driver.reset(&mut self.port);
+    }
+
+    fn inflate(&mut self, n: u32) -> Result<Posted, Refusal> {
+        if self.port.pages() < 64 || !all_backed(&mut self.port) {
+            return Err(Refusal::OutOfRam);
+        }
+        self.driver.inflate(&mut self.port, n)
+    }
+
+    fn reap(&mut self) -> Result<Option<Reaped>, Refusal> {
+        if self.port.pages() < 64 {
+            return Err(Refusal::OutOfRam);
+        }
+        self.driver.reap(&mut self.port, 0)
+    }
+
+    fn set_target(&mut self, pages: u32) {
+        self.port.set_target(pages);
+    }
+
+    fn status(&self) -> u8 {
+        self.port.status().bits()
+    }
+
+    /// Whether all pages from the first to the last are at a place.
+    fn are_at(&self, first: u32, last: u32, place: Place) -> bool {
+        for page in first..=last {
+            if self.driver.place(page) != place {
+                return false;
+            }
+        }
+        true
+    }
+
+    /// The device finishes the first request of queue 0: its head is the first element of the used
+    /// ring, which begins at byte 152 of a queue of 8 descriptors, and the ring's index is 1.
+    fn finish_first(&mut self, head: u8) -> bool {
+        let element = [head, 0, 0, 0, 0, 0, 0, 0];
+        self.port.write(0, 156, &element).is_ok() && self.port.write(0, 154, &[1, 0]).is_ok()
+    }
+
+    /// The first two page numbers of one of the first four buffers of queue 0.
+    fn first_numbers(&self, buffer: u8) -> [u8; 8] {
+        let mut numbers = [0; 8];
+        let _ = self.port.read(4, 1024 * usize::from(buffer), &mut numbers);
+        numbers
+    }
+
+    /// Initialises the device and lends pages 16 to 19.
+    fn lend_four(&mut self) -> bool {
+        self.set_target(4);
+        self.init(ALL) == Ok(())
+            && self.inflate(4) == Ok(Posted { head: 0, pages: 4 })
+            && self.finish_first(0)
+            && self.reap() == Ok(Some(Reaped { head: 0, pages: 4 }))
+    }
 }
 
 #[test]
 fn initialises_once(rt: HostRuntime) -> Result<(), Fail> {
-    let mut driver = driver(rt.alloc())?;
-    let mut port = port_over(rt.alloc(), 13)?;
-    assert!(rt; init(&mut driver, &mut port, ALL) == Ok(()));
-    assert_eq!(rt; status(&port), 15);
-    assert_eq!(rt; port.features().bits(), ALL);
-    assert!(rt; init(&mut driver, &mut port, ALL) == Err(Refusal::AlreadyUp));
-    assert_eq!(rt; status(&port), 15);
+    let mut guest = Guest::new(rt.alloc(), 13)?;
+    assert!(rt; guest.init(ALL) == Ok(()));
+    assert_eq!(rt; guest.status(), 15);
+    assert_eq!(rt; guest.port.features().bits(), ALL);
+    assert!(rt; guest.init(ALL) == Err(Refusal::AlreadyUp));
+    assert_eq!(rt; guest.status(), 15);
     Ok(())
 }
 
 #[test]
 fn needs_frames(rt: HostRuntime) -> Result<(), Fail> {
-    let mut driver = driver(rt.alloc())?;
-    let mut port = port_over(rt.alloc(), 0)?;
-    assert!(rt; init(&mut driver, &mut port, ALL) == Err(Refusal::NoFrame));
-    assert_eq!(rt; status(&port), 0);
-    let mut port = port_over(rt.alloc(), 12)?;
-    assert!(rt; init(&mut driver, &mut port, 0) == Err(Refusal::NoFrame));
-    assert_eq!(rt; status(&port), 0);
+    let mut bare = Guest::new(rt.alloc(), 0)?;
+    assert!(rt; bare.init(ALL) == Err(Refusal::NoFrame));
+    assert_eq!(rt; bare.status(), 0);
+    let mut short = Guest::new(rt.alloc(), 12)?;
+    assert!(rt; short.init(0) == Err(Refusal::NoFrame));
+    assert_eq!(rt; short.status(), 0);
     Ok(())
 }
 
 /// What an initialisation with these features answers, and the status that it leaves.
 fn try_features(alloc: Global, features: u64) -> Result<(Result<(), Refusal>, u8), Fail> {
-    let mut driver = driver(alloc)?;
-    let mut port = port_over(alloc, 13)?;
-    let answer = init(&mut driver, &mut port, features);
-    Ok((answer, status(&port)))
+    let mut guest = Guest::new(alloc, 13)?;
+    let answer = guest.init(features);
+    Ok((answer, guest.status()))
 }
 
 #[test]
@@ -126,48 +152,38 @@ fn gives_up_without_its_features(rt: HostRuntime) -> Result<(), Fail> {
     Ok(())
 }
 
-/// A driver that has lent pages 16 to 19, and its port.
-fn lend_four(alloc: Global) -> Result<(Driver, MemoryPort), Fail> {
-    let mut driver = driver(alloc)?;
-    let mut port = port_over(alloc, 64)?;
-    port.set_target(4);
-    init(&mut driver, &mut port, ALL).ok().ok_or("init")?;
-    inflate(&mut driver, &mut port, 4).ok().ok_or("inflate")?;
-    finish_first(&mut port, 0)?;
-    reap(&mut driver, &mut port).ok().ok_or("reap")?;
-    Ok((driver, port))
-}
-
 #[test]
 fn lends_and_tells(rt: HostRuntime) -> Result<(), Fail> {
-    let (driver, port) = lend_four(rt.alloc())?;
-    assert!(rt; has_places(&driver, 16, 19, Place::Lent));
-    assert!(rt; has_places(&driver, 20, 63, Place::Free));
-    assert!(rt; driver.actual() == 4 && port.actual() == 4);
+    let mut guest = Guest::new(rt.alloc(), 13)?;
+    assert!(rt; guest.lend_four());
+    assert!(rt; guest.are_at(16, 19, Place::Lent));
+    assert!(rt; guest.are_at(20, 63, Place::Free));
+    assert_eq!(rt; guest.port.actual(), 4);
     Ok(())
 }
 
 #[test]
 fn strands_what_was_lent(rt: HostRuntime) -> Result<(), Fail> {
-    let (mut driver, mut port) = lend_four(rt.alloc())?;
-    reset(&mut driver, &mut port);
-    assert!(rt; status(&port) == 0 && port.actual() == 0);
-    assert!(rt; has_places(&driver, 16, 19, Place::Stranded));
-    assert!(rt; inflate(&mut driver, &mut port, 1) == Err(Refusal::NotReady));
+    let mut guest = Guest::new(rt.alloc(), 13)?;
+    assert!(rt; guest.lend_four());
+    guest.reset();
+    assert!(rt; guest.are_at(16, 19, Place::Stranded));
+    assert_eq!(rt; guest.status(), 0);
+    assert!(rt; guest.inflate(1) == Err(Refusal::NotReady));
     Ok(())
 }
 
 #[test]
 fn offers_stranded_pages_first(rt: HostRuntime) -> Result<(), Fail> {
-    let (mut driver, mut port) = lend_four(rt.alloc())?;
-    reset(&mut driver, &mut port);
-    assert!(rt; init(&mut driver, &mut port, ALL) == Ok(()));
-    port.set_target(0);
-    assert!(rt; inflate(&mut driver, &mut port, 2) == Ok(Posted { head: 0, pages: 2 }));
-    assert!(rt; first_numbers(&port, 0) == [16, 0, 0, 0, 17, 0, 0, 0]);
-    assert!(rt; inflate(&mut driver, &mut port, 256) == Ok(Posted { head: 1, pages: 2 }));
-    assert!(rt; first_numbers(&port, 1) == [18, 0, 0, 0, 19, 0, 0, 0]);
-    assert!(rt; inflate(&mut driver, &mut port, 1) == Err(Refusal::Nothing));
-    assert!(rt; has_places(&driver, 16, 19, Place::Giving));
+    let mut guest = Guest::new(rt.alloc(), 13)?;
+    assert!(rt; guest.lend_four());
+    guest.reset();
+    guest.set_target(0);
+    assert!(rt; guest.init(ALL) == Ok(()));
+    assert!(rt; guest.inflate(2) == Ok(Posted { head: 0, pages: 2 }));
+    assert!(rt; guest.first_numbers(0) == [16, 0, 0, 0, 17, 0, 0, 0]);
+    assert!(rt; guest.inflate(256) == Ok(Posted { head: 1, pages: 2 }));
+    assert!(rt; guest.first_numbers(1) == [18, 0, 0, 0, 19, 0, 0, 0]);
+    assert!(rt; guest.inflate(1) == Err(Refusal::Nothing));
     Ok(())
 }
