@@ -16,8 +16,8 @@ use vb_model::limits::RING_AND_BUFFER_PAGES;
 use vb_model::{Call, Refusal, Reply};
 use vb_status::{Features, Port};
 
-/// Puts new frames behind those pages of rings and buffers, from this one on, that have none:
-/// behind all of them, or where a claim is refused behind none.
+/// Puts new frames behind those pages of rings and buffers, from this one on, that have none. All
+/// are claimed first: where a claim is refused, those that were given go back, and no page has one.
 fn supply_from<D: Device, K: FrameKeeper>(
     port: &mut D,
     keeper: &mut K,
@@ -59,7 +59,8 @@ fn ready_reply(answer: Result<(), Refusal>) -> Reply
     }
 }
 
-/// The driver initialises the device, once its rings and buffers have frames.
+/// The driver initialises the device, once the pages of its rings and buffers have frames; they keep
+/// them where the features are refused.
 pub(crate) fn init<D: Device, K: FrameKeeper>(
     driver: &mut Driver,
     port: &mut D,
