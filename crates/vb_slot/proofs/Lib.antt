@@ -27,3 +27,4 @@ pub mod Supplying
 pub mod Claiming
 pub mod InitStep
 pub mod FreshStands
+pub mod ResetStep

@@ -1,10 +1,10 @@
-// A guest's device starts (VIRTIO 1.1, 3.1.1).
+// A guest's device starts, and starts over (VIRTIO 1.1, 2.1 and 3.1.1).
 
 ghost use Rattle.std.specs.Prelude.{◌≡◌, ◌≤◌, ℕ, length, false};
 ghost use Rattle.vb_model.specs.Guest.{Guest};
 ghost use Rattle.vb_slot.specs.Lives.{bare_from, SuppliesBy, ready_reply};
 ghost use Rattle.vb_slot.specs.Stands.{Stands};
-ghost use Rattle.vb_slot.specs.Steps.{Steps};
+ghost use Rattle.vb_slot.specs.Steps.{Steps, StepsAlone};
 
 use crate::frames::claim_frame;
 use crate::memory::supply;
@@ -34,10 +34,7 @@ fn supply_from<D: Device, K: FrameKeeper>(
     if port.backing(page).is_some() {
         return supply_from(port, keeper, page + 1);
     }
-    let frame = match claim_frame(port, keeper) {
-        Ok(frame) => frame,
-        Err(refused) => return Err(refused),
-    };
+    let frame = claim_frame(port, keeper)?;
     match supply_from(port, keeper, page + 1) {
         Ok(()) => {
             supply(port, page, frame);
@@ -79,4 +76,13 @@ pub(crate) fn init<D: Device, K: FrameKeeper>(
         Err(Refused::NoFrame) => Reply::Refused(Refusal::NoFrame),
         Err(Refused::Memory) => Reply::Refused(Refusal::NoMemory),
     }
+}
+
+/// The driver resets the device (VIRTIO 1.1, 2.1).
+pub(crate) fn reset<D: Device>(driver: &mut Driver, port: &mut D) -> Reply
+    ensures { (g : Guest) → Stands (D.mem port.old) (D.part port.old) driver.old g
+        → StepsAlone (Stands (D.mem port.new) (D.part port.new) driver.new) g Call.Reset result }
+{
+    driver.reset(port);
+    Reply::Done
 }
