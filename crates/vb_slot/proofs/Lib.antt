@@ -20,6 +20,7 @@ pub mod Claimed
 pub mod ReadStep
 pub mod Normal
 pub mod AllocStep
+pub mod FreeStep
 pub mod Offered
 pub mod InflateStep
 pub mod ReapStep

@@ -1,12 +1,13 @@
 -- Which calls and queries slots answer so far.
 use Rattle.std.specs.Prelude.{Bool, true, false}
 use Rattle.vb_model.specs.declared.calls.Call.{Call}
-use Rattle.vb_model.specs.declared.calls.Call.TheVariants.{Alloc, Read, Write, Inflate, Reap, Take, Finish, SetTarget}
+use Rattle.vb_model.specs.declared.calls.Call.TheVariants.{Alloc, Free, Read, Write, Inflate, Reap, Take, Finish, SetTarget}
 use Rattle.vb_model.specs.declared.calls.Query.{Query}
 use Rattle.vb_model.specs.declared.calls.Query.TheVariants.{Backing}
 
 abbrev pub is_answered : Call → Bool
 is_answered (Alloc cpu order) = true
+is_answered (Free cpu start order) = true
 is_answered (Read page offset len) = true
 is_answered (Write page offset bytes) = true
 is_answered (Inflate pages) = true

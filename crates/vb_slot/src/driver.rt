@@ -2,7 +2,7 @@
 
 ghost use Rattle.std.specs.Prelude.{◌≡◌, ◌≤◌, ℕ, length};
 ghost use Rattle.vb_model.specs.Guest.{Guest};
-ghost use Rattle.vb_slot.specs.Replies.{page_reply, posted_reply, reaped_reply};
+ghost use Rattle.vb_slot.specs.Replies.{done_reply, page_reply, posted_reply, reaped_reply};
 ghost use Rattle.vb_slot.specs.Stands.{Stands};
 ghost use Rattle.vb_slot.specs.Steps.{StepsAlone};
 
@@ -26,6 +26,30 @@ pub(crate) fn alloc<D: Device>(driver: &mut Driver, port: &D, cpu: u32, order: u
 {
     let _port = port;
     page_reply(driver.alloc(cpu, order))
+}
+
+fn done_reply(answer: Result<(), Refusal>) -> Reply
+    ensures { result ≡ done_reply answer }
+{
+    match answer {
+        Ok(()) => Reply::Done,
+        Err(refusal) => Reply::Refused(refusal),
+    }
+}
+
+/// A processor gives a block of pages back (Gorman, chapter 6).
+pub(crate) fn free<D: Device>(
+    driver: &mut Driver,
+    port: &D,
+    cpu: u32,
+    start: u32,
+    order: u32,
+) -> Reply
+    ensures { (g : Guest) → Stands (D.mem port.now) (D.part port.now) driver.old g
+        → StepsAlone (Stands (D.mem port.now) (D.part port.now) driver.new) g (Call.Free cpu start order) result }
+{
+    let _port = port;
+    done_reply(driver.free(cpu, start, order))
 }
 
 fn posted_reply(answer: Result<Posted, Refusal>) -> Reply

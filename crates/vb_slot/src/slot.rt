@@ -8,7 +8,7 @@ ghost use Rattle.vb_slot.specs.Slots.{stands_for};
 ghost use Rattle.vb_slot.specs.Steps.{AreOut, Steps};
 
 use crate::device::{finish, set_target, take};
-use crate::driver::{alloc, inflate, reap};
+use crate::driver::{alloc, free, inflate, reap};
 use crate::memory::{read, write};
 use crate::port::BoxedPort;
 use std::alloc::Global;
@@ -60,6 +60,9 @@ impl Slot {
     {
         match call {
             Call::Alloc { cpu, order } => alloc(&mut self.driver, &self.port, *cpu, *order),
+            Call::Free { cpu, start, order } => {
+                free(&mut self.driver, &self.port, *cpu, *start, *order)
+            }
             Call::Read { page, offset, len } => {
                 read(heap, &self.driver, &self.port, *page, *offset, *len)
             }

@@ -4,6 +4,9 @@ use Rattle.vb_slot.proofs.slot.Slot.call.Goals as goal
 pub returns-in-Alloc : goal.returns-in-Alloc
 returns-in-Alloc g c = record { step = λ guest stands. rw c.in-Alloc.is (steps_quiet _ g.K.FrameKeeper.answers _ guest _ _ (c.alloc.ensures guest stands)) }
 
+pub returns-in-Free : goal.returns-in-Free
+returns-in-Free g c = record { step = λ guest stands. rw c.in-Free.is (steps_quiet _ g.K.FrameKeeper.answers _ guest _ _ (c.free.ensures guest stands)) }
+
 pub returns-in-Read : goal.returns-in-Read
 returns-in-Read g c = record { step = λ guest stands. rw c.in-Read.is (steps_quiet _ g.K.FrameKeeper.answers _ guest _ _ (c.read.ensures guest stands)) }
 
