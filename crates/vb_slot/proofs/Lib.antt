@@ -16,6 +16,7 @@ pub mod Writing
 pub mod WriteStep
 pub mod TargetStep
 pub mod Freed
+pub mod SweepStep
 pub mod Claimed
 pub mod ReadStep
 pub mod Normal

@@ -1,7 +1,7 @@
 -- Which calls and queries slots answer so far.
 use Rattle.std.specs.Prelude.{Bool, true, false}
 use Rattle.vb_model.specs.declared.calls.Call.{Call}
-use Rattle.vb_model.specs.declared.calls.Call.TheVariants.{Alloc, Free, Read, Write, Inflate, Reap, Take, Finish, SetTarget}
+use Rattle.vb_model.specs.declared.calls.Call.TheVariants.{Alloc, Free, Read, Write, Inflate, Reap, Take, Finish, Sweep, SetTarget}
 use Rattle.vb_model.specs.declared.calls.Query.{Query}
 use Rattle.vb_model.specs.declared.calls.Query.TheVariants.{Backing}
 
@@ -14,6 +14,7 @@ is_answered (Inflate pages) = true
 is_answered (Reap queue) = true
 is_answered (Take queue) = true
 is_answered (Finish queue index) = true
+is_answered (Sweep page) = true
 is_answered (SetTarget pages) = true
 is_answered _ = false
 

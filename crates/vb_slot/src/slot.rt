@@ -7,7 +7,7 @@ ghost use Rattle.vb_slot.specs.Answered.{is_answered, is_query_answered};
 ghost use Rattle.vb_slot.specs.Slots.{stands_for};
 ghost use Rattle.vb_slot.specs.Steps.{AreOut, Steps};
 
-use crate::device::{finish, set_target, take};
+use crate::device::{finish, set_target, sweep, take};
 use crate::driver::{alloc, free, inflate, reap};
 use crate::memory::{read, write};
 use crate::port::BoxedPort;
@@ -77,6 +77,7 @@ impl Slot {
             Call::Finish { queue, index } => {
                 finish(&self.driver, &mut self.port, keeper, *queue, *index)
             }
+            Call::Sweep { page } => sweep(&self.driver, &mut self.port, keeper, *page),
             Call::SetTarget { pages } => set_target(&mut self.port, *pages),
             _ => unreachable!(),
         }

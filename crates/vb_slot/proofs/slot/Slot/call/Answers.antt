@@ -25,5 +25,8 @@ returns-in-Take g c = record { step = λ guest stands. rw c.in-Take.is (steps_qu
 pub returns-in-Finish : goal.returns-in-Finish
 returns-in-Finish g c = record { step = λ guest stands. rw c.in-Finish.is (c.finish.ensures guest stands) }
 
+pub returns-in-Sweep : goal.returns-in-Sweep
+returns-in-Sweep g c = record { step = λ guest stands. rw c.in-Sweep.is (c.sweep.ensures guest stands) }
+
 pub returns-in-SetTarget : goal.returns-in-SetTarget
 returns-in-SetTarget g c = record { step = λ guest stands. rw c.in-SetTarget.is (steps_quiet _ g.K.FrameKeeper.answers _ guest _ _ (c.set_target.ensures _ guest stands)) }
