@@ -24,4 +24,5 @@ pub mod AllocStep
 pub mod FreeStep
 pub mod Offered
 pub mod InflateStep
+pub mod DeflateStep
 pub mod ReapStep

@@ -1,7 +1,7 @@
 -- Which calls and queries slots answer so far.
 use Rattle.std.specs.Prelude.{Bool, true, false}
 use Rattle.vb_model.specs.declared.calls.Call.{Call}
-use Rattle.vb_model.specs.declared.calls.Call.TheVariants.{Alloc, Free, Read, Write, Inflate, Reap, Take, Finish, Sweep, SetTarget}
+use Rattle.vb_model.specs.declared.calls.Call.TheVariants.{Alloc, Free, Read, Write, Inflate, Deflate, Oom, Reap, Take, Finish, Sweep, SetTarget}
 use Rattle.vb_model.specs.declared.calls.Query.{Query}
 use Rattle.vb_model.specs.declared.calls.Query.TheVariants.{Backing}
 
@@ -11,6 +11,8 @@ is_answered (Free cpu start order) = true
 is_answered (Read page offset len) = true
 is_answered (Write page offset bytes) = true
 is_answered (Inflate pages) = true
+is_answered (Deflate pages) = true
+is_answered (Oom pages) = true
 is_answered (Reap queue) = true
 is_answered (Take queue) = true
 is_answered (Finish queue index) = true

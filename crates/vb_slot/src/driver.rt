@@ -73,6 +73,24 @@ pub(crate) fn inflate<D: Device>(driver: &mut Driver, port: &mut D, pages: u32) 
     posted_reply(driver.inflate(port, pages))
 }
 
+/// The driver asks for pages back, as far as the target allows (VIRTIO 1.1, 5.5.6).
+pub(crate) fn deflate<D: Device>(driver: &mut Driver, port: &mut D, pages: u32) -> Reply
+    requires { (g : Guest) × Stands (D.mem port.old) (D.part port.old) driver.old g }
+    ensures { (g : Guest) → Stands (D.mem port.old) (D.part port.old) driver.old g
+        → StepsAlone (Stands (D.mem port.new) (D.part port.new) driver.new) g (Call.Deflate pages) result }
+{
+    posted_reply(driver.deflate(port, pages))
+}
+
+/// The driver asks for pages back, whatever the target (VIRTIO 1.1, 5.5.6, with DEFLATE_ON_OOM).
+pub(crate) fn oom<D: Device>(driver: &mut Driver, port: &mut D, pages: u32) -> Reply
+    requires { (g : Guest) × Stands (D.mem port.old) (D.part port.old) driver.old g }
+    ensures { (g : Guest) → Stands (D.mem port.old) (D.part port.old) driver.old g
+        → StepsAlone (Stands (D.mem port.new) (D.part port.new) driver.new) g (Call.Oom pages) result }
+{
+    posted_reply(driver.oom(port, pages))
+}
+
 fn reaped_reply(answer: Result<Option<Reaped>, Refusal>) -> Reply
     ensures { result ≡ reaped_reply answer }
 {

@@ -8,7 +8,7 @@ ghost use Rattle.vb_slot.specs.Slots.{stands_for};
 ghost use Rattle.vb_slot.specs.Steps.{AreOut, Steps};
 
 use crate::device::{finish, set_target, sweep, take};
-use crate::driver::{alloc, free, inflate, reap};
+use crate::driver::{alloc, deflate, free, inflate, oom, reap};
 use crate::memory::{read, write};
 use crate::port::BoxedPort;
 use std::alloc::Global;
@@ -72,6 +72,8 @@ impl Slot {
                 bytes,
             } => write(&self.driver, &mut self.port, keeper, *page, *offset, bytes),
             Call::Inflate { pages } => inflate(&mut self.driver, &mut self.port, *pages),
+            Call::Deflate { pages } => deflate(&mut self.driver, &mut self.port, *pages),
+            Call::Oom { pages } => oom(&mut self.driver, &mut self.port, *pages),
             Call::Reap { queue } => reap(&mut self.driver, &mut self.port, *queue),
             Call::Take { queue } => take(&mut self.port, *queue),
             Call::Finish { queue, index } => {

@@ -16,6 +16,12 @@ returns-in-Write g c = record { step = λ guest stands. rw c.in-Write.is (c.writ
 pub returns-in-Inflate : goal.returns-in-Inflate
 returns-in-Inflate g c = record { step = λ guest stands. rw c.in-Inflate.is (steps_quiet _ g.K.FrameKeeper.answers _ guest _ _ (c.inflate.ensures guest stands)) }
 
+pub returns-in-Deflate : goal.returns-in-Deflate
+returns-in-Deflate g c = record { step = λ guest stands. rw c.in-Deflate.is (steps_quiet _ g.K.FrameKeeper.answers _ guest _ _ (c.deflate.ensures guest stands)) }
+
+pub returns-in-Oom : goal.returns-in-Oom
+returns-in-Oom g c = record { step = λ guest stands. rw c.in-Oom.is (steps_quiet _ g.K.FrameKeeper.answers _ guest _ _ (c.oom.ensures guest stands)) }
+
 pub returns-in-Reap : goal.returns-in-Reap
 returns-in-Reap g c = record { step = λ guest stands. rw c.in-Reap.is (steps_quiet _ g.K.FrameKeeper.answers _ guest _ _ (c.reap.ensures guest stands)) }
 
