@@ -26,3 +26,4 @@ pub mod Offered
 pub mod InflateStep
 pub mod DeflateStep
 pub mod ReapStep
+pub mod Counted

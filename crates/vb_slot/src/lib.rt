@@ -6,6 +6,7 @@ mod driver;
 mod frames;
 mod memory;
 mod port;
+mod queries;
 mod slot;
 
 pub use slot::{GuestSlot, Slot};

@@ -11,6 +11,7 @@ use crate::device::{finish, set_target, sweep, take};
 use crate::driver::{alloc, deflate, free, inflate, oom, reap};
 use crate::memory::{read, write};
 use crate::port::BoxedPort;
+use crate::queries::{balloon, places};
 use std::alloc::Global;
 use vb_device::Device;
 use vb_driver::Driver;
@@ -93,6 +94,8 @@ impl Slot {
     {
         let _alloc = alloc;
         match query {
+            Query::Places => places(&self.driver, &self.port),
+            Query::Balloon => balloon(&self.driver, &self.port),
             Query::Backing { page } => Reply::Backing {
                 frame: self.port.backing(*page),
             },
