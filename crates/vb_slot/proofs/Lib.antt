@@ -16,13 +16,17 @@ pub mod Writing
 pub mod WriteStep
 pub mod TargetStep
 pub mod Freed
+pub mod SweepStep
 pub mod Claimed
 pub mod ReadStep
 pub mod Normal
 pub mod AllocStep
+pub mod FreeStep
 pub mod Offered
 pub mod InflateStep
+pub mod DeflateStep
 pub mod ReapStep
+pub mod Counted
 pub mod Supplying
 pub mod Claiming
 pub mod InitStep
