@@ -1,5 +1,5 @@
 -- What a call of `supply_from` makes of one page and of the rest.
-use Rattle.std.specs.Prelude.{◌≡◌, ℕ, suc, ◌+◌, ◌-◌, ◌<◌, ◌≤◌, Bool, true, false, not, cond, List, [], ◌∷◌, length, Option, Some, None, is_some, is_none, filter, Result, Ok, Err, slice_set, refl}
+use Rattle.std.specs.Prelude.{◌≡◌, ℕ, suc, ◌+◌, ◌-◌, ◌<◌, ◌≤◌, Bool, true, false, not, cond, List, [], ◌∷◌, length, Option, Some, None, is_some, is_none, filter, Result, Ok, Err, IsErrAnd, slice_set, refl}
 use Rattle.std.specs.List.{range_with_len}
 use Rattle.std.proofs.Common.{sym, ◌∙◌, ap, subst, arith}
 use Rattle.vb_model.specs.declared.calls.Claim.{Claim}
@@ -74,6 +74,11 @@ supplies_refused Answers out1 out2 m1 m2 page why lt none answer m out =
     by : (w : Refused) → Answers out1 (claim_in (Err w)) → SuppliesBy {T = Unit {0}} Answers out1 out2 (page ∷ bare_from m1 (page + 1)) m1 m2 (Err w)
     by NoFrame a = record { claims = GaveNoFrame ∷ []; made = refl; answered = (a, refl); answer = refl; supplied = tt; refused = (m, out) }
     by Memory a = record { claims = GaveNoMemory ∷ []; made = refl; answered = (a, refl); answer = refl; supplied = tt; refused = (m, out) }
+
+-- a refusal that is handed on
+pub err_is : (result : Result (Unit {0}) Refused) (why : Refused) → IsErrAnd result (λ e. e ≡ why) → Err why ≡ result
+err_is (Ok x) why h = absurd h
+err_is (Err e) why h = ap (λ (w : Refused). Err w) (sym h)
 
 -- the page's claim was answered, and then the rest got frames, and the page the claimed one
 pub supplies_all : (Answers : List Bool → Claim → Type 0) (out1 out2 out3 : List Bool) (m1 m2 m3 m4 : Pages) (page n : ℕ) → page < 13 → is_some (frame_at m1 page) ≡ false

@@ -100,6 +100,14 @@ finish_refused m1 m2 p1 p2 d g q i why result did stands by_part by_model =
       freed = λ n. omega (arith, ap (times n) none);
     })
 
+-- the frames behind pages are those of the guest's pages
+pub behind_same : (mem : Pages) (frames : List (Option ℕ)) (pages : List ℕ) → ((p : ℕ) → frame_at mem p ≡ frame_of frames p)
+    → frames_behind mem pages ≡ flat_map (λ page. option_to_list (frame_of frames page)) pages
+behind_same mem frames [] same = refl
+behind_same mem frames (p ∷ ps) same =
+    ap (λ (o : Option ℕ). option_to_list o ++ frames_behind mem ps) (same p)
+    ∙ ap (λ (l : List ℕ). option_to_list (frame_of frames p) ++ l) (behind_same mem frames ps same)
+
 -- ---- queue 0
 
 inflate_finished : (m1 m2 : Pages) (p1 p2 : Part) (d : DriverState) (g : Guest) (i : ℕ) (r : Request) (result : Result ℕ Refusal)
@@ -165,13 +173,6 @@ inflate_finished m1 m2 p1 p2 d g i r result is did stands run free =
       step = guest_step g (Finish 0 i) [] (Finished r.head) new ties.parts.honest step;
       freed = λ k. omega (arith, numbers k, ap (times k) behind, frames_freed k r.pages g.frames request.pages.distinct (subst F (sym ties.pages.framed) request.pages.below));
     })
-  where
-    behind_same : (mem : Pages) (frames : List (Option ℕ)) (pages : List ℕ) → ((p : ℕ) → frame_at mem p ≡ frame_of frames p)
-        → frames_behind mem pages ≡ flat_map (λ page. option_to_list (frame_of frames page)) pages
-    behind_same mem frames [] same = refl
-    behind_same mem frames (p ∷ ps) same =
-        ap (λ (o : Option ℕ). option_to_list o ++ frames_behind mem ps) (same p)
-        ∙ ap (λ (l : List ℕ). option_to_list (frame_of frames p) ++ l) (behind_same mem frames ps same)
 
 inflate_finish : (m1 m2 : Pages) (p1 p2 : Part) (d : DriverState) (g : Guest) (i : ℕ) (result : Result ℕ Refusal) (o : Option Refusal)
     → refusal_of g (Finish 0 i) ≡ o → FinishesBy 0 i m1 m2 p1 p2 result → Stands m1 p1 d g → StepsFreeing (Stands m2 (handed_back p2) d) p2.loose g (Finish 0 i) (finished_reply result)

@@ -66,7 +66,7 @@ running_tests g si sd p n e t =
     subst (λ s. P s p.target) (sym e) (subst (λ x. P 15 x) (sym t) refl)
 
 -- the queue on the other side of a post is as before
-post_apart : (m1 m2 : Pages) (ring base head other : ℕ) → ring_page other ≢ ring → ring_page other < base
+pub post_apart : (m1 m2 : Pages) (ring base head other : ℕ) → ring_page other ≢ ring → ring_page other < base
     → ((p : ℕ) → buffers_page other ≤ p → p < buffers_page other + 4 → (p ≢ ring) × (p ≢ buffer_page base head)) → SameButBuffer m1 m2 ring base head → SameLine m1 m2 other
 post_apart m1 m2 ring base head other ne low far same = record {
   ring = same.others (ring_page other) ne (omega arith);

@@ -18,6 +18,15 @@ use Rattle.vb_model.proofs.Tables.{count_by-cons}
 use Rattle.vb_model.specs.Orderly.{IsOrderly, is_reserved, times, IsRequestSound, AllRequestsSound}
 use Rattle.vb_slot.specs.Line.{AreRequested}
 
+-- a page that isn't at a reserved place is there, and above the reserved ones
+pub high_page : (g : Guest) (page : ℕ) → IsOrderly g → is_reserved (place_of g.places page) ≡ false → (16 ≤ page) × (page < g.config.pages)
+high_page g page orderly free = elim (cases_lt page g.config.pages) [
+  | inl lt ↦ (let e : nat_lt page 16 ≡ false = sym (orderly.unreserved page lt) ∙ free in grind (arith, nat_tests), lt)
+  | inr past ↦
+      let wrong : is_reserved (place_of g.places page) ≡ true = ap is_reserved (get_or_past g.places page Reserved (omega (arith, orderly.tabled))) in
+      absurd (let both : true ≡ false = sym wrong ∙ free in cc)
+]
+
 -- pages none of which is at a reserved place are those of a request
 pub high_pages : (g : Guest) (pages : List ℕ) → IsOrderly g → ((page : ℕ) → is_in page pages ≡ true → is_reserved (place_of g.places page) ≡ false)
     → All (λ page. 16 ≤ page) pages × All (λ page. page < g.config.pages) pages
@@ -32,14 +41,6 @@ high_pages g pages orderly out =
         either_true : (b : Bool) → (b || true) ≡ true
         either_true true = refl
         either_true false = refl
-
-    high_page : (g : Guest) (page : ℕ) → IsOrderly g → is_reserved (place_of g.places page) ≡ false → (16 ≤ page) × (page < g.config.pages)
-    high_page g page orderly free = elim (cases_lt page g.config.pages) [
-      | inl lt ↦ (let e : nat_lt page 16 ≡ false = sym (orderly.unreserved page lt) ∙ free in grind (arith, nat_tests), lt)
-      | inr past ↦
-          let wrong : is_reserved (place_of g.places page) ≡ true = ap is_reserved (get_or_past g.places page Reserved (omega (arith, orderly.tabled))) in
-          absurd (let both : true ≡ false = sym wrong ∙ free in cc)
-    ]
 
 given_high : (place : Place) → can_be_given place ≡ true → is_reserved place ≡ false
 given_high Free e = refl

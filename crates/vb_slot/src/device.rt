@@ -3,7 +3,7 @@
 ghost use Rattle.std.specs.Prelude.{◌≡◌, ℕ};
 ghost use Rattle.vb_model.specs.Guest.{Guest};
 ghost use Rattle.vb_driver.specs.State.{DriverState};
-ghost use Rattle.vb_slot.specs.Replies.{taken_reply, finished_reply};
+ghost use Rattle.vb_slot.specs.Replies.{taken_reply, finished_reply, swept_reply};
 ghost use Rattle.vb_slot.specs.Stands.{Stands};
 ghost use Rattle.vb_slot.specs.Steps.{AreOut, Steps, StepsAlone};
 
@@ -61,6 +61,33 @@ pub(crate) fn finish<D: Device, K: FrameKeeper>(
     let answer = port.finish(queue, index);
     return_loose(port, keeper);
     finished_reply(answer)
+}
+
+fn swept_reply(answer: Result<bool, Refusal>) -> Reply
+    ensures { result ≡ swept_reply answer }
+{
+    match answer {
+        Ok(freed) => Reply::Swept { freed },
+        Err(refusal) => Reply::Refused(refusal),
+    }
+}
+
+/// The host discards what it still has of a ballooned page, whose frame goes back.
+pub(crate) fn sweep<D: Device, K: FrameKeeper>(
+    driver: &Driver,
+    port: &mut D,
+    keeper: &mut K,
+    page: u32,
+) -> Reply
+    requires stands { (g : Guest) × Stands (D.mem port.old) (D.part port.old) driver.now g }
+    requires held { (g : Guest) → Stands (D.mem port.old) (D.part port.old) driver.now g → AreOut g (K.out keeper.old) }
+    ensures { (g : Guest) → Stands (D.mem port.old) (D.part port.old) driver.now g
+        → Steps (Stands (D.mem port.new) (D.part port.new) driver.now) K.answers (K.out keeper.old) (K.out keeper.new) g (Call.Sweep page) result }
+{
+    let _driver = driver;
+    let answer = port.sweep(page);
+    return_loose(port, keeper);
+    swept_reply(answer)
 }
 
 /// The host sets how many pages it wants (`num_pages`, VIRTIO 1.1, 5.5.4).

@@ -2,7 +2,7 @@
 
 ghost use Rattle.std.specs.Prelude.{◌≡◌, ◌≤◌, ℕ, length};
 ghost use Rattle.vb_model.specs.Guest.{Guest};
-ghost use Rattle.vb_slot.specs.Replies.{page_reply, posted_reply, reaped_reply};
+ghost use Rattle.vb_slot.specs.Replies.{done_reply, page_reply, posted_reply, reaped_reply};
 ghost use Rattle.vb_slot.specs.Stands.{Stands};
 ghost use Rattle.vb_slot.specs.Steps.{StepsAlone};
 
@@ -28,6 +28,30 @@ pub(crate) fn alloc<D: Device>(driver: &mut Driver, port: &D, cpu: u32, order: u
     page_reply(driver.alloc(cpu, order))
 }
 
+fn done_reply(answer: Result<(), Refusal>) -> Reply
+    ensures { result ≡ done_reply answer }
+{
+    match answer {
+        Ok(()) => Reply::Done,
+        Err(refusal) => Reply::Refused(refusal),
+    }
+}
+
+/// A processor gives a block of pages back (Gorman, chapter 6).
+pub(crate) fn free<D: Device>(
+    driver: &mut Driver,
+    port: &D,
+    cpu: u32,
+    start: u32,
+    order: u32,
+) -> Reply
+    ensures { (g : Guest) → Stands (D.mem port.now) (D.part port.now) driver.old g
+        → StepsAlone (Stands (D.mem port.now) (D.part port.now) driver.new) g (Call.Free cpu start order) result }
+{
+    let _port = port;
+    done_reply(driver.free(cpu, start, order))
+}
+
 fn posted_reply(answer: Result<Posted, Refusal>) -> Reply
     ensures { result ≡ posted_reply answer }
 {
@@ -47,6 +71,24 @@ pub(crate) fn inflate<D: Device>(driver: &mut Driver, port: &mut D, pages: u32) 
         → StepsAlone (Stands (D.mem port.new) (D.part port.new) driver.new) g (Call.Inflate pages) result }
 {
     posted_reply(driver.inflate(port, pages))
+}
+
+/// The driver asks for pages back, as far as the target allows (VIRTIO 1.1, 5.5.6).
+pub(crate) fn deflate<D: Device>(driver: &mut Driver, port: &mut D, pages: u32) -> Reply
+    requires { (g : Guest) × Stands (D.mem port.old) (D.part port.old) driver.old g }
+    ensures { (g : Guest) → Stands (D.mem port.old) (D.part port.old) driver.old g
+        → StepsAlone (Stands (D.mem port.new) (D.part port.new) driver.new) g (Call.Deflate pages) result }
+{
+    posted_reply(driver.deflate(port, pages))
+}
+
+/// The driver asks for pages back, whatever the target (VIRTIO 1.1, 5.5.6, with DEFLATE_ON_OOM).
+pub(crate) fn oom<D: Device>(driver: &mut Driver, port: &mut D, pages: u32) -> Reply
+    requires { (g : Guest) × Stands (D.mem port.old) (D.part port.old) driver.old g }
+    ensures { (g : Guest) → Stands (D.mem port.old) (D.part port.old) driver.old g
+        → StepsAlone (Stands (D.mem port.new) (D.part port.new) driver.new) g (Call.Oom pages) result }
+{
+    posted_reply(driver.oom(port, pages))
 }
 
 fn reaped_reply(answer: Result<Option<Reaped>, Refusal>) -> Reply

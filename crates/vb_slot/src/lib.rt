@@ -8,6 +8,7 @@ mod lives;
 mod memory;
 mod new;
 mod port;
+mod queries;
 mod slot;
 
 pub use new::NoSlot;

@@ -1,10 +1,10 @@
-// A guest's device starts (VIRTIO 1.1, 3.1.1).
+// A guest's device starts, and starts over (VIRTIO 1.1, 2.1 and 3.1.1).
 
 ghost use Rattle.std.specs.Prelude.{◌≡◌, ◌≤◌, ℕ, length, false};
 ghost use Rattle.vb_model.specs.Guest.{Guest};
 ghost use Rattle.vb_slot.specs.Lives.{bare_from, SuppliesBy, ready_reply};
 ghost use Rattle.vb_slot.specs.Stands.{Stands};
-ghost use Rattle.vb_slot.specs.Steps.{Steps};
+ghost use Rattle.vb_slot.specs.Steps.{Steps, StepsAlone};
 
 use crate::frames::claim_frame;
 use crate::memory::supply;
@@ -16,8 +16,8 @@ use vb_model::limits::RING_AND_BUFFER_PAGES;
 use vb_model::{Call, Refusal, Reply};
 use vb_status::{Features, Port};
 
-/// Puts new frames behind those pages of rings and buffers, from this one on, that have none:
-/// behind all of them, or where a claim is refused behind none.
+/// Puts new frames behind those pages of rings and buffers, from this one on, that have none. All
+/// are claimed first: where a claim is refused, those that were given go back, and no page has one.
 fn supply_from<D: Device, K: FrameKeeper>(
     port: &mut D,
     keeper: &mut K,
@@ -34,10 +34,7 @@ fn supply_from<D: Device, K: FrameKeeper>(
     if port.backing(page).is_some() {
         return supply_from(port, keeper, page + 1);
     }
-    let frame = match claim_frame(port, keeper) {
-        Ok(frame) => frame,
-        Err(refused) => return Err(refused),
-    };
+    let frame = claim_frame(port, keeper)?;
     match supply_from(port, keeper, page + 1) {
         Ok(()) => {
             supply(port, page, frame);
@@ -59,7 +56,8 @@ fn ready_reply(answer: Result<(), Refusal>) -> Reply
     }
 }
 
-/// The driver initialises the device, once its rings and buffers have frames.
+/// The driver initialises the device, once the pages of its rings and buffers have frames; they keep
+/// them where the features are refused.
 pub(crate) fn init<D: Device, K: FrameKeeper>(
     driver: &mut Driver,
     port: &mut D,
@@ -78,4 +76,13 @@ pub(crate) fn init<D: Device, K: FrameKeeper>(
         Err(Refused::NoFrame) => Reply::Refused(Refusal::NoFrame),
         Err(Refused::Memory) => Reply::Refused(Refusal::NoMemory),
     }
+}
+
+/// The driver resets the device (VIRTIO 1.1, 2.1).
+pub(crate) fn reset<D: Device>(driver: &mut Driver, port: &mut D) -> Reply
+    ensures { (g : Guest) → Stands (D.mem port.old) (D.part port.old) driver.old g
+        → StepsAlone (Stands (D.mem port.new) (D.part port.new) driver.new) g Call.Reset result }
+{
+    driver.reset(port);
+    Reply::Done
 }

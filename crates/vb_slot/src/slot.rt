@@ -7,12 +7,13 @@ ghost use Rattle.vb_slot.specs.Answered.{is_answered, is_query_answered};
 ghost use Rattle.vb_slot.specs.Slots.{stands_for};
 ghost use Rattle.vb_slot.specs.Steps.{AreOut, Steps};
 
-use crate::device::{finish, set_target, take};
-use crate::driver::{alloc, inflate, reap};
+use crate::device::{finish, set_target, sweep, take};
+use crate::driver::{alloc, deflate, free, inflate, oom, reap};
 use crate::lives::init;
 use crate::memory::{read, write};
 use crate::new::NoSlot;
 use crate::port::BoxedPort;
+use crate::queries::{balloon, places};
 use std::alloc::Global;
 use vb_device::Device;
 use vb_driver::Driver;
@@ -64,6 +65,9 @@ impl Slot {
         match call {
             Call::Init { features } => init(&mut self.driver, &mut self.port, keeper, *features),
             Call::Alloc { cpu, order } => alloc(&mut self.driver, &self.port, *cpu, *order),
+            Call::Free { cpu, start, order } => {
+                free(&mut self.driver, &self.port, *cpu, *start, *order)
+            }
             Call::Read { page, offset, len } => {
                 read(heap, &self.driver, &self.port, *page, *offset, *len)
             }
@@ -73,11 +77,14 @@ impl Slot {
                 bytes,
             } => write(&self.driver, &mut self.port, keeper, *page, *offset, bytes),
             Call::Inflate { pages } => inflate(&mut self.driver, &mut self.port, *pages),
+            Call::Deflate { pages } => deflate(&mut self.driver, &mut self.port, *pages),
+            Call::Oom { pages } => oom(&mut self.driver, &mut self.port, *pages),
             Call::Reap { queue } => reap(&mut self.driver, &mut self.port, *queue),
             Call::Take { queue } => take(&mut self.port, *queue),
             Call::Finish { queue, index } => {
                 finish(&self.driver, &mut self.port, keeper, *queue, *index)
             }
+            Call::Sweep { page } => sweep(&self.driver, &mut self.port, keeper, *page),
             Call::SetTarget { pages } => set_target(&mut self.port, *pages),
             _ => unreachable!(),
         }
@@ -91,6 +98,8 @@ impl Slot {
     {
         let _alloc = alloc;
         match query {
+            Query::Places => places(&self.driver, &self.port),
+            Query::Balloon => balloon(&self.driver, &self.port),
             Query::Backing { page } => Reply::Backing {
                 frame: self.port.backing(*page),
             },
