@@ -27,3 +27,4 @@ pub mod InflateStep
 pub mod DeflateStep
 pub mod ReapStep
 pub mod Counted
+pub mod Runs
