@@ -33,3 +33,4 @@ pub mod InitStep
 pub mod FreshStands
 pub mod SameFrames
 pub mod ResetStep
+pub mod Runs
