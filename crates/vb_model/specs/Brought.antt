@@ -1,25 +1,33 @@
 -- Which events the crates above answer so far; the others are kept out of a run by this one premise.
 use Rattle.std.specs.Prelude.{Bool, true, false}
 use Rattle.vb_model.specs.declared.calls.Call.{Call}
-use Rattle.vb_model.specs.declared.calls.Call.TheVariants.{Init, Alloc, Read, Write, Inflate, Reap, Take, Finish, SetTarget}
+use Rattle.vb_model.specs.declared.calls.Call.TheVariants.{Init, Alloc, Free, Read, Write, Inflate, Deflate, Oom, Reap, Take, Finish, Sweep, SetTarget}
 use Rattle.vb_model.specs.declared.calls.Query.{Query}
-use Rattle.vb_model.specs.declared.calls.Query.TheVariants.{Backing}
+use Rattle.vb_model.specs.declared.calls.Query.TheVariants.{Places, PagesAt, PagesBallooned, Balloon, Backing}
 use Rattle.vb_model.specs.declared.calls.Event.{Event}
 use Rattle.vb_model.specs.declared.calls.Event.TheVariants.{Plug, Guest, Query as Asking, Frames}
 
 abbrev pub is_call_brought : Call → Bool
 is_call_brought (Init features) = true
 is_call_brought (Alloc cpu order) = true
+is_call_brought (Free cpu start order) = true
 is_call_brought (Read page offset len) = true
 is_call_brought (Write page offset bytes) = true
 is_call_brought (Inflate pages) = true
+is_call_brought (Deflate pages) = true
+is_call_brought (Oom pages) = true
 is_call_brought (Reap queue) = true
 is_call_brought (Take queue) = true
 is_call_brought (Finish queue index) = true
+is_call_brought (Sweep page) = true
 is_call_brought (SetTarget pages) = true
 is_call_brought _ = false
 
 abbrev pub is_query_brought : Query → Bool
+is_query_brought Places = true
+is_query_brought (PagesAt place) = true
+is_query_brought PagesBallooned = true
+is_query_brought Balloon = true
 is_query_brought (Backing page) = true
 is_query_brought _ = false
 

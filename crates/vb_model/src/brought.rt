@@ -14,12 +14,16 @@ impl Call {
             self,
             Call::Init { .. }
                 | Call::Alloc { .. }
+                | Call::Free { .. }
                 | Call::Read { .. }
                 | Call::Write { .. }
                 | Call::Inflate { .. }
+                | Call::Deflate { .. }
+                | Call::Oom { .. }
                 | Call::Reap { .. }
                 | Call::Take { .. }
                 | Call::Finish { .. }
+                | Call::Sweep { .. }
                 | Call::SetTarget { .. }
         )
     }
@@ -30,7 +34,7 @@ impl Query {
     pub fn is_brought(&self) -> bool
         ensures { result ≡ is_query_brought self.now }
     {
-        matches!(self, Query::Backing { .. })
+        !matches!(self, Query::Memory)
     }
 }
 
