@@ -9,6 +9,7 @@ ghost use Rattle.vb_slot.specs.Steps.{AreOut, Steps};
 
 use crate::device::{finish, set_target, sweep, take};
 use crate::driver::{alloc, deflate, free, inflate, oom, reap};
+use crate::lives::{init, reset};
 use crate::memory::{read, write};
 use crate::new::NoSlot;
 use crate::port::BoxedPort;
@@ -62,6 +63,8 @@ impl Slot {
             → Steps (stands_for mem part self.new) K.answers (K.out keeper.old) (K.out keeper.new) g call.now result }
     {
         match call {
+            Call::Init { features } => init(&mut self.driver, &mut self.port, keeper, *features),
+            Call::Reset => reset(&mut self.driver, &mut self.port),
             Call::Alloc { cpu, order } => alloc(&mut self.driver, &self.port, *cpu, *order),
             Call::Free { cpu, start, order } => {
                 free(&mut self.driver, &self.port, *cpu, *start, *order)
