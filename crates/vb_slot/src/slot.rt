@@ -32,9 +32,8 @@ pub trait GuestSlot: Drop {
     /// Answers a call on the guest. Frames that its pages gain are claimed from the keeper, and
     /// those that they lose are put back.
     fn call<K: FrameKeeper>(&mut self, heap: Global, keeper: &mut K, call: &Call) -> Reply
-        requires stands { (g : Guest) × stands self.old g }
+        requires stands { (g : Guest) × stands self.old g × AreOut g (K.out keeper.old) }
         requires answered { is_answered call.now ≡ true }
-        requires held { (g : Guest) → stands self.old g → AreOut g (K.out keeper.old) }
         ensures step { (g : Guest) → stands self.old g
             → Steps (stands self.new) K.answers (K.out keeper.old) (K.out keeper.new) g call.now result };
 
@@ -56,9 +55,8 @@ impl Slot {
     /// Answers a call on the guest. Frames that its pages gain are claimed from the keeper, and
     /// those that they lose are put back.
     pub fn call<K: FrameKeeper>(&mut self, heap: Global, keeper: &mut K, call: &Call) -> Reply
-        requires stands { (g : Guest) × stands_for mem part self.old g }
+        requires stands { (g : Guest) × stands_for mem part self.old g × AreOut g (K.out keeper.old) }
         requires answered { is_answered call.now ≡ true }
-        requires held { (g : Guest) → stands_for mem part self.old g → AreOut g (K.out keeper.old) }
         ensures step { (g : Guest) → stands_for mem part self.old g
             → Steps (stands_for mem part self.new) K.answers (K.out keeper.old) (K.out keeper.new) g call.now result }
     {
