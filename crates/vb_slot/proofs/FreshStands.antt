@@ -1,5 +1,5 @@
 -- A slot stands for its guest as it is plugged in.
-use Rattle.std.specs.Prelude.{◌≡◌, ℕ, nat_lt, Bool, true, false, if◌then◌else◌, List, [], length, None, replicate, slice_index_or, refl}
+use Rattle.std.specs.Prelude.{◌≡◌, ℕ, zero, suc, count_by, nat_lt, Bool, true, false, if◌then◌else◌, List, [], length, None, replicate, slice_index_or, refl}
 use Rattle.std.specs.List.{range_with_len}
 use Rattle.std.proofs.Common.{sym, ◌∙◌, ap, subst, arith, inl, inr}
 use Rattle.std.proofs.lemmas.Bool.{cases_lt}
@@ -19,6 +19,8 @@ use Rattle.vb_device.specs.Calls.{attached}
 use Rattle.vb_driver.specs.State.{DriverState, fresh_driver}
 use Rattle.vb_slot.specs.Stands.{Stands, Ties, HasPages}
 use Rattle.vb_slot.specs.Spare.{IsSpare}
+use Rattle.vb_slot.specs.Steps.{is_frame, AreOut}
+use Rattle.vb_model.proofs.Tables.{count_by-cons}
 
 -- a list of one element has it everywhere
 everywhere : {A : Type 0} (n : ℕ) (x : A) (p : ℕ) → slice_index_or (replicate n x) p x ≡ x
@@ -55,6 +57,14 @@ bare_pages n = record {
   holds = λ p high lt. ap contents_of (everywhere n None p) ∙ sym (get_or-replicate n p zero_page [] lt);
   sizes = λ p high lt. ap (λ (xs : List ℕ). length xs) (get_or-replicate n p zero_page [] lt) ∙ length-zero_page;
 }
+
+-- its frames, of which it has none, are out
+pub fresh_out : (config : Config) (target : ℕ) (out : List Bool) → AreOut (fresh config target) out
+fresh_out config target out n = let none = count_none config.pages in omega arith
+  where
+    count_none : (pages : ℕ) → count_by (is_frame n) (replicate pages None) ≡ 0
+    count_none zero = refl
+    count_none (suc pages) = omega (arith, count_by-cons (is_frame n) None (replicate pages None), count_none pages)
 
 pub fresh_stands : (m1 m2 : Pages) (p1 p2 : Part) (d : DriverState) (sizes : Sizes) → is_config sizes.pages sizes.queue_size sizes.processors ≡ true → IsSpare m1 p1 → m2 ≡ replicate sizes.pages None → p2 ≡ attached sizes p1
     → d ≡ fresh_driver sizes.pages sizes.queue_size sizes.processors
