@@ -39,7 +39,7 @@ with_none-get pages x xs i = each_page-get (λ page old. if is_in page pages the
 pub in_first : (p : ℕ) (ps : List ℕ) → is_in p (p ∷ ps) ≡ true
 in_first p ps = ap (λ (b : Bool). b || list_any (λ m. m == p) ps) (eq-eqb p p refl)
 
-other_not : (p i : ℕ) → p ≢ i → (p == i) ≡ false
+pub other_not : (p i : ℕ) → p ≢ i → (p == i) ≡ false
 other_not p i ne = elim (either (p == i)) [ inl e ↦ absurd (ne (eqb-true p i e)) | inr e ↦ e ]
 
 pub in_rest : (p i : ℕ) (ps : List ℕ) → p ≢ i → is_in i (p ∷ ps) ≡ is_in i ps

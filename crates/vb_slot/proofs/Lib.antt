@@ -27,6 +27,7 @@ pub mod InflateStep
 pub mod DeflateStep
 pub mod ReapStep
 pub mod Counted
+pub mod Runs
 pub mod Supplying
 pub mod Claiming
 pub mod InitStep

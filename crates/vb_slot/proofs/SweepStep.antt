@@ -1,5 +1,5 @@
 -- The slot's sweep is a step of the guest.
-use Rattle.std.specs.Prelude.{◌≡◌, ℕ, zero, suc, ◌+◌, ◌<◌, ◌≤◌, Bool, true, false, not, List, [], ◌∷◌, ◌++◌, All, length, Result, Option, Some, None, is_some, refl, ◌⊎◌}
+use Rattle.std.specs.Prelude.{◌≡◌, ℕ, zero, suc, ◌<◌, ◌≤◌, Bool, true, false, not, List, [], ◌∷◌, ◌++◌, All, length, Result, Option, Some, None, is_some, refl, ◌⊎◌}
 use Rattle.std.specs.Option.{option_to_list}
 use Rattle.std.specs.List.{flat_map}
 use Rattle.std.proofs.Common.{sym, ◌∙◌, ap, subst, arith, inl, inr}
@@ -15,10 +15,9 @@ use Rattle.vb_model.specs.Tests.{one_if}
 use Rattle.vb_model.specs.Pages.{place_of, is_giving, is_lent, is_taking}
 use Rattle.vb_model.specs.Guest.{Guest, frame_of, is_ballooned, unbacked}
 use Rattle.vb_model.specs.Consistent.{IsConsistent}
-use Rattle.vb_model.specs.Orderly.{IsOrderly, is_reserved, times}
+use Rattle.vb_model.specs.Orderly.{is_reserved, times}
 use Rattle.vb_model.specs.Refusals.{◌⇒◌, first_refusal, refusal_of}
 use Rattle.vb_model.proofs.PageSteps.{naming-all}
-use Rattle.vb_frames.specs.Out.{is_out}
 use Rattle.vb_ram.specs.Pages.{Pages, page_at, frame_at, number_of}
 use Rattle.vb_ram.specs.Part.{Part}
 use Rattle.vb_driver.specs.State.{DriverState}

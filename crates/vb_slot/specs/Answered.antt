@@ -3,7 +3,7 @@ use Rattle.std.specs.Prelude.{Bool, true, false}
 use Rattle.vb_model.specs.declared.calls.Call.{Call}
 use Rattle.vb_model.specs.declared.calls.Call.TheVariants.{Init, Reset, Alloc, Free, Read, Write, Inflate, Deflate, Oom, Reap, Take, Finish, Sweep, SetTarget}
 use Rattle.vb_model.specs.declared.calls.Query.{Query}
-use Rattle.vb_model.specs.declared.calls.Query.TheVariants.{Places, Balloon, Backing}
+use Rattle.vb_model.specs.declared.calls.Query.TheVariants.{Places, PagesAt, PagesBallooned, Balloon, Backing}
 
 abbrev pub is_answered : Call → Bool
 is_answered (Init wanted) = true
@@ -24,6 +24,8 @@ is_answered _ = false
 
 abbrev pub is_query_answered : Query → Bool
 is_query_answered Places = true
+is_query_answered (PagesAt place) = true
+is_query_answered PagesBallooned = true
 is_query_answered Balloon = true
 is_query_answered (Backing page) = true
 is_query_answered _ = false

@@ -1,8 +1,10 @@
 -- How what a driver or a device answers is replied.
-use Rattle.std.specs.Prelude.{ℕ, Bool, Option, Some, None, Result, Ok, Err}
+use Rattle.std.specs.Prelude.{ℕ, Bool, List, Option, Some, None, Result, Ok, Err}
 use Rattle.vb_model.specs.declared.replies.Refusal.{Refusal}
+use Rattle.vb_model.specs.declared.replies.Refusal.TheVariants.{NoMemory}
 use Rattle.vb_model.specs.declared.replies.Reply.{Reply}
-use Rattle.vb_model.specs.declared.replies.Reply.TheVariants.{Done, Page, Posted, Taken, Empty, Finished, NotUsed, Reaped, Swept, Refused}
+use Rattle.vb_model.specs.declared.replies.Reply.TheVariants.{Done, Page, Posted, Taken, Empty, Finished, NotUsed, Reaped, Swept, Pages, Refused}
+use Rattle.vb_model.specs.declared.places.PageRun.{PageRun}
 use Rattle.vb_driver.specs.declared.answers.Posted.{Posted as PostedRequest}
 use Rattle.vb_driver.specs.declared.answers.Reaped.{Reaped as ReapedRequest}
 
@@ -35,3 +37,8 @@ reaped_reply (Err why) = Refused why
 abbrev pub done_reply : {T : Type 0} → Result T Refusal → Reply
 done_reply (Ok x) = Done
 done_reply (Err why) = Refused why
+
+-- A list of runs, which may find no memory.
+abbrev pub runs_reply : {E : Type 0} → Result (List PageRun) E → Reply
+runs_reply (Ok found) = Pages found
+runs_reply (Err e) = Refused NoMemory

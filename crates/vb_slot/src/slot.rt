@@ -13,7 +13,7 @@ use crate::lives::{init, reset};
 use crate::memory::{read, write};
 use crate::new::NoSlot;
 use crate::port::BoxedPort;
-use crate::queries::{balloon, places};
+use crate::queries::{balloon, pages_at, pages_ballooned, places};
 use std::alloc::Global;
 use vb_device::Device;
 use vb_driver::Driver;
@@ -95,9 +95,10 @@ impl Slot {
         requires answered { is_query_answered query.now ≡ true }
         ensures answer { (g : Guest) → stands_for mem part self.now g → Answers query.now g result }
     {
-        let _alloc = alloc;
         match query {
             Query::Places => places(&self.driver, &self.port),
+            Query::PagesAt(place) => pages_at(alloc, &self.driver, &self.port, *place),
+            Query::PagesBallooned => pages_ballooned(alloc, &self.driver, &self.port),
             Query::Balloon => balloon(&self.driver, &self.port),
             Query::Backing { page } => Reply::Backing {
                 frame: self.port.backing(*page),
