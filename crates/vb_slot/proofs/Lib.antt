@@ -27,10 +27,9 @@ pub mod InflateStep
 pub mod DeflateStep
 pub mod ReapStep
 pub mod Counted
+pub mod Runs
 pub mod Supplying
 pub mod Claiming
 pub mod InitStep
 pub mod FreshStands
-pub mod SameFrames
 pub mod ResetStep
-pub mod Runs

@@ -1,12 +1,13 @@
 -- Which calls and queries slots answer so far.
 use Rattle.std.specs.Prelude.{Bool, true, false}
 use Rattle.vb_model.specs.declared.calls.Call.{Call}
-use Rattle.vb_model.specs.declared.calls.Call.TheVariants.{Init, Alloc, Free, Read, Write, Inflate, Deflate, Oom, Reap, Take, Finish, Sweep, SetTarget}
+use Rattle.vb_model.specs.declared.calls.Call.TheVariants.{Init, Reset, Alloc, Free, Read, Write, Inflate, Deflate, Oom, Reap, Take, Finish, Sweep, SetTarget}
 use Rattle.vb_model.specs.declared.calls.Query.{Query}
 use Rattle.vb_model.specs.declared.calls.Query.TheVariants.{Places, PagesAt, PagesBallooned, Balloon, Backing}
 
 abbrev pub is_answered : Call → Bool
-is_answered (Init features) = true
+is_answered (Init wanted) = true
+is_answered Reset = true
 is_answered (Alloc cpu order) = true
 is_answered (Free cpu start order) = true
 is_answered (Read page offset len) = true

@@ -52,8 +52,7 @@ pub(crate) fn finish<D: Device, K: FrameKeeper>(
     queue: u32,
     index: u32,
 ) -> Reply
-    requires stands { (g : Guest) × Stands (D.mem port.old) (D.part port.old) driver.now g }
-    requires held { (g : Guest) → Stands (D.mem port.old) (D.part port.old) driver.now g → AreOut g (K.out keeper.old) }
+    requires { (g : Guest) × Stands (D.mem port.old) (D.part port.old) driver.now g × AreOut g (K.out keeper.old) }
     ensures { (g : Guest) → Stands (D.mem port.old) (D.part port.old) driver.now g
         → Steps (Stands (D.mem port.new) (D.part port.new) driver.now) K.answers (K.out keeper.old) (K.out keeper.new) g (Call.Finish queue index) result }
 {
@@ -79,8 +78,7 @@ pub(crate) fn sweep<D: Device, K: FrameKeeper>(
     keeper: &mut K,
     page: u32,
 ) -> Reply
-    requires stands { (g : Guest) × Stands (D.mem port.old) (D.part port.old) driver.now g }
-    requires held { (g : Guest) → Stands (D.mem port.old) (D.part port.old) driver.now g → AreOut g (K.out keeper.old) }
+    requires { (g : Guest) × Stands (D.mem port.old) (D.part port.old) driver.now g × AreOut g (K.out keeper.old) }
     ensures { (g : Guest) → Stands (D.mem port.old) (D.part port.old) driver.now g
         → Steps (Stands (D.mem port.new) (D.part port.new) driver.now) K.answers (K.out keeper.old) (K.out keeper.new) g (Call.Sweep page) result }
 {

@@ -9,7 +9,7 @@ ghost use Rattle.vb_slot.specs.Steps.{AreOut, Steps};
 
 use crate::device::{finish, set_target, sweep, take};
 use crate::driver::{alloc, deflate, free, inflate, oom, reap};
-use crate::lives::init;
+use crate::lives::{init, reset};
 use crate::memory::{read, write};
 use crate::new::NoSlot;
 use crate::port::BoxedPort;
@@ -32,9 +32,8 @@ pub trait GuestSlot: Drop {
     /// Answers a call on the guest. Frames that its pages gain are claimed from the keeper, and
     /// those that they lose are put back.
     fn call<K: FrameKeeper>(&mut self, heap: Global, keeper: &mut K, call: &Call) -> Reply
-        requires stands { (g : Guest) × stands self.old g }
+        requires stands { (g : Guest) × stands self.old g × AreOut g (K.out keeper.old) }
         requires answered { is_answered call.now ≡ true }
-        requires held { (g : Guest) → stands self.old g → AreOut g (K.out keeper.old) }
         ensures step { (g : Guest) → stands self.old g
             → Steps (stands self.new) K.answers (K.out keeper.old) (K.out keeper.new) g call.now result };
 
@@ -56,14 +55,14 @@ impl Slot {
     /// Answers a call on the guest. Frames that its pages gain are claimed from the keeper, and
     /// those that they lose are put back.
     pub fn call<K: FrameKeeper>(&mut self, heap: Global, keeper: &mut K, call: &Call) -> Reply
-        requires stands { (g : Guest) × stands_for mem part self.old g }
+        requires stands { (g : Guest) × stands_for mem part self.old g × AreOut g (K.out keeper.old) }
         requires answered { is_answered call.now ≡ true }
-        requires held { (g : Guest) → stands_for mem part self.old g → AreOut g (K.out keeper.old) }
         ensures step { (g : Guest) → stands_for mem part self.old g
             → Steps (stands_for mem part self.new) K.answers (K.out keeper.old) (K.out keeper.new) g call.now result }
     {
         match call {
             Call::Init { features } => init(&mut self.driver, &mut self.port, keeper, *features),
+            Call::Reset => reset(&mut self.driver, &mut self.port),
             Call::Alloc { cpu, order } => alloc(&mut self.driver, &self.port, *cpu, *order),
             Call::Free { cpu, start, order } => {
                 free(&mut self.driver, &self.port, *cpu, *start, *order)

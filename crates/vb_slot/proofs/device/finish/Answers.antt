@@ -2,14 +2,14 @@ use Rattle.vb_slot.proofs.Freed.{ring_backed, loose_room, finish_own, finish_loo
 use Rattle.vb_slot.proofs.device.finish.Goals as goal
 
 pub finish-answer-requires : goal.finish-answer-requires
-finish-answer-requires g c = let (guest, stands) = c.requires.stands in record { backed = ring_backed _ _ _ guest c.args.queue stands; room = loose_room _ _ _ guest stands }
+finish-answer-requires g c = let (guest, stands, held) = c.requires in record { backed = ring_backed _ _ _ guest c.args.queue stands; room = loose_room _ _ _ guest stands }
 
 pub return_loose-requires : goal.return_loose-requires
 return_loose-requires g c =
-    let (guest, stands) = c.requires.stands in
+    let (guest, stands, held) = c.requires in
     record {
       own = finish_own _ _ _ _ _ guest c.args.queue c.args.index _ c.finish-answer.ensures stands;
-      loose = finish_loose _ _ _ _ _ guest c.args.queue c.args.index _ _ c.finish-answer.ensures stands (c.requires.held guest stands);
+      loose = finish_loose _ _ _ _ _ guest c.args.queue c.args.index _ _ c.finish-answer.ensures stands held;
     }
 
 pub returns : goal.returns

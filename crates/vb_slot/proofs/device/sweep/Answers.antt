@@ -3,14 +3,14 @@ use Rattle.vb_slot.proofs.SweepStep.{sweep_own, sweep_loose, sweep_replied}
 use Rattle.vb_slot.proofs.device.sweep.Goals as goal
 
 pub sweep-answer-requires : goal.sweep-answer-requires
-sweep-answer-requires g c = let (guest, stands) = c.requires.stands in loose_room _ _ _ guest stands
+sweep-answer-requires g c = let (guest, stands, held) = c.requires in loose_room _ _ _ guest stands
 
 pub return_loose-requires : goal.return_loose-requires
 return_loose-requires g c =
-    let (guest, stands) = c.requires.stands in
+    let (guest, stands, held) = c.requires in
     record {
       own = sweep_own _ _ _ _ _ guest c.args.page _ c.sweep-answer.ensures stands;
-      loose = sweep_loose _ _ _ _ _ guest c.args.page _ _ c.sweep-answer.ensures stands (c.requires.held guest stands);
+      loose = sweep_loose _ _ _ _ _ guest c.args.page _ _ c.sweep-answer.ensures stands held;
     }
 
 pub returns : goal.returns

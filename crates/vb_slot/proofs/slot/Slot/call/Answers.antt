@@ -1,6 +1,12 @@
 use Rattle.vb_slot.proofs.Freed.{steps_quiet}
 use Rattle.vb_slot.proofs.slot.Slot.call.Goals as goal
 
+pub returns-in-Init : goal.returns-in-Init
+returns-in-Init g c = record { step = λ guest stands. rw c.in-Init.is (c.init.ensures guest stands) }
+
+pub returns-in-Reset : goal.returns-in-Reset
+returns-in-Reset g c = record { step = λ guest stands. rw c.in-Reset.is (steps_quiet _ g.K.FrameKeeper.answers _ guest _ _ (c.reset.ensures guest stands)) }
+
 pub returns-in-Alloc : goal.returns-in-Alloc
 returns-in-Alloc g c = record { step = λ guest stands. rw c.in-Alloc.is (steps_quiet _ g.K.FrameKeeper.answers _ guest _ _ (c.alloc.ensures guest stands)) }
 
@@ -36,6 +42,3 @@ returns-in-Sweep g c = record { step = λ guest stands. rw c.in-Sweep.is (c.swee
 
 pub returns-in-SetTarget : goal.returns-in-SetTarget
 returns-in-SetTarget g c = record { step = λ guest stands. rw c.in-SetTarget.is (steps_quiet _ g.K.FrameKeeper.answers _ guest _ _ (c.set_target.ensures _ guest stands)) }
-
-pub returns-in-Init : goal.returns-in-Init
-returns-in-Init g c = record { step = λ guest stands. rw c.in-Init.is (c.init.ensures guest stands) }

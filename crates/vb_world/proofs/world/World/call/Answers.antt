@@ -1,31 +1,20 @@
-use Rattle.std.proofs.Common.{sym, ap, ℕ, List, Option, arith}
-use Rattle.std.specs.Prelude.{count_by}
-use Rattle.vb_slot.specs.Steps.{is_frame}
-use Rattle.vb_slot.proofs.SameFrames.{same_frames}
-use Rattle.vb_world.proofs.Calls.{guest_step, guest_frames, guest_of, no_guest_step}
+use Rattle.std.proofs.Common.{sym}
 use Rattle.vb_world.proofs.Brought.{call_answered}
+use Rattle.vb_world.proofs.Calls.{guest_step, guest_frames, guest_of, no_guest_step}
 use Rattle.vb_world.proofs.world.World.call.Goals as goal
 
 pub call-requires-clause-answered : goal.call-requires-clause-answered
 call-requires-clause-answered g c = call_answered _ c.requires.brought
 
-pub call-requires-clause-held : goal.call-requires-clause-held
-call-requires-clause-held g c =
+pub call-requires-clause-stands : goal.call-requires-clause-stands
+call-requires-clause-stands g c =
     let (w, host) = c.requires.world in
     let is = sym c.in-Some.ensures.value in
     let has = guest_of _ _ _ _ _ w c.args.guest c.in-Some.slot.now host is in
-    λ guest stands frame.
-    let same = ap (λ (frames : List (Option ℕ)). count_by (is_frame frame) frames) (same_frames has.stands stands) in
-    omega (arith, same, guest_frames _ _ _ _ _ w c.args.guest c.in-Some.slot.now host is has frame)
+    (has.guest, has.stands, guest_frames _ _ _ _ _ w c.args.guest c.in-Some.slot.now host is has)
 
 pub returns-in-Some : goal.returns-in-Some
 returns-in-Some g c = λ w host. guest_step _ _ _ _ _ w c.args.guest c.in-Some.slot.now c.call.new.self _ _ _ host (sym c.in-Some.ensures.value) c.call.ensures.step
 
 pub returns-in-None : goal.returns-in-None
 returns-in-None g c = λ w host. (w, host, no_guest_step _ _ _ _ _ w c.args.guest _ host (sym c.in-None.ensures.value))
-
-pub call-requires-clause-stands : goal.call-requires-clause-stands
-call-requires-clause-stands g c =
-    let (w, host) = c.requires.world in
-    let has = guest_of _ _ _ _ _ w c.args.guest c.in-Some.slot.now host (sym c.in-Some.ensures.value) in
-    (has.guest, has.stands)
