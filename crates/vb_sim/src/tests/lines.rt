@@ -98,6 +98,22 @@ fn a_line_without_features_asks_for_the_default_ones(rt: HostRuntime) {
     );
 }
 
+#[test]
+fn a_line_names_the_features_that_are_asked_for(rt: HostRuntime) {
+    let named = any_event(rt.alloc(), b"init 7 000000010000002A");
+    assert!(rt;
+        matches!(
+            named,
+            Ok(Event::Guest {
+                guest: 7,
+                call: Call::Init {
+                    features: 0x1_0000_002a
+                }
+            })
+        )
+    );
+}
+
 /// Whether this line writes these bytes to guest 7, at the start of page 16.
 fn writes(alloc: Global, line: &[u8], expected: &[u8]) -> bool {
     match any_event(alloc, line) {
@@ -166,7 +182,7 @@ fn questions(rt: HostRuntime) {
 }
 
 /// Lines that break a rule of the format.
-static BAD_LINES: [&[u8]; 40] = [
+static BAD_LINES: [&[u8]; 39] = [
     b" ",
     b" frames",
     b"frames ",
@@ -199,7 +215,6 @@ static BAD_LINES: [&[u8]; 40] = [
     b"write 0 16 0 0g",
     b"write 0 16 0 ab cd",
     b"init",
-    b"init 0 0000000100000027",
     b"init 0 00000000100000027",
     b"init 0 000000010000002g",
     b"init 0 0000000100000027 0",
