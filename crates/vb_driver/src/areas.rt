@@ -63,6 +63,7 @@ impl Areas {
         ensures free { IfOk result (λ start. IsTrue (is_free_block self.old.free (block_at start order))) }
         ensures state { IfOk result (λ start. self.new ≡ record self.old { free = flagged (pages_of (block_at start order)) false self.old.free; held = with_block (block_at start order) self.old.held }) }
     {
+        // A free page is one of the guest's pages.
         self.pages.pages_are_apart();
         match self.pages.alloc(cpu, order) {
             Ok(start) => Ok(start),
@@ -78,6 +79,7 @@ impl Areas {
         ensures apart { AreApart self.new }
     {
         let freed = self.pages.free(cpu, start, order);
+        // No page is both free and in a held block.
         self.pages.pages_are_apart();
         match freed {
             Ok(()) => Ok(()),
@@ -94,6 +96,7 @@ impl Areas {
         ensures distinct { AllDistinct result.items }
         ensures state { self.new ≡ record self.old { free = flagged result.items false self.old.free } }
     {
+        // A free page is one of the guest's pages.
         self.pages.pages_are_apart();
         let mut taken = ArrayVec::new();
         self.pages.take_free(count, &mut taken);
