@@ -258,7 +258,7 @@ performs_order (Scribble page offset bytes) g claims reply new c h e s honest =
       | inr r ↦ subst IsOrderly (sym r.2) h
     ]
 
-honest_order : (g : Guest) (call : Call) (claims : List Claim) (reply : Reply) (new : Guest) → IsConsistent g → IsOrderly g → HonestStep g call claims reply new → new.rogue ≡ false → IsOrderly new
+pub honest_order : (g : Guest) (call : Call) (claims : List Claim) (reply : Reply) (new : Guest) → IsConsistent g → IsOrderly g → HonestStep g call claims reply new → new.rogue ≡ false → IsOrderly new
 honest_order g call claims reply new c h s honest =
     elim (match_cases (refusal_of g call) (Performs call g claims reply new) (λ refusal. (claims ≡ []) × (reply ≡ Refused refusal) × (new ≡ g)) s) [
       | inl p ↦ performs_order call g claims reply new c h p.0 p.1 honest

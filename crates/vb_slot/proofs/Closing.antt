@@ -11,12 +11,12 @@ use Rattle.vb_model.specs.Refusals.{Test, ◌⇒◌, first_refusal, refusal_of}
 use Rattle.vb_model.specs.Rogue.{RogueStep}
 use Rattle.vb_model.specs.Step.{Performs, HonestStep, GuestStep}
 use Rattle.vb_model.proofs.CallSteps.{honest_keeps}
+use Rattle.vb_model.proofs.OrderlySteps.{honest_order}
 use Rattle.vb_ram.specs.Pages.{Pages}
 use Rattle.vb_ram.specs.Part.{Part}
 use Rattle.vb_driver.specs.State.{DriverState}
 use Rattle.vb_slot.specs.Stands.{Stands, Ties}
 use Rattle.vb_slot.specs.Steps.{StepsAlone}
-use Rattle.vb_slot.proofs.Ordered.{honest_order}
 
 pub first_holds : (b : Bool) (why : Refusal) (rest : List Test) → b ≡ true → first_refusal ((b ⇒ why) ∷ rest) ≡ Some why
 first_holds b why rest e = ap (λ (v : Bool). if v then Some why else first_refusal rest) e
@@ -42,7 +42,7 @@ pub still_stands : (m1 m2 : Pages) (p1 p2 : Part) (d1 d2 : DriverState) (g : Gue
 still_stands m1 m2 p1 p2 d1 d2 g call claims reply new stands step ties = record {
   ties = ties;
   consistent = honest_keeps g call claims reply new stands.consistent step ties.parts.honest;
-  orderly = honest_order g call claims reply new stands.ties.parts.honest stands.consistent stands.orderly step ties.parts.honest;
+  orderly = honest_order g call claims reply new stands.consistent stands.orderly step ties.parts.honest;
 }
 
 pub steps_alone : (m1 m2 : Pages) (p1 p2 : Part) (d1 d2 : DriverState) (g : Guest) (call : Call) (reply : Reply) (new : Guest)

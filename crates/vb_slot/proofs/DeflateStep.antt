@@ -16,6 +16,7 @@ use Rattle.vb_model.specs.Driver.{Deflates, lowest_lent, asking}
 use Rattle.vb_model.specs.Refusals.{◌⇒◌, first_refusal, refusal_of, deflate_count, oom_count, room}
 use Rattle.vb_model.specs.Step.{Performs}
 use Rattle.vb_model.proofs.Tables.{count_by-cons}
+use Rattle.vb_model.proofs.OrderlySteps.{honest_order}
 use Rattle.vb_ram.specs.Pages.{Pages}
 use Rattle.vb_ram.specs.Part.{Part}
 use Rattle.vb_ring.specs.Ends.{outstanding as outstanding_in}
@@ -31,7 +32,6 @@ use Rattle.vb_slot.proofs.Apart.{line_apart}
 use Rattle.vb_slot.proofs.Posting.{line_posted, least_head, outstanding_are}
 use Rattle.vb_slot.proofs.PagesKept.{pages_same}
 use Rattle.vb_slot.proofs.Closing.{honest_performed, steps_alone, refused_alone}
-use Rattle.vb_slot.proofs.Ordered.{honest_order}
 use Rattle.vb_slot.proofs.Offered.{last_sound, deflate_requested}
 use Rattle.vb_slot.proofs.InflateStep.{request_refusal, posted_same, post_apart}
 use Rattle.vb_slot.proofs.Normal.{driver_of, driver_is}
@@ -77,7 +77,7 @@ asked_back m1 m2 p1 p2 g si sd d2 call count posted asks driver did stands run f
     let new : Guest = asking Deflating posted.head pages g in
     let reply = ap (λ (k : ℕ). Posted posted.head k) did.pages in
     let step = honest_performed g call [] (Posted posted.head posted.pages) new free (asks.performs (Posted posted.head posted.pages) new (posted.head, least, reply, refl)) in
-    let orderly = honest_order g call [] (Posted posted.head posted.pages) new ties.parts.honest stands.consistent stands.orderly step ties.parts.honest in
+    let orderly = honest_order g call [] (Posted posted.head posted.pages) new stands.consistent stands.orderly step ties.parts.honest in
     let once = (last_sound g.deflate.posted (record { head = posted.head; pages = pages; visited = 0 }) orderly.deflating.posted).distinct in
     let length_is : length pages ≡ count = length-lent g count asks.lent in
     let asked = deflate_requested g count stands.orderly once (omega (arith, length_is, asks.some free run.state)) (omega (arith, length_is, asks.few)) in

@@ -13,6 +13,7 @@ use Rattle.vb_model.specs.Requests.{outstanding, Inflating}
 use Rattle.vb_model.specs.Guest.{Guest}
 use Rattle.vb_model.specs.Driver.{stranded_first, asking}
 use Rattle.vb_model.specs.Refusals.{◌⇒◌, first_refusal, refusal_of, inflate_count, room}
+use Rattle.vb_model.proofs.OrderlySteps.{honest_order}
 use Rattle.vb_ram.specs.Pages.{Pages, frame_at, contents_of}
 use Rattle.vb_ram.specs.Part.{Part}
 use Rattle.vb_ring.specs.Ends.{outstanding as outstanding_in}
@@ -28,7 +29,6 @@ use Rattle.vb_slot.proofs.Apart.{SameLine, line_apart}
 use Rattle.vb_slot.proofs.Posting.{line_posted, least_head, outstanding_are}
 use Rattle.vb_slot.proofs.PagesKept.{SamePages, pages_same}
 use Rattle.vb_slot.proofs.Closing.{honest_performed, steps_alone, refused_alone}
-use Rattle.vb_slot.proofs.Ordered.{honest_order}
 use Rattle.vb_slot.proofs.Offered.{last_sound, inflate_requested}
 use Rattle.vb_slot.proofs.Normal.{driver_of, driver_is}
 
@@ -85,7 +85,7 @@ inflate_offered m1 m2 p1 p2 g si sd d2 n posted driver did stands run free some 
     let new : Guest = asking Inflating posted.head pages g in
     let reply = ap (λ (k : ℕ). Posted posted.head k) did.pages in
     let step = honest_performed g (Inflate n) [] (Posted posted.head posted.pages) new free (refl, (posted.head, did.others, least, did.free, did.distinct, did.enough, reply, refl)) in
-    let orderly = honest_order g (Inflate n) [] (Posted posted.head posted.pages) new ties.parts.honest stands.consistent stands.orderly step ties.parts.honest in
+    let orderly = honest_order g (Inflate n) [] (Posted posted.head posted.pages) new stands.consistent stands.orderly step ties.parts.honest in
     let once = (last_sound g.inflate.posted (record { head = posted.head; pages = pages; visited = 0 }) orderly.inflating.posted).distinct in
     let count : length pages ≡ inflate_count g n = length-append (stranded_first g n) did.others ∙ did.enough in
     let asked = inflate_requested g n did.others stands.orderly did.free once (omega (arith, count, some)) (omega (arith, count)) in

@@ -4,7 +4,6 @@ pub mod Apart
 pub mod Finishing
 pub mod Posting
 pub mod Reaping
-pub mod Ordered
 pub mod Closing
 pub mod Refusing
 pub mod Chains
