@@ -1,11 +1,14 @@
-// A driver that was just plugged in, and the pages of the guest's own.
+// A driver that was just plugged in: the pages of the guest's own, and calls of a device that isn't
+// initialised.
 
 use crate::Driver;
+use bitflags::Flags;
 use std::alloc::{AllocError, Global};
 use std::process::Abort;
 use std::test::Fail;
 use vb_model::{Place, PlaceCounts, Refusal};
-use vb_ram::Config;
+use vb_ram::{Config, Ram};
+use vb_status::{MemoryPort, Port, Status};
 
 /// A driver of 64 pages, with queues of 8 descriptors and one processor.
 fn plugged_in(alloc: Global) -> Result<Driver, AllocError> {
@@ -79,5 +82,55 @@ fn refuses_wrong_blocks(rt: HostRuntime) -> Result<(), Fail> {
     assert!(rt; free(&mut driver, 0, 16, 10) == Err(Refusal::BadOrder));
     assert!(rt; free(&mut driver, 1, 16, 1) == Err(Refusal::BadCpu));
     expect_counts(&rt, &driver, 46, 2);
+    Ok(())
+}
+
+fn inflate_before_init(alloc: Global) -> Result<bool, Fail> {
+    let mut driver = plugged_in(alloc)?;
+    let mut port = MemoryPort::new(Ram::new(alloc, 64)?);
+    Ok(driver.inflate(&mut port, 1) == Err(Refusal::NotReady))
+}
+
+fn deflate_before_init(alloc: Global) -> Result<bool, Fail> {
+    let mut driver = plugged_in(alloc)?;
+    let mut port = MemoryPort::new(Ram::new(alloc, 64)?);
+    Ok(driver.deflate(&mut port, 1) == Err(Refusal::NotReady))
+}
+
+fn oom_before_init(alloc: Global) -> Result<bool, Fail> {
+    let mut driver = plugged_in(alloc)?;
+    let mut port = MemoryPort::new(Ram::new(alloc, 64)?);
+    Ok(driver.oom(&mut port, 1) == Err(Refusal::NotReady))
+}
+
+fn reap_before_init(alloc: Global, queue: u32, refusal: Refusal) -> Result<bool, Fail> {
+    let mut driver = plugged_in(alloc)?;
+    let mut port = MemoryPort::new(Ram::new(alloc, 64)?);
+    Ok(driver.reap(&mut port, queue) == Err(refusal))
+}
+
+#[test]
+fn needs_an_initialised_device(rt: HostRuntime) -> Result<(), Fail> {
+    assert!(rt; inflate_before_init(rt.alloc())?);
+    assert!(rt; deflate_before_init(rt.alloc())?);
+    assert!(rt; oom_before_init(rt.alloc())?);
+    assert!(rt; reap_before_init(rt.alloc(), 0, Refusal::NotReady)?);
+    assert!(rt; reap_before_init(rt.alloc(), 1, Refusal::NotReady)?);
+    assert!(rt; reap_before_init(rt.alloc(), 2, Refusal::NoQueue)?);
+    Ok(())
+}
+
+fn reset(driver: &mut Driver, port: &mut MemoryPort) {
+    driver.reset(port);
+}
+
+#[test]
+fn keeps_its_blocks_over_a_reset(rt: HostRuntime) -> Result<(), Fail> {
+    let mut driver = plugged_in(rt.alloc())?;
+    let mut port = MemoryPort::new(Ram::new(rt.alloc(), 64)?);
+    assert!(rt; alloc(&mut driver, 0, 3) == Ok(16));
+    reset(&mut driver, &mut port);
+    expect_counts(&rt, &driver, 40, 8);
+    assert!(rt; port.status() == Status::empty());
     Ok(())
 }
