@@ -17,9 +17,6 @@ use vb_model::{Bytes, Call, Event, Place, Query};
 /// MUST_TELL_HOST, STATS_VQ, DEFLATE_ON_OOM, page reporting (profile) and VERSION_1.
 pub const DEFAULT_FEATURES: u64 = 0x1_0000_0027;
 
-/// Whether a line may name the features that a driver asks for. So far it asks for the default ones.
-const FEATURES_ARE_BROUGHT: bool = false;
-
 /// Hexadecimal digits of a line's features.
 const FEATURE_DIGITS: usize = 16;
 
@@ -280,9 +277,6 @@ fn positive(number: u32) -> Result<u32, LineFault> {
 fn wanted_features(words: &mut Words<'_>) -> Result<u64, LineFault> {
     if words.is_at_end() {
         return Ok(DEFAULT_FEATURES);
-    }
-    if !FEATURES_ARE_BROUGHT {
-        return Err(LineFault::Bad);
     }
     features(words.word()?).ok_or(LineFault::Bad)
 }
