@@ -2,5 +2,6 @@
 
 mod lines;
 mod replies;
+mod rows;
 mod runs;
 mod scripts;
