@@ -4,3 +4,5 @@ pub mod Calls
 pub mod Plugs
 pub mod Runs
 pub mod Brought
+pub mod Listing
+pub mod Pushed
