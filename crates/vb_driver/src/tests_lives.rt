@@ -187,3 +187,44 @@ fn offers_stranded_pages_first(rt: HostRuntime) -> Result<(), Fail> {
     assert!(rt; guest.inflate(1) == Err(Refusal::Nothing));
     Ok(())
 }
+
+/// A request for pages 17 to 20.
+static NUMBERS: [u8; 16] = [17, 0, 0, 0, 18, 0, 0, 0, 19, 0, 0, 0, 20, 0, 0, 0];
+
+/// A descriptor of 16 bytes at address 0x4000 that the device reads, with no other behind it.
+static DESCRIPTOR: [u8; 16] = [0, 0x40, 0, 0, 0, 0, 0, 0, 16, 0, 0, 0, 0, 0, 0, 0];
+
+/// An available ring with one entry, for head 0.
+static AVAILABLE: [u8; 16] = [0, 0, 1, 0, 0, 0, 0, 0, 0, 0, 0, 0, 0, 0, 0, 0];
+
+impl Guest {
+    fn alloc(&mut self) -> Result<u32, Refusal> {
+        self.driver.alloc(0, 0)
+    }
+
+    /// Whether a page has these bytes from an offset on.
+    fn shows(&self, page: u32, offset: usize, expected: &[u8; 16]) -> bool {
+        let mut bytes = [0; 16];
+        let _ = self.port.read(page, offset, &mut bytes);
+        bytes == *expected
+    }
+
+    /// Starts the driver, uses a page, and offers four.
+    fn offer_four(&mut self) -> bool {
+        self.set_target(4);
+        let started = self.init(ALL).is_ok();
+        let used = self.alloc() == Ok(16);
+        let offered = self.inflate(4) == Ok(Posted { head: 0, pages: 4 });
+        started && used && offered
+    }
+}
+
+#[test]
+fn a_request_is_the_standards_bytes(rt: HostRuntime) -> Result<(), Fail> {
+    let mut guest = Guest::new(rt.alloc(), 13)?;
+    assert!(rt; guest.offer_four());
+    assert!(rt; guest.shows(4, 0, &NUMBERS));
+    assert!(rt; guest.shows(0, 0, &DESCRIPTOR));
+    assert!(rt; guest.shows(0, 128, &AVAILABLE));
+    Ok(())
+}
