@@ -1,6 +1,5 @@
 -- What an event does to a host is what it does to its world.
-use Rattle.std.proofs.Common.{◌≡◌, ◌≢◌, ℕ, zero, suc, ◌+◌, ◌-◌, ◌<◌, ◌≤◌, Bool, true, false, cond, List, [], ◌∷◌, length, get_or, set, refl, sym, ap, subst, ◌∙◌, inl, inr, arith, sum_by, Option, Some, None, is_some, is_none, count_by}
-use Rattle.std.specs.Prelude.{◌==◌, slice_index_or, slice_set, MatchOption}
+use Rattle.std.proofs.Common.{◌≡◌, ℕ, ◌-◌, ◌<◌, Bool, true, cond, List, length, refl, sym, ap, subst, ◌∙◌, inl, inr, arith, Option, Some, None, is_some, count_by}
 use Rattle.std.proofs.lemmas.List.{get_or-set_same, get_or-set_other, get_or_past}
 use Rattle.std.proofs.lemmas.List.Sums.{sum_by-set}
 use Rattle.std.proofs.lemmas.Bool.{cases_lt}
@@ -12,15 +11,14 @@ use Rattle.vb_model.specs.declared.calls.Query.{Query}
 use Rattle.vb_model.specs.declared.replies.Reply.{Reply}
 use Rattle.vb_model.specs.declared.replies.Reply.TheVariants.{Frames, Refused}
 use Rattle.vb_model.specs.declared.replies.Refusal.TheVariants.{NoGuest}
-use Rattle.vb_model.specs.Tests.{one_if}
 use Rattle.vb_model.specs.Guest.{Guest}
 use Rattle.vb_model.specs.World.{World, WorldStep, guest_at, with_guest, put_guest, used_frames, Gives, IsOut, Answers, plugged_count}
 use Rattle.vb_model.proofs.Changes.{with_guest-same, with_guest-other}
-use Rattle.vb_frames.specs.Out.{is_out, TableAnswers, AllAnswered}
+use Rattle.vb_frames.specs.Out.{is_out, TableAnswers}
 use Rattle.vb_frames.specs.Returns.{same_gives}
 use Rattle.vb_frames.proofs.Least.{table_gives}
-use Rattle.vb_slot.specs.Steps.{Steps, AreOut, backing_count}
-use Rattle.vb_world.specs.Hosts.{IsHost, StandsAt, backing_of, backing_at}
+use Rattle.vb_slot.specs.Steps.{Steps, AreOut}
+use Rattle.vb_world.specs.Hosts.{IsHost, StandsAt, backing_at}
 use Rattle.vb_world.proofs.Guests.{backing-with, backing-part, count-with, backs_out, out_backs}
 use Rattle.vb_world.proofs.Frames.{used_are_out}
 

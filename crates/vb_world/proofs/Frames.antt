@@ -1,5 +1,5 @@
 -- How many frames are out is how many back pages.
-use Rattle.std.proofs.Common.{◌≡◌, ◌≢◌, ℕ, zero, suc, ◌+◌, ◌<◌, ◌≤◌, Bool, true, false, cond, List, [], ◌∷◌, length, get_or, refl, sym, ap, subst, ◌∙◌, inl, inr, arith, sum_by, Option, Some, None, is_some, count_by}
+use Rattle.std.proofs.Common.{◌≡◌, ◌≢◌, ℕ, zero, suc, ◌+◌, ◌<◌, Bool, true, List, [], ◌∷◌, length, refl, sym, ap, ◌∙◌, inl, inr, arith, sum_by, Option, Some, None, is_some, count_by}
 use Rattle.std.specs.Prelude.{◌==◌, slice_index_or}
 use Rattle.std.proofs.lemmas.List.Sums.{sum_by-cons}
 use Rattle.std.proofs.lemmas.Bool.{false≢true}
@@ -8,7 +8,7 @@ use Rattle.vb_model.specs.Tests.{one_if}
 use Rattle.vb_model.specs.Guest.{Guest, backed_count}
 use Rattle.vb_model.specs.World.{World, guest_at, used_frames}
 use Rattle.vb_model.proofs.Tables.{count_by-cons}
-use Rattle.vb_slot.specs.Steps.{is_frame, backing_count}
+use Rattle.vb_slot.specs.Steps.{is_frame}
 use Rattle.vb_frames.specs.Out.{is_out}
 use Rattle.vb_world.specs.Hosts.{backing_at, backing_of}
 use Rattle.vb_world.proofs.Guests.{backs_out}

@@ -1,12 +1,12 @@
 -- Sums and counts over all guests, where one of them changes.
-use Rattle.std.proofs.Common.{◌≡◌, ℕ, zero, suc, ◌+◌, ◌<◌, ◌≤◌, Bool, true, false, cond, List, [], ◌∷◌, length, get_or, refl, sym, ap, subst, ◌∙◌, inl, inr, arith, sum_by, Option, Some, None, is_some, count_by}
-use Rattle.std.specs.Prelude.{◌==◌, slice_index_or, replicate}
+use Rattle.std.proofs.Common.{◌≡◌, ℕ, zero, suc, ◌+◌, ◌≤◌, Bool, true, false, cond, List, [], ◌∷◌, refl, ap, ◌∙◌, inl, inr, arith, sum_by, Option, Some, None, is_some, count_by}
+use Rattle.std.specs.Prelude.{◌==◌, slice_index_or}
 use Rattle.std.proofs.lemmas.List.Sums.{sum_by-cons}
-use Rattle.std.proofs.lemmas.Bool.{cases_lt, false≢true}
+use Rattle.std.proofs.lemmas.Bool.{cases_lt}
 use Rattle.std.proofs.lemmas.Bool.Decides.{eqb_tells}
 use Rattle.vb_model.specs.Tests.{one_if}
 use Rattle.vb_model.specs.Guest.{Guest}
-use Rattle.vb_model.specs.World.{World, guest_at, with_guest, plugged_count, Backs, IsOut}
+use Rattle.vb_model.specs.World.{World, guest_at, with_guest, IsOut}
 use Rattle.vb_model.proofs.Tables.{count_by-cons}
 use Rattle.vb_slot.specs.Steps.{is_frame, backing_count}
 use Rattle.vb_frames.specs.Out.{is_out}

@@ -1,6 +1,6 @@
 -- Flagged pages as a rising list, and what the calls on a device leave of the flags.
-use Rattle.std.specs.Prelude.{◌≡◌, ℕ, zero, suc, ◌+◌, ◌<◌, ◌≤◌, ◌==◌, ◌||◌, ◌&&◌, not, Bool, true, false, List, [], ◌∷◌, ◌++◌, length, count_by, replicate, refl, if◌then◌else◌, cond, MatchOption, ⊤, Option, Some, None, is_none, Result, Ok, Err}
-use Rattle.std.proofs.Common.{sym, ◌∙◌, ap, subst, arith, get_or, take, eq-eqb, min}
+use Rattle.std.specs.Prelude.{◌≡◌, ℕ, zero, suc, ◌+◌, ◌<◌, ◌≤◌, ◌==◌, ◌||◌, ◌&&◌, not, Bool, true, false, List, [], ◌∷◌, ◌++◌, length, count_by, replicate, refl, if◌then◌else◌, cond, MatchOption, ⊤, Option, Some, None, is_none, Result}
+use Rattle.std.proofs.Common.{sym, ◌∙◌, ap, subst, arith, get_or, take, eq-eqb}
 use Rattle.std.proofs.lemmas.List.{append-nil, length-replicate, take_more, length-take}
 use Rattle.std.proofs.lemmas.List.Sums.{count_by-le-length}
 use Rattle.vb_ram.specs.declared.config.Config.{Config}
@@ -15,7 +15,7 @@ use Rattle.vb_device.proofs.Marks.{flagged-length}
 use Rattle.vb_device.specs.Calls.{attached, using, SweepsBy, FinishesBy, Uses}
 use Rattle.vb_device.specs.Conditions.{sweep_refusal, finish_refusal, taken_at, is_not_ready, has_fault}
 use Rattle.vb_model.specs.declared.replies.Refusal.{Refusal}
-use Rattle.vb_model.specs.Tests.{is_in, pages_from, pages_where, one_if}
+use Rattle.vb_model.specs.Tests.{is_in, pages_from, pages_where}
 use Rattle.vb_model.proofs.Tables.{pages_where-passes, count_by-cons}
 
 pub pages_from-append : {A : Type 0} (first : ℕ) (test : A → Bool) (xs ys : List A) → pages_from first test (xs ++ ys) ≡ pages_from first test xs ++ pages_from (first + length xs) test ys

@@ -1,8 +1,7 @@
 -- A host is made, and guests are plugged in.
-use Rattle.std.proofs.Common.{◌≡◌, ◌≢◌, ℕ, zero, suc, ◌+◌, ◌-◌, ◌<◌, ◌≤◌, Bool, true, false, cond, List, [], ◌∷◌, length, get_or, set, map, refl, sym, ap, subst, ◌∙◌, inl, inr, arith, sum_by, Option, Some, None, is_some, is_none, count_by, All}
-use Rattle.std.specs.Prelude.{◌==◌, slice_index_or, slice_set, MatchOption, replicate, ◌⊎◌, ⊤, nat_le, not, if◌then◌else◌}
+use Rattle.std.proofs.Common.{◌≡◌, ℕ, zero, suc, ◌+◌, ◌<◌, ◌≤◌, Bool, true, false, cond, List, [], ◌∷◌, length, get_or, map, refl, sym, ap, subst, ◌∙◌, inl, inr, arith, Option, Some, None, is_some, count_by, All}
+use Rattle.std.specs.Prelude.{◌==◌, MatchOption, replicate, ⊤, nat_le, if◌then◌else◌}
 use Rattle.std.proofs.lemmas.List.{get_or_past, get_or-replicate, length-replicate}
-use Rattle.std.proofs.lemmas.List.Elements.{All-tail}
 use Rattle.std.proofs.lemmas.Bool.{cases_lt}
 use Rattle.std.specs.List.{remove}
 use Rattle.std.proofs.lemmas.Bool.Decides.{eqb_tells, nat_tests}
@@ -12,17 +11,16 @@ use Rattle.vb_model.specs.declared.replies.Reply.{Reply}
 use Rattle.vb_model.specs.declared.replies.Reply.TheVariants.{Plugged, Refused}
 use Rattle.vb_model.specs.declared.replies.Refusal.TheVariants.{NoMemory, BadConfig, TooMany, NoDevice}
 use Rattle.vb_model.specs.Limits.{max_guests, is_config}
-use Rattle.vb_model.specs.Tests.{one_if}
 use Rattle.vb_model.specs.Guest.{Guest, Config, fresh}
-use Rattle.vb_model.specs.World.{World, guest_at, with_guest, put_guest, made, Plugs, PlugsIn, WorldStep, plugged_count, has_no_spare}
+use Rattle.vb_model.specs.World.{World, guest_at, with_guest, made, Plugs, PlugsIn, WorldStep, plugged_count, has_no_spare}
 use Rattle.vb_model.proofs.Changes.{with_guest-same, with_guest-other}
 use Rattle.vb_model.proofs.Tables.{count_by-cons}
 use Rattle.vb_frames.specs.Out.{is_out}
 use Rattle.vb_ram.specs.Pages.{Pages}
 use Rattle.vb_ram.specs.Part.{Part}
 use Rattle.vb_slot.specs.Spare.{IsSpare}
-use Rattle.vb_slot.specs.Steps.{backing_count, is_frame}
-use Rattle.vb_world.specs.Hosts.{IsHost, StandsAt, AreSpares, backing_of, backing_at}
+use Rattle.vb_slot.specs.Steps.{is_frame}
+use Rattle.vb_world.specs.Hosts.{IsHost, StandsAt, AreSpares, backing_at}
 use Rattle.vb_world.proofs.Guests.{backing-with, count-with}
 use Rattle.vb_world.proofs.Calls.{no_guest}
 

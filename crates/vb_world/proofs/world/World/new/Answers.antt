@@ -1,4 +1,3 @@
-use Rattle.std.proofs.Common.{arith}
 use Rattle.vb_world.proofs.Plugs.{host_made}
 use Rattle.vb_world.proofs.world.World.new.Goals as goal
 

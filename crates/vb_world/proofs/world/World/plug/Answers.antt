@@ -1,5 +1,4 @@
-use Rattle.std.proofs.Common.{sym, refl, arith, length, ◌≡◌, ◌≤◌, ◌<◌, ℕ, ap, subst}
-use Rattle.vb_ram.specs.declared.config.Config.{Config}
+use Rattle.std.proofs.Common.{arith}
 use Rattle.vb_world.proofs.Plugs.{config_none, config_some, bad_config, too_many, no_device, plug_happens, none_there, some_there}
 use Rattle.vb_world.proofs.world.World.plug.Goals as goal
 

@@ -1,7 +1,4 @@
-use Rattle.std.proofs.Common.{sym, refl, arith, ◌∙◌, subst, ap, ◌≡◌, ◌<◌, length}
-use Rattle.vb_ram.specs.Part.{Part}
-use Rattle.vb_ram.specs.Pages.{Pages}
-use Rattle.vb_slot.specs.Spare.{IsSpare}
+use Rattle.std.proofs.Common.{sym, arith, ◌∙◌, ◌<◌, length}
 use Rattle.vb_world.proofs.Plugs.{plugged, not_plugged, device_back, spare_of, first_removed, spare_like}
 use Rattle.vb_world.proofs.world.World.plug_first_spare.Goals as goal
 

@@ -1,6 +1,5 @@
-use Rattle.std.proofs.Common.{◌≡◌, ◌++◌, ◌∷◌, [], take, rules, ◌+◌, arith, refl}
+use Rattle.std.proofs.Common.{take, rules, arith}
 use Rattle.std.proofs.lemmas.List.{take_more}
-use Rattle.std.proofs.lemmas.Grind.{common_steps}
 use Rattle.vb_model.specs.World.{made}
 use Rattle.vb_world.proofs.Runs.{ran_none, ran_on, safe_run, take_whole}
 use Rattle.vb_world.proofs.world.World.run.Goals as goal

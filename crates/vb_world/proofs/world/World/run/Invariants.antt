@@ -1,5 +1,5 @@
 use Rattle.std.proofs.Common.{◌≡◌, ◌≤◌, length, take, vec_len}
-use Rattle.std.specs.Prelude.{vec_capacity, true, All, IsTrue}
+use Rattle.std.specs.Prelude.{vec_capacity, All, IsTrue}
 use Rattle.vb_model.specs.World.{World}
 use Rattle.vb_model.specs.Brought.{is_brought}
 use Rattle.vb_world.specs.Hosts.{IsWorld}

@@ -1,5 +1,5 @@
-use Rattle.std.proofs.Common.{◌≡◌, ◌∙◌, ◌≤◌, List, ℕ, Bool, ap, sym, subst, length}
-use Rattle.std.specs.Prelude.{vec_capacity, count_by}
+use Rattle.std.proofs.Common.{◌≡◌, ◌∙◌, ◌≤◌, List, ℕ, ap, length}
+use Rattle.std.specs.Prelude.{vec_capacity}
 use Rattle.vb_model.specs.Guest.{is_ballooned}
 use Rattle.vb_model.specs.Tests.{is_in, pages_where}
 use Rattle.vb_device.specs.State.{DeviceState}
