@@ -107,12 +107,16 @@ impl Host {
         }
     }
 
-    /// Finishes the first request of queue 0. No frame may be loose before.
-    fn finish(&mut self) -> Result<u16, Refusal> {
+    /// Finishes the request of this number of queue 0. No frame may be loose before.
+    fn finish_at(&mut self, index: u32) -> Result<u16, Refusal> {
         if self.device.hand_back().is_some() || self.device.backing(0).is_none() {
             return Err(Refusal::NoFrame);
         }
-        self.device.finish(0, 0)
+        self.device.finish(0, index)
+    }
+
+    fn finish(&mut self) -> Result<u16, Refusal> {
+        self.finish_at(0)
     }
 
     /// The number of the last loose frame, which is given out.
@@ -369,5 +373,133 @@ fn a_device_that_is_not_attached(rt: HostRuntime) -> Result<(), Fail> {
     assert!(rt; host.starts());
     assert!(rt; host.take(0) == Ok(None));
     assert!(rt; host.asks_host());
+    Ok(())
+}
+
+impl Host {
+    /// What a take gives where the first descriptor is this one, in a new life.
+    fn rule_of_descriptor(&mut self, descriptor: &[u8; 16]) -> u32 {
+        let written = self.starts()
+            && self.writes(0, 0, descriptor)
+            && self.writes(0, 128, &AVAILABLE);
+        if written { self.rule(0) } else { 0 }
+    }
+}
+
+/// Four bytes that end where memory does.
+static TO_THE_LAST_BYTE: [u8; 16] = [0xfc, 0xff, 3, 0, 0, 0, 0, 0, 4, 0, 0, 0, 0, 0, 0, 0];
+
+/// Four bytes of which the last is past the end of memory.
+static ONE_BYTE_TOO_FAR: [u8; 16] = [0xfd, 0xff, 3, 0, 0, 0, 0, 0, 4, 0, 0, 0, 0, 0, 0, 0];
+
+/// Eight bytes of which the last four are past the last address of 64 bits.
+static PAST_ALL_ADDRESSES: [u8; 16] = [
+    0xfc, 0xff, 0xff, 0xff, 0xff, 0xff, 0xff, 0xff, 8, 0, 0, 0, 0, 0, 0, 0,
+];
+
+#[test]
+fn a_piece_beyond_memory(rt: HostRuntime) -> Result<(), Fail> {
+    let mut host = Host::new(rt.alloc(), 8)?;
+    assert_eq!(rt; host.rule_of_descriptor(&TO_THE_LAST_BYTE), 10);
+    assert_eq!(rt; host.rule_of_descriptor(&ONE_BYTE_TOO_FAR), 6);
+    assert_eq!(rt; host.rule_of_descriptor(&PAST_ALL_ADDRESSES), 6);
+    Ok(())
+}
+
+impl Host {
+    /// Finishes the first request of queue 1. No frame may be loose before.
+    fn finish_deflate(&mut self) -> Result<u16, Refusal> {
+        if self.device.hand_back().is_some() || self.device.backing(1).is_none() {
+            return Err(Refusal::NoFrame);
+        }
+        self.device.finish(1, 0)
+    }
+
+    /// Whether the first two page numbers of page 4 were taken and finished as a deflate.
+    fn deflates_two(&mut self) -> bool {
+        self.writes(1, 0, &EIGHT_BYTES)
+            && self.writes(1, 128, &AVAILABLE)
+            && self.take(1) == Ok(Some(0))
+            && self.finish_deflate() == Ok(0)
+    }
+}
+
+#[test]
+fn a_deflated_page_is_ballooned_no_more(rt: HostRuntime) -> Result<(), Fail> {
+    let mut host = Host::new(rt.alloc(), 8)?;
+    assert!(rt; host.inflates_four());
+    assert!(rt; host.deflates_two());
+    assert!(rt; host.are_ballooned(19, 20));
+    assert!(rt; host.shows(1, 152, &USED));
+    Ok(())
+}
+
+#[test]
+fn a_reset_empties_the_balloon(rt: HostRuntime) -> Result<(), Fail> {
+    let mut host = Host::new(rt.alloc(), 8)?;
+    assert!(rt; host.inflates_four());
+    assert!(rt; host.writes_status(0));
+    assert_eq!(rt; host.ballooned_count(), 0);
+    assert!(rt; host.have_no_frame(17, 20));
+    assert!(rt; host.finish() == Err(Refusal::NotReady));
+    Ok(())
+}
+
+impl Host {
+    /// Takes a ballooned page's frame away. No frame may be loose before.
+    fn sweep(&mut self, page: u32) -> Result<bool, Refusal> {
+        if self.device.hand_back().is_some() {
+            return Err(Refusal::NoFrame);
+        }
+        self.device.sweep(page)
+    }
+}
+
+#[test]
+fn a_ballooned_page_is_swept(rt: HostRuntime) -> Result<(), Fail> {
+    let mut host = Host::new(rt.alloc(), 8)?;
+    assert!(rt; host.inflates_four());
+    assert!(rt; host.supplies(rt.alloc(), 18, 41)?);
+    assert!(rt; host.sweep(18) == Ok(true));
+    assert!(rt; host.hand_back() == Some(41));
+    assert!(rt; host.sweep(18) == Ok(false));
+    assert!(rt; host.sweep(21) == Err(Refusal::NotBallooned));
+    Ok(())
+}
+
+impl Host {
+    /// Whether requests for pages 17 and 18 from head 0 and for pages 19 and 20 from head 1 were taken.
+    fn takes_two(&mut self) -> bool {
+        self.starts()
+            && self.writes(4, 0, &NUMBERS)
+            && self.writes(0, 0, &TWO_REQUESTS)
+            && self.writes(0, 128, &AVAILABLE_TWO)
+            && self.take(0) == Ok(Some(0))
+            && self.take(0) == Ok(Some(1))
+    }
+}
+
+/// Descriptors of 8 bytes at address 0x4000 and 8 bytes at address 0x4008, neither with another behind it.
+static TWO_REQUESTS: [u8; 32] = [
+    0, 0x40, 0, 0, 0, 0, 0, 0, 8, 0, 0, 0, 0, 0, 0, 0, 8, 0x40, 0, 0, 0, 0, 0, 0, 8, 0, 0, 0, 0, 0,
+    0, 0,
+];
+
+/// An available ring with two entries, for heads 0 and 1.
+static AVAILABLE_TWO: [u8; 8] = [0, 0, 2, 0, 0, 0, 1, 0];
+
+/// The used ring with one element, of head 1 and length 0.
+static USED_ONE: [u8; 12] = [0, 0, 1, 0, 1, 0, 0, 0, 0, 0, 0, 0];
+
+#[test]
+fn requests_are_finished_in_any_order(rt: HostRuntime) -> Result<(), Fail> {
+    let mut host = Host::new(rt.alloc(), 8)?;
+    assert!(rt; host.takes_two());
+    assert!(rt; host.finish_at(2) == Err(Refusal::NotTaken));
+    assert!(rt; host.finish_at(1) == Ok(1));
+    assert!(rt; host.shows(0, 152, &USED_ONE));
+    assert!(rt; host.are_ballooned(19, 20));
+    assert!(rt; host.finish_at(0) == Ok(0));
+    assert!(rt; host.are_ballooned(17, 20));
     Ok(())
 }
