@@ -10,6 +10,8 @@ mod immediate;
 mod laws;
 mod queue;
 mod request;
+#[cfg(test)]
+mod tests;
 
 pub use claimed::Claimed;
 pub use device::Device;
