@@ -14,7 +14,7 @@ use slab::Slab;
 use std::alloc::{AllocError, Global};
 use vb_device::Device;
 use vb_frames::FrameTable;
-use vb_model::limits::MAX_GUESTS;
+use vb_model::limits::{MAX_FRAMES, MAX_GUESTS};
 use vb_model::{Call, Event, Query, Refusal, Reply};
 use vb_ram::Config;
 use vb_slot::{GuestSlot, Slot};
@@ -61,7 +61,7 @@ impl World {
         spares: Vec<Box<dyn Device + Send>>,
     ) -> Result<World, AllocError>
         requires some { 0 < frames }
-        requires few { frames ≤ 65536 }
+        requires few { frames ≤ MAX_FRAMES }
         requires spares { All (λ d. IsSpare (mem d) (part d)) spares.items }
         ensures { IfOk result (λ world. IsWorld mem part world (made frames (map (λ d. (part d).paced) spares.items))) }
     {

@@ -1,6 +1,6 @@
 use Rattle.std.proofs.Common.{IsTrue}
 use Rattle.vb_model.specs.Brought.{is_brought}
-use Rattle.vb_sim.proofs.Pushed.{All-pushed}
+use Rattle.vb_world.proofs.Pushed.{All-pushed}
 use Rattle.vb_sim.proofs.script.Script.add.Goals as goal
 
 pub invariant_of-self-clause-all_brought : goal.invariant_of-self-clause-all_brought

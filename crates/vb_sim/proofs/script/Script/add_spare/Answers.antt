@@ -1,6 +1,6 @@
 use Rattle.std.proofs.Common.{IsTrue}
 use Rattle.vb_sim.specs.Lines.{is_pace_brought}
-use Rattle.vb_sim.proofs.Pushed.{All-pushed}
+use Rattle.vb_world.proofs.Pushed.{All-pushed}
 use Rattle.vb_sim.proofs.script.Script.add_spare.Goals as goal
 
 pub invariant_of-self-clause-paces_brought : goal.invariant_of-self-clause-paces_brought
