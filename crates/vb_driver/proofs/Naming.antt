@@ -29,14 +29,6 @@ pub some_in : (p : ℕ) (xs : List ℕ) → is_in p xs ≡ true → 1 ≤ times_
 some_in p [] h = cc
 some_in p (x ∷ xs) h = omega (arith, count_by-cons (λ q. eqb q p) x xs, some_step (eqb x p) (is_in p xs) (times_in p xs) h (some_in p xs))
 
--- at most once, and not at all where it isn't there
-pub once_of : (p : ℕ) (xs : List ℕ) → times_in p xs ≤ 1 → times_in p xs ≤ one_if (is_in p xs)
-once_of p xs le = at (is_in p xs) refl
-  where
-    at : (b : Bool) → is_in p xs ≡ b → times_in p xs ≤ one_if (is_in p xs)
-    at true e = omega (arith, ap one_if e)
-    at false e = omega (arith, zero_out p xs e)
-
 -- a list in which no page stands twice
 pub once_distinct : (p : ℕ) (xs : List ℕ) → AllDistinct xs → times_in p xs ≤ 1
 once_distinct p [] d = omega arith

@@ -100,9 +100,6 @@ head_low r h single e =
 
 -- ---- what an add and a take make of the table
 
-is_in-one : (i h : ℕ) → is_in i (h ∷ []) ≡ (eqb h i || false)
-is_in-one i h = refl
-
 or_false : (a : Bool) → (a || false) ≡ a
 or_false true = refl
 or_false false = refl

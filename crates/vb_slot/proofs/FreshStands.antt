@@ -58,14 +58,6 @@ bare_pages n = record {
   sizes = λ p high lt. ap (λ (xs : List ℕ). length xs) (get_or-replicate n p zero_page [] lt) ∙ length-zero_page;
 }
 
--- its frames, of which it has none, are out
-pub fresh_out : (config : Config) (target : ℕ) (out : List Bool) → AreOut (fresh config target) out
-fresh_out config target out n = let none = count_none config.pages in omega arith
-  where
-    count_none : (pages : ℕ) → count_by (is_frame n) (replicate pages None) ≡ 0
-    count_none zero = refl
-    count_none (suc pages) = omega (arith, count_by-cons (is_frame n) None (replicate pages None), count_none pages)
-
 pub fresh_stands : (m1 m2 : Pages) (p1 p2 : Part) (d : DriverState) (sizes : Sizes) → is_config sizes.pages sizes.queue_size sizes.processors ≡ true → IsSpare m1 p1 → m2 ≡ replicate sizes.pages None → p2 ≡ attached sizes p1
     → d ≡ fresh_driver sizes.pages sizes.queue_size sizes.processors
     → Stands m2 p2 d (fresh (record { pages = sizes.pages; queue_size = sizes.queue_size; processors = sizes.processors; paced = p1.paced }) 0)

@@ -30,17 +30,6 @@ split_ids gone rs = map-append (λ (e : UsedElem). e.id) gone (used_of rs) ∙ a
 pub ids_length : (gone : List UsedElem) → length (ids gone) ≡ length gone
 ids_length gone = Rattle.std.proofs.lemmas.List.length-map gone (λ e. e.id)
 
-pub answers_used : (mem : Pages) (q n : ℕ) (side : Side) (part : QueuePart) (posted taken done : List Request) (after : Rattle.vb_ring.specs.Ends.DriverEnd) (result : Result (Option ℕ) RingBroken)
-    → Line mem q n side part (record { posted = posted; taken = taken; done = done }) → TakesUsedBy mem side.ring after result → result ≡ Ok (used_next done)
-answers_used mem q n side part posted taken [] after result line did =
-    did.shown (line.before ++ heads_of posted) (line.gone ++ used_of []) (length line.gone) line.tracks line.shows
-    ∙ ap (λ (l : List ℕ). Ok (slice_get l (length line.gone))) (split_ids line.gone [])
-    ∙ ap (λ (k : ℕ). Ok (slice_get (ids line.gone ++ []) k)) (sym (ids_length line.gone)) ∙ ap Ok (none_after (ids line.gone))
-answers_used mem q n side part posted taken (r ∷ rest) after result line did =
-    did.shown (line.before ++ heads_of posted) (line.gone ++ used_of (r ∷ rest)) (length line.gone) line.tracks line.shows
-    ∙ ap (λ (l : List ℕ). Ok (slice_get l (length line.gone))) (split_ids line.gone (r ∷ rest))
-    ∙ ap (λ (k : ℕ). Ok (slice_get (ids line.gone ++ r.head ∷ heads_of rest) k)) (sym (ids_length line.gone)) ∙ ap Ok (get_after (ids line.gone) r.head (heads_of rest))
-
 at_most_one : (b : Bool) → one_if b ≤ 1
 at_most_one true = omega arith
 at_most_one false = omega arith

@@ -260,9 +260,3 @@ not_covered mem page off len r fault backed needs empty is other covers =
         | inr nothing ↦ ok_is r fault is (empty covers (omega arith))
       ]
     ]
-
-pub never_fault : (mem : Pages) (page off len : ℕ) (r : Result (Unit {0}) RamFault) (fault : RamFault) → (Covers mem page off len → IsSome (frame_at mem page) → IsOk r)
-    → ((Covers mem page off len → ⊥) → r ≡ Err OutOfMemory) → (Covers mem page off len → 0 < len → frame_at mem page ≡ None → r ≡ Err NeedsFrame) → (Covers mem page off len → len ≡ 0 → IsOk r)
-    → r ≡ Err fault → (fault ≡ NeedsFrame → ⊥) → (fault ≡ OutOfMemory → ⊥) → ⊥
-never_fault mem page off len r fault backed out needs empty is other another =
-    (let same = out (not_covered mem page off len r fault backed needs empty is other) in another cc)

@@ -95,18 +95,6 @@ out_more out n frame lt free = elim (cases_eq frame n) [
       omega (arith, kept, ap one_if (other_not frame n ne))
 ]
 
--- a frame that was out isn't any more
-pub out_less : (out : List Bool) (n frame : ℕ) → frame < length out → is_out out frame ≡ true → one_if (is_out (slice_set out frame false) n) + one_if (frame == n) ≡ one_if (is_out out n)
-out_less out n frame lt was_out = elim (cases_eq frame n) [
-  | inl same ↦
-      let now : one_if (is_out (slice_set out frame false) n) ≡ 0 = ap (λ (k : ℕ). one_if (is_out (slice_set out frame false) k)) (sym same) ∙ ap one_if (get_or-set_same out frame false false lt) in
-      let was : one_if (is_out out n) ≡ 1 = ap (λ (k : ℕ). one_if (is_out out k)) (sym same) ∙ ap one_if was_out in
-      omega (arith, now, was, ap one_if (eq-eqb frame n same))
-  | inr ne ↦
-      let kept : one_if (is_out (slice_set out frame false) n) ≡ one_if (is_out out n) = ap one_if (get_or-set_other out frame n false false (λ e. ne (sym e))) in
-      omega (arith, kept, ap one_if (other_not frame n ne))
-]
-
 -- ---- memory
 
 -- bytes overwritten within a page leave its size
