@@ -2,16 +2,15 @@
 
 ghost use Rattle.std.specs.Prelude.{◌≡◌, ◌≤◌, List, Bool, IfOk, IsTrue, All, length, vec_len};
 ghost use Rattle.vb_model.specs.Brought.{is_brought};
-ghost use Rattle.vb_sim.specs.Lines.{is_pace_brought};
+ghost use Rattle.vb_script.specs.Lines.{is_pace_brought};
 ghost use Rattle.vb_model.specs.World.{World as Model, made};
 ghost use Rattle.vb_model.specs.Safe.{IsSafeRun};
 
-use crate::lines::Pace;
 use crate::play::Play;
-use crate::script::Script;
 use std::alloc::{AllocError, Global};
 use vb_device::{Device, ImmediateDevice};
 use vb_model::{Event, Reply};
+use vb_script::{Pace, Script};
 use vb_world::{World, add_spare};
 
 /// A host of frames, with guests behind balloon devices.

@@ -3,15 +3,10 @@
 
 mod arguments;
 mod host;
-mod lines;
-mod names;
 mod play;
-mod replies;
 mod run;
-mod script;
 #[cfg(test)]
 mod tests;
-mod words;
 
 use arguments::{ArgumentsFault, USAGE, read_arguments};
 use run::{BAD_ARGUMENTS, RunFault, report, run_script};

@@ -2,9 +2,9 @@
 
 ghost use Rattle.std.specs.Prelude.{◌≡◌, vec_len, IfOk};
 
-use crate::script::Script;
 use std::alloc::{AllocError, Global};
 use vb_model::Reply;
+use vb_script::Script;
 
 /// A host that a script's events happen on.
 pub trait Play {

@@ -2,13 +2,12 @@
 
 use crate::host::Host;
 use crate::play::Play;
-use crate::replies::write_reply;
-use crate::script::{Script, ScriptFault, parse};
 use std::alloc::{AllocError, Global};
 use std::io;
 use std::io::{BufWriter, ErrorKind, Read, Write};
 use thiserror::Error;
 use vb_model::Reply;
+use vb_script::{Script, ScriptFault, parse, write_reply};
 
 /// Bytes of a script: one more is a fault of input.
 pub const MAX_INPUT: u64 = 67_108_864;

@@ -1,8 +1,62 @@
-//! What the contracts leave open: the text of scripts and replies, and the exit statuses.
+//! What the contracts leave open: what a whole run writes, the exit statuses, and the command line.
 
+mod command_lines;
 mod examples;
-mod lines;
-mod replies;
 mod rows;
 mod runs;
-mod scripts;
+
+use crate::run::{SUCCESS, run_script};
+use std::alloc::Global;
+use std::process::Abort;
+
+/// What a run wrote to the output and to the errors, and its exit status.
+#[derive(Drop)]
+struct Outcome {
+    output: Vec<u8>,
+    errors: Vec<u8>,
+    status: u8,
+}
+
+impl Outcome {
+    /// Whether the run wrote these texts and has this exit status.
+    fn shows(&self, output: &[u8], errors: &[u8], status: u8) -> bool {
+        self.status == status
+            && self.output.as_slice() == output
+            && self.errors.as_slice() == errors
+    }
+}
+
+/// Runs a script on a host of the program's.
+fn run(alloc: Global, script: &[u8]) -> Outcome {
+    let (mut output, mut errors) = (Vec::new(alloc), Vec::new(alloc));
+    let status = run_script(alloc, script, &mut output, &mut errors);
+    Outcome {
+        output,
+        errors,
+        status,
+    }
+}
+
+/// A script that runs to its end.
+struct Example {
+    /// What it shows.
+    name: &'static str,
+    script: &'static str,
+    /// What it has to write.
+    replies: &'static str,
+}
+
+/// Checks that each script runs and writes its replies.
+fn check_all(rt: &impl Abort, alloc: Global, examples: &[Example]) {
+    for Example {
+        name,
+        script,
+        replies,
+    } in examples {
+        let outcome = run(alloc, script.as_bytes());
+        assert!(rt;
+            outcome.shows(replies.as_bytes(), b"", SUCCESS),
+            "at {name}"
+        );
+    }
+}

@@ -1,10 +1,12 @@
 //! The scripts of the folder `examples`, and the text that each is expected to give.
 
-use super::rows::{Example, shows};
+use super::{Example, check_all};
 
-/// The script of `examples/first-path.script`.
-static FIRST_EXAMPLE: Example = Example {
-    script: "\
+/// The text of each file, and that of the file beside it.
+static EXAMPLES: [Example; 2] = [
+    Example {
+        name: "examples/first-path.script",
+        script: "\
 # One guest writes a page, and lends pages to its host through a balloon.
 
 # A host with 64 frames, and one device for a guest.
@@ -31,7 +33,7 @@ reap 0 0
 
 frames
 ",
-    replies: "\
+        replies: "\
 guest 0
 ready
 page 16
@@ -45,16 +47,10 @@ finished 0
 reaped 0 4
 frames used 14 free 50
 ",
-};
-
-#[test]
-fn the_first_example_gives_its_expected_text(rt: HostRuntime) {
-    shows(&rt, rt.alloc(), &FIRST_EXAMPLE);
-}
-
-/// The script of `examples/give-back.script`.
-static SECOND_EXAMPLE: Example = Example {
-    script: "\
+    },
+    Example {
+        name: "examples/give-back.script",
+        script: "\
 # A guest lends pages to its host, and gets some of them back.
 
 # A host with 64 frames, and one device for a guest.
@@ -109,7 +105,7 @@ alloc 0 0 0
 read 0 17 0 4
 read 0 16 0 4
 ",
-    replies: "\
+        replies: "\
 guest 0
 ready
 page 16
@@ -144,9 +140,10 @@ page 17
 bytes 00000000
 bytes c0ffee00
 ",
-};
+    },
+];
 
 #[test]
-fn the_second_example_gives_its_expected_text(rt: HostRuntime) {
-    shows(&rt, rt.alloc(), &SECOND_EXAMPLE);
+fn examples(rt: HostRuntime) {
+    check_all(&rt, rt.alloc(), &EXAMPLES);
 }

@@ -1,52 +1,19 @@
 //! Whole scripts on a host with guests, and what they write.
 
-use crate::run::{BAD_SCRIPT, SUCCESS, run_script};
+use super::{Example, check_all, run};
+use crate::run::{BAD_SCRIPT, SUCCESS};
 use std::alloc::{AllocError, Global};
-use std::process::Abort;
-use std::test::Fail;
 
-/// A script, and the replies that it has to write.
-pub(super) struct Example {
-    pub(super) script: &'static str,
-    pub(super) replies: &'static str,
-}
-
-/// Checks what a script writes, and its exit status.
-fn check(rt: &impl Abort, alloc: Global, script: &[u8], replies: &[u8], fault: &str, status: u8) {
-    let (mut output, mut errors) = (Vec::new(alloc), Vec::new(alloc));
-    let found = run_script(alloc, script, &mut output, &mut errors);
-    assert!(rt; found == status);
-    assert!(rt; output.as_slice() == replies);
-    assert!(rt; errors.as_slice() == fault.as_bytes());
-}
-
-/// Checks that a script runs and writes its replies.
-pub(super) fn shows(rt: &impl Abort, alloc: Global, example: &Example) {
-    let Example { script, replies } = example;
-    check(
-        rt,
-        alloc,
-        script.as_bytes(),
-        replies.as_bytes(),
-        "",
-        SUCCESS,
-    );
-}
-
-/// A script without a line.
-static EMPTY: Example = Example {
-    script: "",
-    replies: "",
-};
-
-#[test]
-fn an_empty_script_has_no_replies(rt: HostRuntime) {
-    shows(&rt, rt.alloc(), &EMPTY);
-}
-
-/// A guest writes a page, and lends four to its host.
-static FIRST_PATH: Example = Example {
-    script: "\
+/// Scripts that run to their end.
+static SCRIPTS: [Example; 17] = [
+    Example {
+        name: "an empty script has no replies",
+        script: "",
+        replies: "",
+    },
+    Example {
+        name: "a guest writes a page and lends four",
+        script: "\
 host 64
 spare immediate
 plug 64 8 1
@@ -62,7 +29,7 @@ finish 0 0 0
 reap 0 0
 frames
 ",
-    replies: "\
+        replies: "\
 guest 0
 ready
 page 16
@@ -76,16 +43,10 @@ finished 0
 reaped 0 4
 frames used 14 free 50
 ",
-};
-
-#[test]
-fn a_guest_writes_a_page_and_lends_four(rt: HostRuntime) {
-    shows(&rt, rt.alloc(), &FIRST_PATH);
-}
-
-/// A host with a frame less than a guest needs to start.
-static FEW_FRAMES: Example = Example {
-    script: "\
+    },
+    Example {
+        name: "a driver that lacks a frame does not start",
+        script: "\
 host 12
 spare immediate
 plug 64 8 1
@@ -93,22 +54,16 @@ init 0
 inflate 0 1
 frames
 ",
-    replies: "\
+        replies: "\
 guest 0
 no frame
 not ready
 frames used 0 free 12
 ",
-};
-
-#[test]
-fn a_driver_that_lacks_a_frame_does_not_start(rt: HostRuntime) {
-    shows(&rt, rt.alloc(), &FEW_FRAMES);
-}
-
-/// Guests of sizes that no guest may have.
-static SIZES: Example = Example {
-    script: "\
+    },
+    Example {
+        name: "sizes outside the limits are refused",
+        script: "\
 host 64
 spare immediate
 plug 72 8 1
@@ -116,22 +71,16 @@ plug 48 8 1
 plug 65552 8 1
 plug 64 512 1
 ",
-    replies: "\
+        replies: "\
 bad config
 bad config
 bad config
 bad config
 ",
-};
-
-#[test]
-fn sizes_outside_the_limits_are_refused(rt: HostRuntime) {
-    shows(&rt, rt.alloc(), &SIZES);
-}
-
-/// Four pages are lent, and one of them is given back.
-static GIVES_BACK: Example = Example {
-    script: "\
+    },
+    Example {
+        name: "the host and the guest tell where pages are",
+        script: "\
 host 64
 spare immediate
 plug 64 8 1
@@ -156,7 +105,7 @@ pages 0 taking
 reap 0 1
 places 0
 ",
-    replies: "\
+        replies: "\
 guest 0
 ready
 ok
@@ -179,16 +128,10 @@ pages 16
 reaped 0 1
 free 44 used 1 giving 0 lent 3 taking 0 stranded 0 reporting 0
 ",
-};
-
-#[test]
-fn the_host_and_the_guest_tell_where_pages_are(rt: HostRuntime) {
-    shows(&rt, rt.alloc(), &GIVES_BACK);
-}
-
-/// A driver that asks for a feature of its own.
-static NOT_OFFERED: Example = Example {
-    script: "\
+    },
+    Example {
+        name: "a feature that is not offered is refused",
+        script: "\
 host 64
 spare immediate
 plug 64 8 1
@@ -197,23 +140,17 @@ balloon 0
 init 0
 frames
 ",
-    replies: "\
+        replies: "\
 guest 0
 feature not offered
 ballooned 0 actual 0 target 0 status 131
 already up
 frames used 13 free 51
 ",
-};
-
-#[test]
-fn a_feature_that_is_not_offered_is_refused(rt: HostRuntime) {
-    shows(&rt, rt.alloc(), &NOT_OFFERED);
-}
-
-/// A driver that won't tell its host before it uses a lent page.
-static MUST_TELL_MISSING: Example = Example {
-    script: "\
+    },
+    Example {
+        name: "a driver without must tell host is refused",
+        script: "\
 host 64
 spare immediate
 plug 64 8 1
@@ -222,23 +159,17 @@ balloon 0
 init 0
 frames
 ",
-    replies: "\
+        replies: "\
 guest 0
 must tell missing
 ballooned 0 actual 0 target 0 status 131
 already up
 frames used 13 free 51
 ",
-};
-
-#[test]
-fn a_driver_without_must_tell_host_is_refused(rt: HostRuntime) {
-    shows(&rt, rt.alloc(), &MUST_TELL_MISSING);
-}
-
-/// A driver of an older version.
-static VERSION_MISSING: Example = Example {
-    script: "\
+    },
+    Example {
+        name: "a driver without version 1 is refused",
+        script: "\
 host 64
 spare immediate
 plug 64 8 1
@@ -247,23 +178,17 @@ balloon 0
 init 0
 frames
 ",
-    replies: "\
+        replies: "\
 guest 0
 version missing
 ballooned 0 actual 0 target 0 status 131
 already up
 frames used 13 free 51
 ",
-};
-
-#[test]
-fn a_driver_without_version_1_is_refused(rt: HostRuntime) {
-    shows(&rt, rt.alloc(), &VERSION_MISSING);
-}
-
-/// Blocks of pages are handed out and come back.
-static BLOCKS: Example = Example {
-    script: "\
+    },
+    Example {
+        name: "blocks of pages are handed out or refused",
+        script: "\
 host 64
 spare immediate
 plug 64 8 1
@@ -276,7 +201,7 @@ alloc 0 1 0
 free 0 0 32 4
 free 0 0 32 5
 ",
-    replies: "\
+        replies: "\
 guest 0
 ready
 page 32
@@ -287,16 +212,10 @@ bad cpu
 not held
 ok
 ",
-};
-
-#[test]
-fn blocks_of_pages_are_handed_out_or_refused(rt: HostRuntime) {
-    shows(&rt, rt.alloc(), &BLOCKS);
-}
-
-/// Two processors take pages.
-static PROCESSORS: Example = Example {
-    script: "\
+    },
+    Example {
+        name: "each processor hands out pages of its own list",
+        script: "\
 host 64
 spare immediate
 plug 64 8 2
@@ -312,7 +231,7 @@ alloc 0 0 0
 alloc 0 0 0
 free 0 0 17 1
 ",
-    replies: "\
+        replies: "\
 guest 0
 ready
 page 16
@@ -326,16 +245,10 @@ page 17
 page 18
 not held
 ",
-};
-
-#[test]
-fn each_processor_hands_out_pages_of_its_own_list(rt: HostRuntime) {
-    shows(&rt, rt.alloc(), &PROCESSORS);
-}
-
-/// Sixteen pages are handed out, and then all come back.
-static FULL_LIST: Example = Example {
-    script: "\
+    },
+    Example {
+        name: "the sixteenth page back sends eight to the areas",
+        script: "\
 host 64
 spare immediate
 plug 64 8 1
@@ -375,7 +288,7 @@ free 0 0 31 0
 alloc 0 0 3
 alloc 0 0 0
 ",
-    replies: "\
+        replies: "\
 guest 0
 ready
 page 16
@@ -413,16 +326,10 @@ ok
 page 16
 page 31
 ",
-};
-
-#[test]
-fn the_sixteenth_page_back_sends_eight_to_the_areas(rt: HostRuntime) {
-    shows(&rt, rt.alloc(), &FULL_LIST);
-}
-
-/// A guest with all pages lent deflates, by target and for want of memory.
-static DEFLATES: Example = Example {
-    script: "\
+    },
+    Example {
+        name: "a deflate stops at the target unless memory is short",
+        script: "\
 host 64
 spare immediate
 plug 64 8 1
@@ -437,7 +344,7 @@ deflate 0 1
 oom 0 1
 pages 0 taking
 ",
-    replies: "\
+        replies: "\
 guest 0
 ready
 ok
@@ -450,16 +357,10 @@ nothing
 posted 0 1
 pages 16
 ",
-};
-
-#[test]
-fn a_deflate_stops_at_the_target_unless_memory_is_short(rt: HostRuntime) {
-    shows(&rt, rt.alloc(), &DEFLATES);
-}
-
-/// A page is asked back, and the guest tries to use it after each step.
-static ASKED_BACK: Example = Example {
-    script: "\
+    },
+    Example {
+        name: "a page asked back is free once it is reaped",
+        script: "\
 host 64
 spare immediate
 plug 64 8 1
@@ -482,7 +383,7 @@ reap 0 1
 alloc 0 0 0
 balloon 0
 ",
-    replies: "\
+        replies: "\
 guest 0
 ready
 ok
@@ -503,16 +404,10 @@ reaped 0 1
 page 16
 ballooned 47 actual 47 target 48 status 15
 ",
-};
-
-#[test]
-fn a_page_asked_back_is_free_once_it_is_reaped(rt: HostRuntime) {
-    shows(&rt, rt.alloc(), &ASKED_BACK);
-}
-
-/// Three requests, the last of which is finished first.
-static OUT_OF_ORDER: Example = Example {
-    script: "\
+    },
+    Example {
+        name: "requests are reaped in the order of finishing",
+        script: "\
 host 64
 spare immediate
 plug 64 8 1
@@ -535,7 +430,7 @@ reap 0 0
 reap 0 0
 pages 0 lent
 ",
-    replies: "\
+        replies: "\
 guest 0
 ready
 ok
@@ -556,16 +451,10 @@ reaped 1 1
 none
 pages 16-18
 ",
-};
-
-#[test]
-fn requests_are_reaped_in_the_order_of_finishing(rt: HostRuntime) {
-    shows(&rt, rt.alloc(), &OUT_OF_ORDER);
-}
-
-/// Three requests to a queue of two descriptors.
-static TWO_DESCRIPTORS: Example = Example {
-    script: "\
+    },
+    Example {
+        name: "two requests fill a queue of two descriptors",
+        script: "\
 host 64
 spare immediate
 plug 64 2 1
@@ -575,7 +464,7 @@ inflate 0 1
 inflate 0 1
 inflate 0 1
 ",
-    replies: "\
+        replies: "\
 guest 0
 ready
 ok
@@ -583,16 +472,10 @@ posted 0 1
 posted 1 1
 queue full
 ",
-};
-
-#[test]
-fn two_requests_fill_a_queue_of_two_descriptors(rt: HostRuntime) {
-    shows(&rt, rt.alloc(), &TWO_DESCRIPTORS);
-}
-
-/// More pages are offered than a request may name.
-static LARGE_REQUEST: Example = Example {
-    script: "\
+    },
+    Example {
+        name: "a request names at most 256 pages",
+        script: "\
 host 64
 spare immediate
 plug 512 8 1
@@ -605,7 +488,7 @@ take 0 0
 finish 0 0 0
 pages 0 ballooned
 ",
-    replies: "\
+        replies: "\
 guest 0
 ready
 ok
@@ -616,16 +499,10 @@ taken 0
 finished 0
 pages 16-271
 ",
-};
-
-#[test]
-fn a_request_names_at_most_256_pages(rt: HostRuntime) {
-    shows(&rt, rt.alloc(), &LARGE_REQUEST);
-}
-
-/// Seventeen requests to a queue with room for more.
-static SEVENTEEN: Example = Example {
-    script: "\
+    },
+    Example {
+        name: "a queue and a device hold sixteen requests",
+        script: "\
 host 64
 spare immediate
 plug 64 32 1
@@ -666,7 +543,7 @@ take 0 0
 take 0 0
 take 0 0
 ",
-    replies: "\
+        replies: "\
 guest 0
 ready
 ok
@@ -705,37 +582,37 @@ taken 14
 taken 15
 busy
 ",
-};
+    },
+];
 
 #[test]
-fn a_queue_and_a_device_hold_sixteen_requests(rt: HostRuntime) {
-    shows(&rt, rt.alloc(), &SEVENTEEN);
+fn scripts(rt: HostRuntime) {
+    check_all(&rt, rt.alloc(), &SCRIPTS);
 }
 
 #[test]
 fn a_line_with_a_word_too_few_is_named_and_nothing_runs(rt: HostRuntime) {
-    let script = b"host 64\nplug 64 8\n";
-    let fault = "script: line 2: bad line\n";
-    check(&rt, rt.alloc(), script, b"", fault, BAD_SCRIPT);
+    let outcome = run(rt.alloc(), b"host 64\nplug 64 8\n");
+    assert!(rt; outcome.shows(b"", b"script: line 2: bad line\n", BAD_SCRIPT));
 }
 
-/// A guest with queues of two descriptors.
-static SMALL_QUEUES: Example = Example {
-    script: "\
+/// A guest with queues of two descriptors starts: the script, and its replies.
+static START: (&str, &str) = (
+    "\
 host 64
 spare immediate
 plug 64 2 1
 init 0
 ",
-    replies: "\
+    "\
 guest 0
 ready
 ",
-};
+);
 
-/// A round: a page is lent, and given back.
-static ROUND: Example = Example {
-    script: "\
+/// A round, and its replies: a page is lent, and given back.
+static ROUND: (&str, &str) = (
+    "\
 target 0 1
 inflate 0 1
 take 0 0
@@ -747,7 +624,7 @@ take 0 1
 finish 0 1 0
 reap 0 1
 ",
-    replies: "\
+    "\
 ok
 posted 0 1
 taken 0
@@ -759,7 +636,7 @@ taken 0
 finished 0
 reaped 0 1
 ",
-};
+);
 
 /// So many rounds that the indices of both queues, numbers of 16 bits, begin again.
 const ROUNDS: usize = 65_540;
@@ -775,16 +652,10 @@ fn all_rounds(alloc: Global, start: &str, round: &str) -> Result<Vec<u8>, AllocE
 }
 
 #[test]
-fn queues_go_on_where_their_indices_begin_again(rt: HostRuntime) -> Result<(), Fail> {
-    let script = all_rounds(rt.alloc(), SMALL_QUEUES.script, ROUND.script)?;
-    let replies = all_rounds(rt.alloc(), SMALL_QUEUES.replies, ROUND.replies)?;
-    check(
-        &rt,
-        rt.alloc(),
-        script.as_slice(),
-        replies.as_slice(),
-        "",
-        SUCCESS,
-    );
+fn queues_go_on_where_their_indices_begin_again(rt: HostRuntime) -> Result<(), AllocError> {
+    let script = all_rounds(rt.alloc(), START.0, ROUND.0)?;
+    let replies = all_rounds(rt.alloc(), START.1, ROUND.1)?;
+    let outcome = run(rt.alloc(), script.as_slice());
+    assert!(rt; outcome.shows(replies.as_slice(), b"", SUCCESS));
     Ok(())
 }

@@ -2,14 +2,14 @@
 
 ghost use Rattle.std.specs.Prelude.{◌≡◌, vec_len, IfOk};
 
+use super::Outcome;
 use crate::play::Play;
 use crate::run::run_script_on;
-use crate::script::Script;
 use std::alloc::{AllocError, Global};
 use std::io;
 use std::io::{ErrorKind, Read, Write};
-use std::process::Abort;
 use vb_model::{Refusal, Reply};
+use vb_script::Script;
 
 /// A host without guests.
 #[derive(Drop)]
@@ -66,14 +66,6 @@ impl Write for Limited<'_> {
     }
 }
 
-/// What a run wrote, and its exit status.
-#[derive(Drop)]
-struct Outcome {
-    output: Vec<u8>,
-    errors: Vec<u8>,
-    status: u8,
-}
-
 /// Runs a script that is read a byte at a time.
 fn run(alloc: Global, text: &[u8], fails: bool, room: usize) -> Outcome {
     let (mut output, mut errors) = (Vec::new(alloc), Vec::new(alloc));
@@ -98,53 +90,53 @@ fn run(alloc: Global, text: &[u8], fails: bool, room: usize) -> Outcome {
     }
 }
 
-/// Checks what a run writes, and its exit status.
-fn check(rt: &impl Abort, outcome: Outcome, output: &str, errors: &str, status: u8) {
-    assert!(rt; outcome.status == status);
-    assert!(rt; outcome.output.as_slice() == output.as_bytes());
-    assert!(rt; outcome.errors.as_slice() == errors.as_bytes());
-}
-
 /// Scripts, each with what is written of it to the output and to the errors, and the exit status.
-static SCRIPTS: [(&[u8], &str, &str, u8); 7] = [
-    (b"", "", "", 0),
-    (b"\n\n# host 0\r\t\0\xff\n\n#", "", "", 0),
-    (b"host 64\n", "", "", 0),
+static SCRIPTS: [(&[u8], &[u8], &[u8], u8); 7] = [
+    (b"", b"", b"", 0),
+    (b"\n\n# host 0\r\t\0\xff\n\n#", b"", b"", 0),
+    (b"host 64\n", b"", b"", 0),
     (
         b"# first\nhost 64\n\nspare immediate\ntake 0 0\n#\nreap 0 0",
-        "no guest\nno guest\n",
-        "",
+        b"no guest\nno guest\n",
+        b"",
         0,
     ),
     (
         b"# first\nhost 64\n\nspare immediate\ntake 0 0\n#\nwork 0",
-        "",
-        "script: line 7: bad line\n",
+        b"",
+        b"script: line 7: bad line\n",
         1,
     ),
     (
         b"host 64\nplug 64 8\nplug\nframes\n",
-        "",
-        "script: line 2: bad line\n",
+        b"",
+        b"script: line 2: bad line\n",
         1,
     ),
-    (b"frames\n", "", "script: line 1: bad line\n", 1),
+    (b"frames\n", b"", b"script: line 1: bad line\n", 1),
 ];
 
 #[test]
 fn each_event_has_a_reply_or_the_first_bad_line_is_named(rt: HostRuntime) {
     for (script, output, errors, status) in &SCRIPTS {
         let outcome = run(rt.alloc(), script, false, usize::MAX);
-        check(&rt, outcome, output, errors, *status);
+        assert!(rt; outcome.shows(output, errors, *status));
     }
 }
 
+/// Scripts, each with whether reading it fails, and how many bytes can be written.
+static BROKEN: [(&[u8], bool, usize); 3] = [
+    (b"host 64\nframes\n", true, usize::MAX),
+    (b"host 64\nframes\n", false, 0),
+    (b"frames\n", false, 0),
+];
+
 #[test]
 fn a_fault_of_a_stream_is_status_4(rt: HostRuntime) {
-    let script = b"host 64\nframes\n";
-    check(&rt, run(rt.alloc(), script, true, usize::MAX), "", "", 4);
-    check(&rt, run(rt.alloc(), script, false, 0), "", "", 4);
-    check(&rt, run(rt.alloc(), b"frames\n", false, 0), "", "", 4);
+    for (script, fails, room) in &BROKEN {
+        let outcome = run(rt.alloc(), script, *fails, *room);
+        assert!(rt; outcome.shows(b"", b"", 4));
+    }
 }
 
 /// A reader of so many line feeds.
@@ -162,17 +154,20 @@ impl Read for LineFeeds {
     }
 }
 
-/// The exit status of a run over so many line feeds, which has to write nothing.
-fn status_of_line_feeds(rt: &impl Abort, alloc: Global, left: usize) -> u8 {
+/// Runs a script of so many line feeds.
+fn run_line_feeds(alloc: Global, left: usize) -> Outcome {
     let (mut output, mut errors) = (Vec::new(alloc), Vec::new(alloc));
     let input = LineFeeds { left };
     let status = run_script_on(alloc, &mut Empty, input, &mut output, &mut errors);
-    assert!(rt; output.is_empty() && errors.is_empty());
-    status
+    Outcome {
+        output,
+        errors,
+        status,
+    }
 }
 
 #[test]
 fn a_byte_too_many_is_a_fault_of_input(rt: HostRuntime) {
-    assert!(rt; status_of_line_feeds(&rt, rt.alloc(), 67_108_864) == 0);
-    assert!(rt; status_of_line_feeds(&rt, rt.alloc(), 67_108_865) == 4);
+    assert!(rt; run_line_feeds(rt.alloc(), 67_108_864).shows(b"", b"", 0));
+    assert!(rt; run_line_feeds(rt.alloc(), 67_108_865).shows(b"", b"", 4));
 }

@@ -1,0 +1,313 @@
+//! Each line of the format, and each way to be none.
+
+use crate::lines::{Pace, any_event, any_spare, event, features, host, spare};
+use crate::words::{LineFault, number};
+use vb_model::{Call, Event, Place, Query};
+
+/// Lines of events, each with its numbers in order, its bytes, and whether it is answered so far.
+/// Numbers that a line lacks are 0.
+static EVENTS: [(&str, [u32; 4], &[u8], bool); 24] = [
+    ("plug 64 8 1", [64, 8, 1, 0], b"", true),
+    ("unplug 7", [7, 0, 0, 0], b"", false),
+    ("restart 7", [7, 0, 0, 0], b"", false),
+    ("balance 16", [16, 0, 0, 0], b"", false),
+    ("frames", [0, 0, 0, 0], b"", true),
+    ("reset 7", [7, 0, 0, 0], b"", false),
+    ("inflate 7 3", [7, 3, 0, 0], b"", true),
+    ("deflate 7 3", [7, 3, 0, 0], b"", true),
+    ("oom 7 3", [7, 3, 0, 0], b"", true),
+    ("report 7 16", [7, 16, 0, 0], b"", false),
+    ("stats 7", [7, 0, 0, 0], b"", false),
+    ("reap 7 4", [7, 4, 0, 0], b"", true),
+    ("take 7 1", [7, 1, 0, 0], b"", true),
+    ("work 7", [7, 0, 0, 0], b"", false),
+    ("finish 7 1 2", [7, 1, 2, 0], b"", true),
+    ("sweep 7 20", [7, 20, 0, 0], b"", true),
+    ("ask 7", [7, 0, 0, 0], b"", false),
+    ("target 7 4", [7, 4, 0, 0], b"", true),
+    ("alloc 7 1 5", [7, 1, 5, 0], b"", true),
+    ("free 7 1 32 5", [7, 1, 32, 5], b"", true),
+    ("read 7 16 4092 4", [7, 16, 4092, 4], b"", true),
+    (
+        "write 7 16 2 abCDe0",
+        [7, 16, 2, 0],
+        &[0xab, 0xcd, 0xe0],
+        true,
+    ),
+    ("write 7 16 0 ab", [7, 16, 0, 0], &[0xab], true),
+    ("scribble 7 0 130 0900", [7, 0, 130, 0], &[9, 0], false),
+];
+
+/// An event's name, its numbers in the order of its line, and its bytes.
+fn shown(event: &Event) -> (&'static str, [u32; 4], &[u8]) {
+    match event {
+        Event::Plug {
+            pages,
+            queue_size,
+            processors,
+        } => ("plug", [*pages, *queue_size, *processors, 0], &[]),
+        Event::Unplug { guest } => ("unplug", [*guest, 0, 0, 0], &[]),
+        Event::Restart { guest } => ("restart", [*guest, 0, 0, 0], &[]),
+        Event::Balance { floor } => ("balance", [*floor, 0, 0, 0], &[]),
+        Event::Frames => ("frames", [0; 4], &[]),
+        Event::Guest { guest, call } => match call {
+            Call::Write {
+                page,
+                offset,
+                bytes,
+            } => ("write", [*guest, *page, *offset, 0], bytes.as_slice()),
+            Call::Scribble {
+                page,
+                offset,
+                bytes,
+            } => ("scribble", [*guest, *page, *offset, 0], bytes.as_slice()),
+            _ => shown_call(*guest, call),
+        },
+        Event::Query { .. } => ("?", [0; 4], &[]),
+    }
+}
+
+/// The name of a call without bytes, and the numbers of its line.
+fn shown_call(guest: u32, call: &Call) -> (&'static str, [u32; 4], &'static [u8]) {
+    match call {
+        Call::Finish { queue, index } => ("finish", [guest, *queue, *index, 0], &[]),
+        Call::Alloc { cpu, order } => ("alloc", [guest, *cpu, *order, 0], &[]),
+        Call::Free { cpu, start, order } => ("free", [guest, *cpu, *start, *order], &[]),
+        Call::Read { page, offset, len } => ("read", [guest, *page, *offset, *len], &[]),
+        _ => {
+            let (name, number) = shown_small(call);
+            (name, [guest, number, 0, 0], &[])
+        }
+    }
+}
+
+/// The name of a call with one number or none, and the number.
+fn shown_small(call: &Call) -> (&'static str, u32) {
+    match call {
+        Call::Reset => ("reset", 0),
+        Call::Inflate { pages } => ("inflate", *pages),
+        Call::Deflate { pages } => ("deflate", *pages),
+        Call::Oom { pages } => ("oom", *pages),
+        Call::Report { from } => ("report", *from),
+        Call::Stats => ("stats", 0),
+        Call::Reap { queue } => ("reap", *queue),
+        Call::Take { queue } => ("take", *queue),
+        Call::Work => ("work", 0),
+        Call::Sweep { page } => ("sweep", *page),
+        Call::Ask => ("ask", 0),
+        Call::SetTarget { pages } => ("target", *pages),
+        _ => ("?", 0),
+    }
+}
+
+/// Whether a line was read to an event that shows these numbers and bytes.
+fn shows(
+    found: Result<Event, LineFault>,
+    line: &str,
+    expected: [u32; 4],
+    expected_bytes: &[u8],
+) -> bool {
+    match found {
+        Ok(event) => {
+            let (name, numbers, bytes) = shown(&event);
+            line.starts_with(name) && numbers == expected && bytes == expected_bytes
+        }
+        Err(_fault) => false,
+    }
+}
+
+/// Whether what a line was read to is a fault of the line.
+fn is_bad(found: Result<Event, LineFault>) -> bool {
+    matches!(found, Err(LineFault::Bad))
+}
+
+#[test]
+fn events(rt: HostRuntime) {
+    for (line, numbers, bytes, is_answered) in &EVENTS {
+        let found = any_event(rt.alloc(), line.as_bytes());
+        assert!(rt; shows(found, line, *numbers, bytes), "at {line}");
+        let answered = event(rt.alloc(), line.as_bytes());
+        assert!(rt; is_bad(answered) != *is_answered, "at {line}");
+    }
+}
+
+/// Lines that start the device of guest 7, and the features that they ask for.
+static INITS: [(&[u8], u64); 2] = [
+    (b"init 7", 0x0000_0001_0000_0027),
+    (b"init 7 0000000100000026", 0x0000_0001_0000_0026),
+];
+
+/// The features of such a line.
+fn wanted(found: Result<Event, LineFault>) -> Option<u64> {
+    match found {
+        Ok(
+            Event::Guest {
+                guest: 7,
+                call: Call::Init { features },
+            },
+        ) => Some(features),
+        _ => None,
+    }
+}
+
+#[test]
+fn features_of_a_line(rt: HostRuntime) {
+    for (line, features) in &INITS {
+        assert!(rt; wanted(event(rt.alloc(), line)) == Some(*features));
+    }
+}
+
+/// Lines that ask about guest 7, what they ask, and whether it is answered so far.
+static QUESTIONS: [(&str, Query, bool); 12] = [
+    ("places 7", Query::Places, true),
+    ("balloon 7", Query::Balloon, true),
+    ("memory 7", Query::Memory, false),
+    ("backing 7 16", Query::Backing { page: 16 }, true),
+    ("pages 7 ballooned", Query::PagesBallooned, true),
+    ("pages 7 free", Query::PagesAt(Place::Free), true),
+    ("pages 7 used", Query::PagesAt(Place::Used), true),
+    ("pages 7 giving", Query::PagesAt(Place::Giving), true),
+    ("pages 7 lent", Query::PagesAt(Place::Lent), true),
+    ("pages 7 taking", Query::PagesAt(Place::Taking), true),
+    ("pages 7 stranded", Query::PagesAt(Place::Stranded), true),
+    ("pages 7 reporting", Query::PagesAt(Place::Reporting), true),
+];
+
+/// Whether a line was read to this question about guest 7.
+fn asks(found: Result<Event, LineFault>, expected: Query) -> bool {
+    matches!(found, Ok(Event::Query { guest: 7, query }) if query == expected)
+}
+
+#[test]
+fn questions(rt: HostRuntime) {
+    for (line, query, is_answered) in &QUESTIONS {
+        let found = any_event(rt.alloc(), line.as_bytes());
+        assert!(rt; asks(found, *query), "at {line}");
+        let answered = event(rt.alloc(), line.as_bytes());
+        assert!(rt; is_bad(answered) != *is_answered, "at {line}");
+    }
+}
+
+/// Lines that break a rule of the format.
+static BAD_LINES: [&[u8]; 40] = [
+    b" ",
+    b" frames",
+    b"frames ",
+    b"frames 0",
+    b"Frames",
+    b"frame",
+    b"frames\r",
+    b"frames\t",
+    b"frames\0",
+    b"frames\xff",
+    b"plug 64 8",
+    b"plug 64 8 1 1",
+    b"plug  64 8 1",
+    b"plug 64 8 1 ",
+    b"plug 64 8 -1",
+    b"plug 64 8 +1",
+    b"plug 64 8 0x1",
+    b"plug 64 8 4294967296",
+    b"plug",
+    b"unplug",
+    b"unplug 0 0",
+    b"work",
+    b"work 0 0",
+    b"read 0 16 0 0",
+    b"read 0 16 0",
+    b"write 0 16 0",
+    b"write 0 16 0 ",
+    b"write 0 16 0 a",
+    b"write 0 16 0 abc",
+    b"write 0 16 0 0g",
+    b"write 0 16 0 ab cd",
+    b"init",
+    b"init 0 100000027",
+    b"init 0 00000000100000027",
+    b"init 0 000000010000002g",
+    b"init 0 0000000100000027 0",
+    b"pages 0",
+    b"pages 0 reserved",
+    b"pages 0 free 1",
+    b"host 64",
+];
+
+#[test]
+fn bad_lines(rt: HostRuntime) {
+    for line in &BAD_LINES {
+        assert!(rt; is_bad(any_event(rt.alloc(), line)));
+    }
+}
+
+/// Words, and the numbers that they show.
+static NUMBERS: [(&[u8], Option<u32>); 8] = [
+    (b"0", Some(0)),
+    (b"00000000000000000000064", Some(64)),
+    (b"4294967295", Some(4_294_967_295)),
+    (b"04294967295", Some(4_294_967_295)),
+    (b"4294967296", None),
+    (b"42949672950", None),
+    (b"", None),
+    (b"1_0", None),
+];
+
+#[test]
+fn numbers(rt: HostRuntime) {
+    for (word, expected) in &NUMBERS {
+        assert!(rt; number(word) == *expected);
+    }
+}
+
+/// Words, and the features that they show.
+static FEATURES: [(&[u8], Option<u64>); 5] = [
+    (b"0000000100000027", Some(0x0000_0001_0000_0027)),
+    (b"80000000fFfEaB26", Some(0x8000_0000_fffe_ab26)),
+    (b"000000010000002g", None),
+    (b"27", None),
+    (b"00000000100000027", None),
+];
+
+#[test]
+fn features_as_digits(rt: HostRuntime) {
+    for (word, expected) in &FEATURES {
+        assert!(rt; features(word) == *expected);
+    }
+}
+
+/// Lines, and the frames of the host that they bring.
+static HOSTS: [(&[u8], Result<u32, LineFault>); 8] = [
+    (b"host 1", Ok(1)),
+    (b"host 65536", Ok(65_536)),
+    (b"host 0", Err(LineFault::Bad)),
+    (b"host 65537", Err(LineFault::Bad)),
+    (b"host", Err(LineFault::Bad)),
+    (b"host 1 1", Err(LineFault::Bad)),
+    (b"host  1", Err(LineFault::Bad)),
+    (b"frames", Err(LineFault::Bad)),
+];
+
+#[test]
+fn hosts(rt: HostRuntime) {
+    for (line, expected) in &HOSTS {
+        assert!(rt; host(line) == *expected);
+    }
+}
+
+/// Lines, and the spare devices that they bring.
+static SPARES: [(&[u8], Result<Option<Pace>, LineFault>); 7] = [
+    (b"spare immediate", Ok(Some(Pace::Immediate))),
+    (b"spare paced", Err(LineFault::Bad)),
+    (b"frames", Ok(None)),
+    (b"spare", Err(LineFault::Bad)),
+    (b"spare ", Err(LineFault::Bad)),
+    (b"spare fast", Err(LineFault::Bad)),
+    (b"spare immediate 1", Err(LineFault::Bad)),
+];
+
+#[test]
+fn spares(rt: HostRuntime) {
+    for (line, expected) in &SPARES {
+        assert!(rt; spare(line) == *expected);
+    }
+    assert!(rt; any_spare(b"spare paced") == Ok(Some(Pace::Paced)));
+}

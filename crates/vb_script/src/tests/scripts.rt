@@ -1,0 +1,105 @@
+//! Whole scripts.
+
+use crate::lines::Pace;
+use crate::script::{Script, ScriptFault, parse};
+use std::alloc::{AllocError, Global};
+use std::test::Fail;
+
+/// What a text was read to: the frames, the number of spare devices and that of events, or nothing
+/// where it has no lines.
+type Outline = Result<Option<(u32, usize, usize)>, ScriptFault>;
+
+/// What a text is read to.
+fn outline(alloc: Global, text: &[u8]) -> Outline {
+    match parse(alloc, text)? {
+        Some(script) => Ok(Some(sizes(&script))),
+        None => Ok(None),
+    }
+}
+
+/// A script's frames, the number of its spare devices and that of its events.
+fn sizes(script: &Script) -> (u32, usize, usize) {
+    (script.frames, script.spares.len(), script.events.len())
+}
+
+/// Texts, and what they are read to.
+static TEXTS: [(&[u8], Outline); 13] = [
+    (
+        b"\n#\nhost 0064\nspare immediate\n# \0\xff\r\nspare immediate\nframes\n\nplug 64 8 1",
+        Ok(Some((64, 2, 2))),
+    ),
+    (b"", Ok(None)),
+    (b"\n", Ok(None)),
+    (b"#", Ok(None)),
+    (b"\n\n# host 64\n#\xff", Ok(None)),
+    (b"frames", Err(ScriptFault::BadLine(1))),
+    (
+        b"\n#\nspare immediate\nhost 64",
+        Err(ScriptFault::BadLine(3)),
+    ),
+    (b"host 64\nhost 64", Err(ScriptFault::BadLine(2))),
+    (
+        b"host 64\nframes\nspare immediate",
+        Err(ScriptFault::BadLine(3)),
+    ),
+    (b"host 64\n\n \nhost", Err(ScriptFault::BadLine(3))),
+    (b"host 64\r\nframes\r\n", Err(ScriptFault::BadLine(1))),
+    (b"host 64\n #\n", Err(ScriptFault::BadLine(2))),
+    (
+        b"host 64\nframes\nframes\nfree\nread",
+        Err(ScriptFault::BadLine(4)),
+    ),
+];
+
+#[test]
+fn texts(rt: HostRuntime) {
+    for (text, expected) in &TEXTS {
+        assert!(rt; outline(rt.alloc(), text) == *expected);
+    }
+}
+
+/// Starts of texts, each with a part that stands behind it so many times, and what that is read to:
+/// no more than 64 spare devices, and the bytes of a page and no more.
+static REPEATED: [(&[u8], &[u8], usize, Outline); 4] = [
+    (b"host 1\n", b"spare immediate\n", 64, Ok(Some((1, 64, 0)))),
+    (
+        b"host 1\n",
+        b"spare immediate\n",
+        65,
+        Err(ScriptFault::BadLine(66)),
+    ),
+    (b"host 1\nwrite 0 16 0 ", b"aB", 4096, Ok(Some((1, 0, 1)))),
+    (
+        b"host 1\nwrite 0 16 0 ",
+        b"aB",
+        4097,
+        Err(ScriptFault::BadLine(2)),
+    ),
+];
+
+/// A text of this start, and so many times this part behind it.
+fn repeated(alloc: Global, start: &[u8], part: &[u8], count: usize) -> Result<Vec<u8>, AllocError> {
+    let mut text = Vec::from_slice(alloc, start)?;
+    for _ in 0..count {
+        text.extend_from_slice(part)?;
+    }
+    Ok(text)
+}
+
+#[test]
+fn limits(rt: HostRuntime) -> Result<(), AllocError> {
+    for (start, part, count, expected) in &REPEATED {
+        let text = repeated(rt.alloc(), start, part, *count)?;
+        assert!(rt; outline(rt.alloc(), text.as_slice()) == *expected);
+    }
+    Ok(())
+}
+
+#[test]
+fn spare_devices_have_their_paces(rt: HostRuntime) -> Result<(), Fail> {
+    let text = b"host 1\nspare immediate\nspare immediate";
+    let script = parse(rt.alloc(), text)?.ok_or("no lines")?;
+    let paces = [Pace::Immediate, Pace::Immediate];
+    assert!(rt; script.spares.as_slice() == paces.as_slice());
+    Ok(())
+}
