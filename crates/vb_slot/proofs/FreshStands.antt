@@ -1,5 +1,5 @@
 -- A slot stands for its guest as it is plugged in.
-use Rattle.std.specs.Prelude.{◌≡◌, ℕ, zero, suc, count_by, nat_lt, Bool, true, false, if◌then◌else◌, List, [], length, None, replicate, slice_index_or, refl}
+use Rattle.std.specs.Prelude.{◌≡◌, ℕ, nat_lt, Bool, true, false, if◌then◌else◌, List, [], length, None, replicate, slice_index_or, refl}
 use Rattle.std.specs.List.{range_with_len}
 use Rattle.std.proofs.Common.{sym, ◌∙◌, ap, subst, arith, inl, inr}
 use Rattle.std.proofs.lemmas.Bool.{cases_lt}
@@ -17,10 +17,8 @@ use Rattle.vb_ram.specs.Contents.{length-zero_page}
 use Rattle.vb_ram.specs.Part.{Part}
 use Rattle.vb_device.specs.Calls.{attached}
 use Rattle.vb_driver.specs.State.{DriverState, fresh_driver}
-use Rattle.vb_slot.specs.Stands.{Stands, Ties, HasPages}
+use Rattle.vb_guest.specs.Stands.{Stands, Ties, HasPages}
 use Rattle.vb_slot.specs.Spare.{IsSpare}
-use Rattle.vb_slot.specs.Steps.{is_frame, AreOut}
-use Rattle.vb_model.proofs.Tables.{count_by-cons}
 
 -- a list of one element has it everywhere
 everywhere : {A : Type 0} (n : ℕ) (x : A) (p : ℕ) → slice_index_or (replicate n x) p x ≡ x

@@ -1,8 +1,5 @@
-pub mod Line
-pub mod Stands
-pub mod Steps
-pub mod Replies
-pub mod Answered
+pub use Rattle.vb_guest.specs.Stands
+pub use Rattle.vb_guest.specs.Steps
+pub use Rattle.vb_guest.specs.Answered
 pub mod Slots
-pub mod Lives
 pub mod Spare

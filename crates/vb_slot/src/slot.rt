@@ -3,17 +3,12 @@
 ghost use Rattle.std.specs.Prelude.{◌≡◌, ℕ, true};
 ghost use Rattle.vb_model.specs.Guest.{Guest};
 ghost use Rattle.vb_model.specs.World.{Answers};
-ghost use Rattle.vb_slot.specs.Answered.{is_answered, is_query_answered};
+ghost use Rattle.vb_guest.specs.Answered.{is_answered, is_query_answered};
 ghost use Rattle.vb_slot.specs.Slots.{stands_for};
-ghost use Rattle.vb_slot.specs.Steps.{AreOut, Steps};
+ghost use Rattle.vb_guest.specs.Steps.{AreOut, Steps};
 
-use crate::device::{finish, set_target, sweep, take};
-use crate::driver::{alloc, deflate, free, inflate, oom, reap};
-use crate::lives::{init, reset};
-use crate::memory::{read, write};
 use crate::new::NoSlot;
 use crate::port::BoxedPort;
-use crate::queries::{balloon, pages_at, pages_ballooned, places};
 use std::alloc::Global;
 use vb_device::Device;
 use vb_driver::Driver;
@@ -60,33 +55,7 @@ impl Slot {
         ensures step { (g : Guest) → stands_for mem part self.old g
             → Steps (stands_for mem part self.new) K.answers (K.out keeper.old) (K.out keeper.new) g call.now result }
     {
-        match call {
-            Call::Init { features } => init(&mut self.driver, &mut self.port, keeper, *features),
-            Call::Reset => reset(&mut self.driver, &mut self.port),
-            Call::Alloc { cpu, order } => alloc(&mut self.driver, &self.port, *cpu, *order),
-            Call::Free { cpu, start, order } => {
-                free(&mut self.driver, &self.port, *cpu, *start, *order)
-            }
-            Call::Read { page, offset, len } => {
-                read(heap, &self.driver, &self.port, *page, *offset, *len)
-            }
-            Call::Write {
-                page,
-                offset,
-                bytes,
-            } => write(&self.driver, &mut self.port, keeper, *page, *offset, bytes),
-            Call::Inflate { pages } => inflate(&mut self.driver, &mut self.port, *pages),
-            Call::Deflate { pages } => deflate(&mut self.driver, &mut self.port, *pages),
-            Call::Oom { pages } => oom(&mut self.driver, &mut self.port, *pages),
-            Call::Reap { queue } => reap(&mut self.driver, &mut self.port, *queue),
-            Call::Take { queue } => take(&mut self.port, *queue),
-            Call::Finish { queue, index } => {
-                finish(&self.driver, &mut self.port, keeper, *queue, *index)
-            }
-            Call::Sweep { page } => sweep(&self.driver, &mut self.port, keeper, *page),
-            Call::SetTarget { pages } => set_target(&mut self.port, *pages),
-            _ => unreachable!(),
-        }
+        vb_guest::call(heap, &mut self.driver, &mut self.port, keeper, call)
     }
 
     /// Answers a question about the guest.
@@ -95,21 +64,12 @@ impl Slot {
         requires answered { is_query_answered query.now ≡ true }
         ensures answer { (g : Guest) → stands_for mem part self.now g → Answers query.now g result }
     {
-        match query {
-            Query::Places => places(&self.driver, &self.port),
-            Query::PagesAt(place) => pages_at(alloc, &self.driver, &self.port, *place),
-            Query::PagesBallooned => pages_ballooned(alloc, &self.driver, &self.port),
-            Query::Balloon => balloon(&self.driver, &self.port),
-            Query::Backing { page } => Reply::Backing {
-                frame: self.port.backing(*page),
-            },
-            _ => unreachable!(),
-        }
+        vb_guest::query(alloc, &self.driver, &self.port, query)
     }
 }
 
 impl GuestSlot for Slot {
-    ghost use Rattle.vb_slot.specs.Stands.{Stands};
+    ghost use Rattle.vb_guest.specs.Stands.{Stands};
 
     ghost stands = { λ s g. Stands ((Device-box s.port.device).GuestBytes.mem s.port.device.value) ((Device-box s.port.device).GuestBytes.part s.port.device.value) s.driver g };
 

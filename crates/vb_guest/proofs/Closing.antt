@@ -1,0 +1,69 @@
+-- From what a call ties and the model's step to what the slot's clauses say.
+use Rattle.std.specs.Prelude.{◌≡◌, Bool, true, false, List, [], ◌∷◌, Option, Some, None, MatchOption, MatchBool, if◌then◌else◌, refl}
+use Rattle.std.proofs.Common.{sym, ap, subst}
+use Rattle.vb_model.specs.declared.calls.Call.{Call}
+use Rattle.vb_model.specs.declared.calls.Claim.{Claim}
+use Rattle.vb_model.specs.declared.replies.Refusal.{Refusal}
+use Rattle.vb_model.specs.declared.replies.Reply.{Reply}
+use Rattle.vb_model.specs.declared.replies.Reply.TheVariants.{Refused}
+use Rattle.vb_model.specs.Guest.{Guest}
+use Rattle.vb_model.specs.Refusals.{Test, ◌⇒◌, first_refusal, refusal_of}
+use Rattle.vb_model.specs.Rogue.{RogueStep}
+use Rattle.vb_model.specs.Step.{Performs, HonestStep, GuestStep}
+use Rattle.vb_model.proofs.CallSteps.{honest_keeps}
+use Rattle.vb_model.proofs.OrderlySteps.{honest_order}
+use Rattle.vb_ram.specs.Pages.{Pages}
+use Rattle.vb_ram.specs.Part.{Part}
+use Rattle.vb_driver.specs.State.{DriverState}
+use Rattle.vb_guest.specs.Stands.{Stands, Ties}
+use Rattle.vb_guest.specs.Steps.{StepsAlone}
+
+pub first_holds : (b : Bool) (why : Refusal) (rest : List Test) → b ≡ true → first_refusal ((b ⇒ why) ∷ rest) ≡ Some why
+first_holds b why rest e = ap (λ (v : Bool). if v then Some why else first_refusal rest) e
+
+pub honest_refused : (g : Guest) (call : Call) (why : Refusal) → refusal_of g call ≡ Some why → HonestStep g call [] (Refused why) g
+honest_refused g call why e =
+    let none : List Claim = [] in
+    let P : Option Refusal → Type 0 = λ o. MatchOption o (Performs call g none (Refused why) g) (λ refusal. (none ≡ []) × (Refused why ≡ Refused refusal) × (g ≡ g)) in
+    subst P (sym e) (refl, refl, refl)
+
+pub honest_performed : (g : Guest) (call : Call) (claims : List Claim) (reply : Reply) (new : Guest) → refusal_of g call ≡ None → Performs call g claims reply new → HonestStep g call claims reply new
+honest_performed g call claims reply new e does =
+    let P : Option Refusal → Type 0 = λ o. MatchOption o (Performs call g claims reply new) (λ refusal. (claims ≡ []) × (reply ≡ Refused refusal) × (new ≡ g)) in
+    subst P (sym e) does
+
+pub guest_step : (g : Guest) (call : Call) (claims : List Claim) (reply : Reply) (new : Guest) → g.rogue ≡ false → HonestStep g call claims reply new → GuestStep g call claims reply new
+guest_step g call claims reply new honest step =
+    let P : Bool → Type 0 = λ b. MatchBool b (RogueStep g call claims reply new) (HonestStep g call claims reply new) in
+    subst P (sym honest) step
+
+pub still_stands : (m1 m2 : Pages) (p1 p2 : Part) (d1 d2 : DriverState) (g : Guest) (call : Call) (claims : List Claim) (reply : Reply) (new : Guest)
+    → Stands m1 p1 d1 g → HonestStep g call claims reply new → Ties m2 p2 d2 new → Stands m2 p2 d2 new
+still_stands m1 m2 p1 p2 d1 d2 g call claims reply new stands step ties = record {
+  ties = ties;
+  consistent = honest_keeps g call claims reply new stands.consistent step ties.parts.honest;
+  orderly = honest_order g call claims reply new stands.consistent stands.orderly step ties.parts.honest;
+}
+
+pub steps_alone : (m1 m2 : Pages) (p1 p2 : Part) (d1 d2 : DriverState) (g : Guest) (call : Call) (reply : Reply) (new : Guest)
+    → Stands m1 p1 d1 g → HonestStep g call [] reply new → Ties m2 p2 d2 new → new.frames ≡ g.frames → StepsAlone (Stands m2 p2 d2) g call reply
+steps_alone m1 m2 p1 p2 d1 d2 g call reply new stands step ties frames = record {
+  new = new;
+  stands = still_stands m1 m2 p1 p2 d1 d2 g call [] reply new stands step ties;
+  step = guest_step g call [] reply new stands.ties.parts.honest step;
+  frames = frames;
+}
+
+-- nothing is changed
+pub ties_same : (m1 m2 : Pages) (p1 p2 : Part) (d1 d2 : DriverState) (g : Guest) → m2 ≡ m1 → p2 ≡ p1 → d2 ≡ d1 → Ties m1 p1 d1 g → Ties m2 p2 d2 g
+ties_same m1 m2 p1 p2 d1 d2 g m p d ties =
+    subst (λ x. Ties x p2 d2 g) (sym m) (subst (λ x. Ties m1 x d2 g) (sym p) (subst (λ x. Ties m1 p1 x g) (sym d) ties))
+
+-- a refused call
+pub refused_alone : (m1 m2 : Pages) (p1 p2 : Part) (d1 d2 : DriverState) (g : Guest) (call : Call) (why : Refusal)
+    → Stands m1 p1 d1 g → refusal_of g call ≡ Some why → m2 ≡ m1 → p2 ≡ p1 → d2 ≡ d1 → StepsAlone (Stands m2 p2 d2) g call (Refused why)
+refused_alone m1 m2 p1 p2 d1 d2 g call why stands e m p d =
+    steps_alone m1 m2 p1 p2 d1 d2 g call (Refused why) g stands (honest_refused g call why e) (ties_same m1 m2 p1 p2 d1 d2 g m p d stands.ties) refl
+
+pub stands_same : (m1 m2 : Pages) (p1 p2 : Part) (d : DriverState) (g : Guest) → m2 ≡ m1 → p2 ≡ p1 → Stands m1 p1 d g → Stands m2 p2 d g
+stands_same m1 m2 p1 p2 d g m p stands = subst (λ x. Stands x p2 d g) (sym m) (subst (λ x. Stands m1 x d g) (sym p) stands)

@@ -1,0 +1,52 @@
+-- The slot's reset is a step of the guest.
+use Rattle.std.specs.Prelude.{◌≡◌, ℕ, Bool, false, List, [], length, map, replicate, refl}
+use Rattle.std.proofs.Common.{◌∙◌, ap, inl}
+use Rattle.vb_model.specs.declared.calls.Call.TheVariants.{Reset}
+use Rattle.vb_model.specs.declared.places.Place.{Place}
+use Rattle.vb_model.specs.declared.replies.Reply.TheVariants.{Done}
+use Rattle.vb_model.specs.Guest.{Guest}
+use Rattle.vb_model.specs.Life.{place_after_reset, after_reset}
+use Rattle.vb_ram.specs.Pages.{Pages}
+use Rattle.vb_ram.specs.Part.{Part}
+use Rattle.vb_status.specs.After.{after_reset as device_after_reset}
+use Rattle.vb_driver.specs.State.{DriverState, fresh_side}
+use Rattle.vb_driver.specs.Calls.{ResetsBy}
+use Rattle.vb_guest.specs.Stands.{Stands, Ties}
+use Rattle.vb_guest.specs.Steps.{StepsAlone}
+use Rattle.vb_guest.proofs.Closing.{honest_performed, steps_alone, ties_same}
+
+pub reset_step : (m1 m2 : Pages) (p1 p2 : Part) (d1 d2 : DriverState) (g : Guest) → ResetsBy m1 m2 p1 p2 d1 d2 → Stands m1 p1 d1 g → StepsAlone (Stands m2 p2 d2) g Reset Done
+reset_step m1 m2 p1 p2 d1 d2 g did stands =
+    let parts = stands.ties.parts in
+    let new : Guest = after_reset g in
+    let part : Part = device_after_reset p1 in
+    let state : DriverState = record d1 { places = map place_after_reset d1.places; inflate = fresh_side 0 d1.queue_size; deflate = fresh_side 1 d1.queue_size; features = 0 } in
+    let size : length p1.ballooned ≡ g.config.pages = ap (λ (l : List Bool). length l) parts.ballooned ∙ stands.consistent.flagged in
+    let there : Ties m1 part state new = record {
+      parts = record {
+        honest = parts.honest;
+        buffer = refl;
+        report = refl;
+        config = parts.config;
+        pages = parts.pages;
+        queue_size = parts.queue_size;
+        processors = parts.processors;
+        places = ap (λ (l : List Place). map place_after_reset l) parts.places;
+        held = parts.held;
+        accepted = refl;
+        size = parts.size;
+        paced = parts.paced;
+        status = refl;
+        features = refl;
+        target = parts.target;
+        actual = refl;
+        ballooned = ap (λ (n : ℕ). replicate n false) size;
+        last = refl;
+        keeps = parts.keeps;
+        own = parts.own;
+        loose = parts.loose;
+      };
+      pages = stands.ties.pages;
+      queues = inl (record { state = inl refl; inflate = refl; deflate = refl; ballooned = refl; actual = refl; last = refl });
+    } in
+    steps_alone m1 m2 p1 p2 d1 d2 g Reset Done new stands (honest_performed g Reset [] Done new refl (refl, refl, refl)) (ties_same m1 m2 part p2 state d2 new did.mem did.part did.state there) refl

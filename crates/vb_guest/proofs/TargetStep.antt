@@ -1,0 +1,51 @@
+-- The slot's new target is a step of the guest.
+use Rattle.std.specs.Prelude.{◌≡◌, ℕ, [], refl}
+use Rattle.std.proofs.Common.{inl, inr}
+use Rattle.vb_model.specs.declared.calls.Call.TheVariants.{SetTarget}
+use Rattle.vb_model.specs.declared.replies.Reply.TheVariants.{Done}
+use Rattle.vb_model.specs.Guest.{Guest}
+use Rattle.vb_ram.specs.Pages.{Pages}
+use Rattle.vb_ram.specs.Part.{Part}
+use Rattle.vb_driver.specs.State.{DriverState}
+use Rattle.vb_guest.specs.Stands.{Stands, Ties}
+use Rattle.vb_guest.specs.Steps.{StepsAlone}
+use Rattle.vb_guest.proofs.Closing.{honest_performed, steps_alone, ties_same}
+use Rattle.vb_guest.proofs.Writing.{idle_still}
+
+pub target_step : (m1 m2 : Pages) (p1 p2 : Part) (d : DriverState) (g : Guest) (n : ℕ) → m2 ≡ m1 → p2 ≡ record p1 { target = n } → Stands m1 p1 d g → StepsAlone (Stands m2 p2 d) g (SetTarget n) Done
+target_step m1 m2 p1 p2 d g n memory part stands =
+    let ties = stands.ties in
+    let new : Guest = record g { target = n } in
+    let after : Part = record p1 { target = n } in
+    let there : Ties m1 after d new = record {
+      parts = record {
+        honest = ties.parts.honest;
+        buffer = ties.parts.buffer;
+        report = ties.parts.report;
+        config = ties.parts.config;
+        pages = ties.parts.pages;
+        queue_size = ties.parts.queue_size;
+        processors = ties.parts.processors;
+        places = ties.parts.places;
+        held = ties.parts.held;
+        accepted = ties.parts.accepted;
+        size = ties.parts.size;
+        paced = ties.parts.paced;
+        status = ties.parts.status;
+        features = ties.parts.features;
+        target = refl;
+        actual = ties.parts.actual;
+        ballooned = ties.parts.ballooned;
+        last = ties.parts.last;
+        keeps = ties.parts.keeps;
+        own = ties.parts.own;
+        loose = ties.parts.loose;
+      };
+      pages = ties.pages;
+      queues = elim ties.queues [
+        | inl idle ↦ inl (idle_still g new refl refl refl refl refl refl refl idle)
+        | inr run ↦ inr (record { state = run.state; backed = run.backed; inflate_size = run.inflate_size; deflate_size = run.deflate_size; inflate = run.inflate; deflate = run.deflate })
+      ];
+    } in
+    let step = honest_performed g (SetTarget n) [] Done new refl (refl, refl, refl) in
+    steps_alone m1 m2 p1 p2 d d g (SetTarget n) Done new stands step (ties_same m1 m2 after p2 d d new memory part refl there) refl

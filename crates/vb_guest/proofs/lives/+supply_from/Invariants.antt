@@ -1,0 +1,5 @@
+use Rattle.std.proofs.Common.{◌-◌}
+use Rattle.vb_guest.proofs.lives.+supply_from.Given as goal
+
+abbrev pub decreases-supply_from : goal.decreases-supply_from
+decreases-supply_from g l = 13 - l.page

@@ -1,0 +1,18 @@
+use Rattle.std.proofs.Common.{◌∙◌, ap, arith, sym}
+use Rattle.vb_model.specs.declared.places.Place.TheVariants.{Reserved}
+use Rattle.vb_model.specs.World.{is_place}
+use Rattle.vb_guest.proofs.Runs.{runs_more, runs_same}
+use Rattle.vb_guest.proofs.queries.runs_at.Goals.{then-is_at+in_ok-push_page, else-is_at}
+use Rattle.vb_guest.proofs.queries.runs_at.Goals as goal
+
+pub loop-page-preserved : goal.loop-page-preserved
+loop-page-preserved c = elim c.if-is_at.branch [
+  | then-is_at+in_ok-push_page w ↦
+      ap (λ v. v.items) w.found-is
+      ∙ runs_more (is_place c.args.place) c.args.driver.now.places c.loop-page.page Reserved c.loop-page.found.items _ (omega (arith, c.loop-page-test.true, c.requires)) c.loop-page.invariant
+      (ap (is_place c.args.place) (sym c.place.ensures) ∙ sym w.if-is_at.ensures) (λ pages is. w.in_ok-push_page.ensures pages is)
+  | else-is_at w ↦
+      ap (λ v. v.items) w.found-is
+      ∙ runs_same (is_place c.args.place) c.args.driver.now.places c.loop-page.page Reserved c.loop-page.found.items (omega (arith, c.loop-page-test.true, c.requires)) c.loop-page.invariant
+      (ap (is_place c.args.place) (sym c.place.ensures) ∙ sym w.if-is_at.ensures)
+]

@@ -1,0 +1,85 @@
+-- What ties a driver, a device's part and guest memory to a guest of the model.
+use Rattle.std.specs.Prelude.{◌≡◌, ℕ, ◌<◌, ◌≤◌, false, true, List, Option, [], length, replicate, slice_index_or, IsSome, ◌⊎◌}
+use Rattle.vb_model.specs.Limits.{is_config, page_size, reserved_pages, ring_and_buffer_pages}
+use Rattle.vb_model.specs.Requests.{no_requests, NoBuffer}
+use Rattle.vb_model.specs.Guest.{Guest, no_statistics, frame_of}
+use Rattle.vb_model.specs.Consistent.{IsConsistent}
+use Rattle.vb_model.specs.Orderly.{IsOrderly}
+use Rattle.vb_ram.specs.Pages.{Pages, frame_at, contents_at}
+use Rattle.vb_ram.specs.Part.{Part, no_queue}
+use Rattle.vb_driver.specs.State.{DriverState, fresh_side}
+use Rattle.vb_guest.specs.Line.{Line}
+
+-- What the driver and the device keep beside their queues is the guest's. It never scribbled, and statistics and reports aren't there yet.
+-- The device has no frames of its own, and none is loose.
+pub record HasParts (part : Part) (d : DriverState) (g : Guest) : Type 0 where
+  pub honest : g.rogue ≡ false
+  pub buffer : g.buffer ≡ NoBuffer
+  pub report : g.report ≡ no_requests
+  pub config : is_config g.config.pages g.config.queue_size g.config.processors ≡ true
+  pub pages : d.pages ≡ g.config.pages
+  pub queue_size : d.queue_size ≡ g.config.queue_size
+  pub processors : d.processors ≡ g.config.processors
+  pub places : d.places ≡ g.places
+  pub held : d.held ≡ g.held
+  pub accepted : d.features ≡ g.features
+  pub size : part.queue_size ≡ g.config.queue_size
+  pub paced : part.paced ≡ g.config.paced
+  pub status : part.status ≡ g.status
+  pub features : part.features ≡ g.features
+  pub target : part.target ≡ g.target
+  pub actual : part.actual ≡ g.actual
+  pub ballooned : part.ballooned ≡ g.ballooned
+  pub last : part.last ≡ g.last
+  pub keeps : part.keeps ≡ false
+  pub own : part.own ≡ []
+  pub loose : part.loose ≡ []
+
+abbrev pub beside_queues : Part → Part
+beside_queues part = record part { inflate = no_queue; deflate = no_queue }
+
+abbrev pub beside_sides : DriverState → DriverState
+beside_sides d = record d { inflate = fresh_side 0 2; deflate = fresh_side 0 2 }
+
+-- Of a guest, what isn't in its requests and in its memory.
+abbrev pub beside_requests : Guest → Guest
+beside_requests g = record g { inflate = no_requests; deflate = no_requests; frames = []; contents = [] }
+
+-- The pages of memory have these frames, and the unreserved ones these contents.
+pub record HasPages (mem : Pages) (count : ℕ) (frames : List (Option ℕ)) (contents : List (List ℕ)) : Type 0 where
+  pub length_is : length mem ≡ count
+  pub framed : length frames ≡ count
+  pub filled : length contents ≡ count
+  pub behind : (page : ℕ) → frame_at mem page ≡ frame_of frames page
+  pub holds : (page : ℕ) → reserved_pages ≤ page → page < count → contents_at mem page ≡ slice_index_or contents page []
+  pub sizes : (page : ℕ) → reserved_pages ≤ page → page < count → length (slice_index_or contents page []) ≡ page_size
+
+-- Before an initialisation, or after one whose features were refused: nothing was asked of the device.
+pub record IsIdle (g : Guest) : Type 0 where
+  pub state : (g.status ≡ 0) ⊎ (g.status ≡ 131)
+  pub inflate : g.inflate ≡ no_requests
+  pub deflate : g.deflate ≡ no_requests
+  pub ballooned : g.ballooned ≡ replicate g.config.pages false
+  pub actual : g.actual ≡ 0
+  pub last : g.last ≡ no_statistics
+
+-- The device is initialised: the pages of rings and buffers have frames, and both queues stand there.
+pub record IsRunning (mem : Pages) (part : Part) (d : DriverState) (g : Guest) : Type 0 where
+  pub state : g.status ≡ 15
+  pub backed : (page : ℕ) → page < ring_and_buffer_pages → IsSome (frame_at mem page)
+  pub inflate_size : d.inflate.ring.size ≡ g.config.queue_size
+  pub deflate_size : d.deflate.ring.size ≡ g.config.queue_size
+  pub inflate : Line mem 0 g.config.pages d.inflate part.inflate g.inflate
+  pub deflate : Line mem 1 g.config.pages d.deflate part.deflate g.deflate
+
+-- What the calls keep, the model's own laws aside.
+pub record Ties (mem : Pages) (part : Part) (d : DriverState) (g : Guest) : Type 0 where
+  pub parts : HasParts (beside_queues part) (beside_sides d) (beside_requests g)
+  pub pages : HasPages mem g.config.pages g.frames g.contents
+  pub queues : IsIdle g ⊎ IsRunning mem part d g
+
+-- The driver, the device and its memory are those of this guest.
+pub record Stands (mem : Pages) (part : Part) (d : DriverState) (g : Guest) : Type 0 where
+  pub ties : Ties mem part d g
+  pub consistent : IsConsistent g
+  pub orderly : IsOrderly g

@@ -1,5 +1,0 @@
-use Rattle.vb_slot.proofs.TakeStep.{take_replied}
-use Rattle.vb_slot.proofs.device.take.Goals as goal
-
-pub returns : goal.returns
-returns g c = λ d guest stands. take_replied _ _ _ _ d guest _ _ _ c.taken_reply.ensures c.take.ensures stands

@@ -1,5 +1,0 @@
-use Rattle.vb_slot.proofs.AllocStep.{alloc_step}
-use Rattle.vb_slot.proofs.driver.alloc.Goals as goal
-
-pub returns : goal.returns
-returns g c = λ guest stands. alloc_step _ _ _ _ guest _ _ _ _ c.page_reply.ensures c.alloc.ensures stands

@@ -1,5 +1,0 @@
-use Rattle.vb_slot.proofs.ResetStep.{reset_step}
-use Rattle.vb_slot.proofs.lives.reset.Goals as goal
-
-pub returns : goal.returns
-returns g c = λ guest stands. reset_step _ _ _ _ _ _ guest c.reset.ensures stands
