@@ -1,6 +1,6 @@
 //! What the contracts leave open: the answers of whole runs, and that any device serves.
 
-ghost use Rattle.std.specs.Prelude.{◌≡◌, ◌≤◌, true, All, IsTrue};
+ghost use Rattle.std.specs.Prelude.{◌≡◌, ◌≤◌, true, All, IsTrue, IfOk};
 ghost use Rattle.vb_model.specs.Brought.{is_brought, is_call_brought};
 ghost use Rattle.vb_slot.specs.Spare.{IsSpare};
 
@@ -14,7 +14,120 @@ use std::test::Fail;
 use vb_device::{Device, ImmediateDevice};
 use vb_model::{Bytes, Call, Event, Query, Refusal, Reply};
 
-/// Events of one guest.
+/// An event, of guest 0, page 16 and queue 0 where such are meant.
+enum Line {
+    Plug { pages: u32 },
+    Init,
+    Alloc,
+    Write,
+    Read,
+    Backing,
+    SetTarget,
+    Inflate,
+    Take,
+    Finish,
+    Reap,
+    Frames,
+}
+
+/// A letter for the kind of a reply, and its numbers.
+type Answer = (char, u32, u32);
+
+/// The first path: a page is handed out, written and read, and four pages are lent.
+static FIRST_PATH: [(Line, Answer); 12] = [
+    (Line::Plug { pages: 64 }, ('g', 0, 0)),
+    (Line::Init, ('y', 0, 0)),
+    (Line::Alloc, ('p', 16, 0)),
+    (Line::Write, ('d', 0, 0)),
+    (Line::Read, ('b', 0xabcd_0000, 0)),
+    (Line::Backing, ('k', 13, 0)),
+    (Line::SetTarget, ('d', 0, 0)),
+    (Line::Inflate, ('o', 0, 4)),
+    (Line::Take, ('t', 0, 0)),
+    (Line::Finish, ('f', 0, 0)),
+    (Line::Reap, ('r', 0, 4)),
+    (Line::Frames, ('u', 14, 50)),
+];
+
+/// A call on no guest, a wrong size, and a second guest on a host with one device.
+static WRONG_PLUGS: [(Line, Answer); 4] = [
+    (Line::Take, ('n', 1, 0)),
+    (Line::Plug { pages: 65 }, ('n', 2, 0)),
+    (Line::Plug { pages: 64 }, ('g', 0, 0)),
+    (Line::Plug { pages: 64 }, ('n', 4, 0)),
+];
+
+/// Nine guests, on a host with eight devices or more.
+static NINE_PLUGS: [(Line, Answer); 9] = [
+    (Line::Plug { pages: 64 }, ('g', 0, 0)),
+    (Line::Plug { pages: 64 }, ('g', 1, 0)),
+    (Line::Plug { pages: 64 }, ('g', 2, 0)),
+    (Line::Plug { pages: 64 }, ('g', 3, 0)),
+    (Line::Plug { pages: 64 }, ('g', 4, 0)),
+    (Line::Plug { pages: 64 }, ('g', 5, 0)),
+    (Line::Plug { pages: 64 }, ('g', 6, 0)),
+    (Line::Plug { pages: 64 }, ('g', 7, 0)),
+    (Line::Plug { pages: 64 }, ('n', 3, 0)),
+];
+
+/// A driver starts on a host of twelve frames.
+static TWELVE_FRAMES: [(Line, Answer); 3] = [
+    (Line::Plug { pages: 64 }, ('g', 0, 0)),
+    (Line::Init, ('n', 5, 0)),
+    (Line::Frames, ('u', 0, 12)),
+];
+
+/// A driver starts on a host of thirteen frames.
+static THIRTEEN_FRAMES: [(Line, Answer); 3] = [
+    (Line::Plug { pages: 64 }, ('g', 0, 0)),
+    (Line::Init, ('y', 0, 0)),
+    (Line::Frames, ('u', 13, 0)),
+];
+
+fn on_guest(call: Call) -> Event
+    requires { is_call_brought call ≡ true }
+    ensures { is_brought result ≡ true }
+{
+    Event::Guest { guest: 0, call }
+}
+
+fn event_of(alloc: Global, line: &Line) -> Result<Event, AllocError>
+    ensures { IfOk result (λ event. is_brought event ≡ true) }
+{
+    Ok(match line {
+        Line::Plug { pages } => Event::Plug {
+            pages: *pages,
+            queue_size: 8,
+            processors: 1,
+        },
+        Line::Init => on_guest(Call::Init {
+            features: 0x1_0000_0027,
+        }),
+        Line::Alloc => on_guest(Call::Alloc { cpu: 0, order: 0 }),
+        Line::Write => on_guest(Call::Write {
+            page: 16,
+            offset: 0,
+            bytes: Bytes::new(vec![in alloc; 0xab, 0xcd]?),
+        }),
+        Line::Read => on_guest(Call::Read {
+            page: 16,
+            offset: 0,
+            len: 4,
+        }),
+        Line::Backing => Event::Query {
+            guest: 0,
+            query: Query::Backing { page: 16 },
+        },
+        Line::SetTarget => on_guest(Call::SetTarget { pages: 4 }),
+        Line::Inflate => on_guest(Call::Inflate { pages: 4 }),
+        Line::Take => on_guest(Call::Take { queue: 0 }),
+        Line::Finish => on_guest(Call::Finish { queue: 0, index: 0 }),
+        Line::Reap => on_guest(Call::Reap { queue: 0 }),
+        Line::Frames => Event::Frames,
+    })
+}
+
+/// The events of a table.
 #[derive(Drop)]
 struct Story {
     events: Vec<Event>,
@@ -22,12 +135,6 @@ struct Story {
 }
 
 impl Story {
-    fn new(alloc: Global) -> Story {
-        Story {
-            events: Vec::new(alloc),
-        }
-    }
-
     fn add(&mut self, event: Event) -> Result<(), AllocError>
         requires { is_brought event ≡ true }
     {
@@ -35,106 +142,15 @@ impl Story {
         Ok(())
     }
 
-    fn plug(&mut self, pages: u32) -> Result<(), AllocError> {
-        self.add(Event::Plug {
-            pages,
-            queue_size: 8,
-            processors: 1,
-        })
+    fn new(alloc: Global, table: &[(Line, Answer)]) -> Result<Story, AllocError> {
+        let mut story = Story {
+            events: Vec::new(alloc),
+        };
+        for (line, _) in table {
+            story.add(event_of(alloc, line)?)?;
+        }
+        Ok(story)
     }
-
-    fn call(&mut self, call: Call) -> Result<(), AllocError>
-        requires { is_call_brought call ≡ true }
-    {
-        self.add(Event::Guest { guest: 0, call })
-    }
-
-    fn frames(&mut self) -> Result<(), AllocError> {
-        self.add(Event::Frames)
-    }
-
-    /// A guest is plugged in, and its driver starts.
-    fn start(&mut self) -> Result<(), AllocError> {
-        self.plug(64)?;
-        self.call(Call::Init {
-            features: 0x1_0000_0027,
-        })
-    }
-
-    /// A page is handed out, written and read.
-    fn use_page(&mut self, bytes: Bytes) -> Result<(), AllocError> {
-        self.call(Call::Alloc { cpu: 0, order: 0 })?;
-        self.call(Call::Write {
-            page: 16,
-            offset: 0,
-            bytes,
-        })?;
-        self.call(Call::Read {
-            page: 16,
-            offset: 0,
-            len: 4,
-        })?;
-        self.add(Event::Query {
-            guest: 0,
-            query: Query::Backing { page: 16 },
-        })
-    }
-
-    /// Four pages are lent.
-    fn lend(&mut self) -> Result<(), AllocError> {
-        self.call(Call::SetTarget { pages: 4 })?;
-        self.call(Call::Inflate { pages: 4 })?;
-        self.call(Call::Take { queue: 0 })?;
-        self.call(Call::Finish { queue: 0, index: 0 })?;
-        self.call(Call::Reap { queue: 0 })
-    }
-}
-
-/// What events are answered on a host with these spare devices.
-fn run(
-    alloc: Global,
-    frames: u32,
-    spares: Vec<Box<dyn Device + Send>>,
-    story: &Story,
-) -> Result<Vec<Reply>, AllocError>
-    requires some { 1 ≤ frames }
-    requires few { frames ≤ 65_536 }
-    requires spares { All (λ d. IsSpare (mem d) (part d)) spares.items }
-{
-    let mut world = World::new(alloc, frames, spares)?;
-    world.run(alloc, &story.events)
-}
-
-/// What events are answered on a host of so many frames that has an immediate device.
-fn run_immediate(alloc: Global, frames: u32, story: &Story) -> Result<Vec<Reply>, AllocError>
-    requires some { 1 ≤ frames }
-    requires few { frames ≤ 65_536 }
-{
-    let mut spares: Vec<Box<dyn Device + Send>> = Vec::new(alloc);
-    let device = Box::new(alloc, ImmediateDevice::new(alloc))?;
-    add_spare(&mut spares, device)?;
-    run(alloc, frames, spares, story)
-}
-
-/// What events are answered on a host of so many frames that has a device with a list.
-fn run_listed(alloc: Global, frames: u32, story: &Story) -> Result<Vec<Reply>, AllocError>
-    requires some { 1 ≤ frames }
-    requires few { frames ≤ 65_536 }
-{
-    let mut spares: Vec<Box<dyn Device + Send>> = Vec::new(alloc);
-    let device = Box::new(alloc, ListedDevice::new(alloc))?;
-    add_spare(&mut spares, device)?;
-    run(alloc, frames, spares, story)
-}
-
-/// What events are answered on a host of 64 frames that has eight devices.
-fn run_eight(alloc: Global, story: &Story) -> Result<Vec<Reply>, AllocError> {
-    let mut spares: Vec<Box<dyn Device + Send>> = Vec::new(alloc);
-    for _spare in 0..8 {
-        let device = Box::new(alloc, ImmediateDevice::new(alloc))?;
-        add_spare(&mut spares, device)?;
-    }
-    run(alloc, 64, spares, story)
 }
 
 /// The four bytes that were read, as one number.
@@ -156,8 +172,7 @@ fn refusal_of(refusal: Refusal) -> u32 {
     }
 }
 
-/// A letter for the kind of a reply, and its numbers.
-fn numbers_of(reply: &Reply) -> (char, u32, u32) {
+fn answer_of(reply: &Reply) -> Answer {
     match reply {
         Reply::Plugged { guest } => ('g', *guest, 0),
         Reply::Done => ('d', 0, 0),
@@ -175,123 +190,88 @@ fn numbers_of(reply: &Reply) -> (char, u32, u32) {
     }
 }
 
-fn expect(rt: &impl Abort, replies: &[Reply], expected: &[(char, u32, u32)]) {
-    assert!(rt; replies.len() == expected.len());
-    for (reply, numbers) in replies.iter().zip(expected) {
-        assert!(rt; numbers_of(reply) == *numbers);
+/// Lets a table's events happen on a host with these spare devices.
+fn play(
+    rt: &impl Abort,
+    alloc: Global,
+    frames: u32,
+    spares: Vec<Box<dyn Device + Send>>,
+    table: &[(Line, Answer)],
+) -> Result<(), AllocError>
+    requires some { 1 ≤ frames }
+    requires few { frames ≤ 65_536 }
+    requires spares { All (λ d. IsSpare (mem d) (part d)) spares.items }
+{
+    let story = Story::new(alloc, table)?;
+    let mut world = World::new(alloc, frames, spares)?;
+    let replies = world.run(alloc, &story.events)?;
+    assert!(rt; replies.len() == table.len());
+    for (reply, (_, answer)) in replies.iter().zip(table) {
+        assert!(rt; answer_of(reply) == *answer);
     }
+    Ok(())
 }
 
-/// What the first path is answered.
-static FIRST_PATH: [(char, u32, u32); 12] = [
-    ('g', 0, 0),
-    ('y', 0, 0),
-    ('p', 16, 0),
-    ('d', 0, 0),
-    ('b', 0xabcd_0000, 0),
-    ('k', 13, 0),
-    ('d', 0, 0),
-    ('o', 0, 4),
-    ('t', 0, 0),
-    ('f', 0, 0),
-    ('r', 0, 4),
-    ('u', 14, 50),
-];
+/// Lets a table's events happen on a host with so many immediate devices.
+fn play_immediate(
+    rt: &impl Abort,
+    alloc: Global,
+    frames: u32,
+    devices: u32,
+    table: &[(Line, Answer)],
+) -> Result<(), AllocError>
+    requires some { 1 ≤ frames }
+    requires few { frames ≤ 65_536 }
+{
+    let mut spares: Vec<Box<dyn Device + Send>> = Vec::new(alloc);
+    for _device in 0..devices {
+        add_spare(&mut spares, Box::new(alloc, ImmediateDevice::new(alloc))?)?;
+    }
+    play(rt, alloc, frames, spares, table)
+}
 
-fn first_path(alloc: Global) -> Result<Story, AllocError> {
-    let mut story = Story::new(alloc);
-    let bytes = Bytes::new(vec![in alloc; 0xab, 0xcd]?);
-    story.start()?;
-    story.use_page(bytes)?;
-    story.lend()?;
-    story.frames()?;
-    Ok(story)
+/// Lets a table's events happen on a host with a device that has a list.
+fn play_listed(
+    rt: &impl Abort,
+    alloc: Global,
+    frames: u32,
+    table: &[(Line, Answer)],
+) -> Result<(), AllocError>
+    requires some { 1 ≤ frames }
+    requires few { frames ≤ 65_536 }
+{
+    let mut spares: Vec<Box<dyn Device + Send>> = Vec::new(alloc);
+    add_spare(&mut spares, Box::new(alloc, ListedDevice::new(alloc))?)?;
+    play(rt, alloc, frames, spares, table)
 }
 
 #[test]
 fn the_first_path_on_an_immediate_device(rt: HostRuntime) -> Result<(), Fail> {
-    let story = first_path(rt.alloc())?;
-    let replies = run_immediate(rt.alloc(), 64, &story)?;
-    expect(&rt, replies.as_slice(), &FIRST_PATH);
+    play_immediate(&rt, rt.alloc(), 64, 1, &FIRST_PATH)?;
     Ok(())
 }
 
 #[test]
 fn the_first_path_on_a_device_with_a_list(rt: HostRuntime) -> Result<(), Fail> {
-    let story = first_path(rt.alloc())?;
-    let replies = run_listed(rt.alloc(), 64, &story)?;
-    expect(&rt, replies.as_slice(), &FIRST_PATH);
+    play_listed(&rt, rt.alloc(), 64, &FIRST_PATH)?;
     Ok(())
-}
-
-fn wrong_plugs(alloc: Global) -> Result<Story, AllocError> {
-    let mut story = Story::new(alloc);
-    story.call(Call::Take { queue: 0 })?;
-    story.plug(65)?;
-    story.plug(64)?;
-    story.plug(64)?;
-    Ok(story)
 }
 
 #[test]
 fn plugs_are_refused(rt: HostRuntime) -> Result<(), Fail> {
-    let story = wrong_plugs(rt.alloc())?;
-    let replies = run_immediate(rt.alloc(), 64, &story)?;
-    let expected = [('n', 1, 0), ('n', 2, 0), ('g', 0, 0), ('n', 4, 0)];
-    expect(&rt, replies.as_slice(), &expected);
+    play_immediate(&rt, rt.alloc(), 64, 1, &WRONG_PLUGS)?;
     Ok(())
 }
-
-fn nine_plugs(alloc: Global) -> Result<Story, AllocError> {
-    let mut story = Story::new(alloc);
-    for _plug in 0..9 {
-        story.plug(64)?;
-    }
-    Ok(story)
-}
-
-/// What nine plugs are answered on a host with eight devices.
-static NINE_PLUGS: [(char, u32, u32); 9] = [
-    ('g', 0, 0),
-    ('g', 1, 0),
-    ('g', 2, 0),
-    ('g', 3, 0),
-    ('g', 4, 0),
-    ('g', 5, 0),
-    ('g', 6, 0),
-    ('g', 7, 0),
-    ('n', 3, 0),
-];
 
 #[test]
 fn a_ninth_guest_is_refused(rt: HostRuntime) -> Result<(), Fail> {
-    let story = nine_plugs(rt.alloc())?;
-    let replies = run_eight(rt.alloc(), &story)?;
-    expect(&rt, replies.as_slice(), &NINE_PLUGS);
+    play_immediate(&rt, rt.alloc(), 64, 8, &NINE_PLUGS)?;
     Ok(())
-}
-
-fn started(alloc: Global) -> Result<Story, AllocError> {
-    let mut story = Story::new(alloc);
-    story.start()?;
-    story.frames()?;
-    Ok(story)
 }
 
 #[test]
 fn a_driver_needs_thirteen_frames(rt: HostRuntime) -> Result<(), Fail> {
-    let story = started(rt.alloc())?;
-    let few = run_immediate(rt.alloc(), 12, &story)?;
-    expect(
-        &rt,
-        few.as_slice(),
-        &[('g', 0, 0), ('n', 5, 0), ('u', 0, 12)],
-    );
-    let enough = run_listed(rt.alloc(), 13, &story)?;
-    expect(
-        &rt,
-        enough.as_slice(),
-        &[('g', 0, 0), ('y', 0, 0), ('u', 13, 0)],
-    );
+    play_immediate(&rt, rt.alloc(), 12, 1, &TWELVE_FRAMES)?;
+    play_listed(&rt, rt.alloc(), 13, &THIRTEEN_FRAMES)?;
     Ok(())
 }

@@ -97,7 +97,6 @@ fn make_anew(listed: &mut Option<PageList>, device: &ImmediateDevice)
 pub(super) struct ListedDevice {
     inner: ImmediateDevice,
     listed: Option<PageList>,
-    calls: u32,
 }
 
 impl Model for ListedDevice {
@@ -123,13 +122,7 @@ impl ListedDevice {
         ListedDevice {
             inner: ImmediateDevice::new(alloc),
             listed: None,
-            calls: 0,
         }
-    }
-
-    /// How often a host let the device take, finish or sweep.
-    pub(super) fn calls(&self) -> u32 {
-        self.calls
     }
 }
 
@@ -204,19 +197,16 @@ impl Device for ListedDevice {
     }
 
     fn take(&mut self, queue: u32) -> Result<Option<u16>, Refusal> {
-        self.calls = self.calls.wrapping_add(1);
         self.inner.take(queue)
     }
 
     fn finish(&mut self, queue: u32, index: u32) -> Result<u16, Refusal> {
-        self.calls = self.calls.wrapping_add(1);
         let answer = self.inner.finish(queue, index);
         make_anew(&mut self.listed, &self.inner);
         answer
     }
 
     fn sweep(&mut self, page: u32) -> Result<bool, Refusal> {
-        self.calls = self.calls.wrapping_add(1);
         self.inner.sweep(page)
     }
 
