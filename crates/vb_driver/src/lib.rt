@@ -12,8 +12,6 @@ mod reaping;
 mod requests;
 #[cfg(test)]
 mod tests;
-#[cfg(test)]
-mod tests_lives;
 
 pub use answers::{Posted, Reaped};
 pub use driver::Driver;

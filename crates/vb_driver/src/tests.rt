@@ -1,14 +1,91 @@
-// A driver that was just plugged in: the pages of the guest's own, and calls of a device that isn't
-// initialised.
+// A driver's calls over guest memory with no device behind it. A line of a table is a step and its
+// answer; what a device would write into a ring is a step too.
 
-use crate::Driver;
+use crate::memory::all_backed;
+use crate::requests::is_up;
+use crate::{Driver, Posted, Reaped};
 use bitflags::Flags;
 use std::alloc::{AllocError, Global};
 use std::process::Abort;
 use std::test::Fail;
 use vb_model::{Place, PlaceCounts, Refusal};
-use vb_ram::{Config, Ram};
-use vb_status::{MemoryPort, Port, Status};
+use vb_ram::{Config, Frame, GuestBytes, Ram, RamFault};
+use vb_status::{Features, MemoryPort, Port};
+
+/// What is done with a guest.
+#[derive(Clone, Copy)]
+enum Step {
+    /// A processor allocates a block of an order.
+    Alloc(u32, u32),
+    /// A processor frees the block at a page, of an order.
+    Free(u32, u32, u32),
+    /// The driver starts with these features.
+    Init(u64),
+    Reset,
+    Inflate(u32),
+    Deflate(u32),
+    Oom(u32),
+    /// A used request of a queue is taken back.
+    Reap(u32),
+    /// The host sets its target.
+    SetTarget(u32),
+    /// The device has used a request of a queue: its head, and the how manyth it is.
+    Use(u32, u8, u8),
+    See(Sight),
+}
+
+/// What can be seen of a guest.
+#[derive(Clone, Copy)]
+enum Sight {
+    /// Whether so many pages are free and so many used, and none is on its way or with the host.
+    Counts(u32, u32),
+    /// Whether the pages from the first on, up to the second, are all at a place.
+    At(Place, u32, u32),
+    /// Whether an allocation holds the page.
+    Held(u32),
+    /// How many pages the driver has in the balloon.
+    Actual,
+    /// How many pages the device was told of.
+    Told,
+    Status,
+    Features,
+    /// Whether a page has these bytes from an offset on.
+    Shows(u32, usize, [u8; 16]),
+}
+
+/// What a step is answered.
+#[derive(Clone, Copy, PartialEq)]
+enum Answer {
+    Done,
+    Page(u32),
+    /// A request's head, and how many pages it names.
+    Posted(u16, u32),
+    /// The same of a request that was taken back.
+    Reaped(u16, u32),
+    NoneUsed,
+    Is(bool),
+    Number(u64),
+}
+
+type Line = (Step, Result<Answer, Refusal>);
+
+const DONE: Result<Answer, Refusal> = Ok(Answer::Done);
+
+const YES: Result<Answer, Refusal> = Ok(Answer::Is(true));
+
+const NO: Result<Answer, Refusal> = Ok(Answer::Is(false));
+
+/// All that a device offers.
+const ALL: u64 = 0x1_0000_0027;
+
+/// Guest memory of 64 pages, of which the first so many have frames.
+fn port_over(alloc: Global, backed: u32) -> Result<MemoryPort, RamFault> {
+    let mut ram = Ram::new(alloc, 64)?;
+    for page in 0..backed {
+        let _ = ram.supply(page, Frame::fresh(alloc, page)?);
+    }
+    Ok(MemoryPort::new(ram))
+}
 
 /// A driver of 64 pages, with queues of 8 descriptors and one processor.
 fn plugged_in(alloc: Global) -> Result<Driver, AllocError> {
@@ -22,115 +99,355 @@ fn plugged_in(alloc: Global) -> Result<Driver, AllocError> {
     )
 }
 
-fn alloc(driver: &mut Driver, cpu: u32, order: u32) -> Result<u32, Refusal> {
-    driver.alloc(cpu, order)
+/// A call that posts a request.
+#[derive(Clone, Copy)]
+enum Request {
+    Inflate,
+    Deflate,
+    Oom,
 }
 
-fn free(driver: &mut Driver, cpu: u32, start: u32, order: u32) -> Result<(), Refusal> {
-    driver.free(cpu, start, order)
+/// A driver, and the port through which it reaches its device.
+#[derive(Drop)]
+struct Guest {
+    driver: Driver,
+    port: MemoryPort,
 }
 
-fn counts(driver: &Driver) -> PlaceCounts {
-    driver.places()
+impl Guest {
+    fn new(alloc: Global, backed: u32) -> Result<Guest, Fail> {
+        Ok(Guest {
+            driver: plugged_in(alloc)?,
+            port: port_over(alloc, backed)?,
+        })
+    }
+
+    fn are_counts(&self, free: u32, used: u32) -> bool {
+        let wanted = PlaceCounts {
+            free,
+            used,
+            giving: 0,
+            lent: 0,
+            taking: 0,
+            stranded: 0,
+            reporting: 0,
+        };
+        self.driver.places() == wanted
+    }
+
+    fn are_at(&self, place: Place, first: u32, end: u32) -> bool {
+        for page in first..end {
+            if self.driver.place(page) != place {
+                return false;
+            }
+        }
+        true
+    }
+
+    fn shows(&self, page: u32, offset: usize, bytes: [u8; 16]) -> bool {
+        let mut found = [0xff; 16];
+        self.port.read(page, offset, &mut found).is_ok() && found == bytes
+    }
+
+    fn see(&self, sight: Sight) -> Answer {
+        match sight {
+            Sight::Counts(free, used) => Answer::Is(self.are_counts(free, used)),
+            Sight::At(place, first, end) => Answer::Is(self.are_at(place, first, end)),
+            Sight::Held(page) => Answer::Is(self.driver.held(page)),
+            Sight::Actual => Answer::Number(u64::from(self.driver.actual())),
+            Sight::Told => Answer::Number(u64::from(self.port.actual())),
+            Sight::Status => Answer::Number(u64::from(self.port.status().bits())),
+            Sight::Features => Answer::Number(self.port.features().bits()),
+            Sight::Shows(page, offset, bytes) => Answer::Is(self.shows(page, offset, bytes)),
+        }
+    }
+
+    fn post(&mut self, request: Request, pages: u32) -> Result<Answer, Refusal> {
+        if self.port.pages() < 64 || is_up(&self.port) && !all_backed(&mut self.port) {
+            return Err(Refusal::OutOfRam);
+        }
+        let Posted { head, pages } = match request {
+            Request::Inflate => self.driver.inflate(&mut self.port, pages)?,
+            Request::Deflate => self.driver.deflate(&mut self.port, pages)?,
+            Request::Oom => self.driver.oom(&mut self.port, pages)?,
+        };
+        Ok(Answer::Posted(head, pages))
+    }
+
+    fn reap(&mut self, queue: u32) -> Result<Answer, Refusal> {
+        if self.port.pages() < 64 {
+            return Err(Refusal::OutOfRam);
+        }
+        match self.driver.reap(&mut self.port, queue)? {
+            Some(Reaped { head, pages }) => Ok(Answer::Reaped(head, pages)),
+            None => Ok(Answer::NoneUsed),
+        }
+    }
+
+    fn init(&mut self, features: u64) -> Result<(), Refusal> {
+        if self.port.pages() < 64 {
+            return Err(Refusal::OutOfRam);
+        }
+        self.driver
+            .init(&mut self.port, Features::from_bits_retain(features))
+    }
+
+    /// Writes what a device would: the used ring of 8 descriptors has its index at byte 154 of its
+    /// page, and then an element of 8 bytes for each request, which begins with the head.
+    fn use_request(&mut self, queue: u32, head: u8, number: u8) {
+        let element = 148 + 8 * usize::from(number);
+        let _ = self
+            .port
+            .write(queue, element, &[head, 0, 0, 0, 0, 0, 0, 0]);
+        let _ = self.port.write(queue, 154, &[number, 0]);
+    }
+
+    fn answer(&mut self, step: Step) -> Result<Answer, Refusal> {
+        match step {
+            Step::Alloc(cpu, order) => return Ok(Answer::Page(self.driver.alloc(cpu, order)?)),
+            Step::Free(cpu, start, order) => self.driver.free(cpu, start, order)?,
+            Step::Init(features) => self.init(features)?,
+            Step::Reset => self.driver.reset(&mut self.port),
+            Step::Inflate(pages) => return self.post(Request::Inflate, pages),
+            Step::Deflate(pages) => return self.post(Request::Deflate, pages),
+            Step::Oom(pages) => return self.post(Request::Oom, pages),
+            Step::Reap(queue) => return self.reap(queue),
+            Step::SetTarget(pages) => self.port.set_target(pages),
+            Step::Use(queue, head, number) => self.use_request(queue, head, number),
+            Step::See(sight) => return Ok(self.see(sight)),
+        }
+        Ok(Answer::Done)
+    }
+
+    /// The number of the first line that is answered otherwise.
+    fn first_wrong(&mut self, lines: &[Line]) -> Option<usize> {
+        for at in 0..lines.len() {
+            if self.answer(lines[at].0) != lines[at].1 {
+                return Some(at);
+            }
+        }
+        None
+    }
 }
 
-fn place(driver: &Driver, page: u32) -> Place {
-    driver.place(page)
+fn first_wrong_of_new(alloc: Global, backed: u32, lines: &[Line]) -> Result<Option<usize>, Fail> {
+    let mut guest = Guest::new(alloc, backed)?;
+    Ok(guest.first_wrong(lines))
 }
 
-fn expect_counts(rt: &impl Abort, driver: &Driver, free: u32, used: u32) {
-    let counted = counts(driver);
-    assert!(rt; counted.free == free && counted.used == used);
-    assert!(rt; counted.giving == 0 && counted.lent == 0 && counted.taking == 0);
-    assert!(rt; counted.stranded == 0 && counted.reporting == 0);
-}
-
-#[test]
-fn has_all_unreserved_pages_free(rt: HostRuntime) -> Result<(), Fail> {
-    let driver = plugged_in(rt.alloc())?;
-    expect_counts(&rt, &driver, 48, 0);
-    assert!(rt; place(&driver, 15) == Place::Reserved);
-    assert!(rt; place(&driver, 16) == Place::Free);
-    assert!(rt; place(&driver, 64) == Place::Reserved);
-    assert_eq!(rt; driver.actual(), 0);
+/// A new guest, of whose pages the first so many have frames, answers each line.
+fn expect(rt: &impl Abort, alloc: Global, backed: u32, lines: &[Line]) -> Result<(), Fail> {
+    assert_eq!(rt; first_wrong_of_new(alloc, backed, lines)?, None);
     Ok(())
 }
 
-#[test]
-fn allocates_and_frees(rt: HostRuntime) -> Result<(), Fail> {
-    let mut driver = plugged_in(rt.alloc())?;
-    assert!(rt; alloc(&mut driver, 0, 0) == Ok(16));
-    expect_counts(&rt, &driver, 47, 1);
-    assert!(rt; driver.held(16) && !driver.held(17));
-    assert!(rt; free(&mut driver, 0, 16, 0) == Ok(()));
-    expect_counts(&rt, &driver, 48, 0);
-    assert!(rt; alloc(&mut driver, 0, 0) == Ok(16));
-    assert!(rt; alloc(&mut driver, 0, 5) == Ok(32));
-    expect_counts(&rt, &driver, 15, 33);
-    Ok(())
-}
+static BLOCKS: [Line; 16] = [
+    (Step::See(Sight::Counts(48, 0)), YES),
+    (Step::See(Sight::At(Place::Reserved, 0, 16)), YES),
+    (Step::See(Sight::At(Place::Free, 16, 64)), YES),
+    (Step::See(Sight::At(Place::Reserved, 64, 65)), YES),
+    (Step::See(Sight::Actual), Ok(Answer::Number(0))),
+    (Step::Alloc(0, 0), Ok(Answer::Page(16))),
+    (Step::See(Sight::Counts(47, 1)), YES),
+    (Step::See(Sight::Held(16)), YES),
+    (Step::See(Sight::Held(17)), NO),
+    (Step::Free(0, 16, 0), DONE),
+    (Step::See(Sight::Counts(48, 0)), YES),
+    (Step::Alloc(0, 0), Ok(Answer::Page(16))),
+    (Step::Alloc(0, 5), Ok(Answer::Page(32))),
+    (Step::See(Sight::Counts(15, 33)), YES),
+    (Step::Init(ALL), Err(Refusal::NoFrame)),
+    (Step::See(Sight::Status), Ok(Answer::Number(0))),
+];
 
 #[test]
-fn refuses_wrong_blocks(rt: HostRuntime) -> Result<(), Fail> {
-    let mut driver = plugged_in(rt.alloc())?;
-    assert!(rt; alloc(&mut driver, 0, 10) == Err(Refusal::BadOrder));
-    assert!(rt; alloc(&mut driver, 1, 0) == Err(Refusal::BadCpu));
-    assert!(rt; alloc(&mut driver, 0, 9) == Err(Refusal::NoPages));
-    assert!(rt; free(&mut driver, 0, 16, 0) == Err(Refusal::NotHeld));
-    assert!(rt; alloc(&mut driver, 0, 1) == Ok(16));
-    assert!(rt; free(&mut driver, 0, 16, 0) == Err(Refusal::NotHeld));
-    assert!(rt; free(&mut driver, 0, 16, 10) == Err(Refusal::BadOrder));
-    assert!(rt; free(&mut driver, 1, 16, 1) == Err(Refusal::BadCpu));
-    expect_counts(&rt, &driver, 46, 2);
-    Ok(())
+fn hands_blocks_out(rt: HostRuntime) -> Result<(), Fail> {
+    expect(&rt, rt.alloc(), 0, &BLOCKS)
 }
 
-fn inflate_before_init(alloc: Global) -> Result<bool, Fail> {
-    let mut driver = plugged_in(alloc)?;
-    let mut port = MemoryPort::new(Ram::new(alloc, 64)?);
-    Ok(driver.inflate(&mut port, 1) == Err(Refusal::NotReady))
-}
-
-fn deflate_before_init(alloc: Global) -> Result<bool, Fail> {
-    let mut driver = plugged_in(alloc)?;
-    let mut port = MemoryPort::new(Ram::new(alloc, 64)?);
-    Ok(driver.deflate(&mut port, 1) == Err(Refusal::NotReady))
-}
-
-fn oom_before_init(alloc: Global) -> Result<bool, Fail> {
-    let mut driver = plugged_in(alloc)?;
-    let mut port = MemoryPort::new(Ram::new(alloc, 64)?);
-    Ok(driver.oom(&mut port, 1) == Err(Refusal::NotReady))
-}
-
-fn reap_before_init(alloc: Global, queue: u32, refusal: Refusal) -> Result<bool, Fail> {
-    let mut driver = plugged_in(alloc)?;
-    let mut port = MemoryPort::new(Ram::new(alloc, 64)?);
-    Ok(driver.reap(&mut port, queue) == Err(refusal))
-}
+static REFUSALS: [Line; 17] = [
+    (Step::Alloc(0, 10), Err(Refusal::BadOrder)),
+    (Step::Alloc(1, 0), Err(Refusal::BadCpu)),
+    (Step::Alloc(0, 9), Err(Refusal::NoPages)),
+    (Step::Free(0, 16, 0), Err(Refusal::NotHeld)),
+    (Step::Alloc(0, 1), Ok(Answer::Page(16))),
+    (Step::Free(0, 16, 0), Err(Refusal::NotHeld)),
+    (Step::Free(0, 16, 10), Err(Refusal::BadOrder)),
+    (Step::Free(1, 16, 1), Err(Refusal::BadCpu)),
+    (Step::See(Sight::Counts(46, 2)), YES),
+    (Step::Inflate(1), Err(Refusal::NotReady)),
+    (Step::Deflate(1), Err(Refusal::NotReady)),
+    (Step::Oom(1), Err(Refusal::NotReady)),
+    (Step::Reap(0), Err(Refusal::NotReady)),
+    (Step::Reap(1), Err(Refusal::NotReady)),
+    (Step::Reap(2), Err(Refusal::NoQueue)),
+    (Step::Init(0), Err(Refusal::NoFrame)),
+    (Step::See(Sight::Status), Ok(Answer::Number(0))),
+];
 
 #[test]
-fn needs_an_initialised_device(rt: HostRuntime) -> Result<(), Fail> {
-    assert!(rt; inflate_before_init(rt.alloc())?);
-    assert!(rt; deflate_before_init(rt.alloc())?);
-    assert!(rt; oom_before_init(rt.alloc())?);
-    assert!(rt; reap_before_init(rt.alloc(), 0, Refusal::NotReady)?);
-    assert!(rt; reap_before_init(rt.alloc(), 1, Refusal::NotReady)?);
-    assert!(rt; reap_before_init(rt.alloc(), 2, Refusal::NoQueue)?);
-    Ok(())
+fn refuses_before_an_initialisation(rt: HostRuntime) -> Result<(), Fail> {
+    expect(&rt, rt.alloc(), 12, &REFUSALS)
 }
 
-fn reset(driver: &mut Driver, port: &mut MemoryPort) {
-    driver.reset(port);
-}
+static LIVES: [Line; 22] = [
+    (Step::Alloc(0, 3), Ok(Answer::Page(16))),
+    (Step::Reset, DONE),
+    (Step::See(Sight::Counts(40, 8)), YES),
+    (Step::See(Sight::Status), Ok(Answer::Number(0))),
+    (Step::Init(0x1_0000_0026), Err(Refusal::MustTellMissing)),
+    (Step::See(Sight::Status), Ok(Answer::Number(131))),
+    (Step::Reset, DONE),
+    (Step::Init(0x1_0000_0067), Err(Refusal::FeatureNotOffered)),
+    (Step::See(Sight::Status), Ok(Answer::Number(131))),
+    (Step::Reset, DONE),
+    (Step::Init(0x27), Err(Refusal::VersionMissing)),
+    (Step::See(Sight::Status), Ok(Answer::Number(131))),
+    (Step::Reset, DONE),
+    (Step::Init(0x1_0000_0001), DONE),
+    (Step::See(Sight::Status), Ok(Answer::Number(15))),
+    (Step::Oom(1), Err(Refusal::NoFeature)),
+    (Step::Reset, DONE),
+    (Step::Init(ALL), DONE),
+    (Step::See(Sight::Status), Ok(Answer::Number(15))),
+    (Step::See(Sight::Features), Ok(Answer::Number(ALL))),
+    (Step::Init(ALL), Err(Refusal::AlreadyUp)),
+    (Step::See(Sight::Status), Ok(Answer::Number(15))),
+];
 
 #[test]
-fn keeps_its_blocks_over_a_reset(rt: HostRuntime) -> Result<(), Fail> {
-    let mut driver = plugged_in(rt.alloc())?;
-    let mut port = MemoryPort::new(Ram::new(rt.alloc(), 64)?);
-    assert!(rt; alloc(&mut driver, 0, 3) == Ok(16));
-    reset(&mut driver, &mut port);
-    expect_counts(&rt, &driver, 40, 8);
-    assert!(rt; port.status() == Status::empty());
-    Ok(())
+fn starts_with_its_features_alone(rt: HostRuntime) -> Result<(), Fail> {
+    expect(&rt, rt.alloc(), 13, &LIVES)
+}
+
+/// Pages 16 to 19, as the buffer of a request has them.
+const FOUR: [u8; 16] = [16, 0, 0, 0, 17, 0, 0, 0, 18, 0, 0, 0, 19, 0, 0, 0];
+
+/// Pages 18 and 19 in a buffer that no request had before.
+const TWO: [u8; 16] = [18, 0, 0, 0, 19, 0, 0, 0, 0, 0, 0, 0, 0, 0, 0, 0];
+
+static STRANDED: [Line; 19] = [
+    (Step::SetTarget(4), DONE),
+    (Step::Init(ALL), DONE),
+    (Step::Inflate(4), Ok(Answer::Posted(0, 4))),
+    (Step::Use(0, 0, 1), DONE),
+    (Step::Reap(0), Ok(Answer::Reaped(0, 4))),
+    (Step::See(Sight::At(Place::Lent, 16, 20)), YES),
+    (Step::See(Sight::At(Place::Free, 20, 64)), YES),
+    (Step::See(Sight::Told), Ok(Answer::Number(4))),
+    (Step::Reset, DONE),
+    (Step::See(Sight::At(Place::Stranded, 16, 20)), YES),
+    (Step::See(Sight::Status), Ok(Answer::Number(0))),
+    (Step::Inflate(1), Err(Refusal::NotReady)),
+    (Step::SetTarget(0), DONE),
+    (Step::Init(ALL), DONE),
+    (Step::Inflate(2), Ok(Answer::Posted(0, 2))),
+    (Step::See(Sight::Shows(4, 0, FOUR)), YES),
+    (Step::Inflate(256), Ok(Answer::Posted(1, 2))),
+    (Step::See(Sight::Shows(4, 1024, TWO)), YES),
+    (Step::Inflate(1), Err(Refusal::Nothing)),
+];
+
+#[test]
+fn offers_stranded_pages_first(rt: HostRuntime) -> Result<(), Fail> {
+    expect(&rt, rt.alloc(), 13, &STRANDED)
+}
+
+/// A request for pages 17 to 20.
+const NUMBERS: [u8; 16] = [17, 0, 0, 0, 18, 0, 0, 0, 19, 0, 0, 0, 20, 0, 0, 0];
+
+/// A descriptor of 16 bytes at address 0x4000 that the device reads, with no other behind it.
+const DESCRIPTOR: [u8; 16] = [0, 0x40, 0, 0, 0, 0, 0, 0, 16, 0, 0, 0, 0, 0, 0, 0];
+
+/// An available ring with one entry, for head 0.
+const AVAILABLE: [u8; 16] = [0, 0, 1, 0, 0, 0, 0, 0, 0, 0, 0, 0, 0, 0, 0, 0];
+
+static REQUEST: [Line; 7] = [
+    (Step::SetTarget(4), DONE),
+    (Step::Init(ALL), DONE),
+    (Step::Alloc(0, 0), Ok(Answer::Page(16))),
+    (Step::Inflate(4), Ok(Answer::Posted(0, 4))),
+    (Step::See(Sight::Shows(4, 0, NUMBERS)), YES),
+    (Step::See(Sight::Shows(0, 0, DESCRIPTOR)), YES),
+    (Step::See(Sight::Shows(0, 128, AVAILABLE)), YES),
+];
+
+#[test]
+fn a_request_is_the_standards_bytes(rt: HostRuntime) -> Result<(), Fail> {
+    expect(&rt, rt.alloc(), 13, &REQUEST)
+}
+
+static BACK: [Line; 22] = [
+    (Step::SetTarget(48), DONE),
+    (Step::Init(ALL), DONE),
+    (Step::Inflate(256), Ok(Answer::Posted(0, 48))),
+    (Step::Alloc(0, 0), Err(Refusal::NoPages)),
+    (Step::Use(0, 0, 1), DONE),
+    (Step::Reap(0), Ok(Answer::Reaped(0, 48))),
+    (Step::Deflate(1), Err(Refusal::Nothing)),
+    (Step::Oom(1), Ok(Answer::Posted(0, 1))),
+    (Step::See(Sight::At(Place::Taking, 16, 17)), YES),
+    (Step::Alloc(0, 0), Err(Refusal::NoPages)),
+    (Step::Use(1, 0, 1), DONE),
+    (Step::See(Sight::Told), Ok(Answer::Number(48))),
+    (Step::Reap(1), Ok(Answer::Reaped(0, 1))),
+    (Step::See(Sight::Actual), Ok(Answer::Number(47))),
+    (Step::See(Sight::Told), Ok(Answer::Number(47))),
+    (Step::Alloc(0, 0), Ok(Answer::Page(16))),
+    (Step::SetTarget(40), DONE),
+    (Step::Deflate(256), Ok(Answer::Posted(0, 7))),
+    (Step::See(Sight::At(Place::Taking, 17, 24)), YES),
+    (Step::See(Sight::At(Place::Lent, 24, 64)), YES),
+    (Step::Deflate(1), Err(Refusal::Nothing)),
+    (Step::Reap(1), Ok(Answer::NoneUsed)),
+];
+
+#[test]
+fn asks_pages_back(rt: HostRuntime) -> Result<(), Fail> {
+    expect(&rt, rt.alloc(), 13, &BACK)
+}
+
+static ORDER: [Line; 18] = [
+    (Step::SetTarget(3), DONE),
+    (Step::Init(ALL), DONE),
+    (Step::Inflate(1), Ok(Answer::Posted(0, 1))),
+    (Step::Inflate(1), Ok(Answer::Posted(1, 1))),
+    (Step::Inflate(1), Ok(Answer::Posted(2, 1))),
+    (Step::Inflate(1), Err(Refusal::Nothing)),
+    (Step::Use(0, 2, 1), DONE),
+    (Step::Use(0, 0, 2), DONE),
+    (Step::Use(0, 1, 3), DONE),
+    (Step::Reap(0), Ok(Answer::Reaped(2, 1))),
+    (Step::Reap(0), Ok(Answer::Reaped(0, 1))),
+    (Step::Reap(0), Ok(Answer::Reaped(1, 1))),
+    (Step::Reap(0), Ok(Answer::NoneUsed)),
+    (Step::See(Sight::At(Place::Lent, 16, 19)), YES),
+    (Step::Use(0, 0, 4), DONE),
+    (Step::Reap(0), Err(Refusal::RingBroken)),
+    (Step::See(Sight::Status), Ok(Answer::Number(143))),
+    (Step::Reap(0), Err(Refusal::NotReady)),
+];
+
+#[test]
+fn reaps_in_the_devices_order(rt: HostRuntime) -> Result<(), Fail> {
+    expect(&rt, rt.alloc(), 13, &ORDER)
+}
+
+static FULL: [Line; 11] = [
+    (Step::SetTarget(9), DONE),
+    (Step::Init(ALL), DONE),
+    (Step::Inflate(1), Ok(Answer::Posted(0, 1))),
+    (Step::Inflate(1), Ok(Answer::Posted(1, 1))),
+    (Step::Inflate(1), Ok(Answer::Posted(2, 1))),
+    (Step::Inflate(1), Ok(Answer::Posted(3, 1))),
+    (Step::Inflate(1), Ok(Answer::Posted(4, 1))),
+    (Step::Inflate(1), Ok(Answer::Posted(5, 1))),
+    (Step::Inflate(1), Ok(Answer::Posted(6, 1))),
+    (Step::Inflate(1), Ok(Answer::Posted(7, 1))),
+    (Step::Inflate(1), Err(Refusal::QueueFull)),
+];
+
+#[test]
+fn has_as_many_requests_as_descriptors(rt: HostRuntime) -> Result<(), Fail> {
+    expect(&rt, rt.alloc(), 13, &FULL)
 }
