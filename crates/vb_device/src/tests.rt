@@ -3,41 +3,65 @@
 use crate::{Claimed, Device, ImmediateDevice};
 use bitflags::Flags;
 use std::alloc::Global;
-use std::test::Fail;
+use std::process::Abort;
 use vb_model::Refusal;
 use vb_ram::{Config, Frame, GuestBytes};
 use vb_status::{Features, Port, Status};
 
-/// A request for pages 17 to 20.
-static NUMBERS: [u8; 16] = [17, 0, 0, 0, 18, 0, 0, 0, 19, 0, 0, 0, 20, 0, 0, 0];
-
-/// A descriptor of 16 bytes at address 0x4000 that the device reads, with no other behind it.
-static DESCRIPTOR: [u8; 16] = [0, 0x40, 0, 0, 0, 0, 0, 0, 16, 0, 0, 0, 0, 0, 0, 0];
-
-/// An available ring with one entry, for head 0.
-static AVAILABLE: [u8; 6] = [0, 0, 1, 0, 0, 0];
-
-/// A device with a guest of 64 pages, of which none has a frame.
-fn attached(alloc: Global, queue_size: u16) -> Result<ImmediateDevice, Fail> {
-    let mut device = ImmediateDevice::new(alloc);
-    let config = Config {
-        pages: 64,
-        queue_size,
-        processors: 1,
-    };
-    if config.is_within_limits() {
-        device.attach(alloc, config)?;
-    }
-    Ok(device)
+/// What a host and a driver do with a device.
+#[derive(Clone, Copy)]
+enum Step {
+    /// The driver comes through the initialisation, after a reset.
+    Start,
+    /// The driver writes the status.
+    WriteStatus(u8),
+    Status,
+    /// Bytes are written to a page, from an offset on.
+    Write(u32, usize, &'static [u8]),
+    /// Twelve bytes of a page are read.
+    Read(u32, usize),
+    Take(u32),
+    /// In a new life the driver writes a page number, a descriptor and an available ring, and the
+    /// first chain of a queue is taken.
+    TakeFirst(u32, u8, [u8; 16], [u8; 6]),
+    /// The inflate that was taken as this number is finished. No frame may be loose before.
+    FinishInflate(u32),
+    /// The deflate that was taken first is finished. No frame may be loose before.
+    FinishDeflate,
+    /// A frame of this number is put behind a page.
+    Supply(u32, u32),
+    Backing(u32),
+    HandBack,
+    /// The frame of a page is swept away. No frame may be loose before.
+    Sweep(u32),
+    /// Whether all pages from the first to the last are ballooned, and no others.
+    AreBallooned(u32, u32),
+    BalloonedCount,
+    Claim,
 }
 
-/// A device with a guest of 64 pages, whose rings and buffers have frames 0 to 12.
-fn backed(alloc: Global, queue_size: u16) -> Result<ImmediateDevice, Fail> {
-    let mut device = attached(alloc, queue_size)?;
-    for page in 0..13 {
-        let _ = device.supply(page, Frame::fresh(alloc, page)?);
+/// What is answered.
+#[derive(Clone, Copy, PartialEq)]
+enum Answer {
+    Done,
+    Refused(Refusal),
+    Is(bool),
+    Status(u8),
+    Count(u32),
+    Bytes([u8; 12]),
+    /// The head of a chain; none where there is none.
+    Head(Option<u16>),
+    /// The number of a frame; none where there is none.
+    Frame(Option<u32>),
+    AskHost,
+}
+
+fn done(is_done: bool) -> Answer {
+    if is_done {
+        Answer::Done
+    } else {
+        Answer::Is(false)
     }
-    Ok(device)
 }
 
 /// The host, and the driver too, of one device.
@@ -47,97 +71,80 @@ struct Host {
 }
 
 impl Host {
-    fn new(alloc: Global, queue_size: u16) -> Result<Host, Fail> {
-        Ok(Host {
-            device: backed(alloc, queue_size)?,
-        })
-    }
-
-    fn unattached(alloc: Global) -> Host {
-        Host {
-            device: ImmediateDevice::new(alloc),
+    /// Its device has a guest of 64 pages, whose rings and buffers have frames 0 to 12.
+    fn new(rt: &impl Abort, alloc: Global, queue_size: u16) -> Host {
+        let mut device = ImmediateDevice::new(alloc);
+        let config = Config {
+            pages: 64,
+            queue_size,
+            processors: 1,
+        };
+        assert!(rt; config.is_within_limits());
+        assert!(rt; device.attach(alloc, config).is_ok());
+        let mut host = Host { device };
+        for page in 0..13 {
+            let _ = host.supply(alloc, page, page);
         }
+        host
     }
 
-    fn writes_status(&mut self, bits: u8) -> bool {
-        self.device
-            .write_status(Status::from_bits_retain(bits))
-            .is_ok()
-    }
-
-    fn negotiates(&mut self) -> bool {
-        self.device.negotiate(Features::OFFERED).is_ok()
-    }
-
-    /// Whether the driver comes through the initialisation, after a reset.
-    fn starts(&mut self) -> bool {
-        self.writes_status(0)
-            && self.writes_status(1)
-            && self.writes_status(3)
-            && self.negotiates()
-            && self.writes_status(11)
-            && self.writes_status(15)
-    }
-
-    fn status(&self) -> u8 {
-        self.device.status().bits()
-    }
-
-    /// Whether these bytes were written.
-    fn writes(&mut self, page: u32, offset: usize, bytes: &[u8]) -> bool {
-        self.device.write(page, offset, bytes).is_ok()
-    }
-
-    /// Whether a page has these bytes from an offset on.
-    fn shows(&self, page: u32, offset: usize, expected: &[u8; 12]) -> bool {
+    fn read(&self, page: u32, offset: usize) -> [u8; 12] {
         let mut bytes = [9; 12];
         let _ = self.device.read(page, offset, &mut bytes);
-        bytes == *expected
+        bytes
     }
 
-    fn take(&mut self, queue: u32) -> Result<Option<u16>, Refusal> {
-        self.device.take(queue)
-    }
-
-    /// The rule that a take finds broken; 0 where it finds none.
-    fn rule(&mut self, queue: u32) -> u32 {
-        match self.take(queue) {
-            Err(Refusal::Broken { rule }) => rule,
-            _ => 0,
+    fn take(&mut self, queue: u32) -> Answer {
+        match self.device.take(queue) {
+            Ok(head) => Answer::Head(head),
+            Err(refusal) => Answer::Refused(refusal),
         }
     }
 
-    /// Finishes the request of this number of queue 0. No frame may be loose before.
-    fn finish_at(&mut self, index: u32) -> Result<u16, Refusal> {
+    fn finish_inflate(&mut self, index: u32) -> Answer {
         if self.device.hand_back().is_some() || self.device.backing(0).is_none() {
-            return Err(Refusal::NoFrame);
+            return Answer::Is(false);
         }
-        self.device.finish(0, index)
+        match self.device.finish(0, index) {
+            Ok(head) => Answer::Head(Some(head)),
+            Err(refusal) => Answer::Refused(refusal),
+        }
     }
 
-    fn finish(&mut self) -> Result<u16, Refusal> {
-        self.finish_at(0)
+    fn finish_deflate(&mut self) -> Answer {
+        if self.device.hand_back().is_some() || self.device.backing(1).is_none() {
+            return Answer::Is(false);
+        }
+        match self.device.finish(1, 0) {
+            Ok(head) => Answer::Head(Some(head)),
+            Err(refusal) => Answer::Refused(refusal),
+        }
     }
 
-    /// The number of the last loose frame, which is given out.
-    fn hand_back(&mut self) -> Option<u32> {
+    fn sweep(&mut self, page: u32) -> Answer {
+        if self.device.hand_back().is_some() {
+            return Answer::Is(false);
+        }
+        match self.device.sweep(page) {
+            Ok(had) => Answer::Is(had),
+            Err(refusal) => Answer::Refused(refusal),
+        }
+    }
+
+    fn hand_back(&mut self) -> Answer {
         match self.device.hand_back() {
-            Some(frame) => Some(frame.number()),
-            None => None,
+            Some(frame) => Answer::Frame(Some(frame.number())),
+            None => Answer::Frame(None),
         }
     }
 
-    /// Whether a fresh frame was put behind a page.
-    fn supplies(&mut self, alloc: Global, page: u32, number: u32) -> Result<bool, Fail> {
-        let frame = Frame::fresh(alloc, number)?;
-        Ok(self.device.supply(page, frame).is_ok())
+    fn claim(&mut self) -> Answer {
+        match self.device.claim() {
+            Claimed::AskHost => Answer::AskHost,
+            _ => Answer::Is(false),
+        }
     }
 
-    fn backing(&self, page: u32) -> Option<u32> {
-        self.device.backing(page)
-    }
-
-    /// Whether all pages from the first to the last are ballooned, and no others.
     fn are_ballooned(&self, first: u32, last: u32) -> bool {
         for page in 0..64 {
             if self.device.ballooned(page) != (first <= page && page <= last) {
@@ -147,359 +154,409 @@ impl Host {
         true
     }
 
-    /// Whether none of the pages from the first to the last has a frame.
-    fn have_no_frame(&self, first: u32, last: u32) -> bool {
-        for page in first..=last {
-            if self.device.backing(page).is_some() {
-                return false;
-            }
+    fn supply(&mut self, alloc: Global, page: u32, number: u32) -> bool {
+        match Frame::fresh(alloc, number) {
+            Ok(frame) => self.device.supply(page, frame).is_ok(),
+            Err(_) => false,
         }
-        true
     }
 
-    fn ballooned_count(&self) -> u32 {
-        self.device.ballooned_count()
+    fn write_status(&mut self, bits: u8) -> bool {
+        self.device
+            .write_status(Status::from_bits_retain(bits))
+            .is_ok()
     }
 
-    fn asks_host(&mut self) -> bool {
-        matches!(self.device.claim(), Claimed::AskHost)
+    fn start(&mut self) -> bool {
+        self.write_status(0)
+            && self.write_status(1)
+            && self.write_status(3)
+            && self.device.negotiate(Features::OFFERED).is_ok()
+            && self.write_status(11)
+            && self.write_status(15)
     }
 
-    /// Whether a request for pages 17 to 20 was written as the first one of queue 0.
-    fn offers_four(&mut self) -> bool {
-        self.writes(4, 0, &NUMBERS)
-            && self.writes(0, 0, &DESCRIPTOR)
-            && self.writes(0, 128, &AVAILABLE)
+    fn take_first(
+        &mut self,
+        queue: u32,
+        number: u8,
+        descriptor: &[u8; 16],
+        available: &[u8; 6],
+    ) -> Answer {
+        let _ = self.start();
+        let _ = self.device.write(4, 0, &[number, 0, 0, 0]);
+        let _ = self.device.write(queue, 0, descriptor);
+        let _ = self.device.write(queue, 128, available);
+        self.take(queue)
     }
 
-    /// Whether pages 17 to 20 went into the balloon.
-    fn inflates_four(&mut self) -> bool {
-        self.starts() && self.offers_four() && self.take(0) == Ok(Some(0)) && self.finish() == Ok(0)
+    fn answer_of(&mut self, alloc: Global, step: &Step) -> Answer {
+        match step {
+            Step::Start => done(self.start()),
+            Step::WriteStatus(bits) => done(self.write_status(*bits)),
+            Step::Status => Answer::Status(self.device.status().bits()),
+            Step::Write(page, offset, bytes) => {
+                done(self.device.write(*page, *offset, bytes).is_ok())
+            }
+            Step::Read(page, offset) => Answer::Bytes(self.read(*page, *offset)),
+            Step::Take(queue) => self.take(*queue),
+            Step::TakeFirst(queue, number, descriptor, available) => {
+                self.take_first(*queue, *number, descriptor, available)
+            }
+            Step::FinishInflate(index) => self.finish_inflate(*index),
+            Step::FinishDeflate => self.finish_deflate(),
+            Step::Supply(page, number) => done(self.supply(alloc, *page, *number)),
+            Step::Backing(page) => Answer::Frame(self.device.backing(*page)),
+            Step::HandBack => self.hand_back(),
+            Step::Sweep(page) => self.sweep(*page),
+            Step::AreBallooned(first, last) => done(self.are_ballooned(*first, *last)),
+            Step::BalloonedCount => Answer::Count(self.device.ballooned_count()),
+            Step::Claim => self.claim(),
+        }
+    }
+
+    /// The device answers each of these lines.
+    fn expect(&mut self, rt: &impl Abort, alloc: Global, lines: &[(Step, Answer)]) {
+        for (at, (step, expected)) in lines.iter().enumerate() {
+            assert!(rt; self.answer_of(alloc, step) == *expected, "line {at}");
+        }
     }
 }
+
+/// A device with a guest answers each line of each table.
+fn expect(rt: &impl Abort, alloc: Global, queue_size: u16, tables: &[&[(Step, Answer)]]) {
+    let mut host = Host::new(rt, alloc, queue_size);
+    for lines in tables {
+        host.expect(rt, alloc, lines);
+    }
+}
+
+/// A request for pages 17 to 20.
+const NUMBERS: [u8; 16] = [17, 0, 0, 0, 18, 0, 0, 0, 19, 0, 0, 0, 20, 0, 0, 0];
+
+/// A descriptor of 16 bytes at address 0x4000 that the device reads, with no other behind it.
+const SIXTEEN_BYTES: [u8; 16] = [0, 0x40, 0, 0, 0, 0, 0, 0, 16, 0, 0, 0, 0, 0, 0, 0];
+
+/// A descriptor of 8 bytes there.
+const EIGHT_BYTES: [u8; 16] = [0, 0x40, 0, 0, 0, 0, 0, 0, 8, 0, 0, 0, 0, 0, 0, 0];
+
+/// An available ring with one entry, for head 0.
+const AVAILABLE: [u8; 6] = [0, 0, 1, 0, 0, 0];
+
+/// The used ring, with the element of head 0 and length 0.
+const USED: [u8; 12] = [0, 0, 1, 0, 0, 0, 0, 0, 0, 0, 0, 0];
+
+/// Pages 17 to 20 go into the balloon.
+static INFLATE: [(Step, Answer); 7] = [
+    (Step::Start, Answer::Done),
+    (Step::Write(4, 0, &NUMBERS), Answer::Done),
+    (Step::Write(0, 0, &SIXTEEN_BYTES), Answer::Done),
+    (Step::Write(0, 128, &AVAILABLE), Answer::Done),
+    (Step::Take(0), Answer::Head(Some(0))),
+    (Step::FinishInflate(0), Answer::Head(Some(0))),
+    (Step::AreBallooned(17, 20), Answer::Done),
+];
+
+static INFLATED: [(Step, Answer); 7] = [
+    (Step::Read(0, 152), Answer::Bytes(USED)),
+    (Step::BalloonedCount, Answer::Count(4)),
+    (Step::Backing(17), Answer::Frame(None)),
+    (Step::Backing(18), Answer::Frame(None)),
+    (Step::Backing(19), Answer::Frame(None)),
+    (Step::Backing(20), Answer::Frame(None)),
+    (Step::Take(0), Answer::Head(None)),
+];
 
 #[test]
-fn a_request_is_taken_and_finished(rt: HostRuntime) -> Result<(), Fail> {
-    let mut host = Host::new(rt.alloc(), 8)?;
-    assert!(rt; host.starts());
-    assert!(rt; host.offers_four());
-    assert!(rt; host.take(0) == Ok(Some(0)));
-    assert!(rt; host.finish() == Ok(0));
-    assert!(rt; host.are_ballooned(17, 20));
-    assert!(rt; host.have_no_frame(17, 20));
-    Ok(())
+fn a_request_is_taken_and_finished(rt: HostRuntime) {
+    expect(&rt, rt.alloc(), 8, &[&INFLATE, &INFLATED]);
 }
 
-/// The used ring, and the element of head 0 with length 0.
-static USED: [u8; 12] = [0, 0, 1, 0, 0, 0, 0, 0, 0, 0, 0, 0];
+static FRAME_BEHIND_17: [(Step, Answer); 1] = [(Step::Supply(17, 40), Answer::Done)];
+
+static FRAME_IS_LOOSE: [(Step, Answer); 3] = [
+    (Step::Backing(17), Answer::Frame(None)),
+    (Step::HandBack, Answer::Frame(Some(40))),
+    (Step::HandBack, Answer::Frame(None)),
+];
 
 #[test]
-fn a_finished_request_is_in_the_used_ring(rt: HostRuntime) -> Result<(), Fail> {
-    let mut host = Host::new(rt.alloc(), 8)?;
-    assert!(rt; host.inflates_four());
-    assert!(rt; host.shows(0, 152, &USED));
-    assert_eq!(rt; host.ballooned_count(), 4);
-    assert!(rt; host.take(0) == Ok(None));
-    Ok(())
+fn a_ballooned_page_loses_its_frame(rt: HostRuntime) {
+    expect(
+        &rt,
+        rt.alloc(),
+        8,
+        &[&FRAME_BEHIND_17, &INFLATE, &FRAME_IS_LOOSE],
+    );
 }
+
+/// Descriptors of page 4, by length, flags and next.
+const FOUR_BYTES: [u8; 16] = [0, 0x40, 0, 0, 0, 0, 0, 0, 4, 0, 0, 0, 0, 0, 0, 0];
+
+const SIX_BYTES: [u8; 16] = [0, 0x40, 0, 0, 0, 0, 0, 0, 6, 0, 0, 0, 0, 0, 0, 0];
+
+const NEXT_IS_8: [u8; 16] = [0, 0x40, 0, 0, 0, 0, 0, 0, 4, 0, 0, 0, 1, 0, 8, 0];
+
+const NEXT_IS_0: [u8; 16] = [0, 0x40, 0, 0, 0, 0, 0, 0, 4, 0, 0, 0, 1, 0, 0, 0];
+
+const WRITABLE: [u8; 16] = [0, 0x40, 0, 0, 0, 0, 0, 0, 4, 0, 0, 0, 2, 0, 0, 0];
+
+const INDIRECT: [u8; 16] = [0, 0x40, 0, 0, 0, 0, 0, 0, 4, 0, 0, 0, 4, 0, 0, 0];
+
+/// Four bytes that end where memory does.
+const TO_THE_LAST_BYTE: [u8; 16] = [0xfc, 0xff, 3, 0, 0, 0, 0, 0, 4, 0, 0, 0, 0, 0, 0, 0];
+
+/// Four bytes of which the last is past the end of memory.
+const ONE_BYTE_TOO_FAR: [u8; 16] = [0xfd, 0xff, 3, 0, 0, 0, 0, 0, 4, 0, 0, 0, 0, 0, 0, 0];
+
+/// Eight bytes of which the last four are past the last address of 64 bits.
+const PAST_ALL_ADDRESSES: [u8; 16] = [
+    0xfc, 0xff, 0xff, 0xff, 0xff, 0xff, 0xff, 0xff, 8, 0, 0, 0, 0, 0, 0, 0,
+];
+
+/// No bytes at address 0.
+const EMPTY: [u8; 16] = [0; 16];
+
+/// Available rings with head 8, and with indices 8 and 9.
+const HEAD_IS_8: [u8; 6] = [0, 0, 1, 0, 8, 0];
+
+const EIGHT_AHEAD: [u8; 6] = [0, 0, 8, 0, 0, 0];
+
+const NINE_AHEAD: [u8; 6] = [0, 0, 9, 0, 0, 0];
+
+/// The answers to a take where one of the rules is broken.
+const RULE_1: Answer = Answer::Refused(Refusal::Broken { rule: 1 });
+
+const RULE_2: Answer = Answer::Refused(Refusal::Broken { rule: 2 });
+
+const RULE_3: Answer = Answer::Refused(Refusal::Broken { rule: 3 });
+
+const RULE_4: Answer = Answer::Refused(Refusal::Broken { rule: 4 });
+
+const RULE_5: Answer = Answer::Refused(Refusal::Broken { rule: 5 });
+
+const RULE_6: Answer = Answer::Refused(Refusal::Broken { rule: 6 });
+
+const RULE_7: Answer = Answer::Refused(Refusal::Broken { rule: 7 });
+
+const RULE_8: Answer = Answer::Refused(Refusal::Broken { rule: 8 });
+
+const RULE_9: Answer = Answer::Refused(Refusal::Broken { rule: 9 });
+
+const RULE_10: Answer = Answer::Refused(Refusal::Broken { rule: 10 });
+
+static BROKEN: [(Step, Answer); 23] = [
+    (Step::TakeFirst(0, 3, FOUR_BYTES, AVAILABLE), RULE_10),
+    (Step::TakeFirst(0, 64, FOUR_BYTES, AVAILABLE), RULE_9),
+    (Step::TakeFirst(1, 15, FOUR_BYTES, AVAILABLE), RULE_10),
+    (Step::TakeFirst(1, 64, FOUR_BYTES, AVAILABLE), RULE_9),
+    (Step::TakeFirst(0, 20, NEXT_IS_8, AVAILABLE), RULE_2),
+    (Step::TakeFirst(0, 20, NEXT_IS_0, AVAILABLE), RULE_3),
+    (Step::TakeFirst(0, 20, INDIRECT, AVAILABLE), RULE_4),
+    (Step::TakeFirst(0, 20, WRITABLE, AVAILABLE), RULE_5),
+    (Step::TakeFirst(0, 20, SIX_BYTES, AVAILABLE), RULE_8),
+    (Step::TakeFirst(1, 20, NEXT_IS_8, AVAILABLE), RULE_2),
+    (Step::TakeFirst(1, 20, NEXT_IS_0, AVAILABLE), RULE_3),
+    (Step::TakeFirst(1, 20, INDIRECT, AVAILABLE), RULE_4),
+    (Step::TakeFirst(1, 20, WRITABLE, AVAILABLE), RULE_5),
+    (Step::TakeFirst(1, 20, SIX_BYTES, AVAILABLE), RULE_8),
+    (Step::TakeFirst(0, 20, TO_THE_LAST_BYTE, AVAILABLE), RULE_10),
+    (Step::TakeFirst(0, 20, ONE_BYTE_TOO_FAR, AVAILABLE), RULE_6),
+    (
+        Step::TakeFirst(0, 20, PAST_ALL_ADDRESSES, AVAILABLE),
+        RULE_6,
+    ),
+    (Step::TakeFirst(0, 20, EMPTY, HEAD_IS_8), RULE_1),
+    (Step::TakeFirst(0, 20, EMPTY, NINE_AHEAD), RULE_7),
+    (Step::TakeFirst(0, 20, EMPTY, EIGHT_AHEAD), RULE_8),
+    (Step::TakeFirst(1, 20, EMPTY, HEAD_IS_8), RULE_1),
+    (Step::TakeFirst(1, 20, EMPTY, NINE_AHEAD), RULE_7),
+    (Step::TakeFirst(1, 20, EMPTY, EIGHT_AHEAD), RULE_8),
+];
 
 #[test]
-fn a_ballooned_page_loses_its_frame(rt: HostRuntime) -> Result<(), Fail> {
-    let mut host = Host::new(rt.alloc(), 8)?;
-    assert!(rt; host.supplies(rt.alloc(), 17, 40)?);
-    assert!(rt; host.inflates_four());
-    assert!(rt; host.backing(17).is_none());
-    assert!(rt; host.hand_back() == Some(40));
-    assert!(rt; host.hand_back().is_none());
-    Ok(())
+fn the_broken_rule_is_told(rt: HostRuntime) {
+    expect(&rt, rt.alloc(), 8, &[&BROKEN]);
 }
 
-impl Host {
-    /// What a take of a descriptor of page 4 and one page number there gives, in a new life.
-    fn rule_with(&mut self, queue: u32, len: u8, flags: u8, next: u8, number: u8) -> u32 {
-        let table = [0, 0x40, 0, 0, 0, 0, 0, 0, len, 0, 0, 0, flags, 0, next, 0];
-        let written = self.starts()
-            && self.writes(4, 0, &[number, 0, 0, 0])
-            && self.writes(queue, 0, &table)
-            && self.writes(queue, 128, &AVAILABLE);
-        if written { self.rule(queue) } else { 0 }
-    }
-
-    /// What a take gives where the available ring has these bytes, in a new life.
-    fn rule_of_ring(&mut self, queue: u32, available: &[u8; 6]) -> u32 {
-        let written = self.starts() && self.writes(queue, 128, available);
-        if written { self.rule(queue) } else { 0 }
-    }
-}
+static FAULT: [(Step, Answer); 7] = [
+    (Step::Start, Answer::Done),
+    (Step::Write(0, 128, &NINE_AHEAD), Answer::Done),
+    (Step::Take(0), RULE_7),
+    (Step::Status, Answer::Status(79)),
+    (Step::Take(0), Answer::Refused(Refusal::NeedsReset)),
+    (Step::Take(1), Answer::Refused(Refusal::NeedsReset)),
+    (Step::FinishInflate(0), Answer::Refused(Refusal::NeedsReset)),
+];
 
 #[test]
-fn a_wrong_page_number(rt: HostRuntime) -> Result<(), Fail> {
-    let mut host = Host::new(rt.alloc(), 8)?;
-    assert_eq!(rt; host.rule_with(0, 4, 0, 0, 3), 10);
-    assert_eq!(rt; host.rule_with(0, 4, 0, 0, 64), 9);
-    assert_eq!(rt; host.rule_with(1, 4, 0, 0, 15), 10);
-    assert_eq!(rt; host.rule_with(1, 4, 0, 0, 64), 9);
-    Ok(())
-}
-
-#[test]
-fn a_wrong_descriptor(rt: HostRuntime) -> Result<(), Fail> {
-    let mut host = Host::new(rt.alloc(), 8)?;
-    assert_eq!(rt; host.rule_with(0, 4, 1, 8, 20), 2);
-    assert_eq!(rt; host.rule_with(0, 4, 1, 0, 20), 3);
-    assert_eq!(rt; host.rule_with(0, 4, 4, 0, 20), 4);
-    assert_eq!(rt; host.rule_with(0, 4, 2, 0, 20), 5);
-    assert_eq!(rt; host.rule_with(0, 6, 0, 0, 20), 8);
-    Ok(())
-}
-
-#[test]
-fn a_wrong_descriptor_of_a_deflate(rt: HostRuntime) -> Result<(), Fail> {
-    let mut host = Host::new(rt.alloc(), 8)?;
-    assert_eq!(rt; host.rule_with(1, 4, 1, 8, 20), 2);
-    assert_eq!(rt; host.rule_with(1, 4, 1, 0, 20), 3);
-    assert_eq!(rt; host.rule_with(1, 4, 4, 0, 20), 4);
-    assert_eq!(rt; host.rule_with(1, 4, 2, 0, 20), 5);
-    assert_eq!(rt; host.rule_with(1, 6, 0, 0, 20), 8);
-    Ok(())
-}
-
-#[test]
-fn a_wrong_ring(rt: HostRuntime) -> Result<(), Fail> {
-    let mut host = Host::new(rt.alloc(), 8)?;
-    for queue in 0..2 {
-        assert_eq!(rt; host.rule_of_ring(queue, &[0, 0, 1, 0, 8, 0]), 1);
-        assert_eq!(rt; host.rule_of_ring(queue, &[0, 0, 9, 0, 0, 0]), 7);
-        assert_eq!(rt; host.rule_of_ring(queue, &[0, 0, 8, 0, 0, 0]), 8);
-    }
-    Ok(())
-}
-
-#[test]
-fn a_fault_needs_a_reset(rt: HostRuntime) -> Result<(), Fail> {
-    let mut host = Host::new(rt.alloc(), 8)?;
-    assert_eq!(rt; host.rule_of_ring(0, &[0, 0, 9, 0, 0, 0]), 7);
-    assert_eq!(rt; host.status(), 79);
-    assert!(rt; host.take(0) == Err(Refusal::NeedsReset));
-    assert!(rt; host.take(1) == Err(Refusal::NeedsReset));
-    assert!(rt; host.finish() == Err(Refusal::NeedsReset));
-    assert!(rt; host.inflates_four());
-    Ok(())
-}
-
-impl Host {
-    /// Whether a request in these bytes from address 0x4000 on went into the balloon.
-    fn inflates(&mut self, numbers: &[u8], descriptors: &[u8]) -> bool {
-        self.starts()
-            && self.writes(4, 0, numbers)
-            && self.writes(0, 0, descriptors)
-            && self.writes(0, 128, &AVAILABLE)
-            && self.take(0) == Ok(Some(0))
-            && self.finish() == Ok(0)
-    }
+fn a_fault_needs_a_reset(rt: HostRuntime) {
+    expect(&rt, rt.alloc(), 8, &[&FAULT, &INFLATE]);
 }
 
 /// A request that names page 20 twice.
-static TWICE: [u8; 8] = [20, 0, 0, 0, 20, 0, 0, 0];
-
-/// A descriptor of 8 bytes at address 0x4000.
-static EIGHT_BYTES: [u8; 16] = [0, 0x40, 0, 0, 0, 0, 0, 0, 8, 0, 0, 0, 0, 0, 0, 0];
+static NAMED_TWICE: [(Step, Answer); 8] = [
+    (Step::Start, Answer::Done),
+    (Step::Write(4, 0, &[20, 0, 0, 0, 20, 0, 0, 0]), Answer::Done),
+    (Step::Write(0, 0, &EIGHT_BYTES), Answer::Done),
+    (Step::Write(0, 128, &AVAILABLE), Answer::Done),
+    (Step::Take(0), Answer::Head(Some(0))),
+    (Step::FinishInflate(0), Answer::Head(Some(0))),
+    (Step::AreBallooned(20, 20), Answer::Done),
+    (Step::BalloonedCount, Answer::Count(1)),
+];
 
 #[test]
-fn a_page_named_twice_counts_once(rt: HostRuntime) -> Result<(), Fail> {
-    let mut host = Host::new(rt.alloc(), 8)?;
-    assert!(rt; host.inflates(&TWICE, &EIGHT_BYTES));
-    assert!(rt; host.are_ballooned(20, 20));
-    assert_eq!(rt; host.ballooned_count(), 1);
-    Ok(())
+fn a_page_named_twice_counts_once(rt: HostRuntime) {
+    expect(&rt, rt.alloc(), 8, &[&NAMED_TWICE]);
 }
 
 /// A chain of 3 bytes at address 0x4000 and 5 bytes at address 0x5000.
-static TWO_PIECES: [u8; 32] = [
+const TWO_PIECES: [u8; 32] = [
     0, 0x40, 0, 0, 0, 0, 0, 0, 3, 0, 0, 0, 1, 0, 1, 0, 0, 0x50, 0, 0, 0, 0, 0, 0, 5, 0, 0, 0, 0, 0,
     0, 0,
 ];
 
-#[test]
-fn two_numbers_are_cut_by_two_pieces(rt: HostRuntime) -> Result<(), Fail> {
-    let mut host = Host::new(rt.alloc(), 8)?;
-    assert!(rt; host.writes(5, 0, &[0, 21, 0, 0, 0]));
-    assert!(rt; host.inflates(&[20, 0, 0], &TWO_PIECES));
-    assert!(rt; host.are_ballooned(20, 21));
-    assert_eq!(rt; host.ballooned_count(), 2);
-    Ok(())
-}
+/// Two numbers, the first of which is cut by two pieces.
+static CUT: [(Step, Answer); 9] = [
+    (Step::Start, Answer::Done),
+    (Step::Write(5, 0, &[0, 21, 0, 0, 0]), Answer::Done),
+    (Step::Write(4, 0, &[20, 0, 0]), Answer::Done),
+    (Step::Write(0, 0, &TWO_PIECES), Answer::Done),
+    (Step::Write(0, 128, &AVAILABLE), Answer::Done),
+    (Step::Take(0), Answer::Head(Some(0))),
+    (Step::FinishInflate(0), Answer::Head(Some(0))),
+    (Step::AreBallooned(20, 21), Answer::Done),
+    (Step::BalloonedCount, Answer::Count(2)),
+];
 
 /// A descriptor of 8 bytes at address 0x4ffc.
-static OVER_THE_END: [u8; 16] = [0xfc, 0x4f, 0, 0, 0, 0, 0, 0, 8, 0, 0, 0, 0, 0, 0, 0];
+const OVER_THE_END: [u8; 16] = [0xfc, 0x4f, 0, 0, 0, 0, 0, 0, 8, 0, 0, 0, 0, 0, 0, 0];
 
-#[test]
-fn a_piece_goes_over_the_end_of_a_page(rt: HostRuntime) -> Result<(), Fail> {
-    let mut host = Host::new(rt.alloc(), 8)?;
-    assert!(rt; host.writes(4, 4092, &[30, 0, 0, 0]));
-    assert!(rt; host.writes(5, 0, &[31, 0, 0, 0]));
-    assert!(rt; host.inflates(&[], &OVER_THE_END));
-    assert!(rt; host.are_ballooned(30, 31));
-    Ok(())
-}
-
-impl Host {
-    /// Whether so many chains from head 0 can be taken from queue 0, one after another.
-    fn takes(&mut self, count: u32) -> bool {
-        for _turn in 0..count {
-            if self.take(0) != Ok(Some(0)) {
-                return false;
-            }
-        }
-        true
-    }
-}
-
-#[test]
-fn sixteen_requests_are_taken_and_no_more(rt: HostRuntime) -> Result<(), Fail> {
-    let mut host = Host::new(rt.alloc(), 32)?;
-    assert!(rt; host.starts() && host.offers_four());
-    assert!(rt; host.writes(0, 514, &[17, 0]));
-    assert!(rt; host.takes(16));
-    assert!(rt; host.take(0) == Err(Refusal::Busy));
-    assert!(rt; host.take(3) == Err(Refusal::NoQueue));
-    Ok(())
-}
-
-#[test]
-fn a_device_that_is_not_attached(rt: HostRuntime) -> Result<(), Fail> {
-    let mut host = Host::unattached(rt.alloc());
-    assert!(rt; host.take(0) == Err(Refusal::NotReady));
-    assert!(rt; host.starts());
-    assert!(rt; host.take(0) == Ok(None));
-    assert!(rt; host.asks_host());
-    Ok(())
-}
-
-impl Host {
-    /// What a take gives where the first descriptor is this one, in a new life.
-    fn rule_of_descriptor(&mut self, descriptor: &[u8; 16]) -> u32 {
-        let written = self.starts()
-            && self.writes(0, 0, descriptor)
-            && self.writes(0, 128, &AVAILABLE);
-        if written { self.rule(0) } else { 0 }
-    }
-}
-
-/// Four bytes that end where memory does.
-static TO_THE_LAST_BYTE: [u8; 16] = [0xfc, 0xff, 3, 0, 0, 0, 0, 0, 4, 0, 0, 0, 0, 0, 0, 0];
-
-/// Four bytes of which the last is past the end of memory.
-static ONE_BYTE_TOO_FAR: [u8; 16] = [0xfd, 0xff, 3, 0, 0, 0, 0, 0, 4, 0, 0, 0, 0, 0, 0, 0];
-
-/// Eight bytes of which the last four are past the last address of 64 bits.
-static PAST_ALL_ADDRESSES: [u8; 16] = [
-    0xfc, 0xff, 0xff, 0xff, 0xff, 0xff, 0xff, 0xff, 8, 0, 0, 0, 0, 0, 0, 0,
+/// A piece that goes over the end of a page.
+static OVER: [(Step, Answer); 8] = [
+    (Step::Start, Answer::Done),
+    (Step::Write(4, 4092, &[30, 0, 0, 0]), Answer::Done),
+    (Step::Write(5, 0, &[31, 0, 0, 0]), Answer::Done),
+    (Step::Write(0, 0, &OVER_THE_END), Answer::Done),
+    (Step::Write(0, 128, &AVAILABLE), Answer::Done),
+    (Step::Take(0), Answer::Head(Some(0))),
+    (Step::FinishInflate(0), Answer::Head(Some(0))),
+    (Step::AreBallooned(30, 31), Answer::Done),
 ];
 
 #[test]
-fn a_piece_beyond_memory(rt: HostRuntime) -> Result<(), Fail> {
-    let mut host = Host::new(rt.alloc(), 8)?;
-    assert_eq!(rt; host.rule_of_descriptor(&TO_THE_LAST_BYTE), 10);
-    assert_eq!(rt; host.rule_of_descriptor(&ONE_BYTE_TOO_FAR), 6);
-    assert_eq!(rt; host.rule_of_descriptor(&PAST_ALL_ADDRESSES), 6);
-    Ok(())
+fn numbers_lie_in_two_pieces_and_in_two_pages(rt: HostRuntime) {
+    expect(&rt, rt.alloc(), 8, &[&CUT, &OVER]);
 }
 
-impl Host {
-    /// Finishes the first request of queue 1. No frame may be loose before.
-    fn finish_deflate(&mut self) -> Result<u16, Refusal> {
-        if self.device.hand_back().is_some() || self.device.backing(1).is_none() {
-            return Err(Refusal::NoFrame);
-        }
-        self.device.finish(1, 0)
-    }
+static SEVENTEEN: [(Step, Answer); 5] = [
+    (Step::Start, Answer::Done),
+    (Step::Write(4, 0, &NUMBERS), Answer::Done),
+    (Step::Write(0, 0, &SIXTEEN_BYTES), Answer::Done),
+    (Step::Write(0, 512, &AVAILABLE), Answer::Done),
+    (Step::Write(0, 514, &[17, 0]), Answer::Done),
+];
 
-    /// Whether the first two page numbers of page 4 were taken and finished as a deflate.
-    fn deflates_two(&mut self) -> bool {
-        self.writes(1, 0, &EIGHT_BYTES)
-            && self.writes(1, 128, &AVAILABLE)
-            && self.take(1) == Ok(Some(0))
-            && self.finish_deflate() == Ok(0)
-    }
-}
+static SIXTEEN_TAKES: [(Step, Answer); 16] = [(Step::Take(0), Answer::Head(Some(0))); 16];
+
+static ONE_TOO_MANY: [(Step, Answer); 2] = [
+    (Step::Take(0), Answer::Refused(Refusal::Busy)),
+    (Step::Take(3), Answer::Refused(Refusal::NoQueue)),
+];
 
 #[test]
-fn a_deflated_page_is_ballooned_no_more(rt: HostRuntime) -> Result<(), Fail> {
-    let mut host = Host::new(rt.alloc(), 8)?;
-    assert!(rt; host.inflates_four());
-    assert!(rt; host.deflates_two());
-    assert!(rt; host.are_ballooned(19, 20));
-    assert!(rt; host.shows(1, 152, &USED));
-    Ok(())
+fn sixteen_requests_are_taken_and_no_more(rt: HostRuntime) {
+    let tables: [&[(Step, Answer)]; 3] = [&SEVENTEEN, &SIXTEEN_TAKES, &ONE_TOO_MANY];
+    expect(&rt, rt.alloc(), 32, &tables);
 }
+
+static NOT_ATTACHED: [(Step, Answer); 4] = [
+    (Step::Take(0), Answer::Refused(Refusal::NotReady)),
+    (Step::Start, Answer::Done),
+    (Step::Take(0), Answer::Head(None)),
+    (Step::Claim, Answer::AskHost),
+];
 
 #[test]
-fn a_reset_empties_the_balloon(rt: HostRuntime) -> Result<(), Fail> {
-    let mut host = Host::new(rt.alloc(), 8)?;
-    assert!(rt; host.inflates_four());
-    assert!(rt; host.writes_status(0));
-    assert_eq!(rt; host.ballooned_count(), 0);
-    assert!(rt; host.have_no_frame(17, 20));
-    assert!(rt; host.finish() == Err(Refusal::NotReady));
-    Ok(())
+fn a_device_that_is_not_attached(rt: HostRuntime) {
+    let mut host = Host {
+        device: ImmediateDevice::new(rt.alloc()),
+    };
+    host.expect(&rt, rt.alloc(), &NOT_ATTACHED);
 }
 
-impl Host {
-    /// Takes a ballooned page's frame away. No frame may be loose before.
-    fn sweep(&mut self, page: u32) -> Result<bool, Refusal> {
-        if self.device.hand_back().is_some() {
-            return Err(Refusal::NoFrame);
-        }
-        self.device.sweep(page)
-    }
-}
+/// Pages 17 and 18 come back.
+static DEFLATE: [(Step, Answer); 6] = [
+    (Step::Write(1, 0, &EIGHT_BYTES), Answer::Done),
+    (Step::Write(1, 128, &AVAILABLE), Answer::Done),
+    (Step::Take(1), Answer::Head(Some(0))),
+    (Step::FinishDeflate, Answer::Head(Some(0))),
+    (Step::AreBallooned(19, 20), Answer::Done),
+    (Step::Read(1, 152), Answer::Bytes(USED)),
+];
 
 #[test]
-fn a_ballooned_page_is_swept(rt: HostRuntime) -> Result<(), Fail> {
-    let mut host = Host::new(rt.alloc(), 8)?;
-    assert!(rt; host.inflates_four());
-    assert!(rt; host.supplies(rt.alloc(), 18, 41)?);
-    assert!(rt; host.sweep(18) == Ok(true));
-    assert!(rt; host.hand_back() == Some(41));
-    assert!(rt; host.sweep(18) == Ok(false));
-    assert!(rt; host.sweep(21) == Err(Refusal::NotBallooned));
-    Ok(())
+fn a_deflated_page_is_ballooned_no_more(rt: HostRuntime) {
+    expect(&rt, rt.alloc(), 8, &[&INFLATE, &DEFLATE]);
 }
 
-impl Host {
-    /// Whether requests for pages 17 and 18 from head 0 and for pages 19 and 20 from head 1 were taken.
-    fn takes_two(&mut self) -> bool {
-        self.starts()
-            && self.writes(4, 0, &NUMBERS)
-            && self.writes(0, 0, &TWO_REQUESTS)
-            && self.writes(0, 128, &AVAILABLE_TWO)
-            && self.take(0) == Ok(Some(0))
-            && self.take(0) == Ok(Some(1))
-    }
+static RESET: [(Step, Answer); 7] = [
+    (Step::WriteStatus(0), Answer::Done),
+    (Step::BalloonedCount, Answer::Count(0)),
+    (Step::Backing(17), Answer::Frame(None)),
+    (Step::Backing(18), Answer::Frame(None)),
+    (Step::Backing(19), Answer::Frame(None)),
+    (Step::Backing(20), Answer::Frame(None)),
+    (Step::FinishInflate(0), Answer::Refused(Refusal::NotReady)),
+];
+
+#[test]
+fn a_reset_empties_the_balloon(rt: HostRuntime) {
+    expect(&rt, rt.alloc(), 8, &[&INFLATE, &RESET]);
 }
 
-/// Descriptors of 8 bytes at address 0x4000 and 8 bytes at address 0x4008, neither with another behind it.
-static TWO_REQUESTS: [u8; 32] = [
+static SWEEPS: [(Step, Answer); 5] = [
+    (Step::Supply(18, 41), Answer::Done),
+    (Step::Sweep(18), Answer::Is(true)),
+    (Step::HandBack, Answer::Frame(Some(41))),
+    (Step::Sweep(18), Answer::Is(false)),
+    (Step::Sweep(21), Answer::Refused(Refusal::NotBallooned)),
+];
+
+#[test]
+fn a_ballooned_page_is_swept(rt: HostRuntime) {
+    expect(&rt, rt.alloc(), 8, &[&INFLATE, &SWEEPS]);
+}
+
+/// Descriptors of 8 bytes at address 0x4000 and 8 bytes at address 0x4008, neither with another
+/// behind it.
+const TWO_REQUESTS: [u8; 32] = [
     0, 0x40, 0, 0, 0, 0, 0, 0, 8, 0, 0, 0, 0, 0, 0, 0, 8, 0x40, 0, 0, 0, 0, 0, 0, 8, 0, 0, 0, 0, 0,
     0, 0,
 ];
 
-/// An available ring with two entries, for heads 0 and 1.
-static AVAILABLE_TWO: [u8; 8] = [0, 0, 2, 0, 0, 0, 1, 0];
-
 /// The used ring with one element, of head 1 and length 0.
-static USED_ONE: [u8; 12] = [0, 0, 1, 0, 1, 0, 0, 0, 0, 0, 0, 0];
+const USED_ONE: [u8; 12] = [0, 0, 1, 0, 1, 0, 0, 0, 0, 0, 0, 0];
+
+/// Requests for pages 17 and 18 from head 0 and for pages 19 and 20 from head 1; the second one is
+/// finished first.
+static TWO_IN_ANY_ORDER: [(Step, Answer); 12] = [
+    (Step::Start, Answer::Done),
+    (Step::Write(4, 0, &NUMBERS), Answer::Done),
+    (Step::Write(0, 0, &TWO_REQUESTS), Answer::Done),
+    (Step::Write(0, 128, &[0, 0, 2, 0, 0, 0, 1, 0]), Answer::Done),
+    (Step::Take(0), Answer::Head(Some(0))),
+    (Step::Take(0), Answer::Head(Some(1))),
+    (Step::FinishInflate(2), Answer::Refused(Refusal::NotTaken)),
+    (Step::FinishInflate(1), Answer::Head(Some(1))),
+    (Step::Read(0, 152), Answer::Bytes(USED_ONE)),
+    (Step::AreBallooned(19, 20), Answer::Done),
+    (Step::FinishInflate(0), Answer::Head(Some(0))),
+    (Step::AreBallooned(17, 20), Answer::Done),
+];
 
 #[test]
-fn requests_are_finished_in_any_order(rt: HostRuntime) -> Result<(), Fail> {
-    let mut host = Host::new(rt.alloc(), 8)?;
-    assert!(rt; host.takes_two());
-    assert!(rt; host.finish_at(2) == Err(Refusal::NotTaken));
-    assert!(rt; host.finish_at(1) == Ok(1));
-    assert!(rt; host.shows(0, 152, &USED_ONE));
-    assert!(rt; host.are_ballooned(19, 20));
-    assert!(rt; host.finish_at(0) == Ok(0));
-    assert!(rt; host.are_ballooned(17, 20));
-    Ok(())
+fn requests_are_finished_in_any_order(rt: HostRuntime) {
+    expect(&rt, rt.alloc(), 8, &[&TWO_IN_ANY_ORDER]);
 }

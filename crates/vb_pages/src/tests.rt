@@ -2,123 +2,225 @@
 
 ghost use Rattle.std.specs.Prelude.{◌≡◌, ◌≤◌, ◌<◌, length};
 ghost use Rattle.vb_pages.specs.FreePages.{free_count};
+ghost use Rattle.vb_pages.specs.PageState.{IsSize};
 
 mod walk;
 
-use crate::{FreeBlock, PageFault, Pages};
+use crate::{PageFault, Pages};
+use Answer::{Block, Count, Done, Is, NoBlock, Page, Refused, Three};
+use PageFault::{BadCpu, BadOrder, NoPages, NotHeld};
+use Step::{Alloc, Free, FreeCount, Held, Isolate, Renew, TakeThree};
 use arrayvec::ArrayVec;
+use std::alloc::{AllocError, Global};
 use std::test::Fail;
+
+/// One call of an example.
+enum Step {
+    /// A processor asks for a block of an order.
+    Alloc(u32, u32),
+    /// A processor gives back the block that starts at a page and has an order.
+    Free(u32, u32, u32),
+    /// Whether a page is held.
+    Held(u32),
+    /// Three free pages are taken.
+    TakeThree,
+    /// A block of at least an order is taken that starts at or after a page.
+    Isolate(u32, u32),
+    FreeCount,
+    Renew,
+}
+
+/// What a call answers.
+#[derive(Drop, PartialEq)]
+enum Answer {
+    Page(u32),
+    Done,
+    Refused(PageFault),
+    Is(bool),
+    Three([u32; 3]),
+    /// A block, by its start and order.
+    Block(u32, u32),
+    NoBlock,
+    Count(u32),
+}
+
+/// Three free pages, one after the other.
+fn take_three(pages: &mut Pages) -> [u32; 3] {
+    let mut out = ArrayVec::new();
+    if pages.free_count() >= 3 {
+        pages.take_free(3, &mut out);
+    }
+    match out.as_slice() {
+        [first, second, third] => [*first, *second, *third],
+        _ => [0; 3],
+    }
+}
+
+fn make(pages: &mut Pages, step: &Step) -> Answer {
+    match step {
+        Alloc(cpu, order) => match pages.alloc(*cpu, *order) {
+            Ok(start) => Page(start),
+            Err(fault) => Refused(fault),
+        },
+        Free(cpu, start, order) => match pages.free(*cpu, *start, *order) {
+            Ok(()) => Done,
+            Err(fault) => Refused(fault),
+        },
+        Held(page) => Is(pages.held(*page)),
+        TakeThree => Three(take_three(pages)),
+        Isolate(order, from) => match pages.isolate(*order, *from) {
+            Some(block) => Block(block.start, block.order),
+            None => NoBlock,
+        },
+        FreeCount => Count(pages.free_count()),
+        Renew => {
+            pages.renew();
+            Done
+        }
+    }
+}
+
+fn first_wrong_line(pages: &mut Pages, lines: &[(Step, Answer)]) -> Option<usize> {
+    for (line, (step, answer)) in lines.iter().enumerate() {
+        if make(pages, step) != *answer {
+            return Some(line);
+        }
+    }
+    None
+}
+
+/// The first line whose call isn't answered so, when they are made one after the other on a new guest of
+/// so many pages and processors.
+fn first_wrong(
+    alloc: Global,
+    size: u32,
+    cpus: u32,
+    lines: &[(Step, Answer)],
+) -> Result<Option<usize>, AllocError>
+    requires { IsSize size cpus }
+{
+    let mut pages = Pages::new(alloc, size, cpus)?;
+    Ok(first_wrong_line(&mut pages, lines))
+}
+
+static TWO_PROCESSORS: [(Step, Answer); 10] = [
+    (Alloc(0, 0), Page(16)),
+    (Alloc(1, 0), Page(24)),
+    (Free(1, 16, 0), Done),
+    (Alloc(1, 0), Page(16)),
+    (Alloc(0, 5), Page(32)),
+    (Alloc(0, 3), Refused(NoPages)),
+    (Alloc(0, 2), Page(20)),
+    (Alloc(0, 0), Page(17)),
+    (Alloc(0, 0), Page(18)),
+    (Free(0, 17, 1), Refused(NotHeld)),
+];
 
 /// Two processors, one call after the other.
 #[test]
 fn two_processors(rt: HostRuntime) -> Result<(), Fail> {
-    let mut pages = Pages::new(rt.alloc(), 64, 2)?;
-    assert_eq!(rt; pages.alloc(0, 0), Ok(16));
-    assert_eq!(rt; pages.alloc(1, 0), Ok(24));
-    assert_eq!(rt; pages.free(1, 16, 0), Ok(()));
-    assert_eq!(rt; pages.alloc(1, 0), Ok(16));
-    assert_eq!(rt; pages.alloc(0, 5), Ok(32));
-    assert_eq!(rt; pages.alloc(0, 3), Err(PageFault::NoPages));
-    assert_eq!(rt; pages.alloc(0, 2), Ok(20));
-    assert_eq!(rt; pages.alloc(0, 0), Ok(17));
-    assert_eq!(rt; pages.alloc(0, 0), Ok(18));
-    assert_eq!(rt; pages.free(0, 17, 1), Err(PageFault::NotHeld));
+    assert_eq!(rt; first_wrong(rt.alloc(), 64, 2, &TWO_PROCESSORS)?, None);
     Ok(())
 }
+
+static SIXTEEN_FREES: [(Step, Answer); 34] = [
+    (Alloc(0, 0), Page(16)),
+    (Alloc(0, 0), Page(17)),
+    (Alloc(0, 0), Page(18)),
+    (Alloc(0, 0), Page(19)),
+    (Alloc(0, 0), Page(20)),
+    (Alloc(0, 0), Page(21)),
+    (Alloc(0, 0), Page(22)),
+    (Alloc(0, 0), Page(23)),
+    (Alloc(0, 0), Page(24)),
+    (Alloc(0, 0), Page(25)),
+    (Alloc(0, 0), Page(26)),
+    (Alloc(0, 0), Page(27)),
+    (Alloc(0, 0), Page(28)),
+    (Alloc(0, 0), Page(29)),
+    (Alloc(0, 0), Page(30)),
+    (Alloc(0, 0), Page(31)),
+    (Free(0, 16, 0), Done),
+    (Free(0, 17, 0), Done),
+    (Free(0, 18, 0), Done),
+    (Free(0, 19, 0), Done),
+    (Free(0, 20, 0), Done),
+    (Free(0, 21, 0), Done),
+    (Free(0, 22, 0), Done),
+    (Free(0, 23, 0), Done),
+    (Free(0, 24, 0), Done),
+    (Free(0, 25, 0), Done),
+    (Free(0, 26, 0), Done),
+    (Free(0, 27, 0), Done),
+    (Free(0, 28, 0), Done),
+    (Free(0, 29, 0), Done),
+    (Free(0, 30, 0), Done),
+    (Free(0, 31, 0), Done),
+    (Alloc(0, 3), Page(16)),
+    (Alloc(0, 0), Page(31)),
+];
 
 /// Sixteen frees send the eight that came first back to the areas, where they merge.
 #[test]
 fn sixteen_frees(rt: HostRuntime) -> Result<(), Fail> {
-    let mut pages = Pages::new(rt.alloc(), 64, 1)?;
-    for page in 16..32 {
-        assert_eq!(rt; pages.alloc(0, 0), Ok(page));
-    }
-    for page in 16..32 {
-        assert_eq!(rt; pages.free(0, page, 0), Ok(()));
-    }
-    assert_eq!(rt; pages.alloc(0, 3), Ok(16));
-    assert_eq!(rt; pages.alloc(0, 0), Ok(31));
+    assert_eq!(rt; first_wrong(rt.alloc(), 64, 1, &SIXTEEN_FREES)?, None);
     Ok(())
 }
+
+static LARGE_ORDERS: [(Step, Answer); 12] = [
+    (Alloc(0, 5), Page(32)),
+    (Alloc(0, 5), Refused(NoPages)),
+    (Alloc(0, 9), Refused(NoPages)),
+    (Alloc(0, 10), Refused(BadOrder)),
+    (Alloc(1, 0), Refused(BadCpu)),
+    (Alloc(1, 10), Refused(BadOrder)),
+    (Free(0, 32, 4), Refused(NotHeld)),
+    (Free(1, 32, 5), Refused(BadCpu)),
+    (Free(1, 32, 10), Refused(BadOrder)),
+    (Held(32), Is(true)),
+    (Free(0, 32, 5), Done),
+    (Held(32), Is(false)),
+];
 
 /// Large orders, and each refusal.
 #[test]
 fn large_orders(rt: HostRuntime) -> Result<(), Fail> {
-    let mut pages = Pages::new(rt.alloc(), 64, 1)?;
-    assert_eq!(rt; pages.alloc(0, 5), Ok(32));
-    assert_eq!(rt; pages.alloc(0, 5), Err(PageFault::NoPages));
-    assert_eq!(rt; pages.alloc(0, 9), Err(PageFault::NoPages));
-    assert_eq!(rt; pages.alloc(0, 10), Err(PageFault::BadOrder));
-    assert_eq!(rt; pages.alloc(1, 0), Err(PageFault::BadCpu));
-    assert_eq!(rt; pages.alloc(1, 10), Err(PageFault::BadOrder));
-    assert_eq!(rt; pages.free(0, 32, 4), Err(PageFault::NotHeld));
-    assert_eq!(rt; pages.free(1, 32, 5), Err(PageFault::BadCpu));
-    assert_eq!(rt; pages.free(1, 32, 10), Err(PageFault::BadOrder));
-    assert!(rt; pages.held(32));
-    assert_eq!(rt; pages.free(0, 32, 5), Ok(()));
-    assert!(rt; !pages.held(32));
+    assert_eq!(rt; first_wrong(rt.alloc(), 64, 1, &LARGE_ORDERS)?, None);
     Ok(())
 }
+
+static LARGEST_GUEST: [(Step, Answer); 7] = [
+    (FreeCount, Count(16_368)),
+    (Alloc(3, 9), Page(512)),
+    (Alloc(3, 0), Page(16)),
+    (Alloc(2, 0), Page(24)),
+    (Isolate(4, 0), Block(32, 5)),
+    (Isolate(6, 100), Block(128, 7)),
+    (FreeCount, Count(16_368 - 512 - 2 - 32 - 128)),
+];
 
 /// The largest guest.
 #[test]
 fn largest_guest(rt: HostRuntime) -> Result<(), Fail> {
-    let mut pages = Pages::new(rt.alloc(), 16_384, 4)?;
-    assert_eq!(rt; pages.free_count(), 16_368);
-    assert_eq!(rt; pages.alloc(3, 9), Ok(512));
-    assert_eq!(rt; pages.alloc(3, 0), Ok(16));
-    assert_eq!(rt; pages.alloc(2, 0), Ok(24));
-    assert_eq!(rt;
-        pages.isolate(4, 0),
-        Some(FreeBlock {
-            start: 32,
-            order: 5
-        })
-    );
-    assert_eq!(rt;
-        pages.isolate(6, 100),
-        Some(FreeBlock {
-            start: 128,
-            order: 7
-        })
-    );
-    assert_eq!(rt; pages.free_count(), 16_368 - 512 - 2 - 32 - 128);
+    assert_eq!(rt; first_wrong(rt.alloc(), 16_384, 4, &LARGEST_GUEST)?, None);
     Ok(())
 }
 
-/// What the balloon driver takes and gives back.
+static TAKEN_PAGES: [(Step, Answer); 9] = [
+    (TakeThree, Three([16, 17, 18])),
+    (Isolate(4, 0), Block(32, 5)),
+    (Isolate(4, 0), NoBlock),
+    (Isolate(3, 17), Block(24, 3)),
+    (Isolate(0, 0), Block(19, 0)),
+    (FreeCount, Count(4)),
+    (Renew, Done),
+    (FreeCount, Count(48)),
+    (Alloc(0, 4), Page(16)),
+];
+
+/// What the balloon driver takes, until all pages are free again.
 #[test]
-fn taken_and_given_back(rt: HostRuntime) -> Result<(), Fail> {
-    let mut pages = Pages::new(rt.alloc(), 64, 1)?;
-    let mut out = ArrayVec::new();
-    assert!(rt; pages.free_count() >= 3);
-    pages.take_free(3, &mut out);
-    assert_eq!(rt; out.as_slice(), [16, 17, 18].as_slice());
-    assert_eq!(rt;
-        pages.isolate(4, 0),
-        Some(FreeBlock {
-            start: 32,
-            order: 5
-        })
-    );
-    assert_eq!(rt; pages.isolate(4, 0), None);
-    assert_eq!(rt;
-        pages.isolate(3, 17),
-        Some(FreeBlock {
-            start: 24,
-            order: 3
-        })
-    );
-    assert_eq!(rt;
-        pages.isolate(0, 0),
-        Some(FreeBlock {
-            start: 19,
-            order: 0
-        })
-    );
-    assert_eq!(rt; pages.free_count(), 4);
-    pages.renew();
-    assert_eq!(rt; pages.free_count(), 48);
-    assert_eq!(rt; pages.alloc(0, 4), Ok(16));
+fn taken_pages(rt: HostRuntime) -> Result<(), Fail> {
+    assert_eq!(rt; first_wrong(rt.alloc(), 64, 1, &TAKEN_PAGES)?, None);
     Ok(())
 }

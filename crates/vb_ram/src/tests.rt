@@ -8,78 +8,225 @@ use std::alloc::Global;
 use std::process::Abort;
 use std::test::Fail;
 
-/// Memory of two pages, page 0 with frame 7.
-fn two_pages(alloc: Global) -> Result<Ram, Fail> {
-    let mut ram = Ram::new(alloc, 2)?;
-    let frame = Frame::fresh(alloc, 7)?;
-    ram.supply(0, frame).ok().ok_or("page 0 has a frame")?;
-    Ok(ram)
+/// A call on memory of two pages.
+enum Step {
+    Pages,
+    Backing(u32),
+    /// A fresh frame of a number is put behind a page.
+    Supply(u32, u32),
+    Discard(u32),
+    /// The frame behind a page is put behind another one.
+    Move(u32, u32),
+    Write(u32, usize, &'static [u8]),
+    /// Two bytes of a page are read over fives.
+    Read(u32, usize),
+    /// The first bytes of page 0 are read.
+    Start,
+    /// A number of two, four or eight bytes is put into page 0.
+    PutNumber(usize, u8, u64),
+    /// A number of two, four or eight bytes of a page is read.
+    Number(u32, usize, u8),
 }
 
-fn expect_bytes(rt: &impl Abort, ram: &Ram, page: u32, offset: usize, bytes: &[u8]) {
-    for k in 0..bytes.len() {
-        let mut byte = [1];
-        if offset < 4096 && k < 4096 {
-            assert!(rt; ram.read(page, offset + k, &mut byte).is_ok());
-        }
-        assert!(rt; byte == [bytes[k]]);
+/// What a call answers.
+#[derive(Clone, Copy, PartialEq)]
+enum Answer {
+    Done,
+    /// A page or a frame that isn't there.
+    Nothing,
+    Count(u32),
+    Frame(u32),
+    Refused(RamFault),
+    /// The frame of this number comes back.
+    Returned(RamFault, u32),
+    Read(Option<RamFault>, [u8; 2]),
+    Start([u8; 16]),
+    Number(u64),
+}
+
+fn supply(ram: &mut Ram, page: u32, frame: Frame) -> Answer {
+    match ram.supply(page, frame) {
+        Ok(()) => Answer::Done,
+        Err(refused) => Answer::Returned(refused.fault, refused.frame.number()),
     }
 }
+
+fn supply_fresh(alloc: Global, ram: &mut Ram, page: u32, number: u32) -> Answer {
+    match Frame::fresh(alloc, number) {
+        Ok(frame) => supply(ram, page, frame),
+        Err(fault) => Answer::Refused(fault),
+    }
+}
+
+fn move_frame(ram: &mut Ram, from: u32, to: u32) -> Answer {
+    match ram.discard(from) {
+        Some(frame) => supply(ram, to, frame),
+        None => Answer::Nothing,
+    }
+}
+
+fn discard(ram: &mut Ram, page: u32) -> Answer {
+    match ram.discard(page) {
+        Some(frame) => Answer::Frame(frame.number()),
+        None => Answer::Nothing,
+    }
+}
+
+fn write(ram: &mut Ram, page: u32, offset: usize, bytes: &[u8]) -> Answer {
+    match ram.write(page, offset, bytes) {
+        Ok(()) => Answer::Done,
+        Err(fault) => Answer::Refused(fault),
+    }
+}
+
+fn put_number(ram: &mut Ram, offset: usize, width: u8, number: u64) -> Answer {
+    if ram.pages() != 2 || ram.backing(0).is_none() || offset > 4088 {
+        return Answer::Nothing;
+    }
+    match width {
+        2 => write_u16(ram, 0, offset, (number % 0x1_0000) as u16),
+        4 => write_u32(ram, 0, offset, (number % 0x1_0000_0000) as u32),
+        _ => write_u64(ram, 0, offset, number),
+    }
+    Answer::Done
+}
+
+fn frame_of(number: Option<u32>) -> Answer {
+    match number {
+        Some(number) => Answer::Frame(number),
+        None => Answer::Nothing,
+    }
+}
+
+fn read(ram: &Ram, page: u32, offset: usize) -> Answer {
+    let mut bytes = [5; 2];
+    let fault = ram.read(page, offset, &mut bytes).err();
+    Answer::Read(fault, bytes)
+}
+
+fn start(ram: &Ram) -> Answer {
+    let mut bytes = [5; 16];
+    let _ = ram.read(0, 0, &mut bytes);
+    Answer::Start(bytes)
+}
+
+fn read_number(ram: &Ram, page: u32, offset: usize, width: u8) -> Answer {
+    if page >= ram.pages() {
+        return Answer::Nothing;
+    }
+    match width {
+        2 if offset <= 4094 => Answer::Number(u64::from(read_u16(ram, page, offset))),
+        4 if offset <= 4092 => Answer::Number(u64::from(read_u32(ram, page, offset))),
+        8 if offset <= 4088 => Answer::Number(read_u64(ram, page, offset)),
+        _ => Answer::Nothing,
+    }
+}
+
+fn answer_of(alloc: Global, ram: &mut Ram, step: &Step) -> Answer {
+    match step {
+        Step::Pages => Answer::Count(ram.pages()),
+        Step::Backing(page) => frame_of(ram.backing(*page)),
+        Step::Supply(page, number) => supply_fresh(alloc, ram, *page, *number),
+        Step::Discard(page) => discard(ram, *page),
+        Step::Move(from, to) => move_frame(ram, *from, *to),
+        Step::Write(page, offset, bytes) => write(ram, *page, *offset, bytes),
+        Step::Read(page, offset) => read(ram, *page, *offset),
+        Step::Start => start(ram),
+        Step::PutNumber(offset, width, number) => put_number(ram, *offset, *width, *number),
+        Step::Number(page, offset, width) => read_number(ram, *page, *offset, *width),
+    }
+}
+
+/// Memory of two pages answers each of these lines.
+fn expect(rt: &impl Abort, alloc: Global, lines: &[(Step, Answer)]) -> Result<(), Fail> {
+    let mut ram = Ram::new(alloc, 2)?;
+    for (at, (step, expected)) in lines.iter().enumerate() {
+        assert!(rt; answer_of(alloc, &mut ram, step) == *expected, "line {at}");
+    }
+    Ok(())
+}
+
+static FRAMES: [(Step, Answer); 16] = [
+    (Step::Supply(0, 7), Answer::Done),
+    (Step::Pages, Answer::Count(2)),
+    (Step::Backing(0), Answer::Frame(7)),
+    (Step::Backing(1), Answer::Nothing),
+    (Step::Backing(2), Answer::Nothing),
+    (
+        Step::Supply(0, 9),
+        Answer::Returned(RamFault::AlreadyBacked, 9),
+    ),
+    (Step::Supply(2, 9), Answer::Returned(RamFault::OutOfRam, 9)),
+    (Step::Write(0, 4094, b"ab"), Answer::Done),
+    (Step::Read(0, 4094), Answer::Read(None, *b"ab")),
+    (Step::Move(0, 1), Answer::Done),
+    (Step::Backing(0), Answer::Nothing),
+    (Step::Backing(1), Answer::Frame(7)),
+    (Step::Read(0, 4094), Answer::Read(None, [0, 0])),
+    (Step::Read(1, 4094), Answer::Read(None, [0, 0])),
+    (Step::Discard(0), Answer::Nothing),
+    (Step::Discard(2), Answer::Nothing),
+];
 
 #[test]
 fn a_page_gets_a_frame_and_loses_it(rt: HostRuntime) -> Result<(), Fail> {
-    let mut ram = two_pages(rt.alloc())?;
-    assert!(rt; ram.pages() == 2);
-    assert!(rt; ram.backing(0) == Some(7));
-    assert!(rt; ram.backing(1).is_none());
-    assert!(rt; ram.backing(2).is_none());
-    let frame = Frame::fresh(rt.alloc(), 9)?;
-    assert!(rt; frame.number() == 9);
-    match ram.supply(0, frame) {
-        Ok(()) => assert!(rt; false),
-        Err(refused) => {
-            assert!(rt; refused.fault == RamFault::AlreadyBacked);
-            assert!(rt; refused.frame.number() == 9);
-        }
-    }
-    match ram.supply(2, Frame::fresh(rt.alloc(), 9)?) {
-        Ok(()) => assert!(rt; false),
-        Err(refused) => assert!(rt; refused.fault == RamFault::OutOfRam),
-    }
-    assert!(rt; ram.write(0, 4094, b"ab").is_ok());
-    match ram.discard(0) {
-        Some(frame) => assert!(rt; ram.supply(1, frame).is_ok()),
-        None => assert!(rt; false),
-    }
-    assert!(rt; ram.backing(0).is_none());
-    assert!(rt; ram.backing(1) == Some(7));
-    expect_bytes(&rt, &ram, 0, 4094, &[0, 0]);
-    expect_bytes(&rt, &ram, 1, 4094, &[0, 0]);
-    assert!(rt; ram.discard(0).is_none());
-    assert!(rt; ram.discard(2).is_none());
-    Ok(())
+    expect(&rt, rt.alloc(), &FRAMES)
 }
+
+static REFUSALS: [(Step, Answer); 10] = [
+    (Step::Supply(0, 7), Answer::Done),
+    (
+        Step::Write(2, 0, b"xy"),
+        Answer::Refused(RamFault::OutOfRam),
+    ),
+    (
+        Step::Write(0, 4095, b"xy"),
+        Answer::Refused(RamFault::OutOfRam),
+    ),
+    (
+        Step::Write(0, usize::MAX, b"xy"),
+        Answer::Refused(RamFault::OutOfRam),
+    ),
+    (
+        Step::Write(1, 4094, b"xy"),
+        Answer::Refused(RamFault::NeedsFrame),
+    ),
+    (Step::Write(0, 4094, b"xy"), Answer::Done),
+    (
+        Step::Read(1, 4095),
+        Answer::Read(Some(RamFault::OutOfRam), [5, 5]),
+    ),
+    (Step::Read(1, 4094), Answer::Read(None, [0, 0])),
+    (Step::Write(1, 4096, b""), Answer::Done),
+    (
+        Step::Write(1, 4097, b""),
+        Answer::Refused(RamFault::OutOfRam),
+    ),
+];
 
 #[test]
 fn reads_and_writes_are_refused_in_order(rt: HostRuntime) -> Result<(), Fail> {
-    let mut ram = two_pages(rt.alloc())?;
-    let mut out = [5; 2];
-    for (page, offset, fault) in [
-        (2, 0, Some(RamFault::OutOfRam)),
-        (0, 4095, Some(RamFault::OutOfRam)),
-        (0, usize::MAX, Some(RamFault::OutOfRam)),
-        (1, 4094, Some(RamFault::NeedsFrame)),
-        (0, 4094, None),
-    ] {
-        assert!(rt; ram.write(page, offset, b"xy").err() == fault);
-    }
-    assert!(rt; ram.read(1, 4095, &mut out).err() == Some(RamFault::OutOfRam));
-    assert!(rt; out == [5, 5]);
-    assert!(rt; ram.read(1, 4094, &mut out).is_ok());
-    assert!(rt; out == [0, 0]);
-    assert!(rt; ram.write(1, 4096, b"").is_ok());
-    assert!(rt; ram.write(1, 4097, b"").err() == Some(RamFault::OutOfRam));
-    Ok(())
+    expect(&rt, rt.alloc(), &REFUSALS)
+}
+
+static NUMBERS: [(Step, Answer); 9] = [
+    (Step::Supply(0, 7), Answer::Done),
+    (Step::PutNumber(0, 8, 0x0000_0102_0304_0506), Answer::Done),
+    (Step::PutNumber(8, 4, 16), Answer::Done),
+    (Step::PutNumber(12, 2, 0xabcd), Answer::Done),
+    (
+        Step::Start,
+        Answer::Start([6, 5, 4, 3, 2, 1, 0, 0, 16, 0, 0, 0, 0xcd, 0xab, 0, 0]),
+    ),
+    (Step::Number(0, 0, 8), Answer::Number(0x0000_0102_0304_0506)),
+    (Step::Number(0, 8, 4), Answer::Number(16)),
+    (Step::Number(0, 12, 2), Answer::Number(0xabcd)),
+    (Step::Number(1, 4094, 2), Answer::Number(0)),
+];
+
+#[test]
+fn numbers_stand_lowest_byte_first(rt: HostRuntime) -> Result<(), Fail> {
+    expect(&rt, rt.alloc(), &NUMBERS)
 }
 
 #[test]
@@ -90,45 +237,27 @@ fn faults_have_their_numbers(rt: HostRuntime) {
     assert!(rt; RamFault::Memory as u8 == 4);
 }
 
-#[test]
-fn numbers_stand_lowest_byte_first(rt: HostRuntime) -> Result<(), Fail> {
-    let mut ram = two_pages(rt.alloc())?;
-    assert!(rt; ram.pages() == 2);
-    assert!(rt; ram.backing(0).is_some());
-    write_u64(&mut ram, 0, 0, 0x0000_0102_0304_0506);
-    write_u32(&mut ram, 0, 8, 16);
-    write_u16(&mut ram, 0, 12, 0xabcd);
-    expect_bytes(
-        &rt,
-        &ram,
-        0,
-        0,
-        &[6, 5, 4, 3, 2, 1, 0, 0, 16, 0, 0, 0, 0xcd, 0xab, 0, 0],
-    );
-    assert!(rt; read_u64(&ram, 0, 0) == 0x0000_0102_0304_0506);
-    assert!(rt; read_u32(&ram, 0, 8) == 16);
-    assert!(rt; read_u16(&ram, 0, 12) == 0xabcd);
-    assert!(rt; read_u16(&ram, 1, 4094) == 0);
-    Ok(())
-}
+/// Pages, queue size and processors of guests, and whether there are such guests.
+static SIZES: [(u32, u32, u32, bool); 13] = [
+    (64, 8, 1, true),
+    (16_384, 128, 4, true),
+    (1024, 2, 2, true),
+    (32, 8, 1, false),
+    (96, 8, 1, false),
+    (32_768, 8, 1, false),
+    (64, 1, 1, false),
+    (64, 12, 1, false),
+    (64, 256, 1, false),
+    (64, 65_544, 1, false),
+    (64, 8, 0, false),
+    (64, 8, 5, false),
+    (0, 0, 0, false),
+];
 
 #[test]
 fn guests_have_their_sizes(rt: HostRuntime) {
-    for (pages, queue_size, processors, fits) in [
-        (64, 8, 1, true),
-        (16_384, 128, 4, true),
-        (1024, 2, 2, true),
-        (32, 8, 1, false),
-        (96, 8, 1, false),
-        (32_768, 8, 1, false),
-        (64, 1, 1, false),
-        (64, 12, 1, false),
-        (64, 256, 1, false),
-        (64, 65_544, 1, false),
-        (64, 8, 0, false),
-        (64, 8, 5, false),
-        (0, 0, 0, false),
-    ] {
-        assert!(rt; Config::new(pages, queue_size, processors).is_some() == fits);
+    for (pages, queue_size, processors, fits) in &SIZES {
+        let config = Config::new(*pages, *queue_size, *processors);
+        assert!(rt; config.is_some() == *fits);
     }
 }

@@ -3,253 +3,379 @@
 use crate::{DriverRing, Full, Layout, Queue, RingBroken, Taken};
 use std::alloc::Global;
 use std::process::Abort;
-use std::test::Fail;
 use vb_chain::{ChainFault, Piece};
 use vb_ram::{Frame, GuestBytes, Ram, RamFault};
 
+/// A request of four page numbers.
+const REQUEST: Piece = Piece {
+    addr: 0x4000,
+    len: 16,
+    writable: false,
+};
+
+/// A request of one page number.
+const ONE_NUMBER: Piece = Piece {
+    addr: 0x4000,
+    len: 4,
+    writable: false,
+};
+
+/// The first statistics buffer.
+const STATISTICS: Piece = Piece {
+    addr: 0xc000,
+    len: 20,
+    writable: false,
+};
+
+const FIRST_BLOCK: Piece = Piece {
+    addr: 0x1_0000,
+    len: 0x1_0000,
+    writable: true,
+};
+
+const SECOND_BLOCK: Piece = Piece {
+    addr: 0x2_0000,
+    len: 0x2_0000,
+    writable: true,
+};
+
+const ONE: Piece = Piece {
+    addr: 0x4000,
+    len: 1,
+    writable: false,
+};
+
+const TWO: Piece = Piece {
+    addr: 0x5000,
+    len: 2,
+    writable: false,
+};
+
+const THREE: Piece = Piece {
+    addr: 0x6000,
+    len: 3,
+    writable: true,
+};
+
+const FOUR: Piece = Piece {
+    addr: 0x7000,
+    len: 4,
+    writable: true,
+};
+
+/// A call on the two ends of a ring.
+enum Step {
+    NextHead,
+    Add(&'static [Piece]),
+    Outstanding,
+    TakeUsed,
+    Pop,
+    AddUsed(u16),
+    /// 16 bytes of the ring's page are read.
+    Bytes(usize),
+}
+
+/// What a call answers.
+#[derive(Clone, Copy, PartialEq)]
+enum Answer {
+    Done,
+    Nothing,
+    Head(u16),
+    Count(u16),
+    Bytes([u8; 16]),
+    Full(Full),
+    Fault(ChainFault),
+    Broken(RingBroken),
+}
+
 /// 64 pages, the first four with frames.
-fn memory(rt: &impl Abort, alloc: Global) -> Result<Ram, RamFault> {
+fn memory(alloc: Global) -> Result<Ram, RamFault> {
     let mut ram = Ram::new(alloc, 64)?;
     for page in 0..4 {
-        let frame = Frame::fresh(alloc, page)?;
-        assert!(rt; ram.supply(page, frame).is_ok());
+        let _ = ram.supply(page, Frame::fresh(alloc, page)?);
     }
     Ok(ram)
 }
 
-fn add(
-    rt: &impl Abort,
-    ring: &mut DriverRing,
-    ram: &mut Ram,
-    pieces: &[Piece],
-) -> Result<u16, Full> {
-    let layout = ring.layout();
-    assert!(rt; ram.backing(layout.table).is_some());
-    assert!(rt; ram.backing(layout.avail.page).is_some());
-    assert!(rt; ram.backing(layout.used.page).is_some());
-    assert!(rt; !pieces.is_empty());
-    ring.add(ram, pieces)
-}
-
-fn take_used(rt: &impl Abort, ring: &mut DriverRing, ram: &Ram) -> Result<Option<u16>, RingBroken> {
-    let layout = ring.layout();
-    assert!(rt; layout.table < ram.pages());
-    assert!(rt; layout.avail.page < ram.pages());
-    assert!(rt; layout.used.page < ram.pages());
-    ring.take_used(ram)
-}
-
-fn pop(rt: &impl Abort, queue: &mut Queue, ram: &Ram) -> Result<Option<Taken>, ChainFault> {
-    let layout = queue.layout();
-    assert!(rt; layout.table < ram.pages());
-    assert!(rt; layout.avail.page < ram.pages());
-    assert!(rt; layout.used.page < ram.pages());
-    queue.pop_descriptor_chain(ram)
-}
-
-/// The head of the next chain, or a number that no head has.
-fn pop_head(rt: &impl Abort, queue: &mut Queue, ram: &Ram) -> u16 {
-    match pop(rt, queue, ram) {
-        Ok(Some(taken)) => taken.head,
-        _ => u16::MAX,
-    }
-}
-
-fn add_used(rt: &impl Abort, queue: &mut Queue, ram: &mut Ram, head: u16) {
-    let layout = queue.layout();
-    assert!(rt; ram.backing(layout.table).is_some());
-    assert!(rt; ram.backing(layout.avail.page).is_some());
-    assert!(rt; ram.backing(layout.used.page).is_some());
-    assert!(rt; queue.is_ready());
-    assert!(rt; head < queue.size());
-    queue.add_used(ram, head, 0);
-}
-
-fn ready_queue(rt: &impl Abort, page: u32, size: u16) -> Queue {
+fn ready_queue(page: u32, size: u16) -> Queue {
     let mut queue = Queue::new(page);
-    assert!(rt; queue.set_size(size));
+    let _sized = queue.set_size(size);
     queue.set_ready(true);
     queue
 }
 
-fn readable(addr: u64, len: u32) -> Piece {
-    Piece {
-        addr,
-        len,
-        writable: false,
+/// A driver and a device, with the memory that they share.
+#[derive(Drop)]
+struct Ends {
+    ram: Ram,
+    ring: DriverRing,
+    queue: Queue,
+}
+
+impl Ends {
+    fn add(&mut self, pieces: &[Piece]) -> Answer {
+        let layout = self.ring.layout();
+        let is_backed = self.ram.backing(layout.table).is_some()
+            && self.ram.backing(layout.avail.page).is_some()
+            && self.ram.backing(layout.used.page).is_some();
+        if !is_backed || pieces.is_empty() {
+            return Answer::Nothing;
+        }
+        match self.ring.add(&mut self.ram, pieces) {
+            Ok(head) => Answer::Head(head),
+            Err(full) => Answer::Full(full),
+        }
+    }
+
+    fn take_used(&mut self) -> Answer {
+        let layout = self.ring.layout();
+        let pages = self.ram.pages();
+        if layout.table >= pages || layout.avail.page >= pages || layout.used.page >= pages {
+            return Answer::Nothing;
+        }
+        match self.ring.take_used(&self.ram) {
+            Ok(Some(head)) => Answer::Head(head),
+            Ok(None) => Answer::Nothing,
+            Err(broken) => Answer::Broken(broken),
+        }
+    }
+
+    fn pop(&mut self) -> Answer {
+        match pop(&mut self.queue, &self.ram) {
+            Ok(Some(taken)) => Answer::Head(taken.head),
+            Ok(None) => Answer::Nothing,
+            Err(fault) => Answer::Fault(fault),
+        }
+    }
+
+    fn add_used(&mut self, head: u16) -> Answer {
+        let layout = self.queue.layout();
+        let is_backed = self.ram.backing(layout.table).is_some()
+            && self.ram.backing(layout.avail.page).is_some()
+            && self.ram.backing(layout.used.page).is_some();
+        if !is_backed || !self.queue.is_ready() || head >= self.queue.size() {
+            return Answer::Nothing;
+        }
+        self.queue.add_used(&mut self.ram, head, 0);
+        Answer::Done
+    }
+
+    fn bytes(&self, offset: usize) -> Answer {
+        let mut bytes = [9; 16];
+        let _ = self.ram.read(self.ring.layout().table, offset, &mut bytes);
+        Answer::Bytes(bytes)
+    }
+
+    fn answer_of(&mut self, step: &Step) -> Answer {
+        match step {
+            Step::NextHead => match self.ring.next_head() {
+                Some(head) => Answer::Head(head),
+                None => Answer::Nothing,
+            },
+            Step::Add(pieces) => self.add(pieces),
+            Step::Outstanding => Answer::Count(self.ring.outstanding()),
+            Step::TakeUsed => self.take_used(),
+            Step::Pop => self.pop(),
+            Step::AddUsed(head) => self.add_used(*head),
+            Step::Bytes(offset) => self.bytes(*offset),
+        }
+    }
+
+    /// The ends answer each of these lines.
+    fn expect(&mut self, rt: &impl Abort, lines: &[(Step, Answer)]) {
+        for (at, (step, expected)) in lines.iter().enumerate() {
+            assert!(rt; self.answer_of(step) == *expected, "line {at}");
+        }
     }
 }
 
-fn writable(addr: u64, len: u32) -> Piece {
-    Piece {
-        addr,
-        len,
-        writable: true,
+/// The ends of a ring of so many descriptors, which lies in this page.
+fn both_ends(rt: &impl Abort, alloc: Global, page: u32, size: u16) -> Ends {
+    assert!(rt; 2 <= size && size <= 128 && 65_536 % u32::from(size) == 0);
+    Ends {
+        ram: memory(alloc).expect(rt, "no memory"),
+        ring: DriverRing::new(page, size),
+        queue: ready_queue(page, size),
     }
 }
 
-fn expect_layout(rt: &impl Abort, size: u16, layout: Layout, avail: u16, used: u16, end: u64) {
-    assert_eq!(rt; layout.avail.offset, avail, "available ring of {size}");
-    assert_eq!(rt; layout.used.offset, used, "used ring of {size}");
-    let after = u64::from(layout.used.offset) + 6 + 8 * u64::from(size);
-    assert_eq!(rt; after, end, "end of {size}");
+/// The ends of a ring of 8 descriptors in this page answer each of these lines.
+fn expect_of_eight(rt: &impl Abort, alloc: Global, page: u32, lines: &[(Step, Answer)]) {
+    both_ends(rt, alloc, page, 8).expect(rt, lines);
+}
+
+/// The next chain that the device pops; none where the ring isn't inside memory.
+fn pop(queue: &mut Queue, ram: &Ram) -> Result<Option<Taken>, ChainFault> {
+    let layout = queue.layout();
+    let pages = ram.pages();
+    if layout.table >= pages || layout.avail.page >= pages || layout.used.page >= pages {
+        return Ok(None);
+    }
+    queue.pop_descriptor_chain(ram)
+}
+
+/// Sizes of queues: where their rings lie, and where the used ring ends.
+static LAYOUTS: [(u16, u16, u16, u64); 4] = [
+    (2, 32, 44, 66),
+    (8, 128, 152, 222),
+    (16, 256, 296, 430),
+    (128, 2048, 2312, 3342),
+];
+
+/// Where the rings of a queue of this size lie, and where the used ring ends; none where no queue
+/// has this size.
+fn offsets(size: u16) -> Option<(u16, u16, u64)> {
+    if size < 2 || size > 128 || 65_536 % u32::from(size) != 0 {
+        return None;
+    }
+    let layout = Layout::of(size);
+    let end = u64::from(layout.used.offset) + 6 + 8 * u64::from(size);
+    Some((layout.avail.offset, layout.used.offset, end))
 }
 
 #[test]
 fn layouts(rt: HostRuntime) {
-    expect_layout(&rt, 2, Layout::of(2), 32, 44, 66);
-    expect_layout(&rt, 8, Layout::of(8), 128, 152, 222);
-    expect_layout(&rt, 16, Layout::of(16), 256, 296, 430);
-    expect_layout(&rt, 128, Layout::of(128), 2048, 2312, 3342);
-    assert_eq!(rt; Layout::at(3, 8).used.page, 3);
+    for (size, avail, used, end) in &LAYOUTS {
+        assert!(rt; offsets(*size) == Some((*avail, *used, *end)), "{size}");
+    }
+    assert!(rt; Layout::at(3, 8).used.page == 3);
 }
+
+/// Numbers of descriptors, whether a queue may have so many, and how many it has then.
+static SIZES: [(u16, bool, u16); 15] = [
+    (2, true, 2),
+    (4, true, 4),
+    (8, true, 8),
+    (16, true, 16),
+    (32, true, 32),
+    (64, true, 64),
+    (128, true, 128),
+    (0, false, 128),
+    (1, false, 128),
+    (3, false, 128),
+    (6, false, 128),
+    (100, false, 128),
+    (256, false, 128),
+    (32_768, false, 128),
+    (65_535, false, 128),
+];
 
 #[test]
 fn sizes(rt: HostRuntime) {
     let mut queue = Queue::new(0);
-    for size in [2, 4, 8, 16, 32, 64, 128] {
-        assert!(rt; queue.set_size(size), "{size}");
-        assert_eq!(rt; queue.size(), size);
-    }
-    for size in [0, 1, 3, 6, 100, 256, 32768, 65535] {
-        assert!(rt; !queue.set_size(size), "{size}");
-        assert_eq!(rt; queue.size(), 128);
+    for (size, is_set, after) in &SIZES {
+        let was_set = queue.set_size(*size);
+        assert!(rt; was_set == *is_set && queue.size() == *after, "{size}");
     }
 }
 
-fn expect_bytes<const N: usize>(
-    rt: &impl Abort,
-    ram: &Ram,
-    page: u32,
-    offset: usize,
-    want: [u8; N],
-) {
-    let mut bytes = [0; N];
-    assert!(rt; ram.read(page, offset, &mut bytes).is_ok());
-    assert_eq!(rt; bytes, want, "at {page}, {offset}");
-}
+/// An inflate of four pages.
+static INFLATE: [(Step, Answer); 6] = [
+    (Step::Add(&[REQUEST]), Answer::Head(0)),
+    (
+        Step::Bytes(0),
+        Answer::Bytes([0, 0x40, 0, 0, 0, 0, 0, 0, 0x10, 0, 0, 0, 0, 0, 0, 0]),
+    ),
+    (
+        Step::Bytes(128),
+        Answer::Bytes([0, 0, 1, 0, 0, 0, 0, 0, 0, 0, 0, 0, 0, 0, 0, 0]),
+    ),
+    (Step::Pop, Answer::Head(0)),
+    (Step::AddUsed(0), Answer::Done),
+    (
+        Step::Bytes(152),
+        Answer::Bytes([0, 0, 1, 0, 0, 0, 0, 0, 0, 0, 0, 0, 0, 0, 0, 0]),
+    ),
+];
 
-#[test]
-fn bytes_of_a_ring(rt: HostRuntime) -> Result<(), Fail> {
-    let mut ram = memory(&rt, rt.alloc())?;
-    let mut ring = DriverRing::new(0, 8);
-    let mut queue = ready_queue(&rt, 0, 8);
-    assert_eq!(rt;
-        add(&rt, &mut ring, &mut ram, &[readable(0x4000, 16)]),
-        Ok(0)
-    );
-    expect_bytes(
-        &rt,
-        &ram,
-        0,
-        0,
-        [0, 0x40, 0, 0, 0, 0, 0, 0, 0x10, 0, 0, 0, 0, 0, 0, 0],
-    );
-    expect_bytes(&rt, &ram, 0, 128, [0, 0, 1, 0, 0, 0]);
-    assert_eq!(rt; pop_head(&rt, &mut queue, &ram), 0);
-    add_used(&rt, &mut queue, &mut ram, 0);
-    expect_bytes(&rt, &ram, 0, 152, [0, 0, 1, 0, 0, 0, 0, 0, 0, 0, 0, 0]);
-    let mut buffers = DriverRing::new(2, 8);
-    assert_eq!(rt;
-        add(&rt, &mut buffers, &mut ram, &[readable(0xc000, 20)]),
-        Ok(0)
-    );
-    expect_bytes(
-        &rt,
-        &ram,
-        2,
-        0,
-        [0, 0xc0, 0, 0, 0, 0, 0, 0, 0x14, 0, 0, 0, 0, 0, 0, 0],
-    );
-    let mut reports = DriverRing::new(3, 8);
-    let blocks = [writable(0x10000, 0x10000), writable(0x20000, 0x20000)];
-    assert_eq!(rt; add(&rt, &mut reports, &mut ram, &blocks), Ok(0));
-    expect_bytes(
-        &rt,
-        &ram,
-        3,
-        0,
-        [0, 0, 1, 0, 0, 0, 0, 0, 0, 0, 1, 0, 3, 0, 1, 0],
-    );
-    expect_bytes(
-        &rt,
-        &ram,
-        3,
-        16,
-        [0, 0, 2, 0, 0, 0, 0, 0, 0, 0, 2, 0, 2, 0, 0, 0],
-    );
-    Ok(())
-}
+/// The first statistics buffer.
+static BUFFER: [(Step, Answer); 2] = [
+    (Step::Add(&[STATISTICS]), Answer::Head(0)),
+    (
+        Step::Bytes(0),
+        Answer::Bytes([0, 0xc0, 0, 0, 0, 0, 0, 0, 0x14, 0, 0, 0, 0, 0, 0, 0]),
+    ),
+];
+
+/// A report of two blocks.
+static REPORT: [(Step, Answer); 3] = [
+    (Step::Add(&[FIRST_BLOCK, SECOND_BLOCK]), Answer::Head(0)),
+    (
+        Step::Bytes(0),
+        Answer::Bytes([0, 0, 1, 0, 0, 0, 0, 0, 0, 0, 1, 0, 3, 0, 1, 0]),
+    ),
+    (
+        Step::Bytes(16),
+        Answer::Bytes([0, 0, 2, 0, 0, 0, 0, 0, 0, 0, 2, 0, 2, 0, 0, 0]),
+    ),
+];
 
 #[test]
-fn several_descriptors_in_any_order(rt: HostRuntime) -> Result<(), Fail> {
-    let mut ram = memory(&rt, rt.alloc())?;
-    let mut ring = DriverRing::new(1, 8);
-    let mut queue = ready_queue(&rt, 1, 8);
-    let three = [
-        readable(0x4000, 1),
-        readable(0x5000, 2),
-        writable(0x6000, 3),
-    ];
-    assert_eq!(rt; ring.next_head(), Some(0));
-    assert_eq!(rt; add(&rt, &mut ring, &mut ram, &three), Ok(0));
-    assert_eq!(rt; add(&rt, &mut ring, &mut ram, &three), Ok(3));
-    assert_eq!(rt;
-        add(&rt, &mut ring, &mut ram, &three),
-        Err(Full::TooFewFree)
-    );
-    assert_eq!(rt;
-        add(&rt, &mut ring, &mut ram, &[writable(0x7000, 4)]),
-        Ok(6)
-    );
-    assert_eq!(rt; ring.outstanding(), 3);
-    assert_eq!(rt; take_used(&rt, &mut ring, &ram), Ok(None));
-    for head in [0, 3, 6] {
-        assert_eq!(rt; pop_head(&rt, &mut queue, &ram), head);
-    }
-    assert!(rt; matches!(pop(&rt, &mut queue, &ram), Ok(None)));
-    for head in [3, 6, 0] {
-        add_used(&rt, &mut queue, &mut ram, head);
-    }
-    for head in [3, 6, 0] {
-        assert_eq!(rt; take_used(&rt, &mut ring, &ram), Ok(Some(head)));
-    }
-    assert_eq!(rt; ring.outstanding(), 0);
-    assert_eq!(rt; ring.next_head(), Some(0));
-    add_used(&rt, &mut queue, &mut ram, 0);
-    assert_eq!(rt;
-        take_used(&rt, &mut ring, &ram),
-        Err(RingBroken::IndexAhead)
-    );
-    assert_eq!(rt; add(&rt, &mut ring, &mut ram, &three), Ok(0));
-    assert_eq!(rt; take_used(&rt, &mut ring, &ram), Ok(Some(0)));
-    assert_eq!(rt; add(&rt, &mut ring, &mut ram, &three), Ok(0));
-    add_used(&rt, &mut queue, &mut ram, 1);
-    assert_eq!(rt;
-        take_used(&rt, &mut ring, &ram),
-        Err(RingBroken::NotOutstanding)
-    );
-    Ok(())
+fn bytes_of_a_ring(rt: HostRuntime) {
+    expect_of_eight(&rt, rt.alloc(), 0, &INFLATE);
+    expect_of_eight(&rt, rt.alloc(), 2, &BUFFER);
+    expect_of_eight(&rt, rt.alloc(), 3, &REPORT);
 }
 
+static IN_ANY_ORDER: [(Step, Answer); 27] = [
+    (Step::NextHead, Answer::Head(0)),
+    (Step::Add(&[ONE, TWO, THREE]), Answer::Head(0)),
+    (Step::Add(&[ONE, TWO, THREE]), Answer::Head(3)),
+    (
+        Step::Add(&[ONE, TWO, THREE]),
+        Answer::Full(Full::TooFewFree),
+    ),
+    (Step::Add(&[FOUR]), Answer::Head(6)),
+    (Step::Outstanding, Answer::Count(3)),
+    (Step::TakeUsed, Answer::Nothing),
+    (Step::Pop, Answer::Head(0)),
+    (Step::Pop, Answer::Head(3)),
+    (Step::Pop, Answer::Head(6)),
+    (Step::Pop, Answer::Nothing),
+    (Step::AddUsed(3), Answer::Done),
+    (Step::AddUsed(6), Answer::Done),
+    (Step::AddUsed(0), Answer::Done),
+    (Step::TakeUsed, Answer::Head(3)),
+    (Step::TakeUsed, Answer::Head(6)),
+    (Step::TakeUsed, Answer::Head(0)),
+    (Step::Outstanding, Answer::Count(0)),
+    (Step::NextHead, Answer::Head(0)),
+    // An index further ahead than there are chains, and an id that is no head of one.
+    (Step::AddUsed(0), Answer::Done),
+    (Step::TakeUsed, Answer::Broken(RingBroken::IndexAhead)),
+    (Step::Add(&[ONE, TWO, THREE]), Answer::Head(0)),
+    (Step::TakeUsed, Answer::Head(0)),
+    (Step::Add(&[ONE, TWO, THREE]), Answer::Head(0)),
+    (Step::AddUsed(1), Answer::Done),
+    (Step::TakeUsed, Answer::Broken(RingBroken::NotOutstanding)),
+    (Step::Outstanding, Answer::Count(1)),
+];
+
 #[test]
-fn indices_wrap(rt: HostRuntime) -> Result<(), Fail> {
-    let mut ram = memory(&rt, rt.alloc())?;
-    let mut ring = DriverRing::new(0, 2);
-    let mut queue = ready_queue(&rt, 0, 2);
-    for round in 0..65540 {
-        assert_eq!(rt;
-            add(&rt, &mut ring, &mut ram, &[readable(0x4000, 4)]),
-            Ok(0),
-            "{round}"
-        );
-        assert_eq!(rt; pop_head(&rt, &mut queue, &ram), 0, "{round}");
-        add_used(&rt, &mut queue, &mut ram, 0);
-        assert_eq!(rt; take_used(&rt, &mut ring, &ram), Ok(Some(0)), "{round}");
+fn several_descriptors_in_any_order(rt: HostRuntime) {
+    expect_of_eight(&rt, rt.alloc(), 1, &IN_ANY_ORDER);
+}
+
+static ROUND: [(Step, Answer); 4] = [
+    (Step::Add(&[ONE_NUMBER]), Answer::Head(0)),
+    (Step::Pop, Answer::Head(0)),
+    (Step::AddUsed(0), Answer::Done),
+    (Step::TakeUsed, Answer::Head(0)),
+];
+
+/// The available ring and the used ring after 65,540 rounds.
+static BOTH_INDICES: [(Step, Answer); 1] = [(
+    Step::Bytes(34),
+    Answer::Bytes([4, 0, 0, 0, 0, 0, 0, 0, 0, 0, 0, 0, 4, 0, 0, 0]),
+)];
+
+#[test]
+fn indices_wrap(rt: HostRuntime) {
+    let mut ends = both_ends(&rt, rt.alloc(), 0, 2);
+    for _round in 0..65_540 {
+        ends.expect(&rt, &ROUND);
     }
-    expect_bytes(&rt, &ram, 0, 34, [4, 0]);
-    expect_bytes(&rt, &ram, 0, 46, [4, 0]);
-    Ok(())
+    ends.expect(&rt, &BOTH_INDICES);
 }
 
 /// Numbers that look random, from a seed (xorshift).
@@ -290,6 +416,16 @@ fn number(bytes: &[u8], at: usize, count: usize) -> u64 {
     value
 }
 
+/// A descriptor, mostly of a small address, length and number.
+fn random_descriptor(numbers: &mut Numbers, bytes: &mut [u8], at: usize) {
+    put(bytes, at, 8, numbers.below(270_000));
+    put(bytes, at.wrapping_add(8), 4, numbers.below(5000));
+    let flags = if numbers.below(12) > 0 { 4 } else { 65536 };
+    put(bytes, at.wrapping_add(12), 2, numbers.below(flags));
+    let next = if numbers.below(12) > 0 { 8 } else { 10 };
+    put(bytes, at.wrapping_add(14), 2, numbers.below(next));
+}
+
 /// A ring of 8 descriptors: mostly with small indices and numbers, so that chains come about.
 fn random_ring(numbers: &mut Numbers, bytes: &mut [u8]) {
     for at in 0..bytes.len() {
@@ -301,16 +437,7 @@ fn random_ring(numbers: &mut Numbers, bytes: &mut [u8]) {
     for i in 0..8 {
         put(bytes, 132 + 2 * i, 2, numbers.below(9));
         if numbers.below(8) > 0 {
-            put(bytes, 16 * i, 8, numbers.below(270_000));
-            put(bytes, 16 * i + 8, 4, numbers.below(5000));
-            let flags = if numbers.below(12) > 0 {
-                numbers.below(4)
-            } else {
-                numbers.below(65536)
-            };
-            put(bytes, 16 * i + 12, 2, flags);
-            let limit = if numbers.below(12) > 0 { 8 } else { 10 };
-            put(bytes, 16 * i + 14, 2, numbers.below(limit));
+            random_descriptor(numbers, bytes, 16 * i);
         }
     }
 }
@@ -338,116 +465,115 @@ impl Link {
     fn has(&self, flag: u64) -> bool {
         self.flags & flag != 0
     }
-}
 
-/// The descriptors from a head on, as long as there is a next one in the table, at most 8.
-fn links_from(alloc: Global, bytes: &[u8], head: u64) -> Result<Vec<Link>, Fail> {
-    let mut links = Vec::new(alloc);
-    let mut index = head;
-    for _ in 0..8 {
-        let link = Link::at(bytes, index);
-        links.push(link)?;
-        if !link.has(1) || link.next >= 8 {
-            break;
-        }
-        index = link.next;
+    fn is(&self, piece: &Piece) -> bool {
+        piece.addr == self.addr && u64::from(piece.len) == self.len && piece.writable == self.has(2)
     }
-    Ok(links)
+
+    /// The first rule that the descriptor breaks, as number `at` of its chain, after writable ones or
+    /// after none.
+    fn broken(&self, at: u32, is_after_writable: bool) -> Option<ChainFault> {
+        let end = self.addr.checked_add(self.len).unwrap_or(u64::MAX);
+        if self.has(4) {
+            Some(ChainFault::Indirect)
+        } else if end > 64 * 4096 {
+            Some(ChainFault::OutOfRam)
+        } else if is_after_writable && !self.has(2) {
+            Some(ChainFault::WrongDirection)
+        } else if self.has(1) && self.next >= 8 {
+            Some(ChainFault::BadNext)
+        } else if self.has(1) && at >= 7 {
+            Some(ChainFault::TooLong)
+        } else {
+            None
+        }
+    }
 }
 
-/// The first rule that a descriptor breaks, after these others.
-fn broken(before: &[Link], link: &Link, end: u64) -> Option<ChainFault> {
-    let over = link
-        .addr
-        .checked_add(link.len)
-        .is_none_or(|last| last > end);
-    let turns = before.iter().any(|other| other.has(2)) && !link.has(2);
-    let rules = [
-        (link.has(4), ChainFault::Indirect),
-        (over, ChainFault::OutOfRam),
-        (turns, ChainFault::WrongDirection),
-        (link.has(1) && link.next >= 8, ChainFault::BadNext),
-        (link.has(1) && before.len() >= 7, ChainFault::TooLong),
-    ];
-    for (is_broken, fault) in rules {
-        if is_broken {
-            return Some(fault);
+/// The first fault on the way from a head.
+fn first_fault(bytes: &[u8], head: u64) -> Option<ChainFault> {
+    if head >= 8 {
+        return Some(ChainFault::BadHead);
+    }
+    let mut index = head;
+    let mut is_after_writable = false;
+    for at in 0..8 {
+        let link = Link::at(bytes, index);
+        let broken = link.broken(at, is_after_writable);
+        if broken.is_some() || !link.has(1) {
+            return broken;
         }
+        is_after_writable |= link.has(2);
+        index = link.next;
     }
     None
 }
 
-/// The ring's next chain by a second reading of the rules: its head and descriptors.
-fn second_reading(
-    alloc: Global,
-    bytes: &[u8],
-    taken: u64,
-) -> Result<Result<Option<(u64, Vec<Link>)>, ChainFault>, Fail> {
-    let ahead = number(bytes, 130, 2).wrapping_sub(taken) % 65536;
-    if ahead == 0 {
-        return Ok(Ok(None));
-    }
-    if ahead > 8 {
-        return Ok(Err(ChainFault::IndexJump));
-    }
-    let head = number(bytes, 132 + 2 * (taken % 8) as usize, 2);
-    if head >= 8 {
-        return Ok(Err(ChainFault::BadHead));
-    }
-    let links = links_from(alloc, bytes, head)?;
-    for k in 0..links.len() {
-        if let Some(fault) = broken(&links[..k], &links[k], 64 * 4096) {
-            return Ok(Err(fault));
+/// Whether the pieces are those of the whole chain from a head.
+fn are_chain(bytes: &[u8], head: u64, pieces: &[Piece]) -> bool {
+    let mut index = head;
+    let mut goes_on = true;
+    for piece in pieces {
+        let link = Link::at(bytes, index);
+        if !goes_on || !link.is(piece) {
+            return false;
         }
+        goes_on = link.has(1);
+        index = link.next;
     }
-    Ok(Ok(Some((head, links))))
+    !goes_on
 }
 
-fn agree(
-    got: &Result<Option<Taken>, ChainFault>,
-    want: &Result<Option<(u64, Vec<Link>)>, ChainFault>,
-) -> bool {
-    match (got, want) {
-        (Ok(None), Ok(None)) => true,
-        (Err(fault), Err(other)) => fault == other,
-        (Ok(Some(taken)), Ok(Some((head, links)))) => {
-            let pieces = taken.chain.pieces();
-            let same = |(piece, link): (&Piece, &Link)| {
-                piece.addr == link.addr
-                    && u64::from(piece.len) == link.len
-                    && piece.writable == link.has(2)
-            };
-            u64::from(taken.head) == *head
-                && pieces.len() == links.len()
-                && pieces.iter().zip(links).all(same)
+/// Whether a second reading of the rules gives the same next chain, or the same fault.
+fn agrees(bytes: &[u8], taken: u64, got: &Result<Option<Taken>, ChainFault>) -> bool {
+    let ahead = number(bytes, 130, 2).wrapping_sub(taken) % 65536;
+    let head = number(bytes, 132 + 2 * (taken % 8) as usize, 2);
+    match got {
+        Ok(None) => ahead == 0,
+        Err(ChainFault::IndexJump) => ahead > 8,
+        Err(fault) => 0 < ahead && ahead <= 8 && first_fault(bytes, head) == Some(*fault),
+        Ok(Some(taken)) => {
+            0 < ahead
+                && ahead <= 8
+                && first_fault(bytes, head).is_none()
+                && u64::from(taken.head) == head
+                && are_chain(bytes, head, taken.chain.pieces())
         }
-        _ => false,
+    }
+}
+
+impl Ends {
+    /// Whether a chain is popped, as a second reading has it.
+    fn pop_next(&mut self, rt: &impl Abort, bytes: &[u8], taken: u64) -> bool {
+        let got = pop(&mut self.queue, &self.ram);
+        assert!(rt; agrees(bytes, taken, &got), "{taken}");
+        matches!(got, Ok(Some(_)))
+    }
+
+    /// Pops all chains of a ring of these bytes, and answers how many came.
+    fn pop_all(&mut self, rt: &impl Abort, bytes: &[u8]) -> u32 {
+        assert!(rt; self.ram.write(0, 0, bytes).is_ok());
+        self.queue.set_ready(true);
+        for taken in 0..9 {
+            if !self.pop_next(rt, bytes, u64::from(taken)) {
+                return taken;
+            }
+        }
+        9
     }
 }
 
 #[test]
-fn rings_of_any_bytes(rt: HostRuntime) -> Result<(), Fail> {
-    let mut ram = memory(&rt, rt.alloc())?;
-    let mut queue = ready_queue(&rt, 0, 8);
+fn rings_of_any_bytes(rt: HostRuntime) {
+    let mut ends = both_ends(&rt, rt.alloc(), 0, 8);
     let mut numbers = Numbers {
         state: 88_172_645_463_325_252,
     };
     let mut bytes = [0; 222];
     let mut chains: u32 = 0;
-    for round in 0..20_000 {
+    for _round in 0..20_000 {
         random_ring(&mut numbers, &mut bytes);
-        assert!(rt; ram.write(0, 0, &bytes).is_ok());
-        queue.set_ready(true);
-        for taken in 0..9 {
-            let want = second_reading(rt.alloc(), &bytes, taken)?;
-            let got = pop(&rt, &mut queue, &ram);
-            assert!(rt; agree(&got, &want), "{round}, {taken}");
-            if !matches!(got, Ok(Some(_))) {
-                break;
-            }
-            chains = chains.wrapping_add(1);
-        }
+        chains = chains.wrapping_add(ends.pop_all(&rt, &bytes));
     }
     assert!(rt; chains > 10_000, "{chains}");
-    Ok(())
 }

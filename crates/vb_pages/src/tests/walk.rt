@@ -1,6 +1,9 @@
 //! Pseudo-random calls against a plain model of sets and lists, and many calls in a row.
 
-use crate::{FreeBlock, PageFault, Pages};
+ghost use Rattle.vb_pages.specs.PageState.{IsSize};
+
+use crate::{PageFault, Pages};
+use arrayvec::ArrayVec;
 use std::alloc::{AllocError, Global};
 use std::test::Fail;
 
@@ -22,38 +25,58 @@ impl Numbers {
     }
 }
 
-/// The pages in the areas, each processor's list, oldest first, and the held blocks.
+/// The pages in the areas, the lists of two processors, oldest first, and the held blocks, each by its
+/// start and order.
 #[derive(Drop)]
 struct Plain {
     areas: Vec<bool>,
-    lists: Vec<Vec<u32>>,
-    held: Vec<FreeBlock>,
+    lists: [ArrayVec<u32, 16>; 2],
+    held: ArrayVec<(u32, u32), 256>,
 }
 
+/// How many pages a block has, by its order.
+static SIZES: [u32; 11] = [1, 2, 4, 8, 16, 32, 64, 128, 256, 512, 1024];
+
 fn size(order: u32) -> u32 {
-    1u32.checked_shl(order).unwrap_or(0)
+    SIZES.get(order as usize).copied().unwrap_or(0)
+}
+
+/// Puts a block into the areas or takes it out.
+fn set(areas: &mut [bool], start: u32, order: u32, is_free: bool) {
+    for page in start..start.saturating_add(size(order)) {
+        if let Some(there) = areas.get_mut(page as usize) {
+            *there = is_free;
+        }
+    }
+}
+
+/// Puts the oldest pages of a list into the areas.
+fn give_back(areas: &mut [bool], list: &mut ArrayVec<u32, 16>, count: u32) {
+    for _page in 0..count {
+        if let Some(page) = list.pop_at(0) {
+            set(areas, page, 0, true);
+        }
+    }
 }
 
 impl Plain {
-    fn new(alloc: Global, pages: u32, cpus: u32) -> Result<Plain, AllocError> {
-        let mut areas = Vec::new(alloc);
-        for page in 0..pages {
-            areas.push(page >= 16)?;
-        }
-        let mut lists = Vec::new(alloc);
-        for _cpu in 0..cpus {
-            lists.push(Vec::new(alloc))?;
-        }
+    fn new(alloc: Global, pages: u32) -> Result<Plain, AllocError> {
+        let mut areas = vec![in alloc; true; pages as usize]?;
+        set(&mut areas, 0, 4, false);
         Ok(Plain {
             areas,
-            lists,
-            held: Vec::new(alloc),
+            lists: [ArrayVec::new(), ArrayVec::new()],
+            held: ArrayVec::new(),
         })
     }
 
     fn is_free(&self, start: u32, order: u32) -> bool {
-        let pages = self.areas.iter().skip(start as usize);
-        pages.take(size(order) as usize).all(|free| *free)
+        for page in start..start.saturating_add(size(order)) {
+            if !matches!(self.areas.get(page as usize), Some(true)) {
+                return false;
+            }
+        }
+        true
     }
 
     fn is_maximal(&self, start: u32, order: u32) -> bool {
@@ -65,22 +88,18 @@ impl Plain {
     /// The lowest maximal block of an order.
     fn lowest(&self, order: u32) -> Option<u32> {
         let pages = u32::try_from(self.areas.len()).unwrap_or(0);
-        (0..pages).find(|start| {
-            start.checked_rem(size(order)) == Some(0) && self.is_maximal(*start, order)
-        })
-    }
-
-    fn set(&mut self, start: u32, order: u32, free: bool) {
-        let pages = self.areas.iter_mut().skip(start as usize);
-        for page in pages.take(size(order) as usize) {
-            *page = free;
+        for start in 0..pages {
+            if start.checked_rem(size(order)) == Some(0) && self.is_maximal(start, order) {
+                return Some(start);
+            }
         }
+        None
     }
 
     fn take(&mut self, order: u32) -> Option<u32> {
         for wide in order..10 {
             if let Some(start) = self.lowest(wide) {
-                self.set(start, order, false);
+                set(&mut self.areas, start, order, false);
                 return Some(start);
             }
         }
@@ -89,212 +108,200 @@ impl Plain {
 
     fn drain(&mut self) {
         for list in self.lists.iter_mut() {
-            for page in list.iter() {
-                if let Some(free) = self.areas.get_mut(*page as usize) {
-                    *free = true;
-                }
+            give_back(&mut self.areas, list, 16);
+        }
+    }
+
+    fn push(&mut self, cpu: u32, page: u32) {
+        if let Some(list) = self.lists.get_mut(cpu as usize) {
+            if !list.is_full() {
+                list.push(page);
             }
-            list.clear();
+        }
+    }
+
+    /// Puts up to eight pages into an empty list, which come out in rising order.
+    fn refill(&mut self, cpu: u32) {
+        for _taken in 0..8 {
+            if let Some(page) = self.take(0) {
+                self.push(cpu, page);
+            }
+        }
+        if let Some(list) = self.lists.get_mut(cpu as usize) {
+            list.sort_unstable();
+            list.reverse();
         }
     }
 
     /// Takes the page that was put last into a list, which is refilled where it is empty.
-    fn pop(&mut self, alloc: Global, cpu: u32) -> Result<Option<u32>, AllocError> {
-        let is_empty = match self.lists.get(cpu as usize) {
-            Some(list) => list.is_empty(),
-            None => false,
-        };
-        if is_empty {
-            let mut batch = Vec::new(alloc);
-            for _taken in 0..8 {
-                if let Some(page) = self.take(0) {
-                    batch.push(page)?;
-                }
-            }
-            batch.sort_unstable();
-            for page in batch.iter().rev() {
-                self.push(cpu, *page)?;
-            }
+    fn pop(&mut self, cpu: u32) -> Option<u32> {
+        if self.lists.get(cpu as usize)?.is_empty() {
+            self.refill(cpu);
         }
-        match self.lists.get_mut(cpu as usize) {
-            Some(list) => Ok(list.pop()),
-            None => Ok(None),
-        }
+        self.lists.get_mut(cpu as usize)?.pop()
     }
 
-    fn push(&mut self, cpu: u32, page: u32) -> Result<(), AllocError> {
-        if let Some(list) = self.lists.get_mut(cpu as usize) {
-            list.push(page)?;
-        }
-        Ok(())
-    }
-
-    fn try_alloc(
-        &mut self,
-        alloc: Global,
-        cpu: u32,
-        order: u32,
-    ) -> Result<Option<u32>, AllocError> {
+    fn take_once(&mut self, cpu: u32, order: u32) -> Option<u32> {
         if order == 0 {
-            self.pop(alloc, cpu)
+            self.pop(cpu)
         } else {
-            Ok(self.take(order))
+            self.take(order)
         }
     }
 
-    fn alloc(
-        &mut self,
-        alloc: Global,
-        cpu: u32,
-        order: u32,
-    ) -> Result<Result<u32, PageFault>, AllocError> {
+    fn alloc(&mut self, cpu: u32, order: u32) -> Result<u32, PageFault> {
         if order > 9 {
-            return Ok(Err(PageFault::BadOrder));
+            return Err(PageFault::BadOrder);
         }
-        if cpu as usize >= self.lists.len() {
-            return Ok(Err(PageFault::BadCpu));
+        if cpu > 1 {
+            return Err(PageFault::BadCpu);
         }
-        let mut start = self.try_alloc(alloc, cpu, order)?;
+        let mut start = self.take_once(cpu, order);
         if start.is_none() {
             self.drain();
-            start = self.try_alloc(alloc, cpu, order)?;
+            start = self.take_once(cpu, order);
         }
-        match start {
-            Some(start) => {
-                self.held.push(FreeBlock { start, order })?;
-                Ok(Ok(start))
-            }
-            None => Ok(Err(PageFault::NoPages)),
+        let start = start.ok_or(PageFault::NoPages)?;
+        if !self.held.is_full() {
+            self.held.push((start, order));
         }
+        Ok(start)
     }
 
-    fn free(
-        &mut self,
-        cpu: u32,
-        start: u32,
-        order: u32,
-    ) -> Result<Result<(), PageFault>, AllocError> {
+    fn free(&mut self, cpu: u32, start: u32, order: u32) -> Result<(), PageFault> {
         if order > 9 {
-            return Ok(Err(PageFault::BadOrder));
+            return Err(PageFault::BadOrder);
         }
-        if cpu as usize >= self.lists.len() {
-            return Ok(Err(PageFault::BadCpu));
+        if cpu > 1 {
+            return Err(PageFault::BadCpu);
         }
-        let place = self
-            .held
-            .iter()
-            .position(|block| block.start == start && block.order == order);
-        match place {
-            Some(place) if place < self.held.len() => {
-                let _ = self.held.swap_remove(place);
-            }
-            _ => return Ok(Err(PageFault::NotHeld)),
-        }
+        let place = self.held.iter().position(|block| *block == (start, order));
+        let place = place.ok_or(PageFault::NotHeld)?;
+        self.held.swap_pop(place);
         if order > 0 {
-            self.set(start, order, true);
+            set(&mut self.areas, start, order, true);
         } else {
-            self.push(cpu, start)?;
+            self.push(cpu, start);
             self.spill(cpu);
         }
-        Ok(Ok(()))
+        Ok(())
     }
 
     /// Of sixteen pages in a list, those that were put in first go back.
     fn spill(&mut self, cpu: u32) {
         if let Some(list) = self.lists.get_mut(cpu as usize) {
-            if list.len() == 16 {
-                for page in list.iter().take(8) {
-                    if let Some(free) = self.areas.get_mut(*page as usize) {
-                        *free = true;
-                    }
-                }
-                list.rotate_left(8);
-                list.truncate(8);
+            if list.is_full() {
+                give_back(&mut self.areas, list, 8);
             }
         }
     }
 
-    fn free_count(&self) -> u32 {
-        let mut count = 0u32;
-        for free in &self.areas {
-            if *free {
-                count = count.saturating_add(1);
-            }
+    fn free_count(&self) -> usize {
+        let mut count = 0usize;
+        for is_free in &self.areas {
+            count = count.saturating_add(usize::from(*is_free));
         }
         for list in &self.lists {
-            count = count.saturating_add(u32::try_from(list.len()).unwrap_or(0));
+            count = count.saturating_add(list.len());
         }
         count
     }
 }
 
-/// One pseudo-random call, on both; whether they answer alike.
-fn call(
-    alloc: Global,
-    pages: &mut Pages,
-    plain: &mut Plain,
-    numbers: &mut Numbers,
-) -> Result<bool, AllocError> {
-    let cpu = numbers.below(3);
-    if numbers.below(5) < 3 {
-        let order = numbers.below(4).saturating_mul(numbers.below(4));
-        return Ok(pages.alloc(cpu, order) == plain.alloc(alloc, cpu, order)?);
+/// The allocator beside the plain model, and what chooses the calls.
+#[derive(Drop)]
+struct Pair {
+    pages: Pages,
+    plain: Plain,
+    numbers: Numbers,
+}
+
+impl Pair {
+    /// A guest of so many pages and of two processors.
+    fn new(alloc: Global, size: u32, seed: u64) -> Result<Pair, AllocError>
+        requires { IsSize size 2 }
+    {
+        Ok(Pair {
+            pages: Pages::new(alloc, size, 2)?,
+            plain: Plain::new(alloc, size)?,
+            numbers: Numbers { state: seed },
+        })
     }
-    let chosen = numbers.below(u32::try_from(plain.held.len()).unwrap_or(0)) as usize;
-    let (start, order) = match plain.held.get(chosen) {
-        Some(block) => (block.start, block.order),
-        None => (16, 0),
-    };
-    let order = if numbers.below(9) == 0 {
-        order.saturating_add(1)
-    } else {
-        order
-    };
-    Ok(pages.free(cpu, start, order) == plain.free(cpu, start, order)?)
+
+    /// One pseudo-random call, on both; whether they answer alike.
+    fn call(&mut self) -> bool {
+        let cpu = self.numbers.below(3);
+        if self.numbers.below(5) < 3 {
+            let order = self.numbers.below(4).saturating_mul(self.numbers.below(4));
+            return self.pages.alloc(cpu, order) == self.plain.alloc(cpu, order);
+        }
+        let held = u32::try_from(self.plain.held.len()).unwrap_or(0);
+        let chosen = self.numbers.below(held) as usize;
+        let (start, order) = self.plain.held.get(chosen).copied().unwrap_or((16, 0));
+        let order = if self.numbers.below(9) == 0 {
+            order.saturating_add(1)
+        } else {
+            order
+        };
+        self.pages.free(cpu, start, order) == self.plain.free(cpu, start, order)
+    }
+
+    /// The first of so many calls that isn't answered alike, or after which the free pages aren't as many.
+    fn first_apart(&mut self, calls: u32) -> Option<u32> {
+        for number in 0..calls {
+            if !self.call() || self.pages.free_count() as usize != self.plain.free_count() {
+                return Some(number);
+            }
+        }
+        None
+    }
+}
+
+/// The first of so many calls on a new guest that tells the two apart.
+fn first_apart(alloc: Global, size: u32, seed: u64, calls: u32) -> Result<Option<u32>, AllocError>
+    requires { IsSize size 2 }
+{
+    let mut pair = Pair::new(alloc, size, seed)?;
+    Ok(pair.first_apart(calls))
 }
 
 /// 20,000 calls of two processors and one that isn't there, on 64 pages.
 #[test]
 fn calls_agree_with_a_plain_model(rt: HostRuntime) -> Result<(), Fail> {
-    let mut pages = Pages::new(rt.alloc(), 64, 2)?;
-    let mut plain = Plain::new(rt.alloc(), 64, 2)?;
-    let mut numbers = Numbers { state: 1 };
-    for _call in 0..20_000 {
-        assert!(rt; call(rt.alloc(), &mut pages, &mut plain, &mut numbers)?);
-        assert_eq!(rt; pages.free_count(), plain.free_count());
-    }
+    assert_eq!(rt; first_apart(rt.alloc(), 64, 1, 20_000)?, None);
     Ok(())
 }
 
 /// The same on the largest guest, a few calls.
 #[test]
 fn calls_agree_on_the_largest_guest(rt: HostRuntime) -> Result<(), Fail> {
-    let mut pages = Pages::new(rt.alloc(), 16_384, 2)?;
-    let mut plain = Plain::new(rt.alloc(), 16_384, 2)?;
-    let mut numbers = Numbers { state: 2 };
-    for _call in 0..200 {
-        assert!(rt; call(rt.alloc(), &mut pages, &mut plain, &mut numbers)?);
-        assert_eq!(rt; pages.free_count(), plain.free_count());
-    }
+    assert_eq!(rt; first_apart(rt.alloc(), 16_384, 2, 200)?, None);
     Ok(())
 }
 
-/// 1,000,000 calls on the largest guest, of pages and small blocks.
-#[test]
-fn a_million_calls(rt: HostRuntime) -> Result<(), Fail> {
-    let mut pages = Pages::new(rt.alloc(), 16_384, 4)?;
+/// In each round a block is freed, where there is one, and another is allocated in its place; the first
+/// round whose block isn't freed.
+fn first_not_freed(pages: &mut Pages, rounds: u32) -> Option<u32> {
     let mut held: [(u32, u32); 64] = [(0, 0); 64];
-    for round in 0..500_000u32 {
+    for round in 0..rounds {
         let order = (round / 7) % 4;
         let place = (round % 64) as usize;
         let (start, before) = held[place];
-        if start != 0 {
-            assert!(rt; pages.free(round % 4, start, before).is_ok());
+        if start != 0 && pages.free(round % 4, start, before).is_err() {
+            return Some(round);
         }
         held[place] = match pages.alloc(round % 3, order) {
             Ok(start) => (start, order),
             Err(_) => (0, 0),
         };
     }
+    None
+}
+
+/// 1,000,000 calls on the largest guest, of pages and small blocks.
+#[test]
+fn a_million_calls(rt: HostRuntime) -> Result<(), Fail> {
+    let mut pages = Pages::new(rt.alloc(), 16_384, 4)?;
+    assert_eq!(rt; first_not_freed(&mut pages, 500_000), None);
     Ok(())
 }
