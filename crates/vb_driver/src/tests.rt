@@ -29,7 +29,7 @@ enum Step {
     Reap(u32),
     /// The host sets its target.
     SetTarget(u32),
-    /// The device has used a request of a queue: its head, and the how manyth it is.
+    /// The device has used a request of a queue: its head, and how many it has used by then.
     Use(u32, u8, u8),
     See(Sight),
 }
@@ -162,6 +162,7 @@ impl Guest {
         }
     }
 
+    /// Posts a request; a device that is up needs frames for its rings and buffers.
     fn post(&mut self, request: Request, pages: u32) -> Result<Answer, Refusal> {
         if self.port.pages() < 64 || is_up(&self.port) && !all_backed(&mut self.port) {
             return Err(Refusal::OutOfRam);
@@ -194,12 +195,12 @@ impl Guest {
 
     /// Writes what a device would: the used ring of 8 descriptors has its index at byte 154 of its
     /// page, and then an element of 8 bytes for each request, which begins with the head.
-    fn use_request(&mut self, queue: u32, head: u8, number: u8) {
-        let element = 148 + 8 * usize::from(number);
+    fn use_request(&mut self, queue: u32, head: u8, used: u8) {
+        let element = 148 + 8 * usize::from(used);
         let _ = self
             .port
             .write(queue, element, &[head, 0, 0, 0, 0, 0, 0, 0]);
-        let _ = self.port.write(queue, 154, &[number, 0]);
+        let _ = self.port.write(queue, 154, &[used, 0]);
     }
 
     fn answer(&mut self, step: Step) -> Result<Answer, Refusal> {
@@ -213,7 +214,7 @@ impl Guest {
             Step::Oom(pages) => return self.post(Request::Oom, pages),
             Step::Reap(queue) => return self.reap(queue),
             Step::SetTarget(pages) => self.port.set_target(pages),
-            Step::Use(queue, head, number) => self.use_request(queue, head, number),
+            Step::Use(queue, head, used) => self.use_request(queue, head, used),
             Step::See(sight) => return Ok(self.see(sight)),
         }
         Ok(Answer::Done)
@@ -230,12 +231,13 @@ impl Guest {
     }
 }
 
+/// The same of a new guest, of whose pages the first so many have frames.
 fn first_wrong_of_new(alloc: Global, backed: u32, lines: &[Line]) -> Result<Option<usize>, Fail> {
     let mut guest = Guest::new(alloc, backed)?;
     Ok(guest.first_wrong(lines))
 }
 
-/// A new guest, of whose pages the first so many have frames, answers each line.
+/// Expects that a new guest answers each line so.
 fn expect(rt: &impl Abort, alloc: Global, backed: u32, lines: &[Line]) -> Result<(), Fail> {
     assert_eq!(rt; first_wrong_of_new(alloc, backed, lines)?, None);
     Ok(())
@@ -316,7 +318,7 @@ static LIVES: [Line; 22] = [
 ];
 
 #[test]
-fn starts_with_its_features_alone(rt: HostRuntime) -> Result<(), Fail> {
+fn starts_and_starts_over(rt: HostRuntime) -> Result<(), Fail> {
     expect(&rt, rt.alloc(), 13, &LIVES)
 }
 
