@@ -3,7 +3,6 @@
 use crate::lines::Pace;
 use crate::script::{Script, ScriptFault, parse};
 use std::alloc::{AllocError, Global};
-use std::test::Fail;
 
 /// What a text was read to: the frames, the number of spare devices and that of events, or nothing
 /// where it has no lines.
@@ -95,11 +94,16 @@ fn limits(rt: HostRuntime) -> Result<(), AllocError> {
     Ok(())
 }
 
+/// Whether a text is read to a script of these spare devices.
+fn brings(alloc: Global, text: &[u8], paces: &[Pace]) -> bool {
+    match parse(alloc, text) {
+        Ok(Some(script)) => script.spares.as_slice() == paces,
+        _ => false,
+    }
+}
+
 #[test]
-fn spare_devices_have_their_paces(rt: HostRuntime) -> Result<(), Fail> {
+fn spare_devices_have_their_paces(rt: HostRuntime) {
     let text = b"host 1\nspare immediate\nspare immediate";
-    let script = parse(rt.alloc(), text)?.ok_or("no lines")?;
-    let paces = [Pace::Immediate, Pace::Immediate];
-    assert!(rt; script.spares.as_slice() == paces.as_slice());
-    Ok(())
+    assert!(rt; brings(rt.alloc(), text, &[Pace::Immediate, Pace::Immediate]));
 }

@@ -139,35 +139,15 @@ fn a_fault_of_a_stream_is_status_4(rt: HostRuntime) {
     }
 }
 
-/// A reader of so many line feeds.
-#[derive(Drop)]
-struct LineFeeds {
-    left: usize,
-}
-
-impl Read for LineFeeds {
-    fn read(&mut self, buf: &mut [u8]) -> io::Result<usize> {
-        let n = self.left.min(buf.len());
-        buf[..n].fill(b'\n');
-        self.left -= n;
-        Ok(n)
-    }
-}
-
-/// Runs a script of so many line feeds.
-fn run_line_feeds(alloc: Global, left: usize) -> Outcome {
-    let (mut output, mut errors) = (Vec::new(alloc), Vec::new(alloc));
-    let input = LineFeeds { left };
-    let status = run_script_on(alloc, &mut Empty, input, &mut output, &mut errors);
-    Outcome {
-        output,
-        errors,
-        status,
-    }
-}
+/// Numbers of line feeds, and the exit statuses of scripts of so many.
+static LENGTHS: [(usize, u8); 2] = [(67_108_864, 0), (67_108_865, 4)];
 
 #[test]
-fn a_byte_too_many_is_a_fault_of_input(rt: HostRuntime) {
-    assert!(rt; run_line_feeds(rt.alloc(), 67_108_864).shows(b"", b"", 0));
-    assert!(rt; run_line_feeds(rt.alloc(), 67_108_865).shows(b"", b"", 4));
+fn a_byte_too_many_is_a_fault_of_input(rt: HostRuntime) -> Result<(), AllocError> {
+    for (length, status) in &LENGTHS {
+        let script = vec![in rt.alloc(); b'\n'; *length]?;
+        let outcome = run(rt.alloc(), script.as_slice(), false, usize::MAX);
+        assert!(rt; outcome.shows(b"", b"", *status));
+    }
+    Ok(())
 }
