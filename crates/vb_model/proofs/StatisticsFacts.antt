@@ -1,4 +1,4 @@
--- Worked facts of the statistics buffer, from the rules of docs/RULES.md.
+-- Worked facts of the statistics buffer.
 use Rattle.std.proofs.Common.{◌≡◌, [], refl}
 use Rattle.std.specs.Prelude.{ℕ, Some, None, Option, if◌then◌else◌, drop}
 use Rattle.vb_model.specs.declared.calls.Call.TheVariants.{Reset, Stats, Take, Reap, Finish, Ask}
