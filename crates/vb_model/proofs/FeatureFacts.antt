@@ -84,6 +84,9 @@ no_step_after_a_fault : status_refusal 65 0 67 ∷ status_refusal 67 0x100000027
 no_step_after_a_fault = refl
 
 -- one step at a time, each after its forerunner
+two_steps_at_once : status_refusal 2 0x100000027 11 ≡ Some OutOfOrder
+two_steps_at_once = refl
+
 steps_in_turn : map (status_refusal 0 0) (1 ∷ 2 ∷ 3 ∷ 4 ∷ 8 ∷ []) ≡ None ∷ Some OutOfOrder ∷ Some OutOfOrder ∷ Some OutOfOrder ∷ Some OutOfOrder ∷ []
 steps_in_turn = refl
 

@@ -1,7 +1,7 @@
 -- What one event may change: targets, configurations, other guests, frames; and who claims frames.
 use Rattle.std.specs.Prelude.{◌≡◌, ◌≢◌, ℕ, ◌<◌, true, false, List, [], Some, None, length, IsTrue, ◌⊎◌}
 use Rattle.vb_model.specs.declared.calls.Call.{Call}
-use Rattle.vb_model.specs.declared.calls.Call.TheVariants.{Scribble, SetTarget}
+use Rattle.vb_model.specs.declared.calls.Call.TheVariants.{Init, Scribble, SetTarget}
 use Rattle.vb_model.specs.declared.calls.Claim.{Claim}
 use Rattle.vb_model.specs.declared.calls.Event.{Event}
 use Rattle.vb_model.specs.declared.calls.Event.TheVariants.{Unplug, Restart, Guest as OnGuest, Balance}
@@ -13,8 +13,9 @@ use Rattle.vb_model.specs.Limits.{reserved_pages}
 use Rattle.vb_model.specs.Tests.{is_in}
 use Rattle.vb_model.specs.Guest.{Guest, frame_of, is_ballooned}
 use Rattle.vb_model.specs.Driver.{given, claim_refusal, AreClaimsFor}
+use Rattle.vb_model.specs.Life.{feature_refusal}
 use Rattle.vb_model.specs.Rogue.{may_need}
-use Rattle.vb_model.specs.Step.{GuestStep}
+use Rattle.vb_model.specs.Step.{HonestStep, GuestStep}
 use Rattle.vb_model.specs.World.{World, WorldStep, Backs, IsOut, guest_at}
 
 -- guest n is there before the event and after it
@@ -106,3 +107,16 @@ NoFrameIsExact =
 -- no reserved page is ballooned
 abbrev pub HasNoReservedBallooned : Guest → Type 0
 HasNoReservedBallooned g = (page : ℕ) → page < reserved_pages → is_ballooned g.ballooned page ≡ false
+
+-- a refusal leaves an honest guest as it was, or its driver has given up since the features were refused
+abbrev pub IsUnchanged : Call → Refusal → Guest → Guest → Type 0
+IsUnchanged call refusal g new = (new ≡ g) ⊎ ((wanted : ℕ) × (call ≡ Init wanted) × (feature_refusal wanted ≡ Some refusal) × (new.status ≡ 131))
+
+abbrev pub RefusalsChangeNothing : Type 0
+RefusalsChangeNothing =
+    (g : Guest) (call : Call) (claims : List Claim) (refusal : Refusal) (new : Guest) → HonestStep g call claims (Refused refusal) new → IsUnchanged call refusal g new
+
+-- and a refused event of the host leaves the world as it was
+abbrev pub RefusedEventsChangeNothing : Type 0
+RefusedEventsChangeNothing =
+    (w : World) (event : Event) (refusal : Refusal) (v : World) → ((n : ℕ) (call : Call) → event ≢ OnGuest n call) → WorldStep w event (Refused refusal) v → v ≡ w

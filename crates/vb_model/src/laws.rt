@@ -6,7 +6,7 @@ ghost use Rattle.vb_model.specs.Safe.{Safe, IsHonest};
 ghost use Rattle.vb_model.specs.Consistent.{IsConsistent};
 ghost use Rattle.vb_model.specs.Orderly.{IsOrderly};
 ghost use Rattle.vb_model.specs.Blank.{IsBlank};
-ghost use Rattle.vb_model.specs.StepLaws.{OthersAreUntouched, TargetsAreKept, TargetsAreSet, ConfigurationsAreKept, FramesGoBack, RestartedAreHonest, RoguesAreMade, ScribblesMakeRogues, RoguesStay, FramesEnterByClaims, RefusedClaimsAreAnswered, ClaimsAreNeeded, NeededPagesAreBare, NoFrameIsExact, HasNoReservedBallooned};
+ghost use Rattle.vb_model.specs.StepLaws.{OthersAreUntouched, TargetsAreKept, TargetsAreSet, ConfigurationsAreKept, FramesGoBack, RestartedAreHonest, RoguesAreMade, ScribblesMakeRogues, RoguesStay, FramesEnterByClaims, RefusedClaimsAreAnswered, ClaimsAreNeeded, NeededPagesAreBare, NoFrameIsExact, HasNoReservedBallooned, RefusalsChangeNothing, RefusedEventsChangeNothing};
 ghost use Rattle.vb_model.specs.Determined.{HonestStepsAgree};
 ghost use Rattle.vb_model.specs.GuestRun.{InOneLife, Alone};
 ghost use Rattle.vb_model.specs.declared.calls.Event.{Event};
@@ -99,6 +99,13 @@ pub fn no_frame_is_exact()
 /// for the block of an allocation, the free pages of an inflate, and want of memory for bytes.
 pub fn honest_steps_agree()
     ensures agree { HonestStepsAgree }
+{}
+
+/// A refusal leaves an honest guest as it was, but for an initialisation whose features are refused,
+/// which leaves the status at 131; a refused event of the host leaves the world as it was.
+pub fn refusals_change_nothing()
+    ensures calls { RefusalsChangeNothing }
+    ensures events { RefusedEventsChangeNothing }
 {}
 
 /// Within one life of an honest guest its calls and their replies are a run of its own: of other
