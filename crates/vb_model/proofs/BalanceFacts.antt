@@ -145,6 +145,9 @@ aiming target = record (known 0 (Some 196608)) { target = target }
 needs_of_both : needs 16 (world (Some (aiming 3)) (Some (known 5 (Some 180224)))) ≡ record { pages = 64; spare = 32 } ∷ record { pages = 64; spare = 33 } ∷ []
 needs_of_both = refl
 
+needs_from_0_on : needs 16 (record { frames = 100; guests = Some (known 1 None) ∷ Some (known 2 None) ∷ []; spares = []; given_up = None }) ≡ record { pages = 64; spare = 1 } ∷ record { pages = 64; spare = 2 } ∷ []
+needs_from_0_on = refl
+
 -- above a floor of 16 pages the first gives 28; nothing but the targets changes
 balanced : WorldStep (world (Some (aiming 3)) (Some (aiming 5))) (Balance 16) (Targets (28 ∷ 0 ∷ [])) (world (Some (aiming 28)) (Some (aiming 0)))
 balanced = (28 ∷ 0 ∷ [], first_alone 32 32 100 28 (omega arith) (omega arith) refl, refl, refl)

@@ -1,5 +1,5 @@
 -- Worked facts of the driver's inflates, deflates and reaps.
-use Rattle.std.proofs.Common.{◌≡◌, ℕ, zero, suc, ◌<◌, List, [], ◌∷◌, ◌++◌, map, replicate, refl, arith}
+use Rattle.std.proofs.Common.{◌≡◌, ℕ, zero, suc, ◌+◌, ◌<◌, true, false, List, [], ◌∷◌, ◌++◌, map, replicate, length, drop, refl, sym, ap, subst, ◌∙◌, arith}
 use Rattle.std.specs.Prelude.{Some, None}
 use Rattle.vb_model.specs.declared.places.Place.{Place}
 use Rattle.vb_model.specs.declared.places.Place.TheVariants.{Reserved, Free, Giving, Lent, Taking, Stranded, Reporting}
@@ -9,6 +9,7 @@ use Rattle.vb_model.specs.declared.replies.Reply.TheVariants.{Posted, Reaped, No
 use Rattle.vb_model.specs.Requests.{Request, Requests, no_requests, IsLeastHead}
 use Rattle.vb_model.specs.Guest.{Guest}
 use Rattle.vb_model.specs.Refusals.{refusal_of, inflate_count, deflate_count, oom_count, room}
+use Rattle.vb_model.specs.Driver.{AllFreePages}
 use Rattle.vb_model.specs.Step.{HonestStep}
 use Rattle.vb_model.proofs.Samples.{config, ready, down, without_oom, request}
 
@@ -85,6 +86,17 @@ at_places places = record ready { places = replicate 16 Reserved ++ (places ++ r
 abbrev two_stranded : Guest
 two_stranded = record (at_places (Free ∷ Lent ∷ Free ∷ Free ∷ Stranded ∷ Stranded ∷ Free ∷ Free ∷ [])) { inflate = heads 0 2 1 }
 
+abbrev first : List ℕ → ℕ
+first [] = 0
+first (page ∷ pages) = page
+
+abbrev Same : ℕ → ℕ → Type 0
+Same a b = a ≡ b
+
+abbrev pages_of_second : List Request → List ℕ
+pages_of_second (r ∷ s ∷ rs) = s.pages
+pages_of_second _ = []
+
 abbrev with_last : Requests → Request → Requests
 with_last rs r = record rs { posted = rs.posted ++ (r ∷ []) }
 
@@ -95,9 +107,38 @@ offered = (refl, (3, 19 ∷ [], third_head, refl, (refl, tt), refl, refl, refl))
 offered_another : HonestStep two_stranded (Inflate 3) [] (Posted 3 3) (record (at_places (Free ∷ Lent ∷ Free ∷ Free ∷ Giving ∷ Giving ∷ Free ∷ Giving ∷ [])) { inflate = with_last (heads 0 2 1) (request 3 (20 ∷ 21 ∷ 23 ∷ []) 0) })
 offered_another = (refl, (3, 23 ∷ [], third_head, refl, (refl, tt), refl, refl, refl))
 
--- but no other number of pages, and free ones alone
-just_so_many : (new : Guest) → HonestStep two_stranded (Inflate 3) [] (Posted 3 2) new → ⊥
-just_so_many new s = let e : Posted 3 2 ≡ Posted s.1.0 3 = s.1.6 in cc
+-- as far as the target goes, whatever is asked for
+offered_up_to_the_target : HonestStep two_stranded (Inflate 300) [] (Posted 3 3) (record (at_places (Free ∷ Lent ∷ Free ∷ Giving ∷ Giving ∷ Giving ∷ Free ∷ Free ∷ [])) { inflate = with_last (heads 0 2 1) (request 3 (20 ∷ 21 ∷ 19 ∷ []) 0) })
+offered_up_to_the_target = (refl, (3, 19 ∷ [], third_head, refl, (refl, tt), refl, refl, refl))
+
+-- but no other number of pages than is told, no page twice, and free ones alone
+abbrev Offers : List ℕ → Type 0
+Offers pages = (new : Guest) → HonestStep two_stranded (Inflate 3) [] (Posted 3 3) new → new.inflate ≡ with_last (heads 0 2 1) (request 3 pages 0) → ⊥
+
+-- the pages of the new request, which stands behind one other
+abbrev newest : Guest → List ℕ
+newest g = pages_of_second g.inflate.posted
+
+-- the pages after the two stranded ones
+others_are : (others : List ℕ) (new : Guest) (s : HonestStep two_stranded (Inflate 3) [] (Posted 3 3) new) → new.inflate ≡ with_last (heads 0 2 1) (request 3 (20 ∷ 21 ∷ others) 0) → s.1.1 ≡ others
+others_are others new s e =
+    let named : 20 ∷ 21 ∷ s.1.1 ≡ 20 ∷ 21 ∷ others = sym (ap newest s.1.7) ∙ ap (λ (rs : Requests). pages_of_second rs.posted) e in
+    ap (drop 2) named
+
+one_page_too_few : Offers (20 ∷ 21 ∷ [])
+one_page_too_few new s e = let same : s.1.1 ≡ [] = others_are [] new s e in let n : 2 + length s.1.1 ≡ 3 = s.1.5 in absurd (omega (arith, ap length same))
+
+one_page_too_many : Offers (20 ∷ 21 ∷ 19 ∷ 22 ∷ [])
+one_page_too_many new s e = let same : s.1.1 ≡ 19 ∷ 22 ∷ [] = others_are (19 ∷ 22 ∷ []) new s e in let n : 2 + length s.1.1 ≡ 3 = s.1.5 in absurd (omega (arith, ap length same))
+
+a_lent_page : Offers (20 ∷ 21 ∷ 17 ∷ [])
+a_lent_page new s e = let t : false ≡ true = subst (AllFreePages two_stranded) (others_are (17 ∷ []) new s e) s.1.3 in cc
+
+free_pages_first : Offers (18 ∷ 20 ∷ 21 ∷ [])
+free_pages_first new s e =
+    let named : 20 ∷ 21 ∷ s.1.1 ≡ 18 ∷ 20 ∷ 21 ∷ [] = sym (ap newest s.1.7) ∙ ap (λ (rs : Requests). pages_of_second rs.posted) e in
+    let same : Same 20 18 = ap first named in
+    absurd (omega arith)
 
 fewest_pages_first : HonestStep two_stranded (Inflate 1) [] (Posted 3 1) (record (at_places (Free ∷ Lent ∷ Free ∷ Free ∷ Giving ∷ Stranded ∷ Free ∷ Free ∷ [])) { inflate = with_last (heads 0 2 1) (request 3 (20 ∷ []) 0) })
 fewest_pages_first = (refl, (3, [], third_head, refl, tt, refl, refl, refl))
@@ -105,17 +146,17 @@ fewest_pages_first = (refl, (3, [], third_head, refl, tt, refl, refl, refl))
 -- ---- deflate: the lowest lent pages
 
 abbrev four_lent : Guest
-four_lent = record (at_places (Free ∷ Lent ∷ Lent ∷ Giving ∷ Free ∷ Lent ∷ Lent ∷ Free ∷ [])) { deflate = heads 3 0 2; target = 2 }
+four_lent = record (at_places (Taking ∷ Lent ∷ Lent ∷ Giving ∷ Free ∷ Lent ∷ Lent ∷ Free ∷ [])) { deflate = heads 3 0 2; target = 2 }
 
-asked_back : HonestStep four_lent (Deflate 3) [] (Posted 1 3) (record (at_places (Free ∷ Taking ∷ Taking ∷ Giving ∷ Free ∷ Taking ∷ Lent ∷ Free ∷ [])) { deflate = with_last (heads 3 0 2) (request 1 (17 ∷ 18 ∷ 21 ∷ []) 0); target = 2 })
+asked_back : HonestStep four_lent (Deflate 3) [] (Posted 1 3) (record (at_places (Taking ∷ Taking ∷ Taking ∷ Giving ∷ Free ∷ Taking ∷ Lent ∷ Free ∷ [])) { deflate = with_last (heads 3 0 2) (request 1 (17 ∷ 18 ∷ 21 ∷ []) 0); target = 2 })
 asked_back = (refl, (1, head_between, refl, refl))
 
 -- as far as the target allows
-asked_back_to_the_target : HonestStep (record four_lent { target = 3 }) (Deflate 300) [] (Posted 1 2) (record (at_places (Free ∷ Taking ∷ Taking ∷ Giving ∷ Free ∷ Lent ∷ Lent ∷ Free ∷ [])) { deflate = with_last (heads 3 0 2) (request 1 (17 ∷ 18 ∷ []) 0); target = 3 })
+asked_back_to_the_target : HonestStep (record four_lent { target = 3 }) (Deflate 300) [] (Posted 1 2) (record (at_places (Taking ∷ Taking ∷ Taking ∷ Giving ∷ Free ∷ Lent ∷ Lent ∷ Free ∷ [])) { deflate = with_last (heads 3 0 2) (request 1 (17 ∷ 18 ∷ []) 0); target = 3 })
 asked_back_to_the_target = (refl, (1, head_between, refl, refl))
 
 -- and for want of memory beyond it
-asked_back_for_want_of_memory : HonestStep (record four_lent { target = 40 }) (Oom 1) [] (Posted 1 1) (record (at_places (Free ∷ Taking ∷ Lent ∷ Giving ∷ Free ∷ Lent ∷ Lent ∷ Free ∷ [])) { deflate = with_last (heads 3 0 2) (request 1 (17 ∷ []) 0); target = 40 })
+asked_back_for_want_of_memory : HonestStep (record four_lent { target = 40 }) (Oom 1) [] (Posted 1 1) (record (at_places (Taking ∷ Taking ∷ Lent ∷ Giving ∷ Free ∷ Lent ∷ Lent ∷ Free ∷ [])) { deflate = with_last (heads 3 0 2) (request 1 (17 ∷ []) 0); target = 40 })
 asked_back_for_want_of_memory = (refl, (1, head_between, refl, refl))
 
 -- ---- refusals, in order
