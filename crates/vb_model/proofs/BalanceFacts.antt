@@ -105,6 +105,24 @@ both_give = record { one_each = refl; within = within; enough = refl; in_order =
     in_order (suc (suc i)) (suc zero) l m p q = absurd (omega arith)
     in_order i (suc (suc j)) l m p q = absurd (omega arith)
 
+-- the higher number, where it can spare more
+second_alone : TargetsAre (needs_of 30 40) 100 0 28
+second_alone = record { one_each = refl; within = within; enough = refl; in_order = in_order }
+  where
+    within : (i : ℕ) → i < 2 → slice_index (0 ∷ 28 ∷ []) i ≤ spare_at (needs_of 30 40) i
+    within zero l = omega arith
+    within (suc zero) l = omega arith
+    within (suc (suc i)) l = absurd (omega arith)
+
+    in_order : (i j : ℕ) → i < 2 → j < 2 → 0 < slice_index (0 ∷ 28 ∷ []) i → GivesBefore (needs_of 30 40) j i → slice_index (0 ∷ 28 ∷ []) j ≡ spare_at (needs_of 30 40) j
+    in_order zero j l m p q = absurd (omega arith)
+    in_order (suc zero) zero l m p (inl q) = absurd (omega arith)
+    in_order (suc zero) zero l m p (inr q) = absurd (omega arith)
+    in_order (suc zero) (suc zero) l m p (inl q) = absurd (omega arith)
+    in_order (suc zero) (suc zero) l m p (inr q) = absurd (omega arith)
+    in_order (suc zero) (suc (suc j)) l m p q = absurd (omega arith)
+    in_order (suc (suc i)) j l m p q = absurd (omega arith)
+
 abbrev Same : ℕ → ℕ → Type 0
 Same a b = a ≡ b
 

@@ -9,6 +9,7 @@ use Rattle.vb_model.specs.declared.calls.Event.TheVariants.{Guest as OnGuest, Re
 use Rattle.vb_model.specs.declared.replies.Refusal.TheVariants.{RingBroken, Broken}
 use Rattle.vb_model.specs.declared.replies.Reply.{Reply}
 use Rattle.vb_model.specs.declared.replies.Reply.TheVariants.{Done, Page, Posted, Reaped, Swept, Refused}
+use Rattle.vb_model.specs.Requests.{Request, names}
 use Rattle.vb_model.specs.Guest.{Guest}
 use Rattle.vb_model.specs.World.{World}
 use Rattle.vb_model.specs.Run.{History}
@@ -33,8 +34,8 @@ place_16 place = record ready { places = replicate 16 Reserved ++ (place ∷ rep
 abbrev frame_5 : ℕ → Guest
 frame_5 page = record ready { frames = replicate page None ++ (Some 5 ∷ []) }
 
-two_guests : NoFrameTwice (record { frames = 64; guests = Some (frame_5 16) ∷ None ∷ Some (frame_5 17) ∷ []; spares = []; given_up = None }) → ⊥
-two_guests s = let e = s 5 0 16 2 17 (record { guest = frame_5 16; is_there = refl; has = refl }) (record { guest = frame_5 17; is_there = refl; has = refl }) in omega (arith, e.0)
+two_guests : NoFrameTwice (record { frames = 64; guests = Some (frame_5 16) ∷ None ∷ Some (frame_5 16) ∷ []; spares = []; given_up = None }) → ⊥
+two_guests s = let e = s 5 0 16 2 16 (record { guest = frame_5 16; is_there = refl; has = refl }) (record { guest = frame_5 16; is_there = refl; has = refl }) in omega (arith, e.0)
 
 one_guest : Safe (stands (record ready { frames = Some 5 ∷ None ∷ Some 5 ∷ [] })) → ⊥
 one_guest s =
@@ -110,6 +111,31 @@ handed_out_too_early : Safe offered_again → ⊥
 handed_out_too_early s =
     let r = s.told_first 0 16 0 2 (omega arith) one_life brought_to_giving brought_to_used in
     no_deflate_reaped r.0 r.1 r.2 r.3
+
+-- a reap of a used deflate that names the page, and of none else
+abbrev coming_back : Guest
+coming_back = record (place_16 Taking) { deflate = record { posted = []; taken = []; done = request 0 (16 ∷ []) 0 ∷ [] } }
+
+abbrev given_back : History
+given_back = goes coming_back (OnGuest 0 (Reap 1)) (Reaped 0 1) (place_16 FreePlace)
+
+reaps_page_16 : ReapsDeflate given_back 0 16 0
+reaps_page_16 = record { guest = coming_back; request = request 0 (16 ∷ []) 0; others = []; event = refl; is_there = refl; done = refl; named = refl; reply = refl }
+
+not_page_17 : ReapsDeflate given_back 0 17 0 → ⊥
+not_page_17 r =
+    let there : Some coming_back ≡ Some r.guest = r.is_there in
+    let used : request 0 (16 ∷ []) 0 ∷ [] ≡ r.request ∷ r.others = ap (option_done []) there ∙ r.done in
+    let same : request 0 (16 ∷ []) 0 ≡ r.request = first_is (request 0 (16 ∷ []) 0) [] r.request r.others used in
+    let named : false ≡ true = ap (names 17) same ∙ r.named in
+    cc
+  where
+    option_done : List Request → Option Guest → List Request
+    option_done none None = none
+    option_done none (Some g) = g.deflate.done
+
+    first_is : (a : Request) (rest : List Request) (b : Request) (more : List Request) → a ∷ rest ≡ b ∷ more → a ≡ b
+    first_is a rest b more e = cc
 
 -- ---- driver and device don't agree on a page
 
