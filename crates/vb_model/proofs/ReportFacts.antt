@@ -55,8 +55,11 @@ two_pages_from_0_on = refl
 orders : map (λ b. b.order) (blocks_at 7) ≡ 0 ∷ 1 ∷ 2 ∷ 3 ∷ 4 ∷ 5 ∷ 6 ∷ 7 ∷ 8 ∷ 9 ∷ []
 orders = refl
 
-largest_blocks : maximal_free_blocks (all_free 2048) ≡ block 16 4 ∷ block 32 5 ∷ block 64 6 ∷ block 128 7 ∷ block 256 8 ∷ block 512 9 ∷ block 1024 9 ∷ block 1536 9 ∷ []
+largest_blocks : maximal_free_blocks (all_free 1024) ≡ block 16 4 ∷ block 32 5 ∷ block 64 6 ∷ block 128 7 ∷ block 256 8 ∷ block 512 9 ∷ []
 largest_blocks = refl
+
+beside_another : is_maximal_free (all_free 2048) (block 1024 9) ≡ true
+beside_another = refl
 
 no_larger_block : is_maximal_free (all_free 1024) (block 512 8) ≡ false
 no_larger_block = refl
