@@ -1,5 +1,6 @@
--- Which events the crates above answer so far; the others are kept out of a run by this one premise.
-use Rattle.std.specs.Prelude.{Bool, true, false}
+-- What the crates above answer so far: which events, which queues, and devices of which pace. All that is left out is named here and nowhere else.
+use Rattle.std.specs.Prelude.{ℕ, Bool, true, false, not, nat_le}
+use Rattle.vb_model.specs.declared.layout.TheConstants.{DEFLATE_QUEUE}
 use Rattle.vb_model.specs.declared.calls.Call.{Call}
 use Rattle.vb_model.specs.declared.calls.Call.TheVariants.{Init, Alloc, Free, Read, Write, Inflate, Deflate, Oom, Reap, Take, Finish, Sweep, SetTarget}
 use Rattle.vb_model.specs.declared.calls.Query.{Query}
@@ -37,3 +38,11 @@ is_brought (Guest guest call) = is_call_brought call
 is_brought (Asking guest query) = is_query_brought query
 is_brought Frames = true
 is_brought _ = false
+
+-- Of the queues those of inflate and deflate requests; the others are answered as queues that don't exist, and no statistics buffer is made available.
+abbrev pub is_queue_brought : ℕ → Bool
+is_queue_brought q = nat_le q DEFLATE_QUEUE
+
+-- Immediate devices; a paced one isn't made.
+abbrev pub is_pace_brought : Bool → Bool
+is_pace_brought paced = not paced

@@ -1,7 +1,7 @@
 -- The bounds of src/limits.rt in the words of the definitions (profile).
 use Rattle.std.specs.Prelude.{ℕ, ◌^◌, Bool, ◌==◌, ◌&&◌, nat_le}
 use Rattle.std.specs.List.{list_any, range_with_len}
-use Rattle.vb_model.specs.declared.limits.TheConstants.{PAGE_SIZE, RESERVED_PAGES, RING_AND_BUFFER_PAGES, MAX_ORDER, MIN_REPORTED_ORDER, MAX_OUTSTANDING, MAX_REQUEST_PAGES, MAX_GUESTS, MIN_GUEST_PAGES, MAX_GUEST_PAGES, MIN_QUEUE_SIZE, MAX_QUEUE_SIZE, MAX_PROCESSORS, MAX_FRAMES, HAS_STATISTICS_AND_REPORTS}
+use Rattle.vb_model.specs.declared.limits.TheConstants.{PAGE_SIZE, RESERVED_PAGES, RING_AND_BUFFER_PAGES, MAX_ORDER, MIN_REPORTED_ORDER, MAX_OUTSTANDING, MAX_REQUEST_PAGES, MAX_GUESTS, MIN_GUEST_PAGES, MAX_GUEST_PAGES, MIN_QUEUE_SIZE, MAX_QUEUE_SIZE, MAX_PROCESSORS, MAX_FRAMES}
 
 abbrev pub page_size : ℕ
 page_size = PAGE_SIZE
@@ -30,9 +30,6 @@ max_guests = MAX_GUESTS
 
 abbrev pub max_frames : ℕ
 max_frames = MAX_FRAMES
-
-abbrev pub has_statistics_and_reports : Bool
-has_statistics_and_reports = HAS_STATISTICS_AND_REPORTS
 
 abbrev pub is_power_of_two : ℕ → Bool
 is_power_of_two n = list_any (λ k. 2 ^ k == n) (range_with_len 0 32)

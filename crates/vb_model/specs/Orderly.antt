@@ -1,15 +1,12 @@
 -- What else holds of an honest guest: its requests are in order, its pages lie where they may, its status is one of three.
-use Rattle.std.specs.Prelude.{◌≡◌, ℕ, ◌<◌, ◌≤◌, Bool, true, false, ◌==◌, List, [], ◌∷◌, length, nat_lt, min, count_by, ⊤, ◌⊎◌}
+use Rattle.std.specs.Prelude.{◌≡◌, ℕ, ◌<◌, ◌≤◌, Bool, true, false, List, [], ◌∷◌, length, nat_lt, min, ⊤, ◌⊎◌}
 use Rattle.vb_model.specs.declared.places.Place.{Place}
 use Rattle.vb_model.specs.declared.places.Place.TheVariants.{Reserved}
 use Rattle.vb_model.specs.Limits.{reserved_pages, max_outstanding}
+pub use Rattle.vb_model.specs.Tests.{times}
 use Rattle.vb_model.specs.Pages.{place_of}
 use Rattle.vb_model.specs.Requests.{Request, Requests, all_requests, headed, outstanding}
 use Rattle.vb_model.specs.Guest.{Guest}
-
--- how often the page stands in the list
-abbrev pub times : ℕ → List ℕ → ℕ
-times page pages = count_by (λ p. p == page) pages
 
 -- its pages are distinct, and no more were visited than there are
 pub record IsRequestSound (r : Request) : Type 0 where

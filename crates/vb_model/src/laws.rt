@@ -1,11 +1,13 @@
 //! Laws about the definitions. Each is the contract of a function that does nothing.
 
 ghost use Rattle.std.specs.Prelude.{ℕ, Bool, List, [], ◌∷◌, ◌≡◌, Some, false};
-ghost use Rattle.vb_model.specs.Run.{History, Run, Steps, last_world};
+ghost use Rattle.vb_model.specs.Run.{History, Run, Steps, last_world, guest_in};
 ghost use Rattle.vb_model.specs.Safe.{Safe, IsHonest};
 ghost use Rattle.vb_model.specs.Consistent.{IsConsistent};
 ghost use Rattle.vb_model.specs.Orderly.{IsOrderly};
 ghost use Rattle.vb_model.specs.Blank.{IsBlank};
+ghost use Rattle.vb_model.specs.StepLaws.{OthersAreUntouched, TargetsAreKept, TargetsAreSet, ConfigurationsAreKept, FramesGoBack, RestartedAreHonest, RoguesAreMade, ScribblesMakeRogues, RoguesStay, FramesEnterByClaims, RefusedClaimsAreAnswered, ClaimsAreNeeded, NeededPagesAreBare, NoFrameIsExact, HasNoReservedBallooned, RefusalsChangeNothing, RefusedEventsChangeNothing};
+ghost use Rattle.vb_model.specs.Determined.{HonestStepsAgree};
 ghost use Rattle.vb_model.specs.GuestRun.{InOneLife, Alone};
 ghost use Rattle.vb_model.specs.declared.calls.Event.{Event};
 ghost use Rattle.vb_model.specs.declared.replies.Reply.{Reply};
@@ -32,9 +34,78 @@ pub fn honest_guests_are_in_order()
     ensures orderly { (frames : ℕ) (spares : List Bool) (h : History) → Run frames spares h → (n i : ℕ) (g : Guest) → IsHonest h n i g → IsOrderly g }
 {}
 
-/// In every state of a run a page of an honest guest that has no frame holds zeros.
+/// In every state of a run each page of an honest guest has its 4096 bytes, and one that has no
+/// frame holds zeros.
 pub fn pages_without_frames_are_blank()
     ensures blank { (frames : ℕ) (spares : List Bool) (h : History) → Run frames spares h → (n i : ℕ) (g : Guest) → IsHonest h n i g → IsBlank g }
+{}
+
+/// In every state of a run no reserved page of a guest is ballooned, be it honest or rogue.
+pub fn reserved_pages_are_never_ballooned()
+    ensures reserved { (frames : ℕ) (spares : List Bool) (h : History) → Run frames spares h → (n i : ℕ) (g : Guest) → guest_in h n i ≡ Some g → HasNoReservedBallooned g }
+{}
+
+/// The target of a guest, honest or rogue, changes by `target` and by a balance alone, in a new life
+/// neither; `target` sets it.
+pub fn targets_are_kept()
+    ensures kept { TargetsAreKept }
+    ensures set { TargetsAreSet }
+{}
+
+/// A guest keeps its configuration for all its lives.
+pub fn configurations_are_kept()
+    ensures kept { ConfigurationsAreKept }
+{}
+
+/// An event that isn't made for a guest leaves it as it was, but for the targets of a balance.
+pub fn other_guests_are_untouched()
+    ensures untouched { OthersAreUntouched }
+{}
+
+/// A guest that is restarted is honest and has no frame, and one that is unplugged has none.
+pub fn frames_go_back()
+    ensures frames { FramesGoBack }
+    ensures honest { RestartedAreHonest }
+{}
+
+/// A guest turns rogue just where a scribble of its own is done, and stays so until a restart.
+pub fn rogues_are_made_by_scribbles()
+    ensures made { RoguesAreMade }
+    ensures scribbled { ScribblesMakeRogues }
+    ensures stay { RoguesStay }
+{}
+
+/// A frame enters a guest, honest or rogue, by a claim of its call alone; and a claim that is refused
+/// is the reply, with which no frame enters or leaves.
+pub fn frames_enter_by_claims()
+    ensures enter { FramesEnterByClaims }
+    ensures refused { RefusedClaimsAreAnswered }
+{}
+
+/// A call of a guest, honest or rogue, claims no frame, or one for each page that an initialisation
+/// or a write needs and that has none.
+pub fn claims_are_needed()
+    ensures needed { ClaimsAreNeeded }
+    ensures bare { NeededPagesAreBare }
+{}
+
+/// A call of a guest, honest or rogue, is refused for want of a frame only where fewer frames are
+/// not out than it needs.
+pub fn no_frame_is_exact()
+    ensures exact { NoFrameIsExact }
+{}
+
+/// A step of an honest guest is determined by its state, the call and what its claims were given, but
+/// for the block of an allocation, the free pages of an inflate, and want of memory for bytes.
+pub fn honest_steps_agree()
+    ensures agree { HonestStepsAgree }
+{}
+
+/// A refusal leaves an honest guest as it was, but for an initialisation whose features are refused,
+/// which leaves the status at 131; a refused event of the host leaves the world as it was.
+pub fn refusals_change_nothing()
+    ensures calls { RefusalsChangeNothing }
+    ensures events { RefusedEventsChangeNothing }
 {}
 
 /// Within one life of an honest guest its calls and their replies are a run of its own: of other

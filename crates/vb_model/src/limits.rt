@@ -40,7 +40,3 @@ pub const MAX_PROCESSORS: u32 = 4;
 
 /// Frames of a host, at least one.
 pub const MAX_FRAMES: u32 = 65_536;
-
-/// Whether queues 2 (statistics) and 4 (page reporting) are there yet. Until then they are
-/// answered as queues that don't exist, and no statistics buffer is made available.
-pub const HAS_STATISTICS_AND_REPORTS: bool = false;

@@ -5,6 +5,7 @@ use Rattle.std.specs.Prelude.{◌≡◌, ℕ, ◌+◌, ◌<◌, ◌≤◌, Bool,
 use Rattle.std.specs.List.{range_with_len}
 use Rattle.vb_model.specs.Tests.{is_in, each_page}
 use Rattle.vb_model.specs.Limits.{reserved_pages}
+pub use Rattle.vb_model.specs.Pages.{block_at}
 use Rattle.vb_model.specs.Pages.{Block, size, pages_of, is_aligned}
 
 -- a set of pages is a flag a page; a page that isn't there isn't in it
@@ -22,9 +23,6 @@ without_pages pages set = each_page (λ page old. old && not (is_in page pages))
 -- all of n pages but the reserved ones
 unfoldable pub unreserved : ℕ → List Bool
 unreserved n = map (λ page. nat_le reserved_pages page) (range_with_len 0 n)
-
-abbrev pub block_at : ℕ → ℕ → Block
-block_at start order = record { start = start; order = order }
 
 -- an aligned block of order 0 to 9
 abbrev pub IsBlock : Block → Type 0

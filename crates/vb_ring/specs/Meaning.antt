@@ -1,6 +1,7 @@
 -- What the bytes of a ring mean: the heads that were published and the elements that were used, oldest first (VIRTIO 1.1, 2.6).
 use Rattle.std.specs.Prelude.{◌≡◌, ◌≢◌, ℕ, ◌+◌, ◌%◌, ◌<◌, ◌≤◌, ◌==◌, Bool, true, List, Some, None, length, take, map, count_by, slice_index, slice_index_or}
 use Rattle.vb_model.specs.Tests.{one_if}
+pub use Rattle.vb_model.specs.Tests.{times}
 use Rattle.vb_ram.specs.Pages.{Pages, field}
 use Rattle.vb_chain.specs.declared.Descriptor.{Descriptor}
 use Rattle.vb_chain.specs.Table.{descriptor_at}
@@ -35,10 +36,6 @@ pub record ShowsUsed (mem : Pages) (l : Layout) (q : ℕ) (elems : List UsedElem
 pub record ShowsEntries (mem : Pages) (l : Layout) (q : ℕ) (heads : List ℕ) (elems : List UsedElem) : Type 0 where
   pub avail : ShowsAvail mem l q heads
   pub used : ShowsUsed mem l q elems
-
--- How often a head stands in a list.
-abbrev pub times : ℕ → List ℕ → ℕ
-times h hs = count_by (λ k. k == h) hs
 
 -- A head was published more often than it was used.
 abbrev pub IsOut : List ℕ → List UsedElem → ℕ → Type 0

@@ -1,0 +1,119 @@
+-- Worked facts of the answers to queries.
+use Rattle.std.proofs.Common.{◌≡◌, ℕ, true, false, [], ◌∷◌, ◌++◌, replicate, refl, inl, inr}
+use Rattle.std.specs.Prelude.{Some, None}
+use Rattle.vb_model.specs.declared.places.Place.TheVariants.{Reserved, Free, Used, Giving, Lent, Taking, Stranded, Reporting}
+use Rattle.vb_model.specs.declared.places.PageRun.{PageRun}
+use Rattle.vb_model.specs.declared.calls.Event.TheVariants.{Query as Asking}
+use Rattle.vb_model.specs.declared.calls.Query.{Query}
+use Rattle.vb_model.specs.declared.calls.Query.TheVariants.{Places as AskPlaces, PagesAt, PagesBallooned, Balloon as AskBalloon, Memory as AskMemory, Backing as AskBacking}
+use Rattle.vb_model.specs.declared.replies.Refusal.TheVariants.{NoMemory}
+use Rattle.vb_model.specs.declared.replies.Reply.TheVariants.{Places, Pages, Balloon, Statistics, Backing, Refused}
+use Rattle.vb_model.specs.Guest.{Guest}
+use Rattle.vb_model.specs.World.{World, WorldStep, Answers, runs}
+use Rattle.vb_model.proofs.Samples.{ready, mixed}
+
+abbrev run : ℕ → ℕ → PageRun
+run first last = record { first = first; last = last }
+
+-- ---- places
+
+-- seven different counts, each in its own field
+seven_counts : Answers AskPlaces mixed (Places (record { free = 21; used = 2; giving = 3; lent = 4; taking = 5; stranded = 6; reporting = 7 }))
+seven_counts = refl
+
+-- the pages of each place
+reserved_pages_are : Answers (PagesAt Reserved) mixed (Pages (run 0 15 ∷ []))
+reserved_pages_are = inl refl
+
+free_pages_are : Answers (PagesAt Free) mixed (Pages (run 16 36 ∷ []))
+free_pages_are = inl refl
+
+used_pages_are : Answers (PagesAt Used) mixed (Pages (run 37 38 ∷ []))
+used_pages_are = inl refl
+
+giving_pages_are : Answers (PagesAt Giving) mixed (Pages (run 39 41 ∷ []))
+giving_pages_are = inl refl
+
+lent_pages_are : Answers (PagesAt Lent) mixed (Pages (run 42 45 ∷ []))
+lent_pages_are = inl refl
+
+taking_pages_are : Answers (PagesAt Taking) mixed (Pages (run 46 50 ∷ []))
+taking_pages_are = inl refl
+
+stranded_pages_are : Answers (PagesAt Stranded) mixed (Pages (run 51 56 ∷ []))
+stranded_pages_are = inl refl
+
+reporting_pages_are : Answers (PagesAt Reporting) mixed (Pages (run 57 63 ∷ []))
+reporting_pages_are = inl refl
+
+no_page_there : Answers (PagesAt Lent) ready (Pages [])
+no_page_there = inl refl
+
+-- ---- runs of pages: maximal, rising, a single page by itself
+
+maximal_runs : runs (0 ∷ 2 ∷ 3 ∷ 5 ∷ 6 ∷ 7 ∷ 9 ∷ []) ≡ run 0 0 ∷ run 2 3 ∷ run 5 7 ∷ run 9 9 ∷ []
+maximal_runs = refl
+
+-- ---- ballooned pages, wherever the driver has them
+
+abbrev ballooned : Guest
+ballooned = record mixed { ballooned = replicate 41 false ++ (true ∷ true ∷ false ∷ true ∷ replicate 19 false) }
+
+ballooned_pages_are : Answers PagesBallooned ballooned (Pages (run 41 42 ∷ run 44 44 ∷ []))
+ballooned_pages_are = inl refl
+
+-- the ballooned pages are counted, `actual` and the target are as they stand
+four_numbers : Answers AskBalloon (record ballooned { actual = 9; target = 11; status = 131 }) (Balloon 3 9 11 131)
+four_numbers = refl
+
+-- ---- statistics: what is free, then the total; each may be missing
+
+free_then_total : Answers AskMemory (record ready { last = record { free = Some 196608; total = Some 262144 } }) (Statistics (Some 196608) (Some 262144))
+free_then_total = refl
+
+no_total : Answers AskMemory (record ready { last = record { free = Some 8192; total = None } }) (Statistics (Some 8192) None)
+no_total = refl
+
+nothing_known : Answers AskMemory ready (Statistics None None)
+nothing_known = refl
+
+-- ---- the frame of a page; there is none past the end
+
+abbrev backed : Guest
+backed = record ready { frames = replicate 16 None ++ (Some 13 ∷ replicate 47 None) }
+
+page_with_frame : Answers (AskBacking 16) backed (Backing (Some 13))
+page_with_frame = refl
+
+page_without_frame : Answers (AskBacking 17) backed (Backing None)
+page_without_frame = refl
+
+page_past_the_end : Answers (AskBacking 64) backed (Backing None)
+page_past_the_end = refl
+
+-- ---- want of memory may be the answer where a list is, and only there; nothing changes
+
+abbrev NoMemoryFor : Query → Type 0
+NoMemoryFor query = Answers query mixed (Refused NoMemory)
+
+for_lists : NoMemoryFor (PagesAt Free) × NoMemoryFor PagesBallooned
+for_lists = (inr refl, inr refl)
+
+not_for_places : NoMemoryFor AskPlaces → ⊥
+not_for_places e = cc
+
+not_for_balloon : NoMemoryFor AskBalloon → ⊥
+not_for_balloon e = cc
+
+not_for_memory : NoMemoryFor AskMemory → ⊥
+not_for_memory e = cc
+
+not_for_backing : NoMemoryFor (AskBacking 16) → ⊥
+not_for_backing e = cc
+
+-- a rogue guest is asked like any other, and a query leaves the world as it is
+abbrev world : World
+world = record { frames = 64; guests = Some ready ∷ Some (record backed { rogue = true }) ∷ []; spares = true ∷ []; given_up = Some 7 }
+
+asked_in_the_world : WorldStep world (Asking 1 (AskBacking 16)) (Backing (Some 13)) world
+asked_in_the_world = (refl, refl)

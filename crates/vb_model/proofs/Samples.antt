@@ -1,0 +1,40 @@
+-- Guests from which worked facts start.
+use Rattle.std.specs.Prelude.{ℕ, true, List, ◌++◌, replicate}
+use Rattle.vb_model.specs.declared.places.Place.{Place}
+use Rattle.vb_model.specs.declared.places.Place.TheVariants.{Reserved, Free, Used, Giving, Lent, Taking, Stranded, Reporting}
+use Rattle.vb_model.specs.Requests.{Request}
+use Rattle.vb_model.specs.Guest.{Guest, Config, fresh}
+
+-- 64 pages, queues of 8, one processor, a paced device
+abbrev pub config : Config
+config = record { pages = 64; queue_size = 8; processors = 1; paced = true }
+
+-- initialised with all features; its 48 unreserved pages are free
+abbrev pub ready : Guest
+ready = record (fresh config 0) { status = 15; features = 0x100000027 }
+
+-- the same, not initialised yet
+abbrev pub down : Guest
+down = fresh config 0
+
+-- the features but the one of this bit
+abbrev pub without_stats_vq : Guest
+without_stats_vq = record ready { features = 0x100000025 }
+
+abbrev pub without_reporting : Guest
+without_reporting = record ready { features = 0x100000007 }
+
+abbrev pub without_oom : Guest
+without_oom = record ready { features = 0x100000023 }
+
+-- each place has another number of pages: 21 free, 2 used, 3 giving, 4 lent, 5 taking, 6 stranded, 7 reporting
+abbrev pub mixed_places : List Place
+mixed_places =
+    replicate 16 Reserved ++ (replicate 21 Free ++ (replicate 2 Used ++ (replicate 3 Giving ++ (replicate 4 Lent ++ (replicate 5 Taking ++ (replicate 6 Stranded ++ replicate 7 Reporting))))))
+
+abbrev pub mixed : Guest
+mixed = record ready { places = mixed_places }
+
+-- a request for these pages, of which so many are visited
+abbrev pub request : ℕ → List ℕ → ℕ → Request
+request head pages visited = record { head = head; pages = pages; visited = visited }

@@ -1,0 +1,380 @@
+-- Which calls claim frames, and what a refusal for want of frames means.
+use Rattle.std.proofs.Common.{◌≡◌, ℕ, ◌<◌, Bool, true, false, cond, List, [], ◌∷◌, length, refl, sym, ap, subst, ◌∙◌, ◌⊎◌, inl, inr, arith}
+use Rattle.std.specs.Prelude.{◌==◌, ◌||◌, not, Option, Some, None, MatchBool, is_none}
+use Rattle.std.specs.List.{list_all, range_with_len}
+use Rattle.std.proofs.lemmas.Bool.{eq-eqb, and_parts, not-true, eqb-true, or_cases}
+use Rattle.vb_model.specs.declared.calls.Call.{Call}
+use Rattle.vb_model.specs.declared.calls.Call.TheVariants.{Init, Reset, Alloc, Free, Read, Write, Scribble, Inflate, Deflate, Oom, Report, Stats, Reap, Take, Work, Finish, Sweep, Ask, SetTarget}
+use Rattle.vb_model.specs.declared.calls.Claim.{Claim}
+use Rattle.vb_model.specs.declared.calls.Claim.TheVariants.{Gave, GaveNoFrame, GaveNoMemory}
+use Rattle.vb_model.specs.declared.calls.Event.TheVariants.{Guest as OnGuest}
+use Rattle.vb_model.specs.declared.replies.Refusal.{Refusal}
+use Rattle.vb_model.specs.declared.replies.Refusal.TheVariants.{NoFrame}
+use Rattle.vb_model.specs.declared.replies.Reply.{Reply}
+use Rattle.vb_model.specs.declared.replies.Reply.TheVariants.{Refused}
+use Rattle.vb_model.specs.Tests.{is_in}
+use Rattle.vb_model.specs.Requests.{Request, Kind, kind_of_queue, Buffer, NoBuffer, BufferPosted, BufferTaken, BufferDone}
+use Rattle.vb_model.specs.Guest.{Guest, frame_of, backed, all_backed, requests}
+use Rattle.vb_model.specs.Refusals.{Test, refusal_of, tests, first_refusal}
+use Rattle.vb_model.specs.Driver.{given, claim_refusal, AreClaimsFor, Supplying, Reaps, Fills, Written, pages_needed}
+use Rattle.vb_model.specs.Device.{Takes, TakesBuffer, Finishes, Asks, next_page}
+use Rattle.vb_model.specs.Life.{feature_tests, feature_refusal, Negotiates, lacking}
+use Rattle.vb_model.specs.Rogue.{LosesFrames, RogueStep, Scribbled, may_need}
+use Rattle.vb_model.specs.Step.{Performs, HonestStep, GuestStep}
+use Rattle.vb_model.specs.World.{Happens, Calls, Gives, IsOut, guest_at, world_tests}
+use Rattle.vb_model.specs.StepLaws.{ClaimsAreNeeded, FramesEnterByClaims, RefusedClaimsAreAnswered, NeededPagesAreBare, NoFrameIsExact, WantOfFrames}
+use Rattle.vb_model.proofs.Tables.{list_all-at}
+use Rattle.vb_model.proofs.CallSteps.{match_cases, works_cases, all_filtered, supplied}
+use Rattle.vb_model.proofs.Frames.{FramesMove, backed_cases, honest_move, rogue_move}
+use Rattle.vb_model.proofs.Changes.{same_some}
+
+or_first : (v b : Bool) → v ≡ true → (v || b) ≡ true
+or_first true b e = refl
+or_first false b e = absurd cc
+
+or_later : (v b : Bool) → b ≡ true → (v || b) ≡ true
+or_later true b e = refl
+or_later false b e = e
+
+-- ---- claims
+
+no_claims : (pages : List ℕ) (claims : List Claim) → pages ≡ [] → AreClaimsFor pages claims → claims ≡ []
+no_claims [] [] e a = refl
+no_claims [] (claim ∷ claims) e a = absurd a
+no_claims (page ∷ pages) claims e a = absurd cc
+
+performs_claims : (call : Call) (g : Guest) (claims : List Claim) (reply : Reply) (new : Guest) → Performs call g claims reply new → (claims ≡ []) ⊎ AreClaimsFor (may_need call g) claims
+performs_claims (Init wanted) g claims reply new s = inr s.0
+performs_claims (Write page offset bytes) g claims reply new s = inr s.0
+performs_claims (Scribble page offset bytes) g claims reply new s = inr s.0
+performs_claims (SetTarget n) g claims reply new s = inl s.0
+performs_claims Reset g claims reply new s = inl s.0
+performs_claims (Alloc cpu order) g claims reply new s = inl s.0
+performs_claims (Free cpu start order) g claims reply new s = inl s.0
+performs_claims (Read page offset len) g claims reply new s = inl s.0
+performs_claims (Inflate n) g claims reply new s = inl s.0
+performs_claims (Deflate n) g claims reply new s = inl s.0
+performs_claims (Oom n) g claims reply new s = inl s.0
+performs_claims (Report from) g claims reply new s = inl s.0
+performs_claims Stats g claims reply new s = inl s.0
+performs_claims (Reap q) g claims reply new s = inl s.0
+performs_claims (Take q) g claims reply new s = inl s.0
+performs_claims Work g claims reply new s = inl s.0
+performs_claims (Finish q i) g claims reply new s = inl s.0
+performs_claims (Sweep page) g claims reply new s = inl s.0
+performs_claims Ask g claims reply new s = inl s.0
+
+pub claims_needed : ClaimsAreNeeded
+claims_needed g call claims reply new s = cases g.rogue s
+  where
+    rogue : (pages : List ℕ) → (pages ≡ []) ⊎ (pages ≡ may_need call g) → AreClaimsFor pages claims → (claims ≡ []) ⊎ AreClaimsFor (may_need call g) claims
+    rogue pages (inl e) a = inl (no_claims pages claims e a)
+    rogue pages (inr e) a = inr (subst (λ (ps : List ℕ). AreClaimsFor ps claims) e a)
+
+    cases : (b : Bool) → MatchBool b (RogueStep g call claims reply new) (HonestStep g call claims reply new) → (claims ≡ []) ⊎ AreClaimsFor (may_need call g) claims
+    cases true r = rogue r.pages r.needed r.claimed
+    cases false p =
+        elim (match_cases (refusal_of g call) (Performs call g claims reply new) (λ refusal. (claims ≡ []) × (reply ≡ Refused refusal) × (new ≡ g)) p) [
+          | inl d ↦ performs_claims call g claims reply new d.1
+          | inr r ↦ inl r.2.0
+        ]
+
+-- ---- frames enter by claims
+
+backed_by : (pages new : List ℕ) (frames : List (Option ℕ)) (page x : ℕ) → frame_of (all_backed pages new frames) page ≡ Some x → (frame_of frames page ≡ Some x) ⊎ (is_in x new ≡ true)
+backed_by [] new frames page x h = inl h
+backed_by (p ∷ pages) [] frames page x h = inl h
+backed_by (p ∷ pages) (f ∷ new) frames page x h =
+    elim (backed_by pages new (backed p f frames) page x h) [
+      | inr k ↦ inr (or_later (f == x) (is_in x new) k)
+      | inl k ↦
+          elim (backed_cases p f frames page x k) [
+            | inl e ↦ inr (or_first (f == x) (is_in x new) (eq-eqb f x (sym e.1)))
+            | inr old ↦ inl old
+          ]
+    ]
+
+step_moves : (g : Guest) (call : Call) (claims : List Claim) (reply : Reply) (new : Guest) → GuestStep g call claims reply new → FramesMove g claims new
+step_moves g call claims reply new s = cases g.rogue s
+  where
+    cases : (b : Bool) → MatchBool b (RogueStep g call claims reply new) (HonestStep g call claims reply new) → FramesMove g claims new
+    cases true r = rogue_move g call claims reply new r
+    cases false p = honest_move g call claims reply new p
+
+pub frames_enter : FramesEnterByClaims
+frames_enter g call claims reply new s page frame h =
+    let moved = step_moves g call claims reply new s in
+    backed_by moved.0 (given claims) g.frames page frame (moved.1 page frame h)
+
+none_refused : (claims : List Claim) (refusal : Refusal) → claims ≡ [] → claim_refusal claims ≡ Some refusal → ⊥
+none_refused claims refusal e r = let none : claim_refusal claims ≡ None = ap claim_refusal e in cc
+
+supplies_refused : (pages : List ℕ) (g : Guest) (claims : List Claim) (reply : Reply) (new : Guest) (Rest : Guest → Type 0) (refusal : Refusal) → Supplying pages g claims reply new Rest → claim_refusal claims ≡ Some refusal → (reply ≡ Refused refusal) × (new.frames ≡ g.frames)
+supplies_refused pages g claims reply new Rest refusal s r =
+    elim (match_cases (claim_refusal claims) (Rest (supplied pages claims g)) (λ refusal. (reply ≡ Refused refusal) × (new ≡ g)) s.1) [
+      | inl m ↦ absurd (let none : claim_refusal claims ≡ None = m.0 in cc)
+      | inr k ↦ answered k.0 (let same : k.0 ≡ refusal = cc in same) k.2
+    ]
+  where
+    answered : (x : Refusal) → x ≡ refusal → (reply ≡ Refused x) × (new ≡ g) → (reply ≡ Refused refusal) × (new.frames ≡ g.frames)
+    answered x e k = (k.0 ∙ ap Refused e, ap (λ (y : Guest). y.frames) k.1)
+
+performs_refused : (call : Call) (g : Guest) (claims : List Claim) (reply : Reply) (new : Guest) (refusal : Refusal) → Performs call g claims reply new → claim_refusal claims ≡ Some refusal → (reply ≡ Refused refusal) × (new.frames ≡ g.frames)
+performs_refused (Init wanted) g claims reply new refusal s r = supplies_refused (lacking g) g claims reply new (λ m. Negotiates (feature_refusal wanted) wanted m reply new) refusal s r
+performs_refused (Write page offset bytes) g claims reply new refusal s r = supplies_refused (pages_needed page bytes g) g claims reply new (λ m. Written page offset bytes m reply new) refusal s r
+performs_refused (Scribble page offset bytes) g claims reply new refusal s r = supplies_refused (pages_needed page bytes g) g claims reply new (λ m. Scribbled m reply new) refusal s r
+performs_refused (SetTarget n) g claims reply new refusal s r = absurd (none_refused claims refusal s.0 r)
+performs_refused Reset g claims reply new refusal s r = absurd (none_refused claims refusal s.0 r)
+performs_refused (Alloc cpu order) g claims reply new refusal s r = absurd (none_refused claims refusal s.0 r)
+performs_refused (Free cpu start order) g claims reply new refusal s r = absurd (none_refused claims refusal s.0 r)
+performs_refused (Read page offset len) g claims reply new refusal s r = absurd (none_refused claims refusal s.0 r)
+performs_refused (Inflate n) g claims reply new refusal s r = absurd (none_refused claims refusal s.0 r)
+performs_refused (Deflate n) g claims reply new refusal s r = absurd (none_refused claims refusal s.0 r)
+performs_refused (Oom n) g claims reply new refusal s r = absurd (none_refused claims refusal s.0 r)
+performs_refused (Report from) g claims reply new refusal s r = absurd (none_refused claims refusal s.0 r)
+performs_refused Stats g claims reply new refusal s r = absurd (none_refused claims refusal s.0 r)
+performs_refused (Reap q) g claims reply new refusal s r = absurd (none_refused claims refusal s.0 r)
+performs_refused (Take q) g claims reply new refusal s r = absurd (none_refused claims refusal s.0 r)
+performs_refused Work g claims reply new refusal s r = absurd (none_refused claims refusal s.0 r)
+performs_refused (Finish q i) g claims reply new refusal s r = absurd (none_refused claims refusal s.0 r)
+performs_refused (Sweep page) g claims reply new refusal s r = absurd (none_refused claims refusal s.0 r)
+performs_refused Ask g claims reply new refusal s r = absurd (none_refused claims refusal s.0 r)
+
+pub refused_claims : RefusedClaimsAreAnswered
+refused_claims g call claims reply new refusal s r = cases g.rogue s
+  where
+    answered : (x : Refusal) → x ≡ refusal → (reply ≡ Refused x) × (new.frames ≡ g.frames) → (reply ≡ Refused refusal) × (new.frames ≡ g.frames)
+    answered x e k = (k.0 ∙ ap Refused e, k.1)
+
+    cases : (b : Bool) → MatchBool b (RogueStep g call claims reply new) (HonestStep g call claims reply new) → (reply ≡ Refused refusal) × (new.frames ≡ g.frames)
+    cases true k =
+        elim (match_cases (claim_refusal claims) (LosesFrames (all_backed k.pages (given claims) g.frames) new.frames) (λ refusal. (reply ≡ Refused refusal) × (new.frames ≡ g.frames)) k.frames) [
+          | inl m ↦ absurd (let none : claim_refusal claims ≡ None = m.0 in cc)
+          | inr m ↦ answered m.0 (let same : m.0 ≡ refusal = cc in same) m.2
+        ]
+    cases false p =
+        elim (match_cases (refusal_of g call) (Performs call g claims reply new) (λ refusal. (claims ≡ []) × (reply ≡ Refused refusal) × (new ≡ g)) p) [
+          | inl d ↦ performs_refused call g claims reply new refusal d.1 r
+          | inr k ↦ absurd (none_refused claims refusal k.2.0 r)
+        ]
+
+-- ---- the pages that get frames had none
+
+bare_page : (o : Option ℕ) → is_none o ≡ true → o ≡ None
+bare_page None e = refl
+bare_page (Some x) e = absurd cc
+
+lacking_bare : (g : Guest) (page : ℕ) → is_in page (lacking g) ≡ true → frame_of g.frames page ≡ None
+lacking_bare g page k = bare_page (frame_of g.frames page) (list_all-at (λ p. is_none (frame_of g.frames p)) (lacking g) page (all_filtered (λ p. is_none (frame_of g.frames p)) (range_with_len 0 13)) k)
+
+needed_bare : (p page : ℕ) (bytes : List ℕ) (g : Guest) → is_in page (pages_needed p bytes g) ≡ true → frame_of g.frames page ≡ None
+needed_bare p page [] g k = absurd cc
+needed_bare p page (b ∷ bytes) g k = step (is_none (frame_of g.frames p)) refl k
+  where
+    step : (v : Bool) → is_none (frame_of g.frames p) ≡ v → is_in page (cond v (p ∷ []) []) ≡ true → frame_of g.frames page ≡ None
+    step false e h = absurd cc
+    step true e h =
+        elim (or_cases (p == page) false h) [
+          | inl t ↦ ap (frame_of g.frames) (sym (eqb-true p page t)) ∙ bare_page (frame_of g.frames p) e
+          | inr f ↦ absurd cc
+        ]
+
+pub needed_pages_bare : NeededPagesAreBare
+needed_pages_bare g (Init wanted) page k = lacking_bare g page k
+needed_pages_bare g (Write p offset bytes) page k = needed_bare p page bytes g k
+needed_pages_bare g (Scribble p offset bytes) page k = needed_bare p page bytes g k
+needed_pages_bare g (SetTarget n) page k = absurd cc
+needed_pages_bare g Reset page k = absurd cc
+needed_pages_bare g (Alloc cpu order) page k = absurd cc
+needed_pages_bare g (Free cpu start order) page k = absurd cc
+needed_pages_bare g (Read p offset len) page k = absurd cc
+needed_pages_bare g (Inflate n) page k = absurd cc
+needed_pages_bare g (Deflate n) page k = absurd cc
+needed_pages_bare g (Oom n) page k = absurd cc
+needed_pages_bare g (Report from) page k = absurd cc
+needed_pages_bare g Stats page k = absurd cc
+needed_pages_bare g (Reap q) page k = absurd cc
+needed_pages_bare g (Take q) page k = absurd cc
+needed_pages_bare g Work page k = absurd cc
+needed_pages_bare g (Finish q i) page k = absurd cc
+needed_pages_bare g (Sweep p) page k = absurd cc
+needed_pages_bare g Ask page k = absurd cc
+
+-- ---- no frame is left
+
+-- the claims that ended without a frame
+want : (frames : ℕ) (Out : ℕ → Type 0) (pages : List ℕ) (claims : List Claim) → Gives frames Out claims → AreClaimsFor pages claims → claim_refusal claims ≡ Some NoFrame → (got : List ℕ) × (length got < length pages) × ((x : ℕ) → x < frames → Out x ⊎ (is_in x got ≡ true))
+want frames Out [] [] gives a r = absurd cc
+want frames Out [] (claim ∷ claims) gives a r = absurd a
+want frames Out (page ∷ pages) [] gives a r = absurd a
+want frames Out (page ∷ pages) (GaveNoMemory ∷ claims) gives a r = absurd cc
+want frames Out (page ∷ pages) (GaveNoFrame ∷ claims) gives a r = ([], omega arith, λ x l. inl (gives.0 x l))
+want frames Out (page ∷ pages) (Gave f ∷ claims) gives a r =
+    let more = want frames (λ x. Out x ⊎ (x ≡ f)) pages claims gives.3 a r in
+    let fewer : length more.0 < length pages = more.1 in
+    (f ∷ more.0, omega arith, λ x l. later x more.0 (more.2 x l))
+  where
+    later : (x : ℕ) (got : List ℕ) → (Out x ⊎ (x ≡ f)) ⊎ (is_in x got ≡ true) → Out x ⊎ ((f == x || is_in x got) ≡ true)
+    later x got (inl (inl o)) = inl o
+    later x got (inl (inr e)) = inr (or_first (f == x) (is_in x got) (eq-eqb f x (sym e)))
+    later x got (inr k) = inr (or_later (f == x) (is_in x got) k)
+
+-- a reply that is no refusal for want of a frame
+abbrev is_no_frame : Refusal → Bool
+is_no_frame NoFrame = true
+is_no_frame _ = false
+
+abbrev wants_frame : Reply → Bool
+wants_frame (Refused refusal) = is_no_frame refusal
+wants_frame _ = false
+
+abbrev none_wants : List Test → Bool
+none_wants ts = list_all (λ t. not (is_no_frame t.refusal)) ts
+
+refused_otherwise : (ts : List Test) (refusal : Refusal) → none_wants ts ≡ true → first_refusal ts ≡ Some refusal → is_no_frame refusal ≡ false
+refused_otherwise [] refusal h e = absurd cc
+refused_otherwise (t ∷ ts) refusal h e = step t.holds e (refused_otherwise ts refusal)
+  where
+    step : (v : Bool) → cond v (Some t.refusal) (first_refusal ts) ≡ Some refusal → (none_wants ts ≡ true → first_refusal ts ≡ Some refusal → is_no_frame refusal ≡ false) → is_no_frame refusal ≡ false
+    step true e ih =
+        let same : t.refusal ≡ refusal = cc in
+        ap is_no_frame (sym same) ∙ not-true _ (and_parts (not (is_no_frame t.refusal)) (none_wants ts) h).0
+    step false e ih = ih (and_parts (not (is_no_frame t.refusal)) (none_wants ts) h).1 e
+
+tests_otherwise : (g : Guest) (call : Call) → none_wants (tests g call) ≡ true
+tests_otherwise g (Init wanted) = refl
+tests_otherwise g Reset = refl
+tests_otherwise g (Alloc cpu order) = refl
+tests_otherwise g (Free cpu start order) = refl
+tests_otherwise g (Read page offset len) = refl
+tests_otherwise g (Write page offset bytes) = refl
+tests_otherwise g (Scribble page offset bytes) = refl
+tests_otherwise g (Inflate n) = refl
+tests_otherwise g (Deflate n) = refl
+tests_otherwise g (Oom n) = refl
+tests_otherwise g (Report from) = refl
+tests_otherwise g Stats = refl
+tests_otherwise g (Reap q) = refl
+tests_otherwise g (Take q) = refl
+tests_otherwise g Work = refl
+tests_otherwise g (Finish q i) = refl
+tests_otherwise g (Sweep page) = refl
+tests_otherwise g Ask = refl
+tests_otherwise g (SetTarget n) = refl
+
+fills_otherwise : (buffer : Buffer) (g : Guest) (reply : Reply) (new : Guest) → Fills buffer g reply new → wants_frame reply ≡ false
+fills_otherwise NoBuffer g reply new s = ap wants_frame s.0
+fills_otherwise (BufferPosted f) g reply new s = ap wants_frame s.0
+fills_otherwise (BufferTaken f) g reply new s = ap wants_frame s.0
+fills_otherwise (BufferDone f) g reply new s = ap wants_frame s.0
+
+takes_buffer_otherwise : (buffer : Buffer) (g : Guest) (reply : Reply) (new : Guest) → TakesBuffer buffer g reply new → wants_frame reply ≡ false
+takes_buffer_otherwise NoBuffer g reply new s = ap wants_frame s.0
+takes_buffer_otherwise (BufferPosted f) g reply new s = ap wants_frame s.0
+takes_buffer_otherwise (BufferTaken f) g reply new s = ap wants_frame s.0
+takes_buffer_otherwise (BufferDone f) g reply new s = ap wants_frame s.0
+
+asks_otherwise : (buffer : Buffer) (g : Guest) (reply : Reply) (new : Guest) → Asks buffer g reply new → wants_frame reply ≡ false
+asks_otherwise NoBuffer g reply new s = absurd s
+asks_otherwise (BufferPosted f) g reply new s = absurd s
+asks_otherwise (BufferTaken f) g reply new s = ap wants_frame s.0
+asks_otherwise (BufferDone f) g reply new s = absurd s
+
+reaps_otherwise : (kind : Kind) (done : List Request) (g : Guest) (reply : Reply) (new : Guest) → Reaps kind done g reply new → wants_frame reply ≡ false
+reaps_otherwise kind [] g reply new s = ap wants_frame s.0
+reaps_otherwise kind (r ∷ rest) g reply new s = ap wants_frame s.0
+
+takes_otherwise : (kind : Kind) (posted : List Request) (g : Guest) (reply : Reply) (new : Guest) → Takes kind posted g reply new → wants_frame reply ≡ false
+takes_otherwise kind [] g reply new s = ap wants_frame s.0
+takes_otherwise kind (r ∷ rest) g reply new s = ap wants_frame s.0
+
+negotiates_otherwise : (wanted : ℕ) (o : Option Refusal) (g : Guest) (reply : Reply) (new : Guest) → feature_refusal wanted ≡ o → Negotiates o wanted g reply new → wants_frame reply ≡ false
+negotiates_otherwise wanted None g reply new e s = ap wants_frame s.0
+negotiates_otherwise wanted (Some refusal) g reply new e s = ap wants_frame s.0 ∙ refused_otherwise (feature_tests wanted) refusal refl e
+
+-- the claims that a call for these pages made ended without a frame
+abbrev Lacks : List ℕ → List Claim → Type 0
+Lacks pages claims = AreClaimsFor pages claims × (claim_refusal claims ≡ Some NoFrame)
+
+supplies_lack : (pages : List ℕ) (g : Guest) (claims : List Claim) (reply : Reply) (new : Guest) (Rest : Guest → Type 0) → Supplying pages g claims reply new Rest → ((m : Guest) → Rest m → wants_frame reply ≡ false) → reply ≡ Refused NoFrame → Lacks pages claims
+supplies_lack pages g claims reply new Rest s rest e =
+    elim (match_cases (claim_refusal claims) (Rest (supplied pages claims g)) (λ refusal. (reply ≡ Refused refusal) × (new ≡ g)) s.1) [
+      | inl m ↦ absurd (let a : wants_frame reply ≡ false = rest _ m.1 in let b : wants_frame reply ≡ true = ap wants_frame e in cc)
+      | inr r ↦
+          let told : Refused r.0 ≡ Refused NoFrame = sym r.2.0 ∙ e in
+          let same : r.0 ≡ NoFrame = cc in
+          (s.0, r.1 ∙ ap (λ (x : Refusal). some_refusal x) same)
+    ]
+  where
+    some_refusal : Refusal → Option Refusal
+    some_refusal x = Some x
+
+otherwise : (reply : Reply) → wants_frame reply ≡ false → reply ≡ Refused NoFrame → ⊥
+otherwise reply f e = let t : wants_frame reply ≡ true = ap wants_frame e in cc
+
+performs_lack : (call : Call) (g : Guest) (claims : List Claim) (reply : Reply) (new : Guest) → Performs call g claims reply new → reply ≡ Refused NoFrame → Lacks (may_need call g) claims
+performs_lack (Init wanted) g claims reply new s e = supplies_lack (lacking g) g claims reply new (λ m. Negotiates (feature_refusal wanted) wanted m reply new) s (λ m r. negotiates_otherwise wanted (feature_refusal wanted) m reply new refl r) e
+performs_lack (Write page offset bytes) g claims reply new s e = supplies_lack (pages_needed page bytes g) g claims reply new (λ m. Written page offset bytes m reply new) s (λ m r. ap wants_frame r.0) e
+performs_lack (Scribble page offset bytes) g claims reply new s e = supplies_lack (pages_needed page bytes g) g claims reply new (λ m. Scribbled m reply new) s (λ m r. ap wants_frame r.answered) e
+performs_lack (SetTarget n) g claims reply new s e = absurd (otherwise reply (ap wants_frame s.1) e)
+performs_lack Reset g claims reply new s e = absurd (otherwise reply (ap wants_frame s.1) e)
+performs_lack (Read page offset len) g claims reply new s e = absurd (otherwise reply (elim s.1 [ inl k ↦ ap wants_frame k | inr k ↦ ap wants_frame k ]) e)
+performs_lack (Sweep page) g claims reply new s e = absurd (otherwise reply (ap wants_frame s.1.0) e)
+performs_lack (Alloc cpu order) g claims reply new s e = absurd (otherwise reply (ap wants_frame s.1.2) e)
+performs_lack (Free cpu start order) g claims reply new s e = absurd (otherwise reply (ap wants_frame s.1) e)
+performs_lack (Inflate n) g claims reply new s e = absurd (otherwise reply (ap wants_frame s.1.6) e)
+performs_lack (Deflate n) g claims reply new s e = absurd (otherwise reply (ap wants_frame s.1.2) e)
+performs_lack (Oom n) g claims reply new s e = absurd (otherwise reply (ap wants_frame s.1.2) e)
+performs_lack (Report from) g claims reply new s e = absurd (otherwise reply (ap wants_frame s.1.2) e)
+performs_lack Stats g claims reply new s e = absurd (otherwise reply (fills_otherwise g.buffer g reply new s.1) e)
+performs_lack Ask g claims reply new s e = absurd (otherwise reply (asks_otherwise g.buffer g reply new s.1) e)
+performs_lack (Reap q) g claims reply new s e =
+    elim (match_cases (kind_of_queue q) ⊥ (λ kind. Reaps kind (requests kind g).done g reply new) s.1) [
+      | inl n ↦ absurd n.1
+      | inr k ↦ absurd (otherwise reply (reaps_otherwise k.0 (requests k.0 g).done g reply new k.2) e)
+    ]
+performs_lack (Take q) g claims reply new s e =
+    elim (match_cases (kind_of_queue q) (TakesBuffer g.buffer g reply new) (λ kind. Takes kind (requests kind g).posted g reply new) s.1) [
+      | inl n ↦ absurd (otherwise reply (takes_buffer_otherwise g.buffer g reply new n.1) e)
+      | inr k ↦ absurd (otherwise reply (takes_otherwise k.0 (requests k.0 g).posted g reply new k.2) e)
+    ]
+performs_lack Work g claims reply new s e =
+    elim (works_cases (cond g.config.paced (next_page g.inflate.taken) None) (cond g.config.paced (next_page g.report.taken) None) g reply new s.1) [
+      | inl i ↦ absurd (otherwise reply (ap wants_frame i.0) e)
+      | inr v ↦ absurd (otherwise reply (ap wants_frame v.2.0) e)
+    ]
+performs_lack (Finish q i) g claims reply new s e =
+    elim (match_cases (kind_of_queue q) ⊥ (λ kind. Finishes kind i g reply new) s.1) [
+      | inl n ↦ absurd n.1
+      | inr k ↦ absurd (otherwise reply (ap wants_frame k.2.2) e)
+    ]
+
+step_lacks : (g : Guest) (call : Call) (claims : List Claim) (new : Guest) → GuestStep g call claims (Refused NoFrame) new → Lacks (may_need call g) claims
+step_lacks g call claims new s = cases g.rogue s
+  where
+    rogue : (pages : List ℕ) → (pages ≡ []) ⊎ (pages ≡ may_need call g) → AreClaimsFor pages claims → claim_refusal claims ≡ Some NoFrame → Lacks (may_need call g) claims
+    rogue pages (inl e) a r = absurd (let none : claim_refusal claims ≡ None = ap claim_refusal (no_claims pages claims e a) in cc)
+    rogue pages (inr e) a r = (subst (λ (ps : List ℕ). AreClaimsFor ps claims) e a, r)
+
+    cases : (b : Bool) → MatchBool b (RogueStep g call claims (Refused NoFrame) new) (HonestStep g call claims (Refused NoFrame) new) → Lacks (may_need call g) claims
+    cases true r = rogue r.pages r.needed r.claimed (r.no_frame refl)
+    cases false p =
+        elim (match_cases (refusal_of g call) (Performs call g claims (Refused NoFrame) new) (λ refusal. (claims ≡ []) × (Refused NoFrame ≡ Refused refusal) × (new ≡ g)) p) [
+          | inl d ↦ performs_lack call g claims (Refused NoFrame) new d.1 refl
+          | inr r ↦ absurd (let told : Refused NoFrame ≡ Refused r.0 = r.2.1 in let f : is_no_frame r.0 ≡ false = refused_otherwise (tests g call) r.0 (tests_otherwise g call) r.1 in let t : wants_frame (Refused NoFrame) ≡ false = ap wants_frame told ∙ f in cc)
+        ]
+
+pub no_frame_exact : NoFrameIsExact
+no_frame_exact w v n call g here s =
+    elim (match_cases (first_refusal (world_tests w (OnGuest n call))) (Happens (OnGuest n call) w (Refused NoFrame) v) (λ refusal. (Refused NoFrame ≡ Refused refusal) × (v ≡ w)) s) [
+      | inr r ↦ absurd (let told : Refused NoFrame ≡ Refused r.0 = r.2.0 in let f : is_no_frame r.0 ≡ false = refused_otherwise (world_tests w (OnGuest n call)) r.0 refl r.1 in let t : wants_frame (Refused NoFrame) ≡ false = ap wants_frame told ∙ f in cc)
+      | inl p ↦
+          elim (match_cases (guest_at w.guests n) ⊥ (λ g. Calls n g w (OnGuest n call) (Refused NoFrame) v) p.1) [
+            | inl none ↦ absurd none.1
+            | inr k ↦
+                let same : k.0 ≡ g = same_some k.0 g (sym k.1 ∙ here) in
+                let l = step_lacks k.0 call k.2.0 k.2.1 k.2.3 in
+                let wanted = want w.frames (IsOut w) (may_need call k.0) k.2.0 k.2.2 l.0 l.1 in
+                subst (λ (x : Guest). WantOfFrames w (may_need call x)) same (record { claimed = wanted.0; fewer = wanted.1; all_out = wanted.2 })
+          ]
+    ]

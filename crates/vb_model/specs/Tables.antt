@@ -1,0 +1,180 @@
+-- How many pages the driver's calls move, and what each call is refused for, in the order in which it is tested (profile).
+-- Both stand here once, over plain values; a guest, a driver and a device each put in their own.
+use Rattle.std.specs.Prelude.{ℕ, ◌+◌, ◌-◌, Bool, false, not, ◌==◌, ◌&&◌, ◌||◌, nat_lt, nat_le, List, [], ◌∷◌, length, if◌then◌else◌, Option, Some, None, is_some, is_none, min, max, count_by, take}
+use Rattle.std.specs.List.{list_any, range_with_len}
+use Rattle.vb_model.specs.declared.layout.TheConstants.{DEFLATE_QUEUE, STATISTICS_QUEUE, REPORT_QUEUE}
+use Rattle.vb_model.specs.declared.places.Place.{Place}
+use Rattle.vb_model.specs.declared.replies.Refusal.TheVariants.{BadOrder, BadCpu, NoPages, NotHeld, NotReady, NeedsReset, QueueFull, Nothing, NoFeature, NoQueue, Busy, NotTaken, NotWorked, NotBallooned}
+use Rattle.vb_model.specs.Limits.{max_order, max_outstanding, max_request_pages}
+use Rattle.vb_model.specs.Tests.{pages_where}
+use Rattle.vb_model.specs.Pages.{Block, block_at, is_free, is_giving, is_lent, is_stranded, is_wholly_free, is_same_block}
+use Rattle.vb_model.specs.Requests.{Request, kind_of_queue}
+use Rattle.vb_model.specs.Guest.{stats_vq, reporting}
+use Rattle.vb_model.specs.Brought.{is_queue_brought}
+use Rattle.vb_model.specs.FirstRefusal.{Test, ◌⇒◌}
+use Rattle.vb_model.specs.Status.{contains, driver_ok, needs_reset, failed, is_broken}
+
+-- ---- the numbers of pages that the driver's calls move, at most `n` and at most those of a request
+
+-- an inflate offers the stranded pages, and others up to the target
+abbrev pub pages_to_offer : List Place → ℕ → ℕ → ℕ
+pages_to_offer places target n =
+    let stranded : ℕ = count_by is_stranded places in
+    let missing : ℕ = target - count_by is_lent places - count_by is_giving places in
+    min (min n max_request_pages) (min (max stranded missing) (stranded + count_by is_free places))
+
+-- a deflate asks back what is above the target
+abbrev pub pages_to_ask : List Place → ℕ → ℕ → ℕ
+pages_to_ask places target n =
+    let lent : ℕ = count_by is_lent places in
+    min (min n max_request_pages) (min lent (lent + count_by is_giving places - target))
+
+-- and where memory is short any lent page
+abbrev pub pages_when_short : List Place → ℕ → ℕ
+pages_when_short places n = min (min n max_request_pages) (count_by is_lent places)
+
+-- the lowest pages of a kind
+abbrev pub first_stranded : List Place → ℕ → List ℕ
+first_stranded places count = take count (pages_where is_stranded places)
+
+abbrev pub first_lent : List Place → ℕ → List ℕ
+first_lent places count = take count (pages_where is_lent places)
+
+-- how many requests of queue 0 or 1, or blocks of a report, there may be at this queue size
+abbrev pub most_requests : ℕ → ℕ
+most_requests queue_size = min queue_size max_outstanding
+
+-- ---- the status: VIRTIO 1.1, 2.1
+
+-- the device is initialised, and neither it nor its driver has failed
+abbrev pub is_up : ℕ → Bool
+is_up status = contains status driver_ok && not (is_broken status)
+
+-- the driver isn't done with the initialisation, or has given up
+abbrev pub is_not_ready : ℕ → Bool
+is_not_ready status = not (contains status driver_ok) || contains status failed
+
+-- the device met a broken rule
+abbrev pub has_fault : ℕ → Bool
+has_fault status = contains status needs_reset
+
+-- ---- queues
+
+abbrev pub is_queue_of_requests : ℕ → Bool
+is_queue_of_requests q = is_some (kind_of_queue q) && is_queue_brought q
+
+-- a chain can be taken from a queue of this number
+abbrev pub has_chains : ℕ → Bool
+has_chains q = is_queue_of_requests q || ((q == STATISTICS_QUEUE) && is_queue_brought q)
+
+-- the queue stands or falls with a feature that wasn't negotiated
+abbrev pub lacks_feature : ℕ → ℕ → Bool
+lacks_feature features q = (q == STATISTICS_QUEUE) && not (stats_vq features) || (q == REPORT_QUEUE) && not (reporting features)
+
+-- of a queue so many chains may be taken at a time
+abbrev pub most_taken : ℕ → ℕ
+most_taken q = if q == STATISTICS_QUEUE then 1 else max_outstanding
+
+abbrev pub has_unvisited : Option Request → Bool
+has_unvisited None = false
+has_unvisited (Some r) = nat_lt r.visited (length r.pages)
+
+-- ---- pages of the guest's own (Gorman, chapter 6)
+
+-- no block of the order is wholly free
+abbrev pub no_block_free : List Place → ℕ → ℕ → Bool
+no_block_free places pages order = not (list_any (λ start. is_wholly_free places (block_at start order)) (range_with_len 0 pages))
+
+abbrev pub is_among : Block → List Block → Bool
+is_among b held = list_any (λ h. is_same_block h b) held
+
+abbrev pub alloc_tests : List Place → ℕ → ℕ → ℕ → ℕ → List Test
+alloc_tests places pages processors cpu order =
+    (nat_lt max_order order ⇒ BadOrder)
+    ∷ (nat_le processors cpu ⇒ BadCpu)
+    ∷ (no_block_free places pages order ⇒ NoPages)
+    ∷ []
+
+abbrev pub free_tests : List Block → ℕ → ℕ → Block → List Test
+free_tests held processors cpu b =
+    (nat_lt max_order b.order ⇒ BadOrder)
+    ∷ (nat_le processors cpu ⇒ BadCpu)
+    ∷ (not (is_among b held) ⇒ NotHeld)
+    ∷ []
+
+-- ---- the driver's requests: how many are outstanding, how many may be, and how many pages or blocks a new one would name
+
+abbrev pub request_tests : ℕ → ℕ → ℕ → List Test
+request_tests outstanding most count =
+    (nat_le most outstanding ⇒ QueueFull)
+    ∷ ((count == 0) ⇒ Nothing)
+    ∷ []
+
+-- inflate and deflate
+abbrev pub asking_tests : ℕ → ℕ → ℕ → ℕ → List Test
+asking_tests status outstanding most count = (not (is_up status) ⇒ NotReady) ∷ request_tests outstanding most count
+
+-- oom and report, which stand or fall with a feature
+abbrev pub featured_tests : ℕ → Bool → ℕ → ℕ → ℕ → List Test
+featured_tests status accepted outstanding most count =
+    (not (is_up status) ⇒ NotReady)
+    ∷ (not accepted ⇒ NoFeature)
+    ∷ request_tests outstanding most count
+
+-- of a reap, before the used ring is read
+abbrev pub reap_tests : ℕ → ℕ → ℕ → List Test
+reap_tests q status features =
+    (not (is_queue_of_requests q) ⇒ NoQueue)
+    ∷ (not (is_up status) ⇒ NotReady)
+    ∷ (lacks_feature features q ⇒ NoFeature)
+    ∷ []
+
+-- of a new fill of the statistics buffer, before the used ring is read
+abbrev pub stats_tests : ℕ → ℕ → List Test
+stats_tests status features =
+    (not (is_up status) ⇒ NotReady)
+    ∷ (not (stats_vq features) ⇒ NoFeature)
+    ∷ []
+
+-- ---- the device's calls
+
+-- of a take, before guest memory is read, where so many chains of the queue are taken
+abbrev pub take_tests : ℕ → ℕ → ℕ → ℕ → List Test
+take_tests q status features taken =
+    (not (has_chains q) ⇒ NoQueue)
+    ∷ (is_not_ready status ⇒ NotReady)
+    ∷ (has_fault status ⇒ NeedsReset)
+    ∷ (lacks_feature features q ⇒ NoQueue)
+    ∷ (nat_le (most_taken q) taken ⇒ Busy)
+    ∷ []
+
+abbrev pub work_tests : ℕ → List Test
+work_tests status =
+    (is_not_ready status ⇒ NotReady)
+    ∷ (has_fault status ⇒ NeedsReset)
+    ∷ []
+
+-- of a finish of this taken request, if there is one
+abbrev pub finish_tests : ℕ → ℕ → Bool → Option Request → List Test
+finish_tests q status paced taken =
+    (not (is_queue_of_requests q) ⇒ NoQueue)
+    ∷ (is_not_ready status ⇒ NotReady)
+    ∷ (has_fault status ⇒ NeedsReset)
+    ∷ (is_none taken ⇒ NotTaken)
+    ∷ ((paced && not (q == DEFLATE_QUEUE) && has_unvisited taken) ⇒ NotWorked)
+    ∷ []
+
+abbrev pub sweep_tests : ℕ → Bool → List Test
+sweep_tests status ballooned =
+    (is_not_ready status ⇒ NotReady)
+    ∷ (has_fault status ⇒ NeedsReset)
+    ∷ (not ballooned ⇒ NotBallooned)
+    ∷ []
+
+-- of the return of the statistics buffer, which is taken or isn't
+abbrev pub ask_tests : ℕ → Bool → List Test
+ask_tests status taken =
+    (is_not_ready status ⇒ NotReady)
+    ∷ (has_fault status ⇒ NeedsReset)
+    ∷ (not taken ⇒ NotTaken)
+    ∷ []
