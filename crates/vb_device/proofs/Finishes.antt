@@ -11,7 +11,8 @@ use Rattle.vb_ring.specs.declared.layout.Layout.{Layout}
 use Rattle.vb_ring.specs.Layout.{layout_of, IsBacked}
 use Rattle.vb_ring.specs.Ends.{DeviceEnd}
 use Rattle.vb_ring.specs.Calls.{AddsUsedBy}
-use Rattle.vb_device.specs.Conditions.{is_not_ready, has_fault, finish_refusal, taken_at}
+use Rattle.vb_model.specs.Tables.{is_not_ready, has_fault}
+use Rattle.vb_device.specs.Conditions.{finish_refusal, taken_at}
 use Rattle.vb_device.specs.Queues.{queue_end}
 use Rattle.vb_device.specs.QueueState.{QueueState}
 use Rattle.vb_device.specs.Discards.{discarded, frames_behind}

@@ -6,12 +6,13 @@ use Rattle.vb_model.specs.declared.replies.Refusal.{Refusal}
 use Rattle.vb_model.specs.declared.replies.Refusal.TheVariants.{NoQueue, NotReady, NeedsReset, Busy, Broken}
 use Rattle.vb_model.specs.Requests.{kind_of_queue}
 use Rattle.vb_model.specs.Status.{needs_reset}
-use Rattle.vb_model.specs.Refusals.{is_there_yet, is_queue_of_requests}
+use Rattle.vb_model.specs.Tables.{is_queue_of_requests, has_chains, is_not_ready, has_fault}
+use Rattle.vb_model.proofs.Queues.{no_requests_at, no_chains_at}
 use Rattle.vb_ram.specs.Pages.{Page, Pages}
 use Rattle.vb_ram.specs.Part.{Part}
 use Rattle.vb_chain.specs.declared.ChainFault.{ChainFault}
 use Rattle.vb_chain.specs.declared.Piece.{Piece}
-use Rattle.vb_device.specs.Conditions.{has_chains, is_not_ready, has_fault, take_refusal, finish_refusal}
+use Rattle.vb_device.specs.Conditions.{take_refusal, finish_refusal}
 use Rattle.vb_device.specs.Queues.{next_head}
 use Rattle.vb_device.specs.Faults.{Breaks, rule_of, needing_reset}
 use Rattle.vb_device.specs.Request.{page_request}
@@ -30,19 +31,6 @@ use Rattle.vb_device.specs.Calls.{HasChain, HasFault, taking, TakeMeans, TakesBy
 
 -- ---- refusals
 
-and_false : (b : Bool) → (b && false) ≡ false
-and_false true = refl
-and_false false = refl
-
-not_there : (q : ℕ) → 2 ≤ q → is_there_yet q ≡ false
-not_there q h = le-ltb q 2 h
-
-no_requests : (q : ℕ) → 2 ≤ q → is_queue_of_requests q ≡ false
-no_requests q h = ap (λ b. is_some (kind_of_queue q) && b) (not_there q h) ∙ and_false (is_some (kind_of_queue q))
-
-no_chains : (q : ℕ) → 2 ≤ q → has_chains q ≡ false
-no_chains q h = ap (λ b. b || ((q == 2) && is_there_yet q)) (no_requests q h) ∙ (ap (λ b. (q == 2) && b) (not_there q h) ∙ and_false (q == 2))
-
 same_some : (o : Option Refusal) (x y : Refusal) → o ≡ Some x → o ≡ Some y → x ≡ y
 same_some o x y a b = cc
 
@@ -53,10 +41,10 @@ first_no : (b : Bool) (rest : Option Refusal) → b ≡ false → (if not b then
 first_no b rest e = ap (λ v. if not v then Some NoQueue else rest) e
 
 pub take_no_queue : (q : ℕ) (part : Part) → 2 ≤ q → take_refusal q part ≡ Some NoQueue
-take_no_queue q part h = first_no (has_chains q) _ (no_chains q h)
+take_no_queue q part h = first_no (has_chains q) _ (no_chains_at q h)
 
 pub finish_no_queue : (q index : ℕ) (part : Part) → 2 ≤ q → finish_refusal q index part ≡ Some NoQueue
-finish_no_queue q index part h = first_no (is_queue_of_requests q) _ (no_requests q h)
+finish_no_queue q index part h = first_no (is_queue_of_requests q) _ (no_requests_at q h)
 
 -- a take that is refused by the table
 pub refused_take : (q : ℕ) (mem : Pages) (part : Part) (why : Refusal) → take_refusal q part ≡ Some why → TakeMeans q mem part part (Err why) → TakesBy q mem mem part part (Err why)

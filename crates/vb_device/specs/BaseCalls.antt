@@ -4,14 +4,16 @@ use Rattle.vb_model.specs.declared.replies.Refusal.{Refusal}
 use Rattle.vb_model.specs.declared.replies.Refusal.TheVariants.{NotReady, NeedsReset, Busy, Broken}
 use Rattle.vb_model.specs.Status.{needs_reset}
 use Rattle.vb_model.specs.Requests.{Request}
-use Rattle.vb_model.specs.Refusals.{◌⇒◌, first_refusal}
+pub use Rattle.vb_model.specs.FirstRefusal.{refusal_in}
+use Rattle.vb_model.specs.FirstRefusal.{first_refusal}
+use Rattle.vb_model.specs.Tables.{work_tests}
 use Rattle.vb_ram.specs.Pages.{Pages}
 use Rattle.vb_ram.specs.Part.{Part}
 use Rattle.vb_chain.specs.declared.ChainFault.{ChainFault}
 use Rattle.vb_chain.specs.declared.Piece.{Piece}
 use Rattle.vb_ring.specs.Calls.{AddsUsedBy}
 use Rattle.vb_device.specs.Queues.{queue_end}
-use Rattle.vb_device.specs.Conditions.{is_not_ready, has_fault, finish_refusal, taken_at}
+use Rattle.vb_device.specs.Conditions.{finish_refusal, taken_at}
 use Rattle.vb_device.specs.Faults.{rule_of}
 use Rattle.vb_device.specs.Request.{page_request}
 use Rattle.vb_device.specs.QueueState.{QueueState, with_request, next_of, Gives, Faults}
@@ -19,11 +21,7 @@ use Rattle.vb_device.specs.Calls.{settled, using, without_frames}
 
 -- Why the status alone refuses a call, where it does.
 abbrev pub status_refusal : ℕ → Option Refusal
-status_refusal status = first_refusal ((is_not_ready status ⇒ NotReady) ∷ (has_fault status ⇒ NeedsReset) ∷ [])
-
-abbrev pub refusal_in : {T : Type 0} → Result T Refusal → Option Refusal
-refusal_in (Ok x) = None
-refusal_in (Err why) = Some why
+status_refusal status = first_refusal (work_tests status)
 
 -- A fault of this queue: the status needs a reset, and the queue is as before.
 pub record BreaksAt (fault : ChainFault) (q1 q2 : QueueState) (s1 s2 : ℕ) (result : Result (Option ℕ) Refusal) : Type 0 where

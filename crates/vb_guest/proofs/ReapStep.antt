@@ -13,7 +13,9 @@ use Rattle.vb_model.specs.Pages.{placed, is_lent_or_taking}
 use Rattle.vb_model.specs.Requests.{Request, Requests, outstanding, headed, Inflating, Deflating}
 use Rattle.vb_model.specs.Guest.{Guest}
 use Rattle.vb_model.specs.Driver.{reaped, Reaps}
-use Rattle.vb_model.specs.Refusals.{◌⇒◌, first_refusal, tests, refusal_of, is_queue_of_requests}
+use Rattle.vb_model.specs.FirstRefusal.{◌⇒◌, first_refusal}
+use Rattle.vb_model.specs.Tables.{is_queue_of_requests}
+use Rattle.vb_model.specs.Refusals.{tests, refusal_of}
 use Rattle.vb_ram.specs.Pages.{Pages}
 use Rattle.vb_ram.specs.Part.{Part, QueuePart}
 use Rattle.vb_ring.specs.declared.driver.RingBroken.{RingBroken as Broken}

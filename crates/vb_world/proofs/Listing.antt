@@ -7,13 +7,14 @@ use Rattle.vb_ram.specs.declared.config.Config.{Config}
 use Rattle.vb_ram.specs.Pages.{Pages}
 use Rattle.vb_ram.specs.Part.{Part, QueuePart}
 use Rattle.vb_model.specs.Requests.{Request}
-use Rattle.vb_model.specs.Refusals.{◌⇒◌, first_refusal, is_queue_of_requests, has_unvisited}
+use Rattle.vb_model.specs.FirstRefusal.{◌⇒◌, first_refusal}
+use Rattle.vb_model.specs.Tables.{is_queue_of_requests, has_unvisited, is_not_ready, has_fault}
 use Rattle.vb_model.specs.declared.layout.TheConstants.{DEFLATE_QUEUE}
 use Rattle.vb_model.specs.declared.replies.Refusal.TheVariants.{NoQueue, NotReady, NeedsReset, NotTaken, NotWorked}
 use Rattle.vb_device.specs.Discards.{flagged}
 use Rattle.vb_device.proofs.Marks.{flagged-length}
 use Rattle.vb_device.specs.Calls.{attached, using, SweepsBy, FinishesBy, Uses}
-use Rattle.vb_device.specs.Conditions.{sweep_refusal, finish_refusal, taken_at, is_not_ready, has_fault}
+use Rattle.vb_device.specs.Conditions.{sweep_refusal, finish_refusal, taken_at}
 use Rattle.vb_model.specs.declared.replies.Refusal.{Refusal}
 use Rattle.vb_model.specs.Tests.{is_in, pages_from, pages_where}
 use Rattle.vb_model.proofs.Tables.{pages_where-passes, count_by-cons}
