@@ -61,9 +61,8 @@ by_result m p g si sd d2 cpu order (Ok start) did stands =
     } in
     steps_alone m m p p (driver_of g si sd) d2 g (Alloc cpu order) (Page start) new stands step (subst (λ d. Ties m p d new) (sym did.state) there) refl
 
-pub alloc_step : (m : Pages) (p : Part) (d1 d2 : DriverState) (g : Guest) (cpu order : ℕ) (result : Result ℕ Refusal) (reply : Reply) → reply ≡ page_reply result
-    → AllocatesBy d1 d2 cpu order result → Stands m p d1 g → StepsAlone (Stands m p d2) g (Alloc cpu order) reply
-alloc_step m p d1 d2 g cpu order result reply replied did stands =
+pub alloc_step : (m : Pages) (p : Part) (d1 d2 : DriverState) (g : Guest) (cpu order : ℕ) (result : Result ℕ Refusal)
+    → AllocatesBy d1 d2 cpu order result → Stands m p d1 g → StepsAlone (Stands m p d2) g (Alloc cpu order) (page_reply result)
+alloc_step m p d1 d2 g cpu order result did stands =
     let is = driver_is p d1 g stands.ties.parts in
-    subst (λ r. StepsAlone (Stands m p d2) g (Alloc cpu order) r) (sym replied)
-    (by_result m p g d1.inflate d1.deflate d2 cpu order result (subst (λ d. AllocatesBy d d2 cpu order result) is did) (subst (λ d. Stands m p d g) is stands))
+    by_result m p g d1.inflate d1.deflate d2 cpu order result (subst (λ d. AllocatesBy d d2 cpu order result) is did) (subst (λ d. Stands m p d g) is stands)

@@ -169,9 +169,9 @@ deflate_asks g n = record {
   performs = λ reply new does. (refl, does);
 }
 
-pub deflate_step : (m1 m2 : Pages) (p1 p2 : Part) (d1 d2 : DriverState) (g : Guest) (n : ℕ) (result : Result PostedRequest Refusal) (reply : Reply) → reply ≡ posted_reply result
-    → DeflatesBy m1 m2 p1 p2 d1 d2 n result → Stands m1 p1 d1 g → StepsAlone (Stands m2 p2 d2) g (Deflate n) reply
-deflate_step m1 m2 p1 p2 d1 d2 g n result reply replied did stands =
+pub deflate_step : (m1 m2 : Pages) (p1 p2 : Part) (d1 d2 : DriverState) (g : Guest) (n : ℕ) (result : Result PostedRequest Refusal)
+    → DeflatesBy m1 m2 p1 p2 d1 d2 n result → Stands m1 p1 d1 g → StepsAlone (Stands m2 p2 d2) g (Deflate n) (posted_reply result)
+deflate_step m1 m2 p1 p2 d1 d2 g n result did stands =
     let is = driver_is p1 d1 g stands.ties.parts in
     let si = d1.inflate in
     let sd = d1.deflate in
@@ -186,8 +186,7 @@ deflate_step m1 m2 p1 p2 d1 d2 g n result reply replied did stands =
           ∙ ap (λ (k : ℕ). request_refusal (room g) k (deflate_count g n)) (outstanding_are m1 1 g.config.pages sd p1.deflate g.deflate run.deflate) ∙ sym (deflate_running g n run.state)
     ] in
     let A : ℕ → Type 0 = λ t. IfOk result (AsksBack m1 m2 p1 p2 (driver_of g si sd) d2 (driver_count (driver_of g si sd) t n)) in
-    subst (λ r. StepsAlone (Stands m2 p2 d2) g (Deflate n) r) (sym replied)
-    (by_result m1 m2 p1 p2 g si sd d2 (Deflate n) (deflate_count g n) result (deflate_asks g n) at.driver (at.refusal ∙ same) at.refused (subst A here.ties.parts.target at.asks) here)
+    by_result m1 m2 p1 p2 g si sd d2 (Deflate n) (deflate_count g n) result (deflate_asks g n) at.driver (at.refusal ∙ same) at.refused (subst A here.ties.parts.target at.asks) here
 
 -- ---- whatever the target
 
@@ -229,9 +228,9 @@ oom_asks g n = record {
   performs = λ reply new does. (refl, does);
 }
 
-pub oom_step : (m1 m2 : Pages) (p1 p2 : Part) (d1 d2 : DriverState) (g : Guest) (n : ℕ) (result : Result PostedRequest Refusal) (reply : Reply) → reply ≡ posted_reply result
-    → DeflatesOnOomBy m1 m2 p1 p2 d1 d2 n result → Stands m1 p1 d1 g → StepsAlone (Stands m2 p2 d2) g (Oom n) reply
-oom_step m1 m2 p1 p2 d1 d2 g n result reply replied did stands =
+pub oom_step : (m1 m2 : Pages) (p1 p2 : Part) (d1 d2 : DriverState) (g : Guest) (n : ℕ) (result : Result PostedRequest Refusal)
+    → DeflatesOnOomBy m1 m2 p1 p2 d1 d2 n result → Stands m1 p1 d1 g → StepsAlone (Stands m2 p2 d2) g (Oom n) (posted_reply result)
+oom_step m1 m2 p1 p2 d1 d2 g n result did stands =
     let is = driver_is p1 d1 g stands.ties.parts in
     let si = d1.inflate in
     let sd = d1.deflate in
@@ -245,5 +244,4 @@ oom_step m1 m2 p1 p2 d1 d2 g n result reply replied did stands =
           oom_running_tests g si sd p1 n (here.ties.parts.status ∙ run.state)
           ∙ ap (λ (k : ℕ). oom_refusal (deflate_on_oom g.features) (room g) k (oom_count g n)) (outstanding_are m1 1 g.config.pages sd p1.deflate g.deflate run.deflate) ∙ sym (oom_running g n run.state)
     ] in
-    subst (λ r. StepsAlone (Stands m2 p2 d2) g (Oom n) r) (sym replied)
-    (by_result m1 m2 p1 p2 g si sd d2 (Oom n) (oom_count g n) result (oom_asks g n) at.driver (at.refusal ∙ same) at.refused at.asks here)
+    by_result m1 m2 p1 p2 g si sd d2 (Oom n) (oom_count g n) result (oom_asks g n) at.driver (at.refusal ∙ same) at.refused at.asks here

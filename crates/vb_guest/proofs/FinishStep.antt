@@ -35,7 +35,8 @@ use Rattle.vb_guest.proofs.Apart.{line_apart, above_apart}
 use Rattle.vb_guest.proofs.Finishing.{end_of, line_finished}
 use Rattle.vb_guest.proofs.Discarding.{frames_freed}
 use Rattle.vb_guest.proofs.PagesKept.{SamePages, pages_same, pages_discarded, page_undiscarded}
-use Rattle.vb_guest.proofs.Refusing.{queue_cases, finish_no_queue, finish_running, finish_running_part, finish_idle, finish_idle_part, finish_test}
+use Rattle.vb_model.proofs.Queues.{queue_cases}
+use Rattle.vb_guest.proofs.Refusing.{finish_no_queue, finish_running, finish_running_part, finish_idle, finish_idle_part, finish_test}
 use Rattle.vb_guest.proofs.Closing.{honest_refused, honest_performed, still_stands, guest_step, ties_same}
 
 -- once its loose frames are gone

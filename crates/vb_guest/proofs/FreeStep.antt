@@ -61,9 +61,8 @@ by_result m p g si sd d2 cpu start order (Ok done) did stands =
     } in
     steps_alone m m p p (driver_of g si sd) d2 g (Free cpu start order) Done new stands step (subst (λ d. Ties m p d new) (sym did.state) there) refl
 
-pub free_step : (m : Pages) (p : Part) (d1 d2 : DriverState) (g : Guest) (cpu start order : ℕ) (result : Result (Unit {0}) Refusal) (reply : Reply) → reply ≡ done_reply result
-    → FreesBy d1 d2 cpu start order result → Stands m p d1 g → StepsAlone (Stands m p d2) g (Free cpu start order) reply
-free_step m p d1 d2 g cpu start order result reply replied did stands =
+pub free_step : (m : Pages) (p : Part) (d1 d2 : DriverState) (g : Guest) (cpu start order : ℕ) (result : Result (Unit {0}) Refusal)
+    → FreesBy d1 d2 cpu start order result → Stands m p d1 g → StepsAlone (Stands m p d2) g (Free cpu start order) (done_reply result)
+free_step m p d1 d2 g cpu start order result did stands =
     let is = driver_is p d1 g stands.ties.parts in
-    subst (λ r. StepsAlone (Stands m p d2) g (Free cpu start order) r) (sym replied)
-    (by_result m p g d1.inflate d1.deflate d2 cpu start order result (subst (λ d. FreesBy d d2 cpu start order result) is did) (subst (λ d. Stands m p d g) is stands))
+    by_result m p g d1.inflate d1.deflate d2 cpu start order result (subst (λ d. FreesBy d d2 cpu start order result) is did) (subst (λ d. Stands m p d g) is stands)

@@ -79,11 +79,10 @@ finish_own m1 m2 p1 p2 d g q i result did stands = (finish_step m1 m2 p1 p2 d g 
 pub finish_loose : (m1 m2 : Pages) (p1 p2 : Part) (d : DriverState) (g : Guest) (q i : ℕ) (result : Result ℕ Refusal) (out : List Bool) → FinishesBy q i m1 m2 p1 p2 result → Stands m1 p1 d g → AreOut g out → AreLoose p2.loose out
 finish_loose m1 m2 p1 p2 d g q i result out did stands held = freed_loose _ p2.loose g (Finish q i) (finished_reply result) out (finish_step m1 m2 p1 p2 d g q i result did stands) held
 
-pub finish_replied : (Answers : List Bool → Claim → Type 0) (m1 m2 m3 : Pages) (p1 p2 p3 : Part) (d : DriverState) (g : Guest) (q i : ℕ) (result : Result ℕ Refusal) (reply : Reply) (out1 out2 : List Bool)
-    → reply ≡ finished_reply result → FinishesBy q i m1 m2 p1 p2 result → Stands m1 p1 d g → m3 ≡ m2 → p3 ≡ handed_back p2 → Returns p2.loose out1 out2 → length out2 ≡ length out1 → Steps (Stands m3 p3 d) Answers out1 out2 g (Finish q i) reply
-finish_replied Answers m1 m2 m3 p1 p2 p3 d g q i result reply out1 out2 replied did stands memory part back same =
-    subst (λ r. Steps (Stands m3 p3 d) Answers out1 out2 g (Finish q i) r) (sym replied)
-    (steps_freed Answers m2 m3 p2 p3 d g (Finish q i) (finished_reply result) out1 out2 (finish_step m1 m2 p1 p2 d g q i result did stands) memory part back same)
+pub finish_freed : (Answers : List Bool → Claim → Type 0) (m1 m2 m3 : Pages) (p1 p2 p3 : Part) (d : DriverState) (g : Guest) (q i : ℕ) (result : Result ℕ Refusal) (out1 out2 : List Bool)
+    → FinishesBy q i m1 m2 p1 p2 result → Stands m1 p1 d g → m3 ≡ m2 → p3 ≡ handed_back p2 → Returns p2.loose out1 out2 → length out2 ≡ length out1 → Steps (Stands m3 p3 d) Answers out1 out2 g (Finish q i) (finished_reply result)
+finish_freed Answers m1 m2 m3 p1 p2 p3 d g q i result out1 out2 did stands memory part back same =
+    steps_freed Answers m2 m3 p2 p3 d g (Finish q i) (finished_reply result) out1 out2 (finish_step m1 m2 p1 p2 d g q i result did stands) memory part back same
 
 -- a guest has 64 pages at the least
 pub large : (m : Pages) (p : Part) (d : DriverState) (g : Guest) → Stands m p d g → 64 ≤ length m

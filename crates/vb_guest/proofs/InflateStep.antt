@@ -150,9 +150,9 @@ by_result m1 m2 p1 p2 g si sd d2 n (Ok posted) did stands same =
           inflate_offered m1 m2 p1 p2 g si sd d2 n posted did.driver (subst O stands.ties.parts.target did.offers) stands run free room_left.1 room_left.0
     ]
 
-pub inflate_step : (m1 m2 : Pages) (p1 p2 : Part) (d1 d2 : DriverState) (g : Guest) (n : ℕ) (result : Result PostedRequest Refusal) (reply : Reply) → reply ≡ posted_reply result
-    → InflatesBy m1 m2 p1 p2 d1 d2 n result → Stands m1 p1 d1 g → StepsAlone (Stands m2 p2 d2) g (Inflate n) reply
-inflate_step m1 m2 p1 p2 d1 d2 g n result reply replied did stands =
+pub inflate_step : (m1 m2 : Pages) (p1 p2 : Part) (d1 d2 : DriverState) (g : Guest) (n : ℕ) (result : Result PostedRequest Refusal)
+    → InflatesBy m1 m2 p1 p2 d1 d2 n result → Stands m1 p1 d1 g → StepsAlone (Stands m2 p2 d2) g (Inflate n) (posted_reply result)
+inflate_step m1 m2 p1 p2 d1 d2 g n result did stands =
     let is = driver_is p1 d1 g stands.ties.parts in
     let si = d1.inflate in
     let sd = d1.deflate in
@@ -165,8 +165,7 @@ inflate_step m1 m2 p1 p2 d1 d2 g n result reply replied did stands =
           running_tests g si sd p1 n (here.ties.parts.status ∙ run.state) here.ties.parts.target
           ∙ ap (λ (k : ℕ). request_refusal (room g) k (inflate_count g n)) (outstanding_are m1 0 g.config.pages si p1.inflate g.inflate run.inflate) ∙ sym (running_refusal g n run.state)
     ] in
-    subst (λ r. StepsAlone (Stands m2 p2 d2) g (Inflate n) r) (sym replied)
-    (by_result m1 m2 p1 p2 g si sd d2 n result (subst (λ d. InflatesBy m1 m2 p1 p2 d d2 n result) is did) here same)
+    by_result m1 m2 p1 p2 g si sd d2 n result (subst (λ d. InflatesBy m1 m2 p1 p2 d d2 n result) is did) here same
 
 down_not_up : (status : ℕ) → (status ≡ 0) ⊎ (status ≡ 131) → is_up status ≡ true → ⊥
 down_not_up status (inl e) up = let P : ℕ → Type 0 = λ s. is_up s ≡ true in let wrong : false ≡ true = subst P e up in cc

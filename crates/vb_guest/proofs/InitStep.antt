@@ -29,7 +29,8 @@ use Rattle.vb_frames.specs.Out.{is_out}
 use Rattle.vb_guest.specs.Line.{Line}
 use Rattle.vb_guest.specs.Stands.{Stands, Ties, HasParts, HasPages, IsIdle, beside_queues, beside_sides, beside_requests}
 use Rattle.vb_guest.specs.Steps.{Steps, is_frame}
-use Rattle.vb_guest.specs.Lives.{ready_reply, bare_from, AllSupplied, why_unsupplied, SuppliesBy}
+use Rattle.vb_guest.specs.Replies.{ready_reply}
+use Rattle.vb_guest.specs.Lives.{bare_from, AllSupplied, why_unsupplied, SuppliesBy}
 use Rattle.vb_guest.proofs.Closing.{first_holds, honest_performed, guest_step, still_stands, refused_alone, ties_same}
 use Rattle.vb_guest.proofs.Freed.{steps_quiet, large}
 use Rattle.vb_guest.proofs.PagesKept.{pages_same}
@@ -340,10 +341,9 @@ pub still_large : (Answers : List Bool → Claim → Type 0) (out1 out2 : List B
     → 64 ≤ length m2
 still_large Answers out1 out2 m1 m2 p d g stands did = omega (arith, large m1 p d g stands, supplied_count (bare_from m1 0) (given did.claims) m1 m2 did.supplied.0)
 
--- the reply and the features by their names in the code
-pub init_replied : (Answers : List Bool → Claim → Type 0) (out1 out2 : List Bool) (m1 m2 m3 : Pages) (p1 p2 p3 : Part) (d1 d2 : DriverState) (g : Guest) (wanted features : ℕ) (result : Result (Unit {0}) Refusal) (reply : Reply)
-    → features ≡ wanted → reply ≡ ready_reply result → p1.status ≡ 0 → SuppliesBy {T = Unit {0}} Answers out1 out2 (bare_from m1 0) m1 m2 (Ok tt) → p2 ≡ p1 → InitsBy m2 m3 p2 p3 d1 d2 features result → Stands m1 p1 d1 g
-    → Steps (Stands m3 p3 d2) Answers out1 out2 g (Init wanted) reply
-init_replied Answers out1 out2 m1 m2 m3 p1 p2 p3 d1 d2 g wanted features result reply named replied status did part inits stands =
-    subst (λ (r : Reply). Steps (Stands m3 p3 d2) Answers out1 out2 g (Init wanted) r) (sym replied)
-    (init_supplied Answers out1 out2 m1 m2 m3 p1 p2 p3 d1 d2 g wanted result status did part (subst (λ (f : ℕ). InitsBy m2 m3 p2 p3 d1 d2 f result) named inits) stands)
+-- the features by their name in the code
+pub init_named : (Answers : List Bool → Claim → Type 0) (out1 out2 : List Bool) (m1 m2 m3 : Pages) (p1 p2 p3 : Part) (d1 d2 : DriverState) (g : Guest) (wanted features : ℕ) (result : Result (Unit {0}) Refusal)
+    → features ≡ wanted → p1.status ≡ 0 → SuppliesBy {T = Unit {0}} Answers out1 out2 (bare_from m1 0) m1 m2 (Ok tt) → p2 ≡ p1 → InitsBy m2 m3 p2 p3 d1 d2 features result → Stands m1 p1 d1 g
+    → Steps (Stands m3 p3 d2) Answers out1 out2 g (Init wanted) (ready_reply result)
+init_named Answers out1 out2 m1 m2 m3 p1 p2 p3 d1 d2 g wanted features result named status did part inits stands =
+    init_supplied Answers out1 out2 m1 m2 m3 p1 p2 p3 d1 d2 g wanted result status did part (subst (λ (f : ℕ). InitsBy m2 m3 p2 p3 d1 d2 f result) named inits) stands

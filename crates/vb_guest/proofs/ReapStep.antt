@@ -36,7 +36,8 @@ use Rattle.vb_guest.specs.Replies.{reaped_reply}
 use Rattle.vb_guest.proofs.Heads.{length-used, headed-all, headed-cons, get_after, none_after}
 use Rattle.vb_guest.proofs.Posting.{headed_once, outstanding_are}
 use Rattle.vb_guest.proofs.Reaping.{used_next, split_ids, ids_length, line_reaped}
-use Rattle.vb_guest.proofs.Refusing.{queue_cases, no_requests_there}
+use Rattle.vb_model.proofs.Queues.{queue_cases}
+use Rattle.vb_guest.proofs.Refusing.{no_requests_there}
 use Rattle.vb_guest.proofs.Closing.{first_holds, honest_performed, steps_alone, refused_alone, ties_same}
 use Rattle.vb_guest.proofs.Normal.{driver_of, driver_is}
 
@@ -262,9 +263,9 @@ deflate_reap m1 m2 p1 p2 g si sd d2 result did stands =
         let next : next_of got ≡ used_next g.deflate.done = (let e = sym did.next ∙ answer in cc) in
         deflate_reaped m1 m2 p1 p2 g si sd d2 g.deflate.done got refl next did answer stands run free
 
-pub reap_step : (m1 m2 : Pages) (p1 p2 : Part) (d1 d2 : DriverState) (g : Guest) (q : ℕ) (result : Result (Option ReapedRequest) Refusal) (reply : Reply) → reply ≡ reaped_reply result
-    → ReapsBy m1 m2 p1 p2 d1 d2 q result → Stands m1 p1 d1 g → StepsAlone (Stands m2 p2 d2) g (Reap q) reply
-reap_step m1 m2 p1 p2 d1 d2 g q result reply replied did stands =
+pub reap_step : (m1 m2 : Pages) (p1 p2 : Part) (d1 d2 : DriverState) (g : Guest) (q : ℕ) (result : Result (Option ReapedRequest) Refusal)
+    → ReapsBy m1 m2 p1 p2 d1 d2 q result → Stands m1 p1 d1 g → StepsAlone (Stands m2 p2 d2) g (Reap q) (reaped_reply result)
+reap_step m1 m2 p1 p2 d1 d2 g q result did stands =
     let is = driver_is p1 d1 g stands.ties.parts in
     let si = d1.inflate in
     let sd = d1.deflate in
@@ -272,8 +273,7 @@ reap_step m1 m2 p1 p2 d1 d2 g q result reply replied did stands =
     let at : ReapsBy m1 m2 p1 p2 (driver_of g si sd) d2 q result = subst (λ d. ReapsBy m1 m2 p1 p2 d d2 q result) is did in
     let B : ℕ → Type 0 = λ k. ReapsBy m1 m2 p1 p2 (driver_of g si sd) d2 k result in
     let S : ℕ → Type 0 = λ k. StepsAlone (Stands m2 p2 d2) g (Reap k) (reaped_reply result) in
-    subst (λ r. StepsAlone (Stands m2 p2 d2) g (Reap q) r) (sym replied)
-    (elim (queue_cases q) [
+    elim (queue_cases q) [
       | inl first ↦ subst S (sym first) (inflate_reap m1 m2 p1 p2 g si sd d2 result (subst B first at) here)
       | inr other ↦ elim other [
         | inl second ↦ subst S (sym second) (deflate_reap m1 m2 p1 p2 g si sd d2 result (subst B second at) here)
@@ -282,4 +282,4 @@ reap_step m1 m2 p1 p2 d1 d2 g q result reply replied did stands =
             (first_holds (not (nat_lt q 2)) NoQueue (drop 1 (reap_tests m1 p1 (side_of q (driver_of g si sd)) q)) (ap not (le-ltb q 2 none)))
             (first_holds (not (is_queue_of_requests q)) NoQueue (drop 1 (tests g (Reap q))) (no_requests_there q none))
       ]
-    ])
+    ]

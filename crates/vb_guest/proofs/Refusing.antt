@@ -7,43 +7,26 @@ use Rattle.vb_model.specs.declared.replies.Refusal.{Refusal}
 use Rattle.vb_model.specs.declared.replies.Refusal.TheVariants.{NoQueue, NotReady, Busy, NotTaken, NotWorked}
 use Rattle.vb_model.specs.Requests.{Request, kind_of_queue}
 use Rattle.vb_model.specs.Guest.{Guest}
-use Rattle.vb_model.specs.Refusals.{◌⇒◌, first_refusal, tests, refusal_of, is_there_yet, is_queue_of_requests, has_unvisited}
+use Rattle.vb_model.specs.FirstRefusal.{◌⇒◌, first_refusal}
+use Rattle.vb_model.specs.Tables.{has_chains, is_queue_of_requests, has_unvisited, take_tests, finish_tests}
+use Rattle.vb_model.specs.Refusals.{tests, refusal_of}
+use Rattle.vb_model.proofs.Queues.{no_requests_at, no_chains_at}
 use Rattle.vb_ram.specs.Part.{Part}
-use Rattle.vb_device.specs.Conditions.{take_tests, take_refusal, finish_tests, finish_refusal, has_chains}
+use Rattle.vb_device.specs.Conditions.{take_refusal, finish_refusal, taken_at}
+use Rattle.vb_device.specs.Queues.{queue_part}
 use Rattle.vb_guest.proofs.Closing.{first_holds}
 
--- a queue is the first, the second or none that is there
-pub queue_cases : (q : ℕ) → (q ≡ 0) ⊎ ((q ≡ 1) ⊎ (2 ≤ q))
-queue_cases q = elim (cases_eq q 0) [
-  | inl e ↦ inl e
-  | inr ne ↦ elim (cases_eq q 1) [ inl e ↦ inr (inl e) | inr ne' ↦ inr (inr (omega (arith, ne, ne'))) ]
-]
-
-late : (q : ℕ) → 2 ≤ q → is_there_yet q ≡ false
-late q h = le-ltb q 2 h
-
-both_late : (a b : Bool) → ((a && false) || (b && false)) ≡ false
-both_late true true = refl
-both_late true false = refl
-both_late false true = refl
-both_late false false = refl
-
-one_late : (a : Bool) → (a && false) ≡ false
-one_late true = refl
-one_late false = refl
-
 pub no_chains : (q : ℕ) → 2 ≤ q → not (has_chains q) ≡ true
-no_chains q h =
-    ap (λ (t : Bool). not ((is_some (kind_of_queue q) && t) || ((q == 2) && t))) (late q h) ∙ ap not (both_late (is_some (kind_of_queue q)) (q == 2))
+no_chains q h = ap not (no_chains_at q h)
 
 pub no_requests_there : (q : ℕ) → 2 ≤ q → not (is_queue_of_requests q) ≡ true
-no_requests_there q h = ap (λ (t : Bool). not (is_some (kind_of_queue q) && t)) (late q h) ∙ ap not (one_late (is_some (kind_of_queue q)))
+no_requests_there q h = ap not (no_requests_at q h)
 
 -- ---- take
 
 pub take_no_queue : (q : ℕ) (g : Guest) (part : Part) → 2 ≤ q → (take_refusal q part ≡ Some NoQueue) × (refusal_of g (Take q) ≡ Some NoQueue)
 take_no_queue q g part h =
-    (first_holds (not (has_chains q)) NoQueue (drop 1 (take_tests q part)) (no_chains q h), first_holds (not (has_chains q)) NoQueue (drop 1 (tests g (Take q))) (no_chains q h))
+    (first_holds (not (has_chains q)) NoQueue (drop 1 (take_tests q part.status part.features (length (queue_part q part).taken))) (no_chains q h), first_holds (not (has_chains q)) NoQueue (drop 1 (tests g (Take q))) (no_chains q h))
 
 abbrev pub busy_test : List Request → Option Refusal
 busy_test taken = first_refusal ((nat_le 16 (length taken) ⇒ Busy) ∷ [])
@@ -75,7 +58,7 @@ take_idle g down =
 
 pub finish_no_queue : (q i : ℕ) (g : Guest) (part : Part) → 2 ≤ q → (finish_refusal q i part ≡ Some NoQueue) × (refusal_of g (Finish q i) ≡ Some NoQueue)
 finish_no_queue q i g part h =
-    (first_holds (not (is_queue_of_requests q)) NoQueue (drop 1 (finish_tests q i part)) (no_requests_there q h), first_holds (not (is_queue_of_requests q)) NoQueue (drop 1 (tests g (Finish q i))) (no_requests_there q h))
+    (first_holds (not (is_queue_of_requests q)) NoQueue (drop 1 (finish_tests q part.status part.paced (taken_at q i part))) (no_requests_there q h), first_holds (not (is_queue_of_requests q)) NoQueue (drop 1 (tests g (Finish q i))) (no_requests_there q h))
 
 -- which taken chains aren't finished: there is none, or it isn't worked off
 abbrev pub finish_test : Bool → Bool → Option Request → Option Refusal

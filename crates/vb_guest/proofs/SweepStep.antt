@@ -168,8 +168,7 @@ sweep_own m1 m2 p1 p2 d g page result did stands = (sweep_step m1 m2 p1 p2 d g p
 pub sweep_loose : (m1 m2 : Pages) (p1 p2 : Part) (d : DriverState) (g : Guest) (page : ℕ) (result : Result Bool Refusal) (out : List Bool) → SweepsBy page m1 m2 p1 p2 result → Stands m1 p1 d g → AreOut g out → AreLoose p2.loose out
 sweep_loose m1 m2 p1 p2 d g page result out did stands held = freed_loose _ p2.loose g (Sweep page) (swept_reply result) out (sweep_step m1 m2 p1 p2 d g page result did stands) held
 
-pub sweep_replied : (Answers : List Bool → Claim → Type 0) (m1 m2 m3 : Pages) (p1 p2 p3 : Part) (d : DriverState) (g : Guest) (page : ℕ) (result : Result Bool Refusal) (reply : Reply) (out1 out2 : List Bool)
-    → reply ≡ swept_reply result → SweepsBy page m1 m2 p1 p2 result → Stands m1 p1 d g → m3 ≡ m2 → p3 ≡ handed_back p2 → Returns p2.loose out1 out2 → length out2 ≡ length out1 → Steps (Stands m3 p3 d) Answers out1 out2 g (Sweep page) reply
-sweep_replied Answers m1 m2 m3 p1 p2 p3 d g page result reply out1 out2 replied did stands memory part back same =
-    subst (λ r. Steps (Stands m3 p3 d) Answers out1 out2 g (Sweep page) r) (sym replied)
-    (steps_freed Answers m2 m3 p2 p3 d g (Sweep page) (swept_reply result) out1 out2 (sweep_step m1 m2 p1 p2 d g page result did stands) memory part back same)
+pub sweep_freed : (Answers : List Bool → Claim → Type 0) (m1 m2 m3 : Pages) (p1 p2 p3 : Part) (d : DriverState) (g : Guest) (page : ℕ) (result : Result Bool Refusal) (out1 out2 : List Bool)
+    → SweepsBy page m1 m2 p1 p2 result → Stands m1 p1 d g → m3 ≡ m2 → p3 ≡ handed_back p2 → Returns p2.loose out1 out2 → length out2 ≡ length out1 → Steps (Stands m3 p3 d) Answers out1 out2 g (Sweep page) (swept_reply result)
+sweep_freed Answers m1 m2 m3 p1 p2 p3 d g page result out1 out2 did stands memory part back same =
+    steps_freed Answers m2 m3 p2 p3 d g (Sweep page) (swept_reply result) out1 out2 (sweep_step m1 m2 p1 p2 d g page result did stands) memory part back same

@@ -32,7 +32,8 @@ use Rattle.vb_guest.specs.Replies.{taken_reply}
 use Rattle.vb_guest.proofs.Heads.{get_after, none_after}
 use Rattle.vb_guest.proofs.Taking.{next_shown, line_taken}
 use Rattle.vb_guest.proofs.Chains.{coded_chain, coded_pages}
-use Rattle.vb_guest.proofs.Refusing.{queue_cases, take_no_queue, take_running, take_running_part, take_idle, take_idle_part, busy_test}
+use Rattle.vb_model.proofs.Queues.{queue_cases}
+use Rattle.vb_guest.proofs.Refusing.{take_no_queue, take_running, take_running_part, take_idle, take_idle_part, busy_test}
 use Rattle.vb_guest.proofs.Closing.{steps_alone, refused_alone, honest_performed, ties_same}
 
 either : (b : Bool) → (b ≡ true) ⊎ (b ≡ false)
@@ -197,8 +198,3 @@ take_step m1 m2 p1 p2 d g q result did stands =
         | inr none ↦ (let no = take_no_queue q g p1 none in take_refused m1 m2 p1 p2 d g q NoQueue result did stands no.0 no.1)
       ]
     ]
-
-pub take_replied : (m1 m2 : Pages) (p1 p2 : Part) (d : DriverState) (g : Guest) (q : ℕ) (result : Result (Option ℕ) Refusal) (reply : Reply)
-    → reply ≡ taken_reply result → TakesBy q m1 m2 p1 p2 result → Stands m1 p1 d g → StepsAlone (Stands m2 p2 d) g (Take q) reply
-take_replied m1 m2 p1 p2 d g q result reply replied did stands =
-    subst (λ r. StepsAlone (Stands m2 p2 d) g (Take q) r) (sym replied) (take_step m1 m2 p1 p2 d g q result did stands)

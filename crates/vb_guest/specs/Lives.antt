@@ -1,21 +1,15 @@
--- How pages get frames before an initialisation (VIRTIO 1.1, 3.1.1), and how its answer is replied.
+-- How pages get frames before an initialisation (VIRTIO 1.1, 3.1.1).
 use Rattle.std.specs.Prelude.{◌≡◌, ℕ, ◌-◌, Bool, List, [], ◌∷◌, Option, Some, None, is_none, Result, Ok, Err, OnOk, OnErr, filter}
 use Rattle.std.specs.List.{range_with_len}
 use Rattle.vb_model.specs.declared.calls.Claim.{Claim}
 use Rattle.vb_model.specs.declared.replies.Refusal.{Refusal}
 use Rattle.vb_model.specs.declared.replies.Refusal.TheVariants.{NoFrame as NoFrameLeft, NoMemory}
-use Rattle.vb_model.specs.declared.replies.Reply.{Reply}
-use Rattle.vb_model.specs.declared.replies.Reply.TheVariants.{Ready, Refused as RefusedFor}
 use Rattle.vb_model.specs.Limits.{ring_and_buffer_pages}
 use Rattle.vb_model.specs.Driver.{given, claim_refusal, AreClaimsFor}
 use Rattle.vb_ram.specs.Pages.{Pages, frame_at, Supplied}
 use Rattle.vb_frames.specs.declared.Refused.{Refused}
 use Rattle.vb_frames.specs.declared.Refused.TheVariants.{NoFrame, Memory}
 use Rattle.vb_frames.specs.Out.{AllAnswered, after_claims}
-
-abbrev pub ready_reply : {T : Type 0} → Result T Refusal → Reply
-ready_reply (Ok x) = Ready
-ready_reply (Err why) = RefusedFor why
 
 -- The pages of rings and buffers from this one on that have no frame, in rising order.
 abbrev pub bare_from : Pages → ℕ → List ℕ

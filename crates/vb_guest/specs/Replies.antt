@@ -3,10 +3,19 @@ use Rattle.std.specs.Prelude.{ℕ, Bool, List, Option, Some, None, Result, Ok, E
 use Rattle.vb_model.specs.declared.replies.Refusal.{Refusal}
 use Rattle.vb_model.specs.declared.replies.Refusal.TheVariants.{NoMemory}
 use Rattle.vb_model.specs.declared.replies.Reply.{Reply}
-use Rattle.vb_model.specs.declared.replies.Reply.TheVariants.{Done, Page, Posted, Taken, Empty, Finished, NotUsed, Reaped, Swept, Pages, Refused}
+use Rattle.vb_model.specs.declared.replies.Reply.TheVariants.{Ready, Done, Page, ReadBytes, Posted, Taken, Empty, Finished, NotUsed, Reaped, Swept, Pages, Balloon, Refused}
 use Rattle.vb_model.specs.declared.places.PageRun.{PageRun}
+use Rattle.vb_guest.specs.declared.queries.BalloonState.{BalloonState}
 use Rattle.vb_driver.specs.declared.answers.Posted.{Posted as PostedRequest}
 use Rattle.vb_driver.specs.declared.answers.Reaped.{Reaped as ReapedRequest}
+
+abbrev pub ready_reply : {T : Type 0} → Result T Refusal → Reply
+ready_reply (Ok x) = Ready
+ready_reply (Err why) = Refused why
+
+abbrev pub bytes_reply : Result (List ℕ) Refusal → Reply
+bytes_reply (Ok bytes) = ReadBytes bytes
+bytes_reply (Err why) = Refused why
 
 abbrev pub taken_reply : Result (Option ℕ) Refusal → Reply
 taken_reply (Ok None) = Empty
@@ -42,3 +51,6 @@ done_reply (Err why) = Refused why
 abbrev pub runs_reply : {E : Type 0} → Result (List PageRun) E → Reply
 runs_reply (Ok found) = Pages found
 runs_reply (Err e) = Refused NoMemory
+
+abbrev pub balloon_reply : BalloonState → Reply
+balloon_reply state = Balloon state.ballooned state.actual state.target state.status

@@ -1,17 +1,21 @@
-// Calls on a guest, and questions about it.
+//! Calls on a guest and questions about it, told apart by their names.
 
 ghost use Rattle.std.specs.Prelude.{◌≡◌, true};
+ghost use Rattle.vb_model.specs.Brought.{is_call_brought, is_query_brought};
 ghost use Rattle.vb_model.specs.Guest.{Guest};
 ghost use Rattle.vb_model.specs.World.{Answers};
-ghost use Rattle.vb_guest.specs.Answered.{is_answered, is_query_answered};
 ghost use Rattle.vb_guest.specs.Stands.{Stands};
 ghost use Rattle.vb_guest.specs.Steps.{AreOut, Steps};
 
 use crate::device::{finish, set_target, sweep, take};
-use crate::driver::{alloc, deflate, free, inflate, oom, reap};
-use crate::lives::{init, reset};
+use crate::driver::{deflate, free, inflate, oom, reap};
+use crate::lives::init;
 use crate::memory::{read, write};
 use crate::queries::{balloon, pages_at, pages_ballooned, places};
+use crate::replies::{
+    balloon_reply, bytes_reply, done_reply, finished_reply, page_reply, posted_reply, ready_reply,
+    reaped_reply, runs_reply, swept_reply, taken_reply,
+};
 use std::alloc::Global;
 use vb_device::Device;
 use vb_driver::Driver;
@@ -22,53 +26,59 @@ use vb_model::{Call, Query, Reply};
 /// guest. Frames that its pages gain are claimed from the keeper, and those that they lose are put
 /// back.
 pub fn call<D: Device, K: FrameKeeper>(
-    heap: Global,
+    alloc: Global,
     driver: &mut Driver,
-    port: &mut D,
+    device: &mut D,
     keeper: &mut K,
     call: &Call,
 ) -> Reply
-    requires stands { (g : Guest) × Stands (D.mem port.old) (D.part port.old) driver.old g × AreOut g (K.out keeper.old) }
-    requires answered { is_answered call.now ≡ true }
-    ensures step { (g : Guest) → Stands (D.mem port.old) (D.part port.old) driver.old g
-        → Steps (Stands (D.mem port.new) (D.part port.new) driver.new) K.answers (K.out keeper.old) (K.out keeper.new) g call.now result }
+    requires stands { (g : Guest) × Stands (D.mem device.old) (D.part device.old) driver.old g × AreOut g (K.out keeper.old) }
+    requires brought { is_call_brought call.now ≡ true }
+    ensures step { (g : Guest) → Stands (D.mem device.old) (D.part device.old) driver.old g
+        → Steps (Stands (D.mem device.new) (D.part device.new) driver.new) K.answers (K.out keeper.old) (K.out keeper.new) g call.now result }
 {
     match call {
-        Call::Init { features } => init(driver, port, keeper, *features),
-        Call::Reset => reset(driver, port),
-        Call::Alloc { cpu, order } => alloc(driver, port, *cpu, *order),
-        Call::Free { cpu, start, order } => free(driver, port, *cpu, *start, *order),
-        Call::Read { page, offset, len } => read(heap, driver, port, *page, *offset, *len),
+        Call::Init { features } => ready_reply(init(driver, device, keeper, *features)),
+        Call::Alloc { cpu, order } => page_reply(crate::driver::alloc(driver, *cpu, *order)),
+        Call::Free { cpu, start, order } => done_reply(free(driver, *cpu, *start, *order)),
+        Call::Read { page, offset, len } => {
+            bytes_reply(read(alloc, driver, device, *page, *offset, *len))
+        }
         Call::Write {
             page,
             offset,
             bytes,
-        } => write(driver, port, keeper, *page, *offset, bytes),
-        Call::Inflate { pages } => inflate(driver, port, *pages),
-        Call::Deflate { pages } => deflate(driver, port, *pages),
-        Call::Oom { pages } => oom(driver, port, *pages),
-        Call::Reap { queue } => reap(driver, port, *queue),
-        Call::Take { queue } => take(port, *queue),
-        Call::Finish { queue, index } => finish(driver, port, keeper, *queue, *index),
-        Call::Sweep { page } => sweep(driver, port, keeper, *page),
-        Call::SetTarget { pages } => set_target(port, *pages),
+        } => done_reply(write(driver, device, keeper, *page, *offset, bytes)),
+        Call::Inflate { pages } => posted_reply(inflate(driver, device, *pages)),
+        Call::Deflate { pages } => posted_reply(deflate(driver, device, *pages)),
+        Call::Oom { pages } => posted_reply(oom(driver, device, *pages)),
+        Call::Reap { queue } => reaped_reply(reap(driver, device, *queue)),
+        Call::Take { queue } => taken_reply(take(device, *queue)),
+        Call::Finish { queue, index } => finished_reply(finish(device, keeper, *queue, *index)),
+        Call::Sweep { page } => swept_reply(sweep(device, keeper, *page)),
+        Call::SetTarget { pages } => {
+            set_target(device, *pages);
+            Reply::Done
+        }
         _ => unreachable!(),
     }
 }
 
 /// Answers a question about the guest that the driver and the device stand for.
-pub fn query<D: Device>(alloc: Global, driver: &Driver, port: &D, query: &Query) -> Reply
-    requires stands { (g : Guest) × Stands (D.mem port.now) (D.part port.now) driver.now g }
-    requires answered { is_query_answered query.now ≡ true }
-    ensures answer { (g : Guest) → Stands (D.mem port.now) (D.part port.now) driver.now g → Answers query.now g result }
+pub fn query<D: Device>(alloc: Global, driver: &Driver, device: &D, query: &Query) -> Reply
+    requires stands { (g : Guest) × Stands (D.mem device.now) (D.part device.now) driver.now g }
+    requires brought { is_query_brought query.now ≡ true }
+    ensures answer { (g : Guest) → Stands (D.mem device.now) (D.part device.now) driver.now g → Answers query.now g result }
 {
     match query {
-        Query::Places => places(driver, port),
-        Query::PagesAt(place) => pages_at(alloc, driver, port, *place),
-        Query::PagesBallooned => pages_ballooned(alloc, driver, port),
-        Query::Balloon => balloon(driver, port),
+        Query::Places => Reply::Places {
+            counts: places(driver),
+        },
+        Query::PagesAt(place) => runs_reply(pages_at(alloc, driver, device, *place)),
+        Query::PagesBallooned => runs_reply(pages_ballooned(alloc, device)),
+        Query::Balloon => balloon_reply(balloon(driver, device)),
         Query::Backing { page } => Reply::Backing {
-            frame: port.backing(*page),
+            frame: device.backing(*page),
         },
         _ => unreachable!(),
     }

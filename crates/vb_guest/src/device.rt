@@ -1,6 +1,7 @@
-// What the host does to a guest's device.
+//! What the host does to a guest's device.
 
 ghost use Rattle.std.specs.Prelude.{◌≡◌, ℕ};
+ghost use Rattle.vb_model.specs.declared.replies.Reply.TheVariants.{Done};
 ghost use Rattle.vb_model.specs.Guest.{Guest};
 ghost use Rattle.vb_driver.specs.State.{DriverState};
 ghost use Rattle.vb_guest.specs.Replies.{taken_reply, finished_reply, swept_reply};
@@ -9,90 +10,56 @@ ghost use Rattle.vb_guest.specs.Steps.{AreOut, Steps, StepsAlone};
 
 use crate::frames::return_loose;
 use vb_device::Device;
-use vb_driver::Driver;
 use vb_frames::FrameKeeper;
-use vb_model::{Call, Refusal, Reply};
+use vb_model::{Call, Refusal};
 
-fn taken_reply(answer: Result<Option<u16>, Refusal>) -> Reply
-    ensures { result ≡ taken_reply answer }
+/// The device takes the next chain of a queue (VIRTIO 1.1, 2.6); answers its head, or none where
+/// no chain is available. Refused with `NoQueue`, `NotReady` and `Busy`, tested in this order.
+pub fn take<D: Device>(device: &mut D, queue: u32) -> Result<Option<u16>, Refusal>
+    ensures { (d : DriverState) (g : Guest) → Stands (D.mem device.old) (D.part device.old) d g
+        → StepsAlone (Stands (D.mem device.new) (D.part device.new) d) g (Call.Take queue) (taken_reply result) }
 {
-    match answer {
-        Ok(Some(head)) => Reply::Taken {
-            head: u32::from(head),
-        },
-        Ok(None) => Reply::Empty,
-        Err(refusal) => Reply::Refused(refusal),
-    }
+    device.take(queue)
 }
 
-/// The device takes the next chain of a queue (VIRTIO 1.1, 2.6).
-pub(crate) fn take<D: Device>(port: &mut D, queue: u32) -> Reply
-    ensures { (d : DriverState) (g : Guest) → Stands (D.mem port.old) (D.part port.old) d g
-        → StepsAlone (Stands (D.mem port.new) (D.part port.new) d) g (Call.Take queue) result }
-{
-    taken_reply(port.take(queue))
-}
-
-fn finished_reply(answer: Result<u16, Refusal>) -> Reply
-    ensures { result ≡ finished_reply answer }
-{
-    match answer {
-        Ok(head) => Reply::Finished {
-            head: u32::from(head),
-        },
-        Err(refusal) => Reply::Refused(refusal),
-    }
-}
-
-/// The device uses a taken chain, and the frames that its pages lose go back.
-pub(crate) fn finish<D: Device, K: FrameKeeper>(
-    driver: &Driver,
-    port: &mut D,
+/// The device uses the taken chain of this number, from 0, on a queue; answers its head. Frames
+/// that its pages lose go back to the keeper. Refused with `NoQueue`, `NotReady`, `NotTaken` and,
+/// where a paced device hasn't visited all pages, `NotWorked`, tested in this order.
+pub fn finish<D: Device, K: FrameKeeper>(
+    device: &mut D,
     keeper: &mut K,
     queue: u32,
     index: u32,
-) -> Reply
-    requires { (g : Guest) × Stands (D.mem port.old) (D.part port.old) driver.now g × AreOut g (K.out keeper.old) }
-    ensures { (g : Guest) → Stands (D.mem port.old) (D.part port.old) driver.now g
-        → Steps (Stands (D.mem port.new) (D.part port.new) driver.now) K.answers (K.out keeper.old) (K.out keeper.new) g (Call.Finish queue index) result }
+) -> Result<u16, Refusal>
+    requires { (d : DriverState) × (g : Guest) × Stands (D.mem device.old) (D.part device.old) d g × AreOut g (K.out keeper.old) }
+    ensures { (d : DriverState) (g : Guest) → Stands (D.mem device.old) (D.part device.old) d g
+        → Steps (Stands (D.mem device.new) (D.part device.new) d) K.answers (K.out keeper.old) (K.out keeper.new) g (Call.Finish queue index) (finished_reply result) }
 {
-    let _driver = driver;
-    let answer = port.finish(queue, index);
-    return_loose(port, keeper);
-    finished_reply(answer)
+    let answer = device.finish(queue, index);
+    return_loose(device, keeper);
+    answer
 }
 
-fn swept_reply(answer: Result<bool, Refusal>) -> Reply
-    ensures { result ≡ swept_reply answer }
-{
-    match answer {
-        Ok(freed) => Reply::Swept { freed },
-        Err(refusal) => Reply::Refused(refusal),
-    }
-}
-
-/// The host discards what it still has of a ballooned page, whose frame goes back.
-pub(crate) fn sweep<D: Device, K: FrameKeeper>(
-    driver: &Driver,
-    port: &mut D,
+/// The host discards what it still has of a ballooned page; answers whether it had a frame, which
+/// goes back to the keeper. Refused with `NotReady` and `NotBallooned`, tested in this order.
+pub fn sweep<D: Device, K: FrameKeeper>(
+    device: &mut D,
     keeper: &mut K,
     page: u32,
-) -> Reply
-    requires { (g : Guest) × Stands (D.mem port.old) (D.part port.old) driver.now g × AreOut g (K.out keeper.old) }
-    ensures { (g : Guest) → Stands (D.mem port.old) (D.part port.old) driver.now g
-        → Steps (Stands (D.mem port.new) (D.part port.new) driver.now) K.answers (K.out keeper.old) (K.out keeper.new) g (Call.Sweep page) result }
+) -> Result<bool, Refusal>
+    requires { (d : DriverState) × (g : Guest) × Stands (D.mem device.old) (D.part device.old) d g × AreOut g (K.out keeper.old) }
+    ensures { (d : DriverState) (g : Guest) → Stands (D.mem device.old) (D.part device.old) d g
+        → Steps (Stands (D.mem device.new) (D.part device.new) d) K.answers (K.out keeper.old) (K.out keeper.new) g (Call.Sweep page) (swept_reply result) }
 {
-    let _driver = driver;
-    let answer = port.sweep(page);
-    return_loose(port, keeper);
-    swept_reply(answer)
+    let answer = device.sweep(page);
+    return_loose(device, keeper);
+    answer
 }
 
 /// The host sets how many pages it wants (`num_pages`, VIRTIO 1.1, 5.5.4).
-pub(crate) fn set_target<D: Device>(port: &mut D, pages: u32) -> Reply
-    ensures { (d : DriverState) (g : Guest) → Stands (D.mem port.old) (D.part port.old) d g
-        → StepsAlone (Stands (D.mem port.new) (D.part port.new) d) g (Call.SetTarget pages) result }
+pub fn set_target<D: Device>(device: &mut D, pages: u32)
+    ensures { (d : DriverState) (g : Guest) → Stands (D.mem device.old) (D.part device.old) d g
+        → StepsAlone (Stands (D.mem device.new) (D.part device.new) d) g (Call.SetTarget pages) Done }
 {
-    port.set_target(pages);
-    Reply::Done
+    device.set_target(pages);
 }

@@ -1,114 +1,84 @@
-// What a guest's balloon driver does with its device.
+//! What a guest's balloon driver does with its pages and with its device.
 
 ghost use Rattle.std.specs.Prelude.{◌≡◌, ◌≤◌, ℕ, length};
 ghost use Rattle.vb_model.specs.Guest.{Guest};
+ghost use Rattle.vb_ram.specs.Pages.{Pages};
+ghost use Rattle.vb_ram.specs.Part.{Part};
 ghost use Rattle.vb_guest.specs.Replies.{done_reply, page_reply, posted_reply, reaped_reply};
 ghost use Rattle.vb_guest.specs.Stands.{Stands};
 ghost use Rattle.vb_guest.specs.Steps.{StepsAlone};
 
 use vb_device::Device;
 use vb_driver::{Driver, Posted, Reaped};
-use vb_model::{Call, Refusal, Reply};
+use vb_model::{Call, Refusal};
 
-fn page_reply(answer: Result<u32, Refusal>) -> Reply
-    ensures { result ≡ page_reply answer }
+/// A processor asks for a block of 2^order pages (Gorman, chapter 6); answers its first page.
+/// Refused with `BadOrder`, `BadCpu` and `NoPages`, tested in this order.
+pub fn alloc(driver: &mut Driver, cpu: u32, order: u32) -> Result<u32, Refusal>
+    ensures { (mem : Pages) (part : Part) (g : Guest) → Stands mem part driver.old g
+        → StepsAlone (Stands mem part driver.new) g (Call.Alloc cpu order) (page_reply result) }
 {
-    match answer {
-        Ok(start) => Reply::Page { start },
-        Err(refusal) => Reply::Refused(refusal),
-    }
+    driver.alloc(cpu, order)
 }
 
-/// A processor asks for a block of pages (Gorman, chapter 6).
-pub(crate) fn alloc<D: Device>(driver: &mut Driver, port: &D, cpu: u32, order: u32) -> Reply
-    ensures { (g : Guest) → Stands (D.mem port.now) (D.part port.now) driver.old g
-        → StepsAlone (Stands (D.mem port.now) (D.part port.now) driver.new) g (Call.Alloc cpu order) result }
+/// A processor gives a block back that an allocation answered (Gorman, chapter 6). Refused with
+/// `BadOrder`, `BadCpu` and `NotHeld`, tested in this order.
+pub fn free(driver: &mut Driver, cpu: u32, start: u32, order: u32) -> Result<(), Refusal>
+    ensures { (mem : Pages) (part : Part) (g : Guest) → Stands mem part driver.old g
+        → StepsAlone (Stands mem part driver.new) g (Call.Free cpu start order) (done_reply result) }
 {
-    let _port = port;
-    page_reply(driver.alloc(cpu, order))
+    driver.free(cpu, start, order)
 }
 
-fn done_reply(answer: Result<(), Refusal>) -> Reply
-    ensures { result ≡ done_reply answer }
-{
-    match answer {
-        Ok(()) => Reply::Done,
-        Err(refusal) => Reply::Refused(refusal),
-    }
-}
-
-/// A processor gives a block of pages back (Gorman, chapter 6).
-pub(crate) fn free<D: Device>(
+/// The driver offers up to this many pages to the host (VIRTIO 1.1, 5.5.6). Refused with
+/// `NotReady`, `QueueFull` and `Nothing`, tested in this order.
+pub fn inflate<D: Device>(
     driver: &mut Driver,
-    port: &D,
-    cpu: u32,
-    start: u32,
-    order: u32,
-) -> Reply
-    ensures { (g : Guest) → Stands (D.mem port.now) (D.part port.now) driver.old g
-        → StepsAlone (Stands (D.mem port.now) (D.part port.now) driver.new) g (Call.Free cpu start order) result }
+    device: &mut D,
+    pages: u32,
+) -> Result<Posted, Refusal>
+    requires { (g : Guest) × Stands (D.mem device.old) (D.part device.old) driver.old g }
+    ensures { (g : Guest) → Stands (D.mem device.old) (D.part device.old) driver.old g
+        → StepsAlone (Stands (D.mem device.new) (D.part device.new) driver.new) g (Call.Inflate pages) (posted_reply result) }
 {
-    let _port = port;
-    done_reply(driver.free(cpu, start, order))
+    driver.inflate(device, pages)
 }
 
-fn posted_reply(answer: Result<Posted, Refusal>) -> Reply
-    ensures { result ≡ posted_reply answer }
+/// The driver asks for up to this many pages back, as far as the target allows (VIRTIO 1.1, 5.5.6).
+/// Refused with `NotReady`, `QueueFull` and `Nothing`, tested in this order.
+pub fn deflate<D: Device>(
+    driver: &mut Driver,
+    device: &mut D,
+    pages: u32,
+) -> Result<Posted, Refusal>
+    requires { (g : Guest) × Stands (D.mem device.old) (D.part device.old) driver.old g }
+    ensures { (g : Guest) → Stands (D.mem device.old) (D.part device.old) driver.old g
+        → StepsAlone (Stands (D.mem device.new) (D.part device.new) driver.new) g (Call.Deflate pages) (posted_reply result) }
 {
-    match answer {
-        Ok(posted) => Reply::Posted {
-            head: u32::from(posted.head),
-            pages: posted.pages,
-        },
-        Err(refusal) => Reply::Refused(refusal),
-    }
+    driver.deflate(device, pages)
 }
 
-/// The driver offers pages to the host (VIRTIO 1.1, 5.5.6).
-pub(crate) fn inflate<D: Device>(driver: &mut Driver, port: &mut D, pages: u32) -> Reply
-    requires { (g : Guest) × Stands (D.mem port.old) (D.part port.old) driver.old g }
-    ensures { (g : Guest) → Stands (D.mem port.old) (D.part port.old) driver.old g
-        → StepsAlone (Stands (D.mem port.new) (D.part port.new) driver.new) g (Call.Inflate pages) result }
+/// The driver asks for up to this many pages back, whatever the target (VIRTIO 1.1, 5.5.6, with
+/// DEFLATE_ON_OOM). Refused with `NotReady`, `NoFeature`, `QueueFull` and `Nothing`, tested in this
+/// order.
+pub fn oom<D: Device>(driver: &mut Driver, device: &mut D, pages: u32) -> Result<Posted, Refusal>
+    requires { (g : Guest) × Stands (D.mem device.old) (D.part device.old) driver.old g }
+    ensures { (g : Guest) → Stands (D.mem device.old) (D.part device.old) driver.old g
+        → StepsAlone (Stands (D.mem device.new) (D.part device.new) driver.new) g (Call.Oom pages) (posted_reply result) }
 {
-    posted_reply(driver.inflate(port, pages))
+    driver.oom(device, pages)
 }
 
-/// The driver asks for pages back, as far as the target allows (VIRTIO 1.1, 5.5.6).
-pub(crate) fn deflate<D: Device>(driver: &mut Driver, port: &mut D, pages: u32) -> Reply
-    requires { (g : Guest) × Stands (D.mem port.old) (D.part port.old) driver.old g }
-    ensures { (g : Guest) → Stands (D.mem port.old) (D.part port.old) driver.old g
-        → StepsAlone (Stands (D.mem port.new) (D.part port.new) driver.new) g (Call.Deflate pages) result }
+/// The driver takes the next used request of a queue (VIRTIO 1.1, 2.6.14); answers none where none
+/// is new. Refused with `NoQueue` and `NotReady`, tested in this order.
+pub fn reap<D: Device>(
+    driver: &mut Driver,
+    device: &mut D,
+    queue: u32,
+) -> Result<Option<Reaped>, Refusal>
+    requires { (g : Guest) × Stands (D.mem device.old) (D.part device.old) driver.old g }
+    ensures { (g : Guest) → Stands (D.mem device.old) (D.part device.old) driver.old g
+        → StepsAlone (Stands (D.mem device.new) (D.part device.new) driver.new) g (Call.Reap queue) (reaped_reply result) }
 {
-    posted_reply(driver.deflate(port, pages))
-}
-
-/// The driver asks for pages back, whatever the target (VIRTIO 1.1, 5.5.6, with DEFLATE_ON_OOM).
-pub(crate) fn oom<D: Device>(driver: &mut Driver, port: &mut D, pages: u32) -> Reply
-    requires { (g : Guest) × Stands (D.mem port.old) (D.part port.old) driver.old g }
-    ensures { (g : Guest) → Stands (D.mem port.old) (D.part port.old) driver.old g
-        → StepsAlone (Stands (D.mem port.new) (D.part port.new) driver.new) g (Call.Oom pages) result }
-{
-    posted_reply(driver.oom(port, pages))
-}
-
-fn reaped_reply(answer: Result<Option<Reaped>, Refusal>) -> Reply
-    ensures { result ≡ reaped_reply answer }
-{
-    match answer {
-        Ok(Some(reaped)) => Reply::Reaped {
-            head: u32::from(reaped.head),
-            pages: reaped.pages,
-        },
-        Ok(None) => Reply::NotUsed,
-        Err(refusal) => Reply::Refused(refusal),
-    }
-}
-
-/// The driver takes the next used request of a queue (VIRTIO 1.1, 2.6.14).
-pub(crate) fn reap<D: Device>(driver: &mut Driver, port: &mut D, queue: u32) -> Reply
-    requires { (g : Guest) × Stands (D.mem port.old) (D.part port.old) driver.old g }
-    ensures { (g : Guest) → Stands (D.mem port.old) (D.part port.old) driver.old g
-        → StepsAlone (Stands (D.mem port.new) (D.part port.new) driver.new) g (Call.Reap queue) result }
-{
-    reaped_reply(driver.reap(port, queue))
+    driver.reap(device, queue)
 }

@@ -1,4 +1,4 @@
-// Frames come from the keeper, and loose ones go back to it.
+//! Frames come from the keeper, and loose ones go back to it.
 
 ghost use Rattle.std.specs.Prelude.{◌≡◌, false, true, [], length, IfOk, OnErr, slice_set};
 ghost use Rattle.vb_model.specs.Guest.{zero_page};
@@ -11,18 +11,18 @@ use vb_ram::Frame;
 
 /// Claims a frame: the device's own, if it has such, else the keeper's.
 pub(crate) fn claim_frame<D: Device, K: FrameKeeper>(
-    port: &mut D,
+    device: &mut D,
     keeper: &mut K,
 ) -> Result<Frame, Refused>
-    requires { (D.part port.old).keeps ≡ false }
-    ensures mem { D.mem port.new ≡ D.mem port.old }
-    ensures part { D.part port.new ≡ D.part port.old }
+    requires { (D.part device.old).keeps ≡ false }
+    ensures mem { D.mem device.new ≡ D.mem device.old }
+    ensures part { D.part device.new ≡ D.part device.old }
     ensures given { IfOk result (λ frame. IsFree (K.out keeper.old) frame.number × (K.out keeper.new ≡ slice_set (K.out keeper.old) frame.number true)) }
     ensures refused { OnErr result (K.out keeper.new ≡ K.out keeper.old) }
     ensures answer { K.answers (K.out keeper.old) (claim_in result) }
     ensures zeros { IfOk result (λ frame. frame.bytes ≡ zero_page) }
 {
-    match port.claim() {
+    match device.claim() {
         Claimed::AskHost => keeper.claim(),
         Claimed::Gave(_) => unreachable!(),
         Claimed::NoFrame => unreachable!(),
@@ -31,16 +31,16 @@ pub(crate) fn claim_frame<D: Device, K: FrameKeeper>(
 }
 
 /// Gives each loose frame of the device back.
-pub(crate) fn return_loose<D: Device, K: FrameKeeper>(port: &mut D, keeper: &mut K)
-    requires own { (D.part port.old).own ≡ [] }
-    requires loose { AreLoose (D.part port.old).loose (K.out keeper.old) }
-    ensures mem { D.mem port.new ≡ D.mem port.old }
-    ensures part { D.part port.new ≡ record (D.part port.old) { loose = [] } }
-    ensures out { Returns (D.part port.old).loose (K.out keeper.old) (K.out keeper.new) }
+pub(crate) fn return_loose<D: Device, K: FrameKeeper>(device: &mut D, keeper: &mut K)
+    requires own { (D.part device.old).own ≡ [] }
+    requires loose { AreLoose (D.part device.old).loose (K.out keeper.old) }
+    ensures mem { D.mem device.new ≡ D.mem device.old }
+    ensures part { D.part device.new ≡ record (D.part device.old) { loose = [] } }
+    ensures out { Returns (D.part device.old).loose (K.out keeper.old) (K.out keeper.new) }
     ensures count { length (K.out keeper.new) ≡ length (K.out keeper.old) }
 {
-    while let Some(frame) = port.hand_back() {
-        match port.put_back(frame) {
+    while let Some(frame) = device.hand_back() {
+        match device.put_back(frame) {
             Some(frame) => keeper.put_back(frame),
             None => unreachable!(),
         }

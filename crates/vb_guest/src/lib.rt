@@ -8,5 +8,11 @@ mod frames;
 mod lives;
 mod memory;
 mod queries;
+mod replies;
 
 pub use calls::{call, query};
+pub use device::{finish, set_target, sweep, take};
+pub use driver::{alloc, deflate, free, inflate, oom, reap};
+pub use lives::{init, reset};
+pub use memory::{read, write};
+pub use queries::{BalloonState, balloon, pages_at, pages_ballooned, places};

@@ -1,9 +1,11 @@
-// Bytes of a guest's pages.
+//! Bytes of a guest's pages.
 
 ghost use Rattle.std.specs.Prelude.{◌≡◌, ℕ, ◌<◌, ◌≤◌, ◌+◌, None, true, false, length, take, drop, IfOk, IsSome};
 ghost use Rattle.vb_model.specs.Guest.{Guest};
 ghost use Rattle.vb_model.specs.Pages.{place_of, is_used};
 ghost use Rattle.vb_ram.specs.Pages.{frame_at, contents_at, Covers, Wrote, Supplied};
+ghost use Rattle.vb_driver.specs.State.{DriverState};
+ghost use Rattle.vb_guest.specs.Replies.{bytes_reply, done_reply};
 ghost use Rattle.vb_guest.specs.Stands.{Stands};
 ghost use Rattle.vb_guest.specs.Steps.{Steps, StepsAlone};
 
@@ -12,30 +14,30 @@ use std::alloc::{AllocError, Global};
 use vb_device::Device;
 use vb_driver::Driver;
 use vb_frames::{FrameKeeper, Refused};
-use vb_model::{Bytes, Call, Refusal, Reply};
+use vb_model::{Bytes, Call, Refusal};
 use vb_ram::{Frame, PAGE_SIZE, RamFault};
 
 /// Puts a frame behind a page that has none.
-pub(crate) fn supply<D: Device>(port: &mut D, page: u32, frame: Frame)
-    requires inside { page < length (D.mem port.old) }
-    requires bare { frame_at (D.mem port.old) page ≡ None }
-    ensures supplied { Supplied (D.mem port.old) (D.mem port.new) page frame.number }
-    ensures part { D.part port.new ≡ D.part port.old }
+pub(crate) fn supply<D: Device>(device: &mut D, page: u32, frame: Frame)
+    requires inside { page < length (D.mem device.old) }
+    requires bare { frame_at (D.mem device.old) page ≡ None }
+    ensures supplied { Supplied (D.mem device.old) (D.mem device.new) page frame.number }
+    ensures part { D.part device.new ≡ D.part device.old }
 {
-    match port.supply(page, frame) {
+    match device.supply(page, frame) {
         Ok(()) => {}
         Err(_) => unreachable!(),
     }
 }
 
 /// Writes bytes within a page that has a frame.
-fn overwrite<D: Device>(port: &mut D, page: u32, offset: u32, bytes: &Bytes)
-    requires covers { Covers (D.mem port.old) page offset (length bytes.now) }
-    requires backed { IsSome (frame_at (D.mem port.old) page) }
-    ensures wrote { Wrote (D.mem port.old) (D.mem port.new) page offset bytes.now }
-    ensures part { D.part port.new ≡ D.part port.old }
+fn overwrite<D: Device>(device: &mut D, page: u32, offset: u32, bytes: &Bytes)
+    requires covers { Covers (D.mem device.old) page offset (length bytes.now) }
+    requires backed { IsSome (frame_at (D.mem device.old) page) }
+    ensures wrote { Wrote (D.mem device.old) (D.mem device.new) page offset bytes.now }
+    ensures part { D.part device.new ≡ D.part device.old }
 {
-    match port.write(page, offset as usize, bytes.as_slice()) {
+    match device.write(page, offset as usize, bytes.as_slice()) {
         Ok(()) => {}
         Err(_) => unreachable!(),
     }
@@ -43,105 +45,107 @@ fn overwrite<D: Device>(port: &mut D, page: u32, offset: u32, bytes: &Bytes)
 
 /// Writes bytes of a page that gets a frame first.
 fn write_fresh<D: Device, K: FrameKeeper>(
-    driver: &Driver,
-    port: &mut D,
+    device: &mut D,
     keeper: &mut K,
     page: u32,
     offset: u32,
     bytes: &Bytes,
-) -> Reply
-    requires stands { (g : Guest) × Stands (D.mem port.old) (D.part port.old) driver.now g }
-    requires used { is_used (place_of driver.now.places page) ≡ true }
-    requires covers { Covers (D.mem port.old) page offset (length bytes.now) }
+) -> Result<(), Refusal>
+    requires stands { (d : DriverState) × (g : Guest) × Stands (D.mem device.old) (D.part device.old) d g }
+    requires covers { Covers (D.mem device.old) page offset (length bytes.now) }
     requires some { 0 < length bytes.now }
-    requires bare { frame_at (D.mem port.old) page ≡ None }
-    ensures { (g : Guest) → Stands (D.mem port.old) (D.part port.old) driver.now g
-        → Steps (Stands (D.mem port.new) (D.part port.new) driver.now) K.answers (K.out keeper.old) (K.out keeper.new) g (Call.Write page offset bytes.now) result }
+    requires bare { frame_at (D.mem device.old) page ≡ None }
+    ensures { (d : DriverState) (g : Guest) → is_used (place_of d.places page) ≡ true → Stands (D.mem device.old) (D.part device.old) d g
+        → Steps (Stands (D.mem device.new) (D.part device.new) d) K.answers (K.out keeper.old) (K.out keeper.new) g (Call.Write page offset bytes.now) (done_reply result) }
 {
-    let _driver = driver;
-    let frame = match claim_frame(port, keeper) {
+    let frame = match claim_frame(device, keeper) {
         Ok(frame) => frame,
-        Err(Refused::NoFrame) => return Reply::Refused(Refusal::NoFrame),
-        Err(Refused::Memory) => return Reply::Refused(Refusal::NoMemory),
+        Err(Refused::NoFrame) => return Err(Refusal::NoFrame),
+        Err(Refused::Memory) => return Err(Refusal::NoMemory),
     };
-    supply(port, page, frame);
-    overwrite(port, page, offset, bytes);
-    Reply::Done
+    supply(device, page, frame);
+    overwrite(device, page, offset, bytes);
+    Ok(())
 }
 
-/// Writes bytes of a page that an allocation holds, which gets a frame if it has none.
-pub(crate) fn write<D: Device, K: FrameKeeper>(
+/// Writes bytes of a page that an allocation holds, which gets a frame if it has none. Refused with
+/// `NotHeld` where the page isn't used, with `OutOfRam` where the bytes don't lie in a page, and
+/// with `NoFrame` or `NoMemory` where a frame is wanting, tested in this order; a refusal changes
+/// nothing.
+pub fn write<D: Device, K: FrameKeeper>(
     driver: &Driver,
-    port: &mut D,
+    device: &mut D,
     keeper: &mut K,
     page: u32,
     offset: u32,
     bytes: &Bytes,
-) -> Reply
-    requires { (g : Guest) × Stands (D.mem port.old) (D.part port.old) driver.now g }
-    ensures { (g : Guest) → Stands (D.mem port.old) (D.part port.old) driver.now g
-        → Steps (Stands (D.mem port.new) (D.part port.new) driver.now) K.answers (K.out keeper.old) (K.out keeper.new) g (Call.Write page offset bytes.now) result }
+) -> Result<(), Refusal>
+    requires { (g : Guest) × Stands (D.mem device.old) (D.part device.old) driver.now g }
+    ensures { (g : Guest) → Stands (D.mem device.old) (D.part device.old) driver.now g
+        → Steps (Stands (D.mem device.new) (D.part device.new) driver.now) K.answers (K.out keeper.old) (K.out keeper.new) g (Call.Write page offset bytes.now) (done_reply result) }
 {
     if !driver.held(page) {
-        return Reply::Refused(Refusal::NotHeld);
+        return Err(Refusal::NotHeld);
     }
-    match port.write(page, offset as usize, bytes.as_slice()) {
-        Ok(()) => Reply::Done,
-        Err(RamFault::NeedsFrame) => write_fresh(driver, port, keeper, page, offset, bytes),
-        Err(RamFault::OutOfRam) => Reply::Refused(Refusal::OutOfRam),
+    match device.write(page, offset as usize, bytes.as_slice()) {
+        Ok(()) => Ok(()),
+        Err(RamFault::NeedsFrame) => write_fresh(device, keeper, page, offset, bytes),
+        Err(RamFault::OutOfRam) => Err(Refusal::OutOfRam),
         Err(RamFault::AlreadyBacked) => unreachable!(),
         Err(RamFault::Memory) => unreachable!(),
     }
 }
 
 /// Whether these bytes lie in a page of guest memory.
-fn covers<D: Device>(port: &D, page: u32, offset: u32, len: u32) -> bool
-    ensures inside { result ≡ true → Covers (D.mem port.now) page offset len }
-    ensures outside { result ≡ false → Covers (D.mem port.now) page offset len → ⊥ }
+fn covers<D: Device>(device: &D, page: u32, offset: u32, len: u32) -> bool
+    ensures inside { result ≡ true → Covers (D.mem device.now) page offset len }
+    ensures outside { result ≡ false → Covers (D.mem device.now) page offset len → ⊥ }
 {
-    page < port.pages() && u64::from(offset) + u64::from(len) <= PAGE_SIZE as u64
+    page < device.pages() && u64::from(offset) + u64::from(len) <= PAGE_SIZE as u64
 }
 
 /// These bytes of a page.
 fn read_bytes<D: Device>(
     alloc: Global,
-    port: &D,
+    device: &D,
     page: u32,
     offset: u32,
     len: u32,
 ) -> Result<Bytes, AllocError>
-    requires covers { Covers (D.mem port.now) page offset len }
-    requires whole { length (contents_at (D.mem port.now) page) ≡ 4096 }
-    ensures { IfOk result (λ bytes. bytes ≡ take len (drop offset (contents_at (D.mem port.now) page))) }
+    requires covers { Covers (D.mem device.now) page offset len }
+    requires whole { length (contents_at (D.mem device.now) page) ≡ 4096 }
+    ensures { IfOk result (λ bytes. bytes ≡ take len (drop offset (contents_at (D.mem device.now) page))) }
 {
     let mut bytes = vec![in alloc; 0; len as usize]?;
-    match port.read(page, offset as usize, &mut bytes) {
+    match device.read(page, offset as usize, &mut bytes) {
         Ok(()) => Ok(Bytes::new(bytes)),
         Err(_) => unreachable!(),
     }
 }
 
-/// Reads bytes of a page that an allocation holds.
-pub(crate) fn read<D: Device>(
+/// Reads bytes of a page that an allocation holds. Refused with `NotHeld` where the page isn't
+/// used, with `OutOfRam` where the bytes don't lie in a page, and with `NoMemory` where there is no
+/// memory for them, tested in this order.
+pub fn read<D: Device>(
     alloc: Global,
     driver: &Driver,
-    port: &D,
+    device: &D,
     page: u32,
     offset: u32,
     len: u32,
-) -> Reply
-    requires { (g : Guest) × Stands (D.mem port.now) (D.part port.now) driver.now g }
-    ensures { (g : Guest) → Stands (D.mem port.now) (D.part port.now) driver.now g
-        → StepsAlone (Stands (D.mem port.now) (D.part port.now) driver.now) g (Call.Read page offset len) result }
+) -> Result<Bytes, Refusal>
+    requires { (g : Guest) × Stands (D.mem device.now) (D.part device.now) driver.now g }
+    ensures { (g : Guest) → Stands (D.mem device.now) (D.part device.now) driver.now g
+        → StepsAlone (Stands (D.mem device.now) (D.part device.now) driver.now) g (Call.Read page offset len) (bytes_reply result) }
 {
     if !driver.held(page) {
-        return Reply::Refused(Refusal::NotHeld);
+        return Err(Refusal::NotHeld);
     }
-    if !covers(port, page, offset, len) {
-        return Reply::Refused(Refusal::OutOfRam);
+    if !covers(device, page, offset, len) {
+        return Err(Refusal::OutOfRam);
     }
-    match read_bytes(alloc, port, page, offset, len) {
-        Ok(bytes) => Reply::ReadBytes { bytes },
-        Err(_) => Reply::Refused(Refusal::NoMemory),
+    match read_bytes(alloc, device, page, offset, len) {
+        Ok(bytes) => Ok(bytes),
+        Err(_) => Err(Refusal::NoMemory),
     }
 }

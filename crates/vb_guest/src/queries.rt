@@ -1,38 +1,51 @@
-// Questions about a guest.
+//! Questions about a guest.
 
 ghost use Rattle.std.specs.Prelude.{◌≡◌, ℕ, List, [], ◌∷◌, ◌++◌, length, IfOk, OnOk};
 ghost use Rattle.vb_model.specs.Guest.{Guest};
 ghost use Rattle.vb_model.specs.Tests.{pages_where};
 ghost use Rattle.vb_model.specs.World.{Answers, is_place, runs};
-ghost use Rattle.vb_guest.specs.Replies.{runs_reply};
+ghost use Rattle.vb_model.specs.declared.replies.Reply.TheVariants.{Places};
+ghost use Rattle.vb_ram.specs.Pages.{Pages};
+ghost use Rattle.vb_ram.specs.Part.{Part};
+ghost use Rattle.vb_driver.specs.State.{DriverState};
+ghost use Rattle.vb_guest.specs.Replies.{runs_reply, balloon_reply};
 ghost use Rattle.vb_guest.specs.Stands.{Stands};
 
 use bitflags::Flags;
 use std::alloc::{AllocError, Global};
 use vb_device::Device;
 use vb_driver::Driver;
-use vb_model::{PageRun, PageRuns, Place, Query, Refusal, Reply};
+use vb_model::{PageRun, PageRuns, Place, PlaceCounts, Query};
 
-/// How many pages each place has.
-pub(crate) fn places<D: Device>(driver: &Driver, port: &D) -> Reply
-    ensures { (g : Guest) → Stands (D.mem port.now) (D.part port.now) driver.now g → Answers Query.Places g result }
-{
-    let _port = port;
-    Reply::Places {
-        counts: driver.places(),
-    }
+/// What a device and its driver say of the balloon.
+#[derive(Copy, Clone, Debug, PartialEq, Eq)]
+pub struct BalloonState {
+    /// How many pages the device holds to be ballooned.
+    pub ballooned: u32,
+    /// How many pages the driver says it gave (VIRTIO 1.1, 5.5.4).
+    pub actual: u32,
+    /// How many the host wants: `num_pages` (VIRTIO 1.1, 5.5.4).
+    pub target: u32,
+    /// The device's status (VIRTIO 1.1, 2.1).
+    pub status: u8,
 }
 
-/// The count of ballooned pages, the configuration's two numbers (VIRTIO 1.1, 5.5.4) and the
-/// status.
-pub(crate) fn balloon<D: Device>(driver: &Driver, port: &D) -> Reply
-    ensures { (g : Guest) → Stands (D.mem port.now) (D.part port.now) driver.now g → Answers Query.Balloon g result }
+/// How many pages each place has.
+pub fn places(driver: &Driver) -> PlaceCounts
+    ensures { (mem : Pages) (part : Part) (g : Guest) → Stands mem part driver.now g → Answers Query.Places g (Places result) }
 {
-    Reply::Balloon {
-        ballooned: port.ballooned_count(),
+    driver.places()
+}
+
+/// The count of ballooned pages, the configuration's two numbers and the status.
+pub fn balloon<D: Device>(driver: &Driver, device: &D) -> BalloonState
+    ensures { (g : Guest) → Stands (D.mem device.now) (D.part device.now) driver.now g → Answers Query.Balloon g (balloon_reply result) }
+{
+    BalloonState {
+        ballooned: device.ballooned_count(),
         actual: driver.actual(),
-        target: port.target(),
-        status: u32::from(port.status().bits()),
+        target: device.target(),
+        status: device.status().bits(),
     }
 }
 
@@ -86,41 +99,37 @@ fn runs_at(alloc: Global, driver: &Driver, count: u32, place: Place) -> Result<P
 }
 
 /// The runs of the ballooned pages.
-fn ballooned_runs<D: Device>(alloc: Global, port: &D, count: u32) -> Result<PageRuns, AllocError>
-    requires { count ≡ length (D.part port.now).ballooned }
-    ensures { IfOk result (λ found. found ≡ runs (pages_where (λ flag. flag) (D.part port.now).ballooned)) }
+fn ballooned_runs<D: Device>(alloc: Global, device: &D, count: u32) -> Result<PageRuns, AllocError>
+    requires { count ≡ length (D.part device.now).ballooned }
+    ensures { IfOk result (λ found. found ≡ runs (pages_where (λ flag. flag) (D.part device.now).ballooned)) }
 {
     let mut found = Vec::new(alloc);
     for page in 0..count {
-        if port.ballooned(page) {
+        if device.ballooned(page) {
             push_page(&mut found, page)?;
         }
     }
     Ok(PageRuns::new(found))
 }
 
-fn runs_reply(answer: Result<PageRuns, AllocError>) -> Reply
-    ensures { result ≡ runs_reply answer }
+/// Which pages are at a place, as runs by rising page. Want of memory is the only refusal.
+pub fn pages_at<D: Device>(
+    alloc: Global,
+    driver: &Driver,
+    device: &D,
+    place: Place,
+) -> Result<PageRuns, AllocError>
+    requires { (g : Guest) × Stands (D.mem device.now) (D.part device.now) driver.now g }
+    ensures { (g : Guest) → Stands (D.mem device.now) (D.part device.now) driver.now g → Answers (Query.PagesAt place) g (runs_reply result) }
 {
-    match answer {
-        Ok(runs) => Reply::Pages { runs },
-        Err(_) => Reply::Refused(Refusal::NoMemory),
-    }
+    runs_at(alloc, driver, device.pages(), place)
 }
 
-/// Which pages are at a place.
-pub(crate) fn pages_at<D: Device>(alloc: Global, driver: &Driver, port: &D, place: Place) -> Reply
-    requires { (g : Guest) × Stands (D.mem port.now) (D.part port.now) driver.now g }
-    ensures { (g : Guest) → Stands (D.mem port.now) (D.part port.now) driver.now g → Answers (Query.PagesAt place) g result }
+/// Which pages the device holds to be ballooned, as runs by rising page. Want of memory is the only
+/// refusal.
+pub fn pages_ballooned<D: Device>(alloc: Global, device: &D) -> Result<PageRuns, AllocError>
+    requires { (d : DriverState) × (g : Guest) × Stands (D.mem device.now) (D.part device.now) d g }
+    ensures { (d : DriverState) (g : Guest) → Stands (D.mem device.now) (D.part device.now) d g → Answers Query.PagesBallooned g (runs_reply result) }
 {
-    runs_reply(runs_at(alloc, driver, port.pages(), place))
-}
-
-/// Which pages the device holds to be ballooned.
-pub(crate) fn pages_ballooned<D: Device>(alloc: Global, driver: &Driver, port: &D) -> Reply
-    requires { (g : Guest) × Stands (D.mem port.now) (D.part port.now) driver.now g }
-    ensures { (g : Guest) → Stands (D.mem port.now) (D.part port.now) driver.now g → Answers Query.PagesBallooned g result }
-{
-    let _driver = driver;
-    runs_reply(ballooned_runs(alloc, port, port.pages()))
+    ballooned_runs(alloc, device, device.pages())
 }

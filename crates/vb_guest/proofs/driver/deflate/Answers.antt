@@ -7,4 +7,4 @@ pub deflate-requires : goal.deflate-requires
 deflate-requires g c = let (guest, stands) = c.requires in record { memory = large _ _ _ guest stands; backed = up_backed _ _ _ guest stands }
 
 pub returns : goal.returns
-returns g c = λ guest stands. deflate_step _ _ _ _ _ _ guest _ _ _ c.posted_reply.ensures c.deflate.ensures stands
+returns g c = λ guest stands. deflate_step _ _ _ _ _ _ guest _ _ c.deflate.ensures stands

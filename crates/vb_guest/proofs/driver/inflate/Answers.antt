@@ -6,4 +6,4 @@ pub inflate-requires : goal.inflate-requires
 inflate-requires g c = let (guest, stands) = c.requires in record { memory = large _ _ _ guest stands; backed = up_backed _ _ _ guest stands }
 
 pub returns : goal.returns
-returns g c = λ guest stands. inflate_step _ _ _ _ _ _ guest _ _ _ c.posted_reply.ensures c.inflate.ensures stands
+returns g c = λ guest stands. inflate_step _ _ _ _ _ _ guest _ _ c.inflate.ensures stands

@@ -7,4 +7,4 @@ pub oom-requires : goal.oom-requires
 oom-requires g c = let (guest, stands) = c.requires in record { memory = large _ _ _ guest stands; backed = up_backed _ _ _ guest stands }
 
 pub returns : goal.returns
-returns g c = λ guest stands. oom_step _ _ _ _ _ _ guest _ _ _ c.posted_reply.ensures c.oom.ensures stands
+returns g c = λ guest stands. oom_step _ _ _ _ _ _ guest _ _ c.oom.ensures stands

@@ -6,4 +6,4 @@ pub reap-requires : goal.reap-requires
 reap-requires g c = let (guest, stands) = c.requires in large _ _ _ guest stands
 
 pub returns : goal.returns
-returns g c = λ guest stands. reap_step _ _ _ _ _ _ guest _ _ _ c.reaped_reply.ensures c.reap.ensures stands
+returns g c = λ guest stands. reap_step _ _ _ _ _ _ guest _ _ c.reap.ensures stands

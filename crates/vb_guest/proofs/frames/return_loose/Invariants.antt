@@ -7,13 +7,13 @@ use Rattle.vb_guest.proofs.frames.return_loose.Given as goal
 
 abbrev pub invariant-loop-frame : goal.invariant-loop-frame
 invariant-loop-frame g l = record {
-  mem : g.D.GuestBytes.mem l.port ≡ g.D.GuestBytes.mem l.fn.port;
-  part : g.D.GuestBytes.part l.port ≡ record (g.D.GuestBytes.part l.fn.port) { loose = (g.D.GuestBytes.part l.port).loose };
-  out : (n : ℕ) → one_if (is_out (g.K.FrameKeeper.out l.keeper) n) + times n (g.D.GuestBytes.part l.fn.port).loose ≡ one_if (is_out (g.K.FrameKeeper.out l.fn.keeper) n) + times n (g.D.GuestBytes.part l.port).loose;
-  loose : AreLoose (g.D.GuestBytes.part l.port).loose (g.K.FrameKeeper.out l.keeper);
-  own : (g.D.GuestBytes.part l.port).own ≡ [];
+  mem : g.D.GuestBytes.mem l.device ≡ g.D.GuestBytes.mem l.fn.device;
+  part : g.D.GuestBytes.part l.device ≡ record (g.D.GuestBytes.part l.fn.device) { loose = (g.D.GuestBytes.part l.device).loose };
+  out : (n : ℕ) → one_if (is_out (g.K.FrameKeeper.out l.keeper) n) + times n (g.D.GuestBytes.part l.fn.device).loose ≡ one_if (is_out (g.K.FrameKeeper.out l.fn.keeper) n) + times n (g.D.GuestBytes.part l.device).loose;
+  loose : AreLoose (g.D.GuestBytes.part l.device).loose (g.K.FrameKeeper.out l.keeper);
+  own : (g.D.GuestBytes.part l.device).own ≡ [];
   count : length (g.K.FrameKeeper.out l.keeper) ≡ length (g.K.FrameKeeper.out l.fn.keeper);
 }
 
 abbrev pub decreases-loop-frame : goal.decreases-loop-frame
-decreases-loop-frame g l = length (g.D.GuestBytes.part l.port).loose
+decreases-loop-frame g l = length (g.D.GuestBytes.part l.device).loose

@@ -1,7 +1,7 @@
 use Rattle.std.proofs.Common.{◌≡◌, ◌∙◌, sym, ap, refl, Err}
 use Rattle.vb_frames.specs.declared.Refused.TheVariants.{NoFrame, Memory}
 use Rattle.vb_model.specs.declared.replies.Refusal.TheVariants.{NoFrame as NoFrameLeft, NoMemory}
-use Rattle.vb_guest.proofs.InitStep.{init_up, known_answer, init_unsupplied, still_large, init_replied}
+use Rattle.vb_guest.proofs.InitStep.{init_up, known_answer, init_unsupplied, still_large, init_named}
 use Rattle.vb_guest.proofs.lives.init.Goals as goal
 
 pub returns-then-bits-ne0 : goal.returns-then-bits-ne0
@@ -12,17 +12,17 @@ init-requires g c = let (guest, stands) = c.requires in record { memory = still_
 
 pub returns-in-Ok : goal.returns-in-Ok
 returns-in-Ok g c = λ guest stands.
-    let new : (g.D.GuestBytes.part c.args.port.now).status ≡ 0 = sym c.status.ensures ∙ sym (c.bits.ensures tt) ∙ c.if-bits-ne0.false in
-    init_replied g.K.FrameKeeper.answers _ _ _ _ _ _ _ _ _ _ guest c.args.wanted _ _ _ (c.from_bits_retain.ensures tt) c.ready_reply.ensures new c.in-Ok.ensures.supplies c.in-Ok.ensures.part c.init.ensures stands
+    let new : (g.D.GuestBytes.part c.args.device.now).status ≡ 0 = sym c.status.ensures ∙ sym (c.bits.ensures tt) ∙ c.if-bits-ne0.false in
+    init_named g.K.FrameKeeper.answers _ _ _ _ _ _ _ _ _ _ guest c.args.wanted _ _ (c.from_bits_retain.ensures tt) new c.in-Ok.ensures.supplies c.in-Ok.ensures.part c.init.ensures stands
 
 pub returns-in-Err-NoFrame : goal.returns-in-Err-NoFrame
 returns-in-Err-NoFrame g c = λ guest stands.
-    let new : (g.D.GuestBytes.part c.args.port.now).status ≡ 0 = sym c.status.ensures ∙ sym (c.bits.ensures tt) ∙ c.if-bits-ne0.false in
+    let new : (g.D.GuestBytes.part c.args.device.now).status ≡ 0 = sym c.status.ensures ∙ sym (c.bits.ensures tt) ∙ c.if-bits-ne0.false in
     let did = known_answer g.K.FrameKeeper.answers _ _ _ _ _ c.supply_from.result (Err NoFrame) (c.in-Err-NoFrame.is ∙ ap Err c.in-Err-NoFrame.field-0-is) c.supply_from.ensures.supplies in
     init_unsupplied g.K.FrameKeeper.answers _ _ _ _ _ _ _ guest c.args.wanted NoFrame NoFrameLeft refl new did c.supply_from.ensures.part stands
 
 pub returns-in-Err-Memory : goal.returns-in-Err-Memory
 returns-in-Err-Memory g c = λ guest stands.
-    let new : (g.D.GuestBytes.part c.args.port.now).status ≡ 0 = sym c.status.ensures ∙ sym (c.bits.ensures tt) ∙ c.if-bits-ne0.false in
+    let new : (g.D.GuestBytes.part c.args.device.now).status ≡ 0 = sym c.status.ensures ∙ sym (c.bits.ensures tt) ∙ c.if-bits-ne0.false in
     let did = known_answer g.K.FrameKeeper.answers _ _ _ _ _ c.supply_from.result (Err Memory) (c.in-Err-Memory.is ∙ ap Err c.in-Err-Memory.field-0-is) c.supply_from.ensures.supplies in
     init_unsupplied g.K.FrameKeeper.answers _ _ _ _ _ _ _ guest c.args.wanted Memory NoMemory refl new did c.supply_from.ensures.part stands

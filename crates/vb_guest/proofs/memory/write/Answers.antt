@@ -20,15 +20,14 @@ write_fresh-requires g c =
     let found = needs_frame _ _ _ _ c.write.result did.answers did.out_of_ram did.empty (c.in-Err-NeedsFrame.is ∙ ap Err c.in-Err-NeedsFrame.field-0-is) in
     let (guest, stands) = c.requires in
     record {
-      stands = (guest, stands_same _ _ _ _ _ guest here.unwritten did.part stands);
-      used = sym c.if-not-held.ensures;
+      stands = (_, guest, stands_same _ _ _ _ _ guest here.unwritten did.part stands);
       covers = rw (here.unwritten, ← c.as_slice.ensures) found.0;
       some = rw (← c.as_slice.ensures) found.1;
       bare = rw here.unwritten found.2;
     }
 
 pub returns-in-Err-NeedsFrame : goal.returns-in-Err-NeedsFrame
-returns-in-Err-NeedsFrame g c = λ guest stands. c.write_fresh.ensures guest (stands_same _ _ _ _ _ guest c.in-Err-NeedsFrame.ensures.unwritten c.write.ensures.part stands)
+returns-in-Err-NeedsFrame g c = λ guest stands. c.write_fresh.ensures _ guest (sym c.if-not-held.ensures) (stands_same _ _ _ _ _ guest c.in-Err-NeedsFrame.ensures.unwritten c.write.ensures.part stands)
 
 pub returns-in-Err-OutOfRam : goal.returns-in-Err-OutOfRam
 returns-in-Err-OutOfRam g c = λ guest stands.

@@ -2,4 +2,4 @@ use Rattle.vb_guest.proofs.Counted.{places_answered}
 use Rattle.vb_guest.proofs.queries.places.Goals as goal
 
 pub returns : goal.returns
-returns g c = λ guest stands. places_answered _ _ _ guest _ c.places.ensures.counts stands
+returns c = λ mem part guest stands. places_answered mem part _ guest _ c.places.ensures.counts stands

@@ -1,0 +1,122 @@
+//! What the calls on a guest answer, as replies.
+
+ghost use Rattle.std.specs.Prelude.{◌≡◌};
+ghost use Rattle.vb_guest.specs.Replies.{ready_reply, page_reply, done_reply, bytes_reply, posted_reply, reaped_reply, taken_reply, finished_reply, swept_reply, runs_reply, balloon_reply};
+
+use crate::queries::BalloonState;
+use std::alloc::AllocError;
+use vb_driver::{Posted, Reaped};
+use vb_model::{Bytes, PageRuns, Refusal, Reply};
+
+pub(crate) fn ready_reply(answer: Result<(), Refusal>) -> Reply
+    ensures { result ≡ ready_reply answer }
+{
+    match answer {
+        Ok(()) => Reply::Ready,
+        Err(refusal) => Reply::Refused(refusal),
+    }
+}
+
+pub(crate) fn page_reply(answer: Result<u32, Refusal>) -> Reply
+    ensures { result ≡ page_reply answer }
+{
+    match answer {
+        Ok(start) => Reply::Page { start },
+        Err(refusal) => Reply::Refused(refusal),
+    }
+}
+
+pub(crate) fn done_reply(answer: Result<(), Refusal>) -> Reply
+    ensures { result ≡ done_reply answer }
+{
+    match answer {
+        Ok(()) => Reply::Done,
+        Err(refusal) => Reply::Refused(refusal),
+    }
+}
+
+pub(crate) fn bytes_reply(answer: Result<Bytes, Refusal>) -> Reply
+    ensures { result ≡ bytes_reply answer }
+{
+    match answer {
+        Ok(bytes) => Reply::ReadBytes { bytes },
+        Err(refusal) => Reply::Refused(refusal),
+    }
+}
+
+pub(crate) fn posted_reply(answer: Result<Posted, Refusal>) -> Reply
+    ensures { result ≡ posted_reply answer }
+{
+    match answer {
+        Ok(posted) => Reply::Posted {
+            head: u32::from(posted.head),
+            pages: posted.pages,
+        },
+        Err(refusal) => Reply::Refused(refusal),
+    }
+}
+
+pub(crate) fn reaped_reply(answer: Result<Option<Reaped>, Refusal>) -> Reply
+    ensures { result ≡ reaped_reply answer }
+{
+    match answer {
+        Ok(Some(reaped)) => Reply::Reaped {
+            head: u32::from(reaped.head),
+            pages: reaped.pages,
+        },
+        Ok(None) => Reply::NotUsed,
+        Err(refusal) => Reply::Refused(refusal),
+    }
+}
+
+pub(crate) fn taken_reply(answer: Result<Option<u16>, Refusal>) -> Reply
+    ensures { result ≡ taken_reply answer }
+{
+    match answer {
+        Ok(Some(head)) => Reply::Taken {
+            head: u32::from(head),
+        },
+        Ok(None) => Reply::Empty,
+        Err(refusal) => Reply::Refused(refusal),
+    }
+}
+
+pub(crate) fn finished_reply(answer: Result<u16, Refusal>) -> Reply
+    ensures { result ≡ finished_reply answer }
+{
+    match answer {
+        Ok(head) => Reply::Finished {
+            head: u32::from(head),
+        },
+        Err(refusal) => Reply::Refused(refusal),
+    }
+}
+
+pub(crate) fn swept_reply(answer: Result<bool, Refusal>) -> Reply
+    ensures { result ≡ swept_reply answer }
+{
+    match answer {
+        Ok(freed) => Reply::Swept { freed },
+        Err(refusal) => Reply::Refused(refusal),
+    }
+}
+
+pub(crate) fn runs_reply(answer: Result<PageRuns, AllocError>) -> Reply
+    ensures { result ≡ runs_reply answer }
+{
+    match answer {
+        Ok(runs) => Reply::Pages { runs },
+        Err(_) => Reply::Refused(Refusal::NoMemory),
+    }
+}
+
+pub(crate) fn balloon_reply(state: BalloonState) -> Reply
+    ensures { result ≡ balloon_reply state }
+{
+    Reply::Balloon {
+        ballooned: state.ballooned,
+        actual: state.actual,
+        target: state.target,
+        status: u32::from(state.status),
+    }
+}
