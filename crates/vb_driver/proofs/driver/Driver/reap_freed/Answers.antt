@@ -50,13 +50,12 @@ give_all-requires-clause-once g c p =
     let items : c.deref.result.now ≡ sent_by d.deflate head = c.deref.ensures.0 ∙ next.2 in
     subst (λ (l : List ℕ). times_in p l ≤ 1) (sym items) (freed_once d head p next.1 c.self.invariant)
 
-pub set_all-requires : goal.set_all-requires
-set_all-requires g c p here =
+pub settle-requires : goal.settle-requires
+settle-requires g c p here =
     let d = the_view c.self.inside in
     let head = c.in-Ok-Some.used.0 in
     let next = rw c.in-Ok-Some.field-0-is at c.in-Ok-Some.ensures.next in
-    let items : c.deref-2.result.now ≡ sent_by d.deflate head = c.deref-2.ensures.0 ∙ next.2 in
-    (freed_inside d p c.self.invariant (freed_taking d head p next.1 c.self.invariant (ap (is_in p) (sym items) ∙ here))).1
+    (freed_inside d p c.self.invariant (freed_taking d head p next.1 c.self.invariant (ap (is_in p) (sym next.2) ∙ here))).1
 
 pub invariant_of-self-2 : goal.invariant_of-self-2
 invariant_of-self-2 g c =
@@ -65,9 +64,9 @@ invariant_of-self-2 g c =
     let head = c.in-Ok-Some.used.0 in
     let next = rw c.in-Ok-Some.field-0-is at c.in-Ok-Some.ensures.next in
     let items : c.deref.result.now ≡ sent_by d.deflate head = c.deref.ensures.0 ∙ next.2 in
-    let moved : c.set_all.new.self ≡ placed (sent_by d.deflate head) Free d.places = c.set_all.ensures ∙ ap (λ (l : List ℕ). placed l Free d.places) (c.deref-2.ensures.0 ∙ next.2) in
+    let moved : c.settle.new.places ≡ placed (sent_by d.deflate head) Free d.places = c.settle.ensures.places ∙ ap (λ (l : List ℕ). placed l Free d.places) next.2 in
     let free : flags_of areas2.free ≡ flagged (sent_by d.deflate head) true (flags_of d.areas) = c.give_all.ensures.state.free ∙ ap (λ (l : List ℕ). flagged l true (flags_of d.areas)) items in
-    subst (λ (v : List Place). IsKept (record d { places = v; held = areas2.held; areas = areas2.free; deflate = c.take_used.new.self })) (sym moved)
-    (subst (λ (v : List Block). IsKept (record d { places = placed (sent_by d.deflate head) Free d.places; held = v; areas = areas2.free; deflate = c.take_used.new.self })) (sym c.give_all.ensures.state.held)
+    subst (λ (v : List Place). IsKept (record d { places = v; held = areas2.held; areas = areas2.free; deflate = c.take_back.new.queue })) (sym moved)
+    (subst (λ (v : List Block). IsKept (record d { places = placed (sent_by d.deflate head) Free d.places; held = v; areas = areas2.free; deflate = c.take_back.new.queue })) (sym c.give_all.ensures.state.held)
     (subst (λ (v : Side). IsKept (record d { places = placed (sent_by d.deflate head) Free d.places; areas = areas2.free; deflate = v })) (sym next.3)
     (freed_kept d areas2.free head next.1 c.self.invariant free c.give_all.ensures.state.processors)))
