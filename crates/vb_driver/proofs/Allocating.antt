@@ -23,9 +23,9 @@ use Rattle.vb_pages.proofs.Sets.{length-with_pages, in_block}
 use Rattle.vb_pages.proofs.ListsLemmas.{page_block}
 use Rattle.vb_pages.proofs.FreeLemmas.{serves_length, length-takes_pages}
 use Rattle.vb_driver.specs.Answers.{refusal_in, block_at}
-use Rattle.vb_driver.specs.Areas.{AreApart, flags_of, areas_of, refusal_of, is_free_at, is_covered, is_free_block, flagged}
+use Rattle.vb_driver.specs.Areas.{AreApart, Becomes, Allots, has_block, flags_of, refusal_of, is_free_at, is_covered, is_free_block, flagged}
 use Rattle.vb_driver.proofs.Naming.{times_in, some_in}
-use Rattle.vb_driver.proofs.Flags.{length_flags, flag_at, flag_free, free_flag, free_inside, held_unfree, same_areas, flags_moved, flags_same, left_by, gained_by, taken_by, serves_cpus, drained_sizes, given_sizes}
+use Rattle.vb_driver.proofs.Flags.{length_flags, flag_at, flag_free, free_flag, free_inside, held_unfree, flags_moved, flags_same, left_by, gained_by, taken_by, serves_cpus, drained_sizes, given_sizes}
 
 -- the driver's answer, by the allocator's
 abbrev pub answered : {T : Type 0} → Result T PageFault → Result T Refusal
@@ -43,37 +43,34 @@ list_all-from test (x ∷ xs) all =
     later true b h = refl
     later false b h = h
 
-abbrev pub has_block : PageState → ℕ → Bool
-has_block s order = list_any (λ start. is_free_block (flags_of s) (block_at start order)) (range_with_len 0 (length (flags_of s)))
-
-whole_block : (s : PageState) (start order : ℕ) → IsApart s → IsBlock (block_at start order) → IsWhollyFree s (block_at start order) → is_free_block (flags_of s) (block_at start order) ≡ true
+whole_block : (s : PageState) (start order : ℕ) → IsApart s → IsBlock (block_at start order) → IsWhollyFree s (block_at start order) → is_free_block (flags_of s.free) (block_at start order) ≡ true
 whole_block s start order apart block free =
-    and_from (is_aligned (block_at start order)) (list_all (is_free_at (flags_of s)) (pages_of (block_at start order))) block.1
-    (list_all-from (is_free_at (flags_of s)) (pages_of (block_at start order)) (λ p h. free_flag s p apart (free p (covers_is p (block_at start order) true h))))
+    and_from (is_aligned (block_at start order)) (list_all (is_free_at (flags_of s.free)) (pages_of (block_at start order))) block.1
+    (list_all-from (is_free_at (flags_of s.free)) (pages_of (block_at start order)) (λ p h. free_flag s p apart (free p (covers_is p (block_at start order) true h))))
 
 some_block : (s : PageState) (start order : ℕ) → IsApart s → IsBlock (block_at start order) → IsWhollyFree s (block_at start order) → has_block s order ≡ true
 some_block s start order apart block free =
     let first : is_free_page s start ≡ true = free start (covers_is start (block_at start order) true (in_block start order start (omega arith) (omega (arith, pow_pos order)))) in
-    let lt : start < length (flags_of s) = omega (arith, free_inside s start apart first, length_flags s) in
-    let here : get_or (range_with_len 0 (length (flags_of s))) start 0 ≡ start = get_or-range_with_len 0 (length (flags_of s)) start 0 lt ∙ omega arith in
-    list_any_at (λ first. is_free_block (flags_of s) (block_at first order)) (range_with_len 0 (length (flags_of s))) start 0 (omega (arith, length-range_with_len 0 (length (flags_of s))))
-    (ap (λ (n : ℕ). is_free_block (flags_of s) (block_at n order)) here ∙ whole_block s start order apart block free)
+    let lt : start < length (flags_of s.free) = omega (arith, free_inside s start apart first, length_flags s) in
+    let here : get_or (range_with_len 0 (length (flags_of s.free))) start 0 ≡ start = get_or-range_with_len 0 (length (flags_of s.free)) start 0 lt ∙ omega arith in
+    list_any_at (λ first. is_free_block (flags_of s.free) (block_at first order)) (range_with_len 0 (length (flags_of s.free))) start 0 (omega (arith, length-range_with_len 0 (length (flags_of s.free))))
+    (ap (λ (n : ℕ). is_free_block (flags_of s.free) (block_at n order)) here ∙ whole_block s start order apart block free)
 
 covered_in : (p start order : ℕ) → covers p (block_at start order) ≡ true → is_in p (pages_of (block_at start order)) ≡ true
 covered_in p start order h =
     let q = and_parts (nat_le start p) (nat_lt p (start + 2 ^ order)) h in
     in_block start order p (leb-true start p q.0) (ltb-true p (start + 2 ^ order) q.1)
 
-not_whole : (s : PageState) (start order : ℕ) → order ≤ 9 → (IsBlock (block_at start order) → IsWhollyFree s (block_at start order) → ⊥) → is_free_block (flags_of s) (block_at start order) ≡ false
+not_whole : (s : PageState) (start order : ℕ) → order ≤ 9 → (IsBlock (block_at start order) → IsWhollyFree s (block_at start order) → ⊥) → is_free_block (flags_of s.free) (block_at start order) ≡ false
 not_whole s start order small none =
-    false_from_ne_true (is_free_block (flags_of s) (block_at start order)) (λ t.
-    let parts = and_parts (is_aligned (block_at start order)) (list_all (is_free_at (flags_of s)) (pages_of (block_at start order))) t in
-    none (small, parts.0) (λ p covered. flag_free s p (list_all-at (is_free_at (flags_of s)) (pages_of (block_at start order)) p parts.1 (covered_in p start order covered))))
+    false_from_ne_true (is_free_block (flags_of s.free) (block_at start order)) (λ t.
+    let parts = and_parts (is_aligned (block_at start order)) (list_all (is_free_at (flags_of s.free)) (pages_of (block_at start order))) t in
+    none (small, parts.0) (λ p covered. flag_free s p (list_all-at (is_free_at (flags_of s.free)) (pages_of (block_at start order)) p parts.1 (covered_in p start order covered))))
 
 no_block : (s : PageState) (order : ℕ) → order ≤ 9 → ((start : ℕ) → IsBlock (block_at start order) → IsWhollyFree s (block_at start order) → ⊥) → has_block s order ≡ false
 no_block s order small none =
-    let starts = range_with_len 0 (length (flags_of s)) in
-    list_any_none (λ start. is_free_block (flags_of s) (block_at start order)) starts (λ k d lt. not_whole s (get_or starts k d) order small (none (get_or starts k d)))
+    let starts = range_with_len 0 (length (flags_of s.free)) in
+    list_any_none (λ start. is_free_block (flags_of s.free) (block_at start order)) starts (λ k d lt. not_whole s (get_or starts k d) order small (none (get_or starts k d)))
 
 -- ---- alloc
 
@@ -125,25 +122,44 @@ alloc_refusal s new cpu order (Err NoFreeBlock) served =
     sym (ap (λ (v : Bool). first_of v (nat_le (cpu_count s) cpu) (has_block s order)) a ∙ (ap (λ (v : Bool). first_of false v (has_block s order)) b ∙ ap (λ (v : Bool). first_of false false v) d))
 alloc_refusal s new cpu order (Err NoSuchBlock) served = absurd (served.never refl)
 
-pub alloc_refused : (s new : PageState) (cpu order : ℕ) (r : Result ℕ PageFault) → IsServed s new cpu order r → OnErr (answered r) (areas_of new ≡ areas_of s)
+stays : (s new : PageState) → new ≡ s → Becomes s new (flags_of s.free) s.held
+stays s new is = record { free = ap (λ (v : PageState). flags_of v.free) is; held = ap (λ (v : PageState). v.held) is; processors = ap cpu_count is }
+
+pub alloc_refused : (s new : PageState) (cpu order : ℕ) (r : Result ℕ PageFault) → IsServed s new cpu order r → OnErr (answered r) (Becomes s new (flags_of s.free) s.held)
 alloc_refused s new cpu order (Ok start) served = tt
-alloc_refused s new cpu order (Err OrderTooLarge) served = ap areas_of (served.unchanged (inl (served.bad_order.0 refl)))
-alloc_refused s new cpu order (Err NoSuchCpu) served = ap areas_of (served.unchanged (inr (served.bad_cpu.0 refl).1))
+alloc_refused s new cpu order (Err OrderTooLarge) served = stays s new (served.unchanged (inl (served.bad_order.0 refl)))
+alloc_refused s new cpu order (Err NoSuchCpu) served = stays s new (served.unchanged (inr (served.bad_cpu.0 refl).1))
 alloc_refused s new cpu order (Err NoFreeBlock) served =
     let small : order ≤ 9 = small_order s new cpu order (Err NoFreeBlock) served (λ e. cc) in
     let cpu_there : cpu < cpu_count s = there_cpu s new cpu order (Err NoFreeBlock) served small (λ e. cc) in
     let is : new.free ≡ drained s.free = (served.allocates small cpu_there).1.2 in
     let same = served.same refl in
     let sizes = drained_sizes s.free in
-    same_areas (areas_of new) (areas_of s) (flags_same s new (ap (λ (f : FreePages). length f.areas) is ∙ sizes.pages) same.0) same.1 (ap (λ (f : FreePages). length f.lists) is ∙ sizes.cpus)
+    record {
+      free = flags_same s new (ap (λ (f : FreePages). length f.areas) is ∙ sizes.pages) same.0;
+      held = same.1;
+      processors = ap (λ (f : FreePages). length f.lists) is ∙ sizes.cpus;
+    }
 alloc_refused s new cpu order (Err NoSuchBlock) served = absurd (served.never refl)
 
-pub alloc_free : (s new : PageState) (cpu order : ℕ) (r : Result ℕ PageFault) → IsServed s new cpu order r → IfOk (answered r) (λ start. IsTrue (is_free_block (flags_of s) (block_at start order)))
+-- what an allocation does to the areas, by its refusal
+pub alloc_allots : (s new : PageState) (cpu order : ℕ) (r : Result ℕ PageFault) → IsServed s new cpu order r → Allots s cpu order (answered r) new
+alloc_allots s new cpu order (Ok start) served =
+    let small : order ≤ 9 = small_order s new cpu order (Ok start) served (λ e. cc) in
+    served.allocates small (there_cpu s new cpu order (Ok start) served small (λ e. cc))
+alloc_allots s new cpu order (Err OrderTooLarge) served = served.unchanged (inl (served.bad_order.0 refl))
+alloc_allots s new cpu order (Err NoSuchCpu) served = served.unchanged (inr (served.bad_cpu.0 refl).1)
+alloc_allots s new cpu order (Err NoFreeBlock) served =
+    let small : order ≤ 9 = small_order s new cpu order (Err NoFreeBlock) served (λ e. cc) in
+    served.allocates small (there_cpu s new cpu order (Err NoFreeBlock) served small (λ e. cc))
+alloc_allots s new cpu order (Err NoSuchBlock) served = absurd (served.never refl)
+
+pub alloc_free : (s new : PageState) (cpu order : ℕ) (r : Result ℕ PageFault) → IsServed s new cpu order r → IfOk (answered r) (λ start. IsTrue (is_free_block (flags_of s.free) (block_at start order)))
 alloc_free s new cpu order (Ok start) served = whole_block s start order served.apart served.was_free.0 served.was_free.1
 alloc_free s new cpu order (Err fault) served = tt
 
 pub alloc_state : (s new : PageState) (cpu order : ℕ) (r : Result ℕ PageFault) → IsServed s new cpu order r
-    → IfOk (answered r) (λ start. areas_of new ≡ record (areas_of s) { free = flagged (pages_of (block_at start order)) false (flags_of s); held = with_block (block_at start order) s.held })
+    → IfOk (answered r) (λ start. Becomes s new (flagged (pages_of (block_at start order)) false (flags_of s.free)) (with_block (block_at start order) s.held))
 alloc_state s new cpu order (Ok start) served =
     let small : order ≤ 9 = small_order s new cpu order (Ok start) served (λ e. cc) in
     let cpu_there : cpu < cpu_count s = there_cpu s new cpu order (Ok start) served small (λ e. cc) in
@@ -151,23 +167,29 @@ alloc_state s new cpu order (Ok start) served =
     let pages : page_count new ≡ page_count s = ap page_count got.2 ∙ serves_length s.free got.0 cpu order start got.1 in
     let cpus : cpu_count new ≡ cpu_count s = ap cpu_count got.2 ∙ serves_cpus s.free got.0 cpu order start got.1 in
     let b = block_at start order in
-    same_areas (areas_of new) (record (areas_of s) { free = flagged (pages_of b) false (flags_of s); held = with_block b s.held })
-    (flags_moved s new (pages_of b) false pages (λ p. served.left p ∙ left_by p b (is_free_page s p))) served.held cpus
+    record {
+      free = flags_moved s new (pages_of b) false pages (λ p. served.left p ∙ left_by p b (is_free_page s p));
+      held = served.held;
+      processors = cpus;
+    }
 alloc_state s new cpu order (Err fault) served = tt
 
 -- ---- free
 
 pub free_state : (s new : PageState) (cpu start order : ℕ) (r : Result Unit PageFault) → OnOk r (new ≡ freed cpu (block_at start order) s)
     → OnOk r ((page : ℕ) → is_free_page new page ≡ (is_free_page s page || covers page (block_at start order)))
-    → OnOk (answered r) (areas_of new ≡ record (areas_of s) { free = flagged (pages_of (block_at start order)) true (flags_of s); held = without_block (block_at start order) s.held })
+    → OnOk (answered r) (Becomes s new (flagged (pages_of (block_at start order)) true (flags_of s.free)) (without_block (block_at start order) s.held))
 free_state s new cpu start order (Ok x) is gained =
     let b = block_at start order in
     let sizes = given_sizes s.free cpu start order in
-    same_areas (areas_of new) (record (areas_of s) { free = flagged (pages_of b) true (flags_of s); held = without_block b s.held })
-    (flags_moved s new (pages_of b) true (ap page_count is ∙ sizes.pages) (λ p. gained p ∙ gained_by p b (is_free_page s p))) (ap (λ (v : PageState). v.held) is) (ap cpu_count is ∙ sizes.cpus)
+    record {
+      free = flags_moved s new (pages_of b) true (ap page_count is ∙ sizes.pages) (λ p. gained p ∙ gained_by p b (is_free_page s p));
+      held = ap (λ (v : PageState). v.held) is;
+      processors = ap cpu_count is ∙ sizes.cpus;
+    }
 free_state s new cpu start order (Err fault) is gained = tt
 
-pub areas_apart : (s : PageState) → IsApart s → AreApart (areas_of s)
+pub areas_apart : (s : PageState) → IsApart s → AreApart s
 areas_apart s apart = record { apart = λ p covered. held_unfree s p apart covered }
 
 -- ---- single pages
@@ -205,7 +227,7 @@ flags_sum k (x ∷ set) xs test most =
     omega (arith, count_step k xs, count_by-cons (λ f. f) (test k) (map test (range_with_len (k + 1) (length set))), count_by-cons (λ f. f) x set)
 
 -- no more pages have a flag than are free
-pub count_flags : (s : PageState) → count_by (λ f. f) (flags_of s) ≤ free_count s.free
+pub count_flags : (s : PageState) → count_by (λ f. f) (flags_of s.free) ≤ free_count s.free
 unfolding flags_of
 count_flags s =
     let all = flags_sum 0 s.free.areas (in_lists s.free) (is_free_page s) (λ i lt. subst (λ (n : ℕ). one_if (is_free_page s n) ≤ one_if (get_or s.free.areas i false) + times_in n (in_lists s.free)) (omega arith) (one i)) in
@@ -220,16 +242,18 @@ count_flags s =
     one i = at (has s.free.areas i) (is_in i (in_lists s.free)) (times_in i (in_lists s.free)) (some_in i (in_lists s.free))
 
 pub taken_state : (s new : PageState) (pages : List ℕ) → TakesFree s pages new → ((p : ℕ) → one_if (is_free_page new p) + times_in p pages ≡ one_if (is_free_page s p))
-    → areas_of new ≡ record (areas_of s) { free = flagged pages false (flags_of s) }
+    → Becomes s new (flagged pages false (flags_of s.free)) s.held
 taken_state s new pages takes left =
     let sizes = drained_sizes s.free in
-    same_areas (areas_of new) (record (areas_of s) { free = flagged pages false (flags_of s) })
-    (flags_moved s new pages false (length-takes_pages (drained s.free).areas new.free.areas pages takes.0 ∙ sizes.pages) (λ p. taken_by p pages (is_free_page new p) (is_free_page s p) (left p)))
-    takes.2 (ap length takes.1 ∙ sizes.cpus)
+    record {
+      free = flags_moved s new pages false (length-takes_pages (drained s.free).areas new.free.areas pages takes.0 ∙ sizes.pages) (λ p. taken_by p pages (is_free_page new p) (is_free_page s p) (left p));
+      held = takes.2;
+      processors = ap length takes.1 ∙ sizes.cpus;
+    }
 
-pub taken_free : (s new : PageState) (pages : List ℕ) → IsApart s → ((p : ℕ) → one_if (is_free_page new p) + times_in p pages ≡ one_if (is_free_page s p)) → list_all (is_free_at (flags_of s)) pages ≡ true
+pub taken_free : (s new : PageState) (pages : List ℕ) → IsApart s → ((p : ℕ) → one_if (is_free_page new p) + times_in p pages ≡ one_if (is_free_page s p)) → list_all (is_free_at (flags_of s.free)) pages ≡ true
 taken_free s new pages apart left =
-    list_all-from (is_free_at (flags_of s)) pages (λ p h. free_flag s p apart (at (is_free_page s p) (omega (arith, left p, some_in p pages h))))
+    list_all-from (is_free_at (flags_of s.free)) pages (λ p h. free_flag s p apart (at (is_free_page s p) (omega (arith, left p, some_in p pages h))))
   where
     at : (b : Bool) → 1 ≤ one_if b → b ≡ true
     at true h = refl
@@ -248,7 +272,7 @@ pub taken_once : (new old : Bool) (n : ℕ) → one_if new + n ≡ one_if old �
 taken_once new true n h = omega arith
 taken_once new false n h = omega arith
 
-pub given_room : (s : PageState) (page : ℕ) → 16 ≤ page → page < length (flags_of s) → is_free_at (flags_of s) page ≡ false → is_covered page s.held ≡ false → HasRoomIn s (block_at page 0)
+pub given_room : (s : PageState) (page : ℕ) → 16 ≤ page → page < length (flags_of s.free) → is_free_at (flags_of s.free) page ≡ false → is_covered page s.held ≡ false → HasRoomIn s (block_at page 0)
 given_room s page unreserved inside taken uncovered =
     let lt : page < page_count s = omega (arith, length_flags s) in
     let unfree : is_free_page s page ≡ false = sym (flag_at s page false lt) ∙ taken in (
@@ -261,9 +285,11 @@ given_room s page unreserved inside taken uncovered =
     )
 
 pub given_state : (s new : PageState) (page : ℕ) → new ≡ given (block_at page 0) s → ((p : ℕ) → is_free_page new p ≡ (is_free_page s p || covers p (block_at page 0)))
-    → areas_of new ≡ record (areas_of s) { free = flagged (page ∷ []) true (flags_of s) }
+    → Becomes s new (flagged (page ∷ []) true (flags_of s.free)) s.held
 given_state s new page is gained =
     let b = block_at page 0 in
-    same_areas (areas_of new) (record (areas_of s) { free = flagged (page ∷ []) true (flags_of s) })
-    (flags_moved s new (pages_of b) true (ap page_count is ∙ length-with_pages (pages_of b) s.free.areas) (λ p. gained p ∙ gained_by p b (is_free_page s p)))
-    (ap (λ (v : PageState). v.held) is) (ap cpu_count is)
+    record {
+      free = flags_moved s new (pages_of b) true (ap page_count is ∙ length-with_pages (pages_of b) s.free.areas) (λ p. gained p ∙ gained_by p b (is_free_page s p));
+      held = ap (λ (v : PageState). v.held) is;
+      processors = ap cpu_count is;
+    }

@@ -12,31 +12,31 @@ use Rattle.vb_model.proofs.Tables.{each_page-get, length-each_from, count_by-con
 use Rattle.vb_model.proofs.PageSteps.{covers_is}
 use Rattle.vb_pages.specs.Areas.{has, with_pages, unreserved}
 use Rattle.vb_pages.specs.FreePages.{FreePages, in_lists, drained, times_free, list_of, with_list, given_back, Tries, Serves}
-use Rattle.vb_pages.specs.PageState.{PageState, page_count, is_free_page, is_unreserved, IsApart, fresh}
+use Rattle.vb_pages.specs.PageState.{PageState, page_count, is_free_page, is_unreserved, IsApart, fresh, given}
 use Rattle.vb_pages.proofs.Sets.{length-with_pages}
 use Rattle.vb_pages.proofs.AreasLemmas.{length-unreserved, has-unreserved}
 use Rattle.vb_pages.proofs.ListsLemmas.{one_if_true}
 use Rattle.vb_pages.proofs.FreeLemmas.{flat-replicate}
 use Rattle.vb_driver.specs.Answers.{block_at}
-use Rattle.vb_driver.specs.Areas.{AreasState, flags_of, is_free_at, flagged}
+use Rattle.vb_driver.specs.Areas.{flags_of, is_free_at, flagged, all_given}
 use Rattle.vb_driver.proofs.Naming.{times_in, some_in, zero_out}
 use Rattle.vb_driver.proofs.Placing.{first_place, is_in-push}
 
 -- ---- a page's flag
 
-pub length_flags : (s : PageState) → length (flags_of s) ≡ page_count s
+pub length_flags : (s : PageState) → length (flags_of s.free) ≡ page_count s
 unfolding flags_of
 length_flags s = length-map-range_with_len (is_free_page s) 0 (page_count s)
 
-pub flag_at : (s : PageState) (p : ℕ) (d : Bool) → p < page_count s → get_or (flags_of s) p d ≡ is_free_page s p
+pub flag_at : (s : PageState) (p : ℕ) (d : Bool) → p < page_count s → get_or (flags_of s.free) p d ≡ is_free_page s p
 unfolding flags_of
 flag_at s p d lt = get_or-map-range_with_len (is_free_page s) 0 (page_count s) p p d lt (omega arith)
 
 -- a page with a flag is free
-pub flag_free : (s : PageState) (p : ℕ) → is_free_at (flags_of s) p ≡ true → is_free_page s p ≡ true
+pub flag_free : (s : PageState) (p : ℕ) → is_free_at (flags_of s.free) p ≡ true → is_free_page s p ≡ true
 flag_free s p h = elim (cases_lt p (page_count s)) [
   | inl lt ↦ sym (flag_at s p false lt) ∙ h
-  | inr past ↦ (let wrong : false ≡ true = sym (get_or_past (flags_of s) p false (omega (arith, length_flags s))) ∙ h in cc)
+  | inr past ↦ (let wrong : false ≡ true = sym (get_or_past (flags_of s.free) p false (omega (arith, length_flags s))) ∙ h in cc)
 ]
 
 some_times : (s : PageState) (p : ℕ) → is_free_page s p ≡ true → 1 ≤ times_free s.free p
@@ -52,13 +52,13 @@ free_inside s p apart h =
     let some : 1 ≤ one_if (is_unreserved s p) = omega (arith, apart p, some_times s p h) in
     ltb-true p (page_count s) (and_parts (nat_le 16 p) (nat_lt p (page_count s)) (one_if_true (is_unreserved s p) some)).1
 
-pub free_flag : (s : PageState) (p : ℕ) → IsApart s → is_free_page s p ≡ true → is_free_at (flags_of s) p ≡ true
+pub free_flag : (s : PageState) (p : ℕ) → IsApart s → is_free_page s p ≡ true → is_free_at (flags_of s.free) p ≡ true
 free_flag s p apart h = flag_at s p false (free_inside s p apart h) ∙ h
 
 -- a page in a held block isn't free
-pub held_unfree : (s : PageState) (p : ℕ) → IsApart s → list_any (covers p) s.held ≡ true → is_free_at (flags_of s) p ≡ false
+pub held_unfree : (s : PageState) (p : ℕ) → IsApart s → list_any (covers p) s.held ≡ true → is_free_at (flags_of s.free) p ≡ false
 held_unfree s p apart covered =
-    false_from_ne_true (is_free_at (flags_of s) p) (λ h.
+    false_from_ne_true (is_free_at (flags_of s.free) p) (λ h.
     let free : 1 ≤ times_free s.free p = some_times s p (flag_free s p h) in
     let held : 1 ≤ count_by (covers p) s.held = some_covers s.held covered in
     omega (arith, apart p, one_most (is_unreserved s p)))
@@ -77,12 +77,6 @@ held_unfree s p apart covered =
 
 -- ---- flags that change
 
-pub same_areas : (a b : AreasState) → a.free ≡ b.free → a.held ≡ b.held → a.processors ≡ b.processors → a ≡ b
-same_areas a b f h p = ap (λ (x : List Bool). made x a.held a.processors) f ∙ (ap (λ (x : List Block). made b.free x a.processors) h ∙ ap (λ (x : ℕ). made b.free b.held x) p)
-  where
-    made : List Bool → List Block → ℕ → AreasState
-    made free held processors = record { free = free; held = held; processors = processors }
-
 pub flagged_at : (pages : List ℕ) (flag : Bool) (free : List Bool) (p : ℕ) → p < length free → is_free_at (flagged pages flag free) p ≡ cond (is_in p pages) flag (is_free_at free p)
 flagged_at pages flag free p lt = each_page-get (λ page old. if is_in page pages then flag else old) free p false (λ far. absurd (omega arith))
 
@@ -90,19 +84,19 @@ pub length-flagged : (pages : List ℕ) (flag : Bool) (free : List Bool) → len
 length-flagged pages flag free = length-each_from 0 (λ page old. if is_in page pages then flag else old) free
 
 pub flags_moved : (s new : PageState) (pages : List ℕ) (flag : Bool) → page_count new ≡ page_count s
-    → ((p : ℕ) → is_free_page new p ≡ cond (is_in p pages) flag (is_free_page s p)) → flags_of new ≡ flagged pages flag (flags_of s)
+    → ((p : ℕ) → is_free_page new p ≡ cond (is_in p pages) flag (is_free_page s p)) → flags_of new.free ≡ flagged pages flag (flags_of s.free)
 flags_moved s new pages flag size agree =
-    same_lists (flags_of new) (flagged pages flag (flags_of s)) (length_flags new ∙ (size ∙ sym (length-flagged pages flag (flags_of s) ∙ length_flags s))) (λ k d near.
+    same_lists (flags_of new.free) (flagged pages flag (flags_of s.free)) (length_flags new ∙ (size ∙ sym (length-flagged pages flag (flags_of s.free) ∙ length_flags s))) (λ k d near.
     let here : k < page_count new = omega (arith, length_flags new) in
     let there : k < page_count s = omega (arith, size) in
     flag_at new k d here
     ∙ (agree k
-    ∙ sym (each_page-get (λ page old. if is_in page pages then flag else old) (flags_of s) k d (λ far. absurd (omega (arith, length_flags s)))
+    ∙ sym (each_page-get (λ page old. if is_in page pages then flag else old) (flags_of s.free) k d (λ far. absurd (omega (arith, length_flags s)))
     ∙ ap (λ (v : Bool). cond (is_in k pages) flag v) (flag_at s k d there))))
 
-pub flags_same : (s new : PageState) → page_count new ≡ page_count s → ((p : ℕ) → is_free_page new p ≡ is_free_page s p) → flags_of new ≡ flags_of s
+pub flags_same : (s new : PageState) → page_count new ≡ page_count s → ((p : ℕ) → is_free_page new p ≡ is_free_page s p) → flags_of new.free ≡ flags_of s.free
 flags_same s new size agree =
-    same_lists (flags_of new) (flags_of s) (length_flags new ∙ (size ∙ sym (length_flags s))) (λ k d near.
+    same_lists (flags_of new.free) (flags_of s.free) (length_flags new ∙ (size ∙ sym (length_flags s))) (λ k d near.
     let here : k < page_count new = omega (arith, length_flags new) in
     flag_at new k d here ∙ (agree k ∙ sym (flag_at s k d (omega (arith, size)))))
 
@@ -189,12 +183,12 @@ free_first pages cpus k lt =
     ap (λ (l : List ℕ). has (unreserved pages) k || is_in k l) (flat-replicate cpus)
     ∙ (or_false (has (unreserved pages) k) ∙ (has-unreserved pages k lt ∙ turned (nat_lt k 16) k refl))
 
-pub fresh_flags : (pages cpus : ℕ) → flags_of (fresh pages cpus) ≡ map is_free (all_free pages)
+pub fresh_flags : (pages cpus : ℕ) → flags_of (fresh pages cpus).free ≡ map is_free (all_free pages)
 fresh_flags pages cpus =
     let s = fresh pages cpus in
     let size : page_count s ≡ pages = length-unreserved pages in
     let all : length (all_free pages) ≡ pages = length-map-range_with_len first_place 0 pages in
-    same_lists (flags_of s) (map is_free (all_free pages)) (length_flags s ∙ (size ∙ sym (length-map (all_free pages) is_free ∙ all))) (λ k d near.
+    same_lists (flags_of s.free) (map is_free (all_free pages)) (length_flags s ∙ (size ∙ sym (length-map (all_free pages) is_free ∙ all))) (λ k d near.
     let here : k < pages = omega (arith, length_flags s) in
     flag_at s k d (omega arith)
     ∙ (free_first pages cpus k here
@@ -223,6 +217,10 @@ flagged_more xs x flag free =
     ∙ (twice (is_in k xs) (eqb x k) flag (get_or free k d)
     ∙ sym (each_page-get (λ page old. if is_in page (x ∷ []) then flag else old) before k d (λ far. absurd (omega arith))
     ∙ ap (λ v. cond (eqb x k || false) flag v) (each_page-get (λ page old. if is_in page xs then flag else old) free k d (λ far. absurd (omega arith)))))))
+
+pub given_more : (xs : List ℕ) (x : ℕ) (s : PageState) → all_given (xs ++ x ∷ []) s ≡ given (block_at x 0) (all_given xs s)
+given_more [] x s = refl
+given_more (y ∷ xs) x s = given_more xs x (given (block_at y 0) s)
 
 -- a page that stands once isn't among those before it
 pub not_before : (pages : List ℕ) (i : ℕ) → i < length pages → times_in (get_or pages i 0) pages ≤ 1 → is_in (get_or pages i 0) (take i pages) ≡ false

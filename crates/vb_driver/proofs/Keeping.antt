@@ -7,9 +7,10 @@ use Rattle.vb_model.specs.Pages.{place_of, placed, is_free, is_used, is_giving, 
 use Rattle.vb_model.specs.declared.places.Place.{Place}
 use Rattle.vb_model.specs.declared.places.Place.TheVariants.{Reserved, Free, Used, Giving, Lent, Taking, Stranded, Reporting}
 use Rattle.vb_model.proofs.Tables.{each_page-get, length-each_from}
+use Rattle.vb_pages.specs.FreePages.{FreePages}
 use Rattle.vb_driver.specs.Places.{is_at}
 use Rattle.vb_driver.specs.State.{Side, DriverState, AreRequests, IsQueue, IsDriver, naming}
-use Rattle.vb_driver.specs.Areas.{AreasState, IsKept, is_covered, flagged}
+use Rattle.vb_driver.specs.Areas.{flags_of, IsKept, is_covered, flagged}
 use Rattle.vb_driver.proofs.Placing.{length-placed, placed-get}
 
 -- ---- a page's place
@@ -61,22 +62,22 @@ free_same places pages to agree =
 -- ---- the whole
 
 -- pages that move to a place, as blocks come to be held, or no more
-pub record Changes (d : DriverState) (areas areas2 : AreasState) (pages : List ℕ) (to : Place) (held2 : List Block) (i2 e2 : Side) : Type 0 where
-  pub kept : IsKept d areas
+pub record Changes (d : DriverState) (areas2 : FreePages) (pages : List ℕ) (to : Place) (held2 : List Block) (i2 e2 : Side) : Type 0 where
+  pub kept : IsKept d
   pub there : (p : ℕ) → is_in p pages ≡ true → p < length d.places
   pub unreserved : (p : ℕ) → is_in p pages ≡ true → is_at Reserved (place_of d.places p) ≡ false
   pub inflate : IsQueue i2 0 d.queue_size
   pub deflate : IsQueue e2 1 d.queue_size
   pub giving : (p : ℕ) → naming p i2.sent ≤ one_if (is_giving (cond (is_in p pages) to (place_of d.places p)))
   pub taking : (p : ℕ) → naming p e2.sent ≤ one_if (is_taking (cond (is_in p pages) to (place_of d.places p)))
-  pub free : areas2.free ≡ map is_free (placed pages to d.places)
-  pub processors : areas2.processors ≡ areas.processors
+  pub free : flags_of areas2 ≡ map is_free (placed pages to d.places)
+  pub processors : length areas2.lists ≡ length d.areas.lists
   pub proper : is_reporting to ≡ false
   pub used : (p : ℕ) → is_covered p held2 ≡ true → cond (is_in p pages) to (place_of d.places p) ≡ Used
 
-pub kept_changed : (d : DriverState) (areas areas2 : AreasState) (pages : List ℕ) (to : Place) (held2 : List Block) (i2 e2 : Side) → Changes d areas areas2 pages to held2 i2 e2
-    → IsKept (record d { places = placed pages to d.places; held = held2; inflate = i2; deflate = e2 }) areas2
-kept_changed d areas areas2 pages to held2 i2 e2 m =
+pub kept_changed : (d : DriverState) (areas2 : FreePages) (pages : List ℕ) (to : Place) (held2 : List Block) (i2 e2 : Side) → Changes d areas2 pages to held2 i2 e2
+    → IsKept (record d { places = placed pages to d.places; held = held2; areas = areas2; inflate = i2; deflate = e2 })
+kept_changed d areas2 pages to held2 i2 e2 m =
     let place : (p : ℕ) → place_of (placed pages to d.places) p ≡ cond (is_in p pages) to (place_of d.places p) = λ p. place_placed pages to d.places p (m.there p) in
     record {
       driver = record {
@@ -105,8 +106,8 @@ kept_changed d areas areas2 pages to held2 i2 e2 m =
     reserved_at p false e is = ap (λ v. cond v to (place_of d.places p)) e ∙ is
 
 -- pages that are in no held block, and move
-pub record Moves (d : DriverState) (areas areas2 : AreasState) (pages : List ℕ) (to : Place) (i2 e2 : Side) : Type 0 where
-  pub kept : IsKept d areas
+pub record Moves (d : DriverState) (areas2 : FreePages) (pages : List ℕ) (to : Place) (i2 e2 : Side) : Type 0 where
+  pub kept : IsKept d
   pub there : (p : ℕ) → is_in p pages ≡ true → p < length d.places
   pub unreserved : (p : ℕ) → is_in p pages ≡ true → is_at Reserved (place_of d.places p) ≡ false
   pub unused : (p : ℕ) → is_in p pages ≡ true → is_used (place_of d.places p) ≡ false
@@ -114,14 +115,14 @@ pub record Moves (d : DriverState) (areas areas2 : AreasState) (pages : List ℕ
   pub deflate : IsQueue e2 1 d.queue_size
   pub giving : (p : ℕ) → naming p i2.sent ≤ one_if (is_giving (cond (is_in p pages) to (place_of d.places p)))
   pub taking : (p : ℕ) → naming p e2.sent ≤ one_if (is_taking (cond (is_in p pages) to (place_of d.places p)))
-  pub free : areas2.free ≡ map is_free (placed pages to d.places)
-  pub processors : areas2.processors ≡ areas.processors
+  pub free : flags_of areas2 ≡ map is_free (placed pages to d.places)
+  pub processors : length areas2.lists ≡ length d.areas.lists
   pub proper : is_reporting to ≡ false
 
-pub kept_moved : (d : DriverState) (areas areas2 : AreasState) (pages : List ℕ) (to : Place) (i2 e2 : Side) → Moves d areas areas2 pages to i2 e2
-    → IsKept (record d { places = placed pages to d.places; inflate = i2; deflate = e2 }) areas2
-kept_moved d areas areas2 pages to i2 e2 m =
-    kept_changed d areas areas2 pages to d.held i2 e2 (record {
+pub kept_moved : (d : DriverState) (areas2 : FreePages) (pages : List ℕ) (to : Place) (i2 e2 : Side) → Moves d areas2 pages to i2 e2
+    → IsKept (record d { places = placed pages to d.places; areas = areas2; inflate = i2; deflate = e2 })
+kept_moved d areas2 pages to i2 e2 m =
+    kept_changed d areas2 pages to d.held i2 e2 (record {
       kept = m.kept;
       there = m.there;
       unreserved = m.unreserved;

@@ -1,7 +1,7 @@
 -- The pages that each call moves.
 use Rattle.std.proofs.Common.{◌≡◌, ◌≢◌, ◌∙◌, sym, ap, subst, arith, refl, ℕ, zero, suc, replicate, ◌+◌, ◌-◌, ◌<◌, ◌≤◌, Bool, true, false, cond, eqb, ◌||◌, ◌&&◌, ◌⊎◌, List, [], ◌∷◌, ◌++◌, length, take, get_or, set, map, count_by, inl, inr, Some, Ok, IsTrue}
 use Rattle.std.proofs.lemmas.Bool.{cases_Bool, cases_lt, lt-ltb}
-use Rattle.std.proofs.lemmas.List.{length-take, length-map, get_or-map, get_or_past}
+use Rattle.std.proofs.lemmas.List.{length-replicate, length-take, length-map, get_or-map, get_or_past}
 use Rattle.std.specs.List.{list_all}
 use Rattle.std.proofs.lemmas.List.Sums.{sum_by-cons, count_by-le-length}
 use Rattle.std.proofs.lemmas.List.Folds.{list_any-append}
@@ -15,11 +15,13 @@ use Rattle.vb_model.specs.Layout.{ring_page}
 use Rattle.vb_model.proofs.GuestSteps.{place_of-reset}
 use Rattle.vb_ram.specs.Pages.{Pages}
 use Rattle.vb_ring.specs.Ends.{after_add}
+use Rattle.vb_pages.specs.FreePages.{FreePages}
 use Rattle.vb_driver.specs.Places.{is_at}
 use Rattle.vb_driver.specs.State.{Side, DriverState, AreRequests, IsQueue, IsDriver, naming, sent_by, fresh_side, fresh_driver}
-use Rattle.vb_driver.specs.Areas.{AreasState, IsKept, flagged, is_free_at, is_covered}
+use Rattle.vb_driver.specs.Areas.{flags_of, IsKept, flagged, is_free_at, is_covered}
 use Rattle.vb_driver.specs.Calls.{Posts, lowest_lent, stranded_first, after_reap}
 use Rattle.vb_driver.proofs.Naming.{times_in, naming_more, naming_same, naming_less, named_place, named_once, once_lowest, once_append, once_distinct}
+use Rattle.vb_driver.proofs.Flags.{fresh_flags}
 use Rattle.vb_driver.proofs.Keeping.{Moves, kept_moved, there_by, free_same, free_flagged}
 use Rattle.std.proofs.lemmas.List.FromFn.{get_or-map-range_with_len, length-map-range_with_len}
 use Rattle.std.proofs.Common.{nat_lt}
@@ -192,14 +194,14 @@ reaped_queue s1 queue size head q = record {
 
 -- ---- lent pages are asked back
 
-pub asked_kept : (m1 m2 : Pages) (d : DriverState) (areas : AreasState) (e2 : Side) (base count head : ℕ) → IsKept d areas → Posts m1 m2 d.deflate e2 base (lowest_lent d count) head
-    → IsKept (record d { places = placed (lowest_lent d count) Taking d.places; deflate = e2 }) areas
-asked_kept m1 m2 d areas e2 base count head kept posts =
+pub asked_kept : (m1 m2 : Pages) (d : DriverState) (e2 : Side) (base count head : ℕ) → IsKept d → Posts m1 m2 d.deflate e2 base (lowest_lent d count) head
+    → IsKept (record d { places = placed (lowest_lent d count) Taking d.places; deflate = e2 })
+asked_kept m1 m2 d e2 base count head kept posts =
     let pages = lowest_lent d count in
     let lent : (p : ℕ) → is_in p pages ≡ true → place_of d.places p ≡ Lent = λ p here. lent_is (place_of d.places p) (lowest_is d.places count is_lent p here) in
     let small : head < length d.deflate.sent = omega (arith, posts.small, kept.driver.deflate.requests.buffers) in
     let sent : e2.sent ≡ set d.deflate.sent head pages = ap (λ (s : Side). s.sent) posts.state in
-    kept_moved d areas areas pages Taking d.inflate e2 (record {
+    kept_moved d d.areas pages Taking d.inflate e2 (record {
       kept = kept;
       there = λ p here. there_by d.places p is_lent refl (lowest_is d.places count is_lent p here);
       unreserved = λ p here. ap (is_at Reserved) (lent p here);
@@ -241,11 +243,11 @@ idle_test : (place : Place) (test : Place → Bool) (b : Bool) → test Stranded
 idle_test place test b s f (idle_stranded e) = ap test e ∙ s
 idle_test place test b s f (idle_free e) = ap test e ∙ f
 
-pub offered_kept : (m1 m2 : Pages) (d : DriverState) (areas areas2 : AreasState) (i2 : Side) (base count head : ℕ) (others : List ℕ) → IsKept d areas
-    → list_all (λ page. is_free (place_of d.places page)) others ≡ true → ((p : ℕ) → times_in p others ≤ 1) → areas2.free ≡ flagged others false areas.free → areas2.processors ≡ areas.processors
+pub offered_kept : (m1 m2 : Pages) (d : DriverState) (areas2 : FreePages) (i2 : Side) (base count head : ℕ) (others : List ℕ) → IsKept d
+    → list_all (λ page. is_free (place_of d.places page)) others ≡ true → ((p : ℕ) → times_in p others ≤ 1) → flags_of areas2 ≡ flagged others false (flags_of d.areas) → length areas2.lists ≡ length d.areas.lists
     → Posts m1 m2 d.inflate i2 base (stranded_first d count ++ others) head
-    → IsKept (record d { places = placed (stranded_first d count ++ others) Giving d.places; inflate = i2 }) areas2
-offered_kept m1 m2 d areas areas2 i2 base count head others kept free once taken processors posts =
+    → IsKept (record d { places = placed (stranded_first d count ++ others) Giving d.places; inflate = i2; areas = areas2 })
+offered_kept m1 m2 d areas2 i2 base count head others kept free once taken processors posts =
     let first = stranded_first d count in
     let pages = first ++ others in
     let idle : (p : ℕ) → is_in p pages ≡ true → Idle (place_of d.places p) = λ p here. elim (is_in-append p first others here) [
@@ -255,7 +257,7 @@ offered_kept m1 m2 d areas areas2 i2 base count head others kept free once taken
     let small : head < length d.inflate.sent = omega (arith, posts.small, kept.driver.inflate.requests.buffers) in
     let sent : i2.sent ≡ set d.inflate.sent head pages = ap (λ (s : Side). s.sent) posts.state in
     let once_all : (p : ℕ) → times_in p pages ≤ 1 = λ p. once_append p first others (once_lowest p count is_stranded d.places) (once p) (stranded_apart d count p others free) in
-    kept_moved d areas areas2 pages Giving i2 d.deflate (record {
+    kept_moved d areas2 pages Giving i2 d.deflate (record {
       kept = kept;
       there = λ p here. there_by d.places p (λ v. is_stranded v || is_free v) refl (idle_test (place_of d.places p) (λ v. is_stranded v || is_free v) true refl refl (idle p here));
       unreserved = λ p here. idle_test (place_of d.places p) (is_at Reserved) false refl refl (idle p here);
@@ -291,13 +293,13 @@ offered_kept m1 m2 d areas areas2 i2 base count head others kept free once taken
 
 -- ---- used requests are reaped
 
-pub lent_kept : (d : DriverState) (areas : AreasState) (head : ℕ) → head < 16 → IsKept d areas
-    → IsKept (record d { places = placed (sent_by d.inflate head) Lent d.places; inflate = after_reap d.inflate head }) areas
-lent_kept d areas head lt kept =
+pub lent_kept : (d : DriverState) (head : ℕ) → head < 16 → IsKept d
+    → IsKept (record d { places = placed (sent_by d.inflate head) Lent d.places; inflate = after_reap d.inflate head })
+lent_kept d head lt kept =
     let pages = sent_by d.inflate head in
     let small : head < length d.inflate.sent = omega (arith, kept.driver.inflate.requests.buffers) in
     let giving : (p : ℕ) → is_in p pages ≡ true → is_giving (place_of d.places p) ≡ true = λ p here. named_place p head d.inflate.sent is_giving (place_of d.places p) small (kept.driver.giving p) here in
-    kept_moved d areas areas pages Lent (after_reap d.inflate head) d.deflate (record {
+    kept_moved d d.areas pages Lent (after_reap d.inflate head) d.deflate (record {
       kept = kept;
       there = λ p here. there_by d.places p is_giving refl (giving p here);
       unreserved = λ p here. ap (is_at Reserved) (giving_is (place_of d.places p) (giving p here));
@@ -316,13 +318,13 @@ lent_kept d areas head lt kept =
     same_free p place is true e giving = ap is_free (is ∙ giving_is (place_of d.places p) (giving p e)) ∙ sym (ap (λ v. is_free (cond v Lent place)) e)
     same_free p place is false e giving = sym (ap (λ v. is_free (cond v Lent place)) e)
 
-pub freed_kept : (d : DriverState) (areas areas2 : AreasState) (head : ℕ) → head < 16 → IsKept d areas → areas2.free ≡ flagged (sent_by d.deflate head) true areas.free → areas2.processors ≡ areas.processors
-    → IsKept (record d { places = placed (sent_by d.deflate head) Free d.places; deflate = after_reap d.deflate head }) areas2
-freed_kept d areas areas2 head lt kept given processors =
+pub freed_kept : (d : DriverState) (areas2 : FreePages) (head : ℕ) → head < 16 → IsKept d → flags_of areas2 ≡ flagged (sent_by d.deflate head) true (flags_of d.areas) → length areas2.lists ≡ length d.areas.lists
+    → IsKept (record d { places = placed (sent_by d.deflate head) Free d.places; deflate = after_reap d.deflate head; areas = areas2 })
+freed_kept d areas2 head lt kept given processors =
     let pages = sent_by d.deflate head in
     let small : head < length d.deflate.sent = omega (arith, kept.driver.deflate.requests.buffers) in
     let taking : (p : ℕ) → is_in p pages ≡ true → is_taking (place_of d.places p) ≡ true = λ p here. named_place p head d.deflate.sent is_taking (place_of d.places p) small (kept.driver.taking p) here in
-    kept_moved d areas areas2 pages Free d.inflate (after_reap d.deflate head) (record {
+    kept_moved d areas2 pages Free d.inflate (after_reap d.deflate head) (record {
       kept = kept;
       there = λ p here. there_by d.places p is_taking refl (taking p here);
       unreserved = λ p here. ap (is_at Reserved) (taking_is (place_of d.places p) (taking p here));
@@ -386,34 +388,34 @@ offered_inside d count p others free here = elim (is_in-append p (stranded_first
 
 -- ---- the pages of a request that is out
 
-pub lent_inside : (d : DriverState) (areas : AreasState) (head p : ℕ) → head < 16 → IsKept d areas → is_in p (sent_by d.inflate head) ≡ true → p < length d.places
-lent_inside d areas head p lt kept here =
+pub lent_inside : (d : DriverState) (head p : ℕ) → head < 16 → IsKept d → is_in p (sent_by d.inflate head) ≡ true → p < length d.places
+lent_inside d head p lt kept here =
     there_by d.places p is_giving refl (named_place p head d.inflate.sent is_giving (place_of d.places p) (omega (arith, kept.driver.inflate.requests.buffers)) (kept.driver.giving p) here)
 
-pub freed_taking : (d : DriverState) (areas : AreasState) (head p : ℕ) → head < 16 → IsKept d areas → is_in p (sent_by d.deflate head) ≡ true → place_of d.places p ≡ Taking
-freed_taking d areas head p lt kept here =
+pub freed_taking : (d : DriverState) (head p : ℕ) → head < 16 → IsKept d → is_in p (sent_by d.deflate head) ≡ true → place_of d.places p ≡ Taking
+freed_taking d head p lt kept here =
     taking_is (place_of d.places p) (named_place p head d.deflate.sent is_taking (place_of d.places p) (omega (arith, kept.driver.deflate.requests.buffers)) (kept.driver.taking p) here)
 
-pub freed_once : (d : DriverState) (areas : AreasState) (head p : ℕ) → head < 16 → IsKept d areas → times_in p (sent_by d.deflate head) ≤ 1
-freed_once d areas head p lt kept = named_once p head d.deflate.sent is_taking (place_of d.places p) (omega (arith, kept.driver.deflate.requests.buffers)) (kept.driver.taking p)
+pub freed_once : (d : DriverState) (head p : ℕ) → head < 16 → IsKept d → times_in p (sent_by d.deflate head) ≤ 1
+freed_once d head p lt kept = named_once p head d.deflate.sent is_taking (place_of d.places p) (omega (arith, kept.driver.deflate.requests.buffers)) (kept.driver.taking p)
 
-pub freed_uncovered : (d : DriverState) (areas : AreasState) (p : ℕ) → IsKept d areas → place_of d.places p ≡ Taking → is_covered p d.held ≡ false
-freed_uncovered d areas p kept is = at (is_covered p d.held) refl
+pub freed_uncovered : (d : DriverState) (p : ℕ) → IsKept d → place_of d.places p ≡ Taking → is_covered p d.held ≡ false
+freed_uncovered d p kept is = at (is_covered p d.held) refl
   where
     at : (b : Bool) → is_covered p d.held ≡ b → is_covered p d.held ≡ false
     at false e = e
     at true e = (let wrong : true ≡ false = sym (ap is_used (kept.used p e)) ∙ ap is_used is in cc)
 
-pub freed_unfree : (d : DriverState) (areas : AreasState) (p : ℕ) → IsKept d areas → place_of d.places p ≡ Taking → is_free_at areas.free p ≡ false
-freed_unfree d areas p kept is = free_is_place d.places areas.free p kept.free ∙ ap is_free is
+pub freed_unfree : (d : DriverState) (p : ℕ) → IsKept d → place_of d.places p ≡ Taking → is_free_at (flags_of d.areas) p ≡ false
+freed_unfree d p kept is = free_is_place d.places (flags_of d.areas) p kept.free ∙ ap is_free is
 
-pub freed_inside : (d : DriverState) (areas : AreasState) (p : ℕ) → IsKept d areas → place_of d.places p ≡ Taking → (p < length areas.free) × (p < length d.places)
-freed_inside d areas p kept is =
+pub freed_inside : (d : DriverState) (p : ℕ) → IsKept d → place_of d.places p ≡ Taking → (p < length (flags_of d.areas)) × (p < length d.places)
+freed_inside d p kept is =
     let inside : p < length d.places = there_by d.places p is_taking refl (ap is_taking is) in
     (omega (arith, ap length kept.free, length-map d.places is_free), inside)
 
-pub freed_unreserved : (d : DriverState) (areas : AreasState) (p : ℕ) → IsKept d areas → place_of d.places p ≡ Taking → 16 ≤ p
-freed_unreserved d areas p kept is = elim (cases_lt p 16) [
+pub freed_unreserved : (d : DriverState) (p : ℕ) → IsKept d → place_of d.places p ≡ Taking → 16 ≤ p
+freed_unreserved d p kept is = elim (cases_lt p 16) [
   | inl low ↦ (let wrong : true ≡ false = sym (ap is_taking is) ∙ ap is_taking (kept.reserved p low) in cc)
   | inr far ↦ far
 ]
@@ -457,9 +459,9 @@ fresh_queue queue size = record {
   size = refl;
 }
 
-pub reset_kept : (d : DriverState) (areas : AreasState) (features : ℕ) → IsKept d areas
-    → IsKept (record d { places = map place_after_reset d.places; inflate = fresh_side 0 d.queue_size; deflate = fresh_side 1 d.queue_size; features = features }) areas
-reset_kept d areas features kept =
+pub reset_kept : (d : DriverState) (features : ℕ) → IsKept d
+    → IsKept (record d { places = map place_after_reset d.places; inflate = fresh_side 0 d.queue_size; deflate = fresh_side 1 d.queue_size; features = features })
+reset_kept d features kept =
     record {
       driver = record {
         table = length-map d.places place_after_reset ∙ kept.driver.table;
@@ -496,9 +498,9 @@ reserved_first n p low = elim (cases_lt p n) [
   | inr past ↦ get_or_past (all_free n) p Reserved (omega (arith, length-map-range_with_len first_place 0 n))
 ]
 
-pub fresh_kept : (pages size processors f : ℕ) (areas : AreasState) → 64 ≤ pages → pages ≤ 16384 → IsSize size → areas.free ≡ map is_free (all_free pages) → areas.processors ≡ processors
-    → IsKept (record (fresh_driver pages size processors) { features = f }) areas
-fresh_kept pages size processors f areas least most sized free cpus =
+pub fresh_kept : (pages size processors f : ℕ) → 64 ≤ pages → pages ≤ 16384 → IsSize size
+    → IsKept (record (fresh_driver pages size processors) { features = f })
+fresh_kept pages size processors f least most sized =
     record {
       driver = record {
         table = length-map-range_with_len first_place 0 pages;
@@ -511,8 +513,8 @@ fresh_kept pages size processors f areas least most sized free cpus =
         taking = λ p. omega (arith, naming_none p 16);
         unreported = reported_never pages;
       };
-      free = free;
+      free = fresh_flags pages processors;
       used = λ p covered. (let wrong : false ≡ true = covered in cc);
       reserved = reserved_first pages;
-      processors = cpus;
+      processors = length-replicate {A = List ℕ} processors [];
     }

@@ -1,5 +1,5 @@
 -- What the driver uses of the page areas.
-use Rattle.std.specs.Prelude.{◌≡◌, ℕ, ◌<◌, Bool, true, false, ◌&&◌, List, map, slice_index_or, if◌then◌else◌}
+use Rattle.std.specs.Prelude.{◌≡◌, ℕ, ◌<◌, Bool, true, false, ◌&&◌, List, [], ◌∷◌, length, map, slice_index_or, if◌then◌else◌, Result, Ok, Err}
 use Rattle.std.specs.List.{list_any, list_all, range_with_len}
 use Rattle.vb_model.specs.declared.places.Place.TheVariants.{Reserved, Used}
 use Rattle.vb_model.specs.Limits.{reserved_pages}
@@ -9,22 +9,14 @@ use Rattle.vb_model.specs.declared.replies.Refusal.{Refusal}
 use Rattle.vb_model.specs.declared.replies.Refusal.TheVariants.{BadOrder, BadCpu, NoPages, NotHeld}
 use Rattle.vb_pages.specs.declared.PageFault.{PageFault}
 use Rattle.vb_pages.specs.declared.PageFault.TheVariants.{BadOrder as OrderTooLarge, BadCpu as NoSuchCpu, NoPages as NoFreeBlock, NotHeld as NoSuchBlock}
-use Rattle.vb_pages.specs.PageState.{PageState, page_count, cpu_count, is_free_page}
+use Rattle.vb_pages.specs.FreePages.{FreePages, is_free as is_unused}
+use Rattle.vb_pages.specs.PageState.{PageState, cpu_count, Allocates, given}
+use Rattle.vb_driver.specs.Answers.{block_at}
 use Rattle.vb_driver.specs.State.{DriverState, IsDriver}
 
--- The pages that are free, by page, and the blocks that allocations hold, by rising start.
-pub record AreasState : Type 0 where
-  pub free : List Bool
-  pub held : List Block
-  pub processors : ℕ
-
 -- whether each page is free
-unfoldable pub flags_of : PageState → List Bool
-flags_of s = map (is_free_page s) (range_with_len 0 (page_count s))
-
--- what the driver sees of the allocator
-abbrev pub areas_of : PageState → AreasState
-areas_of s = record { free = flags_of s; held = s.held; processors = cpu_count s }
+unfoldable pub flags_of : FreePages → List Bool
+flags_of f = map (is_unused f) (range_with_len 0 (length f.areas))
 
 -- how the driver refuses what the allocator refuses
 abbrev pub refusal_of : PageFault → Refusal
@@ -47,14 +39,36 @@ flagged pages flag free = each_page (λ page old. if is_in page pages then flag 
 abbrev pub is_covered : ℕ → List Block → Bool
 is_covered page held = list_any (covers page) held
 
--- No page is both free and in a held block.
-pub record AreApart (areas : AreasState) : Type 0 where
-  pub apart : (page : ℕ) → is_covered page areas.held ≡ true → is_free_at areas.free page ≡ false
+-- some block of the order is wholly free
+abbrev pub has_block : PageState → ℕ → Bool
+has_block s order = list_any (λ start. is_free_block (flags_of s.free) (block_at start order)) (range_with_len 0 (length (flags_of s.free)))
 
--- The areas are those of the driver: they have just the free pages and as many processors, the held blocks have used pages alone, and the first pages are reserved.
-pub record IsKept (d : DriverState) (areas : AreasState) : Type 0 where
+-- From now on these pages are free and these blocks held, on as many processors.
+pub record Becomes (old new : PageState) (flags : List Bool) (blocks : List Block) : Type 0 where
+  pub free : flags_of new.free ≡ flags
+  pub held : new.held ≡ blocks
+  pub processors : cpu_count new ≡ cpu_count old
+
+-- What an allocation does to the areas and the lists: it takes its block from them, or finds none, with all lists drained.
+-- An order or a processor that is refused leaves them as they are.
+abbrev pub Allots : PageState → ℕ → ℕ → Result ℕ Refusal → PageState → Type 0
+Allots s cpu order (Ok start) new = Allocates s cpu order (Ok start) new
+Allots s cpu order (Err NoPages) new = Allocates s cpu order (Err NoFreeBlock) new
+Allots s cpu order (Err refusal) new = new ≡ s
+
+-- these single pages go back into the areas, one after the other
+abbrev pub all_given : List ℕ → PageState → PageState
+all_given [] s = s
+all_given (page ∷ pages) s = all_given pages (given (block_at page 0) s)
+
+-- No page is both free and in a held block.
+pub record AreApart (s : PageState) : Type 0 where
+  pub apart : (page : ℕ) → is_covered page s.held ≡ true → is_free_at (flags_of s.free) page ≡ false
+
+-- The areas and lists have just the free pages, the held blocks have used pages alone, and the first pages are reserved.
+pub record IsKept (d : DriverState) : Type 0 where
   pub driver : IsDriver d
-  pub free : areas.free ≡ map is_free d.places
+  pub free : flags_of d.areas ≡ map is_free d.places
   pub used : (page : ℕ) → is_covered page d.held ≡ true → place_of d.places page ≡ Used
   pub reserved : (page : ℕ) → page < reserved_pages → place_of d.places page ≡ Reserved
-  pub processors : areas.processors ≡ d.processors
+  pub processors : length d.areas.lists ≡ d.processors

@@ -16,6 +16,8 @@ use Rattle.vb_model.specs.Status.{failed}
 use Rattle.vb_model.specs.Refusals.{first_refusal}
 use Rattle.vb_ram.specs.Pages.{Pages, byte_at, page_at, frame_at, contents_at}
 use Rattle.vb_ram.specs.Part.{Part}
+use Rattle.vb_pages.specs.FreePages.{FreePages}
+use Rattle.vb_pages.specs.PageState.{TakesFree, freed}
 use Rattle.vb_status.specs.After.{after_reset}
 use Rattle.vb_chain.specs.Table.{descriptor_at}
 use Rattle.vb_ring.specs.Ends.{after_add, after_take, next_head, used_answer}
@@ -24,7 +26,8 @@ use Rattle.vb_ring.specs.Calls.{TakesUsedBy}
 use Rattle.vb_driver.specs.declared.answers.Posted.{Posted}
 use Rattle.vb_driver.specs.declared.answers.Reaped.{Reaped}
 use Rattle.vb_driver.specs.Coding.{IsCoded, SameButBuffer}
-use Rattle.vb_driver.specs.State.{Side, DriverState, AreRequests, IsDriver, fresh_side, sent_by}
+use Rattle.vb_driver.specs.State.{Side, DriverState, AreRequests, IsDriver, fresh_side, sent_by, page_state}
+use Rattle.vb_driver.specs.Areas.{Allots, all_given}
 use Rattle.vb_driver.specs.Answers.{refusal_in, inflate_count, deflate_count, oom_count, block_at, alloc_tests, free_tests, inflate_tests, deflate_tests, oom_tests, reap_tests, init_tests}
 
 -- Nothing is changed.
@@ -48,18 +51,24 @@ pub record AreCountsOf (counts : PlaceCounts) (places : List Place) : Type 0 whe
 pub record AllocatesBy (d1 d2 : DriverState) (cpu order : ℕ) (result : Result ℕ Refusal) : Type 0 where
   pub driver : IsDriver d1
   pub refusal : refusal_in result ≡ first_refusal (alloc_tests d1 cpu order)
-  pub refused : OnErr result (d2 ≡ d1)
+  pub refused : OnErr result (d2 ≡ record d1 { areas = d2.areas })
   pub free : IfOk result (λ start. IsTrue (is_wholly_free d1.places (block_at start order)))
-  pub state : IfOk result (λ start. d2 ≡ record d1 { places = placed (pages_of (block_at start order)) Used d1.places; held = with_block (block_at start order) d1.held })
+  pub state : IfOk result (λ start. d2 ≡ record d1 { places = placed (pages_of (block_at start order)) Used d1.places; held = with_block (block_at start order) d1.held; areas = d2.areas })
+  pub areas : Allots (page_state d1) cpu order result (page_state d2)
 
-abbrev pub after_free : DriverState → ℕ → ℕ → DriverState
-after_free d start order = record d { places = placed (pages_of (block_at start order)) Free d.places; held = without_block (block_at start order) d.held }
+abbrev pub after_free : DriverState → ℕ → ℕ → ℕ → DriverState
+after_free d cpu start order =
+    record d {
+      places = placed (pages_of (block_at start order)) Free d.places;
+      held = without_block (block_at start order) d.held;
+      areas = (freed cpu (block_at start order) (page_state d)).free;
+    }
 
 pub record FreesBy {T : Type 0} (d1 d2 : DriverState) (cpu start order : ℕ) (result : Result T Refusal) : Type 0 where
   pub driver : IsDriver d1
   pub refusal : refusal_in result ≡ first_refusal (free_tests d1 cpu start order)
   pub refused : OnErr result (d2 ≡ d1)
-  pub state : OnOk result (d2 ≡ after_free d1 start order)
+  pub state : OnOk result (d2 ≡ after_free d1 cpu start order)
 
 -- ---- requests
 
@@ -91,7 +100,8 @@ pub record Offers (m1 m2 : Pages) (p1 p2 : Part) (d1 d2 : DriverState) (count : 
   pub posts : Posts m1 m2 d1.inflate d2.inflate (buffers_page 0) (stranded_first d1 count ++ others) posted.head
   pub pages : posted.pages ≡ count
   pub part : p2 ≡ p1
-  pub state : d2 ≡ record d1 { places = placed (stranded_first d1 count ++ others) Giving d1.places; inflate = d2.inflate }
+  pub state : d2 ≡ record d1 { places = placed (stranded_first d1 count ++ others) Giving d1.places; areas = d2.areas; inflate = d2.inflate }
+  pub areas : TakesFree (page_state d1) others (page_state d2)
 
 pub record InflatesBy (m1 m2 : Pages) (p1 p2 : Part) (d1 d2 : DriverState) (n : ℕ) (result : Result Posted Refusal) : Type 0 where
   pub driver : IsDriver d1
@@ -135,6 +145,10 @@ with_side queue side d = if queue == 0 then record d { inflate = side } else rec
 abbrev pub place_reaped : ℕ → Place
 place_reaped queue = if queue == 0 then Lent else Free
 
+-- The page areas, once these pages of a used request have moved on.
+abbrev pub areas_reaped : ℕ → List ℕ → DriverState → FreePages
+areas_reaped queue pages d = if queue == 0 then d.areas else (all_given pages (page_state d)).free
+
 -- The request is gone.
 abbrev pub after_reap : Side → ℕ → Side
 after_reap side head = record { ring = after_take side.ring (Ok (Some head)); sent = slice_set side.sent head [] }
@@ -143,7 +157,7 @@ after_reap side head = record { ring = after_take side.ring (Ok (Some head)); se
 pub record Reaps (p1 p2 : Part) (d1 d2 : DriverState) (queue : ℕ) (reaped : Reaped) : Type 0 where
   pub small : reaped.head < max_outstanding
   pub pages : reaped.pages ≡ length (sent_by (side_of queue d1) reaped.head)
-  pub state : d2 ≡ with_side queue (after_reap (side_of queue d1) reaped.head) (record d1 { places = placed (sent_by (side_of queue d1) reaped.head) (place_reaped queue) d1.places })
+  pub state : d2 ≡ with_side queue (after_reap (side_of queue d1) reaped.head) (record d1 { places = placed (sent_by (side_of queue d1) reaped.head) (place_reaped queue) d1.places; areas = areas_reaped queue (sent_by (side_of queue d1) reaped.head) d1 })
   pub part : p2 ≡ record p1 { actual = count_by is_lent_or_taking d2.places }
 
 -- What the answer says of the used request that stands next.

@@ -8,24 +8,32 @@ use Rattle.vb_model.specs.Tests.{one_if}
 use Rattle.vb_ring.specs.Layout.{IsSize, layout_of}
 use Rattle.vb_ring.specs.Entries.{is_head}
 use Rattle.vb_ring.specs.Ends.{DriverEnd, fresh_end, is_free as is_unused}
+pub use Rattle.vb_pages.specs.FreePages.{FreePages}
+use Rattle.vb_pages.specs.PageState.{PageState, fresh}
 
 -- Of a queue of requests: the driver's end of its ring, and by head the pages of each request that is out, none where no request has the head.
 pub record Side : Type 0 where
   pub ring : DriverEnd
   pub sent : List (List ℕ)
 
--- A driver: how large its guest is, where each page is, the blocks that allocations hold, by rising start, its two queues, and the features that were accepted last.
+-- A driver: how large its guest is, where each page is, the blocks that allocations hold, by rising start,
+-- the page areas with each processor's list, its two queues, and the features that were accepted last.
 pub record DriverState : Type 0 where
   pub pages : ℕ
   pub queue_size : ℕ
   pub processors : ℕ
   pub places : List Place
   pub held : List Block
+  pub areas : FreePages
   pub inflate : Side
   pub deflate : Side
   pub features : ℕ
 
 -- ---- what is read off a driver
+
+-- its page allocator
+abbrev pub page_state : DriverState → PageState
+page_state d = record { free = d.areas; held = d.held }
 
 abbrev pub free_count : DriverState → ℕ
 free_count d = count_by is_free d.places
@@ -68,6 +76,7 @@ fresh_driver pages queue_size processors =
       processors = processors;
       places = all_free pages;
       held = [];
+      areas = (fresh pages processors).free;
       inflate = fresh_side 0 queue_size;
       deflate = fresh_side 1 queue_size;
       features = 0;

@@ -8,9 +8,9 @@ ghost use Rattle.vb_model.specs.Driver.{AllDistinct, with_block, without_block};
 ghost use Rattle.vb_model.specs.Limits.{max_order, reserved_pages};
 ghost use Rattle.vb_model.specs.Refusals.{◌⇒◌, first_refusal};
 ghost use Rattle.vb_model.specs.declared.replies.Refusal.TheVariants.{BadOrder, BadCpu, NoPages, NotHeld};
-ghost use Rattle.vb_pages.specs.PageState.{IsSize};
+ghost use Rattle.vb_pages.specs.PageState.{IsSize, cpu_count, fresh, freed, given, TakesFree};
 ghost use Rattle.vb_driver.specs.Answers.{refusal_in, block_at};
-ghost use Rattle.vb_driver.specs.Areas.{AreApart, is_free_at, is_covered, flagged, is_free_block, refusal_of};
+ghost use Rattle.vb_driver.specs.Areas.{AreApart, Becomes, Allots, flags_of, has_block, all_given, is_free_at, is_covered, flagged, is_free_block, refusal_of};
 
 use arrayvec::ArrayVec;
 use std::alloc::{AllocError, Global};
@@ -18,19 +18,19 @@ use std::marker::Model;
 use vb_model::Refusal;
 use vb_pages::{PageFault, Pages};
 
-/// The areas of a guest: which pages are free, and which blocks are held. A contract sees neither
-/// the buddy areas nor the lists of the processors, where a free page may stand.
+/// The areas of a guest, with the lists of the processors and the held blocks. What the driver
+/// needs beside them is which pages are free, wherever they stand.
 #[derive(Drop)]
 pub(crate) struct Areas {
     pages: Pages,
 }
 
 impl Model for Areas {
-    ghost use Rattle.vb_driver.specs.Areas.{AreasState, areas_of};
+    ghost use Rattle.vb_pages.specs.PageState.{PageState};
 
-    ghost Value = { AreasState };
+    ghost Value = { PageState };
 
-    ghost view = { λ a. areas_of a.pages };
+    ghost view = { λ a. a.pages };
 }
 
 /// How the driver refuses what the allocator refuses.
@@ -49,7 +49,7 @@ impl Areas {
     /// The areas of a guest as it is plugged in.
     pub(crate) fn new(alloc: Global, pages: u32, processors: u32) -> Result<Self, AllocError>
         requires { IsSize pages processors }
-        ensures { IfOk result (λ areas. areas ≡ record { free = map is_free (all_free pages); held = []; processors = processors }) }
+        ensures { IfOk result (λ areas. areas ≡ fresh pages processors) }
     {
         Ok(Areas {
             pages: Pages::new(alloc, pages, processors)?,
@@ -58,10 +58,11 @@ impl Areas {
 
     /// Allocates a block.
     pub(crate) fn alloc(&mut self, cpu: u32, order: u32) -> Result<u32, Refusal>
-        ensures refusal { refusal_in result ≡ first_refusal ((nat_lt max_order order ⇒ BadOrder) ∷ (nat_le self.old.processors cpu ⇒ BadCpu) ∷ (not (list_any (λ start. is_free_block self.old.free (block_at start order)) (range_with_len 0 (length self.old.free))) ⇒ NoPages) ∷ []) }
-        ensures refused { OnErr result (self.new ≡ self.old) }
-        ensures free { IfOk result (λ start. IsTrue (is_free_block self.old.free (block_at start order))) }
-        ensures state { IfOk result (λ start. self.new ≡ record self.old { free = flagged (pages_of (block_at start order)) false self.old.free; held = with_block (block_at start order) self.old.held }) }
+        ensures refusal { refusal_in result ≡ first_refusal ((nat_lt max_order order ⇒ BadOrder) ∷ (nat_le (cpu_count self.old) cpu ⇒ BadCpu) ∷ (not (has_block self.old order) ⇒ NoPages) ∷ []) }
+        ensures refused { OnErr result (Becomes self.old self.new (flags_of self.old.free) self.old.held) }
+        ensures free { IfOk result (λ start. IsTrue (is_free_block (flags_of self.old.free) (block_at start order))) }
+        ensures state { IfOk result (λ start. Becomes self.old self.new (flagged (pages_of (block_at start order)) false (flags_of self.old.free)) (with_block (block_at start order) self.old.held)) }
+        ensures areas { Allots self.old cpu order result self.new }
     {
         // A free page is one of the guest's pages.
         self.pages.pages_are_apart();
@@ -73,9 +74,10 @@ impl Areas {
 
     /// Frees a block that an allocation holds.
     pub(crate) fn free(&mut self, cpu: u32, start: u32, order: u32) -> Result<(), Refusal>
-        ensures refusal { refusal_in result ≡ first_refusal ((nat_lt max_order order ⇒ BadOrder) ∷ (nat_le self.old.processors cpu ⇒ BadCpu) ∷ (not (list_any (λ h. is_same_block h (block_at start order)) self.old.held) ⇒ NotHeld) ∷ []) }
+        ensures refusal { refusal_in result ≡ first_refusal ((nat_lt max_order order ⇒ BadOrder) ∷ (nat_le (cpu_count self.old) cpu ⇒ BadCpu) ∷ (not (list_any (λ h. is_same_block h (block_at start order)) self.old.held) ⇒ NotHeld) ∷ []) }
         ensures refused { OnErr result (self.new ≡ self.old) }
-        ensures state { OnOk result (self.new ≡ record self.old { free = flagged (pages_of (block_at start order)) true self.old.free; held = without_block (block_at start order) self.old.held }) }
+        ensures state { OnOk result (Becomes self.old self.new (flagged (pages_of (block_at start order)) true (flags_of self.old.free)) (without_block (block_at start order) self.old.held)) }
+        ensures areas { OnOk result (self.new ≡ freed cpu (block_at start order) self.old) }
         ensures apart { AreApart self.new }
     {
         let freed = self.pages.free(cpu, start, order);
@@ -90,11 +92,12 @@ impl Areas {
     /// Takes single free pages, so many; the lists of all processors are drained first.
     pub(crate) fn take_free(&mut self, count: u32) -> ArrayVec<u32, 256>
         requires few { count ≤ 256 }
-        requires free { count ≤ count_by (λ f. f) self.old.free }
+        requires free { count ≤ count_by (λ f. f) (flags_of self.old.free) }
         ensures count { length result.items ≡ count }
-        ensures free { IsTrue (list_all (is_free_at self.old.free) result.items) }
+        ensures free { IsTrue (list_all (is_free_at (flags_of self.old.free)) result.items) }
         ensures distinct { AllDistinct result.items }
-        ensures state { self.new ≡ record self.old { free = flagged result.items false self.old.free } }
+        ensures state { Becomes self.old self.new (flagged result.items false (flags_of self.old.free)) self.old.held }
+        ensures areas { TakesFree self.old result.items self.new }
     {
         // A free page is one of the guest's pages.
         self.pages.pages_are_apart();
@@ -106,10 +109,11 @@ impl Areas {
     /// Gives a page back that was taken.
     fn give_free(&mut self, page: u32)
         requires unreserved { reserved_pages ≤ page }
-        requires inside { page < length self.old.free }
-        requires taken { is_free_at self.old.free page ≡ false }
+        requires inside { page < length (flags_of self.old.free) }
+        requires taken { is_free_at (flags_of self.old.free) page ≡ false }
         requires uncovered { is_covered page self.old.held ≡ false }
-        ensures { self.new ≡ record self.old { free = flagged (page ∷ []) true self.old.free } }
+        ensures state { Becomes self.old self.new (flagged (page ∷ []) true (flags_of self.old.free)) self.old.held }
+        ensures areas { self.new ≡ given (block_at page 0) self.old }
     {
         self.pages.give_free(page);
     }
@@ -117,11 +121,12 @@ impl Areas {
     /// Gives these pages back, which were taken and of which none stands twice.
     pub(crate) fn give_all(&mut self, pages: &[u32])
         requires unreserved { (page : ℕ) → is_in page pages.now ≡ true → reserved_pages ≤ page }
-        requires inside { (page : ℕ) → is_in page pages.now ≡ true → page < length self.old.free }
-        requires taken { (page : ℕ) → is_in page pages.now ≡ true → is_free_at self.old.free page ≡ false }
+        requires inside { (page : ℕ) → is_in page pages.now ≡ true → page < length (flags_of self.old.free) }
+        requires taken { (page : ℕ) → is_in page pages.now ≡ true → is_free_at (flags_of self.old.free) page ≡ false }
         requires uncovered { (page : ℕ) → is_in page pages.now ≡ true → is_covered page self.old.held ≡ false }
         requires once { (page : ℕ) → count_by (λ p. p == page) pages.now ≤ 1 }
-        ensures { self.new ≡ record self.old { free = flagged pages.now true self.old.free } }
+        ensures state { Becomes self.old self.new (flagged pages.now true (flags_of self.old.free)) self.old.held }
+        ensures areas { self.new ≡ all_given pages.now self.old }
     {
         for page in pages {
             self.give_free(*page);

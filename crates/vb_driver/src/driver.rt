@@ -36,9 +36,9 @@ impl Model for Driver {
 
     ghost Value = { DriverState };
 
-    ghost view = { λ d. record { pages = d.config.pages; queue_size = d.config.queue_size; processors = d.config.processors; places = d.places; held = d.areas.held; inflate = d.inflate; deflate = d.deflate; features = feature_bits d.features } };
+    ghost view = { λ d. record { pages = d.config.pages; queue_size = d.config.queue_size; processors = d.config.processors; places = d.places; held = d.areas.held; areas = d.areas.free; inflate = d.inflate; deflate = d.deflate; features = feature_bits d.features } };
 
-    ghost invariant = { λ d. IsKept (record { pages = d.config.pages; queue_size = d.config.queue_size; processors = d.config.processors; places = d.places; held = d.areas.held; inflate = d.inflate; deflate = d.deflate; features = feature_bits d.features }) d.areas };
+    ghost invariant = { λ d. IsKept (record { pages = d.config.pages; queue_size = d.config.queue_size; processors = d.config.processors; places = d.places; held = d.areas.held; areas = d.areas.free; inflate = d.inflate; deflate = d.deflate; features = feature_bits d.features }) };
 }
 
 impl Driver {

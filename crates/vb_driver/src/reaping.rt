@@ -1,12 +1,24 @@
 // Used requests are taken back (VIRTIO 1.1, 5.5.6).
 
-ghost use Rattle.std.specs.Prelude.{◌≡◌, ◌≤◌, true, length, bit_or};
+ghost use Rattle.std.specs.Prelude.{◌≡◌, ◌<◌, ◌≤◌, ◌∷◌, [], ℕ, true, not, length, bit_or, count_by, Ok, Err, None, Some, IfOk, IfErr, OnOk, OnErr, MatchOption};
+ghost use Rattle.vb_model.specs.Limits.{max_outstanding};
+ghost use Rattle.vb_model.specs.Tests.{is_in};
+ghost use Rattle.vb_model.specs.Pages.{placed, is_lent_or_taking};
 ghost use Rattle.vb_model.specs.Status.{failed};
-ghost use Rattle.vb_driver.specs.Answers.{is_up};
-ghost use Rattle.vb_driver.specs.Calls.{ReapsBy};
+ghost use Rattle.vb_model.specs.Refusals.{◌⇒◌, first_refusal};
+ghost use Rattle.vb_model.specs.declared.replies.Refusal.TheVariants.{NotReady, RingBroken};
+ghost use Rattle.vb_ring.specs.Layout.{IsInside};
+ghost use Rattle.vb_ring.specs.Ends.{used_answer};
+ghost use Rattle.vb_ring.specs.Calls.{TakesUsedBy};
+ghost use Rattle.vb_driver.specs.State.{sent_by};
+ghost use Rattle.vb_driver.specs.Answers.{is_up, is_ring_broken, refusal_in};
+ghost use Rattle.vb_driver.specs.Calls.{ReapsBy, after_refusal, after_reap};
 
+use crate::places::PlaceTable;
+use crate::queue::RequestQueue;
 use crate::requests::is_up;
 use crate::{Driver, Reaped};
+use arrayvec::ArrayVec;
 use bitflags::Flags;
 use vb_model::layout::{DEFLATE_QUEUE, INFLATE_QUEUE};
 use vb_model::{Place, Refusal};
@@ -21,6 +33,62 @@ pub(crate) fn give_up<P: Port>(port: &mut P)
     let _ = port.write_status(failed);
 }
 
+/// Takes the next request of a queue that the device used, and gives its head and its pages. The
+/// driver gives up where the used ring says what no device may say.
+fn take_back<P: Port>(
+    queue: &mut RequestQueue,
+    port: &mut P,
+) -> Result<Option<(u16, ArrayVec<u32, 256>)>, Refusal>
+    requires { IsInside (P.mem port.old) queue.old.ring.layout }
+    ensures refusal { refusal_in result ≡ first_refusal (
+        (not (is_up (P.part port.old).status) ⇒ NotReady)
+        ∷ (is_ring_broken (P.mem port.old) queue.old ⇒ RingBroken)
+        ∷ []) }
+    ensures failed { IfErr result (λ refusal. P.part port.new ≡ after_refusal refusal (P.part port.old)) }
+    ensures kept { OnErr result (queue.new ≡ queue.old) }
+    ensures part { OnOk result (P.part port.new ≡ P.part port.old) }
+    ensures mem { P.mem port.new ≡ P.mem port.old }
+    ensures ring { OnOk result (TakesUsedBy (P.mem port.old) queue.old.ring queue.new.ring (used_answer (P.mem port.old) queue.old.ring)) }
+    ensures next { IfOk result (λ got. MatchOption got
+        ((used_answer (P.mem port.old) queue.old.ring ≡ Ok None) × (queue.new ≡ queue.old))
+        (λ used. (used_answer (P.mem port.old) queue.old.ring ≡ Ok (Some used.0)) × (used.0 < max_outstanding)
+        × (used.1.items ≡ sent_by queue.old used.0) × (queue.new ≡ after_reap queue.old used.0))) }
+{
+    if !is_up(port) {
+        return Err(Refusal::NotReady);
+    }
+    match queue.take_used(port) {
+        Ok(used) => Ok(used),
+        Err(_) => {
+            give_up(port);
+            Err(Refusal::RingBroken)
+        }
+    }
+}
+
+/// Moves the pages of a used request to a place, and tells the device how many are lent or asked
+/// back then.
+fn settle<P: Port>(
+    places: &mut PlaceTable,
+    port: &mut P,
+    used: &(u16, ArrayVec<u32, 256>),
+    place: Place,
+) -> Reaped
+    requires { (page : ℕ) → is_in page used.now.1.items ≡ true → page < length places.old }
+    ensures places { places.new ≡ placed used.now.1.items place places.old }
+    ensures part { P.part port.new ≡ record (P.part port.old) { actual = count_by is_lent_or_taking places.new } }
+    ensures mem { P.mem port.new ≡ P.mem port.old }
+    ensures head { result.head ≡ used.now.0 }
+    ensures pages { result.pages ≡ length used.now.1.items }
+{
+    places.set_all(&used.1, place);
+    port.set_actual(places.in_balloon());
+    Reaped {
+        head: used.0,
+        pages: used.1.len() as u32,
+    }
+}
+
 impl Driver {
     /// Takes back the next inflate request that the device used: its pages are lent from now on.
     fn reap_lent<P: Port>(&mut self, port: &mut P) -> Result<Option<Reaped>, Refusal>
@@ -28,23 +96,12 @@ impl Driver {
         ensures { ReapsBy (P.mem port.old) (P.mem port.new) (P.part port.old) (P.part port.new) self.old self.new 0 result }
     {
         let places = &mut self.places;
-        if !is_up(port) {
-            return Err(Refusal::NotReady);
-        }
-        let used = match self.inflate.take_used(port) {
+        let used = match take_back(&mut self.inflate, port) {
             Ok(Some(used)) => used,
             Ok(None) => return Ok(None),
-            Err(_) => {
-                give_up(port);
-                return Err(Refusal::RingBroken);
-            }
+            Err(refusal) => return Err(refusal),
         };
-        places.set_all(&used.1, Place::Lent);
-        port.set_actual(places.in_balloon());
-        Ok(Some(Reaped {
-            head: used.0,
-            pages: used.1.len() as u32,
-        }))
+        Ok(Some(settle(places, port, &used, Place::Lent)))
     }
 
     /// Takes back the next deflate request that the device used: its pages are free from now on.
@@ -53,24 +110,13 @@ impl Driver {
         ensures { ReapsBy (P.mem port.old) (P.mem port.new) (P.part port.old) (P.part port.new) self.old self.new 1 result }
     {
         let places = &mut self.places;
-        if !is_up(port) {
-            return Err(Refusal::NotReady);
-        }
-        let used = match self.deflate.take_used(port) {
+        let used = match take_back(&mut self.deflate, port) {
             Ok(Some(used)) => used,
             Ok(None) => return Ok(None),
-            Err(_) => {
-                give_up(port);
-                return Err(Refusal::RingBroken);
-            }
+            Err(refusal) => return Err(refusal),
         };
         self.areas.give_all(&used.1);
-        places.set_all(&used.1, Place::Free);
-        port.set_actual(places.in_balloon());
-        Ok(Some(Reaped {
-            head: used.0,
-            pages: used.1.len() as u32,
-        }))
+        Ok(Some(settle(places, port, &used, Place::Free)))
     }
 
     /// Takes back the next request of a queue that the device used, if there is one: the pages of

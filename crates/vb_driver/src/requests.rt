@@ -1,12 +1,14 @@
 // Pages are offered to the host, and asked back (VIRTIO 1.1, 5.5.6).
 
-ghost use Rattle.std.specs.Prelude.{◌≡◌, ◌<◌, ◌≤◌, ◌+◌, ◌==◌, ◌++◌, ℕ, true, Ok, Err, Some, None, IfOk, IfErr, MatchOption, OnErr, OnOk, IsSome, length, count_by, min};
+ghost use Rattle.std.specs.Prelude.{◌≡◌, ◌<◌, ◌≤◌, ◌+◌, ◌==◌, ◌++◌, ◌∷◌, ℕ, not, true, Ok, Err, Some, None, IfOk, IfErr, MatchOption, OnErr, OnOk, IsSome, length, count_by, min};
 ghost use Rattle.vb_model.specs.Limits.{max_outstanding, max_request_pages};
 ghost use Rattle.vb_model.specs.Pages.{placed, is_lent_or_taking};
 ghost use Rattle.vb_ram.specs.Pages.{frame_at};
 ghost use Rattle.vb_ring.specs.Ends.{outstanding, used_answer};
 ghost use Rattle.vb_driver.specs.State.{IsDriver, room, stranded_count, free_count, lent_count, giving_count};
-ghost use Rattle.vb_driver.specs.Answers.{is_up, inflate_count, deflate_count, oom_count};
+ghost use Rattle.vb_model.specs.Refusals.{◌⇒◌, first_refusal};
+ghost use Rattle.vb_model.specs.declared.replies.Refusal.TheVariants.{NotReady, NoFeature};
+ghost use Rattle.vb_driver.specs.Answers.{is_up, inflate_count, deflate_count, oom_count, refusal_in, request_tests};
 ghost use Rattle.vb_driver.specs.Calls.{Offers, AsksBack, InflatesBy, DeflatesBy, DeflatesOnOomBy};
 
 use crate::queue::RequestQueue;
@@ -105,6 +107,39 @@ impl Driver {
         Posted { head, pages: count }
     }
 
+    /// Why a request for so many pages is refused, where it is: the device must be initialised, what
+    /// the request needs must have been accepted, the queue must have room, and there must be a
+    /// page to name.
+    fn admit<P: Port>(
+        &self,
+        port: &P,
+        accepted: bool,
+        queue: &RequestQueue,
+        count: u32,
+    ) -> Result<(), Refusal>
+        ensures refusal { refusal_in result ≡ first_refusal (
+            (not (is_up (P.part port.now).status) ⇒ NotReady)
+            ∷ (not accepted ⇒ NoFeature)
+            ∷ request_tests self.now queue.now count) }
+        ensures ready { OnOk result (is_up (P.part port.now).status ≡ true) }
+        ensures room { OnOk result (outstanding queue.now.ring < room self.now) }
+        ensures some { OnOk result (1 ≤ count) }
+    {
+        if !is_up(port) {
+            return Err(Refusal::NotReady);
+        }
+        if !accepted {
+            return Err(Refusal::NoFeature);
+        }
+        if self.is_full(queue) {
+            return Err(Refusal::QueueFull);
+        }
+        if count == 0 {
+            return Err(Refusal::Nothing);
+        }
+        Ok(())
+    }
+
     /// Offers pages to the host: at most n and 256, no more than the host's target lacks or than
     /// are stranded, whichever is more, and no more than are stranded or free. Stranded pages go
     /// first, lowest first.
@@ -117,17 +152,8 @@ impl Driver {
         requires backed { is_up (P.part port.old).status ≡ true → (p : ℕ) → p < 13 → IsSome (frame_at (P.mem port.old) p) }
         ensures { InflatesBy (P.mem port.old) (P.mem port.new) (P.part port.old) (P.part port.new) self.old self.new n result }
     {
-        let queue = &self.inflate;
-        if !is_up(port) {
-            return Err(Refusal::NotReady);
-        }
-        if self.is_full(queue) {
-            return Err(Refusal::QueueFull);
-        }
         let count = self.inflate_count(port.target(), n);
-        if count == 0 {
-            return Err(Refusal::Nothing);
-        }
+        self.admit(port, true, &self.inflate, count)?;
         Ok(self.offer(port, count))
     }
 
@@ -140,17 +166,8 @@ impl Driver {
         requires backed { is_up (P.part port.old).status ≡ true → (p : ℕ) → p < 13 → IsSome (frame_at (P.mem port.old) p) }
         ensures { DeflatesBy (P.mem port.old) (P.mem port.new) (P.part port.old) (P.part port.new) self.old self.new n result }
     {
-        let queue = &self.deflate;
-        if !is_up(port) {
-            return Err(Refusal::NotReady);
-        }
-        if self.is_full(queue) {
-            return Err(Refusal::QueueFull);
-        }
         let count = self.deflate_count(port.target(), n);
-        if count == 0 {
-            return Err(Refusal::Nothing);
-        }
+        self.admit(port, true, &self.deflate, count)?;
         Ok(self.ask_back(port, count))
     }
 
@@ -164,20 +181,9 @@ impl Driver {
         requires backed { is_up (P.part port.old).status ≡ true → (p : ℕ) → p < 13 → IsSome (frame_at (P.mem port.old) p) }
         ensures { DeflatesOnOomBy (P.mem port.old) (P.mem port.new) (P.part port.old) (P.part port.new) self.old self.new n result }
     {
-        let queue = &self.deflate;
-        if !is_up(port) {
-            return Err(Refusal::NotReady);
-        }
-        if !self.features.deflate_on_oom() {
-            return Err(Refusal::NoFeature);
-        }
-        if self.is_full(queue) {
-            return Err(Refusal::QueueFull);
-        }
         let count = self.oom_count(n);
-        if count == 0 {
-            return Err(Refusal::Nothing);
-        }
+        let accepted = self.features.deflate_on_oom();
+        self.admit(port, accepted, &self.deflate, count)?;
         Ok(self.ask_back(port, count))
     }
 }

@@ -1,6 +1,6 @@
 -- From what a call ties and the model's step to what the slot's clauses say.
 use Rattle.std.specs.Prelude.{◌≡◌, Bool, true, false, List, [], ◌∷◌, Option, Some, None, MatchOption, MatchBool, if◌then◌else◌, refl}
-use Rattle.std.proofs.Common.{sym, ap, subst}
+use Rattle.std.proofs.Common.{sym, ap, subst, inl, inr}
 use Rattle.vb_model.specs.declared.calls.Call.{Call}
 use Rattle.vb_model.specs.declared.calls.Claim.{Claim}
 use Rattle.vb_model.specs.declared.replies.Refusal.{Refusal}
@@ -14,7 +14,7 @@ use Rattle.vb_model.proofs.CallSteps.{honest_keeps}
 use Rattle.vb_model.proofs.OrderlySteps.{honest_order}
 use Rattle.vb_ram.specs.Pages.{Pages}
 use Rattle.vb_ram.specs.Part.{Part}
-use Rattle.vb_driver.specs.State.{DriverState}
+use Rattle.vb_driver.specs.State.{FreePages, DriverState}
 use Rattle.vb_guest.specs.Stands.{Stands, Ties}
 use Rattle.vb_guest.specs.Steps.{StepsAlone}
 
@@ -58,6 +58,17 @@ steps_alone m1 m2 p1 p2 d1 d2 g call reply new stands step ties frames = record 
 pub ties_same : (m1 m2 : Pages) (p1 p2 : Part) (d1 d2 : DriverState) (g : Guest) → m2 ≡ m1 → p2 ≡ p1 → d2 ≡ d1 → Ties m1 p1 d1 g → Ties m2 p2 d2 g
 ties_same m1 m2 p1 p2 d1 d2 g m p d ties =
     subst (λ x. Ties x p2 d2 g) (sym m) (subst (λ x. Ties m1 x d2 g) (sym p) (subst (λ x. Ties m1 p1 x g) (sym d) ties))
+
+-- the page areas are none of the guest's
+pub ties_areas : (m : Pages) (p : Part) (d : DriverState) (g : Guest) (areas : FreePages) → Ties m p d g → Ties m p (record d { areas = areas }) g
+ties_areas m p d g areas ties = record {
+  parts = ties.parts;
+  pages = ties.pages;
+  queues = elim ties.queues [
+    | inl idle ↦ inl idle
+    | inr run ↦ inr (record { state = run.state; backed = run.backed; inflate_size = run.inflate_size; deflate_size = run.deflate_size; inflate = run.inflate; deflate = run.deflate })
+  ];
+}
 
 -- a refused call
 pub refused_alone : (m1 m2 : Pages) (p1 p2 : Part) (d1 d2 : DriverState) (g : Guest) (call : Call) (why : Refusal)

@@ -22,7 +22,7 @@ use Rattle.vb_ram.specs.Part.{Part}
 use Rattle.vb_ring.specs.Ends.{outstanding as outstanding_in}
 use Rattle.vb_driver.specs.declared.answers.Posted.{Posted as PostedRequest}
 use Rattle.vb_driver.specs.Coding.{SameButBuffer}
-use Rattle.vb_driver.specs.State.{Side, DriverState, IsDriver}
+use Rattle.vb_driver.specs.State.{FreePages, Side, DriverState, IsDriver}
 use Rattle.vb_driver.specs.Answers.{refusal_in, deflate_tests, oom_tests, deflate_count as driver_count}
 use Rattle.vb_driver.specs.Calls.{Unchanged, AsksBack, DeflatesBy, DeflatesOnOomBy}
 use Rattle.vb_guest.specs.Stands.{Stands, Ties, IsRunning}
@@ -65,11 +65,11 @@ record IsAsking (g : Guest) (call : Call) (count : ℕ) : Type 0 where
   down : (g.status ≡ 0) ⊎ (g.status ≡ 131) → refusal_of g call ≡ Some NotReady
   performs : (reply : Reply) (new : Guest) → Deflates count g reply new → Performs call g [] reply new
 
-asked_back : (m1 m2 : Pages) (p1 p2 : Part) (g : Guest) (si sd : Side) (d2 : DriverState) (call : Call) (count : ℕ) (posted : PostedRequest)
-    → IsAsking g call count → IsDriver (driver_of g si sd) → AsksBack m1 m2 p1 p2 (driver_of g si sd) d2 count posted
-    → Stands m1 p1 (driver_of g si sd) g → IsRunning m1 p1 (driver_of g si sd) g → refusal_of g call ≡ None
+asked_back : (m1 m2 : Pages) (p1 p2 : Part) (g : Guest) (areas : FreePages) (si sd : Side) (d2 : DriverState) (call : Call) (count : ℕ) (posted : PostedRequest)
+    → IsAsking g call count → IsDriver (driver_of g areas si sd) → AsksBack m1 m2 p1 p2 (driver_of g areas si sd) d2 count posted
+    → Stands m1 p1 (driver_of g areas si sd) g → IsRunning m1 p1 (driver_of g areas si sd) g → refusal_of g call ≡ None
     → StepsAlone (Stands m2 p2 d2) g call (Posted posted.head posted.pages)
-asked_back m1 m2 p1 p2 g si sd d2 call count posted asks driver did stands run free =
+asked_back m1 m2 p1 p2 g areas si sd d2 call count posted asks driver did stands run free =
     let ties = stands.ties in
     let pages = lowest_lent count g in
     let single = driver.deflate.requests in
@@ -86,7 +86,7 @@ asked_back m1 m2 p1 p2 g si sd d2 call count posted asks driver did stands run f
     let B : ℕ → Type 0 = λ r. SameButBuffer m1 m2 r 8 posted.head in
     let rest : B 1 = subst B table did.posts.rest in
     let apart = post_apart m1 m2 1 8 posted.head 0 (omega arith) (omega arith) (λ p from to. (omega arith, omega (arith, did.posts.small))) rest in
-    let after : DriverState = driver_of new si d2.deflate in
+    let after : DriverState = driver_of new areas si d2.deflate in
     let there : Ties m2 p1 after new = record {
       parts = record {
         honest = ties.parts.honest;
@@ -121,18 +121,18 @@ asked_back m1 m2 p1 p2 g si sd d2 call count posted asks driver did stands run f
         deflate = line;
       });
     } in
-    steps_alone m1 m2 p1 p2 (driver_of g si sd) d2 g call (Posted posted.head posted.pages) new stands step
+    steps_alone m1 m2 p1 p2 (driver_of g areas si sd) d2 g call (Posted posted.head posted.pages) new stands step
     (subst (λ d. Ties m2 p2 d new) (sym did.state) (subst (λ p. Ties m2 p after new) (sym did.part) there)) refl
 
-by_result : (m1 m2 : Pages) (p1 p2 : Part) (g : Guest) (si sd : Side) (d2 : DriverState) (call : Call) (count : ℕ) (result : Result PostedRequest Refusal)
-    → IsAsking g call count → IsDriver (driver_of g si sd) → refusal_in result ≡ refusal_of g call → OnErr result (Unchanged m1 m2 p1 p2 (driver_of g si sd) d2)
-    → IfOk result (AsksBack m1 m2 p1 p2 (driver_of g si sd) d2 count) → Stands m1 p1 (driver_of g si sd) g → StepsAlone (Stands m2 p2 d2) g call (posted_reply result)
-by_result m1 m2 p1 p2 g si sd d2 call count (Err why) asks driver refusal refused did stands =
-    refused_alone m1 m2 p1 p2 (driver_of g si sd) d2 g call why stands (sym refusal) refused.mem refused.part refused.driver
-by_result m1 m2 p1 p2 g si sd d2 call count (Ok posted) asks driver refusal refused did stands =
+by_result : (m1 m2 : Pages) (p1 p2 : Part) (g : Guest) (areas : FreePages) (si sd : Side) (d2 : DriverState) (call : Call) (count : ℕ) (result : Result PostedRequest Refusal)
+    → IsAsking g call count → IsDriver (driver_of g areas si sd) → refusal_in result ≡ refusal_of g call → OnErr result (Unchanged m1 m2 p1 p2 (driver_of g areas si sd) d2)
+    → IfOk result (AsksBack m1 m2 p1 p2 (driver_of g areas si sd) d2 count) → Stands m1 p1 (driver_of g areas si sd) g → StepsAlone (Stands m2 p2 d2) g call (posted_reply result)
+by_result m1 m2 p1 p2 g areas si sd d2 call count (Err why) asks driver refusal refused did stands =
+    refused_alone m1 m2 p1 p2 (driver_of g areas si sd) d2 g call why stands (sym refusal) refused.mem refused.part refused.driver
+by_result m1 m2 p1 p2 g areas si sd d2 call count (Ok posted) asks driver refusal refused did stands =
     elim stands.ties.queues [
       | inl idle ↦ absurd (let down = asks.down idle.state in let free : refusal_of g call ≡ None = sym refusal in cc)
-      | inr run ↦ asked_back m1 m2 p1 p2 g si sd d2 call count posted asks driver did stands run (sym refusal)
+      | inr run ↦ asked_back m1 m2 p1 p2 g areas si sd d2 call count posted asks driver did stands run (sym refusal)
     ]
 
 some_asked : (most out count : ℕ) → request_refusal most out count ≡ None → 0 < count
@@ -155,9 +155,9 @@ deflate_running g n e =
     let P : ℕ → Type 0 = λ s. refusal_of (record g { status = s }) (Deflate n) ≡ request_refusal (room g) (outstanding g.deflate) (deflate_count g n) in
     subst P (sym e) refl
 
-deflate_running_tests : (g : Guest) (si sd : Side) (p : Part) (n : ℕ) → p.status ≡ 15 → p.target ≡ g.target → first_refusal (deflate_tests (driver_of g si sd) p n) ≡ request_refusal (room g) (outstanding_in sd.ring) (deflate_count g n)
-deflate_running_tests g si sd p n e t =
-    let P : ℕ → ℕ → Type 0 = λ s target. first_refusal (deflate_tests (driver_of g si sd) (record p { status = s; target = target }) n) ≡ request_refusal (room g) (outstanding_in sd.ring) (deflate_count g n) in
+deflate_running_tests : (g : Guest) (areas : FreePages) (si sd : Side) (p : Part) (n : ℕ) → p.status ≡ 15 → p.target ≡ g.target → first_refusal (deflate_tests (driver_of g areas si sd) p n) ≡ request_refusal (room g) (outstanding_in sd.ring) (deflate_count g n)
+deflate_running_tests g areas si sd p n e t =
+    let P : ℕ → ℕ → Type 0 = λ s target. first_refusal (deflate_tests (driver_of g areas si sd) (record p { status = s; target = target }) n) ≡ request_refusal (room g) (outstanding_in sd.ring) (deflate_count g n) in
     subst (λ s. P s p.target) (sym e) (subst (λ x. P 15 x) (sym t) refl)
 
 deflate_asks : (g : Guest) (n : ℕ) → IsAsking g (Deflate n) (deflate_count g n)
@@ -173,20 +173,21 @@ pub deflate_step : (m1 m2 : Pages) (p1 p2 : Part) (d1 d2 : DriverState) (g : Gue
     → DeflatesBy m1 m2 p1 p2 d1 d2 n result → Stands m1 p1 d1 g → StepsAlone (Stands m2 p2 d2) g (Deflate n) (posted_reply result)
 deflate_step m1 m2 p1 p2 d1 d2 g n result did stands =
     let is = driver_is p1 d1 g stands.ties.parts in
+    let areas = d1.areas in
     let si = d1.inflate in
     let sd = d1.deflate in
-    let here : Stands m1 p1 (driver_of g si sd) g = subst (λ d. Stands m1 p1 d g) is stands in
-    let at : DeflatesBy m1 m2 p1 p2 (driver_of g si sd) d2 n result = subst (λ d. DeflatesBy m1 m2 p1 p2 d d2 n result) is did in
+    let here : Stands m1 p1 (driver_of g areas si sd) g = subst (λ d. Stands m1 p1 d g) is stands in
+    let at : DeflatesBy m1 m2 p1 p2 (driver_of g areas si sd) d2 n result = subst (λ d. DeflatesBy m1 m2 p1 p2 d d2 n result) is did in
     let D : ℕ → Type 0 = λ s. (s ≡ 0) ⊎ (s ≡ 131) in
-    let same : first_refusal (deflate_tests (driver_of g si sd) p1 n) ≡ refusal_of g (Deflate n) =
+    let same : first_refusal (deflate_tests (driver_of g areas si sd) p1 n) ≡ refusal_of g (Deflate n) =
     elim here.ties.queues [
-      | inl idle ↦ deflate_idle_tests (driver_of g si sd) p1 n (subst D (sym here.ties.parts.status) idle.state) ∙ sym (deflate_idle g n idle.state)
+      | inl idle ↦ deflate_idle_tests (driver_of g areas si sd) p1 n (subst D (sym here.ties.parts.status) idle.state) ∙ sym (deflate_idle g n idle.state)
       | inr run ↦
-          deflate_running_tests g si sd p1 n (here.ties.parts.status ∙ run.state) here.ties.parts.target
+          deflate_running_tests g areas si sd p1 n (here.ties.parts.status ∙ run.state) here.ties.parts.target
           ∙ ap (λ (k : ℕ). request_refusal (room g) k (deflate_count g n)) (outstanding_are m1 1 g.config.pages sd p1.deflate g.deflate run.deflate) ∙ sym (deflate_running g n run.state)
     ] in
-    let A : ℕ → Type 0 = λ t. IfOk result (AsksBack m1 m2 p1 p2 (driver_of g si sd) d2 (driver_count (driver_of g si sd) t n)) in
-    by_result m1 m2 p1 p2 g si sd d2 (Deflate n) (deflate_count g n) result (deflate_asks g n) at.driver (at.refusal ∙ same) at.refused (subst A here.ties.parts.target at.asks) here
+    let A : ℕ → Type 0 = λ t. IfOk result (AsksBack m1 m2 p1 p2 (driver_of g areas si sd) d2 (driver_count (driver_of g areas si sd) t n)) in
+    by_result m1 m2 p1 p2 g areas si sd d2 (Deflate n) (deflate_count g n) result (deflate_asks g n) at.driver (at.refusal ∙ same) at.refused (subst A here.ties.parts.target at.asks) here
 
 -- ---- whatever the target
 
@@ -213,10 +214,10 @@ oom_running g n e =
     let P : ℕ → Type 0 = λ s. refusal_of (record g { status = s }) (Oom n) ≡ oom_refusal (deflate_on_oom g.features) (room g) (outstanding g.deflate) (oom_count g n) in
     subst P (sym e) refl
 
-oom_running_tests : (g : Guest) (si sd : Side) (p : Part) (n : ℕ) → p.status ≡ 15
-    → first_refusal (oom_tests (driver_of g si sd) p n) ≡ oom_refusal (deflate_on_oom g.features) (room g) (outstanding_in sd.ring) (oom_count g n)
-oom_running_tests g si sd p n e =
-    let P : ℕ → Type 0 = λ s. first_refusal (oom_tests (driver_of g si sd) (record p { status = s }) n) ≡ oom_refusal (deflate_on_oom g.features) (room g) (outstanding_in sd.ring) (oom_count g n) in
+oom_running_tests : (g : Guest) (areas : FreePages) (si sd : Side) (p : Part) (n : ℕ) → p.status ≡ 15
+    → first_refusal (oom_tests (driver_of g areas si sd) p n) ≡ oom_refusal (deflate_on_oom g.features) (room g) (outstanding_in sd.ring) (oom_count g n)
+oom_running_tests g areas si sd p n e =
+    let P : ℕ → Type 0 = λ s. first_refusal (oom_tests (driver_of g areas si sd) (record p { status = s }) n) ≡ oom_refusal (deflate_on_oom g.features) (room g) (outstanding_in sd.ring) (oom_count g n) in
     subst P (sym e) refl
 
 oom_asks : (g : Guest) (n : ℕ) → IsAsking g (Oom n) (oom_count g n)
@@ -232,16 +233,17 @@ pub oom_step : (m1 m2 : Pages) (p1 p2 : Part) (d1 d2 : DriverState) (g : Guest) 
     → DeflatesOnOomBy m1 m2 p1 p2 d1 d2 n result → Stands m1 p1 d1 g → StepsAlone (Stands m2 p2 d2) g (Oom n) (posted_reply result)
 oom_step m1 m2 p1 p2 d1 d2 g n result did stands =
     let is = driver_is p1 d1 g stands.ties.parts in
+    let areas = d1.areas in
     let si = d1.inflate in
     let sd = d1.deflate in
-    let here : Stands m1 p1 (driver_of g si sd) g = subst (λ d. Stands m1 p1 d g) is stands in
-    let at : DeflatesOnOomBy m1 m2 p1 p2 (driver_of g si sd) d2 n result = subst (λ d. DeflatesOnOomBy m1 m2 p1 p2 d d2 n result) is did in
+    let here : Stands m1 p1 (driver_of g areas si sd) g = subst (λ d. Stands m1 p1 d g) is stands in
+    let at : DeflatesOnOomBy m1 m2 p1 p2 (driver_of g areas si sd) d2 n result = subst (λ d. DeflatesOnOomBy m1 m2 p1 p2 d d2 n result) is did in
     let D : ℕ → Type 0 = λ s. (s ≡ 0) ⊎ (s ≡ 131) in
-    let same : first_refusal (oom_tests (driver_of g si sd) p1 n) ≡ refusal_of g (Oom n) =
+    let same : first_refusal (oom_tests (driver_of g areas si sd) p1 n) ≡ refusal_of g (Oom n) =
     elim here.ties.queues [
-      | inl idle ↦ oom_idle_tests (driver_of g si sd) p1 n (subst D (sym here.ties.parts.status) idle.state) ∙ sym (oom_idle g n idle.state)
+      | inl idle ↦ oom_idle_tests (driver_of g areas si sd) p1 n (subst D (sym here.ties.parts.status) idle.state) ∙ sym (oom_idle g n idle.state)
       | inr run ↦
-          oom_running_tests g si sd p1 n (here.ties.parts.status ∙ run.state)
+          oom_running_tests g areas si sd p1 n (here.ties.parts.status ∙ run.state)
           ∙ ap (λ (k : ℕ). oom_refusal (deflate_on_oom g.features) (room g) k (oom_count g n)) (outstanding_are m1 1 g.config.pages sd p1.deflate g.deflate run.deflate) ∙ sym (oom_running g n run.state)
     ] in
-    by_result m1 m2 p1 p2 g si sd d2 (Oom n) (oom_count g n) result (oom_asks g n) at.driver (at.refusal ∙ same) at.refused at.asks here
+    by_result m1 m2 p1 p2 g areas si sd d2 (Oom n) (oom_count g n) result (oom_asks g n) at.driver (at.refusal ∙ same) at.refused at.asks here

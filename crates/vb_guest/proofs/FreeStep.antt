@@ -11,9 +11,9 @@ use Rattle.vb_model.specs.Guest.{Guest}
 use Rattle.vb_model.specs.Driver.{without_block}
 use Rattle.vb_ram.specs.Pages.{Pages}
 use Rattle.vb_ram.specs.Part.{Part}
-use Rattle.vb_driver.specs.State.{Side, DriverState}
+use Rattle.vb_driver.specs.State.{FreePages, Side, DriverState}
 use Rattle.vb_driver.specs.Answers.{block_at}
-use Rattle.vb_driver.specs.Calls.{FreesBy}
+use Rattle.vb_driver.specs.Calls.{FreesBy, after_free}
 use Rattle.vb_guest.specs.Stands.{Stands, Ties}
 use Rattle.vb_guest.specs.Steps.{StepsAlone}
 use Rattle.vb_guest.specs.Replies.{done_reply}
@@ -21,14 +21,14 @@ use Rattle.vb_guest.proofs.Closing.{honest_performed, steps_alone, refused_alone
 use Rattle.vb_guest.proofs.Writing.{idle_still}
 use Rattle.vb_guest.proofs.Normal.{driver_of, driver_is}
 
-by_result : (m : Pages) (p : Part) (g : Guest) (si sd : Side) (d2 : DriverState) (cpu start order : ℕ) (result : Result (Unit {0}) Refusal)
-    → FreesBy (driver_of g si sd) d2 cpu start order result → Stands m p (driver_of g si sd) g → StepsAlone (Stands m p d2) g (Free cpu start order) (done_reply result)
-by_result m p g si sd d2 cpu start order (Err why) did stands = refused_alone m m p p (driver_of g si sd) d2 g (Free cpu start order) why stands (sym did.refusal) refl refl did.refused
-by_result m p g si sd d2 cpu start order (Ok done) did stands =
+by_result : (m : Pages) (p : Part) (g : Guest) (areas : FreePages) (si sd : Side) (d2 : DriverState) (cpu start order : ℕ) (result : Result (Unit {0}) Refusal)
+    → FreesBy (driver_of g areas si sd) d2 cpu start order result → Stands m p (driver_of g areas si sd) g → StepsAlone (Stands m p d2) g (Free cpu start order) (done_reply result)
+by_result m p g areas si sd d2 cpu start order (Err why) did stands = refused_alone m m p p (driver_of g areas si sd) d2 g (Free cpu start order) why stands (sym did.refusal) refl refl did.refused
+by_result m p g areas si sd d2 cpu start order (Ok done) did stands =
     let ties = stands.ties in
     let new : Guest = record g { places = placed (pages_of (block_at start order)) FreePlace g.places; held = without_block (block_at start order) g.held } in
     let step = honest_performed g (Free cpu start order) [] Done new (sym did.refusal) (refl, refl, refl) in
-    let after : DriverState = driver_of new si sd in
+    let after : DriverState = driver_of new (after_free (driver_of g areas si sd) cpu start order).areas si sd in
     let there : Ties m p after new = record {
       parts = record {
         honest = ties.parts.honest;
@@ -59,10 +59,10 @@ by_result m p g si sd d2 cpu start order (Ok done) did stands =
         | inr run ↦ inr (record { state = run.state; backed = run.backed; inflate_size = run.inflate_size; deflate_size = run.deflate_size; inflate = run.inflate; deflate = run.deflate })
       ];
     } in
-    steps_alone m m p p (driver_of g si sd) d2 g (Free cpu start order) Done new stands step (subst (λ d. Ties m p d new) (sym did.state) there) refl
+    steps_alone m m p p (driver_of g areas si sd) d2 g (Free cpu start order) Done new stands step (subst (λ d. Ties m p d new) (sym did.state) there) refl
 
 pub free_step : (m : Pages) (p : Part) (d1 d2 : DriverState) (g : Guest) (cpu start order : ℕ) (result : Result (Unit {0}) Refusal)
     → FreesBy d1 d2 cpu start order result → Stands m p d1 g → StepsAlone (Stands m p d2) g (Free cpu start order) (done_reply result)
 free_step m p d1 d2 g cpu start order result did stands =
     let is = driver_is p d1 g stands.ties.parts in
-    by_result m p g d1.inflate d1.deflate d2 cpu start order result (subst (λ d. FreesBy d d2 cpu start order result) is did) (subst (λ d. Stands m p d g) is stands)
+    by_result m p g d1.areas d1.inflate d1.deflate d2 cpu start order result (subst (λ d. FreesBy d d2 cpu start order result) is did) (subst (λ d. Stands m p d g) is stands)

@@ -19,7 +19,7 @@ use Rattle.vb_ram.specs.Part.{Part}
 use Rattle.vb_ring.specs.Ends.{outstanding as outstanding_in}
 use Rattle.vb_driver.specs.declared.answers.Posted.{Posted as PostedRequest}
 use Rattle.vb_driver.specs.Coding.{SameButBuffer}
-use Rattle.vb_driver.specs.State.{Side, DriverState, IsDriver}
+use Rattle.vb_driver.specs.State.{FreePages, Side, DriverState, IsDriver}
 use Rattle.vb_driver.specs.Answers.{is_up, inflate_tests, inflate_count as driver_count}
 use Rattle.vb_driver.specs.Calls.{Offers, InflatesBy}
 use Rattle.vb_guest.specs.Stands.{Stands, Ties, IsRunning}
@@ -60,9 +60,9 @@ running_refusal g n e =
     let P : ℕ → Type 0 = λ s. refusal_of (record g { status = s }) (Inflate n) ≡ request_refusal (room g) (outstanding g.inflate) (inflate_count g n) in
     subst P (sym e) refl
 
-running_tests : (g : Guest) (si sd : Side) (p : Part) (n : ℕ) → p.status ≡ 15 → p.target ≡ g.target → first_refusal (inflate_tests (driver_of g si sd) p n) ≡ request_refusal (room g) (outstanding_in si.ring) (inflate_count g n)
-running_tests g si sd p n e t =
-    let P : ℕ → ℕ → Type 0 = λ s target. first_refusal (inflate_tests (driver_of g si sd) (record p { status = s; target = target }) n) ≡ request_refusal (room g) (outstanding_in si.ring) (inflate_count g n) in
+running_tests : (g : Guest) (areas : FreePages) (si sd : Side) (p : Part) (n : ℕ) → p.status ≡ 15 → p.target ≡ g.target → first_refusal (inflate_tests (driver_of g areas si sd) p n) ≡ request_refusal (room g) (outstanding_in si.ring) (inflate_count g n)
+running_tests g areas si sd p n e t =
+    let P : ℕ → ℕ → Type 0 = λ s target. first_refusal (inflate_tests (driver_of g areas si sd) (record p { status = s; target = target }) n) ≡ request_refusal (room g) (outstanding_in si.ring) (inflate_count g n) in
     subst (λ s. P s p.target) (sym e) (subst (λ x. P 15 x) (sym t) refl)
 
 -- the queue on the other side of a post is as before
@@ -73,11 +73,11 @@ post_apart m1 m2 ring base head other ne low far same = record {
   buffers = λ p from to. let (a, b) = far p from to in same.others p a b;
 }
 
-inflate_offered : (m1 m2 : Pages) (p1 p2 : Part) (g : Guest) (si sd : Side) (d2 : DriverState) (n : ℕ) (posted : PostedRequest)
-    → IsDriver (driver_of g si sd) → Offers m1 m2 p1 p2 (driver_of g si sd) d2 (inflate_count g n) posted
-    → Stands m1 p1 (driver_of g si sd) g → IsRunning m1 p1 (driver_of g si sd) g → refusal_of g (Inflate n) ≡ None → 0 < inflate_count g n → outstanding g.inflate < room g
+inflate_offered : (m1 m2 : Pages) (p1 p2 : Part) (g : Guest) (areas : FreePages) (si sd : Side) (d2 : DriverState) (n : ℕ) (posted : PostedRequest)
+    → IsDriver (driver_of g areas si sd) → Offers m1 m2 p1 p2 (driver_of g areas si sd) d2 (inflate_count g n) posted
+    → Stands m1 p1 (driver_of g areas si sd) g → IsRunning m1 p1 (driver_of g areas si sd) g → refusal_of g (Inflate n) ≡ None → 0 < inflate_count g n → outstanding g.inflate < room g
     → StepsAlone (Stands m2 p2 d2) g (Inflate n) (Posted posted.head posted.pages)
-inflate_offered m1 m2 p1 p2 g si sd d2 n posted driver did stands run free some fewer =
+inflate_offered m1 m2 p1 p2 g areas si sd d2 n posted driver did stands run free some fewer =
     let ties = stands.ties in
     let pages = stranded_first g n ++ did.others in
     let single = driver.inflate.requests in
@@ -94,7 +94,7 @@ inflate_offered m1 m2 p1 p2 g si sd d2 n posted driver did stands run free some 
     let B : ℕ → Type 0 = λ r. SameButBuffer m1 m2 r 4 posted.head in
     let rest : B 0 = subst B table did.posts.rest in
     let apart = post_apart m1 m2 0 4 posted.head 1 (omega arith) (omega arith) (λ p from to. (omega arith, omega (arith, did.posts.small))) rest in
-    let after : DriverState = driver_of new d2.inflate sd in
+    let after : DriverState = driver_of new d2.areas d2.inflate sd in
     let there : Ties m2 p1 after new = record {
       parts = record {
         honest = ties.parts.honest;
@@ -129,43 +129,44 @@ inflate_offered m1 m2 p1 p2 g si sd d2 n posted driver did stands run free some 
         deflate = line_apart m1 m2 1 g.config.pages sd p1.deflate g.deflate apart run.deflate;
       });
     } in
-    steps_alone m1 m2 p1 p2 (driver_of g si sd) d2 g (Inflate n) (Posted posted.head posted.pages) new stands step
+    steps_alone m1 m2 p1 p2 (driver_of g areas si sd) d2 g (Inflate n) (Posted posted.head posted.pages) new stands step
     (subst (λ d. Ties m2 p2 d new) (sym did.state) (subst (λ p. Ties m2 p after new) (sym did.part) there)) refl
 
 none_room : (most out count : ℕ) → request_refusal most out count ≡ None → (out < most) × (0 < count)
 none_room most out count e = (grind (arith, nat_tests), grind (arith, nat_tests))
 
-by_result : (m1 m2 : Pages) (p1 p2 : Part) (g : Guest) (si sd : Side) (d2 : DriverState) (n : ℕ) (result : Result PostedRequest Refusal)
-    → InflatesBy m1 m2 p1 p2 (driver_of g si sd) d2 n result → Stands m1 p1 (driver_of g si sd) g → first_refusal (inflate_tests (driver_of g si sd) p1 n) ≡ refusal_of g (Inflate n)
+by_result : (m1 m2 : Pages) (p1 p2 : Part) (g : Guest) (areas : FreePages) (si sd : Side) (d2 : DriverState) (n : ℕ) (result : Result PostedRequest Refusal)
+    → InflatesBy m1 m2 p1 p2 (driver_of g areas si sd) d2 n result → Stands m1 p1 (driver_of g areas si sd) g → first_refusal (inflate_tests (driver_of g areas si sd) p1 n) ≡ refusal_of g (Inflate n)
     → StepsAlone (Stands m2 p2 d2) g (Inflate n) (posted_reply result)
-by_result m1 m2 p1 p2 g si sd d2 n (Err why) did stands same =
-    refused_alone m1 m2 p1 p2 (driver_of g si sd) d2 g (Inflate n) why stands (sym (did.refusal ∙ same)) did.refused.mem did.refused.part did.refused.driver
-by_result m1 m2 p1 p2 g si sd d2 n (Ok posted) did stands same =
+by_result m1 m2 p1 p2 g areas si sd d2 n (Err why) did stands same =
+    refused_alone m1 m2 p1 p2 (driver_of g areas si sd) d2 g (Inflate n) why stands (sym (did.refusal ∙ same)) did.refused.mem did.refused.part did.refused.driver
+by_result m1 m2 p1 p2 g areas si sd d2 n (Ok posted) did stands same =
     let free : refusal_of g (Inflate n) ≡ None = sym (did.refusal ∙ same) in
     elim stands.ties.queues [
       | inl idle ↦ absurd (let down = idle_refused g n idle.state in cc)
       | inr run ↦
           let room_left = none_room (room g) (outstanding g.inflate) (inflate_count g n) (sym (running_refusal g n run.state) ∙ free) in
-          let O : ℕ → Type 0 = λ t. Offers m1 m2 p1 p2 (driver_of g si sd) d2 (driver_count (driver_of g si sd) t n) posted in
-          inflate_offered m1 m2 p1 p2 g si sd d2 n posted did.driver (subst O stands.ties.parts.target did.offers) stands run free room_left.1 room_left.0
+          let O : ℕ → Type 0 = λ t. Offers m1 m2 p1 p2 (driver_of g areas si sd) d2 (driver_count (driver_of g areas si sd) t n) posted in
+          inflate_offered m1 m2 p1 p2 g areas si sd d2 n posted did.driver (subst O stands.ties.parts.target did.offers) stands run free room_left.1 room_left.0
     ]
 
 pub inflate_step : (m1 m2 : Pages) (p1 p2 : Part) (d1 d2 : DriverState) (g : Guest) (n : ℕ) (result : Result PostedRequest Refusal)
     → InflatesBy m1 m2 p1 p2 d1 d2 n result → Stands m1 p1 d1 g → StepsAlone (Stands m2 p2 d2) g (Inflate n) (posted_reply result)
 inflate_step m1 m2 p1 p2 d1 d2 g n result did stands =
     let is = driver_is p1 d1 g stands.ties.parts in
+    let areas = d1.areas in
     let si = d1.inflate in
     let sd = d1.deflate in
-    let here : Stands m1 p1 (driver_of g si sd) g = subst (λ d. Stands m1 p1 d g) is stands in
+    let here : Stands m1 p1 (driver_of g areas si sd) g = subst (λ d. Stands m1 p1 d g) is stands in
     let D : ℕ → Type 0 = λ s. (s ≡ 0) ⊎ (s ≡ 131) in
-    let same : first_refusal (inflate_tests (driver_of g si sd) p1 n) ≡ refusal_of g (Inflate n) =
+    let same : first_refusal (inflate_tests (driver_of g areas si sd) p1 n) ≡ refusal_of g (Inflate n) =
     elim here.ties.queues [
-      | inl idle ↦ idle_tests (driver_of g si sd) p1 n (subst D (sym here.ties.parts.status) idle.state) ∙ sym (idle_refused g n idle.state)
+      | inl idle ↦ idle_tests (driver_of g areas si sd) p1 n (subst D (sym here.ties.parts.status) idle.state) ∙ sym (idle_refused g n idle.state)
       | inr run ↦
-          running_tests g si sd p1 n (here.ties.parts.status ∙ run.state) here.ties.parts.target
+          running_tests g areas si sd p1 n (here.ties.parts.status ∙ run.state) here.ties.parts.target
           ∙ ap (λ (k : ℕ). request_refusal (room g) k (inflate_count g n)) (outstanding_are m1 0 g.config.pages si p1.inflate g.inflate run.inflate) ∙ sym (running_refusal g n run.state)
     ] in
-    by_result m1 m2 p1 p2 g si sd d2 n result (subst (λ d. InflatesBy m1 m2 p1 p2 d d2 n result) is did) here same
+    by_result m1 m2 p1 p2 g areas si sd d2 n result (subst (λ d. InflatesBy m1 m2 p1 p2 d d2 n result) is did) here same
 
 down_not_up : (status : ℕ) → (status ≡ 0) ⊎ (status ≡ 131) → is_up status ≡ true → ⊥
 down_not_up status (inl e) up = let P : ℕ → Type 0 = λ s. is_up s ≡ true in let wrong : false ≡ true = subst P e up in cc

@@ -3,24 +3,25 @@ use Rattle.std.specs.Prelude.{◌≡◌}
 use Rattle.std.proofs.Common.{◌∙◌, ap}
 use Rattle.vb_model.specs.Guest.{Guest}
 use Rattle.vb_ram.specs.Part.{Part}
-use Rattle.vb_driver.specs.State.{Side, DriverState}
+use Rattle.vb_driver.specs.State.{FreePages, Side, DriverState}
 use Rattle.vb_guest.specs.Stands.{HasParts, beside_queues, beside_sides, beside_requests}
 
--- the guest's driver, with these sides
-abbrev pub driver_of : Guest → Side → Side → DriverState
-driver_of g inflate deflate =
+-- the guest's driver, with these page areas and sides
+abbrev pub driver_of : Guest → FreePages → Side → Side → DriverState
+driver_of g areas inflate deflate =
     record {
       pages = g.config.pages;
       queue_size = g.config.queue_size;
       processors = g.config.processors;
       places = g.places;
       held = g.held;
+      areas = areas;
       inflate = inflate;
       deflate = deflate;
       features = g.features;
     }
 
-pub driver_is : (p : Part) (d : DriverState) (g : Guest) → HasParts (beside_queues p) (beside_sides d) (beside_requests g) → d ≡ driver_of g d.inflate d.deflate
+pub driver_is : (p : Part) (d : DriverState) (g : Guest) → HasParts (beside_queues p) (beside_sides d) (beside_requests g) → d ≡ driver_of g d.areas d.inflate d.deflate
 driver_is p d g has =
     ap (λ x. record d { pages = x }) has.pages
     ∙ ap (λ x. record d { pages = g.config.pages; queue_size = x }) has.queue_size

@@ -26,7 +26,8 @@ use Rattle.vb_ring.specs.Ends.{used_answer, outstanding as outstanding_in}
 use Rattle.vb_ring.specs.Meaning.{ids}
 use Rattle.vb_ring.specs.Calls.{TakesUsedBy}
 use Rattle.vb_driver.specs.declared.answers.Reaped.{Reaped as ReapedRequest}
-use Rattle.vb_driver.specs.State.{Side, DriverState, sent_by}
+use Rattle.vb_driver.specs.State.{FreePages, Side, DriverState, sent_by, page_state}
+use Rattle.vb_driver.specs.Areas.{all_given}
 use Rattle.vb_driver.specs.Answers.{is_up, reap_tests}
 use Rattle.vb_driver.specs.Calls.{ReapsBy, after_reap, next_of, side_of, after_refusal}
 use Rattle.vb_guest.specs.Line.{Line, IsRequest, heads_of, used_of}
@@ -107,16 +108,16 @@ reap_refused m1 m2 p1 p2 d1 d2 g q why (Err said) other did stands by_driver by_
 
 -- ---- queue 0
 
-inflate_reaped : (m1 m2 : Pages) (p1 p2 : Part) (g : Guest) (si sd : Side) (d2 : DriverState) (done : List Request) (got : Option ReapedRequest)
-    → g.inflate.done ≡ done → next_of got ≡ used_next done → ReapsBy m1 m2 p1 p2 (driver_of g si sd) d2 0 (Ok got) → used_answer m1 si.ring ≡ Ok (used_next done)
-    → Stands m1 p1 (driver_of g si sd) g → IsRunning m1 p1 (driver_of g si sd) g → refusal_of g (Reap 0) ≡ None → StepsAlone (Stands m2 p2 d2) g (Reap 0) (reaped_reply (Ok got))
-inflate_reaped m1 m2 p1 p2 g si sd d2 [] (Some x) is next did answer stands run free = absurd cc
-inflate_reaped m1 m2 p1 p2 g si sd d2 (r ∷ rest) None is next did answer stands run free = absurd cc
-inflate_reaped m1 m2 p1 p2 g si sd d2 [] None is next did answer stands run free =
+inflate_reaped : (m1 m2 : Pages) (p1 p2 : Part) (g : Guest) (areas : FreePages) (si sd : Side) (d2 : DriverState) (done : List Request) (got : Option ReapedRequest)
+    → g.inflate.done ≡ done → next_of got ≡ used_next done → ReapsBy m1 m2 p1 p2 (driver_of g areas si sd) d2 0 (Ok got) → used_answer m1 si.ring ≡ Ok (used_next done)
+    → Stands m1 p1 (driver_of g areas si sd) g → IsRunning m1 p1 (driver_of g areas si sd) g → refusal_of g (Reap 0) ≡ None → StepsAlone (Stands m2 p2 d2) g (Reap 0) (reaped_reply (Ok got))
+inflate_reaped m1 m2 p1 p2 g areas si sd d2 [] (Some x) is next did answer stands run free = absurd cc
+inflate_reaped m1 m2 p1 p2 g areas si sd d2 (r ∷ rest) None is next did answer stands run free = absurd cc
+inflate_reaped m1 m2 p1 p2 g areas si sd d2 [] None is next did answer stands run free =
     let T : List Request → Type 0 = λ l. Reaps Inflating l g NotUsed g in
-    steps_alone m1 m2 p1 p2 (driver_of g si sd) d2 g (Reap 0) NotUsed g stands
-    (honest_performed g (Reap 0) [] NotUsed g free (refl, subst T (sym is) (refl, refl))) (ties_same m1 m2 p1 p2 (driver_of g si sd) d2 g did.mem did.reaps.0 did.reaps.1 stands.ties) refl
-inflate_reaped m1 m2 p1 p2 g si sd d2 (r ∷ rest) (Some x) is next did answer stands run free =
+    steps_alone m1 m2 p1 p2 (driver_of g areas si sd) d2 g (Reap 0) NotUsed g stands
+    (honest_performed g (Reap 0) [] NotUsed g free (refl, subst T (sym is) (refl, refl))) (ties_same m1 m2 p1 p2 (driver_of g areas si sd) d2 g did.mem did.reaps.0 did.reaps.1 stands.ties) refl
+inflate_reaped m1 m2 p1 p2 g areas si sd d2 (r ∷ rest) (Some x) is next did answer stands run free =
     let ties = stands.ties in
     let n = g.config.pages in
     let same : x.head ≡ r.head = cc in
@@ -128,10 +129,10 @@ inflate_reaped m1 m2 p1 p2 g si sd d2 (r ∷ rest) (Some x) is next did answer s
     let reply : Reaped x.head x.pages ≡ Reaped r.head (length r.pages) = ap (λ (k : ℕ). Reaped k x.pages) same ∙ ap (Reaped r.head) (did.reaps.pages ∙ ap (λ (l : List ℕ). length l) sent) in
     let T : List Request → Type 0 = λ l. Reaps Inflating l g (Reaped x.head x.pages) new in
     let step = honest_performed g (Reap 0) [] (Reaped x.head x.pages) new free (refl, subst T (sym is) (reply, refl)) in
-    let after : DriverState = driver_of new (after_reap si r.head) sd in
+    let after : DriverState = driver_of new areas (after_reap si r.head) sd in
     let state : d2 ≡ after =
-    did.reaps.state ∙ ap (λ (h : ℕ). driver_of (record g { places = placed (sent_by si h) Lent g.places }) (after_reap si h) sd) same
-    ∙ ap (λ (l : List ℕ). driver_of (record g { places = placed l Lent g.places }) (after_reap si r.head) sd) request.remembered in
+    did.reaps.state ∙ ap (λ (h : ℕ). driver_of (record g { places = placed (sent_by si h) Lent g.places }) areas (after_reap si h) sd) same
+    ∙ ap (λ (l : List ℕ). driver_of (record g { places = placed l Lent g.places }) areas (after_reap si r.head) sd) request.remembered in
     let part : p2 ≡ record p1 { actual = new.actual } = did.reaps.part ∙ ap (λ (d : DriverState). record p1 { actual = count_by is_lent_or_taking d.places }) state in
     let K : DriverState → Type 0 = λ d. TakesUsedBy m1 si.ring d.inflate.ring (used_answer m1 si.ring) in
     let taken : TakesUsedBy m1 si.ring (after_reap si r.head).ring (Ok (Some r.head)) = subst (λ a. TakesUsedBy m1 si.ring (after_reap si r.head).ring a) answer (subst K state did.ring) in
@@ -163,39 +164,39 @@ inflate_reaped m1 m2 p1 p2 g si sd d2 (r ∷ rest) (Some x) is next did answer s
       pages = ties.pages;
       queues = inr (record { state = run.state; backed = run.backed; inflate_size = run.inflate_size; deflate_size = run.deflate_size; inflate = reap; deflate = run.deflate });
     } in
-    steps_alone m1 m2 p1 p2 (driver_of g si sd) d2 g (Reap 0) (Reaped x.head x.pages) new stands step (ties_same m1 m2 (record p1 { actual = new.actual }) p2 after d2 new did.mem part state there) refl
+    steps_alone m1 m2 p1 p2 (driver_of g areas si sd) d2 g (Reap 0) (Reaped x.head x.pages) new stands step (ties_same m1 m2 (record p1 { actual = new.actual }) p2 after d2 new did.mem part state there) refl
 
-inflate_reap : (m1 m2 : Pages) (p1 p2 : Part) (g : Guest) (si sd : Side) (d2 : DriverState) (result : Result (Option ReapedRequest) Refusal)
-    → ReapsBy m1 m2 p1 p2 (driver_of g si sd) d2 0 result → Stands m1 p1 (driver_of g si sd) g → StepsAlone (Stands m2 p2 d2) g (Reap 0) (reaped_reply result)
-inflate_reap m1 m2 p1 p2 g si sd d2 result did stands =
+inflate_reap : (m1 m2 : Pages) (p1 p2 : Part) (g : Guest) (areas : FreePages) (si sd : Side) (d2 : DriverState) (result : Result (Option ReapedRequest) Refusal)
+    → ReapsBy m1 m2 p1 p2 (driver_of g areas si sd) d2 0 result → Stands m1 p1 (driver_of g areas si sd) g → StepsAlone (Stands m2 p2 d2) g (Reap 0) (reaped_reply result)
+inflate_reap m1 m2 p1 p2 g areas si sd d2 result did stands =
     elim stands.ties.queues [
       | inl idle ↦
           let D : ℕ → Type 0 = λ s. (s ≡ 0) ⊎ (s ≡ 131) in
-          reap_refused m1 m2 p1 p2 (driver_of g si sd) d2 g 0 NotReady result (λ e. cc) did stands (idle_tests m1 p1 si (subst D (sym stands.ties.parts.status) idle.state)).0 (idle_refused g idle.state).0
+          reap_refused m1 m2 p1 p2 (driver_of g areas si sd) d2 g 0 NotReady result (λ e. cc) did stands (idle_tests m1 p1 si (subst D (sym stands.ties.parts.status) idle.state)).0 (idle_refused g idle.state).0
       | inr run ↦
           let answer = used_line m1 0 g.config.pages si p1.inflate g.inflate.posted g.inflate.taken g.inflate.done run.inflate (omega (arith, stands.orderly.inflating.few, run.inflate_size)) in
           by_result result did (running_free g run.state).0 (running_tests m1 p1 si (used_next g.inflate.done) (stands.ties.parts.status ∙ run.state) answer).0 answer run
     ]
   where
-    by_result : (result : Result (Option ReapedRequest) Refusal) → ReapsBy m1 m2 p1 p2 (driver_of g si sd) d2 0 result → refusal_of g (Reap 0) ≡ None → first_refusal (reap_tests m1 p1 si 0) ≡ None
-        → used_answer m1 si.ring ≡ Ok (used_next g.inflate.done) → IsRunning m1 p1 (driver_of g si sd) g → StepsAlone (Stands m2 p2 d2) g (Reap 0) (reaped_reply result)
+    by_result : (result : Result (Option ReapedRequest) Refusal) → ReapsBy m1 m2 p1 p2 (driver_of g areas si sd) d2 0 result → refusal_of g (Reap 0) ≡ None → first_refusal (reap_tests m1 p1 si 0) ≡ None
+        → used_answer m1 si.ring ≡ Ok (used_next g.inflate.done) → IsRunning m1 p1 (driver_of g areas si sd) g → StepsAlone (Stands m2 p2 d2) g (Reap 0) (reaped_reply result)
     by_result (Err why) did free none answer run = absurd (let wrong = did.refusal ∙ none in cc)
     by_result (Ok got) did free none answer run =
         let next : next_of got ≡ used_next g.inflate.done = (let e = sym did.next ∙ answer in cc) in
-        inflate_reaped m1 m2 p1 p2 g si sd d2 g.inflate.done got refl next did answer stands run free
+        inflate_reaped m1 m2 p1 p2 g areas si sd d2 g.inflate.done got refl next did answer stands run free
 
 -- ---- queue 1
 
-deflate_reaped : (m1 m2 : Pages) (p1 p2 : Part) (g : Guest) (si sd : Side) (d2 : DriverState) (done : List Request) (got : Option ReapedRequest)
-    → g.deflate.done ≡ done → next_of got ≡ used_next done → ReapsBy m1 m2 p1 p2 (driver_of g si sd) d2 1 (Ok got) → used_answer m1 sd.ring ≡ Ok (used_next done)
-    → Stands m1 p1 (driver_of g si sd) g → IsRunning m1 p1 (driver_of g si sd) g → refusal_of g (Reap 1) ≡ None → StepsAlone (Stands m2 p2 d2) g (Reap 1) (reaped_reply (Ok got))
-deflate_reaped m1 m2 p1 p2 g si sd d2 [] (Some x) is next did answer stands run free = absurd cc
-deflate_reaped m1 m2 p1 p2 g si sd d2 (r ∷ rest) None is next did answer stands run free = absurd cc
-deflate_reaped m1 m2 p1 p2 g si sd d2 [] None is next did answer stands run free =
+deflate_reaped : (m1 m2 : Pages) (p1 p2 : Part) (g : Guest) (areas : FreePages) (si sd : Side) (d2 : DriverState) (done : List Request) (got : Option ReapedRequest)
+    → g.deflate.done ≡ done → next_of got ≡ used_next done → ReapsBy m1 m2 p1 p2 (driver_of g areas si sd) d2 1 (Ok got) → used_answer m1 sd.ring ≡ Ok (used_next done)
+    → Stands m1 p1 (driver_of g areas si sd) g → IsRunning m1 p1 (driver_of g areas si sd) g → refusal_of g (Reap 1) ≡ None → StepsAlone (Stands m2 p2 d2) g (Reap 1) (reaped_reply (Ok got))
+deflate_reaped m1 m2 p1 p2 g areas si sd d2 [] (Some x) is next did answer stands run free = absurd cc
+deflate_reaped m1 m2 p1 p2 g areas si sd d2 (r ∷ rest) None is next did answer stands run free = absurd cc
+deflate_reaped m1 m2 p1 p2 g areas si sd d2 [] None is next did answer stands run free =
     let T : List Request → Type 0 = λ l. Reaps Deflating l g NotUsed g in
-    steps_alone m1 m2 p1 p2 (driver_of g si sd) d2 g (Reap 1) NotUsed g stands
-    (honest_performed g (Reap 1) [] NotUsed g free (refl, subst T (sym is) (refl, refl))) (ties_same m1 m2 p1 p2 (driver_of g si sd) d2 g did.mem did.reaps.0 did.reaps.1 stands.ties) refl
-deflate_reaped m1 m2 p1 p2 g si sd d2 (r ∷ rest) (Some x) is next did answer stands run free =
+    steps_alone m1 m2 p1 p2 (driver_of g areas si sd) d2 g (Reap 1) NotUsed g stands
+    (honest_performed g (Reap 1) [] NotUsed g free (refl, subst T (sym is) (refl, refl))) (ties_same m1 m2 p1 p2 (driver_of g areas si sd) d2 g did.mem did.reaps.0 did.reaps.1 stands.ties) refl
+deflate_reaped m1 m2 p1 p2 g areas si sd d2 (r ∷ rest) (Some x) is next did answer stands run free =
     let ties = stands.ties in
     let n = g.config.pages in
     let same : x.head ≡ r.head = cc in
@@ -207,10 +208,11 @@ deflate_reaped m1 m2 p1 p2 g si sd d2 (r ∷ rest) (Some x) is next did answer s
     let reply : Reaped x.head x.pages ≡ Reaped r.head (length r.pages) = ap (λ (k : ℕ). Reaped k x.pages) same ∙ ap (Reaped r.head) (did.reaps.pages ∙ ap (λ (l : List ℕ). length l) sent) in
     let T : List Request → Type 0 = λ l. Reaps Deflating l g (Reaped x.head x.pages) new in
     let step = honest_performed g (Reap 1) [] (Reaped x.head x.pages) new free (refl, subst T (sym is) (reply, refl)) in
-    let after : DriverState = driver_of new si (after_reap sd r.head) in
+    let given : List ℕ → FreePages = λ l. (all_given l (page_state (driver_of g areas si sd))).free in
+    let after : DriverState = driver_of new (given r.pages) si (after_reap sd r.head) in
     let state : d2 ≡ after =
-    did.reaps.state ∙ ap (λ (h : ℕ). driver_of (record g { places = placed (sent_by sd h) Free g.places }) si (after_reap sd h)) same
-    ∙ ap (λ (l : List ℕ). driver_of (record g { places = placed l Free g.places }) si (after_reap sd r.head)) request.remembered in
+    did.reaps.state ∙ ap (λ (h : ℕ). driver_of (record g { places = placed (sent_by sd h) Free g.places }) (given (sent_by sd h)) si (after_reap sd h)) same
+    ∙ ap (λ (l : List ℕ). driver_of (record g { places = placed l Free g.places }) (given l) si (after_reap sd r.head)) request.remembered in
     let part : p2 ≡ record p1 { actual = new.actual } = did.reaps.part ∙ ap (λ (d : DriverState). record p1 { actual = count_by is_lent_or_taking d.places }) state in
     let K : DriverState → Type 0 = λ d. TakesUsedBy m1 sd.ring d.deflate.ring (used_answer m1 sd.ring) in
     let taken : TakesUsedBy m1 sd.ring (after_reap sd r.head).ring (Ok (Some r.head)) = subst (λ a. TakesUsedBy m1 sd.ring (after_reap sd r.head).ring a) answer (subst K state did.ring) in
@@ -242,44 +244,45 @@ deflate_reaped m1 m2 p1 p2 g si sd d2 (r ∷ rest) (Some x) is next did answer s
       pages = ties.pages;
       queues = inr (record { state = run.state; backed = run.backed; inflate_size = run.inflate_size; deflate_size = run.deflate_size; inflate = run.inflate; deflate = reap });
     } in
-    steps_alone m1 m2 p1 p2 (driver_of g si sd) d2 g (Reap 1) (Reaped x.head x.pages) new stands step (ties_same m1 m2 (record p1 { actual = new.actual }) p2 after d2 new did.mem part state there) refl
+    steps_alone m1 m2 p1 p2 (driver_of g areas si sd) d2 g (Reap 1) (Reaped x.head x.pages) new stands step (ties_same m1 m2 (record p1 { actual = new.actual }) p2 after d2 new did.mem part state there) refl
 
-deflate_reap : (m1 m2 : Pages) (p1 p2 : Part) (g : Guest) (si sd : Side) (d2 : DriverState) (result : Result (Option ReapedRequest) Refusal)
-    → ReapsBy m1 m2 p1 p2 (driver_of g si sd) d2 1 result → Stands m1 p1 (driver_of g si sd) g → StepsAlone (Stands m2 p2 d2) g (Reap 1) (reaped_reply result)
-deflate_reap m1 m2 p1 p2 g si sd d2 result did stands =
+deflate_reap : (m1 m2 : Pages) (p1 p2 : Part) (g : Guest) (areas : FreePages) (si sd : Side) (d2 : DriverState) (result : Result (Option ReapedRequest) Refusal)
+    → ReapsBy m1 m2 p1 p2 (driver_of g areas si sd) d2 1 result → Stands m1 p1 (driver_of g areas si sd) g → StepsAlone (Stands m2 p2 d2) g (Reap 1) (reaped_reply result)
+deflate_reap m1 m2 p1 p2 g areas si sd d2 result did stands =
     elim stands.ties.queues [
       | inl idle ↦
           let D : ℕ → Type 0 = λ s. (s ≡ 0) ⊎ (s ≡ 131) in
-          reap_refused m1 m2 p1 p2 (driver_of g si sd) d2 g 1 NotReady result (λ e. cc) did stands (idle_tests m1 p1 sd (subst D (sym stands.ties.parts.status) idle.state)).1 (idle_refused g idle.state).1
+          reap_refused m1 m2 p1 p2 (driver_of g areas si sd) d2 g 1 NotReady result (λ e. cc) did stands (idle_tests m1 p1 sd (subst D (sym stands.ties.parts.status) idle.state)).1 (idle_refused g idle.state).1
       | inr run ↦
           let answer = used_line m1 1 g.config.pages sd p1.deflate g.deflate.posted g.deflate.taken g.deflate.done run.deflate (omega (arith, stands.orderly.deflating.few, run.deflate_size)) in
           by_result result did (running_free g run.state).1 (running_tests m1 p1 sd (used_next g.deflate.done) (stands.ties.parts.status ∙ run.state) answer).1 answer run
     ]
   where
-    by_result : (result : Result (Option ReapedRequest) Refusal) → ReapsBy m1 m2 p1 p2 (driver_of g si sd) d2 1 result → refusal_of g (Reap 1) ≡ None → first_refusal (reap_tests m1 p1 sd 1) ≡ None
-        → used_answer m1 sd.ring ≡ Ok (used_next g.deflate.done) → IsRunning m1 p1 (driver_of g si sd) g → StepsAlone (Stands m2 p2 d2) g (Reap 1) (reaped_reply result)
+    by_result : (result : Result (Option ReapedRequest) Refusal) → ReapsBy m1 m2 p1 p2 (driver_of g areas si sd) d2 1 result → refusal_of g (Reap 1) ≡ None → first_refusal (reap_tests m1 p1 sd 1) ≡ None
+        → used_answer m1 sd.ring ≡ Ok (used_next g.deflate.done) → IsRunning m1 p1 (driver_of g areas si sd) g → StepsAlone (Stands m2 p2 d2) g (Reap 1) (reaped_reply result)
     by_result (Err why) did free none answer run = absurd (let wrong = did.refusal ∙ none in cc)
     by_result (Ok got) did free none answer run =
         let next : next_of got ≡ used_next g.deflate.done = (let e = sym did.next ∙ answer in cc) in
-        deflate_reaped m1 m2 p1 p2 g si sd d2 g.deflate.done got refl next did answer stands run free
+        deflate_reaped m1 m2 p1 p2 g areas si sd d2 g.deflate.done got refl next did answer stands run free
 
 pub reap_step : (m1 m2 : Pages) (p1 p2 : Part) (d1 d2 : DriverState) (g : Guest) (q : ℕ) (result : Result (Option ReapedRequest) Refusal)
     → ReapsBy m1 m2 p1 p2 d1 d2 q result → Stands m1 p1 d1 g → StepsAlone (Stands m2 p2 d2) g (Reap q) (reaped_reply result)
 reap_step m1 m2 p1 p2 d1 d2 g q result did stands =
     let is = driver_is p1 d1 g stands.ties.parts in
+    let areas = d1.areas in
     let si = d1.inflate in
     let sd = d1.deflate in
-    let here : Stands m1 p1 (driver_of g si sd) g = subst (λ d. Stands m1 p1 d g) is stands in
-    let at : ReapsBy m1 m2 p1 p2 (driver_of g si sd) d2 q result = subst (λ d. ReapsBy m1 m2 p1 p2 d d2 q result) is did in
-    let B : ℕ → Type 0 = λ k. ReapsBy m1 m2 p1 p2 (driver_of g si sd) d2 k result in
+    let here : Stands m1 p1 (driver_of g areas si sd) g = subst (λ d. Stands m1 p1 d g) is stands in
+    let at : ReapsBy m1 m2 p1 p2 (driver_of g areas si sd) d2 q result = subst (λ d. ReapsBy m1 m2 p1 p2 d d2 q result) is did in
+    let B : ℕ → Type 0 = λ k. ReapsBy m1 m2 p1 p2 (driver_of g areas si sd) d2 k result in
     let S : ℕ → Type 0 = λ k. StepsAlone (Stands m2 p2 d2) g (Reap k) (reaped_reply result) in
     elim (queue_cases q) [
-      | inl first ↦ subst S (sym first) (inflate_reap m1 m2 p1 p2 g si sd d2 result (subst B first at) here)
+      | inl first ↦ subst S (sym first) (inflate_reap m1 m2 p1 p2 g areas si sd d2 result (subst B first at) here)
       | inr other ↦ elim other [
-        | inl second ↦ subst S (sym second) (deflate_reap m1 m2 p1 p2 g si sd d2 result (subst B second at) here)
+        | inl second ↦ subst S (sym second) (deflate_reap m1 m2 p1 p2 g areas si sd d2 result (subst B second at) here)
         | inr none ↦
-            reap_refused m1 m2 p1 p2 (driver_of g si sd) d2 g q NoQueue result (λ e. cc) at here
-            (first_holds (not (nat_lt q 2)) NoQueue (drop 1 (reap_tests m1 p1 (side_of q (driver_of g si sd)) q)) (ap not (le-ltb q 2 none)))
+            reap_refused m1 m2 p1 p2 (driver_of g areas si sd) d2 g q NoQueue result (λ e. cc) at here
+            (first_holds (not (nat_lt q 2)) NoQueue (drop 1 (reap_tests m1 p1 (side_of q (driver_of g areas si sd)) q)) (ap not (le-ltb q 2 none)))
             (first_holds (not (is_queue_of_requests q)) NoQueue (drop 1 (tests g (Reap q))) (no_requests_there q none))
       ]
     ]

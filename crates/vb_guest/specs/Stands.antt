@@ -38,8 +38,9 @@ pub record HasParts (part : Part) (d : DriverState) (g : Guest) : Type 0 where
 abbrev pub beside_queues : Part → Part
 beside_queues part = record part { inflate = no_queue; deflate = no_queue }
 
+-- Of a driver, what isn't in its page areas and in its queues.
 abbrev pub beside_sides : DriverState → DriverState
-beside_sides d = record d { inflate = fresh_side 0 2; deflate = fresh_side 0 2 }
+beside_sides d = record d { areas = record { areas = []; lists = [] }; inflate = fresh_side 0 2; deflate = fresh_side 0 2 }
 
 -- Of a guest, what isn't in its requests and in its memory.
 abbrev pub beside_requests : Guest → Guest

@@ -5,10 +5,10 @@ use Rattle.vb_model.specs.Driver.{with_block}
 use Rattle.vb_model.specs.Refusals.{first_refusal, ◌⇒◌}
 use Rattle.vb_model.specs.declared.replies.Refusal.{Refusal}
 use Rattle.vb_model.specs.declared.replies.Refusal.TheVariants.{BadOrder, BadCpu, NoPages}
-use Rattle.vb_pages.specs.PageState.{PageState}
+use Rattle.vb_pages.specs.PageState.{PageState, cpu_count}
 use Rattle.vb_driver.specs.Answers.{refusal_in, block_at}
-use Rattle.vb_driver.specs.Areas.{AreasState, areas_of, is_free_block, flagged}
-use Rattle.vb_driver.proofs.Allocating.{answered, IsServed, alloc_refusal, alloc_refused, alloc_free, alloc_state}
+use Rattle.vb_driver.specs.Areas.{Becomes, Allots, flags_of, has_block, is_free_block, flagged}
+use Rattle.vb_driver.proofs.Allocating.{answered, IsServed, alloc_refusal, alloc_refused, alloc_free, alloc_state, alloc_allots}
 use Rattle.vb_driver.proofs.areas.Areas.alloc.Goals.{in-Ok, in-Err}
 use Rattle.vb_driver.proofs.areas.Areas.alloc.Goals as goal
 
@@ -36,12 +36,14 @@ returns c =
       same = c.alloc.ensures.same;
     } in
     record {
-      refusal = subst (λ (v : AreasState). refusal_in c.match-alloc.result ≡ first_refusal ((nat_lt 9 n ⇒ BadOrder) ∷ (nat_le v.processors cpu ⇒ BadCpu) ∷ (not (list_any (λ start. is_free_block v.free (block_at start n)) (range_with_len 0 (length v.free))) ⇒ NoPages) ∷ [])) c.self.view_is
+      refusal = subst (λ (v : PageState). refusal_in c.match-alloc.result ≡ first_refusal ((nat_lt 9 n ⇒ BadOrder) ∷ (nat_le (cpu_count v) cpu ⇒ BadCpu) ∷ (not (has_block v n) ⇒ NoPages) ∷ [])) c.self.view_is
           (ap refusal_in is ∙ alloc_refusal s new cpu n c.alloc.result served);
-      refused = subst (λ (v : AreasState). OnErr c.match-alloc.result (areas_of new ≡ v)) c.self.view_is
-          (subst (λ (r : Result ℕ Refusal). OnErr r (areas_of new ≡ areas_of s)) (sym is) (alloc_refused s new cpu n c.alloc.result served));
-      free = subst (λ (v : AreasState). IfOk c.match-alloc.result (λ start. IsTrue (is_free_block v.free (block_at start n)))) c.self.view_is
-          (subst (λ (r : Result ℕ Refusal). IfOk r (λ start. IsTrue (is_free_block (areas_of s).free (block_at start n)))) (sym is) (alloc_free s new cpu n c.alloc.result served));
-      state = subst (λ (v : AreasState). IfOk c.match-alloc.result (λ start. areas_of new ≡ record v { free = flagged (pages_of (block_at start n)) false v.free; held = with_block (block_at start n) v.held })) c.self.view_is
-          (subst (λ (r : Result ℕ Refusal). IfOk r (λ start. areas_of new ≡ record (areas_of s) { free = flagged (pages_of (block_at start n)) false (areas_of s).free; held = with_block (block_at start n) (areas_of s).held })) (sym is) (alloc_state s new cpu n c.alloc.result served));
+      refused = subst (λ (v : PageState). OnErr c.match-alloc.result (Becomes v new (flags_of v.free) v.held)) c.self.view_is
+          (subst (λ (r : Result ℕ Refusal). OnErr r (Becomes s new (flags_of s.free) s.held)) (sym is) (alloc_refused s new cpu n c.alloc.result served));
+      free = subst (λ (v : PageState). IfOk c.match-alloc.result (λ start. IsTrue (is_free_block (flags_of v.free) (block_at start n)))) c.self.view_is
+          (subst (λ (r : Result ℕ Refusal). IfOk r (λ start. IsTrue (is_free_block (flags_of s.free) (block_at start n)))) (sym is) (alloc_free s new cpu n c.alloc.result served));
+      state = subst (λ (v : PageState). IfOk c.match-alloc.result (λ start. Becomes v new (flagged (pages_of (block_at start n)) false (flags_of v.free)) (with_block (block_at start n) v.held))) c.self.view_is
+          (subst (λ (r : Result ℕ Refusal). IfOk r (λ start. Becomes s new (flagged (pages_of (block_at start n)) false (flags_of s.free)) (with_block (block_at start n) s.held))) (sym is) (alloc_state s new cpu n c.alloc.result served));
+      areas = subst (λ (v : PageState). Allots v cpu n c.match-alloc.result new) c.self.view_is
+          (subst (λ (r : Result ℕ Refusal). Allots s cpu n r new) (sym is) (alloc_allots s new cpu n c.alloc.result served));
     }

@@ -2,20 +2,20 @@ use Rattle.std.proofs.Common.{◌≡◌, ◌≤◌, sym, subst, arith, false, Is
 use Rattle.std.specs.Prelude.{count_by}
 use Rattle.std.specs.List.{list_all}
 use Rattle.vb_pages.specs.PageState.{PageState, is_free_page}
-use Rattle.vb_driver.specs.Areas.{AreasState, areas_of, is_free_at, flagged}
+use Rattle.vb_driver.specs.Areas.{Becomes, flags_of, is_free_at, flagged}
 use Rattle.vb_driver.proofs.Naming.{times_in}
 use Rattle.vb_driver.proofs.Allocating.{count_flags, taken_state, taken_free, taken_once, distinct_once}
 use Rattle.vb_driver.proofs.areas.Areas.take_free.Goals as goal
 
 pub take_free-requires-clause-enough : goal.take_free-requires-clause-enough
 take_free-requires-clause-enough c =
-    let few : c.args.count ≤ count_by (λ f. f) (areas_of c.self.inside.pages).free = subst (λ (v : AreasState). c.args.count ≤ count_by (λ f. f) v.free) (sym c.self.view_is) c.requires.free in
+    let few : c.args.count ≤ count_by (λ f. f) (flags_of c.self.inside.pages.free) = subst (λ (v : PageState). c.args.count ≤ count_by (λ f. f) (flags_of v.free)) (sym c.self.view_is) c.requires.free in
     omega (arith, count_flags c.self.inside.pages)
 
 pub returns-clause-free : goal.returns-clause-free
 returns-clause-free c =
     let s : PageState = c.self.inside.pages in
-    subst (λ (v : AreasState). IsTrue (list_all (is_free_at v.free) c.take_free.new.out.items)) c.self.view_is
+    subst (λ (v : PageState). IsTrue (list_all (is_free_at (flags_of v.free)) c.take_free.new.out.items)) c.self.view_is
     (taken_free s c.take_free.new.self c.take_free.new.out.items c.pages_are_apart.ensures c.take_free.ensures.left)
 
 pub returns-clause-distinct : goal.returns-clause-distinct
@@ -28,5 +28,5 @@ pub returns-clause-state : goal.returns-clause-state
 returns-clause-state c =
     let s : PageState = c.self.inside.pages in
     let new : PageState = c.take_free.new.self in
-    subst (λ (v : AreasState). areas_of new ≡ record v { free = flagged c.take_free.new.out.items false v.free }) c.self.view_is
+    subst (λ (v : PageState). Becomes v new (flagged c.take_free.new.out.items false (flags_of v.free)) v.held) c.self.view_is
     (taken_state s new c.take_free.new.out.items c.take_free.ensures.taken c.take_free.ensures.left)

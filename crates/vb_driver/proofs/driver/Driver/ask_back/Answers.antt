@@ -27,8 +27,8 @@ invariant_of-self g c =
     let lowest : c.lowest-pages.result.items ≡ lowest_lent d c.args.count = c.lowest-pages.ensures ∙ ap (take c.args.count) (pages_same 0 (is_at Lent) is_lent d.places at_lent) in
     let placed_is : c.set_all.new.self ≡ placed (lowest_lent d c.args.count) Taking d.places = c.set_all.ensures ∙ ap (λ (l : List ℕ). placed l Taking d.places) (c.deref.ensures.0 ∙ lowest) in
     let posts : Posts m1 m2 d.deflate c.post-head.new.self 8 (lowest_lent d c.args.count) c.post-head.result = subst (λ (l : List ℕ). Posts m1 m2 d.deflate c.post-head.new.self 8 l c.post-head.result) lowest c.post-head.ensures.posts in
-    subst (λ (ps : List Place). IsKept (record d { places = ps; deflate = c.post-head.new.self }) c.self.inside.areas) (sym placed_is)
-    (asked_kept m1 m2 d c.self.inside.areas c.post-head.new.self 8 c.args.count c.post-head.result c.self.invariant posts)
+    subst (λ (ps : List Place). IsKept (record d { places = ps; deflate = c.post-head.new.self })) (sym placed_is)
+    (asked_kept m1 m2 d c.post-head.new.self 8 c.args.count c.post-head.result c.self.invariant posts)
 
 pub returns : goal.returns
 returns g c =

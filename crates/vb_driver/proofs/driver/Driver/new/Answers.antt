@@ -1,10 +1,11 @@
 use Rattle.std.proofs.Common.{◌≡◌, sym, ap, subst, List, []}
 use Rattle.vb_model.specs.declared.places.Place.{Place}
 use Rattle.vb_model.specs.Pages.{Block, all_free}
+use Rattle.vb_pages.specs.PageState.{PageState}
 use Rattle.vb_ram.specs.Limits.{AreWithinLimits, config_limits}
 use Rattle.vb_status.specs.Bits.{feature_bits}
 use Rattle.vb_driver.specs.State.{Side, DriverState, fresh_driver, fresh_side}
-use Rattle.vb_driver.specs.Areas.{AreasState, IsKept}
+use Rattle.vb_driver.specs.Areas.{IsKept}
 use Rattle.vb_driver.proofs.Moving.{fresh_kept}
 use Rattle.vb_driver.proofs.Sizes.{size_of_config}
 use Rattle.vb_driver.proofs.driver.Driver.new.Goals as goal
@@ -26,8 +27,8 @@ invariant_of-result c =
     let f = feature_bits c.empty.result in
     let limits : AreWithinLimits pages size cpus = config_limits pages size cpus c.requires in
     let d : DriverState = record (fresh_driver pages size cpus) { features = f } in
-    let kept : IsKept d areas = fresh_kept pages size cpus f areas limits.pages_least limits.pages_most (size_of_config pages size cpus c.requires) (ap (λ (a : AreasState). a.free) c.in_ok-new-2.ensures) (ap (λ (a : AreasState). a.processors) c.in_ok-new-2.ensures) in
-    subst (λ (v : List Place). IsKept (record d { places = v; held = areas.held; inflate = c.in_ok-new-3.field-0; deflate = c.in_ok-new-4.field-0 }) areas) (sym c.in_ok-new.ensures)
-    (subst (λ (v : List Block). IsKept (record d { held = v; inflate = c.in_ok-new-3.field-0; deflate = c.in_ok-new-4.field-0 }) areas) (sym (ap (λ (a : AreasState). a.held) c.in_ok-new-2.ensures))
-    (subst (λ (v : Side). IsKept (record d { inflate = v; deflate = c.in_ok-new-4.field-0 }) areas) (sym c.in_ok-new-3.ensures)
-    (subst (λ (v : Side). IsKept (record d { deflate = v }) areas) (sym c.in_ok-new-4.ensures) kept)))
+    let kept : IsKept d = fresh_kept pages size cpus f limits.pages_least limits.pages_most (size_of_config pages size cpus c.requires) in
+    subst (λ (v : List Place). IsKept (record d { places = v; held = areas.held; areas = areas.free; inflate = c.in_ok-new-3.field-0; deflate = c.in_ok-new-4.field-0 })) (sym c.in_ok-new.ensures)
+    (subst (λ (v : PageState). IsKept (record d { held = v.held; areas = v.free; inflate = c.in_ok-new-3.field-0; deflate = c.in_ok-new-4.field-0 })) (sym c.in_ok-new-2.ensures)
+    (subst (λ (v : Side). IsKept (record d { inflate = v; deflate = c.in_ok-new-4.field-0 })) (sym c.in_ok-new-3.ensures)
+    (subst (λ (v : Side). IsKept (record d { deflate = v })) (sym c.in_ok-new-4.ensures) kept)))

@@ -4,7 +4,7 @@ use Rattle.vb_model.specs.Pages.{placed, Block}
 use Rattle.vb_model.specs.declared.places.Place.{Place}
 use Rattle.vb_model.specs.declared.places.Place.TheVariants.{Lent, Free}
 use Rattle.vb_driver.specs.State.{Side, DriverState, sent_by}
-use Rattle.vb_driver.specs.Areas.{AreasState, IsKept}
+use Rattle.vb_driver.specs.Areas.{flags_of, flagged, IsKept}
 use Rattle.vb_driver.specs.contracts.driver.Driver.{the_view}
 use Rattle.vb_driver.proofs.Naming.{times_in}
 use Rattle.vb_driver.proofs.Moving.{lent_inside, lent_kept, freed_taking, freed_once, freed_uncovered, freed_unfree, freed_inside, freed_unreserved, freed_kept}
@@ -16,7 +16,7 @@ give_all-requires-clause-unreserved g c p here =
     let head = c.in-Ok-Some.used.0 in
     let next = rw c.in-Ok-Some.field-0-is at c.in-Ok-Some.ensures.next in
     let items : c.deref.result.now ≡ sent_by d.deflate head = c.deref.ensures.0 ∙ next.2 in
-    freed_unreserved d c.self.inside.areas p c.self.invariant (freed_taking d c.self.inside.areas head p next.1 c.self.invariant (ap (is_in p) (sym items) ∙ here))
+    freed_unreserved d p c.self.invariant (freed_taking d head p next.1 c.self.invariant (ap (is_in p) (sym items) ∙ here))
 
 pub give_all-requires-clause-inside : goal.give_all-requires-clause-inside
 give_all-requires-clause-inside g c p here =
@@ -24,7 +24,7 @@ give_all-requires-clause-inside g c p here =
     let head = c.in-Ok-Some.used.0 in
     let next = rw c.in-Ok-Some.field-0-is at c.in-Ok-Some.ensures.next in
     let items : c.deref.result.now ≡ sent_by d.deflate head = c.deref.ensures.0 ∙ next.2 in
-    (freed_inside d c.self.inside.areas p c.self.invariant (freed_taking d c.self.inside.areas head p next.1 c.self.invariant (ap (is_in p) (sym items) ∙ here))).0
+    (freed_inside d p c.self.invariant (freed_taking d head p next.1 c.self.invariant (ap (is_in p) (sym items) ∙ here))).0
 
 pub give_all-requires-clause-taken : goal.give_all-requires-clause-taken
 give_all-requires-clause-taken g c p here =
@@ -32,7 +32,7 @@ give_all-requires-clause-taken g c p here =
     let head = c.in-Ok-Some.used.0 in
     let next = rw c.in-Ok-Some.field-0-is at c.in-Ok-Some.ensures.next in
     let items : c.deref.result.now ≡ sent_by d.deflate head = c.deref.ensures.0 ∙ next.2 in
-    freed_unfree d c.self.inside.areas p c.self.invariant (freed_taking d c.self.inside.areas head p next.1 c.self.invariant (ap (is_in p) (sym items) ∙ here))
+    freed_unfree d p c.self.invariant (freed_taking d head p next.1 c.self.invariant (ap (is_in p) (sym items) ∙ here))
 
 pub give_all-requires-clause-uncovered : goal.give_all-requires-clause-uncovered
 give_all-requires-clause-uncovered g c p here =
@@ -40,7 +40,7 @@ give_all-requires-clause-uncovered g c p here =
     let head = c.in-Ok-Some.used.0 in
     let next = rw c.in-Ok-Some.field-0-is at c.in-Ok-Some.ensures.next in
     let items : c.deref.result.now ≡ sent_by d.deflate head = c.deref.ensures.0 ∙ next.2 in
-    freed_uncovered d c.self.inside.areas p c.self.invariant (freed_taking d c.self.inside.areas head p next.1 c.self.invariant (ap (is_in p) (sym items) ∙ here))
+    freed_uncovered d p c.self.invariant (freed_taking d head p next.1 c.self.invariant (ap (is_in p) (sym items) ∙ here))
 
 pub give_all-requires-clause-once : goal.give_all-requires-clause-once
 give_all-requires-clause-once g c p =
@@ -48,27 +48,25 @@ give_all-requires-clause-once g c p =
     let head = c.in-Ok-Some.used.0 in
     let next = rw c.in-Ok-Some.field-0-is at c.in-Ok-Some.ensures.next in
     let items : c.deref.result.now ≡ sent_by d.deflate head = c.deref.ensures.0 ∙ next.2 in
-    subst (λ (l : List ℕ). times_in p l ≤ 1) (sym items) (freed_once d c.self.inside.areas head p next.1 c.self.invariant)
+    subst (λ (l : List ℕ). times_in p l ≤ 1) (sym items) (freed_once d head p next.1 c.self.invariant)
 
-pub set_all-requires : goal.set_all-requires
-set_all-requires g c p here =
+pub settle-requires : goal.settle-requires
+settle-requires g c p here =
     let d = the_view c.self.inside in
     let head = c.in-Ok-Some.used.0 in
     let next = rw c.in-Ok-Some.field-0-is at c.in-Ok-Some.ensures.next in
-    let items : c.deref-2.result.now ≡ sent_by d.deflate head = c.deref-2.ensures.0 ∙ next.2 in
-    (freed_inside d c.self.inside.areas p c.self.invariant (freed_taking d c.self.inside.areas head p next.1 c.self.invariant (ap (is_in p) (sym items) ∙ here))).1
+    (freed_inside d p c.self.invariant (freed_taking d head p next.1 c.self.invariant (ap (is_in p) (sym next.2) ∙ here))).1
 
 pub invariant_of-self-2 : goal.invariant_of-self-2
 invariant_of-self-2 g c =
     let d = the_view c.self.inside in
-    let areas = c.self.inside.areas in
+    let areas2 = c.give_all.new.self in
     let head = c.in-Ok-Some.used.0 in
     let next = rw c.in-Ok-Some.field-0-is at c.in-Ok-Some.ensures.next in
     let items : c.deref.result.now ≡ sent_by d.deflate head = c.deref.ensures.0 ∙ next.2 in
-    let moved : c.set_all.new.self ≡ placed (sent_by d.deflate head) Free d.places = c.set_all.ensures ∙ ap (λ (l : List ℕ). placed l Free d.places) (c.deref-2.ensures.0 ∙ next.2) in
-    let free : c.give_all.new.self.free ≡ Rattle.vb_driver.specs.Areas.flagged (sent_by d.deflate head) true areas.free = ap (λ (v : AreasState). v.free) c.give_all.ensures ∙ ap (λ (l : List ℕ). Rattle.vb_driver.specs.Areas.flagged l true areas.free) items in
-    let held : c.give_all.new.self.held ≡ d.held = ap (λ (v : AreasState). v.held) c.give_all.ensures in
-    subst (λ (v : List Place). IsKept (record d { places = v; held = c.give_all.new.self.held; deflate = c.take_used.new.self }) c.give_all.new.self) (sym moved)
-    (subst (λ (v : List Block). IsKept (record d { places = placed (sent_by d.deflate head) Free d.places; held = v; deflate = c.take_used.new.self }) c.give_all.new.self) (sym held)
-    (subst (λ (v : Side). IsKept (record d { places = placed (sent_by d.deflate head) Free d.places; deflate = v }) c.give_all.new.self) (sym next.3)
-    (freed_kept d areas c.give_all.new.self head next.1 c.self.invariant free (ap (λ (v : AreasState). v.processors) c.give_all.ensures))))
+    let moved : c.settle.new.places ≡ placed (sent_by d.deflate head) Free d.places = c.settle.ensures.places ∙ ap (λ (l : List ℕ). placed l Free d.places) next.2 in
+    let free : flags_of areas2.free ≡ flagged (sent_by d.deflate head) true (flags_of d.areas) = c.give_all.ensures.state.free ∙ ap (λ (l : List ℕ). flagged l true (flags_of d.areas)) items in
+    subst (λ (v : List Place). IsKept (record d { places = v; held = areas2.held; areas = areas2.free; deflate = c.take_back.new.queue })) (sym moved)
+    (subst (λ (v : List Block). IsKept (record d { places = placed (sent_by d.deflate head) Free d.places; held = v; areas = areas2.free; deflate = c.take_back.new.queue })) (sym c.give_all.ensures.state.held)
+    (subst (λ (v : Side). IsKept (record d { places = placed (sent_by d.deflate head) Free d.places; areas = areas2.free; deflate = v })) (sym next.3)
+    (freed_kept d areas2.free head next.1 c.self.invariant free c.give_all.ensures.state.processors)))

@@ -4,25 +4,24 @@ use Rattle.vb_model.specs.Pages.{placed, Block}
 use Rattle.vb_model.specs.declared.places.Place.{Place}
 use Rattle.vb_model.specs.declared.places.Place.TheVariants.{Lent, Free}
 use Rattle.vb_driver.specs.State.{Side, DriverState, sent_by}
-use Rattle.vb_driver.specs.Areas.{AreasState, IsKept}
+use Rattle.vb_driver.specs.Areas.{IsKept}
 use Rattle.vb_driver.specs.contracts.driver.Driver.{the_view}
 use Rattle.vb_driver.proofs.Moving.{lent_inside, lent_kept, freed_taking, freed_once, freed_uncovered, freed_unfree, freed_inside, freed_kept}
 use Rattle.vb_driver.proofs.driver.Driver.reap_lent.Goals as goal
 
-pub set_all-requires : goal.set_all-requires
-set_all-requires g c p here =
+pub settle-requires : goal.settle-requires
+settle-requires g c p here =
     let d = the_view c.self.inside in
     let head = c.in-Ok-Some.used.0 in
     let next = rw c.in-Ok-Some.field-0-is at c.in-Ok-Some.ensures.next in
-    let items : c.deref.result.now ≡ sent_by d.inflate head = c.deref.ensures.0 ∙ next.2 in
-    lent_inside d c.self.inside.areas head p next.1 c.self.invariant (ap (is_in p) (sym items) ∙ here)
+    lent_inside d head p next.1 c.self.invariant (ap (is_in p) (sym next.2) ∙ here)
 
 pub invariant_of-self-2 : goal.invariant_of-self-2
 invariant_of-self-2 g c =
     let d = the_view c.self.inside in
     let head = c.in-Ok-Some.used.0 in
     let next = rw c.in-Ok-Some.field-0-is at c.in-Ok-Some.ensures.next in
-    let moved : c.set_all.new.self ≡ placed (sent_by d.inflate head) Lent d.places = c.set_all.ensures ∙ ap (λ (l : List ℕ). placed l Lent d.places) (c.deref.ensures.0 ∙ next.2) in
-    subst (λ (v : List Place). IsKept (record d { places = v; inflate = c.take_used.new.self }) c.self.inside.areas) (sym moved)
-    (subst (λ (v : Side). IsKept (record d { places = placed (sent_by d.inflate head) Lent d.places; inflate = v }) c.self.inside.areas) (sym next.3)
-    (lent_kept d c.self.inside.areas head next.1 c.self.invariant))
+    let moved : c.settle.new.places ≡ placed (sent_by d.inflate head) Lent d.places = c.settle.ensures.places ∙ ap (λ (l : List ℕ). placed l Lent d.places) next.2 in
+    subst (λ (v : List Place). IsKept (record d { places = v; inflate = c.take_back.new.queue })) (sym moved)
+    (subst (λ (v : Side). IsKept (record d { places = placed (sent_by d.inflate head) Lent d.places; inflate = v })) (sym next.3)
+    (lent_kept d head next.1 c.self.invariant))
