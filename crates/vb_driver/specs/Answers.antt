@@ -1,98 +1,68 @@
--- Why a driver's call is refused, in the order in which it is tested (profile).
-use Rattle.std.specs.Prelude.{ℕ, ◌+◌, ◌-◌, Bool, not, ◌==◌, ◌&&◌, nat_lt, nat_le, List, [], ◌∷◌, Option, Some, None, Result, Ok, Err, is_some, is_err, min, max, if◌then◌else◌}
-use Rattle.std.specs.List.{list_any, list_all, range_with_len}
-use Rattle.vb_model.specs.declared.replies.Refusal.{Refusal}
-use Rattle.vb_model.specs.declared.replies.Refusal.TheVariants.{BadOrder, BadCpu, NoPages, NotHeld, NotReady, QueueFull, Nothing, RingBroken, NoFeature, AlreadyUp, NoQueue, NoFrame}
-use Rattle.vb_model.specs.Limits.{max_order, max_request_pages, ring_and_buffer_pages}
-use Rattle.vb_model.specs.Pages.{Block, is_wholly_free, is_same_block}
+-- How many pages a driver's calls move, and why one is refused: the formulas and tables of the
+-- definitions, with the driver's own values.
+use Rattle.std.specs.Prelude.{ℕ, Bool, not, ◌==◌, List, [], ◌∷◌, ◌++◌, is_some, is_err}
+use Rattle.std.specs.List.{list_all, range_with_len}
+use Rattle.vb_model.specs.declared.replies.Refusal.TheVariants.{RingBroken, AlreadyUp, NoFrame}
+use Rattle.vb_model.specs.Limits.{ring_and_buffer_pages}
+pub use Rattle.vb_model.specs.Pages.{block_at}
 use Rattle.vb_model.specs.Guest.{deflate_on_oom}
-use Rattle.vb_model.specs.Status.{contains, driver_ok, is_broken}
-use Rattle.vb_model.specs.Refusals.{Test, ◌⇒◌, first_refusal}
+pub use Rattle.vb_model.specs.FirstRefusal.{refusal_in}
+use Rattle.vb_model.specs.FirstRefusal.{Test, ◌⇒◌}
+pub use Rattle.vb_model.specs.Tables.{is_up}
+use Rattle.vb_model.specs.Tables.{pages_to_offer, pages_to_ask, pages_when_short, asking_tests, featured_tests}
+use Rattle.vb_model.specs.Tables.{alloc_tests as tests_of_alloc, free_tests as tests_of_free, request_tests as tests_of_request, reap_tests as tests_of_reap}
 use Rattle.vb_model.specs.Life.{feature_tests}
 use Rattle.vb_ram.specs.Pages.{Pages, frame_at}
 use Rattle.vb_ram.specs.Part.{Part}
 use Rattle.vb_ring.specs.Ends.{outstanding, used_answer}
-use Rattle.vb_driver.specs.State.{Side, DriverState, free_count, giving_count, lent_count, stranded_count, room}
-
--- why a call was refused, where it was
-abbrev pub refusal_in : {T : Type 0} → Result T Refusal → Option Refusal
-refusal_in (Ok x) = None
-refusal_in (Err refusal) = Some refusal
-
--- the device is initialised, and neither it nor its driver has failed: VIRTIO 1.1, 2.1
-abbrev pub is_up : ℕ → Bool
-is_up status = contains status driver_ok && not (is_broken status)
+use Rattle.vb_driver.specs.State.{Side, DriverState, room}
 
 -- ---- the numbers of pages that a call moves
 
 abbrev pub inflate_count : DriverState → ℕ → ℕ → ℕ
-inflate_count d target n = min (min n max_request_pages) (min (max (stranded_count d) (target - lent_count d - giving_count d)) (stranded_count d + free_count d))
+inflate_count d target n = pages_to_offer d.places target n
 
 abbrev pub deflate_count : DriverState → ℕ → ℕ → ℕ
-deflate_count d target n = min (min n max_request_pages) (min (lent_count d) (lent_count d + giving_count d - target))
+deflate_count d target n = pages_to_ask d.places target n
 
 abbrev pub oom_count : DriverState → ℕ → ℕ
-oom_count d n = min (min n max_request_pages) (lent_count d)
+oom_count d n = pages_when_short d.places n
 
 -- ---- the tests
 
-abbrev pub block_at : ℕ → ℕ → Block
-block_at start order = record { start = start; order = order }
-
--- no block of the order is wholly free
-abbrev pub has_no_block : DriverState → ℕ → Bool
-has_no_block d order = not (list_any (λ start. is_wholly_free d.places (block_at start order)) (range_with_len 0 d.pages))
-
-abbrev pub is_held : DriverState → Block → Bool
-is_held d b = list_any (λ h. is_same_block h b) d.held
-
 abbrev pub alloc_tests : DriverState → ℕ → ℕ → List Test
-alloc_tests d cpu order =
-    (nat_lt max_order order ⇒ BadOrder)
-    ∷ (nat_le d.processors cpu ⇒ BadCpu)
-    ∷ (has_no_block d order ⇒ NoPages)
-    ∷ []
+alloc_tests d cpu order = tests_of_alloc d.places d.pages d.processors cpu order
 
 abbrev pub free_tests : DriverState → ℕ → ℕ → ℕ → List Test
-free_tests d cpu start order =
-    (nat_lt max_order order ⇒ BadOrder)
-    ∷ (nat_le d.processors cpu ⇒ BadCpu)
-    ∷ (not (is_held d (block_at start order)) ⇒ NotHeld)
-    ∷ []
+free_tests d cpu start order = tests_of_free d.held d.processors cpu (block_at start order)
 
 -- a new request of a queue, for this many pages
 abbrev pub request_tests : DriverState → Side → ℕ → List Test
-request_tests d side count =
-    (nat_le (room d) (outstanding side.ring) ⇒ QueueFull)
-    ∷ ((count == 0) ⇒ Nothing)
-    ∷ []
+request_tests d side count = tests_of_request (outstanding side.ring) (room d) count
 
 abbrev pub inflate_tests : DriverState → Part → ℕ → List Test
 inflate_tests d part n =
-    (not (is_up part.status) ⇒ NotReady)
-    ∷ request_tests d d.inflate (inflate_count d part.target n)
+    asking_tests part.status (outstanding d.inflate.ring) (room d)
+    (inflate_count d part.target n)
 
 abbrev pub deflate_tests : DriverState → Part → ℕ → List Test
 deflate_tests d part n =
-    (not (is_up part.status) ⇒ NotReady)
-    ∷ request_tests d d.deflate (deflate_count d part.target n)
+    asking_tests part.status (outstanding d.deflate.ring) (room d)
+    (deflate_count d part.target n)
 
 abbrev pub oom_tests : DriverState → Part → ℕ → List Test
 oom_tests d part n =
-    (not (is_up part.status) ⇒ NotReady)
-    ∷ (not (deflate_on_oom d.features) ⇒ NoFeature)
-    ∷ request_tests d d.deflate (oom_count d n)
+    featured_tests part.status (deflate_on_oom d.features) (outstanding d.deflate.ring) (room d)
+    (oom_count d n)
 
 -- the used ring says what no device may say
 abbrev pub is_ring_broken : Pages → Side → Bool
 is_ring_broken mem side = is_err (used_answer mem side.ring)
 
-abbrev pub reap_tests : Pages → Part → Side → ℕ → List Test
-reap_tests mem part side queue =
-    (not (nat_lt queue 2) ⇒ NoQueue)
-    ∷ (not (is_up part.status) ⇒ NotReady)
-    ∷ (is_ring_broken mem side ⇒ RingBroken)
-    ∷ []
+-- a reap from the queue whose side this is
+abbrev pub reap_tests : Pages → Part → DriverState → Side → ℕ → List Test
+reap_tests mem part d side queue =
+    tests_of_reap queue part.status d.features ++ ((is_ring_broken mem side ⇒ RingBroken) ∷ [])
 
 -- each page of the rings and buffers has a frame
 abbrev pub has_frames : Pages → Bool

@@ -173,7 +173,7 @@ after_refusal _ part = part
 pub record ReapsBy (m1 m2 : Pages) (p1 p2 : Part) (d1 d2 : DriverState) (queue : ℕ) (result : Result (Option Reaped) Refusal) : Type 0 where
   pub driver : IsDriver d1
   pub mem : m2 ≡ m1
-  pub refusal : refusal_in result ≡ first_refusal (reap_tests m1 p1 (side_of queue d1) queue)
+  pub refusal : refusal_in result ≡ first_refusal (reap_tests m1 p1 d1 (side_of queue d1) queue)
   pub refused : OnErr result (d2 ≡ d1)
   pub failed : IfErr result (λ refusal. p2 ≡ after_refusal refusal p1)
   pub next : IfOk result (λ got. used_answer m1 (side_of queue d1).ring ≡ Ok (next_of got))

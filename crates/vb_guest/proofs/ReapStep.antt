@@ -82,20 +82,20 @@ idle_refused g down =
     let P : ℕ → Type 0 = λ s. (refusal_of (record g { status = s }) (Reap 0) ≡ Some NotReady) × (refusal_of (record g { status = s }) (Reap 1) ≡ Some NotReady) in
     elim down [ inl e ↦ subst P (sym e) (refl, refl) | inr e ↦ subst P (sym e) (refl, refl) ]
 
-idle_tests : (m : Pages) (p : Part) (side : Side) → (p.status ≡ 0) ⊎ (p.status ≡ 131) → (first_refusal (reap_tests m p side 0) ≡ Some NotReady) × (first_refusal (reap_tests m p side 1) ≡ Some NotReady)
-idle_tests m p side down =
-    let P : ℕ → Type 0 = λ s. (first_refusal (reap_tests m (record p { status = s }) side 0) ≡ Some NotReady) × (first_refusal (reap_tests m (record p { status = s }) side 1) ≡ Some NotReady) in
+idle_tests : (m : Pages) (p : Part) (d : DriverState) (side : Side) → (p.status ≡ 0) ⊎ (p.status ≡ 131) → (first_refusal (reap_tests m p d side 0) ≡ Some NotReady) × (first_refusal (reap_tests m p d side 1) ≡ Some NotReady)
+idle_tests m p d side down =
+    let P : ℕ → Type 0 = λ s. (first_refusal (reap_tests m (record p { status = s }) d side 0) ≡ Some NotReady) × (first_refusal (reap_tests m (record p { status = s }) d side 1) ≡ Some NotReady) in
     elim down [ inl e ↦ subst P (sym e) (refl, refl) | inr e ↦ subst P (sym e) (refl, refl) ]
 
-running_tests : (m : Pages) (p : Part) (side : Side) (o : Option ℕ) → p.status ≡ 15 → used_answer m side.ring ≡ Ok o → (first_refusal (reap_tests m p side 0) ≡ None) × (first_refusal (reap_tests m p side 1) ≡ None)
-running_tests m p side o e answer =
-    let P : ℕ → Result (Option ℕ) Broken → Type 0 = λ s r. (first_refusal ((not (nat_lt 0 2) ⇒ NoQueue) ∷ (not (is_up s) ⇒ NotReady) ∷ (is_err r ⇒ RingBroken) ∷ []) ≡ None)
-    × (first_refusal ((not (nat_lt 1 2) ⇒ NoQueue) ∷ (not (is_up s) ⇒ NotReady) ∷ (is_err r ⇒ RingBroken) ∷ []) ≡ None) in
+running_tests : (m : Pages) (p : Part) (d : DriverState) (side : Side) (o : Option ℕ) → p.status ≡ 15 → used_answer m side.ring ≡ Ok o → (first_refusal (reap_tests m p d side 0) ≡ None) × (first_refusal (reap_tests m p d side 1) ≡ None)
+running_tests m p d side o e answer =
+    let P : ℕ → Result (Option ℕ) Broken → Type 0 = λ s r. (first_refusal ((not (is_up s) ⇒ NotReady) ∷ (is_err r ⇒ RingBroken) ∷ []) ≡ None)
+    × (first_refusal ((not (is_up s) ⇒ NotReady) ∷ (is_err r ⇒ RingBroken) ∷ []) ≡ None) in
     subst (λ s. P s (used_answer m side.ring)) (sym e) (subst (λ r. P 15 r) (sym answer) (refl, refl))
 
 -- a refused reap
 reap_refused : (m1 m2 : Pages) (p1 p2 : Part) (d1 d2 : DriverState) (g : Guest) (q : ℕ) (why : Refusal) (result : Result (Option ReapedRequest) Refusal)
-    → (why ≡ RingBroken → ⊥) → ReapsBy m1 m2 p1 p2 d1 d2 q result → Stands m1 p1 d1 g → first_refusal (reap_tests m1 p1 (side_of q d1) q) ≡ Some why → refusal_of g (Reap q) ≡ Some why
+    → (why ≡ RingBroken → ⊥) → ReapsBy m1 m2 p1 p2 d1 d2 q result → Stands m1 p1 d1 g → first_refusal (reap_tests m1 p1 d1 (side_of q d1) q) ≡ Some why → refusal_of g (Reap q) ≡ Some why
     → StepsAlone (Stands m2 p2 d2) g (Reap q) (reaped_reply result)
 reap_refused m1 m2 p1 p2 d1 d2 g q why (Ok got) other did stands by_driver by_model = absurd (let wrong = did.refusal ∙ by_driver in cc)
 reap_refused m1 m2 p1 p2 d1 d2 g q why (Err said) other did stands by_driver by_model =
@@ -172,13 +172,13 @@ inflate_reap m1 m2 p1 p2 g areas si sd d2 result did stands =
     elim stands.ties.queues [
       | inl idle ↦
           let D : ℕ → Type 0 = λ s. (s ≡ 0) ⊎ (s ≡ 131) in
-          reap_refused m1 m2 p1 p2 (driver_of g areas si sd) d2 g 0 NotReady result (λ e. cc) did stands (idle_tests m1 p1 si (subst D (sym stands.ties.parts.status) idle.state)).0 (idle_refused g idle.state).0
+          reap_refused m1 m2 p1 p2 (driver_of g areas si sd) d2 g 0 NotReady result (λ e. cc) did stands (idle_tests m1 p1 (driver_of g areas si sd) si (subst D (sym stands.ties.parts.status) idle.state)).0 (idle_refused g idle.state).0
       | inr run ↦
           let answer = used_line m1 0 g.config.pages si p1.inflate g.inflate.posted g.inflate.taken g.inflate.done run.inflate (omega (arith, stands.orderly.inflating.few, run.inflate_size)) in
-          by_result result did (running_free g run.state).0 (running_tests m1 p1 si (used_next g.inflate.done) (stands.ties.parts.status ∙ run.state) answer).0 answer run
+          by_result result did (running_free g run.state).0 (running_tests m1 p1 (driver_of g areas si sd) si (used_next g.inflate.done) (stands.ties.parts.status ∙ run.state) answer).0 answer run
     ]
   where
-    by_result : (result : Result (Option ReapedRequest) Refusal) → ReapsBy m1 m2 p1 p2 (driver_of g areas si sd) d2 0 result → refusal_of g (Reap 0) ≡ None → first_refusal (reap_tests m1 p1 si 0) ≡ None
+    by_result : (result : Result (Option ReapedRequest) Refusal) → ReapsBy m1 m2 p1 p2 (driver_of g areas si sd) d2 0 result → refusal_of g (Reap 0) ≡ None → first_refusal (reap_tests m1 p1 (driver_of g areas si sd) si 0) ≡ None
         → used_answer m1 si.ring ≡ Ok (used_next g.inflate.done) → IsRunning m1 p1 (driver_of g areas si sd) g → StepsAlone (Stands m2 p2 d2) g (Reap 0) (reaped_reply result)
     by_result (Err why) did free none answer run = absurd (let wrong = did.refusal ∙ none in cc)
     by_result (Ok got) did free none answer run =
@@ -252,13 +252,13 @@ deflate_reap m1 m2 p1 p2 g areas si sd d2 result did stands =
     elim stands.ties.queues [
       | inl idle ↦
           let D : ℕ → Type 0 = λ s. (s ≡ 0) ⊎ (s ≡ 131) in
-          reap_refused m1 m2 p1 p2 (driver_of g areas si sd) d2 g 1 NotReady result (λ e. cc) did stands (idle_tests m1 p1 sd (subst D (sym stands.ties.parts.status) idle.state)).1 (idle_refused g idle.state).1
+          reap_refused m1 m2 p1 p2 (driver_of g areas si sd) d2 g 1 NotReady result (λ e. cc) did stands (idle_tests m1 p1 (driver_of g areas si sd) sd (subst D (sym stands.ties.parts.status) idle.state)).1 (idle_refused g idle.state).1
       | inr run ↦
           let answer = used_line m1 1 g.config.pages sd p1.deflate g.deflate.posted g.deflate.taken g.deflate.done run.deflate (omega (arith, stands.orderly.deflating.few, run.deflate_size)) in
-          by_result result did (running_free g run.state).1 (running_tests m1 p1 sd (used_next g.deflate.done) (stands.ties.parts.status ∙ run.state) answer).1 answer run
+          by_result result did (running_free g run.state).1 (running_tests m1 p1 (driver_of g areas si sd) sd (used_next g.deflate.done) (stands.ties.parts.status ∙ run.state) answer).1 answer run
     ]
   where
-    by_result : (result : Result (Option ReapedRequest) Refusal) → ReapsBy m1 m2 p1 p2 (driver_of g areas si sd) d2 1 result → refusal_of g (Reap 1) ≡ None → first_refusal (reap_tests m1 p1 sd 1) ≡ None
+    by_result : (result : Result (Option ReapedRequest) Refusal) → ReapsBy m1 m2 p1 p2 (driver_of g areas si sd) d2 1 result → refusal_of g (Reap 1) ≡ None → first_refusal (reap_tests m1 p1 (driver_of g areas si sd) sd 1) ≡ None
         → used_answer m1 sd.ring ≡ Ok (used_next g.deflate.done) → IsRunning m1 p1 (driver_of g areas si sd) g → StepsAlone (Stands m2 p2 d2) g (Reap 1) (reaped_reply result)
     by_result (Err why) did free none answer run = absurd (let wrong = did.refusal ∙ none in cc)
     by_result (Ok got) did free none answer run =
@@ -282,7 +282,7 @@ reap_step m1 m2 p1 p2 d1 d2 g q result did stands =
         | inl second ↦ subst S (sym second) (deflate_reap m1 m2 p1 p2 g areas si sd d2 result (subst B second at) here)
         | inr none ↦
             reap_refused m1 m2 p1 p2 (driver_of g areas si sd) d2 g q NoQueue result (λ e. cc) at here
-            (first_holds (not (nat_lt q 2)) NoQueue (drop 1 (reap_tests m1 p1 (side_of q (driver_of g areas si sd)) q)) (ap not (le-ltb q 2 none)))
+            (first_holds (not (is_queue_of_requests q)) NoQueue (drop 1 (reap_tests m1 p1 (driver_of g areas si sd) (side_of q (driver_of g areas si sd)) q)) (no_requests_there q none))
             (first_holds (not (is_queue_of_requests q)) NoQueue (drop 1 (tests g (Reap q))) (no_requests_there q none))
       ]
     ]
