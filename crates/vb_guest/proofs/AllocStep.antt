@@ -19,7 +19,7 @@ use Rattle.vb_guest.specs.Steps.{StepsAlone}
 use Rattle.vb_guest.specs.Replies.{page_reply}
 use Rattle.vb_guest.proofs.Closing.{honest_performed, honest_refused, steps_alone, ties_areas}
 use Rattle.vb_guest.proofs.Writing.{idle_still}
-use Rattle.vb_guest.proofs.Normal.{driver_of, driver_is}
+use Rattle.vb_guest.proofs.Normal.{driver_of, driver_is, keeps_own}
 
 by_result : (m : Pages) (p : Part) (g : Guest) (areas : FreePages) (si sd : Side) (d2 : DriverState) (cpu order : ℕ) (result : Result ℕ Refusal)
     → AllocatesBy (driver_of g areas si sd) d2 cpu order result → Stands m p (driver_of g areas si sd) g → StepsAlone (Stands m p d2) g (Alloc cpu order) (page_reply result)
@@ -35,27 +35,9 @@ by_result m p g areas si sd d2 cpu order (Ok start) did stands =
     let after : DriverState = driver_of new d2.areas si sd in
     let there : Ties m p after new = record {
       parts = record {
-        honest = ties.parts.honest;
-        buffer = ties.parts.buffer;
-        report = ties.parts.report;
-        config = ties.parts.config;
-        pages = refl;
-        queue_size = refl;
-        processors = refl;
-        places = refl;
-        held = refl;
-        accepted = refl;
-        size = ties.parts.size;
-        paced = ties.parts.paced;
-        status = ties.parts.status;
-        features = ties.parts.features;
-        target = ties.parts.target;
-        actual = ties.parts.actual;
-        ballooned = ties.parts.ballooned;
-        last = ties.parts.last;
-        keeps = ties.parts.keeps;
-        own = ties.parts.own;
-        loose = ties.parts.loose;
+        guest = ties.parts.guest;
+        driver = keeps_own new _ _ _;
+        device = ties.parts.device;
       };
       pages = ties.pages;
       queues = elim ties.queues [

@@ -41,8 +41,8 @@ pub still_stands : (m1 m2 : Pages) (p1 p2 : Part) (d1 d2 : DriverState) (g : Gue
     → Stands m1 p1 d1 g → HonestStep g call claims reply new → Ties m2 p2 d2 new → Stands m2 p2 d2 new
 still_stands m1 m2 p1 p2 d1 d2 g call claims reply new stands step ties = record {
   ties = ties;
-  consistent = honest_keeps g call claims reply new stands.consistent step ties.parts.honest;
-  orderly = honest_order g call claims reply new stands.consistent stands.orderly step ties.parts.honest;
+  consistent = honest_keeps g call claims reply new stands.consistent step ties.parts.guest.honest;
+  orderly = honest_order g call claims reply new stands.consistent stands.orderly step ties.parts.guest.honest;
 }
 
 pub steps_alone : (m1 m2 : Pages) (p1 p2 : Part) (d1 d2 : DriverState) (g : Guest) (call : Call) (reply : Reply) (new : Guest)
@@ -50,7 +50,7 @@ pub steps_alone : (m1 m2 : Pages) (p1 p2 : Part) (d1 d2 : DriverState) (g : Gues
 steps_alone m1 m2 p1 p2 d1 d2 g call reply new stands step ties frames = record {
   new = new;
   stands = still_stands m1 m2 p1 p2 d1 d2 g call [] reply new stands step ties;
-  step = guest_step g call [] reply new stands.ties.parts.honest step;
+  step = guest_step g call [] reply new stands.ties.parts.guest.honest step;
   frames = frames;
 }
 

@@ -62,4 +62,4 @@ counts_are counts g are =
 pub places_answered : (m : Pages) (p : Part) (d : DriverState) (g : Guest) (counts : PlaceCounts) → AreCountsOf counts d.places → Stands m p d g → Places counts ≡ Places (place_counts g)
 places_answered m p d g counts are stands =
     let A : List Place → Type 0 = λ places. AreCountsOf counts places in
-    ap Places (counts_are counts g (subst A stands.ties.parts.places are))
+    ap Places (counts_are counts g (subst A stands.ties.parts.driver.places are))

@@ -34,7 +34,7 @@ use Rattle.vb_guest.proofs.PagesKept.{pages_same}
 use Rattle.vb_guest.proofs.Closing.{honest_performed, steps_alone, refused_alone}
 use Rattle.vb_guest.proofs.Offered.{last_sound, deflate_requested}
 use Rattle.vb_guest.proofs.InflateStep.{request_refusal, posted_same, post_apart}
-use Rattle.vb_guest.proofs.Normal.{driver_of, driver_is}
+use Rattle.vb_guest.proofs.Normal.{driver_of, driver_is, keeps_own}
 
 -- ---- the lowest lent pages are as many as were asked for
 
@@ -77,7 +77,7 @@ asked_back m1 m2 p1 p2 g areas si sd d2 call count posted asks driver did stands
     let new : Guest = asking Deflating posted.head pages g in
     let reply = ap (λ (k : ℕ). Posted posted.head k) did.pages in
     let step = honest_performed g call [] (Posted posted.head posted.pages) new free (asks.performs (Posted posted.head posted.pages) new (posted.head, least, reply, refl)) in
-    let orderly = honest_order g call [] (Posted posted.head posted.pages) new stands.consistent stands.orderly step ties.parts.honest in
+    let orderly = honest_order g call [] (Posted posted.head posted.pages) new stands.consistent stands.orderly step ties.parts.guest.honest in
     let once = (last_sound g.deflate.posted (record { head = posted.head; pages = pages; visited = 0 }) orderly.deflating.posted).distinct in
     let length_is : length pages ≡ count = length-lent g count asks.lent in
     let asked = deflate_requested g count stands.orderly once (omega (arith, length_is, asks.some free run.state)) (omega (arith, length_is, asks.few)) in
@@ -89,27 +89,9 @@ asked_back m1 m2 p1 p2 g areas si sd d2 call count posted asks driver did stands
     let after : DriverState = driver_of new areas si d2.deflate in
     let there : Ties m2 p1 after new = record {
       parts = record {
-        honest = ties.parts.honest;
-        buffer = ties.parts.buffer;
-        report = ties.parts.report;
-        config = ties.parts.config;
-        pages = refl;
-        queue_size = refl;
-        processors = refl;
-        places = refl;
-        held = refl;
-        accepted = refl;
-        size = ties.parts.size;
-        paced = ties.parts.paced;
-        status = ties.parts.status;
-        features = ties.parts.features;
-        target = ties.parts.target;
-        actual = ties.parts.actual;
-        ballooned = ties.parts.ballooned;
-        last = ties.parts.last;
-        keeps = ties.parts.keeps;
-        own = ties.parts.own;
-        loose = ties.parts.loose;
+        guest = ties.parts.guest;
+        driver = keeps_own new _ _ _;
+        device = ties.parts.device;
       };
       pages = pages_same m1 m2 g.config.pages _ _ (posted_same m1 m2 1 8 posted.head (omega arith) (omega arith) did.posts.small rest) ties.pages;
       queues = inr (record {
@@ -181,13 +163,13 @@ deflate_step m1 m2 p1 p2 d1 d2 g n result did stands =
     let D : ℕ → Type 0 = λ s. (s ≡ 0) ⊎ (s ≡ 131) in
     let same : first_refusal (deflate_tests (driver_of g areas si sd) p1 n) ≡ refusal_of g (Deflate n) =
     elim here.ties.queues [
-      | inl idle ↦ deflate_idle_tests (driver_of g areas si sd) p1 n (subst D (sym here.ties.parts.status) idle.state) ∙ sym (deflate_idle g n idle.state)
+      | inl idle ↦ deflate_idle_tests (driver_of g areas si sd) p1 n (subst D (sym here.ties.parts.device.status) idle.state) ∙ sym (deflate_idle g n idle.state)
       | inr run ↦
-          deflate_running_tests g areas si sd p1 n (here.ties.parts.status ∙ run.state) here.ties.parts.target
+          deflate_running_tests g areas si sd p1 n (here.ties.parts.device.status ∙ run.state) here.ties.parts.device.target
           ∙ ap (λ (k : ℕ). request_refusal (room g) k (deflate_count g n)) (outstanding_are m1 1 g.config.pages sd p1.deflate g.deflate run.deflate) ∙ sym (deflate_running g n run.state)
     ] in
     let A : ℕ → Type 0 = λ t. IfOk result (AsksBack m1 m2 p1 p2 (driver_of g areas si sd) d2 (driver_count (driver_of g areas si sd) t n)) in
-    by_result m1 m2 p1 p2 g areas si sd d2 (Deflate n) (deflate_count g n) result (deflate_asks g n) at.driver (at.refusal ∙ same) at.refused (subst A here.ties.parts.target at.asks) here
+    by_result m1 m2 p1 p2 g areas si sd d2 (Deflate n) (deflate_count g n) result (deflate_asks g n) at.driver (at.refusal ∙ same) at.refused (subst A here.ties.parts.device.target at.asks) here
 
 -- ---- whatever the target
 
@@ -241,9 +223,9 @@ oom_step m1 m2 p1 p2 d1 d2 g n result did stands =
     let D : ℕ → Type 0 = λ s. (s ≡ 0) ⊎ (s ≡ 131) in
     let same : first_refusal (oom_tests (driver_of g areas si sd) p1 n) ≡ refusal_of g (Oom n) =
     elim here.ties.queues [
-      | inl idle ↦ oom_idle_tests (driver_of g areas si sd) p1 n (subst D (sym here.ties.parts.status) idle.state) ∙ sym (oom_idle g n idle.state)
+      | inl idle ↦ oom_idle_tests (driver_of g areas si sd) p1 n (subst D (sym here.ties.parts.device.status) idle.state) ∙ sym (oom_idle g n idle.state)
       | inr run ↦
-          oom_running_tests g areas si sd p1 n (here.ties.parts.status ∙ run.state)
+          oom_running_tests g areas si sd p1 n (here.ties.parts.device.status ∙ run.state)
           ∙ ap (λ (k : ℕ). oom_refusal (deflate_on_oom g.features) (room g) k (oom_count g n)) (outstanding_are m1 1 g.config.pages sd p1.deflate g.deflate run.deflate) ∙ sym (oom_running g n run.state)
     ] in
     by_result m1 m2 p1 p2 g areas si sd d2 (Oom n) (oom_count g n) result (oom_asks g n) at.driver (at.refusal ∙ same) at.refused at.asks here

@@ -92,12 +92,12 @@ pub finish_refused : (m1 m2 : Pages) (p1 p2 : Part) (d : DriverState) (g : Guest
 finish_refused m1 m2 p1 p2 d g q i why result did stands by_part by_model =
     let (answer, part, memory) = did.refused why by_part in
     let step = honest_refused g (Finish q i) why by_model in
-    let same = ap handed_back part ∙ loose_none p1 stands.ties.parts.loose in
-    let none : p2.loose ≡ [] = ap (λ (p : Part). p.loose) part ∙ stands.ties.parts.loose in
+    let same = ap handed_back part ∙ loose_none p1 stands.ties.parts.device.loose in
+    let none : p2.loose ≡ [] = ap (λ (p : Part). p.loose) part ∙ stands.ties.parts.device.loose in
     subst (λ r. StepsFreeing (Stands m2 (handed_back p2) d) p2.loose g (Finish q i) (finished_reply r)) (sym answer) (record {
       new = g;
       stands = still_stands m1 m2 p1 (handed_back p2) d d g (Finish q i) [] (Refused why) g stands step (ties_same m1 m2 p1 (handed_back p2) d d g memory same refl stands.ties);
-      step = guest_step g (Finish q i) [] (Refused why) g stands.ties.parts.honest step;
+      step = guest_step g (Finish q i) [] (Refused why) g stands.ties.parts.guest.honest step;
       freed = λ n. omega (arith, ap (times n) none);
     })
 
@@ -120,7 +120,7 @@ inflate_finished m1 m2 p1 p2 d g i r result is did stands run free =
     let bare = discarded r.pages m1 in
     let P : Request → Type 0 = IsRequest d.inflate.ring.size n d.inflate.sent in
     let request : P r = subst P (get_or_from_slice_get g.inflate.taken i r r is) (run.inflate.taken i r (slice_get_within g.inflate.taken i r is)) in
-    let adds = same_end bare m2 0 p1.queue_size d.inflate p1.inflate _ r.head run.inflate.layout (ties.parts.size ∙ sym run.inflate_size) did.memory in
+    let adds = same_end bare m2 0 p1.queue_size d.inflate p1.inflate _ r.head run.inflate.layout (ties.parts.device.size ∙ sym run.inflate_size) did.memory in
     let low : (p : ℕ) → p < 16 → page_at bare p ≡ page_at m1 p = λ p lt. page_undiscarded r.pages m1 p (not_among r.pages p request.pages.above lt) in
     let used_low : d.inflate.ring.layout.used.page ≡ 0 = ap (λ (l : Layout). l.used.page) run.inflate.layout in
     let same = used_same bare m2 (end_of d.inflate p1.inflate) _ r.head 0 (omega (arith, used_low)) adds in
@@ -133,27 +133,21 @@ inflate_finished m1 m2 p1 p2 d g i r result is did stands run free =
     let part : handed_back p2 ≡ after = ap handed_back did.part in
     let there : Ties m2 after d new = record {
       parts = record {
-        honest = ties.parts.honest;
-        buffer = ties.parts.buffer;
-        report = ties.parts.report;
-        config = ties.parts.config;
-        pages = ties.parts.pages;
-        queue_size = ties.parts.queue_size;
-        processors = ties.parts.processors;
-        places = ties.parts.places;
-        held = ties.parts.held;
-        accepted = ties.parts.accepted;
-        size = ties.parts.size;
-        paced = ties.parts.paced;
-        status = ties.parts.status;
-        features = ties.parts.features;
-        target = ties.parts.target;
-        actual = ties.parts.actual;
-        ballooned = ap (λ (l : List Bool). flagged r.pages true l) ties.parts.ballooned;
-        last = ties.parts.last;
-        keeps = ties.parts.keeps;
-        own = ties.parts.own;
-        loose = refl;
+        guest = ties.parts.guest;
+        driver = ties.parts.driver;
+        device = record {
+          size = ties.parts.device.size;
+          paced = ties.parts.device.paced;
+          status = ties.parts.device.status;
+          features = ties.parts.device.features;
+          target = ties.parts.device.target;
+          actual = ties.parts.device.actual;
+          ballooned = ap (λ (l : List Bool). flagged r.pages true l) ties.parts.device.ballooned;
+          last = ties.parts.device.last;
+          keeps = ties.parts.device.keeps;
+          own = ties.parts.device.own;
+          loose = refl;
+        };
       };
       pages = pages_same bare m2 n _ _ same (pages_discarded m1 n g.frames g.contents r.pages ties.pages);
       queues = inr (record {
@@ -165,13 +159,13 @@ inflate_finished m1 m2 p1 p2 d g i r result is did stands run free =
         deflate = line_apart bare m2 1 n d.deflate p1.deflate g.deflate (record { ring = apart 1 (omega arith); buffers = λ p from to. apart p (omega arith) }) other;
       });
     } in
-    let numbers : (k : ℕ) → times k p2.loose ≡ times k (frames_behind m1 r.pages) = λ k. ap (λ (p : Part). times k p.loose) did.part ∙ ap (λ (l : List ℕ). times k (l ++ frames_behind m1 r.pages)) ties.parts.loose in
+    let numbers : (k : ℕ) → times k p2.loose ≡ times k (frames_behind m1 r.pages) = λ k. ap (λ (p : Part). times k p.loose) did.part ∙ ap (λ (l : List ℕ). times k (l ++ frames_behind m1 r.pages)) ties.parts.device.loose in
     let behind : frames_behind m1 r.pages ≡ flat_map (λ page. option_to_list (frame_of g.frames page)) r.pages = behind_same m1 g.frames r.pages ties.pages.behind in
     let F : ℕ → Type 0 = λ k. All (λ page. page < k) r.pages in
     subst (λ x. StepsFreeing (Stands m2 (handed_back p2) d) p2.loose g (Finish 0 i) (finished_reply x)) (sym did.answer) (record {
       new = new;
       stands = still_stands m1 m2 p1 (handed_back p2) d d g (Finish 0 i) [] (Finished r.head) new stands step (ties_same m2 m2 after (handed_back p2) d d new refl part refl there);
-      step = guest_step g (Finish 0 i) [] (Finished r.head) new ties.parts.honest step;
+      step = guest_step g (Finish 0 i) [] (Finished r.head) new ties.parts.guest.honest step;
       freed = λ k. omega (arith, numbers k, ap (times k) behind, frames_freed k r.pages g.frames request.pages.distinct (subst F (sym ties.pages.framed) request.pages.below));
     })
 
@@ -181,12 +175,12 @@ inflate_finish m1 m2 p1 p2 d g i result o by did stands =
     elim stands.ties.queues [
       | inl idle ↦
           let D : ℕ → Type 0 = λ s. (s ≡ 0) ⊎ (s ≡ 131) in
-          finish_refused m1 m2 p1 p2 d g 0 i NotReady result did stands (finish_idle_part p1 i (subst D (sym stands.ties.parts.status) idle.state)).0 (finish_idle g i idle.state).0
+          finish_refused m1 m2 p1 p2 d g 0 i NotReady result did stands (finish_idle_part p1 i (subst D (sym stands.ties.parts.device.status) idle.state)).0 (finish_idle g i idle.state).0
       | inr run ↦
           let model = (finish_running g i run.state).0 in
           let taken : slice_get p1.inflate.taken i ≡ slice_get g.inflate.taken i = ap (λ (l : List Request). slice_get l i) run.inflate.remembers in
           let device : finish_refusal 0 i p1 ≡ refusal_of g (Finish 0 i) =
-          (finish_running_part p1 i (stands.ties.parts.status ∙ run.state)).0 ∙ ap (λ (b : Bool). finish_test b true (slice_get p1.inflate.taken i)) stands.ties.parts.paced
+          (finish_running_part p1 i (stands.ties.parts.device.status ∙ run.state)).0 ∙ ap (λ (b : Bool). finish_test b true (slice_get p1.inflate.taken i)) stands.ties.parts.device.paced
           ∙ ap (finish_test g.config.paced true) taken ∙ sym model in
           by_refusal o by run (sym model) taken device
     ]
@@ -206,7 +200,7 @@ deflate_finished : (m1 m2 : Pages) (p1 p2 : Part) (d : DriverState) (g : Guest) 
 deflate_finished m1 m2 p1 p2 d g i r result is did stands run free =
     let ties = stands.ties in
     let n = g.config.pages in
-    let adds = same_end m1 m2 1 p1.queue_size d.deflate p1.deflate _ r.head run.deflate.layout (ties.parts.size ∙ sym run.deflate_size) did.memory in
+    let adds = same_end m1 m2 1 p1.queue_size d.deflate p1.deflate _ r.head run.deflate.layout (ties.parts.device.size ∙ sym run.deflate_size) did.memory in
     let used_low : d.deflate.ring.layout.used.page ≡ 1 = ap (λ (l : Layout). l.used.page) run.deflate.layout in
     let same = used_same m1 m2 (end_of d.deflate p1.deflate) _ r.head 0 (omega (arith, used_low)) adds in
     let apart : (p : ℕ) → p ≢ 1 → page_at m2 p ≡ page_at m1 p = λ p other. (let ne : p ≢ d.deflate.ring.layout.used.page = omega (arith, used_low, other) in adds.puts.rest.others p (ne, (ne, tt))) in
@@ -216,27 +210,21 @@ deflate_finished m1 m2 p1 p2 d g i r result is did stands run free =
     let part : handed_back p2 ≡ after = ap handed_back did.part in
     let there : Ties m2 after d new = record {
       parts = record {
-        honest = ties.parts.honest;
-        buffer = ties.parts.buffer;
-        report = ties.parts.report;
-        config = ties.parts.config;
-        pages = ties.parts.pages;
-        queue_size = ties.parts.queue_size;
-        processors = ties.parts.processors;
-        places = ties.parts.places;
-        held = ties.parts.held;
-        accepted = ties.parts.accepted;
-        size = ties.parts.size;
-        paced = ties.parts.paced;
-        status = ties.parts.status;
-        features = ties.parts.features;
-        target = ties.parts.target;
-        actual = ties.parts.actual;
-        ballooned = ap (λ (l : List Bool). flagged r.pages false l) ties.parts.ballooned;
-        last = ties.parts.last;
-        keeps = ties.parts.keeps;
-        own = ties.parts.own;
-        loose = refl;
+        guest = ties.parts.guest;
+        driver = ties.parts.driver;
+        device = record {
+          size = ties.parts.device.size;
+          paced = ties.parts.device.paced;
+          status = ties.parts.device.status;
+          features = ties.parts.device.features;
+          target = ties.parts.device.target;
+          actual = ties.parts.device.actual;
+          ballooned = ap (λ (l : List Bool). flagged r.pages false l) ties.parts.device.ballooned;
+          last = ties.parts.device.last;
+          keeps = ties.parts.device.keeps;
+          own = ties.parts.device.own;
+          loose = refl;
+        };
       };
       pages = pages_same m1 m2 n _ _ same ties.pages;
       queues = inr (record {
@@ -248,11 +236,11 @@ deflate_finished m1 m2 p1 p2 d g i r result is did stands run free =
         deflate = line_finished m1 m2 1 n d.deflate p1.deflate g.deflate i r _ (omega arith) run.deflate is adds;
       });
     } in
-    let none : p2.loose ≡ [] = ap (λ (p : Part). p.loose) did.part ∙ ties.parts.loose in
+    let none : p2.loose ≡ [] = ap (λ (p : Part). p.loose) did.part ∙ ties.parts.device.loose in
     subst (λ x. StepsFreeing (Stands m2 (handed_back p2) d) p2.loose g (Finish 1 i) (finished_reply x)) (sym did.answer) (record {
       new = new;
       stands = still_stands m1 m2 p1 (handed_back p2) d d g (Finish 1 i) [] (Finished r.head) new stands step (ties_same m2 m2 after (handed_back p2) d d new refl part refl there);
-      step = guest_step g (Finish 1 i) [] (Finished r.head) new ties.parts.honest step;
+      step = guest_step g (Finish 1 i) [] (Finished r.head) new ties.parts.guest.honest step;
       freed = λ k. omega (arith, ap (times k) none);
     })
 
@@ -262,12 +250,12 @@ deflate_finish m1 m2 p1 p2 d g i result o by did stands =
     elim stands.ties.queues [
       | inl idle ↦
           let D : ℕ → Type 0 = λ s. (s ≡ 0) ⊎ (s ≡ 131) in
-          finish_refused m1 m2 p1 p2 d g 1 i NotReady result did stands (finish_idle_part p1 i (subst D (sym stands.ties.parts.status) idle.state)).1 (finish_idle g i idle.state).1
+          finish_refused m1 m2 p1 p2 d g 1 i NotReady result did stands (finish_idle_part p1 i (subst D (sym stands.ties.parts.device.status) idle.state)).1 (finish_idle g i idle.state).1
       | inr run ↦
           let model = (finish_running g i run.state).1 in
           let taken : slice_get p1.deflate.taken i ≡ slice_get g.deflate.taken i = ap (λ (l : List Request). slice_get l i) run.deflate.remembers in
           let device : finish_refusal 1 i p1 ≡ refusal_of g (Finish 1 i) =
-          (finish_running_part p1 i (stands.ties.parts.status ∙ run.state)).1 ∙ ap (λ (b : Bool). finish_test b false (slice_get p1.deflate.taken i)) stands.ties.parts.paced
+          (finish_running_part p1 i (stands.ties.parts.device.status ∙ run.state)).1 ∙ ap (λ (b : Bool). finish_test b false (slice_get p1.deflate.taken i)) stands.ties.parts.device.paced
           ∙ ap (finish_test g.config.paced false) taken ∙ sym model in
           by_refusal o by run (sym model) taken device
     ]

@@ -19,7 +19,7 @@ use Rattle.vb_guest.specs.Steps.{StepsAlone}
 use Rattle.vb_guest.specs.Replies.{done_reply}
 use Rattle.vb_guest.proofs.Closing.{honest_performed, steps_alone, refused_alone}
 use Rattle.vb_guest.proofs.Writing.{idle_still}
-use Rattle.vb_guest.proofs.Normal.{driver_of, driver_is}
+use Rattle.vb_guest.proofs.Normal.{driver_of, driver_is, keeps_own}
 
 by_result : (m : Pages) (p : Part) (g : Guest) (areas : FreePages) (si sd : Side) (d2 : DriverState) (cpu start order : ℕ) (result : Result (Unit {0}) Refusal)
     → FreesBy (driver_of g areas si sd) d2 cpu start order result → Stands m p (driver_of g areas si sd) g → StepsAlone (Stands m p d2) g (Free cpu start order) (done_reply result)
@@ -31,27 +31,9 @@ by_result m p g areas si sd d2 cpu start order (Ok done) did stands =
     let after : DriverState = driver_of new (after_free (driver_of g areas si sd) cpu start order).areas si sd in
     let there : Ties m p after new = record {
       parts = record {
-        honest = ties.parts.honest;
-        buffer = ties.parts.buffer;
-        report = ties.parts.report;
-        config = ties.parts.config;
-        pages = refl;
-        queue_size = refl;
-        processors = refl;
-        places = refl;
-        held = refl;
-        accepted = refl;
-        size = ties.parts.size;
-        paced = ties.parts.paced;
-        status = ties.parts.status;
-        features = ties.parts.features;
-        target = ties.parts.target;
-        actual = ties.parts.actual;
-        ballooned = ties.parts.ballooned;
-        last = ties.parts.last;
-        keeps = ties.parts.keeps;
-        own = ties.parts.own;
-        loose = ties.parts.loose;
+        guest = ties.parts.guest;
+        driver = keeps_own new _ _ _;
+        device = ties.parts.device;
       };
       pages = ties.pages;
       queues = elim ties.queues [

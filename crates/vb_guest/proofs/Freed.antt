@@ -65,16 +65,16 @@ down_not_ok status (inr e) ok = let P : ℕ → Type 0 = λ s. contains s driver
 pub ring_backed : (m : Pages) (p : Part) (d : DriverState) (g : Guest) (q : ℕ) → Stands m p d g → contains p.status driver_ok ≡ true → IsSome (frame_at m (ring_page q))
 ring_backed m p d g q stands ok =
     elim stands.ties.queues [
-      | inl idle ↦ (let P : ℕ → Type 0 = λ s. contains s driver_ok ≡ true in absurd (down_not_ok g.status idle.state (subst P stands.ties.parts.status ok)))
+      | inl idle ↦ (let P : ℕ → Type 0 = λ s. contains s driver_ok ≡ true in absurd (down_not_ok g.status idle.state (subst P stands.ties.parts.device.status ok)))
       | inr run ↦ run.backed (ring_page q) (low_if (q == 0) (q == 1) (q == 2))
     ]
 
 -- there is room for loose frames
 pub loose_room : (m : Pages) (p : Part) (d : DriverState) (g : Guest) → Stands m p d g → length p.loose ≤ length m
-loose_room m p d g stands = omega (arith, ap (λ (l : List ℕ). length l) stands.ties.parts.loose)
+loose_room m p d g stands = omega (arith, ap (λ (l : List ℕ). length l) stands.ties.parts.device.loose)
 
 pub finish_own : (m1 m2 : Pages) (p1 p2 : Part) (d : DriverState) (g : Guest) (q i : ℕ) (result : Result ℕ Refusal) → FinishesBy q i m1 m2 p1 p2 result → Stands m1 p1 d g → p2.own ≡ []
-finish_own m1 m2 p1 p2 d g q i result did stands = (finish_step m1 m2 p1 p2 d g q i result did stands).stands.ties.parts.own
+finish_own m1 m2 p1 p2 d g q i result did stands = (finish_step m1 m2 p1 p2 d g q i result did stands).stands.ties.parts.device.own
 
 pub finish_loose : (m1 m2 : Pages) (p1 p2 : Part) (d : DriverState) (g : Guest) (q i : ℕ) (result : Result ℕ Refusal) (out : List Bool) → FinishesBy q i m1 m2 p1 p2 result → Stands m1 p1 d g → AreOut g out → AreLoose p2.loose out
 finish_loose m1 m2 p1 p2 d g q i result out did stands held = freed_loose _ p2.loose g (Finish q i) (finished_reply result) out (finish_step m1 m2 p1 p2 d g q i result did stands) held
@@ -86,4 +86,4 @@ finish_freed Answers m1 m2 m3 p1 p2 p3 d g q i result out1 out2 did stands memor
 
 -- a guest has 64 pages at the least
 pub large : (m : Pages) (p : Part) (d : DriverState) (g : Guest) → Stands m p d g → 64 ≤ length m
-large m p d g stands = omega (arith, (config_limits g.config.pages g.config.queue_size g.config.processors stands.ties.parts.config).pages_least, stands.ties.pages.length_is)
+large m p d g stands = omega (arith, (config_limits g.config.pages g.config.queue_size g.config.processors stands.ties.parts.guest.config).pages_least, stands.ties.pages.length_is)

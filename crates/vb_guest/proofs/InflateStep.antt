@@ -30,7 +30,7 @@ use Rattle.vb_guest.proofs.Posting.{line_posted, least_head, outstanding_are}
 use Rattle.vb_guest.proofs.PagesKept.{SamePages, pages_same}
 use Rattle.vb_guest.proofs.Closing.{honest_performed, steps_alone, refused_alone}
 use Rattle.vb_guest.proofs.Offered.{last_sound, inflate_requested}
-use Rattle.vb_guest.proofs.Normal.{driver_of, driver_is}
+use Rattle.vb_guest.proofs.Normal.{driver_of, driver_is, keeps_own}
 
 -- a new request of a queue is refused for want of room, or of pages
 abbrev pub request_refusal : ℕ → ℕ → ℕ → Option Refusal
@@ -85,7 +85,7 @@ inflate_offered m1 m2 p1 p2 g areas si sd d2 n posted driver did stands run free
     let new : Guest = asking Inflating posted.head pages g in
     let reply = ap (λ (k : ℕ). Posted posted.head k) did.pages in
     let step = honest_performed g (Inflate n) [] (Posted posted.head posted.pages) new free (refl, (posted.head, did.others, least, did.free, did.distinct, did.enough, reply, refl)) in
-    let orderly = honest_order g (Inflate n) [] (Posted posted.head posted.pages) new stands.consistent stands.orderly step ties.parts.honest in
+    let orderly = honest_order g (Inflate n) [] (Posted posted.head posted.pages) new stands.consistent stands.orderly step ties.parts.guest.honest in
     let once = (last_sound g.inflate.posted (record { head = posted.head; pages = pages; visited = 0 }) orderly.inflating.posted).distinct in
     let count : length pages ≡ inflate_count g n = length-append (stranded_first g n) did.others ∙ did.enough in
     let asked = inflate_requested g n did.others stands.orderly did.free once (omega (arith, count, some)) (omega (arith, count)) in
@@ -97,27 +97,9 @@ inflate_offered m1 m2 p1 p2 g areas si sd d2 n posted driver did stands run free
     let after : DriverState = driver_of new d2.areas d2.inflate sd in
     let there : Ties m2 p1 after new = record {
       parts = record {
-        honest = ties.parts.honest;
-        buffer = ties.parts.buffer;
-        report = ties.parts.report;
-        config = ties.parts.config;
-        pages = refl;
-        queue_size = refl;
-        processors = refl;
-        places = refl;
-        held = refl;
-        accepted = refl;
-        size = ties.parts.size;
-        paced = ties.parts.paced;
-        status = ties.parts.status;
-        features = ties.parts.features;
-        target = ties.parts.target;
-        actual = ties.parts.actual;
-        ballooned = ties.parts.ballooned;
-        last = ties.parts.last;
-        keeps = ties.parts.keeps;
-        own = ties.parts.own;
-        loose = ties.parts.loose;
+        guest = ties.parts.guest;
+        driver = keeps_own new _ _ _;
+        device = ties.parts.device;
       };
       pages = pages_same m1 m2 g.config.pages _ _ (posted_same m1 m2 0 4 posted.head (omega arith) (omega arith) did.posts.small rest) ties.pages;
       queues = inr (record {
@@ -147,7 +129,7 @@ by_result m1 m2 p1 p2 g areas si sd d2 n (Ok posted) did stands same =
       | inr run ↦
           let room_left = none_room (room g) (outstanding g.inflate) (inflate_count g n) (sym (running_refusal g n run.state) ∙ free) in
           let O : ℕ → Type 0 = λ t. Offers m1 m2 p1 p2 (driver_of g areas si sd) d2 (driver_count (driver_of g areas si sd) t n) posted in
-          inflate_offered m1 m2 p1 p2 g areas si sd d2 n posted did.driver (subst O stands.ties.parts.target did.offers) stands run free room_left.1 room_left.0
+          inflate_offered m1 m2 p1 p2 g areas si sd d2 n posted did.driver (subst O stands.ties.parts.device.target did.offers) stands run free room_left.1 room_left.0
     ]
 
 pub inflate_step : (m1 m2 : Pages) (p1 p2 : Part) (d1 d2 : DriverState) (g : Guest) (n : ℕ) (result : Result PostedRequest Refusal)
@@ -161,9 +143,9 @@ inflate_step m1 m2 p1 p2 d1 d2 g n result did stands =
     let D : ℕ → Type 0 = λ s. (s ≡ 0) ⊎ (s ≡ 131) in
     let same : first_refusal (inflate_tests (driver_of g areas si sd) p1 n) ≡ refusal_of g (Inflate n) =
     elim here.ties.queues [
-      | inl idle ↦ idle_tests (driver_of g areas si sd) p1 n (subst D (sym here.ties.parts.status) idle.state) ∙ sym (idle_refused g n idle.state)
+      | inl idle ↦ idle_tests (driver_of g areas si sd) p1 n (subst D (sym here.ties.parts.device.status) idle.state) ∙ sym (idle_refused g n idle.state)
       | inr run ↦
-          running_tests g areas si sd p1 n (here.ties.parts.status ∙ run.state) here.ties.parts.target
+          running_tests g areas si sd p1 n (here.ties.parts.device.status ∙ run.state) here.ties.parts.device.target
           ∙ ap (λ (k : ℕ). request_refusal (room g) k (inflate_count g n)) (outstanding_are m1 0 g.config.pages si p1.inflate g.inflate run.inflate) ∙ sym (running_refusal g n run.state)
     ] in
     by_result m1 m2 p1 p2 g areas si sd d2 n result (subst (λ d. InflatesBy m1 m2 p1 p2 d d2 n result) is did) here same
@@ -176,6 +158,6 @@ down_not_up status (inr e) up = let P : ℕ → Type 0 = λ s. is_up s ≡ true 
 pub up_backed : (m : Pages) (p : Part) (d : DriverState) (g : Guest) → Stands m p d g → is_up p.status ≡ true → (page : ℕ) → page < 13 → IsSome (frame_at m page)
 up_backed m p d g stands up page lt =
     elim stands.ties.queues [
-      | inl idle ↦ (let P : ℕ → Type 0 = λ s. is_up s ≡ true in absurd (down_not_up g.status idle.state (subst P stands.ties.parts.status up)))
+      | inl idle ↦ (let P : ℕ → Type 0 = λ s. is_up s ≡ true in absurd (down_not_up g.status idle.state (subst P stands.ties.parts.device.status up)))
       | inr run ↦ run.backed page lt
     ]

@@ -52,7 +52,7 @@ pub init_up : (Answers : List Bool → Claim → Type 0) (out : List Bool) (m : 
     → Steps (Stands m p d) Answers out out g (Init wanted) (Refused AlreadyUp)
 init_up Answers out m p d g wanted up stands =
     steps_quiet (Stands m p d) Answers out g (Init wanted) (Refused AlreadyUp) (refused_alone m m p p d d g (Init wanted) AlreadyUp stands
-    (first_holds (not (g.status == 0)) AlreadyUp [] (up_test g.status (λ e. up (stands.ties.parts.status ∙ e)))) refl refl refl)
+    (first_holds (not (g.status == 0)) AlreadyUp [] (up_test g.status (λ e. up (stands.ties.parts.device.status ∙ e)))) refl refl refl)
 
 new_test : (g : Guest) (wanted : ℕ) → g.status ≡ 0 → refusal_of g (Init wanted) ≡ None
 new_test g wanted e = ap (λ (s : ℕ). first_refusal ((not (s == 0) ⇒ AlreadyUp) ∷ [])) e
@@ -108,12 +108,12 @@ init_unsupplied Answers out1 out2 m1 m2 p1 p2 d g wanted why refusal is new did 
     let after : Guest = record g { frames = all_backed (lacking g) (given claims) g.frames } in
     let P : Option Refusal → Type 0 = λ o. MatchOption o (Negotiates (feature_refusal wanted) wanted after (Refused refusal) g) (λ r. (Refused refusal ≡ Refused r) × (g ≡ g)) in
     let made : AreClaimsFor (lacking g) claims = subst (λ (l : List ℕ). AreClaimsFor l claims) (bare_is m1 g ties.pages.behind) did.made in
-    let step = honest_performed g (Init wanted) claims (Refused refusal) g (new_test g wanted (sym ties.parts.status ∙ new)) (made, subst P (sym refused) (refl, refl)) in
+    let step = honest_performed g (Init wanted) claims (Refused refusal) g (new_test g wanted (sym ties.parts.device.status ∙ new)) (made, subst P (sym refused) (refl, refl)) in
     record {
       claims = claims;
       new = g;
       stands = still_stands m1 m2 p1 p2 d d g (Init wanted) claims (Refused refusal) g stands step (ties_same m1 m2 p1 p2 d d g did.refused.0 part refl ties);
-      step = guest_step g (Init wanted) claims (Refused refusal) g ties.parts.honest step;
+      step = guest_step g (Init wanted) claims (Refused refusal) g ties.parts.guest.honest step;
       answered = did.answered;
       balance = λ n. ap (λ (o : List Bool). one_if (is_out o n) + count_by (is_frame n) g.frames) did.refused.1;
       count = ap (λ (o : List Bool). length o) did.refused.1;
@@ -192,34 +192,40 @@ started m2 m3 p1 p3 d1 d2 g frames wanted has backed idle driver parts did =
     let deflate = fresh_line m3 1 n d1.queue_size driver.size (subst (λ (d : DriverState). IsNewRing m3 d.deflate) did.driver did.deflate) in
     let there : Ties m3 part state new = record {
       parts = record {
-        honest = parts.honest;
-        buffer = refl;
-        report = parts.report;
-        config = parts.config;
-        pages = parts.pages;
-        queue_size = parts.queue_size;
-        processors = parts.processors;
-        places = parts.places;
-        held = parts.held;
-        accepted = refl;
-        size = parts.size;
-        paced = parts.paced;
-        status = refl;
-        features = refl;
-        target = parts.target;
-        actual = sym idle.actual;
-        ballooned = no_flags p1 g parts.ballooned idle;
-        last = sym idle.last;
-        keeps = parts.keeps;
-        own = parts.own;
-        loose = parts.loose;
+        guest = record {
+          honest = parts.guest.honest;
+          buffer = refl;
+          report = parts.guest.report;
+          config = parts.guest.config;
+        };
+        driver = record {
+          pages = parts.driver.pages;
+          queue_size = parts.driver.queue_size;
+          processors = parts.driver.processors;
+          places = parts.driver.places;
+          held = parts.driver.held;
+          accepted = refl;
+        };
+        device = record {
+          size = parts.device.size;
+          paced = parts.device.paced;
+          status = refl;
+          features = refl;
+          target = parts.device.target;
+          actual = sym idle.actual;
+          ballooned = no_flags p1 g parts.device.ballooned idle;
+          last = sym idle.last;
+          keeps = parts.device.keeps;
+          own = parts.device.own;
+          loose = parts.device.loose;
+        };
       };
       pages = pages_same m2 m3 n frames g.contents (record { count = did.count; behind = did.backing; holds = λ p high. ap contents_of (did.others p (omega arith)) }) has;
       queues = inr (record {
         state = refl;
         backed = λ p lt. ap is_some (did.backing p) ∙ backed p lt;
-        inflate_size = parts.queue_size;
-        deflate_size = parts.queue_size;
+        inflate_size = parts.driver.queue_size;
+        deflate_size = parts.driver.queue_size;
         inflate = subst (λ (rs : Requests). Line m3 0 n (fresh_side 0 d1.queue_size) no_queue rs) (sym idle.inflate) inflate;
         deflate = subst (λ (rs : Requests). Line m3 1 n (fresh_side 1 d1.queue_size) no_queue rs) (sym idle.deflate) deflate;
       });
@@ -236,27 +242,28 @@ stopped m2 m3 p1 p3 d1 d2 g frames accepted has idle parts did =
     let state : DriverState = record d1 { features = accepted } in
     let there : Ties m2 part state new = record {
       parts = record {
-        honest = parts.honest;
-        buffer = parts.buffer;
-        report = parts.report;
-        config = parts.config;
-        pages = parts.pages;
-        queue_size = parts.queue_size;
-        processors = parts.processors;
-        places = parts.places;
-        held = parts.held;
-        accepted = refl;
-        size = parts.size;
-        paced = parts.paced;
-        status = refl;
-        features = refl;
-        target = parts.target;
-        actual = sym idle.actual;
-        ballooned = no_flags p1 g parts.ballooned idle;
-        last = sym idle.last;
-        keeps = parts.keeps;
-        own = parts.own;
-        loose = parts.loose;
+        guest = parts.guest;
+        driver = record {
+          pages = parts.driver.pages;
+          queue_size = parts.driver.queue_size;
+          processors = parts.driver.processors;
+          places = parts.driver.places;
+          held = parts.driver.held;
+          accepted = refl;
+        };
+        device = record {
+          size = parts.device.size;
+          paced = parts.device.paced;
+          status = refl;
+          features = refl;
+          target = parts.device.target;
+          actual = sym idle.actual;
+          ballooned = no_flags p1 g parts.device.ballooned idle;
+          last = sym idle.last;
+          keeps = parts.device.keeps;
+          own = parts.device.own;
+          loose = parts.device.loose;
+        };
       };
       pages = has;
       queues = inl (record {
@@ -311,7 +318,7 @@ init_supplied Answers out1 out2 m1 m2 m3 p1 p2 p3 d1 d2 g wanted result status d
     let pages = bare_from m1 0 in
     let claims = did.claims in
     let frames : List (Option ℕ) = all_backed pages (given claims) g.frames in
-    let new_status : g.status ≡ 0 = sym ties.parts.status ∙ status in
+    let new_status : g.status ≡ 0 = sym ties.parts.device.status ∙ status in
     let idle = new_is_idle m1 p1 d1 g new_status stands in
     let distinct = all_distinct (λ page. is_none (frame_at m1 page)) 0 13 in
     let below : (p : ℕ) → is_in p pages ≡ true → p < n = λ p there. (let low = bounded (λ page. is_none (frame_at m1 page)) 0 13 p there in let many = large m1 p1 d1 g stands in omega (arith, ties.pages.length_is)) in
@@ -328,7 +335,7 @@ init_supplied Answers out1 out2 m1 m2 m3 p1 p2 p3 d1 d2 g wanted result status d
       claims = claims;
       new = left.new;
       stands = still_stands m1 m3 p1 p3 d1 d2 g (Init wanted) claims reply left.new stands step left.ties;
-      step = guest_step g (Init wanted) claims reply left.new ties.parts.honest step;
+      step = guest_step g (Init wanted) claims reply left.new ties.parts.guest.honest step;
       answered = did.answered;
       balance = λ x. (
           let filled = frames_filled Answers x n pages claims out1 m1 m2 g.frames g.contents did.answer did.made did.answered distinct below did.supplied.0 ties.pages in

@@ -40,7 +40,7 @@ use Rattle.vb_guest.proofs.Reaping.{used_next, split_ids, ids_length, line_reape
 use Rattle.vb_model.proofs.Queues.{queue_cases}
 use Rattle.vb_guest.proofs.Refusing.{no_requests_there}
 use Rattle.vb_guest.proofs.Closing.{first_holds, honest_performed, steps_alone, refused_alone, ties_same}
-use Rattle.vb_guest.proofs.Normal.{driver_of, driver_is}
+use Rattle.vb_guest.proofs.Normal.{driver_of, driver_is, keeps_own}
 
 is_one : (b : Bool) → 1 ≤ one_if b → b ≡ true
 is_one true h = refl
@@ -139,27 +139,21 @@ inflate_reaped m1 m2 p1 p2 g areas si sd d2 (r ∷ rest) (Some x) is next did an
     let reap = line_reaped m1 0 n si p1.inflate g.inflate.posted g.inflate.taken r rest line taken in
     let there : Ties m1 (record p1 { actual = new.actual }) after new = record {
       parts = record {
-        honest = ties.parts.honest;
-        buffer = ties.parts.buffer;
-        report = ties.parts.report;
-        config = ties.parts.config;
-        pages = refl;
-        queue_size = refl;
-        processors = refl;
-        places = refl;
-        held = refl;
-        accepted = refl;
-        size = ties.parts.size;
-        paced = ties.parts.paced;
-        status = ties.parts.status;
-        features = ties.parts.features;
-        target = ties.parts.target;
-        actual = refl;
-        ballooned = ties.parts.ballooned;
-        last = ties.parts.last;
-        keeps = ties.parts.keeps;
-        own = ties.parts.own;
-        loose = ties.parts.loose;
+        guest = ties.parts.guest;
+        driver = keeps_own new _ _ _;
+        device = record {
+          size = ties.parts.device.size;
+          paced = ties.parts.device.paced;
+          status = ties.parts.device.status;
+          features = ties.parts.device.features;
+          target = ties.parts.device.target;
+          actual = refl;
+          ballooned = ties.parts.device.ballooned;
+          last = ties.parts.device.last;
+          keeps = ties.parts.device.keeps;
+          own = ties.parts.device.own;
+          loose = ties.parts.device.loose;
+        };
       };
       pages = ties.pages;
       queues = inr (record { state = run.state; backed = run.backed; inflate_size = run.inflate_size; deflate_size = run.deflate_size; inflate = reap; deflate = run.deflate });
@@ -172,10 +166,10 @@ inflate_reap m1 m2 p1 p2 g areas si sd d2 result did stands =
     elim stands.ties.queues [
       | inl idle ↦
           let D : ℕ → Type 0 = λ s. (s ≡ 0) ⊎ (s ≡ 131) in
-          reap_refused m1 m2 p1 p2 (driver_of g areas si sd) d2 g 0 NotReady result (λ e. cc) did stands (idle_tests m1 p1 (driver_of g areas si sd) si (subst D (sym stands.ties.parts.status) idle.state)).0 (idle_refused g idle.state).0
+          reap_refused m1 m2 p1 p2 (driver_of g areas si sd) d2 g 0 NotReady result (λ e. cc) did stands (idle_tests m1 p1 (driver_of g areas si sd) si (subst D (sym stands.ties.parts.device.status) idle.state)).0 (idle_refused g idle.state).0
       | inr run ↦
           let answer = used_line m1 0 g.config.pages si p1.inflate g.inflate.posted g.inflate.taken g.inflate.done run.inflate (omega (arith, stands.orderly.inflating.few, run.inflate_size)) in
-          by_result result did (running_free g run.state).0 (running_tests m1 p1 (driver_of g areas si sd) si (used_next g.inflate.done) (stands.ties.parts.status ∙ run.state) answer).0 answer run
+          by_result result did (running_free g run.state).0 (running_tests m1 p1 (driver_of g areas si sd) si (used_next g.inflate.done) (stands.ties.parts.device.status ∙ run.state) answer).0 answer run
     ]
   where
     by_result : (result : Result (Option ReapedRequest) Refusal) → ReapsBy m1 m2 p1 p2 (driver_of g areas si sd) d2 0 result → refusal_of g (Reap 0) ≡ None → first_refusal (reap_tests m1 p1 (driver_of g areas si sd) si 0) ≡ None
@@ -219,27 +213,21 @@ deflate_reaped m1 m2 p1 p2 g areas si sd d2 (r ∷ rest) (Some x) is next did an
     let reap = line_reaped m1 1 n sd p1.deflate g.deflate.posted g.deflate.taken r rest line taken in
     let there : Ties m1 (record p1 { actual = new.actual }) after new = record {
       parts = record {
-        honest = ties.parts.honest;
-        buffer = ties.parts.buffer;
-        report = ties.parts.report;
-        config = ties.parts.config;
-        pages = refl;
-        queue_size = refl;
-        processors = refl;
-        places = refl;
-        held = refl;
-        accepted = refl;
-        size = ties.parts.size;
-        paced = ties.parts.paced;
-        status = ties.parts.status;
-        features = ties.parts.features;
-        target = ties.parts.target;
-        actual = refl;
-        ballooned = ties.parts.ballooned;
-        last = ties.parts.last;
-        keeps = ties.parts.keeps;
-        own = ties.parts.own;
-        loose = ties.parts.loose;
+        guest = ties.parts.guest;
+        driver = keeps_own new _ _ _;
+        device = record {
+          size = ties.parts.device.size;
+          paced = ties.parts.device.paced;
+          status = ties.parts.device.status;
+          features = ties.parts.device.features;
+          target = ties.parts.device.target;
+          actual = refl;
+          ballooned = ties.parts.device.ballooned;
+          last = ties.parts.device.last;
+          keeps = ties.parts.device.keeps;
+          own = ties.parts.device.own;
+          loose = ties.parts.device.loose;
+        };
       };
       pages = ties.pages;
       queues = inr (record { state = run.state; backed = run.backed; inflate_size = run.inflate_size; deflate_size = run.deflate_size; inflate = run.inflate; deflate = reap });
@@ -252,10 +240,10 @@ deflate_reap m1 m2 p1 p2 g areas si sd d2 result did stands =
     elim stands.ties.queues [
       | inl idle ↦
           let D : ℕ → Type 0 = λ s. (s ≡ 0) ⊎ (s ≡ 131) in
-          reap_refused m1 m2 p1 p2 (driver_of g areas si sd) d2 g 1 NotReady result (λ e. cc) did stands (idle_tests m1 p1 (driver_of g areas si sd) sd (subst D (sym stands.ties.parts.status) idle.state)).1 (idle_refused g idle.state).1
+          reap_refused m1 m2 p1 p2 (driver_of g areas si sd) d2 g 1 NotReady result (λ e. cc) did stands (idle_tests m1 p1 (driver_of g areas si sd) sd (subst D (sym stands.ties.parts.device.status) idle.state)).1 (idle_refused g idle.state).1
       | inr run ↦
           let answer = used_line m1 1 g.config.pages sd p1.deflate g.deflate.posted g.deflate.taken g.deflate.done run.deflate (omega (arith, stands.orderly.deflating.few, run.deflate_size)) in
-          by_result result did (running_free g run.state).1 (running_tests m1 p1 (driver_of g areas si sd) sd (used_next g.deflate.done) (stands.ties.parts.status ∙ run.state) answer).1 answer run
+          by_result result did (running_free g run.state).1 (running_tests m1 p1 (driver_of g areas si sd) sd (used_next g.deflate.done) (stands.ties.parts.device.status ∙ run.state) answer).1 answer run
     ]
   where
     by_result : (result : Result (Option ReapedRequest) Refusal) → ReapsBy m1 m2 p1 p2 (driver_of g areas si sd) d2 1 result → refusal_of g (Reap 1) ≡ None → first_refusal (reap_tests m1 p1 (driver_of g areas si sd) sd 1) ≡ None

@@ -21,30 +21,36 @@ reset_step m1 m2 p1 p2 d1 d2 g did stands =
     let new : Guest = after_reset g in
     let part : Part = device_after_reset p1 in
     let state : DriverState = record d1 { places = map place_after_reset d1.places; inflate = fresh_side 0 d1.queue_size; deflate = fresh_side 1 d1.queue_size; features = 0 } in
-    let size : length p1.ballooned ≡ g.config.pages = ap (λ (l : List Bool). length l) parts.ballooned ∙ stands.consistent.flagged in
+    let size : length p1.ballooned ≡ g.config.pages = ap (λ (l : List Bool). length l) parts.device.ballooned ∙ stands.consistent.flagged in
     let there : Ties m1 part state new = record {
       parts = record {
-        honest = parts.honest;
-        buffer = refl;
-        report = refl;
-        config = parts.config;
-        pages = parts.pages;
-        queue_size = parts.queue_size;
-        processors = parts.processors;
-        places = ap (λ (l : List Place). map place_after_reset l) parts.places;
-        held = parts.held;
-        accepted = refl;
-        size = parts.size;
-        paced = parts.paced;
-        status = refl;
-        features = refl;
-        target = parts.target;
-        actual = refl;
-        ballooned = ap (λ (n : ℕ). replicate n false) size;
-        last = refl;
-        keeps = parts.keeps;
-        own = parts.own;
-        loose = parts.loose;
+        guest = record {
+          honest = parts.guest.honest;
+          buffer = refl;
+          report = refl;
+          config = parts.guest.config;
+        };
+        driver = record {
+          pages = parts.driver.pages;
+          queue_size = parts.driver.queue_size;
+          processors = parts.driver.processors;
+          places = ap (λ (l : List Place). map place_after_reset l) parts.driver.places;
+          held = parts.driver.held;
+          accepted = refl;
+        };
+        device = record {
+          size = parts.device.size;
+          paced = parts.device.paced;
+          status = refl;
+          features = refl;
+          target = parts.device.target;
+          actual = refl;
+          ballooned = ap (λ (n : ℕ). replicate n false) size;
+          last = refl;
+          keeps = parts.device.keeps;
+          own = parts.device.own;
+          loose = parts.device.loose;
+        };
       };
       pages = stands.ties.pages;
       queues = inl (record { state = inl refl; inflate = refl; deflate = refl; ballooned = refl; actual = refl; last = refl });

@@ -75,12 +75,12 @@ sweep_refused : (m1 m2 : Pages) (p1 p2 : Part) (d : DriverState) (g : Guest) (pa
 sweep_refused m1 m2 p1 p2 d g page why result did stands by_part by_model =
     let (answer, part, memory) = did.refused why by_part in
     let step = honest_refused g (Sweep page) why by_model in
-    let same = ap handed_back part ∙ loose_none p1 stands.ties.parts.loose in
-    let none : p2.loose ≡ [] = ap (λ (p : Part). p.loose) part ∙ stands.ties.parts.loose in
+    let same = ap handed_back part ∙ loose_none p1 stands.ties.parts.device.loose in
+    let none : p2.loose ≡ [] = ap (λ (p : Part). p.loose) part ∙ stands.ties.parts.device.loose in
     subst (λ r. StepsFreeing (Stands m2 (handed_back p2) d) p2.loose g (Sweep page) (swept_reply r)) (sym answer) (record {
       new = g;
       stands = still_stands m1 m2 p1 (handed_back p2) d d g (Sweep page) [] (Refused why) g stands step (ties_same m1 m2 p1 (handed_back p2) d d g memory same refl stands.ties);
-      step = guest_step g (Sweep page) [] (Refused why) g stands.ties.parts.honest step;
+      step = guest_step g (Sweep page) [] (Refused why) g stands.ties.parts.guest.honest step;
       freed = λ n. omega (arith, ap (times n) none);
     })
 
@@ -133,13 +133,13 @@ sweep_done m1 m2 p1 p2 d g page result did stands run by_part by_model flag =
       });
     } in
     let part = did.part by_part in
-    let same : handed_back p2 ≡ p1 = ap handed_back part ∙ loose_none p1 ties.parts.loose in
-    let numbers : (k : ℕ) → times k p2.loose ≡ times k (frames_behind m1 one) = λ k. ap (λ (p : Part). times k p.loose) part ∙ ap (λ (l : List ℕ). times k (l ++ frames_behind m1 one)) ties.parts.loose in
+    let same : handed_back p2 ≡ p1 = ap handed_back part ∙ loose_none p1 ties.parts.device.loose in
+    let numbers : (k : ℕ) → times k p2.loose ≡ times k (frames_behind m1 one) = λ k. ap (λ (p : Part). times k p.loose) part ∙ ap (λ (l : List ℕ). times k (l ++ frames_behind m1 one)) ties.parts.device.loose in
     let behind : frames_behind m1 one ≡ flat_map (λ page. option_to_list (frame_of g.frames page)) one = behind_same m1 g.frames one ties.pages.behind in
     subst (λ x. StepsFreeing (Stands m2 (handed_back p2) d) p2.loose g (Sweep page) (swept_reply x)) (sym (did.answer by_part)) (record {
       new = new;
       stands = still_stands m1 m2 p1 (handed_back p2) d d g (Sweep page) [] reply new stands step (ties_same bare m2 p1 (handed_back p2) d d new (did.memory by_part) same refl there);
-      step = guest_step g (Sweep page) [] reply new ties.parts.honest step;
+      step = guest_step g (Sweep page) [] reply new ties.parts.guest.honest step;
       freed = λ k. omega (arith, numbers k, ap (times k) behind, frames_freed k one g.frames (refl, tt) (all_one (λ p. p < length g.frames) page (omega (arith, high.1, ties.pages.framed))));
     })
 
@@ -149,11 +149,11 @@ sweep_step m1 m2 p1 p2 d g page result did stands =
     elim stands.ties.queues [
       | inl idle ↦
           let D : ℕ → Type 0 = λ s. (s ≡ 0) ⊎ (s ≡ 131) in
-          sweep_refused m1 m2 p1 p2 d g page NotReady result did stands (idle_part p1 page (subst D (sym stands.ties.parts.status) idle.state)) (idle_guest g page idle.state)
+          sweep_refused m1 m2 p1 p2 d g page NotReady result did stands (idle_part p1 page (subst D (sym stands.ties.parts.device.status) idle.state)) (idle_guest g page idle.state)
       | inr run ↦
           let model = running g page run.state in
           let device : sweep_refusal page p1 ≡ sweep_test (is_ballooned g.ballooned page) =
-          running_part p1 page (stands.ties.parts.status ∙ run.state) ∙ ap (λ (l : List Bool). sweep_test (is_ballooned l page)) stands.ties.parts.ballooned in
+          running_part p1 page (stands.ties.parts.device.status ∙ run.state) ∙ ap (λ (l : List Bool). sweep_test (is_ballooned l page)) stands.ties.parts.device.ballooned in
           elim (either (is_ballooned g.ballooned page)) [
             | inl flag ↦ sweep_done m1 m2 p1 p2 d g page result did stands run (device ∙ ap sweep_test flag) (model ∙ ap sweep_test flag) flag
             | inr not_there ↦ sweep_refused m1 m2 p1 p2 d g page NotBallooned result did stands (device ∙ ap sweep_test not_there) (model ∙ ap sweep_test not_there)
@@ -163,7 +163,7 @@ sweep_step m1 m2 p1 p2 d g page result did stands =
 -- ---- in the words of the slot's clauses
 
 pub sweep_own : (m1 m2 : Pages) (p1 p2 : Part) (d : DriverState) (g : Guest) (page : ℕ) (result : Result Bool Refusal) → SweepsBy page m1 m2 p1 p2 result → Stands m1 p1 d g → p2.own ≡ []
-sweep_own m1 m2 p1 p2 d g page result did stands = (sweep_step m1 m2 p1 p2 d g page result did stands).stands.ties.parts.own
+sweep_own m1 m2 p1 p2 d g page result did stands = (sweep_step m1 m2 p1 p2 d g page result did stands).stands.ties.parts.device.own
 
 pub sweep_loose : (m1 m2 : Pages) (p1 p2 : Part) (d : DriverState) (g : Guest) (page : ℕ) (result : Result Bool Refusal) (out : List Bool) → SweepsBy page m1 m2 p1 p2 result → Stands m1 p1 d g → AreOut g out → AreLoose p2.loose out
 sweep_loose m1 m2 p1 p2 d g page result out did stands held = freed_loose _ p2.loose g (Sweep page) (swept_reply result) out (sweep_step m1 m2 p1 p2 d g page result did stands) held

@@ -89,7 +89,7 @@ inflate_posted : (m1 m2 : Pages) (p1 p2 : Part) (d : DriverState) (g : Guest) (p
     → StepsAlone (Stands m2 p2 d) g (Take 0) (taken_reply result)
 inflate_posted m1 m2 p1 p2 d g [] result is did stands run free_part free =
     let L : List Request → Type 0 = λ l. Line m1 0 g.config.pages d.inflate p1.inflate (record g.inflate { posted = l }) in
-    let (answer, part) = take_empty 0 g.config.pages m1 m2 p1 p2 d.inflate g.inflate.taken g.inflate.done result did free_part (stands.ties.parts.size ∙ sym run.inflate_size) (subst L is run.inflate) in
+    let (answer, part) = take_empty 0 g.config.pages m1 m2 p1 p2 d.inflate g.inflate.taken g.inflate.done result did free_part (stands.ties.parts.device.size ∙ sym run.inflate_size) (subst L is run.inflate) in
     let T : List Request → Type 0 = λ l. Takes Inflating l g Empty g in
     let step = honest_performed g (Take 0) [] Empty g free (refl, subst T (sym is) (refl, refl)) in
     subst (λ r. StepsAlone (Stands m2 p2 d) g (Take 0) (taken_reply r)) (sym answer)
@@ -97,8 +97,8 @@ inflate_posted m1 m2 p1 p2 d g [] result is did stands run free_part free =
 inflate_posted m1 m2 p1 p2 d g (r ∷ rest) result is did stands run free_part free =
     let L : List Request → Type 0 = λ l. Line m1 0 g.config.pages d.inflate p1.inflate (record g.inflate { posted = l }) in
     let line : L (r ∷ rest) = subst L is run.inflate in
-    let limits = config_limits g.config.pages g.config.queue_size g.config.processors stands.ties.parts.config in
-    let (answer, part) = take_next 0 g.config.pages m1 m2 p1 p2 d.inflate r rest g.inflate.taken g.inflate.done result (omega arith) limits.pages_least stands.ties.pages.length_is did free_part (stands.ties.parts.size ∙ sym run.inflate_size) line in
+    let limits = config_limits g.config.pages g.config.queue_size g.config.processors stands.ties.parts.guest.config in
+    let (answer, part) = take_next 0 g.config.pages m1 m2 p1 p2 d.inflate r rest g.inflate.taken g.inflate.done result (omega arith) limits.pages_least stands.ties.pages.length_is did free_part (stands.ties.parts.device.size ∙ sym run.inflate_size) line in
     let new : Guest = record g { inflate = record g.inflate { posted = rest; taken = g.inflate.taken ++ (record r { visited = 0 } ∷ []) } } in
     let T : List Request → Type 0 = λ l. Takes Inflating l g (Taken r.head) new in
     let step = honest_performed g (Take 0) [] (Taken r.head) new free (refl, subst T (sym is) (refl, refl)) in
@@ -124,9 +124,9 @@ inflate_take m1 m2 p1 p2 d g result did stands =
     elim stands.ties.queues [
       | inl idle ↦
           let D : ℕ → Type 0 = λ s. (s ≡ 0) ⊎ (s ≡ 131) in
-          take_refused m1 m2 p1 p2 d g 0 NotReady result did stands (take_idle_part p1 (subst D (sym stands.ties.parts.status) idle.state)).0 (take_idle g idle.state).0
+          take_refused m1 m2 p1 p2 d g 0 NotReady result did stands (take_idle_part p1 (subst D (sym stands.ties.parts.device.status) idle.state)).0 (take_idle g idle.state).0
       | inr run ↦
-          let by_part = (take_running_part p1 (stands.ties.parts.status ∙ run.state)).0 ∙ ap busy_test run.inflate.remembers in
+          let by_part = (take_running_part p1 (stands.ties.parts.device.status ∙ run.state)).0 ∙ ap busy_test run.inflate.remembers in
           let by_model = (take_running g run.state).0 in
           elim (either (nat_le 16 (length g.inflate.taken))) [
             | inl full ↦ take_refused m1 m2 p1 p2 d g 0 Busy result did stands (by_part ∙ busy_is g.inflate.taken full) (by_model ∙ busy_is g.inflate.taken full)
@@ -141,7 +141,7 @@ deflate_posted : (m1 m2 : Pages) (p1 p2 : Part) (d : DriverState) (g : Guest) (p
     → StepsAlone (Stands m2 p2 d) g (Take 1) (taken_reply result)
 deflate_posted m1 m2 p1 p2 d g [] result is did stands run free_part free =
     let L : List Request → Type 0 = λ l. Line m1 1 g.config.pages d.deflate p1.deflate (record g.deflate { posted = l }) in
-    let (answer, part) = take_empty 1 g.config.pages m1 m2 p1 p2 d.deflate g.deflate.taken g.deflate.done result did free_part (stands.ties.parts.size ∙ sym run.deflate_size) (subst L is run.deflate) in
+    let (answer, part) = take_empty 1 g.config.pages m1 m2 p1 p2 d.deflate g.deflate.taken g.deflate.done result did free_part (stands.ties.parts.device.size ∙ sym run.deflate_size) (subst L is run.deflate) in
     let T : List Request → Type 0 = λ l. Takes Deflating l g Empty g in
     let step = honest_performed g (Take 1) [] Empty g free (refl, subst T (sym is) (refl, refl)) in
     subst (λ r. StepsAlone (Stands m2 p2 d) g (Take 1) (taken_reply r)) (sym answer)
@@ -149,8 +149,8 @@ deflate_posted m1 m2 p1 p2 d g [] result is did stands run free_part free =
 deflate_posted m1 m2 p1 p2 d g (r ∷ rest) result is did stands run free_part free =
     let L : List Request → Type 0 = λ l. Line m1 1 g.config.pages d.deflate p1.deflate (record g.deflate { posted = l }) in
     let line : L (r ∷ rest) = subst L is run.deflate in
-    let limits = config_limits g.config.pages g.config.queue_size g.config.processors stands.ties.parts.config in
-    let (answer, part) = take_next 1 g.config.pages m1 m2 p1 p2 d.deflate r rest g.deflate.taken g.deflate.done result (omega arith) limits.pages_least stands.ties.pages.length_is did free_part (stands.ties.parts.size ∙ sym run.deflate_size) line in
+    let limits = config_limits g.config.pages g.config.queue_size g.config.processors stands.ties.parts.guest.config in
+    let (answer, part) = take_next 1 g.config.pages m1 m2 p1 p2 d.deflate r rest g.deflate.taken g.deflate.done result (omega arith) limits.pages_least stands.ties.pages.length_is did free_part (stands.ties.parts.device.size ∙ sym run.deflate_size) line in
     let new : Guest = record g { deflate = record g.deflate { posted = rest; taken = g.deflate.taken ++ (record r { visited = 0 } ∷ []) } } in
     let T : List Request → Type 0 = λ l. Takes Deflating l g (Taken r.head) new in
     let step = honest_performed g (Take 1) [] (Taken r.head) new free (refl, subst T (sym is) (refl, refl)) in
@@ -176,9 +176,9 @@ deflate_take m1 m2 p1 p2 d g result did stands =
     elim stands.ties.queues [
       | inl idle ↦
           let D : ℕ → Type 0 = λ s. (s ≡ 0) ⊎ (s ≡ 131) in
-          take_refused m1 m2 p1 p2 d g 1 NotReady result did stands (take_idle_part p1 (subst D (sym stands.ties.parts.status) idle.state)).1 (take_idle g idle.state).1
+          take_refused m1 m2 p1 p2 d g 1 NotReady result did stands (take_idle_part p1 (subst D (sym stands.ties.parts.device.status) idle.state)).1 (take_idle g idle.state).1
       | inr run ↦
-          let by_part = (take_running_part p1 (stands.ties.parts.status ∙ run.state)).1 ∙ ap busy_test run.deflate.remembers in
+          let by_part = (take_running_part p1 (stands.ties.parts.device.status ∙ run.state)).1 ∙ ap busy_test run.deflate.remembers in
           let by_model = (take_running g run.state).1 in
           elim (either (nat_le 16 (length g.deflate.taken))) [
             | inl full ↦ take_refused m1 m2 p1 p2 d g 1 Busy result did stands (by_part ∙ busy_is g.deflate.taken full) (by_model ∙ busy_is g.deflate.taken full)

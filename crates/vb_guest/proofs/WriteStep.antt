@@ -44,7 +44,7 @@ not_held b e = ap not e
 pub write_not_held : (m : Pages) (p : Part) (d : DriverState) (g : Guest) (page off : ℕ) (bs : List ℕ) → is_used (place_of d.places page) ≡ false → Stands m p d g
     → StepsAlone (Stands m p d) g (Write page off bs) (Refused NotHeld)
 write_not_held m p d g page off bs free stands =
-    let unused : is_used (place_of g.places page) ≡ false = ap (λ l. is_used (place_of l page)) (sym stands.ties.parts.places) ∙ free in
+    let unused : is_used (place_of g.places page) ≡ false = ap (λ l. is_used (place_of l page)) (sym stands.ties.parts.driver.places) ∙ free in
     refused_alone m m p p d d g (Write page off bs) NotHeld stands
     (first_holds (not (is_used (place_of g.places page))) NotHeld ((is_outside g page off (length bs) ⇒ OutOfRam) ∷ []) (ap not unused)) refl refl refl
 
@@ -55,7 +55,7 @@ write_tests g page off bs used = ap (λ (b : Bool). first_refusal ((not b ⇒ No
 pub write_outside : (m1 m2 : Pages) (p1 p2 : Part) (d : DriverState) (g : Guest) (page off : ℕ) (bs : List ℕ) → is_used (place_of d.places page) ≡ true → Stands m1 p1 d g → m2 ≡ m1 → p2 ≡ p1
     → (Covers m1 page off (length bs) → ⊥) → StepsAlone (Stands m2 p2 d) g (Write page off bs) (Refused OutOfRam)
 write_outside m1 m2 p1 p2 d g page off bs used stands m p out =
-    let held : is_used (place_of g.places page) ≡ true = ap (λ l. is_used (place_of l page)) (sym stands.ties.parts.places) ∙ used in
+    let held : is_used (place_of g.places page) ≡ true = ap (λ l. is_used (place_of l page)) (sym stands.ties.parts.driver.places) ∙ used in
     elim (either (is_outside g page off (length bs))) [
       | inl outside ↦ refused_alone m1 m2 p1 p2 d d g (Write page off bs) OutOfRam stands (write_tests g page off bs held ∙ first_holds (is_outside g page off (length bs)) OutOfRam [] outside) m p refl
       | inr inside ↦ absurd (out (outside_is g m1 page off (length bs) stands.ties.pages.length_is inside))
@@ -93,7 +93,7 @@ pub write_backed : (m1 m2 : Pages) (p1 p2 : Part) (d : DriverState) (g : Guest) 
     → Covers m1 page off (length bs) → (0 < length bs → frame_at m1 page ≡ None → ⊥) → Wrote m1 m2 page off bs → p2 ≡ p1
     → StepsAlone (Stands m2 p2 d) g (Write page off bs) Done
 write_backed m1 m2 p1 p2 d g page off bs used stands covers never wrote part =
-    let held : is_used (place_of g.places page) ≡ true = ap (λ l. is_used (place_of l page)) (sym stands.ties.parts.places) ∙ used in
+    let held : is_used (place_of g.places page) ≡ true = ap (λ l. is_used (place_of l page)) (sym stands.ties.parts.driver.places) ∙ used in
     let high = used_high g page stands.orderly held (omega (arith, covers.page, stands.ties.pages.length_is)) in
     let new : Guest = record g { contents = at_page page (overwritten off bs) g.contents } in
     let free : refusal_of g (Write page off bs) ≡ None = write_tests g page off bs held ∙ ap (λ (b : Bool). first_refusal ((b ⇒ OutOfRam) ∷ [])) (inside_is g m1 page off (length bs) stands.ties.pages.length_is covers) in
@@ -120,7 +120,7 @@ write_unsupplied Answers out m1 m2 p1 p2 d g page off bs claim why said answer u
             claims = GaveNoFrame ∷ [];
             new = g;
             stands = same GaveNoFrame NoFrame (refused GaveNoFrame NoFrame (refl, (refl, refl)));
-            step = guest_step g (Write page off bs) _ _ g stands.ties.parts.honest (refused GaveNoFrame NoFrame (refl, (refl, refl)));
+            step = guest_step g (Write page off bs) _ _ g stands.ties.parts.guest.honest (refused GaveNoFrame NoFrame (refl, (refl, refl)));
             answered = (a, refl);
             balance = λ n. refl;
             count = refl;
@@ -131,7 +131,7 @@ write_unsupplied Answers out m1 m2 p1 p2 d g page off bs claim why said answer u
             claims = GaveNoMemory ∷ [];
             new = g;
             stands = same GaveNoMemory NoMemory (refused GaveNoMemory NoMemory (refl, (refl, refl)));
-            step = guest_step g (Write page off bs) _ _ g stands.ties.parts.honest (refused GaveNoMemory NoMemory (refl, (refl, refl)));
+            step = guest_step g (Write page off bs) _ _ g stands.ties.parts.guest.honest (refused GaveNoMemory NoMemory (refl, (refl, refl)));
             answered = (a, refl);
             balance = λ n. refl;
             count = refl;
@@ -139,7 +139,7 @@ write_unsupplied Answers out m1 m2 p1 p2 d g page off bs claim why said answer u
     ]
   where
     held : is_used (place_of g.places page) ≡ true
-    held = ap (λ l. is_used (place_of l page)) (sym stands.ties.parts.places) ∙ used
+    held = ap (λ l. is_used (place_of l page)) (sym stands.ties.parts.driver.places) ∙ used
 
     free : refusal_of g (Write page off bs) ≡ None
     free = write_tests g page off bs held ∙ ap (λ (b : Bool). first_refusal ((b ⇒ OutOfRam) ∷ [])) (inside_is g m1 page off (length bs) stands.ties.pages.length_is covers)
@@ -162,7 +162,7 @@ pub write_supplied : (Answers : List Bool → Claim → Type 0) (out : List Bool
     → Supplied m1 m2 page frame → Wrote m2 m3 page off bs → p2 ≡ p1
     → Steps (Stands m3 p2 d) Answers out (slice_set out frame true) g (Write page off bs) Done
 write_supplied Answers out m1 m2 m3 p1 p2 d g page off frame bs answer fresh used stands covers some bare supplied wrote part =
-    let held : is_used (place_of g.places page) ≡ true = ap (λ l. is_used (place_of l page)) (sym stands.ties.parts.places) ∙ used in
+    let held : is_used (place_of g.places page) ≡ true = ap (λ l. is_used (place_of l page)) (sym stands.ties.parts.driver.places) ∙ used in
     let lt : page < g.config.pages = omega (arith, covers.page, stands.ties.pages.length_is) in
     let high = used_high g page stands.orderly held lt in
     let free : refusal_of g (Write page off bs) ≡ None = write_tests g page off bs held ∙ ap (λ (b : Bool). first_refusal ((b ⇒ OutOfRam) ∷ [])) (inside_is g m1 page off (length bs) stands.ties.pages.length_is covers) in
@@ -185,7 +185,7 @@ write_supplied Answers out m1 m2 m3 p1 p2 d g page off frame bs answer fresh use
       claims = Gave frame ∷ [];
       new = new;
       stands = still_stands m1 m3 p1 p2 d d g (Write page off bs) (Gave frame ∷ []) Done new stands step (written_ties m2 m3 p1 p2 d after page off bs high covers2 mid wrote part);
-      step = guest_step g (Write page off bs) (Gave frame ∷ []) Done new stands.ties.parts.honest step;
+      step = guest_step g (Write page off bs) (Gave frame ∷ []) Done new stands.ties.parts.guest.honest step;
       answered = (answer, fresh, tt);
       balance = λ n. omega (arith, count_backed n page frame g.frames (omega (arith, stands.ties.pages.framed)) bare_too, out_more out n frame fresh.within fresh.free);
       count = length-set out frame true;

@@ -1,8 +1,10 @@
 -- What ties a driver, a device's part and guest memory to a guest of the model.
-use Rattle.std.specs.Prelude.{◌≡◌, ℕ, ◌<◌, ◌≤◌, false, true, List, Option, [], length, replicate, slice_index_or, IsSome, ◌⊎◌}
+use Rattle.std.specs.Prelude.{◌≡◌, ℕ, ◌<◌, ◌≤◌, Bool, false, true, List, Option, [], length, replicate, slice_index_or, IsSome, ◌⊎◌}
 use Rattle.vb_model.specs.Limits.{is_config, page_size, reserved_pages, ring_and_buffer_pages}
-use Rattle.vb_model.specs.Requests.{no_requests, NoBuffer}
-use Rattle.vb_model.specs.Guest.{Guest, no_statistics, frame_of}
+use Rattle.vb_model.specs.declared.places.Place.{Place}
+use Rattle.vb_model.specs.Pages.{Block}
+use Rattle.vb_model.specs.Requests.{Requests, no_requests, Buffer, NoBuffer}
+use Rattle.vb_model.specs.Guest.{Guest, Config, LastStatistics, no_statistics, frame_of}
 use Rattle.vb_model.specs.Consistent.{IsConsistent}
 use Rattle.vb_model.specs.Orderly.{IsOrderly}
 use Rattle.vb_ram.specs.Pages.{Pages, frame_at, contents_at}
@@ -10,30 +12,43 @@ use Rattle.vb_ram.specs.Part.{Part, no_queue}
 use Rattle.vb_driver.specs.State.{DriverState, fresh_side}
 use Rattle.vb_guest.specs.Line.{Line}
 
--- What the driver and the device keep beside their queues is the guest's. It never scribbled, and statistics and reports aren't there yet.
--- The device has no frames of its own, and none is loose.
-pub record HasParts (part : Part) (d : DriverState) (g : Guest) : Type 0 where
-  pub honest : g.rogue ≡ false
-  pub buffer : g.buffer ≡ NoBuffer
-  pub report : g.report ≡ no_requests
-  pub config : is_config g.config.pages g.config.queue_size g.config.processors ≡ true
-  pub pages : d.pages ≡ g.config.pages
-  pub queue_size : d.queue_size ≡ g.config.queue_size
-  pub processors : d.processors ≡ g.config.processors
-  pub places : d.places ≡ g.places
-  pub held : d.held ≡ g.held
-  pub accepted : d.features ≡ g.features
-  pub size : part.queue_size ≡ g.config.queue_size
-  pub paced : part.paced ≡ g.config.paced
-  pub status : part.status ≡ g.status
-  pub features : part.features ≡ g.features
-  pub target : part.target ≡ g.target
-  pub actual : part.actual ≡ g.actual
-  pub ballooned : part.ballooned ≡ g.ballooned
-  pub last : part.last ≡ g.last
+-- ---- beside the queues: each record takes the guest's values one by one, so that it stays as it is
+-- where none of these is changed
+
+-- The guest never scribbled; statistics and reports aren't there yet.
+pub record IsPlainGuest (rogue : Bool) (statistics : Buffer) (reports : Requests) (c : Config) : Type 0 where
+  pub honest : rogue ≡ false
+  pub buffer : statistics ≡ NoBuffer
+  pub report : reports ≡ no_requests
+  pub config : is_config c.pages c.queue_size c.processors ≡ true
+
+-- What the driver keeps is the guest's.
+pub record DriverKeeps (d : DriverState) (c : Config) (at : List Place) (blocks : List Block) (bits : ℕ) : Type 0 where
+  pub pages : d.pages ≡ c.pages
+  pub queue_size : d.queue_size ≡ c.queue_size
+  pub processors : d.processors ≡ c.processors
+  pub places : d.places ≡ at
+  pub held : d.held ≡ blocks
+  pub accepted : d.features ≡ bits
+
+-- What the device keeps is the guest's. It has no frames of its own, and none is loose.
+pub record DeviceKeeps (part : Part) (c : Config) (state bits wanted given : ℕ) (flags : List Bool) (figures : LastStatistics) : Type 0 where
+  pub size : part.queue_size ≡ c.queue_size
+  pub paced : part.paced ≡ c.paced
+  pub status : part.status ≡ state
+  pub features : part.features ≡ bits
+  pub target : part.target ≡ wanted
+  pub actual : part.actual ≡ given
+  pub ballooned : part.ballooned ≡ flags
+  pub last : part.last ≡ figures
   pub keeps : part.keeps ≡ false
   pub own : part.own ≡ []
   pub loose : part.loose ≡ []
+
+pub record HasParts (part : Part) (d : DriverState) (g : Guest) : Type 0 where
+  pub guest : IsPlainGuest g.rogue g.buffer g.report g.config
+  pub driver : DriverKeeps d g.config g.places g.held g.features
+  pub device : DeviceKeeps part g.config g.status g.features g.target g.actual g.ballooned g.last
 
 abbrev pub beside_queues : Part → Part
 beside_queues part = record part { inflate = no_queue; deflate = no_queue }

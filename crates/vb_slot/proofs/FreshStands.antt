@@ -64,27 +64,33 @@ fresh_stands m1 m2 p1 p2 d sizes fits spare m p new =
     let g : Guest = fresh config 0 in
     let there : Ties (replicate sizes.pages None) (attached sizes p1) (fresh_driver sizes.pages sizes.queue_size sizes.processors) g = record {
       parts = record {
-        honest = refl;
-        buffer = refl;
-        report = refl;
-        config = fits;
-        pages = refl;
-        queue_size = refl;
-        processors = refl;
-        places = refl;
-        held = refl;
-        accepted = refl;
-        size = refl;
-        paced = refl;
-        status = refl;
-        features = refl;
-        target = refl;
-        actual = refl;
-        ballooned = refl;
-        last = refl;
-        keeps = spare.keeps;
-        own = spare.own;
-        loose = spare.unused.no_frames;
+        guest = record {
+          honest = refl;
+          buffer = refl;
+          report = refl;
+          config = fits;
+        };
+        driver = record {
+          pages = refl;
+          queue_size = refl;
+          processors = refl;
+          places = refl;
+          held = refl;
+          accepted = refl;
+        };
+        device = record {
+          size = refl;
+          paced = refl;
+          status = refl;
+          features = refl;
+          target = refl;
+          actual = refl;
+          ballooned = refl;
+          last = refl;
+          keeps = spare.keeps;
+          own = spare.own;
+          loose = spare.unused.no_frames;
+        };
       };
       pages = bare_pages sizes.pages;
       queues = inl (record { state = inl refl; inflate = refl; deflate = refl; ballooned = refl; actual = refl; last = refl });
