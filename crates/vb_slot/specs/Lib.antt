@@ -1,5 +1,5 @@
 pub use Rattle.vb_guest.specs.Stands
 pub use Rattle.vb_guest.specs.Steps
-pub use Rattle.vb_guest.specs.Answered
+pub use Rattle.vb_guest.specs.Replies
 pub mod Slots
 pub mod Spare

@@ -1,8 +1,9 @@
 //! One guest of a host: its balloon driver, and its boxed device with the guest's memory.
 #![tactic(auto)]
 
+mod boxed;
+mod calls;
 mod new;
-mod port;
 mod slot;
 
 pub use new::NoSlot;

@@ -1,4 +1,4 @@
-// Why a guest isn't there.
+//! Why a guest isn't there.
 
 use vb_device::Device;
 

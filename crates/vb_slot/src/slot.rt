@@ -1,14 +1,14 @@
-// One guest behind its calls.
+//! A guest behind one type: how it is made, and its calls and questions told apart by their names.
 
 ghost use Rattle.std.specs.Prelude.{◌≡◌, ℕ, true};
 ghost use Rattle.vb_model.specs.Guest.{Guest};
 ghost use Rattle.vb_model.specs.World.{Answers};
-ghost use Rattle.vb_guest.specs.Answered.{is_answered, is_query_answered};
+ghost use Rattle.vb_model.specs.Brought.{is_call_brought, is_query_brought};
 ghost use Rattle.vb_slot.specs.Slots.{stands_for};
 ghost use Rattle.vb_guest.specs.Steps.{AreOut, Steps};
 
+use crate::boxed::BoxedDevice;
 use crate::new::NoSlot;
-use crate::port::BoxedPort;
 use std::alloc::Global;
 use vb_device::Device;
 use vb_driver::Driver;
@@ -26,55 +26,57 @@ pub trait GuestSlot: Drop {
 
     /// Answers a call on the guest. Frames that its pages gain are claimed from the keeper, and
     /// those that they lose are put back.
-    fn call<K: FrameKeeper>(&mut self, heap: Global, keeper: &mut K, call: &Call) -> Reply
+    fn call<K: FrameKeeper>(&mut self, alloc: Global, keeper: &mut K, call: &Call) -> Reply
         requires stands { (g : Guest) × stands self.old g × AreOut g (K.out keeper.old) }
-        requires answered { is_answered call.now ≡ true }
+        requires brought { is_call_brought call.now ≡ true }
         ensures step { (g : Guest) → stands self.old g
             → Steps (stands self.new) K.answers (K.out keeper.old) (K.out keeper.new) g call.now result };
 
     /// Answers a question about the guest.
     fn query(&self, alloc: Global, query: &Query) -> Reply
         requires stands { (g : Guest) × stands self.now g }
-        requires answered { is_query_answered query.now ≡ true }
+        requires brought { is_query_brought query.now ≡ true }
         ensures answer { (g : Guest) → stands self.now g → Answers query.now g result };
 }
 
 /// A guest: its balloon driver, and its device in a box, with its memory.
 #[derive(Drop)]
 pub struct Slot {
-    port: BoxedPort,
-    driver: Driver,
+    /// The guest's device, with its memory.
+    pub(crate) device: BoxedDevice,
+    /// Its balloon driver, with its page areas.
+    pub(crate) driver: Driver,
 }
 
 impl Slot {
     /// Answers a call on the guest. Frames that its pages gain are claimed from the keeper, and
     /// those that they lose are put back.
-    pub fn call<K: FrameKeeper>(&mut self, heap: Global, keeper: &mut K, call: &Call) -> Reply
+    pub fn call<K: FrameKeeper>(&mut self, alloc: Global, keeper: &mut K, call: &Call) -> Reply
         requires stands { (g : Guest) × stands_for mem part self.old g × AreOut g (K.out keeper.old) }
-        requires answered { is_answered call.now ≡ true }
+        requires brought { is_call_brought call.now ≡ true }
         ensures step { (g : Guest) → stands_for mem part self.old g
             → Steps (stands_for mem part self.new) K.answers (K.out keeper.old) (K.out keeper.new) g call.now result }
     {
-        vb_guest::call(heap, &mut self.driver, &mut self.port, keeper, call)
+        vb_guest::call(alloc, &mut self.driver, &mut self.device, keeper, call)
     }
 
     /// Answers a question about the guest.
     pub fn query(&self, alloc: Global, query: &Query) -> Reply
         requires stands { (g : Guest) × stands_for mem part self.now g }
-        requires answered { is_query_answered query.now ≡ true }
+        requires brought { is_query_brought query.now ≡ true }
         ensures answer { (g : Guest) → stands_for mem part self.now g → Answers query.now g result }
     {
-        vb_guest::query(alloc, &self.driver, &self.port, query)
+        vb_guest::query(alloc, &self.driver, &self.device, query)
     }
 }
 
 impl GuestSlot for Slot {
     ghost use Rattle.vb_guest.specs.Stands.{Stands};
 
-    ghost stands = { λ s g. Stands ((Device-box s.port.device).GuestBytes.mem s.port.device.value) ((Device-box s.port.device).GuestBytes.part s.port.device.value) s.driver g };
+    ghost stands = { λ s g. Stands ((Device-box s.device.device).GuestBytes.mem s.device.device.value) ((Device-box s.device.device).GuestBytes.part s.device.device.value) s.driver g };
 
-    fn call<K: FrameKeeper>(&mut self, heap: Global, keeper: &mut K, call: &Call) -> Reply {
-        self.call(heap, keeper, call)
+    fn call<K: FrameKeeper>(&mut self, alloc: Global, keeper: &mut K, call: &Call) -> Reply {
+        self.call(alloc, keeper, call)
     }
 
     fn query(&self, alloc: Global, query: &Query) -> Reply {
@@ -104,11 +106,11 @@ impl Slot {
             Ok(driver) => driver,
             Err(_) => return Err(NoSlot { device }),
         };
-        let mut port = BoxedPort { device };
-        match port.attach(alloc, config) {
-            Ok(()) => Ok(Slot { port, driver }),
+        let mut device = BoxedDevice { device };
+        match device.attach(alloc, config) {
+            Ok(()) => Ok(Slot { device, driver }),
             Err(_) => Err(NoSlot {
-                device: port.device,
+                device: device.device,
             }),
         }
     }

@@ -3,6 +3,5 @@ pub mod Frames
 pub mod Calls
 pub mod Plugs
 pub mod Runs
-pub mod Brought
 pub mod Listing
 pub mod Pushed

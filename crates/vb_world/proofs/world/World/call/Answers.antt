@@ -1,10 +1,6 @@
 use Rattle.std.proofs.Common.{sym}
-use Rattle.vb_world.proofs.Brought.{call_answered}
 use Rattle.vb_world.proofs.Calls.{guest_step, guest_frames, guest_of, no_guest_step}
 use Rattle.vb_world.proofs.world.World.call.Goals as goal
-
-pub call-requires-clause-answered : goal.call-requires-clause-answered
-call-requires-clause-answered g c = call_answered _ c.requires.brought
 
 pub call-requires-clause-stands : goal.call-requires-clause-stands
 call-requires-clause-stands g c =

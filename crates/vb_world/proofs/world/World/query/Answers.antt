@@ -1,10 +1,6 @@
 use Rattle.std.proofs.Common.{sym}
 use Rattle.vb_world.proofs.Calls.{guest_of, guest_query, no_guest_query}
-use Rattle.vb_world.proofs.Brought.{query_answered}
 use Rattle.vb_world.proofs.world.World.query.Goals as goal
-
-pub query-requires-clause-answered : goal.query-requires-clause-answered
-query-requires-clause-answered g c = query_answered _ c.requires.brought
 
 pub returns-in-Some : goal.returns-in-Some
 returns-in-Some g c = λ w host. guest_query _ _ _ _ _ w c.args.guest c.in-Some.slot.now _ _ host (sym c.in-Some.ensures) c.query.ensures.answer

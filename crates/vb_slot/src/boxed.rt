@@ -1,4 +1,4 @@
-// A device's box, as the driver and the calls here are given it.
+//! A device's box, as the driver and the calls here are given it.
 
 ghost use Rattle.std.specs.Prelude.{◌≡◌};
 
@@ -10,11 +10,11 @@ use vb_status::{Features, Port, Status, StatusFault};
 
 /// A boxed device, which every call is forwarded to.
 #[derive(Drop)]
-pub(crate) struct BoxedPort {
+pub(crate) struct BoxedDevice {
     pub(crate) device: Box<dyn Device + Send>,
 }
 
-impl GuestBytes for BoxedPort {
+impl GuestBytes for BoxedDevice {
     ghost mem = { λ w. (Device-box w.device).GuestBytes.mem w.device.value };
 
     ghost part = { λ w. (Device-box w.device).GuestBytes.part w.device.value };
@@ -32,7 +32,7 @@ impl GuestBytes for BoxedPort {
     }
 }
 
-impl Port for BoxedPort {
+impl Port for BoxedDevice {
     fn status(&self) -> Status {
         self.device.status()
     }
@@ -54,7 +54,7 @@ impl Port for BoxedPort {
     }
 }
 
-impl Device for BoxedPort {
+impl Device for BoxedDevice {
     fn attach(&mut self, alloc: Global, config: Config) -> Result<(), AllocError> {
         self.device.attach(alloc, config)
     }
