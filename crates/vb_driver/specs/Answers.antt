@@ -1,18 +1,26 @@
 -- Why a driver's call is refused, in the order in which it is tested (profile).
-use Rattle.std.specs.Prelude.{ℕ, ◌+◌, ◌-◌, Bool, not, ◌==◌, ◌&&◌, nat_lt, nat_le, List, [], ◌∷◌, Option, Some, None, Result, Ok, Err, is_some, is_err, min, max, if◌then◌else◌}
+use Rattle.std.specs.Prelude.{ℕ, ◌+◌, ◌-◌, Bool, not, ◌==◌, ◌&&◌, nat_lt, nat_le, List, [], ◌∷◌}
+use Rattle.std.specs.Prelude.{Option, Some, None, Result, Ok, Err, ◌<◌, ◌≤◌, length, IsSome}
+use Rattle.std.specs.Prelude.{is_some, is_err, min, max}
 use Rattle.std.specs.List.{list_any, list_all, range_with_len}
 use Rattle.vb_model.specs.declared.replies.Refusal.{Refusal}
-use Rattle.vb_model.specs.declared.replies.Refusal.TheVariants.{BadOrder, BadCpu, NoPages, NotHeld, NotReady, QueueFull, Nothing, RingBroken, NoFeature, AlreadyUp, NoQueue, NoFrame}
+use Rattle.vb_model.specs.declared.replies.Refusal.TheVariants.{BadOrder, BadCpu, NoPages, NotHeld}
+use Rattle.vb_model.specs.declared.replies.Refusal.TheVariants.{NotReady, QueueFull, Nothing}
+use Rattle.vb_model.specs.declared.replies.Refusal.TheVariants.{RingBroken, NoFeature, AlreadyUp}
+use Rattle.vb_model.specs.declared.replies.Refusal.TheVariants.{NoQueue, NoFrame}
+use Rattle.vb_model.specs.declared.limits.TheConstants.{MIN_GUEST_PAGES}
 use Rattle.vb_model.specs.Limits.{max_order, max_request_pages, ring_and_buffer_pages}
 use Rattle.vb_model.specs.Pages.{Block, is_wholly_free, is_same_block}
 use Rattle.vb_model.specs.Guest.{deflate_on_oom}
 use Rattle.vb_model.specs.Status.{contains, driver_ok, is_broken}
-use Rattle.vb_model.specs.Refusals.{Test, ◌⇒◌, first_refusal}
+use Rattle.vb_model.specs.Refusals.{Test, ◌⇒◌}
 use Rattle.vb_model.specs.Life.{feature_tests}
+pub use Rattle.vb_pages.specs.Areas.{block_at}
 use Rattle.vb_ram.specs.Pages.{Pages, frame_at}
 use Rattle.vb_ram.specs.Part.{Part}
 use Rattle.vb_ring.specs.Ends.{outstanding, used_answer}
-use Rattle.vb_driver.specs.State.{Side, DriverState, free_count, giving_count, lent_count, stranded_count, room}
+use Rattle.vb_driver.specs.State.{Side, DriverState, free_count, giving_count, lent_count}
+use Rattle.vb_driver.specs.State.{stranded_count, room}
 
 -- why a call was refused, where it was
 abbrev pub refusal_in : {T : Type 0} → Result T Refusal → Option Refusal
@@ -36,12 +44,11 @@ oom_count d n = min (min n max_request_pages) (lent_count d)
 
 -- ---- the tests
 
-abbrev pub block_at : ℕ → ℕ → Block
-block_at start order = record { start = start; order = order }
-
 -- no block of the order is wholly free
 abbrev pub has_no_block : DriverState → ℕ → Bool
-has_no_block d order = not (list_any (λ start. is_wholly_free d.places (block_at start order)) (range_with_len 0 d.pages))
+has_no_block d order =
+    let starts = range_with_len 0 d.pages in
+    not (list_any (λ start. is_wholly_free d.places (block_at start order)) starts)
 
 abbrev pub is_held : DriverState → Block → Bool
 is_held d b = list_any (λ h. is_same_block h b) d.held
@@ -94,9 +101,18 @@ reap_tests mem part side queue =
     ∷ (is_ring_broken mem side ⇒ RingBroken)
     ∷ []
 
+-- memory has as many pages as the smallest guest's
+abbrev pub IsLargeEnough : Pages → Type 0
+IsLargeEnough mem = MIN_GUEST_PAGES ≤ length mem
+
 -- each page of the rings and buffers has a frame
+abbrev pub IsBacked : Pages → Type 0
+IsBacked mem = (page : ℕ) → page < ring_and_buffer_pages → IsSome (frame_at mem page)
+
+-- the test for it
 abbrev pub has_frames : Pages → Bool
-has_frames mem = list_all (λ page. is_some (frame_at mem page)) (range_with_len 0 ring_and_buffer_pages)
+has_frames mem =
+    list_all (λ page. is_some (frame_at mem page)) (range_with_len 0 ring_and_buffer_pages)
 
 abbrev pub init_tests : Pages → Part → ℕ → List Test
 init_tests mem part wanted =
