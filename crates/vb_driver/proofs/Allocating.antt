@@ -1,6 +1,6 @@
 -- What the allocator answers, as the driver sees it.
 use Rattle.std.proofs.Common.{◌≡◌, ◌∙◌, sym, ap, subst, arith, refl, ℕ, suc, ◌+◌, ◌^◌, ◌<◌, ◌≤◌, Bool, true, false, eqb, not, ◌||◌, ◌&&◌, ◌⊎◌, ◌↔◌, List, [], ◌∷◌, length, get_or, map, inl, inr, IsTrue, Option, Result, Ok, Err, IfOk, OnOk, OnErr, nat_le, nat_lt, count_by, eq-eqb}
-use Rattle.std.specs.List.{list_any, list_all, range_with_len}
+use Rattle.std.specs.List.{list_all, range_with_len}
 use Rattle.std.proofs.lemmas.Bool.{cases_lt, and_parts, and_from, false_from_ne_true, not_from_false, ne_eqb, ltb-true, leb-true, lt-ltb, le-ltb, le-leb, lt-leb}
 use Rattle.std.proofs.lemmas.Nat.{pow_pos}
 use Rattle.std.proofs.lemmas.List.Sums.{count_by-le-length}
@@ -24,7 +24,8 @@ use Rattle.vb_pages.proofs.ListsLemmas.{page_block}
 use Rattle.vb_pages.proofs.FreeLemmas.{serves_length, length-takes_pages}
 use Rattle.vb_driver.specs.Answers.{refusal_in, block_at}
 use Rattle.vb_driver.specs.Areas.{AreApart, Becomes, Allots, has_block, flags_of, refusal_of, is_free_at, is_covered, is_free_block, flagged}
-use Rattle.vb_driver.proofs.Naming.{times_in, some_in}
+use Rattle.vb_model.specs.Orderly.{times}
+use Rattle.vb_pages.proofs.ListsLemmas.{times_in}
 use Rattle.vb_driver.proofs.Flags.{length_flags, flag_at, flag_free, free_flag, free_inside, held_unfree, flags_moved, flags_same, left_by, gained_by, taken_by, serves_cpus, drained_sizes, given_sizes}
 
 -- the driver's answer, by the allocator's
@@ -194,7 +195,7 @@ areas_apart s apart = record { apart = λ p covered. held_unfree s p apart cover
 
 -- ---- single pages
 
-count_step : (k : ℕ) (xs : List ℕ) → times_in k xs + count_by (λ p. nat_le (suc k) p) xs ≡ count_by (λ p. nat_le k p) xs
+count_step : (k : ℕ) (xs : List ℕ) → times k xs + count_by (λ p. nat_le (suc k) p) xs ≡ count_by (λ p. nat_le k p) xs
 count_step k [] = refl
 count_step k (x ∷ xs) =
     omega (arith, count_step k xs, at (cases_lt k x) (cases_lt x k), count_by-cons (λ p. eqb p k) x xs, count_by-cons (λ p. nat_le (suc k) p) x xs, count_by-cons (λ p. nat_le k p) x xs)
@@ -216,13 +217,13 @@ count_step k (x ∷ xs) =
         let g : one_if (nat_le k x) ≡ 1 = ap one_if (le-leb k x ge) in
         omega arith
 
-flags_sum : (k : ℕ) (set : List Bool) (xs : List ℕ) (test : ℕ → Bool) → ((i : ℕ) → i < length set → one_if (test (k + i)) ≤ one_if (get_or set i false) + times_in (k + i) xs)
+flags_sum : (k : ℕ) (set : List Bool) (xs : List ℕ) (test : ℕ → Bool) → ((i : ℕ) → i < length set → one_if (test (k + i)) ≤ one_if (get_or set i false) + times (k + i) xs)
     → count_by (λ f. f) (map test (range_with_len k (length set))) ≤ count_by (λ f. f) set + count_by (λ p. nat_le k p) xs
 flags_sum k [] xs test most = omega arith
 flags_sum k (x ∷ set) xs test most =
-    let first : one_if (test k) ≤ one_if x + times_in k xs = subst (λ (n : ℕ). one_if (test n) ≤ one_if x + times_in n xs) (omega arith) (most 0 (omega arith)) in
+    let first : one_if (test k) ≤ one_if x + times k xs = subst (λ (n : ℕ). one_if (test n) ≤ one_if x + times n xs) (omega arith) (most 0 (omega arith)) in
     let rest : count_by (λ f. f) (map test (range_with_len (suc k) (length set))) ≤ count_by (λ f. f) set + count_by (λ p. nat_le (suc k) p) xs = flags_sum (suc k) set xs test (λ i lt.
-    subst (λ (n : ℕ). one_if (test n) ≤ one_if (get_or set i false) + times_in n xs) (omega arith) (most (suc i) (omega arith))) in
+    subst (λ (n : ℕ). one_if (test n) ≤ one_if (get_or set i false) + times n xs) (omega arith) (most (suc i) (omega arith))) in
     let next : count_by (λ f. f) (map test (range_with_len (k + 1) (length set))) ≡ count_by (λ f. f) (map test (range_with_len (suc k) (length set))) = ap (λ (n : ℕ). count_by (λ f. f) (map test (range_with_len n (length set)))) (omega arith) in
     omega (arith, count_step k xs, count_by-cons (λ f. f) (test k) (map test (range_with_len (k + 1) (length set))), count_by-cons (λ f. f) x set)
 
@@ -230,7 +231,7 @@ flags_sum k (x ∷ set) xs test most =
 pub count_flags : (s : PageState) → count_by (λ f. f) (flags_of s.free) ≤ free_count s.free
 unfolding flags_of
 count_flags s =
-    let all = flags_sum 0 s.free.areas (in_lists s.free) (is_free_page s) (λ i lt. subst (λ (n : ℕ). one_if (is_free_page s n) ≤ one_if (get_or s.free.areas i false) + times_in n (in_lists s.free)) (omega arith) (one i)) in
+    let all = flags_sum 0 s.free.areas (in_lists s.free) (is_free_page s) (λ i lt. subst (λ (n : ℕ). one_if (is_free_page s n) ≤ one_if (get_or s.free.areas i false) + times n (in_lists s.free)) (omega arith) (one i)) in
     omega (arith, all, count_by-le-length (λ p. nat_le 0 p) (in_lists s.free))
   where
     at : (a b : Bool) (n : ℕ) → (b ≡ true → 1 ≤ n) → one_if (a || b) ≤ one_if a + n
@@ -238,10 +239,10 @@ count_flags s =
     at false true n some = omega (arith, some refl)
     at false false n some = omega arith
 
-    one : (i : ℕ) → one_if (is_free_page s i) ≤ one_if (get_or s.free.areas i false) + times_in i (in_lists s.free)
-    one i = at (has s.free.areas i) (is_in i (in_lists s.free)) (times_in i (in_lists s.free)) (some_in i (in_lists s.free))
+    one : (i : ℕ) → one_if (is_free_page s i) ≤ one_if (get_or s.free.areas i false) + times i (in_lists s.free)
+    one i = at (has s.free.areas i) (is_in i (in_lists s.free)) (times i (in_lists s.free)) (times_in i (in_lists s.free))
 
-pub taken_state : (s new : PageState) (pages : List ℕ) → TakesFree s pages new → ((p : ℕ) → one_if (is_free_page new p) + times_in p pages ≡ one_if (is_free_page s p))
+pub taken_state : (s new : PageState) (pages : List ℕ) → TakesFree s pages new → ((p : ℕ) → one_if (is_free_page new p) + times p pages ≡ one_if (is_free_page s p))
     → Becomes s new (flagged pages false (flags_of s.free)) s.held
 taken_state s new pages takes left =
     let sizes = drained_sizes s.free in
@@ -251,20 +252,20 @@ taken_state s new pages takes left =
       processors = ap length takes.1 ∙ sizes.cpus;
     }
 
-pub taken_free : (s new : PageState) (pages : List ℕ) → IsApart s → ((p : ℕ) → one_if (is_free_page new p) + times_in p pages ≡ one_if (is_free_page s p)) → list_all (is_free_at (flags_of s.free)) pages ≡ true
+pub taken_free : (s new : PageState) (pages : List ℕ) → IsApart s → ((p : ℕ) → one_if (is_free_page new p) + times p pages ≡ one_if (is_free_page s p)) → list_all (is_free_at (flags_of s.free)) pages ≡ true
 taken_free s new pages apart left =
-    list_all-from (is_free_at (flags_of s.free)) pages (λ p h. free_flag s p apart (at (is_free_page s p) (omega (arith, left p, some_in p pages h))))
+    list_all-from (is_free_at (flags_of s.free)) pages (λ p h. free_flag s p apart (at (is_free_page s p) (omega (arith, left p, times_in p pages h))))
   where
     at : (b : Bool) → 1 ≤ one_if b → b ≡ true
     at true h = refl
     at false h = absurd (omega arith)
 
-pub distinct_once : (pages : List ℕ) → ((p : ℕ) → times_in p pages ≤ 1) → AllDistinct pages
+pub distinct_once : (pages : List ℕ) → ((p : ℕ) → times p pages ≤ 1) → AllDistinct pages
 distinct_once [] once = tt
 distinct_once (x ∷ xs) once = (
   not_from_false (is_in x xs) (false_from_ne_true (is_in x xs) (λ h.
       let one : one_if (eqb x x) ≡ 1 = ap one_if (eq-eqb x x refl) in
-      omega (arith, once x, count_by-cons (λ q. eqb q x) x xs, some_in x xs h))),
+      omega (arith, once x, count_by-cons (λ q. eqb q x) x xs, times_in x xs h))),
   distinct_once xs (λ p. omega (arith, once p, count_by-cons (λ q. eqb q p) x xs)),
 )
 

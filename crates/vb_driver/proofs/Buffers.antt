@@ -1,13 +1,13 @@
 -- Writes of the driver to guest memory.
-use Rattle.std.proofs.Common.{◌≡◌, ◌≢◌, ◌∙◌, sym, ap, subst, arith, ℕ, ◌+◌, ◌-◌, ◌*◌, ◌/◌, ◌%◌, ◌<◌, ◌≤◌, List, length, inl, inr, Option, None, Result, Ok, Err, get_or, slice_index, OnOk, OnErr, IsOk}
+use Rattle.std.proofs.Common.{◌≡◌, ◌≢◌, ◌∙◌, sym, ap, subst, arith, ℕ, ◌+◌, ◌-◌, ◌*◌, ◌/◌, ◌%◌, ◌<◌, ◌≤◌, List, length, inl, inr, None, Result, Ok, Err, slice_index, OnOk, OnErr, IsOk}
 use Rattle.std.proofs.lemmas.Bool.{cases_lt, cases_eq}
 use Rattle.std.proofs.lemmas.List.{same_lists, get_or_default}
 use Rattle.std.proofs.Math.Nat.{div-add-mod}
 use Rattle.vb_model.specs.Layout.{buffer_page, buffer_offset}
-use Rattle.vb_ram.specs.Pages.{Page, Pages, page_at, field, byte_at, SameBut, SameIn, Wrote}
-use Rattle.vb_ram.specs.Fields.{field_in, same_below, same_above, same_other, same_trans}
+use Rattle.vb_ram.specs.Pages.{Pages, page_at, byte_at, SameBut, SameIn, Wrote}
+use Rattle.vb_ram.specs.Fields.{field_in, same_below, same_above, same_other}
 use Rattle.vb_ram.specs.Contents.{same_page_at, same_contents}
-use Rattle.vb_driver.specs.Coding.{Names, SameButBuffer}
+use Rattle.vb_driver.specs.Coding.{Names}
 
 -- bytes that stood there already, written, change nothing
 pub wrote_same : (old new : Pages) (p off : ℕ) (bs : List ℕ) → Wrote old new p off bs → ((k : ℕ) → k < length bs → slice_index bs k ≡ byte_at old p (off + k)) → new ≡ old

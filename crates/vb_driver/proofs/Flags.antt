@@ -15,11 +15,12 @@ use Rattle.vb_pages.specs.FreePages.{FreePages, in_lists, drained, times_free, l
 use Rattle.vb_pages.specs.PageState.{PageState, page_count, is_free_page, is_unreserved, IsApart, fresh, given}
 use Rattle.vb_pages.proofs.Sets.{length-with_pages}
 use Rattle.vb_pages.proofs.AreasLemmas.{length-unreserved, has-unreserved}
-use Rattle.vb_pages.proofs.ListsLemmas.{one_if_true}
+use Rattle.vb_pages.proofs.ListsLemmas.{one_if_true, one_if_le}
 use Rattle.vb_pages.proofs.FreeLemmas.{flat-replicate}
 use Rattle.vb_driver.specs.Answers.{block_at}
 use Rattle.vb_driver.specs.Areas.{flags_of, is_free_at, flagged, all_given}
-use Rattle.vb_driver.proofs.Naming.{times_in, some_in, zero_out}
+use Rattle.vb_model.specs.Orderly.{times}
+use Rattle.vb_pages.proofs.ListsLemmas.{times_in, times_out}
 use Rattle.vb_driver.proofs.Placing.{first_place, is_in-push}
 
 -- ---- a page's flag
@@ -44,7 +45,7 @@ some_times s p h = at (has s.free.areas p) refl
   where
     at : (b : Bool) → has s.free.areas p ≡ b → 1 ≤ times_free s.free p
     at true e = (let one : one_if (has s.free.areas p) ≡ 1 = ap one_if e in omega arith)
-    at false e = omega (arith, some_in p (in_lists s.free) (ap (λ v. v || is_in p (in_lists s.free)) (sym e) ∙ h))
+    at false e = omega (arith, times_in p (in_lists s.free) (ap (λ v. v || is_in p (in_lists s.free)) (sym e) ∙ h))
 
 -- a free page is there, and isn't reserved
 pub free_inside : (s : PageState) (p : ℕ) → IsApart s → is_free_page s p ≡ true → p < page_count s
@@ -61,12 +62,8 @@ held_unfree s p apart covered =
     false_from_ne_true (is_free_at (flags_of s.free) p) (λ h.
     let free : 1 ≤ times_free s.free p = some_times s p (flag_free s p h) in
     let held : 1 ≤ count_by (covers p) s.held = some_covers s.held covered in
-    omega (arith, apart p, one_most (is_unreserved s p)))
+    omega (arith, apart p, one_if_le (is_unreserved s p)))
   where
-    one_most : (b : Bool) → one_if b ≤ 1
-    one_most true = omega arith
-    one_most false = omega arith
-
     step : (b : Bool) (rest : Bool) (n : ℕ) → (b || rest) ≡ true → (rest ≡ true → 1 ≤ n) → 1 ≤ one_if b + n
     step true rest n h k = omega arith
     step false rest n h k = omega (arith, k h)
@@ -119,16 +116,16 @@ gained_by p b old = at (is_in p (pages_of b)) refl old
     at false e false = covers_is p b false e ∙ sym (ap (λ v. cond v true false) e)
 
 -- what these pages left behind, where each stands once
-pub taken_by : (p : ℕ) (pages : List ℕ) (new old : Bool) → one_if new + times_in p pages ≡ one_if old → new ≡ cond (is_in p pages) false old
+pub taken_by : (p : ℕ) (pages : List ℕ) (new old : Bool) → one_if new + times p pages ≡ one_if old → new ≡ cond (is_in p pages) false old
 taken_by p pages new old sum = at (is_in p pages) refl new old sum
   where
-    at : (v : Bool) → is_in p pages ≡ v → (new old : Bool) → one_if new + times_in p pages ≡ one_if old → new ≡ cond (is_in p pages) false old
-    at true e true true s = absurd (omega (arith, some_in p pages e))
+    at : (v : Bool) → is_in p pages ≡ v → (new old : Bool) → one_if new + times p pages ≡ one_if old → new ≡ cond (is_in p pages) false old
+    at true e true true s = absurd (omega (arith, times_in p pages e))
     at true e true false s = absurd (omega arith)
     at true e false old s = sym (ap (λ v. cond v false old) e)
     at false e true true s = sym (ap (λ v. cond v false true) e)
     at false e true false s = absurd (omega arith)
-    at false e false true s = absurd (omega (arith, zero_out p pages e))
+    at false e false true s = absurd (omega (arith, times_out p pages e))
     at false e false false s = sym (ap (λ v. cond v false false) e)
 
 -- ---- as many processors, and pages, as before
@@ -223,10 +220,10 @@ given_more [] x s = refl
 given_more (y ∷ xs) x s = given_more xs x (given (block_at y 0) s)
 
 -- a page that stands once isn't among those before it
-pub not_before : (pages : List ℕ) (i : ℕ) → i < length pages → times_in (get_or pages i 0) pages ≤ 1 → is_in (get_or pages i 0) (take i pages) ≡ false
+pub not_before : (pages : List ℕ) (i : ℕ) → i < length pages → times (get_or pages i 0) pages ≤ 1 → is_in (get_or pages i 0) (take i pages) ≡ false
 not_before pages i lt once =
     let x = get_or pages i 0 in
     false_from_ne_true (is_in x (take i pages)) (λ h.
-    let more : times_in x (take (i + 1) pages) ≡ times_in x (take i pages ++ x ∷ []) = ap (times_in x) (take_more pages i 0 lt) in
-    let one : times_in x (x ∷ []) ≡ 1 = count_by-cons (λ q. eqb q x) x [] ∙ ap (λ v. one_if v + 0) (eq-eqb x x refl) in
-    omega (arith, some_in x (take i pages) h, count_by-append (λ q. eqb q x) (take i pages) (x ∷ []), sum_by-take-le (λ q. cond (eqb q x) 1 0) pages (i + 1)))
+    let more : times x (take (i + 1) pages) ≡ times x (take i pages ++ x ∷ []) = ap (times x) (take_more pages i 0 lt) in
+    let one : times x (x ∷ []) ≡ 1 = count_by-cons (λ q. eqb q x) x [] ∙ ap (λ v. one_if v + 0) (eq-eqb x x refl) in
+    omega (arith, times_in x (take i pages) h, count_by-append (λ q. eqb q x) (take i pages) (x ∷ []), sum_by-take-le (λ q. cond (eqb q x) 1 0) pages (i + 1)))

@@ -1,15 +1,15 @@
 -- What holds of each driver, as pages move.
-use Rattle.std.proofs.Common.{◌≡◌, ◌≢◌, ◌∙◌, sym, ap, subst, arith, refl, ℕ, ◌+◌, ◌<◌, ◌≤◌, Bool, true, false, cond, eqb, ◌||◌, ◌⊎◌, List, [], ◌∷◌, ◌++◌, length, take, get_or, set, map, inl, inr, if◌then◌else◌}
-use Rattle.std.proofs.lemmas.List.{same_lists, length-map, get_or-map, get_or_past, get_or_default}
-use Rattle.std.proofs.lemmas.Bool.{cases_lt, cases_Bool}
-use Rattle.vb_model.specs.Tests.{is_in, one_if, each_page, pages_where}
-use Rattle.vb_model.specs.Pages.{place_of, placed, is_free, is_used, is_giving, is_lent, is_taking, is_stranded, is_reporting, Block}
+use Rattle.std.proofs.Common.{◌≡◌, ◌∙◌, sym, ap, arith, refl, ℕ, ◌<◌, ◌≤◌, Bool, true, false, cond, List, length, get_or, map, inl, inr, if◌then◌else◌}
+use Rattle.std.proofs.lemmas.List.{same_lists, length-map, get_or-map, get_or_past}
+use Rattle.std.proofs.lemmas.Bool.{cases_lt}
+use Rattle.vb_model.specs.Tests.{is_in, one_if}
+use Rattle.vb_model.specs.Pages.{place_of, placed, is_free, is_used, is_giving, is_taking, is_reporting, Block}
 use Rattle.vb_model.specs.declared.places.Place.{Place}
-use Rattle.vb_model.specs.declared.places.Place.TheVariants.{Reserved, Free, Used, Giving, Lent, Taking, Stranded, Reporting}
+use Rattle.vb_model.specs.declared.places.Place.TheVariants.{Reserved, Used}
 use Rattle.vb_model.proofs.Tables.{each_page-get, length-each_from}
 use Rattle.vb_pages.specs.FreePages.{FreePages}
 use Rattle.vb_driver.specs.Places.{is_at}
-use Rattle.vb_driver.specs.State.{Side, DriverState, AreRequests, IsQueue, IsDriver, naming}
+use Rattle.vb_driver.specs.State.{Side, DriverState, IsQueue, naming}
 use Rattle.vb_driver.specs.Areas.{flags_of, IsKept, is_covered, flagged}
 use Rattle.vb_driver.proofs.Placing.{length-placed, placed-get}
 

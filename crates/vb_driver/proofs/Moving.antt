@@ -1,9 +1,9 @@
 -- The pages that each call moves.
-use Rattle.std.proofs.Common.{◌≡◌, ◌≢◌, ◌∙◌, sym, ap, subst, arith, refl, ℕ, zero, suc, replicate, ◌+◌, ◌-◌, ◌<◌, ◌≤◌, Bool, true, false, cond, eqb, ◌||◌, ◌&&◌, ◌⊎◌, List, [], ◌∷◌, ◌++◌, length, take, get_or, set, map, count_by, inl, inr, Some, Ok, IsTrue}
-use Rattle.std.proofs.lemmas.Bool.{cases_Bool, cases_lt, lt-ltb}
+use Rattle.std.proofs.Common.{◌≡◌, ◌∙◌, sym, ap, subst, arith, refl, ℕ, zero, suc, replicate, ◌+◌, ◌-◌, ◌<◌, ◌≤◌, Bool, true, false, cond, eqb, ◌||◌, ◌&&◌, List, [], ◌∷◌, ◌++◌, length, take, set, map, count_by, inl, inr}
+use Rattle.std.proofs.lemmas.Bool.{cases_lt, lt-ltb}
 use Rattle.std.proofs.lemmas.List.{length-replicate, length-take, length-map, get_or-map, get_or_past}
 use Rattle.std.specs.List.{list_all}
-use Rattle.std.proofs.lemmas.List.Sums.{sum_by-cons, count_by-le-length}
+use Rattle.std.proofs.lemmas.List.Sums.{sum_by-cons}
 use Rattle.std.proofs.lemmas.List.Folds.{list_any-append}
 use Rattle.vb_model.specs.Tests.{is_in, one_if, pages_from, pages_where}
 use Rattle.vb_model.specs.Pages.{place_of, placed, is_free, is_used, is_giving, is_lent, is_taking, is_stranded, is_reporting, is_lent_or_taking, all_free}
@@ -14,15 +14,15 @@ use Rattle.vb_model.specs.Life.{place_after_reset}
 use Rattle.vb_model.specs.Layout.{ring_page}
 use Rattle.vb_model.proofs.GuestSteps.{place_of-reset}
 use Rattle.vb_ram.specs.Pages.{Pages}
-use Rattle.vb_ring.specs.Ends.{after_add}
 use Rattle.vb_pages.specs.FreePages.{FreePages}
 use Rattle.vb_driver.specs.Places.{is_at}
-use Rattle.vb_driver.specs.State.{Side, DriverState, AreRequests, IsQueue, IsDriver, naming, sent_by, fresh_side, fresh_driver}
+use Rattle.vb_driver.specs.State.{Side, DriverState, IsQueue, naming, sent_by, fresh_side, fresh_driver}
 use Rattle.vb_driver.specs.Areas.{flags_of, IsKept, flagged, is_free_at, is_covered}
 use Rattle.vb_driver.specs.Calls.{Posts, lowest_lent, stranded_first, after_reap}
-use Rattle.vb_driver.proofs.Naming.{times_in, naming_more, naming_same, naming_less, named_place, named_once, once_lowest, once_append, once_distinct}
+use Rattle.vb_model.specs.Orderly.{times}
+use Rattle.vb_driver.proofs.Naming.{naming_more, naming_same, naming_less, named_place, named_once, once_lowest, once_append}
 use Rattle.vb_driver.proofs.Flags.{fresh_flags}
-use Rattle.vb_driver.proofs.Keeping.{Moves, kept_moved, there_by, free_same, free_flagged}
+use Rattle.vb_driver.proofs.Keeping.{kept_moved, there_by, free_same, free_flagged}
 use Rattle.std.proofs.lemmas.List.FromFn.{get_or-map-range_with_len, length-map-range_with_len}
 use Rattle.std.proofs.Common.{nat_lt}
 use Rattle.vb_ring.specs.Layout.{IsSize}
@@ -244,7 +244,7 @@ idle_test place test b s f (idle_stranded e) = ap test e ∙ s
 idle_test place test b s f (idle_free e) = ap test e ∙ f
 
 pub offered_kept : (m1 m2 : Pages) (d : DriverState) (areas2 : FreePages) (i2 : Side) (base count head : ℕ) (others : List ℕ) → IsKept d
-    → list_all (λ page. is_free (place_of d.places page)) others ≡ true → ((p : ℕ) → times_in p others ≤ 1) → flags_of areas2 ≡ flagged others false (flags_of d.areas) → length areas2.lists ≡ length d.areas.lists
+    → list_all (λ page. is_free (place_of d.places page)) others ≡ true → ((p : ℕ) → times p others ≤ 1) → flags_of areas2 ≡ flagged others false (flags_of d.areas) → length areas2.lists ≡ length d.areas.lists
     → Posts m1 m2 d.inflate i2 base (stranded_first d count ++ others) head
     → IsKept (record d { places = placed (stranded_first d count ++ others) Giving d.places; inflate = i2; areas = areas2 })
 offered_kept m1 m2 d areas2 i2 base count head others kept free once taken processors posts =
@@ -256,7 +256,7 @@ offered_kept m1 m2 d areas2 i2 base count head others kept free once taken proce
     ] in
     let small : head < length d.inflate.sent = omega (arith, posts.small, kept.driver.inflate.requests.buffers) in
     let sent : i2.sent ≡ set d.inflate.sent head pages = ap (λ (s : Side). s.sent) posts.state in
-    let once_all : (p : ℕ) → times_in p pages ≤ 1 = λ p. once_append p first others (once_lowest p count is_stranded d.places) (once p) (stranded_apart d count p others free) in
+    let once_all : (p : ℕ) → times p pages ≤ 1 = λ p. once_append p first others (once_lowest p count is_stranded d.places) (once p) (stranded_apart d count p others free) in
     kept_moved d areas2 pages Giving i2 d.deflate (record {
       kept = kept;
       there = λ p here. there_by d.places p (λ v. is_stranded v || is_free v) refl (idle_test (place_of d.places p) (λ v. is_stranded v || is_free v) true refl refl (idle p here));
@@ -396,7 +396,7 @@ pub freed_taking : (d : DriverState) (head p : ℕ) → head < 16 → IsKept d �
 freed_taking d head p lt kept here =
     taking_is (place_of d.places p) (named_place p head d.deflate.sent is_taking (place_of d.places p) (omega (arith, kept.driver.deflate.requests.buffers)) (kept.driver.taking p) here)
 
-pub freed_once : (d : DriverState) (head p : ℕ) → head < 16 → IsKept d → times_in p (sent_by d.deflate head) ≤ 1
+pub freed_once : (d : DriverState) (head p : ℕ) → head < 16 → IsKept d → times p (sent_by d.deflate head) ≤ 1
 freed_once d head p lt kept = named_once p head d.deflate.sent is_taking (place_of d.places p) (omega (arith, kept.driver.deflate.requests.buffers)) (kept.driver.taking p)
 
 pub freed_uncovered : (d : DriverState) (p : ℕ) → IsKept d → place_of d.places p ≡ Taking → is_covered p d.held ≡ false

@@ -1,13 +1,13 @@
 -- Tables of places, as pages move one by one.
-use Rattle.std.proofs.Common.{◌≡◌, ◌≢◌, ◌∙◌, sym, ap, arith, refl, ℕ, zero, suc, ◌+◌, ◌-◌, ◌<◌, ◌≤◌, Bool, true, false, cond, eqb, ◌||◌, List, [], ◌∷◌, ◌++◌, length, take, min, get_or, set, map, replicate, inl, inr, eq-eqb, append_assoc, append-nil, length-append, if◌then◌else◌, nat_lt}
-use Rattle.std.proofs.lemmas.List.{same_lists, get_or-set_same, get_or-set_other, length-set, get_or-map, length-map, take_more, get_or-replicate, length-replicate, take-append-le, length-take}
+use Rattle.std.proofs.Common.{◌≡◌, ◌∙◌, sym, ap, arith, refl, ℕ, zero, suc, ◌+◌, ◌-◌, ◌<◌, ◌≤◌, Bool, true, false, cond, eqb, ◌||◌, List, [], ◌∷◌, ◌++◌, length, take, get_or, set, map, replicate, inl, inr, eq-eqb, append-nil, if◌then◌else◌, nat_lt}
+use Rattle.std.proofs.lemmas.List.{same_lists, get_or-set_same, get_or-set_other, length-set, get_or-map, length-map, take_more, length-replicate, take-append-le, length-take}
 use Rattle.std.proofs.lemmas.List.Folds.{list_any-append, list_any_at}
 use Rattle.std.proofs.lemmas.List.FromFn.{get_or-map-range_with_len, length-range_with_len}
-use Rattle.std.proofs.lemmas.Bool.{cases_eq, cases_lt, ne_eqb, cases_Bool}
+use Rattle.std.proofs.lemmas.Bool.{cases_eq, ne_eqb}
 use Rattle.std.specs.List.{range_with_len}
 use Rattle.vb_model.specs.declared.places.Place.{Place}
 use Rattle.vb_model.specs.declared.places.Place.TheVariants.{Reserved, Free}
-use Rattle.vb_model.specs.Tests.{is_in, each_page, pages_from, pages_where}
+use Rattle.vb_model.specs.Tests.{is_in, pages_from, pages_where}
 use Rattle.vb_model.specs.Pages.{placed, all_free}
 use Rattle.vb_driver.specs.Places.{number_of, is_at}
 use Rattle.vb_model.proofs.Tables.{length-each_from, each_page-get}

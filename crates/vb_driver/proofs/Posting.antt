@@ -1,9 +1,9 @@
 -- A request that goes out: its buffer is written, and then its chain is published.
-use Rattle.std.proofs.Common.{◌≡◌, ◌≢◌, ◌∙◌, sym, ap, subst, arith, refl, ℕ, ◌+◌, ◌*◌, ◌/◌, ◌%◌, ◌<◌, ◌≤◌, Bool, true, false, eqb, ◌||◌, List, [], ◌∷◌, length, slice_index, Some, Result, Ok, set, min, cond}
+use Rattle.std.proofs.Common.{◌≡◌, ◌≢◌, ◌∙◌, sym, ap, subst, arith, refl, ℕ, ◌+◌, ◌*◌, ◌<◌, ◌≤◌, Bool, true, false, eqb, ◌||◌, List, [], ◌∷◌, length, slice_index, Some, Result, Ok, set, min}
 use Rattle.std.proofs.lemmas.Bool.{ne_eqb}
 use Rattle.vb_model.specs.Tests.{is_in}
 use Rattle.vb_model.specs.Layout.{buffer_page, buffer_offset}
-use Rattle.vb_ram.specs.Pages.{Pages, page_at, SameBut, SameIn}
+use Rattle.vb_ram.specs.Pages.{Pages, page_at, SameBut}
 use Rattle.vb_ram.specs.Fields.{same_page, same_trans}
 use Rattle.vb_chain.specs.declared.Piece.{Piece}
 use Rattle.vb_chain.specs.Written.{linked}
@@ -12,12 +12,12 @@ use Rattle.vb_chain.specs.TableLaws.{descriptor_apart, same_parts}
 use Rattle.vb_ring.specs.declared.driver.Full.{Full}
 use Rattle.vb_ring.specs.declared.layout.Layout.{Layout}
 use Rattle.vb_ring.specs.Layout.{layout_of}
-use Rattle.vb_ring.specs.Ends.{DriverEnd, IsDriverEnd, outstanding, next_head, next_path, add_answer, after_add}
+use Rattle.vb_ring.specs.Ends.{DriverEnd, IsDriverEnd, outstanding, next_head, next_path, add_answer}
 use Rattle.vb_ring.specs.Calls.{AddsBy}
 use Rattle.vb_ring.specs.EntryLaws.{entries_apart}
 use Rattle.vb_ring.specs.MeaningLaws.{ring_apart, tracks_apart}
-use Rattle.vb_driver.specs.Coding.{Names, SameButBuffer}
-use Rattle.vb_driver.specs.State.{Side, AreRequests}
+use Rattle.vb_driver.specs.Coding.{Names}
+use Rattle.vb_driver.specs.State.{AreRequests}
 use Rattle.vb_driver.specs.Calls.{Posts}
 use Rattle.vb_driver.proofs.Buffers.{buffer_apart, names_kept}
 use Rattle.vb_driver.proofs.RequestTables.{add_gives, next_path_is, head_low, requests_added_at}

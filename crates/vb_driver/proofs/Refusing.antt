@@ -1,8 +1,7 @@
 -- The first of some tests that holds.
-use Rattle.std.proofs.Common.{◌≡◌, refl, Bool, true, false, not, ℕ, List, [], ◌∷◌, Option, Some, None}
+use Rattle.std.proofs.Common.{◌≡◌, refl, Bool, true, false, not, [], ◌∷◌, Option}
 use Rattle.vb_model.specs.declared.replies.Refusal.{Refusal}
-use Rattle.vb_model.specs.declared.replies.Refusal.TheVariants.{NotReady, QueueFull, Nothing, NoFeature, NoQueue, RingBroken}
-use Rattle.vb_model.specs.Refusals.{Test, ◌⇒◌, first_refusal}
+use Rattle.vb_model.specs.Refusals.{◌⇒◌, first_refusal}
 
 abbrev pub three : Bool → Bool → Bool → Refusal → Refusal → Refusal → Option Refusal
 three a b c r s t = first_refusal ((a ⇒ r) ∷ (b ⇒ s) ∷ (c ⇒ t) ∷ [])

@@ -1,18 +1,12 @@
 -- A queue whose chains are requests of one descriptor each.
-use Rattle.std.proofs.Common.{◌≡◌, ◌≢◌, ◌∙◌, sym, ap, subst, arith, refl, ℕ, zero, suc, ◌+◌, ◌*◌, ◌<◌, ◌≤◌, Bool, true, false, cond, eqb, ◌||◌, List, [], ◌∷◌, ◌++◌, length, take, slice_get, slice_index, slice_index_or, inl, inr, ◌⊎◌, eq-eqb, Option, Some, None, Result, Ok, Err, is_none, nat_lt, set, get_or, min, replicate, ◌%◌}
-use Rattle.std.proofs.lemmas.Bool.{cases_eq, cases_lt, cases_Bool, ne_eqb, eqb-true}
+use Rattle.std.proofs.Common.{◌≡◌, ◌≢◌, ◌∙◌, sym, ap, subst, arith, refl, ℕ, zero, suc, ◌+◌, ◌<◌, ◌≤◌, Bool, true, false, cond, eqb, ◌||◌, List, [], ◌∷◌, length, take, slice_get, slice_index, slice_index_or, inl, inr, ◌⊎◌, eq-eqb, Option, Some, None, Result, Ok, Err, is_none, nat_lt, set, min, replicate, ◌%◌}
+use Rattle.std.proofs.lemmas.Bool.{cases_eq, cases_lt, cases_Bool, ne_eqb}
 use Rattle.std.proofs.lemmas.Bool.Decides.{nat_tests}
 use Rattle.std.proofs.lemmas.List.{length-set, length-replicate, get_or-replicate, get_or_past}
-use Rattle.vb_model.specs.Tests.{is_in}
-use Rattle.vb_model.specs.Layout.{buffer_page, buffer_offset}
-use Rattle.vb_ram.specs.Pages.{Pages, page_at, byte_at, field, SameBut, SameIn}
-use Rattle.vb_ram.specs.Fields.{same_other, same_trans}
-use Rattle.vb_chain.specs.Table.{descriptor_at}
-use Rattle.vb_chain.specs.TableLaws.{descriptor_apart, same_parts}
-use Rattle.vb_ring.specs.Layout.{IsSize, IsBacked, IsInside, layout_of}
+use Rattle.vb_ring.specs.Layout.{layout_of}
 use Rattle.vb_ring.specs.Entries.{is_own, is_head}
-use Rattle.vb_ring.specs.Numbers.{numbers, numbers_pass, numbers_rise, numbers_has, length_all}
-use Rattle.vb_ring.specs.Ends.{DriverEnd, IsDriverEnd, is_free, free_descriptors, outstanding, next_head, next_path, add_answer, after_add, after_take, used_answer, claimed, released, fresh_end}
+use Rattle.vb_ring.specs.Numbers.{numbers_pass, numbers_rise, numbers_has, length_all}
+use Rattle.vb_ring.specs.Ends.{DriverEnd, IsDriverEnd, is_free, free_descriptors, outstanding, next_head, next_path, add_answer, after_add, after_take, claimed, released, fresh_end}
 use Rattle.vb_ring.specs.Owners.{claimed-at, released-at}
 use Rattle.vb_ring.specs.declared.driver.Full.{Full}
 use Rattle.vb_ring.specs.declared.driver.Full.TheVariants.{TooFewFree}

@@ -1,16 +1,19 @@
 -- How many pages a driver's calls move, and why one is refused: the formulas and tables of the
 -- definitions, with the driver's own values.
-use Rattle.std.specs.Prelude.{ℕ, Bool, not, ◌==◌, List, [], ◌∷◌, ◌++◌, is_some, is_err}
+use Rattle.std.specs.Prelude.{ℕ, ◌<◌, ◌≤◌, Bool, not, ◌==◌, List, [], ◌∷◌, ◌++◌, length, is_some, is_err, IsSome}
 use Rattle.std.specs.List.{list_all, range_with_len}
 use Rattle.vb_model.specs.declared.replies.Refusal.TheVariants.{RingBroken, AlreadyUp, NoFrame}
+use Rattle.vb_model.specs.declared.limits.TheConstants.{MIN_GUEST_PAGES}
 use Rattle.vb_model.specs.Limits.{ring_and_buffer_pages}
 pub use Rattle.vb_model.specs.Pages.{block_at}
 use Rattle.vb_model.specs.Guest.{deflate_on_oom}
 pub use Rattle.vb_model.specs.FirstRefusal.{refusal_in}
 use Rattle.vb_model.specs.FirstRefusal.{Test, ◌⇒◌}
 pub use Rattle.vb_model.specs.Tables.{is_up}
-use Rattle.vb_model.specs.Tables.{pages_to_offer, pages_to_ask, pages_when_short, asking_tests, featured_tests}
-use Rattle.vb_model.specs.Tables.{alloc_tests as tests_of_alloc, free_tests as tests_of_free, request_tests as tests_of_request, reap_tests as tests_of_reap}
+use Rattle.vb_model.specs.Tables.{pages_to_offer, pages_to_ask, pages_when_short}
+use Rattle.vb_model.specs.Tables.{asking_tests, featured_tests, reap_tests as tests_of_reap}
+use Rattle.vb_model.specs.Tables.{alloc_tests as tests_of_alloc, free_tests as tests_of_free}
+use Rattle.vb_model.specs.Tables.{request_tests as tests_of_request}
 use Rattle.vb_model.specs.Life.{feature_tests}
 use Rattle.vb_ram.specs.Pages.{Pages, frame_at}
 use Rattle.vb_ram.specs.Part.{Part}
@@ -64,9 +67,18 @@ abbrev pub reap_tests : Pages → Part → DriverState → Side → ℕ → List
 reap_tests mem part d side queue =
     tests_of_reap queue part.status d.features ++ ((is_ring_broken mem side ⇒ RingBroken) ∷ [])
 
+-- memory has as many pages as the smallest guest's
+abbrev pub IsLargeEnough : Pages → Type 0
+IsLargeEnough mem = MIN_GUEST_PAGES ≤ length mem
+
 -- each page of the rings and buffers has a frame
+abbrev pub IsBacked : Pages → Type 0
+IsBacked mem = (page : ℕ) → page < ring_and_buffer_pages → IsSome (frame_at mem page)
+
+-- the test for it
 abbrev pub has_frames : Pages → Bool
-has_frames mem = list_all (λ page. is_some (frame_at mem page)) (range_with_len 0 ring_and_buffer_pages)
+has_frames mem =
+    list_all (λ page. is_some (frame_at mem page)) (range_with_len 0 ring_and_buffer_pages)
 
 abbrev pub init_tests : Pages → Part → ℕ → List Test
 init_tests mem part wanted =

@@ -1,5 +1,6 @@
 -- What the driver uses of the page areas.
-use Rattle.std.specs.Prelude.{◌≡◌, ℕ, ◌<◌, Bool, true, false, ◌&&◌, List, [], ◌∷◌, length, map, slice_index_or, if◌then◌else◌, Result, Ok, Err}
+use Rattle.std.specs.Prelude.{◌≡◌, ℕ, ◌<◌, Bool, true, false, ◌&&◌, List, [], ◌∷◌, length, map}
+use Rattle.std.specs.Prelude.{slice_index_or, if◌then◌else◌, Result, Ok, Err}
 use Rattle.std.specs.List.{list_any, list_all, range_with_len}
 use Rattle.vb_model.specs.declared.places.Place.TheVariants.{Reserved, Used}
 use Rattle.vb_model.specs.Limits.{reserved_pages}
@@ -8,7 +9,10 @@ use Rattle.vb_model.specs.Pages.{Block, covers, is_aligned, pages_of, is_free, p
 use Rattle.vb_model.specs.declared.replies.Refusal.{Refusal}
 use Rattle.vb_model.specs.declared.replies.Refusal.TheVariants.{BadOrder, BadCpu, NoPages, NotHeld}
 use Rattle.vb_pages.specs.declared.PageFault.{PageFault}
-use Rattle.vb_pages.specs.declared.PageFault.TheVariants.{BadOrder as OrderTooLarge, BadCpu as NoSuchCpu, NoPages as NoFreeBlock, NotHeld as NoSuchBlock}
+use Rattle.vb_pages.specs.declared.PageFault.TheVariants.{BadOrder as OrderTooLarge}
+use Rattle.vb_pages.specs.declared.PageFault.TheVariants.{BadCpu as NoSuchCpu}
+use Rattle.vb_pages.specs.declared.PageFault.TheVariants.{NoPages as NoFreeBlock}
+use Rattle.vb_pages.specs.declared.PageFault.TheVariants.{NotHeld as NoSuchBlock}
 use Rattle.vb_pages.specs.FreePages.{FreePages, is_free as is_unused}
 use Rattle.vb_pages.specs.PageState.{PageState, cpu_count, Allocates, given}
 use Rattle.vb_driver.specs.Answers.{block_at}
@@ -41,7 +45,9 @@ is_covered page held = list_any (covers page) held
 
 -- some block of the order is wholly free
 abbrev pub has_block : PageState → ℕ → Bool
-has_block s order = list_any (λ start. is_free_block (flags_of s.free) (block_at start order)) (range_with_len 0 (length (flags_of s.free)))
+has_block s order =
+    let flags = flags_of s.free in
+    list_any (λ start. is_free_block flags (block_at start order)) (range_with_len 0 (length flags))
 
 -- From now on these pages are free and these blocks held, on as many processors.
 pub record Becomes (old new : PageState) (flags : List Bool) (blocks : List Block) : Type 0 where
@@ -49,8 +55,8 @@ pub record Becomes (old new : PageState) (flags : List Bool) (blocks : List Bloc
   pub held : new.held ≡ blocks
   pub processors : cpu_count new ≡ cpu_count old
 
--- What an allocation does to the areas and the lists: it takes its block from them, or finds none, with all lists drained.
--- An order or a processor that is refused leaves them as they are.
+-- What an allocation does to the areas and the lists: it takes its block from them, or finds none,
+-- with all lists drained. An order or a processor that is refused leaves them as they are.
 abbrev pub Allots : PageState → ℕ → ℕ → Result ℕ Refusal → PageState → Type 0
 Allots s cpu order (Ok start) new = Allocates s cpu order (Ok start) new
 Allots s cpu order (Err NoPages) new = Allocates s cpu order (Err NoFreeBlock) new
@@ -65,7 +71,8 @@ all_given (page ∷ pages) s = all_given pages (given (block_at page 0) s)
 pub record AreApart (s : PageState) : Type 0 where
   pub apart : (page : ℕ) → is_covered page s.held ≡ true → is_free_at (flags_of s.free) page ≡ false
 
--- The areas and lists have just the free pages, the held blocks have used pages alone, and the first pages are reserved.
+-- The areas and lists have just the free pages, the held blocks have used pages alone, and the
+-- first pages are reserved.
 pub record IsKept (d : DriverState) : Type 0 where
   pub driver : IsDriver d
   pub free : flags_of d.areas ≡ map is_free d.places

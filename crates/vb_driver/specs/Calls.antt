@@ -1,5 +1,9 @@
--- What a driver's calls do, by old and new of guest memory, of the device's part and of the driver: VIRTIO 1.1, 3.1.1 and 5.5.6.
-use Rattle.std.specs.Prelude.{◌≡◌, ◌≢◌, ℕ, ◌+◌, ◌%◌, ◌<◌, ◌≤◌, Bool, ◌==◌, nat_lt, List, [], ◌∷◌, ◌++◌, length, take, map, if◌then◌else◌, Option, Some, None, Result, Ok, Err, IfOk, IfErr, OnErr, OnOk, MatchOption, IsTrue, count_by, slice_set, bit_or}
+-- What a driver's calls do, by old and new of guest memory, of the device's part and of the driver:
+-- VIRTIO 1.1, 3.1.1 and 5.5.6.
+use Rattle.std.specs.Prelude.{◌≡◌, ◌≢◌, ℕ, ◌+◌, ◌%◌, ◌<◌, ◌≤◌, ◌==◌, List, [], ◌∷◌}
+use Rattle.std.specs.Prelude.{◌++◌, length, take, map, if◌then◌else◌, Option, Some, None, Result}
+use Rattle.std.specs.Prelude.{Ok, IfOk, IfErr, OnErr, OnOk, MatchOption, IsTrue, count_by}
+use Rattle.std.specs.Prelude.{slice_set, bit_or}
 use Rattle.std.specs.List.{list_all}
 use Rattle.vb_model.specs.declared.places.Place.{Place}
 use Rattle.vb_model.specs.declared.places.PlaceCounts.{PlaceCounts}
@@ -7,11 +11,13 @@ use Rattle.vb_model.specs.declared.places.Place.TheVariants.{Free, Used, Giving,
 use Rattle.vb_model.specs.declared.replies.Refusal.{Refusal}
 use Rattle.vb_model.specs.declared.replies.Refusal.TheVariants.{RingBroken, AlreadyUp, NoFrame}
 use Rattle.vb_model.specs.Tests.{pages_where}
-use Rattle.vb_model.specs.Pages.{is_free, is_used, is_giving, is_lent, is_taking, is_stranded, is_reporting, is_lent_or_taking, place_of, placed, pages_of, is_wholly_free}
+use Rattle.vb_model.specs.Pages.{Block, is_free, is_used, is_giving, is_lent, is_taking}
+use Rattle.vb_model.specs.Pages.{is_stranded, is_reporting, is_lent_or_taking, place_of, placed}
+use Rattle.vb_model.specs.Pages.{pages_of, is_wholly_free}
 use Rattle.vb_model.specs.Driver.{AllDistinct, with_block, without_block}
 use Rattle.vb_model.specs.Life.{place_after_reset, feature_refusal, accepted_before}
-use Rattle.vb_model.specs.Limits.{max_outstanding}
-use Rattle.vb_model.specs.Layout.{ring_page, buffers_page}
+use Rattle.vb_model.specs.Limits.{max_outstanding, page_size}
+use Rattle.vb_model.specs.Layout.{buffers_page}
 use Rattle.vb_model.specs.Status.{failed}
 use Rattle.vb_model.specs.Refusals.{first_refusal}
 use Rattle.vb_ram.specs.Pages.{Pages, byte_at, page_at, frame_at, contents_at}
@@ -25,10 +31,13 @@ use Rattle.vb_ring.specs.Meaning.{UsedElem, ShowsEntries, Shows, Tracks}
 use Rattle.vb_ring.specs.Calls.{TakesUsedBy}
 use Rattle.vb_driver.specs.declared.answers.Posted.{Posted}
 use Rattle.vb_driver.specs.declared.answers.Reaped.{Reaped}
-use Rattle.vb_driver.specs.Coding.{IsCoded, SameButBuffer}
-use Rattle.vb_driver.specs.State.{Side, DriverState, AreRequests, IsDriver, fresh_side, sent_by, page_state}
+use Rattle.vb_driver.specs.Coding.{IsCoded, SameButBuffer, ring_pages}
+use Rattle.vb_driver.specs.State.{Side, DriverState, AreRequests, IsDriver, fresh_side, sent_by}
+use Rattle.vb_driver.specs.State.{page_state, index_values}
 use Rattle.vb_driver.specs.Areas.{Allots, all_given}
-use Rattle.vb_driver.specs.Answers.{refusal_in, inflate_count, deflate_count, oom_count, block_at, alloc_tests, free_tests, inflate_tests, deflate_tests, oom_tests, reap_tests, init_tests}
+use Rattle.vb_driver.specs.Answers.{refusal_in, inflate_count, deflate_count, oom_count, block_at}
+use Rattle.vb_driver.specs.Answers.{alloc_tests, free_tests, inflate_tests, deflate_tests}
+use Rattle.vb_driver.specs.Answers.{oom_tests, reap_tests, init_tests}
 
 -- Nothing is changed.
 pub record Unchanged (m1 m2 : Pages) (p1 p2 : Part) (d1 d2 : DriverState) : Type 0 where
@@ -48,14 +57,27 @@ pub record AreCountsOf (counts : PlaceCounts) (places : List Place) : Type 0 whe
 
 -- ---- pages of the guest's own
 
-pub record AllocatesBy (d1 d2 : DriverState) (cpu order : ℕ) (result : Result ℕ Refusal) : Type 0 where
+-- A block is used and held, and the page areas are these.
+abbrev pub after_alloc : DriverState → FreePages → Block → DriverState
+after_alloc d areas b =
+    record d {
+      places = placed (pages_of b) Used d.places;
+      held = with_block b d.held;
+      areas = areas;
+    }
+
+-- A block is allocated. Which one, and what it does to the areas and the processor's list, `areas`
+-- says; where there is none, all lists are drained.
+pub record AllocatesBy (d1 d2 : DriverState) (cpu order : ℕ)
+    (result : Result ℕ Refusal) : Type 0 where
   pub driver : IsDriver d1
   pub refusal : refusal_in result ≡ first_refusal (alloc_tests d1 cpu order)
   pub refused : OnErr result (d2 ≡ record d1 { areas = d2.areas })
   pub free : IfOk result (λ start. IsTrue (is_wholly_free d1.places (block_at start order)))
-  pub state : IfOk result (λ start. d2 ≡ record d1 { places = placed (pages_of (block_at start order)) Used d1.places; held = with_block (block_at start order) d1.held; areas = d2.areas })
+  pub state : IfOk result (λ start. d2 ≡ after_alloc d1 d2.areas (block_at start order))
   pub areas : Allots (page_state d1) cpu order result (page_state d2)
 
+-- A block is free again, in the areas or in the processor's list.
 abbrev pub after_free : DriverState → ℕ → ℕ → ℕ → DriverState
 after_free d cpu start order =
     record d {
@@ -64,7 +86,8 @@ after_free d cpu start order =
       areas = (freed cpu (block_at start order) (page_state d)).free;
     }
 
-pub record FreesBy {T : Type 0} (d1 d2 : DriverState) (cpu start order : ℕ) (result : Result T Refusal) : Type 0 where
+pub record FreesBy {T : Type 0} (d1 d2 : DriverState) (cpu start order : ℕ)
+    (result : Result T Refusal) : Type 0 where
   pub driver : IsDriver d1
   pub refusal : refusal_in result ≡ first_refusal (free_tests d1 cpu start order)
   pub refused : OnErr result (d2 ≡ d1)
@@ -72,18 +95,27 @@ pub record FreesBy {T : Type 0} (d1 d2 : DriverState) (cpu start order : ℕ) (r
 
 -- ---- requests
 
--- A request for these pages goes out on a queue whose buffers begin at page `base`: it has the lowest head that none of the queue's requests has, stands coded in its buffer, and is published last.
+-- A request for these pages goes out on a queue whose buffers begin at page `base`: it has the
+-- lowest head that none of the queue's requests has, stands coded in its buffer, and is published
+-- last.
 -- Other buffers, other pages, the used ring and the frames are as before.
-pub record Posts (m1 m2 : Pages) (s1 s2 : Side) (base : ℕ) (pages : List ℕ) (head : ℕ) : Type 0 where
+pub record Posts (m1 m2 : Pages) (s1 s2 : Side) (base : ℕ) (pages : List ℕ)
+    (head : ℕ) : Type 0 where
   pub lowest : next_head s1.ring ≡ Some head
   pub small : head < max_outstanding
-  pub state : s2 ≡ record { ring = after_add s1.ring 1 (Ok head); sent = slice_set s1.sent head pages }
+  pub state : s2
+      ≡ record { ring = after_add s1.ring 1 (Ok head); sent = slice_set s1.sent head pages }
   pub coded : IsCoded m2 s1.ring.layout.table base head pages
-  pub descriptors : (i : ℕ) → i < s1.ring.size → i ≢ head → descriptor_at m2 s1.ring.layout.table i ≡ descriptor_at m1 s1.ring.layout.table i
-  pub entries : (heads : List ℕ) (elems : List UsedElem) → length heads % 65536 ≡ s1.ring.published
-      → ShowsEntries m1 s1.ring.layout s1.ring.size heads elems → ShowsEntries m2 s1.ring.layout s1.ring.size (heads ++ head ∷ []) elems
-  pub shown : (heads : List ℕ) (elems : List UsedElem) (s : ℕ) → Tracks m1 s1.ring heads elems s → Shows m1 s1.ring.layout s1.ring.size heads elems
-      → Shows m2 s1.ring.layout s1.ring.size (heads ++ head ∷ []) elems × Tracks m2 s2.ring (heads ++ head ∷ []) elems s
+  pub descriptors : (i : ℕ) → i < s1.ring.size → i ≢ head
+      → descriptor_at m2 s1.ring.layout.table i ≡ descriptor_at m1 s1.ring.layout.table i
+  pub entries : (heads : List ℕ) (elems : List UsedElem)
+      → length heads % index_values ≡ s1.ring.published
+      → ShowsEntries m1 s1.ring.layout s1.ring.size heads elems
+      → ShowsEntries m2 s1.ring.layout s1.ring.size (heads ++ head ∷ []) elems
+  pub shown : (heads : List ℕ) (elems : List UsedElem) (s : ℕ) → Tracks m1 s1.ring heads elems s
+      → Shows m1 s1.ring.layout s1.ring.size heads elems
+      → Shows m2 s1.ring.layout s1.ring.size (heads ++ head ∷ []) elems
+      × Tracks m2 s2.ring (heads ++ head ∷ []) elems s
   pub rest : SameButBuffer m1 m2 s1.ring.layout.table base head
   pub requests : AreRequests s2
 
@@ -92,18 +124,25 @@ abbrev pub stranded_first : DriverState → ℕ → List ℕ
 stranded_first d count = take count (pages_where is_stranded d.places)
 
 -- Stranded pages, lowest first, then any free ones are offered to the host.
-pub record Offers (m1 m2 : Pages) (p1 p2 : Part) (d1 d2 : DriverState) (count : ℕ) (posted : Posted) : Type 0 where
+pub record Offers (m1 m2 : Pages) (p1 p2 : Part) (d1 d2 : DriverState) (count : ℕ)
+    (posted : Posted) : Type 0 where
   pub others : List ℕ
   pub free : IsTrue (list_all (λ page. is_free (place_of d1.places page)) others)
   pub distinct : AllDistinct others
   pub enough : length (stranded_first d1 count) + length others ≡ count
-  pub posts : Posts m1 m2 d1.inflate d2.inflate (buffers_page 0) (stranded_first d1 count ++ others) posted.head
+  pub posts : Posts m1 m2 d1.inflate d2.inflate (buffers_page 0)
+      (stranded_first d1 count ++ others) posted.head
   pub pages : posted.pages ≡ count
   pub part : p2 ≡ p1
-  pub state : d2 ≡ record d1 { places = placed (stranded_first d1 count ++ others) Giving d1.places; areas = d2.areas; inflate = d2.inflate }
+  pub state : d2 ≡ record d1 {
+    places = placed (stranded_first d1 count ++ others) Giving d1.places;
+    areas = d2.areas;
+    inflate = d2.inflate;
+  }
   pub areas : TakesFree (page_state d1) others (page_state d2)
 
-pub record InflatesBy (m1 m2 : Pages) (p1 p2 : Part) (d1 d2 : DriverState) (n : ℕ) (result : Result Posted Refusal) : Type 0 where
+pub record InflatesBy (m1 m2 : Pages) (p1 p2 : Part) (d1 d2 : DriverState) (n : ℕ)
+    (result : Result Posted Refusal) : Type 0 where
   pub driver : IsDriver d1
   pub refusal : refusal_in result ≡ first_refusal (inflate_tests d1 p1 n)
   pub refused : OnErr result (Unchanged m1 m2 p1 p2 d1 d2)
@@ -114,19 +153,25 @@ abbrev pub lowest_lent : DriverState → ℕ → List ℕ
 lowest_lent d count = take count (pages_where is_lent d.places)
 
 -- The lowest lent pages are asked back from the host.
-pub record AsksBack (m1 m2 : Pages) (p1 p2 : Part) (d1 d2 : DriverState) (count : ℕ) (posted : Posted) : Type 0 where
+pub record AsksBack (m1 m2 : Pages) (p1 p2 : Part) (d1 d2 : DriverState) (count : ℕ)
+    (posted : Posted) : Type 0 where
   pub posts : Posts m1 m2 d1.deflate d2.deflate (buffers_page 1) (lowest_lent d1 count) posted.head
   pub pages : posted.pages ≡ count
   pub part : p2 ≡ p1
-  pub state : d2 ≡ record d1 { places = placed (lowest_lent d1 count) Taking d1.places; deflate = d2.deflate }
+  pub state : d2 ≡ record d1 {
+    places = placed (lowest_lent d1 count) Taking d1.places;
+    deflate = d2.deflate;
+  }
 
-pub record DeflatesBy (m1 m2 : Pages) (p1 p2 : Part) (d1 d2 : DriverState) (n : ℕ) (result : Result Posted Refusal) : Type 0 where
+pub record DeflatesBy (m1 m2 : Pages) (p1 p2 : Part) (d1 d2 : DriverState) (n : ℕ)
+    (result : Result Posted Refusal) : Type 0 where
   pub driver : IsDriver d1
   pub refusal : refusal_in result ≡ first_refusal (deflate_tests d1 p1 n)
   pub refused : OnErr result (Unchanged m1 m2 p1 p2 d1 d2)
   pub asks : IfOk result (AsksBack m1 m2 p1 p2 d1 d2 (deflate_count d1 p1.target n))
 
-pub record DeflatesOnOomBy (m1 m2 : Pages) (p1 p2 : Part) (d1 d2 : DriverState) (n : ℕ) (result : Result Posted Refusal) : Type 0 where
+pub record DeflatesOnOomBy (m1 m2 : Pages) (p1 p2 : Part) (d1 d2 : DriverState) (n : ℕ)
+    (result : Result Posted Refusal) : Type 0 where
   pub driver : IsDriver d1
   pub refusal : refusal_in result ≡ first_refusal (oom_tests d1 p1 n)
   pub refused : OnErr result (Unchanged m1 m2 p1 p2 d1 d2)
@@ -139,7 +184,8 @@ abbrev pub side_of : ℕ → DriverState → Side
 side_of queue d = if queue == 0 then d.inflate else d.deflate
 
 abbrev pub with_side : ℕ → Side → DriverState → DriverState
-with_side queue side d = if queue == 0 then record d { inflate = side } else record d { deflate = side }
+with_side queue side d =
+    if queue == 0 then record d { inflate = side } else record d { deflate = side }
 
 -- Where the pages of a used request go.
 abbrev pub place_reaped : ℕ → Place
@@ -151,13 +197,24 @@ areas_reaped queue pages d = if queue == 0 then d.areas else (all_given pages (p
 
 -- The request is gone.
 abbrev pub after_reap : Side → ℕ → Side
-after_reap side head = record { ring = after_take side.ring (Ok (Some head)); sent = slice_set side.sent head [] }
+after_reap side head =
+    record { ring = after_take side.ring (Ok (Some head)); sent = slice_set side.sent head [] }
+
+-- These pages of a used request are where they go.
+abbrev pub moved_on : ℕ → List ℕ → DriverState → DriverState
+moved_on queue pages d =
+    record d {
+      places = placed pages (place_reaped queue) d.places;
+      areas = areas_reaped queue pages d;
+    }
 
 -- The used request's pages move on, and then `actual` is told.
 pub record Reaps (p1 p2 : Part) (d1 d2 : DriverState) (queue : ℕ) (reaped : Reaped) : Type 0 where
   pub small : reaped.head < max_outstanding
   pub pages : reaped.pages ≡ length (sent_by (side_of queue d1) reaped.head)
-  pub state : d2 ≡ with_side queue (after_reap (side_of queue d1) reaped.head) (record d1 { places = placed (sent_by (side_of queue d1) reaped.head) (place_reaped queue) d1.places; areas = areas_reaped queue (sent_by (side_of queue d1) reaped.head) d1 })
+  pub state : d2
+      ≡ with_side queue (after_reap (side_of queue d1) reaped.head)
+      (moved_on queue (sent_by (side_of queue d1) reaped.head) d1)
   pub part : p2 ≡ record p1 { actual = count_by is_lent_or_taking d2.places }
 
 -- What the answer says of the used request that stands next.
@@ -170,14 +227,16 @@ abbrev pub after_refusal : Refusal → Part → Part
 after_refusal RingBroken part = record part { status = bit_or part.status failed }
 after_refusal _ part = part
 
-pub record ReapsBy (m1 m2 : Pages) (p1 p2 : Part) (d1 d2 : DriverState) (queue : ℕ) (result : Result (Option Reaped) Refusal) : Type 0 where
+pub record ReapsBy (m1 m2 : Pages) (p1 p2 : Part) (d1 d2 : DriverState) (queue : ℕ)
+    (result : Result (Option Reaped) Refusal) : Type 0 where
   pub driver : IsDriver d1
   pub mem : m2 ≡ m1
   pub refusal : refusal_in result ≡ first_refusal (reap_tests m1 p1 d1 (side_of queue d1) queue)
   pub refused : OnErr result (d2 ≡ d1)
   pub failed : IfErr result (λ refusal. p2 ≡ after_refusal refusal p1)
   pub next : IfOk result (λ got. used_answer m1 (side_of queue d1).ring ≡ Ok (next_of got))
-  pub ring : OnOk result (TakesUsedBy m1 (side_of queue d1).ring (side_of queue d2).ring (used_answer m1 (side_of queue d1).ring))
+  pub ring : OnOk result (TakesUsedBy m1 (side_of queue d1).ring (side_of queue d2).ring
+      (used_answer m1 (side_of queue d1).ring))
   pub reaps : IfOk result (λ got. MatchOption got ((p2 ≡ p1) × (d2 ≡ d1)) (Reaps p1 p2 d1 d2 queue))
 
 -- ---- lives
@@ -187,14 +246,19 @@ pub record IsNewRing (mem : Pages) (side : Side) : Type 0 where
   pub shows : Shows mem side.ring.layout side.ring.size [] []
   pub tracks : Tracks mem side.ring [] [] 0
 
--- The rings begin anew in zeroed pages, and the device is told so: its status is ACKNOWLEDGE, DRIVER, FEATURES_OK and DRIVER_OK (1 + 2 + 8 + 4).
+-- The rings begin anew in zeroed pages, and the device is told so: its status is ACKNOWLEDGE,
+-- DRIVER, FEATURES_OK and DRIVER_OK (1 + 2 + 8 + 4).
 pub record Starts (m1 m2 : Pages) (p1 p2 : Part) (d1 d2 : DriverState) (wanted : ℕ) : Type 0 where
   pub part : p2 ≡ record (after_reset p1) { status = 15; features = wanted }
-  pub driver : d2 ≡ record d1 { inflate = fresh_side 0 d1.queue_size; deflate = fresh_side 1 d1.queue_size; features = wanted }
+  pub driver : d2 ≡ record d1 {
+    inflate = fresh_side 0 d1.queue_size;
+    deflate = fresh_side 1 d1.queue_size;
+    features = wanted;
+  }
   pub inflate : IsNewRing m2 d2.inflate
   pub deflate : IsNewRing m2 d2.deflate
-  pub zero : (page offset : ℕ) → page < 4 → offset < 4096 → byte_at m2 page offset ≡ 0
-  pub others : (page : ℕ) → 4 ≤ page → page_at m2 page ≡ page_at m1 page
+  pub zero : (page offset : ℕ) → page < ring_pages → offset < page_size → byte_at m2 page offset ≡ 0
+  pub others : (page : ℕ) → ring_pages ≤ page → page_at m2 page ≡ page_at m1 page
   pub backing : (page : ℕ) → frame_at m2 page ≡ frame_at m1 page
   pub sizes : (page : ℕ) → length (contents_at m2 page) ≡ length (contents_at m1 page)
   pub count : length m2 ≡ length m1
@@ -206,31 +270,42 @@ pub record Agrees (m1 m2 : Pages) (p1 p2 : Part) (d1 d2 : DriverState) (wanted :
   pub driver : d2 ≡ record d1 { features = wanted }
 
 -- The driver gives up, where the device was asked for features that it refused (128 + 2 + 1).
-pub record GivesUp (m1 m2 : Pages) (p1 p2 : Part) (d1 d2 : DriverState) (features : ℕ) : Type 0 where
+pub record GivesUp (m1 m2 : Pages) (p1 p2 : Part) (d1 d2 : DriverState)
+    (features : ℕ) : Type 0 where
   pub mem : m2 ≡ m1
   pub part : p2 ≡ record (after_reset p1) { status = 131; features = features }
   pub driver : d2 ≡ record d1 { features = features }
 
-abbrev pub InitRefused : Refusal → Pages → Pages → Part → Part → DriverState → DriverState → ℕ → Type 0
+abbrev pub InitRefused : Refusal → Pages → Pages → Part → Part → DriverState → DriverState → ℕ
+    → Type 0
 InitRefused AlreadyUp m1 m2 p1 p2 d1 d2 wanted = Unchanged m1 m2 p1 p2 d1 d2
 InitRefused NoFrame m1 m2 p1 p2 d1 d2 wanted = Unchanged m1 m2 p1 p2 d1 d2
-InitRefused refusal m1 m2 p1 p2 d1 d2 wanted = GivesUp m1 m2 p1 p2 d1 d2 (accepted_before refusal wanted)
+InitRefused refusal m1 m2 p1 p2 d1 d2 wanted =
+    GivesUp m1 m2 p1 p2 d1 d2 (accepted_before refusal wanted)
 
 -- The device is reset, and then asked for the features.
-pub record NegotiatesBy {T : Type 0} (m1 m2 : Pages) (p1 p2 : Part) (d1 d2 : DriverState) (wanted : ℕ) (result : Result T Refusal) : Type 0 where
+pub record NegotiatesBy {T : Type 0} (m1 m2 : Pages) (p1 p2 : Part) (d1 d2 : DriverState)
+    (wanted : ℕ) (result : Result T Refusal) : Type 0 where
   pub refusal : refusal_in result ≡ feature_refusal wanted
   pub refused : IfErr result (λ refusal. GivesUp m1 m2 p1 p2 d1 d2 (accepted_before refusal wanted))
   pub agrees : OnOk result (Agrees m1 m2 p1 p2 d1 d2 wanted)
 
-pub record InitsBy {T : Type 0} (m1 m2 : Pages) (p1 p2 : Part) (d1 d2 : DriverState) (wanted : ℕ) (result : Result T Refusal) : Type 0 where
+pub record InitsBy {T : Type 0} (m1 m2 : Pages) (p1 p2 : Part) (d1 d2 : DriverState) (wanted : ℕ)
+    (result : Result T Refusal) : Type 0 where
   pub driver : IsDriver d1
   pub refusal : refusal_in result ≡ first_refusal (init_tests m1 p1 wanted)
   pub refused : IfErr result (λ refusal. InitRefused refusal m1 m2 p1 p2 d1 d2 wanted)
   pub starts : OnOk result (Starts m1 m2 p1 p2 d1 d2 wanted)
 
--- A reset of the device: what was lent, or on its way, is stranded, and nothing is outstanding any more.
+-- A reset of the device: what was lent, or on its way, is stranded, and nothing is outstanding any
+-- more. The page areas stay as they are.
 pub record ResetsBy (m1 m2 : Pages) (p1 p2 : Part) (d1 d2 : DriverState) : Type 0 where
   pub driver : IsDriver d1
   pub mem : m2 ≡ m1
   pub part : p2 ≡ after_reset p1
-  pub state : d2 ≡ record d1 { places = map place_after_reset d1.places; inflate = fresh_side 0 d1.queue_size; deflate = fresh_side 1 d1.queue_size; features = 0 }
+  pub state : d2 ≡ record d1 {
+    places = map place_after_reset d1.places;
+    inflate = fresh_side 0 d1.queue_size;
+    deflate = fresh_side 1 d1.queue_size;
+    features = 0;
+  }

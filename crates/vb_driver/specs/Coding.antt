@@ -1,14 +1,26 @@
--- How a request stands in guest memory: VIRTIO 1.1, 5.5.6; where the buffers stand is the profile's.
+-- How a request stands in guest memory: VIRTIO 1.1, 5.5.6; where the buffers stand is the
+-- profile's.
 use Rattle.std.specs.Prelude.{◌≡◌, ◌≢◌, ℕ, ◌+◌, ◌*◌, ◌<◌, ◌≤◌, List, length, slice_index}
 use Rattle.vb_model.specs.Limits.{page_size}
 use Rattle.vb_model.specs.Layout.{buffer_page, buffer_offset}
+use Rattle.vb_model.specs.declared.layout.TheConstants.{REQUEST_BUFFER_SIZE, INFLATE_BUFFERS_PAGE}
 use Rattle.vb_ram.specs.Pages.{Pages, field, byte_at, page_at, frame_at, contents_at, SameIn}
 use Rattle.vb_chain.specs.declared.Descriptor.{Descriptor}
 use Rattle.vb_chain.specs.Table.{descriptor_at}
 
+-- the rings stand in the first pages, and the buffers follow
+abbrev pub ring_pages : ℕ
+ring_pages = INFLATE_BUFFERS_PAGE
+
 -- the readable descriptor of n page numbers in buffer h, where the buffers begin at a page
 abbrev pub buffer_of : ℕ → ℕ → ℕ → Descriptor
-buffer_of base h n = record { addr = page_size * buffer_page base h + buffer_offset h; len = 4 * n; flags = 0; next = 0 }
+buffer_of base h n =
+    record {
+      addr = page_size * buffer_page base h + buffer_offset h;
+      len = 4 * n;
+      flags = 0;
+      next = 0;
+    }
 
 -- these page numbers stand at the offset of the page
 pub record Names (mem : Pages) (p o : ℕ) (pages : List ℕ) : Type 0 where
@@ -22,13 +34,15 @@ pub record IsCoded (mem : Pages) (table base h : ℕ) (pages : List ℕ) : Type 
 -- nothing but the ring's page and buffer h has changed
 pub record SameButBuffer (old new : Pages) (ring base h : ℕ) : Type 0 where
   pub others : (p : ℕ) → p ≢ ring → p ≢ buffer_page base h → page_at new p ≡ page_at old p
-  pub buffers : (k : ℕ) → k ≢ h → SameIn old new (buffer_page base k) (buffer_offset k) (buffer_offset k + 1024)
+  pub buffers : (k : ℕ) → k ≢ h
+      → SameIn old new (buffer_page base k)
+      (buffer_offset k) (buffer_offset k + REQUEST_BUFFER_SIZE)
   pub backing : (p : ℕ) → frame_at new p ≡ frame_at old p
   pub count : length new ≡ length old
 
 -- the first n pages are zeros, all others as before
 pub record AreZeroed (old new : Pages) (n : ℕ) : Type 0 where
-  pub zero : (page offset : ℕ) → page < n → offset < 4096 → byte_at new page offset ≡ 0
+  pub zero : (page offset : ℕ) → page < n → offset < page_size → byte_at new page offset ≡ 0
   pub others : (page : ℕ) → n ≤ page → page_at new page ≡ page_at old page
   pub backing : (page : ℕ) → frame_at new page ≡ frame_at old page
   pub sizes : (page : ℕ) → length (contents_at new page) ≡ length (contents_at old page)

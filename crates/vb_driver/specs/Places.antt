@@ -1,7 +1,9 @@
 -- A table of places, and how many pages it has at each.
 use Rattle.std.specs.Prelude.{◌≡◌, ℕ, Bool, ◌==◌, List, length, ◌≤◌, slice_index, count_by}
 use Rattle.vb_model.specs.declared.places.Place.{Place}
-use Rattle.vb_model.specs.declared.places.Place.TheVariants.{Reserved, Free, Used, Giving, Lent, Taking, Stranded, Reporting}
+use Rattle.vb_model.specs.declared.limits.TheConstants.{MAX_GUEST_PAGES}
+use Rattle.vb_model.specs.declared.places.Place.TheVariants.{Reserved, Free, Used, Giving, Lent}
+use Rattle.vb_model.specs.declared.places.Place.TheVariants.{Taking, Stranded, Reporting}
 
 -- the places, numbered
 abbrev pub number_of : Place → ℕ
@@ -26,4 +28,4 @@ pub record AreCounts (counts : List ℕ) (places : List Place) : Type 0 where
 pub record IsTable (counts : List ℕ) (places : List Place) : Type 0 where
   pub kinds : length counts ≡ 8
   pub are_counts : AreCounts counts places
-  pub small : length places ≤ 16384
+  pub small : length places ≤ MAX_GUEST_PAGES

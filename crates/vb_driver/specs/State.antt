@@ -1,23 +1,29 @@
 -- What a balloon driver keeps.
-use Rattle.std.specs.Prelude.{◌≡◌, ℕ, ◌<◌, ◌≤◌, Bool, true, false, ◌==◌, ◌&&◌, not, List, [], length, min, sum_by, count_by, replicate, slice_index_or}
+use Rattle.std.specs.Prelude.{◌≡◌, ℕ, ◌<◌, ◌≤◌, true, false, List, []}
+use Rattle.std.specs.Prelude.{length, min, sum_by, count_by, replicate, slice_index_or}
 use Rattle.vb_model.specs.declared.places.Place.{Place}
 use Rattle.vb_model.specs.Limits.{max_outstanding}
-use Rattle.vb_model.specs.Pages.{Block, place_of, all_free, is_free, is_giving, is_lent, is_taking, is_stranded, is_reporting}
+use Rattle.vb_model.specs.declared.limits.TheConstants.{MIN_GUEST_PAGES, MAX_GUEST_PAGES}
+use Rattle.vb_model.specs.Pages.{Block, place_of, all_free, is_free, is_giving, is_lent, is_taking}
+use Rattle.vb_model.specs.Pages.{is_stranded, is_reporting}
 use Rattle.vb_model.specs.Layout.{ring_page}
 use Rattle.vb_model.specs.Tests.{one_if}
+use Rattle.vb_model.specs.Orderly.{times}
 use Rattle.vb_ring.specs.Layout.{IsSize, layout_of}
 use Rattle.vb_ring.specs.Entries.{is_head}
 use Rattle.vb_ring.specs.Ends.{DriverEnd, fresh_end, is_free as is_unused}
 pub use Rattle.vb_pages.specs.FreePages.{FreePages}
 use Rattle.vb_pages.specs.PageState.{PageState, fresh}
 
--- Of a queue of requests: the driver's end of its ring, and by head the pages of each request that is out, none where no request has the head.
+-- Of a queue of requests: the driver's end of its ring, and by head the pages of each request that
+-- is out, none where no request has the head.
 pub record Side : Type 0 where
   pub ring : DriverEnd
   pub sent : List (List ℕ)
 
--- A driver: how large its guest is, where each page is, the blocks that allocations hold, by rising start,
--- the page areas with each processor's list, its two queues, and the features that were accepted last.
+-- A driver: how large its guest is, where each page is, the blocks that allocations hold, by rising
+-- start, the page areas with each processor's list, its two queues, and the features that were
+-- accepted last.
 pub record DriverState : Type 0 where
   pub pages : ℕ
   pub queue_size : ℕ
@@ -57,12 +63,20 @@ sent_by side head = slice_index_or side.sent head []
 
 -- how often the requests name a page
 abbrev pub naming : ℕ → List (List ℕ) → ℕ
-naming page sent = sum_by (λ pages. count_by (λ p. p == page) pages) sent
+naming page sent = sum_by (times page) sent
+
+-- how many values an index of a ring has: VIRTIO 1.1, 2.6
+abbrev pub index_values : ℕ
+index_values = 65536
 
 -- ---- a queue of which nothing is out
 
 abbrev pub fresh_at : ℕ → ℕ → Side
-fresh_at page size = record { ring = fresh_end (layout_of page size) size; sent = replicate max_outstanding [] }
+fresh_at page size =
+    record {
+      ring = fresh_end (layout_of page size) size;
+      sent = replicate max_outstanding [];
+    }
 
 abbrev pub fresh_side : ℕ → ℕ → Side
 fresh_side queue size = fresh_at (ring_page queue) size
@@ -84,7 +98,7 @@ fresh_driver pages queue_size processors =
 
 -- ---- what holds of each driver
 
--- Each descriptor that is in use is a request of its own, and one of the first 16.
+-- Each descriptor that is in use is a request of its own, and one of the first `max_outstanding`.
 pub record AreRequests (side : Side) : Type 0 where
   pub single : (i : ℕ) → is_unused side.ring.owner i ≡ false → is_head side.ring.owner i ≡ true
   pub few : (i : ℕ) → is_head side.ring.owner i ≡ true → i < max_outstanding
@@ -99,8 +113,8 @@ pub record IsQueue (side : Side) (queue descriptors : ℕ) : Type 0 where
 -- A page that a request names is giving or taking, and no other names it.
 pub record IsDriver (d : DriverState) : Type 0 where
   pub table : length d.places ≡ d.pages
-  pub least : 64 ≤ d.pages
-  pub most : d.pages ≤ 16384
+  pub least : MIN_GUEST_PAGES ≤ d.pages
+  pub most : d.pages ≤ MAX_GUEST_PAGES
   pub size : IsSize d.queue_size
   pub inflate : IsQueue d.inflate 0 d.queue_size
   pub deflate : IsQueue d.deflate 1 d.queue_size

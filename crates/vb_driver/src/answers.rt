@@ -1,4 +1,4 @@
-// What the driver's calls answer.
+//! What the driver's calls answer.
 
 /// A request that was posted.
 #[derive(Clone, Copy, Debug, PartialEq, Eq)]

@@ -1,17 +1,24 @@
-// The guest's page areas, as the driver uses them.
+//! The guest's page areas, as the driver uses them.
 
-ghost use Rattle.std.specs.Prelude.{◌≡◌, ◌<◌, ◌≤◌, ◌==◌, ◌∷◌, [], ℕ, false, true, Ok, Err, IfOk, OnOk, OnErr, IsTrue, length, map, not, nat_lt, nat_le, count_by};
+ghost use Rattle.std.specs.Prelude.{◌≡◌, ◌<◌, ◌≤◌, ◌==◌, ◌∷◌, [], ℕ, false, true, Ok, Err, IfOk};
+ghost use Rattle.std.specs.Prelude.{OnOk, OnErr, IsTrue, length, map, not, nat_lt, nat_le};
+ghost use Rattle.std.specs.Prelude.{count_by};
 ghost use Rattle.std.specs.List.{list_all, list_any, range_with_len};
 ghost use Rattle.vb_model.specs.Tests.{is_in};
 ghost use Rattle.vb_model.specs.Pages.{pages_of, is_free, all_free, is_same_block};
 ghost use Rattle.vb_model.specs.Driver.{AllDistinct, with_block, without_block};
-ghost use Rattle.vb_model.specs.Limits.{max_order, reserved_pages};
+ghost use Rattle.vb_model.specs.Limits.{max_order, max_request_pages, reserved_pages};
+ghost use Rattle.vb_model.specs.Orderly.{times};
 ghost use Rattle.vb_model.specs.Refusals.{◌⇒◌, first_refusal};
-ghost use Rattle.vb_model.specs.declared.replies.Refusal.TheVariants.{BadOrder, BadCpu, NoPages, NotHeld};
-ghost use Rattle.vb_pages.specs.PageState.{IsSize, cpu_count, fresh, freed, given, TakesFree};
+ghost use Rattle.vb_model.specs.declared.replies.Refusal.TheVariants.{BadOrder, BadCpu, NoPages};
+ghost use Rattle.vb_model.specs.declared.replies.Refusal.TheVariants.{NotHeld};
+ghost use Rattle.vb_pages.specs.PageState.{IsSize, cpu_count, is_held_block, fresh, freed, given};
+ghost use Rattle.vb_pages.specs.PageState.{TakesFree};
 ghost use Rattle.vb_driver.specs.Answers.{refusal_in, block_at};
-ghost use Rattle.vb_driver.specs.Areas.{AreApart, Becomes, Allots, flags_of, has_block, all_given, is_free_at, is_covered, flagged, is_free_block, refusal_of};
+ghost use Rattle.vb_driver.specs.Areas.{AreApart, Becomes, Allots, flags_of, has_block, all_given};
+ghost use Rattle.vb_driver.specs.Areas.{is_free_at, is_covered, flagged, is_free_block, refusal_of};
 
+use crate::queue::RequestPages;
 use arrayvec::ArrayVec;
 use std::alloc::{AllocError, Global};
 use std::marker::Model;
@@ -22,6 +29,7 @@ use vb_pages::{PageFault, Pages};
 /// needs beside them is which pages are free, wherever they stand.
 #[derive(Drop)]
 pub(crate) struct Areas {
+    /// The allocator.
     pages: Pages,
 }
 
@@ -58,10 +66,18 @@ impl Areas {
 
     /// Allocates a block.
     pub(crate) fn alloc(&mut self, cpu: u32, order: u32) -> Result<u32, Refusal>
-        ensures refusal { refusal_in result ≡ first_refusal ((nat_lt max_order order ⇒ BadOrder) ∷ (nat_le (cpu_count self.old) cpu ⇒ BadCpu) ∷ (not (has_block self.old order) ⇒ NoPages) ∷ []) }
-        ensures refused { OnErr result (Becomes self.old self.new (flags_of self.old.free) self.old.held) }
-        ensures free { IfOk result (λ start. IsTrue (is_free_block (flags_of self.old.free) (block_at start order))) }
-        ensures state { IfOk result (λ start. Becomes self.old self.new (flagged (pages_of (block_at start order)) false (flags_of self.old.free)) (with_block (block_at start order) self.old.held)) }
+        ensures refusal { refusal_in result ≡ first_refusal (
+            (nat_lt max_order order ⇒ BadOrder)
+            ∷ (nat_le (cpu_count self.old) cpu ⇒ BadCpu)
+            ∷ (not (has_block self.old order) ⇒ NoPages)
+            ∷ []) }
+        ensures refused { OnErr result
+            (Becomes self.old self.new (flags_of self.old.free) self.old.held) }
+        ensures free { IfOk result (λ start.
+            IsTrue (is_free_block (flags_of self.old.free) (block_at start order))) }
+        ensures state { IfOk result (λ start. Becomes self.old self.new
+            (flagged (pages_of (block_at start order)) false (flags_of self.old.free))
+            (with_block (block_at start order) self.old.held)) }
         ensures areas { Allots self.old cpu order result self.new }
     {
         // A free page is one of the guest's pages.
@@ -74,9 +90,15 @@ impl Areas {
 
     /// Frees a block that an allocation holds.
     pub(crate) fn free(&mut self, cpu: u32, start: u32, order: u32) -> Result<(), Refusal>
-        ensures refusal { refusal_in result ≡ first_refusal ((nat_lt max_order order ⇒ BadOrder) ∷ (nat_le (cpu_count self.old) cpu ⇒ BadCpu) ∷ (not (list_any (λ h. is_same_block h (block_at start order)) self.old.held) ⇒ NotHeld) ∷ []) }
+        ensures refusal { refusal_in result ≡ first_refusal (
+            (nat_lt max_order order ⇒ BadOrder)
+            ∷ (nat_le (cpu_count self.old) cpu ⇒ BadCpu)
+            ∷ (not (is_held_block self.old (block_at start order)) ⇒ NotHeld)
+            ∷ []) }
         ensures refused { OnErr result (self.new ≡ self.old) }
-        ensures state { OnOk result (Becomes self.old self.new (flagged (pages_of (block_at start order)) true (flags_of self.old.free)) (without_block (block_at start order) self.old.held)) }
+        ensures state { OnOk result (Becomes self.old self.new
+            (flagged (pages_of (block_at start order)) true (flags_of self.old.free))
+            (without_block (block_at start order) self.old.held)) }
         ensures areas { OnOk result (self.new ≡ freed cpu (block_at start order) self.old) }
         ensures apart { AreApart self.new }
     {
@@ -90,13 +112,14 @@ impl Areas {
     }
 
     /// Takes single free pages, so many; the lists of all processors are drained first.
-    pub(crate) fn take_free(&mut self, count: u32) -> ArrayVec<u32, 256>
-        requires few { count ≤ 256 }
+    pub(crate) fn take_free(&mut self, count: u32) -> RequestPages
+        requires few { count ≤ max_request_pages }
         requires free { count ≤ count_by (λ f. f) (flags_of self.old.free) }
         ensures count { length result.items ≡ count }
         ensures free { IsTrue (list_all (is_free_at (flags_of self.old.free)) result.items) }
         ensures distinct { AllDistinct result.items }
-        ensures state { Becomes self.old self.new (flagged result.items false (flags_of self.old.free)) self.old.held }
+        ensures state { Becomes self.old self.new
+            (flagged result.items false (flags_of self.old.free)) self.old.held }
         ensures areas { TakesFree self.old result.items self.new }
     {
         // A free page is one of the guest's pages.
@@ -112,7 +135,8 @@ impl Areas {
         requires inside { page < length (flags_of self.old.free) }
         requires taken { is_free_at (flags_of self.old.free) page ≡ false }
         requires uncovered { is_covered page self.old.held ≡ false }
-        ensures state { Becomes self.old self.new (flagged (page ∷ []) true (flags_of self.old.free)) self.old.held }
+        ensures state { Becomes self.old self.new
+            (flagged (page ∷ []) true (flags_of self.old.free)) self.old.held }
         ensures areas { self.new ≡ given (block_at page 0) self.old }
     {
         self.pages.give_free(page);
@@ -121,11 +145,15 @@ impl Areas {
     /// Gives these pages back, which were taken and of which none stands twice.
     pub(crate) fn give_all(&mut self, pages: &[u32])
         requires unreserved { (page : ℕ) → is_in page pages.now ≡ true → reserved_pages ≤ page }
-        requires inside { (page : ℕ) → is_in page pages.now ≡ true → page < length (flags_of self.old.free) }
-        requires taken { (page : ℕ) → is_in page pages.now ≡ true → is_free_at (flags_of self.old.free) page ≡ false }
-        requires uncovered { (page : ℕ) → is_in page pages.now ≡ true → is_covered page self.old.held ≡ false }
-        requires once { (page : ℕ) → count_by (λ p. p == page) pages.now ≤ 1 }
-        ensures state { Becomes self.old self.new (flagged pages.now true (flags_of self.old.free)) self.old.held }
+        requires inside { (page : ℕ) → is_in page pages.now ≡ true
+            → page < length (flags_of self.old.free) }
+        requires taken { (page : ℕ) → is_in page pages.now ≡ true
+            → is_free_at (flags_of self.old.free) page ≡ false }
+        requires uncovered { (page : ℕ) → is_in page pages.now ≡ true
+            → is_covered page self.old.held ≡ false }
+        requires once { (page : ℕ) → times page pages.now ≤ 1 }
+        ensures state { Becomes self.old self.new
+            (flagged pages.now true (flags_of self.old.free)) self.old.held }
         ensures areas { self.new ≡ all_given pages.now self.old }
     {
         for page in pages {

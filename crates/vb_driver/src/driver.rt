@@ -1,8 +1,10 @@
-// The balloon driver, and the pages of the guest's own.
+//! The balloon driver, and the pages of the guest's own.
 
-ghost use Rattle.std.specs.Prelude.{◌≡◌, ◌<◌, ◌≤◌, ◌+◌, ◌*◌, true, IfOk, IsTrue, length, count_by, min};
+ghost use Rattle.std.specs.Prelude.{◌≡◌, ◌<◌, ◌≤◌, ◌+◌, ◌*◌, true, IfOk, IsTrue, length, count_by};
+ghost use Rattle.std.specs.Prelude.{min};
 ghost use Rattle.vb_model.specs.Limits.{is_config};
-ghost use Rattle.vb_model.specs.Pages.{place_of, is_used, is_free, is_giving, is_lent, is_taking, is_stranded, is_reporting, is_lent_or_taking};
+ghost use Rattle.vb_model.specs.Pages.{place_of, is_used, is_free, is_giving, is_lent, is_taking};
+ghost use Rattle.vb_model.specs.Pages.{is_stranded, is_reporting, is_lent_or_taking};
 ghost use Rattle.vb_driver.specs.State.{IsDriver, fresh_driver};
 ghost use Rattle.vb_driver.specs.Calls.{AllocatesBy, FreesBy, AreCountsOf};
 
@@ -17,15 +19,20 @@ use vb_model::{Place, PlaceCounts, Refusal};
 use vb_ram::Config;
 use vb_status::Features;
 
-/// The balloon driver of a guest (VIRTIO 1.1, 5.5.6): where each page of the guest is, the page
-/// areas, and the requests that are out.
+/// The balloon driver of a guest (VIRTIO 1.1, 5.5.6).
 #[derive(Drop)]
 pub struct Driver {
+    /// How large the guest is.
     pub(crate) config: Config,
+    /// Where each page is.
     pub(crate) places: PlaceTable,
+    /// The free pages and the held blocks.
     pub(crate) areas: Areas,
+    /// The inflate requests that are out.
     pub(crate) inflate: RequestQueue,
+    /// The deflate requests that are out.
     pub(crate) deflate: RequestQueue,
+    /// The features that were accepted last.
     pub(crate) features: Features,
 }
 
@@ -36,9 +43,29 @@ impl Model for Driver {
 
     ghost Value = { DriverState };
 
-    ghost view = { λ d. record { pages = d.config.pages; queue_size = d.config.queue_size; processors = d.config.processors; places = d.places; held = d.areas.held; areas = d.areas.free; inflate = d.inflate; deflate = d.deflate; features = feature_bits d.features } };
+    ghost view = { λ d. record {
+      pages = d.config.pages;
+      queue_size = d.config.queue_size;
+      processors = d.config.processors;
+      places = d.places;
+      held = d.areas.held;
+      areas = d.areas.free;
+      inflate = d.inflate;
+      deflate = d.deflate;
+      features = feature_bits d.features;
+    } };
 
-    ghost invariant = { λ d. IsKept (record { pages = d.config.pages; queue_size = d.config.queue_size; processors = d.config.processors; places = d.places; held = d.areas.held; areas = d.areas.free; inflate = d.inflate; deflate = d.deflate; features = feature_bits d.features }) };
+    ghost invariant = { λ d. IsKept (record {
+      pages = d.config.pages;
+      queue_size = d.config.queue_size;
+      processors = d.config.processors;
+      places = d.places;
+      held = d.areas.held;
+      areas = d.areas.free;
+      inflate = d.inflate;
+      deflate = d.deflate;
+      features = feature_bits d.features;
+    }) };
 }
 
 impl Driver {
@@ -46,7 +73,8 @@ impl Driver {
     /// All memory that a driver needs is taken here; no other call takes any.
     pub fn new(alloc: Global, config: Config) -> Result<Driver, AllocError>
         requires { is_config config.pages config.queue_size config.processors ≡ true }
-        ensures { IfOk result (λ driver. driver ≡ fresh_driver config.pages config.queue_size config.processors) }
+        ensures { IfOk result (λ driver.
+            driver ≡ fresh_driver config.pages config.queue_size config.processors) }
     {
         Ok(Driver {
             config,

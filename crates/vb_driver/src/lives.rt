@@ -1,12 +1,13 @@
-// A guest's driver starts, and starts over (VIRTIO 1.1, 2.1 and 3.1.1).
+//! A guest's driver starts, and starts over (VIRTIO 1.1, 2.1 and 3.1.1).
 
 ghost use Rattle.std.specs.Prelude.{◌≡◌, ◌<◌, ◌≤◌, ℕ, IsSome, length};
 ghost use Rattle.vb_ram.specs.Pages.{frame_at};
 ghost use Rattle.vb_status.specs.After.{after_reset, with_new_queues};
 ghost use Rattle.vb_status.specs.Answers.{refusal_of_fault};
 ghost use Rattle.vb_status.specs.Bits.{feature_bits};
+ghost use Rattle.vb_driver.specs.Answers.{IsBacked, IsLargeEnough};
 ghost use Rattle.vb_driver.specs.State.{IsDriver, fresh_side};
-ghost use Rattle.vb_driver.specs.Coding.{AreZeroed};
+ghost use Rattle.vb_driver.specs.Coding.{AreZeroed, ring_pages};
 ghost use Rattle.vb_driver.specs.Calls.{IsNewRing, InitsBy, NegotiatesBy, ResetsBy};
 
 use crate::Driver;
@@ -43,7 +44,8 @@ fn begin<P: Port>(port: &mut P)
 impl Driver {
     /// Resets the device and agrees with it on the features, or gives up.
     fn negotiate<P: Port>(&mut self, port: &mut P, wanted: Features) -> Result<(), Refusal>
-        ensures { NegotiatesBy (P.mem port.old) (P.mem port.new) (P.part port.old) (P.part port.new) self.old self.new (feature_bits wanted) result }
+        ensures { NegotiatesBy (P.mem port.old) (P.mem port.new) (P.part port.old) (P.part port.new)
+            self.old self.new (feature_bits wanted) result }
     {
         begin(port);
         self.features = Features::empty();
@@ -63,13 +65,17 @@ impl Driver {
     /// Begins the rings anew in zeroed pages, and tells the device that they are ready.
     fn start<P: Port>(&mut self, port: &mut P)
         requires status { (P.part port.old).status ≡ 11 }
-        requires memory { 64 ≤ length (P.mem port.old) }
-        requires backed { (p : ℕ) → p < 13 → IsSome (frame_at (P.mem port.old) p) }
-        ensures part { P.part port.new ≡ record (with_new_queues (P.part port.old)) { status = 15 } }
-        ensures driver { self.new ≡ record self.old { inflate = fresh_side 0 self.old.queue_size; deflate = fresh_side 1 self.old.queue_size } }
+        requires memory { IsLargeEnough (P.mem port.old) }
+        requires backed { IsBacked (P.mem port.old) }
+        ensures part { P.part port.new
+            ≡ record (with_new_queues (P.part port.old)) { status = 15 } }
+        ensures driver { self.new ≡ record self.old {
+          inflate = fresh_side 0 self.old.queue_size;
+          deflate = fresh_side 1 self.old.queue_size;
+        } }
         ensures inflate { IsNewRing (P.mem port.new) self.new.inflate }
         ensures deflate { IsNewRing (P.mem port.new) self.new.deflate }
-        ensures rings { AreZeroed (P.mem port.old) (P.mem port.new) 4 }
+        ensures rings { AreZeroed (P.mem port.old) (P.mem port.new) ring_pages }
     {
         zero_rings(port);
         self.inflate
@@ -80,18 +86,20 @@ impl Driver {
         let _ = port.write_status(ready);
     }
 
-    /// Initialises the device with these features (VIRTIO 1.1, 3.1.1 and 5.5.5): nothing is out from
-    /// then on, and the rings' pages are zeroed. The driver can be initialised again only once the
-    /// device was reset.
+    /// Initialises the device with these features (VIRTIO 1.1, 3.1.1 and 5.5.5): nothing is out
+    /// from then on, and the rings' pages are zeroed. The driver can be initialised again only once
+    /// the device was reset.
     ///
     /// Refused for `AlreadyUp` (the status isn't 0), `NoFrame` (one of the pages of the rings and
     /// buffers, 0 to 12, has no frame); then nothing is changed. Refused for `FeatureNotOffered`,
     /// `MustTellMissing` and `VersionMissing` (these two features are needed): the driver gives
     /// up then, by FAILED in the status.
     pub fn init<P: Port>(&mut self, port: &mut P, wanted: Features) -> Result<(), Refusal>
-        requires memory { 64 ≤ length (P.mem port.old) }
-        ensures { InitsBy (P.mem port.old) (P.mem port.new) (P.part port.old) (P.part port.new) self.old self.new (feature_bits wanted) result }
+        requires memory { IsLargeEnough (P.mem port.old) }
+        ensures { InitsBy (P.mem port.old) (P.mem port.new) (P.part port.old) (P.part port.new)
+            self.old self.new (feature_bits wanted) result }
     {
+        // What holds of each driver is known from here on, where the call is refused too.
         let _places = &self.places;
         if !port.status().is_empty() {
             return Err(Refusal::AlreadyUp);
@@ -108,7 +116,8 @@ impl Driver {
     /// or named by a request, are stranded: the host may have them, and they are offered first once
     /// the device is initialised again.
     pub fn reset<P: Port>(&mut self, port: &mut P)
-        ensures { ResetsBy (P.mem port.old) (P.mem port.new) (P.part port.old) (P.part port.new) self.old self.new }
+        ensures { ResetsBy (P.mem port.old) (P.mem port.new) (P.part port.old) (P.part port.new)
+            self.old self.new }
     {
         let _ = port.write_status(Status::empty());
         self.places.strand();

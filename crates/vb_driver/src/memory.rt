@@ -1,9 +1,10 @@
-// What the driver writes into guest memory beside its rings.
+//! What the driver writes into guest memory beside its rings.
 
 ghost use Rattle.std.specs.Prelude.{◌≡◌, ℕ, ◌+◌, ◌*◌, ◌<◌, ◌≤◌, IsSome, is_some, length};
+ghost use Rattle.vb_model.specs.Limits.{page_size};
 ghost use Rattle.vb_ram.specs.Pages.{byte_at, frame_at, Covers, SameBut};
-ghost use Rattle.vb_driver.specs.Coding.{Names, AreZeroed};
-ghost use Rattle.vb_driver.specs.Answers.{has_frames};
+ghost use Rattle.vb_driver.specs.Coding.{Names, AreZeroed, ring_pages};
+ghost use Rattle.vb_driver.specs.Answers.{has_frames, IsBacked, IsLargeEnough};
 
 use vb_model::layout::{INFLATE_BUFFERS_PAGE, INFLATE_RING_PAGE};
 use vb_model::limits::RING_AND_BUFFER_PAGES;
@@ -19,7 +20,8 @@ pub(crate) fn write_numbers<G: GuestBytes>(ram: &mut G, page: u32, offset: usize
     requires backed { IsSome (frame_at (G.mem ram.old) page) }
     ensures part { G.part ram.new ≡ G.part ram.old }
     ensures names { Names (G.mem ram.new) page offset pages.now }
-    ensures rest { SameBut (G.mem ram.old) (G.mem ram.new) page offset (offset + 4 * length pages.now) }
+    ensures rest { SameBut (G.mem ram.old) (G.mem ram.new)
+        page offset (offset + 4 * length pages.now) }
 {
     for k in 0..pages.len() {
         write_u32(ram, page, offset + 4 * k, pages[k]);
@@ -41,7 +43,7 @@ pub(crate) fn has_frame<G: GuestBytes>(ram: &mut G, page: u32) -> bool
 
 /// Whether all pages of rings and buffers have frames; nothing is changed.
 pub(crate) fn all_backed<G: GuestBytes>(ram: &mut G) -> bool
-    requires { 64 ≤ length (G.mem ram.old) }
+    requires { IsLargeEnough (G.mem ram.old) }
     ensures value { result ≡ has_frames (G.mem ram.old) }
     ensures mem { G.mem ram.new ≡ G.mem ram.old }
     ensures part { G.part ram.new ≡ G.part ram.old }
@@ -58,8 +60,8 @@ pub(crate) fn all_backed<G: GuestBytes>(ram: &mut G) -> bool
 fn zero_page<G: GuestBytes>(ram: &mut G, page: u32)
     requires inside { page < length (G.mem ram.old) }
     requires backed { IsSome (frame_at (G.mem ram.old) page) }
-    ensures zero { (offset : ℕ) → offset < 4096 → byte_at (G.mem ram.new) page offset ≡ 0 }
-    ensures rest { SameBut (G.mem ram.old) (G.mem ram.new) page 0 4096 }
+    ensures zero { (offset : ℕ) → offset < page_size → byte_at (G.mem ram.new) page offset ≡ 0 }
+    ensures rest { SameBut (G.mem ram.old) (G.mem ram.new) page 0 page_size }
     ensures part { G.part ram.new ≡ G.part ram.old }
 {
     let zeros = [0; ZEROS];
@@ -70,9 +72,9 @@ fn zero_page<G: GuestBytes>(ram: &mut G, page: u32)
 
 /// Makes all bytes of the rings' pages zeros.
 pub(crate) fn zero_rings<G: GuestBytes>(ram: &mut G)
-    requires memory { 64 ≤ length (G.mem ram.old) }
-    requires backed { (p : ℕ) → p < 13 → IsSome (frame_at (G.mem ram.old) p) }
-    ensures zeroed { AreZeroed (G.mem ram.old) (G.mem ram.new) 4 }
+    requires memory { IsLargeEnough (G.mem ram.old) }
+    requires backed { IsBacked (G.mem ram.old) }
+    ensures zeroed { AreZeroed (G.mem ram.old) (G.mem ram.new) ring_pages }
     ensures part { G.part ram.new ≡ G.part ram.old }
 {
     for page in INFLATE_RING_PAGE..INFLATE_BUFFERS_PAGE {

@@ -1,21 +1,28 @@
-// Where each page of the guest is.
+//! Where each page of the guest is.
 
-ghost use Rattle.std.specs.Prelude.{◌≡◌, ◌≤◌, ◌<◌, ◌+◌, ◌^◌, ℕ, true, length, take, map, slice_set, count_by, IfOk};
+ghost use Rattle.std.specs.Prelude.{◌≡◌, ◌≤◌, ◌<◌, ◌+◌, ◌^◌, ℕ, true, length, take, map, slice_set};
+ghost use Rattle.std.specs.Prelude.{count_by, IfOk};
 ghost use Rattle.vb_model.specs.Tests.{is_in, pages_where};
 ghost use Rattle.vb_model.specs.Pages.{all_free, placed, place_of, pages_of, is_lent_or_taking};
+ghost use Rattle.vb_model.specs.Limits.{max_order, max_request_pages, reserved_pages};
+ghost use Rattle.vb_model.specs.declared.limits.TheConstants.{MAX_GUEST_PAGES};
 ghost use Rattle.vb_model.specs.Life.{place_after_reset};
+ghost use Rattle.vb_driver.specs.Answers.{block_at};
 ghost use Rattle.vb_driver.specs.Places.{number_of, is_at};
 
+use crate::queue::RequestPages;
 use arrayvec::ArrayVec;
 use std::alloc::{AllocError, Global};
 use std::marker::Model;
 use vb_model::Place;
 use vb_model::limits::RESERVED_PAGES;
 
-/// The place of each page, and how many pages each place has. A contract sees the places.
+/// Where each page is. A contract sees the places, by page.
 #[derive(Drop)]
 pub(crate) struct PlaceTable {
+    /// The place of each page.
     places: Vec<Place>,
+    /// How many pages have a place, by the number of the place.
     counts: [u32; 8],
 }
 
@@ -49,9 +56,9 @@ fn number_of(place: Place) -> usize
 
 /// How many pages a block of the order has.
 fn size_of(order: u32) -> u32
-    requires { order ≤ 9 }
+    requires { order ≤ max_order }
     ensures size { result ≡ 2 ^ order }
-    ensures small { result ≤ 512 }
+    ensures small { result ≤ 2 ^ max_order }
 {
     1 << order
 }
@@ -81,8 +88,8 @@ impl PlaceTable {
 
     /// The table of a guest of so many pages as it is plugged in: all unreserved pages are free.
     pub(crate) fn new(alloc: Global, pages: u32) -> Result<Self, AllocError>
-        requires most { pages ≤ 16384 }
-        requires least { 16 ≤ pages }
+        requires most { pages ≤ MAX_GUEST_PAGES }
+        requires least { reserved_pages ≤ pages }
         ensures { IfOk result (λ table. table ≡ all_free pages) }
     {
         let mut places = vec![in alloc; Place::Reserved; pages as usize]?;
@@ -107,10 +114,11 @@ impl PlaceTable {
 
     /// Moves the pages of a block to a place.
     pub(crate) fn set_block(&mut self, start: u32, order: u32, place: Place)
-        requires order { order ≤ 9 }
+        requires order { order ≤ max_order }
         requires inside { start + 2 ^ order ≤ length self.old }
-        ensures { self.new ≡ placed (pages_of (record { start = start; order = order })) place self.old }
+        ensures { self.new ≡ placed (pages_of (block_at start order)) place self.old }
     {
+        // What holds of each table, as how many pages it has, is known from here on.
         let _places = &self.places;
         for page in start..start + size_of(order) {
             self.set(page, place);
@@ -125,8 +133,8 @@ impl PlaceTable {
     }
 
     /// The lowest pages that have a place, so many at most.
-    pub(crate) fn lowest(&self, place: Place, most: u32) -> ArrayVec<u32, 256>
-        requires { most ≤ 256 }
+    pub(crate) fn lowest(&self, place: Place, most: u32) -> RequestPages
+        requires { most ≤ max_request_pages }
         ensures { result.items ≡ take most (pages_where (is_at place) self.now) }
     {
         let mut lowest = ArrayVec::new();

@@ -1,11 +1,16 @@
-// The driver's side of a queue of requests.
+//! The driver's side of a queue of requests.
 
-ghost use Rattle.std.specs.Prelude.{◌≡◌, ◌<◌, ◌≤◌, ℕ, [], Ok, Err, None, Some, IfOk, IfErr, MatchOption, OnErr, OnOk, IsSome, length, slice_set, min, replicate};
+ghost use Rattle.std.specs.Prelude.{◌≡◌, ◌<◌, ◌≤◌, ℕ, [], Ok, Err, None, Some, IfOk, IfErr};
+ghost use Rattle.std.specs.Prelude.{MatchOption, OnErr, OnOk, IsSome, length, slice_set, min};
+ghost use Rattle.std.specs.Prelude.{replicate};
 ghost use Rattle.vb_model.specs.Limits.{max_outstanding};
+ghost use Rattle.vb_model.specs.Layout.{buffers_page};
 ghost use Rattle.vb_ram.specs.Pages.{frame_at};
 ghost use Rattle.vb_ring.specs.Layout.{IsSize, IsInside, layout_of};
 ghost use Rattle.vb_ring.specs.Ends.{outstanding, used_answer};
 ghost use Rattle.vb_ring.specs.Calls.{TakesUsedBy};
+ghost use Rattle.vb_driver.specs.Coding.{ring_pages};
+ghost use Rattle.vb_driver.specs.Answers.{IsBacked, IsLargeEnough};
 ghost use Rattle.vb_driver.specs.State.{AreRequests, fresh_at, sent_by};
 ghost use Rattle.vb_driver.specs.Calls.{Posts, after_reap};
 
@@ -15,14 +20,21 @@ use std::alloc::{AllocError, Global};
 use std::marker::Model;
 use vb_chain::Piece;
 use vb_model::layout::REQUEST_BUFFER_SIZE;
-use vb_model::limits::{MAX_OUTSTANDING, PAGE_SIZE};
+use vb_model::limits::{MAX_OUTSTANDING, MAX_REQUEST_PAGES, PAGE_SIZE};
 use vb_ram::GuestBytes;
 use vb_ring::{DriverRing, RingBroken};
+
+/// How many pages a request names at most.
+const REQUEST_PAGES: usize = MAX_REQUEST_PAGES as usize;
+
+/// The pages of a request.
+pub(crate) type RequestPages = ArrayVec<u32, { REQUEST_PAGES }>;
 
 /// The pages of a request that is out; none where no request is.
 #[derive(Drop)]
 pub(crate) struct Sent {
-    pages: ArrayVec<u32, 256>,
+    /// Its pages, in the order in which the buffer has them.
+    pages: RequestPages,
 }
 
 impl Model for Sent {
@@ -43,10 +55,12 @@ impl Sent {
     }
 }
 
-/// The driver's end of a queue's ring, and the pages of each request that is out, by head.
+/// The driver's side of a queue of requests.
 #[derive(Drop)]
 pub(crate) struct RequestQueue {
+    /// The driver's end of the ring.
     ring: DriverRing,
+    /// The pages of each request that is out, by head.
     sent: Vec<Sent>,
 }
 
@@ -103,20 +117,17 @@ impl RequestQueue {
     }
 
     /// Posts a request for these pages, whose buffer is one of those that begin at page `base`.
-    pub(crate) fn post<G: GuestBytes>(
-        &mut self,
-        ram: &mut G,
-        base: u32,
-        pages: ArrayVec<u32, 256>,
-    ) -> u16
+    pub(crate) fn post<G: GuestBytes>(&mut self, ram: &mut G, base: u32, pages: RequestPages) -> u16
         requires room { outstanding self.old.ring < min self.old.ring.size max_outstanding }
-        requires layout { self.old.ring.layout ≡ layout_of self.old.ring.layout.table self.old.ring.size }
-        requires low { self.old.ring.layout.table < 4 }
-        requires base_low { 4 ≤ base }
-        requires base_high { base ≤ 8 }
-        requires memory { 64 ≤ length (G.mem ram.old) }
-        requires backed { (p : ℕ) → p < 13 → IsSome (frame_at (G.mem ram.old) p) }
-        ensures posts { Posts (G.mem ram.old) (G.mem ram.new) self.old self.new base pages.items result }
+        requires layout { self.old.ring.layout
+            ≡ layout_of self.old.ring.layout.table self.old.ring.size }
+        requires low { self.old.ring.layout.table < ring_pages }
+        requires base_low { ring_pages ≤ base }
+        requires base_high { base ≤ buffers_page 1 }
+        requires memory { IsLargeEnough (G.mem ram.old) }
+        requires backed { IsBacked (G.mem ram.old) }
+        ensures posts { Posts (G.mem ram.old) (G.mem ram.new)
+            self.old self.new base pages.items result }
         ensures part { G.part ram.new ≡ G.part ram.old }
     {
         let Some(head) = self.ring.next_head() else {
@@ -141,15 +152,18 @@ impl RequestQueue {
     pub(crate) fn take_used<G: GuestBytes>(
         &mut self,
         ram: &G,
-    ) -> Result<Option<(u16, ArrayVec<u32, 256>)>, RingBroken>
+    ) -> Result<Option<(u16, RequestPages)>, RingBroken>
         requires { IsInside (G.mem ram.now) self.old.ring.layout }
         ensures requests { AreRequests self.old }
-        ensures ring { TakesUsedBy (G.mem ram.now) self.old.ring self.new.ring (used_answer (G.mem ram.now) self.old.ring) }
-        ensures refused { IfErr result (λ fault. used_answer (G.mem ram.now) self.old.ring ≡ Err fault) }
+        ensures ring { TakesUsedBy (G.mem ram.now) self.old.ring self.new.ring
+            (used_answer (G.mem ram.now) self.old.ring) }
+        ensures refused { IfErr result (λ fault.
+            used_answer (G.mem ram.now) self.old.ring ≡ Err fault) }
         ensures kept { OnErr result (self.new ≡ self.old) }
         ensures next { IfOk result (λ got. MatchOption got
             ((used_answer (G.mem ram.now) self.old.ring ≡ Ok None) × (self.new ≡ self.old))
-            (λ used. (used_answer (G.mem ram.now) self.old.ring ≡ Ok (Some used.0)) × (used.0 < max_outstanding)
+            (λ used. (used_answer (G.mem ram.now) self.old.ring ≡ Ok (Some used.0))
+            × (used.0 < max_outstanding)
             × (used.1.items ≡ sent_by self.old used.0) × (self.new ≡ after_reap self.old used.0))) }
     {
         let Some(head) = self.ring.take_used(ram)? else {

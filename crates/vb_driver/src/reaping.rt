@@ -1,6 +1,7 @@
-// Used requests are taken back (VIRTIO 1.1, 5.5.6).
+//! Used requests are taken back (VIRTIO 1.1, 5.5.6).
 
-ghost use Rattle.std.specs.Prelude.{◌≡◌, ◌<◌, ◌≤◌, ◌∷◌, [], ℕ, true, not, length, bit_or, count_by, Ok, Err, None, Some, IfOk, IfErr, OnOk, OnErr, MatchOption};
+ghost use Rattle.std.specs.Prelude.{◌≡◌, ◌<◌, ◌≤◌, ◌∷◌, [], ℕ, true, not, length, bit_or, count_by};
+ghost use Rattle.std.specs.Prelude.{Ok, Err, None, Some, IfOk, IfErr, OnOk, OnErr, MatchOption};
 ghost use Rattle.vb_model.specs.Limits.{max_outstanding};
 ghost use Rattle.vb_model.specs.Tests.{is_in};
 ghost use Rattle.vb_model.specs.Pages.{placed, is_lent_or_taking};
@@ -11,14 +12,13 @@ ghost use Rattle.vb_ring.specs.Layout.{IsInside};
 ghost use Rattle.vb_ring.specs.Ends.{used_answer};
 ghost use Rattle.vb_ring.specs.Calls.{TakesUsedBy};
 ghost use Rattle.vb_driver.specs.State.{sent_by};
-ghost use Rattle.vb_driver.specs.Answers.{is_up, is_ring_broken, refusal_in};
+ghost use Rattle.vb_driver.specs.Answers.{IsLargeEnough, is_up, is_ring_broken, refusal_in};
 ghost use Rattle.vb_driver.specs.Calls.{ReapsBy, after_refusal, after_reap};
 
 use crate::places::PlaceTable;
-use crate::queue::RequestQueue;
+use crate::queue::{RequestPages, RequestQueue};
 use crate::requests::is_up;
 use crate::{Driver, Reaped};
-use arrayvec::ArrayVec;
 use bitflags::Flags;
 use vb_model::layout::{DEFLATE_QUEUE, INFLATE_QUEUE};
 use vb_model::{Place, Refusal};
@@ -26,7 +26,8 @@ use vb_status::{Port, Status};
 
 /// Tells the device that its driver has given up.
 pub(crate) fn give_up<P: Port>(port: &mut P)
-    ensures part { P.part port.new ≡ record (P.part port.old) { status = bit_or (P.part port.old).status failed } }
+    ensures part { P.part port.new
+        ≡ record (P.part port.old) { status = bit_or (P.part port.old).status failed } }
     ensures mem { P.mem port.new ≡ P.mem port.old }
 {
     let failed = port.status().union(Status::FAILED);
@@ -38,20 +39,23 @@ pub(crate) fn give_up<P: Port>(port: &mut P)
 fn take_back<P: Port>(
     queue: &mut RequestQueue,
     port: &mut P,
-) -> Result<Option<(u16, ArrayVec<u32, 256>)>, Refusal>
+) -> Result<Option<(u16, RequestPages)>, Refusal>
     requires { IsInside (P.mem port.old) queue.old.ring.layout }
     ensures refusal { refusal_in result ≡ first_refusal (
         (not (is_up (P.part port.old).status) ⇒ NotReady)
         ∷ (is_ring_broken (P.mem port.old) queue.old ⇒ RingBroken)
         ∷ []) }
-    ensures failed { IfErr result (λ refusal. P.part port.new ≡ after_refusal refusal (P.part port.old)) }
+    ensures failed { IfErr result (λ refusal.
+        P.part port.new ≡ after_refusal refusal (P.part port.old)) }
     ensures kept { OnErr result (queue.new ≡ queue.old) }
     ensures part { OnOk result (P.part port.new ≡ P.part port.old) }
     ensures mem { P.mem port.new ≡ P.mem port.old }
-    ensures ring { OnOk result (TakesUsedBy (P.mem port.old) queue.old.ring queue.new.ring (used_answer (P.mem port.old) queue.old.ring)) }
+    ensures ring { OnOk result (TakesUsedBy (P.mem port.old) queue.old.ring queue.new.ring
+        (used_answer (P.mem port.old) queue.old.ring)) }
     ensures next { IfOk result (λ got. MatchOption got
         ((used_answer (P.mem port.old) queue.old.ring ≡ Ok None) × (queue.new ≡ queue.old))
-        (λ used. (used_answer (P.mem port.old) queue.old.ring ≡ Ok (Some used.0)) × (used.0 < max_outstanding)
+        (λ used. (used_answer (P.mem port.old) queue.old.ring ≡ Ok (Some used.0))
+        × (used.0 < max_outstanding)
         × (used.1.items ≡ sent_by queue.old used.0) × (queue.new ≡ after_reap queue.old used.0))) }
 {
     if !is_up(port) {
@@ -71,12 +75,13 @@ fn take_back<P: Port>(
 fn settle<P: Port>(
     places: &mut PlaceTable,
     port: &mut P,
-    used: &(u16, ArrayVec<u32, 256>),
+    used: &(u16, RequestPages),
     place: Place,
 ) -> Reaped
     requires { (page : ℕ) → is_in page used.now.1.items ≡ true → page < length places.old }
     ensures places { places.new ≡ placed used.now.1.items place places.old }
-    ensures part { P.part port.new ≡ record (P.part port.old) { actual = count_by is_lent_or_taking places.new } }
+    ensures part { P.part port.new
+        ≡ record (P.part port.old) { actual = count_by is_lent_or_taking places.new } }
     ensures mem { P.mem port.new ≡ P.mem port.old }
     ensures head { result.head ≡ used.now.0 }
     ensures pages { result.pages ≡ length used.now.1.items }
@@ -92,9 +97,11 @@ fn settle<P: Port>(
 impl Driver {
     /// Takes back the next inflate request that the device used: its pages are lent from now on.
     fn reap_lent<P: Port>(&mut self, port: &mut P) -> Result<Option<Reaped>, Refusal>
-        requires { 64 ≤ length (P.mem port.old) }
-        ensures { ReapsBy (P.mem port.old) (P.mem port.new) (P.part port.old) (P.part port.new) self.old self.new 0 result }
+        requires { IsLargeEnough (P.mem port.old) }
+        ensures { ReapsBy (P.mem port.old) (P.mem port.new) (P.part port.old) (P.part port.new)
+            self.old self.new 0 result }
     {
+        // What holds of each driver is known from here on, where the call is refused too.
         let places = &mut self.places;
         let used = match take_back(&mut self.inflate, port) {
             Ok(Some(used)) => used,
@@ -106,9 +113,11 @@ impl Driver {
 
     /// Takes back the next deflate request that the device used: its pages are free from now on.
     fn reap_freed<P: Port>(&mut self, port: &mut P) -> Result<Option<Reaped>, Refusal>
-        requires { 64 ≤ length (P.mem port.old) }
-        ensures { ReapsBy (P.mem port.old) (P.mem port.new) (P.part port.old) (P.part port.new) self.old self.new 1 result }
+        requires { IsLargeEnough (P.mem port.old) }
+        ensures { ReapsBy (P.mem port.old) (P.mem port.new) (P.part port.old) (P.part port.new)
+            self.old self.new 1 result }
     {
+        // As above.
         let places = &mut self.places;
         let used = match take_back(&mut self.deflate, port) {
             Ok(Some(used)) => used,
@@ -126,9 +135,11 @@ impl Driver {
     /// Refused for `NoQueue` (not 0 or 1), `NotReady`, `RingBroken` (the used ring says what no
     /// device may say: the driver gives up, by FAILED in the status); nothing else is changed then.
     pub fn reap<P: Port>(&mut self, port: &mut P, queue: u32) -> Result<Option<Reaped>, Refusal>
-        requires { 64 ≤ length (P.mem port.old) }
-        ensures { ReapsBy (P.mem port.old) (P.mem port.new) (P.part port.old) (P.part port.new) self.old self.new queue result }
+        requires { IsLargeEnough (P.mem port.old) }
+        ensures { ReapsBy (P.mem port.old) (P.mem port.new) (P.part port.old) (P.part port.new)
+            self.old self.new queue result }
     {
+        // What holds of each driver is known from here on, where the call is refused too.
         let _places = &self.places;
         if queue == INFLATE_QUEUE {
             self.reap_lent(port)

@@ -1,19 +1,22 @@
-// Pages are offered to the host, and asked back (VIRTIO 1.1, 5.5.6).
+//! Pages are offered to the host, and asked back (VIRTIO 1.1, 5.5.6).
 
-ghost use Rattle.std.specs.Prelude.{◌≡◌, ◌<◌, ◌≤◌, ◌+◌, ◌==◌, ◌++◌, ◌∷◌, ℕ, not, true, Ok, Err, Some, None, IfOk, IfErr, MatchOption, OnErr, OnOk, IsSome, length, count_by, min};
+ghost use Rattle.std.specs.Prelude.{◌≡◌, ◌<◌, ◌≤◌, ◌+◌, ◌==◌, ◌++◌, ◌∷◌, ℕ, nat_le, not, true, Ok};
+ghost use Rattle.std.specs.Prelude.{Err, Some, None, IfOk, IfErr, MatchOption, OnErr, OnOk, IsSome};
+ghost use Rattle.std.specs.Prelude.{length, count_by, min};
 ghost use Rattle.vb_model.specs.Limits.{max_outstanding, max_request_pages};
 ghost use Rattle.vb_model.specs.Pages.{placed, is_lent_or_taking};
 ghost use Rattle.vb_ram.specs.Pages.{frame_at};
 ghost use Rattle.vb_ring.specs.Ends.{outstanding, used_answer};
-ghost use Rattle.vb_driver.specs.State.{IsDriver, room, stranded_count, free_count, lent_count, giving_count};
+ghost use Rattle.vb_driver.specs.State.{IsDriver, room, stranded_count, free_count, lent_count};
+ghost use Rattle.vb_driver.specs.State.{giving_count};
 ghost use Rattle.vb_model.specs.Refusals.{◌⇒◌, first_refusal};
 ghost use Rattle.vb_model.specs.declared.replies.Refusal.TheVariants.{NotReady, NoFeature};
-ghost use Rattle.vb_driver.specs.Answers.{is_up, inflate_count, deflate_count, oom_count, refusal_in, request_tests};
+ghost use Rattle.vb_driver.specs.Answers.{IsBacked, IsLargeEnough, is_up, inflate_count};
+ghost use Rattle.vb_driver.specs.Answers.{deflate_count, oom_count, refusal_in, request_tests};
 ghost use Rattle.vb_driver.specs.Calls.{Offers, AsksBack, InflatesBy, DeflatesBy, DeflatesOnOomBy};
 
-use crate::queue::RequestQueue;
+use crate::queue::{RequestPages, RequestQueue};
 use crate::{Driver, Posted};
-use arrayvec::ArrayVec;
 use bitflags::Flags;
 use vb_model::layout::{DEFLATE_BUFFERS_PAGE, INFLATE_BUFFERS_PAGE};
 use vb_model::limits::{MAX_OUTSTANDING, MAX_REQUEST_PAGES};
@@ -30,8 +33,8 @@ pub(crate) fn is_up<P: Port>(port: &P) -> bool
 }
 
 /// Puts more page numbers behind the first ones.
-fn append(pages: &mut ArrayVec<u32, 256>, more: &[u32])
-    requires { length pages.old.items + length more.now ≤ 256 }
+fn append(pages: &mut RequestPages, more: &[u32])
+    requires { length pages.old.items + length more.now ≤ max_request_pages }
     ensures { pages.new.items ≡ pages.old.items ++ more.now }
 {
     for page in more {
@@ -70,7 +73,7 @@ impl Driver {
 
     /// Whether a queue has as many requests as there may be.
     fn is_full(&self, queue: &RequestQueue) -> bool
-        ensures { result ≡ Rattle.std.specs.Prelude.nat_le (room self.now) (outstanding queue.now.ring) }
+        ensures { result ≡ nat_le (room self.now) (outstanding queue.now.ring) }
     {
         queue.outstanding() >= self.config.queue_size.min(MAX_OUTSTANDING as u16)
     }
@@ -80,9 +83,10 @@ impl Driver {
         requires room { outstanding self.old.inflate.ring < room self.old }
         requires few { count ≤ max_request_pages }
         requires there { count ≤ stranded_count self.old + free_count self.old }
-        requires memory { 64 ≤ length (P.mem port.old) }
-        requires backed { (p : ℕ) → p < 13 → IsSome (frame_at (P.mem port.old) p) }
-        ensures { Offers (P.mem port.old) (P.mem port.new) (P.part port.old) (P.part port.new) self.old self.new count result }
+        requires memory { IsLargeEnough (P.mem port.old) }
+        requires backed { IsBacked (P.mem port.old) }
+        ensures { Offers (P.mem port.old) (P.mem port.new) (P.part port.old) (P.part port.new)
+            self.old self.new count result }
     {
         let mut pages = self.places.lowest(Place::Stranded, count);
         let others = self.areas.take_free(count - pages.len() as u32);
@@ -97,9 +101,10 @@ impl Driver {
         requires room { outstanding self.old.deflate.ring < room self.old }
         requires few { count ≤ max_request_pages }
         requires there { count ≤ lent_count self.old }
-        requires memory { 64 ≤ length (P.mem port.old) }
-        requires backed { (p : ℕ) → p < 13 → IsSome (frame_at (P.mem port.old) p) }
-        ensures { AsksBack (P.mem port.old) (P.mem port.new) (P.part port.old) (P.part port.new) self.old self.new count result }
+        requires memory { IsLargeEnough (P.mem port.old) }
+        requires backed { IsBacked (P.mem port.old) }
+        ensures { AsksBack (P.mem port.old) (P.mem port.new) (P.part port.old) (P.part port.new)
+            self.old self.new count result }
     {
         let pages = self.places.lowest(Place::Lent, count);
         self.places.set_all(&pages, Place::Taking);
@@ -107,9 +112,9 @@ impl Driver {
         Posted { head, pages: count }
     }
 
-    /// Why a request for so many pages is refused, where it is: the device must be initialised, what
-    /// the request needs must have been accepted, the queue must have room, and there must be a
-    /// page to name.
+    /// Whether a request for so many pages may be posted: the device must be initialised, what the
+    /// request needs must have been accepted, the queue must have room, and there must be a page
+    /// to name.
     fn admit<P: Port>(
         &self,
         port: &P,
@@ -123,7 +128,6 @@ impl Driver {
             ∷ request_tests self.now queue.now count) }
         ensures ready { OnOk result (is_up (P.part port.now).status ≡ true) }
         ensures room { OnOk result (outstanding queue.now.ring < room self.now) }
-        ensures some { OnOk result (1 ≤ count) }
     {
         if !is_up(port) {
             return Err(Refusal::NotReady);
@@ -148,9 +152,10 @@ impl Driver {
     /// requests of the queue are out, or as many as it has descriptors), `Nothing` (the number is
     /// 0); then nothing is changed.
     pub fn inflate<P: Port>(&mut self, port: &mut P, n: u32) -> Result<Posted, Refusal>
-        requires memory { 64 ≤ length (P.mem port.old) }
-        requires backed { is_up (P.part port.old).status ≡ true → (p : ℕ) → p < 13 → IsSome (frame_at (P.mem port.old) p) }
-        ensures { InflatesBy (P.mem port.old) (P.mem port.new) (P.part port.old) (P.part port.new) self.old self.new n result }
+        requires memory { IsLargeEnough (P.mem port.old) }
+        requires backed { is_up (P.part port.old).status ≡ true → IsBacked (P.mem port.old) }
+        ensures { InflatesBy (P.mem port.old) (P.mem port.new) (P.part port.old) (P.part port.new)
+            self.old self.new n result }
     {
         let count = self.inflate_count(port.target(), n);
         self.admit(port, true, &self.inflate, count)?;
@@ -162,9 +167,10 @@ impl Driver {
     ///
     /// Refused for `NotReady`, `QueueFull`, `Nothing`; then nothing is changed.
     pub fn deflate<P: Port>(&mut self, port: &mut P, n: u32) -> Result<Posted, Refusal>
-        requires memory { 64 ≤ length (P.mem port.old) }
-        requires backed { is_up (P.part port.old).status ≡ true → (p : ℕ) → p < 13 → IsSome (frame_at (P.mem port.old) p) }
-        ensures { DeflatesBy (P.mem port.old) (P.mem port.new) (P.part port.old) (P.part port.new) self.old self.new n result }
+        requires memory { IsLargeEnough (P.mem port.old) }
+        requires backed { is_up (P.part port.old).status ≡ true → IsBacked (P.mem port.old) }
+        ensures { DeflatesBy (P.mem port.old) (P.mem port.new) (P.part port.old) (P.part port.new)
+            self.old self.new n result }
     {
         let count = self.deflate_count(port.target(), n);
         self.admit(port, true, &self.deflate, count)?;
@@ -177,9 +183,11 @@ impl Driver {
     /// Refused for `NotReady`, `NoFeature` (DEFLATE_ON_OOM wasn't accepted), `QueueFull`,
     /// `Nothing`; then nothing is changed.
     pub fn oom<P: Port>(&mut self, port: &mut P, n: u32) -> Result<Posted, Refusal>
-        requires memory { 64 ≤ length (P.mem port.old) }
-        requires backed { is_up (P.part port.old).status ≡ true → (p : ℕ) → p < 13 → IsSome (frame_at (P.mem port.old) p) }
-        ensures { DeflatesOnOomBy (P.mem port.old) (P.mem port.new) (P.part port.old) (P.part port.new) self.old self.new n result }
+        requires memory { IsLargeEnough (P.mem port.old) }
+        requires backed { is_up (P.part port.old).status ≡ true → IsBacked (P.mem port.old) }
+        ensures { DeflatesOnOomBy
+            (P.mem port.old) (P.mem port.new) (P.part port.old) (P.part port.new)
+            self.old self.new n result }
     {
         let count = self.oom_count(n);
         let accepted = self.features.deflate_on_oom();

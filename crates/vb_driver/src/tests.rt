@@ -1,5 +1,5 @@
-// A driver's calls over guest memory with no device behind it. A line of a table is a step and its
-// answer; what a device would write into a ring is a step too.
+//! A driver's calls over guest memory with no device behind it. A line of a table is a step and its
+//! answer; what a device would write into a ring is a step too.
 
 use crate::memory::all_backed;
 use crate::requests::is_up;

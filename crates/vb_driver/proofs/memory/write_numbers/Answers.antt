@@ -1,4 +1,4 @@
-use Rattle.std.proofs.Common.{◌≡◌, ◌∙◌, sym, ap, arith, ℕ, ◌+◌, ◌*◌, slice_index, inl, inr}
+use Rattle.std.proofs.Common.{◌∙◌, sym, ap, arith, ◌+◌, ◌*◌, slice_index, inl, inr}
 use Rattle.std.proofs.lemmas.Bool.{cases_eq}
 use Rattle.vb_ram.specs.Pages.{field}
 use Rattle.vb_ram.specs.Fields.{field_in, same_below, but_trans, but_wider}

@@ -1,4 +1,4 @@
-use Rattle.std.proofs.Common.{◌≡◌, ℕ, ◌<◌, ◌+◌, ◌*◌, length, slice_index}
+use Rattle.std.proofs.Common.{◌≡◌, ℕ, ◌<◌, ◌+◌, ◌*◌, slice_index}
 use Rattle.vb_ram.specs.Pages.{field, SameBut}
 use Rattle.vb_driver.proofs.memory.write_numbers.Given as goal
 

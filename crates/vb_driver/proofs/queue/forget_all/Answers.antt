@@ -1,4 +1,4 @@
-use Rattle.std.proofs.Common.{◌≡◌, ◌∙◌, ◌<◌, sym, arith, ℕ, List, [], length, replicate}
+use Rattle.std.proofs.Common.{◌≡◌, ◌∙◌, sym, arith, ℕ, List, [], length, replicate}
 use Rattle.std.proofs.lemmas.List.{same_lists, length-replicate, get_or-replicate}
 use Rattle.vb_driver.proofs.queue.forget_all.Goals as goal
 

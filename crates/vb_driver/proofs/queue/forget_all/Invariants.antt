@@ -1,4 +1,4 @@
-use Rattle.std.proofs.Common.{◌≡◌, ℕ, ◌<◌, [], get_or, length, List}
+use Rattle.std.proofs.Common.{◌≡◌, ℕ, ◌<◌, [], get_or, List}
 use Rattle.vb_driver.proofs.queue.forget_all.Given as goal
 
 abbrev pub invariant-loop-k : goal.invariant-loop-k

@@ -1,5 +1,4 @@
-use Rattle.std.proofs.Common.{◌≡◌, ◌∙◌, sym, subst, ap, ℕ, false, Err, IfOk, OnErr, IsTrue, Result, nat_le, nat_lt, length, not, ◌∷◌, []}
-use Rattle.std.specs.List.{list_any, range_with_len}
+use Rattle.std.proofs.Common.{◌≡◌, ◌∙◌, sym, subst, ap, ℕ, false, Err, IfOk, OnErr, IsTrue, Result, nat_le, nat_lt, not, ◌∷◌, []}
 use Rattle.vb_model.specs.Pages.{pages_of}
 use Rattle.vb_model.specs.Driver.{with_block}
 use Rattle.vb_model.specs.Refusals.{first_refusal, ◌⇒◌}

@@ -2,7 +2,7 @@ use Rattle.std.proofs.Common.{◌∙◌, ◌∷◌, [], sym, ap, arith, refl, �
 use Rattle.std.proofs.lemmas.List.{take_more}
 use Rattle.vb_model.specs.Pages.{Block}
 use Rattle.vb_pages.specs.Areas.{block_at}
-use Rattle.vb_pages.specs.PageState.{PageState, given}
+use Rattle.vb_pages.specs.PageState.{given}
 use Rattle.vb_driver.specs.Areas.{flags_of, flagged, is_free_at, is_covered, all_given}
 use Rattle.vb_driver.proofs.Placing.{is_in-at}
 use Rattle.vb_driver.proofs.Flags.{flagged_none, flagged_more, flagged_at, length-flagged, not_before, given_more}

@@ -1,9 +1,9 @@
-use Rattle.std.proofs.Common.{◌≡◌, ◌≤◌, sym, subst, arith, false, IsTrue}
+use Rattle.std.proofs.Common.{◌≤◌, sym, subst, arith, false, IsTrue}
 use Rattle.std.specs.Prelude.{count_by}
 use Rattle.std.specs.List.{list_all}
 use Rattle.vb_pages.specs.PageState.{PageState, is_free_page}
 use Rattle.vb_driver.specs.Areas.{Becomes, flags_of, is_free_at, flagged}
-use Rattle.vb_driver.proofs.Naming.{times_in}
+use Rattle.vb_model.specs.Orderly.{times}
 use Rattle.vb_driver.proofs.Allocating.{count_flags, taken_state, taken_free, taken_once, distinct_once}
 use Rattle.vb_driver.proofs.areas.Areas.take_free.Goals as goal
 
@@ -22,7 +22,7 @@ pub returns-clause-distinct : goal.returns-clause-distinct
 returns-clause-distinct c =
     let s : PageState = c.self.inside.pages in
     let new : PageState = c.take_free.new.self in
-    distinct_once c.take_free.new.out.items (λ p. taken_once (is_free_page new p) (is_free_page s p) (times_in p c.take_free.new.out.items) (c.take_free.ensures.left p))
+    distinct_once c.take_free.new.out.items (λ p. taken_once (is_free_page new p) (is_free_page s p) (times p c.take_free.new.out.items) (c.take_free.ensures.left p))
 
 pub returns-clause-state : goal.returns-clause-state
 returns-clause-state c =

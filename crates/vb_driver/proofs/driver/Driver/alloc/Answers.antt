@@ -1,6 +1,5 @@
-use Rattle.std.proofs.Common.{◌≡◌, ◌∙◌, sym, ap, subst, List, Ok, Err}
+use Rattle.std.proofs.Common.{◌∙◌, sym, ap, subst, List, Ok, Err}
 use Rattle.vb_model.specs.Pages.{Block, pages_of, placed}
-use Rattle.vb_model.specs.Driver.{with_block}
 use Rattle.vb_model.specs.declared.places.Place.{Place}
 use Rattle.vb_model.specs.declared.places.Place.TheVariants.{Used}
 use Rattle.vb_driver.specs.Answers.{block_at}

@@ -1,12 +1,12 @@
-use Rattle.std.proofs.Common.{◌≡◌, ◌∙◌, ap, subst, arith, ℕ, length}
+use Rattle.std.proofs.Common.{◌≡◌, ◌∙◌, subst, arith}
 use Rattle.std.specs.Prelude.{count_by}
-use Rattle.vb_model.specs.Pages.{is_free, is_giving, is_lent, is_stranded}
-use Rattle.vb_model.specs.declared.places.Place.TheVariants.{Free, Giving, Lent, Stranded}
+use Rattle.vb_model.specs.Pages.{is_giving, is_lent}
+use Rattle.vb_model.specs.declared.places.Place.TheVariants.{Giving, Lent}
 use Rattle.vb_driver.specs.Places.{is_at}
 use Rattle.vb_driver.specs.State.{DriverState}
 use Rattle.vb_driver.specs.Answers.{deflate_count}
 use Rattle.vb_driver.specs.contracts.driver.Driver.{the_view}
-use Rattle.vb_driver.proofs.Moving.{count_same, at_lent, at_giving, at_free, at_stranded}
+use Rattle.vb_driver.proofs.Moving.{count_same, at_lent, at_giving}
 use Rattle.vb_driver.proofs.driver.Driver.deflate_count.Goals as goal
 
 pub returns : goal.returns

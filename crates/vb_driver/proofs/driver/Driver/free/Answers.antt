@@ -1,6 +1,5 @@
-use Rattle.std.proofs.Common.{◌≡◌, sym, subst, List, length}
+use Rattle.std.proofs.Common.{sym, subst, List, length}
 use Rattle.vb_model.specs.Pages.{Block, pages_of, placed}
-use Rattle.vb_model.specs.Driver.{without_block}
 use Rattle.vb_model.specs.declared.places.Place.{Place}
 use Rattle.vb_model.specs.declared.places.Place.TheVariants.{Free}
 use Rattle.vb_driver.specs.Answers.{block_at}

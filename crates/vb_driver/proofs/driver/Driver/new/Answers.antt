@@ -1,10 +1,9 @@
-use Rattle.std.proofs.Common.{◌≡◌, sym, ap, subst, List, []}
+use Rattle.std.proofs.Common.{sym, subst, List}
 use Rattle.vb_model.specs.declared.places.Place.{Place}
-use Rattle.vb_model.specs.Pages.{Block, all_free}
 use Rattle.vb_pages.specs.PageState.{PageState}
 use Rattle.vb_ram.specs.Limits.{AreWithinLimits, config_limits}
 use Rattle.vb_status.specs.Bits.{feature_bits}
-use Rattle.vb_driver.specs.State.{Side, DriverState, fresh_driver, fresh_side}
+use Rattle.vb_driver.specs.State.{Side, DriverState, fresh_driver}
 use Rattle.vb_driver.specs.Areas.{IsKept}
 use Rattle.vb_driver.proofs.Moving.{fresh_kept}
 use Rattle.vb_driver.proofs.Sizes.{size_of_config}

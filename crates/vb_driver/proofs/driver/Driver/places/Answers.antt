@@ -1,4 +1,4 @@
-use Rattle.std.proofs.Common.{◌≡◌, ◌∙◌, sym, subst, List}
+use Rattle.std.proofs.Common.{◌∙◌, subst}
 use Rattle.vb_model.specs.Pages.{is_free, is_used, is_giving, is_lent, is_taking, is_stranded, is_reporting}
 use Rattle.vb_model.specs.declared.places.Place.TheVariants.{Free, Used, Giving, Lent, Taking, Stranded, Reporting}
 use Rattle.vb_driver.specs.Places.{is_at}

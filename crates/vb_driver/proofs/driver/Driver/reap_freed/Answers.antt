@@ -1,13 +1,13 @@
-use Rattle.std.proofs.Common.{◌≡◌, ◌≤◌, ◌∙◌, sym, ap, subst, arith, ℕ, List, true}
+use Rattle.std.proofs.Common.{◌≡◌, ◌≤◌, ◌∙◌, sym, ap, subst, ℕ, List, true}
 use Rattle.vb_model.specs.Tests.{is_in}
 use Rattle.vb_model.specs.Pages.{placed, Block}
 use Rattle.vb_model.specs.declared.places.Place.{Place}
-use Rattle.vb_model.specs.declared.places.Place.TheVariants.{Lent, Free}
-use Rattle.vb_driver.specs.State.{Side, DriverState, sent_by}
+use Rattle.vb_model.specs.declared.places.Place.TheVariants.{Free}
+use Rattle.vb_driver.specs.State.{Side, sent_by}
 use Rattle.vb_driver.specs.Areas.{flags_of, flagged, IsKept}
 use Rattle.vb_driver.specs.contracts.driver.Driver.{the_view}
-use Rattle.vb_driver.proofs.Naming.{times_in}
-use Rattle.vb_driver.proofs.Moving.{lent_inside, lent_kept, freed_taking, freed_once, freed_uncovered, freed_unfree, freed_inside, freed_unreserved, freed_kept}
+use Rattle.vb_model.specs.Orderly.{times}
+use Rattle.vb_driver.proofs.Moving.{freed_taking, freed_once, freed_uncovered, freed_unfree, freed_inside, freed_unreserved, freed_kept}
 use Rattle.vb_driver.proofs.driver.Driver.reap_freed.Goals as goal
 
 pub give_all-requires-clause-unreserved : goal.give_all-requires-clause-unreserved
@@ -48,7 +48,7 @@ give_all-requires-clause-once g c p =
     let head = c.in-Ok-Some.used.0 in
     let next = rw c.in-Ok-Some.field-0-is at c.in-Ok-Some.ensures.next in
     let items : c.deref.result.now ≡ sent_by d.deflate head = c.deref.ensures.0 ∙ next.2 in
-    subst (λ (l : List ℕ). times_in p l ≤ 1) (sym items) (freed_once d head p next.1 c.self.invariant)
+    subst (λ (l : List ℕ). times p l ≤ 1) (sym items) (freed_once d head p next.1 c.self.invariant)
 
 pub settle-requires : goal.settle-requires
 settle-requires g c p here =

@@ -1,12 +1,12 @@
-use Rattle.std.proofs.Common.{◌≡◌, ◌∙◌, sym, ap, subst, arith, ℕ, List, true}
+use Rattle.std.proofs.Common.{◌≡◌, ◌∙◌, sym, ap, subst, ℕ, List}
 use Rattle.vb_model.specs.Tests.{is_in}
-use Rattle.vb_model.specs.Pages.{placed, Block}
+use Rattle.vb_model.specs.Pages.{placed}
 use Rattle.vb_model.specs.declared.places.Place.{Place}
-use Rattle.vb_model.specs.declared.places.Place.TheVariants.{Lent, Free}
-use Rattle.vb_driver.specs.State.{Side, DriverState, sent_by}
+use Rattle.vb_model.specs.declared.places.Place.TheVariants.{Lent}
+use Rattle.vb_driver.specs.State.{Side, sent_by}
 use Rattle.vb_driver.specs.Areas.{IsKept}
 use Rattle.vb_driver.specs.contracts.driver.Driver.{the_view}
-use Rattle.vb_driver.proofs.Moving.{lent_inside, lent_kept, freed_taking, freed_once, freed_uncovered, freed_unfree, freed_inside, freed_kept}
+use Rattle.vb_driver.proofs.Moving.{lent_inside, lent_kept}
 use Rattle.vb_driver.proofs.driver.Driver.reap_lent.Goals as goal
 
 pub settle-requires : goal.settle-requires

@@ -1,4 +1,4 @@
-use Rattle.std.proofs.Common.{◌≡◌, ◌∙◌, ◌<◌, sym, ap, arith, ℕ, List, length, get_or, take, true, false}
+use Rattle.std.proofs.Common.{◌∙◌, ◌<◌, sym, ap, arith, length}
 use Rattle.vb_driver.proofs.Placing.{scan_hits, scan_misses, scan_ends}
 use Rattle.vb_driver.proofs.places.PlaceTable.lowest.Goals.{then-len-most+then-number_of, else-len-most, else-len-most-via-then-len-most+else-number_of, else-len-most-via-else-len-most}
 use Rattle.vb_driver.proofs.places.PlaceTable.lowest.Goals as goal

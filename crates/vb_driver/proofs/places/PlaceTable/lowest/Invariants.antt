@@ -1,4 +1,4 @@
-use Rattle.std.proofs.Common.{◌≡◌, ◌≤◌, take, length}
+use Rattle.std.proofs.Common.{◌≡◌, take}
 use Rattle.vb_model.specs.Tests.{pages_where}
 use Rattle.vb_driver.specs.Places.{is_at}
 use Rattle.vb_driver.proofs.places.PlaceTable.lowest.Given as goal

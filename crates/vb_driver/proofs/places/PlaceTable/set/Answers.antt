@@ -1,4 +1,4 @@
-use Rattle.std.proofs.Common.{◌≡◌, ◌≤◌, ◌<◌, ◌∙◌, ap, arith, length, set}
+use Rattle.std.proofs.Common.{◌≡◌, ◌∙◌, ap, arith, length, set}
 use Rattle.std.proofs.lemmas.List.{length-set}
 use Rattle.vb_driver.proofs.Counting.{counts_moved, number_small}
 use Rattle.vb_driver.proofs.places.PlaceTable.set.Goals as goal

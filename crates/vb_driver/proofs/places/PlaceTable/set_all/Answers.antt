@@ -1,8 +1,6 @@
-use Rattle.std.proofs.Common.{◌≡◌, ◌∙◌, ◌<◌, sym, ap, arith, ℕ, List, length, take, get_or, true, set}
+use Rattle.std.proofs.Common.{◌∙◌, sym, ap, arith, ℕ, List, length, take, get_or, set}
 use Rattle.std.proofs.lemmas.List.{take_more}
-use Rattle.std.proofs.lemmas.List.Folds.{list_any_at}
 use Rattle.vb_model.specs.declared.places.Place.{Place}
-use Rattle.vb_model.specs.Tests.{is_in}
 use Rattle.vb_model.specs.Pages.{placed}
 use Rattle.vb_driver.proofs.Placing.{placed_none, placed_more, length-placed, is_in-at}
 use Rattle.vb_driver.proofs.places.PlaceTable.set_all.Goals as goal

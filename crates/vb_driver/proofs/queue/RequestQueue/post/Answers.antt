@@ -1,10 +1,9 @@
-use Rattle.std.proofs.Common.{◌≡◌, ◌∙◌, ◌<◌, ◌≤◌, ◌+◌, ◌*◌, ◌/◌, ◌%◌, sym, ap, subst, arith, refl, List, ℕ, [], ◌∷◌, set, Option, Some, None, Result, Ok, length, min}
+use Rattle.std.proofs.Common.{◌≡◌, ◌∙◌, ◌<◌, ◌+◌, ◌*◌, sym, ap, subst, arith, refl, ℕ, set, Some, Ok, length}
 use Rattle.std.proofs.Math.Nat.{div-add-mod}
 use Rattle.vb_model.specs.Layout.{buffer_page, buffer_offset}
 use Rattle.vb_ram.specs.Pages.{SameBut}
-use Rattle.vb_ring.specs.Ends.{DriverEnd, after_add, next_head, outstanding}
-use Rattle.vb_driver.specs.Coding.{Names}
-use Rattle.vb_driver.specs.State.{Side, AreRequests}
+use Rattle.vb_ring.specs.Ends.{DriverEnd, after_add, next_head}
+use Rattle.vb_driver.specs.State.{Side}
 use Rattle.vb_driver.specs.Calls.{Posts}
 use Rattle.vb_driver.proofs.Buffers.{names_at}
 use Rattle.vb_driver.proofs.RequestTables.{head_there, head_small, requests_added_at, room_inside}

@@ -1,4 +1,4 @@
-use Rattle.std.proofs.Common.{◌≡◌, ◌∙◌, ap, ℕ, [], Option, Some, Result, Ok}
+use Rattle.std.proofs.Common.{◌≡◌, ◌∙◌, ap, ℕ, Option, Some, Result, Ok}
 use Rattle.vb_ring.specs.Ends.{after_take}
 use Rattle.vb_ring.specs.declared.driver.RingBroken.{RingBroken}
 use Rattle.vb_driver.proofs.RequestTables.{requests_taken_at}
