@@ -1,5 +1,6 @@
 pub mod Chains
 pub mod Takes
+pub mod Both
 pub mod TakesBy
 pub mod Finishes
 pub mod FromNext

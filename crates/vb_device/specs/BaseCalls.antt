@@ -1,25 +1,32 @@
 -- What the parts of a device's calls do.
-use Rattle.std.specs.Prelude.{◌≡◌, ℕ, Bool, true, false, nat_le, List, [], ◌∷◌, length, Option, Some, None, Result, Ok, Err, bit_or}
+use Rattle.std.specs.Prelude.{◌≡◌, ℕ, ◌+◌, ◌%◌, ◌<◌, ◌≤◌, ◌==◌, true, false, nat_le, nat_lt, List, [], ◌∷◌, ◌++◌, length, remove, if◌then◌else◌, Option, Some, None, IsSome, Result, Ok, Err, bit_or}
+use Rattle.vb_model.specs.declared.layout.TheConstants.{DEFLATE_QUEUE}
 use Rattle.vb_model.specs.declared.replies.Refusal.{Refusal}
-use Rattle.vb_model.specs.declared.replies.Refusal.TheVariants.{NotReady, NeedsReset, Busy, Broken}
-use Rattle.vb_model.specs.Status.{needs_reset}
+use Rattle.vb_model.specs.declared.replies.Refusal.TheVariants.{NoQueue, NotReady, NeedsReset, Busy, Broken}
+use Rattle.vb_model.specs.Layout.{ring_page}
+use Rattle.vb_model.specs.Status.{contains, driver_ok, needs_reset}
 use Rattle.vb_model.specs.Requests.{Request}
 use Rattle.vb_model.specs.Refusals.{◌⇒◌, first_refusal}
-use Rattle.vb_ram.specs.Pages.{Pages}
+use Rattle.vb_ram.specs.Pages.{Pages, frame_at}
 use Rattle.vb_ram.specs.Part.{Part}
 use Rattle.vb_chain.specs.declared.ChainFault.{ChainFault}
 use Rattle.vb_chain.specs.declared.Piece.{Piece}
 use Rattle.vb_ring.specs.Calls.{AddsUsedBy}
-use Rattle.vb_device.specs.Queues.{queue_end}
+use Rattle.vb_device.specs.Queues.{queue_part, with_queue, queue_end}
 use Rattle.vb_device.specs.Conditions.{is_not_ready, has_fault, finish_refusal, taken_at}
 use Rattle.vb_device.specs.Faults.{rule_of}
 use Rattle.vb_device.specs.Request.{page_request}
 use Rattle.vb_device.specs.QueueState.{QueueState, with_request, next_of, Gives, Faults}
-use Rattle.vb_device.specs.Calls.{settled, using, without_frames}
+use Rattle.vb_device.specs.Discards.{frames_behind}
+use Rattle.vb_device.specs.Calls.{without_frames}
 
 -- Why the status alone refuses a call, where it does.
 abbrev pub status_refusal : ℕ → Option Refusal
 status_refusal status = first_refusal ((is_not_ready status ⇒ NotReady) ∷ (has_fault status ⇒ NeedsReset) ∷ [])
+
+-- Why the number of a queue of page requests and the status refuse a call, where they do.
+abbrev pub queue_refusal : ℕ → ℕ → Option Refusal
+queue_refusal q status = first_refusal ((nat_lt DEFLATE_QUEUE q ⇒ NoQueue) ∷ (is_not_ready status ⇒ NotReady) ∷ (has_fault status ⇒ NeedsReset) ∷ [])
 
 abbrev pub refusal_in : {T : Type 0} → Result T Refusal → Option Refusal
 refusal_in (Ok x) = None
@@ -53,12 +60,31 @@ pub record TakesFrom (mem : Pages) (q1 q2 : QueueState) (s1 s2 : ℕ) (result : 
       → page_request mem pieces ≡ Ok pages → (result ≡ Ok (Some h)) × (q2 ≡ with_request h pages q1) × (s2 ≡ s1)
   pub means : FromMeans mem q1 q2 s1 s2 result
 
--- A finish that gives the request out.
-pub record GivesUsed (q index : ℕ) (r : Request) (m1 m2 : Pages) (p1 p2 : Part) (result : Result Request Refusal) : Type 0 where
-  pub answer : result ≡ Ok r
-  pub part : p2 ≡ settled q r.pages m1 (using q index p1)
-  pub memory : AddsUsedBy (without_frames q r.pages m1) m2 (queue_end q p1) (queue_end q p2) r.head 0
+-- ---- finish, in its two parts
 
-pub record BaseFinishes (q index : ℕ) (m1 m2 : Pages) (p1 p2 : Part) (result : Result Request Refusal) : Type 0 where
+-- The loose frames, with those that a request's pages lose.
+abbrev pub with_lost : ℕ → Pages → List ℕ → List ℕ → List ℕ
+with_lost q mem pages loose = if q == DEFLATE_QUEUE then loose else loose ++ frames_behind mem pages
+
+-- The taken request of this number, for these pages, is taken out: those behind it close up, and what its pages lose is loose.
+abbrev pub taken_out : ℕ → ℕ → List ℕ → Pages → Part → Part
+taken_out q index pages mem part =
+    with_queue q
+    (record (queue_part q part) { taken = remove (queue_part q part).taken index })
+    (record part { loose = with_lost q mem pages part.loose })
+
+pub record TakesOut (q index : ℕ) (m1 m2 : Pages) (p1 p2 : Part) (result : Result Request Refusal) : Type 0 where
   pub refused : (why : Refusal) → finish_refusal q index p1 ≡ Some why → (result ≡ Err why) × (p2 ≡ p1) × (m2 ≡ m1)
-  pub finished : (r : Request) → finish_refusal q index p1 ≡ None → taken_at q index p1 ≡ Some r → GivesUsed q index r m1 m2 p1 p2 result
+  pub out : (r : Request) → finish_refusal q index p1 ≡ None → taken_at q index p1 ≡ Some r → (result ≡ Ok r) × (m2 ≡ without_frames q r.pages m1) × (p2 ≡ taken_out q index r.pages m1 p1)
+
+-- A chain from this head of the queue can be told as used: the driver is ready, and the ring's page has a frame.
+pub record CanUse (q h : ℕ) (mem : Pages) (part : Part) : Type 0 where
+  pub known : q ≤ DEFLATE_QUEUE
+  pub ready : contains part.status driver_ok ≡ true
+  pub head : h < part.queue_size
+  pub backed : IsSome (frame_at mem (ring_page q))
+
+-- One more used entry of the queue is written: this head, with length 0.
+pub record UsesChain (q h : ℕ) (m1 m2 : Pages) (p1 p2 : Part) : Type 0 where
+  pub part : p2 ≡ with_queue q (record (queue_part q p1) { next_used = ((queue_part q p1).next_used + 1) % 65536 }) p1
+  pub memory : AddsUsedBy m1 m2 (queue_end q p1) (queue_end q p2) h 0

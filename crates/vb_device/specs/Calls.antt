@@ -1,6 +1,6 @@
 -- What the calls on a device do, by old and new of guest memory and of the device's part: VIRTIO 1.1, 5.5.6; frames and refusals are the profile's.
 -- What a call leaves is said as a change of named fields of the old part, so that a device which keeps frames of its own may stand round another.
-use Rattle.std.specs.Prelude.{◌≡◌, ℕ, ◌+◌, ◌*◌, ◌%◌, ◌==◌, Bool, true, false, not, List, [], ◌∷◌, ◌++◌, length, remove, replicate, if◌then◌else◌, Option, Some, None, is_some, slice_get, Result, Ok, Err}
+use Rattle.std.specs.Prelude.{◌≡◌, ℕ, ◌+◌, ◌*◌, ◌%◌, ◌==◌, Bool, true, false, List, [], ◌∷◌, ◌++◌, length, remove, replicate, if◌then◌else◌, Option, Some, None, is_some, Result, Ok, Err}
 use Rattle.vb_model.specs.declared.layout.TheConstants.{INFLATE_QUEUE, DEFLATE_QUEUE}
 use Rattle.vb_model.specs.declared.replies.Refusal.{Refusal}
 use Rattle.vb_model.specs.declared.replies.Refusal.TheVariants.{Broken}
@@ -9,7 +9,7 @@ use Rattle.vb_model.specs.Requests.{Request}
 use Rattle.vb_model.specs.Guest.{no_statistics, zero_page}
 use Rattle.vb_ram.specs.declared.config.Config.{Config}
 use Rattle.vb_ram.specs.Pages.{Page, Pages, frame_at}
-use Rattle.vb_ram.specs.Part.{Part, QueuePart, no_queue}
+use Rattle.vb_ram.specs.Part.{Part, no_queue}
 use Rattle.vb_chain.specs.declared.ChainFault.{ChainFault}
 use Rattle.vb_chain.specs.declared.Piece.{Piece}
 use Rattle.vb_chain.specs.Table.{descriptor_at}

@@ -1,5 +1,5 @@
 -- What the calls on a device are refused for, in the order in which it is tested (profile); the status bits are those of VIRTIO 1.1, 2.1.
-use Rattle.std.specs.Prelude.{ℕ, Bool, not, ◌==◌, ◌&&◌, ◌||◌, nat_le, nat_lt, List, [], ◌∷◌, length, Option, Some, None, is_none, slice_get, if◌then◌else◌}
+use Rattle.std.specs.Prelude.{ℕ, Bool, not, ◌==◌, ◌&&◌, ◌||◌, nat_le, List, [], ◌∷◌, length, Option, is_none, slice_get, if◌then◌else◌}
 use Rattle.vb_model.specs.declared.layout.TheConstants.{DEFLATE_QUEUE, STATISTICS_QUEUE, REPORT_QUEUE}
 use Rattle.vb_model.specs.declared.replies.Refusal.{Refusal}
 use Rattle.vb_model.specs.declared.replies.Refusal.TheVariants.{NotReady, NoQueue, NeedsReset, Busy, NotTaken, NotWorked, NotBallooned}

@@ -1,9 +1,7 @@
 -- The request that a driver writes as one readable piece, for the crates above.
-use Rattle.std.specs.Prelude.{◌≡◌, ℕ, zero, suc, ◌+◌, ◌*◌, ◌/◌, ◌%◌, ◌<◌, ◌≤◌, Bool, true, false, not, ◌&&◌, ◌||◌, ◌==◌, nat_le, nat_lt, IsTrue, List, [], ◌∷◌, ◌++◌, All, length, filter, if◌then◌else◌, Option, Some, None, Result, Ok, Err, slice_index, slice_index_or, refl, cond}
-use Rattle.std.specs.List.{list_any}
-use Rattle.std.specs.Int.{w32, from_le_bytes}
-use Rattle.std.proofs.Common.{sym, ◌∙◌, ap, subst, arith, get_or, take, drop, eq-eqb, rules}
-use Rattle.std.proofs.lemmas.Bool.{eqb-true, lt-ltb, le-leb, lt-leb, le-ltb}
+use Rattle.std.specs.Prelude.{◌≡◌, ℕ, suc, ◌+◌, ◌*◌, ◌/◌, ◌%◌, ◌<◌, ◌≤◌, Bool, true, false, not, ◌&&◌, ◌||◌, ◌==◌, nat_le, nat_lt, IsTrue, List, [], ◌∷◌, All, length, filter, if◌then◌else◌, Option, Some, None, Ok, slice_index, refl, cond}
+use Rattle.std.proofs.Common.{sym, ◌∙◌, ap, arith, take, drop, eq-eqb, rules}
+use Rattle.std.proofs.lemmas.Bool.{lt-ltb, le-leb, lt-leb, le-ltb}
 use Rattle.std.proofs.lemmas.List.{ext_get_or, get_or-take, get_or-drop, append-nil}
 use Rattle.std.proofs.lemmas.List.FromFn.{get_or-map-range_with_len}
 use Rattle.vb_model.specs.Tests.{is_in}

@@ -1,5 +1,5 @@
 -- One queue of page requests as a device has it.
-use Rattle.std.specs.Prelude.{◌≡◌, ℕ, ◌+◌, ◌*◌, ◌%◌, ◌≤◌, Bool, List, [], ◌∷◌, ◌++◌, All, length, Option, Some, None, Result, Ok, Err}
+use Rattle.std.specs.Prelude.{◌≡◌, ℕ, ◌+◌, ◌*◌, ◌%◌, ◌≤◌, Bool, false, List, [], ◌∷◌, ◌++◌, All, length, Option, Some, None, Result, Ok, Err}
 use Rattle.vb_model.specs.Requests.{Request}
 use Rattle.vb_model.specs.Driver.{AllDistinct}
 use Rattle.vb_ram.specs.Pages.{Pages}
@@ -28,6 +28,10 @@ started ready size ring =
       ring = record { layout = layout_of ring.layout.table size; size = size; ready = ready; next_avail = 0; next_used = 0 };
       taken = [];
     }
+
+-- A queue that stands for one that isn't there.
+abbrev pub no_ring : QueueState
+no_ring = started false 0 (record { layout = layout_of 0 0; size = 0; ready = false; next_avail = 0; next_used = 0 })
 
 -- The same queue that begins anew, ready or not.
 abbrev pub restarted : Bool → QueueState → QueueState

@@ -1,5 +1,5 @@
 -- Laws of requests, for the crates above.
-use Rattle.std.specs.Prelude.{◌≡◌, ℕ, zero, suc, slice_index_or, ◌+◌, ◌<◌, ◌≤◌, Bool, true, false, not, ◌==◌, ◌||◌, nat_le, nat_lt, IsTrue, List, [], ◌∷◌, All, length, filter, if◌then◌else◌, Option, Some, None, Result, Ok, Err, refl, cond}
+use Rattle.std.specs.Prelude.{◌≡◌, ℕ, zero, suc, slice_index_or, ◌<◌, ◌≤◌, Bool, true, false, not, ◌==◌, ◌||◌, nat_le, nat_lt, IsTrue, List, [], ◌∷◌, All, length, filter, if◌then◌else◌, Option, Some, None, Ok, Err, refl, cond}
 use Rattle.std.proofs.Common.{rules}
 use Rattle.std.specs.List.{list_any}
 use Rattle.std.proofs.Common.{sym, ◌∙◌, ap, subst, arith}

@@ -127,14 +127,11 @@ impl Device for ImmediateDevice {
     }
 
     fn finish(&mut self, queue: u32, index: u32) -> Result<u16, Refusal> {
-        match self.base.finish(queue, index) {
-            Err(why) => Err(why),
-            Ok(request) => {
-                self.ballooned
-                    .set_all(request.pages(), queue == INFLATE_QUEUE);
-                Ok(request.head())
-            }
-        }
+        let request = self.base.take_out(queue, index)?;
+        self.ballooned
+            .set_all(request.pages(), queue == INFLATE_QUEUE);
+        self.base.use_chain(queue, request.head());
+        Ok(request.head())
     }
 
     fn sweep(&mut self, page: u32) -> Result<bool, Refusal> {

@@ -1,4 +1,4 @@
-use Rattle.std.proofs.Common.{◌≡◌, ◌∙◌, ◌<◌, ℕ, suc, List, take, drop, Option, Some, sym, ap, subst, rules, get_or}
+use Rattle.std.proofs.Common.{◌∙◌, ◌<◌, suc, List, take, drop, Some, sym, ap, subst, rules}
 use Rattle.std.specs.Prelude.{All, length, slice_get}
 use Rattle.std.proofs.lemmas.List.Elements.{All-append, All-take, All-drop}
 use Rattle.std.proofs.lemmas.Option.{slice_get-get_or}
