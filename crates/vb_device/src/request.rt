@@ -1,6 +1,6 @@
 // The pages that a chain of queue 0 or 1 names.
 
-ghost use Rattle.std.specs.Prelude.{◌≡◌, ℕ, ◌+◌, ◌*◌, ◌/◌, ◌^◌, ◌<◌, ◌≤◌, ◌++◌, ◌∷◌, [], if◌then◌else◌, List, Ok, Err, Some, None, All, MatchResult, MatchOption, length, take};
+ghost use Rattle.std.specs.Prelude.{◌≡◌, ℕ, ◌+◌, ◌*◌, ◌/◌, ◌%◌, ◌^◌, ◌<◌, ◌≤◌, ◌++◌, ◌∷◌, [], if◌then◌else◌, List, Ok, Err, Some, None, All, MatchResult, MatchOption, length, take};
 ghost use Rattle.std.specs.List.{list_any};
 ghost use Rattle.vb_model.specs.Tests.{is_in};
 ghost use Rattle.vb_device.specs.Request.{byte_of_address, bytes_from, bytes_of, total_length, number_at, numbers_of, number_fault, pages_of_numbers, is_request_length, page_request};
@@ -8,41 +8,65 @@ ghost use Rattle.vb_device.specs.Request.{byte_of_address, bytes_from, bytes_of,
 use arrayvec::ArrayVec;
 use vb_chain::{ChainFault, Piece};
 use vb_model::layout::REQUEST_BUFFER_SIZE;
-use vb_model::limits::RESERVED_PAGES;
+use vb_model::limits::{PAGE_SIZE, RESERVED_PAGES};
 use vb_ram::GuestBytes;
 
-/// The byte at an address of guest memory.
-fn read_byte<G: GuestBytes>(ram: &G, addr: u64) -> u8
-    requires inside { addr < 4096 * length (G.mem ram.now) }
+/// Bytes of a page.
+const PAGE_BYTES: u64 = PAGE_SIZE as u64;
+
+/// The bytes of a request, all its pieces in a row.
+type RequestBytes = ArrayVec<u8, 1024>;
+
+/// Reads bytes of one page, from an address on.
+fn read_run<G: GuestBytes>(ram: &G, addr: u64, run: &mut [u8])
+    requires page { addr / 4096 < length (G.mem ram.now) }
+    requires inside { addr % 4096 + length run.old ≤ 4096 }
     requires few { length (G.mem ram.now) < 2 ^ 32 }
-    ensures { result ≡ byte_of_address (G.mem ram.now) addr }
+    ensures { run.new ≡ bytes_from (G.mem ram.now) addr (length run.old) }
 {
-    let mut byte = [0; 1];
-    let _ = ram.read((addr / 4096) as u32, (addr % 4096) as usize, &mut byte);
-    byte[0]
+    let page = (addr / PAGE_BYTES) as u32;
+    let offset = (addr % PAGE_BYTES) as usize;
+    let _ = ram.read(page, offset, run);
 }
 
-/// Reads a piece's bytes and puts them behind the others.
-fn append_bytes<G: GuestBytes>(ram: &G, addr: u64, len: u32, bytes: &mut ArrayVec<u8, 1024>)
+/// Reads bytes of one page and puts them behind the others.
+fn append_run<G: GuestBytes>(ram: &G, addr: u64, len: usize, bytes: &mut RequestBytes)
+    requires inside { addr + len ≤ 4096 * length (G.mem ram.now) }
+    requires one_page { addr % 4096 + len ≤ 4096 }
+    requires few { length (G.mem ram.now) < 2 ^ 32 }
+    requires room { length bytes.old.items + len ≤ 1024 }
+    ensures { bytes.new.items ≡ bytes.old.items ++ bytes_from (G.mem ram.now) addr len }
+{
+    if len == 0 {
+        return;
+    }
+    let mut run = [0; 1024];
+    read_run(ram, addr, &mut run[..len]);
+    let _fits = bytes.try_extend_from_slice(&run[..len]);
+}
+
+/// Reads a piece's bytes and puts them behind the others: a piece of a request lies in one page or
+/// in two.
+fn append_bytes<G: GuestBytes>(ram: &G, addr: u64, len: u32, bytes: &mut RequestBytes)
     requires inside { addr + len ≤ 4096 * length (G.mem ram.now) }
     requires few { length (G.mem ram.now) < 2 ^ 32 }
     requires room { length bytes.old.items + len ≤ 1024 }
     ensures { bytes.new.items ≡ bytes.old.items ++ bytes_from (G.mem ram.now) addr len }
 {
-    for i in 0..len {
-        let byte = read_byte(ram, addr + u64::from(i));
-        bytes.push(byte);
-    }
+    let to_page_end = (PAGE_BYTES - addr % PAGE_BYTES) as u32;
+    let first = len.min(to_page_end);
+    append_run(ram, addr, first as usize, bytes);
+    append_run(ram, addr + u64::from(first), (len - first) as usize, bytes);
 }
 
 /// The bytes of all pieces in a row.
-fn gather<G: GuestBytes>(ram: &G, pieces: &[Piece]) -> ArrayVec<u8, 1024>
+fn gather<G: GuestBytes>(ram: &G, pieces: &[Piece]) -> RequestBytes
     requires inside { All (λ piece. piece.addr + piece.len ≤ 4096 * length (G.mem ram.now)) pieces.now }
     requires few { length (G.mem ram.now) < 2 ^ 32 }
     requires fits { total_length pieces.now ≤ 1024 }
     ensures { result.items ≡ bytes_of (G.mem ram.now) pieces.now }
 {
-    let mut bytes: ArrayVec<u8, 1024> = ArrayVec::new();
+    let mut bytes: RequestBytes = ArrayVec::new();
     for piece in pieces {
         append_bytes(ram, piece.addr, piece.len, &mut bytes);
     }
