@@ -7,21 +7,21 @@ use Rattle.vb_model.specs.Status.{contains, driver_ok}
 use Rattle.vb_ring.specs.declared.layout.Layout.{Layout}
 use Rattle.vb_ring.specs.Layout.{layout_of}
 use Rattle.vb_device.specs.QueueState.{QueueState, started, restarted}
-use Rattle.vb_device.specs.Base.{queue_at, IsQueue, IsBase}
+use Rattle.vb_device.specs.Base.{queue_at, IsDeviceQueue, IsBase}
 
 -- the same fact where the size is spelt otherwise
-sized : (mem : Pages) (s n k q : ℕ) (x : QueueState) → n ≡ k → IsQueue mem s n q x → IsQueue mem s k q x
-sized mem s n k q x e is = subst (λ (m : ℕ). IsQueue mem s m q x) e is
+sized : (mem : Pages) (s n k q : ℕ) (x : QueueState) → n ≡ k → IsDeviceQueue mem s n q x → IsDeviceQueue mem s k q x
+sized mem s n k q x e is = subst (λ (m : ℕ). IsDeviceQueue mem s m q x) e is
 
-each_of : (mem : Pages) (s size : ℕ) (x d : QueueState) → IsQueue mem s size 0 x → IsQueue mem s size 1 d → (q : ℕ) → q ≤ 1 → IsQueue mem s size q (queue_at q (x ∷ d ∷ []))
+each_of : (mem : Pages) (s size : ℕ) (x d : QueueState) → IsDeviceQueue mem s size 0 x → IsDeviceQueue mem s size 1 d → (q : ℕ) → q ≤ 1 → IsDeviceQueue mem s size q (queue_at q (x ∷ d ∷ []))
 each_of mem s size x d a b zero le = a
 each_of mem s size x d a b (suc zero) le = b
 each_of mem s size x d a b (suc (suc n)) le = absurd (omega arith)
 
 -- one queue is changed and keeps its size; the other one is as true as before
 pub base_set : (q : ℕ) (m1 m2 : Pages) (s1 s2 c1 c2 : ℕ) (qs : List QueueState) (x2 : QueueState) → IsBase m1 s1 qs c1 → q ≤ 1 → x2.ring.size ≡ (queue_at q qs).ring.size
-    → ((n : ℕ) (x : QueueState) → IsQueue m1 s1 (queue_at 0 qs).ring.size n x → IsQueue m2 s2 (queue_at 0 qs).ring.size n x)
-    → (IsQueue m1 s1 (queue_at 0 qs).ring.size q (queue_at q qs) → IsQueue m2 s2 (queue_at 0 qs).ring.size q x2)
+    → ((n : ℕ) (x : QueueState) → IsDeviceQueue m1 s1 (queue_at 0 qs).ring.size n x → IsDeviceQueue m2 s2 (queue_at 0 qs).ring.size n x)
+    → (IsDeviceQueue m1 s1 (queue_at 0 qs).ring.size q (queue_at q qs) → IsDeviceQueue m2 s2 (queue_at 0 qs).ring.size q x2)
     → (0 < length m2 → 64 ≤ length m2) → (0 < length m2 → length m2 + 256 ≤ c2) → IsBase m2 s2 (set qs q x2) c2
 base_set q m1 m2 s1 s2 c1 c2 [] x2 b le size other one large room = absurd (omega (arith, b.two))
 base_set q m1 m2 s1 s2 c1 c2 (x ∷ []) x2 b le size other one large room = absurd (omega (arith, b.two))
@@ -81,7 +81,7 @@ both_are (u ∷ []) x y two = absurd (omega (arith, two))
 both_are (u ∷ v ∷ []) x y two = refl
 both_are (u ∷ v ∷ w ∷ ws) x y two = absurd (omega (arith, two))
 
-base_both : (mem : Pages) (s n capacity : ℕ) (qs : List QueueState) (x y : QueueState) → length qs ≡ 2 → IsQueue mem s n 0 x → IsQueue mem s n 1 y
+base_both : (mem : Pages) (s n capacity : ℕ) (qs : List QueueState) (x y : QueueState) → length qs ≡ 2 → IsDeviceQueue mem s n 0 x → IsDeviceQueue mem s n 1 y
     → (0 < length mem → 64 ≤ length mem) → (0 < length mem → length mem + 256 ≤ capacity) → IsBase mem s (set (set qs 0 x) 1 y) capacity
 base_both mem s n capacity qs x y two a b large room =
     subst (λ (xs : List QueueState). IsBase mem s xs capacity) (sym (both_are qs x y two)) (record {
@@ -92,7 +92,7 @@ base_both mem s n capacity qs x y two a b large room =
     })
 
 -- a queue that begins anew, with a size or with the one that it had
-started_is : (m1 m2 : Pages) (s1 s2 n k q : ℕ) (old x : QueueState) → IsQueue m1 s1 n q old → x ≡ started false k old.ring → (contains s2 driver_ok ≡ true → false ≡ true) → IsQueue m2 s2 k q x
+started_is : (m1 m2 : Pages) (s1 s2 n k q : ℕ) (old x : QueueState) → IsDeviceQueue m1 s1 n q old → x ≡ started false k old.ring → (contains s2 driver_ok ≡ true → false ≡ true) → IsDeviceQueue m2 s2 k q x
 started_is m1 m2 s1 s2 n k q old x is e stopped = record {
   ring = ap (λ (u : QueueState). u.ring.layout) e ∙ ap (λ (l : Layout). layout_of l.table k) is.ring;
   size = ap (λ (u : QueueState). u.ring.size) e;
@@ -101,7 +101,7 @@ started_is m1 m2 s1 s2 n k q old x is e stopped = record {
   none = λ z. ap (λ (u : QueueState). u.taken) e;
 }
 
-restarted_is : (mem : Pages) (s1 s2 n q : ℕ) (ready : Bool) (old x : QueueState) → IsQueue mem s1 n q old → x ≡ restarted ready old → (contains s2 driver_ok ≡ true → ready ≡ true) → IsQueue mem s2 n q x
+restarted_is : (mem : Pages) (s1 s2 n q : ℕ) (ready : Bool) (old x : QueueState) → IsDeviceQueue mem s1 n q old → x ≡ restarted ready old → (contains s2 driver_ok ≡ true → ready ≡ true) → IsDeviceQueue mem s2 n q x
 restarted_is mem s1 s2 n q ready old x is e goes = record {
   ring = ap (λ (u : QueueState). u.ring.layout) e ∙ is.ring;
   size = ap (λ (u : QueueState). u.ring.size) e ∙ is.size;

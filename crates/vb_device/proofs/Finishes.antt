@@ -15,7 +15,7 @@ use Rattle.vb_device.specs.Conditions.{is_not_ready, has_fault, finish_refusal, 
 use Rattle.vb_device.specs.Queues.{queue_end}
 use Rattle.vb_device.specs.QueueState.{QueueState}
 use Rattle.vb_device.specs.Discards.{discarded}
-use Rattle.vb_device.specs.Base.{queue_at, base_part, numbers_of_frames, IsQueue, IsBase}
+use Rattle.vb_device.specs.Base.{queue_at, base_part, numbers_of_frames, IsDeviceQueue, IsBase}
 use Rattle.vb_device.specs.BaseCalls.{queue_refusal, with_lost, taken_out, TakesOut, UsesChain, CanUse}
 use Rattle.vb_device.specs.Calls.{without_frames}
 use Rattle.vb_device.proofs.Both.{base_set, size_kept}
@@ -109,7 +109,7 @@ pub used_at : (q h : ℕ) (m1 m2 : Pages) (s f t a capacity : ℕ) (qs : List Qu
 used_at q h m1 m2 s f t a capacity [] x2 loose is le ok adds left = absurd (omega (arith, is.two))
 used_at q h m1 m2 s f t a capacity (x ∷ []) x2 loose is le ok adds left = absurd (omega (arith, is.two))
 used_at zero h m1 m2 s f t a capacity (x ∷ d ∷ []) x2 loose is le ok adds left =
-    let now : IsQueue m1 s x.ring.size 0 x = is.each 0 (omega arith) in
+    let now : IsDeviceQueue m1 s x.ring.size 0 x = is.each 0 (omega arith) in
     let size : x2.ring.size ≡ x.ring.size = ap (λ (e : DeviceEnd). e.size) adds.state in
     record {
       part = ap (λ (y : QueueState). base_part s f t a (y ∷ d ∷ []) loose) (queue_is x2 (record x.ring { next_used = (x.ring.next_used + 1) % 65536 }) x.taken adds.state left);
@@ -118,7 +118,7 @@ used_at zero h m1 m2 s f t a capacity (x ∷ d ∷ []) x2 loose is le ok adds le
           (end_is x2.ring (layout_of 0 x2.ring.size) x2.ring.size (ap (λ (e : DeviceEnd). e.layout) adds.state ∙ (now.ring ∙ ap (layout_of 0) (sym size))) refl (ap (λ (e : DeviceEnd). e.ready) adds.state ∙ now.ready ok)) adds;
     }
 used_at (suc zero) h m1 m2 s f t a capacity (x ∷ d ∷ []) x2 loose is le ok adds left =
-    let now : IsQueue m1 s x.ring.size 1 d = is.each 1 (omega arith) in
+    let now : IsDeviceQueue m1 s x.ring.size 1 d = is.each 1 (omega arith) in
     record {
       part = ap (λ (y : QueueState). base_part s f t a (x ∷ y ∷ []) loose) (queue_is x2 (record d.ring { next_used = (d.ring.next_used + 1) % 65536 }) d.taken adds.state left);
       memory = ends_so m1 m2 d.ring x2.ring (queue_end 1 (base_part s f t a (x ∷ d ∷ []) loose)) (queue_end 1 (base_part s f t a (x ∷ x2 ∷ []) loose)) h

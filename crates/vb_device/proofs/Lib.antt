@@ -1,3 +1,7 @@
+pub mod Once
+pub mod Bytes
+pub mod RequestPages
+pub mod OneRequest
 pub mod Chains
 pub mod Takes
 pub mod Both

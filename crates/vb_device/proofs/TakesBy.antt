@@ -12,17 +12,17 @@ use Rattle.vb_ram.specs.Part.{Part}
 use Rattle.vb_chain.specs.declared.ChainFault.{ChainFault}
 use Rattle.vb_chain.specs.declared.Piece.{Piece}
 use Rattle.vb_device.specs.Conditions.{has_chains, is_not_ready, has_fault, take_refusal, finish_refusal}
-use Rattle.vb_device.specs.Queues.{next_head}
+use Rattle.vb_device.specs.Queues.{next_available}
 use Rattle.vb_device.specs.Faults.{needing_reset}
-use Rattle.vb_device.specs.QueueState.{QueueState, with_request, next_of, Gives, Faults}
-use Rattle.vb_device.specs.BaseCalls.{status_refusal, queue_refusal, TakesFrom, FromMeans}
+use Rattle.vb_device.specs.QueueState.{QueueState, with_request, next_of, IsChainOf, IsFaultOf}
+use Rattle.vb_device.specs.BaseCalls.{readiness_refusal, queue_refusal, TakesFrom, FromMeans}
 use Rattle.std.specs.Prelude.{◌*◌}
 use Rattle.vb_model.specs.Status.{contains, driver_ok, failed}
 use Rattle.vb_chain.specs.Table.{descriptor_at}
 use Rattle.vb_chain.specs.Chain.{ChainGives, FaultGives}
 use Rattle.vb_ring.specs.declared.layout.Layout.{Layout}
 use Rattle.vb_ring.specs.Entries.{next_entry}
-use Rattle.vb_device.specs.Base.{queue_at, base_part, IsQueue, IsBase}
+use Rattle.vb_device.specs.Base.{queue_at, base_part, IsDeviceQueue, IsBase}
 use Rattle.vb_device.proofs.Both.{base_set}
 use Rattle.vb_device.proofs.FromNext.{KeepsRing}
 use Rattle.std.proofs.Math.ListN.{set}
@@ -106,7 +106,7 @@ queue_known zero s e = omega arith
 queue_known (suc zero) s e = omega arith
 queue_known (suc (suc n)) s e = absurd (none_some (queue_refusal (suc (suc n)) s) NoQueue e (far_queue n s))
 
-pub queue_status : (q s : ℕ) → queue_refusal q s ≡ None → status_refusal s ≡ None
+pub queue_status : (q s : ℕ) → queue_refusal q s ≡ None → readiness_refusal s ≡ None
 queue_status zero s e = e
 queue_status (suc zero) s e = e
 queue_status (suc (suc n)) s e = absurd (none_some (queue_refusal (suc (suc n)) s) NoQueue e (far_queue n s))
@@ -129,10 +129,10 @@ takes_refused q mem part why e =
 -- how a queue and the status sit in a part, and how what its bytes say is the queue's
 pub record Sits (q : ℕ) (mem : Pages) (P : QueueState → ℕ → Part) (x : QueueState) (s : ℕ) : Type 0 where
   pub refusal : take_refusal q (P x s) ≡ (if nat_le 16 (length x.taken) then Some Busy else None)
-  pub next : next_head q mem (P x s) ≡ next_of mem x
-  pub chain : (h : ℕ) (pieces : List Piece) → HasChain q mem (P x s) h pieces → Gives mem x h pieces
-  pub chain_back : (h : ℕ) (pieces : List Piece) → Gives mem x h pieces → HasChain q mem (P x s) h pieces
-  pub fault : (h : ℕ) (f : ChainFault) → HasFault q mem (P x s) h f → Faults mem x h f
+  pub next : next_available q mem (P x s) ≡ next_of mem x
+  pub chain : (h : ℕ) (pieces : List Piece) → HasChain q mem (P x s) h pieces → IsChainOf mem x h pieces
+  pub chain_back : (h : ℕ) (pieces : List Piece) → IsChainOf mem x h pieces → HasChain q mem (P x s) h pieces
+  pub fault : (h : ℕ) (f : ChainFault) → HasFault q mem (P x s) h f → IsFaultOf mem x h f
   pub resets : needing_reset (P x s) ≡ P x (bit_or s needs_reset)
   pub takes : (h : ℕ) (pages : List ℕ) → taking q h pages (P x s) ≡ P (with_request h pages x) s
 
@@ -185,7 +185,7 @@ inflate_in features target actual deflate loose x s = base_part s features targe
 abbrev deflate_in : ℕ → ℕ → ℕ → QueueState → List Page → QueueState → ℕ → Part
 deflate_in features target actual inflate loose x s = base_part s features target actual (inflate ∷ x ∷ []) loose
 
-sits_inflate : (mem : Pages) (features target actual : ℕ) (x deflate : QueueState) (loose : List Page) (s : ℕ) → status_refusal s ≡ None → IsQueue mem s x.ring.size 0 x → Sits 0 mem (inflate_in features target actual deflate loose) x s
+sits_inflate : (mem : Pages) (features target actual : ℕ) (x deflate : QueueState) (loose : List Page) (s : ℕ) → readiness_refusal s ≡ None → IsDeviceQueue mem s x.ring.size 0 x → Sits 0 mem (inflate_in features target actual deflate loose) x s
 sits_inflate mem features target actual x deflate loose s ok is = record {
   refusal = after_status (is_not_ready s) (has_fault s) _ ok;
   next = ap (λ (l : Layout). next_entry mem l x.ring.size x.ring.next_avail) (sym is.ring);
@@ -196,7 +196,7 @@ sits_inflate mem features target actual x deflate loose s ok is = record {
   takes = λ h pages. refl;
 }
 
-sits_deflate : (mem : Pages) (features target actual : ℕ) (inflate x : QueueState) (loose : List Page) (s : ℕ) → status_refusal s ≡ None → IsQueue mem s inflate.ring.size 1 x → Sits 1 mem (deflate_in features target actual inflate loose) x s
+sits_deflate : (mem : Pages) (features target actual : ℕ) (inflate x : QueueState) (loose : List Page) (s : ℕ) → readiness_refusal s ≡ None → IsDeviceQueue mem s inflate.ring.size 1 x → Sits 1 mem (deflate_in features target actual inflate loose) x s
 sits_deflate mem features target actual inflate x loose s ok is = record {
   refusal = after_status (is_not_ready s) (has_fault s) _ ok;
   next = ap (λ (l : Layout). next_entry mem l inflate.ring.size x.ring.next_avail) (sym is.ring) ∙ ap (λ (n : ℕ). next_entry mem x.ring.layout n x.ring.next_avail) (sym is.size);

@@ -30,7 +30,7 @@ base_part status features target actual queues loose =
     }
 
 -- What is always true of one queue: its ring is in its page, a driver that is ready finds it ready, and where no device is attached nothing was taken from it.
-pub record IsQueue (mem : Pages) (status descriptors q : ℕ) (queue : QueueState) : Type 0 where
+pub record IsDeviceQueue (mem : Pages) (status descriptors q : ℕ) (queue : QueueState) : Type 0 where
   pub ring : queue.ring.layout ≡ layout_of (ring_page q) descriptors
   pub size : queue.ring.size ≡ descriptors
   pub ready : contains status driver_ok ≡ true → queue.ring.ready ≡ true
@@ -40,7 +40,7 @@ pub record IsQueue (mem : Pages) (status descriptors q : ℕ) (queue : QueueStat
 -- What is always true of these fields: there are both queues, of one size, and an attached device has room for what it will keep.
 pub record IsBase (mem : Pages) (status : ℕ) (queues : List QueueState) (capacity : ℕ) : Type 0 where
   pub two : length queues ≡ 2
-  pub each : (q : ℕ) → q ≤ DEFLATE_QUEUE → IsQueue mem status (queue_at INFLATE_QUEUE queues).ring.size q (queue_at q queues)
+  pub each : (q : ℕ) → q ≤ DEFLATE_QUEUE → IsDeviceQueue mem status (queue_at INFLATE_QUEUE queues).ring.size q (queue_at q queues)
   pub large : 0 < length mem → 64 ≤ length mem
   pub room : 0 < length mem → length mem + 256 ≤ capacity
 

@@ -16,24 +16,20 @@ use Rattle.vb_device.specs.Queues.{queue_part, with_queue, queue_end}
 use Rattle.vb_device.specs.Conditions.{is_not_ready, has_fault, finish_refusal, taken_at}
 use Rattle.vb_device.specs.Faults.{rule_of}
 use Rattle.vb_device.specs.Request.{page_request}
-use Rattle.vb_device.specs.QueueState.{QueueState, with_request, next_of, Gives, Faults}
+use Rattle.vb_device.specs.QueueState.{QueueState, with_request, next_of, IsChainOf, IsFaultOf}
 use Rattle.vb_device.specs.Discards.{frames_behind}
 use Rattle.vb_device.specs.Calls.{without_frames}
 
 -- Why the status alone refuses a call, where it does.
-abbrev pub status_refusal : ℕ → Option Refusal
-status_refusal status = first_refusal ((is_not_ready status ⇒ NotReady) ∷ (has_fault status ⇒ NeedsReset) ∷ [])
+abbrev pub readiness_refusal : ℕ → Option Refusal
+readiness_refusal status = first_refusal ((is_not_ready status ⇒ NotReady) ∷ (has_fault status ⇒ NeedsReset) ∷ [])
 
 -- Why the number of a queue of page requests and the status refuse a call, where they do.
 abbrev pub queue_refusal : ℕ → ℕ → Option Refusal
 queue_refusal q status = first_refusal ((nat_lt DEFLATE_QUEUE q ⇒ NoQueue) ∷ (is_not_ready status ⇒ NotReady) ∷ (has_fault status ⇒ NeedsReset) ∷ [])
 
-abbrev pub refusal_in : {T : Type 0} → Result T Refusal → Option Refusal
-refusal_in (Ok x) = None
-refusal_in (Err why) = Some why
-
 -- A fault of this queue: the status needs a reset, and the queue is as before.
-pub record BreaksAt (fault : ChainFault) (q1 q2 : QueueState) (s1 s2 : ℕ) (result : Result (Option ℕ) Refusal) : Type 0 where
+pub record BreaksQueue (fault : ChainFault) (q1 q2 : QueueState) (s1 s2 : ℕ) (result : Result (Option ℕ) Refusal) : Type 0 where
   pub answer : result ≡ Err (Broken (rule_of fault))
   pub status : s2 ≡ bit_or s1 needs_reset
   pub queue : q2 ≡ q1
@@ -44,7 +40,7 @@ FromMeans mem q1 q2 s1 s2 (Ok None) = (nat_le 16 (length q1.taken) ≡ false) ×
 FromMeans mem q1 q2 s1 s2 (Ok (Some h)) =
     (nat_le 16 (length q1.taken) ≡ false)
     × ((pages : List ℕ) × (pieces : List Piece)
-    × (next_of mem q1 ≡ Ok (Some h)) × Gives mem q1 h pieces × (page_request mem pieces ≡ Ok pages) × (q2 ≡ with_request h pages q1) × (s2 ≡ s1))
+    × (next_of mem q1 ≡ Ok (Some h)) × IsChainOf mem q1 h pieces × (page_request mem pieces ≡ Ok pages) × (q2 ≡ with_request h pages q1) × (s2 ≡ s1))
 FromMeans mem q1 q2 s1 s2 (Err (Broken rule)) = (nat_le 16 (length q1.taken) ≡ false) × (q2 ≡ q1) × (s2 ≡ bit_or s1 needs_reset)
 FromMeans mem q1 q2 s1 s2 (Err why) = (why ≡ Busy) × (nat_le 16 (length q1.taken) ≡ true) × (q2 ≡ q1) × (s2 ≡ s1)
 
@@ -52,11 +48,11 @@ FromMeans mem q1 q2 s1 s2 (Err why) = (why ≡ Busy) × (nat_le 16 (length q1.ta
 pub record TakesFrom (mem : Pages) (q1 q2 : QueueState) (s1 s2 : ℕ) (result : Result (Option ℕ) Refusal) : Type 0 where
   pub busy : nat_le 16 (length q1.taken) ≡ true → (result ≡ Err Busy) × (q2 ≡ q1) × (s2 ≡ s1)
   pub empty : nat_le 16 (length q1.taken) ≡ false → next_of mem q1 ≡ Ok None → (result ≡ Ok None) × (q2 ≡ q1) × (s2 ≡ s1)
-  pub jump : (fault : ChainFault) → nat_le 16 (length q1.taken) ≡ false → next_of mem q1 ≡ Err fault → BreaksAt fault q1 q2 s1 s2 result
-  pub fault : (h : ℕ) (fault : ChainFault) → nat_le 16 (length q1.taken) ≡ false → next_of mem q1 ≡ Ok (Some h) → Faults mem q1 h fault → BreaksAt fault q1 q2 s1 s2 result
-  pub wrong : (h : ℕ) (pieces : List Piece) (fault : ChainFault) → nat_le 16 (length q1.taken) ≡ false → next_of mem q1 ≡ Ok (Some h) → Gives mem q1 h pieces
-      → page_request mem pieces ≡ Err fault → BreaksAt fault q1 q2 s1 s2 result
-  pub takes : (h : ℕ) (pieces : List Piece) (pages : List ℕ) → nat_le 16 (length q1.taken) ≡ false → next_of mem q1 ≡ Ok (Some h) → Gives mem q1 h pieces
+  pub jump : (fault : ChainFault) → nat_le 16 (length q1.taken) ≡ false → next_of mem q1 ≡ Err fault → BreaksQueue fault q1 q2 s1 s2 result
+  pub fault : (h : ℕ) (fault : ChainFault) → nat_le 16 (length q1.taken) ≡ false → next_of mem q1 ≡ Ok (Some h) → IsFaultOf mem q1 h fault → BreaksQueue fault q1 q2 s1 s2 result
+  pub wrong : (h : ℕ) (pieces : List Piece) (fault : ChainFault) → nat_le 16 (length q1.taken) ≡ false → next_of mem q1 ≡ Ok (Some h) → IsChainOf mem q1 h pieces
+      → page_request mem pieces ≡ Err fault → BreaksQueue fault q1 q2 s1 s2 result
+  pub takes : (h : ℕ) (pieces : List Piece) (pages : List ℕ) → nat_le 16 (length q1.taken) ≡ false → next_of mem q1 ≡ Ok (Some h) → IsChainOf mem q1 h pieces
       → page_request mem pieces ≡ Ok pages → (result ≡ Ok (Some h)) × (q2 ≡ with_request h pages q1) × (s2 ≡ s1)
   pub means : FromMeans mem q1 q2 s1 s2 result
 

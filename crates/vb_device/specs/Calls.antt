@@ -17,7 +17,7 @@ use Rattle.vb_chain.specs.Chain.{ChainGives, FaultGives}
 use Rattle.vb_ring.specs.Calls.{AddsUsedBy}
 use Rattle.vb_device.specs.declared.claimed.Claimed.{Claimed}
 use Rattle.vb_device.specs.declared.claimed.Claimed.TheVariants.{Gave, AskHost, NoFrame, NoMemory}
-use Rattle.vb_device.specs.Queues.{queue_part, with_queue, queue_end, next_head}
+use Rattle.vb_device.specs.Queues.{queue_part, with_queue, queue_end, next_available}
 use Rattle.vb_device.specs.Conditions.{take_refusal, finish_refusal, sweep_refusal, taken_at}
 use Rattle.vb_device.specs.Faults.{Breaks, needing_reset}
 use Rattle.vb_device.specs.Own.{has, without}
@@ -69,8 +69,8 @@ taking q h pages part =
     part
 
 -- The guest's bytes say a chain next, and it is a request for these pages.
-pub record Names (q : ℕ) (mem : Pages) (part : Part) (h : ℕ) (pages : List ℕ) : Type 0 where
-  pub next : next_head q mem part ≡ Ok (Some h)
+pub record IsNextRequest (q : ℕ) (mem : Pages) (part : Part) (h : ℕ) (pages : List ℕ) : Type 0 where
+  pub next : next_available q mem part ≡ Ok (Some h)
   pub pieces : List Piece
   pub chain : HasChain q mem part h pieces
   pub request : page_request mem pieces ≡ Ok pages
@@ -78,7 +78,7 @@ pub record Names (q : ℕ) (mem : Pages) (part : Part) (h : ℕ) (pages : List �
 -- What each answer of a take says, whatever the guest's bytes are.
 abbrev pub TakeMeans : ℕ → Pages → Part → Part → Result (Option ℕ) Refusal → Type 0
 TakeMeans q mem p1 p2 (Ok None) = (take_refusal q p1 ≡ None) × (p2 ≡ p1)
-TakeMeans q mem p1 p2 (Ok (Some h)) = (take_refusal q p1 ≡ None) × ((pages : List ℕ) × Names q mem p1 h pages × (p2 ≡ taking q h pages p1))
+TakeMeans q mem p1 p2 (Ok (Some h)) = (take_refusal q p1 ≡ None) × ((pages : List ℕ) × IsNextRequest q mem p1 h pages × (p2 ≡ taking q h pages p1))
 TakeMeans q mem p1 p2 (Err (Broken rule)) = (take_refusal q p1 ≡ None) × (p2 ≡ needing_reset p1)
 TakeMeans q mem p1 p2 (Err why) = (take_refusal q p1 ≡ Some why) × (p2 ≡ p1)
 
@@ -86,12 +86,12 @@ TakeMeans q mem p1 p2 (Err why) = (take_refusal q p1 ≡ Some why) × (p2 ≡ p1
 pub record TakesBy (q : ℕ) (m1 m2 : Pages) (p1 p2 : Part) (result : Result (Option ℕ) Refusal) : Type 0 where
   pub memory : m2 ≡ m1
   pub refused : (why : Refusal) → take_refusal q p1 ≡ Some why → (result ≡ Err why) × (p2 ≡ p1)
-  pub empty : take_refusal q p1 ≡ None → next_head q m1 p1 ≡ Ok None → (result ≡ Ok None) × (p2 ≡ p1)
-  pub jump : (fault : ChainFault) → take_refusal q p1 ≡ None → next_head q m1 p1 ≡ Err fault → Breaks fault p1 p2 result
-  pub fault : (h : ℕ) (fault : ChainFault) → take_refusal q p1 ≡ None → next_head q m1 p1 ≡ Ok (Some h) → HasFault q m1 p1 h fault → Breaks fault p1 p2 result
-  pub wrong : (h : ℕ) (pieces : List Piece) (fault : ChainFault) → take_refusal q p1 ≡ None → next_head q m1 p1 ≡ Ok (Some h) → HasChain q m1 p1 h pieces
+  pub empty : take_refusal q p1 ≡ None → next_available q m1 p1 ≡ Ok None → (result ≡ Ok None) × (p2 ≡ p1)
+  pub jump : (fault : ChainFault) → take_refusal q p1 ≡ None → next_available q m1 p1 ≡ Err fault → Breaks fault p1 p2 result
+  pub fault : (h : ℕ) (fault : ChainFault) → take_refusal q p1 ≡ None → next_available q m1 p1 ≡ Ok (Some h) → HasFault q m1 p1 h fault → Breaks fault p1 p2 result
+  pub wrong : (h : ℕ) (pieces : List Piece) (fault : ChainFault) → take_refusal q p1 ≡ None → next_available q m1 p1 ≡ Ok (Some h) → HasChain q m1 p1 h pieces
       → page_request m1 pieces ≡ Err fault → Breaks fault p1 p2 result
-  pub takes : (h : ℕ) (pieces : List Piece) (pages : List ℕ) → take_refusal q p1 ≡ None → next_head q m1 p1 ≡ Ok (Some h) → HasChain q m1 p1 h pieces
+  pub takes : (h : ℕ) (pieces : List Piece) (pages : List ℕ) → take_refusal q p1 ≡ None → next_available q m1 p1 ≡ Ok (Some h) → HasChain q m1 p1 h pieces
       → page_request m1 pieces ≡ Ok pages → (result ≡ Ok (Some h)) × (p2 ≡ taking q h pages p1)
   pub means : TakeMeans q m1 p1 p2 result
 

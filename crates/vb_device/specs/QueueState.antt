@@ -53,11 +53,11 @@ with_request h pages q =
 abbrev pub next_of : Pages → QueueState → Result (Option ℕ) ChainFault
 next_of mem q = next_entry mem q.ring.layout q.ring.size q.ring.next_avail
 
-abbrev pub Gives : Pages → QueueState → ℕ → List Piece → Type 0
-Gives mem q h pieces = ChainGives (descriptor_at mem q.ring.layout.table) q.ring.size (4096 * length mem) h pieces
+abbrev pub IsChainOf : Pages → QueueState → ℕ → List Piece → Type 0
+IsChainOf mem q h pieces = ChainGives (descriptor_at mem q.ring.layout.table) q.ring.size (4096 * length mem) h pieces
 
-abbrev pub Faults : Pages → QueueState → ℕ → ChainFault → Type 0
-Faults mem q h fault = FaultGives (descriptor_at mem q.ring.layout.table) q.ring.size (4096 * length mem) h fault
+abbrev pub IsFaultOf : Pages → QueueState → ℕ → ChainFault → Type 0
+IsFaultOf mem q h fault = FaultGives (descriptor_at mem q.ring.layout.table) q.ring.size (4096 * length mem) h fault
 
 -- What each answer says.
 abbrev pub NextMeans : Pages → QueueState → QueueState → Result (Option ℕ) ChainFault → Type 0
@@ -65,13 +65,13 @@ NextMeans mem q1 q2 (Err fault) = q2 ≡ q1
 NextMeans mem q1 q2 (Ok None) = q2 ≡ q1
 NextMeans mem q1 q2 (Ok (Some h)) =
     (pages : List ℕ) × (pieces : List Piece)
-    × (next_of mem q1 ≡ Ok (Some h)) × Gives mem q1 h pieces × (page_request mem pieces ≡ Ok pages) × (q2 ≡ with_request h pages q1)
+    × (next_of mem q1 ≡ Ok (Some h)) × IsChainOf mem q1 h pieces × (page_request mem pieces ≡ Ok pages) × (q2 ≡ with_request h pages q1)
 
 -- A take of the next chain, on any bytes.
 pub record TakesNext (mem : Pages) (q1 q2 : QueueState) (result : Result (Option ℕ) ChainFault) : Type 0 where
   pub empty : next_of mem q1 ≡ Ok None → (result ≡ Ok None) × (q2 ≡ q1)
   pub jump : (fault : ChainFault) → next_of mem q1 ≡ Err fault → (result ≡ Err fault) × (q2 ≡ q1)
-  pub fault : (h : ℕ) (fault : ChainFault) → next_of mem q1 ≡ Ok (Some h) → Faults mem q1 h fault → (result ≡ Err fault) × (q2 ≡ q1)
-  pub wrong : (h : ℕ) (pieces : List Piece) (fault : ChainFault) → next_of mem q1 ≡ Ok (Some h) → Gives mem q1 h pieces → page_request mem pieces ≡ Err fault → (result ≡ Err fault) × (q2 ≡ q1)
-  pub takes : (h : ℕ) (pieces : List Piece) (pages : List ℕ) → next_of mem q1 ≡ Ok (Some h) → Gives mem q1 h pieces → page_request mem pieces ≡ Ok pages → (result ≡ Ok (Some h)) × (q2 ≡ with_request h pages q1)
+  pub fault : (h : ℕ) (fault : ChainFault) → next_of mem q1 ≡ Ok (Some h) → IsFaultOf mem q1 h fault → (result ≡ Err fault) × (q2 ≡ q1)
+  pub wrong : (h : ℕ) (pieces : List Piece) (fault : ChainFault) → next_of mem q1 ≡ Ok (Some h) → IsChainOf mem q1 h pieces → page_request mem pieces ≡ Err fault → (result ≡ Err fault) × (q2 ≡ q1)
+  pub takes : (h : ℕ) (pieces : List Piece) (pages : List ℕ) → next_of mem q1 ≡ Ok (Some h) → IsChainOf mem q1 h pieces → page_request mem pieces ≡ Ok pages → (result ≡ Ok (Some h)) × (q2 ≡ with_request h pages q1)
   pub means : NextMeans mem q1 q2 result

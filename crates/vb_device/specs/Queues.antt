@@ -42,5 +42,5 @@ queue_end q part =
     }
 
 -- The head that the guest's bytes say next on a queue, if they say one.
-abbrev pub next_head : ℕ → Pages → Part → Result (Option ℕ) ChainFault
-next_head q mem part = next_entry mem (queue_layout q part) part.queue_size (queue_part q part).next_avail
+abbrev pub next_available : ℕ → Pages → Part → Result (Option ℕ) ChainFault
+next_available q mem part = next_entry mem (queue_layout q part) part.queue_size (queue_part q part).next_avail

@@ -10,12 +10,12 @@ ghost use Rattle.vb_ram.specs.Pages.{frame_at, number_of, Supplied, IsWhole};
 ghost use Rattle.vb_ring.specs.Layout.{IsInside};
 ghost use Rattle.vb_status.specs.Bits.{status_bits};
 ghost use Rattle.vb_device.specs.Base.{numbers_of_frames, IsPlain};
-ghost use Rattle.vb_device.specs.BaseCalls.{TakesFrom, TakesOut, UsesChain, CanUse, status_refusal, queue_refusal, with_lost};
+ghost use Rattle.vb_device.specs.BaseCalls.{TakesFrom, TakesOut, UsesChain, CanUse, readiness_refusal, queue_refusal, with_lost};
 ghost use Rattle.vb_device.specs.Calls.{IsUnused, attached, TakesBy, HandsBack, without_frames};
 ghost use Rattle.vb_device.specs.Discards.{discarded, frames_behind};
 ghost use Rattle.vb_device.specs.Faults.{rule_of};
 
-use crate::queue::{RequestQueue, TakenRequest};
+use crate::queue::{DeviceQueue, TakenRequest};
 use bitflags::Flags;
 use std::alloc::{AllocError, Global};
 use std::marker::Model;
@@ -42,7 +42,7 @@ pub(crate) struct DeviceBase {
     /// How many the driver says are there (`actual`).
     actual: u32,
     /// The queues of page requests, by their numbers.
-    queues: [RequestQueue; 2],
+    queues: [DeviceQueue; 2],
     /// Frames that were taken from pages and not handed back yet.
     loose: Vec<Frame>,
 }
@@ -80,7 +80,7 @@ fn rule_of(fault: ChainFault) -> u32
 
 /// Takes the next chain of a queue, where the driver is ready.
 fn take_from<G: GuestBytes>(
-    requests: &mut RequestQueue,
+    requests: &mut DeviceQueue,
     ram: &G,
     status: &mut Status,
 ) -> Result<Option<u16>, Refusal>
@@ -161,8 +161,8 @@ impl DeviceBase {
             target: 0,
             actual: 0,
             queues: [
-                RequestQueue::new(INFLATE_RING_PAGE),
-                RequestQueue::new(DEFLATE_RING_PAGE),
+                DeviceQueue::new(INFLATE_RING_PAGE),
+                DeviceQueue::new(DEFLATE_RING_PAGE),
             ],
             loose: Vec::new(alloc),
         }
@@ -199,8 +199,8 @@ impl DeviceBase {
 
     /// `NotReady` where the driver isn't done with the initialisation or has given up, and
     /// `NeedsReset` after a fault.
-    pub(crate) fn status_refusal(&self) -> Option<Refusal>
-        ensures { result ≡ status_refusal self.now.part.status }
+    pub(crate) fn readiness_refusal(&self) -> Option<Refusal>
+        ensures { result ≡ readiness_refusal self.now.part.status }
     {
         if !self.status.contains(Status::DRIVER_OK) || self.status.contains(Status::FAILED) {
             Some(Refusal::NotReady)
@@ -219,7 +219,7 @@ impl DeviceBase {
         if queue > DEFLATE_QUEUE {
             return Some(Refusal::NoQueue);
         }
-        self.status_refusal()
+        self.readiness_refusal()
     }
 
     /// Takes the next chain of queue 0 or 1.

@@ -135,7 +135,7 @@ impl Device for ImmediateDevice {
     }
 
     fn sweep(&mut self, page: u32) -> Result<bool, Refusal> {
-        match self.base.status_refusal() {
+        match self.base.readiness_refusal() {
             Some(why) => Err(why),
             None => {
                 if !self.ballooned.get(page) {

@@ -65,12 +65,12 @@ impl TakenRequest {
 
 /// The device's end of a queue of page requests.
 #[derive(Drop)]
-pub(crate) struct RequestQueue {
+pub(crate) struct DeviceQueue {
     queue: Queue,
     taken: ArrayVec<TakenRequest, 16>,
 }
 
-impl Model for RequestQueue {
+impl Model for DeviceQueue {
     ghost use Rattle.std.specs.Prelude.{◌<◌, All};
     ghost use Rattle.vb_device.specs.QueueState.{QueueState};
 
@@ -81,12 +81,12 @@ impl Model for RequestQueue {
     ghost invariant = { λ q. All (λ r. r.head < q.queue.size) q.taken.items };
 }
 
-impl RequestQueue {
+impl DeviceQueue {
     /// A queue whose ring is in this page, and which isn't ready.
-    pub(crate) fn new(page: u32) -> RequestQueue
+    pub(crate) fn new(page: u32) -> DeviceQueue
         ensures { result ≡ started false 128 (record { layout = layout_of page 128; size = 128; ready = false; next_avail = 0; next_used = 0 }) }
     {
-        RequestQueue {
+        DeviceQueue {
             queue: Queue::new(page),
             taken: ArrayVec::new(),
         }

@@ -1,7 +1,7 @@
 use Rattle.std.proofs.Common.{◌≡◌, ◌≤◌, ◌+◌, ◌-◌, ◌++◌, ◌∙◌, ℕ, List, ap, arith, rules, length, length-append}
 use Rattle.std.proofs.lemmas.List.{append_assoc}
 use Rattle.vb_device.specs.Request.{bytes_from}
-use Rattle.vb_device.specs.Bytes.{bytes_from-length, bytes_from-append}
+use Rattle.vb_device.proofs.Bytes.{bytes_from-length, bytes_from-append}
 use Rattle.vb_device.proofs.request.append_bytes.Goals as goal
 
 pub append_run-requires-2-clause-room : goal.append_run-requires-2-clause-room

@@ -1,6 +1,6 @@
 use Rattle.std.specs.Prelude.{length}
 use Rattle.vb_ram.proofs.Outcome.{at_ok}
-use Rattle.vb_device.specs.Bytes.{run_is}
+use Rattle.vb_device.proofs.Bytes.{run_is}
 use Rattle.vb_device.proofs.request.read_run.Goals as goal
 
 pub returns : goal.returns

@@ -7,12 +7,12 @@ use Rattle.vb_chain.specs.Table.{descriptor_at}
 use Rattle.vb_ring.specs.declared.device.Taken.{Taken}
 use Rattle.vb_ring.specs.Calls.{PopsBy}
 use Rattle.vb_device.specs.Request.{page_request}
-use Rattle.vb_device.specs.RequestLaws.{request_pages}
+use Rattle.vb_device.proofs.RequestPages.{request_pages}
 use Rattle.vb_device.specs.QueueState.{QueueState, TakesNext}
 use Rattle.vb_device.proofs.Chains.{chain_fits}
 use Rattle.vb_device.proofs.Takes.{next_none, next_err, next_wrong, next_right, one_all}
 use Rattle.vb_ring.specs.Ends.{DeviceEnd}
-use Rattle.vb_device.proofs.queue.RequestQueue.take.Goals as goal
+use Rattle.vb_device.proofs.queue.DeviceQueue.take.Goals as goal
 
 pub returns-in-Err : goal.returns-in-Err
 returns-in-Err g c =
