@@ -1,4 +1,5 @@
--- What the calls on a device are refused for, in the order in which it is tested (profile); the status bits are those of VIRTIO 1.1, 2.1.
+-- What the calls on a device are refused for, in the order in which it is tested (profile); the
+-- status bits are those of VIRTIO 1.1, 2.1.
 use Rattle.std.specs.Prelude.{ℕ, Bool, not, ◌==◌, ◌&&◌, ◌||◌, nat_le, List, [], ◌∷◌, length, Option, is_none, slice_get, if◌then◌else◌}
 use Rattle.vb_model.specs.declared.layout.TheConstants.{DEFLATE_QUEUE, STATISTICS_QUEUE, REPORT_QUEUE}
 use Rattle.vb_model.specs.declared.replies.Refusal.{Refusal}
@@ -24,7 +25,9 @@ has_chains q = is_queue_of_requests q || ((q == STATISTICS_QUEUE) && is_there_ye
 
 -- The queue stands or falls with a feature that wasn't negotiated.
 abbrev pub lacks_feature : ℕ → ℕ → Bool
-lacks_feature features q = (q == STATISTICS_QUEUE) && not (stats_vq features) || (q == REPORT_QUEUE) && not (reporting features)
+lacks_feature features q =
+    (q == STATISTICS_QUEUE) && not (stats_vq features)
+    || (q == REPORT_QUEUE) && not (reporting features)
 
 -- As many chains of the queue are taken as may be: of the statistics queue one.
 abbrev pub most_taken : ℕ → ℕ
@@ -49,7 +52,8 @@ finish_tests q index part =
     ∷ (is_not_ready part.status ⇒ NotReady)
     ∷ (has_fault part.status ⇒ NeedsReset)
     ∷ (is_none (taken_at q index part) ⇒ NotTaken)
-    ∷ ((part.paced && not (q == DEFLATE_QUEUE) && has_unvisited (taken_at q index part)) ⇒ NotWorked)
+    ∷ ((part.paced && not (q == DEFLATE_QUEUE)
+    && has_unvisited (taken_at q index part)) ⇒ NotWorked)
     ∷ []
 
 abbrev pub sweep_tests : ℕ → Part → List Test

@@ -1,4 +1,4 @@
-// What devices of every kind keep: memory, status, queues and loose frames.
+//! What devices of every kind keep: memory, status, queues and loose frames.
 
 ghost use Rattle.std.specs.Prelude.{◌≡◌, ◌<◌, ◌≤◌, ◌+◌, ℕ, [], ◌∷◌, ◌++◌, Err, is_some, true, false, None, Some, IsSome, IsOk, IfOk, OnOk, OnErr, length, replicate, vec_capacity};
 ghost use Rattle.std.specs.Option.{option_to_list};
@@ -22,11 +22,12 @@ use std::marker::Model;
 use vb_chain::ChainFault;
 use vb_model::Refusal;
 use vb_model::layout::{DEFLATE_QUEUE, DEFLATE_RING_PAGE, INFLATE_RING_PAGE};
+use vb_model::limits::MAX_REQUEST_PAGES;
 use vb_ram::{Config, Frame, GuestBytes, Ram, RamFault, SupplyRefused};
 use vb_status::{Features, Port, Status, StatusFault, negotiate, write_status};
 
 /// Loose frames beyond one a page for which there is room: those of one request.
-const SPARE_ROOM: usize = 256;
+const SPARE_ROOM: usize = MAX_REQUEST_PAGES as usize;
 
 /// A device but for the set of its ballooned pages.
 #[derive(Drop)]
@@ -55,7 +56,11 @@ impl Model for DeviceBase {
 
     ghost Value = { DeviceState };
 
-    ghost view = { λ s. record { mem = s.ram; part = base_part (status_bits s.status) (feature_bits s.features) s.target s.actual s.queues s.loose.items } };
+    ghost view = { λ s. record {
+      mem = s.ram;
+      part = base_part (status_bits s.status) (feature_bits s.features)
+          s.target s.actual s.queues s.loose.items;
+    } };
 
     ghost invariant = { λ s. IsBase s.ram (status_bits s.status) s.queues (vec_capacity s.loose) };
 }
@@ -84,10 +89,12 @@ fn take_from<G: GuestBytes>(
     ram: &G,
     status: &mut Status,
 ) -> Result<Option<u16>, Refusal>
-    requires inside { 0 < length (G.mem ram.now) → IsInside (G.mem ram.now) requests.old.ring.layout }
+    requires inside { 0 < length (G.mem ram.now) →
+        IsInside (G.mem ram.now) requests.old.ring.layout }
     requires idle { length (G.mem ram.now) ≡ 0 → requests.old.ring.next_avail ≡ 0 }
     requires ready { requests.old.ring.ready ≡ true }
-    ensures { TakesFrom (G.mem ram.now) requests.old requests.new (status_bits status.old) (status_bits status.new) result }
+    ensures { TakesFrom (G.mem ram.now) requests.old requests.new
+        (status_bits status.old) (status_bits status.new) result }
 {
     if requests.is_full() {
         return Err(Refusal::Busy);
@@ -109,7 +116,8 @@ fn take_from<G: GuestBytes>(
 /// Puts a frame, if there is one, behind the loose ones.
 fn put_loose(loose: &mut Vec<Frame>, frame: Option<Frame>)
     requires { length loose.old.items < vec_capacity loose.old }
-    ensures numbers { numbers_of_frames loose.new.items ≡ numbers_of_frames loose.old.items ++ option_to_list (number_of frame) }
+    ensures numbers { numbers_of_frames loose.new.items ≡ numbers_of_frames loose.old.items ++
+        option_to_list (number_of frame) }
     ensures count { length loose.new.items ≤ length loose.old.items + 1 }
     ensures capacity { vec_capacity loose.new ≡ vec_capacity loose.old }
 {
@@ -125,7 +133,8 @@ fn discard_all(ram: &mut Ram, loose: &mut Vec<Frame>, pages: &[u32])
     requires room { length loose.old.items + length pages.now ≤ vec_capacity loose.old }
     requires distinct { AllDistinct pages.now }
     ensures mem { ram.new ≡ discarded pages.now ram.old }
-    ensures loose { numbers_of_frames loose.new.items ≡ numbers_of_frames loose.old.items ++ frames_behind ram.old pages.now }
+    ensures loose { numbers_of_frames loose.new.items ≡ numbers_of_frames loose.old.items ++
+        frames_behind ram.old pages.now }
     ensures capacity { vec_capacity loose.new ≡ vec_capacity loose.old }
 {
     for page in pages {
@@ -139,7 +148,8 @@ fn discard_request(ram: &mut Ram, loose: &mut Vec<Frame>, queue: u32, pages: &[u
     requires room { length loose.old.items + length pages.now ≤ vec_capacity loose.old }
     requires distinct { AllDistinct pages.now }
     ensures mem { ram.new ≡ without_frames queue pages.now ram.old }
-    ensures loose { numbers_of_frames loose.new.items ≡ with_lost queue ram.old pages.now (numbers_of_frames loose.old.items) }
+    ensures loose { numbers_of_frames loose.new.items ≡
+        with_lost queue ram.old pages.now (numbers_of_frames loose.old.items) }
     ensures capacity { vec_capacity loose.new ≡ vec_capacity loose.old }
 {
     if queue != DEFLATE_QUEUE {
@@ -180,7 +190,8 @@ impl DeviceBase {
         requires unused { IsUnused self.old.mem self.old.part }
         requires config { is_config config.pages config.queue_size config.processors ≡ true }
         ensures mem { OnOk result (self.new.mem ≡ replicate config.pages None) }
-        ensures part { OnOk result (self.new.part ≡ record (attached config self.old.part) { ballooned = [] }) }
+        ensures part { OnOk result (self.new.part ≡
+            record (attached config self.old.part) { ballooned = [] }) }
         ensures err { OnErr result (self.new ≡ self.old) }
     {
         let Ok(ram) = Ram::new(alloc, config.pages) else {
@@ -239,11 +250,14 @@ impl DeviceBase {
     /// Takes a taken request out of queue 0 or 1, with the frames behind an inflate's pages. The
     /// driver isn't told before `use_chain`.
     pub(crate) fn take_out(&mut self, queue: u32, index: u32) -> Result<TakenRequest, Refusal>
-        requires backed { contains self.old.part.status driver_ok ≡ true → IsSome (frame_at self.old.mem (ring_page queue)) }
+        requires backed { contains self.old.part.status driver_ok ≡ true →
+            IsSome (frame_at self.old.mem (ring_page queue)) }
         requires room { length self.old.part.loose ≤ length self.old.mem }
-        ensures by { TakesOut queue index self.old.mem self.new.mem self.old.part self.new.part result }
+        ensures by { TakesOut queue index
+            self.old.mem self.new.mem self.old.part self.new.part result }
         ensures count { length self.new.mem ≡ length self.old.mem }
-        ensures ready { IfOk result (λ request. CanUse queue request.head self.new.mem self.new.part) }
+        ensures ready { IfOk result
+            (λ request. CanUse queue request.head self.new.mem self.new.part) }
     {
         if let Some(why) = self.queue_refusal(queue) {
             return Err(why);
@@ -267,9 +281,12 @@ impl DeviceBase {
 
     /// Puts a frame behind a page.
     pub(crate) fn supply(&mut self, page: u32, frame: Frame) -> Result<(), SupplyRefused>
-        ensures answers { page < length self.old.mem → frame_at self.old.mem page ≡ None → IsOk result }
-        ensures out_of_ram { length self.old.mem ≤ page → result ≡ Err (record { fault = RamFault.OutOfRam; frame = frame }) }
-        ensures already_backed { page < length self.old.mem → IsSome (frame_at self.old.mem page) → result ≡ Err (record { fault = RamFault.AlreadyBacked; frame = frame }) }
+        ensures answers { page < length self.old.mem → frame_at self.old.mem page ≡ None →
+            IsOk result }
+        ensures out_of_ram { length self.old.mem ≤ page →
+            result ≡ Err (record { fault = RamFault.OutOfRam; frame = frame }) }
+        ensures already_backed { page < length self.old.mem → IsSome (frame_at self.old.mem page) →
+            result ≡ Err (record { fault = RamFault.AlreadyBacked; frame = frame }) }
         ensures ok { OnOk result (Supplied self.old.mem self.new.mem page frame.number) }
         ensures err { OnErr result (self.new.mem ≡ self.old.mem) }
         ensures part { self.new.part ≡ self.old.part }
@@ -299,7 +316,11 @@ impl DeviceBase {
         requires room { length self.old.part.loose ≤ length self.old.mem }
         ensures answer { result ≡ is_some (frame_at self.old.mem page) }
         ensures mem { self.new.mem ≡ discarded (page ∷ []) self.old.mem }
-        ensures part { self.new.part ≡ record self.old.part { loose = self.old.part.loose ++ frames_behind self.old.mem (page ∷ []) } }
+        ensures part { self.new.part ≡
+            record self.old.part {
+              loose = self.old.part.loose ++
+                  frames_behind self.old.mem (page ∷ []);
+            } }
     {
         let had = self.ram.backing(page).is_some();
         discard_all(&mut self.ram, &mut self.loose, &[page]);
