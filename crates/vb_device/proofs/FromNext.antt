@@ -1,10 +1,10 @@
 -- A take from a queue, from what its next chain gives; and what it leaves of the ring.
-use Rattle.std.specs.Prelude.{◌≡◌, ℕ, zero, suc, ◌+◌, ◌-◌, ◌%◌, ◌<◌, ◌≤◌, Bool, true, false, nat_le, List, [], ◌∷◌, length, Option, Some, None, Result, Ok, Err, bit_or, refl}
-use Rattle.std.proofs.Common.{sym, ◌∙◌, ap, subst, arith}
+use Rattle.std.specs.Prelude.{◌≡◌, ℕ, true, false, nat_le, [], ◌∷◌, length, Option, Some, None, Result, Ok, Err, bit_or, refl}
+use Rattle.std.proofs.Common.{sym, ◌∙◌, ap, arith}
 use Rattle.vb_model.specs.declared.replies.Refusal.{Refusal}
-use Rattle.vb_model.specs.declared.replies.Refusal.TheVariants.{Busy, Broken}
+use Rattle.vb_model.specs.declared.replies.Refusal.TheVariants.{Broken}
 use Rattle.vb_model.specs.Status.{needs_reset}
-use Rattle.vb_ram.specs.Pages.{Page, Pages, byte_at, field}
+use Rattle.vb_ram.specs.Pages.{Pages, byte_at, field}
 use Rattle.vb_ram.specs.Fields.{field_zero}
 use Rattle.vb_chain.specs.declared.ChainFault.{ChainFault}
 use Rattle.vb_chain.specs.declared.ChainFault.TheVariants.{IndexJump}

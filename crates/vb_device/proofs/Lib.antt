@@ -1,5 +1,10 @@
+pub mod Once
+pub mod Bytes
+pub mod RequestPages
+pub mod OneRequest
 pub mod Chains
 pub mod Takes
+pub mod Both
 pub mod TakesBy
 pub mod Finishes
 pub mod FromNext

@@ -1,19 +1,19 @@
 -- A device that keeps ballooned pages, from one that has ballooned nothing.
-use Rattle.std.specs.Prelude.{◌≡◌, ℕ, ◌+◌, ◌%◌, ◌<◌, ◌≤◌, ◌==◌, Bool, true, false, List, [], ◌∷◌, ◌++◌, length, Option, Some, None, Result, Ok, Err, if◌then◌else◌, refl}
-use Rattle.std.proofs.Common.{sym, ◌∙◌, ap, subst, arith, inl, inr}
-use Rattle.std.proofs.lemmas.Bool.{cases_eq}
+use Rattle.std.specs.Prelude.{◌≡◌, ℕ, zero, suc, ◌+◌, ◌%◌, ◌≤◌, ◌==◌, Bool, true, false, List, Option, Some, None, Result, Ok, Err, if◌then◌else◌, refl}
+use Rattle.std.proofs.Common.{sym, ◌∙◌, ap, subst, arith}
 use Rattle.vb_model.specs.declared.replies.Refusal.{Refusal}
-use Rattle.vb_model.specs.declared.replies.Refusal.TheVariants.{NoQueue, Broken}
+use Rattle.vb_model.specs.declared.replies.Refusal.TheVariants.{Broken}
 use Rattle.vb_model.specs.Requests.{Request}
 use Rattle.vb_ram.specs.Pages.{Pages}
 use Rattle.vb_ram.specs.Part.{Part, QueuePart}
 use Rattle.vb_chain.specs.declared.ChainFault.{ChainFault}
-use Rattle.vb_device.specs.Conditions.{finish_refusal}
 use Rattle.vb_device.specs.Faults.{Breaks}
 use Rattle.vb_device.specs.Discards.{flagged}
-use Rattle.vb_device.specs.BaseCalls.{GivesUsed, BaseFinishes}
-use Rattle.vb_device.specs.Calls.{taking, TakeMeans, TakesBy, FinishesBy, Uses}
-use Rattle.vb_device.proofs.TakesBy.{finish_no_queue}
+use Rattle.vb_device.specs.BaseCalls.{taken_out, TakesOut, UsesChain}
+use Rattle.vb_device.specs.Queues.{queue_part, with_queue, queue_end}
+use Rattle.vb_ring.specs.Ends.{DeviceEnd}
+use Rattle.vb_ring.specs.Calls.{AddsUsedBy}
+use Rattle.vb_device.specs.Calls.{taking, without_frames, TakeMeans, TakesBy, FinishesBy, Uses}
 
 -- the part with these flags
 abbrev pub over : List Bool → Part → Part
@@ -62,47 +62,36 @@ same_ok o x y a b = cc
 same_err : (o : Result Request Refusal) (x y : Refusal) → o ≡ Err x → o ≡ Err y → x ≡ y
 same_err o x y a b = cc
 
-pub finishes_err : (q index : ℕ) (m1 m2 : Pages) (flags : List Bool) (p1 p2 : Part) (why : Refusal) → BaseFinishes q index m1 m2 p1 p2 (Err why) → FinishesBy q index m1 m2 (over flags p1) (over flags p2) (Err why)
-finishes_err q index m1 m2 flags p1 p2 why b = record {
-  refused = λ w e. (ap Err (same_err (Err why) why w refl (b.refused w e).0), ap (over flags) (b.refused w e).1, (b.refused w e).2);
-  finished = λ x e at. absurd (ok_err x why (sym (b.finished x e at).answer));
+pub finishes_err : (q index : ℕ) (m1 m2 : Pages) (flags : List Bool) (p1 p2 : Part) (why : Refusal) (result : Result ℕ Refusal) → result ≡ Err why → TakesOut q index m1 m2 p1 p2 (Err why) → FinishesBy q index m1 m2 (over flags p1) (over flags p2) result
+finishes_err q index m1 m2 flags p1 p2 why result is b = record {
+  refused = λ w e. (is ∙ ap Err (same_err (Err why) why w refl (b.refused w e).0), ap (over flags) (b.refused w e).1, (b.refused w e).2);
+  finished = λ x e at. absurd (ok_err x why (sym (b.out x e at).0));
 }
 
-finishes_0 : (index : ℕ) (m1 m2 : Pages) (flags : List Bool) (p1 p2 : Part) (r : Request) → BaseFinishes 0 index m1 m2 p1 p2 (Ok r) → FinishesBy 0 index m1 m2 (over flags p1) (over (flagged r.pages true flags) p2) (Ok r.head)
-finishes_0 index m1 m2 flags p1 p2 r b = record {
+-- what both parts of a finish and the marks leave
+settles : (q index : ℕ) (r : Request) (m1 m2 m3 : Pages) (flags : List Bool) (p1 p2 p3 : Part) → q ≤ 1 → m2 ≡ without_frames q r.pages m1 → p2 ≡ taken_out q index r.pages m1 p1 → UsesChain q r.head m2 m3 p2 p3
+    → Uses q index r m1 m3 (over flags p1) (over (flagged r.pages (q == 0) flags) p3) (Ok r.head)
+settles zero index r m1 m2 m3 flags p1 p2 p3 le mem part used = record {
+  answer = refl;
+  part = ap (over (flagged r.pages true flags)) (used.part ∙ ap (λ (p : Part). with_queue 0 (record (queue_part 0 p) { next_used = ((queue_part 0 p).next_used + 1) % 65536 }) p) part);
+  memory = subst (λ (m : Pages). AddsUsedBy m m3 (queue_end 0 p1) (queue_end 0 p3) r.head 0) mem (subst (λ (e : DeviceEnd). AddsUsedBy m2 m3 e (queue_end 0 p3) r.head 0) (ap (queue_end 0) part) used.memory);
+}
+settles (suc zero) index r m1 m2 m3 flags p1 p2 p3 le mem part used = record {
+  answer = refl;
+  part = ap (over (flagged r.pages false flags)) (used.part ∙ ap (λ (p : Part). with_queue 1 (record (queue_part 1 p) { next_used = ((queue_part 1 p).next_used + 1) % 65536 }) p) part);
+  memory = subst (λ (m : Pages). AddsUsedBy m m3 (queue_end 1 p1) (queue_end 1 p3) r.head 0) mem (subst (λ (e : DeviceEnd). AddsUsedBy m2 m3 e (queue_end 1 p3) r.head 0) (ap (queue_end 1) part) used.memory);
+}
+settles (suc (suc n)) index r m1 m2 m3 flags p1 p2 p3 le mem part used = absurd (omega arith)
+
+pub finishes_ok : (q index : ℕ) (m1 m2 m3 : Pages) (flags marks : List Bool) (p1 p2 p3 : Part) (r : Request) (result : Result ℕ Refusal) → result ≡ Ok r.head → marks ≡ flagged r.pages (q == 0) flags → q ≤ 1
+    → TakesOut q index m1 m2 p1 p2 (Ok r) → UsesChain q r.head m2 m3 p2 p3 → FinishesBy q index m1 m3 (over flags p1) (over marks p3) result
+finishes_ok q index m1 m2 m3 flags marks p1 p2 p3 r result is marked le b used = record {
   refused = λ w e. absurd (ok_err r w (b.refused w e).0);
   finished = λ x e at.
-      let used = b.finished x e at in
-      let same : r ≡ x = same_ok (Ok r) r x refl used.answer in
-      record {
-        answer = ap (λ (y : Request). Ok y.head) same;
-        part = ap (λ (y : Request). over (flagged y.pages true flags) p2) same ∙ ap (over (flagged x.pages true flags)) used.part;
-        memory = used.memory;
-      };
+      let got = b.out x e at in
+      let same : r ≡ x = same_ok (Ok r) r x refl got.0 in
+      subst (λ (y : Request). Uses q index y m1 m3 (over flags p1) (over marks p3) result) same
+      (subst (λ (fs : List Bool). Uses q index r m1 m3 (over flags p1) (over fs p3) result) (sym marked)
+      (subst (λ (o : Result ℕ Refusal). Uses q index r m1 m3 (over flags p1) (over (flagged r.pages (q == 0) flags) p3) o) (sym is)
+      (settles q index r m1 m2 m3 flags p1 p2 p3 le (got.1 ∙ ap (λ (y : Request). without_frames q y.pages m1) (sym same)) (got.2 ∙ ap (λ (y : Request). taken_out q index y.pages m1 p1) (sym same)) used)));
 }
-
-finishes_1 : (index : ℕ) (m1 m2 : Pages) (flags : List Bool) (p1 p2 : Part) (r : Request) → BaseFinishes 1 index m1 m2 p1 p2 (Ok r) → FinishesBy 1 index m1 m2 (over flags p1) (over (flagged r.pages false flags) p2) (Ok r.head)
-finishes_1 index m1 m2 flags p1 p2 r b = record {
-  refused = λ w e. absurd (ok_err r w (b.refused w e).0);
-  finished = λ x e at.
-      let used = b.finished x e at in
-      let same : r ≡ x = same_ok (Ok r) r x refl used.answer in
-      record {
-        answer = ap (λ (y : Request). Ok y.head) same;
-        part = ap (λ (y : Request). over (flagged y.pages false flags) p2) same ∙ ap (over (flagged x.pages false flags)) used.part;
-        memory = used.memory;
-      };
-}
-
-pub finishes_ok : (q index : ℕ) (m1 m2 : Pages) (flags : List Bool) (p1 p2 : Part) (r : Request) → BaseFinishes q index m1 m2 p1 p2 (Ok r) → FinishesBy q index m1 m2 (over flags p1) (over (flagged r.pages (q == 0) flags) p2) (Ok r.head)
-finishes_ok q index m1 m2 flags p1 p2 r b = elim (cases_eq q 0) [
-  | inl zero ↦
-      subst (λ (n : ℕ). FinishesBy n index m1 m2 (over flags p1) (over (flagged r.pages (n == 0) flags) p2) (Ok r.head)) (sym zero)
-      (finishes_0 index m1 m2 flags p1 p2 r (subst (λ (n : ℕ). BaseFinishes n index m1 m2 p1 p2 (Ok r)) zero b))
-  | inr some ↦ elim (cases_eq q 1) [
-    | inl one ↦
-        subst (λ (n : ℕ). FinishesBy n index m1 m2 (over flags p1) (over (flagged r.pages (n == 0) flags) p2) (Ok r.head)) (sym one)
-        (finishes_1 index m1 m2 flags p1 p2 r (subst (λ (n : ℕ). BaseFinishes n index m1 m2 p1 p2 (Ok r)) one b))
-    | inr more ↦ absurd (ok_err r NoQueue (b.refused NoQueue (finish_no_queue q index p1 (omega (arith, some, more)))).0)
-  ]
-]

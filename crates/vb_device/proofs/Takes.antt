@@ -1,10 +1,9 @@
 -- A take of the next chain of a queue, put together from what the ring's end and the request's bytes give.
-use Rattle.std.specs.Prelude.{◌≡◌, ℕ, ◌+◌, ◌%◌, ◌<◌, Bool, true, List, [], ◌∷◌, ◌++◌, Option, Some, None, Result, Ok, Err, refl}
-use Rattle.std.proofs.Common.{sym, ◌∙◌, ap, subst, arith, zero, suc, get_or, length}
+use Rattle.std.specs.Prelude.{◌≡◌, ℕ, ◌+◌, ◌%◌, ◌<◌, true, List, [], ◌∷◌, ◌++◌, Option, Some, None, Result, Ok, Err, refl}
+use Rattle.std.proofs.Common.{sym, ◌∙◌, ap, arith, zero, suc, get_or, length}
 use Rattle.vb_model.specs.Requests.{Request}
 use Rattle.vb_ram.specs.Pages.{Pages}
 use Rattle.vb_chain.specs.declared.ChainFault.{ChainFault}
-use Rattle.vb_chain.specs.declared.Piece.{Piece}
 use Rattle.vb_ring.specs.declared.device.Taken.{Taken}
 use Rattle.vb_ring.specs.Ends.{DeviceEnd}
 use Rattle.vb_ring.specs.Calls.{PopsBy}

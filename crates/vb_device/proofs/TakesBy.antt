@@ -1,7 +1,7 @@
 -- A take by a device, from the take of its queue.
-use Rattle.std.specs.Prelude.{◌≡◌, ◌≢◌, ℕ, ◌<◌, ◌≤◌, Bool, true, false, not, ◌&&◌, ◌||◌, ◌==◌, nat_le, nat_lt, List, length, Option, Some, None, Result, Ok, Err, if◌then◌else◌, bit_or, refl, is_some}
+use Rattle.std.specs.Prelude.{◌≡◌, ℕ, zero, suc, ◌≤◌, Bool, true, false, not, ◌&&◌, ◌||◌, ◌==◌, nat_le, nat_lt, List, [], ◌∷◌, length, Option, Some, None, Result, Ok, Err, if◌then◌else◌, bit_or, refl, is_some}
 use Rattle.std.proofs.Common.{sym, ◌∙◌, ap, subst, arith}
-use Rattle.std.proofs.lemmas.Bool.{le-ltb}
+use Rattle.std.proofs.lemmas.Bool.{le-ltb, lt-ltb}
 use Rattle.vb_model.specs.declared.replies.Refusal.{Refusal}
 use Rattle.vb_model.specs.declared.replies.Refusal.TheVariants.{NoQueue, NotReady, NeedsReset, Busy, Broken}
 use Rattle.vb_model.specs.Requests.{kind_of_queue}
@@ -13,20 +13,20 @@ use Rattle.vb_ram.specs.Part.{Part}
 use Rattle.vb_chain.specs.declared.ChainFault.{ChainFault}
 use Rattle.vb_chain.specs.declared.Piece.{Piece}
 use Rattle.vb_device.specs.Conditions.{take_refusal, finish_refusal}
-use Rattle.vb_device.specs.Queues.{next_head}
-use Rattle.vb_device.specs.Faults.{Breaks, rule_of, needing_reset}
-use Rattle.vb_device.specs.Request.{page_request}
-use Rattle.vb_device.specs.QueueState.{QueueState, with_request, next_of, Gives, Faults}
-use Rattle.vb_device.specs.BaseCalls.{status_refusal, TakesFrom, BreaksAt, FromMeans}
+use Rattle.vb_device.specs.Queues.{next_available}
+use Rattle.vb_device.specs.Faults.{needing_reset}
+use Rattle.vb_device.specs.QueueState.{QueueState, with_request, next_of, IsChainOf, IsFaultOf}
+use Rattle.vb_device.specs.BaseCalls.{readiness_refusal, queue_refusal, TakesFrom, FromMeans}
 use Rattle.std.specs.Prelude.{◌*◌}
 use Rattle.vb_model.specs.Status.{contains, driver_ok, failed}
 use Rattle.vb_chain.specs.Table.{descriptor_at}
 use Rattle.vb_chain.specs.Chain.{ChainGives, FaultGives}
 use Rattle.vb_ring.specs.declared.layout.Layout.{Layout}
-use Rattle.vb_ring.specs.Layout.{layout_of}
 use Rattle.vb_ring.specs.Entries.{next_entry}
-use Rattle.vb_device.specs.Base.{base_part, IsBase}
+use Rattle.vb_device.specs.Base.{queue_at, base_part, IsDeviceQueue, IsBase}
+use Rattle.vb_device.proofs.Both.{base_set}
 use Rattle.vb_device.proofs.FromNext.{KeepsRing}
+use Rattle.std.proofs.Math.ListN.{set}
 use Rattle.vb_device.specs.Calls.{HasChain, HasFault, taking, TakeMeans, TakesBy}
 
 -- ---- refusals
@@ -34,7 +34,7 @@ use Rattle.vb_device.specs.Calls.{HasChain, HasFault, taking, TakeMeans, TakesBy
 same_some : (o : Option Refusal) (x y : Refusal) → o ≡ Some x → o ≡ Some y → x ≡ y
 same_some o x y a b = cc
 
-none_some : (o : Option Refusal) (x : Refusal) → o ≡ None → o ≡ Some x → ⊥
+pub none_some : (o : Option Refusal) (x : Refusal) → o ≡ None → o ≡ Some x → ⊥
 none_some o x a b = cc
 
 first_no : (b : Bool) (rest : Option Refusal) → b ≡ false → (if not b then Some NoQueue else rest) ≡ Some NoQueue
@@ -59,47 +59,68 @@ refused_take q mem part why is means = record {
   means = means;
 }
 
--- the tests after that of the queue's number, where a status that refuses goes first
-by_status : (unready fault busy : Bool) (why : Refusal) → (if unready then Some NotReady else (if fault then Some NeedsReset else None)) ≡ Some why → (if unready then Some NotReady else (if fault then Some NeedsReset else (if busy then Some Busy else None))) ≡ Some why
-by_status true fault busy why e = e
-by_status false true busy why e = e
-by_status false false busy why e = absurd cc
+-- the tests after those of the status
+pub by_status : (unready fault : Bool) (rest : Option Refusal) (why : Refusal) → (if unready then Some NotReady else (if fault then Some NeedsReset else None)) ≡ Some why
+    → (if unready then Some NotReady else (if fault then Some NeedsReset else rest)) ≡ Some why
+by_status true fault rest why e = e
+by_status false true rest why e = e
+by_status false false rest why e = absurd cc
 
-by_busy : (unready fault busy : Bool) → (if unready then Some NotReady else (if fault then Some NeedsReset else None)) ≡ None → (if unready then Some NotReady else (if fault then Some NeedsReset else (if busy then Some Busy else None))) ≡ (if busy then Some Busy else None)
-by_busy true fault busy e = absurd cc
-by_busy false true busy e = absurd cc
-by_busy false false busy e = refl
+pub after_status : (unready fault : Bool) (rest : Option Refusal) → (if unready then Some NotReady else (if fault then Some NeedsReset else None)) ≡ None
+    → (if unready then Some NotReady else (if fault then Some NeedsReset else rest)) ≡ rest
+after_status true fault rest e = absurd cc
+after_status false true rest e = absurd cc
+after_status false false rest e = refl
 
-pub take_status_0 : (part : Part) (why : Refusal) → status_refusal part.status ≡ Some why → take_refusal 0 part ≡ Some why
-take_status_0 part why e = by_status (is_not_ready part.status) (has_fault part.status) (nat_le 16 (length part.inflate.taken)) why e
+first_yes : (b : Bool) (rest : Option Refusal) → b ≡ true → (if b then Some NoQueue else rest) ≡ Some NoQueue
+first_yes b rest e = ap (λ v. if v then Some NoQueue else rest) e
 
-pub take_status_1 : (part : Part) (why : Refusal) → status_refusal part.status ≡ Some why → take_refusal 1 part ≡ Some why
-take_status_1 part why e = by_status (is_not_ready part.status) (has_fault part.status) (nat_le 16 (length part.deflate.taken)) why e
+pub far_queue : (n s : ℕ) → queue_refusal (suc (suc n)) s ≡ Some NoQueue
+far_queue n s = first_yes (nat_lt 1 (suc (suc n))) _ (lt-ltb 1 (suc (suc n)) (omega arith))
 
-pub take_busy_0 : (part : Part) → status_refusal part.status ≡ None → take_refusal 0 part ≡ (if nat_le 16 (length part.inflate.taken) then Some Busy else None)
-take_busy_0 part e = by_busy (is_not_ready part.status) (has_fault part.status) (nat_le 16 (length part.inflate.taken)) e
+-- what the queue's number and the status refuse, every call refuses
+pub queue_take : (q : ℕ) (part : Part) (why : Refusal) → queue_refusal q part.status ≡ Some why → take_refusal q part ≡ Some why
+queue_take zero part why e = by_status (is_not_ready part.status) (has_fault part.status) _ why e
+queue_take (suc zero) part why e = by_status (is_not_ready part.status) (has_fault part.status) _ why e
+queue_take (suc (suc n)) part why e = take_no_queue (suc (suc n)) part (omega arith) ∙ (sym (far_queue n part.status) ∙ e)
 
-pub take_busy_1 : (part : Part) → status_refusal part.status ≡ None → take_refusal 1 part ≡ (if nat_le 16 (length part.deflate.taken) then Some Busy else None)
-take_busy_1 part e = by_busy (is_not_ready part.status) (has_fault part.status) (nat_le 16 (length part.deflate.taken)) e
+pub queue_finish : (q index : ℕ) (part : Part) (why : Refusal) → queue_refusal q part.status ≡ Some why → finish_refusal q index part ≡ Some why
+queue_finish zero index part why e = by_status (is_not_ready part.status) (has_fault part.status) _ why e
+queue_finish (suc zero) index part why e = by_status (is_not_ready part.status) (has_fault part.status) _ why e
+queue_finish (suc (suc n)) index part why e = finish_no_queue (suc (suc n)) index part (omega arith) ∙ (sym (far_queue n part.status) ∙ e)
 
--- a status that refuses is answered as it is
-means_status : (q : ℕ) (mem : Pages) (part : Part) (unready fault : Bool) (why : Refusal) → (if unready then Some NotReady else (if fault then Some NeedsReset else None)) ≡ Some why → take_refusal q part ≡ Some why → TakeMeans q mem part part (Err why)
-means_status q mem part true fault why e is = subst (λ (w : Refusal). TakeMeans q mem part part (Err w)) (same_some (Some NotReady) NotReady why refl e) (subst (λ (w : Refusal). take_refusal q part ≡ Some w) (sym (same_some (Some NotReady) NotReady why refl e)) is, refl)
-means_status q mem part false true why e is = subst (λ (w : Refusal). TakeMeans q mem part part (Err w)) (same_some (Some NeedsReset) NeedsReset why refl e) (subst (λ (w : Refusal). take_refusal q part ≡ Some w) (sym (same_some (Some NeedsReset) NeedsReset why refl e)) is, refl)
-means_status q mem part false false why e is = absurd cc
+pub queue_known : (q s : ℕ) → queue_refusal q s ≡ None → q ≤ 1
+queue_known zero s e = omega arith
+queue_known (suc zero) s e = omega arith
+queue_known (suc (suc n)) s e = absurd (none_some (queue_refusal (suc (suc n)) s) NoQueue e (far_queue n s))
 
-pub takes_unready : (q : ℕ) (mem : Pages) (part : Part) (why : Refusal) → status_refusal part.status ≡ Some why → take_refusal q part ≡ Some why → TakesBy q mem mem part part (Err why)
-takes_unready q mem part why e is = refused_take q mem part why is (means_status q mem part (is_not_ready part.status) (has_fault part.status) why e is)
+pub queue_status : (q s : ℕ) → queue_refusal q s ≡ None → readiness_refusal s ≡ None
+queue_status zero s e = e
+queue_status (suc zero) s e = e
+queue_status (suc (suc n)) s e = absurd (none_some (queue_refusal (suc (suc n)) s) NoQueue e (far_queue n s))
+
+-- a refusal of a take is answered as it is
+means_refused : (q : ℕ) (mem : Pages) (part : Part) (far unready fault : Bool) (why : Refusal) → (if far then Some NoQueue else (if unready then Some NotReady else (if fault then Some NeedsReset else None))) ≡ Some why
+    → take_refusal q part ≡ Some why → TakeMeans q mem part part (Err why)
+means_refused q mem part true unready fault why e is = subst (λ (w : Refusal). take_refusal q part ≡ Some w → TakeMeans q mem part part (Err w)) (same_some (Some NoQueue) NoQueue why refl e) (λ r. (r, refl)) is
+means_refused q mem part false true fault why e is = subst (λ (w : Refusal). take_refusal q part ≡ Some w → TakeMeans q mem part part (Err w)) (same_some (Some NotReady) NotReady why refl e) (λ r. (r, refl)) is
+means_refused q mem part false false true why e is = subst (λ (w : Refusal). take_refusal q part ≡ Some w → TakeMeans q mem part part (Err w)) (same_some (Some NeedsReset) NeedsReset why refl e) (λ r. (r, refl)) is
+means_refused q mem part false false false why e is = absurd cc
+
+pub takes_refused : (q : ℕ) (mem : Pages) (part : Part) (why : Refusal) → queue_refusal q part.status ≡ Some why → TakesBy q mem mem part part (Err why)
+takes_refused q mem part why e =
+    let is : take_refusal q part ≡ Some why = queue_take q part why e in
+    refused_take q mem part why is (means_refused q mem part (nat_lt 1 q) (is_not_ready part.status) (has_fault part.status) why e is)
 
 -- ---- from the take of the queue
 
 -- how a queue and the status sit in a part, and how what its bytes say is the queue's
 pub record Sits (q : ℕ) (mem : Pages) (P : QueueState → ℕ → Part) (x : QueueState) (s : ℕ) : Type 0 where
   pub refusal : take_refusal q (P x s) ≡ (if nat_le 16 (length x.taken) then Some Busy else None)
-  pub next : next_head q mem (P x s) ≡ next_of mem x
-  pub chain : (h : ℕ) (pieces : List Piece) → HasChain q mem (P x s) h pieces → Gives mem x h pieces
-  pub chain_back : (h : ℕ) (pieces : List Piece) → Gives mem x h pieces → HasChain q mem (P x s) h pieces
-  pub fault : (h : ℕ) (f : ChainFault) → HasFault q mem (P x s) h f → Faults mem x h f
+  pub next : next_available q mem (P x s) ≡ next_of mem x
+  pub chain : (h : ℕ) (pieces : List Piece) → HasChain q mem (P x s) h pieces → IsChainOf mem x h pieces
+  pub chain_back : (h : ℕ) (pieces : List Piece) → IsChainOf mem x h pieces → HasChain q mem (P x s) h pieces
+  pub fault : (h : ℕ) (f : ChainFault) → HasFault q mem (P x s) h f → IsFaultOf mem x h f
   pub resets : needing_reset (P x s) ≡ P x (bit_or s needs_reset)
   pub takes : (h : ℕ) (pages : List ℕ) → taking q h pages (P x s) ≡ P (with_request h pages x) s
 
@@ -146,33 +167,44 @@ takes_by q mem P x1 x2 s1 s2 result sits t =
 
 -- ---- the two queues of a device
 
-abbrev inflate_sits_in : ℕ → ℕ → ℕ → QueueState → List Page → QueueState → ℕ → Part
-inflate_sits_in features target actual deflate loose x s = base_part s features target actual x deflate loose
+abbrev inflate_in : ℕ → ℕ → ℕ → QueueState → List Page → QueueState → ℕ → Part
+inflate_in features target actual deflate loose x s = base_part s features target actual (x ∷ deflate ∷ []) loose
 
-abbrev deflate_sits_in : ℕ → ℕ → ℕ → QueueState → List Page → QueueState → ℕ → Part
-deflate_sits_in features target actual inflate loose x s = base_part s features target actual inflate x loose
+abbrev deflate_in : ℕ → ℕ → ℕ → QueueState → List Page → QueueState → ℕ → Part
+deflate_in features target actual inflate loose x s = base_part s features target actual (inflate ∷ x ∷ []) loose
 
-pub sits_inflate : (mem : Pages) (features target actual : ℕ) (x deflate : QueueState) (loose : List Page) (s : ℕ) → status_refusal s ≡ None → x.ring.layout ≡ layout_of 0 x.ring.size → Sits 0 mem (inflate_sits_in features target actual deflate loose) x s
-sits_inflate mem features target actual x deflate loose s ok layout = record {
-  refusal = take_busy_0 (base_part s features target actual x deflate loose) ok;
-  next = ap (λ (l : Layout). next_entry mem l x.ring.size x.ring.next_avail) (sym layout);
-  chain = λ h pieces g. subst (λ (l : Layout). ChainGives (descriptor_at mem l.table) x.ring.size (4096 * length mem) h pieces) (sym layout) g;
-  chain_back = λ h pieces g. subst (λ (l : Layout). ChainGives (descriptor_at mem l.table) x.ring.size (4096 * length mem) h pieces) layout g;
-  fault = λ h f g. subst (λ (l : Layout). FaultGives (descriptor_at mem l.table) x.ring.size (4096 * length mem) h f) (sym layout) g;
+sits_inflate : (mem : Pages) (features target actual : ℕ) (x deflate : QueueState) (loose : List Page) (s : ℕ) → readiness_refusal s ≡ None → IsDeviceQueue mem s x.ring.size 0 x → Sits 0 mem (inflate_in features target actual deflate loose) x s
+sits_inflate mem features target actual x deflate loose s ok is = record {
+  refusal = after_status (is_not_ready s) (has_fault s) _ ok;
+  next = ap (λ (l : Layout). next_entry mem l x.ring.size x.ring.next_avail) (sym is.ring);
+  chain = λ h pieces g. subst (λ (l : Layout). ChainGives (descriptor_at mem l.table) x.ring.size (4096 * length mem) h pieces) (sym is.ring) g;
+  chain_back = λ h pieces g. subst (λ (l : Layout). ChainGives (descriptor_at mem l.table) x.ring.size (4096 * length mem) h pieces) is.ring g;
+  fault = λ h f g. subst (λ (l : Layout). FaultGives (descriptor_at mem l.table) x.ring.size (4096 * length mem) h f) (sym is.ring) g;
   resets = refl;
   takes = λ h pages. refl;
 }
 
-pub sits_deflate : (mem : Pages) (features target actual : ℕ) (inflate x : QueueState) (loose : List Page) (s : ℕ) → status_refusal s ≡ None → x.ring.layout ≡ layout_of 1 inflate.ring.size → x.ring.size ≡ inflate.ring.size → Sits 1 mem (deflate_sits_in features target actual inflate loose) x s
-sits_deflate mem features target actual inflate x loose s ok layout size = record {
-  refusal = take_busy_1 (base_part s features target actual inflate x loose) ok;
-  next = ap (λ (l : Layout). next_entry mem l inflate.ring.size x.ring.next_avail) (sym layout) ∙ ap (λ (n : ℕ). next_entry mem x.ring.layout n x.ring.next_avail) (sym size);
-  chain = λ h pieces g. subst (λ (n : ℕ). ChainGives (descriptor_at mem x.ring.layout.table) n (4096 * length mem) h pieces) (sym size) (subst (λ (l : Layout). ChainGives (descriptor_at mem l.table) inflate.ring.size (4096 * length mem) h pieces) (sym layout) g);
-  chain_back = λ h pieces g. subst (λ (l : Layout). ChainGives (descriptor_at mem l.table) inflate.ring.size (4096 * length mem) h pieces) layout (subst (λ (n : ℕ). ChainGives (descriptor_at mem x.ring.layout.table) n (4096 * length mem) h pieces) size g);
-  fault = λ h f g. subst (λ (n : ℕ). FaultGives (descriptor_at mem x.ring.layout.table) n (4096 * length mem) h f) (sym size) (subst (λ (l : Layout). FaultGives (descriptor_at mem l.table) inflate.ring.size (4096 * length mem) h f) (sym layout) g);
+sits_deflate : (mem : Pages) (features target actual : ℕ) (inflate x : QueueState) (loose : List Page) (s : ℕ) → readiness_refusal s ≡ None → IsDeviceQueue mem s inflate.ring.size 1 x → Sits 1 mem (deflate_in features target actual inflate loose) x s
+sits_deflate mem features target actual inflate x loose s ok is = record {
+  refusal = after_status (is_not_ready s) (has_fault s) _ ok;
+  next = ap (λ (l : Layout). next_entry mem l inflate.ring.size x.ring.next_avail) (sym is.ring) ∙ ap (λ (n : ℕ). next_entry mem x.ring.layout n x.ring.next_avail) (sym is.size);
+  chain = λ h pieces g. subst (λ (n : ℕ). ChainGives (descriptor_at mem x.ring.layout.table) n (4096 * length mem) h pieces) (sym is.size) (subst (λ (l : Layout). ChainGives (descriptor_at mem l.table) inflate.ring.size (4096 * length mem) h pieces) (sym is.ring) g);
+  chain_back = λ h pieces g. subst (λ (l : Layout). ChainGives (descriptor_at mem l.table) inflate.ring.size (4096 * length mem) h pieces) is.ring (subst (λ (n : ℕ). ChainGives (descriptor_at mem x.ring.layout.table) n (4096 * length mem) h pieces) is.size g);
+  fault = λ h f g. subst (λ (n : ℕ). FaultGives (descriptor_at mem x.ring.layout.table) n (4096 * length mem) h f) (sym is.size) (subst (λ (l : Layout). FaultGives (descriptor_at mem l.table) inflate.ring.size (4096 * length mem) h f) (sym is.ring) g);
   resets = refl;
   takes = λ h pages. refl;
 }
+
+pub takes_at : (q : ℕ) (mem : Pages) (s1 s2 f t a capacity : ℕ) (qs : List QueueState) (x2 : QueueState) (loose : List Page) (result : Result (Option ℕ) Refusal) → IsBase mem s1 qs capacity → queue_refusal q s1 ≡ None
+    → TakesFrom mem (queue_at q qs) x2 s1 s2 result → TakesBy q mem mem (base_part s1 f t a qs loose) (base_part s2 f t a (set qs q x2) loose) result
+takes_at q mem s1 s2 f t a capacity [] x2 loose result is ok takes = absurd (omega (arith, is.two))
+takes_at q mem s1 s2 f t a capacity (x ∷ []) x2 loose result is ok takes = absurd (omega (arith, is.two))
+takes_at zero mem s1 s2 f t a capacity (x ∷ d ∷ []) x2 loose result is ok takes =
+    takes_by 0 mem (inflate_in f t a d loose) x x2 s1 s2 result (sits_inflate mem f t a x d loose s1 ok (is.each 0 (omega arith))) takes
+takes_at (suc zero) mem s1 s2 f t a capacity (x ∷ d ∷ []) x2 loose result is ok takes =
+    takes_by 1 mem (deflate_in f t a x loose) d x2 s1 s2 result (sits_deflate mem f t a x d loose s1 ok (is.each 1 (omega arith))) takes
+takes_at (suc (suc n)) mem s1 s2 f t a capacity (x ∷ d ∷ []) x2 loose result is ok takes = absurd (none_some (queue_refusal (suc (suc n)) s1) NoQueue ok (far_queue n s1))
+takes_at q mem s1 s2 f t a capacity (x ∷ d ∷ y ∷ ys) x2 loose result is ok takes = absurd (omega (arith, is.two))
 
 -- ---- what stays true of a device
 
@@ -181,35 +213,25 @@ ok_of : (ok failed fault : Bool) → (if not ok || failed then Some NotReady els
 ok_of true failed fault e = refl
 ok_of false failed fault e = absurd cc
 
-pub status_ok : (s : ℕ) → status_refusal s ≡ None → contains s driver_ok ≡ true
-status_ok s e = ok_of (contains s driver_ok) (contains s failed) (has_fault s) e
+pub status_ok : (q s : ℕ) → queue_refusal q s ≡ None → contains s driver_ok ≡ true
+status_ok q s e = ok_of (contains s driver_ok) (contains s failed) (has_fault s) (queue_status q s e)
 
-pub base_inflate : (mem : Pages) (s1 s2 : ℕ) (x1 x2 deflate : QueueState) (capacity : ℕ) → IsBase mem s1 x1 deflate capacity → contains s1 driver_ok ≡ true → KeepsRing mem x1 x2 → IsBase mem s2 x2 deflate capacity
-base_inflate mem s1 s2 x1 x2 deflate capacity b ok k = record {
-  inflate_ring = k.layout ∙ (b.inflate_ring ∙ ap (layout_of 0) (sym k.size));
-  deflate_ring = b.deflate_ring ∙ ap (layout_of 1) (sym k.size);
-  same_size = b.same_size ∙ sym k.size;
-  inflate_ready = λ e. k.ready ∙ b.inflate_ready ok;
-  deflate_ready = λ e. b.deflate_ready ok;
-  large = b.large;
-  room = b.room;
-  inflate_idle = λ z. ap (λ (x : QueueState). x.ring.next_avail) (k.idle z) ∙ b.inflate_idle z;
-  deflate_idle = b.deflate_idle;
-  inflate_none = λ z. ap (λ (x : QueueState). x.taken) (k.idle z) ∙ b.inflate_none z;
-  deflate_none = b.deflate_none;
-}
-
-pub base_deflate : (mem : Pages) (s1 s2 : ℕ) (inflate x1 x2 : QueueState) (capacity : ℕ) → IsBase mem s1 inflate x1 capacity → contains s1 driver_ok ≡ true → KeepsRing mem x1 x2 → IsBase mem s2 inflate x2 capacity
-base_deflate mem s1 s2 inflate x1 x2 capacity b ok k = record {
-  inflate_ring = b.inflate_ring;
-  deflate_ring = k.layout ∙ b.deflate_ring;
-  same_size = k.size ∙ b.same_size;
-  inflate_ready = λ e. b.inflate_ready ok;
-  deflate_ready = λ e. k.ready ∙ b.deflate_ready ok;
-  large = b.large;
-  room = b.room;
-  inflate_idle = b.inflate_idle;
-  deflate_idle = λ z. ap (λ (x : QueueState). x.ring.next_avail) (k.idle z) ∙ b.deflate_idle z;
-  inflate_none = b.inflate_none;
-  deflate_none = λ z. ap (λ (x : QueueState). x.taken) (k.idle z) ∙ b.deflate_none z;
-}
+pub base_kept : (q : ℕ) (mem : Pages) (s1 s2 capacity : ℕ) (qs : List QueueState) (x2 : QueueState) → IsBase mem s1 qs capacity → queue_refusal q s1 ≡ None → KeepsRing mem (queue_at q qs) x2 → IsBase mem s2 (set qs q x2) capacity
+base_kept q mem s1 s2 capacity qs x2 b ok k =
+    let driver : contains s1 driver_ok ≡ true = status_ok q s1 ok in
+    base_set q mem mem s1 s2 capacity capacity qs x2 b (queue_known q s1 ok) k.size
+    (λ n x is. record {
+      ring = is.ring;
+      size = is.size;
+      ready = λ e. is.ready driver;
+      idle = is.idle;
+      none = is.none;
+    })
+    (λ is. record {
+      ring = k.layout ∙ is.ring;
+      size = k.size ∙ is.size;
+      ready = λ e. k.ready ∙ is.ready driver;
+      idle = λ z. ap (λ (x : QueueState). x.ring.next_avail) (k.idle z) ∙ is.idle z;
+      none = λ z. ap (λ (x : QueueState). x.taken) (k.idle z) ∙ is.none z;
+    })
+    b.large b.room

@@ -1,15 +1,18 @@
--- What the calls on a device do, by old and new of guest memory and of the device's part: VIRTIO 1.1, 5.5.6; frames and refusals are the profile's.
--- What a call leaves is said as a change of named fields of the old part, so that a device which keeps frames of its own may stand round another.
-use Rattle.std.specs.Prelude.{◌≡◌, ℕ, ◌+◌, ◌*◌, ◌%◌, ◌==◌, Bool, true, false, not, List, [], ◌∷◌, ◌++◌, length, remove, replicate, if◌then◌else◌, Option, Some, None, is_some, slice_get, Result, Ok, Err}
+-- What the calls on a device do, by old and new of guest memory and of the device's part: VIRTIO
+-- 1.1, 5.5.6; frames and refusals are the profile's.
+-- What a call leaves is said as a change of named fields of the old part, so that a device which
+-- keeps frames of its own may stand round another.
+use Rattle.std.specs.Prelude.{◌≡◌, ℕ, ◌+◌, ◌*◌, ◌%◌, ◌==◌, Bool, true, false, List, [], ◌∷◌, ◌++◌, length, remove, replicate, if◌then◌else◌, Option, Some, None, is_some, Result, Ok, Err}
 use Rattle.vb_model.specs.declared.layout.TheConstants.{INFLATE_QUEUE, DEFLATE_QUEUE}
 use Rattle.vb_model.specs.declared.replies.Refusal.{Refusal}
 use Rattle.vb_model.specs.declared.replies.Refusal.TheVariants.{Broken}
 use Rattle.vb_model.specs.Layout.{ring_page}
+use Rattle.vb_model.specs.Limits.{page_size}
 use Rattle.vb_model.specs.Requests.{Request}
 use Rattle.vb_model.specs.Guest.{no_statistics, zero_page}
 use Rattle.vb_ram.specs.declared.config.Config.{Config}
 use Rattle.vb_ram.specs.Pages.{Page, Pages, frame_at}
-use Rattle.vb_ram.specs.Part.{Part, QueuePart, no_queue}
+use Rattle.vb_ram.specs.Part.{Part, no_queue}
 use Rattle.vb_chain.specs.declared.ChainFault.{ChainFault}
 use Rattle.vb_chain.specs.declared.Piece.{Piece}
 use Rattle.vb_chain.specs.Table.{descriptor_at}
@@ -17,7 +20,7 @@ use Rattle.vb_chain.specs.Chain.{ChainGives, FaultGives}
 use Rattle.vb_ring.specs.Calls.{AddsUsedBy}
 use Rattle.vb_device.specs.declared.claimed.Claimed.{Claimed}
 use Rattle.vb_device.specs.declared.claimed.Claimed.TheVariants.{Gave, AskHost, NoFrame, NoMemory}
-use Rattle.vb_device.specs.Queues.{queue_part, with_queue, queue_end, next_head}
+use Rattle.vb_device.specs.Queues.{queue_part, with_queue, queue_end, next_available}
 use Rattle.vb_device.specs.Conditions.{take_refusal, finish_refusal, sweep_refusal, taken_at}
 use Rattle.vb_device.specs.Faults.{Breaks, needing_reset}
 use Rattle.vb_device.specs.Own.{has, without}
@@ -52,11 +55,13 @@ attached config part =
 
 -- The chain from a head of the queue has these pieces.
 abbrev pub HasChain : ℕ → Pages → Part → ℕ → List Piece → Type 0
-HasChain q mem part h pieces = ChainGives (descriptor_at mem (ring_page q)) part.queue_size (4096 * length mem) h pieces
+HasChain q mem part h pieces =
+    ChainGives (descriptor_at mem (ring_page q)) part.queue_size (page_size * length mem) h pieces
 
 -- This is the first fault on the way from a head of the queue.
 abbrev pub HasFault : ℕ → Pages → Part → ℕ → ChainFault → Type 0
-HasFault q mem part h fault = FaultGives (descriptor_at mem (ring_page q)) part.queue_size (4096 * length mem) h fault
+HasFault q mem part h fault =
+    FaultGives (descriptor_at mem (ring_page q)) part.queue_size (page_size * length mem) h fault
 
 -- A request from this head, for these pages, is the last taken one of the queue.
 abbrev pub taking : ℕ → ℕ → List ℕ → Part → Part
@@ -69,8 +74,8 @@ taking q h pages part =
     part
 
 -- The guest's bytes say a chain next, and it is a request for these pages.
-pub record Names (q : ℕ) (mem : Pages) (part : Part) (h : ℕ) (pages : List ℕ) : Type 0 where
-  pub next : next_head q mem part ≡ Ok (Some h)
+pub record IsNextRequest (q : ℕ) (mem : Pages) (part : Part) (h : ℕ) (pages : List ℕ) : Type 0 where
+  pub next : next_available q mem part ≡ Ok (Some h)
   pub pieces : List Piece
   pub chain : HasChain q mem part h pieces
   pub request : page_request mem pieces ≡ Ok pages
@@ -78,21 +83,30 @@ pub record Names (q : ℕ) (mem : Pages) (part : Part) (h : ℕ) (pages : List �
 -- What each answer of a take says, whatever the guest's bytes are.
 abbrev pub TakeMeans : ℕ → Pages → Part → Part → Result (Option ℕ) Refusal → Type 0
 TakeMeans q mem p1 p2 (Ok None) = (take_refusal q p1 ≡ None) × (p2 ≡ p1)
-TakeMeans q mem p1 p2 (Ok (Some h)) = (take_refusal q p1 ≡ None) × ((pages : List ℕ) × Names q mem p1 h pages × (p2 ≡ taking q h pages p1))
+TakeMeans q mem p1 p2 (Ok (Some h)) =
+    (take_refusal q p1 ≡ None) ×
+    ((pages : List ℕ) × IsNextRequest q mem p1 h pages × (p2 ≡ taking q h pages p1))
 TakeMeans q mem p1 p2 (Err (Broken rule)) = (take_refusal q p1 ≡ None) × (p2 ≡ needing_reset p1)
 TakeMeans q mem p1 p2 (Err why) = (take_refusal q p1 ≡ Some why) × (p2 ≡ p1)
 
--- A take from a queue of page requests: the exact answer, and what is left, by the guest's bytes and the device's own part alone.
-pub record TakesBy (q : ℕ) (m1 m2 : Pages) (p1 p2 : Part) (result : Result (Option ℕ) Refusal) : Type 0 where
+-- A take from a queue of page requests: the exact answer, and what is left, by the guest's bytes
+-- and the device's own part alone.
+pub record TakesBy (q : ℕ) (m1 m2 : Pages) (p1 p2 : Part)
+    (result : Result (Option ℕ) Refusal) : Type 0 where
   pub memory : m2 ≡ m1
   pub refused : (why : Refusal) → take_refusal q p1 ≡ Some why → (result ≡ Err why) × (p2 ≡ p1)
-  pub empty : take_refusal q p1 ≡ None → next_head q m1 p1 ≡ Ok None → (result ≡ Ok None) × (p2 ≡ p1)
-  pub jump : (fault : ChainFault) → take_refusal q p1 ≡ None → next_head q m1 p1 ≡ Err fault → Breaks fault p1 p2 result
-  pub fault : (h : ℕ) (fault : ChainFault) → take_refusal q p1 ≡ None → next_head q m1 p1 ≡ Ok (Some h) → HasFault q m1 p1 h fault → Breaks fault p1 p2 result
-  pub wrong : (h : ℕ) (pieces : List Piece) (fault : ChainFault) → take_refusal q p1 ≡ None → next_head q m1 p1 ≡ Ok (Some h) → HasChain q m1 p1 h pieces
-      → page_request m1 pieces ≡ Err fault → Breaks fault p1 p2 result
-  pub takes : (h : ℕ) (pieces : List Piece) (pages : List ℕ) → take_refusal q p1 ≡ None → next_head q m1 p1 ≡ Ok (Some h) → HasChain q m1 p1 h pieces
-      → page_request m1 pieces ≡ Ok pages → (result ≡ Ok (Some h)) × (p2 ≡ taking q h pages p1)
+  pub empty : take_refusal q p1 ≡ None → next_available q m1 p1 ≡ Ok None →
+      (result ≡ Ok None) × (p2 ≡ p1)
+  pub jump : (fault : ChainFault) → take_refusal q p1 ≡ None → next_available q m1 p1 ≡ Err fault →
+      Breaks fault p1 p2 result
+  pub fault : (h : ℕ) (fault : ChainFault) → take_refusal q p1 ≡ None →
+      next_available q m1 p1 ≡ Ok (Some h) → HasFault q m1 p1 h fault → Breaks fault p1 p2 result
+  pub wrong : (h : ℕ) (pieces : List Piece) (fault : ChainFault) → take_refusal q p1 ≡ None →
+      next_available q m1 p1 ≡ Ok (Some h) → HasChain q m1 p1 h pieces →
+      page_request m1 pieces ≡ Err fault → Breaks fault p1 p2 result
+  pub takes : (h : ℕ) (pieces : List Piece) (pages : List ℕ) → take_refusal q p1 ≡ None →
+      next_available q m1 p1 ≡ Ok (Some h) → HasChain q m1 p1 h pieces →
+      page_request m1 pieces ≡ Ok pages → (result ≡ Ok (Some h)) × (p2 ≡ taking q h pages p1)
   pub means : TakeMeans q m1 p1 p2 result
 
 -- ---- finish
@@ -101,10 +115,14 @@ pub record TakesBy (q : ℕ) (m1 m2 : Pages) (p1 p2 : Part) (result : Result (Op
 abbrev pub without_frames : ℕ → List ℕ → Pages → Pages
 without_frames q pages mem = if q == DEFLATE_QUEUE then mem else discarded pages mem
 
--- An inflate's pages are ballooned, a deflate's are ballooned no more; the frames that pages lose are loose, after those that were.
+-- An inflate's pages are ballooned, a deflate's are ballooned no more; the frames that pages lose
+-- are loose, after those that were.
 abbrev pub settled : ℕ → List ℕ → Pages → Part → Part
 settled q pages mem part =
-    if q == INFLATE_QUEUE then record part { ballooned = flagged pages true part.ballooned; loose = part.loose ++ frames_behind mem pages }
+    if q == INFLATE_QUEUE then record part {
+      ballooned = flagged pages true part.ballooned;
+      loose = part.loose ++ frames_behind mem pages;
+    }
     else (if q == DEFLATE_QUEUE then record part { ballooned = flagged pages false part.ballooned }
     else record part { loose = part.loose ++ frames_behind mem pages })
 
@@ -118,41 +136,55 @@ using q index part =
     })
     part
 
--- A taken request is used: its head is answered, its pages are settled, and then the used ring has the head, with length 0.
-pub record Uses (q index : ℕ) (r : Request) (m1 m2 : Pages) (p1 p2 : Part) (result : Result ℕ Refusal) : Type 0 where
+-- A taken request is used: its head is answered, its pages are settled, and then the used ring has
+-- the head, with length 0.
+pub record Uses (q index : ℕ) (r : Request) (m1 m2 : Pages) (p1 p2 : Part)
+    (result : Result ℕ Refusal) : Type 0 where
   pub answer : result ≡ Ok r.head
   pub part : p2 ≡ settled q r.pages m1 (using q index p1)
-  pub memory : AddsUsedBy (without_frames q r.pages m1) m2 (queue_end q p1) (queue_end q p2) r.head 0
+  pub memory : AddsUsedBy (without_frames q r.pages m1) m2
+      (queue_end q p1) (queue_end q p2) r.head 0
 
 -- A finish of the taken request of this number.
-pub record FinishesBy (q index : ℕ) (m1 m2 : Pages) (p1 p2 : Part) (result : Result ℕ Refusal) : Type 0 where
-  pub refused : (why : Refusal) → finish_refusal q index p1 ≡ Some why → (result ≡ Err why) × (p2 ≡ p1) × (m2 ≡ m1)
-  pub finished : (r : Request) → finish_refusal q index p1 ≡ None → taken_at q index p1 ≡ Some r → Uses q index r m1 m2 p1 p2 result
+pub record FinishesBy (q index : ℕ) (m1 m2 : Pages) (p1 p2 : Part)
+    (result : Result ℕ Refusal) : Type 0 where
+  pub refused : (why : Refusal) → finish_refusal q index p1 ≡ Some why →
+      (result ≡ Err why) × (p2 ≡ p1) × (m2 ≡ m1)
+  pub finished : (r : Request) → finish_refusal q index p1 ≡ None → taken_at q index p1 ≡ Some r →
+      Uses q index r m1 m2 p1 p2 result
 
 -- ---- sweep and the loose frames
 
 -- A page loses its frame, if it has one.
-pub record SweepsBy (page : ℕ) (m1 m2 : Pages) (p1 p2 : Part) (result : Result Bool Refusal) : Type 0 where
-  pub refused : (why : Refusal) → sweep_refusal page p1 ≡ Some why → (result ≡ Err why) × (p2 ≡ p1) × (m2 ≡ m1)
+pub record SweepsBy (page : ℕ) (m1 m2 : Pages) (p1 p2 : Part)
+    (result : Result Bool Refusal) : Type 0 where
+  pub refused : (why : Refusal) → sweep_refusal page p1 ≡ Some why →
+      (result ≡ Err why) × (p2 ≡ p1) × (m2 ≡ m1)
   pub answer : sweep_refusal page p1 ≡ None → result ≡ Ok (is_some (frame_at m1 page))
   pub memory : sweep_refusal page p1 ≡ None → m2 ≡ discarded (page ∷ []) m1
-  pub part : sweep_refusal page p1 ≡ None → p2 ≡ record p1 { loose = p1.loose ++ frames_behind m1 (page ∷ []) }
+  pub part : sweep_refusal page p1 ≡ None →
+      p2 ≡ record p1 { loose = p1.loose ++ frames_behind m1 (page ∷ []) }
 
 -- The last loose frame is given out, if there is one.
 abbrev pub HandsBack : Part → Part → Option Page → Type 0
 HandsBack p1 p2 None = (p1.loose ≡ []) × (p2 ≡ p1)
-HandsBack p1 p2 (Some frame) = (p1.loose ≡ p2.loose ++ frame.number ∷ []) × (p2 ≡ record p1 { loose = p2.loose })
+HandsBack p1 p2 (Some frame) =
+    (p1.loose ≡ p2.loose ++ frame.number ∷ []) × (p2 ≡ record p1 { loose = p2.loose })
 
 -- ---- frames of the device's own
 
--- A claim: a device that keeps no frames asks the host; one that does gives a frame of zeros whose number wasn't out, or has none, or no memory for its bytes.
+-- A claim: a device that keeps no frames asks the host; one that does gives a frame of zeros whose
+-- number wasn't out, or has none, or no memory for its bytes.
 abbrev pub Claims : Part → Part → Claimed → Type 0
 Claims p1 p2 AskHost = (p1.keeps ≡ false) × (p2 ≡ p1)
-Claims p1 p2 (Gave frame) = (p1.keeps ≡ true) × (frame.bytes ≡ zero_page) × (has p1.own frame.number ≡ false) × (p2 ≡ record p1 { own = frame.number ∷ p1.own })
+Claims p1 p2 (Gave frame) =
+    (p1.keeps ≡ true) × (frame.bytes ≡ zero_page) × (has p1.own frame.number ≡ false) ×
+    (p2 ≡ record p1 { own = frame.number ∷ p1.own })
 Claims p1 p2 NoFrame = (p1.keeps ≡ true) × (p2 ≡ p1)
 Claims p1 p2 NoMemory = (p1.keeps ≡ true) × (p2 ≡ p1)
 
 -- A frame whose number is one of the device's own is kept, and any other comes back as it is.
 abbrev pub PutsBack : Part → Part → Page → Option Page → Type 0
-PutsBack p1 p2 frame None = (has p1.own frame.number ≡ true) × (p2 ≡ record p1 { own = without p1.own frame.number })
+PutsBack p1 p2 frame None =
+    (has p1.own frame.number ≡ true) × (p2 ≡ record p1 { own = without p1.own frame.number })
 PutsBack p1 p2 frame (Some back) = (has p1.own frame.number ≡ false) × (back ≡ frame) × (p2 ≡ p1)

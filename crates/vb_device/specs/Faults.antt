@@ -25,6 +25,7 @@ abbrev pub needing_reset : Part → Part
 needing_reset part = record part { status = bit_or part.status needs_reset }
 
 -- The answer to a chain that breaks a rule, and what it leaves.
-pub record Breaks (fault : ChainFault) (p1 p2 : Part) (result : Result (Option ℕ) Refusal) : Type 0 where
+pub record Breaks (fault : ChainFault) (p1 p2 : Part)
+    (result : Result (Option ℕ) Refusal) : Type 0 where
   pub answer : result ≡ Err (Broken (rule_of fault))
   pub part : p2 ≡ needing_reset p1

@@ -6,10 +6,6 @@ pub mod Own
 pub mod Discards
 pub mod Request
 pub mod Calls
-pub mod RequestLaws
 pub mod QueueState
 pub mod Base
 pub mod BaseCalls
-pub mod Once
-pub mod Bytes
-pub mod OneRequest

@@ -1,7 +1,8 @@
 -- One queue of page requests as a device has it.
-use Rattle.std.specs.Prelude.{◌≡◌, ℕ, ◌+◌, ◌*◌, ◌%◌, ◌≤◌, Bool, List, [], ◌∷◌, ◌++◌, All, length, Option, Some, None, Result, Ok, Err}
+use Rattle.std.specs.Prelude.{◌≡◌, ℕ, ◌+◌, ◌*◌, ◌%◌, ◌≤◌, Bool, false, List, [], ◌∷◌, ◌++◌, All, length, Option, Some, None, Result, Ok, Err}
 use Rattle.vb_model.specs.Requests.{Request}
 use Rattle.vb_model.specs.Driver.{AllDistinct}
+use Rattle.vb_model.specs.Limits.{page_size, reserved_pages}
 use Rattle.vb_ram.specs.Pages.{Pages}
 use Rattle.vb_ram.specs.Part.{QueuePart}
 use Rattle.vb_chain.specs.declared.ChainFault.{ChainFault}
@@ -25,17 +26,35 @@ part_of q = record { next_avail = q.ring.next_avail; next_used = q.ring.next_use
 abbrev pub started : Bool → ℕ → DeviceEnd → QueueState
 started ready size ring =
     record {
-      ring = record { layout = layout_of ring.layout.table size; size = size; ready = ready; next_avail = 0; next_used = 0 };
+      ring = record {
+        layout = layout_of ring.layout.table size;
+        size = size;
+        ready = ready;
+        next_avail = 0;
+        next_used = 0;
+      };
       taken = [];
     }
 
+-- A queue that stands for one that isn't there.
+abbrev pub no_ring : QueueState
+no_ring =
+    started false 0 (record {
+      layout = layout_of 0 0;
+      size = 0;
+      ready = false;
+      next_avail = 0;
+      next_used = 0;
+    })
+
 -- The same queue that begins anew, ready or not.
 abbrev pub restarted : Bool → QueueState → QueueState
-restarted ready q = record { ring = record q.ring { ready = ready; next_avail = 0; next_used = 0 }; taken = [] }
+restarted ready q =
+    record { ring = record q.ring { ready = ready; next_avail = 0; next_used = 0 }; taken = [] }
 
 -- Pages that a request names: none of them reserved, and no page twice.
 pub record AreNamed (pages : List ℕ) : Type 0 where
-  pub above : All (λ page. 16 ≤ page) pages
+  pub above : All (λ page. reserved_pages ≤ page) pages
   pub distinct : AllDistinct pages
 
 -- One more chain is taken, as a request for these pages.
@@ -49,25 +68,34 @@ with_request h pages q =
 abbrev pub next_of : Pages → QueueState → Result (Option ℕ) ChainFault
 next_of mem q = next_entry mem q.ring.layout q.ring.size q.ring.next_avail
 
-abbrev pub Gives : Pages → QueueState → ℕ → List Piece → Type 0
-Gives mem q h pieces = ChainGives (descriptor_at mem q.ring.layout.table) q.ring.size (4096 * length mem) h pieces
+abbrev pub IsChainOf : Pages → QueueState → ℕ → List Piece → Type 0
+IsChainOf mem q h pieces =
+    ChainGives (descriptor_at mem q.ring.layout.table) q.ring.size (page_size * length mem) h pieces
 
-abbrev pub Faults : Pages → QueueState → ℕ → ChainFault → Type 0
-Faults mem q h fault = FaultGives (descriptor_at mem q.ring.layout.table) q.ring.size (4096 * length mem) h fault
+abbrev pub IsFaultOf : Pages → QueueState → ℕ → ChainFault → Type 0
+IsFaultOf mem q h fault =
+    FaultGives (descriptor_at mem q.ring.layout.table) q.ring.size (page_size * length mem) h fault
 
 -- What each answer says.
 abbrev pub NextMeans : Pages → QueueState → QueueState → Result (Option ℕ) ChainFault → Type 0
 NextMeans mem q1 q2 (Err fault) = q2 ≡ q1
 NextMeans mem q1 q2 (Ok None) = q2 ≡ q1
 NextMeans mem q1 q2 (Ok (Some h)) =
-    (pages : List ℕ) × (pieces : List Piece)
-    × (next_of mem q1 ≡ Ok (Some h)) × Gives mem q1 h pieces × (page_request mem pieces ≡ Ok pages) × (q2 ≡ with_request h pages q1)
+    (pages : List ℕ) × (pieces : List Piece) ×
+    (next_of mem q1 ≡ Ok (Some h)) × IsChainOf mem q1 h pieces ×
+    (page_request mem pieces ≡ Ok pages) × (q2 ≡ with_request h pages q1)
 
 -- A take of the next chain, on any bytes.
-pub record TakesNext (mem : Pages) (q1 q2 : QueueState) (result : Result (Option ℕ) ChainFault) : Type 0 where
+pub record TakesNext (mem : Pages) (q1 q2 : QueueState)
+    (result : Result (Option ℕ) ChainFault) : Type 0 where
   pub empty : next_of mem q1 ≡ Ok None → (result ≡ Ok None) × (q2 ≡ q1)
   pub jump : (fault : ChainFault) → next_of mem q1 ≡ Err fault → (result ≡ Err fault) × (q2 ≡ q1)
-  pub fault : (h : ℕ) (fault : ChainFault) → next_of mem q1 ≡ Ok (Some h) → Faults mem q1 h fault → (result ≡ Err fault) × (q2 ≡ q1)
-  pub wrong : (h : ℕ) (pieces : List Piece) (fault : ChainFault) → next_of mem q1 ≡ Ok (Some h) → Gives mem q1 h pieces → page_request mem pieces ≡ Err fault → (result ≡ Err fault) × (q2 ≡ q1)
-  pub takes : (h : ℕ) (pieces : List Piece) (pages : List ℕ) → next_of mem q1 ≡ Ok (Some h) → Gives mem q1 h pieces → page_request mem pieces ≡ Ok pages → (result ≡ Ok (Some h)) × (q2 ≡ with_request h pages q1)
+  pub fault : (h : ℕ) (fault : ChainFault) → next_of mem q1 ≡ Ok (Some h) →
+      IsFaultOf mem q1 h fault → (result ≡ Err fault) × (q2 ≡ q1)
+  pub wrong : (h : ℕ) (pieces : List Piece) (fault : ChainFault) → next_of mem q1 ≡ Ok (Some h) →
+      IsChainOf mem q1 h pieces → page_request mem pieces ≡ Err fault →
+      (result ≡ Err fault) × (q2 ≡ q1)
+  pub takes : (h : ℕ) (pieces : List Piece) (pages : List ℕ) → next_of mem q1 ≡ Ok (Some h) →
+      IsChainOf mem q1 h pieces → page_request mem pieces ≡ Ok pages →
+      (result ≡ Ok (Some h)) × (q2 ≡ with_request h pages q1)
   pub means : NextMeans mem q1 q2 result

@@ -1,5 +1,6 @@
--- A device's queues by their numbers: VIRTIO 1.1, 2.6 and 5.5.2; where their rings stand, and queue 4, are the profile's.
-use Rattle.std.specs.Prelude.{ℕ, true, ◌==◌, if◌then◌else◌, Option, Result, List}
+-- A device's queues by their numbers: VIRTIO 1.1, 2.6 and 5.5.2; where their rings stand, and queue
+-- 4, are the profile's.
+use Rattle.std.specs.Prelude.{ℕ, true, ◌==◌, if◌then◌else◌, Option, Result}
 use Rattle.vb_model.specs.declared.layout.TheConstants.{INFLATE_QUEUE, DEFLATE_QUEUE, STATISTICS_QUEUE}
 use Rattle.vb_model.specs.Layout.{ring_page}
 use Rattle.vb_ram.specs.Pages.{Pages}
@@ -42,5 +43,6 @@ queue_end q part =
     }
 
 -- The head that the guest's bytes say next on a queue, if they say one.
-abbrev pub next_head : ℕ → Pages → Part → Result (Option ℕ) ChainFault
-next_head q mem part = next_entry mem (queue_layout q part) part.queue_size (queue_part q part).next_avail
+abbrev pub next_available : ℕ → Pages → Part → Result (Option ℕ) ChainFault
+next_available q mem part =
+    next_entry mem (queue_layout q part) part.queue_size (queue_part q part).next_avail

@@ -1,10 +1,12 @@
--- The pages that a chain of queue 0 or 1 names: little-endian numbers of 32 bits (VIRTIO 1.1, 5.5.6); which chains are refused, and in what order, is the profile's.
-use Rattle.std.specs.Prelude.{ℕ, ◌*◌, ◌/◌, ◌%◌, Bool, not, ◌==◌, ◌&&◌, nat_lt, nat_le, List, [], ◌∷◌, length, map, filter, take, drop, if◌then◌else◌, Option, Some, None, Result, Ok, Err}
+-- The pages that a chain of queue 0 or 1 names: little-endian numbers of 32 bits (VIRTIO 1.1,
+-- 5.5.6); which chains are refused, and in what order, is the profile's.
+use Rattle.std.specs.Prelude.{◌≡◌, ℕ, ◌+◌, ◌<◌, ◌≤◌, false, All, slice_index, ◌*◌, ◌/◌, ◌%◌, Bool, not, ◌==◌, ◌&&◌, nat_lt, nat_le, List, [], ◌∷◌, length, map, filter, take, drop, if◌then◌else◌, Option, Some, None, Result, Ok, Err}
 use Rattle.std.specs.List.{list_any, flat_map, range_with_len, sum_by}
 use Rattle.std.specs.Int.{w32, from_le_bytes}
 use Rattle.vb_model.specs.declared.layout.TheConstants.{REQUEST_BUFFER_SIZE}
-use Rattle.vb_model.specs.Limits.{page_size, reserved_pages}
-use Rattle.vb_ram.specs.Pages.{Pages, byte_at}
+use Rattle.vb_model.specs.Driver.{AllDistinct}
+use Rattle.vb_model.specs.Limits.{page_size, reserved_pages, max_request_pages}
+use Rattle.vb_ram.specs.Pages.{Pages, byte_at, field}
 use Rattle.vb_chain.specs.declared.Piece.{Piece}
 use Rattle.vb_chain.specs.declared.ChainFault.{ChainFault}
 use Rattle.vb_chain.specs.declared.ChainFault.TheVariants.{WrongDirection, BadLength, BadPage, ReservedPage}
@@ -60,7 +62,8 @@ first_of_both (Some fault) second = Some fault
 -- What is wrong with the first wrong number.
 abbrev pub first_number_fault : ℕ → List ℕ → Option ChainFault
 first_number_fault count [] = None
-first_number_fault count (n ∷ ns) = first_of_both (number_fault count n) (first_number_fault count ns)
+first_number_fault count (n ∷ ns) =
+    first_of_both (number_fault count n) (first_number_fault count ns)
 
 -- ---- the request
 
@@ -78,3 +81,21 @@ page_request mem pieces =
     if list_any (λ piece. piece.writable) pieces then Err WrongDirection
     else (if not (is_request_length (total_length pieces)) then Err BadLength
     else pages_of_numbers (length mem) (numbers_of (bytes_of mem pieces)))
+
+-- ---- what a request names, and as a driver writes one
+
+-- Pages that a request of a guest of so many pages may name.
+pub record ArePages (count : ℕ) (pages : List ℕ) : Type 0 where
+  pub above : All (λ page. reserved_pages ≤ page) pages
+  pub below : All (λ page. page < count) pages
+  pub distinct : AllDistinct pages
+
+-- The piece is readable, and is these page numbers at an offset of a page.
+pub record IsRequestPiece (mem : Pages) (piece : Piece) (p o : ℕ) (pages : List ℕ) : Type 0 where
+  pub addr : piece.addr ≡ page_size * p + o
+  pub len : piece.len ≡ 4 * length pages
+  pub readable : piece.writable ≡ false
+  pub inside : o + 4 * length pages ≤ page_size
+  pub numbers : (k : ℕ) → k < length pages → field 4 mem p (o + 4 * k) ≡ slice_index pages k
+  pub some : 0 < length pages
+  pub few : length pages ≤ max_request_pages

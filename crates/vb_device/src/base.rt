@@ -1,6 +1,6 @@
-// What devices of every kind keep: memory, status, queues and loose frames.
+//! What devices of every kind keep: memory, status, queues and loose frames.
 
-ghost use Rattle.std.specs.Prelude.{◌≡◌, ◌<◌, ◌≤◌, ◌+◌, ℕ, [], ◌∷◌, ◌++◌, Err, is_some, true, false, None, Some, IsSome, IsOk, OnOk, OnErr, length, replicate, vec_capacity};
+ghost use Rattle.std.specs.Prelude.{◌≡◌, ◌<◌, ◌≤◌, ◌+◌, ℕ, [], ◌∷◌, ◌++◌, Err, is_some, true, false, None, Some, IsSome, IsOk, IfOk, OnOk, OnErr, length, replicate, vec_capacity};
 ghost use Rattle.std.specs.Option.{option_to_list};
 ghost use Rattle.vb_model.specs.Driver.{AllDistinct};
 ghost use Rattle.vb_model.specs.Layout.{ring_page};
@@ -10,34 +10,41 @@ ghost use Rattle.vb_ram.specs.Pages.{frame_at, number_of, Supplied, IsWhole};
 ghost use Rattle.vb_ring.specs.Layout.{IsInside};
 ghost use Rattle.vb_status.specs.Bits.{status_bits};
 ghost use Rattle.vb_device.specs.Base.{numbers_of_frames, IsPlain};
-ghost use Rattle.vb_device.specs.BaseCalls.{TakesFrom, BaseFinishes, status_refusal};
-ghost use Rattle.vb_device.specs.Calls.{IsUnused, attached, TakesBy, HandsBack};
+ghost use Rattle.vb_device.specs.BaseCalls.{TakesFrom, TakesOut, UsesChain, CanUse, readiness_refusal, queue_refusal, with_lost};
+ghost use Rattle.vb_device.specs.Calls.{IsUnused, attached, TakesBy, HandsBack, without_frames};
 ghost use Rattle.vb_device.specs.Discards.{discarded, frames_behind};
 ghost use Rattle.vb_device.specs.Faults.{rule_of};
 
-use crate::queue::{RequestQueue, TakenRequest};
+use crate::queue::{DeviceQueue, TakenRequest};
 use bitflags::Flags;
 use std::alloc::{AllocError, Global};
 use std::marker::Model;
 use vb_chain::ChainFault;
 use vb_model::Refusal;
-use vb_model::layout::{DEFLATE_QUEUE, DEFLATE_RING_PAGE, INFLATE_QUEUE, INFLATE_RING_PAGE};
+use vb_model::layout::{DEFLATE_QUEUE, DEFLATE_RING_PAGE, INFLATE_RING_PAGE};
+use vb_model::limits::MAX_REQUEST_PAGES;
 use vb_ram::{Config, Frame, GuestBytes, Ram, RamFault, SupplyRefused};
 use vb_status::{Features, Port, Status, StatusFault, negotiate, write_status};
 
 /// Loose frames beyond one a page for which there is room: those of one request.
-const SPARE_ROOM: usize = 256;
+const SPARE_ROOM: usize = MAX_REQUEST_PAGES as usize;
 
 /// A device but for the set of its ballooned pages.
 #[derive(Drop)]
 pub(crate) struct DeviceBase {
+    /// The memory of its guest; that of a device with no guest has no pages.
     ram: Ram,
+    /// The status that the driver sees.
     status: Status,
+    /// The features that the driver negotiated.
     features: Features,
+    /// How many pages the host wants in the balloon (`num_pages`).
     target: u32,
+    /// How many the driver says are there (`actual`).
     actual: u32,
-    inflate: RequestQueue,
-    deflate: RequestQueue,
+    /// The queues of page requests, by their numbers.
+    queues: [DeviceQueue; 2],
+    /// Frames that were taken from pages and not handed back yet.
     loose: Vec<Frame>,
 }
 
@@ -49,9 +56,13 @@ impl Model for DeviceBase {
 
     ghost Value = { DeviceState };
 
-    ghost view = { λ s. record { mem = s.ram; part = base_part (status_bits s.status) (feature_bits s.features) s.target s.actual s.inflate s.deflate s.loose.items } };
+    ghost view = { λ s. record {
+      mem = s.ram;
+      part = base_part (status_bits s.status) (feature_bits s.features)
+          s.target s.actual s.queues s.loose.items;
+    } };
 
-    ghost invariant = { λ s. IsBase s.ram (status_bits s.status) s.inflate s.deflate (vec_capacity s.loose) };
+    ghost invariant = { λ s. IsBase s.ram (status_bits s.status) s.queues (vec_capacity s.loose) };
 }
 
 /// The number of the rule that a fault breaks.
@@ -74,14 +85,16 @@ fn rule_of(fault: ChainFault) -> u32
 
 /// Takes the next chain of a queue, where the driver is ready.
 fn take_from<G: GuestBytes>(
-    requests: &mut RequestQueue,
+    requests: &mut DeviceQueue,
     ram: &G,
     status: &mut Status,
 ) -> Result<Option<u16>, Refusal>
-    requires inside { 0 < length (G.mem ram.now) → IsInside (G.mem ram.now) requests.old.ring.layout }
+    requires inside { 0 < length (G.mem ram.now) →
+        IsInside (G.mem ram.now) requests.old.ring.layout }
     requires idle { length (G.mem ram.now) ≡ 0 → requests.old.ring.next_avail ≡ 0 }
     requires ready { requests.old.ring.ready ≡ true }
-    ensures { TakesFrom (G.mem ram.now) requests.old requests.new (status_bits status.old) (status_bits status.new) result }
+    ensures { TakesFrom (G.mem ram.now) requests.old requests.new
+        (status_bits status.old) (status_bits status.new) result }
 {
     if requests.is_full() {
         return Err(Refusal::Busy);
@@ -103,7 +116,8 @@ fn take_from<G: GuestBytes>(
 /// Puts a frame, if there is one, behind the loose ones.
 fn put_loose(loose: &mut Vec<Frame>, frame: Option<Frame>)
     requires { length loose.old.items < vec_capacity loose.old }
-    ensures numbers { numbers_of_frames loose.new.items ≡ numbers_of_frames loose.old.items ++ option_to_list (number_of frame) }
+    ensures numbers { numbers_of_frames loose.new.items ≡ numbers_of_frames loose.old.items ++
+        option_to_list (number_of frame) }
     ensures count { length loose.new.items ≤ length loose.old.items + 1 }
     ensures capacity { vec_capacity loose.new ≡ vec_capacity loose.old }
 {
@@ -119,12 +133,27 @@ fn discard_all(ram: &mut Ram, loose: &mut Vec<Frame>, pages: &[u32])
     requires room { length loose.old.items + length pages.now ≤ vec_capacity loose.old }
     requires distinct { AllDistinct pages.now }
     ensures mem { ram.new ≡ discarded pages.now ram.old }
-    ensures loose { numbers_of_frames loose.new.items ≡ numbers_of_frames loose.old.items ++ frames_behind ram.old pages.now }
+    ensures loose { numbers_of_frames loose.new.items ≡ numbers_of_frames loose.old.items ++
+        frames_behind ram.old pages.now }
     ensures capacity { vec_capacity loose.new ≡ vec_capacity loose.old }
 {
     for page in pages {
         let frame = ram.discard(*page);
         put_loose(loose, frame);
+    }
+}
+
+/// Takes the frames of a request's pages away, where the queue is one whose pages lose them.
+fn discard_request(ram: &mut Ram, loose: &mut Vec<Frame>, queue: u32, pages: &[u32])
+    requires room { length loose.old.items + length pages.now ≤ vec_capacity loose.old }
+    requires distinct { AllDistinct pages.now }
+    ensures mem { ram.new ≡ without_frames queue pages.now ram.old }
+    ensures loose { numbers_of_frames loose.new.items ≡
+        with_lost queue ram.old pages.now (numbers_of_frames loose.old.items) }
+    ensures capacity { vec_capacity loose.new ≡ vec_capacity loose.old }
+{
+    if queue != DEFLATE_QUEUE {
+        discard_all(ram, loose, pages);
     }
 }
 
@@ -141,8 +170,10 @@ impl DeviceBase {
             features: Features::empty(),
             target: 0,
             actual: 0,
-            inflate: RequestQueue::new(INFLATE_RING_PAGE),
-            deflate: RequestQueue::new(DEFLATE_RING_PAGE),
+            queues: [
+                DeviceQueue::new(INFLATE_RING_PAGE),
+                DeviceQueue::new(DEFLATE_RING_PAGE),
+            ],
             loose: Vec::new(alloc),
         }
     }
@@ -159,7 +190,8 @@ impl DeviceBase {
         requires unused { IsUnused self.old.mem self.old.part }
         requires config { is_config config.pages config.queue_size config.processors ≡ true }
         ensures mem { OnOk result (self.new.mem ≡ replicate config.pages None) }
-        ensures part { OnOk result (self.new.part ≡ record (attached config self.old.part) { ballooned = [] }) }
+        ensures part { OnOk result (self.new.part ≡
+            record (attached config self.old.part) { ballooned = [] }) }
         ensures err { OnErr result (self.new ≡ self.old) }
     {
         let Ok(ram) = Ram::new(alloc, config.pages) else {
@@ -171,15 +203,15 @@ impl DeviceBase {
         self.features = Features::empty();
         self.target = 0;
         self.actual = 0;
-        self.inflate.set_size(config.queue_size);
-        self.deflate.set_size(config.queue_size);
+        self.queues[0].set_size(config.queue_size);
+        self.queues[1].set_size(config.queue_size);
         Ok(())
     }
 
     /// `NotReady` where the driver isn't done with the initialisation or has given up, and
     /// `NeedsReset` after a fault.
-    pub(crate) fn status_refusal(&self) -> Option<Refusal>
-        ensures { result ≡ status_refusal self.now.part.status }
+    pub(crate) fn readiness_refusal(&self) -> Option<Refusal>
+        ensures { result ≡ readiness_refusal self.now.part.status }
     {
         if !self.status.contains(Status::DRIVER_OK) || self.status.contains(Status::FAILED) {
             Some(Refusal::NotReady)
@@ -190,94 +222,71 @@ impl DeviceBase {
         }
     }
 
-    /// Takes the next chain of queue 0.
-    fn take_inflate(&mut self) -> Result<Option<u16>, Refusal>
-        ensures { TakesBy 0 self.old.mem self.new.mem self.old.part self.new.part result }
+    /// `NoQueue` where there is no queue of page requests of this number, or what the status alone
+    /// refuses a call for.
+    fn queue_refusal(&self, queue: u32) -> Option<Refusal>
+        ensures { result ≡ queue_refusal queue self.now.part.status }
     {
-        if let Some(why) = self.status_refusal() {
-            return Err(why);
+        if queue > DEFLATE_QUEUE {
+            return Some(Refusal::NoQueue);
         }
-        take_from(&mut self.inflate, &self.ram, &mut self.status)
-    }
-
-    /// Takes the next chain of queue 1.
-    fn take_deflate(&mut self) -> Result<Option<u16>, Refusal>
-        ensures { TakesBy 1 self.old.mem self.new.mem self.old.part self.new.part result }
-    {
-        if let Some(why) = self.status_refusal() {
-            return Err(why);
-        }
-        take_from(&mut self.deflate, &self.ram, &mut self.status)
+        self.readiness_refusal()
     }
 
     /// Takes the next chain of queue 0 or 1.
     pub(crate) fn take(&mut self, queue: u32) -> Result<Option<u16>, Refusal>
         ensures { TakesBy queue self.old.mem self.new.mem self.old.part self.new.part result }
     {
-        match queue {
-            INFLATE_QUEUE => self.take_inflate(),
-            DEFLATE_QUEUE => self.take_deflate(),
-            _ => Err(Refusal::NoQueue),
-        }
-    }
-
-    /// Uses a taken chain of queue 0: its pages lose their frames.
-    fn finish_inflate(&mut self, index: u32) -> Result<TakenRequest, Refusal>
-        requires backed { contains self.old.part.status driver_ok ≡ true → IsSome (frame_at self.old.mem INFLATE_RING_PAGE) }
-        requires room { length self.old.part.loose ≤ length self.old.mem }
-        ensures by { BaseFinishes 0 index self.old.mem self.new.mem self.old.part self.new.part result }
-        ensures count { length self.new.mem ≡ length self.old.mem }
-    {
-        if let Some(why) = self.status_refusal() {
+        if let Some(why) = self.queue_refusal(queue) {
             return Err(why);
         }
-        match self.inflate.remove(index) {
+        take_from(
+            &mut self.queues[queue as usize],
+            &self.ram,
+            &mut self.status,
+        )
+    }
+
+    /// Takes a taken request out of queue 0 or 1, with the frames behind an inflate's pages. The
+    /// driver isn't told before `use_chain`.
+    pub(crate) fn take_out(&mut self, queue: u32, index: u32) -> Result<TakenRequest, Refusal>
+        requires backed { contains self.old.part.status driver_ok ≡ true →
+            IsSome (frame_at self.old.mem (ring_page queue)) }
+        requires room { length self.old.part.loose ≤ length self.old.mem }
+        ensures by { TakesOut queue index
+            self.old.mem self.new.mem self.old.part self.new.part result }
+        ensures count { length self.new.mem ≡ length self.old.mem }
+        ensures ready { IfOk result
+            (λ request. CanUse queue request.head self.new.mem self.new.part) }
+    {
+        if let Some(why) = self.queue_refusal(queue) {
+            return Err(why);
+        }
+        match self.queues[queue as usize].remove(index) {
             None => Err(Refusal::NotTaken),
             Some(request) => {
-                discard_all(&mut self.ram, &mut self.loose, request.pages());
-                self.inflate.add_used(&mut self.ram, request.head());
+                discard_request(&mut self.ram, &mut self.loose, queue, request.pages());
                 Ok(request)
             }
         }
     }
 
-    /// Uses a taken chain of queue 1.
-    fn finish_deflate(&mut self, index: u32) -> Result<TakenRequest, Refusal>
-        requires backed { contains self.old.part.status driver_ok ≡ true → IsSome (frame_at self.old.mem DEFLATE_RING_PAGE) }
-        ensures by { BaseFinishes 1 index self.old.mem self.new.mem self.old.part self.new.part result }
-        ensures count { length self.new.mem ≡ length self.old.mem }
+    /// Tells the driver that the chain from this head was used.
+    pub(crate) fn use_chain(&mut self, queue: u32, head: u16)
+        requires { CanUse queue head self.old.mem self.old.part }
+        ensures { UsesChain queue head self.old.mem self.new.mem self.old.part self.new.part }
     {
-        if let Some(why) = self.status_refusal() {
-            return Err(why);
-        }
-        match self.deflate.remove(index) {
-            None => Err(Refusal::NotTaken),
-            Some(request) => {
-                self.deflate.add_used(&mut self.ram, request.head());
-                Ok(request)
-            }
-        }
-    }
-
-    /// Uses a taken chain of queue 0 or 1, and gives the request out.
-    pub(crate) fn finish(&mut self, queue: u32, index: u32) -> Result<TakenRequest, Refusal>
-        requires backed { contains self.old.part.status driver_ok ≡ true → IsSome (frame_at self.old.mem (ring_page queue)) }
-        requires room { length self.old.part.loose ≤ length self.old.mem }
-        ensures by { BaseFinishes queue index self.old.mem self.new.mem self.old.part self.new.part result }
-        ensures count { length self.new.mem ≡ length self.old.mem }
-    {
-        match queue {
-            INFLATE_QUEUE => self.finish_inflate(index),
-            DEFLATE_QUEUE => self.finish_deflate(index),
-            _ => Err(Refusal::NoQueue),
-        }
+        self.queues[queue as usize].add_used(&mut self.ram, head);
     }
 
     /// Puts a frame behind a page.
     pub(crate) fn supply(&mut self, page: u32, frame: Frame) -> Result<(), SupplyRefused>
-        ensures answers { page < length self.old.mem → frame_at self.old.mem page ≡ None → IsOk result }
-        ensures out_of_ram { length self.old.mem ≤ page → result ≡ Err (record { fault = RamFault.OutOfRam; frame = frame }) }
-        ensures already_backed { page < length self.old.mem → IsSome (frame_at self.old.mem page) → result ≡ Err (record { fault = RamFault.AlreadyBacked; frame = frame }) }
+        ensures answers { page < length self.old.mem → frame_at self.old.mem page ≡ None →
+            IsOk result }
+        ensures out_of_ram { length self.old.mem ≤ page →
+            result ≡ Err (record { fault = RamFault.OutOfRam; frame = frame }) }
+        ensures already_backed { page < length self.old.mem → IsSome (frame_at self.old.mem page) →
+            result ≡ Err (record { fault = RamFault.AlreadyBacked; frame = frame }) }
         ensures ok { OnOk result (Supplied self.old.mem self.new.mem page frame.number) }
         ensures err { OnErr result (self.new.mem ≡ self.old.mem) }
         ensures part { self.new.part ≡ self.old.part }
@@ -307,7 +316,11 @@ impl DeviceBase {
         requires room { length self.old.part.loose ≤ length self.old.mem }
         ensures answer { result ≡ is_some (frame_at self.old.mem page) }
         ensures mem { self.new.mem ≡ discarded (page ∷ []) self.old.mem }
-        ensures part { self.new.part ≡ record self.old.part { loose = self.old.part.loose ++ frames_behind self.old.mem (page ∷ []) } }
+        ensures part { self.new.part ≡
+            record self.old.part {
+              loose = self.old.part.loose ++
+                  frames_behind self.old.mem (page ∷ []);
+            } }
     {
         let had = self.ram.backing(page).is_some();
         discard_all(&mut self.ram, &mut self.loose, &[page]);
@@ -353,11 +366,11 @@ impl Port for DeviceBase {
         if write.is_empty() {
             self.features = Features::empty();
             self.actual = 0;
-            self.inflate.set_ready(false);
-            self.deflate.set_ready(false);
+            self.queues[0].set_ready(false);
+            self.queues[1].set_ready(false);
         } else if starts {
-            self.inflate.set_ready(true);
-            self.deflate.set_ready(true);
+            self.queues[0].set_ready(true);
+            self.queues[1].set_ready(true);
         }
         Ok(())
     }

@@ -1,4 +1,4 @@
-// What a claim of a frame answers.
+//! What a claim of a frame answers.
 
 use vb_ram::Frame;
 

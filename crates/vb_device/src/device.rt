@@ -1,4 +1,4 @@
-// What a host sees of a device.
+//! What a host sees of a device.
 
 ghost use Rattle.std.specs.Prelude.{◌≡◌, ◌≤◌, ◌<◌, ℕ, [], true, false, None, IsSome, IsOk, OnOk, OnErr, length, replicate, count_by};
 ghost use Rattle.vb_model.specs.Guest.{is_ballooned};
@@ -27,17 +27,23 @@ pub trait Device: Port + Drop {
         requires config { is_config config.pages config.queue_size config.processors ≡ true }
         ensures mem { OnOk result (Self.mem self.new ≡ replicate config.pages None) }
         ensures part { OnOk result (Self.part self.new ≡ attached config (Self.part self.old)) }
-        ensures err { OnErr result (Self.mem self.new ≡ Self.mem self.old × (Self.part self.new ≡ Self.part self.old)) };
+        ensures err { OnErr result (Self.mem self.new ≡ Self.mem self.old ×
+            (Self.part self.new ≡ Self.part self.old)) };
 
     /// Puts a frame behind a page, and fills it with zeros: what the frame held is gone.
     ///
     /// Refused with `OutOfRam` where there is no such page, then with `AlreadyBacked` where the
     /// page has a frame. A refused call gives the frame back as it was, and changes nothing.
     fn supply(&mut self, page: u32, frame: Frame) -> Result<(), SupplyRefused>
-        ensures answers { page < length (Self.mem self.old) → frame_at (Self.mem self.old) page ≡ None → IsOk result }
-        ensures out_of_ram { length (Self.mem self.old) ≤ page → result ≡ Err (record { fault = RamFault.OutOfRam; frame = frame }) }
-        ensures already_backed { page < length (Self.mem self.old) → IsSome (frame_at (Self.mem self.old) page) → result ≡ Err (record { fault = RamFault.AlreadyBacked; frame = frame }) }
-        ensures ok { OnOk result (Supplied (Self.mem self.old) (Self.mem self.new) page frame.number) }
+        ensures answers { page < length (Self.mem self.old) →
+            frame_at (Self.mem self.old) page ≡ None → IsOk result }
+        ensures out_of_ram { length (Self.mem self.old) ≤ page →
+            result ≡ Err (record { fault = RamFault.OutOfRam; frame = frame }) }
+        ensures already_backed { page < length (Self.mem self.old) →
+            IsSome (frame_at (Self.mem self.old) page) →
+            result ≡ Err (record { fault = RamFault.AlreadyBacked; frame = frame }) }
+        ensures ok { OnOk result
+            (Supplied (Self.mem self.old) (Self.mem self.new) page frame.number) }
         ensures err { OnErr result (Self.mem self.new ≡ Self.mem self.old) }
         ensures part { Self.part self.new ≡ Self.part self.old };
 
@@ -70,7 +76,8 @@ pub trait Device: Port + Drop {
     /// are taken, tested in this order; then with `Broken` where the bytes that the driver wrote
     /// break a rule: DEVICE_NEEDS_RESET is set then. Nothing else is changed by a refusal.
     fn take(&mut self, queue: u32) -> Result<Option<u16>, Refusal>
-        ensures { TakesBy queue (Self.mem self.old) (Self.mem self.new) (Self.part self.old) (Self.part self.new) result };
+        ensures { TakesBy queue (Self.mem self.old) (Self.mem self.new)
+            (Self.part self.old) (Self.part self.new) result };
 
     /// Uses the taken chain of this number, from 0, on a queue; answers its head. An inflate's
     /// pages lose the frames that they still have and become ballooned, a deflate's stop being
@@ -80,15 +87,19 @@ pub trait Device: Port + Drop {
     /// and `NotWorked` where a paced device hasn't visited all its pages, tested in this order. A
     /// refusal changes nothing.
     fn finish(&mut self, queue: u32, index: u32) -> Result<u16, Refusal>
-        requires backed { contains (Self.part self.old).status driver_ok ≡ true → IsSome (frame_at (Self.mem self.old) (ring_page queue)) }
+        requires backed { contains (Self.part self.old).status driver_ok ≡ true →
+            IsSome (frame_at (Self.mem self.old) (ring_page queue)) }
         requires room { length (Self.part self.old).loose ≤ length (Self.mem self.old) }
-        ensures { FinishesBy queue index (Self.mem self.old) (Self.mem self.new) (Self.part self.old) (Self.part self.new) result };
+        ensures { FinishesBy queue index (Self.mem self.old) (Self.mem self.new)
+            (Self.part self.old) (Self.part self.new) result };
 
     /// Takes the frame of a ballooned page away; answers whether it had one. Refused with
-    /// `NotReady`, `NeedsReset` and `NotBallooned`, tested in this order; a refusal changes nothing.
+    /// `NotReady`, `NeedsReset` and `NotBallooned`, tested in this order; a refusal changes
+    /// nothing.
     fn sweep(&mut self, page: u32) -> Result<bool, Refusal>
         requires { length (Self.part self.old).loose ≤ length (Self.mem self.old) }
-        ensures { SweepsBy page (Self.mem self.old) (Self.mem self.new) (Self.part self.old) (Self.part self.new) result };
+        ensures { SweepsBy page (Self.mem self.old) (Self.mem self.new)
+            (Self.part self.old) (Self.part self.new) result };
 
     /// Whether the page is ballooned.
     fn ballooned(&self, page: u32) -> bool

@@ -1,4 +1,4 @@
-// A flag for each page, with the count of those that are set.
+//! A flag for each page, with the count of those that are set.
 
 ghost use Rattle.std.specs.Prelude.{◌≡◌, ◌<◌, ◌^◌, ◌≤◌, false, IfOk, count_by, length, replicate, slice_set};
 ghost use Rattle.vb_model.specs.Guest.{is_ballooned};
@@ -8,10 +8,12 @@ ghost use Rattle.vb_device.specs.Discards.{flagged};
 use std::alloc::{AllocError, Global};
 use std::marker::Model;
 
-/// A flag for each page of a guest, and how many of them are set.
+/// A flag for each page of a guest.
 #[derive(Drop)]
 pub(crate) struct PageFlags {
+    /// The flags, by page.
     flags: Vec<bool>,
+    /// How many of them are set.
     count: u32,
 }
 
@@ -22,7 +24,8 @@ impl Model for PageFlags {
 
     ghost view = { λ s. s.flags.items };
 
-    ghost invariant = { λ s. (s.count ≡ count_by (λ flag. flag) s.flags.items) × (length s.flags.items < 2 ^ 32) };
+    ghost invariant = { λ s. (s.count ≡ count_by (λ flag. flag) s.flags.items) ×
+        (length s.flags.items < 2 ^ 32) };
 }
 
 /// 1 for a flag that is set, else 0.

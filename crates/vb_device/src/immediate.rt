@@ -1,4 +1,4 @@
-// The device that does all its work when it finishes a request.
+//! The device that does all its work when it finishes a request.
 
 ghost use Rattle.std.specs.Prelude.{◌≡◌, [], true, false, length};
 ghost use Rattle.vb_device.specs.Calls.{IsUnused};
@@ -18,7 +18,9 @@ use vb_status::{Features, Port, Status, StatusFault};
 /// frames of its own (profile).
 #[derive(Drop)]
 pub struct ImmediateDevice {
+    /// What it shares with devices of other kinds.
     base: DeviceBase,
+    /// The pages that are ballooned.
     ballooned: PageFlags,
 }
 
@@ -28,7 +30,10 @@ impl Model for ImmediateDevice {
 
     ghost Value = { DeviceState };
 
-    ghost view = { λ s. record { mem = s.base.mem; part = record s.base.part { ballooned = s.ballooned } } };
+    ghost view = { λ s. record {
+      mem = s.base.mem;
+      part = record s.base.part { ballooned = s.ballooned };
+    } };
 
     ghost invariant = { λ s. length s.ballooned ≡ length s.base.mem };
 }
@@ -127,18 +132,15 @@ impl Device for ImmediateDevice {
     }
 
     fn finish(&mut self, queue: u32, index: u32) -> Result<u16, Refusal> {
-        match self.base.finish(queue, index) {
-            Err(why) => Err(why),
-            Ok(request) => {
-                self.ballooned
-                    .set_all(request.pages(), queue == INFLATE_QUEUE);
-                Ok(request.head())
-            }
-        }
+        let request = self.base.take_out(queue, index)?;
+        self.ballooned
+            .set_all(request.pages(), queue == INFLATE_QUEUE);
+        self.base.use_chain(queue, request.head());
+        Ok(request.head())
     }
 
     fn sweep(&mut self, page: u32) -> Result<bool, Refusal> {
-        match self.base.status_refusal() {
+        match self.base.readiness_refusal() {
             Some(why) => Err(why),
             None => {
                 if !self.ballooned.get(page) {

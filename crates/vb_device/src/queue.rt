@@ -1,28 +1,32 @@
-// A queue of page requests: the device's end of its ring, and the requests that were taken.
+//! A queue of page requests: the device's end of its ring, and the requests that were taken.
 
 ghost use Rattle.std.specs.Prelude.{◌≡◌, ◌<◌, ◌≤◌, ◌+◌, [], ◌++◌, ◌∷◌, All, IfSome, IfNone, IsTrue, true, false, nat_le, length, slice_get, remove};
 ghost use Rattle.std.specs.Int.{is_power_of_two};
+ghost use Rattle.vb_model.specs.declared.limits.TheConstants.{MIN_QUEUE_SIZE, MAX_QUEUE_SIZE};
+ghost use Rattle.vb_model.specs.Limits.{max_outstanding, max_request_pages};
 ghost use Rattle.vb_ring.specs.Layout.{layout_of, IsInside, IsBacked};
 ghost use Rattle.vb_ring.specs.Ends.{IsDeviceEnd};
 ghost use Rattle.vb_ring.specs.Calls.{AddsUsedBy};
 ghost use Rattle.vb_device.specs.QueueState.{started, restarted, AreNamed, TakesNext};
 
-use crate::request::page_request;
+use crate::request::{RequestPages, page_request};
 use arrayvec::ArrayVec;
 use std::marker::Model;
 use vb_chain::ChainFault;
+use vb_model::limits::MAX_OUTSTANDING;
 use vb_ram::GuestBytes;
 use vb_ring::Queue;
 
 /// Requests of a queue that may be taken at a time.
-const MAX_TAKEN: usize = 16;
+const MAX_TAKEN: usize = MAX_OUTSTANDING as usize;
 
-/// A request that was taken and isn't finished yet: the head of its chain, and the pages that it
-/// names, each once.
+/// A request that was taken and isn't finished yet.
 #[derive(Drop)]
 pub(crate) struct TakenRequest {
+    /// The first descriptor of its chain.
     head: u16,
-    pages: ArrayVec<u32, 256>,
+    /// The pages that it names, in the order in which they first stand there.
+    pages: RequestPages,
 }
 
 impl Model for TakenRequest {
@@ -57,7 +61,7 @@ impl TakenRequest {
     pub(crate) fn pages(&self) -> &[u32]
         ensures pages { result.now ≡ self.now.pages }
         ensures named { AreNamed result.now }
-        ensures few { length result.now ≤ 256 }
+        ensures few { length result.now ≤ max_request_pages }
     {
         &self.pages
     }
@@ -65,12 +69,14 @@ impl TakenRequest {
 
 /// The device's end of a queue of page requests.
 #[derive(Drop)]
-pub(crate) struct RequestQueue {
+pub(crate) struct DeviceQueue {
+    /// The device's end of the ring.
     queue: Queue,
-    taken: ArrayVec<TakenRequest, 16>,
+    /// The requests that are taken, oldest first.
+    taken: ArrayVec<TakenRequest, MAX_TAKEN>,
 }
 
-impl Model for RequestQueue {
+impl Model for DeviceQueue {
     ghost use Rattle.std.specs.Prelude.{◌<◌, All};
     ghost use Rattle.vb_device.specs.QueueState.{QueueState};
 
@@ -81,12 +87,20 @@ impl Model for RequestQueue {
     ghost invariant = { λ q. All (λ r. r.head < q.queue.size) q.taken.items };
 }
 
-impl RequestQueue {
+impl DeviceQueue {
     /// A queue whose ring is in this page, and which isn't ready.
-    pub(crate) fn new(page: u32) -> RequestQueue
-        ensures { result ≡ started false 128 (record { layout = layout_of page 128; size = 128; ready = false; next_avail = 0; next_used = 0 }) }
+    pub(crate) fn new(page: u32) -> DeviceQueue
+        ensures { result ≡
+            started false MAX_QUEUE_SIZE
+            (record {
+              layout = layout_of page MAX_QUEUE_SIZE;
+              size = MAX_QUEUE_SIZE;
+              ready = false;
+              next_avail = 0;
+              next_used = 0;
+            }) }
     {
-        RequestQueue {
+        DeviceQueue {
             queue: Queue::new(page),
             taken: ArrayVec::new(),
         }
@@ -94,7 +108,8 @@ impl RequestQueue {
 
     /// Gives the queue so many descriptors; nothing is taken, and it isn't ready.
     pub(crate) fn set_size(&mut self, size: u16)
-        requires { IsTrue (is_power_of_two size) × (2 ≤ size) × (size ≤ 128) }
+        requires { IsTrue (is_power_of_two size) × (MIN_QUEUE_SIZE ≤ size) ×
+            (size ≤ MAX_QUEUE_SIZE) }
         ensures { self.new ≡ started false size self.old.ring }
     {
         self.taken.clear();
@@ -112,7 +127,7 @@ impl RequestQueue {
 
     /// Whether as many requests are taken as may be.
     pub(crate) fn is_full(&self) -> bool
-        ensures { result ≡ nat_le 16 (length self.now.taken) }
+        ensures { result ≡ nat_le max_outstanding (length self.now.taken) }
     {
         self.taken.len() >= MAX_TAKEN
     }
@@ -121,7 +136,7 @@ impl RequestQueue {
     pub(crate) fn take<G: GuestBytes>(&mut self, ram: &G) -> Result<Option<u16>, ChainFault>
         requires inside { IsInside (G.mem ram.now) self.old.ring.layout }
         requires ready { self.old.ring.ready ≡ true }
-        requires room { length self.old.taken < 16 }
+        requires room { length self.old.taken < max_outstanding }
         ensures { TakesNext (G.mem ram.now) self.old self.new result }
     {
         match self.queue.pop_descriptor_chain(ram) {
@@ -150,7 +165,8 @@ impl RequestQueue {
         ensures value { result ≡ slice_get self.old.taken index }
         ensures head { IfSome result (λ r. r.head < self.old.ring.size) }
         ensures none { IfNone result (self.new ≡ self.old) }
-        ensures rest { IfSome result (λ _. self.new ≡ record self.old { taken = remove self.old.taken index }) }
+        ensures rest { IfSome result (λ _. self.new ≡
+            record self.old { taken = remove self.old.taken index }) }
     {
         if index as usize >= self.taken.len() {
             return None;
@@ -163,7 +179,8 @@ impl RequestQueue {
         requires backed { IsBacked (G.mem ram.old) self.old.ring.layout }
         requires ready { self.old.ring.ready ≡ true }
         requires head { head < self.old.ring.size }
-        ensures adds { AddsUsedBy (G.mem ram.old) (G.mem ram.new) self.old.ring self.new.ring head 0 }
+        ensures adds { AddsUsedBy (G.mem ram.old) (G.mem ram.new)
+            self.old.ring self.new.ring head 0 }
         ensures taken { self.new.taken ≡ self.old.taken }
         ensures part { G.part ram.new ≡ G.part ram.old }
     {

@@ -1,48 +1,85 @@
-// The pages that a chain of queue 0 or 1 names.
+//! The pages that a chain of queue 0 or 1 names.
 
-ghost use Rattle.std.specs.Prelude.{◌≡◌, ℕ, ◌+◌, ◌*◌, ◌/◌, ◌^◌, ◌<◌, ◌≤◌, ◌++◌, ◌∷◌, [], if◌then◌else◌, List, Ok, Err, Some, None, All, MatchResult, MatchOption, length, take};
+ghost use Rattle.std.specs.Prelude.{◌≡◌, ℕ, ◌+◌, ◌*◌, ◌/◌, ◌%◌, ◌^◌, ◌<◌, ◌≤◌, ◌++◌, ◌∷◌, [], if◌then◌else◌, List, Ok, Err, Some, None, All, MatchResult, MatchOption, length, take};
 ghost use Rattle.std.specs.List.{list_any};
+ghost use Rattle.vb_model.specs.declared.layout.TheConstants.{REQUEST_BUFFER_SIZE};
+ghost use Rattle.vb_model.specs.declared.limits.TheConstants.{MAX_QUEUE_SIZE};
+ghost use Rattle.vb_model.specs.Limits.{page_size, max_request_pages};
 ghost use Rattle.vb_model.specs.Tests.{is_in};
 ghost use Rattle.vb_device.specs.Request.{byte_of_address, bytes_from, bytes_of, total_length, number_at, numbers_of, number_fault, pages_of_numbers, is_request_length, page_request};
 
 use arrayvec::ArrayVec;
 use vb_chain::{ChainFault, Piece};
 use vb_model::layout::REQUEST_BUFFER_SIZE;
-use vb_model::limits::RESERVED_PAGES;
+use vb_model::limits::{MAX_REQUEST_PAGES, PAGE_SIZE, RESERVED_PAGES};
 use vb_ram::GuestBytes;
 
-/// The byte at an address of guest memory.
-fn read_byte<G: GuestBytes>(ram: &G, addr: u64) -> u8
-    requires inside { addr < 4096 * length (G.mem ram.now) }
+/// Bytes of a page.
+const PAGE_BYTES: u64 = PAGE_SIZE as u64;
+
+/// Bytes of a request, at most.
+const BUFFER_BYTES: usize = REQUEST_BUFFER_SIZE as usize;
+
+/// Pages of a request, at most.
+const MAX_PAGES: usize = MAX_REQUEST_PAGES as usize;
+
+/// The bytes of a request, all its pieces in a row.
+type RequestBytes = ArrayVec<u8, BUFFER_BYTES>;
+
+/// The pages that a request names.
+pub(crate) type RequestPages = ArrayVec<u32, MAX_PAGES>;
+
+/// Reads bytes of one page, from an address on.
+fn read_run<G: GuestBytes>(ram: &G, addr: u64, run: &mut [u8])
+    requires page { addr / page_size < length (G.mem ram.now) }
+    requires inside { addr % page_size + length run.old ≤ page_size }
     requires few { length (G.mem ram.now) < 2 ^ 32 }
-    ensures { result ≡ byte_of_address (G.mem ram.now) addr }
+    ensures { run.new ≡ bytes_from (G.mem ram.now) addr (length run.old) }
 {
-    let mut byte = [0; 1];
-    let _ = ram.read((addr / 4096) as u32, (addr % 4096) as usize, &mut byte);
-    byte[0]
+    let page = (addr / PAGE_BYTES) as u32;
+    let offset = (addr % PAGE_BYTES) as usize;
+    let _ = ram.read(page, offset, run);
 }
 
-/// Reads a piece's bytes and puts them behind the others.
-fn append_bytes<G: GuestBytes>(ram: &G, addr: u64, len: u32, bytes: &mut ArrayVec<u8, 1024>)
-    requires inside { addr + len ≤ 4096 * length (G.mem ram.now) }
+/// Reads bytes of one page and puts them behind the others.
+fn append_run<G: GuestBytes>(ram: &G, addr: u64, len: usize, bytes: &mut RequestBytes)
+    requires inside { addr + len ≤ page_size * length (G.mem ram.now) }
+    requires one_page { addr % page_size + len ≤ page_size }
     requires few { length (G.mem ram.now) < 2 ^ 32 }
-    requires room { length bytes.old.items + len ≤ 1024 }
+    requires room { length bytes.old.items + len ≤ REQUEST_BUFFER_SIZE }
     ensures { bytes.new.items ≡ bytes.old.items ++ bytes_from (G.mem ram.now) addr len }
 {
-    for i in 0..len {
-        let byte = read_byte(ram, addr + u64::from(i));
-        bytes.push(byte);
+    if len == 0 {
+        return;
     }
+    let mut run = [0; BUFFER_BYTES];
+    read_run(ram, addr, &mut run[..len]);
+    let _fits = bytes.try_extend_from_slice(&run[..len]);
+}
+
+/// Reads a piece's bytes and puts them behind the others: a piece of a request lies in one page or
+/// in two.
+fn append_bytes<G: GuestBytes>(ram: &G, addr: u64, len: u32, bytes: &mut RequestBytes)
+    requires inside { addr + len ≤ page_size * length (G.mem ram.now) }
+    requires few { length (G.mem ram.now) < 2 ^ 32 }
+    requires room { length bytes.old.items + len ≤ REQUEST_BUFFER_SIZE }
+    ensures { bytes.new.items ≡ bytes.old.items ++ bytes_from (G.mem ram.now) addr len }
+{
+    let to_page_end = (PAGE_BYTES - addr % PAGE_BYTES) as u32;
+    let first = len.min(to_page_end);
+    append_run(ram, addr, first as usize, bytes);
+    append_run(ram, addr + u64::from(first), (len - first) as usize, bytes);
 }
 
 /// The bytes of all pieces in a row.
-fn gather<G: GuestBytes>(ram: &G, pieces: &[Piece]) -> ArrayVec<u8, 1024>
-    requires inside { All (λ piece. piece.addr + piece.len ≤ 4096 * length (G.mem ram.now)) pieces.now }
+fn gather<G: GuestBytes>(ram: &G, pieces: &[Piece]) -> RequestBytes
+    requires inside { All
+        (λ piece. piece.addr + piece.len ≤ page_size * length (G.mem ram.now)) pieces.now }
     requires few { length (G.mem ram.now) < 2 ^ 32 }
-    requires fits { total_length pieces.now ≤ 1024 }
+    requires fits { total_length pieces.now ≤ REQUEST_BUFFER_SIZE }
     ensures { result.items ≡ bytes_of (G.mem ram.now) pieces.now }
 {
-    let mut bytes: ArrayVec<u8, 1024> = ArrayVec::new();
+    let mut bytes: RequestBytes = ArrayVec::new();
     for piece in pieces {
         append_bytes(ram, piece.addr, piece.len, &mut bytes);
     }
@@ -51,7 +88,7 @@ fn gather<G: GuestBytes>(ram: &G, pieces: &[Piece]) -> ArrayVec<u8, 1024>
 
 /// How many bytes the pieces have together.
 fn total_length(pieces: &[Piece]) -> u64
-    requires { length pieces.now ≤ 128 }
+    requires { length pieces.now ≤ MAX_QUEUE_SIZE }
     ensures { result ≡ total_length pieces.now }
 {
     let mut total: u64 = 0;
@@ -106,9 +143,10 @@ fn is_named(pages: &[u32], number: u32) -> bool
 }
 
 /// Puts a page behind the others, unless it is there.
-fn add_once(pages: &mut ArrayVec<u32, 256>, number: u32)
-    requires { length pages.old.items < 256 }
-    ensures { pages.new.items ≡ (if is_in number pages.old.items then pages.old.items else pages.old.items ++ number ∷ []) }
+fn add_once(pages: &mut RequestPages, number: u32)
+    requires { length pages.old.items < max_request_pages }
+    ensures { pages.new.items ≡
+        (if is_in number pages.old.items then pages.old.items else pages.old.items ++ number ∷ []) }
 {
     if !is_named(pages, number) {
         pages.push(number);
@@ -117,11 +155,12 @@ fn add_once(pages: &mut ArrayVec<u32, 256>, number: u32)
 
 /// The pages that the numbers in these bytes are, each once, or what is wrong with the first wrong
 /// one.
-fn pages_of(count: u32, bytes: &[u8]) -> Result<ArrayVec<u32, 256>, ChainFault>
-    requires { length bytes.now ≤ 1024 }
-    ensures { MatchResult result (λ pages. pages_of_numbers count (numbers_of bytes.now) ≡ Ok pages.items) (λ fault. pages_of_numbers count (numbers_of bytes.now) ≡ Err fault) }
+fn pages_of(count: u32, bytes: &[u8]) -> Result<RequestPages, ChainFault>
+    requires { length bytes.now ≤ REQUEST_BUFFER_SIZE }
+    ensures { MatchResult result (λ pages. pages_of_numbers count (numbers_of bytes.now) ≡
+        Ok pages.items) (λ fault. pages_of_numbers count (numbers_of bytes.now) ≡ Err fault) }
 {
-    let mut pages: ArrayVec<u32, 256> = ArrayVec::new();
+    let mut pages: RequestPages = ArrayVec::new();
     for k in 0..bytes.len() / 4 {
         let number = number_at(bytes, k);
         if let Some(fault) = number_fault(count, number) {
@@ -137,10 +176,12 @@ fn pages_of(count: u32, bytes: &[u8]) -> Result<ArrayVec<u32, 256>, ChainFault>
 pub(crate) fn page_request<G: GuestBytes>(
     ram: &G,
     pieces: &[Piece],
-) -> Result<ArrayVec<u32, 256>, ChainFault>
-    requires inside { All (λ piece. piece.addr + piece.len ≤ 4096 * length (G.mem ram.now)) pieces.now }
-    requires few { length pieces.now ≤ 128 }
-    ensures { MatchResult result (λ pages. page_request (G.mem ram.now) pieces.now ≡ Ok pages.items) (λ fault. page_request (G.mem ram.now) pieces.now ≡ Err fault) }
+) -> Result<RequestPages, ChainFault>
+    requires inside { All
+        (λ piece. piece.addr + piece.len ≤ page_size * length (G.mem ram.now)) pieces.now }
+    requires few { length pieces.now ≤ MAX_QUEUE_SIZE }
+    ensures { MatchResult result (λ pages. page_request (G.mem ram.now) pieces.now ≡
+        Ok pages.items) (λ fault. page_request (G.mem ram.now) pieces.now ≡ Err fault) }
 {
     let count = ram.pages();
     if has_writable(pieces) {

@@ -1,4 +1,4 @@
-// Requests on an immediate device: the tests write what a driver would, and call what a host does.
+//! Requests on an immediate device: the tests write what a driver would, and call what a host does.
 
 use crate::{Claimed, Device, ImmediateDevice};
 use bitflags::Flags;

@@ -1,4 +1,4 @@
-use Rattle.std.proofs.Common.{◌≡◌, ◌∙◌, ◌≤◌, true, false, rules, arith, ℕ}
+use Rattle.std.proofs.Common.{◌≡◌, false, rules}
 use Rattle.std.specs.Prelude.{nat_le, length}
 use Rattle.vb_device.proofs.FromNext.{from_next, from_fault, next_idle}
 use Rattle.vb_status.specs.Bits.{status_bits}

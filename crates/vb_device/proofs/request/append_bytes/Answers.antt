@@ -1,12 +1,29 @@
-use Rattle.std.proofs.Common.{◌∙◌, ap, arith, ◌+◌, ℕ, List, length}
-use Rattle.std.proofs.lemmas.List.{length_push}
-use Rattle.vb_device.specs.Request.{byte_of_address}
-use Rattle.vb_device.specs.Bytes.{bytes_more}
+use Rattle.std.proofs.Common.{◌≡◌, ◌≤◌, ◌+◌, ◌-◌, ◌++◌, ◌∙◌, ℕ, List, ap, arith, rules, length, length-append}
+use Rattle.std.proofs.lemmas.List.{append_assoc}
+use Rattle.vb_device.specs.Request.{bytes_from}
+use Rattle.vb_device.proofs.Bytes.{bytes_from-length, bytes_from-append}
 use Rattle.vb_device.proofs.request.append_bytes.Goals as goal
 
-pub loop-i-preserved : goal.loop-i-preserved
-loop-i-preserved g c =
-    record {
-      bytes = c.push.ensures.items ∙ bytes_more (g.G.GuestBytes.mem c.args.ram.now) c.args.addr c.loop-i.i c.args.bytes.now.items c.loop-i.bytes.items c.read_byte-byte.result c.loop-i.invariant.bytes (c.read_byte-byte.ensures ∙ ap (λ (n : ℕ). byte_of_address (g.G.GuestBytes.mem c.args.ram.now) (c.args.addr + n)) c.from.ensures);
-      count = omega (arith, ap (λ (xs : List ℕ). length xs) c.push.ensures.items, length_push c.loop-i.bytes.items c.read_byte-byte.result, c.loop-i.invariant.count);
-    }
+pub append_run-requires-2-clause-room : goal.append_run-requires-2-clause-room
+append_run-requires-2-clause-room g c =
+    let least : c.min-first.result ≤ c.args.len = search rules in
+    omega (
+      arith,
+      ap (λ (bs : List ℕ). length bs) c.append_run.ensures,
+      length-append c.args.bytes.now.items (bytes_from (g.G.GuestBytes.mem c.args.ram.now) c.args.addr c.min-first.result),
+      bytes_from-length (g.G.GuestBytes.mem c.args.ram.now) c.args.addr c.min-first.result,
+      least,
+      c.requires.room,
+    )
+
+pub returns : goal.returns
+returns g c =
+    let least : c.min-first.result ≤ c.args.len = search rules in
+    let whole : c.min-first.result + (c.args.len - c.min-first.result) ≡ c.args.len = omega (arith, least) in
+    let rest : ℕ = c.args.len - c.min-first.result in
+    c.append_run-2.ensures
+    ∙ (ap (λ (bs : List ℕ). bs ++ bytes_from (g.G.GuestBytes.mem c.args.ram.now) (c.args.addr + c.from.result) rest) c.append_run.ensures
+    ∙ (append_assoc c.args.bytes.now.items (bytes_from (g.G.GuestBytes.mem c.args.ram.now) c.args.addr c.min-first.result) (bytes_from (g.G.GuestBytes.mem c.args.ram.now) (c.args.addr + c.from.result) rest)
+    ∙ ap (λ (bs : List ℕ). c.args.bytes.now.items ++ bs)
+    (ap (λ (n : ℕ). bytes_from (g.G.GuestBytes.mem c.args.ram.now) c.args.addr c.min-first.result ++ bytes_from (g.G.GuestBytes.mem c.args.ram.now) (c.args.addr + n) rest) c.from.ensures
+    ∙ (bytes_from-append (g.G.GuestBytes.mem c.args.ram.now) c.args.addr c.min-first.result rest ∙ ap (bytes_from (g.G.GuestBytes.mem c.args.ram.now) c.args.addr) whole))))

@@ -1,7 +1,7 @@
 use Rattle.std.proofs.Common.{ap, arith, ℕ, List, length}
 use Rattle.vb_chain.specs.Written.{empty}
 use Rattle.vb_device.specs.Request.{bytes_of}
-use Rattle.vb_device.specs.Bytes.{pieces_more, pieces_count}
+use Rattle.vb_device.proofs.Bytes.{pieces_more, pieces_count}
 use Rattle.vb_device.proofs.request.gather.Goals as goal
 
 pub loop-piece-init : goal.loop-piece-init

@@ -1,10 +1,37 @@
-use Rattle.std.proofs.Common.{◌≤◌, arith}
-use Rattle.vb_model.specs.declared.replies.Refusal.TheVariants.{NoQueue}
-use Rattle.vb_device.proofs.TakesBy.{refused_take, take_no_queue}
-use Rattle.std.proofs.Common.{refl}
+use Rattle.std.proofs.Common.{◌≡◌, get_or, None, sym, subst, rules}
+use Rattle.std.proofs.Math.ListN.{set}
+use Rattle.vb_status.specs.Bits.{status_bits, feature_bits}
+use Rattle.vb_device.specs.State.{DeviceState}
+use Rattle.vb_device.specs.QueueState.{QueueState}
+use Rattle.vb_device.specs.Base.{queue_at, base_part}
+use Rattle.vb_device.specs.BaseCalls.{queue_refusal, TakesFrom}
+use Rattle.vb_device.specs.Calls.{TakesBy}
+use Rattle.vb_device.proofs.Both.{entry_is}
+use Rattle.vb_device.proofs.FromNext.{keeps_ring}
+use Rattle.vb_device.proofs.TakesBy.{takes_refused, takes_at, base_kept, queue_known}
 use Rattle.vb_device.proofs.base.DeviceBase.take.Goals as goal
 
-pub returns-in_default : goal.returns-in_default
-returns-in_default c =
-    let far : 2 ≤ c.args.queue = omega arith in
-    refused_take c.args.queue c.args.self.now.mem c.args.self.now.part NoQueue (take_no_queue c.args.queue c.args.self.now.part far) (take_no_queue c.args.queue c.args.self.now.part far, refl)
+pub returns-in-Some : goal.returns-in-Some
+returns-in-Some c =
+    takes_refused c.args.queue c.args.self.now.mem c.args.self.now.part c.in-Some.why (sym c.in-Some.ensures)
+
+pub invariant_of-self : goal.invariant_of-self
+invariant_of-self c =
+    let open_status : queue_refusal c.args.queue (status_bits c.self.inside.status) ≡ None = search rules in
+    let was : get_or c.self.inside.queues c.args.queue c.index-self-queue.result ≡ queue_at c.args.queue c.self.inside.queues =
+    entry_is c.args.queue c.self.inside.queues c.index-self-queue.result c.self.invariant.two (queue_known c.args.queue (status_bits c.self.inside.status) open_status) in
+    let takes : TakesFrom c.self.inside.ram (queue_at c.args.queue c.self.inside.queues) c.take_from.new.requests (status_bits c.self.inside.status) (status_bits c.take_from.new.status) c.take_from.result =
+    subst (λ (x : QueueState). TakesFrom c.self.inside.ram x c.take_from.new.requests (status_bits c.self.inside.status) (status_bits c.take_from.new.status) c.take_from.result) was c.take_from.ensures in
+    base_kept c.args.queue c.self.inside.ram (status_bits c.self.inside.status) (status_bits c.take_from.new.status) _ c.self.inside.queues c.take_from.new.requests c.self.invariant open_status
+    (keeps_ring c.self.inside.ram (queue_at c.args.queue c.self.inside.queues) c.take_from.new.requests (status_bits c.self.inside.status) (status_bits c.take_from.new.status) c.take_from.result
+    (c.self.invariant.each c.args.queue (queue_known c.args.queue (status_bits c.self.inside.status) open_status)).idle takes.means)
+
+pub returns : goal.returns
+returns c =
+    let open_status : queue_refusal c.args.queue (status_bits c.self.inside.status) ≡ None = search rules in
+    let was : get_or c.self.inside.queues c.args.queue c.index-self-queue.result ≡ queue_at c.args.queue c.self.inside.queues =
+    entry_is c.args.queue c.self.inside.queues c.index-self-queue.result c.self.invariant.two (queue_known c.args.queue (status_bits c.self.inside.status) open_status) in
+    let takes : TakesFrom c.self.inside.ram (queue_at c.args.queue c.self.inside.queues) c.take_from.new.requests (status_bits c.self.inside.status) (status_bits c.take_from.new.status) c.take_from.result =
+    subst (λ (x : QueueState). TakesFrom c.self.inside.ram x c.take_from.new.requests (status_bits c.self.inside.status) (status_bits c.take_from.new.status) c.take_from.result) was c.take_from.ensures in
+    subst (λ (v : DeviceState). TakesBy c.args.queue v.mem c.self.inside.ram v.part (base_part (status_bits c.take_from.new.status) (feature_bits c.self.inside.features) c.self.inside.target c.self.inside.actual (set c.self.inside.queues c.args.queue c.take_from.new.requests) c.self.inside.loose.items) c.take_from.result) c.self.view_is
+    (takes_at c.args.queue c.self.inside.ram (status_bits c.self.inside.status) (status_bits c.take_from.new.status) (feature_bits c.self.inside.features) c.self.inside.target c.self.inside.actual _ c.self.inside.queues c.take_from.new.requests c.self.inside.loose.items c.take_from.result c.self.invariant open_status takes)

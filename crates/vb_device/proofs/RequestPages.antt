@@ -1,5 +1,5 @@
 -- Laws of requests, for the crates above.
-use Rattle.std.specs.Prelude.{◌≡◌, ℕ, zero, suc, slice_index_or, ◌+◌, ◌<◌, ◌≤◌, Bool, true, false, not, ◌==◌, ◌||◌, nat_le, nat_lt, IsTrue, List, [], ◌∷◌, All, length, filter, if◌then◌else◌, Option, Some, None, Result, Ok, Err, refl, cond}
+use Rattle.std.specs.Prelude.{◌≡◌, ℕ, zero, suc, slice_index_or, ◌<◌, ◌≤◌, Bool, true, false, not, ◌==◌, ◌||◌, nat_le, nat_lt, IsTrue, List, [], ◌∷◌, All, length, filter, if◌then◌else◌, Option, Some, None, Ok, Err, refl, cond}
 use Rattle.std.proofs.Common.{rules}
 use Rattle.std.specs.List.{list_any}
 use Rattle.std.proofs.Common.{sym, ◌∙◌, ap, subst, arith}
@@ -11,13 +11,8 @@ use Rattle.vb_ram.specs.Pages.{Pages}
 use Rattle.vb_chain.specs.declared.Piece.{Piece}
 use Rattle.vb_chain.specs.declared.ChainFault.{ChainFault}
 use Rattle.vb_chain.specs.declared.ChainFault.TheVariants.{WrongDirection, BadLength, BadPage, ReservedPage}
+use Rattle.vb_device.specs.Request.{ArePages}
 use Rattle.vb_device.specs.Request.{each_once, number_fault, first_of_both, first_number_fault, unless_fault, pages_of_numbers, numbers_of, bytes_of, is_request_length, total_length, page_request}
-
--- Pages that a request of a guest of so many pages may name.
-pub record ArePages (count : ℕ) (pages : List ℕ) : Type 0 where
-  pub above : All (λ page. 16 ≤ page) pages
-  pub below : All (λ page. page < count) pages
-  pub distinct : AllDistinct pages
 
 unless_ok : (fault : Option ChainFault) (ns pages : List ℕ) → unless_fault fault ns ≡ Ok pages → (fault ≡ None) × (ns ≡ pages)
 unless_ok None ns pages e = (refl, cc)

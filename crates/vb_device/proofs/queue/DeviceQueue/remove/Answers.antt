@@ -1,10 +1,10 @@
-use Rattle.std.proofs.Common.{◌≡◌, ◌∙◌, ◌<◌, ℕ, suc, List, take, drop, Option, Some, sym, ap, subst, rules, get_or}
+use Rattle.std.proofs.Common.{◌∙◌, ◌<◌, suc, List, take, drop, Some, sym, ap, subst, rules}
 use Rattle.std.specs.Prelude.{All, length, slice_get}
 use Rattle.std.proofs.lemmas.List.Elements.{All-append, All-take, All-drop}
 use Rattle.std.proofs.lemmas.Option.{slice_get-get_or}
 use Rattle.vb_model.specs.Requests.{Request}
 use Rattle.vb_device.specs.QueueState.{QueueState}
-use Rattle.vb_device.proofs.queue.RequestQueue.remove.Goals as goal
+use Rattle.vb_device.proofs.queue.DeviceQueue.remove.Goals as goal
 
 pub invariant_of-self : goal.invariant_of-self
 invariant_of-self c =

@@ -1,32 +1,20 @@
 -- The request that a driver writes as one readable piece, for the crates above.
-use Rattle.std.specs.Prelude.{◌≡◌, ℕ, zero, suc, ◌+◌, ◌*◌, ◌/◌, ◌%◌, ◌<◌, ◌≤◌, Bool, true, false, not, ◌&&◌, ◌||◌, ◌==◌, nat_le, nat_lt, IsTrue, List, [], ◌∷◌, ◌++◌, All, length, filter, if◌then◌else◌, Option, Some, None, Result, Ok, Err, slice_index, slice_index_or, refl, cond}
-use Rattle.std.specs.List.{list_any}
-use Rattle.std.specs.Int.{w32, from_le_bytes}
-use Rattle.std.proofs.Common.{sym, ◌∙◌, ap, subst, arith, get_or, take, drop, eq-eqb, rules}
-use Rattle.std.proofs.lemmas.Bool.{eqb-true, lt-ltb, le-leb, lt-leb, le-ltb}
+use Rattle.std.specs.Prelude.{◌≡◌, ℕ, suc, ◌+◌, ◌*◌, ◌/◌, ◌%◌, ◌<◌, ◌≤◌, Bool, true, false, not, ◌&&◌, ◌||◌, ◌==◌, nat_le, nat_lt, IsTrue, List, [], ◌∷◌, All, length, filter, if◌then◌else◌, Option, Some, None, Ok, slice_index, refl, cond}
+use Rattle.std.proofs.Common.{sym, ◌∙◌, ap, arith, take, drop, eq-eqb, rules}
+use Rattle.std.proofs.lemmas.Bool.{lt-ltb, le-leb, lt-leb, le-ltb}
 use Rattle.std.proofs.lemmas.List.{ext_get_or, get_or-take, get_or-drop, append-nil}
 use Rattle.std.proofs.lemmas.List.FromFn.{get_or-map-range_with_len}
 use Rattle.vb_model.specs.Tests.{is_in}
 use Rattle.vb_model.specs.Driver.{AllDistinct}
-use Rattle.vb_ram.specs.Pages.{Pages, byte_at, field}
+use Rattle.vb_ram.specs.Pages.{Pages, byte_at}
 use Rattle.vb_ram.specs.Fields.{field_4}
 use Rattle.vb_chain.specs.declared.Piece.{Piece}
 use Rattle.vb_chain.specs.declared.ChainFault.{ChainFault}
 use Rattle.vb_chain.specs.declared.ChainFault.TheVariants.{BadPage, ReservedPage}
 use Rattle.vb_device.specs.Request.{byte_of_address, bytes_from, bytes_of, total_length, is_request_length, number_at, numbers_of, number_fault, first_of_both, first_number_fault, unless_fault, each_once, pages_of_numbers, page_request}
-use Rattle.vb_device.specs.RequestLaws.{ArePages}
-use Rattle.vb_device.specs.Once.{numbers_of-length, numbers_of-at}
-use Rattle.vb_device.specs.Bytes.{bytes_from-length, by_numbers}
-
--- The piece is readable, and is these page numbers at an offset of a page.
-pub record IsRequest (mem : Pages) (piece : Piece) (p o : ℕ) (pages : List ℕ) : Type 0 where
-  pub addr : piece.addr ≡ 4096 * p + o
-  pub len : piece.len ≡ 4 * length pages
-  pub readable : piece.writable ≡ false
-  pub inside : o + 4 * length pages ≤ 4096
-  pub numbers : (k : ℕ) → k < length pages → field 4 mem p (o + 4 * k) ≡ slice_index pages k
-  pub some : 0 < length pages
-  pub few : length pages ≤ 256
+use Rattle.vb_device.specs.Request.{ArePages, IsRequestPiece}
+use Rattle.vb_device.proofs.Once.{numbers_of-length, numbers_of-at}
+use Rattle.vb_device.proofs.Bytes.{bytes_from-length, by_numbers}
 
 -- a byte of the piece
 byte_in : (mem : Pages) (piece : Piece) (p o i : ℕ) → piece.addr ≡ 4096 * p + o → o + i < 4096 → byte_of_address mem (piece.addr + i) ≡ byte_at mem p (o + i)
@@ -39,11 +27,11 @@ bytes_are : (mem : Pages) (piece : Piece) → bytes_of mem (piece ∷ []) ≡ by
 unfolding bytes_of
 bytes_are mem piece = append-nil (bytes_from mem piece.addr piece.len)
 
-byte_at_index : (mem : Pages) (piece : Piece) (p o i : ℕ) (pages : List ℕ) → IsRequest mem piece p o pages → i < 4 * length pages → slice_index (bytes_from mem piece.addr piece.len) i ≡ byte_at mem p (o + i)
+byte_at_index : (mem : Pages) (piece : Piece) (p o i : ℕ) (pages : List ℕ) → IsRequestPiece mem piece p o pages → i < 4 * length pages → slice_index (bytes_from mem piece.addr piece.len) i ≡ byte_at mem p (o + i)
 byte_at_index mem piece p o i pages r lt =
     get_or-map-range_with_len (byte_of_address mem) piece.addr piece.len i (piece.addr + i) 0 (omega (arith, lt, r.len)) refl ∙ byte_in mem piece p o i r.addr (omega (arith, lt, r.inside))
 
-number_is : (mem : Pages) (piece : Piece) (p o k : ℕ) (pages : List ℕ) → IsRequest mem piece p o pages → k < length pages → number_at (bytes_from mem piece.addr piece.len) k ≡ slice_index pages k
+number_is : (mem : Pages) (piece : Piece) (p o k : ℕ) (pages : List ℕ) → IsRequestPiece mem piece p o pages → k < length pages → number_at (bytes_from mem piece.addr piece.len) k ≡ slice_index pages k
 number_is mem piece p o k pages r lt =
     sym (field_4 mem p (o + 4 * k) (take 4 (drop (4 * k) (bytes_from mem piece.addr piece.len))) (λ j l.
     get_or-take 4 (drop (4 * k) (bytes_from mem piece.addr piece.len)) j 0 l ∙ (get_or-drop (4 * k) (bytes_from mem piece.addr piece.len) j 0
@@ -53,7 +41,7 @@ number_is mem piece p o k pages r lt =
     place : (j : ℕ) → byte_at mem p (o + (4 * k + j)) ≡ byte_at mem p (o + 4 * k + j)
     place j = let e : o + (4 * k + j) ≡ o + 4 * k + j = omega arith in ap (byte_at mem p) e
 
-numbers_are : (mem : Pages) (piece : Piece) (p o : ℕ) (pages : List ℕ) → IsRequest mem piece p o pages → numbers_of (bytes_of mem (piece ∷ [])) ≡ pages
+numbers_are : (mem : Pages) (piece : Piece) (p o : ℕ) (pages : List ℕ) → IsRequestPiece mem piece p o pages → numbers_of (bytes_of mem (piece ∷ [])) ≡ pages
 numbers_are mem piece p o pages r =
     let bytes : List ℕ = bytes_from mem piece.addr piece.len in
     let count : length bytes / 4 ≡ length pages = omega (arith, bytes_from-length mem piece.addr piece.len, r.len) in
@@ -106,7 +94,7 @@ length_right n some few =
     both_true (nat_lt 0 (4 * n)) (nat_le (4 * n) 1024) ((4 * n) % 4 == 0) (lt-ltb 0 (4 * n) (omega arith)) (le-leb (4 * n) 1024 (omega arith)) (eq-eqb ((4 * n) % 4) 0 rest)
 
 -- A readable piece whose numbers are distinct unreserved pages of the guest is a request for these pages.
-pub one_request : (mem : Pages) (piece : Piece) (p o : ℕ) (pages : List ℕ) → IsRequest mem piece p o pages → ArePages (length mem) pages → page_request mem (piece ∷ []) ≡ Ok pages
+pub one_request : (mem : Pages) (piece : Piece) (p o : ℕ) (pages : List ℕ) → IsRequestPiece mem piece p o pages → ArePages (length mem) pages → page_request mem (piece ∷ []) ≡ Ok pages
 one_request mem piece p o pages r fine =
     let total : total_length (piece ∷ []) ≡ 4 * length pages = omega (arith, r.len, total_is piece) in
     by_numbers mem (piece ∷ []) (ap (λ b. b || false) r.readable) (ap is_request_length total ∙ length_right (length pages) r.some r.few)
