@@ -21,14 +21,14 @@ use Rattle.vb_model.specs.World.{World, WorldStep, Happens, guest_at, with_guest
 use Rattle.vb_model.specs.StepLaws.{OthersAreUntouched, TargetsAreKept, TargetsAreSet, ConfigurationsAreKept, FramesGoBack, RestartedAreHonest, RoguesAreMade, RoguesStay, ScribblesMakeRogues}
 use Rattle.vb_model.proofs.CallSteps.{match_cases, supplied}
 use Rattle.vb_model.proofs.Changes.{with_guest-same, same_some, no_frames}
-use Rattle.vb_model.proofs.Alone.{Own, Nothing_happens, Own_call, New_target, next}
+use Rattle.vb_model.proofs.Alone.{Own, Nothing_happens, Own_call, New_target, next, scribbled_rogue}
 use Rattle.vb_model.proofs.Unchanged.{IsScribble, MayBeRogue, step_keeps}
 
 -- ---- what becomes of a guest
 
 -- it goes its own way, begins a new life, or is gone
 data Fate (w : World) (event : Event) (reply : Reply) (v : World) (n : ℕ) (g : Guest) : Type 0 where
-  Goes_on : (new : Guest) → guest_at v.guests n ≡ Some new → Own n event reply g new → Fate w event reply v n g
+  Goes_on : (new : Guest) → guest_at v.guests n ≡ Some new → Own n w event reply g new → Fate w event reply v n g
   Begins_anew : event ≡ Restart n → guest_at v.guests n ≡ Some (after_restart g) → Fate w event reply v n g
   Is_gone : event ≡ Unplug n → guest_at v.guests n ≡ None → Fate w event reply v n g
 
@@ -88,13 +88,13 @@ fate CountFrames w reply v n g here s = goes_on w _ reply v n g here (λ e. cc) 
 pub others_untouched : OthersAreUntouched
 others_untouched w event reply v n g s here others = cases (fate event w reply v n g here s)
   where
-    own : (new : Guest) → guest_at v.guests n ≡ Some new → Own n event reply g new → (guest_at v.guests n ≡ Some g) ⊎ ((floor target : ℕ) × (event ≡ Balance floor) × (guest_at v.guests n ≡ Some (record g { target = target })))
-    own new there (Nothing_happens other_event e) = inl (there ∙ ap (λ (x : Guest). some_guest x) e)
+    own : (new : Guest) → guest_at v.guests n ≡ Some new → Own n w event reply g new → (guest_at v.guests n ≡ Some g) ⊎ ((floor target : ℕ) × (event ≡ Balance floor) × (guest_at v.guests n ≡ Some (record g { target = target })))
+    own new there (Nothing_happens other_event unset e) = inl (there ∙ ap (λ (x : Guest). some_guest x) e)
       where
         some_guest : Guest → Option Guest
         some_guest x = Some x
-    own new there (Own_call call claims e step) = absurd (others.no_call call e)
-    own new there (New_target floor target targets e answered listed q) = inr (floor, target, e, there ∙ ap (λ (x : Guest). some_guest x) q)
+    own new there (Own_call call claims e gave step) = absurd (others.no_call call e)
+    own new there (New_target floor targets e answered q) = inr (floor, new.target, e, there ∙ ap (λ (x : Guest). some_guest x) q)
       where
         some_guest : Guest → Option Guest
         some_guest x = Some x
@@ -131,10 +131,10 @@ targets_kept w event reply v n old new f not_set no_balance = cases (fate event 
     same : (x : Guest) → guest_at v.guests n ≡ Some x → new ≡ x
     same x there = same_some new x (sym f.after ∙ there)
 
-    own : (x : Guest) → Own n event reply old x → x.target ≡ old.target
-    own x (Nothing_happens other_event e) = ap (λ (y : Guest). y.target) e
-    own x (Own_call call claims e step) = (step_keeps old call claims reply x step).aimed ∙ target_stays call old.target (λ t q. not_set t (e ∙ ap (OnGuest n) q))
-    own x (New_target floor target targets e answered listed q) = absurd (no_balance floor e)
+    own : (x : Guest) → Own n w event reply old x → x.target ≡ old.target
+    own x (Nothing_happens other_event unset e) = ap (λ (y : Guest). y.target) e
+    own x (Own_call call claims e gave step) = (step_keeps old call claims reply x step).aimed ∙ target_stays call old.target (λ t q. not_set t (e ∙ ap (OnGuest n) q))
+    own x (New_target floor targets e answered q) = absurd (no_balance floor e)
 
     cases : Fate w event reply v n old → new.target ≡ old.target
     cases (Goes_on x there o) = ap (λ (y : Guest). y.target) (same x there) ∙ own x o
@@ -147,12 +147,12 @@ targets_set w reply v n target old new f = cases (fate (OnGuest n (SetTarget tar
     same : (x : Guest) → guest_at v.guests n ≡ Some x → new ≡ x
     same x there = same_some new x (sym f.after ∙ there)
 
-    own : (x : Guest) → Own n (OnGuest n (SetTarget target)) reply old x → x.target ≡ target
-    own x (Nothing_happens other_event e) = absurd (other_event (SetTarget target) refl)
-    own x (Own_call call claims e step) =
+    own : (x : Guest) → Own n w (OnGuest n (SetTarget target)) reply old x → x.target ≡ target
+    own x (Nothing_happens other_event unset e) = absurd (other_event (SetTarget target) refl)
+    own x (Own_call call claims e gave step) =
         let c : SetTarget target ≡ call = cc in
         (step_keeps old call claims reply x step).aimed ∙ ap (λ (y : Call). target_after y old.target) (sym c)
-    own x (New_target floor t targets e answered listed q) = absurd cc
+    own x (New_target floor targets e answered q) = absurd cc
 
     cases : Fate w (OnGuest n (SetTarget target)) reply v n old → new.target ≡ target
     cases (Goes_on x there o) = ap (λ (y : Guest). y.target) (same x there) ∙ own x o
@@ -165,10 +165,10 @@ configurations_kept w event reply v n old new f = cases (fate event w reply v n 
     same : (x : Guest) → guest_at v.guests n ≡ Some x → new ≡ x
     same x there = same_some new x (sym f.after ∙ there)
 
-    own : (x : Guest) → Own n event reply old x → x.config ≡ old.config
-    own x (Nothing_happens other_event e) = ap (λ (y : Guest). y.config) e
-    own x (Own_call call claims e step) = (step_keeps old call claims reply x step).config
-    own x (New_target floor target targets e answered listed q) = ap (λ (y : Guest). y.config) q
+    own : (x : Guest) → Own n w event reply old x → x.config ≡ old.config
+    own x (Nothing_happens other_event unset e) = ap (λ (y : Guest). y.config) e
+    own x (Own_call call claims e gave step) = (step_keeps old call claims reply x step).config
+    own x (New_target floor targets e answered q) = ap (λ (y : Guest). y.config) q
 
     cases : Fate w event reply v n old → new.config ≡ old.config
     cases (Goes_on x there o) = ap (λ (y : Guest). y.config) (same x there) ∙ own x o
@@ -234,11 +234,11 @@ rogues_made w event reply v n old new f no_scribble honest = cases (fate event w
     same : (x : Guest) → guest_at v.guests n ≡ Some x → new ≡ x
     same x there = same_some new x (sym f.after ∙ there)
 
-    own : (x : Guest) → Own n event reply old x → x.rogue ≡ false
-    own x (Nothing_happens other_event e) = ap (λ (y : Guest). y.rogue) e ∙ honest
-    own x (Own_call call claims e step) =
+    own : (x : Guest) → Own n w event reply old x → x.rogue ≡ false
+    own x (Nothing_happens other_event unset e) = ap (λ (y : Guest). y.rogue) e ∙ honest
+    own x (Own_call call claims e gave step) =
         not_by_others old x call (λ i. no_scribble i.0 i.1 i.2 (e ∙ ap (OnGuest n) i.3)) honest (step_keeps old call claims reply x step).rogue
-    own x (New_target floor target targets e answered listed q) = ap (λ (y : Guest). y.rogue) q ∙ honest
+    own x (New_target floor targets e answered q) = ap (λ (y : Guest). y.rogue) q ∙ honest
 
     cases : Fate w event reply v n old → new.rogue ≡ false
     cases (Goes_on x there o) = ap (λ (y : Guest). y.rogue) (same x there) ∙ own x o
@@ -258,33 +258,15 @@ rogues_stay w event reply v n old new f no_restart rogue = cases (fate event w r
     same : (x : Guest) → guest_at v.guests n ≡ Some x → new ≡ x
     same x there = same_some new x (sym f.after ∙ there)
 
-    own : (x : Guest) → Own n event reply old x → x.rogue ≡ true
-    own x (Nothing_happens other_event e) = ap (λ (y : Guest). y.rogue) e ∙ rogue
-    own x (Own_call call claims e step) = stays_rogue old call claims reply x rogue step
-    own x (New_target floor target targets e answered listed q) = ap (λ (y : Guest). y.rogue) q ∙ rogue
+    own : (x : Guest) → Own n w event reply old x → x.rogue ≡ true
+    own x (Nothing_happens other_event unset e) = ap (λ (y : Guest). y.rogue) e ∙ rogue
+    own x (Own_call call claims e gave step) = stays_rogue old call claims reply x rogue step
+    own x (New_target floor targets e answered q) = ap (λ (y : Guest). y.rogue) q ∙ rogue
 
     cases : Fate w event reply v n old → new.rogue ≡ true
     cases (Goes_on x there o) = ap (λ (y : Guest). y.rogue) (same x there) ∙ own x o
     cases (Begins_anew e there) = absurd (no_restart e)
     cases (Is_gone e there) = absurd (let q : None ≡ Some new = sym there ∙ f.after in cc)
-
-scribbled_rogue : (g : Guest) (page offset : ℕ) (bytes : List ℕ) (claims : List Claim) (new : Guest) → GuestStep g (Scribble page offset bytes) claims Done new → new.rogue ≡ true
-scribbled_rogue g page offset bytes claims new s = cases g.rogue s
-  where
-    m : Guest
-    m = supplied (pages_needed page bytes g) claims g
-
-    cases : (b : Bool) → MatchBool b (RogueStep g (Scribble page offset bytes) claims Done new) (HonestStep g (Scribble page offset bytes) claims Done new) → new.rogue ≡ true
-    cases true r = r.stays.still
-    cases false p =
-        elim (match_cases (refusal_of g (Scribble page offset bytes)) (Performs (Scribble page offset bytes) g claims Done new) (λ refusal. (claims ≡ []) × (Done ≡ Refused refusal) × (new ≡ g)) p) [
-          | inr r ↦ absurd (let told : Done ≡ Refused r.0 = r.2.1 in cc)
-          | inl d ↦
-              elim (match_cases (claim_refusal claims) (Scribbled m Done new) (λ refusal. (Done ≡ Refused refusal) × (new ≡ g)) d.1.1) [
-                | inl k ↦ k.1.state.still
-                | inr k ↦ absurd (let told : Done ≡ Refused k.0 = k.2.0 in cc)
-              ]
-        ]
 
 pub scribbles_make_rogues : ScribblesMakeRogues
 scribbles_make_rogues w v n page offset bytes old new f honest = cases (fate (OnGuest n (Scribble page offset bytes)) w Done v n old f.before f.step)
@@ -292,12 +274,12 @@ scribbles_make_rogues w v n page offset bytes old new f honest = cases (fate (On
     same : (x : Guest) → guest_at v.guests n ≡ Some x → new ≡ x
     same x there = same_some new x (sym f.after ∙ there)
 
-    own : (x : Guest) → Own n (OnGuest n (Scribble page offset bytes)) Done old x → x.rogue ≡ true
-    own x (Nothing_happens other_event e) = absurd (other_event (Scribble page offset bytes) refl)
-    own x (Own_call call claims e step) =
+    own : (x : Guest) → Own n w (OnGuest n (Scribble page offset bytes)) Done old x → x.rogue ≡ true
+    own x (Nothing_happens other_event unset e) = absurd (other_event (Scribble page offset bytes) refl)
+    own x (Own_call call claims e gave step) =
         let c : Scribble page offset bytes ≡ call = cc in
         scribbled_rogue old page offset bytes claims x (subst (λ (y : Call). GuestStep old y claims Done x) (sym c) step)
-    own x (New_target floor target targets e answered listed q) = absurd cc
+    own x (New_target floor targets e answered q) = absurd cc
 
     cases : Fate w (OnGuest n (Scribble page offset bytes)) Done v n old → new.rogue ≡ true
     cases (Goes_on x there o) = ap (λ (y : Guest). y.rogue) (same x there) ∙ own x o

@@ -1,15 +1,18 @@
 -- Worked facts of runs, of states, and of the entries of one guest.
-use Rattle.std.proofs.Common.{◌≡◌, ℕ, [], ◌∷◌, refl, ap, inl, inr, arith}
+use Rattle.std.proofs.Common.{◌≡◌, ℕ, List, [], ◌∷◌, ◌++◌, true, false, refl, sym, ◌∙◌, ap, subst, arith}
 use Rattle.std.specs.Prelude.{Some, None}
 use Rattle.vb_model.specs.declared.calls.Actor.TheVariants.{Balancer, Processor}
-use Rattle.vb_model.specs.declared.calls.Call.TheVariants.{Work, SetTarget}
+use Rattle.vb_model.specs.declared.calls.Call.TheVariants.{Work, SetTarget, Write, Scribble}
+use Rattle.vb_model.specs.declared.calls.Claim.{Claim}
+use Rattle.vb_model.specs.declared.calls.Claim.TheVariants.{Gave}
 use Rattle.vb_model.specs.declared.calls.Event.TheVariants.{Unplug, Restart, Guest as OnGuest, Balance, Frames as CountFrames}
 use Rattle.vb_model.specs.declared.replies.Reply.{Reply}
-use Rattle.vb_model.specs.declared.replies.Reply.TheVariants.{Done, Idle, Frames, Targets}
+use Rattle.vb_model.specs.declared.replies.Reply.TheVariants.{Done, Idle, Frames, Targets, Refused}
+use Rattle.vb_model.specs.declared.replies.Refusal.TheVariants.{OutOfRam, Short}
 use Rattle.vb_model.specs.Guest.{Guest}
-use Rattle.vb_model.specs.World.{World, made}
+use Rattle.vb_model.specs.World.{World, made, Gives, IsOut}
 use Rattle.vb_model.specs.Run.{History, Run, Steps, guest_in, last_world}
-use Rattle.vb_model.specs.GuestRun.{Called, Looked, EntryStep, GuestRun, IsHistory, AreEntriesOf, InOneLife}
+use Rattle.vb_model.specs.GuestRun.{Entry, Called, Looked, EntryStep, GuestRun, IsHistory, AreOwnEntries, AreEntriesOf, InOneLife}
 use Rattle.vb_model.proofs.Samples.{config, ready, down}
 
 abbrev world : ℕ → World
@@ -84,18 +87,53 @@ target_kept = refl
 two_calls : GuestRun ready (Called Balancer (SetTarget 3) [] Done ∷ Called (Processor 0 0) Work [] Idle ∷ []) (record ready { target = 3 })
 two_calls = (record ready { target = 3 }, (refl, refl, refl), (record ready { target = 3 }, (refl, (refl, refl)), refl))
 
--- a guest's own calls, and they alone, are its entries
-own_call : AreEntriesOf 1 (OnGuest 1 Work ∷ OnGuest 0 Work ∷ []) (Idle ∷ Done ∷ []) (Called (Processor 1 0) Work [] Idle ∷ [])
-own_call = inr (inl (Processor 1 0, Work, [], [], refl, refl, inl ((λ call e. cc), refl)))
+-- a guest's own calls are its entries, each with what the host gave its claims; those of others are none
+abbrev two_calls_made : List Entry
+two_calls_made = Called (Processor 1 0) Work [] Idle ∷ []
 
-own_call_left_out : AreEntriesOf 1 (OnGuest 1 Work ∷ []) (Idle ∷ []) [] → ⊥
-own_call_left_out (inl a) = a.0 Work refl
-own_call_left_out (inr (inl a)) = let e : [] ≡ Called a.0 a.1 a.2 Idle ∷ a.3 = a.5 in cc
-own_call_left_out (inr (inr b)) = let e : OnGuest 1 Work ≡ Balance b.0 = b.4 in cc
+own_call : AreEntriesOf 1 (at ready) (OnGuest 1 Work ∷ OnGuest 0 Work ∷ []) (Idle ∷ Done ∷ []) (at ready ∷ at ready ∷ []) two_calls_made
+own_call = (two_calls_made, [], (Processor 1 0, [], refl, tt, refl), ([], [], refl, refl, refl), refl)
 
--- one of the targets of a balance, and no other
-new_target : AreEntriesOf 1 (Balance 16 ∷ []) (Targets (28 ∷ 0 ∷ []) ∷ []) (Called Balancer (SetTarget 28) [] Done ∷ [])
-new_target = inr (inr (16, 28 ∷ 0 ∷ [], 28, [], refl, refl, refl, refl, refl))
+own_call_left_out : AreEntriesOf 1 (at ready) (OnGuest 1 Work ∷ []) (Idle ∷ []) (at ready ∷ []) [] → ⊥
+own_call_left_out (own, later, is, later_is, e) =
+    let made : Called is.0 Work is.1 Idle ∷ [] ≡ own = sym is.4 in
+    let all : [] ≡ (Called is.0 Work is.1 Idle ∷ []) ++ later = e ∙ ap (λ (l : List Entry). l ++ later) (sym made) in
+    cc
+
+-- no frame that is out is given: 64 frames, and a claim for frame 64
+claim_past_the_last : (own : List Entry) → AreOwnEntries 1 (at ready) (OnGuest 1 (Write 20 0 (7 ∷ []))) Done (at ready) own → own ≡ Called (Processor 1 0) (Write 20 0 (7 ∷ [])) (Gave 64 ∷ []) Done ∷ [] → ⊥
+claim_past_the_last own is e =
+    let same : Called is.0 (Write 20 0 (7 ∷ [])) is.1 Done ∷ [] ≡ Called (Processor 1 0) (Write 20 0 (7 ∷ [])) (Gave 64 ∷ []) Done ∷ [] = sym is.4 ∙ e in
+    let claims : is.1 ≡ Gave 64 ∷ [] = cc in
+    let gives : Gives 64 (IsOut (at ready)) (Gave 64 ∷ []) = subst (λ (l : List Claim). Gives 64 (IsOut (at ready)) l) claims is.3 in
+    omega (arith, gives.0)
+
+-- a scribble that is done is no entry
+scribble_done : (own : List Entry) → AreOwnEntries 1 (at ready) (OnGuest 1 (Scribble 20 0 [])) Done (at ready) own → ⊥
+scribble_done own is = let wrong : true ≡ false = is.2 in cc
+
+scribble_refused : AreOwnEntries 1 (at ready) (OnGuest 1 (Scribble 99 0 [])) (Refused OutOfRam) (at ready) (Called (Processor 1 0) (Scribble 99 0 []) [] (Refused OutOfRam) ∷ [])
+scribble_refused = (Processor 1 0, [], refl, tt, refl)
+
+-- a balance that set targets is one entry, with this guest's new target and not another's
+abbrev aimed : World
+aimed = record { frames = 64; guests = Some (record ready { target = 28 }) ∷ Some (record ready { target = 5 }) ∷ []; spares = []; given_up = None }
+
+abbrev told : ℕ → List Entry
+told target = Called Balancer (SetTarget target) [] Done ∷ []
+
+new_target : AreOwnEntries 0 aimed (Balance 16) (Targets (28 ∷ 5 ∷ [])) aimed (told 28) × AreOwnEntries 1 aimed (Balance 16) (Targets (28 ∷ 5 ∷ [])) aimed (told 5)
+new_target = (refl, refl)
+
+anothers_target : AreOwnEntries 1 aimed (Balance 16) (Targets (28 ∷ 5 ∷ [])) aimed (told 28) → ⊥
+anothers_target e = cc
+
+balance_left_out : AreOwnEntries 1 aimed (Balance 16) (Targets (28 ∷ 5 ∷ [])) aimed [] → ⊥
+balance_left_out e = cc
+
+-- one that came up short is none
+short_balance : AreOwnEntries 1 aimed (Balance 16) (Refused (Short 3)) aimed []
+short_balance = refl
 
 -- ---- one life: neither restarted nor unplugged
 

@@ -113,7 +113,7 @@ pub fn refusals_change_nothing()
 pub fn a_guest_runs_alone()
     ensures alone { (n : ℕ) (w : World) (events : List Event) (replies : List Reply) (after : List World) (g new : Guest)
         → Steps w events replies after → InOneLife n events → guest_at w.guests n ≡ Some g
-        → guest_at (last_world w after).guests n ≡ Some new → new.rogue ≡ false → Alone n events replies g new }
+        → guest_at (last_world w after).guests n ≡ Some new → new.rogue ≡ false → Alone n w events replies after g new }
 {}
 
 /// A run that is one, so that what is promised of runs is promised of something: a guest is plugged
