@@ -1,17 +1,19 @@
 -- Worked facts of scribbles and of what a rogue guest may need.
-use Rattle.std.proofs.Common.{◌≡◌, ℕ, ◌<◌, true, false, List, [], ◌∷◌, ◌++◌, map, replicate, refl, ◌∙◌, inl}
+use Rattle.std.proofs.Common.{◌≡◌, ℕ, ◌<◌, true, false, List, [], ◌∷◌, ◌++◌, map, replicate, refl, ◌∙◌, inl, inr, arith}
 use Rattle.std.specs.Prelude.{Option, Some, None}
 use Rattle.std.specs.List.{range_with_len}
 use Rattle.std.proofs.Math.ListN.{get_or-append}
-use Rattle.std.proofs.lemmas.List.{get_or-replicate}
+use Rattle.std.proofs.lemmas.Bool.{cases_lt}
+use Rattle.std.proofs.lemmas.List.{get_or-replicate, get_or_past}
 use Rattle.vb_model.specs.declared.calls.Call.TheVariants.{Init, Reset, Alloc, Free, Read, Write, Scribble, Inflate, Deflate, Oom, Report, Stats, Reap, Take, Work, Finish, Sweep, Ask, SetTarget}
 use Rattle.vb_model.specs.declared.calls.Claim.TheVariants.{Gave, GaveNoFrame, GaveNoMemory}
 use Rattle.vb_model.specs.declared.replies.Refusal.TheVariants.{OutOfRam, NoFrame, NoMemory}
 use Rattle.vb_model.specs.declared.replies.Reply.{Reply}
 use Rattle.vb_model.specs.declared.replies.Reply.TheVariants.{Done, Idle, Refused}
-use Rattle.vb_model.specs.Guest.{Guest, is_ballooned}
+use Rattle.vb_model.specs.declared.places.Place.TheVariants.{Lent}
+use Rattle.vb_model.specs.Guest.{Guest, is_ballooned, frame_of}
 use Rattle.vb_model.specs.Refusals.{refusal_of}
-use Rattle.vb_model.specs.Rogue.{LosesFrames, RogueStep, may_need}
+use Rattle.vb_model.specs.Rogue.{LosesFrames, HasAllPages, RogueStep, may_need}
 use Rattle.vb_model.specs.Step.{HonestStep}
 use Rattle.vb_model.proofs.Samples.{config, ready, down}
 
@@ -39,13 +41,16 @@ frames_needed = refl
 
 -- what is left is rogue, with the frame; its configuration and target stay
 abbrev after : Guest
-after = record (backed (Some 13 ∷ Some 20 ∷ [])) { rogue = true; status = 143; places = []; ballooned = replicate 16 false ++ (true ∷ []) }
+after = record (backed (Some 13 ∷ Some 20 ∷ [])) { rogue = true; status = 143; places = replicate 64 Lent; ballooned = replicate 16 false ++ (true ∷ replicate 47 false) }
 
 no_reserved_flag : (page : ℕ) → page < 16 → is_ballooned after.ballooned page ≡ false
-no_reserved_flag page l = get_or-append (replicate 16 false) (true ∷ []) false page l ∙ get_or-replicate 16 page false false l
+no_reserved_flag page l = get_or-append (replicate 16 false) (true ∷ replicate 47 false) false page l ∙ get_or-replicate 16 page false false l
+
+whole : HasAllPages after
+whole = record { placed = refl; flagged = refl; framed = refl; filled = refl }
 
 scribbled : HonestStep before (Scribble 17 0 (1 ∷ [])) (Gave 20 ∷ []) Done after
-scribbled = (tt, record { answered = refl; state = record { still = refl; config = refl; unreserved = no_reserved_flag }; target = refl; frames = refl })
+scribbled = (tt, record { answered = refl; state = record { still = refl; config = refl; unreserved = no_reserved_flag; sizes = whole }; target = refl; frames = refl })
 
 all_that_is_said : (reply : Reply) (new : Guest) → HonestStep before (Scribble 17 0 (1 ∷ [])) (Gave 20 ∷ []) reply new → (reply ≡ Done) × (new.rogue ≡ true) × (new.config ≡ config) × (new.target ≡ 7) × (new.frames ≡ (backed (Some 13 ∷ Some 20 ∷ [])).frames)
 all_that_is_said reply new s = (s.1.answered, s.1.state.still, s.1.state.config, s.1.target, s.1.frames)
@@ -68,24 +73,54 @@ frames_of_an_initialisation = refl
 no_other_call_claims : map (λ call. may_need call after) (Reset ∷ Alloc 0 0 ∷ Free 0 18 0 ∷ Read 18 0 1 ∷ Inflate 1 ∷ Deflate 1 ∷ Oom 1 ∷ Report 0 ∷ Stats ∷ Reap 0 ∷ Take 0 ∷ Work ∷ Finish 0 0 ∷ Sweep 18 ∷ Ask ∷ SetTarget 1 ∷ []) ≡ replicate 16 []
 no_other_call_claims = refl
 
+abbrev Same : ℕ → ℕ → Type 0
+Same a b = a ≡ b
+
 -- ---- a rogue guest's step: any answer and any state, but for frames, configuration and target
 
 abbrev lost : Guest
-lost = record after { frames = []; status = 0; features = 9 }
+lost = record after { frames = replicate 64 None; status = 0; features = 9 }
 
-none_gained : LosesFrames after.frames []
-none_gained page frame h = cc
+none_gained : LosesFrames after.frames (replicate 64 None)
+none_gained page frame h = absurd (none_there page h)
+  where
+    none_there : (page : ℕ) → frame_of (replicate 64 None) page ≡ Some frame → ⊥
+    none_there page e = elim (cases_lt page 64) [
+      | inl lt ↦ (let is : frame_of (replicate 64 None) page ≡ None = get_or-replicate 64 page None None lt in cc)
+      | inr past ↦ (let is : frame_of (replicate 64 None) page ≡ None = get_or_past (replicate 64 None) page None past in cc)
+    ]
 
 frames_may_go : RogueStep after Work [] Idle lost
 frames_may_go = record {
-  stays = record { still = refl; config = refl; unreserved = no_reserved_flag };
+  stays = record { still = refl; config = refl; unreserved = no_reserved_flag; sizes = record { placed = refl; flagged = refl; framed = refl; filled = refl } };
   target = refl;
   pages = [];
   needed = inl refl;
   claimed = tt;
   frames = none_gained;
   no_frame = λ e. cc;
+  scribble = λ page offset bytes e. cc;
 }
+
+-- a page past the last is never ballooned, nor is memory ever longer or shorter
+one_page_more : RogueStep after Work [] Idle (record lost { ballooned = replicate 65 false }) → ⊥
+one_page_more s = let e : Same 65 64 = s.stays.sizes.flagged in omega arith
+
+no_places : RogueStep after Work [] Idle (record lost { places = [] }) → ⊥
+no_places s = let e : Same 0 64 = s.stays.sizes.placed in omega arith
+
+-- a rogue guest's scribble is answered as an honest one's: out of memory, no frame, done
+scribbled_again : (reply : Reply) (new : Guest) → RogueStep after (Scribble 64 0 (1 ∷ [])) [] reply new → (reply ≡ Refused OutOfRam) × (new ≡ after)
+scribbled_again reply new s = let told = s.scribble 64 0 (1 ∷ []) refl in (told.1, told.2)
+
+no_frame_again : (reply : Reply) (new : Guest) → RogueStep after (Scribble 18 0 (1 ∷ [])) (GaveNoFrame ∷ []) reply new → (reply ≡ Refused NoFrame) × (new ≡ after)
+no_frame_again reply new s = (s.scribble 18 0 (1 ∷ []) refl).1
+
+done_again : (reply : Reply) (new : Guest) → RogueStep after (Scribble 17 0 (1 ∷ [])) [] reply new → reply ≡ Done
+done_again reply new s = (s.scribble 17 0 (1 ∷ []) refl).1.answered
+
+frame_not_claimed : (reply : Reply) (new : Guest) → RogueStep after (Scribble 18 0 (1 ∷ [])) [] reply new → ⊥
+frame_not_claimed reply new s = (s.scribble 18 0 (1 ∷ []) refl).0
 
 -- `target` sets it as ever
 target_is_set : (reply : Reply) (new : Guest) → RogueStep after (SetTarget 5) [] reply new → new.target ≡ 5

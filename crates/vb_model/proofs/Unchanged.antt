@@ -86,7 +86,7 @@ keeps_supplied {Reason} g new frames k = record { aimed = k.aimed; config = k.co
   where
     same : (new.rogue ≡ g.rogue) ⊎ (Reason × IsRogueAfter (record g { frames = frames }) new) → (new.rogue ≡ g.rogue) ⊎ (Reason × IsRogueAfter g new)
     same (inl e) = inl e
-    same (inr (why, r)) = inr (why, record { still = r.still; config = r.config; unreserved = r.unreserved })
+    same (inr (why, r)) = inr (why, record { still = r.still; config = r.config; unreserved = r.unreserved; sizes = r.sizes })
 
 supplies_keep : {Reason : Type 0} (pages : List ℕ) (g : Guest) (claims : List Claim) (reply : Reply) (new : Guest) (Rest : Guest → Type 0) → Supplying pages g claims reply new Rest → ((m : Guest) → Rest m → Keeps Reason m.target m new) → Keeps Reason g.target g new
 supplies_keep pages g claims reply new Rest s rest =
