@@ -3,8 +3,13 @@
 ghost use Rattle.std.specs.Prelude.{◌≡◌};
 
 use crate::calls::Bytes;
+use crate::limits::MAX_GUESTS;
 use crate::places::{PageRuns, PlaceCounts};
+use arrayvec::ArrayVec;
 use std::marker::Model;
+
+/// As many numbers as there may be guests.
+const GUESTS: usize = MAX_GUESTS as usize;
 
 /// Why an event was refused.
 #[derive(Clone, Copy, Debug, PartialEq, Eq)]
@@ -71,10 +76,11 @@ pub enum Refusal {
     Short { missing: u32 },
 }
 
-/// Numbers. A contract sees the list.
+/// A number for each guest, at most eight: it stands in place and takes no memory. A contract sees
+/// the list.
 #[derive(Drop)]
 pub struct Numbers {
-    items: Vec<u32>,
+    items: ArrayVec<u32, GUESTS>,
 }
 
 impl Model for Numbers {
@@ -87,7 +93,7 @@ impl Model for Numbers {
 
 impl Numbers {
     /// These numbers.
-    pub fn new(items: Vec<u32>) -> Numbers
+    pub fn new(items: ArrayVec<u32, GUESTS>) -> Numbers
         ensures { result ≡ items.items }
     {
         Numbers { items }
