@@ -1,5 +1,5 @@
 -- What holds of each driver, as pages move.
-use Rattle.std.proofs.Common.{◌≡◌, ◌∙◌, sym, ap, arith, refl, ℕ, ◌<◌, ◌≤◌, Bool, true, false, cond, List, length, get_or, map, inl, inr, if◌then◌else◌}
+use Rattle.std.proofs.Common.{◌≡◌, ◌∙◌, sym, ap, arith, refl, ℕ, ◌<◌, ◌≤◌, Bool, true, false, cond, List, [], length, get_or, map, inl, inr, if◌then◌else◌}
 use Rattle.std.proofs.lemmas.List.{same_lists, length-map, get_or-map, get_or_past}
 use Rattle.std.proofs.lemmas.Bool.{cases_lt}
 use Rattle.vb_model.specs.Tests.{is_in, one_if}
@@ -10,8 +10,9 @@ use Rattle.vb_model.proofs.Tables.{each_page-get, length-each_from}
 use Rattle.vb_pages.specs.FreePages.{FreePages}
 use Rattle.vb_driver.specs.Places.{is_at}
 use Rattle.vb_driver.specs.State.{Side, DriverState, IsQueue, naming}
-use Rattle.vb_driver.specs.Areas.{flags_of, IsKept, is_covered, flagged}
-use Rattle.vb_driver.proofs.Placing.{length-placed, placed-get}
+use Rattle.vb_driver.specs.Areas.{flags_of, IsKept, is_covered}
+use Rattle.vb_driver.specs.Places.{marked}
+use Rattle.vb_driver.proofs.Placing.{length-marked, marked-get, marked_none}
 
 -- ---- a page's place
 
@@ -31,33 +32,26 @@ place_placed pages to places p there =
 
 -- ---- free pages
 
-pub free_flagged : (places : List Place) (pages others : List ℕ) (to : Place) (flag : Bool)
+pub free_marked : (places : List Place) (pages others : List ℕ) (to : Place) (flag : Bool)
     → ((p : ℕ) (place : Place) → place ≡ place_of places p → cond (is_in p others) flag (is_free place) ≡ is_free (cond (is_in p pages) to place))
-    → flagged others flag (map is_free places) ≡ map is_free (placed pages to places)
-free_flagged places pages others to flag agree =
-    let left = flagged others flag (map is_free places) in
+    → marked others flag (map is_free places) ≡ map is_free (placed pages to places)
+free_marked places pages others to flag agree =
+    let left = marked others flag (map is_free places) in
     let moved = placed pages to places in
     let n1 : length left ≡ length places = length-each_from 0 (λ page old. if is_in page others then flag else old) (map is_free places) ∙ length-map places is_free in
-    let n2 : length moved ≡ length places = length-placed pages to places in
+    let n2 : length moved ≡ length places = length-marked pages to places in
     same_lists left (map is_free moved) (n1 ∙ sym (length-map moved is_free ∙ n2)) (λ k d near.
     let inside : k < length places = omega arith in
     let here : place_of places k ≡ get_or places k Reserved = refl in
     each_page-get (λ page old. if is_in page others then flag else old) (map is_free places) k d (λ far. absurd (omega (arith, length-map places is_free)))
     ∙ (ap (λ v. cond (is_in k others) flag v) (get_or-map is_free places k Reserved d inside)
     ∙ (agree k (place_of places k) refl
-    ∙ sym (get_or-map is_free moved k Reserved d (omega arith) ∙ ap is_free (placed-get pages to places k Reserved inside)))))
+    ∙ sym (get_or-map is_free moved k Reserved d (omega arith) ∙ ap is_free (marked-get pages to places k Reserved inside)))))
 
 pub free_same : (places : List Place) (pages : List ℕ) (to : Place)
     → ((p : ℕ) (place : Place) → place ≡ place_of places p → is_free place ≡ is_free (cond (is_in p pages) to place))
     → map is_free places ≡ map is_free (placed pages to places)
-free_same places pages to agree =
-    let moved = placed pages to places in
-    let n2 : length moved ≡ length places = length-placed pages to places in
-    same_lists (map is_free places) (map is_free moved) (length-map places is_free ∙ sym (length-map moved is_free ∙ n2)) (λ k d near.
-    let inside : k < length places = omega (arith, length-map places is_free) in
-    get_or-map is_free places k Reserved d inside
-    ∙ (agree k (place_of places k) refl
-    ∙ sym (get_or-map is_free moved k Reserved d (omega arith) ∙ ap is_free (placed-get pages to places k Reserved inside))))
+free_same places pages to agree = sym (marked_none false (map is_free places)) ∙ free_marked places pages [] to false agree
 
 -- ---- the whole
 
@@ -81,7 +75,7 @@ kept_changed d areas2 pages to held2 i2 e2 m =
     let place : (p : ℕ) → place_of (placed pages to d.places) p ≡ cond (is_in p pages) to (place_of d.places p) = λ p. place_placed pages to d.places p (m.there p) in
     record {
       driver = record {
-        table = length-placed pages to d.places ∙ m.kept.driver.table;
+        table = length-marked pages to d.places ∙ m.kept.driver.table;
         least = m.kept.driver.least;
         most = m.kept.driver.most;
         size = m.kept.driver.size;

@@ -17,12 +17,13 @@ use Rattle.vb_ram.specs.Pages.{Pages}
 use Rattle.vb_pages.specs.FreePages.{FreePages}
 use Rattle.vb_driver.specs.Places.{is_at}
 use Rattle.vb_driver.specs.State.{Side, DriverState, IsQueue, naming, sent_by, fresh_side, fresh_driver}
-use Rattle.vb_driver.specs.Areas.{flags_of, IsKept, flagged, is_free_at, is_covered}
+use Rattle.vb_driver.specs.Areas.{flags_of, IsKept, is_free_at, is_covered}
+use Rattle.vb_driver.specs.Places.{marked}
 use Rattle.vb_driver.specs.Calls.{Posts, lowest_lent, stranded_first, after_reap}
 use Rattle.vb_model.specs.Orderly.{times}
 use Rattle.vb_driver.proofs.Naming.{naming_more, naming_same, naming_less, named_place, named_once, once_lowest, once_append}
 use Rattle.vb_driver.proofs.Flags.{fresh_flags}
-use Rattle.vb_driver.proofs.Keeping.{kept_moved, there_by, free_same, free_flagged}
+use Rattle.vb_driver.proofs.Keeping.{kept_moved, there_by, free_same, free_marked}
 use Rattle.std.proofs.lemmas.List.FromFn.{get_or-map-range_with_len, length-map-range_with_len}
 use Rattle.std.proofs.Common.{nat_lt}
 use Rattle.vb_ring.specs.Layout.{IsSize}
@@ -244,7 +245,7 @@ idle_test place test b s f (idle_stranded e) = ap test e ∙ s
 idle_test place test b s f (idle_free e) = ap test e ∙ f
 
 pub offered_kept : (m1 m2 : Pages) (d : DriverState) (areas2 : FreePages) (i2 : Side) (base count head : ℕ) (others : List ℕ) → IsKept d
-    → list_all (λ page. is_free (place_of d.places page)) others ≡ true → ((p : ℕ) → times p others ≤ 1) → flags_of areas2 ≡ flagged others false (flags_of d.areas) → length areas2.lists ≡ length d.areas.lists
+    → list_all (λ page. is_free (place_of d.places page)) others ≡ true → ((p : ℕ) → times p others ≤ 1) → flags_of areas2 ≡ marked others false (flags_of d.areas) → length areas2.lists ≡ length d.areas.lists
     → Posts m1 m2 d.inflate i2 base (stranded_first d count ++ others) head
     → IsKept (record d { places = placed (stranded_first d count ++ others) Giving d.places; inflate = i2; areas = areas2 })
 offered_kept m1 m2 d areas2 i2 base count head others kept free once taken processors posts =
@@ -267,7 +268,7 @@ offered_kept m1 m2 d areas2 i2 base count head others kept free once taken proce
       giving = λ p. subst (λ (l : List (List ℕ)). naming p l ≤ one_if (is_giving (cond (is_in p pages) Giving (place_of d.places p)))) (sym sent)
           (naming_more p head pages d.inflate.sent is_giving Giving (place_of d.places p) small (kept.driver.giving p) (λ here. idle_test (place_of d.places p) is_giving false refl refl (idle p here)) (once_all p) refl);
       taking = λ p. naming_same p pages d.deflate.sent is_taking Giving (place_of d.places p) (kept.driver.taking p) (λ here. idle_test (place_of d.places p) is_taking false refl refl (idle p here));
-      free = taken ∙ (ap (flagged others false) kept.free ∙ free_flagged d.places pages others Giving false (λ p place is. agree p place is (is_in p others) (is_in p first) refl refl));
+      free = taken ∙ (ap (marked others false) kept.free ∙ free_marked d.places pages others Giving false (λ p place is. agree p place is (is_in p others) (is_in p first) refl refl));
       processors = processors;
       proper = refl;
     })
@@ -318,7 +319,7 @@ lent_kept d head lt kept =
     same_free p place is true e giving = ap is_free (is ∙ giving_is (place_of d.places p) (giving p e)) ∙ sym (ap (λ v. is_free (cond v Lent place)) e)
     same_free p place is false e giving = sym (ap (λ v. is_free (cond v Lent place)) e)
 
-pub freed_kept : (d : DriverState) (areas2 : FreePages) (head : ℕ) → head < 16 → IsKept d → flags_of areas2 ≡ flagged (sent_by d.deflate head) true (flags_of d.areas) → length areas2.lists ≡ length d.areas.lists
+pub freed_kept : (d : DriverState) (areas2 : FreePages) (head : ℕ) → head < 16 → IsKept d → flags_of areas2 ≡ marked (sent_by d.deflate head) true (flags_of d.areas) → length areas2.lists ≡ length d.areas.lists
     → IsKept (record d { places = placed (sent_by d.deflate head) Free d.places; deflate = after_reap d.deflate head; areas = areas2 })
 freed_kept d areas2 head lt kept given processors =
     let pages = sent_by d.deflate head in
@@ -333,7 +334,7 @@ freed_kept d areas2 head lt kept given processors =
       deflate = reaped_queue d.deflate 1 d.queue_size head kept.driver.deflate;
       giving = λ p. naming_same p pages d.inflate.sent is_giving Free (place_of d.places p) (kept.driver.giving p) (λ here. ap is_giving (taking_is (place_of d.places p) (taking p here)));
       taking = λ p. naming_less p head d.deflate.sent is_taking Free (place_of d.places p) small (kept.driver.taking p);
-      free = given ∙ (ap (flagged pages true) kept.free ∙ free_flagged d.places pages pages Free true (λ p place is. agree place (is_in p pages)));
+      free = given ∙ (ap (marked pages true) kept.free ∙ free_marked d.places pages pages Free true (λ p place is. agree place (is_in p pages)));
       processors = processors;
       proper = refl;
     })

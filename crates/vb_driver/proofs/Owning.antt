@@ -19,10 +19,11 @@ use Rattle.vb_pages.proofs.Sets.{in_block}
 use Rattle.vb_driver.specs.Places.{is_at}
 use Rattle.vb_driver.specs.State.{DriverState, page_state}
 use Rattle.vb_driver.specs.Answers.{block_at, alloc_tests}
-use Rattle.vb_driver.specs.Areas.{flags_of, AreApart, Becomes, IsKept, is_free_at, is_covered, is_free_block, flagged}
+use Rattle.vb_driver.specs.Areas.{flags_of, AreApart, Becomes, IsKept, is_free_at, is_covered, is_free_block}
+use Rattle.vb_driver.specs.Places.{marked}
 use Rattle.vb_driver.proofs.Naming.{naming_same}
-use Rattle.vb_driver.proofs.Keeping.{kept_changed, there_by, free_flagged}
-use Rattle.vb_driver.proofs.Flags.{flagged_at}
+use Rattle.vb_driver.proofs.Keeping.{kept_changed, there_by, free_marked}
+use Rattle.vb_driver.proofs.Placing.{marked-get}
 use Rattle.vb_driver.proofs.Moving.{free_is_place, free_is, list_all_same}
 
 -- ---- free blocks
@@ -108,7 +109,7 @@ pub free_block_inside : (d : DriverState) (b : Block) → IsKept d → is_free_b
 free_block_inside d b kept whole = block_inside (length d.places) b (λ p here. there_by d.places p is_free refl (ap is_free (block_free d b p kept whole here)))
 
 pub allocated_kept : (d : DriverState) (areas2 : FreePages) (b : Block) → IsKept d → is_free_block (flags_of d.areas) b ≡ true
-    → flags_of areas2 ≡ flagged (pages_of b) false (flags_of d.areas) → length areas2.lists ≡ length d.areas.lists
+    → flags_of areas2 ≡ marked (pages_of b) false (flags_of d.areas) → length areas2.lists ≡ length d.areas.lists
     → IsKept (record d { places = placed (pages_of b) Used d.places; held = with_block b d.held; areas = areas2 })
 allocated_kept d areas2 b kept whole taken processors =
     let pages = pages_of b in
@@ -121,7 +122,7 @@ allocated_kept d areas2 b kept whole taken processors =
       deflate = kept.driver.deflate;
       giving = λ p. naming_same p pages d.inflate.sent is_giving Used (place_of d.places p) (kept.driver.giving p) (λ here. ap is_giving (free p here));
       taking = λ p. naming_same p pages d.deflate.sent is_taking Used (place_of d.places p) (kept.driver.taking p) (λ here. ap is_taking (free p here));
-      free = taken ∙ (ap (flagged pages false) kept.free ∙ free_flagged d.places pages pages Used false (λ p place is. agree place (is_in p pages)));
+      free = taken ∙ (ap (marked pages false) kept.free ∙ free_marked d.places pages pages Used false (λ p place is. agree place (is_in p pages)));
       processors = processors;
       proper = refl;
       used = λ p covered. used_at p (is_in p pages) refl (sym (covered_with p b d.held) ∙ covered);
@@ -175,7 +176,7 @@ freed_was_held held b processors cpu e = at (nat_lt 9 b.order) (nat_le processor
     at false false false e = cc
 
 pub block_freed_kept : (d : DriverState) (new : PageState) (b : Block) → IsKept d → list_any (λ h. is_same_block h b) d.held ≡ true
-    → flags_of new.free ≡ flagged (pages_of b) true (flags_of d.areas) → new.held ≡ without_block b d.held → length new.free.lists ≡ length d.areas.lists → AreApart new
+    → flags_of new.free ≡ marked (pages_of b) true (flags_of d.areas) → new.held ≡ without_block b d.held → length new.free.lists ≡ length d.areas.lists → AreApart new
     → IsKept (record d { places = placed (pages_of b) Free d.places; held = without_block b d.held; areas = new.free })
 block_freed_kept d new b kept held given rest processors apart =
     let pages = pages_of b in
@@ -188,7 +189,7 @@ block_freed_kept d new b kept held given rest processors apart =
       deflate = kept.driver.deflate;
       giving = λ p. naming_same p pages d.inflate.sent is_giving Free (place_of d.places p) (kept.driver.giving p) (λ here. ap is_giving (used p here));
       taking = λ p. naming_same p pages d.deflate.sent is_taking Free (place_of d.places p) (kept.driver.taking p) (λ here. ap is_taking (used p here));
-      free = given ∙ (ap (flagged pages true) kept.free ∙ free_flagged d.places pages pages Free true (λ p place is. agree place (is_in p pages)));
+      free = given ∙ (ap (marked pages true) kept.free ∙ free_marked d.places pages pages Free true (λ p place is. agree place (is_in p pages)));
       processors = processors;
       proper = refl;
       used = λ p covered. used_at p (is_in p pages) refl covered (used p);
@@ -201,7 +202,7 @@ block_freed_kept d new b kept held given rest processors apart =
     used_at : (p : ℕ) (v : Bool) → is_in p (pages_of b) ≡ v → is_covered p (without_block b d.held) ≡ true → (is_in p (pages_of b) ≡ true → place_of d.places p ≡ Used) → cond (is_in p (pages_of b)) Free (place_of d.places p) ≡ Used
     used_at p true e covered used =
         let inside : p < length (flags_of d.areas) = omega (arith, ap length kept.free, length-map d.places is_free, there_by d.places p is_used refl (ap is_used (used e))) in
-        let free : is_free_at (flags_of new.free) p ≡ true = ap (λ (l : List Bool). is_free_at l p) given ∙ (flagged_at (pages_of b) true (flags_of d.areas) p inside ∙ ap (λ (v : Bool). cond v true (is_free_at (flags_of d.areas) p)) e) in
+        let free : is_free_at (flags_of new.free) p ≡ true = ap (λ (l : List Bool). is_free_at l p) given ∙ (marked-get (pages_of b) true (flags_of d.areas) p false inside ∙ ap (λ (v : Bool). cond v true (is_free_at (flags_of d.areas) p)) e) in
         let unfree : is_free_at (flags_of new.free) p ≡ false = apart.apart p (ap (is_covered p) rest ∙ covered) in
         absurd (both_ways (is_free_at (flags_of new.free) p) unfree free)
     used_at p false e covered used = ap (λ (v : Bool). cond v Free (place_of d.places p)) e ∙ kept.used p (covered_without p b d.held covered)

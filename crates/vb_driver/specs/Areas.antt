@@ -36,10 +36,6 @@ is_free_at free page = slice_index_or free page false
 abbrev pub is_free_block : List Bool → Block → Bool
 is_free_block free b = is_aligned b && list_all (is_free_at free) (pages_of b)
 
--- these pages are free, or aren't, from now on
-abbrev pub flagged : List ℕ → Bool → List Bool → List Bool
-flagged pages flag free = each_page (λ page old. if is_in page pages then flag else old) free
-
 abbrev pub is_covered : ℕ → List Block → Bool
 is_covered page held = list_any (covers page) held
 

@@ -1,9 +1,14 @@
 -- A table of places, and how many pages it has at each.
-use Rattle.std.specs.Prelude.{◌≡◌, ℕ, Bool, ◌==◌, List, length, ◌≤◌, slice_index, count_by}
+use Rattle.std.specs.Prelude.{if◌then◌else◌, ◌≡◌, ℕ, Bool, ◌==◌, List, length, ◌≤◌, slice_index, count_by}
+use Rattle.vb_model.specs.Tests.{is_in, each_page}
 use Rattle.vb_model.specs.declared.places.Place.{Place}
 use Rattle.vb_model.specs.declared.limits.TheConstants.{MAX_GUEST_PAGES}
 use Rattle.vb_model.specs.declared.places.Place.TheVariants.{Reserved, Free, Used, Giving, Lent}
 use Rattle.vb_model.specs.declared.places.Place.TheVariants.{Taking, Stranded, Reporting}
+
+-- these pages have a value from now on: a place that they move to, or a flag
+abbrev pub marked : {A : Type 0} → List ℕ → A → List A → List A
+marked pages value table = each_page (λ page old. if is_in page pages then value else old) table
 
 -- the places, numbered
 abbrev pub number_of : Place → ℕ
