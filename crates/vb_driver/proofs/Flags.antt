@@ -8,7 +8,7 @@ use Rattle.std.proofs.lemmas.List.FromFn.{get_or-map-range_with_len, length-map-
 use Rattle.vb_model.specs.Tests.{is_in, one_if}
 use Rattle.vb_model.specs.declared.places.Place.TheVariants.{Reserved, Free}
 use Rattle.vb_model.specs.Pages.{Block, covers, pages_of, is_free, all_free}
-use Rattle.vb_model.proofs.Tables.{each_page-get, length-each_from, count_by-cons, count_by-append}
+use Rattle.vb_model.proofs.Tables.{each_page-get, count_by-cons, count_by-append}
 use Rattle.vb_model.proofs.PageSteps.{covers_is}
 use Rattle.vb_pages.specs.Areas.{has, with_pages, unreserved}
 use Rattle.vb_pages.specs.FreePages.{FreePages, in_lists, drained, times_free, list_of, with_list, given_back, Tries, Serves}
@@ -22,7 +22,7 @@ use Rattle.vb_driver.specs.Areas.{flags_of, is_free_at, all_given}
 use Rattle.vb_driver.specs.Places.{marked}
 use Rattle.vb_model.specs.Orderly.{times}
 use Rattle.vb_pages.proofs.ListsLemmas.{times_in, times_out}
-use Rattle.vb_driver.proofs.Placing.{first_place, length-marked}
+use Rattle.vb_driver.proofs.Placing.{first_place, length-marked, or_false}
 
 -- ---- a page's flag
 
@@ -161,10 +161,6 @@ given_sizes f cpu start zero =
     at false g areas lists = record { pages = ap length areas; cpus = lists }
 
 -- ---- a guest as it is plugged in
-
-or_false : (v : Bool) → (v || false) ≡ v
-or_false true = refl
-or_false false = refl
 
 turned : (v : Bool) (k : ℕ) → nat_lt k 16 ≡ v → nat_le 16 k ≡ is_free (cond v Reserved Free)
 turned true k e = lt-leb 16 k (ltb-true k 16 e)

@@ -24,7 +24,8 @@ use Rattle.vb_driver.specs.Places.{marked}
 use Rattle.vb_driver.proofs.Naming.{naming_same}
 use Rattle.vb_driver.proofs.Keeping.{kept_changed, there_by, free_marked}
 use Rattle.vb_driver.proofs.Placing.{marked-get}
-use Rattle.vb_driver.proofs.Moving.{free_is_place, free_is, list_all_same}
+use Rattle.vb_driver.proofs.Moving.{free_is_place, list_all_same}
+use Rattle.vb_driver.proofs.Counting.{at_is}
 
 -- ---- free blocks
 
@@ -103,7 +104,7 @@ covered_held p b (x ∷ held) found covered =
 block_free : (d : DriverState) (b : Block) (p : ℕ) → IsKept d → is_free_block (flags_of d.areas) b ≡ true → is_in p (pages_of b) ≡ true → place_of d.places p ≡ Free
 block_free d b p kept whole here =
     let all = (and_parts (is_aligned b) (list_all (is_free_at (flags_of d.areas)) (pages_of b)) whole).1 in
-    free_is (place_of d.places p) (sym (free_is_place d.places (flags_of d.areas) p kept.free) ∙ list_all-at (is_free_at (flags_of d.areas)) (pages_of b) p all here)
+    at_is Free (place_of d.places p) (sym (free_is_place d.places (flags_of d.areas) p kept.free) ∙ list_all-at (is_free_at (flags_of d.areas)) (pages_of b) p all here)
 
 pub free_block_inside : (d : DriverState) (b : Block) → IsKept d → is_free_block (flags_of d.areas) b ≡ true → b.start + 2 ^ b.order ≤ length d.places
 free_block_inside d b kept whole = block_inside (length d.places) b (λ p here. there_by d.places p is_free refl (ap is_free (block_free d b p kept whole here)))

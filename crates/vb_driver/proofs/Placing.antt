@@ -9,6 +9,7 @@ use Rattle.vb_model.specs.declared.places.Place.{Place}
 use Rattle.vb_model.specs.declared.places.Place.TheVariants.{Reserved, Free}
 use Rattle.vb_model.specs.Tests.{is_in, pages_from, pages_where}
 use Rattle.vb_model.specs.Pages.{placed, all_free}
+use Rattle.vb_driver.proofs.Counting.{at_number}
 use Rattle.vb_driver.specs.Places.{marked, number_of, is_at}
 use Rattle.vb_model.proofs.Tables.{length-each_from, each_page-get}
 
@@ -23,11 +24,11 @@ marked-get pages value table k d lt = each_page-get (λ page old. if is_in page 
 pub is_in-push : (k : ℕ) (xs : List ℕ) (x : ℕ) → is_in k (xs ++ x ∷ []) ≡ (is_in k xs || (eqb x k || false))
 is_in-push k xs x = list_any-append (λ m. eqb m k) xs (x ∷ [])
 
-or_false : (a : Bool) → (a || (false || false)) ≡ a
+pub or_false : (a : Bool) → (a || false) ≡ a
 or_false true = refl
 or_false false = refl
 
-or_true : (a : Bool) → (a || (true || false)) ≡ true
+pub or_true : (a : Bool) → (a || true) ≡ true
 or_true true = refl
 or_true false = refl
 
@@ -152,7 +153,7 @@ pub scan_hits : (items : List ℕ) (most i : ℕ) (place x : Place) (places : Li
 scan_hits items most i place x places lt here same so_far few =
     let found = pages_where (is_at place) (take i places) in
     let size : length items ≡ length (take most found) = ap length so_far in
-    let one : cond (is_at place (get_or places i x)) (i ∷ []) [] ≡ i ∷ [] = ap (λ v. cond v (i ∷ []) []) (ap (is_at place) (sym here) ∙ eq-eqb (number_of x) (number_of place) same) in
+    let one : cond (is_at place (get_or places i x)) (i ∷ []) [] ≡ i ∷ [] = ap (λ v. cond v (i ∷ []) []) (ap (is_at place) (sym here) ∙ (sym (at_number place x) ∙ eq-eqb (number_of x) (number_of place) same)) in
     ap (λ l. l ++ i ∷ []) so_far
     ∙ (sym (take_push most found i (omega arith))
     ∙ sym (ap (take most) (pages_more (is_at place) places i x lt ∙ ap (λ l. found ++ l) one)))
@@ -161,7 +162,7 @@ pub scan_misses : (items : List ℕ) (most i : ℕ) (place x : Place) (places : 
     → items ≡ take most (pages_where (is_at place) (take i places)) → items ≡ take most (pages_where (is_at place) (take (i + 1) places))
 scan_misses items most i place x places lt here other so_far =
     let found = pages_where (is_at place) (take i places) in
-    let none : cond (is_at place (get_or places i x)) (i ∷ []) [] ≡ [] = ap (λ v. cond v (i ∷ []) []) (ap (is_at place) (sym here) ∙ ne_eqb (number_of x) (number_of place) other) in
+    let none : cond (is_at place (get_or places i x)) (i ∷ []) [] ≡ [] = ap (λ v. cond v (i ∷ []) []) (ap (is_at place) (sym here) ∙ (sym (at_number place x) ∙ ne_eqb (number_of x) (number_of place) other)) in
     so_far ∙ sym (ap (take most) (pages_more (is_at place) places i x lt ∙ (ap (λ l. found ++ l) none ∙ append-nil found)))
 
 pub scan_ends : (items : List ℕ) (most i : ℕ) (place : Place) (places : List Place) → i < length places

@@ -1,10 +1,9 @@
 -- What the driver uses of the page areas.
 use Rattle.std.specs.Prelude.{◌≡◌, ℕ, ◌<◌, Bool, true, false, ◌&&◌, List, [], ◌∷◌, length, map}
-use Rattle.std.specs.Prelude.{slice_index_or, if◌then◌else◌, Result, Ok, Err}
+use Rattle.std.specs.Prelude.{slice_index_or, Result, Ok, Err}
 use Rattle.std.specs.List.{list_any, list_all, range_with_len}
 use Rattle.vb_model.specs.declared.places.Place.TheVariants.{Reserved, Used}
 use Rattle.vb_model.specs.Limits.{reserved_pages}
-use Rattle.vb_model.specs.Tests.{is_in, each_page}
 use Rattle.vb_model.specs.Pages.{Block, covers, is_aligned, pages_of, is_free, place_of}
 use Rattle.vb_model.specs.declared.replies.Refusal.{Refusal}
 use Rattle.vb_model.specs.declared.replies.Refusal.TheVariants.{BadOrder, BadCpu, NoPages, NotHeld}

@@ -1,4 +1,4 @@
-use Rattle.std.proofs.Common.{◌∙◌, ◌∷◌, [], sym, ap, arith, refl, ℕ, List, Bool, true, false, cond, length, set, take, get_or}
+use Rattle.std.proofs.Common.{◌∙◌, sym, ap, arith, refl, ℕ, List, Bool, true, false, cond, length, set, take, get_or}
 use Rattle.std.proofs.lemmas.List.{take_more}
 use Rattle.vb_model.specs.Pages.{Block}
 use Rattle.vb_pages.specs.Areas.{block_at}

@@ -1,7 +1,6 @@
-use Rattle.std.proofs.Common.{◌≡◌, ◌<◌, sym, subst, ◌∷◌, [], true, false, length, set}
+use Rattle.std.proofs.Common.{◌≡◌, ◌<◌, sym, subst, true, false, length, set}
 use Rattle.vb_pages.specs.PageState.{PageState}
 use Rattle.vb_driver.specs.Areas.{Becomes, flags_of, is_free_at, is_covered}
-use Rattle.vb_driver.specs.Places.{marked}
 use Rattle.vb_driver.proofs.Allocating.{given_room, given_state}
 use Rattle.vb_driver.proofs.areas.Areas.give_free.Goals as goal
 
