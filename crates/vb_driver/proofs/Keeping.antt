@@ -9,8 +9,8 @@ use Rattle.vb_model.specs.declared.places.Place.TheVariants.{Reserved, Used}
 use Rattle.vb_model.proofs.Tables.{each_page-get, length-each_from}
 use Rattle.vb_pages.specs.FreePages.{FreePages}
 use Rattle.vb_driver.specs.Places.{is_at}
-use Rattle.vb_driver.specs.State.{Side, DriverState, IsQueue, naming}
-use Rattle.vb_driver.specs.Areas.{flags_of, IsKept, is_covered}
+use Rattle.vb_driver.specs.State.{Side, DriverState, IsQueue, naming, IsDriver}
+use Rattle.vb_driver.specs.Areas.{flags_of, is_covered}
 use Rattle.vb_driver.specs.Places.{marked}
 use Rattle.vb_driver.proofs.Placing.{length-marked, marked-get, marked_none}
 
@@ -57,7 +57,7 @@ free_same places pages to agree = sym (marked_none false (map is_free places)) �
 
 -- pages that move to a place, as blocks come to be held, or no more
 pub record Changes (d : DriverState) (areas2 : FreePages) (pages : List ℕ) (to : Place) (held2 : List Block) (i2 e2 : Side) : Type 0 where
-  pub kept : IsKept d
+  pub kept : IsDriver d
   pub there : (p : ℕ) → is_in p pages ≡ true → p < length d.places
   pub unreserved : (p : ℕ) → is_in p pages ≡ true → is_at Reserved (place_of d.places p) ≡ false
   pub inflate : IsQueue i2 0 d.queue_size
@@ -70,21 +70,19 @@ pub record Changes (d : DriverState) (areas2 : FreePages) (pages : List ℕ) (to
   pub used : (p : ℕ) → is_covered p held2 ≡ true → cond (is_in p pages) to (place_of d.places p) ≡ Used
 
 pub kept_changed : (d : DriverState) (areas2 : FreePages) (pages : List ℕ) (to : Place) (held2 : List Block) (i2 e2 : Side) → Changes d areas2 pages to held2 i2 e2
-    → IsKept (record d { places = placed pages to d.places; held = held2; areas = areas2; inflate = i2; deflate = e2 })
+    → IsDriver (record d { places = placed pages to d.places; held = held2; areas = areas2; inflate = i2; deflate = e2 })
 kept_changed d areas2 pages to held2 i2 e2 m =
     let place : (p : ℕ) → place_of (placed pages to d.places) p ≡ cond (is_in p pages) to (place_of d.places p) = λ p. place_placed pages to d.places p (m.there p) in
     record {
-      driver = record {
-        table = length-marked pages to d.places ∙ m.kept.driver.table;
-        least = m.kept.driver.least;
-        most = m.kept.driver.most;
-        size = m.kept.driver.size;
-        inflate = m.inflate;
-        deflate = m.deflate;
-        giving = λ p. omega (arith, m.giving p, ap (λ (v : Place). one_if (is_giving v)) (place p));
-        taking = λ p. omega (arith, m.taking p, ap (λ (v : Place). one_if (is_taking v)) (place p));
-        unreported = λ p. ap is_reporting (place p) ∙ proper_at p (is_in p pages) refl (m.kept.driver.unreported p);
-      };
+      table = length-marked pages to d.places ∙ m.kept.table;
+      least = m.kept.least;
+      most = m.kept.most;
+      size = m.kept.size;
+      inflate = m.inflate;
+      deflate = m.deflate;
+      giving = λ p. omega (arith, m.giving p, ap (λ (v : Place). one_if (is_giving v)) (place p));
+      taking = λ p. omega (arith, m.taking p, ap (λ (v : Place). one_if (is_taking v)) (place p));
+      unreported = λ p. ap is_reporting (place p) ∙ proper_at p (is_in p pages) refl (m.kept.unreported p);
       free = m.free;
       used = λ p covered. place p ∙ m.used p covered;
       reserved = λ p low. place p ∙ reserved_at p (is_in p pages) refl (m.kept.reserved p low);
@@ -101,7 +99,7 @@ kept_changed d areas2 pages to held2 i2 e2 m =
 
 -- pages that are in no held block, and move
 pub record Moves (d : DriverState) (areas2 : FreePages) (pages : List ℕ) (to : Place) (i2 e2 : Side) : Type 0 where
-  pub kept : IsKept d
+  pub kept : IsDriver d
   pub there : (p : ℕ) → is_in p pages ≡ true → p < length d.places
   pub unreserved : (p : ℕ) → is_in p pages ≡ true → is_at Reserved (place_of d.places p) ≡ false
   pub unused : (p : ℕ) → is_in p pages ≡ true → is_used (place_of d.places p) ≡ false
@@ -114,7 +112,7 @@ pub record Moves (d : DriverState) (areas2 : FreePages) (pages : List ℕ) (to :
   pub proper : is_reporting to ≡ false
 
 pub kept_moved : (d : DriverState) (areas2 : FreePages) (pages : List ℕ) (to : Place) (i2 e2 : Side) → Moves d areas2 pages to i2 e2
-    → IsKept (record d { places = placed pages to d.places; areas = areas2; inflate = i2; deflate = e2 })
+    → IsDriver (record d { places = placed pages to d.places; areas = areas2; inflate = i2; deflate = e2 })
 kept_moved d areas2 pages to i2 e2 m =
     kept_changed d areas2 pages to d.held i2 e2 (record {
       kept = m.kept;

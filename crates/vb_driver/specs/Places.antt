@@ -1,5 +1,6 @@
 -- A table of places, and how many pages it has at each.
-use Rattle.std.specs.Prelude.{if◌then◌else◌, true, false, ◌≡◌, ℕ, Bool, List, length, ◌≤◌, slice_index, count_by}
+use Rattle.std.specs.Prelude.{if◌then◌else◌, true, false, ◌≡◌, ℕ}
+use Rattle.std.specs.Prelude.{Bool, List, length, ◌≤◌, slice_index, count_by}
 use Rattle.vb_model.specs.Tests.{is_in, each_page}
 use Rattle.vb_model.specs.Pages.{is_free, is_used, is_giving, is_lent, is_taking, is_stranded}
 use Rattle.vb_model.specs.Pages.{is_reporting}

@@ -3,8 +3,7 @@ use Rattle.vb_model.specs.Tests.{is_in}
 use Rattle.vb_model.specs.Pages.{placed, is_lent}
 use Rattle.vb_model.specs.declared.places.Place.{Place}
 use Rattle.vb_model.specs.declared.places.Place.TheVariants.{Taking}
-use Rattle.vb_driver.specs.State.{DriverState}
-use Rattle.vb_driver.specs.Areas.{IsKept}
+use Rattle.vb_driver.specs.State.{DriverState, IsDriver}
 use Rattle.vb_driver.specs.Calls.{Posts, AsksBack, lowest_lent}
 use Rattle.vb_driver.specs.contracts.driver.Driver.{the_view}
 use Rattle.vb_driver.proofs.Moving.{lowest_is, asked_kept}
@@ -26,7 +25,7 @@ invariant_of-self g c =
     let lowest : c.lowest-pages.result.items ≡ lowest_lent d c.args.count = c.lowest-pages.ensures in
     let placed_is : c.set_all.new.self ≡ placed (lowest_lent d c.args.count) Taking d.places = c.set_all.ensures ∙ ap (λ (l : List ℕ). placed l Taking d.places) (c.deref.ensures.0 ∙ lowest) in
     let posts : Posts m1 m2 d.deflate c.post-head.new.self 8 (lowest_lent d c.args.count) c.post-head.result = subst (λ (l : List ℕ). Posts m1 m2 d.deflate c.post-head.new.self 8 l c.post-head.result) lowest c.post-head.ensures.posts in
-    subst (λ (ps : List Place). IsKept (record d { places = ps; deflate = c.post-head.new.self })) (sym placed_is)
+    subst (λ (ps : List Place). IsDriver (record d { places = ps; deflate = c.post-head.new.self })) (sym placed_is)
     (asked_kept m1 m2 d c.post-head.new.self 8 c.args.count c.post-head.result c.self.invariant posts)
 
 pub returns : goal.returns

@@ -4,8 +4,8 @@ use Rattle.vb_model.specs.Tests.{is_in}
 use Rattle.vb_model.specs.Pages.{placed, is_stranded, is_free, place_of}
 use Rattle.vb_model.specs.declared.places.Place.{Place}
 use Rattle.vb_model.specs.declared.places.Place.TheVariants.{Giving}
-use Rattle.vb_driver.specs.State.{DriverState}
-use Rattle.vb_driver.specs.Areas.{flags_of, IsKept}
+use Rattle.vb_driver.specs.State.{DriverState, IsDriver}
+use Rattle.vb_driver.specs.Areas.{flags_of}
 use Rattle.vb_driver.specs.Calls.{Posts, Offers, stranded_first}
 use Rattle.vb_driver.specs.contracts.driver.Driver.{the_view}
 use Rattle.vb_driver.proofs.Naming.{once_distinct}
@@ -41,8 +41,8 @@ invariant_of-self g c =
     let free = others_free d (flags_of c.self.inside.areas.free) others c.self.invariant.free c.take_free-others.ensures.free in
     let kept = offered_kept m1 m2 d c.take_free-others.new.self.free c.post-head.new.self 4 c.args.count c.post-head.result others c.self.invariant free (λ p. once_distinct p others c.take_free-others.ensures.distinct) c.take_free-others.ensures.state.free c.take_free-others.ensures.state.processors posts in
     let held : c.take_free-others.new.self.held ≡ d.held = c.take_free-others.ensures.state.held in
-    subst (λ (ps : List Place). IsKept (record d { places = ps; held = c.take_free-others.new.self.held; areas = c.take_free-others.new.self.free; inflate = c.post-head.new.self })) (sym placed_is)
-    (subst (λ (hs : List Rattle.vb_model.specs.Pages.Block). IsKept (record d { places = placed (stranded_first d c.args.count ++ others) Giving d.places; held = hs; areas = c.take_free-others.new.self.free; inflate = c.post-head.new.self })) (sym held) kept)
+    subst (λ (ps : List Place). IsDriver (record d { places = ps; held = c.take_free-others.new.self.held; areas = c.take_free-others.new.self.free; inflate = c.post-head.new.self })) (sym placed_is)
+    (subst (λ (hs : List Rattle.vb_model.specs.Pages.Block). IsDriver (record d { places = placed (stranded_first d c.args.count ++ others) Giving d.places; held = hs; areas = c.take_free-others.new.self.free; inflate = c.post-head.new.self })) (sym held) kept)
 
 pub returns : goal.returns
 returns g c =
