@@ -1,5 +1,5 @@
 -- What the allocator answers, as the driver sees it.
-use Rattle.std.proofs.Common.{◌≡◌, ◌∙◌, sym, ap, subst, arith, refl, ℕ, suc, ◌+◌, ◌^◌, ◌<◌, ◌≤◌, Bool, true, false, eqb, not, ◌||◌, ◌&&◌, ◌⊎◌, ◌↔◌, List, [], ◌∷◌, length, get_or, map, inl, inr, IsTrue, Option, Result, Ok, Err, IfOk, OnOk, OnErr, nat_le, nat_lt, count_by, eq-eqb}
+use Rattle.std.proofs.Common.{◌≡◌, ◌∙◌, sym, ap, subst, arith, refl, ℕ, suc, ◌+◌, ◌^◌, ◌<◌, ◌≤◌, Bool, true, false, eqb, not, ◌||◌, ◌&&◌, ◌⊎◌, ◌↔◌, List, [], ◌∷◌, length, get_or, set, map, inl, inr, IsTrue, Option, Result, Ok, Err, IfOk, OnOk, OnErr, nat_le, nat_lt, count_by, eq-eqb}
 use Rattle.std.specs.List.{list_all, range_with_len}
 use Rattle.std.proofs.lemmas.Bool.{cases_lt, and_parts, and_from, false_from_ne_true, not_from_false, ne_eqb, ltb-true, leb-true, lt-ltb, le-ltb, le-leb, lt-leb}
 use Rattle.std.proofs.lemmas.Nat.{pow_pos}
@@ -23,9 +23,11 @@ use Rattle.vb_pages.proofs.Sets.{length-with_pages, in_block}
 use Rattle.vb_pages.proofs.ListsLemmas.{page_block}
 use Rattle.vb_pages.proofs.FreeLemmas.{serves_length, length-takes_pages}
 use Rattle.vb_driver.specs.Answers.{refusal_in, block_at}
-use Rattle.vb_driver.specs.Areas.{AreApart, Becomes, Allots, has_block, flags_of, refusal_of, is_free_at, is_covered, is_free_block, flagged}
+use Rattle.vb_driver.specs.Areas.{AreApart, Becomes, Allots, has_block, flags_of, refusal_of, is_free_at, is_covered, is_free_block}
+use Rattle.vb_driver.specs.Places.{marked}
 use Rattle.vb_model.specs.Orderly.{times}
 use Rattle.vb_pages.proofs.ListsLemmas.{times_in}
+use Rattle.vb_driver.proofs.Placing.{marked_one}
 use Rattle.vb_driver.proofs.Flags.{length_flags, flag_at, flag_free, free_flag, free_inside, held_unfree, flags_moved, flags_same, left_by, gained_by, taken_by, serves_cpus, drained_sizes, given_sizes}
 
 -- the driver's answer, by the allocator's
@@ -160,7 +162,7 @@ alloc_free s new cpu order (Ok start) served = whole_block s start order served.
 alloc_free s new cpu order (Err fault) served = tt
 
 pub alloc_state : (s new : PageState) (cpu order : ℕ) (r : Result ℕ PageFault) → IsServed s new cpu order r
-    → IfOk (answered r) (λ start. Becomes s new (flagged (pages_of (block_at start order)) false (flags_of s.free)) (with_block (block_at start order) s.held))
+    → IfOk (answered r) (λ start. Becomes s new (marked (pages_of (block_at start order)) false (flags_of s.free)) (with_block (block_at start order) s.held))
 alloc_state s new cpu order (Ok start) served =
     let small : order ≤ 9 = small_order s new cpu order (Ok start) served (λ e. cc) in
     let cpu_there : cpu < cpu_count s = there_cpu s new cpu order (Ok start) served small (λ e. cc) in
@@ -179,7 +181,7 @@ alloc_state s new cpu order (Err fault) served = tt
 
 pub free_state : (s new : PageState) (cpu start order : ℕ) (r : Result Unit PageFault) → OnOk r (new ≡ freed cpu (block_at start order) s)
     → OnOk r ((page : ℕ) → is_free_page new page ≡ (is_free_page s page || covers page (block_at start order)))
-    → OnOk (answered r) (Becomes s new (flagged (pages_of (block_at start order)) true (flags_of s.free)) (without_block (block_at start order) s.held))
+    → OnOk (answered r) (Becomes s new (marked (pages_of (block_at start order)) true (flags_of s.free)) (without_block (block_at start order) s.held))
 free_state s new cpu start order (Ok x) is gained =
     let b = block_at start order in
     let sizes = given_sizes s.free cpu start order in
@@ -243,7 +245,7 @@ count_flags s =
     one i = at (has s.free.areas i) (is_in i (in_lists s.free)) (times i (in_lists s.free)) (times_in i (in_lists s.free))
 
 pub taken_state : (s new : PageState) (pages : List ℕ) → TakesFree s pages new → ((p : ℕ) → one_if (is_free_page new p) + times p pages ≡ one_if (is_free_page s p))
-    → Becomes s new (flagged pages false (flags_of s.free)) s.held
+    → Becomes s new (marked pages false (flags_of s.free)) s.held
 taken_state s new pages takes left =
     let sizes = drained_sizes s.free in
     record {
@@ -286,11 +288,11 @@ given_room s page unreserved inside taken uncovered =
     )
 
 pub given_state : (s new : PageState) (page : ℕ) → new ≡ given (block_at page 0) s → ((p : ℕ) → is_free_page new p ≡ (is_free_page s p || covers p (block_at page 0)))
-    → Becomes s new (flagged (page ∷ []) true (flags_of s.free)) s.held
-given_state s new page is gained =
+    → page < length (flags_of s.free) → Becomes s new (set (flags_of s.free) page true) s.held
+given_state s new page is gained there =
     let b = block_at page 0 in
     record {
-      free = flags_moved s new (pages_of b) true (ap page_count is ∙ length-with_pages (pages_of b) s.free.areas) (λ p. gained p ∙ gained_by p b (is_free_page s p));
+      free = flags_moved s new (pages_of b) true (ap page_count is ∙ length-with_pages (pages_of b) s.free.areas) (λ p. gained p ∙ gained_by p b (is_free_page s p)) ∙ marked_one page true (flags_of s.free) there;
       held = ap (λ (v : PageState). v.held) is;
       processors = ap cpu_count is;
     }

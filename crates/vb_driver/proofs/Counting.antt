@@ -1,11 +1,15 @@
 -- Counts of places, as a page moves.
-use Rattle.std.proofs.Common.{◌≡◌, ◌∙◌, sym, ap, arith, ℕ, ◌+◌, ◌-◌, ◌<◌, ◌≤◌, cond, eqb, List, length, get_or, set, count_by, inl, inr, eq-eqb, refl}
+use Rattle.std.proofs.Common.{◌≡◌, ◌∙◌, sym, ap, arith, ℕ, ◌+◌, ◌-◌, ◌<◌, ◌≤◌, cond, eqb, List, length, get_or, set, count_by, inl, inr, eq-eqb, refl, not, [], ◌∷◌, Bool, true, false, zero, suc, replicate}
 use Rattle.std.proofs.lemmas.List.Sums.{sum_by-set, get_or-le-sum_by}
-use Rattle.std.proofs.lemmas.List.{get_or-set_same, get_or-set_other, length-set}
-use Rattle.std.proofs.lemmas.Bool.{cases_eq, ne_eqb}
+use Rattle.std.proofs.lemmas.List.{length-replicate, get_or-set_same, get_or-set_other, length-set}
+use Rattle.std.specs.List.{list_all, range_with_len}
+use Rattle.std.proofs.lemmas.Bool.{cases_eq, ne_eqb, eqb-true}
+use Rattle.vb_model.specs.Tests.{one_if}
 use Rattle.vb_model.specs.declared.places.Place.{Place}
 use Rattle.vb_model.specs.declared.places.Place.TheVariants.{Reserved, Free, Used, Giving, Lent, Taking, Stranded, Reporting}
-use Rattle.vb_driver.specs.Places.{number_of, is_at, AreCounts}
+use Rattle.vb_model.proofs.Tables.{list_all-at, count_by-cons}
+use Rattle.vb_pages.proofs.Sets.{in_block}
+use Rattle.vb_driver.specs.Places.{number_of, is_at, AreCounts, IsTable}
 
 pub number_small : (place : Place) → number_of place < 8
 number_small Reserved = omega arith
@@ -16,6 +20,54 @@ number_small Lent = omega arith
 number_small Taking = omega arith
 number_small Stranded = omega arith
 number_small Reporting = omega arith
+
+-- ---- a place and its number
+
+abbrev by_number : List Place
+by_number = Reserved ∷ Free ∷ Used ∷ Giving ∷ Lent ∷ Taking ∷ Stranded ∷ Reporting ∷ []
+
+numbered : (place : Place) → get_or by_number (number_of place) Reserved ≡ place
+numbered Reserved = refl
+numbered Free = refl
+numbered Used = refl
+numbered Giving = refl
+numbered Lent = refl
+numbered Taking = refl
+numbered Stranded = refl
+numbered Reporting = refl
+
+abbrev same : Bool → Bool → Bool
+same a b = cond a b (not b)
+
+-- whether a page's place, by number, has the number of another
+abbrev cell : ℕ → ℕ → Bool
+cell i j = same (eqb j i) (is_at (get_or by_number i Reserved) (get_or by_number j Reserved))
+
+cells : list_all (λ i. list_all (cell i) (range_with_len 0 8)) (range_with_len 0 8) ≡ true
+cells = refl
+
+-- a page has a place just if the numbers are equal
+pub at_number : (place other : Place) → eqb (number_of other) (number_of place) ≡ is_at place other
+at_number place other =
+    let i = number_of place in
+    let j = number_of other in
+    let row = list_all-at (λ k. list_all (cell k) (range_with_len 0 8)) (range_with_len 0 8) i cells (in_block 0 3 i (omega arith) (number_small place)) in
+    let here = list_all-at (cell i) (range_with_len 0 8) j row (in_block 0 3 j (omega arith) (number_small other)) in
+    at (eqb j i) (is_at (get_or by_number i Reserved) (get_or by_number j Reserved)) here
+    ∙ (ap (λ (p : Place). is_at p (get_or by_number j Reserved)) (numbered place) ∙ ap (is_at place) (numbered other))
+  where
+    at : (a b : Bool) → cond a b (not b) ≡ true → a ≡ b
+    at true true e = refl
+    at true false e = cc
+    at false true e = cc
+    at false false e = refl
+
+pub at_is : (place other : Place) → is_at place other ≡ true → other ≡ place
+at_is place other here =
+    let equal : number_of other ≡ number_of place = eqb-true (number_of other) (number_of place) (at_number place other ∙ here) in
+    sym (numbered other) ∙ (ap (λ (n : ℕ). get_or by_number n Reserved) equal ∙ numbered place)
+
+-- ---- counts
 
 -- 1 where the numbers are equal
 abbrev pub hit : ℕ → ℕ → ℕ
@@ -30,14 +82,17 @@ hit_other a b ne = ap (λ v. cond v 1 0) (ne_eqb a b ne)
 -- how many pages have a place, as one moves
 count_moves : (places : List Place) (page : ℕ) (which new old : Place) → page < length places
     → count_by (is_at which) (set places page new) + hit (number_of (get_or places page old)) (number_of which) ≡ count_by (is_at which) places + hit (number_of new) (number_of which)
-count_moves places page which new old lt = sum_by-set (λ x. cond (is_at which x) 1 0) places page new old lt
+count_moves places page which new old lt =
+    let hits : (x : Place) → hit (number_of x) (number_of which) ≡ cond (is_at which x) 1 0 = λ x. ap (λ v. cond v 1 0) (at_number which x) in
+    omega (arith, sum_by-set (λ x. cond (is_at which x) 1 0) places page new old lt, hits new, hits (get_or places page old))
 
 -- a page's own place has a page
 pub counts_some : (places : List Place) (page : ℕ) (old : Place) → page < length places → 1 ≤ count_by (is_at (get_or places page old)) places
 counts_some places page old lt =
     let here = get_or places page old in
     let one : hit (number_of here) (number_of here) ≡ 1 = hit_same (number_of here) (number_of here) refl in
-    let low : hit (number_of here) (number_of here) ≤ count_by (is_at here) places = get_or-le-sum_by (λ x. cond (is_at here x) 1 0) places page old lt in
+    let low : cond (is_at here here) 1 0 ≤ count_by (is_at here) places = get_or-le-sum_by (λ x. cond (is_at here x) 1 0) places page old lt in
+    let same_hit : hit (number_of here) (number_of here) ≡ cond (is_at here here) 1 0 = ap (λ v. cond v 1 0) (at_number here here) in
     omega arith
 
 -- the counts after a page moved
@@ -80,3 +135,34 @@ counts_moved counts places page o n new old eight lt here was is small small2 al
                 omega arith
           ];
     }
+
+-- ---- a table of reserved pages
+
+count_replicate : (test : Place → Bool) (x : Place) (n : ℕ) → count_by test (replicate n x) ≡ cond (test x) n 0
+count_replicate test x zero = at (test x)
+  where
+    at : (b : Bool) → count_by test (replicate zero x) ≡ cond b zero zero
+    at true = refl
+    at false = refl
+count_replicate test x (suc n) = count_by-cons test x (replicate n x) ∙ at (test x) (count_replicate test x n)
+  where
+    at : (b : Bool) → count_by test (replicate n x) ≡ cond b n 0 → one_if b + count_by test (replicate n x) ≡ cond b (suc n) 0
+    at true ih = omega arith
+    at false ih = omega arith
+
+pub reserved_table : (counts : List ℕ) (places : List Place) (pages : ℕ) → counts ≡ pages ∷ 0 ∷ 0 ∷ 0 ∷ 0 ∷ 0 ∷ 0 ∷ 0 ∷ [] → places ≡ replicate pages Reserved → pages ≤ 16384 → IsTable counts places
+reserved_table counts places pages counted is most = record {
+  kinds = ap (λ (l : List ℕ). length l) counted;
+  are_counts = record { each = λ place. ap (λ (l : List ℕ). get_or l (number_of place) 0) counted ∙ (at place ∙ sym (ap (count_by (is_at place)) is ∙ count_replicate (is_at place) Reserved pages)) };
+  small = omega (arith, ap (λ (l : List Place). length l) is, length-replicate pages Reserved);
+}
+  where
+    at : (place : Place) → get_or (pages ∷ 0 ∷ 0 ∷ 0 ∷ 0 ∷ 0 ∷ 0 ∷ 0 ∷ []) (number_of place) 0 ≡ cond (is_at place Reserved) pages 0
+    at Reserved = refl
+    at Free = refl
+    at Used = refl
+    at Giving = refl
+    at Lent = refl
+    at Taking = refl
+    at Stranded = refl
+    at Reporting = refl

@@ -1,12 +1,10 @@
 -- FAILED may be added to any status.
-use Rattle.std.proofs.Common.{◌≡◌, ◌∙◌, ap, refl, arith, ℕ, ◌<◌, Bool, true, false, not, ◌&&◌, Option, None, Some, is_none, cond, eqb, bit_or, get_or, eq-eqb, zero-add}
+use Rattle.std.proofs.Common.{◌≡◌, ap, refl, arith, ℕ, ◌<◌, Bool, true, false, not, ◌&&◌, Option, None, Some, is_none, cond, eqb, bit_or}
 use Rattle.std.specs.List.{list_all, range_with_len}
-use Rattle.std.proofs.lemmas.List.Folds.{list_any_at}
-use Rattle.std.proofs.lemmas.List.FromFn.{length-range_with_len, get_or-range_with_len}
 use Rattle.vb_model.specs.declared.replies.Refusal.{Refusal}
-use Rattle.vb_model.specs.Tests.{is_in}
 use Rattle.vb_model.specs.Status.{status_refusal, adds, driver_ok}
 use Rattle.vb_model.proofs.Tables.{list_all-at}
+use Rattle.vb_pages.proofs.Sets.{in_block}
 use Rattle.vb_ram.specs.Part.{Part}
 use Rattle.vb_status.specs.After.{after_status, after_reset, with_new_queues}
 
@@ -16,11 +14,8 @@ passes f s = is_none (status_refusal s f (bit_or s 128)) && (not (eqb (bit_or s 
 table : (f : ℕ) → list_all (passes f) (range_with_len 0 256) ≡ true
 table f = refl
 
-at_range : (s : ℕ) → s < 256 → is_in s (range_with_len 0 256) ≡ true
-at_range s lt = list_any_at (λ m. eqb m s) (range_with_len 0 256) s s (omega (arith, length-range_with_len 0 256)) (eq-eqb (get_or (range_with_len 0 256) s s) s (get_or-range_with_len 0 256 s s lt ∙ zero-add s))
-
 passed : (s f : ℕ) → s < 256 → passes f s ≡ true
-passed s f lt = list_all-at (passes f) (range_with_len 0 256) s (table f) (at_range s lt)
+passed s f lt = list_all-at (passes f) (range_with_len 0 256) s (table f) (in_block 0 8 s (omega arith) lt)
 
 -- the write is accepted, and changes the status alone
 pub accepted : (s f : ℕ) → s < 256 → status_refusal s f (bit_or s 128) ≡ None

@@ -8,7 +8,7 @@ use Rattle.std.proofs.lemmas.List.FromFn.{get_or-map-range_with_len, length-map-
 use Rattle.vb_model.specs.Tests.{is_in, one_if}
 use Rattle.vb_model.specs.declared.places.Place.TheVariants.{Reserved, Free}
 use Rattle.vb_model.specs.Pages.{Block, covers, pages_of, is_free, all_free}
-use Rattle.vb_model.proofs.Tables.{each_page-get, length-each_from, count_by-cons, count_by-append}
+use Rattle.vb_model.proofs.Tables.{each_page-get, count_by-cons, count_by-append}
 use Rattle.vb_model.proofs.PageSteps.{covers_is}
 use Rattle.vb_pages.specs.Areas.{has, with_pages, unreserved}
 use Rattle.vb_pages.specs.FreePages.{FreePages, in_lists, drained, times_free, list_of, with_list, given_back, Tries, Serves}
@@ -18,10 +18,11 @@ use Rattle.vb_pages.proofs.AreasLemmas.{length-unreserved, has-unreserved}
 use Rattle.vb_pages.proofs.ListsLemmas.{one_if_true, one_if_le}
 use Rattle.vb_pages.proofs.FreeLemmas.{flat-replicate}
 use Rattle.vb_driver.specs.Answers.{block_at}
-use Rattle.vb_driver.specs.Areas.{flags_of, is_free_at, flagged, all_given}
+use Rattle.vb_driver.specs.Areas.{flags_of, is_free_at, all_given}
+use Rattle.vb_driver.specs.Places.{marked}
 use Rattle.vb_model.specs.Orderly.{times}
 use Rattle.vb_pages.proofs.ListsLemmas.{times_in, times_out}
-use Rattle.vb_driver.proofs.Placing.{first_place, is_in-push}
+use Rattle.vb_driver.proofs.Placing.{first_place, length-marked, or_false}
 
 -- ---- a page's flag
 
@@ -74,16 +75,10 @@ held_unfree s p apart covered =
 
 -- ---- flags that change
 
-pub flagged_at : (pages : List ℕ) (flag : Bool) (free : List Bool) (p : ℕ) → p < length free → is_free_at (flagged pages flag free) p ≡ cond (is_in p pages) flag (is_free_at free p)
-flagged_at pages flag free p lt = each_page-get (λ page old. if is_in page pages then flag else old) free p false (λ far. absurd (omega arith))
-
-pub length-flagged : (pages : List ℕ) (flag : Bool) (free : List Bool) → length (flagged pages flag free) ≡ length free
-length-flagged pages flag free = length-each_from 0 (λ page old. if is_in page pages then flag else old) free
-
 pub flags_moved : (s new : PageState) (pages : List ℕ) (flag : Bool) → page_count new ≡ page_count s
-    → ((p : ℕ) → is_free_page new p ≡ cond (is_in p pages) flag (is_free_page s p)) → flags_of new.free ≡ flagged pages flag (flags_of s.free)
+    → ((p : ℕ) → is_free_page new p ≡ cond (is_in p pages) flag (is_free_page s p)) → flags_of new.free ≡ marked pages flag (flags_of s.free)
 flags_moved s new pages flag size agree =
-    same_lists (flags_of new.free) (flagged pages flag (flags_of s.free)) (length_flags new ∙ (size ∙ sym (length-flagged pages flag (flags_of s.free) ∙ length_flags s))) (λ k d near.
+    same_lists (flags_of new.free) (marked pages flag (flags_of s.free)) (length_flags new ∙ (size ∙ sym (length-marked pages flag (flags_of s.free) ∙ length_flags s))) (λ k d near.
     let here : k < page_count new = omega (arith, length_flags new) in
     let there : k < page_count s = omega (arith, size) in
     flag_at new k d here
@@ -167,10 +162,6 @@ given_sizes f cpu start zero =
 
 -- ---- a guest as it is plugged in
 
-or_false : (v : Bool) → (v || false) ≡ v
-or_false true = refl
-or_false false = refl
-
 turned : (v : Bool) (k : ℕ) → nat_lt k 16 ≡ v → nat_le 16 k ≡ is_free (cond v Reserved Free)
 turned true k e = lt-leb 16 k (ltb-true k 16 e)
 turned false k e = le-leb 16 k (ltb-false k 16 e)
@@ -192,28 +183,6 @@ fresh_flags pages cpus =
     ∙ sym (get_or-map is_free (all_free pages) k Reserved d (omega arith) ∙ ap is_free (get_or-map-range_with_len first_place 0 pages k k Reserved here (omega arith)))))
 
 -- ---- pages that come back one by one
-
-pub flagged_none : (flag : Bool) (free : List Bool) → flagged [] flag free ≡ free
-flagged_none flag free = same_lists (flagged [] flag free) free (length-flagged [] flag free) (λ k d near.
-    each_page-get (λ page old. if is_in page [] then flag else old) free k d (λ far. absurd (omega (arith, length-flagged [] flag free))))
-
-twice : (a b flag old : Bool) → cond (a || (b || false)) flag old ≡ cond (b || false) flag (cond a flag old)
-twice true true flag old = refl
-twice true false flag old = refl
-twice false b flag old = refl
-
-pub flagged_more : (xs : List ℕ) (x : ℕ) (flag : Bool) (free : List Bool) → flagged (xs ++ x ∷ []) flag free ≡ flagged (x ∷ []) flag (flagged xs flag free)
-flagged_more xs x flag free =
-    let before = flagged xs flag free in
-    let all = flagged (xs ++ x ∷ []) flag free in
-    let size : length before ≡ length free = length-flagged xs flag free in
-    same_lists all (flagged (x ∷ []) flag before) (length-flagged (xs ++ x ∷ []) flag free ∙ sym (length-flagged (x ∷ []) flag before ∙ size)) (λ k d near.
-    let inside : k < length free = omega (arith, length-flagged (xs ++ x ∷ []) flag free) in
-    each_page-get (λ page old. if is_in page (xs ++ x ∷ []) then flag else old) free k d (λ far. absurd (omega arith))
-    ∙ (ap (λ v. cond v flag (get_or free k d)) (is_in-push k xs x)
-    ∙ (twice (is_in k xs) (eqb x k) flag (get_or free k d)
-    ∙ sym (each_page-get (λ page old. if is_in page (x ∷ []) then flag else old) before k d (λ far. absurd (omega arith))
-    ∙ ap (λ v. cond (eqb x k || false) flag v) (each_page-get (λ page old. if is_in page xs then flag else old) free k d (λ far. absurd (omega arith)))))))
 
 pub given_more : (xs : List ℕ) (x : ℕ) (s : PageState) → all_given (xs ++ x ∷ []) s ≡ given (block_at x 0) (all_given xs s)
 given_more [] x s = refl

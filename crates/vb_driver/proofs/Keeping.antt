@@ -1,5 +1,5 @@
 -- What holds of each driver, as pages move.
-use Rattle.std.proofs.Common.{◌≡◌, ◌∙◌, sym, ap, arith, refl, ℕ, ◌<◌, ◌≤◌, Bool, true, false, cond, List, length, get_or, map, inl, inr, if◌then◌else◌}
+use Rattle.std.proofs.Common.{◌≡◌, ◌∙◌, sym, ap, arith, refl, ℕ, ◌<◌, ◌≤◌, Bool, true, false, cond, List, [], length, get_or, map, inl, inr, if◌then◌else◌}
 use Rattle.std.proofs.lemmas.List.{same_lists, length-map, get_or-map, get_or_past}
 use Rattle.std.proofs.lemmas.Bool.{cases_lt}
 use Rattle.vb_model.specs.Tests.{is_in, one_if}
@@ -9,9 +9,10 @@ use Rattle.vb_model.specs.declared.places.Place.TheVariants.{Reserved, Used}
 use Rattle.vb_model.proofs.Tables.{each_page-get, length-each_from}
 use Rattle.vb_pages.specs.FreePages.{FreePages}
 use Rattle.vb_driver.specs.Places.{is_at}
-use Rattle.vb_driver.specs.State.{Side, DriverState, IsQueue, naming}
-use Rattle.vb_driver.specs.Areas.{flags_of, IsKept, is_covered, flagged}
-use Rattle.vb_driver.proofs.Placing.{length-placed, placed-get}
+use Rattle.vb_driver.specs.State.{Side, DriverState, IsQueue, naming, IsDriver}
+use Rattle.vb_driver.specs.Areas.{flags_of, is_covered}
+use Rattle.vb_driver.specs.Places.{marked}
+use Rattle.vb_driver.proofs.Placing.{length-marked, marked-get, marked_none}
 
 -- ---- a page's place
 
@@ -31,39 +32,32 @@ place_placed pages to places p there =
 
 -- ---- free pages
 
-pub free_flagged : (places : List Place) (pages others : List ℕ) (to : Place) (flag : Bool)
+pub free_marked : (places : List Place) (pages others : List ℕ) (to : Place) (flag : Bool)
     → ((p : ℕ) (place : Place) → place ≡ place_of places p → cond (is_in p others) flag (is_free place) ≡ is_free (cond (is_in p pages) to place))
-    → flagged others flag (map is_free places) ≡ map is_free (placed pages to places)
-free_flagged places pages others to flag agree =
-    let left = flagged others flag (map is_free places) in
+    → marked others flag (map is_free places) ≡ map is_free (placed pages to places)
+free_marked places pages others to flag agree =
+    let left = marked others flag (map is_free places) in
     let moved = placed pages to places in
     let n1 : length left ≡ length places = length-each_from 0 (λ page old. if is_in page others then flag else old) (map is_free places) ∙ length-map places is_free in
-    let n2 : length moved ≡ length places = length-placed pages to places in
+    let n2 : length moved ≡ length places = length-marked pages to places in
     same_lists left (map is_free moved) (n1 ∙ sym (length-map moved is_free ∙ n2)) (λ k d near.
     let inside : k < length places = omega arith in
     let here : place_of places k ≡ get_or places k Reserved = refl in
     each_page-get (λ page old. if is_in page others then flag else old) (map is_free places) k d (λ far. absurd (omega (arith, length-map places is_free)))
     ∙ (ap (λ v. cond (is_in k others) flag v) (get_or-map is_free places k Reserved d inside)
     ∙ (agree k (place_of places k) refl
-    ∙ sym (get_or-map is_free moved k Reserved d (omega arith) ∙ ap is_free (placed-get pages to places k Reserved inside)))))
+    ∙ sym (get_or-map is_free moved k Reserved d (omega arith) ∙ ap is_free (marked-get pages to places k Reserved inside)))))
 
 pub free_same : (places : List Place) (pages : List ℕ) (to : Place)
     → ((p : ℕ) (place : Place) → place ≡ place_of places p → is_free place ≡ is_free (cond (is_in p pages) to place))
     → map is_free places ≡ map is_free (placed pages to places)
-free_same places pages to agree =
-    let moved = placed pages to places in
-    let n2 : length moved ≡ length places = length-placed pages to places in
-    same_lists (map is_free places) (map is_free moved) (length-map places is_free ∙ sym (length-map moved is_free ∙ n2)) (λ k d near.
-    let inside : k < length places = omega (arith, length-map places is_free) in
-    get_or-map is_free places k Reserved d inside
-    ∙ (agree k (place_of places k) refl
-    ∙ sym (get_or-map is_free moved k Reserved d (omega arith) ∙ ap is_free (placed-get pages to places k Reserved inside))))
+free_same places pages to agree = sym (marked_none false (map is_free places)) ∙ free_marked places pages [] to false agree
 
 -- ---- the whole
 
 -- pages that move to a place, as blocks come to be held, or no more
 pub record Changes (d : DriverState) (areas2 : FreePages) (pages : List ℕ) (to : Place) (held2 : List Block) (i2 e2 : Side) : Type 0 where
-  pub kept : IsKept d
+  pub kept : IsDriver d
   pub there : (p : ℕ) → is_in p pages ≡ true → p < length d.places
   pub unreserved : (p : ℕ) → is_in p pages ≡ true → is_at Reserved (place_of d.places p) ≡ false
   pub inflate : IsQueue i2 0 d.queue_size
@@ -76,21 +70,19 @@ pub record Changes (d : DriverState) (areas2 : FreePages) (pages : List ℕ) (to
   pub used : (p : ℕ) → is_covered p held2 ≡ true → cond (is_in p pages) to (place_of d.places p) ≡ Used
 
 pub kept_changed : (d : DriverState) (areas2 : FreePages) (pages : List ℕ) (to : Place) (held2 : List Block) (i2 e2 : Side) → Changes d areas2 pages to held2 i2 e2
-    → IsKept (record d { places = placed pages to d.places; held = held2; areas = areas2; inflate = i2; deflate = e2 })
+    → IsDriver (record d { places = placed pages to d.places; held = held2; areas = areas2; inflate = i2; deflate = e2 })
 kept_changed d areas2 pages to held2 i2 e2 m =
     let place : (p : ℕ) → place_of (placed pages to d.places) p ≡ cond (is_in p pages) to (place_of d.places p) = λ p. place_placed pages to d.places p (m.there p) in
     record {
-      driver = record {
-        table = length-placed pages to d.places ∙ m.kept.driver.table;
-        least = m.kept.driver.least;
-        most = m.kept.driver.most;
-        size = m.kept.driver.size;
-        inflate = m.inflate;
-        deflate = m.deflate;
-        giving = λ p. omega (arith, m.giving p, ap (λ (v : Place). one_if (is_giving v)) (place p));
-        taking = λ p. omega (arith, m.taking p, ap (λ (v : Place). one_if (is_taking v)) (place p));
-        unreported = λ p. ap is_reporting (place p) ∙ proper_at p (is_in p pages) refl (m.kept.driver.unreported p);
-      };
+      table = length-marked pages to d.places ∙ m.kept.table;
+      least = m.kept.least;
+      most = m.kept.most;
+      size = m.kept.size;
+      inflate = m.inflate;
+      deflate = m.deflate;
+      giving = λ p. omega (arith, m.giving p, ap (λ (v : Place). one_if (is_giving v)) (place p));
+      taking = λ p. omega (arith, m.taking p, ap (λ (v : Place). one_if (is_taking v)) (place p));
+      unreported = λ p. ap is_reporting (place p) ∙ proper_at p (is_in p pages) refl (m.kept.unreported p);
       free = m.free;
       used = λ p covered. place p ∙ m.used p covered;
       reserved = λ p low. place p ∙ reserved_at p (is_in p pages) refl (m.kept.reserved p low);
@@ -107,7 +99,7 @@ kept_changed d areas2 pages to held2 i2 e2 m =
 
 -- pages that are in no held block, and move
 pub record Moves (d : DriverState) (areas2 : FreePages) (pages : List ℕ) (to : Place) (i2 e2 : Side) : Type 0 where
-  pub kept : IsKept d
+  pub kept : IsDriver d
   pub there : (p : ℕ) → is_in p pages ≡ true → p < length d.places
   pub unreserved : (p : ℕ) → is_in p pages ≡ true → is_at Reserved (place_of d.places p) ≡ false
   pub unused : (p : ℕ) → is_in p pages ≡ true → is_used (place_of d.places p) ≡ false
@@ -120,7 +112,7 @@ pub record Moves (d : DriverState) (areas2 : FreePages) (pages : List ℕ) (to :
   pub proper : is_reporting to ≡ false
 
 pub kept_moved : (d : DriverState) (areas2 : FreePages) (pages : List ℕ) (to : Place) (i2 e2 : Side) → Moves d areas2 pages to i2 e2
-    → IsKept (record d { places = placed pages to d.places; areas = areas2; inflate = i2; deflate = e2 })
+    → IsDriver (record d { places = placed pages to d.places; areas = areas2; inflate = i2; deflate = e2 })
 kept_moved d areas2 pages to i2 e2 m =
     kept_changed d areas2 pages to d.held i2 e2 (record {
       kept = m.kept;

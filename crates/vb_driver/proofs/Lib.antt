@@ -6,7 +6,6 @@ pub mod Posting
 pub mod Naming
 pub mod Keeping
 pub mod Moving
-pub mod Refusing
 pub mod Failing
 pub mod Sizes
 pub mod Flags

@@ -16,98 +16,22 @@ use Rattle.vb_model.proofs.GuestSteps.{place_of-reset}
 use Rattle.vb_ram.specs.Pages.{Pages}
 use Rattle.vb_pages.specs.FreePages.{FreePages}
 use Rattle.vb_driver.specs.Places.{is_at}
-use Rattle.vb_driver.specs.State.{Side, DriverState, IsQueue, naming, sent_by, fresh_side, fresh_driver}
-use Rattle.vb_driver.specs.Areas.{flags_of, IsKept, flagged, is_free_at, is_covered}
+use Rattle.vb_driver.specs.State.{Side, DriverState, IsQueue, naming, sent_by, fresh_side, fresh_driver, IsDriver}
+use Rattle.vb_driver.specs.Areas.{flags_of, is_free_at, is_covered}
+use Rattle.vb_driver.specs.Places.{marked}
 use Rattle.vb_driver.specs.Calls.{Posts, lowest_lent, stranded_first, after_reap}
 use Rattle.vb_model.specs.Orderly.{times}
 use Rattle.vb_driver.proofs.Naming.{naming_more, naming_same, naming_less, named_place, named_once, once_lowest, once_append}
 use Rattle.vb_driver.proofs.Flags.{fresh_flags}
-use Rattle.vb_driver.proofs.Keeping.{kept_moved, there_by, free_same, free_flagged}
+use Rattle.vb_driver.proofs.Counting.{at_is}
+use Rattle.vb_driver.proofs.Keeping.{kept_moved, there_by, free_same, free_marked}
 use Rattle.std.proofs.lemmas.List.FromFn.{get_or-map-range_with_len, length-map-range_with_len}
 use Rattle.std.proofs.Common.{nat_lt}
 use Rattle.vb_ring.specs.Layout.{IsSize}
-use Rattle.vb_driver.proofs.Placing.{first_place}
+use Rattle.vb_driver.proofs.Placing.{first_place, or_true}
 use Rattle.vb_driver.proofs.RequestTables.{requests_taken, requests_fresh}
 
 -- ---- tests of places
-
-pub pages_same : (k : ℕ) (f h : Place → Bool) (xs : List Place) → ((x : Place) → f x ≡ h x) → pages_from k f xs ≡ pages_from k h xs
-pages_same k f h [] same = refl
-pages_same k f h (x ∷ xs) same = ap (λ v. cond v (k ∷ pages_from (suc k) f xs) (pages_from (suc k) f xs)) (same x) ∙ ap (λ (l : List ℕ). cond (h x) (k ∷ l) l) (pages_same (suc k) f h xs same)
-
-pub count_same : (f h : Place → Bool) (xs : List Place) → ((x : Place) → f x ≡ h x) → count_by f xs ≡ count_by h xs
-count_same f h [] same = refl
-count_same f h (x ∷ xs) same = count_by-cons f x xs ∙ (ap (λ v. one_if v + count_by f xs) (same x) ∙ (ap (λ n. one_if (h x) + n) (count_same f h xs same) ∙ sym (count_by-cons h x xs)))
-
-pub at_lent : (x : Place) → is_at Lent x ≡ is_lent x
-at_lent Reserved = refl
-at_lent Free = refl
-at_lent Used = refl
-at_lent Giving = refl
-at_lent Lent = refl
-at_lent Taking = refl
-at_lent Stranded = refl
-at_lent Reporting = refl
-
-pub at_stranded : (x : Place) → is_at Stranded x ≡ is_stranded x
-at_stranded Reserved = refl
-at_stranded Free = refl
-at_stranded Used = refl
-at_stranded Giving = refl
-at_stranded Lent = refl
-at_stranded Taking = refl
-at_stranded Stranded = refl
-at_stranded Reporting = refl
-
-pub at_giving : (x : Place) → is_at Giving x ≡ is_giving x
-at_giving Reserved = refl
-at_giving Free = refl
-at_giving Used = refl
-at_giving Giving = refl
-at_giving Lent = refl
-at_giving Taking = refl
-at_giving Stranded = refl
-at_giving Reporting = refl
-
-pub at_free : (x : Place) → is_at Free x ≡ is_free x
-at_free Reserved = refl
-at_free Free = refl
-at_free Used = refl
-at_free Giving = refl
-at_free Lent = refl
-at_free Taking = refl
-at_free Stranded = refl
-at_free Reporting = refl
-
-pub at_used : (x : Place) → is_at Used x ≡ is_used x
-at_used Reserved = refl
-at_used Free = refl
-at_used Used = refl
-at_used Giving = refl
-at_used Lent = refl
-at_used Taking = refl
-at_used Stranded = refl
-at_used Reporting = refl
-
-pub at_taking : (x : Place) → is_at Taking x ≡ is_taking x
-at_taking Reserved = refl
-at_taking Free = refl
-at_taking Used = refl
-at_taking Giving = refl
-at_taking Lent = refl
-at_taking Taking = refl
-at_taking Stranded = refl
-at_taking Reporting = refl
-
-pub at_reporting : (x : Place) → is_at Reporting x ≡ is_reporting x
-at_reporting Reserved = refl
-at_reporting Free = refl
-at_reporting Used = refl
-at_reporting Giving = refl
-at_reporting Lent = refl
-at_reporting Taking = refl
-at_reporting Stranded = refl
-at_reporting Reporting = refl
 
 pub in_balloon_is : (x : Place) → (cond (is_at Lent x) 1 0 + cond (is_at Taking x) 1 0) ≡ cond (is_lent_or_taking x) 1 0
 in_balloon_is Reserved = refl
@@ -122,56 +46,6 @@ in_balloon_is Reporting = refl
 pub count_in_balloon : (xs : List Place) → count_by (is_at Lent) xs + count_by (is_at Taking) xs ≡ count_by is_lent_or_taking xs
 count_in_balloon [] = refl
 count_in_balloon (x ∷ xs) = omega (arith, in_balloon_is x, count_in_balloon xs, sum_by-cons (λ y. cond (is_at Lent y) 1 0) x xs, sum_by-cons (λ y. cond (is_at Taking y) 1 0) x xs, sum_by-cons (λ y. cond (is_lent_or_taking y) 1 0) x xs)
-
-pub lent_is : (x : Place) → is_lent x ≡ true → x ≡ Lent
-lent_is Lent e = refl
-lent_is Reserved e = cc
-lent_is Free e = cc
-lent_is Used e = cc
-lent_is Giving e = cc
-lent_is Taking e = cc
-lent_is Stranded e = cc
-lent_is Reporting e = cc
-
-pub giving_is : (x : Place) → is_giving x ≡ true → x ≡ Giving
-giving_is Giving e = refl
-giving_is Reserved e = cc
-giving_is Free e = cc
-giving_is Used e = cc
-giving_is Lent e = cc
-giving_is Taking e = cc
-giving_is Stranded e = cc
-giving_is Reporting e = cc
-
-pub taking_is : (x : Place) → is_taking x ≡ true → x ≡ Taking
-taking_is Taking e = refl
-taking_is Reserved e = cc
-taking_is Free e = cc
-taking_is Used e = cc
-taking_is Lent e = cc
-taking_is Giving e = cc
-taking_is Stranded e = cc
-taking_is Reporting e = cc
-
-pub stranded_is : (x : Place) → is_stranded x ≡ true → x ≡ Stranded
-stranded_is Stranded e = refl
-stranded_is Reserved e = cc
-stranded_is Free e = cc
-stranded_is Used e = cc
-stranded_is Lent e = cc
-stranded_is Giving e = cc
-stranded_is Taking e = cc
-stranded_is Reporting e = cc
-
-pub free_is : (x : Place) → is_free x ≡ true → x ≡ Free
-free_is Free e = refl
-free_is Reserved e = cc
-free_is Stranded e = cc
-free_is Used e = cc
-free_is Lent e = cc
-free_is Giving e = cc
-free_is Taking e = cc
-free_is Reporting e = cc
 
 pub lowest_is : (places : List Place) (n : ℕ) (test : Place → Bool) (p : ℕ) → is_in p (take n (pages_where test places)) ≡ true → test (place_of places p) ≡ true
 lowest_is places n test p h = pages_where-passes test places p Reserved (is_in-take p n (pages_where test places) h)
@@ -194,23 +68,23 @@ reaped_queue s1 queue size head q = record {
 
 -- ---- lent pages are asked back
 
-pub asked_kept : (m1 m2 : Pages) (d : DriverState) (e2 : Side) (base count head : ℕ) → IsKept d → Posts m1 m2 d.deflate e2 base (lowest_lent d count) head
-    → IsKept (record d { places = placed (lowest_lent d count) Taking d.places; deflate = e2 })
+pub asked_kept : (m1 m2 : Pages) (d : DriverState) (e2 : Side) (base count head : ℕ) → IsDriver d → Posts m1 m2 d.deflate e2 base (lowest_lent d count) head
+    → IsDriver (record d { places = placed (lowest_lent d count) Taking d.places; deflate = e2 })
 asked_kept m1 m2 d e2 base count head kept posts =
     let pages = lowest_lent d count in
-    let lent : (p : ℕ) → is_in p pages ≡ true → place_of d.places p ≡ Lent = λ p here. lent_is (place_of d.places p) (lowest_is d.places count is_lent p here) in
-    let small : head < length d.deflate.sent = omega (arith, posts.small, kept.driver.deflate.requests.buffers) in
+    let lent : (p : ℕ) → is_in p pages ≡ true → place_of d.places p ≡ Lent = λ p here. at_is Lent (place_of d.places p) (lowest_is d.places count is_lent p here) in
+    let small : head < length d.deflate.sent = omega (arith, posts.small, kept.deflate.requests.buffers) in
     let sent : e2.sent ≡ set d.deflate.sent head pages = ap (λ (s : Side). s.sent) posts.state in
     kept_moved d d.areas pages Taking d.inflate e2 (record {
       kept = kept;
       there = λ p here. there_by d.places p is_lent refl (lowest_is d.places count is_lent p here);
       unreserved = λ p here. ap (is_at Reserved) (lent p here);
       unused = λ p here. ap is_used (lent p here);
-      inflate = kept.driver.inflate;
-      deflate = posted_queue m1 m2 d.deflate e2 base 1 d.queue_size head pages kept.driver.deflate posts;
-      giving = λ p. naming_same p pages d.inflate.sent is_giving Taking (place_of d.places p) (kept.driver.giving p) (λ here. ap is_giving (lent p here));
+      inflate = kept.inflate;
+      deflate = posted_queue m1 m2 d.deflate e2 base 1 d.queue_size head pages kept.deflate posts;
+      giving = λ p. naming_same p pages d.inflate.sent is_giving Taking (place_of d.places p) (kept.giving p) (λ here. ap is_giving (lent p here));
       taking = λ p. subst (λ (l : List (List ℕ)). naming p l ≤ one_if (is_taking (cond (is_in p pages) Taking (place_of d.places p)))) (sym sent)
-          (naming_more p head pages d.deflate.sent is_taking Taking (place_of d.places p) small (kept.driver.taking p) (λ here. ap is_taking (lent p here)) (once_lowest p count is_lent d.places) refl);
+          (naming_more p head pages d.deflate.sent is_taking Taking (place_of d.places p) small (kept.taking p) (λ here. ap is_taking (lent p here)) (once_lowest p count is_lent d.places) refl);
       free = kept.free ∙ free_same d.places pages Taking (λ p place is. same_free p place is (is_in p pages) refl lent);
       processors = refl;
       proper = refl;
@@ -230,7 +104,7 @@ stranded_apart d count p others free here = at (is_in p others) refl
     at false e = e
     at true e =
         let yes_ : is_free (place_of d.places p) ≡ true = list_all-at (λ page. is_free (place_of d.places page)) others p free e in
-        let no_ : is_free (place_of d.places p) ≡ false = ap is_free (stranded_is (place_of d.places p) (lowest_is d.places count is_stranded p here)) in
+        let no_ : is_free (place_of d.places p) ≡ false = ap is_free (at_is Stranded (place_of d.places p) (lowest_is d.places count is_stranded p here)) in
         let wrong : true ≡ false = sym yes_ ∙ no_ in
         cc
 
@@ -243,18 +117,18 @@ idle_test : (place : Place) (test : Place → Bool) (b : Bool) → test Stranded
 idle_test place test b s f (idle_stranded e) = ap test e ∙ s
 idle_test place test b s f (idle_free e) = ap test e ∙ f
 
-pub offered_kept : (m1 m2 : Pages) (d : DriverState) (areas2 : FreePages) (i2 : Side) (base count head : ℕ) (others : List ℕ) → IsKept d
-    → list_all (λ page. is_free (place_of d.places page)) others ≡ true → ((p : ℕ) → times p others ≤ 1) → flags_of areas2 ≡ flagged others false (flags_of d.areas) → length areas2.lists ≡ length d.areas.lists
+pub offered_kept : (m1 m2 : Pages) (d : DriverState) (areas2 : FreePages) (i2 : Side) (base count head : ℕ) (others : List ℕ) → IsDriver d
+    → list_all (λ page. is_free (place_of d.places page)) others ≡ true → ((p : ℕ) → times p others ≤ 1) → flags_of areas2 ≡ marked others false (flags_of d.areas) → length areas2.lists ≡ length d.areas.lists
     → Posts m1 m2 d.inflate i2 base (stranded_first d count ++ others) head
-    → IsKept (record d { places = placed (stranded_first d count ++ others) Giving d.places; inflate = i2; areas = areas2 })
+    → IsDriver (record d { places = placed (stranded_first d count ++ others) Giving d.places; inflate = i2; areas = areas2 })
 offered_kept m1 m2 d areas2 i2 base count head others kept free once taken processors posts =
     let first = stranded_first d count in
     let pages = first ++ others in
     let idle : (p : ℕ) → is_in p pages ≡ true → Idle (place_of d.places p) = λ p here. elim (is_in-append p first others here) [
-      | inl f ↦ idle_stranded (stranded_is (place_of d.places p) (lowest_is d.places count is_stranded p f))
-      | inr o ↦ idle_free (free_is (place_of d.places p) (list_all-at (λ page. is_free (place_of d.places page)) others p free o))
+      | inl f ↦ idle_stranded (at_is Stranded (place_of d.places p) (lowest_is d.places count is_stranded p f))
+      | inr o ↦ idle_free (at_is Free (place_of d.places p) (list_all-at (λ page. is_free (place_of d.places page)) others p free o))
     ] in
-    let small : head < length d.inflate.sent = omega (arith, posts.small, kept.driver.inflate.requests.buffers) in
+    let small : head < length d.inflate.sent = omega (arith, posts.small, kept.inflate.requests.buffers) in
     let sent : i2.sent ≡ set d.inflate.sent head pages = ap (λ (s : Side). s.sent) posts.state in
     let once_all : (p : ℕ) → times p pages ≤ 1 = λ p. once_append p first others (once_lowest p count is_stranded d.places) (once p) (stranded_apart d count p others free) in
     kept_moved d areas2 pages Giving i2 d.deflate (record {
@@ -262,12 +136,12 @@ offered_kept m1 m2 d areas2 i2 base count head others kept free once taken proce
       there = λ p here. there_by d.places p (λ v. is_stranded v || is_free v) refl (idle_test (place_of d.places p) (λ v. is_stranded v || is_free v) true refl refl (idle p here));
       unreserved = λ p here. idle_test (place_of d.places p) (is_at Reserved) false refl refl (idle p here);
       unused = λ p here. idle_test (place_of d.places p) is_used false refl refl (idle p here);
-      inflate = posted_queue m1 m2 d.inflate i2 base 0 d.queue_size head pages kept.driver.inflate posts;
-      deflate = kept.driver.deflate;
+      inflate = posted_queue m1 m2 d.inflate i2 base 0 d.queue_size head pages kept.inflate posts;
+      deflate = kept.deflate;
       giving = λ p. subst (λ (l : List (List ℕ)). naming p l ≤ one_if (is_giving (cond (is_in p pages) Giving (place_of d.places p)))) (sym sent)
-          (naming_more p head pages d.inflate.sent is_giving Giving (place_of d.places p) small (kept.driver.giving p) (λ here. idle_test (place_of d.places p) is_giving false refl refl (idle p here)) (once_all p) refl);
-      taking = λ p. naming_same p pages d.deflate.sent is_taking Giving (place_of d.places p) (kept.driver.taking p) (λ here. idle_test (place_of d.places p) is_taking false refl refl (idle p here));
-      free = taken ∙ (ap (flagged others false) kept.free ∙ free_flagged d.places pages others Giving false (λ p place is. agree p place is (is_in p others) (is_in p first) refl refl));
+          (naming_more p head pages d.inflate.sent is_giving Giving (place_of d.places p) small (kept.giving p) (λ here. idle_test (place_of d.places p) is_giving false refl refl (idle p here)) (once_all p) refl);
+      taking = λ p. naming_same p pages d.deflate.sent is_taking Giving (place_of d.places p) (kept.taking p) (λ here. idle_test (place_of d.places p) is_taking false refl refl (idle p here));
+      free = taken ∙ (ap (marked others false) kept.free ∙ free_marked d.places pages others Giving false (λ p place is. agree p place is (is_in p others) (is_in p first) refl refl));
       processors = processors;
       proper = refl;
     })
@@ -275,17 +149,13 @@ offered_kept m1 m2 d areas2 i2 base count head others kept free once taken proce
     in_pages : (p : ℕ) → is_in p (stranded_first d count ++ others) ≡ (is_in p (stranded_first d count) || is_in p others)
     in_pages p = list_any-append (λ m. eqb m p) (stranded_first d count) others
 
-    or_true : (a : Bool) → (a || true) ≡ true
-    or_true true = refl
-    or_true false = refl
-
     agree : (p : ℕ) (place : Place) → place ≡ place_of d.places p → (o f : Bool) → is_in p others ≡ o → is_in p (stranded_first d count) ≡ f
         → cond (is_in p others) false (is_free place) ≡ is_free (cond (is_in p (stranded_first d count ++ others)) Giving place)
     agree p place is true f e g =
         ap (λ v. cond v false (is_free place)) e ∙ sym (ap (λ v. is_free (cond v Giving place)) (in_pages p ∙ (ap (λ v. is_in p (stranded_first d count) || v) e ∙ or_true (is_in p (stranded_first d count)))))
     agree p place is false true e g =
         ap (λ v. cond v false (is_free place)) e
-        ∙ (ap is_free (is ∙ stranded_is (place_of d.places p) (lowest_is d.places count is_stranded p g))
+        ∙ (ap is_free (is ∙ at_is Stranded (place_of d.places p) (lowest_is d.places count is_stranded p g))
         ∙ sym (ap (λ v. is_free (cond v Giving place)) (in_pages p ∙ ap (λ v. v || is_in p others) g)))
     agree p place is false false e g =
         ap (λ v. cond v false (is_free place)) e
@@ -293,21 +163,21 @@ offered_kept m1 m2 d areas2 i2 base count head others kept free once taken proce
 
 -- ---- used requests are reaped
 
-pub lent_kept : (d : DriverState) (head : ℕ) → head < 16 → IsKept d
-    → IsKept (record d { places = placed (sent_by d.inflate head) Lent d.places; inflate = after_reap d.inflate head })
+pub lent_kept : (d : DriverState) (head : ℕ) → head < 16 → IsDriver d
+    → IsDriver (record d { places = placed (sent_by d.inflate head) Lent d.places; inflate = after_reap d.inflate head })
 lent_kept d head lt kept =
     let pages = sent_by d.inflate head in
-    let small : head < length d.inflate.sent = omega (arith, kept.driver.inflate.requests.buffers) in
-    let giving : (p : ℕ) → is_in p pages ≡ true → is_giving (place_of d.places p) ≡ true = λ p here. named_place p head d.inflate.sent is_giving (place_of d.places p) small (kept.driver.giving p) here in
+    let small : head < length d.inflate.sent = omega (arith, kept.inflate.requests.buffers) in
+    let giving : (p : ℕ) → is_in p pages ≡ true → is_giving (place_of d.places p) ≡ true = λ p here. named_place p head d.inflate.sent is_giving (place_of d.places p) small (kept.giving p) here in
     kept_moved d d.areas pages Lent (after_reap d.inflate head) d.deflate (record {
       kept = kept;
       there = λ p here. there_by d.places p is_giving refl (giving p here);
-      unreserved = λ p here. ap (is_at Reserved) (giving_is (place_of d.places p) (giving p here));
-      unused = λ p here. ap is_used (giving_is (place_of d.places p) (giving p here));
-      inflate = reaped_queue d.inflate 0 d.queue_size head kept.driver.inflate;
-      deflate = kept.driver.deflate;
-      giving = λ p. naming_less p head d.inflate.sent is_giving Lent (place_of d.places p) small (kept.driver.giving p);
-      taking = λ p. naming_same p pages d.deflate.sent is_taking Lent (place_of d.places p) (kept.driver.taking p) (λ here. ap is_taking (giving_is (place_of d.places p) (giving p here)));
+      unreserved = λ p here. ap (is_at Reserved) (at_is Giving (place_of d.places p) (giving p here));
+      unused = λ p here. ap is_used (at_is Giving (place_of d.places p) (giving p here));
+      inflate = reaped_queue d.inflate 0 d.queue_size head kept.inflate;
+      deflate = kept.deflate;
+      giving = λ p. naming_less p head d.inflate.sent is_giving Lent (place_of d.places p) small (kept.giving p);
+      taking = λ p. naming_same p pages d.deflate.sent is_taking Lent (place_of d.places p) (kept.taking p) (λ here. ap is_taking (at_is Giving (place_of d.places p) (giving p here)));
       free = kept.free ∙ free_same d.places pages Lent (λ p place is. same_free p place is (is_in p pages) refl giving);
       processors = refl;
       proper = refl;
@@ -315,25 +185,25 @@ lent_kept d head lt kept =
   where
     same_free : (p : ℕ) (place : Place) → place ≡ place_of d.places p → (b : Bool) → is_in p (sent_by d.inflate head) ≡ b → ((q : ℕ) → is_in q (sent_by d.inflate head) ≡ true → is_giving (place_of d.places q) ≡ true)
         → is_free place ≡ is_free (cond (is_in p (sent_by d.inflate head)) Lent place)
-    same_free p place is true e giving = ap is_free (is ∙ giving_is (place_of d.places p) (giving p e)) ∙ sym (ap (λ v. is_free (cond v Lent place)) e)
+    same_free p place is true e giving = ap is_free (is ∙ at_is Giving (place_of d.places p) (giving p e)) ∙ sym (ap (λ v. is_free (cond v Lent place)) e)
     same_free p place is false e giving = sym (ap (λ v. is_free (cond v Lent place)) e)
 
-pub freed_kept : (d : DriverState) (areas2 : FreePages) (head : ℕ) → head < 16 → IsKept d → flags_of areas2 ≡ flagged (sent_by d.deflate head) true (flags_of d.areas) → length areas2.lists ≡ length d.areas.lists
-    → IsKept (record d { places = placed (sent_by d.deflate head) Free d.places; deflate = after_reap d.deflate head; areas = areas2 })
+pub freed_kept : (d : DriverState) (areas2 : FreePages) (head : ℕ) → head < 16 → IsDriver d → flags_of areas2 ≡ marked (sent_by d.deflate head) true (flags_of d.areas) → length areas2.lists ≡ length d.areas.lists
+    → IsDriver (record d { places = placed (sent_by d.deflate head) Free d.places; deflate = after_reap d.deflate head; areas = areas2 })
 freed_kept d areas2 head lt kept given processors =
     let pages = sent_by d.deflate head in
-    let small : head < length d.deflate.sent = omega (arith, kept.driver.deflate.requests.buffers) in
-    let taking : (p : ℕ) → is_in p pages ≡ true → is_taking (place_of d.places p) ≡ true = λ p here. named_place p head d.deflate.sent is_taking (place_of d.places p) small (kept.driver.taking p) here in
+    let small : head < length d.deflate.sent = omega (arith, kept.deflate.requests.buffers) in
+    let taking : (p : ℕ) → is_in p pages ≡ true → is_taking (place_of d.places p) ≡ true = λ p here. named_place p head d.deflate.sent is_taking (place_of d.places p) small (kept.taking p) here in
     kept_moved d areas2 pages Free d.inflate (after_reap d.deflate head) (record {
       kept = kept;
       there = λ p here. there_by d.places p is_taking refl (taking p here);
-      unreserved = λ p here. ap (is_at Reserved) (taking_is (place_of d.places p) (taking p here));
-      unused = λ p here. ap is_used (taking_is (place_of d.places p) (taking p here));
-      inflate = kept.driver.inflate;
-      deflate = reaped_queue d.deflate 1 d.queue_size head kept.driver.deflate;
-      giving = λ p. naming_same p pages d.inflate.sent is_giving Free (place_of d.places p) (kept.driver.giving p) (λ here. ap is_giving (taking_is (place_of d.places p) (taking p here)));
-      taking = λ p. naming_less p head d.deflate.sent is_taking Free (place_of d.places p) small (kept.driver.taking p);
-      free = given ∙ (ap (flagged pages true) kept.free ∙ free_flagged d.places pages pages Free true (λ p place is. agree place (is_in p pages)));
+      unreserved = λ p here. ap (is_at Reserved) (at_is Taking (place_of d.places p) (taking p here));
+      unused = λ p here. ap is_used (at_is Taking (place_of d.places p) (taking p here));
+      inflate = kept.inflate;
+      deflate = reaped_queue d.deflate 1 d.queue_size head kept.deflate;
+      giving = λ p. naming_same p pages d.inflate.sent is_giving Free (place_of d.places p) (kept.giving p) (λ here. ap is_giving (at_is Taking (place_of d.places p) (taking p here)));
+      taking = λ p. naming_less p head d.deflate.sent is_taking Free (place_of d.places p) small (kept.taking p);
+      free = given ∙ (ap (marked pages true) kept.free ∙ free_marked d.places pages pages Free true (λ p place is. agree place (is_in p pages)));
       processors = processors;
       proper = refl;
     })
@@ -388,33 +258,33 @@ offered_inside d count p others free here = elim (is_in-append p (stranded_first
 
 -- ---- the pages of a request that is out
 
-pub lent_inside : (d : DriverState) (head p : ℕ) → head < 16 → IsKept d → is_in p (sent_by d.inflate head) ≡ true → p < length d.places
+pub lent_inside : (d : DriverState) (head p : ℕ) → head < 16 → IsDriver d → is_in p (sent_by d.inflate head) ≡ true → p < length d.places
 lent_inside d head p lt kept here =
-    there_by d.places p is_giving refl (named_place p head d.inflate.sent is_giving (place_of d.places p) (omega (arith, kept.driver.inflate.requests.buffers)) (kept.driver.giving p) here)
+    there_by d.places p is_giving refl (named_place p head d.inflate.sent is_giving (place_of d.places p) (omega (arith, kept.inflate.requests.buffers)) (kept.giving p) here)
 
-pub freed_taking : (d : DriverState) (head p : ℕ) → head < 16 → IsKept d → is_in p (sent_by d.deflate head) ≡ true → place_of d.places p ≡ Taking
+pub freed_taking : (d : DriverState) (head p : ℕ) → head < 16 → IsDriver d → is_in p (sent_by d.deflate head) ≡ true → place_of d.places p ≡ Taking
 freed_taking d head p lt kept here =
-    taking_is (place_of d.places p) (named_place p head d.deflate.sent is_taking (place_of d.places p) (omega (arith, kept.driver.deflate.requests.buffers)) (kept.driver.taking p) here)
+    at_is Taking (place_of d.places p) (named_place p head d.deflate.sent is_taking (place_of d.places p) (omega (arith, kept.deflate.requests.buffers)) (kept.taking p) here)
 
-pub freed_once : (d : DriverState) (head p : ℕ) → head < 16 → IsKept d → times p (sent_by d.deflate head) ≤ 1
-freed_once d head p lt kept = named_once p head d.deflate.sent is_taking (place_of d.places p) (omega (arith, kept.driver.deflate.requests.buffers)) (kept.driver.taking p)
+pub freed_once : (d : DriverState) (head p : ℕ) → head < 16 → IsDriver d → times p (sent_by d.deflate head) ≤ 1
+freed_once d head p lt kept = named_once p head d.deflate.sent is_taking (place_of d.places p) (omega (arith, kept.deflate.requests.buffers)) (kept.taking p)
 
-pub freed_uncovered : (d : DriverState) (p : ℕ) → IsKept d → place_of d.places p ≡ Taking → is_covered p d.held ≡ false
+pub freed_uncovered : (d : DriverState) (p : ℕ) → IsDriver d → place_of d.places p ≡ Taking → is_covered p d.held ≡ false
 freed_uncovered d p kept is = at (is_covered p d.held) refl
   where
     at : (b : Bool) → is_covered p d.held ≡ b → is_covered p d.held ≡ false
     at false e = e
     at true e = (let wrong : true ≡ false = sym (ap is_used (kept.used p e)) ∙ ap is_used is in cc)
 
-pub freed_unfree : (d : DriverState) (p : ℕ) → IsKept d → place_of d.places p ≡ Taking → is_free_at (flags_of d.areas) p ≡ false
+pub freed_unfree : (d : DriverState) (p : ℕ) → IsDriver d → place_of d.places p ≡ Taking → is_free_at (flags_of d.areas) p ≡ false
 freed_unfree d p kept is = free_is_place d.places (flags_of d.areas) p kept.free ∙ ap is_free is
 
-pub freed_inside : (d : DriverState) (p : ℕ) → IsKept d → place_of d.places p ≡ Taking → (p < length (flags_of d.areas)) × (p < length d.places)
+pub freed_inside : (d : DriverState) (p : ℕ) → IsDriver d → place_of d.places p ≡ Taking → (p < length (flags_of d.areas)) × (p < length d.places)
 freed_inside d p kept is =
     let inside : p < length d.places = there_by d.places p is_taking refl (ap is_taking is) in
     (omega (arith, ap length kept.free, length-map d.places is_free), inside)
 
-pub freed_unreserved : (d : DriverState) (p : ℕ) → IsKept d → place_of d.places p ≡ Taking → 16 ≤ p
+pub freed_unreserved : (d : DriverState) (p : ℕ) → IsDriver d → place_of d.places p ≡ Taking → 16 ≤ p
 freed_unreserved d p kept is = elim (cases_lt p 16) [
   | inl low ↦ (let wrong : true ≡ false = sym (ap is_taking is) ∙ ap is_taking (kept.reserved p low) in cc)
   | inr far ↦ far
@@ -459,22 +329,20 @@ fresh_queue queue size = record {
   size = refl;
 }
 
-pub reset_kept : (d : DriverState) (features : ℕ) → IsKept d
-    → IsKept (record d { places = map place_after_reset d.places; inflate = fresh_side 0 d.queue_size; deflate = fresh_side 1 d.queue_size; features = features })
+pub reset_kept : (d : DriverState) (features : ℕ) → IsDriver d
+    → IsDriver (record d { places = map place_after_reset d.places; inflate = fresh_side 0 d.queue_size; deflate = fresh_side 1 d.queue_size; features = features })
 reset_kept d features kept =
     record {
-      driver = record {
-        table = length-map d.places place_after_reset ∙ kept.driver.table;
-        least = kept.driver.least;
-        most = kept.driver.most;
-        size = kept.driver.size;
-        inflate = fresh_queue 0 d.queue_size;
-        deflate = fresh_queue 1 d.queue_size;
-        giving = λ p. omega (arith, naming_none p 16);
-        taking = λ p. omega (arith, naming_none p 16);
-        unreported = λ p. ap is_reporting (place_of-reset d.places p) ∙ reported_after (place_of d.places p) (kept.driver.unreported p);
-      };
-      free = kept.free ∙ sym (free_all_after d.places kept.driver.unreported);
+      table = length-map d.places place_after_reset ∙ kept.table;
+      least = kept.least;
+      most = kept.most;
+      size = kept.size;
+      inflate = fresh_queue 0 d.queue_size;
+      deflate = fresh_queue 1 d.queue_size;
+      giving = λ p. omega (arith, naming_none p 16);
+      taking = λ p. omega (arith, naming_none p 16);
+      unreported = λ p. ap is_reporting (place_of-reset d.places p) ∙ reported_after (place_of d.places p) (kept.unreported p);
+      free = kept.free ∙ sym (free_all_after d.places kept.unreported);
       used = λ p covered. place_of-reset d.places p ∙ ap place_after_reset (kept.used p covered);
       reserved = λ p low. place_of-reset d.places p ∙ ap place_after_reset (kept.reserved p low);
       processors = kept.processors;
@@ -499,20 +367,18 @@ reserved_first n p low = elim (cases_lt p n) [
 ]
 
 pub fresh_kept : (pages size processors f : ℕ) → 64 ≤ pages → pages ≤ 16384 → IsSize size
-    → IsKept (record (fresh_driver pages size processors) { features = f })
+    → IsDriver (record (fresh_driver pages size processors) { features = f })
 fresh_kept pages size processors f least most sized =
     record {
-      driver = record {
-        table = length-map-range_with_len first_place 0 pages;
-        least = least;
-        most = most;
-        size = sized;
-        inflate = fresh_queue 0 size;
-        deflate = fresh_queue 1 size;
-        giving = λ p. omega (arith, naming_none p 16);
-        taking = λ p. omega (arith, naming_none p 16);
-        unreported = reported_never pages;
-      };
+      table = length-map-range_with_len first_place 0 pages;
+      least = least;
+      most = most;
+      size = sized;
+      inflate = fresh_queue 0 size;
+      deflate = fresh_queue 1 size;
+      giving = λ p. omega (arith, naming_none p 16);
+      taking = λ p. omega (arith, naming_none p 16);
+      unreported = reported_never pages;
       free = fresh_flags pages processors;
       used = λ p covered. (let wrong : false ≡ true = covered in cc);
       reserved = reserved_first pages;

@@ -17,13 +17,15 @@ use Rattle.vb_pages.specs.FreePages.{FreePages}
 use Rattle.vb_pages.specs.PageState.{PageState}
 use Rattle.vb_pages.proofs.Sets.{in_block}
 use Rattle.vb_driver.specs.Places.{is_at}
-use Rattle.vb_driver.specs.State.{DriverState, page_state}
+use Rattle.vb_driver.specs.State.{DriverState, page_state, IsDriver}
 use Rattle.vb_driver.specs.Answers.{block_at, alloc_tests}
-use Rattle.vb_driver.specs.Areas.{flags_of, AreApart, Becomes, IsKept, is_free_at, is_covered, is_free_block, flagged}
+use Rattle.vb_driver.specs.Areas.{flags_of, AreApart, Becomes, is_free_at, is_covered, is_free_block}
+use Rattle.vb_driver.specs.Places.{marked}
 use Rattle.vb_driver.proofs.Naming.{naming_same}
-use Rattle.vb_driver.proofs.Keeping.{kept_changed, there_by, free_flagged}
-use Rattle.vb_driver.proofs.Flags.{flagged_at}
-use Rattle.vb_driver.proofs.Moving.{free_is_place, free_is, list_all_same}
+use Rattle.vb_driver.proofs.Keeping.{kept_changed, there_by, free_marked}
+use Rattle.vb_driver.proofs.Placing.{marked-get}
+use Rattle.vb_driver.proofs.Moving.{free_is_place, list_all_same}
+use Rattle.vb_driver.proofs.Counting.{at_is}
 
 -- ---- free blocks
 
@@ -35,14 +37,14 @@ pub whole_is : (places : List Place) (free : List Bool) (b : Block) → free ≡
 whole_is places free b is = ap (λ (v : Bool). is_aligned b && v) (list_all_same (is_free_at free) (λ page. is_free (place_of places page)) (pages_of b) (λ p. free_is_place places free p is))
 
 -- a block of the areas is one of the driver
-pub blocks_same : (d : DriverState) (order : ℕ) → IsKept d
+pub blocks_same : (d : DriverState) (order : ℕ) → IsDriver d
     → list_any (λ start. is_free_block (flags_of d.areas) (block_at start order)) (range_with_len 0 (length (flags_of d.areas))) ≡ list_any (λ start. is_wholly_free d.places (block_at start order)) (range_with_len 0 d.pages)
 blocks_same d order kept =
-    ap (λ (n : ℕ). list_any (λ start. is_free_block (flags_of d.areas) (block_at start order)) (range_with_len 0 n)) (ap length kept.free ∙ (length-map d.places is_free ∙ kept.driver.table))
+    ap (λ (n : ℕ). list_any (λ start. is_free_block (flags_of d.areas) (block_at start order)) (range_with_len 0 n)) (ap length kept.free ∙ (length-map d.places is_free ∙ kept.table))
     ∙ list_any_same (λ start. is_free_block (flags_of d.areas) (block_at start order)) (λ start. is_wholly_free d.places (block_at start order)) (range_with_len 0 d.pages) (λ start. whole_is d.places (flags_of d.areas) (block_at start order) kept.free)
 
 -- the areas refuse an allocation as the driver does
-pub alloc_tests_same : (d : DriverState) (cpu order : ℕ) → IsKept d
+pub alloc_tests_same : (d : DriverState) (cpu order : ℕ) → IsDriver d
     → first_refusal ((nat_lt 9 order ⇒ BadOrder) ∷ (nat_le (length d.areas.lists) cpu ⇒ BadCpu) ∷ (not (list_any (λ start. is_free_block (flags_of d.areas) (block_at start order)) (range_with_len 0 (length (flags_of d.areas)))) ⇒ NoPages) ∷ []) ≡ first_refusal (alloc_tests d cpu order)
 alloc_tests_same d cpu order kept =
     let some = list_any (λ start. is_free_block (flags_of d.areas) (block_at start order)) (range_with_len 0 (length (flags_of d.areas))) in
@@ -99,17 +101,17 @@ covered_held p b (x ∷ held) found covered =
 -- ---- a block is allocated
 
 -- each page of a free block is free
-block_free : (d : DriverState) (b : Block) (p : ℕ) → IsKept d → is_free_block (flags_of d.areas) b ≡ true → is_in p (pages_of b) ≡ true → place_of d.places p ≡ Free
+block_free : (d : DriverState) (b : Block) (p : ℕ) → IsDriver d → is_free_block (flags_of d.areas) b ≡ true → is_in p (pages_of b) ≡ true → place_of d.places p ≡ Free
 block_free d b p kept whole here =
     let all = (and_parts (is_aligned b) (list_all (is_free_at (flags_of d.areas)) (pages_of b)) whole).1 in
-    free_is (place_of d.places p) (sym (free_is_place d.places (flags_of d.areas) p kept.free) ∙ list_all-at (is_free_at (flags_of d.areas)) (pages_of b) p all here)
+    at_is Free (place_of d.places p) (sym (free_is_place d.places (flags_of d.areas) p kept.free) ∙ list_all-at (is_free_at (flags_of d.areas)) (pages_of b) p all here)
 
-pub free_block_inside : (d : DriverState) (b : Block) → IsKept d → is_free_block (flags_of d.areas) b ≡ true → b.start + 2 ^ b.order ≤ length d.places
+pub free_block_inside : (d : DriverState) (b : Block) → IsDriver d → is_free_block (flags_of d.areas) b ≡ true → b.start + 2 ^ b.order ≤ length d.places
 free_block_inside d b kept whole = block_inside (length d.places) b (λ p here. there_by d.places p is_free refl (ap is_free (block_free d b p kept whole here)))
 
-pub allocated_kept : (d : DriverState) (areas2 : FreePages) (b : Block) → IsKept d → is_free_block (flags_of d.areas) b ≡ true
-    → flags_of areas2 ≡ flagged (pages_of b) false (flags_of d.areas) → length areas2.lists ≡ length d.areas.lists
-    → IsKept (record d { places = placed (pages_of b) Used d.places; held = with_block b d.held; areas = areas2 })
+pub allocated_kept : (d : DriverState) (areas2 : FreePages) (b : Block) → IsDriver d → is_free_block (flags_of d.areas) b ≡ true
+    → flags_of areas2 ≡ marked (pages_of b) false (flags_of d.areas) → length areas2.lists ≡ length d.areas.lists
+    → IsDriver (record d { places = placed (pages_of b) Used d.places; held = with_block b d.held; areas = areas2 })
 allocated_kept d areas2 b kept whole taken processors =
     let pages = pages_of b in
     let free : (p : ℕ) → is_in p pages ≡ true → place_of d.places p ≡ Free = λ p here. block_free d b p kept whole here in
@@ -117,11 +119,11 @@ allocated_kept d areas2 b kept whole taken processors =
       kept = kept;
       there = λ p here. there_by d.places p is_free refl (ap is_free (free p here));
       unreserved = λ p here. ap (is_at Reserved) (free p here);
-      inflate = kept.driver.inflate;
-      deflate = kept.driver.deflate;
-      giving = λ p. naming_same p pages d.inflate.sent is_giving Used (place_of d.places p) (kept.driver.giving p) (λ here. ap is_giving (free p here));
-      taking = λ p. naming_same p pages d.deflate.sent is_taking Used (place_of d.places p) (kept.driver.taking p) (λ here. ap is_taking (free p here));
-      free = taken ∙ (ap (flagged pages false) kept.free ∙ free_flagged d.places pages pages Used false (λ p place is. agree place (is_in p pages)));
+      inflate = kept.inflate;
+      deflate = kept.deflate;
+      giving = λ p. naming_same p pages d.inflate.sent is_giving Used (place_of d.places p) (kept.giving p) (λ here. ap is_giving (free p here));
+      taking = λ p. naming_same p pages d.deflate.sent is_taking Used (place_of d.places p) (kept.taking p) (λ here. ap is_taking (free p here));
+      free = taken ∙ (ap (marked pages false) kept.free ∙ free_marked d.places pages pages Used false (λ p place is. agree place (is_in p pages)));
       processors = processors;
       proper = refl;
       used = λ p covered. used_at p (is_in p pages) refl (sym (covered_with p b d.held) ∙ covered);
@@ -136,19 +138,17 @@ allocated_kept d areas2 b kept whole taken processors =
     used_at p false e covered = ap (λ (v : Bool). cond v Used (place_of d.places p)) e ∙ kept.used p (ap (λ (v : Bool). v || is_covered p d.held) (sym (covers_is p b false e)) ∙ covered)
 
 -- a block is refused, though lists may be drained
-pub unallocated_kept : (d : DriverState) (new : PageState) → IsKept d → Becomes (page_state d) new (flags_of d.areas) d.held → IsKept (record d { held = new.held; areas = new.free })
+pub unallocated_kept : (d : DriverState) (new : PageState) → IsDriver d → Becomes (page_state d) new (flags_of d.areas) d.held → IsDriver (record d { held = new.held; areas = new.free })
 unallocated_kept d new kept becomes = record {
-  driver = record {
-    table = kept.driver.table;
-    least = kept.driver.least;
-    most = kept.driver.most;
-    size = kept.driver.size;
-    inflate = kept.driver.inflate;
-    deflate = kept.driver.deflate;
-    giving = kept.driver.giving;
-    taking = kept.driver.taking;
-    unreported = kept.driver.unreported;
-  };
+  table = kept.table;
+  least = kept.least;
+  most = kept.most;
+  size = kept.size;
+  inflate = kept.inflate;
+  deflate = kept.deflate;
+  giving = kept.giving;
+  taking = kept.taking;
+  unreported = kept.unreported;
   free = becomes.free ∙ kept.free;
   used = λ p covered. kept.used p (ap (is_covered p) (sym becomes.held) ∙ covered);
   reserved = kept.reserved;
@@ -158,10 +158,10 @@ unallocated_kept d new kept becomes = record {
 -- ---- a block is freed
 
 -- each page of a held block is used
-block_used : (d : DriverState) (b : Block) (p : ℕ) → IsKept d → list_any (λ h. is_same_block h b) d.held ≡ true → is_in p (pages_of b) ≡ true → place_of d.places p ≡ Used
+block_used : (d : DriverState) (b : Block) (p : ℕ) → IsDriver d → list_any (λ h. is_same_block h b) d.held ≡ true → is_in p (pages_of b) ≡ true → place_of d.places p ≡ Used
 block_used d b p kept held here = kept.used p (covered_held p b d.held held (covers_is p b true here))
 
-pub held_block_inside : (d : DriverState) (b : Block) → IsKept d → list_any (λ h. is_same_block h b) d.held ≡ true → b.start + 2 ^ b.order ≤ length d.places
+pub held_block_inside : (d : DriverState) (b : Block) → IsDriver d → list_any (λ h. is_same_block h b) d.held ≡ true → b.start + 2 ^ b.order ≤ length d.places
 held_block_inside d b kept held = block_inside (length d.places) b (λ p here. there_by d.places p is_used refl (ap is_used (block_used d b p kept held here)))
 
 -- what a free that isn't refused gave back was held
@@ -174,9 +174,9 @@ freed_was_held held b processors cpu e = at (nat_lt 9 b.order) (nat_le processor
     at false false true e = refl
     at false false false e = cc
 
-pub block_freed_kept : (d : DriverState) (new : PageState) (b : Block) → IsKept d → list_any (λ h. is_same_block h b) d.held ≡ true
-    → flags_of new.free ≡ flagged (pages_of b) true (flags_of d.areas) → new.held ≡ without_block b d.held → length new.free.lists ≡ length d.areas.lists → AreApart new
-    → IsKept (record d { places = placed (pages_of b) Free d.places; held = without_block b d.held; areas = new.free })
+pub block_freed_kept : (d : DriverState) (new : PageState) (b : Block) → IsDriver d → list_any (λ h. is_same_block h b) d.held ≡ true
+    → flags_of new.free ≡ marked (pages_of b) true (flags_of d.areas) → new.held ≡ without_block b d.held → length new.free.lists ≡ length d.areas.lists → AreApart new
+    → IsDriver (record d { places = placed (pages_of b) Free d.places; held = without_block b d.held; areas = new.free })
 block_freed_kept d new b kept held given rest processors apart =
     let pages = pages_of b in
     let used : (p : ℕ) → is_in p pages ≡ true → place_of d.places p ≡ Used = λ p here. block_used d b p kept held here in
@@ -184,11 +184,11 @@ block_freed_kept d new b kept held given rest processors apart =
       kept = kept;
       there = λ p here. there_by d.places p is_used refl (ap is_used (used p here));
       unreserved = λ p here. ap (is_at Reserved) (used p here);
-      inflate = kept.driver.inflate;
-      deflate = kept.driver.deflate;
-      giving = λ p. naming_same p pages d.inflate.sent is_giving Free (place_of d.places p) (kept.driver.giving p) (λ here. ap is_giving (used p here));
-      taking = λ p. naming_same p pages d.deflate.sent is_taking Free (place_of d.places p) (kept.driver.taking p) (λ here. ap is_taking (used p here));
-      free = given ∙ (ap (flagged pages true) kept.free ∙ free_flagged d.places pages pages Free true (λ p place is. agree place (is_in p pages)));
+      inflate = kept.inflate;
+      deflate = kept.deflate;
+      giving = λ p. naming_same p pages d.inflate.sent is_giving Free (place_of d.places p) (kept.giving p) (λ here. ap is_giving (used p here));
+      taking = λ p. naming_same p pages d.deflate.sent is_taking Free (place_of d.places p) (kept.taking p) (λ here. ap is_taking (used p here));
+      free = given ∙ (ap (marked pages true) kept.free ∙ free_marked d.places pages pages Free true (λ p place is. agree place (is_in p pages)));
       processors = processors;
       proper = refl;
       used = λ p covered. used_at p (is_in p pages) refl covered (used p);
@@ -201,7 +201,7 @@ block_freed_kept d new b kept held given rest processors apart =
     used_at : (p : ℕ) (v : Bool) → is_in p (pages_of b) ≡ v → is_covered p (without_block b d.held) ≡ true → (is_in p (pages_of b) ≡ true → place_of d.places p ≡ Used) → cond (is_in p (pages_of b)) Free (place_of d.places p) ≡ Used
     used_at p true e covered used =
         let inside : p < length (flags_of d.areas) = omega (arith, ap length kept.free, length-map d.places is_free, there_by d.places p is_used refl (ap is_used (used e))) in
-        let free : is_free_at (flags_of new.free) p ≡ true = ap (λ (l : List Bool). is_free_at l p) given ∙ (flagged_at (pages_of b) true (flags_of d.areas) p inside ∙ ap (λ (v : Bool). cond v true (is_free_at (flags_of d.areas) p)) e) in
+        let free : is_free_at (flags_of new.free) p ≡ true = ap (λ (l : List Bool). is_free_at l p) given ∙ (marked-get (pages_of b) true (flags_of d.areas) p false inside ∙ ap (λ (v : Bool). cond v true (is_free_at (flags_of d.areas) p)) e) in
         let unfree : is_free_at (flags_of new.free) p ≡ false = apart.apart p (ap (is_covered p) rest ∙ covered) in
         absurd (both_ways (is_free_at (flags_of new.free) p) unfree free)
     used_at p false e covered used = ap (λ (v : Bool). cond v Free (place_of d.places p)) e ∙ kept.used p (covered_without p b d.held covered)

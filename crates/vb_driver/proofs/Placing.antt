@@ -9,49 +9,54 @@ use Rattle.vb_model.specs.declared.places.Place.{Place}
 use Rattle.vb_model.specs.declared.places.Place.TheVariants.{Reserved, Free}
 use Rattle.vb_model.specs.Tests.{is_in, pages_from, pages_where}
 use Rattle.vb_model.specs.Pages.{placed, all_free}
-use Rattle.vb_driver.specs.Places.{number_of, is_at}
+use Rattle.vb_driver.proofs.Counting.{at_number}
+use Rattle.vb_driver.specs.Places.{marked, number_of, is_at}
 use Rattle.vb_model.proofs.Tables.{length-each_from, each_page-get}
 
--- ---- some pages to one place
+-- ---- some pages of a table have one value
 
-pub length-placed : (pages : List ℕ) (place : Place) (ps : List Place) → length (placed pages place ps) ≡ length ps
-length-placed pages place ps = length-each_from 0 (λ page old. if is_in page pages then place else old) ps
+pub length-marked : {A : Type 0} (pages : List ℕ) (value : A) (table : List A) → length (marked pages value table) ≡ length table
+length-marked pages value table = length-each_from 0 (λ page old. if is_in page pages then value else old) table
 
-pub placed-get : (pages : List ℕ) (place : Place) (ps : List Place) (k : ℕ) (d : Place) → k < length ps → get_or (placed pages place ps) k d ≡ cond (is_in k pages) place (get_or ps k d)
-placed-get pages place ps k d lt = each_page-get (λ page old. if is_in page pages then place else old) ps k d (λ far. absurd (omega arith))
+pub marked-get : {A : Type 0} (pages : List ℕ) (value : A) (table : List A) (k : ℕ) (d : A) → k < length table → get_or (marked pages value table) k d ≡ cond (is_in k pages) value (get_or table k d)
+marked-get pages value table k d lt = each_page-get (λ page old. if is_in page pages then value else old) table k d (λ far. absurd (omega arith))
 
 pub is_in-push : (k : ℕ) (xs : List ℕ) (x : ℕ) → is_in k (xs ++ x ∷ []) ≡ (is_in k xs || (eqb x k || false))
 is_in-push k xs x = list_any-append (λ m. eqb m k) xs (x ∷ [])
 
-or_false : (a : Bool) → (a || (false || false)) ≡ a
+pub or_false : (a : Bool) → (a || false) ≡ a
 or_false true = refl
 or_false false = refl
 
-or_true : (a : Bool) → (a || (true || false)) ≡ true
+pub or_true : (a : Bool) → (a || true) ≡ true
 or_true true = refl
 or_true false = refl
 
 -- one page more
-pub placed_more : (xs : List ℕ) (x : ℕ) (place : Place) (ps : List Place) → x < length ps → placed (xs ++ x ∷ []) place ps ≡ set (placed xs place ps) x place
-placed_more xs x place ps lt =
-    let all = placed (xs ++ x ∷ []) place ps in
-    let before = placed xs place ps in
-    let n1 : length all ≡ length ps = length-placed (xs ++ x ∷ []) place ps in
-    let n2 : length before ≡ length ps = length-placed xs place ps in
-    same_lists all (set before x place) (omega (arith, length-set before x place)) (λ k d near.
-    let inside : k < length ps = omega arith in
-    let left : get_or all k d ≡ cond (is_in k (xs ++ x ∷ [])) place (get_or ps k d) = placed-get (xs ++ x ∷ []) place ps k d inside in
+pub marked_more : {A : Type 0} (xs : List ℕ) (x : ℕ) (value : A) (table : List A) → x < length table → marked (xs ++ x ∷ []) value table ≡ set (marked xs value table) x value
+marked_more xs x value table lt =
+    let all = marked (xs ++ x ∷ []) value table in
+    let before = marked xs value table in
+    let n1 : length all ≡ length table = length-marked (xs ++ x ∷ []) value table in
+    let n2 : length before ≡ length table = length-marked xs value table in
+    same_lists all (set before x value) (omega (arith, length-set before x value)) (λ k d near.
+    let inside : k < length table = omega arith in
+    let left : get_or all k d ≡ cond (is_in k (xs ++ x ∷ [])) value (get_or table k d) = marked-get (xs ++ x ∷ []) value table k d inside in
     elim (cases_eq k x) [
       | inl same ↦
           let hit : is_in k (xs ++ x ∷ []) ≡ true = is_in-push k xs x ∙ (ap (λ v. is_in k xs || (v || false)) (eq-eqb x k (sym same)) ∙ or_true (is_in k xs)) in
-          left ∙ (ap (λ v. cond v place (get_or ps k d)) hit ∙ sym (ap (λ n. get_or (set before x place) n d) same ∙ get_or-set_same before x place d (omega arith)))
+          left ∙ (ap (λ v. cond v value (get_or table k d)) hit ∙ sym (ap (λ n. get_or (set before x value) n d) same ∙ get_or-set_same before x value d (omega arith)))
       | inr ne ↦
           let miss : is_in k (xs ++ x ∷ []) ≡ is_in k xs = is_in-push k xs x ∙ (ap (λ v. is_in k xs || (v || false)) (ne_eqb x k (λ e. ne (sym e))) ∙ or_false (is_in k xs)) in
-          left ∙ (ap (λ v. cond v place (get_or ps k d)) miss ∙ (sym (placed-get xs place ps k d inside) ∙ sym (get_or-set_other before x k place d ne)))
+          left ∙ (ap (λ v. cond v value (get_or table k d)) miss ∙ (sym (marked-get xs value table k d inside) ∙ sym (get_or-set_other before x k value d ne)))
     ])
 
-pub placed_none : (place : Place) (ps : List Place) → placed [] place ps ≡ ps
-placed_none place ps = same_lists (placed [] place ps) ps (length-placed [] place ps) (λ k d near. placed-get [] place ps k d (omega (arith, length-placed [] place ps)))
+pub marked_none : {A : Type 0} (value : A) (table : List A) → marked [] value table ≡ table
+marked_none value table = same_lists (marked [] value table) table (length-marked [] value table) (λ k d near. marked-get [] value table k d (omega (arith, length-marked [] value table)))
+
+-- one page alone
+pub marked_one : {A : Type 0} (x : ℕ) (value : A) (table : List A) → x < length table → marked (x ∷ []) value table ≡ set table x value
+marked_one x value table lt = marked_more [] x value table lt ∙ ap (λ (l : List _). set l x value) (marked_none value table)
 
 -- a block's pages, up to the next
 pub range_push : (start k : ℕ) → range_with_len start (suc k) ≡ range_with_len start k ++ (start + k) ∷ []
@@ -66,7 +71,7 @@ placed_next start page place ps from lt =
     let k = page - start in
     let here : start + k ≡ page = omega arith in
     let next : suc k ≡ page + 1 - start = omega arith in
-    sym (placed_more (range_with_len start k) page place ps lt)
+    sym (marked_more (range_with_len start k) page place ps lt)
     ∙ ap (λ (l : List ℕ). placed l place ps) (ap (λ (n : ℕ). range_with_len start k ++ n ∷ []) (sym here) ∙ (sym (range_push start k) ∙ ap (λ (n : ℕ). range_with_len start n) next))
 
 -- ---- each page to a place of its own
@@ -148,7 +153,7 @@ pub scan_hits : (items : List ℕ) (most i : ℕ) (place x : Place) (places : Li
 scan_hits items most i place x places lt here same so_far few =
     let found = pages_where (is_at place) (take i places) in
     let size : length items ≡ length (take most found) = ap length so_far in
-    let one : cond (is_at place (get_or places i x)) (i ∷ []) [] ≡ i ∷ [] = ap (λ v. cond v (i ∷ []) []) (ap (is_at place) (sym here) ∙ eq-eqb (number_of x) (number_of place) same) in
+    let one : cond (is_at place (get_or places i x)) (i ∷ []) [] ≡ i ∷ [] = ap (λ v. cond v (i ∷ []) []) (ap (is_at place) (sym here) ∙ (sym (at_number place x) ∙ eq-eqb (number_of x) (number_of place) same)) in
     ap (λ l. l ++ i ∷ []) so_far
     ∙ (sym (take_push most found i (omega arith))
     ∙ sym (ap (take most) (pages_more (is_at place) places i x lt ∙ ap (λ l. found ++ l) one)))
@@ -157,7 +162,7 @@ pub scan_misses : (items : List ℕ) (most i : ℕ) (place x : Place) (places : 
     → items ≡ take most (pages_where (is_at place) (take i places)) → items ≡ take most (pages_where (is_at place) (take (i + 1) places))
 scan_misses items most i place x places lt here other so_far =
     let found = pages_where (is_at place) (take i places) in
-    let none : cond (is_at place (get_or places i x)) (i ∷ []) [] ≡ [] = ap (λ v. cond v (i ∷ []) []) (ap (is_at place) (sym here) ∙ ne_eqb (number_of x) (number_of place) other) in
+    let none : cond (is_at place (get_or places i x)) (i ∷ []) [] ≡ [] = ap (λ v. cond v (i ∷ []) []) (ap (is_at place) (sym here) ∙ (sym (at_number place x) ∙ ne_eqb (number_of x) (number_of place) other)) in
     so_far ∙ sym (ap (take most) (pages_more (is_at place) places i x lt ∙ (ap (λ l. found ++ l) none ∙ append-nil found)))
 
 pub scan_ends : (items : List ℕ) (most i : ℕ) (place : Place) (places : List Place) → i < length places

@@ -1,5 +1,5 @@
 -- A request that goes out: its buffer is written, and then its chain is published.
-use Rattle.std.proofs.Common.{◌≡◌, ◌≢◌, ◌∙◌, sym, ap, subst, arith, refl, ℕ, ◌+◌, ◌*◌, ◌<◌, ◌≤◌, Bool, true, false, eqb, ◌||◌, List, [], ◌∷◌, length, slice_index, Some, Result, Ok, set, min}
+use Rattle.std.proofs.Common.{◌≡◌, ◌≢◌, ◌∙◌, sym, ap, subst, arith, refl, ℕ, ◌+◌, ◌*◌, ◌<◌, ◌≤◌, false, eqb, List, [], ◌∷◌, length, slice_index, Some, Result, Ok, set, min}
 use Rattle.std.proofs.lemmas.Bool.{ne_eqb}
 use Rattle.vb_model.specs.Tests.{is_in}
 use Rattle.vb_model.specs.Layout.{buffer_page, buffer_offset}
@@ -21,10 +21,7 @@ use Rattle.vb_driver.specs.State.{AreRequests}
 use Rattle.vb_driver.specs.Calls.{Posts}
 use Rattle.vb_driver.proofs.Buffers.{buffer_apart, names_kept}
 use Rattle.vb_driver.proofs.RequestTables.{add_gives, next_path_is, head_low, requests_added_at}
-
-or_false : (a : Bool) → (a || false) ≡ a
-or_false true = refl
-or_false false = refl
+use Rattle.vb_driver.proofs.Placing.{or_false}
 
 -- what was written and added, by plain names
 pub record Sending (m1 m2 m3 : Pages) (r r2 : DriverEnd) (sent : List (List ℕ)) (base h a l : ℕ) (pages : List ℕ) : Type 0 where

@@ -1,5 +1,5 @@
 -- A queue whose chains are requests of one descriptor each.
-use Rattle.std.proofs.Common.{◌≡◌, ◌≢◌, ◌∙◌, sym, ap, subst, arith, refl, ℕ, zero, suc, ◌+◌, ◌<◌, ◌≤◌, Bool, true, false, cond, eqb, ◌||◌, List, [], ◌∷◌, length, take, slice_get, slice_index, slice_index_or, inl, inr, ◌⊎◌, eq-eqb, Option, Some, None, Result, Ok, Err, is_none, nat_lt, set, min, replicate, ◌%◌}
+use Rattle.std.proofs.Common.{◌≡◌, ◌≢◌, ◌∙◌, sym, ap, subst, arith, refl, ℕ, zero, suc, ◌+◌, ◌<◌, ◌≤◌, Bool, true, false, cond, eqb, List, [], ◌∷◌, length, take, slice_get, slice_index, slice_index_or, inl, inr, ◌⊎◌, eq-eqb, Option, Some, None, Result, Ok, Err, is_none, nat_lt, set, min, replicate, ◌%◌}
 use Rattle.std.proofs.lemmas.Bool.{cases_eq, cases_lt, cases_Bool, ne_eqb}
 use Rattle.std.proofs.lemmas.Bool.Decides.{nat_tests}
 use Rattle.std.proofs.lemmas.List.{length-set, length-replicate, get_or-replicate, get_or_past}
@@ -11,6 +11,7 @@ use Rattle.vb_ring.specs.Owners.{claimed-at, released-at}
 use Rattle.vb_ring.specs.declared.driver.Full.{Full}
 use Rattle.vb_ring.specs.declared.driver.Full.TheVariants.{TooFewFree}
 use Rattle.vb_driver.specs.State.{Side, AreRequests}
+use Rattle.vb_driver.proofs.Placing.{or_false}
 
 -- ---- the next head
 
@@ -93,10 +94,6 @@ head_low r h single e =
     (inside, out_below r h (omega arith) all)
 
 -- ---- what an add and a take make of the table
-
-or_false : (a : Bool) → (a || false) ≡ a
-or_false true = refl
-or_false false = refl
 
 one_inside : (h k n : ℕ) → h < n → k < length (h ∷ []) → slice_index (h ∷ []) k < n
 one_inside h zero n lt near = lt

@@ -1,11 +1,8 @@
 -- What the driver uses of the page areas.
-use Rattle.std.specs.Prelude.{◌≡◌, ℕ, ◌<◌, Bool, true, false, ◌&&◌, List, [], ◌∷◌, length, map}
-use Rattle.std.specs.Prelude.{slice_index_or, if◌then◌else◌, Result, Ok, Err}
+use Rattle.std.specs.Prelude.{◌≡◌, ℕ, Bool, true, false, ◌&&◌, List, [], ◌∷◌, length, map}
+use Rattle.std.specs.Prelude.{slice_index_or, Result, Ok, Err}
 use Rattle.std.specs.List.{list_any, list_all, range_with_len}
-use Rattle.vb_model.specs.declared.places.Place.TheVariants.{Reserved, Used}
-use Rattle.vb_model.specs.Limits.{reserved_pages}
-use Rattle.vb_model.specs.Tests.{is_in, each_page}
-use Rattle.vb_model.specs.Pages.{Block, covers, is_aligned, pages_of, is_free, place_of}
+use Rattle.vb_model.specs.Pages.{Block, covers, is_aligned, pages_of}
 use Rattle.vb_model.specs.declared.replies.Refusal.{Refusal}
 use Rattle.vb_model.specs.declared.replies.Refusal.TheVariants.{BadOrder, BadCpu, NoPages, NotHeld}
 use Rattle.vb_pages.specs.declared.PageFault.{PageFault}
@@ -15,8 +12,7 @@ use Rattle.vb_pages.specs.declared.PageFault.TheVariants.{NoPages as NoFreeBlock
 use Rattle.vb_pages.specs.declared.PageFault.TheVariants.{NotHeld as NoSuchBlock}
 use Rattle.vb_pages.specs.FreePages.{FreePages, is_free as is_unused}
 use Rattle.vb_pages.specs.PageState.{PageState, cpu_count, Allocates, given}
-use Rattle.vb_driver.specs.Answers.{block_at}
-use Rattle.vb_driver.specs.State.{DriverState, IsDriver}
+use Rattle.vb_pages.specs.Areas.{block_at}
 
 -- whether each page is free
 unfoldable pub flags_of : FreePages → List Bool
@@ -35,10 +31,6 @@ is_free_at free page = slice_index_or free page false
 -- aligned, and each of its pages is free
 abbrev pub is_free_block : List Bool → Block → Bool
 is_free_block free b = is_aligned b && list_all (is_free_at free) (pages_of b)
-
--- these pages are free, or aren't, from now on
-abbrev pub flagged : List ℕ → Bool → List Bool → List Bool
-flagged pages flag free = each_page (λ page old. if is_in page pages then flag else old) free
 
 abbrev pub is_covered : ℕ → List Block → Bool
 is_covered page held = list_any (covers page) held
@@ -70,12 +62,3 @@ all_given (page ∷ pages) s = all_given pages (given (block_at page 0) s)
 -- No page is both free and in a held block.
 pub record AreApart (s : PageState) : Type 0 where
   pub apart : (page : ℕ) → is_covered page s.held ≡ true → is_free_at (flags_of s.free) page ≡ false
-
--- The areas and lists have just the free pages, the held blocks have used pages alone, and the
--- first pages are reserved.
-pub record IsKept (d : DriverState) : Type 0 where
-  pub driver : IsDriver d
-  pub free : flags_of d.areas ≡ map is_free d.places
-  pub used : (page : ℕ) → is_covered page d.held ≡ true → place_of d.places page ≡ Used
-  pub reserved : (page : ℕ) → page < reserved_pages → place_of d.places page ≡ Reserved
-  pub processors : length d.areas.lists ≡ d.processors

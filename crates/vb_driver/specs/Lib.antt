@@ -1,6 +1,6 @@
 pub mod Places
 pub mod Coding
+pub mod Areas
 pub mod State
 pub mod Answers
 pub mod Calls
-pub mod Areas

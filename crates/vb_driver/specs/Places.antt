@@ -1,9 +1,17 @@
 -- A table of places, and how many pages it has at each.
-use Rattle.std.specs.Prelude.{◌≡◌, ℕ, Bool, ◌==◌, List, length, ◌≤◌, slice_index, count_by}
+use Rattle.std.specs.Prelude.{if◌then◌else◌, true, false, ◌≡◌, ℕ}
+use Rattle.std.specs.Prelude.{Bool, List, length, ◌≤◌, slice_index, count_by}
+use Rattle.vb_model.specs.Tests.{is_in, each_page}
+use Rattle.vb_model.specs.Pages.{is_free, is_used, is_giving, is_lent, is_taking, is_stranded}
+use Rattle.vb_model.specs.Pages.{is_reporting}
 use Rattle.vb_model.specs.declared.places.Place.{Place}
 use Rattle.vb_model.specs.declared.limits.TheConstants.{MAX_GUEST_PAGES}
 use Rattle.vb_model.specs.declared.places.Place.TheVariants.{Reserved, Free, Used, Giving, Lent}
 use Rattle.vb_model.specs.declared.places.Place.TheVariants.{Taking, Stranded, Reporting}
+
+-- these pages have a value from now on: a place that they move to, or a flag
+abbrev pub marked : {A : Type 0} → List ℕ → A → List A → List A
+marked pages value table = each_page (λ page old. if is_in page pages then value else old) table
 
 -- the places, numbered
 abbrev pub number_of : Place → ℕ
@@ -16,9 +24,20 @@ number_of Taking = 5
 number_of Stranded = 6
 number_of Reporting = 7
 
+abbrev pub is_reserved : Place → Bool
+is_reserved Reserved = true
+is_reserved _ = false
+
 -- whether a page has the place
 abbrev pub is_at : Place → Place → Bool
-is_at place other = number_of other == number_of place
+is_at Reserved = is_reserved
+is_at Free = is_free
+is_at Used = is_used
+is_at Giving = is_giving
+is_at Lent = is_lent
+is_at Taking = is_taking
+is_at Stranded = is_stranded
+is_at Reporting = is_reporting
 
 -- the table of counts says of each place how many pages have it
 pub record AreCounts (counts : List ℕ) (places : List Place) : Type 0 where

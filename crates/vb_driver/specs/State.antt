@@ -1,8 +1,9 @@
 -- What a balloon driver keeps.
-use Rattle.std.specs.Prelude.{◌≡◌, ℕ, ◌<◌, ◌≤◌, true, false, List, []}
+use Rattle.std.specs.Prelude.{map, ◌≡◌, ℕ, ◌<◌, ◌≤◌, true, false, List, []}
 use Rattle.std.specs.Prelude.{length, min, sum_by, count_by, replicate, slice_index_or}
 use Rattle.vb_model.specs.declared.places.Place.{Place}
-use Rattle.vb_model.specs.Limits.{max_outstanding}
+use Rattle.vb_model.specs.declared.places.Place.TheVariants.{Reserved, Used}
+use Rattle.vb_model.specs.Limits.{max_outstanding, reserved_pages}
 use Rattle.vb_model.specs.declared.limits.TheConstants.{MIN_GUEST_PAGES, MAX_GUEST_PAGES}
 use Rattle.vb_model.specs.Pages.{Block, place_of, all_free, is_free, is_giving, is_lent, is_taking}
 use Rattle.vb_model.specs.Pages.{is_stranded, is_reporting}
@@ -14,6 +15,7 @@ use Rattle.vb_ring.specs.Entries.{is_head}
 use Rattle.vb_ring.specs.Ends.{DriverEnd, fresh_end, is_free as is_unused}
 pub use Rattle.vb_pages.specs.FreePages.{FreePages}
 use Rattle.vb_pages.specs.PageState.{PageState, fresh}
+use Rattle.vb_driver.specs.Areas.{flags_of, is_covered}
 
 -- Of a queue of requests: the driver's end of its ring, and by head the pages of each request that
 -- is out, none where no request has the head.
@@ -120,5 +122,11 @@ pub record IsDriver (d : DriverState) : Type 0 where
   pub deflate : IsQueue d.deflate 1 d.queue_size
   pub giving : (page : ℕ) → naming page d.inflate.sent ≤ one_if (is_giving (place_of d.places page))
   pub taking : (page : ℕ) → naming page d.deflate.sent ≤ one_if (is_taking (place_of d.places page))
+  -- the areas and the lists have just the free pages, for as many processors
+  pub free : flags_of d.areas ≡ map is_free d.places
+  pub processors : length d.areas.lists ≡ d.processors
+  -- allocations hold used pages alone
+  pub used : (page : ℕ) → is_covered page d.held ≡ true → place_of d.places page ≡ Used
+  pub reserved : (page : ℕ) → page < reserved_pages → place_of d.places page ≡ Reserved
   -- reports come later
   pub unreported : (page : ℕ) → is_reporting (place_of d.places page) ≡ false

@@ -2,7 +2,7 @@
 
 ghost use Rattle.std.specs.Prelude.{◌≡◌, ◌<◌, ◌≤◌, ◌==◌, ◌∷◌, [], ℕ, false, true, Ok, Err, IfOk};
 ghost use Rattle.std.specs.Prelude.{OnOk, OnErr, IsTrue, length, map, not, nat_lt, nat_le};
-ghost use Rattle.std.specs.Prelude.{count_by};
+ghost use Rattle.std.specs.Prelude.{count_by, slice_set};
 ghost use Rattle.std.specs.List.{list_all, list_any, range_with_len};
 ghost use Rattle.vb_model.specs.Tests.{is_in};
 ghost use Rattle.vb_model.specs.Pages.{pages_of, is_free, all_free, is_same_block};
@@ -16,7 +16,8 @@ ghost use Rattle.vb_pages.specs.PageState.{IsSize, cpu_count, is_held_block, fre
 ghost use Rattle.vb_pages.specs.PageState.{TakesFree};
 ghost use Rattle.vb_driver.specs.Answers.{refusal_in, block_at};
 ghost use Rattle.vb_driver.specs.Areas.{AreApart, Becomes, Allots, flags_of, has_block, all_given};
-ghost use Rattle.vb_driver.specs.Areas.{is_free_at, is_covered, flagged, is_free_block, refusal_of};
+ghost use Rattle.vb_driver.specs.Areas.{is_free_at, is_covered, is_free_block, refusal_of};
+ghost use Rattle.vb_driver.specs.Places.{marked};
 
 use crate::queue::RequestPages;
 use arrayvec::ArrayVec;
@@ -76,7 +77,7 @@ impl Areas {
         ensures free { IfOk result (λ start.
             IsTrue (is_free_block (flags_of self.old.free) (block_at start order))) }
         ensures state { IfOk result (λ start. Becomes self.old self.new
-            (flagged (pages_of (block_at start order)) false (flags_of self.old.free))
+            (marked (pages_of (block_at start order)) false (flags_of self.old.free))
             (with_block (block_at start order) self.old.held)) }
         ensures areas { Allots self.old cpu order result self.new }
     {
@@ -97,7 +98,7 @@ impl Areas {
             ∷ []) }
         ensures refused { OnErr result (self.new ≡ self.old) }
         ensures state { OnOk result (Becomes self.old self.new
-            (flagged (pages_of (block_at start order)) true (flags_of self.old.free))
+            (marked (pages_of (block_at start order)) true (flags_of self.old.free))
             (without_block (block_at start order) self.old.held)) }
         ensures areas { OnOk result (self.new ≡ freed cpu (block_at start order) self.old) }
         ensures apart { AreApart self.new }
@@ -119,7 +120,7 @@ impl Areas {
         ensures free { IsTrue (list_all (is_free_at (flags_of self.old.free)) result.items) }
         ensures distinct { AllDistinct result.items }
         ensures state { Becomes self.old self.new
-            (flagged result.items false (flags_of self.old.free)) self.old.held }
+            (marked result.items false (flags_of self.old.free)) self.old.held }
         ensures areas { TakesFree self.old result.items self.new }
     {
         // A free page is one of the guest's pages.
@@ -136,7 +137,7 @@ impl Areas {
         requires taken { is_free_at (flags_of self.old.free) page ≡ false }
         requires uncovered { is_covered page self.old.held ≡ false }
         ensures state { Becomes self.old self.new
-            (flagged (page ∷ []) true (flags_of self.old.free)) self.old.held }
+            (slice_set (flags_of self.old.free) page true) self.old.held }
         ensures areas { self.new ≡ given (block_at page 0) self.old }
     {
         self.pages.give_free(page);
@@ -153,7 +154,7 @@ impl Areas {
             → is_covered page self.old.held ≡ false }
         requires once { (page : ℕ) → times page pages.now ≤ 1 }
         ensures state { Becomes self.old self.new
-            (flagged pages.now true (flags_of self.old.free)) self.old.held }
+            (marked pages.now true (flags_of self.old.free)) self.old.held }
         ensures areas { self.new ≡ all_given pages.now self.old }
     {
         for page in pages {

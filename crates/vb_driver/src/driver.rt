@@ -38,8 +38,7 @@ pub struct Driver {
 
 impl Model for Driver {
     ghost use Rattle.vb_status.specs.Bits.{feature_bits};
-    ghost use Rattle.vb_driver.specs.State.{DriverState};
-    ghost use Rattle.vb_driver.specs.Areas.{IsKept};
+    ghost use Rattle.vb_driver.specs.State.{DriverState, IsDriver};
 
     ghost Value = { DriverState };
 
@@ -55,7 +54,7 @@ impl Model for Driver {
       features = feature_bits d.features;
     } };
 
-    ghost invariant = { λ d. IsKept (record {
+    ghost invariant = { λ d. IsDriver (record {
       pages = d.config.pages;
       queue_size = d.config.queue_size;
       processors = d.config.processors;

@@ -1,6 +1,6 @@
-use Rattle.std.proofs.Common.{◌≡◌, ◌<◌, sym, subst, ◌∷◌, [], true, false, length}
+use Rattle.std.proofs.Common.{◌≡◌, ◌<◌, sym, subst, true, false, length, set}
 use Rattle.vb_pages.specs.PageState.{PageState}
-use Rattle.vb_driver.specs.Areas.{Becomes, flags_of, is_free_at, is_covered, flagged}
+use Rattle.vb_driver.specs.Areas.{Becomes, flags_of, is_free_at, is_covered}
 use Rattle.vb_driver.proofs.Allocating.{given_room, given_state}
 use Rattle.vb_driver.proofs.areas.Areas.give_free.Goals as goal
 
@@ -16,5 +16,6 @@ pub returns-clause-state : goal.returns-clause-state
 returns-clause-state c =
     let s : PageState = c.self.inside.pages in
     let new : PageState = c.give_free.new.self in
-    subst (λ (v : PageState). Becomes v new (flagged (c.args.page ∷ []) true (flags_of v.free)) v.held) c.self.view_is
-    (given_state s new c.args.page c.give_free.ensures.given c.give_free.ensures.gained)
+    subst (λ (v : PageState). Becomes v new (set (flags_of v.free) c.args.page true) v.held) c.self.view_is
+    (given_state s new c.args.page c.give_free.ensures.given c.give_free.ensures.gained
+    (subst (λ (v : PageState). c.args.page < length (flags_of v.free)) (sym c.self.view_is) c.requires.inside))

@@ -2,7 +2,8 @@ use Rattle.std.proofs.Common.{◌≤◌, sym, subst, arith, false, IsTrue}
 use Rattle.std.specs.Prelude.{count_by}
 use Rattle.std.specs.List.{list_all}
 use Rattle.vb_pages.specs.PageState.{PageState, is_free_page}
-use Rattle.vb_driver.specs.Areas.{Becomes, flags_of, is_free_at, flagged}
+use Rattle.vb_driver.specs.Areas.{Becomes, flags_of, is_free_at}
+use Rattle.vb_driver.specs.Places.{marked}
 use Rattle.vb_model.specs.Orderly.{times}
 use Rattle.vb_driver.proofs.Allocating.{count_flags, taken_state, taken_free, taken_once, distinct_once}
 use Rattle.vb_driver.proofs.areas.Areas.take_free.Goals as goal
@@ -28,5 +29,5 @@ pub returns-clause-state : goal.returns-clause-state
 returns-clause-state c =
     let s : PageState = c.self.inside.pages in
     let new : PageState = c.take_free.new.self in
-    subst (λ (v : PageState). Becomes v new (flagged c.take_free.new.out.items false (flags_of v.free)) v.held) c.self.view_is
+    subst (λ (v : PageState). Becomes v new (marked c.take_free.new.out.items false (flags_of v.free)) v.held) c.self.view_is
     (taken_state s new c.take_free.new.out.items c.take_free.ensures.taken c.take_free.ensures.left)

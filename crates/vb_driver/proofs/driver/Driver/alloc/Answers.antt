@@ -3,8 +3,8 @@ use Rattle.vb_model.specs.Pages.{Block, pages_of, placed}
 use Rattle.vb_model.specs.declared.places.Place.{Place}
 use Rattle.vb_model.specs.declared.places.Place.TheVariants.{Used}
 use Rattle.vb_driver.specs.Answers.{block_at}
-use Rattle.vb_driver.specs.State.{DriverState}
-use Rattle.vb_driver.specs.Areas.{flags_of, IsKept}
+use Rattle.vb_driver.specs.State.{DriverState, IsDriver}
+use Rattle.vb_driver.specs.Areas.{flags_of}
 use Rattle.vb_driver.specs.Calls.{AllocatesBy}
 use Rattle.vb_driver.specs.contracts.driver.Driver.{the_view}
 use Rattle.vb_driver.proofs.Owning.{whole_is, alloc_tests_same, free_block_inside, allocated_kept, unallocated_kept}
@@ -20,8 +20,8 @@ invariant_of-self c =
     let b = block_at c.in-Ok.start c.args.order in
     let becomes = c.in-Ok.ensures.state in
     let kept = allocated_kept d new.free b c.self.invariant c.in-Ok.ensures.free becomes.free becomes.processors in
-    subst (λ (v : List Place). IsKept (record d { places = v; held = new.held; areas = new.free })) (sym c.set_block.ensures)
-    (subst (λ (v : List Block). IsKept (record d { places = placed (pages_of b) Used d.places; held = v; areas = new.free })) (sym becomes.held) kept)
+    subst (λ (v : List Place). IsDriver (record d { places = v; held = new.held; areas = new.free })) (sym c.set_block.ensures)
+    (subst (λ (v : List Block). IsDriver (record d { places = placed (pages_of b) Used d.places; held = v; areas = new.free })) (sym becomes.held) kept)
 
 pub returns-in-Ok : goal.returns-in-Ok
 returns-in-Ok c =
@@ -32,7 +32,7 @@ returns-in-Ok c =
     let b = block_at start order in
     let new : DriverState = record d { places = c.set_block.new.self; held = areas.held; areas = areas.free } in
     let allocates : AllocatesBy d new c.args.cpu order (Ok start) = record {
-      driver = c.self.invariant.driver;
+      driver = c.self.invariant;
       refusal = c.in-Ok.ensures.refusal ∙ alloc_tests_same d c.args.cpu order c.self.invariant;
       refused = tt;
       free = sym (whole_is d.places (flags_of d.areas) b c.self.invariant.free) ∙ c.in-Ok.ensures.free;
@@ -51,7 +51,7 @@ returns-in-Err c =
     let areas = c.alloc.new.self in
     let new : DriverState = record d { held = areas.held; areas = areas.free } in
     let allocates : AllocatesBy d new c.args.cpu c.args.order (Err c.in-Err.refusal) = record {
-      driver = c.self.invariant.driver;
+      driver = c.self.invariant;
       refusal = c.in-Err.ensures.refusal ∙ alloc_tests_same d c.args.cpu c.args.order c.self.invariant;
       refused = ap (λ (v : List Block). record d { held = v; areas = areas.free }) c.in-Err.ensures.refused.held;
       free = tt;

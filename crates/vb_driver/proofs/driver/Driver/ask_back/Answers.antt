@@ -1,21 +1,19 @@
-use Rattle.std.proofs.Common.{◌≡◌, ◌∙◌, sym, ap, subst, refl, ℕ, List, true, take}
+use Rattle.std.proofs.Common.{◌≡◌, ◌∙◌, sym, ap, subst, refl, ℕ, List, true}
 use Rattle.vb_model.specs.Tests.{is_in}
 use Rattle.vb_model.specs.Pages.{placed, is_lent}
 use Rattle.vb_model.specs.declared.places.Place.{Place}
-use Rattle.vb_model.specs.declared.places.Place.TheVariants.{Lent, Taking}
-use Rattle.vb_driver.specs.Places.{is_at}
-use Rattle.vb_driver.specs.State.{DriverState}
-use Rattle.vb_driver.specs.Areas.{IsKept}
+use Rattle.vb_model.specs.declared.places.Place.TheVariants.{Taking}
+use Rattle.vb_driver.specs.State.{DriverState, IsDriver}
 use Rattle.vb_driver.specs.Calls.{Posts, AsksBack, lowest_lent}
 use Rattle.vb_driver.specs.contracts.driver.Driver.{the_view}
-use Rattle.vb_driver.proofs.Moving.{pages_same, at_lent, lowest_is, asked_kept}
+use Rattle.vb_driver.proofs.Moving.{lowest_is, asked_kept}
 use Rattle.vb_driver.proofs.Keeping.{there_by}
 use Rattle.vb_driver.proofs.driver.Driver.ask_back.Goals as goal
 
 pub set_all-requires : goal.set_all-requires
 set_all-requires g c p here =
     let d = the_view c.self.inside in
-    let items : c.deref.result.now ≡ lowest_lent d c.args.count = c.deref.ensures.0 ∙ (c.lowest-pages.ensures ∙ ap (take c.args.count) (pages_same 0 (is_at Lent) is_lent d.places at_lent)) in
+    let items : c.deref.result.now ≡ lowest_lent d c.args.count = c.deref.ensures.0 ∙ c.lowest-pages.ensures in
     let there : is_in p (lowest_lent d c.args.count) ≡ true = ap (is_in p) (sym items) ∙ here in
     there_by d.places p is_lent refl (lowest_is d.places c.args.count is_lent p there)
 
@@ -24,10 +22,10 @@ invariant_of-self g c =
     let d = the_view c.self.inside in
     let m1 = g.P.GuestBytes.mem c.args.port.now in
     let m2 = g.P.GuestBytes.mem c.post-head.new.ram in
-    let lowest : c.lowest-pages.result.items ≡ lowest_lent d c.args.count = c.lowest-pages.ensures ∙ ap (take c.args.count) (pages_same 0 (is_at Lent) is_lent d.places at_lent) in
+    let lowest : c.lowest-pages.result.items ≡ lowest_lent d c.args.count = c.lowest-pages.ensures in
     let placed_is : c.set_all.new.self ≡ placed (lowest_lent d c.args.count) Taking d.places = c.set_all.ensures ∙ ap (λ (l : List ℕ). placed l Taking d.places) (c.deref.ensures.0 ∙ lowest) in
     let posts : Posts m1 m2 d.deflate c.post-head.new.self 8 (lowest_lent d c.args.count) c.post-head.result = subst (λ (l : List ℕ). Posts m1 m2 d.deflate c.post-head.new.self 8 l c.post-head.result) lowest c.post-head.ensures.posts in
-    subst (λ (ps : List Place). IsKept (record d { places = ps; deflate = c.post-head.new.self })) (sym placed_is)
+    subst (λ (ps : List Place). IsDriver (record d { places = ps; deflate = c.post-head.new.self })) (sym placed_is)
     (asked_kept m1 m2 d c.post-head.new.self 8 c.args.count c.post-head.result c.self.invariant posts)
 
 pub returns : goal.returns
@@ -35,7 +33,7 @@ returns g c =
     let d = the_view c.self.inside in
     let m1 = g.P.GuestBytes.mem c.args.port.now in
     let m2 = g.P.GuestBytes.mem c.post-head.new.ram in
-    let lowest : c.lowest-pages.result.items ≡ lowest_lent d c.args.count = c.lowest-pages.ensures ∙ ap (take c.args.count) (pages_same 0 (is_at Lent) is_lent d.places at_lent) in
+    let lowest : c.lowest-pages.result.items ≡ lowest_lent d c.args.count = c.lowest-pages.ensures in
     let placed_is : c.set_all.new.self ≡ placed (lowest_lent d c.args.count) Taking d.places = c.set_all.ensures ∙ ap (λ (l : List ℕ). placed l Taking d.places) (c.deref.ensures.0 ∙ lowest) in
     let posts : Posts m1 m2 d.deflate c.post-head.new.self 8 (lowest_lent d c.args.count) c.post-head.result = subst (λ (l : List ℕ). Posts m1 m2 d.deflate c.post-head.new.self 8 l c.post-head.result) lowest c.post-head.ensures.posts in
     let new : DriverState = record d { places = c.set_all.new.self; deflate = c.post-head.new.self } in

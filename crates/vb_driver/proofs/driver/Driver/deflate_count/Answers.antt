@@ -1,17 +1,14 @@
-use Rattle.std.proofs.Common.{◌≡◌, ◌∙◌, subst, arith}
+use Rattle.std.proofs.Common.{◌≡◌, subst, arith}
 use Rattle.std.specs.Prelude.{count_by}
 use Rattle.vb_model.specs.Pages.{is_giving, is_lent}
-use Rattle.vb_model.specs.declared.places.Place.TheVariants.{Giving, Lent}
-use Rattle.vb_driver.specs.Places.{is_at}
 use Rattle.vb_driver.specs.State.{DriverState}
 use Rattle.vb_driver.specs.Answers.{deflate_count}
 use Rattle.vb_driver.specs.contracts.driver.Driver.{the_view}
-use Rattle.vb_driver.proofs.Moving.{count_same, at_lent, at_giving}
 use Rattle.vb_driver.proofs.driver.Driver.deflate_count.Goals as goal
 
 pub returns : goal.returns
 returns c =
     let d = the_view c.self.inside in
-    let lent : c.count-lent.result ≡ count_by is_lent d.places = c.count-lent.ensures ∙ count_same (is_at Lent) is_lent d.places at_lent in
-    let giving : c.count.result ≡ count_by is_giving d.places = c.count.ensures ∙ count_same (is_at Giving) is_giving d.places at_giving in
+    let lent : c.count-lent.result ≡ count_by is_lent d.places = c.count-lent.ensures in
+    let giving : c.count.result ≡ count_by is_giving d.places = c.count.ensures in
     subst (λ (v : DriverState). c.min-3.result ≡ deflate_count v c.args.target c.args.n) c.self.view_is (omega (arith, c.min.ensures, c.saturating_sub.ensures, c.min-2.ensures, c.min-3.ensures))

@@ -3,9 +3,9 @@ use Rattle.vb_model.specs.Pages.{Block, pages_of, placed}
 use Rattle.vb_model.specs.declared.places.Place.{Place}
 use Rattle.vb_model.specs.declared.places.Place.TheVariants.{Free}
 use Rattle.vb_driver.specs.Answers.{block_at}
-use Rattle.vb_driver.specs.Areas.{IsKept}
 use Rattle.vb_driver.specs.contracts.driver.Driver.{the_view}
 use Rattle.vb_driver.proofs.Owning.{freed_was_held, held_block_inside, block_freed_kept}
+use Rattle.vb_driver.specs.State.{IsDriver}
 use Rattle.vb_driver.proofs.driver.Driver.free.Goals as goal
 
 pub set_block-requires-clause-inside : goal.set_block-requires-clause-inside
@@ -21,5 +21,5 @@ invariant_of-self c =
     let b = block_at c.args.start c.args.order in
     let becomes = c.in-Ok.ensures.state in
     let kept = block_freed_kept d new b c.self.invariant (freed_was_held d.held b (length d.areas.lists) _ c.in-Ok.ensures.refusal) becomes.free becomes.held becomes.processors c.in-Ok.ensures.apart in
-    subst (λ (v : List Place). IsKept (record d { places = v; held = new.held; areas = new.free })) (sym c.set_block.ensures)
-    (subst (λ (v : List Block). IsKept (record d { places = placed (pages_of b) Free d.places; held = v; areas = new.free })) (sym becomes.held) kept)
+    subst (λ (v : List Place). IsDriver (record d { places = v; held = new.held; areas = new.free })) (sym c.set_block.ensures)
+    (subst (λ (v : List Block). IsDriver (record d { places = placed (pages_of b) Free d.places; held = v; areas = new.free })) (sym becomes.held) kept)

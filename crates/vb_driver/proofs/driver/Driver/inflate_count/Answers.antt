@@ -1,19 +1,16 @@
-use Rattle.std.proofs.Common.{◌≡◌, ◌∙◌, subst, arith}
+use Rattle.std.proofs.Common.{◌≡◌, subst, arith}
 use Rattle.std.specs.Prelude.{count_by}
 use Rattle.vb_model.specs.Pages.{is_free, is_giving, is_lent, is_stranded}
-use Rattle.vb_model.specs.declared.places.Place.TheVariants.{Free, Giving, Lent, Stranded}
-use Rattle.vb_driver.specs.Places.{is_at}
 use Rattle.vb_driver.specs.State.{DriverState}
 use Rattle.vb_driver.specs.Answers.{inflate_count}
 use Rattle.vb_driver.specs.contracts.driver.Driver.{the_view}
-use Rattle.vb_driver.proofs.Moving.{count_same, at_lent, at_giving, at_free, at_stranded}
 use Rattle.vb_driver.proofs.driver.Driver.inflate_count.Goals as goal
 
 pub returns : goal.returns
 returns c =
     let d = the_view c.self.inside in
-    let stranded : c.count-stranded.result ≡ count_by is_stranded d.places = c.count-stranded.ensures ∙ count_same (is_at Stranded) is_stranded d.places at_stranded in
-    let lent : c.count.result ≡ count_by is_lent d.places = c.count.ensures ∙ count_same (is_at Lent) is_lent d.places at_lent in
-    let giving : c.count-2.result ≡ count_by is_giving d.places = c.count-2.ensures ∙ count_same (is_at Giving) is_giving d.places at_giving in
-    let free : c.count-3.result ≡ count_by is_free d.places = c.count-3.ensures ∙ count_same (is_at Free) is_free d.places at_free in
+    let stranded : c.count-stranded.result ≡ count_by is_stranded d.places = c.count-stranded.ensures in
+    let lent : c.count.result ≡ count_by is_lent d.places = c.count.ensures in
+    let giving : c.count-2.result ≡ count_by is_giving d.places = c.count-2.ensures in
+    let free : c.count-3.result ≡ count_by is_free d.places = c.count-3.ensures in
     subst (λ (v : DriverState). c.min-3.result ≡ inflate_count v c.args.target c.args.n) c.self.view_is (omega (arith, c.min.ensures, c.saturating_sub.ensures, c.max.ensures, c.min-2.ensures, c.min-3.ensures))

@@ -3,8 +3,7 @@ use Rattle.vb_model.specs.declared.places.Place.{Place}
 use Rattle.vb_pages.specs.PageState.{PageState}
 use Rattle.vb_ram.specs.Limits.{AreWithinLimits, config_limits}
 use Rattle.vb_status.specs.Bits.{feature_bits}
-use Rattle.vb_driver.specs.State.{Side, DriverState, fresh_driver}
-use Rattle.vb_driver.specs.Areas.{IsKept}
+use Rattle.vb_driver.specs.State.{Side, DriverState, fresh_driver, IsDriver}
 use Rattle.vb_driver.proofs.Moving.{fresh_kept}
 use Rattle.vb_driver.proofs.Sizes.{size_of_config}
 use Rattle.vb_driver.proofs.driver.Driver.new.Goals as goal
@@ -26,8 +25,8 @@ invariant_of-result c =
     let f = feature_bits c.empty.result in
     let limits : AreWithinLimits pages size cpus = config_limits pages size cpus c.requires in
     let d : DriverState = record (fresh_driver pages size cpus) { features = f } in
-    let kept : IsKept d = fresh_kept pages size cpus f limits.pages_least limits.pages_most (size_of_config pages size cpus c.requires) in
-    subst (λ (v : List Place). IsKept (record d { places = v; held = areas.held; areas = areas.free; inflate = c.in_ok-new-3.field-0; deflate = c.in_ok-new-4.field-0 })) (sym c.in_ok-new.ensures)
-    (subst (λ (v : PageState). IsKept (record d { held = v.held; areas = v.free; inflate = c.in_ok-new-3.field-0; deflate = c.in_ok-new-4.field-0 })) (sym c.in_ok-new-2.ensures)
-    (subst (λ (v : Side). IsKept (record d { inflate = v; deflate = c.in_ok-new-4.field-0 })) (sym c.in_ok-new-3.ensures)
-    (subst (λ (v : Side). IsKept (record d { deflate = v })) (sym c.in_ok-new-4.ensures) kept)))
+    let kept : IsDriver d = fresh_kept pages size cpus f limits.pages_least limits.pages_most (size_of_config pages size cpus c.requires) in
+    subst (λ (v : List Place). IsDriver (record d { places = v; held = areas.held; areas = areas.free; inflate = c.in_ok-new-3.field-0; deflate = c.in_ok-new-4.field-0 })) (sym c.in_ok-new.ensures)
+    (subst (λ (v : PageState). IsDriver (record d { held = v.held; areas = v.free; inflate = c.in_ok-new-3.field-0; deflate = c.in_ok-new-4.field-0 })) (sym c.in_ok-new-2.ensures)
+    (subst (λ (v : Side). IsDriver (record d { inflate = v; deflate = c.in_ok-new-4.field-0 })) (sym c.in_ok-new-3.ensures)
+    (subst (λ (v : Side). IsDriver (record d { deflate = v })) (sym c.in_ok-new-4.ensures) kept)))

@@ -3,8 +3,9 @@ use Rattle.vb_model.specs.Tests.{is_in}
 use Rattle.vb_model.specs.Pages.{placed, Block}
 use Rattle.vb_model.specs.declared.places.Place.{Place}
 use Rattle.vb_model.specs.declared.places.Place.TheVariants.{Free}
-use Rattle.vb_driver.specs.State.{Side, sent_by}
-use Rattle.vb_driver.specs.Areas.{flags_of, flagged, IsKept}
+use Rattle.vb_driver.specs.State.{Side, sent_by, IsDriver}
+use Rattle.vb_driver.specs.Areas.{flags_of}
+use Rattle.vb_driver.specs.Places.{marked}
 use Rattle.vb_driver.specs.contracts.driver.Driver.{the_view}
 use Rattle.vb_model.specs.Orderly.{times}
 use Rattle.vb_driver.proofs.Moving.{freed_taking, freed_once, freed_uncovered, freed_unfree, freed_inside, freed_unreserved, freed_kept}
@@ -65,8 +66,8 @@ invariant_of-self-2 g c =
     let next = rw c.in-Ok-Some.field-0-is at c.in-Ok-Some.ensures.next in
     let items : c.deref.result.now ≡ sent_by d.deflate head = c.deref.ensures.0 ∙ next.2 in
     let moved : c.settle.new.places ≡ placed (sent_by d.deflate head) Free d.places = c.settle.ensures.places ∙ ap (λ (l : List ℕ). placed l Free d.places) next.2 in
-    let free : flags_of areas2.free ≡ flagged (sent_by d.deflate head) true (flags_of d.areas) = c.give_all.ensures.state.free ∙ ap (λ (l : List ℕ). flagged l true (flags_of d.areas)) items in
-    subst (λ (v : List Place). IsKept (record d { places = v; held = areas2.held; areas = areas2.free; deflate = c.take_back.new.queue })) (sym moved)
-    (subst (λ (v : List Block). IsKept (record d { places = placed (sent_by d.deflate head) Free d.places; held = v; areas = areas2.free; deflate = c.take_back.new.queue })) (sym c.give_all.ensures.state.held)
-    (subst (λ (v : Side). IsKept (record d { places = placed (sent_by d.deflate head) Free d.places; areas = areas2.free; deflate = v })) (sym next.3)
+    let free : flags_of areas2.free ≡ marked (sent_by d.deflate head) true (flags_of d.areas) = c.give_all.ensures.state.free ∙ ap (λ (l : List ℕ). marked l true (flags_of d.areas)) items in
+    subst (λ (v : List Place). IsDriver (record d { places = v; held = areas2.held; areas = areas2.free; deflate = c.take_back.new.queue })) (sym moved)
+    (subst (λ (v : List Block). IsDriver (record d { places = placed (sent_by d.deflate head) Free d.places; held = v; areas = areas2.free; deflate = c.take_back.new.queue })) (sym c.give_all.ensures.state.held)
+    (subst (λ (v : Side). IsDriver (record d { places = placed (sent_by d.deflate head) Free d.places; areas = areas2.free; deflate = v })) (sym next.3)
     (freed_kept d areas2.free head next.1 c.self.invariant free c.give_all.ensures.state.processors)))

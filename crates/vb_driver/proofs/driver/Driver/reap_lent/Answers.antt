@@ -3,8 +3,7 @@ use Rattle.vb_model.specs.Tests.{is_in}
 use Rattle.vb_model.specs.Pages.{placed}
 use Rattle.vb_model.specs.declared.places.Place.{Place}
 use Rattle.vb_model.specs.declared.places.Place.TheVariants.{Lent}
-use Rattle.vb_driver.specs.State.{Side, sent_by}
-use Rattle.vb_driver.specs.Areas.{IsKept}
+use Rattle.vb_driver.specs.State.{Side, sent_by, IsDriver}
 use Rattle.vb_driver.specs.contracts.driver.Driver.{the_view}
 use Rattle.vb_driver.proofs.Moving.{lent_inside, lent_kept}
 use Rattle.vb_driver.proofs.driver.Driver.reap_lent.Goals as goal
@@ -22,6 +21,6 @@ invariant_of-self-2 g c =
     let head = c.in-Ok-Some.used.0 in
     let next = rw c.in-Ok-Some.field-0-is at c.in-Ok-Some.ensures.next in
     let moved : c.settle.new.places ≡ placed (sent_by d.inflate head) Lent d.places = c.settle.ensures.places ∙ ap (λ (l : List ℕ). placed l Lent d.places) next.2 in
-    subst (λ (v : List Place). IsKept (record d { places = v; inflate = c.take_back.new.queue })) (sym moved)
-    (subst (λ (v : Side). IsKept (record d { places = placed (sent_by d.inflate head) Lent d.places; inflate = v })) (sym next.3)
+    subst (λ (v : List Place). IsDriver (record d { places = v; inflate = c.take_back.new.queue })) (sym moved)
+    (subst (λ (v : Side). IsDriver (record d { places = placed (sent_by d.inflate head) Lent d.places; inflate = v })) (sym next.3)
     (lent_kept d head next.1 c.self.invariant))

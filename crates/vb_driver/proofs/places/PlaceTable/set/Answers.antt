@@ -1,7 +1,20 @@
-use Rattle.std.proofs.Common.{◌≡◌, ◌∙◌, ap, arith, length, set}
+use Rattle.std.proofs.Common.{◌≡◌, ◌∙◌, ap, arith, ℕ, length, get_or, set, count_by}
 use Rattle.std.proofs.lemmas.List.{length-set}
-use Rattle.vb_driver.proofs.Counting.{counts_moved, number_small}
+use Rattle.vb_model.specs.declared.places.Place.{Place}
+use Rattle.vb_driver.proofs.Counting.{counts_moved, counts_some, number_small}
+use Rattle.vb_driver.specs.Places.{is_at}
 use Rattle.vb_driver.proofs.places.PlaceTable.set.Goals as goal
+
+pub overflow_sub-self : goal.overflow_sub-self
+overflow_sub-self c =
+    let counts = c.self.inside.counts in
+    let places = c.self.inside.places.items in
+    let old = c.index-old.result.now in
+    let size : length places ≡ length c.args.self.now = ap length c.self.view_is in
+    let own : get_or counts c.number_of.result 0 ≡ count_by (is_at old) places = ap (λ (k : ℕ). get_or counts k 0) c.number_of.ensures ∙ c.self.invariant.are_counts.each old in
+    let here : count_by (is_at old) places ≡ count_by (is_at (get_or places c.args.page old)) places = ap (λ (p : Place). count_by (is_at p) places) c.index-old.ensures in
+    let small = number_small old in
+    omega (arith, counts_some places c.args.page old (omega arith))
 
 pub invariant_of-self : goal.invariant_of-self
 invariant_of-self c =

@@ -2,7 +2,7 @@ use Rattle.std.proofs.Common.{◌≡◌, ◌∙◌, ◌<◌, ◌-◌, sym, ap, a
 use Rattle.std.specs.List.{range_with_len}
 use Rattle.vb_model.specs.declared.places.Place.{Place}
 use Rattle.vb_model.specs.Pages.{placed}
-use Rattle.vb_driver.proofs.Placing.{placed_none, placed_next, length-placed}
+use Rattle.vb_driver.proofs.Placing.{marked_none, placed_next, length-marked}
 use Rattle.vb_driver.proofs.places.PlaceTable.set_block.Goals as goal
 
 pub overflow_add-page-end : goal.overflow_add-page-end
@@ -13,11 +13,11 @@ overflow_add-page-end c =
 pub loop-page-init : goal.loop-page-init
 loop-page-init c =
     let none : c.args.start - c.args.start ≡ 0 = omega arith in
-    sym (ap (λ (n : ℕ). placed (range_with_len c.args.start n) c.args.place c.args.self.now) none ∙ placed_none c.args.place c.args.self.now)
+    sym (ap (λ (n : ℕ). placed (range_with_len c.args.start n) c.args.place c.args.self.now) none ∙ marked_none c.args.place c.args.self.now)
 
 pub set-requires : goal.set-requires
 set-requires c =
-    let size : length c.loop-page.self ≡ length c.args.self.now = ap (λ (l : List Place). length l) c.loop-page.invariant ∙ length-placed (range_with_len c.args.start (c.loop-page.page - c.args.start)) c.args.place c.args.self.now in
+    let size : length c.loop-page.self ≡ length c.args.self.now = ap (λ (l : List Place). length l) c.loop-page.invariant ∙ length-marked (range_with_len c.args.start (c.loop-page.page - c.args.start)) c.args.place c.args.self.now in
     omega (arith, c.requires.inside, c.size_of.ensures.size, c.loop-page-test.true)
 
 pub loop-page-preserved : goal.loop-page-preserved
