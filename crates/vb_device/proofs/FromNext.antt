@@ -1,18 +1,15 @@
 -- A take from a queue, from what its next chain gives; and what it leaves of the ring.
-use Rattle.std.specs.Prelude.{◌≡◌, ℕ, true, false, nat_le, [], ◌∷◌, length, Option, Some, None, Result, Ok, Err, bit_or, refl}
+use Rattle.std.specs.Prelude.{◌≡◌, ℕ, true, false, [], ◌∷◌, length, Option, Some, None, Result, Ok, Err, refl}
 use Rattle.std.proofs.Common.{sym, ◌∙◌, ap, arith}
 use Rattle.vb_model.specs.declared.replies.Refusal.{Refusal}
-use Rattle.vb_model.specs.declared.replies.Refusal.TheVariants.{Broken}
-use Rattle.vb_model.specs.Status.{needs_reset}
+use Rattle.vb_model.specs.declared.replies.Refusal.TheVariants.{Busy, Broken}
 use Rattle.vb_ram.specs.Pages.{Pages, byte_at, field}
 use Rattle.vb_ram.specs.Fields.{field_zero}
 use Rattle.vb_chain.specs.declared.ChainFault.{ChainFault}
 use Rattle.vb_chain.specs.declared.ChainFault.TheVariants.{IndexJump}
 use Rattle.vb_ring.specs.declared.layout.Layout.{Layout}
 use Rattle.vb_ring.specs.Entries.{next_by, next_entry, ahead, avail_index, avail_place}
-use Rattle.vb_device.specs.Faults.{rule_of}
-use Rattle.vb_device.specs.QueueState.{QueueState, next_of, TakesNext}
-use Rattle.vb_device.specs.BaseCalls.{TakesFrom, FromMeans}
+use Rattle.vb_device.specs.QueueState.{QueueState, next_of, is_full, NextMeans, TakesNext}
 
 true_false : true ≡ false → ⊥
 true_false e = cc
@@ -35,30 +32,15 @@ next_two r x y a b = sym a ∙ b
 none_some : (r : Result (Option ℕ) ChainFault) (h : ℕ) → r ≡ Ok None → r ≡ Ok (Some h) → ⊥
 none_some r h a b = cc
 
-from_means : (mem : Pages) (x1 x2 : QueueState) (s : ℕ) (head : Option ℕ) → nat_le 16 (length x1.taken) ≡ false → TakesNext mem x1 x2 (Ok head) → FromMeans mem x1 x2 s s (Ok head)
-from_means mem x1 x2 s None free t = (free, t.means, refl)
-from_means mem x1 x2 s (Some h) free t = (free, (t.means.0, t.means.1, t.means.2, t.means.3, t.means.4, t.means.5, refl))
-
-pub from_next : (mem : Pages) (x1 x2 : QueueState) (s : ℕ) (head : Option ℕ) → nat_le 16 (length x1.taken) ≡ false → TakesNext mem x1 x2 (Ok head) → TakesFrom mem x1 x2 s s (Ok head)
-from_next mem x1 x2 s head free t = record {
-  busy = λ b. absurd (true_false (sym b ∙ free));
-  empty = λ e n. (ap (λ o. Ok o) (ok_same (Ok head) head None refl (t.empty n).0), (t.empty n).1, refl);
-  jump = λ f e n. absurd (ok_err head f (t.jump f n).0);
-  fault = λ h f e n g. absurd (ok_err head f (t.fault h f n g).0);
-  wrong = λ h pieces f e n g r. absurd (ok_err head f (t.wrong h pieces f n g r).0);
-  takes = λ h pieces pages e n g r. (ap (λ o. Ok o) (ok_same (Ok head) head (Some h) refl (t.takes h pieces pages n g r).0), (t.takes h pieces pages n g r).1, refl);
-  means = from_means mem x1 x2 s head free t;
-}
-
-pub from_fault : (mem : Pages) (x1 x2 : QueueState) (s1 s2 k : ℕ) (f : ChainFault) → nat_le 16 (length x1.taken) ≡ false → k ≡ rule_of f → s2 ≡ bit_or s1 needs_reset → TakesNext mem x1 x2 (Err f) → TakesFrom mem x1 x2 s1 s2 (Err (Broken k))
-from_fault mem x1 x2 s1 s2 k f free rule reset t = record {
-  busy = λ b. absurd (true_false (sym b ∙ free));
-  empty = λ e n. absurd (err_ok None f (t.empty n).0);
-  jump = λ g e n. record { answer = ap (λ n. Err (Broken n)) (rule ∙ ap rule_of (err_same (Err f) f g refl (t.jump g n).0)); status = reset; queue = (t.jump g n).1 };
-  fault = λ h g e n gives. record { answer = ap (λ n. Err (Broken n)) (rule ∙ ap rule_of (err_same (Err f) f g refl (t.fault h g n gives).0)); status = reset; queue = (t.fault h g n gives).1 };
-  wrong = λ h pieces g e n gives bad. record { answer = ap (λ n. Err (Broken n)) (rule ∙ ap rule_of (err_same (Err f) f g refl (t.wrong h pieces g n gives bad).0)); status = reset; queue = (t.wrong h pieces g n gives bad).1 };
-  takes = λ h pieces pages e n g r. absurd (err_ok (Some h) f (t.takes h pieces pages n g r).0);
-  means = (free, t.means, reset);
+pub next_busy : (mem : Pages) (x : QueueState) → is_full x ≡ true → TakesNext mem x x (Err Busy)
+next_busy mem x full = record {
+  busy = λ b. (refl, refl);
+  empty = λ e n. absurd (true_false (sym full ∙ e));
+  jump = λ f e n. absurd (true_false (sym full ∙ e));
+  fault = λ h f e n g. absurd (true_false (sym full ∙ e));
+  wrong = λ h pieces f e n g r. absurd (true_false (sym full ∙ e));
+  takes = λ h pieces pages e n g r. absurd (true_false (sym full ∙ e));
+  means = (refl, full, refl);
 }
 
 -- ---- memory of no pages
@@ -78,16 +60,17 @@ pub idle_next : (mem : Pages) (x : QueueState) → length mem ≡ 0 → x.ring.n
 idle_next mem x e z =
     ap (λ (m : Pages). next_entry m x.ring.layout x.ring.size x.ring.next_avail) (no_pages mem e) ∙ (ap (λ (n : ℕ). next_entry [] x.ring.layout x.ring.size n) z ∙ no_entry x.ring.layout x.ring.size)
 
-pub next_idle : (mem : Pages) (x : QueueState) → length mem ≡ 0 → x.ring.next_avail ≡ 0 → TakesNext mem x x (Ok None)
-next_idle mem x e z =
+pub next_idle : (mem : Pages) (x : QueueState) → is_full x ≡ false → length mem ≡ 0 → x.ring.next_avail ≡ 0 → TakesNext mem x x (Ok None)
+next_idle mem x free e z =
     let none : next_of mem x ≡ Ok None = idle_next mem x e z in
     record {
-      empty = λ n. (refl, refl);
-      jump = λ f n. absurd (ok_err None f (sym none ∙ n));
-      fault = λ h f n g. absurd (none_some (next_of mem x) h none n);
-      wrong = λ h pieces f n g r. absurd (none_some (next_of mem x) h none n);
-      takes = λ h pieces pages n g r. absurd (none_some (next_of mem x) h none n);
-      means = refl;
+      busy = λ b. absurd (true_false (sym b ∙ free));
+      empty = λ k n. (refl, refl);
+      jump = λ f k n. absurd (ok_err None f (sym none ∙ n));
+      fault = λ h f k n g. absurd (none_some (next_of mem x) h none n);
+      wrong = λ h pieces f k n g r. absurd (none_some (next_of mem x) h none n);
+      takes = λ h pieces pages k n g r. absurd (none_some (next_of mem x) h none n);
+      means = (free, refl);
     }
 
 -- ---- what a take leaves
@@ -102,13 +85,13 @@ pub record KeepsRing (mem : Pages) (x1 x2 : QueueState) : Type 0 where
 kept : (mem : Pages) (x1 x2 : QueueState) → x2 ≡ x1 → KeepsRing mem x1 x2
 kept mem x1 x2 e = record { layout = ap (λ (x : QueueState). x.ring.layout) e; size = ap (λ (x : QueueState). x.ring.size) e; ready = ap (λ (x : QueueState). x.ring.ready) e; idle = λ z. e }
 
-pub keeps_ring : (mem : Pages) (x1 x2 : QueueState) (s1 s2 : ℕ) (result : Result (Option ℕ) Refusal) → (length mem ≡ 0 → x1.ring.next_avail ≡ 0) → FromMeans mem x1 x2 s1 s2 result → KeepsRing mem x1 x2
-keeps_ring mem x1 x2 s1 s2 (Ok None) idle m = kept mem x1 x2 m.1
-keeps_ring mem x1 x2 s1 s2 (Ok (Some h)) idle m = record {
+pub keeps_ring : (mem : Pages) (x1 x2 : QueueState) (result : Result (Option ℕ) Refusal) → (length mem ≡ 0 → x1.ring.next_avail ≡ 0) → NextMeans mem x1 x2 result → KeepsRing mem x1 x2
+keeps_ring mem x1 x2 (Ok None) idle m = kept mem x1 x2 m.1
+keeps_ring mem x1 x2 (Ok (Some h)) idle m = record {
   layout = ap (λ (x : QueueState). x.ring.layout) m.1.5;
   size = ap (λ (x : QueueState). x.ring.size) m.1.5;
   ready = ap (λ (x : QueueState). x.ring.ready) m.1.5;
   idle = λ z. absurd (none_some (next_of mem x1) h (idle_next mem x1 z (idle z)) m.1.2);
 }
-keeps_ring mem x1 x2 s1 s2 (Err (Broken rule)) idle m = kept mem x1 x2 m.1
-keeps_ring mem x1 x2 s1 s2 (Err why) idle m = kept mem x1 x2 m.2
+keeps_ring mem x1 x2 (Err (Broken rule)) idle m = kept mem x1 x2 m.1
+keeps_ring mem x1 x2 (Err why) idle m = kept mem x1 x2 m.2

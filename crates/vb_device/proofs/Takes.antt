@@ -1,6 +1,8 @@
 -- A take of the next chain of a queue, put together from what the ring's end and the request's bytes give.
-use Rattle.std.specs.Prelude.{◌≡◌, ℕ, ◌+◌, ◌%◌, ◌<◌, true, List, [], ◌∷◌, ◌++◌, Option, Some, None, Result, Ok, Err, refl}
+use Rattle.std.specs.Prelude.{◌≡◌, ℕ, ◌+◌, ◌%◌, ◌<◌, true, false, List, [], ◌∷◌, ◌++◌, Option, Some, None, Result, Ok, Err, refl}
 use Rattle.std.proofs.Common.{sym, ◌∙◌, ap, arith, zero, suc, get_or, length}
+use Rattle.vb_model.specs.declared.replies.Refusal.{Refusal}
+use Rattle.vb_model.specs.declared.replies.Refusal.TheVariants.{Broken}
 use Rattle.vb_model.specs.Requests.{Request}
 use Rattle.vb_ram.specs.Pages.{Pages}
 use Rattle.vb_chain.specs.declared.ChainFault.{ChainFault}
@@ -8,10 +10,17 @@ use Rattle.vb_ring.specs.declared.device.Taken.{Taken}
 use Rattle.vb_ring.specs.Ends.{DeviceEnd}
 use Rattle.vb_ring.specs.Calls.{PopsBy}
 use Rattle.vb_device.specs.Request.{page_request}
-use Rattle.vb_device.specs.QueueState.{QueueState, with_request, TakesNext}
+use Rattle.vb_device.specs.Faults.{rule_of}
+use Rattle.vb_device.specs.QueueState.{QueueState, with_request, is_full, TakesNext}
 
 abbrev at : DeviceEnd → List Request → QueueState
 at ring taken = record { ring = ring; taken = taken }
+
+true_false : true ≡ false → ⊥
+true_false e = cc
+
+abbrev broken : ChainFault → Result (Option ℕ) Refusal
+broken f = Err (Broken (rule_of f))
 
 ok_err : {A : Type 0} (x : A) (f : ChainFault) → Ok x ≡ Err f → ⊥
 ok_err x f e = cc
@@ -31,28 +40,30 @@ same_fault r f g a b = cc
 same_pages : (r : Result (List ℕ) ChainFault) (xs ys : List ℕ) → r ≡ Ok xs → r ≡ Ok ys → xs ≡ ys
 same_pages r xs ys a b = cc
 
-pub next_none : (mem : Pages) (r1 r2 : DeviceEnd) (taken : List Request) → r1.ready ≡ true → PopsBy mem r1 r2 (Ok None) → TakesNext mem (at r1 taken) (at r2 taken) (Ok None)
-next_none mem r1 r2 taken ready pops =
+pub next_none : (mem : Pages) (r1 r2 : DeviceEnd) (taken : List Request) → is_full (at r1 taken) ≡ false → r1.ready ≡ true → PopsBy mem r1 r2 (Ok None) → TakesNext mem (at r1 taken) (at r2 taken) (Ok None)
+next_none mem r1 r2 taken free ready pops =
     let same : at r2 taken ≡ at r1 taken = ap (λ r. at r taken) pops.state in
     record {
-      empty = λ e. (refl, same);
-      jump = λ f e. absurd (ok_err None f (pops.jump f ready e));
-      fault = λ h f e gives. absurd (ok_err None f (pops.fault h f ready e gives));
-      wrong = λ h pieces f e gives bad. absurd (pops.chain h pieces ready e gives);
-      takes = λ h pieces pages e gives good. absurd (pops.chain h pieces ready e gives);
-      means = same;
+      busy = λ b. absurd (true_false (sym b ∙ free));
+      empty = λ k e. (refl, same);
+      jump = λ f k e. absurd (ok_err None f (pops.jump f ready e));
+      fault = λ h f k e gives. absurd (ok_err None f (pops.fault h f ready e gives));
+      wrong = λ h pieces f k e gives bad. absurd (pops.chain h pieces ready e gives);
+      takes = λ h pieces pages k e gives good. absurd (pops.chain h pieces ready e gives);
+      means = (free, same);
     }
 
-pub next_err : (mem : Pages) (r1 r2 : DeviceEnd) (taken : List Request) (f : ChainFault) → r1.ready ≡ true → PopsBy mem r1 r2 (Err f) → TakesNext mem (at r1 taken) (at r2 taken) (Err f)
-next_err mem r1 r2 taken f ready pops =
+pub next_err : (mem : Pages) (r1 r2 : DeviceEnd) (taken : List Request) (f : ChainFault) → is_full (at r1 taken) ≡ false → r1.ready ≡ true → PopsBy mem r1 r2 (Err f) → TakesNext mem (at r1 taken) (at r2 taken) (Err (Broken (rule_of f)))
+next_err mem r1 r2 taken f free ready pops =
     let same : at r2 taken ≡ at r1 taken = ap (λ r. at r taken) pops.state in
     record {
-      empty = λ e. absurd (err_ok None f (pops.none ready e));
-      jump = λ g e. (ap Err (same_err (Err f) f g refl (pops.jump g ready e)), same);
-      fault = λ h g e gives. (ap Err (same_err (Err f) f g refl (pops.fault h g ready e gives)), same);
-      wrong = λ h pieces g e gives bad. absurd (pops.chain h pieces ready e gives);
-      takes = λ h pieces pages e gives good. absurd (pops.chain h pieces ready e gives);
-      means = same;
+      busy = λ b. absurd (true_false (sym b ∙ free));
+      empty = λ k e. absurd (err_ok None f (pops.none ready e));
+      jump = λ g k e. (ap broken (same_err (Err f) f g refl (pops.jump g ready e)), same);
+      fault = λ h g k e gives. (ap broken (same_err (Err f) f g refl (pops.fault h g ready e gives)), same);
+      wrong = λ h pieces g k e gives bad. absurd (pops.chain h pieces ready e gives);
+      takes = λ h pieces pages k e gives good. absurd (pops.chain h pieces ready e gives);
+      means = (free, same);
     }
 
 -- the end that went back by one
@@ -61,32 +72,34 @@ back r1 r2 r3 small e f =
     let n : ((r1.next_avail + 1) % 65536 + 65535) % 65536 ≡ r1.next_avail = omega arith in
     f ∙ (ap (λ (r : DeviceEnd). record r { next_avail = (r.next_avail + 65535) % 65536 }) e ∙ ap (λ (k : ℕ). record r1 { next_avail = k }) n)
 
-pub next_wrong : (mem : Pages) (r1 r2 r3 : DeviceEnd) (taken : List Request) (t : Taken) (f : ChainFault) → r1.ready ≡ true → PopsBy mem r1 r2 (Ok (Some t)) → page_request mem t.chain ≡ Err f
-    → r3 ≡ record r2 { next_avail = (r2.next_avail + 65535) % 65536 } → TakesNext mem (at r1 taken) (at r3 taken) (Err f)
-next_wrong mem r1 r2 r3 taken t f ready pops is undone =
+pub next_wrong : (mem : Pages) (r1 r2 r3 : DeviceEnd) (taken : List Request) (t : Taken) (f : ChainFault) → is_full (at r1 taken) ≡ false → r1.ready ≡ true → PopsBy mem r1 r2 (Ok (Some t)) → page_request mem t.chain ≡ Err f
+    → r3 ≡ record r2 { next_avail = (r2.next_avail + 65535) % 65536 } → TakesNext mem (at r1 taken) (at r3 taken) (Err (Broken (rule_of f)))
+next_wrong mem r1 r2 r3 taken t f free ready pops is undone =
     let same : at r3 taken ≡ at r1 taken = ap (λ r. at r taken) (back r1 r2 r3 pops.is_end.next_avail pops.state undone) in
     record {
-      empty = λ e. absurd (ok_some_none t (Ok (Some t)) refl (pops.none ready e));
-      jump = λ g e. absurd (ok_err (Some t) g (pops.jump g ready e));
-      fault = λ h g e gives. absurd (ok_err (Some t) g (pops.fault h g ready e gives));
-      wrong = λ h pieces g e gives bad. (ap Err (same_fault (page_request mem t.chain) f g is (ap (page_request mem) (pops.chain h pieces ready e gives).1 ∙ bad)), same);
-      takes = λ h pieces pages e gives good. absurd (err_ok pages f (sym is ∙ (ap (page_request mem) (pops.chain h pieces ready e gives).1 ∙ good)));
-      means = same;
+      busy = λ b. absurd (true_false (sym b ∙ free));
+      empty = λ k e. absurd (ok_some_none t (Ok (Some t)) refl (pops.none ready e));
+      jump = λ g k e. absurd (ok_err (Some t) g (pops.jump g ready e));
+      fault = λ h g k e gives. absurd (ok_err (Some t) g (pops.fault h g ready e gives));
+      wrong = λ h pieces g k e gives bad. (ap broken (same_fault (page_request mem t.chain) f g is (ap (page_request mem) (pops.chain h pieces ready e gives).1 ∙ bad)), same);
+      takes = λ h pieces pages k e gives good. absurd (err_ok pages f (sym is ∙ (ap (page_request mem) (pops.chain h pieces ready e gives).1 ∙ good)));
+      means = (free, same);
     }
 
-pub next_right : (mem : Pages) (r1 r2 : DeviceEnd) (taken : List Request) (t : Taken) (pages : List ℕ) → r1.ready ≡ true → PopsBy mem r1 r2 (Ok (Some t)) → page_request mem t.chain ≡ Ok pages
+pub next_right : (mem : Pages) (r1 r2 : DeviceEnd) (taken : List Request) (t : Taken) (pages : List ℕ) → is_full (at r1 taken) ≡ false → r1.ready ≡ true → PopsBy mem r1 r2 (Ok (Some t)) → page_request mem t.chain ≡ Ok pages
     → TakesNext mem (at r1 taken) (at r2 (taken ++ record { head = t.head; pages = pages; visited = 0 } ∷ [])) (Ok (Some t.head))
-next_right mem r1 r2 taken t pages ready pops is =
+next_right mem r1 r2 taken t pages free ready pops is =
     let after : at r2 (taken ++ record { head = t.head; pages = pages; visited = 0 } ∷ []) ≡ with_request t.head pages (at r1 taken) = ap (λ r. at r (taken ++ record { head = t.head; pages = pages; visited = 0 } ∷ [])) pops.state in
     record {
-      empty = λ e. absurd (ok_some_none t (Ok (Some t)) refl (pops.none ready e));
-      jump = λ g e. absurd (ok_err (Some t) g (pops.jump g ready e));
-      fault = λ h g e gives. absurd (ok_err (Some t) g (pops.fault h g ready e gives));
-      wrong = λ h pieces g e gives bad. absurd (ok_err pages g (sym is ∙ (ap (page_request mem) (pops.chain h pieces ready e gives).1 ∙ bad)));
-      takes = λ h pieces ps e gives good.
+      busy = λ b. absurd (true_false (sym b ∙ free));
+      empty = λ k e. absurd (ok_some_none t (Ok (Some t)) refl (pops.none ready e));
+      jump = λ g k e. absurd (ok_err (Some t) g (pops.jump g ready e));
+      fault = λ h g k e gives. absurd (ok_err (Some t) g (pops.fault h g ready e gives));
+      wrong = λ h pieces g k e gives bad. absurd (ok_err pages g (sym is ∙ (ap (page_request mem) (pops.chain h pieces ready e gives).1 ∙ bad)));
+      takes = λ h pieces ps k e gives good.
           let chain = pops.chain h pieces ready e gives in
           (ap (λ n. Ok (Some n)) chain.0, after ∙ (ap (λ n. with_request n pages (at r1 taken)) chain.0 ∙ ap (λ xs. with_request h xs (at r1 taken)) (same_pages (page_request mem t.chain) pages ps is (ap (page_request mem) chain.1 ∙ good))));
-      means = (pages, t.chain, pops.found.1, pops.found.2, is, after);
+      means = (free, (pages, t.chain, pops.found.1, pops.found.2, is, after));
     }
 
 -- a list of one

@@ -1,5 +1,5 @@
 -- A take by a device, from the take of its queue.
-use Rattle.std.specs.Prelude.{◌≡◌, ℕ, zero, suc, ◌≤◌, Bool, true, false, not, ◌&&◌, ◌||◌, ◌==◌, nat_le, nat_lt, List, [], ◌∷◌, length, Option, Some, None, Result, Ok, Err, if◌then◌else◌, bit_or, refl, is_some}
+use Rattle.std.specs.Prelude.{◌≡◌, ℕ, zero, suc, ◌≤◌, Bool, true, false, not, ◌&&◌, ◌||◌, ◌==◌, nat_lt, List, [], ◌∷◌, length, Option, Some, None, Result, Ok, Err, if◌then◌else◌, bit_or, refl, is_some}
 use Rattle.std.proofs.Common.{sym, ◌∙◌, ap, subst, arith}
 use Rattle.std.proofs.lemmas.Bool.{le-ltb, lt-ltb}
 use Rattle.vb_model.specs.declared.replies.Refusal.{Refusal}
@@ -14,9 +14,9 @@ use Rattle.vb_chain.specs.declared.ChainFault.{ChainFault}
 use Rattle.vb_chain.specs.declared.Piece.{Piece}
 use Rattle.vb_device.specs.Conditions.{take_refusal, finish_refusal}
 use Rattle.vb_device.specs.Queues.{next_available}
-use Rattle.vb_device.specs.Faults.{needing_reset}
-use Rattle.vb_device.specs.QueueState.{QueueState, with_request, next_of, IsChainOf, IsFaultOf}
-use Rattle.vb_device.specs.BaseCalls.{readiness_refusal, queue_refusal, TakesFrom, FromMeans}
+use Rattle.vb_device.specs.Faults.{Breaks, rule_of, needing_reset}
+use Rattle.vb_device.specs.QueueState.{QueueState, with_request, next_of, IsChainOf, IsFaultOf, is_full, NextMeans, LeavesBroken, TakesNext, status_after}
+use Rattle.vb_device.specs.BaseCalls.{readiness_refusal, queue_refusal}
 use Rattle.std.specs.Prelude.{◌*◌}
 use Rattle.vb_model.specs.Status.{contains, driver_ok, failed}
 use Rattle.vb_chain.specs.Table.{descriptor_at}
@@ -116,7 +116,7 @@ takes_refused q mem part why e =
 
 -- how a queue and the status sit in a part, and how what its bytes say is the queue's
 pub record Sits (q : ℕ) (mem : Pages) (P : QueueState → ℕ → Part) (x : QueueState) (s : ℕ) : Type 0 where
-  pub refusal : take_refusal q (P x s) ≡ (if nat_le 16 (length x.taken) then Some Busy else None)
+  pub refusal : take_refusal q (P x s) ≡ (if is_full x then Some Busy else None)
   pub next : next_available q mem (P x s) ≡ next_of mem x
   pub chain : (h : ℕ) (pieces : List Piece) → HasChain q mem (P x s) h pieces → IsChainOf mem x h pieces
   pub chain_back : (h : ℕ) (pieces : List Piece) → IsChainOf mem x h pieces → HasChain q mem (P x s) h pieces
@@ -132,37 +132,40 @@ not_busy : (b : Bool) → (if b then Some Busy else None) ≡ None → b ≡ fal
 not_busy true e = absurd cc
 not_busy false e = refl
 
-both_same : (P : QueueState → ℕ → Part) (x1 x2 : QueueState) (s1 s2 : ℕ) → x2 ≡ x1 → s2 ≡ s1 → P x2 s2 ≡ P x1 s1
-both_same P x1 x2 s1 s2 e f = ap (λ x. P x s2) e ∙ ap (P x1) f
+means_of : (q : ℕ) (mem : Pages) (P : QueueState → ℕ → Part) (x1 x2 : QueueState) (s : ℕ) (result : Result (Option ℕ) Refusal) → Sits q mem P x1 s → (is_full x1 ≡ false → take_refusal q (P x1 s) ≡ None)
+    → (is_full x1 ≡ true → take_refusal q (P x1 s) ≡ Some Busy) → NextMeans mem x1 x2 result → TakeMeans q mem (P x1 s) (P x2 (status_after result s)) result
+means_of q mem P x1 x2 s (Ok None) sits free busy m = (free m.0, ap (λ x. P x s) m.1)
+means_of q mem P x1 x2 s (Ok (Some h)) sits free busy m =
+    (free m.0, (m.1.0, record { next = sits.next ∙ m.1.2; pieces = m.1.1; chain = sits.chain_back h m.1.1 m.1.3; request = m.1.4 }, ap (λ x. P x s) m.1.5 ∙ sym (sits.takes h m.1.0)))
+means_of q mem P x1 x2 s (Err (Broken rule)) sits free busy m = (free m.0, ap (λ x. P x (bit_or s needs_reset)) m.1 ∙ sym sits.resets)
+means_of q mem P x1 x2 s (Err why) sits free busy m = (busy m.1 ∙ ap Some (sym m.0), ap (λ x. P x s) m.2)
 
-means_of : (q : ℕ) (mem : Pages) (P : QueueState → ℕ → Part) (x1 x2 : QueueState) (s1 s2 : ℕ) (result : Result (Option ℕ) Refusal) → Sits q mem P x1 s1 → (free : nat_le 16 (length x1.taken) ≡ false → take_refusal q (P x1 s1) ≡ None)
-    → (busy : nat_le 16 (length x1.taken) ≡ true → take_refusal q (P x1 s1) ≡ Some Busy) → FromMeans mem x1 x2 s1 s2 result → ((h : ℕ) → result ≡ Ok (Some h) → FromMeans mem x1 x2 s1 s2 (Ok (Some h)) → TakeMeans q mem (P x1 s1) (P x2 s2) (Ok (Some h)))
-    → TakeMeans q mem (P x1 s1) (P x2 s2) result
-means_of q mem P x1 x2 s1 s2 (Ok None) sits free busy m some = (free m.0, both_same P x1 x2 s1 s2 m.1 m.2)
-means_of q mem P x1 x2 s1 s2 (Ok (Some h)) sits free busy m some = some h refl m
-means_of q mem P x1 x2 s1 s2 (Err (Broken rule)) sits free busy m some = (free m.0, both_same P x1 x2 (bit_or s1 needs_reset) s2 m.1 m.2 ∙ sym sits.resets)
-means_of q mem P x1 x2 s1 s2 (Err why) sits free busy m some = (busy m.1 ∙ ap Some (sym m.0), both_same P x1 x2 s1 s2 m.2 m.3)
+-- the part after an answer
+after_is : (P : QueueState → ℕ → Part) (x1 x2 : QueueState) (s : ℕ) (result to : Result (Option ℕ) Refusal) → result ≡ to → x2 ≡ x1 → P x2 (status_after result s) ≡ P x1 (status_after to s)
+after_is P x1 x2 s result to e f = ap (λ x. P x (status_after result s)) f ∙ ap (λ r. P x1 (status_after r s)) e
 
-pub takes_by : (q : ℕ) (mem : Pages) (P : QueueState → ℕ → Part) (x1 x2 : QueueState) (s1 s2 : ℕ) (result : Result (Option ℕ) Refusal) → Sits q mem P x1 s1 → TakesFrom mem x1 x2 s1 s2 result → TakesBy q mem mem (P x1 s1) (P x2 s2) result
-takes_by q mem P x1 x2 s1 s2 result sits t =
-    let free : nat_le 16 (length x1.taken) ≡ false → take_refusal q (P x1 s1) ≡ None = λ e. sits.refusal ∙ ap (λ b. if b then Some Busy else None) e in
-    let busy : nat_le 16 (length x1.taken) ≡ true → take_refusal q (P x1 s1) ≡ Some Busy = λ e. sits.refusal ∙ ap (λ b. if b then Some Busy else None) e in
-    let room : take_refusal q (P x1 s1) ≡ None → nat_le 16 (length x1.taken) ≡ false = λ e. not_busy (nat_le 16 (length x1.taken)) (sym sits.refusal ∙ e) in
+breaks : (P : QueueState → ℕ → Part) (x1 x2 : QueueState) (s : ℕ) (f : ChainFault) (result : Result (Option ℕ) Refusal) → needing_reset (P x1 s) ≡ P x1 (bit_or s needs_reset) → LeavesBroken f x1 x2 result → Breaks f (P x1 s) (P x2 (status_after result s)) result
+breaks P x1 x2 s f result resets left = record { answer = left.0; part = after_is P x1 x2 s result (Err (Broken (rule_of f))) left.0 left.1 ∙ sym resets }
+
+pub takes_by : (q : ℕ) (mem : Pages) (P : QueueState → ℕ → Part) (x1 x2 : QueueState) (s : ℕ) (result : Result (Option ℕ) Refusal) → Sits q mem P x1 s → TakesNext mem x1 x2 result → TakesBy q mem mem (P x1 s) (P x2 (status_after result s)) result
+takes_by q mem P x1 x2 s result sits t =
+    let free : is_full x1 ≡ false → take_refusal q (P x1 s) ≡ None = λ e. sits.refusal ∙ ap (λ b. if b then Some Busy else None) e in
+    let busy : is_full x1 ≡ true → take_refusal q (P x1 s) ≡ Some Busy = λ e. sits.refusal ∙ ap (λ b. if b then Some Busy else None) e in
+    let room : take_refusal q (P x1 s) ≡ None → is_full x1 ≡ false = λ e. not_busy (is_full x1) (sym sits.refusal ∙ e) in
     record {
       memory = refl;
       refused = λ why e.
-          let full = is_busy (nat_le 16 (length x1.taken)) why (sym sits.refusal ∙ e) in
+          let full = is_busy (is_full x1) why (sym sits.refusal ∙ e) in
           let got = t.busy full.0 in
-          (got.0 ∙ ap Err full.1, both_same P x1 x2 s1 s2 got.1 got.2);
-      empty = λ e n. (let got = t.empty (room e) (sym sits.next ∙ n) in (got.0, both_same P x1 x2 s1 s2 got.1 got.2));
-      jump = λ f e n. (let got = t.jump f (room e) (sym sits.next ∙ n) in record { answer = got.answer; part = both_same P x1 x2 (bit_or s1 needs_reset) s2 got.queue got.status ∙ sym sits.resets });
-      fault = λ h f e n gives. (let got = t.fault h f (room e) (sym sits.next ∙ n) (sits.fault h f gives) in record { answer = got.answer; part = both_same P x1 x2 (bit_or s1 needs_reset) s2 got.queue got.status ∙ sym sits.resets });
-      wrong = λ h pieces f e n gives bad. (let got = t.wrong h pieces f (room e) (sym sits.next ∙ n) (sits.chain h pieces gives) bad in record { answer = got.answer; part = both_same P x1 x2 (bit_or s1 needs_reset) s2 got.queue got.status ∙ sym sits.resets });
+          (got.0 ∙ ap Err full.1, after_is P x1 x2 s result (Err Busy) got.0 got.1);
+      empty = λ e n. (let got = t.empty (room e) (sym sits.next ∙ n) in (got.0, after_is P x1 x2 s result (Ok None) got.0 got.1));
+      jump = λ f e n. breaks P x1 x2 s f result sits.resets (t.jump f (room e) (sym sits.next ∙ n));
+      fault = λ h f e n gives. breaks P x1 x2 s f result sits.resets (t.fault h f (room e) (sym sits.next ∙ n) (sits.fault h f gives));
+      wrong = λ h pieces f e n gives bad. breaks P x1 x2 s f result sits.resets (t.wrong h pieces f (room e) (sym sits.next ∙ n) (sits.chain h pieces gives) bad);
       takes = λ h pieces pages e n gives good.
           let got = t.takes h pieces pages (room e) (sym sits.next ∙ n) (sits.chain h pieces gives) good in
-          (got.0, both_same P (with_request h pages x1) x2 s1 s2 got.1 got.2 ∙ sym (sits.takes h pages));
-      means = means_of q mem P x1 x2 s1 s2 result sits free busy t.means (λ h is m.
-          (free m.0, (m.1.0, record { next = sits.next ∙ m.1.2; pieces = m.1.1; chain = sits.chain_back h m.1.1 m.1.3; request = m.1.4 }, both_same P (with_request h m.1.0 x1) x2 s1 s2 m.1.5 m.1.6 ∙ sym (sits.takes h m.1.0))));
+          (got.0, after_is P (with_request h pages x1) x2 s result (Ok (Some h)) got.0 got.1 ∙ sym (sits.takes h pages));
+      means = means_of q mem P x1 x2 s result sits free busy t.means;
     }
 
 -- ---- the two queues of a device
@@ -195,16 +198,16 @@ sits_deflate mem features target actual inflate x loose s ok is = record {
   takes = λ h pages. refl;
 }
 
-pub takes_at : (q : ℕ) (mem : Pages) (s1 s2 f t a capacity : ℕ) (qs : List QueueState) (x2 : QueueState) (loose : List Page) (result : Result (Option ℕ) Refusal) → IsBase mem s1 qs capacity → queue_refusal q s1 ≡ None
-    → TakesFrom mem (queue_at q qs) x2 s1 s2 result → TakesBy q mem mem (base_part s1 f t a qs loose) (base_part s2 f t a (set qs q x2) loose) result
-takes_at q mem s1 s2 f t a capacity [] x2 loose result is ok takes = absurd (omega (arith, is.two))
-takes_at q mem s1 s2 f t a capacity (x ∷ []) x2 loose result is ok takes = absurd (omega (arith, is.two))
-takes_at zero mem s1 s2 f t a capacity (x ∷ d ∷ []) x2 loose result is ok takes =
-    takes_by 0 mem (inflate_in f t a d loose) x x2 s1 s2 result (sits_inflate mem f t a x d loose s1 ok (is.each 0 (omega arith))) takes
-takes_at (suc zero) mem s1 s2 f t a capacity (x ∷ d ∷ []) x2 loose result is ok takes =
-    takes_by 1 mem (deflate_in f t a x loose) d x2 s1 s2 result (sits_deflate mem f t a x d loose s1 ok (is.each 1 (omega arith))) takes
-takes_at (suc (suc n)) mem s1 s2 f t a capacity (x ∷ d ∷ []) x2 loose result is ok takes = absurd (none_some (queue_refusal (suc (suc n)) s1) NoQueue ok (far_queue n s1))
-takes_at q mem s1 s2 f t a capacity (x ∷ d ∷ y ∷ ys) x2 loose result is ok takes = absurd (omega (arith, is.two))
+pub takes_at : (q : ℕ) (mem : Pages) (s f t a capacity : ℕ) (qs : List QueueState) (x2 : QueueState) (loose : List Page) (result : Result (Option ℕ) Refusal) → IsBase mem s qs capacity → queue_refusal q s ≡ None
+    → TakesNext mem (queue_at q qs) x2 result → TakesBy q mem mem (base_part s f t a qs loose) (base_part (status_after result s) f t a (set qs q x2) loose) result
+takes_at q mem s f t a capacity [] x2 loose result is ok takes = absurd (omega (arith, is.two))
+takes_at q mem s f t a capacity (x ∷ []) x2 loose result is ok takes = absurd (omega (arith, is.two))
+takes_at zero mem s f t a capacity (x ∷ d ∷ []) x2 loose result is ok takes =
+    takes_by 0 mem (inflate_in f t a d loose) x x2 s result (sits_inflate mem f t a x d loose s ok (is.each 0 (omega arith))) takes
+takes_at (suc zero) mem s f t a capacity (x ∷ d ∷ []) x2 loose result is ok takes =
+    takes_by 1 mem (deflate_in f t a x loose) d x2 s result (sits_deflate mem f t a x d loose s ok (is.each 1 (omega arith))) takes
+takes_at (suc (suc n)) mem s f t a capacity (x ∷ d ∷ []) x2 loose result is ok takes = absurd (none_some (queue_refusal (suc (suc n)) s) NoQueue ok (far_queue n s))
+takes_at q mem s f t a capacity (x ∷ d ∷ y ∷ ys) x2 loose result is ok takes = absurd (omega (arith, is.two))
 
 -- ---- what stays true of a device
 

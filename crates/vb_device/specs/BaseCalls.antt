@@ -1,25 +1,19 @@
 -- What the parts of a device's calls do.
-use Rattle.std.specs.Prelude.{◌≡◌, ℕ, ◌+◌, ◌%◌, ◌<◌, ◌≤◌, ◌==◌, true, false, nat_le, nat_lt, List, [], ◌∷◌, ◌++◌, length, remove, if◌then◌else◌, Option, Some, None, IsSome, Result, Ok, Err, bit_or}
+use Rattle.std.specs.Prelude.{◌≡◌, ℕ, ◌+◌, ◌%◌, ◌<◌, ◌≤◌, ◌==◌, true, nat_lt, List, [], ◌∷◌, ◌++◌, remove, if◌then◌else◌, Option, Some, None, IsSome, Result, Ok, Err}
 use Rattle.vb_model.specs.declared.layout.TheConstants.{DEFLATE_QUEUE}
 use Rattle.vb_model.specs.declared.replies.Refusal.{Refusal}
-use Rattle.vb_model.specs.declared.replies.Refusal.TheVariants.{NoQueue, NotReady, NeedsReset, Busy, Broken}
+use Rattle.vb_model.specs.declared.replies.Refusal.TheVariants.{NoQueue, NotReady, NeedsReset}
 use Rattle.vb_model.specs.Layout.{ring_page}
-use Rattle.vb_model.specs.Limits.{max_outstanding}
-use Rattle.vb_model.specs.Status.{contains, driver_ok, needs_reset}
+use Rattle.vb_model.specs.Status.{contains, driver_ok}
 use Rattle.vb_model.specs.Requests.{Request}
 pub use Rattle.vb_model.specs.FirstRefusal.{refusal_in}
 use Rattle.vb_model.specs.FirstRefusal.{◌⇒◌, first_refusal}
 use Rattle.vb_model.specs.Tables.{work_tests}
 use Rattle.vb_ram.specs.Pages.{Pages, frame_at}
 use Rattle.vb_ram.specs.Part.{Part}
-use Rattle.vb_chain.specs.declared.ChainFault.{ChainFault}
-use Rattle.vb_chain.specs.declared.Piece.{Piece}
 use Rattle.vb_ring.specs.Calls.{AddsUsedBy}
 use Rattle.vb_device.specs.Queues.{queue_part, with_queue, queue_end}
 use Rattle.vb_device.specs.Conditions.{finish_refusal, taken_at}
-use Rattle.vb_device.specs.Faults.{rule_of}
-use Rattle.vb_device.specs.Request.{page_request}
-use Rattle.vb_device.specs.QueueState.{QueueState, with_request, next_of, IsChainOf, IsFaultOf}
 use Rattle.vb_device.specs.Discards.{frames_behind}
 use Rattle.vb_device.specs.Calls.{without_frames}
 
@@ -31,50 +25,6 @@ readiness_refusal status = first_refusal (work_tests status)
 abbrev pub queue_refusal : ℕ → ℕ → Option Refusal
 queue_refusal q status =
     first_refusal ((nat_lt DEFLATE_QUEUE q ⇒ NoQueue) ∷ work_tests status)
-
--- A fault of this queue: the status needs a reset, and the queue is as before.
-pub record BreaksQueue (fault : ChainFault) (q1 q2 : QueueState) (s1 s2 : ℕ)
-    (result : Result (Option ℕ) Refusal) : Type 0 where
-  pub answer : result ≡ Err (Broken (rule_of fault))
-  pub status : s2 ≡ bit_or s1 needs_reset
-  pub queue : q2 ≡ q1
-
--- What each answer says.
-abbrev pub FromMeans : Pages → QueueState → QueueState → ℕ → ℕ → Result (Option ℕ) Refusal → Type 0
-FromMeans mem q1 q2 s1 s2 (Ok None) =
-    (nat_le max_outstanding (length q1.taken) ≡ false) × (q2 ≡ q1) × (s2 ≡ s1)
-FromMeans mem q1 q2 s1 s2 (Ok (Some h)) =
-    (nat_le max_outstanding (length q1.taken) ≡ false) ×
-    ((pages : List ℕ) × (pieces : List Piece) ×
-    (next_of mem q1 ≡ Ok (Some h)) × IsChainOf mem q1 h pieces ×
-    (page_request mem pieces ≡ Ok pages) × (q2 ≡ with_request h pages q1) × (s2 ≡ s1))
-FromMeans mem q1 q2 s1 s2 (Err (Broken rule)) =
-    (nat_le max_outstanding (length q1.taken) ≡ false) × (q2 ≡ q1) × (s2 ≡ bit_or s1 needs_reset)
-FromMeans mem q1 q2 s1 s2 (Err why) =
-    (why ≡ Busy) × (nat_le max_outstanding (length q1.taken) ≡ true) × (q2 ≡ q1) × (s2 ≡ s1)
-
--- A take from one queue by a device whose driver is ready: on any bytes, with the status before and
--- after.
-pub record TakesFrom (mem : Pages) (q1 q2 : QueueState) (s1 s2 : ℕ)
-    (result : Result (Option ℕ) Refusal) : Type 0 where
-  pub busy : nat_le max_outstanding (length q1.taken) ≡ true →
-      (result ≡ Err Busy) × (q2 ≡ q1) × (s2 ≡ s1)
-  pub empty : nat_le max_outstanding (length q1.taken) ≡ false → next_of mem q1 ≡ Ok None →
-      (result ≡ Ok None) × (q2 ≡ q1) × (s2 ≡ s1)
-  pub jump : (fault : ChainFault) → nat_le max_outstanding (length q1.taken) ≡ false →
-      next_of mem q1 ≡ Err fault → BreaksQueue fault q1 q2 s1 s2 result
-  pub fault : (h : ℕ) (fault : ChainFault) → nat_le max_outstanding (length q1.taken) ≡ false →
-      next_of mem q1 ≡ Ok (Some h) → IsFaultOf mem q1 h fault → BreaksQueue fault q1 q2 s1 s2 result
-  pub wrong : (h : ℕ) (pieces : List Piece) (fault : ChainFault) →
-      nat_le max_outstanding (length q1.taken) ≡ false → next_of mem q1 ≡ Ok (Some h) →
-      IsChainOf mem q1 h pieces →
-      page_request mem pieces ≡ Err fault → BreaksQueue fault q1 q2 s1 s2 result
-  pub takes : (h : ℕ) (pieces : List Piece) (pages : List ℕ) →
-      nat_le max_outstanding (length q1.taken) ≡ false → next_of mem q1 ≡ Ok (Some h) →
-      IsChainOf mem q1 h pieces →
-      page_request mem pieces ≡ Ok pages →
-      (result ≡ Ok (Some h)) × (q2 ≡ with_request h pages q1) × (s2 ≡ s1)
-  pub means : FromMeans mem q1 q2 s1 s2 result
 
 -- ---- finish, in its two parts
 

@@ -1,8 +1,11 @@
 -- One queue of page requests as a device has it.
-use Rattle.std.specs.Prelude.{◌≡◌, ℕ, ◌+◌, ◌*◌, ◌%◌, ◌≤◌, Bool, false, List, [], ◌∷◌, ◌++◌, All, length, Option, Some, None, Result, Ok, Err}
+use Rattle.std.specs.Prelude.{◌≡◌, ℕ, ◌+◌, ◌*◌, ◌%◌, ◌≤◌, Bool, true, false, nat_le, List, [], ◌∷◌, ◌++◌, All, length, Option, Some, None, Result, Ok, Err, bit_or}
+use Rattle.vb_model.specs.declared.replies.Refusal.{Refusal}
+use Rattle.vb_model.specs.declared.replies.Refusal.TheVariants.{Busy, Broken}
+use Rattle.vb_model.specs.Status.{needs_reset}
 use Rattle.vb_model.specs.Requests.{Request}
 use Rattle.vb_model.specs.Driver.{AllDistinct}
-use Rattle.vb_model.specs.Limits.{page_size, reserved_pages}
+use Rattle.vb_model.specs.Limits.{page_size, reserved_pages, max_outstanding}
 use Rattle.vb_ram.specs.Pages.{Pages}
 use Rattle.vb_ram.specs.Part.{QueuePart}
 use Rattle.vb_chain.specs.declared.ChainFault.{ChainFault}
@@ -12,6 +15,7 @@ use Rattle.vb_chain.specs.Chain.{ChainGives, FaultGives}
 use Rattle.vb_ring.specs.Layout.{layout_of}
 use Rattle.vb_ring.specs.Ends.{DeviceEnd}
 use Rattle.vb_ring.specs.Entries.{next_entry}
+use Rattle.vb_device.specs.Faults.{rule_of}
 use Rattle.vb_device.specs.Request.{page_request}
 
 -- The device's end of the ring, and the requests that are taken, oldest first.
@@ -76,26 +80,45 @@ abbrev pub IsFaultOf : Pages → QueueState → ℕ → ChainFault → Type 0
 IsFaultOf mem q h fault =
     FaultGives (descriptor_at mem q.ring.layout.table) q.ring.size (page_size * length mem) h fault
 
--- What each answer says.
-abbrev pub NextMeans : Pages → QueueState → QueueState → Result (Option ℕ) ChainFault → Type 0
-NextMeans mem q1 q2 (Err fault) = q2 ≡ q1
-NextMeans mem q1 q2 (Ok None) = q2 ≡ q1
-NextMeans mem q1 q2 (Ok (Some h)) =
-    (pages : List ℕ) × (pieces : List Piece) ×
-    (next_of mem q1 ≡ Ok (Some h)) × IsChainOf mem q1 h pieces ×
-    (page_request mem pieces ≡ Ok pages) × (q2 ≡ with_request h pages q1)
+-- As many requests are taken as may be.
+abbrev pub is_full : QueueState → Bool
+is_full q = nat_le max_outstanding (length q.taken)
 
--- A take of the next chain, on any bytes.
+-- What each answer says.
+abbrev pub NextMeans : Pages → QueueState → QueueState → Result (Option ℕ) Refusal → Type 0
+NextMeans mem q1 q2 (Ok None) = (is_full q1 ≡ false) × (q2 ≡ q1)
+NextMeans mem q1 q2 (Ok (Some h)) =
+    (is_full q1 ≡ false) ×
+    ((pages : List ℕ) × (pieces : List Piece) ×
+    (next_of mem q1 ≡ Ok (Some h)) × IsChainOf mem q1 h pieces ×
+    (page_request mem pieces ≡ Ok pages) × (q2 ≡ with_request h pages q1))
+NextMeans mem q1 q2 (Err (Broken rule)) = (is_full q1 ≡ false) × (q2 ≡ q1)
+NextMeans mem q1 q2 (Err why) = (why ≡ Busy) × (is_full q1 ≡ true) × (q2 ≡ q1)
+
+-- A chain that breaks a rule is left where it is.
+abbrev pub LeavesBroken : ChainFault → QueueState → QueueState → Result (Option ℕ) Refusal → Type 0
+LeavesBroken fault q1 q2 result = (result ≡ Err (Broken (rule_of fault))) × (q2 ≡ q1)
+
+-- A take of the next chain of a queue that is ready, on any bytes.
 pub record TakesNext (mem : Pages) (q1 q2 : QueueState)
-    (result : Result (Option ℕ) ChainFault) : Type 0 where
-  pub empty : next_of mem q1 ≡ Ok None → (result ≡ Ok None) × (q2 ≡ q1)
-  pub jump : (fault : ChainFault) → next_of mem q1 ≡ Err fault → (result ≡ Err fault) × (q2 ≡ q1)
-  pub fault : (h : ℕ) (fault : ChainFault) → next_of mem q1 ≡ Ok (Some h) →
-      IsFaultOf mem q1 h fault → (result ≡ Err fault) × (q2 ≡ q1)
-  pub wrong : (h : ℕ) (pieces : List Piece) (fault : ChainFault) → next_of mem q1 ≡ Ok (Some h) →
-      IsChainOf mem q1 h pieces → page_request mem pieces ≡ Err fault →
-      (result ≡ Err fault) × (q2 ≡ q1)
-  pub takes : (h : ℕ) (pieces : List Piece) (pages : List ℕ) → next_of mem q1 ≡ Ok (Some h) →
-      IsChainOf mem q1 h pieces → page_request mem pieces ≡ Ok pages →
+    (result : Result (Option ℕ) Refusal) : Type 0 where
+  pub busy : is_full q1 ≡ true → (result ≡ Err Busy) × (q2 ≡ q1)
+  pub empty : is_full q1 ≡ false → next_of mem q1 ≡ Ok None → (result ≡ Ok None) × (q2 ≡ q1)
+  pub jump : (fault : ChainFault) → is_full q1 ≡ false → next_of mem q1 ≡ Err fault →
+      LeavesBroken fault q1 q2 result
+  pub fault : (h : ℕ) (fault : ChainFault) → is_full q1 ≡ false → next_of mem q1 ≡ Ok (Some h) →
+      IsFaultOf mem q1 h fault → LeavesBroken fault q1 q2 result
+  pub wrong : (h : ℕ) (pieces : List Piece) (fault : ChainFault) → is_full q1 ≡ false →
+      next_of mem q1 ≡ Ok (Some h) → IsChainOf mem q1 h pieces →
+      page_request mem pieces ≡ Err fault → LeavesBroken fault q1 q2 result
+  pub takes : (h : ℕ) (pieces : List Piece) (pages : List ℕ) → is_full q1 ≡ false →
+      next_of mem q1 ≡ Ok (Some h) → IsChainOf mem q1 h pieces →
+      page_request mem pieces ≡ Ok pages →
       (result ≡ Ok (Some h)) × (q2 ≡ with_request h pages q1)
   pub means : NextMeans mem q1 q2 result
+
+-- The status after such an answer: a broken rule needs a reset (VIRTIO 1.1, 2.1.2).
+abbrev pub status_after : Result (Option ℕ) Refusal → ℕ → ℕ
+status_after (Err (Broken rule)) status = bit_or status needs_reset
+status_after (Err why) status = status
+status_after (Ok head) status = status

@@ -10,16 +10,16 @@ ghost use Rattle.vb_ram.specs.Pages.{frame_at, number_of, Supplied, IsWhole};
 ghost use Rattle.vb_ring.specs.Layout.{IsInside};
 ghost use Rattle.vb_status.specs.Bits.{status_bits};
 ghost use Rattle.vb_device.specs.Base.{numbers_of_frames, IsPlain};
-ghost use Rattle.vb_device.specs.BaseCalls.{TakesFrom, TakesOut, UsesChain, CanUse, readiness_refusal, queue_refusal, with_lost};
-ghost use Rattle.vb_device.specs.Calls.{IsUnused, attached, TakesBy, HandsBack, without_frames};
+ghost use Rattle.vb_device.specs.BaseCalls.{TakesOut, UsesChain, CanUse, readiness_refusal, queue_refusal, with_lost};
+ghost use Rattle.vb_device.specs.Calls.{IsUnused, attached, TakesBy, SweepsBy, HandsBack, without_frames};
 ghost use Rattle.vb_device.specs.Discards.{discarded, frames_behind};
-ghost use Rattle.vb_device.specs.Faults.{rule_of};
+ghost use Rattle.vb_device.specs.QueueState.{status_after};
 
+use crate::flags::PageFlags;
 use crate::queue::{DeviceQueue, TakenRequest};
 use bitflags::Flags;
 use std::alloc::{AllocError, Global};
 use std::marker::Model;
-use vb_chain::ChainFault;
 use vb_model::Refusal;
 use vb_model::layout::{DEFLATE_QUEUE, DEFLATE_RING_PAGE, INFLATE_RING_PAGE};
 use vb_model::limits::MAX_REQUEST_PAGES;
@@ -65,51 +65,12 @@ impl Model for DeviceBase {
     ghost invariant = { λ s. IsBase s.ram (status_bits s.status) s.queues (vec_capacity s.loose) };
 }
 
-/// The number of the rule that a fault breaks.
-fn rule_of(fault: ChainFault) -> u32
-    ensures { result ≡ rule_of fault }
+/// Sets DEVICE_NEEDS_RESET where a take found a broken rule.
+fn note_fault(status: &mut Status, taken: &Result<Option<u16>, Refusal>)
+    ensures { status_bits status.new ≡ status_after taken.now (status_bits status.old) }
 {
-    match fault {
-        ChainFault::BadHead => 1,
-        ChainFault::BadNext => 2,
-        ChainFault::TooLong => 3,
-        ChainFault::Indirect => 4,
-        ChainFault::WrongDirection => 5,
-        ChainFault::OutOfRam => 6,
-        ChainFault::IndexJump => 7,
-        ChainFault::BadLength => 8,
-        ChainFault::BadPage => 9,
-        ChainFault::ReservedPage => 10,
-    }
-}
-
-/// Takes the next chain of a queue, where the driver is ready.
-fn take_from<G: GuestBytes>(
-    requests: &mut DeviceQueue,
-    ram: &G,
-    status: &mut Status,
-) -> Result<Option<u16>, Refusal>
-    requires inside { 0 < length (G.mem ram.now) →
-        IsInside (G.mem ram.now) requests.old.ring.layout }
-    requires idle { length (G.mem ram.now) ≡ 0 → requests.old.ring.next_avail ≡ 0 }
-    requires ready { requests.old.ring.ready ≡ true }
-    ensures { TakesFrom (G.mem ram.now) requests.old requests.new
-        (status_bits status.old) (status_bits status.new) result }
-{
-    if requests.is_full() {
-        return Err(Refusal::Busy);
-    }
-    if ram.pages() == 0 {
-        return Ok(None);
-    }
-    match requests.take(ram) {
-        Ok(head) => Ok(head),
-        Err(fault) => {
-            status.insert(Status::DEVICE_NEEDS_RESET);
-            Err(Refusal::Broken {
-                rule: rule_of(fault),
-            })
-        }
+    if let Err(Refusal::Broken { .. }) = taken {
+        status.insert(Status::DEVICE_NEEDS_RESET);
     }
 }
 
@@ -210,7 +171,7 @@ impl DeviceBase {
 
     /// `NotReady` where the driver isn't done with the initialisation or has given up, and
     /// `NeedsReset` after a fault.
-    pub(crate) fn readiness_refusal(&self) -> Option<Refusal>
+    fn readiness_refusal(&self) -> Option<Refusal>
         ensures { result ≡ readiness_refusal self.now.part.status }
     {
         if !self.status.contains(Status::DRIVER_OK) || self.status.contains(Status::FAILED) {
@@ -240,11 +201,9 @@ impl DeviceBase {
         if let Some(why) = self.queue_refusal(queue) {
             return Err(why);
         }
-        take_from(
-            &mut self.queues[queue as usize],
-            &self.ram,
-            &mut self.status,
-        )
+        let taken = self.queues[queue as usize].take(&self.ram);
+        note_fault(&mut self.status, &taken);
+        taken
     }
 
     /// Takes a taken request out of queue 0 or 1, with the frames behind an inflate's pages. The
@@ -311,7 +270,7 @@ impl DeviceBase {
     }
 
     /// Takes the frame of one page away, if it has one; says whether it had.
-    pub(crate) fn discard(&mut self, page: u32) -> bool
+    fn discard(&mut self, page: u32) -> bool
         requires attached { 0 < length self.old.mem }
         requires room { length self.old.part.loose ≤ length self.old.mem }
         ensures answer { result ≡ is_some (frame_at self.old.mem page) }
@@ -325,6 +284,25 @@ impl DeviceBase {
         let had = self.ram.backing(page).is_some();
         discard_all(&mut self.ram, &mut self.loose, &[page]);
         had
+    }
+
+    /// Takes the frame of a page away, if it has one, where these flags have the page; says whether
+    /// it had.
+    pub(crate) fn sweep(&mut self, page: u32, ballooned: &PageFlags) -> Result<bool, Refusal>
+        requires flags { length ballooned.now ≡ length self.old.mem }
+        requires room { length self.old.part.loose ≤ length self.old.mem }
+        ensures by { SweepsBy page self.old.mem self.new.mem
+            (record self.old.part { ballooned = ballooned.now })
+            (record self.new.part { ballooned = ballooned.now }) result }
+        ensures count { length self.new.mem ≡ length self.old.mem }
+    {
+        if let Some(why) = self.readiness_refusal() {
+            return Err(why);
+        }
+        if !ballooned.get(page) {
+            return Err(Refusal::NotBallooned);
+        }
+        Ok(self.discard(page))
     }
 
     /// Gives out the last loose frame.

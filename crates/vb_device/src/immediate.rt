@@ -140,15 +140,7 @@ impl Device for ImmediateDevice {
     }
 
     fn sweep(&mut self, page: u32) -> Result<bool, Refusal> {
-        match self.base.readiness_refusal() {
-            Some(why) => Err(why),
-            None => {
-                if !self.ballooned.get(page) {
-                    return Err(Refusal::NotBallooned);
-                }
-                Ok(self.base.discard(page))
-            }
-        }
+        self.base.sweep(page, &self.ballooned)
     }
 
     fn ballooned(&self, page: u32) -> bool {

@@ -7,18 +7,48 @@ ghost use Rattle.vb_model.specs.Limits.{max_outstanding, max_request_pages};
 ghost use Rattle.vb_ring.specs.Layout.{layout_of, IsInside, IsBacked};
 ghost use Rattle.vb_ring.specs.Ends.{IsDeviceEnd};
 ghost use Rattle.vb_ring.specs.Calls.{AddsUsedBy};
-ghost use Rattle.vb_device.specs.QueueState.{started, restarted, AreNamed, TakesNext};
+ghost use Rattle.vb_model.specs.declared.replies.Refusal.TheVariants.{Broken};
+ghost use Rattle.vb_device.specs.Faults.{rule_of};
+ghost use Rattle.vb_device.specs.QueueState.{started, restarted, is_full, AreNamed, TakesNext};
 
 use crate::request::{RequestPages, page_request};
 use arrayvec::ArrayVec;
 use std::marker::Model;
 use vb_chain::ChainFault;
+use vb_model::Refusal;
 use vb_model::limits::MAX_OUTSTANDING;
 use vb_ram::GuestBytes;
 use vb_ring::Queue;
 
 /// Requests of a queue that may be taken at a time.
 const MAX_TAKEN: usize = MAX_OUTSTANDING as usize;
+
+/// The number of the rule that a fault breaks.
+fn rule_of(fault: ChainFault) -> u32
+    ensures { result ≡ rule_of fault }
+{
+    match fault {
+        ChainFault::BadHead => 1,
+        ChainFault::BadNext => 2,
+        ChainFault::TooLong => 3,
+        ChainFault::Indirect => 4,
+        ChainFault::WrongDirection => 5,
+        ChainFault::OutOfRam => 6,
+        ChainFault::IndexJump => 7,
+        ChainFault::BadLength => 8,
+        ChainFault::BadPage => 9,
+        ChainFault::ReservedPage => 10,
+    }
+}
+
+/// The answer to a chain with a fault.
+fn broken(fault: ChainFault) -> Refusal
+    ensures { result ≡ Broken (rule_of fault) }
+{
+    Refusal::Broken {
+        rule: rule_of(fault),
+    }
+}
 
 /// A request that was taken and isn't finished yet.
 #[derive(Drop)]
@@ -126,21 +156,29 @@ impl DeviceQueue {
     }
 
     /// Whether as many requests are taken as may be.
-    pub(crate) fn is_full(&self) -> bool
-        ensures { result ≡ nat_le max_outstanding (length self.now.taken) }
+    fn is_full(&self) -> bool
+        ensures { result ≡ is_full self.now }
     {
         self.taken.len() >= MAX_TAKEN
     }
 
     /// Takes the next chain as a request: answers its head, or none where no chain is available.
-    pub(crate) fn take<G: GuestBytes>(&mut self, ram: &G) -> Result<Option<u16>, ChainFault>
-        requires inside { IsInside (G.mem ram.now) self.old.ring.layout }
+    /// Refused with `Busy` where as many requests are taken as may be, and with `Broken`.
+    pub(crate) fn take<G: GuestBytes>(&mut self, ram: &G) -> Result<Option<u16>, Refusal>
+        requires inside { 0 < length (G.mem ram.now) →
+            IsInside (G.mem ram.now) self.old.ring.layout }
+        requires idle { length (G.mem ram.now) ≡ 0 → self.old.ring.next_avail ≡ 0 }
         requires ready { self.old.ring.ready ≡ true }
-        requires room { length self.old.taken < max_outstanding }
         ensures { TakesNext (G.mem ram.now) self.old self.new result }
     {
+        if self.is_full() {
+            return Err(Refusal::Busy);
+        }
+        if ram.pages() == 0 {
+            return Ok(None);
+        }
         match self.queue.pop_descriptor_chain(ram) {
-            Err(fault) => Err(fault),
+            Err(fault) => Err(broken(fault)),
             Ok(found) => match found {
                 None => Ok(None),
                 Some(taken) => match page_request(ram, taken.chain.pieces()) {
@@ -153,7 +191,7 @@ impl DeviceQueue {
                     }
                     Err(wrong) => {
                         self.queue.go_to_previous_position();
-                        Err(wrong)
+                        Err(broken(wrong))
                     }
                 },
             },

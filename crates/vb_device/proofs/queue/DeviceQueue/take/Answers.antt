@@ -1,4 +1,4 @@
-use Rattle.std.proofs.Common.{◌≡◌, true, ◌∙◌, ◌+◌, ◌*◌, ◌≤◌, ◌<◌, ℕ, List, ◌∷◌, [], Option, Some, None, Ok, Err, sym, ap, subst}
+use Rattle.std.proofs.Common.{◌≡◌, true, false, rules, ◌∙◌, ◌+◌, ◌*◌, ◌≤◌, ◌<◌, ℕ, List, ◌∷◌, [], Option, Some, None, Ok, Err, sym, ap, subst}
 use Rattle.std.specs.Prelude.{All, length}
 use Rattle.std.proofs.lemmas.List.Elements.{All-append}
 use Rattle.vb_model.specs.Requests.{Request}
@@ -8,25 +8,41 @@ use Rattle.vb_ring.specs.declared.device.Taken.{Taken}
 use Rattle.vb_ring.specs.Calls.{PopsBy}
 use Rattle.vb_device.specs.Request.{page_request}
 use Rattle.vb_device.proofs.RequestPages.{request_pages}
-use Rattle.vb_device.specs.QueueState.{QueueState, TakesNext}
+use Rattle.vb_device.specs.QueueState.{QueueState, is_full, TakesNext}
+use Rattle.vb_device.proofs.FromNext.{next_busy, next_idle}
+use Rattle.vb_model.specs.declared.replies.Refusal.{Refusal}
 use Rattle.vb_device.proofs.Chains.{chain_fits}
 use Rattle.vb_device.proofs.Takes.{next_none, next_err, next_wrong, next_right, one_all}
 use Rattle.vb_ring.specs.Ends.{DeviceEnd}
 use Rattle.vb_device.proofs.queue.DeviceQueue.take.Goals as goal
 
+pub returns-then-is_full : goal.returns-then-is_full
+returns-then-is_full g c =
+    let full : is_full c.args.self.now ≡ true = search rules in
+    next_busy (g.G.GuestBytes.mem c.args.ram.now) c.args.self.now full
+
+pub returns-then-pages-eq0 : goal.returns-then-pages-eq0
+returns-then-pages-eq0 g c =
+    let free : is_full c.args.self.now ≡ false = search rules in
+    let none : length (g.G.GuestBytes.mem c.args.ram.now) ≡ 0 = search rules in
+    next_idle (g.G.GuestBytes.mem c.args.ram.now) c.args.self.now free none (c.requires.idle none)
+
 pub returns-in-Err : goal.returns-in-Err
 returns-in-Err g c =
+    let free : is_full (record { ring = c.self.inside.queue; taken = c.self.inside.taken.items }) ≡ false = ap is_full c.self.view_is ∙ (sym c.is_full.ensures ∙ c.if-is_full.false) in
     let ready : c.self.inside.queue.ready ≡ true = ap (λ (q : QueueState). q.ring.ready) c.self.view_is ∙ c.requires.ready in
-    subst (λ (q : QueueState). TakesNext (g.G.GuestBytes.mem c.args.ram.now) q (record { ring = c.pop_descriptor_chain.new.self; taken = c.self.inside.taken.items }) (Err c.in-Err.fault)) c.self.view_is
-    (next_err (g.G.GuestBytes.mem c.args.ram.now) c.self.inside.queue c.pop_descriptor_chain.new.self c.self.inside.taken.items c.in-Err.fault ready c.in-Err.ensures)
+    subst (λ (q : QueueState). TakesNext (g.G.GuestBytes.mem c.args.ram.now) q (record { ring = c.pop_descriptor_chain.new.self; taken = c.self.inside.taken.items }) (Err c.broken.result)) c.self.view_is
+    (subst (λ (w : Refusal). TakesNext (g.G.GuestBytes.mem c.args.ram.now) (record { ring = c.self.inside.queue; taken = c.self.inside.taken.items }) (record { ring = c.pop_descriptor_chain.new.self; taken = c.self.inside.taken.items }) (Err w)) (sym c.broken.ensures)
+    (next_err (g.G.GuestBytes.mem c.args.ram.now) c.self.inside.queue c.pop_descriptor_chain.new.self c.self.inside.taken.items c.in-Err.fault free ready c.in-Err.ensures))
 
 pub returns-in-None : goal.returns-in-None
 returns-in-None g c =
+    let free : is_full (record { ring = c.self.inside.queue; taken = c.self.inside.taken.items }) ≡ false = ap is_full c.self.view_is ∙ (sym c.is_full.ensures ∙ c.if-is_full.false) in
     let ready : c.self.inside.queue.ready ≡ true = ap (λ (q : QueueState). q.ring.ready) c.self.view_is ∙ c.requires.ready in
     let pops : PopsBy (g.G.GuestBytes.mem c.args.ram.now) c.self.inside.queue c.pop_descriptor_chain.new.self (Ok None) =
     subst (λ (o : Option Taken). PopsBy (g.G.GuestBytes.mem c.args.ram.now) c.self.inside.queue c.pop_descriptor_chain.new.self (Ok o)) c.in-None.is c.in-Ok.ensures in
     subst (λ (q : QueueState). TakesNext (g.G.GuestBytes.mem c.args.ram.now) q (record { ring = c.pop_descriptor_chain.new.self; taken = c.self.inside.taken.items }) (Ok None)) c.self.view_is
-    (next_none (g.G.GuestBytes.mem c.args.ram.now) c.self.inside.queue c.pop_descriptor_chain.new.self c.self.inside.taken.items ready pops)
+    (next_none (g.G.GuestBytes.mem c.args.ram.now) c.self.inside.queue c.pop_descriptor_chain.new.self c.self.inside.taken.items free ready pops)
 
 pub page_request-requires-clause-inside : goal.page_request-requires-clause-inside
 page_request-requires-clause-inside g c =
@@ -53,19 +69,22 @@ invariant_of-self-in-Ok-page_request g c =
 
 pub returns-in-Ok-page_request : goal.returns-in-Ok-page_request
 returns-in-Ok-page_request g c =
+    let free : is_full (record { ring = c.self.inside.queue; taken = c.self.inside.taken.items }) ≡ false = ap is_full c.self.view_is ∙ (sym c.is_full.ensures ∙ c.if-is_full.false) in
     let ready : c.self.inside.queue.ready ≡ true = ap (λ (q : QueueState). q.ring.ready) c.self.view_is ∙ c.requires.ready in
     let pops : PopsBy (g.G.GuestBytes.mem c.args.ram.now) c.self.inside.queue c.pop_descriptor_chain.new.self (Ok (Some c.in-Some.taken)) =
     subst (λ (o : Option Taken). PopsBy (g.G.GuestBytes.mem c.args.ram.now) c.self.inside.queue c.pop_descriptor_chain.new.self (Ok o)) c.in-Some.is c.in-Ok.ensures in
     let good : page_request (g.G.GuestBytes.mem c.args.ram.now) c.in-Some.taken.chain ≡ Ok c.in-Ok-page_request.pages.items = ap (page_request (g.G.GuestBytes.mem c.args.ram.now)) (sym c.pieces.ensures) ∙ c.in-Ok-page_request.ensures in
     subst (λ (q : QueueState). TakesNext (g.G.GuestBytes.mem c.args.ram.now) q (record { ring = c.pop_descriptor_chain.new.self; taken = c.push.new.self.items }) (Ok (Some c.in-Some.taken.head))) c.self.view_is
     (subst (λ (xs : List Request). TakesNext (g.G.GuestBytes.mem c.args.ram.now) (record { ring = c.self.inside.queue; taken = c.self.inside.taken.items }) (record { ring = c.pop_descriptor_chain.new.self; taken = xs }) (Ok (Some c.in-Some.taken.head))) (sym c.push.ensures.items)
-    (next_right (g.G.GuestBytes.mem c.args.ram.now) c.self.inside.queue c.pop_descriptor_chain.new.self c.self.inside.taken.items c.in-Some.taken c.in-Ok-page_request.pages.items ready pops good))
+    (next_right (g.G.GuestBytes.mem c.args.ram.now) c.self.inside.queue c.pop_descriptor_chain.new.self c.self.inside.taken.items c.in-Some.taken c.in-Ok-page_request.pages.items free ready pops good))
 
 pub returns-in-Err-page_request : goal.returns-in-Err-page_request
 returns-in-Err-page_request g c =
+    let free : is_full (record { ring = c.self.inside.queue; taken = c.self.inside.taken.items }) ≡ false = ap is_full c.self.view_is ∙ (sym c.is_full.ensures ∙ c.if-is_full.false) in
     let ready : c.self.inside.queue.ready ≡ true = ap (λ (q : QueueState). q.ring.ready) c.self.view_is ∙ c.requires.ready in
     let pops : PopsBy (g.G.GuestBytes.mem c.args.ram.now) c.self.inside.queue c.pop_descriptor_chain.new.self (Ok (Some c.in-Some.taken)) =
     subst (λ (o : Option Taken). PopsBy (g.G.GuestBytes.mem c.args.ram.now) c.self.inside.queue c.pop_descriptor_chain.new.self (Ok o)) c.in-Some.is c.in-Ok.ensures in
     let bad : page_request (g.G.GuestBytes.mem c.args.ram.now) c.in-Some.taken.chain ≡ Err c.in-Err-page_request.wrong = ap (page_request (g.G.GuestBytes.mem c.args.ram.now)) (sym c.pieces.ensures) ∙ c.in-Err-page_request.ensures in
-    subst (λ (q : QueueState). TakesNext (g.G.GuestBytes.mem c.args.ram.now) q (record { ring = c.go_to_previous_position.new.self; taken = c.self.inside.taken.items }) (Err c.in-Err-page_request.wrong)) c.self.view_is
-    (next_wrong (g.G.GuestBytes.mem c.args.ram.now) c.self.inside.queue c.pop_descriptor_chain.new.self c.go_to_previous_position.new.self c.self.inside.taken.items c.in-Some.taken c.in-Err-page_request.wrong ready pops bad c.go_to_previous_position.ensures)
+    subst (λ (q : QueueState). TakesNext (g.G.GuestBytes.mem c.args.ram.now) q (record { ring = c.go_to_previous_position.new.self; taken = c.self.inside.taken.items }) (Err c.broken-in-Err-page_request.result)) c.self.view_is
+    (subst (λ (w : Refusal). TakesNext (g.G.GuestBytes.mem c.args.ram.now) (record { ring = c.self.inside.queue; taken = c.self.inside.taken.items }) (record { ring = c.go_to_previous_position.new.self; taken = c.self.inside.taken.items }) (Err w)) (sym c.broken-in-Err-page_request.ensures)
+    (next_wrong (g.G.GuestBytes.mem c.args.ram.now) c.self.inside.queue c.pop_descriptor_chain.new.self c.go_to_previous_position.new.self c.self.inside.taken.items c.in-Some.taken c.in-Err-page_request.wrong free ready pops bad c.go_to_previous_position.ensures))
