@@ -1,18 +1,19 @@
 -- Histories that are not safe, one for each thing that safety promises.
-use Rattle.std.proofs.Common.{◌≡◌, ℕ, zero, suc, ◌<◌, ◌≤◌, true, false, List, [], ◌∷◌, ◌++◌, replicate, refl, ap, ◌∙◌, inl, inr, arith}
+use Rattle.std.proofs.Common.{◌≡◌, ℕ, zero, suc, ◌<◌, ◌≤◌, true, false, List, [], ◌∷◌, ◌++◌, replicate, refl, ap, subst, ◌∙◌, inl, inr, arith}
 use Rattle.std.specs.Prelude.{Option, Some, None, slice_get}
 use Rattle.vb_model.specs.declared.places.Place.{Place}
 use Rattle.vb_model.specs.declared.places.Place.TheVariants.{Reserved, Free as FreePlace, Used, Giving, Lent, Taking}
-use Rattle.vb_model.specs.declared.calls.Call.TheVariants.{Alloc, Write, Inflate, Reap, Take, Sweep}
+use Rattle.vb_model.specs.declared.calls.Call.TheVariants.{Alloc, Write, Inflate, Reap, Take, Work, Sweep}
 use Rattle.vb_model.specs.declared.calls.Event.{Event}
 use Rattle.vb_model.specs.declared.calls.Event.TheVariants.{Guest as OnGuest, Restart}
-use Rattle.vb_model.specs.declared.replies.Refusal.TheVariants.{RingBroken, Broken}
+use Rattle.vb_model.specs.declared.replies.Refusal.TheVariants.{RingBroken, Broken, NoFrame}
 use Rattle.vb_model.specs.declared.replies.Reply.{Reply}
-use Rattle.vb_model.specs.declared.replies.Reply.TheVariants.{Done, Page, Posted, Reaped, Swept, Refused}
+use Rattle.vb_model.specs.declared.replies.Reply.TheVariants.{Done, Page, Posted, Reaped, Idle, Swept, Refused}
 use Rattle.vb_model.specs.Requests.{Request, names}
 use Rattle.vb_model.specs.Guest.{Guest}
 use Rattle.vb_model.specs.World.{World}
 use Rattle.vb_model.specs.Run.{History}
+use Rattle.vb_model.specs.GuestRun.{Entry, Called, GuestRun}
 use Rattle.vb_model.specs.Safe.{Safe, NoFrameTwice, IsHonest, IsOneLife, Brings, ReapsDeflate}
 use Rattle.vb_model.proofs.Samples.{ready, request}
 
@@ -65,6 +66,24 @@ one_byte byte = byte ∷ []
 bytes_changed : Safe (goes (used_with None (one_byte 1)) (OnGuest 0 (Write 17 0 (2 ∷ []))) Done (used_with None (one_byte 2))) → ⊥
 bytes_changed s =
     let e : one_byte 2 ≡ one_byte 1 = s.keeps_contents 0 0 16 (used_with None (one_byte 1)) (used_with None (one_byte 2)) (refl, refl) (refl, refl) refl refl (λ own. let q : Some (OnGuest 0 (Write 17 0 (2 ∷ []))) ≡ Some (OnGuest 0 (Write 16 own.0 own.1)) = own.2 in cc) in
+    cc
+
+-- a write that was refused is none
+bytes_changed_by_refused : Safe (goes (used_with None (one_byte 1)) (OnGuest 0 (Write 16 0 (2 ∷ []))) (Refused NoFrame) (used_with None (one_byte 2))) → ⊥
+bytes_changed_by_refused s =
+    let e : one_byte 2 ≡ one_byte 1 = s.keeps_contents 0 0 16 (used_with None (one_byte 1)) (used_with None (one_byte 2)) (refl, refl) (refl, refl) refl refl (λ own. let q : Some (Refused NoFrame) ≡ Some Done = own.3 in cc) in
+    cc
+
+-- ---- a call is answered as no run of the guest's own has it
+
+not_its_own : Safe (goes ready (OnGuest 0 Work) Done ready) → ⊥
+not_its_own s =
+    let a = s.alone 0 0 1 (at ready) ready ready refl refl (refl, refl) ((λ e. cc), (λ e. cc), tt) in
+    let own = a.are.2 in
+    let later : a.are.1 ≡ [] = a.are.3 in
+    let is : a.entries ≡ Called own.0 Work own.1 Done ∷ [] = a.are.4 ∙ (ap (λ (l : List Entry). l ++ a.are.1) own.4 ∙ ap (λ (l : List Entry). (Called own.0 Work own.1 Done ∷ []) ++ l) later) in
+    let run = subst (λ (l : List Entry). GuestRun ready l ready) is a.run in
+    let wrong : Done ≡ Idle = run.1.1.0 in
     cc
 
 -- ---- an offered page is handed out again with no deflate in between
