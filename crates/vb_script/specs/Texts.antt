@@ -1,0 +1,52 @@
+-- The lines of a text, and what they say.
+use Rattle.std.specs.Prelude.{
+    ℕ, ◌==◌, ◌&&◌, nat_lt, Bool, true, if◌then◌else◌, List, [], ◌∷◌, ◌++◌, length, slice_get,
+    Option, Some, None, is_none, Result, Ok, Err}
+use Rattle.std.specs.List.{slice_split}
+use Rattle.std.specs.Option.{option_map}
+use Rattle.vb_model.specs.declared.calls.Event.{Event}
+use Rattle.vb_script.specs.declared.lines.LineFault.{LineFault}
+use Rattle.vb_script.specs.declared.lines.Pace.{Pace}
+use Rattle.vb_script.specs.Lines.{answered_event_of, answered_spare_of}
+use Rattle.vb_script.specs.Words.{words_of}
+
+-- nothing behind the last line feed is no line
+abbrev pub last_line : List ℕ → List (List ℕ)
+last_line [] = []
+last_line (byte ∷ bytes) = (byte ∷ bytes) ∷ []
+
+abbrev pub ended : List (List ℕ) → List (List ℕ)
+ended [] = []
+ended (line ∷ []) = last_line line
+ended (line ∷ next ∷ lines) = line ∷ ended (next ∷ lines)
+
+-- a line feed ends a line, and the last one may lack it
+abbrev pub lines_of : List ℕ → List (List ℕ)
+lines_of text = ended (slice_split (λ byte. byte == 10) text)
+
+-- the empty lines and the comments
+abbrev pub is_skipped : List ℕ → Bool
+is_skipped [] = true
+is_skipped (byte ∷ bytes) = byte == 35
+
+-- what the lines so far say behind the first one: the spare devices, and what happens
+pub record Said : Type 0 where
+  pub frames : ℕ
+  pub spares : List Pace
+  pub events : List Event
+
+-- a spare device is told before each event, and there are at most 64
+abbrev pub with_spare : Pace → Said → Option Said
+with_spare pace said = if is_none (slice_get said.events 0) && nat_lt (length said.spares) 64 then Some (record said { spares = said.spares ++ pace ∷ [] }) else None
+
+abbrev pub with_event : Said → Event → Said
+with_event said event = record said { events = said.events ++ event ∷ [] }
+
+abbrev pub with_words : Result (Option Pace) LineFault → List (List ℕ) → Said → Option Said
+with_words (Err fault) words said = None
+with_words (Ok (Some pace)) words said = with_spare pace said
+with_words (Ok None) words said = option_map (with_event said) (answered_event_of words)
+
+-- a line behind the first one tells of a spare device, or of an event
+abbrev pub with_line : List ℕ → Said → Option Said
+with_line line said = with_words (answered_spare_of (words_of line)) (words_of line) said
