@@ -1,7 +1,7 @@
 //! Each line of the format, and each way to be none.
 
-use crate::lines::{Pace, any_event, any_spare, event, features, host, spare};
-use crate::words::{LineFault, number};
+use crate::lines::{LineFault, Pace, any_event, any_spare, event, host, spare};
+use crate::values::{features, number};
 use vb_model::{Call, Event, Place, Query};
 
 /// Lines of events, each with its numbers in order, its bytes, and whether it is answered so far.
@@ -275,15 +275,15 @@ fn features_as_digits(rt: HostRuntime) {
 }
 
 /// Lines, and the frames of the host that they bring.
-static HOSTS: [(&[u8], Result<u32, LineFault>); 8] = [
-    (b"host 1", Ok(1)),
-    (b"host 65536", Ok(65_536)),
-    (b"host 0", Err(LineFault::Bad)),
-    (b"host 65537", Err(LineFault::Bad)),
-    (b"host", Err(LineFault::Bad)),
-    (b"host 1 1", Err(LineFault::Bad)),
-    (b"host  1", Err(LineFault::Bad)),
-    (b"frames", Err(LineFault::Bad)),
+static HOSTS: [(&[u8], Option<u32>); 8] = [
+    (b"host 1", Some(1)),
+    (b"host 65536", Some(65_536)),
+    (b"host 0", None),
+    (b"host 65537", None),
+    (b"host", None),
+    (b"host 1 1", None),
+    (b"host  1", None),
+    (b"frames", None),
 ];
 
 #[test]

@@ -1,7 +1,8 @@
 //! Whole scripts.
 
 use crate::lines::Pace;
-use crate::script::{Script, ScriptFault, parse};
+use crate::reading::{ScriptFault, parse};
+use crate::script::Script;
 use std::alloc::{AllocError, Global};
 
 /// What a text was read to: the frames, the number of spare devices and that of events, or nothing

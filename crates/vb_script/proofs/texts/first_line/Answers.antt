@@ -1,7 +1,7 @@
 use Rattle.std.proofs.Common.{◌≡◌, List, [], Option, Some, None, Bor, ℕ, refl, ap, ◌∙◌, unwrap_or}
 use Rattle.std.specs.Option.{option_map_or}
 use Rattle.vb_script.proofs.Cuts.{first_of_lines}
-use Rattle.vb_script.proofs.script.first_line.Goals as goal
+use Rattle.vb_script.proofs.texts.first_line.Goals as goal
 
 or_nothing : (after : Option (Bor (List ℕ))) (nothing : Bor (List ℕ)) → nothing.now ≡ [] → (unwrap_or after nothing).now ≡ option_map_or (λ rest. rest.now) after []
 or_nothing None nothing e = e
