@@ -1,5 +1,10 @@
 //! The run of a script, from its bytes to the exit status.
 
+ghost use Rattle.std.specs.Prelude.{◌≡◌, ◌⊎◌, IfErr, IfOk};
+ghost use Rattle.vb_script.specs.Texts.{script_of};
+ghost use Rattle.vb_sim.specs.Faults.{IfBadLine, status_of};
+ghost use Rattle.vb_sim.specs.Plays.{MayGet};
+
 use crate::host::Host;
 use crate::play::Play;
 use std::alloc::{AllocError, Global};
@@ -43,7 +48,9 @@ pub enum RunFault {
 
 impl RunFault {
     /// The exit status.
-    fn status(&self) -> u8 {
+    fn status(&self) -> u8
+        ensures { result ≡ status_of self.now }
+    {
         match self {
             RunFault::BadLine(_) => BAD_SCRIPT,
             RunFault::Memory => NO_MEMORY,
@@ -53,12 +60,20 @@ impl RunFault {
 }
 
 impl From<AllocError> for RunFault {
+    ghost use Rattle.vb_sim.specs.declared.run.RunFault.TheVariants.{Memory};
+
+    ghost from_gives = { λ _ r. r ≡ Memory };
+
     fn from(_fault: AllocError) -> RunFault {
         RunFault::Memory
     }
 }
 
 impl From<ScriptFault> for RunFault {
+    ghost use Rattle.vb_sim.specs.Faults.{fault_of};
+
+    ghost from_gives = { λ fault r. r ≡ fault_of fault };
+
     fn from(fault: ScriptFault) -> RunFault {
         match fault {
             ScriptFault::BadLine(line) => RunFault::BadLine(line),
@@ -108,8 +123,11 @@ where
     }
 }
 
-/// Writes why a run failed, and answers its exit status.
-pub fn report<E: Write>(fault: &RunFault, errors: &mut E) -> u8 {
+/// Writes why a run failed, and answers its exit status: that of the fault, or where that can't be
+/// written the one of a broken stream.
+pub fn report<E: Write>(fault: &RunFault, errors: &mut E) -> u8
+    ensures { (result ≡ status_of fault.now) ⊎ (result ≡ BROKEN_STREAM) }
+{
     if let RunFault::Stream = fault {
         return BROKEN_STREAM;
     }
@@ -127,10 +145,7 @@ fn answer<P: Play, R: Read + Drop, O: Write + Drop>(
     output: O,
 ) -> Result<(), RunFault> {
     let text = read_text(alloc, input)?;
-    match parse(alloc, text.as_slice())? {
-        None => Ok(()),
-        Some(script) => write_replies(alloc, host, &script, output),
-    }
+    write_replies(alloc, host, text.as_slice(), output)
 }
 
 /// Reads all of the input, if it isn't too long.
@@ -148,22 +163,34 @@ fn read_text<R: Read + Drop>(alloc: Global, input: R) -> Result<Vec<u8>, RunFaul
 fn write_replies<P: Play, O: Write + Drop>(
     alloc: Global,
     host: &mut P,
-    script: &Script,
+    text: &[u8],
     output: O,
 ) -> Result<(), RunFault> {
     let mut out = BufWriter::new(alloc, output)?;
-    play_into(alloc, host, script, &mut out)
+    play_into(alloc, host, text, &mut out)
 }
 
 /// Runs a script and writes its replies to `out`.
 fn play_into<P: Play, W: Write>(
     alloc: Global,
     host: &mut P,
-    script: &Script,
+    text: &[u8],
     out: &mut W,
 ) -> Result<(), RunFault> {
-    let replies = host.play(alloc, script)?;
+    let replies = replies_to(alloc, host, text)?;
     write_lines(out, replies.as_slice())
+}
+
+/// What the events of a script are answered, in order. Nothing happens where one of its lines is
+/// bad, and nothing is answered where it has none.
+fn replies_to<P: Play>(alloc: Global, host: &mut P, text: &[u8]) -> Result<Vec<Reply>, RunFault>
+    ensures ok { IfOk result (λ replies. MayGet P.played (script_of text.now) replies.items) }
+    ensures bad { IfErr result (λ fault. IfBadLine fault (λ number. script_of text.now ≡ Err number)) }
+{
+    match parse(alloc, text)? {
+        None => Ok(Vec::new(alloc)),
+        Some(script) => Ok(host.play(alloc, &script)?),
+    }
 }
 
 /// Writes a line for each reply; a fault of the stream ends the run.

@@ -1,6 +1,6 @@
 //! Whole runs: what is written where, and the exit status, also where reading or writing fails.
 
-ghost use Rattle.std.specs.Prelude.{◌≡◌, vec_len, IfOk};
+ghost use Rattle.std.specs.Prelude.{◌≡◌, length};
 
 use super::Outcome;
 use crate::play::Play;
@@ -16,6 +16,8 @@ use vb_script::Script;
 struct Empty;
 
 impl Play for Empty {
+    ghost played = { λ said replies. length replies ≡ length said.events };
+
     fn play(&mut self, alloc: Global, script: &Script) -> Result<Vec<Reply>, AllocError> {
         let mut replies = Vec::with_capacity(alloc, script.events.len())?;
         for _event in &script.events {

@@ -1,0 +1,21 @@
+-- What each fault becomes.
+use Rattle.std.specs.Prelude.{ℕ, ⊤}
+use Rattle.vb_script.specs.declared.reading.ScriptFault.{ScriptFault}
+use Rattle.vb_script.specs.declared.reading.ScriptFault.TheVariants.{BadLine, Memory}
+use Rattle.vb_sim.specs.declared.run.RunFault.{RunFault}
+use Rattle.vb_sim.specs.declared.run.RunFault.TheVariants.{BadLine as BadLineOf, Memory as NoMemory, Stream}
+
+abbrev pub fault_of : ScriptFault → RunFault
+fault_of (BadLine number) = BadLineOf number
+fault_of Memory = NoMemory
+
+-- the exit status
+abbrev pub status_of : RunFault → ℕ
+status_of (BadLineOf number) = 1
+status_of NoMemory = 3
+status_of Stream = 4
+
+abbrev pub IfBadLine : RunFault → (ℕ → Type 0) → Type 0
+IfBadLine (BadLineOf number) P = P number
+IfBadLine NoMemory P = ⊤
+IfBadLine Stream P = ⊤
