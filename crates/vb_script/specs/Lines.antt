@@ -1,5 +1,6 @@
 -- What a line of words says, and what of it is answered so far.
-use Rattle.std.specs.Prelude.{ℕ, ◌&&◌, nat_le, Bool, true, false, if◌then◌else◌, List, [], ◌∷◌, Option, Some, None, Result, Ok, Err, codes}
+use Rattle.std.specs.Prelude.{ℕ, ◌&&◌, nat_le, Bool, true, false, if◌then◌else◌, List, [], ◌∷◌}
+use Rattle.std.specs.Prelude.{Option, Some, None, Result, Ok, Err, codes}
 use Rattle.std.specs.Option.{option_and_then}
 use Rattle.std.specs.Str.{bytes_eq}
 use Rattle.vb_model.specs.declared.calls.Event.{Event}
@@ -28,7 +29,8 @@ in_range frames = if nat_le 1 frames && nat_le frames 65_536 then Some frames el
 -- host FRAMES
 abbrev pub host_of : List (List ℕ) → Option ℕ
 host_of [] = None
-host_of (word ∷ words) = if bytes_eq word (codes "host") then option_and_then in_range (only_number words) else None
+host_of (word ∷ words) =
+    if bytes_eq word (codes "host") then option_and_then in_range (only_number words) else None
 
 -- a line that begins with another word is about no spare device
 abbrev pub a_pace : Option Pace → Result (Option Pace) LineFault
@@ -38,7 +40,9 @@ a_pace (Some pace) = Ok (Some pace)
 -- spare PACE
 abbrev pub spare_of : List (List ℕ) → Result (Option Pace) LineFault
 spare_of [] = Err Bad
-spare_of (word ∷ words) = if bytes_eq word (codes "spare") then a_pace (option_and_then pace_of (only_word words)) else Ok None
+spare_of (word ∷ words) =
+    if bytes_eq word (codes "spare") then a_pace (option_and_then pace_of (only_word words))
+    else Ok None
 
 abbrev pub answered_spare : Result (Option Pace) LineFault → Result (Option Pace) LineFault
 answered_spare (Err fault) = Err fault

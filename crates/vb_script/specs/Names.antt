@@ -1,15 +1,21 @@
 -- The words that name events, places and paces.
 use Rattle.std.specs.Prelude.{ℕ, List, [], ◌∷◌, Option, Some, None, if◌then◌else◌, codes}
 use Rattle.std.specs.Str.{bytes_eq}
-use Rattle.vb_model.specs.declared.places.Place.TheVariants.{Free as AtFree, Used, Giving, Lent, Taking, Stranded, Reporting}
+use Rattle.vb_model.specs.declared.places.Place.TheVariants.{Free as AtFree, Used, Giving, Lent}
+use Rattle.vb_model.specs.declared.places.Place.TheVariants.{Taking, Stranded, Reporting}
 use Rattle.vb_model.specs.declared.calls.Query.{Query}
 use Rattle.vb_model.specs.declared.calls.Query.TheVariants.{PagesAt, PagesBallooned}
 use Rattle.vb_script.specs.declared.lines.Pace.{Pace}
 use Rattle.vb_script.specs.declared.lines.Pace.TheVariants.{Immediate, Paced}
 use Rattle.vb_script.specs.declared.names.Form.{Form}
-use Rattle.vb_script.specs.declared.names.Form.TheVariants.{Frames, Init, Pages, One, Two, Three, Four, Bytes}
-use Rattle.vb_script.specs.declared.names.OneNumber.TheVariants.{Unplug, Restart, Reset, Stats, Work, Ask, Balance, Places, Balloon, Memory}
-use Rattle.vb_script.specs.declared.names.TwoNumbers.TheVariants.{Inflate, Deflate, Oom, Report, Reap, Take, Sweep, Target, Backing}
+use Rattle.vb_script.specs.declared.names.Form.TheVariants.{Frames, Init, Pages, One, Two, Three}
+use Rattle.vb_script.specs.declared.names.Form.TheVariants.{Four, Bytes}
+use Rattle.vb_script.specs.declared.names.OneNumber.TheVariants.{Unplug, Restart, Reset, Stats}
+use Rattle.vb_script.specs.declared.names.OneNumber.TheVariants.{Work, Ask, Balance, Places}
+use Rattle.vb_script.specs.declared.names.OneNumber.TheVariants.{Balloon, Memory}
+use Rattle.vb_script.specs.declared.names.TwoNumbers.TheVariants.{Inflate, Deflate, Oom, Report}
+use Rattle.vb_script.specs.declared.names.TwoNumbers.TheVariants.{Reap, Take, Sweep, Target}
+use Rattle.vb_script.specs.declared.names.TwoNumbers.TheVariants.{Backing}
 use Rattle.vb_script.specs.declared.names.ThreeNumbers.TheVariants.{Plug, Alloc, Finish}
 use Rattle.vb_script.specs.declared.names.FourNumbers.TheVariants.{Free, Read}
 use Rattle.vb_script.specs.declared.names.WithBytes.TheVariants.{Write, Scribble}
@@ -18,12 +24,14 @@ use denote.Ref.{Bor}
 -- what the first entry with this word says
 abbrev pub meaning_of : {T : Type 0} → List (List ℕ × T) → List ℕ → Option T
 meaning_of [] word = None
-meaning_of ((name, meaning) ∷ table) word = if bytes_eq name word then Some meaning else meaning_of table word
+meaning_of ((name, meaning) ∷ table) word =
+    if bytes_eq name word then Some meaning else meaning_of table word
 
 -- the same in a table of the code's
 abbrev pub found_in : {T : Type 0} → List (Bor (List ℕ) × T) → List ℕ → Option T
 found_in [] word = None
-found_in (entry ∷ table) word = if bytes_eq entry.0.now word then Some entry.1 else found_in table word
+found_in (entry ∷ table) word =
+    if bytes_eq entry.0.now word then Some entry.1 else found_in table word
 
 abbrev pub forms : List (List ℕ × Form)
 forms =

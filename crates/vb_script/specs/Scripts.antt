@@ -7,7 +7,8 @@ use Rattle.vb_script.specs.declared.script.Script.{Script}
 use Rattle.vb_script.specs.Texts.{Said, lines_of, numbered}
 
 abbrev pub said_by : Script → Said
-said_by script = record { frames = script.frames; spares = script.spares.items; events = script.events.items }
+said_by script =
+    record { frames = script.frames; spares = script.spares.items; events = script.events.items }
 
 -- the lines that are left
 abbrev pub lines_left : Lines → List (ℕ × List ℕ)

@@ -1,27 +1,6 @@
 -- The lines of a text, and what they say.
-use Rattle.std.specs.Prelude.{
-  ℕ,
-  ◌+◌,
-  ◌==◌,
-  ◌&&◌,
-  nat_lt,
-  Bool,
-  true,
-  if◌then◌else◌,
-  List,
-  [],
-  ◌∷◌,
-  ◌++◌,
-  length,
-  slice_get,
-  Option,
-  Some,
-  None,
-  is_none,
-  Result,
-  Ok,
-  Err,
-}
+use Rattle.std.specs.Prelude.{ℕ, ◌+◌, ◌==◌, ◌&&◌, nat_lt, Bool, true, if◌then◌else◌, List, [], ◌∷◌}
+use Rattle.std.specs.Prelude.{◌++◌, length, slice_get, Option, Some, None, is_none, Result, Ok, Err}
 use Rattle.std.specs.List.{slice_split}
 use Rattle.std.specs.Option.{option_map}
 use Rattle.vb_model.specs.declared.calls.Event.{Event}
@@ -57,7 +36,10 @@ pub record Said : Type 0 where
 
 -- a spare device is told before each event, and there are at most 64
 abbrev pub with_spare : Pace → Said → Option Said
-with_spare pace said = if is_none (slice_get said.events 0) && nat_lt (length said.spares) 64 then Some (record said { spares = said.spares ++ pace ∷ [] }) else None
+with_spare pace said =
+    if is_none (slice_get said.events 0) && nat_lt (length said.spares) 64
+    then Some (record said { spares = said.spares ++ pace ∷ [] })
+    else None
 
 abbrev pub with_event : Said → Event → Said
 with_event said event = record said { events = said.events ++ event ∷ [] }
@@ -74,7 +56,9 @@ with_line line said = with_words (answered_spare_of (words_of line)) (words_of l
 -- the lines that aren't skipped, each with its number among all, of which so many were passed
 abbrev pub numbered : ℕ → List (List ℕ) → List (ℕ × List ℕ)
 numbered passed [] = []
-numbered passed (line ∷ lines) = if is_skipped line then numbered (passed + 1) lines else (passed + 1, line) ∷ numbered (passed + 1) lines
+numbered passed (line ∷ lines) =
+    if is_skipped line then numbered (passed + 1) lines
+    else (passed + 1, line) ∷ numbered (passed + 1) lines
 
 abbrev pub or_bad : ℕ → Option Said → (Said → Result Said ℕ) → Result Said ℕ
 or_bad number None go = Err number
@@ -83,7 +67,8 @@ or_bad number (Some said) go = go said
 -- what all of these lines say, or the number of the first that says nothing there
 abbrev pub with_lines : List (ℕ × List ℕ) → Said → Result Said ℕ
 with_lines [] said = Ok said
-with_lines (line ∷ lines) said = or_bad line.0 (with_line line.1 said) (λ said. with_lines lines said)
+with_lines (line ∷ lines) said =
+    or_bad line.0 (with_line line.1 said) (λ said. with_lines lines said)
 
 abbrev pub host_said : ℕ → Said
 host_said frames = record { frames = frames; spares = []; events = [] }

@@ -1,5 +1,6 @@
 -- What a word of digits says.
-use Rattle.std.specs.Prelude.{ℕ, ◌*◌, ◌&&◌, nat_lt, nat_le, if◌then◌else◌, List, length, Option, Some, None, Result, Ok, Err}
+use Rattle.std.specs.Prelude.{ℕ, ◌*◌, ◌&&◌, nat_lt, nat_le, if◌then◌else◌, List, length, Option}
+use Rattle.std.specs.Prelude.{Some, None, Result, Ok, Err}
 use Rattle.std.specs.Int.{from_be_bytes, w64}
 use Rattle.hex.specs.Hex.{decode_of, decode_sized}
 use Rattle.hex.specs.declared.error.FromHexError.{FromHexError}
@@ -19,7 +20,9 @@ features_of word = bits_in (decode_sized word 8)
 
 -- the bytes that hexadecimal digits show: at least one, at most a page of them
 unfoldable pub bytes_of : List ℕ → Option (List ℕ)
-bytes_of word = if nat_lt 0 (length word) && nat_le (length word) (2 * 4096) then value_in (decode_of word) else None
+bytes_of word =
+    if nat_lt 0 (length word) && nat_le (length word) (2 * 4096) then value_in (decode_of word)
+    else None
 
 -- the number, if it is at least 1
 unfoldable pub positive_of : ℕ → Option ℕ

@@ -1,5 +1,6 @@
 -- The words of a line, and those that are numbers.
-use Rattle.std.specs.Prelude.{ℕ, ◌==◌, ◌^◌, ◌&&◌, nat_lt, nat_le, Bool, true, false, if◌then◌else◌, List, [], ◌∷◌, length, Option, Some, None}
+use Rattle.std.specs.Prelude.{ℕ, ◌==◌, ◌^◌, ◌&&◌, nat_lt, nat_le, Bool, true, false, if◌then◌else◌}
+use Rattle.std.specs.Prelude.{List, [], ◌∷◌, length, Option, Some, None}
 use Rattle.std.specs.List.{slice_split, list_all}
 use Rattle.std.specs.Option.{option_and_then}
 use Rattle.vb_script.specs.Numbers.{decimal_value}
@@ -27,7 +28,10 @@ is_digit byte = nat_le 48 byte && nat_le byte 57
 
 -- the number that digits alone show, if it fits 32 bits
 unfoldable pub number_of : List ℕ → Option ℕ
-number_of word = if nat_lt 0 (length word) && list_all is_digit word && nat_lt (decimal_value word) (2 ^ 32) then Some (decimal_value word) else None
+number_of word =
+    if nat_lt 0 (length word) && list_all is_digit word && nat_lt (decimal_value word) (2 ^ 32)
+    then Some (decimal_value word)
+    else None
 
 -- the word, if it is the only one
 abbrev pub only_word : List (List ℕ) → Option (List ℕ)

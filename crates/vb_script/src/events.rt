@@ -1,8 +1,11 @@
 //! The event that a line's words name.
 
 ghost use Rattle.std.specs.Prelude.{◌≡◌, IfOk, MatchOption};
-ghost use Rattle.vb_model.specs.declared.calls.Event.TheVariants.{Guest as OnGuest, Query as Asking};
-ghost use Rattle.vb_script.specs.Events.{bytes_event, event_of, four_number, init_event, one_number, pages_event, said, three_number, two_number, with_bytes};
+ghost use Rattle.vb_model.specs.declared.calls.Event.TheVariants.{Guest as OnGuest};
+ghost use Rattle.vb_model.specs.declared.calls.Event.TheVariants.{Query as Asking};
+ghost use Rattle.vb_script.specs.Events.{bytes_event, event_of, four_number, init_event};
+ghost use Rattle.vb_script.specs.Events.{one_number, pages_event, said, three_number, two_number};
+ghost use Rattle.vb_script.specs.Events.{with_bytes};
 ghost use Rattle.vb_script.specs.Names.{form_of, pages_query_of};
 ghost use Rattle.vb_script.specs.Words.{words_left, three_numbers_and_a_word};
 ghost use Rattle.vb_script.specs.declared.names.Form.TheVariants.{Frames, One, Two, Three, Four};
@@ -16,8 +19,8 @@ use crate::words::Words;
 use std::alloc::Global;
 use vb_model::{Bytes, Call, Event, Query};
 
-/// The features that a driver asks for where a line `init` names none, a bit each (VIRTIO 1.1, 5.5.3
-/// and 6): MUST_TELL_HOST, STATS_VQ, DEFLATE_ON_OOM, page reporting (profile) and VERSION_1.
+/// The features that a driver asks for where a line `init` names none, a bit each (VIRTIO 1.1,
+/// 5.5.3 and 6): MUST_TELL_HOST, STATS_VQ, DEFLATE_ON_OOM, page reporting (profile) and VERSION_1.
 pub const DEFAULT_FEATURES: u64 = 0x1_0000_0027;
 
 /// The event that these words name. Words that name none make a bad line.
@@ -226,7 +229,10 @@ fn with_bytes(alloc: Global, name: WithBytes, words: &mut Words<'_>) -> Result<E
 
 /// The next words as three numbers and a word, if no more are left.
 fn three_and_a_word<'a>(words: &mut Words<'a>) -> Option<(u32, u32, u32, &'a [u8])>
-    ensures { MatchOption result (three_numbers_and_a_word (words_left words.old.rest) ≡ None) (λ all. three_numbers_and_a_word (words_left words.old.rest) ≡ Some (all.0, all.1, all.2, all.3.now)) }
+    ensures { MatchOption result
+        (three_numbers_and_a_word (words_left words.old.rest) ≡ None)
+        (λ all. three_numbers_and_a_word (words_left words.old.rest)
+        ≡ Some (all.0, all.1, all.2, all.3.now)) }
 {
     let first = number(words.next()?)?;
     let second = number(words.next()?)?;

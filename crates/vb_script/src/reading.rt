@@ -1,24 +1,10 @@
 //! The text of a script, read line by line.
 
-ghost use Rattle.std.specs.Prelude.{
-  ◌≡◌,
-  ◌≤◌,
-  IfErr,
-  IfOk,
-  OnErr,
-  OnOk,
-  true,
-};
+ghost use Rattle.std.specs.Prelude.{◌≡◌, ◌≤◌, IfErr, IfOk, OnErr, OnOk, true};
 ghost use Rattle.std.specs.Option.{option_map};
 ghost use Rattle.vb_script.specs.Lines.{is_pace_brought};
 ghost use Rattle.vb_script.specs.Scripts.{IfBadLine, lines_left, said_by};
-ghost use Rattle.vb_script.specs.Texts.{
-  host_said,
-  script_of,
-  with_line,
-  with_lines,
-  with_spare,
-};
+ghost use Rattle.vb_script.specs.Texts.{host_said, script_of, with_line, with_lines, with_spare};
 
 use crate::lines::{LineFault, Pace, event, host, spare};
 use crate::script::Script;
@@ -51,7 +37,8 @@ impl From<AllocError> for ScriptFault {
 impl Line<'_> {
     /// What a fault in this line means to the script.
     fn fault(self, fault: LineFault) -> ScriptFault
-        ensures { IfBadLine result (λ number. (fault ≡ LineFault.Bad) × (number ≡ self.entry.number)) }
+        ensures { IfBadLine result
+            (λ number. (fault ≡ LineFault.Bad) × (number ≡ self.entry.number)) }
     {
         match fault {
             LineFault::Bad => ScriptFault::BadLine(self.number),
@@ -65,7 +52,8 @@ impl Line<'_> {
 /// and a script that there is no memory for.
 pub fn parse(alloc: Global, text: &[u8]) -> Result<Option<Script>, ScriptFault>
     ensures ok { IfOk result (λ script. script_of text.now ≡ Ok (option_map said_by script)) }
-    ensures bad { IfErr result (λ fault. IfBadLine fault (λ number. script_of text.now ≡ Err number)) }
+    ensures bad { IfErr result
+        (λ fault. IfBadLine fault (λ number. script_of text.now ≡ Err number)) }
 {
     let mut lines = Lines::of(text);
     let Some(first) = lines.next() else {
@@ -80,8 +68,10 @@ pub fn parse(alloc: Global, text: &[u8]) -> Result<Option<Script>, ScriptFault>
 fn parse_rest(alloc: Global, frames: u32, mut lines: Lines<'_>) -> Result<Script, ScriptFault>
     requires some { 1 ≤ frames }
     requires bound { frames ≤ 65_536 }
-    ensures ok { IfOk result (λ script. with_lines (lines_left lines.entry) (host_said frames) ≡ Ok (said_by script)) }
-    ensures bad { IfErr result (λ fault. IfBadLine fault (λ number. with_lines (lines_left lines.entry) (host_said frames) ≡ Err number)) }
+    ensures ok { IfOk result
+        (λ script. with_lines (lines_left lines.entry) (host_said frames) ≡ Ok (said_by script)) }
+    ensures bad { IfErr result (λ fault. IfBadLine fault
+        (λ number. with_lines (lines_left lines.entry) (host_said frames) ≡ Err number)) }
 {
     let count = count_lines(lines.rest);
     let mut script = Script {

@@ -25,7 +25,8 @@ pub struct Lines<'a> {
 impl<'a> Lines<'a> {
     /// All lines of the text.
     pub fn of(text: &'a [u8]) -> Lines<'a>
-        ensures { numbered result.passed (lines_of result.rest.now) ≡ numbered 0 (lines_of text.now) }
+        ensures { numbered result.passed (lines_of result.rest.now)
+            ≡ numbered 0 (lines_of text.now) }
     {
         Lines {
             rest: text,
@@ -38,7 +39,8 @@ impl<'a> Lines<'a> {
         ensures line { MatchOption result
             (numbered self.old.passed (lines_of self.old.rest.now) ≡ [])
             (λ line. numbered self.old.passed (lines_of self.old.rest.now)
-            ≡ (line.number, line.text.now) ∷ numbered self.new.passed (lines_of self.new.rest.now)) }
+            ≡ (line.number, line.text.now)
+            ∷ numbered self.new.passed (lines_of self.new.rest.now)) }
         ensures shorter { OnSome result (length self.new.rest.now < length self.old.rest.now) }
     {
         while !self.rest.is_empty() {

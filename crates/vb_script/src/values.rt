@@ -1,6 +1,7 @@
 //! What a word of decimal or hexadecimal digits shows.
 
-ghost use Rattle.std.specs.Prelude.{◌≡◌, ◌≢◌, ◌+◌, ◌-◌, ◌*◌, ◌^◌, ◌<◌, IfOk, IsOk, MatchOption, SomeIff};
+ghost use Rattle.std.specs.Prelude.{◌≡◌, ◌≢◌, ◌+◌, ◌-◌, ◌*◌, ◌^◌, ◌<◌, IfOk, IsOk, MatchOption};
+ghost use Rattle.std.specs.Prelude.{SomeIff};
 ghost use Rattle.hex.specs.Hex.{decode_of, decode_sized};
 ghost use Rattle.vb_script.specs.Numbers.{IsByteWord, IsDecimal, IsDigit, ShowsBits, decimal_value};
 ghost use Rattle.vb_script.specs.Values.{bytes_of, features_of, positive_of};
@@ -17,7 +18,9 @@ const FEATURE_DIGITS: usize = 16;
 
 /// The number that decimal digits show, any leading zeros among them, if it fits 32 bits.
 pub fn number(word: &[u8]) -> Option<u32>
-    ensures shown { SomeIff result (IsDecimal word.now × (decimal_value word.now < 2 ^ 32)) (decimal_value word.now) }
+    ensures shown { SomeIff result
+        (IsDecimal word.now × (decimal_value word.now < 2 ^ 32))
+        (decimal_value word.now) }
     ensures value { result ≡ number_of word.now }
 {
     if word.is_empty() {
@@ -32,7 +35,9 @@ pub fn number(word: &[u8]) -> Option<u32>
 
 /// The number with one more digit behind it.
 fn with_digit(value: u32, digit: u8) -> Option<u32>
-    ensures { SomeIff result (IsDigit digit × (value * 10 + (digit - 48) < 2 ^ 32)) (value * 10 + (digit - 48)) }
+    ensures { SomeIff result
+        (IsDigit digit × (value * 10 + (digit - 48) < 2 ^ 32))
+        (value * 10 + (digit - 48)) }
 {
     if !digit.is_ascii_digit() {
         return None;
@@ -49,7 +54,9 @@ pub fn positive(number: u32) -> Option<u32>
 
 /// The feature bits that 16 hexadecimal digits show, the first digit the highest four.
 pub fn features(word: &[u8]) -> Option<u64>
-    ensures shown { MatchOption result (¬ IsOk (decode_sized word.now 8)) (λ bits. ShowsBits word.now bits) }
+    ensures shown { MatchOption result
+        (¬ IsOk (decode_sized word.now 8))
+        (λ bits. ShowsBits word.now bits) }
     ensures value { result ≡ features_of word.now }
 {
     let mut bytes = [0u8; FEATURE_DIGITS / 2];

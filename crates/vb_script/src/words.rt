@@ -3,7 +3,8 @@
 ghost use Rattle.std.specs.Prelude.{◌≡◌, ◌∷◌, ◌<◌, ◌==◌, [], length, IfNone, IfSome, MatchOption};
 ghost use Rattle.std.specs.List.{slice_split};
 ghost use Rattle.std.specs.Option.{option_map_or, option_copied};
-ghost use Rattle.vb_script.specs.Words.{is_empty, words_of, words_left, only_word, only_number, two_numbers, three_numbers, four_numbers};
+ghost use Rattle.vb_script.specs.Words.{is_empty, words_of, words_left, only_word, only_number};
+ghost use Rattle.vb_script.specs.Words.{two_numbers, three_numbers, four_numbers};
 
 use crate::values::number;
 
@@ -27,7 +28,9 @@ impl<'a> Words<'a> {
 
     /// The next word, if one is left.
     pub fn next(&mut self) -> Option<&'a [u8]>
-        ensures { MatchOption result (words_left self.old.rest ≡ []) (λ word. words_left self.old.rest ≡ word.now ∷ words_left self.new.rest) }
+        ensures { MatchOption result
+            (words_left self.old.rest ≡ [])
+            (λ word. words_left self.old.rest ≡ word.now ∷ words_left self.new.rest) }
     {
         let (word, rest) = cut_at(self.rest?, SPACE);
         self.rest = rest;
@@ -89,7 +92,8 @@ impl<'a> Words<'a> {
 
 /// What stands before the first such byte of a text, and what behind it if the text has one.
 pub fn cut_at(text: &[u8], byte: u8) -> (&[u8], Option<&[u8]>)
-    ensures split { slice_split (λ x. x == byte) text.now ≡ result.0.now ∷ option_map_or (λ rest. slice_split (λ x. x == byte) rest.now) result.1 [] }
+    ensures split { slice_split (λ x. x == byte) text.now
+        ≡ result.0.now ∷ option_map_or (λ rest. slice_split (λ x. x == byte) rest.now) result.1 [] }
     ensures whole { IfNone result.1 (result.0.now ≡ text.now) }
     ensures shorter { IfSome result.1 (λ rest. length rest.now < length text.now) }
 {

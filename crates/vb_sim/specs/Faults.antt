@@ -3,7 +3,8 @@ use Rattle.std.specs.Prelude.{ℕ, ⊤}
 use Rattle.vb_script.specs.declared.reading.ScriptFault.{ScriptFault}
 use Rattle.vb_script.specs.declared.reading.ScriptFault.TheVariants.{BadLine, Memory}
 use Rattle.vb_sim.specs.declared.run.RunFault.{RunFault}
-use Rattle.vb_sim.specs.declared.run.RunFault.TheVariants.{BadLine as BadLineOf, Memory as NoMemory, Stream}
+use Rattle.vb_sim.specs.declared.run.RunFault.TheVariants.{BadLine as BadLineOf, Memory as NoMemory}
+use Rattle.vb_sim.specs.declared.run.RunFault.TheVariants.{Stream}
 
 abbrev pub fault_of : ScriptFault → RunFault
 fault_of (BadLine number) = BadLineOf number

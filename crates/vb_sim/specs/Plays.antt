@@ -10,12 +10,14 @@ use Rattle.vb_script.specs.Texts.{Said}
 abbrev pub host_of : Said → World
 host_of said = made said.frames (map is_paced said.spares)
 
--- The replies are those of a run of the script's events on its own host, each state of which is safe.
+-- The replies are those of a run of the script's events on its own host, each state of it safe.
 abbrev pub RunsSafely : Said → List Reply → Type 0
 RunsSafely said replies = (last : World) × IsSafeRun (host_of said) said.events replies last
 
--- The replies that a text may get: those of what it says, and none where it says nothing. A text with a bad line gets none at all.
-abbrev pub MayGet : (Said → List Reply → Type 0) → Result (Option Said) ℕ → List Reply → Type 0
+-- The replies that a text may get: those of what it says, and none where it says nothing. A text
+-- with a bad line gets none at all.
+abbrev pub MayGet : (Said → List Reply → Type 0) → Result (Option Said) ℕ → List Reply
+    → Type 0
 MayGet Played (Err number) replies = ⊥
 MayGet Played (Ok None) replies = replies ≡ []
 MayGet Played (Ok (Some said)) replies = Played said replies

@@ -4,7 +4,9 @@ ghost use Rattle.std.specs.Prelude.{◌≡◌, ◌⊎◌, IfErr, IfOk};
 ghost use Rattle.vb_script.specs.Texts.{script_of};
 ghost use Rattle.vb_sim.specs.Faults.{IfBadLine, status_of};
 ghost use Rattle.vb_sim.specs.Plays.{MayGet};
+ghost use Rattle.vb_sim.specs.declared.arguments.ArgumentsFault.TheVariants.{Memory, Refused};
 
+use crate::arguments::{ArgumentsFault, USAGE};
 use crate::host::Host;
 use crate::play::Play;
 use std::alloc::{AllocError, Global};
@@ -137,6 +139,20 @@ pub fn report<E: Write>(fault: &RunFault, errors: &mut E) -> u8
     }
 }
 
+/// Writes why a command line asks for no run, and answers its exit status.
+pub fn refuse<E: Write>(fault: ArgumentsFault, errors: &mut E) -> u8
+    ensures refused { fault ≡ Refused → result ≡ BAD_ARGUMENTS }
+    ensures memory { fault ≡ Memory → (result ≡ NO_MEMORY) ⊎ (result ≡ BROKEN_STREAM) }
+{
+    match fault {
+        ArgumentsFault::Memory => report(&RunFault::Memory, errors),
+        ArgumentsFault::Refused => {
+            let _ = writeln!(errors, "{USAGE}");
+            BAD_ARGUMENTS
+        }
+    }
+}
+
 /// Reads a script, runs it and writes its replies.
 fn answer<P: Play, R: Read + Drop, O: Write + Drop>(
     alloc: Global,
@@ -185,7 +201,8 @@ fn play_into<P: Play, W: Write>(
 /// bad, and nothing is answered where it has none.
 fn replies_to<P: Play>(alloc: Global, host: &mut P, text: &[u8]) -> Result<Vec<Reply>, RunFault>
     ensures ok { IfOk result (λ replies. MayGet P.played (script_of text.now) replies.items) }
-    ensures bad { IfErr result (λ fault. IfBadLine fault (λ number. script_of text.now ≡ Err number)) }
+    ensures bad { IfErr result
+        (λ fault. IfBadLine fault (λ number. script_of text.now ≡ Err number)) }
 {
     match parse(alloc, text)? {
         None => Ok(Vec::new(alloc)),
