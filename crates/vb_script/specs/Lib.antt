@@ -2,6 +2,7 @@ pub mod Events
 pub mod Lines
 pub mod Names
 pub mod Numbers
+pub mod Replies
 pub mod Scripts
 pub mod Texts
 pub mod Values
