@@ -20,3 +20,8 @@ abbrev pub IfBadLine : RunFault → (ℕ → Type 0) → Type 0
 IfBadLine (BadLineOf number) P = P number
 IfBadLine NoMemory P = ⊤
 IfBadLine Stream P = ⊤
+
+abbrev pub UnlessStream : RunFault → Type 0 → Type 0
+UnlessStream (BadLineOf number) P = P
+UnlessStream NoMemory P = P
+UnlessStream Stream P = ⊤

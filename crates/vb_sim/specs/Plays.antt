@@ -3,7 +3,10 @@ use Rattle.std.specs.Prelude.{◌≡◌, ℕ, List, [], Option, Some, None, Resu
 use Rattle.vb_model.specs.declared.replies.Reply.{Reply}
 use Rattle.vb_model.specs.World.{World, made}
 use Rattle.vb_model.specs.Safe.{IsSafeRun}
+use Rattle.std.specs.Io.KnownBytes.{Appends}
+use Rattle.std.specs.List.{flat_map}
 use Rattle.vb_script.specs.Lines.{is_paced}
+use Rattle.vb_script.specs.Replies.{line_of}
 use Rattle.vb_script.specs.Texts.{Said}
 
 -- the host before anything happens: the script's frames, and its spare devices in their order
@@ -21,3 +24,9 @@ abbrev pub MayGet : (Said → List Reply → Type 0) → Result (Option Said) �
 MayGet Played (Err number) replies = ⊥
 MayGet Played (Ok None) replies = replies ≡ []
 MayGet Played (Ok (Some said)) replies = Played said replies
+
+-- What is written to known bytes: a line for each of such replies, in order.
+abbrev pub Prints : (Said → List Reply → Type 0) → Result (Option Said) ℕ
+    → Option (List ℕ) → Option (List ℕ) → Type 0
+Prints Played script old new =
+    (replies : List Reply) × MayGet Played script replies × Appends old new (flat_map line_of replies)

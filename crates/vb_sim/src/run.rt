@@ -1,9 +1,13 @@
 //! The run of a script, from its bytes to the exit status.
 
-ghost use Rattle.std.specs.Prelude.{◌≡◌, ◌⊎◌, IfErr, IfOk};
+ghost use Rattle.std.specs.Prelude.{◌≡◌, ◌⊎◌, IfErr, IfOk, OnOk};
+ghost use Rattle.std.specs.Io.KnownBytes.{Appends, Keeps};
+ghost use Rattle.std.specs.List.{flat_map};
 ghost use Rattle.vb_script.specs.Texts.{script_of};
-ghost use Rattle.vb_sim.specs.Faults.{IfBadLine, status_of};
-ghost use Rattle.vb_sim.specs.Plays.{MayGet};
+ghost use Rattle.vb_script.specs.Replies.{line_of};
+ghost use Rattle.vb_sim.specs.Faults.{IfBadLine, UnlessStream, status_of};
+ghost use Rattle.vb_sim.specs.Plays.{MayGet, Prints};
+ghost use Rattle.vb_sim.specs.declared.run.RunFault.TheVariants.{Stream};
 ghost use Rattle.vb_sim.specs.declared.arguments.ArgumentsFault.TheVariants.{Memory, Refused};
 
 use crate::arguments::{ArgumentsFault, USAGE};
@@ -186,13 +190,21 @@ fn write_replies<P: Play, O: Write + Drop>(
     play_into(alloc, host, text, &mut out)
 }
 
-/// Runs a script and writes its replies to `out`.
+/// Runs a script and writes its replies to `out`, a line each. Nothing is written where a line of
+/// the script is bad, or where there was no memory.
 fn play_into<P: Play, W: Write>(
     alloc: Global,
     host: &mut P,
     text: &[u8],
     out: &mut W,
-) -> Result<(), RunFault> {
+) -> Result<(), RunFault>
+    ensures ok { OnOk result
+        (Prints P.played (script_of text.now) (W.contents out.old) (W.contents out.new)) }
+    ensures bad { IfErr result
+        (λ fault. IfBadLine fault (λ number. script_of text.now ≡ Err number)) }
+    ensures nothing { IfErr result
+        (λ fault. UnlessStream fault (Keeps (W.contents out.old) (W.contents out.new))) }
+{
     let replies = replies_to(alloc, host, text)?;
     write_lines(out, replies.as_slice())
 }
@@ -211,7 +223,11 @@ fn replies_to<P: Play>(alloc: Global, host: &mut P, text: &[u8]) -> Result<Vec<R
 }
 
 /// Writes a line for each reply; a fault of the stream ends the run.
-fn write_lines<W: Write>(out: &mut W, replies: &[Reply]) -> Result<(), RunFault> {
+fn write_lines<W: Write>(out: &mut W, replies: &[Reply]) -> Result<(), RunFault>
+    ensures ok { OnOk result
+        (Appends (W.contents out.old) (W.contents out.new) (flat_map line_of replies.now)) }
+    ensures err { IfErr result (λ fault. fault ≡ Stream) }
+{
     match write_all_lines(out, replies) {
         Ok(()) => Ok(()),
         Err(_fault) => Err(RunFault::Stream),
@@ -219,7 +235,10 @@ fn write_lines<W: Write>(out: &mut W, replies: &[Reply]) -> Result<(), RunFault>
 }
 
 /// Writes a line for each reply.
-fn write_all_lines<W: Write>(out: &mut W, replies: &[Reply]) -> io::Result<()> {
+fn write_all_lines<W: Write>(out: &mut W, replies: &[Reply]) -> io::Result<()>
+    ensures { OnOk result
+        (Appends (W.contents out.old) (W.contents out.new) (flat_map line_of replies.now)) }
+{
     for reply in replies {
         write_reply(out, reply)?;
     }
