@@ -29,4 +29,6 @@ MayGet Played (Ok (Some said)) replies = Played said replies
 abbrev pub Prints : (Said → List Reply → Type 0) → Result (Option Said) ℕ
     → Option (List ℕ) → Option (List ℕ) → Type 0
 Prints Played script old new =
-    (replies : List Reply) × MayGet Played script replies × Appends old new (flat_map line_of replies)
+    (replies : List Reply)
+    × MayGet Played script replies
+    × Appends old new (flat_map line_of replies)
