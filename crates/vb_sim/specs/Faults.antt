@@ -1,5 +1,8 @@
 -- What each fault becomes.
-use Rattle.std.specs.Prelude.{ℕ, ⊤}
+use Rattle.std.specs.Prelude.{◌≡◌, ◌≢◌, ℕ, ⊤}
+use Rattle.std.specs.IoError.{error_kind}
+use Rattle.std.specs.declared.io.Error.{Error}
+use Rattle.std.specs.declared.io.ErrorKind.TheVariants.{OutOfMemory}
 use Rattle.vb_script.specs.declared.reading.ScriptFault.{ScriptFault}
 use Rattle.vb_script.specs.declared.reading.ScriptFault.TheVariants.{BadLine, Memory}
 use Rattle.vb_sim.specs.declared.run.RunFault.{RunFault}
@@ -9,6 +12,12 @@ use Rattle.vb_sim.specs.declared.run.RunFault.TheVariants.{Stream}
 abbrev pub fault_of : ScriptFault → RunFault
 fault_of (BadLine number) = BadLineOf number
 fault_of Memory = NoMemory
+
+-- want of memory for what is read is no broken stream
+abbrev pub IsStreamFault : Error → RunFault → Type 0
+IsStreamFault fault (BadLineOf number) = ⊥
+IsStreamFault fault NoMemory = error_kind fault ≡ OutOfMemory
+IsStreamFault fault Stream = error_kind fault ≢ OutOfMemory
 
 -- the exit status
 abbrev pub status_of : RunFault → ℕ

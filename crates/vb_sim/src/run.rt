@@ -89,6 +89,10 @@ impl From<ScriptFault> for RunFault {
 }
 
 impl From<io::Error> for RunFault {
+    ghost use Rattle.vb_sim.specs.Faults.{IsStreamFault};
+
+    ghost from_gives = { λ fault r. IsStreamFault fault r };
+
     fn from(fault: io::Error) -> RunFault {
         match fault.kind() {
             ErrorKind::OutOfMemory => RunFault::Memory,
