@@ -1,3 +1,7 @@
+pub mod Cuts
 pub mod Digits
 pub mod Hex
+pub mod Numbered
 pub mod Pushed
+pub mod WordLemmas
+pub mod Written

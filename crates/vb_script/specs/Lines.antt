@@ -1,9 +1,60 @@
--- Which spare devices a script may bring so far.
-use Rattle.std.specs.Prelude.{Bool, true, false}
+-- What a line of words says, and what of it is answered so far.
+use Rattle.std.specs.Prelude.{ℕ, ◌&&◌, nat_le, Bool, true, false, if◌then◌else◌, List, [], ◌∷◌}
+use Rattle.std.specs.Prelude.{Option, Some, None, Result, Ok, Err, codes}
+use Rattle.std.specs.Option.{option_and_then}
+use Rattle.std.specs.Str.{bytes_eq}
+use Rattle.vb_model.specs.declared.calls.Event.{Event}
+use Rattle.vb_model.specs.Brought.{is_brought}
+use Rattle.vb_script.specs.declared.lines.LineFault.{LineFault}
+use Rattle.vb_script.specs.declared.lines.LineFault.TheVariants.{Bad}
 use Rattle.vb_script.specs.declared.lines.Pace.{Pace}
 use Rattle.vb_script.specs.declared.lines.Pace.TheVariants.{Immediate, Paced}
+use Rattle.vb_script.specs.Events.{event_of}
+use Rattle.vb_script.specs.Names.{pace_of}
+use Rattle.vb_script.specs.Words.{only_word, only_number}
 
--- those that do all work of a request as they finish it
+-- the spare devices that are there so far: those that do all work of a request as they finish it
 abbrev pub is_pace_brought : Pace → Bool
 is_pace_brought Immediate = true
 is_pace_brought Paced = false
+
+-- whether such a device visits the pages of a request one by one
+abbrev pub is_paced : Pace → Bool
+is_paced Immediate = false
+is_paced Paced = true
+
+abbrev pub in_range : ℕ → Option ℕ
+in_range frames = if nat_le 1 frames && nat_le frames 65_536 then Some frames else None
+
+-- host FRAMES
+abbrev pub host_of : List (List ℕ) → Option ℕ
+host_of [] = None
+host_of (word ∷ words) =
+    if bytes_eq word (codes "host") then option_and_then in_range (only_number words) else None
+
+-- a line that begins with another word is about no spare device
+abbrev pub a_pace : Option Pace → Result (Option Pace) LineFault
+a_pace None = Err Bad
+a_pace (Some pace) = Ok (Some pace)
+
+-- spare PACE
+abbrev pub spare_of : List (List ℕ) → Result (Option Pace) LineFault
+spare_of [] = Err Bad
+spare_of (word ∷ words) =
+    if bytes_eq word (codes "spare") then a_pace (option_and_then pace_of (only_word words))
+    else Ok None
+
+abbrev pub answered_spare : Result (Option Pace) LineFault → Result (Option Pace) LineFault
+answered_spare (Err fault) = Err fault
+answered_spare (Ok None) = Ok None
+answered_spare (Ok (Some pace)) = if is_pace_brought pace then Ok (Some pace) else Err Bad
+
+abbrev pub answered_spare_of : List (List ℕ) → Result (Option Pace) LineFault
+answered_spare_of words = answered_spare (spare_of words)
+
+abbrev pub answered : Event → Option Event
+answered event = if is_brought event then Some event else None
+
+-- the event of a line, if it is answered so far
+abbrev pub answered_event_of : List (List ℕ) → Option Event
+answered_event_of words = option_and_then answered (event_of words)

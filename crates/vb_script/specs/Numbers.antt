@@ -23,8 +23,10 @@ decimal_value word = with_digits 0 word
 
 -- hexadecimal digits of either case that show at least one byte and at most a page of them
 abbrev pub IsByteWord : List ℕ → Type 0
-IsByteWord word = (0 < length word) × (length word ≤ 2 * 4096) × (length word % 2 ≡ 0) × AllPass is_hex_digit word
+IsByteWord word =
+    (0 < length word) × (length word ≤ 2 * 4096) × (length word % 2 ≡ 0) × AllPass is_hex_digit word
 
 -- 16 hexadecimal digits of either case, and the 64 bits that they show, the highest ones first
 abbrev pub ShowsBits : List ℕ → ℕ → Type 0
-ShowsBits word bits = (bytes : List ℕ) × (decode_sized word 8 ≡ Ok bytes) × (bits ≡ from_be_bytes w64 bytes)
+ShowsBits word bits =
+    (bytes : List ℕ) × (decode_sized word 8 ≡ Ok bytes) × (bits ≡ from_be_bytes w64 bytes)

@@ -5,14 +5,20 @@
 //! rules of the format. Who answers the events is no matter here.
 #![tactic(auto)]
 
+mod events;
 mod lines;
 mod names;
+mod reading;
 mod replies;
 mod script;
 #[cfg(test)]
 mod tests;
+mod texts;
+mod values;
 mod words;
 
-pub use lines::{DEFAULT_FEATURES, Pace};
+pub use events::DEFAULT_FEATURES;
+pub use lines::Pace;
+pub use reading::{ScriptFault, parse};
 pub use replies::write_reply;
-pub use script::{Script, ScriptFault, parse};
+pub use script::Script;

@@ -1,74 +1,130 @@
-//! The words that a script's lines have besides numbers.
+//! The words that a script's lines have besides numbers and digits.
 
-/// What a line is about, by its first word.
+ghost use Rattle.std.specs.Prelude.{◌≡◌};
+ghost use Rattle.vb_script.specs.Names.{found_in};
+
+use crate::lines::Pace;
+use vb_model::{Place, Query};
+
+/// An event that one number says all of: a guest's, or a floor.
 #[derive(Clone, Copy)]
-pub enum Name {
-    Plug,
-    Balance,
-    Frames,
+pub enum OneNumber {
     Unplug,
     Restart,
+    Reset,
+    Stats,
+    Work,
+    Ask,
+    Balance,
     Places,
-    Pages,
     Balloon,
     Memory,
-    Backing,
-    Take,
-    Work,
-    Finish,
-    Sweep,
-    Ask,
-    Target,
-    Init,
-    Reset,
+}
+
+/// An event that a guest's number and one more say all of.
+#[derive(Clone, Copy)]
+pub enum TwoNumbers {
     Inflate,
     Deflate,
     Oom,
     Report,
-    Stats,
     Reap,
+    Take,
+    Sweep,
+    Target,
+    Backing,
+}
+
+/// An event that three numbers say all of.
+#[derive(Clone, Copy)]
+pub enum ThreeNumbers {
+    Plug,
     Alloc,
+    Finish,
+}
+
+/// An event that four numbers say all of.
+#[derive(Clone, Copy)]
+pub enum FourNumbers {
     Free,
     Read,
+}
+
+/// An event that a guest's number, a page, an offset in it and bytes say all of.
+#[derive(Clone, Copy)]
+pub enum WithBytes {
     Write,
     Scribble,
 }
 
-/// The names of events, each with its word.
-pub static NAMES: [(&[u8], Name); 29] = [
-    (b"plug", Name::Plug),
-    (b"balance", Name::Balance),
-    (b"frames", Name::Frames),
-    (b"unplug", Name::Unplug),
-    (b"restart", Name::Restart),
-    (b"places", Name::Places),
-    (b"pages", Name::Pages),
-    (b"balloon", Name::Balloon),
-    (b"memory", Name::Memory),
-    (b"backing", Name::Backing),
-    (b"take", Name::Take),
-    (b"work", Name::Work),
-    (b"finish", Name::Finish),
-    (b"sweep", Name::Sweep),
-    (b"ask", Name::Ask),
-    (b"target", Name::Target),
-    (b"init", Name::Init),
-    (b"reset", Name::Reset),
-    (b"inflate", Name::Inflate),
-    (b"deflate", Name::Deflate),
-    (b"oom", Name::Oom),
-    (b"report", Name::Report),
-    (b"stats", Name::Stats),
-    (b"reap", Name::Reap),
-    (b"alloc", Name::Alloc),
-    (b"free", Name::Free),
-    (b"read", Name::Read),
-    (b"write", Name::Write),
-    (b"scribble", Name::Scribble),
+/// An event, by the words that stand behind its own.
+#[derive(Clone, Copy)]
+pub enum Form {
+    /// No word.
+    Frames,
+    /// A guest's number, and its driver's features if a word is left.
+    Init,
+    /// A guest's number and the name of a place.
+    Pages,
+    One(OneNumber),
+    Two(TwoNumbers),
+    Three(ThreeNumbers),
+    Four(FourNumbers),
+    Bytes(WithBytes),
+}
+
+/// The events, each with its word.
+pub static FORMS: [(&[u8], Form); 29] = [
+    (b"plug", Form::Three(ThreeNumbers::Plug)),
+    (b"unplug", Form::One(OneNumber::Unplug)),
+    (b"restart", Form::One(OneNumber::Restart)),
+    (b"reset", Form::One(OneNumber::Reset)),
+    (b"init", Form::Init),
+    (b"alloc", Form::Three(ThreeNumbers::Alloc)),
+    (b"free", Form::Four(FourNumbers::Free)),
+    (b"read", Form::Four(FourNumbers::Read)),
+    (b"write", Form::Bytes(WithBytes::Write)),
+    (b"scribble", Form::Bytes(WithBytes::Scribble)),
+    (b"inflate", Form::Two(TwoNumbers::Inflate)),
+    (b"deflate", Form::Two(TwoNumbers::Deflate)),
+    (b"oom", Form::Two(TwoNumbers::Oom)),
+    (b"report", Form::Two(TwoNumbers::Report)),
+    (b"stats", Form::One(OneNumber::Stats)),
+    (b"reap", Form::Two(TwoNumbers::Reap)),
+    (b"take", Form::Two(TwoNumbers::Take)),
+    (b"work", Form::One(OneNumber::Work)),
+    (b"finish", Form::Three(ThreeNumbers::Finish)),
+    (b"sweep", Form::Two(TwoNumbers::Sweep)),
+    (b"ask", Form::One(OneNumber::Ask)),
+    (b"target", Form::Two(TwoNumbers::Target)),
+    (b"balance", Form::One(OneNumber::Balance)),
+    (b"places", Form::One(OneNumber::Places)),
+    (b"pages", Form::Pages),
+    (b"balloon", Form::One(OneNumber::Balloon)),
+    (b"memory", Form::One(OneNumber::Memory)),
+    (b"backing", Form::Two(TwoNumbers::Backing)),
+    (b"frames", Form::Frames),
 ];
 
+/// Which pages `pages G PLACE` asks for.
+pub static PLACES: [(&[u8], Query); 8] = [
+    (b"free", Query::PagesAt(Place::Free)),
+    (b"used", Query::PagesAt(Place::Used)),
+    (b"giving", Query::PagesAt(Place::Giving)),
+    (b"lent", Query::PagesAt(Place::Lent)),
+    (b"taking", Query::PagesAt(Place::Taking)),
+    (b"stranded", Query::PagesAt(Place::Stranded)),
+    (b"reporting", Query::PagesAt(Place::Reporting)),
+    (b"ballooned", Query::PagesBallooned),
+];
+
+/// The paces that a line of a spare device names.
+pub static PACES: [(&[u8], Pace); 2] = [(b"immediate", Pace::Immediate), (b"paced", Pace::Paced)];
+
 /// What the word stands for in the table, if it is there.
-pub fn find<T: Copy>(table: &[(&[u8], T)], word: &[u8]) -> Option<T> {
+pub fn find<T: Copy>(table: &[(&[u8], T)], word: &[u8]) -> Option<T>
+    ensures { result ≡ found_in table.now word.now }
+{
     for (name, meaning) in table {
         if *name == word {
             return Some(*meaning);

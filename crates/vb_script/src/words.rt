@@ -1,122 +1,104 @@
-//! The words of a line, read one after the other.
+//! The words of a line, read one after the other, and what separates them.
 
-ghost use Rattle.std.specs.Prelude.{◌≡◌, ◌+◌, ◌-◌, ◌*◌, ◌^◌, ◌<◌, length, IfSome, SomeIff};
-ghost use Rattle.vb_script.specs.Numbers.{IsDecimal, IsDigit, decimal_value};
+ghost use Rattle.std.specs.Prelude.{◌≡◌, ◌∷◌, ◌<◌, ◌==◌, [], length, IfNone, IfSome, MatchOption};
+ghost use Rattle.std.specs.List.{slice_split};
+ghost use Rattle.std.specs.Option.{option_map_or, option_copied};
+ghost use Rattle.vb_script.specs.Words.{is_empty, words_of, words_left, only_word, only_number};
+ghost use Rattle.vb_script.specs.Words.{two_numbers, three_numbers, four_numbers};
 
-use std::alloc::AllocError;
+use crate::values::number;
 
 /// The bytes between words.
 const SPACE: u8 = b' ';
-
-/// Why a line gives nothing.
-#[derive(Clone, Copy, Debug, PartialEq, Eq)]
-pub enum LineFault {
-    /// It isn't a line of the format, or not at its place in the script.
-    Bad,
-    /// There was no memory for what it says.
-    Memory,
-}
-
-impl From<AllocError> for LineFault {
-    fn from(_fault: AllocError) -> LineFault {
-        LineFault::Memory
-    }
-}
 
 /// What is left of a line. Single spaces stand between its words, so a second space in a row, or
 /// one at either end, makes an empty word, which nothing accepts.
 #[derive(Drop)]
 pub struct Words<'a> {
-    rest: Option<&'a [u8]>,
+    pub rest: Option<&'a [u8]>,
 }
 
 impl<'a> Words<'a> {
     /// All words of the line.
-    pub fn of(line: &'a [u8]) -> Words<'a> {
+    pub fn of(line: &'a [u8]) -> Words<'a>
+        ensures { words_left result.rest ≡ words_of line.now }
+    {
         Words { rest: Some(line) }
     }
 
-    /// The next word; a line that has no more is bad.
-    pub fn word(&mut self) -> Result<&'a [u8], LineFault> {
-        let Some(rest) = self.rest else {
-            return Err(LineFault::Bad);
-        };
-        match cut_at(rest, SPACE) {
-            Some((word, rest)) => {
-                self.rest = Some(rest);
-                Ok(word)
-            }
-            None => {
-                self.rest = None;
-                Ok(rest)
-            }
-        }
+    /// The next word, if one is left.
+    pub fn next(&mut self) -> Option<&'a [u8]>
+        ensures { MatchOption result
+            (words_left self.old.rest ≡ [])
+            (λ word. words_left self.old.rest ≡ word.now ∷ words_left self.new.rest) }
+    {
+        let (word, rest) = cut_at(self.rest?, SPACE);
+        self.rest = rest;
+        Some(word)
     }
 
     /// Whether no word is left.
-    pub fn is_at_end(&self) -> bool {
+    pub fn is_at_end(&self) -> bool
+        ensures { result ≡ is_empty (words_left self.now.rest) }
+    {
         self.rest.is_none()
     }
 
-    /// A line that has more words is bad.
-    pub fn end(&self) -> Result<(), LineFault> {
-        if self.is_at_end() {
-            Ok(())
-        } else {
-            Err(LineFault::Bad)
+    /// The next word, if it is the last one.
+    pub fn last(&mut self) -> Option<&'a [u8]>
+        ensures { option_copied result ≡ only_word (words_left self.old.rest) }
+    {
+        let word = self.next()?;
+        match self.next() {
+            None => Some(word),
+            Some(_) => None,
         }
     }
 
-    /// The next word, if it is the last one; a line that has no word left, or more, is bad.
-    pub fn last_word(&mut self) -> Result<&'a [u8], LineFault> {
-        let word = self.word()?;
-        self.end()?;
-        Ok(word)
+    /// The next word as a number of at most 32 bits, if it is the last one.
+    pub fn number(&mut self) -> Option<u32>
+        ensures { result ≡ only_number (words_left self.old.rest) }
+    {
+        number(self.last()?)
     }
 
-    /// The next word as a number of at most 32 bits.
-    pub fn number(&mut self) -> Result<u32, LineFault> {
-        number(self.word()?).ok_or(LineFault::Bad)
+    /// The next words as two numbers, if no more are left.
+    pub fn two_numbers(&mut self) -> Option<(u32, u32)>
+        ensures { result ≡ two_numbers (words_left self.old.rest) }
+    {
+        let first = number(self.next()?)?;
+        let second = self.number()?;
+        Some((first, second))
     }
 
-    /// The next words as numbers of at most 32 bits each.
-    pub fn numbers<const N: usize>(&mut self) -> Result<[u32; N], LineFault> {
-        let mut numbers = [0; N];
-        for next in &mut numbers {
-            *next = self.number()?;
-        }
-        Ok(numbers)
+    /// The next words as three numbers, if no more are left.
+    pub fn three_numbers(&mut self) -> Option<(u32, u32, u32)>
+        ensures { result ≡ three_numbers (words_left self.old.rest) }
+    {
+        let first = number(self.next()?)?;
+        let (second, third) = self.two_numbers()?;
+        Some((first, second, third))
+    }
+
+    /// The next words as four numbers, if no more are left.
+    pub fn four_numbers(&mut self) -> Option<(u32, u32, u32, u32)>
+        ensures { result ≡ four_numbers (words_left self.old.rest) }
+    {
+        let first = number(self.next()?)?;
+        let (second, third, fourth) = self.three_numbers()?;
+        Some((first, second, third, fourth))
     }
 }
 
-/// The number that decimal digits show, any leading zeros among them, if it fits 32 bits.
-pub fn number(word: &[u8]) -> Option<u32>
-    ensures { SomeIff result (IsDecimal word.now × (decimal_value word.now < 2 ^ 32)) (decimal_value word.now) }
+/// What stands before the first such byte of a text, and what behind it if the text has one.
+pub fn cut_at(text: &[u8], byte: u8) -> (&[u8], Option<&[u8]>)
+    ensures split { slice_split (λ x. x == byte) text.now
+        ≡ result.0.now ∷ option_map_or (λ rest. slice_split (λ x. x == byte) rest.now) result.1 [] }
+    ensures whole { IfNone result.1 (result.0.now ≡ text.now) }
+    ensures shorter { IfSome result.1 (λ rest. length rest.now < length text.now) }
 {
-    if word.is_empty() {
-        return None;
+    match text.iter().position(|other| *other == byte) {
+        Some(end) => (&text[..end], Some(&text[end + 1..])),
+        None => (text, None),
     }
-    let mut value: u32 = 0;
-    for digit in word {
-        value = with_digit(value, *digit)?;
-    }
-    Some(value)
-}
-
-/// The number with one more digit behind it.
-fn with_digit(value: u32, digit: u8) -> Option<u32>
-    ensures { SomeIff result (IsDigit digit × (value * 10 + (digit - 48) < 2 ^ 32)) (value * 10 + (digit - 48)) }
-{
-    if !digit.is_ascii_digit() {
-        return None;
-    }
-    value.checked_mul(10)?.checked_add(u32::from(digit - b'0'))
-}
-
-/// What stands before the first such byte of a text and what behind it, if the text has one.
-pub fn cut_at(text: &[u8], byte: u8) -> Option<(&[u8], &[u8])>
-    ensures { IfSome result (λ parts. length parts.1.now < length text.now) }
-{
-    let end = text.iter().position(|other| *other == byte)?;
-    Some((&text[..end], &text[end + 1..]))
 }

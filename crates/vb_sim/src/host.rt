@@ -1,10 +1,11 @@
-// The host that a script's events happen on.
+//! The host that a script's events happen on.
 
-ghost use Rattle.std.specs.Prelude.{◌≡◌, ◌≤◌, List, Bool, IfOk, IsTrue, All, length, vec_len};
+ghost use Rattle.std.specs.Prelude.{◌≡◌, ◌≤◌, IfOk, IsTrue, All, length, map, vec_len};
 ghost use Rattle.vb_model.specs.Brought.{is_brought};
-ghost use Rattle.vb_script.specs.Lines.{is_pace_brought};
-ghost use Rattle.vb_model.specs.World.{World as Model, made};
 ghost use Rattle.vb_model.specs.Safe.{IsSafeRun};
+ghost use Rattle.vb_model.specs.World.{World as Model, made};
+ghost use Rattle.vb_script.specs.Lines.{is_pace_brought, is_paced};
+ghost use Rattle.vb_sim.specs.Plays.{RunsSafely};
 
 use crate::play::Play;
 use std::alloc::{AllocError, Global};
@@ -18,6 +19,8 @@ use vb_world::{World, add_spare};
 pub struct Host;
 
 impl Play for Host {
+    ghost played = { RunsSafely };
+
     fn play(&mut self, alloc: Global, script: &Script) -> Result<Vec<Reply>, AllocError> {
         play_events(alloc, script.frames, &script.spares, &script.events)
     }
@@ -35,7 +38,8 @@ fn play_events(
     requires few { frames ≤ 65_536 }
     requires paces { All (λ pace. IsTrue (is_pace_brought pace)) paces.now }
     requires events { All (λ event. IsTrue (is_brought event)) events.now }
-    ensures run { IfOk result (λ replies. (spares : List Bool) × (last : Model) × IsSafeRun (made frames spares) events.now replies.items last) }
+    ensures run { IfOk result (λ replies. (last : Model)
+        × IsSafeRun (made frames (map is_paced paces.now)) events.now replies.items last) }
     ensures count { IfOk result (λ replies. vec_len replies ≡ length events.now) }
 {
     let mut spares: Vec<Box<dyn Device + Send>> = Vec::with_capacity(alloc, paces.len())?;

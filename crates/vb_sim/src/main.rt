@@ -8,8 +8,8 @@ mod run;
 #[cfg(test)]
 mod tests;
 
-use arguments::{ArgumentsFault, USAGE, read_arguments};
-use run::{BAD_ARGUMENTS, RunFault, report, run_script};
+use arguments::{ArgumentsFault, read_arguments};
+use run::{refuse, run_script};
 use std::env;
 use std::process::ExitCode;
 use std::rt::Env;
@@ -17,11 +17,7 @@ use std::rt::Env;
 fn main(rt: HostRuntime) -> ExitCode {
     let status = match read_command_line(&rt) {
         Ok(()) => run_script(rt.alloc(), rt.reader(), rt.stdout(), rt.stderr()),
-        Err(ArgumentsFault::Memory) => report(&RunFault::Memory, &mut rt.stderr()),
-        Err(ArgumentsFault::Refused) => {
-            let _ = eprintln!(rt; "{USAGE}");
-            BAD_ARGUMENTS
-        }
+        Err(fault) => refuse(fault, &mut rt.stderr()),
     };
     ExitCode::from(status)
 }

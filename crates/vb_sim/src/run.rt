@@ -1,5 +1,16 @@
 //! The run of a script, from its bytes to the exit status.
 
+ghost use Rattle.std.specs.Prelude.{◌≡◌, ◌⊎◌, IfErr, IfOk, OnOk};
+ghost use Rattle.std.specs.Io.KnownBytes.{Appends, Keeps};
+ghost use Rattle.std.specs.List.{flat_map};
+ghost use Rattle.vb_script.specs.Texts.{script_of};
+ghost use Rattle.vb_script.specs.Replies.{line_of};
+ghost use Rattle.vb_sim.specs.Faults.{IfBadLine, UnlessStream, status_of};
+ghost use Rattle.vb_sim.specs.Plays.{MayGet, Prints};
+ghost use Rattle.vb_sim.specs.declared.run.RunFault.TheVariants.{Stream};
+ghost use Rattle.vb_sim.specs.declared.arguments.ArgumentsFault.TheVariants.{Memory, Refused};
+
+use crate::arguments::{ArgumentsFault, USAGE};
 use crate::host::Host;
 use crate::play::Play;
 use std::alloc::{AllocError, Global};
@@ -43,7 +54,9 @@ pub enum RunFault {
 
 impl RunFault {
     /// The exit status.
-    fn status(&self) -> u8 {
+    fn status(&self) -> u8
+        ensures { result ≡ status_of self.now }
+    {
         match self {
             RunFault::BadLine(_) => BAD_SCRIPT,
             RunFault::Memory => NO_MEMORY,
@@ -53,12 +66,20 @@ impl RunFault {
 }
 
 impl From<AllocError> for RunFault {
+    ghost use Rattle.vb_sim.specs.declared.run.RunFault.TheVariants.{Memory};
+
+    ghost from_gives = { λ _ r. r ≡ Memory };
+
     fn from(_fault: AllocError) -> RunFault {
         RunFault::Memory
     }
 }
 
 impl From<ScriptFault> for RunFault {
+    ghost use Rattle.vb_sim.specs.Faults.{fault_of};
+
+    ghost from_gives = { λ fault r. r ≡ fault_of fault };
+
     fn from(fault: ScriptFault) -> RunFault {
         match fault {
             ScriptFault::BadLine(line) => RunFault::BadLine(line),
@@ -68,6 +89,10 @@ impl From<ScriptFault> for RunFault {
 }
 
 impl From<io::Error> for RunFault {
+    ghost use Rattle.vb_sim.specs.Faults.{IsStreamFault};
+
+    ghost from_gives = { λ fault r. IsStreamFault fault r };
+
     fn from(fault: io::Error) -> RunFault {
         match fault.kind() {
             ErrorKind::OutOfMemory => RunFault::Memory,
@@ -108,14 +133,31 @@ where
     }
 }
 
-/// Writes why a run failed, and answers its exit status.
-pub fn report<E: Write>(fault: &RunFault, errors: &mut E) -> u8 {
+/// Writes why a run failed, and answers its exit status: that of the fault, or where that can't be
+/// written the one of a broken stream.
+pub fn report<E: Write>(fault: &RunFault, errors: &mut E) -> u8
+    ensures { (result ≡ status_of fault.now) ⊎ (result ≡ BROKEN_STREAM) }
+{
     if let RunFault::Stream = fault {
         return BROKEN_STREAM;
     }
     match writeln!(errors, "{fault}") {
         Ok(()) => fault.status(),
         Err(_) => BROKEN_STREAM,
+    }
+}
+
+/// Writes why a command line asks for no run, and answers its exit status.
+pub fn refuse<E: Write>(fault: ArgumentsFault, errors: &mut E) -> u8
+    ensures refused { fault ≡ Refused → result ≡ BAD_ARGUMENTS }
+    ensures memory { fault ≡ Memory → (result ≡ NO_MEMORY) ⊎ (result ≡ BROKEN_STREAM) }
+{
+    match fault {
+        ArgumentsFault::Memory => report(&RunFault::Memory, errors),
+        ArgumentsFault::Refused => {
+            let _ = writeln!(errors, "{USAGE}");
+            BAD_ARGUMENTS
+        }
     }
 }
 
@@ -127,10 +169,7 @@ fn answer<P: Play, R: Read + Drop, O: Write + Drop>(
     output: O,
 ) -> Result<(), RunFault> {
     let text = read_text(alloc, input)?;
-    match parse(alloc, text.as_slice())? {
-        None => Ok(()),
-        Some(script) => write_replies(alloc, host, &script, output),
-    }
+    write_replies(alloc, host, text.as_slice(), output)
 }
 
 /// Reads all of the input, if it isn't too long.
@@ -148,26 +187,51 @@ fn read_text<R: Read + Drop>(alloc: Global, input: R) -> Result<Vec<u8>, RunFaul
 fn write_replies<P: Play, O: Write + Drop>(
     alloc: Global,
     host: &mut P,
-    script: &Script,
+    text: &[u8],
     output: O,
 ) -> Result<(), RunFault> {
     let mut out = BufWriter::new(alloc, output)?;
-    play_into(alloc, host, script, &mut out)
+    play_into(alloc, host, text, &mut out)
 }
 
-/// Runs a script and writes its replies to `out`.
+/// Runs a script and writes its replies to `out`, a line each. Nothing is written where a line of
+/// the script is bad, or where there was no memory.
 fn play_into<P: Play, W: Write>(
     alloc: Global,
     host: &mut P,
-    script: &Script,
+    text: &[u8],
     out: &mut W,
-) -> Result<(), RunFault> {
-    let replies = host.play(alloc, script)?;
+) -> Result<(), RunFault>
+    ensures ok { OnOk result
+        (Prints P.played (script_of text.now) (W.contents out.old) (W.contents out.new)) }
+    ensures bad { IfErr result
+        (λ fault. IfBadLine fault (λ number. script_of text.now ≡ Err number)) }
+    ensures nothing { IfErr result
+        (λ fault. UnlessStream fault (Keeps (W.contents out.old) (W.contents out.new))) }
+{
+    let replies = replies_to(alloc, host, text)?;
     write_lines(out, replies.as_slice())
 }
 
+/// What the events of a script are answered, in order. Nothing happens where one of its lines is
+/// bad, and nothing is answered where it has none.
+fn replies_to<P: Play>(alloc: Global, host: &mut P, text: &[u8]) -> Result<Vec<Reply>, RunFault>
+    ensures ok { IfOk result (λ replies. MayGet P.played (script_of text.now) replies.items) }
+    ensures bad { IfErr result
+        (λ fault. IfBadLine fault (λ number. script_of text.now ≡ Err number)) }
+{
+    match parse(alloc, text)? {
+        None => Ok(Vec::new(alloc)),
+        Some(script) => Ok(host.play(alloc, &script)?),
+    }
+}
+
 /// Writes a line for each reply; a fault of the stream ends the run.
-fn write_lines<W: Write>(out: &mut W, replies: &[Reply]) -> Result<(), RunFault> {
+fn write_lines<W: Write>(out: &mut W, replies: &[Reply]) -> Result<(), RunFault>
+    ensures ok { OnOk result
+        (Appends (W.contents out.old) (W.contents out.new) (flat_map line_of replies.now)) }
+    ensures err { IfErr result (λ fault. fault ≡ Stream) }
+{
     match write_all_lines(out, replies) {
         Ok(()) => Ok(()),
         Err(_fault) => Err(RunFault::Stream),
@@ -175,7 +239,10 @@ fn write_lines<W: Write>(out: &mut W, replies: &[Reply]) -> Result<(), RunFault>
 }
 
 /// Writes a line for each reply.
-fn write_all_lines<W: Write>(out: &mut W, replies: &[Reply]) -> io::Result<()> {
+fn write_all_lines<W: Write>(out: &mut W, replies: &[Reply]) -> io::Result<()>
+    ensures { OnOk result
+        (Appends (W.contents out.old) (W.contents out.new) (flat_map line_of replies.now)) }
+{
     for reply in replies {
         write_reply(out, reply)?;
     }

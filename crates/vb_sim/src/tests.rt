@@ -4,6 +4,7 @@ mod command_lines;
 mod examples;
 mod rows;
 mod runs;
+mod sizes;
 
 use crate::run::{SUCCESS, run_script};
 use std::alloc::Global;

@@ -1,7 +1,7 @@
 //! Each line of the format, and each way to be none.
 
-use crate::lines::{Pace, any_event, any_spare, event, features, host, spare};
-use crate::words::{LineFault, number};
+use crate::lines::{LineFault, Pace, any_event, any_spare, event, host, spare};
+use crate::values::{features, number};
 use vb_model::{Call, Event, Place, Query};
 
 /// Lines of events, each with its numbers in order, its bytes, and whether it is answered so far.
@@ -189,7 +189,7 @@ fn questions(rt: HostRuntime) {
 }
 
 /// Lines that break a rule of the format.
-static BAD_LINES: [&[u8]; 40] = [
+static BAD_LINES: [&[u8]; 56] = [
     b" ",
     b" frames",
     b"frames ",
@@ -230,6 +230,22 @@ static BAD_LINES: [&[u8]; 40] = [
     b"pages 0 reserved",
     b"pages 0 free 1",
     b"host 64",
+    b"\xef\xbb\xbfframes",
+    b"\tframes",
+    b"frames \r",
+    b"plug\t64 8 1",
+    b"plug 64 8 1\r",
+    b"plug 64 8 18446744073709551617",
+    b"PLUG 64 8 1",
+    b"take 0",
+    b"take 0 0 0",
+    b"free 0 0 16",
+    b"free 0 0 16 0 0",
+    b"read 0 16 0 4 4",
+    b"read 0 16 0 00",
+    b"write 0 16 0 0xab",
+    b"write 0 16 0 ab ",
+    b"pages 0 Free",
 ];
 
 #[test]
@@ -275,15 +291,20 @@ fn features_as_digits(rt: HostRuntime) {
 }
 
 /// Lines, and the frames of the host that they bring.
-static HOSTS: [(&[u8], Result<u32, LineFault>); 8] = [
-    (b"host 1", Ok(1)),
-    (b"host 65536", Ok(65_536)),
-    (b"host 0", Err(LineFault::Bad)),
-    (b"host 65537", Err(LineFault::Bad)),
-    (b"host", Err(LineFault::Bad)),
-    (b"host 1 1", Err(LineFault::Bad)),
-    (b"host  1", Err(LineFault::Bad)),
-    (b"frames", Err(LineFault::Bad)),
+static HOSTS: [(&[u8], Option<u32>); 13] = [
+    (b"host 1", Some(1)),
+    (b"host 65536", Some(65_536)),
+    (b"host 0", None),
+    (b"host 65537", None),
+    (b"host", None),
+    (b"host 1 1", None),
+    (b"host  1", None),
+    (b"host 1 ", None),
+    (b"host 1\r", None),
+    (b"host 0000000000001", Some(1)),
+    (b"host 4294967297", None),
+    (b"\xef\xbb\xbfhost 1", None),
+    (b"frames", None),
 ];
 
 #[test]
@@ -294,7 +315,7 @@ fn hosts(rt: HostRuntime) {
 }
 
 /// Lines, and the spare devices that they bring.
-static SPARES: [(&[u8], Result<Option<Pace>, LineFault>); 7] = [
+static SPARES: [(&[u8], Result<Option<Pace>, LineFault>); 10] = [
     (b"spare immediate", Ok(Some(Pace::Immediate))),
     (b"spare paced", Err(LineFault::Bad)),
     (b"frames", Ok(None)),
@@ -302,6 +323,9 @@ static SPARES: [(&[u8], Result<Option<Pace>, LineFault>); 7] = [
     (b"spare ", Err(LineFault::Bad)),
     (b"spare fast", Err(LineFault::Bad)),
     (b"spare immediate 1", Err(LineFault::Bad)),
+    (b"spare  immediate", Err(LineFault::Bad)),
+    (b"spare immediate ", Err(LineFault::Bad)),
+    (b"Spare immediate", Ok(None)),
 ];
 
 #[test]

@@ -1,7 +1,8 @@
 //! Whole scripts.
 
 use crate::lines::Pace;
-use crate::script::{Script, ScriptFault, parse};
+use crate::reading::{ScriptFault, parse};
+use crate::script::Script;
 use std::alloc::{AllocError, Global};
 
 /// What a text was read to: the frames, the number of spare devices and that of events, or nothing
@@ -22,7 +23,7 @@ fn sizes(script: &Script) -> (u32, usize, usize) {
 }
 
 /// Texts, and what they are read to.
-static TEXTS: [(&[u8], Outline); 13] = [
+static TEXTS: [(&[u8], Outline); 20] = [
     (
         b"\n#\nhost 0064\nspare immediate\n# \0\xff\r\nspare immediate\nframes\n\nplug 64 8 1",
         Ok(Some((64, 2, 2))),
@@ -44,6 +45,16 @@ static TEXTS: [(&[u8], Outline); 13] = [
     (b"host 64\n\n \nhost", Err(ScriptFault::BadLine(3))),
     (b"host 64\r\nframes\r\n", Err(ScriptFault::BadLine(1))),
     (b"host 64\n #\n", Err(ScriptFault::BadLine(2))),
+    (b"\xef\xbb\xbfhost 64\n", Err(ScriptFault::BadLine(1))),
+    (b"host 64\n\tframes\n", Err(ScriptFault::BadLine(2))),
+    (b"host 64\nspare paced\n", Err(ScriptFault::BadLine(2))),
+    (
+        b"host 64\nframes\n\n#\nunplug 0",
+        Err(ScriptFault::BadLine(5)),
+    ),
+    (b"host 64\nframes\n\n\n", Ok(Some((64, 0, 1)))),
+    (b"\nhost 64", Ok(Some((64, 0, 0)))),
+    (b"host 64\0", Err(ScriptFault::BadLine(1))),
     (
         b"host 64\nframes\nframes\nfree\nread",
         Err(ScriptFault::BadLine(4)),

@@ -1,6 +1,7 @@
 //! Command lines.
 
 use crate::arguments::{ArgumentsFault, read_arguments};
+use crate::run::refuse;
 use std::alloc::{AllocError, Global};
 
 /// What the words behind the program's name ask for.
@@ -55,5 +56,24 @@ fn command_lines(rt: HostRuntime) {
 fn refused_command_lines(rt: HostRuntime) {
     for words in &REFUSED {
         assert!(rt; arguments(rt.alloc(), words) == Err(ArgumentsFault::Refused));
+    }
+}
+
+/// Why a command line asks for no run, what standard error says of it, and the exit status.
+static FAULTS: [(ArgumentsFault, &str, u8); 2] = [
+    (
+        ArgumentsFault::Refused,
+        "usage: vb_sim run | threads [--bells MODE]\n",
+        2,
+    ),
+    (ArgumentsFault::Memory, "run: memory\n", 3),
+];
+
+#[test]
+fn faults_of_command_lines(rt: HostRuntime) {
+    for (fault, text, status) in &FAULTS {
+        let mut errors = Vec::new(rt.alloc());
+        let found = refuse(*fault, &mut errors);
+        assert!(rt; found == *status && errors.as_slice() == text.as_bytes());
     }
 }

@@ -1,6 +1,6 @@
 use Rattle.std.proofs.Common.{◌≡◌, ℕ, ◌^◌, ◌<◌, get_or, drop}
 use Rattle.vb_script.specs.Numbers.{IsDigit, decimal_value, with_digits}
-use Rattle.vb_script.proofs.words.number.Given as goal
+use Rattle.vb_script.proofs.values.number.Given as goal
 
 abbrev pub invariant-loop-digit : goal.invariant-loop-digit
 invariant-loop-digit l = record {

@@ -1,0 +1,6 @@
+use Rattle.std.proofs.Common.{◌≡◌, drop}
+use Rattle.vb_script.specs.Names.{found_in}
+use Rattle.vb_script.proofs.names.find.Given as goal
+
+abbrev pub invariant-loop-name : goal.invariant-loop-name
+invariant-loop-name g l = found_in (drop l.name-index l.table) l.word ≡ found_in l.table l.word

@@ -1,0 +1,8 @@
+use Rattle.std.proofs.Common.{arith}
+use Rattle.std.proofs.lemmas.Bool.Decides.{nat_tests}
+use Rattle.vb_script.specs.Values.{positive_of}
+use Rattle.vb_script.proofs.values.positive.Goals as goal
+
+pub returns : goal.returns
+unfolding positive_of
+returns c = grind (arith, nat_tests)

@@ -1,0 +1,130 @@
+//! The text of a script, read line by line.
+
+ghost use Rattle.std.specs.Prelude.{◌≡◌, ◌≤◌, IfErr, IfOk, OnErr, OnOk, true};
+ghost use Rattle.std.specs.Option.{option_map};
+ghost use Rattle.vb_script.specs.Lines.{is_pace_brought};
+ghost use Rattle.vb_script.specs.Scripts.{IfBadLine, lines_left, said_by};
+ghost use Rattle.vb_script.specs.Texts.{host_said, script_of, with_line, with_lines, with_spare};
+
+use crate::lines::{LineFault, Pace, event, host, spare};
+use crate::script::Script;
+use crate::texts::{Line, Lines};
+use std::alloc::{AllocError, Global};
+
+/// Spare devices that a script may bring.
+const MAX_SPARES: usize = 64;
+
+/// Why a text gives no script.
+#[derive(Clone, Copy, Debug, PartialEq, Eq)]
+pub enum ScriptFault {
+    /// The line of this number is the first one that breaks a rule of the format, or whose event
+    /// isn't answered yet. All lines count, from 1 on, the empty ones and comments among them.
+    BadLine(u64),
+    /// There was no memory for the script.
+    Memory,
+}
+
+impl From<AllocError> for ScriptFault {
+    ghost use Rattle.vb_script.specs.declared.reading.ScriptFault.TheVariants.{Memory};
+
+    ghost from_gives = { λ _ r. r ≡ Memory };
+
+    fn from(_fault: AllocError) -> ScriptFault {
+        ScriptFault::Memory
+    }
+}
+
+impl Line<'_> {
+    /// What a fault in this line means to the script.
+    fn fault(self, fault: LineFault) -> ScriptFault
+        ensures { IfBadLine result
+            (λ number. (fault ≡ LineFault.Bad) × (number ≡ self.entry.number)) }
+    {
+        match fault {
+            LineFault::Bad => ScriptFault::BadLine(self.number),
+            LineFault::Memory => ScriptFault::Memory,
+        }
+    }
+}
+
+/// Reads a script from its whole text, whatever bytes that has. A text of comments and empty lines
+/// alone has no lines, and so no host: there is no script, and no fault. Refused are a bad line,
+/// and a script that there is no memory for.
+pub fn parse(alloc: Global, text: &[u8]) -> Result<Option<Script>, ScriptFault>
+    ensures ok { IfOk result (λ script. script_of text.now ≡ Ok (option_map said_by script)) }
+    ensures bad { IfErr result
+        (λ fault. IfBadLine fault (λ number. script_of text.now ≡ Err number)) }
+{
+    let mut lines = Lines::of(text);
+    let Some(first) = lines.next() else {
+        return Ok(None);
+    };
+    let frames = host(first.text).ok_or(ScriptFault::BadLine(first.number))?;
+    let script = parse_rest(alloc, frames, lines)?;
+    Ok(Some(script))
+}
+
+/// Reads what stands behind the first line of a script whose host has so many frames.
+fn parse_rest(alloc: Global, frames: u32, mut lines: Lines<'_>) -> Result<Script, ScriptFault>
+    requires some { 1 ≤ frames }
+    requires bound { frames ≤ 65_536 }
+    ensures ok { IfOk result
+        (λ script. with_lines (lines_left lines.entry) (host_said frames) ≡ Ok (said_by script)) }
+    ensures bad { IfErr result (λ fault. IfBadLine fault
+        (λ number. with_lines (lines_left lines.entry) (host_said frames) ≡ Err number)) }
+{
+    let count = count_lines(lines.rest);
+    let mut script = Script {
+        frames,
+        spares: Vec::with_capacity(alloc, MAX_SPARES)?,
+        events: Vec::with_capacity(alloc, count)?,
+    };
+    while let Some(line) = lines.next() {
+        if let Err(fault) = script.add(alloc, line.text) {
+            return Err(line.fault(fault));
+        }
+    }
+    Ok(script)
+}
+
+/// How many lines of a text aren't skipped.
+fn count_lines(text: &[u8]) -> usize {
+    let mut lines = Lines::of(text);
+    let mut count: usize = 0;
+    while let Some(_line) = lines.next() {
+        count = count.saturating_add(1);
+    }
+    count
+}
+
+impl Script {
+    /// Adds what a line behind the first one says: a spare device, or an event.
+    fn add(&mut self, alloc: Global, line: &[u8]) -> Result<(), LineFault>
+        ensures ok { OnOk result (with_line line.now (said_by self.old) ≡ Some (said_by self.new)) }
+        ensures bad { result ≡ Err LineFault.Bad → with_line line.now (said_by self.old) ≡ None }
+        ensures err { OnErr result (said_by self.new ≡ said_by self.old) }
+    {
+        match spare(line)? {
+            Some(pace) => self.add_spare(pace),
+            None => {
+                let event = event(alloc, line)?;
+                self.events.push(event).map_err(AllocError::from)?;
+                Ok(())
+            }
+        }
+    }
+
+    /// Adds a spare device. There may be no event before it, and not too many beside it.
+    fn add_spare(&mut self, pace: Pace) -> Result<(), LineFault>
+        requires { is_pace_brought pace ≡ true }
+        ensures ok { OnOk result (with_spare pace (said_by self.old) ≡ Some (said_by self.new)) }
+        ensures bad { result ≡ Err LineFault.Bad → with_spare pace (said_by self.old) ≡ None }
+        ensures err { OnErr result (said_by self.new ≡ said_by self.old) }
+    {
+        if !self.events.is_empty() || self.spares.len() >= MAX_SPARES {
+            return Err(LineFault::Bad);
+        }
+        self.spares.push(pace).map_err(AllocError::from)?;
+        Ok(())
+    }
+}
