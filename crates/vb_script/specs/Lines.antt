@@ -4,7 +4,7 @@ use Rattle.std.specs.Prelude.{Option, Some, None, Result, Ok, Err, codes}
 use Rattle.std.specs.Option.{option_and_then}
 use Rattle.std.specs.Str.{bytes_eq}
 use Rattle.vb_model.specs.declared.calls.Event.{Event}
-use Rattle.vb_model.specs.Brought.{is_brought}
+use Rattle.vb_model.specs.Brought.{is_brought, is_pace_brought as is_there}
 use Rattle.vb_script.specs.declared.lines.LineFault.{LineFault}
 use Rattle.vb_script.specs.declared.lines.LineFault.TheVariants.{Bad}
 use Rattle.vb_script.specs.declared.lines.Pace.{Pace}
@@ -13,15 +13,14 @@ use Rattle.vb_script.specs.Events.{event_of}
 use Rattle.vb_script.specs.Names.{pace_of}
 use Rattle.vb_script.specs.Words.{only_word, only_number}
 
--- the spare devices that are there so far: those that do all work of a request as they finish it
-abbrev pub is_pace_brought : Pace → Bool
-is_pace_brought Immediate = true
-is_pace_brought Paced = false
-
 -- whether such a device visits the pages of a request one by one
 abbrev pub is_paced : Pace → Bool
 is_paced Immediate = false
 is_paced Paced = true
+
+-- the spare devices that are there so far
+abbrev pub is_pace_brought : Pace → Bool
+is_pace_brought pace = is_there (is_paced pace)
 
 abbrev pub in_range : ℕ → Option ℕ
 in_range frames = if nat_le 1 frames && nat_le frames 65_536 then Some frames else None

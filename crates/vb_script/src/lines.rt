@@ -3,7 +3,7 @@
 ghost use Rattle.std.specs.Prelude.{◌≡◌, ◌≤◌, IfOk, IfSome, IsTrue, true};
 ghost use Rattle.vb_model.specs.Brought.{is_brought};
 ghost use Rattle.vb_script.specs.Events.{event_of};
-ghost use Rattle.vb_script.specs.Lines.{answered_event_of, host_of, is_pace_brought, spare_of};
+ghost use Rattle.vb_script.specs.Lines.{answered_event_of, host_of, is_pace_brought, is_paced, spare_of};
 ghost use Rattle.vb_script.specs.Lines.{answered_spare_of};
 ghost use Rattle.vb_script.specs.Names.{pace_of};
 ghost use Rattle.vb_script.specs.Words.{words_of};
@@ -13,8 +13,8 @@ use crate::names::{PACES, find};
 use crate::values::number;
 use crate::words::Words;
 use std::alloc::{AllocError, Global};
-use vb_model::Event;
 use vb_model::limits::MAX_FRAMES;
+use vb_model::{Event, is_pace_brought};
 
 /// Why a line gives nothing.
 #[derive(Clone, Copy, Debug, PartialEq, Eq)]
@@ -45,14 +45,18 @@ pub enum Pace {
 }
 
 impl Pace {
+    /// Whether such a device visits the pages of a request one by one.
+    pub fn is_paced(self) -> bool
+        ensures { result ≡ is_paced self }
+    {
+        matches!(self, Pace::Paced)
+    }
+
     /// Whether such devices are there so far; a script has no line for the others.
     pub fn is_brought(self) -> bool
         ensures { result ≡ is_pace_brought self }
     {
-        match self {
-            Pace::Immediate => true,
-            Pace::Paced => false,
-        }
+        is_pace_brought(self.is_paced())
     }
 }
 

@@ -1,6 +1,7 @@
-//! Each reply's line, as the formats give it.
+//! Each reply's line, as docs/SCRIPTS.md has it.
 
 use crate::replies::write_reply;
+use arrayvec::ArrayVec;
 use std::alloc::{AllocError, Global};
 use std::process::Abort;
 use vb_model::{Bytes, Numbers, PageRun, PageRuns, PlaceCounts, Refusal, Reply};
@@ -172,7 +173,11 @@ static TARGETS: [(&[u32], &str); 2] = [(&[28, 0], "targets 28 0"), (&[], "target
 #[test]
 fn targets(rt: HostRuntime) -> Result<(), AllocError> {
     for (pages, line) in &TARGETS {
-        let pages = Numbers::new(Vec::from_slice(rt.alloc(), pages)?);
+        let mut targets = ArrayVec::new();
+        for page in *pages {
+            let _room = targets.try_push(*page);
+        }
+        let pages = Numbers::new(targets);
         check(&rt, rt.alloc(), Reply::Targets { pages }, line);
     }
     Ok(())
