@@ -13,22 +13,40 @@ use Rattle.vb_chain.specs.Rules.{piece_of, first_broken, first_fault, is_indirec
 use Rattle.vb_chain.specs.Chain.{ChainGives}
 use Rattle.vb_chain.specs.Written.{empty}
 
-second_holds : (b c : Bool) (f h : ChainFault) (rest : List (Bool × ChainFault)) → first_broken ((b, f) ∷ (c, h) ∷ rest) ≡ None → c ≡ false
+second_holds : (b c : Bool) (f h : ChainFault) (rest : List (Bool × ChainFault)) →
+    first_broken ((b, f) ∷ (c, h) ∷ rest) ≡ None → c ≡ false
 second_holds true c f h rest e = absurd cc
 second_holds false true f h rest e = absurd cc
 second_holds false false f h rest e = refl
 
-fits_of : (q end : ℕ) (writing : Bool) (k : ℕ) (x : Descriptor) → first_fault q end writing k x ≡ None → x.addr + x.len ≤ end
-fits_of q end writing k x e = ltb-false end (x.addr + x.len) (second_holds (is_indirect x) (nat_lt end (x.addr + x.len)) Indirect OutOfRam ((writing && not (is_writable x), WrongDirection) ∷ (has_next x && nat_le q x.next, BadNext) ∷ (has_next x && nat_le q (k + 1), TooLong) ∷ []) e)
+fits_of : (q end : ℕ) (writing : Bool) (k : ℕ) (x : Descriptor) →
+    first_fault q end writing k x ≡ None → x.addr + x.len ≤ end
+fits_of q end writing k x e =
+    ltb-false end (x.addr + x.len)
+    (second_holds (is_indirect x) (nat_lt end (x.addr + x.len)) Indirect OutOfRam
+    ((writing && not (is_writable x), WrongDirection) ∷ (has_next x && nat_le q x.next, BadNext) ∷
+    (has_next x && nat_le q (k + 1), TooLong) ∷ []) e)
 
-pub chain_fits : (d : ℕ → Descriptor) (q end h : ℕ) (pieces : List Piece) → ChainGives d q end h pieces → All (λ piece. piece.addr + piece.len ≤ end) pieces
+pub chain_fits : (d : ℕ → Descriptor) (q end h : ℕ) (pieces : List Piece) →
+    ChainGives d q end h pieces → All (λ piece. piece.addr + piece.len ≤ end) pieces
 chain_fits d q end h pieces gives =
-    subst (λ (xs : List Piece). All (λ piece. piece.addr + piece.len ≤ end) xs) (sym gives.pieces_are)
-    (All-from_get_or (λ piece. piece.addr + piece.len ≤ end) (map (λ i. piece_of (d i)) gives.path) empty (λ k lt.
-    let inside : k < length gives.path = omega (arith, lt, length-map gives.path (λ i. piece_of (d i))) in
-    subst (λ (piece : Piece). piece.addr + piece.len ≤ end) (sym (get_or-map (λ n. piece_of (d n)) gives.path k 0 empty inside))
-    (fits_of q end (list_any (λ i. is_writable (d i)) (take k gives.path)) k (d (slice_index gives.path k)) (gives.chain.sound k inside))))
+    subst (λ (xs : List Piece). All (λ piece. piece.addr + piece.len ≤ end) xs)
+    (sym gives.pieces_are)
+    (All-from_get_or (λ piece. piece.addr + piece.len ≤ end) (map (λ i. piece_of (d i)) gives.path)
+    empty (λ k lt.
+    let inside : k < length gives.path =
+    omega (arith, lt, length-map gives.path (λ i. piece_of (d i))) in
+    subst (λ (piece : Piece). piece.addr + piece.len ≤ end)
+    (sym (get_or-map (λ n. piece_of (d n)) gives.path k 0 empty inside))
+    (fits_of q end (list_any (λ i. is_writable (d i)) (take k gives.path)) k
+    (d (slice_index gives.path k)) (gives.chain.sound k inside))))
 
-pub chain_few : (d : ℕ → Descriptor) (q end h : ℕ) (pieces : List Piece) → ChainGives d q end h pieces → length pieces ≤ q
+pub chain_few : (d : ℕ → Descriptor) (q end h : ℕ) (pieces : List Piece) →
+    ChainGives d q end h pieces → length pieces ≤ q
 chain_few d q end h pieces gives =
-    omega (arith, ap (λ (xs : List Piece). length xs) gives.pieces_are, length-map gives.path (λ i. piece_of (d i)), gives.chain.short)
+    omega (
+      arith,
+      ap (λ (xs : List Piece). length xs) gives.pieces_are,
+      length-map gives.path (λ i. piece_of (d i)),
+      gives.chain.short,
+    )

@@ -26,7 +26,8 @@ ok_same r x y a b = cc
 err_same : (r : Result (Option ℕ) ChainFault) (x y : ChainFault) → r ≡ Err x → r ≡ Err y → x ≡ y
 err_same r x y a b = cc
 
-next_two : (r : Result (Option ℕ) ChainFault) (x y : Result (Option ℕ) ChainFault) → r ≡ x → r ≡ y → x ≡ y
+next_two : (r : Result (Option ℕ) ChainFault) (x y : Result (Option ℕ) ChainFault) → r ≡ x → r ≡ y →
+    x ≡ y
 next_two r x y a b = sym a ∙ b
 
 none_some : (r : Result (Option ℕ) ChainFault) (h : ℕ) → r ≡ Ok None → r ≡ Ok (Some h) → ⊥
@@ -50,17 +51,23 @@ unfolding byte_at
 no_byte p k = refl
 
 no_entry : (l : Layout) (q : ℕ) → next_entry [] l q 0 ≡ Ok None
-no_entry l q = ap (λ (n : ℕ). next_by (ahead n 0) q IndexJump (field 2 [] l.avail.page (avail_place l q 0))) (field_zero 2 [] l.avail.page (avail_index l) (no_byte l.avail.page))
+no_entry l q =
+    ap (λ (n : ℕ). next_by (ahead n 0) q IndexJump (field 2 [] l.avail.page (avail_place l q 0)))
+    (field_zero 2 [] l.avail.page (avail_index l) (no_byte l.avail.page))
 
 no_pages : (mem : Pages) → length mem ≡ 0 → mem ≡ []
 no_pages [] e = refl
 no_pages (x ∷ xs) e = absurd (omega arith)
 
-pub idle_next : (mem : Pages) (x : QueueState) → length mem ≡ 0 → x.ring.next_avail ≡ 0 → next_of mem x ≡ Ok None
+pub idle_next : (mem : Pages) (x : QueueState) → length mem ≡ 0 → x.ring.next_avail ≡ 0 →
+    next_of mem x ≡ Ok None
 idle_next mem x e z =
-    ap (λ (m : Pages). next_entry m x.ring.layout x.ring.size x.ring.next_avail) (no_pages mem e) ∙ (ap (λ (n : ℕ). next_entry [] x.ring.layout x.ring.size n) z ∙ no_entry x.ring.layout x.ring.size)
+    ap (λ (m : Pages). next_entry m x.ring.layout x.ring.size x.ring.next_avail) (no_pages mem e) ∙
+    (ap (λ (n : ℕ). next_entry [] x.ring.layout x.ring.size n) z ∙
+    no_entry x.ring.layout x.ring.size)
 
-pub next_idle : (mem : Pages) (x : QueueState) → is_full x ≡ false → length mem ≡ 0 → x.ring.next_avail ≡ 0 → TakesNext mem x x (Ok None)
+pub next_idle : (mem : Pages) (x : QueueState) → is_full x ≡ false → length mem ≡ 0 →
+    x.ring.next_avail ≡ 0 → TakesNext mem x x (Ok None)
 next_idle mem x free e z =
     let none : next_of mem x ≡ Ok None = idle_next mem x e z in
     record {
@@ -75,7 +82,8 @@ next_idle mem x free e z =
 
 -- ---- what a take leaves
 
--- The ring is as before but for its count, which stays where memory has no pages, as do the taken requests.
+-- The ring is as before but for its count, which stays where memory has no pages, as do the taken
+-- requests.
 pub record KeepsRing (mem : Pages) (x1 x2 : QueueState) : Type 0 where
   pub layout : x2.ring.layout ≡ x1.ring.layout
   pub size : x2.ring.size ≡ x1.ring.size
@@ -83,9 +91,16 @@ pub record KeepsRing (mem : Pages) (x1 x2 : QueueState) : Type 0 where
   pub idle : length mem ≡ 0 → x2 ≡ x1
 
 kept : (mem : Pages) (x1 x2 : QueueState) → x2 ≡ x1 → KeepsRing mem x1 x2
-kept mem x1 x2 e = record { layout = ap (λ (x : QueueState). x.ring.layout) e; size = ap (λ (x : QueueState). x.ring.size) e; ready = ap (λ (x : QueueState). x.ring.ready) e; idle = λ z. e }
+kept mem x1 x2 e =
+    record {
+      layout = ap (λ (x : QueueState). x.ring.layout) e;
+      size = ap (λ (x : QueueState). x.ring.size) e;
+      ready = ap (λ (x : QueueState). x.ring.ready) e;
+      idle = λ z. e;
+    }
 
-pub keeps_ring : (mem : Pages) (x1 x2 : QueueState) (result : Result (Option ℕ) Refusal) → (length mem ≡ 0 → x1.ring.next_avail ≡ 0) → NextMeans mem x1 x2 result → KeepsRing mem x1 x2
+pub keeps_ring : (mem : Pages) (x1 x2 : QueueState) (result : Result (Option ℕ) Refusal) →
+    (length mem ≡ 0 → x1.ring.next_avail ≡ 0) → NextMeans mem x1 x2 result → KeepsRing mem x1 x2
 keeps_ring mem x1 x2 (Ok None) idle m = kept mem x1 x2 m.1
 keeps_ring mem x1 x2 (Ok (Some h)) idle m = record {
   layout = ap (λ (x : QueueState). x.ring.layout) m.1.5;

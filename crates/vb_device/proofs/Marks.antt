@@ -15,29 +15,42 @@ one_is true = refl
 one_is false = refl
 
 -- the count after one flag is set or taken back
-pub count_set : (flags : List Bool) (i : ℕ) (flag old : Bool) → i < length flags → get_or flags i old ≡ old → count_by (λ b. b) (set flags i flag) + one_if old ≡ count_by (λ b. b) flags + one_if flag
+pub count_set : (flags : List Bool) (i : ℕ) (flag old : Bool) → i < length flags →
+    get_or flags i old ≡ old →
+    count_by (λ b. b) (set flags i flag) + one_if old ≡ count_by (λ b. b) flags + one_if flag
 count_set flags i flag old lt at =
     let whole = sum_by-set (λ b. cond b 1 0) flags i flag old lt in
     omega (arith, whole, one_is flag, one_is old, ap {B = ℕ} (λ (b : Bool). cond b 1 0) at)
 
-pub count_has : (flags : List Bool) (i : ℕ) (old : Bool) → i < length flags → get_or flags i old ≡ old → one_if old ≤ count_by (λ b. b) flags
+pub count_has : (flags : List Bool) (i : ℕ) (old : Bool) → i < length flags →
+    get_or flags i old ≡ old → one_if old ≤ count_by (λ b. b) flags
 count_has flags i old lt at =
     let some = get_or-le-sum_by (λ b. cond b 1 0) flags i old lt in
     omega (arith, some, one_is old, ap {B = ℕ} (λ (b : Bool). cond b 1 0) at)
 
-pub flagged-length : (pages : List ℕ) (flag : Bool) (flags : List Bool) → length (flagged pages flag flags) ≡ length flags
-flagged-length pages flag flags = length-each_from 0 (λ page old. cond (is_in page pages) flag old) flags
+pub flagged-length : (pages : List ℕ) (flag : Bool) (flags : List Bool) →
+    length (flagged pages flag flags) ≡ length flags
+flagged-length pages flag flags =
+    length-each_from 0 (λ page old. cond (is_in page pages) flag old) flags
 
-flagged-at : (pages : List ℕ) (flag : Bool) (flags : List Bool) (k : ℕ) → k < length flags → get_or (flagged pages flag flags) k false ≡ cond (is_in k pages) flag (get_or flags k false)
-flagged-at pages flag flags k lt = each_page-get (λ page old. cond (is_in page pages) flag old) flags k false (λ h. absurd (omega (arith, h, lt)))
+flagged-at : (pages : List ℕ) (flag : Bool) (flags : List Bool) (k : ℕ) → k < length flags →
+    get_or (flagged pages flag flags) k false ≡ cond (is_in k pages) flag (get_or flags k false)
+flagged-at pages flag flags k lt =
+    each_page-get (λ page old. cond (is_in page pages) flag old) flags k false
+    (λ h. absurd (omega (arith, h, lt)))
 
 pub flagged_none : (flag : Bool) (flags : List Bool) → flags ≡ flagged [] flag flags
-flagged_none flag flags = ext_get_or false flags (flagged [] flag flags) (sym (flagged-length [] flag flags)) (λ k lt. sym (flagged-at [] flag flags k lt))
+flagged_none flag flags =
+    ext_get_or false flags (flagged [] flag flags) (sym (flagged-length [] flag flags))
+    (λ k lt. sym (flagged-at [] flag flags k lt))
 
 -- one more page's flag
-pub flag_more : (first flags : List Bool) (pages : List ℕ) (i page : ℕ) (flag : Bool) → i < length pages → get_or pages i 0 ≡ page → flags ≡ flagged (take i pages) flag first → set flags page flag ≡ flagged (take (i + 1) pages) flag first
+pub flag_more : (first flags : List Bool) (pages : List ℕ) (i page : ℕ) (flag : Bool) →
+    i < length pages → get_or pages i 0 ≡ page → flags ≡ flagged (take i pages) flag first →
+    set flags page flag ≡ flagged (take (i + 1) pages) flag first
 flag_more first flags pages i page flag lt at e =
-    let len : length flags ≡ length first = ap (λ (xs : List Bool). length xs) e ∙ flagged-length (take i pages) flag first in
+    let len : length flags ≡ length first =
+    ap (λ (xs : List Bool). length xs) e ∙ flagged-length (take i pages) flag first in
     ext_get_or false (set flags page flag) (flagged (take (i + 1) pages) flag first)
     (length-set flags page flag ∙ (len ∙ sym (flagged-length (take (i + 1) pages) flag first)))
     (λ k l.
@@ -46,12 +59,22 @@ flag_more first flags pages i page flag lt at e =
     elim (cases_eq k page) [
       | inl same ↦
           (let inside : page < length flags = omega (arith, here, same) in
-          ap (λ (j : ℕ). get_or (set flags page flag) j false) same ∙ (get_or-set_same flags page flag false inside
+          ap (λ (j : ℕ). get_or (set flags page flag) j false) same ∙
+          (get_or-set_same flags page flag false inside
           ∙ sym (flagged-at (take (i + 1) pages) flag first k there
-          ∙ ap (λ b. cond b flag (get_or first k false)) (in_more pages i k lt ∙ or_true (is_in k (take i pages)) (get_or pages i 0 == k) (eq-eqb (get_or pages i 0) k (at ∙ sym same))))))
+          ∙ ap (λ b. cond b flag (get_or first k false))
+          (in_more pages i k lt ∙
+          or_true (is_in k (take i pages)) (get_or pages i 0 == k)
+          (eq-eqb (get_or pages i 0) k (at ∙ sym same))))))
       | inr ne ↦
-          get_or-set_other flags page k flag false ne ∙ (ap (λ (xs : List Bool). get_or xs k false) e ∙ (flagged-at (take i pages) flag first k there
-          ∙ sym (flagged-at (take (i + 1) pages) flag first k there ∙ ap (λ b. cond b flag (get_or first k false)) (in_more pages i k lt ∙ or_false (is_in k (take i pages)) (get_or pages i 0 == k) (not_equal (get_or pages i 0) k (get_or pages i 0 == k) refl (λ x. ne (x ∙ at)))))))
+          get_or-set_other flags page k flag false ne ∙
+          (ap (λ (xs : List Bool). get_or xs k false) e ∙
+          (flagged-at (take i pages) flag first k there
+          ∙ sym (flagged-at (take (i + 1) pages) flag first k there ∙
+          ap (λ b. cond b flag (get_or first k false))
+          (in_more pages i k lt ∙
+          or_false (is_in k (take i pages)) (get_or pages i 0 == k)
+          (not_equal (get_or pages i 0) k (get_or pages i 0 == k) refl (λ x. ne (x ∙ at)))))))
     ])
 
 pub none_set : (n : ℕ) → count_by (λ b. b) (replicate n false) ≡ 0

@@ -15,7 +15,11 @@ at_below : (p : ℕ → Bool) (n k : ℕ) → all_below p n ≡ true → k < n �
 at_below p zero k h lt = absurd (omega arith)
 at_below p (suc n) k h lt =
     let parts = and_parts (p n) (all_below p n) h in
-    elim (cases_eq k n) [ inl same ↦ ap p same ∙ parts.0 | inr ne ↦ at_below p n k parts.1 (omega (arith, ne)) ]
+    elim (cases_eq k n) [
+      | inl same ↦ ap p same ∙
+          parts.0
+      | inr ne ↦ at_below p n k parts.1 (omega (arith, ne))
+    ]
 
 either : (a b : Bool) → (not a || b) ≡ true → a ≡ true → b ≡ true
 either true b h e = h
@@ -34,12 +38,23 @@ is_true false e = absurd cc
 
 power : (n : ℕ) → is_power_of_two n ≡ true → n ≤ 128 → int.is_power_of_two n ≡ true
 unfolding test
-power n e h = either (is_power_of_two n) (int.is_power_of_two n) (at_below test 129 n tested (omega arith)) e
+power n e h =
+    either (is_power_of_two n) (int.is_power_of_two n) (at_below test 129 n tested (omega arith)) e
 
-pub size_is_power : (pages queue_size processors : ℕ) → is_config pages queue_size processors ≡ true → IsTrue (int.is_power_of_two queue_size) × (2 ≤ queue_size) × (queue_size ≤ 128)
+pub size_is_power : (pages queue_size processors : ℕ) →
+    is_config pages queue_size processors ≡ true →
+    IsTrue (int.is_power_of_two queue_size) × (2 ≤ queue_size) × (queue_size ≤ 128)
 size_is_power pages queue_size processors h =
     let limits = config_limits pages queue_size processors h in
-    let all = and_parts (is_between 64 16384 pages && is_power_of_two pages) ((is_between 2 128 queue_size && is_power_of_two queue_size) && is_between 1 4 processors) h in
-    let rest = and_parts (is_between 2 128 queue_size && is_power_of_two queue_size) (is_between 1 4 processors) all.1 in
-    let two = and_parts (is_between 2 128 queue_size) (is_power_of_two queue_size) rest.0 in
-    (is_true (int.is_power_of_two queue_size) (power queue_size two.1 limits.queue_most), limits.queue_least, limits.queue_most)
+    let all =
+    and_parts (is_between 64 16384 pages && is_power_of_two pages)
+    ((is_between 2 128 queue_size && is_power_of_two queue_size) && is_between 1 4 processors) h
+    in
+    let rest =
+    and_parts (is_between 2 128 queue_size && is_power_of_two queue_size)
+    (is_between 1 4 processors) all.1 in
+    let two = and_parts (is_between 2 128 queue_size) (is_power_of_two queue_size) rest.0 in (
+      is_true (int.is_power_of_two queue_size) (power queue_size two.1 limits.queue_most),
+      limits.queue_least,
+      limits.queue_most,
+    )

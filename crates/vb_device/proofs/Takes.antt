@@ -1,4 +1,5 @@
--- A take of the next chain of a queue, put together from what the ring's end and the request's bytes give.
+-- A take of the next chain of a queue, put together from what the ring's end and the request's
+-- bytes give.
 use Rattle.std.specs.Prelude.{◌≡◌, ℕ, ◌+◌, ◌%◌, ◌<◌, true, false, List, [], ◌∷◌, ◌++◌, Option, Some, None, Result, Ok, Err, refl}
 use Rattle.std.proofs.Common.{sym, ◌∙◌, ap, arith, zero, suc, get_or, length}
 use Rattle.vb_model.specs.declared.replies.Refusal.{Refusal}
@@ -28,7 +29,8 @@ ok_err x f e = cc
 err_ok : {A : Type 0} (x : A) (f : ChainFault) → Err f ≡ Ok x → ⊥
 err_ok x f e = cc
 
-ok_some_none : (t : Taken) (r : Result (Option Taken) ChainFault) → r ≡ Ok (Some t) → r ≡ Ok None → ⊥
+ok_some_none : (t : Taken) (r : Result (Option Taken) ChainFault) → r ≡ Ok (Some t) → r ≡ Ok None →
+    ⊥
 ok_some_none t r a b = cc
 
 same_err : (r : Result (Option Taken) ChainFault) (f g : ChainFault) → r ≡ Err f → r ≡ Err g → f ≡ g
@@ -40,7 +42,9 @@ same_fault r f g a b = cc
 same_pages : (r : Result (List ℕ) ChainFault) (xs ys : List ℕ) → r ≡ Ok xs → r ≡ Ok ys → xs ≡ ys
 same_pages r xs ys a b = cc
 
-pub next_none : (mem : Pages) (r1 r2 : DeviceEnd) (taken : List Request) → is_full (at r1 taken) ≡ false → r1.ready ≡ true → PopsBy mem r1 r2 (Ok None) → TakesNext mem (at r1 taken) (at r2 taken) (Ok None)
+pub next_none : (mem : Pages) (r1 r2 : DeviceEnd) (taken : List Request) →
+    is_full (at r1 taken) ≡ false → r1.ready ≡ true → PopsBy mem r1 r2 (Ok None) →
+    TakesNext mem (at r1 taken) (at r2 taken) (Ok None)
 next_none mem r1 r2 taken free ready pops =
     let same : at r2 taken ≡ at r1 taken = ap (λ r. at r taken) pops.state in
     record {
@@ -53,56 +57,91 @@ next_none mem r1 r2 taken free ready pops =
       means = (free, same);
     }
 
-pub next_err : (mem : Pages) (r1 r2 : DeviceEnd) (taken : List Request) (f : ChainFault) → is_full (at r1 taken) ≡ false → r1.ready ≡ true → PopsBy mem r1 r2 (Err f) → TakesNext mem (at r1 taken) (at r2 taken) (Err (Broken (rule_of f)))
+pub next_err : (mem : Pages) (r1 r2 : DeviceEnd) (taken : List Request) (f : ChainFault) →
+    is_full (at r1 taken) ≡ false → r1.ready ≡ true → PopsBy mem r1 r2 (Err f) →
+    TakesNext mem (at r1 taken) (at r2 taken) (Err (Broken (rule_of f)))
 next_err mem r1 r2 taken f free ready pops =
     let same : at r2 taken ≡ at r1 taken = ap (λ r. at r taken) pops.state in
     record {
       busy = λ b. absurd (true_false (sym b ∙ free));
       empty = λ k e. absurd (err_ok None f (pops.none ready e));
       jump = λ g k e. (ap broken (same_err (Err f) f g refl (pops.jump g ready e)), same);
-      fault = λ h g k e gives. (ap broken (same_err (Err f) f g refl (pops.fault h g ready e gives)), same);
+      fault = λ h g k e gives. (
+        ap broken
+            (same_err (Err f) f g refl (pops.fault h g ready e gives)),
+        same,
+      );
       wrong = λ h pieces g k e gives bad. absurd (pops.chain h pieces ready e gives);
       takes = λ h pieces pages k e gives good. absurd (pops.chain h pieces ready e gives);
       means = (free, same);
     }
 
 -- the end that went back by one
-back : (r1 r2 r3 : DeviceEnd) → r1.next_avail < 65536 → r2 ≡ record r1 { next_avail = (r1.next_avail + 1) % 65536 } → r3 ≡ record r2 { next_avail = (r2.next_avail + 65535) % 65536 } → r3 ≡ r1
+back : (r1 r2 r3 : DeviceEnd) → r1.next_avail < 65536 →
+    r2 ≡ record r1 { next_avail = (r1.next_avail + 1) % 65536 } →
+    r3 ≡ record r2 { next_avail = (r2.next_avail + 65535) % 65536 } → r3 ≡ r1
 back r1 r2 r3 small e f =
     let n : ((r1.next_avail + 1) % 65536 + 65535) % 65536 ≡ r1.next_avail = omega arith in
-    f ∙ (ap (λ (r : DeviceEnd). record r { next_avail = (r.next_avail + 65535) % 65536 }) e ∙ ap (λ (k : ℕ). record r1 { next_avail = k }) n)
+    f ∙ (ap (λ (r : DeviceEnd). record r { next_avail = (r.next_avail + 65535) % 65536 }) e ∙
+    ap (λ (k : ℕ). record r1 { next_avail = k }) n)
 
-pub next_wrong : (mem : Pages) (r1 r2 r3 : DeviceEnd) (taken : List Request) (t : Taken) (f : ChainFault) → is_full (at r1 taken) ≡ false → r1.ready ≡ true → PopsBy mem r1 r2 (Ok (Some t)) → page_request mem t.chain ≡ Err f
-    → r3 ≡ record r2 { next_avail = (r2.next_avail + 65535) % 65536 } → TakesNext mem (at r1 taken) (at r3 taken) (Err (Broken (rule_of f)))
+pub next_wrong : (mem : Pages) (r1 r2 r3 : DeviceEnd) (taken : List Request) (t : Taken)
+    (f : ChainFault) → is_full (at r1 taken) ≡ false → r1.ready ≡ true →
+    PopsBy mem r1 r2 (Ok (Some t)) → page_request mem t.chain ≡ Err f
+    → r3 ≡ record r2 { next_avail = (r2.next_avail + 65535) % 65536 } →
+    TakesNext mem (at r1 taken) (at r3 taken) (Err (Broken (rule_of f)))
 next_wrong mem r1 r2 r3 taken t f free ready pops is undone =
-    let same : at r3 taken ≡ at r1 taken = ap (λ r. at r taken) (back r1 r2 r3 pops.is_end.next_avail pops.state undone) in
+    let same : at r3 taken ≡ at r1 taken =
+    ap (λ r. at r taken) (back r1 r2 r3 pops.is_end.next_avail pops.state undone) in
     record {
       busy = λ b. absurd (true_false (sym b ∙ free));
       empty = λ k e. absurd (ok_some_none t (Ok (Some t)) refl (pops.none ready e));
       jump = λ g k e. absurd (ok_err (Some t) g (pops.jump g ready e));
       fault = λ h g k e gives. absurd (ok_err (Some t) g (pops.fault h g ready e gives));
-      wrong = λ h pieces g k e gives bad. (ap broken (same_fault (page_request mem t.chain) f g is (ap (page_request mem) (pops.chain h pieces ready e gives).1 ∙ bad)), same);
-      takes = λ h pieces pages k e gives good. absurd (err_ok pages f (sym is ∙ (ap (page_request mem) (pops.chain h pieces ready e gives).1 ∙ good)));
+      wrong = λ h pieces g k e gives bad. (
+        ap broken
+            (same_fault (page_request mem t.chain) f g is
+            (ap (page_request mem) (pops.chain h pieces ready e gives).1 ∙ bad)),
+        same,
+      );
+      takes = λ h pieces pages k e gives good. absurd
+          (err_ok pages f (sym is ∙
+          (ap (page_request mem) (pops.chain h pieces ready e gives).1 ∙ good)));
       means = (free, same);
     }
 
-pub next_right : (mem : Pages) (r1 r2 : DeviceEnd) (taken : List Request) (t : Taken) (pages : List ℕ) → is_full (at r1 taken) ≡ false → r1.ready ≡ true → PopsBy mem r1 r2 (Ok (Some t)) → page_request mem t.chain ≡ Ok pages
-    → TakesNext mem (at r1 taken) (at r2 (taken ++ record { head = t.head; pages = pages; visited = 0 } ∷ [])) (Ok (Some t.head))
+pub next_right : (mem : Pages) (r1 r2 : DeviceEnd) (taken : List Request) (t : Taken)
+    (pages : List ℕ) → is_full (at r1 taken) ≡ false → r1.ready ≡ true →
+    PopsBy mem r1 r2 (Ok (Some t)) → page_request mem t.chain ≡ Ok pages
+    → TakesNext mem (at r1 taken)
+    (at r2 (taken ++ record { head = t.head; pages = pages; visited = 0 } ∷ []))
+    (Ok (Some t.head))
 next_right mem r1 r2 taken t pages free ready pops is =
-    let after : at r2 (taken ++ record { head = t.head; pages = pages; visited = 0 } ∷ []) ≡ with_request t.head pages (at r1 taken) = ap (λ r. at r (taken ++ record { head = t.head; pages = pages; visited = 0 } ∷ [])) pops.state in
+    let after : at r2 (taken ++ record { head = t.head; pages = pages; visited = 0 } ∷ []) ≡
+    with_request t.head pages (at r1 taken) =
+    ap (λ r. at r (taken ++ record { head = t.head; pages = pages; visited = 0 } ∷ []))
+    pops.state in
     record {
       busy = λ b. absurd (true_false (sym b ∙ free));
       empty = λ k e. absurd (ok_some_none t (Ok (Some t)) refl (pops.none ready e));
       jump = λ g k e. absurd (ok_err (Some t) g (pops.jump g ready e));
       fault = λ h g k e gives. absurd (ok_err (Some t) g (pops.fault h g ready e gives));
-      wrong = λ h pieces g k e gives bad. absurd (ok_err pages g (sym is ∙ (ap (page_request mem) (pops.chain h pieces ready e gives).1 ∙ bad)));
+      wrong = λ h pieces g k e gives bad. absurd
+          (ok_err pages g (sym is ∙
+          (ap (page_request mem) (pops.chain h pieces ready e gives).1 ∙ bad)));
       takes = λ h pieces ps k e gives good.
-          let chain = pops.chain h pieces ready e gives in
-          (ap (λ n. Ok (Some n)) chain.0, after ∙ (ap (λ n. with_request n pages (at r1 taken)) chain.0 ∙ ap (λ xs. with_request h xs (at r1 taken)) (same_pages (page_request mem t.chain) pages ps is (ap (page_request mem) chain.1 ∙ good))));
+          let chain = pops.chain h pieces ready e gives in (
+            ap (λ n. Ok (Some n)) chain.0,
+            after ∙ (ap (λ n. with_request n pages (at r1 taken)) chain.0 ∙
+                ap (λ xs. with_request h xs (at r1 taken))
+                (same_pages (page_request mem t.chain) pages ps is
+                (ap (page_request mem) chain.1 ∙ good))),
+          );
       means = (free, (pages, t.chain, pops.found.1, pops.found.2, is, after));
     }
 
 -- a list of one
-pub one_all : {A : Type 0} (P : A → Type 0) (x : A) → P x → (k : ℕ) (d : A) → k < length (x ∷ []) → P (get_or (x ∷ []) k d)
+pub one_all : {A : Type 0} (P : A → Type 0) (x : A) → P x → (k : ℕ) (d : A) → k < length (x ∷ []) →
+    P (get_or (x ∷ []) k d)
 one_all P x here zero d lt = here
 one_all P x here (suc k) d lt = absurd (omega arith)

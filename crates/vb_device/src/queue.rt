@@ -3,11 +3,11 @@
 ghost use Rattle.std.specs.Prelude.{◌≡◌, ◌<◌, ◌≤◌, ◌+◌, [], ◌++◌, ◌∷◌, All, IfSome, IfNone, IsTrue, true, false, nat_le, length, slice_get, remove};
 ghost use Rattle.std.specs.Int.{is_power_of_two};
 ghost use Rattle.vb_model.specs.declared.limits.TheConstants.{MIN_QUEUE_SIZE, MAX_QUEUE_SIZE};
+ghost use Rattle.vb_model.specs.declared.replies.Refusal.TheVariants.{Broken};
 ghost use Rattle.vb_model.specs.Limits.{max_outstanding, max_request_pages};
 ghost use Rattle.vb_ring.specs.Layout.{layout_of, IsInside, IsBacked};
 ghost use Rattle.vb_ring.specs.Ends.{IsDeviceEnd};
 ghost use Rattle.vb_ring.specs.Calls.{AddsUsedBy};
-ghost use Rattle.vb_model.specs.declared.replies.Refusal.TheVariants.{Broken};
 ghost use Rattle.vb_device.specs.Faults.{rule_of};
 ghost use Rattle.vb_device.specs.QueueState.{started, restarted, is_full, AreNamed, TakesNext};
 
@@ -163,7 +163,8 @@ impl DeviceQueue {
     }
 
     /// Takes the next chain as a request: answers its head, or none where no chain is available.
-    /// Refused with `Busy` where as many requests are taken as may be, and with `Broken`.
+    /// Refused with `Busy` where as many requests are taken as may be, and with `Broken` where the
+    /// chain breaks a rule; then nothing is changed.
     pub(crate) fn take<G: GuestBytes>(&mut self, ram: &G) -> Result<Option<u16>, Refusal>
         requires inside { 0 < length (G.mem ram.now) →
             IsInside (G.mem ram.now) self.old.ring.layout }

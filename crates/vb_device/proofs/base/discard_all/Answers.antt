@@ -14,8 +14,15 @@ loop-page-init c = record {
 
 pub loop-page-preserved : goal.loop-page-preserved
 loop-page-preserved c = record {
-  mem = discard_more c.args.ram.now c.loop-page.ram c.discard-frame.new.self c.args.pages.now c.loop-page.page-index (get_or c.args.pages.now c.loop-page.page-index 0) (search rules) refl c.loop-page.invariant.mem c.discard-frame.ensures.after;
-  loose = loose_more c.args.ram.now c.loop-page.ram c.args.pages.now c.loop-page.page-index (get_or c.args.pages.now c.loop-page.page-index 0) c.discard-frame.result (numbers_of_frames c.args.loose.now.items) (numbers_of_frames c.loop-page.loose.items) (numbers_of_frames c.put_loose.new.loose.items) c.requires.distinct (search rules) refl c.loop-page.invariant.mem c.discard-frame.ensures.frame c.loop-page.invariant.loose c.put_loose.ensures.numbers;
+  mem = discard_more c.args.ram.now c.loop-page.ram c.discard-frame.new.self c.args.pages.now
+      c.loop-page.page-index (get_or c.args.pages.now c.loop-page.page-index 0) (search rules) refl
+      c.loop-page.invariant.mem c.discard-frame.ensures.after;
+  loose = loose_more c.args.ram.now c.loop-page.ram c.args.pages.now c.loop-page.page-index
+      (get_or c.args.pages.now c.loop-page.page-index 0) c.discard-frame.result
+      (numbers_of_frames c.args.loose.now.items) (numbers_of_frames c.loop-page.loose.items)
+      (numbers_of_frames c.put_loose.new.loose.items) c.requires.distinct (search rules) refl
+      c.loop-page.invariant.mem c.discard-frame.ensures.frame c.loop-page.invariant.loose
+      c.put_loose.ensures.numbers;
   count = omega (arith, c.put_loose.ensures.count, c.loop-page.invariant.count);
   capacity = c.put_loose.ensures.capacity ∙ c.loop-page.invariant.capacity;
 }

@@ -6,11 +6,21 @@ use Rattle.vb_device.proofs.request.gather.Goals as goal
 
 pub loop-piece-init : goal.loop-piece-init
 unfolding bytes_of
-loop-piece-init g c = record { bytes = c.new-bytes.ensures; count = ap (λ (xs : List ℕ). length xs) c.new-bytes.ensures }
+loop-piece-init g c =
+    record {
+      bytes = c.new-bytes.ensures;
+      count = ap (λ (xs : List ℕ). length xs) c.new-bytes.ensures;
+    }
 
 pub loop-piece-preserved : goal.loop-piece-preserved
 loop-piece-preserved g c =
     record {
-      bytes = pieces_more (g.G.GuestBytes.mem c.args.ram.now) c.args.pieces.now c.loop-piece.piece-index empty c.loop-piece.bytes.items c.append_bytes.new.bytes.items (omega (arith, c.loop-piece-test.true)) c.loop-piece.invariant.bytes c.append_bytes.ensures;
-      count = pieces_count (g.G.GuestBytes.mem c.args.ram.now) c.args.pieces.now c.loop-piece.piece-index empty c.loop-piece.bytes.items c.append_bytes.new.bytes.items (omega (arith, c.loop-piece-test.true)) c.loop-piece.invariant.count c.append_bytes.ensures;
+      bytes = pieces_more (g.G.GuestBytes.mem c.args.ram.now) c.args.pieces.now
+          c.loop-piece.piece-index empty c.loop-piece.bytes.items c.append_bytes.new.bytes.items
+          (omega (arith, c.loop-piece-test.true)) c.loop-piece.invariant.bytes
+          c.append_bytes.ensures;
+      count = pieces_count (g.G.GuestBytes.mem c.args.ram.now) c.args.pieces.now
+          c.loop-piece.piece-index empty c.loop-piece.bytes.items c.append_bytes.new.bytes.items
+          (omega (arith, c.loop-piece-test.true)) c.loop-piece.invariant.count
+          c.append_bytes.ensures;
     }

@@ -15,14 +15,21 @@ pub returns-then-not-is_request_length : goal.returns-then-not-is_request_length
 returns-then-not-is_request_length g c =
     let reads : list_any (λ piece. piece.writable) c.args.pieces.now ≡ false = search rules in
     let wrong : is_request_length c.total_length-total.result ≡ false = search rules in
-    bad_length (g.G.GuestBytes.mem c.args.ram.now) c.args.pieces.now reads (ap is_request_length (sym c.total_length-total.ensures) ∙ wrong)
+    bad_length (g.G.GuestBytes.mem c.args.ram.now) c.args.pieces.now reads
+    (ap is_request_length (sym c.total_length-total.ensures) ∙ wrong)
 
 pub returns : goal.returns
 returns g c =
     let reads : list_any (λ piece. piece.writable) c.args.pieces.now ≡ false = search rules in
     let right : is_request_length c.total_length-total.result ≡ true = search rules in
-    let is : page_request (g.G.GuestBytes.mem c.args.ram.now) c.args.pieces.now ≡ pages_of_numbers c.pages-count.result (numbers_of c.deref.result.now) =
-    by_numbers (g.G.GuestBytes.mem c.args.ram.now) c.args.pieces.now reads (ap is_request_length (sym c.total_length-total.ensures) ∙ right)
-    ∙ (ap (λ (n : ℕ). pages_of_numbers n (numbers_of (bytes_of (g.G.GuestBytes.mem c.args.ram.now) c.args.pieces.now))) (sym c.pages-count.ensures)
-    ∙ ap (λ (bs : List ℕ). pages_of_numbers c.pages-count.result (numbers_of bs)) (sym (c.deref.ensures.0 ∙ c.gather-bytes.ensures))) in
-    subst (λ (v : Result (List ℕ) ChainFault). MatchResult c.pages_of.result (λ pages. v ≡ Ok pages.items) (λ fault. v ≡ Err fault)) (sym is) c.pages_of.ensures
+    let is : page_request (g.G.GuestBytes.mem c.args.ram.now) c.args.pieces.now ≡
+    pages_of_numbers c.pages-count.result (numbers_of c.deref.result.now) =
+    by_numbers (g.G.GuestBytes.mem c.args.ram.now) c.args.pieces.now reads
+    (ap is_request_length (sym c.total_length-total.ensures) ∙ right)
+    ∙ (ap (λ (n : ℕ). pages_of_numbers n
+    (numbers_of (bytes_of (g.G.GuestBytes.mem c.args.ram.now) c.args.pieces.now)))
+    (sym c.pages-count.ensures)
+    ∙ ap (λ (bs : List ℕ). pages_of_numbers c.pages-count.result (numbers_of bs))
+    (sym (c.deref.ensures.0 ∙ c.gather-bytes.ensures))) in
+    subst (λ (v : Result (List ℕ) ChainFault). MatchResult c.pages_of.result
+    (λ pages. v ≡ Ok pages.items) (λ fault. v ≡ Err fault)) (sym is) c.pages_of.ensures

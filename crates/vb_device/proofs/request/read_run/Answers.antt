@@ -5,5 +5,7 @@ use Rattle.vb_device.proofs.request.read_run.Goals as goal
 
 pub returns : goal.returns
 returns g c =
-    run_is (g.G.GuestBytes.mem c.args.ram.now) c.args.addr (length c.args.run.now) c.read.new.out c.read.auto.out c.requires.inside
-    (at_ok c.read.result _ c.read.ensures.bytes (c.read.ensures.answers (record { page = c.requires.page; bytes = c.requires.inside })))
+    run_is (g.G.GuestBytes.mem c.args.ram.now) c.args.addr (length c.args.run.now) c.read.new.out
+    c.read.auto.out c.requires.inside
+    (at_ok c.read.result _ c.read.ensures.bytes
+    (c.read.ensures.answers (record { page = c.requires.page; bytes = c.requires.inside })))

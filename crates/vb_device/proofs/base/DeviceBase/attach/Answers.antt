@@ -9,16 +9,26 @@ use Rattle.vb_device.proofs.Sizes.{size_is_power}
 use Rattle.vb_device.proofs.base.DeviceBase.attach.Goals as goal
 
 pub set_size-requires : goal.set_size-requires
-set_size-requires c = size_is_power c.args.config.pages c.args.config.queue_size c.args.config.processors c.requires.config
+set_size-requires c =
+    size_is_power c.args.config.pages c.args.config.queue_size c.args.config.processors
+    c.requires.config
 
 pub set_size-requires-2 : goal.set_size-requires-2
-set_size-requires-2 c = size_is_power c.args.config.pages c.args.config.queue_size c.args.config.processors c.requires.config
+set_size-requires-2 c =
+    size_is_power c.args.config.pages c.args.config.queue_size c.args.config.processors
+    c.requires.config
 
 pub invariant_of-self-2 : goal.invariant_of-self-2
 invariant_of-self-2 c =
-    let count : length c.in-Ok.ram ≡ c.args.config.pages = ap (λ (m : Pages). length m) c.in-Ok.ensures.ok ∙ length-replicate c.args.config.pages None in
-    let limits = config_limits c.args.config.pages c.args.config.queue_size c.args.config.processors c.requires.config in
-    base_started c.self.inside.ram c.in-Ok.ram (status_bits c.self.inside.status) _ c.args.config.queue_size _ _ c.self.inside.queues c.set_size.new.self c.set_size-2.new.self c.index-self-0.result c.index-self-1.result
+    let count : length c.in-Ok.ram ≡ c.args.config.pages =
+    ap (λ (m : Pages). length m) c.in-Ok.ensures.ok ∙
+    length-replicate c.args.config.pages None in
+    let limits =
+    config_limits c.args.config.pages c.args.config.queue_size c.args.config.processors
+    c.requires.config in
+    base_started c.self.inside.ram c.in-Ok.ram (status_bits c.self.inside.status) _
+    c.args.config.queue_size _ _ c.self.inside.queues c.set_size.new.self c.set_size-2.new.self
+    c.index-self-0.result c.index-self-1.result
     c.self.invariant c.set_size.ensures c.set_size-2.ensures (search rules)
     (λ l. omega (arith, count, limits.pages_least))
     (search rules)

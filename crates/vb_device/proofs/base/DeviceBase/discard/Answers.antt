@@ -9,5 +9,7 @@ use Rattle.vb_device.proofs.base.DeviceBase.discard.Goals as goal
 pub invariant_of-self : goal.invariant_of-self
 invariant_of-self c =
     let pos : 0 < length c.self.inside.ram = search rules in
-    base_same c.self.inside.ram c.discard_all.new.ram (status_bits c.self.inside.status) _ _ c.self.inside.queues c.self.invariant
-    (ap (λ (m : Pages). length m) c.discard_all.ensures.mem ∙ discarded-length (c.args.page ∷ []) c.self.inside.ram) c.discard_all.ensures.capacity pos
+    base_same c.self.inside.ram c.discard_all.new.ram (status_bits c.self.inside.status) _ _
+    c.self.inside.queues c.self.invariant
+    (ap (λ (m : Pages). length m) c.discard_all.ensures.mem ∙
+    discarded-length (c.args.page ∷ []) c.self.inside.ram) c.discard_all.ensures.capacity pos

@@ -18,73 +18,150 @@ use Rattle.vb_device.proofs.base.DeviceBase.take_out.Goals as goal
 
 pub returns-in-Some-clause-by : goal.returns-in-Some-clause-by
 returns-in-Some-clause-by c =
-    out_refused c.args.queue c.args.index c.args.self.now.mem c.args.self.now.part c.in-Some.why (queue_finish c.args.queue c.args.index c.args.self.now.part c.in-Some.why (sym c.in-Some.ensures))
+    out_refused c.args.queue c.args.index c.args.self.now.mem c.args.self.now.part c.in-Some.why
+    (queue_finish c.args.queue c.args.index c.args.self.now.part c.in-Some.why
+    (sym c.in-Some.ensures))
 
 pub returns-in-None-clause-by : goal.returns-in-None-clause-by
 returns-in-None-clause-by c =
-    let open_status : queue_refusal c.args.queue (status_bits c.self.inside.status) ≡ None = search rules in
-    let known : c.args.queue ≤ 1 = queue_known c.args.queue (status_bits c.self.inside.status) open_status in
-    let was : get_or c.self.inside.queues c.args.queue c.index-self-queue.result ≡ queue_at c.args.queue c.self.inside.queues =
-    entry_is c.args.queue c.self.inside.queues c.index-self-queue.result c.self.invariant.two known in
+    let open_status : queue_refusal c.args.queue (status_bits c.self.inside.status) ≡ None =
+    search rules in
+    let known : c.args.queue ≤ 1 =
+    queue_known c.args.queue (status_bits c.self.inside.status) open_status in
+    let was : get_or c.self.inside.queues c.args.queue c.index-self-queue.result ≡
+    queue_at c.args.queue c.self.inside.queues =
+    entry_is c.args.queue c.self.inside.queues c.index-self-queue.result c.self.invariant.two known
+    in
     let none : slice_get (queue_at c.args.queue c.self.inside.queues).taken c.args.index ≡ None =
-    ap (λ (x : QueueState). slice_get x.taken c.args.index) (sym was) ∙ (sym c.remove.ensures.value ∙ c.in-None.is) in
+    ap (λ (x : QueueState). slice_get x.taken c.args.index) (sym was) ∙
+    (sym c.remove.ensures.value ∙ c.in-None.is) in
     let back : set c.self.inside.queues c.args.queue c.remove.new.self ≡ c.self.inside.queues =
-    set_back c.args.queue c.self.inside.queues c.remove.new.self c.self.invariant.two known (c.in-None.ensures.none ∙ was) in
-    subst (λ (v : DeviceState). TakesOut c.args.queue c.args.index v.mem c.self.inside.ram v.part (base_part (status_bits c.self.inside.status) (feature_bits c.self.inside.features) c.self.inside.target c.self.inside.actual (set c.self.inside.queues c.args.queue c.remove.new.self) c.self.inside.loose.items) (Err NotTaken)) c.self.view_is
-    (subst (λ (qs : List QueueState). TakesOut c.args.queue c.args.index c.self.inside.ram c.self.inside.ram (base_part (status_bits c.self.inside.status) (feature_bits c.self.inside.features) c.self.inside.target c.self.inside.actual c.self.inside.queues c.self.inside.loose.items) (base_part (status_bits c.self.inside.status) (feature_bits c.self.inside.features) c.self.inside.target c.self.inside.actual qs c.self.inside.loose.items) (Err NotTaken)) (sym back)
+    set_back c.args.queue c.self.inside.queues c.remove.new.self c.self.invariant.two known
+    (c.in-None.ensures.none ∙ was) in
+    subst (λ (v : DeviceState). TakesOut c.args.queue c.args.index v.mem c.self.inside.ram v.part
+    (base_part (status_bits c.self.inside.status) (feature_bits c.self.inside.features)
+    c.self.inside.target c.self.inside.actual
+    (set c.self.inside.queues c.args.queue c.remove.new.self) c.self.inside.loose.items)
+    (Err NotTaken)) c.self.view_is
+    (subst (λ (qs : List QueueState). TakesOut c.args.queue c.args.index c.self.inside.ram
+    c.self.inside.ram (base_part (status_bits c.self.inside.status)
+    (feature_bits c.self.inside.features) c.self.inside.target c.self.inside.actual
+    c.self.inside.queues c.self.inside.loose.items)
+    (base_part (status_bits c.self.inside.status) (feature_bits c.self.inside.features)
+    c.self.inside.target c.self.inside.actual qs c.self.inside.loose.items) (Err NotTaken))
+    (sym back)
     (out_refused c.args.queue c.args.index c.self.inside.ram _ NotTaken
-    (not_taken c.args.queue c.args.index c.self.inside.ram (status_bits c.self.inside.status) (feature_bits c.self.inside.features) c.self.inside.target c.self.inside.actual _ c.self.inside.queues c.self.inside.loose.items c.self.invariant open_status none)))
+    (not_taken c.args.queue c.args.index c.self.inside.ram (status_bits c.self.inside.status)
+    (feature_bits c.self.inside.features) c.self.inside.target c.self.inside.actual _
+    c.self.inside.queues c.self.inside.loose.items c.self.invariant open_status none)))
 
 pub invariant_of-self-in-Some-remove : goal.invariant_of-self-in-Some-remove
 invariant_of-self-in-Some-remove c =
-    let open_status : queue_refusal c.args.queue (status_bits c.self.inside.status) ≡ None = search rules in
-    let known : c.args.queue ≤ 1 = queue_known c.args.queue (status_bits c.self.inside.status) open_status in
-    let was : get_or c.self.inside.queues c.args.queue c.index-self-queue.result ≡ queue_at c.args.queue c.self.inside.queues =
-    entry_is c.args.queue c.self.inside.queues c.index-self-queue.result c.self.invariant.two known in
-    let left : c.remove.new.self ≡ without_taken (queue_at c.args.queue c.self.inside.queues) c.args.index =
+    let open_status : queue_refusal c.args.queue (status_bits c.self.inside.status) ≡ None =
+    search rules in
+    let known : c.args.queue ≤ 1 =
+    queue_known c.args.queue (status_bits c.self.inside.status) open_status in
+    let was : get_or c.self.inside.queues c.args.queue c.index-self-queue.result ≡
+    queue_at c.args.queue c.self.inside.queues =
+    entry_is c.args.queue c.self.inside.queues c.index-self-queue.result c.self.invariant.two known
+    in
+    let left : c.remove.new.self ≡
+    without_taken (queue_at c.args.queue c.self.inside.queues) c.args.index =
     c.in-Some-remove.ensures.rest ∙ ap (λ (x : QueueState). without_taken x c.args.index) was in
-    let taken : slice_get (queue_at c.args.queue c.self.inside.queues).taken c.args.index ≡ Some c.in-Some-remove.request =
-    ap (λ (x : QueueState). slice_get x.taken c.args.index) (sym was) ∙ (sym c.remove.ensures.value ∙ c.in-Some-remove.is) in
-    base_used c.args.queue c.self.inside.ram c.discard_request.new.ram (status_bits c.self.inside.status) _ _ c.self.inside.queues c.remove.new.self c.self.invariant known
-    (ap (λ (m : Pages). length m) c.discard_request.ensures.mem ∙ kept_length c.args.queue c.pages.result.now c.self.inside.ram) c.discard_request.ensures.capacity
-    (has_pages c.self.inside.ram (queue_at c.args.queue c.self.inside.queues).taken c.args.index c.in-Some-remove.request (c.self.invariant.each c.args.queue known).none taken)
-    (ap (λ (x : QueueState). x.ring.layout) left) (ap (λ (x : QueueState). x.ring.size) left) (ap (λ (x : QueueState). x.ring.ready) left)
+    let taken : slice_get (queue_at c.args.queue c.self.inside.queues).taken c.args.index ≡
+    Some c.in-Some-remove.request =
+    ap (λ (x : QueueState). slice_get x.taken c.args.index) (sym was) ∙
+    (sym c.remove.ensures.value ∙ c.in-Some-remove.is) in
+    base_used c.args.queue c.self.inside.ram c.discard_request.new.ram
+    (status_bits c.self.inside.status) _ _ c.self.inside.queues c.remove.new.self
+    c.self.invariant known
+    (ap (λ (m : Pages). length m) c.discard_request.ensures.mem ∙
+    kept_length c.args.queue c.pages.result.now c.self.inside.ram)
+    c.discard_request.ensures.capacity
+    (has_pages c.self.inside.ram (queue_at c.args.queue c.self.inside.queues).taken c.args.index
+    c.in-Some-remove.request (c.self.invariant.each c.args.queue known).none taken)
+    (ap (λ (x : QueueState). x.ring.layout) left) (ap (λ (x : QueueState). x.ring.size) left)
+    (ap (λ (x : QueueState). x.ring.ready) left)
 
 pub returns-in-Some-remove-clause-by : goal.returns-in-Some-remove-clause-by
 returns-in-Some-remove-clause-by c =
-    let open_status : queue_refusal c.args.queue (status_bits c.self.inside.status) ≡ None = search rules in
-    let known : c.args.queue ≤ 1 = queue_known c.args.queue (status_bits c.self.inside.status) open_status in
-    let was : get_or c.self.inside.queues c.args.queue c.index-self-queue.result ≡ queue_at c.args.queue c.self.inside.queues =
-    entry_is c.args.queue c.self.inside.queues c.index-self-queue.result c.self.invariant.two known in
-    let left : c.remove.new.self ≡ without_taken (queue_at c.args.queue c.self.inside.queues) c.args.index =
+    let open_status : queue_refusal c.args.queue (status_bits c.self.inside.status) ≡ None =
+    search rules in
+    let known : c.args.queue ≤ 1 =
+    queue_known c.args.queue (status_bits c.self.inside.status) open_status in
+    let was : get_or c.self.inside.queues c.args.queue c.index-self-queue.result ≡
+    queue_at c.args.queue c.self.inside.queues =
+    entry_is c.args.queue c.self.inside.queues c.index-self-queue.result c.self.invariant.two known
+    in
+    let left : c.remove.new.self ≡
+    without_taken (queue_at c.args.queue c.self.inside.queues) c.args.index =
     c.in-Some-remove.ensures.rest ∙ ap (λ (x : QueueState). without_taken x c.args.index) was in
-    let taken : slice_get (queue_at c.args.queue c.self.inside.queues).taken c.args.index ≡ Some c.in-Some-remove.request =
-    ap (λ (x : QueueState). slice_get x.taken c.args.index) (sym was) ∙ (sym c.remove.ensures.value ∙ c.in-Some-remove.is) in
-    let mem : c.discard_request.new.ram ≡ without_frames c.args.queue c.in-Some-remove.request.pages c.self.inside.ram =
-    c.discard_request.ensures.mem ∙ ap (λ (ps : List ℕ). without_frames c.args.queue ps c.self.inside.ram) c.pages.ensures.pages in
-    let numbers : numbers_of_frames c.discard_request.new.loose.items ≡ with_lost c.args.queue c.self.inside.ram c.in-Some-remove.request.pages (numbers_of_frames c.self.inside.loose.items) =
-    c.discard_request.ensures.loose ∙ ap (λ (ps : List ℕ). with_lost c.args.queue c.self.inside.ram ps (numbers_of_frames c.self.inside.loose.items)) c.pages.ensures.pages in
-    subst (λ (v : DeviceState). TakesOut c.args.queue c.args.index v.mem c.discard_request.new.ram v.part (base_part (status_bits c.self.inside.status) (feature_bits c.self.inside.features) c.self.inside.target c.self.inside.actual (set c.self.inside.queues c.args.queue c.remove.new.self) c.discard_request.new.loose.items) (Ok c.in-Some-remove.request)) c.self.view_is
-    (subst (λ (x : QueueState). TakesOut c.args.queue c.args.index c.self.inside.ram c.discard_request.new.ram (base_part (status_bits c.self.inside.status) (feature_bits c.self.inside.features) c.self.inside.target c.self.inside.actual c.self.inside.queues c.self.inside.loose.items) (base_part (status_bits c.self.inside.status) (feature_bits c.self.inside.features) c.self.inside.target c.self.inside.actual (set c.self.inside.queues c.args.queue x) c.discard_request.new.loose.items) (Ok c.in-Some-remove.request)) (sym left)
-    (out_at c.args.queue c.args.index c.self.inside.ram c.discard_request.new.ram (status_bits c.self.inside.status) (feature_bits c.self.inside.features) c.self.inside.target c.self.inside.actual _ c.self.inside.queues c.self.inside.loose.items c.discard_request.new.loose.items c.in-Some-remove.request c.self.invariant open_status taken mem numbers))
+    let taken : slice_get (queue_at c.args.queue c.self.inside.queues).taken c.args.index ≡
+    Some c.in-Some-remove.request =
+    ap (λ (x : QueueState). slice_get x.taken c.args.index) (sym was) ∙
+    (sym c.remove.ensures.value ∙ c.in-Some-remove.is) in
+    let mem : c.discard_request.new.ram ≡
+    without_frames c.args.queue c.in-Some-remove.request.pages c.self.inside.ram =
+    c.discard_request.ensures.mem ∙
+    ap (λ (ps : List ℕ). without_frames c.args.queue ps c.self.inside.ram) c.pages.ensures.pages
+    in
+    let numbers : numbers_of_frames c.discard_request.new.loose.items ≡
+    with_lost c.args.queue c.self.inside.ram c.in-Some-remove.request.pages
+    (numbers_of_frames c.self.inside.loose.items) =
+    c.discard_request.ensures.loose ∙
+    ap (λ (ps : List ℕ). with_lost c.args.queue c.self.inside.ram ps
+    (numbers_of_frames c.self.inside.loose.items)) c.pages.ensures.pages in
+    subst (λ (v : DeviceState). TakesOut c.args.queue c.args.index v.mem c.discard_request.new.ram
+    v.part (base_part (status_bits c.self.inside.status) (feature_bits c.self.inside.features)
+    c.self.inside.target c.self.inside.actual
+    (set c.self.inside.queues c.args.queue c.remove.new.self) c.discard_request.new.loose.items)
+    (Ok c.in-Some-remove.request)) c.self.view_is
+    (subst (λ (x : QueueState). TakesOut c.args.queue c.args.index c.self.inside.ram
+    c.discard_request.new.ram
+    (base_part (status_bits c.self.inside.status) (feature_bits c.self.inside.features)
+    c.self.inside.target c.self.inside.actual c.self.inside.queues c.self.inside.loose.items)
+    (base_part (status_bits c.self.inside.status) (feature_bits c.self.inside.features)
+    c.self.inside.target c.self.inside.actual (set c.self.inside.queues c.args.queue x)
+    c.discard_request.new.loose.items) (Ok c.in-Some-remove.request)) (sym left)
+    (out_at c.args.queue c.args.index c.self.inside.ram c.discard_request.new.ram
+    (status_bits c.self.inside.status) (feature_bits c.self.inside.features)
+    c.self.inside.target c.self.inside.actual _ c.self.inside.queues c.self.inside.loose.items
+    c.discard_request.new.loose.items c.in-Some-remove.request c.self.invariant open_status
+    taken mem numbers))
 
 pub returns-in-Some-remove-clause-ready : goal.returns-in-Some-remove-clause-ready
 returns-in-Some-remove-clause-ready c =
-    let open_status : queue_refusal c.args.queue (status_bits c.self.inside.status) ≡ None = search rules in
-    let known : c.args.queue ≤ 1 = queue_known c.args.queue (status_bits c.self.inside.status) open_status in
-    let was : get_or c.self.inside.queues c.args.queue c.index-self-queue.result ≡ queue_at c.args.queue c.self.inside.queues =
-    entry_is c.args.queue c.self.inside.queues c.index-self-queue.result c.self.invariant.two known in
-    let left : c.remove.new.self ≡ without_taken (queue_at c.args.queue c.self.inside.queues) c.args.index =
+    let open_status : queue_refusal c.args.queue (status_bits c.self.inside.status) ≡ None =
+    search rules in
+    let known : c.args.queue ≤ 1 =
+    queue_known c.args.queue (status_bits c.self.inside.status) open_status in
+    let was : get_or c.self.inside.queues c.args.queue c.index-self-queue.result ≡
+    queue_at c.args.queue c.self.inside.queues =
+    entry_is c.args.queue c.self.inside.queues c.index-self-queue.result c.self.invariant.two known
+    in
+    let left : c.remove.new.self ≡
+    without_taken (queue_at c.args.queue c.self.inside.queues) c.args.index =
     c.in-Some-remove.ensures.rest ∙ ap (λ (x : QueueState). without_taken x c.args.index) was in
     let driver : contains c.args.self.now.part.status driver_ok ≡ true =
-    ap (λ (v : DeviceState). contains v.part.status driver_ok) (sym c.self.view_is) ∙ status_ok c.args.queue (status_bits c.self.inside.status) open_status in
+    ap (λ (v : DeviceState). contains v.part.status driver_ok) (sym c.self.view_is) ∙
+    status_ok c.args.queue (status_bits c.self.inside.status) open_status in
     let backed : IsSome (frame_at c.self.inside.ram (ring_page c.args.queue)) =
-    subst (λ (v : DeviceState). IsSome (frame_at v.mem (ring_page c.args.queue))) (sym c.self.view_is) (c.requires.backed driver) in
-    let low : c.in-Some-remove.request.head < (queue_at c.args.queue c.self.inside.queues).ring.size =
-    subst (λ (x : QueueState). c.in-Some-remove.request.head < x.ring.size) was c.in-Some-remove.ensures.head in
-    can_use c.args.queue c.in-Some-remove.request.head c.pages.result.now c.self.inside.ram c.discard_request.new.ram (status_bits c.self.inside.status) (feature_bits c.self.inside.features) c.self.inside.target c.self.inside.actual _ c.self.inside.queues c.remove.new.self c.discard_request.new.loose.items c.self.invariant open_status low
-    (ap (λ (x : QueueState). x.ring.size) left) c.pages.ensures.named.above c.discard_request.ensures.mem backed
+    subst (λ (v : DeviceState). IsSome (frame_at v.mem (ring_page c.args.queue)))
+    (sym c.self.view_is) (c.requires.backed driver) in
+    let low : c.in-Some-remove.request.head < (queue_at c.args.queue
+    c.self.inside.queues).ring.size =
+    subst (λ (x : QueueState). c.in-Some-remove.request.head < x.ring.size) was
+    c.in-Some-remove.ensures.head in
+    can_use c.args.queue c.in-Some-remove.request.head c.pages.result.now c.self.inside.ram
+    c.discard_request.new.ram (status_bits c.self.inside.status)
+    (feature_bits c.self.inside.features) c.self.inside.target c.self.inside.actual _
+    c.self.inside.queues c.remove.new.self c.discard_request.new.loose.items c.self.invariant
+    open_status low
+    (ap (λ (x : QueueState). x.ring.size) left) c.pages.ensures.named.above
+    c.discard_request.ensures.mem backed
 
 pub returns-in-Some-remove-clause-count : goal.returns-in-Some-remove-clause-count
 returns-in-Some-remove-clause-count c =
-    ap (λ (m : Pages). length m) c.discard_request.ensures.mem ∙ (kept_length c.args.queue c.pages.result.now c.self.inside.ram ∙ ap (λ (v : DeviceState). length v.mem) c.self.view_is)
+    ap (λ (m : Pages). length m) c.discard_request.ensures.mem ∙
+    (kept_length c.args.queue c.pages.result.now c.self.inside.ram ∙
+    ap (λ (v : DeviceState). length v.mem) c.self.view_is)

@@ -13,11 +13,25 @@ use Rattle.vb_device.proofs.base.DeviceBase.use_chain.Goals as goal
 
 pub returns : goal.returns
 returns c =
-    let was : get_or c.self.inside.queues c.args.queue c.index-self-queue.result ≡ queue_at c.args.queue c.self.inside.queues =
-    entry_is c.args.queue c.self.inside.queues c.index-self-queue.result c.self.invariant.two c.requires.known in
-    let adds : AddsUsedBy c.self.inside.ram c.add_used.new.ram (queue_at c.args.queue c.self.inside.queues).ring c.add_used.new.self.ring c.args.head 0 =
-    subst (λ (x : QueueState). AddsUsedBy c.self.inside.ram c.add_used.new.ram x.ring c.add_used.new.self.ring c.args.head 0) was c.add_used.ensures.adds in
-    let driver : contains (status_bits c.self.inside.status) driver_ok ≡ true = ap (λ (v : DeviceState). contains v.part.status driver_ok) c.self.view_is ∙ c.requires.ready in
-    subst (λ (v : DeviceState). UsesChain c.args.queue c.args.head v.mem c.add_used.new.ram v.part (base_part (status_bits c.self.inside.status) (feature_bits c.self.inside.features) c.self.inside.target c.self.inside.actual (set c.self.inside.queues c.args.queue c.add_used.new.self) c.self.inside.loose.items)) c.self.view_is
-    (used_at c.args.queue c.args.head c.self.inside.ram c.add_used.new.ram (status_bits c.self.inside.status) (feature_bits c.self.inside.features) c.self.inside.target c.self.inside.actual _ c.self.inside.queues c.add_used.new.self c.self.inside.loose.items
-    c.self.invariant c.requires.known driver adds (c.add_used.ensures.taken ∙ ap (λ (x : QueueState). x.taken) was))
+    let was : get_or c.self.inside.queues c.args.queue c.index-self-queue.result ≡
+    queue_at c.args.queue c.self.inside.queues =
+    entry_is c.args.queue c.self.inside.queues c.index-self-queue.result c.self.invariant.two
+    c.requires.known in
+    let adds : AddsUsedBy c.self.inside.ram c.add_used.new.ram
+    (queue_at c.args.queue c.self.inside.queues).ring c.add_used.new.self.ring c.args.head 0 =
+    subst (λ (x : QueueState). AddsUsedBy c.self.inside.ram c.add_used.new.ram x.ring
+    c.add_used.new.self.ring c.args.head 0) was c.add_used.ensures.adds in
+    let driver : contains (status_bits c.self.inside.status) driver_ok ≡ true =
+    ap (λ (v : DeviceState). contains v.part.status driver_ok) c.self.view_is ∙
+    c.requires.ready in
+    subst (λ (v : DeviceState). UsesChain c.args.queue c.args.head v.mem c.add_used.new.ram v.part
+    (base_part (status_bits c.self.inside.status) (feature_bits c.self.inside.features)
+    c.self.inside.target c.self.inside.actual
+    (set c.self.inside.queues c.args.queue c.add_used.new.self) c.self.inside.loose.items))
+    c.self.view_is
+    (used_at c.args.queue c.args.head c.self.inside.ram c.add_used.new.ram
+    (status_bits c.self.inside.status) (feature_bits c.self.inside.features)
+    c.self.inside.target c.self.inside.actual _ c.self.inside.queues c.add_used.new.self
+    c.self.inside.loose.items
+    c.self.invariant c.requires.known driver adds
+    (c.add_used.ensures.taken ∙ ap (λ (x : QueueState). x.taken) was))

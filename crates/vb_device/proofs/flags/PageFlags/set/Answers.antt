@@ -9,8 +9,10 @@ overflow_add-self c =
     let inside : c.args.page < length c.self.inside.flags.items = search rules in
     omega (
       arith,
-      count_set c.self.inside.flags.items c.args.page c.args.flag c.index-old.result.now inside (sym c.index-old.ensures),
-      count_has c.self.inside.flags.items c.args.page c.index-old.result.now inside (sym c.index-old.ensures),
+      count_set c.self.inside.flags.items c.args.page c.args.flag c.index-old.result.now inside
+          (sym c.index-old.ensures),
+      count_has c.self.inside.flags.items c.args.page c.index-old.result.now inside
+          (sym c.index-old.ensures),
       count_by-le-length (λ b. b) (set c.self.inside.flags.items c.args.page c.args.flag),
       length-set c.self.inside.flags.items c.args.page c.args.flag,
       c.self.invariant.0,

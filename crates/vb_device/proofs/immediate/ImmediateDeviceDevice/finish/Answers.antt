@@ -14,20 +14,39 @@ invariant_of-self c = c.self.invariant ∙ sym c.take_out.ensures.count
 pub returns-in_err-request : goal.returns-in_err-request
 returns-in_err-request c =
     let is : c.from_residual.result ≡ Err c.in_err-request.field-0.0 = search rules in
-    let out : TakesOut c.args.queue c.args.index c.self.inside.base.mem c.take_out.new.self.mem c.self.inside.base.part c.take_out.new.self.part (Err c.in_err-request.field-0.0) = c.in_err-request.ensures.by in
-    subst (λ (v : DeviceState). FinishesBy c.args.queue c.args.index v.mem c.take_out.new.self.mem v.part (over c.self.inside.ballooned c.take_out.new.self.part) c.from_residual.result) c.self.view_is
-    (finishes_err c.args.queue c.args.index c.self.inside.base.mem c.take_out.new.self.mem c.self.inside.ballooned c.self.inside.base.part c.take_out.new.self.part c.in_err-request.field-0.0 c.from_residual.result is out)
+    let out : TakesOut c.args.queue c.args.index c.self.inside.base.mem c.take_out.new.self.mem
+    c.self.inside.base.part c.take_out.new.self.part (Err c.in_err-request.field-0.0) =
+    c.in_err-request.ensures.by in
+    subst (λ (v : DeviceState). FinishesBy c.args.queue c.args.index v.mem c.take_out.new.self.mem
+    v.part (over c.self.inside.ballooned c.take_out.new.self.part) c.from_residual.result)
+    c.self.view_is
+    (finishes_err c.args.queue c.args.index c.self.inside.base.mem c.take_out.new.self.mem
+    c.self.inside.ballooned c.self.inside.base.part c.take_out.new.self.part
+    c.in_err-request.field-0.0 c.from_residual.result is out)
 
 pub invariant_of-self-2 : goal.invariant_of-self-2
 invariant_of-self-2 c =
-    ap (λ (fs : List Bool). length fs) c.set_all.ensures ∙ (flagged-length c.pages.result.now (c.args.queue == 0) c.self.inside.ballooned
-    ∙ (c.self.invariant ∙ (sym c.take_out.ensures.count ∙ sym c.use_chain.ensures.memory.puts.rest.count)))
+    ap (λ (fs : List Bool). length fs) c.set_all.ensures ∙
+    (flagged-length c.pages.result.now (c.args.queue == 0) c.self.inside.ballooned
+    ∙ (c.self.invariant ∙
+    (sym c.take_out.ensures.count ∙ sym c.use_chain.ensures.memory.puts.rest.count)))
 
 pub returns : goal.returns
 returns c =
-    let flags : c.set_all.new.self ≡ flagged c.in_ok-request.request.pages (c.args.queue == 0) c.self.inside.ballooned = c.set_all.ensures ∙ ap (λ (ps : List ℕ). flagged ps (c.args.queue == 0) c.self.inside.ballooned) c.pages.ensures.pages in
-    let used : UsesChain c.args.queue c.in_ok-request.request.head c.take_out.new.self.mem c.use_chain.new.self.mem c.take_out.new.self.part c.use_chain.new.self.part =
-    subst (λ (h : ℕ). UsesChain c.args.queue h c.take_out.new.self.mem c.use_chain.new.self.mem c.take_out.new.self.part c.use_chain.new.self.part) c.head.ensures c.use_chain.ensures in
-    subst (λ (v : DeviceState). FinishesBy c.args.queue c.args.index v.mem c.use_chain.new.self.mem v.part (over c.set_all.new.self c.use_chain.new.self.part) (Ok c.head-2.result)) c.self.view_is
-    (finishes_ok c.args.queue c.args.index c.self.inside.base.mem c.take_out.new.self.mem c.use_chain.new.self.mem c.self.inside.ballooned c.set_all.new.self c.self.inside.base.part c.take_out.new.self.part c.use_chain.new.self.part c.in_ok-request.request
-    (Ok c.head-2.result) (ap (λ (h : ℕ). Ok h) c.head-2.ensures) flags c.in_ok-request.ensures.ready.known c.in_ok-request.ensures.by used)
+    let flags : c.set_all.new.self ≡
+    flagged c.in_ok-request.request.pages (c.args.queue == 0) c.self.inside.ballooned =
+    c.set_all.ensures ∙
+    ap (λ (ps : List ℕ). flagged ps (c.args.queue == 0) c.self.inside.ballooned)
+    c.pages.ensures.pages in
+    let used : UsesChain c.args.queue c.in_ok-request.request.head c.take_out.new.self.mem
+    c.use_chain.new.self.mem c.take_out.new.self.part c.use_chain.new.self.part =
+    subst (λ (h : ℕ). UsesChain c.args.queue h c.take_out.new.self.mem c.use_chain.new.self.mem
+    c.take_out.new.self.part c.use_chain.new.self.part) c.head.ensures c.use_chain.ensures in
+    subst (λ (v : DeviceState). FinishesBy c.args.queue c.args.index v.mem c.use_chain.new.self.mem
+    v.part (over c.set_all.new.self c.use_chain.new.self.part) (Ok c.head-2.result))
+    c.self.view_is
+    (finishes_ok c.args.queue c.args.index c.self.inside.base.mem c.take_out.new.self.mem
+    c.use_chain.new.self.mem c.self.inside.ballooned c.set_all.new.self c.self.inside.base.part
+    c.take_out.new.self.part c.use_chain.new.self.part c.in_ok-request.request
+    (Ok c.head-2.result) (ap (λ (h : ℕ). Ok h) c.head-2.ensures) flags
+    c.in_ok-request.ensures.ready.known c.in_ok-request.ensures.by used)

@@ -6,5 +6,7 @@ use Rattle.vb_device.proofs.immediate.ImmediateDeviceDevice.take.Goals as goal
 
 pub returns : goal.returns
 returns c =
-    subst (λ (v : DeviceState). TakesBy c.args.queue v.mem c.take.new.self.mem v.part (over c.self.inside.ballooned c.take.new.self.part) c.take.result) c.self.view_is
-    (takes_over c.args.queue c.self.inside.base.mem c.take.new.self.mem c.self.inside.ballooned c.self.inside.base.part c.take.new.self.part c.take.result c.take.ensures)
+    subst (λ (v : DeviceState). TakesBy c.args.queue v.mem c.take.new.self.mem v.part
+    (over c.self.inside.ballooned c.take.new.self.part) c.take.result) c.self.view_is
+    (takes_over c.args.queue c.self.inside.base.mem c.take.new.self.mem c.self.inside.ballooned
+    c.self.inside.base.part c.take.new.self.part c.take.result c.take.ensures)

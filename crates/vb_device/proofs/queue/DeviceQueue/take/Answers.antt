@@ -29,62 +29,125 @@ returns-then-pages-eq0 g c =
 
 pub returns-in-Err : goal.returns-in-Err
 returns-in-Err g c =
-    let free : is_full (record { ring = c.self.inside.queue; taken = c.self.inside.taken.items }) ≡ false = ap is_full c.self.view_is ∙ (sym c.is_full.ensures ∙ c.if-is_full.false) in
-    let ready : c.self.inside.queue.ready ≡ true = ap (λ (q : QueueState). q.ring.ready) c.self.view_is ∙ c.requires.ready in
-    subst (λ (q : QueueState). TakesNext (g.G.GuestBytes.mem c.args.ram.now) q (record { ring = c.pop_descriptor_chain.new.self; taken = c.self.inside.taken.items }) (Err c.broken.result)) c.self.view_is
-    (subst (λ (w : Refusal). TakesNext (g.G.GuestBytes.mem c.args.ram.now) (record { ring = c.self.inside.queue; taken = c.self.inside.taken.items }) (record { ring = c.pop_descriptor_chain.new.self; taken = c.self.inside.taken.items }) (Err w)) (sym c.broken.ensures)
-    (next_err (g.G.GuestBytes.mem c.args.ram.now) c.self.inside.queue c.pop_descriptor_chain.new.self c.self.inside.taken.items c.in-Err.fault free ready c.in-Err.ensures))
+    let free : is_full (record { ring = c.self.inside.queue; taken = c.self.inside.taken.items }) ≡
+    false = ap is_full c.self.view_is ∙ (sym c.is_full.ensures ∙ c.if-is_full.false) in
+    let ready : c.self.inside.queue.ready ≡ true =
+    ap (λ (q : QueueState). q.ring.ready) c.self.view_is ∙ c.requires.ready in
+    subst (λ (q : QueueState). TakesNext (g.G.GuestBytes.mem c.args.ram.now) q
+    (record { ring = c.pop_descriptor_chain.new.self; taken = c.self.inside.taken.items })
+    (Err c.broken.result)) c.self.view_is
+    (subst (λ (w : Refusal). TakesNext (g.G.GuestBytes.mem c.args.ram.now)
+    (record { ring = c.self.inside.queue; taken = c.self.inside.taken.items })
+    (record { ring = c.pop_descriptor_chain.new.self; taken = c.self.inside.taken.items })
+    (Err w)) (sym c.broken.ensures)
+    (next_err (g.G.GuestBytes.mem c.args.ram.now) c.self.inside.queue
+    c.pop_descriptor_chain.new.self c.self.inside.taken.items c.in-Err.fault free ready
+    c.in-Err.ensures))
 
 pub returns-in-None : goal.returns-in-None
 returns-in-None g c =
-    let free : is_full (record { ring = c.self.inside.queue; taken = c.self.inside.taken.items }) ≡ false = ap is_full c.self.view_is ∙ (sym c.is_full.ensures ∙ c.if-is_full.false) in
-    let ready : c.self.inside.queue.ready ≡ true = ap (λ (q : QueueState). q.ring.ready) c.self.view_is ∙ c.requires.ready in
-    let pops : PopsBy (g.G.GuestBytes.mem c.args.ram.now) c.self.inside.queue c.pop_descriptor_chain.new.self (Ok None) =
-    subst (λ (o : Option Taken). PopsBy (g.G.GuestBytes.mem c.args.ram.now) c.self.inside.queue c.pop_descriptor_chain.new.self (Ok o)) c.in-None.is c.in-Ok.ensures in
-    subst (λ (q : QueueState). TakesNext (g.G.GuestBytes.mem c.args.ram.now) q (record { ring = c.pop_descriptor_chain.new.self; taken = c.self.inside.taken.items }) (Ok None)) c.self.view_is
-    (next_none (g.G.GuestBytes.mem c.args.ram.now) c.self.inside.queue c.pop_descriptor_chain.new.self c.self.inside.taken.items free ready pops)
+    let free : is_full (record { ring = c.self.inside.queue; taken = c.self.inside.taken.items }) ≡
+    false = ap is_full c.self.view_is ∙ (sym c.is_full.ensures ∙ c.if-is_full.false) in
+    let ready : c.self.inside.queue.ready ≡ true =
+    ap (λ (q : QueueState). q.ring.ready) c.self.view_is ∙ c.requires.ready in
+    let pops : PopsBy (g.G.GuestBytes.mem c.args.ram.now) c.self.inside.queue
+    c.pop_descriptor_chain.new.self (Ok None) =
+    subst (λ (o : Option Taken). PopsBy (g.G.GuestBytes.mem c.args.ram.now) c.self.inside.queue
+    c.pop_descriptor_chain.new.self (Ok o)) c.in-None.is c.in-Ok.ensures in
+    subst (λ (q : QueueState). TakesNext (g.G.GuestBytes.mem c.args.ram.now) q
+    (record { ring = c.pop_descriptor_chain.new.self; taken = c.self.inside.taken.items })
+    (Ok None)) c.self.view_is
+    (next_none (g.G.GuestBytes.mem c.args.ram.now) c.self.inside.queue
+    c.pop_descriptor_chain.new.self c.self.inside.taken.items free ready pops)
 
 pub page_request-requires-clause-inside : goal.page_request-requires-clause-inside
 page_request-requires-clause-inside g c =
-    let pops : PopsBy (g.G.GuestBytes.mem c.args.ram.now) c.self.inside.queue c.pop_descriptor_chain.new.self (Ok (Some c.in-Some.taken)) =
-    subst (λ (o : Option Taken). PopsBy (g.G.GuestBytes.mem c.args.ram.now) c.self.inside.queue c.pop_descriptor_chain.new.self (Ok o)) c.in-Some.is c.in-Ok.ensures in
-    subst (λ (xs : List Piece). All (λ piece. piece.addr + piece.len ≤ 4096 * length (g.G.GuestBytes.mem c.args.ram.now)) xs) (sym c.pieces.ensures)
-    (chain_fits (descriptor_at (g.G.GuestBytes.mem c.args.ram.now) c.self.inside.queue.layout.table) c.self.inside.queue.size (4096 * length (g.G.GuestBytes.mem c.args.ram.now)) c.in-Some.taken.head c.in-Some.taken.chain pops.found.2)
+    let pops : PopsBy (g.G.GuestBytes.mem c.args.ram.now) c.self.inside.queue
+    c.pop_descriptor_chain.new.self (Ok (Some c.in-Some.taken)) =
+    subst (λ (o : Option Taken). PopsBy (g.G.GuestBytes.mem c.args.ram.now) c.self.inside.queue
+    c.pop_descriptor_chain.new.self (Ok o)) c.in-Some.is c.in-Ok.ensures in
+    subst (λ (xs : List Piece). All
+    (λ piece. piece.addr + piece.len ≤ 4096 * length (g.G.GuestBytes.mem c.args.ram.now)) xs)
+    (sym c.pieces.ensures)
+    (chain_fits (descriptor_at (g.G.GuestBytes.mem c.args.ram.now) c.self.inside.queue.layout.table)
+    c.self.inside.queue.size (4096 * length (g.G.GuestBytes.mem c.args.ram.now))
+    c.in-Some.taken.head c.in-Some.taken.chain pops.found.2)
 
 pub invariant_of-push : goal.invariant_of-push
 invariant_of-push g c =
-    let named = request_pages (g.G.GuestBytes.mem c.args.ram.now) c.pieces.result.now c.in-Ok-page_request.pages.items c.in-Ok-page_request.ensures in
+    let named =
+    request_pages (g.G.GuestBytes.mem c.args.ram.now) c.pieces.result.now
+    c.in-Ok-page_request.pages.items c.in-Ok-page_request.ensures in
     record { above = named.above; distinct = named.distinct }
 
 pub invariant_of-self-in-Ok-page_request : goal.invariant_of-self-in-Ok-page_request
 invariant_of-self-in-Ok-page_request g c =
-    let pops : PopsBy (g.G.GuestBytes.mem c.args.ram.now) c.self.inside.queue c.pop_descriptor_chain.new.self (Ok (Some c.in-Some.taken)) =
-    subst (λ (o : Option Taken). PopsBy (g.G.GuestBytes.mem c.args.ram.now) c.self.inside.queue c.pop_descriptor_chain.new.self (Ok o)) c.in-Some.is c.in-Ok.ensures in
-    let size : c.pop_descriptor_chain.new.self.size ≡ c.self.inside.queue.size = ap (λ (q : DeviceEnd). q.size) pops.state in
-    let new : Request = record { head = c.in-Some.taken.head; pages = c.in-Ok-page_request.pages.items; visited = 0 } in
+    let pops : PopsBy (g.G.GuestBytes.mem c.args.ram.now) c.self.inside.queue
+    c.pop_descriptor_chain.new.self (Ok (Some c.in-Some.taken)) =
+    subst (λ (o : Option Taken). PopsBy (g.G.GuestBytes.mem c.args.ram.now) c.self.inside.queue
+    c.pop_descriptor_chain.new.self (Ok o)) c.in-Some.is c.in-Ok.ensures in
+    let size : c.pop_descriptor_chain.new.self.size ≡ c.self.inside.queue.size =
+    ap (λ (q : DeviceEnd). q.size) pops.state in
+    let new : Request =
+    record {
+      head = c.in-Some.taken.head;
+      pages = c.in-Ok-page_request.pages.items;
+      visited = 0;
+    } in
     subst (λ (n : ℕ). All (λ (r : Request). r.head < n) c.push.new.self.items) (sym size)
-    (subst (λ (xs : List Request). All (λ (r : Request). r.head < c.self.inside.queue.size) xs) (sym c.push.ensures.items)
-    (All-append (λ (r : Request). r.head < c.self.inside.queue.size) c.self.inside.taken.items (new ∷ []) c.self.invariant
+    (subst (λ (xs : List Request). All (λ (r : Request). r.head < c.self.inside.queue.size) xs)
+    (sym c.push.ensures.items)
+    (All-append (λ (r : Request). r.head < c.self.inside.queue.size) c.self.inside.taken.items
+    (new ∷ []) c.self.invariant
     (one_all (λ (r : Request). r.head < c.self.inside.queue.size) new pops.found.2.chain.inside)))
 
 pub returns-in-Ok-page_request : goal.returns-in-Ok-page_request
 returns-in-Ok-page_request g c =
-    let free : is_full (record { ring = c.self.inside.queue; taken = c.self.inside.taken.items }) ≡ false = ap is_full c.self.view_is ∙ (sym c.is_full.ensures ∙ c.if-is_full.false) in
-    let ready : c.self.inside.queue.ready ≡ true = ap (λ (q : QueueState). q.ring.ready) c.self.view_is ∙ c.requires.ready in
-    let pops : PopsBy (g.G.GuestBytes.mem c.args.ram.now) c.self.inside.queue c.pop_descriptor_chain.new.self (Ok (Some c.in-Some.taken)) =
-    subst (λ (o : Option Taken). PopsBy (g.G.GuestBytes.mem c.args.ram.now) c.self.inside.queue c.pop_descriptor_chain.new.self (Ok o)) c.in-Some.is c.in-Ok.ensures in
-    let good : page_request (g.G.GuestBytes.mem c.args.ram.now) c.in-Some.taken.chain ≡ Ok c.in-Ok-page_request.pages.items = ap (page_request (g.G.GuestBytes.mem c.args.ram.now)) (sym c.pieces.ensures) ∙ c.in-Ok-page_request.ensures in
-    subst (λ (q : QueueState). TakesNext (g.G.GuestBytes.mem c.args.ram.now) q (record { ring = c.pop_descriptor_chain.new.self; taken = c.push.new.self.items }) (Ok (Some c.in-Some.taken.head))) c.self.view_is
-    (subst (λ (xs : List Request). TakesNext (g.G.GuestBytes.mem c.args.ram.now) (record { ring = c.self.inside.queue; taken = c.self.inside.taken.items }) (record { ring = c.pop_descriptor_chain.new.self; taken = xs }) (Ok (Some c.in-Some.taken.head))) (sym c.push.ensures.items)
-    (next_right (g.G.GuestBytes.mem c.args.ram.now) c.self.inside.queue c.pop_descriptor_chain.new.self c.self.inside.taken.items c.in-Some.taken c.in-Ok-page_request.pages.items free ready pops good))
+    let free : is_full (record { ring = c.self.inside.queue; taken = c.self.inside.taken.items }) ≡
+    false = ap is_full c.self.view_is ∙ (sym c.is_full.ensures ∙ c.if-is_full.false) in
+    let ready : c.self.inside.queue.ready ≡ true =
+    ap (λ (q : QueueState). q.ring.ready) c.self.view_is ∙ c.requires.ready in
+    let pops : PopsBy (g.G.GuestBytes.mem c.args.ram.now) c.self.inside.queue
+    c.pop_descriptor_chain.new.self (Ok (Some c.in-Some.taken)) =
+    subst (λ (o : Option Taken). PopsBy (g.G.GuestBytes.mem c.args.ram.now) c.self.inside.queue
+    c.pop_descriptor_chain.new.self (Ok o)) c.in-Some.is c.in-Ok.ensures in
+    let good : page_request (g.G.GuestBytes.mem c.args.ram.now) c.in-Some.taken.chain ≡
+    Ok c.in-Ok-page_request.pages.items =
+    ap (page_request (g.G.GuestBytes.mem c.args.ram.now)) (sym c.pieces.ensures) ∙
+    c.in-Ok-page_request.ensures in
+    subst (λ (q : QueueState). TakesNext (g.G.GuestBytes.mem c.args.ram.now) q
+    (record { ring = c.pop_descriptor_chain.new.self; taken = c.push.new.self.items })
+    (Ok (Some c.in-Some.taken.head))) c.self.view_is
+    (subst (λ (xs : List Request). TakesNext (g.G.GuestBytes.mem c.args.ram.now)
+    (record { ring = c.self.inside.queue; taken = c.self.inside.taken.items })
+    (record { ring = c.pop_descriptor_chain.new.self; taken = xs })
+    (Ok (Some c.in-Some.taken.head))) (sym c.push.ensures.items)
+    (next_right (g.G.GuestBytes.mem c.args.ram.now) c.self.inside.queue
+    c.pop_descriptor_chain.new.self c.self.inside.taken.items c.in-Some.taken
+    c.in-Ok-page_request.pages.items free ready pops good))
 
 pub returns-in-Err-page_request : goal.returns-in-Err-page_request
 returns-in-Err-page_request g c =
-    let free : is_full (record { ring = c.self.inside.queue; taken = c.self.inside.taken.items }) ≡ false = ap is_full c.self.view_is ∙ (sym c.is_full.ensures ∙ c.if-is_full.false) in
-    let ready : c.self.inside.queue.ready ≡ true = ap (λ (q : QueueState). q.ring.ready) c.self.view_is ∙ c.requires.ready in
-    let pops : PopsBy (g.G.GuestBytes.mem c.args.ram.now) c.self.inside.queue c.pop_descriptor_chain.new.self (Ok (Some c.in-Some.taken)) =
-    subst (λ (o : Option Taken). PopsBy (g.G.GuestBytes.mem c.args.ram.now) c.self.inside.queue c.pop_descriptor_chain.new.self (Ok o)) c.in-Some.is c.in-Ok.ensures in
-    let bad : page_request (g.G.GuestBytes.mem c.args.ram.now) c.in-Some.taken.chain ≡ Err c.in-Err-page_request.wrong = ap (page_request (g.G.GuestBytes.mem c.args.ram.now)) (sym c.pieces.ensures) ∙ c.in-Err-page_request.ensures in
-    subst (λ (q : QueueState). TakesNext (g.G.GuestBytes.mem c.args.ram.now) q (record { ring = c.go_to_previous_position.new.self; taken = c.self.inside.taken.items }) (Err c.broken-in-Err-page_request.result)) c.self.view_is
-    (subst (λ (w : Refusal). TakesNext (g.G.GuestBytes.mem c.args.ram.now) (record { ring = c.self.inside.queue; taken = c.self.inside.taken.items }) (record { ring = c.go_to_previous_position.new.self; taken = c.self.inside.taken.items }) (Err w)) (sym c.broken-in-Err-page_request.ensures)
-    (next_wrong (g.G.GuestBytes.mem c.args.ram.now) c.self.inside.queue c.pop_descriptor_chain.new.self c.go_to_previous_position.new.self c.self.inside.taken.items c.in-Some.taken c.in-Err-page_request.wrong free ready pops bad c.go_to_previous_position.ensures))
+    let free : is_full (record { ring = c.self.inside.queue; taken = c.self.inside.taken.items }) ≡
+    false = ap is_full c.self.view_is ∙ (sym c.is_full.ensures ∙ c.if-is_full.false) in
+    let ready : c.self.inside.queue.ready ≡ true =
+    ap (λ (q : QueueState). q.ring.ready) c.self.view_is ∙ c.requires.ready in
+    let pops : PopsBy (g.G.GuestBytes.mem c.args.ram.now) c.self.inside.queue
+    c.pop_descriptor_chain.new.self (Ok (Some c.in-Some.taken)) =
+    subst (λ (o : Option Taken). PopsBy (g.G.GuestBytes.mem c.args.ram.now) c.self.inside.queue
+    c.pop_descriptor_chain.new.self (Ok o)) c.in-Some.is c.in-Ok.ensures in
+    let bad : page_request (g.G.GuestBytes.mem c.args.ram.now) c.in-Some.taken.chain ≡
+    Err c.in-Err-page_request.wrong =
+    ap (page_request (g.G.GuestBytes.mem c.args.ram.now)) (sym c.pieces.ensures) ∙
+    c.in-Err-page_request.ensures in
+    subst (λ (q : QueueState). TakesNext (g.G.GuestBytes.mem c.args.ram.now) q
+    (record { ring = c.go_to_previous_position.new.self; taken = c.self.inside.taken.items })
+    (Err c.broken-in-Err-page_request.result)) c.self.view_is
+    (subst (λ (w : Refusal). TakesNext (g.G.GuestBytes.mem c.args.ram.now)
+    (record { ring = c.self.inside.queue; taken = c.self.inside.taken.items })
+    (record { ring = c.go_to_previous_position.new.self; taken = c.self.inside.taken.items })
+    (Err w)) (sym c.broken-in-Err-page_request.ensures)
+    (next_wrong (g.G.GuestBytes.mem c.args.ram.now) c.self.inside.queue
+    c.pop_descriptor_chain.new.self c.go_to_previous_position.new.self c.self.inside.taken.items
+    c.in-Some.taken c.in-Err-page_request.wrong free ready pops bad
+    c.go_to_previous_position.ensures))
