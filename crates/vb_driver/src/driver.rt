@@ -125,8 +125,12 @@ impl Driver {
 
     /// Allocates a block of 2^order pages for a processor, and gives its first page.
     ///
-    /// Refused for `BadOrder` (over 9), `BadCpu` (no such processor), `NoPages` (no block of the
-    /// order is wholly free); then nothing is changed.
+    /// A single page is the one that was put last into the processor's list, which is refilled
+    /// first where it is empty; a larger block comes from the page areas.
+    ///
+    /// Refused for `BadOrder` (over 9), `BadCpu` (no such processor); then nothing is changed.
+    /// Refused for `NoPages` (no block of the order is wholly free); then the lists of all
+    /// processors are drained into the areas, and no page changes its place.
     pub fn alloc(&mut self, cpu: u32, order: u32) -> Result<u32, Refusal>
         ensures { AllocatesBy self.old self.new cpu order result }
     {
@@ -139,7 +143,8 @@ impl Driver {
         }
     }
 
-    /// Frees a block that an allocation holds.
+    /// Frees a block that an allocation holds: a single page into the processor's list, of which
+    /// eight go back to the page areas where it has sixteen then, a larger block into the areas.
     ///
     /// Refused for `BadOrder`, `BadCpu`, `NotHeld` (no allocation of just this block is held); then
     /// nothing is changed.

@@ -117,7 +117,7 @@ impl Driver {
         ensures { ReapsBy (P.mem port.old) (P.mem port.new) (P.part port.old) (P.part port.new)
             self.old self.new 1 result }
     {
-        // As above.
+        // What holds of each driver is known from here on, where the call is refused too.
         let places = &mut self.places;
         let used = match take_back(&mut self.deflate, port) {
             Ok(Some(used)) => used,
