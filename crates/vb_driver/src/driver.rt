@@ -1,10 +1,9 @@
 //! The balloon driver, and the pages of the guest's own.
 
-ghost use Rattle.std.specs.Prelude.{◌≡◌, ◌<◌, ◌≤◌, ◌+◌, ◌*◌, true, IfOk, IsTrue, length, count_by};
-ghost use Rattle.std.specs.Prelude.{min};
+ghost use Rattle.std.specs.Prelude.{◌≡◌, ◌<◌, true, IfOk, count_by};
 ghost use Rattle.vb_model.specs.Limits.{is_config};
-ghost use Rattle.vb_model.specs.Pages.{place_of, is_used, is_free, is_giving, is_lent, is_taking};
-ghost use Rattle.vb_model.specs.Pages.{is_stranded, is_reporting, is_lent_or_taking};
+ghost use Rattle.vb_model.specs.Pages.{place_of, is_used};
+ghost use Rattle.vb_model.specs.Pages.{is_lent_or_taking};
 ghost use Rattle.vb_driver.specs.State.{IsDriver, fresh_driver};
 ghost use Rattle.vb_driver.specs.Calls.{AllocatesBy, FreesBy, AreCountsOf};
 

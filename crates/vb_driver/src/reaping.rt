@@ -1,6 +1,6 @@
 //! Used requests are taken back (VIRTIO 1.1, 5.5.6).
 
-ghost use Rattle.std.specs.Prelude.{◌≡◌, ◌<◌, ◌≤◌, ◌∷◌, [], ℕ, true, not, length, bit_or, count_by};
+ghost use Rattle.std.specs.Prelude.{◌≡◌, ◌<◌, ◌∷◌, [], ℕ, true, not, length, bit_or, count_by};
 ghost use Rattle.std.specs.Prelude.{Ok, Err, None, Some, IfOk, IfErr, OnOk, OnErr, MatchOption};
 ghost use Rattle.vb_model.specs.Limits.{max_outstanding};
 ghost use Rattle.vb_model.specs.Tests.{is_in};
