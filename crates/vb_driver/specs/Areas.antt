@@ -10,13 +10,13 @@ use Rattle.vb_pages.specs.declared.PageFault.TheVariants.{BadOrder as OrderTooLa
 use Rattle.vb_pages.specs.declared.PageFault.TheVariants.{BadCpu as NoSuchCpu}
 use Rattle.vb_pages.specs.declared.PageFault.TheVariants.{NoPages as NoFreeBlock}
 use Rattle.vb_pages.specs.declared.PageFault.TheVariants.{NotHeld as NoSuchBlock}
-use Rattle.vb_pages.specs.FreePages.{FreePages, is_free as is_unused}
+use Rattle.vb_pages.specs.FreePages.{FreePages, is_free as is_free_page}
 use Rattle.vb_pages.specs.PageState.{PageState, cpu_count, Allocates, given}
 use Rattle.vb_pages.specs.Areas.{block_at}
 
 -- whether each page is free
 unfoldable pub flags_of : FreePages → List Bool
-flags_of f = map (is_unused f) (range_with_len 0 (length f.areas))
+flags_of f = map (is_free_page f) (range_with_len 0 (length f.areas))
 
 -- how the driver refuses what the allocator refuses
 abbrev pub refusal_of : PageFault → Refusal

@@ -1,11 +1,11 @@
 //! The guest's page areas, as the driver uses them.
 
-ghost use Rattle.std.specs.Prelude.{◌≡◌, ◌<◌, ◌≤◌, ◌==◌, ◌∷◌, [], ℕ, false, true, Ok, Err, IfOk};
-ghost use Rattle.std.specs.Prelude.{OnOk, OnErr, IsTrue, length, map, not, nat_lt, nat_le};
+ghost use Rattle.std.specs.Prelude.{◌≡◌, ◌<◌, ◌≤◌, ◌∷◌, [], ℕ, false, true, Ok, Err, IfOk};
+ghost use Rattle.std.specs.Prelude.{OnOk, OnErr, IsTrue, length, not, nat_lt, nat_le};
 ghost use Rattle.std.specs.Prelude.{count_by, slice_set};
-ghost use Rattle.std.specs.List.{list_all, list_any, range_with_len};
+ghost use Rattle.std.specs.List.{list_all};
 ghost use Rattle.vb_model.specs.Tests.{is_in};
-ghost use Rattle.vb_model.specs.Pages.{pages_of, is_free, all_free, is_same_block};
+ghost use Rattle.vb_model.specs.Pages.{pages_of};
 ghost use Rattle.vb_model.specs.Driver.{AllDistinct, with_block, without_block};
 ghost use Rattle.vb_model.specs.Limits.{max_order, max_request_pages, reserved_pages};
 ghost use Rattle.vb_model.specs.Orderly.{times};

@@ -1,10 +1,9 @@
 //! The balloon driver, and the pages of the guest's own.
 
-ghost use Rattle.std.specs.Prelude.{◌≡◌, ◌<◌, ◌≤◌, ◌+◌, ◌*◌, true, IfOk, IsTrue, length, count_by};
-ghost use Rattle.std.specs.Prelude.{min};
+ghost use Rattle.std.specs.Prelude.{◌≡◌, ◌<◌, true, IfOk, count_by};
 ghost use Rattle.vb_model.specs.Limits.{is_config};
-ghost use Rattle.vb_model.specs.Pages.{place_of, is_used, is_free, is_giving, is_lent, is_taking};
-ghost use Rattle.vb_model.specs.Pages.{is_stranded, is_reporting, is_lent_or_taking};
+ghost use Rattle.vb_model.specs.Pages.{place_of, is_used};
+ghost use Rattle.vb_model.specs.Pages.{is_lent_or_taking};
 ghost use Rattle.vb_driver.specs.State.{IsDriver, fresh_driver};
 ghost use Rattle.vb_driver.specs.Calls.{AllocatesBy, FreesBy, AreCountsOf};
 
@@ -125,8 +124,12 @@ impl Driver {
 
     /// Allocates a block of 2^order pages for a processor, and gives its first page.
     ///
-    /// Refused for `BadOrder` (over 9), `BadCpu` (no such processor), `NoPages` (no block of the
-    /// order is wholly free); then nothing is changed.
+    /// A single page is the one that was put last into the processor's list, which is refilled
+    /// first where it is empty; a larger block comes from the page areas.
+    ///
+    /// Refused for `BadOrder` (over 9), `BadCpu` (no such processor); then nothing is changed.
+    /// Refused for `NoPages` (no block of the order is wholly free); then the lists of all
+    /// processors are drained into the areas, and no page changes its place.
     pub fn alloc(&mut self, cpu: u32, order: u32) -> Result<u32, Refusal>
         ensures { AllocatesBy self.old self.new cpu order result }
     {
@@ -139,7 +142,8 @@ impl Driver {
         }
     }
 
-    /// Frees a block that an allocation holds.
+    /// Frees a block that an allocation holds: a single page into the processor's list, of which
+    /// eight go back to the page areas where it has sixteen then, a larger block into the areas.
     ///
     /// Refused for `BadOrder`, `BadCpu`, `NotHeld` (no allocation of just this block is held); then
     /// nothing is changed.

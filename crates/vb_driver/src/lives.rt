@@ -1,12 +1,11 @@
 //! A guest's driver starts, and starts over (VIRTIO 1.1, 2.1 and 3.1.1).
 
-ghost use Rattle.std.specs.Prelude.{◌≡◌, ◌<◌, ◌≤◌, ℕ, IsSome, length};
-ghost use Rattle.vb_ram.specs.Pages.{frame_at};
+ghost use Rattle.std.specs.Prelude.{◌≡◌, ◌<◌};
 ghost use Rattle.vb_status.specs.After.{after_reset, with_new_queues};
 ghost use Rattle.vb_status.specs.Answers.{refusal_of_fault};
 ghost use Rattle.vb_status.specs.Bits.{feature_bits};
 ghost use Rattle.vb_driver.specs.Answers.{IsBacked, IsLargeEnough};
-ghost use Rattle.vb_driver.specs.State.{IsDriver, fresh_side};
+ghost use Rattle.vb_driver.specs.State.{fresh_side};
 ghost use Rattle.vb_driver.specs.Coding.{AreZeroed, ring_pages};
 ghost use Rattle.vb_driver.specs.Calls.{IsNewRing, InitsBy, NegotiatesBy, ResetsBy};
 

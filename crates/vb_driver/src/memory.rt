@@ -1,6 +1,6 @@
 //! What the driver writes into guest memory beside its rings.
 
-ghost use Rattle.std.specs.Prelude.{◌≡◌, ℕ, ◌+◌, ◌*◌, ◌<◌, ◌≤◌, IsSome, is_some, length};
+ghost use Rattle.std.specs.Prelude.{◌≡◌, ℕ, ◌+◌, ◌*◌, ◌<◌, IsSome, is_some, length};
 ghost use Rattle.vb_model.specs.Limits.{page_size};
 ghost use Rattle.vb_ram.specs.Pages.{byte_at, frame_at, Covers, SameBut};
 ghost use Rattle.vb_driver.specs.Coding.{Names, AreZeroed, ring_pages};

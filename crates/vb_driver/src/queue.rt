@@ -1,11 +1,10 @@
 //! The driver's side of a queue of requests.
 
 ghost use Rattle.std.specs.Prelude.{◌≡◌, ◌<◌, ◌≤◌, ℕ, [], Ok, Err, None, Some, IfOk, IfErr};
-ghost use Rattle.std.specs.Prelude.{MatchOption, OnErr, OnOk, IsSome, length, slice_set, min};
+ghost use Rattle.std.specs.Prelude.{MatchOption, OnErr, length, min};
 ghost use Rattle.std.specs.Prelude.{replicate};
 ghost use Rattle.vb_model.specs.Limits.{max_outstanding};
 ghost use Rattle.vb_model.specs.Layout.{buffers_page};
-ghost use Rattle.vb_ram.specs.Pages.{frame_at};
 ghost use Rattle.vb_ring.specs.Layout.{IsSize, IsInside, layout_of};
 ghost use Rattle.vb_ring.specs.Ends.{outstanding, used_answer};
 ghost use Rattle.vb_ring.specs.Calls.{TakesUsedBy};

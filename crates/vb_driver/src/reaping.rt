@@ -1,6 +1,6 @@
 //! Used requests are taken back (VIRTIO 1.1, 5.5.6).
 
-ghost use Rattle.std.specs.Prelude.{◌≡◌, ◌<◌, ◌≤◌, ◌∷◌, [], ℕ, true, not, length, bit_or, count_by};
+ghost use Rattle.std.specs.Prelude.{◌≡◌, ◌<◌, ◌∷◌, [], ℕ, true, not, length, bit_or, count_by};
 ghost use Rattle.std.specs.Prelude.{Ok, Err, None, Some, IfOk, IfErr, OnOk, OnErr, MatchOption};
 ghost use Rattle.vb_model.specs.Limits.{max_outstanding};
 ghost use Rattle.vb_model.specs.Tests.{is_in};
@@ -117,7 +117,7 @@ impl Driver {
         ensures { ReapsBy (P.mem port.old) (P.mem port.new) (P.part port.old) (P.part port.new)
             self.old self.new 1 result }
     {
-        // As above.
+        // What holds of each driver is known from here on, where the call is refused too.
         let places = &mut self.places;
         let used = match take_back(&mut self.deflate, port) {
             Ok(Some(used)) => used,

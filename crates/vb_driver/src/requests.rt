@@ -1,14 +1,11 @@
 //! Pages are offered to the host, and asked back (VIRTIO 1.1, 5.5.6).
 
-ghost use Rattle.std.specs.Prelude.{◌≡◌, ◌<◌, ◌≤◌, ◌+◌, ◌==◌, ◌++◌, ◌∷◌, ℕ, nat_le, not, true, Ok};
-ghost use Rattle.std.specs.Prelude.{Err, Some, None, IfOk, IfErr, MatchOption, OnErr, OnOk, IsSome};
-ghost use Rattle.std.specs.Prelude.{length, count_by, min};
-ghost use Rattle.vb_model.specs.Limits.{max_outstanding, max_request_pages};
-ghost use Rattle.vb_model.specs.Pages.{placed, is_lent_or_taking};
-ghost use Rattle.vb_ram.specs.Pages.{frame_at};
-ghost use Rattle.vb_ring.specs.Ends.{outstanding, used_answer};
-ghost use Rattle.vb_driver.specs.State.{IsDriver, room, stranded_count, free_count, lent_count};
-ghost use Rattle.vb_driver.specs.State.{giving_count};
+ghost use Rattle.std.specs.Prelude.{◌≡◌, ◌<◌, ◌≤◌, ◌+◌, ◌==◌, ◌++◌, ◌∷◌, nat_le, not, true, Ok};
+ghost use Rattle.std.specs.Prelude.{Err, OnOk};
+ghost use Rattle.std.specs.Prelude.{length, min};
+ghost use Rattle.vb_model.specs.Limits.{max_request_pages};
+ghost use Rattle.vb_ring.specs.Ends.{outstanding};
+ghost use Rattle.vb_driver.specs.State.{room, stranded_count, free_count, lent_count};
 ghost use Rattle.vb_model.specs.Refusals.{◌⇒◌, first_refusal};
 ghost use Rattle.vb_model.specs.declared.replies.Refusal.TheVariants.{NotReady, NoFeature};
 ghost use Rattle.vb_driver.specs.Answers.{IsBacked, IsLargeEnough, is_up, inflate_count};
