@@ -1,17 +1,13 @@
 -- A table of places, and how many pages it has at each.
-use Rattle.std.specs.Prelude.{if◌then◌else◌, true, false, ◌≡◌, ℕ}
+use Rattle.std.specs.Prelude.{true, false, ◌≡◌, ℕ}
 use Rattle.std.specs.Prelude.{Bool, List, length, ◌≤◌, slice_index, count_by}
-use Rattle.vb_model.specs.Tests.{is_in, each_page}
+pub use Rattle.vb_model.specs.Tests.{marked}
 use Rattle.vb_model.specs.Pages.{is_free, is_used, is_giving, is_lent, is_taking, is_stranded}
 use Rattle.vb_model.specs.Pages.{is_reporting}
 use Rattle.vb_model.specs.declared.places.Place.{Place}
 use Rattle.vb_model.specs.declared.limits.TheConstants.{MAX_GUEST_PAGES}
 use Rattle.vb_model.specs.declared.places.Place.TheVariants.{Reserved, Free, Used, Giving, Lent}
 use Rattle.vb_model.specs.declared.places.Place.TheVariants.{Taking, Stranded, Reporting}
-
--- these pages have a value from now on: a place that they move to, or a flag
-abbrev pub marked : {A : Type 0} → List ℕ → A → List A → List A
-marked pages value table = each_page (λ page old. if is_in page pages then value else old) table
 
 -- the places, numbered
 abbrev pub number_of : Place → ℕ
