@@ -168,7 +168,7 @@ static BROKEN: [(&[u8], Option<ErrorKind>, usize, &[u8], u8); 6] = [
 ];
 
 #[test]
-fn a_fault_of_a_stream_is_status_4(rt: HostRuntime) {
+fn broken_streams_have_their_status(rt: HostRuntime) {
     for (script, fails, room, errors, status) in &BROKEN {
         let outcome = run(rt.alloc(), script, *fails, *room);
         assert!(rt; outcome.shows(b"", errors, *status));
