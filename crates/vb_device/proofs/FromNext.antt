@@ -4,7 +4,7 @@ use Rattle.std.proofs.Common.{sym, ◌∙◌, ap, arith}
 use Rattle.vb_model.specs.declared.replies.Refusal.{Refusal}
 use Rattle.vb_model.specs.declared.replies.Refusal.TheVariants.{Busy, Broken}
 use Rattle.vb_ram.specs.Pages.{Pages, byte_at, field}
-use Rattle.vb_ram.specs.Fields.{field_zero}
+use Rattle.vb_ram.proofs.FieldLaws.{field_zero}
 use Rattle.vb_chain.specs.declared.ChainFault.{ChainFault}
 use Rattle.vb_chain.specs.declared.ChainFault.TheVariants.{IndexJump}
 use Rattle.vb_ring.specs.declared.layout.Layout.{Layout}

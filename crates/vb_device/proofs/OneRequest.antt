@@ -7,7 +7,7 @@ use Rattle.std.proofs.lemmas.List.FromFn.{get_or-map-range_with_len}
 use Rattle.vb_model.specs.Tests.{is_in}
 use Rattle.vb_model.specs.Driver.{AllDistinct}
 use Rattle.vb_ram.specs.Pages.{Pages, byte_at}
-use Rattle.vb_ram.specs.Fields.{field_4}
+use Rattle.vb_ram.proofs.FieldLaws.{field_4}
 use Rattle.vb_chain.specs.declared.Piece.{Piece}
 use Rattle.vb_chain.specs.declared.ChainFault.{ChainFault}
 use Rattle.vb_chain.specs.declared.ChainFault.TheVariants.{BadPage, ReservedPage}

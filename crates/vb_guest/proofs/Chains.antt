@@ -8,7 +8,7 @@ use Rattle.vb_chain.specs.declared.Descriptor.{Descriptor}
 use Rattle.vb_chain.specs.Table.{descriptor_at}
 use Rattle.vb_chain.specs.Rules.{piece_of}
 use Rattle.vb_chain.specs.Chain.{ChainGives}
-use Rattle.vb_chain.specs.ChainLaws.{single_chain, no_fault}
+use Rattle.vb_chain.proofs.ChainLaws.{single_chain, no_fault}
 use Rattle.vb_driver.specs.Coding.{IsCoded, buffer_of}
 use Rattle.vb_device.specs.Request.{page_request}
 use Rattle.vb_device.proofs.OneRequest.{one_request}

@@ -10,7 +10,7 @@ use Rattle.vb_ring.specs.declared.device.Taken.{Taken}
 use Rattle.vb_ring.specs.Entries.{next_entry}
 use Rattle.vb_ring.specs.Ends.{DeviceEnd, IsDeviceEnd}
 use Rattle.vb_ring.specs.Meaning.{ShowsAvail}
-use Rattle.vb_ring.specs.EntryLaws.{entry_shown}
+use Rattle.vb_ring.proofs.EntryLaws.{entry_shown}
 use Rattle.vb_ring.specs.Calls.{PopsBy, after_pop}
 
 never : true ≡ false → ⊥

@@ -1,5 +1,5 @@
 -- What the two ends of a ring remember.
-use Rattle.std.specs.Prelude.{◌≡◌, ℕ, ◌+◌, ◌%◌, ◌<◌, Bool, List, [], Result, Ok, Err, Option, Some, None, is_none, if◌then◌else◌, nat_lt, length, take, map, replicate, slice_get, slice_index, slice_index_or}
+use Rattle.std.specs.Prelude.{◌≡◌, ℕ, ◌+◌, ◌%◌, ◌<◌, Bool, true, false, List, [], Result, Ok, Err, Option, Some, None, is_none, if◌then◌else◌, nat_lt, length, take, map, replicate, slice_get, slice_index, slice_index_or}
 use Rattle.vb_model.specs.Tests.{is_in, each_page}
 use Rattle.vb_ram.specs.Pages.{Pages}
 use Rattle.vb_ring.specs.declared.layout.Layout.{Layout}
@@ -64,6 +64,10 @@ next_head r = slice_get (free_descriptors r) 0
 -- The descriptors of the next chain of n pieces: the n lowest free ones.
 abbrev pub next_path : DriverEnd → ℕ → List ℕ
 next_path r n = take n (free_descriptors r)
+
+-- Each descriptor is free, or is a chain of its own.
+abbrev pub AreSingle : DriverEnd → Type 0
+AreSingle r = (i : ℕ) → i < r.size → is_free r.owner i ≡ false → is_head r.owner i ≡ true
 
 -- ---- what a call makes of it
 

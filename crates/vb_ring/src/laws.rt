@@ -8,10 +8,9 @@ ghost use Rattle.vb_chain.specs.Chain.{ChainGives};
 ghost use Rattle.vb_chain.specs.Written.{AreSound};
 ghost use Rattle.vb_ring.specs.declared.layout.Layout.{Layout};
 ghost use Rattle.vb_ring.specs.Layout.{IsSize, Fits};
-ghost use Rattle.vb_ring.specs.Ends.{DriverEnd, next_head, outstanding, fresh_end};
+ghost use Rattle.vb_ring.specs.Ends.{DriverEnd, next_head, outstanding, fresh_end, AreSingle};
 ghost use Rattle.vb_ring.specs.Meaning.{UsedElem, Shows, Tracks};
 ghost use Rattle.vb_ring.specs.Calls.{AddsBy};
-ghost use Rattle.vb_ring.specs.Laws.{AreSingle};
 
 /// What an add wrote is a chain from the head that it answered, with the very pieces that were added,
 /// if these lie in memory and no readable one comes after a writable one.
