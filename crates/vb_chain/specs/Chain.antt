@@ -1,10 +1,10 @@
 -- Paths through a table of descriptors, and the chains and faults on them (VIRTIO 1.1, 2.6.5). In all of them d gives the table's descriptors, q is their number, and memory ends at end.
 use Rattle.std.specs.Prelude.{◌⊎◌, ◌≡◌, ℕ, ◌+◌, ◌<◌, ◌≤◌, List, true, false, Option, Some, None, length, slice_index, map, take}
 use Rattle.std.specs.List.{list_any}
-use Rattle.vb_chain.specs.declared.Descriptor.{Descriptor}
-use Rattle.vb_chain.specs.declared.Piece.{Piece}
-use Rattle.vb_chain.specs.declared.ChainFault.{ChainFault}
-use Rattle.vb_chain.specs.declared.ChainFault.TheVariants.{BadHead}
+use Rattle.vb_chain.specs.declared.descriptor.Descriptor.{Descriptor}
+use Rattle.vb_chain.specs.declared.pieces.Piece.{Piece}
+use Rattle.vb_chain.specs.declared.fault.ChainFault.{ChainFault}
+use Rattle.vb_chain.specs.declared.fault.ChainFault.TheVariants.{BadHead}
 use Rattle.vb_chain.specs.Rules.{has_next, is_writable, piece_of, first_fault}
 
 -- A list of descriptor numbers from a head on, each the `next` of the one before, where NEXT is set

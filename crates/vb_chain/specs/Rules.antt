@@ -1,10 +1,10 @@
 -- The rules that a descriptor may break, in the order in which they are tested (VIRTIO 1.1, 2.6.5; the order is the profile's).
 use Rattle.std.specs.Prelude.{ℕ, ◌+◌, Bool, not, ◌&&◌, ◌==◌, nat_lt, nat_le, bit_and, List, [], ◌∷◌, Option, Some, None, if◌then◌else◌}
-use Rattle.vb_chain.specs.declared.Descriptor.{Descriptor}
-use Rattle.vb_chain.specs.declared.Piece.{Piece}
-use Rattle.vb_chain.specs.declared.ChainFault.{ChainFault}
-use Rattle.vb_chain.specs.declared.ChainFault.TheVariants.{BadNext, TooLong, Indirect, WrongDirection, OutOfRam}
-use Rattle.vb_chain.specs.declared.TheConstants.{VIRTQ_DESC_F_NEXT, VIRTQ_DESC_F_WRITE, VIRTQ_DESC_F_INDIRECT}
+use Rattle.vb_chain.specs.declared.descriptor.Descriptor.{Descriptor}
+use Rattle.vb_chain.specs.declared.pieces.Piece.{Piece}
+use Rattle.vb_chain.specs.declared.fault.ChainFault.{ChainFault}
+use Rattle.vb_chain.specs.declared.fault.ChainFault.TheVariants.{BadNext, TooLong, Indirect, WrongDirection, OutOfRam}
+use Rattle.vb_chain.specs.declared.descriptor.TheConstants.{VIRTQ_DESC_F_NEXT, VIRTQ_DESC_F_WRITE, VIRTQ_DESC_F_INDIRECT}
 
 -- A flag is set.
 abbrev pub flag : Descriptor → ℕ → Bool

@@ -1,7 +1,7 @@
 -- A table of descriptors in guest memory.
 use Rattle.std.specs.Prelude.{ℕ, ◌+◌, ◌*◌}
 use Rattle.vb_ram.specs.Pages.{Pages, field}
-use Rattle.vb_chain.specs.declared.Descriptor.{Descriptor}
+use Rattle.vb_chain.specs.declared.descriptor.Descriptor.{Descriptor}
 
 -- The descriptor of a number, in the table at the start of a page
 unfoldable pub descriptor_at : Pages → ℕ → ℕ → Descriptor

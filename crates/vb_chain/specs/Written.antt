@@ -1,8 +1,8 @@
 -- A chain as a driver writes it.
 use Rattle.std.specs.Prelude.{◌≡◌, ◌≢◌, ℕ, ◌+◌, ◌<◌, ◌≤◌, List, Bool, true, false, length, slice_index, slice_index_or, nat_lt, bit_or}
-use Rattle.vb_chain.specs.declared.Descriptor.{Descriptor}
-use Rattle.vb_chain.specs.declared.Piece.{Piece}
-use Rattle.vb_chain.specs.declared.TheConstants.{VIRTQ_DESC_F_NEXT, VIRTQ_DESC_F_WRITE}
+use Rattle.vb_chain.specs.declared.descriptor.Descriptor.{Descriptor}
+use Rattle.vb_chain.specs.declared.pieces.Piece.{Piece}
+use Rattle.vb_chain.specs.declared.descriptor.TheConstants.{VIRTQ_DESC_F_NEXT, VIRTQ_DESC_F_WRITE}
 
 -- The flags of a descriptor that goes on or not, and is writable or not
 abbrev pub flags_of : Bool → Bool → ℕ

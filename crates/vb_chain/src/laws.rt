@@ -1,9 +1,9 @@
 // Laws of chains, in the words of the contracts.
 
 ghost use Rattle.std.specs.Prelude.{◌≡◌, ℕ, List};
-ghost use Rattle.vb_chain.specs.declared.Descriptor.{Descriptor};
-ghost use Rattle.vb_chain.specs.declared.Piece.{Piece};
-ghost use Rattle.vb_chain.specs.declared.ChainFault.{ChainFault};
+ghost use Rattle.vb_chain.specs.declared.descriptor.Descriptor.{Descriptor};
+ghost use Rattle.vb_chain.specs.declared.pieces.Piece.{Piece};
+ghost use Rattle.vb_chain.specs.declared.fault.ChainFault.{ChainFault};
 ghost use Rattle.vb_chain.specs.Chain.{ChainGives, FaultGives};
 
 /// From one head of one table there is one chain or one fault, and never both.

@@ -1,10 +1,23 @@
-// What a chain is.
+//! What a chain is: pieces of guest memory.
 
 ghost use Rattle.std.specs.Prelude.{◌≡◌, ◌<◌, [], ◌∷◌, ◌++◌, length};
 
-use crate::{MAX_DESCRIPTORS, Piece};
 use arrayvec::ArrayVec;
 use std::marker::Model;
+
+/// The descriptors that a table, and so a chain, has at most (profile).
+pub const MAX_DESCRIPTORS: usize = 128;
+
+/// A part of guest memory that a descriptor gives to the device.
+#[derive(Clone, Copy, Debug, Default, PartialEq, Eq)]
+pub struct Piece {
+    /// Where it begins in guest memory, in bytes.
+    pub addr: u64,
+    /// Its length in bytes.
+    pub len: u32,
+    /// Whether it is the device's to write; else it is the device's to read.
+    pub writable: bool,
+}
 
 /// A chain: its pieces, in order, never more than a table has descriptors.
 #[derive(Drop)]
@@ -14,7 +27,7 @@ pub struct Chain {
 
 impl Model for Chain {
     ghost use Rattle.std.specs.Prelude.{List};
-    ghost use Rattle.vb_chain.specs.declared.Piece.{Piece};
+    ghost use Rattle.vb_chain.specs.declared.pieces.Piece.{Piece};
 
     ghost Value = { List Piece };
 

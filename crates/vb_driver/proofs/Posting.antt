@@ -5,7 +5,7 @@ use Rattle.vb_model.specs.Tests.{is_in}
 use Rattle.vb_model.specs.Layout.{buffer_page, buffer_offset}
 use Rattle.vb_ram.specs.Pages.{Pages, page_at, SameBut}
 use Rattle.vb_ram.proofs.FieldLaws.{same_page, same_trans}
-use Rattle.vb_chain.specs.declared.Piece.{Piece}
+use Rattle.vb_chain.specs.declared.pieces.Piece.{Piece}
 use Rattle.vb_chain.specs.Written.{linked}
 use Rattle.vb_chain.specs.Table.{descriptor_at}
 use Rattle.vb_chain.proofs.TableLaws.{descriptor_apart, same_parts}

@@ -4,9 +4,13 @@ ghost use Rattle.std.specs.Prelude.{◌≡◌, ◌+◌, ◌≤◌, IfOk, IfErr, 
 ghost use Rattle.vb_ram.specs.Put.{PutAt};
 ghost use Rattle.vb_model.specs.Guest.{zero_page};
 
-use crate::{PAGE_SIZE, RamFault};
+use crate::RamFault;
 use std::alloc::Global;
 use std::marker::Model;
+use vb_model::limits;
+
+/// The bytes of a page, and of a frame.
+pub const PAGE_SIZE: usize = limits::PAGE_SIZE as usize;
 
 /// A frame of the host: a number, and 4096 bytes. It can't be cloned, so whoever has it is the only
 /// one; that no other frame has its number is for those who make frames to keep.

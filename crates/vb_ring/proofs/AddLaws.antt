@@ -11,7 +11,7 @@ use Rattle.vb_ring.specs.declared.driver.Full.TheVariants.{TooFewFree}
 use Rattle.vb_model.specs.Tests.{is_in}
 use Rattle.vb_model.proofs.Tables.{length-each_from}
 use Rattle.vb_ram.specs.Pages.{Pages}
-use Rattle.vb_chain.specs.declared.Piece.{Piece}
+use Rattle.vb_chain.specs.declared.pieces.Piece.{Piece}
 use Rattle.vb_chain.specs.Table.{descriptor_at}
 use Rattle.vb_chain.specs.Written.{linked, IsRoute, AreSound}
 use Rattle.vb_chain.specs.Chain.{ChainGives}

@@ -9,7 +9,7 @@ use Rattle.vb_ring.proofs.Puts.{publishes}
 use Rattle.std.proofs.lemmas.Option.{slice_get-get_or, slice_get_past}
 use Rattle.vb_model.specs.Tests.{is_in, one_if}
 use Rattle.vb_ram.specs.Pages.{Pages, SameBut}
-use Rattle.vb_chain.specs.declared.Piece.{Piece}
+use Rattle.vb_chain.specs.declared.pieces.Piece.{Piece}
 use Rattle.vb_chain.specs.Table.{descriptor_at}
 use Rattle.vb_chain.proofs.TableLaws.{descriptor_kept}
 use Rattle.vb_chain.specs.Written.{linked, IsRoute}

@@ -7,8 +7,8 @@ use Rattle.std.proofs.lemmas.Option.{slice_get-get_or, slice_get_past}
 use Rattle.vb_model.specs.Tests.{is_in, one_if}
 use Rattle.vb_model.proofs.Tables.{count_by-append, count_by-cons}
 use Rattle.vb_ram.specs.Pages.{Pages, byte_at, page_at}
-use Rattle.vb_chain.specs.declared.Descriptor.{Descriptor}
-use Rattle.vb_chain.specs.declared.Piece.{Piece}
+use Rattle.vb_chain.specs.declared.descriptor.Descriptor.{Descriptor}
+use Rattle.vb_chain.specs.declared.pieces.Piece.{Piece}
 use Rattle.vb_chain.specs.Table.{descriptor_at}
 use Rattle.vb_chain.proofs.TableLaws.{descriptor_apart}
 use Rattle.vb_chain.specs.Rules.{has_next}

@@ -1,8 +1,8 @@
 -- The words of the two rings (VIRTIO 1.1, 2.6.6 and 2.6.8), and what stands next in them, on any bytes.
 use Rattle.std.specs.Prelude.{ℕ, ◌+◌, ◌-◌, ◌*◌, ◌%◌, Bool, false, Result, Ok, Err, Option, Some, None, if◌then◌else◌, ◌==◌, nat_le, List, slice_index_or}
 use Rattle.vb_ram.specs.Pages.{Pages, field}
-use Rattle.vb_chain.specs.declared.ChainFault.{ChainFault}
-use Rattle.vb_chain.specs.declared.ChainFault.TheVariants.{IndexJump}
+use Rattle.vb_chain.specs.declared.fault.ChainFault.{ChainFault}
+use Rattle.vb_chain.specs.declared.fault.ChainFault.TheVariants.{IndexJump}
 use Rattle.vb_ring.specs.declared.layout.Layout.{Layout}
 use Rattle.vb_ring.specs.declared.driver.RingBroken.{RingBroken}
 use Rattle.vb_ring.specs.declared.driver.RingBroken.TheVariants.{IndexAhead, NotOutstanding}

@@ -3,7 +3,7 @@ use Rattle.std.specs.Prelude.{◌≡◌, ◌≢◌, ℕ, ◌+◌, ◌%◌, ◌<�
 use Rattle.vb_model.specs.Tests.{one_if}
 pub use Rattle.vb_model.specs.Tests.{times}
 use Rattle.vb_ram.specs.Pages.{Pages, field}
-use Rattle.vb_chain.specs.declared.Descriptor.{Descriptor}
+use Rattle.vb_chain.specs.declared.descriptor.Descriptor.{Descriptor}
 use Rattle.vb_chain.specs.Table.{descriptor_at}
 use Rattle.vb_chain.specs.Chain.{IsPath}
 use Rattle.vb_ring.specs.declared.layout.Layout.{Layout}

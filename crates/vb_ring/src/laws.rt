@@ -2,7 +2,7 @@
 
 ghost use Rattle.std.specs.Prelude.{◌≡◌, ℕ, ◌<◌, ◌≤◌, List, [], Option, Some, None, Ok, slice_index_or};
 ghost use Rattle.vb_ram.specs.Pages.{Pages, byte_at, page_at};
-ghost use Rattle.vb_chain.specs.declared.Piece.{Piece};
+ghost use Rattle.vb_chain.specs.declared.pieces.Piece.{Piece};
 ghost use Rattle.vb_chain.specs.Table.{descriptor_at};
 ghost use Rattle.vb_chain.specs.Chain.{ChainGives};
 ghost use Rattle.vb_chain.specs.Written.{AreSound};

@@ -1,5 +1,5 @@
 use Rattle.std.proofs.Common.{rules, ◌≡◌, ◌+◌, ◌*◌, ◌∷◌, ◌++◌, [], List, ℕ, ap, sym, ◌∙◌, arith, false, subst, Bool, ◌||◌}
-use Rattle.vb_chain.specs.declared.Piece.{Piece}
+use Rattle.vb_chain.specs.declared.pieces.Piece.{Piece}
 use Rattle.vb_chain.specs.Table.{descriptor_at}
 use Rattle.vb_chain.specs.Rules.{first_fault, piece_of, has_next, is_writable}
 use Rattle.vb_chain.specs.Chain.{ChainGives, FaultGives}
