@@ -12,6 +12,12 @@ pub const VIRTQ_DESC_F_WRITE: u16 = 2;
 /// The flag of a descriptor whose buffer is a table of descriptors; not offered here (profile).
 pub const VIRTQ_DESC_F_INDIRECT: u16 = 4;
 
+/// Bytes of a descriptor.
+pub const DESCRIPTOR_SIZE: usize = 16;
+
+/// The descriptors that a page has room for.
+pub const DESCRIPTORS_IN_A_PAGE: u16 = 256;
+
 /// A descriptor as it stands in its table: 16 bytes, each field's lowest byte first (VIRTIO 1.1,
 /// 2.6.5).
 #[derive(Clone, Copy, Debug, PartialEq, Eq)]

@@ -1,4 +1,4 @@
-// Laws of chains, in the words of the contracts.
+//! Laws of chains, in the words of the contracts.
 
 ghost use Rattle.std.specs.Prelude.{◌≡◌, ℕ, List};
 ghost use Rattle.vb_chain.specs.declared.descriptor.Descriptor.{Descriptor};

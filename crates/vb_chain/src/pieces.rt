@@ -1,12 +1,14 @@
 //! What a chain is: pieces of guest memory.
 
 ghost use Rattle.std.specs.Prelude.{◌≡◌, ◌<◌, [], ◌∷◌, ◌++◌, length};
+ghost use Rattle.vb_chain.specs.declared.pieces.TheConstants.{MAX_DESCRIPTORS};
 
 use arrayvec::ArrayVec;
 use std::marker::Model;
+use vb_model::limits;
 
 /// The descriptors that a table, and so a chain, has at most (profile).
-pub const MAX_DESCRIPTORS: usize = 128;
+pub const MAX_DESCRIPTORS: usize = limits::MAX_QUEUE_SIZE as usize;
 
 /// A part of guest memory that a descriptor gives to the device.
 #[derive(Clone, Copy, Debug, Default, PartialEq, Eq)]
@@ -22,6 +24,7 @@ pub struct Piece {
 /// A chain: its pieces, in order, never more than a table has descriptors.
 #[derive(Drop)]
 pub struct Chain {
+    /// They, in order.
     pieces: ArrayVec<Piece, MAX_DESCRIPTORS>,
 }
 
@@ -53,7 +56,7 @@ impl Chain {
 
     /// Puts a piece behind the others.
     pub(crate) fn push(&mut self, piece: Piece)
-        requires { length self.old < 128 }
+        requires { length self.old < MAX_DESCRIPTORS }
         ensures { self.new ≡ self.old ++ piece ∷ [] }
     {
         self.pieces.push(piece);

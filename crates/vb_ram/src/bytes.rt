@@ -22,7 +22,7 @@ pub trait GuestBytes {
     /// reads as zeros.
     ///
     /// Refused with `OutOfRam` where there is no such page, or where the offset and the length
-    /// together are over 4096; then `out` is as it was.
+    /// together are over `PAGE_SIZE`; then `out` is as it was.
     fn read(&self, page: u32, offset: usize, out: &mut [u8]) -> Result<(), RamFault>
         ensures answers { Covers (mem self.now) page offset (length out.old) → IsOk result }
         ensures out_of_ram { ¬ (Covers (mem self.now) page offset (length out.old)) → result ≡ Err RamFault.OutOfRam }
@@ -33,7 +33,7 @@ pub trait GuestBytes {
     /// Writes bytes from an offset of a page on, and changes nothing else.
     ///
     /// Refused with `OutOfRam` where there is no such page, or where the offset and the length
-    /// together are over 4096; then with `NeedsFrame` where a byte is to be written and the page
+    /// together are over `PAGE_SIZE`; then with `NeedsFrame` where a byte is to be written and the page
     /// has no frame. A refused write changes nothing.
     fn write(&mut self, page: u32, offset: usize, bytes: &[u8]) -> Result<(), RamFault>
         ensures answers { Covers (mem self.old) page offset (length bytes.now) → IsSome (frame_at (mem self.old) page) → IsOk result }

@@ -1,4 +1,4 @@
-// How large a guest is.
+//! How large a guest is.
 
 ghost use Rattle.std.specs.Prelude.{◌≡◌, Option, Some, None, if◌then◌else◌};
 ghost use Rattle.std.specs.Prelude.{◌&&◌};

@@ -1,4 +1,4 @@
-// A guest's memory.
+//! A guest's memory.
 
 ghost use Rattle.std.specs.Prelude.{◌≡◌, ℕ, ◌≤◌, ◌<◌, [], Option, Some, None, Err, IsSome, IsOk, OnOk, OnErr, IfOk, IfErr, IfNone, length, replicate};
 ghost use Rattle.vb_ram.specs.Pages.{page_at, frame_at, Covers, Supplied, Discarded, IsWhole};
@@ -10,6 +10,7 @@ use std::marker::Model;
 /// A guest's memory: pages, each with its frame or without one. Nothing is kept beside the bytes.
 #[derive(Drop)]
 pub struct Ram {
+    /// Each page's frame, or none.
     pages: Vec<Option<Frame>>,
 }
 

@@ -1,7 +1,8 @@
 -- What the calls of a ring do, by old and new of memory and of the end.
 use Rattle.std.specs.Prelude.{◌≡◌, ℕ, ◌+◌, ◌*◌, ◌%◌, ◌<◌, ◌≤◌, Bool, true, false, List, [], ◌∷◌, ◌++◌, Result, Ok, Err, Option, Some, None, IfOk, OnErr, IfSome, IsOkAnd, IsSomeAnd, length, slice_get, slice_index}
 use Rattle.vb_model.specs.Tests.{is_in}
-use Rattle.vb_ram.specs.Pages.{Pages, field}
+use Rattle.vb_ram.specs.Pages.{Pages, field, end_of}
+use Rattle.vb_chain.specs.declared.descriptor.TheConstants.{DESCRIPTOR_SIZE}
 use Rattle.vb_chain.specs.declared.fault.ChainFault.{ChainFault}
 use Rattle.vb_chain.specs.declared.pieces.Piece.{Piece}
 use Rattle.vb_chain.specs.Table.{descriptor_at}
@@ -20,7 +21,7 @@ use Rattle.vb_ring.specs.Frame.{Extent, SameOutside}
 
 -- Where the descriptors of a ring stand, where its available entry number n and its available index, where its used entry number n and its used index.
 abbrev pub table_extent : Layout → ℕ → Extent
-table_extent l q = record { page = l.table; from = 0; to = 16 * q }
+table_extent l q = record { page = l.table; from = 0; to = DESCRIPTOR_SIZE * q }
 
 abbrev pub avail_entry : Layout → ℕ → ℕ → Extent
 avail_entry l q n = record { page = l.avail.page; from = avail_place l q n; to = avail_place l q n + 2 }
@@ -90,13 +91,13 @@ pub record PopsBy (mem : Pages) (q1 q2 : DeviceEnd) (result : Result (Option Tak
   pub none : q1.ready ≡ true → next_entry mem q1.layout q1.size q1.next_avail ≡ Ok None → result ≡ Ok None
   pub jump : (f : ChainFault) → q1.ready ≡ true → next_entry mem q1.layout q1.size q1.next_avail ≡ Err f → result ≡ Err f
   pub chain : (h : ℕ) (pieces : List Piece) → q1.ready ≡ true → next_entry mem q1.layout q1.size q1.next_avail ≡ Ok (Some h)
-      → ChainGives (descriptor_at mem q1.layout.table) q1.size (4096 * length mem) h pieces
+      → ChainGives (descriptor_at mem q1.layout.table) q1.size (end_of mem) h pieces
       → IsOkAnd result (λ got. IsSomeAnd got (λ taken. (taken.head ≡ h) × (taken.chain ≡ pieces)))
   pub fault : (h : ℕ) (f : ChainFault) → q1.ready ≡ true → next_entry mem q1.layout q1.size q1.next_avail ≡ Ok (Some h)
-      → FaultGives (descriptor_at mem q1.layout.table) q1.size (4096 * length mem) h f → result ≡ Err f
+      → FaultGives (descriptor_at mem q1.layout.table) q1.size (end_of mem) h f → result ≡ Err f
   pub found : IfOk result (λ got. IfSome got (λ taken. (q1.ready ≡ true)
       × (next_entry mem q1.layout q1.size q1.next_avail ≡ Ok (Some taken.head))
-      × ChainGives (descriptor_at mem q1.layout.table) q1.size (4096 * length mem) taken.head taken.chain))
+      × ChainGives (descriptor_at mem q1.layout.table) q1.size (end_of mem) taken.head taken.chain))
   pub shown : (heads : List ℕ) (t : ℕ) → ShowsAvail mem q1.layout q1.size heads → t % 65536 ≡ q1.next_avail → t ≤ length heads → length heads ≤ t + q1.size
       → next_entry mem q1.layout q1.size q1.next_avail ≡ Ok (slice_get heads t)
 

@@ -1,14 +1,15 @@
-// The device's end.
+//! The device's end.
 
 ghost use Rattle.std.specs.Prelude.{◌≡◌, ℕ, ◌+◌, ◌%◌, ◌<◌, ◌≤◌, ◌↔◌, IsTrue, true, false, if◌then◌else◌};
 ghost use Rattle.std.specs.Int.{is_power_of_two};
+ghost use Rattle.vb_model.specs.declared.limits.TheConstants.{MIN_QUEUE_SIZE, MAX_QUEUE_SIZE};
 ghost use Rattle.vb_ram.specs.Pages.{Pages};
 ghost use Rattle.vb_ring.specs.Layout.{layout_of, IsInside, IsBacked};
 ghost use Rattle.vb_ring.specs.Ends.{IsDeviceEnd};
 ghost use Rattle.vb_ring.specs.Calls.{PopsBy, AddsUsedBy};
 
 use crate::entries::{next_avail, put_used};
-use crate::{Layout, MAX_QUEUE_SIZE};
+use crate::{Layout, MAX_QUEUE_SIZE, MIN_QUEUE_SIZE};
 use std::marker::Model;
 use vb_chain::{Chain, ChainFault, walk};
 use vb_ram::GuestBytes;
@@ -16,17 +17,24 @@ use vb_ram::GuestBytes;
 /// A chain that was popped: its head, and its pieces.
 #[derive(Drop)]
 pub struct Taken {
+    /// The number of its first descriptor.
     pub head: u16,
+    /// The pieces, in order.
     pub chain: Chain,
 }
 
 /// The device's end of a split virtqueue.
 #[derive(Drop)]
 pub struct Queue {
+    /// Where its ring lies.
     layout: Layout,
+    /// How many descriptors it has.
     size: u16,
+    /// Whether it was made ready.
     ready: bool,
+    /// How many available entries it took, modulo 65,536.
     next_avail: u16,
+    /// How many used entries it added, modulo 65,536.
     next_used: u16,
 }
 
@@ -44,7 +52,7 @@ impl Queue {
     /// A queue from page `page` on that isn't ready, of the greatest size.
     pub fn new(page: u32) -> Queue
         ensures is_end { IsDeviceEnd result }
-        ensures value { result ≡ record { layout = layout_of page 128; size = 128; ready = false; next_avail = 0; next_used = 0 } }
+        ensures value { result ≡ record { layout = layout_of page MAX_QUEUE_SIZE; size = MAX_QUEUE_SIZE; ready = false; next_avail = 0; next_used = 0 } }
     {
         Queue {
             layout: Layout::at(page, MAX_QUEUE_SIZE),
@@ -80,10 +88,10 @@ impl Queue {
     /// Gives the queue a size, and so a layout: true where it is a power of two from 2 to `MAX_QUEUE_SIZE`, else nothing is changed.
     pub fn set_size(&mut self, size: u16) -> bool
         ensures is_end { IsDeviceEnd self.new }
-        ensures answer { IsTrue result ↔ (IsTrue (is_power_of_two size) × (2 ≤ size) × (size ≤ 128)) }
+        ensures answer { IsTrue result ↔ (IsTrue (is_power_of_two size) × (MIN_QUEUE_SIZE ≤ size) × (size ≤ MAX_QUEUE_SIZE)) }
         ensures set { self.new ≡ (if result then record self.old { layout = layout_of self.old.layout.table size; size = size } else self.old) }
     {
-        let fits = size.is_power_of_two() && size >= 2 && size <= MAX_QUEUE_SIZE;
+        let fits = size.is_power_of_two() && size >= MIN_QUEUE_SIZE && size <= MAX_QUEUE_SIZE;
         if fits {
             self.layout = Layout::at(self.layout.table, size);
             self.size = size;

@@ -1,4 +1,4 @@
-// The driver's end.
+//! The driver's end.
 
 ghost use Rattle.std.specs.Prelude.{◌≡◌, ℕ, ◌<◌, List, length};
 ghost use Rattle.vb_ram.specs.Pages.{Pages};
@@ -11,12 +11,13 @@ use crate::Layout;
 use crate::entries::{next_used, put_avail};
 use crate::owners::{claim, count_heads, free_path, is_head, lowest_free, release};
 use std::marker::Model;
-use vb_chain::{Piece, write_chain};
+use vb_chain::{MAX_DESCRIPTORS, Piece, write_chain};
 use vb_ram::GuestBytes;
 
-/// Why `add` refuses: fewer descriptors are free than the chain has pieces.
+/// Why `add` refuses.
 #[derive(Clone, Copy, Debug, PartialEq, Eq)]
 pub enum Full {
+    /// Fewer descriptors are free than the chain has pieces.
     TooFewFree,
 }
 
@@ -33,11 +34,16 @@ pub enum RingBroken {
 /// elements it has seen, and for each descriptor the head of the chain that it belongs to.
 #[derive(Drop)]
 pub struct DriverRing {
+    /// Where it lies.
     layout: Layout,
+    /// How many descriptors it has.
     size: u16,
+    /// How many chains were published, modulo 65,536.
     published: u16,
+    /// How many used elements were seen, modulo 65,536.
     seen: u16,
-    owner: [Option<u16>; 128],
+    /// For each descriptor the head of the chain that it belongs to, or none; past `size` unused.
+    owner: [Option<u16>; MAX_DESCRIPTORS],
 }
 
 impl Model for DriverRing {
@@ -63,7 +69,7 @@ impl DriverRing {
             size,
             published: 0,
             seen: 0,
-            owner: [None; 128],
+            owner: [None; MAX_DESCRIPTORS],
         }
     }
 

@@ -1,4 +1,4 @@
-// The words of the two rings (VIRTIO 1.1, 2.6.6 and 2.6.8).
+//! The words of the two rings (VIRTIO 1.1, 2.6.6 and 2.6.8).
 
 ghost use Rattle.std.specs.Prelude.{◌≡◌, ◌+◌, ◌*◌, ◌%◌, ◌<◌, ◌≤◌, IsSome};
 ghost use Rattle.vb_ram.specs.Pages.{field, frame_at};

@@ -1,6 +1,7 @@
 //! Laws about the definitions. Each is the contract of a function that does nothing.
 
 ghost use Rattle.std.specs.Prelude.{◌≡◌, ℕ, ◌<◌, ◌≤◌, List, [], Option, Some, None, Ok, slice_index_or};
+ghost use Rattle.vb_model.specs.declared.limits.TheConstants.{PAGE_SIZE};
 ghost use Rattle.vb_ram.specs.Pages.{Pages, byte_at, page_at};
 ghost use Rattle.vb_chain.specs.declared.pieces.Piece.{Piece};
 ghost use Rattle.vb_chain.specs.Table.{descriptor_at};
@@ -27,7 +28,7 @@ pub fn chains_that_are_out_stay()
 
 /// Zeroed pages show two empty lists, and a fresh driver's end tracks them.
 pub fn zeroed_pages_show_nothing()
-    ensures { (mem : Pages) (l : Layout) (q : ℕ) → Fits l q → ((k : ℕ) → k < 4096 → byte_at mem l.avail.page k ≡ 0) → ((k : ℕ) → k < 4096 → byte_at mem l.used.page k ≡ 0)
+    ensures { (mem : Pages) (l : Layout) (q : ℕ) → Fits l q → ((k : ℕ) → k < PAGE_SIZE → byte_at mem l.avail.page k ≡ 0) → ((k : ℕ) → k < PAGE_SIZE → byte_at mem l.used.page k ≡ 0)
         → Shows mem l q [] [] × Tracks mem (fresh_end l q) [] [] 0 }
 {}
 

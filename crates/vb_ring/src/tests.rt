@@ -1,4 +1,4 @@
-// What no clause says: the layout and the bytes as the standard has them, and rings of any bytes read a second time.
+//! What no clause says: the layout and the bytes as the standard has them, and rings of any bytes read a second time.
 
 use crate::{DriverRing, Full, Layout, Queue, RingBroken, Taken};
 use std::alloc::Global;
