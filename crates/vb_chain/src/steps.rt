@@ -1,6 +1,7 @@
 //! The walk along a chain.
 
-ghost use Rattle.std.specs.Prelude.{◌≡◌, ◌↔◌, ◌+◌, ◌*◌, ◌<◌, ◌≤◌, ◌^◌, IfOk, IfErr, IsOkAnd, List, length, Bool};
+ghost use Rattle.std.specs.Prelude.{◌≡◌, ◌↔◌, ◌+◌, ◌*◌, ◌<◌, ◌≤◌, ◌^◌, IfOk, IfErr, IsOkAnd, List};
+ghost use Rattle.std.specs.Prelude.{length, Bool};
 ghost use Rattle.vb_ram.specs.Pages.{end_of};
 ghost use Rattle.vb_chain.specs.declared.pieces.TheConstants.{MAX_DESCRIPTORS};
 ghost use Rattle.vb_chain.specs.Table.{descriptor_at};
@@ -53,11 +54,17 @@ fn fault_of(
 pub fn walk<G: GuestBytes>(ram: &G, table: u32, head: u16, size: u16) -> Result<Chain, ChainFault>
     requires table { table < length (G.mem ram.now) }
     requires size { size ≤ MAX_DESCRIPTORS }
-    ensures chain { IfOk result (λ chain. ChainGives (descriptor_at (G.mem ram.now) table) size (end_of (G.mem ram.now)) head chain) }
-    ensures fault { IfErr result (λ f. FaultGives (descriptor_at (G.mem ram.now) table) size (end_of (G.mem ram.now)) head f) }
+    ensures chain { IfOk result (λ chain.
+        ChainGives (descriptor_at (G.mem ram.now) table) size (end_of (G.mem ram.now)) head chain) }
+    ensures fault { IfErr result (λ f.
+        FaultGives (descriptor_at (G.mem ram.now) table) size (end_of (G.mem ram.now)) head f) }
     ensures short { IfOk result (λ chain. (0 < length chain) × (length chain ≤ size)) }
-    ensures each_chain { (pieces : List Piece) → ChainGives (descriptor_at (G.mem ram.now) table) size (end_of (G.mem ram.now)) head pieces → IsOkAnd result (λ got. got ≡ pieces) }
-    ensures each_fault { (f : ChainFault) → FaultGives (descriptor_at (G.mem ram.now) table) size (end_of (G.mem ram.now)) head f → result ≡ Err f }
+    ensures each_chain { (pieces : List Piece) →
+        ChainGives (descriptor_at (G.mem ram.now) table) size (end_of (G.mem ram.now)) head pieces →
+        IsOkAnd result (λ got. got ≡ pieces) }
+    ensures each_fault { (f : ChainFault) →
+        FaultGives (descriptor_at (G.mem ram.now) table) size (end_of (G.mem ram.now)) head f →
+        result ≡ Err f }
 {
     follow(ram, table, head, size)
 }
@@ -66,8 +73,10 @@ pub fn walk<G: GuestBytes>(ram: &G, table: u32, head: u16, size: u16) -> Result<
 fn follow<G: GuestBytes>(ram: &G, table: u32, head: u16, size: u16) -> Result<Chain, ChainFault>
     requires table { table < length (G.mem ram.now) }
     requires size { size ≤ MAX_DESCRIPTORS }
-    ensures chain { IfOk result (λ chain. ChainGives (descriptor_at (G.mem ram.now) table) size (end_of (G.mem ram.now)) head chain) }
-    ensures fault { IfErr result (λ f. FaultGives (descriptor_at (G.mem ram.now) table) size (end_of (G.mem ram.now)) head f) }
+    ensures chain { IfOk result (λ chain.
+        ChainGives (descriptor_at (G.mem ram.now) table) size (end_of (G.mem ram.now)) head chain) }
+    ensures fault { IfErr result (λ f.
+        FaultGives (descriptor_at (G.mem ram.now) table) size (end_of (G.mem ram.now)) head f) }
 {
     if head >= size {
         return Err(ChainFault::BadHead);

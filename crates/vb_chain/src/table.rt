@@ -2,7 +2,8 @@
 
 ghost use Rattle.std.specs.Prelude.{◌≡◌, ◌+◌, ◌*◌, ◌<◌, IsSome, length};
 ghost use Rattle.vb_ram.specs.Pages.{frame_at, SameBut};
-ghost use Rattle.vb_chain.specs.declared.descriptor.TheConstants.{DESCRIPTOR_SIZE, DESCRIPTORS_IN_A_PAGE};
+ghost use Rattle.vb_chain.specs.declared.descriptor.TheConstants.{DESCRIPTOR_SIZE};
+ghost use Rattle.vb_chain.specs.declared.descriptor.TheConstants.{DESCRIPTORS_IN_A_PAGE};
 ghost use Rattle.vb_chain.specs.Table.{descriptor_at};
 
 use crate::{DESCRIPTOR_SIZE, Descriptor};
@@ -30,7 +31,8 @@ pub fn write_descriptor<G: GuestBytes>(ram: &mut G, page: u32, index: u16, descr
     requires index { index < DESCRIPTORS_IN_A_PAGE }
     ensures part { G.part ram.new ≡ G.part ram.old }
     ensures put { descriptor_at (G.mem ram.new) page index ≡ descriptor }
-    ensures rest { SameBut (G.mem ram.old) (G.mem ram.new) page (DESCRIPTOR_SIZE * index) (DESCRIPTOR_SIZE * index + DESCRIPTOR_SIZE) }
+    ensures rest { SameBut (G.mem ram.old) (G.mem ram.new) page (DESCRIPTOR_SIZE * index)
+        (DESCRIPTOR_SIZE * index + DESCRIPTOR_SIZE) }
 {
     let at = DESCRIPTOR_SIZE * usize::from(index);
     write_u64(ram, page, at, descriptor.addr);

@@ -13,8 +13,8 @@ use vb_model::limits;
 /// The bytes of a page, and of a frame.
 pub const PAGE_SIZE: usize = limits::PAGE_SIZE as usize;
 
-/// A frame of the host: a number, and `PAGE_SIZE` bytes. It can't be cloned, so whoever has it is the only
-/// one; that no other frame has its number is for those who make frames to keep.
+/// A frame of the host: a number, and `PAGE_SIZE` bytes. It can't be cloned, so whoever has it is
+/// the only one; that no other frame has its number is for those who make frames to keep.
 #[derive(Drop)]
 pub struct Frame {
     /// Which of the host's frames it is.

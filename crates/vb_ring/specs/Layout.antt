@@ -7,19 +7,24 @@ use Rattle.vb_chain.specs.declared.descriptor.TheConstants.{DESCRIPTOR_SIZE}
 use Rattle.vb_ring.specs.declared.layout.Layout.{Layout}
 use Rattle.vb_ring.specs.declared.layout.RingArea.{RingArea}
 
--- A number of descriptors that a queue may have. It divides 65,536, so that an index that wraps goes on at the next place.
+-- A number of descriptors that a queue may have. It divides 65,536, so that an index that wraps
+-- goes on at the next place.
 pub record IsSize (q : ℕ) : Type 0 where
   pub least : MIN_QUEUE_SIZE ≤ q
   pub most : q ≤ MAX_QUEUE_SIZE
   pub divides : 65536 % q ≡ 0
 
--- A ring of q descriptors whose first page is this one: the table of 16 bytes a descriptor, then the available ring of 6 + 2q bytes, then, at the next multiple of 4, the used ring.
+-- A ring of q descriptors whose first page is this one: the table of 16 bytes a descriptor, then
+-- the available ring of 6 + 2q bytes, then, at the next multiple of 4, the used ring.
 abbrev pub layout_of : ℕ → ℕ → Layout
 layout_of page q =
     record {
       table = page;
       avail = record { page = page; offset = DESCRIPTOR_SIZE * q };
-      used = record { page = page; offset = next_multiple_of (DESCRIPTOR_SIZE * q + (6 + 2 * q)) 4 };
+      used = record {
+        page = page;
+        offset = next_multiple_of (DESCRIPTOR_SIZE * q + (6 + 2 * q)) 4;
+      };
     }
 
 -- The parts of a ring of q descriptors lie inside their pages, and no byte lies in two of them.

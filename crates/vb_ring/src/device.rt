@@ -1,6 +1,7 @@
 //! The device's end.
 
-ghost use Rattle.std.specs.Prelude.{◌≡◌, ℕ, ◌+◌, ◌%◌, ◌<◌, ◌≤◌, ◌↔◌, IsTrue, true, false, if◌then◌else◌};
+ghost use Rattle.std.specs.Prelude.{◌≡◌, ℕ, ◌+◌, ◌%◌, ◌<◌, ◌≤◌, ◌↔◌, IsTrue, true, false};
+ghost use Rattle.std.specs.Prelude.{if◌then◌else◌};
 ghost use Rattle.std.specs.Int.{is_power_of_two};
 ghost use Rattle.vb_model.specs.declared.limits.TheConstants.{MIN_QUEUE_SIZE, MAX_QUEUE_SIZE};
 ghost use Rattle.vb_ram.specs.Pages.{Pages};
@@ -43,16 +44,34 @@ impl Model for Queue {
 
     ghost Value = { DeviceEnd };
 
-    ghost view = { λ s. record { layout = s.layout; size = s.size; ready = s.ready; next_avail = s.next_avail; next_used = s.next_used } };
+    ghost view = { λ s. record {
+      layout = s.layout;
+      size = s.size;
+      ready = s.ready;
+      next_avail = s.next_avail;
+      next_used = s.next_used;
+    } };
 
-    ghost invariant = { λ s. IsDeviceEnd (record { layout = s.layout; size = s.size; ready = s.ready; next_avail = s.next_avail; next_used = s.next_used }) };
+    ghost invariant = { λ s. IsDeviceEnd (record {
+      layout = s.layout;
+      size = s.size;
+      ready = s.ready;
+      next_avail = s.next_avail;
+      next_used = s.next_used;
+    }) };
 }
 
 impl Queue {
     /// A queue from page `page` on that isn't ready, of the greatest size.
     pub fn new(page: u32) -> Queue
         ensures is_end { IsDeviceEnd result }
-        ensures value { result ≡ record { layout = layout_of page MAX_QUEUE_SIZE; size = MAX_QUEUE_SIZE; ready = false; next_avail = 0; next_used = 0 } }
+        ensures value { result ≡ record {
+          layout = layout_of page MAX_QUEUE_SIZE;
+          size = MAX_QUEUE_SIZE;
+          ready = false;
+          next_avail = 0;
+          next_used = 0;
+        } }
     {
         Queue {
             layout: Layout::at(page, MAX_QUEUE_SIZE),
@@ -85,11 +104,15 @@ impl Queue {
         self.ready
     }
 
-    /// Gives the queue a size, and so a layout: true where it is a power of two from 2 to `MAX_QUEUE_SIZE`, else nothing is changed.
+    /// Gives the queue a size, and so a layout: true where it is a power of two from 2 to
+    /// `MAX_QUEUE_SIZE`, else nothing is changed.
     pub fn set_size(&mut self, size: u16) -> bool
         ensures is_end { IsDeviceEnd self.new }
-        ensures answer { IsTrue result ↔ (IsTrue (is_power_of_two size) × (MIN_QUEUE_SIZE ≤ size) × (size ≤ MAX_QUEUE_SIZE)) }
-        ensures set { self.new ≡ (if result then record self.old { layout = layout_of self.old.layout.table size; size = size } else self.old) }
+        ensures answer { IsTrue result ↔ (IsTrue (is_power_of_two size) × (MIN_QUEUE_SIZE ≤ size) ×
+            (size ≤ MAX_QUEUE_SIZE)) }
+        ensures set { self.new ≡ (if result
+            then record self.old { layout = layout_of self.old.layout.table size; size = size }
+            else self.old) }
     {
         let fits = size.is_power_of_two() && size >= MIN_QUEUE_SIZE && size <= MAX_QUEUE_SIZE;
         if fits {
@@ -99,7 +122,8 @@ impl Queue {
         fits
     }
 
-    /// Starts the queue, or stops it. Either way both counts begin at 0 again, as a driver that starts over has them.
+    /// Starts the queue, or stops it. Either way both counts begin at 0 again, as a driver that
+    /// starts over has them.
     pub fn set_ready(&mut self, ready: bool)
         ensures { self.new ≡ record self.old { ready = ready; next_avail = 0; next_used = 0 } }
     {
@@ -133,7 +157,8 @@ impl Queue {
 
     /// Goes back by one chain, so that the one that was popped last stands next again.
     pub fn go_to_previous_position(&mut self)
-        ensures { self.new ≡ record self.old { next_avail = (self.old.next_avail + 65535) % 65536 } }
+        ensures { self.new ≡
+            record self.old { next_avail = (self.old.next_avail + 65535) % 65536 } }
     {
         self.next_avail = self.next_avail.wrapping_sub(1);
     }

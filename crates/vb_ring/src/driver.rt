@@ -30,8 +30,8 @@ pub enum RingBroken {
     NotOutstanding,
 }
 
-/// The driver's end of a split virtqueue. It remembers how many chains it published and how many used
-/// elements it has seen, and for each descriptor the head of the chain that it belongs to.
+/// The driver's end of a split virtqueue. It remembers how many chains it published and how many
+/// used elements it has seen, and for each descriptor the head of the chain that it belongs to.
 #[derive(Drop)]
 pub struct DriverRing {
     /// Where it lies.
@@ -52,13 +52,26 @@ impl Model for DriverRing {
 
     ghost Value = { DriverEnd };
 
-    ghost view = { λ s. record { layout = s.layout; size = s.size; published = s.published; seen = s.seen; owner = take s.size s.owner } };
+    ghost view = { λ s. record {
+      layout = s.layout;
+      size = s.size;
+      published = s.published;
+      seen = s.seen;
+      owner = take s.size s.owner;
+    } };
 
-    ghost invariant = { λ s. IsDriverEnd (record { layout = s.layout; size = s.size; published = s.published; seen = s.seen; owner = take s.size s.owner }) };
+    ghost invariant = { λ s. IsDriverEnd (record {
+      layout = s.layout;
+      size = s.size;
+      published = s.published;
+      seen = s.seen;
+      owner = take s.size s.owner;
+    }) };
 }
 
 impl DriverRing {
-    /// A ring of `size` descriptors from page `page` on, of which nothing is out. Its pages are to be zeroed before the first `add`.
+    /// A ring of `size` descriptors from page `page` on, of which nothing is out. Its pages are to
+    /// be zeroed before the first `add`.
     pub fn new(page: u32, size: u16) -> DriverRing
         requires { IsSize size }
         ensures is_end { IsDriverEnd result }
@@ -97,8 +110,8 @@ impl DriverRing {
         count_heads(&self.owner[..usize::from(self.size)])
     }
 
-    /// Publishes a chain of these pieces on the lowest free descriptors, in rising order (VIRTIO 1.1, 2.6.13),
-    /// and answers its head.
+    /// Publishes a chain of these pieces on the lowest free descriptors, in rising order (VIRTIO
+    /// 1.1, 2.6.13), and answers its head.
     pub fn add<G: GuestBytes>(&mut self, ram: &mut G, pieces: &[Piece]) -> Result<u16, Full>
         requires backed { IsBacked (G.mem ram.old) self.old.layout }
         requires some { 0 < length pieces.now }
@@ -117,7 +130,8 @@ impl DriverRing {
         Ok(head)
     }
 
-    /// Takes the next chain that the device has used, and answers its head; its descriptors are free again (VIRTIO 1.1, 2.6.14).
+    /// Takes the next chain that the device has used, and answers its head; its descriptors are
+    /// free again (VIRTIO 1.1, 2.6.14).
     pub fn take_used<G: GuestBytes>(&mut self, ram: &G) -> Result<Option<u16>, RingBroken>
         requires { IsInside (G.mem ram.now) self.old.layout }
         ensures { TakesUsedBy (G.mem ram.now) self.old self.new result }

@@ -1,5 +1,6 @@
-//! The two ends of a split virtqueue in guest memory (VIRTIO 1.1, 2.6): the driver publishes chains of descriptors
-//! and takes back the used ones, the device pops them and adds them to the used ring.
+//! The two ends of a split virtqueue in guest memory (VIRTIO 1.1, 2.6): the driver publishes chains
+//! of descriptors and takes back the used ones, the device pops them and adds them to the used
+//! ring.
 #![tactic(auto)]
 
 mod device;

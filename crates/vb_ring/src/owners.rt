@@ -1,6 +1,7 @@
 //! The driver's table: for each descriptor the head of the chain that it belongs to.
 
-ghost use Rattle.std.specs.Prelude.{◌≡◌, ℕ, ◌<◌, ◌≤◌, IfSome, IfNone, Option, List, length, take, slice_get, slice_index};
+ghost use Rattle.std.specs.Prelude.{◌≡◌, ℕ, ◌<◌, ◌≤◌, IfSome, IfNone, Option, List, length, take};
+ghost use Rattle.std.specs.Prelude.{slice_get, slice_index};
 ghost use Rattle.vb_chain.specs.declared.pieces.TheConstants.{MAX_DESCRIPTORS};
 ghost use Rattle.vb_ring.specs.Entries.{is_own, is_head};
 ghost use Rattle.vb_ring.specs.Numbers.{numbers};
@@ -56,7 +57,9 @@ pub fn lowest_free(owner: &[Option<u16>]) -> Option<u16>
 /// The lowest free descriptors, so many of them.
 pub fn free_path(owner: &[Option<u16>], count: usize) -> Option<ArrayVec<u16, MAX_DESCRIPTORS>>
     requires { length owner.now ≤ MAX_DESCRIPTORS }
-    ensures found { IfSome result (λ path. (path.items ≡ take count (numbers (is_free owner.now) (length owner.now))) × (length path.items ≡ count)) }
+    ensures found { IfSome result (λ path.
+        (path.items ≡ take count (numbers (is_free owner.now) (length owner.now))) ×
+        (length path.items ≡ count)) }
     ensures none { IfNone result (length (numbers (is_free owner.now) (length owner.now)) < count) }
 {
     let mut path = ArrayVec::new();
