@@ -1,10 +1,12 @@
--- Paths through a table of descriptors, and the chains and faults on them (VIRTIO 1.1, 2.6.5). In all of them d gives the table's descriptors, q is their number, and memory ends at end.
-use Rattle.std.specs.Prelude.{◌⊎◌, ◌≡◌, ℕ, ◌+◌, ◌<◌, ◌≤◌, List, true, false, Option, Some, None, length, slice_index, map, take}
+-- Paths through a table of descriptors, and the chains and faults on them (VIRTIO 1.1, 2.6.5). In
+-- all of them d gives the table's descriptors, q is their number, and memory ends at end.
+use Rattle.std.specs.Prelude.{◌⊎◌, ◌≡◌, ℕ, ◌+◌, ◌<◌, ◌≤◌, List, true, false, Option, Some, None}
+use Rattle.std.specs.Prelude.{length, slice_index, map, take}
 use Rattle.std.specs.List.{list_any}
-use Rattle.vb_chain.specs.declared.Descriptor.{Descriptor}
-use Rattle.vb_chain.specs.declared.Piece.{Piece}
-use Rattle.vb_chain.specs.declared.ChainFault.{ChainFault}
-use Rattle.vb_chain.specs.declared.ChainFault.TheVariants.{BadHead}
+use Rattle.vb_chain.specs.declared.descriptor.Descriptor.{Descriptor}
+use Rattle.vb_chain.specs.declared.pieces.Piece.{Piece}
+use Rattle.vb_chain.specs.declared.fault.ChainFault.{ChainFault}
+use Rattle.vb_chain.specs.declared.fault.ChainFault.TheVariants.{BadHead}
 use Rattle.vb_chain.specs.Rules.{has_next, is_writable, piece_of, first_fault}
 
 -- A list of descriptor numbers from a head on, each the `next` of the one before, where NEXT is set
@@ -12,11 +14,13 @@ pub record IsPath (d : ℕ → Descriptor) (head : ℕ) (path : List ℕ) : Type
   pub some : 0 < length path
   pub begins : slice_index path 0 ≡ head
   pub onward : (k : ℕ) → k + 1 < length path → has_next (d (slice_index path k)) ≡ true
-  pub linked : (k : ℕ) → k + 1 < length path → (d (slice_index path k)).next ≡ slice_index path (k + 1)
+  pub linked : (k : ℕ) → k + 1 < length path →
+      (d (slice_index path k)).next ≡ slice_index path (k + 1)
 
 -- The first rule that is broken at place k of a path
 abbrev pub fault_at : (ℕ → Descriptor) → ℕ → ℕ → List ℕ → ℕ → Option ChainFault
-fault_at d q end path k = first_fault q end (list_any (λ i. is_writable (d i)) (take k path)) k (d (slice_index path k))
+fault_at d q end path k =
+    first_fault q end (list_any (λ i. is_writable (d i)) (take k path)) k (d (slice_index path k))
 
 -- A path of at most q numbers whose last has no NEXT, and on which no rule is broken
 pub record IsChain (d : ℕ → Descriptor) (q end head : ℕ) (path : List ℕ) : Type 0 where
@@ -27,7 +31,8 @@ pub record IsChain (d : ℕ → Descriptor) (q end head : ℕ) (path : List ℕ)
   pub ends : (k : ℕ) → k + 1 ≡ length path → has_next (d (slice_index path k)) ≡ false
 
 -- The last number of a path breaks a rule, and none before it does
-pub record BreaksAt (d : ℕ → Descriptor) (q end head : ℕ) (path : List ℕ) (f : ChainFault) : Type 0 where
+pub record BreaksAt (d : ℕ → Descriptor) (q end head : ℕ) (path : List ℕ) (f : ChainFault) :
+    Type 0 where
   pub inside : head < q
   pub is_path : IsPath d head path
   pub sound : (k : ℕ) → k + 1 < length path → fault_at d q end path k ≡ None

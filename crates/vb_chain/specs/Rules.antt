@@ -1,10 +1,14 @@
--- The rules that a descriptor may break, in the order in which they are tested (VIRTIO 1.1, 2.6.5; the order is the profile's).
-use Rattle.std.specs.Prelude.{ℕ, ◌+◌, Bool, not, ◌&&◌, ◌==◌, nat_lt, nat_le, bit_and, List, [], ◌∷◌, Option, Some, None, if◌then◌else◌}
-use Rattle.vb_chain.specs.declared.Descriptor.{Descriptor}
-use Rattle.vb_chain.specs.declared.Piece.{Piece}
-use Rattle.vb_chain.specs.declared.ChainFault.{ChainFault}
-use Rattle.vb_chain.specs.declared.ChainFault.TheVariants.{BadNext, TooLong, Indirect, WrongDirection, OutOfRam}
-use Rattle.vb_chain.specs.declared.TheConstants.{VIRTQ_DESC_F_NEXT, VIRTQ_DESC_F_WRITE, VIRTQ_DESC_F_INDIRECT}
+-- The rules that a descriptor may break, in the order in which they are tested (VIRTIO 1.1, 2.6.5;
+-- the order is the profile's).
+use Rattle.std.specs.Prelude.{ℕ, ◌+◌, Bool, not, ◌&&◌, ◌==◌, nat_lt, nat_le, bit_and, List, [], ◌∷◌}
+use Rattle.std.specs.Prelude.{Option, Some, None, if◌then◌else◌}
+use Rattle.vb_chain.specs.declared.descriptor.Descriptor.{Descriptor}
+use Rattle.vb_chain.specs.declared.pieces.Piece.{Piece}
+use Rattle.vb_chain.specs.declared.fault.ChainFault.{ChainFault}
+use Rattle.vb_chain.specs.declared.fault.ChainFault.TheVariants.{BadNext, TooLong, Indirect}
+use Rattle.vb_chain.specs.declared.fault.ChainFault.TheVariants.{WrongDirection, OutOfRam}
+use Rattle.vb_chain.specs.declared.descriptor.TheConstants.{VIRTQ_DESC_F_NEXT, VIRTQ_DESC_F_WRITE}
+use Rattle.vb_chain.specs.declared.descriptor.TheConstants.{VIRTQ_DESC_F_INDIRECT}
 
 -- A flag is set.
 abbrev pub flag : Descriptor → ℕ → Bool
@@ -26,7 +30,8 @@ is_indirect d = flag d VIRTQ_DESC_F_INDIRECT
 abbrev pub piece_of : Descriptor → Piece
 piece_of d = record { addr = d.addr; len = d.len; writable = is_writable d }
 
--- The rules for a descriptor after k others, each as whether it is broken and with which fault: the table has q descriptors, memory ends at end, and writing says that a writable one came before.
+-- The rules for a descriptor after k others, each as whether it is broken and with which fault: the
+-- table has q descriptors, memory ends at end, and writing says that a writable one came before.
 abbrev pub rules : ℕ → ℕ → Bool → ℕ → Descriptor → List (Bool × ChainFault)
 rules q end writing k d =
     (is_indirect d, Indirect)

@@ -1,11 +1,15 @@
-// The walk along a chain.
+//! The walk along a chain.
 
-ghost use Rattle.std.specs.Prelude.{◌≡◌, ◌↔◌, ◌+◌, ◌*◌, ◌<◌, ◌≤◌, ◌^◌, IfOk, IfErr, IsOkAnd, List, length, Bool};
+ghost use Rattle.std.specs.Prelude.{◌≡◌, ◌↔◌, ◌+◌, ◌*◌, ◌<◌, ◌≤◌, ◌^◌, IfOk, IfErr, IsOkAnd, List};
+ghost use Rattle.std.specs.Prelude.{length, Bool};
+ghost use Rattle.vb_ram.specs.Pages.{end_of};
+ghost use Rattle.vb_chain.specs.declared.pieces.TheConstants.{MAX_DESCRIPTORS};
 ghost use Rattle.vb_chain.specs.Table.{descriptor_at};
 ghost use Rattle.vb_chain.specs.Rules.{first_fault};
 ghost use Rattle.vb_chain.specs.Chain.{ChainGives, FaultGives};
 
 use crate::{Chain, ChainFault, Descriptor, Piece, read_descriptor};
+use vb_model::limits;
 use vb_ram::GuestBytes;
 
 /// The first rule that a descriptor breaks, after `visited` others.
@@ -49,12 +53,18 @@ fn fault_of(
 /// chain. Other flag bits are ignored, and a length of 0 is accepted (profile).
 pub fn walk<G: GuestBytes>(ram: &G, table: u32, head: u16, size: u16) -> Result<Chain, ChainFault>
     requires table { table < length (G.mem ram.now) }
-    requires size { size ≤ 128 }
-    ensures chain { IfOk result (λ chain. ChainGives (descriptor_at (G.mem ram.now) table) size (4096 * length (G.mem ram.now)) head chain) }
-    ensures fault { IfErr result (λ f. FaultGives (descriptor_at (G.mem ram.now) table) size (4096 * length (G.mem ram.now)) head f) }
+    requires size { size ≤ MAX_DESCRIPTORS }
+    ensures chain { IfOk result (λ chain.
+        ChainGives (descriptor_at (G.mem ram.now) table) size (end_of (G.mem ram.now)) head chain) }
+    ensures fault { IfErr result (λ f.
+        FaultGives (descriptor_at (G.mem ram.now) table) size (end_of (G.mem ram.now)) head f) }
     ensures short { IfOk result (λ chain. (0 < length chain) × (length chain ≤ size)) }
-    ensures each_chain { (pieces : List Piece) → ChainGives (descriptor_at (G.mem ram.now) table) size (4096 * length (G.mem ram.now)) head pieces → IsOkAnd result (λ got. got ≡ pieces) }
-    ensures each_fault { (f : ChainFault) → FaultGives (descriptor_at (G.mem ram.now) table) size (4096 * length (G.mem ram.now)) head f → result ≡ Err f }
+    ensures each_chain { (pieces : List Piece) →
+        ChainGives (descriptor_at (G.mem ram.now) table) size (end_of (G.mem ram.now)) head pieces →
+        IsOkAnd result (λ got. got ≡ pieces) }
+    ensures each_fault { (f : ChainFault) →
+        FaultGives (descriptor_at (G.mem ram.now) table) size (end_of (G.mem ram.now)) head f →
+        result ≡ Err f }
 {
     follow(ram, table, head, size)
 }
@@ -62,14 +72,16 @@ pub fn walk<G: GuestBytes>(ram: &G, table: u32, head: u16, size: u16) -> Result<
 /// The walk itself, one descriptor after the other.
 fn follow<G: GuestBytes>(ram: &G, table: u32, head: u16, size: u16) -> Result<Chain, ChainFault>
     requires table { table < length (G.mem ram.now) }
-    requires size { size ≤ 128 }
-    ensures chain { IfOk result (λ chain. ChainGives (descriptor_at (G.mem ram.now) table) size (4096 * length (G.mem ram.now)) head chain) }
-    ensures fault { IfErr result (λ f. FaultGives (descriptor_at (G.mem ram.now) table) size (4096 * length (G.mem ram.now)) head f) }
+    requires size { size ≤ MAX_DESCRIPTORS }
+    ensures chain { IfOk result (λ chain.
+        ChainGives (descriptor_at (G.mem ram.now) table) size (end_of (G.mem ram.now)) head chain) }
+    ensures fault { IfErr result (λ f.
+        FaultGives (descriptor_at (G.mem ram.now) table) size (end_of (G.mem ram.now)) head f) }
 {
     if head >= size {
         return Err(ChainFault::BadHead);
     }
-    let end = 4096 * u64::from(ram.pages());
+    let end = limits::PAGE_SIZE as u64 * u64::from(ram.pages());
     let mut chain = Chain::empty();
     let mut writing = false;
     let mut index = head;

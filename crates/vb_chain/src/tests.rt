@@ -1,4 +1,4 @@
-// Values from the formats, and the first fault on the way.
+//! Values from the formats, and the first fault on the way.
 
 use crate::{ChainFault, Descriptor, Piece, read_descriptor, walk, write_chain, write_descriptor};
 use std::alloc::Global;

@@ -1,7 +1,10 @@
-// A chain as a driver writes it.
+//! A chain as a driver writes it.
 
-ghost use Rattle.std.specs.Prelude.{◌≡◌, ◌≢◌, ℕ, ◌+◌, ◌*◌, ◌<◌, ◌≤◌, IsSome, length, slice_index, slice_index_or};
-ghost use Rattle.vb_ram.specs.Pages.{frame_at, SameBut};
+ghost use Rattle.std.specs.Prelude.{◌≡◌, ◌≢◌, ℕ, ◌+◌, ◌*◌, ◌<◌, ◌≤◌, IsSome, length, slice_index};
+ghost use Rattle.std.specs.Prelude.{slice_index_or};
+ghost use Rattle.vb_ram.specs.Pages.{frame_at, end_of, SameBut};
+ghost use Rattle.vb_chain.specs.declared.descriptor.TheConstants.{DESCRIPTOR_SIZE};
+ghost use Rattle.vb_chain.specs.declared.descriptor.TheConstants.{DESCRIPTORS_IN_A_PAGE};
 ghost use Rattle.vb_chain.specs.Table.{descriptor_at};
 ghost use Rattle.vb_chain.specs.Written.{flags_of, linked, IsRoute, AreSound};
 ghost use Rattle.vb_chain.specs.Chain.{ChainGives};
@@ -33,14 +36,19 @@ pub fn write_chain<G: GuestBytes>(
 )
     requires page { table < length (G.mem ram.old) }
     requires backed { IsSome (frame_at (G.mem ram.old) table) }
-    requires size { size ≤ 256 }
+    requires size { size ≤ DESCRIPTORS_IN_A_PAGE }
     requires pair { length path.now ≡ length pieces.now }
     requires route { IsRoute size path.now }
-    ensures put { (k : ℕ) → k < length path.now → descriptor_at (G.mem ram.new) table (slice_index path.now k) ≡ linked path.now pieces.now k }
-    ensures others { (i : ℕ) → ((k : ℕ) → k < length path.now → slice_index path.now k ≢ i) → descriptor_at (G.mem ram.new) table i ≡ descriptor_at (G.mem ram.old) table i }
-    ensures chain { AreSound (4096 * length (G.mem ram.new)) pieces.now → length path.now ≤ size → ChainGives (descriptor_at (G.mem ram.new) table) size (4096 * length (G.mem ram.new)) (slice_index path.now 0) pieces.now }
+    ensures put { (k : ℕ) → k < length path.now →
+        descriptor_at (G.mem ram.new) table (slice_index path.now k) ≡
+        linked path.now pieces.now k }
+    ensures others { (i : ℕ) → ((k : ℕ) → k < length path.now → slice_index path.now k ≢ i) →
+        descriptor_at (G.mem ram.new) table i ≡ descriptor_at (G.mem ram.old) table i }
+    ensures chain { AreSound (end_of (G.mem ram.new)) pieces.now → length path.now ≤ size →
+        ChainGives (descriptor_at (G.mem ram.new) table) size (end_of (G.mem ram.new))
+        (slice_index path.now 0) pieces.now }
     ensures part { G.part ram.new ≡ G.part ram.old }
-    ensures rest { SameBut (G.mem ram.old) (G.mem ram.new) table 0 (16 * size) }
+    ensures rest { SameBut (G.mem ram.old) (G.mem ram.new) table 0 (DESCRIPTOR_SIZE * size) }
 {
     for k in 0..path.len() {
         let piece = pieces[k];

@@ -8,8 +8,8 @@ use Rattle.std.proofs.lemmas.List.{append-nil, take_more, ext_get_or, get_or_app
 use Rattle.std.proofs.lemmas.List.FromFn.{get_or-map-range_with_len, length-map-range_with_len}
 use Rattle.std.proofs.lemmas.List.Sums.{sum_by_more}
 use Rattle.vb_ram.specs.Pages.{Pages, byte_at}
-use Rattle.vb_chain.specs.declared.Piece.{Piece}
-use Rattle.vb_chain.specs.declared.ChainFault.TheVariants.{WrongDirection, BadLength}
+use Rattle.vb_chain.specs.declared.pieces.Piece.{Piece}
+use Rattle.vb_chain.specs.declared.fault.ChainFault.TheVariants.{WrongDirection, BadLength}
 use Rattle.vb_device.specs.Request.{byte_of_address, bytes_from, bytes_of, total_length, is_request_length, numbers_of, pages_of_numbers, page_request}
 
 pub bytes_from-length : (mem : Pages) (addr len : ℕ) → length (bytes_from mem addr len) ≡ len

@@ -4,9 +4,9 @@ use Rattle.std.proofs.Common.{sym, ◌∙◌, ap, arith}
 use Rattle.vb_model.specs.declared.replies.Refusal.{Refusal}
 use Rattle.vb_model.specs.declared.replies.Refusal.TheVariants.{Busy, Broken}
 use Rattle.vb_ram.specs.Pages.{Pages, byte_at, field}
-use Rattle.vb_ram.specs.Fields.{field_zero}
-use Rattle.vb_chain.specs.declared.ChainFault.{ChainFault}
-use Rattle.vb_chain.specs.declared.ChainFault.TheVariants.{IndexJump}
+use Rattle.vb_ram.proofs.FieldLaws.{field_zero}
+use Rattle.vb_chain.specs.declared.fault.ChainFault.{ChainFault}
+use Rattle.vb_chain.specs.declared.fault.ChainFault.TheVariants.{IndexJump}
 use Rattle.vb_ring.specs.declared.layout.Layout.{Layout}
 use Rattle.vb_ring.specs.Entries.{next_by, next_entry, ahead, avail_index, avail_place}
 use Rattle.vb_device.specs.QueueState.{QueueState, next_of, is_full, NextMeans, TakesNext}

@@ -6,7 +6,7 @@ use Rattle.std.proofs.lemmas.List.Elements.{filter-append}
 use Rattle.std.proofs.lemmas.List.{append-nil, take_more, take-append-drop, length_push}
 use Rattle.std.proofs.lemmas.List.FromFn.{length-map-range_with_len, get_or-map-range_with_len}
 use Rattle.vb_model.specs.Tests.{is_in}
-use Rattle.vb_chain.specs.declared.ChainFault.{ChainFault}
+use Rattle.vb_chain.specs.declared.fault.ChainFault.{ChainFault}
 use Rattle.vb_device.specs.Request.{each_once, number_fault, first_of_both, first_number_fault, numbers_of, number_at}
 
 true_false : true ≡ false → ⊥

@@ -7,10 +7,10 @@ use Rattle.std.proofs.lemmas.List.FromFn.{get_or-map-range_with_len}
 use Rattle.vb_model.specs.Tests.{is_in}
 use Rattle.vb_model.specs.Driver.{AllDistinct}
 use Rattle.vb_ram.specs.Pages.{Pages, byte_at}
-use Rattle.vb_ram.specs.Fields.{field_4}
-use Rattle.vb_chain.specs.declared.Piece.{Piece}
-use Rattle.vb_chain.specs.declared.ChainFault.{ChainFault}
-use Rattle.vb_chain.specs.declared.ChainFault.TheVariants.{BadPage, ReservedPage}
+use Rattle.vb_ram.proofs.FieldLaws.{field_4}
+use Rattle.vb_chain.specs.declared.pieces.Piece.{Piece}
+use Rattle.vb_chain.specs.declared.fault.ChainFault.{ChainFault}
+use Rattle.vb_chain.specs.declared.fault.ChainFault.TheVariants.{BadPage, ReservedPage}
 use Rattle.vb_device.specs.Request.{byte_of_address, bytes_from, bytes_of, total_length, is_request_length, number_at, numbers_of, number_fault, first_of_both, first_number_fault, unless_fault, each_once, pages_of_numbers, page_request}
 use Rattle.vb_device.specs.Request.{ArePages, IsRequestPiece}
 use Rattle.vb_device.proofs.Once.{numbers_of-length, numbers_of-at}

@@ -6,7 +6,7 @@ use Rattle.vb_model.specs.declared.replies.Refusal.TheVariants.{Broken}
 use Rattle.vb_model.specs.Requests.{Request}
 use Rattle.vb_ram.specs.Pages.{Pages}
 use Rattle.vb_ram.specs.Part.{Part, QueuePart}
-use Rattle.vb_chain.specs.declared.ChainFault.{ChainFault}
+use Rattle.vb_chain.specs.declared.fault.ChainFault.{ChainFault}
 use Rattle.vb_device.specs.Faults.{Breaks}
 use Rattle.vb_device.specs.Discards.{flagged}
 use Rattle.vb_device.specs.BaseCalls.{taken_out, TakesOut, UsesChain}

@@ -8,9 +8,9 @@ use Rattle.std.proofs.lemmas.List.Elements.{All-filter}
 use Rattle.vb_model.specs.Tests.{is_in}
 use Rattle.vb_model.specs.Driver.{AllDistinct}
 use Rattle.vb_ram.specs.Pages.{Pages}
-use Rattle.vb_chain.specs.declared.Piece.{Piece}
-use Rattle.vb_chain.specs.declared.ChainFault.{ChainFault}
-use Rattle.vb_chain.specs.declared.ChainFault.TheVariants.{WrongDirection, BadLength, BadPage, ReservedPage}
+use Rattle.vb_chain.specs.declared.pieces.Piece.{Piece}
+use Rattle.vb_chain.specs.declared.fault.ChainFault.{ChainFault}
+use Rattle.vb_chain.specs.declared.fault.ChainFault.TheVariants.{WrongDirection, BadLength, BadPage, ReservedPage}
 use Rattle.vb_device.specs.Request.{ArePages}
 use Rattle.vb_device.specs.Request.{each_once, number_fault, first_of_both, first_number_fault, unless_fault, pages_of_numbers, numbers_of, bytes_of, is_request_length, total_length, page_request}
 

@@ -5,7 +5,7 @@ use Rattle.std.specs.Int as int
 use lib.Count
 use Rattle.std.proofs.lemmas.Bool.{cases_eq, and_parts}
 use Rattle.vb_model.specs.Limits.{is_config, is_between, is_power_of_two}
-use Rattle.vb_ram.specs.Limits.{config_limits}
+use Rattle.vb_ram.proofs.Limits.{config_limits}
 
 abbrev all_below : (ℕ → Bool) → ℕ → Bool
 all_below p zero = true

@@ -10,8 +10,8 @@ use Rattle.vb_model.specs.Tables.{is_queue_of_requests, has_chains, is_not_ready
 use Rattle.vb_model.proofs.Queues.{no_requests_at, no_chains_at}
 use Rattle.vb_ram.specs.Pages.{Page, Pages}
 use Rattle.vb_ram.specs.Part.{Part}
-use Rattle.vb_chain.specs.declared.ChainFault.{ChainFault}
-use Rattle.vb_chain.specs.declared.Piece.{Piece}
+use Rattle.vb_chain.specs.declared.fault.ChainFault.{ChainFault}
+use Rattle.vb_chain.specs.declared.pieces.Piece.{Piece}
 use Rattle.vb_device.specs.Conditions.{take_refusal, finish_refusal}
 use Rattle.vb_device.specs.Queues.{next_available}
 use Rattle.vb_device.specs.Faults.{Breaks, rule_of, needing_reset}

@@ -4,8 +4,8 @@ use Rattle.vb_model.specs.declared.replies.Refusal.{Refusal}
 use Rattle.vb_model.specs.declared.replies.Refusal.TheVariants.{Broken}
 use Rattle.vb_model.specs.Status.{needs_reset}
 use Rattle.vb_ram.specs.Part.{Part}
-use Rattle.vb_chain.specs.declared.ChainFault.{ChainFault}
-use Rattle.vb_chain.specs.declared.ChainFault.TheVariants.{BadHead, BadNext, TooLong, Indirect, WrongDirection, OutOfRam, IndexJump, BadLength, BadPage, ReservedPage}
+use Rattle.vb_chain.specs.declared.fault.ChainFault.{ChainFault}
+use Rattle.vb_chain.specs.declared.fault.ChainFault.TheVariants.{BadHead, BadNext, TooLong, Indirect, WrongDirection, OutOfRam, IndexJump, BadLength, BadPage, ReservedPage}
 
 -- The number of the rule that a chain breaks (profile).
 abbrev pub rule_of : ChainFault → ℕ

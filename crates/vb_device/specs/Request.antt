@@ -7,9 +7,9 @@ use Rattle.vb_model.specs.declared.layout.TheConstants.{REQUEST_BUFFER_SIZE}
 use Rattle.vb_model.specs.Driver.{AllDistinct}
 use Rattle.vb_model.specs.Limits.{page_size, reserved_pages, max_request_pages}
 use Rattle.vb_ram.specs.Pages.{Pages, byte_at, field}
-use Rattle.vb_chain.specs.declared.Piece.{Piece}
-use Rattle.vb_chain.specs.declared.ChainFault.{ChainFault}
-use Rattle.vb_chain.specs.declared.ChainFault.TheVariants.{WrongDirection, BadLength, BadPage, ReservedPage}
+use Rattle.vb_chain.specs.declared.pieces.Piece.{Piece}
+use Rattle.vb_chain.specs.declared.fault.ChainFault.{ChainFault}
+use Rattle.vb_chain.specs.declared.fault.ChainFault.TheVariants.{WrongDirection, BadLength, BadPage, ReservedPage}
 
 -- ---- bytes
 

@@ -2,7 +2,7 @@
 
 ghost use Rattle.std.specs.Prelude.{◌≡◌, ℕ, ◌∷◌, [], List, Ok, length};
 ghost use Rattle.vb_ram.specs.Pages.{Pages};
-ghost use Rattle.vb_chain.specs.declared.Piece.{Piece};
+ghost use Rattle.vb_chain.specs.declared.pieces.Piece.{Piece};
 ghost use Rattle.vb_device.specs.Request.{page_request};
 ghost use Rattle.vb_device.specs.Request.{ArePages};
 ghost use Rattle.vb_device.specs.Request.{IsRequestPiece};

@@ -5,8 +5,8 @@ use Rattle.std.proofs.lemmas.List.{same_lists, get_or_default}
 use Rattle.std.proofs.Math.Nat.{div-add-mod}
 use Rattle.vb_model.specs.Layout.{buffer_page, buffer_offset}
 use Rattle.vb_ram.specs.Pages.{Pages, page_at, byte_at, SameBut, SameIn, Wrote}
-use Rattle.vb_ram.specs.Fields.{field_in, same_below, same_above, same_other}
-use Rattle.vb_ram.specs.Contents.{same_page_at, same_contents}
+use Rattle.vb_ram.proofs.FieldLaws.{field_in, same_below, same_above, same_other}
+use Rattle.vb_ram.proofs.Contents.{same_page_at, same_contents}
 use Rattle.vb_driver.specs.Coding.{Names}
 
 -- bytes that stood there already, written, change nothing

@@ -4,18 +4,18 @@ use Rattle.std.proofs.lemmas.Bool.{ne_eqb}
 use Rattle.vb_model.specs.Tests.{is_in}
 use Rattle.vb_model.specs.Layout.{buffer_page, buffer_offset}
 use Rattle.vb_ram.specs.Pages.{Pages, page_at, SameBut}
-use Rattle.vb_ram.specs.Fields.{same_page, same_trans}
-use Rattle.vb_chain.specs.declared.Piece.{Piece}
+use Rattle.vb_ram.proofs.FieldLaws.{same_page, same_trans}
+use Rattle.vb_chain.specs.declared.pieces.Piece.{Piece}
 use Rattle.vb_chain.specs.Written.{linked}
 use Rattle.vb_chain.specs.Table.{descriptor_at}
-use Rattle.vb_chain.specs.TableLaws.{descriptor_apart, same_parts}
+use Rattle.vb_chain.proofs.TableLaws.{descriptor_apart, same_parts}
 use Rattle.vb_ring.specs.declared.driver.Full.{Full}
 use Rattle.vb_ring.specs.declared.layout.Layout.{Layout}
 use Rattle.vb_ring.specs.Layout.{layout_of}
 use Rattle.vb_ring.specs.Ends.{DriverEnd, IsDriverEnd, outstanding, next_head, next_path, add_answer}
 use Rattle.vb_ring.specs.Calls.{AddsBy}
-use Rattle.vb_ring.specs.EntryLaws.{entries_apart}
-use Rattle.vb_ring.specs.MeaningLaws.{ring_apart, tracks_apart}
+use Rattle.vb_ring.proofs.EntryLaws.{entries_apart}
+use Rattle.vb_ring.proofs.MeaningLaws.{ring_apart, tracks_apart}
 use Rattle.vb_driver.specs.Coding.{Names}
 use Rattle.vb_driver.specs.State.{AreRequests}
 use Rattle.vb_driver.specs.Calls.{Posts}

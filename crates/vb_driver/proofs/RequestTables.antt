@@ -5,9 +5,9 @@ use Rattle.std.proofs.lemmas.Bool.Decides.{nat_tests}
 use Rattle.std.proofs.lemmas.List.{length-set, length-replicate, get_or-replicate, get_or_past}
 use Rattle.vb_ring.specs.Layout.{layout_of}
 use Rattle.vb_ring.specs.Entries.{is_own, is_head}
-use Rattle.vb_ring.specs.Numbers.{numbers_pass, numbers_rise, numbers_has, length_all}
+use Rattle.vb_ring.proofs.Numbers.{numbers_pass, numbers_rise, numbers_has, length_all}
 use Rattle.vb_ring.specs.Ends.{DriverEnd, IsDriverEnd, is_free, free_descriptors, outstanding, next_head, next_path, add_answer, after_add, after_take, claimed, released, fresh_end}
-use Rattle.vb_ring.specs.Owners.{claimed-at, released-at}
+use Rattle.vb_ring.proofs.OwnerLaws.{claimed-at, released-at}
 use Rattle.vb_ring.specs.declared.driver.Full.{Full}
 use Rattle.vb_ring.specs.declared.driver.Full.TheVariants.{TooFewFree}
 use Rattle.vb_driver.specs.State.{Side, AreRequests}

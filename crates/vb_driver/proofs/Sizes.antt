@@ -7,7 +7,8 @@ use Rattle.std.proofs.lemmas.List.FromFn.{length-range_with_len, get_or-range_wi
 use Rattle.vb_model.specs.Tests.{is_in}
 use Rattle.vb_model.specs.Limits.{is_config, is_between, is_power_of_two}
 use Rattle.vb_model.proofs.Tables.{list_all-at}
-use Rattle.vb_ram.specs.Limits.{AreWithinLimits, config_limits}
+use Rattle.vb_ram.specs.Limits.{AreWithinLimits}
+use Rattle.vb_ram.proofs.Limits.{config_limits}
 use Rattle.vb_ring.specs.Layout.{IsSize}
 
 abbrev passes : ℕ → Bool

@@ -8,7 +8,7 @@ use Rattle.vb_model.specs.Status.{contains, negotiate_refusal, status_refusal, s
 use Rattle.vb_model.specs.Life.{feature_refusal, accepted_before}
 use Rattle.vb_ram.specs.Pages.{Pages}
 use Rattle.vb_ring.specs.Layout.{IsSize, Fits, layout_of}
-use Rattle.vb_ring.specs.MeaningLaws.{fresh_shows, fresh_tracks}
+use Rattle.vb_ring.proofs.MeaningLaws.{fresh_shows, fresh_tracks}
 use Rattle.vb_status.specs.Answers.{refusal_in}
 use Rattle.vb_status.specs.declared.bits.StatusFault.{StatusFault}
 use Rattle.vb_driver.specs.State.{fresh_at}

@@ -3,7 +3,7 @@ use Rattle.std.proofs.Common.{◌≡◌, ◌∙◌, sym, ap, arith, ℕ, ◌+◌
 use Rattle.std.proofs.lemmas.Bool.{cases_lt, cases_eq}
 use Rattle.std.proofs.lemmas.List.{length-replicate, get_or-replicate}
 use Rattle.vb_ram.specs.Pages.{Pages, byte_at, SameBut, Wrote}
-use Rattle.vb_ram.specs.Fields.{same_page, but_trans, but_wider}
+use Rattle.vb_ram.proofs.FieldLaws.{same_page, but_trans, but_wider}
 use Rattle.vb_driver.specs.Coding.{AreZeroed}
 
 -- n zeros follow those that stand in front of them

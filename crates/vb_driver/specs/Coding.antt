@@ -5,7 +5,7 @@ use Rattle.vb_model.specs.Limits.{page_size}
 use Rattle.vb_model.specs.Layout.{buffer_page, buffer_offset}
 use Rattle.vb_model.specs.declared.layout.TheConstants.{REQUEST_BUFFER_SIZE, INFLATE_BUFFERS_PAGE}
 use Rattle.vb_ram.specs.Pages.{Pages, field, byte_at, page_at, frame_at, contents_at, SameIn}
-use Rattle.vb_chain.specs.declared.Descriptor.{Descriptor}
+use Rattle.vb_chain.specs.declared.descriptor.Descriptor.{Descriptor}
 use Rattle.vb_chain.specs.Table.{descriptor_at}
 
 -- the rings stand in the first pages, and the buffers follow

@@ -5,10 +5,10 @@ use Rattle.vb_model.specs.Layout.{ring_page, buffers_page, buffer_page, buffer_o
 use Rattle.vb_model.specs.Requests.{Request, Requests}
 use Rattle.vb_ram.specs.Pages.{Pages, page_at, SameIn}
 use Rattle.vb_ram.specs.Part.{QueuePart}
-use Rattle.vb_ram.specs.Fields.{field_in, same_page}
+use Rattle.vb_ram.proofs.FieldLaws.{field_in, same_page}
 use Rattle.vb_chain.specs.Table.{descriptor_at}
-use Rattle.vb_chain.specs.TableLaws.{descriptor_apart}
-use Rattle.vb_ring.specs.MeaningLaws.{ring_apart, tracks_apart}
+use Rattle.vb_chain.proofs.TableLaws.{descriptor_apart}
+use Rattle.vb_ring.proofs.MeaningLaws.{ring_apart, tracks_apart}
 use Rattle.vb_driver.specs.Coding.{Names, IsCoded}
 use Rattle.vb_driver.specs.State.{Side}
 use Rattle.vb_guest.specs.Line.{Line, IsRequest, heads_of, used_of}

@@ -4,11 +4,11 @@ use Rattle.std.proofs.Common.{sym, subst, arith}
 use Rattle.vb_model.specs.Layout.{ring_page, buffers_page, buffer_page, buffer_offset}
 use Rattle.vb_model.specs.Requests.{Request}
 use Rattle.vb_ram.specs.Pages.{Pages}
-use Rattle.vb_chain.specs.declared.Descriptor.{Descriptor}
+use Rattle.vb_chain.specs.declared.descriptor.Descriptor.{Descriptor}
 use Rattle.vb_chain.specs.Table.{descriptor_at}
 use Rattle.vb_chain.specs.Rules.{piece_of}
 use Rattle.vb_chain.specs.Chain.{ChainGives}
-use Rattle.vb_chain.specs.ChainLaws.{single_chain, no_fault}
+use Rattle.vb_chain.proofs.ChainLaws.{single_chain, no_fault}
 use Rattle.vb_driver.specs.Coding.{IsCoded, buffer_of}
 use Rattle.vb_device.specs.Request.{page_request}
 use Rattle.vb_device.proofs.OneRequest.{one_request}

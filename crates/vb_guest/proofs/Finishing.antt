@@ -13,7 +13,7 @@ use Rattle.vb_ram.specs.Part.{QueuePart}
 use Rattle.vb_chain.specs.Table.{descriptor_at}
 use Rattle.vb_ring.specs.Ends.{DeviceEnd}
 use Rattle.vb_ring.specs.Meaning.{UsedElem, ids, times, Shows, Tracks}
-use Rattle.vb_ring.specs.MeaningLaws.{used_tracks}
+use Rattle.vb_ring.proofs.MeaningLaws.{used_tracks}
 use Rattle.vb_ring.specs.Calls.{AddsUsedBy}
 use Rattle.vb_driver.specs.State.{Side}
 use Rattle.vb_guest.specs.Line.{Line, IsRequest, heads_of, used_of}

@@ -13,7 +13,7 @@ use Rattle.vb_model.specs.Guest.{Guest}
 use Rattle.vb_model.specs.Status.{contains, driver_ok}
 use Rattle.vb_ram.specs.Pages.{Pages, frame_at}
 use Rattle.vb_ram.specs.Part.{Part}
-use Rattle.vb_ram.specs.Limits.{config_limits}
+use Rattle.vb_ram.proofs.Limits.{config_limits}
 use Rattle.vb_driver.specs.State.{DriverState}
 use Rattle.vb_device.specs.Calls.{FinishesBy}
 use Rattle.vb_guest.specs.Stands.{Stands}

@@ -4,7 +4,7 @@ use Rattle.std.proofs.Common.{sym, ◌∙◌, ap, arith}
 use Rattle.vb_model.specs.Tests.{is_in}
 use Rattle.vb_model.specs.Guest.{zero_page}
 use Rattle.vb_ram.specs.Pages.{Page, Pages, number_of, contents_of, page_at, frame_at, contents_at}
-use Rattle.vb_ram.specs.Contents.{length-zero_page}
+use Rattle.vb_ram.proofs.Contents.{length-zero_page}
 use Rattle.vb_device.specs.Discards.{discarded}
 use Rattle.vb_guest.specs.Stands.{HasPages}
 use Rattle.vb_guest.proofs.Discarding.{with_entry, length-with_entry, with_entry-get, with_none-get}

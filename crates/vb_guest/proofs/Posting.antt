@@ -12,7 +12,7 @@ use Rattle.vb_model.specs.Layout.{ring_page, buffers_page, buffer_page, buffer_o
 use Rattle.vb_model.specs.Requests.{Request, Requests, all_requests, headed, outstanding, posting, IsLeastHead}
 use Rattle.vb_ram.specs.Pages.{Pages}
 use Rattle.vb_ram.specs.Part.{QueuePart}
-use Rattle.vb_ring.specs.Numbers.{numbers_pass, numbers_has, numbers_rise}
+use Rattle.vb_ring.proofs.Numbers.{numbers_pass, numbers_has, numbers_rise}
 use Rattle.vb_ring.specs.Entries.{is_own, is_head}
 use Rattle.vb_ring.specs.Ends.{DriverEnd, is_free, free_descriptors, next_head, after_add, outstanding as outstanding_in}
 use Rattle.vb_ring.specs.Meaning.{UsedElem, ids, times, Shows, Tracks}

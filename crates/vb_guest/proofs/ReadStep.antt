@@ -8,7 +8,7 @@ use Rattle.vb_model.specs.Pages.{place_of, is_used}
 use Rattle.vb_model.specs.Guest.{Guest}
 use Rattle.vb_model.specs.Refusals.{◌⇒◌, first_refusal, refusal_of, is_outside}
 use Rattle.vb_ram.specs.Pages.{Pages, byte_at, contents_at, Covers}
-use Rattle.vb_ram.specs.Contents.{contents_read}
+use Rattle.vb_ram.proofs.Contents.{contents_read}
 use Rattle.vb_ram.specs.Part.{Part}
 use Rattle.vb_driver.specs.State.{DriverState}
 use Rattle.vb_guest.specs.Stands.{Stands}

@@ -21,7 +21,7 @@ use Rattle.vb_ram.specs.Part.{Part, QueuePart}
 use Rattle.vb_ring.specs.declared.driver.RingBroken.{RingBroken as Broken}
 use Rattle.vb_ring.specs.declared.driver.RingBroken.TheVariants.{NotOutstanding}
 use Rattle.vb_ring.specs.Entries.{is_head, only_head}
-use Rattle.vb_ring.specs.EntryLaws.{id_shown}
+use Rattle.vb_ring.proofs.EntryLaws.{id_shown}
 use Rattle.vb_ring.specs.Ends.{used_answer, outstanding as outstanding_in}
 use Rattle.vb_ring.specs.Meaning.{ids}
 use Rattle.vb_ring.specs.Calls.{TakesUsedBy}

@@ -9,7 +9,7 @@ use Rattle.vb_ram.specs.Pages.{Pages}
 use Rattle.vb_ram.specs.Part.{QueuePart}
 use Rattle.vb_ring.specs.Entries.{is_head}
 use Rattle.vb_ring.specs.Meaning.{UsedElem, ids, times, Shows, Tracks}
-use Rattle.vb_ring.specs.MeaningLaws.{times-push, ids-push}
+use Rattle.vb_ring.proofs.MeaningLaws.{times-push, ids-push}
 use Rattle.vb_ring.specs.Calls.{TakesUsedBy}
 use Rattle.vb_driver.specs.State.{Side}
 use Rattle.vb_driver.specs.Calls.{after_reap}

@@ -13,7 +13,7 @@ use Rattle.vb_model.specs.Device.{Takes}
 use Rattle.vb_model.specs.Refusals.{◌⇒◌, first_refusal, refusal_of}
 use Rattle.vb_ram.specs.Pages.{Pages}
 use Rattle.vb_ram.specs.Part.{Part}
-use Rattle.vb_ram.specs.Limits.{config_limits}
+use Rattle.vb_ram.proofs.Limits.{config_limits}
 use Rattle.vb_chain.specs.Table.{descriptor_at}
 use Rattle.vb_chain.specs.Rules.{piece_of}
 use Rattle.vb_chain.specs.Chain.{ChainGives}

@@ -8,9 +8,9 @@ use Rattle.vb_model.specs.Requests.{Request, Requests}
 use Rattle.vb_ram.specs.Pages.{Pages}
 use Rattle.vb_ram.specs.Part.{QueuePart}
 use Rattle.vb_ring.specs.Entries.{next_entry}
-use Rattle.vb_ring.specs.EntryLaws.{entry_shown}
+use Rattle.vb_ring.proofs.EntryLaws.{entry_shown}
 use Rattle.vb_ring.specs.Meaning.{UsedElem, ids, times, Shows}
-use Rattle.vb_ring.specs.MeaningLaws.{times-push}
+use Rattle.vb_ring.proofs.MeaningLaws.{times-push}
 use Rattle.vb_driver.specs.Coding.{IsCoded}
 use Rattle.vb_driver.specs.State.{Side}
 use Rattle.vb_guest.specs.Line.{Line, IsRequest, heads_of, used_of}

@@ -14,8 +14,8 @@ use Rattle.vb_model.specs.Pages.{place_of, is_used}
 use Rattle.vb_model.specs.Guest.{Guest, frame_of, backed}
 use Rattle.vb_model.specs.Refusals.{◌⇒◌, first_refusal, refusal_of, is_outside}
 use Rattle.vb_model.specs.Driver.{overwritten, pages_needed, Supplying, Written}
-use Rattle.vb_ram.specs.declared.RamFault.{RamFault}
-use Rattle.vb_ram.specs.declared.RamFault.TheVariants.{OutOfRam as OutOfMemory, NeedsFrame}
+use Rattle.vb_ram.specs.declared.fault.RamFault.{RamFault}
+use Rattle.vb_ram.specs.declared.fault.RamFault.TheVariants.{OutOfRam as OutOfMemory, NeedsFrame}
 use Rattle.vb_ram.specs.Pages.{Pages, frame_at, Covers, Wrote, Supplied}
 use Rattle.vb_model.specs.Step.{HonestStep}
 use Rattle.vb_ram.specs.Part.{Part}

@@ -15,7 +15,7 @@ use Rattle.vb_model.specs.Driver.{overwritten}
 use Rattle.vb_model.specs.Orderly.{IsOrderly, is_reserved}
 use Rattle.vb_model.proofs.Tables.{length-each_from, each_page-get}
 use Rattle.vb_ram.specs.Pages.{Pages, page_at, frame_at, contents_at, contents_of, number_of, Wrote, Supplied}
-use Rattle.vb_ram.specs.Contents.{contents_wrote}
+use Rattle.vb_ram.proofs.Contents.{contents_wrote}
 use Rattle.vb_ram.specs.Part.{Part}
 use Rattle.vb_driver.specs.State.{DriverState}
 use Rattle.vb_frames.specs.Out.{is_out}

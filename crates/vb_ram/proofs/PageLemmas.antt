@@ -4,7 +4,7 @@ use Rattle.std.proofs.lemmas.Bool.{cases_eq}
 use Rattle.std.proofs.lemmas.List.{get_or-set_same, get_or-set_other, get_or_default, length-set}
 use Rattle.vb_model.specs.Guest.{zero_page}
 use Rattle.vb_ram.specs.Pages.{Page, Pages, byte_of, byte_at, number_of, contents_of, page_at, frame_at, contents_at, IsWhole, Wrote, Supplied}
-use Rattle.vb_ram.specs.Contents.{length-zero_page, zero_page-at}
+use Rattle.vb_ram.proofs.Contents.{length-zero_page, zero_page-at}
 use Rattle.vb_ram.specs.Memory.{IsMemory}
 use Rattle.vb_ram.specs.Put.{PutAt}
 

@@ -1,35 +1,14 @@
--- What a guest within the limits has, for the crates above.
-use Rattle.std.specs.Prelude.{◌≡◌, ℕ, ◌≤◌, true, ◌&&◌}
-use Rattle.std.proofs.Common.{arith}
-use Rattle.std.proofs.lemmas.Bool.Decides.{nat_tests}
-use Rattle.std.proofs.lemmas.Bool.{and_parts}
-use Rattle.vb_model.specs.Limits.{is_config, is_between, is_power_of_two}
+-- What a guest within the limits has.
+use Rattle.std.specs.Prelude.{ℕ, ◌≤◌}
+use Rattle.vb_model.specs.declared.limits.TheConstants.{MIN_GUEST_PAGES, MAX_GUEST_PAGES}
+use Rattle.vb_model.specs.declared.limits.TheConstants.{MIN_QUEUE_SIZE, MAX_QUEUE_SIZE}
+use Rattle.vb_model.specs.declared.limits.TheConstants.{MAX_PROCESSORS}
 
 -- The sizes of a guest lie between these limits.
 pub record AreWithinLimits (pages queue_size processors : ℕ) : Type 0 where
-  pub pages_least : 64 ≤ pages
-  pub pages_most : pages ≤ 16384
-  pub queue_least : 2 ≤ queue_size
-  pub queue_most : queue_size ≤ 128
+  pub pages_least : MIN_GUEST_PAGES ≤ pages
+  pub pages_most : pages ≤ MAX_GUEST_PAGES
+  pub queue_least : MIN_QUEUE_SIZE ≤ queue_size
+  pub queue_most : queue_size ≤ MAX_QUEUE_SIZE
   pub processors_least : 1 ≤ processors
-  pub processors_most : processors ≤ 4
-
--- the numbers between two are those that the test finds
-pub between : (least most n : ℕ) → is_between least most n ≡ true → (least ≤ n) × (n ≤ most)
-between least most n h = (grind (arith, nat_tests), grind (arith, nat_tests))
-
-pub config_limits : (pages queue_size processors : ℕ) → is_config pages queue_size processors ≡ true → AreWithinLimits pages queue_size processors
-config_limits pages queue_size processors h =
-    let all = and_parts (is_between 64 16384 pages && is_power_of_two pages) ((is_between 2 128 queue_size && is_power_of_two queue_size) && is_between 1 4 processors) h in
-    let rest = and_parts (is_between 2 128 queue_size && is_power_of_two queue_size) (is_between 1 4 processors) all.1 in
-    let of_pages = between 64 16384 pages (and_parts (is_between 64 16384 pages) (is_power_of_two pages) all.0).0 in
-    let of_queue = between 2 128 queue_size (and_parts (is_between 2 128 queue_size) (is_power_of_two queue_size) rest.0).0 in
-    let of_processors = between 1 4 processors rest.1 in
-    record {
-      pages_least = of_pages.0;
-      pages_most = of_pages.1;
-      queue_least = of_queue.0;
-      queue_most = of_queue.1;
-      processors_least = of_processors.0;
-      processors_most = of_processors.1;
-    }
+  pub processors_most : processors ≤ MAX_PROCESSORS

@@ -3,13 +3,15 @@ use Rattle.std.specs.Prelude.{ℕ, Bool, false, List, []}
 use Rattle.vb_model.specs.Requests.{Request}
 use Rattle.vb_model.specs.Guest.{LastStatistics, no_statistics}
 
--- Of one queue: how many available entries were taken and how many used entries written, both modulo 65,536, and the chains that are taken, oldest first (VIRTIO 1.1, 2.6).
+-- Of one queue: how many available entries were taken and how many used entries written, both
+-- modulo 65,536, and the chains that are taken, oldest first (VIRTIO 1.1, 2.6).
 pub record QueuePart : Type 0 where
   pub next_avail : ℕ
   pub next_used : ℕ
   pub taken : List Request
 
--- The device's state (VIRTIO 1.1, 2.1 and 5.5); the pace, loose frames and frames of its own are the profile's.
+-- The device's state (VIRTIO 1.1, 2.1 and 5.5); the pace, loose frames and frames of its own are
+-- the profile's.
 pub record Part : Type 0 where
   pub status : ℕ
   pub features : ℕ

@@ -1,4 +1,4 @@
-// How large a guest is.
+//! How large a guest is.
 
 ghost use Rattle.std.specs.Prelude.{◌≡◌, Option, Some, None, if◌then◌else◌};
 ghost use Rattle.std.specs.Prelude.{◌&&◌};
@@ -36,8 +36,8 @@ impl Config {
         })
     }
 
-    /// Whether each size is one that a guest may have: pages and descriptors a power of two, and all
-    /// three within their bounds (profile).
+    /// Whether each size is one that a guest may have: pages and descriptors a power of two, and
+    /// all three within their bounds (profile).
     pub fn is_within_limits(&self) -> bool
         ensures { result ≡ is_config self.now.pages self.now.queue_size self.now.processors }
     {

@@ -1,5 +1,6 @@
-// Numbers in guest memory, lowest byte first (VIRTIO 1.1, 1.4). Their bytes are std's `to_le_bytes` and
-// `from_le_bytes`, whose meaning computes and whose law back and forth std proves.
+//! Numbers in guest memory, lowest byte first (VIRTIO 1.1, 1.4). Their bytes are std's
+//! `to_le_bytes` and `from_le_bytes`, whose meaning computes and whose law back and forth std
+//! proves.
 
 ghost use Rattle.std.specs.Prelude.{◌≡◌, ◌^◌, ◌<◌, IsSome};
 ghost use Rattle.vb_ram.specs.Pages.{field, frame_at, Covers, PutField};

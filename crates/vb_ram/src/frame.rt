@@ -1,30 +1,38 @@
-// A frame of the host.
+//! A frame of the host.
 
 ghost use Rattle.std.specs.Prelude.{◌≡◌, ◌+◌, ◌≤◌, IfOk, IfErr, length};
 ghost use Rattle.vb_ram.specs.Put.{PutAt};
 ghost use Rattle.vb_model.specs.Guest.{zero_page};
+ghost use Rattle.vb_model.specs.declared.limits.TheConstants.{PAGE_SIZE};
 
-use crate::{PAGE_SIZE, RamFault};
+use crate::RamFault;
 use std::alloc::Global;
 use std::marker::Model;
+use vb_model::limits;
 
-/// A frame of the host: a number, and 4096 bytes. It can't be cloned, so whoever has it is the only
-/// one; that no other frame has its number is for those who make frames to keep.
+/// The bytes of a page, and of a frame.
+pub const PAGE_SIZE: usize = limits::PAGE_SIZE as usize;
+
+/// A frame of the host: a number, and `PAGE_SIZE` bytes. It can't be cloned, so whoever has it is
+/// the only one; that no other frame has its number is for those who make frames to keep.
 #[derive(Drop)]
 pub struct Frame {
+    /// Which of the host's frames it is.
     number: u32,
+    /// Its bytes, `PAGE_SIZE` of them.
     bytes: Vec<u8>,
 }
 
 impl Model for Frame {
     ghost use Rattle.std.specs.Prelude.{◌≡◌, vec_len};
     ghost use Rattle.vb_ram.specs.Pages.{Page};
+    ghost use Rattle.vb_model.specs.declared.limits.TheConstants.{PAGE_SIZE};
 
     ghost Value = { Page };
 
     ghost view = { λ f. record { number = f.number; bytes = f.bytes.items } };
 
-    ghost invariant = { λ f. vec_len f.bytes ≡ 4096 };
+    ghost invariant = { λ f. vec_len f.bytes ≡ PAGE_SIZE };
 }
 
 impl Frame {
@@ -40,7 +48,7 @@ impl Frame {
     /// The frame's number.
     pub fn number(&self) -> u32
         ensures number { result ≡ self.now.number }
-        ensures whole { length self.now.bytes ≡ 4096 }
+        ensures whole { length self.now.bytes ≡ PAGE_SIZE }
     {
         self.number
     }
@@ -48,7 +56,7 @@ impl Frame {
     /// The frame's bytes.
     pub(crate) fn bytes(&self) -> &[u8]
         ensures bytes { result.now ≡ self.now.bytes }
-        ensures whole { length result.now ≡ 4096 }
+        ensures whole { length result.now ≡ PAGE_SIZE }
     {
         &self.bytes
     }
@@ -62,11 +70,11 @@ impl Frame {
 
     /// Writes bytes from an offset on.
     pub(crate) fn put(&mut self, offset: usize, bytes: &[u8])
-        requires { offset + length bytes.now ≤ 4096 }
+        requires { offset + length bytes.now ≤ PAGE_SIZE }
         ensures put { PutAt self.old.bytes self.new.bytes offset bytes.now }
         ensures number { self.new.number ≡ self.old.number }
         ensures len { length self.new.bytes ≡ length self.old.bytes }
-        ensures whole { length self.new.bytes ≡ 4096 }
+        ensures whole { length self.new.bytes ≡ PAGE_SIZE }
     {
         put_bytes(&mut self.bytes, offset, bytes);
     }

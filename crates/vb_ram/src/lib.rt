@@ -6,11 +6,9 @@
 //! calls leaves.
 #![tactic(auto)]
 
-ghost use Rattle.std.specs.Prelude.{◌≡◌, ℕ, ◌+◌, ◌<◌, ◌≤◌, Option, Some, None, IsSome, IsOk, OnOk, OnErr, length, slice_index};
-ghost use Rattle.vb_ram.specs.Part.{Part};
-ghost use Rattle.vb_ram.specs.Pages.{Pages, byte_at, frame_at, Covers, Wrote};
-
+mod bytes;
 mod config;
+mod fault;
 mod fields;
 mod frame;
 mod laws;
@@ -18,84 +16,12 @@ mod memory;
 #[cfg(test)]
 mod tests;
 
+pub use bytes::GuestBytes;
 pub use config::Config;
+pub use fault::RamFault;
 pub use fields::{read_u16, read_u32, read_u64, write_u16, write_u32, write_u64};
-pub use frame::Frame;
+pub use frame::{Frame, PAGE_SIZE};
 pub use laws::{
     a_page_is_its_frame_and_bytes, a_read_gives_bytes, a_write_replaces_bytes, memory_stays_whole,
 };
 pub use memory::{Ram, SupplyRefused};
-use std::alloc::AllocError;
-use thiserror::Error;
-use vb_model::limits;
-
-/// The bytes of a page, and of a frame.
-pub const PAGE_SIZE: usize = limits::PAGE_SIZE as usize;
-
-/// Why a call on guest memory is refused.
-#[derive(Clone, Copy, Debug, PartialEq, Eq, Error)]
-pub enum RamFault {
-    /// The page is past the end of memory, or the bytes go over the end of the page.
-    #[error("out of guest memory")]
-    OutOfRam = 1,
-    /// The page has no frame, and a byte was to be written.
-    #[error("the page has no frame")]
-    NeedsFrame = 2,
-    /// The page has a frame already.
-    #[error("the page has a frame already")]
-    AlreadyBacked = 3,
-    /// There is no memory for the pages' table or for a frame's bytes.
-    #[error("out of memory")]
-    Memory = 4,
-}
-
-impl From<AllocError> for RamFault {
-    ghost use Rattle.vb_ram.specs.declared.RamFault.{RamFault};
-
-    ghost from_gives = { λ _ fault. fault ≡ RamFault.Memory };
-
-    fn from(_: AllocError) -> Self {
-        RamFault::Memory
-    }
-}
-
-/// What is seen of a guest's memory, whatever keeps it.
-pub trait GuestBytes {
-    /// Each page with its frame's number and bytes, or none.
-    ghost mem: { Self → Pages };
-
-    /// What is kept beside the bytes.
-    ghost part: { Self → Part };
-
-    /// How many pages there are.
-    fn pages(&self) -> u32
-        ensures { result ≡ length (mem self.now) };
-
-    /// Reads the bytes from an offset of a page on, as many as `out` has. A page with no frame
-    /// reads as zeros.
-    ///
-    /// Refused with `OutOfRam` where there is no such page, or where the offset and the length
-    /// together are over 4096; then `out` is as it was.
-    fn read(&self, page: u32, offset: usize, out: &mut [u8]) -> Result<(), RamFault>
-        ensures answers { Covers (mem self.now) page offset (length out.old) → IsOk result }
-        ensures out_of_ram { ¬ (Covers (mem self.now) page offset (length out.old)) → result ≡ Err RamFault.OutOfRam }
-        ensures covers { OnOk result (Covers (mem self.now) page offset (length out.old)) }
-        ensures bytes { OnOk result ((k : ℕ) → k < length out.old → slice_index out.new k ≡ byte_at (mem self.now) page (offset + k)) }
-        ensures unread { OnErr result (out.new ≡ out.old) };
-
-    /// Writes bytes from an offset of a page on, and changes nothing else.
-    ///
-    /// Refused with `OutOfRam` where there is no such page, or where the offset and the length
-    /// together are over 4096; then with `NeedsFrame` where a byte is to be written and the page
-    /// has no frame. A refused write changes nothing.
-    fn write(&mut self, page: u32, offset: usize, bytes: &[u8]) -> Result<(), RamFault>
-        ensures answers { Covers (mem self.old) page offset (length bytes.now) → IsSome (frame_at (mem self.old) page) → IsOk result }
-        ensures out_of_ram { ¬ (Covers (mem self.old) page offset (length bytes.now)) → result ≡ Err RamFault.OutOfRam }
-        ensures needs_frame { Covers (mem self.old) page offset (length bytes.now) → 0 < length bytes.now → frame_at (mem self.old) page ≡ None → result ≡ Err RamFault.NeedsFrame }
-        ensures empty { Covers (mem self.old) page offset (length bytes.now) → length bytes.now ≡ 0 → IsOk result }
-        ensures covers { OnOk result (Covers (mem self.old) page offset (length bytes.now)) }
-        ensures bytes { OnOk result (Wrote (mem self.old) (mem self.new) page offset bytes.now) }
-        ensures part { part self.new ≡ part self.old }
-        ensures unwritten { OnErr result (mem self.new ≡ mem self.old) }
-        ensures none_written { length bytes.now ≡ 0 → mem self.new ≡ mem self.old };
-}

@@ -1,6 +1,7 @@
-// A guest's memory.
+//! A guest's memory.
 
-ghost use Rattle.std.specs.Prelude.{◌≡◌, ℕ, ◌≤◌, ◌<◌, [], Option, Some, None, Err, IsSome, IsOk, OnOk, OnErr, IfOk, IfErr, IfNone, length, replicate};
+ghost use Rattle.std.specs.Prelude.{◌≡◌, ℕ, ◌≤◌, ◌<◌, [], Option, Some, None, Err, IsSome, IsOk};
+ghost use Rattle.std.specs.Prelude.{OnOk, OnErr, IfOk, IfErr, IfNone, length, replicate};
 ghost use Rattle.vb_ram.specs.Pages.{page_at, frame_at, Covers, Supplied, Discarded, IsWhole};
 
 use crate::{Frame, GuestBytes, PAGE_SIZE, RamFault};
@@ -10,6 +11,7 @@ use std::marker::Model;
 /// A guest's memory: pages, each with its frame or without one. Nothing is kept beside the bytes.
 #[derive(Drop)]
 pub struct Ram {
+    /// Each page's frame, or none.
     pages: Vec<Option<Frame>>,
 }
 
@@ -62,8 +64,10 @@ impl Ram {
     /// page has a frame. A refused call gives the frame back as it was, and changes nothing.
     pub fn supply(&mut self, page: u32, mut frame: Frame) -> Result<(), SupplyRefused>
         ensures answers { page < length self.old → frame_at self.old page ≡ None → IsOk result }
-        ensures out_of_ram { length self.old ≤ page → result ≡ Err (record { fault = RamFault.OutOfRam; frame = frame }) }
-        ensures already_backed { page < length self.old → IsSome (frame_at self.old page) → result ≡ Err (record { fault = RamFault.AlreadyBacked; frame = frame }) }
+        ensures out_of_ram { length self.old ≤ page →
+            result ≡ Err (record { fault = RamFault.OutOfRam; frame = frame }) }
+        ensures already_backed { page < length self.old → IsSome (frame_at self.old page) →
+            result ≡ Err (record { fault = RamFault.AlreadyBacked; frame = frame }) }
         ensures ok { OnOk result (Supplied self.old self.new page frame.number) }
         ensures err { OnErr result (self.new ≡ self.old) }
     {

@@ -1,4 +1,4 @@
-// Values from the formats, and each call with ample memory.
+//! Values from the formats, and each call with ample memory.
 
 use crate::{
     Config, Frame, GuestBytes, Ram, RamFault, read_u16, read_u32, read_u64, write_u16, write_u32,

@@ -1,12 +1,12 @@
 -- What the writes of an entry and its index make together.
 use Rattle.std.proofs.Common.{◌≡◌, ◌∙◌, ◌+◌, ◌%◌, ◌*◌, ℕ, ap, arith, sym}
 use Rattle.vb_ram.specs.Pages.{Pages, PutField, SameBut}
-use Rattle.vb_ram.specs.Fields.{field_in, same_below, same_above}
-use Rattle.vb_chain.specs.TableLaws.{descriptor_kept}
+use Rattle.vb_ram.proofs.FieldLaws.{field_in, same_below, same_above}
+use Rattle.vb_chain.proofs.TableLaws.{descriptor_kept}
 use Rattle.vb_ring.specs.declared.layout.Layout.{Layout}
 use Rattle.vb_ring.specs.Layout.{Fits}
 use Rattle.vb_ring.specs.Entries.{avail_index, avail_place, used_index, used_place}
-use Rattle.vb_ring.specs.FrameLaws.{byte_kept}
+use Rattle.vb_ring.proofs.FrameLaws.{byte_kept}
 use Rattle.vb_ring.specs.Calls.{PutsAvail, PutsUsed, Publishes}
 
 pub puts_avail : (m1 m2 m3 : Pages) (l : Layout) (q next head : ℕ) → PutField 2 m1 m2 l.avail.page (avail_place l q next) head → PutField 2 m2 m3 l.avail.page (avail_index l) ((next + 1) % 65536)

@@ -1,5 +1,7 @@
 -- What the two ends of a ring remember.
-use Rattle.std.specs.Prelude.{◌≡◌, ℕ, ◌+◌, ◌%◌, ◌<◌, Bool, List, [], Result, Ok, Err, Option, Some, None, is_none, if◌then◌else◌, nat_lt, length, take, map, replicate, slice_get, slice_index, slice_index_or}
+use Rattle.std.specs.Prelude.{◌≡◌, ℕ, ◌+◌, ◌%◌, ◌<◌, Bool, true, false, List, [], Result, Ok, Err}
+use Rattle.std.specs.Prelude.{Option, Some, None, is_none, if◌then◌else◌, nat_lt, length, take, map}
+use Rattle.std.specs.Prelude.{replicate, slice_get, slice_index, slice_index_or}
 use Rattle.vb_model.specs.Tests.{is_in, each_page}
 use Rattle.vb_ram.specs.Pages.{Pages}
 use Rattle.vb_ring.specs.declared.layout.Layout.{Layout}
@@ -10,7 +12,8 @@ use Rattle.vb_ring.specs.Layout.{Fits}
 use Rattle.vb_ring.specs.Entries.{is_own, is_head, next_id, only_head}
 use Rattle.vb_ring.specs.Numbers.{numbers}
 
--- The driver's end: how many heads it published and how many used entries it has seen, both modulo 65,536, and the head of the chain that each descriptor belongs to.
+-- The driver's end: how many heads it published and how many used entries it has seen, both modulo
+-- 65,536, and the head of the chain that each descriptor belongs to.
 pub record DriverEnd : Type 0 where
   pub layout : Layout
   pub size : ℕ
@@ -25,7 +28,8 @@ pub record IsDriverEnd (r : DriverEnd) : Type 0 where
   pub published : r.published < 65536
   pub seen : r.seen < 65536
 
--- The device's end: whether the queue is ready, how many available entries it took and how many used entries it added, both modulo 65,536.
+-- The device's end: whether the queue is ready, how many available entries it took and how many
+-- used entries it added, both modulo 65,536.
 pub record DeviceEnd : Type 0 where
   pub layout : Layout
   pub size : ℕ
@@ -65,6 +69,10 @@ next_head r = slice_get (free_descriptors r) 0
 abbrev pub next_path : DriverEnd → ℕ → List ℕ
 next_path r n = take n (free_descriptors r)
 
+-- Each descriptor is free, or is a chain of its own.
+abbrev pub AreSingle : DriverEnd → Type 0
+AreSingle r = (i : ℕ) → i < r.size → is_free r.owner i ≡ false → is_head r.owner i ≡ true
+
 -- ---- what a call makes of it
 
 -- A driver's end of which nothing is out.
@@ -82,12 +90,15 @@ released h owner = map (λ old. if is_own h old then None else old) owner
 -- The answer to a request of n pieces.
 abbrev pub add_answer : DriverEnd → ℕ → Result ℕ Full
 add_answer r n =
-    if nat_lt (length (free_descriptors r)) n then Err TooFewFree else Ok (slice_index (next_path r n) 0)
+    if nat_lt (length (free_descriptors r)) n
+    then Err TooFewFree
+    else Ok (slice_index (next_path r n) 0)
 
 -- The end after that answer.
 abbrev pub after_add : DriverEnd → ℕ → Result ℕ Full → DriverEnd
 after_add r n (Err full) = r
-after_add r n (Ok h) = record r { published = (r.published + 1) % 65536; owner = claimed (next_path r n) h r.owner }
+after_add r n (Ok h) =
+    record r { published = (r.published + 1) % 65536; owner = claimed (next_path r n) h r.owner }
 
 -- The used chain that stands next, on any bytes.
 abbrev pub used_answer : Pages → DriverEnd → Result (Option ℕ) RingBroken

@@ -1,8 +1,10 @@
--- The words of the two rings (VIRTIO 1.1, 2.6.6 and 2.6.8), and what stands next in them, on any bytes.
-use Rattle.std.specs.Prelude.{ℕ, ◌+◌, ◌-◌, ◌*◌, ◌%◌, Bool, false, Result, Ok, Err, Option, Some, None, if◌then◌else◌, ◌==◌, nat_le, List, slice_index_or}
+-- The words of the two rings (VIRTIO 1.1, 2.6.6 and 2.6.8), and what stands next in them, on any
+-- bytes.
+use Rattle.std.specs.Prelude.{ℕ, ◌+◌, ◌-◌, ◌*◌, ◌%◌, Bool, false, Result, Ok, Err, Option, Some}
+use Rattle.std.specs.Prelude.{None, if◌then◌else◌, ◌==◌, nat_le, List, slice_index_or}
 use Rattle.vb_ram.specs.Pages.{Pages, field}
-use Rattle.vb_chain.specs.declared.ChainFault.{ChainFault}
-use Rattle.vb_chain.specs.declared.ChainFault.TheVariants.{IndexJump}
+use Rattle.vb_chain.specs.declared.fault.ChainFault.{ChainFault}
+use Rattle.vb_chain.specs.declared.fault.ChainFault.TheVariants.{IndexJump}
 use Rattle.vb_ring.specs.declared.layout.Layout.{Layout}
 use Rattle.vb_ring.specs.declared.driver.RingBroken.{RingBroken}
 use Rattle.vb_ring.specs.declared.driver.RingBroken.TheVariants.{IndexAhead, NotOutstanding}
@@ -33,15 +35,18 @@ used_ahead mem l seen = ahead (field 2 mem l.used.page (used_index l)) seen
 
 -- Nothing where an index is 0 ahead, x where it is at most `most` ahead, and else a fault.
 abbrev pub next_by : {E : Type 0} → ℕ → ℕ → E → ℕ → Result (Option ℕ) E
-next_by a most fault x = if a == 0 then Ok None else (if nat_le a most then Ok (Some x) else Err fault)
+next_by a most fault x =
+    if a == 0 then Ok None else (if nat_le a most then Ok (Some x) else Err fault)
 
 -- The head that stands after the ones taken so far.
 abbrev pub next_entry : Pages → Layout → ℕ → ℕ → Result (Option ℕ) ChainFault
-next_entry mem l q taken = next_by (avail_ahead mem l taken) q IndexJump (field 2 mem l.avail.page (avail_place l q taken))
+next_entry mem l q taken =
+    next_by (avail_ahead mem l taken) q IndexJump (field 2 mem l.avail.page (avail_place l q taken))
 
 -- The id that stands after the ones seen so far, where at most `most` may stand there.
 abbrev pub next_id : Pages → Layout → ℕ → ℕ → ℕ → Result (Option ℕ) RingBroken
-next_id mem l q seen most = next_by (used_ahead mem l seen) most IndexAhead (field 4 mem l.used.page (used_place l q seen))
+next_id mem l q seen most =
+    next_by (used_ahead mem l seen) most IndexAhead (field 4 mem l.used.page (used_place l q seen))
 
 -- Whether an owner is this head.
 abbrev pub is_own : ℕ → Option ℕ → Bool

@@ -1,14 +1,16 @@
-// The device's end.
+//! The device's end.
 
-ghost use Rattle.std.specs.Prelude.{◌≡◌, ℕ, ◌+◌, ◌%◌, ◌<◌, ◌≤◌, ◌↔◌, IsTrue, true, false, if◌then◌else◌};
+ghost use Rattle.std.specs.Prelude.{◌≡◌, ℕ, ◌+◌, ◌%◌, ◌<◌, ◌≤◌, ◌↔◌, IsTrue, true, false};
+ghost use Rattle.std.specs.Prelude.{if◌then◌else◌};
 ghost use Rattle.std.specs.Int.{is_power_of_two};
+ghost use Rattle.vb_model.specs.declared.limits.TheConstants.{MIN_QUEUE_SIZE, MAX_QUEUE_SIZE};
 ghost use Rattle.vb_ram.specs.Pages.{Pages};
 ghost use Rattle.vb_ring.specs.Layout.{layout_of, IsInside, IsBacked};
 ghost use Rattle.vb_ring.specs.Ends.{IsDeviceEnd};
 ghost use Rattle.vb_ring.specs.Calls.{PopsBy, AddsUsedBy};
 
 use crate::entries::{next_avail, put_used};
-use crate::{Layout, MAX_QUEUE_SIZE};
+use crate::{Layout, MAX_QUEUE_SIZE, MIN_QUEUE_SIZE};
 use std::marker::Model;
 use vb_chain::{Chain, ChainFault, walk};
 use vb_ram::GuestBytes;
@@ -16,17 +18,24 @@ use vb_ram::GuestBytes;
 /// A chain that was popped: its head, and its pieces.
 #[derive(Drop)]
 pub struct Taken {
+    /// The number of its first descriptor.
     pub head: u16,
+    /// The pieces, in order.
     pub chain: Chain,
 }
 
 /// The device's end of a split virtqueue.
 #[derive(Drop)]
 pub struct Queue {
+    /// Where its ring lies.
     layout: Layout,
+    /// How many descriptors it has.
     size: u16,
+    /// Whether it was made ready.
     ready: bool,
+    /// How many available entries it took, modulo 65,536.
     next_avail: u16,
+    /// How many used entries it added, modulo 65,536.
     next_used: u16,
 }
 
@@ -35,16 +44,34 @@ impl Model for Queue {
 
     ghost Value = { DeviceEnd };
 
-    ghost view = { λ s. record { layout = s.layout; size = s.size; ready = s.ready; next_avail = s.next_avail; next_used = s.next_used } };
+    ghost view = { λ s. record {
+      layout = s.layout;
+      size = s.size;
+      ready = s.ready;
+      next_avail = s.next_avail;
+      next_used = s.next_used;
+    } };
 
-    ghost invariant = { λ s. IsDeviceEnd (record { layout = s.layout; size = s.size; ready = s.ready; next_avail = s.next_avail; next_used = s.next_used }) };
+    ghost invariant = { λ s. IsDeviceEnd (record {
+      layout = s.layout;
+      size = s.size;
+      ready = s.ready;
+      next_avail = s.next_avail;
+      next_used = s.next_used;
+    }) };
 }
 
 impl Queue {
     /// A queue from page `page` on that isn't ready, of the greatest size.
     pub fn new(page: u32) -> Queue
         ensures is_end { IsDeviceEnd result }
-        ensures value { result ≡ record { layout = layout_of page 128; size = 128; ready = false; next_avail = 0; next_used = 0 } }
+        ensures value { result ≡ record {
+          layout = layout_of page MAX_QUEUE_SIZE;
+          size = MAX_QUEUE_SIZE;
+          ready = false;
+          next_avail = 0;
+          next_used = 0;
+        } }
     {
         Queue {
             layout: Layout::at(page, MAX_QUEUE_SIZE),
@@ -77,13 +104,17 @@ impl Queue {
         self.ready
     }
 
-    /// Gives the queue a size, and so a layout: true where it is a power of two from 2 to `MAX_QUEUE_SIZE`, else nothing is changed.
+    /// Gives the queue a size, and so a layout: true where it is a power of two from 2 to
+    /// `MAX_QUEUE_SIZE`, else nothing is changed.
     pub fn set_size(&mut self, size: u16) -> bool
         ensures is_end { IsDeviceEnd self.new }
-        ensures answer { IsTrue result ↔ (IsTrue (is_power_of_two size) × (2 ≤ size) × (size ≤ 128)) }
-        ensures set { self.new ≡ (if result then record self.old { layout = layout_of self.old.layout.table size; size = size } else self.old) }
+        ensures answer { IsTrue result ↔ (IsTrue (is_power_of_two size) × (MIN_QUEUE_SIZE ≤ size) ×
+            (size ≤ MAX_QUEUE_SIZE)) }
+        ensures set { self.new ≡ (if result
+            then record self.old { layout = layout_of self.old.layout.table size; size = size }
+            else self.old) }
     {
-        let fits = size.is_power_of_two() && size >= 2 && size <= MAX_QUEUE_SIZE;
+        let fits = size.is_power_of_two() && size >= MIN_QUEUE_SIZE && size <= MAX_QUEUE_SIZE;
         if fits {
             self.layout = Layout::at(self.layout.table, size);
             self.size = size;
@@ -91,7 +122,8 @@ impl Queue {
         fits
     }
 
-    /// Starts the queue, or stops it. Either way both counts begin at 0 again, as a driver that starts over has them.
+    /// Starts the queue, or stops it. Either way both counts begin at 0 again, as a driver that
+    /// starts over has them.
     pub fn set_ready(&mut self, ready: bool)
         ensures { self.new ≡ record self.old { ready = ready; next_avail = 0; next_used = 0 } }
     {
@@ -125,7 +157,8 @@ impl Queue {
 
     /// Goes back by one chain, so that the one that was popped last stands next again.
     pub fn go_to_previous_position(&mut self)
-        ensures { self.new ≡ record self.old { next_avail = (self.old.next_avail + 65535) % 65536 } }
+        ensures { self.new ≡
+            record self.old { next_avail = (self.old.next_avail + 65535) % 65536 } }
     {
         self.next_avail = self.next_avail.wrapping_sub(1);
     }

@@ -1,4 +1,4 @@
-// The driver's end.
+//! The driver's end.
 
 ghost use Rattle.std.specs.Prelude.{◌≡◌, ℕ, ◌<◌, List, length};
 ghost use Rattle.vb_ram.specs.Pages.{Pages};
@@ -11,12 +11,13 @@ use crate::Layout;
 use crate::entries::{next_used, put_avail};
 use crate::owners::{claim, count_heads, free_path, is_head, lowest_free, release};
 use std::marker::Model;
-use vb_chain::{Piece, write_chain};
+use vb_chain::{MAX_DESCRIPTORS, Piece, write_chain};
 use vb_ram::GuestBytes;
 
-/// Why `add` refuses: fewer descriptors are free than the chain has pieces.
+/// Why `add` refuses.
 #[derive(Clone, Copy, Debug, PartialEq, Eq)]
 pub enum Full {
+    /// Fewer descriptors are free than the chain has pieces.
     TooFewFree,
 }
 
@@ -29,15 +30,20 @@ pub enum RingBroken {
     NotOutstanding,
 }
 
-/// The driver's end of a split virtqueue. It remembers how many chains it published and how many used
-/// elements it has seen, and for each descriptor the head of the chain that it belongs to.
+/// The driver's end of a split virtqueue. It remembers how many chains it published and how many
+/// used elements it has seen, and for each descriptor the head of the chain that it belongs to.
 #[derive(Drop)]
 pub struct DriverRing {
+    /// Where it lies.
     layout: Layout,
+    /// How many descriptors it has.
     size: u16,
+    /// How many chains were published, modulo 65,536.
     published: u16,
+    /// How many used elements were seen, modulo 65,536.
     seen: u16,
-    owner: [Option<u16>; 128],
+    /// For each descriptor the head of the chain that it belongs to, or none; past `size` unused.
+    owner: [Option<u16>; MAX_DESCRIPTORS],
 }
 
 impl Model for DriverRing {
@@ -46,13 +52,26 @@ impl Model for DriverRing {
 
     ghost Value = { DriverEnd };
 
-    ghost view = { λ s. record { layout = s.layout; size = s.size; published = s.published; seen = s.seen; owner = take s.size s.owner } };
+    ghost view = { λ s. record {
+      layout = s.layout;
+      size = s.size;
+      published = s.published;
+      seen = s.seen;
+      owner = take s.size s.owner;
+    } };
 
-    ghost invariant = { λ s. IsDriverEnd (record { layout = s.layout; size = s.size; published = s.published; seen = s.seen; owner = take s.size s.owner }) };
+    ghost invariant = { λ s. IsDriverEnd (record {
+      layout = s.layout;
+      size = s.size;
+      published = s.published;
+      seen = s.seen;
+      owner = take s.size s.owner;
+    }) };
 }
 
 impl DriverRing {
-    /// A ring of `size` descriptors from page `page` on, of which nothing is out. Its pages are to be zeroed before the first `add`.
+    /// A ring of `size` descriptors from page `page` on, of which nothing is out. Its pages are to
+    /// be zeroed before the first `add`.
     pub fn new(page: u32, size: u16) -> DriverRing
         requires { IsSize size }
         ensures is_end { IsDriverEnd result }
@@ -63,7 +82,7 @@ impl DriverRing {
             size,
             published: 0,
             seen: 0,
-            owner: [None; 128],
+            owner: [None; MAX_DESCRIPTORS],
         }
     }
 
@@ -91,8 +110,8 @@ impl DriverRing {
         count_heads(&self.owner[..usize::from(self.size)])
     }
 
-    /// Publishes a chain of these pieces on the lowest free descriptors, in rising order (VIRTIO 1.1, 2.6.13),
-    /// and answers its head.
+    /// Publishes a chain of these pieces on the lowest free descriptors, in rising order (VIRTIO
+    /// 1.1, 2.6.13), and answers its head.
     pub fn add<G: GuestBytes>(&mut self, ram: &mut G, pieces: &[Piece]) -> Result<u16, Full>
         requires backed { IsBacked (G.mem ram.old) self.old.layout }
         requires some { 0 < length pieces.now }
@@ -111,7 +130,8 @@ impl DriverRing {
         Ok(head)
     }
 
-    /// Takes the next chain that the device has used, and answers its head; its descriptors are free again (VIRTIO 1.1, 2.6.14).
+    /// Takes the next chain that the device has used, and answers its head; its descriptors are
+    /// free again (VIRTIO 1.1, 2.6.14).
     pub fn take_used<G: GuestBytes>(&mut self, ram: &G) -> Result<Option<u16>, RingBroken>
         requires { IsInside (G.mem ram.now) self.old.layout }
         ensures { TakesUsedBy (G.mem ram.now) self.old self.new result }

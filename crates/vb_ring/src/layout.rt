@@ -1,24 +1,34 @@
-// Where the parts of a split virtqueue lie (VIRTIO 1.1, 2.6).
+//! Where the parts of a split virtqueue lie (VIRTIO 1.1, 2.6).
 
 ghost use Rattle.std.specs.Prelude.{◌≡◌};
 ghost use Rattle.vb_ring.specs.Layout.{layout_of, IsSize, Fits};
 
+use vb_chain::DESCRIPTOR_SIZE;
+use vb_model::limits;
+
+/// The fewest descriptors that a queue may have (profile).
+pub const MIN_QUEUE_SIZE: u16 = limits::MIN_QUEUE_SIZE as u16;
+
 /// The most descriptors that a queue may have (profile).
-pub const MAX_QUEUE_SIZE: u16 = 128;
+pub const MAX_QUEUE_SIZE: u16 = limits::MAX_QUEUE_SIZE as u16;
 
 /// Where a ring begins: a page of guest memory, and an offset in bytes there.
 #[derive(Clone, Copy, Debug, PartialEq, Eq)]
 pub struct RingArea {
+    /// The number of the page.
     pub page: u32,
+    /// Bytes from the start of the page.
     pub offset: u16,
 }
 
-/// Where the parts of a split virtqueue lie: the page at whose start the descriptor table stands,
-/// the available ring and the used ring.
+/// Where the parts of a split virtqueue lie.
 #[derive(Clone, Copy, Debug, PartialEq, Eq)]
 pub struct Layout {
+    /// The page at whose start the descriptor table stands.
     pub table: u32,
+    /// Where the available ring begins.
     pub avail: RingArea,
+    /// Where the used ring begins.
     pub used: RingArea,
 }
 
@@ -39,7 +49,7 @@ impl Layout {
         ensures value { result ≡ layout_of page size }
         ensures fits { Fits result size }
     {
-        let avail = 16 * size;
+        let avail = DESCRIPTOR_SIZE as u16 * size;
         let used = (avail + (6 + 2 * size)).next_multiple_of(4);
         Layout {
             table: page,

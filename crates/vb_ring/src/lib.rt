@@ -1,5 +1,6 @@
-//! The two ends of a split virtqueue in guest memory (VIRTIO 1.1, 2.6): the driver publishes chains of descriptors
-//! and takes back the used ones, the device pops them and adds them to the used ring.
+//! The two ends of a split virtqueue in guest memory (VIRTIO 1.1, 2.6): the driver publishes chains
+//! of descriptors and takes back the used ones, the device pops them and adds them to the used
+//! ring.
 #![tactic(auto)]
 
 mod device;
@@ -15,7 +16,7 @@ pub use laws::{
     an_added_chain_is_read_back, chains_that_are_out_stay, other_pages_leave_a_ring_alone,
     single_heads_stay_low, zeroed_pages_show_nothing,
 };
-pub use layout::{Layout, MAX_QUEUE_SIZE, RingArea};
+pub use layout::{Layout, MAX_QUEUE_SIZE, MIN_QUEUE_SIZE, RingArea};
 
 #[cfg(test)]
 mod tests;

@@ -1,11 +1,14 @@
-// The driver's table: for each descriptor the head of the chain that it belongs to.
+//! The driver's table: for each descriptor the head of the chain that it belongs to.
 
-ghost use Rattle.std.specs.Prelude.{◌≡◌, ℕ, ◌<◌, ◌≤◌, IfSome, IfNone, Option, List, length, take, slice_get, slice_index};
+ghost use Rattle.std.specs.Prelude.{◌≡◌, ℕ, ◌<◌, ◌≤◌, IfSome, IfNone, Option, List, length, take};
+ghost use Rattle.std.specs.Prelude.{slice_get, slice_index};
+ghost use Rattle.vb_chain.specs.declared.pieces.TheConstants.{MAX_DESCRIPTORS};
 ghost use Rattle.vb_ring.specs.Entries.{is_own, is_head};
 ghost use Rattle.vb_ring.specs.Numbers.{numbers};
 ghost use Rattle.vb_ring.specs.Ends.{is_free, claimed, released};
 
 use arrayvec::ArrayVec;
+use vb_chain::MAX_DESCRIPTORS;
 
 /// Whether an owner is this head.
 fn is_own(owner: Option<u16>, head: u16) -> bool
@@ -26,7 +29,7 @@ pub fn is_head(owner: &[Option<u16>], index: u16) -> bool
 
 /// How many chains are out.
 pub fn count_heads(owner: &[Option<u16>]) -> u16
-    requires { length owner.now ≤ 128 }
+    requires { length owner.now ≤ MAX_DESCRIPTORS }
     ensures { result ≡ length (numbers (is_head owner.now) (length owner.now)) }
 {
     let mut count = 0;
@@ -40,7 +43,7 @@ pub fn count_heads(owner: &[Option<u16>]) -> u16
 
 /// The lowest free descriptor.
 pub fn lowest_free(owner: &[Option<u16>]) -> Option<u16>
-    requires { length owner.now ≤ 128 }
+    requires { length owner.now ≤ MAX_DESCRIPTORS }
     ensures { result ≡ slice_get (numbers (is_free owner.now) (length owner.now)) 0 }
 {
     for i in 0..owner.len() as u16 {
@@ -52,9 +55,11 @@ pub fn lowest_free(owner: &[Option<u16>]) -> Option<u16>
 }
 
 /// The lowest free descriptors, so many of them.
-pub fn free_path(owner: &[Option<u16>], count: usize) -> Option<ArrayVec<u16, 128>>
-    requires { length owner.now ≤ 128 }
-    ensures found { IfSome result (λ path. (path.items ≡ take count (numbers (is_free owner.now) (length owner.now))) × (length path.items ≡ count)) }
+pub fn free_path(owner: &[Option<u16>], count: usize) -> Option<ArrayVec<u16, MAX_DESCRIPTORS>>
+    requires { length owner.now ≤ MAX_DESCRIPTORS }
+    ensures found { IfSome result (λ path.
+        (path.items ≡ take count (numbers (is_free owner.now) (length owner.now))) ×
+        (length path.items ≡ count)) }
     ensures none { IfNone result (length (numbers (is_free owner.now) (length owner.now)) < count) }
 {
     let mut path = ArrayVec::new();

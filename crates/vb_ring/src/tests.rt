@@ -1,4 +1,5 @@
-// What no clause says: the layout and the bytes as the standard has them, and rings of any bytes read a second time.
+//! What no clause says: the layout and the bytes as the standard has them, and rings of any bytes
+//! read a second time.
 
 use crate::{DriverRing, Full, Layout, Queue, RingBroken, Taken};
 use std::alloc::Global;
@@ -470,8 +471,8 @@ impl Link {
         piece.addr == self.addr && u64::from(piece.len) == self.len && piece.writable == self.has(2)
     }
 
-    /// The first rule that the descriptor breaks, as number `at` of its chain, after writable ones or
-    /// after none.
+    /// The first rule that the descriptor breaks, as number `at` of its chain, after writable ones
+    /// or after none.
     fn broken(&self, at: u32, is_after_writable: bool) -> Option<ChainFault> {
         let end = self.addr.checked_add(self.len).unwrap_or(u64::MAX);
         if self.has(4) {

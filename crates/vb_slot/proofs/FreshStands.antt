@@ -13,7 +13,7 @@ use Rattle.vb_model.specs.Orderly.{IsOrderly, AreOrderly, is_reserved}
 use Rattle.vb_model.proofs.GuestSteps.{fresh_consistent}
 use Rattle.vb_ram.specs.declared.config.Config.{Config as Sizes}
 use Rattle.vb_ram.specs.Pages.{Pages, number_of, contents_of}
-use Rattle.vb_ram.specs.Contents.{length-zero_page}
+use Rattle.vb_ram.proofs.Contents.{length-zero_page}
 use Rattle.vb_ram.specs.Part.{Part}
 use Rattle.vb_device.specs.Calls.{attached}
 use Rattle.vb_driver.specs.State.{DriverState, fresh_driver}

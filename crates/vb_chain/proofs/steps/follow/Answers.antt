@@ -1,5 +1,5 @@
 use Rattle.std.proofs.Common.{rules, ◌≡◌, ◌+◌, ◌*◌, ◌∷◌, ◌++◌, [], List, ℕ, ap, sym, ◌∙◌, arith, false, subst, Bool, ◌||◌}
-use Rattle.vb_chain.specs.declared.Piece.{Piece}
+use Rattle.vb_chain.specs.declared.pieces.Piece.{Piece}
 use Rattle.vb_chain.specs.Table.{descriptor_at}
 use Rattle.vb_chain.specs.Rules.{first_fault, piece_of, has_next, is_writable}
 use Rattle.vb_chain.specs.Chain.{ChainGives, FaultGives}
@@ -9,25 +9,25 @@ use Rattle.vb_chain.proofs.steps.follow.Goals as goal
 pub loop-visited-init : goal.loop-visited-init
 loop-visited-init g c =
     let d = descriptor_at (g.G.GuestBytes.mem c.args.ram.now) c.args.table in
-    let start = walked_init d c.args.size (4096 * c.from-end.result) c.args.head (omega arith) in
+    let start = walked_init d c.args.size (4096 * c.from.result) c.args.head (omega arith) in
     record {
       more = omega arith;
       inside = omega arith;
-      walked = (c.args.head ∷ [], subst (λ (ps : List Piece). Walked d c.args.size (4096 * c.from-end.result) c.args.head (c.args.head ∷ []) 0 c.args.head false ps) (sym c.empty-chain.ensures) start);
+      walked = (c.args.head ∷ [], subst (λ (ps : List Piece). Walked d c.args.size (4096 * c.from.result) c.args.head (c.args.head ∷ []) 0 c.args.head false ps) (sym c.empty-chain.ensures) start);
     }
 
 pub returns-in-Some-clause-fault : goal.returns-in-Some-clause-fault
 returns-in-Some-clause-fault g c =
     let d = descriptor_at (g.G.GuestBytes.mem c.args.ram.now) c.args.table in
-    let end = 4096 * c.from-end.result in
+    let end = 4096 * c.from.result in
     let broken = ap (first_fault c.args.size end c.loop-visited.writing c.loop-visited.visited) (sym c.read_descriptor-descriptor.ensures) ∙ sym c.fault_of.ensures ∙ c.in-Some.is in
     let told = walked_fault d c.args.size end c.args.head c.loop-visited.invariant.walked.0 _ _ _ _ c.in-Some.fault c.loop-visited.invariant.walked.1 broken in
-    subst (λ (n : ℕ). FaultGives d c.args.size (4096 * n) c.args.head c.in-Some.fault) (c.from-end.ensures ∙ c.pages.ensures) told
+    subst (λ (n : ℕ). FaultGives d c.args.size (4096 * n) c.args.head c.in-Some.fault) (c.from.ensures ∙ c.pages.ensures) told
 
 pub returns-then-not-has_next-clause-chain : goal.returns-then-not-has_next-clause-chain
 returns-then-not-has_next-clause-chain g c =
     let d = descriptor_at (g.G.GuestBytes.mem c.args.ram.now) c.args.table in
-    let end = 4096 * c.from-end.result in
+    let end = 4096 * c.from.result in
     let x = c.read_descriptor-descriptor.result in
     let is : x ≡ d c.loop-visited.index = c.read_descriptor-descriptor.ensures in
     let sound = ap (first_fault c.args.size end c.loop-visited.writing c.loop-visited.visited) (sym is) ∙ sym c.fault_of.ensures ∙ c.in_default.is in
@@ -36,13 +36,13 @@ returns-then-not-has_next-clause-chain g c =
     let pieces : c.push.new.self ≡ c.loop-visited.chain ++ piece_of (d c.loop-visited.index) ∷ [] =
     c.push.ensures ∙ ap (λ (b : Bool). c.loop-visited.chain ++ record { addr = x.addr; len = x.len; writable = b } ∷ []) c.is_writable-writable.ensures
     ∙ ap (λ y. c.loop-visited.chain ++ piece_of y ∷ []) is in
-    subst (λ (n : ℕ). ChainGives d c.args.size (4096 * n) c.args.head c.push.new.self) (c.from-end.ensures ∙ c.pages.ensures)
+    subst (λ (n : ℕ). ChainGives d c.args.size (4096 * n) c.args.head c.push.new.self) (c.from.ensures ∙ c.pages.ensures)
     (subst (λ (ps : List Piece). ChainGives d c.args.size end c.args.head ps) (sym pieces) told)
 
 pub loop-visited-preserved : goal.loop-visited-preserved
 loop-visited-preserved g c =
     let d = descriptor_at (g.G.GuestBytes.mem c.args.ram.now) c.args.table in
-    let end = 4096 * c.from-end.result in
+    let end = 4096 * c.from.result in
     let x = c.read_descriptor-descriptor.result in
     let is : x ≡ d c.loop-visited.index = c.read_descriptor-descriptor.ensures in
     let sound = ap (first_fault c.args.size end c.loop-visited.writing c.loop-visited.visited) (sym is) ∙ sym c.fault_of.ensures ∙ c.in_default.is in

@@ -3,11 +3,11 @@ use Rattle.vb_chain.specs.Table.{descriptor_at}
 use Rattle.vb_chain.proofs.Unique.{answer_chain, answer_fault}
 use Rattle.std.proofs.Common.{Result, Ok, Err, List, ℕ, ◌<◌, ◌≤◌}
 use Rattle.std.specs.Prelude.{IfOk}
-use Rattle.vb_chain.specs.declared.Descriptor.{Descriptor}
-use Rattle.vb_chain.specs.declared.Piece.{Piece}
-use Rattle.vb_chain.specs.declared.ChainFault.{ChainFault}
+use Rattle.vb_chain.specs.declared.descriptor.Descriptor.{Descriptor}
+use Rattle.vb_chain.specs.declared.pieces.Piece.{Piece}
+use Rattle.vb_chain.specs.declared.fault.ChainFault.{ChainFault}
 use Rattle.vb_chain.specs.Chain.{ChainGives}
-use Rattle.vb_chain.specs.ChainLaws.{chain_size}
+use Rattle.vb_chain.proofs.ChainLaws.{chain_size}
 use Rattle.vb_chain.proofs.steps.walk.Goals as goal
 
 answer_size : (d : ℕ → Descriptor) (q end head : ℕ) (r : Result (List Piece) ChainFault) → IfOk r (ChainGives d q end head) → IfOk r (λ got. (0 < length got) × (length got ≤ q))

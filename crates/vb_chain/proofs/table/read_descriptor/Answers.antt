@@ -1,7 +1,7 @@
 use Rattle.std.proofs.Common.{◌≡◌, ◌∙◌, ap, arith, ◌*◌}
 use Rattle.vb_ram.specs.Pages.{field}
 use Rattle.vb_chain.specs.Table.{descriptor_at}
-use Rattle.vb_chain.specs.TableLaws.{same_parts}
+use Rattle.vb_chain.proofs.TableLaws.{same_parts}
 use Rattle.vb_chain.proofs.table.read_descriptor.Goals as goal
 
 pub returns : goal.returns

@@ -1,6 +1,6 @@
 use Rattle.std.proofs.Common.{arith, refl}
-use Rattle.vb_ram.specs.Fields.{put_at}
-use Rattle.vb_chain.specs.TableLaws.{descriptor_put}
+use Rattle.vb_ram.proofs.FieldLaws.{put_at}
+use Rattle.vb_chain.proofs.TableLaws.{descriptor_put}
 use Rattle.vb_chain.proofs.table.write_descriptor.Goals as goal
 
 pub returns-clause-put : goal.returns-clause-put

@@ -1,5 +1,5 @@
 use Rattle.std.proofs.Common.{sym, ◌∙◌, ap, Err}
-use Rattle.vb_ram.specs.declared.RamFault.TheVariants.{OutOfRam}
+use Rattle.vb_ram.specs.declared.fault.RamFault.TheVariants.{OutOfRam}
 use Rattle.vb_guest.proofs.Closing.{stands_same}
 use Rattle.vb_guest.proofs.Freed.{steps_quiet}
 use Rattle.vb_guest.proofs.WriteStep.{write_not_held, write_backed, write_outside, needs_frame, not_covered}

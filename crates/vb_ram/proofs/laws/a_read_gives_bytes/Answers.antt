@@ -1,5 +1,5 @@
 use Rattle.std.proofs.Common.{arith}
-use Rattle.vb_ram.specs.Contents.{contents_read}
+use Rattle.vb_ram.proofs.Contents.{contents_read}
 use Rattle.vb_ram.proofs.laws.a_read_gives_bytes.Goals as goal
 
 pub returns : goal.returns

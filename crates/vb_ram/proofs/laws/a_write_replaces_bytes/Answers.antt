@@ -1,5 +1,5 @@
 use Rattle.std.proofs.Common.{arith}
-use Rattle.vb_ram.specs.Contents.{contents_wrote}
+use Rattle.vb_ram.proofs.Contents.{contents_wrote}
 use Rattle.vb_ram.proofs.laws.a_write_replaces_bytes.Goals as goal
 
 pub returns : goal.returns

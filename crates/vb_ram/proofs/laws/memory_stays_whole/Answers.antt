@@ -1,4 +1,4 @@
-use Rattle.vb_ram.specs.Contents.{whole_but, whole_supplied, whole_discarded}
+use Rattle.vb_ram.proofs.Contents.{whole_but, whole_supplied, whole_discarded}
 use Rattle.vb_ram.proofs.laws.memory_stays_whole.Goals as goal
 
 pub returns-clause-written : goal.returns-clause-written

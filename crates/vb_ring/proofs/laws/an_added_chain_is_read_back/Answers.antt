@@ -1,4 +1,4 @@
-use Rattle.vb_ring.specs.Laws.{added_chain}
+use Rattle.vb_ring.proofs.AddLaws.{added_chain}
 use Rattle.vb_ring.proofs.laws.an_added_chain_is_read_back.Goals as goal
 
 pub returns : goal.returns

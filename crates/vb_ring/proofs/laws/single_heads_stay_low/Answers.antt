@@ -1,4 +1,4 @@
-use Rattle.vb_ring.specs.Laws.{next_low}
+use Rattle.vb_ring.proofs.AddLaws.{next_low}
 use Rattle.vb_ring.proofs.laws.single_heads_stay_low.Goals as goal
 
 pub returns : goal.returns

@@ -1,4 +1,4 @@
-use Rattle.vb_ring.specs.MeaningLaws.{fresh_shows, fresh_tracks}
+use Rattle.vb_ring.proofs.MeaningLaws.{fresh_shows, fresh_tracks}
 use Rattle.vb_ring.proofs.laws.zeroed_pages_show_nothing.Goals as goal
 
 pub returns : goal.returns

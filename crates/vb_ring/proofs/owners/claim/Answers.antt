@@ -5,7 +5,7 @@ use Rattle.std.proofs.lemmas.Bool.{cases_eq}
 use Rattle.vb_model.specs.Tests.{is_in}
 use Rattle.vb_model.proofs.Tables.{length-each_from}
 use Rattle.vb_ring.specs.Ends.{claimed}
-use Rattle.vb_ring.specs.Owners.{is_in-some, not_in, claimed-at}
+use Rattle.vb_ring.proofs.OwnerLaws.{is_in-some, not_in, claimed-at}
 use Rattle.vb_ring.proofs.owners.claim.Goals as goal
 
 -- a table whose path belongs to the head, and whose rest is as before, is the claimed one

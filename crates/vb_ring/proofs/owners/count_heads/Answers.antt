@@ -1,7 +1,8 @@
 use Rattle.std.proofs.Common.{◌≡◌, ◌+◌, ℕ, Bool, true, false, sym, ◌∙◌, ap, arith, length}
 use Rattle.std.proofs.lemmas.List.{length_push}
 use Rattle.vb_ring.specs.Entries.{is_head}
-use Rattle.vb_ring.specs.Numbers.{numbers, numbers_zero, numbers_yes, numbers_no, length-numbers}
+use Rattle.vb_ring.specs.Numbers.{numbers}
+use Rattle.vb_ring.proofs.Numbers.{numbers_zero, numbers_yes, numbers_no, length-numbers}
 use Rattle.vb_ring.proofs.owners.count_heads.Goals as goal
 use Rattle.vb_ring.proofs.owners.count_heads.Goals.{then-is_head, else-is_head}
 

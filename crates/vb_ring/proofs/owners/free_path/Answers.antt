@@ -1,7 +1,8 @@
 use Rattle.std.proofs.Common.{◌≡◌, ◌∙◌, ◌+◌, ◌<◌, ◌≤◌, ℕ, Bool, true, false, List, [], ◌∷◌, ◌++◌, length, take, sym, ap, arith, rules, min}
 use Rattle.std.proofs.lemmas.List.{length-take, take_all, take-append-le, length_push}
 use Rattle.vb_ring.specs.Ends.{is_free}
-use Rattle.vb_ring.specs.Numbers.{numbers, numbers_zero, numbers_yes, numbers_no, length-numbers}
+use Rattle.vb_ring.specs.Numbers.{numbers}
+use Rattle.vb_ring.proofs.Numbers.{numbers_zero, numbers_yes, numbers_no, length-numbers}
 use Rattle.vb_ring.proofs.owners.free_path.Goals as goal
 use Rattle.vb_ring.proofs.owners.free_path.Goals.{then-is_none+then-len-count, else-is_none, else-is_none-via-then-is_none+else-len-count, else-is_none-via-else-is_none}
 

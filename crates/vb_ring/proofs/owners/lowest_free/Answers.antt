@@ -1,7 +1,7 @@
 use Rattle.std.proofs.Common.{◌≡◌, ◌∙◌, ◌<◌, ℕ, Bool, true, sym, ap, arith, rules}
 use Rattle.std.specs.Prelude.{slice_get}
 use Rattle.vb_ring.specs.Ends.{is_free}
-use Rattle.vb_ring.specs.Numbers.{numbers_none, numbers_first}
+use Rattle.vb_ring.proofs.Numbers.{numbers_none, numbers_first}
 use Rattle.vb_ring.proofs.owners.lowest_free.Goals as goal
 
 pub returns-then-is_none : goal.returns-then-is_none

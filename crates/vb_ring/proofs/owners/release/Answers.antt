@@ -3,7 +3,7 @@ use Rattle.std.specs.Prelude.{slice_index_or, if◌then◌else◌}
 use Rattle.std.proofs.lemmas.List.{length-map, ext_get_or}
 use Rattle.vb_ring.specs.Entries.{is_own}
 use Rattle.vb_ring.specs.Ends.{released}
-use Rattle.vb_ring.specs.Owners.{released-at}
+use Rattle.vb_ring.proofs.OwnerLaws.{released-at}
 use Rattle.vb_ring.proofs.owners.release.Goals as goal
 
 -- a table whose entries are each freed or kept is the released one

@@ -2,7 +2,7 @@ use Rattle.std.proofs.Common.{◌≡◌, ◌∙◌, None, ap, arith, rules}
 use Rattle.std.proofs.lemmas.List.{length-replicate}
 use Rattle.vb_ram.specs.Pages.{Pages}
 use Rattle.std.specs.Prelude.{length}
-use Rattle.vb_ram.specs.Limits.{config_limits}
+use Rattle.vb_ram.proofs.Limits.{config_limits}
 use Rattle.vb_status.specs.Bits.{status_bits}
 use Rattle.vb_device.proofs.Both.{base_started}
 use Rattle.vb_device.proofs.Sizes.{size_is_power}

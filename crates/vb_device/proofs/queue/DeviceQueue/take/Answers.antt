@@ -2,7 +2,7 @@ use Rattle.std.proofs.Common.{◌≡◌, true, false, rules, ◌∙◌, ◌+◌,
 use Rattle.std.specs.Prelude.{All, length}
 use Rattle.std.proofs.lemmas.List.Elements.{All-append}
 use Rattle.vb_model.specs.Requests.{Request}
-use Rattle.vb_chain.specs.declared.Piece.{Piece}
+use Rattle.vb_chain.specs.declared.pieces.Piece.{Piece}
 use Rattle.vb_chain.specs.Table.{descriptor_at}
 use Rattle.vb_ring.specs.declared.device.Taken.{Taken}
 use Rattle.vb_ring.specs.Calls.{PopsBy}

@@ -1,7 +1,8 @@
 use Rattle.std.proofs.Common.{sym, subst, List}
 use Rattle.vb_model.specs.declared.places.Place.{Place}
 use Rattle.vb_pages.specs.PageState.{PageState}
-use Rattle.vb_ram.specs.Limits.{AreWithinLimits, config_limits}
+use Rattle.vb_ram.specs.Limits.{AreWithinLimits}
+use Rattle.vb_ram.proofs.Limits.{config_limits}
 use Rattle.vb_status.specs.Bits.{feature_bits}
 use Rattle.vb_driver.specs.State.{Side, DriverState, fresh_driver, IsDriver}
 use Rattle.vb_driver.proofs.Moving.{fresh_kept}

@@ -1,7 +1,7 @@
 use Rattle.std.proofs.Common.{◌≡◌, ℕ, List, ◌∙◌, ap, vec_len}
 use Rattle.vb_model.specs.Guest.{zero_page}
 use Rattle.vb_ram.specs.Pages.{Page}
-use Rattle.vb_ram.specs.Contents.{zero_page_is}
+use Rattle.vb_ram.proofs.Contents.{zero_page_is}
 use Rattle.vb_ram.proofs.frame.Frame.clear.Goals as goal
 
 pub returns : goal.returns

@@ -1,6 +1,6 @@
 use Rattle.std.proofs.Common.{◌≡◌, List, ℕ, ◌∙◌, ap, refl}
 use Rattle.vb_model.specs.Guest.{zero_page}
-use Rattle.vb_ram.specs.Contents.{zero_page_is}
+use Rattle.vb_ram.proofs.Contents.{zero_page_is}
 use Rattle.vb_ram.proofs.frame.Frame.fresh.Goals as goal
 
 pub returns-clause-ok : goal.returns-clause-ok

@@ -5,7 +5,7 @@ use Rattle.vb_model.proofs.Tables.{length-each_from}
 use Rattle.vb_chain.specs.Written.{IsRoute}
 use Rattle.vb_ring.specs.Numbers.{numbers}
 use Rattle.vb_ring.specs.Ends.{DriverEnd, IsDriverEnd, is_free, claimed, next_path}
-use Rattle.vb_ring.specs.MeaningLaws.{next_path-free}
+use Rattle.vb_ring.proofs.MeaningLaws.{next_path-free}
 use Rattle.vb_ring.specs.Calls.{AddsBy}
 use Rattle.vb_ring.proofs.Assemble.{adds_after, next_route}
 use Rattle.vb_ring.proofs.driver.DriverRing.add.Goals as goal

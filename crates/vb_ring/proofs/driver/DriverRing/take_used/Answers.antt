@@ -3,7 +3,8 @@ use Rattle.std.proofs.lemmas.List.{length-take-le, take_at, length-map}
 use Rattle.vb_ring.specs.declared.driver.RingBroken.{RingBroken}
 use Rattle.vb_ring.specs.declared.driver.RingBroken.TheVariants.{NotOutstanding}
 use Rattle.vb_ring.specs.Entries.{is_head, next_id, only_head}
-use Rattle.vb_ring.specs.Numbers.{numbers, length-numbers}
+use Rattle.vb_ring.specs.Numbers.{numbers}
+use Rattle.vb_ring.proofs.Numbers.{length-numbers}
 use Rattle.vb_ring.specs.Ends.{DriverEnd, IsDriverEnd, outstanding, released, after_take}
 use Rattle.vb_ring.specs.Calls.{TakesUsedBy}
 use Rattle.vb_ring.proofs.Assemble.{takes_by, takes_after, only_out, only_unknown, past_unknown}

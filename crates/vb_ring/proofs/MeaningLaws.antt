@@ -7,23 +7,24 @@ use Rattle.std.proofs.lemmas.Option.{slice_get-get_or, slice_get_past}
 use Rattle.vb_model.specs.Tests.{is_in, one_if}
 use Rattle.vb_model.proofs.Tables.{count_by-append, count_by-cons}
 use Rattle.vb_ram.specs.Pages.{Pages, byte_at, page_at}
-use Rattle.vb_chain.specs.declared.Descriptor.{Descriptor}
-use Rattle.vb_chain.specs.declared.Piece.{Piece}
+use Rattle.vb_chain.specs.declared.descriptor.Descriptor.{Descriptor}
+use Rattle.vb_chain.specs.declared.pieces.Piece.{Piece}
 use Rattle.vb_chain.specs.Table.{descriptor_at}
-use Rattle.vb_chain.specs.TableLaws.{descriptor_apart}
+use Rattle.vb_chain.proofs.TableLaws.{descriptor_apart}
 use Rattle.vb_chain.specs.Rules.{has_next}
 use Rattle.vb_chain.specs.Chain.{IsPath}
-use Rattle.vb_chain.specs.ChainLaws.{flags_next}
+use Rattle.vb_chain.proofs.ChainLaws.{flags_next}
 use Rattle.vb_chain.specs.Written.{linked, empty}
 use Rattle.vb_ring.specs.declared.layout.Layout.{Layout}
 use Rattle.vb_ring.specs.Layout.{IsSize, Fits, layout_of}
 use Rattle.vb_ring.specs.Entries.{avail_index, used_index, is_own, is_head, next_id, only_head}
-use Rattle.vb_ring.specs.Numbers.{numbers, numbers_pass, numbers_rise, numbers_none, length_gain, length_two, length-numbers}
+use Rattle.vb_ring.specs.Numbers.{numbers}
+use Rattle.vb_ring.proofs.Numbers.{numbers_pass, numbers_rise, numbers_none, length_gain, length_two, length-numbers}
 use Rattle.vb_ring.specs.Ends.{DriverEnd, IsDriverEnd, is_free, free_descriptors, heads_out, outstanding, next_path, claimed, released, after_add, after_take, used_answer, fresh_end}
-use Rattle.vb_ring.specs.Owners.{is_in-at, is_in-some, not_in, nowhere_in, take_inside, claimed-at, released-at}
+use Rattle.vb_ring.proofs.OwnerLaws.{is_in-at, is_in-some, not_in, nowhere_in, take_inside, claimed-at, released-at}
 use Rattle.vb_ring.specs.Meaning.{UsedElem, no_elem, ids, times, IsOut, IsTablePath, ShowsAvail, ShowsUsed, ShowsEntries, Shows, Tracks}
 use Rattle.vb_ring.specs.Calls.{Links}
-use Rattle.vb_ring.specs.EntryLaws.{id_shown, entries_apart, fresh_entries, index_zero}
+use Rattle.vb_ring.proofs.EntryLaws.{id_shown, entries_apart, fresh_entries, index_zero}
 
 -- ---- how often a head stands in a list
 

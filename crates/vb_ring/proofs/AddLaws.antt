@@ -11,18 +11,19 @@ use Rattle.vb_ring.specs.declared.driver.Full.TheVariants.{TooFewFree}
 use Rattle.vb_model.specs.Tests.{is_in}
 use Rattle.vb_model.proofs.Tables.{length-each_from}
 use Rattle.vb_ram.specs.Pages.{Pages}
-use Rattle.vb_chain.specs.declared.Piece.{Piece}
+use Rattle.vb_chain.specs.declared.pieces.Piece.{Piece}
 use Rattle.vb_chain.specs.Table.{descriptor_at}
 use Rattle.vb_chain.specs.Written.{linked, IsRoute, AreSound}
 use Rattle.vb_chain.specs.Chain.{ChainGives}
-use Rattle.vb_chain.specs.ChainLaws.{written_chain}
+use Rattle.vb_chain.proofs.ChainLaws.{written_chain}
 use Rattle.vb_ring.specs.declared.driver.Full.{Full}
 use Rattle.vb_ring.specs.Layout.{IsSize}
 use Rattle.vb_ring.specs.Entries.{is_own, is_head}
-use Rattle.vb_ring.specs.Numbers.{numbers, numbers_pass, numbers_rise, numbers_has, length_all, length-numbers, length_two}
-use Rattle.vb_ring.specs.Ends.{DriverEnd, IsDriverEnd, is_free, free_descriptors, next_head, next_path, outstanding, claimed, released, add_answer}
-use Rattle.vb_ring.specs.Owners.{is_in-at, nowhere_in, claimed-at}
-use Rattle.vb_ring.specs.MeaningLaws.{next_path-free, next_path-rise}
+use Rattle.vb_ring.specs.Numbers.{numbers}
+use Rattle.vb_ring.proofs.Numbers.{numbers_pass, numbers_rise, numbers_has, length_all, length-numbers, length_two}
+use Rattle.vb_ring.specs.Ends.{DriverEnd, IsDriverEnd, is_free, free_descriptors, next_head, next_path, outstanding, claimed, released, add_answer, AreSingle}
+use Rattle.vb_ring.proofs.OwnerLaws.{is_in-at, nowhere_in, claimed-at}
+use Rattle.vb_ring.proofs.MeaningLaws.{next_path-free, next_path-rise}
 use Rattle.vb_ring.specs.Calls.{Links, AddsBy}
 
 -- ---- what was added is a chain of these pieces
@@ -67,10 +68,6 @@ added_apart old new r1 r2 pieces h i j adds lt own =
     none_some h o a b = cc
 
 -- ---- chains of one descriptor
-
--- Each descriptor is free, or is a chain of its own.
-abbrev pub AreSingle : DriverEnd → Type 0
-AreSingle r = (i : ℕ) → i < r.size → is_free r.owner i ≡ false → is_head r.owner i ≡ true
 
 -- Where the chains that are out have one descriptor each, the next head is at most their number.
 pub next_low : (r : DriverEnd) (h : ℕ) → AreSingle r → next_head r ≡ Some h → h ≤ outstanding r

@@ -8,16 +8,16 @@ use Rattle.std.proofs.lemmas.Nat.{mod_below}
 use Rattle.std.proofs.lemmas.Bool.{cases_eq, cases_lt}
 use Rattle.std.proofs.Math.Nat.{mod-mod_of_dvd, dvd_of_mod-eq-zero, div-add-mod, mul-le-mul_left}
 use Rattle.vb_ram.specs.Pages.{byte_at, page_at, Pages, field, SameIn}
-use Rattle.vb_ram.specs.Fields.{same_page, field_in}
-use Rattle.vb_chain.specs.declared.Descriptor.{Descriptor}
+use Rattle.vb_ram.proofs.FieldLaws.{same_page, field_in}
+use Rattle.vb_chain.specs.declared.descriptor.Descriptor.{Descriptor}
 use Rattle.vb_chain.specs.Table.{descriptor_at}
-use Rattle.vb_chain.specs.TableLaws.{descriptor_kept}
+use Rattle.vb_chain.proofs.TableLaws.{descriptor_kept}
 use Rattle.vb_ring.specs.declared.layout.Layout.{Layout}
 use Rattle.vb_ring.specs.Layout.{IsSize, Fits}
 use Rattle.vb_ring.specs.Entries.{avail_index, avail_place, used_index, used_place, ahead, avail_ahead, used_ahead, next_by, next_entry, next_id}
 use Rattle.vb_ring.specs.Meaning.{UsedElem, no_elem, ids, ShowsAvail, ShowsUsed, ShowsEntries}
 use Rattle.vb_ring.specs.Frame.{Extent, IsIn, SameOutside}
-use Rattle.vb_ring.specs.FrameLaws.{outside_in}
+use Rattle.vb_ring.proofs.FrameLaws.{outside_in}
 use Rattle.vb_ring.specs.Calls.{table_extent, avail_entry, avail_counter, used_entry, used_counter, PutsUsed, Publishes}
 
 -- ---- places

@@ -3,8 +3,8 @@ use Rattle.std.specs.Prelude.{◌≡◌, ℕ, ◌+◌, ◌<◌, ◌≤◌, List,
 use Rattle.std.proofs.Common.{sym, ◌∙◌, ap, arith, map, take}
 use Rattle.std.specs.List.{list_any}
 use Rattle.std.proofs.lemmas.List.{ext_get_or, length-map, get_or-map, length-take-le, get_or-take}
-use Rattle.vb_chain.specs.declared.Descriptor.{Descriptor}
-use Rattle.vb_chain.specs.declared.Piece.{Piece}
+use Rattle.vb_chain.specs.declared.descriptor.Descriptor.{Descriptor}
+use Rattle.vb_chain.specs.declared.pieces.Piece.{Piece}
 use Rattle.std.specs.Prelude.{suc, slice_index_or, nat_lt, ◌||◌}
 use Rattle.std.proofs.lemmas.Bool.{lt-ltb, le-ltb, ltb-true}
 use Rattle.std.proofs.lemmas.Grind.{common_steps}

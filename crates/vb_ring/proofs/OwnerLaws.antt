@@ -7,7 +7,8 @@ use Rattle.std.proofs.lemmas.List.{length-map, get_or-map, get_or_past, get_or-t
 use Rattle.vb_model.specs.Tests.{is_in, each_page}
 use Rattle.vb_model.proofs.Tables.{each_page-get}
 use Rattle.vb_ring.specs.Entries.{is_own, is_head}
-use Rattle.vb_ring.specs.Numbers.{numbers, numbers_pass, numbers_rise}
+use Rattle.vb_ring.specs.Numbers.{numbers}
+use Rattle.vb_ring.proofs.Numbers.{numbers_pass, numbers_rise}
 use Rattle.vb_ring.specs.Ends.{is_free, claimed, released}
 
 -- A number that equals itself.

@@ -1,8 +1,8 @@
 use Rattle.std.specs.Prelude.{◌≡◌, ℕ, ◌+◌, ◌*◌}
 use Rattle.std.proofs.Common.{◌∙◌, ap, arith}
 use Rattle.vb_ram.specs.Pages.{page_at, Pages, SameIn, PutField}
-use Rattle.vb_ram.specs.Fields.{same_page, field_in, same_below}
-use Rattle.vb_chain.specs.declared.Descriptor.{Descriptor}
+use Rattle.vb_ram.proofs.FieldLaws.{same_page, field_in, same_below}
+use Rattle.vb_chain.specs.declared.descriptor.Descriptor.{Descriptor}
 use Rattle.vb_chain.specs.Table.{descriptor_at}
 
 -- a descriptor of these fields

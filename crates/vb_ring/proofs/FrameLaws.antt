@@ -4,7 +4,7 @@ use Rattle.std.proofs.Common.{sym, ◌∙◌, ap, subst, arith, inl, inr}
 use Rattle.std.proofs.lemmas.Bool.{cases_eq, cases_lt}
 use Rattle.std.proofs.lemmas.List.{get_or_past}
 use Rattle.vb_ram.specs.Pages.{Pages, page_at, number_of, frame_at, byte_at, field, SameBut, SameIn, PutField}
-use Rattle.vb_ram.specs.Fields.{same_page, field_in}
+use Rattle.vb_ram.proofs.FieldLaws.{same_page, field_in}
 use Rattle.vb_ring.specs.declared.layout.Layout.{Layout}
 use Rattle.vb_ring.specs.Layout.{IsInside, IsBacked}
 use Rattle.vb_ring.specs.Frame.{Extent, IsIn, IsOutside, IsOther, SameOutside}
