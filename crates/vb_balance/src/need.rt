@@ -2,9 +2,12 @@
 
 ghost use Rattle.std.specs.Prelude.{◌≡◌};
 
-use crate::GUESTS;
 use arrayvec::ArrayVec;
 use std::marker::Model;
+use vb_model::limits::MAX_GUESTS;
+
+/// Guests that share a host, at most, as a capacity.
+pub(crate) const GUESTS: usize = MAX_GUESTS as usize;
 
 /// What a guest has, and what it can spare, in pages.
 #[derive(Clone, Copy, Debug, PartialEq, Eq)]

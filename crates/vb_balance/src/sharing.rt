@@ -4,7 +4,8 @@ ghost use Rattle.std.specs.Prelude.{◌≡◌, ℕ, ◌+◌, ◌<◌, ◌≤◌,
 ghost use Rattle.vb_model.specs.Balance.{Need, AreTargets, missing, shortage};
 ghost use Rattle.vb_balance.specs.Giving.{has_given, IsNext, HaveGiven};
 
-use crate::{GUESTS, GuestNeed, Short, Targets};
+use crate::need::GUESTS;
+use crate::{GuestNeed, Short, Targets};
 use arrayvec::ArrayVec;
 use vb_model::limits::MAX_GUESTS;
 

@@ -5,11 +5,11 @@ use Rattle.std.specs.List.{list_any, list_all, range_with_len}
 use Rattle.vb_model.specs.Pages.{Block, covers, is_aligned, pages_of}
 use Rattle.vb_model.specs.declared.replies.Refusal.{Refusal}
 use Rattle.vb_model.specs.declared.replies.Refusal.TheVariants.{BadOrder, BadCpu, NoPages, NotHeld}
-use Rattle.vb_pages.specs.declared.PageFault.{PageFault}
-use Rattle.vb_pages.specs.declared.PageFault.TheVariants.{BadOrder as OrderTooLarge}
-use Rattle.vb_pages.specs.declared.PageFault.TheVariants.{BadCpu as NoSuchCpu}
-use Rattle.vb_pages.specs.declared.PageFault.TheVariants.{NoPages as NoFreeBlock}
-use Rattle.vb_pages.specs.declared.PageFault.TheVariants.{NotHeld as NoSuchBlock}
+use Rattle.vb_pages.specs.declared.fault.PageFault.{PageFault}
+use Rattle.vb_pages.specs.declared.fault.PageFault.TheVariants.{BadOrder as OrderTooLarge}
+use Rattle.vb_pages.specs.declared.fault.PageFault.TheVariants.{BadCpu as NoSuchCpu}
+use Rattle.vb_pages.specs.declared.fault.PageFault.TheVariants.{NoPages as NoFreeBlock}
+use Rattle.vb_pages.specs.declared.fault.PageFault.TheVariants.{NotHeld as NoSuchBlock}
 use Rattle.vb_pages.specs.FreePages.{FreePages, is_free as is_unused}
 use Rattle.vb_pages.specs.PageState.{PageState, cpu_count, Allocates, given}
 use Rattle.vb_pages.specs.Areas.{block_at}

@@ -3,8 +3,8 @@ use Rattle.std.specs.Prelude.{◌≡◌, ℕ, ◌<◌, Bool, true, false, List, 
 use Rattle.vb_model.specs.declared.calls.Claim.{Claim}
 use Rattle.vb_model.specs.declared.calls.Claim.TheVariants.{Gave, GaveNoFrame, GaveNoMemory}
 use Rattle.vb_ram.specs.Pages.{Page}
-use Rattle.vb_frames.specs.declared.Refused.{Refused}
-use Rattle.vb_frames.specs.declared.Refused.TheVariants.{NoFrame, Memory}
+use Rattle.vb_frames.specs.declared.keeper.Refused.{Refused}
+use Rattle.vb_frames.specs.declared.keeper.Refused.TheVariants.{NoFrame, Memory}
 
 -- whether the frame of this number is out; no frame past the end is
 abbrev pub is_out : List Bool → ℕ → Bool

@@ -24,7 +24,7 @@ use Rattle.vb_ring.specs.Layout.{IsSize}
 use Rattle.vb_driver.specs.State.{DriverState, IsDriver, fresh_side}
 use Rattle.vb_driver.specs.Answers.{has_frames, init_tests}
 use Rattle.vb_driver.specs.Calls.{InitsBy, InitRefused, Starts, GivesUp, IsNewRing}
-use Rattle.vb_frames.specs.declared.Refused.{Refused as WhyRefused}
+use Rattle.vb_frames.specs.declared.keeper.Refused.{Refused as WhyRefused}
 use Rattle.vb_frames.specs.Out.{is_out}
 use Rattle.vb_guest.specs.Line.{Line}
 use Rattle.vb_guest.specs.Stands.{Stands, Ties, HasParts, HasPages, IsIdle, beside_queues, beside_sides, beside_requests}

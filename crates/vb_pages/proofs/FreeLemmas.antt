@@ -11,7 +11,7 @@ use Rattle.vb_model.specs.Tests.{is_in, one_if}
 use Rattle.vb_model.specs.Pages.{pages_of, covers}
 use Rattle.vb_model.proofs.PageSteps.{covers_is}
 use Rattle.vb_pages.specs.Areas.{has, with_pages, without_pages, unreserved, block_at, IsBlock, HasNoBlock, IsChosen, Takes, IsMaximal, IsLowestFrom}
-use Rattle.vb_pages.specs.declared.FreeBlock.{FreeBlock}
+use Rattle.vb_pages.specs.declared.block.FreeBlock.{FreeBlock}
 use Rattle.vb_pages.specs.FreePages.{FreePages, in_lists, is_free, times_free, list_of, with_list, drained, TakesPages, Refills, Pops, TakesSingle, Tries, Serves, given_back, IsSound, HasRoomFor}
 use Rattle.vb_pages.proofs.Sets.{is_inside, without_parts, with_cases, with_old, with_new, length-with_pages, length-without_pages, block_bounds}
 use Rattle.vb_pages.proofs.Aligned.{aligned_down}

@@ -9,7 +9,7 @@ use Rattle.vb_model.specs.Pages.{Block, pages_of, covers, is_same_block}
 use Rattle.vb_model.specs.Driver.{with_block, without_block}
 use Rattle.vb_model.proofs.Tables.{count_by-cons}
 use Rattle.vb_model.proofs.PageSteps.{count-without_block}
-use Rattle.vb_pages.specs.declared.FreeBlock.{FreeBlock}
+use Rattle.vb_pages.specs.declared.block.FreeBlock.{FreeBlock}
 use Rattle.vb_pages.specs.Areas.{has, with_pages, without_pages, unreserved, block_at, IsBlock, LiesIn, IsMaximal, IsLowestFrom}
 use Rattle.vb_pages.specs.FreePages.{FreePages, in_lists, is_free, times_free, drained, TakesPages, Tries, Serves, given_back, IsSound, HasRoomFor}
 use Rattle.vb_pages.specs.Held.{HeldBlocks}

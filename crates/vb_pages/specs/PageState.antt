@@ -6,9 +6,9 @@ use Rattle.vb_model.specs.declared.limits.TheConstants.{MIN_GUEST_PAGES, MAX_GUE
 use Rattle.vb_model.specs.Limits.{reserved_pages}
 use Rattle.vb_model.specs.Pages.{Block, pages_of, size, covers, is_same_block}
 use Rattle.vb_model.specs.Driver.{with_block, without_block}
-use Rattle.vb_pages.specs.declared.FreeBlock.{FreeBlock}
-use Rattle.vb_pages.specs.declared.PageFault.{PageFault}
-use Rattle.vb_pages.specs.declared.PageFault.TheVariants.{NoPages}
+use Rattle.vb_pages.specs.declared.block.FreeBlock.{FreeBlock}
+use Rattle.vb_pages.specs.declared.fault.PageFault.{PageFault}
+use Rattle.vb_pages.specs.declared.fault.PageFault.TheVariants.{NoPages}
 use Rattle.vb_pages.specs.Areas.{with_pages, without_pages, unreserved, block_at, IsBlock, IsMaximal, IsLowestFrom}
 use Rattle.vb_pages.specs.Held.{HeldBlocks}
 use Rattle.vb_pages.specs.FreePages.{FreePages, is_free, times_free, drained, TakesPages, Serves, given_back}

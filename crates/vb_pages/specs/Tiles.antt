@@ -2,7 +2,7 @@
 use Rattle.std.specs.Prelude.{◌≡◌, ℕ, suc, ◌+◌, ◌-◌, ◌%◌, ◌^◌, ◌<◌, ◌≤◌, Bool, List, length, map, Option, Some, None, ◌⊎◌}
 use Rattle.std.specs.List.{list_any, range_with_len}
 use Rattle.vb_pages.specs.Table.{order_at, is_order}
-use Rattle.vb_pages.specs.declared.FreeBlock.{FreeBlock}
+use Rattle.vb_pages.specs.declared.block.FreeBlock.{FreeBlock}
 use Rattle.vb_pages.specs.Areas.{LiesOutside, block_at}
 
 -- some block of the table covers the page
