@@ -1,4 +1,4 @@
-// What guests have and can spare, and what they are asked to give.
+//! What guests have and can spare, and what they are asked to give.
 
 ghost use Rattle.std.specs.Prelude.{◌≡◌};
 

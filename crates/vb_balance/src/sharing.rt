@@ -1,4 +1,4 @@
-// Sharing out what is missing.
+//! Sharing out what is missing.
 
 ghost use Rattle.std.specs.Prelude.{◌≡◌, ℕ, ◌+◌, ◌<◌, ◌≤◌, List, Bool, true, false, length, replicate, nat_lt, MatchOption, MatchResult};
 ghost use Rattle.vb_model.specs.Balance.{Need, AreTargets, missing, shortage};

@@ -1,4 +1,4 @@
-// A table of a host's frames.
+//! A table of a host's frames.
 
 ghost use Rattle.std.specs.Prelude.{◌≡◌, ℕ, ◌+◌, ◌*◌, ◌<◌, ◌≤◌, ◌/◌, true, false, None, List, Bool, [], ◌∷◌, length, replicate, slice_index_or, slice_set, IfOk, MatchOption, count_by};
 ghost use Rattle.vb_model.specs.declared.calls.Claim.{Claim};

@@ -1,4 +1,4 @@
-// Claims one after the other, at a keeper that refuses and at a table.
+//! Claims one after the other, at a keeper that refuses and at a table.
 
 ghost use Rattle.std.specs.Prelude.{◌≡◌, ℕ, ◌+◌, ◌<◌, ◌≤◌, List, [], ◌∷◌, Bool, true, false, ◌≢◌, OnErr, IfOk};
 ghost use Rattle.vb_model.specs.declared.calls.Claim.{Claim};

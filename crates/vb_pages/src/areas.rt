@@ -1,4 +1,4 @@
-// The buddy areas: a set of pages, kept as its maximal blocks.
+//! The buddy areas: a set of pages, kept as its maximal blocks.
 
 ghost use Rattle.std.specs.Prelude.{◌≡◌, ℕ, ◌+◌, ◌%◌, ◌^◌, ◌<◌, ◌≤◌, ◌↔◌, List, length, false, IsTrue, IfOk, MatchOption, count_by, Some, None};
 ghost use Rattle.vb_model.specs.Pages.{pages_of};

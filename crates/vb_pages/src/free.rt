@@ -1,4 +1,4 @@
-// Free pages: the areas, and a list for each processor.
+//! Free pages: the areas, and a list for each processor.
 
 ghost use Rattle.std.specs.Prelude.{◌≡◌, ℕ, ◌+◌, ◌^◌, ◌<◌, ◌≤◌, List, Bool, [], ◌∷◌, ◌++◌, length, map, ◌==◌, replicate, MatchOption, IfOk, IfSome, OnSome, count_by, nat_lt, false};
 ghost use Rattle.std.specs.List.{flat_map};

@@ -1,4 +1,4 @@
-// Held blocks, by the page where they start.
+//! Held blocks, by the page where they start.
 
 ghost use Rattle.std.specs.Prelude.{◌≡◌, ℕ, ◌<◌, ◌≤◌, ◌↔◌, List, [], Some, false, true, IsTrue, IfOk};
 ghost use Rattle.std.specs.List.{list_any};

@@ -1,4 +1,4 @@
-// A processor's list of single pages.
+//! A processor's list of single pages.
 
 ghost use Rattle.std.specs.Prelude.{◌≡◌, ℕ, ◌+◌, ◌<◌, ◌≤◌, ◌==◌, List, Bool, [], ◌∷◌, ◌++◌, length, take, drop, MatchOption, count_by, nat_lt};
 ghost use Rattle.vb_model.specs.Tests.{one_if};

@@ -1,4 +1,4 @@
-// The calls of the page allocator.
+//! The calls of the page allocator.
 
 ghost use Rattle.std.specs.Prelude.{◌≡◌, ℕ, ◌+◌, ◌^◌, ◌<◌, ◌≤◌, ◌↔◌, ◌⊎◌, ◌==◌, ◌&&◌, ◌||◌, not, Bool, List, [], length, map, Ok, Err, IfOk, OnOk, OnErr, IfSome, IsTrue, count_by, false, true};
 ghost use Rattle.vb_model.specs.Tests.{is_in, one_if};

@@ -1,4 +1,4 @@
-// An ordered list of block starts, with room reserved.
+//! An ordered list of block starts, with room reserved.
 
 ghost use Rattle.std.specs.Prelude.{◌≡◌, ℕ, ◌<◌, ◌≤◌, [], ◌∷◌, ◌++◌, List, length, slice_get, slice_index, IfOk};
 ghost use Rattle.vb_pages.specs.Starts.{AllBelow, AllFrom};

@@ -1,4 +1,4 @@
-// What the worked examples say, and a walk against a plain model of sets and lists.
+//! What the worked examples say, and a walk against a plain model of sets and lists.
 
 ghost use Rattle.std.specs.Prelude.{◌≡◌, ◌≤◌, ◌<◌, length};
 ghost use Rattle.vb_pages.specs.FreePages.{free_count};

@@ -1,4 +1,4 @@
-// The bits of a status and of a set of features, and why a write of them is refused.
+//! The bits of a status and of a set of features, and why a write of them is refused.
 
 ghost use Rattle.std.specs.Prelude.{⊤, ◌∷◌, [], codes};
 

@@ -1,4 +1,4 @@
-// What the rules of status and features come to.
+//! What the rules of status and features come to.
 
 ghost use Rattle.std.specs.Prelude.{◌≡◌, ℕ, true, None, [], ◌∷◌, List, IsTrue};
 ghost use Rattle.vb_model.specs.Guest.{must_tell_host, version_1};

@@ -1,4 +1,4 @@
-// A port in memory.
+//! A port in memory.
 
 ghost use Rattle.std.specs.Prelude.{◌≡◌};
 ghost use Rattle.vb_ram.specs.Part.{no_part};

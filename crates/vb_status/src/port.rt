@@ -1,4 +1,4 @@
-// What a driver sees of its device.
+//! What a driver sees of its device.
 
 ghost use Rattle.std.specs.Prelude.{◌≡◌, OnOk, OnErr};
 ghost use Rattle.vb_model.specs.Status.{status_refusal, negotiate_refusal};

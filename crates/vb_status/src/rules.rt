@@ -1,4 +1,4 @@
-// Which writes of the status and which features are accepted.
+//! Which writes of the status and which features are accepted.
 
 ghost use Rattle.std.specs.Prelude.{◌≡◌, ◌==◌, IfOk};
 ghost use Rattle.vb_model.specs.Guest.{must_tell_host, version_1};

@@ -1,4 +1,4 @@
-// A host: its frames, its guests, and the devices that no guest has yet.
+//! A host: its frames, its guests, and the devices that no guest has yet.
 
 ghost use Rattle.std.specs.Prelude.{◌≡◌, ◌<◌, ◌≤◌, ℕ, true, All, IfOk, IfErr, OnErr, OnOk, map, ◌++◌, [], vec_len, vec_capacity, ◌∷◌, List, Bool, IsTrue};
 ghost use Rattle.vb_model.specs.Brought.{is_brought, is_call_brought, is_query_brought};
