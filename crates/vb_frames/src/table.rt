@@ -3,8 +3,8 @@
 ghost use Rattle.std.specs.Prelude.{◌≡◌, ℕ, ◌+◌, ◌*◌, ◌<◌, ◌≤◌, ◌/◌, true, false, None, List, Bool, [], ◌∷◌, length, replicate, slice_index_or, slice_set, IfOk, MatchOption, count_by};
 ghost use Rattle.vb_model.specs.declared.calls.Claim.{Claim};
 ghost use Rattle.vb_model.specs.World.{Gives};
-ghost use Rattle.vb_frames.specs.Flags.{flag};
-ghost use Rattle.vb_frames.specs.Groups.{IsIn, IsGrouped};
+ghost use Rattle.vb_frames.specs.Flags.{is_flagged};
+ghost use Rattle.vb_frames.specs.Groups.{IsInGroup, IsGrouped};
 ghost use Rattle.vb_frames.specs.Out.{IsFree, AllOut, AllAnswered, TableAnswers, is_out};
 
 use crate::{FrameKeeper, Refused};
@@ -39,8 +39,8 @@ impl Model for FrameTable {
 
 /// The first flag that isn't set.
 fn first_free(flags: &[bool]) -> Option<usize>
-    ensures { MatchOption result ((k : ℕ) → k < length flags.now → flag flags.now k ≡ true)
-        (λ n. IsFree flags.now n × ((k : ℕ) → k < n → flag flags.now k ≡ true)) }
+    ensures { MatchOption result ((k : ℕ) → k < length flags.now → is_flagged flags.now k ≡ true)
+        (λ n. IsFree flags.now n × ((k : ℕ) → k < n → is_flagged flags.now k ≡ true)) }
 {
     for (n, out) in flags.iter().enumerate() {
         if !*out {
@@ -54,9 +54,9 @@ fn first_free(flags: &[bool]) -> Option<usize>
 fn group_flags(out: &[bool], group: usize) -> &[bool]
     requires few { length out.now ≤ 65536 }
     requires group { group < 256 }
-    ensures at { (k : ℕ) → k < length result.now → flag result.now k ≡ flag out.now (256 * group + k) }
-    ensures all { (n : ℕ) → IsIn out.now group n → n < 256 * group + length result.now }
-    ensures only { (k : ℕ) → k < length result.now → IsIn out.now group (256 * group + k) }
+    ensures at { (k : ℕ) → k < length result.now → is_flagged result.now k ≡ is_flagged out.now (256 * group + k) }
+    ensures all { (n : ℕ) → IsInGroup out.now group n → n < 256 * group + length result.now }
+    ensures only { (k : ℕ) → k < length result.now → IsInGroup out.now group (256 * group + k) }
 {
     let start = (group * GROUP).min(out.len());
     let end = (start + GROUP).min(out.len());

@@ -11,7 +11,7 @@ use Rattle.vb_pages.specs.declared.fault.PageFault.{PageFault}
 use Rattle.vb_pages.specs.declared.fault.PageFault.TheVariants.{NoPages}
 use Rattle.vb_pages.specs.Areas.{with_pages, without_pages, unreserved, block_at, IsBlock, IsMaximal, IsLowestFrom}
 use Rattle.vb_pages.specs.Held.{HeldBlocks}
-use Rattle.vb_pages.specs.FreePages.{FreePages, is_free, times_free, drained, TakesPages, Serves, given_back}
+use Rattle.vb_pages.specs.FreePages.{FreePages, is_free_in, times_free, drained, TakesPages, Serves, given_back}
 
 -- the free pages, and the held blocks by rising start
 pub record PageState : Type 0 where
@@ -28,7 +28,7 @@ cpu_count s = length s.free.lists
 
 -- in the areas or in a processor's list
 abbrev pub is_free_page : PageState → ℕ → Bool
-is_free_page s page = is_free s.free page
+is_free_page s page = is_free_in s.free page
 
 -- in a held block
 abbrev pub is_held_page : PageState → ℕ → Bool
@@ -43,18 +43,18 @@ abbrev pub is_unreserved : PageState → ℕ → Bool
 is_unreserved s page = nat_le reserved_pages page && nat_lt page (page_count s)
 
 -- all pages but the reserved ones are free, in the areas
-abbrev pub fresh : ℕ → ℕ → PageState
-fresh pages cpus = record { free = record { areas = unreserved pages; lists = replicate cpus [] }; held = [] }
+abbrev pub new_page_state : ℕ → ℕ → PageState
+new_page_state pages cpus = record { free = record { areas = unreserved pages; lists = replicate cpus [] }; held = [] }
 
 -- each page of the block is free
 abbrev pub IsWhollyFree : PageState → Block → Type 0
 IsWhollyFree s b = (page : ℕ) → IsTrue (covers page b) → IsTrue (is_free_page s page)
 
 -- a request for a block of this order
-abbrev pub Allocates : PageState → ℕ → ℕ → Result ℕ PageFault → PageState → Type 0
-Allocates s cpu order (Ok start) new =
+abbrev pub AllocatesBlock : PageState → ℕ → ℕ → Result ℕ PageFault → PageState → Type 0
+AllocatesBlock s cpu order (Ok start) new =
     (free : FreePages) × Serves s.free cpu order (Some start) free × (new ≡ record { free = free; held = with_block (block_at start order) s.held })
-Allocates s cpu order (Err fault) new =
+AllocatesBlock s cpu order (Err fault) new =
     (fault ≡ NoPages) × Serves s.free cpu order None new.free × (new.held ≡ s.held)
 
 -- a block comes back
@@ -67,8 +67,8 @@ TakesFree s pages new =
     TakesPages (drained s.free).areas pages new.free.areas × (new.free.lists ≡ (drained s.free).lists) × (new.held ≡ s.held)
 
 -- the block goes into the areas
-abbrev pub given : Block → PageState → PageState
-given b s = record s { free = record s.free { areas = with_pages (pages_of b) s.free.areas } }
+abbrev pub with_free_block : Block → PageState → PageState
+with_free_block b s = record s { free = record s.free { areas = with_pages (pages_of b) s.free.areas } }
 
 -- the lowest maximal free block of at least this order from a page on leaves the areas, after all lists were drained
 abbrev pub Isolates : PageState → ℕ → ℕ → Option FreeBlock → PageState → Type 0
@@ -88,8 +88,8 @@ pub record IsKept (free : FreePages) (held : HeldBlocks) : Type 0 where
   pub pages : held.pages ≡ length free.areas
 
 -- how many pages and processors a guest may have
-abbrev pub IsSize : ℕ → ℕ → Type 0
-IsSize pages cpus = (MIN_GUEST_PAGES ≤ pages) × (pages ≤ MAX_GUEST_PAGES) × (1 ≤ cpus) × (cpus ≤ MAX_PROCESSORS)
+abbrev pub IsGuestSize : ℕ → ℕ → Type 0
+IsGuestSize pages cpus = (MIN_GUEST_PAGES ≤ pages) × (pages ≤ MAX_GUEST_PAGES) × (1 ≤ cpus) × (cpus ≤ MAX_PROCESSORS)
 
 -- the block is there, and each of its pages was taken: it is neither reserved nor free nor held
 abbrev pub HasRoomIn : PageState → Block → Type 0

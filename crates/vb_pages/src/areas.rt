@@ -3,18 +3,18 @@
 ghost use Rattle.std.specs.Prelude.{◌≡◌, ℕ, ◌+◌, ◌%◌, ◌^◌, ◌<◌, ◌≤◌, ◌↔◌, List, length, false, IsTrue, IfOk, MatchOption, count_by, Some, None};
 ghost use Rattle.vb_model.specs.Pages.{pages_of};
 ghost use Rattle.vb_pages.specs.Table.{order_at};
-ghost use Rattle.vb_pages.specs.Areas.{has, with_pages, without_pages, unreserved, block_at, IsBlock, IsMaximal, LiesOutside, Takes, IsLowestFrom};
+ghost use Rattle.vb_pages.specs.Areas.{has, with_pages, without_pages, unreserved, block_at, IsBlock, IsMaximal, LiesOutside, TakesBlock, IsLowestFrom};
 ghost use Rattle.vb_pages.specs.Tiles.{IsBuddy, HasRoom, IsTiled, set_of, IsLowestListed};
 
 use crate::FreeBlock;
 use crate::table::Table;
 use std::alloc::{AllocError, Global};
 use std::marker::Model;
-use vb_model::limits::{MAX_ORDER, RESERVED_PAGES};
+use vb_model::limits::{MAX_GUEST_PAGES, MAX_ORDER, RESERVED_PAGES};
 
 /// How many pages a block of the order has.
 pub fn size_of(order: u32) -> u32
-    requires { order ≤ 9 }
+    requires { order ≤ MAX_ORDER }
     ensures size { result ≡ 2 ^ order }
     ensures small { result ≤ 512 }
 {
@@ -23,9 +23,9 @@ pub fn size_of(order: u32) -> u32
 
 /// Where the other half of the next larger block starts.
 fn buddy_of(start: u32, order: u32) -> u32
-    requires order { order ≤ 9 }
+    requires order { order ≤ MAX_ORDER }
     requires aligned { start % 2 ^ order ≡ 0 }
-    requires small { start ≤ 16384 }
+    requires small { start ≤ MAX_GUEST_PAGES }
     ensures { IsBuddy start order result }
 {
     let size = size_of(order);
@@ -70,9 +70,9 @@ fn put_rest(table: &mut Table, start: u32, whole: u32, taken: u32)
 /// Takes the block out that a request of this order gets.
 fn take_block(table: &mut Table, order: u32) -> Option<u32>
     requires tiled { IsTiled table.old }
-    requires order { order ≤ 9 }
+    requires order { order ≤ MAX_ORDER }
     ensures tiled { IsTiled table.new }
-    ensures taken { Takes (set_of table.old) order result (set_of table.new) }
+    ensures taken { TakesBlock (set_of table.old) order result (set_of table.new) }
 {
     for larger in order..=MAX_ORDER {
         if let Some(start) = table.first(larger) {
@@ -127,7 +127,7 @@ impl Model for Areas {
 impl Areas {
     /// All of so many pages but the reserved ones.
     pub fn new(alloc: Global, pages: u32) -> Result<Self, AllocError>
-        requires { pages ≤ 16384 }
+        requires { pages ≤ MAX_GUEST_PAGES }
         ensures { IfOk result (λ a. a ≡ unreserved pages) }
     {
         let mut areas = Areas {
@@ -141,7 +141,7 @@ impl Areas {
     /// Puts all pages in but the reserved ones.
     fn fill(&mut self, pages: u32)
         requires pages { pages ≡ length self.old }
-        requires small { pages ≤ 16384 }
+        requires small { pages ≤ MAX_GUEST_PAGES }
         requires empty { (page : ℕ) → has self.old page ≡ false }
         ensures { self.new ≡ unreserved pages }
     {
@@ -159,8 +159,8 @@ impl Areas {
 
     /// Takes what a request of this order gets.
     pub fn take(&mut self, order: u32) -> Option<u32>
-        requires { order ≤ 9 }
-        ensures { Takes self.old order result self.new }
+        requires { order ≤ MAX_ORDER }
+        ensures { TakesBlock self.old order result self.new }
     {
         let start = take_block(&mut self.table, order)?;
         self.count -= size_of(order);
@@ -192,7 +192,7 @@ impl Areas {
 
     /// Puts all pages back in but the reserved ones.
     pub fn renew(&mut self)
-        requires { length self.old ≤ 16384 }
+        requires { length self.old ≤ MAX_GUEST_PAGES }
         ensures { self.new ≡ unreserved (length self.old) }
     {
         self.table.clear();

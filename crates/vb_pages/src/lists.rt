@@ -18,7 +18,7 @@ pub const BATCH: usize = 8;
 /// Single free pages: what was put in last comes out first.
 #[derive(Drop)]
 pub struct PageList {
-    pages: ArrayVec<u32, 16>,
+    pages: ArrayVec<u32, { LIST_SIZE }>,
 }
 
 impl Model for PageList {
@@ -45,13 +45,13 @@ impl PageList {
     }
 
     pub fn is_full(&self) -> bool
-        ensures { result ≡ (length self.now == 16) }
+        ensures { result ≡ (length self.now == LIST_SIZE) }
     {
         self.pages.len() == LIST_SIZE
     }
 
     pub fn len(&self) -> u32
-        ensures fits { length self.now ≤ 16 }
+        ensures fits { length self.now ≤ LIST_SIZE }
         ensures len { result ≡ length self.now }
     {
         self.pages.len() as u32
@@ -59,7 +59,7 @@ impl PageList {
 
     /// Puts a page in.
     pub fn push(&mut self, page: u32)
-        requires { length self.old < 16 }
+        requires { length self.old < LIST_SIZE }
         ensures { self.new ≡ self.old ++ page ∷ [] }
     {
         self.pages.push(page);
@@ -81,9 +81,9 @@ impl PageList {
 
     /// Takes the pages out that were put in first.
     pub fn split_front(&mut self) -> PageList
-        requires { 8 ≤ length self.old }
-        ensures front { result ≡ take 8 self.old }
-        ensures rest { self.new ≡ drop 8 self.old }
+        requires { BATCH ≤ length self.old }
+        ensures front { result ≡ take BATCH self.old }
+        ensures rest { self.new ≡ drop BATCH self.old }
     {
         let mut front = PageList::new();
         for _count in 0..BATCH {

@@ -2,7 +2,7 @@
 
 ghost use Rattle.std.specs.Prelude.{◌≡◌, ◌≤◌, ◌<◌, length};
 ghost use Rattle.vb_pages.specs.FreePages.{free_count};
-ghost use Rattle.vb_pages.specs.PageState.{IsSize};
+ghost use Rattle.vb_pages.specs.PageState.{IsGuestSize};
 
 mod walk;
 
@@ -97,7 +97,7 @@ fn first_wrong(
     cpus: u32,
     lines: &[(Step, Answer)],
 ) -> Result<Option<usize>, AllocError>
-    requires { IsSize size cpus }
+    requires { IsGuestSize size cpus }
 {
     let mut pages = Pages::new(alloc, size, cpus)?;
     Ok(first_wrong_line(&mut pages, lines))

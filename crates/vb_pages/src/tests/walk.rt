@@ -1,6 +1,6 @@
 //! Pseudo-random calls against a plain model of sets and lists, and many calls in a row.
 
-ghost use Rattle.vb_pages.specs.PageState.{IsSize};
+ghost use Rattle.vb_pages.specs.PageState.{IsGuestSize};
 
 use crate::{PageFault, Pages};
 use arrayvec::ArrayVec;
@@ -219,7 +219,7 @@ struct Pair {
 impl Pair {
     /// A guest of so many pages and of two processors.
     fn new(alloc: Global, size: u32, seed: u64) -> Result<Pair, AllocError>
-        requires { IsSize size 2 }
+        requires { IsGuestSize size 2 }
     {
         Ok(Pair {
             pages: Pages::new(alloc, size, 2)?,
@@ -259,7 +259,7 @@ impl Pair {
 
 /// The first of so many calls on a new guest that tells the two apart.
 fn first_apart(alloc: Global, size: u32, seed: u64, calls: u32) -> Result<Option<u32>, AllocError>
-    requires { IsSize size 2 }
+    requires { IsGuestSize size 2 }
 {
     let mut pair = Pair::new(alloc, size, seed)?;
     Ok(pair.first_apart(calls))
