@@ -13,5 +13,7 @@ pub record IsGrouped (out full : List Bool) : Type 0 where
   pub few : length out ≤ 65536
   pub groups : length full ≤ 256
   pub covered : length out ≤ 256 * length full
-  pub is_full : (group : ℕ) → group < length full → is_flagged full group ≡ true → (n : ℕ) → IsInGroup out group n → is_flagged out n ≡ true
-  pub is_open : (group : ℕ) → group < length full → is_flagged full group ≡ false → ((n : ℕ) → IsInGroup out group n → is_flagged out n ≡ true) → ⊥
+  pub is_full : (group : ℕ) → group < length full → is_flagged full group ≡ true → (n : ℕ) →
+      IsInGroup out group n → is_flagged out n ≡ true
+  pub is_open : (group : ℕ) → group < length full → is_flagged full group ≡ false →
+      ((n : ℕ) → IsInGroup out group n → is_flagged out n ≡ true) → ⊥

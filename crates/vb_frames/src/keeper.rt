@@ -27,9 +27,11 @@ pub trait FrameKeeper {
     /// What a claim may be answered where these frames are out.
     ghost answers: { List Bool → Claim → Type 0 };
 
-    /// Gives a frame of zeros, whose number wasn't out and is then. A refused claim changes nothing.
+    /// Gives a frame of zeros, whose number wasn't out and is then. A refused claim changes
+    /// nothing.
     fn claim(&mut self) -> Result<Frame, Refused>
-        ensures given { IfOk result (λ frame. IsFree (out self.old) frame.number × (out self.new ≡ slice_set (out self.old) frame.number true)) }
+        ensures given { IfOk result (λ frame. IsFree (out self.old) frame.number
+            × (out self.new ≡ slice_set (out self.old) frame.number true)) }
         ensures refused { OnErr result (out self.new ≡ out self.old) }
         ensures answer { answers (out self.old) (claim_in result) }
         ensures zeros { IfOk result (λ frame. frame.bytes ≡ zero_page) };

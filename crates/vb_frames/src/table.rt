@@ -20,9 +20,11 @@ const GROUP: usize = 256;
 /// looks at as many flags as there are groups, and at those of one group twice.
 #[derive(Drop)]
 pub struct FrameTable {
+    /// Where the frames' bytes come from.
     alloc: Global,
+    /// Of each frame, whether it is out.
     out: Vec<bool>,
-    // Of each group, whether all its frames are out.
+    /// Of each group, whether all its frames are out.
     full: Vec<bool>,
 }
 
@@ -54,7 +56,8 @@ fn first_free(flags: &[bool]) -> Option<usize>
 fn group_flags(out: &[bool], group: usize) -> &[bool]
     requires few { length out.now ≤ 65536 }
     requires group { group < 256 }
-    ensures at { (k : ℕ) → k < length result.now → is_flagged result.now k ≡ is_flagged out.now (256 * group + k) }
+    ensures at { (k : ℕ) → k < length result.now →
+        is_flagged result.now k ≡ is_flagged out.now (256 * group + k) }
     ensures all { (n : ℕ) → IsInGroup out.now group n → n < 256 * group + length result.now }
     ensures only { (k : ℕ) → k < length result.now → IsInGroup out.now group (256 * group + k) }
 {
@@ -66,7 +69,8 @@ fn group_flags(out: &[bool], group: usize) -> &[bool]
 /// The least number that isn't out.
 fn least_free(out: &[bool], full: &[bool]) -> Option<usize>
     requires { IsGrouped out.now full.now }
-    ensures { MatchOption result (AllOut out.now) (λ n. IsFree out.now n × ((m : ℕ) → m < n → is_out out.now m ≡ true)) }
+    ensures { MatchOption result (AllOut out.now)
+        (λ n. IsFree out.now n × ((m : ℕ) → m < n → is_out out.now m ≡ true)) }
 {
     match first_free(full) {
         None => None,
@@ -160,5 +164,6 @@ impl FrameKeeper for FrameTable {
 /// number that isn't out, NoFrame is answered exactly where all are out, and want of memory ends
 /// them where one was free.
 pub fn a_table_gives_the_least()
-    ensures { (out : List Bool) (claims : List Claim) → AllAnswered TableAnswers out claims → Gives (length out) (λ n. is_out out n ≡ true) claims }
+    ensures { (out : List Bool) (claims : List Claim) → AllAnswered TableAnswers out claims →
+        Gives (length out) (λ n. is_out out n ≡ true) claims }
 {}

@@ -14,7 +14,8 @@ with_new_queues part =
       report = no_queue;
     }
 
--- nothing is negotiated, ballooned, taken or known of the guest any more; the target stays, and what the device was made with (profile)
+-- nothing is negotiated, ballooned, taken or known of the guest any more; the target stays, and
+-- what the device was made with (profile)
 abbrev pub part_after_reset : Part → Part
 part_after_reset part =
     record (with_new_queues part) {

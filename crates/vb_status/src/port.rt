@@ -19,16 +19,21 @@ pub trait Port: GuestBytes {
     /// Writes the status. A write of 0 resets the device, one that adds DRIVER_OK makes its queues
     /// ready at index 0; refused for ClearsBit, OutOfOrder, MustTellMissing, VersionMissing.
     fn write_status(&mut self, write: Status) -> Result<(), StatusFault>
-        ensures answer { answered_refusal result ≡ status_refusal (Self.part self.old).status (Self.part self.old).features (status_bits write) }
-        ensures ok { OnOk result (Self.part self.new ≡ after_status (status_bits write) (Self.part self.old)) }
+        ensures answer { answered_refusal result ≡
+            status_refusal (Self.part self.old).status (Self.part self.old).features
+            (status_bits write) }
+        ensures ok { OnOk result (Self.part self.new ≡
+            after_status (status_bits write) (Self.part self.old)) }
         ensures err { OnErr result (Self.part self.new ≡ Self.part self.old) }
         ensures mem { Self.mem self.new ≡ Self.mem self.old };
 
     /// Accepts these features in place of those that were negotiated before; refused for OutOfOrder
     /// (the status isn't ACKNOWLEDGE and DRIVER alone), FeatureNotOffered.
     fn negotiate(&mut self, wanted: Features) -> Result<(), StatusFault>
-        ensures answer { answered_refusal result ≡ negotiate_refusal (Self.part self.old).status (feature_bits wanted) }
-        ensures ok { OnOk result (Self.part self.new ≡ record (Self.part self.old) { features = feature_bits wanted }) }
+        ensures answer { answered_refusal result ≡
+            negotiate_refusal (Self.part self.old).status (feature_bits wanted) }
+        ensures ok { OnOk result (Self.part self.new
+            ≡ record (Self.part self.old) { features = feature_bits wanted }) }
         ensures err { OnErr result (Self.part self.new ≡ Self.part self.old) }
         ensures mem { Self.mem self.new ≡ Self.mem self.old };
 

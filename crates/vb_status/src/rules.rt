@@ -78,7 +78,8 @@ pub fn write_status(
     negotiated: Features,
     write: Status,
 ) -> Result<Status, StatusFault>
-    ensures answer { answered_refusal result ≡ status_refusal (status_bits status) (feature_bits negotiated) (status_bits write) }
+    ensures answer { answered_refusal result ≡
+        status_refusal (status_bits status) (feature_bits negotiated) (status_bits write) }
     ensures ok { IfOk result (λ new. status_bits new ≡ status_bits write) }
 {
     if write.is_empty() {
@@ -112,7 +113,8 @@ fn check_features(negotiated: Features) -> Result<(), StatusFault>
 /// The features that are accepted at this status: 2 OutOfOrder unless ACKNOWLEDGE and DRIVER alone
 /// are set, 3 FeatureNotOffered.
 pub fn negotiate(status: Status, wanted: Features) -> Result<Features, StatusFault>
-    ensures answer { answered_refusal result ≡ negotiate_refusal (status_bits status) (feature_bits wanted) }
+    ensures answer { answered_refusal result ≡
+        negotiate_refusal (status_bits status) (feature_bits wanted) }
     ensures ok { IfOk result (λ new. feature_bits new ≡ feature_bits wanted) }
 {
     if status.bits() != NEGOTIATING {
