@@ -16,6 +16,9 @@ use vb_ram::Frame;
 /// Frames of a group.
 const GROUP: usize = 256;
 
+/// Groups of the largest host.
+const GROUP_COUNT: usize = MAX_FRAMES as usize / GROUP;
+
 /// The frames of a host, numbered from 0 on. A claim gives the least number that isn't out; it
 /// looks at as many flags as there are groups, and at those of one group twice.
 #[derive(Drop)]
@@ -54,12 +57,12 @@ fn first_free(flags: &[bool]) -> Option<usize>
 
 /// The flags of a group's frames.
 fn group_flags(out: &[bool], group: usize) -> &[bool]
-    requires few { length out.now ≤ 65536 }
-    requires group { group < 256 }
+    requires few { length out.now ≤ MAX_FRAMES }
+    requires group { group < GROUP_COUNT }
     ensures at { (k : ℕ) → k < length result.now →
-        is_flagged result.now k ≡ is_flagged out.now (256 * group + k) }
-    ensures all { (n : ℕ) → IsInGroup out.now group n → n < 256 * group + length result.now }
-    ensures only { (k : ℕ) → k < length result.now → IsInGroup out.now group (256 * group + k) }
+        is_flagged result.now k ≡ is_flagged out.now (GROUP * group + k) }
+    ensures all { (n : ℕ) → IsInGroup out.now group n → n < GROUP * group + length result.now }
+    ensures only { (k : ℕ) → k < length result.now → IsInGroup out.now group (GROUP * group + k) }
 {
     let start = (group * GROUP).min(out.len());
     let end = (start + GROUP).min(out.len());

@@ -43,7 +43,8 @@ drained f = record { areas = with_pages (in_lists f) f.areas; lists = map (λ li
 -- these single pages are taken from the areas, one after the other
 abbrev pub TakesPages : List Bool → List ℕ → List Bool → Type 0
 TakesPages set [] new = new ≡ set
-TakesPages set (page ∷ pages) new = (next : List Bool) × TakesBlock set 0 (Some page) next × TakesPages next pages new
+TakesPages set (page ∷ pages) new = (next : List Bool) × TakesBlock set 0 (Some page) next ×
+    TakesPages next pages new
 
 -- how many pages a refill takes, where there are as many
 abbrev pub refill_size : ℕ
@@ -72,26 +73,35 @@ TakesSingle set (page ∷ pages) got new rest = (new ≡ set) × Pops (page ∷ 
 
 -- a page by the processor's list, a larger block from the areas
 abbrev pub Tries : FreePages → ℕ → ℕ → Option ℕ → FreePages → Type 0
-Tries f cpu zero got new = (rest : List ℕ) × TakesSingle f.areas (list_of f cpu) got new.areas rest × (new.lists ≡ slice_set f.lists cpu rest)
-Tries f cpu (suc order) got new = TakesBlock f.areas (suc order) got new.areas × (new.lists ≡ f.lists)
+Tries f cpu zero got new =
+    (rest : List ℕ) × TakesSingle f.areas (list_of f cpu) got new.areas rest ×
+    (new.lists ≡ slice_set f.lists cpu rest)
+Tries f cpu (suc order) got new = TakesBlock f.areas (suc order) got new.areas ×
+    (new.lists ≡ f.lists)
 
 -- where the areas have nothing, all lists are drained, and it is tried once more
 abbrev pub Serves : FreePages → ℕ → ℕ → Option ℕ → FreePages → Type 0
-Serves f cpu order None new = Tries f cpu order None f × Tries (drained f) cpu order None (drained f) × (new ≡ drained f)
+Serves f cpu order None new = Tries f cpu order None f ×
+    Tries (drained f) cpu order None (drained f) × (new ≡ drained f)
 Serves f cpu order (Some start) new =
-    Tries f cpu order (Some start) new ⊎ (Tries f cpu order None f × Tries (drained f) cpu order (Some start) new)
+    Tries f cpu order (Some start) new ⊎ (Tries f cpu order None f ×
+    Tries (drained f) cpu order (Some start) new)
 
 -- a list of sixteen sends the eight that were put in first back to the areas
 abbrev pub spilled : ℕ → FreePages → FreePages
 spilled cpu f =
     if length (list_of f cpu) == LIST_SIZE
-    then record { areas = with_pages (take BATCH (list_of f cpu)) f.areas; lists = slice_set f.lists cpu (drop BATCH (list_of f cpu)) }
+    then record {
+      areas = with_pages (take BATCH (list_of f cpu)) f.areas;
+      lists = slice_set f.lists cpu (drop BATCH (list_of f cpu));
+    }
     else f
 
 -- a block comes back: a page into the processor's list, a larger block into the areas
 abbrev pub given_back : ℕ → ℕ → ℕ → FreePages → FreePages
 given_back cpu start zero f = spilled cpu (with_list cpu (list_of f cpu ++ start ∷ []) f)
-given_back cpu start (suc order) f = record f { areas = with_pages (pages_of (block_at start (suc order))) f.areas }
+given_back cpu start (suc order) f =
+    record f { areas = with_pages (pages_of (block_at start (suc order))) f.areas }
 
 -- no page is free twice, no list is full, and there are as few processors and pages as may be
 pub record IsSoundFree (f : FreePages) : Type 0 where

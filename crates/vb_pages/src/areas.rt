@@ -58,7 +58,9 @@ fn put_rest(table: &mut Table, start: u32, whole: u32, taken: u32)
     requires room { HasRoom table.old start whole }
     requires smaller { taken ≤ whole }
     ensures tiled { IsTiled table.new }
-    ensures set { set_of table.new ≡ without_pages (pages_of (block_at start taken)) (with_pages (pages_of (block_at start whole)) (set_of table.old)) }
+    ensures set { set_of table.new
+        ≡ without_pages (pages_of (block_at start taken))
+        (with_pages (pages_of (block_at start whole)) (set_of table.old)) }
 {
     if taken < whole {
         let half = whole - 1;
@@ -109,7 +111,9 @@ fn lowest_from(table: &Table, order: u32, from: u32) -> Option<FreeBlock>
 /// The areas, as a set of pages.
 #[derive(Drop)]
 pub struct Areas {
+    /// The maximal blocks.
     table: Table,
+    /// How many pages they have.
     count: u32,
 }
 
@@ -181,8 +185,10 @@ impl Areas {
     /// Takes the lowest maximal block of at least this order that starts at or after a page.
     pub fn isolate(&mut self, order: u32, from: u32) -> Option<FreeBlock>
         ensures { MatchOption result
-            (((start larger : ℕ) → order ≤ larger → from ≤ start → IsMaximal self.old (block_at start larger) → ⊥) × (self.new ≡ self.old))
-            (λ b. IsLowestFrom self.old order from (block_at b.start b.order) × (self.new ≡ without_pages (pages_of (block_at b.start b.order)) self.old)) }
+            (((start larger : ℕ) → order ≤ larger → from ≤ start →
+            IsMaximal self.old (block_at start larger) → ⊥) × (self.new ≡ self.old))
+            (λ b. IsLowestFrom self.old order from (block_at b.start b.order) ×
+            (self.new ≡ without_pages (pages_of (block_at b.start b.order)) self.old)) }
     {
         let block = lowest_from(&self.table, order, from)?;
         self.table.remove(block.start, block.order);

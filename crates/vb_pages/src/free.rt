@@ -20,9 +20,12 @@ pub(crate) const REQUEST_PAGES: usize = MAX_REQUEST_PAGES as usize;
 
 /// Puts the pages of all lists back into the areas.
 fn drain_lists(areas: &mut Areas, lists: &mut [PageList])
-    requires { (page : ℕ) → one_if (has areas.old page) + count_by (λ p. p == page) (flat_map (λ list. list) lists.old) ≤ one_if (nat_lt page (length areas.old)) }
+    requires { (page : ℕ) →
+        one_if (has areas.old page) + count_by (λ p. p == page)
+        (flat_map (λ list. list) lists.old) ≤ one_if (nat_lt page (length areas.old)) }
     ensures areas { areas.new ≡ with_pages (flat_map (λ list. list) lists.old) areas.old }
-    ensures count { count_by (λ f. f) areas.new ≡ count_by (λ f. f) areas.old + length (flat_map (λ list. list) lists.old) }
+    ensures count { count_by (λ f. f) areas.new ≡
+        count_by (λ f. f) areas.old + length (flat_map (λ list. list) lists.old) }
     ensures lists { lists.new ≡ map (λ list. []) lists.old }
 {
     for list in lists.iter_mut() {
@@ -49,7 +52,9 @@ fn take_singles(areas: &mut Areas, count: u32, out: &mut ArrayVec<u32, { REQUEST
 /// The free pages.
 #[derive(Drop)]
 pub struct FreePages {
+    /// The areas.
     areas: Areas,
+    /// The list of each processor.
     lists: Vec<PageList>,
 }
 
@@ -68,7 +73,8 @@ impl FreePages {
     pub fn new(alloc: Global, pages: u32, cpus: u32) -> Result<Self, AllocError>
         requires pages { pages ≤ MAX_GUEST_PAGES }
         requires cpus { cpus ≤ MAX_PROCESSORS }
-        ensures { IfOk result (λ f. f ≡ record { areas = unreserved pages; lists = replicate cpus [] }) }
+        ensures { IfOk result (λ f. f ≡
+            record { areas = unreserved pages; lists = replicate cpus [] }) }
     {
         let areas = Areas::new(alloc, pages)?;
         let mut lists = Vec::with_capacity(alloc, cpus as usize)?;
@@ -143,7 +149,9 @@ impl FreePages {
     pub fn give_block(&mut self, start: u32, order: u32)
         requires { HasRoomFor self.old start order }
         ensures sound { IsSoundFree self.old }
-        ensures given { self.new ≡ record self.old { areas = with_pages (pages_of (block_at start order)) self.old.areas } }
+        ensures given { self.new ≡ record self.old {
+          areas = with_pages (pages_of (block_at start order)) self.old.areas;
+        } }
     {
         self.areas.give(start, order);
     }
@@ -162,14 +170,18 @@ impl FreePages {
         take_singles(&mut self.areas, count, out);
     }
 
-    /// Takes the lowest maximal block of at least this order that starts at or after a page, after all
-    /// lists were drained.
+    /// Takes the lowest maximal block of at least this order that starts at or after a page, after
+    /// all lists were drained.
     pub fn isolate(&mut self, order: u32, from: u32) -> Option<FreeBlock>
         ensures sound { IsSoundFree self.old }
         ensures isolated { MatchOption result
-            (((start larger : ℕ) → order ≤ larger → from ≤ start → IsMaximal (drained self.old).areas (block_at start larger) → ⊥) × (self.new ≡ drained self.old))
+            (((start larger : ℕ) → order ≤ larger → from ≤ start →
+            IsMaximal (drained self.old).areas (block_at start larger) → ⊥) ×
+            (self.new ≡ drained self.old))
             (λ b. IsLowestFrom (drained self.old).areas order from (block_at b.start b.order)
-            × (self.new ≡ record (drained self.old) { areas = without_pages (pages_of (block_at b.start b.order)) (drained self.old).areas })) }
+            × (self.new ≡ record (drained self.old) {
+              areas = without_pages (pages_of (block_at b.start b.order)) (drained self.old).areas;
+            })) }
     {
         self.drain();
         self.areas.isolate(order, from)
@@ -188,7 +200,10 @@ impl FreePages {
 
     /// Puts all pages back but the reserved ones.
     pub fn renew(&mut self)
-        ensures { self.new ≡ record { areas = unreserved (length self.old.areas); lists = map (λ list. []) self.old.lists } }
+        ensures { self.new ≡ record {
+          areas = unreserved (length self.old.areas);
+          lists = map (λ list. []) self.old.lists;
+        } }
     {
         self.areas.renew();
         for list in self.lists.iter_mut() {

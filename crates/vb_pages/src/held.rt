@@ -25,6 +25,7 @@ fn is_at(orders: &[Option<u8>], page: u32, order: u32) -> bool
 /// The held blocks.
 #[derive(Drop)]
 pub struct Held {
+    /// Of each page, the order of the held block that starts there.
     orders: Vec<Option<u8>>,
 }
 
@@ -73,7 +74,8 @@ impl Held {
         requires block { IsBlock (block_at start order) }
         requires there { start < self.old.pages }
         requires outside { list_any (covers start) self.old.blocks ≡ false }
-        ensures { self.new ≡ record self.old { blocks = with_block (block_at start order) self.old.blocks } }
+        ensures { self.new ≡
+            record self.old { blocks = with_block (block_at start order) self.old.blocks } }
     {
         self.orders[start as usize] = Some(order as u8);
     }
@@ -82,7 +84,8 @@ impl Held {
     pub fn remove(&mut self, start: u32, order: u32)
         requires { list_any (λ h. is_same_block h (block_at start order)) self.old.blocks ≡ true }
         ensures block { IsBlock (block_at start order) }
-        ensures removed { self.new ≡ record self.old { blocks = without_block (block_at start order) self.old.blocks } }
+        ensures removed { self.new ≡
+            record self.old { blocks = without_block (block_at start order) self.old.blocks } }
     {
         self.orders[start as usize] = None;
     }

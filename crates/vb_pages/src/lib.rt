@@ -1,8 +1,8 @@
 //! The guest's page allocator: buddy areas with a list for each processor.
 //!
 //! Blocks of a power of two, their halving and merging and lists per processor are those of Gorman,
-//! "Understanding the Linux Virtual Memory Manager", chapter 6. Which block a request gets, the sizes of
-//! the lists and all numbers are the profile's.
+//! "Understanding the Linux Virtual Memory Manager", chapter 6. Which block a request gets, the
+//! sizes of the lists and all numbers are the profile's.
 #![tactic(auto)]
 
 mod areas;

@@ -18,6 +18,7 @@ pub const BATCH: usize = 8;
 /// Single free pages: what was put in last comes out first.
 #[derive(Drop)]
 pub struct PageList {
+    /// The pages, in the order in which they were put in.
     pages: ArrayVec<u32, { LIST_SIZE }>,
 }
 
@@ -67,7 +68,9 @@ impl PageList {
 
     /// Takes the page out that was put in last.
     pub fn pop(&mut self) -> Option<u32>
-        ensures { MatchOption result ((self.old ≡ []) × (self.new ≡ self.old)) (λ page. self.old ≡ self.new ++ page ∷ []) }
+        ensures { MatchOption result
+            ((self.old ≡ []) × (self.new ≡ self.old))
+            (λ page. self.old ≡ self.new ++ page ∷ []) }
     {
         self.pages.pop()
     }
@@ -118,9 +121,11 @@ impl PageList {
 
     /// Puts all pages back into the areas.
     pub fn drain(&mut self, areas: &mut Areas)
-        requires { (page : ℕ) → one_if (has areas.old page) + count_by (λ p. p == page) self.old ≤ one_if (nat_lt page (length areas.old)) }
+        requires { (page : ℕ) → one_if (has areas.old page) + count_by (λ p. p == page) self.old ≤
+            one_if (nat_lt page (length areas.old)) }
         ensures areas { areas.new ≡ with_pages self.old areas.old }
-        ensures count { count_by (λ f. f) areas.new ≡ count_by (λ f. f) areas.old + length self.old }
+        ensures count { count_by (λ f. f) areas.new ≡
+            count_by (λ f. f) areas.old + length self.old }
         ensures empty { self.new ≡ [] }
     {
         if let Some(page) = self.pop() {

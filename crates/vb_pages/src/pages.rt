@@ -16,10 +16,13 @@ use std::alloc::{AllocError, Global};
 use std::marker::Model;
 use vb_model::limits::{MAX_ORDER, MAX_REQUEST_PAGES};
 
-/// The pages of a guest: free ones in the buddy areas and in a list for each processor, and held blocks.
+/// The pages of a guest: free ones in the buddy areas and in a list for each processor, and held
+/// blocks.
 #[derive(Drop)]
 pub struct Pages {
+    /// The free pages.
     free: FreePages,
+    /// The held blocks.
     held: Held,
 }
 
@@ -46,26 +49,35 @@ impl Pages {
     }
 
     /// Allocates 2^order pages on a processor, and answers where they start: BadOrder over order 9,
-    /// BadCpu where there is no such processor, NoPages where no aligned block of the order is wholly
-    /// free.
+    /// BadCpu where there is no such processor, NoPages where no aligned block of the order is
+    /// wholly free.
     pub fn alloc(&mut self, cpu: u32, order: u32) -> Result<u32, PageFault>
         // The refusals, in the order in which they are tested.
         ensures bad_order { (result ≡ Err PageFault.BadOrder) ↔ (MAX_ORDER < order) }
-        ensures bad_cpu { (result ≡ Err PageFault.BadCpu) ↔ ((order ≤ MAX_ORDER) × (cpu_count self.old ≤ cpu)) }
+        ensures bad_cpu { (result ≡ Err PageFault.BadCpu) ↔
+            ((order ≤ MAX_ORDER) × (cpu_count self.old ≤ cpu)) }
         ensures never { result ≡ Err PageFault.NotHeld → ⊥ }
         ensures unchanged { (MAX_ORDER < order) ⊎ (cpu_count self.old ≤ cpu) → self.new ≡ self.old }
 
         // Just what the rules give.
-        ensures allocates { order ≤ MAX_ORDER → cpu < cpu_count self.old → AllocatesBlock self.old cpu order result self.new }
+        ensures allocates { order ≤ MAX_ORDER → cpu < cpu_count self.old →
+            AllocatesBlock self.old cpu order result self.new }
 
         // A block that is handed out was wholly free, and is held from now on.
-        ensures was_free { IfOk result (λ start. IsBlock (block_at start order) × IsWhollyFree self.old (block_at start order)) }
-        ensures held { IfOk result (λ start. self.new.held ≡ with_block (block_at start order) self.old.held) }
-        ensures left { IfOk result (λ start. (page : ℕ) → is_free_page self.new page ≡ (is_free_page self.old page && not (covers page (block_at start order)))) }
+        ensures was_free { IfOk result (λ start. IsBlock (block_at start order) ×
+            IsWhollyFree self.old (block_at start order)) }
+        ensures held { IfOk result (λ start. self.new.held ≡
+            with_block (block_at start order) self.old.held) }
+        ensures left { IfOk result (λ start. (page : ℕ) → is_free_page self.new page
+            ≡ (is_free_page self.old page && not (covers page (block_at start order)))) }
 
         // No aligned block of the order was wholly free; every page is free or held as before.
-        ensures none { result ≡ Err PageFault.NoPages → (start : ℕ) → IsBlock (block_at start order) → IsWhollyFree self.old (block_at start order) → ⊥ }
-        ensures same { result ≡ Err PageFault.NoPages → ((page : ℕ) → is_free_page self.new page ≡ is_free_page self.old page) × (self.new.held ≡ self.old.held) × (self.new.free.lists ≡ map (λ list. []) self.old.free.lists) }
+        ensures none { result ≡ Err PageFault.NoPages → (start : ℕ) →
+            IsBlock (block_at start order) → IsWhollyFree self.old (block_at start order) → ⊥ }
+        ensures same { result ≡ Err PageFault.NoPages →
+            ((page : ℕ) → is_free_page self.new page ≡ is_free_page self.old page) ×
+            (self.new.held ≡ self.old.held) ×
+            (self.new.free.lists ≡ map (λ list. []) self.old.free.lists) }
     {
         if order > MAX_ORDER {
             return Err(PageFault::BadOrder);
@@ -80,13 +92,16 @@ impl Pages {
         Ok(start)
     }
 
-    /// Gives an allocation back: BadOrder over order 9, BadCpu where there is no such processor, NotHeld
-    /// where just that block isn't held.
+    /// Gives an allocation back: BadOrder over order 9, BadCpu where there is no such processor,
+    /// NotHeld where just that block isn't held.
     pub fn free(&mut self, cpu: u32, start: u32, order: u32) -> Result<(), PageFault>
         // The refusals, in the order in which they are tested.
         ensures bad_order { (result ≡ Err PageFault.BadOrder) ↔ (MAX_ORDER < order) }
-        ensures bad_cpu { (result ≡ Err PageFault.BadCpu) ↔ ((order ≤ MAX_ORDER) × (cpu_count self.old ≤ cpu)) }
-        ensures not_held { (result ≡ Err PageFault.NotHeld) ↔ ((order ≤ MAX_ORDER) × (cpu < cpu_count self.old) × (is_held_block self.old (block_at start order) ≡ false)) }
+        ensures bad_cpu { (result ≡ Err PageFault.BadCpu) ↔
+            ((order ≤ MAX_ORDER) × (cpu_count self.old ≤ cpu)) }
+        ensures not_held { (result ≡ Err PageFault.NotHeld) ↔
+            ((order ≤ MAX_ORDER) × (cpu < cpu_count self.old) ×
+            (is_held_block self.old (block_at start order) ≡ false)) }
         ensures never { result ≡ Err PageFault.NoPages → ⊥ }
         ensures unchanged { OnErr result (self.new ≡ self.old) }
 
@@ -94,7 +109,8 @@ impl Pages {
         ensures freed { OnOk result (self.new ≡ freed cpu (block_at start order) self.old) }
 
         // The block is free from now on, and no longer held.
-        ensures gained { OnOk result ((page : ℕ) → is_free_page self.new page ≡ (is_free_page self.old page || covers page (block_at start order))) }
+        ensures gained { OnOk result ((page : ℕ) → is_free_page self.new page
+            ≡ (is_free_page self.old page || covers page (block_at start order))) }
     {
         if order > MAX_ORDER {
             return Err(PageFault::BadOrder);
@@ -124,8 +140,11 @@ impl Pages {
         requires enough { count ≤ free_count self.old.free }
         ensures taken { TakesFree self.old out.new.items self.new }
         ensures count { length out.new.items ≡ count }
-        ensures room { (page : ℕ) → IsTrue (is_in page out.new.items) → HasRoomIn self.new (block_at page 0) }
-        ensures left { (page : ℕ) → one_if (is_free_page self.new page) + count_by (λ p. p == page) out.new.items ≡ one_if (is_free_page self.old page) }
+        ensures room { (page : ℕ) → IsTrue (is_in page out.new.items) →
+            HasRoomIn self.new (block_at page 0) }
+        ensures left { (page : ℕ) →
+            one_if (is_free_page self.new page) + count_by (λ p. p == page) out.new.items
+            ≡ one_if (is_free_page self.old page) }
     {
         self.free.take_pages(count, out);
     }
@@ -134,7 +153,8 @@ impl Pages {
     pub fn give_free(&mut self, page: u32)
         requires { HasRoomIn self.old (block_at page 0) }
         ensures given { self.new ≡ with_free_block (block_at page 0) self.old }
-        ensures gained { (p : ℕ) → is_free_page self.new p ≡ (is_free_page self.old p || covers p (block_at page 0)) }
+        ensures gained { (p : ℕ) → is_free_page self.new p ≡
+            (is_free_page self.old p || covers p (block_at page 0)) }
     {
         self.free.give_block(page, 0);
     }
@@ -143,17 +163,19 @@ impl Pages {
     pub fn give_block(&mut self, start: u32, order: u32)
         requires { HasRoomIn self.old (block_at start order) }
         ensures given { self.new ≡ with_free_block (block_at start order) self.old }
-        ensures gained { (page : ℕ) → is_free_page self.new page ≡ (is_free_page self.old page || covers page (block_at start order)) }
+        ensures gained { (page : ℕ) → is_free_page self.new page ≡
+            (is_free_page self.old page || covers page (block_at start order)) }
     {
         self.free.give_block(start, order);
     }
 
-    /// Takes the lowest maximal free block of at least this order that starts at or after a page, once
-    /// all lists were drained.
+    /// Takes the lowest maximal free block of at least this order that starts at or after a page,
+    /// once all lists were drained.
     pub fn isolate(&mut self, order: u32, from: u32) -> Option<FreeBlock>
         ensures isolated { Isolates self.old order from result self.new }
         ensures room { IfSome result (λ b. HasRoomIn self.new (block_at b.start b.order)) }
-        ensures left { IfSome result (λ b. (page : ℕ) → is_free_page self.new page ≡ (is_free_page self.old page && not (covers page (block_at b.start b.order)))) }
+        ensures left { IfSome result (λ b. (page : ℕ) → is_free_page self.new page
+            ≡ (is_free_page self.old page && not (covers page (block_at b.start b.order)))) }
     {
         self.free.isolate(order, from)
     }

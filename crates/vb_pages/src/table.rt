@@ -11,7 +11,9 @@ use vb_model::limits::{MAX_GUEST_PAGES, MAX_ORDER};
 /// Blocks by the page where they start.
 #[derive(Drop)]
 pub struct Table {
+    /// Of each page, the order of the block that starts there.
     orders: Vec<Option<u8>>,
+    /// Of each order, where its blocks start.
     starts: Vec<StartList>,
 }
 

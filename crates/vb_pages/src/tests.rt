@@ -89,8 +89,8 @@ fn first_wrong_line(pages: &mut Pages, lines: &[(Step, Answer)]) -> Option<usize
     None
 }
 
-/// The first line whose call isn't answered so, when they are made one after the other on a new guest of
-/// so many pages and processors.
+/// The first line whose call isn't answered so, when they are made one after the other on a new
+/// guest of so many pages and processors.
 fn first_wrong(
     alloc: Global,
     size: u32,
