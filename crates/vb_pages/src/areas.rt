@@ -41,7 +41,8 @@ fn put_block(table: &mut Table, start: u32, order: u32)
     requires tiled { IsTiled table.old }
     requires room { HasRoom table.old start order }
     ensures tiled { IsTiled table.new }
-    ensures set { set_of table.new ≡ with_pages (pages_of (block_at start order)) (set_of table.old) }
+    ensures set { set_of table.new
+        ≡ with_pages (pages_of (block_at start order)) (set_of table.old) }
 {
     let buddy = buddy_of(start, order);
     if order < MAX_ORDER && table.is_listed(buddy, order) {

@@ -35,7 +35,10 @@ impl Model for Held {
 
     ghost Value = { HeldBlocks };
 
-    ghost view = { λ h. record { pages = length h.orders.items; blocks = blocks_of h.orders.items } };
+    ghost view = { λ h. record {
+      pages = length h.orders.items;
+      blocks = blocks_of h.orders.items;
+    } };
 
     ghost invariant = { λ h. IsAligned h.orders.items };
 }
