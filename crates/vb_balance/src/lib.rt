@@ -8,7 +8,3 @@ mod tests;
 
 pub use need::{GuestNeed, Short, Targets};
 pub use sharing::{targets, targets_are_unique};
-use vb_model::limits::MAX_GUESTS;
-
-/// Guests that share a host, at most, as a capacity.
-const GUESTS: usize = MAX_GUESTS as usize;

@@ -1,15 +1,20 @@
-// What guests have and can spare, and what they are asked to give.
+//! What guests have and can spare, and what they are asked to give.
 
 ghost use Rattle.std.specs.Prelude.{◌≡◌};
 
-use crate::GUESTS;
 use arrayvec::ArrayVec;
 use std::marker::Model;
+use vb_model::limits::MAX_GUESTS;
+
+/// Guests that share a host, at most, as a capacity.
+pub(crate) const GUESTS: usize = MAX_GUESTS as usize;
 
 /// What a guest has, and what it can spare, in pages.
 #[derive(Clone, Copy, Debug, PartialEq, Eq)]
 pub struct GuestNeed {
+    /// Its pages.
     pub pages: u32,
+    /// How many of them it can give.
     pub spare: u32,
 }
 
@@ -26,6 +31,7 @@ impl Model for GuestNeed {
 /// A target for each guest, in pages, in the order of the needs.
 #[derive(Drop)]
 pub struct Targets {
+    /// How many pages each gives.
     pub(crate) pages: ArrayVec<u32, GUESTS>,
 }
 

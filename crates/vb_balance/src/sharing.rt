@@ -1,10 +1,11 @@
-// Sharing out what is missing.
+//! Sharing out what is missing.
 
 ghost use Rattle.std.specs.Prelude.{◌≡◌, ℕ, ◌+◌, ◌<◌, ◌≤◌, List, Bool, true, false, length, replicate, nat_lt, MatchOption, MatchResult};
 ghost use Rattle.vb_model.specs.Balance.{Need, AreTargets, missing, shortage};
 ghost use Rattle.vb_balance.specs.Giving.{has_given, IsNext, HaveGiven};
 
-use crate::{GUESTS, GuestNeed, Short, Targets};
+use crate::need::GUESTS;
+use crate::{GuestNeed, Short, Targets};
 use arrayvec::ArrayVec;
 use vb_model::limits::MAX_GUESTS;
 
@@ -17,7 +18,9 @@ fn spares_more(one: &GuestNeed, other: &GuestNeed) -> bool
 /// The guest that gives next: of those that haven't, one of most spare, and of these the first.
 fn next_to_give(needs: &[GuestNeed], gave: &[bool]) -> Option<usize>
     requires { length gave.now ≡ length needs.now }
-    ensures { MatchOption result ((i : ℕ) → i < length needs.now → has_given gave.now i ≡ true) (IsNext needs.now gave.now) }
+    ensures { MatchOption result
+        ((i : ℕ) → i < length needs.now → has_given gave.now i ≡ true)
+        (IsNext needs.now gave.now) }
 {
     let mut next: Option<usize> = None;
     for i in 0..needs.len() {
@@ -69,7 +72,8 @@ fn share(needs: &[GuestNeed], frames: u32, targets: &mut [u32], gave: &mut [bool
 /// few, with what stays missing then. There are at most 8 needs.
 pub fn targets(needs: &[GuestNeed], frames: u32) -> Result<Targets, Short>
     requires { length needs.now ≤ MAX_GUESTS }
-    ensures answer { MatchResult result (λ targets. (shortage needs.now frames ≡ 0) × AreTargets needs.now frames targets)
+    ensures answer { MatchResult result
+        (λ targets. (shortage needs.now frames ≡ 0) × AreTargets needs.now frames targets)
         (λ short. (0 < shortage needs.now frames) × (short.missing ≡ shortage needs.now frames)) }
 {
     let mut pages: ArrayVec<u32, GUESTS> = ArrayVec::new();
@@ -87,5 +91,6 @@ pub fn targets(needs: &[GuestNeed], frames: u32) -> Result<Targets, Short>
 
 /// There is one answer: two lists of targets for the same needs and frames are the same.
 pub fn targets_are_unique()
-    ensures { (needs : List Need) (frames : ℕ) (one other : List ℕ) → AreTargets needs frames one → AreTargets needs frames other → one ≡ other }
+    ensures { (needs : List Need) (frames : ℕ) (one other : List ℕ) → AreTargets needs frames one →
+        AreTargets needs frames other → one ≡ other }
 {}

@@ -1,4 +1,4 @@
-// Worked numbers.
+//! Worked numbers.
 
 use crate::{GuestNeed, targets};
 use std::process::Abort;

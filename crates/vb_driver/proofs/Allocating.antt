@@ -14,11 +14,11 @@ use Rattle.vb_model.specs.declared.replies.Refusal.{Refusal}
 use Rattle.vb_model.specs.declared.replies.Refusal.TheVariants.{BadOrder, BadCpu, NoPages}
 use Rattle.vb_model.proofs.Tables.{count_by-cons, list_all-at}
 use Rattle.vb_model.proofs.PageSteps.{covers_is}
-use Rattle.vb_pages.specs.declared.PageFault.{PageFault}
-use Rattle.vb_pages.specs.declared.PageFault.TheVariants.{BadOrder as OrderTooLarge, BadCpu as NoSuchCpu, NoPages as NoFreeBlock, NotHeld as NoSuchBlock}
+use Rattle.vb_pages.specs.declared.fault.PageFault.{PageFault}
+use Rattle.vb_pages.specs.declared.fault.PageFault.TheVariants.{BadOrder as OrderTooLarge, BadCpu as NoSuchCpu, NoPages as NoFreeBlock, NotHeld as NoSuchBlock}
 use Rattle.vb_pages.specs.Areas.{has, IsBlock}
 use Rattle.vb_pages.specs.FreePages.{FreePages, in_lists, drained, free_count}
-use Rattle.vb_pages.specs.PageState.{PageState, page_count, cpu_count, is_free_page, is_held_page, IsApart, IsWhollyFree, Allocates, TakesFree, freed, given, HasRoomIn}
+use Rattle.vb_pages.specs.PageState.{PageState, page_count, cpu_count, is_free_page, is_held_page, IsApart, IsWhollyFree, AllocatesBlock, TakesFree, freed, with_free_block, HasRoomIn}
 use Rattle.vb_pages.proofs.Sets.{length-with_pages, in_block}
 use Rattle.vb_pages.proofs.ListsLemmas.{page_block}
 use Rattle.vb_pages.proofs.FreeLemmas.{serves_length, length-takes_pages}
@@ -87,7 +87,7 @@ pub record IsServed (s new : PageState) (cpu order : ℕ) (r : Result ℕ PageFa
   pub bad_cpu : (r ≡ Err NoSuchCpu) ↔ ((order ≤ 9) × (cpu_count s ≤ cpu))
   pub never : r ≡ Err NoSuchBlock → ⊥
   pub unchanged : (9 < order) ⊎ (cpu_count s ≤ cpu) → new ≡ s
-  pub allocates : order ≤ 9 → cpu < cpu_count s → Allocates s cpu order r new
+  pub allocates : order ≤ 9 → cpu < cpu_count s → AllocatesBlock s cpu order r new
   pub was_free : IfOk r (λ start. IsBlock (block_at start order) × IsWhollyFree s (block_at start order))
   pub held : IfOk r (λ start. new.held ≡ with_block (block_at start order) s.held)
   pub left : IfOk r (λ start. (page : ℕ) → is_free_page new page ≡ (is_free_page s page && not (covers page (block_at start order))))
@@ -287,7 +287,7 @@ given_room s page unreserved inside taken uncovered =
           (subst (λ (n : ℕ). is_free_page s n ≡ false) same unfree, subst (λ (n : ℕ). is_held_page s n ≡ false) same uncovered),
     )
 
-pub given_state : (s new : PageState) (page : ℕ) → new ≡ given (block_at page 0) s → ((p : ℕ) → is_free_page new p ≡ (is_free_page s p || covers p (block_at page 0)))
+pub given_state : (s new : PageState) (page : ℕ) → new ≡ with_free_block (block_at page 0) s → ((p : ℕ) → is_free_page new p ≡ (is_free_page s p || covers p (block_at page 0)))
     → page < length (flags_of s.free) → Becomes s new (set (flags_of s.free) page true) s.held
 given_state s new page is gained there =
     let b = block_at page 0 in

@@ -6,7 +6,7 @@ use Rattle.vb_model.specs.Status.{status_refusal, adds, driver_ok}
 use Rattle.vb_model.proofs.Tables.{list_all-at}
 use Rattle.vb_pages.proofs.Sets.{in_block}
 use Rattle.vb_ram.specs.Part.{Part}
-use Rattle.vb_status.specs.After.{after_status, after_reset, with_new_queues}
+use Rattle.vb_status.specs.After.{after_status, part_after_reset, with_new_queues}
 
 abbrev passes : ℕ → ℕ → Bool
 passes f s = is_none (status_refusal s f (bit_or s 128)) && (not (eqb (bit_or s 128) 0) && not (adds s (bit_or s 128) driver_ok))
@@ -30,7 +30,7 @@ after_failing s f part is lt =
     at (is_none (status_refusal s f (bit_or s 128))) (eqb (bit_or s 128) 0) (adds s (bit_or s 128) driver_ok) (adds part.status (bit_or s 128) driver_ok) (passed s f lt) (ap (λ n. adds n (bit_or s 128) driver_ok) is)
   where
     at : (o z a b : Bool) → (o && (not z && not a)) ≡ true → b ≡ a
-        → cond z (after_reset part) (cond b (record (with_new_queues part) { status = bit_or s 128 }) (record part { status = bit_or s 128 })) ≡ record part { status = bit_or s 128 }
+        → cond z (part_after_reset part) (cond b (record (with_new_queues part) { status = bit_or s 128 }) (record part { status = bit_or s 128 })) ≡ record part { status = bit_or s 128 }
     at true false false false h g = refl
     at true false false true h g = cc
     at true false true b h g = cc

@@ -12,7 +12,7 @@ use Rattle.vb_model.proofs.Tables.{each_page-get, count_by-cons, count_by-append
 use Rattle.vb_model.proofs.PageSteps.{covers_is}
 use Rattle.vb_pages.specs.Areas.{has, with_pages, unreserved}
 use Rattle.vb_pages.specs.FreePages.{FreePages, in_lists, drained, times_free, list_of, with_list, given_back, Tries, Serves}
-use Rattle.vb_pages.specs.PageState.{PageState, page_count, is_free_page, is_unreserved, IsApart, fresh, given}
+use Rattle.vb_pages.specs.PageState.{PageState, page_count, is_free_page, is_unreserved, IsApart, new_page_state, with_free_block}
 use Rattle.vb_pages.proofs.Sets.{length-with_pages}
 use Rattle.vb_pages.proofs.AreasLemmas.{length-unreserved, has-unreserved}
 use Rattle.vb_pages.proofs.ListsLemmas.{one_if_true, one_if_le}
@@ -166,14 +166,14 @@ turned : (v : Bool) (k : ℕ) → nat_lt k 16 ≡ v → nat_le 16 k ≡ is_free 
 turned true k e = lt-leb 16 k (ltb-true k 16 e)
 turned false k e = le-leb 16 k (ltb-false k 16 e)
 
-free_first : (pages cpus k : ℕ) → k < pages → is_free_page (fresh pages cpus) k ≡ is_free (first_place k)
+free_first : (pages cpus k : ℕ) → k < pages → is_free_page (new_page_state pages cpus) k ≡ is_free (first_place k)
 free_first pages cpus k lt =
     ap (λ (l : List ℕ). has (unreserved pages) k || is_in k l) (flat-replicate cpus)
     ∙ (or_false (has (unreserved pages) k) ∙ (has-unreserved pages k lt ∙ turned (nat_lt k 16) k refl))
 
-pub fresh_flags : (pages cpus : ℕ) → flags_of (fresh pages cpus).free ≡ map is_free (all_free pages)
+pub fresh_flags : (pages cpus : ℕ) → flags_of (new_page_state pages cpus).free ≡ map is_free (all_free pages)
 fresh_flags pages cpus =
-    let s = fresh pages cpus in
+    let s = new_page_state pages cpus in
     let size : page_count s ≡ pages = length-unreserved pages in
     let all : length (all_free pages) ≡ pages = length-map-range_with_len first_place 0 pages in
     same_lists (flags_of s.free) (map is_free (all_free pages)) (length_flags s ∙ (size ∙ sym (length-map (all_free pages) is_free ∙ all))) (λ k d near.
@@ -184,9 +184,9 @@ fresh_flags pages cpus =
 
 -- ---- pages that come back one by one
 
-pub given_more : (xs : List ℕ) (x : ℕ) (s : PageState) → all_given (xs ++ x ∷ []) s ≡ given (block_at x 0) (all_given xs s)
+pub given_more : (xs : List ℕ) (x : ℕ) (s : PageState) → all_given (xs ++ x ∷ []) s ≡ with_free_block (block_at x 0) (all_given xs s)
 given_more [] x s = refl
-given_more (y ∷ xs) x s = given_more xs x (given (block_at y 0) s)
+given_more (y ∷ xs) x s = given_more xs x (with_free_block (block_at y 0) s)
 
 -- a page that stands once isn't among those before it
 pub not_before : (pages : List ℕ) (i : ℕ) → i < length pages → times (get_or pages i 0) pages ≤ 1 → is_in (get_or pages i 0) (take i pages) ≡ false

@@ -9,7 +9,7 @@ use Rattle.vb_model.specs.Life.{feature_refusal, accepted_before}
 use Rattle.vb_ram.specs.Pages.{Pages}
 use Rattle.vb_ring.specs.Layout.{IsSize, Fits, layout_of}
 use Rattle.vb_ring.proofs.MeaningLaws.{fresh_shows, fresh_tracks}
-use Rattle.vb_status.specs.Answers.{refusal_in}
+use Rattle.vb_status.specs.Answers.{answered_refusal}
 use Rattle.vb_status.specs.declared.bits.StatusFault.{StatusFault}
 use Rattle.vb_driver.specs.State.{fresh_at}
 use Rattle.vb_driver.specs.Coding.{AreZeroed}
@@ -55,7 +55,7 @@ new_ring m1 m2 page q size low zeroed = record {
 
 -- ---- answers
 
-pub none_ok : {T : Type 0} (r : Result T StatusFault) → is_err r ≡ false → refusal_in r ≡ None
+pub none_ok : {T : Type 0} (r : Result T StatusFault) → is_err r ≡ false → answered_refusal r ≡ None
 none_ok (Ok x) e = refl
 none_ok (Err fault) e = cc
 

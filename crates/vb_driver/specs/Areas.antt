@@ -5,13 +5,13 @@ use Rattle.std.specs.List.{list_any, list_all, range_with_len}
 use Rattle.vb_model.specs.Pages.{Block, covers, is_aligned, pages_of}
 use Rattle.vb_model.specs.declared.replies.Refusal.{Refusal}
 use Rattle.vb_model.specs.declared.replies.Refusal.TheVariants.{BadOrder, BadCpu, NoPages, NotHeld}
-use Rattle.vb_pages.specs.declared.PageFault.{PageFault}
-use Rattle.vb_pages.specs.declared.PageFault.TheVariants.{BadOrder as OrderTooLarge}
-use Rattle.vb_pages.specs.declared.PageFault.TheVariants.{BadCpu as NoSuchCpu}
-use Rattle.vb_pages.specs.declared.PageFault.TheVariants.{NoPages as NoFreeBlock}
-use Rattle.vb_pages.specs.declared.PageFault.TheVariants.{NotHeld as NoSuchBlock}
-use Rattle.vb_pages.specs.FreePages.{FreePages, is_free as is_free_page}
-use Rattle.vb_pages.specs.PageState.{PageState, cpu_count, Allocates, given}
+use Rattle.vb_pages.specs.declared.fault.PageFault.{PageFault}
+use Rattle.vb_pages.specs.declared.fault.PageFault.TheVariants.{BadOrder as OrderTooLarge}
+use Rattle.vb_pages.specs.declared.fault.PageFault.TheVariants.{BadCpu as NoSuchCpu}
+use Rattle.vb_pages.specs.declared.fault.PageFault.TheVariants.{NoPages as NoFreeBlock}
+use Rattle.vb_pages.specs.declared.fault.PageFault.TheVariants.{NotHeld as NoSuchBlock}
+use Rattle.vb_pages.specs.FreePages.{FreePages, is_free_in as is_free_page}
+use Rattle.vb_pages.specs.PageState.{PageState, cpu_count, AllocatesBlock, with_free_block}
 use Rattle.vb_pages.specs.Areas.{block_at}
 
 -- whether each page is free
@@ -50,14 +50,14 @@ pub record Becomes (old new : PageState) (flags : List Bool) (blocks : List Bloc
 -- What an allocation does to the areas and the lists: it takes its block from them, or finds none,
 -- with all lists drained. An order or a processor that is refused leaves them as they are.
 abbrev pub Allots : PageState → ℕ → ℕ → Result ℕ Refusal → PageState → Type 0
-Allots s cpu order (Ok start) new = Allocates s cpu order (Ok start) new
-Allots s cpu order (Err NoPages) new = Allocates s cpu order (Err NoFreeBlock) new
+Allots s cpu order (Ok start) new = AllocatesBlock s cpu order (Ok start) new
+Allots s cpu order (Err NoPages) new = AllocatesBlock s cpu order (Err NoFreeBlock) new
 Allots s cpu order (Err refusal) new = new ≡ s
 
 -- these single pages go back into the areas, one after the other
 abbrev pub all_given : List ℕ → PageState → PageState
 all_given [] s = s
-all_given (page ∷ pages) s = all_given pages (given (block_at page 0) s)
+all_given (page ∷ pages) s = all_given pages (with_free_block (block_at page 0) s)
 
 -- No page is both free and in a held block.
 pub record AreApart (s : PageState) : Type 0 where

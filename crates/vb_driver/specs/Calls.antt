@@ -24,7 +24,7 @@ use Rattle.vb_ram.specs.Pages.{Pages, byte_at, page_at, frame_at, contents_at}
 use Rattle.vb_ram.specs.Part.{Part}
 use Rattle.vb_pages.specs.FreePages.{FreePages}
 use Rattle.vb_pages.specs.PageState.{TakesFree, freed}
-use Rattle.vb_status.specs.After.{after_reset}
+use Rattle.vb_status.specs.After.{part_after_reset}
 use Rattle.vb_chain.specs.Table.{descriptor_at}
 use Rattle.vb_ring.specs.Ends.{after_add, after_take, next_head, used_answer}
 use Rattle.vb_ring.specs.Meaning.{UsedElem, ShowsEntries, Shows, Tracks}
@@ -249,7 +249,7 @@ pub record IsNewRing (mem : Pages) (side : Side) : Type 0 where
 -- The rings begin anew in zeroed pages, and the device is told so: its status is ACKNOWLEDGE,
 -- DRIVER, FEATURES_OK and DRIVER_OK (1 + 2 + 8 + 4).
 pub record Starts (m1 m2 : Pages) (p1 p2 : Part) (d1 d2 : DriverState) (wanted : ℕ) : Type 0 where
-  pub part : p2 ≡ record (after_reset p1) { status = 15; features = wanted }
+  pub part : p2 ≡ record (part_after_reset p1) { status = 15; features = wanted }
   pub driver : d2 ≡ record d1 {
     inflate = fresh_side 0 d1.queue_size;
     deflate = fresh_side 1 d1.queue_size;
@@ -266,14 +266,14 @@ pub record Starts (m1 m2 : Pages) (p1 p2 : Part) (d1 d2 : DriverState) (wanted :
 -- The device and its driver agree on the features (1 + 2 + 8).
 pub record Agrees (m1 m2 : Pages) (p1 p2 : Part) (d1 d2 : DriverState) (wanted : ℕ) : Type 0 where
   pub mem : m2 ≡ m1
-  pub part : p2 ≡ record (after_reset p1) { status = 11; features = wanted }
+  pub part : p2 ≡ record (part_after_reset p1) { status = 11; features = wanted }
   pub driver : d2 ≡ record d1 { features = wanted }
 
 -- The driver gives up, where the device was asked for features that it refused (128 + 2 + 1).
 pub record GivesUp (m1 m2 : Pages) (p1 p2 : Part) (d1 d2 : DriverState)
     (features : ℕ) : Type 0 where
   pub mem : m2 ≡ m1
-  pub part : p2 ≡ record (after_reset p1) { status = 131; features = features }
+  pub part : p2 ≡ record (part_after_reset p1) { status = 131; features = features }
   pub driver : d2 ≡ record d1 { features = features }
 
 abbrev pub InitRefused : Refusal → Pages → Pages → Part → Part → DriverState → DriverState → ℕ
@@ -302,7 +302,7 @@ pub record InitsBy {T : Type 0} (m1 m2 : Pages) (p1 p2 : Part) (d1 d2 : DriverSt
 pub record ResetsBy (m1 m2 : Pages) (p1 p2 : Part) (d1 d2 : DriverState) : Type 0 where
   pub driver : IsDriver d1
   pub mem : m2 ≡ m1
-  pub part : p2 ≡ after_reset p1
+  pub part : p2 ≡ part_after_reset p1
   pub state : d2 ≡ record d1 {
     places = map place_after_reset d1.places;
     inflate = fresh_side 0 d1.queue_size;

@@ -14,7 +14,7 @@ use Rattle.vb_ring.specs.Layout.{IsSize, layout_of}
 use Rattle.vb_ring.specs.Entries.{is_head}
 use Rattle.vb_ring.specs.Ends.{DriverEnd, fresh_end, is_free as is_unused}
 pub use Rattle.vb_pages.specs.FreePages.{FreePages}
-use Rattle.vb_pages.specs.PageState.{PageState, fresh}
+use Rattle.vb_pages.specs.PageState.{PageState, new_page_state}
 use Rattle.vb_driver.specs.Areas.{flags_of, is_covered}
 
 -- Of a queue of requests: the driver's end of its ring, and by head the pages of each request that
@@ -92,7 +92,7 @@ fresh_driver pages queue_size processors =
       processors = processors;
       places = all_free pages;
       held = [];
-      areas = (fresh pages processors).free;
+      areas = (new_page_state pages processors).free;
       inflate = fresh_side 0 queue_size;
       deflate = fresh_side 1 queue_size;
       features = 0;

@@ -12,7 +12,7 @@ ghost use Rattle.vb_model.specs.Orderly.{times};
 ghost use Rattle.vb_model.specs.Refusals.{◌⇒◌, first_refusal};
 ghost use Rattle.vb_model.specs.declared.replies.Refusal.TheVariants.{BadOrder, BadCpu, NoPages};
 ghost use Rattle.vb_model.specs.declared.replies.Refusal.TheVariants.{NotHeld};
-ghost use Rattle.vb_pages.specs.PageState.{IsSize, cpu_count, is_held_block, fresh, freed, given};
+ghost use Rattle.vb_pages.specs.PageState.{IsGuestSize, cpu_count, is_held_block, new_page_state, freed, with_free_block};
 ghost use Rattle.vb_pages.specs.PageState.{TakesFree};
 ghost use Rattle.vb_driver.specs.Answers.{refusal_in, block_at};
 ghost use Rattle.vb_driver.specs.Areas.{AreApart, Becomes, Allots, flags_of, has_block, all_given};
@@ -57,8 +57,8 @@ fn refusal_of(fault: PageFault) -> Refusal
 impl Areas {
     /// The areas of a guest as it is plugged in.
     pub(crate) fn new(alloc: Global, pages: u32, processors: u32) -> Result<Self, AllocError>
-        requires { IsSize pages processors }
-        ensures { IfOk result (λ areas. areas ≡ fresh pages processors) }
+        requires { IsGuestSize pages processors }
+        ensures { IfOk result (λ areas. areas ≡ new_page_state pages processors) }
     {
         Ok(Areas {
             pages: Pages::new(alloc, pages, processors)?,
@@ -138,7 +138,7 @@ impl Areas {
         requires uncovered { is_covered page self.old.held ≡ false }
         ensures state { Becomes self.old self.new
             (slice_set (flags_of self.old.free) page true) self.old.held }
-        ensures areas { self.new ≡ given (block_at page 0) self.old }
+        ensures areas { self.new ≡ with_free_block (block_at page 0) self.old }
     {
         self.pages.give_free(page);
     }

@@ -1,7 +1,7 @@
 //! A guest's driver starts, and starts over (VIRTIO 1.1, 2.1 and 3.1.1).
 
 ghost use Rattle.std.specs.Prelude.{◌≡◌, ◌<◌};
-ghost use Rattle.vb_status.specs.After.{after_reset, with_new_queues};
+ghost use Rattle.vb_status.specs.After.{part_after_reset, with_new_queues};
 ghost use Rattle.vb_status.specs.Answers.{refusal_of_fault};
 ghost use Rattle.vb_status.specs.Bits.{feature_bits};
 ghost use Rattle.vb_driver.specs.Answers.{IsBacked, IsLargeEnough};
@@ -32,7 +32,7 @@ fn refusal_of(fault: StatusFault) -> Refusal
 
 /// Resets the device, and tells it that a driver has found it and knows what it is.
 fn begin<P: Port>(port: &mut P)
-    ensures part { P.part port.new ≡ record (after_reset (P.part port.old)) { status = 3 } }
+    ensures part { P.part port.new ≡ record (part_after_reset (P.part port.old)) { status = 3 } }
     ensures mem { P.mem port.new ≡ P.mem port.old }
 {
     let _ = port.write_status(Status::empty());

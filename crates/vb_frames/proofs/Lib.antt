@@ -1,2 +1,3 @@
 pub mod Grouping
 pub mod Least
+pub mod Returns

@@ -1,5 +1,5 @@
 -- A flag of a list; past its end none is set.
 use Rattle.std.specs.Prelude.{ℕ, Bool, false, List, slice_index_or}
 
-abbrev pub flag : List Bool → ℕ → Bool
-flag flags n = slice_index_or flags n false
+abbrev pub is_flagged : List Bool → ℕ → Bool
+is_flagged flags n = slice_index_or flags n false

@@ -1,4 +1,3 @@
 pub mod Flags
 pub mod Groups
 pub mod Out
-pub mod Returns

@@ -3,8 +3,8 @@ use Rattle.std.specs.Prelude.{◌≡◌, ℕ, ◌<◌, Bool, true, false, List, 
 use Rattle.vb_model.specs.declared.calls.Claim.{Claim}
 use Rattle.vb_model.specs.declared.calls.Claim.TheVariants.{Gave, GaveNoFrame, GaveNoMemory}
 use Rattle.vb_ram.specs.Pages.{Page}
-use Rattle.vb_frames.specs.declared.Refused.{Refused}
-use Rattle.vb_frames.specs.declared.Refused.TheVariants.{NoFrame, Memory}
+use Rattle.vb_frames.specs.declared.keeper.Refused.{Refused}
+use Rattle.vb_frames.specs.declared.keeper.Refused.TheVariants.{NoFrame, Memory}
 
 -- whether the frame of this number is out; no frame past the end is
 abbrev pub is_out : List Bool → ℕ → Bool
@@ -35,11 +35,13 @@ after_claims out (GaveNoMemory ∷ claims) = after_claims out claims
 -- each claim is answered as it may be where those before it were answered so; a refusal is the last
 abbrev pub AllAnswered : (List Bool → Claim → Type 0) → List Bool → List Claim → Type 0
 AllAnswered Answers out [] = ⊤
-AllAnswered Answers out (Gave n ∷ claims) = Answers out (Gave n) × IsFree out n × AllAnswered Answers (slice_set out n true) claims
+AllAnswered Answers out (Gave n ∷ claims) = Answers out (Gave n) × IsFree out n ×
+    AllAnswered Answers (slice_set out n true) claims
 AllAnswered Answers out (GaveNoFrame ∷ claims) = Answers out GaveNoFrame × (claims ≡ [])
 AllAnswered Answers out (GaveNoMemory ∷ claims) = Answers out GaveNoMemory × (claims ≡ [])
 
--- a table gives the least frame that is free; NoFrame where none is, and where one is it may find no memory
+-- a table gives the least frame that is free; NoFrame where none is, and where one is it may find
+-- no memory
 abbrev pub TableAnswers : List Bool → Claim → Type 0
 TableAnswers out (Gave n) = IsFree out n × ((m : ℕ) → m < n → is_out out m ≡ true)
 TableAnswers out GaveNoFrame = AllOut out

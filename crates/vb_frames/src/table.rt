@@ -1,10 +1,10 @@
-// A table of a host's frames.
+//! A table of a host's frames.
 
 ghost use Rattle.std.specs.Prelude.{◌≡◌, ℕ, ◌+◌, ◌*◌, ◌<◌, ◌≤◌, ◌/◌, true, false, None, List, Bool, [], ◌∷◌, length, replicate, slice_index_or, slice_set, IfOk, MatchOption, count_by};
 ghost use Rattle.vb_model.specs.declared.calls.Claim.{Claim};
 ghost use Rattle.vb_model.specs.World.{Gives};
-ghost use Rattle.vb_frames.specs.Flags.{flag};
-ghost use Rattle.vb_frames.specs.Groups.{IsIn, IsGrouped};
+ghost use Rattle.vb_frames.specs.Flags.{is_flagged};
+ghost use Rattle.vb_frames.specs.Groups.{IsInGroup, IsGrouped};
 ghost use Rattle.vb_frames.specs.Out.{IsFree, AllOut, AllAnswered, TableAnswers, is_out};
 
 use crate::{FrameKeeper, Refused};
@@ -16,13 +16,18 @@ use vb_ram::Frame;
 /// Frames of a group.
 const GROUP: usize = 256;
 
+/// Groups of the largest host.
+const GROUP_COUNT: usize = MAX_FRAMES as usize / GROUP;
+
 /// The frames of a host, numbered from 0 on. A claim gives the least number that isn't out; it
 /// looks at as many flags as there are groups, and at those of one group twice.
 #[derive(Drop)]
 pub struct FrameTable {
+    /// Where the frames' bytes come from.
     alloc: Global,
+    /// Of each frame, whether it is out.
     out: Vec<bool>,
-    // Of each group, whether all its frames are out.
+    /// Of each group, whether all its frames are out.
     full: Vec<bool>,
 }
 
@@ -39,8 +44,8 @@ impl Model for FrameTable {
 
 /// The first flag that isn't set.
 fn first_free(flags: &[bool]) -> Option<usize>
-    ensures { MatchOption result ((k : ℕ) → k < length flags.now → flag flags.now k ≡ true)
-        (λ n. IsFree flags.now n × ((k : ℕ) → k < n → flag flags.now k ≡ true)) }
+    ensures { MatchOption result ((k : ℕ) → k < length flags.now → is_flagged flags.now k ≡ true)
+        (λ n. IsFree flags.now n × ((k : ℕ) → k < n → is_flagged flags.now k ≡ true)) }
 {
     for (n, out) in flags.iter().enumerate() {
         if !*out {
@@ -52,11 +57,12 @@ fn first_free(flags: &[bool]) -> Option<usize>
 
 /// The flags of a group's frames.
 fn group_flags(out: &[bool], group: usize) -> &[bool]
-    requires few { length out.now ≤ 65536 }
-    requires group { group < 256 }
-    ensures at { (k : ℕ) → k < length result.now → flag result.now k ≡ flag out.now (256 * group + k) }
-    ensures all { (n : ℕ) → IsIn out.now group n → n < 256 * group + length result.now }
-    ensures only { (k : ℕ) → k < length result.now → IsIn out.now group (256 * group + k) }
+    requires few { length out.now ≤ MAX_FRAMES }
+    requires group { group < GROUP_COUNT }
+    ensures at { (k : ℕ) → k < length result.now →
+        is_flagged result.now k ≡ is_flagged out.now (GROUP * group + k) }
+    ensures all { (n : ℕ) → IsInGroup out.now group n → n < GROUP * group + length result.now }
+    ensures only { (k : ℕ) → k < length result.now → IsInGroup out.now group (GROUP * group + k) }
 {
     let start = (group * GROUP).min(out.len());
     let end = (start + GROUP).min(out.len());
@@ -66,7 +72,8 @@ fn group_flags(out: &[bool], group: usize) -> &[bool]
 /// The least number that isn't out.
 fn least_free(out: &[bool], full: &[bool]) -> Option<usize>
     requires { IsGrouped out.now full.now }
-    ensures { MatchOption result (AllOut out.now) (λ n. IsFree out.now n × ((m : ℕ) → m < n → is_out out.now m ≡ true)) }
+    ensures { MatchOption result (AllOut out.now)
+        (λ n. IsFree out.now n × ((m : ℕ) → m < n → is_out out.now m ≡ true)) }
 {
     match first_free(full) {
         None => None,
@@ -160,5 +167,6 @@ impl FrameKeeper for FrameTable {
 /// number that isn't out, NoFrame is answered exactly where all are out, and want of memory ends
 /// them where one was free.
 pub fn a_table_gives_the_least()
-    ensures { (out : List Bool) (claims : List Claim) → AllAnswered TableAnswers out claims → Gives (length out) (λ n. is_out out n ≡ true) claims }
+    ensures { (out : List Bool) (claims : List Claim) → AllAnswered TableAnswers out claims →
+        Gives (length out) (λ n. is_out out n ≡ true) claims }
 {}

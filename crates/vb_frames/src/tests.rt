@@ -1,4 +1,4 @@
-// Claims one after the other, at a keeper that refuses and at a table.
+//! Claims one after the other, at a keeper that refuses and at a table.
 
 ghost use Rattle.std.specs.Prelude.{◌≡◌, ℕ, ◌+◌, ◌<◌, ◌≤◌, List, [], ◌∷◌, Bool, true, false, ◌≢◌, OnErr, IfOk};
 ghost use Rattle.vb_model.specs.declared.calls.Claim.{Claim};
@@ -41,8 +41,10 @@ impl FrameKeeper for Refusing {
 
 /// Two frames, or none: what two claims of any keeper come to.
 fn claim_two<K: FrameKeeper>(keeper: &mut K) -> Result<(Frame, Frame), Refused>
-    ensures answers { IfOk result (λ frames. AllAnswered K.answers (K.out keeper.old) (Gave frames.0.number ∷ Gave frames.1.number ∷ [])) }
-    ensures ok { IfOk result (λ frames. K.out keeper.new ≡ after_claims (K.out keeper.old) (Gave frames.0.number ∷ Gave frames.1.number ∷ [])) }
+    ensures answers { IfOk result (λ frames.
+        AllAnswered K.answers (K.out keeper.old) (Gave frames.0.number ∷ Gave frames.1.number ∷ [])) }
+    ensures ok { IfOk result (λ frames.
+        K.out keeper.new ≡ after_claims (K.out keeper.old) (Gave frames.0.number ∷ Gave frames.1.number ∷ [])) }
     ensures others { IfOk result (λ frames. frames.0.number ≢ frames.1.number) }
     ensures err { OnErr result (K.out keeper.new ≡ K.out keeper.old) }
 {

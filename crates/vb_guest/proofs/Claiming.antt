@@ -5,8 +5,8 @@ use Rattle.std.proofs.Common.{sym, ◌∙◌, ap, subst, arith}
 use Rattle.vb_model.specs.declared.calls.Claim.{Claim}
 use Rattle.vb_model.specs.declared.calls.Claim.TheVariants.{Gave, GaveNoFrame, GaveNoMemory}
 use Rattle.vb_ram.specs.Pages.{Pages, frame_at, number_of, Supplied}
-use Rattle.vb_frames.specs.declared.Refused.{Refused}
-use Rattle.vb_frames.specs.declared.Refused.TheVariants.{NoFrame, Memory}
+use Rattle.vb_frames.specs.declared.keeper.Refused.{Refused}
+use Rattle.vb_frames.specs.declared.keeper.Refused.TheVariants.{NoFrame, Memory}
 use Rattle.vb_frames.specs.Out.{IsFree, claim_in}
 use Rattle.vb_guest.specs.Lives.{bare_from, SuppliesBy}
 use Rattle.vb_guest.proofs.Supplying.{not_again, supplied_count, supplied_other, out_back}

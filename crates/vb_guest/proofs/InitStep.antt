@@ -19,12 +19,12 @@ use Rattle.vb_model.specs.Life.{lacking, feature_tests, feature_refusal, accepte
 use Rattle.vb_model.specs.Driver.{given, claim_refusal, AreClaimsFor, Supplying}
 use Rattle.vb_ram.specs.Pages.{Pages, frame_at, number_of, contents_of}
 use Rattle.vb_ram.specs.Part.{Part, no_queue}
-use Rattle.vb_status.specs.After.{after_reset}
+use Rattle.vb_status.specs.After.{part_after_reset}
 use Rattle.vb_ring.specs.Layout.{IsSize}
 use Rattle.vb_driver.specs.State.{DriverState, IsDriver, fresh_side}
 use Rattle.vb_driver.specs.Answers.{has_frames, init_tests}
 use Rattle.vb_driver.specs.Calls.{InitsBy, InitRefused, Starts, GivesUp, IsNewRing}
-use Rattle.vb_frames.specs.declared.Refused.{Refused as WhyRefused}
+use Rattle.vb_frames.specs.declared.keeper.Refused.{Refused as WhyRefused}
 use Rattle.vb_frames.specs.Out.{is_out}
 use Rattle.vb_guest.specs.Line.{Line}
 use Rattle.vb_guest.specs.Stands.{Stands, Ties, HasParts, HasPages, IsIdle, beside_queues, beside_sides, beside_requests}
@@ -185,7 +185,7 @@ started : (m2 m3 : Pages) (p1 p3 : Part) (d1 d2 : DriverState) (g : Guest) (fram
     → Ties m3 p3 d2 (record g { frames = frames; status = 15; features = wanted; buffer = NoBuffer })
 started m2 m3 p1 p3 d1 d2 g frames wanted has backed idle driver parts did =
     let new : Guest = record g { frames = frames; status = 15; features = wanted; buffer = NoBuffer } in
-    let part : Part = record (after_reset p1) { status = 15; features = wanted } in
+    let part : Part = record (part_after_reset p1) { status = 15; features = wanted } in
     let state : DriverState = record d1 { inflate = fresh_side 0 d1.queue_size; deflate = fresh_side 1 d1.queue_size; features = wanted } in
     let n = g.config.pages in
     let inflate = fresh_line m3 0 n d1.queue_size driver.size (subst (λ (d : DriverState). IsNewRing m3 d.inflate) did.driver did.inflate) in
@@ -238,7 +238,7 @@ stopped : (m2 m3 : Pages) (p1 p3 : Part) (d1 d2 : DriverState) (g : Guest) (fram
     → Ties m3 p3 d2 (record g { frames = frames; status = 131; features = accepted })
 stopped m2 m3 p1 p3 d1 d2 g frames accepted has idle parts did =
     let new : Guest = record g { frames = frames; status = 131; features = accepted } in
-    let part : Part = record (after_reset p1) { status = 131; features = accepted } in
+    let part : Part = record (part_after_reset p1) { status = 131; features = accepted } in
     let state : DriverState = record d1 { features = accepted } in
     let there : Ties m2 part state new = record {
       parts = record {

@@ -8,7 +8,7 @@ use Rattle.vb_model.specs.Guest.{Guest}
 use Rattle.vb_model.specs.Life.{place_after_reset, after_reset}
 use Rattle.vb_ram.specs.Pages.{Pages}
 use Rattle.vb_ram.specs.Part.{Part}
-use Rattle.vb_status.specs.After.{after_reset as device_after_reset}
+use Rattle.vb_status.specs.After.{part_after_reset as device_after_reset}
 use Rattle.vb_driver.specs.State.{DriverState, fresh_side}
 use Rattle.vb_driver.specs.Calls.{ResetsBy}
 use Rattle.vb_guest.specs.Stands.{Stands, Ties}

@@ -7,8 +7,8 @@ use Rattle.vb_model.specs.declared.replies.Refusal.TheVariants.{NoFrame as NoFra
 use Rattle.vb_model.specs.Limits.{ring_and_buffer_pages}
 use Rattle.vb_model.specs.Driver.{given, claim_refusal, AreClaimsFor}
 use Rattle.vb_ram.specs.Pages.{Pages, frame_at, Supplied}
-use Rattle.vb_frames.specs.declared.Refused.{Refused}
-use Rattle.vb_frames.specs.declared.Refused.TheVariants.{NoFrame, Memory}
+use Rattle.vb_frames.specs.declared.keeper.Refused.{Refused}
+use Rattle.vb_frames.specs.declared.keeper.Refused.TheVariants.{NoFrame, Memory}
 use Rattle.vb_frames.specs.Out.{AllAnswered, after_claims}
 
 -- The pages of rings and buffers from this one on that have no frame, in rising order.

@@ -8,7 +8,7 @@ use Rattle.std.proofs.Math.Pow.{pow_mono}
 use Rattle.vb_model.specs.Tests.{one_if}
 use Rattle.vb_model.specs.Pages.{pages_of}
 use Rattle.vb_model.proofs.Tables.{count_by-cons}
-use Rattle.vb_pages.specs.declared.FreeBlock.{FreeBlock}
+use Rattle.vb_pages.specs.declared.block.FreeBlock.{FreeBlock}
 use Rattle.vb_pages.specs.Areas.{has, with_pages, without_pages, unreserved, block_at, LiesIn, LiesOutside, IsMaximal, IsChosen, IsLowestFrom}
 use Rattle.vb_pages.specs.Tiles.{set_of, IsTiled, IsLowestListed}
 use Rattle.vb_pages.proofs.Sets.{same_sets, is_inside, count_range, count_without}

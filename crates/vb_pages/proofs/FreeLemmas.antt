@@ -10,9 +10,9 @@ use Rattle.std.specs.Prelude.{sum_by}
 use Rattle.vb_model.specs.Tests.{is_in, one_if}
 use Rattle.vb_model.specs.Pages.{pages_of, covers}
 use Rattle.vb_model.proofs.PageSteps.{covers_is}
-use Rattle.vb_pages.specs.Areas.{has, with_pages, without_pages, unreserved, block_at, IsBlock, HasNoBlock, IsChosen, Takes, IsMaximal, IsLowestFrom}
-use Rattle.vb_pages.specs.declared.FreeBlock.{FreeBlock}
-use Rattle.vb_pages.specs.FreePages.{FreePages, in_lists, is_free, times_free, list_of, with_list, drained, TakesPages, Refills, Pops, TakesSingle, Tries, Serves, given_back, IsSound, HasRoomFor}
+use Rattle.vb_pages.specs.Areas.{has, with_pages, without_pages, unreserved, block_at, IsBlock, HasNoBlock, IsChosen, TakesBlock, IsMaximal, IsLowestFrom}
+use Rattle.vb_pages.specs.declared.block.FreeBlock.{FreeBlock}
+use Rattle.vb_pages.specs.FreePages.{FreePages, in_lists, is_free_in, times_free, list_of, with_list, drained, TakesPages, Refills, Pops, TakesSingle, Tries, Serves, given_back, IsSoundFree, HasRoomFor}
 use Rattle.vb_pages.proofs.Sets.{is_inside, without_parts, with_cases, with_old, with_new, length-with_pages, length-without_pages, block_bounds}
 use Rattle.vb_pages.proofs.Aligned.{aligned_down}
 use Rattle.vb_pages.proofs.AreasLemmas.{length-unreserved, count_without_block, count_zero, taken_inside}
@@ -47,11 +47,11 @@ list-empty (x ∷ xs) (suc i) = list-empty xs i
 
 -- ---- sound
 
-pub list_once : (f : FreePages) (cpu : ℕ) → IsSound f → Once f.areas (list_of f cpu)
+pub list_once : (f : FreePages) (cpu : ℕ) → IsSoundFree f → Once f.areas (list_of f cpu)
 list_once f cpu sound p = omega (arith, sound.once p, times_part p f.lists cpu)
 
 -- where no page is free more often than before
-pub sound_from : (f g : FreePages) → IsSound f → length g.areas ≡ length f.areas → length g.lists ≡ length f.lists → ((p : ℕ) → times_free g p ≤ times_free f p) → ((cpu : ℕ) → length (list_of g cpu) < 16) → IsSound g
+pub sound_from : (f g : FreePages) → IsSoundFree f → length g.areas ≡ length f.areas → length g.lists ≡ length f.lists → ((p : ℕ) → times_free g p ≤ times_free f p) → ((cpu : ℕ) → length (list_of g cpu) < 16) → IsSoundFree g
 sound_from f g sound a l less short = record {
   once = λ p. let e : one_if (nat_lt p (length g.areas)) ≡ one_if (nat_lt p (length f.areas)) = ap (λ (n : ℕ). one_if (nat_lt p n)) a in omega (arith, sound.once p, less p, e);
   short = short;
@@ -60,24 +60,24 @@ sound_from f g sound a l less short = record {
 }
 
 -- draining moves each page to the areas
-pub drained_times : (f : FreePages) → IsSound f → (p : ℕ) → times_free (drained f) p ≡ times_free f p
+pub drained_times : (f : FreePages) → IsSoundFree f → (p : ℕ) → times_free (drained f) p ≡ times_free f p
 drained_times f sound p =
     let e : times p (in_lists (drained f)) ≡ 0 = ap (times p) (flat-empty f.lists) in
     omega (arith, e, with_times f.areas (in_lists f) sound.once p)
 
-pub drained_sound : (f : FreePages) → IsSound f → IsSound (drained f)
+pub drained_sound : (f : FreePages) → IsSoundFree f → IsSoundFree (drained f)
 drained_sound f sound =
     sound_from f (drained f) sound (length-with_pages (in_lists f) f.areas) (length-map f.lists (λ (l : List ℕ). [])) (λ p. omega (arith, drained_times f sound p)) (λ cpu. omega (arith, ap length (list-empty f.lists cpu)))
 
 -- ---- a block comes back
 
-not_free : (f : FreePages) (p : ℕ) → is_free f p ≡ false → times_free f p ≡ 0
+not_free : (f : FreePages) (p : ℕ) → is_free_in f p ≡ false → times_free f p ≡ 0
 not_free f p h =
     let q = or_parts (has f.areas p) (is_in p (in_lists f)) h in
     let e : one_if (has f.areas p) ≡ 0 = ap one_if q.0 in
     omega (arith, e, times_out p (in_lists f) q.1)
 
-pub block_times : (f : FreePages) (s k : ℕ) → IsSound f → HasRoomFor f s k → (p : ℕ) → one_if (has (with_pages (pages_of (block_at s k)) f.areas) p) ≡ one_if (has f.areas p) + one_if (covers p (block_at s k))
+pub block_times : (f : FreePages) (s k : ℕ) → IsSoundFree f → HasRoomFor f s k → (p : ℕ) → one_if (has (with_pages (pages_of (block_at s k)) f.areas) p) ≡ one_if (has f.areas p) + one_if (covers p (block_at s k))
 block_times f s k sound room p =
     let block = pages_of (block_at s k) in
     elim (cases_Bool (is_in p block)) [
@@ -103,7 +103,7 @@ block_times f s k sound room p =
     ]
 
 -- a page of the block wasn't free, and is there
-pub room_once : (f : FreePages) (s k : ℕ) → IsSound f → HasRoomFor f s k → (p : ℕ) → times_free f p + one_if (covers p (block_at s k)) ≤ one_if (nat_lt p (length f.areas))
+pub room_once : (f : FreePages) (s k : ℕ) → IsSoundFree f → HasRoomFor f s k → (p : ℕ) → times_free f p + one_if (covers p (block_at s k)) ≤ one_if (nat_lt p (length f.areas))
 room_once f s k sound room p =
     elim (cases_Bool (is_in p (pages_of (block_at s k)))) [
       | inl i ↦
@@ -116,7 +116,7 @@ room_once f s k sound room p =
           omega (arith, c, sound.once p)
     ]
 
-pub block_sound : (f : FreePages) (s k : ℕ) → IsSound f → HasRoomFor f s k → IsSound (record f { areas = with_pages (pages_of (block_at s k)) f.areas })
+pub block_sound : (f : FreePages) (s k : ℕ) → IsSoundFree f → HasRoomFor f s k → IsSoundFree (record f { areas = with_pages (pages_of (block_at s k)) f.areas })
 block_sound f s k sound room = record {
   once = λ p.
       let e : one_if (nat_lt p (length (with_pages (pages_of (block_at s k)) f.areas))) ≡ one_if (nat_lt p (length f.areas)) = ap (λ (n : ℕ). one_if (nat_lt p n)) (length-with_pages (pages_of (block_at s k)) f.areas) in
@@ -128,7 +128,7 @@ block_sound f s k sound room = record {
 
 -- ---- a block goes out
 
-pub takes_sound : (f : FreePages) (new : List Bool) (k s : ℕ) → IsSound f → Takes f.areas k (Some s) new → IsSound (record f { areas = new })
+pub takes_sound : (f : FreePages) (new : List Bool) (k s : ℕ) → IsSoundFree f → TakesBlock f.areas k (Some s) new → IsSoundFree (record f { areas = new })
 takes_sound f new k s sound t =
     sound_from f (record f { areas = new }) sound (ap length t.1 ∙ length-without_pages (pages_of (block_at s k)) f.areas) refl (λ p. omega (arith, takes_times f.areas new k s t p)) sound.short
 
@@ -194,7 +194,7 @@ single_none set new (x ∷ xs) rest h = absurd (let bad : length (x ∷ xs) ≡ 
 -- ---- a try
 
 -- a page that the processor's list and the areas give
-pub single_sound : (f : FreePages) (cpu : ℕ) (new : List Bool) (rest : List ℕ) (got : Option ℕ) → IsSound f → cpu < length f.lists → TakesSingle f.areas (list_of f cpu) got new rest → IsSound (record { areas = new; lists = set f.lists cpu rest })
+pub single_sound : (f : FreePages) (cpu : ℕ) (new : List Bool) (rest : List ℕ) (got : Option ℕ) → IsSoundFree f → cpu < length f.lists → TakesSingle f.areas (list_of f cpu) got new rest → IsSoundFree (record { areas = new; lists = set f.lists cpu rest })
 single_sound f cpu new rest got sound l h =
     sound_from f (record { areas = new; lists = set f.lists cpu rest }) sound (single_areas f.areas new (list_of f cpu) rest got h) (length-set f.lists cpu rest)
     (λ p. omega (arith, single_times f.areas new (list_of f cpu) rest got h p, times-set p f.lists cpu rest l))
@@ -231,7 +231,7 @@ tries_times f new cpu (suc order) start l h p =
     omega (arith, e, takes_times f.areas new.areas (suc order) start h.0 p)
 
 -- a request that is served takes just the block's pages
-pub serves_times : (f new : FreePages) (cpu order start : ℕ) → IsSound f → cpu < length f.lists → Serves f cpu order (Some start) new → (p : ℕ) → times_free new p + one_if (covers p (block_at start order)) ≡ times_free f p
+pub serves_times : (f new : FreePages) (cpu order start : ℕ) → IsSoundFree f → cpu < length f.lists → Serves f cpu order (Some start) new → (p : ℕ) → times_free new p + one_if (covers p (block_at start order)) ≡ times_free f p
 serves_times f new cpu order start sound l h p =
     elim h [
       | inl now ↦ tries_times f new cpu order start l now p
@@ -307,7 +307,7 @@ pub record AreTakenSoFar (set : List Bool) (i : ℕ) (new : List Bool) (out : Li
   pub long : length out ≡ i
   pub count : count_by (λ f. f) new + i ≡ count_by (λ f. f) set
 
-pub taken_one : (set mid new : List Bool) (i page : ℕ) (out : List ℕ) → AreTakenSoFar set i mid out → Takes mid 0 (Some page) new → AreTakenSoFar set (i + 1) new (out ++ page ∷ [])
+pub taken_one : (set mid new : List Bool) (i page : ℕ) (out : List ℕ) → AreTakenSoFar set i mid out → TakesBlock mid 0 (Some page) new → AreTakenSoFar set (i + 1) new (out ++ page ∷ [])
 taken_one set mid new i page out h t =
     let n = count_without_block page 0 mid (taken_inside mid page 0 t.0.0 t.0.1) in
     record { takes = takes_more set mid new out page h.takes t; long = omega (arith, length-append out (page ∷ []), h.long); count = omega (arith, h.count, n, ap (count_by (λ f. f)) t.1) }
@@ -319,13 +319,13 @@ taken_all set mid i n out h none l enough =
 
 -- ---- the areas that another call leaves
 
-pub areas_sound : (f : FreePages) (new : List Bool) → IsSound f → length new ≡ length f.areas → ((p : ℕ) → one_if (has new p) ≤ one_if (has f.areas p)) → IsSound (free_of new f.lists)
+pub areas_sound : (f : FreePages) (new : List Bool) → IsSoundFree f → length new ≡ length f.areas → ((p : ℕ) → one_if (has new p) ≤ one_if (has f.areas p)) → IsSoundFree (free_of new f.lists)
 areas_sound f new sound l less = sound_from f (free_of new f.lists) sound l refl (λ p. omega (arith, less p)) sound.short
 
-pub takes_pages_sound : (f : FreePages) (new : List Bool) (pages : List ℕ) → IsSound f → TakesPages f.areas pages new → IsSound (free_of new f.lists)
+pub takes_pages_sound : (f : FreePages) (new : List Bool) (pages : List ℕ) → IsSoundFree f → TakesPages f.areas pages new → IsSoundFree (free_of new f.lists)
 takes_pages_sound f new pages sound t = areas_sound f new sound (length-takes_pages f.areas new pages t) (λ p. omega (arith, takes_pages_times f.areas new pages t p))
 
-pub without_sound : (f : FreePages) (pages : List ℕ) → IsSound f → IsSound (free_of (without_pages pages f.areas) f.lists)
+pub without_sound : (f : FreePages) (pages : List ℕ) → IsSoundFree f → IsSoundFree (free_of (without_pages pages f.areas) f.lists)
 without_sound f pages sound =
     areas_sound f (without_pages pages f.areas) sound (length-without_pages pages f.areas) (λ p.
     elim (cases_Bool (has (without_pages pages f.areas) p)) [
@@ -334,7 +334,7 @@ without_sound f pages sound =
     ])
 
 -- all pages are free
-pub fresh_sound : (n : ℕ) (lists : List (List ℕ)) → n ≤ 16384 → length lists ≤ 4 → flat lists ≡ [] → ((i : ℕ) → get_or lists i nothing ≡ nothing) → IsSound (free_of (unreserved n) lists)
+pub fresh_sound : (n : ℕ) (lists : List (List ℕ)) → n ≤ 16384 → length lists ≤ 4 → flat lists ≡ [] → ((i : ℕ) → get_or lists i nothing ≡ nothing) → IsSoundFree (free_of (unreserved n) lists)
 fresh_sound n lists small few none empty = record {
   once = λ p.
       let e : times p (flat lists) ≡ 0 = ap (times p) none in
@@ -360,7 +360,7 @@ list-replicate (suc n) (suc i) = list-replicate n i
 
 -- ---- a page comes back
 
-module _ (f : FreePages) (cpu s : ℕ) (sound : IsSound f) (l : cpu < length f.lists) (room : HasRoomFor f s 0) where
+module _ (f : FreePages) (cpu s : ℕ) (sound : IsSoundFree f) (l : cpu < length f.lists) (room : HasRoomFor f s 0) where
   abbrev pub longer : List ℕ
   longer = list_of f cpu ++ s ∷ []
 
@@ -372,7 +372,7 @@ module _ (f : FreePages) (cpu s : ℕ) (sound : IsSound f) (l : cpu < length f.l
       omega (arith, room_once f s 0 sound room p, times-set p f.lists cpu longer l, times-append p (list_of f cpu) (s ∷ []), times-one p s, covers_one s p)
 
   -- where the list has room
-  pub pushed_sound : length longer < 16 → IsSound (free_of f.areas (set f.lists cpu longer))
+  pub pushed_sound : length longer < 16 → IsSoundFree (free_of f.areas (set f.lists cpu longer))
   pushed_sound short = record {
     once = longer_times;
     short = λ i.
@@ -393,7 +393,7 @@ module _ (f : FreePages) (cpu s : ℕ) (sound : IsSound f) (l : cpu < length f.l
       let part : times p (get_or (set f.lists cpu longer) cpu nothing) ≡ times p longer = ap (times p) (get_or-set_same f.lists cpu longer nothing l) in
       omega (arith, longer_times p, front_times p, times_part p (set f.lists cpu longer) cpu, part)
 
-  pub spilled_sound : IsSound (free_of (with_pages (take 8 longer) f.areas) (set f.lists cpu (drop 8 longer)))
+  pub spilled_sound : IsSoundFree (free_of (with_pages (take 8 longer) f.areas) (set f.lists cpu (drop 8 longer)))
   spilled_sound = record {
     once = λ p.
         let e : one_if (nat_lt p (length (with_pages (take 8 longer) f.areas))) ≡ one_if (nat_lt p (length f.areas)) = ap (λ (n : ℕ). one_if (nat_lt p n)) (length-with_pages (take 8 longer) f.areas) in
@@ -426,11 +426,11 @@ module _ (f : FreePages) (cpu s : ℕ) (sound : IsSound f) (l : cpu < length f.l
 
 -- ---- a try, in its two forms
 
-pub takes_any_sound : (f : FreePages) (new : List Bool) (k : ℕ) (got : Option ℕ) → IsSound f → Takes f.areas k got new → IsSound (free_of new f.lists)
-takes_any_sound f new k None sound t = subst (λ (x : List Bool). IsSound (free_of x f.lists)) (sym t.1) sound
+pub takes_any_sound : (f : FreePages) (new : List Bool) (k : ℕ) (got : Option ℕ) → IsSoundFree f → TakesBlock f.areas k got new → IsSoundFree (free_of new f.lists)
+takes_any_sound f new k None sound t = subst (λ (x : List Bool). IsSoundFree (free_of x f.lists)) (sym t.1) sound
 takes_any_sound f new k (Some s) sound t = takes_sound f new k s sound t
 
-pub tries_block : (f : FreePages) (cpu k : ℕ) (got : Option ℕ) (new : List Bool) → 0 < k → Takes f.areas k got new → Tries f cpu k got (free_of new f.lists)
+pub tries_block : (f : FreePages) (cpu k : ℕ) (got : Option ℕ) (new : List Bool) → 0 < k → TakesBlock f.areas k got new → Tries f cpu k got (free_of new f.lists)
 tries_block f cpu zero got new h t = absurd (omega arith)
 tries_block f cpu (suc k) got new h t = (t, refl)
 
@@ -472,19 +472,19 @@ all_nothing ys xs l h =
     same_lists ys (map (λ (x : List ℕ). nothing) xs) (l ∙ sym (length-map xs (λ (x : List ℕ). nothing))) (λ k e b.
     get_or_default ys k e nothing b ∙ (h k (omega (arith, l)) ∙ (sym (list-empty xs k) ∙ get_or_default (map (λ (x : List ℕ). nothing) xs) k nothing e (omega (arith, l, length-map xs (λ (x : List ℕ). nothing))))))
 
-pub isolated_sound : (f : FreePages) (new : List Bool) (order from : ℕ) (got : Option FreeBlock) → IsSound f
+pub isolated_sound : (f : FreePages) (new : List Bool) (order from : ℕ) (got : Option FreeBlock) → IsSoundFree f
     → MatchOption got
     (((start larger : ℕ) → order ≤ larger → from ≤ start → IsMaximal f.areas (block_at start larger) → ⊥) × (new ≡ f.areas))
     (λ b. IsLowestFrom f.areas order from (block_at b.start b.order) × (new ≡ without_pages (pages_of (block_at b.start b.order)) f.areas))
-    → IsSound (free_of new f.lists)
-isolated_sound f new order from None sound h = subst (λ (x : List Bool). IsSound (free_of x f.lists)) (sym h.1) sound
-isolated_sound f new order from (Some b) sound h = subst (λ (x : List Bool). IsSound (free_of x f.lists)) (sym h.1) (without_sound f (pages_of (block_at b.start b.order)) sound)
+    → IsSoundFree (free_of new f.lists)
+isolated_sound f new order from None sound h = subst (λ (x : List Bool). IsSoundFree (free_of x f.lists)) (sym h.1) sound
+isolated_sound f new order from (Some b) sound h = subst (λ (x : List Bool). IsSoundFree (free_of x f.lists)) (sym h.1) (without_sound f (pages_of (block_at b.start b.order)) sound)
 
-pub sound_at : (x y : List Bool) (xs ys : List (List ℕ)) → x ≡ y → xs ≡ ys → IsSound (free_of y ys) → IsSound (free_of x xs)
-sound_at x y xs ys e l s = subst IsSound (sym (same_free (free_of x xs) (free_of y ys) e l)) s
+pub sound_at : (x y : List Bool) (xs ys : List (List ℕ)) → x ≡ y → xs ≡ ys → IsSoundFree (free_of y ys) → IsSoundFree (free_of x xs)
+sound_at x y xs ys e l s = subst IsSoundFree (sym (same_free (free_of x xs) (free_of y ys) e l)) s
 
 -- what comes back is free once more
-pub given_times : (f : FreePages) (cpu s k : ℕ) → IsSound f → cpu < length f.lists → HasRoomFor f s k → (p : ℕ) → times_free (given_back cpu s k f) p ≡ times_free f p + one_if (covers p (block_at s k))
+pub given_times : (f : FreePages) (cpu s k : ℕ) → IsSoundFree f → cpu < length f.lists → HasRoomFor f s k → (p : ℕ) → times_free (given_back cpu s k f) p ≡ times_free f p + one_if (covers p (block_at s k))
 given_times f cpu s (suc k) sound l room p = omega (arith, block_times f s (suc k) sound room p)
 given_times f cpu s zero sound l room p =
     let long = longer f cpu s sound l room in
@@ -498,7 +498,7 @@ given_times f cpu s zero sound l room p =
           omega (arith, e, times-set p f.lists cpu long l, more, covers_one s p)
     ]
 
-pub given_length : (f : FreePages) (cpu s k : ℕ) → IsSound f → cpu < length f.lists → HasRoomFor f s k → length (given_back cpu s k f).areas ≡ length f.areas
+pub given_length : (f : FreePages) (cpu s k : ℕ) → IsSoundFree f → cpu < length f.lists → HasRoomFor f s k → length (given_back cpu s k f).areas ≡ length f.areas
 given_length f cpu s (suc k) sound l room = length-with_pages (pages_of (block_at s (suc k))) f.areas
 given_length f cpu s zero sound l room =
     let long = longer f cpu s sound l room in

@@ -7,7 +7,7 @@ use Rattle.vb_model.specs.Tests.{is_in, one_if}
 use Rattle.vb_model.specs.Pages.{pages_of, covers}
 use Rattle.vb_model.proofs.Tables.{count_by-cons, count_by-append}
 use Rattle.vb_model.proofs.PageSteps.{covers_is}
-use Rattle.vb_pages.specs.Areas.{has, with_pages, without_pages, block_at, IsBlock, HasNoBlock, Takes}
+use Rattle.vb_pages.specs.Areas.{has, with_pages, without_pages, block_at, IsBlock, HasNoBlock, TakesBlock}
 use Rattle.vb_pages.specs.FreePages.{TakesPages}
 use Rattle.vb_pages.proofs.Sets.{with_union, with_cases, with_old, with_new, without_parts, without_old, length-with_pages, count_one, same_sets, in_block, block_bounds}
 use Rattle.vb_pages.proofs.AreasLemmas.{taken_inside}
@@ -132,7 +132,7 @@ module _ (set : List Bool) (list rest : List ℕ) (page : ℕ) (is : list ≡ re
 
 -- ---- pages that are taken one after the other
 
-pub takes_times : (set new : List Bool) (k s : ℕ) → Takes set k (Some s) new → (p : ℕ) → one_if (has new p) + one_if (covers p (block_at s k)) ≡ one_if (has set p)
+pub takes_times : (set new : List Bool) (k s : ℕ) → TakesBlock set k (Some s) new → (p : ℕ) → one_if (has new p) + one_if (covers p (block_at s k)) ≡ one_if (has set p)
 takes_times set new k s t p =
     let inside = taken_inside set s k t.0.0 t.0.1 in
     let block = pages_of (block_at s k) in
@@ -171,7 +171,7 @@ covers_one s p =
           both_ways (s == p) n (eq-eqb s p q))) ∙ sym n)
     ]
 
-pub takes_page_times : (set new : List Bool) (s : ℕ) → Takes set 0 (Some s) new → (p : ℕ) → one_if (has new p) + one_if (s == p) ≡ one_if (has set p)
+pub takes_page_times : (set new : List Bool) (s : ℕ) → TakesBlock set 0 (Some s) new → (p : ℕ) → one_if (has new p) + one_if (s == p) ≡ one_if (has set p)
 takes_page_times set new s t p = omega (arith, takes_times set new 0 s t p, covers_one s p)
 
 pub takes_pages_times : (set new : List Bool) (pages : List ℕ) → TakesPages set pages new → (p : ℕ) → one_if (has new p) + times p pages ≡ one_if (has set p)
@@ -179,8 +179,8 @@ takes_pages_times set new [] t p = let e : one_if (has new p) ≡ one_if (has se
 takes_pages_times set new (x ∷ pages) t p =
     omega (arith, takes_page_times set t.0 x t.1 p, takes_pages_times t.0 new pages t.2 p, times-cons p x pages)
 
-pub takes_more : (set mid new : List Bool) (pages : List ℕ) (page : ℕ) → TakesPages set pages mid → Takes mid 0 (Some page) new → TakesPages set (pages ++ page ∷ []) new
-takes_more set mid new [] page t u = (new, subst (λ (x : List Bool). Takes x 0 (Some page) new) t u, refl)
+pub takes_more : (set mid new : List Bool) (pages : List ℕ) (page : ℕ) → TakesPages set pages mid → TakesBlock mid 0 (Some page) new → TakesPages set (pages ++ page ∷ []) new
+takes_more set mid new [] page t u = (new, subst (λ (x : List Bool). TakesBlock x 0 (Some page) new) t u, refl)
 takes_more set mid new (x ∷ pages) page t u = (t.0, t.1, takes_more t.0 mid new pages page t.2 u)
 
 pub page_block : (p : ℕ) → IsBlock (block_at p 0)
@@ -191,7 +191,7 @@ pub no_page : (set : List Bool) → HasNoBlock set 0 → (p : ℕ) → has set p
 no_page set none p =
     false_from_ne_true (has set p) (λ e. none p (page_block p) (λ q l h. let same : p ≡ q = omega arith in ap (has set) (sym same) ∙ e))
 
-pub takes_none : (set new : List Bool) (p : ℕ) → HasNoBlock set 0 → Takes set 0 (Some p) new → ⊥
+pub takes_none : (set new : List Bool) (p : ℕ) → HasNoBlock set 0 → TakesBlock set 0 (Some p) new → ⊥
 takes_none set new p none t = both_ways (has set p) (no_page set none p) (taken_inside set p 0 t.0.0 t.0.1 p (omega arith) (omega arith))
 
 pub with_append_turned : (xs ys : List ℕ) (set : List Bool) → with_pages xs (with_pages ys set) ≡ with_pages (ys ++ xs) set

@@ -9,9 +9,9 @@ use Rattle.vb_model.specs.Pages.{Block, pages_of, covers, is_same_block}
 use Rattle.vb_model.specs.Driver.{with_block, without_block}
 use Rattle.vb_model.proofs.Tables.{count_by-cons}
 use Rattle.vb_model.proofs.PageSteps.{count-without_block}
-use Rattle.vb_pages.specs.declared.FreeBlock.{FreeBlock}
+use Rattle.vb_pages.specs.declared.block.FreeBlock.{FreeBlock}
 use Rattle.vb_pages.specs.Areas.{has, with_pages, without_pages, unreserved, block_at, IsBlock, LiesIn, IsMaximal, IsLowestFrom}
-use Rattle.vb_pages.specs.FreePages.{FreePages, in_lists, is_free, times_free, drained, TakesPages, Tries, Serves, given_back, IsSound, HasRoomFor}
+use Rattle.vb_pages.specs.FreePages.{FreePages, in_lists, is_free_in, times_free, drained, TakesPages, Tries, Serves, given_back, IsSoundFree, HasRoomFor}
 use Rattle.vb_pages.specs.Held.{HeldBlocks}
 use Rattle.vb_pages.specs.PageState.{PageState, is_unreserved, IsKept, HasRoomIn}
 use Rattle.vb_pages.proofs.Sets.{is_inside, length-with_pages, length-without_pages, same_bool, without_parts, without_old, in_block, not_in_block}
@@ -56,9 +56,9 @@ bounds_cover p s k l h = and_from (nat_le s p) (nat_lt p (s + 2 ^ k)) (le-leb s 
 
 -- ---- how often a page is free, and whether it is
 
-free_some : (f : FreePages) (p : ℕ) → 1 ≤ times_free f p → is_free f p ≡ true
+free_some : (f : FreePages) (p : ℕ) → 1 ≤ times_free f p → is_free_in f p ≡ true
 free_some f p h =
-    elim (cases_Bool (is_free f p)) [
+    elim (cases_Bool (is_free_in f p)) [
       | inl t ↦ t
       | inr n ↦
           let q = or_parts (has f.areas p) (is_in p (in_lists f)) n in
@@ -66,43 +66,43 @@ free_some f p h =
           absurd (omega (arith, o, times_out p (in_lists f) q.1))
     ]
 
-some_free : (f : FreePages) (p : ℕ) → is_free f p ≡ true → 1 ≤ times_free f p
+some_free : (f : FreePages) (p : ℕ) → is_free_in f p ≡ true → 1 ≤ times_free f p
 some_free f p h =
     elim (or_cases (has f.areas p) (is_in p (in_lists f)) h) [
       | inl a ↦ let o : one_if (has f.areas p) ≡ 1 = ap one_if a in omega (arith, o)
       | inr l ↦ omega (arith, times_in p (in_lists f) l)
     ]
 
-free_none : (f : FreePages) (p : ℕ) → times_free f p ≤ 0 → is_free f p ≡ false
-free_none f p h = false_from_ne_true (is_free f p) (λ t. omega (arith, some_free f p t))
+free_none : (f : FreePages) (p : ℕ) → times_free f p ≤ 0 → is_free_in f p ≡ false
+free_none f p h = false_from_ne_true (is_free_in f p) (λ t. omega (arith, some_free f p t))
 
-pub free_same : (f g : FreePages) (p : ℕ) → times_free g p ≡ times_free f p → is_free g p ≡ is_free f p
-free_same f g p e = same_bool (is_free g p) (is_free f p) (λ t. free_some f p (omega (arith, e, some_free g p t))) (λ t. free_some g p (omega (arith, e, some_free f p t)))
+pub free_same : (f g : FreePages) (p : ℕ) → times_free g p ≡ times_free f p → is_free_in g p ≡ is_free_in f p
+free_same f g p e = same_bool (is_free_in g p) (is_free_in f p) (λ t. free_some f p (omega (arith, e, some_free g p t))) (λ t. free_some g p (omega (arith, e, some_free f p t)))
 
-pub free_left : (f g : FreePages) (p : ℕ) (b : Block) → times_free f p ≤ 1 → times_free g p + one_if (covers p b) ≡ times_free f p → is_free g p ≡ (is_free f p && not (covers p b))
+pub free_left : (f g : FreePages) (p : ℕ) (b : Block) → times_free f p ≤ 1 → times_free g p + one_if (covers p b) ≡ times_free f p → is_free_in g p ≡ (is_free_in f p && not (covers p b))
 free_left f g p b most e =
     elim (cases_Bool (covers p b)) [
       | inl t ↦
           let o : one_if (covers p b) ≡ 1 = ap one_if t in
-          free_none g p (omega (arith, o, e)) ∙ sym (and_right (is_free f p) (not (covers p b)) (not_from_true (covers p b) t))
+          free_none g p (omega (arith, o, e)) ∙ sym (and_right (is_free_in f p) (not (covers p b)) (not_from_true (covers p b) t))
       | inr n ↦
           let o : one_if (covers p b) ≡ 0 = ap one_if n in
-          free_same f g p (omega (arith, o, e)) ∙ sym (and_true (is_free f p) (not (covers p b)) (not_from_false (covers p b) n))
+          free_same f g p (omega (arith, o, e)) ∙ sym (and_true (is_free_in f p) (not (covers p b)) (not_from_false (covers p b) n))
     ]
   where
     and_true : (x y : Bool) → y ≡ true → (x && y) ≡ x
     and_true true y h = h
     and_true false y h = refl
 
-pub free_gained : (f g : FreePages) (p : ℕ) (b : Block) → times_free g p ≡ times_free f p + one_if (covers p b) → is_free g p ≡ (is_free f p || covers p b)
+pub free_gained : (f g : FreePages) (p : ℕ) (b : Block) → times_free g p ≡ times_free f p + one_if (covers p b) → is_free_in g p ≡ (is_free_in f p || covers p b)
 free_gained f g p b e =
     elim (cases_Bool (covers p b)) [
       | inl t ↦
           let o : one_if (covers p b) ≡ 1 = ap one_if t in
-          free_some g p (omega (arith, o, e)) ∙ sym (or_right (is_free f p) (covers p b) t)
+          free_some g p (omega (arith, o, e)) ∙ sym (or_right (is_free_in f p) (covers p b) t)
       | inr n ↦
           let o : one_if (covers p b) ≡ 0 = ap one_if n in
-          free_same f g p (omega (arith, o, e)) ∙ sym (or_none (is_free f p) (covers p b) n)
+          free_same f g p (omega (arith, o, e)) ∙ sym (or_none (is_free_in f p) (covers p b) n)
     ]
   where
     or_none : (x y : Bool) → y ≡ false → (x || y) ≡ x
@@ -132,18 +132,18 @@ kept_less f g h kept l less = kept_times f g h h.blocks kept l (λ p. omega (ari
 pub times_once : (f : FreePages) (h : HeldBlocks) (p : ℕ) → IsKept f h → times_free f p ≤ 1
 times_once f h p kept = omega (arith, kept.apart p, one_if_le (is_unreserved (record { free = f; held = h.blocks }) p))
 
-pub drained_kept : (f : FreePages) (h : HeldBlocks) → IsSound f → IsKept f h → IsKept (drained f) h
+pub drained_kept : (f : FreePages) (h : HeldBlocks) → IsSoundFree f → IsKept f h → IsKept (drained f) h
 drained_kept f h sound kept = kept_less f (drained f) h kept (length-with_pages (in_lists f) f.areas) (λ p. omega (arith, drained_times f sound p))
 
 -- a block is handed out
-module _ (f g : FreePages) (h : HeldBlocks) (cpu order s : ℕ) (sound : IsSound f) (kept : IsKept f h) (l : cpu < length f.lists) (served : Serves f cpu order (Some s) g) where
+module _ (f g : FreePages) (h : HeldBlocks) (cpu order s : ℕ) (sound : IsSoundFree f) (kept : IsKept f h) (l : cpu < length f.lists) (served : Serves f cpu order (Some s) g) where
   pub out_times : (p : ℕ) → times_free g p + one_if (covers p (block_at s order)) ≡ times_free f p
   out_times p = serves_times f g cpu order s sound l served p
 
   pub out_kept : IsKept g (held_of h.pages (with_block (block_at s order) h.blocks))
   out_kept = kept_times f g h (with_block (block_at s order) h.blocks) kept (serves_length f g cpu order s served) (λ p. omega (arith, out_times p, count-with_block p (block_at s order) h.blocks))
 
-  pub out_free : (p : ℕ) → covers p (block_at s order) ≡ true → is_free f p ≡ true
+  pub out_free : (p : ℕ) → covers p (block_at s order) ≡ true → is_free_in f p ≡ true
   out_free p t = let o : one_if (covers p (block_at s order)) ≡ 1 = ap one_if t in free_some f p (omega (arith, o, out_times p))
 
   out_some : 1 ≤ times_free f s
@@ -157,11 +157,11 @@ module _ (f g : FreePages) (h : HeldBlocks) (cpu order s : ℕ) (sound : IsSound
   pub out_outside : list_any (covers s) h.blocks ≡ false
   out_outside = count_none (covers s) h.blocks (omega (arith, kept.apart s, out_some, one_if_le (is_unreserved (record { free = f; held = h.blocks }) s)))
 
-  pub out_left : (p : ℕ) → is_free g p ≡ (is_free f p && not (covers p (block_at s order)))
+  pub out_left : (p : ℕ) → is_free_in g p ≡ (is_free_in f p && not (covers p (block_at s order)))
   out_left p = free_left f g p (block_at s order) (times_once f h p kept) (out_times p)
 
 -- there is no block of the order
-pub none_free : (f : FreePages) (h : HeldBlocks) (cpu order : ℕ) → IsSound f → IsKept f h → Tries (drained f) cpu order None (drained f) → (s : ℕ) → IsBlock (block_at s order) → ((p : ℕ) → covers p (block_at s order) ≡ true → is_free f p ≡ true) → ⊥
+pub none_free : (f : FreePages) (h : HeldBlocks) (cpu order : ℕ) → IsSoundFree f → IsKept f h → Tries (drained f) cpu order None (drained f) → (s : ℕ) → IsBlock (block_at s order) → ((p : ℕ) → covers p (block_at s order) ≡ true → is_free_in f p ≡ true) → ⊥
 none_free f h cpu order sound kept t s b free =
     (tries_none (drained f) (drained f) cpu order t).1 s b (λ p a e.
     let some = some_free f p (free p (bounds_cover p s order a e)) in
@@ -186,14 +186,14 @@ module _ (f : FreePages) (h : HeldBlocks) (s k : ℕ) (kept : IsKept f h) (held 
             free_none f p (omega (arith, kept.apart p, held_count p, c, one_if_le (is_unreserved (record { free = f; held = h.blocks }) p))),
       )
 
-  pub back_kept : (cpu : ℕ) → IsSound f → cpu < length f.lists → IsKept (given_back cpu s k f) (held_of h.pages (without_block (block_at s k) h.blocks))
+  pub back_kept : (cpu : ℕ) → IsSoundFree f → cpu < length f.lists → IsKept (given_back cpu s k f) (held_of h.pages (without_block (block_at s k) h.blocks))
   back_kept cpu sound l = kept_times f (given_back cpu s k f) h (without_block (block_at s k) h.blocks) kept (given_length f cpu s k sound l back_room) (λ p. omega (arith, given_times f cpu s k sound l back_room p, held_count p))
 
 -- a block that was taken comes back
 pub room_for : (f : FreePages) (h : HeldBlocks) (s k : ℕ) → HasRoomIn (record { free = f; held = h.blocks }) (block_at s k) → HasRoomFor f s k
 room_for f h s k room = (room.0, room.2, λ p a e. (room.3 p a e).0)
 
-pub given_kept : (f : FreePages) (h : HeldBlocks) (s k : ℕ) → IsSound f → IsKept f h → HasRoomIn (record { free = f; held = h.blocks }) (block_at s k) → IsKept (free_of (with_pages (pages_of (block_at s k)) f.areas) f.lists) h
+pub given_kept : (f : FreePages) (h : HeldBlocks) (s k : ℕ) → IsSoundFree f → IsKept f h → HasRoomIn (record { free = f; held = h.blocks }) (block_at s k) → IsKept (free_of (with_pages (pages_of (block_at s k)) f.areas) f.lists) h
 given_kept f h s k sound kept room = record {
   apart = λ p.
       let r = same_room f (free_of (with_pages (pages_of (block_at s k)) f.areas) f.lists) h.blocks h.blocks p (length-with_pages (pages_of (block_at s k)) f.areas) in
@@ -204,7 +204,7 @@ given_kept f h s k sound kept room = record {
             let o : one_if (covers p (block_at s k)) ≡ 1 = ap one_if c in
             let free : times_free f p ≤ 0 =
             elim (cases_lt 0 (times_free f p)) [
-              | inl some ↦ absurd (both_ways (is_free f p) (room.3 p b.0 b.1).0 (free_some f p some))
+              | inl some ↦ absurd (both_ways (is_free_in f p) (room.3 p b.0 b.1).0 (free_some f p some))
               | inr no_times ↦ no_times
             ] in
             let held : count_by (covers p) h.blocks ≡ 0 = none_count (covers p) h.blocks (room.3 p b.0 b.1).1 in
@@ -236,14 +236,14 @@ fresh_kept n lists none = record {
 pub kept_at : (f g : FreePages) (h i : HeldBlocks) → f ≡ g → h ≡ i → IsKept g i → IsKept f h
 kept_at f g h i a b k = subst (λ (x : FreePages). IsKept x h) (sym a) (subst (λ (y : HeldBlocks). IsKept g y) (sym b) k)
 
-pub flag_times : (f : FreePages) (p : ℕ) → times_free f p ≤ 1 → one_if (is_free f p) ≡ times_free f p
+pub flag_times : (f : FreePages) (p : ℕ) → times_free f p ≤ 1 → one_if (is_free_in f p) ≡ times_free f p
 flag_times f p most =
-    elim (cases_Bool (is_free f p)) [
-      | inl t ↦ let o : one_if (is_free f p) ≡ 1 = ap one_if t in omega (arith, o, some_free f p t)
+    elim (cases_Bool (is_free_in f p)) [
+      | inl t ↦ let o : one_if (is_free_in f p) ≡ 1 = ap one_if t in omega (arith, o, some_free f p t)
       | inr n ↦
-          let o : one_if (is_free f p) ≡ 0 = ap one_if n in
+          let o : one_if (is_free_in f p) ≡ 0 = ap one_if n in
           elim (cases_lt 0 (times_free f p)) [
-            | inl some ↦ absurd (both_ways (is_free f p) n (free_some f p some))
+            | inl some ↦ absurd (both_ways (is_free_in f p) n (free_some f p some))
             | inr zero_times ↦ omega (arith, o)
           ]
     ]
@@ -275,39 +275,39 @@ IsolatesFrom f order from got new =
     (((start larger : ℕ) → order ≤ larger → from ≤ start → IsMaximal (drained f).areas (block_at start larger) → ⊥) × (new ≡ drained f))
     (λ b. IsLowestFrom (drained f).areas order from (block_at b.start b.order) × (new ≡ record (drained f) { areas = without_pages (pages_of (block_at b.start b.order)) (drained f).areas }))
 
-isolated_times : (f new : FreePages) (order from : ℕ) (b : FreeBlock) → IsSound f → IsolatesFrom f order from (Some b) new → (p : ℕ) → times_free new p + one_if (covers p (block_at b.start b.order)) ≡ times_free f p
+isolated_times : (f new : FreePages) (order from : ℕ) (b : FreeBlock) → IsSoundFree f → IsolatesFrom f order from (Some b) new → (p : ℕ) → times_free new p + one_if (covers p (block_at b.start b.order)) ≡ times_free f p
 isolated_times f new order from b sound h p =
     let e : times_free new p ≡ times_free (record (drained f) { areas = without_pages (pages_of (block_at b.start b.order)) (drained f).areas }) p = ap (λ (x : FreePages). times_free x p) h.1 in
     omega (arith, e, without_times (drained f).areas b.start b.order p h.0.maximal.inside, drained_times f sound p)
 
-pub isolated_kept : (f new : FreePages) (h : HeldBlocks) (order from : ℕ) (got : Option FreeBlock) → IsSound f → IsKept f h → IsolatesFrom f order from got new → IsKept new h
+pub isolated_kept : (f new : FreePages) (h : HeldBlocks) (order from : ℕ) (got : Option FreeBlock) → IsSoundFree f → IsKept f h → IsolatesFrom f order from got new → IsKept new h
 isolated_kept f new h order from None sound kept i = subst (λ (x : FreePages). IsKept x h) (sym i.1) (drained_kept f h sound kept)
 isolated_kept f new h order from (Some b) sound kept i =
     kept_less f new h kept
     (ap (λ (x : FreePages). length x.areas) i.1 ∙ (length-without_pages (pages_of (block_at b.start b.order)) (drained f).areas ∙ length-with_pages (in_lists f) f.areas))
     (λ p. omega (arith, isolated_times f new order from b sound i p))
 
-pub isolated_left : (f new : FreePages) (h : HeldBlocks) (order from : ℕ) (got : Option FreeBlock) → IsSound f → IsKept f h → IsolatesFrom f order from got new → IfSome got (λ b. (p : ℕ) → is_free new p ≡ (is_free f p && not (covers p (block_at b.start b.order))))
+pub isolated_left : (f new : FreePages) (h : HeldBlocks) (order from : ℕ) (got : Option FreeBlock) → IsSoundFree f → IsKept f h → IsolatesFrom f order from got new → IfSome got (λ b. (p : ℕ) → is_free_in new p ≡ (is_free_in f p && not (covers p (block_at b.start b.order))))
 isolated_left f new h order from None sound kept i = tt
 isolated_left f new h order from (Some b) sound kept i = λ p. free_left f new p (block_at b.start b.order) (times_once f h p kept) (isolated_times f new order from b sound i p)
 
 -- ---- single pages that leave
 
-pub singles_times : (f new : FreePages) (pages : List ℕ) → IsSound f → TakesPages (drained f).areas pages new.areas → new.lists ≡ (drained f).lists → (p : ℕ) → times_free new p + times p pages ≡ times_free f p
+pub singles_times : (f new : FreePages) (pages : List ℕ) → IsSoundFree f → TakesPages (drained f).areas pages new.areas → new.lists ≡ (drained f).lists → (p : ℕ) → times_free new p + times p pages ≡ times_free f p
 singles_times f new pages sound t l p =
     let e : times p (in_lists new) ≡ times p (in_lists (drained f)) = ap (λ (xs : List (List ℕ)). times p (flat xs)) l in
     omega (arith, e, takes_pages_times (drained f).areas new.areas pages t p, drained_times f sound p)
 
-pub singles_kept : (f new : FreePages) (h : HeldBlocks) (pages : List ℕ) → IsSound f → IsKept f h → TakesPages (drained f).areas pages new.areas → new.lists ≡ (drained f).lists → IsKept new h
+pub singles_kept : (f new : FreePages) (h : HeldBlocks) (pages : List ℕ) → IsSoundFree f → IsKept f h → TakesPages (drained f).areas pages new.areas → new.lists ≡ (drained f).lists → IsKept new h
 singles_kept f new h pages sound kept t l =
     kept_less f new h kept (length-takes_pages (drained f).areas new.areas pages t ∙ length-with_pages (in_lists f) f.areas) (λ p. omega (arith, singles_times f new pages sound t l p))
 
-pub singles_left : (f new : FreePages) (h : HeldBlocks) (pages : List ℕ) → IsSound f → IsKept f h → TakesPages (drained f).areas pages new.areas → new.lists ≡ (drained f).lists → (p : ℕ) → one_if (is_free new p) + times p pages ≡ one_if (is_free f p)
+pub singles_left : (f new : FreePages) (h : HeldBlocks) (pages : List ℕ) → IsSoundFree f → IsKept f h → TakesPages (drained f).areas pages new.areas → new.lists ≡ (drained f).lists → (p : ℕ) → one_if (is_free_in new p) + times p pages ≡ one_if (is_free_in f p)
 singles_left f new h pages sound kept t l p =
     let e = singles_times f new pages sound t l p in
     omega (arith, e, flag_times new p (omega (arith, e, times_once f h p kept)), flag_times f p (times_once f h p kept))
 
-pub given_gained : (f : FreePages) (h : HeldBlocks) (s k : ℕ) → IsSound f → HasRoomIn (record { free = f; held = h.blocks }) (block_at s k) → (p : ℕ) → is_free (free_of (with_pages (pages_of (block_at s k)) f.areas) f.lists) p ≡ (is_free f p || covers p (block_at s k))
+pub given_gained : (f : FreePages) (h : HeldBlocks) (s k : ℕ) → IsSoundFree f → HasRoomIn (record { free = f; held = h.blocks }) (block_at s k) → (p : ℕ) → is_free_in (free_of (with_pages (pages_of (block_at s k)) f.areas) f.lists) p ≡ (is_free_in f p || covers p (block_at s k))
 given_gained f h s k sound room p =
     free_gained f (free_of (with_pages (pages_of (block_at s k)) f.areas) f.lists) p (block_at s k) (omega (arith, block_times f s k sound (room_for f h s k room) p))
 
@@ -336,7 +336,7 @@ room_of f new h s k kept l block less =
           (free_none new p (omega (arith, kept.apart p, less p a e, most)), count_none (covers p) h.blocks (omega (arith, kept.apart p, less p a e, most))),
     )
 
-pub isolated_room : (f new : FreePages) (h : HeldBlocks) (order from : ℕ) (got : Option FreeBlock) → IsSound f → IsKept f h → IsolatesFrom f order from got new → IfSome got (λ b. HasRoomIn (state_of new h.blocks) (block_at b.start b.order))
+pub isolated_room : (f new : FreePages) (h : HeldBlocks) (order from : ℕ) (got : Option FreeBlock) → IsSoundFree f → IsKept f h → IsolatesFrom f order from got new → IfSome got (λ b. HasRoomIn (state_of new h.blocks) (block_at b.start b.order))
 isolated_room f new h order from None sound kept i = tt
 isolated_room f new h order from (Some b) sound kept i =
     room_of f new h b.start b.order kept
@@ -346,7 +346,7 @@ isolated_room f new h order from (Some b) sound kept i =
     let o : one_if (covers p (block_at b.start b.order)) ≡ 1 = ap one_if (bounds_cover p b.start b.order a e) in
     omega (arith, o, isolated_times f new order from b sound i p))
 
-pub singles_room : (f new : FreePages) (h : HeldBlocks) (pages : List ℕ) → IsSound f → IsKept f h → TakesPages (drained f).areas pages new.areas → new.lists ≡ (drained f).lists → (p : ℕ) → is_in p pages ≡ true → HasRoomIn (state_of new h.blocks) (block_at p 0)
+pub singles_room : (f new : FreePages) (h : HeldBlocks) (pages : List ℕ) → IsSoundFree f → IsKept f h → TakesPages (drained f).areas pages new.areas → new.lists ≡ (drained f).lists → (p : ℕ) → is_in p pages ≡ true → HasRoomIn (state_of new h.blocks) (block_at p 0)
 singles_room f new h pages sound kept t l p i =
     room_of f new h p 0 kept (length-takes_pages (drained f).areas new.areas pages t ∙ length-with_pages (in_lists f) f.areas) (page_block p) (λ q a e.
     let same : q ≡ p = omega arith in

@@ -1,10 +1,10 @@
--- Sets of pages and the blocks that lie in them.
--- Blocks of a power of two, their halving and merging: Gorman, "Understanding the Linux Virtual Memory Manager", chapter 6.
--- Which block a request gets is the profile's.
+-- Sets of pages and the blocks that lie in them. Blocks of a power of two, their halving and
+-- merging: Gorman, "Understanding the Linux Virtual Memory Manager", chapter 6. Which block a
+-- request gets is the profile's.
 use Rattle.std.specs.Prelude.{◌≡◌, ℕ, ◌+◌, ◌<◌, ◌≤◌, Bool, false, not, ◌&&◌, ◌||◌, nat_le, List, map, Option, Some, None, IsTrue, slice_index_or}
 use Rattle.std.specs.List.{range_with_len}
 use Rattle.vb_model.specs.Tests.{is_in, each_page}
-use Rattle.vb_model.specs.Limits.{reserved_pages}
+use Rattle.vb_model.specs.Limits.{max_order, reserved_pages}
 pub use Rattle.vb_model.specs.Pages.{block_at}
 use Rattle.vb_model.specs.Pages.{Block, size, pages_of, is_aligned}
 
@@ -26,7 +26,7 @@ unreserved n = map (λ page. nat_le reserved_pages page) (range_with_len 0 n)
 
 -- an aligned block of order 0 to 9
 abbrev pub IsBlock : Block → Type 0
-IsBlock b = (b.order ≤ 9) × IsTrue (is_aligned b)
+IsBlock b = (b.order ≤ max_order) × IsTrue (is_aligned b)
 
 -- each of its pages is in the set
 abbrev pub LiesIn : List Bool → Block → Type 0
@@ -55,13 +55,16 @@ pub record IsChosen (set : List Bool) (order : ℕ) (b : Block) : Type 0 where
 
 -- no block of this order lies in the set
 abbrev pub HasNoBlock : List Bool → ℕ → Type 0
-HasNoBlock set order = (start : ℕ) → IsBlock (block_at start order) → LiesIn set (block_at start order) → ⊥
+HasNoBlock set order = (start : ℕ) → IsBlock (block_at start order) →
+    LiesIn set (block_at start order) → ⊥
 
--- what a request of this order takes from the set: the lowest part of the chosen block; the rest stays
-abbrev pub Takes : List Bool → ℕ → Option ℕ → List Bool → Type 0
-Takes set order None new = HasNoBlock set order × (new ≡ set)
-Takes set order (Some start) new =
-    ((larger : ℕ) × IsChosen set order (block_at start larger)) × (new ≡ without_pages (pages_of (block_at start order)) set)
+-- what a request of this order takes from the set: the lowest part of the chosen block; the rest
+-- stays
+abbrev pub TakesBlock : List Bool → ℕ → Option ℕ → List Bool → Type 0
+TakesBlock set order None new = HasNoBlock set order × (new ≡ set)
+TakesBlock set order (Some start) new =
+    ((larger : ℕ) × IsChosen set order (block_at start larger)) ×
+    (new ≡ without_pages (pages_of (block_at start order)) set)
 
 -- the lowest maximal block of at least this order that starts at or after a page
 pub record IsLowestFrom (set : List Bool) (order from : ℕ) (b : Block) : Type 0 where

@@ -1,4 +1,5 @@
--- What the page allocator is, and what each call does (Gorman, chapter 6, for the blocks; the rest is the profile's).
+-- What the page allocator is, and what each call does (Gorman, chapter 6, for the blocks; the rest
+-- is the profile's).
 use Rattle.std.specs.Prelude.{◌≡◌, ℕ, ◌+◌, ◌<◌, ◌≤◌, Bool, false, ◌&&◌, nat_lt, nat_le, List, [], length, replicate, Option, Some, None, Result, Ok, Err, count_by, IsTrue}
 use Rattle.std.specs.List.{list_any}
 use Rattle.vb_model.specs.Tests.{one_if}
@@ -6,12 +7,12 @@ use Rattle.vb_model.specs.declared.limits.TheConstants.{MIN_GUEST_PAGES, MAX_GUE
 use Rattle.vb_model.specs.Limits.{reserved_pages}
 use Rattle.vb_model.specs.Pages.{Block, pages_of, size, covers, is_same_block}
 use Rattle.vb_model.specs.Driver.{with_block, without_block}
-use Rattle.vb_pages.specs.declared.FreeBlock.{FreeBlock}
-use Rattle.vb_pages.specs.declared.PageFault.{PageFault}
-use Rattle.vb_pages.specs.declared.PageFault.TheVariants.{NoPages}
+use Rattle.vb_pages.specs.declared.block.FreeBlock.{FreeBlock}
+use Rattle.vb_pages.specs.declared.fault.PageFault.{PageFault}
+use Rattle.vb_pages.specs.declared.fault.PageFault.TheVariants.{NoPages}
 use Rattle.vb_pages.specs.Areas.{with_pages, without_pages, unreserved, block_at, IsBlock, IsMaximal, IsLowestFrom}
 use Rattle.vb_pages.specs.Held.{HeldBlocks}
-use Rattle.vb_pages.specs.FreePages.{FreePages, is_free, times_free, drained, TakesPages, Serves, given_back}
+use Rattle.vb_pages.specs.FreePages.{FreePages, is_free_in, times_free, drained, TakesPages, Serves, given_back}
 
 -- the free pages, and the held blocks by rising start
 pub record PageState : Type 0 where
@@ -28,7 +29,7 @@ cpu_count s = length s.free.lists
 
 -- in the areas or in a processor's list
 abbrev pub is_free_page : PageState → ℕ → Bool
-is_free_page s page = is_free s.free page
+is_free_page s page = is_free_in s.free page
 
 -- in a held block
 abbrev pub is_held_page : PageState → ℕ → Bool
@@ -43,44 +44,56 @@ abbrev pub is_unreserved : PageState → ℕ → Bool
 is_unreserved s page = nat_le reserved_pages page && nat_lt page (page_count s)
 
 -- all pages but the reserved ones are free, in the areas
-abbrev pub fresh : ℕ → ℕ → PageState
-fresh pages cpus = record { free = record { areas = unreserved pages; lists = replicate cpus [] }; held = [] }
+abbrev pub new_page_state : ℕ → ℕ → PageState
+new_page_state pages cpus =
+    record { free = record { areas = unreserved pages; lists = replicate cpus [] }; held = [] }
 
 -- each page of the block is free
 abbrev pub IsWhollyFree : PageState → Block → Type 0
 IsWhollyFree s b = (page : ℕ) → IsTrue (covers page b) → IsTrue (is_free_page s page)
 
 -- a request for a block of this order
-abbrev pub Allocates : PageState → ℕ → ℕ → Result ℕ PageFault → PageState → Type 0
-Allocates s cpu order (Ok start) new =
-    (free : FreePages) × Serves s.free cpu order (Some start) free × (new ≡ record { free = free; held = with_block (block_at start order) s.held })
-Allocates s cpu order (Err fault) new =
+abbrev pub AllocatesBlock : PageState → ℕ → ℕ → Result ℕ PageFault → PageState → Type 0
+AllocatesBlock s cpu order (Ok start) new =
+    (free : FreePages) × Serves s.free cpu order (Some start) free ×
+    (new ≡ record { free = free; held = with_block (block_at start order) s.held })
+AllocatesBlock s cpu order (Err fault) new =
     (fault ≡ NoPages) × Serves s.free cpu order None new.free × (new.held ≡ s.held)
 
 -- a block comes back
 abbrev pub freed : ℕ → Block → PageState → PageState
-freed cpu b s = record { free = given_back cpu b.start b.order s.free; held = without_block b s.held }
+freed cpu b s =
+    record { free = given_back cpu b.start b.order s.free; held = without_block b s.held }
 
 -- so many single pages leave the areas, one after the other, after all lists were drained
 abbrev pub TakesFree : PageState → List ℕ → PageState → Type 0
 TakesFree s pages new =
-    TakesPages (drained s.free).areas pages new.free.areas × (new.free.lists ≡ (drained s.free).lists) × (new.held ≡ s.held)
+    TakesPages (drained s.free).areas pages new.free.areas ×
+    (new.free.lists ≡ (drained s.free).lists) × (new.held ≡ s.held)
 
 -- the block goes into the areas
-abbrev pub given : Block → PageState → PageState
-given b s = record s { free = record s.free { areas = with_pages (pages_of b) s.free.areas } }
+abbrev pub with_free_block : Block → PageState → PageState
+with_free_block b s =
+    record s { free = record s.free { areas = with_pages (pages_of b) s.free.areas } }
 
--- the lowest maximal free block of at least this order from a page on leaves the areas, after all lists were drained
+-- the lowest maximal free block of at least this order from a page on leaves the areas, after all
+-- lists were drained
 abbrev pub Isolates : PageState → ℕ → ℕ → Option FreeBlock → PageState → Type 0
 Isolates s order from None new =
-    ((b : Block) → IsMaximal (drained s.free).areas b → order ≤ b.order → from ≤ b.start → ⊥) × (new ≡ record s { free = drained s.free })
+    ((b : Block) → IsMaximal (drained s.free).areas b → order ≤ b.order → from ≤ b.start → ⊥) ×
+    (new ≡ record s { free = drained s.free })
 Isolates s order from (Some b) new =
     IsLowestFrom (drained s.free).areas order from (block_at b.start b.order)
-    × (new ≡ record s { free = record (drained s.free) { areas = without_pages (pages_of (block_at b.start b.order)) (drained s.free).areas } })
+    × (new ≡ record s {
+      free = record (drained s.free) {
+        areas = without_pages (pages_of (block_at b.start b.order)) (drained s.free).areas;
+      };
+    })
 
 -- no page is free and held, free twice or held twice, and no reserved page is either
 abbrev pub IsApart : PageState → Type 0
-IsApart s = (page : ℕ) → times_free s.free page + count_by (covers page) s.held ≤ one_if (is_unreserved s page)
+IsApart s = (page : ℕ) → times_free s.free page + count_by (covers page) s.held ≤
+    one_if (is_unreserved s page)
 
 -- what the allocator keeps of its two parts
 pub record IsKept (free : FreePages) (held : HeldBlocks) : Type 0 where
@@ -88,11 +101,13 @@ pub record IsKept (free : FreePages) (held : HeldBlocks) : Type 0 where
   pub pages : held.pages ≡ length free.areas
 
 -- how many pages and processors a guest may have
-abbrev pub IsSize : ℕ → ℕ → Type 0
-IsSize pages cpus = (MIN_GUEST_PAGES ≤ pages) × (pages ≤ MAX_GUEST_PAGES) × (1 ≤ cpus) × (cpus ≤ MAX_PROCESSORS)
+abbrev pub IsGuestSize : ℕ → ℕ → Type 0
+IsGuestSize pages cpus = (MIN_GUEST_PAGES ≤ pages) × (pages ≤ MAX_GUEST_PAGES) × (1 ≤ cpus) ×
+    (cpus ≤ MAX_PROCESSORS)
 
 -- the block is there, and each of its pages was taken: it is neither reserved nor free nor held
 abbrev pub HasRoomIn : PageState → Block → Type 0
 HasRoomIn s b =
     IsBlock b × (reserved_pages ≤ b.start) × (b.start + size b ≤ page_count s)
-    × ((page : ℕ) → b.start ≤ page → page < b.start + size b → (is_free_page s page ≡ false) × (is_held_page s page ≡ false))
+    × ((page : ℕ) → b.start ≤ page → page < b.start + size b →
+    (is_free_page s page ≡ false) × (is_held_page s page ≡ false))

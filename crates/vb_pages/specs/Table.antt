@@ -1,6 +1,7 @@
 -- A table by page of the blocks that start there: an order a page, where a block does.
-use Rattle.std.specs.Prelude.{◌≡◌, ℕ, ◌≤◌, Bool, false, ◌==◌, List, length, map, Option, Some, None, slice_index_or}
+use Rattle.std.specs.Prelude.{◌≡◌, ℕ, ◌+◌, ◌≤◌, Bool, false, ◌==◌, List, length, map, Option, Some, None, slice_index_or}
 use Rattle.std.specs.List.{range_with_len}
+use Rattle.vb_model.specs.Limits.{max_order}
 use Rattle.vb_model.specs.Tests.{pages_where}
 use Rattle.vb_pages.specs.Starts.{Starts}
 
@@ -18,10 +19,14 @@ starts_of order table = pages_where (is_order order) table
 
 -- the starts of each order, 0 to 9
 unfoldable pub index_of : List (Option ℕ) → List Starts
-index_of table = map (λ order. record { items = starts_of order table; room = length table }) (range_with_len 0 10)
+index_of table =
+    map (λ order. record { items = starts_of order table; room = length table })
+    (range_with_len 0 (max_order + 1))
 
 -- the lowest start, from a page on, of a block of this order
 abbrev pub IsLowestStart : List (Option ℕ) → ℕ → ℕ → Option ℕ → Type 0
-IsLowestStart table order from None = (page : ℕ) → from ≤ page → order_at table page ≡ Some order → ⊥
+IsLowestStart table order from None =
+    (page : ℕ) → from ≤ page → order_at table page ≡ Some order → ⊥
 IsLowestStart table order from (Some start) =
-    (order_at table start ≡ Some order) × (from ≤ start) × ((page : ℕ) → from ≤ page → order_at table page ≡ Some order → start ≤ page)
+    (order_at table start ≡ Some order) × (from ≤ start) ×
+    ((page : ℕ) → from ≤ page → order_at table page ≡ Some order → start ≤ page)

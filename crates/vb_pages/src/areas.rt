@@ -1,20 +1,20 @@
-// The buddy areas: a set of pages, kept as its maximal blocks.
+//! The buddy areas: a set of pages, kept as its maximal blocks.
 
 ghost use Rattle.std.specs.Prelude.{◌≡◌, ℕ, ◌+◌, ◌%◌, ◌^◌, ◌<◌, ◌≤◌, ◌↔◌, List, length, false, IsTrue, IfOk, MatchOption, count_by, Some, None};
 ghost use Rattle.vb_model.specs.Pages.{pages_of};
 ghost use Rattle.vb_pages.specs.Table.{order_at};
-ghost use Rattle.vb_pages.specs.Areas.{has, with_pages, without_pages, unreserved, block_at, IsBlock, IsMaximal, LiesOutside, Takes, IsLowestFrom};
+ghost use Rattle.vb_pages.specs.Areas.{has, with_pages, without_pages, unreserved, block_at, IsBlock, IsMaximal, LiesOutside, TakesBlock, IsLowestFrom};
 ghost use Rattle.vb_pages.specs.Tiles.{IsBuddy, HasRoom, IsTiled, set_of, IsLowestListed};
 
 use crate::FreeBlock;
 use crate::table::Table;
 use std::alloc::{AllocError, Global};
 use std::marker::Model;
-use vb_model::limits::{MAX_ORDER, RESERVED_PAGES};
+use vb_model::limits::{MAX_GUEST_PAGES, MAX_ORDER, RESERVED_PAGES};
 
 /// How many pages a block of the order has.
 pub fn size_of(order: u32) -> u32
-    requires { order ≤ 9 }
+    requires { order ≤ MAX_ORDER }
     ensures size { result ≡ 2 ^ order }
     ensures small { result ≤ 512 }
 {
@@ -23,9 +23,9 @@ pub fn size_of(order: u32) -> u32
 
 /// Where the other half of the next larger block starts.
 fn buddy_of(start: u32, order: u32) -> u32
-    requires order { order ≤ 9 }
+    requires order { order ≤ MAX_ORDER }
     requires aligned { start % 2 ^ order ≡ 0 }
-    requires small { start ≤ 16384 }
+    requires small { start ≤ MAX_GUEST_PAGES }
     ensures { IsBuddy start order result }
 {
     let size = size_of(order);
@@ -41,7 +41,8 @@ fn put_block(table: &mut Table, start: u32, order: u32)
     requires tiled { IsTiled table.old }
     requires room { HasRoom table.old start order }
     ensures tiled { IsTiled table.new }
-    ensures set { set_of table.new ≡ with_pages (pages_of (block_at start order)) (set_of table.old) }
+    ensures set { set_of table.new
+        ≡ with_pages (pages_of (block_at start order)) (set_of table.old) }
 {
     let buddy = buddy_of(start, order);
     if order < MAX_ORDER && table.is_listed(buddy, order) {
@@ -58,7 +59,9 @@ fn put_rest(table: &mut Table, start: u32, whole: u32, taken: u32)
     requires room { HasRoom table.old start whole }
     requires smaller { taken ≤ whole }
     ensures tiled { IsTiled table.new }
-    ensures set { set_of table.new ≡ without_pages (pages_of (block_at start taken)) (with_pages (pages_of (block_at start whole)) (set_of table.old)) }
+    ensures set { set_of table.new
+        ≡ without_pages (pages_of (block_at start taken))
+        (with_pages (pages_of (block_at start whole)) (set_of table.old)) }
 {
     if taken < whole {
         let half = whole - 1;
@@ -70,9 +73,9 @@ fn put_rest(table: &mut Table, start: u32, whole: u32, taken: u32)
 /// Takes the block out that a request of this order gets.
 fn take_block(table: &mut Table, order: u32) -> Option<u32>
     requires tiled { IsTiled table.old }
-    requires order { order ≤ 9 }
+    requires order { order ≤ MAX_ORDER }
     ensures tiled { IsTiled table.new }
-    ensures taken { Takes (set_of table.old) order result (set_of table.new) }
+    ensures taken { TakesBlock (set_of table.old) order result (set_of table.new) }
 {
     for larger in order..=MAX_ORDER {
         if let Some(start) = table.first(larger) {
@@ -109,7 +112,9 @@ fn lowest_from(table: &Table, order: u32, from: u32) -> Option<FreeBlock>
 /// The areas, as a set of pages.
 #[derive(Drop)]
 pub struct Areas {
+    /// The maximal blocks.
     table: Table,
+    /// How many pages they have.
     count: u32,
 }
 
@@ -127,7 +132,7 @@ impl Model for Areas {
 impl Areas {
     /// All of so many pages but the reserved ones.
     pub fn new(alloc: Global, pages: u32) -> Result<Self, AllocError>
-        requires { pages ≤ 16384 }
+        requires { pages ≤ MAX_GUEST_PAGES }
         ensures { IfOk result (λ a. a ≡ unreserved pages) }
     {
         let mut areas = Areas {
@@ -141,7 +146,7 @@ impl Areas {
     /// Puts all pages in but the reserved ones.
     fn fill(&mut self, pages: u32)
         requires pages { pages ≡ length self.old }
-        requires small { pages ≤ 16384 }
+        requires small { pages ≤ MAX_GUEST_PAGES }
         requires empty { (page : ℕ) → has self.old page ≡ false }
         ensures { self.new ≡ unreserved pages }
     {
@@ -159,8 +164,8 @@ impl Areas {
 
     /// Takes what a request of this order gets.
     pub fn take(&mut self, order: u32) -> Option<u32>
-        requires { order ≤ 9 }
-        ensures { Takes self.old order result self.new }
+        requires { order ≤ MAX_ORDER }
+        ensures { TakesBlock self.old order result self.new }
     {
         let start = take_block(&mut self.table, order)?;
         self.count -= size_of(order);
@@ -181,8 +186,10 @@ impl Areas {
     /// Takes the lowest maximal block of at least this order that starts at or after a page.
     pub fn isolate(&mut self, order: u32, from: u32) -> Option<FreeBlock>
         ensures { MatchOption result
-            (((start larger : ℕ) → order ≤ larger → from ≤ start → IsMaximal self.old (block_at start larger) → ⊥) × (self.new ≡ self.old))
-            (λ b. IsLowestFrom self.old order from (block_at b.start b.order) × (self.new ≡ without_pages (pages_of (block_at b.start b.order)) self.old)) }
+            (((start larger : ℕ) → order ≤ larger → from ≤ start →
+            IsMaximal self.old (block_at start larger) → ⊥) × (self.new ≡ self.old))
+            (λ b. IsLowestFrom self.old order from (block_at b.start b.order) ×
+            (self.new ≡ without_pages (pages_of (block_at b.start b.order)) self.old)) }
     {
         let block = lowest_from(&self.table, order, from)?;
         self.table.remove(block.start, block.order);
@@ -192,7 +199,7 @@ impl Areas {
 
     /// Puts all pages back in but the reserved ones.
     pub fn renew(&mut self)
-        requires { length self.old ≤ 16384 }
+        requires { length self.old ≤ MAX_GUEST_PAGES }
         ensures { self.new ≡ unreserved (length self.old) }
     {
         self.table.clear();

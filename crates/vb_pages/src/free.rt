@@ -1,11 +1,11 @@
-// Free pages: the areas, and a list for each processor.
+//! Free pages: the areas, and a list for each processor.
 
 ghost use Rattle.std.specs.Prelude.{◌≡◌, ℕ, ◌+◌, ◌^◌, ◌<◌, ◌≤◌, List, Bool, [], ◌∷◌, ◌++◌, length, map, ◌==◌, replicate, MatchOption, IfOk, IfSome, OnSome, count_by, nat_lt, false};
 ghost use Rattle.std.specs.List.{flat_map};
 ghost use Rattle.vb_model.specs.Tests.{one_if};
 ghost use Rattle.vb_model.specs.Pages.{pages_of};
 ghost use Rattle.vb_pages.specs.Areas.{has, with_pages, without_pages, unreserved, block_at, IsBlock, IsMaximal, IsLowestFrom, HasNoBlock};
-ghost use Rattle.vb_pages.specs.FreePages.{FreePages as Free, times_free, free_count, drained, TakesPages, Tries, Serves, given_back, IsSound, HasRoomFor};
+ghost use Rattle.vb_pages.specs.FreePages.{FreePages as Free, times_free, free_count, drained, TakesPages, Tries, Serves, given_back, IsSoundFree, HasRoomFor};
 
 use crate::FreeBlock;
 use crate::areas::Areas;
@@ -13,12 +13,19 @@ use crate::lists::PageList;
 use arrayvec::ArrayVec;
 use std::alloc::{AllocError, Global};
 use std::marker::Model;
+use vb_model::limits::{MAX_GUEST_PAGES, MAX_ORDER, MAX_PROCESSORS, MAX_REQUEST_PAGES};
+
+/// Pages that one request names, as a capacity.
+pub(crate) const REQUEST_PAGES: usize = MAX_REQUEST_PAGES as usize;
 
 /// Puts the pages of all lists back into the areas.
 fn drain_lists(areas: &mut Areas, lists: &mut [PageList])
-    requires { (page : ℕ) → one_if (has areas.old page) + count_by (λ p. p == page) (flat_map (λ list. list) lists.old) ≤ one_if (nat_lt page (length areas.old)) }
+    requires { (page : ℕ) →
+        one_if (has areas.old page) + count_by (λ p. p == page)
+        (flat_map (λ list. list) lists.old) ≤ one_if (nat_lt page (length areas.old)) }
     ensures areas { areas.new ≡ with_pages (flat_map (λ list. list) lists.old) areas.old }
-    ensures count { count_by (λ f. f) areas.new ≡ count_by (λ f. f) areas.old + length (flat_map (λ list. list) lists.old) }
+    ensures count { count_by (λ f. f) areas.new ≡
+        count_by (λ f. f) areas.old + length (flat_map (λ list. list) lists.old) }
     ensures lists { lists.new ≡ map (λ list. []) lists.old }
 {
     for list in lists.iter_mut() {
@@ -27,8 +34,8 @@ fn drain_lists(areas: &mut Areas, lists: &mut [PageList])
 }
 
 /// Takes so many single pages, one after the other.
-fn take_singles(areas: &mut Areas, count: u32, out: &mut ArrayVec<u32, 256>)
-    requires most { count ≤ 256 }
+fn take_singles(areas: &mut Areas, count: u32, out: &mut ArrayVec<u32, { REQUEST_PAGES }>)
+    requires most { count ≤ MAX_REQUEST_PAGES }
     requires empty { out.old.items ≡ [] }
     requires enough { count ≤ count_by (λ f. f) areas.old }
     ensures taken { TakesPages areas.old out.new.items areas.new }
@@ -45,26 +52,29 @@ fn take_singles(areas: &mut Areas, count: u32, out: &mut ArrayVec<u32, 256>)
 /// The free pages.
 #[derive(Drop)]
 pub struct FreePages {
+    /// The areas.
     areas: Areas,
+    /// The list of each processor.
     lists: Vec<PageList>,
 }
 
 impl Model for FreePages {
-    ghost use Rattle.vb_pages.specs.FreePages.{FreePages as Free, IsSound};
+    ghost use Rattle.vb_pages.specs.FreePages.{FreePages as Free, IsSoundFree};
 
     ghost Value = { Free };
 
     ghost view = { λ f. record { areas = f.areas; lists = f.lists.items } };
 
-    ghost invariant = { λ f. IsSound (record { areas = f.areas; lists = f.lists.items }) };
+    ghost invariant = { λ f. IsSoundFree (record { areas = f.areas; lists = f.lists.items }) };
 }
 
 impl FreePages {
     /// All of so many pages but the reserved ones, with an empty list for each processor.
     pub fn new(alloc: Global, pages: u32, cpus: u32) -> Result<Self, AllocError>
-        requires pages { pages ≤ 16384 }
-        requires cpus { cpus ≤ 4 }
-        ensures { IfOk result (λ f. f ≡ record { areas = unreserved pages; lists = replicate cpus [] }) }
+        requires pages { pages ≤ MAX_GUEST_PAGES }
+        requires cpus { cpus ≤ MAX_PROCESSORS }
+        ensures { IfOk result (λ f. f ≡
+            record { areas = unreserved pages; lists = replicate cpus [] }) }
     {
         let areas = Areas::new(alloc, pages)?;
         let mut lists = Vec::with_capacity(alloc, cpus as usize)?;
@@ -83,7 +93,7 @@ impl FreePages {
 
     /// Puts all lists back into the areas.
     fn drain(&mut self)
-        ensures sound { IsSound self.old }
+        ensures sound { IsSoundFree self.old }
         ensures drained { self.new ≡ drained self.old }
         ensures count { count_by (λ f. f) self.new.areas ≡ free_count self.old }
     {
@@ -93,8 +103,8 @@ impl FreePages {
     /// Takes a block as a request gets it, without draining.
     fn take_once(&mut self, cpu: u32, order: u32) -> Option<u32>
         requires cpu { cpu < length self.old.lists }
-        requires order { order ≤ 9 }
-        ensures sound { IsSound self.old }
+        requires order { order ≤ MAX_ORDER }
+        ensures sound { IsSoundFree self.old }
         ensures tries { Tries self.old cpu order result self.new }
     {
         if order > 0 {
@@ -106,8 +116,8 @@ impl FreePages {
     /// Takes a block as a request gets it.
     pub fn take(&mut self, cpu: u32, order: u32) -> Option<u32>
         requires cpu { cpu < length self.old.lists }
-        requires order { order ≤ 9 }
-        ensures sound { IsSound self.old }
+        requires order { order ≤ MAX_ORDER }
+        ensures sound { IsSoundFree self.old }
         ensures serves { Serves self.old cpu order result self.new }
     {
         if let Some(start) = self.take_once(cpu, order) {
@@ -121,7 +131,7 @@ impl FreePages {
     pub fn give(&mut self, cpu: u32, start: u32, order: u32)
         requires cpu { cpu < length self.old.lists }
         requires room { HasRoomFor self.old start order }
-        ensures sound { IsSound self.old }
+        ensures sound { IsSoundFree self.old }
         ensures given { self.new ≡ given_back cpu start order self.old }
     {
         if order > 0 {
@@ -138,18 +148,20 @@ impl FreePages {
     /// Puts a block back into the areas.
     pub fn give_block(&mut self, start: u32, order: u32)
         requires { HasRoomFor self.old start order }
-        ensures sound { IsSound self.old }
-        ensures given { self.new ≡ record self.old { areas = with_pages (pages_of (block_at start order)) self.old.areas } }
+        ensures sound { IsSoundFree self.old }
+        ensures given { self.new ≡ record self.old {
+          areas = with_pages (pages_of (block_at start order)) self.old.areas;
+        } }
     {
         self.areas.give(start, order);
     }
 
     /// Takes so many single pages, one after the other, after all lists were drained.
-    pub fn take_pages(&mut self, count: u32, out: &mut ArrayVec<u32, 256>)
-        requires most { count ≤ 256 }
+    pub fn take_pages(&mut self, count: u32, out: &mut ArrayVec<u32, { REQUEST_PAGES }>)
+        requires most { count ≤ MAX_REQUEST_PAGES }
         requires empty { out.old.items ≡ [] }
         requires enough { count ≤ free_count self.old }
-        ensures sound { IsSound self.old }
+        ensures sound { IsSoundFree self.old }
         ensures taken { TakesPages (drained self.old).areas out.new.items self.new.areas }
         ensures count { length out.new.items ≡ count }
         ensures lists { self.new.lists ≡ (drained self.old).lists }
@@ -158,14 +170,18 @@ impl FreePages {
         take_singles(&mut self.areas, count, out);
     }
 
-    /// Takes the lowest maximal block of at least this order that starts at or after a page, after all
-    /// lists were drained.
+    /// Takes the lowest maximal block of at least this order that starts at or after a page, after
+    /// all lists were drained.
     pub fn isolate(&mut self, order: u32, from: u32) -> Option<FreeBlock>
-        ensures sound { IsSound self.old }
+        ensures sound { IsSoundFree self.old }
         ensures isolated { MatchOption result
-            (((start larger : ℕ) → order ≤ larger → from ≤ start → IsMaximal (drained self.old).areas (block_at start larger) → ⊥) × (self.new ≡ drained self.old))
+            (((start larger : ℕ) → order ≤ larger → from ≤ start →
+            IsMaximal (drained self.old).areas (block_at start larger) → ⊥) ×
+            (self.new ≡ drained self.old))
             (λ b. IsLowestFrom (drained self.old).areas order from (block_at b.start b.order)
-            × (self.new ≡ record (drained self.old) { areas = without_pages (pages_of (block_at b.start b.order)) (drained self.old).areas })) }
+            × (self.new ≡ record (drained self.old) {
+              areas = without_pages (pages_of (block_at b.start b.order)) (drained self.old).areas;
+            })) }
     {
         self.drain();
         self.areas.isolate(order, from)
@@ -184,7 +200,10 @@ impl FreePages {
 
     /// Puts all pages back but the reserved ones.
     pub fn renew(&mut self)
-        ensures { self.new ≡ record { areas = unreserved (length self.old.areas); lists = map (λ list. []) self.old.lists } }
+        ensures { self.new ≡ record {
+          areas = unreserved (length self.old.areas);
+          lists = map (λ list. []) self.old.lists;
+        } }
     {
         self.areas.renew();
         for list in self.lists.iter_mut() {

@@ -1,4 +1,4 @@
-// Held blocks, by the page where they start.
+//! Held blocks, by the page where they start.
 
 ghost use Rattle.std.specs.Prelude.{◌≡◌, ℕ, ◌<◌, ◌≤◌, ◌↔◌, List, [], Some, false, true, IsTrue, IfOk};
 ghost use Rattle.std.specs.List.{list_any};
@@ -25,6 +25,7 @@ fn is_at(orders: &[Option<u8>], page: u32, order: u32) -> bool
 /// The held blocks.
 #[derive(Drop)]
 pub struct Held {
+    /// Of each page, the order of the held block that starts there.
     orders: Vec<Option<u8>>,
 }
 
@@ -34,7 +35,10 @@ impl Model for Held {
 
     ghost Value = { HeldBlocks };
 
-    ghost view = { λ h. record { pages = length h.orders.items; blocks = blocks_of h.orders.items } };
+    ghost view = { λ h. record {
+      pages = length h.orders.items;
+      blocks = blocks_of h.orders.items;
+    } };
 
     ghost invariant = { λ h. IsAligned h.orders.items };
 }
@@ -73,7 +77,8 @@ impl Held {
         requires block { IsBlock (block_at start order) }
         requires there { start < self.old.pages }
         requires outside { list_any (covers start) self.old.blocks ≡ false }
-        ensures { self.new ≡ record self.old { blocks = with_block (block_at start order) self.old.blocks } }
+        ensures { self.new ≡
+            record self.old { blocks = with_block (block_at start order) self.old.blocks } }
     {
         self.orders[start as usize] = Some(order as u8);
     }
@@ -82,7 +87,8 @@ impl Held {
     pub fn remove(&mut self, start: u32, order: u32)
         requires { list_any (λ h. is_same_block h (block_at start order)) self.old.blocks ≡ true }
         ensures block { IsBlock (block_at start order) }
-        ensures removed { self.new ≡ record self.old { blocks = without_block (block_at start order) self.old.blocks } }
+        ensures removed { self.new ≡
+            record self.old { blocks = without_block (block_at start order) self.old.blocks } }
     {
         self.orders[start as usize] = None;
     }

@@ -1,4 +1,4 @@
-// A processor's list of single pages.
+//! A processor's list of single pages.
 
 ghost use Rattle.std.specs.Prelude.{◌≡◌, ℕ, ◌+◌, ◌<◌, ◌≤◌, ◌==◌, List, Bool, [], ◌∷◌, ◌++◌, length, take, drop, MatchOption, count_by, nat_lt};
 ghost use Rattle.vb_model.specs.Tests.{one_if};
@@ -18,7 +18,8 @@ pub const BATCH: usize = 8;
 /// Single free pages: what was put in last comes out first.
 #[derive(Drop)]
 pub struct PageList {
-    pages: ArrayVec<u32, 16>,
+    /// The pages, in the order in which they were put in.
+    pages: ArrayVec<u32, { LIST_SIZE }>,
 }
 
 impl Model for PageList {
@@ -45,13 +46,13 @@ impl PageList {
     }
 
     pub fn is_full(&self) -> bool
-        ensures { result ≡ (length self.now == 16) }
+        ensures { result ≡ (length self.now == LIST_SIZE) }
     {
         self.pages.len() == LIST_SIZE
     }
 
     pub fn len(&self) -> u32
-        ensures fits { length self.now ≤ 16 }
+        ensures fits { length self.now ≤ LIST_SIZE }
         ensures len { result ≡ length self.now }
     {
         self.pages.len() as u32
@@ -59,7 +60,7 @@ impl PageList {
 
     /// Puts a page in.
     pub fn push(&mut self, page: u32)
-        requires { length self.old < 16 }
+        requires { length self.old < LIST_SIZE }
         ensures { self.new ≡ self.old ++ page ∷ [] }
     {
         self.pages.push(page);
@@ -67,7 +68,9 @@ impl PageList {
 
     /// Takes the page out that was put in last.
     pub fn pop(&mut self) -> Option<u32>
-        ensures { MatchOption result ((self.old ≡ []) × (self.new ≡ self.old)) (λ page. self.old ≡ self.new ++ page ∷ []) }
+        ensures { MatchOption result
+            ((self.old ≡ []) × (self.new ≡ self.old))
+            (λ page. self.old ≡ self.new ++ page ∷ []) }
     {
         self.pages.pop()
     }
@@ -81,9 +84,9 @@ impl PageList {
 
     /// Takes the pages out that were put in first.
     pub fn split_front(&mut self) -> PageList
-        requires { 8 ≤ length self.old }
-        ensures front { result ≡ take 8 self.old }
-        ensures rest { self.new ≡ drop 8 self.old }
+        requires { BATCH ≤ length self.old }
+        ensures front { result ≡ take BATCH self.old }
+        ensures rest { self.new ≡ drop BATCH self.old }
     {
         let mut front = PageList::new();
         for _count in 0..BATCH {
@@ -118,9 +121,11 @@ impl PageList {
 
     /// Puts all pages back into the areas.
     pub fn drain(&mut self, areas: &mut Areas)
-        requires { (page : ℕ) → one_if (has areas.old page) + count_by (λ p. p == page) self.old ≤ one_if (nat_lt page (length areas.old)) }
+        requires { (page : ℕ) → one_if (has areas.old page) + count_by (λ p. p == page) self.old ≤
+            one_if (nat_lt page (length areas.old)) }
         ensures areas { areas.new ≡ with_pages self.old areas.old }
-        ensures count { count_by (λ f. f) areas.new ≡ count_by (λ f. f) areas.old + length self.old }
+        ensures count { count_by (λ f. f) areas.new ≡
+            count_by (λ f. f) areas.old + length self.old }
         ensures empty { self.new ≡ [] }
     {
         if let Some(page) = self.pop() {

@@ -1,4 +1,4 @@
-// The calls of the page allocator.
+//! The calls of the page allocator.
 
 ghost use Rattle.std.specs.Prelude.{◌≡◌, ℕ, ◌+◌, ◌^◌, ◌<◌, ◌≤◌, ◌↔◌, ◌⊎◌, ◌==◌, ◌&&◌, ◌||◌, not, Bool, List, [], length, map, Ok, Err, IfOk, OnOk, OnErr, IfSome, IsTrue, count_by, false, true};
 ghost use Rattle.vb_model.specs.Tests.{is_in, one_if};
@@ -6,20 +6,23 @@ ghost use Rattle.vb_model.specs.Pages.{covers};
 ghost use Rattle.vb_model.specs.Driver.{with_block, without_block};
 ghost use Rattle.vb_pages.specs.Areas.{block_at, IsBlock};
 ghost use Rattle.vb_pages.specs.FreePages.{free_count};
-ghost use Rattle.vb_pages.specs.PageState.{PageState, page_count, cpu_count, is_free_page, is_held_page, is_held_block, is_unreserved, fresh, IsWhollyFree, Allocates, freed, TakesFree, given, Isolates, IsApart, IsSize, HasRoomIn};
+ghost use Rattle.vb_pages.specs.PageState.{PageState, page_count, cpu_count, is_free_page, is_held_page, is_held_block, is_unreserved, new_page_state, IsWhollyFree, AllocatesBlock, freed, TakesFree, with_free_block, Isolates, IsApart, IsGuestSize, HasRoomIn};
 
-use crate::free::FreePages;
+use crate::free::{FreePages, REQUEST_PAGES};
 use crate::held::Held;
 use crate::{FreeBlock, PageFault};
 use arrayvec::ArrayVec;
 use std::alloc::{AllocError, Global};
 use std::marker::Model;
-use vb_model::limits::MAX_ORDER;
+use vb_model::limits::{MAX_ORDER, MAX_REQUEST_PAGES};
 
-/// The pages of a guest: free ones in the buddy areas and in a list for each processor, and held blocks.
+/// The pages of a guest: free ones in the buddy areas and in a list for each processor, and held
+/// blocks.
 #[derive(Drop)]
 pub struct Pages {
+    /// The free pages.
     free: FreePages,
+    /// The held blocks.
     held: Held,
 }
 
@@ -36,8 +39,8 @@ impl Model for Pages {
 impl Pages {
     /// All pages but the reserved ones are free. All memory is reserved here.
     pub fn new(alloc: Global, pages: u32, cpus: u32) -> Result<Self, AllocError>
-        requires { IsSize pages cpus }
-        ensures { IfOk result (λ p. p ≡ fresh pages cpus) }
+        requires { IsGuestSize pages cpus }
+        ensures { IfOk result (λ p. p ≡ new_page_state pages cpus) }
     {
         Ok(Pages {
             free: FreePages::new(alloc, pages, cpus)?,
@@ -46,26 +49,35 @@ impl Pages {
     }
 
     /// Allocates 2^order pages on a processor, and answers where they start: BadOrder over order 9,
-    /// BadCpu where there is no such processor, NoPages where no aligned block of the order is wholly
-    /// free.
+    /// BadCpu where there is no such processor, NoPages where no aligned block of the order is
+    /// wholly free.
     pub fn alloc(&mut self, cpu: u32, order: u32) -> Result<u32, PageFault>
         // The refusals, in the order in which they are tested.
-        ensures bad_order { (result ≡ Err PageFault.BadOrder) ↔ (9 < order) }
-        ensures bad_cpu { (result ≡ Err PageFault.BadCpu) ↔ ((order ≤ 9) × (cpu_count self.old ≤ cpu)) }
+        ensures bad_order { (result ≡ Err PageFault.BadOrder) ↔ (MAX_ORDER < order) }
+        ensures bad_cpu { (result ≡ Err PageFault.BadCpu) ↔
+            ((order ≤ MAX_ORDER) × (cpu_count self.old ≤ cpu)) }
         ensures never { result ≡ Err PageFault.NotHeld → ⊥ }
-        ensures unchanged { (9 < order) ⊎ (cpu_count self.old ≤ cpu) → self.new ≡ self.old }
+        ensures unchanged { (MAX_ORDER < order) ⊎ (cpu_count self.old ≤ cpu) → self.new ≡ self.old }
 
         // Just what the rules give.
-        ensures allocates { order ≤ 9 → cpu < cpu_count self.old → Allocates self.old cpu order result self.new }
+        ensures allocates { order ≤ MAX_ORDER → cpu < cpu_count self.old →
+            AllocatesBlock self.old cpu order result self.new }
 
         // A block that is handed out was wholly free, and is held from now on.
-        ensures was_free { IfOk result (λ start. IsBlock (block_at start order) × IsWhollyFree self.old (block_at start order)) }
-        ensures held { IfOk result (λ start. self.new.held ≡ with_block (block_at start order) self.old.held) }
-        ensures left { IfOk result (λ start. (page : ℕ) → is_free_page self.new page ≡ (is_free_page self.old page && not (covers page (block_at start order)))) }
+        ensures was_free { IfOk result (λ start. IsBlock (block_at start order) ×
+            IsWhollyFree self.old (block_at start order)) }
+        ensures held { IfOk result (λ start. self.new.held ≡
+            with_block (block_at start order) self.old.held) }
+        ensures left { IfOk result (λ start. (page : ℕ) → is_free_page self.new page
+            ≡ (is_free_page self.old page && not (covers page (block_at start order)))) }
 
         // No aligned block of the order was wholly free; every page is free or held as before.
-        ensures none { result ≡ Err PageFault.NoPages → (start : ℕ) → IsBlock (block_at start order) → IsWhollyFree self.old (block_at start order) → ⊥ }
-        ensures same { result ≡ Err PageFault.NoPages → ((page : ℕ) → is_free_page self.new page ≡ is_free_page self.old page) × (self.new.held ≡ self.old.held) × (self.new.free.lists ≡ map (λ list. []) self.old.free.lists) }
+        ensures none { result ≡ Err PageFault.NoPages → (start : ℕ) →
+            IsBlock (block_at start order) → IsWhollyFree self.old (block_at start order) → ⊥ }
+        ensures same { result ≡ Err PageFault.NoPages →
+            ((page : ℕ) → is_free_page self.new page ≡ is_free_page self.old page) ×
+            (self.new.held ≡ self.old.held) ×
+            (self.new.free.lists ≡ map (λ list. []) self.old.free.lists) }
     {
         if order > MAX_ORDER {
             return Err(PageFault::BadOrder);
@@ -80,13 +92,16 @@ impl Pages {
         Ok(start)
     }
 
-    /// Gives an allocation back: BadOrder over order 9, BadCpu where there is no such processor, NotHeld
-    /// where just that block isn't held.
+    /// Gives an allocation back: BadOrder over order 9, BadCpu where there is no such processor,
+    /// NotHeld where just that block isn't held.
     pub fn free(&mut self, cpu: u32, start: u32, order: u32) -> Result<(), PageFault>
         // The refusals, in the order in which they are tested.
-        ensures bad_order { (result ≡ Err PageFault.BadOrder) ↔ (9 < order) }
-        ensures bad_cpu { (result ≡ Err PageFault.BadCpu) ↔ ((order ≤ 9) × (cpu_count self.old ≤ cpu)) }
-        ensures not_held { (result ≡ Err PageFault.NotHeld) ↔ ((order ≤ 9) × (cpu < cpu_count self.old) × (is_held_block self.old (block_at start order) ≡ false)) }
+        ensures bad_order { (result ≡ Err PageFault.BadOrder) ↔ (MAX_ORDER < order) }
+        ensures bad_cpu { (result ≡ Err PageFault.BadCpu) ↔
+            ((order ≤ MAX_ORDER) × (cpu_count self.old ≤ cpu)) }
+        ensures not_held { (result ≡ Err PageFault.NotHeld) ↔
+            ((order ≤ MAX_ORDER) × (cpu < cpu_count self.old) ×
+            (is_held_block self.old (block_at start order) ≡ false)) }
         ensures never { result ≡ Err PageFault.NoPages → ⊥ }
         ensures unchanged { OnErr result (self.new ≡ self.old) }
 
@@ -94,7 +109,8 @@ impl Pages {
         ensures freed { OnOk result (self.new ≡ freed cpu (block_at start order) self.old) }
 
         // The block is free from now on, and no longer held.
-        ensures gained { OnOk result ((page : ℕ) → is_free_page self.new page ≡ (is_free_page self.old page || covers page (block_at start order))) }
+        ensures gained { OnOk result ((page : ℕ) → is_free_page self.new page
+            ≡ (is_free_page self.old page || covers page (block_at start order))) }
     {
         if order > MAX_ORDER {
             return Err(PageFault::BadOrder);
@@ -118,14 +134,17 @@ impl Pages {
     }
 
     /// Takes `count` single free pages, one after the other, once all lists were drained.
-    pub fn take_free(&mut self, count: u32, out: &mut ArrayVec<u32, 256>)
-        requires most { count ≤ 256 }
+    pub fn take_free(&mut self, count: u32, out: &mut ArrayVec<u32, { REQUEST_PAGES }>)
+        requires most { count ≤ MAX_REQUEST_PAGES }
         requires empty { out.old.items ≡ [] }
         requires enough { count ≤ free_count self.old.free }
         ensures taken { TakesFree self.old out.new.items self.new }
         ensures count { length out.new.items ≡ count }
-        ensures room { (page : ℕ) → IsTrue (is_in page out.new.items) → HasRoomIn self.new (block_at page 0) }
-        ensures left { (page : ℕ) → one_if (is_free_page self.new page) + count_by (λ p. p == page) out.new.items ≡ one_if (is_free_page self.old page) }
+        ensures room { (page : ℕ) → IsTrue (is_in page out.new.items) →
+            HasRoomIn self.new (block_at page 0) }
+        ensures left { (page : ℕ) →
+            one_if (is_free_page self.new page) + count_by (λ p. p == page) out.new.items
+            ≡ one_if (is_free_page self.old page) }
     {
         self.free.take_pages(count, out);
     }
@@ -133,8 +152,9 @@ impl Pages {
     /// Puts a page back that was taken.
     pub fn give_free(&mut self, page: u32)
         requires { HasRoomIn self.old (block_at page 0) }
-        ensures given { self.new ≡ given (block_at page 0) self.old }
-        ensures gained { (p : ℕ) → is_free_page self.new p ≡ (is_free_page self.old p || covers p (block_at page 0)) }
+        ensures given { self.new ≡ with_free_block (block_at page 0) self.old }
+        ensures gained { (p : ℕ) → is_free_page self.new p ≡
+            (is_free_page self.old p || covers p (block_at page 0)) }
     {
         self.free.give_block(page, 0);
     }
@@ -142,18 +162,20 @@ impl Pages {
     /// Puts a block back that was taken.
     pub fn give_block(&mut self, start: u32, order: u32)
         requires { HasRoomIn self.old (block_at start order) }
-        ensures given { self.new ≡ given (block_at start order) self.old }
-        ensures gained { (page : ℕ) → is_free_page self.new page ≡ (is_free_page self.old page || covers page (block_at start order)) }
+        ensures given { self.new ≡ with_free_block (block_at start order) self.old }
+        ensures gained { (page : ℕ) → is_free_page self.new page ≡
+            (is_free_page self.old page || covers page (block_at start order)) }
     {
         self.free.give_block(start, order);
     }
 
-    /// Takes the lowest maximal free block of at least this order that starts at or after a page, once
-    /// all lists were drained.
+    /// Takes the lowest maximal free block of at least this order that starts at or after a page,
+    /// once all lists were drained.
     pub fn isolate(&mut self, order: u32, from: u32) -> Option<FreeBlock>
         ensures isolated { Isolates self.old order from result self.new }
         ensures room { IfSome result (λ b. HasRoomIn self.new (block_at b.start b.order)) }
-        ensures left { IfSome result (λ b. (page : ℕ) → is_free_page self.new page ≡ (is_free_page self.old page && not (covers page (block_at b.start b.order)))) }
+        ensures left { IfSome result (λ b. (page : ℕ) → is_free_page self.new page
+            ≡ (is_free_page self.old page && not (covers page (block_at b.start b.order)))) }
     {
         self.free.isolate(order, from)
     }
@@ -167,7 +189,7 @@ impl Pages {
 
     /// Makes all pages free again but the reserved ones.
     pub fn renew(&mut self)
-        ensures { self.new ≡ fresh (page_count self.old) (cpu_count self.old) }
+        ensures { self.new ≡ new_page_state (page_count self.old) (cpu_count self.old) }
     {
         self.free.renew();
         self.held.clear();

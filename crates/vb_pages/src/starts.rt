@@ -1,4 +1,4 @@
-// An ordered list of block starts, with room reserved.
+//! An ordered list of block starts, with room reserved.
 
 ghost use Rattle.std.specs.Prelude.{◌≡◌, ℕ, ◌<◌, ◌≤◌, [], ◌∷◌, ◌++◌, List, length, slice_get, slice_index, IfOk};
 ghost use Rattle.vb_pages.specs.Starts.{AllBelow, AllFrom};
@@ -9,7 +9,8 @@ use std::marker::Model;
 /// The place of the first number that isn't below `start`.
 fn place_of(starts: &[u32], start: u32) -> usize
     ensures within { result ≤ length starts.now }
-    ensures place { (front back : List ℕ) → starts.now ≡ front ++ back → AllBelow start front → AllFrom start back → result ≡ length front }
+    ensures place { (front back : List ℕ) → starts.now ≡ front ++ back → AllBelow start front →
+        AllFrom start back → result ≡ length front }
 {
     starts.partition_point(|s| *s < start)
 }
@@ -17,7 +18,9 @@ fn place_of(starts: &[u32], start: u32) -> usize
 /// Starts of blocks, by rising number.
 #[derive(Drop)]
 pub struct StartList {
+    /// The starts, by rising number.
     starts: Vec<u32>,
+    /// How many of them there may be.
     room: usize,
 }
 
@@ -52,7 +55,8 @@ impl StartList {
 
     /// The lowest one that isn't below `from`.
     pub fn first_from(&self, from: u32) -> Option<u32>
-        ensures { (front back : List ℕ) → self.now.items ≡ front ++ back → AllBelow from front → AllFrom from back → result ≡ slice_get back 0 }
+        ensures { (front back : List ℕ) → self.now.items ≡ front ++ back → AllBelow from front →
+            AllFrom from back → result ≡ slice_get back 0 }
     {
         self.starts.get(place_of(&self.starts, from)).copied()
     }
@@ -60,7 +64,8 @@ impl StartList {
     /// Puts one in.
     pub fn add(&mut self, start: u32)
         requires { length self.old.items < self.old.room }
-        ensures { (front back : List ℕ) → self.old.items ≡ front ++ back → AllBelow start front → AllFrom start back → self.new ≡ record self.old { items = front ++ start ∷ back } }
+        ensures { (front back : List ℕ) → self.old.items ≡ front ++ back → AllBelow start front →
+            AllFrom start back → self.new ≡ record self.old { items = front ++ start ∷ back } }
     {
         let place = place_of(&self.starts, start);
         match self.starts.insert(place, start) {
@@ -71,8 +76,11 @@ impl StartList {
 
     /// Takes one out.
     pub fn remove(&mut self, start: u32)
-        requires { (front : List ℕ) × (back : List ℕ) × (self.old.items ≡ front ++ start ∷ back) × AllBelow start front × AllFrom start back }
-        ensures { (front back : List ℕ) → self.old.items ≡ front ++ start ∷ back → AllBelow start front → AllFrom start back → self.new ≡ record self.old { items = front ++ back } }
+        requires { (front : List ℕ) × (back : List ℕ) × (self.old.items ≡ front ++ start ∷ back) ×
+            AllBelow start front × AllFrom start back }
+        ensures { (front back : List ℕ) → self.old.items ≡ front ++ start ∷ back →
+            AllBelow start front → AllFrom start back →
+            self.new ≡ record self.old { items = front ++ back } }
     {
         let place = place_of(&self.starts, start);
         self.starts.remove(place);

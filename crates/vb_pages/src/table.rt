@@ -1,4 +1,4 @@
-// Which blocks there are: an order a page, and each order's starts in order.
+//! Which blocks there are: an order a page, and each order's starts in order.
 
 ghost use Rattle.std.specs.Prelude.{◌≡◌, ℕ, ◌<◌, ◌≤◌, List, length, replicate, slice_set, Some, None, IfOk, IsTrue, ◌↔◌};
 ghost use Rattle.vb_pages.specs.Table.{order_at, IsLowestStart};
@@ -6,12 +6,14 @@ ghost use Rattle.vb_pages.specs.Table.{order_at, IsLowestStart};
 use crate::starts::StartList;
 use std::alloc::{AllocError, Global};
 use std::marker::Model;
-use vb_model::limits::MAX_ORDER;
+use vb_model::limits::{MAX_GUEST_PAGES, MAX_ORDER};
 
 /// Blocks by the page where they start.
 #[derive(Drop)]
 pub struct Table {
+    /// Of each page, the order of the block that starts there.
     orders: Vec<Option<u8>>,
+    /// Of each order, where its blocks start.
     starts: Vec<StartList>,
 }
 
@@ -42,7 +44,7 @@ impl Table {
 
     /// How many pages there are.
     pub fn pages(&self) -> u32
-        requires { length self.now ≤ 16384 }
+        requires { length self.now ≤ MAX_GUEST_PAGES }
         ensures { result ≡ length self.now }
     {
         self.orders.len() as u32
@@ -60,7 +62,7 @@ impl Table {
 
     /// The lowest start of a block of this order.
     pub fn first(&self, order: u32) -> Option<u32>
-        requires { order ≤ 9 }
+        requires { order ≤ MAX_ORDER }
         ensures { IsLowestStart self.now order 0 result }
     {
         self.starts[order as usize].first()
@@ -68,7 +70,7 @@ impl Table {
 
     /// The lowest start, from a page on, of a block of this order.
     pub fn first_from(&self, order: u32, from: u32) -> Option<u32>
-        requires { order ≤ 9 }
+        requires { order ≤ MAX_ORDER }
         ensures { IsLowestStart self.now order from result }
     {
         self.starts[order as usize].first_from(from)
@@ -76,7 +78,7 @@ impl Table {
 
     /// Puts a block in.
     pub fn add(&mut self, start: u32, order: u32)
-        requires order { order ≤ 9 }
+        requires order { order ≤ MAX_ORDER }
         requires there { start < length self.old }
         requires empty { order_at self.old start ≡ None }
         ensures { self.new ≡ slice_set self.old start (Some order) }
@@ -87,7 +89,7 @@ impl Table {
 
     /// Takes a block out.
     pub fn remove(&mut self, start: u32, order: u32)
-        requires order { order ≤ 9 }
+        requires order { order ≤ MAX_ORDER }
         requires there { order_at self.old start ≡ Some order }
         ensures { self.new ≡ slice_set self.old start None }
     {

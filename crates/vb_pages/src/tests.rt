@@ -1,8 +1,8 @@
-// What the worked examples say, and a walk against a plain model of sets and lists.
+//! What the worked examples say, and a walk against a plain model of sets and lists.
 
 ghost use Rattle.std.specs.Prelude.{◌≡◌, ◌≤◌, ◌<◌, length};
 ghost use Rattle.vb_pages.specs.FreePages.{free_count};
-ghost use Rattle.vb_pages.specs.PageState.{IsSize};
+ghost use Rattle.vb_pages.specs.PageState.{IsGuestSize};
 
 mod walk;
 
@@ -89,15 +89,15 @@ fn first_wrong_line(pages: &mut Pages, lines: &[(Step, Answer)]) -> Option<usize
     None
 }
 
-/// The first line whose call isn't answered so, when they are made one after the other on a new guest of
-/// so many pages and processors.
+/// The first line whose call isn't answered so, when they are made one after the other on a new
+/// guest of so many pages and processors.
 fn first_wrong(
     alloc: Global,
     size: u32,
     cpus: u32,
     lines: &[(Step, Answer)],
 ) -> Result<Option<usize>, AllocError>
-    requires { IsSize size cpus }
+    requires { IsGuestSize size cpus }
 {
     let mut pages = Pages::new(alloc, size, cpus)?;
     Ok(first_wrong_line(&mut pages, lines))

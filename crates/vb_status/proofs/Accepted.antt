@@ -6,7 +6,7 @@ use Rattle.vb_model.specs.declared.replies.Refusal.{Refusal}
 use Rattle.vb_model.specs.declared.replies.Refusal.TheVariants.{ClearsBit, OutOfOrder, FeatureNotOffered, MustTellMissing, VersionMissing}
 use Rattle.vb_model.specs.Refusals.{Test, ◌⇒◌, first_refusal}
 use Rattle.vb_model.specs.Status.{contains, adds, is_out_of_order, needed_tests, status_tests, features_ok, negotiate_refusal, negotiate_tests}
-use Rattle.vb_status.specs.Agreement.{Request, Write, Negotiate, Agreement, refusal_of, after_request, Leads, unplugged}
+use Rattle.vb_status.specs.Agreement.{StatusRequest, Write, Negotiate, Agreement, refusal_of_request, after_request, Leads, unplugged}
 
 -- the status has FEATURES_OK only with the two features
 abbrev pub HasFeatures : Agreement → Type 0
@@ -44,13 +44,13 @@ write_keeps a w false h s = λ e.
       | inr added ↦ let both = (accepted_write a.status a.features w h).2 added in (both.0, both.1)
     ]
 
-request_keeps : (a : Agreement) (request : Request) → refusal_of a request ≡ None → HasFeatures a → HasFeatures (after_request a request)
+request_keeps : (a : Agreement) (request : StatusRequest) → refusal_of_request a request ≡ None → HasFeatures a → HasFeatures (after_request a request)
 request_keeps a (Write w) h s = write_keeps a w (eqb w 0) h s
 request_keeps a (Negotiate wanted) h s =
     let at_three : a.status ≡ 3 = eqb-true a.status 3 (accepted_negotiation (eqb a.status 3) (contains offered_features wanted) h) in
     λ e. absurd (false≢true (subst (λ (n : ℕ). contains n features_ok ≡ true) at_three e))
 
-pub requests_keep : (requests : List Request) (a last : Agreement) → Leads a requests last → HasFeatures a → HasFeatures last
+pub requests_keep : (requests : List StatusRequest) (a last : Agreement) → Leads a requests last → HasFeatures a → HasFeatures last
 requests_keep [] a last h s = subst HasFeatures h s
 requests_keep (request ∷ requests) a last h s = requests_keep requests (after_request a request) last h.1 (request_keeps a request h.0 s)
 

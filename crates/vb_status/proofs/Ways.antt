@@ -4,7 +4,7 @@ use Rattle.std.proofs.lemmas.Bool.{false≢true, eqb-true, eq-eqb}
 use Rattle.std.proofs.lemmas.Bool.Decides.{nat_tests}
 use Rattle.vb_model.specs.Refusals.{first_refusal}
 use Rattle.vb_model.specs.Status.{contains, is_out_of_order, status_tests}
-use Rattle.vb_status.specs.Agreement.{Request, Write, Negotiate, Agreement, refusal_of, after_request, Leads, AreSteps, changes, unplugged}
+use Rattle.vb_status.specs.Agreement.{StatusRequest, Write, Negotiate, Agreement, refusal_of_request, after_request, Leads, AreSteps, changes, unplugged}
 use Rattle.vb_status.proofs.Accepted.{accepted_write}
 
 -- the statuses on the way
@@ -117,11 +117,11 @@ led_to : (a : Agreement) (w : ℕ) (reset : Bool) → eqb w 0 ≡ reset → w �
 led_to a w true z ne = absurd (ne (eqb-true w 0 z))
 led_to a w false z ne = refl
 
-may_write : (a : Agreement) (w s : ℕ) → a.status ≡ s → w ≢ 0 → refusal_of a (Write w) ≡ None → may_follow s w ≡ true
+may_write : (a : Agreement) (w s : ℕ) → a.status ≡ s → w ≢ 0 → refusal_of_request a (Write w) ≡ None → may_follow s w ≡ true
 may_write a w s at ne h = subst (λ (n : ℕ). may_follow n w ≡ true) at (written a.status a.features w (eqb w 0) refl ne h)
 
 -- FAILED stays
-never_ready : (p : Stage) (requests : List Request) (a last : Agreement) → a.status ≡ number p + 128 → Leads a requests last → AreSteps requests → last.status ≡ 15 → ⊥
+never_ready : (p : Stage) (requests : List StatusRequest) (a last : Agreement) → a.status ≡ number p + 128 → Leads a requests last → AreSteps requests → last.status ≡ 15 → ⊥
 never_ready p [] a last at h steps e =
     let there : last.status ≡ number p + 128 = subst (λ (x : Agreement). x.status ≡ number p + 128) h at in
     omega arith
@@ -138,7 +138,7 @@ at_the_end Agreed e = absurd (omega arith)
 at_the_end Ready e = refl
 
 -- a write of the next status, and what the changes after it are
-one_on : (p : Stage) (requests : List Request) → changes (number (next p)) requests ≡ rest (next p)
+one_on : (p : Stage) (requests : List StatusRequest) → changes (number (next p)) requests ≡ rest (next p)
     → cond (eqb (number (next p)) (number p)) (changes (number p) requests) (number (next p) ∷ changes (number (next p)) requests) ≡ rest p
 one_on Reset requests e = ap (λ (xs : List ℕ). 1 ∷ xs) e
 one_on Acknowledged requests e = ap (λ (xs : List ℕ). 3 ∷ xs) e
@@ -146,7 +146,7 @@ one_on Driven requests e = ap (λ (xs : List ℕ). 11 ∷ xs) e
 one_on Agreed requests e = ap (λ (xs : List ℕ). 15 ∷ xs) e
 one_on Ready requests e = e
 
-leads_on : (p : Stage) (requests : List Request) (a last : Agreement) → a.status ≡ number p → Leads a requests last → AreSteps requests → last.status ≡ 15 → changes (number p) requests ≡ rest p
+leads_on : (p : Stage) (requests : List StatusRequest) (a last : Agreement) → a.status ≡ number p → Leads a requests last → AreSteps requests → last.status ≡ 15 → changes (number p) requests ≡ rest p
 leads_on p [] a last at h steps e = at_the_end p (sym at ∙ ap (λ (x : Agreement). x.status) h ∙ e)
 leads_on p (Write w ∷ requests) a last at h steps e =
     let arrived = led_to a w (eqb w 0) refl steps.0 in
@@ -161,5 +161,5 @@ leads_on p (Write w ∷ requests) a last at h steps e =
     ]
 leads_on p (Negotiate wanted ∷ requests) a last at h steps e = leads_on p requests (record a { features = wanted }) last at h.1 steps e
 
-pub from_reset : (requests : List Request) (last : Agreement) → Leads unplugged requests last → AreSteps requests → last.status ≡ 15 → changes 0 requests ≡ 1 ∷ 3 ∷ 11 ∷ 15 ∷ []
+pub from_reset : (requests : List StatusRequest) (last : Agreement) → Leads unplugged requests last → AreSteps requests → last.status ≡ 15 → changes 0 requests ≡ 1 ∷ 3 ∷ 11 ∷ 15 ∷ []
 from_reset requests last h steps e = leads_on Reset requests unplugged last refl h steps e

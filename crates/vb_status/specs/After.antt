@@ -14,9 +14,10 @@ with_new_queues part =
       report = no_queue;
     }
 
--- nothing is negotiated, ballooned, taken or known of the guest any more; the target stays, and what the device was made with (profile)
-abbrev pub after_reset : Part → Part
-after_reset part =
+-- nothing is negotiated, ballooned, taken or known of the guest any more; the target stays, and
+-- what the device was made with (profile)
+abbrev pub part_after_reset : Part → Part
+part_after_reset part =
     record (with_new_queues part) {
       status = 0;
       features = 0;
@@ -28,6 +29,6 @@ after_reset part =
 -- a write that is accepted: of 0 it resets, and with DRIVER_OK the queues begin
 abbrev pub after_status : ℕ → Part → Part
 after_status write part =
-    if write == 0 then after_reset part
+    if write == 0 then part_after_reset part
     else (if adds part.status write driver_ok then record (with_new_queues part) { status = write }
     else record part { status = write })

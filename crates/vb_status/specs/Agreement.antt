@@ -1,4 +1,5 @@
--- What a driver and its device agree on, request by request, until the device is ready: VIRTIO 1.1, 3.1.1.
+-- What a driver and its device agree on, request by request, until the device is ready:
+-- VIRTIO 1.1, 3.1.1.
 use Rattle.std.specs.Prelude.{◌≡◌, ℕ, suc, ◌+◌, ◌^◌, ◌<◌, ◌==◌, not, List, [], ◌∷◌, Option, Some, None, MatchOption, if◌then◌else◌, ◌≢◌}
 use Rattle.vb_model.specs.Guest.{offered_features, must_tell_host, version_1}
 use Rattle.vb_model.specs.declared.replies.Refusal.{Refusal}
@@ -7,58 +8,69 @@ use Rattle.vb_model.specs.Refusals.{◌⇒◌, first_refusal}
 use Rattle.vb_model.specs.Life.{feature_refusal}
 use Rattle.vb_model.specs.Status.{contains, needed_tests, features_ok, failed, status_refusal, negotiate_refusal}
 
-pub data Request : Type 0 where
-  Write : ℕ → Request
-  Negotiate : ℕ → Request
+pub data StatusRequest : Type 0 where
+  Write : ℕ → StatusRequest
+  Negotiate : ℕ → StatusRequest
 
 pub record Agreement : Type 0 where
   pub status : ℕ
   pub features : ℕ
 
 -- why the request is refused, where it is
-abbrev pub refusal_of : Agreement → Request → Option Refusal
-refusal_of a (Write status) = status_refusal a.status a.features status
-refusal_of a (Negotiate wanted) = negotiate_refusal a.status wanted
+abbrev pub refusal_of_request : Agreement → StatusRequest → Option Refusal
+refusal_of_request a (Write status) = status_refusal a.status a.features status
+refusal_of_request a (Negotiate wanted) = negotiate_refusal a.status wanted
 
 -- what a request that is accepted leaves; a write of 0 resets
-abbrev pub after_request : Agreement → Request → Agreement
-after_request a (Write status) = if status == 0 then record { status = 0; features = 0 } else record a { status = status }
+abbrev pub after_request : Agreement → StatusRequest → Agreement
+after_request a (Write status) =
+    if status == 0 then record { status = 0; features = 0 } else record a { status = status }
 after_request a (Negotiate wanted) = record a { features = wanted }
 
 -- one accepted request after the other leads from the first agreement to the last
-abbrev pub Leads : Agreement → List Request → Agreement → Type 0
+abbrev pub Leads : Agreement → List StatusRequest → Agreement → Type 0
 Leads a [] last = a ≡ last
-Leads a (request ∷ requests) last = (refusal_of a request ≡ None) × Leads (after_request a request) requests last
+Leads a (request ∷ requests) last = (refusal_of_request a request ≡ None) ×
+    Leads (after_request a request) requests last
 
 -- the device as plugged in or reset
 abbrev pub unplugged : Agreement
 unplugged = record { status = 0; features = 0 }
 
 -- none of these resets, and each write has the register's eight bits
-abbrev pub AreSteps : List Request → Type 0
+abbrev pub AreSteps : List StatusRequest → Type 0
 AreSteps [] = Unit {0}
 AreSteps (Write status ∷ requests) = (status ≢ 0) × (status < 2 ^ 8) × AreSteps requests
 AreSteps (Negotiate wanted ∷ requests) = AreSteps requests
 
 -- the writes that change the status
-abbrev pub changes : ℕ → List Request → List ℕ
+abbrev pub changes : ℕ → List StatusRequest → List ℕ
 changes status [] = []
-changes status (Write next ∷ requests) = if next == status then changes status requests else next ∷ changes next requests
+changes status (Write next ∷ requests) =
+    if next == status then changes status requests else next ∷ changes next requests
 changes status (Negotiate wanted ∷ requests) = changes status requests
 
 -- what the requests leave, up to the first that is refused
-abbrev pub outcome : Agreement → List Request → Agreement × Option Refusal
+abbrev pub outcome : Agreement → List StatusRequest → Agreement × Option Refusal
 outcome a [] = (a, None)
-outcome a (request ∷ requests) = elim (refusal_of a request) [ None ↦ outcome (after_request a request) requests | Some refusal ↦ (a, Some refusal) ]
+outcome a (request ∷ requests) =
+    elim (refusal_of_request a request) [
+      | None ↦ outcome (after_request a request) requests
+      | Some refusal ↦ (a, Some refusal)
+    ]
 
 -- how a driver initialises a device with these features
-abbrev pub initialisation : ℕ → List Request
+abbrev pub initialisation : ℕ → List StatusRequest
 initialisation wanted = Write 0 ∷ Write 1 ∷ Write 3 ∷ Negotiate wanted ∷ Write 11 ∷ Write 15 ∷ []
 
--- where it stands after an initialisation: ready, or at ACKNOWLEDGE and DRIVER with what was negotiated
+-- where it stands after an initialisation: ready, or at ACKNOWLEDGE and DRIVER with what was
+-- negotiated
 abbrev pub initialised : ℕ → Agreement × Option Refusal
 initialised wanted =
     elim (feature_refusal wanted) [
       | None ↦ (record { status = 15; features = wanted }, None)
-      | Some refusal ↦ (record { status = 3; features = if contains offered_features wanted then wanted else 0 }, Some refusal)
+      | Some refusal ↦ (
+        record { status = 3; features = if contains offered_features wanted then wanted else 0 },
+        Some refusal,
+      )
     ]

@@ -13,6 +13,6 @@ refusal_of_fault MustTellMissingFault = MustTellMissing
 refusal_of_fault VersionMissingFault = VersionMissing
 
 -- why the call was refused, where it was
-abbrev pub refusal_in : {T : Type 0} → Result T StatusFault → Option Refusal
-refusal_in (Ok x) = None
-refusal_in (Err fault) = Some (refusal_of_fault fault)
+abbrev pub answered_refusal : {T : Type 0} → Result T StatusFault → Option Refusal
+answered_refusal (Ok x) = None
+answered_refusal (Err fault) = Some (refusal_of_fault fault)

@@ -1,11 +1,12 @@
-// The bits of a status and of a set of features, and why a write of them is refused.
+//! The bits of a status and of a set of features, and why a write of them is refused.
 
 ghost use Rattle.std.specs.Prelude.{⊤, ◌∷◌, [], codes};
 
 use bitflags::{Flag, Flags, bitflag_items};
 use thiserror::Error;
 
-/// A device's status, a register of 8 bits: how far its driver has initialised it (VIRTIO 1.1, 2.1).
+/// A device's status, a register of 8 bits: how far its driver has initialised it
+/// (VIRTIO 1.1, 2.1).
 #[derive(Clone, Copy, Debug, PartialEq, Eq)]
 pub struct Status(u8);
 
@@ -21,9 +22,10 @@ bitflag_items! {
 }
 
 impl Status {
-    /// The two bits that the standard leaves unused.
+    /// One of the two bits that the standard leaves unused.
     pub(crate) const UNUSED_16: Status = Status(16);
 
+    /// The other one.
     pub(crate) const UNUSED_32: Status = Status(32);
 }
 
@@ -32,7 +34,8 @@ impl Flags for Status {
 
     ghost exact = { ⊤ };
 
-    ghost table = { (codes "ACKNOWLEDGE", 1) ∷ (codes "DRIVER", 2) ∷ (codes "DRIVER_OK", 4) ∷ (codes "FEATURES_OK", 8) ∷ (codes "DEVICE_NEEDS_RESET", 64) ∷ (codes "FAILED", 128) ∷ [] };
+    ghost table = { (codes "ACKNOWLEDGE", 1) ∷ (codes "DRIVER", 2) ∷ (codes "DRIVER_OK", 4) ∷
+        (codes "FEATURES_OK", 8) ∷ (codes "DEVICE_NEEDS_RESET", 64) ∷ (codes "FAILED", 128) ∷ [] };
 
     ghost set_of = { λ s. s.0 };
 
@@ -112,7 +115,8 @@ impl Flags for Features {
 
     ghost exact = { ⊤ };
 
-    ghost table = { (codes "MUST_TELL_HOST", 1) ∷ (codes "STATS_VQ", 2) ∷ (codes "DEFLATE_ON_OOM", 4) ∷ (codes "REPORTING", 32) ∷ (codes "VERSION_1", 0x100000000) ∷ [] };
+    ghost table = { (codes "MUST_TELL_HOST", 1) ∷ (codes "STATS_VQ", 2) ∷
+        (codes "DEFLATE_ON_OOM", 4) ∷ (codes "REPORTING", 32) ∷ (codes "VERSION_1", 0x100000000) ∷ [] };
 
     ghost set_of = { λ s. s.0 };
 
@@ -135,7 +139,8 @@ pub enum StatusFault {
     /// A bit that is set is missing in the write.
     #[error("clears bit")]
     ClearsBit = 1,
-    /// The steps ACKNOWLEDGE, DRIVER, FEATURES_OK and DRIVER_OK are taken one at a time and in this order.
+    /// The steps ACKNOWLEDGE, DRIVER, FEATURES_OK and DRIVER_OK are taken one at a time and in this
+    /// order.
     #[error("out of order")]
     OutOfOrder = 2,
     /// A feature is wanted that the device doesn't offer.

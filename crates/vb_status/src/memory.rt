@@ -1,4 +1,4 @@
-// A port in memory.
+//! A port in memory.
 
 ghost use Rattle.std.specs.Prelude.{◌≡◌};
 ghost use Rattle.vb_ram.specs.Part.{no_part};
@@ -12,10 +12,15 @@ use vb_ram::{GuestBytes, Ram, RamFault};
 /// driver's calls leave can be looked at, and nothing comes back.
 #[derive(Drop)]
 pub struct MemoryPort {
+    /// The memory.
     ram: Ram,
+    /// The status that was written last.
     status: Status,
+    /// What was negotiated last.
     features: Features,
+    /// How many pages the host wants in the balloon.
     target: u32,
+    /// How many pages the driver told last.
     actual: u32,
 }
 
@@ -50,8 +55,10 @@ impl MemoryPort {
 
     /// Sets how many pages the host wants in the balloon.
     pub fn set_target(&mut self, pages: u32)
-        ensures part { ⟦<MemoryPort as GuestBytes>⟧.part self.new ≡ record (⟦<MemoryPort as GuestBytes>⟧.part self.old) { target = pages } }
-        ensures mem { ⟦<MemoryPort as GuestBytes>⟧.mem self.new ≡ ⟦<MemoryPort as GuestBytes>⟧.mem self.old }
+        ensures part { ⟦<MemoryPort as GuestBytes>⟧.part self.new ≡
+            record (⟦<MemoryPort as GuestBytes>⟧.part self.old) { target = pages } }
+        ensures mem { ⟦<MemoryPort as GuestBytes>⟧.mem self.new ≡
+            ⟦<MemoryPort as GuestBytes>⟧.mem self.old }
     {
         self.target = pages;
     }
@@ -63,7 +70,12 @@ impl GuestBytes for MemoryPort {
 
     ghost mem = { λ p. ⟦<Ram as GuestBytes>⟧.mem p.ram };
 
-    ghost part = { λ p. record no_part { status = status_bits p.status; features = feature_bits p.features; target = p.target; actual = p.actual } };
+    ghost part = { λ p. record no_part {
+      status = status_bits p.status;
+      features = feature_bits p.features;
+      target = p.target;
+      actual = p.actual;
+    } };
 
     fn pages(&self) -> u32 {
         self.ram.pages()

@@ -1,9 +1,9 @@
-// What a driver sees of its device.
+//! What a driver sees of its device.
 
 ghost use Rattle.std.specs.Prelude.{◌≡◌, OnOk, OnErr};
 ghost use Rattle.vb_model.specs.Status.{status_refusal, negotiate_refusal};
 ghost use Rattle.vb_status.specs.After.{after_status};
-ghost use Rattle.vb_status.specs.Answers.{refusal_in};
+ghost use Rattle.vb_status.specs.Answers.{answered_refusal};
 ghost use Rattle.vb_status.specs.Bits.{status_bits, feature_bits};
 
 use crate::{Features, Status, StatusFault};
@@ -19,16 +19,21 @@ pub trait Port: GuestBytes {
     /// Writes the status. A write of 0 resets the device, one that adds DRIVER_OK makes its queues
     /// ready at index 0; refused for ClearsBit, OutOfOrder, MustTellMissing, VersionMissing.
     fn write_status(&mut self, write: Status) -> Result<(), StatusFault>
-        ensures answer { refusal_in result ≡ status_refusal (Self.part self.old).status (Self.part self.old).features (status_bits write) }
-        ensures ok { OnOk result (Self.part self.new ≡ after_status (status_bits write) (Self.part self.old)) }
+        ensures answer { answered_refusal result ≡
+            status_refusal (Self.part self.old).status (Self.part self.old).features
+            (status_bits write) }
+        ensures ok { OnOk result (Self.part self.new ≡
+            after_status (status_bits write) (Self.part self.old)) }
         ensures err { OnErr result (Self.part self.new ≡ Self.part self.old) }
         ensures mem { Self.mem self.new ≡ Self.mem self.old };
 
     /// Accepts these features in place of those that were negotiated before; refused for OutOfOrder
     /// (the status isn't ACKNOWLEDGE and DRIVER alone), FeatureNotOffered.
     fn negotiate(&mut self, wanted: Features) -> Result<(), StatusFault>
-        ensures answer { refusal_in result ≡ negotiate_refusal (Self.part self.old).status (feature_bits wanted) }
-        ensures ok { OnOk result (Self.part self.new ≡ record (Self.part self.old) { features = feature_bits wanted }) }
+        ensures answer { answered_refusal result ≡
+            negotiate_refusal (Self.part self.old).status (feature_bits wanted) }
+        ensures ok { OnOk result (Self.part self.new
+            ≡ record (Self.part self.old) { features = feature_bits wanted }) }
         ensures err { OnErr result (Self.part self.new ≡ Self.part self.old) }
         ensures mem { Self.mem self.new ≡ Self.mem self.old };
 

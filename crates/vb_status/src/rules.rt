@@ -1,10 +1,10 @@
-// Which writes of the status and which features are accepted.
+//! Which writes of the status and which features are accepted.
 
 ghost use Rattle.std.specs.Prelude.{◌≡◌, ◌==◌, IfOk};
 ghost use Rattle.vb_model.specs.Guest.{must_tell_host, version_1};
 ghost use Rattle.vb_model.specs.Refusals.{first_refusal};
 ghost use Rattle.vb_model.specs.Status.{status_refusal, negotiate_refusal, needed_tests, adds, adds_any, adds_more, skips, is_broken, is_out_of_order, steps, not_for_drivers};
-ghost use Rattle.vb_status.specs.Answers.{refusal_in};
+ghost use Rattle.vb_status.specs.Answers.{answered_refusal};
 ghost use Rattle.vb_status.specs.Bits.{status_bits, feature_bits};
 
 use crate::{Features, Status, StatusFault};
@@ -78,7 +78,8 @@ pub fn write_status(
     negotiated: Features,
     write: Status,
 ) -> Result<Status, StatusFault>
-    ensures answer { refusal_in result ≡ status_refusal (status_bits status) (feature_bits negotiated) (status_bits write) }
+    ensures answer { answered_refusal result ≡
+        status_refusal (status_bits status) (feature_bits negotiated) (status_bits write) }
     ensures ok { IfOk result (λ new. status_bits new ≡ status_bits write) }
 {
     if write.is_empty() {
@@ -98,7 +99,7 @@ pub fn write_status(
 
 /// Tests the two features that FEATURES_OK asks for.
 fn check_features(negotiated: Features) -> Result<(), StatusFault>
-    ensures { refusal_in result ≡ first_refusal (needed_tests (feature_bits negotiated)) }
+    ensures { answered_refusal result ≡ first_refusal (needed_tests (feature_bits negotiated)) }
 {
     if !negotiated.must_tell_host() {
         return Err(StatusFault::MustTellMissing);
@@ -112,7 +113,8 @@ fn check_features(negotiated: Features) -> Result<(), StatusFault>
 /// The features that are accepted at this status: 2 OutOfOrder unless ACKNOWLEDGE and DRIVER alone
 /// are set, 3 FeatureNotOffered.
 pub fn negotiate(status: Status, wanted: Features) -> Result<Features, StatusFault>
-    ensures answer { refusal_in result ≡ negotiate_refusal (status_bits status) (feature_bits wanted) }
+    ensures answer { answered_refusal result ≡
+        negotiate_refusal (status_bits status) (feature_bits wanted) }
     ensures ok { IfOk result (λ new. feature_bits new ≡ feature_bits wanted) }
 {
     if status.bits() != NEGOTIATING {

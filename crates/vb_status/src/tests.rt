@@ -1,4 +1,4 @@
-// The rules row by row, and each public call with ample memory.
+//! The rules row by row, and each public call with ample memory.
 
 use crate::{Features, MemoryPort, Port, Status, StatusFault, negotiate, write_status};
 use bitflags::Flags;

@@ -15,7 +15,7 @@ use Rattle.vb_model.specs.Guest.{Guest}
 use Rattle.vb_model.specs.World.{World, WorldStep, guest_at, with_guest, put_guest, used_frames, Gives, IsOut, Answers, plugged_count}
 use Rattle.vb_model.proofs.Changes.{with_guest-same, with_guest-other}
 use Rattle.vb_frames.specs.Out.{is_out, TableAnswers}
-use Rattle.vb_frames.specs.Returns.{same_gives}
+use Rattle.vb_frames.proofs.Returns.{same_gives}
 use Rattle.vb_frames.proofs.Least.{table_gives}
 use Rattle.vb_slot.specs.Steps.{Steps, AreOut}
 use Rattle.vb_world.specs.Hosts.{IsHost, StandsAt, backing_at}

@@ -38,8 +38,10 @@ AreSpares Spare [] (p ∷ ps) = ⊥
 AreSpares Spare (d ∷ ds) [] = ⊥
 AreSpares Spare (d ∷ ds) (p ∷ ps) = Spare d p × AreSpares Spare ds ps
 
--- The slots stand for the guests, the frames that are out are those that back pages, each of them one, and the spare devices are there.
-pub record IsHost {S D : Type 0} (Stand : S → Guest → Type 0) (Spare : D → Bool → Type 0) (slots : Slab S) (out : List Bool) (devices : List D) (w : Model) : Type 0 where
+-- The slots stand for the guests, the frames that are out are those that back pages, each of them
+-- one, and the spare devices are there.
+pub record IsHost {S D : Type 0} (Stand : S → Guest → Type 0) (Spare : D → Bool → Type 0)
+    (slots : Slab S) (out : List Bool) (devices : List D) (w : Model) : Type 0 where
   pub guests : (n : ℕ) → StandsAt Stand (get slots n) (guest_at w.guests n)
   pub count : slab_len slots ≡ plugged_count w
   pub room : max_guests ≤ slots.capacity
@@ -49,9 +51,12 @@ pub record IsHost {S D : Type 0} (Stand : S → Guest → Type 0) (Spare : D →
   pub spares : AreSpares Spare devices w.spares
 
 -- an unused device, by its box, which is paced or not
-abbrev pub spare_as : {X : Type 0} {F : X → Type 0} → (DynBox X Global F → Pages) → (DynBox X Global F → Part) → DynBox X Global F → Bool → Type 0
+abbrev pub spare_as : {X : Type 0} {F : X → Type 0} → (DynBox X Global F → Pages) →
+    (DynBox X Global F → Part) → DynBox X Global F → Bool → Type 0
 spare_as mem part d paced = IsSpare (mem d) (part d) × ((part d).paced ≡ paced)
 
 -- The host is one of this world.
-abbrev pub IsWorld : {X : Type 0} {F : X → Type 0} → (DynBox X Global F → Pages) → (DynBox X Global F → Part) → World X F → Model → Type 0
-IsWorld mem part host w = IsHost (stands_for mem part) (spare_as mem part) host.slots host.table host.spares.items w
+abbrev pub IsWorld : {X : Type 0} {F : X → Type 0} → (DynBox X Global F → Pages) →
+    (DynBox X Global F → Part) → World X F → Model → Type 0
+IsWorld mem part host w =
+    IsHost (stands_for mem part) (spare_as mem part) host.slots host.table host.spares.items w

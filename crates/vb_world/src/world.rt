@@ -1,4 +1,4 @@
-// A host: its frames, its guests, and the devices that no guest has yet.
+//! A host: its frames, its guests, and the devices that no guest has yet.
 
 ghost use Rattle.std.specs.Prelude.{◌≡◌, ◌<◌, ◌≤◌, ℕ, true, All, IfOk, IfErr, OnErr, OnOk, map, ◌++◌, [], vec_len, vec_capacity, ◌∷◌, List, Bool, IsTrue};
 ghost use Rattle.vb_model.specs.Brought.{is_brought, is_call_brought, is_query_brought};
@@ -22,8 +22,11 @@ use vb_slot::{GuestSlot, Slot};
 /// A host with its frames, its guests, and the devices that no guest has yet.
 #[derive(Drop)]
 pub struct World {
+    /// The frames.
     table: FrameTable,
+    /// The guests, by their numbers.
     slots: Slab<Slot>,
+    /// The devices that no guest has yet; the next guest gets the first.
     spares: Vec<Box<dyn Device + Send>>,
 }
 
@@ -63,7 +66,8 @@ impl World {
         requires some { 0 < frames }
         requires few { frames ≤ MAX_FRAMES }
         requires spares { All (λ d. IsSpare (mem d) (part d)) spares.items }
-        ensures { IfOk result (λ world. IsWorld mem part world (made frames (map (λ d. (part d).paced) spares.items))) }
+        ensures { IfOk result (λ world. IsWorld mem part world
+            (made frames (map (λ d. (part d).paced) spares.items))) }
     {
         Ok(World {
             table: FrameTable::new(alloc, frames)?,
@@ -87,7 +91,9 @@ impl World {
     fn call(&mut self, alloc: Global, guest: u32, call: &Call) -> Reply
         requires world { (w : Model) × IsWorld mem part self.old w }
         requires brought { is_call_brought call.now ≡ true }
-        ensures { (w : Model) → IsWorld mem part self.old w → (new : Model) × IsWorld mem part self.new new × WorldStep w (OnGuest guest call.now) result new }
+        ensures { (w : Model) → IsWorld mem part self.old w →
+            (new : Model) × IsWorld mem part self.new new ×
+            WorldStep w (OnGuest guest call.now) result new }
     {
         match self.slots.get_mut(guest as usize) {
             Some(slot) => slot.call(alloc, &mut self.table, call),
@@ -99,7 +105,8 @@ impl World {
     fn query(&self, alloc: Global, guest: u32, query: &Query) -> Reply
         requires world { (w : Model) × IsWorld mem part self.now w }
         requires brought { is_query_brought query.now ≡ true }
-        ensures { (w : Model) → IsWorld mem part self.now w → WorldStep w (Asking guest query.now) result w }
+        ensures { (w : Model) → IsWorld mem part self.now w →
+            WorldStep w (Asking guest query.now) result w }
     {
         match self.slots.get(guest as usize) {
             Some(slot) => slot.query(alloc, query),
@@ -110,7 +117,9 @@ impl World {
     /// A guest is plugged in, with the first spare device.
     fn plug(&mut self, alloc: Global, pages: u32, queue_size: u32, processors: u32) -> Reply
         requires world { (w : Model) × IsWorld mem part self.old w }
-        ensures { (w : Model) → IsWorld mem part self.old w → (new : Model) × IsWorld mem part self.new new × WorldStep w (Plug pages queue_size processors) result new }
+        ensures { (w : Model) → IsWorld mem part self.old w →
+            (new : Model) × IsWorld mem part self.new new ×
+            WorldStep w (Plug pages queue_size processors) result new }
     {
         let Some(config) = Config::new(pages, queue_size, processors) else {
             return Reply::Refused(Refusal::BadConfig);
@@ -130,7 +139,9 @@ impl World {
         requires config { is_config config.pages config.queue_size config.processors ≡ true }
         requires few { slab_len self.old.slots < max_guests }
         requires some { 0 < vec_len self.old.spares }
-        ensures { (w : Model) → IsWorld mem part self.old w → (new : Model) × IsWorld mem part self.new new × PlugsIn config.pages config.queue_size config.processors w.spares w result new }
+        ensures { (w : Model) → IsWorld mem part self.old w →
+            (new : Model) × IsWorld mem part self.new new ×
+            PlugsIn config.pages config.queue_size config.processors w.spares w result new }
     {
         let Ok(guest) = u32::try_from(self.slots.vacant_key()) else {
             return Reply::Refused(Refusal::NoMemory);
@@ -152,7 +163,8 @@ impl World {
     pub fn step(&mut self, alloc: Global, event: &Event) -> Reply
         requires world { (w : Model) × IsWorld mem part self.old w }
         requires brought { is_brought event.now ≡ true }
-        ensures { (w : Model) → IsWorld mem part self.old w → (new : Model) × IsWorld mem part self.new new × WorldStep w event.now result new }
+        ensures { (w : Model) → IsWorld mem part self.old w →
+            (new : Model) × IsWorld mem part self.new new × WorldStep w event.now result new }
     {
         match event {
             Event::Plug {
@@ -171,11 +183,15 @@ impl World {
     ///
     /// Want of memory for the replies is the only refusal, and comes before the first event.
     pub fn run(&mut self, alloc: Global, events: &[Event]) -> Result<Vec<Reply>, AllocError>
-        requires made { (frames : ℕ) × (spares : List Bool) × IsWorld mem part self.old (made frames spares) }
+        requires made { (frames : ℕ) × (spares : List Bool) ×
+            IsWorld mem part self.old (made frames spares) }
         requires brought { All (λ event. IsTrue (is_brought event)) events.now }
-        ensures run { (frames : ℕ) (spares : List Bool) → IsWorld mem part self.old (made frames spares)
-            → IfOk result (λ replies. (last : Model) × IsWorld mem part self.new last × IsSafeRun (made frames spares) events.now replies.items last) }
-        ensures err { (w : Model) → IsWorld mem part self.old w → OnErr result (IsWorld mem part self.new w) }
+        ensures run { (frames : ℕ) (spares : List Bool) →
+            IsWorld mem part self.old (made frames spares)
+            → IfOk result (λ replies. (last : Model) × IsWorld mem part self.new last ×
+                IsSafeRun (made frames spares) events.now replies.items last) }
+        ensures err { (w : Model) → IsWorld mem part self.old w →
+            OnErr result (IsWorld mem part self.new w) }
     {
         let mut replies = Vec::with_capacity(alloc, events.len())?;
         for event in events {

@@ -1,6 +1,6 @@
 //! Pseudo-random calls against a plain model of sets and lists, and many calls in a row.
 
-ghost use Rattle.vb_pages.specs.PageState.{IsSize};
+ghost use Rattle.vb_pages.specs.PageState.{IsGuestSize};
 
 use crate::{PageFault, Pages};
 use arrayvec::ArrayVec;
@@ -25,8 +25,8 @@ impl Numbers {
     }
 }
 
-/// The pages in the areas, the lists of two processors, oldest first, and the held blocks, each by its
-/// start and order.
+/// The pages in the areas, the lists of two processors, oldest first, and the held blocks, each by
+/// its start and order.
 #[derive(Drop)]
 struct Plain {
     areas: Vec<bool>,
@@ -219,7 +219,7 @@ struct Pair {
 impl Pair {
     /// A guest of so many pages and of two processors.
     fn new(alloc: Global, size: u32, seed: u64) -> Result<Pair, AllocError>
-        requires { IsSize size 2 }
+        requires { IsGuestSize size 2 }
     {
         Ok(Pair {
             pages: Pages::new(alloc, size, 2)?,
@@ -246,7 +246,8 @@ impl Pair {
         self.pages.free(cpu, start, order) == self.plain.free(cpu, start, order)
     }
 
-    /// The first of so many calls that isn't answered alike, or after which the free pages aren't as many.
+    /// The first of so many calls that isn't answered alike, or after which the free pages aren't
+    /// as many.
     fn first_apart(&mut self, calls: u32) -> Option<u32> {
         for number in 0..calls {
             if !self.call() || self.pages.free_count() as usize != self.plain.free_count() {
@@ -259,7 +260,7 @@ impl Pair {
 
 /// The first of so many calls on a new guest that tells the two apart.
 fn first_apart(alloc: Global, size: u32, seed: u64, calls: u32) -> Result<Option<u32>, AllocError>
-    requires { IsSize size 2 }
+    requires { IsGuestSize size 2 }
 {
     let mut pair = Pair::new(alloc, size, seed)?;
     Ok(pair.first_apart(calls))
@@ -279,8 +280,8 @@ fn calls_agree_on_the_largest_guest(rt: HostRuntime) -> Result<(), Fail> {
     Ok(())
 }
 
-/// In each round a block is freed, where there is one, and another is allocated in its place; the first
-/// round whose block isn't freed.
+/// In each round a block is freed, where there is one, and another is allocated in its place; the
+/// first round whose block isn't freed.
 fn first_not_freed(pages: &mut Pages, rounds: u32) -> Option<u32> {
     let mut held: [(u32, u32); 64] = [(0, 0); 64];
     for round in 0..rounds {

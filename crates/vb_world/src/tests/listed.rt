@@ -34,7 +34,8 @@ fn put_last(numbers: &mut Vec<u32>, page: u32)
 /// Puts a page behind the others if it is ballooned.
 fn put_if(numbers: &mut Vec<u32>, page: u32, ballooned: bool)
     requires room { vec_len numbers.old < vec_capacity numbers.old }
-    ensures items { numbers.new.items ≡ (if ballooned then numbers.old.items ++ page ∷ [] else numbers.old.items) }
+    ensures items { numbers.new.items ≡ (if ballooned then numbers.old.items ++ page ∷ []
+        else numbers.old.items) }
     ensures len { vec_len numbers.new ≤ vec_len numbers.old + 1 }
     ensures capacity { vec_capacity numbers.old ≤ vec_capacity numbers.new }
 {
@@ -46,7 +47,8 @@ fn put_if(numbers: &mut Vec<u32>, page: u32, ballooned: bool)
 impl PageList {
     /// An empty list, with room for all pages.
     fn new(alloc: Global, pages: u32) -> Result<PageList, AllocError>
-        ensures { IfOk result (λ list. (list.pages ≡ pages) × (list.numbers.items ≡ []) × (pages ≤ vec_capacity list.numbers)) }
+        ensures { IfOk result (λ list. (list.pages ≡ pages) × (list.numbers.items ≡ []) ×
+            (pages ≤ vec_capacity list.numbers)) }
     {
         let numbers = Vec::with_capacity(alloc, pages as usize)?;
         Ok(PageList { pages, numbers })
@@ -72,7 +74,8 @@ impl PageList {
         requires room { self.old.pages ≤ vec_capacity self.old.numbers }
         ensures pages { self.new.pages ≡ self.old.pages }
         ensures room { vec_capacity self.old.numbers ≤ vec_capacity self.new.numbers }
-        ensures numbers { self.new.numbers.items ≡ pages_where (λ flag. flag) device.now.part.ballooned }
+        ensures numbers { self.new.numbers.items ≡
+            pages_where (λ flag. flag) device.now.part.ballooned }
     {
         self.numbers.clear();
         for page in 0..self.pages {
@@ -83,8 +86,11 @@ impl PageList {
 
 /// Makes the list anew, if the device has a guest.
 fn make_anew(listed: &mut Option<PageList>, device: &ImmediateDevice)
-    requires { MatchOption listed.old ⊤ (λ list. (length device.now.part.ballooned ≡ list.pages) × (list.pages ≤ vec_capacity list.numbers)) }
-    ensures { MatchOption listed.new ⊤ (λ list. (length device.now.part.ballooned ≡ list.pages) × (list.pages ≤ vec_capacity list.numbers) × (list.numbers.items ≡ pages_where (λ flag. flag) device.now.part.ballooned)) }
+    requires { MatchOption listed.old ⊤ (λ list. (length device.now.part.ballooned ≡ list.pages) ×
+        (list.pages ≤ vec_capacity list.numbers)) }
+    ensures { MatchOption listed.new ⊤ (λ list. (length device.now.part.ballooned ≡ list.pages) ×
+        (list.pages ≤ vec_capacity list.numbers) ×
+        (list.numbers.items ≡ pages_where (λ flag. flag) device.now.part.ballooned)) }
 {
     match listed {
         Some(list) => list.make_anew(device),
@@ -108,7 +114,10 @@ impl Model for ListedDevice {
 
     ghost view = { λ s. s.inner };
 
-    ghost invariant = { λ s. MatchOption s.listed ⊤ (λ list. (length s.inner.part.ballooned ≡ list.pages) × (list.pages ≤ vec_capacity list.numbers) × (list.numbers.items ≡ pages_where (λ flag. flag) s.inner.part.ballooned)) };
+    ghost invariant =
+        { λ s. MatchOption s.listed ⊤ (λ list. (length s.inner.part.ballooned ≡ list.pages) ×
+        (list.pages ≤ vec_capacity list.numbers) ×
+        (list.numbers.items ≡ pages_where (λ flag. flag) s.inner.part.ballooned)) };
 }
 
 impl ListedDevice {

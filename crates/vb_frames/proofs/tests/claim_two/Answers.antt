@@ -1,5 +1,5 @@
 use Rattle.std.proofs.Common.{List, Bool, false, set, ap, ◌∙◌}
-use Rattle.vb_frames.specs.Returns.{given_back}
+use Rattle.vb_frames.proofs.Returns.{given_back}
 use Rattle.vb_frames.proofs.tests.claim_two.Goals as goal
 
 pub returns-in-Err-clause-err : goal.returns-in-Err-clause-err

@@ -1,5 +1,5 @@
 use Rattle.std.proofs.Common.{◌≡◌, ◌∙◌, sym, ap, refl, Err}
-use Rattle.vb_frames.specs.declared.Refused.TheVariants.{NoFrame, Memory}
+use Rattle.vb_frames.specs.declared.keeper.Refused.TheVariants.{NoFrame, Memory}
 use Rattle.vb_model.specs.declared.replies.Refusal.TheVariants.{NoFrame as NoFrameLeft, NoMemory}
 use Rattle.vb_guest.proofs.InitStep.{init_up, known_answer, init_unsupplied, still_large, init_named}
 use Rattle.vb_guest.proofs.lives.init.Goals as goal

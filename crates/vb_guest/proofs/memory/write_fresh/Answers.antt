@@ -1,5 +1,5 @@
 use Rattle.std.proofs.Common.{◌∙◌, ap, Err}
-use Rattle.vb_frames.specs.declared.Refused.TheVariants.{NoFrame, Memory}
+use Rattle.vb_frames.specs.declared.keeper.Refused.TheVariants.{NoFrame, Memory}
 use Rattle.vb_guest.proofs.Claimed.{claim_answered}
 use Rattle.vb_guest.proofs.WriteStep.{write_no_frame, write_no_memory, write_claimed}
 use Rattle.vb_guest.proofs.memory.write_fresh.Goals as goal

@@ -2,7 +2,7 @@ use Rattle.std.proofs.Common.{◌∙◌, sym, ap, arith, refl, ℕ, List, Bool, 
 use Rattle.std.proofs.lemmas.List.{take_more}
 use Rattle.vb_model.specs.Pages.{Block}
 use Rattle.vb_pages.specs.Areas.{block_at}
-use Rattle.vb_pages.specs.PageState.{given}
+use Rattle.vb_pages.specs.PageState.{with_free_block}
 use Rattle.vb_driver.specs.Areas.{flags_of, is_free_at, is_covered, all_given}
 use Rattle.vb_driver.specs.Places.{marked}
 use Rattle.vb_driver.proofs.Placing.{is_in-at, length-marked, marked-get, marked_more, marked_none}
@@ -55,6 +55,6 @@ loop-page-preserved c =
         processors = c.give_free.ensures.state.processors ∙ c.loop-page.invariant.0.processors;
       },
       c.give_free.ensures.areas
-          ∙ (ap (given (block_at x 0)) c.loop-page.invariant.1
+          ∙ (ap (with_free_block (block_at x 0)) c.loop-page.invariant.1
           ∙ (sym (given_more (take i pages) x old) ∙ ap (λ (l : List ℕ). all_given l old) (sym more))),
     )

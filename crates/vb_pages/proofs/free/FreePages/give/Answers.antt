@@ -1,6 +1,6 @@
 use Rattle.std.proofs.Common.{◌≡◌, ◌<◌, ◌≤◌, ◌+◌, ℕ, List, [], ◌∷◌, ◌++◌, Bool, length, set, take, drop, ap, subst, ◌∙◌, sym, arith}
 use Rattle.vb_pages.specs.Areas.{with_pages}
-use Rattle.vb_pages.specs.FreePages.{FreePages, IsSound, HasRoomFor, list_of}
+use Rattle.vb_pages.specs.FreePages.{FreePages, IsSoundFree, HasRoomFor, list_of}
 use Rattle.std.proofs.lemmas.List.{get_or_default, length-append}
 use Rattle.std.proofs.lemmas.Bool.{eqb-false}
 use Rattle.std.specs.Prelude.{◌==◌, false}
@@ -13,7 +13,7 @@ pub invariant_of-self : goal.invariant_of-self
 invariant_of-self c =
     let f = free_of c.self.inside.areas c.self.inside.lists.items in
     let v : f ≡ c.args.self.now = c.self.view_is in
-    subst (λ (x : List Bool). IsSound (free_of x c.self.inside.lists.items)) (sym c.give.ensures) (block_sound f c.args.start c.args.order c.self.invariant (subst (λ (x : FreePages). HasRoomFor x c.args.start c.args.order) (sym v) c.requires.room))
+    subst (λ (x : List Bool). IsSoundFree (free_of x c.self.inside.lists.items)) (sym c.give.ensures) (block_sound f c.args.start c.args.order c.self.invariant (subst (λ (x : FreePages). HasRoomFor x c.args.start c.args.order) (sym v) c.requires.room))
 
 module _ (c : After-push) (low : c.args.order ≤ 0) where
   abbrev f : FreePages
@@ -47,8 +47,8 @@ invariant_of-self-then-is_full c =
     let front : c.split_front.result ≡ take 8 (longer (f d low) c.args.cpu c.args.start c.self.invariant (there d low) (room d low)) = c.split_front.ensures.front ∙ ap (take 8) (pushed d low) in
     let rest : c.split_front.new.self ≡ drop 8 (longer (f d low) c.args.cpu c.args.start c.self.invariant (there d low) (room d low)) = c.split_front.ensures.rest ∙ ap (drop 8) (pushed d low) in
     let areas : c.drain.new.areas ≡ with_pages (take 8 (longer (f d low) c.args.cpu c.args.start c.self.invariant (there d low) (room d low))) c.self.inside.areas = c.drain.ensures.areas ∙ ap (λ (xs : List ℕ). with_pages xs c.self.inside.areas) front in
-    subst (λ (x : List Bool). IsSound (free_of x (set c.self.inside.lists.items c.args.cpu c.split_front.new.self))) (sym areas)
-    (subst (λ (xs : List ℕ). IsSound (free_of (with_pages (take 8 (longer (f d low) c.args.cpu c.args.start c.self.invariant (there d low) (room d low))) c.self.inside.areas) (set c.self.inside.lists.items c.args.cpu xs))) (sym rest)
+    subst (λ (x : List Bool). IsSoundFree (free_of x (set c.self.inside.lists.items c.args.cpu c.split_front.new.self))) (sym areas)
+    (subst (λ (xs : List ℕ). IsSoundFree (free_of (with_pages (take 8 (longer (f d low) c.args.cpu c.args.start c.self.invariant (there d low) (room d low))) c.self.inside.areas) (set c.self.inside.lists.items c.args.cpu xs))) (sym rest)
     (spilled_sound (f d low) c.args.cpu c.args.start c.self.invariant (there d low) (room d low)))
 
 pub invariant_of-self-else-is_full : goal.invariant_of-self-else-is_full
@@ -60,5 +60,5 @@ invariant_of-self-else-is_full c =
     let differs : length c.push.new.self ≡ 16 → ⊥ = eqb-false (length c.push.new.self) 16 not_full in
     let most : length (longer (f d low) c.args.cpu c.args.start c.self.invariant (there d low) (room d low)) ≡ length (list_of (f d low) c.args.cpu) + 1 = length-append (list_of (f d low) c.args.cpu) (c.args.start ∷ []) in
     let short : length (longer (f d low) c.args.cpu c.args.start c.self.invariant (there d low) (room d low)) < 16 = omega (arith, most, c.self.invariant.short c.args.cpu, ap length e, differs) in
-    subst (λ (xs : List ℕ). IsSound (free_of c.self.inside.areas (set c.self.inside.lists.items c.args.cpu xs))) (sym e)
+    subst (λ (xs : List ℕ). IsSoundFree (free_of c.self.inside.areas (set c.self.inside.lists.items c.args.cpu xs))) (sym e)
     (pushed_sound (f d low) c.args.cpu c.args.start c.self.invariant (there d low) (room d low) short)

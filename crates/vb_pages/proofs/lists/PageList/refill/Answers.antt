@@ -1,6 +1,6 @@
 use Rattle.std.proofs.Common.{◌≡◌, ◌<◌, ◌≤◌, ◌+◌, ℕ, List, [], ◌∷◌, ◌++◌, Bool, length, Some, inl, inr, subst, ◌∙◌, sym, arith, length-append}
 use Rattle.std.proofs.lemmas.Bool.{cases_lt}
-use Rattle.vb_pages.specs.Areas.{HasNoBlock, Takes}
+use Rattle.vb_pages.specs.Areas.{HasNoBlock, TakesBlock}
 use Rattle.vb_pages.specs.FreePages.{TakesPages}
 use Rattle.vb_pages.proofs.ListsLemmas.{takes_more, takes_none}
 use Rattle.vb_pages.proofs.lists.PageList.refill.Goals as goal
@@ -10,7 +10,7 @@ use Rattle.vb_pages.proofs.lists.PageList.refill.Goals.{in-Some, in_default}
 abbrev Kept : List Bool → List ℕ → List Bool → ℕ → Type 0
 Kept set list areas n = TakesPages set list areas × (length list ≤ n) × (length list < n → HasNoBlock areas 0)
 
-one_more : (set mid new : List Bool) (list : List ℕ) (page n : ℕ) → Kept set list mid n → Takes mid 0 (Some page) new → Kept set (list ++ page ∷ []) new (n + 1)
+one_more : (set mid new : List Bool) (list : List ℕ) (page n : ℕ) → Kept set list mid n → TakesBlock mid 0 (Some page) new → Kept set (list ++ page ∷ []) new (n + 1)
 one_more set mid new list page n h t =
     elim (cases_lt (length list) n) [
       | inl less ↦ absurd (takes_none mid new page (h.2 less) t)

@@ -3,7 +3,7 @@ use Rattle.std.specs.Prelude.{◌&&◌}
 use Rattle.vb_model.specs.Pages.{covers}
 use Rattle.vb_model.specs.Driver.{with_block}
 use Rattle.vb_pages.specs.Areas.{block_at}
-use Rattle.vb_pages.specs.FreePages.{FreePages, is_free, drained}
+use Rattle.vb_pages.specs.FreePages.{FreePages, is_free_in, drained}
 use Rattle.vb_pages.specs.PageState.{PageState, is_free_page}
 use Rattle.vb_pages.proofs.FreeLemmas.{nothing, drained_times, serves_is_block}
 use Rattle.vb_pages.proofs.HeldLemmas.{held_of}
@@ -24,7 +24,7 @@ returns-in_default-clause-same c e =
     let f = c.self.inside.free in
     let v : state_of f c.self.inside.held.blocks ≡ c.args.self.now = c.self.view_is in
     let drains : c.take.new.self ≡ drained f = c.in_default.ensures.serves.2 in (
-      (λ p. ap (λ (x : FreePages). is_free x p) drains ∙ (free_same f (drained f) p (drained_times f c.take.ensures.sound p) ∙ ap (λ (x : PageState). is_free_page x p) v)),
+      (λ p. ap (λ (x : FreePages). is_free_in x p) drains ∙ (free_same f (drained f) p (drained_times f c.take.ensures.sound p) ∙ ap (λ (x : PageState). is_free_page x p) v)),
       ap (λ (x : PageState). x.held) v,
       ap (λ (x : FreePages). x.lists) drains ∙ ap (λ (x : PageState). map (λ (l : List ℕ). nothing) x.free.lists) v,
     )

@@ -5,7 +5,7 @@ use Rattle.std.proofs.lemmas.Bool.{both_ways}
 use Rattle.vb_model.specs.Pages.{covers, is_same_block}
 use Rattle.vb_model.specs.Driver.{without_block}
 use Rattle.vb_pages.specs.Areas.{block_at}
-use Rattle.vb_pages.specs.FreePages.{FreePages, is_free, given_back}
+use Rattle.vb_pages.specs.FreePages.{FreePages, is_free_in, given_back}
 use Rattle.vb_pages.specs.PageState.{PageState, is_free_page, is_held_block}
 use Rattle.vb_pages.proofs.FreeLemmas.{given_times}
 use Rattle.vb_pages.proofs.HeldLemmas.{held_of}
@@ -38,6 +38,6 @@ returns-clause-gained c p =
     let f = c.self.inside.free in
     let v : state_of f c.self.inside.held.blocks ≡ c.args.self.now = c.self.view_is in
     let room = back_room f c.self.inside.held c.args.start c.args.order c.self.invariant (is_held (goal.at.returns-clause-gained c).After-remove) c.remove.ensures.block in
-    ap (λ (x : FreePages). is_free x p) c.give.ensures.given
+    ap (λ (x : FreePages). is_free_in x p) c.give.ensures.given
     ∙ (free_gained f (given_back c.args.cpu c.args.start c.args.order f) p (block_at c.args.start c.args.order) (given_times f c.args.cpu c.args.start c.args.order c.give.ensures.sound l room p)
     ∙ ap (λ (x : PageState). is_free_page x p || covers p (block_at c.args.start c.args.order)) v)

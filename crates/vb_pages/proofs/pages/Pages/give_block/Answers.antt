@@ -2,7 +2,7 @@ use Rattle.std.proofs.Common.{◌≡◌, ap, subst, ◌∙◌, sym, refl}
 use Rattle.std.specs.Prelude.{◌||◌}
 use Rattle.vb_model.specs.Pages.{covers, pages_of}
 use Rattle.vb_pages.specs.Areas.{block_at, with_pages}
-use Rattle.vb_pages.specs.FreePages.{FreePages, is_free}
+use Rattle.vb_pages.specs.FreePages.{FreePages, is_free_in}
 use Rattle.vb_pages.specs.PageState.{PageState, is_free_page, HasRoomIn}
 use Rattle.vb_pages.proofs.FreeLemmas.{free_of}
 use Rattle.vb_pages.proofs.PagesLemmas.{kept_at, state_of, given_kept, given_gained}
@@ -19,6 +19,6 @@ pub returns-clause-gained : goal.returns-clause-gained
 returns-clause-gained c p =
     let f = c.self.inside.free in
     let v : state_of f c.self.inside.held.blocks ≡ c.args.self.now = c.self.view_is in
-    ap (λ (x : FreePages). is_free x p) c.give_block.ensures.given
+    ap (λ (x : FreePages). is_free_in x p) c.give_block.ensures.given
     ∙ (given_gained f c.self.inside.held c.args.start c.args.order c.give_block.ensures.sound (subst (λ (x : PageState). HasRoomIn x (block_at c.args.start c.args.order)) (sym v) c.requires) p
     ∙ ap (λ (x : PageState). is_free_page x p || covers p (block_at c.args.start c.args.order)) v)
