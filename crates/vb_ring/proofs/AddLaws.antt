@@ -21,7 +21,7 @@ use Rattle.vb_ring.specs.Layout.{IsSize}
 use Rattle.vb_ring.specs.Entries.{is_own, is_head}
 use Rattle.vb_ring.specs.Numbers.{numbers}
 use Rattle.vb_ring.proofs.Numbers.{numbers_pass, numbers_rise, numbers_has, length_all, length-numbers, length_two}
-use Rattle.vb_ring.specs.Ends.{DriverEnd, IsDriverEnd, is_free, free_descriptors, next_head, next_path, outstanding, claimed, released, add_answer, AreSingle}
+use Rattle.vb_ring.specs.Ends.{DriverEnd, IsDriverEnd, is_unused, free_descriptors, next_head, next_path, outstanding, claimed, released, add_answer, AreSingle}
 use Rattle.vb_ring.proofs.OwnerLaws.{is_in-at, nowhere_in, claimed-at}
 use Rattle.vb_ring.proofs.MeaningLaws.{next_path-free, next_path-rise}
 use Rattle.vb_ring.specs.Calls.{Links, AddsBy}
@@ -52,7 +52,7 @@ pub added_chain : (old new : Pages) (r1 r2 : DriverEnd) (pieces : List Piece) (h
 added_chain old new r1 r2 pieces h end adds sound =
     let answer = answer_ok (length (free_descriptors r1)) (length pieces) h (slice_index (next_path r1 (length pieces)) 0) (Ok h) refl adds.value in
     let len : length (next_path r1 (length pieces)) ≡ length pieces = omega (arith, length-take (length pieces) (free_descriptors r1), answer.0) in
-    let short : length pieces ≤ r1.size = omega (arith, answer.0, length-numbers (is_free r1.owner) r1.size) in
+    let short : length pieces ≤ r1.size = omega (arith, answer.0, length-numbers (is_unused r1.owner) r1.size) in
     subst (λ (n : ℕ). ChainGives (descriptor_at new r1.layout.table) r1.size end n pieces) (sym answer.1)
     (written_chain (descriptor_at new r1.layout.table) r1.size end (next_path r1 (length pieces)) pieces (next_route r1 (length pieces)) len (omega (arith, len, short)) sound
     (λ k l. adds.links.put k (omega (arith, len))))
@@ -74,9 +74,9 @@ pub next_low : (r : DriverEnd) (h : ℕ) → AreSingle r → next_head r ≡ Som
 next_low r h single next =
     let some : 0 < length (free_descriptors r) = get_some (free_descriptors r) h next in
     let first : slice_index (free_descriptors r) 0 ≡ h = some_same (slice_index (free_descriptors r) 0) h (sym (slice_get-get_or (free_descriptors r) 0 0 some) ∙ next) in
-    let inside = numbers_pass (is_free r.owner) r.size 0 some in
+    let inside = numbers_pass (is_unused r.owner) r.size 0 some in
     length_all (is_head r.owner) r.size h (omega (arith, first, inside.0)) (λ i l.
-    single i (omega (arith, first, inside.0)) (taken r h some first i l (is_free r.owner i) refl))
+    single i (omega (arith, first, inside.0)) (taken r h some first i l (is_unused r.owner i) refl))
   where
     some_same : (a b : ℕ) → Some a ≡ Some b → a ≡ b
     some_same a b e = cc
@@ -85,14 +85,14 @@ next_low r h single next =
     get_some [] h e = cc
     get_some (x ∷ xs) h e = omega arith
 
-    taken : (r : DriverEnd) (h : ℕ) → 0 < length (free_descriptors r) → slice_index (free_descriptors r) 0 ≡ h → (i : ℕ) → i < h → (b : Bool) → is_free r.owner i ≡ b → is_free r.owner i ≡ false
+    taken : (r : DriverEnd) (h : ℕ) → 0 < length (free_descriptors r) → slice_index (free_descriptors r) 0 ≡ h → (i : ℕ) → i < h → (b : Bool) → is_unused r.owner i ≡ b → is_unused r.owner i ≡ false
     taken r h some first i l false e = e
     taken r h some first i l true e =
-        let inside = numbers_pass (is_free r.owner) r.size 0 some in
-        let found = numbers_has (is_free r.owner) r.size i (omega (arith, first, inside.0)) e in
+        let inside = numbers_pass (is_unused r.owner) r.size 0 some in
+        let found = numbers_has (is_unused r.owner) r.size i (omega (arith, first, inside.0)) e in
         elim (cases_eq found.0 0) [
           | inl z ↦ absurd (omega (arith, first, ap (slice_index (free_descriptors r)) z, found.2))
-          | inr ne ↦ absurd (omega (arith, first, numbers_rise (is_free r.owner) r.size 0 found.0 (omega (arith, ne)) found.1, found.2))
+          | inr ne ↦ absurd (omega (arith, first, numbers_rise (is_unused r.owner) r.size 0 found.0 (omega (arith, ne)) found.1, found.2))
         ]
 
 -- A chain of one descriptor claims that descriptor alone.

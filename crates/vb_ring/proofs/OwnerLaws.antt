@@ -9,7 +9,7 @@ use Rattle.vb_model.proofs.Tables.{each_page-get}
 use Rattle.vb_ring.specs.Entries.{is_own, is_head}
 use Rattle.vb_ring.specs.Numbers.{numbers}
 use Rattle.vb_ring.proofs.Numbers.{numbers_pass, numbers_rise}
-use Rattle.vb_ring.specs.Ends.{is_free, claimed, released}
+use Rattle.vb_ring.specs.Ends.{is_unused, claimed, released}
 
 -- A number that equals itself.
 same_number : (n : ℕ) → (n == n) ≡ true
