@@ -1,6 +1,6 @@
 //! The driver's table: for each descriptor the head of the chain that it belongs to.
 
-ghost use Rattle.std.specs.Prelude.{◌≡◌, ℕ, ◌<◌, ◌≤◌, IfSome, IfNone, Option, List, length, take};
+ghost use Rattle.std.specs.Prelude.{◌≡◌, ℕ, ◌<◌, ◌≤◌, IfSome, IfNone, Option, length, take};
 ghost use Rattle.std.specs.Prelude.{slice_get, slice_index};
 ghost use Rattle.vb_chain.specs.declared.pieces.TheConstants.{MAX_DESCRIPTORS};
 ghost use Rattle.vb_ring.specs.Entries.{is_own, is_head};
