@@ -1,11 +1,9 @@
 -- What follows for whoever adds and takes chains.
-use Rattle.std.specs.Prelude.{◌≡◌, ◌≢◌, ◌⊎◌, ℕ, ◌+◌, ◌*◌, ◌<◌, ◌≤◌, Bool, true, false, List, [], ◌∷◌, Option, Some, None, Result, Ok, Err, is_none, if◌then◌else◌, length, take, slice_get, slice_index, slice_index_or, slice_set, IsTrue, refl}
-use Rattle.std.specs.Int.{is_power_of_two}
-use Rattle.std.proofs.Common.{sym, ◌∙◌, ap, subst, arith, inl, inr, eq-eqb, min}
+use Rattle.std.specs.Prelude.{◌≡◌, ◌≢◌, ◌⊎◌, ℕ, ◌<◌, ◌≤◌, Bool, true, false, List, [], ◌∷◌, Option, Some, None, Result, Ok, Err, if◌then◌else◌, length, slice_get, slice_index, slice_index_or, slice_set, refl}
+use Rattle.std.proofs.Common.{sym, ◌∙◌, ap, subst, arith, inl, inr}
 use Rattle.std.proofs.lemmas.Bool.{cases_eq, cases_lt, lt-ltb, le-ltb}
-use Rattle.std.proofs.lemmas.List.{length-take, length-set, get_or-set_same, get_or-set_other, ext_get_or, get_or_past}
-use Rattle.std.proofs.lemmas.Option.{slice_get-get_or, slice_get_past}
-use Rattle.std.proofs.lemmas.Grind.{common_steps}
+use Rattle.std.proofs.lemmas.List.{length-take, length-set, get_or-set_same, get_or-set_other, ext_get_or}
+use Rattle.std.proofs.lemmas.Option.{slice_get-get_or}
 use Rattle.std.specs.Prelude.{nat_lt}
 use Rattle.vb_ring.specs.declared.driver.Full.TheVariants.{TooFewFree}
 use Rattle.vb_model.specs.Tests.{is_in}
@@ -13,18 +11,16 @@ use Rattle.vb_model.proofs.Tables.{length-each_from}
 use Rattle.vb_ram.specs.Pages.{Pages}
 use Rattle.vb_chain.specs.declared.pieces.Piece.{Piece}
 use Rattle.vb_chain.specs.Table.{descriptor_at}
-use Rattle.vb_chain.specs.Written.{linked, IsRoute, AreSound}
+use Rattle.vb_chain.specs.Written.{IsRoute, AreSound}
 use Rattle.vb_chain.specs.Chain.{ChainGives}
 use Rattle.vb_chain.proofs.ChainLaws.{written_chain}
 use Rattle.vb_ring.specs.declared.driver.Full.{Full}
-use Rattle.vb_ring.specs.Layout.{IsSize}
-use Rattle.vb_ring.specs.Entries.{is_own, is_head}
-use Rattle.vb_ring.specs.Numbers.{numbers}
-use Rattle.vb_ring.proofs.Numbers.{numbers_pass, numbers_rise, numbers_has, length_all, length-numbers, length_two}
-use Rattle.vb_ring.specs.Ends.{DriverEnd, IsDriverEnd, is_unused, free_descriptors, next_head, next_path, outstanding, claimed, released, add_answer, AreSingle}
+use Rattle.vb_ring.specs.Entries.{is_head}
+use Rattle.vb_ring.proofs.Numbers.{numbers_pass, numbers_rise, numbers_has, length_all, length-numbers}
+use Rattle.vb_ring.specs.Ends.{DriverEnd, is_unused, free_descriptors, next_head, next_path, outstanding, claimed, AreSingle}
 use Rattle.vb_ring.proofs.OwnerLaws.{is_in-at, nowhere_in, claimed-at}
 use Rattle.vb_ring.proofs.MeaningLaws.{next_path-free, next_path-rise}
-use Rattle.vb_ring.specs.Calls.{Links, AddsBy}
+use Rattle.vb_ring.specs.Calls.{AddsBy}
 
 -- ---- what was added is a chain of these pieces
 

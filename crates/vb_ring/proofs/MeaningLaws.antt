@@ -1,9 +1,8 @@
 -- Laws of what the bytes of a ring mean.
-use Rattle.std.specs.Prelude.{◌≡◌, ◌≢◌, ◌⊎◌, ℕ, zero, suc, ◌+◌, ◌-◌, ◌*◌, ◌%◌, ◌<◌, ◌≤◌, ◌==◌, nat_lt, Bool, true, false, List, [], ◌∷◌, ◌++◌, Option, Some, None, Result, Ok, Err, is_none, if◌then◌else◌, length, take, drop, map, count_by, remove, replicate, slice_get, slice_index, slice_index_or, refl}
+use Rattle.std.specs.Prelude.{◌≡◌, ◌≢◌, ℕ, zero, suc, ◌+◌, ◌<◌, ◌≤◌, ◌==◌, nat_lt, Bool, true, false, List, [], ◌∷◌, ◌++◌, Option, Some, None, Ok, is_none, if◌then◌else◌, length, take, replicate, slice_index, slice_index_or, refl}
 use Rattle.std.proofs.Common.{sym, ◌∙◌, ap, subst, arith, inl, inr, eq-eqb, add-one, add-zero}
-use Rattle.std.proofs.lemmas.Bool.{cases_eq, cases_lt, eqb-true, lt-ltb, le-ltb, ltb-true}
-use Rattle.std.proofs.lemmas.List.{length_push, get_or_append_left, get_or_push, get_or_past, length-map, get_or-map, get_or-take, length-take-le, take-append-drop, take-append-le, get_or-replicate, length-replicate}
-use Rattle.std.proofs.lemmas.Option.{slice_get-get_or, slice_get_past}
+use Rattle.std.proofs.lemmas.Bool.{cases_eq, cases_lt, eqb-true, ltb-true}
+use Rattle.std.proofs.lemmas.List.{length_push, get_or_past, length-map, get_or-take, length-take-le, take-append-le, get_or-replicate, length-replicate}
 use Rattle.vb_model.specs.Tests.{is_in, one_if}
 use Rattle.vb_model.proofs.Tables.{count_by-append, count_by-cons}
 use Rattle.vb_ram.specs.Pages.{Pages, byte_at, page_at}
@@ -12,19 +11,18 @@ use Rattle.vb_chain.specs.declared.pieces.Piece.{Piece}
 use Rattle.vb_chain.specs.Table.{descriptor_at}
 use Rattle.vb_chain.proofs.TableLaws.{descriptor_apart}
 use Rattle.vb_chain.specs.Rules.{has_next}
-use Rattle.vb_chain.specs.Chain.{IsPath}
 use Rattle.vb_chain.proofs.ChainLaws.{flags_next}
 use Rattle.vb_chain.specs.Written.{linked, empty}
 use Rattle.vb_ring.specs.declared.layout.Layout.{Layout}
-use Rattle.vb_ring.specs.Layout.{IsSize, Fits, layout_of}
-use Rattle.vb_ring.specs.Entries.{avail_index, used_index, is_own, is_head, next_id, only_head}
+use Rattle.vb_ring.specs.Layout.{IsSize, Fits}
+use Rattle.vb_ring.specs.Entries.{avail_index, used_index, is_own, is_head}
 use Rattle.vb_ring.specs.Numbers.{numbers}
-use Rattle.vb_ring.proofs.Numbers.{numbers_pass, numbers_rise, numbers_none, length_gain, length_two, length-numbers}
-use Rattle.vb_ring.specs.Ends.{DriverEnd, IsDriverEnd, is_unused, free_descriptors, heads_out, outstanding, next_path, claimed, released, after_add, after_take, used_answer, fresh_end}
-use Rattle.vb_ring.proofs.OwnerLaws.{is_in-at, is_in-some, not_in, nowhere_in, take_inside, claimed-at, released-at}
-use Rattle.vb_ring.specs.Meaning.{UsedElem, no_elem, ids, times, IsOutstanding, IsTablePath, ShowsAvail, ShowsUsed, ShowsEntries, Shows, Tracks}
+use Rattle.vb_ring.proofs.Numbers.{numbers_pass, numbers_rise, numbers_none, length_gain, length_two}
+use Rattle.vb_ring.specs.Ends.{DriverEnd, IsDriverEnd, is_unused, free_descriptors, outstanding, next_path, claimed, released, after_add, after_take, fresh_end}
+use Rattle.vb_ring.proofs.OwnerLaws.{is_in-at, is_in-some, nowhere_in, take_inside, claimed-at, released-at}
+use Rattle.vb_ring.specs.Meaning.{UsedElem, no_elem, ids, times, IsOutstanding, IsTablePath, ShowsEntries, Shows, Tracks}
 use Rattle.vb_ring.specs.Calls.{Links}
-use Rattle.vb_ring.proofs.EntryLaws.{id_shown, entries_apart, fresh_entries, index_zero}
+use Rattle.vb_ring.proofs.EntryLaws.{entries_apart, fresh_entries, index_zero}
 
 -- ---- how often a head stands in a list
 

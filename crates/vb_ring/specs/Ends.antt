@@ -1,5 +1,5 @@
 -- What the two ends of a ring remember.
-use Rattle.std.specs.Prelude.{◌≡◌, ℕ, ◌+◌, ◌%◌, ◌<◌, Bool, true, false, List, [], Result, Ok, Err}
+use Rattle.std.specs.Prelude.{◌≡◌, ℕ, ◌+◌, ◌%◌, ◌<◌, Bool, true, false, List, Result, Ok, Err}
 use Rattle.std.specs.Prelude.{Option, Some, None, is_none, if◌then◌else◌, nat_lt, length, take, map}
 use Rattle.std.specs.Prelude.{replicate, slice_get, slice_index, slice_index_or}
 use Rattle.vb_model.specs.Tests.{is_in, each_page}

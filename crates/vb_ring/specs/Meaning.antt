@@ -1,7 +1,7 @@
 -- What the bytes of a ring mean: the heads that were published and the elements that were used,
 -- oldest first (VIRTIO 1.1, 2.6).
-use Rattle.std.specs.Prelude.{◌≡◌, ◌≢◌, ℕ, ◌+◌, ◌%◌, ◌<◌, ◌≤◌, ◌==◌, Bool, true, List, Some, None}
-use Rattle.std.specs.Prelude.{length, take, map, count_by, slice_index, slice_index_or}
+use Rattle.std.specs.Prelude.{◌≡◌, ◌≢◌, ℕ, ◌+◌, ◌%◌, ◌<◌, ◌≤◌, true, List, Some, None}
+use Rattle.std.specs.Prelude.{length, take, map, slice_index, slice_index_or}
 use Rattle.vb_model.specs.Tests.{one_if}
 pub use Rattle.vb_model.specs.Tests.{times}
 use Rattle.vb_ram.specs.Pages.{Pages, field}

@@ -1,4 +1,4 @@
-use Rattle.std.proofs.Common.{◌≡◌, ◌∙◌, ◌+◌, ◌<◌, ◌≤◌, ℕ, Bool, true, false, List, [], ◌∷◌, ◌++◌, length, take, sym, ap, arith, rules, min}
+use Rattle.std.proofs.Common.{◌≡◌, ◌∙◌, ◌<◌, ◌≤◌, ℕ, Bool, true, false, List, [], ◌∷◌, ◌++◌, length, take, sym, ap, arith, rules, min}
 use Rattle.std.proofs.lemmas.List.{length-take, take_all, take-append-le, length_push}
 use Rattle.vb_ring.specs.Ends.{is_unused}
 use Rattle.vb_ring.specs.Numbers.{numbers}

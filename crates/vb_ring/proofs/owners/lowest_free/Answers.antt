@@ -1,4 +1,4 @@
-use Rattle.std.proofs.Common.{◌≡◌, ◌∙◌, ◌<◌, ℕ, Bool, true, sym, ap, arith, rules}
+use Rattle.std.proofs.Common.{◌≡◌, true, sym, ap, arith, rules}
 use Rattle.std.specs.Prelude.{slice_get}
 use Rattle.vb_ring.specs.Ends.{is_unused}
 use Rattle.vb_ring.proofs.Numbers.{numbers_none, numbers_first}

@@ -1,12 +1,9 @@
-use Rattle.std.proofs.Common.{◌≡◌, ◌∙◌, ◌+◌, ◌%◌, ◌<◌, ℕ, List, Option, Ok, length, take, sym, ap, subst, arith, rules}
+use Rattle.std.proofs.Common.{◌≡◌, ◌∙◌, ◌<◌, ℕ, List, length, take, sym, ap, subst, arith}
 use Rattle.std.specs.Prelude.{slice_index}
-use Rattle.std.proofs.lemmas.List.{length-take-le, take_at, length-map}
-use Rattle.vb_model.proofs.Tables.{length-each_from}
 use Rattle.vb_chain.specs.Written.{IsRoute}
 use Rattle.vb_ring.specs.Numbers.{numbers}
 use Rattle.vb_ring.specs.Ends.{DriverEnd, IsDriverEnd, is_unused, claimed, next_path}
 use Rattle.vb_ring.proofs.MeaningLaws.{next_path-free}
-use Rattle.vb_ring.specs.Calls.{AddsBy}
 use Rattle.vb_ring.proofs.Assemble.{adds_after, next_route}
 use Rattle.vb_ring.proofs.driver.DriverRing.add.Goals as goal
 
