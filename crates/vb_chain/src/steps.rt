@@ -1,7 +1,6 @@
 //! The walk along a chain.
 
-ghost use Rattle.std.specs.Prelude.{◌≡◌, ◌↔◌, ◌+◌, ◌*◌, ◌<◌, ◌≤◌, ◌^◌, IfOk, IfErr, IsOkAnd, List};
-ghost use Rattle.std.specs.Prelude.{length, Bool};
+ghost use Rattle.std.specs.Prelude.{◌≡◌, ◌+◌, ◌*◌, ◌<◌, ◌≤◌, IfOk, IfErr, IsOkAnd, List, length};
 ghost use Rattle.vb_ram.specs.Pages.{end_of};
 ghost use Rattle.vb_chain.specs.declared.pieces.TheConstants.{MAX_DESCRIPTORS};
 ghost use Rattle.vb_chain.specs.Table.{descriptor_at};

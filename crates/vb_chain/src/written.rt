@@ -1,7 +1,6 @@
 //! A chain as a driver writes it.
 
 ghost use Rattle.std.specs.Prelude.{◌≡◌, ◌≢◌, ℕ, ◌+◌, ◌*◌, ◌<◌, ◌≤◌, IsSome, length, slice_index};
-ghost use Rattle.std.specs.Prelude.{slice_index_or};
 ghost use Rattle.vb_ram.specs.Pages.{frame_at, end_of, SameBut};
 ghost use Rattle.vb_chain.specs.declared.descriptor.TheConstants.{DESCRIPTOR_SIZE};
 ghost use Rattle.vb_chain.specs.declared.descriptor.TheConstants.{DESCRIPTORS_IN_A_PAGE};

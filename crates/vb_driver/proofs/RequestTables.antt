@@ -6,7 +6,7 @@ use Rattle.std.proofs.lemmas.List.{length-set, length-replicate, get_or-replicat
 use Rattle.vb_ring.specs.Layout.{layout_of}
 use Rattle.vb_ring.specs.Entries.{is_own, is_head}
 use Rattle.vb_ring.proofs.Numbers.{numbers_pass, numbers_rise, numbers_has, length_all}
-use Rattle.vb_ring.specs.Ends.{DriverEnd, IsDriverEnd, is_free, free_descriptors, outstanding, next_head, next_path, add_answer, after_add, after_take, claimed, released, fresh_end}
+use Rattle.vb_ring.specs.Ends.{DriverEnd, IsDriverEnd, is_unused, free_descriptors, outstanding, next_head, next_path, add_answer, after_add, after_take, claimed, released, fresh_end}
 use Rattle.vb_ring.proofs.OwnerLaws.{claimed-at, released-at}
 use Rattle.vb_ring.specs.declared.driver.Full.{Full}
 use Rattle.vb_ring.specs.declared.driver.Full.TheVariants.{TooFewFree}
@@ -46,8 +46,8 @@ first_is [] h e = cc
 first_is (x ∷ xs) h e = (omega arith, let same : x ≡ h = cc in same)
 
 -- a descriptor is unused, or it is a request's
-unused_or_head : (owner : List (Option ℕ)) (i : ℕ) → ((k : ℕ) → is_free owner k ≡ false → is_head owner k ≡ true) → (is_free owner i ≡ true) ⊎ (is_head owner i ≡ true)
-unused_or_head owner i single = elim (cases_Bool (is_free owner i)) [
+unused_or_head : (owner : List (Option ℕ)) (i : ℕ) → ((k : ℕ) → is_unused owner k ≡ false → is_head owner k ≡ true) → (is_unused owner i ≡ true) ⊎ (is_head owner i ≡ true)
+unused_or_head owner i single = elim (cases_Bool (is_unused owner i)) [
   | inl unused ↦ inl unused
   | inr used ↦ inr (single i used)
 ]
@@ -57,30 +57,30 @@ pub out_below : (r : DriverEnd) (h : ℕ) → h ≤ r.size → ((i : ℕ) → i 
 out_below r h le all = length_all (is_head r.owner) r.size h le all
 
 -- with fewer requests than descriptors, there is a next head
-pub head_there : (r : DriverEnd) → ((k : ℕ) → is_free r.owner k ≡ false → is_head r.owner k ≡ true) → outstanding r < r.size → next_head r ≡ None → ⊥
+pub head_there : (r : DriverEnd) → ((k : ℕ) → is_unused r.owner k ≡ false → is_head r.owner k ≡ true) → outstanding r < r.size → next_head r ≡ None → ⊥
 head_there r single few none =
     let empty : length (free_descriptors r) ≡ 0 = some_first (free_descriptors r) none in
     let all : (i : ℕ) → i < r.size → is_head r.owner i ≡ true = λ i lt. elim (unused_or_head r.owner i single) [
-      | inl free ↦ (let found = numbers_has (is_free r.owner) r.size i lt free in absurd (omega (arith, found.1)))
+      | inl free ↦ (let found = numbers_has (is_unused r.owner) r.size i lt free in absurd (omega (arith, found.1)))
       | inr head ↦ head
     ] in
     let full : r.size ≤ outstanding r = out_below r r.size (omega arith) all in
     absurd (omega arith)
 
 -- it is one of the table, unused, and at most as many are out
-pub head_low : (r : DriverEnd) (h : ℕ) → ((k : ℕ) → is_free r.owner k ≡ false → is_head r.owner k ≡ true) → next_head r ≡ Some h → (h < r.size) × (h ≤ outstanding r)
+pub head_low : (r : DriverEnd) (h : ℕ) → ((k : ℕ) → is_unused r.owner k ≡ false → is_head r.owner k ≡ true) → next_head r ≡ Some h → (h < r.size) × (h ≤ outstanding r)
 head_low r h single e =
     let f = first_is (free_descriptors r) h e in
     let some : 0 < length (free_descriptors r) = f.0 in
-    let passes = numbers_pass (is_free r.owner) r.size 0 some in
+    let passes = numbers_pass (is_unused r.owner) r.size 0 some in
     let inside : h < r.size = subst (λ (n : ℕ). n < r.size) f.1 passes.0 in
     let all : (i : ℕ) → i < h → is_head r.owner i ≡ true = λ i lt. elim (unused_or_head r.owner i single) [
       | inl free ↦
-          let found = numbers_has (is_free r.owner) r.size i (omega arith) free in
+          let found = numbers_has (is_unused r.owner) r.size i (omega arith) free in
           let at : slice_index (free_descriptors r) found.0 ≡ i = found.2 in
           elim (cases_lt 0 found.0) [
             | inl later ↦
-                let rise : slice_index (free_descriptors r) 0 < slice_index (free_descriptors r) found.0 = numbers_rise (is_free r.owner) r.size 0 found.0 later found.1 in
+                let rise : slice_index (free_descriptors r) 0 < slice_index (free_descriptors r) found.0 = numbers_rise (is_unused r.owner) r.size 0 found.0 later found.1 in
                 let first : slice_index (free_descriptors r) 0 ≡ h = f.1 in
                 absurd (omega arith)
             | inr first ↦
@@ -140,7 +140,7 @@ requests_taken r sent h all =
     kept : (i : ℕ) (b : Bool) → is_own h (slice_index_or r.owner i None) ≡ b → slice_index_or (released h r.owner) i None ≡ cond b None (slice_index_or r.owner i None)
     kept i b e = released-at h r.owner i ∙ ap (λ v. cond v None (slice_index_or r.owner i None)) e
 
-    at : (i : ℕ) (b : Bool) → is_own h (slice_index_or r.owner i None) ≡ b → is_free (released h r.owner) i ≡ false → is_head (released h r.owner) i ≡ true
+    at : (i : ℕ) (b : Bool) → is_own h (slice_index_or r.owner i None) ≡ b → is_unused (released h r.owner) i ≡ false → is_head (released h r.owner) i ≡ true
     at i true e used = (let gone : true ≡ false = sym (ap is_none (kept i true e)) ∙ used in cc)
     at i false e used = ap (is_own i) (kept i false e) ∙ all.single i (sym (ap is_none (kept i false e)) ∙ used)
 
@@ -179,5 +179,5 @@ requests_added_at r r2 sent h i pages all end e small state at =
 pub room_inside : (r : DriverEnd) (sent : List (List ℕ)) (now : Side) → (let side : Side = record { ring = r; sent = sent } in side) ≡ now → outstanding now.ring < min now.ring.size 16 → outstanding r < min r.size 16
 room_inside r sent now same room = subst (λ (s : Side). outstanding s.ring < min s.ring.size 16) (sym same) room
 
-pub head_small : (r : DriverEnd) (h : ℕ) → ((k : ℕ) → is_free r.owner k ≡ false → is_head r.owner k ≡ true) → next_head r ≡ Some h → outstanding r < min r.size 16 → h < 16
+pub head_small : (r : DriverEnd) (h : ℕ) → ((k : ℕ) → is_unused r.owner k ≡ false → is_head r.owner k ≡ true) → next_head r ≡ Some h → outstanding r < min r.size 16 → h < 16
 head_small r h single e room = omega (arith, (head_low r h single e).1)

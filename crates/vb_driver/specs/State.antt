@@ -12,7 +12,7 @@ use Rattle.vb_model.specs.Tests.{one_if}
 use Rattle.vb_model.specs.Orderly.{times}
 use Rattle.vb_ring.specs.Layout.{IsSize, layout_of}
 use Rattle.vb_ring.specs.Entries.{is_head}
-use Rattle.vb_ring.specs.Ends.{DriverEnd, fresh_end, is_free as is_unused}
+use Rattle.vb_ring.specs.Ends.{DriverEnd, fresh_end, is_unused}
 pub use Rattle.vb_pages.specs.FreePages.{FreePages}
 use Rattle.vb_pages.specs.PageState.{PageState, new_page_state}
 use Rattle.vb_driver.specs.Areas.{flags_of, is_covered}

@@ -14,7 +14,7 @@ use Rattle.vb_ram.specs.Pages.{Pages}
 use Rattle.vb_ram.specs.Part.{QueuePart}
 use Rattle.vb_ring.proofs.Numbers.{numbers_pass, numbers_has, numbers_rise}
 use Rattle.vb_ring.specs.Entries.{is_own, is_head}
-use Rattle.vb_ring.specs.Ends.{DriverEnd, is_free, free_descriptors, next_head, after_add, outstanding as outstanding_in}
+use Rattle.vb_ring.specs.Ends.{DriverEnd, is_unused, free_descriptors, next_head, after_add, outstanding as outstanding_in}
 use Rattle.vb_ring.specs.Meaning.{UsedElem, ids, times, Shows, Tracks}
 use Rattle.vb_driver.specs.Coding.{IsCoded}
 use Rattle.vb_driver.specs.State.{Side, AreRequests}
@@ -53,25 +53,25 @@ either false = inr refl
 -- the lowest free descriptor is free, and none below it is
 pub record IsLowest (r : DriverEnd) (h : ℕ) : Type 0 where
   pub inside : h < r.size
-  pub free : is_free r.owner h ≡ true
-  pub below : (k : ℕ) → k < h → is_free r.owner k ≡ false
+  pub free : is_unused r.owner h ≡ true
+  pub below : (k : ℕ) → k < h → is_unused r.owner k ≡ false
 
 pub lowest_is : (r : DriverEnd) (h : ℕ) → next_head r ≡ Some h → IsLowest r h
 lowest_is r h is =
     let free = free_descriptors r in
     let some : 0 < length free = slice_get_within free 0 h is in
     let first : slice_index free 0 ≡ h = get_or_from_slice_get free 0 h 0 is in
-    let pass = numbers_pass (is_free r.owner) r.size 0 some in
+    let pass = numbers_pass (is_unused r.owner) r.size 0 some in
     record {
       inside = omega (arith, first, pass.0);
-      free = ap (is_free r.owner) (sym first) ∙ pass.1;
-      below = λ k lt. elim (either (is_free r.owner k)) [
+      free = ap (is_unused r.owner) (sym first) ∙ pass.1;
+      below = λ k lt. elim (either (is_unused r.owner k)) [
         | inr not ↦ not
         | inl too ↦
-            let found = numbers_has (is_free r.owner) r.size k (omega (arith, first, pass.0)) too in
+            let found = numbers_has (is_unused r.owner) r.size k (omega (arith, first, pass.0)) too in
             elim (cases_eq found.0 0) [
               | inl e ↦ (let same : slice_index free 0 ≡ k = ap (slice_index free) (sym e) ∙ found.2 in absurd (omega (arith, same, first)))
-              | inr ne ↦ absurd (omega (arith, numbers_rise (is_free r.owner) r.size 0 found.0 (omega (arith, ne)) found.1, first, found.2))
+              | inr ne ↦ absurd (omega (arith, numbers_rise (is_unused r.owner) r.size 0 found.0 (omega (arith, ne)) found.1, first, found.2))
             ]
       ];
     }

@@ -1,6 +1,6 @@
 //! What is seen of a guest's memory.
 
-ghost use Rattle.std.specs.Prelude.{◌≡◌, ℕ, ◌+◌, ◌<◌, ◌≤◌, Option, Some, None, IsSome, IsOk, OnOk};
+ghost use Rattle.std.specs.Prelude.{◌≡◌, ℕ, ◌+◌, ◌<◌, None, IsSome, IsOk, OnOk};
 ghost use Rattle.std.specs.Prelude.{OnErr, length, slice_index};
 ghost use Rattle.vb_ram.specs.Part.{Part};
 ghost use Rattle.vb_ram.specs.Pages.{Pages, byte_at, frame_at, Covers, Wrote};

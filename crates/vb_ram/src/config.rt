@@ -1,7 +1,6 @@
 //! How large a guest is.
 
-ghost use Rattle.std.specs.Prelude.{◌≡◌, Option, Some, None, if◌then◌else◌};
-ghost use Rattle.std.specs.Prelude.{◌&&◌};
+ghost use Rattle.std.specs.Prelude.{◌≡◌, Option, Some, None, if◌then◌else◌, ◌&&◌};
 ghost use Rattle.vb_model.specs.Limits.{is_config, is_between, is_power_of_two};
 
 use vb_model::limits::{

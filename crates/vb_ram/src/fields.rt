@@ -2,7 +2,7 @@
 //! `to_le_bytes` and `from_le_bytes`, whose meaning computes and whose law back and forth std
 //! proves.
 
-ghost use Rattle.std.specs.Prelude.{◌≡◌, ◌^◌, ◌<◌, IsSome};
+ghost use Rattle.std.specs.Prelude.{◌≡◌, ◌<◌, IsSome};
 ghost use Rattle.vb_ram.specs.Pages.{field, frame_at, Covers, PutField};
 
 use crate::GuestBytes;

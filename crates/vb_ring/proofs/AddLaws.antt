@@ -1,11 +1,9 @@
 -- What follows for whoever adds and takes chains.
-use Rattle.std.specs.Prelude.{◌≡◌, ◌≢◌, ◌⊎◌, ℕ, ◌+◌, ◌*◌, ◌<◌, ◌≤◌, Bool, true, false, List, [], ◌∷◌, Option, Some, None, Result, Ok, Err, is_none, if◌then◌else◌, length, take, slice_get, slice_index, slice_index_or, slice_set, IsTrue, refl}
-use Rattle.std.specs.Int.{is_power_of_two}
-use Rattle.std.proofs.Common.{sym, ◌∙◌, ap, subst, arith, inl, inr, eq-eqb, min}
+use Rattle.std.specs.Prelude.{◌≡◌, ◌≢◌, ◌⊎◌, ℕ, ◌<◌, ◌≤◌, Bool, true, false, List, [], ◌∷◌, Option, Some, None, Result, Ok, Err, if◌then◌else◌, length, slice_get, slice_index, slice_index_or, slice_set, refl}
+use Rattle.std.proofs.Common.{sym, ◌∙◌, ap, subst, arith, inl, inr}
 use Rattle.std.proofs.lemmas.Bool.{cases_eq, cases_lt, lt-ltb, le-ltb}
-use Rattle.std.proofs.lemmas.List.{length-take, length-set, get_or-set_same, get_or-set_other, ext_get_or, get_or_past}
-use Rattle.std.proofs.lemmas.Option.{slice_get-get_or, slice_get_past}
-use Rattle.std.proofs.lemmas.Grind.{common_steps}
+use Rattle.std.proofs.lemmas.List.{length-take, length-set, get_or-set_same, get_or-set_other, ext_get_or}
+use Rattle.std.proofs.lemmas.Option.{slice_get-get_or}
 use Rattle.std.specs.Prelude.{nat_lt}
 use Rattle.vb_ring.specs.declared.driver.Full.TheVariants.{TooFewFree}
 use Rattle.vb_model.specs.Tests.{is_in}
@@ -13,18 +11,16 @@ use Rattle.vb_model.proofs.Tables.{length-each_from}
 use Rattle.vb_ram.specs.Pages.{Pages}
 use Rattle.vb_chain.specs.declared.pieces.Piece.{Piece}
 use Rattle.vb_chain.specs.Table.{descriptor_at}
-use Rattle.vb_chain.specs.Written.{linked, IsRoute, AreSound}
+use Rattle.vb_chain.specs.Written.{IsRoute, AreSound}
 use Rattle.vb_chain.specs.Chain.{ChainGives}
 use Rattle.vb_chain.proofs.ChainLaws.{written_chain}
 use Rattle.vb_ring.specs.declared.driver.Full.{Full}
-use Rattle.vb_ring.specs.Layout.{IsSize}
-use Rattle.vb_ring.specs.Entries.{is_own, is_head}
-use Rattle.vb_ring.specs.Numbers.{numbers}
-use Rattle.vb_ring.proofs.Numbers.{numbers_pass, numbers_rise, numbers_has, length_all, length-numbers, length_two}
-use Rattle.vb_ring.specs.Ends.{DriverEnd, IsDriverEnd, is_free, free_descriptors, next_head, next_path, outstanding, claimed, released, add_answer, AreSingle}
+use Rattle.vb_ring.specs.Entries.{is_head}
+use Rattle.vb_ring.proofs.Numbers.{numbers_pass, numbers_rise, numbers_has, length_all, length-numbers}
+use Rattle.vb_ring.specs.Ends.{DriverEnd, is_unused, free_descriptors, next_head, next_path, outstanding, claimed, AreSingle}
 use Rattle.vb_ring.proofs.OwnerLaws.{is_in-at, nowhere_in, claimed-at}
 use Rattle.vb_ring.proofs.MeaningLaws.{next_path-free, next_path-rise}
-use Rattle.vb_ring.specs.Calls.{Links, AddsBy}
+use Rattle.vb_ring.specs.Calls.{AddsBy}
 
 -- ---- what was added is a chain of these pieces
 
@@ -52,7 +48,7 @@ pub added_chain : (old new : Pages) (r1 r2 : DriverEnd) (pieces : List Piece) (h
 added_chain old new r1 r2 pieces h end adds sound =
     let answer = answer_ok (length (free_descriptors r1)) (length pieces) h (slice_index (next_path r1 (length pieces)) 0) (Ok h) refl adds.value in
     let len : length (next_path r1 (length pieces)) ≡ length pieces = omega (arith, length-take (length pieces) (free_descriptors r1), answer.0) in
-    let short : length pieces ≤ r1.size = omega (arith, answer.0, length-numbers (is_free r1.owner) r1.size) in
+    let short : length pieces ≤ r1.size = omega (arith, answer.0, length-numbers (is_unused r1.owner) r1.size) in
     subst (λ (n : ℕ). ChainGives (descriptor_at new r1.layout.table) r1.size end n pieces) (sym answer.1)
     (written_chain (descriptor_at new r1.layout.table) r1.size end (next_path r1 (length pieces)) pieces (next_route r1 (length pieces)) len (omega (arith, len, short)) sound
     (λ k l. adds.links.put k (omega (arith, len))))
@@ -74,9 +70,9 @@ pub next_low : (r : DriverEnd) (h : ℕ) → AreSingle r → next_head r ≡ Som
 next_low r h single next =
     let some : 0 < length (free_descriptors r) = get_some (free_descriptors r) h next in
     let first : slice_index (free_descriptors r) 0 ≡ h = some_same (slice_index (free_descriptors r) 0) h (sym (slice_get-get_or (free_descriptors r) 0 0 some) ∙ next) in
-    let inside = numbers_pass (is_free r.owner) r.size 0 some in
+    let inside = numbers_pass (is_unused r.owner) r.size 0 some in
     length_all (is_head r.owner) r.size h (omega (arith, first, inside.0)) (λ i l.
-    single i (omega (arith, first, inside.0)) (taken r h some first i l (is_free r.owner i) refl))
+    single i (omega (arith, first, inside.0)) (taken r h some first i l (is_unused r.owner i) refl))
   where
     some_same : (a b : ℕ) → Some a ≡ Some b → a ≡ b
     some_same a b e = cc
@@ -85,14 +81,14 @@ next_low r h single next =
     get_some [] h e = cc
     get_some (x ∷ xs) h e = omega arith
 
-    taken : (r : DriverEnd) (h : ℕ) → 0 < length (free_descriptors r) → slice_index (free_descriptors r) 0 ≡ h → (i : ℕ) → i < h → (b : Bool) → is_free r.owner i ≡ b → is_free r.owner i ≡ false
+    taken : (r : DriverEnd) (h : ℕ) → 0 < length (free_descriptors r) → slice_index (free_descriptors r) 0 ≡ h → (i : ℕ) → i < h → (b : Bool) → is_unused r.owner i ≡ b → is_unused r.owner i ≡ false
     taken r h some first i l false e = e
     taken r h some first i l true e =
-        let inside = numbers_pass (is_free r.owner) r.size 0 some in
-        let found = numbers_has (is_free r.owner) r.size i (omega (arith, first, inside.0)) e in
+        let inside = numbers_pass (is_unused r.owner) r.size 0 some in
+        let found = numbers_has (is_unused r.owner) r.size i (omega (arith, first, inside.0)) e in
         elim (cases_eq found.0 0) [
           | inl z ↦ absurd (omega (arith, first, ap (slice_index (free_descriptors r)) z, found.2))
-          | inr ne ↦ absurd (omega (arith, first, numbers_rise (is_free r.owner) r.size 0 found.0 (omega (arith, ne)) found.1, found.2))
+          | inr ne ↦ absurd (omega (arith, first, numbers_rise (is_unused r.owner) r.size 0 found.0 (omega (arith, ne)) found.1, found.2))
         ]
 
 -- A chain of one descriptor claims that descriptor alone.

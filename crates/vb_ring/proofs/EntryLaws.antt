@@ -1,5 +1,5 @@
 -- What a write does to the lists that the rings show, and what stands next in them.
-use Rattle.std.specs.Prelude.{◌≡◌, ◌≢◌, ℕ, ◌+◌, ◌-◌, ◌*◌, ◌/◌, ◌%◌, ◌<◌, ◌≤◌, List, ◌∷◌, [], ◌++◌, length, slice_index, slice_index_or, slice_get, Some, None, Ok, map, Option}
+use Rattle.std.specs.Prelude.{◌≡◌, ◌≢◌, ℕ, ◌+◌, ◌-◌, ◌*◌, ◌/◌, ◌%◌, ◌<◌, ◌≤◌, List, ◌∷◌, [], ◌++◌, length, slice_get, Some, None, Ok}
 use Rattle.std.proofs.Common.{sym, ◌∙◌, ap, arith, inl, inr}
 use Rattle.std.proofs.lemmas.List.{length_push, get_or_append_left, get_or_push, length-map, get_or-map}
 use Rattle.std.proofs.lemmas.Option.{slice_get-get_or, slice_get_past}
@@ -9,16 +9,14 @@ use Rattle.std.proofs.lemmas.Bool.{cases_eq, cases_lt}
 use Rattle.std.proofs.Math.Nat.{mod-mod_of_dvd, dvd_of_mod-eq-zero, div-add-mod, mul-le-mul_left}
 use Rattle.vb_ram.specs.Pages.{byte_at, page_at, Pages, field, SameIn}
 use Rattle.vb_ram.proofs.FieldLaws.{same_page, field_in}
-use Rattle.vb_chain.specs.declared.descriptor.Descriptor.{Descriptor}
 use Rattle.vb_chain.specs.Table.{descriptor_at}
 use Rattle.vb_chain.proofs.TableLaws.{descriptor_kept}
 use Rattle.vb_ring.specs.declared.layout.Layout.{Layout}
 use Rattle.vb_ring.specs.Layout.{IsSize, Fits}
 use Rattle.vb_ring.specs.Entries.{avail_index, avail_place, used_index, used_place, ahead, avail_ahead, used_ahead, next_by, next_entry, next_id}
 use Rattle.vb_ring.specs.Meaning.{UsedElem, no_elem, ids, ShowsAvail, ShowsUsed, ShowsEntries}
-use Rattle.vb_ring.specs.Frame.{Extent, IsIn, SameOutside}
 use Rattle.vb_ring.proofs.FrameLaws.{outside_in}
-use Rattle.vb_ring.specs.Calls.{table_extent, avail_entry, avail_counter, used_entry, used_counter, PutsUsed, Publishes}
+use Rattle.vb_ring.specs.Calls.{PutsUsed, Publishes}
 
 -- ---- places
 

@@ -1,13 +1,13 @@
 -- Laws of what is left as it was.
-use Rattle.std.specs.Prelude.{◌≡◌, ◌≢◌, ℕ, ◌+◌, ◌*◌, ◌%◌, ◌<◌, ◌≤◌, List, [], ◌∷◌, IsSome, Option, None, length, slice_index_or, is_some, true, false}
-use Rattle.std.proofs.Common.{sym, ◌∙◌, ap, subst, arith, inl, inr}
+use Rattle.std.specs.Prelude.{◌≡◌, ℕ, ◌+◌, ◌<◌, ◌≤◌, List, IsSome, None, length, is_some, true, false}
+use Rattle.std.proofs.Common.{sym, ◌∙◌, ap, arith, inl, inr}
 use Rattle.std.proofs.lemmas.Bool.{cases_eq, cases_lt}
 use Rattle.std.proofs.lemmas.List.{get_or_past}
-use Rattle.vb_ram.specs.Pages.{Pages, page_at, number_of, frame_at, byte_at, field, SameBut, SameIn, PutField}
-use Rattle.vb_ram.proofs.FieldLaws.{same_page, field_in}
+use Rattle.vb_ram.specs.Pages.{Pages, number_of, frame_at, byte_at, SameBut, SameIn}
+use Rattle.vb_ram.proofs.FieldLaws.{same_page}
 use Rattle.vb_ring.specs.declared.layout.Layout.{Layout}
 use Rattle.vb_ring.specs.Layout.{IsInside, IsBacked}
-use Rattle.vb_ring.specs.Frame.{Extent, IsIn, IsOutside, IsOther, SameOutside}
+use Rattle.vb_ring.specs.Frame.{Extent, IsIn, IsOutside, SameOutside}
 
 -- A page that has a frame lies in memory.
 pub backed_inside : (mem : Pages) (p : ℕ) → IsSome (frame_at mem p) → p < length mem

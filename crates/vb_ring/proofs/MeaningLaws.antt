@@ -1,9 +1,8 @@
 -- Laws of what the bytes of a ring mean.
-use Rattle.std.specs.Prelude.{◌≡◌, ◌≢◌, ◌⊎◌, ℕ, zero, suc, ◌+◌, ◌-◌, ◌*◌, ◌%◌, ◌<◌, ◌≤◌, ◌==◌, nat_lt, Bool, true, false, List, [], ◌∷◌, ◌++◌, Option, Some, None, Result, Ok, Err, is_none, if◌then◌else◌, length, take, drop, map, count_by, remove, replicate, slice_get, slice_index, slice_index_or, refl}
+use Rattle.std.specs.Prelude.{◌≡◌, ◌≢◌, ℕ, zero, suc, ◌+◌, ◌<◌, ◌≤◌, ◌==◌, nat_lt, Bool, true, false, List, [], ◌∷◌, ◌++◌, Option, Some, None, Ok, is_none, if◌then◌else◌, length, take, replicate, slice_index, slice_index_or, refl}
 use Rattle.std.proofs.Common.{sym, ◌∙◌, ap, subst, arith, inl, inr, eq-eqb, add-one, add-zero}
-use Rattle.std.proofs.lemmas.Bool.{cases_eq, cases_lt, eqb-true, lt-ltb, le-ltb, ltb-true}
-use Rattle.std.proofs.lemmas.List.{length_push, get_or_append_left, get_or_push, get_or_past, length-map, get_or-map, get_or-take, length-take-le, take-append-drop, take-append-le, get_or-replicate, length-replicate}
-use Rattle.std.proofs.lemmas.Option.{slice_get-get_or, slice_get_past}
+use Rattle.std.proofs.lemmas.Bool.{cases_eq, cases_lt, eqb-true, ltb-true}
+use Rattle.std.proofs.lemmas.List.{length_push, get_or_past, length-map, get_or-take, length-take-le, take-append-le, get_or-replicate, length-replicate}
 use Rattle.vb_model.specs.Tests.{is_in, one_if}
 use Rattle.vb_model.proofs.Tables.{count_by-append, count_by-cons}
 use Rattle.vb_ram.specs.Pages.{Pages, byte_at, page_at}
@@ -12,19 +11,18 @@ use Rattle.vb_chain.specs.declared.pieces.Piece.{Piece}
 use Rattle.vb_chain.specs.Table.{descriptor_at}
 use Rattle.vb_chain.proofs.TableLaws.{descriptor_apart}
 use Rattle.vb_chain.specs.Rules.{has_next}
-use Rattle.vb_chain.specs.Chain.{IsPath}
 use Rattle.vb_chain.proofs.ChainLaws.{flags_next}
 use Rattle.vb_chain.specs.Written.{linked, empty}
 use Rattle.vb_ring.specs.declared.layout.Layout.{Layout}
-use Rattle.vb_ring.specs.Layout.{IsSize, Fits, layout_of}
-use Rattle.vb_ring.specs.Entries.{avail_index, used_index, is_own, is_head, next_id, only_head}
+use Rattle.vb_ring.specs.Layout.{IsSize, Fits}
+use Rattle.vb_ring.specs.Entries.{avail_index, used_index, is_own, is_head}
 use Rattle.vb_ring.specs.Numbers.{numbers}
-use Rattle.vb_ring.proofs.Numbers.{numbers_pass, numbers_rise, numbers_none, length_gain, length_two, length-numbers}
-use Rattle.vb_ring.specs.Ends.{DriverEnd, IsDriverEnd, is_free, free_descriptors, heads_out, outstanding, next_path, claimed, released, after_add, after_take, used_answer, fresh_end}
-use Rattle.vb_ring.proofs.OwnerLaws.{is_in-at, is_in-some, not_in, nowhere_in, take_inside, claimed-at, released-at}
-use Rattle.vb_ring.specs.Meaning.{UsedElem, no_elem, ids, times, IsOut, IsTablePath, ShowsAvail, ShowsUsed, ShowsEntries, Shows, Tracks}
+use Rattle.vb_ring.proofs.Numbers.{numbers_pass, numbers_rise, numbers_none, length_gain, length_two}
+use Rattle.vb_ring.specs.Ends.{DriverEnd, IsDriverEnd, is_unused, free_descriptors, outstanding, next_path, claimed, released, after_add, after_take, fresh_end}
+use Rattle.vb_ring.proofs.OwnerLaws.{is_in-at, is_in-some, nowhere_in, take_inside, claimed-at, released-at}
+use Rattle.vb_ring.specs.Meaning.{UsedElem, no_elem, ids, times, IsOutstanding, IsTablePath, ShowsEntries, Shows, Tracks}
 use Rattle.vb_ring.specs.Calls.{Links}
-use Rattle.vb_ring.proofs.EntryLaws.{id_shown, entries_apart, fresh_entries, index_zero}
+use Rattle.vb_ring.proofs.EntryLaws.{entries_apart, fresh_entries, index_zero}
 
 -- ---- how often a head stands in a list
 
@@ -198,7 +196,7 @@ head_inside owner h e = elim (cases_lt h (length owner)) [
 ]
 
 -- A head that was published more often than it was used is out.
-out_head : (mem : Pages) (r : DriverEnd) (heads : List ℕ) (elems : List UsedElem) (s : ℕ) (h : ℕ) → Tracks mem r heads elems s → IsOut heads elems h → is_head r.owner h ≡ true
+out_head : (mem : Pages) (r : DriverEnd) (heads : List ℕ) (elems : List UsedElem) (s : ℕ) (h : ℕ) → Tracks mem r heads elems s → IsOutstanding heads elems h → is_head r.owner h ≡ true
 out_head mem r heads elems s h tracks out = at (is_head r.owner h) refl
   where
     at : (b : Bool) → is_head r.owner h ≡ b → is_head r.owner h ≡ true
@@ -232,7 +230,7 @@ next_path-length r n h = length-take-le n (free_descriptors r) h
 pub next_path-free : (r : DriverEnd) (n k : ℕ) → k < length (next_path r n) → (slice_index (next_path r n) k < r.size) × (slice_index_or r.owner (slice_index (next_path r n) k) None ≡ None)
 next_path-free r n k h =
     let part = take_inside (free_descriptors r) n k h in
-    let pass = numbers_pass (is_free r.owner) r.size k part.0 in
+    let pass = numbers_pass (is_unused r.owner) r.size k part.0 in
     (omega (arith, part.2, pass.0), free_none _ (ap (λ i. is_none (slice_index_or r.owner i None)) part.2 ∙ pass.1))
 
 -- No descriptor stands twice on it.
@@ -240,7 +238,7 @@ pub next_path-rise : (r : DriverEnd) (n j k : ℕ) → j < k → k < length (nex
 next_path-rise r n j k l h =
     let here = take_inside (free_descriptors r) n k h in
     let before = take_inside (free_descriptors r) n j (omega arith) in
-    omega (arith, here.2, before.2, numbers_rise (is_free r.owner) r.size j k l here.0)
+    omega (arith, here.2, before.2, numbers_rise (is_unused r.owner) r.size j k l here.0)
 
 -- The driver's end after an add tracks the ring with the one head more.
 pub added_tracks : (m1 m3 : Pages) (r : DriverEnd) (pieces : List Piece) (h : ℕ) (heads : List ℕ) (elems : List UsedElem) (s : ℕ) → IsDriverEnd r
@@ -261,7 +259,7 @@ added_tracks m1 m3 r pieces h heads elems s is_end links some fits first tracks 
     let head_new : is_head new h ≡ true = own_self h _ (ap (λ i. slice_index_or new i None) (sym first) ∙ mine 0 begin) in
     let same : (i : ℕ) → i ≢ h → is_head r.owner i ≡ is_head new i = λ i ne. same_by path h r.owner new i ne mine rest (λ k l. (free k l).1) (is_in i path) refl in
     let gain : length (numbers (is_head new) r.size) ≡ outstanding r + 1 = length_gain (is_head r.owner) (is_head new) r.size h (omega (arith, (free 0 begin).0, first)) head_old head_new same in
-    let both : length (free_descriptors r) + outstanding r ≤ r.size = length_two (is_free r.owner) (is_head r.owner) r.size (λ i e. ap (is_own i) (free_none _ e)) in (
+    let both : length (free_descriptors r) + outstanding r ≤ r.size = length_two (is_unused r.owner) (is_head r.owner) r.size (λ i e. ap (is_own i) (free_none _ e)) in (
       record {
         published = omega (arith, length_push heads h, tracks.published);
         seen = tracks.seen;

@@ -2,9 +2,9 @@
 use Rattle.std.specs.Prelude.{◌≡◌, ◌≢◌, ◌⊎◌, ℕ, zero, suc, ◌+◌, ◌<◌, ◌≤◌, Bool, true, false, List, [], ◌∷◌, ◌++◌, length, slice_index, if◌then◌else◌, refl, slice_get, Some}
 use Rattle.vb_model.specs.Tests.{one_if}
 use Rattle.std.proofs.lemmas.Option.{slice_get-get_or}
-use Rattle.std.proofs.Common.{sym, ◌∙◌, ap, subst, arith, inl, inr, add-one, add-zero}
+use Rattle.std.proofs.Common.{sym, ◌∙◌, ap, arith, inl, inr, add-one, add-zero}
 use Rattle.std.proofs.lemmas.List.{length_push, get_or_append_left, get_or_push}
-use Rattle.std.proofs.lemmas.Bool.{cases_eq, cases_lt}
+use Rattle.std.proofs.lemmas.Bool.{cases_eq}
 use Rattle.vb_ring.specs.Numbers.{numbers}
 
 suc_yes : (p : ℕ → Bool) (n : ℕ) (b : Bool) → p n ≡ b → b ≡ true → numbers p (suc n) ≡ numbers p n ++ n ∷ []

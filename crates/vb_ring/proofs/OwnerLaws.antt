@@ -1,15 +1,13 @@
 -- Laws of the driver's table.
-use Rattle.std.specs.Prelude.{◌≡◌, ◌≢◌, ℕ, zero, suc, ◌+◌, ◌<◌, ◌≤◌, ◌==◌, ◌||◌, Bool, true, false, List, [], ◌∷◌, Option, Some, None, is_none, if◌then◌else◌, length, take, map, slice_get, slice_index, slice_index_or, slice_set, IsSome, refl, replicate}
+use Rattle.std.specs.Prelude.{◌≡◌, ◌≢◌, ℕ, zero, suc, ◌<◌, ◌==◌, ◌||◌, Bool, true, false, List, [], ◌∷◌, Option, Some, None, if◌then◌else◌, length, take, slice_index, slice_index_or, refl}
 use Rattle.std.specs.List.{list_any}
-use Rattle.std.proofs.Common.{sym, ◌∙◌, ap, subst, arith, inl, inr, eq-eqb, min}
-use Rattle.std.proofs.lemmas.Bool.{cases_eq, cases_lt, eqb-true}
-use Rattle.std.proofs.lemmas.List.{length-map, get_or-map, get_or_past, get_or-take, length-take, length-take-le, ext_get_or}
-use Rattle.vb_model.specs.Tests.{is_in, each_page}
+use Rattle.std.proofs.Common.{sym, ◌∙◌, ap, arith, inl, inr, eq-eqb, min}
+use Rattle.std.proofs.lemmas.Bool.{cases_lt, eqb-true}
+use Rattle.std.proofs.lemmas.List.{length-map, get_or-map, get_or_past, get_or-take, length-take}
+use Rattle.vb_model.specs.Tests.{is_in}
 use Rattle.vb_model.proofs.Tables.{each_page-get}
-use Rattle.vb_ring.specs.Entries.{is_own, is_head}
-use Rattle.vb_ring.specs.Numbers.{numbers}
-use Rattle.vb_ring.proofs.Numbers.{numbers_pass, numbers_rise}
-use Rattle.vb_ring.specs.Ends.{is_free, claimed, released}
+use Rattle.vb_ring.specs.Entries.{is_own}
+use Rattle.vb_ring.specs.Ends.{claimed, released}
 
 -- A number that equals itself.
 same_number : (n : ℕ) → (n == n) ≡ true

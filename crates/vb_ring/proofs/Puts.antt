@@ -1,10 +1,8 @@
 -- What the writes of an entry and its index make together.
-use Rattle.std.proofs.Common.{◌≡◌, ◌∙◌, ◌+◌, ◌%◌, ◌*◌, ℕ, ap, arith, sym}
+use Rattle.std.proofs.Common.{◌∙◌, ◌+◌, ◌%◌, ◌*◌, ℕ, arith}
 use Rattle.vb_ram.specs.Pages.{Pages, PutField, SameBut}
 use Rattle.vb_ram.proofs.FieldLaws.{field_in, same_below, same_above}
-use Rattle.vb_chain.proofs.TableLaws.{descriptor_kept}
 use Rattle.vb_ring.specs.declared.layout.Layout.{Layout}
-use Rattle.vb_ring.specs.Layout.{Fits}
 use Rattle.vb_ring.specs.Entries.{avail_index, avail_place, used_index, used_place}
 use Rattle.vb_ring.proofs.FrameLaws.{byte_kept}
 use Rattle.vb_ring.specs.Calls.{PutsAvail, PutsUsed, Publishes}

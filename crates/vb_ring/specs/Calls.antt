@@ -1,5 +1,5 @@
 -- What the calls of a ring do, by old and new of memory and of the end.
-use Rattle.std.specs.Prelude.{◌≡◌, ℕ, ◌+◌, ◌*◌, ◌%◌, ◌<◌, ◌≤◌, Bool, true, false, List, [], ◌∷◌}
+use Rattle.std.specs.Prelude.{◌≡◌, ℕ, ◌+◌, ◌*◌, ◌%◌, ◌<◌, ◌≤◌, true, false, List, [], ◌∷◌}
 use Rattle.std.specs.Prelude.{◌++◌, Result, Ok, Err, Option, Some, None, IfOk, OnErr, IfSome}
 use Rattle.std.specs.Prelude.{IsOkAnd, IsSomeAnd, length, slice_get, slice_index}
 use Rattle.vb_model.specs.Tests.{is_in}
@@ -17,7 +17,7 @@ use Rattle.vb_ring.specs.declared.device.Taken.{Taken}
 use Rattle.vb_ring.specs.Entries.{avail_index, avail_place, used_index, used_place, next_entry}
 use Rattle.vb_ring.specs.Ends.{DriverEnd, IsDriverEnd, DeviceEnd, IsDeviceEnd, next_path}
 use Rattle.vb_ring.specs.Ends.{add_answer, after_add, used_answer, after_take}
-use Rattle.vb_ring.specs.Meaning.{UsedElem, ids, times, ShowsAvail, ShowsUsed, ShowsEntries, Shows}
+use Rattle.vb_ring.specs.Meaning.{UsedElem, ids, times, ShowsAvail, ShowsEntries, Shows}
 use Rattle.vb_ring.specs.Meaning.{Tracks}
 use Rattle.vb_ring.specs.Frame.{Extent, SameOutside}
 

@@ -1,5 +1,5 @@
 -- What the two ends of a ring remember.
-use Rattle.std.specs.Prelude.{◌≡◌, ℕ, ◌+◌, ◌%◌, ◌<◌, Bool, true, false, List, [], Result, Ok, Err}
+use Rattle.std.specs.Prelude.{◌≡◌, ℕ, ◌+◌, ◌%◌, ◌<◌, Bool, true, false, List, Result, Ok, Err}
 use Rattle.std.specs.Prelude.{Option, Some, None, is_none, if◌then◌else◌, nat_lt, length, take, map}
 use Rattle.std.specs.Prelude.{replicate, slice_get, slice_index, slice_index_or}
 use Rattle.vb_model.specs.Tests.{is_in, each_page}
@@ -46,12 +46,12 @@ pub record IsDeviceEnd (q : DeviceEnd) : Type 0 where
 -- ---- what the driver's end says
 
 -- Whether a descriptor belongs to no chain.
-abbrev pub is_free : List (Option ℕ) → ℕ → Bool
-is_free owner i = is_none (slice_index_or owner i None)
+abbrev pub is_unused : List (Option ℕ) → ℕ → Bool
+is_unused owner i = is_none (slice_index_or owner i None)
 
 -- The descriptors that belong to no chain, lowest first.
 abbrev pub free_descriptors : DriverEnd → List ℕ
-free_descriptors r = numbers (is_free r.owner) r.size
+free_descriptors r = numbers (is_unused r.owner) r.size
 
 -- The heads of the chains that were added and not taken back, lowest first.
 abbrev pub heads_out : DriverEnd → List ℕ
@@ -71,7 +71,7 @@ next_path r n = take n (free_descriptors r)
 
 -- Each descriptor is free, or is a chain of its own.
 abbrev pub AreSingle : DriverEnd → Type 0
-AreSingle r = (i : ℕ) → i < r.size → is_free r.owner i ≡ false → is_head r.owner i ≡ true
+AreSingle r = (i : ℕ) → i < r.size → is_unused r.owner i ≡ false → is_head r.owner i ≡ true
 
 -- ---- what a call makes of it
 

@@ -1,5 +1,5 @@
 -- What a call on a ring leaves as it was.
-use Rattle.std.specs.Prelude.{◌≡◌, ◌≢◌, ℕ, ◌+◌, ◌<◌, ◌≤◌, List, [], ◌∷◌, length}
+use Rattle.std.specs.Prelude.{◌≡◌, ◌≢◌, ℕ, ◌<◌, ◌≤◌, List, [], ◌∷◌, length}
 use Rattle.vb_ram.specs.Pages.{Pages, byte_at, page_at, frame_at, contents_at}
 
 -- Bytes of a page, from an offset up to another.

@@ -1,11 +1,10 @@
 -- Where the parts of a split virtqueue lie (VIRTIO 1.1, 2.6).
-use Rattle.std.specs.Prelude.{◌≡◌, ℕ, ◌+◌, ◌*◌, ◌/◌, ◌%◌, ◌<◌, ◌≤◌, IsSome, length}
+use Rattle.std.specs.Prelude.{◌≡◌, ℕ, ◌+◌, ◌*◌, ◌%◌, ◌<◌, ◌≤◌, IsSome, length}
 use Rattle.std.specs.Int.{next_multiple_of}
 use Rattle.vb_model.specs.declared.limits.TheConstants.{PAGE_SIZE, MIN_QUEUE_SIZE, MAX_QUEUE_SIZE}
 use Rattle.vb_ram.specs.Pages.{Pages, frame_at}
 use Rattle.vb_chain.specs.declared.descriptor.TheConstants.{DESCRIPTOR_SIZE}
 use Rattle.vb_ring.specs.declared.layout.Layout.{Layout}
-use Rattle.vb_ring.specs.declared.layout.RingArea.{RingArea}
 
 -- A number of descriptors that a queue may have. It divides 65,536, so that an index that wraps
 -- goes on at the next place.

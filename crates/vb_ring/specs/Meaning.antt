@@ -1,7 +1,7 @@
 -- What the bytes of a ring mean: the heads that were published and the elements that were used,
 -- oldest first (VIRTIO 1.1, 2.6).
-use Rattle.std.specs.Prelude.{◌≡◌, ◌≢◌, ℕ, ◌+◌, ◌%◌, ◌<◌, ◌≤◌, ◌==◌, Bool, true, List, Some, None}
-use Rattle.std.specs.Prelude.{length, take, map, count_by, slice_index, slice_index_or}
+use Rattle.std.specs.Prelude.{◌≡◌, ◌≢◌, ℕ, ◌+◌, ◌%◌, ◌<◌, ◌≤◌, true, List, Some, None}
+use Rattle.std.specs.Prelude.{length, take, map, slice_index, slice_index_or}
 use Rattle.vb_model.specs.Tests.{one_if}
 pub use Rattle.vb_model.specs.Tests.{times}
 use Rattle.vb_ram.specs.Pages.{Pages, field}
@@ -46,8 +46,8 @@ pub record ShowsEntries (mem : Pages) (l : Layout) (q : ℕ) (heads : List ℕ)
   pub used : ShowsUsed mem l q elems
 
 -- A head was published more often than it was used.
-abbrev pub IsOut : List ℕ → List UsedElem → ℕ → Type 0
-IsOut heads elems h = times h (ids elems) < times h heads
+abbrev pub IsOutstanding : List ℕ → List UsedElem → ℕ → Type 0
+IsOutstanding heads elems h = times h (ids elems) < times h heads
 
 -- A path from a head that stays in a table of q descriptors.
 pub record IsTablePath (d : ℕ → Descriptor) (q head : ℕ) (path : List ℕ) : Type 0 where
@@ -63,7 +63,8 @@ pub record Shows (mem : Pages) (l : Layout) (q : ℕ) (heads : List ℕ) (elems 
   pub among : (h : ℕ) → times h (ids elems) ≤ times h heads
   pub most : length heads ≤ length elems + q
   pub once : (h : ℕ) → times h heads ≤ times h (ids elems) + 1
-  pub apart : (h j : ℕ) → h ≢ j → IsOut heads elems h → IsOut heads elems j → (a b : List ℕ) →
+  pub apart : (h j : ℕ) → h ≢ j → IsOutstanding heads elems h → IsOutstanding heads elems j →
+      (a b : List ℕ) →
       IsTablePath (descriptor_at mem l.table) q h a →
       IsTablePath (descriptor_at mem l.table) q j b →
       (k n : ℕ) → k < length a → n < length b → slice_index a k ≢ slice_index b n

@@ -1,10 +1,9 @@
 //! The device's end.
 
-ghost use Rattle.std.specs.Prelude.{◌≡◌, ℕ, ◌+◌, ◌%◌, ◌<◌, ◌≤◌, ◌↔◌, IsTrue, true, false};
+ghost use Rattle.std.specs.Prelude.{◌≡◌, ◌+◌, ◌%◌, ◌<◌, ◌≤◌, ◌↔◌, IsTrue, true, false};
 ghost use Rattle.std.specs.Prelude.{if◌then◌else◌};
 ghost use Rattle.std.specs.Int.{is_power_of_two};
 ghost use Rattle.vb_model.specs.declared.limits.TheConstants.{MIN_QUEUE_SIZE, MAX_QUEUE_SIZE};
-ghost use Rattle.vb_ram.specs.Pages.{Pages};
 ghost use Rattle.vb_ring.specs.Layout.{layout_of, IsInside, IsBacked};
 ghost use Rattle.vb_ring.specs.Ends.{IsDeviceEnd};
 ghost use Rattle.vb_ring.specs.Calls.{PopsBy, AddsUsedBy};

@@ -1,10 +1,8 @@
 //! The driver's end.
 
-ghost use Rattle.std.specs.Prelude.{◌≡◌, ℕ, ◌<◌, List, length};
-ghost use Rattle.vb_ram.specs.Pages.{Pages};
-ghost use Rattle.vb_ring.specs.Layout.{layout_of, IsSize, Fits, IsInside, IsBacked};
+ghost use Rattle.std.specs.Prelude.{◌≡◌, ◌<◌, length};
+ghost use Rattle.vb_ring.specs.Layout.{layout_of, IsSize, IsInside, IsBacked};
 ghost use Rattle.vb_ring.specs.Ends.{IsDriverEnd, next_head, outstanding, fresh_end};
-ghost use Rattle.vb_ring.specs.Meaning.{UsedElem};
 ghost use Rattle.vb_ring.specs.Calls.{AddsBy, TakesUsedBy};
 
 use crate::Layout;

@@ -1,9 +1,7 @@
 //! The words of the two rings (VIRTIO 1.1, 2.6.6 and 2.6.8).
 
-ghost use Rattle.std.specs.Prelude.{◌≡◌, ◌+◌, ◌*◌, ◌%◌, ◌<◌, ◌≤◌, IsSome};
-ghost use Rattle.vb_ram.specs.Pages.{field, frame_at};
+ghost use Rattle.std.specs.Prelude.{◌≡◌, ◌+◌, ◌*◌, ◌%◌, ◌<◌};
 ghost use Rattle.vb_ring.specs.Layout.{Fits, IsInside, IsBacked};
-ghost use Rattle.vb_ring.specs.Entries.{avail_index, avail_place, used_index, used_place};
 ghost use Rattle.vb_ring.specs.Entries.{next_entry, next_id};
 ghost use Rattle.vb_ring.specs.Calls.{PutsAvail, PutsUsed};
 

@@ -1,11 +1,11 @@
 //! The driver's table: for each descriptor the head of the chain that it belongs to.
 
-ghost use Rattle.std.specs.Prelude.{◌≡◌, ℕ, ◌<◌, ◌≤◌, IfSome, IfNone, Option, List, length, take};
+ghost use Rattle.std.specs.Prelude.{◌≡◌, ℕ, ◌<◌, ◌≤◌, IfSome, IfNone, Option, length, take};
 ghost use Rattle.std.specs.Prelude.{slice_get, slice_index};
 ghost use Rattle.vb_chain.specs.declared.pieces.TheConstants.{MAX_DESCRIPTORS};
 ghost use Rattle.vb_ring.specs.Entries.{is_own, is_head};
 ghost use Rattle.vb_ring.specs.Numbers.{numbers};
-ghost use Rattle.vb_ring.specs.Ends.{is_free, claimed, released};
+ghost use Rattle.vb_ring.specs.Ends.{is_unused, claimed, released};
 
 use arrayvec::ArrayVec;
 use vb_chain::MAX_DESCRIPTORS;
@@ -44,7 +44,7 @@ pub fn count_heads(owner: &[Option<u16>]) -> u16
 /// The lowest free descriptor.
 pub fn lowest_free(owner: &[Option<u16>]) -> Option<u16>
     requires { length owner.now ≤ MAX_DESCRIPTORS }
-    ensures { result ≡ slice_get (numbers (is_free owner.now) (length owner.now)) 0 }
+    ensures { result ≡ slice_get (numbers (is_unused owner.now) (length owner.now)) 0 }
 {
     for i in 0..owner.len() as u16 {
         if owner[usize::from(i)].is_none() {
@@ -58,9 +58,10 @@ pub fn lowest_free(owner: &[Option<u16>]) -> Option<u16>
 pub fn free_path(owner: &[Option<u16>], count: usize) -> Option<ArrayVec<u16, MAX_DESCRIPTORS>>
     requires { length owner.now ≤ MAX_DESCRIPTORS }
     ensures found { IfSome result (λ path.
-        (path.items ≡ take count (numbers (is_free owner.now) (length owner.now))) ×
+        (path.items ≡ take count (numbers (is_unused owner.now) (length owner.now))) ×
         (length path.items ≡ count)) }
-    ensures none { IfNone result (length (numbers (is_free owner.now) (length owner.now)) < count) }
+    ensures none { IfNone result
+        (length (numbers (is_unused owner.now) (length owner.now)) < count) }
 {
     let mut path = ArrayVec::new();
     for i in 0..owner.len() as u16 {

@@ -1,7 +1,5 @@
-use Rattle.std.proofs.Common.{arith, refl, rules}
+use Rattle.std.proofs.Common.{arith, refl}
 use Rattle.vb_ram.proofs.FieldLaws.{put_at}
-use Rattle.vb_ring.proofs.FrameLaws.{backed_inside}
-use Rattle.vb_ring.proofs.EntryLaws.{puts_entries}
 use Rattle.vb_ring.proofs.Puts.{puts_used}
 use Rattle.vb_ring.proofs.entries.put_used.Goals as goal
 

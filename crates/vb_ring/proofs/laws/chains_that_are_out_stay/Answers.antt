@@ -1,4 +1,4 @@
-use Rattle.vb_ring.proofs.AddLaws.{added_apart, claimed_single}
+use Rattle.vb_ring.proofs.AddLaws.{added_apart}
 use Rattle.vb_ring.proofs.laws.chains_that_are_out_stay.Goals as goal
 
 pub returns : goal.returns

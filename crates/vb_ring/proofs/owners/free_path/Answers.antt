@@ -1,6 +1,6 @@
-use Rattle.std.proofs.Common.{◌≡◌, ◌∙◌, ◌+◌, ◌<◌, ◌≤◌, ℕ, Bool, true, false, List, [], ◌∷◌, ◌++◌, length, take, sym, ap, arith, rules, min}
+use Rattle.std.proofs.Common.{◌≡◌, ◌∙◌, ◌<◌, ◌≤◌, ℕ, Bool, true, false, List, [], ◌∷◌, ◌++◌, length, take, sym, ap, arith, rules, min}
 use Rattle.std.proofs.lemmas.List.{length-take, take_all, take-append-le, length_push}
-use Rattle.vb_ring.specs.Ends.{is_free}
+use Rattle.vb_ring.specs.Ends.{is_unused}
 use Rattle.vb_ring.specs.Numbers.{numbers}
 use Rattle.vb_ring.proofs.Numbers.{numbers_zero, numbers_yes, numbers_no, length-numbers}
 use Rattle.vb_ring.proofs.owners.free_path.Goals as goal
@@ -22,18 +22,18 @@ none_taken : (p : ℕ → Bool) (n : ℕ) (xs : List ℕ) → xs ≡ [] → xs �
 none_taken p n xs e = e ∙ sym (ap (take n) (numbers_zero p) ∙ take_all n [] (omega arith))
 
 pub loop-i-init : goal.loop-i-init
-loop-i-init c = none_taken (is_free c.args.owner.now) c.args.count _ c.new-path.ensures
+loop-i-init c = none_taken (is_unused c.args.owner.now) c.args.count _ c.new-path.ensures
 
 pub push-requires : goal.push-requires
 push-requires c =
-    let some = length-take c.args.count (numbers (is_free c.args.owner.now) c.loop-i.i) in
-    let few = length-numbers (is_free c.args.owner.now) c.loop-i.i in
+    let some = length-take c.args.count (numbers (is_unused c.args.owner.now) c.loop-i.i) in
+    let few = length-numbers (is_unused c.args.owner.now) c.loop-i.i in
     let len = ap length c.loop-i.invariant in
     (omega arith, omega (arith, some, few, len))
 
 pub loop-i-preserved : goal.loop-i-preserved
 loop-i-preserved c =
-    let p : ℕ → Bool = is_free c.args.owner.now in
+    let p : ℕ → Bool = is_unused c.args.owner.now in
     let xs : List ℕ = numbers p c.loop-i.i in
     let len : length c.loop-i.path.items ≡ length (take c.args.count xs) = ap length c.loop-i.invariant in
     elim c.if-is_none.branch [

@@ -1,4 +1,4 @@
-use Rattle.std.proofs.Common.{◌^◌, ◌<◌, sym, arith, subst, vec_len, refl}
+use Rattle.std.proofs.Common.{◌^◌, ◌<◌, sym, arith, subst, vec_len}
 use Rattle.vb_ram.specs.Pages.{Pages}
 use Rattle.vb_ram.specs.Memory.{IsMemory}
 use Rattle.vb_ram.proofs.PageLemmas.{whole-bare}

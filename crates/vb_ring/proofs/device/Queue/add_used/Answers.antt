@@ -1,4 +1,4 @@
-use Rattle.std.proofs.Common.{subst, rules, arith, ◌+◌, ◌%◌}
+use Rattle.std.proofs.Common.{subst, ◌+◌, ◌%◌}
 use Rattle.vb_ring.specs.Ends.{DeviceEnd, IsDeviceEnd}
 use Rattle.vb_ring.specs.Calls.{AddsUsedBy}
 use Rattle.vb_ring.proofs.Assemble.{adds_used_by}

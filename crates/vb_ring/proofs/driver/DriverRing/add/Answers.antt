@@ -1,12 +1,9 @@
-use Rattle.std.proofs.Common.{◌≡◌, ◌∙◌, ◌+◌, ◌%◌, ◌<◌, ℕ, List, Option, Ok, length, take, sym, ap, subst, arith, rules}
+use Rattle.std.proofs.Common.{◌≡◌, ◌∙◌, ◌<◌, ℕ, List, length, take, sym, ap, subst, arith}
 use Rattle.std.specs.Prelude.{slice_index}
-use Rattle.std.proofs.lemmas.List.{length-take-le, take_at, length-map}
-use Rattle.vb_model.proofs.Tables.{length-each_from}
 use Rattle.vb_chain.specs.Written.{IsRoute}
 use Rattle.vb_ring.specs.Numbers.{numbers}
-use Rattle.vb_ring.specs.Ends.{DriverEnd, IsDriverEnd, is_free, claimed, next_path}
+use Rattle.vb_ring.specs.Ends.{DriverEnd, IsDriverEnd, is_unused, claimed, next_path}
 use Rattle.vb_ring.proofs.MeaningLaws.{next_path-free}
-use Rattle.vb_ring.specs.Calls.{AddsBy}
 use Rattle.vb_ring.proofs.Assemble.{adds_after, next_route}
 use Rattle.vb_ring.proofs.driver.DriverRing.add.Goals as goal
 
@@ -15,8 +12,8 @@ write_chain-requires-clause-route g c =
     let old : DriverEnd = record { layout = c.self.inside.layout; size = c.self.inside.size; published = c.self.inside.published; seen = c.self.inside.seen; owner = take c.self.inside.size c.self.inside.owner } in
     let table : length old.owner ≡ old.size = c.self.invariant.table in
     let along : c.deref-path.result.now ≡ next_path old (length c.args.pieces.now) =
-    c.deref-path.ensures.0 ∙ c.in-Some.ensures.found.0 ∙ ap (λ k. take (length c.args.pieces.now) (numbers (is_free (take k c.self.inside.owner)) (length (take k c.self.inside.owner)))) c.from.ensures
-    ∙ ap (λ k. take (length c.args.pieces.now) (numbers (is_free old.owner) k)) table in
+    c.deref-path.ensures.0 ∙ c.in-Some.ensures.found.0 ∙ ap (λ k. take (length c.args.pieces.now) (numbers (is_unused (take k c.self.inside.owner)) (length (take k c.self.inside.owner)))) c.from.ensures
+    ∙ ap (λ k. take (length c.args.pieces.now) (numbers (is_unused old.owner) k)) table in
     subst (IsRoute old.size) (sym along) (next_route old (length c.args.pieces.now))
 
 pub claim-requires : goal.claim-requires
@@ -24,8 +21,8 @@ claim-requires g c =
     let old : DriverEnd = record { layout = c.self.inside.layout; size = c.self.inside.size; published = c.self.inside.published; seen = c.self.inside.seen; owner = take c.self.inside.size c.self.inside.owner } in
     let table : length old.owner ≡ old.size = c.self.invariant.table in
     let along : c.deref-path.result.now ≡ next_path old (length c.args.pieces.now) =
-    c.deref-path.ensures.0 ∙ c.in-Some.ensures.found.0 ∙ ap (λ k. take (length c.args.pieces.now) (numbers (is_free (take k c.self.inside.owner)) (length (take k c.self.inside.owner)))) c.from.ensures
-    ∙ ap (λ k. take (length c.args.pieces.now) (numbers (is_free old.owner) k)) table in
+    c.deref-path.ensures.0 ∙ c.in-Some.ensures.found.0 ∙ ap (λ k. take (length c.args.pieces.now) (numbers (is_unused (take k c.self.inside.owner)) (length (take k c.self.inside.owner)))) c.from.ensures
+    ∙ ap (λ k. take (length c.args.pieces.now) (numbers (is_unused old.owner) k)) table in
     subst (λ (n : ℕ). (k : ℕ) → k < length c.deref-path.result.now → slice_index c.deref-path.result.now k < length (take n c.self.inside.owner)) (sym c.from-2.ensures)
     (subst (λ (xs : List ℕ). (k : ℕ) → k < length xs → slice_index xs k < length old.owner) (sym along)
     (λ k h. omega (arith, (next_path-free old (length c.args.pieces.now) k h).0, table)))
@@ -36,8 +33,8 @@ returns-clause-adds g c =
     let table : length old.owner ≡ old.size = c.self.invariant.table in
     let is_end : IsDriverEnd old = c.self.invariant in
     let along : c.deref-path.result.now ≡ next_path old (length c.args.pieces.now) =
-    c.deref-path.ensures.0 ∙ c.in-Some.ensures.found.0 ∙ ap (λ k. take (length c.args.pieces.now) (numbers (is_free (take k c.self.inside.owner)) (length (take k c.self.inside.owner)))) c.from.ensures
-    ∙ ap (λ k. take (length c.args.pieces.now) (numbers (is_free old.owner) k)) table in
+    c.deref-path.ensures.0 ∙ c.in-Some.ensures.found.0 ∙ ap (λ k. take (length c.args.pieces.now) (numbers (is_unused (take k c.self.inside.owner)) (length (take k c.self.inside.owner)))) c.from.ensures
+    ∙ ap (λ k. take (length c.args.pieces.now) (numbers (is_unused old.owner) k)) table in
     let count : length c.deref-path.result.now ≡ length c.args.pieces.now = ap length c.deref-path.ensures.0 ∙ c.in-Some.ensures.found.1 in
     let claims : c.claim.new.owner ≡ claimed c.deref-path.result.now (slice_index c.deref-path.result.now 0) old.owner =
     c.claim.ensures ∙ ap (λ k. claimed c.deref-path.result.now (slice_index c.deref-path.result.now 0) (take k c.self.inside.owner)) c.from-2.ensures in

@@ -1,9 +1,9 @@
-use Rattle.std.proofs.Common.{◌≡◌, ◌∙◌, ℕ, List, Option, None, ap, arith, take}
+use Rattle.std.proofs.Common.{◌≡◌, ℕ, List, Option, None, arith}
 use Rattle.std.specs.Prelude.{replicate}
 use Rattle.std.proofs.lemmas.List.{take-replicate}
 use Rattle.vb_ring.specs.declared.layout.Layout.{Layout}
 use Rattle.vb_ring.specs.Layout.{layout_of}
-use Rattle.vb_ring.specs.Ends.{DriverEnd, fresh_end}
+use Rattle.vb_ring.specs.Ends.{fresh_end}
 use Rattle.vb_ring.proofs.driver.DriverRing.new.Goals as goal
 
 -- a fresh end, by its layout and its table

@@ -1,13 +1,12 @@
-use Rattle.std.proofs.Common.{◌≡◌, ◌∙◌, ◌+◌, ◌%◌, ◌≤◌, ℕ, Bool, true, false, List, Option, Some, None, Result, Ok, Err, length, take, sym, ap, subst, arith, rules}
-use Rattle.std.proofs.lemmas.List.{length-take-le, take_at, length-map}
+use Rattle.std.proofs.Common.{◌≡◌, ◌∙◌, ℕ, true, false, Option, Some, None, Result, Ok, Err, length, take, sym, ap, subst, arith, rules}
 use Rattle.vb_ring.specs.declared.driver.RingBroken.{RingBroken}
 use Rattle.vb_ring.specs.declared.driver.RingBroken.TheVariants.{NotOutstanding}
 use Rattle.vb_ring.specs.Entries.{is_head, next_id, only_head}
 use Rattle.vb_ring.specs.Numbers.{numbers}
 use Rattle.vb_ring.proofs.Numbers.{length-numbers}
-use Rattle.vb_ring.specs.Ends.{DriverEnd, IsDriverEnd, outstanding, released, after_take}
+use Rattle.vb_ring.specs.Ends.{DriverEnd, IsDriverEnd, outstanding, released}
 use Rattle.vb_ring.specs.Calls.{TakesUsedBy}
-use Rattle.vb_ring.proofs.Assemble.{takes_by, takes_after, only_out, only_unknown, past_unknown}
+use Rattle.vb_ring.proofs.Assemble.{takes_by, takes_after, only_unknown, past_unknown}
 use Rattle.vb_ring.proofs.driver.DriverRing.take_used.Goals as goal
 use Rattle.vb_ring.proofs.driver.DriverRing.take_used.Goals.{then-id-from-via-then-id-from, then-id-from-via-else-id-from+then-not-is_head}
 
