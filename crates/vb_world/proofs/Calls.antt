@@ -103,6 +103,7 @@ module _ {S D : Type 0} (Stand : S → Guest → Type 0) (Spare : D → Bool →
     guests = stands_with n s s' step.new host e step.stands;
     count = count_with n s s' e ∙ (host.count ∙ sym (plugged_with n step.new (Some has.guest) has.there refl));
     room = host.room;
+    keys = host.keys;
     next = host.next;
     frames = step.count ∙ host.frames;
     backed = λ f.

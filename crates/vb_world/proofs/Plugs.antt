@@ -1,5 +1,5 @@
 -- A host is made, and guests are plugged in.
-use Rattle.std.proofs.Common.{◌≡◌, ℕ, zero, suc, ◌+◌, ◌<◌, ◌≤◌, Bool, true, false, cond, List, [], ◌∷◌, length, get_or, map, refl, sym, ap, subst, ◌∙◌, inl, inr, arith, Option, Some, None, is_some, count_by, All}
+use Rattle.std.proofs.Common.{◌≡◌, ℕ, zero, suc, ◌+◌, ◌<◌, ◌≤◌, ◌^◌, Bool, true, false, cond, List, [], ◌∷◌, length, get_or, map, refl, sym, ap, subst, ◌∙◌, inl, inr, arith, Option, Some, None, is_some, count_by, All}
 use Rattle.std.specs.Prelude.{◌==◌, MatchOption, replicate, ⊤, nat_le, if◌then◌else◌}
 use Rattle.std.proofs.lemmas.List.{get_or_past, get_or-replicate, length-replicate}
 use Rattle.std.proofs.lemmas.Bool.{cases_lt}
@@ -37,12 +37,13 @@ spares_of P paced [] all = tt
 spares_of P paced (d ∷ ds) all = ((all 0 d (omega arith), refl), spares_of P paced ds (λ k e l. all (suc k) e (omega (arith, l))))
 
 pub host_made : {S D : Type 0} (Stand : S → Guest → Type 0) (P : D → Type 0) (paced : D → Bool) (slots : Slab S) (out : List Bool) (devices : List D) (frames : ℕ)
-    → slots.slots ≡ [] → max_guests ≤ slots.capacity → out ≡ replicate frames false → All P devices
+    → slots.slots ≡ [] → max_guests ≤ slots.capacity → slots.capacity ≤ 2 ^ 32 → out ≡ replicate frames false → All P devices
     → IsHost Stand (λ d p. P d × (paced d ≡ p)) slots out devices (made frames (map paced devices))
-host_made Stand P paced slots out devices frames empty room none all = record {
+host_made Stand P paced slots out devices frames empty room keys none all = record {
   guests = λ n. rw empty tt;
   count = rw empty refl;
   room = room;
+  keys = keys;
   next = tt;
   frames = rw none (length-replicate frames false);
   backed = λ f. rw (none, none_out frames f) refl;
@@ -100,6 +101,7 @@ module _ {S D : Type 0} (Stand : S → Guest → Type 0) (Spare : D → Bool →
         guests = plugs n s slots' g host vacant new (subst (λ (b : Bool). Stand s (fresh (record { pages = pages; queue_size = queue_size; processors = processors; paced = b }) 0)) (is_pace has.paced has.spare) stands);
         count = len ∙ (ap (λ (k : ℕ). k + 1) host.count ∙ sym (one_more n g none));
         room = omega (arith, host.room, capacity);
+        keys = omega (arith, host.keys, capacity);
         next = tt;
         frames = host.frames;
         backed = λ f.
@@ -135,6 +137,7 @@ module _ {S D : Type 0} (Stand : S → Guest → Type 0) (Spare : D → Bool →
         guests = host.guests;
         count = host.count;
         room = host.room;
+        keys = host.keys;
         next = host.next;
         frames = host.frames;
         backed = host.backed;

@@ -1,5 +1,5 @@
 -- What ties a host's slots, frames and spare devices to a world of the model.
-use Rattle.std.specs.Prelude.{◌≡◌, ℕ, ◌≤◌, Bool, List, [], ◌∷◌, Option, Some, None, length, sum_by, MatchOption, ⊤}
+use Rattle.std.specs.Prelude.{◌≡◌, ℕ, ◌≤◌, ◌^◌, Bool, List, [], ◌∷◌, Option, Some, None, length, sum_by, MatchOption, ⊤}
 use Rattle.std.specs.declared.alloc.Global.{Global}
 use Rattle.std.specs.declared.dyn_box.DynBox.{DynBox}
 use Rattle.slab.specs.Slab.{Slab, get, slab_len}
@@ -45,6 +45,7 @@ pub record IsHost {S D : Type 0} (Stand : S → Guest → Type 0) (Spare : D →
   pub guests : (n : ℕ) → StandsAt Stand (get slots n) (guest_at w.guests n)
   pub count : slab_len slots ≡ plugged_count w
   pub room : max_guests ≤ slots.capacity
+  pub keys : slots.capacity ≤ 2 ^ 32
   pub next : MatchOption w.given_up ⊤ (λ last. last ≡ slots.vacant_key)
   pub frames : length out ≡ w.frames
   pub backed : (frame : ℕ) → backing_of frame w.guests ≡ one_if (is_out out frame)

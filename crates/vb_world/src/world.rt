@@ -1,6 +1,6 @@
 //! A host: its frames, its guests, and the devices that no guest has yet.
 
-ghost use Rattle.std.specs.Prelude.{◌≡◌, ◌<◌, ◌≤◌, ℕ, true, All, IfOk, IfErr, OnErr, OnOk, map, ◌++◌, [], vec_len, vec_capacity, ◌∷◌, List, Bool, IsTrue};
+ghost use Rattle.std.specs.Prelude.{◌≡◌, ◌<◌, ◌≤◌, ◌^◌, ℕ, true, All, IfOk, IfErr, OnErr, OnOk, map, ◌++◌, [], vec_len, vec_capacity, ◌∷◌, List, Bool, IsTrue};
 ghost use Rattle.vb_model.specs.Brought.{is_brought, is_call_brought, is_query_brought};
 ghost use Rattle.vb_model.specs.Safe.{IsSafeRun};
 ghost use Rattle.vb_model.specs.World.{World as Model, WorldStep, PlugsIn, made};
@@ -55,6 +55,27 @@ fn put_first(devices: &mut Vec<Box<dyn Device + Send>>, device: Box<dyn Device +
     }
 }
 
+/// Slots for all guests that there may be, whose keys fit 32 bits.
+fn new_slots(alloc: Global) -> Result<Slab<Slot>, AllocError>
+    ensures empty { IfOk result (λ slots. slots.slots ≡ []) }
+    ensures room { IfOk result (λ slots. max_guests ≤ slots.capacity) }
+    ensures keys { IfOk result (λ slots. slots.capacity ≤ 2 ^ 32) }
+{
+    let slots = Slab::with_capacity(alloc, MAX_GUESTS as usize)?;
+    if slots.capacity() > u32::MAX as usize {
+        return Err(AllocError);
+    }
+    Ok(slots)
+}
+
+/// The key of a slot, as its guest's number.
+fn guest_number(key: usize) -> u32
+    requires { key < 2 ^ 32 }
+    ensures { result ≡ key }
+{
+    key as u32
+}
+
 impl World {
     /// A host of so many frames, 1 to 65,536, without guests. A plug takes the first of the spare
     /// devices that are left. Want of memory is the only refusal.
@@ -71,7 +92,7 @@ impl World {
     {
         Ok(World {
             table: FrameTable::new(alloc, frames)?,
-            slots: Slab::with_capacity(alloc, MAX_GUESTS as usize)?,
+            slots: new_slots(alloc)?,
             spares,
         })
     }
@@ -143,14 +164,13 @@ impl World {
             (new : Model) × IsWorld mem part self.new new ×
             PlugsIn config.pages config.queue_size config.processors w.spares w result new }
     {
-        let Ok(guest) = u32::try_from(self.slots.vacant_key()) else {
-            return Reply::Refused(Refusal::NoMemory);
-        };
         let device = self.spares.remove(0);
         match Slot::new(alloc, device, config) {
             Ok(slot) => {
-                self.slots.insert_reserved(slot);
-                Reply::Plugged { guest }
+                let key = self.slots.insert_reserved(slot);
+                Reply::Plugged {
+                    guest: guest_number(key),
+                }
             }
             Err(refused) => {
                 put_first(&mut self.spares, refused.device);
@@ -189,7 +209,7 @@ impl World {
         ensures run { (frames : ℕ) (spares : List Bool) →
             IsWorld mem part self.old (made frames spares)
             → IfOk result (λ replies. (last : Model) × IsWorld mem part self.new last ×
-                IsSafeRun (made frames spares) events.now replies.items last) }
+            IsSafeRun (made frames spares) events.now replies.items last) }
         ensures err { (w : Model) → IsWorld mem part self.old w →
             OnErr result (IsWorld mem part self.new w) }
     {

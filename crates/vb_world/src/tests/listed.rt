@@ -114,8 +114,7 @@ impl Model for ListedDevice {
 
     ghost view = { λ s. s.inner };
 
-    ghost invariant =
-        { λ s. MatchOption s.listed ⊤ (λ list. (length s.inner.part.ballooned ≡ list.pages) ×
+    ghost invariant = { λ s. MatchOption s.listed ⊤ (λ list. (length s.inner.part.ballooned ≡ list.pages) ×
         (list.pages ≤ vec_capacity list.numbers) ×
         (list.numbers.items ≡ pages_where (λ flag. flag) s.inner.part.ballooned)) };
 }

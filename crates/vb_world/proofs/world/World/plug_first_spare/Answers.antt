@@ -2,8 +2,11 @@ use Rattle.std.proofs.Common.{sym, arith, ◌∙◌, ◌<◌, length}
 use Rattle.vb_world.proofs.Plugs.{plugged, not_plugged, device_back, spare_of, first_removed, spare_like}
 use Rattle.vb_world.proofs.world.World.plug_first_spare.Goals as goal
 
-pub returns-in_default : goal.returns-in_default
-returns-in_default g c = λ w host. (w, host, not_plugged _ _ _ _ _ w _ _ _ host (omega (arith, c.requires.some, c.args.self.now.spares.ok)))
+pub guest_number-requires : goal.guest_number-requires
+guest_number-requires g c =
+    let (w, host) = c.requires.world in
+    let new = c.insert_reserved-key.ensures in
+    omega (arith, host.keys, new.key_in_range, new.capacity)
 
 pub new-requires-clause-spare : goal.new-requires-clause-spare
 new-requires-clause-spare g c =
@@ -11,13 +14,12 @@ new-requires-clause-spare g c =
     let first = first_removed c.args.self.now.spares.items c.remove-device.result c.remove-device.new.self.items (omega (arith, c.requires.some, c.args.self.now.spares.ok)) c.remove-device.ensures.value c.remove-device.ensures.items in
     (spare_of _ _ _ _ _ w c.remove-device.result c.remove-device.new.self.items host first).spare.0
 
-pub returns-in-Ok-new : goal.returns-in-Ok-new
-returns-in-Ok-new g c = λ w host.
+pub returns-in-Ok : goal.returns-in-Ok
+returns-in-Ok g c = λ w host.
     let first = first_removed c.args.self.now.spares.items c.remove-device.result c.remove-device.new.self.items (omega (arith, c.requires.some, c.args.self.now.spares.ok)) c.remove-device.ensures.value c.remove-device.ensures.items in
-    let new = c.insert_reserved.ensures in
-    let key = c.in-Ok.ensures.1 ∙ (c.vacant_key.ensures.value ∙ sym new.key) in
-    rw key (plugged _ _ _ _ _ w c.insert_reserved.result c.in-Ok-new.slot c.insert_reserved.new.self c.remove-device.result c.remove-device.new.self.items
-    c.args.config.pages c.args.config.queue_size c.args.config.processors host first new.key new.was_vacant new.updates new.len new.capacity _ (λ p spare. spare.1) c.in-Ok-new.ensures.made)
+    let new = c.insert_reserved-key.ensures in
+    rw c.guest_number.ensures (plugged _ _ _ _ _ w c.insert_reserved-key.result c.in-Ok.slot c.insert_reserved-key.new.self c.remove-device.result c.remove-device.new.self.items
+    c.args.config.pages c.args.config.queue_size c.args.config.processors host first new.key new.was_vacant new.updates new.len new.capacity _ (λ p spare. spare.1) c.in-Ok.ensures.made)
 
 pub returns-in-Err : goal.returns-in-Err
 returns-in-Err g c = λ w host.
