@@ -1,4 +1,4 @@
-use Rattle.std.proofs.Common.{sym, arith, ◌∙◌, ◌<◌, length}
+use Rattle.std.proofs.Common.{arith, ◌<◌, length}
 use Rattle.vb_world.proofs.Plugs.{plugged, not_plugged, device_back, spare_of, first_removed, spare_like}
 use Rattle.vb_world.proofs.world.World.plug_first_spare.Goals as goal
 
