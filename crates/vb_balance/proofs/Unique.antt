@@ -1,37 +1,64 @@
 -- Two lists of targets are the same.
-use Rattle.std.proofs.Common.{◌≡◌, ℕ, ◌<◌, List, length, slice_index, sym, ◌∙◌, subst, ◌⊎◌, inl, inr, arith}
+use Rattle.std.proofs.Common.{◌≡◌, ℕ, ◌<◌, List, length, slice_index, sym, ◌∙◌, subst, ◌⊎◌, inl}
+use Rattle.std.proofs.Common.{inr, arith}
 use Rattle.std.proofs.lemmas.Bool.{cases_order}
 use Rattle.vb_model.specs.Balance.{Need, AreTargets, GivesBefore, spare_at}
 use Rattle.vb_balance.proofs.Lists.{same_by_sum, somewhere_more}
 
 -- of two guests one gives before the other
-pub one_before : (needs : List Need) (i j : ℕ) → (i ≡ j) ⊎ (GivesBefore needs i j ⊎ GivesBefore needs j i)
+pub one_before : (needs : List Need) (i j : ℕ)
+    → (i ≡ j) ⊎ (GivesBefore needs i j ⊎ GivesBefore needs j i)
 one_before needs i j = elim (cases_order (spare_at needs i) (spare_at needs j)) [
   | inl same ↦ elim (cases_order i j) [
     | inl one ↦ inl one
-    | inr other ↦ elim other [ inl first ↦ inr (inl (inr (same, first))) | inr later ↦ inr (inr (inr (sym same, later))) ]
+    | inr other ↦ elim other [
+      | inl first ↦ inr (inl (inr (same, first)))
+      | inr later ↦
+          inr (inr (inr (sym same, later)))
+    ]
   ]
   | inr other ↦ elim other [ inl less ↦ inr (inr (inl less)) | inr more ↦ inr (inl (inl more)) ]
 ]
 
 -- one list can't ask more of one guest and less of another
-clash : (needs : List Need) (frames : ℕ) (one other : List ℕ) → AreTargets needs frames one → AreTargets needs frames other
-    → (i : ℕ) → i < length needs → slice_index other i < slice_index one i → (j : ℕ) → j < length needs → slice_index one j < slice_index other j → ⊥
+clash : (needs : List Need) (frames : ℕ) (one other : List ℕ) → AreTargets needs frames one
+    → AreTargets needs frames other
+    → (i : ℕ) → i < length needs → slice_index other i < slice_index one i → (j : ℕ)
+    → j < length needs → slice_index one j < slice_index other j → ⊥
 clash needs frames one other a b i li more j lj less =
     elim (one_before needs i j) [
-      | inl same ↦ omega (arith, more, subst (λ (k : ℕ). slice_index one k < slice_index other k) (sym same) less)
+      | inl same ↦ omega (
+        arith,
+        more,
+        subst (λ (k : ℕ). slice_index one k < slice_index other k) (sym same) less,
+      )
       | inr apart ↦ elim apart [
-        | inl first ↦ omega (arith, b.in_order j i lj li (omega (arith, less)) first, a.within i li, more)
-        | inr later ↦ omega (arith, a.in_order i j li lj (omega (arith, more)) later, b.within j lj, less)
+        | inl first ↦ omega (
+          arith,
+          b.in_order j i lj li (omega (arith, less)) first,
+          a.within i li,
+          more,
+        )
+        | inr later ↦ omega (
+          arith,
+          a.in_order i j li lj (omega (arith, more)) later,
+          b.within j lj,
+          less,
+        )
       ]
     ]
 
-pub unique : (needs : List Need) (frames : ℕ) (one other : List ℕ) → AreTargets needs frames one → AreTargets needs frames other → one ≡ other
+pub unique : (needs : List Need) (frames : ℕ) (one other : List ℕ) → AreTargets needs frames one
+    → AreTargets needs frames other → one ≡ other
 unique needs frames one other a b =
     elim (somewhere_more one other (a.one_each ∙ sym b.one_each)) [
-      | inr nowhere ↦ same_by_sum one other (a.one_each ∙ sym b.one_each) nowhere (a.enough ∙ sym b.enough)
+      | inr nowhere ↦ same_by_sum one other (a.one_each ∙ sym b.one_each) nowhere
+          (a.enough ∙ sym b.enough)
       | inl more ↦ elim (somewhere_more other one (b.one_each ∙ sym a.one_each)) [
-        | inr nowhere ↦ sym (same_by_sum other one (b.one_each ∙ sym a.one_each) nowhere (b.enough ∙ sym a.enough))
-        | inl less ↦ absurd (clash needs frames one other a b more.0 (omega (arith, more.1, a.one_each)) more.2 less.0 (omega (arith, less.1, b.one_each)) less.2)
+        | inr nowhere ↦ sym (same_by_sum other one (b.one_each ∙ sym a.one_each) nowhere
+            (b.enough ∙ sym a.enough))
+        | inl less ↦ absurd (clash needs frames one other a b more.0
+            (omega (arith, more.1, a.one_each)) more.2 less.0 (omega (arith, less.1, b.one_each))
+            less.2)
       ]
     ]

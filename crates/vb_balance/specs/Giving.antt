@@ -1,5 +1,6 @@
 -- Which guests have given so far (profile).
-use Rattle.std.specs.Prelude.{◌≡◌, ℕ, ◌+◌, ◌<◌, ◌≤◌, Bool, true, false, List, length, slice_index, slice_index_or, sum}
+use Rattle.std.specs.Prelude.{◌≡◌, ℕ, ◌+◌, ◌<◌, ◌≤◌, Bool, true, false, List, length, slice_index}
+use Rattle.std.specs.Prelude.{slice_index_or, sum}
 use Rattle.vb_model.specs.Balance.{Need, GivesBefore, missing, spare_at}
 
 -- whether the guest has given

@@ -26,5 +26,6 @@ indirect_is_a_table : says 4 ≡ false ∷ false ∷ true ∷ []
 indirect_is_a_table = refl
 
 -- what a driver writes: last to be read, last to be written, and the same where the chain goes on
-written_flags_are : flags_of false false ∷ flags_of false true ∷ flags_of true false ∷ flags_of true true ∷ [] ≡ 0 ∷ 2 ∷ 1 ∷ 3 ∷ []
+written_flags_are : flags_of false false ∷ flags_of false true ∷ flags_of true false
+    ∷ flags_of true true ∷ [] ≡ 0 ∷ 2 ∷ 1 ∷ 3 ∷ []
 written_flags_are = refl

@@ -9,12 +9,15 @@ use Rattle.vb_chain.specs.Table.{descriptor_at}
 abbrev made : ℕ → ℕ → ℕ → ℕ → Descriptor
 made w x y z = record { addr = w; len = x; flags = y; next = z }
 
-pub same_parts : (a b : Descriptor) → a.addr ≡ b.addr → a.len ≡ b.len → a.flags ≡ b.flags → a.next ≡ b.next → a ≡ b
+pub same_parts : (a b : Descriptor) → a.addr ≡ b.addr → a.len ≡ b.len → a.flags ≡ b.flags
+    → a.next ≡ b.next → a ≡ b
 same_parts a b w x y z =
-    ap (λ n. made n a.len a.flags a.next) w ∙ ap (λ n. made b.addr n a.flags a.next) x ∙ ap (λ n. made b.addr b.len n a.next) y ∙ ap (λ n. made b.addr b.len b.flags n) z
+    ap (λ n. made n a.len a.flags a.next) w ∙ ap (λ n. made b.addr n a.flags a.next) x
+    ∙ ap (λ n. made b.addr b.len n a.next) y ∙ ap (λ n. made b.addr b.len b.flags n) z
 
 -- bytes that are as before make the descriptor that they made
-pub descriptor_kept : (old new : Pages) (p i : ℕ) → SameIn old new p (16 * i) (16 * i + 16) → descriptor_at new p i ≡ descriptor_at old p i
+pub descriptor_kept : (old new : Pages) (p i : ℕ) → SameIn old new p (16 * i) (16 * i + 16)
+    → descriptor_at new p i ≡ descriptor_at old p i
 unfolding descriptor_at
 descriptor_kept old new p i same = same_parts _ _
     (field_in 8 old new p (16 * i) (16 * i + 16) (16 * i) same (omega arith) (omega arith))
@@ -24,18 +27,27 @@ descriptor_kept old new p i same = same_parts _ _
 
 -- four fields put one after the other make a descriptor
 pub descriptor_put : (m1 m2 m3 m4 m5 : Pages) (p i : ℕ) (d : Descriptor)
-    → PutField 8 m1 m2 p (16 * i) d.addr → PutField 4 m2 m3 p (16 * i + 8) d.len → PutField 2 m3 m4 p (16 * i + 12) d.flags → PutField 2 m4 m5 p (16 * i + 14) d.next
+    → PutField 8 m1 m2 p (16 * i) d.addr → PutField 4 m2 m3 p (16 * i + 8) d.len
+    → PutField 2 m3 m4 p (16 * i + 12) d.flags → PutField 2 m4 m5 p (16 * i + 14) d.next
     → descriptor_at m5 p i ≡ d
 unfolding descriptor_at
 descriptor_put m1 m2 m3 m4 m5 p i d w x y z = same_parts _ _
-    (field_in 8 m4 m5 p (16 * i) (16 * i + 8) (16 * i) (same_below m4 m5 p _ _ _ _ z.rest (omega arith)) (omega arith) (omega arith)
-    ∙ field_in 8 m3 m4 p (16 * i) (16 * i + 8) (16 * i) (same_below m3 m4 p _ _ _ _ y.rest (omega arith)) (omega arith) (omega arith)
-    ∙ field_in 8 m2 m3 p (16 * i) (16 * i + 8) (16 * i) (same_below m2 m3 p _ _ _ _ x.rest (omega arith)) (omega arith) (omega arith) ∙ w.value)
-    (field_in 4 m4 m5 p (16 * i + 8) (16 * i + 12) (16 * i + 8) (same_below m4 m5 p _ _ _ _ z.rest (omega arith)) (omega arith) (omega arith)
-    ∙ field_in 4 m3 m4 p (16 * i + 8) (16 * i + 12) (16 * i + 8) (same_below m3 m4 p _ _ _ _ y.rest (omega arith)) (omega arith) (omega arith) ∙ x.value)
-    (field_in 2 m4 m5 p (16 * i + 12) (16 * i + 14) (16 * i + 12) (same_below m4 m5 p _ _ _ _ z.rest (omega arith)) (omega arith) (omega arith) ∙ y.value)
+    (field_in 8 m4 m5 p (16 * i) (16 * i + 8) (16 * i)
+    (same_below m4 m5 p _ _ _ _ z.rest (omega arith)) (omega arith) (omega arith)
+    ∙ field_in 8 m3 m4 p (16 * i) (16 * i + 8) (16 * i)
+    (same_below m3 m4 p _ _ _ _ y.rest (omega arith)) (omega arith) (omega arith)
+    ∙ field_in 8 m2 m3 p (16 * i) (16 * i + 8) (16 * i)
+    (same_below m2 m3 p _ _ _ _ x.rest (omega arith)) (omega arith) (omega arith) ∙ w.value)
+    (field_in 4 m4 m5 p (16 * i + 8) (16 * i + 12) (16 * i + 8)
+    (same_below m4 m5 p _ _ _ _ z.rest (omega arith)) (omega arith) (omega arith)
+    ∙ field_in 4 m3 m4 p (16 * i + 8) (16 * i + 12) (16 * i + 8)
+    (same_below m3 m4 p _ _ _ _ y.rest (omega arith)) (omega arith) (omega arith) ∙ x.value)
+    (field_in 2 m4 m5 p (16 * i + 12) (16 * i + 14) (16 * i + 12)
+    (same_below m4 m5 p _ _ _ _ z.rest (omega arith)) (omega arith) (omega arith) ∙ y.value)
     z.value
 
 -- where the table's page is as before, so is each descriptor
-pub descriptor_apart : (old new : Pages) (p i : ℕ) → page_at new p ≡ page_at old p → descriptor_at new p i ≡ descriptor_at old p i
-descriptor_apart old new p i same = descriptor_kept old new p i (same_page old new p (16 * i) (16 * i + 16) same)
+pub descriptor_apart : (old new : Pages) (p i : ℕ) → page_at new p ≡ page_at old p
+    → descriptor_at new p i ≡ descriptor_at old p i
+descriptor_apart old new p i same =
+    descriptor_kept old new p i (same_page old new p (16 * i) (16 * i + 16) same)

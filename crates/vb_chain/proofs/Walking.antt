@@ -1,8 +1,10 @@
 -- How far a walk has come, and what it says at its end.
-use Rattle.std.proofs.Common.{◌≡◌, ℕ, ◌+◌, ◌<◌, List, [], ◌∷◌, ◌++◌, Bool, true, false, ◌||◌, Some, None, length, map, take, refl, sym, ◌∙◌, ap, inl, inr, arith}
+use Rattle.std.proofs.Common.{◌≡◌, ℕ, ◌+◌, ◌<◌, List, [], ◌∷◌, ◌++◌, Bool, true, false, ◌||◌, Some}
+use Rattle.std.proofs.Common.{None, length, map, take, refl, sym, ◌∙◌, ap, inl, inr, arith}
 use Rattle.std.specs.Prelude.{slice_index}
 use Rattle.std.specs.List.{list_any}
-use Rattle.std.proofs.lemmas.List.{length_push, get_or_append_left, get_or_push, take-append-le, take_at, take_all, map_more}
+use Rattle.std.proofs.lemmas.List.{length_push, get_or_append_left, get_or_push, take-append-le}
+use Rattle.std.proofs.lemmas.List.{take_at, take_all, map_more}
 use Rattle.std.proofs.lemmas.List.Folds.{list_any_more}
 use Rattle.std.proofs.lemmas.Bool.{cases_eq}
 use Rattle.vb_chain.specs.declared.descriptor.Descriptor.{Descriptor}
@@ -12,7 +14,8 @@ use Rattle.vb_chain.specs.Rules.{has_next, is_writable, piece_of, first_fault}
 use Rattle.vb_chain.specs.Chain.{IsPath, fault_at, ChainGives, FaultGives}
 
 -- i descriptors of a path have been visited, and index, its last, is next
-pub record Walked (d : ℕ → Descriptor) (q end head : ℕ) (path : List ℕ) (i index : ℕ) (writing : Bool) (pieces : List Piece) : Type 0 where
+pub record Walked (d : ℕ → Descriptor) (q end head : ℕ) (path : List ℕ) (i index : ℕ)
+    (writing : Bool) (pieces : List Piece) : Type 0 where
   pub inside : head < q
   pub is_path : IsPath d head path
   pub count : length path ≡ i + 1
@@ -21,10 +24,16 @@ pub record Walked (d : ℕ → Descriptor) (q end head : ℕ) (path : List ℕ) 
   pub writes : writing ≡ list_any (λ j. is_writable (d j)) (take i path)
   pub read : pieces ≡ map (λ j. piece_of (d j)) (take i path)
 
-pub walked_init : (d : ℕ → Descriptor) (q end head : ℕ) → head < q → Walked d q end head (head ∷ []) 0 head false []
+pub walked_init : (d : ℕ → Descriptor) (q end head : ℕ) → head < q
+    → Walked d q end head (head ∷ []) 0 head false []
 walked_init d q end head lt = record {
   inside = lt;
-  is_path = record { some = omega arith; begins = refl; onward = λ k h. absurd (omega arith); linked = λ k h. absurd (omega arith) };
+  is_path = record {
+    some = omega arith;
+    begins = refl;
+    onward = λ k h. absurd (omega arith);
+    linked = λ k h. absurd (omega arith);
+  };
   count = omega arith;
   last = refl;
   sound = λ k h. absurd (omega arith);
@@ -33,20 +42,26 @@ walked_init d q end head lt = record {
 }
 
 -- what stands at a place that was visited is the same on the longer path
-pub fault_kept : (d : ℕ → Descriptor) (q end : ℕ) (path : List ℕ) (j k : ℕ) → k < length path → fault_at d q end (path ++ j ∷ []) k ≡ fault_at d q end path k
+pub fault_kept : (d : ℕ → Descriptor) (q end : ℕ) (path : List ℕ) (j k : ℕ) → k < length path
+    → fault_at d q end (path ++ j ∷ []) k ≡ fault_at d q end path k
 fault_kept d q end path j k lt =
     let before = take-append-le k path (j ∷ []) (omega arith) in
     let here = get_or_append_left path (j ∷ []) 0 k lt in
-    ap (λ xs. first_fault q end (list_any (λ i. is_writable (d i)) xs) k (d (slice_index (path ++ j ∷ []) k))) before
+    ap (λ xs. first_fault q end (list_any (λ i. is_writable (d i)) xs) k
+    (d (slice_index (path ++ j ∷ []) k))) before
     ∙ ap (λ n. first_fault q end (list_any (λ i. is_writable (d i)) (take k path)) k (d n)) here
 
 -- the rule that is broken at the last place
-pub fault_last : (d : ℕ → Descriptor) (q end head : ℕ) (path : List ℕ) (i index : ℕ) (writing : Bool) (pieces : List Piece) → Walked d q end head path i index writing pieces
+pub fault_last : (d : ℕ → Descriptor) (q end head : ℕ) (path : List ℕ) (i index : ℕ)
+    (writing : Bool) (pieces : List Piece) → Walked d q end head path i index writing pieces
     → fault_at d q end path i ≡ first_fault q end writing i (d index)
 fault_last d q end head path i index writing pieces w =
-    ap (λ b. first_fault q end b i (d (slice_index path i))) (sym w.writes) ∙ ap (λ n. first_fault q end writing i (d n)) w.last
+    ap (λ b. first_fault q end b i (d (slice_index path i))) (sym w.writes)
+    ∙ ap (λ n. first_fault q end writing i (d n)) w.last
 
-pub walked_fault : (d : ℕ → Descriptor) (q end head : ℕ) (path : List ℕ) (i index : ℕ) (writing : Bool) (pieces : List Piece) (f : ChainFault) → Walked d q end head path i index writing pieces
+pub walked_fault : (d : ℕ → Descriptor) (q end head : ℕ) (path : List ℕ) (i index : ℕ)
+    (writing : Bool) (pieces : List Piece) (f : ChainFault)
+    → Walked d q end head path i index writing pieces
     → first_fault q end writing i (d index) ≡ Some f → FaultGives d q end head f
 walked_fault d q end head path i index writing pieces f w e = inr (
   path,
@@ -59,8 +74,10 @@ walked_fault d q end head path i index writing pieces f w e = inr (
   },
 )
 
-pub walked_chain : (d : ℕ → Descriptor) (q end head : ℕ) (path : List ℕ) (i index : ℕ) (writing : Bool) (pieces : List Piece) → Walked d q end head path i index writing pieces
-    → i < q → first_fault q end writing i (d index) ≡ None → has_next (d index) ≡ false → ChainGives d q end head (pieces ++ piece_of (d index) ∷ [])
+pub walked_chain : (d : ℕ → Descriptor) (q end head : ℕ) (path : List ℕ) (i index : ℕ)
+    (writing : Bool) (pieces : List Piece) → Walked d q end head path i index writing pieces
+    → i < q → first_fault q end writing i (d index) ≡ None → has_next (d index) ≡ false
+    → ChainGives d q end head (pieces ++ piece_of (d index) ∷ [])
 walked_chain d q end head path i index writing pieces w lt e stop =
     let all : take (i + 1) path ≡ path = take_all (i + 1) path (omega (arith, w.count)) in record {
       path = path;
@@ -69,23 +86,31 @@ walked_chain d q end head path i index writing pieces w lt e stop =
         is_path = w.is_path;
         short = omega (arith, w.count);
         sound = λ k h. elim (cases_eq k i) [
-          | inl at ↦ ap (fault_at d q end path) at ∙ fault_last d q end head path i index writing pieces w ∙ e
+          | inl at ↦ ap (fault_at d q end path) at
+              ∙ fault_last d q end head path i index writing pieces w ∙ e
           | inr ne ↦ w.sound k (omega (arith, w.count, ne))
         ];
-        ends = λ k h. let at : k ≡ i = omega (arith, w.count) in ap (λ n. has_next (d (slice_index path n))) at ∙ ap (λ n. has_next (d n)) w.last ∙ stop;
+        ends = λ k h. let at : k ≡ i = omega (arith, w.count) in
+            ap (λ n. has_next (d (slice_index path n))) at ∙ ap (λ n. has_next (d n)) w.last ∙ stop;
       };
-      pieces_are = ap (λ xs. xs ++ piece_of (d index) ∷ []) w.read ∙ ap (λ n. map (λ j. piece_of (d j)) (take i path) ++ piece_of (d n) ∷ []) (sym w.last)
-          ∙ sym (map_more (λ j. piece_of (d j)) path i 0 (omega (arith, w.count))) ∙ ap (map (λ j. piece_of (d j))) all;
+      pieces_are = ap (λ xs. xs ++ piece_of (d index) ∷ []) w.read
+          ∙ ap (λ n. map (λ j. piece_of (d j)) (take i path) ++ piece_of (d n) ∷ []) (sym w.last)
+          ∙ sym (map_more (λ j. piece_of (d j)) path i 0 (omega (arith, w.count)))
+          ∙ ap (map (λ j. piece_of (d j))) all;
     }
 
 -- one descriptor more has been visited
-pub walked_more : (d : ℕ → Descriptor) (q end head : ℕ) (path : List ℕ) (i index : ℕ) (writing : Bool) (pieces : List Piece) → Walked d q end head path i index writing pieces
+pub walked_more : (d : ℕ → Descriptor) (q end head : ℕ) (path : List ℕ) (i index : ℕ)
+    (writing : Bool) (pieces : List Piece) → Walked d q end head path i index writing pieces
     → first_fault q end writing i (d index) ≡ None → has_next (d index) ≡ true
-    → Walked d q end head (path ++ (d index).next ∷ []) (i + 1) (d index).next (writing || is_writable (d index)) (pieces ++ piece_of (d index) ∷ [])
+    → Walked d q end head (path ++ (d index).next ∷ []) (i + 1) (d index).next
+    (writing || is_writable (d index)) (pieces ++ piece_of (d index) ∷ [])
 walked_more d q end head path i index writing pieces w e more =
     let j = (d index).next in
     let size : length (path ++ j ∷ []) ≡ length path + 1 = length_push path j in
-    let here : (k : ℕ) → k < length path → slice_index (path ++ j ∷ []) k ≡ slice_index path k = λ k h. get_or_append_left path (j ∷ []) 0 k h in
+    let here : (k : ℕ) → k < length path
+    → slice_index (path ++ j ∷ []) k ≡ slice_index path k =
+    λ k h. get_or_append_left path (j ∷ []) 0 k h in
     let last : slice_index (path ++ j ∷ []) (i + 1) ≡ j = get_or_push path j 0 (i + 1) w.count in
     let cut : take (i + 1) (path ++ j ∷ []) ≡ path = take_at path (j ∷ []) (i + 1) w.count in
     let all : take (i + 1) path ≡ path = take_all (i + 1) path (omega (arith, w.count)) in
@@ -94,23 +119,33 @@ walked_more d q end head path i index writing pieces w e more =
       is_path = record {
         some = omega (arith, size);
         begins = here 0 (omega (arith, w.count)) ∙ w.is_path.begins;
-        onward = λ k h. ap (λ n. has_next (d n)) (here k (omega (arith, size))) ∙ elim (cases_eq k i) [
-          | inl at ↦ ap (λ n. has_next (d (slice_index path n))) at ∙ ap (λ n. has_next (d n)) w.last ∙ more
-          | inr ne ↦ w.is_path.onward k (omega (arith, w.count, size, ne))
-        ];
+        onward = λ k h. ap (λ n. has_next (d n)) (here k (omega (arith, size)))
+            ∙ elim (cases_eq k i) [
+              | inl at ↦ ap (λ n. has_next (d (slice_index path n))) at
+                  ∙ ap (λ n. has_next (d n)) w.last ∙ more
+              | inr ne ↦ w.is_path.onward k (omega (arith, w.count, size, ne))
+            ];
         linked = λ k h. ap (λ n. (d n).next) (here k (omega (arith, size))) ∙ elim (cases_eq k i) [
-          | inl at ↦ ap (λ n. (d (slice_index path n)).next) at ∙ ap (λ n. (d n).next) w.last ∙ sym last ∙ ap (λ n. slice_index (path ++ j ∷ []) (n + 1)) (sym at)
-          | inr ne ↦ w.is_path.linked k (omega (arith, w.count, size, ne)) ∙ sym (here (k + 1) (omega (arith, w.count, size, ne)))
+          | inl at ↦ ap (λ n. (d (slice_index path n)).next) at ∙ ap (λ n. (d n).next) w.last
+              ∙ sym last ∙ ap (λ n. slice_index (path ++ j ∷ []) (n + 1)) (sym at)
+          | inr ne ↦ w.is_path.linked k (omega (arith, w.count, size, ne))
+              ∙ sym (here (k + 1) (omega (arith, w.count, size, ne)))
         ];
       };
       count = omega (arith, size, w.count);
       last = last;
       sound = λ k h. fault_kept d q end path j k (omega (arith, w.count)) ∙ elim (cases_eq k i) [
-        | inl at ↦ ap (fault_at d q end path) at ∙ fault_last d q end head path i index writing pieces w ∙ e
+        | inl at ↦ ap (fault_at d q end path) at
+            ∙ fault_last d q end head path i index writing pieces w ∙ e
         | inr ne ↦ w.sound k (omega (arith, ne))
       ];
-      writes = ap (λ b. b || is_writable (d index)) w.writes ∙ ap (λ n. list_any (λ j. is_writable (d j)) (take i path) || is_writable (d n)) (sym w.last)
-          ∙ sym (list_any_more (λ j. is_writable (d j)) path i 0 (omega (arith, w.count))) ∙ ap (list_any (λ j. is_writable (d j))) (all ∙ sym cut);
-      read = ap (λ xs. xs ++ piece_of (d index) ∷ []) w.read ∙ ap (λ n. map (λ j. piece_of (d j)) (take i path) ++ piece_of (d n) ∷ []) (sym w.last)
-          ∙ sym (map_more (λ j. piece_of (d j)) path i 0 (omega (arith, w.count))) ∙ ap (map (λ j. piece_of (d j))) (all ∙ sym cut);
+      writes = ap (λ b. b || is_writable (d index)) w.writes
+          ∙ ap (λ n. list_any (λ j. is_writable (d j)) (take i path) || is_writable (d n))
+          (sym w.last)
+          ∙ sym (list_any_more (λ j. is_writable (d j)) path i 0 (omega (arith, w.count)))
+          ∙ ap (list_any (λ j. is_writable (d j))) (all ∙ sym cut);
+      read = ap (λ xs. xs ++ piece_of (d index) ∷ []) w.read
+          ∙ ap (λ n. map (λ j. piece_of (d j)) (take i path) ++ piece_of (d n) ∷ []) (sym w.last)
+          ∙ sym (map_more (λ j. piece_of (d j)) path i 0 (omega (arith, w.count)))
+          ∙ ap (map (λ j. piece_of (d j))) (all ∙ sym cut);
     }

@@ -1,16 +1,19 @@
 -- Bytes of guest memory in a row.
-use Rattle.std.specs.Prelude.{◌≡◌, ℕ, ◌+◌, ◌-◌, ◌/◌, ◌%◌, ◌<◌, ◌≤◌, ◌⊎◌, true, false, List, [], ◌∷◌, ◌++◌, length, slice_index, Err, refl}
+use Rattle.std.specs.Prelude.{◌≡◌, ℕ, ◌+◌, ◌-◌, ◌/◌, ◌%◌, ◌<◌, ◌≤◌, ◌⊎◌, true, false, List, [], ◌∷◌}
+use Rattle.std.specs.Prelude.{◌++◌, length, slice_index, Err, refl}
 use Rattle.std.specs.List.{list_any}
 use Rattle.std.proofs.Common.{sym, ◌∙◌, ap, arith, get_or, take, inl, inr, length-append}
 use Rattle.std.proofs.lemmas.Bool.{cases_lt}
 use Rattle.std.proofs.lemmas.Grind.{flat_map-append}
-use Rattle.std.proofs.lemmas.List.{append-nil, take_more, ext_get_or, get_or_append_left, get_or-append_right}
+use Rattle.std.proofs.lemmas.List.{append-nil, take_more, ext_get_or, get_or_append_left}
+use Rattle.std.proofs.lemmas.List.{get_or-append_right}
 use Rattle.std.proofs.lemmas.List.FromFn.{get_or-map-range_with_len, length-map-range_with_len}
 use Rattle.std.proofs.lemmas.List.Sums.{sum_by_more}
 use Rattle.vb_ram.specs.Pages.{Pages, byte_at}
 use Rattle.vb_chain.specs.declared.pieces.Piece.{Piece}
 use Rattle.vb_chain.specs.declared.fault.ChainFault.TheVariants.{WrongDirection, BadLength}
-use Rattle.vb_device.specs.Request.{byte_of_address, bytes_from, bytes_of, total_length, is_request_length, numbers_of, pages_of_numbers, page_request}
+use Rattle.vb_device.specs.Request.{byte_of_address, bytes_from, bytes_of, total_length}
+use Rattle.vb_device.specs.Request.{is_request_length, numbers_of, pages_of_numbers, page_request}
 
 pub bytes_from-length : (mem : Pages) (addr len : ℕ) → length (bytes_from mem addr len) ≡ len
 bytes_from-length mem addr len = length-map-range_with_len (byte_of_address mem) addr len

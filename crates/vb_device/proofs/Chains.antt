@@ -1,5 +1,6 @@
 -- The pieces of a chain lie in memory.
-use Rattle.std.specs.Prelude.{◌≡◌, ℕ, ◌+◌, ◌<◌, ◌≤◌, Bool, true, false, List, ◌∷◌, [], All, length, map, slice_index, None, nat_lt, nat_le, not, ◌&&◌, refl}
+use Rattle.std.specs.Prelude.{◌≡◌, ℕ, ◌+◌, ◌<◌, ◌≤◌, Bool, true, false, List, ◌∷◌, [], All, length}
+use Rattle.std.specs.Prelude.{map, slice_index, None, nat_lt, nat_le, not, ◌&&◌, refl}
 use Rattle.std.specs.List.{list_any}
 use Rattle.std.proofs.Common.{sym, ap, subst, arith, take}
 use Rattle.std.proofs.lemmas.Bool.{ltb-false}
@@ -8,8 +9,10 @@ use Rattle.std.proofs.lemmas.List.Elements.{All-from_get_or}
 use Rattle.vb_chain.specs.declared.descriptor.Descriptor.{Descriptor}
 use Rattle.vb_chain.specs.declared.pieces.Piece.{Piece}
 use Rattle.vb_chain.specs.declared.fault.ChainFault.{ChainFault}
-use Rattle.vb_chain.specs.declared.fault.ChainFault.TheVariants.{BadNext, TooLong, Indirect, WrongDirection, OutOfRam}
-use Rattle.vb_chain.specs.Rules.{piece_of, first_broken, first_fault, is_indirect, is_writable, has_next}
+use Rattle.vb_chain.specs.declared.fault.ChainFault.TheVariants.{BadNext, TooLong, Indirect}
+use Rattle.vb_chain.specs.declared.fault.ChainFault.TheVariants.{WrongDirection, OutOfRam}
+use Rattle.vb_chain.specs.Rules.{piece_of, first_broken, first_fault, is_indirect, is_writable}
+use Rattle.vb_chain.specs.Rules.{has_next}
 use Rattle.vb_chain.specs.Chain.{ChainGives}
 use Rattle.vb_chain.specs.Written.{empty}
 

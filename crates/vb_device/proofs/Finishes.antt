@@ -1,9 +1,12 @@
 -- A finish by a device, from the end of its queue.
-use Rattle.std.specs.Prelude.{◌≡◌, ℕ, zero, suc, ◌+◌, ◌%◌, ◌<◌, ◌≤◌, Bool, true, false, ◌==◌, List, [], ◌∷◌, length, remove, Option, Some, None, is_none, IsSome, Result, Ok, Err, if◌then◌else◌, slice_get, All, refl}
+use Rattle.std.specs.Prelude.{◌≡◌, ℕ, zero, suc, ◌+◌, ◌%◌, ◌<◌, ◌≤◌, Bool, true, false, ◌==◌, List}
+use Rattle.std.specs.Prelude.{[], ◌∷◌, length, remove, Option, Some, None, is_none, IsSome, Result}
+use Rattle.std.specs.Prelude.{Ok, Err, if◌then◌else◌, slice_get, All, refl}
 use Rattle.std.proofs.Common.{sym, ◌∙◌, ap, subst, arith, inl, inr}
 use Rattle.std.proofs.lemmas.Bool.{cases_eq}
 use Rattle.vb_model.specs.declared.replies.Refusal.{Refusal}
-use Rattle.vb_model.specs.declared.replies.Refusal.TheVariants.{NoQueue, NotReady, NeedsReset, NotTaken}
+use Rattle.vb_model.specs.declared.replies.Refusal.TheVariants.{NoQueue, NotReady, NeedsReset}
+use Rattle.vb_model.specs.declared.replies.Refusal.TheVariants.{NotTaken}
 use Rattle.vb_model.specs.Requests.{Request}
 use Rattle.vb_ram.specs.Pages.{Page, Pages, page_at, frame_at, number_of}
 use Rattle.vb_ram.specs.Part.{Part}
@@ -17,7 +20,8 @@ use Rattle.vb_device.specs.Queues.{queue_end}
 use Rattle.vb_device.specs.QueueState.{QueueState}
 use Rattle.vb_device.specs.Discards.{discarded}
 use Rattle.vb_device.specs.Base.{queue_at, base_part, numbers_of_frames, IsDeviceQueue, IsBase}
-use Rattle.vb_device.specs.BaseCalls.{queue_refusal, with_lost, taken_out, TakesOut, UsesChain, CanUse}
+use Rattle.vb_device.specs.BaseCalls.{queue_refusal, with_lost, taken_out, TakesOut, UsesChain}
+use Rattle.vb_device.specs.BaseCalls.{CanUse}
 use Rattle.vb_device.specs.Calls.{without_frames}
 use Rattle.vb_device.proofs.Both.{base_set, size_kept}
 use Rattle.vb_device.proofs.TakesBy.{after_status, far_queue, queue_known, status_ok}

@@ -1,5 +1,6 @@
 -- Flags by page.
-use Rattle.std.specs.Prelude.{◌≡◌, ℕ, zero, suc, ◌+◌, ◌<◌, ◌≤◌, Bool, true, false, ◌==◌, List, [], length, count_by, replicate, refl, cond}
+use Rattle.std.specs.Prelude.{◌≡◌, ℕ, zero, suc, ◌+◌, ◌<◌, ◌≤◌, Bool, true, false, ◌==◌, List, []}
+use Rattle.std.specs.Prelude.{length, count_by, replicate, refl, cond}
 use Rattle.std.proofs.Common.{sym, ◌∙◌, ap, arith, get_or, take, eq-eqb, inl, inr}
 use Rattle.std.proofs.Math.ListN.{set, length-set}
 use Rattle.std.proofs.lemmas.Bool.{cases_eq}

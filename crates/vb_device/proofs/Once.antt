@@ -1,13 +1,17 @@
 -- Numbers, each once.
-use Rattle.std.specs.Prelude.{◌≡◌, ℕ, ◌+◌, ◌<◌, ◌≤◌, Bool, true, false, not, ◌==◌, ◌||◌, List, [], ◌∷◌, ◌++◌, length, filter, if◌then◌else◌, Option, Some, None, refl, cond}
-use Rattle.std.proofs.Common.{sym, ◌∙◌, eq-eqb, ap, arith, ◌/◌, get_or, take, drop, drop-cons, add-one}
+use Rattle.std.specs.Prelude.{◌≡◌, ℕ, ◌+◌, ◌<◌, ◌≤◌, Bool, true, false, not, ◌==◌, ◌||◌, List, []}
+use Rattle.std.specs.Prelude.{◌∷◌, ◌++◌, length, filter, if◌then◌else◌, Option, Some, None, refl}
+use Rattle.std.specs.Prelude.{cond}
+use Rattle.std.proofs.Common.{sym, ◌∙◌, eq-eqb, ap, arith, ◌/◌, get_or, take, drop, drop-cons}
+use Rattle.std.proofs.Common.{add-one}
 use Rattle.std.proofs.lemmas.Bool.{eqb-true}
 use Rattle.std.proofs.lemmas.List.Elements.{filter-append}
 use Rattle.std.proofs.lemmas.List.{append-nil, take_more, take-append-drop, length_push}
 use Rattle.std.proofs.lemmas.List.FromFn.{length-map-range_with_len, get_or-map-range_with_len}
 use Rattle.vb_model.specs.Tests.{is_in}
 use Rattle.vb_chain.specs.declared.fault.ChainFault.{ChainFault}
-use Rattle.vb_device.specs.Request.{each_once, number_fault, first_of_both, first_number_fault, numbers_of, number_at}
+use Rattle.vb_device.specs.Request.{each_once, number_fault, first_of_both, first_number_fault}
+use Rattle.vb_device.specs.Request.{numbers_of, number_at}
 
 true_false : true ≡ false → ⊥
 true_false e = cc

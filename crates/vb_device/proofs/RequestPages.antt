@@ -1,5 +1,7 @@
 -- Laws of requests, for the crates above.
-use Rattle.std.specs.Prelude.{◌≡◌, ℕ, zero, suc, slice_index_or, ◌<◌, ◌≤◌, Bool, true, false, not, ◌==◌, ◌||◌, nat_le, nat_lt, IsTrue, List, [], ◌∷◌, All, length, filter, if◌then◌else◌, Option, Some, None, Ok, Err, refl, cond}
+use Rattle.std.specs.Prelude.{◌≡◌, ℕ, zero, suc, slice_index_or, ◌<◌, ◌≤◌, Bool, true, false, not}
+use Rattle.std.specs.Prelude.{◌==◌, ◌||◌, nat_le, nat_lt, IsTrue, List, [], ◌∷◌, All, length}
+use Rattle.std.specs.Prelude.{filter, if◌then◌else◌, Option, Some, None, Ok, Err, refl, cond}
 use Rattle.std.proofs.Common.{rules}
 use Rattle.std.specs.List.{list_any}
 use Rattle.std.proofs.Common.{sym, ◌∙◌, ap, subst, arith}
@@ -10,9 +12,12 @@ use Rattle.vb_model.specs.Driver.{AllDistinct}
 use Rattle.vb_ram.specs.Pages.{Pages}
 use Rattle.vb_chain.specs.declared.pieces.Piece.{Piece}
 use Rattle.vb_chain.specs.declared.fault.ChainFault.{ChainFault}
-use Rattle.vb_chain.specs.declared.fault.ChainFault.TheVariants.{WrongDirection, BadLength, BadPage, ReservedPage}
+use Rattle.vb_chain.specs.declared.fault.ChainFault.TheVariants.{WrongDirection, BadLength, BadPage}
+use Rattle.vb_chain.specs.declared.fault.ChainFault.TheVariants.{ReservedPage}
 use Rattle.vb_device.specs.Request.{ArePages}
-use Rattle.vb_device.specs.Request.{each_once, number_fault, first_of_both, first_number_fault, unless_fault, pages_of_numbers, numbers_of, bytes_of, is_request_length, total_length, page_request}
+use Rattle.vb_device.specs.Request.{each_once, number_fault, first_of_both, first_number_fault}
+use Rattle.vb_device.specs.Request.{unless_fault, pages_of_numbers, numbers_of, bytes_of}
+use Rattle.vb_device.specs.Request.{is_request_length, total_length, page_request}
 
 unless_ok : (fault : Option ChainFault) (ns pages : List ℕ) → unless_fault fault ns ≡ Ok pages →
     (fault ≡ None) × (ns ≡ pages)

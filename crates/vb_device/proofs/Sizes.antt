@@ -1,5 +1,6 @@
 -- A queue size within the limits is a power of two in the words of the machine.
-use Rattle.std.proofs.Common.{◌≡◌, ◌∙◌, ℕ, zero, suc, ◌<◌, ◌≤◌, Bool, true, false, refl, arith, inl, inr, ap, rules}
+use Rattle.std.proofs.Common.{◌≡◌, ◌∙◌, ℕ, zero, suc, ◌<◌, ◌≤◌, Bool, true, false, refl, arith, inl}
+use Rattle.std.proofs.Common.{inr, ap, rules}
 use Rattle.std.specs.Prelude.{not, ◌||◌, ◌&&◌, IsTrue}
 use Rattle.std.specs.Int as int
 use lib.Count

@@ -1,9 +1,12 @@
 -- A take by a device, from the take of its queue.
-use Rattle.std.specs.Prelude.{◌≡◌, ℕ, zero, suc, ◌≤◌, Bool, true, false, not, ◌&&◌, ◌||◌, ◌==◌, nat_lt, List, [], ◌∷◌, length, Option, Some, None, Result, Ok, Err, if◌then◌else◌, bit_or, refl, is_some}
+use Rattle.std.specs.Prelude.{◌≡◌, ℕ, zero, suc, ◌≤◌, Bool, true, false, not, ◌&&◌, ◌||◌, ◌==◌}
+use Rattle.std.specs.Prelude.{nat_lt, List, [], ◌∷◌, length, Option, Some, None, Result, Ok, Err}
+use Rattle.std.specs.Prelude.{if◌then◌else◌, bit_or, refl, is_some}
 use Rattle.std.proofs.Common.{sym, ◌∙◌, ap, subst, arith}
 use Rattle.std.proofs.lemmas.Bool.{le-ltb, lt-ltb}
 use Rattle.vb_model.specs.declared.replies.Refusal.{Refusal}
-use Rattle.vb_model.specs.declared.replies.Refusal.TheVariants.{NoQueue, NotReady, NeedsReset, Busy, Broken}
+use Rattle.vb_model.specs.declared.replies.Refusal.TheVariants.{NoQueue, NotReady, NeedsReset, Busy}
+use Rattle.vb_model.specs.declared.replies.Refusal.TheVariants.{Broken}
 use Rattle.vb_model.specs.Requests.{kind_of_queue}
 use Rattle.vb_model.specs.Status.{needs_reset}
 use Rattle.vb_model.specs.Tables.{is_queue_of_requests, has_chains, is_not_ready, has_fault}
@@ -15,7 +18,8 @@ use Rattle.vb_chain.specs.declared.pieces.Piece.{Piece}
 use Rattle.vb_device.specs.Conditions.{take_refusal, finish_refusal}
 use Rattle.vb_device.specs.Queues.{next_available}
 use Rattle.vb_device.specs.Faults.{Breaks, rule_of, needing_reset}
-use Rattle.vb_device.specs.QueueState.{QueueState, with_request, next_of, IsChainOf, IsFaultOf, is_full, NextMeans, LeavesBroken, TakesNext, status_after}
+use Rattle.vb_device.specs.QueueState.{QueueState, with_request, next_of, IsChainOf, IsFaultOf}
+use Rattle.vb_device.specs.QueueState.{is_full, NextMeans, LeavesBroken, TakesNext, status_after}
 use Rattle.vb_device.specs.BaseCalls.{readiness_refusal, queue_refusal}
 use Rattle.std.specs.Prelude.{◌*◌}
 use Rattle.vb_model.specs.Status.{contains, driver_ok, failed}

@@ -1,5 +1,6 @@
 -- What devices of every kind keep, but for the set of ballooned pages.
-use Rattle.std.specs.Prelude.{◌≡◌, ℕ, ◌+◌, ◌<◌, ◌≤◌, true, false, List, [], map, length, slice_index_or}
+use Rattle.std.specs.Prelude.{◌≡◌, ℕ, ◌+◌, ◌<◌, ◌≤◌, true, false, List, [], map, length}
+use Rattle.std.specs.Prelude.{slice_index_or}
 use Rattle.vb_model.specs.declared.layout.TheConstants.{INFLATE_QUEUE, DEFLATE_QUEUE}
 use Rattle.vb_model.specs.declared.limits.TheConstants.{MIN_GUEST_PAGES}
 use Rattle.vb_model.specs.Layout.{ring_page}

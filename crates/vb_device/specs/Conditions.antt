@@ -1,4 +1,5 @@
--- What the calls on a device are refused for before they look at guest memory: the tables of the definitions, with
+-- What the calls on a device are refused for before they look at guest memory: the tables of the
+-- definitions, with
 -- the device's own values.
 use Rattle.std.specs.Prelude.{ℕ, length, Option, slice_get}
 use Rattle.vb_model.specs.declared.replies.Refusal.{Refusal}

@@ -5,7 +5,10 @@ use Rattle.vb_model.specs.declared.replies.Refusal.TheVariants.{Broken}
 use Rattle.vb_model.specs.Status.{needs_reset}
 use Rattle.vb_ram.specs.Part.{Part}
 use Rattle.vb_chain.specs.declared.fault.ChainFault.{ChainFault}
-use Rattle.vb_chain.specs.declared.fault.ChainFault.TheVariants.{BadHead, BadNext, TooLong, Indirect, WrongDirection, OutOfRam, IndexJump, BadLength, BadPage, ReservedPage}
+use Rattle.vb_chain.specs.declared.fault.ChainFault.TheVariants.{BadHead, BadNext, TooLong}
+use Rattle.vb_chain.specs.declared.fault.ChainFault.TheVariants.{Indirect, WrongDirection, OutOfRam}
+use Rattle.vb_chain.specs.declared.fault.ChainFault.TheVariants.{IndexJump, BadLength, BadPage}
+use Rattle.vb_chain.specs.declared.fault.ChainFault.TheVariants.{ReservedPage}
 
 -- The number of the rule that a chain breaks (profile).
 abbrev pub rule_of : ChainFault → ℕ

@@ -1,6 +1,8 @@
 -- The pages that a chain of queue 0 or 1 names: little-endian numbers of 32 bits (VIRTIO 1.1,
 -- 5.5.6); which chains are refused, and in what order, is the profile's.
-use Rattle.std.specs.Prelude.{◌≡◌, ℕ, ◌+◌, ◌<◌, ◌≤◌, false, All, slice_index, ◌*◌, ◌/◌, ◌%◌, Bool, not, ◌==◌, ◌&&◌, nat_lt, nat_le, List, [], ◌∷◌, length, map, filter, take, drop, if◌then◌else◌, Option, Some, None, Result, Ok, Err}
+use Rattle.std.specs.Prelude.{◌≡◌, ℕ, ◌+◌, ◌<◌, ◌≤◌, false, All, slice_index, ◌*◌, ◌/◌, ◌%◌, Bool}
+use Rattle.std.specs.Prelude.{not, ◌==◌, ◌&&◌, nat_lt, nat_le, List, [], ◌∷◌, length, map, filter}
+use Rattle.std.specs.Prelude.{take, drop, if◌then◌else◌, Option, Some, None, Result, Ok, Err}
 use Rattle.std.specs.List.{list_any, flat_map, range_with_len, sum_by}
 use Rattle.std.specs.Int.{w32, from_le_bytes}
 use Rattle.vb_model.specs.declared.layout.TheConstants.{REQUEST_BUFFER_SIZE}
@@ -9,7 +11,8 @@ use Rattle.vb_model.specs.Limits.{page_size, reserved_pages, max_request_pages}
 use Rattle.vb_ram.specs.Pages.{Pages, byte_at, field}
 use Rattle.vb_chain.specs.declared.pieces.Piece.{Piece}
 use Rattle.vb_chain.specs.declared.fault.ChainFault.{ChainFault}
-use Rattle.vb_chain.specs.declared.fault.ChainFault.TheVariants.{WrongDirection, BadLength, BadPage, ReservedPage}
+use Rattle.vb_chain.specs.declared.fault.ChainFault.TheVariants.{WrongDirection, BadLength, BadPage}
+use Rattle.vb_chain.specs.declared.fault.ChainFault.TheVariants.{ReservedPage}
 
 -- ---- bytes
 

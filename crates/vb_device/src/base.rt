@@ -1,6 +1,8 @@
 //! What devices of every kind keep: memory, status, queues and loose frames.
 
-ghost use Rattle.std.specs.Prelude.{◌≡◌, ◌<◌, ◌≤◌, ◌+◌, ℕ, [], ◌∷◌, ◌++◌, Err, is_some, true, false, None, Some, IsSome, IsOk, IfOk, OnOk, OnErr, length, replicate, vec_capacity};
+ghost use Rattle.std.specs.Prelude.{◌≡◌, ◌<◌, ◌≤◌, ◌+◌, ℕ, [], ◌∷◌, ◌++◌, Err, is_some, true};
+ghost use Rattle.std.specs.Prelude.{false, None, Some, IsSome, IsOk, IfOk, OnOk, OnErr, length};
+ghost use Rattle.std.specs.Prelude.{replicate, vec_capacity};
 ghost use Rattle.std.specs.Option.{option_to_list};
 ghost use Rattle.vb_model.specs.Driver.{AllDistinct};
 ghost use Rattle.vb_model.specs.Layout.{ring_page};
@@ -10,8 +12,10 @@ ghost use Rattle.vb_ram.specs.Pages.{frame_at, number_of, Supplied, IsWhole};
 ghost use Rattle.vb_ring.specs.Layout.{IsInside};
 ghost use Rattle.vb_status.specs.Bits.{status_bits};
 ghost use Rattle.vb_device.specs.Base.{numbers_of_frames, IsPlain};
-ghost use Rattle.vb_device.specs.BaseCalls.{TakesOut, UsesChain, CanUse, readiness_refusal, queue_refusal, with_lost};
-ghost use Rattle.vb_device.specs.Calls.{IsUnused, attached, TakesBy, SweepsBy, HandsBack, without_frames};
+ghost use Rattle.vb_device.specs.BaseCalls.{TakesOut, UsesChain, CanUse, readiness_refusal};
+ghost use Rattle.vb_device.specs.BaseCalls.{queue_refusal, with_lost};
+ghost use Rattle.vb_device.specs.Calls.{IsUnused, attached, TakesBy, SweepsBy, HandsBack};
+ghost use Rattle.vb_device.specs.Calls.{without_frames};
 ghost use Rattle.vb_device.specs.Discards.{discarded, frames_behind};
 ghost use Rattle.vb_device.specs.QueueState.{status_after};
 

@@ -1,12 +1,14 @@
 //! What a host sees of a device.
 
-ghost use Rattle.std.specs.Prelude.{◌≡◌, ◌≤◌, ◌<◌, ℕ, [], true, false, None, IsSome, IsOk, OnOk, OnErr, length, replicate, count_by};
+ghost use Rattle.std.specs.Prelude.{◌≡◌, ◌≤◌, ◌<◌, ℕ, [], true, false, None, IsSome, IsOk, OnOk};
+ghost use Rattle.std.specs.Prelude.{OnErr, length, replicate, count_by};
 ghost use Rattle.vb_model.specs.Guest.{is_ballooned};
 ghost use Rattle.vb_model.specs.Layout.{ring_page};
 ghost use Rattle.vb_model.specs.Limits.{is_config};
 ghost use Rattle.vb_model.specs.Status.{contains, driver_ok};
 ghost use Rattle.vb_ram.specs.Pages.{frame_at, Supplied, IsWhole};
-ghost use Rattle.vb_device.specs.Calls.{IsUnused, attached, TakesBy, FinishesBy, SweepsBy, HandsBack, Claims, PutsBack};
+ghost use Rattle.vb_device.specs.Calls.{IsUnused, attached, TakesBy, FinishesBy, SweepsBy};
+ghost use Rattle.vb_device.specs.Calls.{HandsBack, Claims, PutsBack};
 
 use crate::Claimed;
 use std::alloc::{AllocError, Global};

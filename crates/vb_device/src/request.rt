@@ -1,12 +1,16 @@
 //! The pages that a chain of queue 0 or 1 names.
 
-ghost use Rattle.std.specs.Prelude.{◌≡◌, ℕ, ◌+◌, ◌*◌, ◌/◌, ◌%◌, ◌^◌, ◌<◌, ◌≤◌, ◌++◌, ◌∷◌, [], if◌then◌else◌, List, Ok, Err, Some, None, All, MatchResult, MatchOption, length, take};
+ghost use Rattle.std.specs.Prelude.{◌≡◌, ℕ, ◌+◌, ◌*◌, ◌/◌, ◌%◌, ◌^◌, ◌<◌, ◌≤◌, ◌++◌, ◌∷◌, []};
+ghost use Rattle.std.specs.Prelude.{if◌then◌else◌, List, Ok, Err, Some, None, All, MatchResult};
+ghost use Rattle.std.specs.Prelude.{MatchOption, length, take};
 ghost use Rattle.std.specs.List.{list_any};
 ghost use Rattle.vb_model.specs.declared.layout.TheConstants.{REQUEST_BUFFER_SIZE};
 ghost use Rattle.vb_model.specs.declared.limits.TheConstants.{MAX_QUEUE_SIZE};
 ghost use Rattle.vb_model.specs.Limits.{page_size, max_request_pages};
 ghost use Rattle.vb_model.specs.Tests.{is_in};
-ghost use Rattle.vb_device.specs.Request.{byte_of_address, bytes_from, bytes_of, total_length, number_at, numbers_of, number_fault, pages_of_numbers, is_request_length, page_request};
+ghost use Rattle.vb_device.specs.Request.{byte_of_address, bytes_from, bytes_of, total_length};
+ghost use Rattle.vb_device.specs.Request.{number_at, numbers_of, number_fault, pages_of_numbers};
+ghost use Rattle.vb_device.specs.Request.{is_request_length, page_request};
 
 use arrayvec::ArrayVec;
 use vb_chain::{ChainFault, Piece};

@@ -1,7 +1,12 @@
 -- What the allocator answers, as the driver sees it.
-use Rattle.std.proofs.Common.{◌≡◌, ◌∙◌, sym, ap, subst, arith, refl, ℕ, suc, ◌+◌, ◌^◌, ◌<◌, ◌≤◌, Bool, true, false, eqb, not, ◌||◌, ◌&&◌, ◌⊎◌, ◌↔◌, List, [], ◌∷◌, length, get_or, set, map, inl, inr, IsTrue, Option, Result, Ok, Err, IfOk, OnOk, OnErr, nat_le, nat_lt, count_by, eq-eqb}
+use Rattle.std.proofs.Common.{◌≡◌, ◌∙◌, sym, ap, subst, arith, refl, ℕ, suc, ◌+◌, ◌^◌, ◌<◌, ◌≤◌}
+use Rattle.std.proofs.Common.{Bool, true, false, eqb, not, ◌||◌, ◌&&◌, ◌⊎◌, ◌↔◌, List, [], ◌∷◌}
+use Rattle.std.proofs.Common.{length, get_or, set, map, inl, inr, IsTrue, Option, Result, Ok, Err}
+use Rattle.std.proofs.Common.{IfOk, OnOk, OnErr, nat_le, nat_lt, count_by, eq-eqb}
 use Rattle.std.specs.List.{list_all, range_with_len}
-use Rattle.std.proofs.lemmas.Bool.{cases_lt, and_parts, and_from, false_from_ne_true, not_from_false, ne_eqb, ltb-true, leb-true, lt-ltb, le-ltb, le-leb, lt-leb}
+use Rattle.std.proofs.lemmas.Bool.{cases_lt, and_parts, and_from, false_from_ne_true}
+use Rattle.std.proofs.lemmas.Bool.{not_from_false, ne_eqb, ltb-true, leb-true, lt-ltb, le-ltb}
+use Rattle.std.proofs.lemmas.Bool.{le-leb, lt-leb}
 use Rattle.std.proofs.lemmas.Nat.{pow_pos}
 use Rattle.std.proofs.lemmas.List.Sums.{count_by-le-length}
 use Rattle.std.proofs.lemmas.List.Folds.{list_any_at, list_any_none}
@@ -15,20 +20,28 @@ use Rattle.vb_model.specs.declared.replies.Refusal.TheVariants.{BadOrder, BadCpu
 use Rattle.vb_model.proofs.Tables.{count_by-cons, list_all-at}
 use Rattle.vb_model.proofs.PageSteps.{covers_is}
 use Rattle.vb_pages.specs.declared.fault.PageFault.{PageFault}
-use Rattle.vb_pages.specs.declared.fault.PageFault.TheVariants.{BadOrder as OrderTooLarge, BadCpu as NoSuchCpu, NoPages as NoFreeBlock, NotHeld as NoSuchBlock}
+use Rattle.vb_pages.specs.declared.fault.PageFault.TheVariants.{BadOrder as OrderTooLarge}
+use Rattle.vb_pages.specs.declared.fault.PageFault.TheVariants.{BadCpu as NoSuchCpu}
+use Rattle.vb_pages.specs.declared.fault.PageFault.TheVariants.{NoPages as NoFreeBlock}
+use Rattle.vb_pages.specs.declared.fault.PageFault.TheVariants.{NotHeld as NoSuchBlock}
 use Rattle.vb_pages.specs.Areas.{has, IsBlock}
 use Rattle.vb_pages.specs.FreePages.{FreePages, in_lists, drained, free_count}
-use Rattle.vb_pages.specs.PageState.{PageState, page_count, cpu_count, is_free_page, is_held_page, IsApart, IsWhollyFree, AllocatesBlock, TakesFree, freed, with_free_block, HasRoomIn}
+use Rattle.vb_pages.specs.PageState.{PageState, page_count, cpu_count, is_free_page, is_held_page}
+use Rattle.vb_pages.specs.PageState.{IsApart, IsWhollyFree, AllocatesBlock, TakesFree, freed}
+use Rattle.vb_pages.specs.PageState.{with_free_block, HasRoomIn}
 use Rattle.vb_pages.proofs.Sets.{length-with_pages, in_block}
 use Rattle.vb_pages.proofs.ListsLemmas.{page_block}
 use Rattle.vb_pages.proofs.FreeLemmas.{serves_length, length-takes_pages}
 use Rattle.vb_driver.specs.Answers.{refusal_in, block_at}
-use Rattle.vb_driver.specs.Areas.{AreApart, Becomes, Allots, has_block, flags_of, refusal_of, is_free_at, is_covered, is_free_block}
+use Rattle.vb_driver.specs.Areas.{AreApart, Becomes, Allots, has_block, flags_of, refusal_of}
+use Rattle.vb_driver.specs.Areas.{is_free_at, is_covered, is_free_block}
 use Rattle.vb_driver.specs.Places.{marked}
 use Rattle.vb_model.specs.Orderly.{times}
 use Rattle.vb_pages.proofs.ListsLemmas.{times_in}
 use Rattle.vb_driver.proofs.Placing.{marked_one}
-use Rattle.vb_driver.proofs.Flags.{length_flags, flag_at, flag_free, free_flag, free_inside, held_unfree, flags_moved, flags_same, left_by, gained_by, taken_by, serves_cpus, drained_sizes, given_sizes}
+use Rattle.vb_driver.proofs.Flags.{length_flags, flag_at, flag_free, free_flag, free_inside}
+use Rattle.vb_driver.proofs.Flags.{held_unfree, flags_moved, flags_same, left_by, gained_by}
+use Rattle.vb_driver.proofs.Flags.{taken_by, serves_cpus, drained_sizes, given_sizes}
 
 -- the driver's answer, by the allocator's
 abbrev pub answered : {T : Type 0} → Result T PageFault → Result T Refusal
@@ -37,48 +50,73 @@ answered (Err fault) = Err (refusal_of fault)
 
 -- ---- free blocks
 
-list_all-from : (test : ℕ → Bool) (xs : List ℕ) → ((n : ℕ) → is_in n xs ≡ true → test n ≡ true) → list_all test xs ≡ true
+list_all-from : (test : ℕ → Bool) (xs : List ℕ) → ((n : ℕ) → is_in n xs ≡ true → test n ≡ true)
+    → list_all test xs ≡ true
 list_all-from test [] all = refl
 list_all-from test (x ∷ xs) all =
-    and_from (test x) (list_all test xs) (all x (ap (λ v. v || is_in x xs) (eq-eqb x x refl))) (list_all-from test xs (λ n h. all n (later (eqb x n) (is_in n xs) h)))
+    and_from (test x) (list_all test xs) (all x (ap (λ v. v || is_in x xs) (eq-eqb x x refl)))
+    (list_all-from test xs (λ n h. all n (later (eqb x n) (is_in n xs) h)))
   where
     later : (a b : Bool) → b ≡ true → (a || b) ≡ true
     later true b h = refl
     later false b h = h
 
-whole_block : (s : PageState) (start order : ℕ) → IsApart s → IsBlock (block_at start order) → IsWhollyFree s (block_at start order) → is_free_block (flags_of s.free) (block_at start order) ≡ true
+whole_block : (s : PageState) (start order : ℕ) → IsApart s → IsBlock (block_at start order)
+    → IsWhollyFree s (block_at start order)
+    → is_free_block (flags_of s.free) (block_at start order) ≡ true
 whole_block s start order apart block free =
-    and_from (is_aligned (block_at start order)) (list_all (is_free_at (flags_of s.free)) (pages_of (block_at start order))) block.1
-    (list_all-from (is_free_at (flags_of s.free)) (pages_of (block_at start order)) (λ p h. free_flag s p apart (free p (covers_is p (block_at start order) true h))))
+    and_from (is_aligned (block_at start order))
+    (list_all (is_free_at (flags_of s.free)) (pages_of (block_at start order))) block.1
+    (list_all-from (is_free_at (flags_of s.free)) (pages_of (block_at start order))
+    (λ p h. free_flag s p apart (free p (covers_is p (block_at start order) true h))))
 
-some_block : (s : PageState) (start order : ℕ) → IsApart s → IsBlock (block_at start order) → IsWhollyFree s (block_at start order) → has_block s order ≡ true
+some_block : (s : PageState) (start order : ℕ) → IsApart s → IsBlock (block_at start order)
+    → IsWhollyFree s (block_at start order) → has_block s order ≡ true
 some_block s start order apart block free =
-    let first : is_free_page s start ≡ true = free start (covers_is start (block_at start order) true (in_block start order start (omega arith) (omega (arith, pow_pos order)))) in
-    let lt : start < length (flags_of s.free) = omega (arith, free_inside s start apart first, length_flags s) in
-    let here : get_or (range_with_len 0 (length (flags_of s.free))) start 0 ≡ start = get_or-range_with_len 0 (length (flags_of s.free)) start 0 lt ∙ omega arith in
-    list_any_at (λ first. is_free_block (flags_of s.free) (block_at first order)) (range_with_len 0 (length (flags_of s.free))) start 0 (omega (arith, length-range_with_len 0 (length (flags_of s.free))))
-    (ap (λ (n : ℕ). is_free_block (flags_of s.free) (block_at n order)) here ∙ whole_block s start order apart block free)
+    let first : is_free_page s start ≡ true =
+    free start (covers_is start (block_at start order) true
+    (in_block start order start (omega arith) (omega (arith, pow_pos order)))) in
+    let lt : start < length (flags_of s.free) =
+    omega (arith, free_inside s start apart first, length_flags s) in
+    let here : get_or (range_with_len 0 (length (flags_of s.free))) start 0 ≡ start =
+    get_or-range_with_len 0 (length (flags_of s.free)) start 0 lt ∙ omega arith in
+    list_any_at (λ first. is_free_block (flags_of s.free) (block_at first order))
+    (range_with_len 0 (length (flags_of s.free))) start 0
+    (omega (arith, length-range_with_len 0 (length (flags_of s.free))))
+    (ap (λ (n : ℕ). is_free_block (flags_of s.free) (block_at n order)) here
+    ∙ whole_block s start order apart block free)
 
-covered_in : (p start order : ℕ) → covers p (block_at start order) ≡ true → is_in p (pages_of (block_at start order)) ≡ true
+covered_in : (p start order : ℕ) → covers p (block_at start order) ≡ true
+    → is_in p (pages_of (block_at start order)) ≡ true
 covered_in p start order h =
     let q = and_parts (nat_le start p) (nat_lt p (start + 2 ^ order)) h in
     in_block start order p (leb-true start p q.0) (ltb-true p (start + 2 ^ order) q.1)
 
-not_whole : (s : PageState) (start order : ℕ) → order ≤ 9 → (IsBlock (block_at start order) → IsWhollyFree s (block_at start order) → ⊥) → is_free_block (flags_of s.free) (block_at start order) ≡ false
+not_whole : (s : PageState) (start order : ℕ) → order ≤ 9
+    → (IsBlock (block_at start order) → IsWhollyFree s (block_at start order) → ⊥)
+    → is_free_block (flags_of s.free) (block_at start order) ≡ false
 not_whole s start order small none =
     false_from_ne_true (is_free_block (flags_of s.free) (block_at start order)) (λ t.
-    let parts = and_parts (is_aligned (block_at start order)) (list_all (is_free_at (flags_of s.free)) (pages_of (block_at start order))) t in
-    none (small, parts.0) (λ p covered. flag_free s p (list_all-at (is_free_at (flags_of s.free)) (pages_of (block_at start order)) p parts.1 (covered_in p start order covered))))
+    let parts = and_parts (is_aligned (block_at start order))
+    (list_all (is_free_at (flags_of s.free)) (pages_of (block_at start order))) t in
+    none (small, parts.0)
+    (λ p covered. flag_free s p
+    (list_all-at (is_free_at (flags_of s.free)) (pages_of (block_at start order)) p parts.1
+    (covered_in p start order covered))))
 
-no_block : (s : PageState) (order : ℕ) → order ≤ 9 → ((start : ℕ) → IsBlock (block_at start order) → IsWhollyFree s (block_at start order) → ⊥) → has_block s order ≡ false
+no_block : (s : PageState) (order : ℕ) → order ≤ 9
+    → ((start : ℕ) → IsBlock (block_at start order) → IsWhollyFree s (block_at start order) → ⊥)
+    → has_block s order ≡ false
 no_block s order small none =
     let starts = range_with_len 0 (length (flags_of s.free)) in
-    list_any_none (λ start. is_free_block (flags_of s.free) (block_at start order)) starts (λ k d lt. not_whole s (get_or starts k d) order small (none (get_or starts k d)))
+    list_any_none (λ start. is_free_block (flags_of s.free) (block_at start order)) starts
+    (λ k d lt. not_whole s (get_or starts k d) order small (none (get_or starts k d)))
 
 -- ---- alloc
 
 abbrev pub first_of : Bool → Bool → Bool → Option Refusal
-first_of order cpu block = first_refusal ((order ⇒ BadOrder) ∷ (cpu ⇒ BadCpu) ∷ (not block ⇒ NoPages) ∷ [])
+first_of order cpu block =
+    first_refusal ((order ⇒ BadOrder) ∷ (cpu ⇒ BadCpu) ∷ (not block ⇒ NoPages) ∷ [])
 
 -- the clauses of an allocation
 pub record IsServed (s new : PageState) (cpu order : ℕ) (r : Result ℕ PageFault) : Type 0 where
@@ -88,26 +126,43 @@ pub record IsServed (s new : PageState) (cpu order : ℕ) (r : Result ℕ PageFa
   pub never : r ≡ Err NoSuchBlock → ⊥
   pub unchanged : (9 < order) ⊎ (cpu_count s ≤ cpu) → new ≡ s
   pub allocates : order ≤ 9 → cpu < cpu_count s → AllocatesBlock s cpu order r new
-  pub was_free : IfOk r (λ start. IsBlock (block_at start order) × IsWhollyFree s (block_at start order))
+  pub was_free : IfOk r
+      (λ start. IsBlock (block_at start order) × IsWhollyFree s (block_at start order))
   pub held : IfOk r (λ start. new.held ≡ with_block (block_at start order) s.held)
-  pub left : IfOk r (λ start. (page : ℕ) → is_free_page new page ≡ (is_free_page s page && not (covers page (block_at start order))))
-  pub none : r ≡ Err NoFreeBlock → (start : ℕ) → IsBlock (block_at start order) → IsWhollyFree s (block_at start order) → ⊥
-  pub same : r ≡ Err NoFreeBlock → ((page : ℕ) → is_free_page new page ≡ is_free_page s page) × (new.held ≡ s.held) × (new.free.lists ≡ map (λ (list : List ℕ). []) s.free.lists)
+  pub left : IfOk r (λ start. (page : ℕ)
+      → is_free_page new page ≡ (is_free_page s page && not (covers page (block_at start order))))
+  pub none : r ≡ Err NoFreeBlock → (start : ℕ) → IsBlock (block_at start order)
+      → IsWhollyFree s (block_at start order) → ⊥
+  pub same : r ≡ Err NoFreeBlock
+      → ((page : ℕ) → is_free_page new page ≡ is_free_page s page) × (new.held ≡ s.held)
+      × (new.free.lists ≡ map (λ (list : List ℕ). []) s.free.lists)
 
-small_order : (s new : PageState) (cpu order : ℕ) (r : Result ℕ PageFault) → IsServed s new cpu order r → (r ≡ Err OrderTooLarge → ⊥) → order ≤ 9
-small_order s new cpu order r served not_it = elim (cases_lt 9 order) [ inl lt ↦ absurd (not_it (served.bad_order.1 lt)) | inr le ↦ le ]
+small_order : (s new : PageState) (cpu order : ℕ) (r : Result ℕ PageFault)
+    → IsServed s new cpu order r → (r ≡ Err OrderTooLarge → ⊥) → order ≤ 9
+small_order s new cpu order r served not_it =
+    elim (cases_lt 9 order) [ inl lt ↦ absurd (not_it (served.bad_order.1 lt)) | inr le ↦ le ]
 
-there_cpu : (s new : PageState) (cpu order : ℕ) (r : Result ℕ PageFault) → IsServed s new cpu order r → order ≤ 9 → (r ≡ Err NoSuchCpu → ⊥) → cpu < cpu_count s
-there_cpu s new cpu order r served small not_it = elim (cases_lt cpu (cpu_count s)) [ inl lt ↦ lt | inr le ↦ absurd (not_it (served.bad_cpu.1 (small, le))) ]
+there_cpu : (s new : PageState) (cpu order : ℕ) (r : Result ℕ PageFault)
+    → IsServed s new cpu order r → order ≤ 9 → (r ≡ Err NoSuchCpu → ⊥) → cpu < cpu_count s
+there_cpu s new cpu order r served small not_it =
+    elim (cases_lt cpu (cpu_count s))
+    [ inl lt ↦ lt | inr le ↦ absurd (not_it (served.bad_cpu.1 (small, le))) ]
 
-pub alloc_refusal : (s new : PageState) (cpu order : ℕ) (r : Result ℕ PageFault) → IsServed s new cpu order r → refusal_in (answered r) ≡ first_of (nat_lt 9 order) (nat_le (cpu_count s) cpu) (has_block s order)
+pub alloc_refusal : (s new : PageState) (cpu order : ℕ) (r : Result ℕ PageFault)
+    → IsServed s new cpu order r
+    → refusal_in (answered r)
+    ≡ first_of (nat_lt 9 order) (nat_le (cpu_count s) cpu) (has_block s order)
 alloc_refusal s new cpu order (Ok start) served =
     let small : order ≤ 9 = small_order s new cpu order (Ok start) served (λ e. cc) in
-    let cpu_there : cpu < cpu_count s = there_cpu s new cpu order (Ok start) served small (λ e. cc) in
+    let cpu_there : cpu < cpu_count s =
+    there_cpu s new cpu order (Ok start) served small (λ e. cc) in
     let a : nat_lt 9 order ≡ false = le-ltb 9 order small in
     let b : nat_le (cpu_count s) cpu ≡ false = lt-leb (cpu_count s) cpu cpu_there in
-    let d : has_block s order ≡ true = some_block s start order served.apart served.was_free.0 served.was_free.1 in
-    sym (ap (λ (v : Bool). first_of v (nat_le (cpu_count s) cpu) (has_block s order)) a ∙ (ap (λ (v : Bool). first_of false v (has_block s order)) b ∙ ap (λ (v : Bool). first_of false false v) d))
+    let d : has_block s order ≡ true =
+    some_block s start order served.apart served.was_free.0 served.was_free.1 in
+    sym (ap (λ (v : Bool). first_of v (nat_le (cpu_count s) cpu) (has_block s order)) a
+    ∙ (ap (λ (v : Bool). first_of false v (has_block s order)) b
+    ∙ ap (λ (v : Bool). first_of false false v) d))
 alloc_refusal s new cpu order (Err OrderTooLarge) served =
     let a : nat_lt 9 order ≡ true = lt-ltb 9 order (served.bad_order.0 refl) in
     sym (ap (λ (v : Bool). first_of v (nat_le (cpu_count s) cpu) (has_block s order)) a)
@@ -115,26 +170,38 @@ alloc_refusal s new cpu order (Err NoSuchCpu) served =
     let parts = served.bad_cpu.0 refl in
     let a : nat_lt 9 order ≡ false = le-ltb 9 order parts.0 in
     let b : nat_le (cpu_count s) cpu ≡ true = le-leb (cpu_count s) cpu parts.1 in
-    sym (ap (λ (v : Bool). first_of v (nat_le (cpu_count s) cpu) (has_block s order)) a ∙ ap (λ (v : Bool). first_of false v (has_block s order)) b)
+    sym (ap (λ (v : Bool). first_of v (nat_le (cpu_count s) cpu) (has_block s order)) a
+    ∙ ap (λ (v : Bool). first_of false v (has_block s order)) b)
 alloc_refusal s new cpu order (Err NoFreeBlock) served =
     let small : order ≤ 9 = small_order s new cpu order (Err NoFreeBlock) served (λ e. cc) in
-    let cpu_there : cpu < cpu_count s = there_cpu s new cpu order (Err NoFreeBlock) served small (λ e. cc) in
+    let cpu_there : cpu < cpu_count s =
+    there_cpu s new cpu order (Err NoFreeBlock) served small (λ e. cc) in
     let a : nat_lt 9 order ≡ false = le-ltb 9 order small in
     let b : nat_le (cpu_count s) cpu ≡ false = lt-leb (cpu_count s) cpu cpu_there in
     let d : has_block s order ≡ false = no_block s order small (served.none refl) in
-    sym (ap (λ (v : Bool). first_of v (nat_le (cpu_count s) cpu) (has_block s order)) a ∙ (ap (λ (v : Bool). first_of false v (has_block s order)) b ∙ ap (λ (v : Bool). first_of false false v) d))
+    sym (ap (λ (v : Bool). first_of v (nat_le (cpu_count s) cpu) (has_block s order)) a
+    ∙ (ap (λ (v : Bool). first_of false v (has_block s order)) b
+    ∙ ap (λ (v : Bool). first_of false false v) d))
 alloc_refusal s new cpu order (Err NoSuchBlock) served = absurd (served.never refl)
 
 stays : (s new : PageState) → new ≡ s → Becomes s new (flags_of s.free) s.held
-stays s new is = record { free = ap (λ (v : PageState). flags_of v.free) is; held = ap (λ (v : PageState). v.held) is; processors = ap cpu_count is }
+stays s new is = record {
+  free = ap (λ (v : PageState). flags_of v.free) is;
+  held = ap (λ (v : PageState). v.held) is;
+  processors = ap cpu_count is;
+}
 
-pub alloc_refused : (s new : PageState) (cpu order : ℕ) (r : Result ℕ PageFault) → IsServed s new cpu order r → OnErr (answered r) (Becomes s new (flags_of s.free) s.held)
+pub alloc_refused : (s new : PageState) (cpu order : ℕ) (r : Result ℕ PageFault)
+    → IsServed s new cpu order r → OnErr (answered r) (Becomes s new (flags_of s.free) s.held)
 alloc_refused s new cpu order (Ok start) served = tt
-alloc_refused s new cpu order (Err OrderTooLarge) served = stays s new (served.unchanged (inl (served.bad_order.0 refl)))
-alloc_refused s new cpu order (Err NoSuchCpu) served = stays s new (served.unchanged (inr (served.bad_cpu.0 refl).1))
+alloc_refused s new cpu order (Err OrderTooLarge) served =
+    stays s new (served.unchanged (inl (served.bad_order.0 refl)))
+alloc_refused s new cpu order (Err NoSuchCpu) served =
+    stays s new (served.unchanged (inr (served.bad_cpu.0 refl).1))
 alloc_refused s new cpu order (Err NoFreeBlock) served =
     let small : order ≤ 9 = small_order s new cpu order (Err NoFreeBlock) served (λ e. cc) in
-    let cpu_there : cpu < cpu_count s = there_cpu s new cpu order (Err NoFreeBlock) served small (λ e. cc) in
+    let cpu_there : cpu < cpu_count s =
+    there_cpu s new cpu order (Err NoFreeBlock) served small (λ e. cc) in
     let is : new.free ≡ drained s.free = (served.allocates small cpu_there).1.2 in
     let same = served.same refl in
     let sizes = drained_sizes s.free in
@@ -146,32 +213,45 @@ alloc_refused s new cpu order (Err NoFreeBlock) served =
 alloc_refused s new cpu order (Err NoSuchBlock) served = absurd (served.never refl)
 
 -- what an allocation does to the areas, by its refusal
-pub alloc_allots : (s new : PageState) (cpu order : ℕ) (r : Result ℕ PageFault) → IsServed s new cpu order r → Allots s cpu order (answered r) new
+pub alloc_allots : (s new : PageState) (cpu order : ℕ) (r : Result ℕ PageFault)
+    → IsServed s new cpu order r → Allots s cpu order (answered r) new
 alloc_allots s new cpu order (Ok start) served =
     let small : order ≤ 9 = small_order s new cpu order (Ok start) served (λ e. cc) in
     served.allocates small (there_cpu s new cpu order (Ok start) served small (λ e. cc))
-alloc_allots s new cpu order (Err OrderTooLarge) served = served.unchanged (inl (served.bad_order.0 refl))
-alloc_allots s new cpu order (Err NoSuchCpu) served = served.unchanged (inr (served.bad_cpu.0 refl).1)
+alloc_allots s new cpu order (Err OrderTooLarge) served =
+    served.unchanged (inl (served.bad_order.0 refl))
+alloc_allots s new cpu order (Err NoSuchCpu) served =
+    served.unchanged (inr (served.bad_cpu.0 refl).1)
 alloc_allots s new cpu order (Err NoFreeBlock) served =
     let small : order ≤ 9 = small_order s new cpu order (Err NoFreeBlock) served (λ e. cc) in
     served.allocates small (there_cpu s new cpu order (Err NoFreeBlock) served small (λ e. cc))
 alloc_allots s new cpu order (Err NoSuchBlock) served = absurd (served.never refl)
 
-pub alloc_free : (s new : PageState) (cpu order : ℕ) (r : Result ℕ PageFault) → IsServed s new cpu order r → IfOk (answered r) (λ start. IsTrue (is_free_block (flags_of s.free) (block_at start order)))
-alloc_free s new cpu order (Ok start) served = whole_block s start order served.apart served.was_free.0 served.was_free.1
+pub alloc_free : (s new : PageState) (cpu order : ℕ) (r : Result ℕ PageFault)
+    → IsServed s new cpu order r
+    → IfOk (answered r) (λ start. IsTrue (is_free_block (flags_of s.free) (block_at start order)))
+alloc_free s new cpu order (Ok start) served =
+    whole_block s start order served.apart served.was_free.0 served.was_free.1
 alloc_free s new cpu order (Err fault) served = tt
 
-pub alloc_state : (s new : PageState) (cpu order : ℕ) (r : Result ℕ PageFault) → IsServed s new cpu order r
-    → IfOk (answered r) (λ start. Becomes s new (marked (pages_of (block_at start order)) false (flags_of s.free)) (with_block (block_at start order) s.held))
+pub alloc_state : (s new : PageState) (cpu order : ℕ) (r : Result ℕ PageFault)
+    → IsServed s new cpu order r
+    → IfOk (answered r) (λ start. Becomes s new
+    (marked (pages_of (block_at start order)) false (flags_of s.free))
+    (with_block (block_at start order) s.held))
 alloc_state s new cpu order (Ok start) served =
     let small : order ≤ 9 = small_order s new cpu order (Ok start) served (λ e. cc) in
-    let cpu_there : cpu < cpu_count s = there_cpu s new cpu order (Ok start) served small (λ e. cc) in
+    let cpu_there : cpu < cpu_count s =
+    there_cpu s new cpu order (Ok start) served small (λ e. cc) in
     let got = served.allocates small cpu_there in
-    let pages : page_count new ≡ page_count s = ap page_count got.2 ∙ serves_length s.free got.0 cpu order start got.1 in
-    let cpus : cpu_count new ≡ cpu_count s = ap cpu_count got.2 ∙ serves_cpus s.free got.0 cpu order start got.1 in
+    let pages : page_count new ≡ page_count s =
+    ap page_count got.2 ∙ serves_length s.free got.0 cpu order start got.1 in
+    let cpus : cpu_count new ≡ cpu_count s =
+    ap cpu_count got.2 ∙ serves_cpus s.free got.0 cpu order start got.1 in
     let b = block_at start order in
     record {
-      free = flags_moved s new (pages_of b) false pages (λ p. served.left p ∙ left_by p b (is_free_page s p));
+      free = flags_moved s new (pages_of b) false pages
+          (λ p. served.left p ∙ left_by p b (is_free_page s p));
       held = served.held;
       processors = cpus;
     }
@@ -179,14 +259,19 @@ alloc_state s new cpu order (Err fault) served = tt
 
 -- ---- free
 
-pub free_state : (s new : PageState) (cpu start order : ℕ) (r : Result Unit PageFault) → OnOk r (new ≡ freed cpu (block_at start order) s)
-    → OnOk r ((page : ℕ) → is_free_page new page ≡ (is_free_page s page || covers page (block_at start order)))
-    → OnOk (answered r) (Becomes s new (marked (pages_of (block_at start order)) true (flags_of s.free)) (without_block (block_at start order) s.held))
+pub free_state : (s new : PageState) (cpu start order : ℕ) (r : Result Unit PageFault)
+    → OnOk r (new ≡ freed cpu (block_at start order) s)
+    → OnOk r ((page : ℕ) → is_free_page new page
+    ≡ (is_free_page s page || covers page (block_at start order)))
+    → OnOk (answered r) (Becomes s new
+    (marked (pages_of (block_at start order)) true (flags_of s.free))
+    (without_block (block_at start order) s.held))
 free_state s new cpu start order (Ok x) is gained =
     let b = block_at start order in
     let sizes = given_sizes s.free cpu start order in
     record {
-      free = flags_moved s new (pages_of b) true (ap page_count is ∙ sizes.pages) (λ p. gained p ∙ gained_by p b (is_free_page s p));
+      free = flags_moved s new (pages_of b) true (ap page_count is ∙ sizes.pages)
+          (λ p. gained p ∙ gained_by p b (is_free_page s p));
       held = ap (λ (v : PageState). v.held) is;
       processors = ap cpu_count is ∙ sizes.cpus;
     }
@@ -197,12 +282,21 @@ areas_apart s apart = record { apart = λ p covered. held_unfree s p apart cover
 
 -- ---- single pages
 
-count_step : (k : ℕ) (xs : List ℕ) → times k xs + count_by (λ p. nat_le (suc k) p) xs ≡ count_by (λ p. nat_le k p) xs
+count_step : (k : ℕ) (xs : List ℕ)
+    → times k xs + count_by (λ p. nat_le (suc k) p) xs ≡ count_by (λ p. nat_le k p) xs
 count_step k [] = refl
 count_step k (x ∷ xs) =
-    omega (arith, count_step k xs, at (cases_lt k x) (cases_lt x k), count_by-cons (λ p. eqb p k) x xs, count_by-cons (λ p. nat_le (suc k) p) x xs, count_by-cons (λ p. nat_le k p) x xs)
+    omega (
+      arith,
+      count_step k xs,
+      at (cases_lt k x) (cases_lt x k),
+      count_by-cons (λ p. eqb p k) x xs,
+      count_by-cons (λ p. nat_le (suc k) p) x xs,
+      count_by-cons (λ p. nat_le k p) x xs,
+    )
   where
-    at : ((k < x) ⊎ (x ≤ k)) → ((x < k) ⊎ (k ≤ x)) → one_if (eqb x k) + one_if (nat_le (suc k) x) ≡ one_if (nat_le k x)
+    at : ((k < x) ⊎ (x ≤ k)) → ((x < k) ⊎ (k ≤ x))
+        → one_if (eqb x k) + one_if (nat_le (suc k) x) ≡ one_if (nat_le k x)
     at (inl over) b =
         let e : one_if (eqb x k) ≡ 0 = ap one_if (ne_eqb x k (λ q. absurd (omega arith))) in
         let f : one_if (nat_le (suc k) x) ≡ 1 = ap one_if (le-leb (suc k) x (omega arith)) in
@@ -219,21 +313,38 @@ count_step k (x ∷ xs) =
         let g : one_if (nat_le k x) ≡ 1 = ap one_if (le-leb k x ge) in
         omega arith
 
-flags_sum : (k : ℕ) (set : List Bool) (xs : List ℕ) (test : ℕ → Bool) → ((i : ℕ) → i < length set → one_if (test (k + i)) ≤ one_if (get_or set i false) + times (k + i) xs)
-    → count_by (λ f. f) (map test (range_with_len k (length set))) ≤ count_by (λ f. f) set + count_by (λ p. nat_le k p) xs
+flags_sum : (k : ℕ) (set : List Bool) (xs : List ℕ) (test : ℕ → Bool)
+    → ((i : ℕ) → i < length set
+    → one_if (test (k + i)) ≤ one_if (get_or set i false) + times (k + i) xs)
+    → count_by (λ f. f) (map test (range_with_len k (length set))) ≤ count_by (λ f. f) set +
+    count_by (λ p. nat_le k p) xs
 flags_sum k [] xs test most = omega arith
 flags_sum k (x ∷ set) xs test most =
-    let first : one_if (test k) ≤ one_if x + times k xs = subst (λ (n : ℕ). one_if (test n) ≤ one_if x + times n xs) (omega arith) (most 0 (omega arith)) in
-    let rest : count_by (λ f. f) (map test (range_with_len (suc k) (length set))) ≤ count_by (λ f. f) set + count_by (λ p. nat_le (suc k) p) xs = flags_sum (suc k) set xs test (λ i lt.
-    subst (λ (n : ℕ). one_if (test n) ≤ one_if (get_or set i false) + times n xs) (omega arith) (most (suc i) (omega arith))) in
-    let next : count_by (λ f. f) (map test (range_with_len (k + 1) (length set))) ≡ count_by (λ f. f) (map test (range_with_len (suc k) (length set))) = ap (λ (n : ℕ). count_by (λ f. f) (map test (range_with_len n (length set)))) (omega arith) in
-    omega (arith, count_step k xs, count_by-cons (λ f. f) (test k) (map test (range_with_len (k + 1) (length set))), count_by-cons (λ f. f) x set)
+    let first : one_if (test k) ≤ one_if x + times k xs =
+    subst (λ (n : ℕ). one_if (test n) ≤ one_if x + times n xs) (omega arith)
+    (most 0 (omega arith)) in
+    let rest : count_by (λ f. f) (map test (range_with_len (suc k) (length set))) ≤ count_by
+    (λ f. f) set + count_by (λ p. nat_le (suc k) p) xs = flags_sum (suc k) set xs test (λ i lt.
+    subst (λ (n : ℕ). one_if (test n) ≤ one_if (get_or set i false) + times n xs) (omega arith)
+    (most (suc i) (omega arith))) in
+    let next : count_by (λ f. f) (map test (range_with_len (k + 1) (length set)))
+    ≡ count_by (λ f. f) (map test (range_with_len (suc k) (length set))) =
+    ap (λ (n : ℕ). count_by (λ f. f) (map test (range_with_len n (length set))))
+    (omega arith) in
+    omega (
+      arith,
+      count_step k xs,
+      count_by-cons (λ f. f) (test k) (map test (range_with_len (k + 1) (length set))),
+      count_by-cons (λ f. f) x set,
+    )
 
 -- no more pages have a flag than are free
 pub count_flags : (s : PageState) → count_by (λ f. f) (flags_of s.free) ≤ free_count s.free
 unfolding flags_of
 count_flags s =
-    let all = flags_sum 0 s.free.areas (in_lists s.free) (is_free_page s) (λ i lt. subst (λ (n : ℕ). one_if (is_free_page s n) ≤ one_if (get_or s.free.areas i false) + times n (in_lists s.free)) (omega arith) (one i)) in
+    let all = flags_sum 0 s.free.areas (in_lists s.free) (is_free_page s)
+    (λ i lt. subst (λ (n : ℕ). one_if (is_free_page s n) ≤ one_if (get_or s.free.areas i false)
+    + times n (in_lists s.free)) (omega arith) (one i)) in
     omega (arith, all, count_by-le-length (λ p. nat_le 0 p) (in_lists s.free))
   where
     at : (a b : Bool) (n : ℕ) → (b ≡ true → 1 ≤ n) → one_if (a || b) ≤ one_if a + n
@@ -241,22 +352,31 @@ count_flags s =
     at false true n some = omega (arith, some refl)
     at false false n some = omega arith
 
-    one : (i : ℕ) → one_if (is_free_page s i) ≤ one_if (get_or s.free.areas i false) + times i (in_lists s.free)
-    one i = at (has s.free.areas i) (is_in i (in_lists s.free)) (times i (in_lists s.free)) (times_in i (in_lists s.free))
+    one : (i : ℕ) → one_if (is_free_page s i) ≤ one_if (get_or s.free.areas i false) + times i
+        (in_lists s.free)
+    one i = at (has s.free.areas i) (is_in i (in_lists s.free)) (times i (in_lists s.free))
+        (times_in i (in_lists s.free))
 
-pub taken_state : (s new : PageState) (pages : List ℕ) → TakesFree s pages new → ((p : ℕ) → one_if (is_free_page new p) + times p pages ≡ one_if (is_free_page s p))
+pub taken_state : (s new : PageState) (pages : List ℕ) → TakesFree s pages new
+    → ((p : ℕ) → one_if (is_free_page new p) + times p pages ≡ one_if (is_free_page s p))
     → Becomes s new (marked pages false (flags_of s.free)) s.held
 taken_state s new pages takes left =
     let sizes = drained_sizes s.free in
     record {
-      free = flags_moved s new pages false (length-takes_pages (drained s.free).areas new.free.areas pages takes.0 ∙ sizes.pages) (λ p. taken_by p pages (is_free_page new p) (is_free_page s p) (left p));
+      free = flags_moved s new pages false
+          (length-takes_pages (drained s.free).areas new.free.areas pages takes.0 ∙ sizes.pages)
+          (λ p. taken_by p pages (is_free_page new p) (is_free_page s p) (left p));
       held = takes.2;
       processors = ap length takes.1 ∙ sizes.cpus;
     }
 
-pub taken_free : (s new : PageState) (pages : List ℕ) → IsApart s → ((p : ℕ) → one_if (is_free_page new p) + times p pages ≡ one_if (is_free_page s p)) → list_all (is_free_at (flags_of s.free)) pages ≡ true
+pub taken_free : (s new : PageState) (pages : List ℕ) → IsApart s
+    → ((p : ℕ) → one_if (is_free_page new p) + times p pages ≡ one_if (is_free_page s p))
+    → list_all (is_free_at (flags_of s.free)) pages ≡ true
 taken_free s new pages apart left =
-    list_all-from (is_free_at (flags_of s.free)) pages (λ p h. free_flag s p apart (at (is_free_page s p) (omega (arith, left p, times_in p pages h))))
+    list_all-from (is_free_at (flags_of s.free)) pages
+    (λ p h. free_flag s p apart
+    (at (is_free_page s p) (omega (arith, left p, times_in p pages h))))
   where
     at : (b : Bool) → 1 ≤ one_if b → b ≡ true
     at true h = refl
@@ -275,7 +395,9 @@ pub taken_once : (new old : Bool) (n : ℕ) → one_if new + n ≡ one_if old �
 taken_once new true n h = omega arith
 taken_once new false n h = omega arith
 
-pub given_room : (s : PageState) (page : ℕ) → 16 ≤ page → page < length (flags_of s.free) → is_free_at (flags_of s.free) page ≡ false → is_covered page s.held ≡ false → HasRoomIn s (block_at page 0)
+pub given_room : (s : PageState) (page : ℕ) → 16 ≤ page → page < length (flags_of s.free)
+    → is_free_at (flags_of s.free) page ≡ false → is_covered page s.held ≡ false
+    → HasRoomIn s (block_at page 0)
 given_room s page unreserved inside taken uncovered =
     let lt : page < page_count s = omega (arith, length_flags s) in
     let unfree : is_free_page s page ≡ false = sym (flag_at s page false lt) ∙ taken in (
@@ -283,16 +405,22 @@ given_room s page unreserved inside taken uncovered =
       unreserved,
       omega arith,
       λ p from to.
-          let same : page ≡ p = omega arith in
-          (subst (λ (n : ℕ). is_free_page s n ≡ false) same unfree, subst (λ (n : ℕ). is_held_page s n ≡ false) same uncovered),
+          let same : page ≡ p = omega arith in (
+            subst (λ (n : ℕ). is_free_page s n ≡ false) same unfree,
+            subst (λ (n : ℕ). is_held_page s n ≡ false) same uncovered,
+          ),
     )
 
-pub given_state : (s new : PageState) (page : ℕ) → new ≡ with_free_block (block_at page 0) s → ((p : ℕ) → is_free_page new p ≡ (is_free_page s p || covers p (block_at page 0)))
+pub given_state : (s new : PageState) (page : ℕ) → new ≡ with_free_block (block_at page 0) s
+    → ((p : ℕ) → is_free_page new p ≡ (is_free_page s p || covers p (block_at page 0)))
     → page < length (flags_of s.free) → Becomes s new (set (flags_of s.free) page true) s.held
 given_state s new page is gained there =
     let b = block_at page 0 in
     record {
-      free = flags_moved s new (pages_of b) true (ap page_count is ∙ length-with_pages (pages_of b) s.free.areas) (λ p. gained p ∙ gained_by p b (is_free_page s p)) ∙ marked_one page true (flags_of s.free) there;
+      free = flags_moved s new (pages_of b) true
+          (ap page_count is ∙ length-with_pages (pages_of b) s.free.areas)
+          (λ p. gained p ∙ gained_by p b (is_free_page s p))
+          ∙ marked_one page true (flags_of s.free) there;
       held = ap (λ (v : PageState). v.held) is;
       processors = ap cpu_count is;
     }

@@ -1,5 +1,7 @@
 -- Writes of the driver to guest memory.
-use Rattle.std.proofs.Common.{◌≡◌, ◌≢◌, ◌∙◌, sym, ap, subst, arith, ℕ, ◌+◌, ◌-◌, ◌*◌, ◌/◌, ◌%◌, ◌<◌, ◌≤◌, List, length, inl, inr, None, Result, Ok, Err, slice_index, OnOk, OnErr, IsOk}
+use Rattle.std.proofs.Common.{◌≡◌, ◌≢◌, ◌∙◌, sym, ap, subst, arith, ℕ, ◌+◌, ◌-◌, ◌*◌, ◌/◌, ◌%◌, ◌<◌}
+use Rattle.std.proofs.Common.{◌≤◌, List, length, inl, inr, None, Result, Ok, Err, slice_index, OnOk}
+use Rattle.std.proofs.Common.{OnErr, IsOk}
 use Rattle.std.proofs.lemmas.Bool.{cases_lt, cases_eq}
 use Rattle.std.proofs.lemmas.List.{same_lists, get_or_default}
 use Rattle.std.proofs.Math.Nat.{div-add-mod}
@@ -10,7 +12,8 @@ use Rattle.vb_ram.proofs.Contents.{same_page_at, same_contents}
 use Rattle.vb_driver.specs.Coding.{Names}
 
 -- bytes that stood there already, written, change nothing
-pub wrote_same : (old new : Pages) (p off : ℕ) (bs : List ℕ) → Wrote old new p off bs → ((k : ℕ) → k < length bs → slice_index bs k ≡ byte_at old p (off + k)) → new ≡ old
+pub wrote_same : (old new : Pages) (p off : ℕ) (bs : List ℕ) → Wrote old new p off bs
+    → ((k : ℕ) → k < length bs → slice_index bs k ≡ byte_at old p (off + k)) → new ≡ old
 wrote_same old new p off bs w same =
     let bytes : (o : ℕ) → byte_at new p o ≡ byte_at old p o = λ o. elim (cases_lt o off) [
       | inl low ↦ w.rest.below o low
@@ -18,18 +21,24 @@ wrote_same old new p off bs w same =
         | inl inside ↦
             let at : off + (o - off) ≡ o = omega arith in
             let short : o - off < length bs = omega arith in
-            ap (byte_at new p) (sym at) ∙ (w.written (o - off) short ∙ (same (o - off) short ∙ ap (byte_at old p) at))
+            ap (byte_at new p) (sym at)
+            ∙ (w.written (o - off) short ∙ (same (o - off) short ∙ ap (byte_at old p) at))
         | inr past ↦ w.rest.above o past
       ]
     ] in
-    let page : page_at new p ≡ page_at old p = same_page_at new old p (w.rest.backing p) (same_contents new old p (w.rest.sizes p) bytes) in
+    let page : page_at new p ≡ page_at old p =
+    same_page_at new old p (w.rest.backing p)
+    (same_contents new old p (w.rest.sizes p) bytes) in
     let each : (k : ℕ) → page_at new k ≡ page_at old k = λ k. elim (cases_eq k p) [
       | inl is ↦ ap (page_at new) is ∙ (page ∙ sym (ap (page_at old) is))
       | inr ne ↦ w.rest.others k ne
     ] in
-    same_lists new old w.rest.count (λ k d lt. get_or_default new k d None lt ∙ (each k ∙ get_or_default old k None d (omega (arith, w.rest.count))))
+    same_lists new old w.rest.count
+    (λ k d lt. get_or_default new k d None lt
+    ∙ (each k ∙ get_or_default old k None d (omega (arith, w.rest.count))))
 
-pub by_result : {T E : Type 0} (r : Result T E) (P Q R : Type 0) → OnOk r P → OnErr r Q → (P → R) → (Q → R) → R
+pub by_result : {T E : Type 0} (r : Result T E) (P Q R : Type 0) → OnOk r P → OnErr r Q → (P → R)
+    → (Q → R) → R
 by_result (Ok x) P Q R ok err on_ok on_err = on_ok ok
 by_result (Err e) P Q R ok err on_ok on_err = on_err err
 
@@ -38,7 +47,9 @@ at_ok (Ok x) P is h = h
 at_ok (Err e) P is h = cc
 
 -- what is written to one buffer leaves the others alone
-pub buffer_apart : (old new : Pages) (base h k n : ℕ) → n ≤ 1024 → SameBut old new (buffer_page base h) (buffer_offset h) (buffer_offset h + n) → k ≢ h → SameIn old new (buffer_page base k) (buffer_offset k) (buffer_offset k + 1024)
+pub buffer_apart : (old new : Pages) (base h k n : ℕ) → n ≤ 1024
+    → SameBut old new (buffer_page base h) (buffer_offset h) (buffer_offset h + n) → k ≢ h
+    → SameIn old new (buffer_page base k) (buffer_offset k) (buffer_offset k + 1024)
 buffer_apart old new base h k n small but ne =
     let hd = div-add-mod h 4 in
     let kd = div-add-mod k 4 in
@@ -53,11 +64,16 @@ buffer_apart old new base h k n small but ne =
       | inr apart ↦ same_other old new _ _ _ _ _ _ but (omega (arith, apart))
     ]
 
-pub names_at : (mem : Pages) (p o p' o' : ℕ) (xs ys : List ℕ) → p ≡ p' → o ≡ o' → xs ≡ ys → Names mem p o xs → Names mem p' o' ys
-names_at mem p o p' o' xs ys e f s n = subst (λ q. Names mem q o' ys) e (subst (λ q. Names mem p q ys) f (subst (λ zs. Names mem p o zs) s n))
+pub names_at : (mem : Pages) (p o p' o' : ℕ) (xs ys : List ℕ) → p ≡ p' → o ≡ o' → xs ≡ ys
+    → Names mem p o xs → Names mem p' o' ys
+names_at mem p o p' o' xs ys e f s n =
+    subst (λ q. Names mem q o' ys) e
+    (subst (λ q. Names mem p q ys) f (subst (λ zs. Names mem p o zs) s n))
 
 -- page numbers in a page that a write to another leaves
-pub names_kept : (old new : Pages) (p o : ℕ) (xs : List ℕ) (hi : ℕ) → SameIn old new p o hi → o + 4 * length xs ≤ hi → Names old p o xs → Names new p o xs
+pub names_kept : (old new : Pages) (p o : ℕ) (xs : List ℕ) (hi : ℕ) → SameIn old new p o hi
+    → o + 4 * length xs ≤ hi → Names old p o xs → Names new p o xs
 names_kept old new p o xs hi same fits n = record {
-  each = λ k lt. field_in 4 old new p o hi (o + 4 * k) same (omega arith) (omega arith) ∙ n.each k lt;
+  each = λ k lt. field_in 4 old new p o hi (o + 4 * k) same (omega arith) (omega arith)
+      ∙ n.each k lt;
 }

@@ -1,12 +1,15 @@
 -- Counts of places, as a page moves.
-use Rattle.std.proofs.Common.{◌≡◌, ◌∙◌, sym, ap, arith, ℕ, ◌+◌, ◌-◌, ◌<◌, ◌≤◌, cond, eqb, List, length, get_or, set, count_by, inl, inr, eq-eqb, refl, not, [], ◌∷◌, Bool, true, false, zero, suc, replicate}
+use Rattle.std.proofs.Common.{◌≡◌, ◌∙◌, sym, ap, arith, ℕ, ◌+◌, ◌-◌, ◌<◌, ◌≤◌, cond, eqb, List}
+use Rattle.std.proofs.Common.{length, get_or, set, count_by, inl, inr, eq-eqb, refl, not, [], ◌∷◌}
+use Rattle.std.proofs.Common.{Bool, true, false, zero, suc, replicate}
 use Rattle.std.proofs.lemmas.List.Sums.{sum_by-set, get_or-le-sum_by}
 use Rattle.std.proofs.lemmas.List.{length-replicate, get_or-set_same, get_or-set_other, length-set}
 use Rattle.std.specs.List.{list_all, range_with_len}
 use Rattle.std.proofs.lemmas.Bool.{cases_eq, ne_eqb, eqb-true}
 use Rattle.vb_model.specs.Tests.{one_if}
 use Rattle.vb_model.specs.declared.places.Place.{Place}
-use Rattle.vb_model.specs.declared.places.Place.TheVariants.{Reserved, Free, Used, Giving, Lent, Taking, Stranded, Reporting}
+use Rattle.vb_model.specs.declared.places.Place.TheVariants.{Reserved, Free, Used, Giving, Lent}
+use Rattle.vb_model.specs.declared.places.Place.TheVariants.{Taking, Stranded, Reporting}
 use Rattle.vb_model.proofs.Tables.{list_all-at, count_by-cons}
 use Rattle.vb_pages.proofs.Sets.{in_block}
 use Rattle.vb_driver.specs.Places.{number_of, is_at, AreCounts, IsTable}
@@ -51,10 +54,13 @@ pub at_number : (place other : Place) → eqb (number_of other) (number_of place
 at_number place other =
     let i = number_of place in
     let j = number_of other in
-    let row = list_all-at (λ k. list_all (cell k) (range_with_len 0 8)) (range_with_len 0 8) i cells (in_block 0 3 i (omega arith) (number_small place)) in
-    let here = list_all-at (cell i) (range_with_len 0 8) j row (in_block 0 3 j (omega arith) (number_small other)) in
+    let row = list_all-at (λ k. list_all (cell k) (range_with_len 0 8)) (range_with_len 0 8) i cells
+    (in_block 0 3 i (omega arith) (number_small place)) in
+    let here = list_all-at (cell i) (range_with_len 0 8) j row
+    (in_block 0 3 j (omega arith) (number_small other)) in
     at (eqb j i) (is_at (get_or by_number i Reserved) (get_or by_number j Reserved)) here
-    ∙ (ap (λ (p : Place). is_at p (get_or by_number j Reserved)) (numbered place) ∙ ap (is_at place) (numbered other))
+    ∙ (ap (λ (p : Place). is_at p (get_or by_number j Reserved)) (numbered place)
+    ∙ ap (is_at place) (numbered other))
   where
     at : (a b : Bool) → cond a b (not b) ≡ true → a ≡ b
     at true true e = refl
@@ -64,7 +70,8 @@ at_number place other =
 
 pub at_is : (place other : Place) → is_at place other ≡ true → other ≡ place
 at_is place other here =
-    let equal : number_of other ≡ number_of place = eqb-true (number_of other) (number_of place) (at_number place other ∙ here) in
+    let equal : number_of other ≡ number_of place =
+    eqb-true (number_of other) (number_of place) (at_number place other ∙ here) in
     sym (numbered other) ∙ (ap (λ (n : ℕ). get_or by_number n Reserved) equal ∙ numbered place)
 
 -- ---- counts
@@ -81,38 +88,62 @@ hit_other a b ne = ap (λ v. cond v 1 0) (ne_eqb a b ne)
 
 -- how many pages have a place, as one moves
 count_moves : (places : List Place) (page : ℕ) (which new old : Place) → page < length places
-    → count_by (is_at which) (set places page new) + hit (number_of (get_or places page old)) (number_of which) ≡ count_by (is_at which) places + hit (number_of new) (number_of which)
+    → count_by (is_at which) (set places page new) + hit (number_of (get_or places page old))
+    (number_of which) ≡ count_by (is_at which) places + hit (number_of new) (number_of which)
 count_moves places page which new old lt =
-    let hits : (x : Place) → hit (number_of x) (number_of which) ≡ cond (is_at which x) 1 0 = λ x. ap (λ v. cond v 1 0) (at_number which x) in
-    omega (arith, sum_by-set (λ x. cond (is_at which x) 1 0) places page new old lt, hits new, hits (get_or places page old))
+    let hits : (x : Place)
+    → hit (number_of x) (number_of which) ≡ cond (is_at which x) 1 0 =
+    λ x. ap (λ v. cond v 1 0) (at_number which x) in
+    omega (
+      arith,
+      sum_by-set (λ x. cond (is_at which x) 1 0) places page new old lt,
+      hits new,
+      hits (get_or places page old),
+    )
 
 -- a page's own place has a page
-pub counts_some : (places : List Place) (page : ℕ) (old : Place) → page < length places → 1 ≤ count_by (is_at (get_or places page old)) places
+pub counts_some : (places : List Place) (page : ℕ) (old : Place) → page < length places
+    → 1 ≤ count_by (is_at (get_or places page old)) places
 counts_some places page old lt =
     let here = get_or places page old in
-    let one : hit (number_of here) (number_of here) ≡ 1 = hit_same (number_of here) (number_of here) refl in
-    let low : cond (is_at here here) 1 0 ≤ count_by (is_at here) places = get_or-le-sum_by (λ x. cond (is_at here x) 1 0) places page old lt in
-    let same_hit : hit (number_of here) (number_of here) ≡ cond (is_at here here) 1 0 = ap (λ v. cond v 1 0) (at_number here here) in
+    let one : hit (number_of here) (number_of here) ≡ 1 =
+    hit_same (number_of here) (number_of here) refl in
+    let low : cond (is_at here here) 1 0 ≤ count_by (is_at here) places =
+    get_or-le-sum_by (λ x. cond (is_at here x) 1 0) places page old lt in
+    let same_hit : hit (number_of here) (number_of here) ≡ cond (is_at here here) 1 0 =
+    ap (λ v. cond v 1 0) (at_number here here) in
     omega arith
 
 -- the counts after a page moved
-pub counts_moved : (counts : List ℕ) (places : List Place) (page o n : ℕ) (new was : Place) → length counts ≡ 8 → page < length places → was ≡ get_or places page was → o ≡ number_of was → n ≡ number_of new
+pub counts_moved : (counts : List ℕ) (places : List Place) (page o n : ℕ) (new was : Place)
+    → length counts ≡ 8 → page < length places → was ≡ get_or places page was → o ≡ number_of was
+    → n ≡ number_of new
     → o < 8 → n < 8 → AreCounts counts places
-    → AreCounts (set (set counts o (get_or counts o 0 - 1)) n (get_or (set counts o (get_or counts o 0 - 1)) n 0 + 1)) (set places page new)
+    → AreCounts (set (set counts o (get_or counts o 0 - 1)) n
+    (get_or (set counts o (get_or counts o 0 - 1)) n 0 + 1)) (set places page new)
 counts_moved counts places page o n new old eight lt here was is small small2 all =
     let mid = set counts o (get_or counts o 0 - 1) in
     let size : length mid ≡ length counts = length-set counts o _ in
-    let own : get_or counts o 0 ≡ count_by (is_at old) places = ap (λ k. get_or counts k 0) was ∙ all.each old in
-    let some : 1 ≤ count_by (is_at old) places = let e : count_by (is_at old) places ≡ count_by (is_at (get_or places page old)) places = ap (λ v. count_by (is_at v) places) here in omega (arith, counts_some places page old lt) in
+    let own : get_or counts o 0 ≡ count_by (is_at old) places =
+    ap (λ k. get_or counts k 0) was ∙ all.each old in
+    let some : 1 ≤ count_by (is_at old) places =
+    let e : count_by (is_at old) places ≡ count_by (is_at (get_or places page old)) places =
+    ap (λ v. count_by (is_at v) places) here in omega (arith, counts_some places page old lt) in
     record {
       each = λ which.
           let w = number_of which in
-          let there : hit (number_of (get_or places page old)) w ≡ hit (number_of old) w = ap (λ v. hit (number_of v) w) (sym here) in
-          let moves : count_by (is_at which) (set places page new) + hit (number_of (get_or places page old)) w ≡ count_by (is_at which) places + hit (number_of new) w = count_moves places page which new old lt in
+          let there : hit (number_of (get_or places page old)) w ≡ hit (number_of old) w =
+          ap (λ v. hit (number_of v) w) (sym here) in
+          let moves : count_by (is_at which) (set places page new) + hit
+          (number_of (get_or places page old)) w
+          ≡ count_by (is_at which) places + hit (number_of new) w =
+          count_moves places page which new old lt in
           let before : get_or counts w 0 ≡ count_by (is_at which) places = all.each which in
-          let middle : get_or mid w 0 + hit o w ≡ count_by (is_at which) places = elim (cases_eq w o) [
+          let middle : get_or mid w 0 + hit o w ≡ count_by (is_at which) places =
+          elim (cases_eq w o) [
             | inl same ↦
-                let e : get_or mid w 0 ≡ get_or counts o 0 - 1 = ap (λ k. get_or mid k 0) same ∙ get_or-set_same counts o _ 0 (omega arith) in
+                let e : get_or mid w 0 ≡ get_or counts o 0 - 1 =
+                ap (λ k. get_or mid k 0) same ∙ get_or-set_same counts o _ 0 (omega arith) in
                 let f : get_or counts w 0 ≡ get_or counts o 0 = ap (λ k. get_or counts k 0) same in
                 let h : hit o w ≡ 1 = hit_same o w (sym same) in
                 omega arith
@@ -125,12 +156,15 @@ counts_moved counts places page o n new old eight lt here was is small small2 al
           let hits2 : hit n w ≡ hit (number_of new) w = ap (λ k. hit k w) is in
           elim (cases_eq w n) [
             | inl same ↦
-                let e : get_or (set mid n (get_or mid n 0 + 1)) w 0 ≡ get_or mid n 0 + 1 = ap (λ k. get_or (set mid n (get_or mid n 0 + 1)) k 0) same ∙ get_or-set_same mid n _ 0 (omega arith) in
+                let e : get_or (set mid n (get_or mid n 0 + 1)) w 0 ≡ get_or mid n 0 + 1 =
+                ap (λ k. get_or (set mid n (get_or mid n 0 + 1)) k 0) same
+                ∙ get_or-set_same mid n _ 0 (omega arith) in
                 let f : get_or mid w 0 ≡ get_or mid n 0 = ap (λ k. get_or mid k 0) same in
                 let h : hit n w ≡ 1 = hit_same n w (sym same) in
                 omega arith
             | inr ne ↦
-                let e : get_or (set mid n (get_or mid n 0 + 1)) w 0 ≡ get_or mid w 0 = get_or-set_other mid n w _ 0 ne in
+                let e : get_or (set mid n (get_or mid n 0 + 1)) w 0 ≡ get_or mid w 0 =
+                get_or-set_other mid n w _ 0 ne in
                 let h : hit n w ≡ 0 = hit_other n w (λ q. ne (sym q)) in
                 omega arith
           ];
@@ -138,26 +172,36 @@ counts_moved counts places page o n new old eight lt here was is small small2 al
 
 -- ---- a table of reserved pages
 
-count_replicate : (test : Place → Bool) (x : Place) (n : ℕ) → count_by test (replicate n x) ≡ cond (test x) n 0
+count_replicate : (test : Place → Bool) (x : Place) (n : ℕ)
+    → count_by test (replicate n x) ≡ cond (test x) n 0
 count_replicate test x zero = at (test x)
   where
     at : (b : Bool) → count_by test (replicate zero x) ≡ cond b zero zero
     at true = refl
     at false = refl
-count_replicate test x (suc n) = count_by-cons test x (replicate n x) ∙ at (test x) (count_replicate test x n)
+count_replicate test x (suc n) =
+    count_by-cons test x (replicate n x) ∙ at (test x) (count_replicate test x n)
   where
-    at : (b : Bool) → count_by test (replicate n x) ≡ cond b n 0 → one_if b + count_by test (replicate n x) ≡ cond b (suc n) 0
+    at : (b : Bool) → count_by test (replicate n x) ≡ cond b n 0
+        → one_if b + count_by test (replicate n x) ≡ cond b (suc n) 0
     at true ih = omega arith
     at false ih = omega arith
 
-pub reserved_table : (counts : List ℕ) (places : List Place) (pages : ℕ) → counts ≡ pages ∷ 0 ∷ 0 ∷ 0 ∷ 0 ∷ 0 ∷ 0 ∷ 0 ∷ [] → places ≡ replicate pages Reserved → pages ≤ 16384 → IsTable counts places
+pub reserved_table : (counts : List ℕ) (places : List Place) (pages : ℕ)
+    → counts ≡ pages ∷ 0 ∷ 0 ∷ 0 ∷ 0 ∷ 0 ∷ 0 ∷ 0 ∷ [] → places ≡ replicate pages Reserved
+    → pages ≤ 16384 → IsTable counts places
 reserved_table counts places pages counted is most = record {
   kinds = ap (λ (l : List ℕ). length l) counted;
-  are_counts = record { each = λ place. ap (λ (l : List ℕ). get_or l (number_of place) 0) counted ∙ (at place ∙ sym (ap (count_by (is_at place)) is ∙ count_replicate (is_at place) Reserved pages)) };
+  are_counts = record {
+    each = λ place. ap (λ (l : List ℕ). get_or l (number_of place) 0) counted
+        ∙ (at place ∙ sym (ap (count_by (is_at place)) is
+        ∙ count_replicate (is_at place) Reserved pages));
+  };
   small = omega (arith, ap (λ (l : List Place). length l) is, length-replicate pages Reserved);
 }
   where
-    at : (place : Place) → get_or (pages ∷ 0 ∷ 0 ∷ 0 ∷ 0 ∷ 0 ∷ 0 ∷ 0 ∷ []) (number_of place) 0 ≡ cond (is_at place Reserved) pages 0
+    at : (place : Place) → get_or (pages ∷ 0 ∷ 0 ∷ 0 ∷ 0 ∷ 0 ∷ 0 ∷ 0 ∷ []) (number_of place) 0
+        ≡ cond (is_at place Reserved) pages 0
     at Reserved = refl
     at Free = refl
     at Used = refl

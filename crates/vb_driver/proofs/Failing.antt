@@ -1,5 +1,6 @@
 -- FAILED may be added to any status.
-use Rattle.std.proofs.Common.{◌≡◌, ap, refl, arith, ℕ, ◌<◌, Bool, true, false, not, ◌&&◌, Option, None, Some, is_none, cond, eqb, bit_or}
+use Rattle.std.proofs.Common.{◌≡◌, ap, refl, arith, ℕ, ◌<◌, Bool, true, false, not, ◌&&◌, Option}
+use Rattle.std.proofs.Common.{None, Some, is_none, cond, eqb, bit_or}
 use Rattle.std.specs.List.{list_all, range_with_len}
 use Rattle.vb_model.specs.declared.replies.Refusal.{Refusal}
 use Rattle.vb_model.specs.Status.{status_refusal, adds, driver_ok}
@@ -9,28 +10,36 @@ use Rattle.vb_ram.specs.Part.{Part}
 use Rattle.vb_status.specs.After.{after_status, part_after_reset, with_new_queues}
 
 abbrev passes : ℕ → ℕ → Bool
-passes f s = is_none (status_refusal s f (bit_or s 128)) && (not (eqb (bit_or s 128) 0) && not (adds s (bit_or s 128) driver_ok))
+passes f s = is_none (status_refusal s f (bit_or s 128))
+    && (not (eqb (bit_or s 128) 0) && not (adds s (bit_or s 128) driver_ok))
 
 table : (f : ℕ) → list_all (passes f) (range_with_len 0 256) ≡ true
 table f = refl
 
 passed : (s f : ℕ) → s < 256 → passes f s ≡ true
-passed s f lt = list_all-at (passes f) (range_with_len 0 256) s (table f) (in_block 0 8 s (omega arith) lt)
+passed s f lt = list_all-at (passes f) (range_with_len 0 256) s (table f)
+    (in_block 0 8 s (omega arith) lt)
 
 -- the write is accepted, and changes the status alone
 pub accepted : (s f : ℕ) → s < 256 → status_refusal s f (bit_or s 128) ≡ None
-accepted s f lt = at (status_refusal s f (bit_or s 128)) (not (eqb (bit_or s 128) 0) && not (adds s (bit_or s 128) driver_ok)) (passed s f lt)
+accepted s f lt = at (status_refusal s f (bit_or s 128))
+    (not (eqb (bit_or s 128) 0) && not (adds s (bit_or s 128) driver_ok)) (passed s f lt)
   where
     at : (o : Option Refusal) (r : Bool) → (is_none o && r) ≡ true → o ≡ None
     at None r h = refl
     at (Some x) r h = cc
 
-pub after_failing : (s f : ℕ) (part : Part) → part.status ≡ s → s < 256 → after_status (bit_or s 128) part ≡ record part { status = bit_or s 128 }
+pub after_failing : (s f : ℕ) (part : Part) → part.status ≡ s → s < 256
+    → after_status (bit_or s 128) part ≡ record part { status = bit_or s 128 }
 after_failing s f part is lt =
-    at (is_none (status_refusal s f (bit_or s 128))) (eqb (bit_or s 128) 0) (adds s (bit_or s 128) driver_ok) (adds part.status (bit_or s 128) driver_ok) (passed s f lt) (ap (λ n. adds n (bit_or s 128) driver_ok) is)
+    at (is_none (status_refusal s f (bit_or s 128))) (eqb (bit_or s 128) 0)
+    (adds s (bit_or s 128) driver_ok) (adds part.status (bit_or s 128) driver_ok)
+    (passed s f lt) (ap (λ n. adds n (bit_or s 128) driver_ok) is)
   where
     at : (o z a b : Bool) → (o && (not z && not a)) ≡ true → b ≡ a
-        → cond z (part_after_reset part) (cond b (record (with_new_queues part) { status = bit_or s 128 }) (record part { status = bit_or s 128 })) ≡ record part { status = bit_or s 128 }
+        → cond z (part_after_reset part)
+        (cond b (record (with_new_queues part) { status = bit_or s 128 })
+        (record part { status = bit_or s 128 })) ≡ record part { status = bit_or s 128 }
     at true false false false h g = refl
     at true false false true h g = cc
     at true false true b h g = cc

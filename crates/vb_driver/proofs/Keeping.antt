@@ -1,9 +1,11 @@
 -- What holds of each driver, as pages move.
-use Rattle.std.proofs.Common.{◌≡◌, ◌∙◌, sym, ap, arith, refl, ℕ, ◌<◌, ◌≤◌, Bool, true, false, cond, List, [], length, get_or, map, inl, inr, if◌then◌else◌}
+use Rattle.std.proofs.Common.{◌≡◌, ◌∙◌, sym, ap, arith, refl, ℕ, ◌<◌, ◌≤◌, Bool, true, false, cond}
+use Rattle.std.proofs.Common.{List, [], length, get_or, map, inl, inr, if◌then◌else◌}
 use Rattle.std.proofs.lemmas.List.{same_lists, length-map, get_or-map, get_or_past}
 use Rattle.std.proofs.lemmas.Bool.{cases_lt}
 use Rattle.vb_model.specs.Tests.{is_in, one_if}
-use Rattle.vb_model.specs.Pages.{place_of, placed, is_free, is_used, is_giving, is_taking, is_reporting, Block}
+use Rattle.vb_model.specs.Pages.{place_of, placed, is_free, is_used, is_giving, is_taking}
+use Rattle.vb_model.specs.Pages.{is_reporting, Block}
 use Rattle.vb_model.specs.declared.places.Place.{Place}
 use Rattle.vb_model.specs.declared.places.Place.TheVariants.{Reserved, Used}
 use Rattle.vb_model.proofs.Tables.{each_page-get, length-each_from}
@@ -16,63 +18,89 @@ use Rattle.vb_driver.proofs.Placing.{length-marked, marked-get, marked_none}
 
 -- ---- a page's place
 
-pub there_by : (places : List Place) (p : ℕ) (test : Place → Bool) → test Reserved ≡ false → test (place_of places p) ≡ true → p < length places
+pub there_by : (places : List Place) (p : ℕ) (test : Place → Bool) → test Reserved ≡ false
+    → test (place_of places p) ≡ true → p < length places
 there_by places p test fails passes = elim (cases_lt p (length places)) [
   | inl lt ↦ lt
-  | inr past ↦ (let wrong : true ≡ false = sym passes ∙ (ap test (get_or_past places p Reserved past) ∙ fails) in cc)
+  | inr past ↦ (let wrong : true ≡ false = sym passes
+      ∙ (ap test (get_or_past places p Reserved past) ∙ fails) in cc)
 ]
 
-pub place_placed : (pages : List ℕ) (to : Place) (places : List Place) (p : ℕ) → (is_in p pages ≡ true → p < length places) → place_of (placed pages to places) p ≡ cond (is_in p pages) to (place_of places p)
+pub place_placed : (pages : List ℕ) (to : Place) (places : List Place) (p : ℕ)
+    → (is_in p pages ≡ true → p < length places)
+    → place_of (placed pages to places) p ≡ cond (is_in p pages) to (place_of places p)
 place_placed pages to places p there =
-    each_page-get (λ page old. if is_in page pages then to else old) places p Reserved (λ far. at (is_in p pages) refl far)
+    each_page-get (λ page old. if is_in page pages then to else old) places p Reserved
+    (λ far. at (is_in p pages) refl far)
   where
-    at : (b : Bool) → is_in p pages ≡ b → length places ≤ p → cond (is_in p pages) to Reserved ≡ Reserved
+    at : (b : Bool) → is_in p pages ≡ b → length places ≤ p
+        → cond (is_in p pages) to Reserved ≡ Reserved
     at true e far = absurd (omega (arith, there e))
     at false e far = ap (λ v. cond v to Reserved) e
 
 -- ---- free pages
 
 pub free_marked : (places : List Place) (pages others : List ℕ) (to : Place) (flag : Bool)
-    → ((p : ℕ) (place : Place) → place ≡ place_of places p → cond (is_in p others) flag (is_free place) ≡ is_free (cond (is_in p pages) to place))
+    → ((p : ℕ) (place : Place) → place ≡ place_of places p
+    → cond (is_in p others) flag (is_free place) ≡ is_free (cond (is_in p pages) to place))
     → marked others flag (map is_free places) ≡ map is_free (placed pages to places)
 free_marked places pages others to flag agree =
     let left = marked others flag (map is_free places) in
     let moved = placed pages to places in
-    let n1 : length left ≡ length places = length-each_from 0 (λ page old. if is_in page others then flag else old) (map is_free places) ∙ length-map places is_free in
+    let n1 : length left ≡ length places =
+    length-each_from 0 (λ page old. if is_in page others then flag else old)
+    (map is_free places) ∙ length-map places is_free in
     let n2 : length moved ≡ length places = length-marked pages to places in
     same_lists left (map is_free moved) (n1 ∙ sym (length-map moved is_free ∙ n2)) (λ k d near.
     let inside : k < length places = omega arith in
     let here : place_of places k ≡ get_or places k Reserved = refl in
-    each_page-get (λ page old. if is_in page others then flag else old) (map is_free places) k d (λ far. absurd (omega (arith, length-map places is_free)))
+    each_page-get (λ page old. if is_in page others then flag else old) (map is_free places) k d
+    (λ far. absurd (omega (arith, length-map places is_free)))
     ∙ (ap (λ v. cond (is_in k others) flag v) (get_or-map is_free places k Reserved d inside)
     ∙ (agree k (place_of places k) refl
-    ∙ sym (get_or-map is_free moved k Reserved d (omega arith) ∙ ap is_free (marked-get pages to places k Reserved inside)))))
+    ∙ sym (get_or-map is_free moved k Reserved d (omega arith)
+    ∙ ap is_free (marked-get pages to places k Reserved inside)))))
 
 pub free_same : (places : List Place) (pages : List ℕ) (to : Place)
-    → ((p : ℕ) (place : Place) → place ≡ place_of places p → is_free place ≡ is_free (cond (is_in p pages) to place))
+    → ((p : ℕ) (place : Place) → place ≡ place_of places p
+    → is_free place ≡ is_free (cond (is_in p pages) to place))
     → map is_free places ≡ map is_free (placed pages to places)
-free_same places pages to agree = sym (marked_none false (map is_free places)) ∙ free_marked places pages [] to false agree
+free_same places pages to agree =
+    sym (marked_none false (map is_free places)) ∙ free_marked places pages [] to false agree
 
 -- ---- the whole
 
 -- pages that move to a place, as blocks come to be held, or no more
-pub record Changes (d : DriverState) (areas2 : FreePages) (pages : List ℕ) (to : Place) (held2 : List Block) (i2 e2 : Side) : Type 0 where
+pub record Changes (d : DriverState) (areas2 : FreePages) (pages : List ℕ) (to : Place)
+    (held2 : List Block) (i2 e2 : Side) : Type 0 where
   pub kept : IsDriver d
   pub there : (p : ℕ) → is_in p pages ≡ true → p < length d.places
   pub unreserved : (p : ℕ) → is_in p pages ≡ true → is_at Reserved (place_of d.places p) ≡ false
   pub inflate : IsQueue i2 0 d.queue_size
   pub deflate : IsQueue e2 1 d.queue_size
-  pub giving : (p : ℕ) → naming p i2.sent ≤ one_if (is_giving (cond (is_in p pages) to (place_of d.places p)))
-  pub taking : (p : ℕ) → naming p e2.sent ≤ one_if (is_taking (cond (is_in p pages) to (place_of d.places p)))
+  pub giving : (p : ℕ) → naming p i2.sent ≤ one_if
+      (is_giving (cond (is_in p pages) to (place_of d.places p)))
+  pub taking : (p : ℕ) → naming p e2.sent ≤ one_if
+      (is_taking (cond (is_in p pages) to (place_of d.places p)))
   pub free : flags_of areas2 ≡ map is_free (placed pages to d.places)
   pub processors : length areas2.lists ≡ length d.areas.lists
   pub proper : is_reporting to ≡ false
-  pub used : (p : ℕ) → is_covered p held2 ≡ true → cond (is_in p pages) to (place_of d.places p) ≡ Used
+  pub used : (p : ℕ) → is_covered p held2 ≡ true
+      → cond (is_in p pages) to (place_of d.places p) ≡ Used
 
-pub kept_changed : (d : DriverState) (areas2 : FreePages) (pages : List ℕ) (to : Place) (held2 : List Block) (i2 e2 : Side) → Changes d areas2 pages to held2 i2 e2
-    → IsDriver (record d { places = placed pages to d.places; held = held2; areas = areas2; inflate = i2; deflate = e2 })
+pub kept_changed : (d : DriverState) (areas2 : FreePages) (pages : List ℕ) (to : Place)
+    (held2 : List Block) (i2 e2 : Side) → Changes d areas2 pages to held2 i2 e2
+    → IsDriver (record d {
+      places = placed pages to d.places;
+      held = held2;
+      areas = areas2;
+      inflate = i2;
+      deflate = e2;
+    })
 kept_changed d areas2 pages to held2 i2 e2 m =
-    let place : (p : ℕ) → place_of (placed pages to d.places) p ≡ cond (is_in p pages) to (place_of d.places p) = λ p. place_placed pages to d.places p (m.there p) in
+    let place : (p : ℕ) → place_of (placed pages to d.places) p
+    ≡ cond (is_in p pages) to (place_of d.places p) =
+    λ p. place_placed pages to d.places p (m.there p) in
     record {
       table = length-marked pages to d.places ∙ m.kept.table;
       least = m.kept.least;
@@ -82,37 +110,50 @@ kept_changed d areas2 pages to held2 i2 e2 m =
       deflate = m.deflate;
       giving = λ p. omega (arith, m.giving p, ap (λ (v : Place). one_if (is_giving v)) (place p));
       taking = λ p. omega (arith, m.taking p, ap (λ (v : Place). one_if (is_taking v)) (place p));
-      unreported = λ p. ap is_reporting (place p) ∙ proper_at p (is_in p pages) refl (m.kept.unreported p);
+      unreported = λ p. ap is_reporting (place p)
+          ∙ proper_at p (is_in p pages) refl (m.kept.unreported p);
       free = m.free;
       used = λ p covered. place p ∙ m.used p covered;
       reserved = λ p low. place p ∙ reserved_at p (is_in p pages) refl (m.kept.reserved p low);
       processors = m.processors ∙ m.kept.processors;
     }
   where
-    proper_at : (p : ℕ) (b : Bool) → is_in p pages ≡ b → is_reporting (place_of d.places p) ≡ false → is_reporting (cond (is_in p pages) to (place_of d.places p)) ≡ false
+    proper_at : (p : ℕ) (b : Bool) → is_in p pages ≡ b → is_reporting (place_of d.places p) ≡ false
+        → is_reporting (cond (is_in p pages) to (place_of d.places p)) ≡ false
     proper_at p true e old = ap (λ v. is_reporting (cond v to (place_of d.places p))) e ∙ m.proper
     proper_at p false e old = ap (λ v. is_reporting (cond v to (place_of d.places p))) e ∙ old
 
-    reserved_at : (p : ℕ) (b : Bool) → is_in p pages ≡ b → place_of d.places p ≡ Reserved → cond (is_in p pages) to (place_of d.places p) ≡ Reserved
-    reserved_at p true e is = (let wrong : true ≡ false = sym (ap (is_at Reserved) is) ∙ m.unreserved p e in cc)
+    reserved_at : (p : ℕ) (b : Bool) → is_in p pages ≡ b → place_of d.places p ≡ Reserved
+        → cond (is_in p pages) to (place_of d.places p) ≡ Reserved
+    reserved_at p true e is =
+        (let wrong : true ≡ false = sym (ap (is_at Reserved) is) ∙ m.unreserved p e in cc)
     reserved_at p false e is = ap (λ v. cond v to (place_of d.places p)) e ∙ is
 
 -- pages that are in no held block, and move
-pub record Moves (d : DriverState) (areas2 : FreePages) (pages : List ℕ) (to : Place) (i2 e2 : Side) : Type 0 where
+pub record Moves (d : DriverState) (areas2 : FreePages) (pages : List ℕ) (to : Place) (i2 e2 : Side)
+    : Type 0 where
   pub kept : IsDriver d
   pub there : (p : ℕ) → is_in p pages ≡ true → p < length d.places
   pub unreserved : (p : ℕ) → is_in p pages ≡ true → is_at Reserved (place_of d.places p) ≡ false
   pub unused : (p : ℕ) → is_in p pages ≡ true → is_used (place_of d.places p) ≡ false
   pub inflate : IsQueue i2 0 d.queue_size
   pub deflate : IsQueue e2 1 d.queue_size
-  pub giving : (p : ℕ) → naming p i2.sent ≤ one_if (is_giving (cond (is_in p pages) to (place_of d.places p)))
-  pub taking : (p : ℕ) → naming p e2.sent ≤ one_if (is_taking (cond (is_in p pages) to (place_of d.places p)))
+  pub giving : (p : ℕ) → naming p i2.sent ≤ one_if
+      (is_giving (cond (is_in p pages) to (place_of d.places p)))
+  pub taking : (p : ℕ) → naming p e2.sent ≤ one_if
+      (is_taking (cond (is_in p pages) to (place_of d.places p)))
   pub free : flags_of areas2 ≡ map is_free (placed pages to d.places)
   pub processors : length areas2.lists ≡ length d.areas.lists
   pub proper : is_reporting to ≡ false
 
-pub kept_moved : (d : DriverState) (areas2 : FreePages) (pages : List ℕ) (to : Place) (i2 e2 : Side) → Moves d areas2 pages to i2 e2
-    → IsDriver (record d { places = placed pages to d.places; areas = areas2; inflate = i2; deflate = e2 })
+pub kept_moved : (d : DriverState) (areas2 : FreePages) (pages : List ℕ) (to : Place) (i2 e2 : Side)
+    → Moves d areas2 pages to i2 e2
+    → IsDriver (record d {
+      places = placed pages to d.places;
+      areas = areas2;
+      inflate = i2;
+      deflate = e2;
+    })
 kept_moved d areas2 pages to i2 e2 m =
     kept_changed d areas2 pages to d.held i2 e2 (record {
       kept = m.kept;
@@ -128,6 +169,7 @@ kept_moved d areas2 pages to i2 e2 m =
       used = λ p covered. used_at p (is_in p pages) refl (m.kept.used p covered);
     })
   where
-    used_at : (p : ℕ) (b : Bool) → is_in p pages ≡ b → place_of d.places p ≡ Used → cond (is_in p pages) to (place_of d.places p) ≡ Used
+    used_at : (p : ℕ) (b : Bool) → is_in p pages ≡ b → place_of d.places p ≡ Used
+        → cond (is_in p pages) to (place_of d.places p) ≡ Used
     used_at p true e is = (let wrong : true ≡ false = sym (ap is_used is) ∙ m.unused p e in cc)
     used_at p false e is = ap (λ v. cond v to (place_of d.places p)) e ∙ is

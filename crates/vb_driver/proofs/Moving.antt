@@ -1,27 +1,35 @@
 -- The pages that each call moves.
-use Rattle.std.proofs.Common.{◌≡◌, ◌∙◌, sym, ap, subst, arith, refl, ℕ, zero, suc, replicate, ◌+◌, ◌-◌, ◌<◌, ◌≤◌, Bool, true, false, cond, eqb, ◌||◌, ◌&&◌, List, [], ◌∷◌, ◌++◌, length, take, set, map, count_by, inl, inr}
+use Rattle.std.proofs.Common.{◌≡◌, ◌∙◌, sym, ap, subst, arith, refl, ℕ, zero, suc, replicate, ◌+◌}
+use Rattle.std.proofs.Common.{◌-◌, ◌<◌, ◌≤◌, Bool, true, false, cond, eqb, ◌||◌, ◌&&◌, List, []}
+use Rattle.std.proofs.Common.{◌∷◌, ◌++◌, length, take, set, map, count_by, inl, inr}
 use Rattle.std.proofs.lemmas.Bool.{cases_lt, lt-ltb}
-use Rattle.std.proofs.lemmas.List.{length-replicate, length-take, length-map, get_or-map, get_or_past}
+use Rattle.std.proofs.lemmas.List.{length-replicate, length-take, length-map, get_or-map}
+use Rattle.std.proofs.lemmas.List.{get_or_past}
 use Rattle.std.specs.List.{list_all}
 use Rattle.std.proofs.lemmas.List.Sums.{sum_by-cons}
 use Rattle.std.proofs.lemmas.List.Folds.{list_any-append}
 use Rattle.vb_model.specs.Tests.{is_in, one_if, pages_from, pages_where}
-use Rattle.vb_model.specs.Pages.{place_of, placed, is_free, is_used, is_giving, is_lent, is_taking, is_stranded, is_reporting, is_lent_or_taking, all_free}
+use Rattle.vb_model.specs.Pages.{place_of, placed, is_free, is_used, is_giving, is_lent, is_taking}
+use Rattle.vb_model.specs.Pages.{is_stranded, is_reporting, is_lent_or_taking, all_free}
 use Rattle.vb_model.specs.declared.places.Place.{Place}
-use Rattle.vb_model.specs.declared.places.Place.TheVariants.{Reserved, Free, Used, Giving, Lent, Taking, Stranded, Reporting}
-use Rattle.vb_model.proofs.Tables.{pages_where-passes, is_in-take, is_in-append, list_all-at, count_by-cons}
+use Rattle.vb_model.specs.declared.places.Place.TheVariants.{Reserved, Free, Used, Giving, Lent}
+use Rattle.vb_model.specs.declared.places.Place.TheVariants.{Taking, Stranded, Reporting}
+use Rattle.vb_model.proofs.Tables.{pages_where-passes, is_in-take, is_in-append, list_all-at}
+use Rattle.vb_model.proofs.Tables.{count_by-cons}
 use Rattle.vb_model.specs.Life.{place_after_reset}
 use Rattle.vb_model.specs.Layout.{ring_page}
 use Rattle.vb_model.proofs.GuestSteps.{place_of-reset}
 use Rattle.vb_ram.specs.Pages.{Pages}
 use Rattle.vb_pages.specs.FreePages.{FreePages}
 use Rattle.vb_driver.specs.Places.{is_at}
-use Rattle.vb_driver.specs.State.{Side, DriverState, IsQueue, naming, sent_by, fresh_side, fresh_driver, IsDriver}
+use Rattle.vb_driver.specs.State.{Side, DriverState, IsQueue, naming, sent_by, fresh_side}
+use Rattle.vb_driver.specs.State.{fresh_driver, IsDriver}
 use Rattle.vb_driver.specs.Areas.{flags_of, is_free_at, is_covered}
 use Rattle.vb_driver.specs.Places.{marked}
 use Rattle.vb_driver.specs.Calls.{Posts, lowest_lent, stranded_first, after_reap}
 use Rattle.vb_model.specs.Orderly.{times}
-use Rattle.vb_driver.proofs.Naming.{naming_more, naming_same, naming_less, named_place, named_once, once_lowest, once_append}
+use Rattle.vb_driver.proofs.Naming.{naming_more, naming_same, naming_less, named_place, named_once}
+use Rattle.vb_driver.proofs.Naming.{once_lowest, once_append}
 use Rattle.vb_driver.proofs.Flags.{fresh_flags}
 use Rattle.vb_driver.proofs.Counting.{at_is}
 use Rattle.vb_driver.proofs.Keeping.{kept_moved, there_by, free_same, free_marked}
@@ -33,7 +41,8 @@ use Rattle.vb_driver.proofs.RequestTables.{requests_taken, requests_fresh}
 
 -- ---- tests of places
 
-pub in_balloon_is : (x : Place) → (cond (is_at Lent x) 1 0 + cond (is_at Taking x) 1 0) ≡ cond (is_lent_or_taking x) 1 0
+pub in_balloon_is : (x : Place)
+    → (cond (is_at Lent x) 1 0 + cond (is_at Taking x) 1 0) ≡ cond (is_lent_or_taking x) 1 0
 in_balloon_is Reserved = refl
 in_balloon_is Free = refl
 in_balloon_is Used = refl
@@ -43,23 +52,36 @@ in_balloon_is Taking = refl
 in_balloon_is Stranded = refl
 in_balloon_is Reporting = refl
 
-pub count_in_balloon : (xs : List Place) → count_by (is_at Lent) xs + count_by (is_at Taking) xs ≡ count_by is_lent_or_taking xs
+pub count_in_balloon : (xs : List Place)
+    → count_by (is_at Lent) xs + count_by (is_at Taking) xs ≡ count_by is_lent_or_taking xs
 count_in_balloon [] = refl
-count_in_balloon (x ∷ xs) = omega (arith, in_balloon_is x, count_in_balloon xs, sum_by-cons (λ y. cond (is_at Lent y) 1 0) x xs, sum_by-cons (λ y. cond (is_at Taking y) 1 0) x xs, sum_by-cons (λ y. cond (is_lent_or_taking y) 1 0) x xs)
+count_in_balloon (x ∷ xs) =
+    omega (
+      arith,
+      in_balloon_is x,
+      count_in_balloon xs,
+      sum_by-cons (λ y. cond (is_at Lent y) 1 0) x xs,
+      sum_by-cons (λ y. cond (is_at Taking y) 1 0) x xs,
+      sum_by-cons (λ y. cond (is_lent_or_taking y) 1 0) x xs,
+    )
 
-pub lowest_is : (places : List Place) (n : ℕ) (test : Place → Bool) (p : ℕ) → is_in p (take n (pages_where test places)) ≡ true → test (place_of places p) ≡ true
-lowest_is places n test p h = pages_where-passes test places p Reserved (is_in-take p n (pages_where test places) h)
+pub lowest_is : (places : List Place) (n : ℕ) (test : Place → Bool) (p : ℕ)
+    → is_in p (take n (pages_where test places)) ≡ true → test (place_of places p) ≡ true
+lowest_is places n test p h =
+    pages_where-passes test places p Reserved (is_in-take p n (pages_where test places) h)
 
 -- ---- a queue after a post, and after a reap
 
-pub posted_queue : (m1 m2 : Pages) (s1 s2 : Side) (base queue size head : ℕ) (pages : List ℕ) → IsQueue s1 queue size → Posts m1 m2 s1 s2 base pages head → IsQueue s2 queue size
+pub posted_queue : (m1 m2 : Pages) (s1 s2 : Side) (base queue size head : ℕ) (pages : List ℕ)
+    → IsQueue s1 queue size → Posts m1 m2 s1 s2 base pages head → IsQueue s2 queue size
 posted_queue m1 m2 s1 s2 base queue size head pages q p = record {
   requests = p.requests;
   layout = ap (λ (s : Side). s.ring.layout) p.state ∙ q.layout;
   size = ap (λ (s : Side). s.ring.size) p.state ∙ q.size;
 }
 
-pub reaped_queue : (s1 : Side) (queue size head : ℕ) → IsQueue s1 queue size → IsQueue (after_reap s1 head) queue size
+pub reaped_queue : (s1 : Side) (queue size head : ℕ) → IsQueue s1 queue size
+    → IsQueue (after_reap s1 head) queue size
 reaped_queue s1 queue size head q = record {
   requests = requests_taken s1.ring s1.sent head q.requests;
   layout = q.layout;
@@ -68,12 +90,16 @@ reaped_queue s1 queue size head q = record {
 
 -- ---- lent pages are asked back
 
-pub asked_kept : (m1 m2 : Pages) (d : DriverState) (e2 : Side) (base count head : ℕ) → IsDriver d → Posts m1 m2 d.deflate e2 base (lowest_lent d count) head
+pub asked_kept : (m1 m2 : Pages) (d : DriverState) (e2 : Side) (base count head : ℕ) → IsDriver d
+    → Posts m1 m2 d.deflate e2 base (lowest_lent d count) head
     → IsDriver (record d { places = placed (lowest_lent d count) Taking d.places; deflate = e2 })
 asked_kept m1 m2 d e2 base count head kept posts =
     let pages = lowest_lent d count in
-    let lent : (p : ℕ) → is_in p pages ≡ true → place_of d.places p ≡ Lent = λ p here. at_is Lent (place_of d.places p) (lowest_is d.places count is_lent p here) in
-    let small : head < length d.deflate.sent = omega (arith, posts.small, kept.deflate.requests.buffers) in
+    let lent : (p : ℕ) → is_in p pages ≡ true
+    → place_of d.places p ≡ Lent =
+    λ p here. at_is Lent (place_of d.places p) (lowest_is d.places count is_lent p here) in
+    let small : head < length d.deflate.sent =
+    omega (arith, posts.small, kept.deflate.requests.buffers) in
     let sent : e2.sent ≡ set d.deflate.sent head pages = ap (λ (s : Side). s.sent) posts.state in
     kept_moved d d.areas pages Taking d.inflate e2 (record {
       kept = kept;
@@ -82,29 +108,42 @@ asked_kept m1 m2 d e2 base count head kept posts =
       unused = λ p here. ap is_used (lent p here);
       inflate = kept.inflate;
       deflate = posted_queue m1 m2 d.deflate e2 base 1 d.queue_size head pages kept.deflate posts;
-      giving = λ p. naming_same p pages d.inflate.sent is_giving Taking (place_of d.places p) (kept.giving p) (λ here. ap is_giving (lent p here));
-      taking = λ p. subst (λ (l : List (List ℕ)). naming p l ≤ one_if (is_taking (cond (is_in p pages) Taking (place_of d.places p)))) (sym sent)
-          (naming_more p head pages d.deflate.sent is_taking Taking (place_of d.places p) small (kept.taking p) (λ here. ap is_taking (lent p here)) (once_lowest p count is_lent d.places) refl);
-      free = kept.free ∙ free_same d.places pages Taking (λ p place is. same_free p place is (is_in p pages) refl lent);
+      giving = λ p. naming_same p pages d.inflate.sent is_giving Taking (place_of d.places p)
+          (kept.giving p) (λ here. ap is_giving (lent p here));
+      taking = λ p. subst (λ (l : List (List ℕ)). naming p l ≤ one_if
+          (is_taking (cond (is_in p pages) Taking (place_of d.places p)))) (sym sent)
+          (naming_more p head pages d.deflate.sent is_taking Taking (place_of d.places p) small
+          (kept.taking p) (λ here. ap is_taking (lent p here))
+          (once_lowest p count is_lent d.places) refl);
+      free = kept.free ∙ free_same d.places pages Taking
+          (λ p place is. same_free p place is (is_in p pages) refl lent);
       processors = refl;
       proper = refl;
     })
   where
-    same_free : (p : ℕ) (place : Place) → place ≡ place_of d.places p → (b : Bool) → is_in p (lowest_lent d count) ≡ b → ((q : ℕ) → is_in q (lowest_lent d count) ≡ true → place_of d.places q ≡ Lent)
+    same_free : (p : ℕ) (place : Place) → place ≡ place_of d.places p → (b : Bool)
+        → is_in p (lowest_lent d count) ≡ b
+        → ((q : ℕ) → is_in q (lowest_lent d count) ≡ true → place_of d.places q ≡ Lent)
         → is_free place ≡ is_free (cond (is_in p (lowest_lent d count)) Taking place)
-    same_free p place is true e lent = ap is_free (is ∙ lent p e) ∙ sym (ap (λ v. is_free (cond v Taking place)) e)
+    same_free p place is true e lent =
+        ap is_free (is ∙ lent p e) ∙ sym (ap (λ v. is_free (cond v Taking place)) e)
     same_free p place is false e lent = sym (ap (λ v. is_free (cond v Taking place)) e)
 
 -- ---- stranded and free pages are offered
 
-pub stranded_apart : (d : DriverState) (count p : ℕ) (others : List ℕ) → list_all (λ page. is_free (place_of d.places page)) others ≡ true → is_in p (stranded_first d count) ≡ true → is_in p others ≡ false
+pub stranded_apart : (d : DriverState) (count p : ℕ) (others : List ℕ)
+    → list_all (λ page. is_free (place_of d.places page)) others ≡ true
+    → is_in p (stranded_first d count) ≡ true → is_in p others ≡ false
 stranded_apart d count p others free here = at (is_in p others) refl
   where
     at : (b : Bool) → is_in p others ≡ b → is_in p others ≡ false
     at false e = e
     at true e =
-        let yes_ : is_free (place_of d.places p) ≡ true = list_all-at (λ page. is_free (place_of d.places page)) others p free e in
-        let no_ : is_free (place_of d.places p) ≡ false = ap is_free (at_is Stranded (place_of d.places p) (lowest_is d.places count is_stranded p here)) in
+        let yes_ : is_free (place_of d.places p) ≡ true =
+        list_all-at (λ page. is_free (place_of d.places page)) others p free e in
+        let no_ : is_free (place_of d.places p) ≡ false =
+        ap is_free (at_is Stranded (place_of d.places p)
+        (lowest_is d.places count is_stranded p here)) in
         let wrong : true ≡ false = sym yes_ ∙ no_ in
         cc
 
@@ -113,97 +152,161 @@ pub data Idle (place : Place) : Type 0 where
   idle_stranded : place ≡ Stranded → Idle place
   idle_free : place ≡ Free → Idle place
 
-idle_test : (place : Place) (test : Place → Bool) (b : Bool) → test Stranded ≡ b → test Free ≡ b → Idle place → test place ≡ b
+idle_test : (place : Place) (test : Place → Bool) (b : Bool) → test Stranded ≡ b → test Free ≡ b
+    → Idle place → test place ≡ b
 idle_test place test b s f (idle_stranded e) = ap test e ∙ s
 idle_test place test b s f (idle_free e) = ap test e ∙ f
 
-pub offered_kept : (m1 m2 : Pages) (d : DriverState) (areas2 : FreePages) (i2 : Side) (base count head : ℕ) (others : List ℕ) → IsDriver d
-    → list_all (λ page. is_free (place_of d.places page)) others ≡ true → ((p : ℕ) → times p others ≤ 1) → flags_of areas2 ≡ marked others false (flags_of d.areas) → length areas2.lists ≡ length d.areas.lists
+pub offered_kept : (m1 m2 : Pages) (d : DriverState) (areas2 : FreePages) (i2 : Side)
+    (base count head : ℕ) (others : List ℕ) → IsDriver d
+    → list_all (λ page. is_free (place_of d.places page)) others ≡ true
+    → ((p : ℕ) → times p others ≤ 1) → flags_of areas2 ≡ marked others false (flags_of d.areas)
+    → length areas2.lists ≡ length d.areas.lists
     → Posts m1 m2 d.inflate i2 base (stranded_first d count ++ others) head
-    → IsDriver (record d { places = placed (stranded_first d count ++ others) Giving d.places; inflate = i2; areas = areas2 })
+    → IsDriver (record d {
+      places = placed (stranded_first d count ++ others) Giving d.places;
+      inflate = i2;
+      areas = areas2;
+    })
 offered_kept m1 m2 d areas2 i2 base count head others kept free once taken processors posts =
     let first = stranded_first d count in
     let pages = first ++ others in
-    let idle : (p : ℕ) → is_in p pages ≡ true → Idle (place_of d.places p) = λ p here. elim (is_in-append p first others here) [
-      | inl f ↦ idle_stranded (at_is Stranded (place_of d.places p) (lowest_is d.places count is_stranded p f))
-      | inr o ↦ idle_free (at_is Free (place_of d.places p) (list_all-at (λ page. is_free (place_of d.places page)) others p free o))
+    let idle : (p : ℕ) → is_in p pages ≡ true
+    → Idle (place_of d.places p) = λ p here. elim (is_in-append p first others here) [
+      | inl f ↦ idle_stranded
+          (at_is Stranded (place_of d.places p) (lowest_is d.places count is_stranded p f))
+      | inr o ↦ idle_free (at_is Free (place_of d.places p)
+          (list_all-at (λ page. is_free (place_of d.places page)) others p free o))
     ] in
-    let small : head < length d.inflate.sent = omega (arith, posts.small, kept.inflate.requests.buffers) in
+    let small : head < length d.inflate.sent =
+    omega (arith, posts.small, kept.inflate.requests.buffers) in
     let sent : i2.sent ≡ set d.inflate.sent head pages = ap (λ (s : Side). s.sent) posts.state in
-    let once_all : (p : ℕ) → times p pages ≤ 1 = λ p. once_append p first others (once_lowest p count is_stranded d.places) (once p) (stranded_apart d count p others free) in
+    let once_all : (p : ℕ)
+    → times p pages ≤ 1 =
+    λ p. once_append p first others (once_lowest p count is_stranded d.places) (once p)
+    (stranded_apart d count p others free) in
     kept_moved d areas2 pages Giving i2 d.deflate (record {
       kept = kept;
-      there = λ p here. there_by d.places p (λ v. is_stranded v || is_free v) refl (idle_test (place_of d.places p) (λ v. is_stranded v || is_free v) true refl refl (idle p here));
-      unreserved = λ p here. idle_test (place_of d.places p) (is_at Reserved) false refl refl (idle p here);
+      there = λ p here. there_by d.places p (λ v. is_stranded v || is_free v) refl
+          (idle_test (place_of d.places p) (λ v. is_stranded v || is_free v) true refl refl
+          (idle p here));
+      unreserved = λ p here. idle_test (place_of d.places p) (is_at Reserved) false refl refl
+          (idle p here);
       unused = λ p here. idle_test (place_of d.places p) is_used false refl refl (idle p here);
       inflate = posted_queue m1 m2 d.inflate i2 base 0 d.queue_size head pages kept.inflate posts;
       deflate = kept.deflate;
-      giving = λ p. subst (λ (l : List (List ℕ)). naming p l ≤ one_if (is_giving (cond (is_in p pages) Giving (place_of d.places p)))) (sym sent)
-          (naming_more p head pages d.inflate.sent is_giving Giving (place_of d.places p) small (kept.giving p) (λ here. idle_test (place_of d.places p) is_giving false refl refl (idle p here)) (once_all p) refl);
-      taking = λ p. naming_same p pages d.deflate.sent is_taking Giving (place_of d.places p) (kept.taking p) (λ here. idle_test (place_of d.places p) is_taking false refl refl (idle p here));
-      free = taken ∙ (ap (marked others false) kept.free ∙ free_marked d.places pages others Giving false (λ p place is. agree p place is (is_in p others) (is_in p first) refl refl));
+      giving = λ p. subst (λ (l : List (List ℕ)). naming p l ≤ one_if
+          (is_giving (cond (is_in p pages) Giving (place_of d.places p)))) (sym sent)
+          (naming_more p head pages d.inflate.sent is_giving Giving (place_of d.places p) small
+          (kept.giving p) (λ here. idle_test (place_of d.places p) is_giving false refl refl
+          (idle p here)) (once_all p) refl);
+      taking = λ p. naming_same p pages d.deflate.sent is_taking Giving (place_of d.places p)
+          (kept.taking p) (λ here. idle_test (place_of d.places p) is_taking false refl refl
+          (idle p here));
+      free = taken ∙ (ap (marked others false) kept.free
+          ∙ free_marked d.places pages others Giving false
+          (λ p place is. agree p place is (is_in p others) (is_in p first) refl refl));
       processors = processors;
       proper = refl;
     })
   where
-    in_pages : (p : ℕ) → is_in p (stranded_first d count ++ others) ≡ (is_in p (stranded_first d count) || is_in p others)
+    in_pages : (p : ℕ) → is_in p (stranded_first d count ++ others)
+        ≡ (is_in p (stranded_first d count) || is_in p others)
     in_pages p = list_any-append (λ m. eqb m p) (stranded_first d count) others
 
-    agree : (p : ℕ) (place : Place) → place ≡ place_of d.places p → (o f : Bool) → is_in p others ≡ o → is_in p (stranded_first d count) ≡ f
-        → cond (is_in p others) false (is_free place) ≡ is_free (cond (is_in p (stranded_first d count ++ others)) Giving place)
+    agree : (p : ℕ) (place : Place) → place ≡ place_of d.places p → (o f : Bool)
+        → is_in p others ≡ o → is_in p (stranded_first d count) ≡ f
+        → cond (is_in p others) false (is_free place)
+        ≡ is_free (cond (is_in p (stranded_first d count ++ others)) Giving place)
     agree p place is true f e g =
-        ap (λ v. cond v false (is_free place)) e ∙ sym (ap (λ v. is_free (cond v Giving place)) (in_pages p ∙ (ap (λ v. is_in p (stranded_first d count) || v) e ∙ or_true (is_in p (stranded_first d count)))))
+        ap (λ v. cond v false (is_free place)) e
+        ∙ sym (ap (λ v. is_free (cond v Giving place))
+        (in_pages p ∙ (ap (λ v. is_in p (stranded_first d count) || v) e
+        ∙ or_true (is_in p (stranded_first d count)))))
     agree p place is false true e g =
         ap (λ v. cond v false (is_free place)) e
-        ∙ (ap is_free (is ∙ at_is Stranded (place_of d.places p) (lowest_is d.places count is_stranded p g))
-        ∙ sym (ap (λ v. is_free (cond v Giving place)) (in_pages p ∙ ap (λ v. v || is_in p others) g)))
+        ∙ (ap is_free (is ∙ at_is Stranded (place_of d.places p)
+        (lowest_is d.places count is_stranded p g))
+        ∙ sym (ap (λ v. is_free (cond v Giving place))
+        (in_pages p ∙ ap (λ v. v || is_in p others) g)))
     agree p place is false false e g =
         ap (λ v. cond v false (is_free place)) e
-        ∙ sym (ap (λ v. is_free (cond v Giving place)) (in_pages p ∙ (ap (λ v. v || is_in p others) g ∙ e)))
+        ∙ sym (ap (λ v. is_free (cond v Giving place))
+        (in_pages p ∙ (ap (λ v. v || is_in p others) g ∙ e)))
 
 -- ---- used requests are reaped
 
 pub lent_kept : (d : DriverState) (head : ℕ) → head < 16 → IsDriver d
-    → IsDriver (record d { places = placed (sent_by d.inflate head) Lent d.places; inflate = after_reap d.inflate head })
+    → IsDriver (record d {
+      places = placed (sent_by d.inflate head) Lent d.places;
+      inflate = after_reap d.inflate head;
+    })
 lent_kept d head lt kept =
     let pages = sent_by d.inflate head in
     let small : head < length d.inflate.sent = omega (arith, kept.inflate.requests.buffers) in
-    let giving : (p : ℕ) → is_in p pages ≡ true → is_giving (place_of d.places p) ≡ true = λ p here. named_place p head d.inflate.sent is_giving (place_of d.places p) small (kept.giving p) here in
+    let giving : (p : ℕ) → is_in p pages ≡ true
+    → is_giving (place_of d.places p) ≡ true =
+    λ p here. named_place p head d.inflate.sent is_giving (place_of d.places p) small
+    (kept.giving p) here in
     kept_moved d d.areas pages Lent (after_reap d.inflate head) d.deflate (record {
       kept = kept;
       there = λ p here. there_by d.places p is_giving refl (giving p here);
-      unreserved = λ p here. ap (is_at Reserved) (at_is Giving (place_of d.places p) (giving p here));
+      unreserved = λ p here. ap (is_at Reserved)
+          (at_is Giving (place_of d.places p) (giving p here));
       unused = λ p here. ap is_used (at_is Giving (place_of d.places p) (giving p here));
       inflate = reaped_queue d.inflate 0 d.queue_size head kept.inflate;
       deflate = kept.deflate;
-      giving = λ p. naming_less p head d.inflate.sent is_giving Lent (place_of d.places p) small (kept.giving p);
-      taking = λ p. naming_same p pages d.deflate.sent is_taking Lent (place_of d.places p) (kept.taking p) (λ here. ap is_taking (at_is Giving (place_of d.places p) (giving p here)));
-      free = kept.free ∙ free_same d.places pages Lent (λ p place is. same_free p place is (is_in p pages) refl giving);
+      giving = λ p. naming_less p head d.inflate.sent is_giving Lent (place_of d.places p) small
+          (kept.giving p);
+      taking = λ p. naming_same p pages d.deflate.sent is_taking Lent (place_of d.places p)
+          (kept.taking p) (λ here. ap is_taking
+          (at_is Giving (place_of d.places p) (giving p here)));
+      free = kept.free ∙ free_same d.places pages Lent
+          (λ p place is. same_free p place is (is_in p pages) refl giving);
       processors = refl;
       proper = refl;
     })
   where
-    same_free : (p : ℕ) (place : Place) → place ≡ place_of d.places p → (b : Bool) → is_in p (sent_by d.inflate head) ≡ b → ((q : ℕ) → is_in q (sent_by d.inflate head) ≡ true → is_giving (place_of d.places q) ≡ true)
+    same_free : (p : ℕ) (place : Place) → place ≡ place_of d.places p → (b : Bool)
+        → is_in p (sent_by d.inflate head) ≡ b
+        → ((q : ℕ) → is_in q (sent_by d.inflate head) ≡ true
+        → is_giving (place_of d.places q) ≡ true)
         → is_free place ≡ is_free (cond (is_in p (sent_by d.inflate head)) Lent place)
-    same_free p place is true e giving = ap is_free (is ∙ at_is Giving (place_of d.places p) (giving p e)) ∙ sym (ap (λ v. is_free (cond v Lent place)) e)
+    same_free p place is true e giving =
+        ap is_free (is ∙ at_is Giving (place_of d.places p) (giving p e))
+        ∙ sym (ap (λ v. is_free (cond v Lent place)) e)
     same_free p place is false e giving = sym (ap (λ v. is_free (cond v Lent place)) e)
 
-pub freed_kept : (d : DriverState) (areas2 : FreePages) (head : ℕ) → head < 16 → IsDriver d → flags_of areas2 ≡ marked (sent_by d.deflate head) true (flags_of d.areas) → length areas2.lists ≡ length d.areas.lists
-    → IsDriver (record d { places = placed (sent_by d.deflate head) Free d.places; deflate = after_reap d.deflate head; areas = areas2 })
+pub freed_kept : (d : DriverState) (areas2 : FreePages) (head : ℕ) → head < 16 → IsDriver d
+    → flags_of areas2 ≡ marked (sent_by d.deflate head) true (flags_of d.areas)
+    → length areas2.lists ≡ length d.areas.lists
+    → IsDriver (record d {
+      places = placed (sent_by d.deflate head) Free d.places;
+      deflate = after_reap d.deflate head;
+      areas = areas2;
+    })
 freed_kept d areas2 head lt kept given processors =
     let pages = sent_by d.deflate head in
     let small : head < length d.deflate.sent = omega (arith, kept.deflate.requests.buffers) in
-    let taking : (p : ℕ) → is_in p pages ≡ true → is_taking (place_of d.places p) ≡ true = λ p here. named_place p head d.deflate.sent is_taking (place_of d.places p) small (kept.taking p) here in
+    let taking : (p : ℕ) → is_in p pages ≡ true
+    → is_taking (place_of d.places p) ≡ true =
+    λ p here. named_place p head d.deflate.sent is_taking (place_of d.places p) small
+    (kept.taking p) here in
     kept_moved d areas2 pages Free d.inflate (after_reap d.deflate head) (record {
       kept = kept;
       there = λ p here. there_by d.places p is_taking refl (taking p here);
-      unreserved = λ p here. ap (is_at Reserved) (at_is Taking (place_of d.places p) (taking p here));
+      unreserved = λ p here. ap (is_at Reserved)
+          (at_is Taking (place_of d.places p) (taking p here));
       unused = λ p here. ap is_used (at_is Taking (place_of d.places p) (taking p here));
       inflate = kept.inflate;
       deflate = reaped_queue d.deflate 1 d.queue_size head kept.deflate;
-      giving = λ p. naming_same p pages d.inflate.sent is_giving Free (place_of d.places p) (kept.giving p) (λ here. ap is_giving (at_is Taking (place_of d.places p) (taking p here)));
-      taking = λ p. naming_less p head d.deflate.sent is_taking Free (place_of d.places p) small (kept.taking p);
-      free = given ∙ (ap (marked pages true) kept.free ∙ free_marked d.places pages pages Free true (λ p place is. agree place (is_in p pages)));
+      giving = λ p. naming_same p pages d.inflate.sent is_giving Free (place_of d.places p)
+          (kept.giving p) (λ here. ap is_giving
+          (at_is Taking (place_of d.places p) (taking p here)));
+      taking = λ p. naming_less p head d.deflate.sent is_taking Free (place_of d.places p) small
+          (kept.taking p);
+      free = given ∙ (ap (marked pages true) kept.free
+          ∙ free_marked d.places pages pages Free true (λ p place is. agree place (is_in p pages)));
       processors = processors;
       proper = refl;
     })
@@ -214,79 +317,116 @@ freed_kept d areas2 head lt kept given processors =
 
 -- ---- counts of what is moved
 
-pub length_pages : (k : ℕ) (test : Place → Bool) (xs : List Place) → length (pages_from k test xs) ≡ count_by test xs
+pub length_pages : (k : ℕ) (test : Place → Bool) (xs : List Place)
+    → length (pages_from k test xs) ≡ count_by test xs
 length_pages k test [] = refl
-length_pages k test (x ∷ xs) = at (test x) (length_pages (suc k) test xs) ∙ sym (count_by-cons test x xs)
+length_pages k test (x ∷ xs) =
+    at (test x) (length_pages (suc k) test xs) ∙ sym (count_by-cons test x xs)
   where
-    at : (b : Bool) → length (pages_from (suc k) test xs) ≡ count_by test xs → length (cond b (k ∷ pages_from (suc k) test xs) (pages_from (suc k) test xs)) ≡ one_if b + count_by test xs
+    at : (b : Bool) → length (pages_from (suc k) test xs) ≡ count_by test xs
+        → length (cond b (k ∷ pages_from (suc k) test xs) (pages_from (suc k) test xs))
+        ≡ one_if b + count_by test xs
     at true ih = omega arith
     at false ih = omega arith
 
-pub count_map : (test : Place → Bool) (xs : List Place) → count_by (λ f. f) (map test xs) ≡ count_by test xs
+pub count_map : (test : Place → Bool) (xs : List Place)
+    → count_by (λ f. f) (map test xs) ≡ count_by test xs
 count_map test [] = refl
-count_map test (x ∷ xs) = count_by-cons (λ f. f) (test x) (map test xs) ∙ (ap (λ n. one_if (test x) + n) (count_map test xs) ∙ sym (count_by-cons test x xs))
+count_map test (x ∷ xs) =
+    count_by-cons (λ f. f) (test x) (map test xs)
+    ∙ (ap (λ n. one_if (test x) + n) (count_map test xs) ∙ sym (count_by-cons test x xs))
 
 -- enough pages are free
-pub others_there : (d : DriverState) (count len : ℕ) (free : List Bool) → free ≡ map is_free d.places → len ≡ length (stranded_first d count) → count ≤ count_by is_stranded d.places + count_by is_free d.places
+pub others_there : (d : DriverState) (count len : ℕ) (free : List Bool)
+    → free ≡ map is_free d.places → len ≡ length (stranded_first d count)
+    → count ≤ count_by is_stranded d.places + count_by is_free d.places
     → count - len ≤ count_by (λ f. f) free
 others_there d count len free is len_is there =
-    let all : count_by (λ f. f) free ≡ count_by is_free d.places = ap (count_by (λ f. f)) is ∙ count_map is_free d.places in
-    let many : length (pages_where is_stranded d.places) ≡ count_by is_stranded d.places = length_pages 0 is_stranded d.places in
+    let all : count_by (λ f. f) free ≡ count_by is_free d.places =
+    ap (count_by (λ f. f)) is ∙ count_map is_free d.places in
+    let many : length (pages_where is_stranded d.places) ≡ count_by is_stranded d.places =
+    length_pages 0 is_stranded d.places in
     omega (arith, length-take count (pages_where is_stranded d.places))
 
 pub first_few : (d : DriverState) (count : ℕ) → length (stranded_first d count) ≤ count
 first_few d count = omega (arith, length-take count (pages_where is_stranded d.places))
 
-pub list_all_same : (f h : ℕ → Bool) (xs : List ℕ) → ((p : ℕ) → f p ≡ h p) → list_all f xs ≡ list_all h xs
+pub list_all_same : (f h : ℕ → Bool) (xs : List ℕ) → ((p : ℕ) → f p ≡ h p)
+    → list_all f xs ≡ list_all h xs
 list_all_same f h [] same = refl
-list_all_same f h (x ∷ xs) same = ap (λ v. v && list_all f xs) (same x) ∙ ap (λ v. h x && v) (list_all_same f h xs same)
+list_all_same f h (x ∷ xs) same =
+    ap (λ v. v && list_all f xs) (same x) ∙ ap (λ v. h x && v) (list_all_same f h xs same)
 
-pub free_is_place : (places : List Place) (free : List Bool) (p : ℕ) → free ≡ map is_free places → is_free_at free p ≡ is_free (place_of places p)
+pub free_is_place : (places : List Place) (free : List Bool) (p : ℕ) → free ≡ map is_free places
+    → is_free_at free p ≡ is_free (place_of places p)
 free_is_place places free p is = ap (λ l. is_free_at l p) is ∙ elim (cases_lt p (length places)) [
   | inl lt ↦ get_or-map is_free places p Reserved false lt
-  | inr past ↦ get_or_past (map is_free places) p false (omega (arith, length-map places is_free)) ∙ ap is_free (sym (get_or_past places p Reserved past))
+  | inr past ↦ get_or_past (map is_free places) p false (omega (arith, length-map places is_free))
+      ∙ ap is_free (sym (get_or_past places p Reserved past))
 ]
 
-pub others_free : (d : DriverState) (free : List Bool) (others : List ℕ) → free ≡ map is_free d.places → list_all (is_free_at free) others ≡ true → list_all (λ page. is_free (place_of d.places page)) others ≡ true
-others_free d free others is all = sym (list_all_same (is_free_at free) (λ page. is_free (place_of d.places page)) others (λ p. free_is_place d.places free p is)) ∙ all
+pub others_free : (d : DriverState) (free : List Bool) (others : List ℕ)
+    → free ≡ map is_free d.places → list_all (is_free_at free) others ≡ true
+    → list_all (λ page. is_free (place_of d.places page)) others ≡ true
+others_free d free others is all =
+    sym (list_all_same (is_free_at free) (λ page. is_free (place_of d.places page)) others
+    (λ p. free_is_place d.places free p is)) ∙ all
 
-pub offered_inside : (d : DriverState) (count p : ℕ) (others : List ℕ) → list_all (λ page. is_free (place_of d.places page)) others ≡ true → is_in p (stranded_first d count ++ others) ≡ true → p < length d.places
-offered_inside d count p others free here = elim (is_in-append p (stranded_first d count) others here) [
-  | inl f ↦ there_by d.places p is_stranded refl (lowest_is d.places count is_stranded p f)
-  | inr o ↦ there_by d.places p is_free refl (list_all-at (λ page. is_free (place_of d.places page)) others p free o)
-]
+pub offered_inside : (d : DriverState) (count p : ℕ) (others : List ℕ)
+    → list_all (λ page. is_free (place_of d.places page)) others ≡ true
+    → is_in p (stranded_first d count ++ others) ≡ true → p < length d.places
+offered_inside d count p others free here =
+    elim (is_in-append p (stranded_first d count) others here) [
+      | inl f ↦ there_by d.places p is_stranded refl (lowest_is d.places count is_stranded p f)
+      | inr o ↦ there_by d.places p is_free refl
+          (list_all-at (λ page. is_free (place_of d.places page)) others p free o)
+    ]
 
 -- ---- the pages of a request that is out
 
-pub lent_inside : (d : DriverState) (head p : ℕ) → head < 16 → IsDriver d → is_in p (sent_by d.inflate head) ≡ true → p < length d.places
+pub lent_inside : (d : DriverState) (head p : ℕ) → head < 16 → IsDriver d
+    → is_in p (sent_by d.inflate head) ≡ true → p < length d.places
 lent_inside d head p lt kept here =
-    there_by d.places p is_giving refl (named_place p head d.inflate.sent is_giving (place_of d.places p) (omega (arith, kept.inflate.requests.buffers)) (kept.giving p) here)
+    there_by d.places p is_giving refl
+    (named_place p head d.inflate.sent is_giving (place_of d.places p)
+    (omega (arith, kept.inflate.requests.buffers)) (kept.giving p) here)
 
-pub freed_taking : (d : DriverState) (head p : ℕ) → head < 16 → IsDriver d → is_in p (sent_by d.deflate head) ≡ true → place_of d.places p ≡ Taking
+pub freed_taking : (d : DriverState) (head p : ℕ) → head < 16 → IsDriver d
+    → is_in p (sent_by d.deflate head) ≡ true → place_of d.places p ≡ Taking
 freed_taking d head p lt kept here =
-    at_is Taking (place_of d.places p) (named_place p head d.deflate.sent is_taking (place_of d.places p) (omega (arith, kept.deflate.requests.buffers)) (kept.taking p) here)
+    at_is Taking (place_of d.places p)
+    (named_place p head d.deflate.sent is_taking (place_of d.places p)
+    (omega (arith, kept.deflate.requests.buffers)) (kept.taking p) here)
 
-pub freed_once : (d : DriverState) (head p : ℕ) → head < 16 → IsDriver d → times p (sent_by d.deflate head) ≤ 1
-freed_once d head p lt kept = named_once p head d.deflate.sent is_taking (place_of d.places p) (omega (arith, kept.deflate.requests.buffers)) (kept.taking p)
+pub freed_once : (d : DriverState) (head p : ℕ) → head < 16 → IsDriver d
+    → times p (sent_by d.deflate head) ≤ 1
+freed_once d head p lt kept =
+    named_once p head d.deflate.sent is_taking (place_of d.places p)
+    (omega (arith, kept.deflate.requests.buffers)) (kept.taking p)
 
-pub freed_uncovered : (d : DriverState) (p : ℕ) → IsDriver d → place_of d.places p ≡ Taking → is_covered p d.held ≡ false
+pub freed_uncovered : (d : DriverState) (p : ℕ) → IsDriver d → place_of d.places p ≡ Taking
+    → is_covered p d.held ≡ false
 freed_uncovered d p kept is = at (is_covered p d.held) refl
   where
     at : (b : Bool) → is_covered p d.held ≡ b → is_covered p d.held ≡ false
     at false e = e
     at true e = (let wrong : true ≡ false = sym (ap is_used (kept.used p e)) ∙ ap is_used is in cc)
 
-pub freed_unfree : (d : DriverState) (p : ℕ) → IsDriver d → place_of d.places p ≡ Taking → is_free_at (flags_of d.areas) p ≡ false
+pub freed_unfree : (d : DriverState) (p : ℕ) → IsDriver d → place_of d.places p ≡ Taking
+    → is_free_at (flags_of d.areas) p ≡ false
 freed_unfree d p kept is = free_is_place d.places (flags_of d.areas) p kept.free ∙ ap is_free is
 
-pub freed_inside : (d : DriverState) (p : ℕ) → IsDriver d → place_of d.places p ≡ Taking → (p < length (flags_of d.areas)) × (p < length d.places)
+pub freed_inside : (d : DriverState) (p : ℕ) → IsDriver d → place_of d.places p ≡ Taking
+    → (p < length (flags_of d.areas)) × (p < length d.places)
 freed_inside d p kept is =
     let inside : p < length d.places = there_by d.places p is_taking refl (ap is_taking is) in
     (omega (arith, ap length kept.free, length-map d.places is_free), inside)
 
-pub freed_unreserved : (d : DriverState) (p : ℕ) → IsDriver d → place_of d.places p ≡ Taking → 16 ≤ p
+pub freed_unreserved : (d : DriverState) (p : ℕ) → IsDriver d → place_of d.places p ≡ Taking
+    → 16 ≤ p
 freed_unreserved d p kept is = elim (cases_lt p 16) [
-  | inl low ↦ (let wrong : true ≡ false = sym (ap is_taking is) ∙ ap is_taking (kept.reserved p low) in cc)
+  | inl low ↦ (let wrong : true ≡ false = sym (ap is_taking is)
+      ∙ ap is_taking (kept.reserved p low) in cc)
   | inr far ↦ far
 ]
 
@@ -312,15 +452,18 @@ reported_after Taking e = refl
 reported_after Stranded e = refl
 reported_after Reporting e = cc
 
-free_all_after : (xs : List Place) → ((p : ℕ) → is_reporting (place_of xs p) ≡ false) → map is_free (map place_after_reset xs) ≡ map is_free xs
+free_all_after : (xs : List Place) → ((p : ℕ) → is_reporting (place_of xs p) ≡ false)
+    → map is_free (map place_after_reset xs) ≡ map is_free xs
 free_all_after [] none = refl
 free_all_after (x ∷ xs) none =
     let here : is_reporting x ≡ false = none 0 in
-    ap (λ v. v ∷ map is_free (map place_after_reset xs)) (free_after x here) ∙ ap (λ l. is_free x ∷ l) (free_all_after xs (λ p. none (suc p)))
+    ap (λ v. v ∷ map is_free (map place_after_reset xs)) (free_after x here)
+    ∙ ap (λ l. is_free x ∷ l) (free_all_after xs (λ p. none (suc p)))
 
 naming_none : (p n : ℕ) → naming p (replicate {A = List ℕ} n []) ≡ 0
 naming_none p zero = refl
-naming_none p (suc n) = let ih : naming p (replicate {A = List ℕ} n []) ≡ 0 = naming_none p n in omega (arith, ih)
+naming_none p (suc n) = let ih : naming p (replicate {A = List ℕ} n []) ≡ 0 = naming_none p n in
+    omega (arith, ih)
 
 fresh_queue : (queue size : ℕ) → IsQueue (fresh_side queue size) queue size
 fresh_queue queue size = record {
@@ -330,7 +473,13 @@ fresh_queue queue size = record {
 }
 
 pub reset_kept : (d : DriverState) (features : ℕ) → IsDriver d
-    → IsDriver (record d { places = map place_after_reset d.places; inflate = fresh_side 0 d.queue_size; deflate = fresh_side 1 d.queue_size; features = features })
+    → IsDriver (record d {
+      places = map place_after_reset d.places;
+      inflate = fresh_side 0 d.queue_size;
+      deflate = fresh_side 1 d.queue_size;
+      features =
+          features;
+    })
 reset_kept d features kept =
     record {
       table = length-map d.places place_after_reset ∙ kept.table;
@@ -341,7 +490,8 @@ reset_kept d features kept =
       deflate = fresh_queue 1 d.queue_size;
       giving = λ p. omega (arith, naming_none p 16);
       taking = λ p. omega (arith, naming_none p 16);
-      unreported = λ p. ap is_reporting (place_of-reset d.places p) ∙ reported_after (place_of d.places p) (kept.unreported p);
+      unreported = λ p. ap is_reporting (place_of-reset d.places p)
+          ∙ reported_after (place_of d.places p) (kept.unreported p);
       free = kept.free ∙ sym (free_all_after d.places kept.unreported);
       used = λ p covered. place_of-reset d.places p ∙ ap place_after_reset (kept.used p covered);
       reserved = λ p low. place_of-reset d.places p ∙ ap place_after_reset (kept.reserved p low);
@@ -356,14 +506,20 @@ reported_first false = refl
 
 reported_never : (n p : ℕ) → is_reporting (place_of (all_free n) p) ≡ false
 reported_never n p = elim (cases_lt p n) [
-  | inl lt ↦ ap is_reporting (get_or-map-range_with_len first_place 0 n p p Reserved lt (omega arith)) ∙ reported_first (nat_lt p 16)
-  | inr past ↦ ap is_reporting (get_or_past (all_free n) p Reserved (omega (arith, length-map-range_with_len first_place 0 n)))
+  | inl lt ↦ ap is_reporting
+      (get_or-map-range_with_len first_place 0 n p p Reserved lt (omega arith))
+      ∙ reported_first (nat_lt p 16)
+  | inr past ↦ ap is_reporting
+      (get_or_past (all_free n) p Reserved
+      (omega (arith, length-map-range_with_len first_place 0 n)))
 ]
 
 reserved_first : (n p : ℕ) → p < 16 → place_of (all_free n) p ≡ Reserved
 reserved_first n p low = elim (cases_lt p n) [
-  | inl lt ↦ get_or-map-range_with_len first_place 0 n p p Reserved lt (omega arith) ∙ ap (λ (b : Bool). cond b Reserved Free) (lt-ltb p 16 low)
-  | inr past ↦ get_or_past (all_free n) p Reserved (omega (arith, length-map-range_with_len first_place 0 n))
+  | inl lt ↦ get_or-map-range_with_len first_place 0 n p p Reserved lt (omega arith)
+      ∙ ap (λ (b : Bool). cond b Reserved Free) (lt-ltb p 16 low)
+  | inr past ↦ get_or_past (all_free n) p Reserved
+      (omega (arith, length-map-range_with_len first_place 0 n))
 ]
 
 pub fresh_kept : (pages size processors f : ℕ) → 64 ≤ pages → pages ≤ 16384 → IsSize size

@@ -1,11 +1,14 @@
 -- The pages of the guest's own: blocks that are allocated and freed.
-use Rattle.std.proofs.Common.{◌≡◌, ◌∙◌, sym, ap, arith, refl, ℕ, ◌+◌, ◌-◌, ◌^◌, ◌<◌, ◌≤◌, Bool, true, false, cond, eqb, not, ◌||◌, ◌&&◌, List, [], ◌∷◌, length, map, inl, inr, None, nat_le, nat_lt}
+use Rattle.std.proofs.Common.{◌≡◌, ◌∙◌, sym, ap, arith, refl, ℕ, ◌+◌, ◌-◌, ◌^◌, ◌<◌, ◌≤◌, Bool}
+use Rattle.std.proofs.Common.{true, false, cond, eqb, not, ◌||◌, ◌&&◌, List, [], ◌∷◌, length, map}
+use Rattle.std.proofs.Common.{inl, inr, None, nat_le, nat_lt}
 use Rattle.std.specs.List.{list_any, list_all, range_with_len}
 use Rattle.std.proofs.lemmas.Bool.{and_parts, or_cases, or_left, or_right, both_ways, eqb-true}
 use Rattle.std.proofs.lemmas.Nat.{pow_pos}
 use Rattle.std.proofs.lemmas.List.{length-map}
 use Rattle.vb_model.specs.Tests.{is_in}
-use Rattle.vb_model.specs.Pages.{Block, covers, pages_of, is_aligned, is_same_block, is_wholly_free, place_of, placed, is_free, is_used, is_giving, is_taking}
+use Rattle.vb_model.specs.Pages.{Block, covers, pages_of, is_aligned, is_same_block, is_wholly_free}
+use Rattle.vb_model.specs.Pages.{place_of, placed, is_free, is_used, is_giving, is_taking}
 use Rattle.vb_model.specs.Driver.{with_block, without_block}
 use Rattle.vb_model.specs.Refusals.{first_refusal, ◌⇒◌}
 use Rattle.vb_model.specs.declared.places.Place.{Place}
@@ -19,7 +22,8 @@ use Rattle.vb_pages.proofs.Sets.{in_block}
 use Rattle.vb_driver.specs.Places.{is_at}
 use Rattle.vb_driver.specs.State.{DriverState, page_state, IsDriver}
 use Rattle.vb_driver.specs.Answers.{block_at, alloc_tests}
-use Rattle.vb_driver.specs.Areas.{flags_of, AreApart, Becomes, is_free_at, is_covered, is_free_block}
+use Rattle.vb_driver.specs.Areas.{flags_of, AreApart, Becomes, is_free_at, is_covered}
+use Rattle.vb_driver.specs.Areas.{is_free_block}
 use Rattle.vb_driver.specs.Places.{marked}
 use Rattle.vb_driver.proofs.Naming.{naming_same}
 use Rattle.vb_driver.proofs.Keeping.{kept_changed, there_by, free_marked}
@@ -29,30 +33,52 @@ use Rattle.vb_driver.proofs.Counting.{at_is}
 
 -- ---- free blocks
 
-list_any_same : {A : Type 0} (f h : A → Bool) (xs : List A) → ((x : A) → f x ≡ h x) → list_any f xs ≡ list_any h xs
+list_any_same : {A : Type 0} (f h : A → Bool) (xs : List A) → ((x : A) → f x ≡ h x)
+    → list_any f xs ≡ list_any h xs
 list_any_same f h [] same = refl
-list_any_same f h (x ∷ xs) same = ap (λ (v : Bool). v || list_any f xs) (same x) ∙ ap (λ (v : Bool). h x || v) (list_any_same f h xs same)
+list_any_same f h (x ∷ xs) same =
+    ap (λ (v : Bool). v || list_any f xs) (same x)
+    ∙ ap (λ (v : Bool). h x || v) (list_any_same f h xs same)
 
-pub whole_is : (places : List Place) (free : List Bool) (b : Block) → free ≡ map is_free places → is_free_block free b ≡ is_wholly_free places b
-whole_is places free b is = ap (λ (v : Bool). is_aligned b && v) (list_all_same (is_free_at free) (λ page. is_free (place_of places page)) (pages_of b) (λ p. free_is_place places free p is))
+pub whole_is : (places : List Place) (free : List Bool) (b : Block) → free ≡ map is_free places
+    → is_free_block free b ≡ is_wholly_free places b
+whole_is places free b is =
+    ap (λ (v : Bool). is_aligned b && v)
+    (list_all_same (is_free_at free) (λ page. is_free (place_of places page)) (pages_of b)
+    (λ p. free_is_place places free p is))
 
 -- a block of the areas is one of the driver
 pub blocks_same : (d : DriverState) (order : ℕ) → IsDriver d
-    → list_any (λ start. is_free_block (flags_of d.areas) (block_at start order)) (range_with_len 0 (length (flags_of d.areas))) ≡ list_any (λ start. is_wholly_free d.places (block_at start order)) (range_with_len 0 d.pages)
+    → list_any (λ start. is_free_block (flags_of d.areas) (block_at start order))
+    (range_with_len 0 (length (flags_of d.areas)))
+    ≡ list_any (λ start. is_wholly_free d.places (block_at start order))
+    (range_with_len 0 d.pages)
 blocks_same d order kept =
-    ap (λ (n : ℕ). list_any (λ start. is_free_block (flags_of d.areas) (block_at start order)) (range_with_len 0 n)) (ap length kept.free ∙ (length-map d.places is_free ∙ kept.table))
-    ∙ list_any_same (λ start. is_free_block (flags_of d.areas) (block_at start order)) (λ start. is_wholly_free d.places (block_at start order)) (range_with_len 0 d.pages) (λ start. whole_is d.places (flags_of d.areas) (block_at start order) kept.free)
+    ap (λ (n : ℕ). list_any (λ start. is_free_block (flags_of d.areas) (block_at start order))
+    (range_with_len 0 n)) (ap length kept.free ∙ (length-map d.places is_free ∙ kept.table))
+    ∙ list_any_same (λ start. is_free_block (flags_of d.areas) (block_at start order))
+    (λ start. is_wholly_free d.places (block_at start order)) (range_with_len 0 d.pages)
+    (λ start. whole_is d.places (flags_of d.areas) (block_at start order) kept.free)
 
 -- the areas refuse an allocation as the driver does
 pub alloc_tests_same : (d : DriverState) (cpu order : ℕ) → IsDriver d
-    → first_refusal ((nat_lt 9 order ⇒ BadOrder) ∷ (nat_le (length d.areas.lists) cpu ⇒ BadCpu) ∷ (not (list_any (λ start. is_free_block (flags_of d.areas) (block_at start order)) (range_with_len 0 (length (flags_of d.areas)))) ⇒ NoPages) ∷ []) ≡ first_refusal (alloc_tests d cpu order)
+    → first_refusal ((nat_lt 9 order ⇒ BadOrder) ∷ (nat_le (length d.areas.lists) cpu ⇒ BadCpu)
+    ∷ (not (list_any (λ start. is_free_block (flags_of d.areas) (block_at start order))
+    (range_with_len 0 (length (flags_of d.areas)))) ⇒ NoPages) ∷ [])
+    ≡ first_refusal (alloc_tests d cpu order)
 alloc_tests_same d cpu order kept =
-    let some = list_any (λ start. is_free_block (flags_of d.areas) (block_at start order)) (range_with_len 0 (length (flags_of d.areas))) in
-    ap (λ (n : ℕ). first_refusal ((nat_lt 9 order ⇒ BadOrder) ∷ (nat_le n cpu ⇒ BadCpu) ∷ (not some ⇒ NoPages) ∷ [])) kept.processors
-    ∙ ap (λ (v : Bool). first_refusal ((nat_lt 9 order ⇒ BadOrder) ∷ (nat_le d.processors cpu ⇒ BadCpu) ∷ (not v ⇒ NoPages) ∷ [])) (blocks_same d order kept)
+    let some = list_any (λ start. is_free_block (flags_of d.areas) (block_at start order))
+    (range_with_len 0 (length (flags_of d.areas))) in
+    ap (λ (n : ℕ). first_refusal
+    ((nat_lt 9 order ⇒ BadOrder) ∷ (nat_le n cpu ⇒ BadCpu) ∷ (not some ⇒ NoPages) ∷ []))
+    kept.processors
+    ∙ ap (λ (v : Bool). first_refusal
+    ((nat_lt 9 order ⇒ BadOrder) ∷ (nat_le d.processors cpu ⇒ BadCpu) ∷ (not v ⇒ NoPages) ∷ []))
+    (blocks_same d order kept)
 
 -- a block whose last page is there lies within
-block_inside : (n : ℕ) (b : Block) → ((p : ℕ) → is_in p (pages_of b) ≡ true → p < n) → b.start + 2 ^ b.order ≤ n
+block_inside : (n : ℕ) (b : Block) → ((p : ℕ) → is_in p (pages_of b) ≡ true → p < n)
+    → b.start + 2 ^ b.order ≤ n
 block_inside n b there =
     let some = pow_pos b.order in
     let last = b.start + (2 ^ b.order - 1) in
@@ -67,26 +93,34 @@ swap true false z = refl
 swap false true z = refl
 swap false false z = refl
 
-pub covered_with : (p : ℕ) (b : Block) (held : List Block) → is_covered p (with_block b held) ≡ (covers p b || is_covered p held)
+pub covered_with : (p : ℕ) (b : Block) (held : List Block)
+    → is_covered p (with_block b held) ≡ (covers p b || is_covered p held)
 covered_with p b [] = refl
 covered_with p b (h ∷ held) = at (nat_lt b.start h.start) (covered_with p b held)
   where
-    at : (v : Bool) → is_covered p (with_block b held) ≡ (covers p b || is_covered p held) → is_covered p (cond v (b ∷ h ∷ held) (h ∷ with_block b held)) ≡ (covers p b || (covers p h || is_covered p held))
+    at : (v : Bool) → is_covered p (with_block b held) ≡ (covers p b || is_covered p held)
+        → is_covered p (cond v (b ∷ h ∷ held) (h ∷ with_block b held))
+        ≡ (covers p b || (covers p h || is_covered p held))
     at true ih = refl
-    at false ih = ap (λ (v : Bool). covers p h || v) ih ∙ swap (covers p h) (covers p b) (is_covered p held)
+    at false ih = ap (λ (v : Bool). covers p h || v) ih
+        ∙ swap (covers p h) (covers p b) (is_covered p held)
 
-pub covered_without : (p : ℕ) (b : Block) (held : List Block) → is_covered p (without_block b held) ≡ true → is_covered p held ≡ true
+pub covered_without : (p : ℕ) (b : Block) (held : List Block)
+    → is_covered p (without_block b held) ≡ true → is_covered p held ≡ true
 covered_without p b [] covered = covered
 covered_without p b (x ∷ held) covered = at (is_same_block x b) covered (covered_without p b held)
   where
-    at : (v : Bool) → is_covered p (cond v held (x ∷ without_block b held)) ≡ true → (is_covered p (without_block b held) ≡ true → is_covered p held ≡ true) → (covers p x || is_covered p held) ≡ true
+    at : (v : Bool) → is_covered p (cond v held (x ∷ without_block b held)) ≡ true
+        → (is_covered p (without_block b held) ≡ true → is_covered p held ≡ true)
+        → (covers p x || is_covered p held) ≡ true
     at true h ih = or_right (covers p x) (is_covered p held) h
     at false h ih = elim (or_cases (covers p x) (is_covered p (without_block b held)) h) [
       | inl here ↦ or_left (covers p x) (is_covered p held) here
       | inr later ↦ or_right (covers p x) (is_covered p held) (ih later)
     ]
 
-pub covered_held : (p : ℕ) (b : Block) (held : List Block) → list_any (λ h. is_same_block h b) held ≡ true → covers p b ≡ true → is_covered p held ≡ true
+pub covered_held : (p : ℕ) (b : Block) (held : List Block)
+    → list_any (λ h. is_same_block h b) held ≡ true → covers p b ≡ true → is_covered p held ≡ true
 covered_held p b [] found covered = found
 covered_held p b (x ∷ held) found covered =
     elim (or_cases (is_same_block x b) (list_any (λ h. is_same_block h b) held) found) [
@@ -94,36 +128,57 @@ covered_held p b (x ∷ held) found covered =
           let parts = and_parts (eqb x.start b.start) (eqb x.order b.order) same in
           let start : x.start ≡ b.start = eqb-true x.start b.start parts.0 in
           let order : x.order ≡ b.order = eqb-true x.order b.order parts.1 in
-          or_left (covers p x) (is_covered p held) (ap (λ (n : ℕ). covers p (block_at n x.order)) start ∙ (ap (λ (n : ℕ). covers p (block_at b.start n)) order ∙ covered))
+          or_left (covers p x) (is_covered p held)
+          (ap (λ (n : ℕ). covers p (block_at n x.order)) start
+          ∙ (ap (λ (n : ℕ). covers p (block_at b.start n)) order ∙ covered))
       | inr later ↦ or_right (covers p x) (is_covered p held) (covered_held p b held later covered)
     ]
 
 -- ---- a block is allocated
 
 -- each page of a free block is free
-block_free : (d : DriverState) (b : Block) (p : ℕ) → IsDriver d → is_free_block (flags_of d.areas) b ≡ true → is_in p (pages_of b) ≡ true → place_of d.places p ≡ Free
+block_free : (d : DriverState) (b : Block) (p : ℕ) → IsDriver d
+    → is_free_block (flags_of d.areas) b ≡ true → is_in p (pages_of b) ≡ true
+    → place_of d.places p ≡ Free
 block_free d b p kept whole here =
-    let all = (and_parts (is_aligned b) (list_all (is_free_at (flags_of d.areas)) (pages_of b)) whole).1 in
-    at_is Free (place_of d.places p) (sym (free_is_place d.places (flags_of d.areas) p kept.free) ∙ list_all-at (is_free_at (flags_of d.areas)) (pages_of b) p all here)
+    let all = (and_parts (is_aligned b) (list_all (is_free_at (flags_of d.areas)) (pages_of b))
+    whole).1 in
+    at_is Free (place_of d.places p)
+    (sym (free_is_place d.places (flags_of d.areas) p kept.free)
+    ∙ list_all-at (is_free_at (flags_of d.areas)) (pages_of b) p all here)
 
-pub free_block_inside : (d : DriverState) (b : Block) → IsDriver d → is_free_block (flags_of d.areas) b ≡ true → b.start + 2 ^ b.order ≤ length d.places
-free_block_inside d b kept whole = block_inside (length d.places) b (λ p here. there_by d.places p is_free refl (ap is_free (block_free d b p kept whole here)))
+pub free_block_inside : (d : DriverState) (b : Block) → IsDriver d
+    → is_free_block (flags_of d.areas) b ≡ true → b.start + 2 ^ b.order ≤ length d.places
+free_block_inside d b kept whole =
+    block_inside (length d.places) b
+    (λ p here. there_by d.places p is_free refl (ap is_free (block_free d b p kept whole here)))
 
-pub allocated_kept : (d : DriverState) (areas2 : FreePages) (b : Block) → IsDriver d → is_free_block (flags_of d.areas) b ≡ true
-    → flags_of areas2 ≡ marked (pages_of b) false (flags_of d.areas) → length areas2.lists ≡ length d.areas.lists
-    → IsDriver (record d { places = placed (pages_of b) Used d.places; held = with_block b d.held; areas = areas2 })
+pub allocated_kept : (d : DriverState) (areas2 : FreePages) (b : Block) → IsDriver d
+    → is_free_block (flags_of d.areas) b ≡ true
+    → flags_of areas2 ≡ marked (pages_of b) false (flags_of d.areas)
+    → length areas2.lists ≡ length d.areas.lists
+    → IsDriver (record d {
+      places = placed (pages_of b) Used d.places;
+      held = with_block b d.held;
+      areas = areas2;
+    })
 allocated_kept d areas2 b kept whole taken processors =
     let pages = pages_of b in
-    let free : (p : ℕ) → is_in p pages ≡ true → place_of d.places p ≡ Free = λ p here. block_free d b p kept whole here in
+    let free : (p : ℕ) → is_in p pages ≡ true
+    → place_of d.places p ≡ Free = λ p here. block_free d b p kept whole here in
     kept_changed d areas2 pages Used (with_block b d.held) d.inflate d.deflate (record {
       kept = kept;
       there = λ p here. there_by d.places p is_free refl (ap is_free (free p here));
       unreserved = λ p here. ap (is_at Reserved) (free p here);
       inflate = kept.inflate;
       deflate = kept.deflate;
-      giving = λ p. naming_same p pages d.inflate.sent is_giving Used (place_of d.places p) (kept.giving p) (λ here. ap is_giving (free p here));
-      taking = λ p. naming_same p pages d.deflate.sent is_taking Used (place_of d.places p) (kept.taking p) (λ here. ap is_taking (free p here));
-      free = taken ∙ (ap (marked pages false) kept.free ∙ free_marked d.places pages pages Used false (λ p place is. agree place (is_in p pages)));
+      giving = λ p. naming_same p pages d.inflate.sent is_giving Used (place_of d.places p)
+          (kept.giving p) (λ here. ap is_giving (free p here));
+      taking = λ p. naming_same p pages d.deflate.sent is_taking Used (place_of d.places p)
+          (kept.taking p) (λ here. ap is_taking (free p here));
+      free = taken ∙ (ap (marked pages false) kept.free
+          ∙ free_marked d.places pages pages Used false
+          (λ p place is. agree place (is_in p pages)));
       processors = processors;
       proper = refl;
       used = λ p covered. used_at p (is_in p pages) refl (sym (covered_with p b d.held) ∙ covered);
@@ -133,12 +188,19 @@ allocated_kept d areas2 b kept whole taken processors =
     agree place true = refl
     agree place false = refl
 
-    used_at : (p : ℕ) (v : Bool) → is_in p (pages_of b) ≡ v → (covers p b || is_covered p d.held) ≡ true → cond (is_in p (pages_of b)) Used (place_of d.places p) ≡ Used
+    used_at : (p : ℕ) (v : Bool) → is_in p (pages_of b) ≡ v
+        → (covers p b || is_covered p d.held) ≡ true
+        → cond (is_in p (pages_of b)) Used (place_of d.places p) ≡ Used
     used_at p true e covered = ap (λ (v : Bool). cond v Used (place_of d.places p)) e
-    used_at p false e covered = ap (λ (v : Bool). cond v Used (place_of d.places p)) e ∙ kept.used p (ap (λ (v : Bool). v || is_covered p d.held) (sym (covers_is p b false e)) ∙ covered)
+    used_at p false e covered =
+        ap (λ (v : Bool). cond v Used (place_of d.places p)) e
+        ∙ kept.used p (ap (λ (v : Bool). v || is_covered p d.held) (sym (covers_is p b false e))
+        ∙ covered)
 
 -- a block is refused, though lists may be drained
-pub unallocated_kept : (d : DriverState) (new : PageState) → IsDriver d → Becomes (page_state d) new (flags_of d.areas) d.held → IsDriver (record d { held = new.held; areas = new.free })
+pub unallocated_kept : (d : DriverState) (new : PageState) → IsDriver d
+    → Becomes (page_state d) new (flags_of d.areas) d.held
+    → IsDriver (record d { held = new.held; areas = new.free })
 unallocated_kept d new kept becomes = record {
   table = kept.table;
   least = kept.least;
@@ -158,37 +220,60 @@ unallocated_kept d new kept becomes = record {
 -- ---- a block is freed
 
 -- each page of a held block is used
-block_used : (d : DriverState) (b : Block) (p : ℕ) → IsDriver d → list_any (λ h. is_same_block h b) d.held ≡ true → is_in p (pages_of b) ≡ true → place_of d.places p ≡ Used
-block_used d b p kept held here = kept.used p (covered_held p b d.held held (covers_is p b true here))
+block_used : (d : DriverState) (b : Block) (p : ℕ) → IsDriver d
+    → list_any (λ h. is_same_block h b) d.held ≡ true → is_in p (pages_of b) ≡ true
+    → place_of d.places p ≡ Used
+block_used d b p kept held here =
+    kept.used p (covered_held p b d.held held (covers_is p b true here))
 
-pub held_block_inside : (d : DriverState) (b : Block) → IsDriver d → list_any (λ h. is_same_block h b) d.held ≡ true → b.start + 2 ^ b.order ≤ length d.places
-held_block_inside d b kept held = block_inside (length d.places) b (λ p here. there_by d.places p is_used refl (ap is_used (block_used d b p kept held here)))
+pub held_block_inside : (d : DriverState) (b : Block) → IsDriver d
+    → list_any (λ h. is_same_block h b) d.held ≡ true → b.start + 2 ^ b.order ≤ length d.places
+held_block_inside d b kept held =
+    block_inside (length d.places) b
+    (λ p here. there_by d.places p is_used refl (ap is_used (block_used d b p kept held here)))
 
 -- what a free that isn't refused gave back was held
-pub freed_was_held : (held : List Block) (b : Block) (processors cpu : ℕ) → None ≡ first_refusal ((nat_lt 9 b.order ⇒ BadOrder) ∷ (nat_le processors cpu ⇒ BadCpu) ∷ (not (list_any (λ h. is_same_block h b) held) ⇒ NotHeld) ∷ []) → list_any (λ h. is_same_block h b) held ≡ true
-freed_was_held held b processors cpu e = at (nat_lt 9 b.order) (nat_le processors cpu) (list_any (λ h. is_same_block h b) held) e
+pub freed_was_held : (held : List Block) (b : Block) (processors cpu : ℕ)
+    → None ≡ first_refusal
+    ((nat_lt 9 b.order ⇒ BadOrder) ∷ (nat_le processors cpu ⇒ BadCpu)
+    ∷ (not (list_any (λ h. is_same_block h b) held) ⇒ NotHeld) ∷ [])
+    → list_any (λ h. is_same_block h b) held ≡ true
+freed_was_held held b processors cpu e =
+    at (nat_lt 9 b.order) (nat_le processors cpu) (list_any (λ h. is_same_block h b) held) e
   where
-    at : (x y v : Bool) → None ≡ first_refusal ((x ⇒ BadOrder) ∷ (y ⇒ BadCpu) ∷ (not v ⇒ NotHeld) ∷ []) → v ≡ true
+    at : (x y v : Bool) → None
+        ≡ first_refusal ((x ⇒ BadOrder) ∷ (y ⇒ BadCpu) ∷ (not v ⇒ NotHeld) ∷ []) → v ≡ true
     at true y v e = cc
     at false true v e = cc
     at false false true e = refl
     at false false false e = cc
 
-pub block_freed_kept : (d : DriverState) (new : PageState) (b : Block) → IsDriver d → list_any (λ h. is_same_block h b) d.held ≡ true
-    → flags_of new.free ≡ marked (pages_of b) true (flags_of d.areas) → new.held ≡ without_block b d.held → length new.free.lists ≡ length d.areas.lists → AreApart new
-    → IsDriver (record d { places = placed (pages_of b) Free d.places; held = without_block b d.held; areas = new.free })
+pub block_freed_kept : (d : DriverState) (new : PageState) (b : Block) → IsDriver d
+    → list_any (λ h. is_same_block h b) d.held ≡ true
+    → flags_of new.free ≡ marked (pages_of b) true (flags_of d.areas)
+    → new.held ≡ without_block b d.held → length new.free.lists ≡ length d.areas.lists
+    → AreApart new
+    → IsDriver (record d {
+      places = placed (pages_of b) Free d.places;
+      held = without_block b d.held;
+      areas = new.free;
+    })
 block_freed_kept d new b kept held given rest processors apart =
     let pages = pages_of b in
-    let used : (p : ℕ) → is_in p pages ≡ true → place_of d.places p ≡ Used = λ p here. block_used d b p kept held here in
+    let used : (p : ℕ) → is_in p pages ≡ true
+    → place_of d.places p ≡ Used = λ p here. block_used d b p kept held here in
     kept_changed d new.free pages Free (without_block b d.held) d.inflate d.deflate (record {
       kept = kept;
       there = λ p here. there_by d.places p is_used refl (ap is_used (used p here));
       unreserved = λ p here. ap (is_at Reserved) (used p here);
       inflate = kept.inflate;
       deflate = kept.deflate;
-      giving = λ p. naming_same p pages d.inflate.sent is_giving Free (place_of d.places p) (kept.giving p) (λ here. ap is_giving (used p here));
-      taking = λ p. naming_same p pages d.deflate.sent is_taking Free (place_of d.places p) (kept.taking p) (λ here. ap is_taking (used p here));
-      free = given ∙ (ap (marked pages true) kept.free ∙ free_marked d.places pages pages Free true (λ p place is. agree place (is_in p pages)));
+      giving = λ p. naming_same p pages d.inflate.sent is_giving Free (place_of d.places p)
+          (kept.giving p) (λ here. ap is_giving (used p here));
+      taking = λ p. naming_same p pages d.deflate.sent is_taking Free (place_of d.places p)
+          (kept.taking p) (λ here. ap is_taking (used p here));
+      free = given ∙ (ap (marked pages true) kept.free
+          ∙ free_marked d.places pages pages Free true (λ p place is. agree place (is_in p pages)));
       processors = processors;
       proper = refl;
       used = λ p covered. used_at p (is_in p pages) refl covered (used p);
@@ -198,10 +283,25 @@ block_freed_kept d new b kept held given rest processors apart =
     agree place true = refl
     agree place false = refl
 
-    used_at : (p : ℕ) (v : Bool) → is_in p (pages_of b) ≡ v → is_covered p (without_block b d.held) ≡ true → (is_in p (pages_of b) ≡ true → place_of d.places p ≡ Used) → cond (is_in p (pages_of b)) Free (place_of d.places p) ≡ Used
+    used_at : (p : ℕ) (v : Bool) → is_in p (pages_of b) ≡ v
+        → is_covered p (without_block b d.held) ≡ true
+        → (is_in p (pages_of b) ≡ true → place_of d.places p ≡ Used)
+        → cond (is_in p (pages_of b)) Free (place_of d.places p) ≡ Used
     used_at p true e covered used =
-        let inside : p < length (flags_of d.areas) = omega (arith, ap length kept.free, length-map d.places is_free, there_by d.places p is_used refl (ap is_used (used e))) in
-        let free : is_free_at (flags_of new.free) p ≡ true = ap (λ (l : List Bool). is_free_at l p) given ∙ (marked-get (pages_of b) true (flags_of d.areas) p false inside ∙ ap (λ (v : Bool). cond v true (is_free_at (flags_of d.areas) p)) e) in
-        let unfree : is_free_at (flags_of new.free) p ≡ false = apart.apart p (ap (is_covered p) rest ∙ covered) in
+        let inside : p < length (flags_of d.areas) =
+        omega (
+          arith,
+          ap length kept.free,
+          length-map d.places is_free,
+          there_by d.places p is_used refl (ap is_used (used e)),
+        ) in
+        let free : is_free_at (flags_of new.free) p ≡ true =
+        ap (λ (l : List Bool). is_free_at l p) given
+        ∙ (marked-get (pages_of b) true (flags_of d.areas) p false inside
+        ∙ ap (λ (v : Bool). cond v true (is_free_at (flags_of d.areas) p)) e) in
+        let unfree : is_free_at (flags_of new.free) p ≡ false =
+        apart.apart p (ap (is_covered p) rest ∙ covered) in
         absurd (both_ways (is_free_at (flags_of new.free) p) unfree free)
-    used_at p false e covered used = ap (λ (v : Bool). cond v Free (place_of d.places p)) e ∙ kept.used p (covered_without p b d.held covered)
+    used_at p false e covered used =
+        ap (λ (v : Bool). cond v Free (place_of d.places p)) e
+        ∙ kept.used p (covered_without p b d.held covered)

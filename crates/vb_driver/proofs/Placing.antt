@@ -1,6 +1,11 @@
 -- Tables of places, as pages move one by one.
-use Rattle.std.proofs.Common.{◌≡◌, ◌∙◌, sym, ap, arith, refl, ℕ, zero, suc, ◌+◌, ◌-◌, ◌<◌, ◌≤◌, Bool, true, false, cond, eqb, ◌||◌, List, [], ◌∷◌, ◌++◌, length, take, get_or, set, map, replicate, inl, inr, eq-eqb, append-nil, if◌then◌else◌, nat_lt}
-use Rattle.std.proofs.lemmas.List.{same_lists, get_or-set_same, get_or-set_other, length-set, get_or-map, length-map, take_more, length-replicate, take-append-le, length-take}
+use Rattle.std.proofs.Common.{◌≡◌, ◌∙◌, sym, ap, arith, refl, ℕ, zero, suc, ◌+◌, ◌-◌, ◌<◌, ◌≤◌}
+use Rattle.std.proofs.Common.{Bool, true, false, cond, eqb, ◌||◌, List, [], ◌∷◌, ◌++◌, length, take}
+use Rattle.std.proofs.Common.{get_or, set, map, replicate, inl, inr, eq-eqb, append-nil}
+use Rattle.std.proofs.Common.{if◌then◌else◌, nat_lt}
+use Rattle.std.proofs.lemmas.List.{same_lists, get_or-set_same, get_or-set_other, length-set}
+use Rattle.std.proofs.lemmas.List.{get_or-map, length-map, take_more, length-replicate}
+use Rattle.std.proofs.lemmas.List.{take-append-le, length-take}
 use Rattle.std.proofs.lemmas.List.Folds.{list_any-append, list_any_at}
 use Rattle.std.proofs.lemmas.List.FromFn.{get_or-map-range_with_len, length-range_with_len}
 use Rattle.std.proofs.lemmas.Bool.{cases_eq, ne_eqb}
@@ -15,13 +20,20 @@ use Rattle.vb_model.proofs.Tables.{length-each_from, each_page-get}
 
 -- ---- some pages of a table have one value
 
-pub length-marked : {A : Type 0} (pages : List ℕ) (value : A) (table : List A) → length (marked pages value table) ≡ length table
-length-marked pages value table = length-each_from 0 (λ page old. if is_in page pages then value else old) table
+pub length-marked : {A : Type 0} (pages : List ℕ) (value : A) (table : List A)
+    → length (marked pages value table) ≡ length table
+length-marked pages value table =
+    length-each_from 0 (λ page old. if is_in page pages then value else old) table
 
-pub marked-get : {A : Type 0} (pages : List ℕ) (value : A) (table : List A) (k : ℕ) (d : A) → k < length table → get_or (marked pages value table) k d ≡ cond (is_in k pages) value (get_or table k d)
-marked-get pages value table k d lt = each_page-get (λ page old. if is_in page pages then value else old) table k d (λ far. absurd (omega arith))
+pub marked-get : {A : Type 0} (pages : List ℕ) (value : A) (table : List A) (k : ℕ) (d : A)
+    → k < length table → get_or (marked pages value table) k d
+    ≡ cond (is_in k pages) value (get_or table k d)
+marked-get pages value table k d lt =
+    each_page-get (λ page old. if is_in page pages then value else old) table k d
+    (λ far. absurd (omega arith))
 
-pub is_in-push : (k : ℕ) (xs : List ℕ) (x : ℕ) → is_in k (xs ++ x ∷ []) ≡ (is_in k xs || (eqb x k || false))
+pub is_in-push : (k : ℕ) (xs : List ℕ) (x : ℕ)
+    → is_in k (xs ++ x ∷ []) ≡ (is_in k xs || (eqb x k || false))
 is_in-push k xs x = list_any-append (λ m. eqb m k) xs (x ∷ [])
 
 pub or_false : (a : Bool) → (a || false) ≡ a
@@ -33,7 +45,8 @@ or_true true = refl
 or_true false = refl
 
 -- one page more
-pub marked_more : {A : Type 0} (xs : List ℕ) (x : ℕ) (value : A) (table : List A) → x < length table → marked (xs ++ x ∷ []) value table ≡ set (marked xs value table) x value
+pub marked_more : {A : Type 0} (xs : List ℕ) (x : ℕ) (value : A) (table : List A) → x < length table
+    → marked (xs ++ x ∷ []) value table ≡ set (marked xs value table) x value
 marked_more xs x value table lt =
     let all = marked (xs ++ x ∷ []) value table in
     let before = marked xs value table in
@@ -41,38 +54,58 @@ marked_more xs x value table lt =
     let n2 : length before ≡ length table = length-marked xs value table in
     same_lists all (set before x value) (omega (arith, length-set before x value)) (λ k d near.
     let inside : k < length table = omega arith in
-    let left : get_or all k d ≡ cond (is_in k (xs ++ x ∷ [])) value (get_or table k d) = marked-get (xs ++ x ∷ []) value table k d inside in
+    let left : get_or all k d ≡ cond (is_in k (xs ++ x ∷ [])) value (get_or table k d) =
+    marked-get (xs ++ x ∷ []) value table k d inside in
     elim (cases_eq k x) [
       | inl same ↦
-          let hit : is_in k (xs ++ x ∷ []) ≡ true = is_in-push k xs x ∙ (ap (λ v. is_in k xs || (v || false)) (eq-eqb x k (sym same)) ∙ or_true (is_in k xs)) in
-          left ∙ (ap (λ v. cond v value (get_or table k d)) hit ∙ sym (ap (λ n. get_or (set before x value) n d) same ∙ get_or-set_same before x value d (omega arith)))
+          let hit : is_in k (xs ++ x ∷ []) ≡ true =
+          is_in-push k xs x ∙ (ap (λ v. is_in k xs || (v || false)) (eq-eqb x k (sym same))
+          ∙ or_true (is_in k xs)) in
+          left ∙ (ap (λ v. cond v value (get_or table k d)) hit
+          ∙ sym (ap (λ n. get_or (set before x value) n d) same
+          ∙ get_or-set_same before x value d (omega arith)))
       | inr ne ↦
-          let miss : is_in k (xs ++ x ∷ []) ≡ is_in k xs = is_in-push k xs x ∙ (ap (λ v. is_in k xs || (v || false)) (ne_eqb x k (λ e. ne (sym e))) ∙ or_false (is_in k xs)) in
-          left ∙ (ap (λ v. cond v value (get_or table k d)) miss ∙ (sym (marked-get xs value table k d inside) ∙ sym (get_or-set_other before x k value d ne)))
+          let miss : is_in k (xs ++ x ∷ []) ≡ is_in k xs =
+          is_in-push k xs x ∙ (ap (λ v. is_in k xs || (v || false))
+          (ne_eqb x k (λ e. ne (sym e))) ∙ or_false (is_in k xs)) in
+          left ∙ (ap (λ v. cond v value (get_or table k d)) miss
+          ∙ (sym (marked-get xs value table k d inside)
+          ∙ sym (get_or-set_other before x k value d ne)))
     ])
 
 pub marked_none : {A : Type 0} (value : A) (table : List A) → marked [] value table ≡ table
-marked_none value table = same_lists (marked [] value table) table (length-marked [] value table) (λ k d near. marked-get [] value table k d (omega (arith, length-marked [] value table)))
+marked_none value table =
+    same_lists (marked [] value table) table (length-marked [] value table)
+    (λ k d near. marked-get [] value table k d (omega (arith, length-marked [] value table)))
 
 -- one page alone
-pub marked_one : {A : Type 0} (x : ℕ) (value : A) (table : List A) → x < length table → marked (x ∷ []) value table ≡ set table x value
-marked_one x value table lt = marked_more [] x value table lt ∙ ap (λ (l : List _). set l x value) (marked_none value table)
+pub marked_one : {A : Type 0} (x : ℕ) (value : A) (table : List A) → x < length table
+    → marked (x ∷ []) value table ≡ set table x value
+marked_one x value table lt =
+    marked_more [] x value table lt ∙ ap (λ (l : List _). set l x value) (marked_none value table)
 
 -- a block's pages, up to the next
-pub range_push : (start k : ℕ) → range_with_len start (suc k) ≡ range_with_len start k ++ (start + k) ∷ []
+pub range_push : (start k : ℕ)
+    → range_with_len start (suc k) ≡ range_with_len start k ++ (start + k) ∷ []
 range_push start zero = ap (λ (n : ℕ). n ∷ []) (omega arith)
 range_push start (suc k) =
-    let tail : range_with_len (start + 1) (suc k) ≡ range_with_len (start + 1) k ++ (start + suc k) ∷ [] = range_push (start + 1) k ∙ ap (λ (n : ℕ). range_with_len (start + 1) k ++ n ∷ []) (omega arith) in
+    let tail : range_with_len (start + 1) (suc k) ≡ range_with_len (start + 1) k ++ (start + suc k)
+    ∷ [] = range_push (start + 1) k
+    ∙ ap (λ (n : ℕ). range_with_len (start + 1) k ++ n ∷ []) (omega arith) in
     ap (λ (l : List ℕ). start ∷ l) tail
 
-pub placed_next : (start page : ℕ) (place : Place) (ps : List Place) → start ≤ page → page < length ps
-    → set (placed (range_with_len start (page - start)) place ps) page place ≡ placed (range_with_len start (page + 1 - start)) place ps
+pub placed_next : (start page : ℕ) (place : Place) (ps : List Place) → start ≤ page
+    → page < length ps
+    → set (placed (range_with_len start (page - start)) place ps) page place
+    ≡ placed (range_with_len start (page + 1 - start)) place ps
 placed_next start page place ps from lt =
     let k = page - start in
     let here : start + k ≡ page = omega arith in
     let next : suc k ≡ page + 1 - start = omega arith in
     sym (marked_more (range_with_len start k) page place ps lt)
-    ∙ ap (λ (l : List ℕ). placed l place ps) (ap (λ (n : ℕ). range_with_len start k ++ n ∷ []) (sym here) ∙ (sym (range_push start k) ∙ ap (λ (n : ℕ). range_with_len start n) next))
+    ∙ ap (λ (l : List ℕ). placed l place ps)
+    (ap (λ (n : ℕ). range_with_len start k ++ n ∷ []) (sym here)
+    ∙ (sym (range_push start k) ∙ ap (λ (n : ℕ). range_with_len start n) next))
 
 -- ---- each page to a place of its own
 
@@ -82,19 +115,24 @@ pub record Changing (old now : List Place) (f : ℕ → Place → Place) (i : �
   pub put : (k : ℕ) (d : Place) → k < i → k < length old → get_or now k d ≡ f k (get_or old k d)
   pub rest : (k : ℕ) (d : Place) → i ≤ k → get_or now k d ≡ get_or old k d
 
-pub changing_more : (old now : List Place) (f : ℕ → Place → Place) (i : ℕ) (y : Place) → Changing old now f i → i < length old → ((d : Place) → y ≡ f i (get_or old i d)) → Changing old (set now i y) f (i + 1)
+pub changing_more : (old now : List Place) (f : ℕ → Place → Place) (i : ℕ) (y : Place)
+    → Changing old now f i → i < length old → ((d : Place) → y ≡ f i (get_or old i d))
+    → Changing old (set now i y) f (i + 1)
 changing_more old now f i y c lt is =
     record {
       same = length-set now i y ∙ c.same;
       put = λ k d near inside. elim (cases_eq k i) [
         | inl same ↦
-            ap (λ n. get_or (set now i y) n d) same ∙ (get_or-set_same now i y d (omega (arith, c.same)) ∙ (is d ∙ sym (ap (λ n. f n (get_or old n d)) same)))
+            ap (λ n. get_or (set now i y) n d) same
+            ∙ (get_or-set_same now i y d (omega (arith, c.same))
+            ∙ (is d ∙ sym (ap (λ n. f n (get_or old n d)) same)))
         | inr ne ↦ get_or-set_other now i k y d ne ∙ c.put k d (omega (arith, ne)) inside
       ];
       rest = λ k d far. get_or-set_other now i k y d (omega arith) ∙ c.rest k d (omega arith);
     }
 
-pub changed_all : (old now : List Place) (f : Place → Place) (i : ℕ) → Changing old now (λ k. f) i → length old ≤ i → now ≡ map f old
+pub changed_all : (old now : List Place) (f : Place → Place) (i : ℕ) → Changing old now (λ k. f) i
+    → length old ≤ i → now ≡ map f old
 changed_all old now f i c all =
     same_lists now (map f old) (c.same ∙ sym (length-map old f)) (λ k d near.
     let inside : k < length old = omega (arith, c.same) in
@@ -103,72 +141,107 @@ changed_all old now f i c all =
 abbrev pub first_place : ℕ → Place
 first_place page = if nat_lt page 16 then Reserved else Free
 
-pub filled_all : (n : ℕ) (now : List Place) (i : ℕ) → Changing (replicate n Reserved) now (λ k old. first_place k) i → n ≤ i → now ≡ all_free n
+pub filled_all : (n : ℕ) (now : List Place) (i : ℕ)
+    → Changing (replicate n Reserved) now (λ k old. first_place k) i → n ≤ i → now ≡ all_free n
 filled_all n now i c all =
-    same_lists now (all_free n) (c.same ∙ (length-replicate n Reserved ∙ sym (length-map (range_with_len 0 n) first_place ∙ length-range_with_len 0 n))) (λ k d near.
+    same_lists now (all_free n)
+    (c.same ∙ (length-replicate n Reserved
+    ∙ sym (length-map (range_with_len 0 n) first_place ∙ length-range_with_len 0 n)))
+    (λ k d near.
     let inside : k < n = omega (arith, c.same, length-replicate n Reserved) in
-    c.put k d (omega arith) (omega (arith, length-replicate n Reserved)) ∙ sym (get_or-map-range_with_len first_place 0 n k k d inside (omega arith)))
+    c.put k d (omega arith) (omega (arith, length-replicate n Reserved))
+    ∙ sym (get_or-map-range_with_len first_place 0 n k k d inside (omega arith)))
 
 -- ---- the pages that pass a test
 
-pub pages_from-append : {A : Type 0} (first : ℕ) (test : A → Bool) (xs ys : List A) → pages_from first test (xs ++ ys) ≡ pages_from first test xs ++ pages_from (first + length xs) test ys
+pub pages_from-append : {A : Type 0} (first : ℕ) (test : A → Bool) (xs ys : List A)
+    → pages_from first test (xs ++ ys) ≡ pages_from first test xs
+    ++ pages_from (first + length xs) test ys
 pages_from-append first test [] ys = ap (λ n. pages_from n test ys) (omega arith)
 pages_from-append first test (x ∷ xs) ys =
-    let ih : pages_from (suc first) test (xs ++ ys) ≡ pages_from (suc first) test xs ++ pages_from (suc first + length xs) test ys = pages_from-append (suc first) test xs ys in
-    let at : pages_from (suc first + length xs) test ys ≡ pages_from (first + suc (length xs)) test ys = ap (λ n. pages_from n test ys) (omega arith) in
-    let tail : pages_from (suc first) test (xs ++ ys) ≡ pages_from (suc first) test xs ++ pages_from (first + suc (length xs)) test ys = ih ∙ ap (λ l. pages_from (suc first) test xs ++ l) at in
-    step (test x) (pages_from (suc first) test (xs ++ ys)) (pages_from (suc first) test xs) (pages_from (first + suc (length xs)) test ys) tail
+    let ih : pages_from (suc first) test (xs ++ ys) ≡ pages_from (suc first) test xs
+    ++ pages_from (suc first + length xs) test ys = pages_from-append (suc first) test xs ys in
+    let at : pages_from (suc first + length xs) test ys
+    ≡ pages_from (first + suc (length xs)) test ys =
+    ap (λ n. pages_from n test ys) (omega arith) in
+    let tail : pages_from (suc first) test (xs ++ ys) ≡ pages_from (suc first) test xs
+    ++ pages_from (first + suc (length xs)) test ys =
+    ih ∙ ap (λ l. pages_from (suc first) test xs ++ l) at in
+    step (test x) (pages_from (suc first) test (xs ++ ys)) (pages_from (suc first) test xs)
+    (pages_from (first + suc (length xs)) test ys) tail
   where
-    step : (b : Bool) (all front back : List ℕ) → all ≡ front ++ back → cond b (first ∷ all) all ≡ cond b (first ∷ front) front ++ back
+    step : (b : Bool) (all front back : List ℕ) → all ≡ front ++ back
+        → cond b (first ∷ all) all ≡ cond b (first ∷ front) front ++ back
     step true all front back e = ap (λ l. first ∷ l) e
     step false all front back e = e
 
 -- one page more of a table
-pub pages_more : {A : Type 0} (test : A → Bool) (xs : List A) (i : ℕ) (d : A) → i < length xs → pages_where test (take (i + 1) xs) ≡ pages_where test (take i xs) ++ cond (test (get_or xs i d)) (i ∷ []) []
+pub pages_more : {A : Type 0} (test : A → Bool) (xs : List A) (i : ℕ) (d : A) → i < length xs
+    → pages_where test (take (i + 1) xs) ≡ pages_where test (take i xs)
+    ++ cond (test (get_or xs i d)) (i ∷ []) []
 pages_more test xs i d lt =
     ap (pages_from 0 test) (take_more xs i d lt)
     ∙ (pages_from-append 0 test (take i xs) (get_or xs i d ∷ [])
-    ∙ ap (λ n. pages_where test (take i xs) ++ cond (test (get_or xs i d)) (n ∷ []) []) (omega (arith, length-take i xs)))
+    ∙ ap (λ n. pages_where test (take i xs) ++ cond (test (get_or xs i d)) (n ∷ []) [])
+    (omega (arith, length-take i xs)))
 
 take_nil : (n : ℕ) → take {A = ℕ} n [] ≡ []
 take_nil zero = refl
 take_nil (suc n) = refl
 
 -- the first ones of a list that grows
-pub take_push : (most : ℕ) (xs : List ℕ) (x : ℕ) → length (take most xs) < most → take most (xs ++ x ∷ []) ≡ take most xs ++ x ∷ []
+pub take_push : (most : ℕ) (xs : List ℕ) (x : ℕ) → length (take most xs) < most
+    → take most (xs ++ x ∷ []) ≡ take most xs ++ x ∷ []
 take_push zero xs x lt = absurd (omega arith)
 take_push (suc most) [] x lt = ap (λ (l : List ℕ). x ∷ l) (take_nil most)
 take_push (suc most) (y ∷ xs) x lt = ap (λ l. y ∷ l) (take_push most xs x (omega arith))
 
-pub take_full : (most : ℕ) (xs ys : List ℕ) → most ≤ length (take most xs) → take most (xs ++ ys) ≡ take most xs
+pub take_full : (most : ℕ) (xs ys : List ℕ) → most ≤ length (take most xs)
+    → take most (xs ++ ys) ≡ take most xs
 take_full most xs ys full = take-append-le most xs ys (omega (arith, length-take most xs))
 
 -- an entry is among the entries
 pub is_in-at : (xs : List ℕ) (i : ℕ) → i < length xs → is_in (get_or xs i 0) xs ≡ true
-is_in-at xs i lt = list_any_at (λ m. eqb m (get_or xs i 0)) xs i 0 lt (eq-eqb (get_or xs i 0) (get_or xs i 0) refl)
+is_in-at xs i lt = list_any_at (λ m. eqb m (get_or xs i 0)) xs i 0 lt
+    (eq-eqb (get_or xs i 0) (get_or xs i 0) refl)
 
--- a scan for the first pages that have a place: the next page has it, or hasn't, or enough are found
-pub scan_hits : (items : List ℕ) (most i : ℕ) (place x : Place) (places : List Place) → i < length places → x ≡ get_or places i x → number_of x ≡ number_of place
-    → items ≡ take most (pages_where (is_at place) (take i places)) → length items < most → items ++ i ∷ [] ≡ take most (pages_where (is_at place) (take (i + 1) places))
+-- a scan for the first pages that have a place: the next page has it, or hasn't, or enough are
+-- found
+pub scan_hits : (items : List ℕ) (most i : ℕ) (place x : Place) (places : List Place)
+    → i < length places → x ≡ get_or places i x → number_of x ≡ number_of place
+    → items ≡ take most (pages_where (is_at place) (take i places)) → length items < most
+    → items ++ i ∷ [] ≡ take most (pages_where (is_at place) (take (i + 1) places))
 scan_hits items most i place x places lt here same so_far few =
     let found = pages_where (is_at place) (take i places) in
     let size : length items ≡ length (take most found) = ap length so_far in
-    let one : cond (is_at place (get_or places i x)) (i ∷ []) [] ≡ i ∷ [] = ap (λ v. cond v (i ∷ []) []) (ap (is_at place) (sym here) ∙ (sym (at_number place x) ∙ eq-eqb (number_of x) (number_of place) same)) in
+    let one : cond (is_at place (get_or places i x)) (i ∷ []) [] ≡ i ∷ [] =
+    ap (λ v. cond v (i ∷ []) [])
+    (ap (is_at place) (sym here)
+    ∙ (sym (at_number place x) ∙ eq-eqb (number_of x) (number_of place) same)) in
     ap (λ l. l ++ i ∷ []) so_far
     ∙ (sym (take_push most found i (omega arith))
     ∙ sym (ap (take most) (pages_more (is_at place) places i x lt ∙ ap (λ l. found ++ l) one)))
 
-pub scan_misses : (items : List ℕ) (most i : ℕ) (place x : Place) (places : List Place) → i < length places → x ≡ get_or places i x → (number_of x ≡ number_of place → ⊥)
-    → items ≡ take most (pages_where (is_at place) (take i places)) → items ≡ take most (pages_where (is_at place) (take (i + 1) places))
+pub scan_misses : (items : List ℕ) (most i : ℕ) (place x : Place) (places : List Place)
+    → i < length places → x ≡ get_or places i x → (number_of x ≡ number_of place → ⊥)
+    → items ≡ take most (pages_where (is_at place) (take i places))
+    → items ≡ take most (pages_where (is_at place) (take (i + 1) places))
 scan_misses items most i place x places lt here other so_far =
     let found = pages_where (is_at place) (take i places) in
-    let none : cond (is_at place (get_or places i x)) (i ∷ []) [] ≡ [] = ap (λ v. cond v (i ∷ []) []) (ap (is_at place) (sym here) ∙ (sym (at_number place x) ∙ ne_eqb (number_of x) (number_of place) other)) in
-    so_far ∙ sym (ap (take most) (pages_more (is_at place) places i x lt ∙ (ap (λ l. found ++ l) none ∙ append-nil found)))
+    let none : cond (is_at place (get_or places i x)) (i ∷ []) [] ≡ [] =
+    ap (λ v. cond v (i ∷ []) [])
+    (ap (is_at place) (sym here)
+    ∙ (sym (at_number place x) ∙ ne_eqb (number_of x) (number_of place) other)) in
+    so_far ∙ sym (ap (take most)
+    (pages_more (is_at place) places i x lt ∙ (ap (λ l. found ++ l) none ∙ append-nil found)))
 
-pub scan_ends : (items : List ℕ) (most i : ℕ) (place : Place) (places : List Place) → i < length places
-    → items ≡ take most (pages_where (is_at place) (take i places)) → most ≤ length items → items ≡ take most (pages_where (is_at place) (take (i + 1) places))
+pub scan_ends : (items : List ℕ) (most i : ℕ) (place : Place) (places : List Place)
+    → i < length places
+    → items ≡ take most (pages_where (is_at place) (take i places)) → most ≤ length items
+    → items ≡ take most (pages_where (is_at place) (take (i + 1) places))
 scan_ends items most i place places lt so_far full =
     let found = pages_where (is_at place) (take i places) in
     let size : length items ≡ length (take most found) = ap length so_far in
     let last = cond (is_at place (get_or places i Reserved)) (i ∷ []) [] in
-    so_far ∙ sym (ap (take most) (pages_more (is_at place) places i Reserved lt) ∙ take_full most found last (omega arith))
+    so_far ∙ sym (ap (take most) (pages_more (is_at place) places i Reserved lt)
+    ∙ take_full most found last (omega arith))

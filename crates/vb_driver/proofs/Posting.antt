@@ -1,5 +1,7 @@
 -- A request that goes out: its buffer is written, and then its chain is published.
-use Rattle.std.proofs.Common.{◌≡◌, ◌≢◌, ◌∙◌, sym, ap, subst, arith, refl, ℕ, ◌+◌, ◌*◌, ◌<◌, ◌≤◌, false, eqb, List, [], ◌∷◌, length, slice_index, Some, Result, Ok, set, min}
+use Rattle.std.proofs.Common.{◌≡◌, ◌≢◌, ◌∙◌, sym, ap, subst, arith, refl, ℕ, ◌+◌, ◌*◌, ◌<◌, ◌≤◌}
+use Rattle.std.proofs.Common.{false, eqb, List, [], ◌∷◌, length, slice_index, Some, Result, Ok, set}
+use Rattle.std.proofs.Common.{min}
 use Rattle.std.proofs.lemmas.Bool.{ne_eqb}
 use Rattle.vb_model.specs.Tests.{is_in}
 use Rattle.vb_model.specs.Layout.{buffer_page, buffer_offset}
@@ -12,7 +14,8 @@ use Rattle.vb_chain.proofs.TableLaws.{descriptor_apart, same_parts}
 use Rattle.vb_ring.specs.declared.driver.Full.{Full}
 use Rattle.vb_ring.specs.declared.layout.Layout.{Layout}
 use Rattle.vb_ring.specs.Layout.{layout_of}
-use Rattle.vb_ring.specs.Ends.{DriverEnd, IsDriverEnd, outstanding, next_head, next_path, add_answer}
+use Rattle.vb_ring.specs.Ends.{DriverEnd, IsDriverEnd, outstanding, next_head, next_path}
+use Rattle.vb_ring.specs.Ends.{add_answer}
 use Rattle.vb_ring.specs.Calls.{AddsBy}
 use Rattle.vb_ring.proofs.EntryLaws.{entries_apart}
 use Rattle.vb_ring.proofs.MeaningLaws.{ring_apart, tracks_apart}
@@ -24,7 +27,8 @@ use Rattle.vb_driver.proofs.RequestTables.{add_gives, next_path_is, head_low, re
 use Rattle.vb_driver.proofs.Placing.{or_false}
 
 -- what was written and added, by plain names
-pub record Sending (m1 m2 m3 : Pages) (r r2 : DriverEnd) (sent : List (List ℕ)) (base h a l : ℕ) (pages : List ℕ) : Type 0 where
+pub record Sending (m1 m2 m3 : Pages) (r r2 : DriverEnd) (sent : List (List ℕ)) (base h a l : ℕ)
+    (pages : List ℕ) : Type 0 where
   pub requests : AreRequests (record { ring = r; sent = sent })
   pub is_end : IsDriverEnd r
   pub next : next_head r ≡ Some h
@@ -33,13 +37,16 @@ pub record Sending (m1 m2 m3 : Pages) (r r2 : DriverEnd) (sent : List (List ℕ)
   pub low : r.layout.table < base
   pub few : length pages ≤ 256
   pub names : Names m2 (buffer_page base h) (buffer_offset h) pages
-  pub wrote : SameBut m1 m2 (buffer_page base h) (buffer_offset h) (buffer_offset h + 4 * length pages)
+  pub wrote : SameBut m1 m2 (buffer_page base h) (buffer_offset h)
+      (buffer_offset h + 4 * length pages)
   pub addr : a ≡ 4096 * buffer_page base h + buffer_offset h
   pub len : l ≡ 4 * length pages
 
-pub posts_at : (m1 m2 m3 : Pages) (r r2 : DriverEnd) (sent : List (List ℕ)) (base h a l : ℕ) (pages : List ℕ) → Sending m1 m2 m3 r r2 sent base h a l pages
+pub posts_at : (m1 m2 m3 : Pages) (r r2 : DriverEnd) (sent : List (List ℕ)) (base h a l : ℕ)
+    (pages : List ℕ) → Sending m1 m2 m3 r r2 sent base h a l pages
     → AddsBy m2 m3 r r2 (record { addr = a; len = l; writable = false } ∷ []) (Ok h)
-    → Posts m1 m3 (record { ring = r; sent = sent }) (record { ring = r2; sent = set sent h pages }) base pages h
+    → Posts m1 m3 (record { ring = r; sent = sent }) (record { ring = r2; sent = set sent h pages })
+    base pages h
 posts_at m1 m2 m3 r r2 sent base h a l pages s adds =
     let T = r.layout.table in
     let avail : r.layout.avail.page ≡ T = ap (λ (x : Layout). x.avail.page) s.layout in
@@ -48,37 +55,59 @@ posts_at m1 m2 m3 r r2 sent base h a l pages s adds =
     let path : next_path r 1 ≡ h ∷ [] = next_path_is r h s.next in
     let small : h < 16 = omega (arith, low.1, s.room) in
     let first : page_at m2 T ≡ page_at m1 T = s.wrote.others T (omega (arith, s.low)) in
-    let first_avail : page_at m2 r.layout.avail.page ≡ page_at m1 r.layout.avail.page = s.wrote.others r.layout.avail.page (omega (arith, s.low, avail)) in
-    let first_used : page_at m2 r.layout.used.page ≡ page_at m1 r.layout.used.page = s.wrote.others r.layout.used.page (omega (arith, s.low, used)) in
-    let second : (p : ℕ) → p ≢ T → page_at m3 p ≡ page_at m2 p = λ p ne. adds.publishes.rest.others p (ne, ((λ e. ne (e ∙ avail)), ((λ e. ne (e ∙ avail)), tt))) in
+    let first_avail : page_at m2 r.layout.avail.page ≡ page_at m1 r.layout.avail.page =
+    s.wrote.others r.layout.avail.page (omega (arith, s.low, avail)) in
+    let first_used : page_at m2 r.layout.used.page ≡ page_at m1 r.layout.used.page =
+    s.wrote.others r.layout.used.page (omega (arith, s.low, used)) in
+    let second : (p : ℕ) → p ≢ T
+    → page_at m3 p ≡ page_at m2 p =
+    λ p ne. adds.publishes.rest.others p
+    (ne, ((λ e. ne (e ∙ avail)), ((λ e. ne (e ∙ avail)), tt))) in
     let above : (k : ℕ) → buffer_page base k ≢ T = λ k. omega (arith, s.low) in
-    let put : descriptor_at m3 T h ≡ linked (h ∷ []) (record { addr = a; len = l; writable = false } ∷ []) 0 = subst (λ (p : List ℕ). descriptor_at m3 T (slice_index p 0) ≡ linked p (record { addr = a; len = l; writable = false } ∷ []) 0) path (adds.links.put 0 (omega arith)) in
+    let put : descriptor_at m3 T h
+    ≡ linked (h ∷ []) (record { addr = a; len = l; writable = false } ∷ []) 0 =
+    subst (λ (p : List ℕ). descriptor_at m3 T (slice_index p 0)
+    ≡ linked p (record { addr = a; len = l; writable = false } ∷ []) 0) path
+    (adds.links.put 0 (omega arith)) in
     record {
       lowest = s.next;
       small = small;
       state = ap (λ (v : DriverEnd). record { ring = v; sent = set sent h pages }) adds.state;
       coded = record {
         descriptor = put ∙ same_parts _ _ s.addr s.len refl refl;
-        names = names_kept m2 m3 (buffer_page base h) (buffer_offset h) pages (buffer_offset h + 1024) (same_page m2 m3 (buffer_page base h) (buffer_offset h) (buffer_offset h + 1024) (second (buffer_page base h) (above h))) (omega (arith, s.few)) s.names;
+        names = names_kept m2 m3 (buffer_page base h) (buffer_offset h) pages
+            (buffer_offset h + 1024)
+            (same_page m2 m3 (buffer_page base h) (buffer_offset h) (buffer_offset h + 1024)
+            (second (buffer_page base h) (above h))) (omega (arith, s.few)) s.names;
       };
       descriptors = λ i lt ne.
-          let out : is_in i (next_path r 1) ≡ false = ap (is_in i) path ∙ (or_false (eqb h i) ∙ ne_eqb h i (λ e. ne (sym e))) in
+          let out : is_in i (next_path r 1) ≡ false =
+          ap (is_in i) path ∙ (or_false (eqb h i) ∙ ne_eqb h i (λ e. ne (sym e))) in
           adds.links.others i lt out ∙ descriptor_apart m1 m2 T i first;
-      entries = λ heads elems counted shows. adds.entries heads elems counted (entries_apart m1 m2 r.layout r.size heads elems s.is_end.fits.size first_avail first_used shows);
-      shown = λ heads elems n tracks shows. adds.shown heads elems n (tracks_apart m1 m2 r heads elems n first tracks) (ring_apart m1 m2 r.layout r.size heads elems s.is_end.fits.size first first_avail first_used shows);
+      entries = λ heads elems counted shows. adds.entries heads elems counted
+          (entries_apart m1 m2 r.layout r.size heads elems s.is_end.fits.size first_avail first_used
+          shows);
+      shown = λ heads elems n tracks shows. adds.shown heads elems n
+          (tracks_apart m1 m2 r heads elems n first tracks)
+          (ring_apart m1 m2 r.layout r.size heads elems s.is_end.fits.size first first_avail
+          first_used shows);
       rest = record {
         others = λ p ne1 ne2. second p ne1 ∙ s.wrote.others p ne2;
-        buffers = λ k ne. same_trans m1 m2 m3 (buffer_page base k) (buffer_offset k) (buffer_offset k + 1024)
+        buffers = λ k ne. same_trans m1 m2 m3 (buffer_page base k) (buffer_offset k)
+            (buffer_offset k + 1024)
             (buffer_apart m1 m2 base h k (4 * length pages) (omega (arith, s.few)) s.wrote ne)
-            (same_page m2 m3 (buffer_page base k) (buffer_offset k) (buffer_offset k + 1024) (second (buffer_page base k) (above k)));
+            (same_page m2 m3 (buffer_page base k) (buffer_offset k) (buffer_offset k + 1024)
+            (second (buffer_page base k) (above k)));
         backing = λ p. adds.publishes.rest.backing p ∙ s.wrote.backing p;
         count = adds.publishes.rest.count ∙ s.wrote.count;
       };
-      requests = requests_added_at r r2 sent h h pages s.requests s.is_end s.next small adds.state refl;
+      requests = requests_added_at r r2 sent h h pages s.requests s.is_end s.next small adds.state
+          refl;
     }
 
 -- the head that was added is the one that was told
-pub added_head : (m2 m3 : Pages) (r r2 : DriverEnd) (h g : ℕ) (pieces : List Piece) → length pieces ≡ 1 → next_head r ≡ Some h → AddsBy m2 m3 r r2 pieces (Ok g) → h ≡ g
+pub added_head : (m2 m3 : Pages) (r r2 : DriverEnd) (h g : ℕ) (pieces : List Piece)
+    → length pieces ≡ 1 → next_head r ≡ Some h → AddsBy m2 m3 r r2 pieces (Ok g) → h ≡ g
 added_head m2 m3 r r2 h g pieces one e adds =
     let answer : Ok g ≡ add_answer r 1 = adds.value ∙ ap (add_answer r) one in
     let same : Ok g ≡ Ok h = answer ∙ add_gives r h e in
@@ -87,11 +116,15 @@ added_head m2 m3 r r2 h g pieces one e adds =
     inside : (x y : ℕ) (a b : Result ℕ Full) → a ≡ Ok x → b ≡ Ok y → a ≡ b → y ≡ x
     inside x y a b e f q = cc
 
-pub posts_by : (m1 m2 m3 : Pages) (r r2 : DriverEnd) (sent : List (List ℕ)) (base h g a l : ℕ) (pages : List ℕ) → Sending m1 m2 m3 r r2 sent base h a l pages
+pub posts_by : (m1 m2 m3 : Pages) (r r2 : DriverEnd) (sent : List (List ℕ)) (base h g a l : ℕ)
+    (pages : List ℕ) → Sending m1 m2 m3 r r2 sent base h a l pages
     → AddsBy m2 m3 r r2 (record { addr = a; len = l; writable = false } ∷ []) (Ok g)
-    → Posts m1 m3 (record { ring = r; sent = sent }) (record { ring = r2; sent = set sent g pages }) base pages g
+    → Posts m1 m3 (record { ring = r; sent = sent }) (record { ring = r2; sent = set sent g pages })
+    base pages g
 posts_by m1 m2 m3 r r2 sent base h g a l pages s adds =
     let pieces : List Piece = record { addr = a; len = l; writable = false } ∷ [] in
     let same : h ≡ g = added_head m2 m3 r r2 h g pieces refl s.next adds in
-    subst (λ (n : ℕ). Posts m1 m3 (record { ring = r; sent = sent }) (record { ring = r2; sent = set sent n pages }) base pages n) same
-    (posts_at m1 m2 m3 r r2 sent base h a l pages s (subst (λ (n : ℕ). AddsBy m2 m3 r r2 pieces (Ok n)) (sym same) adds))
+    subst (λ (n : ℕ). Posts m1 m3 (record { ring = r; sent = sent })
+    (record { ring = r2; sent = set sent n pages }) base pages n) same
+    (posts_at m1 m2 m3 r r2 sent base h a l pages s
+    (subst (λ (n : ℕ). AddsBy m2 m3 r r2 pieces (Ok n)) (sym same) adds))

@@ -1,12 +1,18 @@
 -- A queue whose chains are requests of one descriptor each.
-use Rattle.std.proofs.Common.{◌≡◌, ◌≢◌, ◌∙◌, sym, ap, subst, arith, refl, ℕ, zero, suc, ◌+◌, ◌<◌, ◌≤◌, Bool, true, false, cond, eqb, List, [], ◌∷◌, length, take, slice_get, slice_index, slice_index_or, inl, inr, ◌⊎◌, eq-eqb, Option, Some, None, Result, Ok, Err, is_none, nat_lt, set, min, replicate, ◌%◌}
+use Rattle.std.proofs.Common.{◌≡◌, ◌≢◌, ◌∙◌, sym, ap, subst, arith, refl, ℕ, zero, suc, ◌+◌, ◌<◌}
+use Rattle.std.proofs.Common.{◌≤◌, Bool, true, false, cond, eqb, List, [], ◌∷◌, length, take}
+use Rattle.std.proofs.Common.{slice_get, slice_index, slice_index_or, inl, inr, ◌⊎◌, eq-eqb, Option}
+use Rattle.std.proofs.Common.{Some, None, Result, Ok, Err, is_none, nat_lt, set, min, replicate}
+use Rattle.std.proofs.Common.{◌%◌}
 use Rattle.std.proofs.lemmas.Bool.{cases_eq, cases_lt, cases_Bool, ne_eqb}
 use Rattle.std.proofs.lemmas.Bool.Decides.{nat_tests}
 use Rattle.std.proofs.lemmas.List.{length-set, length-replicate, get_or-replicate, get_or_past}
 use Rattle.vb_ring.specs.Layout.{layout_of}
 use Rattle.vb_ring.specs.Entries.{is_own, is_head}
 use Rattle.vb_ring.proofs.Numbers.{numbers_pass, numbers_rise, numbers_has, length_all}
-use Rattle.vb_ring.specs.Ends.{DriverEnd, IsDriverEnd, is_unused, free_descriptors, outstanding, next_head, next_path, add_answer, after_add, after_take, claimed, released, fresh_end}
+use Rattle.vb_ring.specs.Ends.{DriverEnd, IsDriverEnd, is_unused, free_descriptors, outstanding}
+use Rattle.vb_ring.specs.Ends.{next_head, next_path, add_answer, after_add, after_take, claimed}
+use Rattle.vb_ring.specs.Ends.{released, fresh_end}
 use Rattle.vb_ring.proofs.OwnerLaws.{claimed-at, released-at}
 use Rattle.vb_ring.specs.declared.driver.Full.{Full}
 use Rattle.vb_ring.specs.declared.driver.Full.TheVariants.{TooFewFree}
@@ -15,7 +21,8 @@ use Rattle.vb_driver.proofs.Placing.{or_false}
 
 -- ---- the next head
 
-pub first_of : (xs : List ℕ) (h : ℕ) → slice_get xs 0 ≡ Some h → (nat_lt (length xs) 1 ≡ false) × (take 1 xs ≡ h ∷ [])
+pub first_of : (xs : List ℕ) (h : ℕ) → slice_get xs 0 ≡ Some h
+    → (nat_lt (length xs) 1 ≡ false) × (take 1 xs ≡ h ∷ [])
 first_of [] h e = cc
 first_of (x ∷ xs) h e =
     let same : x ≡ h = cc in
@@ -29,7 +36,8 @@ first_of (x ∷ xs) h e =
 pub add_gives : (r : DriverEnd) (h : ℕ) → next_head r ≡ Some h → add_answer r 1 ≡ Ok h
 add_gives r h e =
     let f = first_of (free_descriptors r) h e in
-    let test : Bool → Result ℕ Full = λ b. cond b (Err TooFewFree) (Ok (slice_index (next_path r 1) 0)) in
+    let test : Bool → Result ℕ Full =
+    λ b. cond b (Err TooFewFree) (Ok (slice_index (next_path r 1) 0)) in
     let picked : test (nat_lt (length (free_descriptors r)) 1) ≡ test false = ap test f.0 in
     let head : slice_index (next_path r 1) 0 ≡ h = ap (λ l. slice_index l 0) f.1 in
     picked ∙ ap (λ (n : ℕ). Ok n) head
@@ -41,51 +49,65 @@ some_first : (xs : List ℕ) → slice_get xs 0 ≡ None → length xs ≡ 0
 some_first [] e = refl
 some_first (x ∷ xs) e = cc
 
-first_is : (xs : List ℕ) (h : ℕ) → slice_get xs 0 ≡ Some h → (0 < length xs) × (slice_index xs 0 ≡ h)
+first_is : (xs : List ℕ) (h : ℕ) → slice_get xs 0 ≡ Some h
+    → (0 < length xs) × (slice_index xs 0 ≡ h)
 first_is [] h e = cc
 first_is (x ∷ xs) h e = (omega arith, let same : x ≡ h = cc in same)
 
 -- a descriptor is unused, or it is a request's
-unused_or_head : (owner : List (Option ℕ)) (i : ℕ) → ((k : ℕ) → is_unused owner k ≡ false → is_head owner k ≡ true) → (is_unused owner i ≡ true) ⊎ (is_head owner i ≡ true)
+unused_or_head : (owner : List (Option ℕ)) (i : ℕ)
+    → ((k : ℕ) → is_unused owner k ≡ false → is_head owner k ≡ true)
+    → (is_unused owner i ≡ true) ⊎ (is_head owner i ≡ true)
 unused_or_head owner i single = elim (cases_Bool (is_unused owner i)) [
   | inl unused ↦ inl unused
   | inr used ↦ inr (single i used)
 ]
 
 -- where all below are requests, so many are out
-pub out_below : (r : DriverEnd) (h : ℕ) → h ≤ r.size → ((i : ℕ) → i < h → is_head r.owner i ≡ true) → h ≤ outstanding r
+pub out_below : (r : DriverEnd) (h : ℕ) → h ≤ r.size → ((i : ℕ) → i < h → is_head r.owner i ≡ true)
+    → h ≤ outstanding r
 out_below r h le all = length_all (is_head r.owner) r.size h le all
 
 -- with fewer requests than descriptors, there is a next head
-pub head_there : (r : DriverEnd) → ((k : ℕ) → is_unused r.owner k ≡ false → is_head r.owner k ≡ true) → outstanding r < r.size → next_head r ≡ None → ⊥
+pub head_there : (r : DriverEnd)
+    → ((k : ℕ) → is_unused r.owner k ≡ false → is_head r.owner k ≡ true) → outstanding r < r.size
+    → next_head r ≡ None → ⊥
 head_there r single few none =
     let empty : length (free_descriptors r) ≡ 0 = some_first (free_descriptors r) none in
-    let all : (i : ℕ) → i < r.size → is_head r.owner i ≡ true = λ i lt. elim (unused_or_head r.owner i single) [
-      | inl free ↦ (let found = numbers_has (is_unused r.owner) r.size i lt free in absurd (omega (arith, found.1)))
+    let all : (i : ℕ) → i < r.size
+    → is_head r.owner i ≡ true = λ i lt. elim (unused_or_head r.owner i single) [
+      | inl free ↦ (let found = numbers_has (is_unused r.owner) r.size i lt free in
+          absurd (omega (arith, found.1)))
       | inr head ↦ head
     ] in
     let full : r.size ≤ outstanding r = out_below r r.size (omega arith) all in
     absurd (omega arith)
 
 -- it is one of the table, unused, and at most as many are out
-pub head_low : (r : DriverEnd) (h : ℕ) → ((k : ℕ) → is_unused r.owner k ≡ false → is_head r.owner k ≡ true) → next_head r ≡ Some h → (h < r.size) × (h ≤ outstanding r)
+pub head_low : (r : DriverEnd) (h : ℕ)
+    → ((k : ℕ) → is_unused r.owner k ≡ false → is_head r.owner k ≡ true) → next_head r ≡ Some h
+    → (h < r.size) × (h ≤ outstanding r)
 head_low r h single e =
     let f = first_is (free_descriptors r) h e in
     let some : 0 < length (free_descriptors r) = f.0 in
     let passes = numbers_pass (is_unused r.owner) r.size 0 some in
     let inside : h < r.size = subst (λ (n : ℕ). n < r.size) f.1 passes.0 in
-    let all : (i : ℕ) → i < h → is_head r.owner i ≡ true = λ i lt. elim (unused_or_head r.owner i single) [
+    let all : (i : ℕ) → i < h
+    → is_head r.owner i ≡ true = λ i lt. elim (unused_or_head r.owner i single) [
       | inl free ↦
           let found = numbers_has (is_unused r.owner) r.size i (omega arith) free in
           let at : slice_index (free_descriptors r) found.0 ≡ i = found.2 in
           elim (cases_lt 0 found.0) [
             | inl later ↦
-                let rise : slice_index (free_descriptors r) 0 < slice_index (free_descriptors r) found.0 = numbers_rise (is_unused r.owner) r.size 0 found.0 later found.1 in
+                let rise : slice_index (free_descriptors r) 0 < slice_index (free_descriptors r)
+                found.0 = numbers_rise (is_unused r.owner) r.size 0 found.0 later found.1 in
                 let first : slice_index (free_descriptors r) 0 ≡ h = f.1 in
                 absurd (omega arith)
             | inr first ↦
                 let zero_is : found.0 ≡ 0 = omega (arith, first) in
-                let same : slice_index (free_descriptors r) found.0 ≡ slice_index (free_descriptors r) 0 = ap (slice_index (free_descriptors r)) zero_is in
+                let same : slice_index (free_descriptors r) found.0
+                ≡ slice_index (free_descriptors r) 0 =
+                ap (slice_index (free_descriptors r)) zero_is in
                 let is : slice_index (free_descriptors r) 0 ≡ h = f.1 in
                 absurd (omega arith)
           ]
@@ -99,27 +121,37 @@ one_inside : (h k n : ℕ) → h < n → k < length (h ∷ []) → slice_index (
 one_inside h zero n lt near = lt
 one_inside h (suc k) n lt near = absurd (omega arith)
 
-pub claimed_same : (h : ℕ) (owner : List (Option ℕ)) → h < length owner → slice_index_or (claimed (h ∷ []) h owner) h None ≡ Some h
+pub claimed_same : (h : ℕ) (owner : List (Option ℕ)) → h < length owner
+    → slice_index_or (claimed (h ∷ []) h owner) h None ≡ Some h
 claimed_same h owner lt =
     claimed-at (h ∷ []) h owner h (λ k near. one_inside h k (length owner) lt near)
     ∙ ap (λ b. cond b (Some h) (slice_index_or owner h None)) (or_false (eqb h h) ∙ eq-eqb h h refl)
 
-pub claimed_other : (h i : ℕ) (owner : List (Option ℕ)) → h < length owner → i ≢ h → slice_index_or (claimed (h ∷ []) h owner) i None ≡ slice_index_or owner i None
+pub claimed_other : (h i : ℕ) (owner : List (Option ℕ)) → h < length owner → i ≢ h
+    → slice_index_or (claimed (h ∷ []) h owner) i None ≡ slice_index_or owner i None
 claimed_other h i owner lt ne =
     claimed-at (h ∷ []) h owner i (λ k near. one_inside h k (length owner) lt near)
-    ∙ ap (λ b. cond b (Some h) (slice_index_or owner i None)) (or_false (eqb h i) ∙ ne_eqb h i (λ e. ne (sym e)))
+    ∙ ap (λ b. cond b (Some h) (slice_index_or owner i None))
+    (or_false (eqb h i) ∙ ne_eqb h i (λ e. ne (sym e)))
 
-pub requests_added : (r : DriverEnd) (sent : List (List ℕ)) (h : ℕ) (pages : List ℕ) → AreRequests (record { ring = r; sent = sent }) → IsDriverEnd r → next_head r ≡ Some h → h < 16
+pub requests_added : (r : DriverEnd) (sent : List (List ℕ)) (h : ℕ) (pages : List ℕ)
+    → AreRequests (record { ring = r; sent = sent }) → IsDriverEnd r → next_head r ≡ Some h → h < 16
     → AreRequests (record { ring = after_add r 1 (Ok h); sent = set sent h pages })
 requests_added r sent h pages all end e small =
     let low = head_low r h all.single e in
     let path : next_path r 1 ≡ h ∷ [] = next_path_is r h e in
     let owner = claimed (h ∷ []) h r.owner in
     let inside : h < length r.owner = omega (arith, end.table, low.0) in
-    let good : AreRequests (record { ring = record r { published = (r.published + 1) % 65536; owner = owner }; sent = set sent h pages }) = record {
+    let good : AreRequests
+    (record {
+      ring = record r { published = (r.published + 1) % 65536; owner = owner };
+      sent = set sent h pages;
+    }) = record {
       single = λ i used. elim (cases_eq i h) [
-        | inl same ↦ ap (λ n. is_own n (slice_index_or owner n None)) same ∙ (ap (is_own h) (claimed_same h r.owner inside) ∙ eq-eqb h h refl)
-        | inr ne ↦ (let o = claimed_other h i r.owner inside ne in ap (is_own i) o ∙ all.single i (sym (ap is_none o) ∙ used))
+        | inl same ↦ ap (λ n. is_own n (slice_index_or owner n None)) same
+            ∙ (ap (is_own h) (claimed_same h r.owner inside) ∙ eq-eqb h h refl)
+        | inr ne ↦ (let o = claimed_other h i r.owner inside ne in
+            ap (is_own i) o ∙ all.single i (sym (ap is_none o) ∙ used))
       ];
       few = λ i head. elim (cases_eq i h) [
         | inl same ↦ omega arith
@@ -127,9 +159,17 @@ requests_added r sent h pages all end e small =
       ];
       buffers = length-set sent h pages ∙ all.buffers;
     } in
-    subst (λ (p : List ℕ). AreRequests (record { ring = record r { published = (r.published + 1) % 65536; owner = claimed p h r.owner }; sent = set sent h pages })) (sym path) good
+    subst (λ (p : List ℕ). AreRequests
+    (record {
+      ring = record r
+          { published = (r.published + 1) % 65536; owner = claimed p h r.owner };
+      sent =
+          set sent h pages;
+    })) (sym path) good
 
-pub requests_taken : (r : DriverEnd) (sent : List (List ℕ)) (h : ℕ) → AreRequests (record { ring = r; sent = sent }) → AreRequests (record { ring = after_take r (Ok (Some h)); sent = set sent h [] })
+pub requests_taken : (r : DriverEnd) (sent : List (List ℕ)) (h : ℕ)
+    → AreRequests (record { ring = r; sent = sent })
+    → AreRequests (record { ring = after_take r (Ok (Some h)); sent = set sent h [] })
 requests_taken r sent h all =
     record {
       single = λ i used. at i (is_own h (slice_index_or r.owner i None)) refl used;
@@ -137,18 +177,24 @@ requests_taken r sent h all =
       buffers = length-set sent h [] ∙ all.buffers;
     }
   where
-    kept : (i : ℕ) (b : Bool) → is_own h (slice_index_or r.owner i None) ≡ b → slice_index_or (released h r.owner) i None ≡ cond b None (slice_index_or r.owner i None)
+    kept : (i : ℕ) (b : Bool) → is_own h (slice_index_or r.owner i None) ≡ b
+        → slice_index_or (released h r.owner) i None ≡ cond b None (slice_index_or r.owner i None)
     kept i b e = released-at h r.owner i ∙ ap (λ v. cond v None (slice_index_or r.owner i None)) e
 
-    at : (i : ℕ) (b : Bool) → is_own h (slice_index_or r.owner i None) ≡ b → is_unused (released h r.owner) i ≡ false → is_head (released h r.owner) i ≡ true
+    at : (i : ℕ) (b : Bool) → is_own h (slice_index_or r.owner i None) ≡ b
+        → is_unused (released h r.owner) i ≡ false → is_head (released h r.owner) i ≡ true
     at i true e used = (let gone : true ≡ false = sym (ap is_none (kept i true e)) ∙ used in cc)
-    at i false e used = ap (is_own i) (kept i false e) ∙ all.single i (sym (ap is_none (kept i false e)) ∙ used)
+    at i false e used = ap (is_own i) (kept i false e)
+        ∙ all.single i (sym (ap is_none (kept i false e)) ∙ used)
 
-    at_few : (i : ℕ) (b : Bool) → is_own h (slice_index_or r.owner i None) ≡ b → is_head (released h r.owner) i ≡ true → i < 16
-    at_few i true e head = (let gone : false ≡ true = sym (ap (is_own i) (kept i true e)) ∙ head in cc)
+    at_few : (i : ℕ) (b : Bool) → is_own h (slice_index_or r.owner i None) ≡ b
+        → is_head (released h r.owner) i ≡ true → i < 16
+    at_few i true e head =
+        (let gone : false ≡ true = sym (ap (is_own i) (kept i true e)) ∙ head in cc)
     at_few i false e head = all.few i (sym (ap (is_own i) (kept i false e)) ∙ head)
 
-pub requests_fresh : (page size : ℕ) (sent : List (List ℕ)) → length sent ≡ 16 → AreRequests (record { ring = fresh_end (layout_of page size) size; sent = sent })
+pub requests_fresh : (page size : ℕ) (sent : List (List ℕ)) → length sent ≡ 16
+    → AreRequests (record { ring = fresh_end (layout_of page size) size; sent = sent })
 requests_fresh page size sent len =
     record {
       single = λ i used. (let gone : true ≡ false = sym (ap is_none (none i)) ∙ used in cc);
@@ -159,25 +205,42 @@ requests_fresh page size sent len =
     none : (i : ℕ) → slice_index_or (replicate {A = Option ℕ} size None) i None ≡ None
     none i = elim (cases_lt i size) [
       | inl l ↦ get_or-replicate {A = Option ℕ} size i None None l
-      | inr past ↦ get_or_past (replicate {A = Option ℕ} size None) i None (omega (arith, length-replicate {A = Option ℕ} size None))
+      | inr past ↦ get_or_past (replicate {A = Option ℕ} size None) i None
+          (omega (arith, length-replicate {A = Option ℕ} size None))
     ]
 
-pub requests_taken_at : (r r2 : DriverEnd) (sent : List (List ℕ)) (h i : ℕ) (blank : List ℕ) → AreRequests (record { ring = r; sent = sent }) → r2 ≡ after_take r (Ok (Some h)) → i ≡ h → blank ≡ []
+pub requests_taken_at : (r r2 : DriverEnd) (sent : List (List ℕ)) (h i : ℕ) (blank : List ℕ)
+    → AreRequests (record { ring = r; sent = sent }) → r2 ≡ after_take r (Ok (Some h)) → i ≡ h
+    → blank ≡ []
     → AreRequests (record { ring = r2; sent = set sent i blank })
 requests_taken_at r r2 sent h i blank all state at none =
-    subst (λ (v : DriverEnd). AreRequests (record { ring = v; sent = set sent i blank })) (sym state)
-    (subst (λ (n : ℕ). AreRequests (record { ring = after_take r (Ok (Some h)); sent = set sent n blank })) (sym at)
-    (subst (λ (l : List ℕ). AreRequests (record { ring = after_take r (Ok (Some h)); sent = set sent h l })) (sym none) (requests_taken r sent h all)))
+    subst (λ (v : DriverEnd). AreRequests (record { ring = v; sent = set sent i blank }))
+    (sym state)
+    (subst (λ (n : ℕ). AreRequests
+    (record { ring = after_take r (Ok (Some h)); sent = set sent n blank })) (sym at)
+    (subst (λ (l : List ℕ). AreRequests
+    (record { ring = after_take r (Ok (Some h)); sent = set sent h l })) (sym none)
+    (requests_taken r sent h all)))
 
-pub requests_added_at : (r r2 : DriverEnd) (sent : List (List ℕ)) (h i : ℕ) (pages : List ℕ) → AreRequests (record { ring = r; sent = sent }) → IsDriverEnd r → next_head r ≡ Some h → h < 16
-    → r2 ≡ after_add r 1 (Ok h) → i ≡ h → AreRequests (record { ring = r2; sent = set sent i pages })
+pub requests_added_at : (r r2 : DriverEnd) (sent : List (List ℕ)) (h i : ℕ) (pages : List ℕ)
+    → AreRequests (record { ring = r; sent = sent }) → IsDriverEnd r → next_head r ≡ Some h → h < 16
+    → r2 ≡ after_add r 1 (Ok h) → i ≡ h
+    → AreRequests (record { ring = r2; sent = set sent i pages })
 requests_added_at r r2 sent h i pages all end e small state at =
-    subst (λ (v : DriverEnd). AreRequests (record { ring = v; sent = set sent i pages })) (sym state)
-    (subst (λ (n : ℕ). AreRequests (record { ring = after_add r 1 (Ok h); sent = set sent n pages })) (sym at) (requests_added r sent h pages all end e small))
+    subst (λ (v : DriverEnd). AreRequests (record { ring = v; sent = set sent i pages }))
+    (sym state)
+    (subst (λ (n : ℕ). AreRequests
+    (record { ring = after_add r 1 (Ok h); sent = set sent n pages })) (sym at)
+    (requests_added r sent h pages all end e small))
 
 -- the facts of a queue that has room, from what is seen of it
-pub room_inside : (r : DriverEnd) (sent : List (List ℕ)) (now : Side) → (let side : Side = record { ring = r; sent = sent } in side) ≡ now → outstanding now.ring < min now.ring.size 16 → outstanding r < min r.size 16
-room_inside r sent now same room = subst (λ (s : Side). outstanding s.ring < min s.ring.size 16) (sym same) room
+pub room_inside : (r : DriverEnd) (sent : List (List ℕ)) (now : Side)
+    → (let side : Side = record { ring = r; sent = sent } in side) ≡ now
+    → outstanding now.ring < min now.ring.size 16 → outstanding r < min r.size 16
+room_inside r sent now same room =
+    subst (λ (s : Side). outstanding s.ring < min s.ring.size 16) (sym same) room
 
-pub head_small : (r : DriverEnd) (h : ℕ) → ((k : ℕ) → is_unused r.owner k ≡ false → is_head r.owner k ≡ true) → next_head r ≡ Some h → outstanding r < min r.size 16 → h < 16
+pub head_small : (r : DriverEnd) (h : ℕ)
+    → ((k : ℕ) → is_unused r.owner k ≡ false → is_head r.owner k ≡ true) → next_head r ≡ Some h
+    → outstanding r < min r.size 16 → h < 16
 head_small r h single e room = omega (arith, (head_low r h single e).1)

@@ -1,6 +1,7 @@
 -- How many pages a driver's calls move, and why one is refused: the formulas and tables of the
 -- definitions, with the driver's own values.
-use Rattle.std.specs.Prelude.{ℕ, ◌<◌, ◌≤◌, Bool, not, ◌==◌, List, [], ◌∷◌, ◌++◌, length, is_some, is_err, IsSome}
+use Rattle.std.specs.Prelude.{ℕ, ◌<◌, ◌≤◌, Bool, not, ◌==◌, List, [], ◌∷◌, ◌++◌, length, is_some}
+use Rattle.std.specs.Prelude.{is_err, IsSome}
 use Rattle.std.specs.List.{list_all, range_with_len}
 use Rattle.vb_model.specs.declared.replies.Refusal.TheVariants.{RingBroken, AlreadyUp, NoFrame}
 use Rattle.vb_model.specs.declared.limits.TheConstants.{MIN_GUEST_PAGES}

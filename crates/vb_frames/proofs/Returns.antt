@@ -1,5 +1,6 @@
 -- Laws of claims and returns, for the crates above.
-use Rattle.std.specs.Prelude.{◌≡◌, ℕ, zero, suc, ◌<◌, Bool, true, false, List, [], ◌∷◌, length, slice_set, ◌⊎◌}
+use Rattle.std.specs.Prelude.{◌≡◌, ℕ, zero, suc, ◌<◌, Bool, true, false, List, [], ◌∷◌, length}
+use Rattle.std.specs.Prelude.{slice_set, ◌⊎◌}
 use Rattle.std.proofs.Common.{arith, inl, inr, sym, ap, set}
 use Rattle.vb_model.specs.declared.calls.Claim.{Claim}
 use Rattle.vb_model.specs.declared.calls.Claim.TheVariants.{Gave, GaveNoFrame, GaveNoMemory}
@@ -7,16 +8,20 @@ use Rattle.vb_model.specs.World.{Gives}
 use Rattle.vb_frames.specs.Out.{is_out, IsFree}
 
 -- a frame that is given and put back leaves all as it was
-pub given_back : (out : List Bool) (n : ℕ) → IsFree out n → slice_set (slice_set out n true) n false ≡ out
+pub given_back : (out : List Bool) (n : ℕ) → IsFree out n
+    → slice_set (slice_set out n true) n false ≡ out
 given_back out n free = unset out n free.within free.free
   where
-    unset : (out : List Bool) (n : ℕ) → n < length out → is_out out n ≡ false → set (set out n true) n false ≡ out
+    unset : (out : List Bool) (n : ℕ) → n < length out → is_out out n ≡ false
+        → set (set out n true) n false ≡ out
     unset [] n l e = absurd (omega arith)
     unset (x ∷ xs) zero l e = ap (λ (y : Bool). y ∷ xs) (sym e)
     unset (x ∷ xs) (suc n) l e = ap (λ (ys : List Bool). x ∷ ys) (unset xs n (omega arith) e)
 
 -- claims depend only on which of the frames are out
-pub same_gives : (frames : ℕ) (A B : ℕ → Type 0) (claims : List Claim) → ((x : ℕ) → x < frames → A x → B x) → ((x : ℕ) → x < frames → B x → A x) → Gives frames A claims → Gives frames B claims
+pub same_gives : (frames : ℕ) (A B : ℕ → Type 0) (claims : List Claim)
+    → ((x : ℕ) → x < frames → A x → B x) → ((x : ℕ) → x < frames → B x → A x)
+    → Gives frames A claims → Gives frames B claims
 same_gives frames A B [] ab ba h = h
 same_gives frames A B (Gave f ∷ claims) ab ba h = (
   h.0,

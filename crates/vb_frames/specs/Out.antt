@@ -1,5 +1,6 @@
 -- Which frames are out, and what claims are answered (profile).
-use Rattle.std.specs.Prelude.{◌≡◌, ℕ, ◌<◌, Bool, true, false, List, [], ◌∷◌, length, slice_index_or, slice_set, Result, Ok, Err, ⊤}
+use Rattle.std.specs.Prelude.{◌≡◌, ℕ, ◌<◌, Bool, true, false, List, [], ◌∷◌, length, slice_index_or}
+use Rattle.std.specs.Prelude.{slice_set, Result, Ok, Err, ⊤}
 use Rattle.vb_model.specs.declared.calls.Claim.{Claim}
 use Rattle.vb_model.specs.declared.calls.Claim.TheVariants.{Gave, GaveNoFrame, GaveNoMemory}
 use Rattle.vb_ram.specs.Pages.{Page}

@@ -1,6 +1,8 @@
 //! A table of a host's frames.
 
-ghost use Rattle.std.specs.Prelude.{◌≡◌, ℕ, ◌+◌, ◌*◌, ◌<◌, ◌≤◌, ◌/◌, true, false, None, List, Bool, [], ◌∷◌, length, replicate, slice_index_or, slice_set, IfOk, MatchOption, count_by};
+ghost use Rattle.std.specs.Prelude.{◌≡◌, ℕ, ◌+◌, ◌*◌, ◌<◌, ◌≤◌, ◌/◌, true, false, None, List, Bool};
+ghost use Rattle.std.specs.Prelude.{[], ◌∷◌, length, replicate, slice_index_or, slice_set, IfOk};
+ghost use Rattle.std.specs.Prelude.{MatchOption, count_by};
 ghost use Rattle.vb_model.specs.declared.calls.Claim.{Claim};
 ghost use Rattle.vb_model.specs.World.{Gives};
 ghost use Rattle.vb_frames.specs.Flags.{is_flagged};

@@ -1,6 +1,7 @@
 //! Claims one after the other, at a keeper that refuses and at a table.
 
-ghost use Rattle.std.specs.Prelude.{◌≡◌, ℕ, ◌+◌, ◌<◌, ◌≤◌, List, [], ◌∷◌, Bool, true, false, ◌≢◌, OnErr, IfOk};
+ghost use Rattle.std.specs.Prelude.{◌≡◌, ℕ, ◌+◌, ◌<◌, ◌≤◌, List, [], ◌∷◌, Bool, true, false, ◌≢◌};
+ghost use Rattle.std.specs.Prelude.{OnErr, IfOk};
 ghost use Rattle.vb_model.specs.declared.calls.Claim.{Claim};
 ghost use Rattle.vb_model.specs.declared.calls.Claim.TheVariants.{Gave};
 ghost use Rattle.vb_frames.specs.Out.{AllAnswered, after_claims};

@@ -14,30 +14,41 @@ use Rattle.vb_driver.specs.State.{Side}
 use Rattle.vb_guest.specs.Line.{Line, IsRequest, heads_of, used_of}
 
 -- page numbers in a buffer that a write leaves
-pub names_kept : (old new : Pages) (p o : ℕ) (xs : List ℕ) (hi : ℕ) → SameIn old new p o hi → o + 4 * length xs ≤ hi → Names old p o xs → Names new p o xs
+pub names_kept : (old new : Pages) (p o : ℕ) (xs : List ℕ) (hi : ℕ) → SameIn old new p o hi
+    → o + 4 * length xs ≤ hi → Names old p o xs → Names new p o xs
 names_kept old new p o xs hi same fits n = record {
-  each = λ k lt. field_in 4 old new p o hi (o + 4 * k) same (omega arith) (omega arith) ∙ n.each k lt;
+  each = λ k lt. field_in 4 old new p o hi (o + 4 * k) same (omega arith) (omega arith)
+      ∙ n.each k lt;
 }
 
 -- the page of a queue's ring, and the pages of its buffers, are as before
 pub record SameLine (old new : Pages) (q : ℕ) : Type 0 where
   pub ring : page_at new (ring_page q) ≡ page_at old (ring_page q)
-  pub buffers : (p : ℕ) → buffers_page q ≤ p → p < buffers_page q + 4 → page_at new p ≡ page_at old p
+  pub buffers : (p : ℕ) → buffers_page q ≤ p → p < buffers_page q + 4
+      → page_at new p ≡ page_at old p
 
 -- a coded request whose descriptor and buffer are as before
-pub coded_kept : (old new : Pages) (q n size : ℕ) (sent : List (List ℕ)) (r : Request) → IsRequest size n sent r
+pub coded_kept : (old new : Pages) (q n size : ℕ) (sent : List (List ℕ)) (r : Request)
+    → IsRequest size n sent r
     → descriptor_at new (ring_page q) r.head ≡ descriptor_at old (ring_page q) r.head
-    → page_at new (buffer_page (buffers_page q) r.head) ≡ page_at old (buffer_page (buffers_page q) r.head)
-    → IsCoded old (ring_page q) (buffers_page q) r.head r.pages → IsCoded new (ring_page q) (buffers_page q) r.head r.pages
+    → page_at new (buffer_page (buffers_page q) r.head)
+    ≡ page_at old (buffer_page (buffers_page q) r.head)
+    → IsCoded old (ring_page q) (buffers_page q) r.head r.pages
+    → IsCoded new (ring_page q) (buffers_page q) r.head r.pages
 coded_kept old new q n size sent r is descriptor page code = record {
   descriptor = descriptor ∙ code.descriptor;
-  names = names_kept old new (buffer_page (buffers_page q) r.head) (buffer_offset r.head) r.pages (buffer_offset r.head + 4 * length r.pages) (same_page old new _ _ _ page) (omega arith) code.names;
+  names = names_kept old new (buffer_page (buffers_page q) r.head) (buffer_offset r.head) r.pages
+      (buffer_offset r.head + 4 * length r.pages) (same_page old new _ _ _ page) (omega arith)
+      code.names;
 }
 
-pub in_page : (q : ℕ) (page : ℕ) (old new : Pages) → page ≡ ring_page q → page_at new (ring_page q) ≡ page_at old (ring_page q) → page_at new page ≡ page_at old page
-in_page q page old new e same = ap (λ (p : ℕ). page_at new p) e ∙ same ∙ sym (ap (λ (p : ℕ). page_at old p) e)
+pub in_page : (q : ℕ) (page : ℕ) (old new : Pages) → page ≡ ring_page q
+    → page_at new (ring_page q) ≡ page_at old (ring_page q) → page_at new page ≡ page_at old page
+in_page q page old new e same =
+    ap (λ (p : ℕ). page_at new p) e ∙ same ∙ sym (ap (λ (p : ℕ). page_at old p) e)
 
-pub line_apart : (old new : Pages) (q n : ℕ) (side : Side) (part : QueuePart) (rs : Requests) → SameLine old new q → Line old q n side part rs → Line new q n side part rs
+pub line_apart : (old new : Pages) (q n : ℕ) (side : Side) (part : QueuePart) (rs : Requests)
+    → SameLine old new q → Line old q n side part rs → Line new q n side part rs
 line_apart old new q n side part rs same line =
     let l = side.ring.layout in
     let table = in_page q l.table old new (ap (λ x. x.table) line.layout) same.ring in
@@ -49,8 +60,10 @@ line_apart old new q n side part rs same line =
       buffers = line.buffers;
       before = line.before;
       gone = line.gone;
-      shows = ring_apart old new l side.ring.size (line.before ++ heads_of rs.posted) (line.gone ++ used_of rs.done) line.sized table avail used line.shows;
-      tracks = tracks_apart old new side.ring (line.before ++ heads_of rs.posted) (line.gone ++ used_of rs.done) (length line.gone) table line.tracks;
+      shows = ring_apart old new l side.ring.size (line.before ++ heads_of rs.posted)
+          (line.gone ++ used_of rs.done) line.sized table avail used line.shows;
+      tracks = tracks_apart old new side.ring (line.before ++ heads_of rs.posted)
+          (line.gone ++ used_of rs.done) (length line.gone) table line.tracks;
       next_avail = line.next_avail;
       next_used = line.next_used;
       counted = line.counted;
@@ -61,12 +74,15 @@ line_apart old new q n side part rs same line =
       coded = λ k d lt.
           let x = slice_index_or rs.posted k d in
           let is = line.posted k d lt in
-          coded_kept old new q n side.ring.size side.sent x is (descriptor_apart old new (ring_page q) x.head same.ring) (same.buffers _ (omega arith) (omega (arith, is.few))) (line.coded k d lt);
+          coded_kept old new q n side.ring.size side.sent x is
+          (descriptor_apart old new (ring_page q) x.head same.ring)
+          (same.buffers _ (omega arith) (omega (arith, is.few))) (line.coded k d lt);
       remembers = line.remembers;
     }
 
 -- pages above those of rings and buffers are no queue's
-pub above_apart : (old new : Pages) (q : ℕ) → ring_page q < 16 → buffers_page q + 4 ≤ 16 → ((p : ℕ) → p < 16 → page_at new p ≡ page_at old p) → SameLine old new q
+pub above_apart : (old new : Pages) (q : ℕ) → ring_page q < 16 → buffers_page q + 4 ≤ 16
+    → ((p : ℕ) → p < 16 → page_at new p ≡ page_at old p) → SameLine old new q
 above_apart old new q low few same = record {
   ring = same (ring_page q) low;
   buffers = λ p from to. same p (omega arith);

@@ -15,19 +15,39 @@ use Rattle.vb_device.proofs.OneRequest.{one_request}
 use Rattle.vb_guest.specs.Line.{IsRequest}
 
 -- its chain is one readable buffer
-pub coded_chain : (mem : Pages) (q size n : ℕ) (sent : List (List ℕ)) (r : Request) → buffers_page q ≤ 8 → 64 ≤ n → length mem ≡ n → IsRequest size n sent r
+pub coded_chain : (mem : Pages) (q size n : ℕ) (sent : List (List ℕ)) (r : Request)
+    → buffers_page q ≤ 8 → 64 ≤ n → length mem ≡ n → IsRequest size n sent r
     → IsCoded mem (ring_page q) (buffers_page q) r.head r.pages
-    → ChainGives (descriptor_at mem (ring_page q)) size (4096 * length mem) r.head (piece_of (buffer_of (buffers_page q) r.head (length r.pages)) ∷ [])
+    → ChainGives (descriptor_at mem (ring_page q)) size (4096 * length mem) r.head
+    (piece_of (buffer_of (buffers_page q) r.head (length r.pages)) ∷ [])
 coded_chain mem q size n sent r low large len is code =
     let d : Descriptor = buffer_of (buffers_page q) r.head (length r.pages) in
-    single_chain (descriptor_at mem (ring_page q)) size (4096 * length mem) r.head d is.inside code.descriptor refl
-    (no_fault size (4096 * length mem) false 0 d refl (omega (arith, is.few, is.pages.few)) (λ e. cc) (λ e. cc))
+    single_chain (descriptor_at mem (ring_page q)) size (4096 * length mem) r.head d is.inside
+    code.descriptor refl
+    (no_fault size (4096 * length mem) false 0 d refl (omega (arith, is.few, is.pages.few))
+    (λ e. cc) (λ e. cc))
 
 -- it is a request for the pages that it names
-pub coded_pages : (mem : Pages) (q size n : ℕ) (sent : List (List ℕ)) (r : Request) → length mem ≡ n → IsRequest size n sent r
+pub coded_pages : (mem : Pages) (q size n : ℕ) (sent : List (List ℕ)) (r : Request) → length mem ≡ n
+    → IsRequest size n sent r
     → IsCoded mem (ring_page q) (buffers_page q) r.head r.pages
-    → page_request mem (piece_of (buffer_of (buffers_page q) r.head (length r.pages)) ∷ []) ≡ Ok r.pages
+    → page_request mem (piece_of (buffer_of (buffers_page q) r.head (length r.pages)) ∷ [])
+    ≡ Ok r.pages
 coded_pages mem q size n sent r len is code =
-    one_request mem (piece_of (buffer_of (buffers_page q) r.head (length r.pages))) (buffer_page (buffers_page q) r.head) (buffer_offset r.head) r.pages
-    (record { addr = refl; len = refl; readable = refl; inside = omega (arith, is.pages.few); numbers = code.names.each; some = is.pages.some; few = is.pages.few })
-    (record { above = is.pages.above; below = subst (λ k. All (λ page. page < k) r.pages) (sym len) is.pages.below; distinct = is.pages.distinct })
+    one_request mem (piece_of (buffer_of (buffers_page q) r.head (length r.pages)))
+    (buffer_page (buffers_page q) r.head) (buffer_offset r.head) r.pages
+    (record {
+      addr = refl;
+      len = refl;
+      readable = refl;
+      inside = omega (arith, is.pages.few);
+      numbers = code.names.each;
+      some = is.pages.some;
+      few = is.pages.few;
+    })
+    (record {
+      above = is.pages.above;
+      below = subst (λ k. All (λ page. page < k) r.pages) (sym len) is.pages.below;
+      distinct =
+          is.pages.distinct;
+    })

@@ -1,11 +1,14 @@
 -- The slot's two deflates are steps of the guest.
-use Rattle.std.specs.Prelude.{◌≡◌, ℕ, zero, suc, ◌+◌, ◌<◌, ◌≤◌, ◌==◌, Bool, true, false, not, nat_le, if◌then◌else◌, List, [], ◌∷◌, length, take, Result, Ok, Err, OnErr, IfOk, Option, Some, None, is_some, count_by, refl, ◌⊎◌}
+use Rattle.std.specs.Prelude.{◌≡◌, ℕ, zero, suc, ◌+◌, ◌<◌, ◌≤◌, ◌==◌, Bool, true, false, not}
+use Rattle.std.specs.Prelude.{nat_le, if◌then◌else◌, List, [], ◌∷◌, length, take, Result, Ok, Err}
+use Rattle.std.specs.Prelude.{OnErr, IfOk, Option, Some, None, is_some, count_by, refl, ◌⊎◌}
 use Rattle.std.proofs.Common.{sym, ◌∙◌, ap, subst, arith, inl, inr}
 use Rattle.std.proofs.lemmas.Bool.Decides.{nat_tests}
 use Rattle.vb_model.specs.declared.calls.Call.{Call}
 use Rattle.vb_model.specs.declared.calls.Call.TheVariants.{Deflate, Oom}
 use Rattle.vb_model.specs.declared.replies.Refusal.{Refusal}
-use Rattle.vb_model.specs.declared.replies.Refusal.TheVariants.{NotReady, NoFeature, QueueFull, Nothing}
+use Rattle.vb_model.specs.declared.replies.Refusal.TheVariants.{NotReady, NoFeature, QueueFull}
+use Rattle.vb_model.specs.declared.replies.Refusal.TheVariants.{Nothing}
 use Rattle.vb_model.specs.declared.replies.Reply.{Reply}
 use Rattle.vb_model.specs.declared.replies.Reply.TheVariants.{Posted}
 use Rattle.vb_model.specs.Tests.{one_if, pages_from, pages_where}
@@ -23,7 +26,8 @@ use Rattle.vb_ring.specs.Ends.{outstanding as outstanding_in}
 use Rattle.vb_driver.specs.declared.answers.Posted.{Posted as PostedRequest}
 use Rattle.vb_driver.specs.Coding.{SameButBuffer}
 use Rattle.vb_driver.specs.State.{FreePages, Side, DriverState, IsDriver}
-use Rattle.vb_driver.specs.Answers.{refusal_in, deflate_tests, oom_tests, deflate_count as driver_count}
+use Rattle.vb_driver.specs.Answers.{refusal_in, deflate_tests, oom_tests}
+use Rattle.vb_driver.specs.Answers.{deflate_count as driver_count}
 use Rattle.vb_driver.specs.Calls.{Unchanged, AsksBack, DeflatesBy, DeflatesOnOomBy}
 use Rattle.vb_guest.specs.Stands.{Stands, Ties, IsRunning}
 use Rattle.vb_guest.specs.Steps.{StepsAlone}
@@ -38,14 +42,21 @@ use Rattle.vb_guest.proofs.Normal.{driver_of, driver_is, keeps_own}
 
 -- ---- the lowest lent pages are as many as were asked for
 
-one_more : (b : Bool) (page : ℕ) (pages : List ℕ) → length (if b then page ∷ pages else pages) ≡ one_if b + length pages
+one_more : (b : Bool) (page : ℕ) (pages : List ℕ)
+    → length (if b then page ∷ pages else pages) ≡ one_if b + length pages
 one_more true page pages = omega arith
 one_more false page pages = omega arith
 
-length-pages_from : {A : Type 0} (first : ℕ) (test : A → Bool) (xs : List A) → length (pages_from first test xs) ≡ count_by test xs
+length-pages_from : {A : Type 0} (first : ℕ) (test : A → Bool) (xs : List A)
+    → length (pages_from first test xs) ≡ count_by test xs
 length-pages_from first test [] = refl
 length-pages_from first test (x ∷ xs) =
-    omega (arith, one_more (test x) first (pages_from (suc first) test xs), length-pages_from (suc first) test xs, count_by-cons test x xs)
+    omega (
+      arith,
+      one_more (test x) first (pages_from (suc first) test xs),
+      length-pages_from (suc first) test xs,
+      count_by-cons test x xs,
+    )
 
 length-first : (n : ℕ) (xs : List ℕ) → n ≤ length xs → length (take n xs) ≡ n
 length-first zero xs few = refl
@@ -53,7 +64,9 @@ length-first (suc n) [] few = absurd (omega arith)
 length-first (suc n) (x ∷ xs) few = omega (arith, length-first n xs (omega arith))
 
 length-lent : (g : Guest) (n : ℕ) → n ≤ lent_count g → length (lowest_lent n g) ≡ n
-length-lent g n few = length-first n (pages_where is_lent g.places) (omega (arith, length-pages_from 0 is_lent g.places, few))
+length-lent g n few =
+    length-first n (pages_where is_lent g.places)
+    (omega (arith, length-pages_from 0 is_lent g.places, few))
 
 -- ---- a request that goes out
 
@@ -63,29 +76,41 @@ record IsAsking (g : Guest) (call : Call) (count : ℕ) : Type 0 where
   lent : count ≤ lent_count g
   some : refusal_of g call ≡ None → g.status ≡ 15 → 0 < count
   down : (g.status ≡ 0) ⊎ (g.status ≡ 131) → refusal_of g call ≡ Some NotReady
-  performs : (reply : Reply) (new : Guest) → Deflates count g reply new → Performs call g [] reply new
+  performs : (reply : Reply) (new : Guest) → Deflates count g reply new
+      → Performs call g [] reply new
 
-asked_back : (m1 m2 : Pages) (p1 p2 : Part) (g : Guest) (areas : FreePages) (si sd : Side) (d2 : DriverState) (call : Call) (count : ℕ) (posted : PostedRequest)
-    → IsAsking g call count → IsDriver (driver_of g areas si sd) → AsksBack m1 m2 p1 p2 (driver_of g areas si sd) d2 count posted
-    → Stands m1 p1 (driver_of g areas si sd) g → IsRunning m1 p1 (driver_of g areas si sd) g → refusal_of g call ≡ None
+asked_back : (m1 m2 : Pages) (p1 p2 : Part) (g : Guest) (areas : FreePages) (si sd : Side)
+    (d2 : DriverState) (call : Call) (count : ℕ) (posted : PostedRequest)
+    → IsAsking g call count → IsDriver (driver_of g areas si sd)
+    → AsksBack m1 m2 p1 p2 (driver_of g areas si sd) d2 count posted
+    → Stands m1 p1 (driver_of g areas si sd) g → IsRunning m1 p1 (driver_of g areas si sd) g
+    → refusal_of g call ≡ None
     → StepsAlone (Stands m2 p2 d2) g call (Posted posted.head posted.pages)
 asked_back m1 m2 p1 p2 g areas si sd d2 call count posted asks driver did stands run free =
     let ties = stands.ties in
     let pages = lowest_lent count g in
     let single = driver.deflate.requests in
-    let least = least_head m1 1 g.config.pages sd p1.deflate g.deflate posted.head run.deflate single did.posts.lowest in
+    let least = least_head m1 1 g.config.pages sd p1.deflate g.deflate posted.head run.deflate
+    single did.posts.lowest in
     let new : Guest = asking Deflating posted.head pages g in
     let reply = ap (λ (k : ℕ). Posted posted.head k) did.pages in
-    let step = honest_performed g call [] (Posted posted.head posted.pages) new free (asks.performs (Posted posted.head posted.pages) new (posted.head, least, reply, refl)) in
-    let orderly = honest_order g call [] (Posted posted.head posted.pages) new stands.consistent stands.orderly step ties.parts.guest.honest in
-    let once = (last_sound g.deflate.posted (record { head = posted.head; pages = pages; visited = 0 }) orderly.deflating.posted).distinct in
+    let step = honest_performed g call [] (Posted posted.head posted.pages) new free
+    (asks.performs (Posted posted.head posted.pages) new (posted.head, least, reply, refl)) in
+    let orderly = honest_order g call [] (Posted posted.head posted.pages) new stands.consistent
+    stands.orderly step ties.parts.guest.honest in
+    let once = (last_sound g.deflate.posted
+    (record { head = posted.head; pages = pages; visited = 0 })
+    orderly.deflating.posted).distinct in
     let length_is : length pages ≡ count = length-lent g count asks.lent in
-    let asked = deflate_requested g count stands.orderly once (omega (arith, length_is, asks.some free run.state)) (omega (arith, length_is, asks.few)) in
-    let line = line_posted m1 m2 1 g.config.pages sd d2.deflate p1.deflate g.deflate posted.head pages (omega arith) single asked run.deflate did.posts in
+    let asked = deflate_requested g count stands.orderly once
+    (omega (arith, length_is, asks.some free run.state)) (omega (arith, length_is, asks.few)) in
+    let line = line_posted m1 m2 1 g.config.pages sd d2.deflate p1.deflate g.deflate posted.head
+    pages (omega arith) single asked run.deflate did.posts in
     let table : sd.ring.layout.table ≡ 1 = ap (λ l. l.table) run.deflate.layout in
     let B : ℕ → Type 0 = λ r. SameButBuffer m1 m2 r 8 posted.head in
     let rest : B 1 = subst B table did.posts.rest in
-    let apart = post_apart m1 m2 1 8 posted.head 0 (omega arith) (omega arith) (λ p from to. (omega arith, omega (arith, did.posts.small))) rest in
+    let apart = post_apart m1 m2 1 8 posted.head 0 (omega arith) (omega arith)
+    (λ p from to. (omega arith, omega (arith, did.posts.small))) rest in
     let after : DriverState = driver_of new areas si d2.deflate in
     let there : Ties m2 p1 after new = record {
       parts = record {
@@ -93,7 +118,9 @@ asked_back m1 m2 p1 p2 g areas si sd d2 call count posted asks driver did stands
         driver = keeps_own new _ _ _;
         device = ties.parts.device;
       };
-      pages = pages_same m1 m2 g.config.pages _ _ (posted_same m1 m2 1 8 posted.head (omega arith) (omega arith) did.posts.small rest) ties.pages;
+      pages = pages_same m1 m2 g.config.pages _ _
+          (posted_same m1 m2 1 8 posted.head (omega arith) (omega arith) did.posts.small rest)
+          ties.pages;
       queues = inr (record {
         state = run.state;
         backed = λ p lt. ap is_some (rest.backing p) ∙ run.backed p lt;
@@ -103,18 +130,29 @@ asked_back m1 m2 p1 p2 g areas si sd d2 call count posted asks driver did stands
         deflate = line;
       });
     } in
-    steps_alone m1 m2 p1 p2 (driver_of g areas si sd) d2 g call (Posted posted.head posted.pages) new stands step
-    (subst (λ d. Ties m2 p2 d new) (sym did.state) (subst (λ p. Ties m2 p after new) (sym did.part) there)) refl
+    steps_alone m1 m2 p1 p2 (driver_of g areas si sd) d2 g call (Posted posted.head posted.pages)
+    new stands step
+    (subst (λ d. Ties m2 p2 d new) (sym did.state)
+    (subst (λ p. Ties m2 p after new) (sym did.part) there)) refl
 
-by_result : (m1 m2 : Pages) (p1 p2 : Part) (g : Guest) (areas : FreePages) (si sd : Side) (d2 : DriverState) (call : Call) (count : ℕ) (result : Result PostedRequest Refusal)
-    → IsAsking g call count → IsDriver (driver_of g areas si sd) → refusal_in result ≡ refusal_of g call → OnErr result (Unchanged m1 m2 p1 p2 (driver_of g areas si sd) d2)
-    → IfOk result (AsksBack m1 m2 p1 p2 (driver_of g areas si sd) d2 count) → Stands m1 p1 (driver_of g areas si sd) g → StepsAlone (Stands m2 p2 d2) g call (posted_reply result)
+by_result : (m1 m2 : Pages) (p1 p2 : Part) (g : Guest) (areas : FreePages) (si sd : Side)
+    (d2 : DriverState) (call : Call) (count : ℕ) (result : Result PostedRequest Refusal)
+    → IsAsking g call count → IsDriver (driver_of g areas si sd)
+    → refusal_in result ≡ refusal_of g call
+    → OnErr result (Unchanged m1 m2 p1 p2 (driver_of g areas si sd) d2)
+    → IfOk result (AsksBack m1 m2 p1 p2 (driver_of g areas si sd) d2 count)
+    → Stands m1 p1 (driver_of g areas si sd) g
+    → StepsAlone (Stands m2 p2 d2) g call (posted_reply result)
 by_result m1 m2 p1 p2 g areas si sd d2 call count (Err why) asks driver refusal refused did stands =
-    refused_alone m1 m2 p1 p2 (driver_of g areas si sd) d2 g call why stands (sym refusal) refused.mem refused.part refused.driver
-by_result m1 m2 p1 p2 g areas si sd d2 call count (Ok posted) asks driver refusal refused did stands =
+    refused_alone m1 m2 p1 p2 (driver_of g areas si sd) d2 g call why stands (sym refusal)
+    refused.mem refused.part refused.driver
+by_result m1 m2 p1 p2 g areas si sd d2 call count (Ok posted) asks driver refusal refused did stands
+    =
     elim stands.ties.queues [
-      | inl idle ↦ absurd (let down = asks.down idle.state in let free : refusal_of g call ≡ None = sym refusal in cc)
-      | inr run ↦ asked_back m1 m2 p1 p2 g areas si sd d2 call count posted asks driver did stands run (sym refusal)
+      | inl idle ↦ absurd (let down = asks.down idle.state in
+          let free : refusal_of g call ≡ None = sym refusal in cc)
+      | inr run ↦ asked_back m1 m2 p1 p2 g areas si sd d2 call count posted asks driver did stands
+          run (sym refusal)
     ]
 
 some_asked : (most out count : ℕ) → request_refusal most out count ≡ None → 0 < count
@@ -122,110 +160,159 @@ some_asked most out count e = grind (arith, nat_tests)
 
 -- ---- as far as the target allows
 
-deflate_idle : (g : Guest) (n : ℕ) → (g.status ≡ 0) ⊎ (g.status ≡ 131) → refusal_of g (Deflate n) ≡ Some NotReady
+deflate_idle : (g : Guest) (n : ℕ) → (g.status ≡ 0) ⊎ (g.status ≡ 131)
+    → refusal_of g (Deflate n) ≡ Some NotReady
 deflate_idle g n down =
     let P : ℕ → Type 0 = λ s. refusal_of (record g { status = s }) (Deflate n) ≡ Some NotReady in
     elim down [ inl e ↦ subst P (sym e) refl | inr e ↦ subst P (sym e) refl ]
 
-deflate_idle_tests : (d : DriverState) (p : Part) (n : ℕ) → (p.status ≡ 0) ⊎ (p.status ≡ 131) → first_refusal (deflate_tests d p n) ≡ Some NotReady
+deflate_idle_tests : (d : DriverState) (p : Part) (n : ℕ) → (p.status ≡ 0) ⊎ (p.status ≡ 131)
+    → first_refusal (deflate_tests d p n) ≡ Some NotReady
 deflate_idle_tests d p n down =
-    let P : ℕ → Type 0 = λ s. first_refusal (deflate_tests d (record p { status = s }) n) ≡ Some NotReady in
+    let P : ℕ → Type 0 = λ s. first_refusal (deflate_tests d (record p { status = s }) n)
+    ≡ Some NotReady in
     elim down [ inl e ↦ subst P (sym e) refl | inr e ↦ subst P (sym e) refl ]
 
-deflate_running : (g : Guest) (n : ℕ) → g.status ≡ 15 → refusal_of g (Deflate n) ≡ request_refusal (room g) (outstanding g.deflate) (deflate_count g n)
+deflate_running : (g : Guest) (n : ℕ) → g.status ≡ 15
+    → refusal_of g (Deflate n)
+    ≡ request_refusal (room g) (outstanding g.deflate) (deflate_count g n)
 deflate_running g n e =
-    let P : ℕ → Type 0 = λ s. refusal_of (record g { status = s }) (Deflate n) ≡ request_refusal (room g) (outstanding g.deflate) (deflate_count g n) in
+    let P : ℕ → Type 0 = λ s. refusal_of (record g { status = s }) (Deflate n)
+    ≡ request_refusal (room g) (outstanding g.deflate) (deflate_count g n) in
     subst P (sym e) refl
 
-deflate_running_tests : (g : Guest) (areas : FreePages) (si sd : Side) (p : Part) (n : ℕ) → p.status ≡ 15 → p.target ≡ g.target → first_refusal (deflate_tests (driver_of g areas si sd) p n) ≡ request_refusal (room g) (outstanding_in sd.ring) (deflate_count g n)
+deflate_running_tests : (g : Guest) (areas : FreePages) (si sd : Side) (p : Part) (n : ℕ)
+    → p.status ≡ 15 → p.target ≡ g.target
+    → first_refusal (deflate_tests (driver_of g areas si sd) p n)
+    ≡ request_refusal (room g) (outstanding_in sd.ring) (deflate_count g n)
 deflate_running_tests g areas si sd p n e t =
-    let P : ℕ → ℕ → Type 0 = λ s target. first_refusal (deflate_tests (driver_of g areas si sd) (record p { status = s; target = target }) n) ≡ request_refusal (room g) (outstanding_in sd.ring) (deflate_count g n) in
+    let P : ℕ → ℕ → Type 0 =
+    λ s target. first_refusal
+    (deflate_tests (driver_of g areas si sd) (record p { status = s; target = target }) n)
+    ≡ request_refusal (room g) (outstanding_in sd.ring) (deflate_count g n) in
     subst (λ s. P s p.target) (sym e) (subst (λ x. P 15 x) (sym t) refl)
 
 deflate_asks : (g : Guest) (n : ℕ) → IsAsking g (Deflate n) (deflate_count g n)
 deflate_asks g n = record {
   few = omega arith;
   lent = omega arith;
-  some = λ free up. some_asked (room g) (outstanding g.deflate) (deflate_count g n) (sym (deflate_running g n up) ∙ free);
+  some = λ free up. some_asked (room g) (outstanding g.deflate) (deflate_count g n)
+      (sym (deflate_running g n up) ∙ free);
   down = deflate_idle g n;
   performs = λ reply new does. (refl, does);
 }
 
-pub deflate_step : (m1 m2 : Pages) (p1 p2 : Part) (d1 d2 : DriverState) (g : Guest) (n : ℕ) (result : Result PostedRequest Refusal)
-    → DeflatesBy m1 m2 p1 p2 d1 d2 n result → Stands m1 p1 d1 g → StepsAlone (Stands m2 p2 d2) g (Deflate n) (posted_reply result)
+pub deflate_step : (m1 m2 : Pages) (p1 p2 : Part) (d1 d2 : DriverState) (g : Guest) (n : ℕ)
+    (result : Result PostedRequest Refusal)
+    → DeflatesBy m1 m2 p1 p2 d1 d2 n result → Stands m1 p1 d1 g
+    → StepsAlone (Stands m2 p2 d2) g (Deflate n) (posted_reply result)
 deflate_step m1 m2 p1 p2 d1 d2 g n result did stands =
     let is = driver_is p1 d1 g stands.ties.parts in
     let areas = d1.areas in
     let si = d1.inflate in
     let sd = d1.deflate in
     let here : Stands m1 p1 (driver_of g areas si sd) g = subst (λ d. Stands m1 p1 d g) is stands in
-    let at : DeflatesBy m1 m2 p1 p2 (driver_of g areas si sd) d2 n result = subst (λ d. DeflatesBy m1 m2 p1 p2 d d2 n result) is did in
+    let at : DeflatesBy m1 m2 p1 p2 (driver_of g areas si sd) d2 n result =
+    subst (λ d. DeflatesBy m1 m2 p1 p2 d d2 n result) is did in
     let D : ℕ → Type 0 = λ s. (s ≡ 0) ⊎ (s ≡ 131) in
-    let same : first_refusal (deflate_tests (driver_of g areas si sd) p1 n) ≡ refusal_of g (Deflate n) =
+    let same : first_refusal (deflate_tests (driver_of g areas si sd) p1 n)
+    ≡ refusal_of g (Deflate n) =
     elim here.ties.queues [
-      | inl idle ↦ deflate_idle_tests (driver_of g areas si sd) p1 n (subst D (sym here.ties.parts.device.status) idle.state) ∙ sym (deflate_idle g n idle.state)
+      | inl idle ↦ deflate_idle_tests (driver_of g areas si sd) p1 n
+          (subst D (sym here.ties.parts.device.status) idle.state)
+          ∙ sym (deflate_idle g n idle.state)
       | inr run ↦
-          deflate_running_tests g areas si sd p1 n (here.ties.parts.device.status ∙ run.state) here.ties.parts.device.target
-          ∙ ap (λ (k : ℕ). request_refusal (room g) k (deflate_count g n)) (outstanding_are m1 1 g.config.pages sd p1.deflate g.deflate run.deflate) ∙ sym (deflate_running g n run.state)
+          deflate_running_tests g areas si sd p1 n (here.ties.parts.device.status ∙ run.state)
+          here.ties.parts.device.target
+          ∙ ap (λ (k : ℕ). request_refusal (room g) k (deflate_count g n))
+          (outstanding_are m1 1 g.config.pages sd p1.deflate g.deflate run.deflate)
+          ∙ sym (deflate_running g n run.state)
     ] in
-    let A : ℕ → Type 0 = λ t. IfOk result (AsksBack m1 m2 p1 p2 (driver_of g areas si sd) d2 (driver_count (driver_of g areas si sd) t n)) in
-    by_result m1 m2 p1 p2 g areas si sd d2 (Deflate n) (deflate_count g n) result (deflate_asks g n) at.driver (at.refusal ∙ same) at.refused (subst A here.ties.parts.device.target at.asks) here
+    let A : ℕ → Type 0 = λ t. IfOk result
+    (AsksBack m1 m2 p1 p2 (driver_of g areas si sd) d2
+    (driver_count (driver_of g areas si sd) t n)) in
+    by_result m1 m2 p1 p2 g areas si sd d2 (Deflate n) (deflate_count g n) result (deflate_asks g n)
+    at.driver (at.refusal ∙ same) at.refused (subst A here.ties.parts.device.target at.asks)
+    here
 
 -- ---- whatever the target
 
 -- what is tested once the device is initialised
 abbrev oom_refusal : Bool → ℕ → ℕ → ℕ → Option Refusal
-oom_refusal allowed most out count = first_refusal ((not allowed ⇒ NoFeature) ∷ (nat_le most out ⇒ QueueFull) ∷ ((count == 0) ⇒ Nothing) ∷ [])
+oom_refusal allowed most out count =
+    first_refusal ((not allowed ⇒ NoFeature) ∷ (nat_le most out ⇒ QueueFull)
+    ∷ ((count == 0) ⇒ Nothing) ∷ [])
 
-some_left : (allowed : Bool) (most out count : ℕ) → oom_refusal allowed most out count ≡ None → 0 < count
+some_left : (allowed : Bool) (most out count : ℕ) → oom_refusal allowed most out count ≡ None
+    → 0 < count
 some_left true most out count e = some_asked most out count e
 some_left false most out count e = absurd cc
 
-oom_idle : (g : Guest) (n : ℕ) → (g.status ≡ 0) ⊎ (g.status ≡ 131) → refusal_of g (Oom n) ≡ Some NotReady
+oom_idle : (g : Guest) (n : ℕ) → (g.status ≡ 0) ⊎ (g.status ≡ 131)
+    → refusal_of g (Oom n) ≡ Some NotReady
 oom_idle g n down =
     let P : ℕ → Type 0 = λ s. refusal_of (record g { status = s }) (Oom n) ≡ Some NotReady in
     elim down [ inl e ↦ subst P (sym e) refl | inr e ↦ subst P (sym e) refl ]
 
-oom_idle_tests : (d : DriverState) (p : Part) (n : ℕ) → (p.status ≡ 0) ⊎ (p.status ≡ 131) → first_refusal (oom_tests d p n) ≡ Some NotReady
+oom_idle_tests : (d : DriverState) (p : Part) (n : ℕ) → (p.status ≡ 0) ⊎ (p.status ≡ 131)
+    → first_refusal (oom_tests d p n) ≡ Some NotReady
 oom_idle_tests d p n down =
-    let P : ℕ → Type 0 = λ s. first_refusal (oom_tests d (record p { status = s }) n) ≡ Some NotReady in
+    let P : ℕ → Type 0 = λ s. first_refusal (oom_tests d (record p { status = s }) n)
+    ≡ Some NotReady in
     elim down [ inl e ↦ subst P (sym e) refl | inr e ↦ subst P (sym e) refl ]
 
-oom_running : (g : Guest) (n : ℕ) → g.status ≡ 15 → refusal_of g (Oom n) ≡ oom_refusal (deflate_on_oom g.features) (room g) (outstanding g.deflate) (oom_count g n)
+oom_running : (g : Guest) (n : ℕ) → g.status ≡ 15
+    → refusal_of g (Oom n)
+    ≡ oom_refusal (deflate_on_oom g.features) (room g) (outstanding g.deflate) (oom_count g n)
 oom_running g n e =
-    let P : ℕ → Type 0 = λ s. refusal_of (record g { status = s }) (Oom n) ≡ oom_refusal (deflate_on_oom g.features) (room g) (outstanding g.deflate) (oom_count g n) in
+    let P : ℕ → Type 0 = λ s. refusal_of (record g { status = s }) (Oom n)
+    ≡ oom_refusal (deflate_on_oom g.features) (room g) (outstanding g.deflate)
+    (oom_count g n) in
     subst P (sym e) refl
 
-oom_running_tests : (g : Guest) (areas : FreePages) (si sd : Side) (p : Part) (n : ℕ) → p.status ≡ 15
-    → first_refusal (oom_tests (driver_of g areas si sd) p n) ≡ oom_refusal (deflate_on_oom g.features) (room g) (outstanding_in sd.ring) (oom_count g n)
+oom_running_tests : (g : Guest) (areas : FreePages) (si sd : Side) (p : Part) (n : ℕ)
+    → p.status ≡ 15
+    → first_refusal (oom_tests (driver_of g areas si sd) p n)
+    ≡ oom_refusal (deflate_on_oom g.features) (room g) (outstanding_in sd.ring) (oom_count g n)
 oom_running_tests g areas si sd p n e =
-    let P : ℕ → Type 0 = λ s. first_refusal (oom_tests (driver_of g areas si sd) (record p { status = s }) n) ≡ oom_refusal (deflate_on_oom g.features) (room g) (outstanding_in sd.ring) (oom_count g n) in
+    let P : ℕ → Type 0 = λ s. first_refusal
+    (oom_tests (driver_of g areas si sd) (record p { status = s }) n)
+    ≡ oom_refusal (deflate_on_oom g.features) (room g) (outstanding_in sd.ring)
+    (oom_count g n) in
     subst P (sym e) refl
 
 oom_asks : (g : Guest) (n : ℕ) → IsAsking g (Oom n) (oom_count g n)
 oom_asks g n = record {
   few = omega arith;
   lent = omega arith;
-  some = λ free up. some_left (deflate_on_oom g.features) (room g) (outstanding g.deflate) (oom_count g n) (sym (oom_running g n up) ∙ free);
+  some = λ free up. some_left (deflate_on_oom g.features) (room g) (outstanding g.deflate)
+      (oom_count g n) (sym (oom_running g n up) ∙ free);
   down = oom_idle g n;
   performs = λ reply new does. (refl, does);
 }
 
-pub oom_step : (m1 m2 : Pages) (p1 p2 : Part) (d1 d2 : DriverState) (g : Guest) (n : ℕ) (result : Result PostedRequest Refusal)
-    → DeflatesOnOomBy m1 m2 p1 p2 d1 d2 n result → Stands m1 p1 d1 g → StepsAlone (Stands m2 p2 d2) g (Oom n) (posted_reply result)
+pub oom_step : (m1 m2 : Pages) (p1 p2 : Part) (d1 d2 : DriverState) (g : Guest) (n : ℕ)
+    (result : Result PostedRequest Refusal)
+    → DeflatesOnOomBy m1 m2 p1 p2 d1 d2 n result → Stands m1 p1 d1 g
+    → StepsAlone (Stands m2 p2 d2) g (Oom n) (posted_reply result)
 oom_step m1 m2 p1 p2 d1 d2 g n result did stands =
     let is = driver_is p1 d1 g stands.ties.parts in
     let areas = d1.areas in
     let si = d1.inflate in
     let sd = d1.deflate in
     let here : Stands m1 p1 (driver_of g areas si sd) g = subst (λ d. Stands m1 p1 d g) is stands in
-    let at : DeflatesOnOomBy m1 m2 p1 p2 (driver_of g areas si sd) d2 n result = subst (λ d. DeflatesOnOomBy m1 m2 p1 p2 d d2 n result) is did in
+    let at : DeflatesOnOomBy m1 m2 p1 p2 (driver_of g areas si sd) d2 n result =
+    subst (λ d. DeflatesOnOomBy m1 m2 p1 p2 d d2 n result) is did in
     let D : ℕ → Type 0 = λ s. (s ≡ 0) ⊎ (s ≡ 131) in
     let same : first_refusal (oom_tests (driver_of g areas si sd) p1 n) ≡ refusal_of g (Oom n) =
     elim here.ties.queues [
-      | inl idle ↦ oom_idle_tests (driver_of g areas si sd) p1 n (subst D (sym here.ties.parts.device.status) idle.state) ∙ sym (oom_idle g n idle.state)
+      | inl idle ↦ oom_idle_tests (driver_of g areas si sd) p1 n
+          (subst D (sym here.ties.parts.device.status) idle.state) ∙ sym (oom_idle g n idle.state)
       | inr run ↦
           oom_running_tests g areas si sd p1 n (here.ties.parts.device.status ∙ run.state)
-          ∙ ap (λ (k : ℕ). oom_refusal (deflate_on_oom g.features) (room g) k (oom_count g n)) (outstanding_are m1 1 g.config.pages sd p1.deflate g.deflate run.deflate) ∙ sym (oom_running g n run.state)
+          ∙ ap (λ (k : ℕ). oom_refusal (deflate_on_oom g.features) (room g) k (oom_count g n))
+          (outstanding_are m1 1 g.config.pages sd p1.deflate g.deflate run.deflate)
+          ∙ sym (oom_running g n run.state)
     ] in
-    by_result m1 m2 p1 p2 g areas si sd d2 (Oom n) (oom_count g n) result (oom_asks g n) at.driver (at.refusal ∙ same) at.refused at.asks here
+    by_result m1 m2 p1 p2 g areas si sd d2 (Oom n) (oom_count g n) result (oom_asks g n) at.driver
+    (at.refusal ∙ same) at.refused at.asks here

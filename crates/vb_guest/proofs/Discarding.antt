@@ -1,5 +1,7 @@
 -- Pages lose their frames.
-use Rattle.std.specs.Prelude.{◌≡◌, ◌≢◌, ℕ, ◌+◌, ◌<◌, ◌==◌, ◌||◌, Bool, true, false, not, cond, if◌then◌else◌, List, [], ◌∷◌, ◌++◌, All, length, Option, Some, None, IsTrue, slice_set, slice_index_or, count_by, refl, ◌⊎◌}
+use Rattle.std.specs.Prelude.{◌≡◌, ◌≢◌, ℕ, ◌+◌, ◌<◌, ◌==◌, ◌||◌, Bool, true, false, not, cond}
+use Rattle.std.specs.Prelude.{if◌then◌else◌, List, [], ◌∷◌, ◌++◌, All, length, Option, Some, None}
+use Rattle.std.specs.Prelude.{IsTrue, slice_set, slice_index_or, count_by, refl, ◌⊎◌}
 use Rattle.std.specs.Option.{option_to_list}
 use Rattle.std.specs.List.{flat_map, list_any}
 use Rattle.std.proofs.Common.{sym, ◌∙◌, ap, arith, inl, inr, eq-eqb}
@@ -22,15 +24,25 @@ either false = inr refl
 abbrev pub with_entry : {A : Type 0} → List ℕ → A → List A → List A
 with_entry pages x xs = each_page (λ page old. if is_in page pages then x else old) xs
 
-pub length-with_entry : {A : Type 0} (pages : List ℕ) (x : A) (xs : List A) → length (with_entry pages x xs) ≡ length xs
-length-with_entry pages x xs = length-each_from 0 (λ page old. if is_in page pages then x else old) xs
+pub length-with_entry : {A : Type 0} (pages : List ℕ) (x : A) (xs : List A)
+    → length (with_entry pages x xs) ≡ length xs
+length-with_entry pages x xs =
+    length-each_from 0 (λ page old. if is_in page pages then x else old) xs
 
-pub with_entry-get : {A : Type 0} (pages : List ℕ) (x : A) (xs : List A) (i : ℕ) (d : A) → i < length xs → slice_index_or (with_entry pages x xs) i d ≡ (if is_in i pages then x else slice_index_or xs i d)
-with_entry-get pages x xs i d lt = each_page-get (λ page old. if is_in page pages then x else old) xs i d (λ past. absurd (omega arith))
+pub with_entry-get : {A : Type 0} (pages : List ℕ) (x : A) (xs : List A) (i : ℕ) (d : A)
+    → i < length xs → slice_index_or (with_entry pages x xs) i d
+    ≡ (if is_in i pages then x else slice_index_or xs i d)
+with_entry-get pages x xs i d lt =
+    each_page-get (λ page old. if is_in page pages then x else old) xs i d
+    (λ past. absurd (omega arith))
 
 -- where the entry is what is past the end, any index will do
-pub with_none-get : {A : Type 0} (pages : List ℕ) (x : A) (xs : List A) (i : ℕ) → slice_index_or (with_entry pages x xs) i x ≡ (if is_in i pages then x else slice_index_or xs i x)
-with_none-get pages x xs i = each_page-get (λ page old. if is_in page pages then x else old) xs i x (λ past. same (is_in i pages) x)
+pub with_none-get : {A : Type 0} (pages : List ℕ) (x : A) (xs : List A) (i : ℕ)
+    → slice_index_or (with_entry pages x xs) i x
+    ≡ (if is_in i pages then x else slice_index_or xs i x)
+with_none-get pages x xs i =
+    each_page-get (λ page old. if is_in page pages then x else old) xs i x
+    (λ past. same (is_in i pages) x)
   where
     same : {A : Type 0} (b : Bool) (x : A) → (if b then x else x) ≡ x
     same true x = refl
@@ -46,16 +58,24 @@ pub in_rest : (p i : ℕ) (ps : List ℕ) → p ≢ i → is_in i (p ∷ ps) ≡
 in_rest p i ps ne = ap (λ (b : Bool). b || list_any (λ m. m == i) ps) (other_not p i ne)
 
 -- one page after the others
-entry_first : {A : Type 0} (p : ℕ) (ps : List ℕ) (x d : A) (xs : List A) → p < length xs → with_entry (p ∷ ps) x xs ≡ slice_set (with_entry ps x xs) p x
+entry_first : {A : Type 0} (p : ℕ) (ps : List ℕ) (x d : A) (xs : List A) → p < length xs
+    → with_entry (p ∷ ps) x xs ≡ slice_set (with_entry ps x xs) p x
 entry_first p ps x d xs lt =
-    ext_get_or d (with_entry (p ∷ ps) x xs) (slice_set (with_entry ps x xs) p x) (length-with_entry (p ∷ ps) x xs ∙ sym (length-set (with_entry ps x xs) p x ∙ length-with_entry ps x xs)) (λ i h.
+    ext_get_or d (with_entry (p ∷ ps) x xs) (slice_set (with_entry ps x xs) p x)
+    (length-with_entry (p ∷ ps) x xs
+    ∙ sym (length-set (with_entry ps x xs) p x ∙ length-with_entry ps x xs)) (λ i h.
     let inside : i < length xs = omega (arith, length-with_entry (p ∷ ps) x xs) in
     with_entry-get (p ∷ ps) x xs i d inside ∙ elim (cases_eq p i) [
       | inl same ↦
-          ap (λ (b : Bool). if b then x else slice_index_or xs i d) (ap (λ (k : ℕ). is_in k (p ∷ ps)) (sym same) ∙ in_first p ps)
-          ∙ sym (ap (λ (k : ℕ). slice_index_or (slice_set (with_entry ps x xs) p x) k d) (sym same) ∙ get_or-set_same (with_entry ps x xs) p x d (omega (arith, length-with_entry ps x xs)))
+          ap (λ (b : Bool). if b then x else slice_index_or xs i d)
+          (ap (λ (k : ℕ). is_in k (p ∷ ps)) (sym same) ∙ in_first p ps)
+          ∙ sym (ap (λ (k : ℕ). slice_index_or (slice_set (with_entry ps x xs) p x) k d) (sym same)
+          ∙ get_or-set_same (with_entry ps x xs) p x d
+          (omega (arith, length-with_entry ps x xs)))
       | inr ne ↦
-          ap (λ (b : Bool). if b then x else slice_index_or xs i d) (in_rest p i ps ne) ∙ sym (get_or-set_other (with_entry ps x xs) p i x d (λ e. ne (sym e)) ∙ with_entry-get ps x xs i d inside)
+          ap (λ (b : Bool). if b then x else slice_index_or xs i d) (in_rest p i ps ne)
+          ∙ sym (get_or-set_other (with_entry ps x xs) p i x d (λ e. ne (sym e))
+          ∙ with_entry-get ps x xs i d inside)
     ])
 
 not_in : (b : Bool) → IsTrue (not b) → b ≡ false
@@ -71,22 +91,38 @@ cond_one true = refl
 cond_one false = refl
 
 -- how often a frame was behind the pages, and how often it is behind one afterwards
-pub frames_freed : (n : ℕ) (pages : List ℕ) (frames : List (Option ℕ)) → AllDistinct pages → All (λ page. page < length frames) pages
-    → times n (flat_map (λ page. option_to_list (frame_of frames page)) pages) + count_by (is_frame n) (with_entry pages None frames) ≡ count_by (is_frame n) frames
+pub frames_freed : (n : ℕ) (pages : List ℕ) (frames : List (Option ℕ)) → AllDistinct pages
+    → All (λ page. page < length frames) pages
+    → times n (flat_map (λ page. option_to_list (frame_of frames page)) pages) + count_by
+    (is_frame n) (with_entry pages None frames) ≡ count_by (is_frame n) frames
 frames_freed n [] frames distinct below =
-    let same : count_by (is_frame n) (with_entry [] None frames) ≡ count_by (is_frame n) frames = ap (count_by (is_frame n)) (ext_get_or None (with_entry [] None frames) frames (length-with_entry [] None frames) (λ i h. with_none-get [] None frames i)) in
+    let same : count_by (is_frame n) (with_entry [] None frames) ≡ count_by (is_frame n) frames =
+    ap (count_by (is_frame n))
+    (ext_get_or None (with_entry [] None frames) frames (length-with_entry [] None frames)
+    (λ i h. with_none-get [] None frames i)) in
     omega (arith, same)
 frames_freed n (p ∷ ps) frames distinct below =
     let lt : p < length frames = below 0 p (omega arith) in
-    let rest = frames_freed n ps frames distinct.1 (All-tail (λ page. page < length frames) p ps below) in
+    let rest = frames_freed n ps frames distinct.1
+    (All-tail (λ page. page < length frames) p ps below) in
     let behind : Option ℕ = frame_of frames p in
     let others = flat_map (λ page. option_to_list (frame_of frames page)) ps in
-    let split : times n (option_to_list behind ++ others) ≡ times n (option_to_list behind) + times n others = count_by-append (λ (m : ℕ). m == n) (option_to_list behind) others in
+    let split : times n (option_to_list behind ++ others)
+    ≡ times n (option_to_list behind) + times n others =
+    count_by-append (λ (m : ℕ). m == n) (option_to_list behind) others in
     let f : Option ℕ → ℕ = λ o. cond (is_frame n o) 1 0 in
-    let there : slice_index_or (with_entry ps None frames) p None ≡ behind = with_none-get ps None frames p ∙ ap (λ (b : Bool). if b then None else behind) (not_in (is_in p ps) distinct.0) in
-    let set_one : count_by (is_frame n) (slice_set (with_entry ps None frames) p None) + f (slice_index_or (with_entry ps None frames) p None) ≡ count_by (is_frame n) (with_entry ps None frames) + f None =
-    sum_by-set f (with_entry ps None frames) p None None (omega (arith, length-with_entry ps None frames)) in
+    let there : slice_index_or (with_entry ps None frames) p None ≡ behind =
+    with_none-get ps None frames p
+    ∙ ap (λ (b : Bool). if b then None else behind) (not_in (is_in p ps) distinct.0) in
+    let set_one : count_by (is_frame n) (slice_set (with_entry ps None frames) p None) + f
+    (slice_index_or (with_entry ps None frames) p None)
+    ≡ count_by (is_frame n) (with_entry ps None frames) + f None =
+    sum_by-set f (with_entry ps None frames) p None None
+    (omega (arith, length-with_entry ps None frames)) in
     let none : f None ≡ 0 = refl in
-    let same : f (slice_index_or (with_entry ps None frames) p None) ≡ one_if (is_frame n behind) = ap f there ∙ cond_one (is_frame n behind) in
-    let whole : count_by (is_frame n) (with_entry (p ∷ ps) None frames) ≡ count_by (is_frame n) (slice_set (with_entry ps None frames) p None) = ap (count_by (is_frame n)) (entry_first p ps None None frames lt) in
+    let same : f (slice_index_or (with_entry ps None frames) p None) ≡ one_if (is_frame n behind) =
+    ap f there ∙ cond_one (is_frame n behind) in
+    let whole : count_by (is_frame n) (with_entry (p ∷ ps) None frames)
+    ≡ count_by (is_frame n) (slice_set (with_entry ps None frames) p None) =
+    ap (count_by (is_frame n)) (entry_first p ps None None frames lt) in
     omega (arith, rest, split, set_one, none, same, whole, one_frame n behind)

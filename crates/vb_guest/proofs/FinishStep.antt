@@ -1,5 +1,7 @@
 -- The slot's finish is a step of the guest.
-use Rattle.std.specs.Prelude.{◌≡◌, ◌≢◌, ℕ, ◌+◌, ◌%◌, ◌<◌, ◌≤◌, ◌==◌, ◌||◌, Bool, true, false, List, [], ◌∷◌, ◌++◌, All, remove, Result, Option, Some, None, is_some, slice_get, refl, ◌⊎◌}
+use Rattle.std.specs.Prelude.{◌≡◌, ◌≢◌, ℕ, ◌+◌, ◌%◌, ◌<◌, ◌≤◌, ◌==◌, ◌||◌, Bool, true, false, List}
+use Rattle.std.specs.Prelude.{[], ◌∷◌, ◌++◌, All, remove, Result, Option, Some, None, is_some}
+use Rattle.std.specs.Prelude.{slice_get, refl, ◌⊎◌}
 use Rattle.std.proofs.Common.{sym, ◌∙◌, ap, subst, arith, inl, inr}
 use Rattle.std.specs.Option.{option_to_list}
 use Rattle.std.specs.List.{flat_map}
@@ -36,8 +38,10 @@ use Rattle.vb_guest.proofs.Finishing.{end_of, line_finished}
 use Rattle.vb_guest.proofs.Discarding.{frames_freed}
 use Rattle.vb_guest.proofs.PagesKept.{SamePages, pages_same, pages_discarded, page_undiscarded}
 use Rattle.vb_model.proofs.Queues.{queue_cases}
-use Rattle.vb_guest.proofs.Refusing.{finish_no_queue, finish_running, finish_running_part, finish_idle, finish_idle_part, finish_test}
-use Rattle.vb_guest.proofs.Closing.{honest_refused, honest_performed, still_stands, guest_step, ties_same}
+use Rattle.vb_guest.proofs.Refusing.{finish_no_queue, finish_running, finish_running_part}
+use Rattle.vb_guest.proofs.Refusing.{finish_idle, finish_idle_part, finish_test}
+use Rattle.vb_guest.proofs.Closing.{honest_refused, honest_performed, still_stands, guest_step}
+use Rattle.vb_guest.proofs.Closing.{ties_same}
 
 -- once its loose frames are gone
 abbrev pub handed_back : Part → Part
@@ -53,56 +57,89 @@ either false = inr refl
 in_high : (pages : List ℕ) (p : ℕ) → All (λ page. 16 ≤ page) pages → is_in p pages ≡ true → 16 ≤ p
 in_high [] p above e = absurd cc
 in_high (x ∷ xs) p above e = elim (either (x == p)) [
-  | inl same ↦ (let is : x ≡ p = eqb-true x p same in let here : 16 ≤ x = above 0 x (omega arith) in omega arith)
-  | inr other ↦ in_high xs p (All-tail (λ page. 16 ≤ page) x xs above) (ap (λ (b : Bool). b || is_in p xs) (sym other) ∙ e)
+  | inl same ↦ (let is : x ≡ p = eqb-true x p same in let here : 16 ≤ x = above 0 x (omega arith) in
+      omega arith)
+  | inr other ↦ in_high xs p (All-tail (λ page. 16 ≤ page) x xs above)
+      (ap (λ (b : Bool). b || is_in p xs) (sym other) ∙ e)
 ]
 
 -- a reserved page isn't among those of a request
-pub not_among : (pages : List ℕ) (p : ℕ) → All (λ page. 16 ≤ page) pages → p < 16 → is_in p pages ≡ false
+pub not_among : (pages : List ℕ) (p : ℕ) → All (λ page. 16 ≤ page) pages → p < 16
+    → is_in p pages ≡ false
 not_among pages p above low = elim (either (is_in p pages)) [
   | inl e ↦ absurd (let high : 16 ≤ p = in_high pages p above e in omega arith)
   | inr e ↦ e
 ]
 
 -- what is left of memory once a device has used a chain
-pub used_same : (m1 m2 : Pages) (e1 e2 : DeviceEnd) (head len : ℕ) → e1.layout.used.page < 16 → AddsUsedBy m1 m2 e1 e2 head len → SamePages m1 m2
+pub used_same : (m1 m2 : Pages) (e1 e2 : DeviceEnd) (head len : ℕ) → e1.layout.used.page < 16
+    → AddsUsedBy m1 m2 e1 e2 head len → SamePages m1 m2
 used_same m1 m2 e1 e2 head len low adds = record {
   count = adds.puts.rest.count;
   behind = adds.puts.rest.backing;
-  holds = λ p high. let apart : p ≢ e1.layout.used.page = omega arith in ap contents_of (adds.puts.rest.others p (apart, (apart, tt)));
+  holds = λ p high. let apart : p ≢ e1.layout.used.page = omega arith in
+      ap contents_of (adds.puts.rest.others p (apart, (apart, tt)));
 }
 
 -- the device's end of the queue is the one whose ring the driver keeps
-pub same_end : (m1 m2 : Pages) (q size : ℕ) (side : Side) (part : QueuePart) (after : DeviceEnd) (head : ℕ) → side.ring.layout ≡ layout_of (ring_page q) side.ring.size → size ≡ side.ring.size
-    → AddsUsedBy m1 m2 (record { layout = layout_of (ring_page q) size; size = size; ready = true; next_avail = part.next_avail; next_used = part.next_used }) after head 0
+pub same_end : (m1 m2 : Pages) (q size : ℕ) (side : Side) (part : QueuePart) (after : DeviceEnd)
+    (head : ℕ) → side.ring.layout ≡ layout_of (ring_page q) side.ring.size → size ≡ side.ring.size
+    → AddsUsedBy m1 m2 (record {
+      layout = layout_of (ring_page q) size;
+      size = size;
+      ready = true;
+      next_avail = part.next_avail;
+      next_used = part.next_used;
+    }) after head 0
     → AddsUsedBy m1 m2 (end_of side part) after head 0
 same_end m1 m2 q size side part after head layout same adds =
-    let S : ℕ → Type 0 = λ s. AddsUsedBy m1 m2 (record { layout = layout_of (ring_page q) s; size = s; ready = true; next_avail = part.next_avail; next_used = part.next_used }) after head 0 in
-    let L : Layout → Type 0 = λ l. AddsUsedBy m1 m2 (record { layout = l; size = side.ring.size; ready = true; next_avail = part.next_avail; next_used = part.next_used }) after head 0 in
+    let S : ℕ → Type 0 = λ s. AddsUsedBy m1 m2
+    (record {
+      layout = layout_of (ring_page q) s;
+      size = s;
+      ready = true;
+      next_avail = part.next_avail;
+      next_used = part.next_used;
+    }) after head 0 in
+    let L : Layout → Type 0 =
+    λ l. AddsUsedBy m1 m2
+    (record {
+      layout = l;
+      size = side.ring.size;
+      ready = true;
+      next_avail = part.next_avail;
+      next_used = part.next_used;
+    }) after head 0 in
     subst L (sym layout) (subst S same adds)
 
 -- no request has the index, or not all its pages were visited
-test_some : (paced visits : Bool) (o : Option Request) → finish_test paced visits o ≡ None → (r : Request) × (o ≡ Some r)
+test_some : (paced visits : Bool) (o : Option Request) → finish_test paced visits o ≡ None
+    → (r : Request) × (o ≡ Some r)
 test_some paced visits None e = absurd cc
 test_some paced visits (Some r) e = (r, refl)
 
-pub finish_refused : (m1 m2 : Pages) (p1 p2 : Part) (d : DriverState) (g : Guest) (q i : ℕ) (why : Refusal) (result : Result ℕ Refusal)
-    → FinishesBy q i m1 m2 p1 p2 result → Stands m1 p1 d g → finish_refusal q i p1 ≡ Some why → refusal_of g (Finish q i) ≡ Some why
+pub finish_refused : (m1 m2 : Pages) (p1 p2 : Part) (d : DriverState) (g : Guest) (q i : ℕ)
+    (why : Refusal) (result : Result ℕ Refusal)
+    → FinishesBy q i m1 m2 p1 p2 result → Stands m1 p1 d g → finish_refusal q i p1 ≡ Some why
+    → refusal_of g (Finish q i) ≡ Some why
     → StepsFreeing (Stands m2 (handed_back p2) d) p2.loose g (Finish q i) (finished_reply result)
 finish_refused m1 m2 p1 p2 d g q i why result did stands by_part by_model =
     let (answer, part, memory) = did.refused why by_part in
     let step = honest_refused g (Finish q i) why by_model in
     let same = ap handed_back part ∙ loose_none p1 stands.ties.parts.device.loose in
     let none : p2.loose ≡ [] = ap (λ (p : Part). p.loose) part ∙ stands.ties.parts.device.loose in
-    subst (λ r. StepsFreeing (Stands m2 (handed_back p2) d) p2.loose g (Finish q i) (finished_reply r)) (sym answer) (record {
+    subst (λ r. StepsFreeing (Stands m2 (handed_back p2) d) p2.loose g (Finish q i)
+    (finished_reply r)) (sym answer) (record {
       new = g;
-      stands = still_stands m1 m2 p1 (handed_back p2) d d g (Finish q i) [] (Refused why) g stands step (ties_same m1 m2 p1 (handed_back p2) d d g memory same refl stands.ties);
+      stands = still_stands m1 m2 p1 (handed_back p2) d d g (Finish q i) [] (Refused why) g stands
+          step (ties_same m1 m2 p1 (handed_back p2) d d g memory same refl stands.ties);
       step = guest_step g (Finish q i) [] (Refused why) g stands.ties.parts.guest.honest step;
       freed = λ n. omega (arith, ap (times n) none);
     })
 
 -- the frames behind pages are those of the guest's pages
-pub behind_same : (mem : Pages) (frames : List (Option ℕ)) (pages : List ℕ) → ((p : ℕ) → frame_at mem p ≡ frame_of frames p)
+pub behind_same : (mem : Pages) (frames : List (Option ℕ)) (pages : List ℕ)
+    → ((p : ℕ) → frame_at mem p ≡ frame_of frames p)
     → frames_behind mem pages ≡ flat_map (λ page. option_to_list (frame_of frames page)) pages
 behind_same mem frames [] same = refl
 behind_same mem frames (p ∷ ps) same =
@@ -111,25 +148,44 @@ behind_same mem frames (p ∷ ps) same =
 
 -- ---- queue 0
 
-inflate_finished : (m1 m2 : Pages) (p1 p2 : Part) (d : DriverState) (g : Guest) (i : ℕ) (r : Request) (result : Result ℕ Refusal)
-    → slice_get g.inflate.taken i ≡ Some r → Uses 0 i r m1 m2 p1 p2 result → Stands m1 p1 d g → IsRunning m1 p1 d g → refusal_of g (Finish 0 i) ≡ None
+inflate_finished : (m1 m2 : Pages) (p1 p2 : Part) (d : DriverState) (g : Guest) (i : ℕ)
+    (r : Request) (result : Result ℕ Refusal)
+    → slice_get g.inflate.taken i ≡ Some r → Uses 0 i r m1 m2 p1 p2 result → Stands m1 p1 d g
+    → IsRunning m1 p1 d g → refusal_of g (Finish 0 i) ≡ None
     → StepsFreeing (Stands m2 (handed_back p2) d) p2.loose g (Finish 0 i) (finished_reply result)
 inflate_finished m1 m2 p1 p2 d g i r result is did stands run free =
     let ties = stands.ties in
     let n = g.config.pages in
     let bare = discarded r.pages m1 in
     let P : Request → Type 0 = IsRequest d.inflate.ring.size n d.inflate.sent in
-    let request : P r = subst P (get_or_from_slice_get g.inflate.taken i r r is) (run.inflate.taken i r (slice_get_within g.inflate.taken i r is)) in
-    let adds = same_end bare m2 0 p1.queue_size d.inflate p1.inflate _ r.head run.inflate.layout (ties.parts.device.size ∙ sym run.inflate_size) did.memory in
-    let low : (p : ℕ) → p < 16 → page_at bare p ≡ page_at m1 p = λ p lt. page_undiscarded r.pages m1 p (not_among r.pages p request.pages.above lt) in
-    let used_low : d.inflate.ring.layout.used.page ≡ 0 = ap (λ (l : Layout). l.used.page) run.inflate.layout in
-    let same = used_same bare m2 (end_of d.inflate p1.inflate) _ r.head 0 (omega (arith, used_low)) adds in
-    let mine = line_apart m1 bare 0 n d.inflate p1.inflate g.inflate (above_apart m1 bare 0 (omega arith) (omega arith) low) run.inflate in
-    let other = line_apart m1 bare 1 n d.deflate p1.deflate g.deflate (above_apart m1 bare 1 (omega arith) (omega arith) low) run.deflate in
-    let apart : (p : ℕ) → 0 < p → page_at m2 p ≡ page_at bare p = λ p lt. (let ne : p ≢ d.inflate.ring.layout.used.page = omega (arith, used_low) in adds.puts.rest.others p (ne, (ne, tt))) in
+    let request : P r = subst P (get_or_from_slice_get g.inflate.taken i r r is)
+    (run.inflate.taken i r (slice_get_within g.inflate.taken i r is)) in
+    let adds = same_end bare m2 0 p1.queue_size d.inflate p1.inflate _ r.head run.inflate.layout
+    (ties.parts.device.size ∙ sym run.inflate_size) did.memory in
+    let low : (p : ℕ) → p < 16
+    → page_at bare p ≡ page_at m1 p =
+    λ p lt. page_undiscarded r.pages m1 p (not_among r.pages p request.pages.above lt) in
+    let used_low : d.inflate.ring.layout.used.page ≡ 0 =
+    ap (λ (l : Layout). l.used.page) run.inflate.layout in
+    let same = used_same bare m2 (end_of d.inflate p1.inflate) _ r.head 0 (omega (arith, used_low))
+    adds in
+    let mine = line_apart m1 bare 0 n d.inflate p1.inflate g.inflate
+    (above_apart m1 bare 0 (omega arith) (omega arith) low) run.inflate in
+    let other = line_apart m1 bare 1 n d.deflate p1.deflate g.deflate
+    (above_apart m1 bare 1 (omega arith) (omega arith) low) run.deflate in
+    let apart : (p : ℕ) → 0 < p
+    → page_at m2 p ≡ page_at bare p =
+    λ p lt. (let ne : p ≢ d.inflate.ring.layout.used.page = omega (arith, used_low) in
+    adds.puts.rest.others p (ne, (ne, tt))) in
     let new : Guest = settled Inflating r.pages (used Inflating i r g) in
-    let step = honest_performed g (Finish 0 i) [] (Finished r.head) new free (refl, (r, is, refl, refl)) in
-    let after : Part = handed_back (record p1 { inflate = record p1.inflate { next_used = (p1.inflate.next_used + 1) % 65536; taken = remove p1.inflate.taken i }; ballooned = flagged r.pages true p1.ballooned }) in
+    let step = honest_performed g (Finish 0 i) [] (Finished r.head) new free
+    (refl, (r, is, refl, refl)) in
+    let after : Part = handed_back
+    (record p1 {
+      inflate = record p1.inflate
+          { next_used = (p1.inflate.next_used + 1) % 65536; taken = remove p1.inflate.taken i };
+      ballooned = flagged r.pages true p1.ballooned;
+    }) in
     let part : handed_back p2 ≡ after = ap handed_back did.part in
     let there : Ties m2 after d new = record {
       parts = record {
@@ -149,64 +205,110 @@ inflate_finished m1 m2 p1 p2 d g i r result is did stands run free =
           loose = refl;
         };
       };
-      pages = pages_same bare m2 n _ _ same (pages_discarded m1 n g.frames g.contents r.pages ties.pages);
+      pages = pages_same bare m2 n _ _ same
+          (pages_discarded m1 n g.frames g.contents r.pages ties.pages);
       queues = inr (record {
         state = run.state;
-        backed = λ p lt. ap is_some (same.behind p ∙ ap number_of (low p (omega arith))) ∙ run.backed p lt;
+        backed = λ p lt. ap is_some (same.behind p ∙ ap number_of (low p (omega arith)))
+            ∙ run.backed p lt;
         inflate_size = run.inflate_size;
         deflate_size = run.deflate_size;
-        inflate = line_finished bare m2 0 n d.inflate p1.inflate g.inflate i r _ (omega arith) mine is adds;
-        deflate = line_apart bare m2 1 n d.deflate p1.deflate g.deflate (record { ring = apart 1 (omega arith); buffers = λ p from to. apart p (omega arith) }) other;
+        inflate = line_finished bare m2 0 n d.inflate p1.inflate g.inflate i r _ (omega arith) mine
+            is adds;
+        deflate = line_apart bare m2 1 n d.deflate p1.deflate g.deflate
+            (record { ring = apart 1 (omega arith); buffers = λ p from to. apart p (omega arith) })
+            other;
       });
     } in
-    let numbers : (k : ℕ) → times k p2.loose ≡ times k (frames_behind m1 r.pages) = λ k. ap (λ (p : Part). times k p.loose) did.part ∙ ap (λ (l : List ℕ). times k (l ++ frames_behind m1 r.pages)) ties.parts.device.loose in
-    let behind : frames_behind m1 r.pages ≡ flat_map (λ page. option_to_list (frame_of g.frames page)) r.pages = behind_same m1 g.frames r.pages ties.pages.behind in
+    let numbers : (k : ℕ)
+    → times k p2.loose ≡ times k (frames_behind m1 r.pages) =
+    λ k. ap (λ (p : Part). times k p.loose) did.part
+    ∙ ap (λ (l : List ℕ). times k (l ++ frames_behind m1 r.pages)) ties.parts.device.loose in
+    let behind : frames_behind m1 r.pages
+    ≡ flat_map (λ page. option_to_list (frame_of g.frames page)) r.pages =
+    behind_same m1 g.frames r.pages ties.pages.behind in
     let F : ℕ → Type 0 = λ k. All (λ page. page < k) r.pages in
-    subst (λ x. StepsFreeing (Stands m2 (handed_back p2) d) p2.loose g (Finish 0 i) (finished_reply x)) (sym did.answer) (record {
+    subst (λ x. StepsFreeing (Stands m2 (handed_back p2) d) p2.loose g (Finish 0 i)
+    (finished_reply x)) (sym did.answer) (record {
       new = new;
-      stands = still_stands m1 m2 p1 (handed_back p2) d d g (Finish 0 i) [] (Finished r.head) new stands step (ties_same m2 m2 after (handed_back p2) d d new refl part refl there);
+      stands = still_stands m1 m2 p1 (handed_back p2) d d g (Finish 0 i) [] (Finished r.head) new
+          stands step (ties_same m2 m2 after (handed_back p2) d d new refl part refl there);
       step = guest_step g (Finish 0 i) [] (Finished r.head) new ties.parts.guest.honest step;
-      freed = λ k. omega (arith, numbers k, ap (times k) behind, frames_freed k r.pages g.frames request.pages.distinct (subst F (sym ties.pages.framed) request.pages.below));
+      freed = λ k. omega (
+        arith,
+        numbers k,
+        ap (times k) behind,
+        frames_freed k r.pages g.frames request.pages.distinct
+            (subst F (sym ties.pages.framed) request.pages.below),
+      );
     })
 
-inflate_finish : (m1 m2 : Pages) (p1 p2 : Part) (d : DriverState) (g : Guest) (i : ℕ) (result : Result ℕ Refusal) (o : Option Refusal)
-    → refusal_of g (Finish 0 i) ≡ o → FinishesBy 0 i m1 m2 p1 p2 result → Stands m1 p1 d g → StepsFreeing (Stands m2 (handed_back p2) d) p2.loose g (Finish 0 i) (finished_reply result)
+inflate_finish : (m1 m2 : Pages) (p1 p2 : Part) (d : DriverState) (g : Guest) (i : ℕ)
+    (result : Result ℕ Refusal) (o : Option Refusal)
+    → refusal_of g (Finish 0 i) ≡ o → FinishesBy 0 i m1 m2 p1 p2 result → Stands m1 p1 d g
+    → StepsFreeing (Stands m2 (handed_back p2) d) p2.loose g (Finish 0 i)
+    (finished_reply result)
 inflate_finish m1 m2 p1 p2 d g i result o by did stands =
     elim stands.ties.queues [
       | inl idle ↦
           let D : ℕ → Type 0 = λ s. (s ≡ 0) ⊎ (s ≡ 131) in
-          finish_refused m1 m2 p1 p2 d g 0 i NotReady result did stands (finish_idle_part p1 i (subst D (sym stands.ties.parts.device.status) idle.state)).0 (finish_idle g i idle.state).0
+          finish_refused m1 m2 p1 p2 d g 0 i NotReady result did stands
+          (finish_idle_part p1 i (subst D (sym stands.ties.parts.device.status) idle.state)).0
+          (finish_idle g i idle.state).0
       | inr run ↦
           let model = (finish_running g i run.state).0 in
-          let taken : slice_get p1.inflate.taken i ≡ slice_get g.inflate.taken i = ap (λ (l : List Request). slice_get l i) run.inflate.remembers in
+          let taken : slice_get p1.inflate.taken i ≡ slice_get g.inflate.taken i =
+          ap (λ (l : List Request). slice_get l i) run.inflate.remembers in
           let device : finish_refusal 0 i p1 ≡ refusal_of g (Finish 0 i) =
-          (finish_running_part p1 i (stands.ties.parts.device.status ∙ run.state)).0 ∙ ap (λ (b : Bool). finish_test b true (slice_get p1.inflate.taken i)) stands.ties.parts.device.paced
+          (finish_running_part p1 i (stands.ties.parts.device.status ∙ run.state)).0
+          ∙ ap (λ (b : Bool). finish_test b true (slice_get p1.inflate.taken i))
+          stands.ties.parts.device.paced
           ∙ ap (finish_test g.config.paced true) taken ∙ sym model in
           by_refusal o by run (sym model) taken device
     ]
   where
-    by_refusal : (o : Option Refusal) → refusal_of g (Finish 0 i) ≡ o → IsRunning m1 p1 d g → finish_test g.config.paced true (slice_get g.inflate.taken i) ≡ refusal_of g (Finish 0 i)
-        → slice_get p1.inflate.taken i ≡ slice_get g.inflate.taken i → finish_refusal 0 i p1 ≡ refusal_of g (Finish 0 i) → StepsFreeing (Stands m2 (handed_back p2) d) p2.loose g (Finish 0 i) (finished_reply result)
-    by_refusal (Some why) is run model taken device = finish_refused m1 m2 p1 p2 d g 0 i why result did stands (device ∙ is) is
+    by_refusal : (o : Option Refusal) → refusal_of g (Finish 0 i) ≡ o → IsRunning m1 p1 d g
+        → finish_test g.config.paced true (slice_get g.inflate.taken i) ≡ refusal_of g (Finish 0 i)
+        → slice_get p1.inflate.taken i ≡ slice_get g.inflate.taken i
+        → finish_refusal 0 i p1 ≡ refusal_of g (Finish 0 i)
+        → StepsFreeing (Stands m2 (handed_back p2) d) p2.loose g (Finish 0 i)
+        (finished_reply result)
+    by_refusal (Some why) is run model taken device =
+        finish_refused m1 m2 p1 p2 d g 0 i why result did stands (device ∙ is) is
     by_refusal None is run model taken device =
         let (r, at) = test_some g.config.paced true (slice_get g.inflate.taken i) (model ∙ is) in
-        inflate_finished m1 m2 p1 p2 d g i r result at (did.finished r (device ∙ is) (taken ∙ at)) stands run is
+        inflate_finished m1 m2 p1 p2 d g i r result at (did.finished r (device ∙ is) (taken ∙ at))
+        stands run is
 
 -- ---- queue 1
 
-deflate_finished : (m1 m2 : Pages) (p1 p2 : Part) (d : DriverState) (g : Guest) (i : ℕ) (r : Request) (result : Result ℕ Refusal)
-    → slice_get g.deflate.taken i ≡ Some r → Uses 1 i r m1 m2 p1 p2 result → Stands m1 p1 d g → IsRunning m1 p1 d g → refusal_of g (Finish 1 i) ≡ None
+deflate_finished : (m1 m2 : Pages) (p1 p2 : Part) (d : DriverState) (g : Guest) (i : ℕ)
+    (r : Request) (result : Result ℕ Refusal)
+    → slice_get g.deflate.taken i ≡ Some r → Uses 1 i r m1 m2 p1 p2 result → Stands m1 p1 d g
+    → IsRunning m1 p1 d g → refusal_of g (Finish 1 i) ≡ None
     → StepsFreeing (Stands m2 (handed_back p2) d) p2.loose g (Finish 1 i) (finished_reply result)
 deflate_finished m1 m2 p1 p2 d g i r result is did stands run free =
     let ties = stands.ties in
     let n = g.config.pages in
-    let adds = same_end m1 m2 1 p1.queue_size d.deflate p1.deflate _ r.head run.deflate.layout (ties.parts.device.size ∙ sym run.deflate_size) did.memory in
-    let used_low : d.deflate.ring.layout.used.page ≡ 1 = ap (λ (l : Layout). l.used.page) run.deflate.layout in
-    let same = used_same m1 m2 (end_of d.deflate p1.deflate) _ r.head 0 (omega (arith, used_low)) adds in
-    let apart : (p : ℕ) → p ≢ 1 → page_at m2 p ≡ page_at m1 p = λ p other. (let ne : p ≢ d.deflate.ring.layout.used.page = omega (arith, used_low, other) in adds.puts.rest.others p (ne, (ne, tt))) in
+    let adds = same_end m1 m2 1 p1.queue_size d.deflate p1.deflate _ r.head run.deflate.layout
+    (ties.parts.device.size ∙ sym run.deflate_size) did.memory in
+    let used_low : d.deflate.ring.layout.used.page ≡ 1 =
+    ap (λ (l : Layout). l.used.page) run.deflate.layout in
+    let same = used_same m1 m2 (end_of d.deflate p1.deflate) _ r.head 0 (omega (arith, used_low))
+    adds in
+    let apart : (p : ℕ) → p ≢ 1
+    → page_at m2 p ≡ page_at m1 p =
+    λ p other. (let ne : p ≢ d.deflate.ring.layout.used.page = omega (arith, used_low, other) in
+    adds.puts.rest.others p (ne, (ne, tt))) in
     let new : Guest = settled Deflating r.pages (used Deflating i r g) in
-    let step = honest_performed g (Finish 1 i) [] (Finished r.head) new free (refl, (r, is, refl, refl)) in
-    let after : Part = handed_back (record p1 { deflate = record p1.deflate { next_used = (p1.deflate.next_used + 1) % 65536; taken = remove p1.deflate.taken i }; ballooned = flagged r.pages false p1.ballooned }) in
+    let step = honest_performed g (Finish 1 i) [] (Finished r.head) new free
+    (refl, (r, is, refl, refl)) in
+    let after : Part = handed_back
+    (record p1 {
+      deflate = record p1.deflate
+          { next_used = (p1.deflate.next_used + 1) % 65536; taken = remove p1.deflate.taken i };
+      ballooned = flagged r.pages false p1.ballooned;
+    }) in
     let part : handed_back p2 ≡ after = ap handed_back did.part in
     let there : Ties m2 after d new = record {
       parts = record {
@@ -232,50 +334,78 @@ deflate_finished m1 m2 p1 p2 d g i r result is did stands run free =
         backed = λ p lt. ap is_some (same.behind p) ∙ run.backed p lt;
         inflate_size = run.inflate_size;
         deflate_size = run.deflate_size;
-        inflate = line_apart m1 m2 0 n d.inflate p1.inflate g.inflate (record { ring = apart 0 (omega arith); buffers = λ p from to. apart p (omega arith) }) run.inflate;
-        deflate = line_finished m1 m2 1 n d.deflate p1.deflate g.deflate i r _ (omega arith) run.deflate is adds;
+        inflate = line_apart m1 m2 0 n d.inflate p1.inflate g.inflate
+            (record { ring = apart 0 (omega arith); buffers = λ p from to. apart p (omega arith) })
+            run.inflate;
+        deflate = line_finished m1 m2 1 n d.deflate p1.deflate g.deflate i r _ (omega arith)
+            run.deflate is adds;
       });
     } in
     let none : p2.loose ≡ [] = ap (λ (p : Part). p.loose) did.part ∙ ties.parts.device.loose in
-    subst (λ x. StepsFreeing (Stands m2 (handed_back p2) d) p2.loose g (Finish 1 i) (finished_reply x)) (sym did.answer) (record {
+    subst (λ x. StepsFreeing (Stands m2 (handed_back p2) d) p2.loose g (Finish 1 i)
+    (finished_reply x)) (sym did.answer) (record {
       new = new;
-      stands = still_stands m1 m2 p1 (handed_back p2) d d g (Finish 1 i) [] (Finished r.head) new stands step (ties_same m2 m2 after (handed_back p2) d d new refl part refl there);
+      stands = still_stands m1 m2 p1 (handed_back p2) d d g (Finish 1 i) [] (Finished r.head) new
+          stands step (ties_same m2 m2 after (handed_back p2) d d new refl part refl there);
       step = guest_step g (Finish 1 i) [] (Finished r.head) new ties.parts.guest.honest step;
       freed = λ k. omega (arith, ap (times k) none);
     })
 
-deflate_finish : (m1 m2 : Pages) (p1 p2 : Part) (d : DriverState) (g : Guest) (i : ℕ) (result : Result ℕ Refusal) (o : Option Refusal)
-    → refusal_of g (Finish 1 i) ≡ o → FinishesBy 1 i m1 m2 p1 p2 result → Stands m1 p1 d g → StepsFreeing (Stands m2 (handed_back p2) d) p2.loose g (Finish 1 i) (finished_reply result)
+deflate_finish : (m1 m2 : Pages) (p1 p2 : Part) (d : DriverState) (g : Guest) (i : ℕ)
+    (result : Result ℕ Refusal) (o : Option Refusal)
+    → refusal_of g (Finish 1 i) ≡ o → FinishesBy 1 i m1 m2 p1 p2 result → Stands m1 p1 d g
+    → StepsFreeing (Stands m2 (handed_back p2) d) p2.loose g (Finish 1 i)
+    (finished_reply result)
 deflate_finish m1 m2 p1 p2 d g i result o by did stands =
     elim stands.ties.queues [
       | inl idle ↦
           let D : ℕ → Type 0 = λ s. (s ≡ 0) ⊎ (s ≡ 131) in
-          finish_refused m1 m2 p1 p2 d g 1 i NotReady result did stands (finish_idle_part p1 i (subst D (sym stands.ties.parts.device.status) idle.state)).1 (finish_idle g i idle.state).1
+          finish_refused m1 m2 p1 p2 d g 1 i NotReady result did stands
+          (finish_idle_part p1 i (subst D (sym stands.ties.parts.device.status) idle.state)).1
+          (finish_idle g i idle.state).1
       | inr run ↦
           let model = (finish_running g i run.state).1 in
-          let taken : slice_get p1.deflate.taken i ≡ slice_get g.deflate.taken i = ap (λ (l : List Request). slice_get l i) run.deflate.remembers in
+          let taken : slice_get p1.deflate.taken i ≡ slice_get g.deflate.taken i =
+          ap (λ (l : List Request). slice_get l i) run.deflate.remembers in
           let device : finish_refusal 1 i p1 ≡ refusal_of g (Finish 1 i) =
-          (finish_running_part p1 i (stands.ties.parts.device.status ∙ run.state)).1 ∙ ap (λ (b : Bool). finish_test b false (slice_get p1.deflate.taken i)) stands.ties.parts.device.paced
+          (finish_running_part p1 i (stands.ties.parts.device.status ∙ run.state)).1
+          ∙ ap (λ (b : Bool). finish_test b false (slice_get p1.deflate.taken i))
+          stands.ties.parts.device.paced
           ∙ ap (finish_test g.config.paced false) taken ∙ sym model in
           by_refusal o by run (sym model) taken device
     ]
   where
-    by_refusal : (o : Option Refusal) → refusal_of g (Finish 1 i) ≡ o → IsRunning m1 p1 d g → finish_test g.config.paced false (slice_get g.deflate.taken i) ≡ refusal_of g (Finish 1 i)
-        → slice_get p1.deflate.taken i ≡ slice_get g.deflate.taken i → finish_refusal 1 i p1 ≡ refusal_of g (Finish 1 i) → StepsFreeing (Stands m2 (handed_back p2) d) p2.loose g (Finish 1 i) (finished_reply result)
-    by_refusal (Some why) is run model taken device = finish_refused m1 m2 p1 p2 d g 1 i why result did stands (device ∙ is) is
+    by_refusal : (o : Option Refusal) → refusal_of g (Finish 1 i) ≡ o → IsRunning m1 p1 d g
+        → finish_test g.config.paced false (slice_get g.deflate.taken i) ≡ refusal_of g (Finish 1 i)
+        → slice_get p1.deflate.taken i ≡ slice_get g.deflate.taken i
+        → finish_refusal 1 i p1 ≡ refusal_of g (Finish 1 i)
+        → StepsFreeing (Stands m2 (handed_back p2) d) p2.loose g (Finish 1 i)
+        (finished_reply result)
+    by_refusal (Some why) is run model taken device =
+        finish_refused m1 m2 p1 p2 d g 1 i why result did stands (device ∙ is) is
     by_refusal None is run model taken device =
         let (r, at) = test_some g.config.paced false (slice_get g.deflate.taken i) (model ∙ is) in
-        deflate_finished m1 m2 p1 p2 d g i r result at (did.finished r (device ∙ is) (taken ∙ at)) stands run is
+        deflate_finished m1 m2 p1 p2 d g i r result at (did.finished r (device ∙ is) (taken ∙ at))
+        stands run is
 
-pub finish_step : (m1 m2 : Pages) (p1 p2 : Part) (d : DriverState) (g : Guest) (q i : ℕ) (result : Result ℕ Refusal)
-    → FinishesBy q i m1 m2 p1 p2 result → Stands m1 p1 d g → StepsFreeing (Stands m2 (handed_back p2) d) p2.loose g (Finish q i) (finished_reply result)
+pub finish_step : (m1 m2 : Pages) (p1 p2 : Part) (d : DriverState) (g : Guest) (q i : ℕ)
+    (result : Result ℕ Refusal)
+    → FinishesBy q i m1 m2 p1 p2 result → Stands m1 p1 d g
+    → StepsFreeing (Stands m2 (handed_back p2) d) p2.loose g (Finish q i)
+    (finished_reply result)
 finish_step m1 m2 p1 p2 d g q i result did stands =
     let B : ℕ → Type 0 = λ k. FinishesBy k i m1 m2 p1 p2 result in
-    let S : ℕ → Type 0 = λ k. StepsFreeing (Stands m2 (handed_back p2) d) p2.loose g (Finish k i) (finished_reply result) in
+    let S : ℕ → Type 0 = λ k. StepsFreeing (Stands m2 (handed_back p2) d) p2.loose g (Finish k i)
+    (finished_reply result) in
     elim (queue_cases q) [
-      | inl first ↦ subst S (sym first) (inflate_finish m1 m2 p1 p2 d g i result (refusal_of g (Finish 0 i)) refl (subst B first did) stands)
+      | inl first ↦ subst S (sym first)
+          (inflate_finish m1 m2 p1 p2 d g i result (refusal_of g (Finish 0 i)) refl
+          (subst B first did) stands)
       | inr other ↦ elim other [
-        | inl second ↦ subst S (sym second) (deflate_finish m1 m2 p1 p2 d g i result (refusal_of g (Finish 1 i)) refl (subst B second did) stands)
-        | inr none ↦ (let no = finish_no_queue q i g p1 none in finish_refused m1 m2 p1 p2 d g q i NoQueue result did stands no.0 no.1)
+        | inl second ↦ subst S (sym second)
+            (deflate_finish m1 m2 p1 p2 d g i result (refusal_of g (Finish 1 i)) refl
+            (subst B second did) stands)
+        | inr none ↦ (let no = finish_no_queue q i g p1 none in
+            finish_refused m1 m2 p1 p2 d g q i NoQueue result did stands no.0 no.1)
       ]
     ]

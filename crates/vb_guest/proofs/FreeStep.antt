@@ -21,14 +21,24 @@ use Rattle.vb_guest.proofs.Closing.{honest_performed, steps_alone, refused_alone
 use Rattle.vb_guest.proofs.Writing.{idle_still}
 use Rattle.vb_guest.proofs.Normal.{driver_of, driver_is, keeps_own}
 
-by_result : (m : Pages) (p : Part) (g : Guest) (areas : FreePages) (si sd : Side) (d2 : DriverState) (cpu start order : ℕ) (result : Result (Unit {0}) Refusal)
-    → FreesBy (driver_of g areas si sd) d2 cpu start order result → Stands m p (driver_of g areas si sd) g → StepsAlone (Stands m p d2) g (Free cpu start order) (done_reply result)
-by_result m p g areas si sd d2 cpu start order (Err why) did stands = refused_alone m m p p (driver_of g areas si sd) d2 g (Free cpu start order) why stands (sym did.refusal) refl refl did.refused
+by_result : (m : Pages) (p : Part) (g : Guest) (areas : FreePages) (si sd : Side) (d2 : DriverState)
+    (cpu start order : ℕ) (result : Result (Unit {0}) Refusal)
+    → FreesBy (driver_of g areas si sd) d2 cpu start order result
+    → Stands m p (driver_of g areas si sd) g
+    → StepsAlone (Stands m p d2) g (Free cpu start order) (done_reply result)
+by_result m p g areas si sd d2 cpu start order (Err why) did stands =
+    refused_alone m m p p (driver_of g areas si sd) d2 g (Free cpu start order) why stands
+    (sym did.refusal) refl refl did.refused
 by_result m p g areas si sd d2 cpu start order (Ok done) did stands =
     let ties = stands.ties in
-    let new : Guest = record g { places = placed (pages_of (block_at start order)) FreePlace g.places; held = without_block (block_at start order) g.held } in
-    let step = honest_performed g (Free cpu start order) [] Done new (sym did.refusal) (refl, refl, refl) in
-    let after : DriverState = driver_of new (after_free (driver_of g areas si sd) cpu start order).areas si sd in
+    let new : Guest = record g {
+      places = placed (pages_of (block_at start order)) FreePlace g.places;
+      held = without_block (block_at start order) g.held;
+    } in
+    let step = honest_performed g (Free cpu start order) [] Done new (sym did.refusal)
+    (refl, refl, refl) in
+    let after : DriverState =
+    driver_of new (after_free (driver_of g areas si sd) cpu start order).areas si sd in
     let there : Ties m p after new = record {
       parts = record {
         guest = ties.parts.guest;
@@ -38,13 +48,25 @@ by_result m p g areas si sd d2 cpu start order (Ok done) did stands =
       pages = ties.pages;
       queues = elim ties.queues [
         | inl idle ↦ inl (idle_still g new refl refl refl refl refl refl refl idle)
-        | inr run ↦ inr (record { state = run.state; backed = run.backed; inflate_size = run.inflate_size; deflate_size = run.deflate_size; inflate = run.inflate; deflate = run.deflate })
+        | inr run ↦ inr (record {
+          state = run.state;
+          backed = run.backed;
+          inflate_size = run.inflate_size;
+          deflate_size = run.deflate_size;
+          inflate = run.inflate;
+          deflate = run.deflate;
+        })
       ];
     } in
-    steps_alone m m p p (driver_of g areas si sd) d2 g (Free cpu start order) Done new stands step (subst (λ d. Ties m p d new) (sym did.state) there) refl
+    steps_alone m m p p (driver_of g areas si sd) d2 g (Free cpu start order) Done new stands step
+    (subst (λ d. Ties m p d new) (sym did.state) there) refl
 
-pub free_step : (m : Pages) (p : Part) (d1 d2 : DriverState) (g : Guest) (cpu start order : ℕ) (result : Result (Unit {0}) Refusal)
-    → FreesBy d1 d2 cpu start order result → Stands m p d1 g → StepsAlone (Stands m p d2) g (Free cpu start order) (done_reply result)
+pub free_step : (m : Pages) (p : Part) (d1 d2 : DriverState) (g : Guest) (cpu start order : ℕ)
+    (result : Result (Unit {0}) Refusal)
+    → FreesBy d1 d2 cpu start order result → Stands m p d1 g
+    → StepsAlone (Stands m p d2) g (Free cpu start order) (done_reply result)
 free_step m p d1 d2 g cpu start order result did stands =
     let is = driver_is p d1 g stands.ties.parts in
-    by_result m p g d1.areas d1.inflate d1.deflate d2 cpu start order result (subst (λ d. FreesBy d d2 cpu start order result) is did) (subst (λ d. Stands m p d g) is stands)
+    by_result m p g d1.areas d1.inflate d1.deflate d2 cpu start order result
+    (subst (λ d. FreesBy d d2 cpu start order result) is did)
+    (subst (λ d. Stands m p d g) is stands)

@@ -1,5 +1,7 @@
 -- The slot's inflate is a step of the guest.
-use Rattle.std.specs.Prelude.{◌≡◌, ◌≢◌, ℕ, ◌+◌, ◌<◌, ◌≤◌, ◌==◌, true, false, nat_le, [], ◌∷◌, ◌++◌, length, Result, Ok, Err, Option, Some, None, IsSome, is_some, refl, ◌⊎◌}
+use Rattle.std.specs.Prelude.{◌≡◌, ◌≢◌, ℕ, ◌+◌, ◌<◌, ◌≤◌, ◌==◌, true, false, nat_le, [], ◌∷◌, ◌++◌}
+use Rattle.std.specs.Prelude.{length, Result, Ok, Err, Option, Some, None, IsSome, is_some, refl}
+use Rattle.std.specs.Prelude.{◌⊎◌}
 use Rattle.std.proofs.Common.{sym, ◌∙◌, ap, subst, arith, inl, inr}
 use Rattle.std.proofs.lemmas.Bool.Decides.{nat_tests}
 use Rattle.std.proofs.lemmas.List.{length-append}
@@ -34,10 +36,12 @@ use Rattle.vb_guest.proofs.Normal.{driver_of, driver_is, keeps_own}
 
 -- a new request of a queue is refused for want of room, or of pages
 abbrev pub request_refusal : ℕ → ℕ → ℕ → Option Refusal
-request_refusal most out count = first_refusal ((nat_le most out ⇒ QueueFull) ∷ ((count == 0) ⇒ Nothing) ∷ [])
+request_refusal most out count =
+    first_refusal ((nat_le most out ⇒ QueueFull) ∷ ((count == 0) ⇒ Nothing) ∷ [])
 
 -- what a post leaves of memory
-pub posted_same : (m1 m2 : Pages) (ring base head : ℕ) → ring < 16 → base ≤ 8 → head < 16 → SameButBuffer m1 m2 ring base head → SamePages m1 m2
+pub posted_same : (m1 m2 : Pages) (ring base head : ℕ) → ring < 16 → base ≤ 8 → head < 16
+    → SameButBuffer m1 m2 ring base head → SamePages m1 m2
 posted_same m1 m2 ring base head low few small same = record {
   count = same.count;
   behind = same.backing;
@@ -45,55 +49,82 @@ posted_same m1 m2 ring base head low few small same = record {
 }
 
 -- where the device isn't initialised
-idle_refused : (g : Guest) (n : ℕ) → (g.status ≡ 0) ⊎ (g.status ≡ 131) → refusal_of g (Inflate n) ≡ Some NotReady
+idle_refused : (g : Guest) (n : ℕ) → (g.status ≡ 0) ⊎ (g.status ≡ 131)
+    → refusal_of g (Inflate n) ≡ Some NotReady
 idle_refused g n down =
     let P : ℕ → Type 0 = λ s. refusal_of (record g { status = s }) (Inflate n) ≡ Some NotReady in
     elim down [ inl e ↦ subst P (sym e) refl | inr e ↦ subst P (sym e) refl ]
 
-idle_tests : (d : DriverState) (p : Part) (n : ℕ) → (p.status ≡ 0) ⊎ (p.status ≡ 131) → first_refusal (inflate_tests d p n) ≡ Some NotReady
+idle_tests : (d : DriverState) (p : Part) (n : ℕ) → (p.status ≡ 0) ⊎ (p.status ≡ 131)
+    → first_refusal (inflate_tests d p n) ≡ Some NotReady
 idle_tests d p n down =
-    let P : ℕ → Type 0 = λ s. first_refusal (inflate_tests d (record p { status = s }) n) ≡ Some NotReady in
+    let P : ℕ → Type 0 = λ s. first_refusal (inflate_tests d (record p { status = s }) n)
+    ≡ Some NotReady in
     elim down [ inl e ↦ subst P (sym e) refl | inr e ↦ subst P (sym e) refl ]
 
-running_refusal : (g : Guest) (n : ℕ) → g.status ≡ 15 → refusal_of g (Inflate n) ≡ request_refusal (room g) (outstanding g.inflate) (inflate_count g n)
+running_refusal : (g : Guest) (n : ℕ) → g.status ≡ 15
+    → refusal_of g (Inflate n)
+    ≡ request_refusal (room g) (outstanding g.inflate) (inflate_count g n)
 running_refusal g n e =
-    let P : ℕ → Type 0 = λ s. refusal_of (record g { status = s }) (Inflate n) ≡ request_refusal (room g) (outstanding g.inflate) (inflate_count g n) in
+    let P : ℕ → Type 0 = λ s. refusal_of (record g { status = s }) (Inflate n)
+    ≡ request_refusal (room g) (outstanding g.inflate) (inflate_count g n) in
     subst P (sym e) refl
 
-running_tests : (g : Guest) (areas : FreePages) (si sd : Side) (p : Part) (n : ℕ) → p.status ≡ 15 → p.target ≡ g.target → first_refusal (inflate_tests (driver_of g areas si sd) p n) ≡ request_refusal (room g) (outstanding_in si.ring) (inflate_count g n)
+running_tests : (g : Guest) (areas : FreePages) (si sd : Side) (p : Part) (n : ℕ) → p.status ≡ 15
+    → p.target ≡ g.target
+    → first_refusal (inflate_tests (driver_of g areas si sd) p n)
+    ≡ request_refusal (room g) (outstanding_in si.ring) (inflate_count g n)
 running_tests g areas si sd p n e t =
-    let P : ℕ → ℕ → Type 0 = λ s target. first_refusal (inflate_tests (driver_of g areas si sd) (record p { status = s; target = target }) n) ≡ request_refusal (room g) (outstanding_in si.ring) (inflate_count g n) in
+    let P : ℕ → ℕ → Type 0 =
+    λ s target. first_refusal
+    (inflate_tests (driver_of g areas si sd) (record p { status = s; target = target }) n)
+    ≡ request_refusal (room g) (outstanding_in si.ring) (inflate_count g n) in
     subst (λ s. P s p.target) (sym e) (subst (λ x. P 15 x) (sym t) refl)
 
 -- the queue on the other side of a post is as before
-pub post_apart : (m1 m2 : Pages) (ring base head other : ℕ) → ring_page other ≢ ring → ring_page other < base
-    → ((p : ℕ) → buffers_page other ≤ p → p < buffers_page other + 4 → (p ≢ ring) × (p ≢ buffer_page base head)) → SameButBuffer m1 m2 ring base head → SameLine m1 m2 other
+pub post_apart : (m1 m2 : Pages) (ring base head other : ℕ) → ring_page other ≢ ring
+    → ring_page other < base
+    → ((p : ℕ) → buffers_page other ≤ p → p < buffers_page other + 4
+    → (p ≢ ring) × (p ≢ buffer_page base head)) → SameButBuffer m1 m2 ring base head
+    → SameLine m1 m2 other
 post_apart m1 m2 ring base head other ne low far same = record {
   ring = same.others (ring_page other) ne (omega arith);
   buffers = λ p from to. let (a, b) = far p from to in same.others p a b;
 }
 
-inflate_offered : (m1 m2 : Pages) (p1 p2 : Part) (g : Guest) (areas : FreePages) (si sd : Side) (d2 : DriverState) (n : ℕ) (posted : PostedRequest)
-    → IsDriver (driver_of g areas si sd) → Offers m1 m2 p1 p2 (driver_of g areas si sd) d2 (inflate_count g n) posted
-    → Stands m1 p1 (driver_of g areas si sd) g → IsRunning m1 p1 (driver_of g areas si sd) g → refusal_of g (Inflate n) ≡ None → 0 < inflate_count g n → outstanding g.inflate < room g
+inflate_offered : (m1 m2 : Pages) (p1 p2 : Part) (g : Guest) (areas : FreePages) (si sd : Side)
+    (d2 : DriverState) (n : ℕ) (posted : PostedRequest)
+    → IsDriver (driver_of g areas si sd)
+    → Offers m1 m2 p1 p2 (driver_of g areas si sd) d2 (inflate_count g n) posted
+    → Stands m1 p1 (driver_of g areas si sd) g → IsRunning m1 p1 (driver_of g areas si sd) g
+    → refusal_of g (Inflate n) ≡ None → 0 < inflate_count g n → outstanding g.inflate < room g
     → StepsAlone (Stands m2 p2 d2) g (Inflate n) (Posted posted.head posted.pages)
 inflate_offered m1 m2 p1 p2 g areas si sd d2 n posted driver did stands run free some fewer =
     let ties = stands.ties in
     let pages = stranded_first g n ++ did.others in
     let single = driver.inflate.requests in
-    let least = least_head m1 0 g.config.pages si p1.inflate g.inflate posted.head run.inflate single did.posts.lowest in
+    let least = least_head m1 0 g.config.pages si p1.inflate g.inflate posted.head run.inflate
+    single did.posts.lowest in
     let new : Guest = asking Inflating posted.head pages g in
     let reply = ap (λ (k : ℕ). Posted posted.head k) did.pages in
-    let step = honest_performed g (Inflate n) [] (Posted posted.head posted.pages) new free (refl, (posted.head, did.others, least, did.free, did.distinct, did.enough, reply, refl)) in
-    let orderly = honest_order g (Inflate n) [] (Posted posted.head posted.pages) new stands.consistent stands.orderly step ties.parts.guest.honest in
-    let once = (last_sound g.inflate.posted (record { head = posted.head; pages = pages; visited = 0 }) orderly.inflating.posted).distinct in
-    let count : length pages ≡ inflate_count g n = length-append (stranded_first g n) did.others ∙ did.enough in
-    let asked = inflate_requested g n did.others stands.orderly did.free once (omega (arith, count, some)) (omega (arith, count)) in
-    let line = line_posted m1 m2 0 g.config.pages si d2.inflate p1.inflate g.inflate posted.head pages (omega arith) single asked run.inflate did.posts in
+    let step = honest_performed g (Inflate n) [] (Posted posted.head posted.pages) new free
+    (refl, (posted.head, did.others, least, did.free, did.distinct, did.enough, reply, refl)) in
+    let orderly = honest_order g (Inflate n) [] (Posted posted.head posted.pages) new
+    stands.consistent stands.orderly step ties.parts.guest.honest in
+    let once = (last_sound g.inflate.posted
+    (record { head = posted.head; pages = pages; visited = 0 })
+    orderly.inflating.posted).distinct in
+    let count : length pages ≡ inflate_count g n =
+    length-append (stranded_first g n) did.others ∙ did.enough in
+    let asked = inflate_requested g n did.others stands.orderly did.free once
+    (omega (arith, count, some)) (omega (arith, count)) in
+    let line = line_posted m1 m2 0 g.config.pages si d2.inflate p1.inflate g.inflate posted.head
+    pages (omega arith) single asked run.inflate did.posts in
     let table : si.ring.layout.table ≡ 0 = ap (λ l. l.table) run.inflate.layout in
     let B : ℕ → Type 0 = λ r. SameButBuffer m1 m2 r 4 posted.head in
     let rest : B 0 = subst B table did.posts.rest in
-    let apart = post_apart m1 m2 0 4 posted.head 1 (omega arith) (omega arith) (λ p from to. (omega arith, omega (arith, did.posts.small))) rest in
+    let apart = post_apart m1 m2 0 4 posted.head 1 (omega arith) (omega arith)
+    (λ p from to. (omega arith, omega (arith, did.posts.small))) rest in
     let after : DriverState = driver_of new d2.areas d2.inflate sd in
     let there : Ties m2 p1 after new = record {
       parts = record {
@@ -101,7 +132,9 @@ inflate_offered m1 m2 p1 p2 g areas si sd d2 n posted driver did stands run free
         driver = keeps_own new _ _ _;
         device = ties.parts.device;
       };
-      pages = pages_same m1 m2 g.config.pages _ _ (posted_same m1 m2 0 4 posted.head (omega arith) (omega arith) did.posts.small rest) ties.pages;
+      pages = pages_same m1 m2 g.config.pages _ _
+          (posted_same m1 m2 0 4 posted.head (omega arith) (omega arith) did.posts.small rest)
+          ties.pages;
       queues = inr (record {
         state = run.state;
         backed = λ p lt. ap is_some (rest.backing p) ∙ run.backed p lt;
@@ -111,29 +144,42 @@ inflate_offered m1 m2 p1 p2 g areas si sd d2 n posted driver did stands run free
         deflate = line_apart m1 m2 1 g.config.pages sd p1.deflate g.deflate apart run.deflate;
       });
     } in
-    steps_alone m1 m2 p1 p2 (driver_of g areas si sd) d2 g (Inflate n) (Posted posted.head posted.pages) new stands step
-    (subst (λ d. Ties m2 p2 d new) (sym did.state) (subst (λ p. Ties m2 p after new) (sym did.part) there)) refl
+    steps_alone m1 m2 p1 p2 (driver_of g areas si sd) d2 g (Inflate n)
+    (Posted posted.head posted.pages) new stands step
+    (subst (λ d. Ties m2 p2 d new) (sym did.state)
+    (subst (λ p. Ties m2 p after new) (sym did.part) there)) refl
 
-none_room : (most out count : ℕ) → request_refusal most out count ≡ None → (out < most) × (0 < count)
+none_room : (most out count : ℕ) → request_refusal most out count ≡ None
+    → (out < most) × (0 < count)
 none_room most out count e = (grind (arith, nat_tests), grind (arith, nat_tests))
 
-by_result : (m1 m2 : Pages) (p1 p2 : Part) (g : Guest) (areas : FreePages) (si sd : Side) (d2 : DriverState) (n : ℕ) (result : Result PostedRequest Refusal)
-    → InflatesBy m1 m2 p1 p2 (driver_of g areas si sd) d2 n result → Stands m1 p1 (driver_of g areas si sd) g → first_refusal (inflate_tests (driver_of g areas si sd) p1 n) ≡ refusal_of g (Inflate n)
+by_result : (m1 m2 : Pages) (p1 p2 : Part) (g : Guest) (areas : FreePages) (si sd : Side)
+    (d2 : DriverState) (n : ℕ) (result : Result PostedRequest Refusal)
+    → InflatesBy m1 m2 p1 p2 (driver_of g areas si sd) d2 n result
+    → Stands m1 p1 (driver_of g areas si sd) g
+    → first_refusal (inflate_tests (driver_of g areas si sd) p1 n) ≡ refusal_of g (Inflate n)
     → StepsAlone (Stands m2 p2 d2) g (Inflate n) (posted_reply result)
 by_result m1 m2 p1 p2 g areas si sd d2 n (Err why) did stands same =
-    refused_alone m1 m2 p1 p2 (driver_of g areas si sd) d2 g (Inflate n) why stands (sym (did.refusal ∙ same)) did.refused.mem did.refused.part did.refused.driver
+    refused_alone m1 m2 p1 p2 (driver_of g areas si sd) d2 g (Inflate n) why stands
+    (sym (did.refusal ∙ same)) did.refused.mem did.refused.part did.refused.driver
 by_result m1 m2 p1 p2 g areas si sd d2 n (Ok posted) did stands same =
     let free : refusal_of g (Inflate n) ≡ None = sym (did.refusal ∙ same) in
     elim stands.ties.queues [
       | inl idle ↦ absurd (let down = idle_refused g n idle.state in cc)
       | inr run ↦
-          let room_left = none_room (room g) (outstanding g.inflate) (inflate_count g n) (sym (running_refusal g n run.state) ∙ free) in
-          let O : ℕ → Type 0 = λ t. Offers m1 m2 p1 p2 (driver_of g areas si sd) d2 (driver_count (driver_of g areas si sd) t n) posted in
-          inflate_offered m1 m2 p1 p2 g areas si sd d2 n posted did.driver (subst O stands.ties.parts.device.target did.offers) stands run free room_left.1 room_left.0
+          let room_left = none_room (room g) (outstanding g.inflate) (inflate_count g n)
+          (sym (running_refusal g n run.state) ∙ free) in
+          let O : ℕ → Type 0 = λ t. Offers m1 m2 p1 p2 (driver_of g areas si sd) d2
+          (driver_count (driver_of g areas si sd) t n) posted in
+          inflate_offered m1 m2 p1 p2 g areas si sd d2 n posted did.driver
+          (subst O stands.ties.parts.device.target did.offers) stands run free room_left.1
+          room_left.0
     ]
 
-pub inflate_step : (m1 m2 : Pages) (p1 p2 : Part) (d1 d2 : DriverState) (g : Guest) (n : ℕ) (result : Result PostedRequest Refusal)
-    → InflatesBy m1 m2 p1 p2 d1 d2 n result → Stands m1 p1 d1 g → StepsAlone (Stands m2 p2 d2) g (Inflate n) (posted_reply result)
+pub inflate_step : (m1 m2 : Pages) (p1 p2 : Part) (d1 d2 : DriverState) (g : Guest) (n : ℕ)
+    (result : Result PostedRequest Refusal)
+    → InflatesBy m1 m2 p1 p2 d1 d2 n result → Stands m1 p1 d1 g
+    → StepsAlone (Stands m2 p2 d2) g (Inflate n) (posted_reply result)
 inflate_step m1 m2 p1 p2 d1 d2 g n result did stands =
     let is = driver_is p1 d1 g stands.ties.parts in
     let areas = d1.areas in
@@ -141,23 +187,35 @@ inflate_step m1 m2 p1 p2 d1 d2 g n result did stands =
     let sd = d1.deflate in
     let here : Stands m1 p1 (driver_of g areas si sd) g = subst (λ d. Stands m1 p1 d g) is stands in
     let D : ℕ → Type 0 = λ s. (s ≡ 0) ⊎ (s ≡ 131) in
-    let same : first_refusal (inflate_tests (driver_of g areas si sd) p1 n) ≡ refusal_of g (Inflate n) =
+    let same : first_refusal (inflate_tests (driver_of g areas si sd) p1 n)
+    ≡ refusal_of g (Inflate n) =
     elim here.ties.queues [
-      | inl idle ↦ idle_tests (driver_of g areas si sd) p1 n (subst D (sym here.ties.parts.device.status) idle.state) ∙ sym (idle_refused g n idle.state)
+      | inl idle ↦ idle_tests (driver_of g areas si sd) p1 n
+          (subst D (sym here.ties.parts.device.status) idle.state)
+          ∙ sym (idle_refused g n idle.state)
       | inr run ↦
-          running_tests g areas si sd p1 n (here.ties.parts.device.status ∙ run.state) here.ties.parts.device.target
-          ∙ ap (λ (k : ℕ). request_refusal (room g) k (inflate_count g n)) (outstanding_are m1 0 g.config.pages si p1.inflate g.inflate run.inflate) ∙ sym (running_refusal g n run.state)
+          running_tests g areas si sd p1 n (here.ties.parts.device.status ∙ run.state)
+          here.ties.parts.device.target
+          ∙ ap (λ (k : ℕ). request_refusal (room g) k (inflate_count g n))
+          (outstanding_are m1 0 g.config.pages si p1.inflate g.inflate run.inflate)
+          ∙ sym (running_refusal g n run.state)
     ] in
-    by_result m1 m2 p1 p2 g areas si sd d2 n result (subst (λ d. InflatesBy m1 m2 p1 p2 d d2 n result) is did) here same
+    by_result m1 m2 p1 p2 g areas si sd d2 n result
+    (subst (λ d. InflatesBy m1 m2 p1 p2 d d2 n result) is did) here same
 
 down_not_up : (status : ℕ) → (status ≡ 0) ⊎ (status ≡ 131) → is_up status ≡ true → ⊥
-down_not_up status (inl e) up = let P : ℕ → Type 0 = λ s. is_up s ≡ true in let wrong : false ≡ true = subst P e up in cc
-down_not_up status (inr e) up = let P : ℕ → Type 0 = λ s. is_up s ≡ true in let wrong : false ≡ true = subst P e up in cc
+down_not_up status (inl e) up = let P : ℕ
+    → Type 0 = λ s. is_up s ≡ true in let wrong : false ≡ true = subst P e up in cc
+down_not_up status (inr e) up = let P : ℕ
+    → Type 0 = λ s. is_up s ≡ true in let wrong : false ≡ true = subst P e up in cc
 
 -- where the device is up, the pages of rings and buffers have frames
-pub up_backed : (m : Pages) (p : Part) (d : DriverState) (g : Guest) → Stands m p d g → is_up p.status ≡ true → (page : ℕ) → page < 13 → IsSome (frame_at m page)
+pub up_backed : (m : Pages) (p : Part) (d : DriverState) (g : Guest) → Stands m p d g
+    → is_up p.status ≡ true → (page : ℕ) → page < 13 → IsSome (frame_at m page)
 up_backed m p d g stands up page lt =
     elim stands.ties.queues [
-      | inl idle ↦ (let P : ℕ → Type 0 = λ s. is_up s ≡ true in absurd (down_not_up g.status idle.state (subst P stands.ties.parts.device.status up)))
+      | inl idle ↦ (let P : ℕ
+          → Type 0 = λ s. is_up s ≡ true in
+          absurd (down_not_up g.status idle.state (subst P stands.ties.parts.device.status up)))
       | inr run ↦ run.backed page lt
     ]

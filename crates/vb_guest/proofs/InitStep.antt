@@ -1,5 +1,8 @@
 -- The slot's initialisation is a step of the guest.
-use Rattle.std.specs.Prelude.{◌≡◌, ◌≢◌, ℕ, zero, suc, ◌+◌, ◌<◌, ◌≤◌, ◌==◌, Bool, true, false, not, ◌&&◌, if◌then◌else◌, cond, List, [], ◌∷◌, length, Option, Some, None, IsSome, is_some, is_none, MatchOption, Result, Ok, Err, All, filter, replicate, count_by, refl, ◌⊎◌}
+use Rattle.std.specs.Prelude.{◌≡◌, ◌≢◌, ℕ, zero, suc, ◌+◌, ◌<◌, ◌≤◌, ◌==◌, Bool, true, false, not}
+use Rattle.std.specs.Prelude.{◌&&◌, if◌then◌else◌, cond, List, [], ◌∷◌, length, Option, Some, None}
+use Rattle.std.specs.Prelude.{IsSome, is_some, is_none, MatchOption, Result, Ok, Err, All, filter}
+use Rattle.std.specs.Prelude.{replicate, count_by, refl, ◌⊎◌}
 use Rattle.std.specs.List.{range_with_len, list_all}
 use Rattle.std.proofs.Common.{sym, ◌∙◌, ap, subst, arith, inl, inr}
 use Rattle.std.proofs.lemmas.Bool.{eqb-true}
@@ -7,15 +10,19 @@ use Rattle.std.proofs.lemmas.List.{length-replicate}
 use Rattle.vb_model.specs.declared.calls.Call.TheVariants.{Init}
 use Rattle.vb_model.specs.declared.calls.Claim.{Claim}
 use Rattle.vb_model.specs.declared.replies.Refusal.{Refusal}
-use Rattle.vb_model.specs.declared.replies.Refusal.TheVariants.{AlreadyUp, NoFrame, FeatureNotOffered, MustTellMissing, VersionMissing}
+use Rattle.vb_model.specs.declared.replies.Refusal.TheVariants.{AlreadyUp, NoFrame}
+use Rattle.vb_model.specs.declared.replies.Refusal.TheVariants.{FeatureNotOffered, MustTellMissing}
+use Rattle.vb_model.specs.declared.replies.Refusal.TheVariants.{VersionMissing}
 use Rattle.vb_model.specs.declared.replies.Reply.{Reply}
 use Rattle.vb_model.specs.declared.replies.Reply.TheVariants.{Ready, Refused}
 use Rattle.vb_model.specs.Tests.{one_if, is_in}
 use Rattle.vb_model.specs.Requests.{Requests, no_requests, NoBuffer}
-use Rattle.vb_model.specs.Guest.{Guest, frame_of, all_backed, must_tell_host, version_1, offered_features}
+use Rattle.vb_model.specs.Guest.{Guest, frame_of, all_backed, must_tell_host, version_1}
+use Rattle.vb_model.specs.Guest.{offered_features}
 use Rattle.vb_model.specs.Status.{contains}
 use Rattle.vb_model.specs.Refusals.{◌⇒◌, first_refusal, refusal_of}
-use Rattle.vb_model.specs.Life.{lacking, feature_tests, feature_refusal, accepted_before, Negotiates}
+use Rattle.vb_model.specs.Life.{lacking, feature_tests, feature_refusal, accepted_before}
+use Rattle.vb_model.specs.Life.{Negotiates}
 use Rattle.vb_model.specs.Driver.{given, claim_refusal, AreClaimsFor, Supplying}
 use Rattle.vb_ram.specs.Pages.{Pages, frame_at, number_of, contents_of}
 use Rattle.vb_ram.specs.Part.{Part, no_queue}
@@ -27,14 +34,18 @@ use Rattle.vb_driver.specs.Calls.{InitsBy, InitRefused, Starts, GivesUp, IsNewRi
 use Rattle.vb_frames.specs.declared.keeper.Refused.{Refused as WhyRefused}
 use Rattle.vb_frames.specs.Out.{is_out}
 use Rattle.vb_guest.specs.Line.{Line}
-use Rattle.vb_guest.specs.Stands.{Stands, Ties, HasParts, HasPages, IsIdle, beside_queues, beside_sides, beside_requests}
+use Rattle.vb_guest.specs.Stands.{Stands, Ties, HasParts, HasPages, IsIdle, beside_queues}
+use Rattle.vb_guest.specs.Stands.{beside_sides, beside_requests}
 use Rattle.vb_guest.specs.Steps.{Steps, is_frame}
 use Rattle.vb_guest.specs.Replies.{ready_reply}
 use Rattle.vb_guest.specs.Lives.{bare_from, AllSupplied, why_unsupplied, SuppliesBy}
-use Rattle.vb_guest.proofs.Closing.{first_holds, honest_performed, guest_step, still_stands, refused_alone, ties_same}
+use Rattle.vb_guest.proofs.Closing.{first_holds, honest_performed, guest_step, still_stands}
+use Rattle.vb_guest.proofs.Closing.{refused_alone, ties_same}
 use Rattle.vb_guest.proofs.Freed.{steps_quiet, large}
 use Rattle.vb_guest.proofs.PagesKept.{pages_same}
-use Rattle.vb_guest.proofs.Supplying.{all_distinct, bounded, among, supplied_count, supplied_other, supplied_backed, pages_filled, frames_filled, length-after_claims}
+use Rattle.vb_guest.proofs.Supplying.{all_distinct, bounded, among, supplied_count, supplied_other}
+use Rattle.vb_guest.proofs.Supplying.{supplied_backed, pages_filled, frames_filled}
+use Rattle.vb_guest.proofs.Supplying.{length-after_claims}
 
 either : (b : Bool) → (b ≡ true) ⊎ (b ≡ false)
 either true = inl refl
@@ -48,17 +59,21 @@ up_test s ne = elim (either (s == 0)) [
   | inr other ↦ ap not other
 ]
 
-pub init_up : (Answers : List Bool → Claim → Type 0) (out : List Bool) (m : Pages) (p : Part) (d : DriverState) (g : Guest) (wanted : ℕ) → p.status ≢ 0 → Stands m p d g
+pub init_up : (Answers : List Bool → Claim → Type 0) (out : List Bool) (m : Pages) (p : Part)
+    (d : DriverState) (g : Guest) (wanted : ℕ) → p.status ≢ 0 → Stands m p d g
     → Steps (Stands m p d) Answers out out g (Init wanted) (Refused AlreadyUp)
 init_up Answers out m p d g wanted up stands =
-    steps_quiet (Stands m p d) Answers out g (Init wanted) (Refused AlreadyUp) (refused_alone m m p p d d g (Init wanted) AlreadyUp stands
-    (first_holds (not (g.status == 0)) AlreadyUp [] (up_test g.status (λ e. up (stands.ties.parts.device.status ∙ e)))) refl refl refl)
+    steps_quiet (Stands m p d) Answers out g (Init wanted) (Refused AlreadyUp)
+    (refused_alone m m p p d d g (Init wanted) AlreadyUp stands
+    (first_holds (not (g.status == 0)) AlreadyUp []
+    (up_test g.status (λ e. up (stands.ties.parts.device.status ∙ e)))) refl refl refl)
 
 new_test : (g : Guest) (wanted : ℕ) → g.status ≡ 0 → refusal_of g (Init wanted) ≡ None
 new_test g wanted e = ap (λ (s : ℕ). first_refusal ((not (s == 0) ⇒ AlreadyUp) ∷ [])) e
 
 -- a device whose status is 0 isn't initialised
-new_is_idle : (m : Pages) (p : Part) (d : DriverState) (g : Guest) → g.status ≡ 0 → Stands m p d g → IsIdle g
+new_is_idle : (m : Pages) (p : Part) (d : DriverState) (g : Guest) → g.status ≡ 0 → Stands m p d g
+    → IsIdle g
 new_is_idle m p d g e stands = elim stands.ties.queues [
   | inl idle ↦ idle
   | inr run ↦ absurd (omega (arith, run.state))
@@ -69,72 +84,106 @@ new_is_idle m p d g e stands = elim stands.ties.queues [
 filter_same : (f h : ℕ → Bool) (xs : List ℕ) → ((x : ℕ) → f x ≡ h x) → filter f xs ≡ filter h xs
 filter_same f h [] same = refl
 filter_same f h (x ∷ xs) same =
-    ap (λ (b : Bool). cond b (x ∷ filter f xs) (filter f xs)) (same x) ∙ ap (λ (l : List ℕ). cond (h x) (x ∷ l) l) (filter_same f h xs same)
+    ap (λ (b : Bool). cond b (x ∷ filter f xs) (filter f xs)) (same x)
+    ∙ ap (λ (l : List ℕ). cond (h x) (x ∷ l) l) (filter_same f h xs same)
 
-bare_is : (m : Pages) (g : Guest) → ((p : ℕ) → frame_at m p ≡ frame_of g.frames p) → bare_from m 0 ≡ lacking g
-bare_is m g behind = filter_same (λ page. is_none (frame_at m page)) (λ page. is_none (frame_of g.frames page)) (range_with_len 0 13) (λ x. ap is_none (behind x))
+bare_is : (m : Pages) (g : Guest) → ((p : ℕ) → frame_at m p ≡ frame_of g.frames p)
+    → bare_from m 0 ≡ lacking g
+bare_is m g behind = filter_same (λ page. is_none (frame_at m page))
+    (λ page. is_none (frame_of g.frames page)) (range_with_len 0 13) (λ x. ap is_none (behind x))
 
 -- once they have frames, each page of rings and buffers has one
-now_backed : (m1 m2 : Pages) (numbers : List ℕ) (page : ℕ) → AllSupplied (bare_from m1 0) numbers m1 m2 → page < 13 → IsSome (frame_at m2 page)
+now_backed : (m1 m2 : Pages) (numbers : List ℕ) (page : ℕ)
+    → AllSupplied (bare_from m1 0) numbers m1 m2 → page < 13 → IsSome (frame_at m2 page)
 now_backed m1 m2 numbers page supplied lt = elim (either (is_in page (bare_from m1 0))) [
   | inl there ↦ supplied_backed (bare_from m1 0) numbers m1 m2 page supplied there
-  | inr out ↦ ap (λ o. is_some (number_of o)) (supplied_other (bare_from m1 0) numbers m1 m2 page supplied out) ∙ was (frame_at m1 page) refl out
+  | inr out ↦ ap (λ o. is_some (number_of o))
+      (supplied_other (bare_from m1 0) numbers m1 m2 page supplied out)
+      ∙ was (frame_at m1 page) refl out
 ]
   where
-    was : (o : Option ℕ) → frame_at m1 page ≡ o → is_in page (bare_from m1 0) ≡ false → is_some (frame_at m1 page) ≡ true
+    was : (o : Option ℕ) → frame_at m1 page ≡ o → is_in page (bare_from m1 0) ≡ false
+        → is_some (frame_at m1 page) ≡ true
     was (Some x) e out = ap is_some e
-    was None e out = (let wrong = among (λ q. is_none (frame_at m1 q)) 0 13 page (omega arith) (omega arith) (ap is_none e) in absurd cc)
+    was None e out = (let wrong = among (λ q. is_none (frame_at m1 q)) 0 13 page (omega arith)
+        (omega arith) (ap is_none e) in absurd cc)
 
-all_below : (test : ℕ → Bool) (a n : ℕ) → ((p : ℕ) → p < a + n → test p ≡ true) → list_all test (range_with_len a n) ≡ true
+all_below : (test : ℕ → Bool) (a n : ℕ) → ((p : ℕ) → p < a + n → test p ≡ true)
+    → list_all test (range_with_len a n) ≡ true
 all_below test a zero holds = refl
-all_below test a (suc n) holds = ap (λ (b : Bool). b && list_all test (range_with_len (a + 1) n)) (holds a (omega arith)) ∙ all_below test (a + 1) n (λ p lt. holds p (omega arith))
+all_below test a (suc n) holds =
+    ap (λ (b : Bool). b && list_all test (range_with_len (a + 1) n)) (holds a (omega arith))
+    ∙ all_below test (a + 1) n (λ p lt. holds p (omega arith))
 
 has_all : (m : Pages) → ((p : ℕ) → p < 13 → IsSome (frame_at m p)) → has_frames m ≡ true
-has_all m backed = all_below (λ page. is_some (frame_at m page)) 0 13 (λ p lt. backed p (omega arith))
+has_all m backed = all_below (λ page. is_some (frame_at m page)) 0 13
+    (λ p lt. backed p (omega arith))
 
 -- ---- no frames: nothing is changed
 
-pub known_answer : (Answers : List Bool → Claim → Type 0) (out1 out2 : List Bool) (pages : List ℕ) (m1 m2 : Pages) (result value : Result (Unit {0}) WhyRefused) → result ≡ value
-    → SuppliesBy Answers out1 out2 pages m1 m2 result → SuppliesBy Answers out1 out2 pages m1 m2 value
-known_answer Answers out1 out2 pages m1 m2 result value is did = subst (λ (r : Result (Unit {0}) WhyRefused). SuppliesBy Answers out1 out2 pages m1 m2 r) is did
+pub known_answer : (Answers : List Bool → Claim → Type 0) (out1 out2 : List Bool) (pages : List ℕ)
+    (m1 m2 : Pages) (result value : Result (Unit {0}) WhyRefused) → result ≡ value
+    → SuppliesBy Answers out1 out2 pages m1 m2 result
+    → SuppliesBy Answers out1 out2 pages m1 m2 value
+known_answer Answers out1 out2 pages m1 m2 result value is did =
+    subst (λ (r : Result (Unit {0}) WhyRefused). SuppliesBy Answers out1 out2 pages m1 m2 r) is did
 
-pub init_unsupplied : (Answers : List Bool → Claim → Type 0) (out1 out2 : List Bool) (m1 m2 : Pages) (p1 p2 : Part) (d : DriverState) (g : Guest) (wanted : ℕ) (why : WhyRefused) (refusal : Refusal)
-    → why_unsupplied {T = Unit {0}} (Err why) ≡ Some refusal → p1.status ≡ 0 → SuppliesBy {T = Unit {0}} Answers out1 out2 (bare_from m1 0) m1 m2 (Err why) → p2 ≡ p1 → Stands m1 p1 d g
+pub init_unsupplied : (Answers : List Bool → Claim → Type 0) (out1 out2 : List Bool) (m1 m2 : Pages)
+    (p1 p2 : Part) (d : DriverState) (g : Guest) (wanted : ℕ) (why : WhyRefused) (refusal : Refusal)
+    → why_unsupplied {T = Unit {0}} (Err why) ≡ Some refusal → p1.status ≡ 0
+    → SuppliesBy {T = Unit {0}} Answers out1 out2 (bare_from m1 0) m1 m2 (Err why) → p2 ≡ p1
+    → Stands m1 p1 d g
     → Steps (Stands m2 p2 d) Answers out1 out2 g (Init wanted) (Refused refusal)
 init_unsupplied Answers out1 out2 m1 m2 p1 p2 d g wanted why refusal is new did part stands =
     let ties = stands.ties in
     let claims = did.claims in
     let refused : claim_refusal claims ≡ Some refusal = did.answer ∙ is in
     let after : Guest = record g { frames = all_backed (lacking g) (given claims) g.frames } in
-    let P : Option Refusal → Type 0 = λ o. MatchOption o (Negotiates (feature_refusal wanted) wanted after (Refused refusal) g) (λ r. (Refused refusal ≡ Refused r) × (g ≡ g)) in
-    let made : AreClaimsFor (lacking g) claims = subst (λ (l : List ℕ). AreClaimsFor l claims) (bare_is m1 g ties.pages.behind) did.made in
-    let step = honest_performed g (Init wanted) claims (Refused refusal) g (new_test g wanted (sym ties.parts.device.status ∙ new)) (made, subst P (sym refused) (refl, refl)) in
+    let P : Option Refusal
+    → Type 0 = λ o. MatchOption o
+    (Negotiates (feature_refusal wanted) wanted after (Refused refusal) g)
+    (λ r. (Refused refusal ≡ Refused r) × (g ≡ g)) in
+    let made : AreClaimsFor (lacking g) claims =
+    subst (λ (l : List ℕ). AreClaimsFor l claims) (bare_is m1 g ties.pages.behind) did.made in
+    let step = honest_performed g (Init wanted) claims (Refused refusal) g
+    (new_test g wanted (sym ties.parts.device.status ∙ new))
+    (made, subst P (sym refused) (refl, refl)) in
     record {
       claims = claims;
       new = g;
-      stands = still_stands m1 m2 p1 p2 d d g (Init wanted) claims (Refused refusal) g stands step (ties_same m1 m2 p1 p2 d d g did.refused.0 part refl ties);
+      stands = still_stands m1 m2 p1 p2 d d g (Init wanted) claims (Refused refusal) g stands step
+          (ties_same m1 m2 p1 p2 d d g did.refused.0 part refl ties);
       step = guest_step g (Init wanted) claims (Refused refusal) g ties.parts.guest.honest step;
       answered = did.answered;
-      balance = λ n. ap (λ (o : List Bool). one_if (is_out o n) + count_by (is_frame n) g.frames) did.refused.1;
+      balance = λ n. ap (λ (o : List Bool). one_if (is_out o n) + count_by (is_frame n) g.frames)
+          did.refused.1;
       count = ap (λ (o : List Bool). length o) did.refused.1;
     }
 
 -- ---- the driver's answer
 
 -- these features are refused for themselves
-refused_feature : (wanted : ℕ) (why : Refusal) → feature_refusal wanted ≡ Some why → (why ≡ FeatureNotOffered) ⊎ ((why ≡ MustTellMissing) ⊎ (why ≡ VersionMissing))
-refused_feature wanted why e = step (not (contains offered_features wanted)) (not (must_tell_host wanted)) (not (version_1 wanted)) e
+refused_feature : (wanted : ℕ) (why : Refusal) → feature_refusal wanted ≡ Some why
+    → (why ≡ FeatureNotOffered) ⊎ ((why ≡ MustTellMissing) ⊎ (why ≡ VersionMissing))
+refused_feature wanted why e =
+    step (not (contains offered_features wanted)) (not (must_tell_host wanted))
+    (not (version_1 wanted)) e
   where
-    step : (a b c : Bool) → (if a then Some FeatureNotOffered else (if b then Some MustTellMissing else (if c then Some VersionMissing else None))) ≡ Some why → (why ≡ FeatureNotOffered) ⊎ ((why ≡ MustTellMissing) ⊎ (why ≡ VersionMissing))
+    step : (a b c : Bool)
+        → (if a then Some FeatureNotOffered
+        else (if b then Some MustTellMissing else (if c then Some VersionMissing else None)))
+        ≡ Some why → (why ≡ FeatureNotOffered) ⊎ ((why ≡ MustTellMissing) ⊎ (why ≡ VersionMissing))
     step true b c k = inl cc
     step false true c k = inr (inl cc)
     step false false true k = inr (inr cc)
     step false false false k = absurd cc
 
-given_up : (m1 m2 : Pages) (p1 p2 : Part) (d1 d2 : DriverState) (wanted : ℕ) (why : Refusal) → feature_refusal wanted ≡ Some why → InitRefused why m1 m2 p1 p2 d1 d2 wanted
+given_up : (m1 m2 : Pages) (p1 p2 : Part) (d1 d2 : DriverState) (wanted : ℕ) (why : Refusal)
+    → feature_refusal wanted ≡ Some why → InitRefused why m1 m2 p1 p2 d1 d2 wanted
     → GivesUp m1 m2 p1 p2 d1 d2 (accepted_before why wanted)
 given_up m1 m2 p1 p2 d1 d2 wanted why e did =
-    let P : Refusal → Type 0 = λ r. InitRefused r m1 m2 p1 p2 d1 d2 wanted → GivesUp m1 m2 p1 p2 d1 d2 (accepted_before r wanted) in
+    let P : Refusal → Type 0 = λ r. InitRefused r m1 m2 p1 p2 d1 d2 wanted
+    → GivesUp m1 m2 p1 p2 d1 d2 (accepted_before r wanted) in
     elim (refused_feature wanted why e) [
       | inl is ↦ subst P (sym is) (λ h. h) did
       | inr other ↦ elim other [
@@ -143,23 +192,29 @@ given_up m1 m2 p1 p2 d1 d2 wanted why e did =
       ]
     ]
 
-driver_tests : (m : Pages) (p : Part) (wanted : ℕ) → p.status ≡ 0 → has_frames m ≡ true → first_refusal (init_tests m p wanted) ≡ feature_refusal wanted
+driver_tests : (m : Pages) (p : Part) (wanted : ℕ) → p.status ≡ 0 → has_frames m ≡ true
+    → first_refusal (init_tests m p wanted) ≡ feature_refusal wanted
 driver_tests m p wanted new backed =
-    ap (λ (s : ℕ). first_refusal ((not (s == 0) ⇒ AlreadyUp) ∷ (not (has_frames m) ⇒ NoFrame) ∷ feature_tests wanted)) new
+    ap (λ (s : ℕ). first_refusal
+    ((not (s == 0) ⇒ AlreadyUp) ∷ (not (has_frames m) ⇒ NoFrame) ∷ feature_tests wanted)) new
     ∙ ap (λ (b : Bool). first_refusal ((not b ⇒ NoFrame) ∷ feature_tests wanted)) backed
 
 -- ---- the guest afterwards
 
-no_flags : (p : Part) (g : Guest) → p.ballooned ≡ g.ballooned → IsIdle g → replicate (length p.ballooned) false ≡ g.ballooned
+no_flags : (p : Part) (g : Guest) → p.ballooned ≡ g.ballooned → IsIdle g
+    → replicate (length p.ballooned) false ≡ g.ballooned
 no_flags p g same idle =
-    let len : length p.ballooned ≡ g.config.pages = ap (λ (l : List Bool). length l) (same ∙ idle.ballooned) ∙ length-replicate g.config.pages false in
+    let len : length p.ballooned ≡ g.config.pages =
+    ap (λ (l : List Bool). length l) (same ∙ idle.ballooned)
+    ∙ length-replicate g.config.pages false in
     ap (λ (n : ℕ). replicate n false) len ∙ sym idle.ballooned
 
 all_none : {A : Type 0} (P : A → Type 0) → All P []
 all_none P k d lt = absurd (omega arith)
 
 -- nothing was published, and nothing used
-fresh_line : (m : Pages) (queue count q : ℕ) → IsSize q → IsNewRing m (fresh_side queue q) → Line m queue count (fresh_side queue q) no_queue no_requests
+fresh_line : (m : Pages) (queue count q : ℕ) → IsSize q → IsNewRing m (fresh_side queue q)
+    → Line m queue count (fresh_side queue q) no_queue no_requests
 fresh_line m queue count q sized ring = record {
   sized = sized;
   layout = refl;
@@ -180,16 +235,28 @@ fresh_line m queue count q sized ring = record {
 }
 
 -- the guest whose pages have these frames, and whose device is initialised
-started : (m2 m3 : Pages) (p1 p3 : Part) (d1 d2 : DriverState) (g : Guest) (frames : List (Option ℕ)) (wanted : ℕ) → HasPages m2 g.config.pages frames g.contents → ((p : ℕ) → p < 13 → IsSome (frame_at m2 p))
-    → IsIdle g → IsDriver d1 → HasParts (beside_queues p1) (beside_sides d1) (beside_requests g) → Starts m2 m3 p1 p3 d1 d2 wanted
-    → Ties m3 p3 d2 (record g { frames = frames; status = 15; features = wanted; buffer = NoBuffer })
+started : (m2 m3 : Pages) (p1 p3 : Part) (d1 d2 : DriverState) (g : Guest)
+    (frames : List (Option ℕ)) (wanted : ℕ) → HasPages m2 g.config.pages frames g.contents
+    → ((p : ℕ) → p < 13 → IsSome (frame_at m2 p))
+    → IsIdle g → IsDriver d1 → HasParts (beside_queues p1) (beside_sides d1) (beside_requests g)
+    → Starts m2 m3 p1 p3 d1 d2 wanted
+    → Ties m3 p3 d2 (record g
+    { frames = frames; status = 15; features = wanted; buffer = NoBuffer })
 started m2 m3 p1 p3 d1 d2 g frames wanted has backed idle driver parts did =
-    let new : Guest = record g { frames = frames; status = 15; features = wanted; buffer = NoBuffer } in
+    let new : Guest = record g
+    { frames = frames; status = 15; features = wanted; buffer = NoBuffer } in
     let part : Part = record (part_after_reset p1) { status = 15; features = wanted } in
-    let state : DriverState = record d1 { inflate = fresh_side 0 d1.queue_size; deflate = fresh_side 1 d1.queue_size; features = wanted } in
+    let state : DriverState =
+    record d1 {
+      inflate = fresh_side 0 d1.queue_size;
+      deflate = fresh_side 1 d1.queue_size;
+      features = wanted;
+    } in
     let n = g.config.pages in
-    let inflate = fresh_line m3 0 n d1.queue_size driver.size (subst (λ (d : DriverState). IsNewRing m3 d.inflate) did.driver did.inflate) in
-    let deflate = fresh_line m3 1 n d1.queue_size driver.size (subst (λ (d : DriverState). IsNewRing m3 d.deflate) did.driver did.deflate) in
+    let inflate = fresh_line m3 0 n d1.queue_size driver.size
+    (subst (λ (d : DriverState). IsNewRing m3 d.inflate) did.driver did.inflate) in
+    let deflate = fresh_line m3 1 n d1.queue_size driver.size
+    (subst (λ (d : DriverState). IsNewRing m3 d.deflate) did.driver did.deflate) in
     let there : Ties m3 part state new = record {
       parts = record {
         guest = record {
@@ -220,21 +287,30 @@ started m2 m3 p1 p3 d1 d2 g frames wanted has backed idle driver parts did =
           loose = parts.device.loose;
         };
       };
-      pages = pages_same m2 m3 n frames g.contents (record { count = did.count; behind = did.backing; holds = λ p high. ap contents_of (did.others p (omega arith)) }) has;
+      pages = pages_same m2 m3 n frames g.contents
+          (record {
+            count = did.count;
+            behind = did.backing;
+            holds = λ p high. ap contents_of (did.others p (omega arith));
+          }) has;
       queues = inr (record {
         state = refl;
         backed = λ p lt. ap is_some (did.backing p) ∙ backed p lt;
         inflate_size = parts.driver.queue_size;
         deflate_size = parts.driver.queue_size;
-        inflate = subst (λ (rs : Requests). Line m3 0 n (fresh_side 0 d1.queue_size) no_queue rs) (sym idle.inflate) inflate;
-        deflate = subst (λ (rs : Requests). Line m3 1 n (fresh_side 1 d1.queue_size) no_queue rs) (sym idle.deflate) deflate;
+        inflate = subst (λ (rs : Requests). Line m3 0 n (fresh_side 0 d1.queue_size) no_queue rs)
+            (sym idle.inflate) inflate;
+        deflate = subst (λ (rs : Requests). Line m3 1 n (fresh_side 1 d1.queue_size) no_queue rs)
+            (sym idle.deflate) deflate;
       });
     } in
     ties_same m3 m3 part p3 state d2 new refl did.part did.driver there
 
 -- the guest whose pages have these frames, and whose driver gave up
-stopped : (m2 m3 : Pages) (p1 p3 : Part) (d1 d2 : DriverState) (g : Guest) (frames : List (Option ℕ)) (accepted : ℕ) → HasPages m2 g.config.pages frames g.contents
-    → IsIdle g → HasParts (beside_queues p1) (beside_sides d1) (beside_requests g) → GivesUp m2 m3 p1 p3 d1 d2 accepted
+stopped : (m2 m3 : Pages) (p1 p3 : Part) (d1 d2 : DriverState) (g : Guest)
+    (frames : List (Option ℕ)) (accepted : ℕ) → HasPages m2 g.config.pages frames g.contents
+    → IsIdle g → HasParts (beside_queues p1) (beside_sides d1) (beside_requests g)
+    → GivesUp m2 m3 p1 p3 d1 d2 accepted
     → Ties m3 p3 d2 (record g { frames = frames; status = 131; features = accepted })
 stopped m2 m3 p1 p3 d1 d2 g frames accepted has idle parts did =
     let new : Guest = record g { frames = frames; status = 131; features = accepted } in
@@ -280,39 +356,54 @@ stopped m2 m3 p1 p3 d1 d2 g frames accepted has idle parts did =
 -- ---- the step
 
 -- what the driver's initialisation leaves of a guest whose pages have these frames
-record Leaves (m : Pages) (p : Part) (d : DriverState) (g : Guest) (frames : List (Option ℕ)) (wanted : ℕ) (reply : Reply) : Type 0 where
+record Leaves (m : Pages) (p : Part) (d : DriverState) (g : Guest) (frames : List (Option ℕ))
+    (wanted : ℕ) (reply : Reply) : Type 0 where
   new : Guest
   ties : Ties m p d new
   does : Negotiates (feature_refusal wanted) wanted (record g { frames = frames }) reply new
   kept : new.frames ≡ frames
 
-initialised : (m2 m3 : Pages) (p1 p3 : Part) (d1 d2 : DriverState) (g : Guest) (frames : List (Option ℕ)) (wanted : ℕ) (result : Result (Unit {0}) Refusal) → HasPages m2 g.config.pages frames g.contents
-    → ((p : ℕ) → p < 13 → IsSome (frame_at m2 p)) → p1.status ≡ 0 → IsIdle g → HasParts (beside_queues p1) (beside_sides d1) (beside_requests g) → InitsBy m2 m3 p1 p3 d1 d2 wanted result
+initialised : (m2 m3 : Pages) (p1 p3 : Part) (d1 d2 : DriverState) (g : Guest)
+    (frames : List (Option ℕ)) (wanted : ℕ) (result : Result (Unit {0}) Refusal)
+    → HasPages m2 g.config.pages frames g.contents
+    → ((p : ℕ) → p < 13 → IsSome (frame_at m2 p)) → p1.status ≡ 0 → IsIdle g
+    → HasParts (beside_queues p1) (beside_sides d1) (beside_requests g)
+    → InitsBy m2 m3 p1 p3 d1 d2 wanted result
     → Leaves m3 p3 d2 g frames wanted (ready_reply result)
 initialised m2 m3 p1 p3 d1 d2 g frames wanted (Ok x) has backed new idle parts did =
-    let fine : None ≡ feature_refusal wanted = did.refusal ∙ driver_tests m2 p1 wanted new (has_all m2 backed) in
-    let after : Guest = record g { frames = frames; status = 15; features = wanted; buffer = NoBuffer } in
+    let fine : None ≡ feature_refusal wanted =
+    did.refusal ∙ driver_tests m2 p1 wanted new (has_all m2 backed) in
+    let after : Guest = record g
+    { frames = frames; status = 15; features = wanted; buffer = NoBuffer } in
     record {
       new = after;
       ties = started m2 m3 p1 p3 d1 d2 g frames wanted has backed idle did.driver parts did.starts;
-      does = subst (λ (o : Option Refusal). Negotiates o wanted (record g { frames = frames }) Ready after) fine (refl, refl);
+      does = subst (λ (o : Option Refusal). Negotiates o wanted (record g { frames = frames }) Ready
+          after) fine (refl, refl);
       kept = refl;
     }
 initialised m2 m3 p1 p3 d1 d2 g frames wanted (Err why) has backed new idle parts did =
-    let wrong : Some why ≡ feature_refusal wanted = did.refusal ∙ driver_tests m2 p1 wanted new (has_all m2 backed) in
+    let wrong : Some why ≡ feature_refusal wanted =
+    did.refusal ∙ driver_tests m2 p1 wanted new (has_all m2 backed) in
     let accepted = accepted_before why wanted in
     let after : Guest = record g { frames = frames; status = 131; features = accepted } in
     record {
       new = after;
-      ties = stopped m2 m3 p1 p3 d1 d2 g frames accepted has idle parts (given_up m2 m3 p1 p3 d1 d2 wanted why (sym wrong) did.refused);
-      does = subst (λ (o : Option Refusal). Negotiates o wanted (record g { frames = frames }) (Refused why) after) wrong (refl, refl);
+      ties = stopped m2 m3 p1 p3 d1 d2 g frames accepted has idle parts
+          (given_up m2 m3 p1 p3 d1 d2 wanted why (sym wrong) did.refused);
+      does = subst (λ (o : Option Refusal). Negotiates o wanted (record g { frames = frames })
+          (Refused why) after) wrong (refl, refl);
       kept = refl;
     }
 
-pub init_supplied : (Answers : List Bool → Claim → Type 0) (out1 out2 : List Bool) (m1 m2 m3 : Pages) (p1 p2 p3 : Part) (d1 d2 : DriverState) (g : Guest) (wanted : ℕ) (result : Result (Unit {0}) Refusal)
-    → p1.status ≡ 0 → SuppliesBy {T = Unit {0}} Answers out1 out2 (bare_from m1 0) m1 m2 (Ok tt) → p2 ≡ p1 → InitsBy m2 m3 p2 p3 d1 d2 wanted result → Stands m1 p1 d1 g
+pub init_supplied : (Answers : List Bool → Claim → Type 0) (out1 out2 : List Bool)
+    (m1 m2 m3 : Pages) (p1 p2 p3 : Part) (d1 d2 : DriverState) (g : Guest) (wanted : ℕ)
+    (result : Result (Unit {0}) Refusal)
+    → p1.status ≡ 0 → SuppliesBy {T = Unit {0}} Answers out1 out2 (bare_from m1 0) m1 m2 (Ok tt)
+    → p2 ≡ p1 → InitsBy m2 m3 p2 p3 d1 d2 wanted result → Stands m1 p1 d1 g
     → Steps (Stands m3 p3 d2) Answers out1 out2 g (Init wanted) (ready_reply result)
-init_supplied Answers out1 out2 m1 m2 m3 p1 p2 p3 d1 d2 g wanted result status did part inits stands =
+init_supplied Answers out1 out2 m1 m2 m3 p1 p2 p3 d1 d2 g wanted result status did part inits stands
+    =
     let ties = stands.ties in
     let n = g.config.pages in
     let pages = bare_from m1 0 in
@@ -321,36 +412,68 @@ init_supplied Answers out1 out2 m1 m2 m3 p1 p2 p3 d1 d2 g wanted result status d
     let new_status : g.status ≡ 0 = sym ties.parts.device.status ∙ status in
     let idle = new_is_idle m1 p1 d1 g new_status stands in
     let distinct = all_distinct (λ page. is_none (frame_at m1 page)) 0 13 in
-    let below : (p : ℕ) → is_in p pages ≡ true → p < n = λ p there. (let low = bounded (λ page. is_none (frame_at m1 page)) 0 13 p there in let many = large m1 p1 d1 g stands in omega (arith, ties.pages.length_is)) in
-    let has = pages_filled n pages (given claims) m1 m2 g.frames g.contents distinct below did.supplied.0 ties.pages in
-    let backed : (p : ℕ) → p < 13 → IsSome (frame_at m2 p) = λ p lt. now_backed m1 m2 (given claims) p did.supplied.0 lt in
-    let same : InitsBy m2 m3 p1 p3 d1 d2 wanted result = subst (λ (p : Part). InitsBy m2 m3 p p3 d1 d2 wanted result) part inits in
-    let left = initialised m2 m3 p1 p3 d1 d2 g frames wanted result has backed status idle ties.parts same in
+    let below : (p : ℕ) → is_in p pages ≡ true
+    → p < n = λ p there. (let low = bounded (λ page. is_none (frame_at m1 page)) 0 13 p there in
+    let many = large m1 p1 d1 g stands in omega (arith, ties.pages.length_is)) in
+    let has = pages_filled n pages (given claims) m1 m2 g.frames g.contents distinct below
+    did.supplied.0 ties.pages in
+    let backed : (p : ℕ) → p < 13
+    → IsSome (frame_at m2 p) = λ p lt. now_backed m1 m2 (given claims) p did.supplied.0 lt in
+    let same : InitsBy m2 m3 p1 p3 d1 d2 wanted result =
+    subst (λ (p : Part). InitsBy m2 m3 p p3 d1 d2 wanted result) part inits in
+    let left = initialised m2 m3 p1 p3 d1 d2 g frames wanted result has backed status idle
+    ties.parts same in
     let reply = ready_reply result in
-    let P : Option Refusal → Type 0 = λ o. MatchOption o (Negotiates (feature_refusal wanted) wanted (record g { frames = frames }) reply left.new) (λ r. (reply ≡ Refused r) × (left.new ≡ g)) in
-    let does : Supplying pages g claims reply left.new (λ supplied. Negotiates (feature_refusal wanted) wanted supplied reply left.new) = (did.made, subst P (sym did.answer) left.does) in
-    let S : List ℕ → Type 0 = λ l. Supplying l g claims reply left.new (λ supplied. Negotiates (feature_refusal wanted) wanted supplied reply left.new) in
-    let step = honest_performed g (Init wanted) claims reply left.new (new_test g wanted new_status) (subst S (bare_is m1 g ties.pages.behind) does) in
+    let P : Option Refusal
+    → Type 0 = λ o. MatchOption o
+    (Negotiates (feature_refusal wanted) wanted (record g { frames = frames }) reply left.new)
+    (λ r. (reply ≡ Refused r) × (left.new ≡ g)) in
+    let does : Supplying pages g claims reply left.new
+    (λ supplied. Negotiates (feature_refusal wanted) wanted supplied reply left.new) =
+    (did.made, subst P (sym did.answer) left.does) in
+    let S : List ℕ → Type 0 =
+    λ l. Supplying l g claims reply left.new
+    (λ supplied. Negotiates (feature_refusal wanted) wanted supplied reply left.new) in
+    let step = honest_performed g (Init wanted) claims reply left.new (new_test g wanted new_status)
+    (subst S (bare_is m1 g ties.pages.behind) does) in
     record {
       claims = claims;
       new = left.new;
-      stands = still_stands m1 m3 p1 p3 d1 d2 g (Init wanted) claims reply left.new stands step left.ties;
+      stands = still_stands m1 m3 p1 p3 d1 d2 g (Init wanted) claims reply left.new stands step
+          left.ties;
       step = guest_step g (Init wanted) claims reply left.new ties.parts.guest.honest step;
       answered = did.answered;
       balance = λ x. (
-          let filled = frames_filled Answers x n pages claims out1 m1 m2 g.frames g.contents did.answer did.made did.answered distinct below did.supplied.0 ties.pages in
-          ap (λ (o : List Bool). one_if (is_out o x) + count_by (is_frame x) g.frames) did.supplied.1 ∙ filled ∙ ap (λ (l : List (Option ℕ)). one_if (is_out out1 x) + count_by (is_frame x) l) (sym left.kept));
+          let filled = frames_filled Answers x n pages claims out1 m1 m2 g.frames g.contents
+          did.answer did.made did.answered distinct below did.supplied.0 ties.pages in
+          ap (λ (o : List Bool). one_if (is_out o x) + count_by (is_frame x) g.frames)
+          did.supplied.1 ∙ filled
+          ∙ ap (λ (l : List (Option ℕ)). one_if (is_out out1 x) + count_by (is_frame x) l)
+          (sym left.kept));
       count = ap (λ (o : List Bool). length o) did.supplied.1 ∙ length-after_claims out1 claims;
     }
 
 -- memory is as large as it was
-pub still_large : (Answers : List Bool → Claim → Type 0) (out1 out2 : List Bool) (m1 m2 : Pages) (p : Part) (d : DriverState) (g : Guest) → Stands m1 p d g → SuppliesBy {T = Unit {0}} Answers out1 out2 (bare_from m1 0) m1 m2 (Ok tt)
+pub still_large : (Answers : List Bool → Claim → Type 0) (out1 out2 : List Bool) (m1 m2 : Pages)
+    (p : Part) (d : DriverState) (g : Guest) → Stands m1 p d g
+    → SuppliesBy {T = Unit {0}} Answers out1 out2 (bare_from m1 0) m1 m2 (Ok tt)
     → 64 ≤ length m2
-still_large Answers out1 out2 m1 m2 p d g stands did = omega (arith, large m1 p d g stands, supplied_count (bare_from m1 0) (given did.claims) m1 m2 did.supplied.0)
+still_large Answers out1 out2 m1 m2 p d g stands did =
+    omega (
+      arith,
+      large m1 p d g stands,
+      supplied_count (bare_from m1 0) (given did.claims) m1 m2 did.supplied.0,
+    )
 
 -- the features by their name in the code
-pub init_named : (Answers : List Bool → Claim → Type 0) (out1 out2 : List Bool) (m1 m2 m3 : Pages) (p1 p2 p3 : Part) (d1 d2 : DriverState) (g : Guest) (wanted features : ℕ) (result : Result (Unit {0}) Refusal)
-    → features ≡ wanted → p1.status ≡ 0 → SuppliesBy {T = Unit {0}} Answers out1 out2 (bare_from m1 0) m1 m2 (Ok tt) → p2 ≡ p1 → InitsBy m2 m3 p2 p3 d1 d2 features result → Stands m1 p1 d1 g
+pub init_named : (Answers : List Bool → Claim → Type 0) (out1 out2 : List Bool) (m1 m2 m3 : Pages)
+    (p1 p2 p3 : Part) (d1 d2 : DriverState) (g : Guest) (wanted features : ℕ)
+    (result : Result (Unit {0}) Refusal)
+    → features ≡ wanted → p1.status ≡ 0
+    → SuppliesBy {T = Unit {0}} Answers out1 out2 (bare_from m1 0) m1 m2 (Ok tt) → p2 ≡ p1
+    → InitsBy m2 m3 p2 p3 d1 d2 features result → Stands m1 p1 d1 g
     → Steps (Stands m3 p3 d2) Answers out1 out2 g (Init wanted) (ready_reply result)
-init_named Answers out1 out2 m1 m2 m3 p1 p2 p3 d1 d2 g wanted features result named status did part inits stands =
-    init_supplied Answers out1 out2 m1 m2 m3 p1 p2 p3 d1 d2 g wanted result status did part (subst (λ (f : ℕ). InitsBy m2 m3 p2 p3 d1 d2 f result) named inits) stands
+init_named Answers out1 out2 m1 m2 m3 p1 p2 p3 d1 d2 g wanted features result named status did part
+    inits stands =
+    init_supplied Answers out1 out2 m1 m2 m3 p1 p2 p3 d1 d2 g wanted result status did part
+    (subst (λ (f : ℕ). InitsBy m2 m3 p2 p3 d1 d2 f result) named inits) stands

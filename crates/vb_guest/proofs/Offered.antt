@@ -1,12 +1,15 @@
 -- The pages of a new request.
-use Rattle.std.specs.Prelude.{◌≡◌, ℕ, zero, suc, ◌<◌, ◌≤◌, ◌==◌, ◌||◌, Bool, true, false, not, nat_lt, List, [], ◌∷◌, ◌++◌, All, length, IsTrue, slice_index_or, refl, ◌⊎◌}
+use Rattle.std.specs.Prelude.{◌≡◌, ℕ, zero, suc, ◌<◌, ◌≤◌, ◌==◌, ◌||◌, Bool, true, false, not}
+use Rattle.std.specs.Prelude.{nat_lt, List, [], ◌∷◌, ◌++◌, All, length, IsTrue, slice_index_or}
+use Rattle.std.specs.Prelude.{refl, ◌⊎◌}
 use Rattle.std.specs.List.{list_any}
 use Rattle.std.proofs.Common.{sym, ◌∙◌, ap, arith, inl, inr, eq-eqb}
 use Rattle.std.proofs.lemmas.Bool.{cases_lt}
 use Rattle.std.proofs.lemmas.Bool.Decides.{nat_tests}
 use Rattle.std.proofs.lemmas.List.{get_or_past}
 use Rattle.vb_model.specs.declared.places.Place.{Place}
-use Rattle.vb_model.specs.declared.places.Place.TheVariants.{Reserved, Free, Used, Giving, Lent, Taking, Stranded, Reporting}
+use Rattle.vb_model.specs.declared.places.Place.TheVariants.{Reserved, Free, Used, Giving, Lent}
+use Rattle.vb_model.specs.declared.places.Place.TheVariants.{Taking, Stranded, Reporting}
 use Rattle.vb_model.specs.Tests.{one_if, is_in}
 use Rattle.vb_model.specs.Pages.{place_of, is_lent}
 use Rattle.vb_model.specs.Guest.{Guest}
@@ -19,24 +22,37 @@ use Rattle.vb_model.specs.Orderly.{IsOrderly, is_reserved, times, IsRequestSound
 use Rattle.vb_guest.specs.Line.{AreRequested}
 
 -- a page that isn't at a reserved place is there, and above the reserved ones
-pub high_page : (g : Guest) (page : ℕ) → IsOrderly g → is_reserved (place_of g.places page) ≡ false → (16 ≤ page) × (page < g.config.pages)
+pub high_page : (g : Guest) (page : ℕ) → IsOrderly g → is_reserved (place_of g.places page) ≡ false
+    → (16 ≤ page) × (page < g.config.pages)
 high_page g page orderly free = elim (cases_lt page g.config.pages) [
-  | inl lt ↦ (let e : nat_lt page 16 ≡ false = sym (orderly.unreserved page lt) ∙ free in grind (arith, nat_tests), lt)
+  | inl lt ↦ (
+    let e : nat_lt page 16 ≡ false = sym (orderly.unreserved page lt) ∙ free in
+        grind (arith, nat_tests),
+    lt,
+  )
   | inr past ↦
-      let wrong : is_reserved (place_of g.places page) ≡ true = ap is_reserved (get_or_past g.places page Reserved (omega (arith, orderly.tabled))) in
+      let wrong : is_reserved (place_of g.places page) ≡ true =
+      ap is_reserved (get_or_past g.places page Reserved (omega (arith, orderly.tabled))) in
       absurd (let both : true ≡ false = sym wrong ∙ free in cc)
 ]
 
 -- pages none of which is at a reserved place are those of a request
-pub high_pages : (g : Guest) (pages : List ℕ) → IsOrderly g → ((page : ℕ) → is_in page pages ≡ true → is_reserved (place_of g.places page) ≡ false)
+pub high_pages : (g : Guest) (pages : List ℕ) → IsOrderly g
+    → ((page : ℕ) → is_in page pages ≡ true → is_reserved (place_of g.places page) ≡ false)
     → All (λ page. 16 ≤ page) pages × All (λ page. page < g.config.pages) pages
-high_pages g pages orderly out =
-    ((λ k d lt. (high_page g (slice_index_or pages k d) orderly (out (slice_index_or pages k d) (at_in pages k d lt))).0), (λ k d lt. (high_page g (slice_index_or pages k d) orderly (out (slice_index_or pages k d) (at_in pages k d lt))).1))
+high_pages g pages orderly out = (
+  (λ k d lt. (high_page g (slice_index_or pages k d) orderly
+      (out (slice_index_or pages k d) (at_in pages k d lt))).0),
+  (λ k d lt. (high_page g (slice_index_or pages k d) orderly
+      (out (slice_index_or pages k d) (at_in pages k d lt))).1),
+)
   where
     at_in : (xs : List ℕ) (k d : ℕ) → k < length xs → is_in (slice_index_or xs k d) xs ≡ true
     at_in [] k d lt = absurd (omega arith)
     at_in (x ∷ xs) zero d lt = ap (λ (b : Bool). b || list_any (λ m. m == x) xs) (eq-eqb x x refl)
-    at_in (x ∷ xs) (suc k) d lt = ap (λ (b : Bool). (x == slice_index_or xs k d) || b) (at_in xs k d (omega arith)) ∙ either_true (x == slice_index_or xs k d)
+    at_in (x ∷ xs) (suc k) d lt =
+        ap (λ (b : Bool). (x == slice_index_or xs k d) || b) (at_in xs k d (omega arith))
+        ∙ either_true (x == slice_index_or xs k d)
       where
         either_true : (b : Bool) → (b || true) ≡ true
         either_true true = refl
@@ -72,7 +88,11 @@ in_times : (p : ℕ) (ps : List ℕ) → is_in p ps ≡ true → 1 ≤ times p p
 in_times p [] e = absurd cc
 in_times p (x ∷ xs) e = elim (either (x == p)) [
   | inl same ↦ omega (arith, count_by-cons (λ (q : ℕ). q == p) x xs, ap one_if same)
-  | inr other ↦ omega (arith, count_by-cons (λ (q : ℕ). q == p) x xs, in_times p xs (ap (λ (b : Bool). b || is_in p xs) (sym other) ∙ e))
+  | inr other ↦ omega (
+    arith,
+    count_by-cons (λ (q : ℕ). q == p) x xs,
+    in_times p xs (ap (λ (b : Bool). b || is_in p xs) (sym other) ∙ e),
+  )
 ]
 
 is_not : (b : Bool) → b ≡ false → IsTrue (not b)
@@ -84,23 +104,48 @@ all_distinct [] once = tt
 all_distinct (p ∷ ps) once = (
   is_not (is_in p ps) (elim (either (is_in p ps)) [
     | inr out ↦ out
-    | inl too ↦ absurd (omega (arith, once p, count_by-cons (λ (q : ℕ). q == p) p ps, ap one_if (eq-eqb p p refl), in_times p ps too))
+    | inl too ↦ absurd (omega (
+      arith,
+      once p,
+      count_by-cons (λ (q : ℕ). q == p) p ps,
+      ap one_if (eq-eqb p p refl),
+      in_times p ps too,
+    ))
   ]),
   all_distinct ps (λ q. omega (arith, once q, count_by-cons (λ (x : ℕ). x == q) p ps)),
 )
 
-pub last_sound : (rs : List Request) (r : Request) → AllRequestsSound (rs ++ r ∷ []) → IsRequestSound r
+pub last_sound : (rs : List Request) (r : Request) → AllRequestsSound (rs ++ r ∷ [])
+    → IsRequestSound r
 last_sound [] r all = all.0
 last_sound (x ∷ rs) r all = last_sound rs r all.1
 
 -- the pages of an inflate, and those of a deflate
-pub inflate_requested : (g : Guest) (n : ℕ) (others : List ℕ) → IsOrderly g → AllFreePages g others → ((p : ℕ) → times p (stranded_first g n ++ others) ≤ 1) → 0 < length (stranded_first g n ++ others) → length (stranded_first g n ++ others) ≤ 256
+pub inflate_requested : (g : Guest) (n : ℕ) (others : List ℕ) → IsOrderly g → AllFreePages g others
+    → ((p : ℕ) → times p (stranded_first g n ++ others) ≤ 1)
+    → 0 < length (stranded_first g n ++ others) → length (stranded_first g n ++ others) ≤ 256
     → AreRequested g.config.pages (stranded_first g n ++ others)
 inflate_requested g n others orderly free once some few =
-    let high = high_pages g (stranded_first g n ++ others) orderly (λ page e. given_high (place_of g.places page) (inflated_pages g n others page free e)) in
-    record { some = some; few = few; above = high.0; below = high.1; distinct = all_distinct (stranded_first g n ++ others) once }
+    let high = high_pages g (stranded_first g n ++ others) orderly
+    (λ page e. given_high (place_of g.places page) (inflated_pages g n others page free e)) in
+    record {
+      some = some;
+      few = few;
+      above = high.0;
+      below = high.1;
+      distinct = all_distinct (stranded_first g n ++ others) once;
+    }
 
-pub deflate_requested : (g : Guest) (n : ℕ) → IsOrderly g → ((p : ℕ) → times p (lowest_lent n g) ≤ 1) → 0 < length (lowest_lent n g) → length (lowest_lent n g) ≤ 256 → AreRequested g.config.pages (lowest_lent n g)
+pub deflate_requested : (g : Guest) (n : ℕ) → IsOrderly g
+    → ((p : ℕ) → times p (lowest_lent n g) ≤ 1) → 0 < length (lowest_lent n g)
+    → length (lowest_lent n g) ≤ 256 → AreRequested g.config.pages (lowest_lent n g)
 deflate_requested g n orderly once some few =
-    let high = high_pages g (lowest_lent n g) orderly (λ page e. lent_high (place_of g.places page) (lent_pages g n page e)) in
-    record { some = some; few = few; above = high.0; below = high.1; distinct = all_distinct (lowest_lent n g) once }
+    let high = high_pages g (lowest_lent n g) orderly
+    (λ page e. lent_high (place_of g.places page) (lent_pages g n page e)) in
+    record {
+      some = some;
+      few = few;
+      above = high.0;
+      below = high.1;
+      distinct = all_distinct (lowest_lent n g) once;
+    }

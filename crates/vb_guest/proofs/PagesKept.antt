@@ -1,5 +1,6 @@
 -- What changes of memory leave of the guest's frames and contents.
-use Rattle.std.specs.Prelude.{◌≡◌, ℕ, ◌≤◌, Bool, true, false, if◌then◌else◌, List, [], length, Option, None, slice_index_or, refl}
+use Rattle.std.specs.Prelude.{◌≡◌, ℕ, ◌≤◌, Bool, true, false, if◌then◌else◌, List, [], length}
+use Rattle.std.specs.Prelude.{Option, None, slice_index_or, refl}
 use Rattle.std.proofs.Common.{sym, ◌∙◌, ap, arith}
 use Rattle.vb_model.specs.Tests.{is_in}
 use Rattle.vb_model.specs.Guest.{zero_page}
@@ -15,7 +16,8 @@ pub record SamePages (old new : Pages) : Type 0 where
   pub behind : (p : ℕ) → frame_at new p ≡ frame_at old p
   pub holds : (p : ℕ) → 16 ≤ p → contents_at new p ≡ contents_at old p
 
-pub pages_same : (old new : Pages) (n : ℕ) (frames : List (Option ℕ)) (contents : List (List ℕ)) → SamePages old new → HasPages old n frames contents → HasPages new n frames contents
+pub pages_same : (old new : Pages) (n : ℕ) (frames : List (Option ℕ)) (contents : List (List ℕ))
+    → SamePages old new → HasPages old n frames contents → HasPages new n frames contents
 pages_same old new n frames contents same has = record {
   length_is = same.count ∙ has.length_is;
   framed = has.framed;
@@ -25,39 +27,50 @@ pages_same old new n frames contents same has = record {
   sizes = has.sizes;
 }
 
-number_if : (b : Bool) (x : Option Page) → number_of (if b then None else x) ≡ (if b then None else number_of x)
+number_if : (b : Bool) (x : Option Page)
+    → number_of (if b then None else x) ≡ (if b then None else number_of x)
 number_if true x = refl
 number_if false x = refl
 
-contents_if : (b : Bool) (x : Option Page) → contents_of (if b then None else x) ≡ (if b then zero_page else contents_of x)
+contents_if : (b : Bool) (x : Option Page)
+    → contents_of (if b then None else x) ≡ (if b then zero_page else contents_of x)
 contents_if true x = refl
 contents_if false x = refl
 
-pub page_discarded : (pages : List ℕ) (mem : Pages) (p : ℕ) → page_at (discarded pages mem) p ≡ (if is_in p pages then None else page_at mem p)
+pub page_discarded : (pages : List ℕ) (mem : Pages) (p : ℕ)
+    → page_at (discarded pages mem) p ≡ (if is_in p pages then None else page_at mem p)
 page_discarded pages mem p = with_none-get pages None mem p
 
 pub length-discarded : (pages : List ℕ) (mem : Pages) → length (discarded pages mem) ≡ length mem
 length-discarded pages mem = length-with_entry pages None mem
 
 -- a page that isn't among them is as before
-pub page_undiscarded : (pages : List ℕ) (mem : Pages) (p : ℕ) → is_in p pages ≡ false → page_at (discarded pages mem) p ≡ page_at mem p
-page_undiscarded pages mem p out = page_discarded pages mem p ∙ ap (λ (b : Bool). if b then None else page_at mem p) out
+pub page_undiscarded : (pages : List ℕ) (mem : Pages) (p : ℕ) → is_in p pages ≡ false
+    → page_at (discarded pages mem) p ≡ page_at mem p
+page_undiscarded pages mem p out =
+    page_discarded pages mem p ∙ ap (λ (b : Bool). if b then None else page_at mem p) out
 
 whole_if : (b : Bool) (xs : List ℕ) → length xs ≡ 4096 → length (if b then zero_page else xs) ≡ 4096
 whole_if true xs len = length-zero_page
 whole_if false xs len = len
 
-pub pages_discarded : (old : Pages) (n : ℕ) (frames : List (Option ℕ)) (contents : List (List ℕ)) (pages : List ℕ) → HasPages old n frames contents
-    → HasPages (discarded pages old) n (with_entry pages None frames) (with_entry pages zero_page contents)
+pub pages_discarded : (old : Pages) (n : ℕ) (frames : List (Option ℕ)) (contents : List (List ℕ))
+    (pages : List ℕ) → HasPages old n frames contents
+    → HasPages (discarded pages old) n (with_entry pages None frames)
+    (with_entry pages zero_page contents)
 pages_discarded old n frames contents pages has = record {
   length_is = length-discarded pages old ∙ has.length_is;
   framed = length-with_entry pages None frames ∙ has.framed;
   filled = length-with_entry pages zero_page contents ∙ has.filled;
   behind = λ p.
-      ap number_of (page_discarded pages old p) ∙ number_if (is_in p pages) (page_at old p) ∙ ap (λ (o : Option ℕ). if is_in p pages then None else o) (has.behind p)
+      ap number_of (page_discarded pages old p) ∙ number_if (is_in p pages) (page_at old p)
+      ∙ ap (λ (o : Option ℕ). if is_in p pages then None else o) (has.behind p)
       ∙ sym (with_none-get pages None frames p);
   holds = λ p high lt.
-      ap contents_of (page_discarded pages old p) ∙ contents_if (is_in p pages) (page_at old p) ∙ ap (λ (bs : List ℕ). if is_in p pages then zero_page else bs) (has.holds p high lt)
+      ap contents_of (page_discarded pages old p) ∙ contents_if (is_in p pages) (page_at old p)
+      ∙ ap (λ (bs : List ℕ). if is_in p pages then zero_page else bs) (has.holds p high lt)
       ∙ sym (with_entry-get pages zero_page contents p [] (omega (arith, has.filled)));
-  sizes = λ p high lt. ap (λ (bs : List ℕ). length bs) (with_entry-get pages zero_page contents p [] (omega (arith, has.filled))) ∙ whole_if (is_in p pages) (slice_index_or contents p []) (has.sizes p high lt);
+  sizes = λ p high lt. ap (λ (bs : List ℕ). length bs)
+      (with_entry-get pages zero_page contents p [] (omega (arith, has.filled)))
+      ∙ whole_if (is_in p pages) (slice_index_or contents p []) (has.sizes p high lt);
 }

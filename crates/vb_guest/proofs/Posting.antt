@@ -1,5 +1,7 @@
 -- The driver posts a request.
-use Rattle.std.specs.Prelude.{◌≡◌, ◌≢◌, ℕ, ◌+◌, ◌*◌, ◌/◌, ◌%◌, ◌<◌, ◌≤◌, ◌==◌, Bool, true, false, List, [], ◌∷◌, ◌++◌, All, length, Option, Some, None, Ok, slice_get, slice_set, slice_index, slice_index_or, is_none, refl, ◌⊎◌}
+use Rattle.std.specs.Prelude.{◌≡◌, ◌≢◌, ℕ, ◌+◌, ◌*◌, ◌/◌, ◌%◌, ◌<◌, ◌≤◌, ◌==◌, Bool, true, false}
+use Rattle.std.specs.Prelude.{List, [], ◌∷◌, ◌++◌, All, length, Option, Some, None, Ok, slice_get}
+use Rattle.std.specs.Prelude.{slice_set, slice_index, slice_index_or, is_none, refl, ◌⊎◌}
 use Rattle.std.proofs.Common.{sym, ◌∙◌, ap, subst, arith, append_assoc, inl, inr, eq-eqb}
 use Rattle.std.proofs.lemmas.Bool.{cases_eq}
 use Rattle.std.proofs.lemmas.List.{map_push, length-set, get_or-set_same, get_or-set_other}
@@ -9,12 +11,14 @@ use Rattle.std.proofs.lemmas.List.Sums.{get_or-le-sum_by}
 use Rattle.std.proofs.lemmas.Bool.Decides.{nat_tests}
 use Rattle.vb_model.specs.Tests.{one_if}
 use Rattle.vb_model.specs.Layout.{ring_page, buffers_page, buffer_page, buffer_offset}
-use Rattle.vb_model.specs.Requests.{Request, Requests, all_requests, headed, outstanding, posting, IsLeastHead}
+use Rattle.vb_model.specs.Requests.{Request, Requests, all_requests, headed, outstanding, posting}
+use Rattle.vb_model.specs.Requests.{IsLeastHead}
 use Rattle.vb_ram.specs.Pages.{Pages}
 use Rattle.vb_ram.specs.Part.{QueuePart}
 use Rattle.vb_ring.proofs.Numbers.{numbers_pass, numbers_has, numbers_rise}
 use Rattle.vb_ring.specs.Entries.{is_own, is_head}
-use Rattle.vb_ring.specs.Ends.{DriverEnd, is_unused, free_descriptors, next_head, after_add, outstanding as outstanding_in}
+use Rattle.vb_ring.specs.Ends.{DriverEnd, is_unused, free_descriptors, next_head, after_add}
+use Rattle.vb_ring.specs.Ends.{outstanding as outstanding_in}
 use Rattle.vb_ring.specs.Meaning.{UsedElem, ids, times, Shows, Tracks}
 use Rattle.vb_driver.specs.Coding.{IsCoded}
 use Rattle.vb_driver.specs.State.{Side, AreRequests}
@@ -24,7 +28,8 @@ use Rattle.vb_guest.proofs.Heads.{times-published, headed-all, length-published}
 use Rattle.vb_guest.proofs.Apart.{names_kept}
 
 -- the first s of a list that begins with s others are those
-pub take_front : {A : Type 0} (xs ys : List A) → Rattle.std.specs.Prelude.take (length xs) (xs ++ ys) ≡ xs
+pub take_front : {A : Type 0} (xs ys : List A)
+    → Rattle.std.specs.Prelude.take (length xs) (xs ++ ys) ≡ xs
 take_front [] ys = take_none ys
   where
     take_none : {A : Type 0} (ys : List A) → Rattle.std.specs.Prelude.take {A = A} 0 ys ≡ []
@@ -32,15 +37,28 @@ take_front [] ys = take_none ys
 take_front (x ∷ xs) ys = ap (λ l. x ∷ l) (take_front xs ys)
 
 -- the requests that have a head are one exactly where the driver's table has the head
-pub headed_once : (mem : Pages) (q n : ℕ) (side : Side) (part : QueuePart) (rs : Requests) (h : ℕ) → Line mem q n side part rs
+pub headed_once : (mem : Pages) (q n : ℕ) (side : Side) (part : QueuePart) (rs : Requests) (h : ℕ)
+    → Line mem q n side part rs
     → headed h (all_requests rs) ≡ one_if (is_head side.ring.owner h)
 headed_once mem q n side part rs h line =
-    let front : times h (ids (Rattle.std.specs.Prelude.take (length line.gone) (line.gone ++ used_of rs.done))) ≡ times h (ids line.gone) = ap (λ (l : List UsedElem). times h (ids l)) (take_front line.gone (used_of rs.done)) in
-    omega (arith, line.tracks.out h, front, times-published h line.before rs.posted, line.balance h, headed-all h rs)
+    let front : times h (ids
+    (Rattle.std.specs.Prelude.take (length line.gone) (line.gone ++ used_of rs.done)))
+    ≡ times h (ids line.gone) =
+    ap (λ (l : List UsedElem). times h (ids l)) (take_front line.gone (used_of rs.done)) in
+    omega (
+      arith,
+      line.tracks.out h,
+      front,
+      times-published h line.before rs.posted,
+      line.balance h,
+      headed-all h rs,
+    )
 
 -- as many chains are out as there are requests
-pub outstanding_are : (mem : Pages) (q n : ℕ) (side : Side) (part : QueuePart) (rs : Requests) → Line mem q n side part rs → outstanding_in side.ring ≡ outstanding rs
-outstanding_are mem q n side part rs line = omega (arith, line.tracks.count, length-published line.before rs.posted, line.counted)
+pub outstanding_are : (mem : Pages) (q n : ℕ) (side : Side) (part : QueuePart) (rs : Requests)
+    → Line mem q n side part rs → outstanding_in side.ring ≡ outstanding rs
+outstanding_are mem q n side part rs line =
+    omega (arith, line.tracks.count, length-published line.before rs.posted, line.counted)
 
 none_own : (h : ℕ) (o : Option ℕ) → is_none o ≡ true → is_own h o ≡ false
 none_own h None e = refl
@@ -68,22 +86,34 @@ lowest_is r h is =
       below = λ k lt. elim (either (is_unused r.owner k)) [
         | inr not ↦ not
         | inl too ↦
-            let found = numbers_has (is_unused r.owner) r.size k (omega (arith, first, pass.0)) too in
+            let found = numbers_has (is_unused r.owner) r.size k (omega (arith, first, pass.0))
+            too in
             elim (cases_eq found.0 0) [
-              | inl e ↦ (let same : slice_index free 0 ≡ k = ap (slice_index free) (sym e) ∙ found.2 in absurd (omega (arith, same, first)))
-              | inr ne ↦ absurd (omega (arith, numbers_rise (is_unused r.owner) r.size 0 found.0 (omega (arith, ne)) found.1, first, found.2))
+              | inl e ↦ (let same : slice_index free 0 ≡ k = ap (slice_index free) (sym e)
+                  ∙ found.2 in absurd (omega (arith, same, first)))
+              | inr ne ↦ absurd (omega (
+                arith,
+                numbers_rise (is_unused r.owner) r.size 0 found.0 (omega (arith, ne))
+                    found.1,
+                first,
+                found.2,
+              ))
             ]
       ];
     }
 
 -- the new head is the least that no request has
-pub least_head : (mem : Pages) (q n : ℕ) (side : Side) (part : QueuePart) (rs : Requests) (h : ℕ) → Line mem q n side part rs → AreRequests side → next_head side.ring ≡ Some h → IsLeastHead rs h
+pub least_head : (mem : Pages) (q n : ℕ) (side : Side) (part : QueuePart) (rs : Requests) (h : ℕ)
+    → Line mem q n side part rs → AreRequests side → next_head side.ring ≡ Some h → IsLeastHead rs h
 least_head mem q n side part rs h line single is =
     let lowest = lowest_is side.ring h is in
     record {
-      new = headed_once mem q n side part rs h line ∙ ap one_if (none_own h (slice_index_or side.ring.owner h None) lowest.free);
+      new = headed_once mem q n side part rs h line
+          ∙ ap one_if (none_own h (slice_index_or side.ring.owner h None) lowest.free);
       least = λ k lt.
-          let one : headed k (all_requests rs) ≡ 1 = headed_once mem q n side part rs k line ∙ ap one_if (single.single k (lowest.below k lt)) in
+          let one : headed k (all_requests rs) ≡ 1 =
+          headed_once mem q n side part rs k line
+          ∙ ap one_if (single.single k (lowest.below k lt)) in
           omega (arith, one);
     }
 
@@ -94,36 +124,49 @@ is_same : (h k : ℕ) → h ≡ k → Rattle.std.specs.Prelude.cond {A = ℕ} (h
 is_same h k e = grind (arith, nat_tests)
 
 -- a head that no request has is not that of one of them
-pub not_headed : (rs : List Request) (h k : ℕ) (d : Request) → headed h rs ≡ 0 → k < length rs → (slice_index_or rs k d).head ≢ h
+pub not_headed : (rs : List Request) (h k : ℕ) (d : Request) → headed h rs ≡ 0 → k < length rs
+    → (slice_index_or rs k d).head ≢ h
 not_headed rs h k d none lt e =
     let one = is_same (slice_index_or rs k d).head h e in
-    let less = get_or-le-sum_by (λ (r : Request). Rattle.std.specs.Prelude.cond {A = ℕ} (r.head == h) 1 0) rs k d lt in
+    let less = get_or-le-sum_by
+    (λ (r : Request). Rattle.std.specs.Prelude.cond {A = ℕ} (r.head == h) 1 0) rs k d lt in
     omega arith
 
 -- a request that was out is still remembered
-pub still_out : (size n : ℕ) (sent : List (List ℕ)) (h : ℕ) (pages : List ℕ) (rs : List Request) → headed h rs ≡ 0 → All (IsRequest size n sent) rs → All (IsRequest size n (slice_set sent h pages)) rs
+pub still_out : (size n : ℕ) (sent : List (List ℕ)) (h : ℕ) (pages : List ℕ) (rs : List Request)
+    → headed h rs ≡ 0 → All (IsRequest size n sent) rs
+    → All (IsRequest size n (slice_set sent h pages)) rs
 still_out size n sent h pages rs none all k d lt =
     let is = all k d lt in
     record {
       inside = is.inside;
       few = is.few;
-      remembered = get_or-set_other sent h (slice_index_or rs k d).head pages [] (not_headed rs h k d none lt) ∙ is.remembered;
+      remembered = get_or-set_other sent h (slice_index_or rs k d).head pages []
+          (not_headed rs h k d none lt) ∙ is.remembered;
       pages = is.pages;
     }
 
 -- the queue's side once the request is out
 abbrev pub posted_side : Side → ℕ → List ℕ → Side
-posted_side s head pages = record { ring = after_add s.ring 1 (Ok head); sent = slice_set s.sent head pages }
+posted_side s head pages =
+    record { ring = after_add s.ring 1 (Ok head); sent = slice_set s.sent head pages }
 
-pub line_posted : (m1 m2 : Pages) (q n : ℕ) (side after : Side) (part : QueuePart) (rs : Requests) (head : ℕ) (pages : List ℕ)
-    → ring_page q < buffers_page q → AreRequests side → AreRequested n pages → Line m1 q n side part rs → Posts m1 m2 side after (buffers_page q) pages head
+pub line_posted : (m1 m2 : Pages) (q n : ℕ) (side after : Side) (part : QueuePart) (rs : Requests)
+    (head : ℕ) (pages : List ℕ)
+    → ring_page q < buffers_page q → AreRequests side → AreRequested n pages
+    → Line m1 q n side part rs → Posts m1 m2 side after (buffers_page q) pages head
     → Line m2 q n after part (posting head pages rs)
 line_posted m1 m2 q n side after part rs head pages low single fine line did =
     let L : Side → Type 0 = λ s. Line m2 q n s part (posting head pages rs) in
-    subst L (sym did.state) (line_posted_at m1 m2 q n side part rs head pages low single fine line (subst (λ s. Posts m1 m2 side s (buffers_page q) pages head) did.state did))
+    subst L (sym did.state)
+    (line_posted_at m1 m2 q n side part rs head pages low single fine line
+    (subst (λ s. Posts m1 m2 side s (buffers_page q) pages head) did.state did))
   where
-    line_posted_at : (m1 m2 : Pages) (q n : ℕ) (side : Side) (part : QueuePart) (rs : Requests) (head : ℕ) (pages : List ℕ)
-        → ring_page q < buffers_page q → AreRequests side → AreRequested n pages → Line m1 q n side part rs → Posts m1 m2 side (posted_side side head pages) (buffers_page q) pages head
+    line_posted_at : (m1 m2 : Pages) (q n : ℕ) (side : Side) (part : QueuePart) (rs : Requests)
+        (head : ℕ) (pages : List ℕ)
+        → ring_page q < buffers_page q → AreRequests side → AreRequested n pages
+        → Line m1 q n side part rs
+        → Posts m1 m2 side (posted_side side head pages) (buffers_page q) pages head
         → Line m2 q n (posted_side side head pages) part (posting head pages rs)
     line_posted_at m1 m2 q n side part rs head pages low single fine line did =
         let r : Request = record { head = head; pages = pages; visited = 0 } in
@@ -131,16 +174,26 @@ line_posted m1 m2 q n side after part rs head pages low single fine line did =
         let heads = line.before ++ heads_of rs.posted in
         let elems = line.gone ++ used_of rs.done in
         let lowest = lowest_is side.ring head did.lowest in
-        let none : headed head (all_requests rs) ≡ 0 = (least_head m1 q n side part rs head line single did.lowest).new in
+        let none : headed head (all_requests rs) ≡ 0 =
+        (least_head m1 q n side part rs head line single did.lowest).new in
         let parts = headed-all head rs in
         let grown : heads ++ head ∷ [] ≡ line.before ++ heads_of (rs.posted ++ r ∷ []) =
-        append_assoc line.before (heads_of rs.posted) (head ∷ []) ∙ ap (λ (x : List ℕ). line.before ++ x) (sym (map_push (λ (x : Request). x.head) rs.posted r)) in
+        append_assoc line.before (heads_of rs.posted) (head ∷ [])
+        ∙ ap (λ (x : List ℕ). line.before ++ x)
+        (sym (map_push (λ (x : Request). x.head) rs.posted r)) in
         let shown = did.shown heads elems (length line.gone) line.tracks line.shows in
         let Q : List ℕ → Type 0 = λ x. Shows m2 l side.ring.size x elems in
-        let T : List ℕ → Type 0 = λ x. Tracks m2 (posted_side side head pages).ring x elems (length line.gone) in
+        let T : List ℕ → Type 0 =
+        λ x. Tracks m2 (posted_side side head pages).ring x elems (length line.gone) in
         let table : l.table ≡ ring_page q = ap (λ x. x.table) line.layout in
         let now : IsRequest side.ring.size n (slice_set side.sent head pages) r =
-        record { inside = lowest.inside; few = did.small; remembered = get_or-set_same side.sent head pages [] (omega (arith, did.small, line.buffers)); pages = fine } in
+        record {
+          inside = lowest.inside;
+          few = did.small;
+          remembered = get_or-set_same side.sent head pages []
+              (omega (arith, did.small, line.buffers));
+          pages = fine;
+        } in
         let C : ℕ → Type 0 = λ p. IsCoded m2 p (buffers_page q) head pages in
         record {
           sized = line.sized;
@@ -154,17 +207,25 @@ line_posted m1 m2 q n side after part rs head pages low single fine line did =
           next_used = line.next_used;
           counted = line.counted;
           balance = line.balance;
-          posted = All-push (IsRequest side.ring.size n (slice_set side.sent head pages)) rs.posted r (still_out side.ring.size n side.sent head pages rs.posted (omega arith) line.posted) now;
+          posted = All-push (IsRequest side.ring.size n (slice_set side.sent head pages)) rs.posted
+              r (still_out side.ring.size n side.sent head pages rs.posted (omega arith)
+              line.posted) now;
           taken = still_out side.ring.size n side.sent head pages rs.taken (omega arith) line.taken;
           done = still_out side.ring.size n side.sent head pages rs.done (omega arith) line.done;
-          coded = All-push (λ (x : Request). IsCoded m2 (ring_page q) (buffers_page q) x.head x.pages) rs.posted r (λ k d lt.
+          coded = All-push (λ (x : Request). IsCoded m2 (ring_page q) (buffers_page q) x.head
+              x.pages) rs.posted r (λ k d lt.
               let x = slice_index_or rs.posted k d in
               let known = line.posted k d lt in
               let code = line.coded k d lt in
               let apart : x.head ≢ head = not_headed rs.posted head k d (omega arith) lt in
               record {
-                descriptor = ap (λ (p : ℕ). Rattle.vb_chain.specs.Table.descriptor_at m2 p x.head) (sym table) ∙ did.descriptors x.head known.inside apart ∙ ap (λ (p : ℕ). Rattle.vb_chain.specs.Table.descriptor_at m1 p x.head) table ∙ code.descriptor;
-                names = names_kept m1 m2 (buffer_page (buffers_page q) x.head) (buffer_offset x.head) x.pages (buffer_offset x.head + 1024) (did.rest.buffers x.head apart) (omega (arith, known.pages.few)) code.names;
+                descriptor = ap (λ (p : ℕ). Rattle.vb_chain.specs.Table.descriptor_at m2 p x.head)
+                    (sym table) ∙ did.descriptors x.head known.inside apart
+                    ∙ ap (λ (p : ℕ). Rattle.vb_chain.specs.Table.descriptor_at m1 p x.head) table
+                    ∙ code.descriptor;
+                names = names_kept m1 m2 (buffer_page (buffers_page q) x.head)
+                    (buffer_offset x.head) x.pages (buffer_offset x.head + 1024)
+                    (did.rest.buffers x.head apart) (omega (arith, known.pages.few)) code.names;
               }) (subst C table did.coded);
           remembers = line.remembers;
         }

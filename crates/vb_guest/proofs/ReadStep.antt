@@ -1,5 +1,6 @@
 -- The slot's read is a step of the guest.
-use Rattle.std.specs.Prelude.{◌≡◌, ℕ, ◌+◌, ◌<◌, Bool, true, false, not, List, [], ◌∷◌, length, take, drop, None, slice_index, refl, ◌⊎◌}
+use Rattle.std.specs.Prelude.{◌≡◌, ℕ, ◌+◌, ◌<◌, Bool, true, false, not, List, [], ◌∷◌, length, take}
+use Rattle.std.specs.Prelude.{drop, None, slice_index, refl, ◌⊎◌}
 use Rattle.std.proofs.Common.{sym, ◌∙◌, ap, arith, inl, inr}
 use Rattle.vb_model.specs.declared.calls.Call.TheVariants.{Read}
 use Rattle.vb_model.specs.declared.replies.Refusal.TheVariants.{NotHeld, OutOfRam, NoMemory}
@@ -21,54 +22,86 @@ either : (b : Bool) → (b ≡ true) ⊎ (b ≡ false)
 either true = inl refl
 either false = inr refl
 
-pub read_not_held : (m : Pages) (p : Part) (d : DriverState) (g : Guest) (page off len : ℕ) → is_used (place_of d.places page) ≡ false → Stands m p d g → StepsAlone (Stands m p d) g (Read page off len) (Refused NotHeld)
+pub read_not_held : (m : Pages) (p : Part) (d : DriverState) (g : Guest) (page off len : ℕ)
+    → is_used (place_of d.places page) ≡ false → Stands m p d g
+    → StepsAlone (Stands m p d) g (Read page off len) (Refused NotHeld)
 read_not_held m p d g page off len free stands =
-    let unused : is_used (place_of g.places page) ≡ false = ap (λ l. is_used (place_of l page)) (sym stands.ties.parts.driver.places) ∙ free in
+    let unused : is_used (place_of g.places page) ≡ false =
+    ap (λ l. is_used (place_of l page)) (sym stands.ties.parts.driver.places) ∙ free in
     refused_alone m m p p d d g (Read page off len) NotHeld stands
-    (first_holds (not (is_used (place_of g.places page))) NotHeld ((is_outside g page off len ⇒ OutOfRam) ∷ []) (ap not unused)) refl refl refl
+    (first_holds (not (is_used (place_of g.places page))) NotHeld
+    ((is_outside g page off len ⇒ OutOfRam) ∷ []) (ap not unused)) refl refl refl
 
-read_tests : (g : Guest) (page off len : ℕ) → is_used (place_of g.places page) ≡ true → refusal_of g (Read page off len) ≡ first_refusal ((is_outside g page off len ⇒ OutOfRam) ∷ [])
-read_tests g page off len used = ap (λ (b : Bool). first_refusal ((not b ⇒ NotHeld) ∷ (is_outside g page off len ⇒ OutOfRam) ∷ [])) used
+read_tests : (g : Guest) (page off len : ℕ) → is_used (place_of g.places page) ≡ true
+    → refusal_of g (Read page off len) ≡ first_refusal ((is_outside g page off len ⇒ OutOfRam) ∷ [])
+read_tests g page off len used =
+    ap (λ (b : Bool). first_refusal
+    ((not b ⇒ NotHeld) ∷ (is_outside g page off len ⇒ OutOfRam) ∷ [])) used
 
-pub read_outside : (m : Pages) (p : Part) (d : DriverState) (g : Guest) (page off len : ℕ) → is_used (place_of d.places page) ≡ true → Stands m p d g → (Covers m page off len → ⊥)
+pub read_outside : (m : Pages) (p : Part) (d : DriverState) (g : Guest) (page off len : ℕ)
+    → is_used (place_of d.places page) ≡ true → Stands m p d g → (Covers m page off len → ⊥)
     → StepsAlone (Stands m p d) g (Read page off len) (Refused OutOfRam)
 read_outside m p d g page off len used stands out =
-    let held : is_used (place_of g.places page) ≡ true = ap (λ l. is_used (place_of l page)) (sym stands.ties.parts.driver.places) ∙ used in
+    let held : is_used (place_of g.places page) ≡ true =
+    ap (λ l. is_used (place_of l page)) (sym stands.ties.parts.driver.places) ∙ used in
     elim (either (is_outside g page off len)) [
-      | inl outside ↦ refused_alone m m p p d d g (Read page off len) OutOfRam stands (read_tests g page off len held ∙ first_holds (is_outside g page off len) OutOfRam [] outside) refl refl refl
+      | inl outside ↦ refused_alone m m p p d d g (Read page off len) OutOfRam stands
+          (read_tests g page off len held
+          ∙ first_holds (is_outside g page off len) OutOfRam [] outside) refl refl refl
       | inr inside ↦ absurd (out (outside_is g m page off len stands.ties.pages.length_is inside))
     ]
 
-read_free : (m : Pages) (p : Part) (d : DriverState) (g : Guest) (page off len : ℕ) → is_used (place_of d.places page) ≡ true → Stands m p d g → Covers m page off len → refusal_of g (Read page off len) ≡ None
+read_free : (m : Pages) (p : Part) (d : DriverState) (g : Guest) (page off len : ℕ)
+    → is_used (place_of d.places page) ≡ true → Stands m p d g → Covers m page off len
+    → refusal_of g (Read page off len) ≡ None
 read_free m p d g page off len used stands covers =
-    let held : is_used (place_of g.places page) ≡ true = ap (λ l. is_used (place_of l page)) (sym stands.ties.parts.driver.places) ∙ used in
-    read_tests g page off len held ∙ ap (λ (b : Bool). first_refusal ((b ⇒ OutOfRam) ∷ [])) (inside_is g m page off len stands.ties.pages.length_is covers)
+    let held : is_used (place_of g.places page) ≡ true =
+    ap (λ l. is_used (place_of l page)) (sym stands.ties.parts.driver.places) ∙ used in
+    read_tests g page off len held
+    ∙ ap (λ (b : Bool). first_refusal ((b ⇒ OutOfRam) ∷ []))
+    (inside_is g m page off len stands.ties.pages.length_is covers)
 
-pub read_done : (m : Pages) (p : Part) (d : DriverState) (g : Guest) (page off len : ℕ) (bytes : List ℕ) → is_used (place_of d.places page) ≡ true → Stands m p d g → Covers m page off len
-    → bytes ≡ take len (drop off (contents_at m page)) → StepsAlone (Stands m p d) g (Read page off len) (ReadBytes bytes)
+pub read_done : (m : Pages) (p : Part) (d : DriverState) (g : Guest) (page off len : ℕ)
+    (bytes : List ℕ) → is_used (place_of d.places page) ≡ true → Stands m p d g
+    → Covers m page off len
+    → bytes ≡ take len (drop off (contents_at m page))
+    → StepsAlone (Stands m p d) g (Read page off len) (ReadBytes bytes)
 read_done m p d g page off len bytes used stands covers is =
-    let held : is_used (place_of g.places page) ≡ true = ap (λ l. is_used (place_of l page)) (sym stands.ties.parts.driver.places) ∙ used in
+    let held : is_used (place_of g.places page) ≡ true =
+    ap (λ l. is_used (place_of l page)) (sym stands.ties.parts.driver.places) ∙ used in
     let lt : page < g.config.pages = omega (arith, covers.page, stands.ties.pages.length_is) in
     let high = used_high g page stands.orderly held lt in
-    let read = is ∙ ap (λ (l : List ℕ). take len (drop off l)) (stands.ties.pages.holds page high lt) in
+    let read = is ∙ ap (λ (l : List ℕ). take len (drop off l))
+    (stands.ties.pages.holds page high lt) in
     steps_alone m m p p d d g (Read page off len) (ReadBytes bytes) g stands
-    (honest_performed g (Read page off len) [] (ReadBytes bytes) g (read_free m p d g page off len used stands covers) (refl, inl (ap ReadBytes read), refl)) stands.ties refl
+    (honest_performed g (Read page off len) [] (ReadBytes bytes) g
+    (read_free m p d g page off len used stands covers) (refl, inl (ap ReadBytes read), refl))
+    stands.ties refl
 
-pub read_no_memory : (m : Pages) (p : Part) (d : DriverState) (g : Guest) (page off len : ℕ) → is_used (place_of d.places page) ≡ true → Stands m p d g → Covers m page off len
+pub read_no_memory : (m : Pages) (p : Part) (d : DriverState) (g : Guest) (page off len : ℕ)
+    → is_used (place_of d.places page) ≡ true → Stands m p d g → Covers m page off len
     → StepsAlone (Stands m p d) g (Read page off len) (Refused NoMemory)
 read_no_memory m p d g page off len used stands covers =
     steps_alone m m p p d d g (Read page off len) (Refused NoMemory) g stands
-    (honest_performed g (Read page off len) [] (Refused NoMemory) g (read_free m p d g page off len used stands covers) (refl, inr refl, refl)) stands.ties refl
+    (honest_performed g (Read page off len) [] (Refused NoMemory) g
+    (read_free m p d g page off len used stands covers) (refl, inr refl, refl)) stands.ties refl
 
 -- a used page that is there has 4096 bytes
-pub used_whole : (m : Pages) (p : Part) (d : DriverState) (g : Guest) (page off len : ℕ) → is_used (place_of d.places page) ≡ true → Stands m p d g → Covers m page off len → length (contents_at m page) ≡ 4096
+pub used_whole : (m : Pages) (p : Part) (d : DriverState) (g : Guest) (page off len : ℕ)
+    → is_used (place_of d.places page) ≡ true → Stands m p d g → Covers m page off len
+    → length (contents_at m page) ≡ 4096
 used_whole m p d g page off len used stands covers =
-    let held : is_used (place_of g.places page) ≡ true = ap (λ l. is_used (place_of l page)) (sym stands.ties.parts.driver.places) ∙ used in
+    let held : is_used (place_of g.places page) ≡ true =
+    ap (λ l. is_used (place_of l page)) (sym stands.ties.parts.driver.places) ∙ used in
     let lt : page < g.config.pages = omega (arith, covers.page, stands.ties.pages.length_is) in
     let high = used_high g page stands.orderly held lt in
-    ap (λ (l : List ℕ). length l) (stands.ties.pages.holds page high lt) ∙ stands.ties.pages.sizes page high lt
+    ap (λ (l : List ℕ). length l) (stands.ties.pages.holds page high lt)
+    ∙ stands.ties.pages.sizes page high lt
 
-pub bytes_read : (m : Pages) (page off len : ℕ) (old out : List ℕ) → Covers m page off len → length (contents_at m page) ≡ 4096 → length old ≡ len → length out ≡ length old
-    → ((k : ℕ) → k < length old → slice_index out k ≡ byte_at m page (off + k)) → out ≡ take len (drop off (contents_at m page))
+pub bytes_read : (m : Pages) (page off len : ℕ) (old out : List ℕ) → Covers m page off len
+    → length (contents_at m page) ≡ 4096 → length old ≡ len → length out ≡ length old
+    → ((k : ℕ) → k < length old → slice_index out k ≡ byte_at m page (off + k))
+    → out ≡ take len (drop off (contents_at m page))
 bytes_read m page off len old out covers whole was now read =
-    contents_read m page off out (omega (arith, covers.bytes)) (λ k lt. read k (omega arith)) ∙ ap (λ (n : ℕ). take n (drop off (contents_at m page))) (now ∙ was)
+    contents_read m page off out (omega (arith, covers.bytes)) (λ k lt. read k (omega arith))
+    ∙ ap (λ (n : ℕ). take n (drop off (contents_at m page))) (now ∙ was)

@@ -15,13 +15,21 @@ use Rattle.vb_guest.specs.Stands.{Stands, Ties}
 use Rattle.vb_guest.specs.Steps.{StepsAlone}
 use Rattle.vb_guest.proofs.Closing.{honest_performed, steps_alone, ties_same}
 
-pub reset_step : (m1 m2 : Pages) (p1 p2 : Part) (d1 d2 : DriverState) (g : Guest) → ResetsBy m1 m2 p1 p2 d1 d2 → Stands m1 p1 d1 g → StepsAlone (Stands m2 p2 d2) g Reset Done
+pub reset_step : (m1 m2 : Pages) (p1 p2 : Part) (d1 d2 : DriverState) (g : Guest)
+    → ResetsBy m1 m2 p1 p2 d1 d2 → Stands m1 p1 d1 g → StepsAlone (Stands m2 p2 d2) g Reset Done
 reset_step m1 m2 p1 p2 d1 d2 g did stands =
     let parts = stands.ties.parts in
     let new : Guest = after_reset g in
     let part : Part = device_after_reset p1 in
-    let state : DriverState = record d1 { places = map place_after_reset d1.places; inflate = fresh_side 0 d1.queue_size; deflate = fresh_side 1 d1.queue_size; features = 0 } in
-    let size : length p1.ballooned ≡ g.config.pages = ap (λ (l : List Bool). length l) parts.device.ballooned ∙ stands.consistent.flagged in
+    let state : DriverState =
+    record d1 {
+      places = map place_after_reset d1.places;
+      inflate = fresh_side 0 d1.queue_size;
+      deflate = fresh_side 1 d1.queue_size;
+      features = 0;
+    } in
+    let size : length p1.ballooned ≡ g.config.pages =
+    ap (λ (l : List Bool). length l) parts.device.ballooned ∙ stands.consistent.flagged in
     let there : Ties m1 part state new = record {
       parts = record {
         guest = record {
@@ -53,6 +61,15 @@ reset_step m1 m2 p1 p2 d1 d2 g did stands =
         };
       };
       pages = stands.ties.pages;
-      queues = inl (record { state = inl refl; inflate = refl; deflate = refl; ballooned = refl; actual = refl; last = refl });
+      queues = inl (record {
+        state = inl refl;
+        inflate = refl;
+        deflate = refl;
+        ballooned = refl;
+        actual = refl;
+        last = refl;
+      });
     } in
-    steps_alone m1 m2 p1 p2 d1 d2 g Reset Done new stands (honest_performed g Reset [] Done new refl (refl, refl, refl)) (ties_same m1 m2 part p2 state d2 new did.mem did.part did.state there) refl
+    steps_alone m1 m2 p1 p2 d1 d2 g Reset Done new stands
+    (honest_performed g Reset [] Done new refl (refl, refl, refl))
+    (ties_same m1 m2 part p2 state d2 new did.mem did.part did.state there) refl

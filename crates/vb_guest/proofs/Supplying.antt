@@ -1,5 +1,7 @@
 -- Several pages get frames, one by one.
-use Rattle.std.specs.Prelude.{◌≡◌, ◌≢◌, ℕ, zero, suc, ◌+◌, ◌<◌, ◌≤◌, ◌==◌, ◌||◌, Bool, true, false, not, if◌then◌else◌, cond, List, [], ◌∷◌, length, Option, Some, None, IsSome, is_some, filter, slice_set, count_by, refl, ◌⊎◌}
+use Rattle.std.specs.Prelude.{◌≡◌, ◌≢◌, ℕ, zero, suc, ◌+◌, ◌<◌, ◌≤◌, ◌==◌, ◌||◌, Bool, true, false}
+use Rattle.std.specs.Prelude.{not, if◌then◌else◌, cond, List, [], ◌∷◌, length, Option, Some, None}
+use Rattle.std.specs.Prelude.{IsSome, is_some, filter, slice_set, count_by, refl, ◌⊎◌}
 use Rattle.std.specs.List.{range_with_len}
 use Rattle.std.proofs.Common.{sym, ◌∙◌, ap, subst, arith, inl, inr, eq-eqb}
 use Rattle.std.proofs.lemmas.Bool.{cases_eq, eqb-true, or_cases}
@@ -27,29 +29,38 @@ neither false b e = (refl, e)
 
 -- ---- the numbers of a range that pass a test
 
-pub rising : (test : ℕ → Bool) (a n p : ℕ) → is_in p (filter test (range_with_len a n)) ≡ true → a ≤ p
+pub rising : (test : ℕ → Bool) (a n p : ℕ) → is_in p (filter test (range_with_len a n)) ≡ true
+    → a ≤ p
 rising test a zero p h = absurd cc
 rising test a (suc n) p h = step (test a) (rising test (a + 1) n p) h
   where
-    step : (b : Bool) → (is_in p (filter test (range_with_len (a + 1) n)) ≡ true → a + 1 ≤ p) → is_in p (cond b (a ∷ filter test (range_with_len (a + 1) n)) (filter test (range_with_len (a + 1) n))) ≡ true → a ≤ p
+    step : (b : Bool) → (is_in p (filter test (range_with_len (a + 1) n)) ≡ true → a + 1 ≤ p)
+        → is_in p (cond b (a ∷ filter test (range_with_len (a + 1) n))
+        (filter test (range_with_len (a + 1) n))) ≡ true → a ≤ p
     step false later k = let above = later k in omega arith
-    step true later k = elim (or_cases (a == p) (is_in p (filter test (range_with_len (a + 1) n))) k) [
-      | inl e ↦ (let same = eqb-true a p e in omega arith)
-      | inr m ↦ (let above = later m in omega arith)
-    ]
+    step true later k = elim
+        (or_cases (a == p) (is_in p (filter test (range_with_len (a + 1) n))) k) [
+          | inl e ↦ (let same = eqb-true a p e in omega arith)
+          | inr m ↦ (let above = later m in omega arith)
+        ]
 
-pub bounded : (test : ℕ → Bool) (a n p : ℕ) → is_in p (filter test (range_with_len a n)) ≡ true → p < a + n
+pub bounded : (test : ℕ → Bool) (a n p : ℕ) → is_in p (filter test (range_with_len a n)) ≡ true
+    → p < a + n
 bounded test a zero p h = absurd cc
 bounded test a (suc n) p h = step (test a) (bounded test (a + 1) n p) h
   where
-    step : (b : Bool) → (is_in p (filter test (range_with_len (a + 1) n)) ≡ true → p < a + 1 + n) → is_in p (cond b (a ∷ filter test (range_with_len (a + 1) n)) (filter test (range_with_len (a + 1) n))) ≡ true → p < a + suc n
+    step : (b : Bool) → (is_in p (filter test (range_with_len (a + 1) n)) ≡ true → p < a + 1 + n)
+        → is_in p (cond b (a ∷ filter test (range_with_len (a + 1) n))
+        (filter test (range_with_len (a + 1) n))) ≡ true → p < a + suc n
     step false later k = let below = later k in omega arith
-    step true later k = elim (or_cases (a == p) (is_in p (filter test (range_with_len (a + 1) n))) k) [
-      | inl e ↦ (let same = eqb-true a p e in omega arith)
-      | inr m ↦ (let below = later m in omega arith)
-    ]
+    step true later k = elim
+        (or_cases (a == p) (is_in p (filter test (range_with_len (a + 1) n))) k) [
+          | inl e ↦ (let same = eqb-true a p e in omega arith)
+          | inr m ↦ (let below = later m in omega arith)
+        ]
 
-pub not_again : (test : ℕ → Bool) (a n : ℕ) → is_in a (filter test (range_with_len (a + 1) n)) ≡ false
+pub not_again : (test : ℕ → Bool) (a n : ℕ)
+    → is_in a (filter test (range_with_len (a + 1) n)) ≡ false
 not_again test a n = elim (either (is_in a (filter test (range_with_len (a + 1) n)))) [
   | inl there ↦ (let above = rising test (a + 1) n a there in absurd (omega arith))
   | inr out ↦ out
@@ -59,23 +70,33 @@ pub all_distinct : (test : ℕ → Bool) (a n : ℕ) → AllDistinct (filter tes
 all_distinct test a zero = tt
 all_distinct test a (suc n) = step (test a) (not_again test a n) (all_distinct test (a + 1) n)
   where
-    step : (b : Bool) → is_in a (filter test (range_with_len (a + 1) n)) ≡ false → AllDistinct (filter test (range_with_len (a + 1) n)) → AllDistinct (cond b (a ∷ filter test (range_with_len (a + 1) n)) (filter test (range_with_len (a + 1) n)))
+    step : (b : Bool) → is_in a (filter test (range_with_len (a + 1) n)) ≡ false
+        → AllDistinct (filter test (range_with_len (a + 1) n))
+        → AllDistinct (cond b (a ∷ filter test (range_with_len (a + 1) n))
+        (filter test (range_with_len (a + 1) n)))
     step false out later = later
     step true out later = (ap not out, later)
 
 -- a number that passes the test is among them
-pub among : (test : ℕ → Bool) (a n p : ℕ) → a ≤ p → p < a + n → test p ≡ true → is_in p (filter test (range_with_len a n)) ≡ true
+pub among : (test : ℕ → Bool) (a n p : ℕ) → a ≤ p → p < a + n → test p ≡ true
+    → is_in p (filter test (range_with_len a n)) ≡ true
 among test a zero p from to passes = absurd (omega arith)
 among test a (suc n) p from to passes = step (test a) refl (cases_eq a p) (among test (a + 1) n p)
   where
     behind : List ℕ
     behind = filter test (range_with_len (a + 1) n)
 
-    step : (b : Bool) → test a ≡ b → (a ≡ p) ⊎ (a ≢ p) → (a + 1 ≤ p → p < a + 1 + n → test p ≡ true → is_in p (filter test (range_with_len (a + 1) n)) ≡ true) → is_in p (cond b (a ∷ filter test (range_with_len (a + 1) n)) (filter test (range_with_len (a + 1) n))) ≡ true
-    step true is (inl e) later = ap (λ (b : Bool). b || is_in p (filter test (range_with_len (a + 1) n))) (eq-eqb a p e)
+    step : (b : Bool) → test a ≡ b → (a ≡ p) ⊎ (a ≢ p)
+        → (a + 1 ≤ p → p < a + 1 + n → test p ≡ true
+        → is_in p (filter test (range_with_len (a + 1) n)) ≡ true)
+        → is_in p (cond b (a ∷ filter test (range_with_len (a + 1) n))
+        (filter test (range_with_len (a + 1) n))) ≡ true
+    step true is (inl e) later =
+        ap (λ (b : Bool). b || is_in p (filter test (range_with_len (a + 1) n))) (eq-eqb a p e)
     step true is (inr ne) later = either_way (a == p) (later (omega arith) (omega arith) passes)
       where
-        either_way : (b : Bool) → is_in p (filter test (range_with_len (a + 1) n)) ≡ true → (b || is_in p (filter test (range_with_len (a + 1) n))) ≡ true
+        either_way : (b : Bool) → is_in p (filter test (range_with_len (a + 1) n)) ≡ true
+            → (b || is_in p (filter test (range_with_len (a + 1) n))) ≡ true
         either_way true m = refl
         either_way false m = m
     step false is (inl e) later = (let wrong : test p ≡ false = ap test (sym e) ∙ is in absurd cc)
@@ -83,26 +104,33 @@ among test a (suc n) p from to passes = step (test a) refl (cases_eq a p) (among
 
 -- ---- memory
 
-pub supplied_count : (pages numbers : List ℕ) (old new : Pages) → AllSupplied pages numbers old new → length new ≡ length old
+pub supplied_count : (pages numbers : List ℕ) (old new : Pages) → AllSupplied pages numbers old new
+    → length new ≡ length old
 supplied_count [] numbers old new e = ap (λ (m : Pages). length m) e
 supplied_count (p ∷ ps) [] old new none = absurd none
-supplied_count (p ∷ ps) (n ∷ ns) old new (mid, before, bare, did) = did.count ∙ supplied_count ps ns old mid before
+supplied_count (p ∷ ps) (n ∷ ns) old new (mid, before, bare, did) =
+    did.count ∙ supplied_count ps ns old mid before
 
 -- a page that isn't among them is as before
-pub supplied_other : (pages numbers : List ℕ) (old new : Pages) (q : ℕ) → AllSupplied pages numbers old new → is_in q pages ≡ false → page_at new q ≡ page_at old q
+pub supplied_other : (pages numbers : List ℕ) (old new : Pages) (q : ℕ)
+    → AllSupplied pages numbers old new → is_in q pages ≡ false → page_at new q ≡ page_at old q
 supplied_other [] numbers old new q e out = ap (λ (m : Pages). page_at m q) e
 supplied_other (p ∷ ps) [] old new q none out = absurd none
 supplied_other (p ∷ ps) (n ∷ ns) old new q (mid, before, bare, did) out =
     let parts = neither (p == q) (is_in q ps) out in
-    did.others q (λ e. (let same = eq-eqb p q (sym e) in let wrong = parts.0 in cc)) ∙ supplied_other ps ns old mid q before parts.1
+    did.others q (λ e. (let same = eq-eqb p q (sym e) in let wrong = parts.0 in cc))
+    ∙ supplied_other ps ns old mid q before parts.1
 
 -- a page that is among them has a frame
-pub supplied_backed : (pages numbers : List ℕ) (old new : Pages) (q : ℕ) → AllSupplied pages numbers old new → is_in q pages ≡ true → IsSome (frame_at new q)
+pub supplied_backed : (pages numbers : List ℕ) (old new : Pages) (q : ℕ)
+    → AllSupplied pages numbers old new → is_in q pages ≡ true → IsSome (frame_at new q)
 supplied_backed [] numbers old new q e there = absurd cc
 supplied_backed (p ∷ ps) [] old new q none there = absurd none
-supplied_backed (p ∷ ps) (n ∷ ns) old new q (mid, before, bare, did) there = step (cases_eq q p) (supplied_backed ps ns old mid q before)
+supplied_backed (p ∷ ps) (n ∷ ns) old new q (mid, before, bare, did) there =
+    step (cases_eq q p) (supplied_backed ps ns old mid q before)
   where
-    step : (q ≡ p) ⊎ (q ≢ p) → (is_in q ps ≡ true → IsSome (frame_at mid q)) → IsSome (frame_at new q)
+    step : (q ≡ p) ⊎ (q ≢ p) → (is_in q ps ≡ true → IsSome (frame_at mid q))
+        → IsSome (frame_at new q)
     step (inl e) later = ap (λ (k : ℕ). is_some (frame_at new k)) e ∙ ap is_some did.backed
     step (inr ne) later = elim (or_cases (p == q) (is_in q ps) there) [
       | inl same ↦ absurd (ne (sym (eqb-true p q same)))
@@ -111,26 +139,39 @@ supplied_backed (p ∷ ps) (n ∷ ns) old new q (mid, before, bare, did) there =
 
 -- ---- the table of frames
 
-each_swap : {A : Type 0} (f g : ℕ → A → A) (k : ℕ) (xs : List A) → ((i : ℕ) (x : A) → f i (g i x) ≡ g i (f i x)) → each_from k f (each_from k g xs) ≡ each_from k g (each_from k f xs)
+each_swap : {A : Type 0} (f g : ℕ → A → A) (k : ℕ) (xs : List A)
+    → ((i : ℕ) (x : A) → f i (g i x) ≡ g i (f i x))
+    → each_from k f (each_from k g xs) ≡ each_from k g (each_from k f xs)
 each_swap f g k [] same = refl
 each_swap {A} f g k (x ∷ xs) same =
-    ap (λ (y : A). y ∷ each_from (suc k) f (each_from (suc k) g xs)) (same k x) ∙ ap (λ (ys : List A). g k (f k x) ∷ ys) (each_swap f g (suc k) xs same)
+    ap (λ (y : A). y ∷ each_from (suc k) f (each_from (suc k) g xs)) (same k x)
+    ∙ ap (λ (ys : List A). g k (f k x) ∷ ys) (each_swap f g (suc k) xs same)
 
-pub backed_swap : (p f q k : ℕ) (frames : List (Option ℕ)) → (q == p) ≡ false → backed p f (backed q k frames) ≡ backed q k (backed p f frames)
-backed_swap p f q k frames ne = each_swap (λ i old. if i == p then Some f else old) (λ i old. if i == q then Some k else old) 0 frames (λ i x. step i x (i == p) (i == q) refl refl)
+pub backed_swap : (p f q k : ℕ) (frames : List (Option ℕ)) → (q == p) ≡ false
+    → backed p f (backed q k frames) ≡ backed q k (backed p f frames)
+backed_swap p f q k frames ne =
+    each_swap (λ i old. if i == p then Some f else old) (λ i old. if i == q then Some k else old) 0
+    frames (λ i x. step i x (i == p) (i == q) refl refl)
   where
-    step : (i : ℕ) (x : Option ℕ) (a b : Bool) → (i == p) ≡ a → (i == q) ≡ b → (if a then Some f else (if b then Some k else x)) ≡ (if b then Some k else (if a then Some f else x))
-    step i x true true e e' = (let one = eqb-true i p e in let two = eqb-true i q e' in let same = eq-eqb q p (sym two ∙ one) in absurd cc)
+    step : (i : ℕ) (x : Option ℕ) (a b : Bool) → (i == p) ≡ a → (i == q) ≡ b
+        → (if a then Some f else (if b then Some k else x))
+        ≡ (if b then Some k else (if a then Some f else x))
+    step i x true true e e' =
+        (let one = eqb-true i p e in let two = eqb-true i q e' in
+        let same = eq-eqb q p (sym two ∙ one) in absurd cc)
     step i x true false e e' = refl
     step i x false true e e' = refl
     step i x false false e e' = refl
 
-pub backed_last : (p f : ℕ) (pages numbers : List ℕ) (frames : List (Option ℕ)) → is_in p pages ≡ false → backed p f (all_backed pages numbers frames) ≡ all_backed pages numbers (backed p f frames)
+pub backed_last : (p f : ℕ) (pages numbers : List ℕ) (frames : List (Option ℕ))
+    → is_in p pages ≡ false
+    → backed p f (all_backed pages numbers frames) ≡ all_backed pages numbers (backed p f frames)
 backed_last p f [] numbers frames out = refl
 backed_last p f (q ∷ qs) [] frames out = refl
 backed_last p f (q ∷ qs) (k ∷ ks) frames out =
     let parts = neither (q == p) (is_in p qs) out in
-    backed_last p f qs ks (backed q k frames) parts.1 ∙ ap (λ (l : List (Option ℕ)). all_backed qs ks l) (backed_swap p f q k frames parts.0)
+    backed_last p f qs ks (backed q k frames) parts.1
+    ∙ ap (λ (l : List (Option ℕ)). all_backed qs ks l) (backed_swap p f q k frames parts.0)
 
 -- ---- memory, the table and the frames that are out
 
@@ -140,36 +181,58 @@ distinct_out p ps e = elim (either (is_in p ps)) [
   | inr out ↦ out
 ]
 
-pub pages_filled : (n : ℕ) (pages numbers : List ℕ) (m1 m2 : Pages) (frames : List (Option ℕ)) (contents : List (List ℕ)) → AllDistinct pages → ((p : ℕ) → is_in p pages ≡ true → p < n)
-    → AllSupplied pages numbers m1 m2 → HasPages m1 n frames contents → HasPages m2 n (all_backed pages numbers frames) contents
-pages_filled n [] numbers m1 m2 frames contents distinct below e has = subst (λ m. HasPages m n frames contents) (sym e) has
+pub pages_filled : (n : ℕ) (pages numbers : List ℕ) (m1 m2 : Pages) (frames : List (Option ℕ))
+    (contents : List (List ℕ)) → AllDistinct pages → ((p : ℕ) → is_in p pages ≡ true → p < n)
+    → AllSupplied pages numbers m1 m2 → HasPages m1 n frames contents
+    → HasPages m2 n (all_backed pages numbers frames) contents
+pages_filled n [] numbers m1 m2 frames contents distinct below e has =
+    subst (λ m. HasPages m n frames contents) (sym e) has
 pages_filled n (p ∷ ps) [] m1 m2 frames contents distinct below none has = absurd none
 pages_filled n (p ∷ ps) (k ∷ ks) m1 m2 frames contents distinct below (mid, before, bare, did) has =
     let out = distinct_out p ps distinct.0 in
     let lt : p < n = below p (ap (λ (b : Bool). b || is_in p ps) (eq-eqb p p refl)) in
-    let there = pages_filled n ps ks m1 mid frames contents distinct.1 (λ q m. below q (later (p == q) (is_in q ps) m)) before has in
-    subst (λ l. HasPages m2 n l contents) (backed_last p k ps ks frames out) (pages_supplied mid m2 n p k (all_backed ps ks frames) contents lt bare there did)
+    let there = pages_filled n ps ks m1 mid frames contents distinct.1
+    (λ q m. below q (later (p == q) (is_in q ps) m)) before has in
+    subst (λ l. HasPages m2 n l contents) (backed_last p k ps ks frames out)
+    (pages_supplied mid m2 n p k (all_backed ps ks frames) contents lt bare there did)
   where
     later : (a b : Bool) → b ≡ true → (a || b) ≡ true
     later true b e = refl
     later false b e = e
 
-pub frames_filled : (Answers : List Bool → Claim → Type 0) (x n : ℕ) (pages : List ℕ) (claims : List Claim) (out : List Bool) (m1 m2 : Pages) (frames : List (Option ℕ)) (contents : List (List ℕ))
-    → claim_refusal claims ≡ None → AreClaimsFor pages claims → AllAnswered Answers out claims → AllDistinct pages → ((p : ℕ) → is_in p pages ≡ true → p < n) → AllSupplied pages (given claims) m1 m2 → HasPages m1 n frames contents
-    → one_if (is_out (after_claims out claims) x) + count_by (is_frame x) frames ≡ one_if (is_out out x) + count_by (is_frame x) (all_backed pages (given claims) frames)
-frames_filled Answers x n [] [] out m1 m2 frames contents all made answered distinct below supplied has = refl
-frames_filled Answers x n [] (c ∷ cs) out m1 m2 frames contents all made answered distinct below supplied has = absurd made
-frames_filled Answers x n (p ∷ ps) [] out m1 m2 frames contents all made answered distinct below supplied has = absurd made
-frames_filled Answers x n (p ∷ ps) (GaveNoFrame ∷ cs) out m1 m2 frames contents all made answered distinct below supplied has = absurd cc
-frames_filled Answers x n (p ∷ ps) (GaveNoMemory ∷ cs) out m1 m2 frames contents all made answered distinct below supplied has = absurd cc
-frames_filled Answers x n (p ∷ ps) (Gave f ∷ cs) out m1 m2 frames contents all made answered distinct below (mid, before, bare, did) has =
+pub frames_filled : (Answers : List Bool → Claim → Type 0) (x n : ℕ) (pages : List ℕ)
+    (claims : List Claim) (out : List Bool) (m1 m2 : Pages) (frames : List (Option ℕ))
+    (contents : List (List ℕ))
+    → claim_refusal claims ≡ None → AreClaimsFor pages claims → AllAnswered Answers out claims
+    → AllDistinct pages → ((p : ℕ) → is_in p pages ≡ true → p < n)
+    → AllSupplied pages (given claims) m1 m2 → HasPages m1 n frames contents
+    → one_if (is_out (after_claims out claims) x) + count_by (is_frame x) frames
+    ≡ one_if (is_out out x) + count_by (is_frame x) (all_backed pages (given claims) frames)
+frames_filled Answers x n [] [] out m1 m2 frames contents all made answered distinct below supplied
+    has = refl
+frames_filled Answers x n [] (c ∷ cs) out m1 m2 frames contents all made answered distinct below
+    supplied has = absurd made
+frames_filled Answers x n (p ∷ ps) [] out m1 m2 frames contents all made answered distinct below
+    supplied has = absurd made
+frames_filled Answers x n (p ∷ ps) (GaveNoFrame ∷ cs) out m1 m2 frames contents all made answered
+    distinct below supplied has = absurd cc
+frames_filled Answers x n (p ∷ ps) (GaveNoMemory ∷ cs) out m1 m2 frames contents all made answered
+    distinct below supplied has = absurd cc
+frames_filled Answers x n (p ∷ ps) (Gave f ∷ cs) out m1 m2 frames contents all made answered
+    distinct below (mid, before, bare, did) has =
     let lt : p < n = below p (ap (λ (b : Bool). b || is_in p ps) (eq-eqb p p refl)) in
-    let below_too : (q : ℕ) → is_in q ps ≡ true → q < n = λ q m. below q (later (p == q) (is_in q ps) m) in
-    let there = pages_filled n ps (given cs) m1 mid frames contents distinct.1 below_too before has in
-    let rest = frames_filled Answers x n ps cs (slice_set out f true) m1 mid frames contents all made answered.2 distinct.1 below_too before has in
-    let more = count_backed x p f (all_backed ps (given cs) frames) (omega (arith, there.framed)) (sym (there.behind p) ∙ bare) in
-    let swap : count_by (is_frame x) (backed p f (all_backed ps (given cs) frames)) ≡ count_by (is_frame x) (all_backed ps (given cs) (backed p f frames)) =
-    ap (λ (l : List (Option ℕ)). count_by (is_frame x) l) (backed_last p f ps (given cs) frames (distinct_out p ps distinct.0)) in
+    let below_too : (q : ℕ) → is_in q ps ≡ true
+    → q < n = λ q m. below q (later (p == q) (is_in q ps) m) in
+    let there = pages_filled n ps (given cs) m1 mid frames contents distinct.1 below_too before
+    has in
+    let rest = frames_filled Answers x n ps cs (slice_set out f true) m1 mid frames contents all
+    made answered.2 distinct.1 below_too before has in
+    let more = count_backed x p f (all_backed ps (given cs) frames) (omega (arith, there.framed))
+    (sym (there.behind p) ∙ bare) in
+    let swap : count_by (is_frame x) (backed p f (all_backed ps (given cs) frames))
+    ≡ count_by (is_frame x) (all_backed ps (given cs) (backed p f frames)) =
+    ap (λ (l : List (Option ℕ)). count_by (is_frame x) l)
+    (backed_last p f ps (given cs) frames (distinct_out p ps distinct.0)) in
     let out_now = out_more out x f answered.1.within answered.1.free in
     omega (arith, rest, more, swap, out_now)
   where
@@ -179,23 +242,29 @@ frames_filled Answers x n (p ∷ ps) (Gave f ∷ cs) out m1 m2 frames contents a
 
 -- ---- the frames that are out, where one goes back
 
-pub out_back : (out : List Bool) (n : ℕ) → is_out out n ≡ false → n < length out → slice_set (slice_set out n true) n false ≡ out
+pub out_back : (out : List Bool) (n : ℕ) → is_out out n ≡ false → n < length out
+    → slice_set (slice_set out n true) n false ≡ out
 out_back out n free lt =
     let once = length-set out n true in
     let twice = length-set (slice_set out n true) n false in
     ext_get_or false (slice_set (slice_set out n true) n false) out (twice ∙ once) (λ i h.
     elim (cases_eq i n) [
       | inl same ↦
-          ap (λ (k : ℕ). is_out (slice_set (slice_set out n true) n false) k) same ∙ get_or-set_same (slice_set out n true) n false false (omega (arith, once)) ∙ sym (ap (λ (k : ℕ). is_out out k) same ∙ free)
-      | inr ne ↦ get_or-set_other (slice_set out n true) n i false false ne ∙ get_or-set_other out n i true false ne
+          ap (λ (k : ℕ). is_out (slice_set (slice_set out n true) n false) k) same
+          ∙ get_or-set_same (slice_set out n true) n false false (omega (arith, once))
+          ∙ sym (ap (λ (k : ℕ). is_out out k) same ∙ free)
+      | inr ne ↦ get_or-set_other (slice_set out n true) n i false false ne
+          ∙ get_or-set_other out n i true false ne
     ])
 
 -- a claimed frame is out
 pub out_now : (out : List Bool) (n : ℕ) → n < length out → is_out (slice_set out n true) n ≡ true
 out_now out n lt = get_or-set_same out n true false lt
 
-pub length-after_claims : (out : List Bool) (claims : List Claim) → length (after_claims out claims) ≡ length out
+pub length-after_claims : (out : List Bool) (claims : List Claim)
+    → length (after_claims out claims) ≡ length out
 length-after_claims out [] = refl
-length-after_claims out (Gave n ∷ claims) = length-after_claims (slice_set out n true) claims ∙ length-set out n true
+length-after_claims out (Gave n ∷ claims) =
+    length-after_claims (slice_set out n true) claims ∙ length-set out n true
 length-after_claims out (GaveNoFrame ∷ claims) = length-after_claims out claims
 length-after_claims out (GaveNoMemory ∷ claims) = length-after_claims out claims

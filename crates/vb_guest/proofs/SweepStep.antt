@@ -1,12 +1,14 @@
 -- The slot's sweep is a step of the guest.
-use Rattle.std.specs.Prelude.{◌≡◌, ℕ, zero, suc, ◌<◌, ◌≤◌, Bool, true, false, not, List, [], ◌∷◌, ◌++◌, All, length, Result, Option, Some, None, is_some, refl, ◌⊎◌}
+use Rattle.std.specs.Prelude.{◌≡◌, ℕ, zero, suc, ◌<◌, ◌≤◌, Bool, true, false, not, List, [], ◌∷◌}
+use Rattle.std.specs.Prelude.{◌++◌, All, length, Result, Option, Some, None, is_some, refl, ◌⊎◌}
 use Rattle.std.specs.Option.{option_to_list}
 use Rattle.std.specs.List.{flat_map}
 use Rattle.std.proofs.Common.{sym, ◌∙◌, ap, subst, arith, inl, inr}
 use Rattle.vb_model.specs.declared.calls.Call.TheVariants.{Sweep}
 use Rattle.vb_model.specs.declared.calls.Claim.{Claim}
 use Rattle.vb_model.specs.declared.places.Place.{Place}
-use Rattle.vb_model.specs.declared.places.Place.TheVariants.{Reserved, Free, Used, Giving, Lent, Taking, Stranded, Reporting}
+use Rattle.vb_model.specs.declared.places.Place.TheVariants.{Reserved, Free, Used, Giving, Lent}
+use Rattle.vb_model.specs.declared.places.Place.TheVariants.{Taking, Stranded, Reporting}
 use Rattle.vb_model.specs.declared.replies.Refusal.{Refusal}
 use Rattle.vb_model.specs.declared.replies.Refusal.TheVariants.{NotReady, NotBallooned}
 use Rattle.vb_model.specs.declared.replies.Reply.{Reply}
@@ -31,7 +33,8 @@ use Rattle.vb_guest.proofs.Apart.{line_apart, above_apart}
 use Rattle.vb_guest.proofs.Discarding.{frames_freed}
 use Rattle.vb_guest.proofs.Offered.{high_page}
 use Rattle.vb_guest.proofs.PagesKept.{pages_discarded, page_undiscarded}
-use Rattle.vb_guest.proofs.Closing.{honest_refused, honest_performed, still_stands, guest_step, ties_same}
+use Rattle.vb_guest.proofs.Closing.{honest_refused, honest_performed, still_stands, guest_step}
+use Rattle.vb_guest.proofs.Closing.{ties_same}
 use Rattle.vb_guest.proofs.FinishStep.{handed_back, loose_none, not_among, behind_same}
 use Rattle.vb_guest.proofs.Freed.{freed_loose, steps_freed}
 
@@ -49,44 +52,55 @@ all_one P x h (suc k) d lt = absurd (omega arith)
 abbrev pub sweep_test : Bool → Option Refusal
 sweep_test ballooned = first_refusal ((not ballooned ⇒ NotBallooned) ∷ [])
 
-running_part : (part : Part) (page : ℕ) → part.status ≡ 15 → sweep_refusal page part ≡ sweep_test (is_ballooned part.ballooned page)
+running_part : (part : Part) (page : ℕ) → part.status ≡ 15
+    → sweep_refusal page part ≡ sweep_test (is_ballooned part.ballooned page)
 running_part part page e =
-    let P : ℕ → Type 0 = λ s. sweep_refusal page (record part { status = s }) ≡ sweep_test (is_ballooned part.ballooned page) in
+    let P : ℕ → Type 0 = λ s. sweep_refusal page (record part { status = s })
+    ≡ sweep_test (is_ballooned part.ballooned page) in
     subst P (sym e) refl
 
-running : (g : Guest) (page : ℕ) → g.status ≡ 15 → refusal_of g (Sweep page) ≡ sweep_test (is_ballooned g.ballooned page)
+running : (g : Guest) (page : ℕ) → g.status ≡ 15
+    → refusal_of g (Sweep page) ≡ sweep_test (is_ballooned g.ballooned page)
 running g page e =
-    let P : ℕ → Type 0 = λ s. refusal_of (record g { status = s }) (Sweep page) ≡ sweep_test (is_ballooned g.ballooned page) in
+    let P : ℕ → Type 0 = λ s. refusal_of (record g { status = s }) (Sweep page)
+    ≡ sweep_test (is_ballooned g.ballooned page) in
     subst P (sym e) refl
 
-idle_part : (part : Part) (page : ℕ) → (part.status ≡ 0) ⊎ (part.status ≡ 131) → sweep_refusal page part ≡ Some NotReady
+idle_part : (part : Part) (page : ℕ) → (part.status ≡ 0) ⊎ (part.status ≡ 131)
+    → sweep_refusal page part ≡ Some NotReady
 idle_part part page down =
     let P : ℕ → Type 0 = λ s. sweep_refusal page (record part { status = s }) ≡ Some NotReady in
     elim down [ inl e ↦ subst P (sym e) refl | inr e ↦ subst P (sym e) refl ]
 
-idle_guest : (g : Guest) (page : ℕ) → (g.status ≡ 0) ⊎ (g.status ≡ 131) → refusal_of g (Sweep page) ≡ Some NotReady
+idle_guest : (g : Guest) (page : ℕ) → (g.status ≡ 0) ⊎ (g.status ≡ 131)
+    → refusal_of g (Sweep page) ≡ Some NotReady
 idle_guest g page down =
     let P : ℕ → Type 0 = λ s. refusal_of (record g { status = s }) (Sweep page) ≡ Some NotReady in
     elim down [ inl e ↦ subst P (sym e) refl | inr e ↦ subst P (sym e) refl ]
 
-sweep_refused : (m1 m2 : Pages) (p1 p2 : Part) (d : DriverState) (g : Guest) (page : ℕ) (why : Refusal) (result : Result Bool Refusal)
-    → SweepsBy page m1 m2 p1 p2 result → Stands m1 p1 d g → sweep_refusal page p1 ≡ Some why → refusal_of g (Sweep page) ≡ Some why
+sweep_refused : (m1 m2 : Pages) (p1 p2 : Part) (d : DriverState) (g : Guest) (page : ℕ)
+    (why : Refusal) (result : Result Bool Refusal)
+    → SweepsBy page m1 m2 p1 p2 result → Stands m1 p1 d g → sweep_refusal page p1 ≡ Some why
+    → refusal_of g (Sweep page) ≡ Some why
     → StepsFreeing (Stands m2 (handed_back p2) d) p2.loose g (Sweep page) (swept_reply result)
 sweep_refused m1 m2 p1 p2 d g page why result did stands by_part by_model =
     let (answer, part, memory) = did.refused why by_part in
     let step = honest_refused g (Sweep page) why by_model in
     let same = ap handed_back part ∙ loose_none p1 stands.ties.parts.device.loose in
     let none : p2.loose ≡ [] = ap (λ (p : Part). p.loose) part ∙ stands.ties.parts.device.loose in
-    subst (λ r. StepsFreeing (Stands m2 (handed_back p2) d) p2.loose g (Sweep page) (swept_reply r)) (sym answer) (record {
+    subst (λ r. StepsFreeing (Stands m2 (handed_back p2) d) p2.loose g (Sweep page) (swept_reply r))
+    (sym answer) (record {
       new = g;
-      stands = still_stands m1 m2 p1 (handed_back p2) d d g (Sweep page) [] (Refused why) g stands step (ties_same m1 m2 p1 (handed_back p2) d d g memory same refl stands.ties);
+      stands = still_stands m1 m2 p1 (handed_back p2) d d g (Sweep page) [] (Refused why) g stands
+          step (ties_same m1 m2 p1 (handed_back p2) d d g memory same refl stands.ties);
       step = guest_step g (Sweep page) [] (Refused why) g stands.ties.parts.guest.honest step;
       freed = λ n. omega (arith, ap (times n) none);
     })
 
 -- ---- a ballooned page
 
-reserved_alone : (place : Place) → is_reserved place ≡ true → (is_giving place ≡ false) × (is_lent place ≡ false) × (is_taking place ≡ false)
+reserved_alone : (place : Place) → is_reserved place ≡ true
+    → (is_giving place ≡ false) × (is_lent place ≡ false) × (is_taking place ≡ false)
 reserved_alone Reserved e = (refl, refl, refl)
 reserved_alone Free e = absurd cc
 reserved_alone Used e = absurd cc
@@ -97,17 +111,32 @@ reserved_alone Stranded e = absurd cc
 reserved_alone Reporting e = absurd cc
 
 -- no reserved page is ballooned
-ballooned_free : (g : Guest) (page : ℕ) → IsConsistent g → is_ballooned g.ballooned page ≡ true → is_reserved (place_of g.places page) ≡ false
+ballooned_free : (g : Guest) (page : ℕ) → IsConsistent g → is_ballooned g.ballooned page ≡ true
+    → is_reserved (place_of g.places page) ≡ false
 ballooned_free g page sound flag = elim (either (is_reserved (place_of g.places page))) [
   | inr free ↦ free
   | inl reserved ↦
       let (giving, lent, taking) = reserved_alone (place_of g.places page) reserved in
       let here = sound.pages page in
-      absurd (omega (arith, here.inflating, here.deflating, here.ballooning, ap one_if flag, ap one_if giving, ap one_if lent, ap one_if taking, naming-all page g.inflate, naming-all page g.deflate))
+      absurd (omega (
+        arith,
+        here.inflating,
+        here.deflating,
+        here.ballooning,
+        ap one_if flag,
+        ap one_if giving,
+        ap one_if lent,
+        ap one_if taking,
+        naming-all page g.inflate,
+        naming-all page g.deflate,
+      ))
 ]
 
-sweep_done : (m1 m2 : Pages) (p1 p2 : Part) (d : DriverState) (g : Guest) (page : ℕ) (result : Result Bool Refusal)
-    → SweepsBy page m1 m2 p1 p2 result → Stands m1 p1 d g → IsRunning m1 p1 d g → sweep_refusal page p1 ≡ None → refusal_of g (Sweep page) ≡ None → is_ballooned g.ballooned page ≡ true
+sweep_done : (m1 m2 : Pages) (p1 p2 : Part) (d : DriverState) (g : Guest) (page : ℕ)
+    (result : Result Bool Refusal)
+    → SweepsBy page m1 m2 p1 p2 result → Stands m1 p1 d g → IsRunning m1 p1 d g
+    → sweep_refusal page p1 ≡ None → refusal_of g (Sweep page) ≡ None
+    → is_ballooned g.ballooned page ≡ true
     → StepsFreeing (Stands m2 (handed_back p2) d) p2.loose g (Sweep page) (swept_reply result)
 sweep_done m1 m2 p1 p2 d g page result did stands run by_part by_model flag =
     let ties = stands.ties in
@@ -116,10 +145,13 @@ sweep_done m1 m2 p1 p2 d g page result did stands run by_part by_model flag =
     let bare = discarded one m1 in
     let high = high_page g page stands.orderly (ballooned_free g page stands.consistent flag) in
     let above : All (λ p. 16 ≤ p) one = all_one (λ p. 16 ≤ p) page high.0 in
-    let low : (p : ℕ) → p < 16 → page_at bare p ≡ page_at m1 p = λ p lt. page_undiscarded one m1 p (not_among one p above lt) in
+    let low : (p : ℕ) → p < 16
+    → page_at bare p ≡ page_at m1 p =
+    λ p lt. page_undiscarded one m1 p (not_among one p above lt) in
     let new : Guest = unbacked one g in
     let reply : Reply = Swept (is_some (frame_at m1 page)) in
-    let step = honest_performed g (Sweep page) [] reply new by_model (refl, (ap (λ (o : Option ℕ). Swept (is_some o)) (ties.pages.behind page), refl)) in
+    let step = honest_performed g (Sweep page) [] reply new by_model
+    (refl, (ap (λ (o : Option ℕ). Swept (is_some o)) (ties.pages.behind page), refl)) in
     let there : Ties bare p1 d new = record {
       parts = ties.parts;
       pages = pages_discarded m1 n g.frames g.contents one ties.pages;
@@ -128,47 +160,81 @@ sweep_done m1 m2 p1 p2 d g page result did stands run by_part by_model flag =
         backed = λ p lt. ap is_some (ap number_of (low p (omega arith))) ∙ run.backed p lt;
         inflate_size = run.inflate_size;
         deflate_size = run.deflate_size;
-        inflate = line_apart m1 bare 0 n d.inflate p1.inflate g.inflate (above_apart m1 bare 0 (omega arith) (omega arith) low) run.inflate;
-        deflate = line_apart m1 bare 1 n d.deflate p1.deflate g.deflate (above_apart m1 bare 1 (omega arith) (omega arith) low) run.deflate;
+        inflate = line_apart m1 bare 0 n d.inflate p1.inflate g.inflate
+            (above_apart m1 bare 0 (omega arith) (omega arith) low) run.inflate;
+        deflate = line_apart m1 bare 1 n d.deflate p1.deflate g.deflate
+            (above_apart m1 bare 1 (omega arith) (omega arith) low) run.deflate;
       });
     } in
     let part = did.part by_part in
     let same : handed_back p2 ≡ p1 = ap handed_back part ∙ loose_none p1 ties.parts.device.loose in
-    let numbers : (k : ℕ) → times k p2.loose ≡ times k (frames_behind m1 one) = λ k. ap (λ (p : Part). times k p.loose) part ∙ ap (λ (l : List ℕ). times k (l ++ frames_behind m1 one)) ties.parts.device.loose in
-    let behind : frames_behind m1 one ≡ flat_map (λ page. option_to_list (frame_of g.frames page)) one = behind_same m1 g.frames one ties.pages.behind in
-    subst (λ x. StepsFreeing (Stands m2 (handed_back p2) d) p2.loose g (Sweep page) (swept_reply x)) (sym (did.answer by_part)) (record {
+    let numbers : (k : ℕ)
+    → times k p2.loose ≡ times k (frames_behind m1 one) =
+    λ k. ap (λ (p : Part). times k p.loose) part
+    ∙ ap (λ (l : List ℕ). times k (l ++ frames_behind m1 one)) ties.parts.device.loose in
+    let behind : frames_behind m1 one
+    ≡ flat_map (λ page. option_to_list (frame_of g.frames page)) one =
+    behind_same m1 g.frames one ties.pages.behind in
+    subst (λ x. StepsFreeing (Stands m2 (handed_back p2) d) p2.loose g (Sweep page) (swept_reply x))
+    (sym (did.answer by_part)) (record {
       new = new;
-      stands = still_stands m1 m2 p1 (handed_back p2) d d g (Sweep page) [] reply new stands step (ties_same bare m2 p1 (handed_back p2) d d new (did.memory by_part) same refl there);
+      stands = still_stands m1 m2 p1 (handed_back p2) d d g (Sweep page) [] reply new stands step
+          (ties_same bare m2 p1 (handed_back p2) d d new (did.memory by_part) same refl there);
       step = guest_step g (Sweep page) [] reply new ties.parts.guest.honest step;
-      freed = λ k. omega (arith, numbers k, ap (times k) behind, frames_freed k one g.frames (refl, tt) (all_one (λ p. p < length g.frames) page (omega (arith, high.1, ties.pages.framed))));
+      freed = λ k. omega (
+        arith,
+        numbers k,
+        ap (times k) behind,
+        frames_freed k one g.frames (refl, tt)
+            (all_one (λ p. p < length g.frames) page (omega (arith, high.1, ties.pages.framed))),
+      );
     })
 
-pub sweep_step : (m1 m2 : Pages) (p1 p2 : Part) (d : DriverState) (g : Guest) (page : ℕ) (result : Result Bool Refusal)
-    → SweepsBy page m1 m2 p1 p2 result → Stands m1 p1 d g → StepsFreeing (Stands m2 (handed_back p2) d) p2.loose g (Sweep page) (swept_reply result)
+pub sweep_step : (m1 m2 : Pages) (p1 p2 : Part) (d : DriverState) (g : Guest) (page : ℕ)
+    (result : Result Bool Refusal)
+    → SweepsBy page m1 m2 p1 p2 result → Stands m1 p1 d g
+    → StepsFreeing (Stands m2 (handed_back p2) d) p2.loose g (Sweep page) (swept_reply result)
 sweep_step m1 m2 p1 p2 d g page result did stands =
     elim stands.ties.queues [
       | inl idle ↦
           let D : ℕ → Type 0 = λ s. (s ≡ 0) ⊎ (s ≡ 131) in
-          sweep_refused m1 m2 p1 p2 d g page NotReady result did stands (idle_part p1 page (subst D (sym stands.ties.parts.device.status) idle.state)) (idle_guest g page idle.state)
+          sweep_refused m1 m2 p1 p2 d g page NotReady result did stands
+          (idle_part p1 page (subst D (sym stands.ties.parts.device.status) idle.state))
+          (idle_guest g page idle.state)
       | inr run ↦
           let model = running g page run.state in
           let device : sweep_refusal page p1 ≡ sweep_test (is_ballooned g.ballooned page) =
-          running_part p1 page (stands.ties.parts.device.status ∙ run.state) ∙ ap (λ (l : List Bool). sweep_test (is_ballooned l page)) stands.ties.parts.device.ballooned in
+          running_part p1 page (stands.ties.parts.device.status ∙ run.state)
+          ∙ ap (λ (l : List Bool). sweep_test (is_ballooned l page))
+          stands.ties.parts.device.ballooned in
           elim (either (is_ballooned g.ballooned page)) [
-            | inl flag ↦ sweep_done m1 m2 p1 p2 d g page result did stands run (device ∙ ap sweep_test flag) (model ∙ ap sweep_test flag) flag
-            | inr not_there ↦ sweep_refused m1 m2 p1 p2 d g page NotBallooned result did stands (device ∙ ap sweep_test not_there) (model ∙ ap sweep_test not_there)
+            | inl flag ↦ sweep_done m1 m2 p1 p2 d g page result did stands run
+                (device ∙ ap sweep_test flag) (model ∙ ap sweep_test flag) flag
+            | inr not_there ↦ sweep_refused m1 m2 p1 p2 d g page NotBallooned result did stands
+                (device ∙ ap sweep_test not_there) (model ∙ ap sweep_test not_there)
           ]
     ]
 
 -- ---- in the words of the slot's clauses
 
-pub sweep_own : (m1 m2 : Pages) (p1 p2 : Part) (d : DriverState) (g : Guest) (page : ℕ) (result : Result Bool Refusal) → SweepsBy page m1 m2 p1 p2 result → Stands m1 p1 d g → p2.own ≡ []
-sweep_own m1 m2 p1 p2 d g page result did stands = (sweep_step m1 m2 p1 p2 d g page result did stands).stands.ties.parts.device.own
+pub sweep_own : (m1 m2 : Pages) (p1 p2 : Part) (d : DriverState) (g : Guest) (page : ℕ)
+    (result : Result Bool Refusal) → SweepsBy page m1 m2 p1 p2 result → Stands m1 p1 d g
+    → p2.own ≡ []
+sweep_own m1 m2 p1 p2 d g page result did stands =
+    (sweep_step m1 m2 p1 p2 d g page result did stands).stands.ties.parts.device.own
 
-pub sweep_loose : (m1 m2 : Pages) (p1 p2 : Part) (d : DriverState) (g : Guest) (page : ℕ) (result : Result Bool Refusal) (out : List Bool) → SweepsBy page m1 m2 p1 p2 result → Stands m1 p1 d g → AreOut g out → AreLoose p2.loose out
-sweep_loose m1 m2 p1 p2 d g page result out did stands held = freed_loose _ p2.loose g (Sweep page) (swept_reply result) out (sweep_step m1 m2 p1 p2 d g page result did stands) held
+pub sweep_loose : (m1 m2 : Pages) (p1 p2 : Part) (d : DriverState) (g : Guest) (page : ℕ)
+    (result : Result Bool Refusal) (out : List Bool) → SweepsBy page m1 m2 p1 p2 result
+    → Stands m1 p1 d g → AreOut g out → AreLoose p2.loose out
+sweep_loose m1 m2 p1 p2 d g page result out did stands held =
+    freed_loose _ p2.loose g (Sweep page) (swept_reply result) out
+    (sweep_step m1 m2 p1 p2 d g page result did stands) held
 
-pub sweep_freed : (Answers : List Bool → Claim → Type 0) (m1 m2 m3 : Pages) (p1 p2 p3 : Part) (d : DriverState) (g : Guest) (page : ℕ) (result : Result Bool Refusal) (out1 out2 : List Bool)
-    → SweepsBy page m1 m2 p1 p2 result → Stands m1 p1 d g → m3 ≡ m2 → p3 ≡ handed_back p2 → Returns p2.loose out1 out2 → length out2 ≡ length out1 → Steps (Stands m3 p3 d) Answers out1 out2 g (Sweep page) (swept_reply result)
+pub sweep_freed : (Answers : List Bool → Claim → Type 0) (m1 m2 m3 : Pages) (p1 p2 p3 : Part)
+    (d : DriverState) (g : Guest) (page : ℕ) (result : Result Bool Refusal) (out1 out2 : List Bool)
+    → SweepsBy page m1 m2 p1 p2 result → Stands m1 p1 d g → m3 ≡ m2 → p3 ≡ handed_back p2
+    → Returns p2.loose out1 out2 → length out2 ≡ length out1
+    → Steps (Stands m3 p3 d) Answers out1 out2 g (Sweep page) (swept_reply result)
 sweep_freed Answers m1 m2 m3 p1 p2 p3 d g page result out1 out2 did stands memory part back same =
-    steps_freed Answers m2 m3 p2 p3 d g (Sweep page) (swept_reply result) out1 out2 (sweep_step m1 m2 p1 p2 d g page result did stands) memory part back same
+    steps_freed Answers m2 m3 p2 p3 d g (Sweep page) (swept_reply result) out1 out2
+    (sweep_step m1 m2 p1 p2 d g page result did stands) memory part back same

@@ -1,5 +1,6 @@
 -- The slot's take is a step of the guest.
-use Rattle.std.specs.Prelude.{◌≡◌, ℕ, ◌*◌, ◌≤◌, Bool, true, false, nat_le, List, [], ◌∷◌, ◌++◌, length, Result, Ok, Option, Some, None, refl, ◌⊎◌}
+use Rattle.std.specs.Prelude.{◌≡◌, ℕ, ◌*◌, ◌≤◌, Bool, true, false, nat_le, List, [], ◌∷◌, ◌++◌}
+use Rattle.std.specs.Prelude.{length, Result, Ok, Option, Some, None, refl, ◌⊎◌}
 use Rattle.std.proofs.Common.{sym, ◌∙◌, ap, subst, arith, inl, inr}
 use Rattle.vb_model.specs.declared.calls.Call.TheVariants.{Take}
 use Rattle.vb_model.specs.declared.replies.Refusal.{Refusal}
@@ -33,7 +34,8 @@ use Rattle.vb_guest.proofs.Heads.{get_after, none_after}
 use Rattle.vb_guest.proofs.Taking.{next_shown, line_taken}
 use Rattle.vb_guest.proofs.Chains.{coded_chain, coded_pages}
 use Rattle.vb_model.proofs.Queues.{queue_cases}
-use Rattle.vb_guest.proofs.Refusing.{take_no_queue, take_running, take_running_part, take_idle, take_idle_part, busy_test}
+use Rattle.vb_guest.proofs.Refusing.{take_no_queue, take_running, take_running_part, take_idle}
+use Rattle.vb_guest.proofs.Refusing.{take_idle_part, busy_test}
 use Rattle.vb_guest.proofs.Closing.{steps_alone, refused_alone, honest_performed, ties_same}
 
 either : (b : Bool) → (b ≡ true) ⊎ (b ≡ false)
@@ -41,40 +43,57 @@ either true = inl refl
 either false = inr refl
 
 -- what a refused take replies
-pub take_refused : (m1 m2 : Pages) (p1 p2 : Part) (d : DriverState) (g : Guest) (q : ℕ) (why : Refusal) (result : Result (Option ℕ) Refusal)
-    → TakesBy q m1 m2 p1 p2 result → Stands m1 p1 d g → take_refusal q p1 ≡ Some why → refusal_of g (Take q) ≡ Some why → StepsAlone (Stands m2 p2 d) g (Take q) (taken_reply result)
+pub take_refused : (m1 m2 : Pages) (p1 p2 : Part) (d : DriverState) (g : Guest) (q : ℕ)
+    (why : Refusal) (result : Result (Option ℕ) Refusal)
+    → TakesBy q m1 m2 p1 p2 result → Stands m1 p1 d g → take_refusal q p1 ≡ Some why
+    → refusal_of g (Take q) ≡ Some why
+    → StepsAlone (Stands m2 p2 d) g (Take q) (taken_reply result)
 take_refused m1 m2 p1 p2 d g q why result did stands by_part by_model =
     let (answer, part) = did.refused why by_part in
-    subst (λ r. StepsAlone (Stands m2 p2 d) g (Take q) (taken_reply r)) (sym answer) (refused_alone m1 m2 p1 p2 d d g (Take q) why stands by_model did.memory part refl)
+    subst (λ r. StepsAlone (Stands m2 p2 d) g (Take q) (taken_reply r)) (sym answer)
+    (refused_alone m1 m2 p1 p2 d d g (Take q) why stands by_model did.memory part refl)
 
 -- the layout by the part's size is that of the driver's side
-pub same_entry : (mem : Pages) (q size next : ℕ) (side : Side) → side.ring.layout ≡ layout_of (ring_page q) side.ring.size → size ≡ side.ring.size
-    → next_entry mem (layout_of (ring_page q) size) size next ≡ next_entry mem side.ring.layout side.ring.size next
+pub same_entry : (mem : Pages) (q size next : ℕ) (side : Side)
+    → side.ring.layout ≡ layout_of (ring_page q) side.ring.size → size ≡ side.ring.size
+    → next_entry mem (layout_of (ring_page q) size) size next
+    ≡ next_entry mem side.ring.layout side.ring.size next
 same_entry mem q size next side layout same =
-    ap (λ (s : ℕ). next_entry mem (layout_of (ring_page q) s) s next) same ∙ ap (λ (l : Layout). next_entry mem l side.ring.size next) (sym layout)
+    ap (λ (s : ℕ). next_entry mem (layout_of (ring_page q) s) s next) same
+    ∙ ap (λ (l : Layout). next_entry mem l side.ring.size next) (sym layout)
 
 -- what the device says of a queue with no posted request, and of one with some
-pub take_empty : (q n : ℕ) (m1 m2 : Pages) (p1 p2 : Part) (side : Side) (taken done : List Request) (result : Result (Option ℕ) Refusal)
-    → TakesBy q m1 m2 p1 p2 result → take_refusal q p1 ≡ None → p1.queue_size ≡ side.ring.size → Line m1 q n side (queue_part q p1) (record { posted = []; taken = taken; done = done })
+pub take_empty : (q n : ℕ) (m1 m2 : Pages) (p1 p2 : Part) (side : Side) (taken done : List Request)
+    (result : Result (Option ℕ) Refusal)
+    → TakesBy q m1 m2 p1 p2 result → take_refusal q p1 ≡ None → p1.queue_size ≡ side.ring.size
+    → Line m1 q n side (queue_part q p1) (record { posted = []; taken = taken; done = done })
     → (result ≡ Ok None) × (p2 ≡ p1)
 take_empty q n m1 m2 p1 p2 side taken done result did free size line =
     let rs : Requests = record { posted = []; taken = taken; done = done } in
-    let next = same_entry m1 q p1.queue_size (queue_part q p1).next_avail side line.layout size ∙ next_shown m1 q n side (queue_part q p1) rs line ∙ ap Ok (none_after line.before) in
+    let next = same_entry m1 q p1.queue_size (queue_part q p1).next_avail side line.layout size
+    ∙ next_shown m1 q n side (queue_part q p1) rs line ∙ ap Ok (none_after line.before) in
     did.empty free next
 
-pub take_next : (q n : ℕ) (m1 m2 : Pages) (p1 p2 : Part) (side : Side) (r : Request) (rest taken done : List Request) (result : Result (Option ℕ) Refusal)
+pub take_next : (q n : ℕ) (m1 m2 : Pages) (p1 p2 : Part) (side : Side) (r : Request)
+    (rest taken done : List Request) (result : Result (Option ℕ) Refusal)
     → buffers_page q ≤ 8 → 64 ≤ n → length m1 ≡ n
-    → TakesBy q m1 m2 p1 p2 result → take_refusal q p1 ≡ None → p1.queue_size ≡ side.ring.size → Line m1 q n side (queue_part q p1) (record { posted = r ∷ rest; taken = taken; done = done })
+    → TakesBy q m1 m2 p1 p2 result → take_refusal q p1 ≡ None → p1.queue_size ≡ side.ring.size
+    → Line m1 q n side (queue_part q p1)
+    (record { posted = r ∷ rest; taken = taken; done = done })
     → (result ≡ Ok (Some r.head)) × (p2 ≡ taking q r.head r.pages p1)
 take_next q n m1 m2 p1 p2 side r rest taken done result low large len did free size line =
     let rs : Requests = record { posted = r ∷ rest; taken = taken; done = done } in
-    let next = same_entry m1 q p1.queue_size (queue_part q p1).next_avail side line.layout size ∙ next_shown m1 q n side (queue_part q p1) rs line ∙ ap Ok (get_after line.before r.head (heads_of rest)) in
+    let next = same_entry m1 q p1.queue_size (queue_part q p1).next_avail side line.layout size
+    ∙ next_shown m1 q n side (queue_part q p1) rs line
+    ∙ ap Ok (get_after line.before r.head (heads_of rest)) in
     let is : IsRequest side.ring.size n side.sent r = line.posted 0 r (omega arith) in
     let code = line.coded 0 r (omega arith) in
     let chain = coded_chain m1 q side.ring.size n side.sent r low large len is code in
     let pieces = piece_of (buffer_of (buffers_page q) r.head (length r.pages)) ∷ [] in
-    let C : ℕ → Type 0 = λ s. ChainGives (descriptor_at m1 (ring_page q)) s (4096 * length m1) r.head pieces in
-    did.takes r.head pieces r.pages free next (subst C (sym size) chain) (coded_pages m1 q side.ring.size n side.sent r len is code)
+    let C : ℕ → Type 0 = λ s. ChainGives (descriptor_at m1 (ring_page q)) s (4096 * length m1)
+    r.head pieces in
+    did.takes r.head pieces r.pages free next (subst C (sym size) chain)
+    (coded_pages m1 q side.ring.size n side.sent r len is code)
 
 busy_is : (taken : List Request) → nat_le 16 (length taken) ≡ true → busy_test taken ≡ Some Busy
 busy_is taken e = ap (λ (b : Bool). first_refusal ((b ⇒ Busy) ∷ [])) e
@@ -84,24 +103,38 @@ free_is taken e = ap (λ (b : Bool). first_refusal ((b ⇒ Busy) ∷ [])) e
 
 -- ---- queue 0
 
-inflate_posted : (m1 m2 : Pages) (p1 p2 : Part) (d : DriverState) (g : Guest) (posted : List Request) (result : Result (Option ℕ) Refusal)
-    → g.inflate.posted ≡ posted → TakesBy 0 m1 m2 p1 p2 result → Stands m1 p1 d g → IsRunning m1 p1 d g → take_refusal 0 p1 ≡ None → refusal_of g (Take 0) ≡ None
+inflate_posted : (m1 m2 : Pages) (p1 p2 : Part) (d : DriverState) (g : Guest)
+    (posted : List Request) (result : Result (Option ℕ) Refusal)
+    → g.inflate.posted ≡ posted → TakesBy 0 m1 m2 p1 p2 result → Stands m1 p1 d g
+    → IsRunning m1 p1 d g → take_refusal 0 p1 ≡ None → refusal_of g (Take 0) ≡ None
     → StepsAlone (Stands m2 p2 d) g (Take 0) (taken_reply result)
 inflate_posted m1 m2 p1 p2 d g [] result is did stands run free_part free =
-    let L : List Request → Type 0 = λ l. Line m1 0 g.config.pages d.inflate p1.inflate (record g.inflate { posted = l }) in
-    let (answer, part) = take_empty 0 g.config.pages m1 m2 p1 p2 d.inflate g.inflate.taken g.inflate.done result did free_part (stands.ties.parts.device.size ∙ sym run.inflate_size) (subst L is run.inflate) in
+    let L : List Request → Type 0 =
+    λ l. Line m1 0 g.config.pages d.inflate p1.inflate (record g.inflate { posted = l }) in
+    let (answer, part) = take_empty 0 g.config.pages m1 m2 p1 p2 d.inflate g.inflate.taken
+    g.inflate.done result did free_part (stands.ties.parts.device.size ∙ sym run.inflate_size)
+    (subst L is run.inflate) in
     let T : List Request → Type 0 = λ l. Takes Inflating l g Empty g in
     let step = honest_performed g (Take 0) [] Empty g free (refl, subst T (sym is) (refl, refl)) in
     subst (λ r. StepsAlone (Stands m2 p2 d) g (Take 0) (taken_reply r)) (sym answer)
-    (steps_alone m1 m2 p1 p2 d d g (Take 0) Empty g stands step (ties_same m1 m2 p1 p2 d d g did.memory part refl stands.ties) refl)
+    (steps_alone m1 m2 p1 p2 d d g (Take 0) Empty g stands step
+    (ties_same m1 m2 p1 p2 d d g did.memory part refl stands.ties) refl)
 inflate_posted m1 m2 p1 p2 d g (r ∷ rest) result is did stands run free_part free =
-    let L : List Request → Type 0 = λ l. Line m1 0 g.config.pages d.inflate p1.inflate (record g.inflate { posted = l }) in
+    let L : List Request → Type 0 =
+    λ l. Line m1 0 g.config.pages d.inflate p1.inflate (record g.inflate { posted = l }) in
     let line : L (r ∷ rest) = subst L is run.inflate in
-    let limits = config_limits g.config.pages g.config.queue_size g.config.processors stands.ties.parts.guest.config in
-    let (answer, part) = take_next 0 g.config.pages m1 m2 p1 p2 d.inflate r rest g.inflate.taken g.inflate.done result (omega arith) limits.pages_least stands.ties.pages.length_is did free_part (stands.ties.parts.device.size ∙ sym run.inflate_size) line in
-    let new : Guest = record g { inflate = record g.inflate { posted = rest; taken = g.inflate.taken ++ (record r { visited = 0 } ∷ []) } } in
+    let limits = config_limits g.config.pages g.config.queue_size g.config.processors
+    stands.ties.parts.guest.config in
+    let (answer, part) = take_next 0 g.config.pages m1 m2 p1 p2 d.inflate r rest g.inflate.taken
+    g.inflate.done result (omega arith) limits.pages_least stands.ties.pages.length_is did
+    free_part (stands.ties.parts.device.size ∙ sym run.inflate_size) line in
+    let new : Guest = record g {
+      inflate = record g.inflate
+          { posted = rest; taken = g.inflate.taken ++ (record r { visited = 0 } ∷ []) };
+    } in
     let T : List Request → Type 0 = λ l. Takes Inflating l g (Taken r.head) new in
-    let step = honest_performed g (Take 0) [] (Taken r.head) new free (refl, subst T (sym is) (refl, refl)) in
+    let step = honest_performed g (Take 0) [] (Taken r.head) new free
+    (refl, subst T (sym is) (refl, refl)) in
     let after : Part = taking 0 r.head r.pages p1 in
     let ties : Ties m1 after d new = record {
       parts = stands.ties.parts;
@@ -111,49 +144,72 @@ inflate_posted m1 m2 p1 p2 d g (r ∷ rest) result is did stands run free_part f
         backed = run.backed;
         inflate_size = run.inflate_size;
         deflate_size = run.deflate_size;
-        inflate = line_taken m1 0 g.config.pages d.inflate p1.inflate r rest g.inflate.taken g.inflate.done line;
+        inflate = line_taken m1 0 g.config.pages d.inflate p1.inflate r rest g.inflate.taken
+            g.inflate.done line;
         deflate = run.deflate;
       });
     } in
     subst (λ x. StepsAlone (Stands m2 p2 d) g (Take 0) (taken_reply x)) (sym answer)
-    (steps_alone m1 m2 p1 p2 d d g (Take 0) (Taken r.head) new stands step (ties_same m1 m2 after p2 d d new did.memory part refl ties) refl)
+    (steps_alone m1 m2 p1 p2 d d g (Take 0) (Taken r.head) new stands step
+    (ties_same m1 m2 after p2 d d new did.memory part refl ties) refl)
 
-inflate_take : (m1 m2 : Pages) (p1 p2 : Part) (d : DriverState) (g : Guest) (result : Result (Option ℕ) Refusal)
-    → TakesBy 0 m1 m2 p1 p2 result → Stands m1 p1 d g → StepsAlone (Stands m2 p2 d) g (Take 0) (taken_reply result)
+inflate_take : (m1 m2 : Pages) (p1 p2 : Part) (d : DriverState) (g : Guest)
+    (result : Result (Option ℕ) Refusal)
+    → TakesBy 0 m1 m2 p1 p2 result → Stands m1 p1 d g
+    → StepsAlone (Stands m2 p2 d) g (Take 0) (taken_reply result)
 inflate_take m1 m2 p1 p2 d g result did stands =
     elim stands.ties.queues [
       | inl idle ↦
           let D : ℕ → Type 0 = λ s. (s ≡ 0) ⊎ (s ≡ 131) in
-          take_refused m1 m2 p1 p2 d g 0 NotReady result did stands (take_idle_part p1 (subst D (sym stands.ties.parts.device.status) idle.state)).0 (take_idle g idle.state).0
+          take_refused m1 m2 p1 p2 d g 0 NotReady result did stands
+          (take_idle_part p1 (subst D (sym stands.ties.parts.device.status) idle.state)).0
+          (take_idle g idle.state).0
       | inr run ↦
-          let by_part = (take_running_part p1 (stands.ties.parts.device.status ∙ run.state)).0 ∙ ap busy_test run.inflate.remembers in
+          let by_part = (take_running_part p1 (stands.ties.parts.device.status ∙ run.state)).0
+          ∙ ap busy_test run.inflate.remembers in
           let by_model = (take_running g run.state).0 in
           elim (either (nat_le 16 (length g.inflate.taken))) [
-            | inl full ↦ take_refused m1 m2 p1 p2 d g 0 Busy result did stands (by_part ∙ busy_is g.inflate.taken full) (by_model ∙ busy_is g.inflate.taken full)
-            | inr some ↦ inflate_posted m1 m2 p1 p2 d g g.inflate.posted result refl did stands run (by_part ∙ free_is g.inflate.taken some) (by_model ∙ free_is g.inflate.taken some)
+            | inl full ↦ take_refused m1 m2 p1 p2 d g 0 Busy result did stands
+                (by_part ∙ busy_is g.inflate.taken full) (by_model ∙ busy_is g.inflate.taken full)
+            | inr some ↦ inflate_posted m1 m2 p1 p2 d g g.inflate.posted result refl did stands run
+                (by_part ∙ free_is g.inflate.taken some) (by_model ∙ free_is g.inflate.taken some)
           ]
     ]
 
 -- ---- queue 1
 
-deflate_posted : (m1 m2 : Pages) (p1 p2 : Part) (d : DriverState) (g : Guest) (posted : List Request) (result : Result (Option ℕ) Refusal)
-    → g.deflate.posted ≡ posted → TakesBy 1 m1 m2 p1 p2 result → Stands m1 p1 d g → IsRunning m1 p1 d g → take_refusal 1 p1 ≡ None → refusal_of g (Take 1) ≡ None
+deflate_posted : (m1 m2 : Pages) (p1 p2 : Part) (d : DriverState) (g : Guest)
+    (posted : List Request) (result : Result (Option ℕ) Refusal)
+    → g.deflate.posted ≡ posted → TakesBy 1 m1 m2 p1 p2 result → Stands m1 p1 d g
+    → IsRunning m1 p1 d g → take_refusal 1 p1 ≡ None → refusal_of g (Take 1) ≡ None
     → StepsAlone (Stands m2 p2 d) g (Take 1) (taken_reply result)
 deflate_posted m1 m2 p1 p2 d g [] result is did stands run free_part free =
-    let L : List Request → Type 0 = λ l. Line m1 1 g.config.pages d.deflate p1.deflate (record g.deflate { posted = l }) in
-    let (answer, part) = take_empty 1 g.config.pages m1 m2 p1 p2 d.deflate g.deflate.taken g.deflate.done result did free_part (stands.ties.parts.device.size ∙ sym run.deflate_size) (subst L is run.deflate) in
+    let L : List Request → Type 0 =
+    λ l. Line m1 1 g.config.pages d.deflate p1.deflate (record g.deflate { posted = l }) in
+    let (answer, part) = take_empty 1 g.config.pages m1 m2 p1 p2 d.deflate g.deflate.taken
+    g.deflate.done result did free_part (stands.ties.parts.device.size ∙ sym run.deflate_size)
+    (subst L is run.deflate) in
     let T : List Request → Type 0 = λ l. Takes Deflating l g Empty g in
     let step = honest_performed g (Take 1) [] Empty g free (refl, subst T (sym is) (refl, refl)) in
     subst (λ r. StepsAlone (Stands m2 p2 d) g (Take 1) (taken_reply r)) (sym answer)
-    (steps_alone m1 m2 p1 p2 d d g (Take 1) Empty g stands step (ties_same m1 m2 p1 p2 d d g did.memory part refl stands.ties) refl)
+    (steps_alone m1 m2 p1 p2 d d g (Take 1) Empty g stands step
+    (ties_same m1 m2 p1 p2 d d g did.memory part refl stands.ties) refl)
 deflate_posted m1 m2 p1 p2 d g (r ∷ rest) result is did stands run free_part free =
-    let L : List Request → Type 0 = λ l. Line m1 1 g.config.pages d.deflate p1.deflate (record g.deflate { posted = l }) in
+    let L : List Request → Type 0 =
+    λ l. Line m1 1 g.config.pages d.deflate p1.deflate (record g.deflate { posted = l }) in
     let line : L (r ∷ rest) = subst L is run.deflate in
-    let limits = config_limits g.config.pages g.config.queue_size g.config.processors stands.ties.parts.guest.config in
-    let (answer, part) = take_next 1 g.config.pages m1 m2 p1 p2 d.deflate r rest g.deflate.taken g.deflate.done result (omega arith) limits.pages_least stands.ties.pages.length_is did free_part (stands.ties.parts.device.size ∙ sym run.deflate_size) line in
-    let new : Guest = record g { deflate = record g.deflate { posted = rest; taken = g.deflate.taken ++ (record r { visited = 0 } ∷ []) } } in
+    let limits = config_limits g.config.pages g.config.queue_size g.config.processors
+    stands.ties.parts.guest.config in
+    let (answer, part) = take_next 1 g.config.pages m1 m2 p1 p2 d.deflate r rest g.deflate.taken
+    g.deflate.done result (omega arith) limits.pages_least stands.ties.pages.length_is did
+    free_part (stands.ties.parts.device.size ∙ sym run.deflate_size) line in
+    let new : Guest = record g {
+      deflate = record g.deflate
+          { posted = rest; taken = g.deflate.taken ++ (record r { visited = 0 } ∷ []) };
+    } in
     let T : List Request → Type 0 = λ l. Takes Deflating l g (Taken r.head) new in
-    let step = honest_performed g (Take 1) [] (Taken r.head) new free (refl, subst T (sym is) (refl, refl)) in
+    let step = honest_performed g (Take 1) [] (Taken r.head) new free
+    (refl, subst T (sym is) (refl, refl)) in
     let after : Part = taking 1 r.head r.pages p1 in
     let ties : Ties m1 after d new = record {
       parts = stands.ties.parts;
@@ -163,38 +219,52 @@ deflate_posted m1 m2 p1 p2 d g (r ∷ rest) result is did stands run free_part f
         backed = run.backed;
         inflate_size = run.inflate_size;
         deflate_size = run.deflate_size;
-        deflate = line_taken m1 1 g.config.pages d.deflate p1.deflate r rest g.deflate.taken g.deflate.done line;
+        deflate = line_taken m1 1 g.config.pages d.deflate p1.deflate r rest g.deflate.taken
+            g.deflate.done line;
         inflate = run.inflate;
       });
     } in
     subst (λ x. StepsAlone (Stands m2 p2 d) g (Take 1) (taken_reply x)) (sym answer)
-    (steps_alone m1 m2 p1 p2 d d g (Take 1) (Taken r.head) new stands step (ties_same m1 m2 after p2 d d new did.memory part refl ties) refl)
+    (steps_alone m1 m2 p1 p2 d d g (Take 1) (Taken r.head) new stands step
+    (ties_same m1 m2 after p2 d d new did.memory part refl ties) refl)
 
-deflate_take : (m1 m2 : Pages) (p1 p2 : Part) (d : DriverState) (g : Guest) (result : Result (Option ℕ) Refusal)
-    → TakesBy 1 m1 m2 p1 p2 result → Stands m1 p1 d g → StepsAlone (Stands m2 p2 d) g (Take 1) (taken_reply result)
+deflate_take : (m1 m2 : Pages) (p1 p2 : Part) (d : DriverState) (g : Guest)
+    (result : Result (Option ℕ) Refusal)
+    → TakesBy 1 m1 m2 p1 p2 result → Stands m1 p1 d g
+    → StepsAlone (Stands m2 p2 d) g (Take 1) (taken_reply result)
 deflate_take m1 m2 p1 p2 d g result did stands =
     elim stands.ties.queues [
       | inl idle ↦
           let D : ℕ → Type 0 = λ s. (s ≡ 0) ⊎ (s ≡ 131) in
-          take_refused m1 m2 p1 p2 d g 1 NotReady result did stands (take_idle_part p1 (subst D (sym stands.ties.parts.device.status) idle.state)).1 (take_idle g idle.state).1
+          take_refused m1 m2 p1 p2 d g 1 NotReady result did stands
+          (take_idle_part p1 (subst D (sym stands.ties.parts.device.status) idle.state)).1
+          (take_idle g idle.state).1
       | inr run ↦
-          let by_part = (take_running_part p1 (stands.ties.parts.device.status ∙ run.state)).1 ∙ ap busy_test run.deflate.remembers in
+          let by_part = (take_running_part p1 (stands.ties.parts.device.status ∙ run.state)).1
+          ∙ ap busy_test run.deflate.remembers in
           let by_model = (take_running g run.state).1 in
           elim (either (nat_le 16 (length g.deflate.taken))) [
-            | inl full ↦ take_refused m1 m2 p1 p2 d g 1 Busy result did stands (by_part ∙ busy_is g.deflate.taken full) (by_model ∙ busy_is g.deflate.taken full)
-            | inr some ↦ deflate_posted m1 m2 p1 p2 d g g.deflate.posted result refl did stands run (by_part ∙ free_is g.deflate.taken some) (by_model ∙ free_is g.deflate.taken some)
+            | inl full ↦ take_refused m1 m2 p1 p2 d g 1 Busy result did stands
+                (by_part ∙ busy_is g.deflate.taken full) (by_model ∙ busy_is g.deflate.taken full)
+            | inr some ↦ deflate_posted m1 m2 p1 p2 d g g.deflate.posted result refl did stands run
+                (by_part ∙ free_is g.deflate.taken some) (by_model ∙ free_is g.deflate.taken some)
           ]
     ]
 
-pub take_step : (m1 m2 : Pages) (p1 p2 : Part) (d : DriverState) (g : Guest) (q : ℕ) (result : Result (Option ℕ) Refusal)
-    → TakesBy q m1 m2 p1 p2 result → Stands m1 p1 d g → StepsAlone (Stands m2 p2 d) g (Take q) (taken_reply result)
+pub take_step : (m1 m2 : Pages) (p1 p2 : Part) (d : DriverState) (g : Guest) (q : ℕ)
+    (result : Result (Option ℕ) Refusal)
+    → TakesBy q m1 m2 p1 p2 result → Stands m1 p1 d g
+    → StepsAlone (Stands m2 p2 d) g (Take q) (taken_reply result)
 take_step m1 m2 p1 p2 d g q result did stands =
     let B : ℕ → Type 0 = λ k. TakesBy k m1 m2 p1 p2 result in
     let S : ℕ → Type 0 = λ k. StepsAlone (Stands m2 p2 d) g (Take k) (taken_reply result) in
     elim (queue_cases q) [
-      | inl first ↦ subst S (sym first) (inflate_take m1 m2 p1 p2 d g result (subst B first did) stands)
+      | inl first ↦ subst S (sym first)
+          (inflate_take m1 m2 p1 p2 d g result (subst B first did) stands)
       | inr other ↦ elim other [
-        | inl second ↦ subst S (sym second) (deflate_take m1 m2 p1 p2 d g result (subst B second did) stands)
-        | inr none ↦ (let no = take_no_queue q g p1 none in take_refused m1 m2 p1 p2 d g q NoQueue result did stands no.0 no.1)
+        | inl second ↦ subst S (sym second)
+            (deflate_take m1 m2 p1 p2 d g result (subst B second did) stands)
+        | inr none ↦ (let no = take_no_queue q g p1 none in
+            take_refused m1 m2 p1 p2 d g q NoQueue result did stands no.0 no.1)
       ]
     ]

@@ -12,7 +12,9 @@ use Rattle.vb_guest.specs.Steps.{StepsAlone}
 use Rattle.vb_guest.proofs.Closing.{honest_performed, steps_alone, ties_same}
 use Rattle.vb_guest.proofs.Writing.{idle_still}
 
-pub target_step : (m1 m2 : Pages) (p1 p2 : Part) (d : DriverState) (g : Guest) (n : ℕ) → m2 ≡ m1 → p2 ≡ record p1 { target = n } → Stands m1 p1 d g → StepsAlone (Stands m2 p2 d) g (SetTarget n) Done
+pub target_step : (m1 m2 : Pages) (p1 p2 : Part) (d : DriverState) (g : Guest) (n : ℕ) → m2 ≡ m1
+    → p2 ≡ record p1 { target = n } → Stands m1 p1 d g
+    → StepsAlone (Stands m2 p2 d) g (SetTarget n) Done
 target_step m1 m2 p1 p2 d g n memory part stands =
     let ties = stands.ties in
     let new : Guest = record g { target = n } in
@@ -38,8 +40,16 @@ target_step m1 m2 p1 p2 d g n memory part stands =
       pages = ties.pages;
       queues = elim ties.queues [
         | inl idle ↦ inl (idle_still g new refl refl refl refl refl refl refl idle)
-        | inr run ↦ inr (record { state = run.state; backed = run.backed; inflate_size = run.inflate_size; deflate_size = run.deflate_size; inflate = run.inflate; deflate = run.deflate })
+        | inr run ↦ inr (record {
+          state = run.state;
+          backed = run.backed;
+          inflate_size = run.inflate_size;
+          deflate_size = run.deflate_size;
+          inflate = run.inflate;
+          deflate = run.deflate;
+        })
       ];
     } in
     let step = honest_performed g (SetTarget n) [] Done new refl (refl, refl, refl) in
-    steps_alone m1 m2 p1 p2 d d g (SetTarget n) Done new stands step (ties_same m1 m2 after p2 d d new memory part refl there) refl
+    steps_alone m1 m2 p1 p2 d d g (SetTarget n) Done new stands step
+    (ties_same m1 m2 after p2 d d new memory part refl there) refl

@@ -1,9 +1,13 @@
 -- A write to a page of the guest's own.
-use Rattle.std.specs.Prelude.{◌≡◌, ◌≢◌, ℕ, ◌+◌, ◌<◌, ◌≤◌, ◌==◌, ◌||◌, Bool, true, false, not, nat_le, nat_lt, if◌then◌else◌, List, [], ◌∷◌, ◌++◌, length, drop, take, Option, Some, None, is_some, is_none, slice_set, slice_index_or, count_by, cond, refl, ◌⊎◌}
+use Rattle.std.specs.Prelude.{◌≡◌, ◌≢◌, ℕ, ◌+◌, ◌<◌, ◌≤◌, ◌==◌, ◌||◌, Bool, true, false, not}
+use Rattle.std.specs.Prelude.{nat_le, nat_lt, if◌then◌else◌, List, [], ◌∷◌, ◌++◌, length, drop}
+use Rattle.std.specs.Prelude.{take, Option, Some, None, is_some, is_none, slice_set, slice_index_or}
+use Rattle.std.specs.Prelude.{count_by, cond, refl, ◌⊎◌}
 use Rattle.std.proofs.Common.{sym, ◌∙◌, ap, subst, arith, inl, inr, eq-eqb, length-append}
 use Rattle.std.proofs.lemmas.Bool.{cases_eq, cases_lt, eqb-true}
 use Rattle.std.proofs.lemmas.Bool.Decides.{nat_tests}
-use Rattle.std.proofs.lemmas.List.{ext_get_or, length-set, get_or-set_same, get_or-set_other, length-take-le, length-drop}
+use Rattle.std.proofs.lemmas.List.{ext_get_or, length-set, get_or-set_same, get_or-set_other}
+use Rattle.std.proofs.lemmas.List.{length-take-le, length-drop}
 use Rattle.std.proofs.lemmas.List.Sums.{sum_by-set}
 use Rattle.vb_model.specs.declared.places.Place.{Place}
 use Rattle.vb_model.specs.declared.places.Place.TheVariants.{Used}
@@ -14,7 +18,8 @@ use Rattle.vb_model.specs.Guest.{Guest, zero_page, frame_of, backed}
 use Rattle.vb_model.specs.Driver.{overwritten}
 use Rattle.vb_model.specs.Orderly.{IsOrderly, is_reserved}
 use Rattle.vb_model.proofs.Tables.{length-each_from, each_page-get}
-use Rattle.vb_ram.specs.Pages.{Pages, page_at, frame_at, contents_at, contents_of, number_of, Wrote, Supplied}
+use Rattle.vb_ram.specs.Pages.{Pages, page_at, frame_at, contents_at, contents_of, number_of, Wrote}
+use Rattle.vb_ram.specs.Pages.{Supplied}
 use Rattle.vb_ram.proofs.Contents.{contents_wrote}
 use Rattle.vb_ram.specs.Part.{Part}
 use Rattle.vb_driver.specs.State.{DriverState}
@@ -32,9 +37,11 @@ used_not_reserved Used e = refl
 used_not_reserved _ e = absurd cc
 
 -- a used page isn't reserved
-pub used_high : (g : Guest) (page : ℕ) → IsOrderly g → is_used (place_of g.places page) ≡ true → page < g.config.pages → 16 ≤ page
+pub used_high : (g : Guest) (page : ℕ) → IsOrderly g → is_used (place_of g.places page) ≡ true
+    → page < g.config.pages → 16 ≤ page
 used_high g page orderly used lt =
-    let e : nat_lt page 16 ≡ false = sym (orderly.unreserved page lt) ∙ used_not_reserved (place_of g.places page) used in
+    let e : nat_lt page 16 ≡ false =
+    sym (orderly.unreserved page lt) ∙ used_not_reserved (place_of g.places page) used in
     grind (arith, nat_tests)
 
 -- ---- one entry of a table
@@ -43,30 +50,49 @@ used_high g page orderly used lt =
 abbrev pub at_page : {A : Type 0} → ℕ → (A → A) → List A → List A
 at_page page f xs = each_page (λ p old. if p == page then f old else old) xs
 
-pub length-at_page : {A : Type 0} (page : ℕ) (f : A → A) (xs : List A) → length (at_page page f xs) ≡ length xs
+pub length-at_page : {A : Type 0} (page : ℕ) (f : A → A) (xs : List A)
+    → length (at_page page f xs) ≡ length xs
 length-at_page page f xs = length-each_from 0 (λ p old. if p == page then f old else old) xs
 
-at_page-get : {A : Type 0} (page : ℕ) (f : A → A) (xs : List A) (i : ℕ) (d : A) → i < length xs → slice_index_or (at_page page f xs) i d ≡ (if i == page then f (slice_index_or xs i d) else slice_index_or xs i d)
-at_page-get page f xs i d lt = each_page-get (λ p old. if p == page then f old else old) xs i d (λ past. absurd (omega arith))
+at_page-get : {A : Type 0} (page : ℕ) (f : A → A) (xs : List A) (i : ℕ) (d : A) → i < length xs
+    → slice_index_or (at_page page f xs) i d
+    ≡ (if i == page then f (slice_index_or xs i d) else slice_index_or xs i d)
+at_page-get page f xs i d lt =
+    each_page-get (λ p old. if p == page then f old else old) xs i d (λ past. absurd (omega arith))
 
-pub at_page-same : {A : Type 0} (page : ℕ) (f : A → A) (xs : List A) (i : ℕ) (d : A) → i < length xs → i ≡ page → slice_index_or (at_page page f xs) i d ≡ f (slice_index_or xs i d)
-at_page-same page f xs i d lt e = at_page-get page f xs i d lt ∙ ap (λ (b : Bool). if b then f (slice_index_or xs i d) else slice_index_or xs i d) (eq-eqb i page e)
+pub at_page-same : {A : Type 0} (page : ℕ) (f : A → A) (xs : List A) (i : ℕ) (d : A) → i < length xs
+    → i ≡ page → slice_index_or (at_page page f xs) i d ≡ f (slice_index_or xs i d)
+at_page-same page f xs i d lt e =
+    at_page-get page f xs i d lt
+    ∙ ap (λ (b : Bool). if b then f (slice_index_or xs i d) else slice_index_or xs i d)
+    (eq-eqb i page e)
 
 other_not : (p i : ℕ) → p ≢ i → (p == i) ≡ false
 other_not p i ne = elim (either (p == i)) [ inl e ↦ absurd (ne (eqb-true p i e)) | inr e ↦ e ]
 
-pub at_page-other : {A : Type 0} (page : ℕ) (f : A → A) (xs : List A) (i : ℕ) (d : A) → i < length xs → i ≢ page → slice_index_or (at_page page f xs) i d ≡ slice_index_or xs i d
-at_page-other page f xs i d lt ne = at_page-get page f xs i d lt ∙ ap (λ (b : Bool). if b then f (slice_index_or xs i d) else slice_index_or xs i d) (other_not i page ne)
+pub at_page-other : {A : Type 0} (page : ℕ) (f : A → A) (xs : List A) (i : ℕ) (d : A)
+    → i < length xs → i ≢ page → slice_index_or (at_page page f xs) i d ≡ slice_index_or xs i d
+at_page-other page f xs i d lt ne =
+    at_page-get page f xs i d lt
+    ∙ ap (λ (b : Bool). if b then f (slice_index_or xs i d) else slice_index_or xs i d)
+    (other_not i page ne)
 
 -- a frame that backs a page is one entry
-pub backed-set : (page frame : ℕ) (frames : List (Option ℕ)) → page < length frames → backed page frame frames ≡ slice_set frames page (Some frame)
+pub backed-set : (page frame : ℕ) (frames : List (Option ℕ)) → page < length frames
+    → backed page frame frames ≡ slice_set frames page (Some frame)
 backed-set page frame frames lt =
-    ext_get_or None (backed page frame frames) (slice_set frames page (Some frame)) (length-at_page page (λ old. Some frame) frames ∙ sym (length-set frames page (Some frame))) (λ i h.
-    let inside : i < length frames = omega (arith, length-at_page page (λ (old : Option ℕ). Some frame) frames) in
+    ext_get_or None (backed page frame frames) (slice_set frames page (Some frame))
+    (length-at_page page (λ old. Some frame) frames ∙ sym (length-set frames page (Some frame)))
+    (λ i h.
+    let inside : i < length frames =
+    omega (arith, length-at_page page (λ (old : Option ℕ). Some frame) frames) in
     elim (cases_eq i page) [
       | inl same ↦
-          at_page-same page (λ old. Some frame) frames i None inside same ∙ sym (ap (λ (k : ℕ). slice_index_or (slice_set frames page (Some frame)) k None) same ∙ get_or-set_same frames page (Some frame) None lt)
-      | inr ne ↦ at_page-other page (λ old. Some frame) frames i None inside ne ∙ sym (get_or-set_other frames page i (Some frame) None ne)
+          at_page-same page (λ old. Some frame) frames i None inside same
+          ∙ sym (ap (λ (k : ℕ). slice_index_or (slice_set frames page (Some frame)) k None) same
+          ∙ get_or-set_same frames page (Some frame) None lt)
+      | inr ne ↦ at_page-other page (λ old. Some frame) frames i None inside ne
+          ∙ sym (get_or-set_other frames page i (Some frame) None ne)
     ])
 
 cond_one : (b : Bool) → cond {A = ℕ} b 1 0 ≡ one_if b
@@ -74,39 +100,62 @@ cond_one true = refl
 cond_one false = refl
 
 -- a frame enters a page that has none
-pub count_backed : (n page frame : ℕ) (frames : List (Option ℕ)) → page < length frames → frame_of frames page ≡ None
-    → count_by (is_frame n) (backed page frame frames) ≡ count_by (is_frame n) frames + one_if (frame == n)
+pub count_backed : (n page frame : ℕ) (frames : List (Option ℕ)) → page < length frames
+    → frame_of frames page ≡ None
+    → count_by (is_frame n) (backed page frame frames)
+    ≡ count_by (is_frame n) frames + one_if (frame == n)
 count_backed n page frame frames lt bare =
     let f : Option ℕ → ℕ = λ o. cond (is_frame n o) 1 0 in
-    let step : count_by (is_frame n) (slice_set frames page (Some frame)) + f (slice_index_or frames page None) ≡ count_by (is_frame n) frames + f (Some frame) = sum_by-set f frames page (Some frame) None lt in
+    let step : count_by (is_frame n) (slice_set frames page (Some frame)) + f
+    (slice_index_or frames page None) ≡ count_by (is_frame n) frames + f (Some frame) =
+    sum_by-set f frames page (Some frame) None lt in
     let none : f (slice_index_or frames page None) ≡ 0 = ap f bare in
     let one : f (Some frame) ≡ one_if (frame == n) = cond_one (frame == n) in
     omega (arith, ap (count_by (is_frame n)) (backed-set page frame frames lt), step, none, one)
 
 -- a frame that was free is out
-pub out_more : (out : List Bool) (n frame : ℕ) → frame < length out → is_out out frame ≡ false → one_if (is_out (slice_set out frame true) n) ≡ one_if (is_out out n) + one_if (frame == n)
+pub out_more : (out : List Bool) (n frame : ℕ) → frame < length out → is_out out frame ≡ false
+    → one_if (is_out (slice_set out frame true) n) ≡ one_if (is_out out n) + one_if (frame == n)
 out_more out n frame lt free = elim (cases_eq frame n) [
   | inl same ↦
-      let now : one_if (is_out (slice_set out frame true) n) ≡ 1 = ap (λ (k : ℕ). one_if (is_out (slice_set out frame true) k)) (sym same) ∙ ap one_if (get_or-set_same out frame true false lt) in
-      let was : one_if (is_out out n) ≡ 0 = ap (λ (k : ℕ). one_if (is_out out k)) (sym same) ∙ ap one_if free in
+      let now : one_if (is_out (slice_set out frame true) n) ≡ 1 =
+      ap (λ (k : ℕ). one_if (is_out (slice_set out frame true) k)) (sym same)
+      ∙ ap one_if (get_or-set_same out frame true false lt) in
+      let was : one_if (is_out out n) ≡ 0 =
+      ap (λ (k : ℕ). one_if (is_out out k)) (sym same) ∙ ap one_if free in
       omega (arith, now, was, ap one_if (eq-eqb frame n same))
   | inr ne ↦
-      let kept : one_if (is_out (slice_set out frame true) n) ≡ one_if (is_out out n) = ap one_if (get_or-set_other out frame n true false (λ e. ne (sym e))) in
+      let kept : one_if (is_out (slice_set out frame true) n) ≡ one_if (is_out out n) =
+      ap one_if (get_or-set_other out frame n true false (λ e. ne (sym e))) in
       omega (arith, kept, ap one_if (other_not frame n ne))
 ]
 
 -- ---- memory
 
 -- bytes overwritten within a page leave its size
-pub length-overwritten : (off : ℕ) (bs old : List ℕ) → off + length bs ≤ length old → length (overwritten off bs old) ≡ length old
+pub length-overwritten : (off : ℕ) (bs old : List ℕ) → off + length bs ≤ length old
+    → length (overwritten off bs old) ≡ length old
 length-overwritten off bs old fits =
-    omega (arith, length-append (take off old) (bs ++ drop (off + length bs) old), length-append bs (drop (off + length bs) old), length-take-le off old (omega arith), length-drop (off + length bs) old)
+    omega (
+      arith,
+      length-append (take off old) (bs ++ drop (off + length bs) old),
+      length-append bs (drop (off + length bs) old),
+      length-take-le off old (omega arith),
+      length-drop (off + length bs) old,
+    )
 
-pub pages_wrote : (m1 m2 : Pages) (n page off : ℕ) (bs : List ℕ) (frames : List (Option ℕ)) (contents : List (List ℕ)) → 16 ≤ page → page < n → off + length bs ≤ 4096
-    → HasPages m1 n frames contents → Wrote m1 m2 page off bs → HasPages m2 n frames (at_page page (overwritten off bs) contents)
+pub pages_wrote : (m1 m2 : Pages) (n page off : ℕ) (bs : List ℕ) (frames : List (Option ℕ))
+    (contents : List (List ℕ)) → 16 ≤ page → page < n → off + length bs ≤ 4096
+    → HasPages m1 n frames contents → Wrote m1 m2 page off bs
+    → HasPages m2 n frames (at_page page (overwritten off bs) contents)
 pages_wrote m1 m2 n page off bs frames contents high lt fits has wrote =
     let f : List ℕ → List ℕ = overwritten off bs in
-    let room : off + length bs ≤ length (contents_at m1 page) = omega (arith, ap (λ (x : List ℕ). length x) (has.holds page high lt), has.sizes page high lt) in
+    let room : off + length bs ≤ length (contents_at m1 page) =
+    omega (
+      arith,
+      ap (λ (x : List ℕ). length x) (has.holds page high lt),
+      has.sizes page high lt,
+    ) in
     record {
       length_is = wrote.rest.count ∙ has.length_is;
       framed = has.framed;
@@ -114,22 +163,32 @@ pages_wrote m1 m2 n page off bs frames contents high lt fits has wrote =
       behind = λ p. wrote.rest.backing p ∙ has.behind p;
       holds = λ p up low. elim (cases_eq p page) [
         | inl same ↦
-            ap (λ (k : ℕ). contents_at m2 k) same ∙ contents_wrote m1 m2 page off bs wrote room ∙ ap f (has.holds page high lt)
-            ∙ sym (ap (λ (k : ℕ). slice_index_or (at_page page f contents) k []) same ∙ at_page-same page f contents page [] (omega (arith, has.filled)) refl)
+            ap (λ (k : ℕ). contents_at m2 k) same ∙ contents_wrote m1 m2 page off bs wrote room
+            ∙ ap f (has.holds page high lt)
+            ∙ sym (ap (λ (k : ℕ). slice_index_or (at_page page f contents) k []) same
+            ∙ at_page-same page f contents page [] (omega (arith, has.filled)) refl)
         | inr ne ↦
-            ap contents_of (wrote.rest.others p ne) ∙ has.holds p up low ∙ sym (at_page-other page f contents p [] (omega (arith, has.filled)) ne)
+            ap contents_of (wrote.rest.others p ne) ∙ has.holds p up low
+            ∙ sym (at_page-other page f contents p [] (omega (arith, has.filled)) ne)
       ];
       sizes = λ p up low. elim (cases_eq p page) [
         | inl same ↦
-            ap (λ (k : ℕ). length (slice_index_or (at_page page f contents) k [])) same ∙ ap (λ (x : List ℕ). length x) (at_page-same page f contents page [] (omega (arith, has.filled)) refl)
-            ∙ length-overwritten off bs (slice_index_or contents page []) (omega (arith, has.sizes page high lt)) ∙ has.sizes page high lt
-        | inr ne ↦ ap (λ (x : List ℕ). length x) (at_page-other page f contents p [] (omega (arith, has.filled)) ne) ∙ has.sizes p up low
+            ap (λ (k : ℕ). length (slice_index_or (at_page page f contents) k [])) same
+            ∙ ap (λ (x : List ℕ). length x)
+            (at_page-same page f contents page [] (omega (arith, has.filled)) refl)
+            ∙ length-overwritten off bs (slice_index_or contents page [])
+            (omega (arith, has.sizes page high lt)) ∙ has.sizes page high lt
+        | inr ne ↦ ap (λ (x : List ℕ). length x)
+            (at_page-other page f contents p [] (omega (arith, has.filled)) ne)
+            ∙ has.sizes p up low
       ];
     }
 
 -- a page with no frame holds zeros, and so it does with a new one
-pub pages_supplied : (m1 m2 : Pages) (n page frame : ℕ) (frames : List (Option ℕ)) (contents : List (List ℕ)) → page < n → frame_at m1 page ≡ None
-    → HasPages m1 n frames contents → Supplied m1 m2 page frame → HasPages m2 n (backed page frame frames) contents
+pub pages_supplied : (m1 m2 : Pages) (n page frame : ℕ) (frames : List (Option ℕ))
+    (contents : List (List ℕ)) → page < n → frame_at m1 page ≡ None
+    → HasPages m1 n frames contents → Supplied m1 m2 page frame
+    → HasPages m2 n (backed page frame frames) contents
 pages_supplied m1 m2 n page frame frames contents lt bare has did = record {
   length_is = did.count ∙ has.length_is;
   framed = length-at_page page (λ (old : Option ℕ). Some frame) frames ∙ has.framed;
@@ -137,50 +196,72 @@ pages_supplied m1 m2 n page frame frames contents lt bare has did = record {
   behind = λ p. elim (cases_eq p page) [
     | inl same ↦
         ap (λ (k : ℕ). frame_at m2 k) same ∙ did.backed
-        ∙ sym (ap (λ (k : ℕ). frame_of (backed page frame frames) k) same ∙ at_page-same page (λ (old : Option ℕ). Some frame) frames page None (omega (arith, has.framed)) refl)
-    | inr ne ↦ ap number_of (did.others p ne) ∙ has.behind p ∙ sym (past_or p ne (cases_lt p (length frames)))
+        ∙ sym (ap (λ (k : ℕ). frame_of (backed page frame frames) k) same
+        ∙ at_page-same page (λ (old : Option ℕ). Some frame) frames page None
+        (omega (arith, has.framed)) refl)
+    | inr ne ↦ ap number_of (did.others p ne) ∙ has.behind p
+        ∙ sym (past_or p ne (cases_lt p (length frames)))
   ];
   holds = λ p up low. elim (cases_eq p page) [
-    | inl same ↦ ap (λ (k : ℕ). contents_at m2 k) same ∙ did.contents ∙ sym (zeros (page_at m1 page) bare) ∙ ap (λ (k : ℕ). contents_at m1 k) (sym same) ∙ has.holds p up low
+    | inl same ↦ ap (λ (k : ℕ). contents_at m2 k) same ∙ did.contents
+        ∙ sym (zeros (page_at m1 page) bare) ∙ ap (λ (k : ℕ). contents_at m1 k) (sym same)
+        ∙ has.holds p up low
     | inr ne ↦ ap contents_of (did.others p ne) ∙ has.holds p up low
   ];
   sizes = has.sizes;
 }
   where
-    past_or : (p : ℕ) → p ≢ page → (p < length frames) ⊎ (length frames ≤ p) → frame_of (backed page frame frames) p ≡ frame_of frames p
-    past_or p ne (inl inside) = at_page-other page (λ (old : Option ℕ). Some frame) frames p None inside ne
+    past_or : (p : ℕ) → p ≢ page → (p < length frames) ⊎ (length frames ≤ p)
+        → frame_of (backed page frame frames) p ≡ frame_of frames p
+    past_or p ne (inl inside) =
+        at_page-other page (λ (old : Option ℕ). Some frame) frames p None inside ne
     past_or p ne (inr past) =
-        Rattle.std.proofs.lemmas.List.get_or_past (backed page frame frames) p None (omega (arith, length-at_page page (λ (old : Option ℕ). Some frame) frames))
+        Rattle.std.proofs.lemmas.List.get_or_past (backed page frame frames) p None
+        (omega (arith, length-at_page page (λ (old : Option ℕ). Some frame) frames))
         ∙ sym (Rattle.std.proofs.lemmas.List.get_or_past frames p None past)
 
-    zeros : (x : Option Rattle.vb_ram.specs.Pages.Page) → number_of x ≡ None → contents_of x ≡ zero_page
+    zeros : (x : Option Rattle.vb_ram.specs.Pages.Page) → number_of x ≡ None
+        → contents_of x ≡ zero_page
     zeros None e = refl
     zeros (Some x) e = absurd cc
 
 -- pages above those of rings and buffers change: the queues are as before
-pub running_apart : (m1 m2 : Pages) (p : Part) (d : DriverState) (g new : Guest) → ((page : ℕ) → page < 16 → page_at m2 page ≡ page_at m1 page)
-    → new.status ≡ g.status → new.config ≡ g.config → new.inflate ≡ g.inflate → new.deflate ≡ g.deflate → IsRunning m1 p d g → IsRunning m2 p d new
+pub running_apart : (m1 m2 : Pages) (p : Part) (d : DriverState) (g new : Guest)
+    → ((page : ℕ) → page < 16 → page_at m2 page ≡ page_at m1 page)
+    → new.status ≡ g.status → new.config ≡ g.config → new.inflate ≡ g.inflate
+    → new.deflate ≡ g.deflate → IsRunning m1 p d g → IsRunning m2 p d new
 running_apart m1 m2 p d g new same status config inflate deflate run =
     let n = g.config.pages in
-    let I : ℕ → Requests → Type 0 = λ k rs. Rattle.vb_guest.specs.Line.Line m2 0 k d.inflate p.inflate rs in
-    let D : ℕ → Requests → Type 0 = λ k rs. Rattle.vb_guest.specs.Line.Line m2 1 k d.deflate p.deflate rs in
+    let I : ℕ → Requests → Type 0 =
+    λ k rs. Rattle.vb_guest.specs.Line.Line m2 0 k d.inflate p.inflate rs in
+    let D : ℕ → Requests → Type 0 =
+    λ k rs. Rattle.vb_guest.specs.Line.Line m2 1 k d.deflate p.deflate rs in
     let pages : n ≡ new.config.pages = ap (λ c. c.pages) (sym config) in
     record {
       state = status ∙ run.state;
       backed = λ page lt. ap is_some (ap number_of (same page (omega arith))) ∙ run.backed page lt;
       inflate_size = run.inflate_size ∙ ap (λ c. c.queue_size) (sym config);
       deflate_size = run.deflate_size ∙ ap (λ c. c.queue_size) (sym config);
-      inflate = subst (λ rs. I new.config.pages rs) (sym inflate) (subst (λ k. I k g.inflate) pages (line_apart m1 m2 0 n d.inflate p.inflate g.inflate (above_apart m1 m2 0 (omega arith) (omega arith) same) run.inflate));
-      deflate = subst (λ rs. D new.config.pages rs) (sym deflate) (subst (λ k. D k g.deflate) pages (line_apart m1 m2 1 n d.deflate p.deflate g.deflate (above_apart m1 m2 1 (omega arith) (omega arith) same) run.deflate));
+      inflate = subst (λ rs. I new.config.pages rs) (sym inflate)
+          (subst (λ k. I k g.inflate) pages
+          (line_apart m1 m2 0 n d.inflate p.inflate g.inflate
+          (above_apart m1 m2 0 (omega arith) (omega arith) same) run.inflate));
+      deflate = subst (λ rs. D new.config.pages rs) (sym deflate)
+          (subst (λ k. D k g.deflate) pages
+          (line_apart m1 m2 1 n d.deflate p.deflate g.deflate
+          (above_apart m1 m2 1 (omega arith) (omega arith) same) run.deflate));
     }
 
-pub idle_still : (g new : Guest) → new.status ≡ g.status → new.config ≡ g.config → new.inflate ≡ g.inflate → new.deflate ≡ g.deflate → new.ballooned ≡ g.ballooned → new.actual ≡ g.actual → new.last ≡ g.last
+pub idle_still : (g new : Guest) → new.status ≡ g.status → new.config ≡ g.config
+    → new.inflate ≡ g.inflate → new.deflate ≡ g.deflate → new.ballooned ≡ g.ballooned
+    → new.actual ≡ g.actual → new.last ≡ g.last
     → IsIdle g → IsIdle new
 idle_still g new status config inflate deflate ballooned actual last idle = record {
   state = elim idle.state [ inl e ↦ inl (status ∙ e) | inr e ↦ inr (status ∙ e) ];
   inflate = inflate ∙ idle.inflate;
   deflate = deflate ∙ idle.deflate;
-  ballooned = ballooned ∙ idle.ballooned ∙ ap (λ c. Rattle.std.specs.Prelude.replicate c.pages false) (sym config);
+  ballooned = ballooned ∙ idle.ballooned
+      ∙ ap (λ c. Rattle.std.specs.Prelude.replicate c.pages false) (sym config);
   actual = actual ∙ idle.actual;
   last = last ∙ idle.last;
 }

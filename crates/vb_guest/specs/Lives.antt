@@ -1,5 +1,6 @@
 -- How pages get frames before an initialisation (VIRTIO 1.1, 3.1.1).
-use Rattle.std.specs.Prelude.{◌≡◌, ℕ, ◌-◌, Bool, List, [], ◌∷◌, Option, Some, None, is_none, Result, Ok, Err, OnOk, OnErr, filter}
+use Rattle.std.specs.Prelude.{◌≡◌, ℕ, ◌-◌, Bool, List, [], ◌∷◌, Option, Some, None, is_none, Result}
+use Rattle.std.specs.Prelude.{Ok, Err, OnOk, OnErr, filter}
 use Rattle.std.specs.List.{range_with_len}
 use Rattle.vb_model.specs.declared.calls.Claim.{Claim}
 use Rattle.vb_model.specs.declared.replies.Refusal.{Refusal}
@@ -13,14 +14,18 @@ use Rattle.vb_frames.specs.Out.{AllAnswered, after_claims}
 
 -- The pages of rings and buffers from this one on that have no frame, in rising order.
 abbrev pub bare_from : Pages → ℕ → List ℕ
-bare_from mem first = filter (λ page. is_none (frame_at mem page)) (range_with_len first (ring_and_buffer_pages - first))
+bare_from mem first =
+    filter (λ page. is_none (frame_at mem page))
+    (range_with_len first (ring_and_buffer_pages - first))
 
--- Each page, which had no frame, has the frame of the number beside it now. The last one got its frame first.
+-- Each page, which had no frame, has the frame of the number beside it now. The last one got its
+-- frame first.
 abbrev pub AllSupplied : List ℕ → List ℕ → Pages → Pages → Type 0
 AllSupplied [] numbers old new = new ≡ old
 AllSupplied (page ∷ pages) [] old new = ⊥
 AllSupplied (page ∷ pages) (number ∷ numbers) old new =
-    (between : Pages) × AllSupplied pages numbers old between × (frame_at between page ≡ None) × Supplied between new page number
+    (between : Pages) × AllSupplied pages numbers old between × (frame_at between page ≡ None)
+    × Supplied between new page number
 
 -- Why the pages got no frames, where they didn't.
 abbrev pub why_unsupplied : {T : Type 0} → Result T Refused → Option Refusal
@@ -28,11 +33,15 @@ why_unsupplied (Ok x) = None
 why_unsupplied (Err NoFrame) = Some NoFrameLeft
 why_unsupplied (Err Memory) = Some NoMemory
 
--- One claim is made for each of these pages, up to the first that is refused: all get the frames that were given, or none does, and the frames that were given go back.
-pub record SuppliesBy {T : Type 0} (Answers : List Bool → Claim → Type 0) (old_out new_out : List Bool) (pages : List ℕ) (old new : Pages) (result : Result T Refused) : Type 0 where
+-- One claim is made for each of these pages, up to the first that is refused: all get the frames
+-- that were given, or none does, and the frames that were given go back.
+pub record SuppliesBy {T : Type 0} (Answers : List Bool → Claim → Type 0)
+    (old_out new_out : List Bool) (pages : List ℕ) (old new : Pages) (result : Result T Refused) :
+    Type 0 where
   pub claims : List Claim
   pub made : AreClaimsFor pages claims
   pub answered : AllAnswered Answers old_out claims
   pub answer : claim_refusal claims ≡ why_unsupplied result
-  pub supplied : OnOk result (AllSupplied pages (given claims) old new × (new_out ≡ after_claims old_out claims))
+  pub supplied : OnOk result
+      (AllSupplied pages (given claims) old new × (new_out ≡ after_claims old_out claims))
   pub refused : OnErr result ((new ≡ old) × (new_out ≡ old_out))

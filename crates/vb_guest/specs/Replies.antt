@@ -3,7 +3,10 @@ use Rattle.std.specs.Prelude.{ℕ, Bool, List, Option, Some, None, Result, Ok, E
 use Rattle.vb_model.specs.declared.replies.Refusal.{Refusal}
 use Rattle.vb_model.specs.declared.replies.Refusal.TheVariants.{NoMemory}
 use Rattle.vb_model.specs.declared.replies.Reply.{Reply}
-use Rattle.vb_model.specs.declared.replies.Reply.TheVariants.{Ready, Done, Page, ReadBytes, Posted, Taken, Empty, Finished, NotUsed, Reaped, Swept, Pages, Balloon, Refused}
+use Rattle.vb_model.specs.declared.replies.Reply.TheVariants.{Ready, Done, Page, ReadBytes, Posted}
+use Rattle.vb_model.specs.declared.replies.Reply.TheVariants.{Taken, Empty, Finished, NotUsed}
+use Rattle.vb_model.specs.declared.replies.Reply.TheVariants.{Reaped, Swept, Pages, Balloon}
+use Rattle.vb_model.specs.declared.replies.Reply.TheVariants.{Refused}
 use Rattle.vb_model.specs.declared.places.PageRun.{PageRun}
 use Rattle.vb_guest.specs.declared.queries.BalloonState.{BalloonState}
 use Rattle.vb_driver.specs.declared.answers.Posted.{Posted as PostedRequest}

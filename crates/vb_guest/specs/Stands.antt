@@ -1,5 +1,6 @@
 -- What ties a driver, a device's part and guest memory to a guest of the model.
-use Rattle.std.specs.Prelude.{◌≡◌, ℕ, ◌<◌, ◌≤◌, Bool, false, true, List, Option, [], length, replicate, slice_index_or, IsSome, ◌⊎◌}
+use Rattle.std.specs.Prelude.{◌≡◌, ℕ, ◌<◌, ◌≤◌, Bool, false, true, List, Option, [], length}
+use Rattle.std.specs.Prelude.{replicate, slice_index_or, IsSome, ◌⊎◌}
 use Rattle.vb_model.specs.Limits.{is_config, page_size, reserved_pages, ring_and_buffer_pages}
 use Rattle.vb_model.specs.declared.places.Place.{Place}
 use Rattle.vb_model.specs.Pages.{Block}
@@ -12,18 +13,21 @@ use Rattle.vb_ram.specs.Part.{Part, no_queue}
 use Rattle.vb_driver.specs.State.{DriverState, fresh_side}
 use Rattle.vb_guest.specs.Line.{Line}
 
--- ---- beside the queues: each record takes the guest's values one by one, so that it stays as it is
+-- ---- beside the queues: each record takes the guest's values one by one, so that it stays as it
+-- is
 -- where none of these is changed
 
 -- The guest never scribbled; statistics and reports aren't there yet.
-pub record IsPlainGuest (rogue : Bool) (statistics : Buffer) (reports : Requests) (c : Config) : Type 0 where
+pub record IsPlainGuest (rogue : Bool) (statistics : Buffer) (reports : Requests) (c : Config) :
+    Type 0 where
   pub honest : rogue ≡ false
   pub buffer : statistics ≡ NoBuffer
   pub report : reports ≡ no_requests
   pub config : is_config c.pages c.queue_size c.processors ≡ true
 
 -- What the driver keeps is the guest's.
-pub record DriverKeeps (d : DriverState) (c : Config) (at : List Place) (blocks : List Block) (bits : ℕ) : Type 0 where
+pub record DriverKeeps (d : DriverState) (c : Config) (at : List Place) (blocks : List Block)
+    (bits : ℕ) : Type 0 where
   pub pages : d.pages ≡ c.pages
   pub queue_size : d.queue_size ≡ c.queue_size
   pub processors : d.processors ≡ c.processors
@@ -32,7 +36,8 @@ pub record DriverKeeps (d : DriverState) (c : Config) (at : List Place) (blocks 
   pub accepted : d.features ≡ bits
 
 -- What the device keeps is the guest's. It has no frames of its own, and none is loose.
-pub record DeviceKeeps (part : Part) (c : Config) (state bits wanted given : ℕ) (flags : List Bool) (figures : LastStatistics) : Type 0 where
+pub record DeviceKeeps (part : Part) (c : Config) (state bits wanted given : ℕ) (flags : List Bool)
+    (figures : LastStatistics) : Type 0 where
   pub size : part.queue_size ≡ c.queue_size
   pub paced : part.paced ≡ c.paced
   pub status : part.status ≡ state
@@ -55,22 +60,31 @@ beside_queues part = record part { inflate = no_queue; deflate = no_queue }
 
 -- Of a driver, what isn't in its page areas and in its queues.
 abbrev pub beside_sides : DriverState → DriverState
-beside_sides d = record d { areas = record { areas = []; lists = [] }; inflate = fresh_side 0 2; deflate = fresh_side 0 2 }
+beside_sides d = record d {
+  areas = record { areas = []; lists = [] };
+  inflate = fresh_side 0 2;
+  deflate = fresh_side 0 2;
+}
 
 -- Of a guest, what isn't in its requests and in its memory.
 abbrev pub beside_requests : Guest → Guest
-beside_requests g = record g { inflate = no_requests; deflate = no_requests; frames = []; contents = [] }
+beside_requests g = record g
+    { inflate = no_requests; deflate = no_requests; frames = []; contents = [] }
 
 -- The pages of memory have these frames, and the unreserved ones these contents.
-pub record HasPages (mem : Pages) (count : ℕ) (frames : List (Option ℕ)) (contents : List (List ℕ)) : Type 0 where
+pub record HasPages (mem : Pages) (count : ℕ) (frames : List (Option ℕ)) (contents : List (List ℕ))
+    : Type 0 where
   pub length_is : length mem ≡ count
   pub framed : length frames ≡ count
   pub filled : length contents ≡ count
   pub behind : (page : ℕ) → frame_at mem page ≡ frame_of frames page
-  pub holds : (page : ℕ) → reserved_pages ≤ page → page < count → contents_at mem page ≡ slice_index_or contents page []
-  pub sizes : (page : ℕ) → reserved_pages ≤ page → page < count → length (slice_index_or contents page []) ≡ page_size
+  pub holds : (page : ℕ) → reserved_pages ≤ page → page < count
+      → contents_at mem page ≡ slice_index_or contents page []
+  pub sizes : (page : ℕ) → reserved_pages ≤ page → page < count
+      → length (slice_index_or contents page []) ≡ page_size
 
--- Before an initialisation, or after one whose features were refused: nothing was asked of the device.
+-- Before an initialisation, or after one whose features were refused: nothing was asked of the
+-- device.
 pub record IsIdle (g : Guest) : Type 0 where
   pub state : (g.status ≡ 0) ⊎ (g.status ≡ 131)
   pub inflate : g.inflate ≡ no_requests
@@ -79,7 +93,8 @@ pub record IsIdle (g : Guest) : Type 0 where
   pub actual : g.actual ≡ 0
   pub last : g.last ≡ no_statistics
 
--- The device is initialised: the pages of rings and buffers have frames, and both queues stand there.
+-- The device is initialised: the pages of rings and buffers have frames, and both queues stand
+-- there.
 pub record IsRunning (mem : Pages) (part : Part) (d : DriverState) (g : Guest) : Type 0 where
   pub state : g.status ≡ 15
   pub backed : (page : ℕ) → page < ring_and_buffer_pages → IsSome (frame_at mem page)

@@ -1,5 +1,6 @@
 -- What a call on a slot does, in the model's words.
-use Rattle.std.specs.Prelude.{◌≡◌, ℕ, ◌+◌, ◌≤◌, ◌==◌, Bool, false, List, [], length, Option, Some, None, count_by}
+use Rattle.std.specs.Prelude.{◌≡◌, ℕ, ◌+◌, ◌≤◌, ◌==◌, Bool, false, List, [], length, Option, Some}
+use Rattle.std.specs.Prelude.{None, count_by}
 use Rattle.vb_model.specs.declared.calls.Call.{Call}
 use Rattle.vb_model.specs.declared.calls.Claim.{Claim}
 use Rattle.vb_model.specs.declared.replies.Reply.{Reply}
@@ -21,25 +22,32 @@ backing_count n g = count_by (is_frame n) g.frames
 abbrev pub AreOut : Guest → List Bool → Type 0
 AreOut g out = (n : ℕ) → backing_count n g ≤ one_if (is_out out n)
 
--- A step of the guest: what the call's claims were answered, and the guest afterwards, for which New holds. Frames that its pages gain are out then, and those that they lose aren't. The keeper has as many frames as before.
-pub record Steps (New : Guest → Type 0) (Answers : List Bool → Claim → Type 0) (old_out new_out : List Bool) (g : Guest) (call : Call) (reply : Reply) : Type 0 where
+-- A step of the guest: what the call's claims were answered, and the guest afterwards, for which
+-- New holds. Frames that its pages gain are out then, and those that they lose aren't. The keeper
+-- has as many frames as before.
+pub record Steps (New : Guest → Type 0) (Answers : List Bool → Claim → Type 0)
+    (old_out new_out : List Bool) (g : Guest) (call : Call) (reply : Reply) : Type 0 where
   pub claims : List Claim
   pub new : Guest
   pub stands : New new
   pub step : GuestStep g call claims reply new
   pub answered : AllAnswered Answers old_out claims
-  pub balance : (n : ℕ) → one_if (is_out new_out n) + backing_count n g ≡ one_if (is_out old_out n) + backing_count n new
+  pub balance : (n : ℕ)
+      → one_if (is_out new_out n) + backing_count n g
+      ≡ one_if (is_out old_out n) + backing_count n new
   pub count : length new_out ≡ length old_out
 
 -- A step that claims nothing, and of which no frame enters or leaves a page.
-pub record StepsAlone (New : Guest → Type 0) (g : Guest) (call : Call) (reply : Reply) : Type 0 where
+pub record StepsAlone (New : Guest → Type 0) (g : Guest) (call : Call) (reply : Reply) :
+    Type 0 where
   pub new : Guest
   pub stands : New new
   pub step : GuestStep g call [] reply new
   pub frames : new.frames ≡ g.frames
 
 -- A step that claims nothing, in which pages lose the frames of these numbers and no other.
-pub record StepsFreeing (New : Guest → Type 0) (loose : List ℕ) (g : Guest) (call : Call) (reply : Reply) : Type 0 where
+pub record StepsFreeing (New : Guest → Type 0) (loose : List ℕ) (g : Guest) (call : Call)
+    (reply : Reply) : Type 0 where
   pub new : Guest
   pub stands : New new
   pub step : GuestStep g call [] reply new

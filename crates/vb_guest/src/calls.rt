@@ -32,10 +32,12 @@ pub fn call<D: Device, K: FrameKeeper>(
     keeper: &mut K,
     call: &Call,
 ) -> Reply
-    requires stands { (g : Guest) × Stands (D.mem device.old) (D.part device.old) driver.old g × AreOut g (K.out keeper.old) }
+    requires stands { (g : Guest) × Stands (D.mem device.old) (D.part device.old) driver.old g
+        × AreOut g (K.out keeper.old) }
     requires brought { is_call_brought call.now ≡ true }
     ensures step { (g : Guest) → Stands (D.mem device.old) (D.part device.old) driver.old g
-        → Steps (Stands (D.mem device.new) (D.part device.new) driver.new) K.answers (K.out keeper.old) (K.out keeper.new) g call.now result }
+        → Steps (Stands (D.mem device.new) (D.part device.new) driver.new) K.answers
+        (K.out keeper.old) (K.out keeper.new) g call.now result }
 {
     match call {
         Call::Init { features } => ready_reply(init(driver, device, keeper, *features)),
@@ -68,7 +70,8 @@ pub fn call<D: Device, K: FrameKeeper>(
 pub fn query<D: Device>(alloc: Global, driver: &Driver, device: &D, query: &Query) -> Reply
     requires stands { (g : Guest) × Stands (D.mem device.now) (D.part device.now) driver.now g }
     requires brought { is_query_brought query.now ≡ true }
-    ensures answer { (g : Guest) → Stands (D.mem device.now) (D.part device.now) driver.now g → Answers query.now g result }
+    ensures answer { (g : Guest) → Stands (D.mem device.now) (D.part device.now) driver.now g
+        → Answers query.now g result }
 {
     match query {
         Query::Places => Reply::Places {

@@ -17,7 +17,8 @@ use vb_model::{Call, Refusal};
 /// no chain is available. Refused with `NoQueue`, `NotReady` and `Busy`, tested in this order.
 pub fn take<D: Device>(device: &mut D, queue: u32) -> Result<Option<u16>, Refusal>
     ensures { (d : DriverState) (g : Guest) → Stands (D.mem device.old) (D.part device.old) d g
-        → StepsAlone (Stands (D.mem device.new) (D.part device.new) d) g (Call.Take queue) (taken_reply result) }
+        → StepsAlone (Stands (D.mem device.new) (D.part device.new) d) g (Call.Take queue)
+        (taken_reply result) }
 {
     device.take(queue)
 }
@@ -31,9 +32,11 @@ pub fn finish<D: Device, K: FrameKeeper>(
     queue: u32,
     index: u32,
 ) -> Result<u16, Refusal>
-    requires { (d : DriverState) × (g : Guest) × Stands (D.mem device.old) (D.part device.old) d g × AreOut g (K.out keeper.old) }
+    requires { (d : DriverState) × (g : Guest) × Stands (D.mem device.old) (D.part device.old) d g
+        × AreOut g (K.out keeper.old) }
     ensures { (d : DriverState) (g : Guest) → Stands (D.mem device.old) (D.part device.old) d g
-        → Steps (Stands (D.mem device.new) (D.part device.new) d) K.answers (K.out keeper.old) (K.out keeper.new) g (Call.Finish queue index) (finished_reply result) }
+        → Steps (Stands (D.mem device.new) (D.part device.new) d) K.answers (K.out keeper.old)
+        (K.out keeper.new) g (Call.Finish queue index) (finished_reply result) }
 {
     let answer = device.finish(queue, index);
     return_loose(device, keeper);
@@ -47,9 +50,11 @@ pub fn sweep<D: Device, K: FrameKeeper>(
     keeper: &mut K,
     page: u32,
 ) -> Result<bool, Refusal>
-    requires { (d : DriverState) × (g : Guest) × Stands (D.mem device.old) (D.part device.old) d g × AreOut g (K.out keeper.old) }
+    requires { (d : DriverState) × (g : Guest) × Stands (D.mem device.old) (D.part device.old) d g
+        × AreOut g (K.out keeper.old) }
     ensures { (d : DriverState) (g : Guest) → Stands (D.mem device.old) (D.part device.old) d g
-        → Steps (Stands (D.mem device.new) (D.part device.new) d) K.answers (K.out keeper.old) (K.out keeper.new) g (Call.Sweep page) (swept_reply result) }
+        → Steps (Stands (D.mem device.new) (D.part device.new) d) K.answers (K.out keeper.old)
+        (K.out keeper.new) g (Call.Sweep page) (swept_reply result) }
 {
     let answer = device.sweep(page);
     return_loose(device, keeper);

@@ -39,7 +39,8 @@ pub fn inflate<D: Device>(
 ) -> Result<Posted, Refusal>
     requires { (g : Guest) × Stands (D.mem device.old) (D.part device.old) driver.old g }
     ensures { (g : Guest) → Stands (D.mem device.old) (D.part device.old) driver.old g
-        → StepsAlone (Stands (D.mem device.new) (D.part device.new) driver.new) g (Call.Inflate pages) (posted_reply result) }
+        → StepsAlone (Stands (D.mem device.new) (D.part device.new) driver.new) g
+        (Call.Inflate pages) (posted_reply result) }
 {
     driver.inflate(device, pages)
 }
@@ -53,7 +54,8 @@ pub fn deflate<D: Device>(
 ) -> Result<Posted, Refusal>
     requires { (g : Guest) × Stands (D.mem device.old) (D.part device.old) driver.old g }
     ensures { (g : Guest) → Stands (D.mem device.old) (D.part device.old) driver.old g
-        → StepsAlone (Stands (D.mem device.new) (D.part device.new) driver.new) g (Call.Deflate pages) (posted_reply result) }
+        → StepsAlone (Stands (D.mem device.new) (D.part device.new) driver.new) g
+        (Call.Deflate pages) (posted_reply result) }
 {
     driver.deflate(device, pages)
 }
@@ -64,7 +66,8 @@ pub fn deflate<D: Device>(
 pub fn oom<D: Device>(driver: &mut Driver, device: &mut D, pages: u32) -> Result<Posted, Refusal>
     requires { (g : Guest) × Stands (D.mem device.old) (D.part device.old) driver.old g }
     ensures { (g : Guest) → Stands (D.mem device.old) (D.part device.old) driver.old g
-        → StepsAlone (Stands (D.mem device.new) (D.part device.new) driver.new) g (Call.Oom pages) (posted_reply result) }
+        → StepsAlone (Stands (D.mem device.new) (D.part device.new) driver.new) g (Call.Oom pages)
+        (posted_reply result) }
 {
     driver.oom(device, pages)
 }
@@ -78,7 +81,8 @@ pub fn reap<D: Device>(
 ) -> Result<Option<Reaped>, Refusal>
     requires { (g : Guest) × Stands (D.mem device.old) (D.part device.old) driver.old g }
     ensures { (g : Guest) → Stands (D.mem device.old) (D.part device.old) driver.old g
-        → StepsAlone (Stands (D.mem device.new) (D.part device.new) driver.new) g (Call.Reap queue) (reaped_reply result) }
+        → StepsAlone (Stands (D.mem device.new) (D.part device.new) driver.new) g (Call.Reap queue)
+        (reaped_reply result) }
 {
     driver.reap(device, queue)
 }

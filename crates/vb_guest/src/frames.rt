@@ -17,7 +17,9 @@ pub(crate) fn claim_frame<D: Device, K: FrameKeeper>(
     requires { (D.part device.old).keeps ≡ false }
     ensures mem { D.mem device.new ≡ D.mem device.old }
     ensures part { D.part device.new ≡ D.part device.old }
-    ensures given { IfOk result (λ frame. IsFree (K.out keeper.old) frame.number × (K.out keeper.new ≡ slice_set (K.out keeper.old) frame.number true)) }
+    ensures given { IfOk result
+        (λ frame. IsFree (K.out keeper.old) frame.number
+        × (K.out keeper.new ≡ slice_set (K.out keeper.old) frame.number true)) }
     ensures refused { OnErr result (K.out keeper.new ≡ K.out keeper.old) }
     ensures answer { K.answers (K.out keeper.old) (claim_in result) }
     ensures zeros { IfOk result (λ frame. frame.bytes ≡ zero_page) }

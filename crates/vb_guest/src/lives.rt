@@ -27,7 +27,8 @@ fn supply_from<D: Device, K: FrameKeeper>(
 ) -> Result<(), Refused>
     requires keeps { (D.part device.old).keeps ≡ false }
     requires memory { 64 ≤ length (D.mem device.old) }
-    ensures supplies { SuppliesBy K.answers (K.out keeper.old) (K.out keeper.new) (bare_from (D.mem device.old) page) (D.mem device.old) (D.mem device.new) result }
+    ensures supplies { SuppliesBy K.answers (K.out keeper.old) (K.out keeper.new)
+        (bare_from (D.mem device.old) page) (D.mem device.old) (D.mem device.new) result }
     ensures part { D.part device.new ≡ D.part device.old }
 {
     if page >= RING_AND_BUFFER_PAGES {
@@ -61,7 +62,8 @@ pub fn init<D: Device, K: FrameKeeper>(
 ) -> Result<(), Refusal>
     requires { (g : Guest) × Stands (D.mem device.old) (D.part device.old) driver.old g }
     ensures { (g : Guest) → Stands (D.mem device.old) (D.part device.old) driver.old g
-        → Steps (Stands (D.mem device.new) (D.part device.new) driver.new) K.answers (K.out keeper.old) (K.out keeper.new) g (Call.Init wanted) (ready_reply result) }
+        → Steps (Stands (D.mem device.new) (D.part device.new) driver.new) K.answers
+        (K.out keeper.old) (K.out keeper.new) g (Call.Init wanted) (ready_reply result) }
 {
     if device.status().bits() != 0 {
         return Err(Refusal::AlreadyUp);

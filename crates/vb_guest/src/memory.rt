@@ -1,6 +1,7 @@
 //! Bytes of a guest's pages.
 
-ghost use Rattle.std.specs.Prelude.{◌≡◌, ℕ, ◌<◌, ◌≤◌, ◌+◌, None, true, false, length, take, drop, IfOk, IsSome};
+ghost use Rattle.std.specs.Prelude.{◌≡◌, ℕ, ◌<◌, ◌≤◌, ◌+◌, None, true, false, length, take, drop};
+ghost use Rattle.std.specs.Prelude.{IfOk, IsSome};
 ghost use Rattle.vb_model.specs.Guest.{Guest};
 ghost use Rattle.vb_model.specs.Pages.{place_of, is_used};
 ghost use Rattle.vb_ram.specs.Pages.{frame_at, contents_at, Covers, Wrote, Supplied};
@@ -51,12 +52,15 @@ fn write_fresh<D: Device, K: FrameKeeper>(
     offset: u32,
     bytes: &Bytes,
 ) -> Result<(), Refusal>
-    requires stands { (d : DriverState) × (g : Guest) × Stands (D.mem device.old) (D.part device.old) d g }
+    requires stands { (d : DriverState) × (g : Guest)
+        × Stands (D.mem device.old) (D.part device.old) d g }
     requires covers { Covers (D.mem device.old) page offset (length bytes.now) }
     requires some { 0 < length bytes.now }
     requires bare { frame_at (D.mem device.old) page ≡ None }
-    ensures { (d : DriverState) (g : Guest) → is_used (place_of d.places page) ≡ true → Stands (D.mem device.old) (D.part device.old) d g
-        → Steps (Stands (D.mem device.new) (D.part device.new) d) K.answers (K.out keeper.old) (K.out keeper.new) g (Call.Write page offset bytes.now) (done_reply result) }
+    ensures { (d : DriverState) (g : Guest) → is_used (place_of d.places page) ≡ true
+        → Stands (D.mem device.old) (D.part device.old) d g
+        → Steps (Stands (D.mem device.new) (D.part device.new) d) K.answers (K.out keeper.old)
+        (K.out keeper.new) g (Call.Write page offset bytes.now) (done_reply result) }
 {
     let frame = match claim_frame(device, keeper) {
         Ok(frame) => frame,
@@ -82,7 +86,9 @@ pub fn write<D: Device, K: FrameKeeper>(
 ) -> Result<(), Refusal>
     requires { (g : Guest) × Stands (D.mem device.old) (D.part device.old) driver.now g }
     ensures { (g : Guest) → Stands (D.mem device.old) (D.part device.old) driver.now g
-        → Steps (Stands (D.mem device.new) (D.part device.new) driver.now) K.answers (K.out keeper.old) (K.out keeper.new) g (Call.Write page offset bytes.now) (done_reply result) }
+        → Steps (Stands (D.mem device.new) (D.part device.new) driver.now) K.answers
+        (K.out keeper.old) (K.out keeper.new) g (Call.Write page offset bytes.now)
+        (done_reply result) }
 {
     if !driver.held(page) {
         return Err(Refusal::NotHeld);
@@ -114,7 +120,8 @@ fn read_bytes<D: Device>(
 ) -> Result<Bytes, AllocError>
     requires covers { Covers (D.mem device.now) page offset len }
     requires whole { length (contents_at (D.mem device.now) page) ≡ 4096 }
-    ensures { IfOk result (λ bytes. bytes ≡ take len (drop offset (contents_at (D.mem device.now) page))) }
+    ensures { IfOk result
+        (λ bytes. bytes ≡ take len (drop offset (contents_at (D.mem device.now) page))) }
 {
     let mut bytes = vec![in alloc; 0; len as usize]?;
     match device.read(page, offset as usize, &mut bytes) {
@@ -136,7 +143,8 @@ pub fn read<D: Device>(
 ) -> Result<Bytes, Refusal>
     requires { (g : Guest) × Stands (D.mem device.now) (D.part device.now) driver.now g }
     ensures { (g : Guest) → Stands (D.mem device.now) (D.part device.now) driver.now g
-        → StepsAlone (Stands (D.mem device.now) (D.part device.now) driver.now) g (Call.Read page offset len) (bytes_reply result) }
+        → StepsAlone (Stands (D.mem device.now) (D.part device.now) driver.now) g
+        (Call.Read page offset len) (bytes_reply result) }
 {
     if !driver.held(page) {
         return Err(Refusal::NotHeld);

@@ -32,14 +32,16 @@ pub struct BalloonState {
 
 /// How many pages each place has.
 pub fn places(driver: &Driver) -> PlaceCounts
-    ensures { (mem : Pages) (part : Part) (g : Guest) → Stands mem part driver.now g → Answers Query.Places g (Places result) }
+    ensures { (mem : Pages) (part : Part) (g : Guest) → Stands mem part driver.now g
+        → Answers Query.Places g (Places result) }
 {
     driver.places()
 }
 
 /// The count of ballooned pages, the configuration's two numbers and the status.
 pub fn balloon<D: Device>(driver: &Driver, device: &D) -> BalloonState
-    ensures { (g : Guest) → Stands (D.mem device.now) (D.part device.now) driver.now g → Answers Query.Balloon g (balloon_reply result) }
+    ensures { (g : Guest) → Stands (D.mem device.now) (D.part device.now) driver.now g
+        → Answers Query.Balloon g (balloon_reply result) }
 {
     BalloonState {
         ballooned: device.ballooned_count(),
@@ -68,7 +70,9 @@ fn is_at(place: Place, other: Place) -> bool
 
 /// Adds a page, above those before it, to the runs.
 fn push_page(found: &mut Vec<PageRun>, page: u32) -> Result<(), AllocError>
-    ensures { OnOk result ((pages : List ℕ) → found.old.items ≡ runs pages → found.new.items ≡ runs (pages ++ (page ∷ []))) }
+    ensures { OnOk result
+        ((pages : List ℕ) → found.old.items ≡ runs pages
+        → found.new.items ≡ runs (pages ++ (page ∷ []))) }
 {
     let count = found.len();
     if count > 0 && u64::from(found[count - 1].last) + 1 == u64::from(page) {
@@ -101,7 +105,8 @@ fn runs_at(alloc: Global, driver: &Driver, count: u32, place: Place) -> Result<P
 /// The runs of the ballooned pages.
 fn ballooned_runs<D: Device>(alloc: Global, device: &D, count: u32) -> Result<PageRuns, AllocError>
     requires { count ≡ length (D.part device.now).ballooned }
-    ensures { IfOk result (λ found. found ≡ runs (pages_where (λ flag. flag) (D.part device.now).ballooned)) }
+    ensures { IfOk result
+        (λ found. found ≡ runs (pages_where (λ flag. flag) (D.part device.now).ballooned)) }
 {
     let mut found = Vec::new(alloc);
     for page in 0..count {
@@ -120,7 +125,8 @@ pub fn pages_at<D: Device>(
     place: Place,
 ) -> Result<PageRuns, AllocError>
     requires { (g : Guest) × Stands (D.mem device.now) (D.part device.now) driver.now g }
-    ensures { (g : Guest) → Stands (D.mem device.now) (D.part device.now) driver.now g → Answers (Query.PagesAt place) g (runs_reply result) }
+    ensures { (g : Guest) → Stands (D.mem device.now) (D.part device.now) driver.now g
+        → Answers (Query.PagesAt place) g (runs_reply result) }
 {
     runs_at(alloc, driver, device.pages(), place)
 }
@@ -129,7 +135,8 @@ pub fn pages_at<D: Device>(
 /// refusal.
 pub fn pages_ballooned<D: Device>(alloc: Global, device: &D) -> Result<PageRuns, AllocError>
     requires { (d : DriverState) × (g : Guest) × Stands (D.mem device.now) (D.part device.now) d g }
-    ensures { (d : DriverState) (g : Guest) → Stands (D.mem device.now) (D.part device.now) d g → Answers Query.PagesBallooned g (runs_reply result) }
+    ensures { (d : DriverState) (g : Guest) → Stands (D.mem device.now) (D.part device.now) d g
+        → Answers Query.PagesBallooned g (runs_reply result) }
 {
     ballooned_runs(alloc, device, device.pages())
 }

@@ -1,7 +1,9 @@
 //! What the calls on a guest answer, as replies.
 
 ghost use Rattle.std.specs.Prelude.{◌≡◌};
-ghost use Rattle.vb_guest.specs.Replies.{ready_reply, page_reply, done_reply, bytes_reply, posted_reply, reaped_reply, taken_reply, finished_reply, swept_reply, runs_reply, balloon_reply};
+ghost use Rattle.vb_guest.specs.Replies.{ready_reply, page_reply, done_reply, bytes_reply};
+ghost use Rattle.vb_guest.specs.Replies.{posted_reply, reaped_reply, taken_reply, finished_reply};
+ghost use Rattle.vb_guest.specs.Replies.{swept_reply, runs_reply, balloon_reply};
 
 use crate::queries::BalloonState;
 use std::alloc::AllocError;

@@ -1,21 +1,32 @@
 -- Two steps of an honest guest by one call, with the same claims, agree.
-use Rattle.std.proofs.Common.{◌≡◌, ℕ, ◌<◌, List, [], ◌∷◌, ◌++◌, length, take, drop, sym, ap, ◌∙◌, ◌⊎◌, inl, inr, arith}
+use Rattle.std.proofs.Common.{◌≡◌, ℕ, ◌<◌, List, [], ◌∷◌, ◌++◌, length, take, drop, sym, ap, ◌∙◌}
+use Rattle.std.proofs.Common.{◌⊎◌, inl, inr, arith}
 use Rattle.std.specs.Prelude.{Option, Some, None, MatchOption, if◌then◌else◌}
 use Rattle.std.proofs.lemmas.Bool.{cases_lt}
 use Rattle.vb_model.specs.declared.calls.Call.{Call}
-use Rattle.vb_model.specs.declared.calls.Call.TheVariants.{Init, Reset, Alloc, Free, Read, Write, Scribble, Inflate, Deflate, Oom, Report, Stats, Reap, Take, Work, Finish, Sweep, Ask, SetTarget}
+use Rattle.vb_model.specs.declared.calls.Call.TheVariants.{Init, Reset, Alloc, Free, Read, Write}
+use Rattle.vb_model.specs.declared.calls.Call.TheVariants.{Scribble, Inflate, Deflate, Oom, Report}
+use Rattle.vb_model.specs.declared.calls.Call.TheVariants.{Stats, Reap, Take, Work, Finish, Sweep}
+use Rattle.vb_model.specs.declared.calls.Call.TheVariants.{Ask, SetTarget}
 use Rattle.vb_model.specs.declared.places.Place.TheVariants.{Used}
 use Rattle.vb_model.specs.declared.replies.Refusal.{Refusal}
 use Rattle.vb_model.specs.declared.replies.Refusal.TheVariants.{NoMemory}
 use Rattle.vb_model.specs.declared.replies.Reply.{Reply}
-use Rattle.vb_model.specs.declared.replies.Reply.TheVariants.{Done, Page, ReadBytes, Posted, Finished, Refused}
+use Rattle.vb_model.specs.declared.replies.Reply.TheVariants.{Done, Page, ReadBytes, Posted}
+use Rattle.vb_model.specs.declared.replies.Reply.TheVariants.{Finished, Refused}
 use Rattle.vb_model.specs.Pages.{pages_of, pages_of_all, placed}
-use Rattle.vb_model.specs.Requests.{Request, Requests, all_requests, headed, IsLeastHead, Kind, Inflating, Deflating, Reporting_free, kind_of_queue, Buffer, NoBuffer, BufferPosted, BufferTaken, BufferDone}
+use Rattle.vb_model.specs.Requests.{Request, Requests, all_requests, headed, IsLeastHead, Kind}
+use Rattle.vb_model.specs.Requests.{Inflating, Deflating, Reporting_free, kind_of_queue, Buffer}
+use Rattle.vb_model.specs.Requests.{NoBuffer, BufferPosted, BufferTaken, BufferDone}
 use Rattle.vb_model.specs.Guest.{Guest, requests}
-use Rattle.vb_model.specs.Refusals.{refusal_of, inflate_count, reported_blocks, deflate_count, oom_count}
+use Rattle.vb_model.specs.Refusals.{refusal_of, inflate_count, reported_blocks, deflate_count}
+use Rattle.vb_model.specs.Refusals.{oom_count}
 use Rattle.vb_model.specs.declared.calls.Claim.{Claim}
-use Rattle.vb_model.specs.Driver.{claim_refusal, contents_of, lowest_lent, Supplying, with_block, asking, stranded_first, Deflates, Reports, Reaps, Fills, Written, pages_needed}
-use Rattle.vb_model.specs.Device.{Takes, TakesBuffer, Works, Finishes, Asks, next_page, settled, used}
+use Rattle.vb_model.specs.Driver.{claim_refusal, contents_of, lowest_lent, Supplying, with_block}
+use Rattle.vb_model.specs.Driver.{asking, stranded_first, Deflates, Reports, Reaps, Fills, Written}
+use Rattle.vb_model.specs.Driver.{pages_needed}
+use Rattle.vb_model.specs.Device.{Takes, TakesBuffer, Works, Finishes, Asks, next_page, settled}
+use Rattle.vb_model.specs.Device.{used}
 use Rattle.vb_model.specs.Life.{feature_refusal, Negotiates, lacking}
 use Rattle.vb_model.specs.Rogue.{Scribbled}
 use Rattle.vb_model.specs.Step.{Performs, HonestStep}
@@ -28,10 +39,12 @@ abbrev Same : Reply → Guest → Reply → Guest → Type 0
 Same r new r' new' = (r ≡ r') × (new ≡ new')
 
 -- both are the same answer and the same guest
-both : (r r' answer : Reply) (new new' left : Guest) → r ≡ answer → new ≡ left → r' ≡ answer → new' ≡ left → Same r new r' new'
+both : (r r' answer : Reply) (new new' left : Guest) → r ≡ answer → new ≡ left → r' ≡ answer
+    → new' ≡ left → Same r new r' new'
 both r r' answer new new' left a b c d = (a ∙ sym c, b ∙ sym d)
 
-same_case : {X : Type 0} (o : Option X) (P P' : Type 0) (Q Q' : X → Type 0) (R : Type 0) → MatchOption o P Q → MatchOption o P' Q' → (P → P' → R) → ((x : X) → Q x → Q' x → R) → R
+same_case : {X : Type 0} (o : Option X) (P P' : Type 0) (Q Q' : X → Type 0) (R : Type 0)
+    → MatchOption o P Q → MatchOption o P' Q' → (P → P' → R) → ((x : X) → Q x → Q' x → R) → R
 same_case None P P' Q Q' R s t none some = none s t
 same_case (Some x) P P' Q Q' R s t none some = some x s t
 
@@ -40,9 +53,11 @@ same_case (Some x) P P' Q Q' R s t none some = some x s t
 least_same : (rs : Requests) (a b : ℕ) → IsLeastHead rs a → IsLeastHead rs b → a ≡ b
 least_same rs a b p q =
     elim (cases_lt a b) [
-      | inl l ↦ let some : 0 < headed a (all_requests rs) = q.least a l in let none : headed a (all_requests rs) ≡ 0 = p.new in absurd (omega arith)
+      | inl l ↦ let some : 0 < headed a (all_requests rs) = q.least a l in
+          let none : headed a (all_requests rs) ≡ 0 = p.new in absurd (omega arith)
       | inr ge ↦ elim (cases_lt b a) [
-        | inl l ↦ let some : 0 < headed b (all_requests rs) = p.least b l in let none : headed b (all_requests rs) ≡ 0 = q.new in absurd (omega arith)
+        | inl l ↦ let some : 0 < headed b (all_requests rs) = p.least b l in
+            let none : headed b (all_requests rs) ≡ 0 = q.new in absurd (omega arith)
         | inr le ↦ omega arith
       ]
     ]
@@ -54,9 +69,13 @@ same_last (r ∷ rs) a b e = same_last rs a b (let t : rs ++ (a ∷ []) ≡ rs +
 abbrev posted_of : Requests → List Request
 posted_of rs = rs.posted
 
-same_named : (head : ℕ) (a b : List ℕ) (g new new' : Guest) → new ≡ asking Inflating head a g → new' ≡ asking Inflating head b g → new.inflate ≡ new'.inflate → new ≡ new'
+same_named : (head : ℕ) (a b : List ℕ) (g new new' : Guest) → new ≡ asking Inflating head a g
+    → new' ≡ asking Inflating head b g → new.inflate ≡ new'.inflate → new ≡ new'
 same_named head a b g new new' e e' same =
-    let listed : (asking Inflating head a g).inflate.posted ≡ (asking Inflating head b g).inflate.posted = ap (λ (x : Guest). x.inflate.posted) (sym e) ∙ (ap posted_of same ∙ ap (λ (x : Guest). x.inflate.posted) e') in
+    let listed : (asking Inflating head a g).inflate.posted
+    ≡ (asking Inflating head b g).inflate.posted =
+    ap (λ (x : Guest). x.inflate.posted) (sym e)
+    ∙ (ap posted_of same ∙ ap (λ (x : Guest). x.inflate.posted) e') in
     let last : request a ≡ request b = same_last g.inflate.posted (request a) (request b) listed in
     let pages : a ≡ b = ap (λ (r : Request). r.pages) last in
     e ∙ (ap (λ (ps : List ℕ). asking Inflating head ps g) pages ∙ sym e')
@@ -66,135 +85,199 @@ same_named head a b g new new' e e' same =
 
 -- ---- the parts of steps
 
-fills_same : (buffer : Buffer) (g : Guest) (r : Reply) (new : Guest) (r' : Reply) (new' : Guest) → Fills buffer g r new → Fills buffer g r' new' → Same r new r' new'
+fills_same : (buffer : Buffer) (g : Guest) (r : Reply) (new : Guest) (r' : Reply) (new' : Guest)
+    → Fills buffer g r new → Fills buffer g r' new' → Same r new r' new'
 fills_same NoBuffer g r new r' new' s t = both r r' _ new new' _ s.0 s.1 t.0 t.1
 fills_same (BufferPosted f) g r new r' new' s t = both r r' _ new new' _ s.0 s.1 t.0 t.1
 fills_same (BufferTaken f) g r new r' new' s t = both r r' _ new new' _ s.0 s.1 t.0 t.1
 fills_same (BufferDone f) g r new r' new' s t = both r r' _ new new' _ s.0 s.1 t.0 t.1
 
-takes_buffer_same : (buffer : Buffer) (g : Guest) (r : Reply) (new : Guest) (r' : Reply) (new' : Guest) → TakesBuffer buffer g r new → TakesBuffer buffer g r' new' → Same r new r' new'
+takes_buffer_same : (buffer : Buffer) (g : Guest) (r : Reply) (new : Guest) (r' : Reply)
+    (new' : Guest) → TakesBuffer buffer g r new → TakesBuffer buffer g r' new' → Same r new r' new'
 takes_buffer_same NoBuffer g r new r' new' s t = both r r' _ new new' _ s.0 s.1 t.0 t.1
 takes_buffer_same (BufferPosted f) g r new r' new' s t = both r r' _ new new' _ s.0 s.1 t.0 t.1
 takes_buffer_same (BufferTaken f) g r new r' new' s t = both r r' _ new new' _ s.0 s.1 t.0 t.1
 takes_buffer_same (BufferDone f) g r new r' new' s t = both r r' _ new new' _ s.0 s.1 t.0 t.1
 
-asks_same : (buffer : Buffer) (g : Guest) (r : Reply) (new : Guest) (r' : Reply) (new' : Guest) → Asks buffer g r new → Asks buffer g r' new' → Same r new r' new'
+asks_same : (buffer : Buffer) (g : Guest) (r : Reply) (new : Guest) (r' : Reply) (new' : Guest)
+    → Asks buffer g r new → Asks buffer g r' new' → Same r new r' new'
 asks_same NoBuffer g r new r' new' s t = absurd s
 asks_same (BufferPosted f) g r new r' new' s t = absurd s
 asks_same (BufferTaken f) g r new r' new' s t = both r r' _ new new' _ s.0 s.1 t.0 t.1
 asks_same (BufferDone f) g r new r' new' s t = absurd s
 
-reaps_same : (kind : Kind) (done : List Request) (g : Guest) (r : Reply) (new : Guest) (r' : Reply) (new' : Guest) → Reaps kind done g r new → Reaps kind done g r' new' → Same r new r' new'
+reaps_same : (kind : Kind) (done : List Request) (g : Guest) (r : Reply) (new : Guest) (r' : Reply)
+    (new' : Guest) → Reaps kind done g r new → Reaps kind done g r' new' → Same r new r' new'
 reaps_same kind [] g r new r' new' s t = both r r' _ new new' _ s.0 s.1 t.0 t.1
 reaps_same kind (x ∷ rest) g r new r' new' s t = both r r' _ new new' _ s.0 s.1 t.0 t.1
 
-takes_same : (kind : Kind) (posted : List Request) (g : Guest) (r : Reply) (new : Guest) (r' : Reply) (new' : Guest) → Takes kind posted g r new → Takes kind posted g r' new' → Same r new r' new'
+takes_same : (kind : Kind) (posted : List Request) (g : Guest) (r : Reply) (new : Guest)
+    (r' : Reply) (new' : Guest) → Takes kind posted g r new → Takes kind posted g r' new'
+    → Same r new r' new'
 takes_same kind [] g r new r' new' s t = both r r' _ new new' _ s.0 s.1 t.0 t.1
 takes_same kind (x ∷ rest) g r new r' new' s t = both r r' _ new new' _ s.0 s.1 t.0 t.1
 
 same_request : (a b : Request) → Some a ≡ Some b → a ≡ b
 same_request a b e = cc
 
-finishes_same : (kind : Kind) (i : ℕ) (g : Guest) (r : Reply) (new : Guest) (r' : Reply) (new' : Guest) → Finishes kind i g r new → Finishes kind i g r' new' → Same r new r' new'
+finishes_same : (kind : Kind) (i : ℕ) (g : Guest) (r : Reply) (new : Guest) (r' : Reply)
+    (new' : Guest) → Finishes kind i g r new → Finishes kind i g r' new' → Same r new r' new'
 finishes_same kind i g r new r' new' s t =
-    let same : s.0 ≡ t.0 = same_request s.0 t.0 (sym s.1 ∙ t.1) in
-    (s.2 ∙ (ap (λ (x : Request). Finished x.head) same ∙ sym t.2), s.3 ∙ (ap (λ (x : Request). settled kind x.pages (used kind i x g)) same ∙ sym t.3))
+    let same : s.0 ≡ t.0 = same_request s.0 t.0 (sym s.1 ∙ t.1) in (
+      s.2 ∙ (ap (λ (x : Request). Finished x.head) same ∙ sym t.2),
+      s.3
+          ∙ (ap (λ (x : Request). settled kind x.pages (used kind i x g)) same ∙ sym t.3),
+    )
 
-deflates_same : (count : ℕ) (g : Guest) (r : Reply) (new : Guest) (r' : Reply) (new' : Guest) → Deflates count g r new → Deflates count g r' new' → Same r new r' new'
+deflates_same : (count : ℕ) (g : Guest) (r : Reply) (new : Guest) (r' : Reply) (new' : Guest)
+    → Deflates count g r new → Deflates count g r' new' → Same r new r' new'
 deflates_same count g r new r' new' s t =
-    let same : s.0 ≡ t.0 = least_same g.deflate s.0 t.0 s.1 t.1 in
-    (s.2 ∙ (ap (λ (h : ℕ). Posted h count) same ∙ sym t.2), s.3 ∙ (ap (λ (h : ℕ). asking Deflating h (lowest_lent count g) g) same ∙ sym t.3))
+    let same : s.0 ≡ t.0 = least_same g.deflate s.0 t.0 s.1 t.1 in (
+      s.2 ∙ (ap (λ (h : ℕ). Posted h count) same ∙ sym t.2),
+      s.3
+          ∙ (ap (λ (h : ℕ). asking Deflating h (lowest_lent count g) g) same ∙ sym t.3),
+    )
 
-reports_same : (from : ℕ) (g : Guest) (r : Reply) (new : Guest) (r' : Reply) (new' : Guest) → Reports from g r new → Reports from g r' new' → Same r new r' new'
+reports_same : (from : ℕ) (g : Guest) (r : Reply) (new : Guest) (r' : Reply) (new' : Guest)
+    → Reports from g r new → Reports from g r' new' → Same r new r' new'
 reports_same from g r new r' new' s t =
     let same : s.0 ≡ t.0 = least_same g.report s.0 t.0 s.1 t.1 in
-    let pages : List ℕ = pages_of_all (reported_blocks g from) in
-    (s.2 ∙ (ap (λ (h : ℕ). Posted h (length pages)) same ∙ sym t.2), s.3 ∙ (ap (λ (h : ℕ). asking Reporting_free h pages g) same ∙ sym t.3))
+    let pages : List ℕ = pages_of_all (reported_blocks g from) in (
+      s.2 ∙ (ap (λ (h : ℕ). Posted h (length pages)) same ∙ sym t.2),
+      s.3
+          ∙ (ap (λ (h : ℕ). asking Reporting_free h pages g) same ∙ sym t.3),
+    )
 
-works_same : (g : Guest) (r : Reply) (new : Guest) (r' : Reply) (new' : Guest) → Works g r new → Works g r' new' → Same r new r' new'
+works_same : (g : Guest) (r : Reply) (new : Guest) (r' : Reply) (new' : Guest) → Works g r new
+    → Works g r' new' → Same r new r' new'
 works_same g r new r' new' s t =
-    same_case (if g.config.paced then next_page g.inflate.taken else None) _ _ _ _ (Same r new r' new') s t
-    (λ s t. same_case (if g.config.paced then next_page g.report.taken else None) _ _ _ _ (Same r new r' new') s t
+    same_case (if g.config.paced then next_page g.inflate.taken else None) _ _ _ _
+    (Same r new r' new') s t
+    (λ s t. same_case (if g.config.paced then next_page g.report.taken else None) _ _ _ _
+    (Same r new r' new') s t
     (λ s t. both r r' _ new new' _ s.0 s.1 t.0 t.1)
     (λ page s t. both r r' _ new new' _ s.0 s.1 t.0 t.1))
     (λ page s t. both r r' _ new new' _ s.0 s.1 t.0 t.1)
 
-negotiates_same : (o : Option Refusal) (wanted : ℕ) (g : Guest) (r : Reply) (new : Guest) (r' : Reply) (new' : Guest) → Negotiates o wanted g r new → Negotiates o wanted g r' new' → Same r new r' new'
+negotiates_same : (o : Option Refusal) (wanted : ℕ) (g : Guest) (r : Reply) (new : Guest)
+    (r' : Reply) (new' : Guest) → Negotiates o wanted g r new → Negotiates o wanted g r' new'
+    → Same r new r' new'
 negotiates_same None wanted g r new r' new' s t = both r r' _ new new' _ s.0 s.1 t.0 t.1
 negotiates_same (Some refusal) wanted g r new r' new' s t = both r r' _ new new' _ s.0 s.1 t.0 t.1
 
-reads_same : (bytes r r' : Reply) → (r ≡ bytes) ⊎ (r ≡ Refused NoMemory) → (r' ≡ bytes) ⊎ (r' ≡ Refused NoMemory) → (r ≡ r') ⊎ ((r ≡ Refused NoMemory) ⊎ (r' ≡ Refused NoMemory))
+reads_same : (bytes r r' : Reply) → (r ≡ bytes) ⊎ (r ≡ Refused NoMemory)
+    → (r' ≡ bytes) ⊎ (r' ≡ Refused NoMemory)
+    → (r ≡ r') ⊎ ((r ≡ Refused NoMemory) ⊎ (r' ≡ Refused NoMemory))
 reads_same bytes r r' (inl a) (inl b) = inl (a ∙ sym b)
 reads_same bytes r r' (inr a) b = inr (inl a)
 reads_same bytes r r' (inl a) (inr b) = inr (inr b)
 
 -- the claims are the same, so both are given or both are refused
-supplies_same : (pages : List ℕ) (g : Guest) (claims : List Claim) (r : Reply) (new : Guest) (r' : Reply) (new' : Guest) (Rest Rest' : Guest → Type 0) → Supplying pages g claims r new Rest → Supplying pages g claims r' new' Rest' → ((m : Guest) → Rest m → Rest' m → Same r new r' new') → Same r new r' new'
+supplies_same : (pages : List ℕ) (g : Guest) (claims : List Claim) (r : Reply) (new : Guest)
+    (r' : Reply) (new' : Guest) (Rest Rest' : Guest → Type 0) → Supplying pages g claims r new Rest
+    → Supplying pages g claims r' new' Rest' → ((m : Guest) → Rest m → Rest' m → Same r new r' new')
+    → Same r new r' new'
 supplies_same pages g claims r new r' new' Rest Rest' s t rest =
-    same_case (claim_refusal claims) (Rest (supplied pages claims g)) (Rest' (supplied pages claims g)) (λ refusal. (r ≡ Refused refusal) × (new ≡ g)) (λ refusal. (r' ≡ Refused refusal) × (new' ≡ g)) (Same r new r' new') s.1 t.1
+    same_case (claim_refusal claims) (Rest (supplied pages claims g))
+    (Rest' (supplied pages claims g)) (λ refusal. (r ≡ Refused refusal) × (new ≡ g))
+    (λ refusal. (r' ≡ Refused refusal) × (new' ≡ g)) (Same r new r' new') s.1 t.1
     (λ s t. rest (supplied pages claims g) s t)
     (λ refusal s t. both r r' _ new new' _ s.0 s.1 t.0 t.1)
 
 -- ---- one call
 
-performs_agree : (call : Call) (g : Guest) (claims : List Claim) (r : Reply) (new : Guest) (r' : Reply) (new' : Guest) → Performs call g claims r new → Performs call g claims r' new' → Agree call r new r' new'
+performs_agree : (call : Call) (g : Guest) (claims : List Claim) (r : Reply) (new : Guest)
+    (r' : Reply) (new' : Guest) → Performs call g claims r new → Performs call g claims r' new'
+    → Agree call r new r' new'
 performs_agree (SetTarget n) g claims r new r' new' s t = both r r' _ new new' _ s.1 s.2 t.1 t.2
 performs_agree Reset g claims r new r' new' s t = both r r' _ new new' _ s.1 s.2 t.1 t.2
-performs_agree (Free cpu start order) g claims r new r' new' s t = both r r' _ new new' _ s.1 s.2 t.1 t.2
-performs_agree (Sweep page) g claims r new r' new' s t = both r r' _ new new' _ s.1.0 s.1.1 t.1.0 t.1.1
-performs_agree (Read page offset len) g claims r new r' new' s t = (s.2 ∙ sym t.2, reads_same (ReadBytes (take len (drop offset (contents_of g page)))) r r' s.1 t.1)
+performs_agree (Free cpu start order) g claims r new r' new' s t =
+    both r r' _ new new' _ s.1 s.2 t.1 t.2
+performs_agree (Sweep page) g claims r new r' new' s t =
+    both r r' _ new new' _ s.1.0 s.1.1 t.1.0 t.1.1
+performs_agree (Read page offset len) g claims r new r' new' s t = (
+  s.2 ∙ sym t.2,
+  reads_same (ReadBytes (take len (drop offset (contents_of g page)))) r r' s.1
+      t.1,
+)
 performs_agree (Alloc cpu order) g claims r new r' new' s t = (
   λ e.
       let told : Page s.1.0 ≡ Page t.1.0 = sym s.1.2 ∙ (e ∙ t.1.2) in
       let start : s.1.0 ≡ t.1.0 = cc in
-      s.1.3 ∙ (ap (λ (x : ℕ). record g { places = placed (pages_of (record { start = x; order = order })) Used g.places; held = with_block (record { start = x; order = order }) g.held }) start ∙ sym t.1.3),
+      s.1.3 ∙ (ap (λ (x : ℕ). record g {
+        places = placed (pages_of (record { start = x; order = order })) Used g.places;
+        held = with_block (record { start = x; order = order }) g.held;
+      }) start ∙ sym t.1.3),
   λ refusal e. absurd (let told : Page s.1.0 ≡ Refused refusal = sym s.1.2 ∙ e in cc),
 )
 performs_agree (Inflate n) g claims r new r' new' s t =
     let head : s.1.0 ≡ t.1.0 = least_same g.inflate s.1.0 t.1.0 s.1.2 t.1.2 in (
       s.1.6 ∙ (ap (λ (h : ℕ). Posted h (inflate_count g n)) head ∙ sym t.1.6),
-      λ e. same_named t.1.0 (stranded_first g n ++ s.1.1) (stranded_first g n ++ t.1.1) g new new' (s.1.7 ∙ ap (λ (h : ℕ). asking Inflating h (stranded_first g n ++ s.1.1) g) head) t.1.7 e,
+      λ e. same_named t.1.0 (stranded_first g n ++ s.1.1) (stranded_first g n ++ t.1.1) g new new'
+          (s.1.7 ∙ ap (λ (h : ℕ). asking Inflating h (stranded_first g n ++ s.1.1) g) head) t.1.7 e,
     )
-performs_agree (Deflate n) g claims r new r' new' s t = deflates_same (deflate_count g n) g r new r' new' s.1 t.1
-performs_agree (Oom n) g claims r new r' new' s t = deflates_same (oom_count g n) g r new r' new' s.1 t.1
+performs_agree (Deflate n) g claims r new r' new' s t =
+    deflates_same (deflate_count g n) g r new r' new' s.1 t.1
+performs_agree (Oom n) g claims r new r' new' s t =
+    deflates_same (oom_count g n) g r new r' new' s.1 t.1
 performs_agree (Report from) g claims r new r' new' s t = reports_same from g r new r' new' s.1 t.1
 performs_agree Stats g claims r new r' new' s t = fills_same g.buffer g r new r' new' s.1 t.1
 performs_agree Ask g claims r new r' new' s t = asks_same g.buffer g r new r' new' s.1 t.1
 performs_agree (Reap q) g claims r new r' new' s t =
-    same_case (kind_of_queue q) ⊥ ⊥ (λ kind. Reaps kind (requests kind g).done g r new) (λ kind. Reaps kind (requests kind g).done g r' new') (Same r new r' new') s.1 t.1
+    same_case (kind_of_queue q) ⊥ ⊥ (λ kind. Reaps kind (requests kind g).done g r new)
+    (λ kind. Reaps kind (requests kind g).done g r' new') (Same r new r' new') s.1 t.1
     (λ s t. absurd s)
     (λ kind s t. reaps_same kind (requests kind g).done g r new r' new' s t)
 performs_agree (Take q) g claims r new r' new' s t =
-    same_case (kind_of_queue q) (TakesBuffer g.buffer g r new) (TakesBuffer g.buffer g r' new') (λ kind. Takes kind (requests kind g).posted g r new) (λ kind. Takes kind (requests kind g).posted g r' new') (Same r new r' new') s.1 t.1
+    same_case (kind_of_queue q) (TakesBuffer g.buffer g r new) (TakesBuffer g.buffer g r' new')
+    (λ kind. Takes kind (requests kind g).posted g r new)
+    (λ kind. Takes kind (requests kind g).posted g r' new') (Same r new r' new') s.1 t.1
     (λ s t. takes_buffer_same g.buffer g r new r' new' s t)
     (λ kind s t. takes_same kind (requests kind g).posted g r new r' new' s t)
 performs_agree Work g claims r new r' new' s t = works_same g r new r' new' s.1 t.1
 performs_agree (Finish q i) g claims r new r' new' s t =
-    same_case (kind_of_queue q) ⊥ ⊥ (λ kind. Finishes kind i g r new) (λ kind. Finishes kind i g r' new') (Same r new r' new') s.1 t.1
+    same_case (kind_of_queue q) ⊥ ⊥ (λ kind. Finishes kind i g r new)
+    (λ kind. Finishes kind i g r' new') (Same r new r' new') s.1 t.1
     (λ s t. absurd s)
     (λ kind s t. finishes_same kind i g r new r' new' s t)
 performs_agree (Init wanted) g claims r new r' new' s t =
-    supplies_same (lacking g) g claims r new r' new' (λ m. Negotiates (feature_refusal wanted) wanted m r new) (λ m. Negotiates (feature_refusal wanted) wanted m r' new') s t (λ m s t. negotiates_same (feature_refusal wanted) wanted m r new r' new' s t)
+    supplies_same (lacking g) g claims r new r' new'
+    (λ m. Negotiates (feature_refusal wanted) wanted m r new)
+    (λ m. Negotiates (feature_refusal wanted) wanted m r' new') s t
+    (λ m s t. negotiates_same (feature_refusal wanted) wanted m r new r' new' s t)
 performs_agree (Write page offset bytes) g claims r new r' new' s t =
-    supplies_same (pages_needed page bytes g) g claims r new r' new' (λ m. Written page offset bytes m r new) (λ m. Written page offset bytes m r' new') s t (λ m s t. both r r' _ new new' _ s.0 s.1 t.0 t.1)
+    supplies_same (pages_needed page bytes g) g claims r new r' new'
+    (λ m. Written page offset bytes m r new) (λ m. Written page offset bytes m r' new') s t
+    (λ m s t. both r r' _ new new' _ s.0 s.1 t.0 t.1)
 performs_agree (Scribble page offset bytes) g claims r new r' new' s t =
-    same_case (claim_refusal claims) (Scribbled m r new) (Scribbled m r' new') (λ refusal. (r ≡ Refused refusal) × (new ≡ g)) (λ refusal. (r' ≡ Refused refusal) × (new' ≡ g)) (Agree (Scribble page offset bytes) r new r' new') s.1 t.1
-    (λ s t. (s.answered ∙ sym t.answered, λ refusal e. absurd (let told : Done ≡ Refused refusal = sym s.answered ∙ e in cc)))
+    same_case (claim_refusal claims) (Scribbled m r new) (Scribbled m r' new')
+    (λ refusal. (r ≡ Refused refusal) × (new ≡ g))
+    (λ refusal. (r' ≡ Refused refusal) × (new' ≡ g))
+    (Agree (Scribble page offset bytes) r new r' new') s.1 t.1
+    (λ s t. (
+      s.answered ∙ sym t.answered,
+      λ refusal e. absurd (let told : Done ≡ Refused refusal = sym s.answered ∙ e in cc),
+    ))
     (λ refusal s t. (s.0 ∙ sym t.0, λ refusal e. s.1 ∙ sym t.1))
   where
     m : Guest
     m = supplied (pages_needed page bytes g) claims g
 
 -- a refusal is the same, and both leave the guest as it was
-refused_agree : (call : Call) (g : Guest) (refusal : Refusal) (r : Reply) (new : Guest) (r' : Reply) (new' : Guest) → r ≡ Refused refusal → new ≡ g → r' ≡ Refused refusal → new' ≡ g → Agree call r new r' new'
+refused_agree : (call : Call) (g : Guest) (refusal : Refusal) (r : Reply) (new : Guest) (r' : Reply)
+    (new' : Guest) → r ≡ Refused refusal → new ≡ g → r' ≡ Refused refusal → new' ≡ g
+    → Agree call r new r' new'
 refused_agree (Alloc cpu order) g refusal r new r' new' a b c d = (λ e. b ∙ sym d, λ x e. c ∙ sym a)
 refused_agree (Inflate n) g refusal r new r' new' a b c d = (a ∙ sym c, λ e. b ∙ sym d)
 refused_agree (Read page offset len) g refusal r new r' new' a b c d = (b ∙ sym d, inl (a ∙ sym c))
-refused_agree (Scribble page offset bytes) g refusal r new r' new' a b c d = (a ∙ sym c, λ x e. b ∙ sym d)
+refused_agree (Scribble page offset bytes) g refusal r new r' new' a b c d =
+    (a ∙ sym c, λ x e. b ∙ sym d)
 refused_agree (Init wanted) g refusal r new r' new' a b c d = both r r' _ new new' _ a b c d
 refused_agree Reset g refusal r new r' new' a b c d = both r r' _ new new' _ a b c d
-refused_agree (Free cpu start order) g refusal r new r' new' a b c d = both r r' _ new new' _ a b c d
-refused_agree (Write page offset bytes) g refusal r new r' new' a b c d = both r r' _ new new' _ a b c d
+refused_agree (Free cpu start order) g refusal r new r' new' a b c d =
+    both r r' _ new new' _ a b c d
+refused_agree (Write page offset bytes) g refusal r new r' new' a b c d =
+    both r r' _ new new' _ a b c d
 refused_agree (Deflate n) g refusal r new r' new' a b c d = both r r' _ new new' _ a b c d
 refused_agree (Oom n) g refusal r new r' new' a b c d = both r r' _ new new' _ a b c d
 refused_agree (Report from) g refusal r new r' new' a b c d = both r r' _ new new' _ a b c d
@@ -207,8 +290,13 @@ refused_agree (Sweep page) g refusal r new r' new' a b c d = both r r' _ new new
 refused_agree Ask g refusal r new r' new' a b c d = both r r' _ new new' _ a b c d
 refused_agree (SetTarget n) g refusal r new r' new' a b c d = both r r' _ new new' _ a b c d
 
-pub honest_agree : (g : Guest) (call : Call) (claims : List Claim) (r : Reply) (new : Guest) (r' : Reply) (new' : Guest) → HonestStep g call claims r new → HonestStep g call claims r' new' → Agree call r new r' new'
+pub honest_agree : (g : Guest) (call : Call) (claims : List Claim) (r : Reply) (new : Guest)
+    (r' : Reply) (new' : Guest) → HonestStep g call claims r new → HonestStep g call claims r' new'
+    → Agree call r new r' new'
 honest_agree g call claims r new r' new' s t =
-    same_case (refusal_of g call) (Performs call g claims r new) (Performs call g claims r' new') (λ refusal. (claims ≡ []) × (r ≡ Refused refusal) × (new ≡ g)) (λ refusal. (claims ≡ []) × (r' ≡ Refused refusal) × (new' ≡ g)) (Agree call r new r' new') s t
+    same_case (refusal_of g call) (Performs call g claims r new) (Performs call g claims r' new')
+    (λ refusal. (claims ≡ []) × (r ≡ Refused refusal) × (new ≡ g))
+    (λ refusal. (claims ≡ []) × (r' ≡ Refused refusal) × (new' ≡ g)) (Agree call r new r' new')
+    s t
     (λ s t. performs_agree call g claims r new r' new' s t)
     (λ refusal s t. refused_agree call g refusal r new r' new' s.1 s.2 t.1 t.2)

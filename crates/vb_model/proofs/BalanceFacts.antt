@@ -1,11 +1,13 @@
 -- Worked facts of needs and targets.
-use Rattle.std.proofs.Common.{◌≡◌, ℕ, zero, suc, ◌<◌, ◌≤◌, true, List, [], ◌∷◌, map, replicate, refl, inl, inr, arith}
+use Rattle.std.proofs.Common.{◌≡◌, ℕ, zero, suc, ◌<◌, ◌≤◌, true, List, [], ◌∷◌, map, replicate}
+use Rattle.std.proofs.Common.{refl, inl, inr, arith}
 use Rattle.std.specs.Prelude.{Option, Some, None, slice_index, sum}
 use Rattle.vb_model.specs.declared.calls.Event.TheVariants.{Balance}
 use Rattle.vb_model.specs.declared.replies.Refusal.TheVariants.{Short}
 use Rattle.vb_model.specs.declared.replies.Reply.TheVariants.{Targets, Refused}
 use Rattle.vb_model.specs.Guest.{Guest}
-use Rattle.vb_model.specs.Balance.{Need, AreTargets, GivesBefore, spare, need, spare_at, missing, shortage}
+use Rattle.vb_model.specs.Balance.{Need, AreTargets, GivesBefore, spare, need, spare_at, missing}
+use Rattle.vb_model.specs.Balance.{shortage}
 use Rattle.vb_model.specs.World.{World, WorldStep, needs}
 use Rattle.vb_model.proofs.Samples.{config, ready}
 
@@ -13,20 +15,29 @@ use Rattle.vb_model.proofs.Samples.{config, ready}
 
 -- so many pages are ballooned, and so many bytes were free
 abbrev known : ℕ → Option ℕ → Guest
-known ballooned free = record ready { ballooned = replicate ballooned true; last = record { free = free; total = Some 262144 } }
+known ballooned free =
+    record ready {
+      ballooned = replicate ballooned true;
+      last = record { free = free; total = Some 262144 };
+    }
 
-floors : map (λ floor. spare floor (known 0 (Some 196608))) (0 ∷ 16 ∷ 40 ∷ 47 ∷ 48 ∷ 49 ∷ 1000 ∷ []) ≡ 48 ∷ 32 ∷ 8 ∷ 1 ∷ 0 ∷ 0 ∷ 0 ∷ []
+floors : map (λ floor. spare floor (known 0 (Some 196608))) (0 ∷ 16 ∷ 40 ∷ 47 ∷ 48 ∷ 49 ∷ 1000 ∷ [])
+    ≡ 48 ∷ 32 ∷ 8 ∷ 1 ∷ 0 ∷ 0 ∷ 0 ∷ []
 floors = refl
 
 -- ballooned pages are spared whatever the floor is
-with_ballooned_pages : map (λ floor. spare floor (known 4 (Some 180224))) (0 ∷ 16 ∷ 40 ∷ 44 ∷ 45 ∷ 1000 ∷ []) ≡ 48 ∷ 32 ∷ 8 ∷ 4 ∷ 4 ∷ 4 ∷ []
+with_ballooned_pages : map (λ floor. spare floor (known 4 (Some 180224)))
+    (0 ∷ 16 ∷ 40 ∷ 44 ∷ 45 ∷ 1000 ∷ []) ≡ 48 ∷ 32 ∷ 8 ∷ 4 ∷ 4 ∷ 4 ∷ []
 with_ballooned_pages = refl
 
 -- never more than the unreserved pages, however many are said to be free
-at_most_all_unreserved : spare 0 (known 10 (Some 196608)) ∷ spare 16 (known 0 (Some 18446744073709551615)) ∷ spare 0 (known 64 None) ∷ [] ≡ 48 ∷ 48 ∷ 48 ∷ []
+at_most_all_unreserved : spare 0 (known 10 (Some 196608))
+    ∷ spare 16 (known 0 (Some 18446744073709551615)) ∷ spare 0 (known 64 None) ∷ [] ≡ 48 ∷ 48 ∷ 48
+    ∷ []
 at_most_all_unreserved = refl
 
-of_a_larger_guest : spare 16 (record (known 4 (Some 458752)) { config = record config { pages = 128 } }) ≡ 100
+of_a_larger_guest : spare 16
+    (record (known 4 (Some 458752)) { config = record config { pages = 128 } }) ≡ 100
 of_a_larger_guest = refl
 
 -- nothing is known: just the ballooned pages
@@ -34,7 +45,8 @@ unknown : map (λ floor. spare floor (known 4 None)) (0 ∷ 16 ∷ []) ≡ 4 ∷
 unknown = refl
 
 -- bytes are counted in whole pages
-whole_pages : map (λ free. spare 0 (known 0 (Some free))) (4095 ∷ 4096 ∷ 12287 ∷ 12288 ∷ []) ≡ 0 ∷ 1 ∷ 2 ∷ 3 ∷ []
+whole_pages : map (λ free. spare 0 (known 0 (Some free))) (4095 ∷ 4096 ∷ 12287 ∷ 12288 ∷ []) ≡ 0 ∷ 1
+    ∷ 2 ∷ 3 ∷ []
 whole_pages = refl
 
 -- a need has all pages of the guest, the reserved ones too
@@ -47,7 +59,8 @@ need_of_a_guest = refl
 abbrev needs_of : ℕ → ℕ → List Need
 needs_of a b = record { pages = 64; spare = a } ∷ record { pages = 64; spare = b } ∷ []
 
-missing_frames : map (missing (needs_of 40 30)) (0 ∷ 40 ∷ 100 ∷ 127 ∷ 128 ∷ 200 ∷ []) ≡ 128 ∷ 88 ∷ 28 ∷ 1 ∷ 0 ∷ 0 ∷ []
+missing_frames : map (missing (needs_of 40 30)) (0 ∷ 40 ∷ 100 ∷ 127 ∷ 128 ∷ 200 ∷ []) ≡ 128 ∷ 88
+    ∷ 28 ∷ 1 ∷ 0 ∷ 0 ∷ []
 missing_frames = refl
 
 -- short is what is missing beyond all spare
@@ -63,15 +76,18 @@ abbrev TargetsAre : List Need → ℕ → ℕ → ℕ → Type 0
 TargetsAre needs frames a b = AreTargets needs frames (a ∷ b ∷ [])
 
 -- the first can spare as much as the second at least, and gives alone
-first_alone : (a b frames t : ℕ) → b ≤ a → t ≤ a → sum (t ∷ 0 ∷ []) ≡ missing (needs_of a b) frames → TargetsAre (needs_of a b) frames t 0
-first_alone a b frames t most some e = record { one_each = refl; within = within; enough = e; in_order = in_order }
+first_alone : (a b frames t : ℕ) → b ≤ a → t ≤ a → sum (t ∷ 0 ∷ []) ≡ missing (needs_of a b) frames
+    → TargetsAre (needs_of a b) frames t 0
+first_alone a b frames t most some e =
+    record { one_each = refl; within = within; enough = e; in_order = in_order }
   where
     within : (i : ℕ) → i < 2 → slice_index (t ∷ 0 ∷ []) i ≤ spare_at (needs_of a b) i
     within zero l = some
     within (suc zero) l = omega arith
     within (suc (suc i)) l = absurd (omega arith)
 
-    in_order : (i j : ℕ) → i < 2 → j < 2 → 0 < slice_index (t ∷ 0 ∷ []) i → GivesBefore (needs_of a b) j i → slice_index (t ∷ 0 ∷ []) j ≡ spare_at (needs_of a b) j
+    in_order : (i j : ℕ) → i < 2 → j < 2 → 0 < slice_index (t ∷ 0 ∷ []) i
+        → GivesBefore (needs_of a b) j i → slice_index (t ∷ 0 ∷ []) j ≡ spare_at (needs_of a b) j
     in_order zero zero l m p (inl q) = absurd (omega arith)
     in_order zero zero l m p (inr q) = absurd (omega arith)
     in_order zero (suc zero) l m p (inl q) = absurd (omega arith)
@@ -96,7 +112,9 @@ both_give = record { one_each = refl; within = within; enough = refl; in_order =
     within (suc zero) l = omega arith
     within (suc (suc i)) l = absurd (omega arith)
 
-    in_order : (i j : ℕ) → i < 2 → j < 2 → 0 < slice_index (40 ∷ 28 ∷ []) i → GivesBefore (needs_of 40 30) j i → slice_index (40 ∷ 28 ∷ []) j ≡ spare_at (needs_of 40 30) j
+    in_order : (i j : ℕ) → i < 2 → j < 2 → 0 < slice_index (40 ∷ 28 ∷ []) i
+        → GivesBefore (needs_of 40 30) j i
+        → slice_index (40 ∷ 28 ∷ []) j ≡ spare_at (needs_of 40 30) j
     in_order i zero l m p q = refl
     in_order zero (suc zero) l m p (inl q) = absurd (omega arith)
     in_order zero (suc zero) l m p (inr q) = absurd (omega arith)
@@ -114,7 +132,9 @@ second_alone = record { one_each = refl; within = within; enough = refl; in_orde
     within (suc zero) l = omega arith
     within (suc (suc i)) l = absurd (omega arith)
 
-    in_order : (i j : ℕ) → i < 2 → j < 2 → 0 < slice_index (0 ∷ 28 ∷ []) i → GivesBefore (needs_of 30 40) j i → slice_index (0 ∷ 28 ∷ []) j ≡ spare_at (needs_of 30 40) j
+    in_order : (i j : ℕ) → i < 2 → j < 2 → 0 < slice_index (0 ∷ 28 ∷ []) i
+        → GivesBefore (needs_of 30 40) j i
+        → slice_index (0 ∷ 28 ∷ []) j ≡ spare_at (needs_of 30 40) j
     in_order zero j l m p q = absurd (omega arith)
     in_order (suc zero) zero l m p (inl q) = absurd (omega arith)
     in_order (suc zero) zero l m p (inr q) = absurd (omega arith)
@@ -128,10 +148,12 @@ Same a b = a ≡ b
 
 -- not the one that can spare less, nor half of each
 not_the_second : TargetsAre (needs_of 40 30) 100 0 28 → ⊥
-not_the_second t = let e : Same 0 40 = t.in_order 1 0 (omega arith) (omega arith) (omega arith) (inl (omega arith)) in omega arith
+not_the_second t = let e : Same 0 40 =
+    t.in_order 1 0 (omega arith) (omega arith) (omega arith) (inl (omega arith)) in omega arith
 
 not_evenly : TargetsAre (needs_of 40 30) 100 14 14 → ⊥
-not_evenly t = let e : Same 14 40 = t.in_order 1 0 (omega arith) (omega arith) (omega arith) (inl (omega arith)) in omega arith
+not_evenly t = let e : Same 14 40 =
+    t.in_order 1 0 (omega arith) (omega arith) (omega arith) (inl (omega arith)) in omega arith
 
 -- no more than its spare, and no less than what is missing
 not_beyond_its_spare : TargetsAre (needs_of 40 30) 60 41 27 → ⊥
@@ -149,27 +171,46 @@ lower_number_gives : TargetsAre (needs_of 30 30) 100 28 0
 lower_number_gives = first_alone 30 30 100 28 (omega arith) (omega arith) refl
 
 not_the_higher_number : TargetsAre (needs_of 30 30) 100 0 28 → ⊥
-not_the_higher_number t = let e : Same 0 30 = t.in_order 1 0 (omega arith) (omega arith) (omega arith) (inr (refl, omega arith)) in omega arith
+not_the_higher_number t = let e : Same 0 30 =
+    t.in_order 1 0 (omega arith) (omega arith) (omega arith) (inr (refl, omega arith)) in
+    omega arith
 
 -- ---- a balance of two guests of 64 pages, of which each has 48 free, with 100 frames
 
 abbrev world : Option Guest → Option Guest → World
-world a b = record { frames = 100; guests = None ∷ a ∷ None ∷ b ∷ []; spares = true ∷ []; given_up = Some 2 }
+world a b = record {
+  frames = 100;
+  guests = None ∷ a ∷ None ∷ b ∷ [];
+  spares = true
+      ∷ [];
+  given_up = Some 2;
+}
 
 abbrev aiming : ℕ → Guest
 aiming target = record (known 0 (Some 196608)) { target = target }
 
 -- the needs stand by rising number
-needs_of_both : needs 16 (world (Some (aiming 3)) (Some (known 5 (Some 180224)))) ≡ record { pages = 64; spare = 32 } ∷ record { pages = 64; spare = 33 } ∷ []
+needs_of_both : needs 16 (world (Some (aiming 3)) (Some (known 5 (Some 180224))))
+    ≡ record { pages = 64; spare = 32 } ∷ record { pages = 64; spare = 33 } ∷ []
 needs_of_both = refl
 
-needs_from_0_on : needs 16 (record { frames = 100; guests = Some (known 1 None) ∷ Some (known 2 None) ∷ []; spares = []; given_up = None }) ≡ record { pages = 64; spare = 1 } ∷ record { pages = 64; spare = 2 } ∷ []
+needs_from_0_on : needs 16
+    (record {
+      frames = 100;
+      guests = Some (known 1 None) ∷ Some (known 2 None)
+          ∷ [];
+      spares = [];
+      given_up = None;
+    }) ≡ record { pages = 64; spare = 1 }
+    ∷ record { pages = 64; spare = 2 } ∷ []
 needs_from_0_on = refl
 
 -- above a floor of 16 pages the first gives 28; nothing but the targets changes
-balanced : WorldStep (world (Some (aiming 3)) (Some (aiming 5))) (Balance 16) (Targets (28 ∷ 0 ∷ [])) (world (Some (aiming 28)) (Some (aiming 0)))
+balanced : WorldStep (world (Some (aiming 3)) (Some (aiming 5))) (Balance 16)
+    (Targets (28 ∷ 0 ∷ [])) (world (Some (aiming 28)) (Some (aiming 0)))
 balanced = (28 ∷ 0 ∷ [], first_alone 32 32 100 28 (omega arith) (omega arith) refl, refl, refl)
 
 -- above 40 they can spare 16 of 28, and no target changes
-short : WorldStep (world (Some (aiming 3)) (Some (aiming 5))) (Balance 40) (Refused (Short 12)) (world (Some (aiming 3)) (Some (aiming 5)))
+short : WorldStep (world (Some (aiming 3)) (Some (aiming 5))) (Balance 40) (Refused (Short 12))
+    (world (Some (aiming 3)) (Some (aiming 5)))
 short = (refl, refl)

@@ -1,20 +1,29 @@
 -- Maximal free blocks share no page.
-use Rattle.std.proofs.Common.{◌≡◌, ℕ, zero, suc, ◌+◌, ◌-◌, ◌*◌, ◌/◌, ◌^◌, ◌<◌, ◌≤◌, Bool, true, false, cond, List, [], ◌∷◌, length, take, refl, sym, ap, subst, ◌∙◌, inl, inr, arith, ◌⊎◌, ◌≢◌}
+use Rattle.std.proofs.Common.{◌≡◌, ℕ, zero, suc, ◌+◌, ◌-◌, ◌*◌, ◌/◌, ◌^◌, ◌<◌, ◌≤◌, Bool, true}
+use Rattle.std.proofs.Common.{false, cond, List, [], ◌∷◌, length, take, refl, sym, ap, subst, ◌∙◌}
+use Rattle.std.proofs.Common.{inl, inr, arith, ◌⊎◌, ◌≢◌}
 use Rattle.std.specs.Prelude.{◌==◌, ◌&&◌, ◌%◌, not, count_by, nat_lt, nat_le, filter, map}
 use Rattle.std.specs.List.{list_all, list_any, range_with_len, flat_map}
 use Rattle.std.proofs.lemmas.Nat.{pow_pos, mod-mul-add, pow-add, div-add-mod'}
-use Rattle.std.proofs.Math.Nat.{lt_of_mul-lt-mul_left, mul-lt-mul_of_pos_left, mul_assoc, mul_comm, mul-add}
-use Rattle.std.proofs.lemmas.Bool.{eqb-true, eq-eqb, ne_eqb, le-leb, lt-ltb, and_parts, and_from, cases_lt, cases_eq, leb-true, ltb-true, false_from_ne_true, not-true}
+use Rattle.std.proofs.Math.Nat.{lt_of_mul-lt-mul_left, mul-lt-mul_of_pos_left, mul_assoc, mul_comm}
+use Rattle.std.proofs.Math.Nat.{mul-add}
+use Rattle.std.proofs.lemmas.Bool.{eqb-true, eq-eqb, ne_eqb, le-leb, lt-ltb, and_parts, and_from}
+use Rattle.std.proofs.lemmas.Bool.{cases_lt, cases_eq, leb-true, ltb-true, false_from_ne_true}
+use Rattle.std.proofs.lemmas.Bool.{not-true}
 use Rattle.vb_model.specs.declared.places.Place.{Place}
 use Rattle.vb_model.specs.Limits.{max_order}
 use Rattle.vb_model.specs.Tests.{one_if}
-use Rattle.vb_model.specs.Pages.{Block, size, pages_of, pages_of_all, covers, is_wholly_free, is_maximal_free, is_aligned, around, blocks_at, blocks_below, maximal_free_blocks}
+use Rattle.vb_model.specs.Pages.{Block, size, pages_of, pages_of_all, covers, is_wholly_free}
+use Rattle.vb_model.specs.Pages.{is_maximal_free, is_aligned, around, blocks_at, blocks_below}
+use Rattle.vb_model.specs.Pages.{maximal_free_blocks}
 use Rattle.vb_model.specs.Orderly.{times}
 use Rattle.vb_model.proofs.Tables.{count_by-append, count_by-cons}
 use Rattle.vb_model.proofs.Distinct.{times-append, times-cons}
 
--- of two aligned blocks round one page, the larger begins where the smaller's first page is rounded down to
-around_start : (m q s t page : ℕ) → 0 < m → m * s ≤ page → page < m * s + m → (m * q) * t ≤ page → page < (m * q) * t + m * q → m * s - (m * s) % (m * q) ≡ (m * q) * t
+-- of two aligned blocks round one page, the larger begins where the smaller's first page is rounded
+-- down to
+around_start : (m q s t page : ℕ) → 0 < m → m * s ≤ page → page < m * s + m → (m * q) * t ≤ page
+    → page < (m * q) * t + m * q → m * s - (m * s) % (m * q) ≡ (m * q) * t
 around_start m q s t page pm a b c d =
     let flat : (m * q) * t ≡ m * (q * t) = mul_assoc m q t in
     let next : m * (s + 1) ≡ m * s + m = mul-add m s 1 ∙ omega arith in
@@ -28,7 +37,8 @@ around_start m q s t page pm a b c d =
     let inside : m * u < m * q = mul-lt-mul_of_pos_left below pm in
     let swapped : t * (m * q) ≡ (m * q) * t = mul_comm t (m * q) in
     let is : m * s ≡ t * (m * q) + m * u = omega (arith, parts, swapped, flat) in
-    let rest : (m * s) % (m * q) ≡ m * u = ap (λ (x : ℕ). x % (m * q)) is ∙ mod-mul-add t (m * q) (m * u) inside in
+    let rest : (m * s) % (m * q) ≡ m * u =
+    ap (λ (x : ℕ). x % (m * q)) is ∙ mod-mul-add t (m * q) (m * u) inside in
     omega (arith, rest, is, swapped)
 
 -- ---- two blocks round a page
@@ -39,28 +49,40 @@ record CoversAligned (page : ℕ) (b : Block) : Type 0 where
   low : b.start ≤ page
   high : page < b.start + size b
 
-covering : (page : ℕ) (b : Block) → is_aligned b ≡ true → covers page b ≡ true → CoversAligned page b
+covering : (page : ℕ) (b : Block) → is_aligned b ≡ true → covers page b ≡ true
+    → CoversAligned page b
 covering page b aligned c =
     let parts = and_parts (nat_le b.start page) (nat_lt page (b.start + size b)) c in
     let rest : b.start % size b ≡ 0 = eqb-true _ 0 aligned in
     record {
       begins = b.start / size b;
-      first = omega (arith, div-add-mod' b.start (size b), mul_comm (size b) (b.start / size b), rest);
+      first = omega (
+        arith,
+        div-add-mod' b.start (size b),
+        mul_comm (size b) (b.start / size b),
+        rest,
+      );
       low = leb-true _ _ parts.0;
       high = ltb-true _ _ parts.1;
     }
 
 -- the block of the larger order round the smaller one's start is the larger one
-larger : (page : ℕ) (b c : Block) → b.order < c.order → is_aligned b ≡ true → covers page b ≡ true → is_aligned c ≡ true → covers page c ≡ true → (around b.start c.order).start ≡ c.start
+larger : (page : ℕ) (b c : Block) → b.order < c.order → is_aligned b ≡ true → covers page b ≡ true
+    → is_aligned c ≡ true → covers page c ≡ true → (around b.start c.order).start ≡ c.start
 larger page b c l ab cb ac cc' =
     let x = covering page b ab cb in
     let y = covering page c ac cc' in
     let gap : ℕ = c.order - b.order in
     let order : c.order ≡ b.order + gap = omega arith in
-    let wide : 2 ^ c.order ≡ 2 ^ b.order * 2 ^ gap = ap (λ (k : ℕ). 2 ^ k) order ∙ pow-add 2 b.order gap in
-    let start : c.start ≡ 2 ^ b.order * 2 ^ gap * y.begins = y.first ∙ ap (λ (k : ℕ). k * y.begins) wide in
-    let e = around_start (2 ^ b.order) (2 ^ gap) x.begins y.begins page (pow_pos b.order) (omega (arith, x.first, x.low)) (omega (arith, x.first, x.high)) (omega (arith, start, y.low)) (omega (arith, start, y.high, wide)) in
-    ap (λ (k : ℕ). b.start - b.start % k) wide ∙ (ap (λ (k : ℕ). k - k % (2 ^ b.order * 2 ^ gap)) x.first ∙ (e ∙ sym start))
+    let wide : 2 ^ c.order ≡ 2 ^ b.order * 2 ^ gap =
+    ap (λ (k : ℕ). 2 ^ k) order ∙ pow-add 2 b.order gap in
+    let start : c.start ≡ 2 ^ b.order * 2 ^ gap * y.begins =
+    y.first ∙ ap (λ (k : ℕ). k * y.begins) wide in
+    let e = around_start (2 ^ b.order) (2 ^ gap) x.begins y.begins page (pow_pos b.order)
+    (omega (arith, x.first, x.low)) (omega (arith, x.first, x.high))
+    (omega (arith, start, y.low)) (omega (arith, start, y.high, wide)) in
+    ap (λ (k : ℕ). b.start - b.start % k) wide
+    ∙ (ap (λ (k : ℕ). k - k % (2 ^ b.order * 2 ^ gap)) x.first ∙ (e ∙ sym start))
 
 -- ---- at most one maximal block is round a page
 
@@ -72,41 +94,64 @@ record IsRound (places : List Place) (page : ℕ) (b : Block) : Type 0 where
   free : is_wholly_free places b ≡ true
   aligned : is_aligned b ≡ true
   cover : covers page b ≡ true
-  widest : list_any (λ order. is_wholly_free places (around b.start order)) (range_with_len (suc b.order) (max_order - b.order)) ≡ false
+  widest : list_any (λ order. is_wholly_free places (around b.start order))
+      (range_with_len (suc b.order) (max_order - b.order)) ≡ false
 
-is_round : (places : List Place) (page : ℕ) (b : Block) → holds places page b ≡ true → IsRound places page b
+is_round : (places : List Place) (page : ℕ) (b : Block) → holds places page b ≡ true
+    → IsRound places page b
 is_round places page b h =
     let parts = and_parts (is_maximal_free places b) (covers page b) h in
     let most = and_parts (is_wholly_free places b) _ parts.0 in
-    record { free = most.0; aligned = (and_parts (is_aligned b) _ most.0).0; cover = parts.1; widest = not-true _ most.1 }
+    record {
+      free = most.0;
+      aligned = (and_parts (is_aligned b) _ most.0).0;
+      cover = parts.1;
+      widest = not-true _ most.1;
+    }
 
-any_in_range : (test : ℕ → Bool) (k first count : ℕ) → first ≤ k → k < first + count → test k ≡ true → list_any test (range_with_len first count) ≡ true
+any_in_range : (test : ℕ → Bool) (k first count : ℕ) → first ≤ k → k < first + count → test k ≡ true
+    → list_any test (range_with_len first count) ≡ true
 any_in_range test k first zero a b h = absurd (omega arith)
-any_in_range test k first (suc count) a b h = step (cases_eq first k) (λ d. any_in_range test k (first + 1) count (omega arith) (omega arith) h)
+any_in_range test k first (suc count) a b h =
+    step (cases_eq first k)
+    (λ d. any_in_range test k (first + 1) count (omega arith) (omega arith) h)
   where
-    step : (first ≡ k) ⊎ (first ≢ k) → (first ≢ k → list_any test (range_with_len (first + 1) count) ≡ true) → list_any test (range_with_len first (suc count)) ≡ true
+    step : (first ≡ k) ⊎ (first ≢ k)
+        → (first ≢ k → list_any test (range_with_len (first + 1) count) ≡ true)
+        → list_any test (range_with_len first (suc count)) ≡ true
     step (inl e) ih = here (test first) (subst (λ (n : ℕ). test n ≡ true) (sym e) h)
       where
-        here : (v : Bool) → v ≡ true → Rattle.std.specs.Prelude.◌||◌ v (list_any test (range_with_len (first + 1) count)) ≡ true
+        here : (v : Bool) → v ≡ true
+            → Rattle.std.specs.Prelude.◌||◌ v (list_any test (range_with_len (first + 1) count))
+            ≡ true
         here true e = refl
         here false e = absurd cc
     step (inr d) ih = there (test first) (ih d)
       where
-        there : (v : Bool) → list_any test (range_with_len (first + 1) count) ≡ true → Rattle.std.specs.Prelude.◌||◌ v (list_any test (range_with_len (first + 1) count)) ≡ true
+        there : (v : Bool) → list_any test (range_with_len (first + 1) count) ≡ true
+            → Rattle.std.specs.Prelude.◌||◌ v (list_any test (range_with_len (first + 1) count))
+            ≡ true
         there true e = refl
         there false e = e
 
-no_larger : (places : List Place) (page : ℕ) (b c : Block) → c.order ≤ max_order → IsRound places page b → IsRound places page c → b.order < c.order → ⊥
+no_larger : (places : List Place) (page : ℕ) (b c : Block) → c.order ≤ max_order
+    → IsRound places page b → IsRound places page c → b.order < c.order → ⊥
 no_larger places page b c small x y l =
-    let start : (around b.start c.order).start ≡ c.start = larger page b c l x.aligned x.cover y.aligned y.cover in
-    let there : is_wholly_free places (around b.start c.order) ≡ true = ap (λ (s : ℕ). is_wholly_free places (record { start = s; order = c.order })) start ∙ y.free in
-    let any : list_any (λ order. is_wholly_free places (around b.start order)) (range_with_len (suc b.order) (max_order - b.order)) ≡ true =
-    any_in_range (λ order. is_wholly_free places (around b.start order)) c.order (suc b.order) (max_order - b.order) (omega arith) (omega arith) there in
+    let start : (around b.start c.order).start ≡ c.start =
+    larger page b c l x.aligned x.cover y.aligned y.cover in
+    let there : is_wholly_free places (around b.start c.order) ≡ true =
+    ap (λ (s : ℕ). is_wholly_free places (record { start = s; order = c.order })) start
+    ∙ y.free in
+    let any : list_any (λ order. is_wholly_free places (around b.start order))
+    (range_with_len (suc b.order) (max_order - b.order)) ≡ true =
+    any_in_range (λ order. is_wholly_free places (around b.start order)) c.order (suc b.order)
+    (max_order - b.order) (omega arith) (omega arith) there in
     let bad : true ≡ false = sym any ∙ x.widest in
     absurd cc
 
 -- two blocks of one order round a page are one
-same_start : (page : ℕ) (b c : Block) → b.order ≡ c.order → is_aligned b ≡ true → covers page b ≡ true → is_aligned c ≡ true → covers page c ≡ true → b.start ≡ c.start
+same_start : (page : ℕ) (b c : Block) → b.order ≡ c.order → is_aligned b ≡ true
+    → covers page b ≡ true → is_aligned c ≡ true → covers page c ≡ true → b.start ≡ c.start
 same_start page b c e ab cb ac cc' =
     let x = covering page b ab cb in
     let y = covering page c ac cc' in
@@ -115,40 +160,63 @@ same_start page b c e ab cb ac cc' =
     let start : c.start ≡ m * y.begins = y.first ∙ ap (λ (k : ℕ). k * y.begins) same in
     let next : m * (x.begins + 1) ≡ m * x.begins + m = mul-add m x.begins 1 ∙ omega arith in
     let after : m * (y.begins + 1) ≡ m * y.begins + m = mul-add m y.begins 1 ∙ omega arith in
-    let low : x.begins < y.begins + 1 = lt_of_mul-lt-mul_left m (omega (arith, after, start, x.first, x.low, y.high, same)) in
-    let high : y.begins < x.begins + 1 = lt_of_mul-lt-mul_left m (omega (arith, next, start, x.first, y.low, x.high, same)) in
+    let low : x.begins < y.begins + 1 =
+    lt_of_mul-lt-mul_left m (omega (arith, after, start, x.first, x.low, y.high, same)) in
+    let high : y.begins < x.begins + 1 =
+    lt_of_mul-lt-mul_left m (omega (arith, next, start, x.first, y.low, x.high, same)) in
     let begins : x.begins ≡ y.begins = omega arith in
     x.first ∙ (ap (λ (k : ℕ). m * k) begins ∙ sym start)
 
 -- the pages of a block, each once
-times_in_range : (page first count : ℕ) → times page (range_with_len first count) ≡ one_if (nat_le first page && nat_lt page (first + count))
+times_in_range : (page first count : ℕ)
+    → times page (range_with_len first count)
+    ≡ one_if (nat_le first page && nat_lt page (first + count))
 times_in_range page first count = cases (nat_le first page && nat_lt page (first + count)) refl
   where
     below : (first count : ℕ) → page < first → times page (range_with_len first count) ≡ 0
     below first zero l = refl
     below first (suc count) l =
-        let z : one_if (first == page) ≡ 0 = ap one_if (ne_eqb first page (λ e. absurd (omega arith))) in
-        omega (arith, times-cons page first (range_with_len (first + 1) count), below (first + 1) count (omega arith))
+        let z : one_if (first == page) ≡ 0 =
+        ap one_if (ne_eqb first page (λ e. absurd (omega arith))) in
+        omega (
+          arith,
+          times-cons page first (range_with_len (first + 1) count),
+          below (first + 1) count (omega arith),
+        )
 
     above : (first count : ℕ) → first + count ≤ page → times page (range_with_len first count) ≡ 0
     above first zero l = refl
     above first (suc count) l =
-        let z : one_if (first == page) ≡ 0 = ap one_if (ne_eqb first page (λ e. absurd (omega arith))) in
-        omega (arith, times-cons page first (range_with_len (first + 1) count), above (first + 1) count (omega arith))
+        let z : one_if (first == page) ≡ 0 =
+        ap one_if (ne_eqb first page (λ e. absurd (omega arith))) in
+        omega (
+          arith,
+          times-cons page first (range_with_len (first + 1) count),
+          above (first + 1) count (omega arith),
+        )
 
-    inside : (first count : ℕ) → first ≤ page → page < first + count → times page (range_with_len first count) ≡ 1
+    inside : (first count : ℕ) → first ≤ page → page < first + count
+        → times page (range_with_len first count) ≡ 1
     inside first zero a b = absurd (omega arith)
-    inside first (suc count) a b = step (cases_eq first page) (λ d. inside (first + 1) count (omega arith) (omega arith))
+    inside first (suc count) a b =
+        step (cases_eq first page) (λ d. inside (first + 1) count (omega arith) (omega arith))
       where
-        step : (first ≡ page) ⊎ (first ≢ page) → (first ≢ page → times page (range_with_len (first + 1) count) ≡ 1) → times page (range_with_len first (suc count)) ≡ 1
+        step : (first ≡ page) ⊎ (first ≢ page)
+            → (first ≢ page → times page (range_with_len (first + 1) count) ≡ 1)
+            → times page (range_with_len first (suc count)) ≡ 1
         step (inl e) ih =
             let o : one_if (first == page) ≡ 1 = ap one_if (eq-eqb first page e) in
-            omega (arith, times-cons page first (range_with_len (first + 1) count), below (first + 1) count (omega arith))
+            omega (
+              arith,
+              times-cons page first (range_with_len (first + 1) count),
+              below (first + 1) count (omega arith),
+            )
         step (inr d) ih =
             let o : one_if (first == page) ≡ 0 = ap one_if (ne_eqb first page d) in
             omega (arith, times-cons page first (range_with_len (first + 1) count), ih d)
 
-    cases : (v : Bool) → (nat_le first page && nat_lt page (first + count)) ≡ v → times page (range_with_len first count) ≡ one_if v
+    cases : (v : Bool) → (nat_le first page && nat_lt page (first + count)) ≡ v
+        → times page (range_with_len first count) ≡ one_if v
     cases true e =
         let parts = and_parts (nat_le first page) (nat_lt page (first + count)) e in
         inside first count (leb-true first page parts.0) (ltb-true page (first + count) parts.1)
@@ -157,89 +225,161 @@ times_in_range page first count = cases (nat_le first page && nat_lt page (first
           | inl l ↦ below first count l
           | inr l ↦
               elim (cases_lt page (first + count)) [
-                | inl k ↦ (let bad : true ≡ false = sym (and_from _ _ (le-leb first page l) (lt-ltb page (first + count) k)) ∙ e in absurd cc)
+                | inl k ↦ (let bad : true
+                    ≡ false = sym (and_from _ _ (le-leb first page l)
+                    (lt-ltb page (first + count) k)) ∙ e in absurd cc)
                 | inr k ↦ above first count k
               ]
         ]
 
 -- how often a page stands in the pages of blocks
-times_in_blocks : (page : ℕ) (bs : List Block) → times page (pages_of_all bs) ≡ count_by (covers page) bs
+times_in_blocks : (page : ℕ) (bs : List Block)
+    → times page (pages_of_all bs) ≡ count_by (covers page) bs
 times_in_blocks page [] = refl
-times_in_blocks page (b ∷ bs) = omega (arith, times-append page (pages_of b) (pages_of_all bs), times_in_range page b.start (size b), times_in_blocks page bs, count_by-cons (covers page) b bs)
+times_in_blocks page (b ∷ bs) =
+    omega (
+      arith,
+      times-append page (pages_of b) (pages_of_all bs),
+      times_in_range page b.start (size b),
+      times_in_blocks page bs,
+      count_by-cons (covers page) b bs,
+    )
 
-count-take : {A : Type 0} (test : A → Bool) (n : ℕ) (xs : List A) → count_by test (take n xs) ≤ count_by test xs
+count-take : {A : Type 0} (test : A → Bool) (n : ℕ) (xs : List A)
+    → count_by test (take n xs) ≤ count_by test xs
 count-take test zero xs = omega arith
 count-take test (suc n) [] = omega arith
-count-take test (suc n) (x ∷ xs) = omega (arith, count_by-cons test x xs, count_by-cons test x (take n xs), count-take test n xs)
+count-take test (suc n) (x ∷ xs) =
+    omega (arith, count_by-cons test x xs, count_by-cons test x (take n xs), count-take test n xs)
 
-count-filter : {A : Type 0} (test keep : A → Bool) (xs : List A) → count_by test (filter keep xs) ≤ count_by (λ x. keep x && test x) xs
+count-filter : {A : Type 0} (test keep : A → Bool) (xs : List A)
+    → count_by test (filter keep xs) ≤ count_by (λ x. keep x && test x) xs
 count-filter test keep [] = omega arith
 count-filter test keep (x ∷ xs) = step (keep x) refl (count-filter test keep xs)
   where
-    step : (v : Bool) → keep x ≡ v → count_by test (filter keep xs) ≤ count_by (λ y. keep y && test y) xs → count_by test (cond v (x ∷ filter keep xs) (filter keep xs)) ≤ count_by (λ y. keep y && test y) (x ∷ xs)
+    step : (v : Bool) → keep x ≡ v
+        → count_by test (filter keep xs) ≤ count_by (λ y. keep y && test y) xs
+        → count_by test (cond v (x ∷ filter keep xs) (filter keep xs)) ≤ count_by
+        (λ y. keep y && test y) (x ∷ xs)
     step true e ih =
-        let o : one_if (keep x && test x) ≡ one_if (test x) = ap (λ (v : Bool). one_if (v && test x)) e in
-        omega (arith, count_by-cons test x (filter keep xs), count_by-cons (λ y. keep y && test y) x xs)
+        let o : one_if (keep x && test x) ≡ one_if (test x) =
+        ap (λ (v : Bool). one_if (v && test x)) e in
+        omega (
+          arith,
+          count_by-cons test x (filter keep xs),
+          count_by-cons (λ y. keep y && test y) x xs,
+        )
     step false e ih = omega (arith, count_by-cons (λ y. keep y && test y) x xs)
 
-count-weaker : {A : Type 0} (keep test : A → Bool) (xs : List A) → count_by (λ x. keep x && test x) xs ≤ count_by test xs
+count-weaker : {A : Type 0} (keep test : A → Bool) (xs : List A)
+    → count_by (λ x. keep x && test x) xs ≤ count_by test xs
 count-weaker keep test [] = omega arith
 count-weaker keep test (x ∷ xs) =
-    omega (arith, less (keep x) (test x), count_by-cons (λ y. keep y && test y) x xs, count_by-cons test x xs, count-weaker keep test xs)
+    omega (
+      arith,
+      less (keep x) (test x),
+      count_by-cons (λ y. keep y && test y) x xs,
+      count_by-cons test x xs,
+      count-weaker keep test xs,
+    )
   where
     less : (a b : Bool) → one_if (a && b) ≤ one_if b
     less true b = omega arith
     less false true = omega arith
     less false false = omega arith
 
-passes-none : (test : ℕ → Bool) (first count : ℕ) → ((k : ℕ) → first ≤ k → k < first + count → test k ≡ false) → count_by test (range_with_len first count) ≡ 0
+passes-none : (test : ℕ → Bool) (first count : ℕ)
+    → ((k : ℕ) → first ≤ k → k < first + count → test k ≡ false)
+    → count_by test (range_with_len first count) ≡ 0
 passes-none test first zero h = refl
 passes-none test first (suc count) h =
     let z : one_if (test first) ≡ 0 = ap one_if (h first (omega arith) (omega arith)) in
-    omega (arith, count_by-cons test first (range_with_len (first + 1) count), passes-none test (first + 1) count (λ k a b. h k (omega arith) (omega arith)))
+    omega (
+      arith,
+      count_by-cons test first (range_with_len (first + 1) count),
+      passes-none test (first + 1) count (λ k a b. h k (omega arith) (omega arith)),
+    )
 
-passes-one : (test : ℕ → Bool) (first count : ℕ) → ((a b : ℕ) → a < first + count → b < first + count → test a ≡ true → test b ≡ true → a ≡ b) → count_by test (range_with_len first count) ≤ 1
+passes-one : (test : ℕ → Bool) (first count : ℕ)
+    → ((a b : ℕ) → a < first + count → b < first + count → test a ≡ true → test b ≡ true → a ≡ b)
+    → count_by test (range_with_len first count) ≤ 1
 passes-one test first zero one = omega arith
-passes-one test first (suc count) one = step (test first) refl (passes-one test (first + 1) count (λ a b la lb. one a b (omega arith) (omega arith)))
+passes-one test first (suc count) one =
+    step (test first) refl
+    (passes-one test (first + 1) count (λ a b la lb. one a b (omega arith) (omega arith)))
   where
-    step : (v : Bool) → test first ≡ v → count_by test (range_with_len (first + 1) count) ≤ 1 → count_by test (range_with_len first (suc count)) ≤ 1
-    step false e ih = let z : one_if (test first) ≡ 0 = ap one_if e in omega (arith, count_by-cons test first (range_with_len (first + 1) count))
+    step : (v : Bool) → test first ≡ v → count_by test (range_with_len (first + 1) count) ≤ 1
+        → count_by test (range_with_len first (suc count)) ≤ 1
+    step false e ih = let z : one_if (test first) ≡ 0 = ap one_if e in
+        omega (arith, count_by-cons test first (range_with_len (first + 1) count))
     step true e ih =
         let o : one_if (test first) ≡ 1 = ap one_if e in
         let rest : count_by test (range_with_len (first + 1) count) ≡ 0 =
-        passes-none test (first + 1) count (λ k a b. false_from_ne_true (test k) (λ t. let same : first ≡ k = one first k (omega arith) (omega arith) e t in absurd (omega arith))) in
+        passes-none test (first + 1) count
+        (λ k a b. false_from_ne_true (test k)
+        (λ t. let same : first ≡ k = one first k (omega arith) (omega arith) e t in
+        absurd (omega arith))) in
         omega (arith, count_by-cons test first (range_with_len (first + 1) count))
 
-passes-some : (test : ℕ → Bool) (first count : ℕ) → 0 < count_by test (range_with_len first count) → (k : ℕ) × (k < first + count) × (test k ≡ true)
+passes-some : (test : ℕ → Bool) (first count : ℕ) → 0 < count_by test (range_with_len first count)
+    → (k : ℕ) × (k < first + count) × (test k ≡ true)
 passes-some test first zero h = absurd (omega arith)
 passes-some test first (suc count) h = step (test first) refl (passes-some test (first + 1) count)
   where
-    step : (v : Bool) → test first ≡ v → (0 < count_by test (range_with_len (first + 1) count) → (k : ℕ) × (k < first + 1 + count) × (test k ≡ true)) → (k : ℕ) × (k < first + suc count) × (test k ≡ true)
+    step : (v : Bool) → test first ≡ v
+        → (0 < count_by test (range_with_len (first + 1) count)
+        → (k : ℕ) × (k < first + 1 + count) × (test k ≡ true))
+        → (k : ℕ) × (k < first + suc count) × (test k ≡ true)
     step true e ih = (first, omega arith, e)
     step false e ih =
         let z : one_if (test first) ≡ 0 = ap one_if e in
         let k = ih (omega (arith, count_by-cons test first (range_with_len (first + 1) count))) in
         (k.0, (let l : k.0 < first + 1 + count = k.1 in omega arith), k.2)
 
-count-map : {A B : Type 0} (test : B → Bool) (f : A → B) (xs : List A) → count_by test (map f xs) ≡ count_by (λ x. test (f x)) xs
+count-map : {A B : Type 0} (test : B → Bool) (f : A → B) (xs : List A)
+    → count_by test (map f xs) ≡ count_by (λ x. test (f x)) xs
 count-map test f [] = refl
-count-map test f (x ∷ xs) = omega (arith, count_by-cons test (f x) (map f xs), count_by-cons (λ y. test (f y)) x xs, count-map test f xs)
+count-map test f (x ∷ xs) =
+    omega (
+      arith,
+      count_by-cons test (f x) (map f xs),
+      count_by-cons (λ y. test (f y)) x xs,
+      count-map test f xs,
+    )
 
-flat-none : (test : Block → Bool) (f : ℕ → List Block) (first count : ℕ) → ((k : ℕ) → first ≤ k → k < first + count → count_by test (f k) ≡ 0) → count_by test (flat_map f (range_with_len first count)) ≡ 0
+flat-none : (test : Block → Bool) (f : ℕ → List Block) (first count : ℕ)
+    → ((k : ℕ) → first ≤ k → k < first + count → count_by test (f k) ≡ 0)
+    → count_by test (flat_map f (range_with_len first count)) ≡ 0
 flat-none test f first zero h = refl
 flat-none test f first (suc count) h =
-    omega (arith, h first (omega arith) (omega arith), count_by-append test (f first) (flat_map f (range_with_len (first + 1) count)), flat-none test f (first + 1) count (λ k a b. h k (omega arith) (omega arith)))
+    omega (
+      arith,
+      h first (omega arith) (omega arith),
+      count_by-append test (f first) (flat_map f (range_with_len (first + 1) count)),
+      flat-none test f (first + 1) count (λ k a b. h k (omega arith) (omega arith)),
+    )
 
-flat-one : (test : Block → Bool) (f : ℕ → List Block) (first count : ℕ) → ((k : ℕ) → count_by test (f k) ≤ 1) → ((a b : ℕ) → 0 < count_by test (f a) → 0 < count_by test (f b) → a ≡ b) → count_by test (flat_map f (range_with_len first count)) ≤ 1
+flat-one : (test : Block → Bool) (f : ℕ → List Block) (first count : ℕ)
+    → ((k : ℕ) → count_by test (f k) ≤ 1)
+    → ((a b : ℕ) → 0 < count_by test (f a) → 0 < count_by test (f b) → a ≡ b)
+    → count_by test (flat_map f (range_with_len first count)) ≤ 1
 flat-one test f first zero each one = omega arith
-flat-one test f first (suc count) each one = step (cases_lt 0 (count_by test (f first))) (flat-one test f (first + 1) count each one)
+flat-one test f first (suc count) each one =
+    step (cases_lt 0 (count_by test (f first))) (flat-one test f (first + 1) count each one)
   where
-    step : (0 < count_by test (f first)) ⊎ (count_by test (f first) ≤ 0) → count_by test (flat_map f (range_with_len (first + 1) count)) ≤ 1 → count_by test (flat_map f (range_with_len first (suc count))) ≤ 1
-    step (inr z) ih = omega (arith, count_by-append test (f first) (flat_map f (range_with_len (first + 1) count)))
+    step : (0 < count_by test (f first)) ⊎ (count_by test (f first) ≤ 0)
+        → count_by test (flat_map f (range_with_len (first + 1) count)) ≤ 1
+        → count_by test (flat_map f (range_with_len first (suc count))) ≤ 1
+    step (inr z) ih = omega
+        (arith, count_by-append test (f first) (flat_map f (range_with_len (first + 1) count)))
     step (inl o) ih =
         let rest : count_by test (flat_map f (range_with_len (first + 1) count)) ≡ 0 =
         flat-none test f (first + 1) count (λ k a b. zero_from k a) in
-        omega (arith, each first, count_by-append test (f first) (flat_map f (range_with_len (first + 1) count)))
+        omega (
+          arith,
+          each first,
+          count_by-append test (f first) (flat_map f (range_with_len (first + 1) count)),
+        )
       where
         zero_from : (k : ℕ) → first + 1 ≤ k → count_by test (f k) ≡ 0
         zero_from k a =
@@ -248,7 +388,9 @@ flat-one test f first (suc count) each one = step (cases_lt 0 (count_by test (f 
               | inr z ↦ omega arith
             ]
 
-one_block : (places : List Place) (page : ℕ) (s t j k : ℕ) → j ≤ max_order → k ≤ max_order → holds places page (record { start = s; order = j }) ≡ true → holds places page (record { start = t; order = k }) ≡ true → (s ≡ t) × (j ≡ k)
+one_block : (places : List Place) (page : ℕ) (s t j k : ℕ) → j ≤ max_order → k ≤ max_order
+    → holds places page (record { start = s; order = j }) ≡ true
+    → holds places page (record { start = t; order = k }) ≡ true → (s ≡ t) × (j ≡ k)
 one_block places page s t j k lj lk hj hk =
     let b : Block = record { start = s; order = j } in
     let c : Block = record { start = t; order = k } in
@@ -257,7 +399,8 @@ one_block places page s t j k lj lk hj hk =
     let same : j ≡ k =
     elim (cases_lt j k) [
       | inl l ↦ absurd (no_larger places page b c lk x y l)
-      | inr l ↦ elim (cases_lt k j) [ inl m ↦ absurd (no_larger places page c b lj y x m) | inr m ↦ omega arith ]
+      | inr l ↦ elim (cases_lt k j)
+          [ inl m ↦ absurd (no_larger places page c b lj y x m) | inr m ↦ omega arith ]
     ] in
     (same_start page b c same x.aligned x.cover y.aligned y.cover, same)
 
@@ -267,22 +410,29 @@ at_most_one places page n = flat-one (holds places page) blocks_at 0 n each_star
     test_at : ℕ → ℕ → Bool
     test_at start order = holds places page (record { start = start; order = order })
 
-    counted : (s : ℕ) → count_by (holds places page) (blocks_at s) ≡ count_by (test_at s) (range_with_len 0 (suc max_order))
-    counted s = count-map (holds places page) (λ order. record { start = s; order = order }) (range_with_len 0 (suc max_order))
+    counted : (s : ℕ) → count_by (holds places page) (blocks_at s)
+        ≡ count_by (test_at s) (range_with_len 0 (suc max_order))
+    counted s = count-map (holds places page) (λ order. record { start = s; order = order })
+        (range_with_len 0 (suc max_order))
 
     each_start : (s : ℕ) → count_by (holds places page) (blocks_at s) ≤ 1
     each_start s =
-        let one = passes-one (test_at s) 0 (suc max_order) (λ a b la lb ha hb. (one_block places page s s a b (omega arith) (omega arith) ha hb).1) in
+        let one = passes-one (test_at s) 0 (suc max_order)
+        (λ a b la lb ha hb. (one_block places page s s a b (omega arith) (omega arith) ha
+        hb).1) in
         omega (arith, counted s, one)
 
-    starts : (s t : ℕ) → 0 < count_by (holds places page) (blocks_at s) → 0 < count_by (holds places page) (blocks_at t) → s ≡ t
+    starts : (s t : ℕ) → 0 < count_by (holds places page) (blocks_at s)
+        → 0 < count_by (holds places page) (blocks_at t) → s ≡ t
     starts s t hs ht =
         let a = passes-some (test_at s) 0 (suc max_order) (omega (arith, counted s)) in
         let b = passes-some (test_at t) 0 (suc max_order) (omega (arith, counted t)) in
-        (one_block places page s t a.0 b.0 (let l : a.0 < 0 + suc max_order = a.1 in omega arith) (let l : b.0 < 0 + suc max_order = b.1 in omega arith) a.2 b.2).0
+        (one_block places page s t a.0 b.0 (let l : a.0 < 0 + suc max_order = a.1 in omega arith)
+        (let l : b.0 < 0 + suc max_order = b.1 in omega arith) a.2 b.2).0
 
 -- the pages of some maximal free blocks are distinct
-pub reported_distinct : (places : List Place) (keep : Block → Bool) (n page : ℕ) → times page (pages_of_all (take n (filter keep (maximal_free_blocks places)))) ≤ 1
+pub reported_distinct : (places : List Place) (keep : Block → Bool) (n page : ℕ)
+    → times page (pages_of_all (take n (filter keep (maximal_free_blocks places)))) ≤ 1
 reported_distinct places keep n page =
     let maximal : List Block = maximal_free_blocks places in
     let a = times_in_blocks page (take n (filter keep maximal)) in

@@ -1,8 +1,10 @@
 -- The pages that a new request names are distinct.
-use Rattle.std.proofs.Common.{◌≡◌, ℕ, zero, suc, ◌+◌, ◌<◌, ◌≤◌, Bool, true, false, cond, List, [], ◌∷◌, ◌++◌, take, refl, ap, subst, arith}
+use Rattle.std.proofs.Common.{◌≡◌, ℕ, zero, suc, ◌+◌, ◌<◌, ◌≤◌, Bool, true, false, cond, List, []}
+use Rattle.std.proofs.Common.{◌∷◌, ◌++◌, take, refl, ap, subst, arith}
 use Rattle.std.specs.Prelude.{◌==◌, ◌&&◌, ◌%◌, not, count_by, nat_lt, nat_le, filter, map}
 use Rattle.std.specs.List.{list_all, list_any, range_with_len, flat_map}
-use Rattle.std.proofs.lemmas.Bool.{eqb-true, eqb-false, eq-eqb, ne_eqb, false_from_ne_true, and_parts, cases_eq}
+use Rattle.std.proofs.lemmas.Bool.{eqb-true, eqb-false, eq-eqb, ne_eqb, false_from_ne_true}
+use Rattle.std.proofs.lemmas.Bool.{and_parts, cases_eq}
 use Rattle.vb_model.specs.declared.places.Place.{Place}
 use Rattle.vb_model.specs.declared.places.Place.TheVariants.{Reserved}
 use Rattle.vb_model.specs.Tests.{is_in, one_if, pages_from, pages_where}
@@ -11,57 +13,78 @@ use Rattle.vb_model.specs.Guest.{Guest}
 use Rattle.vb_model.specs.Driver.{AllFreePages, AllDistinct, stranded_first}
 use Rattle.vb_model.specs.Refusals.{inflate_count}
 use Rattle.vb_model.specs.Orderly.{times}
-use Rattle.vb_model.proofs.Tables.{count_by-append, count_by-cons, is_in-take, list_all-at, pages_where-passes}
+use Rattle.vb_model.proofs.Tables.{count_by-append, count_by-cons, is_in-take, list_all-at}
+use Rattle.vb_model.proofs.Tables.{pages_where-passes}
 
-pub times-append : (page : ℕ) (xs ys : List ℕ) → times page (xs ++ ys) ≡ times page xs + times page ys
+pub times-append : (page : ℕ) (xs ys : List ℕ)
+    → times page (xs ++ ys) ≡ times page xs + times page ys
 times-append page xs ys = count_by-append (λ (p : ℕ). p == page) xs ys
 
-pub times-cons : (page x : ℕ) (xs : List ℕ) → times page (x ∷ xs) ≡ one_if (x == page) + times page xs
+pub times-cons : (page x : ℕ) (xs : List ℕ)
+    → times page (x ∷ xs) ≡ one_if (x == page) + times page xs
 times-cons page x xs = count_by-cons (λ (p : ℕ). p == page) x xs
 
 pub times-none : (page : ℕ) (xs : List ℕ) → is_in page xs ≡ false → times page xs ≡ 0
 times-none page [] h = refl
 times-none page (x ∷ xs) h = step (x == page) refl h (times-none page xs)
   where
-    step : (v : Bool) → (x == page) ≡ v → Rattle.std.specs.Prelude.◌||◌ v (is_in page xs) ≡ false → (is_in page xs ≡ false → times page xs ≡ 0) → times page (x ∷ xs) ≡ 0
+    step : (v : Bool) → (x == page) ≡ v → Rattle.std.specs.Prelude.◌||◌ v (is_in page xs) ≡ false
+        → (is_in page xs ≡ false → times page xs ≡ 0) → times page (x ∷ xs) ≡ 0
     step true e h ih = absurd cc
-    step false e h ih = let z : one_if (x == page) ≡ 0 = ap one_if e in omega (arith, times-cons page x xs, ih h)
+    step false e h ih = let z : one_if (x == page) ≡ 0 = ap one_if e in
+        omega (arith, times-cons page x xs, ih h)
 
 pub times-take : (page n : ℕ) (xs : List ℕ) → times page (take n xs) ≤ times page xs
 times-take page zero xs = omega arith
 times-take page (suc n) [] = omega arith
-times-take page (suc n) (x ∷ xs) = omega (arith, times-cons page x xs, times-cons page x (take n xs), times-take page n xs)
+times-take page (suc n) (x ∷ xs) =
+    omega (arith, times-cons page x xs, times-cons page x (take n xs), times-take page n xs)
 
 -- rising pages from one on
-times_below : {A : Type 0} (test : A → Bool) (xs : List A) (first page : ℕ) → page < first → times page (pages_from first test xs) ≡ 0
+times_below : {A : Type 0} (test : A → Bool) (xs : List A) (first page : ℕ) → page < first
+    → times page (pages_from first test xs) ≡ 0
 times_below test [] first page l = refl
-times_below test (x ∷ xs) first page l = step (test x) (times_below test xs (suc first) page (omega arith))
+times_below test (x ∷ xs) first page l =
+    step (test x) (times_below test xs (suc first) page (omega arith))
   where
-    step : (v : Bool) → times page (pages_from (suc first) test xs) ≡ 0 → times page (cond v (first ∷ pages_from (suc first) test xs) (pages_from (suc first) test xs)) ≡ 0
+    step : (v : Bool) → times page (pages_from (suc first) test xs) ≡ 0
+        → times page (cond v (first ∷ pages_from (suc first) test xs)
+        (pages_from (suc first) test xs)) ≡ 0
     step false ih = ih
     step true ih =
-        let z : one_if (first == page) ≡ 0 = ap one_if (ne_eqb first page (λ e. absurd (omega arith))) in
+        let z : one_if (first == page) ≡ 0 =
+        ap one_if (ne_eqb first page (λ e. absurd (omega arith))) in
         omega (arith, times-cons page first (pages_from (suc first) test xs))
 
-times_rising : {A : Type 0} (test : A → Bool) (xs : List A) (first page : ℕ) → times page (pages_from first test xs) ≤ 1
+times_rising : {A : Type 0} (test : A → Bool) (xs : List A) (first page : ℕ)
+    → times page (pages_from first test xs) ≤ 1
 times_rising test [] first page = omega arith
 times_rising test (x ∷ xs) first page = step (test x) (times_rising test xs (suc first) page)
   where
-    here : (v : Bool) → (first == page) ≡ v → times page (pages_from (suc first) test xs) ≤ 1 → times page (first ∷ pages_from (suc first) test xs) ≤ 1
+    here : (v : Bool) → (first == page) ≡ v → times page (pages_from (suc first) test xs) ≤ 1
+        → times page (first ∷ pages_from (suc first) test xs) ≤ 1
     here true e ih =
         let same : first ≡ page = eqb-true first page e in
         let one : one_if (first == page) ≡ 1 = ap one_if e in
-        omega (arith, times-cons page first (pages_from (suc first) test xs), times_below test xs (suc first) page (omega arith))
+        omega (
+          arith,
+          times-cons page first (pages_from (suc first) test xs),
+          times_below test xs (suc first) page (omega arith),
+        )
     here false e ih =
         let one : one_if (first == page) ≡ 0 = ap one_if e in
         omega (arith, times-cons page first (pages_from (suc first) test xs))
 
-    step : (v : Bool) → times page (pages_from (suc first) test xs) ≤ 1 → times page (cond v (first ∷ pages_from (suc first) test xs) (pages_from (suc first) test xs)) ≤ 1
+    step : (v : Bool) → times page (pages_from (suc first) test xs) ≤ 1
+        → times page (cond v (first ∷ pages_from (suc first) test xs)
+        (pages_from (suc first) test xs)) ≤ 1
     step false ih = ih
     step true ih = here (first == page) refl ih
 
-pub distinct_where : {A : Type 0} (test : A → Bool) (xs : List A) (n page : ℕ) → times page (take n (pages_where test xs)) ≤ 1
-distinct_where test xs n page = omega (arith, times-take page n (pages_where test xs), times_rising test xs 0 page)
+pub distinct_where : {A : Type 0} (test : A → Bool) (xs : List A) (n page : ℕ)
+    → times page (take n (pages_where test xs)) ≤ 1
+distinct_where test xs n page =
+    omega (arith, times-take page n (pages_where test xs), times_rising test xs 0 page)
 
 distinct_list : (xs : List ℕ) (page : ℕ) → AllDistinct xs → times page xs ≤ 1
 distinct_list [] page h = omega arith
@@ -71,12 +94,16 @@ distinct_list (x ∷ xs) page h = step (x == page) refl (distinct_list xs page h
     step true e ih =
         let same : x ≡ page = eqb-true x page e in
         let one : one_if (x == page) ≡ 1 = ap one_if e in
-        let out : is_in page xs ≡ false = subst (λ (p : ℕ). is_in p xs ≡ false) same (Rattle.std.proofs.lemmas.Bool.not-true (is_in x xs) h.0) in
+        let out : is_in page xs ≡ false =
+        subst (λ (p : ℕ). is_in p xs ≡ false) same
+        (Rattle.std.proofs.lemmas.Bool.not-true (is_in x xs) h.0) in
         omega (arith, times-cons page x xs, times-none page xs out)
-    step false e ih = let one : one_if (x == page) ≡ 0 = ap one_if e in omega (arith, times-cons page x xs, ih)
+    step false e ih = let one : one_if (x == page) ≡ 0 = ap one_if e in
+        omega (arith, times-cons page x xs, ih)
 
 -- stranded pages and then free ones
-pub inflated_distinct : (g : Guest) (n : ℕ) (others : List ℕ) (page : ℕ) → AllFreePages g others → AllDistinct others → times page (stranded_first g n ++ others) ≤ 1
+pub inflated_distinct : (g : Guest) (n : ℕ) (others : List ℕ) (page : ℕ) → AllFreePages g others
+    → AllDistinct others → times page (stranded_first g n ++ others) ≤ 1
 inflated_distinct g n others page free distinct = step (is_in page others) refl
   where
     apart : (place : Place) → is_free place ≡ true → is_stranded place ≡ true → ⊥
@@ -84,9 +111,22 @@ inflated_distinct g n others page free distinct = step (is_in page others) refl
     apart _ a b = cc
 
     step : (v : Bool) → is_in page others ≡ v → times page (stranded_first g n ++ others) ≤ 1
-    step false e = omega (arith, times-append page (stranded_first g n) others, times-none page others e, distinct_where is_stranded g.places (inflate_count g n) page)
+    step false e = omega (
+      arith,
+      times-append page (stranded_first g n) others,
+      times-none page others e,
+      distinct_where is_stranded g.places (inflate_count g n) page,
+    )
     step true e =
-        let f : is_free (place_of g.places page) ≡ true = list_all-at (λ p. is_free (place_of g.places p)) others page free e in
+        let f : is_free (place_of g.places page) ≡ true =
+        list_all-at (λ p. is_free (place_of g.places p)) others page free e in
         let out : is_in page (stranded_first g n) ≡ false =
-        false_from_ne_true _ (λ k. apart (place_of g.places page) f (pages_where-passes is_stranded g.places page Reserved (is_in-take page (inflate_count g n) (pages_where is_stranded g.places) k))) in
-        omega (arith, times-append page (stranded_first g n) others, times-none page (stranded_first g n) out, distinct_list others page distinct)
+        false_from_ne_true _ (λ k. apart (place_of g.places page) f
+        (pages_where-passes is_stranded g.places page Reserved
+        (is_in-take page (inflate_count g n) (pages_where is_stranded g.places) k))) in
+        omega (
+          arith,
+          times-append page (stranded_first g n) others,
+          times-none page (stranded_first g n) out,
+          distinct_list others page distinct,
+        )

@@ -1,10 +1,13 @@
 -- Worked facts of the driver's inflates, deflates and reaps.
-use Rattle.std.proofs.Common.{◌≡◌, ℕ, zero, suc, ◌+◌, ◌<◌, true, false, List, [], ◌∷◌, ◌++◌, map, replicate, length, drop, refl, sym, ap, subst, ◌∙◌, arith}
+use Rattle.std.proofs.Common.{◌≡◌, ℕ, zero, suc, ◌+◌, ◌<◌, true, false, List, [], ◌∷◌, ◌++◌, map}
+use Rattle.std.proofs.Common.{replicate, length, drop, refl, sym, ap, subst, ◌∙◌, arith}
 use Rattle.std.specs.Prelude.{Some, None}
 use Rattle.vb_model.specs.declared.places.Place.{Place}
-use Rattle.vb_model.specs.declared.places.Place.TheVariants.{Reserved, Free, Giving, Lent, Taking, Stranded, Reporting}
+use Rattle.vb_model.specs.declared.places.Place.TheVariants.{Reserved, Free, Giving, Lent, Taking}
+use Rattle.vb_model.specs.declared.places.Place.TheVariants.{Stranded, Reporting}
 use Rattle.vb_model.specs.declared.calls.Call.TheVariants.{Inflate, Deflate, Oom, Reap}
-use Rattle.vb_model.specs.declared.replies.Refusal.TheVariants.{NotReady, QueueFull, Nothing, NoFeature, NoQueue}
+use Rattle.vb_model.specs.declared.replies.Refusal.TheVariants.{NotReady, QueueFull, Nothing}
+use Rattle.vb_model.specs.declared.replies.Refusal.TheVariants.{NoFeature, NoQueue}
 use Rattle.vb_model.specs.declared.replies.Reply.TheVariants.{Posted, Reaped, NotUsed}
 use Rattle.vb_model.specs.Requests.{Request, Requests, no_requests, IsLeastHead}
 use Rattle.vb_model.specs.Guest.{Guest}
@@ -18,40 +21,52 @@ use Rattle.vb_model.proofs.Samples.{config, ready, down, without_oom, request}
 -- so many lent, giving, stranded and free pages, and a target
 abbrev counts : ℕ → ℕ → ℕ → ℕ → ℕ → Guest
 counts lent giving stranded free target = record ready {
-  places = replicate 16 Reserved ++ (replicate lent Lent ++ (replicate giving Giving ++ (replicate stranded Stranded ++ (replicate free Free ++ (Taking ∷ Reporting ∷ [])))));
+  places = replicate 16 Reserved
+      ++ (replicate lent Lent
+      ++ (replicate giving Giving
+      ++ (replicate stranded Stranded ++ (replicate free Free ++ (Taking ∷ Reporting ∷ [])))));
   target = target;
 }
 
 -- an inflate: what is asked for, 256, what the target lacks, what there is
-inflates_up_to_the_target : map (inflate_count (counts 3 2 0 10 9)) (0 ∷ 1 ∷ 3 ∷ 4 ∷ 5 ∷ 300 ∷ []) ≡ 0 ∷ 1 ∷ 3 ∷ 4 ∷ 4 ∷ 4 ∷ []
+inflates_up_to_the_target : map (inflate_count (counts 3 2 0 10 9)) (0 ∷ 1 ∷ 3 ∷ 4 ∷ 5 ∷ 300 ∷ [])
+    ≡ 0 ∷ 1 ∷ 3 ∷ 4 ∷ 4 ∷ 4 ∷ []
 inflates_up_to_the_target = refl
 
-inflates_nothing_above_it : inflate_count (counts 3 2 0 10 5) 300 ∷ inflate_count (counts 3 2 0 10 4) 300 ∷ [] ≡ 0 ∷ 0 ∷ []
+inflates_nothing_above_it : inflate_count (counts 3 2 0 10 5) 300
+    ∷ inflate_count (counts 3 2 0 10 4) 300 ∷ [] ≡ 0 ∷ 0 ∷ []
 inflates_nothing_above_it = refl
 
 -- stranded pages whatever the target is
-inflates_stranded_pages : inflate_count (counts 3 2 6 10 9) 300 ∷ inflate_count (counts 3 2 6 10 0) 300 ∷ inflate_count (counts 3 2 3 10 9) 300 ∷ [] ≡ 6 ∷ 6 ∷ 4 ∷ []
+inflates_stranded_pages : inflate_count (counts 3 2 6 10 9) 300
+    ∷ inflate_count (counts 3 2 6 10 0) 300 ∷ inflate_count (counts 3 2 3 10 9) 300 ∷ [] ≡ 6 ∷ 6 ∷ 4
+    ∷ []
 inflates_stranded_pages = refl
 
 inflates_what_there_is : inflate_count (counts 3 2 1 10 40) 300 ≡ 11
 inflates_what_there_is = refl
 
 -- a deflate: what is asked for, 256, what is lent, what the target allows
-deflates_down_to_the_target : map (deflate_count (counts 5 2 6 10 4)) (0 ∷ 2 ∷ 3 ∷ 4 ∷ 300 ∷ []) ≡ 0 ∷ 2 ∷ 3 ∷ 3 ∷ 3 ∷ []
+deflates_down_to_the_target : map (deflate_count (counts 5 2 6 10 4)) (0 ∷ 2 ∷ 3 ∷ 4 ∷ 300 ∷ []) ≡ 0
+    ∷ 2 ∷ 3 ∷ 3 ∷ 3 ∷ []
 deflates_down_to_the_target = refl
 
 deflates_what_is_lent : deflate_count (counts 5 2 6 10 0) 300 ≡ 5
 deflates_what_is_lent = refl
 
-deflates_nothing_below_it : deflate_count (counts 5 2 6 10 7) 300 ∷ deflate_count (counts 5 2 6 10 9) 300 ∷ [] ≡ 0 ∷ 0 ∷ []
+deflates_nothing_below_it : deflate_count (counts 5 2 6 10 7) 300
+    ∷ deflate_count (counts 5 2 6 10 9) 300 ∷ [] ≡ 0 ∷ 0 ∷ []
 deflates_nothing_below_it = refl
 
 -- for want of memory: what is lent, whatever the target is
-oom_whatever_the_target : map (oom_count (counts 5 2 6 10 40)) (0 ∷ 2 ∷ 5 ∷ 300 ∷ []) ≡ 0 ∷ 2 ∷ 5 ∷ 5 ∷ []
+oom_whatever_the_target : map (oom_count (counts 5 2 6 10 40)) (0 ∷ 2 ∷ 5 ∷ 300 ∷ []) ≡ 0 ∷ 2 ∷ 5
+    ∷ 5 ∷ []
 oom_whatever_the_target = refl
 
 -- at most 256 pages in a request
-at_most_256 : inflate_count (counts 0 0 0 300 300) 300 ∷ inflate_count (counts 0 0 300 0 0) 300 ∷ deflate_count (counts 300 0 0 0 0) 300 ∷ oom_count (counts 300 0 0 0 0) 300 ∷ [] ≡ 256 ∷ 256 ∷ 256 ∷ 256 ∷ []
+at_most_256 : inflate_count (counts 0 0 0 300 300) 300 ∷ inflate_count (counts 0 0 300 0 0) 300
+    ∷ deflate_count (counts 300 0 0 0 0) 300 ∷ oom_count (counts 300 0 0 0 0) 300 ∷ [] ≡ 256 ∷ 256
+    ∷ 256 ∷ 256 ∷ []
 at_most_256 = refl
 
 -- ---- heads: the least that no request of the kind has, in whatever stage
@@ -60,12 +75,19 @@ no_head_out : IsLeastHead no_requests 0
 no_head_out = record { new = refl; least = λ h l. absurd (omega arith) }
 
 abbrev heads : ℕ → ℕ → ℕ → Requests
-heads a b c = record { posted = request a [] 0 ∷ []; taken = request b [] 0 ∷ []; done = request c [] 0 ∷ [] }
+heads a b c = record {
+  posted = request a [] 0 ∷ [];
+  taken = request b [] 0
+      ∷ [];
+  done = request c [] 0 ∷ [];
+}
 
 third_head : IsLeastHead (heads 0 2 1) 3
 third_head = record { new = refl; least = least }
   where
-    least : (h : ℕ) → h < 3 → 0 < Rattle.vb_model.specs.Requests.headed h (Rattle.vb_model.specs.Requests.all_requests (heads 0 2 1))
+    least : (h : ℕ) → h < 3
+        → 0 < Rattle.vb_model.specs.Requests.headed h
+        (Rattle.vb_model.specs.Requests.all_requests (heads 0 2 1))
     least zero l = omega arith
     least (suc zero) l = omega arith
     least (suc (suc zero)) l = omega arith
@@ -74,17 +96,22 @@ third_head = record { new = refl; least = least }
 head_between : IsLeastHead (heads 3 0 2) 1
 head_between = record { new = refl; least = least }
   where
-    least : (h : ℕ) → h < 1 → 0 < Rattle.vb_model.specs.Requests.headed h (Rattle.vb_model.specs.Requests.all_requests (heads 3 0 2))
+    least : (h : ℕ) → h < 1
+        → 0 < Rattle.vb_model.specs.Requests.headed h
+        (Rattle.vb_model.specs.Requests.all_requests (heads 3 0 2))
     least zero l = omega arith
     least (suc h) l = absurd (omega arith)
 
 -- ---- inflate: stranded pages first, lowest first, then any free ones
 
 abbrev at_places : List Place → Guest
-at_places places = record ready { places = replicate 16 Reserved ++ (places ++ replicate 40 Free); target = 4 }
+at_places places = record ready
+    { places = replicate 16 Reserved ++ (places ++ replicate 40 Free); target = 4 }
 
 abbrev two_stranded : Guest
-two_stranded = record (at_places (Free ∷ Lent ∷ Free ∷ Free ∷ Stranded ∷ Stranded ∷ Free ∷ Free ∷ [])) { inflate = heads 0 2 1 }
+two_stranded = record
+    (at_places (Free ∷ Lent ∷ Free ∷ Free ∷ Stranded ∷ Stranded ∷ Free ∷ Free ∷ []))
+    { inflate = heads 0 2 1 }
 
 abbrev first : List ℕ → ℕ
 first [] = 0
@@ -100,63 +127,88 @@ pages_of_second _ = []
 abbrev with_last : Requests → Request → Requests
 with_last rs r = record rs { posted = rs.posted ++ (r ∷ []) }
 
-offered : HonestStep two_stranded (Inflate 3) [] (Posted 3 3) (record (at_places (Free ∷ Lent ∷ Free ∷ Giving ∷ Giving ∷ Giving ∷ Free ∷ Free ∷ [])) { inflate = with_last (heads 0 2 1) (request 3 (20 ∷ 21 ∷ 19 ∷ []) 0) })
+offered : HonestStep two_stranded (Inflate 3) [] (Posted 3 3)
+    (record (at_places (Free ∷ Lent ∷ Free ∷ Giving ∷ Giving ∷ Giving ∷ Free ∷ Free ∷ []))
+    { inflate = with_last (heads 0 2 1) (request 3 (20 ∷ 21 ∷ 19 ∷ []) 0) })
 offered = (refl, (3, 19 ∷ [], third_head, refl, (refl, tt), refl, refl, refl))
 
 -- any free page will do
-offered_another : HonestStep two_stranded (Inflate 3) [] (Posted 3 3) (record (at_places (Free ∷ Lent ∷ Free ∷ Free ∷ Giving ∷ Giving ∷ Free ∷ Giving ∷ [])) { inflate = with_last (heads 0 2 1) (request 3 (20 ∷ 21 ∷ 23 ∷ []) 0) })
+offered_another : HonestStep two_stranded (Inflate 3) [] (Posted 3 3)
+    (record (at_places (Free ∷ Lent ∷ Free ∷ Free ∷ Giving ∷ Giving ∷ Free ∷ Giving ∷ []))
+    { inflate = with_last (heads 0 2 1) (request 3 (20 ∷ 21 ∷ 23 ∷ []) 0) })
 offered_another = (refl, (3, 23 ∷ [], third_head, refl, (refl, tt), refl, refl, refl))
 
 -- as far as the target goes, whatever is asked for
-offered_up_to_the_target : HonestStep two_stranded (Inflate 300) [] (Posted 3 3) (record (at_places (Free ∷ Lent ∷ Free ∷ Giving ∷ Giving ∷ Giving ∷ Free ∷ Free ∷ [])) { inflate = with_last (heads 0 2 1) (request 3 (20 ∷ 21 ∷ 19 ∷ []) 0) })
+offered_up_to_the_target : HonestStep two_stranded (Inflate 300) [] (Posted 3 3)
+    (record (at_places (Free ∷ Lent ∷ Free ∷ Giving ∷ Giving ∷ Giving ∷ Free ∷ Free ∷ []))
+    { inflate = with_last (heads 0 2 1) (request 3 (20 ∷ 21 ∷ 19 ∷ []) 0) })
 offered_up_to_the_target = (refl, (3, 19 ∷ [], third_head, refl, (refl, tt), refl, refl, refl))
 
 -- but no other number of pages than is told, no page twice, and free ones alone
 abbrev Offers : List ℕ → Type 0
-Offers pages = (new : Guest) → HonestStep two_stranded (Inflate 3) [] (Posted 3 3) new → new.inflate ≡ with_last (heads 0 2 1) (request 3 pages 0) → ⊥
+Offers pages = (new : Guest) → HonestStep two_stranded (Inflate 3) [] (Posted 3 3) new
+    → new.inflate ≡ with_last (heads 0 2 1) (request 3 pages 0) → ⊥
 
 -- the pages of the new request, which stands behind one other
 abbrev newest : Guest → List ℕ
 newest g = pages_of_second g.inflate.posted
 
 -- the pages after the two stranded ones
-others_are : (others : List ℕ) (new : Guest) (s : HonestStep two_stranded (Inflate 3) [] (Posted 3 3) new) → new.inflate ≡ with_last (heads 0 2 1) (request 3 (20 ∷ 21 ∷ others) 0) → s.1.1 ≡ others
+others_are : (others : List ℕ) (new : Guest)
+    (s : HonestStep two_stranded (Inflate 3) [] (Posted 3 3) new)
+    → new.inflate ≡ with_last (heads 0 2 1) (request 3 (20 ∷ 21 ∷ others) 0) → s.1.1 ≡ others
 others_are others new s e =
-    let named : 20 ∷ 21 ∷ s.1.1 ≡ 20 ∷ 21 ∷ others = sym (ap newest s.1.7) ∙ ap (λ (rs : Requests). pages_of_second rs.posted) e in
+    let named : 20 ∷ 21 ∷ s.1.1 ≡ 20 ∷ 21 ∷ others =
+    sym (ap newest s.1.7) ∙ ap (λ (rs : Requests). pages_of_second rs.posted) e in
     ap (drop 2) named
 
 one_page_too_few : Offers (20 ∷ 21 ∷ [])
-one_page_too_few new s e = let same : s.1.1 ≡ [] = others_are [] new s e in let n : 2 + length s.1.1 ≡ 3 = s.1.5 in absurd (omega (arith, ap length same))
+one_page_too_few new s e = let same : s.1.1 ≡ [] = others_are [] new s e in
+    let n : 2 + length s.1.1 ≡ 3 = s.1.5 in absurd (omega (arith, ap length same))
 
 one_page_too_many : Offers (20 ∷ 21 ∷ 19 ∷ 22 ∷ [])
-one_page_too_many new s e = let same : s.1.1 ≡ 19 ∷ 22 ∷ [] = others_are (19 ∷ 22 ∷ []) new s e in let n : 2 + length s.1.1 ≡ 3 = s.1.5 in absurd (omega (arith, ap length same))
+one_page_too_many new s e = let same : s.1.1 ≡ 19 ∷ 22 ∷ [] = others_are (19 ∷ 22 ∷ []) new s e in
+    let n : 2 + length s.1.1 ≡ 3 = s.1.5 in absurd (omega (arith, ap length same))
 
 a_lent_page : Offers (20 ∷ 21 ∷ 17 ∷ [])
-a_lent_page new s e = let t : false ≡ true = subst (AllFreePages two_stranded) (others_are (17 ∷ []) new s e) s.1.3 in cc
+a_lent_page new s e = let t : false ≡ true =
+    subst (AllFreePages two_stranded) (others_are (17 ∷ []) new s e) s.1.3 in cc
 
 free_pages_first : Offers (18 ∷ 20 ∷ 21 ∷ [])
 free_pages_first new s e =
-    let named : 20 ∷ 21 ∷ s.1.1 ≡ 18 ∷ 20 ∷ 21 ∷ [] = sym (ap newest s.1.7) ∙ ap (λ (rs : Requests). pages_of_second rs.posted) e in
+    let named : 20 ∷ 21 ∷ s.1.1 ≡ 18 ∷ 20 ∷ 21 ∷ [] =
+    sym (ap newest s.1.7) ∙ ap (λ (rs : Requests). pages_of_second rs.posted) e in
     let same : Same 20 18 = ap first named in
     absurd (omega arith)
 
-fewest_pages_first : HonestStep two_stranded (Inflate 1) [] (Posted 3 1) (record (at_places (Free ∷ Lent ∷ Free ∷ Free ∷ Giving ∷ Stranded ∷ Free ∷ Free ∷ [])) { inflate = with_last (heads 0 2 1) (request 3 (20 ∷ []) 0) })
+fewest_pages_first : HonestStep two_stranded (Inflate 1) [] (Posted 3 1)
+    (record (at_places (Free ∷ Lent ∷ Free ∷ Free ∷ Giving ∷ Stranded ∷ Free ∷ Free ∷ []))
+    { inflate = with_last (heads 0 2 1) (request 3 (20 ∷ []) 0) })
 fewest_pages_first = (refl, (3, [], third_head, refl, tt, refl, refl, refl))
 
 -- ---- deflate: the lowest lent pages
 
 abbrev four_lent : Guest
-four_lent = record (at_places (Taking ∷ Lent ∷ Lent ∷ Giving ∷ Free ∷ Lent ∷ Lent ∷ Free ∷ [])) { deflate = heads 3 0 2; target = 2 }
+four_lent = record (at_places (Taking ∷ Lent ∷ Lent ∷ Giving ∷ Free ∷ Lent ∷ Lent ∷ Free ∷ []))
+    { deflate = heads 3 0 2; target = 2 }
 
-asked_back : HonestStep four_lent (Deflate 3) [] (Posted 1 3) (record (at_places (Taking ∷ Taking ∷ Taking ∷ Giving ∷ Free ∷ Taking ∷ Lent ∷ Free ∷ [])) { deflate = with_last (heads 3 0 2) (request 1 (17 ∷ 18 ∷ 21 ∷ []) 0); target = 2 })
+asked_back : HonestStep four_lent (Deflate 3) [] (Posted 1 3)
+    (record (at_places (Taking ∷ Taking ∷ Taking ∷ Giving ∷ Free ∷ Taking ∷ Lent ∷ Free ∷ []))
+    { deflate = with_last (heads 3 0 2) (request 1 (17 ∷ 18 ∷ 21 ∷ []) 0); target = 2 })
 asked_back = (refl, (1, head_between, refl, refl))
 
 -- as far as the target allows
-asked_back_to_the_target : HonestStep (record four_lent { target = 3 }) (Deflate 300) [] (Posted 1 2) (record (at_places (Taking ∷ Taking ∷ Taking ∷ Giving ∷ Free ∷ Lent ∷ Lent ∷ Free ∷ [])) { deflate = with_last (heads 3 0 2) (request 1 (17 ∷ 18 ∷ []) 0); target = 3 })
+asked_back_to_the_target : HonestStep (record four_lent { target = 3 }) (Deflate 300) []
+    (Posted 1 2) (record (at_places
+    (Taking ∷ Taking ∷ Taking ∷ Giving ∷ Free ∷ Lent ∷ Lent ∷ Free ∷ []))
+    { deflate = with_last (heads 3 0 2) (request 1 (17 ∷ 18 ∷ []) 0); target = 3 })
 asked_back_to_the_target = (refl, (1, head_between, refl, refl))
 
 -- and for want of memory beyond it
-asked_back_for_want_of_memory : HonestStep (record four_lent { target = 40 }) (Oom 1) [] (Posted 1 1) (record (at_places (Taking ∷ Taking ∷ Lent ∷ Giving ∷ Free ∷ Lent ∷ Lent ∷ Free ∷ [])) { deflate = with_last (heads 3 0 2) (request 1 (17 ∷ []) 0); target = 40 })
+asked_back_for_want_of_memory : HonestStep (record four_lent { target = 40 }) (Oom 1) []
+    (Posted 1 1) (record (at_places
+    (Taking ∷ Taking ∷ Lent ∷ Giving ∷ Free ∷ Lent ∷ Lent ∷ Free ∷ []))
+    { deflate = with_last (heads 3 0 2) (request 1 (17 ∷ []) 0); target = 40 })
 asked_back_for_want_of_memory = (refl, (1, head_between, refl, refl))
 
 -- ---- refusals, in order
@@ -168,43 +220,95 @@ narrow g = record g { config = record config { queue_size = 2 } }
 abbrev two_out : Requests
 two_out = record { posted = []; taken = request 0 [] 0 ∷ []; done = request 1 [] 0 ∷ [] }
 
-inflate_refusals : refusal_of (narrow (record down { inflate = two_out })) (Inflate 0) ∷ refusal_of (narrow (record ready { inflate = two_out })) (Inflate 0) ∷ refusal_of (narrow (record ready { deflate = two_out; report = two_out })) (Inflate 0) ∷ [] ≡ Some NotReady ∷ Some QueueFull ∷ Some Nothing ∷ []
+inflate_refusals : refusal_of (narrow (record down { inflate = two_out })) (Inflate 0)
+    ∷ refusal_of (narrow (record ready { inflate = two_out })) (Inflate 0)
+    ∷ refusal_of (narrow (record ready { deflate = two_out; report = two_out })) (Inflate 0)
+    ∷ [] ≡ Some NotReady ∷ Some QueueFull ∷ Some Nothing ∷ []
 inflate_refusals = refl
 
-deflate_refusals : refusal_of (narrow (record down { deflate = two_out })) (Deflate 0) ∷ refusal_of (narrow (record ready { deflate = two_out })) (Deflate 0) ∷ refusal_of (narrow (record ready { inflate = two_out; report = two_out })) (Deflate 0) ∷ [] ≡ Some NotReady ∷ Some QueueFull ∷ Some Nothing ∷ []
+deflate_refusals : refusal_of (narrow (record down { deflate = two_out })) (Deflate 0)
+    ∷ refusal_of (narrow (record ready { deflate = two_out })) (Deflate 0)
+    ∷ refusal_of (narrow (record ready { inflate = two_out; report = two_out })) (Deflate 0)
+    ∷ [] ≡ Some NotReady ∷ Some QueueFull ∷ Some Nothing ∷ []
 deflate_refusals = refl
 
-oom_refusals : refusal_of (narrow (record down { deflate = two_out })) (Oom 0) ∷ refusal_of (narrow (record without_oom { deflate = two_out })) (Oom 0) ∷ refusal_of (narrow (record ready { deflate = two_out })) (Oom 0) ∷ refusal_of (narrow (record ready { inflate = two_out; report = two_out })) (Oom 0) ∷ [] ≡ Some NotReady ∷ Some NoFeature ∷ Some QueueFull ∷ Some Nothing ∷ []
+oom_refusals : refusal_of (narrow (record down { deflate = two_out })) (Oom 0)
+    ∷ refusal_of (narrow (record without_oom { deflate = two_out })) (Oom 0)
+    ∷ refusal_of (narrow (record ready { deflate = two_out })) (Oom 0)
+    ∷ refusal_of (narrow (record ready { inflate = two_out; report = two_out })) (Oom 0)
+    ∷ [] ≡ Some NotReady ∷ Some NoFeature ∷ Some QueueFull ∷ Some Nothing ∷ []
 oom_refusals = refl
 
 -- just the feature of its own, and none for the other two
-features_needed : refusal_of (record four_lent { features = 4 }) (Oom 1) ∷ refusal_of (record four_lent { features = 0; target = 0 }) (Deflate 1) ∷ refusal_of (record two_stranded { features = 0 }) (Inflate 1) ∷ [] ≡ None ∷ None ∷ None ∷ []
+features_needed : refusal_of (record four_lent { features = 4 }) (Oom 1)
+    ∷ refusal_of (record four_lent { features = 0; target = 0 }) (Deflate 1)
+    ∷ refusal_of (record two_stranded { features = 0 }) (Inflate 1) ∷ [] ≡ None ∷ None ∷ None ∷ []
 features_needed = refl
 
 -- min(queue size, 16) requests
-rooms : map (λ queue_size. room (record ready { config = record config { queue_size = queue_size } })) (2 ∷ 8 ∷ 16 ∷ 32 ∷ 128 ∷ []) ≡ 2 ∷ 8 ∷ 16 ∷ 16 ∷ 16 ∷ []
+rooms : map (λ queue_size. room
+    (record ready { config = record config { queue_size = queue_size } }))
+    (2 ∷ 8 ∷ 16 ∷ 32 ∷ 128 ∷ []) ≡ 2 ∷ 8 ∷ 16 ∷ 16 ∷ 16 ∷ []
 rooms = refl
 
 -- ---- reap: the first used request; its pages move on, and `actual` counts lent and taking pages
 
 abbrev two_used : List ℕ → List ℕ → Requests
-two_used first second = record { posted = request 3 (30 ∷ []) 0 ∷ []; taken = request 4 (31 ∷ []) 0 ∷ []; done = request 2 first 1 ∷ request 0 second 0 ∷ [] }
+two_used first second =
+    record {
+      posted = request 3 (30 ∷ []) 0 ∷ [];
+      taken = request 4 (31 ∷ []) 0
+          ∷ [];
+      done = request 2 first 1 ∷ request 0 second 0 ∷ [];
+    }
 
 abbrev one_used : List ℕ → Requests
-one_used second = record { posted = request 3 (30 ∷ []) 0 ∷ []; taken = request 4 (31 ∷ []) 0 ∷ []; done = request 0 second 0 ∷ [] }
+one_used second = record {
+  posted = request 3 (30 ∷ []) 0 ∷ [];
+  taken = request 4 (31 ∷ []) 0
+      ∷ [];
+  done = request 0 second 0 ∷ [];
+}
 
 abbrev reaping : List Place → ℕ → Guest
 reaping places actual = record (at_places places) { actual = actual }
 
-reaped_inflate : HonestStep (record (reaping (Giving ∷ Giving ∷ Giving ∷ Lent ∷ Taking ∷ Taking ∷ Free ∷ Stranded ∷ []) 3) { inflate = two_used (16 ∷ 18 ∷ []) (17 ∷ []) }) (Reap 0) [] (Reaped 2 2) (record (reaping (Lent ∷ Giving ∷ Lent ∷ Lent ∷ Taking ∷ Taking ∷ Free ∷ Stranded ∷ []) 5) { inflate = one_used (17 ∷ []) })
+reaped_inflate : HonestStep
+    (record (reaping (Giving ∷ Giving ∷ Giving ∷ Lent ∷ Taking ∷ Taking ∷ Free ∷ Stranded ∷ []) 3)
+    { inflate = two_used (16 ∷ 18 ∷ []) (17 ∷ []) }) (Reap 0) [] (Reaped 2 2)
+    (record (reaping (Lent ∷ Giving ∷ Lent ∷ Lent ∷ Taking ∷ Taking ∷ Free ∷ Stranded ∷ []) 5)
+    { inflate = one_used (17 ∷ []) })
 reaped_inflate = (refl, (refl, refl))
 
-reaped_deflate : HonestStep (record (reaping (Giving ∷ Giving ∷ Giving ∷ Lent ∷ Taking ∷ Taking ∷ Free ∷ Stranded ∷ []) 3) { deflate = two_used (20 ∷ []) (21 ∷ []) }) (Reap 1) [] (Reaped 2 1) (record (reaping (Giving ∷ Giving ∷ Giving ∷ Lent ∷ Free ∷ Taking ∷ Free ∷ Stranded ∷ []) 2) { deflate = one_used (21 ∷ []) })
+reaped_deflate : HonestStep
+    (record (reaping (Giving ∷ Giving ∷ Giving ∷ Lent ∷ Taking ∷ Taking ∷ Free ∷ Stranded ∷ []) 3)
+    { deflate = two_used (20 ∷ []) (21 ∷ []) }) (Reap 1) [] (Reaped 2 1)
+    (record (reaping (Giving ∷ Giving ∷ Giving ∷ Lent ∷ Free ∷ Taking ∷ Free ∷ Stranded ∷ []) 2)
+    { deflate = one_used (21 ∷ []) })
 reaped_deflate = (refl, (refl, refl))
 
 -- nothing is used: nothing changes
-not_used : HonestStep (record (reaping (Giving ∷ Lent ∷ []) 7) { inflate = heads 0 2 1; deflate = record { posted = request 0 (16 ∷ []) 0 ∷ []; taken = request 1 (17 ∷ []) 0 ∷ []; done = [] } }) (Reap 1) [] NotUsed (record (reaping (Giving ∷ Lent ∷ []) 7) { inflate = heads 0 2 1; deflate = record { posted = request 0 (16 ∷ []) 0 ∷ []; taken = request 1 (17 ∷ []) 0 ∷ []; done = [] } })
+not_used : HonestStep
+    (record (reaping (Giving ∷ Lent ∷ []) 7) {
+      inflate = heads 0 2 1;
+      deflate = record {
+        posted = request 0 (16 ∷ []) 0 ∷ [];
+        taken = request 1 (17 ∷ []) 0
+            ∷ [];
+        done = [];
+      };
+    }) (Reap 1) [] NotUsed
+    (record (reaping (Giving ∷ Lent ∷ []) 7) {
+      inflate = heads 0 2 1;
+      deflate = record {
+        posted = request 0 (16 ∷ []) 0 ∷ [];
+        taken = request 1 (17 ∷ []) 0
+            ∷ [];
+        done = [];
+      };
+    })
 not_used = (refl, (refl, refl))
 
-reap_refusals : map (λ queue. refusal_of down (Reap queue)) (0 ∷ 1 ∷ 2 ∷ 3 ∷ 5 ∷ []) ≡ Some NotReady ∷ Some NotReady ∷ Some NoQueue ∷ Some NoQueue ∷ Some NoQueue ∷ []
+reap_refusals : map (λ queue. refusal_of down (Reap queue)) (0 ∷ 1 ∷ 2 ∷ 3 ∷ 5 ∷ []) ≡ Some NotReady
+    ∷ Some NotReady ∷ Some NoQueue ∷ Some NoQueue ∷ Some NoQueue ∷ []
 reap_refusals = refl

@@ -1,12 +1,18 @@
 -- What one event does to a guest: others, targets, configurations, frames that go back.
-use Rattle.std.proofs.Common.{◌≡◌, ◌≢◌, ℕ, Bool, true, false, cond, List, [], refl, sym, ap, subst, ◌∙◌, ◌⊎◌, inl, inr}
+use Rattle.std.proofs.Common.{◌≡◌, ◌≢◌, ℕ, Bool, true, false, cond, List, [], refl, sym, ap, subst}
+use Rattle.std.proofs.Common.{◌∙◌, ◌⊎◌, inl, inr}
 use Rattle.std.specs.Prelude.{Option, Some, None, MatchBool, is_none}
 use Rattle.std.proofs.lemmas.Bool.{cases_eq}
 use Rattle.vb_model.specs.declared.calls.Call.{Call}
-use Rattle.vb_model.specs.declared.calls.Call.TheVariants.{Init, Reset, Alloc, Free, Read, Write, Scribble, Inflate, Deflate, Oom, Report, Stats, Reap, Take, Work, Finish, Sweep, Ask, SetTarget}
+use Rattle.vb_model.specs.declared.calls.Call.TheVariants.{Init, Reset, Alloc, Free, Read, Write}
+use Rattle.vb_model.specs.declared.calls.Call.TheVariants.{Scribble, Inflate, Deflate, Oom, Report}
+use Rattle.vb_model.specs.declared.calls.Call.TheVariants.{Stats, Reap, Take, Work, Finish, Sweep}
+use Rattle.vb_model.specs.declared.calls.Call.TheVariants.{Ask, SetTarget}
 use Rattle.vb_model.specs.declared.calls.Claim.{Claim}
 use Rattle.vb_model.specs.declared.calls.Event.{Event}
-use Rattle.vb_model.specs.declared.calls.Event.TheVariants.{Plug, Unplug, Restart, Guest as OnGuest, Query as Asking, Balance, Frames as CountFrames}
+use Rattle.vb_model.specs.declared.calls.Event.TheVariants.{Plug, Unplug, Restart, Guest as OnGuest}
+use Rattle.vb_model.specs.declared.calls.Event.TheVariants.{Query as Asking, Balance}
+use Rattle.vb_model.specs.declared.calls.Event.TheVariants.{Frames as CountFrames}
 use Rattle.vb_model.specs.declared.replies.Refusal.{Refusal}
 use Rattle.vb_model.specs.declared.replies.Refusal.TheVariants.{NoGuest}
 use Rattle.vb_model.specs.declared.replies.Reply.{Reply}
@@ -17,8 +23,11 @@ use Rattle.vb_model.specs.Driver.{claim_refusal, pages_needed}
 use Rattle.vb_model.specs.Life.{after_restart}
 use Rattle.vb_model.specs.Rogue.{IsRogueAfter, RogueStep, Scribbled, target_after}
 use Rattle.vb_model.specs.Step.{Performs, HonestStep, GuestStep}
-use Rattle.vb_model.specs.World.{World, WorldStep, Happens, guest_at, with_guest, put_guest, world_tests}
-use Rattle.vb_model.specs.StepLaws.{OthersAreUntouched, TargetsAreKept, TargetsAreSet, ConfigurationsAreKept, FramesGoBack, RestartedAreHonest, RoguesAreMade, RoguesStay, ScribblesMakeRogues}
+use Rattle.vb_model.specs.World.{World, WorldStep, Happens, guest_at, with_guest, put_guest}
+use Rattle.vb_model.specs.World.{world_tests}
+use Rattle.vb_model.specs.StepLaws.{OthersAreUntouched, TargetsAreKept, TargetsAreSet}
+use Rattle.vb_model.specs.StepLaws.{ConfigurationsAreKept, FramesGoBack, RestartedAreHonest}
+use Rattle.vb_model.specs.StepLaws.{RoguesAreMade, RoguesStay, ScribblesMakeRogues}
 use Rattle.vb_model.proofs.CallSteps.{match_cases, supplied}
 use Rattle.vb_model.proofs.Changes.{with_guest-same, same_some, no_frames}
 use Rattle.vb_model.proofs.Alone.{Own, Nothing_happens, Own_call, New_target, next, scribbled_rogue}
@@ -28,54 +37,77 @@ use Rattle.vb_model.proofs.Unchanged.{IsScribble, MayBeRogue, step_keeps}
 
 -- it goes its own way, begins a new life, or is gone
 data Fate (w : World) (event : Event) (reply : Reply) (v : World) (n : ℕ) (g : Guest) : Type 0 where
-  Goes_on : (new : Guest) → guest_at v.guests n ≡ Some new → Own n w event reply g new → Fate w event reply v n g
-  Begins_anew : event ≡ Restart n → guest_at v.guests n ≡ Some (after_restart g) → Fate w event reply v n g
+  Goes_on : (new : Guest) → guest_at v.guests n ≡ Some new → Own n w event reply g new
+      → Fate w event reply v n g
+  Begins_anew : event ≡ Restart n → guest_at v.guests n ≡ Some (after_restart g)
+      → Fate w event reply v n g
   Is_gone : event ≡ Unplug n → guest_at v.guests n ≡ None → Fate w event reply v n g
 
-goes_on : (w : World) (event : Event) (reply : Reply) (v : World) (n : ℕ) (g : Guest) → guest_at w.guests n ≡ Some g → event ≢ Restart n → event ≢ Unplug n → WorldStep w event reply v → Fate w event reply v n g
-goes_on w event reply v n g here nr nu s = let m = next event w n reply g v here nr nu s in Goes_on m.new m.there m.own
+goes_on : (w : World) (event : Event) (reply : Reply) (v : World) (n : ℕ) (g : Guest)
+    → guest_at w.guests n ≡ Some g → event ≢ Restart n → event ≢ Unplug n
+    → WorldStep w event reply v → Fate w event reply v n g
+goes_on w event reply v n g here nr nu s = let m = next event w n reply g v here nr nu s in
+    Goes_on m.new m.there m.own
 
 -- guest n is there, so the event isn't refused
-not_missing : (w : World) (n m : ℕ) (g : Guest) (refusal : Refusal) → guest_at w.guests n ≡ Some g → m ≡ n → first_refusal (world_tests w (Unplug m)) ≡ Some refusal → ⊥
-not_missing w n m g refusal here e r = step (is_none (guest_at w.guests m)) (ap (λ (k : ℕ). is_none (guest_at w.guests k)) e ∙ ap (λ (o : Option Guest). is_none o) here) r
+not_missing : (w : World) (n m : ℕ) (g : Guest) (refusal : Refusal) → guest_at w.guests n ≡ Some g
+    → m ≡ n → first_refusal (world_tests w (Unplug m)) ≡ Some refusal → ⊥
+not_missing w n m g refusal here e r =
+    step (is_none (guest_at w.guests m))
+    (ap (λ (k : ℕ). is_none (guest_at w.guests k)) e ∙ ap (λ (o : Option Guest). is_none o) here) r
   where
     step : (b : Bool) → b ≡ false → cond b (Some NoGuest) None ≡ Some refusal → ⊥
     step true h k = cc
     step false h k = cc
 
-restarted : (w : World) (m n : ℕ) (reply : Reply) (v : World) (g : Guest) → guest_at w.guests n ≡ Some g → m ≡ n → WorldStep w (Restart m) reply v → guest_at v.guests n ≡ Some (after_restart g)
+restarted : (w : World) (m n : ℕ) (reply : Reply) (v : World) (g : Guest)
+    → guest_at w.guests n ≡ Some g → m ≡ n → WorldStep w (Restart m) reply v
+    → guest_at v.guests n ≡ Some (after_restart g)
 restarted w m n reply v g here e s =
-    elim (match_cases (first_refusal (world_tests w (Restart m))) (Happens (Restart m) w reply v) (λ refusal. (reply ≡ Refused refusal) × (v ≡ w)) s) [
+    elim (match_cases (first_refusal (world_tests w (Restart m))) (Happens (Restart m) w reply v)
+    (λ refusal. (reply ≡ Refused refusal) × (v ≡ w)) s) [
       | inr r ↦ absurd (not_missing w n m g r.0 here e r.1)
       | inl p ↦
-          elim (match_cases (guest_at w.guests m) ⊥ (λ g. (reply ≡ Done) × (v ≡ put_guest m (Some (after_restart g)) w)) p.1) [
+          elim (match_cases (guest_at w.guests m) ⊥
+          (λ g. (reply ≡ Done) × (v ≡ put_guest m (Some (after_restart g)) w)) p.1) [
             | inl none ↦ absurd none.1
             | inr k ↦
-                let same : k.0 ≡ g = same_some k.0 g (sym k.1 ∙ (ap (guest_at w.guests) e ∙ here)) in
-                ap (λ (u : World). guest_at u.guests n) k.2.1 ∙ (ap (guest_at (with_guest m (Some (after_restart k.0)) w.guests)) (sym e) ∙ (with_guest-same m (Some (after_restart k.0)) w.guests ∙ ap (λ (x : Guest). renewed x) same))
+                let same : k.0 ≡ g = same_some k.0 g
+                (sym k.1 ∙ (ap (guest_at w.guests) e ∙ here)) in
+                ap (λ (u : World). guest_at u.guests n) k.2.1
+                ∙ (ap (guest_at (with_guest m (Some (after_restart k.0)) w.guests)) (sym e)
+                ∙ (with_guest-same m (Some (after_restart k.0)) w.guests
+                ∙ ap (λ (x : Guest). renewed x) same))
           ]
     ]
   where
     renewed : Guest → Option Guest
     renewed x = Some (after_restart x)
 
-unplugged : (w : World) (m n : ℕ) (reply : Reply) (v : World) (g : Guest) → guest_at w.guests n ≡ Some g → m ≡ n → WorldStep w (Unplug m) reply v → guest_at v.guests n ≡ None
+unplugged : (w : World) (m n : ℕ) (reply : Reply) (v : World) (g : Guest)
+    → guest_at w.guests n ≡ Some g → m ≡ n → WorldStep w (Unplug m) reply v
+    → guest_at v.guests n ≡ None
 unplugged w m n reply v g here e s =
-    elim (match_cases (first_refusal (world_tests w (Unplug m))) (Happens (Unplug m) w reply v) (λ refusal. (reply ≡ Refused refusal) × (v ≡ w)) s) [
+    elim (match_cases (first_refusal (world_tests w (Unplug m))) (Happens (Unplug m) w reply v)
+    (λ refusal. (reply ≡ Refused refusal) × (v ≡ w)) s) [
       | inr r ↦ absurd (not_missing w n m g r.0 here e r.1)
-      | inl p ↦ ap (λ (u : World). guest_at u.guests n) p.1.1 ∙ (ap (guest_at (with_guest m None w.guests)) (sym e) ∙ with_guest-same m None w.guests)
+      | inl p ↦ ap (λ (u : World). guest_at u.guests n) p.1.1
+          ∙ (ap (guest_at (with_guest m None w.guests)) (sym e) ∙ with_guest-same m None w.guests)
     ]
 
-fate : (event : Event) (w : World) (reply : Reply) (v : World) (n : ℕ) (g : Guest) → guest_at w.guests n ≡ Some g → WorldStep w event reply v → Fate w event reply v n g
+fate : (event : Event) (w : World) (reply : Reply) (v : World) (n : ℕ) (g : Guest)
+    → guest_at w.guests n ≡ Some g → WorldStep w event reply v → Fate w event reply v n g
 fate (Restart m) w reply v n g here s =
     elim (cases_eq m n) [
       | inl e ↦ Begins_anew (ap Restart e) (restarted w m n reply v g here e s)
-      | inr d ↦ goes_on w (Restart m) reply v n g here (λ e. d (let q : Restart m ≡ Restart n = e in cc)) (λ e. cc) s
+      | inr d ↦ goes_on w (Restart m) reply v n g here
+          (λ e. d (let q : Restart m ≡ Restart n = e in cc)) (λ e. cc) s
     ]
 fate (Unplug m) w reply v n g here s =
     elim (cases_eq m n) [
       | inl e ↦ Is_gone (ap Unplug e) (unplugged w m n reply v g here e s)
-      | inr d ↦ goes_on w (Unplug m) reply v n g here (λ e. cc) (λ e. d (let q : Unplug m ≡ Unplug n = e in cc)) s
+      | inr d ↦ goes_on w (Unplug m) reply v n g here (λ e. cc)
+          (λ e. d (let q : Unplug m ≡ Unplug n = e in cc)) s
     ]
 fate (Plug a b c) w reply v n g here s = goes_on w _ reply v n g here (λ e. cc) (λ e. cc) s
 fate (OnGuest m call) w reply v n g here s = goes_on w _ reply v n g here (λ e. cc) (λ e. cc) s
@@ -88,23 +120,32 @@ fate CountFrames w reply v n g here s = goes_on w _ reply v n g here (λ e. cc) 
 pub others_untouched : OthersAreUntouched
 others_untouched w event reply v n g s here others = cases (fate event w reply v n g here s)
   where
-    own : (new : Guest) → guest_at v.guests n ≡ Some new → Own n w event reply g new → (guest_at v.guests n ≡ Some g) ⊎ ((floor target : ℕ) × (event ≡ Balance floor) × (guest_at v.guests n ≡ Some (record g { target = target })))
-    own new there (Nothing_happens other_event unset e) = inl (there ∙ ap (λ (x : Guest). some_guest x) e)
+    own : (new : Guest) → guest_at v.guests n ≡ Some new → Own n w event reply g new
+        → (guest_at v.guests n ≡ Some g)
+        ⊎ ((floor target : ℕ) × (event ≡ Balance floor)
+        × (guest_at v.guests n ≡ Some (record g { target = target })))
+    own new there (Nothing_happens other_event unset e) =
+        inl (there ∙ ap (λ (x : Guest). some_guest x) e)
       where
         some_guest : Guest → Option Guest
         some_guest x = Some x
     own new there (Own_call call claims e gave step) = absurd (others.no_call call e)
-    own new there (New_target floor targets e answered q) = inr (floor, new.target, e, there ∙ ap (λ (x : Guest). some_guest x) q)
+    own new there (New_target floor targets e answered q) =
+        inr (floor, new.target, e, there ∙ ap (λ (x : Guest). some_guest x) q)
       where
         some_guest : Guest → Option Guest
         some_guest x = Some x
 
-    cases : Fate w event reply v n g → (guest_at v.guests n ≡ Some g) ⊎ ((floor target : ℕ) × (event ≡ Balance floor) × (guest_at v.guests n ≡ Some (record g { target = target })))
+    cases : Fate w event reply v n g
+        → (guest_at v.guests n ≡ Some g)
+        ⊎ ((floor target : ℕ) × (event ≡ Balance floor)
+        × (guest_at v.guests n ≡ Some (record g { target = target })))
     cases (Goes_on new there o) = own new there o
     cases (Begins_anew e there) = absurd (others.no_restart e)
     cases (Is_gone e there) = absurd (others.no_unplug e)
 
-target_stays : (call : Call) (target : ℕ) → ((t : ℕ) → call ≢ SetTarget t) → target_after call target ≡ target
+target_stays : (call : Call) (target : ℕ) → ((t : ℕ) → call ≢ SetTarget t)
+    → target_after call target ≡ target
 target_stays (SetTarget t) target h = absurd (h t refl)
 target_stays (Init wanted) target h = refl
 target_stays Reset target h = refl
@@ -126,14 +167,17 @@ target_stays (Sweep page) target h = refl
 target_stays Ask target h = refl
 
 pub targets_kept : TargetsAreKept
-targets_kept w event reply v n old new f not_set no_balance = cases (fate event w reply v n old f.before f.step)
+targets_kept w event reply v n old new f not_set no_balance =
+    cases (fate event w reply v n old f.before f.step)
   where
     same : (x : Guest) → guest_at v.guests n ≡ Some x → new ≡ x
     same x there = same_some new x (sym f.after ∙ there)
 
     own : (x : Guest) → Own n w event reply old x → x.target ≡ old.target
     own x (Nothing_happens other_event unset e) = ap (λ (y : Guest). y.target) e
-    own x (Own_call call claims e gave step) = (step_keeps old call claims reply x step).aimed ∙ target_stays call old.target (λ t q. not_set t (e ∙ ap (OnGuest n) q))
+    own x (Own_call call claims e gave step) =
+        (step_keeps old call claims reply x step).aimed
+        ∙ target_stays call old.target (λ t q. not_set t (e ∙ ap (OnGuest n) q))
     own x (New_target floor targets e answered q) = absurd (no_balance floor e)
 
     cases : Fate w event reply v n old → new.target ≡ old.target
@@ -142,7 +186,8 @@ targets_kept w event reply v n old new f not_set no_balance = cases (fate event 
     cases (Is_gone e there) = absurd (let q : None ≡ Some new = sym there ∙ f.after in cc)
 
 pub targets_set : TargetsAreSet
-targets_set w reply v n target old new f = cases (fate (OnGuest n (SetTarget target)) w reply v n old f.before f.step)
+targets_set w reply v n target old new f =
+    cases (fate (OnGuest n (SetTarget target)) w reply v n old f.before f.step)
   where
     same : (x : Guest) → guest_at v.guests n ≡ Some x → new ≡ x
     same x there = same_some new x (sym f.after ∙ there)
@@ -151,7 +196,8 @@ targets_set w reply v n target old new f = cases (fate (OnGuest n (SetTarget tar
     own x (Nothing_happens other_event unset e) = absurd (other_event (SetTarget target) refl)
     own x (Own_call call claims e gave step) =
         let c : SetTarget target ≡ call = cc in
-        (step_keeps old call claims reply x step).aimed ∙ ap (λ (y : Call). target_after y old.target) (sym c)
+        (step_keeps old call claims reply x step).aimed
+        ∙ ap (λ (y : Call). target_after y old.target) (sym c)
     own x (New_target floor targets e answered q) = absurd cc
 
     cases : Fate w (OnGuest n (SetTarget target)) reply v n old → new.target ≡ target
@@ -177,25 +223,31 @@ configurations_kept w event reply v n old new f = cases (fate event w reply v n 
 
 -- ---- frames go back
 
-absent : (w : World) (event : Event) (reply : Reply) (v : World) (n : ℕ) → WorldStep w event reply v → (event ≡ Restart n) ⊎ (event ≡ Unplug n) → guest_at w.guests n ≡ None → guest_at v.guests n ≡ None
+absent : (w : World) (event : Event) (reply : Reply) (v : World) (n : ℕ) → WorldStep w event reply v
+    → (event ≡ Restart n) ⊎ (event ≡ Unplug n) → guest_at w.guests n ≡ None
+    → guest_at v.guests n ≡ None
 absent w event reply v n s (inl e) none =
     let q : WorldStep w (Restart n) reply v = subst (λ (x : Event). WorldStep w x reply v) e s in
-    elim (match_cases (first_refusal (world_tests w (Restart n))) (Happens (Restart n) w reply v) (λ refusal. (reply ≡ Refused refusal) × (v ≡ w)) q) [
+    elim (match_cases (first_refusal (world_tests w (Restart n))) (Happens (Restart n) w reply v)
+    (λ refusal. (reply ≡ Refused refusal) × (v ≡ w)) q) [
       | inr r ↦ ap (λ (u : World). guest_at u.guests n) r.2.1 ∙ none
       | inl p ↦
-          elim (match_cases (guest_at w.guests n) ⊥ (λ g. (reply ≡ Done) × (v ≡ put_guest n (Some (after_restart g)) w)) p.1) [
+          elim (match_cases (guest_at w.guests n) ⊥
+          (λ g. (reply ≡ Done) × (v ≡ put_guest n (Some (after_restart g)) w)) p.1) [
             | inl k ↦ absurd k.1
             | inr k ↦ absurd (let z : None ≡ Some k.0 = sym none ∙ k.1 in cc)
           ]
     ]
 absent w event reply v n s (inr e) none =
     let q : WorldStep w (Unplug n) reply v = subst (λ (x : Event). WorldStep w x reply v) e s in
-    elim (match_cases (first_refusal (world_tests w (Unplug n))) (Happens (Unplug n) w reply v) (λ refusal. (reply ≡ Refused refusal) × (v ≡ w)) q) [
+    elim (match_cases (first_refusal (world_tests w (Unplug n))) (Happens (Unplug n) w reply v)
+    (λ refusal. (reply ≡ Refused refusal) × (v ≡ w)) q) [
       | inr r ↦ ap (λ (u : World). guest_at u.guests n) r.2.1 ∙ none
       | inl p ↦ ap (λ (u : World). guest_at u.guests n) p.1.1 ∙ with_guest-same n None w.guests
     ]
 
-by_event : (w : World) (event other : Event) (reply : Reply) (v : World) → event ≡ other → WorldStep w event reply v → WorldStep w other reply v
+by_event : (w : World) (event other : Event) (reply : Reply) (v : World) → event ≡ other
+    → WorldStep w event reply v → WorldStep w other reply v
 by_event w event other reply v e s = subst (λ (x : Event). WorldStep w x reply v) e s
 
 pub no_frames_left : FramesGoBack
@@ -206,12 +258,17 @@ no_frames_left w event reply v n s ends page frame b = was_there (guest_at w.gue
 
     renewed : (g : Guest) → guest_at v.guests n ≡ Some (after_restart g) → ⊥
     renewed g there =
-        let same : b.guest ≡ after_restart g = same_some b.guest (after_restart g) (sym b.is_there ∙ there) in
-        no_frames g.config.pages page frame (subst (λ (x : Guest). frame_of x.frames page ≡ Some frame) same b.has)
+        let same : b.guest ≡ after_restart g =
+        same_some b.guest (after_restart g) (sym b.is_there ∙ there) in
+        no_frames g.config.pages page frame
+        (subst (λ (x : Guest). frame_of x.frames page ≡ Some frame) same b.has)
 
-    ended : (g : Guest) → guest_at w.guests n ≡ Some g → (event ≡ Restart n) ⊎ (event ≡ Unplug n) → ⊥
-    ended g here (inl e) = renewed g (restarted w n n reply v g here refl (by_event w event (Restart n) reply v e s))
-    ended g here (inr e) = gone (unplugged w n n reply v g here refl (by_event w event (Unplug n) reply v e s))
+    ended : (g : Guest) → guest_at w.guests n ≡ Some g → (event ≡ Restart n) ⊎ (event ≡ Unplug n)
+        → ⊥
+    ended g here (inl e) =
+        renewed g (restarted w n n reply v g here refl (by_event w event (Restart n) reply v e s))
+    ended g here (inr e) =
+        gone (unplugged w n n reply v g here refl (by_event w event (Unplug n) reply v e s))
 
     was_there : (o : Option Guest) → guest_at w.guests n ≡ o → ⊥
     was_there None e = gone (absent w event reply v n s ends e)
@@ -219,17 +276,22 @@ no_frames_left w event reply v n s ends page frame b = was_there (guest_at w.gue
 
 pub restarted_honest : RestartedAreHonest
 restarted_honest w reply v n old new f =
-    ap (λ (y : Guest). y.rogue) (same_some new (after_restart old) (sym f.after ∙ restarted w n n reply v old f.before refl f.step))
+    ap (λ (y : Guest). y.rogue)
+    (same_some new (after_restart old)
+    (sym f.after ∙ restarted w n n reply v old f.before refl f.step))
 
 -- ---- rogue guests
 
-not_by_others : (g new : Guest) (call : Call) → (IsScribble call → ⊥) → g.rogue ≡ false → (new.rogue ≡ g.rogue) ⊎ (MayBeRogue g call × IsRogueAfter g new) → new.rogue ≡ false
+not_by_others : (g new : Guest) (call : Call) → (IsScribble call → ⊥) → g.rogue ≡ false
+    → (new.rogue ≡ g.rogue) ⊎ (MayBeRogue g call × IsRogueAfter g new) → new.rogue ≡ false
 not_by_others g new call other honest (inl e) = e ∙ honest
-not_by_others g new call other honest (inr (inl rogue, r)) = absurd (let f : g.rogue ≡ false = honest in cc)
+not_by_others g new call other honest (inr (inl rogue, r)) =
+    absurd (let f : g.rogue ≡ false = honest in cc)
 not_by_others g new call other honest (inr (inr scribble, r)) = absurd (other scribble)
 
 pub rogues_made : RoguesAreMade
-rogues_made w event reply v n old new f no_scribble honest = cases (fate event w reply v n old f.before f.step)
+rogues_made w event reply v n old new f no_scribble honest =
+    cases (fate event w reply v n old f.before f.step)
   where
     same : (x : Guest) → guest_at v.guests n ≡ Some x → new ≡ x
     same x there = same_some new x (sym f.after ∙ there)
@@ -237,7 +299,8 @@ rogues_made w event reply v n old new f no_scribble honest = cases (fate event w
     own : (x : Guest) → Own n w event reply old x → x.rogue ≡ false
     own x (Nothing_happens other_event unset e) = ap (λ (y : Guest). y.rogue) e ∙ honest
     own x (Own_call call claims e gave step) =
-        not_by_others old x call (λ i. no_scribble i.0 i.1 i.2 (e ∙ ap (OnGuest n) i.3)) honest (step_keeps old call claims reply x step).rogue
+        not_by_others old x call (λ i. no_scribble i.0 i.1 i.2 (e ∙ ap (OnGuest n) i.3)) honest
+        (step_keeps old call claims reply x step).rogue
     own x (New_target floor targets e answered q) = ap (λ (y : Guest). y.rogue) q ∙ honest
 
     cases : Fate w event reply v n old → new.rogue ≡ false
@@ -245,15 +308,19 @@ rogues_made w event reply v n old new f no_scribble honest = cases (fate event w
     cases (Begins_anew e there) = ap (λ (y : Guest). y.rogue) (same (after_restart old) there)
     cases (Is_gone e there) = absurd (let q : None ≡ Some new = sym there ∙ f.after in cc)
 
-stays_rogue : (g : Guest) (call : Call) (claims : List Claim) (reply : Reply) (new : Guest) → g.rogue ≡ true → GuestStep g call claims reply new → new.rogue ≡ true
+stays_rogue : (g : Guest) (call : Call) (claims : List Claim) (reply : Reply) (new : Guest)
+    → g.rogue ≡ true → GuestStep g call claims reply new → new.rogue ≡ true
 stays_rogue g call claims reply new rogue s = cases g.rogue rogue s
   where
-    cases : (b : Bool) → b ≡ true → MatchBool b (RogueStep g call claims reply new) (HonestStep g call claims reply new) → new.rogue ≡ true
+    cases : (b : Bool) → b ≡ true
+        → MatchBool b (RogueStep g call claims reply new) (HonestStep g call claims reply new)
+        → new.rogue ≡ true
     cases true e r = r.stays.still
     cases false e p = absurd cc
 
 pub rogues_stay : RoguesStay
-rogues_stay w event reply v n old new f no_restart rogue = cases (fate event w reply v n old f.before f.step)
+rogues_stay w event reply v n old new f no_restart rogue =
+    cases (fate event w reply v n old f.before f.step)
   where
     same : (x : Guest) → guest_at v.guests n ≡ Some x → new ≡ x
     same x there = same_some new x (sym f.after ∙ there)
@@ -269,16 +336,19 @@ rogues_stay w event reply v n old new f no_restart rogue = cases (fate event w r
     cases (Is_gone e there) = absurd (let q : None ≡ Some new = sym there ∙ f.after in cc)
 
 pub scribbles_make_rogues : ScribblesMakeRogues
-scribbles_make_rogues w v n page offset bytes old new f honest = cases (fate (OnGuest n (Scribble page offset bytes)) w Done v n old f.before f.step)
+scribbles_make_rogues w v n page offset bytes old new f honest =
+    cases (fate (OnGuest n (Scribble page offset bytes)) w Done v n old f.before f.step)
   where
     same : (x : Guest) → guest_at v.guests n ≡ Some x → new ≡ x
     same x there = same_some new x (sym f.after ∙ there)
 
     own : (x : Guest) → Own n w (OnGuest n (Scribble page offset bytes)) Done old x → x.rogue ≡ true
-    own x (Nothing_happens other_event unset e) = absurd (other_event (Scribble page offset bytes) refl)
+    own x (Nothing_happens other_event unset e) =
+        absurd (other_event (Scribble page offset bytes) refl)
     own x (Own_call call claims e gave step) =
         let c : Scribble page offset bytes ≡ call = cc in
-        scribbled_rogue old page offset bytes claims x (subst (λ (y : Call). GuestStep old y claims Done x) (sym c) step)
+        scribbled_rogue old page offset bytes claims x
+        (subst (λ (y : Call). GuestStep old y claims Done x) (sym c) step)
     own x (New_target floor targets e answered q) = absurd cc
 
     cases : Fate w (OnGuest n (Scribble page offset bytes)) Done v n old → new.rogue ≡ true

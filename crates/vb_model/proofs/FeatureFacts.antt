@@ -1,9 +1,12 @@
 -- Worked facts of features and of the status.
 use Rattle.std.proofs.Common.{◌≡◌, ℕ, true, false, List, [], ◌∷◌, map, refl}
 use Rattle.std.specs.Prelude.{Bool, Some, None}
-use Rattle.vb_model.specs.declared.replies.Refusal.TheVariants.{ClearsBit, OutOfOrder, FeatureNotOffered, MustTellMissing, VersionMissing}
+use Rattle.vb_model.specs.declared.replies.Refusal.TheVariants.{ClearsBit, OutOfOrder}
+use Rattle.vb_model.specs.declared.replies.Refusal.TheVariants.{FeatureNotOffered, MustTellMissing}
+use Rattle.vb_model.specs.declared.replies.Refusal.TheVariants.{VersionMissing}
 use Rattle.vb_model.specs.Tests.{has_bit}
-use Rattle.vb_model.specs.Guest.{offered_features, must_tell_host, stats_vq, deflate_on_oom, reporting, version_1, is_ready}
+use Rattle.vb_model.specs.Guest.{offered_features, must_tell_host, stats_vq, deflate_on_oom}
+use Rattle.vb_model.specs.Guest.{reporting, version_1, is_ready}
 use Rattle.vb_model.specs.Status.{negotiate_refusal, status_refusal}
 use Rattle.vb_model.specs.Life.{feature_refusal}
 use Rattle.vb_model.proofs.Samples.{ready}
@@ -11,7 +14,8 @@ use Rattle.vb_model.proofs.Samples.{ready}
 -- ---- MUST_TELL_HOST, STATS_VQ, DEFLATE_ON_OOM, REPORTING and VERSION_1 are bits 0, 1, 2, 5 and 32
 
 abbrev read : ℕ → List Bool
-read features = must_tell_host features ∷ stats_vq features ∷ deflate_on_oom features ∷ reporting features ∷ version_1 features ∷ []
+read features = must_tell_host features ∷ stats_vq features ∷ deflate_on_oom features
+    ∷ reporting features ∷ version_1 features ∷ []
 
 offered : offered_features ≡ 4294967335
 offered = refl
@@ -43,57 +47,76 @@ bits_of_six = refl
 
 -- ---- a negotiation: at status 3 alone, of offered features alone, and of any of these
 
-just_at_status_3 : map (λ status. negotiate_refusal status 1) (0 ∷ 1 ∷ 2 ∷ 3 ∷ 11 ∷ 15 ∷ 131 ∷ []) ≡ Some OutOfOrder ∷ Some OutOfOrder ∷ Some OutOfOrder ∷ None ∷ Some OutOfOrder ∷ Some OutOfOrder ∷ Some OutOfOrder ∷ []
+just_at_status_3 : map (λ status. negotiate_refusal status 1) (0 ∷ 1 ∷ 2 ∷ 3 ∷ 11 ∷ 15 ∷ 131 ∷ [])
+    ≡ Some OutOfOrder ∷ Some OutOfOrder ∷ Some OutOfOrder ∷ None ∷ Some OutOfOrder ∷ Some OutOfOrder
+    ∷ Some OutOfOrder ∷ []
 just_at_status_3 = refl
 
-just_what_is_offered : map (negotiate_refusal 3) (0 ∷ 8 ∷ 16 ∷ 64 ∷ 0x80000000 ∷ 0x200000000 ∷ 0x100000027 ∷ 0x10000002f ∷ []) ≡ None ∷ Some FeatureNotOffered ∷ Some FeatureNotOffered ∷ Some FeatureNotOffered ∷ Some FeatureNotOffered ∷ Some FeatureNotOffered ∷ None ∷ Some FeatureNotOffered ∷ []
+just_what_is_offered : map (negotiate_refusal 3)
+    (0 ∷ 8 ∷ 16 ∷ 64 ∷ 0x80000000 ∷ 0x200000000 ∷ 0x100000027 ∷ 0x10000002f ∷ []) ≡ None
+    ∷ Some FeatureNotOffered ∷ Some FeatureNotOffered ∷ Some FeatureNotOffered
+    ∷ Some FeatureNotOffered ∷ Some FeatureNotOffered ∷ None ∷ Some FeatureNotOffered ∷ []
 just_what_is_offered = refl
 
 order_before_offer : negotiate_refusal 1 8 ≡ Some OutOfOrder
 order_before_offer = refl
 
--- ---- an initialisation: what isn't offered, then MUST_TELL_HOST, then VERSION_1; the other three are free
+-- ---- an initialisation: what isn't offered, then MUST_TELL_HOST, then VERSION_1; the other three
+-- are free
 
 offer_before_must_tell : feature_refusal 0x40 ≡ Some FeatureNotOffered
 offer_before_must_tell = refl
 
-must_tell_before_version : map feature_refusal (0 ∷ 0x26 ∷ 0x100000000 ∷ 0x100000026 ∷ []) ≡ Some MustTellMissing ∷ Some MustTellMissing ∷ Some MustTellMissing ∷ Some MustTellMissing ∷ []
+must_tell_before_version : map feature_refusal (0 ∷ 0x26 ∷ 0x100000000 ∷ 0x100000026 ∷ [])
+    ≡ Some MustTellMissing ∷ Some MustTellMissing ∷ Some MustTellMissing ∷ Some MustTellMissing ∷ []
 must_tell_before_version = refl
 
 version_last : map feature_refusal (1 ∷ 0x27 ∷ []) ≡ Some VersionMissing ∷ Some VersionMissing ∷ []
 version_last = refl
 
-the_two_are_enough : map feature_refusal (0x100000001 ∷ 0x100000003 ∷ 0x100000005 ∷ 0x100000021 ∷ 0x100000027 ∷ []) ≡ None ∷ None ∷ None ∷ None ∷ None ∷ []
+the_two_are_enough : map feature_refusal
+    (0x100000001 ∷ 0x100000003 ∷ 0x100000005 ∷ 0x100000021 ∷ 0x100000027 ∷ []) ≡ None ∷ None ∷ None
+    ∷ None ∷ None ∷ []
 the_two_are_enough = refl
 
 -- ---- writes of the status, where no features are negotiated
 
 -- bits 16, 32 and 64 are never a driver's
-not_a_drivers : map (status_refusal 3 0) (19 ∷ 35 ∷ 67 ∷ []) ≡ Some OutOfOrder ∷ Some OutOfOrder ∷ Some OutOfOrder ∷ []
+not_a_drivers : map (status_refusal 3 0) (19 ∷ 35 ∷ 67 ∷ []) ≡ Some OutOfOrder ∷ Some OutOfOrder
+    ∷ Some OutOfOrder ∷ []
 not_a_drivers = refl
 
 -- FAILED may come alone at any time, and with no step
-failed_at_any_time : status_refusal 0 0 128 ∷ status_refusal 3 0 131 ∷ status_refusal 11 0 139 ∷ status_refusal 15 0 143 ∷ status_refusal 79 0 207 ∷ [] ≡ None ∷ None ∷ None ∷ None ∷ None ∷ []
+failed_at_any_time : status_refusal 0 0 128 ∷ status_refusal 3 0 131 ∷ status_refusal 11 0 139
+    ∷ status_refusal 15 0 143 ∷ status_refusal 79 0 207 ∷ [] ≡ None ∷ None ∷ None ∷ None ∷ None ∷ []
 failed_at_any_time = refl
 
-failed_with_a_step : status_refusal 0 0 129 ∷ status_refusal 1 0 131 ∷ status_refusal 3 0 139 ∷ status_refusal 11 0 143 ∷ [] ≡ Some OutOfOrder ∷ Some OutOfOrder ∷ Some OutOfOrder ∷ Some OutOfOrder ∷ []
+failed_with_a_step : status_refusal 0 0 129 ∷ status_refusal 1 0 131 ∷ status_refusal 3 0 139
+    ∷ status_refusal 11 0 143 ∷ [] ≡ Some OutOfOrder ∷ Some OutOfOrder ∷ Some OutOfOrder
+    ∷ Some OutOfOrder ∷ []
 failed_with_a_step = refl
 
 -- no step after 64 or 128
-no_step_after_a_fault : status_refusal 65 0 67 ∷ status_refusal 67 0x100000027 75 ∷ status_refusal 75 0x100000027 79 ∷ status_refusal 129 0 131 ∷ status_refusal 139 0 143 ∷ [] ≡ Some OutOfOrder ∷ Some OutOfOrder ∷ Some OutOfOrder ∷ Some OutOfOrder ∷ Some OutOfOrder ∷ []
+no_step_after_a_fault : status_refusal 65 0 67 ∷ status_refusal 67 0x100000027 75
+    ∷ status_refusal 75 0x100000027 79 ∷ status_refusal 129 0 131 ∷ status_refusal 139 0 143
+    ∷ [] ≡ Some OutOfOrder ∷ Some OutOfOrder ∷ Some OutOfOrder ∷ Some OutOfOrder ∷ Some OutOfOrder
+    ∷ []
 no_step_after_a_fault = refl
 
 -- one step at a time, each after its forerunner
 two_steps_at_once : status_refusal 2 0x100000027 11 ≡ Some OutOfOrder
 two_steps_at_once = refl
 
-steps_in_turn : map (status_refusal 0 0) (1 ∷ 2 ∷ 3 ∷ 4 ∷ 8 ∷ []) ≡ None ∷ Some OutOfOrder ∷ Some OutOfOrder ∷ Some OutOfOrder ∷ Some OutOfOrder ∷ []
+steps_in_turn : map (status_refusal 0 0) (1 ∷ 2 ∷ 3 ∷ 4 ∷ 8 ∷ []) ≡ None ∷ Some OutOfOrder
+    ∷ Some OutOfOrder ∷ Some OutOfOrder ∷ Some OutOfOrder ∷ []
 steps_in_turn = refl
 
-after_acknowledge : map (status_refusal 1 0) (3 ∷ 5 ∷ 9 ∷ []) ≡ None ∷ Some OutOfOrder ∷ Some OutOfOrder ∷ []
+after_acknowledge : map (status_refusal 1 0) (3 ∷ 5 ∷ 9 ∷ []) ≡ None ∷ Some OutOfOrder
+    ∷ Some OutOfOrder ∷ []
 after_acknowledge = refl
 
-driver_ok_after_features_ok : status_refusal 3 0 7 ∷ status_refusal 11 0 15 ∷ [] ≡ Some OutOfOrder ∷ None ∷ []
+driver_ok_after_features_ok : status_refusal 3 0 7 ∷ status_refusal 11 0 15 ∷ [] ≡ Some OutOfOrder
+    ∷ None ∷ []
 driver_ok_after_features_ok = refl
 
 -- a bit taken back before a bit out of order, and that before the features
@@ -104,16 +127,22 @@ order_before_features : status_refusal 1 0 9 ≡ Some OutOfOrder
 order_before_features = refl
 
 -- features are looked at where FEATURES_OK is added, MUST_TELL_HOST first
-features_looked_at : status_refusal 3 0 11 ∷ status_refusal 3 0x100000000 11 ∷ status_refusal 3 1 11 ∷ status_refusal 3 0x100000001 11 ∷ [] ≡ Some MustTellMissing ∷ Some MustTellMissing ∷ Some VersionMissing ∷ None ∷ []
+features_looked_at : status_refusal 3 0 11 ∷ status_refusal 3 0x100000000 11 ∷ status_refusal 3 1 11
+    ∷ status_refusal 3 0x100000001 11 ∷ [] ≡ Some MustTellMissing ∷ Some MustTellMissing
+    ∷ Some VersionMissing ∷ None ∷ []
 features_looked_at = refl
 
-features_not_looked_at : status_refusal 3 0 3 ∷ status_refusal 11 0 11 ∷ status_refusal 15 0 15 ∷ [] ≡ None ∷ None ∷ None ∷ []
+features_not_looked_at : status_refusal 3 0 3 ∷ status_refusal 11 0 11 ∷ status_refusal 15 0 15
+    ∷ [] ≡ None ∷ None ∷ None ∷ []
 features_not_looked_at = refl
 
 -- a write of 0 resets, at any status
-reset_at_any_status : map (λ status. status_refusal status 0 0) (0 ∷ 1 ∷ 15 ∷ 79 ∷ 131 ∷ 255 ∷ []) ≡ None ∷ None ∷ None ∷ None ∷ None ∷ None ∷ []
+reset_at_any_status : map (λ status. status_refusal status 0 0) (0 ∷ 1 ∷ 15 ∷ 79 ∷ 131 ∷ 255 ∷ [])
+    ≡ None ∷ None ∷ None ∷ None ∷ None ∷ None ∷ []
 reset_at_any_status = refl
 
 -- ready is 15 and nothing else
-just_15_is_ready : map (λ status. is_ready (record ready { status = status })) (0 ∷ 1 ∷ 3 ∷ 11 ∷ 14 ∷ 15 ∷ 79 ∷ 131 ∷ 143 ∷ []) ≡ false ∷ false ∷ false ∷ false ∷ false ∷ true ∷ false ∷ false ∷ false ∷ []
+just_15_is_ready : map (λ status. is_ready (record ready { status = status }))
+    (0 ∷ 1 ∷ 3 ∷ 11 ∷ 14 ∷ 15 ∷ 79 ∷ 131 ∷ 143 ∷ []) ≡ false ∷ false ∷ false ∷ false ∷ false ∷ true
+    ∷ false ∷ false ∷ false ∷ []
 just_15_is_ready = refl

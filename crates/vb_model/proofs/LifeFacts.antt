@@ -2,12 +2,15 @@
 use Rattle.std.proofs.Common.{◌≡◌, ℕ, ◌+◌, true, false, List, [], ◌∷◌, ◌++◌, map, replicate, refl}
 use Rattle.std.specs.Prelude.{Option, Some, None}
 use Rattle.std.specs.List.{range_with_len}
-use Rattle.vb_model.specs.declared.places.Place.TheVariants.{Reserved, Free as FreePlace, Used, Stranded}
+use Rattle.vb_model.specs.declared.places.Place.TheVariants.{Reserved, Free as FreePlace, Used}
+use Rattle.vb_model.specs.declared.places.Place.TheVariants.{Stranded}
 use Rattle.vb_model.specs.declared.calls.Call.TheVariants.{Init, Reset}
 use Rattle.vb_model.specs.declared.calls.Claim.{Claim}
 use Rattle.vb_model.specs.declared.calls.Claim.TheVariants.{Gave, GaveNoFrame, GaveNoMemory}
 use Rattle.vb_model.specs.declared.calls.Event.TheVariants.{Unplug, Restart}
-use Rattle.vb_model.specs.declared.replies.Refusal.TheVariants.{AlreadyUp, NoFrame, NoMemory, FeatureNotOffered, MustTellMissing, VersionMissing}
+use Rattle.vb_model.specs.declared.replies.Refusal.TheVariants.{AlreadyUp, NoFrame, NoMemory}
+use Rattle.vb_model.specs.declared.replies.Refusal.TheVariants.{FeatureNotOffered, MustTellMissing}
+use Rattle.vb_model.specs.declared.replies.Refusal.TheVariants.{VersionMissing}
 use Rattle.vb_model.specs.declared.replies.Reply.TheVariants.{Ready, Done, Refused}
 use Rattle.vb_model.specs.Requests.{Requests, no_requests, NoBuffer, BufferTaken}
 use Rattle.vb_model.specs.Guest.{Guest, zero_page, no_statistics}
@@ -58,10 +61,14 @@ full = record {
 
 -- ---- reset
 
--- giving, lent and taking pages are stranded, reporting ones free; requests, buffer, statistics, features and the ballooned set are gone; configuration, held blocks, target, frames and contents stay
+-- giving, lent and taking pages are stranded, reporting ones free; requests, buffer, statistics,
+-- features and the ballooned set are gone; configuration, held blocks, target, frames and contents
+-- stay
 reset : HonestStep full Reset [] Done (record {
   config = config;
-  places = replicate 16 Reserved ++ (replicate 21 FreePlace ++ (replicate 2 Used ++ (replicate 18 Stranded ++ replicate 7 FreePlace)));
+  places = replicate 16 Reserved
+      ++ (replicate 21 FreePlace
+      ++ (replicate 2 Used ++ (replicate 18 Stranded ++ replicate 7 FreePlace)));
   held = record { start = 37; order = 0 } ∷ record { start = 38; order = 0 } ∷ [];
   inflate = no_requests;
   deflate = no_requests;
@@ -80,7 +87,8 @@ reset : HonestStep full Reset [] Done (record {
 reset = (refl, refl, refl)
 
 -- it may come at any status
-reset_of_a_failed_guest : refusal_of (record full { status = 131 }) Reset ∷ refusal_of down Reset ∷ [] ≡ None ∷ None ∷ []
+reset_of_a_failed_guest : refusal_of (record full { status = 131 }) Reset ∷ refusal_of down Reset
+    ∷ [] ≡ None ∷ None ∷ []
 reset_of_a_failed_guest = refl
 
 -- ---- restart
@@ -107,23 +115,34 @@ renewed = record {
 }
 
 abbrev three_guests : Option Guest → World
-three_guests middle = record { frames = 200; guests = Some ready ∷ middle ∷ Some down ∷ []; spares = true ∷ false ∷ []; given_up = Some 3 }
+three_guests middle =
+    record {
+      frames = 200;
+      guests = Some ready ∷ middle ∷ Some down ∷ [];
+      spares = true ∷ false
+          ∷ [];
+      given_up = Some 3;
+    }
 
 -- of three guests just the one is renewed; the host stays as it was
 restart : WorldStep (three_guests (Some full)) (Restart 1) Done (three_guests (Some renewed))
 restart = (refl, refl)
 
 -- a rogue guest is honest again
-restart_of_a_rogue : WorldStep (three_guests (Some (record full { rogue = true }))) (Restart 1) Done (three_guests (Some renewed))
+restart_of_a_rogue : WorldStep (three_guests (Some (record full { rogue = true }))) (Restart 1) Done
+    (three_guests (Some renewed))
 restart_of_a_rogue = (refl, refl)
 
-frames_go_back : used_frames (three_guests (Some full)) ∷ used_frames (three_guests (Some renewed)) ∷ [] ≡ 40 ∷ 0 ∷ []
+frames_go_back : used_frames (three_guests (Some full)) ∷ used_frames (three_guests (Some renewed))
+    ∷ [] ≡ 40 ∷ 0 ∷ []
 frames_go_back = refl
 
 -- ---- unplugging
 
--- the guest is gone, its frames with it, and its number is the one last given up; its device isn't a spare again
-unplug : WorldStep (three_guests (Some full)) (Unplug 1) Done (record (three_guests None) { given_up = Some 1 })
+-- the guest is gone, its frames with it, and its number is the one last given up; its device isn't
+-- a spare again
+unplug : WorldStep (three_guests (Some full)) (Unplug 1) Done
+    (record (three_guests None) { given_up = Some 1 })
 unplug = (refl, refl)
 
 frames_are_gone : used_frames (three_guests None) ≡ 0
@@ -135,7 +154,9 @@ frames_are_gone = refl
 rings_and_buffers : lacking down ≡ 0 ∷ 1 ∷ 2 ∷ 3 ∷ 4 ∷ 5 ∷ 6 ∷ 7 ∷ 8 ∷ 9 ∷ 10 ∷ 11 ∷ 12 ∷ []
 rings_and_buffers = refl
 
-just_those_without_frames : lacking (record down { frames = Some 7 ∷ None ∷ Some 8 ∷ replicate 10 (Some 9) ++ replicate 51 None }) ≡ 1 ∷ []
+just_those_without_frames : lacking
+    (record down { frames = Some 7 ∷ None ∷ Some 8 ∷ replicate 10 (Some 9) ++ replicate 51 None })
+    ≡ 1 ∷ []
 just_those_without_frames = refl
 
 -- after a reset all have their frames still
@@ -149,7 +170,8 @@ abbrev thirteen_frames : List (Option ℕ)
 thirteen_frames = map (λ k. Some (k + 20)) (range_with_len 0 13) ++ replicate 51 None
 
 -- without STATS_VQ there is no statistics buffer
-initialised : HonestStep down (Init 0x100000025) thirteen Ready (record down { status = 15; features = 0x100000025; frames = thirteen_frames })
+initialised : HonestStep down (Init 0x100000025) thirteen Ready
+    (record down { status = 15; features = 0x100000025; frames = thirteen_frames })
 initialised = (tt, (refl, refl))
 
 -- one claim for each of the pages, no more and no less, and none after one that is refused
@@ -166,21 +188,27 @@ none_after_no_memory : AreClaimsFor (0 ∷ 1 ∷ []) (GaveNoMemory ∷ Gave 5 �
 none_after_no_memory a = let e : Gave 5 ∷ [] ≡ [] = a in cc
 
 -- the first claim that is refused is the answer, and no frame stays
-no_frame_left : HonestStep down (Init 0x100000027) (Gave 20 ∷ Gave 21 ∷ GaveNoFrame ∷ []) (Refused NoFrame) down
+no_frame_left : HonestStep down (Init 0x100000027) (Gave 20 ∷ Gave 21 ∷ GaveNoFrame ∷ [])
+    (Refused NoFrame) down
 no_frame_left = (refl, (refl, refl))
 
-no_memory_left : HonestStep down (Init 0x100000027) (Gave 20 ∷ GaveNoMemory ∷ []) (Refused NoMemory) down
+no_memory_left : HonestStep down (Init 0x100000027) (Gave 20 ∷ GaveNoMemory ∷ []) (Refused NoMemory)
+    down
 no_memory_left = (refl, (refl, refl))
 
--- features that are refused leave the status at 131 and what was accepted in the negotiation; the frames stay
-must_tell_missing : HonestStep down (Init 0x100000026) thirteen (Refused MustTellMissing) (record down { status = 131; features = 0x100000026; frames = thirteen_frames })
+-- features that are refused leave the status at 131 and what was accepted in the negotiation; the
+-- frames stay
+must_tell_missing : HonestStep down (Init 0x100000026) thirteen (Refused MustTellMissing)
+    (record down { status = 131; features = 0x100000026; frames = thirteen_frames })
 must_tell_missing = (tt, (refl, refl))
 
-version_missing : HonestStep down (Init 0x27) thirteen (Refused VersionMissing) (record down { status = 131; features = 0x27; frames = thirteen_frames })
+version_missing : HonestStep down (Init 0x27) thirteen (Refused VersionMissing)
+    (record down { status = 131; features = 0x27; frames = thirteen_frames })
 version_missing = (tt, (refl, refl))
 
 -- none were accepted that aren't offered
-not_offered : HonestStep down (Init 0x100000067) thirteen (Refused FeatureNotOffered) (record down { status = 131; features = 0; frames = thirteen_frames })
+not_offered : HonestStep down (Init 0x100000067) thirteen (Refused FeatureNotOffered)
+    (record down { status = 131; features = 0; frames = thirteen_frames })
 not_offered = (tt, (refl, refl))
 
 -- the features come after the frames
@@ -188,5 +216,9 @@ frames_before_features : HonestStep down (Init 0x26) (GaveNoFrame ∷ []) (Refus
 frames_before_features = (refl, (refl, refl))
 
 -- a guest that is up, or has given up, has to be reset first
-up_already : refusal_of ready (Init 0) ∷ refusal_of (record down { status = 131 }) (Init 0x100000027) ∷ refusal_of (after_reset full) (Init 0x100000027) ∷ refusal_of (after_restart full) (Init 0x100000027) ∷ [] ≡ Some AlreadyUp ∷ Some AlreadyUp ∷ None ∷ None ∷ []
+up_already : refusal_of ready (Init 0)
+    ∷ refusal_of (record down { status = 131 }) (Init 0x100000027)
+    ∷ refusal_of (after_reset full) (Init 0x100000027)
+    ∷ refusal_of (after_restart full) (Init 0x100000027) ∷ [] ≡ Some AlreadyUp ∷ Some AlreadyUp
+    ∷ None ∷ None ∷ []
 up_already = refl

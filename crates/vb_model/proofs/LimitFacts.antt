@@ -1,9 +1,22 @@
 -- All limits, and where rings and buffers stand, as plain numbers.
 use Rattle.std.proofs.Common.{◌≡◌, true, false, [], ◌∷◌, map, refl}
 use Rattle.std.specs.List.{range_with_len}
-use Rattle.vb_model.specs.declared.limits.TheConstants.{PAGE_SIZE, RESERVED_PAGES, RING_AND_BUFFER_PAGES, MAX_ORDER, MIN_REPORTED_ORDER, MAX_OUTSTANDING, MAX_REQUEST_PAGES, MAX_GUESTS, MIN_GUEST_PAGES, MAX_GUEST_PAGES, MIN_QUEUE_SIZE, MAX_QUEUE_SIZE, MAX_PROCESSORS, MAX_FRAMES}
-use Rattle.vb_model.specs.declared.layout.TheConstants.{INFLATE_QUEUE, DEFLATE_QUEUE, STATISTICS_QUEUE, REPORT_QUEUE, INFLATE_RING_PAGE, DEFLATE_RING_PAGE, STATISTICS_RING_PAGE, REPORT_RING_PAGE, REQUEST_BUFFER_SIZE, INFLATE_BUFFERS_PAGE, DEFLATE_BUFFERS_PAGE, STATISTICS_PAGE}
-use Rattle.vb_model.specs.Limits.{page_size, reserved_pages, ring_and_buffer_pages, max_order, min_reported_order, max_outstanding, max_request_pages, max_guests, max_frames, is_power_of_two, is_config}
+use Rattle.vb_model.specs.declared.limits.TheConstants.{PAGE_SIZE, RESERVED_PAGES}
+use Rattle.vb_model.specs.declared.limits.TheConstants.{RING_AND_BUFFER_PAGES, MAX_ORDER}
+use Rattle.vb_model.specs.declared.limits.TheConstants.{MIN_REPORTED_ORDER, MAX_OUTSTANDING}
+use Rattle.vb_model.specs.declared.limits.TheConstants.{MAX_REQUEST_PAGES, MAX_GUESTS}
+use Rattle.vb_model.specs.declared.limits.TheConstants.{MIN_GUEST_PAGES, MAX_GUEST_PAGES}
+use Rattle.vb_model.specs.declared.limits.TheConstants.{MIN_QUEUE_SIZE, MAX_QUEUE_SIZE}
+use Rattle.vb_model.specs.declared.limits.TheConstants.{MAX_PROCESSORS, MAX_FRAMES}
+use Rattle.vb_model.specs.declared.layout.TheConstants.{INFLATE_QUEUE, DEFLATE_QUEUE}
+use Rattle.vb_model.specs.declared.layout.TheConstants.{STATISTICS_QUEUE, REPORT_QUEUE}
+use Rattle.vb_model.specs.declared.layout.TheConstants.{INFLATE_RING_PAGE, DEFLATE_RING_PAGE}
+use Rattle.vb_model.specs.declared.layout.TheConstants.{STATISTICS_RING_PAGE, REPORT_RING_PAGE}
+use Rattle.vb_model.specs.declared.layout.TheConstants.{REQUEST_BUFFER_SIZE, INFLATE_BUFFERS_PAGE}
+use Rattle.vb_model.specs.declared.layout.TheConstants.{DEFLATE_BUFFERS_PAGE, STATISTICS_PAGE}
+use Rattle.vb_model.specs.Limits.{page_size, reserved_pages, ring_and_buffer_pages, max_order}
+use Rattle.vb_model.specs.Limits.{min_reported_order, max_outstanding, max_request_pages}
+use Rattle.vb_model.specs.Limits.{max_guests, max_frames, is_power_of_two, is_config}
 use Rattle.vb_model.specs.Layout.{ring_page, buffers_page, buffer_page, buffer_offset}
 
 -- bytes of a page; reserved pages, and those of rings and buffers
@@ -19,32 +32,40 @@ requests_are : MAX_OUTSTANDING ∷ MAX_REQUEST_PAGES ∷ [] ≡ 16 ∷ 256 ∷ [
 requests_are = refl
 
 -- guests at a time, frames, and the sizes of a guest
-guests_are : MAX_GUESTS ∷ MAX_FRAMES ∷ MIN_GUEST_PAGES ∷ MAX_GUEST_PAGES ∷ MIN_QUEUE_SIZE ∷ MAX_QUEUE_SIZE ∷ MAX_PROCESSORS ∷ [] ≡ 8 ∷ 65536 ∷ 64 ∷ 16384 ∷ 2 ∷ 128 ∷ 4 ∷ []
+guests_are : MAX_GUESTS ∷ MAX_FRAMES ∷ MIN_GUEST_PAGES ∷ MAX_GUEST_PAGES ∷ MIN_QUEUE_SIZE
+    ∷ MAX_QUEUE_SIZE ∷ MAX_PROCESSORS ∷ [] ≡ 8 ∷ 65536 ∷ 64 ∷ 16384 ∷ 2 ∷ 128 ∷ 4 ∷ []
 guests_are = refl
 
 -- the definitions' own names for them
-by_their_names : page_size ∷ reserved_pages ∷ ring_and_buffer_pages ∷ max_order ∷ min_reported_order ∷ max_outstanding ∷ max_request_pages ∷ max_guests ∷ max_frames ∷ [] ≡ 4096 ∷ 16 ∷ 13 ∷ 9 ∷ 4 ∷ 16 ∷ 256 ∷ 8 ∷ 65536 ∷ []
+by_their_names : page_size ∷ reserved_pages ∷ ring_and_buffer_pages ∷ max_order ∷ min_reported_order
+    ∷ max_outstanding ∷ max_request_pages ∷ max_guests ∷ max_frames ∷ [] ≡ 4096 ∷ 16 ∷ 13 ∷ 9 ∷ 4
+    ∷ 16 ∷ 256 ∷ 8 ∷ 65536 ∷ []
 by_their_names = refl
 
 -- the queues, and the pages of their rings
-queues_are : INFLATE_QUEUE ∷ DEFLATE_QUEUE ∷ STATISTICS_QUEUE ∷ REPORT_QUEUE ∷ [] ≡ 0 ∷ 1 ∷ 2 ∷ 4 ∷ []
+queues_are : INFLATE_QUEUE ∷ DEFLATE_QUEUE ∷ STATISTICS_QUEUE ∷ REPORT_QUEUE ∷ [] ≡ 0 ∷ 1 ∷ 2 ∷ 4
+    ∷ []
 queues_are = refl
 
-rings_are : INFLATE_RING_PAGE ∷ DEFLATE_RING_PAGE ∷ STATISTICS_RING_PAGE ∷ REPORT_RING_PAGE ∷ [] ≡ 0 ∷ 1 ∷ 2 ∷ 3 ∷ []
+rings_are : INFLATE_RING_PAGE ∷ DEFLATE_RING_PAGE ∷ STATISTICS_RING_PAGE ∷ REPORT_RING_PAGE ∷ [] ≡ 0
+    ∷ 1 ∷ 2 ∷ 3 ∷ []
 rings_are = refl
 
 rings_of_queues : ring_page 0 ∷ ring_page 1 ∷ ring_page 2 ∷ ring_page 4 ∷ [] ≡ 0 ∷ 1 ∷ 2 ∷ 3 ∷ []
 rings_of_queues = refl
 
--- the buffers: 1024 bytes each, from page 4 on for inflates, from page 8 on for deflates, page 12 for statistics
-buffers_are : REQUEST_BUFFER_SIZE ∷ INFLATE_BUFFERS_PAGE ∷ DEFLATE_BUFFERS_PAGE ∷ STATISTICS_PAGE ∷ [] ≡ 1024 ∷ 4 ∷ 8 ∷ 12 ∷ []
+-- the buffers: 1024 bytes each, from page 4 on for inflates, from page 8 on for deflates, page 12
+-- for statistics
+buffers_are : REQUEST_BUFFER_SIZE ∷ INFLATE_BUFFERS_PAGE ∷ DEFLATE_BUFFERS_PAGE ∷ STATISTICS_PAGE
+    ∷ [] ≡ 1024 ∷ 4 ∷ 8 ∷ 12 ∷ []
 buffers_are = refl
 
 buffers_of_queues : buffers_page 0 ∷ buffers_page 1 ∷ [] ≡ 4 ∷ 8 ∷ []
 buffers_of_queues = refl
 
 -- four buffers a page, in the order of their heads
-pages_of_buffers : map (λ h. buffer_page 8 h) (range_with_len 0 16) ≡ 8 ∷ 8 ∷ 8 ∷ 8 ∷ 9 ∷ 9 ∷ 9 ∷ 9 ∷ 10 ∷ 10 ∷ 10 ∷ 10 ∷ 11 ∷ 11 ∷ 11 ∷ 11 ∷ []
+pages_of_buffers : map (λ h. buffer_page 8 h) (range_with_len 0 16) ≡ 8 ∷ 8 ∷ 8 ∷ 8 ∷ 9 ∷ 9 ∷ 9 ∷ 9
+    ∷ 10 ∷ 10 ∷ 10 ∷ 10 ∷ 11 ∷ 11 ∷ 11 ∷ 11 ∷ []
 pages_of_buffers = refl
 
 offsets_of_buffers : map buffer_offset (range_with_len 0 6) ≡ 0 ∷ 1024 ∷ 2048 ∷ 3072 ∷ 0 ∷ 1024 ∷ []
@@ -52,17 +73,23 @@ offsets_of_buffers = refl
 
 -- ---- what a guest may have
 
-powers_of_two : map is_power_of_two (0 ∷ 1 ∷ 2 ∷ 3 ∷ 4 ∷ 6 ∷ 8 ∷ 16383 ∷ 16384 ∷ 2147483648 ∷ []) ≡ false ∷ true ∷ true ∷ false ∷ true ∷ false ∷ true ∷ false ∷ true ∷ true ∷ []
+powers_of_two : map is_power_of_two (0 ∷ 1 ∷ 2 ∷ 3 ∷ 4 ∷ 6 ∷ 8 ∷ 16383 ∷ 16384 ∷ 2147483648 ∷ [])
+    ≡ false ∷ true ∷ true ∷ false ∷ true ∷ false ∷ true ∷ false ∷ true ∷ true ∷ []
 powers_of_two = refl
 
 -- 64 to 16,384 pages
-pages_of_a_guest : map (λ pages. is_config pages 8 1) (0 ∷ 32 ∷ 63 ∷ 64 ∷ 65 ∷ 96 ∷ 128 ∷ 16384 ∷ 32768 ∷ []) ≡ false ∷ false ∷ false ∷ true ∷ false ∷ false ∷ true ∷ true ∷ false ∷ []
+pages_of_a_guest : map (λ pages. is_config pages 8 1)
+    (0 ∷ 32 ∷ 63 ∷ 64 ∷ 65 ∷ 96 ∷ 128 ∷ 16384 ∷ 32768 ∷ []) ≡ false ∷ false ∷ false ∷ true ∷ false
+    ∷ false ∷ true ∷ true ∷ false ∷ []
 pages_of_a_guest = refl
 
 -- queues of 2 to 128 descriptors
-queues_of_a_guest : map (λ queue_size. is_config 64 queue_size 1) (0 ∷ 1 ∷ 2 ∷ 3 ∷ 4 ∷ 96 ∷ 128 ∷ 256 ∷ []) ≡ false ∷ false ∷ true ∷ false ∷ true ∷ false ∷ true ∷ false ∷ []
+queues_of_a_guest : map (λ queue_size. is_config 64 queue_size 1)
+    (0 ∷ 1 ∷ 2 ∷ 3 ∷ 4 ∷ 96 ∷ 128 ∷ 256 ∷ []) ≡ false ∷ false ∷ true ∷ false ∷ true ∷ false ∷ true
+    ∷ false ∷ []
 queues_of_a_guest = refl
 
 -- 1 to 4 processors
-processors_of_a_guest : map (λ processors. is_config 64 8 processors) (0 ∷ 1 ∷ 2 ∷ 3 ∷ 4 ∷ 5 ∷ []) ≡ false ∷ true ∷ true ∷ true ∷ true ∷ false ∷ []
+processors_of_a_guest : map (λ processors. is_config 64 8 processors) (0 ∷ 1 ∷ 2 ∷ 3 ∷ 4 ∷ 5 ∷ [])
+    ≡ false ∷ true ∷ true ∷ true ∷ true ∷ false ∷ []
 processors_of_a_guest = refl

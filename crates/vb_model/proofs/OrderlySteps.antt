@@ -1,14 +1,21 @@
 -- A call that an honest guest answers leaves it in order.
-use Rattle.std.proofs.Common.{◌≡◌, ℕ, ◌<◌, Bool, true, false, cond, List, [], ◌∷◌, ◌++◌, length, refl, sym, ap, subst, ◌∙◌, inl, inr, arith, ◌≢◌}
-use Rattle.std.specs.Prelude.{◌&&◌, nat_lt, nat_le, Option, Some, None, slice_get, map, if◌then◌else◌}
+use Rattle.std.proofs.Common.{◌≡◌, ℕ, ◌<◌, Bool, true, false, cond, List, [], ◌∷◌, ◌++◌, length}
+use Rattle.std.proofs.Common.{refl, sym, ap, subst, ◌∙◌, inl, inr, arith, ◌≢◌}
+use Rattle.std.specs.Prelude.{◌&&◌, nat_lt, nat_le, Option, Some, None, slice_get, map}
+use Rattle.std.specs.Prelude.{if◌then◌else◌}
 use Rattle.std.specs.List.{range_with_len}
 use Rattle.std.proofs.lemmas.List.{length-map}
 use Rattle.std.proofs.lemmas.List.FromFn.{length-range_with_len, get_or-map-range_with_len}
 use Rattle.std.proofs.lemmas.Bool.{leb-false, not-false}
 use Rattle.vb_model.specs.declared.places.Place.{Place}
-use Rattle.vb_model.specs.declared.places.Place.TheVariants.{Reserved, Free as FreePlace, Used, Giving, Lent, Taking, Stranded, Reporting}
+use Rattle.vb_model.specs.declared.places.Place.TheVariants.{Reserved, Free as FreePlace, Used}
+use Rattle.vb_model.specs.declared.places.Place.TheVariants.{Giving, Lent, Taking, Stranded}
+use Rattle.vb_model.specs.declared.places.Place.TheVariants.{Reporting}
 use Rattle.vb_model.specs.declared.calls.Call.{Call}
-use Rattle.vb_model.specs.declared.calls.Call.TheVariants.{Init, Reset, Alloc, Free, Read, Write, Scribble, Inflate, Deflate, Oom, Report, Stats, Reap, Take, Work, Finish, Sweep, Ask, SetTarget}
+use Rattle.vb_model.specs.declared.calls.Call.TheVariants.{Init, Reset, Alloc, Free, Read, Write}
+use Rattle.vb_model.specs.declared.calls.Call.TheVariants.{Scribble, Inflate, Deflate, Oom, Report}
+use Rattle.vb_model.specs.declared.calls.Call.TheVariants.{Stats, Reap, Take, Work, Finish, Sweep}
+use Rattle.vb_model.specs.declared.calls.Call.TheVariants.{Ask, SetTarget}
 use Rattle.vb_model.specs.declared.calls.Claim.{Claim}
 use Rattle.vb_model.specs.declared.calls.Event.{Event}
 use Rattle.vb_model.specs.declared.replies.Refusal.{Refusal}
@@ -16,13 +23,19 @@ use Rattle.vb_model.specs.declared.replies.Reply.{Reply}
 use Rattle.vb_model.specs.declared.replies.Reply.TheVariants.{Refused}
 use Rattle.vb_model.specs.Limits.{reserved_pages, min_reported_order}
 use Rattle.vb_model.specs.Tests.{is_in}
-use Rattle.vb_model.specs.Pages.{Block, pages_of, pages_of_all, is_free, is_used, is_giving, is_lent, is_taking, is_reporting, place_of, placed}
-use Rattle.vb_model.specs.Requests.{Request, Requests, no_requests, outstanding, Kind, Inflating, Deflating, Reporting_free, kind_of_queue, place_after, Buffer, NoBuffer, BufferPosted, BufferTaken, BufferDone}
+use Rattle.vb_model.specs.Pages.{Block, pages_of, pages_of_all, is_free, is_used, is_giving}
+use Rattle.vb_model.specs.Pages.{is_lent, is_taking, is_reporting, place_of, placed}
+use Rattle.vb_model.specs.Requests.{Request, Requests, no_requests, outstanding, Kind, Inflating}
+use Rattle.vb_model.specs.Requests.{Deflating, Reporting_free, kind_of_queue, place_after, Buffer}
+use Rattle.vb_model.specs.Requests.{NoBuffer, BufferPosted, BufferTaken, BufferDone}
 use Rattle.vb_model.specs.Guest.{Guest, Config, fresh, requests, with_requests}
-use Rattle.vb_model.specs.Refusals.{refusal_of, tests, room, deflate_count, oom_count, reported_blocks}
-use Rattle.vb_model.specs.Driver.{Reaps, Fills, Written, pages_needed, stranded_first, lowest_lent, reaped}
+use Rattle.vb_model.specs.Refusals.{refusal_of, tests, room, deflate_count, oom_count}
+use Rattle.vb_model.specs.Refusals.{reported_blocks}
+use Rattle.vb_model.specs.Driver.{Reaps, Fills, Written, pages_needed, stranded_first, lowest_lent}
+use Rattle.vb_model.specs.Driver.{reaped}
 use Rattle.vb_model.specs.Device.{Takes, TakesBuffer, Finishes, Asks, settled, used, visited}
-use Rattle.vb_model.specs.Life.{feature_refusal, Negotiates, lacking, place_after_reset, after_reset}
+use Rattle.vb_model.specs.Life.{feature_refusal, Negotiates, lacking, place_after_reset}
+use Rattle.vb_model.specs.Life.{after_reset}
 use Rattle.vb_model.specs.Rogue.{Scribbled}
 use Rattle.vb_model.specs.Step.{Performs, HonestStep}
 use Rattle.vb_model.specs.Consistent.{IsConsistent}
@@ -30,17 +43,24 @@ use Rattle.vb_model.specs.Orderly.{AreOrderly, IsOrderly, is_reserved}
 use Rattle.vb_model.specs.World.{World, WorldStep, guest_at}
 use Rattle.vb_model.proofs.Tables.{length-each_from}
 use Rattle.vb_model.proofs.PageSteps.{can_be_given, after_take, after_reap}
-use Rattle.vb_model.proofs.GuestSteps.{placed-get, not_reserved, held_used, inflate_giving, deflate_taking, report_reporting, place_of-reset, first_place}
-use Rattle.vb_model.proofs.CallSteps.{match_cases, supplying_cases, works_cases, not_refused, supplied, inflated_pages, lent_pages, wholly_free_pages, reported_pages}
-use Rattle.vb_model.proofs.InOrder.{no_requests_orderly, orderly_posting, orderly_take, orderly_work, orderly_finish, orderly_reap}
+use Rattle.vb_model.proofs.GuestSteps.{placed-get, not_reserved, held_used, inflate_giving}
+use Rattle.vb_model.proofs.GuestSteps.{deflate_taking, report_reporting, place_of-reset}
+use Rattle.vb_model.proofs.GuestSteps.{first_place}
+use Rattle.vb_model.proofs.CallSteps.{match_cases, supplying_cases, works_cases, not_refused}
+use Rattle.vb_model.proofs.CallSteps.{supplied, inflated_pages, lent_pages, wholly_free_pages}
+use Rattle.vb_model.proofs.CallSteps.{reported_pages}
+use Rattle.vb_model.proofs.InOrder.{no_requests_orderly, orderly_posting, orderly_take}
+use Rattle.vb_model.proofs.InOrder.{orderly_work, orderly_finish, orderly_reap}
 use Rattle.vb_model.proofs.Distinct.{distinct_where, inflated_distinct}
 use Rattle.vb_model.proofs.Blocks.{reported_distinct}
-use Rattle.vb_model.proofs.Changes.{Change, Untouched, Retargeted, Stepped, Restarted, New, changes, was_honest, AllConsistent}
+use Rattle.vb_model.proofs.Changes.{Change, Untouched, Retargeted, Stepped, Restarted, New, changes}
+use Rattle.vb_model.proofs.Changes.{was_honest, AllConsistent}
 
 -- ---- places
 
 abbrev Unreserved : ℕ → List Place → Type 0
-Unreserved pages places = (page : ℕ) → page < pages → is_reserved (place_of places page) ≡ nat_lt page reserved_pages
+Unreserved pages places = (page : ℕ) → page < pages
+    → is_reserved (place_of places page) ≡ nat_lt page reserved_pages
 
 is_not_reserved : (place : Place) → place ≢ Reserved → is_reserved place ≡ false
 is_not_reserved Reserved h = absurd (h refl)
@@ -53,15 +73,21 @@ is_not_reserved Stranded h = refl
 is_not_reserved Reporting h = refl
 
 -- pages that aren't reserved went to a place that isn't
-moved : (n : ℕ) (pages : List ℕ) (place : Place) (places : List Place) → Unreserved n places → is_reserved place ≡ false → ((page : ℕ) → is_in page pages ≡ true → place_of places page ≢ Reserved) → Unreserved n (placed pages place places)
+moved : (n : ℕ) (pages : List ℕ) (place : Place) (places : List Place) → Unreserved n places
+    → is_reserved place ≡ false
+    → ((page : ℕ) → is_in page pages ≡ true → place_of places page ≢ Reserved)
+    → Unreserved n (placed pages place places)
 moved n pages place places h free ok page l =
-    ap is_reserved (placed-get pages place places page (ok page)) ∙ (step (is_in page pages) refl ∙ h page l)
+    ap is_reserved (placed-get pages place places page (ok page))
+    ∙ (step (is_in page pages) refl ∙ h page l)
   where
-    step : (v : Bool) → is_in page pages ≡ v → is_reserved (cond v place (place_of places page)) ≡ is_reserved (place_of places page)
+    step : (v : Bool) → is_in page pages ≡ v
+        → is_reserved (cond v place (place_of places page)) ≡ is_reserved (place_of places page)
     step true e = free ∙ sym (is_not_reserved (place_of places page) (ok page e))
     step false e = refl
 
-length-placed : (pages : List ℕ) (place : Place) (places : List Place) → length (placed pages place places) ≡ length places
+length-placed : (pages : List ℕ) (place : Place) (places : List Place)
+    → length (placed pages place places) ≡ length places
 length-placed pages place places = length-each_from 0 _ places
 
 reset_reserved : (place : Place) → is_reserved (place_after_reset place) ≡ is_reserved place
@@ -76,45 +102,164 @@ reset_reserved Reporting = refl
 
 -- ---- a new request
 
-with_inflate : (g : Guest) (rs : Requests) (places : List Place) → IsOrderly g → AreOrderly (room g) rs → length places ≡ g.config.pages → Unreserved g.config.pages places → IsOrderly (record g { inflate = rs; places = places })
-with_inflate g rs places h o l u = record { inflating = o; deflating = h.deflating; reporting = h.reporting; state = h.state; tabled = l; unreserved = u }
+with_inflate : (g : Guest) (rs : Requests) (places : List Place) → IsOrderly g
+    → AreOrderly (room g) rs → length places ≡ g.config.pages → Unreserved g.config.pages places
+    → IsOrderly (record g { inflate = rs; places = places })
+with_inflate g rs places h o l u =
+    record {
+      inflating = o;
+      deflating = h.deflating;
+      reporting = h.reporting;
+      state = h.state;
+      tabled = l;
+      unreserved = u;
+    }
 
-with_deflate : (g : Guest) (rs : Requests) (places : List Place) → IsOrderly g → AreOrderly (room g) rs → length places ≡ g.config.pages → Unreserved g.config.pages places → IsOrderly (record g { deflate = rs; places = places })
-with_deflate g rs places h o l u = record { inflating = h.inflating; deflating = o; reporting = h.reporting; state = h.state; tabled = l; unreserved = u }
+with_deflate : (g : Guest) (rs : Requests) (places : List Place) → IsOrderly g
+    → AreOrderly (room g) rs → length places ≡ g.config.pages → Unreserved g.config.pages places
+    → IsOrderly (record g { deflate = rs; places = places })
+with_deflate g rs places h o l u =
+    record {
+      inflating = h.inflating;
+      deflating = o;
+      reporting = h.reporting;
+      state = h.state;
+      tabled = l;
+      unreserved = u;
+    }
 
-with_report : (g : Guest) (rs : Requests) (places : List Place) → IsOrderly g → AreOrderly 1 rs → length places ≡ g.config.pages → Unreserved g.config.pages places → IsOrderly (record g { report = rs; places = places })
-with_report g rs places h o l u = record { inflating = h.inflating; deflating = h.deflating; reporting = o; state = h.state; tabled = l; unreserved = u }
+with_report : (g : Guest) (rs : Requests) (places : List Place) → IsOrderly g → AreOrderly 1 rs
+    → length places ≡ g.config.pages → Unreserved g.config.pages places
+    → IsOrderly (record g { report = rs; places = places })
+with_report g rs places h o l u =
+    record {
+      inflating = h.inflating;
+      deflating = h.deflating;
+      reporting = o;
+      state = h.state;
+      tabled = l;
+      unreserved = u;
+    }
 
 has_room : (most now : ℕ) → nat_le most now ≡ false → now < most
 has_room most now h = leb-false most now h
 
 -- ---- the kinds' requests change, and nothing else
 
-kept_take : (kind : Kind) (g : Guest) (r : Request) (rest : List Request) → IsOrderly g → (requests kind g).posted ≡ r ∷ rest → IsOrderly (with_requests kind (after_take r rest (requests kind g)) g)
-kept_take Inflating g r rest h e = record { inflating = orderly_take _ r rest g.inflate e h.inflating; deflating = h.deflating; reporting = h.reporting; state = h.state; tabled = h.tabled; unreserved = h.unreserved }
-kept_take Deflating g r rest h e = record { inflating = h.inflating; deflating = orderly_take _ r rest g.deflate e h.deflating; reporting = h.reporting; state = h.state; tabled = h.tabled; unreserved = h.unreserved }
-kept_take Reporting_free g r rest h e = record { inflating = h.inflating; deflating = h.deflating; reporting = orderly_take _ r rest g.report e h.reporting; state = h.state; tabled = h.tabled; unreserved = h.unreserved }
+kept_take : (kind : Kind) (g : Guest) (r : Request) (rest : List Request) → IsOrderly g
+    → (requests kind g).posted ≡ r ∷ rest
+    → IsOrderly (with_requests kind (after_take r rest (requests kind g)) g)
+kept_take Inflating g r rest h e =
+    record {
+      inflating = orderly_take _ r rest g.inflate e h.inflating;
+      deflating = h.deflating;
+      reporting = h.reporting;
+      state = h.state;
+      tabled = h.tabled;
+      unreserved = h.unreserved;
+    }
+kept_take Deflating g r rest h e =
+    record {
+      inflating = h.inflating;
+      deflating = orderly_take _ r rest g.deflate e h.deflating;
+      reporting = h.reporting;
+      state = h.state;
+      tabled = h.tabled;
+      unreserved = h.unreserved;
+    }
+kept_take Reporting_free g r rest h e =
+    record {
+      inflating = h.inflating;
+      deflating = h.deflating;
+      reporting = orderly_take _ r rest g.report e h.reporting;
+      state = h.state;
+      tabled =
+          h.tabled;
+      unreserved = h.unreserved;
+    }
 
 kept_work : (kind : Kind) (page : ℕ) (g : Guest) → IsOrderly g → IsOrderly (visited kind page g)
-kept_work Inflating page g h = record { inflating = orderly_work _ g.inflate h.inflating; deflating = h.deflating; reporting = h.reporting; state = h.state; tabled = h.tabled; unreserved = h.unreserved }
-kept_work Deflating page g h = record { inflating = h.inflating; deflating = orderly_work _ g.deflate h.deflating; reporting = h.reporting; state = h.state; tabled = h.tabled; unreserved = h.unreserved }
-kept_work Reporting_free page g h = record { inflating = h.inflating; deflating = h.deflating; reporting = orderly_work _ g.report h.reporting; state = h.state; tabled = h.tabled; unreserved = h.unreserved }
+kept_work Inflating page g h =
+    record {
+      inflating = orderly_work _ g.inflate h.inflating;
+      deflating = h.deflating;
+      reporting = h.reporting;
+      state = h.state;
+      tabled = h.tabled;
+      unreserved = h.unreserved;
+    }
+kept_work Deflating page g h =
+    record {
+      inflating = h.inflating;
+      deflating = orderly_work _ g.deflate h.deflating;
+      reporting = h.reporting;
+      state = h.state;
+      tabled = h.tabled;
+      unreserved = h.unreserved;
+    }
+kept_work Reporting_free page g h =
+    record {
+      inflating = h.inflating;
+      deflating = h.deflating;
+      reporting = orderly_work _ g.report h.reporting;
+      state = h.state;
+      tabled =
+          h.tabled;
+      unreserved = h.unreserved;
+    }
 
-kept_finish : (kind : Kind) (i : ℕ) (r : Request) (g : Guest) → IsOrderly g → slice_get (requests kind g).taken i ≡ Some r → IsOrderly (settled kind r.pages (used kind i r g))
-kept_finish Inflating i r g h e = record { inflating = orderly_finish _ i r g.inflate e h.inflating; deflating = h.deflating; reporting = h.reporting; state = h.state; tabled = h.tabled; unreserved = h.unreserved }
-kept_finish Deflating i r g h e = record { inflating = h.inflating; deflating = orderly_finish _ i r g.deflate e h.deflating; reporting = h.reporting; state = h.state; tabled = h.tabled; unreserved = h.unreserved }
-kept_finish Reporting_free i r g h e = record { inflating = h.inflating; deflating = h.deflating; reporting = orderly_finish _ i r g.report e h.reporting; state = h.state; tabled = h.tabled; unreserved = h.unreserved }
+kept_finish : (kind : Kind) (i : ℕ) (r : Request) (g : Guest) → IsOrderly g
+    → slice_get (requests kind g).taken i ≡ Some r
+    → IsOrderly (settled kind r.pages (used kind i r g))
+kept_finish Inflating i r g h e =
+    record {
+      inflating = orderly_finish _ i r g.inflate e h.inflating;
+      deflating = h.deflating;
+      reporting = h.reporting;
+      state = h.state;
+      tabled = h.tabled;
+      unreserved = h.unreserved;
+    }
+kept_finish Deflating i r g h e =
+    record {
+      inflating = h.inflating;
+      deflating = orderly_finish _ i r g.deflate e h.deflating;
+      reporting = h.reporting;
+      state = h.state;
+      tabled = h.tabled;
+      unreserved = h.unreserved;
+    }
+kept_finish Reporting_free i r g h e =
+    record {
+      inflating = h.inflating;
+      deflating = h.deflating;
+      reporting = orderly_finish _ i r g.report e h.reporting;
+      state = h.state;
+      tabled =
+          h.tabled;
+      unreserved = h.unreserved;
+    }
 
-kept_reap : (kind : Kind) (g : Guest) (r : Request) (rest : List Request) → IsConsistent g → IsOrderly g → (requests kind g).done ≡ r ∷ rest → IsOrderly (reaped kind r rest g)
+kept_reap : (kind : Kind) (g : Guest) (r : Request) (rest : List Request) → IsConsistent g
+    → IsOrderly g → (requests kind g).done ≡ r ∷ rest → IsOrderly (reaped kind r rest g)
 kept_reap Inflating g r rest c h e =
-    with_inflate g (after_reap rest g.inflate) (placed r.pages Lent g.places) h (orderly_reap _ r rest g.inflate e h.inflating) (length-placed r.pages Lent g.places ∙ h.tabled)
-    (moved g.config.pages r.pages Lent g.places h.unreserved refl (λ page k. not_reserved _ is_giving refl (inflate_giving g page r rest c e k)))
+    with_inflate g (after_reap rest g.inflate) (placed r.pages Lent g.places) h
+    (orderly_reap _ r rest g.inflate e h.inflating)
+    (length-placed r.pages Lent g.places ∙ h.tabled)
+    (moved g.config.pages r.pages Lent g.places h.unreserved refl
+    (λ page k. not_reserved _ is_giving refl (inflate_giving g page r rest c e k)))
 kept_reap Deflating g r rest c h e =
-    with_deflate g (after_reap rest g.deflate) (placed r.pages FreePlace g.places) h (orderly_reap _ r rest g.deflate e h.deflating) (length-placed r.pages FreePlace g.places ∙ h.tabled)
-    (moved g.config.pages r.pages FreePlace g.places h.unreserved refl (λ page k. not_reserved _ is_taking refl (deflate_taking g page r rest c e k)))
+    with_deflate g (after_reap rest g.deflate) (placed r.pages FreePlace g.places) h
+    (orderly_reap _ r rest g.deflate e h.deflating)
+    (length-placed r.pages FreePlace g.places ∙ h.tabled)
+    (moved g.config.pages r.pages FreePlace g.places h.unreserved refl
+    (λ page k. not_reserved _ is_taking refl (deflate_taking g page r rest c e k)))
 kept_reap Reporting_free g r rest c h e =
-    with_report g (after_reap rest g.report) (placed r.pages FreePlace g.places) h (orderly_reap _ r rest g.report e h.reporting) (length-placed r.pages FreePlace g.places ∙ h.tabled)
-    (moved g.config.pages r.pages FreePlace g.places h.unreserved refl (λ page k. not_reserved _ is_reporting refl (report_reporting g page r rest c e k)))
+    with_report g (after_reap rest g.report) (placed r.pages FreePlace g.places) h
+    (orderly_reap _ r rest g.report e h.reporting)
+    (length-placed r.pages FreePlace g.places ∙ h.tabled)
+    (moved g.config.pages r.pages FreePlace g.places h.unreserved refl
+    (λ page k. not_reserved _ is_reporting refl (report_reporting g page r rest c e k)))
 
 kept_reset : (g : Guest) → IsOrderly g → IsOrderly (after_reset g)
 kept_reset g h =
@@ -124,56 +269,90 @@ kept_reset g h =
       reporting = no_requests_orderly 1;
       state = inl refl;
       tabled = length-map g.places place_after_reset ∙ h.tabled;
-      unreserved = λ page l. ap is_reserved (place_of-reset g.places page) ∙ (reset_reserved (place_of g.places page) ∙ h.unreserved page l);
+      unreserved = λ page l. ap is_reserved (place_of-reset g.places page)
+          ∙ (reset_reserved (place_of g.places page) ∙ h.unreserved page l);
     }
 
 -- ---- by cases on lists, buffers and options
 
-reaps_order : (kind : Kind) (done : List Request) (g : Guest) (reply : Reply) (new : Guest) → IsConsistent g → IsOrderly g → (requests kind g).done ≡ done → Reaps kind done g reply new → IsOrderly new
+reaps_order : (kind : Kind) (done : List Request) (g : Guest) (reply : Reply) (new : Guest)
+    → IsConsistent g → IsOrderly g → (requests kind g).done ≡ done → Reaps kind done g reply new
+    → IsOrderly new
 reaps_order kind [] g reply new c h e s = subst IsOrderly (sym s.1) h
-reaps_order kind (r ∷ rest) g reply new c h e s = subst IsOrderly (sym s.1) (kept_reap kind g r rest c h e)
+reaps_order kind (r ∷ rest) g reply new c h e s =
+    subst IsOrderly (sym s.1) (kept_reap kind g r rest c h e)
 
-takes_order : (kind : Kind) (posted : List Request) (g : Guest) (reply : Reply) (new : Guest) → IsOrderly g → (requests kind g).posted ≡ posted → Takes kind posted g reply new → IsOrderly new
+takes_order : (kind : Kind) (posted : List Request) (g : Guest) (reply : Reply) (new : Guest)
+    → IsOrderly g → (requests kind g).posted ≡ posted → Takes kind posted g reply new
+    → IsOrderly new
 takes_order kind [] g reply new h e s = subst IsOrderly (sym s.1) h
-takes_order kind (r ∷ rest) g reply new h e s = subst IsOrderly (sym s.1) (kept_take kind g r rest h e)
+takes_order kind (r ∷ rest) g reply new h e s =
+    subst IsOrderly (sym s.1) (kept_take kind g r rest h e)
 
-fills_order : (buffer : Buffer) (g : Guest) (reply : Reply) (new : Guest) → IsOrderly g → Fills buffer g reply new → IsOrderly new
+fills_order : (buffer : Buffer) (g : Guest) (reply : Reply) (new : Guest) → IsOrderly g
+    → Fills buffer g reply new → IsOrderly new
 fills_order NoBuffer g reply new h s = subst IsOrderly (sym s.1) h
 fills_order (BufferPosted f) g reply new h s = subst IsOrderly (sym s.1) h
 fills_order (BufferTaken f) g reply new h s = subst IsOrderly (sym s.1) h
 fills_order (BufferDone f) g reply new h s = subst IsOrderly (sym s.1) h
 
-takes_buffer_order : (buffer : Buffer) (g : Guest) (reply : Reply) (new : Guest) → IsOrderly g → TakesBuffer buffer g reply new → IsOrderly new
+takes_buffer_order : (buffer : Buffer) (g : Guest) (reply : Reply) (new : Guest) → IsOrderly g
+    → TakesBuffer buffer g reply new → IsOrderly new
 takes_buffer_order NoBuffer g reply new h s = subst IsOrderly (sym s.1) h
 takes_buffer_order (BufferPosted f) g reply new h s = subst IsOrderly (sym s.1) h
 takes_buffer_order (BufferTaken f) g reply new h s = subst IsOrderly (sym s.1) h
 takes_buffer_order (BufferDone f) g reply new h s = subst IsOrderly (sym s.1) h
 
-asks_order : (buffer : Buffer) (g : Guest) (reply : Reply) (new : Guest) → IsOrderly g → Asks buffer g reply new → IsOrderly new
+asks_order : (buffer : Buffer) (g : Guest) (reply : Reply) (new : Guest) → IsOrderly g
+    → Asks buffer g reply new → IsOrderly new
 asks_order NoBuffer g reply new h s = absurd s
 asks_order (BufferPosted f) g reply new h s = absurd s
 asks_order (BufferTaken f) g reply new h s = subst IsOrderly (sym s.1) h
 asks_order (BufferDone f) g reply new h s = absurd s
 
-negotiates_order : (o : Option Refusal) (wanted : ℕ) (g : Guest) (reply : Reply) (new : Guest) → IsOrderly g → Negotiates o wanted g reply new → IsOrderly new
+negotiates_order : (o : Option Refusal) (wanted : ℕ) (g : Guest) (reply : Reply) (new : Guest)
+    → IsOrderly g → Negotiates o wanted g reply new → IsOrderly new
 negotiates_order None wanted g reply new h s =
-    subst IsOrderly (sym s.1) (record { inflating = h.inflating; deflating = h.deflating; reporting = h.reporting; state = inr (inl refl); tabled = h.tabled; unreserved = h.unreserved })
+    subst IsOrderly (sym s.1)
+    (record {
+      inflating = h.inflating;
+      deflating = h.deflating;
+      reporting = h.reporting;
+      state = inr (inl refl);
+      tabled = h.tabled;
+      unreserved = h.unreserved;
+    })
 negotiates_order (Some refusal) wanted g reply new h s =
-    subst IsOrderly (sym s.1) (record { inflating = h.inflating; deflating = h.deflating; reporting = h.reporting; state = inr (inr refl); tabled = h.tabled; unreserved = h.unreserved })
+    subst IsOrderly (sym s.1)
+    (record {
+      inflating = h.inflating;
+      deflating = h.deflating;
+      reporting = h.reporting;
+      state = inr (inr refl);
+      tabled = h.tabled;
+      unreserved = h.unreserved;
+    })
 
 -- ---- a call that isn't refused
 
-deflates_order : (g : Guest) (count head : ℕ) → IsOrderly g → Rattle.vb_model.specs.Requests.IsLeastHead g.deflate head → outstanding g.deflate < room g → IsOrderly (Rattle.vb_model.specs.Driver.asking Deflating head (lowest_lent count g) g)
+deflates_order : (g : Guest) (count head : ℕ) → IsOrderly g
+    → Rattle.vb_model.specs.Requests.IsLeastHead g.deflate head → outstanding g.deflate < room g
+    → IsOrderly (Rattle.vb_model.specs.Driver.asking Deflating head (lowest_lent count g) g)
 deflates_order g count head h least now =
     with_deflate g _ (placed (lowest_lent count g) Taking g.places) h
-    (orderly_posting (room g) g.deflate head (lowest_lent count g) h.deflating least now (λ page. distinct_where is_lent g.places count page))
+    (orderly_posting (room g) g.deflate head (lowest_lent count g) h.deflating least now
+    (λ page. distinct_where is_lent g.places count page))
     (length-placed (lowest_lent count g) Taking g.places ∙ h.tabled)
-    (moved g.config.pages (lowest_lent count g) Taking g.places h.unreserved refl (λ page k. not_reserved _ is_lent refl (lent_pages g count page k)))
+    (moved g.config.pages (lowest_lent count g) Taking g.places h.unreserved refl
+    (λ page k. not_reserved _ is_lent refl (lent_pages g count page k)))
 
-performs_order : (call : Call) (g : Guest) (claims : List Claim) (reply : Reply) (new : Guest) → IsConsistent g → IsOrderly g → refusal_of g call ≡ None → Performs call g claims reply new → new.rogue ≡ false → IsOrderly new
+performs_order : (call : Call) (g : Guest) (claims : List Claim) (reply : Reply) (new : Guest)
+    → IsConsistent g → IsOrderly g → refusal_of g call ≡ None → Performs call g claims reply new
+    → new.rogue ≡ false → IsOrderly new
 performs_order (SetTarget n) g claims reply new c h e s honest = subst IsOrderly (sym s.2) h
 performs_order Reset g claims reply new c h e s honest = subst IsOrderly (sym s.2) (kept_reset g h)
-performs_order (Read page offset len) g claims reply new c h e s honest = subst IsOrderly (sym s.2) h
+performs_order (Read page offset len) g claims reply new c h e s honest =
+    subst IsOrderly (sym s.2) h
 performs_order (Sweep page) g claims reply new c h e s honest = subst IsOrderly (sym s.1.1) h
 performs_order (Alloc cpu order) g claims reply new c h e s honest =
     let b : Block = record { start = s.1.0; order = order } in
@@ -184,7 +363,8 @@ performs_order (Alloc cpu order) g claims reply new c h e s honest =
       reporting = h.reporting;
       state = h.state;
       tabled = length-placed (pages_of b) Used g.places ∙ h.tabled;
-      unreserved = moved g.config.pages (pages_of b) Used g.places h.unreserved refl (λ page k. not_reserved _ is_free refl (wholly_free_pages g.places b page s.1.1 k));
+      unreserved = moved g.config.pages (pages_of b) Used g.places h.unreserved refl
+          (λ page k. not_reserved _ is_free refl (wholly_free_pages g.places b page s.1.1 k));
     })
 performs_order (Free cpu start order) g claims reply new c h e s honest =
     let b : Block = record { start = start; order = order } in
@@ -196,43 +376,59 @@ performs_order (Free cpu start order) g claims reply new c h e s honest =
       reporting = h.reporting;
       state = h.state;
       tabled = length-placed (pages_of b) FreePlace g.places ∙ h.tabled;
-      unreserved = moved g.config.pages (pages_of b) FreePlace g.places h.unreserved refl (λ page k. not_reserved _ is_used refl (held_used g b page c (not-false _ n.1.1.0) k));
+      unreserved = moved g.config.pages (pages_of b) FreePlace g.places h.unreserved refl
+          (λ page k. not_reserved _ is_used refl (held_used g b page c (not-false _ n.1.1.0) k));
     })
 performs_order (Inflate n) g claims reply new c h e s honest =
     let t = not_refused (tests g (Inflate n)) e in
     let pages : List ℕ = stranded_first g n ++ s.1.1 in
     subst IsOrderly (sym s.1.7)
     (with_inflate g _ (placed pages Giving g.places) h
-    (orderly_posting (room g) g.inflate s.1.0 pages h.inflating s.1.2 (has_room (room g) (outstanding g.inflate) t.1.0) (λ page. inflated_distinct g n s.1.1 page s.1.3 s.1.4))
+    (orderly_posting (room g) g.inflate s.1.0 pages h.inflating s.1.2
+    (has_room (room g) (outstanding g.inflate) t.1.0)
+    (λ page. inflated_distinct g n s.1.1 page s.1.3 s.1.4))
     (length-placed pages Giving g.places ∙ h.tabled)
-    (moved g.config.pages pages Giving g.places h.unreserved refl (λ page k. not_reserved _ can_be_given refl (inflated_pages g n s.1.1 page s.1.3 k))))
+    (moved g.config.pages pages Giving g.places h.unreserved refl
+    (λ page k. not_reserved _ can_be_given refl (inflated_pages g n s.1.1 page s.1.3 k))))
 performs_order (Deflate n) g claims reply new c h e s honest =
     let t = not_refused (tests g (Deflate n)) e in
-    subst IsOrderly (sym s.1.3) (deflates_order g (deflate_count g n) s.1.0 h s.1.1 (has_room (room g) (outstanding g.deflate) t.1.0))
+    subst IsOrderly (sym s.1.3)
+    (deflates_order g (deflate_count g n) s.1.0 h s.1.1
+    (has_room (room g) (outstanding g.deflate) t.1.0))
 performs_order (Oom n) g claims reply new c h e s honest =
     let t = not_refused (tests g (Oom n)) e in
-    subst IsOrderly (sym s.1.3) (deflates_order g (oom_count g n) s.1.0 h s.1.1 (has_room (room g) (outstanding g.deflate) t.1.1.0))
+    subst IsOrderly (sym s.1.3)
+    (deflates_order g (oom_count g n) s.1.0 h s.1.1
+    (has_room (room g) (outstanding g.deflate) t.1.1.0))
 performs_order (Report from) g claims reply new c h e s honest =
     let t = not_refused (tests g (Report from)) e in
     let pages : List ℕ = pages_of_all (reported_blocks g from) in
     subst IsOrderly (sym s.1.3)
     (with_report g _ (placed pages Reporting g.places) h
-    (orderly_posting 1 g.report s.1.0 pages h.reporting s.1.1 (has_room 1 (outstanding g.report) t.1.1.0) (λ page. reported_distinct g.places (λ b. nat_le min_reported_order b.order && nat_le from b.start) (room g) page))
+    (orderly_posting 1 g.report s.1.0 pages h.reporting s.1.1
+    (has_room 1 (outstanding g.report) t.1.1.0)
+    (λ page. reported_distinct g.places
+    (λ b. nat_le min_reported_order b.order && nat_le from b.start) (room g) page))
     (length-placed pages Reporting g.places ∙ h.tabled)
-    (moved g.config.pages pages Reporting g.places h.unreserved refl (λ page k. not_reserved _ is_free refl (reported_pages g from page k))))
+    (moved g.config.pages pages Reporting g.places h.unreserved refl
+    (λ page k. not_reserved _ is_free refl (reported_pages g from page k))))
 performs_order Stats g claims reply new c h e s honest = fills_order g.buffer g reply new h s.1
 performs_order (Reap q) g claims reply new c h e s honest =
-    elim (match_cases (kind_of_queue q) ⊥ (λ kind. Reaps kind (requests kind g).done g reply new) s.1) [
+    elim (match_cases (kind_of_queue q) ⊥ (λ kind. Reaps kind (requests kind g).done g reply new)
+    s.1) [
       | inl n ↦ absurd n.1
       | inr k ↦ reaps_order k.0 (requests k.0 g).done g reply new c h refl k.2
     ]
 performs_order (Take q) g claims reply new c h e s honest =
-    elim (match_cases (kind_of_queue q) (TakesBuffer g.buffer g reply new) (λ kind. Takes kind (requests kind g).posted g reply new) s.1) [
+    elim (match_cases (kind_of_queue q) (TakesBuffer g.buffer g reply new)
+    (λ kind. Takes kind (requests kind g).posted g reply new) s.1) [
       | inl n ↦ takes_buffer_order g.buffer g reply new h n.1
       | inr k ↦ takes_order k.0 (requests k.0 g).posted g reply new h refl k.2
     ]
 performs_order Work g claims reply new c h e s honest =
-    elim (works_cases (if g.config.paced then Rattle.vb_model.specs.Device.next_page g.inflate.taken else None) (if g.config.paced then Rattle.vb_model.specs.Device.next_page g.report.taken else None) g reply new s.1) [
+    elim (works_cases (if g.config.paced then Rattle.vb_model.specs.Device.next_page g.inflate.taken
+    else None) (if g.config.paced then Rattle.vb_model.specs.Device.next_page g.report.taken
+    else None) g reply new s.1) [
       | inl i ↦ subst IsOrderly (sym i.1) h
       | inr v ↦ subst IsOrderly (sym v.2.1) (kept_work v.0 v.1 g h)
     ]
@@ -243,24 +439,31 @@ performs_order (Finish q i) g claims reply new c h e s honest =
     ]
 performs_order Ask g claims reply new c h e s honest = asks_order g.buffer g reply new h s.1
 performs_order (Init wanted) g claims reply new c h e s honest =
-    elim (supplying_cases (lacking g) g claims reply new (λ supplied. Negotiates (feature_refusal wanted) wanted supplied reply new) s) [
+    elim (supplying_cases (lacking g) g claims reply new
+    (λ supplied. Negotiates (feature_refusal wanted) wanted supplied reply new) s) [
       | inr r ↦ subst IsOrderly (sym r.2) h
-      | inl m ↦ negotiates_order (feature_refusal wanted) wanted (supplied (lacking g) claims g) reply new h m
+      | inl m ↦ negotiates_order (feature_refusal wanted) wanted (supplied (lacking g) claims g)
+          reply new h m
     ]
 performs_order (Write page offset bytes) g claims reply new c h e s honest =
-    elim (supplying_cases (pages_needed page bytes g) g claims reply new (λ supplied. Written page offset bytes supplied reply new) s) [
+    elim (supplying_cases (pages_needed page bytes g) g claims reply new
+    (λ supplied. Written page offset bytes supplied reply new) s) [
       | inl m ↦ subst IsOrderly (sym m.1) h
       | inr r ↦ subst IsOrderly (sym r.2) h
     ]
 performs_order (Scribble page offset bytes) g claims reply new c h e s honest =
-    elim (supplying_cases (pages_needed page bytes g) g claims reply new (λ supplied. Scribbled supplied reply new) s) [
+    elim (supplying_cases (pages_needed page bytes g) g claims reply new
+    (λ supplied. Scribbled supplied reply new) s) [
       | inl m ↦ let rogue : new.rogue ≡ true = m.state.still in absurd cc
       | inr r ↦ subst IsOrderly (sym r.2) h
     ]
 
-pub honest_order : (g : Guest) (call : Call) (claims : List Claim) (reply : Reply) (new : Guest) → IsConsistent g → IsOrderly g → HonestStep g call claims reply new → new.rogue ≡ false → IsOrderly new
+pub honest_order : (g : Guest) (call : Call) (claims : List Claim) (reply : Reply) (new : Guest)
+    → IsConsistent g → IsOrderly g → HonestStep g call claims reply new → new.rogue ≡ false
+    → IsOrderly new
 honest_order g call claims reply new c h s honest =
-    elim (match_cases (refusal_of g call) (Performs call g claims reply new) (λ refusal. (claims ≡ []) × (reply ≡ Refused refusal) × (new ≡ g)) s) [
+    elim (match_cases (refusal_of g call) (Performs call g claims reply new)
+    (λ refusal. (claims ≡ []) × (reply ≡ Refused refusal) × (new ≡ g)) s) [
       | inl p ↦ performs_order call g claims reply new c h p.0 p.1 honest
       | inr r ↦ subst IsOrderly (sym r.2.2) h
     ]
@@ -281,19 +484,23 @@ fresh_order config target =
       deflating = no_requests_orderly _;
       reporting = no_requests_orderly 1;
       state = inl refl;
-      tabled = length-map (range_with_len 0 config.pages) first_place ∙ length-range_with_len 0 config.pages;
+      tabled = length-map (range_with_len 0 config.pages) first_place
+          ∙ length-range_with_len 0 config.pages;
       unreserved = λ page l. ap is_reserved (at page l) ∙ first_reserved page;
     }
   where
-    at : (page : ℕ) → page < config.pages → place_of (map first_place (range_with_len 0 config.pages)) page ≡ first_place page
-    at page l = get_or-map-range_with_len first_place 0 config.pages page page Reserved l (omega arith)
+    at : (page : ℕ) → page < config.pages
+        → place_of (map first_place (range_with_len 0 config.pages)) page ≡ first_place page
+    at page l = get_or-map-range_with_len first_place 0 config.pages page page Reserved l
+        (omega arith)
 
 -- ---- every state
 
 abbrev pub AllOrderly : World → Type 0
 AllOrderly w = (n : ℕ) (g : Guest) → guest_at w.guests n ≡ Some g → g.rogue ≡ false → IsOrderly g
 
-change_order : (w : World) (event : Event) (reply : Reply) (m : ℕ) (new : Guest) → AllConsistent w → AllOrderly w → Change w event reply m new → new.rogue ≡ false → IsOrderly new
+change_order : (w : World) (event : Event) (reply : Reply) (m : ℕ) (new : Guest) → AllConsistent w
+    → AllOrderly w → Change w event reply m new → new.rogue ≡ false → IsOrderly new
 change_order w event reply m new c h (Untouched at) honest = h m new at honest
 change_order w event reply m new c h (Retargeted old target at e) honest =
     let same : new.rogue ≡ old.rogue = ap (λ (g : Guest). g.rogue) e in
@@ -301,8 +508,12 @@ change_order w event reply m new c h (Retargeted old target at e) honest =
 change_order w event reply m new c h (Stepped old call claims on at gives step) honest =
     let was = was_honest old call claims reply new step honest in
     honest_order old call claims reply new (c m old at was.0) (h m old at was.0) was.1 honest
-change_order w event reply m new c h (Restarted old on at e) honest = subst IsOrderly (sym e) (fresh_order old.config old.target)
-change_order w event reply m new c h (New config none e) honest = subst IsOrderly (sym e) (fresh_order config 0)
+change_order w event reply m new c h (Restarted old on at e) honest =
+    subst IsOrderly (sym e) (fresh_order old.config old.target)
+change_order w event reply m new c h (New config none e) honest =
+    subst IsOrderly (sym e) (fresh_order config 0)
 
-pub step_order : (w : World) (event : Event) (reply : Reply) (v : World) → AllConsistent w → AllOrderly w → WorldStep w event reply v → AllOrderly v
-step_order w event reply v c h s n g at honest = change_order w event reply n g c h (changes w event reply v n g s at) honest
+pub step_order : (w : World) (event : Event) (reply : Reply) (v : World) → AllConsistent w
+    → AllOrderly w → WorldStep w event reply v → AllOrderly v
+step_order w event reply v c h s n g at honest =
+    change_order w event reply n g c h (changes w event reply v n g s at) honest

@@ -1,13 +1,18 @@
 -- Worked facts of the answers to queries.
 use Rattle.std.proofs.Common.{◌≡◌, ℕ, true, false, [], ◌∷◌, ◌++◌, replicate, refl, inl, inr}
 use Rattle.std.specs.Prelude.{Some, None}
-use Rattle.vb_model.specs.declared.places.Place.TheVariants.{Reserved, Free, Used, Giving, Lent, Taking, Stranded, Reporting}
+use Rattle.vb_model.specs.declared.places.Place.TheVariants.{Reserved, Free, Used, Giving, Lent}
+use Rattle.vb_model.specs.declared.places.Place.TheVariants.{Taking, Stranded, Reporting}
 use Rattle.vb_model.specs.declared.places.PageRun.{PageRun}
 use Rattle.vb_model.specs.declared.calls.Event.TheVariants.{Query as Asking}
 use Rattle.vb_model.specs.declared.calls.Query.{Query}
-use Rattle.vb_model.specs.declared.calls.Query.TheVariants.{Places as AskPlaces, PagesAt, PagesBallooned, Balloon as AskBalloon, Memory as AskMemory, Backing as AskBacking}
+use Rattle.vb_model.specs.declared.calls.Query.TheVariants.{Places as AskPlaces, PagesAt}
+use Rattle.vb_model.specs.declared.calls.Query.TheVariants.{PagesBallooned, Balloon as AskBalloon}
+use Rattle.vb_model.specs.declared.calls.Query.TheVariants.{Memory as AskMemory}
+use Rattle.vb_model.specs.declared.calls.Query.TheVariants.{Backing as AskBacking}
 use Rattle.vb_model.specs.declared.replies.Refusal.TheVariants.{NoMemory}
-use Rattle.vb_model.specs.declared.replies.Reply.TheVariants.{Places, Pages, Balloon, Statistics, Backing, Refused}
+use Rattle.vb_model.specs.declared.replies.Reply.TheVariants.{Places, Pages, Balloon, Statistics}
+use Rattle.vb_model.specs.declared.replies.Reply.TheVariants.{Backing, Refused}
 use Rattle.vb_model.specs.Guest.{Guest}
 use Rattle.vb_model.specs.World.{World, WorldStep, Answers, runs}
 use Rattle.vb_model.proofs.Samples.{ready, mixed}
@@ -18,7 +23,16 @@ run first last = record { first = first; last = last }
 -- ---- places
 
 -- seven different counts, each in its own field
-seven_counts : Answers AskPlaces mixed (Places (record { free = 21; used = 2; giving = 3; lent = 4; taking = 5; stranded = 6; reporting = 7 }))
+seven_counts : Answers AskPlaces mixed
+    (Places (record {
+      free = 21;
+      used = 2;
+      giving = 3;
+      lent = 4;
+      taking = 5;
+      stranded = 6;
+      reporting = 7;
+    }))
 seven_counts = refl
 
 -- the pages of each place
@@ -57,21 +71,26 @@ maximal_runs = refl
 -- ---- ballooned pages, wherever the driver has them
 
 abbrev ballooned : Guest
-ballooned = record mixed { ballooned = replicate 41 false ++ (true ∷ true ∷ false ∷ true ∷ replicate 19 false) }
+ballooned = record mixed
+    { ballooned = replicate 41 false ++ (true ∷ true ∷ false ∷ true ∷ replicate 19 false) }
 
 ballooned_pages_are : Answers PagesBallooned ballooned (Pages (run 41 42 ∷ run 44 44 ∷ []))
 ballooned_pages_are = inl refl
 
 -- the ballooned pages are counted, `actual` and the target are as they stand
-four_numbers : Answers AskBalloon (record ballooned { actual = 9; target = 11; status = 131 }) (Balloon 3 9 11 131)
+four_numbers : Answers AskBalloon (record ballooned { actual = 9; target = 11; status = 131 })
+    (Balloon 3 9 11 131)
 four_numbers = refl
 
 -- ---- statistics: what is free, then the total; each may be missing
 
-free_then_total : Answers AskMemory (record ready { last = record { free = Some 196608; total = Some 262144 } }) (Statistics (Some 196608) (Some 262144))
+free_then_total : Answers AskMemory
+    (record ready { last = record { free = Some 196608; total = Some 262144 } })
+    (Statistics (Some 196608) (Some 262144))
 free_then_total = refl
 
-no_total : Answers AskMemory (record ready { last = record { free = Some 8192; total = None } }) (Statistics (Some 8192) None)
+no_total : Answers AskMemory (record ready { last = record { free = Some 8192; total = None } })
+    (Statistics (Some 8192) None)
 no_total = refl
 
 nothing_known : Answers AskMemory ready (Statistics None None)
@@ -113,7 +132,13 @@ not_for_backing e = cc
 
 -- a rogue guest is asked like any other, and a query leaves the world as it is
 abbrev world : World
-world = record { frames = 64; guests = Some ready ∷ Some (record backed { rogue = true }) ∷ []; spares = true ∷ []; given_up = Some 7 }
+world = record {
+  frames = 64;
+  guests = Some ready ∷ Some (record backed { rogue = true })
+      ∷ [];
+  spares = true ∷ [];
+  given_up = Some 7;
+}
 
 asked_in_the_world : WorldStep world (Asking 1 (AskBacking 16)) (Backing (Some 13)) world
 asked_in_the_world = (refl, refl)

@@ -10,7 +10,8 @@ use Rattle.vb_model.specs.Tables.{is_queue_of_requests, has_chains}
 pub queue_cases : (q : ℕ) → (q ≡ 0) ⊎ ((q ≡ 1) ⊎ (2 ≤ q))
 queue_cases q = elim (cases_eq q 0) [
   | inl e ↦ inl e
-  | inr ne ↦ elim (cases_eq q 1) [ inl e ↦ inr (inl e) | inr ne' ↦ inr (inr (omega (arith, ne, ne'))) ]
+  | inr ne ↦ elim (cases_eq q 1)
+      [ inl e ↦ inr (inl e) | inr ne' ↦ inr (inr (omega (arith, ne, ne'))) ]
 ]
 
 not_brought : (q : ℕ) → 2 ≤ q → is_queue_brought q ≡ false

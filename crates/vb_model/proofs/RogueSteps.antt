@@ -1,5 +1,6 @@
 -- No reserved page is ever ballooned, in a rogue guest neither.
-use Rattle.std.proofs.Common.{◌≡◌, ℕ, Bool, true, false, length, refl, sym, ap, subst, ◌∙◌, inl, inr, arith}
+use Rattle.std.proofs.Common.{◌≡◌, ℕ, Bool, true, false, length, refl, sym, ap, subst, ◌∙◌, inl}
+use Rattle.std.proofs.Common.{inr, arith}
 use Rattle.std.specs.Prelude.{Some, MatchBool}
 use Rattle.std.proofs.lemmas.List.{get_or_past}
 use Rattle.std.proofs.lemmas.Bool.{cases_lt, lt-ltb}
@@ -34,38 +35,59 @@ honest_unreserved g c o page l = at_reserved place
     place : place_of g.places page ≡ Reserved
     place =
         elim (cases_lt page g.config.pages) [
-          | inl there ↦ reserved_is (place_of g.places page) (o.unreserved page there ∙ lt-ltb page 16 l)
-          | inr past ↦ get_or_past g.places page Reserved (let e : length g.places ≡ g.config.pages = o.tabled in omega arith)
+          | inl there ↦ reserved_is (place_of g.places page)
+              (o.unreserved page there ∙ lt-ltb page 16 l)
+          | inr past ↦ get_or_past g.places page Reserved
+              (let e : length g.places ≡ g.config.pages = o.tabled in omega arith)
         ]
 
     at_reserved : place_of g.places page ≡ Reserved → is_ballooned g.ballooned page ≡ false
     at_reserved e =
         let p = c.pages page in
-        let lent : one_if (is_lent (place_of g.places page)) ≡ 0 = ap (λ (x : Place). one_if (is_lent x)) e in
-        let giving : one_if (is_giving (place_of g.places page)) ≡ 0 = ap (λ (x : Place). one_if (is_giving x)) e in
-        let taking : one_if (is_taking (place_of g.places page)) ≡ 0 = ap (λ (x : Place). one_if (is_taking x)) e in
-        flag_off _ (omega (arith, p.ballooning, p.inflating, p.deflating, naming-all page g.inflate, naming-all page g.deflate))
+        let lent : one_if (is_lent (place_of g.places page)) ≡ 0 =
+        ap (λ (x : Place). one_if (is_lent x)) e in
+        let giving : one_if (is_giving (place_of g.places page)) ≡ 0 =
+        ap (λ (x : Place). one_if (is_giving x)) e in
+        let taking : one_if (is_taking (place_of g.places page)) ≡ 0 =
+        ap (λ (x : Place). one_if (is_taking x)) e in
+        flag_off _ (omega (
+          arith,
+          p.ballooning,
+          p.inflating,
+          p.deflating,
+          naming-all page g.inflate,
+          naming-all page g.deflate,
+        ))
 
 -- of the rogue guests
 abbrev pub AllUnreserved : World → Type 0
-AllUnreserved w = (n : ℕ) (g : Guest) → guest_at w.guests n ≡ Some g → g.rogue ≡ true → HasNoReservedBallooned g
+AllUnreserved w = (n : ℕ) (g : Guest) → guest_at w.guests n ≡ Some g → g.rogue ≡ true
+    → HasNoReservedBallooned g
 
-change_unreserved : (w : World) (event : Event) (reply : Reply) (m : ℕ) (new : Guest) → AllUnreserved w → Change w event reply m new → new.rogue ≡ true → HasNoReservedBallooned new
+change_unreserved : (w : World) (event : Event) (reply : Reply) (m : ℕ) (new : Guest)
+    → AllUnreserved w → Change w event reply m new → new.rogue ≡ true → HasNoReservedBallooned new
 change_unreserved w event reply m new h (Untouched at) rogue = h m new at rogue
 change_unreserved w event reply m new h (Retargeted old target at e) rogue =
     let same : new.rogue ≡ old.rogue = ap (λ (g : Guest). g.rogue) e in
     subst HasNoReservedBallooned (sym e) (h m old at (sym same ∙ rogue))
-change_unreserved w event reply m new h (Stepped old call claims on at gives step) rogue = cases old.rogue refl step
+change_unreserved w event reply m new h (Stepped old call claims on at gives step) rogue =
+    cases old.rogue refl step
   where
-    cases : (b : Bool) → old.rogue ≡ b → MatchBool b (RogueStep old call claims reply new) (HonestStep old call claims reply new) → HasNoReservedBallooned new
+    cases : (b : Bool) → old.rogue ≡ b
+        → MatchBool b (RogueStep old call claims reply new) (HonestStep old call claims reply new)
+        → HasNoReservedBallooned new
     cases true e r = r.stays.unreserved
     cases false e p =
         elim (step_keeps old call claims reply new step).rogue [
           | inl same ↦ absurd (let f : new.rogue ≡ false = same ∙ e in cc)
           | inr r ↦ r.1.unreserved
         ]
-change_unreserved w event reply m new h (Restarted old on at e) rogue = absurd (let f : new.rogue ≡ false = ap (λ (g : Guest). g.rogue) e in cc)
-change_unreserved w event reply m new h (New config none e) rogue = absurd (let f : new.rogue ≡ false = ap (λ (g : Guest). g.rogue) e in cc)
+change_unreserved w event reply m new h (Restarted old on at e) rogue =
+    absurd (let f : new.rogue ≡ false = ap (λ (g : Guest). g.rogue) e in cc)
+change_unreserved w event reply m new h (New config none e) rogue =
+    absurd (let f : new.rogue ≡ false = ap (λ (g : Guest). g.rogue) e in cc)
 
-pub step_unreserved : (w : World) (event : Event) (reply : Reply) (v : World) → AllUnreserved w → WorldStep w event reply v → AllUnreserved v
-step_unreserved w event reply v h s n g at rogue = change_unreserved w event reply n g h (changes w event reply v n g s at) rogue
+pub step_unreserved : (w : World) (event : Event) (reply : Reply) (v : World) → AllUnreserved w
+    → WorldStep w event reply v → AllUnreserved v
+step_unreserved w event reply v h s n g at rogue =
+    change_unreserved w event reply n g h (changes w event reply v n g s at) rogue

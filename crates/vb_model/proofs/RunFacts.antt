@@ -1,18 +1,21 @@
 -- Worked facts of runs, of states, and of the entries of one guest.
-use Rattle.std.proofs.Common.{◌≡◌, ℕ, List, [], ◌∷◌, ◌++◌, true, false, refl, sym, ◌∙◌, ap, subst, arith}
+use Rattle.std.proofs.Common.{◌≡◌, ℕ, List, [], ◌∷◌, ◌++◌, true, false, refl, sym, ◌∙◌, ap, subst}
+use Rattle.std.proofs.Common.{arith}
 use Rattle.std.specs.Prelude.{Some, None}
 use Rattle.vb_model.specs.declared.calls.Actor.TheVariants.{Balancer, Processor}
 use Rattle.vb_model.specs.declared.calls.Call.TheVariants.{Work, SetTarget, Write, Scribble}
 use Rattle.vb_model.specs.declared.calls.Claim.{Claim}
 use Rattle.vb_model.specs.declared.calls.Claim.TheVariants.{Gave}
-use Rattle.vb_model.specs.declared.calls.Event.TheVariants.{Unplug, Restart, Guest as OnGuest, Balance, Frames as CountFrames}
+use Rattle.vb_model.specs.declared.calls.Event.TheVariants.{Unplug, Restart, Guest as OnGuest}
+use Rattle.vb_model.specs.declared.calls.Event.TheVariants.{Balance, Frames as CountFrames}
 use Rattle.vb_model.specs.declared.replies.Reply.{Reply}
 use Rattle.vb_model.specs.declared.replies.Reply.TheVariants.{Done, Idle, Frames, Targets, Refused}
 use Rattle.vb_model.specs.declared.replies.Refusal.TheVariants.{OutOfRam, Short}
 use Rattle.vb_model.specs.Guest.{Guest}
 use Rattle.vb_model.specs.World.{World, made, Gives, IsOut}
 use Rattle.vb_model.specs.Run.{History, Run, Steps, guest_in, last_world}
-use Rattle.vb_model.specs.GuestRun.{Entry, Called, Looked, EntryStep, GuestRun, IsHistory, AreOwnEntries, AreEntriesOf, InOneLife}
+use Rattle.vb_model.specs.GuestRun.{Entry, Called, Looked, EntryStep, GuestRun, IsHistory}
+use Rattle.vb_model.specs.GuestRun.{AreOwnEntries, AreEntriesOf, InOneLife}
 use Rattle.vb_model.proofs.Samples.{config, ready, down}
 
 abbrev world : ℕ → World
@@ -29,10 +32,18 @@ counted frames = Frames 0 frames
 nothing_happens : Run 64 [] (record { first = world 64; events = []; replies = []; after = [] })
 nothing_happens = (refl, tt)
 
-one_event : Run 64 [] (record { first = world 64; events = CountFrames ∷ []; replies = counted 64 ∷ []; after = world 64 ∷ [] })
+one_event : Run 64 []
+    (record {
+      first = world 64;
+      events = CountFrames ∷ [];
+      replies = counted 64
+          ∷ [];
+      after = world 64 ∷ [];
+    })
 one_event = (refl, ((refl, refl), tt))
 
-from_another_world : Run 64 [] (record { first = world 63; events = []; replies = []; after = [] }) → ⊥
+from_another_world : Run 64 [] (record { first = world 63; events = []; replies = []; after = [] })
+    → ⊥
 from_another_world r = let e : Same 63 64 = ap (λ (w : World). w.frames) r.0 in omega arith
 
 no_reply : Steps (world 64) (CountFrames ∷ []) [] [] → ⊥
@@ -48,7 +59,8 @@ one_state_too_many : Steps (world 64) [] [] (world 64 ∷ []) → ⊥
 one_state_too_many s = s
 
 -- each event goes on where the one before it ended
-another_state_between : Steps (world 64) (CountFrames ∷ CountFrames ∷ []) (counted 64 ∷ counted 65 ∷ []) (world 64 ∷ world 65 ∷ []) → ⊥
+another_state_between : Steps (world 64) (CountFrames ∷ CountFrames ∷ [])
+    (counted 64 ∷ counted 65 ∷ []) (world 64 ∷ world 65 ∷ []) → ⊥
 another_state_between s = let e : Same 65 64 = ap (λ (w : World). w.frames) s.1.0.1 in omega arith
 
 -- ---- states by number: the first is the one before the first event
@@ -57,9 +69,17 @@ abbrev at : Guest → World
 at g = record { frames = 64; guests = None ∷ Some g ∷ []; spares = []; given_up = None }
 
 abbrev two_events : History
-two_events = record { first = world 64; events = CountFrames ∷ CountFrames ∷ []; replies = []; after = at down ∷ at ready ∷ [] }
+two_events = record {
+  first = world 64;
+  events = CountFrames ∷ CountFrames
+      ∷ [];
+  replies = [];
+  after = at down ∷ at ready ∷ [];
+}
 
-guests_by_number : guest_in two_events 1 0 ∷ guest_in two_events 1 1 ∷ guest_in two_events 1 2 ∷ guest_in two_events 1 3 ∷ guest_in two_events 0 2 ∷ guest_in two_events 2 2 ∷ [] ≡ None ∷ Some down ∷ Some ready ∷ None ∷ None ∷ None ∷ []
+guests_by_number : guest_in two_events 1 0 ∷ guest_in two_events 1 1 ∷ guest_in two_events 1 2
+    ∷ guest_in two_events 1 3 ∷ guest_in two_events 0 2 ∷ guest_in two_events 2 2 ∷ [] ≡ None
+    ∷ Some down ∷ Some ready ∷ None ∷ None ∷ None ∷ []
 guests_by_number = refl
 
 ends_with_the_last : last_world (world 64) (at down ∷ at ready ∷ []) ≡ at ready
@@ -84,45 +104,75 @@ empty_history = refl
 target_kept : IsHistory config 7 [] (record down { target = 7 })
 target_kept = refl
 
-two_calls : GuestRun ready (Called Balancer (SetTarget 3) [] Done ∷ Called (Processor 0 0) Work [] Idle ∷ []) (record ready { target = 3 })
-two_calls = (record ready { target = 3 }, (refl, refl, refl), (record ready { target = 3 }, (refl, (refl, refl)), refl))
+two_calls : GuestRun ready
+    (Called Balancer (SetTarget 3) [] Done ∷ Called (Processor 0 0) Work [] Idle ∷ [])
+    (record ready { target = 3 })
+two_calls = (
+  record ready { target = 3 },
+  (refl, refl, refl),
+  (record ready { target = 3 }, (refl, (refl, refl)), refl),
+)
 
--- a guest's own calls are its entries, each with what the host gave its claims; those of others are none
+-- a guest's own calls are its entries, each with what the host gave its claims; those of others are
+-- none
 abbrev two_calls_made : List Entry
 two_calls_made = Called (Processor 1 0) Work [] Idle ∷ []
 
-own_call : AreEntriesOf 1 (at ready) (OnGuest 1 Work ∷ OnGuest 0 Work ∷ []) (Idle ∷ Done ∷ []) (at ready ∷ at ready ∷ []) two_calls_made
-own_call = (two_calls_made, [], (Processor 1 0, [], refl, tt, refl), ([], [], refl, refl, refl), refl)
+own_call : AreEntriesOf 1 (at ready) (OnGuest 1 Work ∷ OnGuest 0 Work ∷ []) (Idle ∷ Done ∷ [])
+    (at ready ∷ at ready ∷ []) two_calls_made
+own_call = (
+  two_calls_made,
+  [],
+  (Processor 1 0, [], refl, tt, refl),
+  ([], [], refl, refl, refl),
+  refl,
+)
 
-own_call_left_out : AreEntriesOf 1 (at ready) (OnGuest 1 Work ∷ []) (Idle ∷ []) (at ready ∷ []) [] → ⊥
+own_call_left_out : AreEntriesOf 1 (at ready) (OnGuest 1 Work ∷ []) (Idle ∷ []) (at ready ∷ []) []
+    → ⊥
 own_call_left_out (own, later, is, later_is, e) =
     let made : Called is.0 Work is.1 Idle ∷ [] ≡ own = sym is.4 in
-    let all : [] ≡ (Called is.0 Work is.1 Idle ∷ []) ++ later = e ∙ ap (λ (l : List Entry). l ++ later) (sym made) in
+    let all : [] ≡ (Called is.0 Work is.1 Idle ∷ []) ++ later =
+    e ∙ ap (λ (l : List Entry). l ++ later) (sym made) in
     cc
 
 -- no frame that is out is given: 64 frames, and a claim for frame 64
-claim_past_the_last : (own : List Entry) → AreOwnEntries 1 (at ready) (OnGuest 1 (Write 20 0 (7 ∷ []))) Done (at ready) own → own ≡ Called (Processor 1 0) (Write 20 0 (7 ∷ [])) (Gave 64 ∷ []) Done ∷ [] → ⊥
+claim_past_the_last : (own : List Entry)
+    → AreOwnEntries 1 (at ready) (OnGuest 1 (Write 20 0 (7 ∷ []))) Done (at ready) own
+    → own ≡ Called (Processor 1 0) (Write 20 0 (7 ∷ [])) (Gave 64 ∷ []) Done ∷ [] → ⊥
 claim_past_the_last own is e =
-    let same : Called is.0 (Write 20 0 (7 ∷ [])) is.1 Done ∷ [] ≡ Called (Processor 1 0) (Write 20 0 (7 ∷ [])) (Gave 64 ∷ []) Done ∷ [] = sym is.4 ∙ e in
+    let same : Called is.0 (Write 20 0 (7 ∷ [])) is.1 Done
+    ∷ [] ≡ Called (Processor 1 0) (Write 20 0 (7 ∷ [])) (Gave 64 ∷ []) Done ∷ [] =
+    sym is.4 ∙ e in
     let claims : is.1 ≡ Gave 64 ∷ [] = cc in
-    let gives : Gives 64 (IsOut (at ready)) (Gave 64 ∷ []) = subst (λ (l : List Claim). Gives 64 (IsOut (at ready)) l) claims is.3 in
+    let gives : Gives 64 (IsOut (at ready)) (Gave 64 ∷ []) =
+    subst (λ (l : List Claim). Gives 64 (IsOut (at ready)) l) claims is.3 in
     omega (arith, gives.0)
 
 -- a scribble that is done is no entry
-scribble_done : (own : List Entry) → AreOwnEntries 1 (at ready) (OnGuest 1 (Scribble 20 0 [])) Done (at ready) own → ⊥
+scribble_done : (own : List Entry)
+    → AreOwnEntries 1 (at ready) (OnGuest 1 (Scribble 20 0 [])) Done (at ready) own → ⊥
 scribble_done own is = let wrong : true ≡ false = is.2 in cc
 
-scribble_refused : AreOwnEntries 1 (at ready) (OnGuest 1 (Scribble 99 0 [])) (Refused OutOfRam) (at ready) (Called (Processor 1 0) (Scribble 99 0 []) [] (Refused OutOfRam) ∷ [])
+scribble_refused : AreOwnEntries 1 (at ready) (OnGuest 1 (Scribble 99 0 [])) (Refused OutOfRam)
+    (at ready) (Called (Processor 1 0) (Scribble 99 0 []) [] (Refused OutOfRam) ∷ [])
 scribble_refused = (Processor 1 0, [], refl, tt, refl)
 
 -- a balance that set targets is one entry, with this guest's new target and not another's
 abbrev aimed : World
-aimed = record { frames = 64; guests = Some (record ready { target = 28 }) ∷ Some (record ready { target = 5 }) ∷ []; spares = []; given_up = None }
+aimed = record {
+  frames = 64;
+  guests = Some (record ready { target = 28 })
+      ∷ Some (record ready { target = 5 }) ∷ [];
+  spares = [];
+  given_up = None;
+}
 
 abbrev told : ℕ → List Entry
 told target = Called Balancer (SetTarget target) [] Done ∷ []
 
-new_target : AreOwnEntries 0 aimed (Balance 16) (Targets (28 ∷ 5 ∷ [])) aimed (told 28) × AreOwnEntries 1 aimed (Balance 16) (Targets (28 ∷ 5 ∷ [])) aimed (told 5)
+new_target : AreOwnEntries 0 aimed (Balance 16) (Targets (28 ∷ 5 ∷ [])) aimed (told 28)
+    × AreOwnEntries 1 aimed (Balance 16) (Targets (28 ∷ 5 ∷ [])) aimed (told 5)
 new_target = (refl, refl)
 
 anothers_target : AreOwnEntries 1 aimed (Balance 16) (Targets (28 ∷ 5 ∷ [])) aimed (told 28) → ⊥

@@ -1,7 +1,8 @@
 -- Guests from which worked facts start.
 use Rattle.std.specs.Prelude.{ℕ, true, List, ◌++◌, replicate}
 use Rattle.vb_model.specs.declared.places.Place.{Place}
-use Rattle.vb_model.specs.declared.places.Place.TheVariants.{Reserved, Free, Used, Giving, Lent, Taking, Stranded, Reporting}
+use Rattle.vb_model.specs.declared.places.Place.TheVariants.{Reserved, Free, Used, Giving, Lent}
+use Rattle.vb_model.specs.declared.places.Place.TheVariants.{Taking, Stranded, Reporting}
 use Rattle.vb_model.specs.Requests.{Request}
 use Rattle.vb_model.specs.Guest.{Guest, Config, fresh}
 
@@ -27,10 +28,16 @@ without_reporting = record ready { features = 0x100000007 }
 abbrev pub without_oom : Guest
 without_oom = record ready { features = 0x100000023 }
 
--- each place has another number of pages: 21 free, 2 used, 3 giving, 4 lent, 5 taking, 6 stranded, 7 reporting
+-- each place has another number of pages: 21 free, 2 used, 3 giving, 4 lent, 5 taking, 6 stranded,
+-- 7 reporting
 abbrev pub mixed_places : List Place
 mixed_places =
-    replicate 16 Reserved ++ (replicate 21 Free ++ (replicate 2 Used ++ (replicate 3 Giving ++ (replicate 4 Lent ++ (replicate 5 Taking ++ (replicate 6 Stranded ++ replicate 7 Reporting))))))
+    replicate 16 Reserved
+    ++ (replicate 21 Free
+    ++ (replicate 2 Used ++
+    (replicate 3 Giving ++
+    (replicate 4 Lent ++ (replicate 5 Taking
+    ++ (replicate 6 Stranded ++ replicate 7 Reporting))))))
 
 abbrev pub mixed : Guest
 mixed = record ready { places = mixed_places }

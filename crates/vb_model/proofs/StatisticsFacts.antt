@@ -3,11 +3,14 @@ use Rattle.std.proofs.Common.{◌≡◌, [], refl}
 use Rattle.std.specs.Prelude.{ℕ, Some, None, Option, if◌then◌else◌, drop}
 use Rattle.vb_model.specs.declared.calls.Call.TheVariants.{Reset, Stats, Take, Reap, Finish, Ask}
 use Rattle.vb_model.specs.declared.replies.Refusal.{Refusal}
-use Rattle.vb_model.specs.declared.replies.Refusal.TheVariants.{NotReady, NoFeature, NoQueue, Busy, NotTaken}
-use Rattle.vb_model.specs.declared.replies.Reply.TheVariants.{Ready, Done, Filled, NotUsed, Taken, Empty, Asked}
+use Rattle.vb_model.specs.declared.replies.Refusal.TheVariants.{NotReady, NoFeature, NoQueue, Busy}
+use Rattle.vb_model.specs.declared.replies.Refusal.TheVariants.{NotTaken}
+use Rattle.vb_model.specs.declared.replies.Reply.TheVariants.{Ready, Done, Filled, NotUsed, Taken}
+use Rattle.vb_model.specs.declared.replies.Reply.TheVariants.{Empty, Asked}
 use Rattle.vb_model.specs.declared.layout.TheConstants.{STATISTICS_QUEUE}
 use Rattle.vb_model.specs.Brought.{is_queue_brought}
-use Rattle.vb_model.specs.Requests.{Figures, Buffer, NoBuffer, BufferPosted, BufferTaken, BufferDone}
+use Rattle.vb_model.specs.Requests.{Figures, Buffer, NoBuffer, BufferPosted, BufferTaken}
+use Rattle.vb_model.specs.Requests.{BufferDone}
 use Rattle.vb_model.specs.Guest.{Guest, LastStatistics}
 use Rattle.vb_model.specs.Refusals.{refusal_of, first_refusal, tests}
 use Rattle.vb_model.specs.Driver.{figures}
@@ -37,46 +40,68 @@ abbrev last_is : ℕ → ℕ → LastStatistics
 last_is free total = record { free = Some free; total = Some total }
 
 -- an initialisation with STATS_VQ fills the first buffer; it isn't read yet
-buffer_at_init : Negotiates None 0x100000027 down Ready (record down { status = 15; features = 0x100000027; buffer = if is_queue_brought STATISTICS_QUEUE then BufferPosted (record { free = 196608; total = 262144 }) else NoBuffer })
+buffer_at_init : Negotiates None 0x100000027 down Ready
+    (record down {
+      status = 15;
+      features = 0x100000027;
+      buffer = if is_queue_brought STATISTICS_QUEUE
+          then BufferPosted (record { free = 196608; total = 262144 }) else NoBuffer;
+    })
 buffer_at_init = (refl, refl)
 
-no_buffer_without_stats_vq : Negotiates None 0x100000025 down Ready (record down { status = 15; features = 0x100000025; buffer = NoBuffer })
+no_buffer_without_stats_vq : Negotiates None 0x100000025 down Ready
+    (record down { status = 15; features = 0x100000025; buffer = NoBuffer })
 no_buffer_without_stats_vq = (refl, refl)
 
--- a take of queue 2 answers head 0, and the buffer's own figures are the last statistics, whatever is free now
-take_reads_the_buffer : Performs (Take 2) (with_buffer (BufferPosted old)) [] (Taken 0) (record ready { buffer = BufferTaken old; last = last_is 131072 262144 })
+-- a take of queue 2 answers head 0, and the buffer's own figures are the last statistics, whatever
+-- is free now
+take_reads_the_buffer : Performs (Take 2) (with_buffer (BufferPosted old)) [] (Taken 0)
+    (record ready { buffer = BufferTaken old; last = last_is 131072 262144 })
 take_reads_the_buffer = (refl, (refl, refl))
 
-take_replaces_the_last : Performs (Take 2) (record ready { buffer = BufferPosted old; last = last_is 4096 8192 }) [] (Taken 0) (record ready { buffer = BufferTaken old; last = last_is 131072 262144 })
+take_replaces_the_last : Performs (Take 2)
+    (record ready { buffer = BufferPosted old; last = last_is 4096 8192 }) [] (Taken 0)
+    (record ready { buffer = BufferTaken old; last = last_is 131072 262144 })
 take_replaces_the_last = (refl, (refl, refl))
 
 -- nothing is posted: nothing happens
 no_buffer_to_take : Performs (Take 2) ready [] Empty ready
 no_buffer_to_take = (refl, (refl, refl))
 
-done_buffer_is_not_taken : Performs (Take 2) (with_buffer (BufferDone old)) [] Empty (with_buffer (BufferDone old))
+done_buffer_is_not_taken : Performs (Take 2) (with_buffer (BufferDone old)) [] Empty
+    (with_buffer (BufferDone old))
 done_buffer_is_not_taken = (refl, (refl, refl))
 
 -- the device uses the buffer; its figures and the last statistics stay
-ask_uses_the_buffer : HonestStep (record ready { buffer = BufferTaken old; last = last_is 131072 262144 }) Ask [] Asked (record ready { buffer = BufferDone old; last = last_is 131072 262144 })
+ask_uses_the_buffer : HonestStep
+    (record ready { buffer = BufferTaken old; last = last_is 131072 262144 }) Ask [] Asked
+    (record ready { buffer = BufferDone old; last = last_is 131072 262144 })
 ask_uses_the_buffer = (refl, (refl, refl))
 
 -- the driver fills a used buffer with what is free now; the last statistics stay until it is taken
-stats_fills_anew : HonestStep (record ready { buffer = BufferDone old; last = last_is 131072 262144 }) Stats [] Filled (record ready { buffer = BufferPosted (record { free = 196608; total = 262144 }); last = last_is 131072 262144 })
+stats_fills_anew : HonestStep
+    (record ready { buffer = BufferDone old; last = last_is 131072 262144 }) Stats [] Filled
+    (record ready {
+      buffer = BufferPosted (record { free = 196608; total = 262144 });
+      last = last_is 131072 262144;
+    })
 stats_fills_anew = (refl, (refl, refl))
 
 -- a buffer that isn't used is left alone
 no_buffer_to_fill : HonestStep ready Stats [] NotUsed ready
 no_buffer_to_fill = (refl, (refl, refl))
 
-posted_buffer_is_not_filled : HonestStep (with_buffer (BufferPosted old)) Stats [] NotUsed (with_buffer (BufferPosted old))
+posted_buffer_is_not_filled : HonestStep (with_buffer (BufferPosted old)) Stats [] NotUsed
+    (with_buffer (BufferPosted old))
 posted_buffer_is_not_filled = (refl, (refl, refl))
 
-taken_buffer_is_not_filled : HonestStep (with_buffer (BufferTaken old)) Stats [] NotUsed (with_buffer (BufferTaken old))
+taken_buffer_is_not_filled : HonestStep (with_buffer (BufferTaken old)) Stats [] NotUsed
+    (with_buffer (BufferTaken old))
 taken_buffer_is_not_filled = (refl, (refl, refl))
 
 -- a reset empties the buffer and the last statistics
-reset_forgets_statistics : HonestStep (record ready { buffer = BufferTaken old; last = last_is 131072 262144 }) Reset [] Done down
+reset_forgets_statistics : HonestStep
+    (record ready { buffer = BufferTaken old; last = last_is 131072 262144 }) Reset [] Done down
 reset_forgets_statistics = (refl, refl, refl)
 
 -- ---- refusals
@@ -107,7 +132,8 @@ ask_posted_buffer = refl
 ask_done_buffer : refusal_of (with_buffer (BufferDone old)) Ask ≡ Some NotTaken
 ask_done_buffer = refl
 
--- a take of queue 2: first whether the queue is there, then readiness, the feature, and whether the buffer is taken
+-- a take of queue 2: first whether the queue is there, then readiness, the feature, and whether the
+-- buffer is taken
 abbrev once_there : Option Refusal → Option Refusal
 once_there refusal = if is_queue_brought STATISTICS_QUEUE then refusal else Some NoQueue
 
@@ -117,13 +143,15 @@ behind_no_queue g = first_refusal (drop 1 (tests g (Take 2)))
 take_when_there : refusal_of (with_buffer (BufferPosted old)) (Take 2) ≡ once_there None
 take_when_there = refl
 
-second_take_when_there : refusal_of (with_buffer (BufferTaken old)) (Take 2) ≡ once_there (Some Busy)
+second_take_when_there : refusal_of (with_buffer (BufferTaken old)) (Take 2)
+    ≡ once_there (Some Busy)
 second_take_when_there = refl
 
 take_not_ready : behind_no_queue (record down { buffer = BufferTaken old }) ≡ Some NotReady
 take_not_ready = refl
 
-take_without_feature : behind_no_queue (record without_stats_vq { buffer = BufferTaken old }) ≡ Some NoQueue
+take_without_feature : behind_no_queue (record without_stats_vq { buffer = BufferTaken old })
+    ≡ Some NoQueue
 take_without_feature = refl
 
 take_with_just_its_feature : behind_no_queue (record ready { features = 2 }) ≡ None

@@ -1,42 +1,56 @@
--- Worked facts of the tables over plain values: statuses that an honest guest never has, and which test goes first.
+-- Worked facts of the tables over plain values: statuses that an honest guest never has, and which
+-- test goes first.
 -- 79 is a ready device that needs a reset, 143 one whose driver gave up, 207 both.
 use Rattle.std.proofs.Common.{◌≡◌, true, false, [], ◌∷◌, map, refl}
 use Rattle.std.specs.Prelude.{Option, Some, None}
 use Rattle.vb_model.specs.declared.replies.Refusal.{Refusal}
-use Rattle.vb_model.specs.declared.replies.Refusal.TheVariants.{NotReady, NeedsReset, QueueFull, Nothing, NoFeature, NoQueue, Busy, NotTaken, NotWorked, NotBallooned}
+use Rattle.vb_model.specs.declared.replies.Refusal.TheVariants.{NotReady, NeedsReset, QueueFull}
+use Rattle.vb_model.specs.declared.replies.Refusal.TheVariants.{Nothing, NoFeature, NoQueue, Busy}
+use Rattle.vb_model.specs.declared.replies.Refusal.TheVariants.{NotTaken, NotWorked, NotBallooned}
 use Rattle.vb_model.specs.Requests.{Request}
 use Rattle.vb_model.specs.FirstRefusal.{first_refusal}
-use Rattle.vb_model.specs.Tables.{is_up, is_not_ready, has_fault, most_requests, asking_tests, featured_tests, reap_tests, stats_tests, take_tests, work_tests, finish_tests, sweep_tests, ask_tests}
+use Rattle.vb_model.specs.Tables.{is_up, is_not_ready, has_fault, most_requests, asking_tests}
+use Rattle.vb_model.specs.Tables.{featured_tests, reap_tests, stats_tests, take_tests, work_tests}
+use Rattle.vb_model.specs.Tables.{finish_tests, sweep_tests, ask_tests}
 
 -- ---- the status
 
-driver_is_up : map is_up (0 ∷ 1 ∷ 3 ∷ 11 ∷ 15 ∷ 79 ∷ 131 ∷ 143 ∷ 207 ∷ []) ≡ false ∷ false ∷ false ∷ false ∷ true ∷ false ∷ false ∷ false ∷ false ∷ []
+driver_is_up : map is_up (0 ∷ 1 ∷ 3 ∷ 11 ∷ 15 ∷ 79 ∷ 131 ∷ 143 ∷ 207 ∷ []) ≡ false ∷ false ∷ false
+    ∷ false ∷ true ∷ false ∷ false ∷ false ∷ false ∷ []
 driver_is_up = refl
 
-device_is_not_ready : map is_not_ready (0 ∷ 11 ∷ 15 ∷ 79 ∷ 131 ∷ 143 ∷ 207 ∷ []) ≡ true ∷ true ∷ false ∷ false ∷ true ∷ true ∷ true ∷ []
+device_is_not_ready : map is_not_ready (0 ∷ 11 ∷ 15 ∷ 79 ∷ 131 ∷ 143 ∷ 207 ∷ []) ≡ true ∷ true
+    ∷ false ∷ false ∷ true ∷ true ∷ true ∷ []
 device_is_not_ready = refl
 
-device_has_fault : map has_fault (0 ∷ 15 ∷ 64 ∷ 79 ∷ 143 ∷ 207 ∷ []) ≡ false ∷ false ∷ true ∷ true ∷ false ∷ true ∷ []
+device_has_fault : map has_fault (0 ∷ 15 ∷ 64 ∷ 79 ∷ 143 ∷ 207 ∷ []) ≡ false ∷ false ∷ true ∷ true
+    ∷ false ∷ true ∷ []
 device_has_fault = refl
 
 -- ---- the driver's calls: whatever failed, it isn't ready
 
-requests_of_a_failed_device : map (λ status. first_refusal (asking_tests status 16 16 0)) (15 ∷ 79 ∷ 143 ∷ 207 ∷ []) ≡ Some QueueFull ∷ Some NotReady ∷ Some NotReady ∷ Some NotReady ∷ []
+requests_of_a_failed_device : map (λ status. first_refusal (asking_tests status 16 16 0))
+    (15 ∷ 79 ∷ 143 ∷ 207 ∷ []) ≡ Some QueueFull ∷ Some NotReady ∷ Some NotReady ∷ Some NotReady ∷ []
 requests_of_a_failed_device = refl
 
-requests_in_order : map (λ count. first_refusal (asking_tests 15 15 16 count)) (0 ∷ 1 ∷ []) ≡ Some Nothing ∷ None ∷ []
+requests_in_order : map (λ count. first_refusal (asking_tests 15 15 16 count)) (0 ∷ 1 ∷ [])
+    ≡ Some Nothing ∷ None ∷ []
 requests_in_order = refl
 
-requests_with_a_feature : map (λ status. first_refusal (featured_tests status false 16 16 0)) (15 ∷ 79 ∷ 143 ∷ []) ≡ Some NoFeature ∷ Some NotReady ∷ Some NotReady ∷ []
+requests_with_a_feature : map (λ status. first_refusal (featured_tests status false 16 16 0))
+    (15 ∷ 79 ∷ 143 ∷ []) ≡ Some NoFeature ∷ Some NotReady ∷ Some NotReady ∷ []
 requests_with_a_feature = refl
 
-reaps_of_a_failed_device : map (λ status. first_refusal (reap_tests 0 status 0)) (15 ∷ 79 ∷ 143 ∷ []) ≡ None ∷ Some NotReady ∷ Some NotReady ∷ []
+reaps_of_a_failed_device : map (λ status. first_refusal (reap_tests 0 status 0))
+    (15 ∷ 79 ∷ 143 ∷ []) ≡ None ∷ Some NotReady ∷ Some NotReady ∷ []
 reaps_of_a_failed_device = refl
 
-no_third_queue : map (λ status. first_refusal (reap_tests 3 status 0)) (0 ∷ 15 ∷ 79 ∷ []) ≡ Some NoQueue ∷ Some NoQueue ∷ Some NoQueue ∷ []
+no_third_queue : map (λ status. first_refusal (reap_tests 3 status 0)) (0 ∷ 15 ∷ 79 ∷ [])
+    ≡ Some NoQueue ∷ Some NoQueue ∷ Some NoQueue ∷ []
 no_third_queue = refl
 
-statistics_of_a_failed_device : map (λ status. first_refusal (stats_tests status 0)) (15 ∷ 79 ∷ 143 ∷ []) ≡ Some NoFeature ∷ Some NotReady ∷ Some NotReady ∷ []
+statistics_of_a_failed_device : map (λ status. first_refusal (stats_tests status 0))
+    (15 ∷ 79 ∷ 143 ∷ []) ≡ Some NoFeature ∷ Some NotReady ∷ Some NotReady ∷ []
 statistics_of_a_failed_device = refl
 
 most_of_each_size : map most_requests (2 ∷ 8 ∷ 16 ∷ 32 ∷ 128 ∷ []) ≡ 2 ∷ 8 ∷ 16 ∷ 16 ∷ 16 ∷ []
@@ -44,32 +58,45 @@ most_of_each_size = refl
 
 -- ---- the device's calls: not ready, then in need of a reset, then the rest
 
-takes : map (λ status. first_refusal (take_tests 0 status 0 16)) (11 ∷ 15 ∷ 79 ∷ 143 ∷ 207 ∷ []) ≡ Some NotReady ∷ Some Busy ∷ Some NeedsReset ∷ Some NotReady ∷ Some NotReady ∷ []
+takes : map (λ status. first_refusal (take_tests 0 status 0 16)) (11 ∷ 15 ∷ 79 ∷ 143 ∷ 207 ∷ [])
+    ≡ Some NotReady ∷ Some Busy ∷ Some NeedsReset ∷ Some NotReady ∷ Some NotReady ∷ []
 takes = refl
 
-takes_below_the_limit : map (λ taken. first_refusal (take_tests 1 15 0 taken)) (0 ∷ 15 ∷ 16 ∷ []) ≡ None ∷ None ∷ Some Busy ∷ []
+takes_below_the_limit : map (λ taken. first_refusal (take_tests 1 15 0 taken)) (0 ∷ 15 ∷ 16 ∷ [])
+    ≡ None ∷ None ∷ Some Busy ∷ []
 takes_below_the_limit = refl
 
-takes_of_no_queue : map (λ status. first_refusal (take_tests 3 status 0 0)) (0 ∷ 15 ∷ 79 ∷ []) ≡ Some NoQueue ∷ Some NoQueue ∷ Some NoQueue ∷ []
+takes_of_no_queue : map (λ status. first_refusal (take_tests 3 status 0 0)) (0 ∷ 15 ∷ 79 ∷ [])
+    ≡ Some NoQueue ∷ Some NoQueue ∷ Some NoQueue ∷ []
 takes_of_no_queue = refl
 
-works : map (λ status. first_refusal (work_tests status)) (11 ∷ 15 ∷ 79 ∷ 143 ∷ 207 ∷ []) ≡ Some NotReady ∷ None ∷ Some NeedsReset ∷ Some NotReady ∷ Some NotReady ∷ []
+works : map (λ status. first_refusal (work_tests status)) (11 ∷ 15 ∷ 79 ∷ 143 ∷ 207 ∷ [])
+    ≡ Some NotReady ∷ None ∷ Some NeedsReset ∷ Some NotReady ∷ Some NotReady ∷ []
 works = refl
 
 abbrev half_visited : Request
 half_visited = record { head = 3; pages = 20 ∷ 21 ∷ []; visited = 1 }
 
-finishes_of_none : map (λ status. first_refusal (finish_tests 0 status true None)) (11 ∷ 15 ∷ 79 ∷ 143 ∷ 207 ∷ []) ≡ Some NotReady ∷ Some NotTaken ∷ Some NeedsReset ∷ Some NotReady ∷ Some NotReady ∷ []
+finishes_of_none : map (λ status. first_refusal (finish_tests 0 status true None))
+    (11 ∷ 15 ∷ 79 ∷ 143 ∷ 207 ∷ []) ≡ Some NotReady ∷ Some NotTaken ∷ Some NeedsReset
+    ∷ Some NotReady ∷ Some NotReady ∷ []
 finishes_of_none = refl
 
-finishes_half_visited : first_refusal (finish_tests 0 15 true (Some half_visited)) ∷ first_refusal (finish_tests 0 15 false (Some half_visited)) ∷ first_refusal (finish_tests 1 15 true (Some half_visited)) ∷ first_refusal (finish_tests 0 79 true (Some half_visited)) ∷ [] ≡ Some NotWorked ∷ None ∷ None ∷ Some NeedsReset ∷ []
+finishes_half_visited : first_refusal (finish_tests 0 15 true (Some half_visited))
+    ∷ first_refusal (finish_tests 0 15 false (Some half_visited))
+    ∷ first_refusal (finish_tests 1 15 true (Some half_visited))
+    ∷ first_refusal (finish_tests 0 79 true (Some half_visited)) ∷ [] ≡ Some NotWorked ∷ None ∷ None
+    ∷ Some NeedsReset ∷ []
 finishes_half_visited = refl
 
-sweeps : map (λ status. first_refusal (sweep_tests status false)) (11 ∷ 15 ∷ 79 ∷ 143 ∷ 207 ∷ []) ≡ Some NotReady ∷ Some NotBallooned ∷ Some NeedsReset ∷ Some NotReady ∷ Some NotReady ∷ []
+sweeps : map (λ status. first_refusal (sweep_tests status false)) (11 ∷ 15 ∷ 79 ∷ 143 ∷ 207 ∷ [])
+    ≡ Some NotReady ∷ Some NotBallooned ∷ Some NeedsReset ∷ Some NotReady ∷ Some NotReady ∷ []
 sweeps = refl
 
-sweeps_a_ballooned_page : map (λ status. first_refusal (sweep_tests status true)) (15 ∷ 79 ∷ 143 ∷ []) ≡ None ∷ Some NeedsReset ∷ Some NotReady ∷ []
+sweeps_a_ballooned_page : map (λ status. first_refusal (sweep_tests status true))
+    (15 ∷ 79 ∷ 143 ∷ []) ≡ None ∷ Some NeedsReset ∷ Some NotReady ∷ []
 sweeps_a_ballooned_page = refl
 
-asks : map (λ status. first_refusal (ask_tests status false)) (11 ∷ 15 ∷ 79 ∷ 143 ∷ 207 ∷ []) ≡ Some NotReady ∷ Some NotTaken ∷ Some NeedsReset ∷ Some NotReady ∷ Some NotReady ∷ []
+asks : map (λ status. first_refusal (ask_tests status false)) (11 ∷ 15 ∷ 79 ∷ 143 ∷ 207 ∷ [])
+    ≡ Some NotReady ∷ Some NotTaken ∷ Some NeedsReset ∷ Some NotReady ∷ Some NotReady ∷ []
 asks = refl

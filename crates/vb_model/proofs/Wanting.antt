@@ -1,10 +1,14 @@
 -- Which calls claim frames, and what a refusal for want of frames means.
-use Rattle.std.proofs.Common.{◌≡◌, ℕ, ◌<◌, Bool, true, false, cond, List, [], ◌∷◌, length, refl, sym, ap, subst, ◌∙◌, ◌⊎◌, inl, inr, arith}
+use Rattle.std.proofs.Common.{◌≡◌, ℕ, ◌<◌, Bool, true, false, cond, List, [], ◌∷◌, length, refl}
+use Rattle.std.proofs.Common.{sym, ap, subst, ◌∙◌, ◌⊎◌, inl, inr, arith}
 use Rattle.std.specs.Prelude.{◌==◌, ◌||◌, not, Option, Some, None, MatchBool, is_none}
 use Rattle.std.specs.List.{list_all, range_with_len}
 use Rattle.std.proofs.lemmas.Bool.{eq-eqb, and_parts, not-true, eqb-true, or_cases}
 use Rattle.vb_model.specs.declared.calls.Call.{Call}
-use Rattle.vb_model.specs.declared.calls.Call.TheVariants.{Init, Reset, Alloc, Free, Read, Write, Scribble, Inflate, Deflate, Oom, Report, Stats, Reap, Take, Work, Finish, Sweep, Ask, SetTarget}
+use Rattle.vb_model.specs.declared.calls.Call.TheVariants.{Init, Reset, Alloc, Free, Read, Write}
+use Rattle.vb_model.specs.declared.calls.Call.TheVariants.{Scribble, Inflate, Deflate, Oom, Report}
+use Rattle.vb_model.specs.declared.calls.Call.TheVariants.{Stats, Reap, Take, Work, Finish, Sweep}
+use Rattle.vb_model.specs.declared.calls.Call.TheVariants.{Ask, SetTarget}
 use Rattle.vb_model.specs.declared.calls.Claim.{Claim}
 use Rattle.vb_model.specs.declared.calls.Claim.TheVariants.{Gave, GaveNoFrame, GaveNoMemory}
 use Rattle.vb_model.specs.declared.calls.Event.TheVariants.{Guest as OnGuest}
@@ -13,16 +17,19 @@ use Rattle.vb_model.specs.declared.replies.Refusal.TheVariants.{NoFrame}
 use Rattle.vb_model.specs.declared.replies.Reply.{Reply}
 use Rattle.vb_model.specs.declared.replies.Reply.TheVariants.{Refused}
 use Rattle.vb_model.specs.Tests.{is_in}
-use Rattle.vb_model.specs.Requests.{Request, Kind, kind_of_queue, Buffer, NoBuffer, BufferPosted, BufferTaken, BufferDone}
+use Rattle.vb_model.specs.Requests.{Request, Kind, kind_of_queue, Buffer, NoBuffer, BufferPosted}
+use Rattle.vb_model.specs.Requests.{BufferTaken, BufferDone}
 use Rattle.vb_model.specs.Guest.{Guest, frame_of, backed, all_backed, requests}
 use Rattle.vb_model.specs.Refusals.{Test, refusal_of, tests, first_refusal}
-use Rattle.vb_model.specs.Driver.{given, claim_refusal, AreClaimsFor, Supplying, Reaps, Fills, Written, pages_needed}
+use Rattle.vb_model.specs.Driver.{given, claim_refusal, AreClaimsFor, Supplying, Reaps, Fills}
+use Rattle.vb_model.specs.Driver.{Written, pages_needed}
 use Rattle.vb_model.specs.Device.{Takes, TakesBuffer, Finishes, Asks, next_page}
 use Rattle.vb_model.specs.Life.{feature_tests, feature_refusal, Negotiates, lacking}
 use Rattle.vb_model.specs.Rogue.{LosesFrames, RogueStep, Scribbled, may_need}
 use Rattle.vb_model.specs.Step.{Performs, HonestStep, GuestStep}
 use Rattle.vb_model.specs.World.{Happens, Calls, Gives, IsOut, guest_at, world_tests}
-use Rattle.vb_model.specs.StepLaws.{ClaimsAreNeeded, FramesEnterByClaims, RefusedClaimsAreAnswered, NeededPagesAreBare, NoFrameIsExact, WantOfFrames}
+use Rattle.vb_model.specs.StepLaws.{ClaimsAreNeeded, FramesEnterByClaims, RefusedClaimsAreAnswered}
+use Rattle.vb_model.specs.StepLaws.{NeededPagesAreBare, NoFrameIsExact, WantOfFrames}
 use Rattle.vb_model.proofs.Tables.{list_all-at}
 use Rattle.vb_model.proofs.CallSteps.{match_cases, works_cases, all_filtered, supplied}
 use Rattle.vb_model.proofs.Frames.{FramesMove, backed_cases, honest_move, rogue_move}
@@ -38,12 +45,14 @@ or_later false b e = e
 
 -- ---- claims
 
-no_claims : (pages : List ℕ) (claims : List Claim) → pages ≡ [] → AreClaimsFor pages claims → claims ≡ []
+no_claims : (pages : List ℕ) (claims : List Claim) → pages ≡ [] → AreClaimsFor pages claims
+    → claims ≡ []
 no_claims [] [] e a = refl
 no_claims [] (claim ∷ claims) e a = absurd a
 no_claims (page ∷ pages) claims e a = absurd cc
 
-performs_claims : (call : Call) (g : Guest) (claims : List Claim) (reply : Reply) (new : Guest) → Performs call g claims reply new → (claims ≡ []) ⊎ AreClaimsFor (may_need call g) claims
+performs_claims : (call : Call) (g : Guest) (claims : List Claim) (reply : Reply) (new : Guest)
+    → Performs call g claims reply new → (claims ≡ []) ⊎ AreClaimsFor (may_need call g) claims
 performs_claims (Init wanted) g claims reply new s = inr s.0
 performs_claims (Write page offset bytes) g claims reply new s = inr s.0
 performs_claims (Scribble page offset bytes) g claims reply new s = inr s.0
@@ -67,21 +76,26 @@ performs_claims Ask g claims reply new s = inl s.0
 pub claims_needed : ClaimsAreNeeded
 claims_needed g call claims reply new s = cases g.rogue s
   where
-    rogue : (pages : List ℕ) → (pages ≡ []) ⊎ (pages ≡ may_need call g) → AreClaimsFor pages claims → (claims ≡ []) ⊎ AreClaimsFor (may_need call g) claims
+    rogue : (pages : List ℕ) → (pages ≡ []) ⊎ (pages ≡ may_need call g) → AreClaimsFor pages claims
+        → (claims ≡ []) ⊎ AreClaimsFor (may_need call g) claims
     rogue pages (inl e) a = inl (no_claims pages claims e a)
     rogue pages (inr e) a = inr (subst (λ (ps : List ℕ). AreClaimsFor ps claims) e a)
 
-    cases : (b : Bool) → MatchBool b (RogueStep g call claims reply new) (HonestStep g call claims reply new) → (claims ≡ []) ⊎ AreClaimsFor (may_need call g) claims
+    cases : (b : Bool) → MatchBool b (RogueStep g call claims reply new)
+        (HonestStep g call claims reply new) → (claims ≡ []) ⊎ AreClaimsFor (may_need call g) claims
     cases true r = rogue r.pages r.needed r.claimed
     cases false p =
-        elim (match_cases (refusal_of g call) (Performs call g claims reply new) (λ refusal. (claims ≡ []) × (reply ≡ Refused refusal) × (new ≡ g)) p) [
+        elim (match_cases (refusal_of g call) (Performs call g claims reply new)
+        (λ refusal. (claims ≡ []) × (reply ≡ Refused refusal) × (new ≡ g)) p) [
           | inl d ↦ performs_claims call g claims reply new d.1
           | inr r ↦ inl r.2.0
         ]
 
 -- ---- frames enter by claims
 
-backed_by : (pages new : List ℕ) (frames : List (Option ℕ)) (page x : ℕ) → frame_of (all_backed pages new frames) page ≡ Some x → (frame_of frames page ≡ Some x) ⊎ (is_in x new ≡ true)
+backed_by : (pages new : List ℕ) (frames : List (Option ℕ)) (page x : ℕ)
+    → frame_of (all_backed pages new frames) page ≡ Some x
+    → (frame_of frames page ≡ Some x) ⊎ (is_in x new ≡ true)
 backed_by [] new frames page x h = inl h
 backed_by (p ∷ pages) [] frames page x h = inl h
 backed_by (p ∷ pages) (f ∷ new) frames page x h =
@@ -94,10 +108,12 @@ backed_by (p ∷ pages) (f ∷ new) frames page x h =
           ]
     ]
 
-step_moves : (g : Guest) (call : Call) (claims : List Claim) (reply : Reply) (new : Guest) → GuestStep g call claims reply new → FramesMove g claims new
+step_moves : (g : Guest) (call : Call) (claims : List Claim) (reply : Reply) (new : Guest)
+    → GuestStep g call claims reply new → FramesMove g claims new
 step_moves g call claims reply new s = cases g.rogue s
   where
-    cases : (b : Bool) → MatchBool b (RogueStep g call claims reply new) (HonestStep g call claims reply new) → FramesMove g claims new
+    cases : (b : Bool) → MatchBool b (RogueStep g call claims reply new)
+        (HonestStep g call claims reply new) → FramesMove g claims new
     cases true r = rogue_move g call claims reply new r
     cases false p = honest_move g call claims reply new p
 
@@ -106,54 +122,83 @@ frames_enter g call claims reply new s page frame h =
     let moved = step_moves g call claims reply new s in
     backed_by moved.0 (given claims) g.frames page frame (moved.1 page frame h)
 
-none_refused : (claims : List Claim) (refusal : Refusal) → claims ≡ [] → claim_refusal claims ≡ Some refusal → ⊥
+none_refused : (claims : List Claim) (refusal : Refusal) → claims ≡ []
+    → claim_refusal claims ≡ Some refusal → ⊥
 none_refused claims refusal e r = let none : claim_refusal claims ≡ None = ap claim_refusal e in cc
 
-supplies_refused : (pages : List ℕ) (g : Guest) (claims : List Claim) (reply : Reply) (new : Guest) (Rest : Guest → Type 0) (refusal : Refusal) → Supplying pages g claims reply new Rest → claim_refusal claims ≡ Some refusal → (reply ≡ Refused refusal) × (new.frames ≡ g.frames)
+supplies_refused : (pages : List ℕ) (g : Guest) (claims : List Claim) (reply : Reply) (new : Guest)
+    (Rest : Guest → Type 0) (refusal : Refusal) → Supplying pages g claims reply new Rest
+    → claim_refusal claims ≡ Some refusal → (reply ≡ Refused refusal) × (new.frames ≡ g.frames)
 supplies_refused pages g claims reply new Rest refusal s r =
-    elim (match_cases (claim_refusal claims) (Rest (supplied pages claims g)) (λ refusal. (reply ≡ Refused refusal) × (new ≡ g)) s.1) [
+    elim (match_cases (claim_refusal claims) (Rest (supplied pages claims g))
+    (λ refusal. (reply ≡ Refused refusal) × (new ≡ g)) s.1) [
       | inl m ↦ absurd (let none : claim_refusal claims ≡ None = m.0 in cc)
       | inr k ↦ answered k.0 (let same : k.0 ≡ refusal = cc in same) k.2
     ]
   where
-    answered : (x : Refusal) → x ≡ refusal → (reply ≡ Refused x) × (new ≡ g) → (reply ≡ Refused refusal) × (new.frames ≡ g.frames)
+    answered : (x : Refusal) → x ≡ refusal → (reply ≡ Refused x) × (new ≡ g)
+        → (reply ≡ Refused refusal) × (new.frames ≡ g.frames)
     answered x e k = (k.0 ∙ ap Refused e, ap (λ (y : Guest). y.frames) k.1)
 
-performs_refused : (call : Call) (g : Guest) (claims : List Claim) (reply : Reply) (new : Guest) (refusal : Refusal) → Performs call g claims reply new → claim_refusal claims ≡ Some refusal → (reply ≡ Refused refusal) × (new.frames ≡ g.frames)
-performs_refused (Init wanted) g claims reply new refusal s r = supplies_refused (lacking g) g claims reply new (λ m. Negotiates (feature_refusal wanted) wanted m reply new) refusal s r
-performs_refused (Write page offset bytes) g claims reply new refusal s r = supplies_refused (pages_needed page bytes g) g claims reply new (λ m. Written page offset bytes m reply new) refusal s r
-performs_refused (Scribble page offset bytes) g claims reply new refusal s r = supplies_refused (pages_needed page bytes g) g claims reply new (λ m. Scribbled m reply new) refusal s r
-performs_refused (SetTarget n) g claims reply new refusal s r = absurd (none_refused claims refusal s.0 r)
+performs_refused : (call : Call) (g : Guest) (claims : List Claim) (reply : Reply) (new : Guest)
+    (refusal : Refusal) → Performs call g claims reply new → claim_refusal claims ≡ Some refusal
+    → (reply ≡ Refused refusal) × (new.frames ≡ g.frames)
+performs_refused (Init wanted) g claims reply new refusal s r =
+    supplies_refused (lacking g) g claims reply new
+    (λ m. Negotiates (feature_refusal wanted) wanted m reply new) refusal s r
+performs_refused (Write page offset bytes) g claims reply new refusal s r =
+    supplies_refused (pages_needed page bytes g) g claims reply new
+    (λ m. Written page offset bytes m reply new) refusal s r
+performs_refused (Scribble page offset bytes) g claims reply new refusal s r =
+    supplies_refused (pages_needed page bytes g) g claims reply new (λ m. Scribbled m reply new)
+    refusal s r
+performs_refused (SetTarget n) g claims reply new refusal s r =
+    absurd (none_refused claims refusal s.0 r)
 performs_refused Reset g claims reply new refusal s r = absurd (none_refused claims refusal s.0 r)
-performs_refused (Alloc cpu order) g claims reply new refusal s r = absurd (none_refused claims refusal s.0 r)
-performs_refused (Free cpu start order) g claims reply new refusal s r = absurd (none_refused claims refusal s.0 r)
-performs_refused (Read page offset len) g claims reply new refusal s r = absurd (none_refused claims refusal s.0 r)
-performs_refused (Inflate n) g claims reply new refusal s r = absurd (none_refused claims refusal s.0 r)
-performs_refused (Deflate n) g claims reply new refusal s r = absurd (none_refused claims refusal s.0 r)
+performs_refused (Alloc cpu order) g claims reply new refusal s r =
+    absurd (none_refused claims refusal s.0 r)
+performs_refused (Free cpu start order) g claims reply new refusal s r =
+    absurd (none_refused claims refusal s.0 r)
+performs_refused (Read page offset len) g claims reply new refusal s r =
+    absurd (none_refused claims refusal s.0 r)
+performs_refused (Inflate n) g claims reply new refusal s r =
+    absurd (none_refused claims refusal s.0 r)
+performs_refused (Deflate n) g claims reply new refusal s r =
+    absurd (none_refused claims refusal s.0 r)
 performs_refused (Oom n) g claims reply new refusal s r = absurd (none_refused claims refusal s.0 r)
-performs_refused (Report from) g claims reply new refusal s r = absurd (none_refused claims refusal s.0 r)
+performs_refused (Report from) g claims reply new refusal s r =
+    absurd (none_refused claims refusal s.0 r)
 performs_refused Stats g claims reply new refusal s r = absurd (none_refused claims refusal s.0 r)
-performs_refused (Reap q) g claims reply new refusal s r = absurd (none_refused claims refusal s.0 r)
-performs_refused (Take q) g claims reply new refusal s r = absurd (none_refused claims refusal s.0 r)
+performs_refused (Reap q) g claims reply new refusal s r =
+    absurd (none_refused claims refusal s.0 r)
+performs_refused (Take q) g claims reply new refusal s r =
+    absurd (none_refused claims refusal s.0 r)
 performs_refused Work g claims reply new refusal s r = absurd (none_refused claims refusal s.0 r)
-performs_refused (Finish q i) g claims reply new refusal s r = absurd (none_refused claims refusal s.0 r)
-performs_refused (Sweep page) g claims reply new refusal s r = absurd (none_refused claims refusal s.0 r)
+performs_refused (Finish q i) g claims reply new refusal s r =
+    absurd (none_refused claims refusal s.0 r)
+performs_refused (Sweep page) g claims reply new refusal s r =
+    absurd (none_refused claims refusal s.0 r)
 performs_refused Ask g claims reply new refusal s r = absurd (none_refused claims refusal s.0 r)
 
 pub refused_claims : RefusedClaimsAreAnswered
 refused_claims g call claims reply new refusal s r = cases g.rogue s
   where
-    answered : (x : Refusal) → x ≡ refusal → (reply ≡ Refused x) × (new.frames ≡ g.frames) → (reply ≡ Refused refusal) × (new.frames ≡ g.frames)
+    answered : (x : Refusal) → x ≡ refusal → (reply ≡ Refused x) × (new.frames ≡ g.frames)
+        → (reply ≡ Refused refusal) × (new.frames ≡ g.frames)
     answered x e k = (k.0 ∙ ap Refused e, k.1)
 
-    cases : (b : Bool) → MatchBool b (RogueStep g call claims reply new) (HonestStep g call claims reply new) → (reply ≡ Refused refusal) × (new.frames ≡ g.frames)
+    cases : (b : Bool) → MatchBool b (RogueStep g call claims reply new)
+        (HonestStep g call claims reply new) → (reply ≡ Refused refusal) × (new.frames ≡ g.frames)
     cases true k =
-        elim (match_cases (claim_refusal claims) (LosesFrames (all_backed k.pages (given claims) g.frames) new.frames) (λ refusal. (reply ≡ Refused refusal) × (new.frames ≡ g.frames)) k.frames) [
+        elim (match_cases (claim_refusal claims)
+        (LosesFrames (all_backed k.pages (given claims) g.frames) new.frames)
+        (λ refusal. (reply ≡ Refused refusal) × (new.frames ≡ g.frames)) k.frames) [
           | inl m ↦ absurd (let none : claim_refusal claims ≡ None = m.0 in cc)
           | inr m ↦ answered m.0 (let same : m.0 ≡ refusal = cc in same) m.2
         ]
     cases false p =
-        elim (match_cases (refusal_of g call) (Performs call g claims reply new) (λ refusal. (claims ≡ []) × (reply ≡ Refused refusal) × (new ≡ g)) p) [
+        elim (match_cases (refusal_of g call) (Performs call g claims reply new)
+        (λ refusal. (claims ≡ []) × (reply ≡ Refused refusal) × (new ≡ g)) p) [
           | inl d ↦ performs_refused call g claims reply new refusal d.1 r
           | inr k ↦ absurd (none_refused claims refusal k.2.0 r)
         ]
@@ -164,18 +209,25 @@ bare_page : (o : Option ℕ) → is_none o ≡ true → o ≡ None
 bare_page None e = refl
 bare_page (Some x) e = absurd cc
 
-lacking_bare : (g : Guest) (page : ℕ) → is_in page (lacking g) ≡ true → frame_of g.frames page ≡ None
-lacking_bare g page k = bare_page (frame_of g.frames page) (list_all-at (λ p. is_none (frame_of g.frames p)) (lacking g) page (all_filtered (λ p. is_none (frame_of g.frames p)) (range_with_len 0 13)) k)
+lacking_bare : (g : Guest) (page : ℕ) → is_in page (lacking g) ≡ true
+    → frame_of g.frames page ≡ None
+lacking_bare g page k =
+    bare_page (frame_of g.frames page)
+    (list_all-at (λ p. is_none (frame_of g.frames p)) (lacking g) page
+    (all_filtered (λ p. is_none (frame_of g.frames p)) (range_with_len 0 13)) k)
 
-needed_bare : (p page : ℕ) (bytes : List ℕ) (g : Guest) → is_in page (pages_needed p bytes g) ≡ true → frame_of g.frames page ≡ None
+needed_bare : (p page : ℕ) (bytes : List ℕ) (g : Guest) → is_in page (pages_needed p bytes g) ≡ true
+    → frame_of g.frames page ≡ None
 needed_bare p page [] g k = absurd cc
 needed_bare p page (b ∷ bytes) g k = step (is_none (frame_of g.frames p)) refl k
   where
-    step : (v : Bool) → is_none (frame_of g.frames p) ≡ v → is_in page (cond v (p ∷ []) []) ≡ true → frame_of g.frames page ≡ None
+    step : (v : Bool) → is_none (frame_of g.frames p) ≡ v → is_in page (cond v (p ∷ []) []) ≡ true
+        → frame_of g.frames page ≡ None
     step false e h = absurd cc
     step true e h =
         elim (or_cases (p == page) false h) [
-          | inl t ↦ ap (frame_of g.frames) (sym (eqb-true p page t)) ∙ bare_page (frame_of g.frames p) e
+          | inl t ↦ ap (frame_of g.frames) (sym (eqb-true p page t))
+              ∙ bare_page (frame_of g.frames p) e
           | inr f ↦ absurd cc
         ]
 
@@ -203,18 +255,23 @@ needed_pages_bare g Ask page k = absurd cc
 -- ---- no frame is left
 
 -- the claims that ended without a frame
-want : (frames : ℕ) (Out : ℕ → Type 0) (pages : List ℕ) (claims : List Claim) → Gives frames Out claims → AreClaimsFor pages claims → claim_refusal claims ≡ Some NoFrame → (got : List ℕ) × (length got < length pages) × ((x : ℕ) → x < frames → Out x ⊎ (is_in x got ≡ true))
+want : (frames : ℕ) (Out : ℕ → Type 0) (pages : List ℕ) (claims : List Claim)
+    → Gives frames Out claims → AreClaimsFor pages claims → claim_refusal claims ≡ Some NoFrame
+    → (got : List ℕ) × (length got < length pages)
+    × ((x : ℕ) → x < frames → Out x ⊎ (is_in x got ≡ true))
 want frames Out [] [] gives a r = absurd cc
 want frames Out [] (claim ∷ claims) gives a r = absurd a
 want frames Out (page ∷ pages) [] gives a r = absurd a
 want frames Out (page ∷ pages) (GaveNoMemory ∷ claims) gives a r = absurd cc
-want frames Out (page ∷ pages) (GaveNoFrame ∷ claims) gives a r = ([], omega arith, λ x l. inl (gives.0 x l))
+want frames Out (page ∷ pages) (GaveNoFrame ∷ claims) gives a r =
+    ([], omega arith, λ x l. inl (gives.0 x l))
 want frames Out (page ∷ pages) (Gave f ∷ claims) gives a r =
     let more = want frames (λ x. Out x ⊎ (x ≡ f)) pages claims gives.3 a r in
     let fewer : length more.0 < length pages = more.1 in
     (f ∷ more.0, omega arith, λ x l. later x more.0 (more.2 x l))
   where
-    later : (x : ℕ) (got : List ℕ) → (Out x ⊎ (x ≡ f)) ⊎ (is_in x got ≡ true) → Out x ⊎ ((f == x || is_in x got) ≡ true)
+    later : (x : ℕ) (got : List ℕ) → (Out x ⊎ (x ≡ f)) ⊎ (is_in x got ≡ true)
+        → Out x ⊎ ((f == x || is_in x got) ≡ true)
     later x got (inl (inl o)) = inl o
     later x got (inl (inr e)) = inr (or_first (f == x) (is_in x got) (eq-eqb f x (sym e)))
     later x got (inr k) = inr (or_later (f == x) (is_in x got) k)
@@ -231,14 +288,18 @@ wants_frame _ = false
 abbrev none_wants : List Test → Bool
 none_wants ts = list_all (λ t. not (is_no_frame t.refusal)) ts
 
-refused_otherwise : (ts : List Test) (refusal : Refusal) → none_wants ts ≡ true → first_refusal ts ≡ Some refusal → is_no_frame refusal ≡ false
+refused_otherwise : (ts : List Test) (refusal : Refusal) → none_wants ts ≡ true
+    → first_refusal ts ≡ Some refusal → is_no_frame refusal ≡ false
 refused_otherwise [] refusal h e = absurd cc
 refused_otherwise (t ∷ ts) refusal h e = step t.holds e (refused_otherwise ts refusal)
   where
-    step : (v : Bool) → cond v (Some t.refusal) (first_refusal ts) ≡ Some refusal → (none_wants ts ≡ true → first_refusal ts ≡ Some refusal → is_no_frame refusal ≡ false) → is_no_frame refusal ≡ false
+    step : (v : Bool) → cond v (Some t.refusal) (first_refusal ts) ≡ Some refusal
+        → (none_wants ts ≡ true → first_refusal ts ≡ Some refusal → is_no_frame refusal ≡ false)
+        → is_no_frame refusal ≡ false
     step true e ih =
         let same : t.refusal ≡ refusal = cc in
-        ap is_no_frame (sym same) ∙ not-true _ (and_parts (not (is_no_frame t.refusal)) (none_wants ts) h).0
+        ap is_no_frame (sym same)
+        ∙ not-true _ (and_parts (not (is_no_frame t.refusal)) (none_wants ts) h).0
     step false e ih = ih (and_parts (not (is_no_frame t.refusal)) (none_wants ts) h).1 e
 
 tests_otherwise : (g : Guest) (call : Call) → none_wants (tests g call) ≡ true
@@ -262,44 +323,56 @@ tests_otherwise g (Sweep page) = refl
 tests_otherwise g Ask = refl
 tests_otherwise g (SetTarget n) = refl
 
-fills_otherwise : (buffer : Buffer) (g : Guest) (reply : Reply) (new : Guest) → Fills buffer g reply new → wants_frame reply ≡ false
+fills_otherwise : (buffer : Buffer) (g : Guest) (reply : Reply) (new : Guest)
+    → Fills buffer g reply new → wants_frame reply ≡ false
 fills_otherwise NoBuffer g reply new s = ap wants_frame s.0
 fills_otherwise (BufferPosted f) g reply new s = ap wants_frame s.0
 fills_otherwise (BufferTaken f) g reply new s = ap wants_frame s.0
 fills_otherwise (BufferDone f) g reply new s = ap wants_frame s.0
 
-takes_buffer_otherwise : (buffer : Buffer) (g : Guest) (reply : Reply) (new : Guest) → TakesBuffer buffer g reply new → wants_frame reply ≡ false
+takes_buffer_otherwise : (buffer : Buffer) (g : Guest) (reply : Reply) (new : Guest)
+    → TakesBuffer buffer g reply new → wants_frame reply ≡ false
 takes_buffer_otherwise NoBuffer g reply new s = ap wants_frame s.0
 takes_buffer_otherwise (BufferPosted f) g reply new s = ap wants_frame s.0
 takes_buffer_otherwise (BufferTaken f) g reply new s = ap wants_frame s.0
 takes_buffer_otherwise (BufferDone f) g reply new s = ap wants_frame s.0
 
-asks_otherwise : (buffer : Buffer) (g : Guest) (reply : Reply) (new : Guest) → Asks buffer g reply new → wants_frame reply ≡ false
+asks_otherwise : (buffer : Buffer) (g : Guest) (reply : Reply) (new : Guest)
+    → Asks buffer g reply new → wants_frame reply ≡ false
 asks_otherwise NoBuffer g reply new s = absurd s
 asks_otherwise (BufferPosted f) g reply new s = absurd s
 asks_otherwise (BufferTaken f) g reply new s = ap wants_frame s.0
 asks_otherwise (BufferDone f) g reply new s = absurd s
 
-reaps_otherwise : (kind : Kind) (done : List Request) (g : Guest) (reply : Reply) (new : Guest) → Reaps kind done g reply new → wants_frame reply ≡ false
+reaps_otherwise : (kind : Kind) (done : List Request) (g : Guest) (reply : Reply) (new : Guest)
+    → Reaps kind done g reply new → wants_frame reply ≡ false
 reaps_otherwise kind [] g reply new s = ap wants_frame s.0
 reaps_otherwise kind (r ∷ rest) g reply new s = ap wants_frame s.0
 
-takes_otherwise : (kind : Kind) (posted : List Request) (g : Guest) (reply : Reply) (new : Guest) → Takes kind posted g reply new → wants_frame reply ≡ false
+takes_otherwise : (kind : Kind) (posted : List Request) (g : Guest) (reply : Reply) (new : Guest)
+    → Takes kind posted g reply new → wants_frame reply ≡ false
 takes_otherwise kind [] g reply new s = ap wants_frame s.0
 takes_otherwise kind (r ∷ rest) g reply new s = ap wants_frame s.0
 
-negotiates_otherwise : (wanted : ℕ) (o : Option Refusal) (g : Guest) (reply : Reply) (new : Guest) → feature_refusal wanted ≡ o → Negotiates o wanted g reply new → wants_frame reply ≡ false
+negotiates_otherwise : (wanted : ℕ) (o : Option Refusal) (g : Guest) (reply : Reply) (new : Guest)
+    → feature_refusal wanted ≡ o → Negotiates o wanted g reply new → wants_frame reply ≡ false
 negotiates_otherwise wanted None g reply new e s = ap wants_frame s.0
-negotiates_otherwise wanted (Some refusal) g reply new e s = ap wants_frame s.0 ∙ refused_otherwise (feature_tests wanted) refusal refl e
+negotiates_otherwise wanted (Some refusal) g reply new e s =
+    ap wants_frame s.0 ∙ refused_otherwise (feature_tests wanted) refusal refl e
 
 -- the claims that a call for these pages made ended without a frame
 abbrev Lacks : List ℕ → List Claim → Type 0
 Lacks pages claims = AreClaimsFor pages claims × (claim_refusal claims ≡ Some NoFrame)
 
-supplies_lack : (pages : List ℕ) (g : Guest) (claims : List Claim) (reply : Reply) (new : Guest) (Rest : Guest → Type 0) → Supplying pages g claims reply new Rest → ((m : Guest) → Rest m → wants_frame reply ≡ false) → reply ≡ Refused NoFrame → Lacks pages claims
+supplies_lack : (pages : List ℕ) (g : Guest) (claims : List Claim) (reply : Reply) (new : Guest)
+    (Rest : Guest → Type 0) → Supplying pages g claims reply new Rest
+    → ((m : Guest) → Rest m → wants_frame reply ≡ false) → reply ≡ Refused NoFrame
+    → Lacks pages claims
 supplies_lack pages g claims reply new Rest s rest e =
-    elim (match_cases (claim_refusal claims) (Rest (supplied pages claims g)) (λ refusal. (reply ≡ Refused refusal) × (new ≡ g)) s.1) [
-      | inl m ↦ absurd (let a : wants_frame reply ≡ false = rest _ m.1 in let b : wants_frame reply ≡ true = ap wants_frame e in cc)
+    elim (match_cases (claim_refusal claims) (Rest (supplied pages claims g))
+    (λ refusal. (reply ≡ Refused refusal) × (new ≡ g)) s.1) [
+      | inl m ↦ absurd (let a : wants_frame reply ≡ false = rest _ m.1 in
+          let b : wants_frame reply ≡ true = ap wants_frame e in cc)
       | inr r ↦
           let told : Refused r.0 ≡ Refused NoFrame = sym r.2.0 ∙ e in
           let same : r.0 ≡ NoFrame = cc in
@@ -312,34 +385,54 @@ supplies_lack pages g claims reply new Rest s rest e =
 otherwise : (reply : Reply) → wants_frame reply ≡ false → reply ≡ Refused NoFrame → ⊥
 otherwise reply f e = let t : wants_frame reply ≡ true = ap wants_frame e in cc
 
-performs_lack : (call : Call) (g : Guest) (claims : List Claim) (reply : Reply) (new : Guest) → Performs call g claims reply new → reply ≡ Refused NoFrame → Lacks (may_need call g) claims
-performs_lack (Init wanted) g claims reply new s e = supplies_lack (lacking g) g claims reply new (λ m. Negotiates (feature_refusal wanted) wanted m reply new) s (λ m r. negotiates_otherwise wanted (feature_refusal wanted) m reply new refl r) e
-performs_lack (Write page offset bytes) g claims reply new s e = supplies_lack (pages_needed page bytes g) g claims reply new (λ m. Written page offset bytes m reply new) s (λ m r. ap wants_frame r.0) e
-performs_lack (Scribble page offset bytes) g claims reply new s e = supplies_lack (pages_needed page bytes g) g claims reply new (λ m. Scribbled m reply new) s (λ m r. ap wants_frame r.answered) e
+performs_lack : (call : Call) (g : Guest) (claims : List Claim) (reply : Reply) (new : Guest)
+    → Performs call g claims reply new → reply ≡ Refused NoFrame → Lacks (may_need call g) claims
+performs_lack (Init wanted) g claims reply new s e =
+    supplies_lack (lacking g) g claims reply new
+    (λ m. Negotiates (feature_refusal wanted) wanted m reply new) s
+    (λ m r. negotiates_otherwise wanted (feature_refusal wanted) m reply new refl r) e
+performs_lack (Write page offset bytes) g claims reply new s e =
+    supplies_lack (pages_needed page bytes g) g claims reply new
+    (λ m. Written page offset bytes m reply new) s (λ m r. ap wants_frame r.0) e
+performs_lack (Scribble page offset bytes) g claims reply new s e =
+    supplies_lack (pages_needed page bytes g) g claims reply new (λ m. Scribbled m reply new) s
+    (λ m r. ap wants_frame r.answered) e
 performs_lack (SetTarget n) g claims reply new s e = absurd (otherwise reply (ap wants_frame s.1) e)
 performs_lack Reset g claims reply new s e = absurd (otherwise reply (ap wants_frame s.1) e)
-performs_lack (Read page offset len) g claims reply new s e = absurd (otherwise reply (elim s.1 [ inl k ↦ ap wants_frame k | inr k ↦ ap wants_frame k ]) e)
-performs_lack (Sweep page) g claims reply new s e = absurd (otherwise reply (ap wants_frame s.1.0) e)
-performs_lack (Alloc cpu order) g claims reply new s e = absurd (otherwise reply (ap wants_frame s.1.2) e)
-performs_lack (Free cpu start order) g claims reply new s e = absurd (otherwise reply (ap wants_frame s.1) e)
+performs_lack (Read page offset len) g claims reply new s e =
+    absurd (otherwise reply (elim s.1 [ inl k ↦ ap wants_frame k | inr k ↦ ap wants_frame k ]) e)
+performs_lack (Sweep page) g claims reply new s e =
+    absurd (otherwise reply (ap wants_frame s.1.0) e)
+performs_lack (Alloc cpu order) g claims reply new s e =
+    absurd (otherwise reply (ap wants_frame s.1.2) e)
+performs_lack (Free cpu start order) g claims reply new s e =
+    absurd (otherwise reply (ap wants_frame s.1) e)
 performs_lack (Inflate n) g claims reply new s e = absurd (otherwise reply (ap wants_frame s.1.6) e)
 performs_lack (Deflate n) g claims reply new s e = absurd (otherwise reply (ap wants_frame s.1.2) e)
 performs_lack (Oom n) g claims reply new s e = absurd (otherwise reply (ap wants_frame s.1.2) e)
-performs_lack (Report from) g claims reply new s e = absurd (otherwise reply (ap wants_frame s.1.2) e)
-performs_lack Stats g claims reply new s e = absurd (otherwise reply (fills_otherwise g.buffer g reply new s.1) e)
-performs_lack Ask g claims reply new s e = absurd (otherwise reply (asks_otherwise g.buffer g reply new s.1) e)
+performs_lack (Report from) g claims reply new s e =
+    absurd (otherwise reply (ap wants_frame s.1.2) e)
+performs_lack Stats g claims reply new s e =
+    absurd (otherwise reply (fills_otherwise g.buffer g reply new s.1) e)
+performs_lack Ask g claims reply new s e =
+    absurd (otherwise reply (asks_otherwise g.buffer g reply new s.1) e)
 performs_lack (Reap q) g claims reply new s e =
-    elim (match_cases (kind_of_queue q) ⊥ (λ kind. Reaps kind (requests kind g).done g reply new) s.1) [
+    elim (match_cases (kind_of_queue q) ⊥ (λ kind. Reaps kind (requests kind g).done g reply new)
+    s.1) [
       | inl n ↦ absurd n.1
-      | inr k ↦ absurd (otherwise reply (reaps_otherwise k.0 (requests k.0 g).done g reply new k.2) e)
+      | inr k ↦ absurd (otherwise reply (reaps_otherwise k.0 (requests k.0 g).done g reply new k.2)
+          e)
     ]
 performs_lack (Take q) g claims reply new s e =
-    elim (match_cases (kind_of_queue q) (TakesBuffer g.buffer g reply new) (λ kind. Takes kind (requests kind g).posted g reply new) s.1) [
+    elim (match_cases (kind_of_queue q) (TakesBuffer g.buffer g reply new)
+    (λ kind. Takes kind (requests kind g).posted g reply new) s.1) [
       | inl n ↦ absurd (otherwise reply (takes_buffer_otherwise g.buffer g reply new n.1) e)
-      | inr k ↦ absurd (otherwise reply (takes_otherwise k.0 (requests k.0 g).posted g reply new k.2) e)
+      | inr k ↦ absurd (otherwise reply
+          (takes_otherwise k.0 (requests k.0 g).posted g reply new k.2) e)
     ]
 performs_lack Work g claims reply new s e =
-    elim (works_cases (cond g.config.paced (next_page g.inflate.taken) None) (cond g.config.paced (next_page g.report.taken) None) g reply new s.1) [
+    elim (works_cases (cond g.config.paced (next_page g.inflate.taken) None)
+    (cond g.config.paced (next_page g.report.taken) None) g reply new s.1) [
       | inl i ↦ absurd (otherwise reply (ap wants_frame i.0) e)
       | inr v ↦ absurd (otherwise reply (ap wants_frame v.2.0) e)
     ]
@@ -349,32 +442,48 @@ performs_lack (Finish q i) g claims reply new s e =
       | inr k ↦ absurd (otherwise reply (ap wants_frame k.2.2) e)
     ]
 
-step_lacks : (g : Guest) (call : Call) (claims : List Claim) (new : Guest) → GuestStep g call claims (Refused NoFrame) new → Lacks (may_need call g) claims
+step_lacks : (g : Guest) (call : Call) (claims : List Claim) (new : Guest)
+    → GuestStep g call claims (Refused NoFrame) new → Lacks (may_need call g) claims
 step_lacks g call claims new s = cases g.rogue s
   where
-    rogue : (pages : List ℕ) → (pages ≡ []) ⊎ (pages ≡ may_need call g) → AreClaimsFor pages claims → claim_refusal claims ≡ Some NoFrame → Lacks (may_need call g) claims
-    rogue pages (inl e) a r = absurd (let none : claim_refusal claims ≡ None = ap claim_refusal (no_claims pages claims e a) in cc)
+    rogue : (pages : List ℕ) → (pages ≡ []) ⊎ (pages ≡ may_need call g) → AreClaimsFor pages claims
+        → claim_refusal claims ≡ Some NoFrame → Lacks (may_need call g) claims
+    rogue pages (inl e) a r =
+        absurd (let none : claim_refusal claims
+        ≡ None = ap claim_refusal (no_claims pages claims e a) in cc)
     rogue pages (inr e) a r = (subst (λ (ps : List ℕ). AreClaimsFor ps claims) e a, r)
 
-    cases : (b : Bool) → MatchBool b (RogueStep g call claims (Refused NoFrame) new) (HonestStep g call claims (Refused NoFrame) new) → Lacks (may_need call g) claims
+    cases : (b : Bool) → MatchBool b (RogueStep g call claims (Refused NoFrame) new)
+        (HonestStep g call claims (Refused NoFrame) new) → Lacks (may_need call g) claims
     cases true r = rogue r.pages r.needed r.claimed (r.no_frame refl)
     cases false p =
-        elim (match_cases (refusal_of g call) (Performs call g claims (Refused NoFrame) new) (λ refusal. (claims ≡ []) × (Refused NoFrame ≡ Refused refusal) × (new ≡ g)) p) [
+        elim (match_cases (refusal_of g call) (Performs call g claims (Refused NoFrame) new)
+        (λ refusal. (claims ≡ []) × (Refused NoFrame ≡ Refused refusal) × (new ≡ g)) p) [
           | inl d ↦ performs_lack call g claims (Refused NoFrame) new d.1 refl
-          | inr r ↦ absurd (let told : Refused NoFrame ≡ Refused r.0 = r.2.1 in let f : is_no_frame r.0 ≡ false = refused_otherwise (tests g call) r.0 (tests_otherwise g call) r.1 in let t : wants_frame (Refused NoFrame) ≡ false = ap wants_frame told ∙ f in cc)
+          | inr r ↦ absurd (let told : Refused NoFrame ≡ Refused r.0 = r.2.1 in
+              let f : is_no_frame r.0 ≡ false =
+              refused_otherwise (tests g call) r.0 (tests_otherwise g call) r.1 in
+              let t : wants_frame (Refused NoFrame) ≡ false = ap wants_frame told ∙ f in cc)
         ]
 
 pub no_frame_exact : NoFrameIsExact
 no_frame_exact w v n call g here s =
-    elim (match_cases (first_refusal (world_tests w (OnGuest n call))) (Happens (OnGuest n call) w (Refused NoFrame) v) (λ refusal. (Refused NoFrame ≡ Refused refusal) × (v ≡ w)) s) [
-      | inr r ↦ absurd (let told : Refused NoFrame ≡ Refused r.0 = r.2.0 in let f : is_no_frame r.0 ≡ false = refused_otherwise (world_tests w (OnGuest n call)) r.0 refl r.1 in let t : wants_frame (Refused NoFrame) ≡ false = ap wants_frame told ∙ f in cc)
+    elim (match_cases (first_refusal (world_tests w (OnGuest n call)))
+    (Happens (OnGuest n call) w (Refused NoFrame) v)
+    (λ refusal. (Refused NoFrame ≡ Refused refusal) × (v ≡ w)) s) [
+      | inr r ↦ absurd (let told : Refused NoFrame ≡ Refused r.0 = r.2.0 in
+          let f : is_no_frame r.0 ≡ false =
+          refused_otherwise (world_tests w (OnGuest n call)) r.0 refl r.1 in
+          let t : wants_frame (Refused NoFrame) ≡ false = ap wants_frame told ∙ f in cc)
       | inl p ↦
-          elim (match_cases (guest_at w.guests n) ⊥ (λ g. Calls n g w (OnGuest n call) (Refused NoFrame) v) p.1) [
+          elim (match_cases (guest_at w.guests n) ⊥
+          (λ g. Calls n g w (OnGuest n call) (Refused NoFrame) v) p.1) [
             | inl none ↦ absurd none.1
             | inr k ↦
                 let same : k.0 ≡ g = same_some k.0 g (sym k.1 ∙ here) in
                 let l = step_lacks k.0 call k.2.0 k.2.1 k.2.3 in
                 let wanted = want w.frames (IsOut w) (may_need call k.0) k.2.0 k.2.2 l.0 l.1 in
-                subst (λ (x : Guest). WantOfFrames w (may_need call x)) same (record { claimed = wanted.0; fewer = wanted.1; all_out = wanted.2 })
+                subst (λ (x : Guest). WantOfFrames w (may_need call x)) same
+                (record { claimed = wanted.0; fewer = wanted.1; all_out = wanted.2 })
           ]
     ]

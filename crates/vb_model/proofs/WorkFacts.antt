@@ -5,8 +5,10 @@ use Rattle.std.specs.List.{range_with_len}
 use Rattle.vb_model.specs.declared.calls.Call.{Call}
 use Rattle.vb_model.specs.declared.calls.Call.TheVariants.{Take, Work, Finish, Sweep}
 use Rattle.vb_model.specs.declared.replies.Refusal.{Refusal}
-use Rattle.vb_model.specs.declared.replies.Refusal.TheVariants.{NotReady, NoQueue, Busy, NotTaken, NotWorked, NotBallooned}
-use Rattle.vb_model.specs.declared.replies.Reply.TheVariants.{Taken, Empty, Worked, Idle, Finished, Swept}
+use Rattle.vb_model.specs.declared.replies.Refusal.TheVariants.{NotReady, NoQueue, Busy, NotTaken}
+use Rattle.vb_model.specs.declared.replies.Refusal.TheVariants.{NotWorked, NotBallooned}
+use Rattle.vb_model.specs.declared.replies.Reply.TheVariants.{Taken, Empty, Worked, Idle, Finished}
+use Rattle.vb_model.specs.declared.replies.Reply.TheVariants.{Swept}
 use Rattle.vb_model.specs.Requests.{Request, Requests}
 use Rattle.vb_model.specs.Guest.{Guest, zero_page}
 use Rattle.vb_model.specs.Refusals.{refusal_of, first_refusal, tests}
@@ -26,7 +28,12 @@ abbrev used_inflate : Request
 used_inflate = request 0 (24 ∷ []) 1
 
 abbrev inflates : ℕ → Requests
-inflates visited = record { posted = request 2 (25 ∷ []) 0 ∷ []; taken = first_inflate ∷ second_inflate visited ∷ []; done = used_inflate ∷ [] }
+inflates visited = record {
+  posted = request 2 (25 ∷ []) 0 ∷ [];
+  taken = first_inflate ∷ second_inflate visited
+      ∷ [];
+  done = used_inflate ∷ [];
+}
 
 -- a report of pages 20 and 21, a deflate of 22 and 23: no page visited
 abbrev report : ℕ → Request
@@ -53,17 +60,26 @@ abbrev contents : List (List ℕ) → List (List ℕ)
 contents eight = replicate 16 zero_page ++ (eight ++ replicate 40 zero_page)
 
 abbrev eight_contents : List (List ℕ)
-eight_contents = (17 ∷ []) ∷ zero_page ∷ zero_page ∷ (13 ∷ []) ∷ (14 ∷ []) ∷ zero_page ∷ (15 ∷ []) ∷ (16 ∷ []) ∷ []
+eight_contents = (17 ∷ []) ∷ zero_page ∷ zero_page ∷ (13 ∷ []) ∷ (14 ∷ []) ∷ zero_page ∷ (15 ∷ [])
+    ∷ (16 ∷ []) ∷ []
 
 -- whether pages 16 to 26 are ballooned
 abbrev flags : List Bool → List Bool
 flags eleven = replicate 16 false ++ (eleven ++ replicate 37 false)
 
 abbrev eleven_flags : List Bool
-eleven_flags = false ∷ false ∷ false ∷ false ∷ false ∷ false ∷ true ∷ true ∷ true ∷ false ∷ false ∷ []
+eleven_flags = false ∷ false ∷ false ∷ false ∷ false ∷ false ∷ true ∷ true ∷ true ∷ false ∷ false
+    ∷ []
 
 abbrev busy : Guest
-busy = record ready { inflate = inflates 1; deflate = deflates; report = reports 0; frames = frames all_eight; contents = contents eight_contents; ballooned = flags eleven_flags }
+busy = record ready {
+  inflate = inflates 1;
+  deflate = deflates;
+  report = reports 0;
+  frames = frames all_eight;
+  contents = contents eight_contents;
+  ballooned = flags eleven_flags;
+}
 
 -- the same at once: an immediate device
 abbrev at_once : Guest → Guest
@@ -71,12 +87,14 @@ at_once g = record g { config = record config { paced = false } }
 
 -- ---- work
 
--- of the first taken inflate with an unvisited page that page loses its frame, and reads as zeros from then on
+-- of the first taken inflate with an unvisited page that page loses its frame, and reads as zeros
+-- from then on
 abbrev after_19 : Guest
 after_19 = record busy {
   inflate = inflates 2;
   frames = frames (Some 17 ∷ None ∷ None ∷ None ∷ Some 14 ∷ None ∷ Some 15 ∷ Some 16 ∷ []);
-  contents = contents ((17 ∷ []) ∷ zero_page ∷ zero_page ∷ zero_page ∷ (14 ∷ []) ∷ zero_page ∷ (15 ∷ []) ∷ (16 ∷ []) ∷ []);
+  contents = contents ((17 ∷ []) ∷ zero_page ∷ zero_page ∷ zero_page ∷ (14 ∷ []) ∷ zero_page
+      ∷ (15 ∷ []) ∷ (16 ∷ []) ∷ []);
 }
 
 inflate_before_report : HonestStep busy Work [] (Worked 19 true) after_19
@@ -87,28 +105,51 @@ abbrev after_20 : Guest
 after_20 = record after_19 {
   report = reports 1;
   frames = frames (Some 17 ∷ None ∷ None ∷ None ∷ None ∷ None ∷ Some 15 ∷ Some 16 ∷ []);
-  contents = contents ((17 ∷ []) ∷ zero_page ∷ zero_page ∷ zero_page ∷ zero_page ∷ zero_page ∷ (15 ∷ []) ∷ (16 ∷ []) ∷ []);
+  contents = contents ((17 ∷ []) ∷ zero_page ∷ zero_page ∷ zero_page ∷ zero_page ∷ zero_page
+      ∷ (15 ∷ []) ∷ (16 ∷ []) ∷ []);
 }
 
 then_the_report : HonestStep after_19 Work [] (Worked 20 true) after_20
 then_the_report = (refl, (refl, refl))
 
-the_last_page_is_bare : HonestStep after_20 Work [] (Worked 21 false) (record after_20 { report = reports 2 })
+the_last_page_is_bare : HonestStep after_20 Work [] (Worked 21 false)
+    (record after_20 { report = reports 2 })
 the_last_page_is_bare = (refl, (refl, refl))
 
 -- once all are visited there is nothing to do; a deflate is never visited
-all_visited : HonestStep (record after_20 { report = reports 2 }) Work [] Idle (record after_20 { report = reports 2 })
+all_visited : HonestStep (record after_20 { report = reports 2 }) Work [] Idle
+    (record after_20 { report = reports 2 })
 all_visited = (refl, (refl, refl))
 
 -- of two inflates the oldest goes on, and the other one waits
 abbrev two_waiting : ℕ → Guest
-two_waiting visited = record ready { inflate = record { posted = []; taken = request 0 (16 ∷ 17 ∷ 18 ∷ []) visited ∷ request 1 (19 ∷ 20 ∷ []) 0 ∷ []; done = [] } }
+two_waiting visited =
+    record ready {
+      inflate = record {
+        posted = [];
+        taken = request 0 (16 ∷ 17 ∷ 18 ∷ []) visited ∷ request 1 (19 ∷ 20 ∷ []) 0
+            ∷ [];
+        done = [];
+      };
+    }
 
 the_oldest_goes_on : HonestStep (two_waiting 1) Work [] (Worked 17 false) (two_waiting 2)
 the_oldest_goes_on = (refl, (refl, refl))
 
 -- posted and used requests aren't visited
-only_taken_ones : HonestStep (record ready { inflate = record { posted = request 0 (16 ∷ []) 0 ∷ []; taken = []; done = request 1 (17 ∷ []) 0 ∷ [] }; report = record { posted = request 0 (18 ∷ []) 0 ∷ []; taken = []; done = [] } }) Work [] Idle (record ready { inflate = record { posted = request 0 (16 ∷ []) 0 ∷ []; taken = []; done = request 1 (17 ∷ []) 0 ∷ [] }; report = record { posted = request 0 (18 ∷ []) 0 ∷ []; taken = []; done = [] } })
+only_taken_ones : HonestStep
+    (record ready {
+      inflate = record
+          { posted = request 0 (16 ∷ []) 0 ∷ []; taken = []; done = request 1 (17 ∷ []) 0 ∷ [] };
+      report =
+          record { posted = request 0 (18 ∷ []) 0 ∷ []; taken = []; done = [] };
+    }) Work [] Idle
+    (record ready {
+      inflate = record
+          { posted = request 0 (16 ∷ []) 0 ∷ []; taken = []; done = request 1 (17 ∷ []) 0 ∷ [] };
+      report =
+          record { posted = request 0 (18 ∷ []) 0 ∷ []; taken = []; done = [] };
+    })
 only_taken_ones = (refl, (refl, refl))
 
 -- an immediate device finds nothing to do
@@ -120,19 +161,28 @@ work_not_ready = refl
 
 -- ---- finish
 
--- an inflate: its pages lose the frames that they still have and are ballooned; it is the last used one
+-- an inflate: its pages lose the frames that they still have and are ballooned; it is the last used
+-- one
 finished_inflate : HonestStep busy (Finish 0 0) [] (Finished 1) (record busy {
-  inflate = record { posted = request 2 (25 ∷ []) 0 ∷ []; taken = second_inflate 1 ∷ []; done = used_inflate ∷ first_inflate ∷ [] };
+  inflate = record {
+    posted = request 2 (25 ∷ []) 0 ∷ [];
+    taken = second_inflate 1
+        ∷ [];
+    done = used_inflate ∷ first_inflate ∷ [];
+  };
   frames = frames (None ∷ None ∷ None ∷ Some 13 ∷ Some 14 ∷ None ∷ Some 15 ∷ Some 16 ∷ []);
-  contents = contents (zero_page ∷ zero_page ∷ zero_page ∷ (13 ∷ []) ∷ (14 ∷ []) ∷ zero_page ∷ (15 ∷ []) ∷ (16 ∷ []) ∷ []);
-  ballooned = flags (true ∷ true ∷ false ∷ false ∷ false ∷ false ∷ true ∷ true ∷ true ∷ false ∷ false ∷ []);
+  contents = contents (zero_page ∷ zero_page ∷ zero_page ∷ (13 ∷ []) ∷ (14 ∷ []) ∷ zero_page
+      ∷ (15 ∷ []) ∷ (16 ∷ []) ∷ []);
+  ballooned = flags (true ∷ true ∷ false ∷ false ∷ false ∷ false ∷ true ∷ true ∷ true ∷ false
+      ∷ false ∷ []);
 })
 finished_inflate = (refl, (first_inflate, refl, refl, refl))
 
 -- a deflate: its pages are ballooned no more and keep their frames
 finished_deflate : HonestStep busy (Finish 1 0) [] (Finished 5) (record busy {
   deflate = record { posted = []; taken = []; done = request 6 (26 ∷ []) 0 ∷ deflate ∷ [] };
-  ballooned = flags (false ∷ false ∷ false ∷ false ∷ false ∷ false ∷ false ∷ false ∷ true ∷ false ∷ false ∷ []);
+  ballooned = flags (false ∷ false ∷ false ∷ false ∷ false ∷ false ∷ false ∷ false ∷ true ∷ false
+      ∷ false ∷ []);
 })
 finished_deflate = (refl, (deflate, refl, refl, refl))
 
@@ -140,17 +190,26 @@ finished_deflate = (refl, (deflate, refl, refl, refl))
 finished_report : Performs (Finish 4 0) (at_once busy) [] (Finished 0) (record (at_once busy) {
   report = record { posted = []; taken = []; done = report 0 ∷ [] };
   frames = frames (Some 17 ∷ None ∷ None ∷ Some 13 ∷ None ∷ None ∷ Some 15 ∷ Some 16 ∷ []);
-  contents = contents ((17 ∷ []) ∷ zero_page ∷ zero_page ∷ (13 ∷ []) ∷ zero_page ∷ zero_page ∷ (15 ∷ []) ∷ (16 ∷ []) ∷ []);
+  contents = contents ((17 ∷ []) ∷ zero_page ∷ zero_page ∷ (13 ∷ []) ∷ zero_page ∷ zero_page
+      ∷ (15 ∷ []) ∷ (16 ∷ []) ∷ []);
 })
 finished_report = (refl, (report 0, refl, refl, refl))
 
 -- the number is that among the taken ones of the queue, the oldest first
-second_by_its_number : HonestStep (at_once busy) (Finish 0 1) [] (Finished 3) (record (at_once busy) {
-  inflate = record { posted = request 2 (25 ∷ []) 0 ∷ []; taken = first_inflate ∷ []; done = used_inflate ∷ second_inflate 1 ∷ [] };
-  frames = frames (Some 17 ∷ None ∷ None ∷ None ∷ Some 14 ∷ None ∷ Some 15 ∷ Some 16 ∷ []);
-  contents = contents ((17 ∷ []) ∷ zero_page ∷ zero_page ∷ zero_page ∷ (14 ∷ []) ∷ zero_page ∷ (15 ∷ []) ∷ (16 ∷ []) ∷ []);
-  ballooned = flags (false ∷ false ∷ true ∷ true ∷ false ∷ false ∷ true ∷ true ∷ true ∷ false ∷ false ∷ []);
-})
+second_by_its_number : HonestStep (at_once busy) (Finish 0 1) [] (Finished 3)
+    (record (at_once busy) {
+      inflate = record {
+        posted = request 2 (25 ∷ []) 0 ∷ [];
+        taken = first_inflate
+            ∷ [];
+        done = used_inflate ∷ second_inflate 1 ∷ [];
+      };
+      frames = frames (Some 17 ∷ None ∷ None ∷ None ∷ Some 14 ∷ None ∷ Some 15 ∷ Some 16 ∷ []);
+      contents = contents ((17 ∷ []) ∷ zero_page ∷ zero_page ∷ zero_page ∷ (14 ∷ []) ∷ zero_page
+          ∷ (15 ∷ []) ∷ (16 ∷ []) ∷ []);
+      ballooned = flags (false ∷ false ∷ true ∷ true ∷ false ∷ false ∷ true ∷ true ∷ true ∷ false
+          ∷ false ∷ []);
+    })
 second_by_its_number = (refl, (second_inflate 1, refl, refl, refl))
 
 -- a paced device has to visit each page of an inflate or a report first, but none of a deflate
@@ -172,7 +231,8 @@ report_worked = refl
 deflate_needs_no_work : refusal_of busy (Finish 1 0) ≡ None
 deflate_needs_no_work = refl
 
-immediate_needs_no_work : refusal_of (at_once busy) (Finish 0 1) ∷ behind_no_queue (at_once busy) (Finish 4 0) ∷ [] ≡ None ∷ None ∷ []
+immediate_needs_no_work : refusal_of (at_once busy) (Finish 0 1)
+    ∷ behind_no_queue (at_once busy) (Finish 4 0) ∷ [] ≡ None ∷ None ∷ []
 immediate_needs_no_work = refl
 
 -- just taken requests of the queue itself are finished, whatever the features are
@@ -182,7 +242,8 @@ inflate_not_taken = refl
 deflate_not_taken : refusal_of busy (Finish 1 1) ≡ Some NotTaken
 deflate_not_taken = refl
 
-report_not_taken : behind_no_queue (record without_reporting { inflate = inflates 1 }) (Finish 4 0) ≡ Some NotTaken
+report_not_taken : behind_no_queue (record without_reporting { inflate = inflates 1 }) (Finish 4 0)
+    ≡ Some NotTaken
 report_not_taken = refl
 
 no_queue_3 : refusal_of down (Finish 3 0) ≡ Some NoQueue
@@ -195,45 +256,70 @@ finish_not_ready = refl
 
 -- the first posted request is the last taken one, and none of its pages is visited
 abbrev two_posted : Requests
-two_posted = record { posted = request 4 (16 ∷ []) 1 ∷ request 0 (17 ∷ []) 0 ∷ []; taken = request 2 (18 ∷ []) 1 ∷ []; done = request 1 (19 ∷ []) 1 ∷ [] }
+two_posted = record {
+  posted = request 4 (16 ∷ []) 1 ∷ request 0 (17 ∷ []) 0
+      ∷ [];
+  taken = request 2 (18 ∷ []) 1 ∷ [];
+  done = request 1 (19 ∷ []) 1 ∷ [];
+}
 
 abbrev one_posted : Requests
-one_posted = record { posted = request 0 (17 ∷ []) 0 ∷ []; taken = request 2 (18 ∷ []) 1 ∷ request 4 (16 ∷ []) 0 ∷ []; done = request 1 (19 ∷ []) 1 ∷ [] }
+one_posted = record {
+  posted = request 0 (17 ∷ []) 0 ∷ [];
+  taken = request 2 (18 ∷ []) 1
+      ∷ request 4 (16 ∷ []) 0 ∷ [];
+  done = request 1 (19 ∷ []) 1 ∷ [];
+}
 
-taken_inflate : HonestStep (record ready { inflate = two_posted }) (Take 0) [] (Taken 4) (record ready { inflate = one_posted })
+taken_inflate : HonestStep (record ready { inflate = two_posted }) (Take 0) [] (Taken 4)
+    (record ready { inflate = one_posted })
 taken_inflate = (refl, (refl, refl))
 
-taken_deflate : HonestStep (record ready { deflate = two_posted }) (Take 1) [] (Taken 4) (record ready { deflate = one_posted })
+taken_deflate : HonestStep (record ready { deflate = two_posted }) (Take 1) [] (Taken 4)
+    (record ready { deflate = one_posted })
 taken_deflate = (refl, (refl, refl))
 
-taken_report : Performs (Take 4) (record ready { report = two_posted }) [] (Taken 4) (record ready { report = one_posted })
+taken_report : Performs (Take 4) (record ready { report = two_posted }) [] (Taken 4)
+    (record ready { report = one_posted })
 taken_report = (refl, (refl, refl))
 
 -- each queue has requests of its own kind
-none_posted : HonestStep (record ready { deflate = two_posted; report = two_posted }) (Take 0) [] Empty (record ready { deflate = two_posted; report = two_posted })
+none_posted : HonestStep (record ready { deflate = two_posted; report = two_posted }) (Take 0) []
+    Empty (record ready { deflate = two_posted; report = two_posted })
 none_posted = (refl, (refl, refl))
 
-no_deflate_posted : HonestStep (record ready { inflate = two_posted; report = two_posted }) (Take 1) [] Empty (record ready { inflate = two_posted; report = two_posted })
+no_deflate_posted : HonestStep (record ready { inflate = two_posted; report = two_posted }) (Take 1)
+    [] Empty (record ready { inflate = two_posted; report = two_posted })
 no_deflate_posted = (refl, (refl, refl))
 
-no_report_posted : Performs (Take 4) (record ready { inflate = two_posted; deflate = two_posted }) [] Empty (record ready { inflate = two_posted; deflate = two_posted })
+no_report_posted : Performs (Take 4) (record ready { inflate = two_posted; deflate = two_posted })
+    [] Empty (record ready { inflate = two_posted; deflate = two_posted })
 no_report_posted = (refl, (refl, refl))
 
 -- at most 16 taken ones of each queue; posted and used ones don't count
 abbrev many : ℕ → Requests
-many n = record two_posted { taken = map (λ head. request head ((16 + head) ∷ []) 0) (range_with_len 0 n) }
+many n = record two_posted
+    { taken = map (λ head. request head ((16 + head) ∷ []) 0) (range_with_len 0 n) }
 
-sixteen_inflates : refusal_of (record ready { inflate = many 16 }) (Take 0) ∷ refusal_of (record ready { inflate = many 15; deflate = many 16; report = many 16 }) (Take 0) ∷ [] ≡ Some Busy ∷ None ∷ []
+sixteen_inflates : refusal_of (record ready { inflate = many 16 }) (Take 0)
+    ∷ refusal_of (record ready { inflate = many 15; deflate = many 16; report = many 16 }) (Take 0)
+    ∷ [] ≡ Some Busy ∷ None ∷ []
 sixteen_inflates = refl
 
-sixteen_deflates : refusal_of (record ready { deflate = many 16 }) (Take 1) ∷ refusal_of (record ready { inflate = many 16; deflate = many 15; report = many 16 }) (Take 1) ∷ [] ≡ Some Busy ∷ None ∷ []
+sixteen_deflates : refusal_of (record ready { deflate = many 16 }) (Take 1)
+    ∷ refusal_of (record ready { inflate = many 16; deflate = many 15; report = many 16 }) (Take 1)
+    ∷ [] ≡ Some Busy ∷ None ∷ []
 sixteen_deflates = refl
 
-sixteen_reports : behind_no_queue (record ready { report = many 16 }) (Take 4) ∷ behind_no_queue (record ready { inflate = many 16; deflate = many 16; report = many 15 }) (Take 4) ∷ [] ≡ Some Busy ∷ None ∷ []
+sixteen_reports : behind_no_queue (record ready { report = many 16 }) (Take 4)
+    ∷ behind_no_queue (record ready { inflate = many 16; deflate = many 16; report = many 15 })
+    (Take 4) ∷ [] ≡ Some Busy ∷ None ∷ []
 sixteen_reports = refl
 
 -- queue 4 isn't there without REPORTING, once the guest is ready
-take_without_reporting : behind_no_queue (record without_reporting { report = many 16 }) (Take 4) ∷ behind_no_queue (record down { report = many 16 }) (Take 4) ∷ [] ≡ Some NoQueue ∷ Some NotReady ∷ []
+take_without_reporting : behind_no_queue (record without_reporting { report = many 16 }) (Take 4)
+    ∷ behind_no_queue (record down { report = many 16 }) (Take 4) ∷ [] ≡ Some NoQueue
+    ∷ Some NotReady ∷ []
 take_without_reporting = refl
 
 -- ---- sweep
@@ -241,12 +327,15 @@ take_without_reporting = refl
 -- a ballooned page loses its frame and stays ballooned
 swept_freed : HonestStep busy (Sweep 23) [] (Swept true) (record busy {
   frames = frames (Some 17 ∷ None ∷ None ∷ Some 13 ∷ Some 14 ∷ None ∷ Some 15 ∷ None ∷ []);
-  contents = contents ((17 ∷ []) ∷ zero_page ∷ zero_page ∷ (13 ∷ []) ∷ (14 ∷ []) ∷ zero_page ∷ (15 ∷ []) ∷ zero_page ∷ []);
+  contents = contents ((17 ∷ []) ∷ zero_page ∷ zero_page ∷ (13 ∷ []) ∷ (14 ∷ []) ∷ zero_page
+      ∷ (15 ∷ []) ∷ zero_page ∷ []);
 })
 swept_freed = (refl, (refl, refl))
 
 swept_bare : HonestStep busy (Sweep 24) [] (Swept false) busy
 swept_bare = (refl, (refl, refl))
 
-not_swept : refusal_of busy (Sweep 19) ∷ refusal_of busy (Sweep 64) ∷ refusal_of (record busy { status = 0 }) (Sweep 19) ∷ [] ≡ Some NotBallooned ∷ Some NotBallooned ∷ Some NotReady ∷ []
+not_swept : refusal_of busy (Sweep 19) ∷ refusal_of busy (Sweep 64)
+    ∷ refusal_of (record busy { status = 0 }) (Sweep 19) ∷ [] ≡ Some NotBallooned
+    ∷ Some NotBallooned ∷ Some NotReady ∷ []
 not_swept = refl

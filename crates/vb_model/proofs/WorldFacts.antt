@@ -1,18 +1,22 @@
 -- Worked facts of the host: plugging guests in, numbers, spare devices, and which frames are given.
-use Rattle.std.proofs.Common.{◌≡◌, ℕ, zero, suc, ◌<◌, true, false, List, [], ◌∷◌, ◌++◌, replicate, refl, ◌⊎◌, inl, inr, arith}
+use Rattle.std.proofs.Common.{◌≡◌, ℕ, zero, suc, ◌<◌, true, false, List, [], ◌∷◌, ◌++◌, replicate}
+use Rattle.std.proofs.Common.{refl, ◌⊎◌, inl, inr, arith}
 use Rattle.std.specs.Prelude.{Option, Some, None}
 use Rattle.vb_model.specs.declared.calls.Claim.TheVariants.{Gave, GaveNoFrame, GaveNoMemory}
 use Rattle.vb_model.specs.declared.calls.Call.TheVariants.{SetTarget}
-use Rattle.vb_model.specs.declared.calls.Event.TheVariants.{Plug, Unplug, Restart, Guest as OnGuest, Query as Asking, Frames as CountFrames}
+use Rattle.vb_model.specs.declared.calls.Event.TheVariants.{Plug, Unplug, Restart, Guest as OnGuest}
+use Rattle.vb_model.specs.declared.calls.Event.TheVariants.{Query as Asking, Frames as CountFrames}
 use Rattle.vb_model.specs.declared.calls.Query.TheVariants.{Places}
-use Rattle.vb_model.specs.declared.replies.Refusal.TheVariants.{NoGuest, BadConfig, TooMany, NoDevice, NoMemory}
+use Rattle.vb_model.specs.declared.replies.Refusal.TheVariants.{NoGuest, BadConfig, TooMany}
+use Rattle.vb_model.specs.declared.replies.Refusal.TheVariants.{NoDevice, NoMemory}
 use Rattle.vb_model.specs.declared.replies.Reply.TheVariants.{Plugged, Done, Frames, Refused}
 use Rattle.vb_model.specs.Guest.{Guest, Config, fresh}
 use Rattle.vb_model.specs.World.{World, WorldStep, Gives, made, with_targets, guest_at}
 use Rattle.vb_model.proofs.Samples.{ready, down}
 
 abbrev world : List (Option Guest) → World
-world guests = record { frames = 200; guests = guests; spares = false ∷ true ∷ true ∷ []; given_up = None }
+world guests = record
+    { frames = 200; guests = guests; spares = false ∷ true ∷ true ∷ []; given_up = None }
 
 abbrev without_spares : World → World
 without_spares w = record w { spares = [] }
@@ -24,17 +28,21 @@ wide = record { pages = 128; queue_size = 2; processors = 4; paced = false }
 -- ---- a new guest
 
 -- it is as its configuration says, with the pace of the first spare, which is used up
-first_plug : WorldStep (made 64 (true ∷ false ∷ [])) (Plug 64 8 1) (Plugged 0) (record { frames = 64; guests = Some down ∷ []; spares = false ∷ []; given_up = None })
+first_plug : WorldStep (made 64 (true ∷ false ∷ [])) (Plug 64 8 1) (Plugged 0)
+    (record { frames = 64; guests = Some down ∷ []; spares = false ∷ []; given_up = None })
 first_plug = inr (0, refl, tt, refl, refl)
 
-second_plug : WorldStep (world (Some ready ∷ [])) (Plug 128 2 4) (Plugged 1) (record (world (Some ready ∷ Some (fresh wide 0) ∷ [])) { spares = true ∷ true ∷ [] })
+second_plug : WorldStep (world (Some ready ∷ [])) (Plug 128 2 4) (Plugged 1)
+    (record (world (Some ready ∷ Some (fresh wide 0) ∷ [])) { spares = true ∷ true ∷ [] })
 second_plug = inr (1, refl, tt, refl, refl)
 
 -- a number that was given up is used by the next plug, and by that one alone
 abbrev gap : World
 gap = record (world (Some ready ∷ None ∷ Some ready ∷ None ∷ [])) { given_up = Some 1 }
 
-number_given_up : WorldStep gap (Plug 128 2 4) (Plugged 1) (record (world (Some ready ∷ Some (fresh wide 0) ∷ Some ready ∷ None ∷ [])) { spares = true ∷ true ∷ []; given_up = None })
+number_given_up : WorldStep gap (Plug 128 2 4) (Plugged 1)
+    (record (world (Some ready ∷ Some (fresh wide 0) ∷ Some ready ∷ None ∷ []))
+    { spares = true ∷ true ∷ []; given_up = None })
 number_given_up = inr (1, refl, refl, refl, refl)
 
 no_other_number : (v : World) → WorldStep gap (Plug 128 2 4) (Plugged 3) v → ⊥
@@ -45,7 +53,9 @@ no_other_number v (inr p) =
     cc
 
 -- with none given up any number that no guest has
-any_free_number : WorldStep (record gap { given_up = None }) (Plug 128 2 4) (Plugged 3) (record (world (Some ready ∷ None ∷ Some ready ∷ Some (fresh wide 0) ∷ [])) { spares = true ∷ true ∷ [] })
+any_free_number : WorldStep (record gap { given_up = None }) (Plug 128 2 4) (Plugged 3)
+    (record (world (Some ready ∷ None ∷ Some ready ∷ Some (fresh wide 0) ∷ []))
+    { spares = true ∷ true ∷ [] })
 any_free_number = inr (3, refl, tt, refl, refl)
 
 no_number_twice : (v : World) → WorldStep (world (Some ready ∷ [])) (Plug 128 2 4) (Plugged 0) v → ⊥
@@ -69,13 +79,17 @@ ninth_guest : WorldStep eight (Plug 64 8 1) (Refused TooMany) eight
 ninth_guest = (refl, refl)
 
 -- numbers without a guest don't count
-eighth_guest : WorldStep (world (None ∷ replicate 7 (Some ready))) (Plug 128 2 4) (Plugged 8) (record (world (None ∷ replicate 7 (Some ready) ++ (Some (fresh wide 0) ∷ []))) { spares = true ∷ true ∷ [] })
+eighth_guest : WorldStep (world (None ∷ replicate 7 (Some ready))) (Plug 128 2 4) (Plugged 8)
+    (record (world (None ∷ replicate 7 (Some ready) ++ (Some (fresh wide 0) ∷ [])))
+    { spares = true ∷ true ∷ [] })
 eighth_guest = inr (8, refl, tt, refl, refl)
 
-bad_config_before_too_many : WorldStep (without_spares eight) (Plug 65 8 1) (Refused BadConfig) (without_spares eight)
+bad_config_before_too_many : WorldStep (without_spares eight) (Plug 65 8 1) (Refused BadConfig)
+    (without_spares eight)
 bad_config_before_too_many = (refl, refl)
 
-too_many_before_no_device : WorldStep (without_spares eight) (Plug 64 8 1) (Refused TooMany) (without_spares eight)
+too_many_before_no_device : WorldStep (without_spares eight) (Plug 64 8 1) (Refused TooMany)
+    (without_spares eight)
 too_many_before_no_device = (refl, refl)
 
 -- a refused plug doesn't use the number up
@@ -105,11 +119,16 @@ number_past_the_last_has_no_guest = ((refl, refl), (refl, refl), (refl, refl), (
 
 -- ---- one guest's event leaves the others
 
-no_frame_claimed : WorldStep (world (Some ready ∷ None ∷ Some down ∷ Some ready ∷ [])) (OnGuest 2 (SetTarget 7)) Done (world (Some ready ∷ None ∷ Some (record down { target = 7 }) ∷ Some ready ∷ []))
+no_frame_claimed : WorldStep (world (Some ready ∷ None ∷ Some down ∷ Some ready ∷ []))
+    (OnGuest 2 (SetTarget 7)) Done
+    (world (Some ready ∷ None ∷ Some (record down { target = 7 }) ∷ Some ready ∷ []))
 no_frame_claimed = ([], record down { target = 7 }, tt, (refl, refl, refl), refl)
 
 -- targets go to the guests in rising number, past the numbers that have none
-targets_past_gaps : with_targets (5 ∷ 7 ∷ 9 ∷ []) (None ∷ Some ready ∷ None ∷ None ∷ Some down ∷ Some ready ∷ []) ≡ None ∷ Some (record ready { target = 5 }) ∷ None ∷ None ∷ Some (record down { target = 7 }) ∷ Some (record ready { target = 9 }) ∷ []
+targets_past_gaps : with_targets (5 ∷ 7 ∷ 9 ∷ [])
+    (None ∷ Some ready ∷ None ∷ None ∷ Some down ∷ Some ready ∷ []) ≡ None
+    ∷ Some (record ready { target = 5 }) ∷ None ∷ None ∷ Some (record down { target = 7 })
+    ∷ Some (record ready { target = 9 }) ∷ []
 targets_past_gaps = refl
 
 -- ---- frames in use, and those that are not
@@ -117,7 +136,10 @@ targets_past_gaps = refl
 abbrev with_frames : List (Option ℕ) → Option Guest
 with_frames frames = Some (record ready { frames = frames })
 
-frames_in_use : WorldStep (world (with_frames (Some 3 ∷ None ∷ Some 199 ∷ []) ∷ None ∷ with_frames (Some 0 ∷ []) ∷ [])) CountFrames (Frames 3 197) (world (with_frames (Some 3 ∷ None ∷ Some 199 ∷ []) ∷ None ∷ with_frames (Some 0 ∷ []) ∷ []))
+frames_in_use : WorldStep
+    (world (with_frames (Some 3 ∷ None ∷ Some 199 ∷ []) ∷ None ∷ with_frames (Some 0 ∷ []) ∷ []))
+    CountFrames (Frames 3 197)
+    (world (with_frames (Some 3 ∷ None ∷ Some 199 ∷ []) ∷ None ∷ with_frames (Some 0 ∷ []) ∷ []))
 frames_in_use = (refl, refl)
 
 -- ---- which frames are given: of five frames 0, 1 and 3 are out
@@ -162,7 +184,12 @@ below_5 (suc (suc (suc (suc (suc x))))) l = absurd (omega arith)
 
 -- first the least that isn't out, 2, then 4, and then there is none
 least_first : Gives 5 Out (Gave 2 ∷ Gave 4 ∷ GaveNoFrame ∷ [])
-least_first = (omega arith, two_is_not_out, below_2, (omega arith, four_is_not_out, below_4, (below_5, refl)))
+least_first = (
+  omega arith,
+  two_is_not_out,
+  below_2,
+  (omega arith, four_is_not_out, below_4, (below_5, refl)),
+)
 
 none_above_a_free_one : Gives 5 Out (Gave 4 ∷ []) → ⊥
 none_above_a_free_one g = two_is_not_out (g.2 2 (omega arith))

@@ -3,12 +3,14 @@ use Rattle.std.specs.Prelude.{◌≡◌, ℕ, ◌<◌, List, [], Option, None, l
 use Rattle.vb_model.specs.Limits.{page_size}
 use Rattle.vb_model.specs.Guest.{Guest, zero_page, frame_of}
 
--- The tables of frames and contents have an entry for each page, each page has its bytes, and a page without a frame has zeros.
+-- The tables of frames and contents have an entry for each page, each page has its bytes, and a
+-- page without a frame has zeros.
 pub record AreBlank (pages : ℕ) (frames : List (Option ℕ)) (contents : List (List ℕ)) : Type 0 where
   pub framed : length frames ≡ pages
   pub filled : length contents ≡ pages
   pub whole : (page : ℕ) → page < pages → length (slice_index_or contents page []) ≡ page_size
-  pub blank : (page : ℕ) → page < pages → frame_of frames page ≡ None → slice_index_or contents page [] ≡ zero_page
+  pub blank : (page : ℕ) → page < pages → frame_of frames page ≡ None
+      → slice_index_or contents page [] ≡ zero_page
 
 abbrev pub IsBlank : Guest → Type 0
 IsBlank g = AreBlank g.config.pages g.frames g.contents

@@ -1,10 +1,14 @@
--- What the crates above answer so far: which events, which queues, and devices of which pace. All that is left out is named here and nowhere else.
+-- What the crates above answer so far: which events, which queues, and devices of which pace. All
+-- that is left out is named here and nowhere else.
 use Rattle.std.specs.Prelude.{ℕ, Bool, true, false, not, nat_le}
 use Rattle.vb_model.specs.declared.layout.TheConstants.{DEFLATE_QUEUE}
 use Rattle.vb_model.specs.declared.calls.Call.{Call}
-use Rattle.vb_model.specs.declared.calls.Call.TheVariants.{Init, Alloc, Free, Read, Write, Inflate, Deflate, Oom, Reap, Take, Finish, Sweep, SetTarget}
+use Rattle.vb_model.specs.declared.calls.Call.TheVariants.{Init, Alloc, Free, Read, Write, Inflate}
+use Rattle.vb_model.specs.declared.calls.Call.TheVariants.{Deflate, Oom, Reap, Take, Finish, Sweep}
+use Rattle.vb_model.specs.declared.calls.Call.TheVariants.{SetTarget}
 use Rattle.vb_model.specs.declared.calls.Query.{Query}
-use Rattle.vb_model.specs.declared.calls.Query.TheVariants.{Places, PagesAt, PagesBallooned, Balloon, Backing}
+use Rattle.vb_model.specs.declared.calls.Query.TheVariants.{Places, PagesAt, PagesBallooned}
+use Rattle.vb_model.specs.declared.calls.Query.TheVariants.{Balloon, Backing}
 use Rattle.vb_model.specs.declared.calls.Event.{Event}
 use Rattle.vb_model.specs.declared.calls.Event.TheVariants.{Plug, Guest, Query as Asking, Frames}
 
@@ -39,7 +43,8 @@ is_brought (Asking guest query) = is_query_brought query
 is_brought Frames = true
 is_brought _ = false
 
--- Of the queues those of inflate and deflate requests; the others are answered as queues that don't exist, and no statistics buffer is made available.
+-- Of the queues those of inflate and deflate requests; the others are answered as queues that don't
+-- exist, and no statistics buffer is made available.
 abbrev pub is_queue_brought : ℕ → Bool
 is_queue_brought q = nat_le q DEFLATE_QUEUE
 

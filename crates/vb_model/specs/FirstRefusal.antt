@@ -1,5 +1,6 @@
 -- The first refusal whose condition holds.
-use Rattle.std.specs.Prelude.{Bool, List, [], ◌∷◌, if◌then◌else◌, Option, Some, None, Result, Ok, Err}
+use Rattle.std.specs.Prelude.{Bool, List, [], ◌∷◌, if◌then◌else◌, Option, Some, None, Result, Ok}
+use Rattle.std.specs.Prelude.{Err}
 use Rattle.vb_model.specs.declared.replies.Refusal.{Refusal}
 
 -- a condition, and what is answered where it holds and none before it does

@@ -1,6 +1,11 @@
--- Where queues and buffers stand in guest memory (profile); queues 0 to 2 are those of VIRTIO 1.1, 5.5.2.
+-- Where queues and buffers stand in guest memory (profile); queues 0 to 2 are those of VIRTIO 1.1,
+-- 5.5.2.
 use Rattle.std.specs.Prelude.{ℕ, ◌+◌, ◌*◌, ◌/◌, ◌%◌, ◌==◌, if◌then◌else◌}
-use Rattle.vb_model.specs.declared.layout.TheConstants.{INFLATE_QUEUE, DEFLATE_QUEUE, STATISTICS_QUEUE, INFLATE_RING_PAGE, DEFLATE_RING_PAGE, STATISTICS_RING_PAGE, REPORT_RING_PAGE, REQUEST_BUFFER_SIZE, INFLATE_BUFFERS_PAGE, DEFLATE_BUFFERS_PAGE}
+use Rattle.vb_model.specs.declared.layout.TheConstants.{INFLATE_QUEUE, DEFLATE_QUEUE}
+use Rattle.vb_model.specs.declared.layout.TheConstants.{STATISTICS_QUEUE, INFLATE_RING_PAGE}
+use Rattle.vb_model.specs.declared.layout.TheConstants.{DEFLATE_RING_PAGE, STATISTICS_RING_PAGE}
+use Rattle.vb_model.specs.declared.layout.TheConstants.{REPORT_RING_PAGE, REQUEST_BUFFER_SIZE}
+use Rattle.vb_model.specs.declared.layout.TheConstants.{INFLATE_BUFFERS_PAGE, DEFLATE_BUFFERS_PAGE}
 
 -- the page of a queue's ring
 abbrev pub ring_page : ℕ → ℕ

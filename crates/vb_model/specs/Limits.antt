@@ -1,7 +1,13 @@
 -- The bounds of src/limits.rt in the words of the definitions (profile).
 use Rattle.std.specs.Prelude.{ℕ, ◌^◌, Bool, ◌==◌, ◌&&◌, nat_le}
 use Rattle.std.specs.List.{list_any, range_with_len}
-use Rattle.vb_model.specs.declared.limits.TheConstants.{PAGE_SIZE, RESERVED_PAGES, RING_AND_BUFFER_PAGES, MAX_ORDER, MIN_REPORTED_ORDER, MAX_OUTSTANDING, MAX_REQUEST_PAGES, MAX_GUESTS, MIN_GUEST_PAGES, MAX_GUEST_PAGES, MIN_QUEUE_SIZE, MAX_QUEUE_SIZE, MAX_PROCESSORS, MAX_FRAMES}
+use Rattle.vb_model.specs.declared.limits.TheConstants.{PAGE_SIZE, RESERVED_PAGES}
+use Rattle.vb_model.specs.declared.limits.TheConstants.{RING_AND_BUFFER_PAGES, MAX_ORDER}
+use Rattle.vb_model.specs.declared.limits.TheConstants.{MIN_REPORTED_ORDER, MAX_OUTSTANDING}
+use Rattle.vb_model.specs.declared.limits.TheConstants.{MAX_REQUEST_PAGES, MAX_GUESTS}
+use Rattle.vb_model.specs.declared.limits.TheConstants.{MIN_GUEST_PAGES, MAX_GUEST_PAGES}
+use Rattle.vb_model.specs.declared.limits.TheConstants.{MIN_QUEUE_SIZE, MAX_QUEUE_SIZE}
+use Rattle.vb_model.specs.declared.limits.TheConstants.{MAX_PROCESSORS, MAX_FRAMES}
 
 abbrev pub page_size : ℕ
 page_size = PAGE_SIZE

@@ -1,5 +1,7 @@
--- What else holds of an honest guest: its requests are in order, its pages lie where they may, its status is one of three.
-use Rattle.std.specs.Prelude.{◌≡◌, ℕ, ◌<◌, ◌≤◌, Bool, true, false, List, [], ◌∷◌, length, nat_lt, min, ⊤, ◌⊎◌}
+-- What else holds of an honest guest: its requests are in order, its pages lie where they may, its
+-- status is one of three.
+use Rattle.std.specs.Prelude.{◌≡◌, ℕ, ◌<◌, ◌≤◌, Bool, true, false, List, [], ◌∷◌, length, nat_lt}
+use Rattle.std.specs.Prelude.{min, ⊤, ◌⊎◌}
 use Rattle.vb_model.specs.declared.places.Place.{Place}
 use Rattle.vb_model.specs.declared.places.Place.TheVariants.{Reserved}
 use Rattle.vb_model.specs.Limits.{reserved_pages, max_outstanding}
@@ -29,7 +31,8 @@ abbrev pub is_reserved : Place → Bool
 is_reserved Reserved = true
 is_reserved _ = false
 
-pub record IsInOrder (pages queue_size : ℕ) (places : List Place) (inflate deflate report : Requests) (status : ℕ) : Type 0 where
+pub record IsInOrder (pages queue_size : ℕ) (places : List Place)
+    (inflate deflate report : Requests) (status : ℕ) : Type 0 where
   pub inflating : AreOrderly (min queue_size max_outstanding) inflate
   pub deflating : AreOrderly (min queue_size max_outstanding) deflate
   pub reporting : AreOrderly 1 report
@@ -37,7 +40,9 @@ pub record IsInOrder (pages queue_size : ℕ) (places : List Place) (inflate def
   pub state : (status ≡ 0) ⊎ (status ≡ 15) ⊎ (status ≡ 131)
   -- each page has a place of its own, and just the first ones are reserved
   pub tabled : length places ≡ pages
-  pub unreserved : (page : ℕ) → page < pages → is_reserved (place_of places page) ≡ nat_lt page reserved_pages
+  pub unreserved : (page : ℕ) → page < pages
+      → is_reserved (place_of places page) ≡ nat_lt page reserved_pages
 
 abbrev pub IsOrderly : Guest → Type 0
-IsOrderly g = IsInOrder g.config.pages g.config.queue_size g.places g.inflate g.deflate g.report g.status
+IsOrderly g = IsInOrder g.config.pages g.config.queue_size g.places g.inflate g.deflate g.report
+    g.status

@@ -1,8 +1,12 @@
--- A device's status and the features that are agreed on: VIRTIO 1.1, 2.1, 2.2 and 3.1.1; which writes are refused and in what order they are tested is the profile's.
-use Rattle.std.specs.Prelude.{ℕ, Bool, not, ◌==◌, ◌&&◌, ◌||◌, nat_lt, List, [], ◌∷◌, if◌then◌else◌, Option, None, count_by, bit_and}
+-- A device's status and the features that are agreed on: VIRTIO 1.1, 2.1, 2.2 and 3.1.1; which
+-- writes are refused and in what order they are tested is the profile's.
+use Rattle.std.specs.Prelude.{ℕ, Bool, not, ◌==◌, ◌&&◌, ◌||◌, nat_lt, List, [], ◌∷◌, if◌then◌else◌}
+use Rattle.std.specs.Prelude.{Option, None, count_by, bit_and}
 use Rattle.std.specs.List.{list_any}
 use Rattle.vb_model.specs.declared.replies.Refusal.{Refusal}
-use Rattle.vb_model.specs.declared.replies.Refusal.TheVariants.{ClearsBit, OutOfOrder, FeatureNotOffered, MustTellMissing, VersionMissing}
+use Rattle.vb_model.specs.declared.replies.Refusal.TheVariants.{ClearsBit, OutOfOrder}
+use Rattle.vb_model.specs.declared.replies.Refusal.TheVariants.{FeatureNotOffered, MustTellMissing}
+use Rattle.vb_model.specs.declared.replies.Refusal.TheVariants.{VersionMissing}
 use Rattle.vb_model.specs.FirstRefusal.{Test, ◌⇒◌, first_refusal}
 use Rattle.vb_model.specs.Guest.{offered_features, must_tell_host, version_1}
 
@@ -72,7 +76,8 @@ is_out_of_order status write =
 
 -- ---- the rules
 
--- the features that FEATURES_OK asks for (VIRTIO 1.1, 2.2 and 6): MUST_TELL_HOST is the profile's demand, VERSION_1 that of VIRTIO 1.1, 6.1
+-- the features that FEATURES_OK asks for (VIRTIO 1.1, 2.2 and 6): MUST_TELL_HOST is the profile's
+-- demand, VERSION_1 that of VIRTIO 1.1, 6.1
 abbrev pub needed_tests : ℕ → List Test
 needed_tests negotiated =
     (not (must_tell_host negotiated) ⇒ MustTellMissing)
@@ -85,9 +90,11 @@ status_tests status negotiated write =
     ∷ (is_out_of_order status write ⇒ OutOfOrder)
     ∷ (if adds status write features_ok then needed_tests negotiated else [])
 
--- why a write of the status is refused, where it is, at these negotiated features; a write of 0 resets
+-- why a write of the status is refused, where it is, at these negotiated features; a write of 0
+-- resets
 abbrev pub status_refusal : ℕ → ℕ → ℕ → Option Refusal
-status_refusal status negotiated write = if write == 0 then None else first_refusal (status_tests status negotiated write)
+status_refusal status negotiated write =
+    if write == 0 then None else first_refusal (status_tests status negotiated write)
 
 abbrev pub negotiate_tests : ℕ → ℕ → List Test
 negotiate_tests status wanted =
@@ -95,6 +102,7 @@ negotiate_tests status wanted =
     ∷ (not (contains offered_features wanted) ⇒ FeatureNotOffered)
     ∷ []
 
--- why these features are refused, where they are: they are negotiated between DRIVER and FEATURES_OK
+-- why these features are refused, where they are: they are negotiated between DRIVER and
+-- FEATURES_OK
 abbrev pub negotiate_refusal : ℕ → ℕ → Option Refusal
 negotiate_refusal status wanted = first_refusal (negotiate_tests status wanted)

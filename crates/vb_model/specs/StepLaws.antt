@@ -1,10 +1,12 @@
 -- What one event may change: targets, configurations, other guests, frames; and who claims frames.
-use Rattle.std.specs.Prelude.{◌≡◌, ◌≢◌, ℕ, ◌<◌, true, false, List, [], Some, None, length, IsTrue, ◌⊎◌}
+use Rattle.std.specs.Prelude.{◌≡◌, ◌≢◌, ℕ, ◌<◌, true, false, List, [], Some, None, length, IsTrue}
+use Rattle.std.specs.Prelude.{◌⊎◌}
 use Rattle.vb_model.specs.declared.calls.Call.{Call}
 use Rattle.vb_model.specs.declared.calls.Call.TheVariants.{Init, Scribble, SetTarget}
 use Rattle.vb_model.specs.declared.calls.Claim.{Claim}
 use Rattle.vb_model.specs.declared.calls.Event.{Event}
-use Rattle.vb_model.specs.declared.calls.Event.TheVariants.{Unplug, Restart, Guest as OnGuest, Balance}
+use Rattle.vb_model.specs.declared.calls.Event.TheVariants.{Unplug, Restart, Guest as OnGuest}
+use Rattle.vb_model.specs.declared.calls.Event.TheVariants.{Balance}
 use Rattle.vb_model.specs.declared.replies.Refusal.{Refusal}
 use Rattle.vb_model.specs.declared.replies.Refusal.TheVariants.{NoFrame}
 use Rattle.vb_model.specs.declared.replies.Reply.{Reply}
@@ -19,7 +21,8 @@ use Rattle.vb_model.specs.Step.{HonestStep, GuestStep}
 use Rattle.vb_model.specs.World.{World, WorldStep, Backs, IsOut, guest_at}
 
 -- guest n is there before the event and after it
-pub record Follows (w : World) (event : Event) (reply : Reply) (v : World) (n : ℕ) (old new : Guest) : Type 0 where
+pub record Follows (w : World) (event : Event) (reply : Reply) (v : World) (n : ℕ) (old new : Guest)
+    : Type 0 where
   pub step : WorldStep w event reply v
   pub before : guest_at w.guests n ≡ Some old
   pub after : guest_at v.guests n ≡ Some new
@@ -33,68 +36,88 @@ pub record IsOfOthers (n : ℕ) (event : Event) : Type 0 where
 -- it leaves the guest as it was, but for a balance, which may set its target
 abbrev pub OthersAreUntouched : Type 0
 OthersAreUntouched =
-    (w : World) (event : Event) (reply : Reply) (v : World) (n : ℕ) (g : Guest) → WorldStep w event reply v → guest_at w.guests n ≡ Some g → IsOfOthers n event
-    → (guest_at v.guests n ≡ Some g) ⊎ ((floor target : ℕ) × (event ≡ Balance floor) × (guest_at v.guests n ≡ Some (record g { target = target })))
+    (w : World) (event : Event) (reply : Reply) (v : World) (n : ℕ) (g : Guest)
+    → WorldStep w event reply v → guest_at w.guests n ≡ Some g → IsOfOthers n event
+    → (guest_at v.guests n ≡ Some g)
+    ⊎ ((floor target : ℕ) × (event ≡ Balance floor)
+    × (guest_at v.guests n ≡ Some (record g { target = target })))
 
 -- a target changes by `target` and by a balance alone, and `target` sets it
 abbrev pub TargetsAreKept : Type 0
 TargetsAreKept =
-    (w : World) (event : Event) (reply : Reply) (v : World) (n : ℕ) (old new : Guest) → Follows w event reply v n old new
-    → ((target : ℕ) → event ≢ OnGuest n (SetTarget target)) → ((floor : ℕ) → event ≢ Balance floor) → new.target ≡ old.target
+    (w : World) (event : Event) (reply : Reply) (v : World) (n : ℕ) (old new : Guest)
+    → Follows w event reply v n old new
+    → ((target : ℕ) → event ≢ OnGuest n (SetTarget target)) → ((floor : ℕ) → event ≢ Balance floor)
+    → new.target ≡ old.target
 
 abbrev pub TargetsAreSet : Type 0
-TargetsAreSet = (w : World) (reply : Reply) (v : World) (n target : ℕ) (old new : Guest) → Follows w (OnGuest n (SetTarget target)) reply v n old new → new.target ≡ target
+TargetsAreSet = (w : World) (reply : Reply) (v : World) (n target : ℕ) (old new : Guest)
+    → Follows w (OnGuest n (SetTarget target)) reply v n old new → new.target ≡ target
 
 -- a configuration stays for all lives
 abbrev pub ConfigurationsAreKept : Type 0
-ConfigurationsAreKept = (w : World) (event : Event) (reply : Reply) (v : World) (n : ℕ) (old new : Guest) → Follows w event reply v n old new → new.config ≡ old.config
+ConfigurationsAreKept =
+    (w : World) (event : Event) (reply : Reply) (v : World) (n : ℕ) (old new : Guest)
+    → Follows w event reply v n old new → new.config ≡ old.config
 
 -- a restarted guest is honest and has no frame, and an unplugged one is gone with its frames
 abbrev pub HasNoFrame : World → ℕ → Type 0
 HasNoFrame w n = (page frame : ℕ) → ¬ Backs w n page frame
 
 abbrev pub FramesGoBack : Type 0
-FramesGoBack = (w : World) (event : Event) (reply : Reply) (v : World) (n : ℕ) → WorldStep w event reply v → (event ≡ Restart n) ⊎ (event ≡ Unplug n) → HasNoFrame v n
+FramesGoBack = (w : World) (event : Event) (reply : Reply) (v : World) (n : ℕ)
+    → WorldStep w event reply v → (event ≡ Restart n) ⊎ (event ≡ Unplug n) → HasNoFrame v n
 
 abbrev pub RestartedAreHonest : Type 0
-RestartedAreHonest = (w : World) (reply : Reply) (v : World) (n : ℕ) (old new : Guest) → Follows w (Restart n) reply v n old new → new.rogue ≡ false
+RestartedAreHonest = (w : World) (reply : Reply) (v : World) (n : ℕ) (old new : Guest)
+    → Follows w (Restart n) reply v n old new → new.rogue ≡ false
 
 -- a guest turns rogue by a scribble of its own that is done, and stays so until a restart
 abbrev pub RoguesAreMade : Type 0
 RoguesAreMade =
-    (w : World) (event : Event) (reply : Reply) (v : World) (n : ℕ) (old new : Guest) → Follows w event reply v n old new
-    → ((page offset : ℕ) (bytes : List ℕ) → event ≢ OnGuest n (Scribble page offset bytes)) → old.rogue ≡ false → new.rogue ≡ false
+    (w : World) (event : Event) (reply : Reply) (v : World) (n : ℕ) (old new : Guest)
+    → Follows w event reply v n old new
+    → ((page offset : ℕ) (bytes : List ℕ) → event ≢ OnGuest n (Scribble page offset bytes))
+    → old.rogue ≡ false → new.rogue ≡ false
 
 abbrev pub ScribblesMakeRogues : Type 0
 ScribblesMakeRogues =
-    (w : World) (v : World) (n page offset : ℕ) (bytes : List ℕ) (old new : Guest) → Follows w (OnGuest n (Scribble page offset bytes)) Done v n old new
+    (w : World) (v : World) (n page offset : ℕ) (bytes : List ℕ) (old new : Guest)
+    → Follows w (OnGuest n (Scribble page offset bytes)) Done v n old new
     → old.rogue ≡ false → new.rogue ≡ true
 
 abbrev pub RoguesStay : Type 0
 RoguesStay =
-    (w : World) (event : Event) (reply : Reply) (v : World) (n : ℕ) (old new : Guest) → Follows w event reply v n old new
+    (w : World) (event : Event) (reply : Reply) (v : World) (n : ℕ) (old new : Guest)
+    → Follows w event reply v n old new
     → event ≢ Restart n → old.rogue ≡ true → new.rogue ≡ true
 
 -- a page's frame is the one that it had, or one that the call's claims were given
 abbrev pub FramesEnterByClaims : Type 0
 FramesEnterByClaims =
-    (g : Guest) (call : Call) (claims : List Claim) (reply : Reply) (new : Guest) → GuestStep g call claims reply new
-    → (page frame : ℕ) → frame_of new.frames page ≡ Some frame → (frame_of g.frames page ≡ Some frame) ⊎ IsTrue (is_in frame (given claims))
+    (g : Guest) (call : Call) (claims : List Claim) (reply : Reply) (new : Guest)
+    → GuestStep g call claims reply new
+    → (page frame : ℕ) → frame_of new.frames page ≡ Some frame
+    → (frame_of g.frames page ≡ Some frame) ⊎ IsTrue (is_in frame (given claims))
 
 -- a claim that is refused is the reply, and then no frame enters or leaves
 abbrev pub RefusedClaimsAreAnswered : Type 0
 RefusedClaimsAreAnswered =
-    (g : Guest) (call : Call) (claims : List Claim) (reply : Reply) (new : Guest) (refusal : Refusal) → GuestStep g call claims reply new
+    (g : Guest) (call : Call) (claims : List Claim) (reply : Reply) (new : Guest)
+    (refusal : Refusal) → GuestStep g call claims reply new
     → claim_refusal claims ≡ Some refusal → (reply ≡ Refused refusal) × (new.frames ≡ g.frames)
 
 -- a call claims no frame, or one for each page that it may need; none of these has a frame
 abbrev pub ClaimsAreNeeded : Type 0
-ClaimsAreNeeded = (g : Guest) (call : Call) (claims : List Claim) (reply : Reply) (new : Guest) → GuestStep g call claims reply new → (claims ≡ []) ⊎ AreClaimsFor (may_need call g) claims
+ClaimsAreNeeded = (g : Guest) (call : Call) (claims : List Claim) (reply : Reply) (new : Guest)
+    → GuestStep g call claims reply new → (claims ≡ []) ⊎ AreClaimsFor (may_need call g) claims
 
 abbrev pub NeededPagesAreBare : Type 0
-NeededPagesAreBare = (g : Guest) (call : Call) (page : ℕ) → IsTrue (is_in page (may_need call g)) → frame_of g.frames page ≡ None
+NeededPagesAreBare = (g : Guest) (call : Call) (page : ℕ) → IsTrue (is_in page (may_need call g))
+    → frame_of g.frames page ≡ None
 
--- fewer frames are not out than are needed: those that are not went to earlier claims of the same call
+-- fewer frames are not out than are needed: those that are not went to earlier claims of the same
+-- call
 pub record WantOfFrames (w : World) (pages : List ℕ) : Type 0 where
   pub claimed : List ℕ
   pub fewer : length claimed < length pages
@@ -102,21 +125,29 @@ pub record WantOfFrames (w : World) (pages : List ℕ) : Type 0 where
 
 abbrev pub NoFrameIsExact : Type 0
 NoFrameIsExact =
-    (w v : World) (n : ℕ) (call : Call) (g : Guest) → guest_at w.guests n ≡ Some g → WorldStep w (OnGuest n call) (Refused NoFrame) v → WantOfFrames w (may_need call g)
+    (w v : World) (n : ℕ) (call : Call) (g : Guest) → guest_at w.guests n ≡ Some g
+    → WorldStep w (OnGuest n call) (Refused NoFrame) v → WantOfFrames w (may_need call g)
 
 -- no reserved page is ballooned
 abbrev pub HasNoReservedBallooned : Guest → Type 0
-HasNoReservedBallooned g = (page : ℕ) → page < reserved_pages → is_ballooned g.ballooned page ≡ false
+HasNoReservedBallooned g = (page : ℕ) → page < reserved_pages
+    → is_ballooned g.ballooned page ≡ false
 
--- a refusal leaves an honest guest as it was, or its driver has given up since the features were refused
+-- a refusal leaves an honest guest as it was, or its driver has given up since the features were
+-- refused
 abbrev pub IsUnchanged : Call → Refusal → Guest → Guest → Type 0
-IsUnchanged call refusal g new = (new ≡ g) ⊎ ((wanted : ℕ) × (call ≡ Init wanted) × (feature_refusal wanted ≡ Some refusal) × (new.status ≡ 131))
+IsUnchanged call refusal g new =
+    (new ≡ g) ⊎ ((wanted : ℕ) × (call ≡ Init wanted) × (feature_refusal wanted ≡ Some refusal)
+    × (new.status ≡ 131))
 
 abbrev pub RefusalsChangeNothing : Type 0
 RefusalsChangeNothing =
-    (g : Guest) (call : Call) (claims : List Claim) (refusal : Refusal) (new : Guest) → HonestStep g call claims (Refused refusal) new → IsUnchanged call refusal g new
+    (g : Guest) (call : Call) (claims : List Claim) (refusal : Refusal) (new : Guest)
+    → HonestStep g call claims (Refused refusal) new → IsUnchanged call refusal g new
 
 -- and a refused event of the host leaves the world as it was
 abbrev pub RefusedEventsChangeNothing : Type 0
 RefusedEventsChangeNothing =
-    (w : World) (event : Event) (refusal : Refusal) (v : World) → ((n : ℕ) (call : Call) → event ≢ OnGuest n call) → WorldStep w event (Refused refusal) v → v ≡ w
+    (w : World) (event : Event) (refusal : Refusal) (v : World)
+    → ((n : ℕ) (call : Call) → event ≢ OnGuest n call) → WorldStep w event (Refused refusal) v
+    → v ≡ w

@@ -1,20 +1,29 @@
--- How many pages the driver's calls move, and what each call is refused for, in the order in which it is tested (profile).
+-- How many pages the driver's calls move, and what each call is refused for, in the order in which
+-- it is tested (profile).
 -- Both stand here once, over plain values; a guest, a driver and a device each put in their own.
-use Rattle.std.specs.Prelude.{ℕ, ◌+◌, ◌-◌, Bool, false, not, ◌==◌, ◌&&◌, ◌||◌, nat_lt, nat_le, List, [], ◌∷◌, length, if◌then◌else◌, Option, Some, None, is_some, is_none, min, max, count_by, take}
+use Rattle.std.specs.Prelude.{ℕ, ◌+◌, ◌-◌, Bool, false, not, ◌==◌, ◌&&◌, ◌||◌, nat_lt, nat_le, List}
+use Rattle.std.specs.Prelude.{[], ◌∷◌, length, if◌then◌else◌, Option, Some, None, is_some, is_none}
+use Rattle.std.specs.Prelude.{min, max, count_by, take}
 use Rattle.std.specs.List.{list_any, range_with_len}
-use Rattle.vb_model.specs.declared.layout.TheConstants.{DEFLATE_QUEUE, STATISTICS_QUEUE, REPORT_QUEUE}
+use Rattle.vb_model.specs.declared.layout.TheConstants.{DEFLATE_QUEUE, STATISTICS_QUEUE}
+use Rattle.vb_model.specs.declared.layout.TheConstants.{REPORT_QUEUE}
 use Rattle.vb_model.specs.declared.places.Place.{Place}
-use Rattle.vb_model.specs.declared.replies.Refusal.TheVariants.{BadOrder, BadCpu, NoPages, NotHeld, NotReady, NeedsReset, QueueFull, Nothing, NoFeature, NoQueue, Busy, NotTaken, NotWorked, NotBallooned}
+use Rattle.vb_model.specs.declared.replies.Refusal.TheVariants.{BadOrder, BadCpu, NoPages, NotHeld}
+use Rattle.vb_model.specs.declared.replies.Refusal.TheVariants.{NotReady, NeedsReset, QueueFull}
+use Rattle.vb_model.specs.declared.replies.Refusal.TheVariants.{Nothing, NoFeature, NoQueue, Busy}
+use Rattle.vb_model.specs.declared.replies.Refusal.TheVariants.{NotTaken, NotWorked, NotBallooned}
 use Rattle.vb_model.specs.Limits.{max_order, max_outstanding, max_request_pages}
 use Rattle.vb_model.specs.Tests.{pages_where}
-use Rattle.vb_model.specs.Pages.{Block, block_at, is_free, is_giving, is_lent, is_stranded, is_wholly_free, is_same_block}
+use Rattle.vb_model.specs.Pages.{Block, block_at, is_free, is_giving, is_lent, is_stranded}
+use Rattle.vb_model.specs.Pages.{is_wholly_free, is_same_block}
 use Rattle.vb_model.specs.Requests.{Request, kind_of_queue}
 use Rattle.vb_model.specs.Guest.{stats_vq, reporting}
 use Rattle.vb_model.specs.Brought.{is_queue_brought}
 use Rattle.vb_model.specs.FirstRefusal.{Test, ◌⇒◌}
 use Rattle.vb_model.specs.Status.{contains, driver_ok, needs_reset, failed, is_broken}
 
--- ---- the numbers of pages that the driver's calls move, at most `n` and at most those of a request
+-- ---- the numbers of pages that the driver's calls move, at most `n` and at most those of a
+-- request
 
 -- an inflate offers the stranded pages, and others up to the target
 abbrev pub pages_to_offer : List Place → ℕ → ℕ → ℕ
@@ -69,7 +78,9 @@ has_chains q = is_queue_of_requests q || ((q == STATISTICS_QUEUE) && is_queue_br
 
 -- the queue stands or falls with a feature that wasn't negotiated
 abbrev pub lacks_feature : ℕ → ℕ → Bool
-lacks_feature features q = (q == STATISTICS_QUEUE) && not (stats_vq features) || (q == REPORT_QUEUE) && not (reporting features)
+lacks_feature features q =
+    (q == STATISTICS_QUEUE) && not (stats_vq features) || (q == REPORT_QUEUE)
+    && not (reporting features)
 
 -- of a queue so many chains may be taken at a time
 abbrev pub most_taken : ℕ → ℕ
@@ -83,7 +94,8 @@ has_unvisited (Some r) = nat_lt r.visited (length r.pages)
 
 -- no block of the order is wholly free
 abbrev pub no_block_free : List Place → ℕ → ℕ → Bool
-no_block_free places pages order = not (list_any (λ start. is_wholly_free places (block_at start order)) (range_with_len 0 pages))
+no_block_free places pages order =
+    not (list_any (λ start. is_wholly_free places (block_at start order)) (range_with_len 0 pages))
 
 abbrev pub is_among : Block → List Block → Bool
 is_among b held = list_any (λ h. is_same_block h b) held
@@ -102,7 +114,8 @@ free_tests held processors cpu b =
     ∷ (not (is_among b held) ⇒ NotHeld)
     ∷ []
 
--- ---- the driver's requests: how many are outstanding, how many may be, and how many pages or blocks a new one would name
+-- ---- the driver's requests: how many are outstanding, how many may be, and how many pages or
+-- blocks a new one would name
 
 abbrev pub request_tests : ℕ → ℕ → ℕ → List Test
 request_tests outstanding most count =
@@ -112,7 +125,8 @@ request_tests outstanding most count =
 
 -- inflate and deflate
 abbrev pub asking_tests : ℕ → ℕ → ℕ → ℕ → List Test
-asking_tests status outstanding most count = (not (is_up status) ⇒ NotReady) ∷ request_tests outstanding most count
+asking_tests status outstanding most count =
+    (not (is_up status) ⇒ NotReady) ∷ request_tests outstanding most count
 
 -- oom and report, which stand or fall with a feature
 abbrev pub featured_tests : ℕ → Bool → ℕ → ℕ → ℕ → List Test

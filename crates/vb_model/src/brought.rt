@@ -1,7 +1,8 @@
 //! What is answered so far: which events, and devices of which pace.
 
 ghost use Rattle.std.specs.Prelude.{◌≡◌};
-ghost use Rattle.vb_model.specs.Brought.{is_call_brought, is_query_brought, is_brought, is_pace_brought};
+ghost use Rattle.vb_model.specs.Brought.{is_call_brought, is_query_brought, is_brought};
+ghost use Rattle.vb_model.specs.Brought.{is_pace_brought};
 
 use crate::calls::{Call, Event, Query};
 

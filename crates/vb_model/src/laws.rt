@@ -6,12 +6,20 @@ ghost use Rattle.vb_model.specs.Safe.{Safe, IsHonest};
 ghost use Rattle.vb_model.specs.Consistent.{IsConsistent};
 ghost use Rattle.vb_model.specs.Orderly.{IsOrderly};
 ghost use Rattle.vb_model.specs.Blank.{IsBlank};
-ghost use Rattle.vb_model.specs.StepLaws.{OthersAreUntouched, TargetsAreKept, TargetsAreSet, ConfigurationsAreKept, FramesGoBack, RestartedAreHonest, RoguesAreMade, ScribblesMakeRogues, RoguesStay, FramesEnterByClaims, RefusedClaimsAreAnswered, ClaimsAreNeeded, NeededPagesAreBare, NoFrameIsExact, HasNoReservedBallooned, RefusalsChangeNothing, RefusedEventsChangeNothing};
+ghost use Rattle.vb_model.specs.StepLaws.{OthersAreUntouched, TargetsAreKept, TargetsAreSet};
+ghost use Rattle.vb_model.specs.StepLaws.{ConfigurationsAreKept, FramesGoBack, RestartedAreHonest};
+ghost use Rattle.vb_model.specs.StepLaws.{RoguesAreMade, ScribblesMakeRogues, RoguesStay};
+ghost use Rattle.vb_model.specs.StepLaws.{FramesEnterByClaims, RefusedClaimsAreAnswered};
+ghost use Rattle.vb_model.specs.StepLaws.{ClaimsAreNeeded, NeededPagesAreBare, NoFrameIsExact};
+ghost use Rattle.vb_model.specs.StepLaws.{HasNoReservedBallooned, RefusalsChangeNothing};
+ghost use Rattle.vb_model.specs.StepLaws.{RefusedEventsChangeNothing};
 ghost use Rattle.vb_model.specs.Determined.{HonestStepsAgree};
 ghost use Rattle.vb_model.specs.GuestRun.{InOneLife, Alone};
 ghost use Rattle.vb_model.specs.declared.calls.Event.{Event};
 ghost use Rattle.vb_model.specs.declared.replies.Reply.{Reply};
-ghost use Rattle.vb_model.specs.declared.replies.Reply.TheVariants.{Plugged, Ready, Page, Done, Posted, Taken, Finished, Reaped};
+ghost use Rattle.vb_model.specs.declared.replies.Reply.TheVariants.{Plugged, Ready, Page, Done};
+ghost use Rattle.vb_model.specs.declared.replies.Reply.TheVariants.{Posted, Taken, Finished};
+ghost use Rattle.vb_model.specs.declared.replies.Reply.TheVariants.{Reaped};
 ghost use Rattle.vb_model.specs.Guest.{Guest};
 ghost use Rattle.vb_model.specs.World.{World, guest_at};
 
@@ -24,25 +32,29 @@ pub fn every_run_is_safe()
 /// each giving, taking or reporting page is named by one request of the kind, and no other page is;
 /// a page is ballooned where it is lent, or named by a used inflate or by a deflate on its way.
 pub fn honest_guests_are_consistent()
-    ensures consistent { (frames : ℕ) (spares : List Bool) (h : History) → Run frames spares h → (n i : ℕ) (g : Guest) → IsHonest h n i g → IsConsistent g }
+    ensures consistent { (frames : ℕ) (spares : List Bool) (h : History) → Run frames spares h
+        → (n i : ℕ) (g : Guest) → IsHonest h n i g → IsConsistent g }
 {}
 
 /// In every state of a run an honest guest is in order: requests of one kind have different heads
 /// and distinct pages, no more pages are visited than named, no more requests are outstanding than
 /// may be, just the first pages are reserved, and the status is 0, 15 or 131.
 pub fn honest_guests_are_in_order()
-    ensures orderly { (frames : ℕ) (spares : List Bool) (h : History) → Run frames spares h → (n i : ℕ) (g : Guest) → IsHonest h n i g → IsOrderly g }
+    ensures orderly { (frames : ℕ) (spares : List Bool) (h : History) → Run frames spares h
+        → (n i : ℕ) (g : Guest) → IsHonest h n i g → IsOrderly g }
 {}
 
 /// In every state of a run each page of an honest guest has its 4096 bytes, and one that has no
 /// frame holds zeros.
 pub fn pages_without_frames_are_blank()
-    ensures blank { (frames : ℕ) (spares : List Bool) (h : History) → Run frames spares h → (n i : ℕ) (g : Guest) → IsHonest h n i g → IsBlank g }
+    ensures blank { (frames : ℕ) (spares : List Bool) (h : History) → Run frames spares h
+        → (n i : ℕ) (g : Guest) → IsHonest h n i g → IsBlank g }
 {}
 
 /// In every state of a run no reserved page of a guest is ballooned, be it honest or rogue.
 pub fn reserved_pages_are_never_ballooned()
-    ensures reserved { (frames : ℕ) (spares : List Bool) (h : History) → Run frames spares h → (n i : ℕ) (g : Guest) → guest_in h n i ≡ Some g → HasNoReservedBallooned g }
+    ensures reserved { (frames : ℕ) (spares : List Bool) (h : History) → Run frames spares h
+        → (n i : ℕ) (g : Guest) → guest_in h n i ≡ Some g → HasNoReservedBallooned g }
 {}
 
 /// The target of a guest, honest or rogue, changes by `target` and by a balance alone, in a new life
@@ -111,14 +123,17 @@ pub fn refusals_change_nothing()
 /// Within one life of an honest guest its calls and their replies are a run of its own: of other
 /// guests it sees only which frames its claims get, and new targets.
 pub fn a_guest_runs_alone()
-    ensures alone { (n : ℕ) (w : World) (events : List Event) (replies : List Reply) (after : List World) (g new : Guest)
+    ensures alone { (n : ℕ) (w : World) (events : List Event) (replies : List Reply)
+        (after : List World) (g new : Guest)
         → Steps w events replies after → InOneLife n events → guest_at w.guests n ≡ Some g
-        → guest_at (last_world w after).guests n ≡ Some new → new.rogue ≡ false → Alone n w events replies after g new }
+        → guest_at (last_world w after).guests n ≡ Some new → new.rogue ≡ false
+        → Alone n w events replies after g new }
 {}
 
 /// A run that is one, so that what is promised of runs is promised of something: a guest is plugged
 /// in and initialised, writes to a page of its own, and gives four pages to the host.
 pub fn a_run_is_there()
     ensures run { (h : History) × Run 64 (false ∷ []) h
-        × (h.replies ≡ Plugged 0 ∷ Ready ∷ Page 16 ∷ Done ∷ Done ∷ Posted 0 4 ∷ Taken 0 ∷ Finished 0 ∷ Reaped 0 4 ∷ []) }
+        × (h.replies ≡ Plugged 0 ∷ Ready ∷ Page 16 ∷ Done ∷ Done ∷ Posted 0 4 ∷ Taken 0 ∷ Finished 0
+        ∷ Reaped 0 4 ∷ []) }
 {}

@@ -1,5 +1,6 @@
 -- Multiples of a number, and of powers of two.
-use Rattle.std.proofs.Common.{◌≡◌, ℕ, suc, ◌+◌, ◌-◌, ◌*◌, ◌/◌, ◌%◌, ◌^◌, ◌<◌, ◌≤◌, inl, inr, sym, ◌∙◌, ap, arith}
+use Rattle.std.proofs.Common.{◌≡◌, ℕ, suc, ◌+◌, ◌-◌, ◌*◌, ◌/◌, ◌%◌, ◌^◌, ◌<◌, ◌≤◌, inl, inr, sym}
+use Rattle.std.proofs.Common.{◌∙◌, ap, arith}
 use Rattle.std.proofs.lemmas.Nat.{div-add-mod', mod-mul-add, mul-le, pow-add, pow_pos}
 use Rattle.std.proofs.lemmas.Bool.{cases_lt}
 use Rattle.std.proofs.Math.Nat.{mul_assoc}
@@ -9,14 +10,16 @@ multiple_of : (a m : ℕ) → a % m ≡ 0 → (a / m) * m ≡ a
 multiple_of a m h = omega (arith, div-add-mod' a m, h)
 
 pub zero_mod : (x m : ℕ) → 0 < m → (x * m) % m ≡ 0
-zero_mod x m h = let e : x * m ≡ x * m + 0 = omega arith in ap (λ (n : ℕ). n % m) e ∙ mod-mul-add x m 0 h
+zero_mod x m h = let e : x * m ≡ x * m + 0 = omega arith in
+    ap (λ (n : ℕ). n % m) e ∙ mod-mul-add x m 0 h
 
 -- the next multiple
 pub aligned_step : (a e m : ℕ) → a % m ≡ 0 → e % m ≡ 0 → a < e → a + m ≤ e
 aligned_step a e m ha he h =
     elim (cases_lt (a / m) (e / m)) [
       | inl lt ↦
-          let b : suc (a / m) * m ≤ (e / m) * m = mul-le (suc (a / m)) m (e / m) m lt (omega arith) in
+          let b : suc (a / m) * m ≤ (e / m) * m =
+          mul-le (suc (a / m)) m (e / m) m lt (omega arith) in
           let x = multiple_of a m ha in
           let y = multiple_of e m he in
           let z : suc (a / m) * m ≡ (a / m) * m + m = omega arith in
@@ -27,7 +30,8 @@ aligned_step a e m ha he h =
     ]
 
 -- two multiples less than one step apart
-pub aligned_same : (a b m p : ℕ) → a % m ≡ 0 → b % m ≡ 0 → a ≤ p → p < a + m → b ≤ p → p < b + m → a ≡ b
+pub aligned_same : (a b m p : ℕ) → a % m ≡ 0 → b % m ≡ 0 → a ≤ p → p < a + m → b ≤ p → p < b + m
+    → a ≡ b
 aligned_same a b m p ha hb al ah bl bh =
     elim (cases_lt a b) [
       | inl lt ↦ absurd (omega (arith, aligned_step a b m ha hb lt))
@@ -45,7 +49,8 @@ aligned_add a b m pos ha hb =
 
 aligned_mul : (x b m : ℕ) → 0 < m → b % m ≡ 0 → (x * b) % m ≡ 0
 aligned_mul x b m pos hb =
-    let e : x * b ≡ (x * (b / m)) * m = ap (λ (n : ℕ). x * n) (sym (multiple_of b m hb)) ∙ sym (mul_assoc x (b / m) m) in
+    let e : x * b ≡ (x * (b / m)) * m =
+    ap (λ (n : ℕ). x * n) (sym (multiple_of b m hb)) ∙ sym (mul_assoc x (b / m) m) in
     ap (λ (n : ℕ). n % m) e ∙ zero_mod (x * (b / m)) m pos
 
 pub pow_aligned : (j k : ℕ) → j ≤ k → (2 ^ k) % 2 ^ j ≡ 0
@@ -57,14 +62,18 @@ pow_aligned j k h =
 -- a multiple of a power is one of the lower powers too
 pub aligned_down : (s j k : ℕ) → j ≤ k → s % 2 ^ k ≡ 0 → s % 2 ^ j ≡ 0
 aligned_down s j k h e =
-    let m : (s / 2 ^ k * 2 ^ k) % 2 ^ j ≡ 0 = aligned_mul (s / 2 ^ k) (2 ^ k) (2 ^ j) (pow_pos j) (pow_aligned j k h) in
+    let m : (s / 2 ^ k * 2 ^ k) % 2 ^ j ≡ 0 =
+    aligned_mul (s / 2 ^ k) (2 ^ k) (2 ^ j) (pow_pos j) (pow_aligned j k h) in
     ap (λ (i : ℕ). i % 2 ^ j) (sym (multiple_of s (2 ^ k) e)) ∙ m
 
 pub end_aligned : (s j k : ℕ) → j ≤ k → s % 2 ^ k ≡ 0 → (s + 2 ^ k) % 2 ^ j ≡ 0
-end_aligned s j k h e = aligned_add s (2 ^ k) (2 ^ j) (pow_pos j) (aligned_down s j k h e) (pow_aligned j k h)
+end_aligned s j k h e =
+    aligned_add s (2 ^ k) (2 ^ j) (pow_pos j) (aligned_down s j k h e) (pow_aligned j k h)
 
 pub pow_twice : (j : ℕ) → 2 ^ suc j ≡ 2 ^ j + 2 ^ j
-pow_twice j = let e : 2 ^ (1 + j) ≡ 2 ^ 1 * 2 ^ j = pow-add 2 1 j in let n : suc j ≡ 1 + j = omega arith in ap (λ (i : ℕ). 2 ^ i) n ∙ (e ∙ (let w : 2 ^ 1 * 2 ^ j ≡ 2 ^ j + 2 ^ j = omega arith in w))
+pow_twice j = let e : 2 ^ (1 + j) ≡ 2 ^ 1 * 2 ^ j = pow-add 2 1 j in
+    let n : suc j ≡ 1 + j = omega arith in
+    ap (λ (i : ℕ). 2 ^ i) n ∙ (e ∙ (let w : 2 ^ 1 * 2 ^ j ≡ 2 ^ j + 2 ^ j = omega arith in w))
 
 -- the start of the aligned block in which a page lies
 pub floor_aligned : (p m : ℕ) → 0 < m → (p - p % m) % m ≡ 0
@@ -79,7 +88,8 @@ right_half s k a b =
     let pos : 0 < 2 ^ k = pow_pos k in
     omega (arith, aligned_step s (s + 2 ^ k) (2 ^ suc k) a b (omega arith))
 
-pub left_of : (s k : ℕ) → s % 2 ^ k ≡ 0 → (s % 2 ^ suc k ≡ 0 → ⊥) → (2 ^ k ≤ s) × ((s - 2 ^ k) % 2 ^ suc k ≡ 0)
+pub left_of : (s k : ℕ) → s % 2 ^ k ≡ 0 → (s % 2 ^ suc k ≡ 0 → ⊥)
+    → (2 ^ k ≤ s) × ((s - 2 ^ k) % 2 ^ suc k ≡ 0)
 left_of s k a n =
     let m = 2 ^ k in
     let q = s - s % 2 ^ suc k in
@@ -90,7 +100,8 @@ left_of s k a n =
     let qd : q % 2 ^ k ≡ 0 = aligned_down q k (suc k) (omega arith) qa in
     let step : q + 2 ^ k ≤ s = aligned_step q s (2 ^ k) qd a (omega arith) in
     let qe : (q + 2 ^ k) % 2 ^ k ≡ 0 = end_aligned q k k (omega arith) qd in
-    let same : q + 2 ^ k ≡ s = aligned_same (q + 2 ^ k) s (2 ^ k) s qe a step (omega arith) (omega arith) (omega arith) in
+    let same : q + 2 ^ k ≡ s =
+    aligned_same (q + 2 ^ k) s (2 ^ k) s qe a step (omega arith) (omega arith) (omega arith) in
     let e : s - 2 ^ k ≡ q = omega (arith, same) in
     (omega (arith, same), ap (λ (x : ℕ). x % 2 ^ suc k) e ∙ qa)
 

@@ -1,5 +1,6 @@
 -- The areas as a set: counts, the lowest maximal block, and all pages but the reserved ones.
-use Rattle.std.proofs.Common.{◌≡◌, ℕ, suc, ◌+◌, ◌^◌, ◌<◌, ◌≤◌, Bool, true, false, List, [], ◌∷◌, length, Option, Some, None, replicate, refl, sym, ◌∙◌, ap, arith}
+use Rattle.std.proofs.Common.{◌≡◌, ℕ, suc, ◌+◌, ◌^◌, ◌<◌, ◌≤◌, Bool, true, false, List, [], ◌∷◌}
+use Rattle.std.proofs.Common.{length, Option, Some, None, replicate, refl, sym, ◌∙◌, ap, arith}
 use Rattle.std.specs.Prelude.{count_by, nat_le}
 use Rattle.std.proofs.lemmas.List.{length-replicate}
 use Rattle.std.proofs.lemmas.List.FromFn.{get_or-map-range_with_len, length-map-range_with_len}
@@ -9,26 +10,34 @@ use Rattle.vb_model.specs.Tests.{one_if}
 use Rattle.vb_model.specs.Pages.{pages_of}
 use Rattle.vb_model.proofs.Tables.{count_by-cons}
 use Rattle.vb_pages.specs.declared.block.FreeBlock.{FreeBlock}
-use Rattle.vb_pages.specs.Areas.{has, with_pages, without_pages, unreserved, block_at, LiesIn, LiesOutside, IsMaximal, IsChosen, IsLowestFrom}
+use Rattle.vb_pages.specs.Areas.{has, with_pages, without_pages, unreserved, block_at, LiesIn}
+use Rattle.vb_pages.specs.Areas.{LiesOutside, IsMaximal, IsChosen, IsLowestFrom}
 use Rattle.vb_pages.specs.Tiles.{set_of, IsTiled, IsLowestListed}
 use Rattle.vb_pages.proofs.Sets.{same_sets, is_inside, count_range, count_without}
 use Rattle.vb_pages.proofs.TilesLemmas.{length-set_of, listed_maximal, maximal_listed, none_set}
 
-pub count_with_block : (s k : ℕ) (set : List Bool) → s + 2 ^ k ≤ length set → LiesOutside set (block_at s k) → count_by (λ f. f) (with_pages (pages_of (block_at s k)) set) ≡ count_by (λ f. f) set + 2 ^ k
+pub count_with_block : (s k : ℕ) (set : List Bool) → s + 2 ^ k ≤ length set
+    → LiesOutside set (block_at s k)
+    → count_by (λ f. f) (with_pages (pages_of (block_at s k)) set) ≡ count_by (λ f. f) set + 2 ^ k
 count_with_block s k set fits outside = count_range (2 ^ k) s set fits outside
 
-pub count_without_block : (s k : ℕ) (set : List Bool) → LiesIn set (block_at s k) → count_by (λ f. f) set ≡ count_by (λ f. f) (without_pages (pages_of (block_at s k)) set) + 2 ^ k
+pub count_without_block : (s k : ℕ) (set : List Bool) → LiesIn set (block_at s k)
+    → count_by (λ f. f) set
+    ≡ count_by (λ f. f) (without_pages (pages_of (block_at s k)) set) + 2 ^ k
 count_without_block s k set inside = count_without s k set inside
 
 -- the pages that a request of the order gets are in the set
-pub taken_inside : (set : List Bool) (s j k : ℕ) → IsChosen set j (block_at s k) → LiesIn set (block_at s j)
+pub taken_inside : (set : List Bool) (s j k : ℕ) → IsChosen set j (block_at s k)
+    → LiesIn set (block_at s j)
 taken_inside set s j k chosen p l h =
     let m : 2 ^ j ≤ 2 ^ k = pow_mono chosen.sufficient in
     chosen.maximal.inside p l (omega (arith, m))
 
 pub count_zero : (set : List Bool) → ((p : ℕ) → has set p ≡ false) → count_by (λ f. f) set ≡ 0
 count_zero [] h = refl
-count_zero (x ∷ xs) h = count_by-cons (λ f. f) x xs ∙ (let e : one_if x ≡ 0 = ap one_if (h 0) in omega (arith, e, count_zero xs (λ p. h (suc p))))
+count_zero (x ∷ xs) h =
+    count_by-cons (λ f. f) x xs
+    ∙ (let e : one_if x ≡ 0 = ap one_if (h 0) in omega (arith, e, count_zero xs (λ p. h (suc p))))
 
 pub count_none : (n : ℕ) → n ≤ 16384 → count_by (λ f. f) (set_of (replicate n None)) ≡ 0
 count_none n h = count_zero (set_of (replicate n None)) (λ p. none_set n p h)
@@ -38,16 +47,22 @@ length-none_set n = length-set_of (replicate n None) ∙ length-replicate {A = O
 
 -- ---- the lowest maximal block
 
-pub lowest_is : (t : List (Option ℕ)) (order from : ℕ) (b : FreeBlock) → IsTiled t → IsLowestListed t order from (Some b) → IsLowestFrom (set_of t) order from (block_at b.start b.order)
+pub lowest_is : (t : List (Option ℕ)) (order from : ℕ) (b : FreeBlock) → IsTiled t
+    → IsLowestListed t order from (Some b)
+    → IsLowestFrom (set_of t) order from (block_at b.start b.order)
 lowest_is t order from b tiled h = record {
   maximal = listed_maximal t tiled.placed tiled.merged b.start b.order h.0;
   sufficient = h.1;
   after = h.3;
-  lowest = λ c m o f. h.4 c.start c.order o m.is_block.0 f (maximal_listed t tiled.placed tiled.merged c m);
+  lowest = λ c m o f. h.4 c.start c.order o m.is_block.0 f
+      (maximal_listed t tiled.placed tiled.merged c m);
 }
 
-pub lowest_none : (t : List (Option ℕ)) (order from : ℕ) → IsTiled t → IsLowestListed t order from None → (start larger : ℕ) → order ≤ larger → from ≤ start → IsMaximal (set_of t) (block_at start larger) → ⊥
-lowest_none t order from tiled h s k o f m = h s k o m.is_block.0 f (maximal_listed t tiled.placed tiled.merged (block_at s k) m)
+pub lowest_none : (t : List (Option ℕ)) (order from : ℕ) → IsTiled t
+    → IsLowestListed t order from None → (start larger : ℕ) → order ≤ larger → from ≤ start
+    → IsMaximal (set_of t) (block_at start larger) → ⊥
+lowest_none t order from tiled h s k o f m =
+    h s k o m.is_block.0 f (maximal_listed t tiled.placed tiled.merged (block_at s k) m)
 
 -- ---- all pages but the reserved ones
 
@@ -57,9 +72,12 @@ length-unreserved n = length-map-range_with_len (λ page. nat_le 16 page) 0 n
 
 pub has-unreserved : (n p : ℕ) → p < n → has (unreserved n) p ≡ nat_le 16 p
 unfolding unreserved
-has-unreserved n p h = get_or-map-range_with_len (λ page. nat_le 16 page) 0 n p p false h (omega arith)
+has-unreserved n p h =
+    get_or-map-range_with_len (λ page. nat_le 16 page) 0 n p p false h (omega arith)
 
-pub unreserved_is : (set : List Bool) (n : ℕ) → length set ≡ n → ((p : ℕ) → has set p ≡ true → 16 ≤ p) → ((p : ℕ) → 16 ≤ p → p < n → has set p ≡ true) → set ≡ unreserved n
+pub unreserved_is : (set : List Bool) (n : ℕ) → length set ≡ n
+    → ((p : ℕ) → has set p ≡ true → 16 ≤ p) → ((p : ℕ) → 16 ≤ p → p < n → has set p ≡ true)
+    → set ≡ unreserved n
 unreserved_is set n l to from =
     same_sets set (unreserved n) (l ∙ sym (length-unreserved n))
     (λ p h. has-unreserved n p (omega (arith, is_inside set p h, l)) ∙ le-leb 16 p (to p h))

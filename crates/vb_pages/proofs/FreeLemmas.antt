@@ -1,34 +1,60 @@
 -- Free pages: how often each is free, before and after a call.
-use Rattle.std.proofs.Common.{◌≡◌, ℕ, zero, suc, ◌+◌, ◌%◌, ◌^◌, ◌<◌, ◌≤◌, inl, inr, Bool, true, false, cond, List, [], ◌∷◌, ◌++◌, length, get_or, set, take, drop, map, reverse, replicate, Option, Some, None, refl, sym, ◌∙◌, ap, subst, arith, length-append}
+use Rattle.std.proofs.Common.{◌≡◌, ℕ, zero, suc, ◌+◌, ◌%◌, ◌^◌, ◌<◌, ◌≤◌, inl, inr, Bool, true}
+use Rattle.std.proofs.Common.{false, cond, List, [], ◌∷◌, ◌++◌, length, get_or, set, take, drop}
+use Rattle.std.proofs.Common.{map, reverse, replicate, Option, Some, None, refl, sym, ◌∙◌, ap}
+use Rattle.std.proofs.Common.{subst, arith, length-append}
 use Rattle.std.specs.Prelude.{◌==◌, count_by, nat_lt, MatchOption}
 use Rattle.std.specs.List.{flat_map}
-use Rattle.std.proofs.lemmas.List.{get_or-set_same, get_or-set_other, set-set, set-get_or, length-set, length-map, take-append-drop, length-drop, length-reverse, reverse-append, nil_from_length, take_more, flat_map_more, take_all, same_lists, get_or_default, drop_all, append-nil}
-use Rattle.std.proofs.lemmas.Bool.{cases_eq, cases_Bool, both_ways, eq-eqb, eqb-true, ne_eqb, cond-true, cond-false, or_parts, lt-ltb, false_from_ne_true}
+use Rattle.std.proofs.lemmas.List.{get_or-set_same, get_or-set_other, set-set, set-get_or}
+use Rattle.std.proofs.lemmas.List.{length-set, length-map, take-append-drop, length-drop}
+use Rattle.std.proofs.lemmas.List.{length-reverse, reverse-append, nil_from_length, take_more}
+use Rattle.std.proofs.lemmas.List.{flat_map_more, take_all, same_lists, get_or_default, drop_all}
+use Rattle.std.proofs.lemmas.List.{append-nil}
+use Rattle.std.proofs.lemmas.Bool.{cases_eq, cases_Bool, both_ways, eq-eqb, eqb-true, ne_eqb}
+use Rattle.std.proofs.lemmas.Bool.{cond-true, cond-false, or_parts, lt-ltb, false_from_ne_true}
 use Rattle.std.proofs.lemmas.List.Sorted.{sum_by-IsPermutation, length_permutation}
 use Rattle.std.proofs.lemmas.List.Sums.{sum_by-append, sum_by-cons}
 use Rattle.std.specs.Prelude.{sum_by}
 use Rattle.vb_model.specs.Tests.{is_in, one_if}
 use Rattle.vb_model.specs.Pages.{pages_of, covers}
 use Rattle.vb_model.proofs.PageSteps.{covers_is}
-use Rattle.vb_pages.specs.Areas.{has, with_pages, without_pages, unreserved, block_at, IsBlock, HasNoBlock, IsChosen, TakesBlock, IsMaximal, IsLowestFrom}
+use Rattle.vb_pages.specs.Areas.{has, with_pages, without_pages, unreserved, block_at, IsBlock}
+use Rattle.vb_pages.specs.Areas.{HasNoBlock, IsChosen, TakesBlock, IsMaximal, IsLowestFrom}
 use Rattle.vb_pages.specs.declared.block.FreeBlock.{FreeBlock}
-use Rattle.vb_pages.specs.FreePages.{FreePages, in_lists, is_free_in, times_free, list_of, with_list, drained, TakesPages, Refills, Pops, TakesSingle, Tries, Serves, given_back, IsSoundFree, HasRoomFor}
-use Rattle.vb_pages.proofs.Sets.{is_inside, without_parts, with_cases, with_old, with_new, length-with_pages, length-without_pages, block_bounds}
+use Rattle.vb_pages.specs.FreePages.{FreePages, in_lists, is_free_in, times_free, list_of}
+use Rattle.vb_pages.specs.FreePages.{with_list, drained, TakesPages, Refills, Pops, TakesSingle}
+use Rattle.vb_pages.specs.FreePages.{Tries, Serves, given_back, IsSoundFree, HasRoomFor}
+use Rattle.vb_pages.proofs.Sets.{is_inside, without_parts, with_cases, with_old, with_new}
+use Rattle.vb_pages.proofs.Sets.{length-with_pages, length-without_pages, block_bounds}
 use Rattle.vb_pages.proofs.Aligned.{aligned_down}
-use Rattle.vb_pages.proofs.AreasLemmas.{length-unreserved, count_without_block, count_zero, taken_inside}
-use Rattle.vb_pages.proofs.ListsLemmas.{times, times-append, times-one, times_out, one_if_le, Once, with_times, with_none, with_append_turned, takes_times, takes_pages_times, takes_more, no_page, page_block, covers_one}
+use Rattle.vb_pages.proofs.AreasLemmas.{length-unreserved, count_without_block, count_zero}
+use Rattle.vb_pages.proofs.AreasLemmas.{taken_inside}
+use Rattle.vb_pages.proofs.ListsLemmas.{times, times-append, times-one, times_out, one_if_le, Once}
+use Rattle.vb_pages.proofs.ListsLemmas.{with_times, with_none, with_append_turned, takes_times}
+use Rattle.vb_pages.proofs.ListsLemmas.{takes_pages_times, takes_more, no_page, page_block}
+use Rattle.vb_pages.proofs.ListsLemmas.{covers_one}
 
 abbrev pub flat : List (List ℕ) → List ℕ
 flat lists = flat_map (λ list. list) lists
 
 -- ---- one list among the others
 
-pub times-set : (p : ℕ) (lists : List (List ℕ)) (i : ℕ) (l : List ℕ) → i < length lists → times p (flat (set lists i l)) + times p (get_or lists i []) ≡ times p (flat lists) + times p l
+pub times-set : (p : ℕ) (lists : List (List ℕ)) (i : ℕ) (l : List ℕ) → i < length lists
+    → times p (flat (set lists i l)) + times p (get_or lists i [])
+    ≡ times p (flat lists) + times p l
 times-set p [] i l h = absurd (omega arith)
-times-set p (x ∷ xs) zero l h = omega (arith, times-append p l (flat xs), times-append p x (flat xs))
-times-set p (x ∷ xs) (suc i) l h = omega (arith, times-append p x (flat (set xs i l)), times-append p x (flat xs), times-set p xs i l (omega arith))
+times-set p (x ∷ xs) zero l h =
+    omega (arith, times-append p l (flat xs), times-append p x (flat xs))
+times-set p (x ∷ xs) (suc i) l h =
+    omega (
+      arith,
+      times-append p x (flat (set xs i l)),
+      times-append p x (flat xs),
+      times-set p xs i l (omega arith),
+    )
 
-pub times_part : (p : ℕ) (lists : List (List ℕ)) (i : ℕ) → times p (get_or lists i []) ≤ times p (flat lists)
+pub times_part : (p : ℕ) (lists : List (List ℕ)) (i : ℕ)
+    → times p (get_or lists i []) ≤ times p (flat lists)
 times_part p [] i = omega arith
 times_part p (x ∷ xs) zero = omega (arith, times-append p x (flat xs))
 times_part p (x ∷ xs) (suc i) = omega (arith, times-append p x (flat xs), times_part p xs i)
@@ -40,7 +66,8 @@ flat-empty (x ∷ xs) = flat-empty xs
 abbrev pub nothing : List ℕ
 nothing = []
 
-pub list-empty : (lists : List (List ℕ)) (i : ℕ) → get_or (map (λ (l : List ℕ). nothing) lists) i nothing ≡ nothing
+pub list-empty : (lists : List (List ℕ)) (i : ℕ)
+    → get_or (map (λ (l : List ℕ). nothing) lists) i nothing ≡ nothing
 list-empty [] i = refl
 list-empty (x ∷ xs) zero = refl
 list-empty (x ∷ xs) (suc i) = list-empty xs i
@@ -51,23 +78,29 @@ pub list_once : (f : FreePages) (cpu : ℕ) → IsSoundFree f → Once f.areas (
 list_once f cpu sound p = omega (arith, sound.once p, times_part p f.lists cpu)
 
 -- where no page is free more often than before
-pub sound_from : (f g : FreePages) → IsSoundFree f → length g.areas ≡ length f.areas → length g.lists ≡ length f.lists → ((p : ℕ) → times_free g p ≤ times_free f p) → ((cpu : ℕ) → length (list_of g cpu) < 16) → IsSoundFree g
+pub sound_from : (f g : FreePages) → IsSoundFree f → length g.areas ≡ length f.areas
+    → length g.lists ≡ length f.lists → ((p : ℕ) → times_free g p ≤ times_free f p)
+    → ((cpu : ℕ) → length (list_of g cpu) < 16) → IsSoundFree g
 sound_from f g sound a l less short = record {
-  once = λ p. let e : one_if (nat_lt p (length g.areas)) ≡ one_if (nat_lt p (length f.areas)) = ap (λ (n : ℕ). one_if (nat_lt p n)) a in omega (arith, sound.once p, less p, e);
+  once = λ p. let e : one_if (nat_lt p (length g.areas)) ≡ one_if (nat_lt p (length f.areas)) =
+      ap (λ (n : ℕ). one_if (nat_lt p n)) a in omega (arith, sound.once p, less p, e);
   short = short;
   few = omega (arith, sound.few, l);
   small = omega (arith, sound.small, a);
 }
 
 -- draining moves each page to the areas
-pub drained_times : (f : FreePages) → IsSoundFree f → (p : ℕ) → times_free (drained f) p ≡ times_free f p
+pub drained_times : (f : FreePages) → IsSoundFree f → (p : ℕ)
+    → times_free (drained f) p ≡ times_free f p
 drained_times f sound p =
     let e : times p (in_lists (drained f)) ≡ 0 = ap (times p) (flat-empty f.lists) in
     omega (arith, e, with_times f.areas (in_lists f) sound.once p)
 
 pub drained_sound : (f : FreePages) → IsSoundFree f → IsSoundFree (drained f)
 drained_sound f sound =
-    sound_from f (drained f) sound (length-with_pages (in_lists f) f.areas) (length-map f.lists (λ (l : List ℕ). [])) (λ p. omega (arith, drained_times f sound p)) (λ cpu. omega (arith, ap length (list-empty f.lists cpu)))
+    sound_from f (drained f) sound (length-with_pages (in_lists f) f.areas)
+    (length-map f.lists (λ (l : List ℕ). [])) (λ p. omega (arith, drained_times f sound p))
+    (λ cpu. omega (arith, ap length (list-empty f.lists cpu)))
 
 -- ---- a block comes back
 
@@ -77,49 +110,69 @@ not_free f p h =
     let e : one_if (has f.areas p) ≡ 0 = ap one_if q.0 in
     omega (arith, e, times_out p (in_lists f) q.1)
 
-pub block_times : (f : FreePages) (s k : ℕ) → IsSoundFree f → HasRoomFor f s k → (p : ℕ) → one_if (has (with_pages (pages_of (block_at s k)) f.areas) p) ≡ one_if (has f.areas p) + one_if (covers p (block_at s k))
+pub block_times : (f : FreePages) (s k : ℕ) → IsSoundFree f → HasRoomFor f s k → (p : ℕ)
+    → one_if (has (with_pages (pages_of (block_at s k)) f.areas) p)
+    ≡ one_if (has f.areas p) + one_if (covers p (block_at s k))
 block_times f s k sound room p =
     let block = pages_of (block_at s k) in
     elim (cases_Bool (is_in p block)) [
       | inl i ↦
           let b = block_bounds s k p i in
-          let c : one_if (covers p (block_at s k)) ≡ 1 = ap one_if (covers_is p (block_at s k) true i) in
+          let c : one_if (covers p (block_at s k)) ≡ 1 =
+          ap one_if (covers_is p (block_at s k) true i) in
           let none : times_free f p ≡ 0 = not_free f p (room.2 p b.0 b.1) in
-          let h : one_if (has (with_pages block f.areas) p) ≡ 1 = ap one_if (with_new block f.areas p (omega (arith, b.1, room.1)) i) in
+          let h : one_if (has (with_pages block f.areas) p) ≡ 1 =
+          ap one_if (with_new block f.areas p (omega (arith, b.1, room.1)) i) in
           omega (arith, c, none, h)
       | inr o ↦
-          let c : one_if (covers p (block_at s k)) ≡ 0 = ap one_if (covers_is p (block_at s k) false o) in
+          let c : one_if (covers p (block_at s k)) ≡ 0 =
+          ap one_if (covers_is p (block_at s k) false o) in
           elim (cases_Bool (has f.areas p)) [
             | inl was ↦
                 let e : one_if (has f.areas p) ≡ 1 = ap one_if was in
-                let h : one_if (has (with_pages block f.areas) p) ≡ 1 = ap one_if (with_old block f.areas p was) in
+                let h : one_if (has (with_pages block f.areas) p) ≡ 1 =
+                ap one_if (with_old block f.areas p was) in
                 omega (arith, c, e, h)
             | inr was ↦
                 let e : one_if (has f.areas p) ≡ 0 = ap one_if was in
-                let no_more : has (with_pages block f.areas) p ≡ false = false_from_ne_true (has (with_pages block f.areas) p) (λ w. elim (with_cases block f.areas p w) [ inl old ↦ both_ways (has f.areas p) was old | inr new ↦ both_ways (is_in p block) o new ]) in
+                let no_more : has (with_pages block f.areas) p ≡ false =
+                false_from_ne_true (has (with_pages block f.areas) p)
+                (λ w. elim (with_cases block f.areas p w) [
+                  | inl old ↦ both_ways (has f.areas p) was old
+                  | inr new ↦
+                      both_ways (is_in p block) o new
+                ]) in
                 let h : one_if (has (with_pages block f.areas) p) ≡ 0 = ap one_if no_more in
                 omega (arith, c, e, h)
           ]
     ]
 
 -- a page of the block wasn't free, and is there
-pub room_once : (f : FreePages) (s k : ℕ) → IsSoundFree f → HasRoomFor f s k → (p : ℕ) → times_free f p + one_if (covers p (block_at s k)) ≤ one_if (nat_lt p (length f.areas))
+pub room_once : (f : FreePages) (s k : ℕ) → IsSoundFree f → HasRoomFor f s k → (p : ℕ)
+    → times_free f p + one_if (covers p (block_at s k)) ≤ one_if (nat_lt p (length f.areas))
 room_once f s k sound room p =
     elim (cases_Bool (is_in p (pages_of (block_at s k)))) [
       | inl i ↦
           let b = block_bounds s k p i in
-          let c : one_if (covers p (block_at s k)) ≡ 1 = ap one_if (covers_is p (block_at s k) true i) in
-          let l : one_if (nat_lt p (length f.areas)) ≡ 1 = ap one_if (lt-ltb p (length f.areas) (omega (arith, b.1, room.1))) in
+          let c : one_if (covers p (block_at s k)) ≡ 1 =
+          ap one_if (covers_is p (block_at s k) true i) in
+          let l : one_if (nat_lt p (length f.areas)) ≡ 1 =
+          ap one_if (lt-ltb p (length f.areas) (omega (arith, b.1, room.1))) in
           omega (arith, c, l, not_free f p (room.2 p b.0 b.1))
       | inr o ↦
-          let c : one_if (covers p (block_at s k)) ≡ 0 = ap one_if (covers_is p (block_at s k) false o) in
+          let c : one_if (covers p (block_at s k)) ≡ 0 =
+          ap one_if (covers_is p (block_at s k) false o) in
           omega (arith, c, sound.once p)
     ]
 
-pub block_sound : (f : FreePages) (s k : ℕ) → IsSoundFree f → HasRoomFor f s k → IsSoundFree (record f { areas = with_pages (pages_of (block_at s k)) f.areas })
+pub block_sound : (f : FreePages) (s k : ℕ) → IsSoundFree f → HasRoomFor f s k
+    → IsSoundFree (record f { areas = with_pages (pages_of (block_at s k)) f.areas })
 block_sound f s k sound room = record {
   once = λ p.
-      let e : one_if (nat_lt p (length (with_pages (pages_of (block_at s k)) f.areas))) ≡ one_if (nat_lt p (length f.areas)) = ap (λ (n : ℕ). one_if (nat_lt p n)) (length-with_pages (pages_of (block_at s k)) f.areas) in
+      let e : one_if (nat_lt p (length (with_pages (pages_of (block_at s k)) f.areas)))
+      ≡ one_if (nat_lt p (length f.areas)) =
+      ap (λ (n : ℕ). one_if (nat_lt p n))
+      (length-with_pages (pages_of (block_at s k)) f.areas) in
       omega (arith, block_times f s k sound room p, room_once f s k sound room p, e);
   short = sound.short;
   few = sound.few;
@@ -128,138 +181,241 @@ block_sound f s k sound room = record {
 
 -- ---- a block goes out
 
-pub takes_sound : (f : FreePages) (new : List Bool) (k s : ℕ) → IsSoundFree f → TakesBlock f.areas k (Some s) new → IsSoundFree (record f { areas = new })
+pub takes_sound : (f : FreePages) (new : List Bool) (k s : ℕ) → IsSoundFree f
+    → TakesBlock f.areas k (Some s) new → IsSoundFree (record f { areas = new })
 takes_sound f new k s sound t =
-    sound_from f (record f { areas = new }) sound (ap length t.1 ∙ length-without_pages (pages_of (block_at s k)) f.areas) refl (λ p. omega (arith, takes_times f.areas new k s t p)) sound.short
+    sound_from f (record f { areas = new }) sound
+    (ap length t.1 ∙ length-without_pages (pages_of (block_at s k)) f.areas) refl
+    (λ p. omega (arith, takes_times f.areas new k s t p)) sound.short
 
-pub length-takes_pages : (set new : List Bool) (pages : List ℕ) → TakesPages set pages new → length new ≡ length set
+pub length-takes_pages : (set new : List Bool) (pages : List ℕ) → TakesPages set pages new
+    → length new ≡ length set
 length-takes_pages set new [] t = ap length t
-length-takes_pages set new (x ∷ pages) t = length-takes_pages t.0 new pages t.2 ∙ (ap length t.1.1 ∙ length-without_pages (pages_of (block_at x 0)) set)
+length-takes_pages set new (x ∷ pages) t =
+    length-takes_pages t.0 new pages t.2
+    ∙ (ap length t.1.1 ∙ length-without_pages (pages_of (block_at x 0)) set)
 
 -- ---- a single page goes out
 
 sum_by-reverse : (g : ℕ → ℕ) (xs : List ℕ) → sum_by g (reverse xs) ≡ sum_by g xs
 sum_by-reverse g [] = refl
 sum_by-reverse g (x ∷ xs) =
-    let e : sum_by g (reverse (x ∷ xs)) ≡ sum_by g (reverse xs ++ x ∷ []) = ap (sum_by g) (reverse-append (x ∷ []) xs) in
-    omega (arith, e, sum_by-append g (reverse xs) (x ∷ []), sum_by-cons g x [], sum_by-cons g x xs, sum_by-reverse g xs)
+    let e : sum_by g (reverse (x ∷ xs)) ≡ sum_by g (reverse xs ++ x ∷ []) =
+    ap (sum_by g) (reverse-append (x ∷ []) xs) in
+    omega (
+      arith,
+      e,
+      sum_by-append g (reverse xs) (x ∷ []),
+      sum_by-cons g x [],
+      sum_by-cons g x xs,
+      sum_by-reverse g xs,
+    )
 
-refill_times : (set new : List Bool) (list : List ℕ) → Refills set list new → (p : ℕ) → one_if (has new p) + times p list ≡ one_if (has set p)
+refill_times : (set new : List Bool) (list : List ℕ) → Refills set list new → (p : ℕ)
+    → one_if (has new p) + times p list ≡ one_if (has set p)
 refill_times set new list r p =
-    let a : times p r.rising ≡ times p r.taken = sum_by-IsPermutation (λ q. cond (q == p) 1 0) r.taken r.rising r.same in
-    let b : times p (reverse r.rising) ≡ times p r.rising = sum_by-reverse (λ q. cond (q == p) 1 0) r.rising in
+    let a : times p r.rising ≡ times p r.taken =
+    sum_by-IsPermutation (λ q. cond (q == p) 1 0) r.taken r.rising r.same in
+    let b : times p (reverse r.rising) ≡ times p r.rising =
+    sum_by-reverse (λ q. cond (q == p) 1 0) r.rising in
     let c : times p list ≡ times p (reverse r.rising) = ap (times p) r.list_is in
     omega (arith, a, b, c, takes_pages_times set new r.taken r.takes p)
 
 pub length-refill : (set new : List Bool) (list : List ℕ) → Refills set list new → length list ≤ 8
 length-refill set new list r =
-    omega (arith, ap length r.list_is, length-reverse r.rising, length_permutation r.taken r.rising r.same, r.most)
+    omega (
+      arith,
+      ap length r.list_is,
+      length-reverse r.rising,
+      length_permutation r.taken r.rising r.same,
+      r.most,
+    )
 
 abbrev taken_times : Option ℕ → ℕ → ℕ
 taken_times None p = 0
 taken_times (Some s) p = one_if (s == p)
 
-pops_times : (list rest : List ℕ) (got : Option ℕ) → Pops list got rest → (p : ℕ) → times p rest + taken_times got p ≡ times p list
+pops_times : (list rest : List ℕ) (got : Option ℕ) → Pops list got rest → (p : ℕ)
+    → times p rest + taken_times got p ≡ times p list
 pops_times list rest None h p = omega (arith, ap (times p) h.0, ap (times p) h.1)
-pops_times list rest (Some s) h p = omega (arith, ap (times p) h, times-append p rest (s ∷ []), times-one p s)
+pops_times list rest (Some s) h p =
+    omega (arith, ap (times p) h, times-append p rest (s ∷ []), times-one p s)
 
 pops_length : (list rest : List ℕ) (got : Option ℕ) → Pops list got rest → length rest ≤ length list
 pops_length list rest None h = omega (arith, ap length h.1)
 pops_length list rest (Some s) h = omega (arith, ap length h, length-append rest (s ∷ []))
 
-single_times : (set new : List Bool) (list rest : List ℕ) (got : Option ℕ) → TakesSingle set list got new rest → (p : ℕ) → one_if (has new p) + (times p rest + taken_times got p) ≡ one_if (has set p) + times p list
+single_times : (set new : List Bool) (list rest : List ℕ) (got : Option ℕ)
+    → TakesSingle set list got new rest → (p : ℕ)
+    → one_if (has new p) + (times p rest + taken_times got p) ≡ one_if (has set p) + times p list
 single_times set new [] rest got h p =
     omega (arith, refill_times set new h.0 h.1 p, pops_times h.0 rest got h.2 p)
 single_times set new (x ∷ xs) rest got h p =
     omega (arith, ap (λ (s : List Bool). one_if (has s p)) h.0, pops_times (x ∷ xs) rest got h.1 p)
 
-single_length : (set new : List Bool) (list rest : List ℕ) (got : Option ℕ) → TakesSingle set list got new rest → length list < 16 → length rest < 16
-single_length set new [] rest got h l = omega (arith, length-refill set new h.0 h.1, pops_length h.0 rest got h.2)
+single_length : (set new : List Bool) (list rest : List ℕ) (got : Option ℕ)
+    → TakesSingle set list got new rest → length list < 16 → length rest < 16
+single_length set new [] rest got h l =
+    omega (arith, length-refill set new h.0 h.1, pops_length h.0 rest got h.2)
 single_length set new (x ∷ xs) rest got h l = omega (arith, pops_length (x ∷ xs) rest got h.1)
 
-single_areas : (set new : List Bool) (list rest : List ℕ) (got : Option ℕ) → TakesSingle set list got new rest → length new ≡ length set
+single_areas : (set new : List Bool) (list rest : List ℕ) (got : Option ℕ)
+    → TakesSingle set list got new rest → length new ≡ length set
 single_areas set new [] rest got h = length-takes_pages set new h.1.taken h.1.takes
 single_areas set new (x ∷ xs) rest got h = ap length h.0
 
 -- where no page comes out, nothing was there
-single_none : (set new : List Bool) (list rest : List ℕ) → TakesSingle set list None new rest → (list ≡ []) × (rest ≡ []) × (new ≡ set) × HasNoBlock set 0
+single_none : (set new : List Bool) (list rest : List ℕ) → TakesSingle set list None new rest
+    → (list ≡ []) × (rest ≡ []) × (new ≡ set) × HasNoBlock set 0
 single_none set new [] rest h =
     let r = h.1 in
-    let zero_long : length r.taken ≡ 0 = omega (arith, ap length h.2.0, ap length r.list_is, length-reverse r.rising, length_permutation r.taken r.rising r.same) in
+    let zero_long : length r.taken ≡ 0 =
+    omega (
+      arith,
+      ap length h.2.0,
+      ap length r.list_is,
+      length-reverse r.rising,
+      length_permutation r.taken r.rising r.same,
+    ) in
     let empty : r.taken ≡ [] = nil_from_length r.taken zero_long in
-    let same : new ≡ set = subst (λ (xs : List ℕ). TakesPages set xs new) empty r.takes in
-    (refl, h.2.1, same, subst (λ (x : List Bool). HasNoBlock x 0) same (r.all (omega (arith, zero_long))))
-single_none set new (x ∷ xs) rest h = absurd (let bad : length (x ∷ xs) ≡ 0 = ap length h.1.0 in omega (arith, bad))
+    let same : new ≡ set = subst (λ (xs : List ℕ). TakesPages set xs new) empty r.takes in (
+      refl,
+      h.2.1,
+      same,
+      subst (λ (x : List Bool). HasNoBlock x 0) same
+          (r.all (omega (arith, zero_long))),
+    )
+single_none set new (x ∷ xs) rest h =
+    absurd (let bad : length (x ∷ xs) ≡ 0 = ap length h.1.0 in omega (arith, bad))
 
 -- ---- a try
 
 -- a page that the processor's list and the areas give
-pub single_sound : (f : FreePages) (cpu : ℕ) (new : List Bool) (rest : List ℕ) (got : Option ℕ) → IsSoundFree f → cpu < length f.lists → TakesSingle f.areas (list_of f cpu) got new rest → IsSoundFree (record { areas = new; lists = set f.lists cpu rest })
+pub single_sound : (f : FreePages) (cpu : ℕ) (new : List Bool) (rest : List ℕ) (got : Option ℕ)
+    → IsSoundFree f → cpu < length f.lists → TakesSingle f.areas (list_of f cpu) got new rest
+    → IsSoundFree (record { areas = new; lists = set f.lists cpu rest })
 single_sound f cpu new rest got sound l h =
-    sound_from f (record { areas = new; lists = set f.lists cpu rest }) sound (single_areas f.areas new (list_of f cpu) rest got h) (length-set f.lists cpu rest)
-    (λ p. omega (arith, single_times f.areas new (list_of f cpu) rest got h p, times-set p f.lists cpu rest l))
+    sound_from f (record { areas = new; lists = set f.lists cpu rest }) sound
+    (single_areas f.areas new (list_of f cpu) rest got h) (length-set f.lists cpu rest)
+    (λ p. omega (
+      arith,
+      single_times f.areas new (list_of f cpu) rest got h p,
+      times-set p f.lists cpu rest l,
+    ))
     (λ i.
     elim (cases_eq i cpu) [
       | inl same ↦
-          let e : get_or (set f.lists cpu rest) i nothing ≡ rest = ap (λ (n : ℕ). get_or (set f.lists cpu rest) n nothing) same ∙ get_or-set_same f.lists cpu rest nothing l in
-          omega (arith, ap length e, single_length f.areas new (list_of f cpu) rest got h (sound.short cpu))
-      | inr differ ↦ omega (arith, ap length (get_or-set_other f.lists cpu i rest nothing differ), sound.short i)
+          let e : get_or (set f.lists cpu rest) i nothing ≡ rest =
+          ap (λ (n : ℕ). get_or (set f.lists cpu rest) n nothing) same
+          ∙ get_or-set_same f.lists cpu rest nothing l in
+          omega (
+            arith,
+            ap length e,
+            single_length f.areas new (list_of f cpu) rest got h (sound.short cpu),
+          )
+      | inr differ ↦ omega (
+        arith,
+        ap length (get_or-set_other f.lists cpu i rest nothing differ),
+        sound.short i,
+      )
     ])
 
 abbrev pub free_of : List Bool → List (List ℕ) → FreePages
 free_of areas lists = record { areas = areas; lists = lists }
 
 pub same_free : (a b : FreePages) → a.areas ≡ b.areas → a.lists ≡ b.lists → a ≡ b
-same_free a b e l = ap (λ (x : List Bool). free_of x a.lists) e ∙ ap (λ (xs : List (List ℕ)). free_of b.areas xs) l
+same_free a b e l = ap (λ (x : List Bool). free_of x a.lists) e
+    ∙ ap (λ (xs : List (List ℕ)). free_of b.areas xs) l
 
 -- a try that gives nothing changes nothing, and there was no block
-pub tries_none : (f new : FreePages) (cpu order : ℕ) → Tries f cpu order None new → (new ≡ f) × HasNoBlock f.areas order
+pub tries_none : (f new : FreePages) (cpu order : ℕ) → Tries f cpu order None new
+    → (new ≡ f) × HasNoBlock f.areas order
 tries_none f new cpu zero h =
     let q = single_none f.areas new.areas (list_of f cpu) h.0 h.1 in
-    let lists : new.lists ≡ f.lists = h.2 ∙ (ap (λ (l : List ℕ). set f.lists cpu l) (q.1 ∙ sym q.0) ∙ set-get_or f.lists cpu nothing) in
+    let lists : new.lists ≡ f.lists =
+    h.2 ∙ (ap (λ (l : List ℕ). set f.lists cpu l) (q.1 ∙ sym q.0)
+    ∙ set-get_or f.lists cpu nothing) in
     (same_free new f q.2 lists, q.3)
 tries_none f new cpu (suc order) h =
     (same_free new f h.0.1 h.1, h.0.0)
 
 -- a try that gives a block takes just its pages
-pub tries_times : (f new : FreePages) (cpu order start : ℕ) → cpu < length f.lists → Tries f cpu order (Some start) new → (p : ℕ) → times_free new p + one_if (covers p (block_at start order)) ≡ times_free f p
+pub tries_times : (f new : FreePages) (cpu order start : ℕ) → cpu < length f.lists
+    → Tries f cpu order (Some start) new → (p : ℕ)
+    → times_free new p + one_if (covers p (block_at start order)) ≡ times_free f p
 tries_times f new cpu zero start l h p =
-    let e : times p (in_lists new) ≡ times p (flat (set f.lists cpu h.0)) = ap (λ (xs : List (List ℕ)). times p (flat xs)) h.2 in
-    omega (arith, e, single_times f.areas new.areas (list_of f cpu) h.0 (Some start) h.1 p, times-set p f.lists cpu h.0 l, covers_one start p)
+    let e : times p (in_lists new) ≡ times p (flat (set f.lists cpu h.0)) =
+    ap (λ (xs : List (List ℕ)). times p (flat xs)) h.2 in
+    omega (
+      arith,
+      e,
+      single_times f.areas new.areas (list_of f cpu) h.0 (Some start) h.1 p,
+      times-set p f.lists cpu h.0 l,
+      covers_one start p,
+    )
 tries_times f new cpu (suc order) start l h p =
-    let e : times p (in_lists new) ≡ times p (in_lists f) = ap (λ (xs : List (List ℕ)). times p (flat xs)) h.1 in
+    let e : times p (in_lists new) ≡ times p (in_lists f) =
+    ap (λ (xs : List (List ℕ)). times p (flat xs)) h.1 in
     omega (arith, e, takes_times f.areas new.areas (suc order) start h.0 p)
 
 -- a request that is served takes just the block's pages
-pub serves_times : (f new : FreePages) (cpu order start : ℕ) → IsSoundFree f → cpu < length f.lists → Serves f cpu order (Some start) new → (p : ℕ) → times_free new p + one_if (covers p (block_at start order)) ≡ times_free f p
+pub serves_times : (f new : FreePages) (cpu order start : ℕ) → IsSoundFree f → cpu < length f.lists
+    → Serves f cpu order (Some start) new → (p : ℕ)
+    → times_free new p + one_if (covers p (block_at start order)) ≡ times_free f p
 serves_times f new cpu order start sound l h p =
     elim h [
       | inl now ↦ tries_times f new cpu order start l now p
-      | inr later ↦ omega (arith, drained_times f sound p, tries_times (drained f) new cpu order start (omega (arith, length-map f.lists (λ (x : List ℕ). nothing))) later.1 p)
+      | inr later ↦ omega (
+        arith,
+        drained_times f sound p,
+        tries_times (drained f) new cpu order start
+            (omega (arith, length-map f.lists (λ (x : List ℕ). nothing))) later.1 p,
+      )
     ]
 
 -- ---- draining, list by list
 
 -- the first lists are in the areas
-pub record IsDrainedSoFar (areas : List Bool) (lists : List (List ℕ)) (i : ℕ) (new : List Bool) (left : List (List ℕ)) : Type 0 where
+pub record IsDrainedSoFar (areas : List Bool) (lists : List (List ℕ)) (i : ℕ) (new : List Bool)
+    (left : List (List ℕ)) : Type 0 where
   pub set : new ≡ with_pages (flat (take i lists)) areas
   pub count : count_by (λ f. f) new ≡ count_by (λ f. f) areas + length (flat (take i lists))
   pub empty : (k : ℕ) → k < i → get_or left k nothing ≡ nothing
   pub rest : (k : ℕ) → i ≤ k → get_or left k nothing ≡ get_or lists k nothing
   pub long : length left ≡ length lists
 
-pub drained_none : (areas : List Bool) (lists : List (List ℕ)) → IsDrainedSoFar areas lists 0 areas lists
-drained_none areas lists = record { set = sym (with_none areas); count = omega arith; empty = λ k h. absurd (omega arith); rest = λ k h. refl; long = refl }
+pub drained_none : (areas : List Bool) (lists : List (List ℕ))
+    → IsDrainedSoFar areas lists 0 areas lists
+drained_none areas lists =
+    record {
+      set = sym (with_none areas);
+      count = omega arith;
+      empty = λ k h. absurd (omega arith);
+      rest = λ k h. refl;
+      long = refl;
+    }
 
-times_take : (p n : ℕ) (lists : List (List ℕ)) → times p (flat (take n lists)) ≤ times p (flat lists)
+times_take : (p n : ℕ) (lists : List (List ℕ))
+    → times p (flat (take n lists)) ≤ times p (flat lists)
 times_take p zero lists = omega arith
 times_take p (suc n) [] = omega arith
-times_take p (suc n) (x ∷ xs) = omega (arith, times-append p x (flat (take n xs)), times-append p x (flat xs), times_take p n xs)
+times_take p (suc n) (x ∷ xs) =
+    omega (
+      arith,
+      times-append p x (flat (take n xs)),
+      times-append p x (flat xs),
+      times_take p n xs,
+    )
 
-flat_more : (lists : List (List ℕ)) (i : ℕ) → i < length lists → flat (take (i + 1) lists) ≡ flat (take i lists) ++ get_or lists i nothing
-flat_more lists i h = ap flat (take_more lists i nothing h) ∙ sym (flat_map_more (λ (l : List ℕ). l) nothing (take i lists) (get_or lists i nothing))
+flat_more : (lists : List (List ℕ)) (i : ℕ) → i < length lists
+    → flat (take (i + 1) lists) ≡ flat (take i lists) ++ get_or lists i nothing
+flat_more lists i h =
+    ap flat (take_more lists i nothing h)
+    ∙ sym (flat_map_more (λ (l : List ℕ). l) nothing (take i lists) (get_or lists i nothing))
 
-module _ (areas : List Bool) (lists : List (List ℕ)) (once : Once areas (flat lists)) (i : ℕ) (new : List Bool) (left : List (List ℕ)) (so_far : IsDrainedSoFar areas lists i new left) (inside : i < length lists) where
+module _ (areas : List Bool) (lists : List (List ℕ)) (once : Once areas (flat lists)) (i : ℕ)
+    (new : List Bool) (left : List (List ℕ)) (so_far : IsDrainedSoFar areas lists i new left)
+    (inside : i < length lists) where
   part_once : Once areas (flat (take i lists))
   part_once p = omega (arith, once p, times_take p i lists)
 
@@ -268,35 +424,64 @@ module _ (areas : List Bool) (lists : List (List ℕ)) (once : Once areas (flat 
 
   pub next_once : Once new (get_or left i nothing)
   next_once p =
-      let more : times p (flat (take (i + 1) lists)) ≡ times p (flat (take i lists)) + times p (get_or lists i nothing) = ap (times p) (flat_more lists i inside) ∙ times-append p (flat (take i lists)) (get_or lists i nothing) in
-      let h : one_if (has new p) ≡ one_if (has areas p) + times p (flat (take i lists)) = ap (λ (x : List Bool). one_if (has x p)) so_far.set ∙ with_times areas (flat (take i lists)) part_once p in
-      let l : one_if (nat_lt p (length new)) ≡ one_if (nat_lt p (length areas)) = ap (λ (n : ℕ). one_if (nat_lt p n)) (ap length so_far.set ∙ length-with_pages (flat (take i lists)) areas) in
+      let more : times p (flat (take (i + 1) lists))
+      ≡ times p (flat (take i lists)) + times p (get_or lists i nothing) =
+      ap (times p) (flat_more lists i inside)
+      ∙ times-append p (flat (take i lists)) (get_or lists i nothing) in
+      let h : one_if (has new p) ≡ one_if (has areas p) + times p (flat (take i lists)) =
+      ap (λ (x : List Bool). one_if (has x p)) so_far.set
+      ∙ with_times areas (flat (take i lists)) part_once p in
+      let l : one_if (nat_lt p (length new)) ≡ one_if (nat_lt p (length areas)) =
+      ap (λ (n : ℕ). one_if (nat_lt p n))
+      (ap length so_far.set ∙ length-with_pages (flat (take i lists)) areas) in
       omega (arith, more, h, l, once p, times_take p (i + 1) lists, ap (times p) next_is)
 
-  pub next_drained : (after : List Bool) → after ≡ with_pages (get_or left i nothing) new → count_by (λ f. f) after ≡ count_by (λ f. f) new + length (get_or left i nothing) → IsDrainedSoFar areas lists (i + 1) after (set left i nothing)
+  pub next_drained : (after : List Bool) → after ≡ with_pages (get_or left i nothing) new
+      → count_by (λ f. f) after ≡ count_by (λ f. f) new + length (get_or left i nothing)
+      → IsDrainedSoFar areas lists (i + 1) after (set left i nothing)
   next_drained after e n = record {
     set =
         e ∙ (ap (λ (x : List Bool). with_pages (get_or left i nothing) x) so_far.set
         ∙ (ap (λ (xs : List ℕ). with_pages xs (with_pages (flat (take i lists)) areas)) next_is
-        ∙ (with_append_turned (get_or lists i nothing) (flat (take i lists)) areas ∙ ap (λ (xs : List ℕ). with_pages xs areas) (sym (flat_more lists i inside)))));
-    count = omega (arith, n, so_far.count, ap length (flat_more lists i inside), length-append (flat (take i lists)) (get_or lists i nothing), ap length next_is);
+        ∙ (with_append_turned (get_or lists i nothing) (flat (take i lists)) areas
+        ∙ ap (λ (xs : List ℕ). with_pages xs areas) (sym (flat_more lists i inside)))));
+    count = omega (
+      arith,
+      n,
+      so_far.count,
+      ap length (flat_more lists i inside),
+      length-append (flat (take i lists)) (get_or lists i nothing),
+      ap length next_is,
+    );
     empty = λ k h.
         elim (cases_eq k i) [
-          | inl same ↦ ap (λ (m : ℕ). get_or (set left i nothing) m nothing) same ∙ get_or-set_same left i nothing nothing (omega (arith, so_far.long))
-          | inr differ ↦ get_or-set_other left i k nothing nothing differ ∙ so_far.empty k (omega arith)
+          | inl same ↦ ap (λ (m : ℕ). get_or (set left i nothing) m nothing) same
+              ∙ get_or-set_same left i nothing nothing (omega (arith, so_far.long))
+          | inr differ ↦ get_or-set_other left i k nothing nothing differ
+              ∙ so_far.empty k (omega arith)
         ];
-    rest = λ k h. get_or-set_other left i k nothing nothing (λ e. omega arith) ∙ so_far.rest k (omega arith);
+    rest = λ k h. get_or-set_other left i k nothing nothing (λ e. omega arith)
+        ∙ so_far.rest k (omega arith);
     long = length-set left i nothing ∙ so_far.long;
   }
 
 -- all lists are in the areas
-pub all_drained : (areas : List Bool) (lists : List (List ℕ)) (i : ℕ) (new : List Bool) (left : List (List ℕ)) → length lists ≤ i → IsDrainedSoFar areas lists i new left → (new ≡ with_pages (flat lists) areas) × (count_by (λ f. f) new ≡ count_by (λ f. f) areas + length (flat lists)) × (left ≡ map (λ (l : List ℕ). nothing) lists)
+pub all_drained : (areas : List Bool) (lists : List (List ℕ)) (i : ℕ) (new : List Bool)
+    (left : List (List ℕ)) → length lists ≤ i → IsDrainedSoFar areas lists i new left
+    → (new ≡ with_pages (flat lists) areas)
+    × (count_by (λ f. f) new ≡ count_by (λ f. f) areas + length (flat lists))
+    × (left ≡ map (λ (l : List ℕ). nothing) lists)
 all_drained areas lists i new left h d =
     let all : flat (take i lists) ≡ flat lists = ap flat (take_all i lists h) in (
       d.set ∙ ap (λ (xs : List ℕ). with_pages xs areas) all,
       omega (arith, d.count, ap length all),
-      same_lists left (map (λ (l : List ℕ). nothing) lists) (d.long ∙ sym (length-map lists (λ (l : List ℕ). nothing))) (λ k e l.
-          get_or_default left k e nothing l ∙ (d.empty k (omega (arith, d.long)) ∙ (sym (list-empty lists k) ∙ get_or_default (map (λ (x : List ℕ). nothing) lists) k nothing e (omega (arith, d.long, length-map lists (λ (x : List ℕ). nothing)))))),
+      same_lists left (map (λ (l : List ℕ). nothing) lists)
+          (d.long ∙ sym (length-map lists (λ (l : List ℕ). nothing))) (λ k e l.
+          get_or_default left k e nothing l
+          ∙ (d.empty k (omega (arith, d.long))
+          ∙ (sym (list-empty lists k)
+          ∙ get_or_default (map (λ (x : List ℕ). nothing) lists) k nothing e
+          (omega (arith, d.long, length-map lists (λ (x : List ℕ). nothing)))))),
     )
 
 -- ---- single pages, one after the other
@@ -307,40 +492,58 @@ pub record AreTakenSoFar (set : List Bool) (i : ℕ) (new : List Bool) (out : Li
   pub long : length out ≡ i
   pub count : count_by (λ f. f) new + i ≡ count_by (λ f. f) set
 
-pub taken_one : (set mid new : List Bool) (i page : ℕ) (out : List ℕ) → AreTakenSoFar set i mid out → TakesBlock mid 0 (Some page) new → AreTakenSoFar set (i + 1) new (out ++ page ∷ [])
+pub taken_one : (set mid new : List Bool) (i page : ℕ) (out : List ℕ) → AreTakenSoFar set i mid out
+    → TakesBlock mid 0 (Some page) new → AreTakenSoFar set (i + 1) new (out ++ page ∷ [])
 taken_one set mid new i page out h t =
     let n = count_without_block page 0 mid (taken_inside mid page 0 t.0.0 t.0.1) in
-    record { takes = takes_more set mid new out page h.takes t; long = omega (arith, length-append out (page ∷ []), h.long); count = omega (arith, h.count, n, ap (count_by (λ f. f)) t.1) }
+    record {
+      takes = takes_more set mid new out page h.takes t;
+      long = omega (arith, length-append out (page ∷ []), h.long);
+      count =
+          omega (arith, h.count, n, ap (count_by (λ f. f)) t.1);
+    }
 
-pub taken_all : (set mid : List Bool) (i n : ℕ) (out : List ℕ) → AreTakenSoFar set i mid out → HasNoBlock mid 0 → i < n → n ≤ count_by (λ f. f) set → ⊥
+pub taken_all : (set mid : List Bool) (i n : ℕ) (out : List ℕ) → AreTakenSoFar set i mid out
+    → HasNoBlock mid 0 → i < n → n ≤ count_by (λ f. f) set → ⊥
 taken_all set mid i n out h none l enough =
     let z : count_by (λ f. f) mid ≡ 0 = count_zero mid (no_page mid none) in
     omega (arith, z, h.count)
 
 -- ---- the areas that another call leaves
 
-pub areas_sound : (f : FreePages) (new : List Bool) → IsSoundFree f → length new ≡ length f.areas → ((p : ℕ) → one_if (has new p) ≤ one_if (has f.areas p)) → IsSoundFree (free_of new f.lists)
-areas_sound f new sound l less = sound_from f (free_of new f.lists) sound l refl (λ p. omega (arith, less p)) sound.short
+pub areas_sound : (f : FreePages) (new : List Bool) → IsSoundFree f → length new ≡ length f.areas
+    → ((p : ℕ) → one_if (has new p) ≤ one_if (has f.areas p)) → IsSoundFree (free_of new f.lists)
+areas_sound f new sound l less =
+    sound_from f (free_of new f.lists) sound l refl (λ p. omega (arith, less p)) sound.short
 
-pub takes_pages_sound : (f : FreePages) (new : List Bool) (pages : List ℕ) → IsSoundFree f → TakesPages f.areas pages new → IsSoundFree (free_of new f.lists)
-takes_pages_sound f new pages sound t = areas_sound f new sound (length-takes_pages f.areas new pages t) (λ p. omega (arith, takes_pages_times f.areas new pages t p))
+pub takes_pages_sound : (f : FreePages) (new : List Bool) (pages : List ℕ) → IsSoundFree f
+    → TakesPages f.areas pages new → IsSoundFree (free_of new f.lists)
+takes_pages_sound f new pages sound t =
+    areas_sound f new sound (length-takes_pages f.areas new pages t)
+    (λ p. omega (arith, takes_pages_times f.areas new pages t p))
 
-pub without_sound : (f : FreePages) (pages : List ℕ) → IsSoundFree f → IsSoundFree (free_of (without_pages pages f.areas) f.lists)
+pub without_sound : (f : FreePages) (pages : List ℕ) → IsSoundFree f
+    → IsSoundFree (free_of (without_pages pages f.areas) f.lists)
 without_sound f pages sound =
     areas_sound f (without_pages pages f.areas) sound (length-without_pages pages f.areas) (λ p.
     elim (cases_Bool (has (without_pages pages f.areas) p)) [
-      | inl t ↦ let e : one_if (has f.areas p) ≡ 1 = ap one_if (without_parts pages f.areas p t).0 in omega (arith, e, one_if_le (has (without_pages pages f.areas) p))
-      | inr n ↦ let e : one_if (has (without_pages pages f.areas) p) ≡ 0 = ap one_if n in omega (arith, e)
+      | inl t ↦ let e : one_if (has f.areas p) ≡ 1 =
+          ap one_if (without_parts pages f.areas p t).0 in
+          omega (arith, e, one_if_le (has (without_pages pages f.areas) p))
+      | inr n ↦ let e : one_if (has (without_pages pages f.areas) p) ≡ 0 = ap one_if n in
+          omega (arith, e)
     ])
 
 -- all pages are free
-pub fresh_sound : (n : ℕ) (lists : List (List ℕ)) → n ≤ 16384 → length lists ≤ 4 → flat lists ≡ [] → ((i : ℕ) → get_or lists i nothing ≡ nothing) → IsSoundFree (free_of (unreserved n) lists)
+pub fresh_sound : (n : ℕ) (lists : List (List ℕ)) → n ≤ 16384 → length lists ≤ 4 → flat lists ≡ []
+    → ((i : ℕ) → get_or lists i nothing ≡ nothing) → IsSoundFree (free_of (unreserved n) lists)
 fresh_sound n lists small few none empty = record {
   once = λ p.
       let e : times p (flat lists) ≡ 0 = ap (times p) none in
       elim (cases_Bool (has (unreserved n) p)) [
         | inl t ↦
-            let l : one_if (nat_lt p (length (unreserved n))) ≡ 1 = ap one_if (lt-ltb p (length (unreserved n)) (is_inside (unreserved n) p t)) in
+            let l : one_if (nat_lt p (length (unreserved n))) ≡ 1 =
+            ap one_if (lt-ltb p (length (unreserved n)) (is_inside (unreserved n) p t)) in
             omega (arith, e, l, one_if_le (has (unreserved n) p))
         | inr f ↦ let z : one_if (has (unreserved n) p) ≡ 0 = ap one_if f in omega (arith, e, z)
       ];
@@ -360,16 +563,26 @@ list-replicate (suc n) (suc i) = list-replicate n i
 
 -- ---- a page comes back
 
-module _ (f : FreePages) (cpu s : ℕ) (sound : IsSoundFree f) (l : cpu < length f.lists) (room : HasRoomFor f s 0) where
+module _ (f : FreePages) (cpu s : ℕ) (sound : IsSoundFree f) (l : cpu < length f.lists)
+    (room : HasRoomFor f s 0) where
   abbrev pub longer : List ℕ
   longer = list_of f cpu ++ s ∷ []
 
   longer_length : length longer ≡ length (list_of f cpu) + 1
   longer_length = length-append (list_of f cpu) (s ∷ [])
 
-  longer_times : (p : ℕ) → one_if (has f.areas p) + times p (flat (set f.lists cpu longer)) ≤ one_if (nat_lt p (length f.areas))
+  longer_times : (p : ℕ)
+      → one_if (has f.areas p) + times p (flat (set f.lists cpu longer)) ≤ one_if
+      (nat_lt p (length f.areas))
   longer_times p =
-      omega (arith, room_once f s 0 sound room p, times-set p f.lists cpu longer l, times-append p (list_of f cpu) (s ∷ []), times-one p s, covers_one s p)
+      omega (
+        arith,
+        room_once f s 0 sound room p,
+        times-set p f.lists cpu longer l,
+        times-append p (list_of f cpu) (s ∷ []),
+        times-one p s,
+        covers_one s p,
+      )
 
   -- where the list has room
   pub pushed_sound : length longer < 16 → IsSoundFree (free_of f.areas (set f.lists cpu longer))
@@ -377,80 +590,141 @@ module _ (f : FreePages) (cpu s : ℕ) (sound : IsSoundFree f) (l : cpu < length
     once = longer_times;
     short = λ i.
         elim (cases_eq i cpu) [
-          | inl same ↦ omega (arith, ap (λ (n : ℕ). length (get_or (set f.lists cpu longer) n nothing)) same, ap length (get_or-set_same f.lists cpu longer nothing l), short)
-          | inr differ ↦ omega (arith, ap length (get_or-set_other f.lists cpu i longer nothing differ), sound.short i)
+          | inl same ↦ omega (
+            arith,
+            ap (λ (n : ℕ). length (get_or (set f.lists cpu longer) n nothing)) same,
+            ap length (get_or-set_same f.lists cpu longer nothing l),
+            short,
+          )
+          | inr differ ↦ omega (
+            arith,
+            ap length (get_or-set_other f.lists cpu i longer nothing differ),
+            sound.short i,
+          )
         ];
     few = omega (arith, sound.few, length-set f.lists cpu longer);
     small = sound.small;
   }
 
   front_times : (p : ℕ) → times p (take 8 longer) + times p (drop 8 longer) ≡ times p longer
-  front_times p = omega (arith, times-append p (take 8 longer) (drop 8 longer), ap (times p) (take-append-drop 8 longer))
+  front_times p = omega (
+    arith,
+    times-append p (take 8 longer) (drop 8 longer),
+    ap (times p) (take-append-drop 8 longer),
+  )
 
   -- the first eight may go to the areas
   pub front_once : Once f.areas (take 8 longer)
   front_once p =
-      let part : times p (get_or (set f.lists cpu longer) cpu nothing) ≡ times p longer = ap (times p) (get_or-set_same f.lists cpu longer nothing l) in
+      let part : times p (get_or (set f.lists cpu longer) cpu nothing) ≡ times p longer =
+      ap (times p) (get_or-set_same f.lists cpu longer nothing l) in
       omega (arith, longer_times p, front_times p, times_part p (set f.lists cpu longer) cpu, part)
 
-  pub spilled_sound : IsSoundFree (free_of (with_pages (take 8 longer) f.areas) (set f.lists cpu (drop 8 longer)))
+  pub spilled_sound : IsSoundFree
+      (free_of (with_pages (take 8 longer) f.areas) (set f.lists cpu (drop 8 longer)))
   spilled_sound = record {
     once = λ p.
-        let e : one_if (nat_lt p (length (with_pages (take 8 longer) f.areas))) ≡ one_if (nat_lt p (length f.areas)) = ap (λ (n : ℕ). one_if (nat_lt p n)) (length-with_pages (take 8 longer) f.areas) in
-        omega (arith, e, with_times f.areas (take 8 longer) front_once p, longer_times p, front_times p, times-set p f.lists cpu longer l, times-set p f.lists cpu (drop 8 longer) l);
+        let e : one_if (nat_lt p (length (with_pages (take 8 longer) f.areas)))
+        ≡ one_if (nat_lt p (length f.areas)) =
+        ap (λ (n : ℕ). one_if (nat_lt p n)) (length-with_pages (take 8 longer) f.areas) in
+        omega (
+          arith,
+          e,
+          with_times f.areas (take 8 longer) front_once p,
+          longer_times p,
+          front_times p,
+          times-set p f.lists cpu longer l,
+          times-set p f.lists cpu (drop 8 longer) l,
+        );
     short = λ i.
         elim (cases_eq i cpu) [
-          | inl same ↦ omega (arith, ap (λ (n : ℕ). length (get_or (set f.lists cpu (drop 8 longer)) n nothing)) same, ap length (get_or-set_same f.lists cpu (drop 8 longer) nothing l), length-drop 8 longer, longer_length, sound.short cpu)
-          | inr differ ↦ omega (arith, ap length (get_or-set_other f.lists cpu i (drop 8 longer) nothing differ), sound.short i)
+          | inl same ↦ omega (
+            arith,
+            ap (λ (n : ℕ). length (get_or (set f.lists cpu (drop 8 longer)) n nothing)) same,
+            ap length (get_or-set_same f.lists cpu (drop 8 longer) nothing l),
+            length-drop 8 longer,
+            longer_length,
+            sound.short cpu,
+          )
+          | inr differ ↦ omega (
+            arith,
+            ap length (get_or-set_other f.lists cpu i (drop 8 longer) nothing differ),
+            sound.short i,
+          )
         ];
     few = omega (arith, sound.few, length-set f.lists cpu (drop 8 longer));
     small = omega (arith, sound.small, length-with_pages (take 8 longer) f.areas);
   }
 
   -- what comes back, by how long the list is
-  pub given_full : length longer ≡ 16 → free_of (with_pages (take 8 longer) f.areas) (set f.lists cpu (drop 8 longer)) ≡ given_back cpu s 0 f
+  pub given_full : length longer ≡ 16
+      → free_of (with_pages (take 8 longer) f.areas) (set f.lists cpu (drop 8 longer))
+      ≡ given_back cpu s 0 f
   given_full full =
-      let same : list_of (with_list cpu longer f) cpu ≡ longer = get_or-set_same f.lists cpu longer nothing l in
-      let t : (length (list_of (with_list cpu longer f) cpu) == 16) ≡ true = eq-eqb (length (list_of (with_list cpu longer f) cpu)) 16 (ap length same ∙ full) in
-      sym (cond-true (length (list_of (with_list cpu longer f) cpu) == 16) (spill_of (list_of (with_list cpu longer f) cpu)) (with_list cpu longer f) t
-      ∙ (ap spill_of same ∙ ap (λ (xs : List (List ℕ)). free_of (with_pages (take 8 longer) f.areas) xs) (set-set f.lists cpu longer (drop 8 longer))))
+      let same : list_of (with_list cpu longer f) cpu ≡ longer =
+      get_or-set_same f.lists cpu longer nothing l in
+      let t : (length (list_of (with_list cpu longer f) cpu) == 16) ≡ true =
+      eq-eqb (length (list_of (with_list cpu longer f) cpu)) 16 (ap length same ∙ full) in
+      sym (cond-true (length (list_of (with_list cpu longer f) cpu) == 16)
+      (spill_of (list_of (with_list cpu longer f) cpu)) (with_list cpu longer f) t
+      ∙ (ap spill_of same ∙ ap
+      (λ (xs : List (List ℕ)). free_of (with_pages (take 8 longer) f.areas) xs)
+      (set-set f.lists cpu longer (drop 8 longer))))
     where
       spill_of : List ℕ → FreePages
-      spill_of list = free_of (with_pages (take 8 list) f.areas) (set (set f.lists cpu longer) cpu (drop 8 list))
+      spill_of list = free_of (with_pages (take 8 list) f.areas)
+          (set (set f.lists cpu longer) cpu (drop 8 list))
 
-  pub given_short : (length longer ≡ 16 → ⊥) → free_of f.areas (set f.lists cpu longer) ≡ given_back cpu s 0 f
+  pub given_short : (length longer ≡ 16 → ⊥)
+      → free_of f.areas (set f.lists cpu longer) ≡ given_back cpu s 0 f
   given_short short =
-      let same : list_of (with_list cpu longer f) cpu ≡ longer = get_or-set_same f.lists cpu longer nothing l in
-      let n : (length (list_of (with_list cpu longer f) cpu) == 16) ≡ false = ne_eqb (length (list_of (with_list cpu longer f) cpu)) 16 (λ e. short (sym (ap length same) ∙ e)) in
-      sym (cond-false (length (list_of (with_list cpu longer f) cpu) == 16) (free_of (with_pages (take 8 (list_of (with_list cpu longer f) cpu)) f.areas) (set (set f.lists cpu longer) cpu (drop 8 (list_of (with_list cpu longer f) cpu)))) (with_list cpu longer f) n)
+      let same : list_of (with_list cpu longer f) cpu ≡ longer =
+      get_or-set_same f.lists cpu longer nothing l in
+      let n : (length (list_of (with_list cpu longer f) cpu) == 16) ≡ false =
+      ne_eqb (length (list_of (with_list cpu longer f) cpu)) 16
+      (λ e. short (sym (ap length same) ∙ e)) in
+      sym (cond-false (length (list_of (with_list cpu longer f) cpu) == 16)
+      (free_of (with_pages (take 8 (list_of (with_list cpu longer f) cpu)) f.areas)
+      (set (set f.lists cpu longer) cpu (drop 8 (list_of (with_list cpu longer f) cpu))))
+      (with_list cpu longer f) n)
 
 -- ---- a try, in its two forms
 
-pub takes_any_sound : (f : FreePages) (new : List Bool) (k : ℕ) (got : Option ℕ) → IsSoundFree f → TakesBlock f.areas k got new → IsSoundFree (free_of new f.lists)
-takes_any_sound f new k None sound t = subst (λ (x : List Bool). IsSoundFree (free_of x f.lists)) (sym t.1) sound
+pub takes_any_sound : (f : FreePages) (new : List Bool) (k : ℕ) (got : Option ℕ) → IsSoundFree f
+    → TakesBlock f.areas k got new → IsSoundFree (free_of new f.lists)
+takes_any_sound f new k None sound t =
+    subst (λ (x : List Bool). IsSoundFree (free_of x f.lists)) (sym t.1) sound
 takes_any_sound f new k (Some s) sound t = takes_sound f new k s sound t
 
-pub tries_block : (f : FreePages) (cpu k : ℕ) (got : Option ℕ) (new : List Bool) → 0 < k → TakesBlock f.areas k got new → Tries f cpu k got (free_of new f.lists)
+pub tries_block : (f : FreePages) (cpu k : ℕ) (got : Option ℕ) (new : List Bool) → 0 < k
+    → TakesBlock f.areas k got new → Tries f cpu k got (free_of new f.lists)
 tries_block f cpu zero got new h t = absurd (omega arith)
 tries_block f cpu (suc k) got new h t = (t, refl)
 
-pub tries_page : (f : FreePages) (cpu k : ℕ) (got : Option ℕ) (new : List Bool) (rest : List ℕ) → k ≤ 0 → TakesSingle f.areas (list_of f cpu) got new rest → Tries f cpu k got (free_of new (set f.lists cpu rest))
+pub tries_page : (f : FreePages) (cpu k : ℕ) (got : Option ℕ) (new : List Bool) (rest : List ℕ)
+    → k ≤ 0 → TakesSingle f.areas (list_of f cpu) got new rest
+    → Tries f cpu k got (free_of new (set f.lists cpu rest))
 tries_page f cpu zero got new rest h t = (rest, t, refl)
 tries_page f cpu (suc k) got new rest h t = absurd (omega arith)
 
 -- a second try, after the first gave nothing
-pub serves_later : (f mid new : FreePages) (cpu order : ℕ) (got : Option ℕ) → Tries f cpu order None mid → Tries (drained mid) cpu order got new → Serves f cpu order got new
+pub serves_later : (f mid new : FreePages) (cpu order : ℕ) (got : Option ℕ)
+    → Tries f cpu order None mid → Tries (drained mid) cpu order got new
+    → Serves f cpu order got new
 serves_later f mid new cpu order got first second =
     let same = (tries_none f mid cpu order first).0 in
-    step got (subst (λ (x : FreePages). Tries f cpu order None x) same first) (subst (λ (x : FreePages). Tries (drained x) cpu order got new) same second)
+    step got (subst (λ (x : FreePages). Tries f cpu order None x) same first)
+    (subst (λ (x : FreePages). Tries (drained x) cpu order got new) same second)
   where
-    step : (got : Option ℕ) → Tries f cpu order None f → Tries (drained f) cpu order got new → Serves f cpu order got new
+    step : (got : Option ℕ) → Tries f cpu order None f → Tries (drained f) cpu order got new
+        → Serves f cpu order got new
     step None a b =
         let e = (tries_none (drained f) new cpu order b).0 in
         (a, subst (λ (x : FreePages). Tries (drained f) cpu order None x) e b, e)
     step (Some s) a b = inr (a, b)
 
-pub give_large : (f : FreePages) (cpu s k : ℕ) → 0 < k → free_of (with_pages (pages_of (block_at s k)) f.areas) f.lists ≡ given_back cpu s k f
+pub give_large : (f : FreePages) (cpu s k : ℕ) → 0 < k
+    → free_of (with_pages (pages_of (block_at s k)) f.areas) f.lists ≡ given_back cpu s k f
 give_large f cpu s zero h = absurd (omega arith)
 give_large f cpu s (suc k) h = refl
 
@@ -462,71 +736,122 @@ given_zero f cpu s k h = let e : 0 ≡ k = omega arith in ap (λ (n : ℕ). give
 
 -- ---- a whole row of lists
 
-pub rows_back : (n : ℕ) (ys xs : List (List ℕ)) → n ≡ length xs → length ys ≡ length xs → take n (ys ++ drop (length ys) xs) ≡ ys
+pub rows_back : (n : ℕ) (ys xs : List (List ℕ)) → n ≡ length xs → length ys ≡ length xs
+    → take n (ys ++ drop (length ys) xs) ≡ ys
 rows_back n ys xs e l =
     ap (λ (zs : List (List ℕ)). take n (ys ++ zs)) (drop_all (length ys) xs (omega arith))
     ∙ (ap (λ (zs : List (List ℕ)). take n zs) (append-nil ys) ∙ take_all n ys (omega arith))
 
-pub all_nothing : (ys xs : List (List ℕ)) → length ys ≡ length xs → ((k : ℕ) → k < length xs → get_or ys k nothing ≡ nothing) → ys ≡ map (λ (l : List ℕ). nothing) xs
+pub all_nothing : (ys xs : List (List ℕ)) → length ys ≡ length xs
+    → ((k : ℕ) → k < length xs → get_or ys k nothing ≡ nothing)
+    → ys ≡ map (λ (l : List ℕ). nothing) xs
 all_nothing ys xs l h =
-    same_lists ys (map (λ (x : List ℕ). nothing) xs) (l ∙ sym (length-map xs (λ (x : List ℕ). nothing))) (λ k e b.
-    get_or_default ys k e nothing b ∙ (h k (omega (arith, l)) ∙ (sym (list-empty xs k) ∙ get_or_default (map (λ (x : List ℕ). nothing) xs) k nothing e (omega (arith, l, length-map xs (λ (x : List ℕ). nothing))))))
+    same_lists ys (map (λ (x : List ℕ). nothing) xs)
+    (l ∙ sym (length-map xs (λ (x : List ℕ). nothing))) (λ k e b.
+    get_or_default ys k e nothing b
+    ∙ (h k (omega (arith, l))
+    ∙ (sym (list-empty xs k)
+    ∙ get_or_default (map (λ (x : List ℕ). nothing) xs) k nothing e
+    (omega (arith, l, length-map xs (λ (x : List ℕ). nothing))))))
 
-pub isolated_sound : (f : FreePages) (new : List Bool) (order from : ℕ) (got : Option FreeBlock) → IsSoundFree f
+pub isolated_sound : (f : FreePages) (new : List Bool) (order from : ℕ) (got : Option FreeBlock)
+    → IsSoundFree f
     → MatchOption got
-    (((start larger : ℕ) → order ≤ larger → from ≤ start → IsMaximal f.areas (block_at start larger) → ⊥) × (new ≡ f.areas))
-    (λ b. IsLowestFrom f.areas order from (block_at b.start b.order) × (new ≡ without_pages (pages_of (block_at b.start b.order)) f.areas))
+    (((start larger : ℕ) → order ≤ larger → from ≤ start → IsMaximal f.areas (block_at start larger)
+    → ⊥) × (new ≡ f.areas))
+    (λ b. IsLowestFrom f.areas order from (block_at b.start b.order)
+    × (new ≡ without_pages (pages_of (block_at b.start b.order)) f.areas))
     → IsSoundFree (free_of new f.lists)
-isolated_sound f new order from None sound h = subst (λ (x : List Bool). IsSoundFree (free_of x f.lists)) (sym h.1) sound
-isolated_sound f new order from (Some b) sound h = subst (λ (x : List Bool). IsSoundFree (free_of x f.lists)) (sym h.1) (without_sound f (pages_of (block_at b.start b.order)) sound)
+isolated_sound f new order from None sound h =
+    subst (λ (x : List Bool). IsSoundFree (free_of x f.lists)) (sym h.1) sound
+isolated_sound f new order from (Some b) sound h =
+    subst (λ (x : List Bool). IsSoundFree (free_of x f.lists)) (sym h.1)
+    (without_sound f (pages_of (block_at b.start b.order)) sound)
 
-pub sound_at : (x y : List Bool) (xs ys : List (List ℕ)) → x ≡ y → xs ≡ ys → IsSoundFree (free_of y ys) → IsSoundFree (free_of x xs)
+pub sound_at : (x y : List Bool) (xs ys : List (List ℕ)) → x ≡ y → xs ≡ ys
+    → IsSoundFree (free_of y ys) → IsSoundFree (free_of x xs)
 sound_at x y xs ys e l s = subst IsSoundFree (sym (same_free (free_of x xs) (free_of y ys) e l)) s
 
 -- what comes back is free once more
-pub given_times : (f : FreePages) (cpu s k : ℕ) → IsSoundFree f → cpu < length f.lists → HasRoomFor f s k → (p : ℕ) → times_free (given_back cpu s k f) p ≡ times_free f p + one_if (covers p (block_at s k))
+pub given_times : (f : FreePages) (cpu s k : ℕ) → IsSoundFree f → cpu < length f.lists
+    → HasRoomFor f s k → (p : ℕ)
+    → times_free (given_back cpu s k f) p ≡ times_free f p + one_if (covers p (block_at s k))
 given_times f cpu s (suc k) sound l room p = omega (arith, block_times f s (suc k) sound room p)
 given_times f cpu s zero sound l room p =
     let long = longer f cpu s sound l room in
-    let more : times p long ≡ times p (list_of f cpu) + one_if (s == p) = times-append p (list_of f cpu) (s ∷ []) ∙ ap (λ (n : ℕ). times p (list_of f cpu) + n) (times-one p s) in
+    let more : times p long ≡ times p (list_of f cpu) + one_if (s == p) =
+    times-append p (list_of f cpu) (s ∷ [])
+    ∙ ap (λ (n : ℕ). times p (list_of f cpu) + n) (times-one p s) in
     elim (cases_eq (length long) 16) [
       | inl full ↦
-          let e : times_free (given_back cpu s 0 f) p ≡ times_free (free_of (with_pages (take 8 long) f.areas) (set f.lists cpu (drop 8 long))) p = ap (λ (x : FreePages). times_free x p) (sym (given_full f cpu s sound l room full)) in
-          omega (arith, e, with_times f.areas (take 8 long) (front_once f cpu s sound l room) p, front_times f cpu s sound l room p, times-set p f.lists cpu (drop 8 long) l, more, covers_one s p)
+          let e : times_free (given_back cpu s 0 f) p
+          ≡ times_free (free_of (with_pages (take 8 long) f.areas)
+          (set f.lists cpu (drop 8 long))) p = ap (λ (x : FreePages). times_free x p)
+          (sym (given_full f cpu s sound l room full)) in
+          omega (
+            arith,
+            e,
+            with_times f.areas (take 8 long) (front_once f cpu s sound l room) p,
+            front_times f cpu s sound l room p,
+            times-set p f.lists cpu (drop 8 long) l,
+            more,
+            covers_one s p,
+          )
       | inr short ↦
-          let e : times_free (given_back cpu s 0 f) p ≡ times_free (free_of f.areas (set f.lists cpu long)) p = ap (λ (x : FreePages). times_free x p) (sym (given_short f cpu s sound l room short)) in
+          let e : times_free (given_back cpu s 0 f) p
+          ≡ times_free (free_of f.areas (set f.lists cpu long)) p =
+          ap (λ (x : FreePages). times_free x p)
+          (sym (given_short f cpu s sound l room short)) in
           omega (arith, e, times-set p f.lists cpu long l, more, covers_one s p)
     ]
 
-pub given_length : (f : FreePages) (cpu s k : ℕ) → IsSoundFree f → cpu < length f.lists → HasRoomFor f s k → length (given_back cpu s k f).areas ≡ length f.areas
-given_length f cpu s (suc k) sound l room = length-with_pages (pages_of (block_at s (suc k))) f.areas
+pub given_length : (f : FreePages) (cpu s k : ℕ) → IsSoundFree f → cpu < length f.lists
+    → HasRoomFor f s k → length (given_back cpu s k f).areas ≡ length f.areas
+given_length f cpu s (suc k) sound l room =
+    length-with_pages (pages_of (block_at s (suc k))) f.areas
 given_length f cpu s zero sound l room =
     let long = longer f cpu s sound l room in
     elim (cases_eq (length long) 16) [
-      | inl full ↦ ap (λ (x : FreePages). length x.areas) (sym (given_full f cpu s sound l room full)) ∙ length-with_pages (take 8 long) f.areas
-      | inr short ↦ ap (λ (x : FreePages). length x.areas) (sym (given_short f cpu s sound l room short))
+      | inl full ↦ ap (λ (x : FreePages). length x.areas)
+          (sym (given_full f cpu s sound l room full)) ∙ length-with_pages (take 8 long) f.areas
+      | inr short ↦ ap (λ (x : FreePages). length x.areas)
+          (sym (given_short f cpu s sound l room short))
     ]
 
-tries_length : (f new : FreePages) (cpu order : ℕ) (got : Option ℕ) → Tries f cpu order got new → length new.areas ≡ length f.areas
+tries_length : (f new : FreePages) (cpu order : ℕ) (got : Option ℕ) → Tries f cpu order got new
+    → length new.areas ≡ length f.areas
 tries_length f new cpu zero got h = single_areas f.areas new.areas (list_of f cpu) h.0 got h.1
 tries_length f new cpu (suc order) None h = ap length h.0.1
-tries_length f new cpu (suc order) (Some s) h = ap length h.0.1 ∙ length-without_pages (pages_of (block_at s (suc order))) f.areas
+tries_length f new cpu (suc order) (Some s) h =
+    ap length h.0.1 ∙ length-without_pages (pages_of (block_at s (suc order))) f.areas
 
-pub serves_length : (f new : FreePages) (cpu order start : ℕ) → Serves f cpu order (Some start) new → length new.areas ≡ length f.areas
+pub serves_length : (f new : FreePages) (cpu order start : ℕ) → Serves f cpu order (Some start) new
+    → length new.areas ≡ length f.areas
 serves_length f new cpu order start h =
     elim h [
       | inl now ↦ tries_length f new cpu order (Some start) now
-      | inr later ↦ tries_length (drained f) new cpu order (Some start) later.1 ∙ length-with_pages (in_lists f) f.areas
+      | inr later ↦ tries_length (drained f) new cpu order (Some start) later.1
+          ∙ length-with_pages (in_lists f) f.areas
     ]
 
-tries_is_block : (f new : FreePages) (cpu order start : ℕ) → Tries f cpu order (Some start) new → IsBlock (block_at start order)
+tries_is_block : (f new : FreePages) (cpu order start : ℕ) → Tries f cpu order (Some start) new
+    → IsBlock (block_at start order)
 tries_is_block f new cpu zero start h = page_block start
 tries_is_block f new cpu (suc order) start h = taken_block f.areas (suc order) start h.0.0.0 h.0.0.1
   where
-    taken_block : (set : List Bool) (k s j : ℕ) → IsChosen set k (block_at s j) → IsBlock (block_at s k)
-    taken_block set k s j c =
-        (omega (arith, c.sufficient, c.maximal.is_block.0), eq-eqb (s % 2 ^ k) 0 (aligned_down s k j c.sufficient (eqb-true (s % 2 ^ j) 0 c.maximal.is_block.1)))
+    taken_block : (set : List Bool) (k s j : ℕ) → IsChosen set k (block_at s j)
+        → IsBlock (block_at s k)
+    taken_block set k s j c = (
+      omega (arith, c.sufficient, c.maximal.is_block.0),
+      eq-eqb (s % 2 ^ k) 0 (aligned_down s k j c.sufficient
+          (eqb-true (s % 2 ^ j) 0 c.maximal.is_block.1)),
+    )
 
-pub serves_is_block : (f new : FreePages) (cpu order start : ℕ) → Serves f cpu order (Some start) new → IsBlock (block_at start order)
+pub serves_is_block : (f new : FreePages) (cpu order start : ℕ)
+    → Serves f cpu order (Some start) new → IsBlock (block_at start order)
 serves_is_block f new cpu order start h =
-    elim h [ inl now ↦ tries_is_block f new cpu order start now | inr later ↦ tries_is_block (drained f) new cpu order start later.1 ]
+    elim h [
+      | inl now ↦ tries_is_block f new cpu order start now
+      | inr later ↦
+          tries_is_block (drained f) new cpu order start later.1
+    ]

@@ -1,9 +1,15 @@
 -- Held blocks in a table.
-use Rattle.std.proofs.Common.{◌≡◌, ℕ, zero, suc, ◌+◌, ◌-◌, ◌%◌, ◌^◌, ◌<◌, ◌≤◌, inl, inr, Bool, true, false, List, [], ◌∷◌, length, set, replicate, Option, Some, None, refl, sym, ◌∙◌, ap, arith}
+use Rattle.std.proofs.Common.{◌≡◌, ℕ, zero, suc, ◌+◌, ◌-◌, ◌%◌, ◌^◌, ◌<◌, ◌≤◌, inl, inr, Bool, true}
+use Rattle.std.proofs.Common.{false, List, [], ◌∷◌, length, set, replicate, Option, Some, None}
+use Rattle.std.proofs.Common.{refl, sym, ◌∙◌, ap, arith}
 use Rattle.std.specs.Prelude.{◌==◌, nat_lt, nat_le}
 use Rattle.std.specs.List.{list_any}
-use Rattle.std.proofs.lemmas.List.{get_or-set_same, get_or-set_other, get_or-replicate, length-replicate}
-use Rattle.std.proofs.lemmas.Bool.{cases_eq, both_ways, or_cases, or_left, or_right, and_parts, and_from, eqb-true, eq-eqb, ne_eqb, ltb-true, lt-ltb, le-ltb, le-leb, leb-true, cond-true, cond-false, and_left, false_from_ne_true}
+use Rattle.std.proofs.lemmas.List.{get_or-set_same, get_or-set_other, get_or-replicate}
+use Rattle.std.proofs.lemmas.List.{length-replicate}
+use Rattle.std.proofs.lemmas.Bool.{cases_eq, both_ways, or_cases, or_left, or_right, and_parts}
+use Rattle.std.proofs.lemmas.Bool.{and_from, eqb-true, eq-eqb, ne_eqb, ltb-true, lt-ltb, le-ltb}
+use Rattle.std.proofs.lemmas.Bool.{le-leb, leb-true, cond-true, cond-false, and_left}
+use Rattle.std.proofs.lemmas.Bool.{false_from_ne_true}
 use Rattle.std.proofs.lemmas.Nat.{pow_pos}
 use Rattle.vb_model.specs.Pages.{Block, covers, is_same_block}
 use Rattle.vb_model.specs.Driver.{with_block, without_block}
@@ -17,22 +23,33 @@ moved : (f i : ℕ) → suc f + i ≡ f + suc i
 moved f i = omega arith
 
 -- a block before all others stands first
-with_front : (b : Block) (f : ℕ) (t : List (Option ℕ)) → b.start < f → with_block b (blocks_from f t) ≡ b ∷ blocks_from f t
+with_front : (b : Block) (f : ℕ) (t : List (Option ℕ)) → b.start < f
+    → with_block b (blocks_from f t) ≡ b ∷ blocks_from f t
 with_front b f [] h = refl
 with_front b f (None ∷ t) h = with_front b (suc f) t (omega arith)
-with_front b f (Some j ∷ t) h = cond-true (nat_lt b.start f) (b ∷ block_at f j ∷ blocks_from (suc f) t) (block_at f j ∷ with_block b (blocks_from (suc f) t)) (lt-ltb b.start f h)
+with_front b f (Some j ∷ t) h =
+    cond-true (nat_lt b.start f) (b ∷ block_at f j ∷ blocks_from (suc f) t)
+    (block_at f j ∷ with_block b (blocks_from (suc f) t)) (lt-ltb b.start f h)
 
-blocks_from-with : (f i k : ℕ) (t : List (Option ℕ)) → i < length t → order_at t i ≡ None → blocks_from f (set t i (Some k)) ≡ with_block (block_at (f + i) k) (blocks_from f t)
+blocks_from-with : (f i k : ℕ) (t : List (Option ℕ)) → i < length t → order_at t i ≡ None
+    → blocks_from f (set t i (Some k)) ≡ with_block (block_at (f + i) k) (blocks_from f t)
 blocks_from-with f i k [] h e = absurd (omega arith)
 blocks_from-with f zero k (None ∷ t) h e =
     let z : f + 0 ≡ f = omega arith in
-    sym (with_front (block_at (f + 0) k) (suc f) t (omega arith) ∙ ap (λ (n : ℕ). block_at n k ∷ blocks_from (suc f) t) z)
+    sym (with_front (block_at (f + 0) k) (suc f) t (omega arith)
+    ∙ ap (λ (n : ℕ). block_at n k ∷ blocks_from (suc f) t) z)
 blocks_from-with f zero k (Some j ∷ t) h e = absurd (let bad : Some j ≡ None = e in cc)
 blocks_from-with f (suc i) k (None ∷ t) h e =
-    blocks_from-with (suc f) i k t (omega arith) e ∙ ap (λ (n : ℕ). with_block (block_at n k) (blocks_from (suc f) t)) (moved f i)
+    blocks_from-with (suc f) i k t (omega arith) e
+    ∙ ap (λ (n : ℕ). with_block (block_at n k) (blocks_from (suc f) t)) (moved f i)
 blocks_from-with f (suc i) k (Some j ∷ t) h e =
-    ap (λ (bs : List Block). block_at f j ∷ bs) (blocks_from-with (suc f) i k t (omega arith) e ∙ ap (λ (n : ℕ). with_block (block_at n k) (blocks_from (suc f) t)) (moved f i))
-    ∙ sym (cond-false (nat_lt (f + suc i) f) (block_at (f + suc i) k ∷ block_at f j ∷ blocks_from (suc f) t) (block_at f j ∷ with_block (block_at (f + suc i) k) (blocks_from (suc f) t)) (le-ltb (f + suc i) f (omega arith)))
+    ap (λ (bs : List Block). block_at f j ∷ bs)
+    (blocks_from-with (suc f) i k t (omega arith) e
+    ∙ ap (λ (n : ℕ). with_block (block_at n k) (blocks_from (suc f) t)) (moved f i))
+    ∙ sym (cond-false (nat_lt (f + suc i) f)
+    (block_at (f + suc i) k ∷ block_at f j ∷ blocks_from (suc f) t)
+    (block_at f j ∷ with_block (block_at (f + suc i) k) (blocks_from (suc f) t))
+    (le-ltb (f + suc i) f (omega arith)))
 
 same_here : (f j k : ℕ) → j ≡ k → is_same_block (block_at f j) (block_at (f + 0) k) ≡ true
 same_here f j k e = and_from (f == f + 0) (j == k) (eq-eqb f (f + 0) (omega arith)) (eq-eqb j k e)
@@ -40,58 +57,86 @@ same_here f j k e = and_from (f == f + 0) (j == k) (eq-eqb f (f + 0) (omega arit
 other_here : (f i j k : ℕ) → is_same_block (block_at f j) (block_at (f + suc i) k) ≡ false
 other_here f i j k = and_left (f == f + suc i) (j == k) (ne_eqb f (f + suc i) (λ e. omega arith))
 
-blocks_from-without : (f i k : ℕ) (t : List (Option ℕ)) → order_at t i ≡ Some k → blocks_from f (set t i None) ≡ without_block (block_at (f + i) k) (blocks_from f t)
+blocks_from-without : (f i k : ℕ) (t : List (Option ℕ)) → order_at t i ≡ Some k
+    → blocks_from f (set t i None) ≡ without_block (block_at (f + i) k) (blocks_from f t)
 blocks_from-without f i k [] e = absurd (let bad : None ≡ Some k = e in cc)
 blocks_from-without f zero k (None ∷ t) e = absurd (let bad : None ≡ Some k = e in cc)
 blocks_from-without f zero k (Some j ∷ t) e =
     let q : Some j ≡ Some k = e in
     let same : j ≡ k = cc in
-    sym (cond-true (is_same_block (block_at f j) (block_at (f + 0) k)) (blocks_from (suc f) t) (block_at f j ∷ without_block (block_at (f + 0) k) (blocks_from (suc f) t)) (same_here f j k same))
+    sym (cond-true (is_same_block (block_at f j) (block_at (f + 0) k)) (blocks_from (suc f) t)
+    (block_at f j ∷ without_block (block_at (f + 0) k) (blocks_from (suc f) t))
+    (same_here f j k same))
 blocks_from-without f (suc i) k (None ∷ t) e =
-    blocks_from-without (suc f) i k t e ∙ ap (λ (n : ℕ). without_block (block_at n k) (blocks_from (suc f) t)) (moved f i)
+    blocks_from-without (suc f) i k t e
+    ∙ ap (λ (n : ℕ). without_block (block_at n k) (blocks_from (suc f) t)) (moved f i)
 blocks_from-without f (suc i) k (Some j ∷ t) e =
-    ap (λ (bs : List Block). block_at f j ∷ bs) (blocks_from-without (suc f) i k t e ∙ ap (λ (n : ℕ). without_block (block_at n k) (blocks_from (suc f) t)) (moved f i))
-    ∙ sym (cond-false (is_same_block (block_at f j) (block_at (f + suc i) k)) (blocks_from (suc f) t) (block_at f j ∷ without_block (block_at (f + suc i) k) (blocks_from (suc f) t)) (other_here f i j k))
+    ap (λ (bs : List Block). block_at f j ∷ bs)
+    (blocks_from-without (suc f) i k t e
+    ∙ ap (λ (n : ℕ). without_block (block_at n k) (blocks_from (suc f) t)) (moved f i))
+    ∙ sym (cond-false (is_same_block (block_at f j) (block_at (f + suc i) k))
+    (blocks_from (suc f) t)
+    (block_at f j ∷ without_block (block_at (f + suc i) k) (blocks_from (suc f) t))
+    (other_here f i j k))
 
 -- a test that a block of the table passes
-any_from : (test : Block → Bool) (f : ℕ) (t : List (Option ℕ)) → list_any test (blocks_from f t) ≡ true → (i : ℕ) × (k : ℕ) × (order_at t i ≡ Some k) × (test (block_at (f + i) k) ≡ true)
+any_from : (test : Block → Bool) (f : ℕ) (t : List (Option ℕ))
+    → list_any test (blocks_from f t) ≡ true
+    → (i : ℕ) × (k : ℕ) × (order_at t i ≡ Some k) × (test (block_at (f + i) k) ≡ true)
 any_from test f [] h = absurd (both_ways false refl h)
 any_from test f (None ∷ t) h =
     let q = any_from test (suc f) t h in
     (suc q.0, q.1, q.2, ap (λ (n : ℕ). test (block_at n q.1)) (sym (moved f q.0)) ∙ q.3)
 any_from test f (Some j ∷ t) h =
     elim (or_cases (test (block_at f j)) (list_any test (blocks_from (suc f) t)) h) [
-      | inl e ↦ (0, j, refl, ap (λ (n : ℕ). test (block_at n j)) (let z : f + 0 ≡ f = omega arith in z) ∙ e)
+      | inl e ↦ (
+        0,
+        j,
+        refl,
+        ap (λ (n : ℕ). test (block_at n j)) (let z : f + 0 ≡ f = omega arith in z) ∙ e,
+      )
       | inr m ↦
           let q = any_from test (suc f) t m in
           (suc q.0, q.1, q.2, ap (λ (n : ℕ). test (block_at n q.1)) (sym (moved f q.0)) ∙ q.3)
     ]
 
-any_to : (test : Block → Bool) (f : ℕ) (t : List (Option ℕ)) (i k : ℕ) → order_at t i ≡ Some k → test (block_at (f + i) k) ≡ true → list_any test (blocks_from f t) ≡ true
+any_to : (test : Block → Bool) (f : ℕ) (t : List (Option ℕ)) (i k : ℕ) → order_at t i ≡ Some k
+    → test (block_at (f + i) k) ≡ true → list_any test (blocks_from f t) ≡ true
 any_to test f [] i k e h = absurd (let bad : None ≡ Some k = e in cc)
 any_to test f (None ∷ t) zero k e h = absurd (let bad : None ≡ Some k = e in cc)
-any_to test f (None ∷ t) (suc i) k e h = any_to test (suc f) t i k e (ap (λ (n : ℕ). test (block_at n k)) (moved f i) ∙ h)
+any_to test f (None ∷ t) (suc i) k e h =
+    any_to test (suc f) t i k e (ap (λ (n : ℕ). test (block_at n k)) (moved f i) ∙ h)
 any_to test f (Some j ∷ t) zero k e h =
     let q : Some j ≡ Some k = e in
     let same : j ≡ k = cc in
-    or_left (test (block_at f j)) (list_any test (blocks_from (suc f) t)) (ap (λ (n : ℕ). test (block_at f n)) same ∙ (ap (λ (n : ℕ). test (block_at n k)) (let z : f ≡ f + 0 = omega arith in z) ∙ h))
+    or_left (test (block_at f j)) (list_any test (blocks_from (suc f) t))
+    (ap (λ (n : ℕ). test (block_at f n)) same
+    ∙ (ap (λ (n : ℕ). test (block_at n k)) (let z : f ≡ f + 0 = omega arith in z) ∙ h))
 any_to test f (Some j ∷ t) (suc i) k e h =
-    or_right (test (block_at f j)) (list_any test (blocks_from (suc f) t)) (any_to test (suc f) t i k e (ap (λ (n : ℕ). test (block_at n k)) (moved f i) ∙ h))
+    or_right (test (block_at f j)) (list_any test (blocks_from (suc f) t))
+    (any_to test (suc f) t i k e (ap (λ (n : ℕ). test (block_at n k)) (moved f i) ∙ h))
 
 at_zero : (i : ℕ) → 0 + i ≡ i
 at_zero i = omega arith
 
 -- ---- what callers need
 
-pub blocks-with : (s k : ℕ) (t : List (Option ℕ)) → s < length t → order_at t s ≡ None → blocks_of (set t s (Some k)) ≡ with_block (block_at s k) (blocks_of t)
+pub blocks-with : (s k : ℕ) (t : List (Option ℕ)) → s < length t → order_at t s ≡ None
+    → blocks_of (set t s (Some k)) ≡ with_block (block_at s k) (blocks_of t)
 unfolding blocks_of
-blocks-with s k t h e = blocks_from-with 0 s k t h e ∙ ap (λ (n : ℕ). with_block (block_at n k) (blocks_from 0 t)) (at_zero s)
+blocks-with s k t h e =
+    blocks_from-with 0 s k t h e
+    ∙ ap (λ (n : ℕ). with_block (block_at n k) (blocks_from 0 t)) (at_zero s)
 
-pub blocks-without : (s k : ℕ) (t : List (Option ℕ)) → order_at t s ≡ Some k → blocks_of (set t s None) ≡ without_block (block_at s k) (blocks_of t)
+pub blocks-without : (s k : ℕ) (t : List (Option ℕ)) → order_at t s ≡ Some k
+    → blocks_of (set t s None) ≡ without_block (block_at s k) (blocks_of t)
 unfolding blocks_of
-blocks-without s k t e = blocks_from-without 0 s k t e ∙ ap (λ (n : ℕ). without_block (block_at n k) (blocks_from 0 t)) (at_zero s)
+blocks-without s k t e =
+    blocks_from-without 0 s k t e
+    ∙ ap (λ (n : ℕ). without_block (block_at n k) (blocks_from 0 t)) (at_zero s)
 
-pub holds_at : (s k : ℕ) (t : List (Option ℕ)) → list_any (λ h. is_same_block h (block_at s k)) (blocks_of t) ≡ true → order_at t s ≡ Some k
+pub holds_at : (s k : ℕ) (t : List (Option ℕ))
+    → list_any (λ h. is_same_block h (block_at s k)) (blocks_of t) ≡ true → order_at t s ≡ Some k
 unfolding blocks_of
 holds_at s k t h =
     let q = any_from (λ b. is_same_block b (block_at s k)) 0 t h in
@@ -99,35 +144,53 @@ holds_at s k t h =
     let start : q.0 ≡ s = omega (arith, eqb-true (0 + q.0) s parts.0) in
     ap (order_at t) (sym start) ∙ (q.2 ∙ ap (λ (n : ℕ). Some n) (eqb-true q.1 k parts.1))
 
-pub at_holds : (s k : ℕ) (t : List (Option ℕ)) → order_at t s ≡ Some k → list_any (λ h. is_same_block h (block_at s k)) (blocks_of t) ≡ true
+pub at_holds : (s k : ℕ) (t : List (Option ℕ)) → order_at t s ≡ Some k
+    → list_any (λ h. is_same_block h (block_at s k)) (blocks_of t) ≡ true
 unfolding blocks_of
 at_holds s k t e =
-    any_to (λ b. is_same_block b (block_at s k)) 0 t s k e (and_from (0 + s == s) (k == k) (eq-eqb (0 + s) s (at_zero s)) (eq-eqb k k refl))
+    any_to (λ b. is_same_block b (block_at s k)) 0 t s k e
+    (and_from (0 + s == s) (k == k) (eq-eqb (0 + s) s (at_zero s)) (eq-eqb k k refl))
 
-pub covers_at : (p : ℕ) (t : List (Option ℕ)) → list_any (covers p) (blocks_of t) ≡ true → (s : ℕ) × (k : ℕ) × (order_at t s ≡ Some k) × (s ≤ p) × (p < s + 2 ^ k)
+pub covers_at : (p : ℕ) (t : List (Option ℕ)) → list_any (covers p) (blocks_of t) ≡ true
+    → (s : ℕ) × (k : ℕ) × (order_at t s ≡ Some k) × (s ≤ p) × (p < s + 2 ^ k)
 unfolding blocks_of
 covers_at p t h =
     let q = any_from (covers p) 0 t h in
-    let parts = and_parts (nat_le (0 + q.0) p) (nat_lt p ((0 + q.0) + 2 ^ q.1)) q.3 in
-    (q.0, q.1, q.2, omega (arith, leb-true (0 + q.0) p parts.0), omega (arith, ltb-true p ((0 + q.0) + 2 ^ q.1) parts.1))
+    let parts = and_parts (nat_le (0 + q.0) p) (nat_lt p ((0 + q.0) + 2 ^ q.1)) q.3 in (
+      q.0,
+      q.1,
+      q.2,
+      omega (arith, leb-true (0 + q.0) p parts.0),
+      omega (arith, ltb-true p ((0 + q.0) + 2 ^ q.1) parts.1),
+    )
 
-pub at_covers : (p s k : ℕ) (t : List (Option ℕ)) → order_at t s ≡ Some k → s ≤ p → p < s + 2 ^ k → list_any (covers p) (blocks_of t) ≡ true
+pub at_covers : (p s k : ℕ) (t : List (Option ℕ)) → order_at t s ≡ Some k → s ≤ p → p < s + 2 ^ k
+    → list_any (covers p) (blocks_of t) ≡ true
 unfolding blocks_of
 at_covers p s k t e l h =
-    any_to (covers p) 0 t s k e (and_from (nat_le (0 + s) p) (nat_lt p ((0 + s) + 2 ^ k)) (le-leb (0 + s) p (omega arith)) (lt-ltb p ((0 + s) + 2 ^ k) (omega arith)))
+    any_to (covers p) 0 t s k e
+    (and_from (nat_le (0 + s) p) (nat_lt p ((0 + s) + 2 ^ k)) (le-leb (0 + s) p (omega arith))
+    (lt-ltb p ((0 + s) + 2 ^ k) (omega arith)))
 
 -- no block covers the page, so none starts there
-pub uncovered_empty : (s : ℕ) (t : List (Option ℕ)) → list_any (covers s) (blocks_of t) ≡ false → order_at t s ≡ None
+pub uncovered_empty : (s : ℕ) (t : List (Option ℕ)) → list_any (covers s) (blocks_of t) ≡ false
+    → order_at t s ≡ None
 uncovered_empty s t h = step (order_at t s) refl
   where
     step : (o : Option ℕ) → order_at t s ≡ o → o ≡ None
     step None e = refl
-    step (Some k) e = let pos : 0 < 2 ^ k = pow_pos k in absurd (both_ways (list_any (covers s) (blocks_of t)) h (at_covers s s k t e (omega arith) (omega arith)))
+    step (Some k) e = let pos : 0 < 2 ^ k = pow_pos k in
+        absurd (both_ways (list_any (covers s) (blocks_of t)) h
+        (at_covers s s k t e (omega arith) (omega arith)))
 
-pub covers_found : (p k : ℕ) (t : List (Option ℕ)) → order_at t (p - p % 2 ^ k) ≡ Some k → list_any (covers p) (blocks_of t) ≡ true
-covers_found p k t e = let pos : 0 < 2 ^ k = pow_pos k in at_covers p (p - p % 2 ^ k) k t e (omega arith) (omega arith)
+pub covers_found : (p k : ℕ) (t : List (Option ℕ)) → order_at t (p - p % 2 ^ k) ≡ Some k
+    → list_any (covers p) (blocks_of t) ≡ true
+covers_found p k t e = let pos : 0 < 2 ^ k = pow_pos k in
+    at_covers p (p - p % 2 ^ k) k t e (omega arith) (omega arith)
 
-pub covers_not_found : (p : ℕ) (t : List (Option ℕ)) → IsAligned t → ((k : ℕ) → k < 10 → order_at t (p - p % 2 ^ k) ≡ Some k → ⊥) → list_any (covers p) (blocks_of t) ≡ false
+pub covers_not_found : (p : ℕ) (t : List (Option ℕ)) → IsAligned t
+    → ((k : ℕ) → k < 10 → order_at t (p - p % 2 ^ k) ≡ Some k → ⊥)
+    → list_any (covers p) (blocks_of t) ≡ false
 covers_not_found p t aligned none =
     false_from_ne_true (list_any (covers p) (blocks_of t)) (λ h.
     let q = covers_at p t h in
@@ -135,34 +198,49 @@ covers_not_found p t aligned none =
     let pos : 0 < 2 ^ k = pow_pos k in
     let low : p - p % 2 ^ k ≤ p = omega arith in
     let high : p < (p - p % 2 ^ k) + 2 ^ k = omega arith in
-    let same : p - p % 2 ^ k ≡ q.0 = aligned_same (p - p % 2 ^ k) q.0 (2 ^ k) p (floor_aligned p (2 ^ k) pos) (aligned.aligned q.0 k q.2) low high q.3 q.4 in
+    let same : p - p % 2 ^ k ≡ q.0 =
+    aligned_same (p - p % 2 ^ k) q.0 (2 ^ k) p (floor_aligned p (2 ^ k) pos)
+    (aligned.aligned q.0 k q.2) low high q.3 q.4 in
     let nine : k ≤ 9 = aligned.bounded q.0 k q.2 in
     none k (omega arith) (ap (order_at t) same ∙ q.2))
 
-pub with_aligned : (s k : ℕ) (t : List (Option ℕ)) → s < length t → IsBlock (block_at s k) → IsAligned t → IsAligned (set t s (Some k))
-with_aligned s k t l b h = record { bounded = λ r j e. (both r j e).0; aligned = λ r j e. (both r j e).1 }
+pub with_aligned : (s k : ℕ) (t : List (Option ℕ)) → s < length t → IsBlock (block_at s k)
+    → IsAligned t → IsAligned (set t s (Some k))
+with_aligned s k t l b h =
+    record { bounded = λ r j e. (both r j e).0; aligned = λ r j e. (both r j e).1 }
   where
     both : (r j : ℕ) → order_at (set t s (Some k)) r ≡ Some j → (j ≤ 9) × (r % 2 ^ j ≡ 0)
     both r j e =
         elim (cases_eq r s) [
           | inl same ↦
-              let n : order_at (set t s (Some k)) r ≡ Some k = ap (order_at (set t s (Some k))) same ∙ get_or-set_same t s (Some k) None l in
+              let n : order_at (set t s (Some k)) r ≡ Some k =
+              ap (order_at (set t s (Some k))) same ∙ get_or-set_same t s (Some k) None l in
               let q : Some j ≡ Some k = sym e ∙ n in
-              let o : j ≡ k = cc in
-              (omega (arith, b.0, o), ap (λ (x : ℕ). x % 2 ^ j) same ∙ (ap (λ (x : ℕ). s % 2 ^ x) o ∙ eqb-true (s % 2 ^ k) 0 b.1))
+              let o : j ≡ k = cc in (
+                omega (arith, b.0, o),
+                ap (λ (x : ℕ). x % 2 ^ j) same
+                    ∙ (ap (λ (x : ℕ). s % 2 ^ x) o ∙ eqb-true (s % 2 ^ k) 0 b.1),
+              )
           | inr differ ↦
-              let old : order_at t r ≡ Some j = sym (get_or-set_other t s r (Some k) None differ) ∙ e in
+              let old : order_at t r ≡ Some j =
+              sym (get_or-set_other t s r (Some k) None differ) ∙ e in
               (h.bounded r j old, h.aligned r j old)
         ]
 
-pub without_aligned : (s : ℕ) (t : List (Option ℕ)) → s < length t → IsAligned t → IsAligned (set t s None)
-without_aligned s t l h = record { bounded = λ r j e. h.bounded r j (old r j e); aligned = λ r j e. h.aligned r j (old r j e) }
+pub without_aligned : (s : ℕ) (t : List (Option ℕ)) → s < length t → IsAligned t
+    → IsAligned (set t s None)
+without_aligned s t l h =
+    record {
+      bounded = λ r j e. h.bounded r j (old r j e);
+      aligned = λ r j e. h.aligned r j (old r j e);
+    }
   where
     old : (r j : ℕ) → order_at (set t s None) r ≡ Some j → order_at t r ≡ Some j
     old r j e =
         elim (cases_eq r s) [
           | inl same ↦
-              let n : order_at (set t s None) r ≡ None = ap (order_at (set t s None)) same ∙ get_or-set_same t s None None l in
+              let n : order_at (set t s None) r ≡ None =
+              ap (order_at (set t s None)) same ∙ get_or-set_same t s None None l in
               absurd (let bad : Some j ≡ None = sym e ∙ n in cc)
           | inr differ ↦ sym (get_or-set_other t s r None None differ) ∙ e
         ]
@@ -176,11 +254,13 @@ unfolding blocks_of
 blocks-none n = none_from 0 n
 
 pub none_aligned : (n : ℕ) → IsAligned (replicate n None)
-none_aligned n = record { bounded = λ s k e. absurd (never s k e); aligned = λ s k e. absurd (never s k e) }
+none_aligned n = record
+    { bounded = λ s k e. absurd (never s k e); aligned = λ s k e. absurd (never s k e) }
   where
     never : (s k : ℕ) → order_at (replicate n None) s ≡ Some k → ⊥
     never s k e =
-        let l : s < n = omega (arith, is_there (replicate n None) s k e, length-replicate {A = Option ℕ} n None) in
+        let l : s < n = omega
+        (arith, is_there (replicate n None) s k e, length-replicate {A = Option ℕ} n None) in
         let bad : Some k ≡ None = sym e ∙ get_or-replicate n s None None l in
         cc
 

@@ -1,15 +1,21 @@
 -- Pages that move between a list and the areas: how often each is there.
-use Rattle.std.proofs.Common.{◌≡◌, ℕ, ◌+◌, ◌%◌, ◌^◌, ◌<◌, ◌≤◌, inl, inr, Bool, true, false, List, [], ◌∷◌, ◌++◌, length, Some, refl, sym, ◌∙◌, ap, subst, arith, length-append}
+use Rattle.std.proofs.Common.{◌≡◌, ℕ, ◌+◌, ◌%◌, ◌^◌, ◌<◌, ◌≤◌, inl, inr, Bool, true, false, List}
+use Rattle.std.proofs.Common.{[], ◌∷◌, ◌++◌, length, Some, refl, sym, ◌∙◌, ap, subst, arith}
+use Rattle.std.proofs.Common.{length-append}
 use Rattle.std.specs.Prelude.{◌==◌, count_by, nat_lt}
 use Rattle.std.proofs.lemmas.List.Folds.{list_any-append}
-use Rattle.std.proofs.lemmas.Bool.{cases_Bool, both_ways, or_cases, or_parts, or_left, or_right, eqb-true, eq-eqb, ltb-true, false_from_ne_true}
+use Rattle.std.proofs.lemmas.Bool.{cases_Bool, both_ways, or_cases, or_parts, or_left, or_right}
+use Rattle.std.proofs.lemmas.Bool.{eqb-true, eq-eqb, ltb-true, false_from_ne_true}
 use Rattle.vb_model.specs.Tests.{is_in, one_if}
 use Rattle.vb_model.specs.Pages.{pages_of, covers}
 use Rattle.vb_model.proofs.Tables.{count_by-cons, count_by-append}
 use Rattle.vb_model.proofs.PageSteps.{covers_is}
-use Rattle.vb_pages.specs.Areas.{has, with_pages, without_pages, block_at, IsBlock, HasNoBlock, TakesBlock}
+use Rattle.vb_pages.specs.Areas.{has, with_pages, without_pages, block_at, IsBlock, HasNoBlock}
+use Rattle.vb_pages.specs.Areas.{TakesBlock}
 use Rattle.vb_pages.specs.FreePages.{TakesPages}
-use Rattle.vb_pages.proofs.Sets.{with_union, with_cases, with_old, with_new, without_parts, without_old, length-with_pages, count_one, same_sets, in_block, block_bounds}
+use Rattle.vb_pages.proofs.Sets.{with_union, with_cases, with_old, with_new, without_parts}
+use Rattle.vb_pages.proofs.Sets.{without_old, length-with_pages, count_one, same_sets, in_block}
+use Rattle.vb_pages.proofs.Sets.{block_bounds}
 use Rattle.vb_pages.proofs.AreasLemmas.{taken_inside}
 
 -- how often a page is in a list
@@ -61,10 +67,12 @@ Once set list = (p : ℕ) → one_if (has set p) + times p list ≤ one_if (nat_
 pub with_none : (set : List Bool) → with_pages [] set ≡ set
 with_none set =
     same_sets (with_pages [] set) set (length-with_pages [] set)
-    (λ p e. elim (with_cases [] set p e) [ inl old ↦ old | inr new ↦ absurd (both_ways false refl new) ])
+    (λ p e. elim (with_cases [] set p e)
+    [ inl old ↦ old | inr new ↦ absurd (both_ways false refl new) ])
     (λ p e. with_old [] set p e)
 
-pub with_append : (xs ys : List ℕ) (set : List Bool) → with_pages xs (with_pages ys set) ≡ with_pages (xs ++ ys) set
+pub with_append : (xs ys : List ℕ) (set : List Bool)
+    → with_pages xs (with_pages ys set) ≡ with_pages (xs ++ ys) set
 with_append xs ys set =
     with_union xs ys (xs ++ ys) set
     (λ p h. or_cases (is_in p xs) (is_in p ys) (sym (list_any-append (λ m. m == p) xs ys) ∙ h))
@@ -72,24 +80,33 @@ with_append xs ys set =
     (λ p h. list_any-append (λ m. m == p) xs ys ∙ or_right (is_in p xs) (is_in p ys) h)
 
 -- how often a page is in a set that some pages came to
-pub with_times : (set : List Bool) (xs : List ℕ) → Once set xs → (p : ℕ) → one_if (has (with_pages xs set) p) ≡ one_if (has set p) + times p xs
+pub with_times : (set : List Bool) (xs : List ℕ) → Once set xs → (p : ℕ)
+    → one_if (has (with_pages xs set) p) ≡ one_if (has set p) + times p xs
 with_times set xs once p =
     elim (cases_Bool (is_in p xs)) [
       | inl t ↦
           let n : 1 ≤ times p xs = times_in p xs t in
-          let l : p < length set = ltb-true p (length set) (one_if_true (nat_lt p (length set)) (omega (arith, once p))) in
+          let l : p < length set =
+          ltb-true p (length set)
+          (one_if_true (nat_lt p (length set)) (omega (arith, once p))) in
           let h : one_if (has (with_pages xs set) p) ≡ 1 = ap one_if (with_new xs set p l t) in
           omega (arith, h, once p, one_if_le (nat_lt p (length set)))
       | inr f ↦
           let n : times p xs ≡ 0 = times_out p xs f in
           elim (cases_Bool (has set p)) [
             | inl was ↦
-                let h : one_if (has (with_pages xs set) p) ≡ 1 = ap one_if (with_old xs set p was) in
+                let h : one_if (has (with_pages xs set) p) ≡ 1 =
+                ap one_if (with_old xs set p was) in
                 let o : one_if (has set p) ≡ 1 = ap one_if was in
                 omega (arith, h, o, n)
             | inr not_was ↦
                 let none : has (with_pages xs set) p ≡ false =
-                false_from_ne_true (has (with_pages xs set) p) (λ e. elim (with_cases xs set p e) [ inl old ↦ both_ways (has set p) not_was old | inr new ↦ both_ways (is_in p xs) f new ]) in
+                false_from_ne_true (has (with_pages xs set) p)
+                (λ e. elim (with_cases xs set p e) [
+                  | inl old ↦ both_ways (has set p) not_was old
+                  | inr new ↦
+                      both_ways (is_in p xs) f new
+                ]) in
                 let h : one_if (has (with_pages xs set) p) ≡ 0 = ap one_if none in
                 let o : one_if (has set p) ≡ 0 = ap one_if not_was in
                 omega (arith, h, o, n)
@@ -97,10 +114,14 @@ with_times set xs once p =
     ]
 
 -- the last page of a list goes into the set first
-module _ (set : List Bool) (list rest : List ℕ) (page : ℕ) (is : list ≡ rest ++ page ∷ []) (once : Once set list) where
-  once_split : (p : ℕ) → one_if (has set p) + (times p rest + one_if (page == p)) ≤ one_if (nat_lt p (length set))
+module _ (set : List Bool) (list rest : List ℕ) (page : ℕ) (is : list ≡ rest ++ page ∷ [])
+    (once : Once set list) where
+  once_split : (p : ℕ) → one_if (has set p) + (times p rest + one_if (page == p)) ≤ one_if
+      (nat_lt p (length set))
   once_split p =
-      let e : times p list ≡ times p rest + one_if (page == p) = ap (times p) is ∙ (times-append p rest (page ∷ []) ∙ ap (λ (n : ℕ). times p rest + n) (times-one p page)) in
+      let e : times p list ≡ times p rest + one_if (page == p) =
+      ap (times p) is ∙ (times-append p rest (page ∷ [])
+      ∙ ap (λ (n : ℕ). times p rest + n) (times-one p page)) in
       omega (arith, e, once p)
 
   last_once : Once set (page ∷ [])
@@ -109,16 +130,20 @@ module _ (set : List Bool) (list rest : List ℕ) (page : ℕ) (is : list ≡ re
   pub last_inside : page < length set
   last_inside =
       let o : one_if (page == page) ≡ 1 = ap one_if (eq-eqb page page refl) in
-      ltb-true page (length set) (one_if_true (nat_lt page (length set)) (omega (arith, o, once_split page)))
+      ltb-true page (length set)
+      (one_if_true (nat_lt page (length set)) (omega (arith, o, once_split page)))
 
   pub last_outside : has set page ≡ false
   last_outside =
       let o : one_if (page == page) ≡ 1 = ap one_if (eq-eqb page page refl) in
-      one_if_false (has set page) (omega (arith, o, once_split page, one_if_le (nat_lt page (length set))))
+      one_if_false (has set page)
+      (omega (arith, o, once_split page, one_if_le (nat_lt page (length set))))
 
   pub rest_once : Once (with_pages (page ∷ []) set) rest
   rest_once p =
-      let l : one_if (nat_lt p (length (with_pages (page ∷ []) set))) ≡ one_if (nat_lt p (length set)) = ap (λ (n : ℕ). one_if (nat_lt p n)) (length-with_pages (page ∷ []) set) in
+      let l : one_if (nat_lt p (length (with_pages (page ∷ []) set)))
+      ≡ one_if (nat_lt p (length set)) =
+      ap (λ (n : ℕ). one_if (nat_lt p n)) (length-with_pages (page ∷ []) set) in
       omega (arith, l, with_times set (page ∷ []) last_once p, times-one p page, once_split p)
 
   pub rest_set : with_pages rest (with_pages (page ∷ []) set) ≡ with_pages list set
@@ -132,7 +157,8 @@ module _ (set : List Bool) (list rest : List ℕ) (page : ℕ) (is : list ≡ re
 
 -- ---- pages that are taken one after the other
 
-pub takes_times : (set new : List Bool) (k s : ℕ) → TakesBlock set k (Some s) new → (p : ℕ) → one_if (has new p) + one_if (covers p (block_at s k)) ≡ one_if (has set p)
+pub takes_times : (set new : List Bool) (k s : ℕ) → TakesBlock set k (Some s) new → (p : ℕ)
+    → one_if (has new p) + one_if (covers p (block_at s k)) ≡ one_if (has set p)
 takes_times set new k s t p =
     let inside = taken_inside set s k t.0.0 t.0.1 in
     let block = pages_of (block_at s k) in
@@ -140,13 +166,17 @@ takes_times set new k s t p =
     elim (cases_Bool (is_in p block)) [
       | inl i ↦
           let b = block_bounds s k p i in
-          let c : one_if (covers p (block_at s k)) ≡ 1 = ap one_if (covers_is p (block_at s k) true i) in
+          let c : one_if (covers p (block_at s k)) ≡ 1 =
+          ap one_if (covers_is p (block_at s k) true i) in
           let h : one_if (has set p) ≡ 1 = ap one_if (inside p b.0 b.1) in
-          let gone : has (without_pages block set) p ≡ false = false_from_ne_true (has (without_pages block set) p) (λ w. both_ways (is_in p block) (without_parts block set p w).1 i) in
+          let gone : has (without_pages block set) p ≡ false =
+          false_from_ne_true (has (without_pages block set) p)
+          (λ w. both_ways (is_in p block) (without_parts block set p w).1 i) in
           let n : one_if (has new p) ≡ 0 = ap one_if (e ∙ gone) in
           omega (arith, c, h, n)
       | inr o ↦
-          let c : one_if (covers p (block_at s k)) ≡ 0 = ap one_if (covers_is p (block_at s k) false o) in
+          let c : one_if (covers p (block_at s k)) ≡ 0 =
+          ap one_if (covers_is p (block_at s k) false o) in
           elim (cases_Bool (has set p)) [
             | inl was ↦
                 let h : one_if (has set p) ≡ 1 = ap one_if was in
@@ -154,7 +184,9 @@ takes_times set new k s t p =
                 omega (arith, c, h, n)
             | inr was ↦
                 let h : one_if (has set p) ≡ 0 = ap one_if was in
-                let gone : has (without_pages block set) p ≡ false = false_from_ne_true (has (without_pages block set) p) (λ w. both_ways (has set p) was (without_parts block set p w).0) in
+                let gone : has (without_pages block set) p ≡ false =
+                false_from_ne_true (has (without_pages block set) p)
+                (λ w. both_ways (has set p) was (without_parts block set p w).0) in
                 let n : one_if (has new p) ≡ 0 = ap one_if (e ∙ gone) in
                 omega (arith, c, h, n)
           ]
@@ -163,24 +195,37 @@ takes_times set new k s t p =
 pub covers_one : (s p : ℕ) → one_if (covers p (block_at s 0)) ≡ one_if (s == p)
 covers_one s p =
     elim (cases_Bool (s == p)) [
-      | inl e ↦ let q : s ≡ p = eqb-true s p e in ap one_if (covers_is p (block_at s 0) true (in_block s 0 p (omega arith) (omega arith)) ∙ sym e)
+      | inl e ↦ let q : s ≡ p = eqb-true s p e in
+          ap one_if (covers_is p (block_at s 0) true (in_block s 0 p (omega arith) (omega arith))
+          ∙ sym e)
       | inr n ↦
-          ap one_if (covers_is p (block_at s 0) false (false_from_ne_true (is_in p (pages_of (block_at s 0))) (λ i.
+          ap one_if (covers_is p (block_at s 0) false
+          (false_from_ne_true (is_in p (pages_of (block_at s 0))) (λ i.
           let b = block_bounds s 0 p i in
           let q : s ≡ p = omega (arith, b.0, b.1) in
           both_ways (s == p) n (eq-eqb s p q))) ∙ sym n)
     ]
 
-pub takes_page_times : (set new : List Bool) (s : ℕ) → TakesBlock set 0 (Some s) new → (p : ℕ) → one_if (has new p) + one_if (s == p) ≡ one_if (has set p)
+pub takes_page_times : (set new : List Bool) (s : ℕ) → TakesBlock set 0 (Some s) new → (p : ℕ)
+    → one_if (has new p) + one_if (s == p) ≡ one_if (has set p)
 takes_page_times set new s t p = omega (arith, takes_times set new 0 s t p, covers_one s p)
 
-pub takes_pages_times : (set new : List Bool) (pages : List ℕ) → TakesPages set pages new → (p : ℕ) → one_if (has new p) + times p pages ≡ one_if (has set p)
-takes_pages_times set new [] t p = let e : one_if (has new p) ≡ one_if (has set p) = ap (λ (x : List Bool). one_if (has x p)) t in omega (arith, e)
+pub takes_pages_times : (set new : List Bool) (pages : List ℕ) → TakesPages set pages new → (p : ℕ)
+    → one_if (has new p) + times p pages ≡ one_if (has set p)
+takes_pages_times set new [] t p = let e : one_if (has new p) ≡ one_if (has set p) =
+    ap (λ (x : List Bool). one_if (has x p)) t in omega (arith, e)
 takes_pages_times set new (x ∷ pages) t p =
-    omega (arith, takes_page_times set t.0 x t.1 p, takes_pages_times t.0 new pages t.2 p, times-cons p x pages)
+    omega (
+      arith,
+      takes_page_times set t.0 x t.1 p,
+      takes_pages_times t.0 new pages t.2 p,
+      times-cons p x pages,
+    )
 
-pub takes_more : (set mid new : List Bool) (pages : List ℕ) (page : ℕ) → TakesPages set pages mid → TakesBlock mid 0 (Some page) new → TakesPages set (pages ++ page ∷ []) new
-takes_more set mid new [] page t u = (new, subst (λ (x : List Bool). TakesBlock x 0 (Some page) new) t u, refl)
+pub takes_more : (set mid new : List Bool) (pages : List ℕ) (page : ℕ) → TakesPages set pages mid
+    → TakesBlock mid 0 (Some page) new → TakesPages set (pages ++ page ∷ []) new
+takes_more set mid new [] page t u =
+    (new, subst (λ (x : List Bool). TakesBlock x 0 (Some page) new) t u, refl)
 takes_more set mid new (x ∷ pages) page t u = (t.0, t.1, takes_more t.0 mid new pages page t.2 u)
 
 pub page_block : (p : ℕ) → IsBlock (block_at p 0)
@@ -189,14 +234,21 @@ page_block p = (omega arith, eq-eqb (p % 2 ^ 0) 0 (omega arith))
 -- a set without a block of order 0 has no page
 pub no_page : (set : List Bool) → HasNoBlock set 0 → (p : ℕ) → has set p ≡ false
 no_page set none p =
-    false_from_ne_true (has set p) (λ e. none p (page_block p) (λ q l h. let same : p ≡ q = omega arith in ap (has set) (sym same) ∙ e))
+    false_from_ne_true (has set p)
+    (λ e. none p (page_block p)
+    (λ q l h. let same : p ≡ q = omega arith in ap (has set) (sym same) ∙ e))
 
-pub takes_none : (set new : List Bool) (p : ℕ) → HasNoBlock set 0 → TakesBlock set 0 (Some p) new → ⊥
-takes_none set new p none t = both_ways (has set p) (no_page set none p) (taken_inside set p 0 t.0.0 t.0.1 p (omega arith) (omega arith))
+pub takes_none : (set new : List Bool) (p : ℕ) → HasNoBlock set 0 → TakesBlock set 0 (Some p) new
+    → ⊥
+takes_none set new p none t =
+    both_ways (has set p) (no_page set none p)
+    (taken_inside set p 0 t.0.0 t.0.1 p (omega arith) (omega arith))
 
-pub with_append_turned : (xs ys : List ℕ) (set : List Bool) → with_pages xs (with_pages ys set) ≡ with_pages (ys ++ xs) set
+pub with_append_turned : (xs ys : List ℕ) (set : List Bool)
+    → with_pages xs (with_pages ys set) ≡ with_pages (ys ++ xs) set
 with_append_turned xs ys set =
     with_union xs ys (ys ++ xs) set
-    (λ p h. elim (or_cases (is_in p ys) (is_in p xs) (sym (list_any-append (λ m. m == p) ys xs) ∙ h)) [ inl a ↦ inr a | inr b ↦ inl b ])
+    (λ p h. elim (or_cases (is_in p ys) (is_in p xs)
+    (sym (list_any-append (λ m. m == p) ys xs) ∙ h)) [ inl a ↦ inr a | inr b ↦ inl b ])
     (λ p h. list_any-append (λ m. m == p) ys xs ∙ or_right (is_in p ys) (is_in p xs) h)
     (λ p h. list_any-append (λ m. m == p) ys xs ∙ or_left (is_in p ys) (is_in p xs) h)

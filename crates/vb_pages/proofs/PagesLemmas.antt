@@ -1,8 +1,12 @@
 -- Each page is free or held at most once, before and after a call.
-use Rattle.std.proofs.Common.{◌≡◌, ℕ, ◌+◌, ◌-◌, ◌^◌, ◌<◌, ◌≤◌, inl, inr, Bool, true, false, not, cond, List, [], ◌∷◌, length, map, replicate, Option, Some, None, MatchOption, IfSome, refl, sym, ◌∙◌, ap, subst, arith}
+use Rattle.std.proofs.Common.{◌≡◌, ℕ, ◌+◌, ◌-◌, ◌^◌, ◌<◌, ◌≤◌, inl, inr, Bool, true, false, not}
+use Rattle.std.proofs.Common.{cond, List, [], ◌∷◌, length, map, replicate, Option, Some, None}
+use Rattle.std.proofs.Common.{MatchOption, IfSome, refl, sym, ◌∙◌, ap, subst, arith}
 use Rattle.std.specs.Prelude.{◌||◌, ◌&&◌, count_by, nat_lt, nat_le}
 use Rattle.std.specs.List.{list_any}
-use Rattle.std.proofs.lemmas.Bool.{cases_lt, cases_Bool, both_ways, or_cases, or_parts, or_right, and_parts, and_from, and_right, not_from_true, not_from_false, le-leb, leb-true, lt-ltb, ltb-true, false_from_ne_true}
+use Rattle.std.proofs.lemmas.Bool.{cases_lt, cases_Bool, both_ways, or_cases, or_parts, or_right}
+use Rattle.std.proofs.lemmas.Bool.{and_parts, and_from, and_right, not_from_true, not_from_false}
+use Rattle.std.proofs.lemmas.Bool.{le-leb, leb-true, lt-ltb, ltb-true, false_from_ne_true}
 use Rattle.std.proofs.lemmas.Nat.{pow_pos}
 use Rattle.vb_model.specs.Tests.{is_in, one_if}
 use Rattle.vb_model.specs.Pages.{Block, pages_of, covers, is_same_block}
@@ -10,38 +14,52 @@ use Rattle.vb_model.specs.Driver.{with_block, without_block}
 use Rattle.vb_model.proofs.Tables.{count_by-cons}
 use Rattle.vb_model.proofs.PageSteps.{count-without_block}
 use Rattle.vb_pages.specs.declared.block.FreeBlock.{FreeBlock}
-use Rattle.vb_pages.specs.Areas.{has, with_pages, without_pages, unreserved, block_at, IsBlock, LiesIn, IsMaximal, IsLowestFrom}
-use Rattle.vb_pages.specs.FreePages.{FreePages, in_lists, is_free_in, times_free, drained, TakesPages, Tries, Serves, given_back, IsSoundFree, HasRoomFor}
+use Rattle.vb_pages.specs.Areas.{has, with_pages, without_pages, unreserved, block_at, IsBlock}
+use Rattle.vb_pages.specs.Areas.{LiesIn, IsMaximal, IsLowestFrom}
+use Rattle.vb_pages.specs.FreePages.{FreePages, in_lists, is_free_in, times_free, drained}
+use Rattle.vb_pages.specs.FreePages.{TakesPages, Tries, Serves, given_back, IsSoundFree, HasRoomFor}
 use Rattle.vb_pages.specs.Held.{HeldBlocks}
 use Rattle.vb_pages.specs.PageState.{PageState, is_unreserved, IsKept, HasRoomIn}
-use Rattle.vb_pages.proofs.Sets.{is_inside, length-with_pages, length-without_pages, same_bool, without_parts, without_old, in_block, not_in_block}
+use Rattle.vb_pages.proofs.Sets.{is_inside, length-with_pages, length-without_pages, same_bool}
+use Rattle.vb_pages.proofs.Sets.{without_parts, without_old, in_block, not_in_block}
 use Rattle.vb_pages.proofs.AreasLemmas.{length-unreserved, has-unreserved}
-use Rattle.vb_pages.proofs.ListsLemmas.{times, times_in, times_out, one_if_le, one_if_true, takes_pages_times, page_block}
-use Rattle.vb_pages.proofs.FreeLemmas.{free_of, flat, flat-empty, nothing, drained_times, serves_times, serves_length, tries_none, given_times, given_length, block_times, length-takes_pages}
+use Rattle.vb_pages.proofs.ListsLemmas.{times, times_in, times_out, one_if_le, one_if_true}
+use Rattle.vb_pages.proofs.ListsLemmas.{takes_pages_times, page_block}
+use Rattle.vb_pages.proofs.FreeLemmas.{free_of, flat, flat-empty, nothing, drained_times}
+use Rattle.vb_pages.proofs.FreeLemmas.{serves_times, serves_length, tries_none, given_times}
+use Rattle.vb_pages.proofs.FreeLemmas.{given_length, block_times, length-takes_pages}
 use Rattle.vb_pages.proofs.HeldLemmas.{held_of}
 
 -- ---- blocks that cover a page
 
-count-with_block : (p : ℕ) (b : Block) (held : List Block) → count_by (covers p) (with_block b held) ≡ one_if (covers p b) + count_by (covers p) held
+count-with_block : (p : ℕ) (b : Block) (held : List Block)
+    → count_by (covers p) (with_block b held) ≡ one_if (covers p b) + count_by (covers p) held
 count-with_block p b [] = count_by-cons (covers p) b []
 count-with_block p b (x ∷ held) = step (nat_lt b.start x.start) (count-with_block p b held)
   where
-    step : (v : Bool) → count_by (covers p) (with_block b held) ≡ one_if (covers p b) + count_by (covers p) held → count_by (covers p) (cond v (b ∷ x ∷ held) (x ∷ with_block b held)) ≡ one_if (covers p b) + count_by (covers p) (x ∷ held)
+    step : (v : Bool) → count_by (covers p) (with_block b held)
+        ≡ one_if (covers p b) + count_by (covers p) held
+        → count_by (covers p) (cond v (b ∷ x ∷ held) (x ∷ with_block b held))
+        ≡ one_if (covers p b) + count_by (covers p) (x ∷ held)
     step true ih = count_by-cons (covers p) b (x ∷ held)
-    step false ih = omega (arith, count_by-cons (covers p) x (with_block b held), count_by-cons (covers p) x held, ih)
+    step false ih = omega
+        (arith, count_by-cons (covers p) x (with_block b held), count_by-cons (covers p) x held, ih)
 
-count_none : (test : Block → Bool) (bs : List Block) → count_by test bs ≤ 0 → list_any test bs ≡ false
+count_none : (test : Block → Bool) (bs : List Block) → count_by test bs ≤ 0
+    → list_any test bs ≡ false
 count_none test [] h = refl
 count_none test (b ∷ bs) h = step (test b) refl (count_none test bs)
   where
     all : count_by test (b ∷ bs) ≡ one_if (test b) + count_by test bs
     all = count_by-cons test b bs
 
-    step : (v : Bool) → test b ≡ v → (count_by test bs ≤ 0 → list_any test bs ≡ false) → (v || list_any test bs) ≡ false
+    step : (v : Bool) → test b ≡ v → (count_by test bs ≤ 0 → list_any test bs ≡ false)
+        → (v || list_any test bs) ≡ false
     step true e ih = let o : one_if (test b) ≡ 1 = ap one_if e in absurd (omega (arith, all, o))
     step false e ih = ih (omega (arith, all))
 
-none_count : (test : Block → Bool) (bs : List Block) → list_any test bs ≡ false → count_by test bs ≡ 0
+none_count : (test : Block → Bool) (bs : List Block) → list_any test bs ≡ false
+    → count_by test bs ≡ 0
 none_count test [] h = refl
 none_count test (b ∷ bs) h =
     let q = or_parts (test b) (list_any test bs) h in
@@ -49,10 +67,12 @@ none_count test (b ∷ bs) h =
     omega (arith, count_by-cons test b bs, o, none_count test bs q.1)
 
 covers_bounds : (p s k : ℕ) → covers p (block_at s k) ≡ true → (s ≤ p) × (p < s + 2 ^ k)
-covers_bounds p s k h = let q = and_parts (nat_le s p) (nat_lt p (s + 2 ^ k)) h in (leb-true s p q.0, ltb-true p (s + 2 ^ k) q.1)
+covers_bounds p s k h = let q = and_parts (nat_le s p) (nat_lt p (s + 2 ^ k)) h in
+    (leb-true s p q.0, ltb-true p (s + 2 ^ k) q.1)
 
 bounds_cover : (p s k : ℕ) → s ≤ p → p < s + 2 ^ k → covers p (block_at s k) ≡ true
-bounds_cover p s k l h = and_from (nat_le s p) (nat_lt p (s + 2 ^ k)) (le-leb s p l) (lt-ltb p (s + 2 ^ k) h)
+bounds_cover p s k l h =
+    and_from (nat_le s p) (nat_lt p (s + 2 ^ k)) (le-leb s p l) (lt-ltb p (s + 2 ^ k) h)
 
 -- ---- how often a page is free, and whether it is
 
@@ -76,25 +96,34 @@ some_free f p h =
 free_none : (f : FreePages) (p : ℕ) → times_free f p ≤ 0 → is_free_in f p ≡ false
 free_none f p h = false_from_ne_true (is_free_in f p) (λ t. omega (arith, some_free f p t))
 
-pub free_same : (f g : FreePages) (p : ℕ) → times_free g p ≡ times_free f p → is_free_in g p ≡ is_free_in f p
-free_same f g p e = same_bool (is_free_in g p) (is_free_in f p) (λ t. free_some f p (omega (arith, e, some_free g p t))) (λ t. free_some g p (omega (arith, e, some_free f p t)))
+pub free_same : (f g : FreePages) (p : ℕ) → times_free g p ≡ times_free f p
+    → is_free_in g p ≡ is_free_in f p
+free_same f g p e = same_bool (is_free_in g p) (is_free_in f p)
+    (λ t. free_some f p (omega (arith, e, some_free g p t)))
+    (λ t. free_some g p (omega (arith, e, some_free f p t)))
 
-pub free_left : (f g : FreePages) (p : ℕ) (b : Block) → times_free f p ≤ 1 → times_free g p + one_if (covers p b) ≡ times_free f p → is_free_in g p ≡ (is_free_in f p && not (covers p b))
+pub free_left : (f g : FreePages) (p : ℕ) (b : Block) → times_free f p ≤ 1
+    → times_free g p + one_if (covers p b) ≡ times_free f p
+    → is_free_in g p ≡ (is_free_in f p && not (covers p b))
 free_left f g p b most e =
     elim (cases_Bool (covers p b)) [
       | inl t ↦
           let o : one_if (covers p b) ≡ 1 = ap one_if t in
-          free_none g p (omega (arith, o, e)) ∙ sym (and_right (is_free_in f p) (not (covers p b)) (not_from_true (covers p b) t))
+          free_none g p (omega (arith, o, e))
+          ∙ sym (and_right (is_free_in f p) (not (covers p b)) (not_from_true (covers p b) t))
       | inr n ↦
           let o : one_if (covers p b) ≡ 0 = ap one_if n in
-          free_same f g p (omega (arith, o, e)) ∙ sym (and_true (is_free_in f p) (not (covers p b)) (not_from_false (covers p b) n))
+          free_same f g p (omega (arith, o, e))
+          ∙ sym (and_true (is_free_in f p) (not (covers p b)) (not_from_false (covers p b) n))
     ]
   where
     and_true : (x y : Bool) → y ≡ true → (x && y) ≡ x
     and_true true y h = h
     and_true false y h = refl
 
-pub free_gained : (f g : FreePages) (p : ℕ) (b : Block) → times_free g p ≡ times_free f p + one_if (covers p b) → is_free_in g p ≡ (is_free_in f p || covers p b)
+pub free_gained : (f g : FreePages) (p : ℕ) (b : Block)
+    → times_free g p ≡ times_free f p + one_if (covers p b)
+    → is_free_in g p ≡ (is_free_in f p || covers p b)
 free_gained f g p b e =
     elim (cases_Bool (covers p b)) [
       | inl t ↦
@@ -111,40 +140,56 @@ free_gained f g p b e =
 
 -- ---- the two parts are kept
 
-unreserved_below : (f : FreePages) (bs : List Block) (p : ℕ) → 1 ≤ one_if (is_unreserved (record { free = f; held = bs }) p) → (16 ≤ p) × (p < length f.areas)
+unreserved_below : (f : FreePages) (bs : List Block) (p : ℕ)
+    → 1 ≤ one_if (is_unreserved (record { free = f; held = bs }) p)
+    → (16 ≤ p) × (p < length f.areas)
 unreserved_below f bs p h =
     let t = one_if_true (is_unreserved (record { free = f; held = bs }) p) h in
     let q = and_parts (nat_le 16 p) (nat_lt p (length f.areas)) t in
     (leb-true 16 p q.0, ltb-true p (length f.areas) q.1)
 
-same_room : (f g : FreePages) (xs ys : List Block) (p : ℕ) → length g.areas ≡ length f.areas → one_if (is_unreserved (record { free = g; held = ys }) p) ≡ one_if (is_unreserved (record { free = f; held = xs }) p)
+same_room : (f g : FreePages) (xs ys : List Block) (p : ℕ) → length g.areas ≡ length f.areas
+    → one_if (is_unreserved (record { free = g; held = ys }) p)
+    ≡ one_if (is_unreserved (record { free = f; held = xs }) p)
 same_room f g xs ys p e = ap (λ (n : ℕ). one_if (nat_le 16 p && nat_lt p n)) e
 
-pub kept_times : (f g : FreePages) (h : HeldBlocks) (blocks : List Block) → IsKept f h → length g.areas ≡ length f.areas → ((p : ℕ) → times_free g p + count_by (covers p) blocks ≤ times_free f p + count_by (covers p) h.blocks) → IsKept g (held_of h.pages blocks)
+pub kept_times : (f g : FreePages) (h : HeldBlocks) (blocks : List Block) → IsKept f h
+    → length g.areas ≡ length f.areas
+    → ((p : ℕ) → times_free g p + count_by (covers p) blocks ≤ times_free f p + count_by (covers p)
+    h.blocks) → IsKept g (held_of h.pages blocks)
 kept_times f g h blocks kept l less = record {
   apart = λ p. omega (arith, kept.apart p, less p, same_room f g h.blocks blocks p l);
   pages = kept.pages ∙ sym l;
 }
 
-pub kept_less : (f g : FreePages) (h : HeldBlocks) → IsKept f h → length g.areas ≡ length f.areas → ((p : ℕ) → times_free g p ≤ times_free f p) → IsKept g h
+pub kept_less : (f g : FreePages) (h : HeldBlocks) → IsKept f h → length g.areas ≡ length f.areas
+    → ((p : ℕ) → times_free g p ≤ times_free f p) → IsKept g h
 kept_less f g h kept l less = kept_times f g h h.blocks kept l (λ p. omega (arith, less p))
 
 pub times_once : (f : FreePages) (h : HeldBlocks) (p : ℕ) → IsKept f h → times_free f p ≤ 1
-times_once f h p kept = omega (arith, kept.apart p, one_if_le (is_unreserved (record { free = f; held = h.blocks }) p))
+times_once f h p kept =
+    omega (arith, kept.apart p, one_if_le (is_unreserved (record { free = f; held = h.blocks }) p))
 
-pub drained_kept : (f : FreePages) (h : HeldBlocks) → IsSoundFree f → IsKept f h → IsKept (drained f) h
-drained_kept f h sound kept = kept_less f (drained f) h kept (length-with_pages (in_lists f) f.areas) (λ p. omega (arith, drained_times f sound p))
+pub drained_kept : (f : FreePages) (h : HeldBlocks) → IsSoundFree f → IsKept f h
+    → IsKept (drained f) h
+drained_kept f h sound kept =
+    kept_less f (drained f) h kept (length-with_pages (in_lists f) f.areas)
+    (λ p. omega (arith, drained_times f sound p))
 
 -- a block is handed out
-module _ (f g : FreePages) (h : HeldBlocks) (cpu order s : ℕ) (sound : IsSoundFree f) (kept : IsKept f h) (l : cpu < length f.lists) (served : Serves f cpu order (Some s) g) where
+module _ (f g : FreePages) (h : HeldBlocks) (cpu order s : ℕ) (sound : IsSoundFree f)
+    (kept : IsKept f h) (l : cpu < length f.lists) (served : Serves f cpu order (Some s) g) where
   pub out_times : (p : ℕ) → times_free g p + one_if (covers p (block_at s order)) ≡ times_free f p
   out_times p = serves_times f g cpu order s sound l served p
 
   pub out_kept : IsKept g (held_of h.pages (with_block (block_at s order) h.blocks))
-  out_kept = kept_times f g h (with_block (block_at s order) h.blocks) kept (serves_length f g cpu order s served) (λ p. omega (arith, out_times p, count-with_block p (block_at s order) h.blocks))
+  out_kept = kept_times f g h (with_block (block_at s order) h.blocks) kept
+      (serves_length f g cpu order s served)
+      (λ p. omega (arith, out_times p, count-with_block p (block_at s order) h.blocks))
 
   pub out_free : (p : ℕ) → covers p (block_at s order) ≡ true → is_free_in f p ≡ true
-  out_free p t = let o : one_if (covers p (block_at s order)) ≡ 1 = ap one_if t in free_some f p (omega (arith, o, out_times p))
+  out_free p t = let o : one_if (covers p (block_at s order)) ≡ 1 = ap one_if t in
+      free_some f p (omega (arith, o, out_times p))
 
   out_some : 1 ≤ times_free f s
   out_some =
@@ -152,16 +197,25 @@ module _ (f g : FreePages) (h : HeldBlocks) (cpu order s : ℕ) (sound : IsSound
       some_free f s (out_free s (bounds_cover s s order (omega arith) (omega arith)))
 
   pub out_there : s < h.pages
-  out_there = let q = unreserved_below f h.blocks s (omega (arith, kept.apart s, out_some)) in omega (arith, q.1, kept.pages)
+  out_there = let q = unreserved_below f h.blocks s (omega (arith, kept.apart s, out_some)) in
+      omega (arith, q.1, kept.pages)
 
   pub out_outside : list_any (covers s) h.blocks ≡ false
-  out_outside = count_none (covers s) h.blocks (omega (arith, kept.apart s, out_some, one_if_le (is_unreserved (record { free = f; held = h.blocks }) s)))
+  out_outside = count_none (covers s) h.blocks
+      (omega (
+        arith,
+        kept.apart s,
+        out_some,
+        one_if_le (is_unreserved (record { free = f; held = h.blocks }) s),
+      ))
 
   pub out_left : (p : ℕ) → is_free_in g p ≡ (is_free_in f p && not (covers p (block_at s order)))
   out_left p = free_left f g p (block_at s order) (times_once f h p kept) (out_times p)
 
 -- there is no block of the order
-pub none_free : (f : FreePages) (h : HeldBlocks) (cpu order : ℕ) → IsSoundFree f → IsKept f h → Tries (drained f) cpu order None (drained f) → (s : ℕ) → IsBlock (block_at s order) → ((p : ℕ) → covers p (block_at s order) ≡ true → is_free_in f p ≡ true) → ⊥
+pub none_free : (f : FreePages) (h : HeldBlocks) (cpu order : ℕ) → IsSoundFree f → IsKept f h
+    → Tries (drained f) cpu order None (drained f) → (s : ℕ) → IsBlock (block_at s order)
+    → ((p : ℕ) → covers p (block_at s order) ≡ true → is_free_in f p ≡ true) → ⊥
 none_free f h cpu order sound kept t s b free =
     (tries_none (drained f) (drained f) cpu order t).1 s b (λ p a e.
     let some = some_free f p (free p (bounds_cover p s order a e)) in
@@ -169,34 +223,53 @@ none_free f h cpu order sound kept t s b free =
     one_if_true (has (drained f).areas p) (omega (arith, some, none, drained_times f sound p)))
 
 -- a held block comes back
-module _ (f : FreePages) (h : HeldBlocks) (s k : ℕ) (kept : IsKept f h) (held : list_any (λ x. is_same_block x (block_at s k)) h.blocks ≡ true) (block : IsBlock (block_at s k)) where
-  held_count : (p : ℕ) → one_if (covers p (block_at s k)) + count_by (covers p) (without_block (block_at s k) h.blocks) ≡ count_by (covers p) h.blocks
+module _ (f : FreePages) (h : HeldBlocks) (s k : ℕ) (kept : IsKept f h)
+    (held : list_any (λ x. is_same_block x (block_at s k)) h.blocks ≡ true)
+    (block : IsBlock (block_at s k)) where
+  held_count : (p : ℕ) → one_if (covers p (block_at s k)) + count_by (covers p)
+      (without_block (block_at s k) h.blocks) ≡ count_by (covers p) h.blocks
   held_count p = count-without_block p (block_at s k) h.blocks held
 
   pub back_room : HasRoomFor f s k
   back_room =
       let pos : 0 < 2 ^ k = pow_pos k in
-      let last : covers (s + 2 ^ k - 1) (block_at s k) ≡ true = bounds_cover (s + 2 ^ k - 1) s k (omega arith) (omega arith) in
+      let last : covers (s + 2 ^ k - 1) (block_at s k) ≡ true =
+      bounds_cover (s + 2 ^ k - 1) s k (omega arith) (omega arith) in
       let o : one_if (covers (s + 2 ^ k - 1) (block_at s k)) ≡ 1 = ap one_if last in
-      let q = unreserved_below f h.blocks (s + 2 ^ k - 1) (omega (arith, kept.apart (s + 2 ^ k - 1), held_count (s + 2 ^ k - 1), o)) in (
+      let q = unreserved_below f h.blocks (s + 2 ^ k - 1)
+      (omega (arith, kept.apart (s + 2 ^ k - 1), held_count (s + 2 ^ k - 1), o)) in (
         block,
         omega (arith, q.1),
         λ p a e.
             let c : one_if (covers p (block_at s k)) ≡ 1 = ap one_if (bounds_cover p s k a e) in
-            free_none f p (omega (arith, kept.apart p, held_count p, c, one_if_le (is_unreserved (record { free = f; held = h.blocks }) p))),
+            free_none f p (omega (
+              arith,
+              kept.apart p,
+              held_count p,
+              c,
+              one_if_le (is_unreserved (record { free = f; held = h.blocks }) p),
+            )),
       )
 
-  pub back_kept : (cpu : ℕ) → IsSoundFree f → cpu < length f.lists → IsKept (given_back cpu s k f) (held_of h.pages (without_block (block_at s k) h.blocks))
-  back_kept cpu sound l = kept_times f (given_back cpu s k f) h (without_block (block_at s k) h.blocks) kept (given_length f cpu s k sound l back_room) (λ p. omega (arith, given_times f cpu s k sound l back_room p, held_count p))
+  pub back_kept : (cpu : ℕ) → IsSoundFree f → cpu < length f.lists
+      → IsKept (given_back cpu s k f) (held_of h.pages (without_block (block_at s k) h.blocks))
+  back_kept cpu sound l =
+      kept_times f (given_back cpu s k f) h (without_block (block_at s k) h.blocks) kept
+      (given_length f cpu s k sound l back_room)
+      (λ p. omega (arith, given_times f cpu s k sound l back_room p, held_count p))
 
 -- a block that was taken comes back
-pub room_for : (f : FreePages) (h : HeldBlocks) (s k : ℕ) → HasRoomIn (record { free = f; held = h.blocks }) (block_at s k) → HasRoomFor f s k
+pub room_for : (f : FreePages) (h : HeldBlocks) (s k : ℕ)
+    → HasRoomIn (record { free = f; held = h.blocks }) (block_at s k) → HasRoomFor f s k
 room_for f h s k room = (room.0, room.2, λ p a e. (room.3 p a e).0)
 
-pub given_kept : (f : FreePages) (h : HeldBlocks) (s k : ℕ) → IsSoundFree f → IsKept f h → HasRoomIn (record { free = f; held = h.blocks }) (block_at s k) → IsKept (free_of (with_pages (pages_of (block_at s k)) f.areas) f.lists) h
+pub given_kept : (f : FreePages) (h : HeldBlocks) (s k : ℕ) → IsSoundFree f → IsKept f h
+    → HasRoomIn (record { free = f; held = h.blocks }) (block_at s k)
+    → IsKept (free_of (with_pages (pages_of (block_at s k)) f.areas) f.lists) h
 given_kept f h s k sound kept room = record {
   apart = λ p.
-      let r = same_room f (free_of (with_pages (pages_of (block_at s k)) f.areas) f.lists) h.blocks h.blocks p (length-with_pages (pages_of (block_at s k)) f.areas) in
+      let r = same_room f (free_of (with_pages (pages_of (block_at s k)) f.areas) f.lists) h.blocks
+      h.blocks p (length-with_pages (pages_of (block_at s k)) f.areas) in
       let t = block_times f s k sound (room_for f h s k room) p in
       elim (cases_Bool (covers p (block_at s k))) [
         | inl c ↦
@@ -204,11 +277,16 @@ given_kept f h s k sound kept room = record {
             let o : one_if (covers p (block_at s k)) ≡ 1 = ap one_if c in
             let free : times_free f p ≤ 0 =
             elim (cases_lt 0 (times_free f p)) [
-              | inl some ↦ absurd (both_ways (is_free_in f p) (room.3 p b.0 b.1).0 (free_some f p some))
+              | inl some ↦ absurd (both_ways (is_free_in f p) (room.3 p b.0 b.1).0
+                  (free_some f p some))
               | inr no_times ↦ no_times
             ] in
-            let held : count_by (covers p) h.blocks ≡ 0 = none_count (covers p) h.blocks (room.3 p b.0 b.1).1 in
-            let u : one_if (is_unreserved (record { free = f; held = h.blocks }) p) ≡ 1 = ap one_if (and_from (nat_le 16 p) (nat_lt p (length f.areas)) (le-leb 16 p (omega (arith, room.1, b.0))) (lt-ltb p (length f.areas) (omega (arith, room.2, b.1)))) in
+            let held : count_by (covers p) h.blocks ≡ 0 =
+            none_count (covers p) h.blocks (room.3 p b.0 b.1).1 in
+            let u : one_if (is_unreserved (record { free = f; held = h.blocks }) p) ≡ 1 =
+            ap one_if (and_from (nat_le 16 p) (nat_lt p (length f.areas))
+            (le-leb 16 p (omega (arith, room.1, b.0)))
+            (lt-ltb p (length f.areas) (omega (arith, room.2, b.1)))) in
             omega (arith, r, t, o, free, held, u)
         | inr n ↦
             let o : one_if (covers p (block_at s k)) ≡ 0 = ap one_if n in
@@ -218,7 +296,8 @@ given_kept f h s k sound kept room = record {
 }
 
 -- all pages are free
-pub fresh_kept : (n : ℕ) (lists : List (List ℕ)) → flat lists ≡ [] → IsKept (free_of (unreserved n) lists) (held_of n [])
+pub fresh_kept : (n : ℕ) (lists : List (List ℕ)) → flat lists ≡ []
+    → IsKept (free_of (unreserved n) lists) (held_of n [])
 fresh_kept n lists none = record {
   apart = λ p.
       let e : times p (flat lists) ≡ 0 = ap (times p) none in
@@ -226,7 +305,9 @@ fresh_kept n lists none = record {
         | inl t ↦
             let l : p < n = omega (arith, is_inside (unreserved n) p t, length-unreserved n) in
             let a : nat_le 16 p ≡ true = sym (has-unreserved n p l) ∙ t in
-            let u : one_if (nat_le 16 p && nat_lt p (length (unreserved n))) ≡ 1 = ap one_if (and_from (nat_le 16 p) (nat_lt p (length (unreserved n))) a (lt-ltb p (length (unreserved n)) (is_inside (unreserved n) p t))) in
+            let u : one_if (nat_le 16 p && nat_lt p (length (unreserved n))) ≡ 1 =
+            ap one_if (and_from (nat_le 16 p) (nat_lt p (length (unreserved n))) a
+            (lt-ltb p (length (unreserved n)) (is_inside (unreserved n) p t))) in
             omega (arith, e, u, one_if_le (has (unreserved n) p))
         | inr f ↦ let z : one_if (has (unreserved n) p) ≡ 0 = ap one_if f in omega (arith, e, z)
       ];
@@ -234,12 +315,15 @@ fresh_kept n lists none = record {
 }
 
 pub kept_at : (f g : FreePages) (h i : HeldBlocks) → f ≡ g → h ≡ i → IsKept g i → IsKept f h
-kept_at f g h i a b k = subst (λ (x : FreePages). IsKept x h) (sym a) (subst (λ (y : HeldBlocks). IsKept g y) (sym b) k)
+kept_at f g h i a b k =
+    subst (λ (x : FreePages). IsKept x h) (sym a) (subst (λ (y : HeldBlocks). IsKept g y) (sym b) k)
 
-pub flag_times : (f : FreePages) (p : ℕ) → times_free f p ≤ 1 → one_if (is_free_in f p) ≡ times_free f p
+pub flag_times : (f : FreePages) (p : ℕ) → times_free f p ≤ 1
+    → one_if (is_free_in f p) ≡ times_free f p
 flag_times f p most =
     elim (cases_Bool (is_free_in f p)) [
-      | inl t ↦ let o : one_if (is_free_in f p) ≡ 1 = ap one_if t in omega (arith, o, some_free f p t)
+      | inl t ↦ let o : one_if (is_free_in f p) ≡ 1 = ap one_if t in
+          omega (arith, o, some_free f p t)
       | inr n ↦
           let o : one_if (is_free_in f p) ≡ 0 = ap one_if n in
           elim (cases_lt 0 (times_free f p)) [
@@ -250,7 +334,9 @@ flag_times f p most =
 
 -- ---- a block that leaves a set in which it lies
 
-without_times : (set : List Bool) (s k p : ℕ) → LiesIn set (block_at s k) → one_if (has (without_pages (pages_of (block_at s k)) set) p) + one_if (covers p (block_at s k)) ≡ one_if (has set p)
+without_times : (set : List Bool) (s k p : ℕ) → LiesIn set (block_at s k)
+    → one_if (has (without_pages (pages_of (block_at s k)) set) p) + one_if
+    (covers p (block_at s k)) ≡ one_if (has set p)
 without_times set s k p inside =
     elim (cases_Bool (covers p (block_at s k))) [
       | inl c ↦
@@ -258,97 +344,173 @@ without_times set s k p inside =
           let o : one_if (covers p (block_at s k)) ≡ 1 = ap one_if c in
           let h : one_if (has set p) ≡ 1 = ap one_if (inside p b.0 b.1) in
           let gone : has (without_pages (pages_of (block_at s k)) set) p ≡ false =
-          false_from_ne_true (has (without_pages (pages_of (block_at s k)) set) p) (λ w. both_ways (is_in p (pages_of (block_at s k))) (without_parts (pages_of (block_at s k)) set p w).1 (in_block s k p b.0 b.1)) in
-          let n : one_if (has (without_pages (pages_of (block_at s k)) set) p) ≡ 0 = ap one_if gone in
+          false_from_ne_true (has (without_pages (pages_of (block_at s k)) set) p)
+          (λ w. both_ways (is_in p (pages_of (block_at s k)))
+          (without_parts (pages_of (block_at s k)) set p w).1 (in_block s k p b.0 b.1)) in
+          let n : one_if (has (without_pages (pages_of (block_at s k)) set) p) ≡ 0 =
+          ap one_if gone in
           omega (arith, o, h, n)
       | inr c ↦
           let o : one_if (covers p (block_at s k)) ≡ 0 = ap one_if c in
-          let out : is_in p (pages_of (block_at s k)) ≡ false = not_in_block s k p (λ a e. both_ways (covers p (block_at s k)) c (bounds_cover p s k a e)) in
+          let out : is_in p (pages_of (block_at s k)) ≡ false =
+          not_in_block s k p (λ a e. both_ways (covers p (block_at s k)) c
+          (bounds_cover p s k a e)) in
           let same : has (without_pages (pages_of (block_at s k)) set) p ≡ has set p =
-          same_bool (has (without_pages (pages_of (block_at s k)) set) p) (has set p) (λ w. (without_parts (pages_of (block_at s k)) set p w).0) (λ w. without_old (pages_of (block_at s k)) set p w out) in
+          same_bool (has (without_pages (pages_of (block_at s k)) set) p) (has set p)
+          (λ w. (without_parts (pages_of (block_at s k)) set p w).0)
+          (λ w. without_old (pages_of (block_at s k)) set p w out) in
           omega (arith, o, ap one_if same)
     ]
 
 abbrev pub IsolatesFrom : FreePages → ℕ → ℕ → Option FreeBlock → FreePages → Type 0
 IsolatesFrom f order from got new =
     MatchOption got
-    (((start larger : ℕ) → order ≤ larger → from ≤ start → IsMaximal (drained f).areas (block_at start larger) → ⊥) × (new ≡ drained f))
-    (λ b. IsLowestFrom (drained f).areas order from (block_at b.start b.order) × (new ≡ record (drained f) { areas = without_pages (pages_of (block_at b.start b.order)) (drained f).areas }))
+    (((start larger : ℕ) → order ≤ larger → from ≤ start
+    → IsMaximal (drained f).areas (block_at start larger) → ⊥) × (new ≡ drained f))
+    (λ b. IsLowestFrom (drained f).areas order from (block_at b.start b.order)
+    × (new ≡ record (drained f)
+    { areas = without_pages (pages_of (block_at b.start b.order)) (drained f).areas }))
 
-isolated_times : (f new : FreePages) (order from : ℕ) (b : FreeBlock) → IsSoundFree f → IsolatesFrom f order from (Some b) new → (p : ℕ) → times_free new p + one_if (covers p (block_at b.start b.order)) ≡ times_free f p
+isolated_times : (f new : FreePages) (order from : ℕ) (b : FreeBlock) → IsSoundFree f
+    → IsolatesFrom f order from (Some b) new → (p : ℕ)
+    → times_free new p + one_if (covers p (block_at b.start b.order)) ≡ times_free f p
 isolated_times f new order from b sound h p =
-    let e : times_free new p ≡ times_free (record (drained f) { areas = without_pages (pages_of (block_at b.start b.order)) (drained f).areas }) p = ap (λ (x : FreePages). times_free x p) h.1 in
-    omega (arith, e, without_times (drained f).areas b.start b.order p h.0.maximal.inside, drained_times f sound p)
+    let e : times_free new p
+    ≡ times_free (record (drained f)
+    { areas = without_pages (pages_of (block_at b.start b.order)) (drained f).areas }) p = ap
+    (λ (x : FreePages). times_free x p) h.1 in
+    omega (
+      arith,
+      e,
+      without_times (drained f).areas b.start b.order p h.0.maximal.inside,
+      drained_times f sound p,
+    )
 
-pub isolated_kept : (f new : FreePages) (h : HeldBlocks) (order from : ℕ) (got : Option FreeBlock) → IsSoundFree f → IsKept f h → IsolatesFrom f order from got new → IsKept new h
-isolated_kept f new h order from None sound kept i = subst (λ (x : FreePages). IsKept x h) (sym i.1) (drained_kept f h sound kept)
+pub isolated_kept : (f new : FreePages) (h : HeldBlocks) (order from : ℕ) (got : Option FreeBlock)
+    → IsSoundFree f → IsKept f h → IsolatesFrom f order from got new → IsKept new h
+isolated_kept f new h order from None sound kept i =
+    subst (λ (x : FreePages). IsKept x h) (sym i.1) (drained_kept f h sound kept)
 isolated_kept f new h order from (Some b) sound kept i =
     kept_less f new h kept
-    (ap (λ (x : FreePages). length x.areas) i.1 ∙ (length-without_pages (pages_of (block_at b.start b.order)) (drained f).areas ∙ length-with_pages (in_lists f) f.areas))
+    (ap (λ (x : FreePages). length x.areas) i.1
+    ∙ (length-without_pages (pages_of (block_at b.start b.order)) (drained f).areas
+    ∙ length-with_pages (in_lists f) f.areas))
     (λ p. omega (arith, isolated_times f new order from b sound i p))
 
-pub isolated_left : (f new : FreePages) (h : HeldBlocks) (order from : ℕ) (got : Option FreeBlock) → IsSoundFree f → IsKept f h → IsolatesFrom f order from got new → IfSome got (λ b. (p : ℕ) → is_free_in new p ≡ (is_free_in f p && not (covers p (block_at b.start b.order))))
+pub isolated_left : (f new : FreePages) (h : HeldBlocks) (order from : ℕ) (got : Option FreeBlock)
+    → IsSoundFree f → IsKept f h → IsolatesFrom f order from got new
+    → IfSome got (λ b. (p : ℕ)
+    → is_free_in new p ≡ (is_free_in f p && not (covers p (block_at b.start b.order))))
 isolated_left f new h order from None sound kept i = tt
-isolated_left f new h order from (Some b) sound kept i = λ p. free_left f new p (block_at b.start b.order) (times_once f h p kept) (isolated_times f new order from b sound i p)
+isolated_left f new h order from (Some b) sound kept i =
+    λ p. free_left f new p (block_at b.start b.order) (times_once f h p kept)
+    (isolated_times f new order from b sound i p)
 
 -- ---- single pages that leave
 
-pub singles_times : (f new : FreePages) (pages : List ℕ) → IsSoundFree f → TakesPages (drained f).areas pages new.areas → new.lists ≡ (drained f).lists → (p : ℕ) → times_free new p + times p pages ≡ times_free f p
+pub singles_times : (f new : FreePages) (pages : List ℕ) → IsSoundFree f
+    → TakesPages (drained f).areas pages new.areas → new.lists ≡ (drained f).lists → (p : ℕ)
+    → times_free new p + times p pages ≡ times_free f p
 singles_times f new pages sound t l p =
-    let e : times p (in_lists new) ≡ times p (in_lists (drained f)) = ap (λ (xs : List (List ℕ)). times p (flat xs)) l in
-    omega (arith, e, takes_pages_times (drained f).areas new.areas pages t p, drained_times f sound p)
+    let e : times p (in_lists new) ≡ times p (in_lists (drained f)) =
+    ap (λ (xs : List (List ℕ)). times p (flat xs)) l in
+    omega (
+      arith,
+      e,
+      takes_pages_times (drained f).areas new.areas pages t p,
+      drained_times f sound p,
+    )
 
-pub singles_kept : (f new : FreePages) (h : HeldBlocks) (pages : List ℕ) → IsSoundFree f → IsKept f h → TakesPages (drained f).areas pages new.areas → new.lists ≡ (drained f).lists → IsKept new h
+pub singles_kept : (f new : FreePages) (h : HeldBlocks) (pages : List ℕ) → IsSoundFree f
+    → IsKept f h → TakesPages (drained f).areas pages new.areas → new.lists ≡ (drained f).lists
+    → IsKept new h
 singles_kept f new h pages sound kept t l =
-    kept_less f new h kept (length-takes_pages (drained f).areas new.areas pages t ∙ length-with_pages (in_lists f) f.areas) (λ p. omega (arith, singles_times f new pages sound t l p))
+    kept_less f new h kept
+    (length-takes_pages (drained f).areas new.areas pages t
+    ∙ length-with_pages (in_lists f) f.areas)
+    (λ p. omega (arith, singles_times f new pages sound t l p))
 
-pub singles_left : (f new : FreePages) (h : HeldBlocks) (pages : List ℕ) → IsSoundFree f → IsKept f h → TakesPages (drained f).areas pages new.areas → new.lists ≡ (drained f).lists → (p : ℕ) → one_if (is_free_in new p) + times p pages ≡ one_if (is_free_in f p)
+pub singles_left : (f new : FreePages) (h : HeldBlocks) (pages : List ℕ) → IsSoundFree f
+    → IsKept f h → TakesPages (drained f).areas pages new.areas → new.lists ≡ (drained f).lists
+    → (p : ℕ) → one_if (is_free_in new p) + times p pages ≡ one_if (is_free_in f p)
 singles_left f new h pages sound kept t l p =
     let e = singles_times f new pages sound t l p in
-    omega (arith, e, flag_times new p (omega (arith, e, times_once f h p kept)), flag_times f p (times_once f h p kept))
+    omega (
+      arith,
+      e,
+      flag_times new p (omega (arith, e, times_once f h p kept)),
+      flag_times f p (times_once f h p kept),
+    )
 
-pub given_gained : (f : FreePages) (h : HeldBlocks) (s k : ℕ) → IsSoundFree f → HasRoomIn (record { free = f; held = h.blocks }) (block_at s k) → (p : ℕ) → is_free_in (free_of (with_pages (pages_of (block_at s k)) f.areas) f.lists) p ≡ (is_free_in f p || covers p (block_at s k))
+pub given_gained : (f : FreePages) (h : HeldBlocks) (s k : ℕ) → IsSoundFree f
+    → HasRoomIn (record { free = f; held = h.blocks }) (block_at s k) → (p : ℕ)
+    → is_free_in (free_of (with_pages (pages_of (block_at s k)) f.areas) f.lists) p
+    ≡ (is_free_in f p || covers p (block_at s k))
 given_gained f h s k sound room p =
-    free_gained f (free_of (with_pages (pages_of (block_at s k)) f.areas) f.lists) p (block_at s k) (omega (arith, block_times f s k sound (room_for f h s k room) p))
+    free_gained f (free_of (with_pages (pages_of (block_at s k)) f.areas) f.lists) p (block_at s k)
+    (omega (arith, block_times f s k sound (room_for f h s k room) p))
 
-pub map_nothing : (xs : List (List ℕ)) → map (λ (l : List ℕ). nothing) xs ≡ replicate (length xs) nothing
+pub map_nothing : (xs : List (List ℕ))
+    → map (λ (l : List ℕ). nothing) xs ≡ replicate (length xs) nothing
 map_nothing [] = refl
 map_nothing (x ∷ xs) = ap (λ (ys : List (List ℕ)). nothing ∷ ys) (map_nothing xs)
 
 abbrev pub state_of : FreePages → List Block → PageState
 state_of free held = record { free = free; held = held }
 
-pub same_state : (f g : FreePages) (xs ys : List Block) → f ≡ g → xs ≡ ys → state_of f xs ≡ state_of g ys
-same_state f g xs ys e l = ap (λ (x : FreePages). state_of x xs) e ∙ ap (λ (bs : List Block). state_of g bs) l
+pub same_state : (f g : FreePages) (xs ys : List Block) → f ≡ g → xs ≡ ys
+    → state_of f xs ≡ state_of g ys
+same_state f g xs ys e l =
+    ap (λ (x : FreePages). state_of x xs) e ∙ ap (λ (bs : List Block). state_of g bs) l
 
 -- ---- what left may come back
 
-room_of : (f new : FreePages) (h : HeldBlocks) (s k : ℕ) → IsKept f h → length new.areas ≡ length f.areas → IsBlock (block_at s k) → ((p : ℕ) → s ≤ p → p < s + 2 ^ k → times_free new p + 1 ≤ times_free f p) → HasRoomIn (state_of new h.blocks) (block_at s k)
+room_of : (f new : FreePages) (h : HeldBlocks) (s k : ℕ) → IsKept f h
+    → length new.areas ≡ length f.areas → IsBlock (block_at s k)
+    → ((p : ℕ) → s ≤ p → p < s + 2 ^ k → times_free new p + 1 ≤ times_free f p)
+    → HasRoomIn (state_of new h.blocks) (block_at s k)
 room_of f new h s k kept l block less =
     let pos : 0 < 2 ^ k = pow_pos k in
-    let first = unreserved_below f h.blocks s (omega (arith, kept.apart s, less s (omega arith) (omega arith))) in
-    let last = unreserved_below f h.blocks (s + 2 ^ k - 1) (omega (arith, kept.apart (s + 2 ^ k - 1), less (s + 2 ^ k - 1) (omega arith) (omega arith))) in (
+    let first = unreserved_below f h.blocks s
+    (omega (arith, kept.apart s, less s (omega arith) (omega arith))) in
+    let last = unreserved_below f h.blocks (s + 2 ^ k - 1)
+    (omega (
+      arith,
+      kept.apart (s + 2 ^ k - 1),
+      less (s + 2 ^ k - 1) (omega arith) (omega arith),
+    )) in (
       block,
       first.0,
       omega (arith, last.1, l),
       λ p a e.
-          let most = one_if_le (is_unreserved (record { free = f; held = h.blocks }) p) in
-          (free_none new p (omega (arith, kept.apart p, less p a e, most)), count_none (covers p) h.blocks (omega (arith, kept.apart p, less p a e, most))),
+          let most = one_if_le (is_unreserved (record { free = f; held = h.blocks }) p) in (
+            free_none new p (omega (arith, kept.apart p, less p a e, most)),
+            count_none (covers p) h.blocks (omega (arith, kept.apart p, less p a e, most)),
+          ),
     )
 
-pub isolated_room : (f new : FreePages) (h : HeldBlocks) (order from : ℕ) (got : Option FreeBlock) → IsSoundFree f → IsKept f h → IsolatesFrom f order from got new → IfSome got (λ b. HasRoomIn (state_of new h.blocks) (block_at b.start b.order))
+pub isolated_room : (f new : FreePages) (h : HeldBlocks) (order from : ℕ) (got : Option FreeBlock)
+    → IsSoundFree f → IsKept f h → IsolatesFrom f order from got new
+    → IfSome got (λ b. HasRoomIn (state_of new h.blocks) (block_at b.start b.order))
 isolated_room f new h order from None sound kept i = tt
 isolated_room f new h order from (Some b) sound kept i =
     room_of f new h b.start b.order kept
-    (ap (λ (x : FreePages). length x.areas) i.1 ∙ (length-without_pages (pages_of (block_at b.start b.order)) (drained f).areas ∙ length-with_pages (in_lists f) f.areas))
+    (ap (λ (x : FreePages). length x.areas) i.1
+    ∙ (length-without_pages (pages_of (block_at b.start b.order)) (drained f).areas
+    ∙ length-with_pages (in_lists f) f.areas))
     i.0.maximal.is_block
     (λ p a e.
-    let o : one_if (covers p (block_at b.start b.order)) ≡ 1 = ap one_if (bounds_cover p b.start b.order a e) in
+    let o : one_if (covers p (block_at b.start b.order)) ≡ 1 =
+    ap one_if (bounds_cover p b.start b.order a e) in
     omega (arith, o, isolated_times f new order from b sound i p))
 
-pub singles_room : (f new : FreePages) (h : HeldBlocks) (pages : List ℕ) → IsSoundFree f → IsKept f h → TakesPages (drained f).areas pages new.areas → new.lists ≡ (drained f).lists → (p : ℕ) → is_in p pages ≡ true → HasRoomIn (state_of new h.blocks) (block_at p 0)
+pub singles_room : (f new : FreePages) (h : HeldBlocks) (pages : List ℕ) → IsSoundFree f
+    → IsKept f h → TakesPages (drained f).areas pages new.areas → new.lists ≡ (drained f).lists
+    → (p : ℕ) → is_in p pages ≡ true → HasRoomIn (state_of new h.blocks) (block_at p 0)
 singles_room f new h pages sound kept t l p i =
-    room_of f new h p 0 kept (length-takes_pages (drained f).areas new.areas pages t ∙ length-with_pages (in_lists f) f.areas) (page_block p) (λ q a e.
+    room_of f new h p 0 kept
+    (length-takes_pages (drained f).areas new.areas pages t
+    ∙ length-with_pages (in_lists f) f.areas) (page_block p) (λ q a e.
     let same : q ≡ p = omega arith in
     let some : 1 ≤ times q pages = times_in q pages (ap (λ (n : ℕ). is_in n pages) same ∙ i) in
     omega (arith, some, singles_times f new pages sound t l q))

@@ -1,19 +1,31 @@
--- Blocks that a table lists: which are maximal in the set that they make up, and what a change of one does to it.
-use Rattle.std.proofs.Common.{◌≡◌, ◌≢◌, ℕ, zero, suc, ◌+◌, ◌-◌, ◌%◌, ◌^◌, ◌<◌, ◌≤◌, min, ◌⊎◌, inl, inr, Bool, true, false, not, List, length, set, replicate, Option, Some, None, refl, sym, ◌∙◌, ap, subst, arith}
+-- Blocks that a table lists: which are maximal in the set that they make up, and what a change of
+-- one does to it.
+use Rattle.std.proofs.Common.{◌≡◌, ◌≢◌, ℕ, zero, suc, ◌+◌, ◌-◌, ◌%◌, ◌^◌, ◌<◌, ◌≤◌, min, ◌⊎◌, inl}
+use Rattle.std.proofs.Common.{inr, Bool, true, false, not, List, length, set, replicate, Option}
+use Rattle.std.proofs.Common.{Some, None, refl, sym, ◌∙◌, ap, subst, arith}
 use Rattle.std.specs.List.{list_any, range_with_len}
-use Rattle.std.proofs.lemmas.List.{get_or-set_same, get_or-set_other, length-set, length-replicate, get_or-replicate}
+use Rattle.std.proofs.lemmas.List.{get_or-set_same, get_or-set_other, length-set, length-replicate}
+use Rattle.std.proofs.lemmas.List.{get_or-replicate}
 use Rattle.std.proofs.lemmas.List.FromFn.{get_or-map-range_with_len, length-map-range_with_len}
 use Rattle.std.proofs.lemmas.Nat.{pow_pos}
-use Rattle.std.proofs.lemmas.Bool.{cases_lt, cases_eq, cases_Bool, both_ways, or_cases, or_left, or_right, eq-eqb, eqb-true, false_from_ne_true, and_right, not_from_true}
+use Rattle.std.proofs.lemmas.Bool.{cases_lt, cases_eq, cases_Bool, both_ways, or_cases, or_left}
+use Rattle.std.proofs.lemmas.Bool.{or_right, eq-eqb, eqb-true, false_from_ne_true, and_right}
+use Rattle.std.proofs.lemmas.Bool.{not_from_true}
 use Rattle.vb_model.specs.Pages.{Block, pages_of}
 use Rattle.vb_pages.specs.declared.block.FreeBlock.{FreeBlock}
 use Rattle.vb_pages.specs.Table.{order_at, is_order, IsLowestStart}
 use Rattle.vb_model.specs.Tests.{is_in}
-use Rattle.vb_pages.specs.Tiles.{is_covered, set_of, IsPlaced, IsMerged, IsBuddy, HasRoom, IsTiled, IsLowestListed}
-use Rattle.vb_pages.specs.Areas.{has, with_pages, without_pages, block_at, IsBlock, LiesIn, LiesWithin, IsMaximal, HasNoBlock, IsChosen}
-use Rattle.vb_pages.proofs.Aligned.{aligned_step, aligned_same, right_half, aligned_down, end_aligned, pow_twice, floor_aligned}
+use Rattle.vb_pages.specs.Tiles.{is_covered, set_of, IsPlaced, IsMerged, IsBuddy, HasRoom, IsTiled}
+use Rattle.vb_pages.specs.Tiles.{IsLowestListed}
+use Rattle.vb_pages.specs.Areas.{has, with_pages, without_pages, block_at, IsBlock, LiesIn}
+use Rattle.vb_pages.specs.Areas.{LiesWithin, IsMaximal, HasNoBlock, IsChosen}
+use Rattle.vb_pages.proofs.Aligned.{aligned_step, aligned_same, right_half, aligned_down}
+use Rattle.vb_pages.proofs.Aligned.{end_aligned, pow_twice, floor_aligned}
 use Rattle.vb_pages.proofs.TableLemmas.{is_order-true, is_order-self, is_there}
-use Rattle.vb_pages.proofs.Sets.{same_sets, is_inside, length-with_pages, length-without_pages, with_old, with_new, with_cases, without_parts, without_old, in_block, block_bounds, not_in_block, has-without_pages, with_without, without_with, halves, halves_turned}
+use Rattle.vb_pages.proofs.Sets.{same_sets, is_inside, length-with_pages, length-without_pages}
+use Rattle.vb_pages.proofs.Sets.{with_old, with_new, with_cases, without_parts, without_old}
+use Rattle.vb_pages.proofs.Sets.{in_block, block_bounds, not_in_block, has-without_pages}
+use Rattle.vb_pages.proofs.Sets.{with_without, without_with, halves, halves_turned}
 
 -- a block of the table that covers the page
 pub record Covered (t : List (Option ℕ)) (p : ℕ) : Type 0 where
@@ -25,20 +37,24 @@ pub record Covered (t : List (Option ℕ)) (p : ℕ) : Type 0 where
 
 -- ---- the test and the fact
 
-any_range : (f : ℕ → Bool) (a n : ℕ) → list_any f (range_with_len a n) ≡ true → (k : ℕ) × (a ≤ k) × (k < a + n) × (f k ≡ true)
+any_range : (f : ℕ → Bool) (a n : ℕ) → list_any f (range_with_len a n) ≡ true
+    → (k : ℕ) × (a ≤ k) × (k < a + n) × (f k ≡ true)
 any_range f a zero h = absurd cc
 any_range f a (suc n) h =
     elim (or_cases (f a) (list_any f (range_with_len (a + 1) n)) h) [
       | inl e ↦ (a, omega arith, omega arith, e)
-      | inr m ↦ let q = any_range f (a + 1) n m in (q.0, omega (arith, q.1), omega (arith, q.2), q.3)
+      | inr m ↦ let q = any_range f (a + 1) n m in
+          (q.0, omega (arith, q.1), omega (arith, q.2), q.3)
     ]
 
-range_any : (f : ℕ → Bool) (a n k : ℕ) → a ≤ k → k < a + n → f k ≡ true → list_any f (range_with_len a n) ≡ true
+range_any : (f : ℕ → Bool) (a n k : ℕ) → a ≤ k → k < a + n → f k ≡ true
+    → list_any f (range_with_len a n) ≡ true
 range_any f a zero k l h e = absurd (omega arith)
 range_any f a (suc n) k l h e =
     elim (cases_eq a k) [
       | inl same ↦ or_left (f a) (list_any f (range_with_len (a + 1) n)) (ap f same ∙ e)
-      | inr differ ↦ or_right (f a) (list_any f (range_with_len (a + 1) n)) (range_any f (a + 1) n k (omega arith) (omega arith) e)
+      | inr differ ↦ or_right (f a) (list_any f (range_with_len (a + 1) n))
+          (range_any f (a + 1) n k (omega arith) (omega arith) e)
     ]
 
 covered_from : (t : List (Option ℕ)) (p : ℕ) → is_covered t p ≡ true → Covered t p
@@ -46,7 +62,13 @@ unfolding is_covered
 covered_from t p h =
     let q = any_range (λ order. is_order order (order_at t (p - p % 2 ^ order))) 0 10 h in
     let pos : 0 < 2 ^ q.0 = pow_pos q.0 in
-    record { start = p - p % 2 ^ q.0; order = q.0; listed = is_order-true q.0 _ q.3; low = omega arith; high = omega arith }
+    record {
+      start = p - p % 2 ^ q.0;
+      order = q.0;
+      listed = is_order-true q.0 _ q.3;
+      low = omega arith;
+      high = omega arith;
+    }
 
 covered_to : (t : List (Option ℕ)) (p : ℕ) → IsPlaced t → Covered t p → is_covered t p ≡ true
 unfolding is_covered
@@ -54,9 +76,14 @@ covered_to t p placed c =
     let pos : 0 < 2 ^ c.order = pow_pos c.order in
     let low : p - p % 2 ^ c.order ≤ p = omega arith in
     let high : p < (p - p % 2 ^ c.order) + 2 ^ c.order = omega arith in
-    let same : p - p % 2 ^ c.order ≡ c.start = aligned_same (p - p % 2 ^ c.order) c.start (2 ^ c.order) p (floor_aligned p (2 ^ c.order) pos) (placed.aligned c.start c.order c.listed) low high c.low c.high in
+    let same : p - p % 2 ^ c.order ≡ c.start =
+    aligned_same (p - p % 2 ^ c.order) c.start (2 ^ c.order) p
+    (floor_aligned p (2 ^ c.order) pos) (placed.aligned c.start c.order c.listed) low high c.low
+    c.high in
     let ten : c.order ≤ 9 = placed.bounded c.start c.order c.listed in
-    range_any (λ order. is_order order (order_at t (p - p % 2 ^ order))) 0 10 c.order (omega arith) (omega arith) (ap (is_order c.order) (ap (order_at t) same ∙ c.listed) ∙ is_order-self c.order)
+    range_any (λ order. is_order order (order_at t (p - p % 2 ^ order))) 0 10 c.order (omega arith)
+    (omega arith) (ap (is_order c.order) (ap (order_at t) same ∙ c.listed)
+    ∙ is_order-self c.order)
 
 pub length-set_of : (t : List (Option ℕ)) → length (set_of t) ≡ length t
 unfolding set_of
@@ -81,10 +108,12 @@ module _ (t : List (Option ℕ)) (placed : IsPlaced t) where
   pub one_start : (p : ℕ) (a b : Covered t p) → a.start ≡ b.start
   one_start p a b =
       elim (cases_lt a.start b.start) [
-        | inl lt ↦ absurd (placed.apart a.start a.order b.start b.order a.listed lt (omega (arith, a.high, b.low)) b.listed)
+        | inl lt ↦ absurd (placed.apart a.start a.order b.start b.order a.listed lt
+            (omega (arith, a.high, b.low)) b.listed)
         | inr ge ↦
             elim (cases_lt b.start a.start) [
-              | inl lt ↦ absurd (placed.apart b.start b.order a.start a.order b.listed lt (omega (arith, b.high, a.low)) a.listed)
+              | inl lt ↦ absurd (placed.apart b.start b.order a.start a.order b.listed lt
+                  (omega (arith, b.high, a.low)) a.listed)
               | inr le ↦ omega arith
             ]
       ]
@@ -102,16 +131,25 @@ module _ (t : List (Option ℕ)) (placed : IsPlaced t) where
     pub large : j ≤ order
 
   -- an aligned block of covered pages lies within one listed block
-  pub within : IsMerged t → (j a : ℕ) → j ≤ 9 → a % 2 ^ j ≡ 0 → ((p : ℕ) → a ≤ p → p < a + 2 ^ j → Covered t p) → Within a j
+  pub within : IsMerged t → (j a : ℕ) → j ≤ 9 → a % 2 ^ j ≡ 0
+      → ((p : ℕ) → a ≤ p → p < a + 2 ^ j → Covered t p) → Within a j
   within merged zero a n e c =
       let x : Covered t a = c a (omega arith) (omega arith) in
-      record { start = x.start; order = x.order; listed = x.listed; low = x.low; high = omega (arith, x.high); large = omega arith }
+      record {
+        start = x.start;
+        order = x.order;
+        listed = x.listed;
+        low = x.low;
+        high = omega (arith, x.high);
+        large = omega arith;
+      }
   within merged (suc j) a n e c =
       let twice : 2 ^ suc j ≡ 2 ^ j + 2 ^ j = pow_twice j in
       let pos : 0 < 2 ^ j = pow_pos j in
       let e' : a % 2 ^ j ≡ 0 = aligned_down a j (suc j) (omega arith) e in
       let m' : (a + 2 ^ j) % 2 ^ j ≡ 0 = end_aligned a j j (omega arith) e' in
-      join (within merged j a (omega arith) e' (λ p l h. c p l (omega arith))) (within merged j (a + 2 ^ j) (omega arith) m' (λ p l h. c p (omega arith) (omega arith)))
+      join (within merged j a (omega arith) e' (λ p l h. c p l (omega arith)))
+      (within merged j (a + 2 ^ j) (omega arith) m' (λ p l h. c p (omega arith) (omega arith)))
     where
       join : Within a j → Within (a + 2 ^ j) j → Within a (suc j)
       join x y =
@@ -119,18 +157,38 @@ module _ (t : List (Option ℕ)) (placed : IsPlaced t) where
           let pos : 0 < 2 ^ j = pow_pos j in
           elim (cases_lt j x.order) [
             | inl lt ↦
-                let step : a + 2 ^ suc j ≤ x.start + 2 ^ x.order = aligned_step a (x.start + 2 ^ x.order) (2 ^ suc j) e (end_aligned x.start (suc j) x.order lt (placed.aligned x.start x.order x.listed)) (omega (arith, x.high)) in
-                record { start = x.start; order = x.order; listed = x.listed; low = x.low; high = step; large = omega arith }
+                let step : a + 2 ^ suc j ≤ x.start + 2 ^ x.order =
+                aligned_step a (x.start + 2 ^ x.order) (2 ^ suc j) e
+                (end_aligned x.start (suc j) x.order lt
+                (placed.aligned x.start x.order x.listed)) (omega (arith, x.high)) in
+                record {
+                  start = x.start;
+                  order = x.order;
+                  listed = x.listed;
+                  low = x.low;
+                  high = step;
+                  large = omega arith;
+                }
             | inr xle ↦
                 elim (cases_lt j y.order) [
                   | inl lt ↦
-                      let start_ok : y.start % 2 ^ suc j ≡ 0 = aligned_down y.start (suc j) y.order lt (placed.aligned y.start y.order y.listed) in
+                      let start_ok : y.start % 2 ^ suc j ≡ 0 =
+                      aligned_down y.start (suc j) y.order lt
+                      (placed.aligned y.start y.order y.listed) in
                       let low : y.start ≤ a =
                       elim (cases_lt a y.start) [
-                        | inl past ↦ absurd (omega (arith, aligned_step a y.start (2 ^ suc j) e start_ok past, y.low))
+                        | inl past ↦ absurd (omega
+                            (arith, aligned_step a y.start (2 ^ suc j) e start_ok past, y.low))
                         | inr ok ↦ ok
                       ] in
-                      record { start = y.start; order = y.order; listed = y.listed; low = low; high = omega (arith, y.high); large = omega arith }
+                      record {
+                        start = y.start;
+                        order = y.order;
+                        listed = y.listed;
+                        low = low;
+                        high = omega (arith, y.high);
+                        large = omega arith;
+                      }
                   | inr yle ↦
                       let xj : x.order ≡ j = omega (arith, x.large) in
                       let yj : y.order ≡ j = omega (arith, y.large) in
@@ -138,8 +196,10 @@ module _ (t : List (Option ℕ)) (placed : IsPlaced t) where
                       let yp : 2 ^ y.order ≡ 2 ^ j = ap (λ (i : ℕ). 2 ^ i) yj in
                       let xs : x.start ≡ a = omega (arith, x.low, x.high) in
                       let ys : y.start ≡ a + 2 ^ j = omega (arith, y.low, y.high) in
-                      let left : order_at t a ≡ Some j = ap (order_at t) (sym xs) ∙ (x.listed ∙ ap (λ (i : ℕ). Some i) xj) in
-                      let right : order_at t (a + 2 ^ j) ≡ Some j = ap (order_at t) (sym ys) ∙ (y.listed ∙ ap (λ (i : ℕ). Some i) yj) in
+                      let left : order_at t a ≡ Some j =
+                      ap (order_at t) (sym xs) ∙ (x.listed ∙ ap (λ (i : ℕ). Some i) xj) in
+                      let right : order_at t (a + 2 ^ j) ≡ Some j =
+                      ap (order_at t) (sym ys) ∙ (y.listed ∙ ap (λ (i : ℕ). Some i) yj) in
                       absurd (merged a j left right e (omega arith))
                 ]
           ]
@@ -153,38 +213,52 @@ module _ (t : List (Option ℕ)) (placed : IsPlaced t) where
   pub listed_block : (s k : ℕ) → order_at t s ≡ Some k → IsBlock (block_at s k)
   listed_block s k e = (placed.bounded s k e, eq-eqb (s % 2 ^ k) 0 (placed.aligned s k e))
 
-  inside_within : IsMerged t → (c : Block) → IsBlock c → LiesIn (set_of t) c → Within c.start c.order
-  inside_within merged c b h = within merged c.order c.start b.0 (eqb-true (c.start % 2 ^ c.order) 0 b.1) (λ p l u. in_set t p (h p l u))
+  inside_within : IsMerged t → (c : Block) → IsBlock c → LiesIn (set_of t) c
+      → Within c.start c.order
+  inside_within merged c b h =
+      within merged c.order c.start b.0 (eqb-true (c.start % 2 ^ c.order) 0 b.1)
+      (λ p l u. in_set t p (h p l u))
 
-  pub listed_maximal : IsMerged t → (s k : ℕ) → order_at t s ≡ Some k → IsMaximal (set_of t) (block_at s k)
-  listed_maximal merged s k e = record { is_block = listed_block s k e; inside = listed_inside s k e; alone = alone }
+  pub listed_maximal : IsMerged t → (s k : ℕ) → order_at t s ≡ Some k
+      → IsMaximal (set_of t) (block_at s k)
+  listed_maximal merged s k e =
+      record { is_block = listed_block s k e; inside = listed_inside s k e; alone = alone }
     where
-      alone : (c : Block) → IsBlock c → LiesIn (set_of t) c → LiesWithin (block_at s k) c → c.order ≤ k
+      alone : (c : Block) → IsBlock c → LiesIn (set_of t) c → LiesWithin (block_at s k) c
+          → c.order ≤ k
       alone c b h l =
           let w = inside_within merged c b h in
           let pos : 0 < 2 ^ k = pow_pos k in
           let x : Covered t s = listed_page s k s e (omega arith) (omega arith) in
-          let y : Covered t s = listed_page w.start w.order s w.listed (omega (arith, w.low, l.0)) (omega (arith, w.high, l.1)) in
+          let y : Covered t s =
+          listed_page w.start w.order s w.listed (omega (arith, w.low, l.0))
+          (omega (arith, w.high, l.1)) in
           let same : w.start ≡ s = one_start s y x in
           let o : w.order ≡ k = one_order s w.order k (ap (order_at t) (sym same) ∙ w.listed) e in
           omega (arith, w.large, o)
 
-  pub maximal_listed : IsMerged t → (b : Block) → IsMaximal (set_of t) b → order_at t b.start ≡ Some b.order
+  pub maximal_listed : IsMerged t → (b : Block) → IsMaximal (set_of t) b
+      → order_at t b.start ≡ Some b.order
   maximal_listed merged b m =
       let w = inside_within merged b m.is_block m.inside in
-      let le : w.order ≤ b.order = m.alone (block_at w.start w.order) (listed_block w.start w.order w.listed) (listed_inside w.start w.order w.listed) (w.low, w.high) in
+      let le : w.order ≤ b.order =
+      m.alone (block_at w.start w.order) (listed_block w.start w.order w.listed)
+      (listed_inside w.start w.order w.listed) (w.low, w.high) in
       let o : w.order ≡ b.order = omega (arith, le, w.large) in
       let p : 2 ^ w.order ≡ 2 ^ b.order = ap (λ (i : ℕ). 2 ^ i) o in
       let s : w.start ≡ b.start = omega (arith, w.low, w.high, p) in
       ap (order_at t) (sym s) ∙ (w.listed ∙ ap (λ (i : ℕ). Some i) o)
 
   -- where no block of at least this order is listed, none lies in the set
-  pub none_inside : IsMerged t → (order : ℕ) → ((s k : ℕ) → order ≤ k → order_at t s ≡ Some k → ⊥) → HasNoBlock (set_of t) order
+  pub none_inside : IsMerged t → (order : ℕ) → ((s k : ℕ) → order ≤ k → order_at t s ≡ Some k → ⊥)
+      → HasNoBlock (set_of t) order
   none_inside merged order none s b h =
       let w = inside_within merged (block_at s order) b h in
       none w.start w.order w.large w.listed
 
-  pub chosen : IsMerged t → (order s k : ℕ) → order ≤ k → ((r j : ℕ) → order ≤ j → j < k → order_at t r ≡ Some j → ⊥) → IsLowestStart t k 0 (Some s) → IsChosen (set_of t) order (block_at s k)
+  pub chosen : IsMerged t → (order s k : ℕ) → order ≤ k
+      → ((r j : ℕ) → order ≤ j → j < k → order_at t r ≡ Some j → ⊥) → IsLowestStart t k 0 (Some s)
+      → IsChosen (set_of t) order (block_at s k)
   chosen merged order s k l none low = record {
     maximal = listed_maximal merged s k low.0;
     sufficient = l;
@@ -193,21 +267,25 @@ module _ (t : List (Option ℕ)) (placed : IsPlaced t) where
           | inl lt ↦ absurd (none c.start c.order o lt (maximal_listed merged c m))
           | inr ge ↦ ge
         ];
-    lowest = λ c m e. low.2 c.start (omega arith) (maximal_listed merged c m ∙ ap (λ (i : ℕ). Some i) e);
+    lowest = λ c m e. low.2 c.start (omega arith)
+        (maximal_listed merged c m ∙ ap (λ (i : ℕ). Some i) e);
   }
 
 -- ---- a block leaves the table
 
-kept : (t : List (Option ℕ)) (s r j : ℕ) → s < length t → order_at (set t s None) r ≡ Some j → (r ≢ s) × (order_at t r ≡ Some j)
+kept : (t : List (Option ℕ)) (s r j : ℕ) → s < length t → order_at (set t s None) r ≡ Some j
+    → (r ≢ s) × (order_at t r ≡ Some j)
 kept t s r j l e =
     elim (cases_eq r s) [
       | inl same ↦
-          let n : order_at (set t s None) r ≡ None = ap (order_at (set t s None)) same ∙ get_or-set_same t s None None l in
+          let n : order_at (set t s None) r ≡ None =
+          ap (order_at (set t s None)) same ∙ get_or-set_same t s None None l in
           absurd (let bad : Some j ≡ None = sym e ∙ n in cc)
       | inr differ ↦ (differ, sym (get_or-set_other t s r None None differ) ∙ e)
     ]
 
-pub removed_placed : (t : List (Option ℕ)) (s : ℕ) → s < length t → IsPlaced t → IsPlaced (set t s None)
+pub removed_placed : (t : List (Option ℕ)) (s : ℕ) → s < length t → IsPlaced t
+    → IsPlaced (set t s None)
 removed_placed t s l placed = record {
   bounded = λ r j e. placed.bounded r j (kept t s r j l e).1;
   aligned = λ r j e. placed.aligned r j (kept t s r j l e).1;
@@ -215,12 +293,16 @@ removed_placed t s l placed = record {
   apart = λ r j q i e a b f. placed.apart r j q i (kept t s r j l e).1 a b (kept t s q i l f).1;
 }
 
-pub removed_merged : (t : List (Option ℕ)) (s : ℕ) → s < length t → IsMerged t → IsMerged (set t s None)
+pub removed_merged : (t : List (Option ℕ)) (s : ℕ) → s < length t → IsMerged t
+    → IsMerged (set t s None)
 removed_merged t s l merged r j e f = merged r j (kept t s r j l e).1 (kept t s (r + 2 ^ j) j l f).1
 
-pub removed_set : (t : List (Option ℕ)) (s k : ℕ) → IsPlaced t → order_at t s ≡ Some k → set_of (set t s None) ≡ without_pages (pages_of (block_at s k)) (set_of t)
+pub removed_set : (t : List (Option ℕ)) (s k : ℕ) → IsPlaced t → order_at t s ≡ Some k
+    → set_of (set t s None) ≡ without_pages (pages_of (block_at s k)) (set_of t)
 removed_set t s k placed e =
-    same_sets (set_of t') (without_pages block (set_of t)) (length-set_of t' ∙ (length-set t s None ∙ (sym (length-set_of t) ∙ sym (length-without_pages block (set_of t))))) to from
+    same_sets (set_of t') (without_pages block (set_of t))
+    (length-set_of t' ∙ (length-set t s None
+    ∙ (sym (length-set_of t) ∙ sym (length-without_pages block (set_of t))))) to from
   where
     t' : List (Option ℕ)
     t' = set t s None
@@ -235,18 +317,32 @@ removed_set t s k placed e =
     to p h =
         let c = in_set t' p h in
         let q = kept t s c.start c.order l c.listed in
-        let d : Covered t p = record { start = c.start; order = c.order; listed = q.1; low = c.low; high = c.high } in
-        without_old block (set_of t) p (to_set t placed p d) (not_in_block s k p (λ a b. q.0 (one_start t placed p d (record { start = s; order = k; listed = e; low = a; high = b }))))
+        let d : Covered t p =
+        record { start = c.start; order = c.order; listed = q.1; low = c.low; high = c.high } in
+        without_old block (set_of t) p (to_set t placed p d)
+        (not_in_block s k p (λ a b. q.0
+        (one_start t placed p d
+        (record { start = s; order = k; listed = e; low = a; high = b }))))
 
     from : (p : ℕ) → has (without_pages block (set_of t)) p ≡ true → has (set_of t') p ≡ true
     from p h =
         let q = without_parts block (set_of t) p h in
         let c = in_set t p q.0 in
         let differ : c.start ≢ s = λ same.
-        let o : c.order ≡ k = one_order t placed s c.order k (ap (order_at t) (sym same) ∙ c.listed) e in
+        let o : c.order ≡ k =
+        one_order t placed s c.order k (ap (order_at t) (sym same) ∙ c.listed) e in
         let w : 2 ^ c.order ≡ 2 ^ k = ap (λ (i : ℕ). 2 ^ i) o in
-        both_ways (is_in p block) q.1 (in_block s k p (omega (arith, c.low, same)) (omega (arith, c.high, same, w))) in
-        to_set t' (removed_placed t s l placed) p (record { start = c.start; order = c.order; listed = get_or-set_other t s c.start None None differ ∙ c.listed; low = c.low; high = c.high })
+        both_ways (is_in p block) q.1
+        (in_block s k p (omega (arith, c.low, same)) (omega (arith, c.high, same, w))) in
+        to_set t' (removed_placed t s l placed) p
+        (record {
+          start = c.start;
+          order = c.order;
+          listed = get_or-set_other t s c.start None None differ ∙ c.listed;
+          low = c.low;
+          high =
+              c.high;
+        })
 
 -- ---- a block comes to the table
 
@@ -270,14 +366,18 @@ module _ (t : List (Option ℕ)) (s k : ℕ) (placed : IsPlaced t) (room : HasRo
       step (Some j) e =
           let pos : 0 < 2 ^ k = pow_pos k in
           let pos' : 0 < 2 ^ j = pow_pos j in
-          absurd (outside s (omega arith) (omega arith) (record { start = s; order = j; listed = e; low = omega arith; high = omega arith }))
+          absurd (outside s (omega arith) (omega arith)
+          (record { start = s; order = j; listed = e; low = omega arith; high = omega arith }))
 
   -- an entry of the new table: the new block, or an old one elsewhere
-  entry_cases : (r j : ℕ) → order_at (set t s (Some k)) r ≡ Some j → ((r ≡ s) × (j ≡ k)) ⊎ ((r ≢ s) × (order_at t r ≡ Some j))
+  entry_cases : (r j : ℕ) → order_at (set t s (Some k)) r ≡ Some j
+      → ((r ≡ s) × (j ≡ k)) ⊎ ((r ≢ s) × (order_at t r ≡ Some j))
   entry_cases r j e =
       elim (cases_eq r s) [
         | inl same ↦
-            let n : order_at (set t s (Some k)) r ≡ Some k = ap (order_at (set t s (Some k))) same ∙ get_or-set_same t s (Some k) None room_there in
+            let n : order_at (set t s (Some k)) r ≡ Some k =
+            ap (order_at (set t s (Some k))) same
+            ∙ get_or-set_same t s (Some k) None room_there in
             let q : Some j ≡ Some k = sym e ∙ n in
             inl (same, cc)
         | inr differ ↦ inr (differ, sym (get_or-set_other t s r (Some k) None differ) ∙ e)
@@ -287,7 +387,8 @@ module _ (t : List (Option ℕ)) (s k : ℕ) (placed : IsPlaced t) (room : HasRo
   added_placed = record { bounded = bounded; aligned = aligned; fits = fits; apart = apart }
     where
       bounded : (r j : ℕ) → order_at (set t s (Some k)) r ≡ Some j → j ≤ 9
-      bounded r j e = elim (entry_cases r j e) [ inl q ↦ omega (arith, q.1, room.bounded) | inr q ↦ placed.bounded r j q.1 ]
+      bounded r j e = elim (entry_cases r j e)
+          [ inl q ↦ omega (arith, q.1, room.bounded) | inr q ↦ placed.bounded r j q.1 ]
 
       aligned : (r j : ℕ) → order_at (set t s (Some k)) r ≡ Some j → r % 2 ^ j ≡ 0
       aligned r j e =
@@ -296,14 +397,17 @@ module _ (t : List (Option ℕ)) (s k : ℕ) (placed : IsPlaced t) (room : HasRo
             | inr q ↦ placed.aligned r j q.1
           ]
 
-      fits : (r j : ℕ) → order_at (set t s (Some k)) r ≡ Some j → r + 2 ^ j ≤ length (set t s (Some k))
+      fits : (r j : ℕ) → order_at (set t s (Some k)) r ≡ Some j
+          → r + 2 ^ j ≤ length (set t s (Some k))
       fits r j e =
           elim (entry_cases r j e) [
-            | inl q ↦ let w : 2 ^ j ≡ 2 ^ k = ap (λ (i : ℕ). 2 ^ i) q.1 in omega (arith, room.fits, length-set t s (Some k), w, q.0)
+            | inl q ↦ let w : 2 ^ j ≡ 2 ^ k = ap (λ (i : ℕ). 2 ^ i) q.1 in
+                omega (arith, room.fits, length-set t s (Some k), w, q.0)
             | inr q ↦ omega (arith, placed.fits r j q.1, length-set t s (Some k))
           ]
 
-      apart : (r j q i : ℕ) → order_at (set t s (Some k)) r ≡ Some j → r < q → q < r + 2 ^ j → order_at (set t s (Some k)) q ≡ Some i → ⊥
+      apart : (r j q i : ℕ) → order_at (set t s (Some k)) r ≡ Some j → r < q → q < r + 2 ^ j
+          → order_at (set t s (Some k)) q ≡ Some i → ⊥
       apart r j q i e a b f =
           elim (entry_cases r j e) [
             | inl x ↦
@@ -312,13 +416,27 @@ module _ (t : List (Option ℕ)) (s k : ℕ) (placed : IsPlaced t) (room : HasRo
                   | inr y ↦
                       let w : 2 ^ j ≡ 2 ^ k = ap (λ (n : ℕ). 2 ^ n) x.1 in
                       let pos : 0 < 2 ^ i = pow_pos i in
-                      outside q (omega (arith, x.0)) (omega (arith, x.0, w)) (record { start = q; order = i; listed = y.1; low = omega arith; high = omega arith })
+                      outside q (omega (arith, x.0)) (omega (arith, x.0, w))
+                      (record {
+                        start = q;
+                        order = i;
+                        listed = y.1;
+                        low = omega arith;
+                        high = omega arith;
+                      })
                 ]
             | inr x ↦
                 elim (entry_cases q i f) [
                   | inl y ↦
                       let pos : 0 < 2 ^ k = pow_pos k in
-                      outside s (omega arith) (omega arith) (record { start = r; order = j; listed = x.1; low = omega (arith, y.0); high = omega (arith, y.0) })
+                      outside s (omega arith) (omega arith)
+                      (record {
+                        start = r;
+                        order = j;
+                        listed = x.1;
+                        low = omega (arith, y.0);
+                        high = omega (arith, y.0);
+                      })
                   | inr y ↦ placed.apart r j q i x.1 a b y.1
                 ]
           ]
@@ -331,20 +449,27 @@ module _ (t : List (Option ℕ)) (s k : ℕ) (placed : IsPlaced t) (room : HasRo
             elim (entry_cases (r + 2 ^ j) j f) [
               | inl y ↦ omega (arith, x.0, y.0)
               | inr y ↦
-                  let at : r + 2 ^ j ≡ s + 2 ^ k = ap (λ (n : ℕ). r + 2 ^ n) x.1 ∙ ap (λ (n : ℕ). n + 2 ^ k) x.0 in
-                  alone.right (ap (order_at t) (sym at) ∙ (y.1 ∙ ap (λ (n : ℕ). Some n) x.1)) (ap (λ (n : ℕ). n % 2 ^ suc k) (sym x.0) ∙ (ap (λ (n : ℕ). r % 2 ^ suc n) (sym x.1) ∙ al)) (omega (arith, x.1))
+                  let at : r + 2 ^ j ≡ s + 2 ^ k =
+                  ap (λ (n : ℕ). r + 2 ^ n) x.1 ∙ ap (λ (n : ℕ). n + 2 ^ k) x.0 in
+                  alone.right (ap (order_at t) (sym at) ∙ (y.1 ∙ ap (λ (n : ℕ). Some n) x.1))
+                  (ap (λ (n : ℕ). n % 2 ^ suc k) (sym x.0)
+                  ∙ (ap (λ (n : ℕ). r % 2 ^ suc n) (sym x.1) ∙ al)) (omega (arith, x.1))
             ]
         | inr x ↦
             elim (entry_cases (r + 2 ^ j) j f) [
               | inl y ↦
-                  alone.left r (ap (λ (n : ℕ). r + 2 ^ n) (sym y.1) ∙ y.0) (x.1 ∙ ap (λ (n : ℕ). Some n) y.1) (ap (λ (n : ℕ). r % 2 ^ suc n) (sym y.1) ∙ al) (omega (arith, y.1))
+                  alone.left r (ap (λ (n : ℕ). r + 2 ^ n) (sym y.1) ∙ y.0)
+                  (x.1 ∙ ap (λ (n : ℕ). Some n) y.1)
+                  (ap (λ (n : ℕ). r % 2 ^ suc n) (sym y.1) ∙ al) (omega (arith, y.1))
               | inr y ↦ merged r j x.1 y.1 al nine
             ]
       ]
 
   pub added_set : set_of (set t s (Some k)) ≡ with_pages (pages_of (block_at s k)) (set_of t)
   added_set =
-      same_sets (set_of t') (with_pages block (set_of t)) (length-set_of t' ∙ (length-set t s (Some k) ∙ (sym (length-set_of t) ∙ sym (length-with_pages block (set_of t))))) to from
+      same_sets (set_of t') (with_pages block (set_of t))
+      (length-set_of t' ∙ (length-set t s (Some k)
+      ∙ (sym (length-set_of t) ∙ sym (length-with_pages block (set_of t))))) to from
     where
       t' : List (Option ℕ)
       t' = set t s (Some k)
@@ -358,8 +483,12 @@ module _ (t : List (Option ℕ)) (s k : ℕ) (placed : IsPlaced t) (room : HasRo
           elim (entry_cases c.start c.order c.listed) [
             | inl q ↦
                 let w : 2 ^ c.order ≡ 2 ^ k = ap (λ (i : ℕ). 2 ^ i) q.1 in
-                with_new block (set_of t) p (omega (arith, length-set_of t, c.high, q.0, w, room.fits)) (in_block s k p (omega (arith, c.low, q.0)) (omega (arith, c.high, q.0, w)))
-            | inr q ↦ with_old block (set_of t) p (to_set t placed p (record { start = c.start; order = c.order; listed = q.1; low = c.low; high = c.high }))
+                with_new block (set_of t) p
+                (omega (arith, length-set_of t, c.high, q.0, w, room.fits))
+                (in_block s k p (omega (arith, c.low, q.0)) (omega (arith, c.high, q.0, w)))
+            | inr q ↦ with_old block (set_of t) p
+                (to_set t placed p (record
+                { start = c.start; order = c.order; listed = q.1; low = c.low; high = c.high }))
           ]
 
       from : (p : ℕ) → has (with_pages block (set_of t)) p ≡ true → has (set_of t') p ≡ true
@@ -369,16 +498,40 @@ module _ (t : List (Option ℕ)) (s k : ℕ) (placed : IsPlaced t) (room : HasRo
                 let c = in_set t p old in
                 let pos : 0 < 2 ^ k = pow_pos k in
                 let pos' : 0 < 2 ^ c.order = pow_pos c.order in
-                let differ : c.start ≢ s = λ same. outside s (omega arith) (omega arith) (record { start = c.start; order = c.order; listed = c.listed; low = omega (arith, same); high = omega (arith, same) }) in
-                to_set t' added_placed p (record { start = c.start; order = c.order; listed = get_or-set_other t s c.start (Some k) None differ ∙ c.listed; low = c.low; high = c.high })
+                let differ : c.start ≢ s =
+                λ same. outside s (omega arith) (omega arith)
+                (record {
+                  start = c.start;
+                  order = c.order;
+                  listed = c.listed;
+                  low = omega (arith, same);
+                  high = omega (arith, same);
+                }) in
+                to_set t' added_placed p
+                (record {
+                  start = c.start;
+                  order = c.order;
+                  listed = get_or-set_other t s c.start (Some k) None differ ∙ c.listed;
+                  low =
+                      c.low;
+                  high = c.high;
+                })
             | inr new ↦
                 let q = block_bounds s k p new in
-                to_set t' added_placed p (record { start = s; order = k; listed = get_or-set_same t s (Some k) None room_there; low = q.0; high = q.1 })
+                to_set t' added_placed p
+                (record {
+                  start = s;
+                  order = k;
+                  listed = get_or-set_same t s (Some k) None room_there;
+                  low = q.0;
+                  high = q.1;
+                })
           ]
 
 -- ---- halving and merging
 
-pub no_buddy : (t : List (Option ℕ)) (s k b : ℕ) → IsBuddy s k b → (order_at t b ≡ Some k → ⊥) → HasNoBuddy t s k
+pub no_buddy : (t : List (Option ℕ)) (s k b : ℕ) → IsBuddy s k b → (order_at t b ≡ Some k → ⊥)
+    → HasNoBuddy t s k
 no_buddy t s k b buddy none =
     elim buddy [
       | inl q ↦ record {
@@ -387,7 +540,8 @@ no_buddy t s k b buddy none =
       }
       | inr q ↦ record {
         right = λ e a nine. q.0 a;
-        left = λ r e f a nine. none (ap (order_at t) (let same : b ≡ r = omega (arith, q.1, e) in same) ∙ f);
+        left = λ r e f a nine. none
+            (ap (order_at t) (let same : b ≡ r = omega (arith, q.1, e) in same) ∙ f);
       }
     ]
 
@@ -395,7 +549,9 @@ pub no_larger : (t : List (Option ℕ)) (s k : ℕ) → 9 ≤ k → HasNoBuddy t
 no_larger t s k h = record { right = λ e a nine. omega arith; left = λ r e f a nine. omega arith }
 
 -- the block that a block and its buddy make up
-module _ (t : List (Option ℕ)) (s k b low : ℕ) (placed : IsPlaced t) (room : HasRoom t s k) (buddy : IsBuddy s k b) (listed : order_at t b ≡ Some k) (nine : k < 9) (least : low ≡ min s b) where
+module _ (t : List (Option ℕ)) (s k b low : ℕ) (placed : IsPlaced t) (room : HasRoom t s k)
+    (buddy : IsBuddy s k b) (listed : order_at t b ≡ Some k) (nine : k < 9)
+    (least : low ≡ min s b) where
   merge_there : b < length t
   merge_there = is_there t b k listed
 
@@ -405,55 +561,77 @@ module _ (t : List (Option ℕ)) (s k b low : ℕ) (placed : IsPlaced t) (room :
   buddy_inside : (p : ℕ) → is_in p (pages_of (block_at b k)) ≡ true → has (set_of t) p ≡ true
   buddy_inside p h = let q = block_bounds b k p h in listed_inside t placed b k listed p q.0 q.1
 
-  left_case : (s ≡ low) × (b ≡ low + 2 ^ k) × (low % 2 ^ suc k ≡ 0) ⊎ ((b ≡ low) × (s ≡ low + 2 ^ k) × (low % 2 ^ suc k ≡ 0))
+  left_case : (s ≡ low) × (b ≡ low + 2 ^ k) × (low % 2 ^ suc k ≡ 0)
+      ⊎ ((b ≡ low) × (s ≡ low + 2 ^ k) × (low % 2 ^ suc k ≡ 0))
   left_case =
       elim buddy [
-        | inl q ↦ let e : low ≡ s = omega (arith, q.1) in inl (sym e, omega (arith, q.1), ap (λ (n : ℕ). n % 2 ^ suc k) e ∙ q.0)
-        | inr q ↦ let e : low ≡ b = omega (arith, q.1) in inr (sym e, omega (arith, q.1), ap (λ (n : ℕ). n % 2 ^ suc k) e ∙ q.2)
+        | inl q ↦ let e : low ≡ s = omega (arith, q.1) in
+            inl (sym e, omega (arith, q.1), ap (λ (n : ℕ). n % 2 ^ suc k) e ∙ q.0)
+        | inr q ↦ let e : low ≡ b = omega (arith, q.1) in
+            inr (sym e, omega (arith, q.1), ap (λ (n : ℕ). n % 2 ^ suc k) e ∙ q.2)
       ]
 
   -- all pages of the larger block
-  pub merged_set : with_pages (pages_of (block_at low (suc k))) (set_of after) ≡ with_pages (pages_of (block_at s k)) (set_of t)
+  pub merged_set : with_pages (pages_of (block_at low (suc k))) (set_of after)
+      ≡ with_pages (pages_of (block_at s k)) (set_of t)
   merged_set =
-      let gone : set_of after ≡ without_pages (pages_of (block_at b k)) (set_of t) = removed_set t b k placed listed in
-      let back : with_pages (pages_of (block_at b k)) (without_pages (pages_of (block_at b k)) (set_of t)) ≡ set_of t = with_without (pages_of (block_at b k)) (set_of t) buddy_inside in
+      let gone : set_of after ≡ without_pages (pages_of (block_at b k)) (set_of t) =
+      removed_set t b k placed listed in
+      let back : with_pages (pages_of (block_at b k))
+      (without_pages (pages_of (block_at b k)) (set_of t)) ≡ set_of t =
+      with_without (pages_of (block_at b k)) (set_of t) buddy_inside in
       let rest = without_pages (pages_of (block_at b k)) (set_of t) in
       ap (λ (x : List Bool). with_pages (pages_of (block_at low (suc k))) x) gone ∙
       elim left_case [
         | inl q ↦
             sym (halves low k rest)
-            ∙ (ap (λ (n : ℕ). with_pages (pages_of (block_at low k)) (with_pages (pages_of (block_at n k)) rest)) (sym q.1)
-            ∙ (ap (λ (x : List Bool). with_pages (pages_of (block_at low k)) x) back ∙ ap (λ (n : ℕ). with_pages (pages_of (block_at n k)) (set_of t)) (sym q.0)))
+            ∙ (ap (λ (n : ℕ). with_pages (pages_of (block_at low k))
+            (with_pages (pages_of (block_at n k)) rest)) (sym q.1)
+            ∙ (ap (λ (x : List Bool). with_pages (pages_of (block_at low k)) x) back
+            ∙ ap (λ (n : ℕ). with_pages (pages_of (block_at n k)) (set_of t)) (sym q.0)))
         | inr q ↦
             sym (halves_turned low k rest)
-            ∙ (ap (λ (n : ℕ). with_pages (pages_of (block_at (low + 2 ^ k) k)) (with_pages (pages_of (block_at n k)) rest)) (sym q.0)
-            ∙ (ap (λ (x : List Bool). with_pages (pages_of (block_at (low + 2 ^ k) k)) x) back ∙ ap (λ (n : ℕ). with_pages (pages_of (block_at n k)) (set_of t)) (sym q.1)))
+            ∙ (ap (λ (n : ℕ). with_pages (pages_of (block_at (low + 2 ^ k) k))
+            (with_pages (pages_of (block_at n k)) rest)) (sym q.0)
+            ∙ (ap (λ (x : List Bool). with_pages (pages_of (block_at (low + 2 ^ k) k)) x) back
+            ∙ ap (λ (n : ℕ). with_pages (pages_of (block_at n k)) (set_of t)) (sym q.1)))
       ]
 
   pub merged_room : HasRoom after low (suc k)
   merged_room =
       let twice : 2 ^ suc k ≡ 2 ^ k + 2 ^ k = pow_twice k in
-      let gone : set_of after ≡ without_pages (pages_of (block_at b k)) (set_of t) = removed_set t b k placed listed in
+      let gone : set_of after ≡ without_pages (pages_of (block_at b k)) (set_of t) =
+      removed_set t b k placed listed in
       record {
         bounded = omega arith;
         aligned = elim left_case [ inl q ↦ q.2 | inr q ↦ q.2 ];
-        fits = elim left_case [ inl q ↦ omega (arith, placed.fits b k listed, length-set t b None, q.0, q.1) | inr q ↦ omega (arith, room.fits, length-set t b None, q.0, q.1) ];
+        fits = elim left_case [
+          | inl q ↦ omega (arith, placed.fits b k listed, length-set t b None, q.0, q.1)
+          | inr q ↦
+              omega (arith, room.fits, length-set t b None, q.0, q.1)
+        ];
         outside = λ p l h.
             false_from_ne_true (has (set_of after) p) (λ e.
-            let parts = without_parts (pages_of (block_at b k)) (set_of t) p (ap (λ (x : List Bool). has x p) (sym gone) ∙ e) in
+            let parts = without_parts (pages_of (block_at b k)) (set_of t) p
+            (ap (λ (x : List Bool). has x p) (sym gone) ∙ e) in
             elim (cases_Bool (is_in p (pages_of (block_at s k)))) [
-              | inl i ↦ let q = block_bounds s k p i in both_ways (has (set_of t) p) (room.outside p q.0 q.1) parts.0
+              | inl i ↦ let q = block_bounds s k p i in
+                  both_ways (has (set_of t) p) (room.outside p q.0 q.1) parts.0
               | inr n ↦
                   elim left_case [
                     | inl q ↦
                         elim (cases_lt p b) [
-                          | inl lt ↦ both_ways (is_in p (pages_of (block_at s k))) n (in_block s k p (omega (arith, q.0)) (omega (arith, q.0, q.1)))
-                          | inr ge ↦ both_ways (is_in p (pages_of (block_at b k))) parts.1 (in_block b k p ge (omega (arith, q.0, q.1)))
+                          | inl lt ↦ both_ways (is_in p (pages_of (block_at s k))) n
+                              (in_block s k p (omega (arith, q.0)) (omega (arith, q.0, q.1)))
+                          | inr ge ↦ both_ways (is_in p (pages_of (block_at b k))) parts.1
+                              (in_block b k p ge (omega (arith, q.0, q.1)))
                         ]
                     | inr q ↦
                         elim (cases_lt p s) [
-                          | inl lt ↦ both_ways (is_in p (pages_of (block_at b k))) parts.1 (in_block b k p (omega (arith, q.0)) (omega (arith, q.0, q.1)))
-                          | inr ge ↦ both_ways (is_in p (pages_of (block_at s k))) n (in_block s k p ge (omega (arith, q.0, q.1)))
+                          | inl lt ↦ both_ways (is_in p (pages_of (block_at b k))) parts.1
+                              (in_block b k p (omega (arith, q.0)) (omega (arith, q.0, q.1)))
+                          | inr ge ↦ both_ways (is_in p (pages_of (block_at s k))) n
+                              (in_block s k p ge (omega (arith, q.0, q.1)))
                         ]
                   ]
             ]);
@@ -469,7 +647,8 @@ module _ (t : List (Option ℕ)) (s k : ℕ) (placed : IsPlaced t) (room : HasRo
       let twice : 2 ^ suc k ≡ 2 ^ k + 2 ^ k = pow_twice k in
       record {
         bounded = omega (arith, room.bounded);
-        aligned = end_aligned s k k (omega arith) (aligned_down s k (suc k) (omega arith) room.aligned);
+        aligned = end_aligned s k k (omega arith)
+            (aligned_down s k (suc k) (omega arith) room.aligned);
         fits = omega (arith, room.fits);
         outside = λ p l h. room.outside p (omega arith) (omega arith);
       }
@@ -500,17 +679,21 @@ module _ (t : List (Option ℕ)) (s k : ℕ) (placed : IsPlaced t) (room : HasRo
         fits = omega (arith, room.fits, length-set t (s + 2 ^ k) (Some k));
         outside = λ p l h.
             false_from_ne_true (has (set_of halved) p) (λ e.
-            elim (with_cases (pages_of (block_at (s + 2 ^ k) k)) (set_of t) p (ap (λ (x : List Bool). has x p) (sym halved_set) ∙ e)) [
+            elim (with_cases (pages_of (block_at (s + 2 ^ k) k)) (set_of t) p
+            (ap (λ (x : List Bool). has x p) (sym halved_set) ∙ e)) [
               | inl old ↦ both_ways (has (set_of t) p) (room.outside p l (omega arith)) old
               | inr new ↦ let q = block_bounds (s + 2 ^ k) k p new in omega (arith, q.0)
             ]);
       }
 
-  pub lower_set : with_pages (pages_of (block_at s k)) (set_of halved) ≡ with_pages (pages_of (block_at s (suc k))) (set_of t)
-  lower_set = ap (λ (x : List Bool). with_pages (pages_of (block_at s k)) x) halved_set ∙ halves s k (set_of t)
+  pub lower_set : with_pages (pages_of (block_at s k)) (set_of halved)
+      ≡ with_pages (pages_of (block_at s (suc k))) (set_of t)
+  lower_set = ap (λ (x : List Bool). with_pages (pages_of (block_at s k)) x) halved_set
+      ∙ halves s k (set_of t)
 
 -- a block that left the table has room in it
-pub removed_room : (t : List (Option ℕ)) (s k : ℕ) → IsPlaced t → order_at t s ≡ Some k → HasRoom (set t s None) s k
+pub removed_room : (t : List (Option ℕ)) (s k : ℕ) → IsPlaced t → order_at t s ≡ Some k
+    → HasRoom (set t s None) s k
 removed_room t s k placed e =
     record {
       bounded = placed.bounded s k e;
@@ -518,17 +701,30 @@ removed_room t s k placed e =
       fits = omega (arith, placed.fits s k e, length-set t s None);
       outside = λ p l h.
           ap (λ (x : List Bool). has x p) (removed_set t s k placed e)
-          ∙ (has-without_pages (pages_of (block_at s k)) (set_of t) p ∙ and_right (has (set_of t) p) (not (is_in p (pages_of (block_at s k)))) (not_from_true (is_in p (pages_of (block_at s k))) (in_block s k p l h)));
+          ∙ (has-without_pages (pages_of (block_at s k)) (set_of t) p
+          ∙ and_right (has (set_of t) p) (not (is_in p (pages_of (block_at s k))))
+          (not_from_true (is_in p (pages_of (block_at s k))) (in_block s k p l h)));
     }
 
-pub removed_tiled : (t : List (Option ℕ)) (s k : ℕ) → IsTiled t → order_at t s ≡ Some k → IsTiled (set t s None)
+pub removed_tiled : (t : List (Option ℕ)) (s k : ℕ) → IsTiled t → order_at t s ≡ Some k
+    → IsTiled (set t s None)
 removed_tiled t s k tiled e =
     let l = is_there t s k e in
-    record { placed = removed_placed t s l tiled.placed; merged = removed_merged t s l tiled.merged; small = omega (arith, tiled.small, length-set t s None) }
+    record {
+      placed = removed_placed t s l tiled.placed;
+      merged = removed_merged t s l tiled.merged;
+      small = omega (arith, tiled.small, length-set t s None);
+    }
 
-pub added_tiled : (t : List (Option ℕ)) (s k : ℕ) → IsTiled t → HasRoom t s k → HasNoBuddy t s k → IsTiled (set t s (Some k))
+pub added_tiled : (t : List (Option ℕ)) (s k : ℕ) → IsTiled t → HasRoom t s k → HasNoBuddy t s k
+    → IsTiled (set t s (Some k))
 added_tiled t s k tiled room alone =
-    record { placed = added_placed t s k tiled.placed room; merged = added_merged t s k tiled.placed room tiled.merged alone; small = omega (arith, tiled.small, length-set t s (Some k)) }
+    record {
+      placed = added_placed t s k tiled.placed room;
+      merged = added_merged t s k tiled.placed room tiled.merged alone;
+      small =
+          omega (arith, tiled.small, length-set t s (Some k));
+    }
 
 -- no blocks make up no pages
 pub none_tiled : (n : ℕ) → n ≤ 16384 → IsTiled (replicate n None)
@@ -545,7 +741,8 @@ none_tiled n h = record {
   where
     no : (s k : ℕ) → order_at (replicate n None) s ≡ Some k → ⊥
     no s k e =
-        let l : s < n = omega (arith, is_there (replicate n None) s k e, length-replicate {A = Option ℕ} n None) in
+        let l : s < n = omega
+        (arith, is_there (replicate n None) s k e, length-replicate {A = Option ℕ} n None) in
         let bad : Some k ≡ None = sym e ∙ get_or-replicate n s None None l in
         cc
 
@@ -554,20 +751,29 @@ none_set n p h =
     false_from_ne_true (has (set_of (replicate n None)) p) (λ e.
     let c = in_set (replicate n None) p e in
     let t = none_tiled n h in
-    let l : c.start < n = omega (arith, is_there (replicate n None) c.start c.order c.listed, length-replicate {A = Option ℕ} n None) in
+    let l : c.start < n =
+    omega (
+      arith,
+      is_there (replicate n None) c.start c.order c.listed,
+      length-replicate {A = Option ℕ} n None,
+    ) in
     let bad : Some c.order ≡ None = sym c.listed ∙ get_or-replicate n c.start None None l in
     cc)
 
 -- ---- the lowest listed block, order by order
 
 abbrev pub IsLowestBelow : List (Option ℕ) → ℕ → ℕ → ℕ → Option FreeBlock → Type 0
-IsLowestBelow table order from end None = (start larger : ℕ) → order ≤ larger → larger < end → from ≤ start → order_at table start ≡ Some larger → ⊥
+IsLowestBelow table order from end None = (start larger : ℕ) → order ≤ larger → larger < end
+    → from ≤ start → order_at table start ≡ Some larger → ⊥
 IsLowestBelow table order from end (Some b) =
     (order_at table b.start ≡ Some b.order) × (order ≤ b.order) × (b.order ≤ 9) × (from ≤ b.start)
-    × ((start larger : ℕ) → order ≤ larger → larger < end → from ≤ start → order_at table start ≡ Some larger → b.start ≤ start)
+    × ((start larger : ℕ) → order ≤ larger → larger < end → from ≤ start
+    → order_at table start ≡ Some larger → b.start ≤ start)
 
 -- no block of the next order
-pub lowest_same : (t : List (Option ℕ)) (order from k : ℕ) (best : Option FreeBlock) → IsLowestStart t k from None → IsLowestBelow t order from k best → IsLowestBelow t order from (k + 1) best
+pub lowest_same : (t : List (Option ℕ)) (order from k : ℕ) (best : Option FreeBlock)
+    → IsLowestStart t k from None → IsLowestBelow t order from k best
+    → IsLowestBelow t order from (k + 1) best
 lowest_same t order from k None none h = λ s j a b c e.
     elim (cases_eq j k) [
       | inl same ↦ none s c (e ∙ ap (λ (i : ℕ). Some i) same)
@@ -586,7 +792,9 @@ lowest_same t order from k (Some x) none h = (
 )
 
 -- one that isn't lower
-pub lowest_kept : (t : List (Option ℕ)) (order from k s : ℕ) (x : FreeBlock) → IsLowestStart t k from (Some s) → x.start ≤ s → IsLowestBelow t order from k (Some x) → IsLowestBelow t order from (k + 1) (Some x)
+pub lowest_kept : (t : List (Option ℕ)) (order from k s : ℕ) (x : FreeBlock)
+    → IsLowestStart t k from (Some s) → x.start ≤ s → IsLowestBelow t order from k (Some x)
+    → IsLowestBelow t order from (k + 1) (Some x)
 lowest_kept t order from k s x low le h = (
   h.0,
   h.1,
@@ -600,7 +808,10 @@ lowest_kept t order from k s x low le h = (
 )
 
 -- a lower one, or the first
-pub lowest_taken : (t : List (Option ℕ)) (order from k s : ℕ) (best : Option FreeBlock) → order ≤ k → IsLowestStart t k from (Some s) → ((x : FreeBlock) → best ≡ Some x → s < x.start) → k ≤ 9 → IsLowestBelow t order from k best → IsLowestBelow t order from (k + 1) (Some (record { start = s; order = k }))
+pub lowest_taken : (t : List (Option ℕ)) (order from k s : ℕ) (best : Option FreeBlock) → order ≤ k
+    → IsLowestStart t k from (Some s) → ((x : FreeBlock) → best ≡ Some x → s < x.start) → k ≤ 9
+    → IsLowestBelow t order from k best
+    → IsLowestBelow t order from (k + 1) (Some (record { start = s; order = k }))
 lowest_taken t order from k s best o low less nine h = (
   low.0,
   o,
@@ -613,33 +824,47 @@ lowest_taken t order from k s best o low less nine h = (
       ],
 )
   where
-    other : (best : Option FreeBlock) → IsLowestBelow t order from k best → ((x : FreeBlock) → best ≡ Some x → s < x.start) → (r j : ℕ) → order ≤ j → j < k → from ≤ r → order_at t r ≡ Some j → s ≤ r
+    other : (best : Option FreeBlock) → IsLowestBelow t order from k best
+        → ((x : FreeBlock) → best ≡ Some x → s < x.start) → (r j : ℕ) → order ≤ j → j < k → from ≤ r
+        → order_at t r ≡ Some j → s ≤ r
     other None h less = λ r j a b c e. absurd (h r j a b c e)
     other (Some x) h less = λ r j a b c e. omega (arith, less x refl, h.4 r j a b c e)
 
-pub lowest_all : (t : List (Option ℕ)) (order from end : ℕ) (best : Option FreeBlock) → 9 < end → IsLowestBelow t order from end best → IsLowestListed t order from best
+pub lowest_all : (t : List (Option ℕ)) (order from end : ℕ) (best : Option FreeBlock) → 9 < end
+    → IsLowestBelow t order from end best → IsLowestListed t order from best
 lowest_all t order from end None l h = λ s k a b c e. h s k a (omega arith) c e
-lowest_all t order from end (Some x) l h = (h.0, h.1, h.2, h.3, λ s k a b c e. h.4 s k a (omega arith) c e)
+lowest_all t order from end (Some x) l h =
+    (h.0, h.1, h.2, h.3, λ s k a b c e. h.4 s k a (omega arith) c e)
 
 -- ---- what the calls leave
 
-pub room_pages : (t : List (Option ℕ)) (s k : ℕ) → HasRoom t s k → (p : ℕ) → is_in p (pages_of (block_at s k)) ≡ true → has (set_of t) p ≡ false
+pub room_pages : (t : List (Option ℕ)) (s k : ℕ) → HasRoom t s k → (p : ℕ)
+    → is_in p (pages_of (block_at s k)) ≡ true → has (set_of t) p ≡ false
 room_pages t s k room p h = let q = block_bounds s k p h in room.outside p q.0 q.1
 
 -- all of a block was taken
-pub none_left : (t : List (Option ℕ)) (s k j : ℕ) → HasRoom t s k → j ≡ k → set_of t ≡ without_pages (pages_of (block_at s j)) (with_pages (pages_of (block_at s k)) (set_of t))
+pub none_left : (t : List (Option ℕ)) (s k j : ℕ) → HasRoom t s k → j ≡ k
+    → set_of t ≡ without_pages (pages_of (block_at s j))
+    (with_pages (pages_of (block_at s k)) (set_of t))
 none_left t s k j room e =
-    sym (without_with (pages_of (block_at s k)) (set_of t) (room_pages t s k room)) ∙ ap (λ (n : ℕ). without_pages (pages_of (block_at s n)) (with_pages (pages_of (block_at s k)) (set_of t))) (sym e)
+    sym (without_with (pages_of (block_at s k)) (set_of t) (room_pages t s k room))
+    ∙ ap (λ (n : ℕ). without_pages (pages_of (block_at s n))
+    (with_pages (pages_of (block_at s k)) (set_of t))) (sym e)
 
 -- a block that left comes back but for its lower part
-pub part_left : (t : List (Option ℕ)) (s k j : ℕ) → IsPlaced t → order_at t s ≡ Some k → without_pages (pages_of (block_at s j)) (with_pages (pages_of (block_at s k)) (set_of (set t s None))) ≡ without_pages (pages_of (block_at s j)) (set_of t)
+pub part_left : (t : List (Option ℕ)) (s k j : ℕ) → IsPlaced t → order_at t s ≡ Some k
+    → without_pages (pages_of (block_at s j))
+    (with_pages (pages_of (block_at s k)) (set_of (set t s None)))
+    ≡ without_pages (pages_of (block_at s j)) (set_of t)
 part_left t s k j placed e =
     ap (without_pages (pages_of (block_at s j)))
     (ap (with_pages (pages_of (block_at s k))) (removed_set t s k placed e)
-    ∙ with_without (pages_of (block_at s k)) (set_of t) (λ p h. let q = block_bounds s k p h in listed_inside t placed s k e p q.0 q.1))
+    ∙ with_without (pages_of (block_at s k)) (set_of t)
+    (λ p h. let q = block_bounds s k p h in listed_inside t placed s k e p q.0 q.1))
 
 -- a block of order w whose upper half, of so many pages, goes in
-module _ (t : List (Option ℕ)) (s w size : ℕ) (tiled : IsTiled t) (room : HasRoom t s w) (some : 0 < w) (size_is : size ≡ 2 ^ (w - 1)) where
+module _ (t : List (Option ℕ)) (s w size : ℕ) (tiled : IsTiled t) (room : HasRoom t s w)
+    (some : 0 < w) (size_is : size ≡ 2 ^ (w - 1)) where
   w_is : w ≡ suc (w - 1)
   w_is = omega arith
 
@@ -650,40 +875,61 @@ module _ (t : List (Option ℕ)) (s w size : ℕ) (tiled : IsTiled t) (room : Ha
   rest_at = ap (λ (n : ℕ). s + n) (sym size_is)
 
   pub rest_there : s + size < length t
-  rest_there = omega (arith, rest_at, room_there t (s + 2 ^ (w - 1)) (w - 1) tiled.placed (upper_room t s (w - 1) tiled.placed rest_whole))
+  rest_there = omega (
+    arith,
+    rest_at,
+    room_there t (s + 2 ^ (w - 1)) (w - 1) tiled.placed
+        (upper_room t s (w - 1) tiled.placed rest_whole),
+  )
 
   pub rest_empty : order_at t (s + size) ≡ None
-  rest_empty = ap (order_at t) (sym rest_at) ∙ room_empty t (s + 2 ^ (w - 1)) (w - 1) tiled.placed (upper_room t s (w - 1) tiled.placed rest_whole)
+  rest_empty = ap (order_at t) (sym rest_at)
+      ∙ room_empty t (s + 2 ^ (w - 1)) (w - 1) tiled.placed
+      (upper_room t s (w - 1) tiled.placed rest_whole)
 
   rest_table : halved t s (w - 1) tiled.placed rest_whole ≡ set t (s + size) (Some (w - 1))
   rest_table = ap (λ (n : ℕ). set t n (Some (w - 1))) rest_at
 
   pub rest_tiled : IsTiled (set t (s + size) (Some (w - 1)))
-  rest_tiled = subst IsTiled rest_table (added_tiled t (s + 2 ^ (w - 1)) (w - 1) tiled (upper_room t s (w - 1) tiled.placed rest_whole) (upper_alone t s (w - 1) tiled.placed rest_whole))
+  rest_tiled = subst IsTiled rest_table
+      (added_tiled t (s + 2 ^ (w - 1)) (w - 1) tiled
+      (upper_room t s (w - 1) tiled.placed rest_whole)
+      (upper_alone t s (w - 1) tiled.placed rest_whole))
 
   pub rest_room : HasRoom (set t (s + size) (Some (w - 1))) s (w - 1)
-  rest_room = subst (λ (u : List (Option ℕ)). HasRoom u s (w - 1)) rest_table (lower_room t s (w - 1) tiled.placed rest_whole)
+  rest_room = subst (λ (u : List (Option ℕ)). HasRoom u s (w - 1)) rest_table
+      (lower_room t s (w - 1) tiled.placed rest_whole)
 
-  pub rest_set : with_pages (pages_of (block_at s (w - 1))) (set_of (set t (s + size) (Some (w - 1)))) ≡ with_pages (pages_of (block_at s w)) (set_of t)
+  pub rest_set : with_pages (pages_of (block_at s (w - 1)))
+      (set_of (set t (s + size) (Some (w - 1)))) ≡ with_pages (pages_of (block_at s w)) (set_of t)
   rest_set =
-      ap (λ (u : List (Option ℕ)). with_pages (pages_of (block_at s (w - 1))) (set_of u)) (sym rest_table)
-      ∙ (lower_set t s (w - 1) tiled.placed rest_whole ∙ ap (λ (n : ℕ). with_pages (pages_of (block_at s n)) (set_of t)) (sym w_is))
+      ap (λ (u : List (Option ℕ)). with_pages (pages_of (block_at s (w - 1))) (set_of u))
+      (sym rest_table)
+      ∙ (lower_set t s (w - 1) tiled.placed rest_whole
+      ∙ ap (λ (n : ℕ). with_pages (pages_of (block_at s n)) (set_of t)) (sym w_is))
 
 -- a block and its buddy, taken out of the table, are merged
-module _ (t : List (Option ℕ)) (s k b : ℕ) (tiled : IsTiled t) (room : HasRoom t s k) (buddy : IsBuddy s k b) (listed : order_at t b ≡ Some k) (nine : k < 9) where
+module _ (t : List (Option ℕ)) (s k b : ℕ) (tiled : IsTiled t) (room : HasRoom t s k)
+    (buddy : IsBuddy s k b) (listed : order_at t b ≡ Some k) (nine : k < 9) where
   pub joined_tiled : IsTiled (set t b None)
   joined_tiled = removed_tiled t b k tiled listed
 
   pub joined_room : HasRoom (set t b None) (min s b) (k + 1)
-  joined_room = subst (λ (n : ℕ). HasRoom (set t b None) (min s b) n) (let e : suc k ≡ k + 1 = omega arith in e) (merged_room t s k b (min s b) tiled.placed room buddy listed nine refl)
+  joined_room = subst (λ (n : ℕ). HasRoom (set t b None) (min s b) n)
+      (let e : suc k ≡ k + 1 = omega arith in e)
+      (merged_room t s k b (min s b) tiled.placed room buddy listed nine refl)
 
-  pub joined_set : with_pages (pages_of (block_at (min s b) (k + 1))) (set_of (set t b None)) ≡ with_pages (pages_of (block_at s k)) (set_of t)
+  pub joined_set : with_pages (pages_of (block_at (min s b) (k + 1))) (set_of (set t b None))
+      ≡ with_pages (pages_of (block_at s k)) (set_of t)
   joined_set =
-      ap (λ (n : ℕ). with_pages (pages_of (block_at (min s b) n)) (set_of (set t b None))) (let e : k + 1 ≡ suc k = omega arith in e)
+      ap (λ (n : ℕ). with_pages (pages_of (block_at (min s b) n)) (set_of (set t b None)))
+      (let e : k + 1 ≡ suc k = omega arith in e)
       ∙ merged_set t s k b (min s b) tiled.placed room buddy listed nine refl
 
 -- the orders below are gone over
-pub none_more : (t : List (Option ℕ)) (order k : ℕ) → IsLowestStart t k 0 None → ((s j : ℕ) → order ≤ j → j < k → order_at t s ≡ Some j → ⊥) → (s j : ℕ) → order ≤ j → j < k + 1 → order_at t s ≡ Some j → ⊥
+pub none_more : (t : List (Option ℕ)) (order k : ℕ) → IsLowestStart t k 0 None
+    → ((s j : ℕ) → order ≤ j → j < k → order_at t s ≡ Some j → ⊥) → (s j : ℕ) → order ≤ j
+    → j < k + 1 → order_at t s ≡ Some j → ⊥
 none_more t order k none h s j a b e =
     elim (cases_eq j k) [
       | inl same ↦ none s (omega arith) (e ∙ ap (λ (i : ℕ). Some i) same)

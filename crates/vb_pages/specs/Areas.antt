@@ -1,7 +1,8 @@
 -- Sets of pages and the blocks that lie in them. Blocks of a power of two, their halving and
 -- merging: Gorman, "Understanding the Linux Virtual Memory Manager", chapter 6. Which block a
 -- request gets is the profile's.
-use Rattle.std.specs.Prelude.{◌≡◌, ℕ, ◌+◌, ◌<◌, ◌≤◌, Bool, false, not, ◌&&◌, ◌||◌, nat_le, List, map, Option, Some, None, IsTrue, slice_index_or}
+use Rattle.std.specs.Prelude.{◌≡◌, ℕ, ◌+◌, ◌<◌, ◌≤◌, Bool, false, not, ◌&&◌, ◌||◌, nat_le, List}
+use Rattle.std.specs.Prelude.{map, Option, Some, None, IsTrue, slice_index_or}
 use Rattle.std.specs.List.{range_with_len}
 use Rattle.vb_model.specs.Tests.{is_in, each_page}
 use Rattle.vb_model.specs.Limits.{max_order, reserved_pages}

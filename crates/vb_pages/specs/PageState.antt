@@ -1,18 +1,23 @@
 -- What the page allocator is, and what each call does (Gorman, chapter 6, for the blocks; the rest
 -- is the profile's).
-use Rattle.std.specs.Prelude.{◌≡◌, ℕ, ◌+◌, ◌<◌, ◌≤◌, Bool, false, ◌&&◌, nat_lt, nat_le, List, [], length, replicate, Option, Some, None, Result, Ok, Err, count_by, IsTrue}
+use Rattle.std.specs.Prelude.{◌≡◌, ℕ, ◌+◌, ◌<◌, ◌≤◌, Bool, false, ◌&&◌, nat_lt, nat_le, List, []}
+use Rattle.std.specs.Prelude.{length, replicate, Option, Some, None, Result, Ok, Err, count_by}
+use Rattle.std.specs.Prelude.{IsTrue}
 use Rattle.std.specs.List.{list_any}
 use Rattle.vb_model.specs.Tests.{one_if}
-use Rattle.vb_model.specs.declared.limits.TheConstants.{MIN_GUEST_PAGES, MAX_GUEST_PAGES, MAX_PROCESSORS}
+use Rattle.vb_model.specs.declared.limits.TheConstants.{MIN_GUEST_PAGES, MAX_GUEST_PAGES}
+use Rattle.vb_model.specs.declared.limits.TheConstants.{MAX_PROCESSORS}
 use Rattle.vb_model.specs.Limits.{reserved_pages}
 use Rattle.vb_model.specs.Pages.{Block, pages_of, size, covers, is_same_block}
 use Rattle.vb_model.specs.Driver.{with_block, without_block}
 use Rattle.vb_pages.specs.declared.block.FreeBlock.{FreeBlock}
 use Rattle.vb_pages.specs.declared.fault.PageFault.{PageFault}
 use Rattle.vb_pages.specs.declared.fault.PageFault.TheVariants.{NoPages}
-use Rattle.vb_pages.specs.Areas.{with_pages, without_pages, unreserved, block_at, IsBlock, IsMaximal, IsLowestFrom}
+use Rattle.vb_pages.specs.Areas.{with_pages, without_pages, unreserved, block_at, IsBlock}
+use Rattle.vb_pages.specs.Areas.{IsMaximal, IsLowestFrom}
 use Rattle.vb_pages.specs.Held.{HeldBlocks}
-use Rattle.vb_pages.specs.FreePages.{FreePages, is_free_in, times_free, drained, TakesPages, Serves, given_back}
+use Rattle.vb_pages.specs.FreePages.{FreePages, is_free_in, times_free, drained, TakesPages, Serves}
+use Rattle.vb_pages.specs.FreePages.{given_back}
 
 -- the free pages, and the held blocks by rising start
 pub record PageState : Type 0 where

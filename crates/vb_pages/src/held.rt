@@ -1,6 +1,7 @@
 //! Held blocks, by the page where they start.
 
-ghost use Rattle.std.specs.Prelude.{◌≡◌, ℕ, ◌<◌, ◌≤◌, ◌↔◌, List, [], Some, false, true, IsTrue, IfOk};
+ghost use Rattle.std.specs.Prelude.{◌≡◌, ℕ, ◌<◌, ◌≤◌, ◌↔◌, List, [], Some, false, true, IsTrue};
+ghost use Rattle.std.specs.Prelude.{IfOk};
 ghost use Rattle.std.specs.List.{list_any};
 ghost use Rattle.vb_model.specs.Pages.{covers, is_same_block};
 ghost use Rattle.vb_model.specs.Driver.{with_block, without_block};

@@ -1,6 +1,7 @@
 //! An ordered list of block starts, with room reserved.
 
-ghost use Rattle.std.specs.Prelude.{◌≡◌, ℕ, ◌<◌, ◌≤◌, [], ◌∷◌, ◌++◌, List, length, slice_get, slice_index, IfOk};
+ghost use Rattle.std.specs.Prelude.{◌≡◌, ℕ, ◌<◌, ◌≤◌, [], ◌∷◌, ◌++◌, List, length, slice_get};
+ghost use Rattle.std.specs.Prelude.{slice_index, IfOk};
 ghost use Rattle.vb_pages.specs.Starts.{AllBelow, AllFrom};
 
 use std::alloc::{AllocError, Global};

@@ -1,6 +1,7 @@
 //! Which blocks there are: an order a page, and each order's starts in order.
 
-ghost use Rattle.std.specs.Prelude.{◌≡◌, ℕ, ◌<◌, ◌≤◌, List, length, replicate, slice_set, Some, None, IfOk, IsTrue, ◌↔◌};
+ghost use Rattle.std.specs.Prelude.{◌≡◌, ℕ, ◌<◌, ◌≤◌, List, length, replicate, slice_set, Some};
+ghost use Rattle.std.specs.Prelude.{None, IfOk, IsTrue, ◌↔◌};
 ghost use Rattle.vb_pages.specs.Table.{order_at, IsLowestStart};
 
 use crate::starts::StartList;

@@ -2,40 +2,52 @@
 use Rattle.std.specs.Prelude.{◌≡◌, ◌≢◌, ℕ, zero, suc, ◌+◌, ◌^◌, ◌<◌, ◌≤◌, List, slice_index, refl}
 use Rattle.std.proofs.Common.{subst, sym, ◌∙◌, ap, arith}
 use Rattle.std.specs.Int.{w16, w32, w64, from_le_bytes, to_le_bytes}
-use Rattle.std.proofs.lemmas.Nat.{from_le_bytes-to_le_bytes_2, from_le_bytes-to_le_bytes_4, from_le_bytes-to_le_bytes_8}
-use Rattle.vb_ram.specs.Pages.{Pages, byte_of, byte_at, page_at, field, SameBut, SameIn, Wrote, PutField}
+use Rattle.std.proofs.lemmas.Nat.{from_le_bytes-to_le_bytes_2, from_le_bytes-to_le_bytes_4}
+use Rattle.std.proofs.lemmas.Nat.{from_le_bytes-to_le_bytes_8}
+use Rattle.vb_ram.specs.Pages.{Pages, byte_of, byte_at, page_at, field, SameBut, SameIn, Wrote}
+use Rattle.vb_ram.specs.Pages.{PutField}
 
 -- equal bytes make equal fields
-pub field_in : (n : ℕ) (old new : Pages) (p lo hi o : ℕ) → SameIn old new p lo hi → lo ≤ o → o + n ≤ hi → field n new p o ≡ field n old p o
+pub field_in : (n : ℕ) (old new : Pages) (p lo hi o : ℕ) → SameIn old new p lo hi → lo ≤ o
+    → o + n ≤ hi → field n new p o ≡ field n old p o
 unfolding field
 field_in zero old new p lo hi o same l h = refl
 field_in (suc n) old new p lo hi o same l h =
     let first : byte_at new p o ≡ byte_at old p o = same.bytes o l (omega arith) in
-    let more : field n new p (o + 1) ≡ field n old p (o + 1) = field_in n old new p lo hi (o + 1) same (omega arith) (omega arith) in
+    let more : field n new p (o + 1) ≡ field n old p (o + 1) =
+    field_in n old new p lo hi (o + 1) same (omega arith) (omega arith) in
     omega (arith, first, more)
 
 -- what was written elsewhere left these bytes alone
-pub same_below : (old new : Pages) (p a b lo hi : ℕ) → SameBut old new p a b → hi ≤ a → SameIn old new p lo hi
+pub same_below : (old new : Pages) (p a b lo hi : ℕ) → SameBut old new p a b → hi ≤ a
+    → SameIn old new p lo hi
 same_below old new p a b lo hi w h = record { bytes = λ o l u. w.below o (omega arith) }
 
-pub same_above : (old new : Pages) (p a b lo hi : ℕ) → SameBut old new p a b → b ≤ lo → SameIn old new p lo hi
+pub same_above : (old new : Pages) (p a b lo hi : ℕ) → SameBut old new p a b → b ≤ lo
+    → SameIn old new p lo hi
 same_above old new p a b lo hi w h = record { bytes = λ o l u. w.above o (omega arith) }
 
-pub same_page : (old new : Pages) (q lo hi : ℕ) → page_at new q ≡ page_at old q → SameIn old new q lo hi
+pub same_page : (old new : Pages) (q lo hi : ℕ) → page_at new q ≡ page_at old q
+    → SameIn old new q lo hi
 unfolding byte_at
 same_page old new q lo hi e = record { bytes = λ o l u. ap (λ w. byte_of w o) e }
 
-pub same_other : (old new : Pages) (p q a b lo hi : ℕ) → SameBut old new p a b → q ≢ p → SameIn old new q lo hi
+pub same_other : (old new : Pages) (p q a b lo hi : ℕ) → SameBut old new p a b → q ≢ p
+    → SameIn old new q lo hi
 same_other old new p q a b lo hi w ne = same_page old new q lo hi (w.others q ne)
 
-pub same_trans : (m1 m2 m3 : Pages) (p lo hi : ℕ) → SameIn m1 m2 p lo hi → SameIn m2 m3 p lo hi → SameIn m1 m3 p lo hi
+pub same_trans : (m1 m2 m3 : Pages) (p lo hi : ℕ) → SameIn m1 m2 p lo hi → SameIn m2 m3 p lo hi
+    → SameIn m1 m3 p lo hi
 same_trans m1 m2 m3 p lo hi a b = record { bytes = λ o l u. b.bytes o l u ∙ a.bytes o l u }
 
-pub same_part : (old new : Pages) (p lo hi a b : ℕ) → SameIn old new p lo hi → lo ≤ a → b ≤ hi → SameIn old new p a b
-same_part old new p lo hi a b s l h = record { bytes = λ o x y. s.bytes o (omega arith) (omega arith) }
+pub same_part : (old new : Pages) (p lo hi a b : ℕ) → SameIn old new p lo hi → lo ≤ a → b ≤ hi
+    → SameIn old new p a b
+same_part old new p lo hi a b s l h =
+    record { bytes = λ o x y. s.bytes o (omega arith) (omega arith) }
 
 -- writes within one range, one after the other
-pub but_trans : (m1 m2 m3 : Pages) (p lo hi : ℕ) → SameBut m1 m2 p lo hi → SameBut m2 m3 p lo hi → SameBut m1 m3 p lo hi
+pub but_trans : (m1 m2 m3 : Pages) (p lo hi : ℕ) → SameBut m1 m2 p lo hi → SameBut m2 m3 p lo hi
+    → SameBut m1 m3 p lo hi
 but_trans m1 m2 m3 p lo hi a b = record {
   below = λ o h. b.below o h ∙ a.below o h;
   above = λ o h. b.above o h ∙ a.above o h;
@@ -45,7 +57,8 @@ but_trans m1 m2 m3 p lo hi a b = record {
   count = b.count ∙ a.count;
 }
 
-pub but_wider : (old new : Pages) (p a b lo hi : ℕ) → SameBut old new p a b → lo ≤ a → b ≤ hi → SameBut old new p lo hi
+pub but_wider : (old new : Pages) (p a b lo hi : ℕ) → SameBut old new p a b → lo ≤ a → b ≤ hi
+    → SameBut old new p lo hi
 but_wider old new p a b lo hi w l h = record {
   below = λ o u. w.below o (omega arith);
   above = λ o u. w.above o (omega arith);
@@ -56,63 +69,91 @@ but_wider old new p a b lo hi w l h = record {
 }
 
 -- the fields that bytes read one by one make
-pub field_2 : (mem : Pages) (p o : ℕ) (bs : List ℕ) → ((k : ℕ) → k < 2 → slice_index bs k ≡ byte_at mem p (o + k)) → field 2 mem p o ≡ from_le_bytes w16 bs
+pub field_2 : (mem : Pages) (p o : ℕ) (bs : List ℕ)
+    → ((k : ℕ) → k < 2 → slice_index bs k ≡ byte_at mem p (o + k))
+    → field 2 mem p o ≡ from_le_bytes w16 bs
 unfolding field
 field_2 mem p o bs h =
-    let e0 : byte_at mem p o ≡ slice_index bs 0 = ap (byte_at mem p) (omega arith) ∙ sym (h 0 (omega arith)) in
-    let e1 : byte_at mem p (o + 1) ≡ slice_index bs 1 = ap (byte_at mem p) (omega arith) ∙ sym (h 1 (omega arith)) in
+    let e0 : byte_at mem p o ≡ slice_index bs 0 =
+    ap (byte_at mem p) (omega arith) ∙ sym (h 0 (omega arith)) in
+    let e1 : byte_at mem p (o + 1) ≡ slice_index bs 1 =
+    ap (byte_at mem p) (omega arith) ∙ sym (h 1 (omega arith)) in
     omega arith
 
-pub field_4 : (mem : Pages) (p o : ℕ) (bs : List ℕ) → ((k : ℕ) → k < 4 → slice_index bs k ≡ byte_at mem p (o + k)) → field 4 mem p o ≡ from_le_bytes w32 bs
+pub field_4 : (mem : Pages) (p o : ℕ) (bs : List ℕ)
+    → ((k : ℕ) → k < 4 → slice_index bs k ≡ byte_at mem p (o + k))
+    → field 4 mem p o ≡ from_le_bytes w32 bs
 unfolding field
 field_4 mem p o bs h =
-    let e0 : byte_at mem p o ≡ slice_index bs 0 = ap (byte_at mem p) (omega arith) ∙ sym (h 0 (omega arith)) in
-    let e1 : byte_at mem p (o + 1) ≡ slice_index bs 1 = ap (byte_at mem p) (omega arith) ∙ sym (h 1 (omega arith)) in
-    let e2 : byte_at mem p (o + 1 + 1) ≡ slice_index bs 2 = ap (byte_at mem p) (omega arith) ∙ sym (h 2 (omega arith)) in
-    let e3 : byte_at mem p (o + 1 + 1 + 1) ≡ slice_index bs 3 = ap (byte_at mem p) (omega arith) ∙ sym (h 3 (omega arith)) in
+    let e0 : byte_at mem p o ≡ slice_index bs 0 =
+    ap (byte_at mem p) (omega arith) ∙ sym (h 0 (omega arith)) in
+    let e1 : byte_at mem p (o + 1) ≡ slice_index bs 1 =
+    ap (byte_at mem p) (omega arith) ∙ sym (h 1 (omega arith)) in
+    let e2 : byte_at mem p (o + 1 + 1) ≡ slice_index bs 2 =
+    ap (byte_at mem p) (omega arith) ∙ sym (h 2 (omega arith)) in
+    let e3 : byte_at mem p (o + 1 + 1 + 1) ≡ slice_index bs 3 =
+    ap (byte_at mem p) (omega arith) ∙ sym (h 3 (omega arith)) in
     omega arith
 
-pub field_8 : (mem : Pages) (p o : ℕ) (bs : List ℕ) → ((k : ℕ) → k < 8 → slice_index bs k ≡ byte_at mem p (o + k)) → field 8 mem p o ≡ from_le_bytes w64 bs
+pub field_8 : (mem : Pages) (p o : ℕ) (bs : List ℕ)
+    → ((k : ℕ) → k < 8 → slice_index bs k ≡ byte_at mem p (o + k))
+    → field 8 mem p o ≡ from_le_bytes w64 bs
 unfolding field
 field_8 mem p o bs h =
-    let e0 : byte_at mem p o ≡ slice_index bs 0 = ap (byte_at mem p) (omega arith) ∙ sym (h 0 (omega arith)) in
-    let e1 : byte_at mem p (o + 1) ≡ slice_index bs 1 = ap (byte_at mem p) (omega arith) ∙ sym (h 1 (omega arith)) in
-    let e2 : byte_at mem p (o + 1 + 1) ≡ slice_index bs 2 = ap (byte_at mem p) (omega arith) ∙ sym (h 2 (omega arith)) in
-    let e3 : byte_at mem p (o + 1 + 1 + 1) ≡ slice_index bs 3 = ap (byte_at mem p) (omega arith) ∙ sym (h 3 (omega arith)) in
-    let e4 : byte_at mem p (o + 1 + 1 + 1 + 1) ≡ slice_index bs 4 = ap (byte_at mem p) (omega arith) ∙ sym (h 4 (omega arith)) in
-    let e5 : byte_at mem p (o + 1 + 1 + 1 + 1 + 1) ≡ slice_index bs 5 = ap (byte_at mem p) (omega arith) ∙ sym (h 5 (omega arith)) in
-    let e6 : byte_at mem p (o + 1 + 1 + 1 + 1 + 1 + 1) ≡ slice_index bs 6 = ap (byte_at mem p) (omega arith) ∙ sym (h 6 (omega arith)) in
-    let e7 : byte_at mem p (o + 1 + 1 + 1 + 1 + 1 + 1 + 1) ≡ slice_index bs 7 = ap (byte_at mem p) (omega arith) ∙ sym (h 7 (omega arith)) in
+    let e0 : byte_at mem p o ≡ slice_index bs 0 =
+    ap (byte_at mem p) (omega arith) ∙ sym (h 0 (omega arith)) in
+    let e1 : byte_at mem p (o + 1) ≡ slice_index bs 1 =
+    ap (byte_at mem p) (omega arith) ∙ sym (h 1 (omega arith)) in
+    let e2 : byte_at mem p (o + 1 + 1) ≡ slice_index bs 2 =
+    ap (byte_at mem p) (omega arith) ∙ sym (h 2 (omega arith)) in
+    let e3 : byte_at mem p (o + 1 + 1 + 1) ≡ slice_index bs 3 =
+    ap (byte_at mem p) (omega arith) ∙ sym (h 3 (omega arith)) in
+    let e4 : byte_at mem p (o + 1 + 1 + 1 + 1) ≡ slice_index bs 4 =
+    ap (byte_at mem p) (omega arith) ∙ sym (h 4 (omega arith)) in
+    let e5 : byte_at mem p (o + 1 + 1 + 1 + 1 + 1) ≡ slice_index bs 5 =
+    ap (byte_at mem p) (omega arith) ∙ sym (h 5 (omega arith)) in
+    let e6 : byte_at mem p (o + 1 + 1 + 1 + 1 + 1 + 1) ≡ slice_index bs 6 =
+    ap (byte_at mem p) (omega arith) ∙ sym (h 6 (omega arith)) in
+    let e7 : byte_at mem p (o + 1 + 1 + 1 + 1 + 1 + 1 + 1) ≡ slice_index bs 7 =
+    ap (byte_at mem p) (omega arith) ∙ sym (h 7 (omega arith)) in
     omega arith
 
 -- what a number's bytes put
-pub put_2 : (old new : Pages) (p o x : ℕ) → x < 2 ^ 16 → Wrote old new p o (to_le_bytes w16 x) → PutField 2 old new p o x
+pub put_2 : (old new : Pages) (p o x : ℕ) → x < 2 ^ 16 → Wrote old new p o (to_le_bytes w16 x)
+    → PutField 2 old new p o x
 put_2 old new p o x lt w = record {
-  value = field_2 new p o (to_le_bytes w16 x) (λ k h. sym (w.written k h)) ∙ from_le_bytes-to_le_bytes_2 x lt;
+  value = field_2 new p o (to_le_bytes w16 x) (λ k h. sym (w.written k h))
+      ∙ from_le_bytes-to_le_bytes_2 x lt;
   rest = w.rest;
 }
 
 -- what a number's bytes put
-pub put_4 : (old new : Pages) (p o x : ℕ) → x < 2 ^ 32 → Wrote old new p o (to_le_bytes w32 x) → PutField 4 old new p o x
+pub put_4 : (old new : Pages) (p o x : ℕ) → x < 2 ^ 32 → Wrote old new p o (to_le_bytes w32 x)
+    → PutField 4 old new p o x
 put_4 old new p o x lt w = record {
-  value = field_4 new p o (to_le_bytes w32 x) (λ k h. sym (w.written k h)) ∙ from_le_bytes-to_le_bytes_4 x lt;
+  value = field_4 new p o (to_le_bytes w32 x) (λ k h. sym (w.written k h))
+      ∙ from_le_bytes-to_le_bytes_4 x lt;
   rest = w.rest;
 }
 
 -- what a number's bytes put
-pub put_8 : (old new : Pages) (p o x : ℕ) → x < 2 ^ 64 → Wrote old new p o (to_le_bytes w64 x) → PutField 8 old new p o x
+pub put_8 : (old new : Pages) (p o x : ℕ) → x < 2 ^ 64 → Wrote old new p o (to_le_bytes w64 x)
+    → PutField 8 old new p o x
 put_8 old new p o x lt w = record {
-  value = field_8 new p o (to_le_bytes w64 x) (λ k h. sym (w.written k h)) ∙ from_le_bytes-to_le_bytes_8 x lt;
+  value = field_8 new p o (to_le_bytes w64 x) (λ k h. sym (w.written k h))
+      ∙ from_le_bytes-to_le_bytes_8 x lt;
   rest = w.rest;
 }
 
 -- the same at equal numbers
-pub put_at : (n : ℕ) (old new : Pages) (p o x at y : ℕ) → PutField n old new p o x → o ≡ at → x ≡ y → PutField n old new p at y
+pub put_at : (n : ℕ) (old new : Pages) (p o x at y : ℕ) → PutField n old new p o x → o ≡ at → x ≡ y
+    → PutField n old new p at y
 put_at n old new p o x at y w e f =
     subst (λ (z : ℕ). PutField n old new p z y) e (subst (λ (z : ℕ). PutField n old new p o z) f w)
 
 -- zeros are the number 0
-pub field_zero : (n : ℕ) (mem : Pages) (p o : ℕ) → ((k : ℕ) → byte_at mem p k ≡ 0) → field n mem p o ≡ 0
+pub field_zero : (n : ℕ) (mem : Pages) (p o : ℕ) → ((k : ℕ) → byte_at mem p k ≡ 0)
+    → field n mem p o ≡ 0
 unfolding field
 field_zero zero mem p o h = refl
 field_zero (suc n) mem p o h = omega (arith, h o, field_zero n mem p (o + 1) h)

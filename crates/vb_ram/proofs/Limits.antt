@@ -10,12 +10,18 @@ use Rattle.vb_ram.specs.Limits.{AreWithinLimits}
 pub between : (least most n : ℕ) → is_between least most n ≡ true → (least ≤ n) × (n ≤ most)
 between least most n h = (grind (arith, nat_tests), grind (arith, nat_tests))
 
-pub config_limits : (pages queue_size processors : ℕ) → is_config pages queue_size processors ≡ true → AreWithinLimits pages queue_size processors
+pub config_limits : (pages queue_size processors : ℕ) → is_config pages queue_size processors ≡ true
+    → AreWithinLimits pages queue_size processors
 config_limits pages queue_size processors h =
-    let all = and_parts (is_between 64 16384 pages && is_power_of_two pages) ((is_between 2 128 queue_size && is_power_of_two queue_size) && is_between 1 4 processors) h in
-    let rest = and_parts (is_between 2 128 queue_size && is_power_of_two queue_size) (is_between 1 4 processors) all.1 in
-    let of_pages = between 64 16384 pages (and_parts (is_between 64 16384 pages) (is_power_of_two pages) all.0).0 in
-    let of_queue = between 2 128 queue_size (and_parts (is_between 2 128 queue_size) (is_power_of_two queue_size) rest.0).0 in
+    let all = and_parts (is_between 64 16384 pages && is_power_of_two pages)
+    ((is_between 2 128 queue_size && is_power_of_two queue_size) && is_between 1 4 processors)
+    h in
+    let rest = and_parts (is_between 2 128 queue_size && is_power_of_two queue_size)
+    (is_between 1 4 processors) all.1 in
+    let of_pages = between 64 16384 pages
+    (and_parts (is_between 64 16384 pages) (is_power_of_two pages) all.0).0 in
+    let of_queue = between 2 128 queue_size
+    (and_parts (is_between 2 128 queue_size) (is_power_of_two queue_size) rest.0).0 in
     let of_processors = between 1 4 processors rest.1 in
     record {
       pages_least = of_pages.0;

@@ -1,23 +1,29 @@
 -- What a memory is where one of its pages was exchanged.
-use Rattle.std.proofs.Common.{◌≡◌, ◌≢◌, ℕ, zero, suc, ◌+◌, ◌<◌, List, Option, Some, None, length, get_or, set, replicate, refl, sym, ◌∙◌, ap, inl, inr}
+use Rattle.std.proofs.Common.{◌≡◌, ◌≢◌, ℕ, zero, suc, ◌+◌, ◌<◌, List, Option, Some, None, length}
+use Rattle.std.proofs.Common.{get_or, set, replicate, refl, sym, ◌∙◌, ap, inl, inr}
 use Rattle.std.proofs.lemmas.Bool.{cases_eq}
 use Rattle.std.proofs.lemmas.List.{get_or-set_same, get_or-set_other, get_or_default, length-set}
 use Rattle.vb_model.specs.Guest.{zero_page}
-use Rattle.vb_ram.specs.Pages.{Page, Pages, byte_of, byte_at, number_of, contents_of, page_at, frame_at, contents_at, IsWhole, Wrote, Supplied}
+use Rattle.vb_ram.specs.Pages.{Page, Pages, byte_of, byte_at, number_of, contents_of, page_at}
+use Rattle.vb_ram.specs.Pages.{frame_at, contents_at, IsWhole, Wrote, Supplied}
 use Rattle.vb_ram.proofs.Contents.{length-zero_page, zero_page-at}
 use Rattle.vb_ram.specs.Memory.{IsMemory}
 use Rattle.vb_ram.specs.Put.{PutAt}
 
 -- the page that was read is the page there
-pub page_read : (mem : Pages) (p : ℕ) (page : Option Page) → p < length mem → page ≡ get_or mem p page → page_at mem p ≡ page
+pub page_read : (mem : Pages) (p : ℕ) (page : Option Page) → p < length mem
+    → page ≡ get_or mem p page → page_at mem p ≡ page
 page_read mem p page lt e = get_or_default mem p None page lt ∙ sym e
 
-pub byte_read : (mem : Pages) (p o : ℕ) (page : Option Page) → p < length mem → page ≡ get_or mem p page → byte_at mem p o ≡ byte_of page o
+pub byte_read : (mem : Pages) (p o : ℕ) (page : Option Page) → p < length mem
+    → page ≡ get_or mem p page → byte_at mem p o ≡ byte_of page o
 unfolding byte_at
 byte_read mem p o page lt e = ap (λ w. byte_of w o) (page_read mem p page lt e)
 
 -- a page that is there has been exchanged for one with other bytes
-pub wrote : (mem : Pages) (p off : ℕ) (bs : List ℕ) (f g : Page) → p < length mem → page_at mem p ≡ Some f → g.number ≡ f.number → length g.bytes ≡ length f.bytes → PutAt f.bytes g.bytes off bs → Wrote mem (set mem p (Some g)) p off bs
+pub wrote : (mem : Pages) (p off : ℕ) (bs : List ℕ) (f g : Page) → p < length mem
+    → page_at mem p ≡ Some f → g.number ≡ f.number → length g.bytes ≡ length f.bytes
+    → PutAt f.bytes g.bytes off bs → Wrote mem (set mem p (Some g)) p off bs
 unfolding byte_at
 wrote mem p off bs f g lt was same_number same_length put =
     let now : page_at (set mem p (Some g)) p ≡ Some g = get_or-set_same mem p (Some g) None lt in
@@ -30,12 +36,15 @@ wrote mem p off bs f g lt was same_number same_length put =
         above = λ o h. ap (λ w. byte_of w o) now ∙ put.above o h ∙ sym (ap (λ w. byte_of w o) was);
         others = apart;
         backing = λ q. elim (cases_eq q p) [
-          | inl same ↦ ap (λ n. frame_at (set mem p (Some g)) n) same ∙ ap number_of now ∙ ap Some same_number ∙ sym (ap number_of was) ∙ sym (ap (λ n. frame_at mem n) same)
+          | inl same ↦ ap (λ n. frame_at (set mem p (Some g)) n) same ∙ ap number_of now
+              ∙ ap Some same_number ∙ sym (ap number_of was) ∙ sym (ap (λ n. frame_at mem n) same)
           | inr ne ↦ ap number_of (apart q ne)
         ];
         sizes = λ q. elim (cases_eq q p) [
-          | inl same ↦ ap (λ n. length (contents_at (set mem p (Some g)) n)) same ∙ ap (λ w. length (contents_of w)) now ∙ same_length
-              ∙ sym (ap (λ w. length (contents_of w)) was) ∙ sym (ap (λ n. length (contents_at mem n)) same)
+          | inl same ↦ ap (λ n. length (contents_at (set mem p (Some g)) n)) same
+              ∙ ap (λ w. length (contents_of w)) now ∙ same_length
+              ∙ sym (ap (λ w. length (contents_of w)) was)
+              ∙ sym (ap (λ n. length (contents_at mem n)) same)
           | inr ne ↦ ap (λ w. length (contents_of w)) (apart q ne)
         ];
         count = length-set mem p (Some g);
@@ -43,12 +52,14 @@ wrote mem p off bs f g lt was same_number same_length put =
     }
 
 -- a page has been exchanged for one of zeros
-pub supplied : (mem : Pages) (p : ℕ) (f : Page) → p < length mem → f.bytes ≡ zero_page → Supplied mem (set mem p (Some f)) p f.number
+pub supplied : (mem : Pages) (p : ℕ) (f : Page) → p < length mem → f.bytes ≡ zero_page
+    → Supplied mem (set mem p (Some f)) p f.number
 unfolding byte_at
 supplied mem p f lt zeros =
     let now : page_at (set mem p (Some f)) p ≡ Some f = get_or-set_same mem p (Some f) None lt in
     record {
-      zero = λ o. ap (λ w. byte_of w o) now ∙ ap (λ (bs : List ℕ). get_or bs o 0) zeros ∙ zero_page-at o;
+      zero = λ o. ap (λ w. byte_of w o) now ∙ ap (λ (bs : List ℕ). get_or bs o 0) zeros
+          ∙ zero_page-at o;
       contents = ap contents_of now ∙ zeros;
       backed = ap number_of now;
       others = λ q ne. get_or-set_other mem p q (Some f) None ne;
@@ -56,13 +67,16 @@ supplied mem p f lt zeros =
     }
 
 -- memory stays whole where a page is exchanged for a whole one
-pub is_memory-set : (count : ℕ) (mem : Pages) (p : ℕ) (page : Option Page) → p < length mem → IsMemory count mem → length (contents_of page) ≡ 4096 → IsMemory count (set mem p page)
+pub is_memory-set : (count : ℕ) (mem : Pages) (p : ℕ) (page : Option Page) → p < length mem
+    → IsMemory count mem → length (contents_of page) ≡ 4096 → IsMemory count (set mem p page)
 is_memory-set count mem p page lt is full = record {
   few = is.few;
   whole = record {
     sizes = λ q. elim (cases_eq q p) [
-      | inl same ↦ ap (λ n. length (contents_at (set mem p page) n)) same ∙ ap (λ w. length (contents_of w)) (get_or-set_same mem p page None lt) ∙ full
-      | inr ne ↦ ap (λ w. length (contents_of w)) (get_or-set_other mem p q page None ne) ∙ is.whole.sizes q
+      | inl same ↦ ap (λ n. length (contents_at (set mem p page) n)) same
+          ∙ ap (λ w. length (contents_of w)) (get_or-set_same mem p page None lt) ∙ full
+      | inr ne ↦ ap (λ w. length (contents_of w)) (get_or-set_other mem p q page None ne)
+          ∙ is.whole.sizes q
     ];
   };
 }
@@ -74,4 +88,5 @@ bare_at (suc n) zero = refl
 bare_at (suc n) (suc q) = bare_at n q
 
 pub whole-bare : (n : ℕ) → IsWhole (replicate n None)
-whole-bare n = record { sizes = λ q. ap (λ w. length (contents_of w)) (bare_at n q) ∙ length-zero_page }
+whole-bare n = record
+    { sizes = λ q. ap (λ w. length (contents_of w)) (bare_at n q) ∙ length-zero_page }

@@ -1,8 +1,11 @@
 -- What follows for whoever adds and takes chains.
-use Rattle.std.specs.Prelude.{◌≡◌, ◌≢◌, ◌⊎◌, ℕ, ◌<◌, ◌≤◌, Bool, true, false, List, [], ◌∷◌, Option, Some, None, Result, Ok, Err, if◌then◌else◌, length, slice_get, slice_index, slice_index_or, slice_set, refl}
+use Rattle.std.specs.Prelude.{◌≡◌, ◌≢◌, ◌⊎◌, ℕ, ◌<◌, ◌≤◌, Bool, true, false, List, [], ◌∷◌, Option}
+use Rattle.std.specs.Prelude.{Some, None, Result, Ok, Err, if◌then◌else◌, length, slice_get}
+use Rattle.std.specs.Prelude.{slice_index, slice_index_or, slice_set, refl}
 use Rattle.std.proofs.Common.{sym, ◌∙◌, ap, subst, arith, inl, inr}
 use Rattle.std.proofs.lemmas.Bool.{cases_eq, cases_lt, lt-ltb, le-ltb}
-use Rattle.std.proofs.lemmas.List.{length-take, length-set, get_or-set_same, get_or-set_other, ext_get_or}
+use Rattle.std.proofs.lemmas.List.{length-take, length-set, get_or-set_same, get_or-set_other}
+use Rattle.std.proofs.lemmas.List.{ext_get_or}
 use Rattle.std.proofs.lemmas.Option.{slice_get-get_or}
 use Rattle.std.specs.Prelude.{nat_lt}
 use Rattle.vb_ring.specs.declared.driver.Full.TheVariants.{TooFewFree}
@@ -16,8 +19,10 @@ use Rattle.vb_chain.specs.Chain.{ChainGives}
 use Rattle.vb_chain.proofs.ChainLaws.{written_chain}
 use Rattle.vb_ring.specs.declared.driver.Full.{Full}
 use Rattle.vb_ring.specs.Entries.{is_head}
-use Rattle.vb_ring.proofs.Numbers.{numbers_pass, numbers_rise, numbers_has, length_all, length-numbers}
-use Rattle.vb_ring.specs.Ends.{DriverEnd, is_unused, free_descriptors, next_head, next_path, outstanding, claimed, AreSingle}
+use Rattle.vb_ring.proofs.Numbers.{numbers_pass, numbers_rise, numbers_has, length_all}
+use Rattle.vb_ring.proofs.Numbers.{length-numbers}
+use Rattle.vb_ring.specs.Ends.{DriverEnd, is_unused, free_descriptors, next_head, next_path}
+use Rattle.vb_ring.specs.Ends.{outstanding, claimed, AreSingle}
 use Rattle.vb_ring.proofs.OwnerLaws.{is_in-at, nowhere_in, claimed-at}
 use Rattle.vb_ring.proofs.MeaningLaws.{next_path-free, next_path-rise}
 use Rattle.vb_ring.specs.Calls.{AddsBy}
@@ -30,10 +35,13 @@ next_route r n = record {
   apart = λ j k l h e. absurd (omega (arith, next_path-rise r n j k l h, e));
 }
 
-answer_ok : (a n h x : ℕ) (r : Result ℕ Full) → r ≡ Ok h → r ≡ (if nat_lt a n then Err TooFewFree else Ok x) → (n ≤ a) × (h ≡ x)
+answer_ok : (a n h x : ℕ) (r : Result ℕ Full) → r ≡ Ok h
+    → r ≡ (if nat_lt a n then Err TooFewFree else Ok x) → (n ≤ a) × (h ≡ x)
 answer_ok a n h x r is e = elim (cases_lt a n) [
-  | inl few ↦ (let wrong = ap (λ (b : Bool). if b then Err TooFewFree else Ok x) (lt-ltb a n few) in absurd (err_ok r h is (e ∙ wrong)))
-  | inr enough ↦ (let right = ap (λ (b : Bool). if b then Err TooFewFree else Ok x) (le-ltb a n enough) in (enough, same_ok r h x is (e ∙ right)))
+  | inl few ↦ (let wrong = ap (λ (b : Bool). if b then Err TooFewFree else Ok x) (lt-ltb a n few) in
+      absurd (err_ok r h is (e ∙ wrong)))
+  | inr enough ↦ (let right = ap (λ (b : Bool). if b then Err TooFewFree else Ok x)
+      (le-ltb a n enough) in (enough, same_ok r h x is (e ∙ right)))
 ]
   where
     err_ok : (r : Result ℕ Full) (h : ℕ) → r ≡ Ok h → r ≡ Err TooFewFree → ⊥
@@ -42,23 +50,32 @@ answer_ok a n h x r is e = elim (cases_lt a n) [
     same_ok : (r : Result ℕ Full) (h x : ℕ) → r ≡ Ok h → r ≡ Ok x → h ≡ x
     same_ok r h x p q = cc
 
--- The chain that an add has written is a chain from its head, and its pieces are those that were added.
-pub added_chain : (old new : Pages) (r1 r2 : DriverEnd) (pieces : List Piece) (h end : ℕ) → AddsBy old new r1 r2 pieces (Ok h) → AreSound end pieces
+-- The chain that an add has written is a chain from its head, and its pieces are those that were
+-- added.
+pub added_chain : (old new : Pages) (r1 r2 : DriverEnd) (pieces : List Piece) (h end : ℕ)
+    → AddsBy old new r1 r2 pieces (Ok h) → AreSound end pieces
     → ChainGives (descriptor_at new r1.layout.table) r1.size end h pieces
 added_chain old new r1 r2 pieces h end adds sound =
-    let answer = answer_ok (length (free_descriptors r1)) (length pieces) h (slice_index (next_path r1 (length pieces)) 0) (Ok h) refl adds.value in
-    let len : length (next_path r1 (length pieces)) ≡ length pieces = omega (arith, length-take (length pieces) (free_descriptors r1), answer.0) in
-    let short : length pieces ≤ r1.size = omega (arith, answer.0, length-numbers (is_unused r1.owner) r1.size) in
-    subst (λ (n : ℕ). ChainGives (descriptor_at new r1.layout.table) r1.size end n pieces) (sym answer.1)
-    (written_chain (descriptor_at new r1.layout.table) r1.size end (next_path r1 (length pieces)) pieces (next_route r1 (length pieces)) len (omega (arith, len, short)) sound
+    let answer = answer_ok (length (free_descriptors r1)) (length pieces) h
+    (slice_index (next_path r1 (length pieces)) 0) (Ok h) refl adds.value in
+    let len : length (next_path r1 (length pieces)) ≡ length pieces =
+    omega (arith, length-take (length pieces) (free_descriptors r1), answer.0) in
+    let short : length pieces ≤ r1.size =
+    omega (arith, answer.0, length-numbers (is_unused r1.owner) r1.size) in
+    subst (λ (n : ℕ). ChainGives (descriptor_at new r1.layout.table) r1.size end n pieces)
+    (sym answer.1)
+    (written_chain (descriptor_at new r1.layout.table) r1.size end (next_path r1 (length pieces))
+    pieces (next_route r1 (length pieces)) len (omega (arith, len, short)) sound
     (λ k l. adds.links.put k (omega (arith, len))))
 
 -- A descriptor that belongs to a chain stays as it is.
-pub added_apart : (old new : Pages) (r1 r2 : DriverEnd) (pieces : List Piece) (h i j : ℕ) → AddsBy old new r1 r2 pieces (Ok h) → i < r1.size → slice_index_or r1.owner i None ≡ Some j
+pub added_apart : (old new : Pages) (r1 r2 : DriverEnd) (pieces : List Piece) (h i j : ℕ)
+    → AddsBy old new r1 r2 pieces (Ok h) → i < r1.size → slice_index_or r1.owner i None ≡ Some j
     → descriptor_at new r1.layout.table i ≡ descriptor_at old r1.layout.table i
 added_apart old new r1 r2 pieces h i j adds lt own =
     adds.links.others i lt (nowhere_in (next_path r1 (length pieces)) i (λ k l e.
-    none_some j _ (next_path-free r1 (length pieces) k l).1 (ap (λ n. slice_index_or r1.owner n None) e ∙ own)))
+    none_some j _ (next_path-free r1 (length pieces) k l).1
+    (ap (λ n. slice_index_or r1.owner n None) e ∙ own)))
   where
     none_some : (h : ℕ) (o : Option ℕ) → o ≡ None → o ≡ Some h → ⊥
     none_some h o a b = cc
@@ -69,7 +86,9 @@ added_apart old new r1 r2 pieces h i j adds lt own =
 pub next_low : (r : DriverEnd) (h : ℕ) → AreSingle r → next_head r ≡ Some h → h ≤ outstanding r
 next_low r h single next =
     let some : 0 < length (free_descriptors r) = get_some (free_descriptors r) h next in
-    let first : slice_index (free_descriptors r) 0 ≡ h = some_same (slice_index (free_descriptors r) 0) h (sym (slice_get-get_or (free_descriptors r) 0 0 some) ∙ next) in
+    let first : slice_index (free_descriptors r) 0 ≡ h =
+    some_same (slice_index (free_descriptors r) 0) h
+    (sym (slice_get-get_or (free_descriptors r) 0 0 some) ∙ next) in
     let inside = numbers_pass (is_unused r.owner) r.size 0 some in
     length_all (is_head r.owner) r.size h (omega (arith, first, inside.0)) (λ i l.
     single i (omega (arith, first, inside.0)) (taken r h some first i l (is_unused r.owner i) refl))
@@ -81,29 +100,46 @@ next_low r h single next =
     get_some [] h e = cc
     get_some (x ∷ xs) h e = omega arith
 
-    taken : (r : DriverEnd) (h : ℕ) → 0 < length (free_descriptors r) → slice_index (free_descriptors r) 0 ≡ h → (i : ℕ) → i < h → (b : Bool) → is_unused r.owner i ≡ b → is_unused r.owner i ≡ false
+    taken : (r : DriverEnd) (h : ℕ) → 0 < length (free_descriptors r)
+        → slice_index (free_descriptors r) 0 ≡ h → (i : ℕ) → i < h → (b : Bool)
+        → is_unused r.owner i ≡ b → is_unused r.owner i ≡ false
     taken r h some first i l false e = e
     taken r h some first i l true e =
         let inside = numbers_pass (is_unused r.owner) r.size 0 some in
         let found = numbers_has (is_unused r.owner) r.size i (omega (arith, first, inside.0)) e in
         elim (cases_eq found.0 0) [
           | inl z ↦ absurd (omega (arith, first, ap (slice_index (free_descriptors r)) z, found.2))
-          | inr ne ↦ absurd (omega (arith, first, numbers_rise (is_unused r.owner) r.size 0 found.0 (omega (arith, ne)) found.1, found.2))
+          | inr ne ↦ absurd (omega (
+            arith,
+            first,
+            numbers_rise (is_unused r.owner) r.size 0 found.0 (omega (arith, ne))
+                found.1,
+            found.2,
+          ))
         ]
 
 -- A chain of one descriptor claims that descriptor alone.
-pub claimed_single : (h : ℕ) (owner : List (Option ℕ)) → h < length owner → claimed (h ∷ []) h owner ≡ slice_set owner h (Some h)
+pub claimed_single : (h : ℕ) (owner : List (Option ℕ)) → h < length owner
+    → claimed (h ∷ []) h owner ≡ slice_set owner h (Some h)
 claimed_single h owner lt =
-    ext_get_or None (claimed (h ∷ []) h owner) (slice_set owner h (Some h)) (length-each_from 0 (λ i old. if is_in i (h ∷ []) then Some h else old) owner ∙ sym (length-set owner h (Some h))) (λ i l.
-    claimed-at (h ∷ []) h owner i (λ k lt'. omega (arith, ap (slice_index (h ∷ [])) (zero_of k lt'))) ∙ at i (cases_eq i h))
+    ext_get_or None (claimed (h ∷ []) h owner) (slice_set owner h (Some h))
+    (length-each_from 0 (λ i old. if is_in i (h ∷ []) then Some h else old) owner
+    ∙ sym (length-set owner h (Some h))) (λ i l.
+    claimed-at (h ∷ []) h owner i
+    (λ k lt'. omega (arith, ap (slice_index (h ∷ [])) (zero_of k lt'))) ∙ at i (cases_eq i h))
   where
     zero_of : (k : ℕ) → k < 1 → k ≡ 0
     zero_of k l = omega arith
 
-    at : (i : ℕ) → (i ≡ h) ⊎ (i ≢ h) → (if is_in i (h ∷ []) then Some h else slice_index_or owner i None) ≡ slice_index_or (slice_set owner h (Some h)) i None
+    at : (i : ℕ) → (i ≡ h) ⊎ (i ≢ h)
+        → (if is_in i (h ∷ []) then Some h else slice_index_or owner i None)
+        ≡ slice_index_or (slice_set owner h (Some h)) i None
     at i (inl e) =
-        ap (λ (b : Bool). if b then Some h else slice_index_or owner i None) (ap (λ n. is_in n (h ∷ [])) e ∙ is_in-at (h ∷ []) 0 (omega arith))
-        ∙ sym (ap (λ n. slice_index_or (slice_set owner h (Some h)) n None) e ∙ get_or-set_same owner h (Some h) None lt)
+        ap (λ (b : Bool). if b then Some h else slice_index_or owner i None)
+        (ap (λ n. is_in n (h ∷ [])) e ∙ is_in-at (h ∷ []) 0 (omega arith))
+        ∙ sym (ap (λ n. slice_index_or (slice_set owner h (Some h)) n None) e
+        ∙ get_or-set_same owner h (Some h) None lt)
     at i (inr ne) =
-        ap (λ (b : Bool). if b then Some h else slice_index_or owner i None) (nowhere_in (h ∷ []) i (λ k l e. ne (sym e ∙ ap (slice_index (h ∷ [])) (zero_of k l))))
+        ap (λ (b : Bool). if b then Some h else slice_index_or owner i None)
+        (nowhere_in (h ∷ []) i (λ k l e. ne (sym e ∙ ap (slice_index (h ∷ [])) (zero_of k l))))
         ∙ sym (get_or-set_other owner h i (Some h) None ne)

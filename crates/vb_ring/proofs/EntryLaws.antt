@@ -1,7 +1,9 @@
 -- What a write does to the lists that the rings show, and what stands next in them.
-use Rattle.std.specs.Prelude.{◌≡◌, ◌≢◌, ℕ, ◌+◌, ◌-◌, ◌*◌, ◌/◌, ◌%◌, ◌<◌, ◌≤◌, List, ◌∷◌, [], ◌++◌, length, slice_get, Some, None, Ok}
+use Rattle.std.specs.Prelude.{◌≡◌, ◌≢◌, ℕ, ◌+◌, ◌-◌, ◌*◌, ◌/◌, ◌%◌, ◌<◌, ◌≤◌, List, ◌∷◌, [], ◌++◌}
+use Rattle.std.specs.Prelude.{length, slice_get, Some, None, Ok}
 use Rattle.std.proofs.Common.{sym, ◌∙◌, ap, arith, inl, inr}
-use Rattle.std.proofs.lemmas.List.{length_push, get_or_append_left, get_or_push, length-map, get_or-map}
+use Rattle.std.proofs.lemmas.List.{length_push, get_or_append_left, get_or_push, length-map}
+use Rattle.std.proofs.lemmas.List.{get_or-map}
 use Rattle.std.proofs.lemmas.Option.{slice_get-get_or, slice_get_past}
 use Rattle.std.proofs.lemmas.Grind.{common_steps}
 use Rattle.std.proofs.lemmas.Nat.{mod_below}
@@ -13,7 +15,8 @@ use Rattle.vb_chain.specs.Table.{descriptor_at}
 use Rattle.vb_chain.proofs.TableLaws.{descriptor_kept}
 use Rattle.vb_ring.specs.declared.layout.Layout.{Layout}
 use Rattle.vb_ring.specs.Layout.{IsSize, Fits}
-use Rattle.vb_ring.specs.Entries.{avail_index, avail_place, used_index, used_place, ahead, avail_ahead, used_ahead, next_by, next_entry, next_id}
+use Rattle.vb_ring.specs.Entries.{avail_index, avail_place, used_index, used_place, ahead}
+use Rattle.vb_ring.specs.Entries.{avail_ahead, used_ahead, next_by, next_entry, next_id}
 use Rattle.vb_ring.specs.Meaning.{UsedElem, no_elem, ids, ShowsAvail, ShowsUsed, ShowsEntries}
 use Rattle.vb_ring.proofs.FrameLaws.{outside_in}
 use Rattle.vb_ring.specs.Calls.{PutsUsed, Publishes}
@@ -30,176 +33,254 @@ place_apart k n q lt near e =
     let kd = div-add-mod k q in
     let nd = div-add-mod n q in
     elim (cases_lt (k / q) (n / q)) [
-      | inl more ↦ (let step : q * (k / q + 1) ≤ q * (n / q) = mul-le-mul_left q (omega arith) in omega arith)
+      | inl more ↦ (let step : q * (k / q + 1) ≤ q * (n / q) = mul-le-mul_left q (omega arith) in
+          omega arith)
       | inr fewer ↦ (let step = mul-le-mul_left q fewer in omega arith)
     ]
 
 -- ---- bytes that are as before
 
-pub avail_kept : (old new : Pages) (l : Layout) (q : ℕ) (heads : List ℕ) → IsSize q → SameIn old new l.avail.page (l.avail.offset + 2) (l.avail.offset + (6 + 2 * q)) → ShowsAvail old l q heads → ShowsAvail new l q heads
+pub avail_kept : (old new : Pages) (l : Layout) (q : ℕ) (heads : List ℕ) → IsSize q
+    → SameIn old new l.avail.page (l.avail.offset + 2) (l.avail.offset + (6 + 2 * q))
+    → ShowsAvail old l q heads → ShowsAvail new l q heads
 avail_kept old new l q heads size same shows = record {
-  index = field_in 2 old new l.avail.page _ _ (avail_index l) same (omega arith) (omega arith) ∙ shows.index;
+  index = field_in 2 old new l.avail.page _ _ (avail_index l) same (omega arith) (omega arith)
+      ∙ shows.index;
   entries = λ k lt near. let inside = mod_below k q (omega (arith, size.least)) in
-      field_in 2 old new l.avail.page _ _ (avail_place l q k) same (omega arith) (omega (arith, inside)) ∙ shows.entries k lt near;
+      field_in 2 old new l.avail.page _ _ (avail_place l q k) same (omega arith)
+      (omega (arith, inside)) ∙ shows.entries k lt near;
 }
 
-pub used_kept : (old new : Pages) (l : Layout) (q : ℕ) (elems : List UsedElem) → IsSize q → SameIn old new l.used.page (l.used.offset + 2) (l.used.offset + (6 + 8 * q)) → ShowsUsed old l q elems → ShowsUsed new l q elems
+pub used_kept : (old new : Pages) (l : Layout) (q : ℕ) (elems : List UsedElem) → IsSize q
+    → SameIn old new l.used.page (l.used.offset + 2) (l.used.offset + (6 + 8 * q))
+    → ShowsUsed old l q elems → ShowsUsed new l q elems
 used_kept old new l q elems size same shows = record {
-  index = field_in 2 old new l.used.page _ _ (used_index l) same (omega arith) (omega arith) ∙ shows.index;
+  index = field_in 2 old new l.used.page _ _ (used_index l) same (omega arith) (omega arith)
+      ∙ shows.index;
   ids = λ k lt near. let inside = mod_below k q (omega (arith, size.least)) in
-      field_in 4 old new l.used.page _ _ (used_place l q k) same (omega arith) (omega (arith, inside)) ∙ shows.ids k lt near;
+      field_in 4 old new l.used.page _ _ (used_place l q k) same (omega arith)
+      (omega (arith, inside)) ∙ shows.ids k lt near;
   lens = λ k lt near. let inside = mod_below k q (omega (arith, size.least)) in
-      field_in 4 old new l.used.page _ _ (used_place l q k + 4) same (omega arith) (omega (arith, inside)) ∙ shows.lens k lt near;
+      field_in 4 old new l.used.page _ _ (used_place l q k + 4) same (omega arith)
+      (omega (arith, inside)) ∙ shows.lens k lt near;
 }
 
 -- ---- one entry more
 
 -- The entry at the next place and the index: one more head is shown.
-pub avail_grown : (old new : Pages) (l : Layout) (q next head : ℕ) (heads : List ℕ) → IsSize q → length heads % 65536 ≡ next
-    → field 2 new l.avail.page (avail_place l q next) ≡ head → field 2 new l.avail.page (avail_index l) ≡ (next + 1) % 65536
-    → ((k : ℕ) → k % q ≢ next % q → field 2 new l.avail.page (avail_place l q k) ≡ field 2 old l.avail.page (avail_place l q k))
+pub avail_grown : (old new : Pages) (l : Layout) (q next head : ℕ) (heads : List ℕ) → IsSize q
+    → length heads % 65536 ≡ next
+    → field 2 new l.avail.page (avail_place l q next) ≡ head
+    → field 2 new l.avail.page (avail_index l) ≡ (next + 1) % 65536
+    → ((k : ℕ) → k % q ≢ next % q
+    → field 2 new l.avail.page (avail_place l q k)
+    ≡ field 2 old l.avail.page (avail_place l q k))
     → ShowsAvail old l q heads → ShowsAvail new l q (heads ++ head ∷ [])
 avail_grown old new l q next head heads size at entry index others shows =
     let len : length (heads ++ head ∷ []) ≡ length heads + 1 = length_push heads head in
-    let spot : next % q ≡ length heads % q = ap (λ n. n % q) (sym at) ∙ place_wraps (length heads) q size.divides in
+    let spot : next % q ≡ length heads % q =
+    ap (λ n. n % q) (sym at) ∙ place_wraps (length heads) q size.divides in
     record {
       index = index ∙ omega (arith, len, at);
       entries = λ k lt near. elim (cases_eq k (length heads)) [
         | inl same ↦
-            let here : avail_place l q k ≡ avail_place l q next = ap (λ r. l.avail.offset + 4 + 2 * r) (ap (λ n. n % q) same ∙ sym spot) in
+            let here : avail_place l q k ≡ avail_place l q next =
+            ap (λ r. l.avail.offset + 4 + 2 * r) (ap (λ n. n % q) same ∙ sym spot) in
             ap (field 2 new l.avail.page) here ∙ entry ∙ sym (get_or_push heads head 0 k (sym same))
         | inr ne ↦
             let before : k < length heads = omega (arith, ne, len) in
             let apart = place_apart k (length heads) q before (omega (arith, len)) in
-            others k (λ e. apart (e ∙ spot)) ∙ shows.entries k before (omega (arith, len)) ∙ sym (get_or_append_left heads (head ∷ []) 0 k before)
+            others k (λ e. apart (e ∙ spot)) ∙ shows.entries k before (omega (arith, len))
+            ∙ sym (get_or_append_left heads (head ∷ []) 0 k before)
       ];
     }
 
 -- The element at the next place and the index: one more used element is shown.
-pub used_grown : (old new : Pages) (l : Layout) (q next head count : ℕ) (elems : List UsedElem) → IsSize q → length elems % 65536 ≡ next
-    → field 4 new l.used.page (used_place l q next) ≡ head → field 4 new l.used.page (used_place l q next + 4) ≡ count → field 2 new l.used.page (used_index l) ≡ (next + 1) % 65536
-    → ((k : ℕ) → k % q ≢ next % q → SameIn old new l.used.page (used_place l q k) (used_place l q k + 8))
+pub used_grown : (old new : Pages) (l : Layout) (q next head count : ℕ) (elems : List UsedElem)
+    → IsSize q → length elems % 65536 ≡ next
+    → field 4 new l.used.page (used_place l q next) ≡ head
+    → field 4 new l.used.page (used_place l q next + 4) ≡ count
+    → field 2 new l.used.page (used_index l) ≡ (next + 1) % 65536
+    → ((k : ℕ) → k % q ≢ next % q
+    → SameIn old new l.used.page (used_place l q k) (used_place l q k + 8))
     → ShowsUsed old l q elems → ShowsUsed new l q (elems ++ record { id = head; len = count } ∷ [])
 used_grown old new l q next head count elems size at id written index others shows =
     let elem : UsedElem = record { id = head; len = count } in
     let len : length (elems ++ elem ∷ []) ≡ length elems + 1 = length_push elems elem in
-    let spot : next % q ≡ length elems % q = ap (λ n. n % q) (sym at) ∙ place_wraps (length elems) q size.divides in
-    let here : (k : ℕ) → k ≡ length elems → used_place l q k ≡ used_place l q next = λ k same. ap (λ r. l.used.offset + 4 + 8 * r) (ap (λ n. n % q) same ∙ sym spot) in
-    let far : (k : ℕ) → k < length elems → length elems < k + q → k % q ≢ next % q = λ k before near e. place_apart k (length elems) q before near (e ∙ spot) in
+    let spot : next % q ≡ length elems % q =
+    ap (λ n. n % q) (sym at) ∙ place_wraps (length elems) q size.divides in
+    let here : (k : ℕ) → k ≡ length elems
+    → used_place l q k ≡ used_place l q next =
+    λ k same. ap (λ r. l.used.offset + 4 + 8 * r) (ap (λ n. n % q) same ∙ sym spot) in
+    let far : (k : ℕ) → k < length elems → length elems < k + q
+    → k % q ≢ next % q = λ k before near e. place_apart k (length elems) q before near
+    (e ∙ spot) in
     record {
       index = index ∙ omega (arith, len, at);
       ids = λ k lt near. elim (cases_eq k (length elems)) [
-        | inl same ↦ ap (field 4 new l.used.page) (here k same) ∙ id ∙ sym (ap (λ e. e.id) (get_or_push elems elem no_elem k (sym same)))
+        | inl same ↦ ap (field 4 new l.used.page) (here k same) ∙ id
+            ∙ sym (ap (λ e. e.id) (get_or_push elems elem no_elem k (sym same)))
         | inr ne ↦
             let before : k < length elems = omega (arith, ne, len) in
-            field_in 4 old new l.used.page _ _ (used_place l q k) (others k (far k before (omega (arith, len)))) (omega arith) (omega arith)
-            ∙ shows.ids k before (omega (arith, len)) ∙ sym (ap (λ e. e.id) (get_or_append_left elems (elem ∷ []) no_elem k before))
+            field_in 4 old new l.used.page _ _ (used_place l q k)
+            (others k (far k before (omega (arith, len)))) (omega arith) (omega arith)
+            ∙ shows.ids k before (omega (arith, len))
+            ∙ sym (ap (λ e. e.id) (get_or_append_left elems (elem ∷ []) no_elem k before))
       ];
       lens = λ k lt near. elim (cases_eq k (length elems)) [
-        | inl same ↦ ap (λ o. field 4 new l.used.page (o + 4)) (here k same) ∙ written ∙ sym (ap (λ e. e.len) (get_or_push elems elem no_elem k (sym same)))
+        | inl same ↦ ap (λ o. field 4 new l.used.page (o + 4)) (here k same) ∙ written
+            ∙ sym (ap (λ e. e.len) (get_or_push elems elem no_elem k (sym same)))
         | inr ne ↦
             let before : k < length elems = omega (arith, ne, len) in
-            field_in 4 old new l.used.page _ _ (used_place l q k + 4) (others k (far k before (omega (arith, len)))) (omega arith) (omega arith)
-            ∙ shows.lens k before (omega (arith, len)) ∙ sym (ap (λ e. e.len) (get_or_append_left elems (elem ∷ []) no_elem k before))
+            field_in 4 old new l.used.page _ _ (used_place l q k + 4)
+            (others k (far k before (omega (arith, len)))) (omega arith) (omega arith)
+            ∙ shows.lens k before (omega (arith, len))
+            ∙ sym (ap (λ e. e.len) (get_or_append_left elems (elem ∷ []) no_elem k before))
       ];
     }
 
 -- ---- what the two writes leave
 
 -- What a publication writes shows one head more, and the same used elements.
-pub publishes_entries : (old new : Pages) (l : Layout) (q next head : ℕ) (heads : List ℕ) (elems : List UsedElem) → Fits l q → Publishes old new l q next head
-    → length heads % 65536 ≡ next → ShowsEntries old l q heads elems → ShowsEntries new l q (heads ++ head ∷ []) elems
+pub publishes_entries : (old new : Pages) (l : Layout) (q next head : ℕ) (heads : List ℕ)
+    (elems : List UsedElem) → Fits l q → Publishes old new l q next head
+    → length heads % 65536 ≡ next → ShowsEntries old l q heads elems
+    → ShowsEntries new l q (heads ++ head ∷ []) elems
 publishes_entries old new l q next head heads elems fits w at shows = record {
   avail = avail_grown old new l q next head heads fits.size at w.entry w.index (λ k apart.
       let mine = mod_below k q (omega (arith, fits.size.least)) in
       field_in 2 old new l.avail.page _ _ (avail_place l q k)
-      (outside_in old new _ l.avail.page (avail_place l q k) (avail_place l q k + 2) w.rest (λ o low high.
-      ((λ i. omega (arith, i.to, fits.table_avail i.page)), ((λ i. omega (arith, i.from, i.to, apart)), ((λ i. omega (arith, i.to)), tt)))))
+      (outside_in old new _ l.avail.page (avail_place l q k) (avail_place l q k + 2) w.rest
+      (λ o low high. (
+        (λ i. omega (arith, i.to, fits.table_avail i.page)),
+        ((λ i. omega (arith, i.from, i.to, apart)), ((λ i. omega (arith, i.to)), tt)),
+      )))
       (omega arith) (omega arith)) shows.avail;
   used = used_kept old new l q elems fits.size
-      (outside_in old new _ l.used.page (l.used.offset + 2) (l.used.offset + (6 + 8 * q)) w.rest (λ o low high.
-      let mine = mod_below next q (omega (arith, fits.size.least)) in
-      ((λ i. omega (arith, i.to, fits.table_used i.page)), ((λ i. omega (arith, i.to, fits.avail_used i.page, mine)), ((λ i. omega (arith, i.to, fits.avail_used i.page)), tt))))) shows.used;
+      (outside_in old new _ l.used.page (l.used.offset + 2) (l.used.offset + (6 + 8 * q)) w.rest
+      (λ o low high.
+      let mine = mod_below next q (omega (arith, fits.size.least)) in (
+        (λ i. omega (arith, i.to, fits.table_used i.page)),
+        (
+          (λ i. omega (arith, i.to, fits.avail_used i.page, mine)),
+          ((λ i. omega (arith, i.to, fits.avail_used i.page)), tt),
+        ),
+      ))) shows.used;
 }
 
 -- What a use writes shows one element more, and the same heads.
-pub puts_entries : (old new : Pages) (l : Layout) (q next head count : ℕ) (heads : List ℕ) (elems : List UsedElem) → Fits l q → PutsUsed old new l q next head count
-    → length elems % 65536 ≡ next → ShowsEntries old l q heads elems → ShowsEntries new l q heads (elems ++ record { id = head; len = count } ∷ [])
+pub puts_entries : (old new : Pages) (l : Layout) (q next head count : ℕ) (heads : List ℕ)
+    (elems : List UsedElem) → Fits l q → PutsUsed old new l q next head count
+    → length elems % 65536 ≡ next → ShowsEntries old l q heads elems
+    → ShowsEntries new l q heads (elems ++ record { id = head; len = count } ∷ [])
 puts_entries old new l q next head count heads elems fits w at shows = record {
   avail = avail_kept old new l q heads fits.size
-      (outside_in old new _ l.avail.page (l.avail.offset + 2) (l.avail.offset + (6 + 2 * q)) w.rest (λ o low high.
-      ((λ i. omega (arith, i.from, fits.avail_used (sym i.page))), ((λ i. omega (arith, i.from, fits.avail_used (sym i.page))), tt)))) shows.avail;
+      (outside_in old new _ l.avail.page (l.avail.offset + 2) (l.avail.offset + (6 + 2 * q)) w.rest
+      (λ o low high. (
+        (λ i. omega (arith, i.from, fits.avail_used (sym i.page))),
+        ((λ i. omega (arith, i.from, fits.avail_used (sym i.page))), tt),
+      ))) shows.avail;
   used = used_grown old new l q next head count elems fits.size at w.id w.len w.index (λ k apart.
-      outside_in old new _ l.used.page (used_place l q k) (used_place l q k + 8) w.rest (λ o low high.
+      outside_in old new _ l.used.page (used_place l q k) (used_place l q k + 8) w.rest
+      (λ o low high.
       ((λ i. omega (arith, i.from, i.to, apart)), ((λ i. omega (arith, i.to)), tt)))) shows.used;
 }
 
 -- The used ring's bytes lie outside the descriptors.
-pub puts_descriptors : (old new : Pages) (l : Layout) (q next head count i : ℕ) → Fits l q → PutsUsed old new l q next head count → i < q
+pub puts_descriptors : (old new : Pages) (l : Layout) (q next head count i : ℕ) → Fits l q
+    → PutsUsed old new l q next head count → i < q
     → descriptor_at new l.table i ≡ descriptor_at old l.table i
 puts_descriptors old new l q next head count i fits w lt =
-    descriptor_kept old new l.table i (outside_in old new _ l.table (16 * i) (16 * i + 16) w.rest (λ o low high.
-    ((λ e. omega (arith, e.from, fits.table_used (sym e.page))), ((λ e. omega (arith, e.from, fits.table_used (sym e.page))), tt))))
+    descriptor_kept old new l.table i
+    (outside_in old new _ l.table (16 * i) (16 * i + 16) w.rest (λ o low high. (
+      (λ e. omega (arith, e.from, fits.table_used (sym e.page))),
+      ((λ e. omega (arith, e.from, fits.table_used (sym e.page))), tt),
+    )))
 
 -- ---- what stands next
 
 -- How far a list's number, modulo 65,536, is ahead of a smaller number.
-pub ahead_by : (n t index taken : ℕ) → index ≡ n % 65536 → t % 65536 ≡ taken → t ≤ n → n ≤ t + 65535 → ahead index taken ≡ n - t
+pub ahead_by : (n t index taken : ℕ) → index ≡ n % 65536 → t % 65536 ≡ taken → t ≤ n → n ≤ t + 65535
+    → ahead index taken ≡ n - t
 ahead_by n t index taken e f low near = omega arith
 
 -- The answers, by how far the index is ahead.
 pub next_none : {E : Type 0} (a most x : ℕ) (fault : E) → a ≡ 0 → next_by a most fault x ≡ Ok None
 next_none a most x fault e = grind (arith, common_steps)
 
-pub next_some : {E : Type 0} (a most x : ℕ) (fault : E) → a ≢ 0 → a ≤ most → next_by a most fault x ≡ Ok (Some x)
+pub next_some : {E : Type 0} (a most x : ℕ) (fault : E) → a ≢ 0 → a ≤ most
+    → next_by a most fault x ≡ Ok (Some x)
 next_some a most x fault e h = grind (arith, common_steps)
 
 -- The head after the first t is the next entry.
-pub entry_shown : (mem : Pages) (l : Layout) (q : ℕ) (heads : List ℕ) (t taken : ℕ) → IsSize q → ShowsAvail mem l q heads → t % 65536 ≡ taken → t ≤ length heads → length heads ≤ t + q
+pub entry_shown : (mem : Pages) (l : Layout) (q : ℕ) (heads : List ℕ) (t taken : ℕ) → IsSize q
+    → ShowsAvail mem l q heads → t % 65536 ≡ taken → t ≤ length heads → length heads ≤ t + q
     → next_entry mem l q taken ≡ Ok (slice_get heads t)
 entry_shown mem l q heads t taken size shows at low near =
-    let gap = ahead_by (length heads) t (field 2 mem l.avail.page (avail_index l)) taken shows.index at low (omega (arith, size.most)) in
+    let gap = ahead_by (length heads) t (field 2 mem l.avail.page (avail_index l)) taken shows.index
+    at low (omega (arith, size.most)) in
     elim (cases_eq (length heads) t) [
-      | inl all ↦ next_none (avail_ahead mem l taken) q _ _ (omega (arith, gap)) ∙ ap Ok (sym (slice_get_past heads t (omega arith)))
+      | inl all ↦ next_none (avail_ahead mem l taken) q _ _ (omega (arith, gap))
+          ∙ ap Ok (sym (slice_get_past heads t (omega arith)))
       | inr ne ↦
           let lt : t < length heads = omega (arith, ne) in
-          let place : avail_place l q taken ≡ avail_place l q t = ap (λ r. l.avail.offset + 4 + 2 * r) (ap (λ n. n % q) (sym at) ∙ place_wraps t q size.divides) in
+          let place : avail_place l q taken ≡ avail_place l q t =
+          ap (λ r. l.avail.offset + 4 + 2 * r)
+          (ap (λ n. n % q) (sym at) ∙ place_wraps t q size.divides) in
           next_some (avail_ahead mem l taken) q _ _ (omega (arith, gap)) (omega (arith, gap))
-          ∙ ap (λ x. Ok (Some x)) (ap (field 2 mem l.avail.page) place ∙ shows.entries t lt near) ∙ ap Ok (sym (slice_get-get_or heads t 0 lt))
+          ∙ ap (λ x. Ok (Some x)) (ap (field 2 mem l.avail.page) place ∙ shows.entries t lt near)
+          ∙ ap Ok (sym (slice_get-get_or heads t 0 lt))
     ]
 
 -- The id of the element after the first s is the next id.
-pub id_shown : (mem : Pages) (l : Layout) (q most : ℕ) (elems : List UsedElem) (s seen : ℕ) → IsSize q → most ≤ q → ShowsUsed mem l q elems → s % 65536 ≡ seen → s ≤ length elems → length elems ≤ s + most
+pub id_shown : (mem : Pages) (l : Layout) (q most : ℕ) (elems : List UsedElem) (s seen : ℕ)
+    → IsSize q → most ≤ q → ShowsUsed mem l q elems → s % 65536 ≡ seen → s ≤ length elems
+    → length elems ≤ s + most
     → next_id mem l q seen most ≡ Ok (slice_get (ids elems) s)
 id_shown mem l q most elems s seen size fits shows at low near =
-    let gap = ahead_by (length elems) s (field 2 mem l.used.page (used_index l)) seen shows.index at low (omega (arith, size.most)) in
+    let gap = ahead_by (length elems) s (field 2 mem l.used.page (used_index l)) seen shows.index at
+    low (omega (arith, size.most)) in
     let len : length (ids elems) ≡ length elems = length-map elems (λ e. e.id) in
     elim (cases_eq (length elems) s) [
-      | inl all ↦ next_none (used_ahead mem l seen) most _ _ (omega (arith, gap)) ∙ ap Ok (sym (slice_get_past (ids elems) s (omega (arith, len))))
+      | inl all ↦ next_none (used_ahead mem l seen) most _ _ (omega (arith, gap))
+          ∙ ap Ok (sym (slice_get_past (ids elems) s (omega (arith, len))))
       | inr ne ↦
           let lt : s < length elems = omega (arith, ne) in
-          let place : used_place l q seen ≡ used_place l q s = ap (λ r. l.used.offset + 4 + 8 * r) (ap (λ n. n % q) (sym at) ∙ place_wraps s q size.divides) in
+          let place : used_place l q seen ≡ used_place l q s =
+          ap (λ r. l.used.offset + 4 + 8 * r)
+          (ap (λ n. n % q) (sym at) ∙ place_wraps s q size.divides) in
           next_some (used_ahead mem l seen) most _ _ (omega (arith, gap)) (omega (arith, gap))
-          ∙ ap (λ x. Ok (Some x)) (ap (field 4 mem l.used.page) place ∙ shows.ids s lt (omega arith) ∙ sym (get_or-map (λ e. e.id) elems s no_elem 0 lt))
+          ∙ ap (λ x. Ok (Some x))
+          (ap (field 4 mem l.used.page) place ∙ shows.ids s lt (omega arith)
+          ∙ sym (get_or-map (λ e. e.id) elems s no_elem 0 lt))
           ∙ ap Ok (sym (slice_get-get_or (ids elems) s 0 (omega (arith, len))))
     ]
 
 -- ---- fresh and untouched pages
 
 -- Where both indices are 0, the rings show two empty lists.
-pub fresh_entries : (mem : Pages) (l : Layout) (q : ℕ) → field 2 mem l.avail.page (avail_index l) ≡ 0 → field 2 mem l.used.page (used_index l) ≡ 0 → ShowsEntries mem l q [] []
+pub fresh_entries : (mem : Pages) (l : Layout) (q : ℕ)
+    → field 2 mem l.avail.page (avail_index l) ≡ 0 → field 2 mem l.used.page (used_index l) ≡ 0
+    → ShowsEntries mem l q [] []
 fresh_entries mem l q a u = record {
   avail = record { index = a; entries = λ k lt near. absurd (omega arith) };
-  used = record { index = u; ids = λ k lt near. absurd (omega arith); lens = λ k lt near. absurd (omega arith) };
+  used = record {
+    index = u;
+    ids = λ k lt near. absurd (omega arith);
+    lens = λ k lt near. absurd (omega arith);
+  };
 }
 
 -- Two zeros are the number 0.
-pub index_zero : (mem : Pages) (p o : ℕ) → byte_at mem p o ≡ 0 → byte_at mem p (o + 1) ≡ 0 → field 2 mem p o ≡ 0
+pub index_zero : (mem : Pages) (p o : ℕ) → byte_at mem p o ≡ 0 → byte_at mem p (o + 1) ≡ 0
+    → field 2 mem p o ≡ 0
 unfolding field
 index_zero mem p o a b = omega (arith, a, b)
 
 -- Where the rings' pages are as before, they show what they showed.
-pub entries_apart : (old new : Pages) (l : Layout) (q : ℕ) (heads : List ℕ) (elems : List UsedElem) → IsSize q → page_at new l.avail.page ≡ page_at old l.avail.page → page_at new l.used.page ≡ page_at old l.used.page
+pub entries_apart : (old new : Pages) (l : Layout) (q : ℕ) (heads : List ℕ) (elems : List UsedElem)
+    → IsSize q → page_at new l.avail.page ≡ page_at old l.avail.page
+    → page_at new l.used.page ≡ page_at old l.used.page
     → ShowsEntries old l q heads elems → ShowsEntries new l q heads elems
 entries_apart old new l q heads elems size a u shows = record {
   avail = avail_kept old new l q heads size (same_page old new l.avail.page _ _ a) shows.avail;

@@ -1,8 +1,13 @@
 -- Laws of what the bytes of a ring mean.
-use Rattle.std.specs.Prelude.{◌≡◌, ◌≢◌, ℕ, zero, suc, ◌+◌, ◌<◌, ◌≤◌, ◌==◌, nat_lt, Bool, true, false, List, [], ◌∷◌, ◌++◌, Option, Some, None, Ok, is_none, if◌then◌else◌, length, take, replicate, slice_index, slice_index_or, refl}
+use Rattle.std.specs.Prelude.{◌≡◌, ◌≢◌, ℕ, zero, suc, ◌+◌, ◌<◌, ◌≤◌, ◌==◌, nat_lt, Bool, true}
+use Rattle.std.specs.Prelude.{false, List, [], ◌∷◌, ◌++◌, Option, Some, None, Ok, is_none}
+use Rattle.std.specs.Prelude.{if◌then◌else◌, length, take, replicate, slice_index, slice_index_or}
+use Rattle.std.specs.Prelude.{refl}
 use Rattle.std.proofs.Common.{sym, ◌∙◌, ap, subst, arith, inl, inr, eq-eqb, add-one, add-zero}
 use Rattle.std.proofs.lemmas.Bool.{cases_eq, cases_lt, eqb-true, ltb-true}
-use Rattle.std.proofs.lemmas.List.{length_push, get_or_past, length-map, get_or-take, length-take-le, take-append-le, get_or-replicate, length-replicate}
+use Rattle.std.proofs.lemmas.List.{length_push, get_or_past, length-map, get_or-take}
+use Rattle.std.proofs.lemmas.List.{length-take-le, take-append-le, get_or-replicate}
+use Rattle.std.proofs.lemmas.List.{length-replicate}
 use Rattle.vb_model.specs.Tests.{is_in, one_if}
 use Rattle.vb_model.proofs.Tables.{count_by-append, count_by-cons}
 use Rattle.vb_ram.specs.Pages.{Pages, byte_at, page_at}
@@ -17,10 +22,14 @@ use Rattle.vb_ring.specs.declared.layout.Layout.{Layout}
 use Rattle.vb_ring.specs.Layout.{IsSize, Fits}
 use Rattle.vb_ring.specs.Entries.{avail_index, used_index, is_own, is_head}
 use Rattle.vb_ring.specs.Numbers.{numbers}
-use Rattle.vb_ring.proofs.Numbers.{numbers_pass, numbers_rise, numbers_none, length_gain, length_two}
-use Rattle.vb_ring.specs.Ends.{DriverEnd, IsDriverEnd, is_unused, free_descriptors, outstanding, next_path, claimed, released, after_add, after_take, fresh_end}
-use Rattle.vb_ring.proofs.OwnerLaws.{is_in-at, is_in-some, nowhere_in, take_inside, claimed-at, released-at}
-use Rattle.vb_ring.specs.Meaning.{UsedElem, no_elem, ids, times, IsOutstanding, IsTablePath, ShowsEntries, Shows, Tracks}
+use Rattle.vb_ring.proofs.Numbers.{numbers_pass, numbers_rise, numbers_none, length_gain}
+use Rattle.vb_ring.proofs.Numbers.{length_two}
+use Rattle.vb_ring.specs.Ends.{DriverEnd, IsDriverEnd, is_unused, free_descriptors, outstanding}
+use Rattle.vb_ring.specs.Ends.{next_path, claimed, released, after_add, after_take, fresh_end}
+use Rattle.vb_ring.proofs.OwnerLaws.{is_in-at, is_in-some, nowhere_in, take_inside, claimed-at}
+use Rattle.vb_ring.proofs.OwnerLaws.{released-at}
+use Rattle.vb_ring.specs.Meaning.{UsedElem, no_elem, ids, times, IsOutstanding, IsTablePath}
+use Rattle.vb_ring.specs.Meaning.{ShowsEntries, Shows, Tracks}
 use Rattle.vb_ring.specs.Calls.{Links}
 use Rattle.vb_ring.proofs.EntryLaws.{entries_apart, fresh_entries, index_zero}
 
@@ -36,28 +45,36 @@ one_other h j ne = at (h == j) refl
     at true e = absurd (ne (eqb-true h j e))
     at false e = ap one_if e
 
-pub times-push : (j : ℕ) (hs : List ℕ) (h : ℕ) → times j (hs ++ h ∷ []) ≡ times j hs + one_if (h == j)
+pub times-push : (j : ℕ) (hs : List ℕ) (h : ℕ)
+    → times j (hs ++ h ∷ []) ≡ times j hs + one_if (h == j)
 times-push j hs h =
-    count_by-append (λ k. k == j) hs (h ∷ []) ∙ ap (λ n. times j hs + n) (count_by-cons (λ k. k == j) h [] ∙ add-zero (one_if (h == j)))
+    count_by-append (λ k. k == j) hs (h ∷ [])
+    ∙ ap (λ n. times j hs + n) (count_by-cons (λ k. k == j) h [] ∙ add-zero (one_if (h == j)))
 
-pub ids-push : (elems : List UsedElem) (e : UsedElem) → ids (elems ++ e ∷ []) ≡ ids elems ++ e.id ∷ []
+pub ids-push : (elems : List UsedElem) (e : UsedElem)
+    → ids (elems ++ e ∷ []) ≡ ids elems ++ e.id ∷ []
 ids-push [] e = refl
 ids-push (x ∷ xs) e = ap (λ (ys : List ℕ). x.id ∷ ys) (ids-push xs e)
 
-take_next : (xs : List UsedElem) (n : ℕ) → n < length xs → take (suc n) xs ≡ take n xs ++ slice_index_or xs n no_elem ∷ []
+take_next : (xs : List UsedElem) (n : ℕ) → n < length xs
+    → take (suc n) xs ≡ take n xs ++ slice_index_or xs n no_elem ∷ []
 take_next [] n h = absurd (omega arith)
 take_next (x ∷ xs) zero h = refl
 take_next (x ∷ xs) (suc n) h = ap (λ (ys : List UsedElem). x ∷ ys) (take_next xs n (omega arith))
 
 -- One used element more.
 pub times-next : (j : ℕ) (elems : List UsedElem) (n : ℕ) → n < length elems
-    → times j (ids (take (n + 1) elems)) ≡ times j (ids (take n elems)) + one_if ((slice_index_or elems n no_elem).id == j)
+    → times j (ids (take (n + 1) elems))
+    ≡ times j (ids (take n elems)) + one_if ((slice_index_or elems n no_elem).id == j)
 times-next j elems n h =
-    ap (λ (k : ℕ). times j (ids (take k elems))) (add-one n) ∙ ap (λ (es : List UsedElem). times j (ids es)) (take_next elems n h)
-    ∙ ap (times j) (ids-push (take n elems) (slice_index_or elems n no_elem)) ∙ times-push j (ids (take n elems)) (slice_index_or elems n no_elem).id
+    ap (λ (k : ℕ). times j (ids (take k elems))) (add-one n)
+    ∙ ap (λ (es : List UsedElem). times j (ids es)) (take_next elems n h)
+    ∙ ap (times j) (ids-push (take n elems) (slice_index_or elems n no_elem))
+    ∙ times-push j (ids (take n elems)) (slice_index_or elems n no_elem).id
 
 -- The first n have a head at most as often as all.
-pub times-take : (j : ℕ) (elems : List UsedElem) (n : ℕ) → times j (ids (take n elems)) ≤ times j (ids elems)
+pub times-take : (j : ℕ) (elems : List UsedElem) (n : ℕ)
+    → times j (ids (take n elems)) ≤ times j (ids elems)
 times-take j [] n = omega (arith, ap (λ (es : List UsedElem). times j (ids es)) (none n))
   where
     none : (n : ℕ) → take {A = UsedElem} n [] ≡ []
@@ -65,38 +82,66 @@ times-take j [] n = omega (arith, ap (λ (es : List UsedElem). times j (ids es))
     none (suc n) = refl
 times-take j (e ∷ es) zero = omega arith
 times-take j (e ∷ es) (suc n) =
-    omega (arith, count_by-cons (λ k. k == j) e.id (ids (take n es)), count_by-cons (λ k. k == j) e.id (ids es), times-take j es n)
+    omega (
+      arith,
+      count_by-cons (λ k. k == j) e.id (ids (take n es)),
+      count_by-cons (λ k. k == j) e.id (ids es),
+      times-take j es n,
+    )
 
 -- ---- a list whose heads are among another's
 
 -- A head that occurs stands somewhere, and without it all others occur as often.
-without : (xs : List ℕ) (h : ℕ) → 0 < times h xs → (ys : List ℕ) × (length xs ≡ length ys + 1) × ((j : ℕ) → times j xs ≡ times j ys + one_if (h == j))
+without : (xs : List ℕ) (h : ℕ) → 0 < times h xs
+    → (ys : List ℕ) × (length xs ≡ length ys + 1)
+    × ((j : ℕ) → times j xs ≡ times j ys + one_if (h == j))
 without [] h some = absurd (omega arith)
 without (x ∷ xs) h some = elim (cases_eq x h) [
-  | inl e ↦ (xs, omega arith, λ j. omega (arith, count_by-cons (λ k. k == j) x xs, ap (λ n. one_if (n == j)) e))
+  | inl e ↦ (
+    xs,
+    omega arith,
+    λ j. omega (arith, count_by-cons (λ k. k == j) x xs, ap (λ n. one_if (n == j)) e),
+  )
   | inr ne ↦
-      let rest = without xs h (omega (arith, count_by-cons (λ k. k == h) x xs, one_other x h ne, some)) in
-      (x ∷ rest.0, omega (arith, rest.1), λ j. omega (arith, count_by-cons (λ k. k == j) x xs, count_by-cons (λ k. k == j) x rest.0, rest.2 j))
+      let rest = without xs h
+      (omega (arith, count_by-cons (λ k. k == h) x xs, one_other x h ne, some)) in (
+        x ∷ rest.0,
+        omega (arith, rest.1),
+        λ j. omega (
+          arith,
+          count_by-cons (λ k. k == j) x xs,
+          count_by-cons (λ k. k == j) x rest.0,
+          rest.2 j,
+        ),
+      )
 ]
 
 -- Such a list is no longer.
 pub among-length : (xs ys : List ℕ) → ((j : ℕ) → times j xs ≤ times j ys) → length xs ≤ length ys
 among-length [] ys h = omega arith
 among-length (x ∷ xs) ys h =
-    let first : 0 < times x ys = omega (arith, h x, count_by-cons (λ k. k == x) x xs, one_is x x refl) in
+    let first : 0 < times x ys =
+    omega (arith, h x, count_by-cons (λ k. k == x) x xs, one_is x x refl) in
     let rest = without ys x first in
-    let less : length xs ≤ length rest.0 = among-length xs rest.0 (λ j. omega (arith, h j, count_by-cons (λ k. k == j) x xs, rest.2 j)) in
+    let less : length xs ≤ length rest.0 =
+    among-length xs rest.0
+    (λ j. omega (arith, h j, count_by-cons (λ k. k == j) x xs, rest.2 j)) in
     omega (arith, less, rest.1)
 
 -- A ring shows no more used elements than heads.
-pub fewer_used : (mem : Pages) (l : Layout) (q : ℕ) (heads : List ℕ) (elems : List UsedElem) → Shows mem l q heads elems → length elems ≤ length heads
-fewer_used mem l q heads elems shows = omega (arith, among-length (ids elems) heads shows.among, length-map elems (λ e. e.id))
+pub fewer_used : (mem : Pages) (l : Layout) (q : ℕ) (heads : List ℕ) (elems : List UsedElem)
+    → Shows mem l q heads elems → length elems ≤ length heads
+fewer_used mem l q heads elems shows =
+    omega (arith, among-length (ids elems) heads shows.among, length-map elems (λ e. e.id))
 
 -- ---- paths in a table that has changed elsewhere
 
--- The first numbers of a path in one table are a path in another, as long as these good numbers have the same descriptor in both.
-path_first : (d e : ℕ → Descriptor) (q j : ℕ) (Good : ℕ → Type 0) (path : List ℕ) → IsTablePath e q j path
-    → ((i : ℕ) → i < q → Good i → e i ≡ d i) → ((xs : List ℕ) → IsTablePath d q j xs → (k : ℕ) → k < length xs → Good (slice_index xs k))
+-- The first numbers of a path in one table are a path in another, as long as these good numbers
+-- have the same descriptor in both.
+path_first : (d e : ℕ → Descriptor) (q j : ℕ) (Good : ℕ → Type 0) (path : List ℕ)
+    → IsTablePath e q j path
+    → ((i : ℕ) → i < q → Good i → e i ≡ d i)
+    → ((xs : List ℕ) → IsTablePath d q j xs → (k : ℕ) → k < length xs → Good (slice_index xs k))
     → (n : ℕ) → n < length path → IsTablePath d q j (take (n + 1) path)
 path_first d e q j Good path whole same good zero h =
     let len : length (take 1 path) ≡ 1 = length-take-le 1 path (omega arith) in
@@ -107,60 +152,88 @@ path_first d e q j Good path whole same good zero h =
         onward = λ k l. absurd (omega (arith, len));
         linked = λ k l. absurd (omega (arith, len));
       };
-      inside = λ k l. omega (arith, get_or-take 1 path k 0 (omega (arith, len)), whole.inside k (omega (arith, len)));
+      inside = λ k l. omega
+          (arith, get_or-take 1 path k 0 (omega (arith, len)), whole.inside k (omega (arith, len)));
     }
 path_first d e q j Good path whole same good (suc n) h =
-    let before : IsTablePath d q j (take (n + 1) path) = path_first d e q j Good path whole same good n (omega arith) in
+    let before : IsTablePath d q j (take (n + 1) path) =
+    path_first d e q j Good path whole same good n (omega arith) in
     let len : length (take (n + 1) path) ≡ n + 1 = length-take-le (n + 1) path (omega arith) in
-    let more : length (take (suc n + 1) path) ≡ n + 2 = length-take-le (suc n + 1) path (omega arith) ∙ omega arith in
-    let at : (k : ℕ) → k < n + 2 → slice_index (take (suc n + 1) path) k ≡ slice_index path k = λ k l. get_or-take (suc n + 1) path k 0 (omega arith) in
+    let more : length (take (suc n + 1) path) ≡ n + 2 =
+    length-take-le (suc n + 1) path (omega arith) ∙ omega arith in
+    let at : (k : ℕ) → k < n + 2
+    → slice_index (take (suc n + 1) path) k ≡ slice_index path k =
+    λ k l. get_or-take (suc n + 1) path k 0 (omega arith) in
     let kept : (k : ℕ) → k < n + 1 → e (slice_index path k) ≡ d (slice_index path k) = λ k l.
-    same (slice_index path k) (whole.inside k (omega arith)) (subst Good (get_or-take (n + 1) path k 0 l) (good (take (n + 1) path) before k (omega (arith, len)))) in
+    same (slice_index path k) (whole.inside k (omega arith))
+    (subst Good (get_or-take (n + 1) path k 0 l)
+    (good (take (n + 1) path) before k (omega (arith, len)))) in
     record {
       is_path = record {
         some = omega (arith, more);
         begins = at 0 (omega arith) ∙ whole.is_path.begins;
         onward = λ k l.
-            ap (λ i. has_next (d i)) (at k (omega (arith, more))) ∙ ap has_next (sym (kept k (omega (arith, more)))) ∙ whole.is_path.onward k (omega (arith, more));
+            ap (λ i. has_next (d i)) (at k (omega (arith, more)))
+            ∙ ap has_next (sym (kept k (omega (arith, more))))
+            ∙ whole.is_path.onward k (omega (arith, more));
         linked = λ k l.
-            ap (λ i. (d i).next) (at k (omega (arith, more))) ∙ ap (λ y. y.next) (sym (kept k (omega (arith, more)))) ∙ whole.is_path.linked k (omega (arith, more))
+            ap (λ i. (d i).next) (at k (omega (arith, more)))
+            ∙ ap (λ y. y.next) (sym (kept k (omega (arith, more))))
+            ∙ whole.is_path.linked k (omega (arith, more))
             ∙ sym (at (k + 1) (omega (arith, more)));
       };
-      inside = λ k l. omega (arith, at k (omega (arith, more)), whole.inside k (omega (arith, more)));
+      inside = λ k l. omega
+          (arith, at k (omega (arith, more)), whole.inside k (omega (arith, more)));
     }
 
 -- Each number of a path in the other table is good.
-pub path_good : (d e : ℕ → Descriptor) (q j : ℕ) (Good : ℕ → Type 0) (path : List ℕ) → IsTablePath e q j path
-    → ((i : ℕ) → i < q → Good i → e i ≡ d i) → ((xs : List ℕ) → IsTablePath d q j xs → (k : ℕ) → k < length xs → Good (slice_index xs k))
+pub path_good : (d e : ℕ → Descriptor) (q j : ℕ) (Good : ℕ → Type 0) (path : List ℕ)
+    → IsTablePath e q j path
+    → ((i : ℕ) → i < q → Good i → e i ≡ d i)
+    → ((xs : List ℕ) → IsTablePath d q j xs → (k : ℕ) → k < length xs → Good (slice_index xs k))
     → (k : ℕ) → k < length path → Good (slice_index path k)
 path_good d e q j Good path whole same good k h =
     let before = path_first d e q j Good path whole same good k h in
     let len : length (take (k + 1) path) ≡ k + 1 = length-take-le (k + 1) path (omega arith) in
-    subst Good (get_or-take (k + 1) path k 0 (omega arith)) (good (take (k + 1) path) before k (omega (arith, len)))
+    subst Good (get_or-take (k + 1) path k 0 (omega arith))
+    (good (take (k + 1) path) before k (omega (arith, len)))
 
 -- The same descriptors make the same paths.
-pub table_path_kept : (d e : ℕ → Descriptor) (q j : ℕ) (path : List ℕ) → ((i : ℕ) → i < q → e i ≡ d i) → IsTablePath e q j path → IsTablePath d q j path
+pub table_path_kept : (d e : ℕ → Descriptor) (q j : ℕ) (path : List ℕ)
+    → ((i : ℕ) → i < q → e i ≡ d i) → IsTablePath e q j path → IsTablePath d q j path
 table_path_kept d e q j path same whole = record {
   is_path = record {
     some = whole.is_path.some;
     begins = whole.is_path.begins;
-    onward = λ k l. ap has_next (sym (same (slice_index path k) (whole.inside k (omega arith)))) ∙ whole.is_path.onward k l;
-    linked = λ k l. ap (λ y. y.next) (sym (same (slice_index path k) (whole.inside k (omega arith)))) ∙ whole.is_path.linked k l;
+    onward = λ k l. ap has_next (sym (same (slice_index path k) (whole.inside k (omega arith))))
+        ∙ whole.is_path.onward k l;
+    linked = λ k l. ap (λ y. y.next)
+        (sym (same (slice_index path k) (whole.inside k (omega arith)))) ∙ whole.is_path.linked k l;
   };
   inside = whole.inside;
 }
 
 -- A path from the head of a written chain goes along the chain.
-written_path : (d : ℕ → Descriptor) (q h : ℕ) (path : List ℕ) (pieces : List Piece) → ((k : ℕ) → k < length path → d (slice_index path k) ≡ linked path pieces k)
-    → slice_index path 0 ≡ h → 0 < length path → (xs : List ℕ) → IsTablePath d q h xs → (k : ℕ) → k < length xs → (k < length path) × (slice_index xs k ≡ slice_index path k)
-written_path d q h path pieces put first some xs whole zero l = (some, whole.is_path.begins ∙ sym first)
+written_path : (d : ℕ → Descriptor) (q h : ℕ) (path : List ℕ) (pieces : List Piece)
+    → ((k : ℕ) → k < length path → d (slice_index path k) ≡ linked path pieces k)
+    → slice_index path 0 ≡ h → 0 < length path → (xs : List ℕ) → IsTablePath d q h xs → (k : ℕ)
+    → k < length xs → (k < length path) × (slice_index xs k ≡ slice_index path k)
+written_path d q h path pieces put first some xs whole zero l =
+    (some, whole.is_path.begins ∙ sym first)
 written_path d q h path pieces put first some xs whole (suc k) l =
     let before = written_path d q h path pieces put first some xs whole k (omega arith) in
     let here : d (slice_index xs k) ≡ linked path pieces k = ap d before.1 ∙ put k before.0 in
     let next : k + 1 ≡ suc k = add-one k in
-    let goes : has_next (linked path pieces k) ≡ nat_lt (k + 1) (length path) = flags_next (nat_lt (k + 1) (length path)) (slice_index_or pieces k empty).writable (slice_index_or pieces k empty) (slice_index path (k + 1)) in
-    let on : k + 1 < length path = ltb-true (k + 1) (length path) (sym goes ∙ ap has_next (sym here) ∙ whole.is_path.onward k (omega arith)) in
-    (omega arith, ap (slice_index xs) (sym next) ∙ sym (whole.is_path.linked k (omega arith)) ∙ ap (λ y. y.next) here ∙ ap (slice_index path) next)
+    let goes : has_next (linked path pieces k) ≡ nat_lt (k + 1) (length path) =
+    flags_next (nat_lt (k + 1) (length path)) (slice_index_or pieces k empty).writable
+    (slice_index_or pieces k empty) (slice_index path (k + 1)) in
+    let on : k + 1 < length path =
+    ltb-true (k + 1) (length path)
+    (sym goes ∙ ap has_next (sym here) ∙ whole.is_path.onward k (omega arith)) in (
+      omega arith,
+      ap (slice_index xs) (sym next) ∙ sym (whole.is_path.linked k (omega arith))
+          ∙ ap (λ y. y.next) here ∙ ap (slice_index path) next,
+    )
 
 -- ---- what a driver's end that tracks a ring knows
 
@@ -196,7 +269,8 @@ head_inside owner h e = elim (cases_lt h (length owner)) [
 ]
 
 -- A head that was published more often than it was used is out.
-out_head : (mem : Pages) (r : DriverEnd) (heads : List ℕ) (elems : List UsedElem) (s : ℕ) (h : ℕ) → Tracks mem r heads elems s → IsOutstanding heads elems h → is_head r.owner h ≡ true
+out_head : (mem : Pages) (r : DriverEnd) (heads : List ℕ) (elems : List UsedElem) (s : ℕ) (h : ℕ)
+    → Tracks mem r heads elems s → IsOutstanding heads elems h → is_head r.owner h ≡ true
 out_head mem r heads elems s h tracks out = at (is_head r.owner h) refl
   where
     at : (b : Bool) → is_head r.owner h ≡ b → is_head r.owner h ≡ true
@@ -207,9 +281,12 @@ one_most : (b : Bool) → one_if b ≤ 1
 one_most true = omega arith
 one_most false = omega arith
 
--- What a ring shows follows from the driver's table, but for the entries, the used heads and their number.
-pub tracks_shows : (mem : Pages) (r : DriverEnd) (heads : List ℕ) (elems : List UsedElem) (s : ℕ) → Tracks mem r heads elems s → ShowsEntries mem r.layout r.size heads elems
-    → ((h : ℕ) → times h (ids elems) ≤ times h heads) → length heads ≤ length elems + r.size → Shows mem r.layout r.size heads elems
+-- What a ring shows follows from the driver's table, but for the entries, the used heads and their
+-- number.
+pub tracks_shows : (mem : Pages) (r : DriverEnd) (heads : List ℕ) (elems : List UsedElem) (s : ℕ)
+    → Tracks mem r heads elems s → ShowsEntries mem r.layout r.size heads elems
+    → ((h : ℕ) → times h (ids elems) ≤ times h heads) → length heads ≤ length elems + r.size
+    → Shows mem r.layout r.size heads elems
 tracks_shows mem r heads elems s tracks entries among most = record {
   entries = entries;
   among = among;
@@ -224,61 +301,107 @@ tracks_shows mem r heads elems s tracks entries among most = record {
 -- ---- an add
 
 -- The path of the next chain: as many descriptors as it has pieces, all free.
-next_path-length : (r : DriverEnd) (n : ℕ) → n ≤ length (free_descriptors r) → length (next_path r n) ≡ n
+next_path-length : (r : DriverEnd) (n : ℕ) → n ≤ length (free_descriptors r)
+    → length (next_path r n) ≡ n
 next_path-length r n h = length-take-le n (free_descriptors r) h
 
-pub next_path-free : (r : DriverEnd) (n k : ℕ) → k < length (next_path r n) → (slice_index (next_path r n) k < r.size) × (slice_index_or r.owner (slice_index (next_path r n) k) None ≡ None)
+pub next_path-free : (r : DriverEnd) (n k : ℕ) → k < length (next_path r n)
+    → (slice_index (next_path r n) k < r.size)
+    × (slice_index_or r.owner (slice_index (next_path r n) k) None ≡ None)
 next_path-free r n k h =
     let part = take_inside (free_descriptors r) n k h in
-    let pass = numbers_pass (is_unused r.owner) r.size k part.0 in
-    (omega (arith, part.2, pass.0), free_none _ (ap (λ i. is_none (slice_index_or r.owner i None)) part.2 ∙ pass.1))
+    let pass = numbers_pass (is_unused r.owner) r.size k part.0 in (
+      omega (arith, part.2, pass.0),
+      free_none _ (ap (λ i. is_none (slice_index_or r.owner i None)) part.2 ∙ pass.1),
+    )
 
 -- No descriptor stands twice on it.
-pub next_path-rise : (r : DriverEnd) (n j k : ℕ) → j < k → k < length (next_path r n) → slice_index (next_path r n) j < slice_index (next_path r n) k
+pub next_path-rise : (r : DriverEnd) (n j k : ℕ) → j < k → k < length (next_path r n)
+    → slice_index (next_path r n) j < slice_index (next_path r n) k
 next_path-rise r n j k l h =
     let here = take_inside (free_descriptors r) n k h in
     let before = take_inside (free_descriptors r) n j (omega arith) in
     omega (arith, here.2, before.2, numbers_rise (is_unused r.owner) r.size j k l here.0)
 
 -- The driver's end after an add tracks the ring with the one head more.
-pub added_tracks : (m1 m3 : Pages) (r : DriverEnd) (pieces : List Piece) (h : ℕ) (heads : List ℕ) (elems : List UsedElem) (s : ℕ) → IsDriverEnd r
-    → Links m1 m3 r.layout r.size (next_path r (length pieces)) pieces → 0 < length pieces → length pieces ≤ length (free_descriptors r) → slice_index (next_path r (length pieces)) 0 ≡ h
-    → Tracks m1 r heads elems s → (Tracks m3 (after_add r (length pieces) (Ok h)) (heads ++ h ∷ []) elems s) × (outstanding r + 1 ≤ r.size)
+pub added_tracks : (m1 m3 : Pages) (r : DriverEnd) (pieces : List Piece) (h : ℕ) (heads : List ℕ)
+    (elems : List UsedElem) (s : ℕ) → IsDriverEnd r
+    → Links m1 m3 r.layout r.size (next_path r (length pieces)) pieces → 0 < length pieces
+    → length pieces ≤ length (free_descriptors r)
+    → slice_index (next_path r (length pieces)) 0 ≡ h
+    → Tracks m1 r heads elems s
+    → (Tracks m3 (after_add r (length pieces) (Ok h)) (heads ++ h ∷ []) elems s)
+    × (outstanding r + 1 ≤ r.size)
 added_tracks m1 m3 r pieces h heads elems s is_end links some fits first tracks =
     let path : List ℕ = next_path r (length pieces) in
     let new : List (Option ℕ) = claimed path h r.owner in
     let len : length path ≡ length pieces = next_path-length r (length pieces) fits in
-    let free : (k : ℕ) → k < length path → (slice_index path k < r.size) × (slice_index_or r.owner (slice_index path k) None ≡ None) = next_path-free r (length pieces) in
-    let inside : (k : ℕ) → k < length path → slice_index path k < length r.owner = λ k l. omega (arith, (free k l).0, is_end.table) in
+    let free : (k : ℕ) → k < length path
+    → (slice_index path k < r.size)
+    × (slice_index_or r.owner (slice_index path k) None ≡ None) =
+    next_path-free r (length pieces) in
+    let inside : (k : ℕ) → k < length path
+    → slice_index path k < length r.owner = λ k l. omega (arith, (free k l).0, is_end.table) in
     let mine : (k : ℕ) → k < length path → slice_index_or new (slice_index path k) None ≡ Some h =
-    λ k l. claimed-at path h r.owner (slice_index path k) inside ∙ ap (λ (b : Bool). if b then Some h else slice_index_or r.owner (slice_index path k) None) (is_in-at path k l) in
-    let rest : (i : ℕ) → is_in i path ≡ false → slice_index_or new i None ≡ slice_index_or r.owner i None =
-    λ i e. claimed-at path h r.owner i inside ∙ ap (λ (b : Bool). if b then Some h else slice_index_or r.owner i None) e in
+    λ k l. claimed-at path h r.owner (slice_index path k) inside
+    ∙ ap (λ (b : Bool). if b then Some h else slice_index_or r.owner (slice_index path k) None)
+    (is_in-at path k l) in
+    let rest : (i : ℕ) → is_in i path ≡ false
+    → slice_index_or new i None ≡ slice_index_or r.owner i None =
+    λ i e. claimed-at path h r.owner i inside
+    ∙ ap (λ (b : Bool). if b then Some h else slice_index_or r.owner i None) e in
     let begin : 0 < length path = omega (arith, len) in
-    let head_old : is_head r.owner h ≡ false = ap (is_own h) (ap (λ i. slice_index_or r.owner i None) (sym first) ∙ (free 0 begin).1) in
-    let head_new : is_head new h ≡ true = own_self h _ (ap (λ i. slice_index_or new i None) (sym first) ∙ mine 0 begin) in
-    let same : (i : ℕ) → i ≢ h → is_head r.owner i ≡ is_head new i = λ i ne. same_by path h r.owner new i ne mine rest (λ k l. (free k l).1) (is_in i path) refl in
-    let gain : length (numbers (is_head new) r.size) ≡ outstanding r + 1 = length_gain (is_head r.owner) (is_head new) r.size h (omega (arith, (free 0 begin).0, first)) head_old head_new same in
-    let both : length (free_descriptors r) + outstanding r ≤ r.size = length_two (is_unused r.owner) (is_head r.owner) r.size (λ i e. ap (is_own i) (free_none _ e)) in (
+    let head_old : is_head r.owner h ≡ false =
+    ap (is_own h) (ap (λ i. slice_index_or r.owner i None) (sym first) ∙ (free 0 begin).1) in
+    let head_new : is_head new h ≡ true =
+    own_self h _ (ap (λ i. slice_index_or new i None) (sym first) ∙ mine 0 begin) in
+    let same : (i : ℕ) → i ≢ h
+    → is_head r.owner i ≡ is_head new i =
+    λ i ne. same_by path h r.owner new i ne mine rest (λ k l. (free k l).1) (is_in i path)
+    refl in
+    let gain : length (numbers (is_head new) r.size) ≡ outstanding r + 1 =
+    length_gain (is_head r.owner) (is_head new) r.size h
+    (omega (arith, (free 0 begin).0, first)) head_old head_new same in
+    let both : length (free_descriptors r) + outstanding r ≤ r.size =
+    length_two (is_unused r.owner) (is_head r.owner) r.size
+    (λ i e. ap (is_own i) (free_none _ e)) in (
       record {
         published = omega (arith, length_push heads h, tracks.published);
         seen = tracks.seen;
         few = tracks.few;
         count = omega (arith, length_push heads h, tracks.count, gain);
         out = λ j. elim (cases_eq j h) [
-          | inl e ↦ omega (arith, times-push j heads h, one_is h j (sym e), tracks.out j, ap one_if (ap (is_head r.owner) e ∙ head_old), ap one_if (ap (is_head new) e ∙ head_new))
-          | inr ne ↦ omega (arith, times-push j heads h, one_other h j (λ e. ne (sym e)), tracks.out j, ap one_if (same j ne))
+          | inl e ↦ omega (
+            arith,
+            times-push j heads h,
+            one_is h j (sym e),
+            tracks.out j,
+            ap one_if (ap (is_head r.owner) e ∙ head_old),
+            ap one_if (ap (is_head new) e ∙ head_new),
+          )
+          | inr ne ↦ omega (
+            arith,
+            times-push j heads h,
+            one_other h j (λ e. ne (sym e)),
+            tracks.out j,
+            ap one_if (same j ne),
+          )
         ];
         owns = λ j out xs whole k l. elim (cases_eq j h) [
           | inl e ↦
-              let along = written_path (descriptor_at m3 r.layout.table) r.size h path pieces (λ i lt. links.put i (omega (arith, len))) first begin xs
-              (subst (λ (n : ℕ). IsTablePath (descriptor_at m3 r.layout.table) r.size n xs) e whole) k l in
+              let along = written_path (descriptor_at m3 r.layout.table) r.size h path pieces
+              (λ i lt. links.put i (omega (arith, len))) first begin xs
+              (subst (λ (n : ℕ). IsTablePath (descriptor_at m3 r.layout.table) r.size n xs) e whole)
+              k l in
               ap (λ i. slice_index_or new i None) along.1 ∙ mine k along.0 ∙ ap Some (sym e)
           | inr ne ↦
               let apart : (i : ℕ) → slice_index_or r.owner i None ≡ Some j → is_in i path ≡ false =
-              λ i own. nowhere_in path i (λ n lt e. none_some j _ (free n lt).1 (ap (λ x. slice_index_or r.owner x None) e ∙ own)) in
+              λ i own. nowhere_in path i
+              (λ n lt e. none_some j _ (free n lt).1
+              (ap (λ x. slice_index_or r.owner x None) e ∙ own)) in
               let old : slice_index_or r.owner (slice_index xs k) None ≡ Some j =
-              path_good (descriptor_at m1 r.layout.table) (descriptor_at m3 r.layout.table) r.size j (λ i. slice_index_or r.owner i None ≡ Some j) xs whole
+              path_good (descriptor_at m1 r.layout.table) (descriptor_at m3 r.layout.table) r.size j
+              (λ i. slice_index_or r.owner i None ≡ Some j) xs whole
               (λ i lt own. links.others i lt (apart i own)) (tracks.owns j (same j ne ∙ out)) k l in
               rest (slice_index xs k) (apart (slice_index xs k) old) ∙ old
         ];
@@ -286,19 +409,25 @@ added_tracks m1 m3 r pieces h heads elems s is_end links some fits first tracks 
       omega (arith, both),
     )
   where
-    same_by : (path : List ℕ) (h : ℕ) (old new : List (Option ℕ)) (i : ℕ) → i ≢ h → ((k : ℕ) → k < length path → slice_index_or new (slice_index path k) None ≡ Some h)
-        → ((n : ℕ) → is_in n path ≡ false → slice_index_or new n None ≡ slice_index_or old n None) → ((k : ℕ) → k < length path → slice_index_or old (slice_index path k) None ≡ None)
+    same_by : (path : List ℕ) (h : ℕ) (old new : List (Option ℕ)) (i : ℕ) → i ≢ h
+        → ((k : ℕ) → k < length path → slice_index_or new (slice_index path k) None ≡ Some h)
+        → ((n : ℕ) → is_in n path ≡ false → slice_index_or new n None ≡ slice_index_or old n None)
+        → ((k : ℕ) → k < length path → slice_index_or old (slice_index path k) None ≡ None)
         → (b : Bool) → is_in i path ≡ b → is_head old i ≡ is_head new i
     same_by path h old new i ne mine rest free true e =
         let found = is_in-some path i e in
         ap (is_own i) (ap (λ n. slice_index_or old n None) (sym found.2) ∙ free found.0 found.1)
-        ∙ sym (own_other h i _ (ap (λ n. slice_index_or new n None) (sym found.2) ∙ mine found.0 found.1) (λ x. ne (sym x)))
+        ∙ sym (own_other h i _
+        (ap (λ n. slice_index_or new n None) (sym found.2) ∙ mine found.0 found.1)
+        (λ x. ne (sym x)))
     same_by path h old new i ne mine rest free false e = ap (is_own i) (sym (rest i e))
 
 -- ---- a take
 
 -- The used element after those seen is of a chain that is out.
-pub next_used_out : (mem : Pages) (r : DriverEnd) (heads : List ℕ) (elems : List UsedElem) (s : ℕ) → Tracks mem r heads elems s → ((h : ℕ) → times h (ids elems) ≤ times h heads) → s < length elems
+pub next_used_out : (mem : Pages) (r : DriverEnd) (heads : List ℕ) (elems : List UsedElem) (s : ℕ)
+    → Tracks mem r heads elems s → ((h : ℕ) → times h (ids elems) ≤ times h heads)
+    → s < length elems
     → is_head r.owner (slice_index_or elems s no_elem).id ≡ true
 next_used_out mem r heads elems s tracks among lt = at (is_head r.owner id) refl
   where
@@ -307,28 +436,63 @@ next_used_out mem r heads elems s tracks among lt = at (is_head r.owner id) refl
 
     at : (b : Bool) → is_head r.owner id ≡ b → is_head r.owner id ≡ true
     at true e = e
-    at false e = absurd (omega (arith, tracks.out id, ap one_if e, times-next id elems s lt, one_is id id refl, times-take id elems (s + 1), among id))
+    at false e = absurd (omega (
+      arith,
+      tracks.out id,
+      ap one_if e,
+      times-next id elems s lt,
+      one_is id id refl,
+      times-take id elems (s + 1),
+      among id,
+    ))
 
 -- The driver's end after a take tracks the ring with one used element more seen.
-pub taken_tracks : (mem : Pages) (r : DriverEnd) (heads : List ℕ) (elems : List UsedElem) (s id : ℕ) → IsDriverEnd r → Tracks mem r heads elems s → s < length elems
-    → (slice_index_or elems s no_elem).id ≡ id → is_head r.owner id ≡ true → Tracks mem (after_take r (Ok (Some id))) heads elems (s + 1)
+pub taken_tracks : (mem : Pages) (r : DriverEnd) (heads : List ℕ) (elems : List UsedElem) (s id : ℕ)
+    → IsDriverEnd r → Tracks mem r heads elems s → s < length elems
+    → (slice_index_or elems s no_elem).id ≡ id → is_head r.owner id ≡ true
+    → Tracks mem (after_take r (Ok (Some id))) heads elems (s + 1)
 taken_tracks mem r heads elems s id is_end tracks lt is out =
     let new : List (Option ℕ) = released id r.owner in
     let mine : slice_index_or r.owner id None ≡ Some id = own_some id _ out in
-    let freed : (i : ℕ) → slice_index_or new i None ≡ (if is_own id (slice_index_or r.owner i None) then None else slice_index_or r.owner i None) = released-at id r.owner in
-    let gone : is_head new id ≡ false = ap (is_own id) (freed id ∙ ap (λ (b : Bool). if b then None else slice_index_or r.owner id None) out) in
-    let kept : (i j : ℕ) → slice_index_or r.owner i None ≡ Some j → j ≢ id → slice_index_or new i None ≡ Some j =
-    λ i j own ne. freed i ∙ ap (λ (b : Bool). if b then None else slice_index_or r.owner i None) (own_other j id _ own ne) ∙ own in
-    let same : (i : ℕ) → i ≢ id → is_head new i ≡ is_head r.owner i = λ i ne. same_by id r.owner new i ne (freed i) (is_own id (slice_index_or r.owner i None)) refl in
-    let gain : outstanding r ≡ length (numbers (is_head new) r.size) + 1 = length_gain (is_head new) (is_head r.owner) r.size id (omega (arith, head_inside r.owner id out, is_end.table)) gone out same in
+    let freed : (i : ℕ) → slice_index_or new i None
+    ≡ (if is_own id (slice_index_or r.owner i None) then None
+    else slice_index_or r.owner i None) = released-at id r.owner in
+    let gone : is_head new id ≡ false =
+    ap (is_own id) (freed id
+    ∙ ap (λ (b : Bool). if b then None else slice_index_or r.owner id None) out) in
+    let kept : (i j : ℕ) → slice_index_or r.owner i None ≡ Some j → j ≢ id
+    → slice_index_or new i None ≡ Some j =
+    λ i j own ne. freed i
+    ∙ ap (λ (b : Bool). if b then None else slice_index_or r.owner i None)
+    (own_other j id _ own ne) ∙ own in
+    let same : (i : ℕ) → i ≢ id
+    → is_head new i ≡ is_head r.owner i =
+    λ i ne. same_by id r.owner new i ne (freed i) (is_own id (slice_index_or r.owner i None))
+    refl in
+    let gain : outstanding r ≡ length (numbers (is_head new) r.size) + 1 =
+    length_gain (is_head new) (is_head r.owner) r.size id
+    (omega (arith, head_inside r.owner id out, is_end.table)) gone out same in
     record {
       published = tracks.published;
       seen = omega (arith, tracks.seen);
       few = omega arith;
       count = omega (arith, tracks.count, gain);
       out = λ j. elim (cases_eq j id) [
-        | inl e ↦ omega (arith, tracks.out j, times-next j elems s lt, one_is (slice_index_or elems s no_elem).id j (is ∙ sym e), ap one_if (ap (is_head r.owner) e ∙ out), ap one_if (ap (is_head new) e ∙ gone))
-        | inr ne ↦ omega (arith, tracks.out j, times-next j elems s lt, one_other (slice_index_or elems s no_elem).id j (λ e. ne (sym e ∙ is)), ap one_if (same j ne))
+        | inl e ↦ omega (
+          arith,
+          tracks.out j,
+          times-next j elems s lt,
+          one_is (slice_index_or elems s no_elem).id j (is ∙ sym e),
+          ap one_if (ap (is_head r.owner) e ∙ out),
+          ap one_if (ap (is_head new) e ∙ gone),
+        )
+        | inr ne ↦ omega (
+          arith,
+          tracks.out j,
+          times-next j elems s lt,
+          one_other (slice_index_or elems s no_elem).id j (λ e. ne (sym e ∙ is)),
+          ap one_if (same j ne),
+        )
       ];
       owns = λ j own xs whole k l. elim (cases_eq j id) [
         | inl e ↦ (let wrong : true ≡ false = sym own ∙ ap (is_head new) e ∙ gone in cc)
@@ -336,81 +500,114 @@ taken_tracks mem r heads elems s id is_end tracks lt is out =
       ];
     }
   where
-    same_by : (id : ℕ) (old new : List (Option ℕ)) (i : ℕ) → i ≢ id → slice_index_or new i None ≡ (if is_own id (slice_index_or old i None) then None else slice_index_or old i None)
+    same_by : (id : ℕ) (old new : List (Option ℕ)) (i : ℕ) → i ≢ id
+        → slice_index_or new i None
+        ≡ (if is_own id (slice_index_or old i None) then None else slice_index_or old i None)
         → (b : Bool) → is_own id (slice_index_or old i None) ≡ b → is_head new i ≡ is_head old i
     same_by id old new i ne freed true e =
-        ap (is_own i) (freed ∙ ap (λ (b : Bool). if b then None else slice_index_or old i None) e) ∙ sym (own_other id i _ (own_some id _ e) (λ x. ne (sym x)))
-    same_by id old new i ne freed false e = ap (is_own i) (freed ∙ ap (λ (b : Bool). if b then None else slice_index_or old i None) e)
+        ap (is_own i) (freed ∙ ap (λ (b : Bool). if b then None else slice_index_or old i None) e)
+        ∙ sym (own_other id i _ (own_some id _ e) (λ x. ne (sym x)))
+    same_by id old new i ne freed false e =
+        ap (is_own i) (freed ∙ ap (λ (b : Bool). if b then None else slice_index_or old i None) e)
 
 -- ---- a use
 
--- A ring whose descriptors are as before shows the one element more, where its head was published more often than it was used.
-pub used_shows : (m1 m2 : Pages) (l : Layout) (q : ℕ) (heads : List ℕ) (elems : List UsedElem) (e : UsedElem) → ((i : ℕ) → i < q → descriptor_at m2 l.table i ≡ descriptor_at m1 l.table i)
-    → ShowsEntries m2 l q heads (elems ++ e ∷ []) → times e.id (ids elems) < times e.id heads → Shows m1 l q heads elems → Shows m2 l q heads (elems ++ e ∷ [])
+-- A ring whose descriptors are as before shows the one element more, where its head was published
+-- more often than it was used.
+pub used_shows : (m1 m2 : Pages) (l : Layout) (q : ℕ) (heads : List ℕ) (elems : List UsedElem)
+    (e : UsedElem) → ((i : ℕ) → i < q → descriptor_at m2 l.table i ≡ descriptor_at m1 l.table i)
+    → ShowsEntries m2 l q heads (elems ++ e ∷ []) → times e.id (ids elems) < times e.id heads
+    → Shows m1 l q heads elems → Shows m2 l q heads (elems ++ e ∷ [])
 used_shows m1 m2 l q heads elems e same entries out shows =
-    let more : (j : ℕ) → times j (ids (elems ++ e ∷ [])) ≡ times j (ids elems) + one_if (e.id == j) = λ j. ap (times j) (ids-push elems e) ∙ times-push j (ids elems) e.id in
-    let kept : (j : ℕ) (path : List ℕ) → IsTablePath (descriptor_at m2 l.table) q j path → IsTablePath (descriptor_at m1 l.table) q j path =
-    λ j path whole. table_path_kept (descriptor_at m1 l.table) (descriptor_at m2 l.table) q j path same whole in
+    let more : (j : ℕ) → times j (ids (elems ++ e ∷ []))
+    ≡ times j (ids elems) + one_if (e.id == j) =
+    λ j. ap (times j) (ids-push elems e) ∙ times-push j (ids elems) e.id in
+    let kept : (j : ℕ) (path : List ℕ) → IsTablePath (descriptor_at m2 l.table) q j path
+    → IsTablePath (descriptor_at m1 l.table) q j path =
+    λ j path whole. table_path_kept (descriptor_at m1 l.table) (descriptor_at m2 l.table) q j path
+    same whole in
     record {
       entries = entries;
       among = λ j. elim (cases_eq e.id j) [
-        | inl is ↦ (let here : times j (ids elems) < times j heads = subst (λ (n : ℕ). times n (ids elems) < times n heads) is out in omega (arith, more j, one_is e.id j is, here))
+        | inl is ↦ (let here : times j (ids elems) < times j heads = subst
+            (λ (n : ℕ). times n (ids elems) < times n heads) is out in
+            omega (arith, more j, one_is e.id j is, here))
         | inr ne ↦ omega (arith, more j, one_other e.id j ne, shows.among j)
       ];
       most = omega (arith, length_push elems e, shows.most);
       once = λ j. omega (arith, more j, shows.once j);
       apart = λ h j ne out_h out_j a b path_a path_b k n lk ln.
-          shows.apart h j ne (omega (arith, more h, out_h)) (omega (arith, more j, out_j)) a b (kept h a path_a) (kept j b path_b) k n lk ln;
+          shows.apart h j ne (omega (arith, more h, out_h)) (omega (arith, more j, out_j)) a b
+          (kept h a path_a) (kept j b path_b) k n lk ln;
     }
 
 -- A driver's end goes on tracking a ring to which an element was added.
-pub used_tracks : (m1 m2 : Pages) (r : DriverEnd) (heads : List ℕ) (elems : List UsedElem) (e : UsedElem) (s : ℕ) → ((i : ℕ) → i < r.size → descriptor_at m2 r.layout.table i ≡ descriptor_at m1 r.layout.table i)
+pub used_tracks : (m1 m2 : Pages) (r : DriverEnd) (heads : List ℕ) (elems : List UsedElem)
+    (e : UsedElem) (s : ℕ)
+    → ((i : ℕ) → i < r.size → descriptor_at m2 r.layout.table i ≡ descriptor_at m1 r.layout.table i)
     → Tracks m1 r heads elems s → Tracks m2 r heads (elems ++ e ∷ []) s
 used_tracks m1 m2 r heads elems e s same tracks = record {
   published = tracks.published;
   seen = tracks.seen;
   few = omega (arith, tracks.few, length_push elems e);
   count = tracks.count;
-  out = λ j. tracks.out j ∙ ap (λ (es : List UsedElem). times j (ids es) + one_if (is_head r.owner j)) (sym (take-append-le s elems (e ∷ []) tracks.few));
-  owns = λ j out xs whole. tracks.owns j out xs (table_path_kept (descriptor_at m1 r.layout.table) (descriptor_at m2 r.layout.table) r.size j xs same whole);
+  out = λ j. tracks.out j
+      ∙ ap (λ (es : List UsedElem). times j (ids es) + one_if (is_head r.owner j))
+      (sym (take-append-le s elems (e ∷ []) tracks.few));
+  owns = λ j out xs whole. tracks.owns j out xs
+      (table_path_kept (descriptor_at m1 r.layout.table) (descriptor_at m2 r.layout.table) r.size j
+      xs same whole);
 }
 
 -- ---- fresh and untouched rings
 
 -- Where the ring's pages are as before, it shows what it showed.
-pub ring_apart : (old new : Pages) (l : Layout) (q : ℕ) (heads : List ℕ) (elems : List UsedElem) → IsSize q → page_at new l.table ≡ page_at old l.table → page_at new l.avail.page ≡ page_at old l.avail.page
-    → page_at new l.used.page ≡ page_at old l.used.page → Shows old l q heads elems → Shows new l q heads elems
+pub ring_apart : (old new : Pages) (l : Layout) (q : ℕ) (heads : List ℕ) (elems : List UsedElem)
+    → IsSize q → page_at new l.table ≡ page_at old l.table
+    → page_at new l.avail.page ≡ page_at old l.avail.page
+    → page_at new l.used.page ≡ page_at old l.used.page → Shows old l q heads elems
+    → Shows new l q heads elems
 ring_apart old new l q heads elems size t a u shows =
-    let kept : (j : ℕ) (path : List ℕ) → IsTablePath (descriptor_at new l.table) q j path → IsTablePath (descriptor_at old l.table) q j path =
-    λ j path whole. table_path_kept (descriptor_at old l.table) (descriptor_at new l.table) q j path (λ i lt. descriptor_apart old new l.table i t) whole in
+    let kept : (j : ℕ) (path : List ℕ) → IsTablePath (descriptor_at new l.table) q j path
+    → IsTablePath (descriptor_at old l.table) q j path =
+    λ j path whole. table_path_kept (descriptor_at old l.table) (descriptor_at new l.table) q j path
+    (λ i lt. descriptor_apart old new l.table i t) whole in
     record {
       entries = entries_apart old new l q heads elems size a u shows.entries;
       among = shows.among;
       most = shows.most;
       once = shows.once;
-      apart = λ h j ne out_h out_j x y path_x path_y. shows.apart h j ne out_h out_j x y (kept h x path_x) (kept j y path_y);
+      apart = λ h j ne out_h out_j x y path_x path_y. shows.apart h j ne out_h out_j x y
+          (kept h x path_x) (kept j y path_y);
     }
 
 -- And a driver's end goes on tracking it.
-pub tracks_apart : (old new : Pages) (r : DriverEnd) (heads : List ℕ) (elems : List UsedElem) (s : ℕ) → page_at new r.layout.table ≡ page_at old r.layout.table → Tracks old r heads elems s → Tracks new r heads elems s
+pub tracks_apart : (old new : Pages) (r : DriverEnd) (heads : List ℕ) (elems : List UsedElem)
+    (s : ℕ) → page_at new r.layout.table ≡ page_at old r.layout.table → Tracks old r heads elems s
+    → Tracks new r heads elems s
 tracks_apart old new r heads elems s same tracks = record {
   published = tracks.published;
   seen = tracks.seen;
   few = tracks.few;
   count = tracks.count;
   out = tracks.out;
-  owns = λ j out xs whole. tracks.owns j out xs (table_path_kept (descriptor_at old r.layout.table) (descriptor_at new r.layout.table) r.size j xs (λ i lt. descriptor_apart old new r.layout.table i same) whole);
+  owns = λ j out xs whole. tracks.owns j out xs
+      (table_path_kept (descriptor_at old r.layout.table) (descriptor_at new r.layout.table) r.size
+      j xs (λ i lt. descriptor_apart old new r.layout.table i same) whole);
 }
 
 -- Pages of zeros show two empty lists.
-pub fresh_shows : (mem : Pages) (l : Layout) (q : ℕ) → Fits l q → ((k : ℕ) → k < 4096 → byte_at mem l.avail.page k ≡ 0) → ((k : ℕ) → k < 4096 → byte_at mem l.used.page k ≡ 0) → Shows mem l q [] []
+pub fresh_shows : (mem : Pages) (l : Layout) (q : ℕ) → Fits l q
+    → ((k : ℕ) → k < 4096 → byte_at mem l.avail.page k ≡ 0)
+    → ((k : ℕ) → k < 4096 → byte_at mem l.used.page k ≡ 0) → Shows mem l q [] []
 fresh_shows mem l q fits a u =
     let a1 = a (avail_index l) (omega (arith, fits.avail)) in
     let a2 = a (avail_index l + 1) (omega (arith, fits.avail)) in
     let u1 = u (used_index l) (omega (arith, fits.used)) in
     let u2 = u (used_index l + 1) (omega (arith, fits.used)) in
     record {
-      entries = fresh_entries mem l q (index_zero mem l.avail.page (avail_index l) a1 a2) (index_zero mem l.used.page (used_index l) u1 u2);
+      entries = fresh_entries mem l q (index_zero mem l.avail.page (avail_index l) a1 a2)
+          (index_zero mem l.used.page (used_index l) u1 u2);
       among = λ h. omega arith;
       most = omega arith;
       once = λ h. omega arith;
@@ -421,7 +618,9 @@ fresh_shows mem l q fits a u =
 fresh_none : (q i : ℕ) → is_head (replicate q None) i ≡ false
 fresh_none q i = elim (cases_lt i q) [
   | inl l ↦ ap (is_own i) (get_or-replicate {A = Option ℕ} q i None None l)
-  | inr past ↦ ap (is_own i) (get_or_past (replicate {A = Option ℕ} q None) i None (omega (arith, length-replicate {A = Option ℕ} q None)))
+  | inr past ↦ ap (is_own i)
+      (get_or_past (replicate {A = Option ℕ} q None) i None
+      (omega (arith, length-replicate {A = Option ℕ} q None)))
 ]
 
 -- It tracks a ring of which nothing was published.
@@ -430,7 +629,10 @@ fresh_tracks mem l q = record {
   published = refl;
   seen = refl;
   few = omega arith;
-  count = omega (arith, ap length (numbers_none (is_head (replicate q None)) q (λ i l. fresh_none q i)));
+  count = omega (
+    arith,
+    ap length (numbers_none (is_head (replicate q None)) q (λ i l. fresh_none q i)),
+  );
   out = λ h. omega (arith, ap one_if (fresh_none q h));
   owns = λ h out. (let wrong : true ≡ false = sym out ∙ fresh_none q h in cc);
 }

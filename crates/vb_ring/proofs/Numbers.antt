@@ -1,5 +1,7 @@
 -- The numbers below a limit that pass a test.
-use Rattle.std.specs.Prelude.{◌≡◌, ◌≢◌, ◌⊎◌, ℕ, zero, suc, ◌+◌, ◌<◌, ◌≤◌, Bool, true, false, List, [], ◌∷◌, ◌++◌, length, slice_index, if◌then◌else◌, refl, slice_get, Some}
+use Rattle.std.specs.Prelude.{◌≡◌, ◌≢◌, ◌⊎◌, ℕ, zero, suc, ◌+◌, ◌<◌, ◌≤◌, Bool, true, false, List}
+use Rattle.std.specs.Prelude.{[], ◌∷◌, ◌++◌, length, slice_index, if◌then◌else◌, refl, slice_get}
+use Rattle.std.specs.Prelude.{Some}
 use Rattle.vb_model.specs.Tests.{one_if}
 use Rattle.std.proofs.lemmas.Option.{slice_get-get_or}
 use Rattle.std.proofs.Common.{sym, ◌∙◌, ap, arith, inl, inr, add-one, add-zero}
@@ -7,7 +9,8 @@ use Rattle.std.proofs.lemmas.List.{length_push, get_or_append_left, get_or_push}
 use Rattle.std.proofs.lemmas.Bool.{cases_eq}
 use Rattle.vb_ring.specs.Numbers.{numbers}
 
-suc_yes : (p : ℕ → Bool) (n : ℕ) (b : Bool) → p n ≡ b → b ≡ true → numbers p (suc n) ≡ numbers p n ++ n ∷ []
+suc_yes : (p : ℕ → Bool) (n : ℕ) (b : Bool) → p n ≡ b → b ≡ true
+    → numbers p (suc n) ≡ numbers p n ++ n ∷ []
 unfolding numbers
 suc_yes p n b e f = ap (λ (v : Bool). if v then numbers p n ++ n ∷ [] else numbers p n) (e ∙ f)
 
@@ -32,71 +35,100 @@ either_way false = inr refl
 
 pub numbers_none : (p : ℕ → Bool) (n : ℕ) → ((i : ℕ) → i < n → p i ≡ false) → numbers p n ≡ []
 numbers_none p zero h = numbers_zero p
-numbers_none p (suc n) h = suc_no p n (h n (omega arith)) ∙ numbers_none p n (λ i l. h i (omega arith))
+numbers_none p (suc n) h =
+    suc_no p n (h n (omega arith)) ∙ numbers_none p n (λ i l. h i (omega arith))
 
 -- Each of them passes, and is below the limit.
-pub numbers_pass : (p : ℕ → Bool) (n k : ℕ) → k < length (numbers p n) → (slice_index (numbers p n) k < n) × (p (slice_index (numbers p n) k) ≡ true)
+pub numbers_pass : (p : ℕ → Bool) (n k : ℕ) → k < length (numbers p n)
+    → (slice_index (numbers p n) k < n) × (p (slice_index (numbers p n) k) ≡ true)
 numbers_pass p zero k h = absurd (omega (arith, ap length (numbers_zero p)))
 numbers_pass p (suc n) k h = elim (either_way (p n)) [
   | inl pass ↦
       let grown : numbers p (suc n) ≡ numbers p n ++ n ∷ [] = suc_yes p n true pass refl in
-      let len : length (numbers p (suc n)) ≡ length (numbers p n) + 1 = ap length grown ∙ length_push (numbers p n) n in
+      let len : length (numbers p (suc n)) ≡ length (numbers p n) + 1 =
+      ap length grown ∙ length_push (numbers p n) n in
       elim (cases_eq k (length (numbers p n))) [
         | inl last ↦
-            let here : slice_index (numbers p (suc n)) k ≡ n = ap (λ (xs : List ℕ). slice_index xs k) grown ∙ get_or_push (numbers p n) n 0 k (sym last) in
+            let here : slice_index (numbers p (suc n)) k ≡ n =
+            ap (λ (xs : List ℕ). slice_index xs k) grown
+            ∙ get_or_push (numbers p n) n 0 k (sym last) in
             (omega (arith, here), ap p here ∙ pass)
         | inr ne ↦
             let before : k < length (numbers p n) = omega (arith, ne, len) in
-            let here : slice_index (numbers p (suc n)) k ≡ slice_index (numbers p n) k = ap (λ (xs : List ℕ). slice_index xs k) grown ∙ get_or_append_left (numbers p n) (n ∷ []) 0 k before in
+            let here : slice_index (numbers p (suc n)) k ≡ slice_index (numbers p n) k =
+            ap (λ (xs : List ℕ). slice_index xs k) grown
+            ∙ get_or_append_left (numbers p n) (n ∷ []) 0 k before in
             let old = numbers_pass p n k before in
             (omega (arith, here, old.0), ap p here ∙ old.1)
       ]
   | inr fail ↦
       let same : numbers p (suc n) ≡ numbers p n = suc_no p n fail in
-      let here : slice_index (numbers p (suc n)) k ≡ slice_index (numbers p n) k = ap (λ (xs : List ℕ). slice_index xs k) same in
+      let here : slice_index (numbers p (suc n)) k ≡ slice_index (numbers p n) k =
+      ap (λ (xs : List ℕ). slice_index xs k) same in
       let len : length (numbers p (suc n)) ≡ length (numbers p n) = ap length same in
       let old = numbers_pass p n k (omega (arith, len)) in
       (omega (arith, here, old.0), ap p here ∙ old.1)
 ]
 
 -- They rise.
-pub numbers_rise : (p : ℕ → Bool) (n j k : ℕ) → j < k → k < length (numbers p n) → slice_index (numbers p n) j < slice_index (numbers p n) k
+pub numbers_rise : (p : ℕ → Bool) (n j k : ℕ) → j < k → k < length (numbers p n)
+    → slice_index (numbers p n) j < slice_index (numbers p n) k
 numbers_rise p zero j k l h = absurd (omega (arith, ap length (numbers_zero p)))
 numbers_rise p (suc n) j k l h = elim (either_way (p n)) [
   | inl pass ↦
       let grown : numbers p (suc n) ≡ numbers p n ++ n ∷ [] = suc_yes p n true pass refl in
-      let len : length (numbers p (suc n)) ≡ length (numbers p n) + 1 = ap length grown ∙ length_push (numbers p n) n in
+      let len : length (numbers p (suc n)) ≡ length (numbers p n) + 1 =
+      ap length grown ∙ length_push (numbers p n) n in
       let low : j < length (numbers p n) = omega (arith, len) in
-      let first : slice_index (numbers p (suc n)) j ≡ slice_index (numbers p n) j = ap (λ (xs : List ℕ). slice_index xs j) grown ∙ get_or_append_left (numbers p n) (n ∷ []) 0 j low in
+      let first : slice_index (numbers p (suc n)) j ≡ slice_index (numbers p n) j =
+      ap (λ (xs : List ℕ). slice_index xs j) grown
+      ∙ get_or_append_left (numbers p n) (n ∷ []) 0 j low in
       elim (cases_eq k (length (numbers p n))) [
         | inl last ↦
-            let here : slice_index (numbers p (suc n)) k ≡ n = ap (λ (xs : List ℕ). slice_index xs k) grown ∙ get_or_push (numbers p n) n 0 k (sym last) in
+            let here : slice_index (numbers p (suc n)) k ≡ n =
+            ap (λ (xs : List ℕ). slice_index xs k) grown
+            ∙ get_or_push (numbers p n) n 0 k (sym last) in
             omega (arith, here, first, (numbers_pass p n j low).0)
         | inr ne ↦
             let before : k < length (numbers p n) = omega (arith, ne, len) in
-            let here : slice_index (numbers p (suc n)) k ≡ slice_index (numbers p n) k = ap (λ (xs : List ℕ). slice_index xs k) grown ∙ get_or_append_left (numbers p n) (n ∷ []) 0 k before in
+            let here : slice_index (numbers p (suc n)) k ≡ slice_index (numbers p n) k =
+            ap (λ (xs : List ℕ). slice_index xs k) grown
+            ∙ get_or_append_left (numbers p n) (n ∷ []) 0 k before in
             omega (arith, here, first, numbers_rise p n j k l before)
       ]
   | inr fail ↦
       let same : numbers p (suc n) ≡ numbers p n = suc_no p n fail in
-      let here : slice_index (numbers p (suc n)) k ≡ slice_index (numbers p n) k = ap (λ (xs : List ℕ). slice_index xs k) same in
-      let first : slice_index (numbers p (suc n)) j ≡ slice_index (numbers p n) j = ap (λ (xs : List ℕ). slice_index xs j) same in
+      let here : slice_index (numbers p (suc n)) k ≡ slice_index (numbers p n) k =
+      ap (λ (xs : List ℕ). slice_index xs k) same in
+      let first : slice_index (numbers p (suc n)) j ≡ slice_index (numbers p n) j =
+      ap (λ (xs : List ℕ). slice_index xs j) same in
       let len : length (numbers p (suc n)) ≡ length (numbers p n) = ap length same in
       omega (arith, here, first, numbers_rise p n j k l (omega (arith, len)))
 ]
 
 -- Each number below the limit that passes is among them.
-pub numbers_has : (p : ℕ → Bool) (n i : ℕ) → i < n → p i ≡ true → (k : ℕ) × (k < length (numbers p n)) × (slice_index (numbers p n) k ≡ i)
+pub numbers_has : (p : ℕ → Bool) (n i : ℕ) → i < n → p i ≡ true
+    → (k : ℕ) × (k < length (numbers p n)) × (slice_index (numbers p n) k ≡ i)
 numbers_has p zero i l h = absurd (omega arith)
 numbers_has p (suc n) i l h = elim (either_way (p n)) [
   | inl pass ↦
       let grown : numbers p (suc n) ≡ numbers p n ++ n ∷ [] = suc_yes p n true pass refl in
-      let len : length (numbers p (suc n)) ≡ length (numbers p n) + 1 = ap length grown ∙ length_push (numbers p n) n in
+      let len : length (numbers p (suc n)) ≡ length (numbers p n) + 1 =
+      ap length grown ∙ length_push (numbers p n) n in
       elim (cases_eq i n) [
-        | inl last ↦ (length (numbers p n), omega (arith, len), ap (λ (xs : List ℕ). slice_index xs (length (numbers p n))) grown ∙ get_or_push (numbers p n) n 0 (length (numbers p n)) refl ∙ sym last)
+        | inl last ↦ (
+          length (numbers p n),
+          omega (arith, len),
+          ap (λ (xs : List ℕ). slice_index xs (length (numbers p n))) grown
+              ∙ get_or_push (numbers p n) n 0 (length (numbers p n)) refl ∙ sym last,
+        )
         | inr ne ↦
-            let old = numbers_has p n i (omega (arith, ne)) h in
-            (old.0, omega (arith, len, old.1), ap (λ (xs : List ℕ). slice_index xs old.0) grown ∙ get_or_append_left (numbers p n) (n ∷ []) 0 old.0 old.1 ∙ old.2)
+            let old = numbers_has p n i (omega (arith, ne)) h in (
+              old.0,
+              omega (arith, len, old.1),
+              ap (λ (xs : List ℕ). slice_index xs old.0) grown
+                  ∙ get_or_append_left (numbers p n) (n ∷ []) 0 old.0 old.1 ∙ old.2,
+            )
       ]
   | inr fail ↦
       let same : numbers p (suc n) ≡ numbers p n = suc_no p n fail in
@@ -104,13 +136,18 @@ numbers_has p (suc n) i l h = elim (either_way (p n)) [
       elim (cases_eq i n) [
         | inl last ↦ (let wrong : true ≡ false = sym h ∙ ap p last ∙ fail in cc)
         | inr ne ↦
-            let old = numbers_has p n i (omega (arith, ne)) h in
-            (old.0, omega (arith, len, old.1), ap (λ (xs : List ℕ). slice_index xs old.0) same ∙ old.2)
+            let old = numbers_has p n i (omega (arith, ne)) h in (
+              old.0,
+              omega (arith, len, old.1),
+              ap (λ (xs : List ℕ). slice_index xs old.0) same
+                  ∙ old.2,
+            )
       ]
 ]
 
 -- The first is the least that passes.
-pub numbers_first : (p : ℕ → Bool) (n i : ℕ) → i < n → p i ≡ true → ((j : ℕ) → j < i → p j ≡ false) → slice_get (numbers p n) 0 ≡ Some i
+pub numbers_first : (p : ℕ → Bool) (n i : ℕ) → i < n → p i ≡ true → ((j : ℕ) → j < i → p j ≡ false)
+    → slice_get (numbers p n) 0 ≡ Some i
 numbers_first p n i l h least =
     let found = numbers_has p n i l h in
     let some : 0 < length (numbers p n) = omega (arith, found.1) in
@@ -119,24 +156,32 @@ numbers_first p n i l h least =
     ∙ ap Some (elim (cases_eq found.0 0) [
       | inl e ↦ ap (slice_index (numbers p n)) (sym e) ∙ found.2
       | inr ne ↦
-          let below : slice_index (numbers p n) 0 < i = omega (arith, numbers_rise p n 0 found.0 (omega (arith, ne)) found.1, found.2) in
+          let below : slice_index (numbers p n) 0 < i =
+          omega (arith, numbers_rise p n 0 found.0 (omega (arith, ne)) found.1, found.2) in
           (let wrong : true ≡ false = sym first.1 ∙ least (slice_index (numbers p n) 0) below in cc)
     ])
 
 -- Tests that agree have the same numbers.
-pub numbers_same : (p s : ℕ → Bool) (n : ℕ) → ((i : ℕ) → i < n → p i ≡ s i) → numbers p n ≡ numbers s n
+pub numbers_same : (p s : ℕ → Bool) (n : ℕ) → ((i : ℕ) → i < n → p i ≡ s i)
+    → numbers p n ≡ numbers s n
 numbers_same p s zero h = numbers_zero p ∙ sym (numbers_zero s)
 numbers_same p s (suc n) h = elim (either_way (p n)) [
   | inl pass ↦
-      suc_yes p n true pass refl ∙ ap (λ (xs : List ℕ). xs ++ n ∷ []) (numbers_same p s n (λ i l. h i (omega arith))) ∙ sym (suc_yes s n true (sym (h n (omega arith)) ∙ pass) refl)
+      suc_yes p n true pass refl
+      ∙ ap (λ (xs : List ℕ). xs ++ n ∷ []) (numbers_same p s n (λ i l. h i (omega arith)))
+      ∙ sym (suc_yes s n true (sym (h n (omega arith)) ∙ pass) refl)
   | inr fail ↦
-      suc_no p n fail ∙ numbers_same p s n (λ i l. h i (omega arith)) ∙ sym (suc_no s n (sym (h n (omega arith)) ∙ fail))
+      suc_no p n fail ∙ numbers_same p s n (λ i l. h i (omega arith))
+      ∙ sym (suc_no s n (sym (h n (omega arith)) ∙ fail))
 ]
 
-length_suc : (p : ℕ → Bool) (n : ℕ) → length (numbers p (suc n)) ≡ length (numbers p n) + one_if (p n)
+length_suc : (p : ℕ → Bool) (n : ℕ)
+    → length (numbers p (suc n)) ≡ length (numbers p n) + one_if (p n)
 length_suc p n = elim (either_way (p n)) [
-  | inl pass ↦ ap length (suc_yes p n true pass refl) ∙ length_push (numbers p n) n ∙ ap (λ (b : Bool). length (numbers p n) + one_if b) (sym pass)
-  | inr fail ↦ ap length (suc_no p n fail) ∙ sym (add-zero (length (numbers p n))) ∙ ap (λ (b : Bool). length (numbers p n) + one_if b) (sym fail)
+  | inl pass ↦ ap length (suc_yes p n true pass refl) ∙ length_push (numbers p n) n
+      ∙ ap (λ (b : Bool). length (numbers p n) + one_if b) (sym pass)
+  | inr fail ↦ ap length (suc_no p n fail) ∙ sym (add-zero (length (numbers p n)))
+      ∙ ap (λ (b : Bool). length (numbers p n) + one_if b) (sym fail)
 ]
 
 pub length-numbers : (p : ℕ → Bool) (n : ℕ) → length (numbers p n) ≤ n
@@ -147,31 +192,75 @@ length-numbers p (suc n) = elim (either_way (p n)) [
 ]
 
 -- One more number passes: one more is counted.
-pub length_gain : (p s : ℕ → Bool) (n h : ℕ) → h < n → p h ≡ false → s h ≡ true → ((i : ℕ) → i ≢ h → p i ≡ s i) → length (numbers s n) ≡ length (numbers p n) + 1
+pub length_gain : (p s : ℕ → Bool) (n h : ℕ) → h < n → p h ≡ false → s h ≡ true
+    → ((i : ℕ) → i ≢ h → p i ≡ s i) → length (numbers s n) ≡ length (numbers p n) + 1
 length_gain p s zero h l fail pass same = absurd (omega arith)
 length_gain p s (suc n) h l fail pass same = elim (cases_eq h n) [
   | inl e ↦
-      let below : length (numbers p n) ≡ length (numbers s n) = ap length (numbers_same p s n (λ i k. same i (omega (arith, e)))) in
-      omega (arith, length_suc p n, length_suc s n, ap one_if (ap p (sym e) ∙ fail), ap one_if (ap s (sym e) ∙ pass), below)
+      let below : length (numbers p n) ≡ length (numbers s n) =
+      ap length (numbers_same p s n (λ i k. same i (omega (arith, e)))) in
+      omega (
+        arith,
+        length_suc p n,
+        length_suc s n,
+        ap one_if (ap p (sym e) ∙ fail),
+        ap one_if (ap s (sym e) ∙ pass),
+        below,
+      )
   | inr ne ↦
-      omega (arith, length_suc p n, length_suc s n, ap one_if (same n (λ e. ne (sym e))), length_gain p s n h (omega (arith, ne)) fail pass same)
+      omega (
+        arith,
+        length_suc p n,
+        length_suc s n,
+        ap one_if (same n (λ e. ne (sym e))),
+        length_gain p s n h (omega (arith, ne)) fail pass same,
+      )
 ]
 
 -- No number passes both tests: at most n numbers below n pass one of them.
-pub length_two : (p s : ℕ → Bool) (n : ℕ) → ((i : ℕ) → p i ≡ true → s i ≡ false) → length (numbers p n) + length (numbers s n) ≤ n
+pub length_two : (p s : ℕ → Bool) (n : ℕ) → ((i : ℕ) → p i ≡ true → s i ≡ false)
+    → length (numbers p n) + length (numbers s n) ≤ n
 length_two p s zero h = omega (arith, ap length (numbers_zero p), ap length (numbers_zero s))
 length_two p s (suc n) h = elim (either_way (p n)) [
-  | inl pass ↦ omega (arith, length_suc p n, length_suc s n, ap one_if pass, ap one_if (h n pass), length_two p s n h)
+  | inl pass ↦ omega (
+    arith,
+    length_suc p n,
+    length_suc s n,
+    ap one_if pass,
+    ap one_if (h n pass),
+    length_two p s n h,
+  )
   | inr fail ↦ elim (either_way (s n)) [
-    | inl pass ↦ omega (arith, length_suc p n, length_suc s n, ap one_if fail, ap one_if pass, length_two p s n h)
-    | inr none ↦ omega (arith, length_suc p n, length_suc s n, ap one_if fail, ap one_if none, length_two p s n h)
+    | inl pass ↦ omega (
+      arith,
+      length_suc p n,
+      length_suc s n,
+      ap one_if fail,
+      ap one_if pass,
+      length_two p s n h,
+    )
+    | inr none ↦ omega (
+      arith,
+      length_suc p n,
+      length_suc s n,
+      ap one_if fail,
+      ap one_if none,
+      length_two p s n h,
+    )
   ]
 ]
 
 -- Where all numbers below h pass, at least h do.
-pub length_all : (p : ℕ → Bool) (n h : ℕ) → h ≤ n → ((i : ℕ) → i < h → p i ≡ true) → h ≤ length (numbers p n)
+pub length_all : (p : ℕ → Bool) (n h : ℕ) → h ≤ n → ((i : ℕ) → i < h → p i ≡ true)
+    → h ≤ length (numbers p n)
 length_all p zero h l all = omega arith
 length_all p (suc n) h l all = elim (cases_eq h (suc n)) [
-  | inl e ↦ omega (arith, e, length_suc p n, ap one_if (all n (omega (arith, e))), length_all p n n (omega arith) (λ i k. all i (omega (arith, e))))
+  | inl e ↦ omega (
+    arith,
+    e,
+    length_suc p n,
+    ap one_if (all n (omega (arith, e))),
+    length_all p n n (omega arith) (λ i k. all i (omega (arith, e))),
+  )
   | inr ne ↦ omega (arith, length_suc p n, length_all p n h (omega (arith, ne)) all)
 ]

@@ -1,5 +1,7 @@
 -- Laws of the driver's table.
-use Rattle.std.specs.Prelude.{◌≡◌, ◌≢◌, ℕ, zero, suc, ◌<◌, ◌==◌, ◌||◌, Bool, true, false, List, [], ◌∷◌, Option, Some, None, if◌then◌else◌, length, take, slice_index, slice_index_or, refl}
+use Rattle.std.specs.Prelude.{◌≡◌, ◌≢◌, ℕ, zero, suc, ◌<◌, ◌==◌, ◌||◌, Bool, true, false, List, []}
+use Rattle.std.specs.Prelude.{◌∷◌, Option, Some, None, if◌then◌else◌, length, take, slice_index}
+use Rattle.std.specs.Prelude.{slice_index_or, refl}
 use Rattle.std.specs.List.{list_any}
 use Rattle.std.proofs.Common.{sym, ◌∙◌, ap, arith, inl, inr, eq-eqb, min}
 use Rattle.std.proofs.lemmas.Bool.{cases_lt, eqb-true}
@@ -24,14 +26,18 @@ pub is_in-at : (xs : List ℕ) (k : ℕ) → k < length xs → is_in (slice_inde
 is_in-at [] k h = absurd (omega arith)
 is_in-at (x ∷ xs) zero h = ap (λ (b : Bool). b || list_any (λ m. m == x) xs) (same_number x)
 is_in-at (x ∷ xs) (suc k) h =
-    ap (λ (b : Bool). (x == slice_index xs k) || b) (is_in-at xs k (omega arith)) ∙ in_more (x == slice_index xs k)
+    ap (λ (b : Bool). (x == slice_index xs k) || b) (is_in-at xs k (omega arith))
+    ∙ in_more (x == slice_index xs k)
 
 -- What is in a list stands somewhere in it.
-pub is_in-some : (xs : List ℕ) (n : ℕ) → is_in n xs ≡ true → (k : ℕ) × (k < length xs) × (slice_index xs k ≡ n)
+pub is_in-some : (xs : List ℕ) (n : ℕ) → is_in n xs ≡ true
+    → (k : ℕ) × (k < length xs) × (slice_index xs k ≡ n)
 is_in-some [] n h = cc
 is_in-some (x ∷ xs) n h = at (x == n) refl (is_in-some xs n)
   where
-    at : (b : Bool) → (x == n) ≡ b → (is_in n xs ≡ true → (k : ℕ) × (k < length xs) × (slice_index xs k ≡ n)) → (k : ℕ) × (k < length (x ∷ xs)) × (slice_index (x ∷ xs) k ≡ n)
+    at : (b : Bool) → (x == n) ≡ b
+        → (is_in n xs ≡ true → (k : ℕ) × (k < length xs) × (slice_index xs k ≡ n))
+        → (k : ℕ) × (k < length (x ∷ xs)) × (slice_index (x ∷ xs) k ≡ n)
     at true e more = (0, omega arith, eqb-true x n e)
     at false e more =
         let rest : is_in n xs ≡ true = ap (λ (b : Bool). b || is_in n xs) (sym e) ∙ h in
@@ -45,7 +51,8 @@ not_in xs n k h l e =
     (let wrong : true ≡ false = sym there ∙ h in cc)
 
 -- A number that stands nowhere in a list isn't in it.
-pub nowhere_in : (xs : List ℕ) (n : ℕ) → ((k : ℕ) → k < length xs → slice_index xs k ≢ n) → is_in n xs ≡ false
+pub nowhere_in : (xs : List ℕ) (n : ℕ) → ((k : ℕ) → k < length xs → slice_index xs k ≢ n)
+    → is_in n xs ≡ false
 nowhere_in xs n h = at (is_in n xs) refl
   where
     at : (b : Bool) → is_in n xs ≡ b → is_in n xs ≡ false
@@ -55,7 +62,8 @@ nowhere_in xs n h = at (is_in n xs) refl
 -- ---- the lowest of some numbers
 
 -- What a prefix has is what the list has.
-pub take_inside : (xs : List ℕ) (n k : ℕ) → k < length (take n xs) → (k < length xs) × (k < n) × (slice_index (take n xs) k ≡ slice_index xs k)
+pub take_inside : (xs : List ℕ) (n k : ℕ) → k < length (take n xs)
+    → (k < length xs) × (k < n) × (slice_index (take n xs) k ≡ slice_index xs k)
 take_inside xs n k h =
     let len : length (take n xs) ≡ min n (length xs) = length-take n xs in
     let l : k < n = omega (arith, len) in
@@ -64,18 +72,25 @@ take_inside xs n k h =
 -- ---- claimed and released tables
 
 -- An owner in a table of which a path was claimed.
-pub claimed-at : (path : List ℕ) (h : ℕ) (owner : List (Option ℕ)) (i : ℕ) → ((k : ℕ) → k < length path → slice_index path k < length owner)
-    → slice_index_or (claimed path h owner) i None ≡ (if is_in i path then Some h else slice_index_or owner i None)
+pub claimed-at : (path : List ℕ) (h : ℕ) (owner : List (Option ℕ)) (i : ℕ)
+    → ((k : ℕ) → k < length path → slice_index path k < length owner)
+    → slice_index_or (claimed path h owner) i None
+    ≡ (if is_in i path then Some h else slice_index_or owner i None)
 claimed-at path h owner i inside =
     each_page-get (λ n old. if is_in n path then Some h else old) owner i None (λ past.
-    ap (λ (b : Bool). if b then Some h else None) (nowhere_in path i (λ k l e. absurd (omega (arith, inside k l)))))
+    ap (λ (b : Bool). if b then Some h else None)
+    (nowhere_in path i (λ k l e. absurd (omega (arith, inside k l)))))
 
 -- An owner in a table of which a chain was released.
 pub released-at : (h : ℕ) (owner : List (Option ℕ)) (i : ℕ)
-    → slice_index_or (released h owner) i None ≡ (if is_own h (slice_index_or owner i None) then None else slice_index_or owner i None)
+    → slice_index_or (released h owner) i None
+    ≡ (if is_own h (slice_index_or owner i None) then None else slice_index_or owner i None)
 released-at h owner i = elim (cases_lt i (length owner)) [
   | inl l ↦ get_or-map (λ old. if is_own h old then None else old) owner i None None l
   | inr past ↦
-      let len : length (released h owner) ≡ length owner = length-map owner (λ old. if is_own h old then None else old) in
-      get_or_past (released h owner) i None (omega (arith, len)) ∙ ap (λ (o : Option ℕ). if is_own h o then None else o) (sym (get_or_past owner i None past))
+      let len : length (released h owner) ≡ length owner =
+      length-map owner (λ old. if is_own h old then None else old) in
+      get_or_past (released h owner) i None (omega (arith, len))
+      ∙ ap (λ (o : Option ℕ). if is_own h o then None else o)
+      (sym (get_or_past owner i None past))
 ]

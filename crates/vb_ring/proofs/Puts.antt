@@ -7,13 +7,18 @@ use Rattle.vb_ring.specs.Entries.{avail_index, avail_place, used_index, used_pla
 use Rattle.vb_ring.proofs.FrameLaws.{byte_kept}
 use Rattle.vb_ring.specs.Calls.{PutsAvail, PutsUsed, Publishes}
 
-pub puts_avail : (m1 m2 m3 : Pages) (l : Layout) (q next head : ℕ) → PutField 2 m1 m2 l.avail.page (avail_place l q next) head → PutField 2 m2 m3 l.avail.page (avail_index l) ((next + 1) % 65536)
+pub puts_avail : (m1 m2 m3 : Pages) (l : Layout) (q next head : ℕ)
+    → PutField 2 m1 m2 l.avail.page (avail_place l q next) head
+    → PutField 2 m2 m3 l.avail.page (avail_index l) ((next + 1) % 65536)
     → PutsAvail m1 m3 l q next head
 puts_avail m1 m2 m3 l q next head entry index = record {
-  entry = field_in 2 m2 m3 l.avail.page _ _ (avail_place l q next) (same_above m2 m3 l.avail.page _ _ (avail_place l q next) (avail_place l q next + 2) index.rest (omega arith)) (omega arith) (omega arith) ∙ entry.value;
+  entry = field_in 2 m2 m3 l.avail.page _ _ (avail_place l q next)
+      (same_above m2 m3 l.avail.page _ _ (avail_place l q next) (avail_place l q next + 2)
+      index.rest (omega arith)) (omega arith) (omega arith) ∙ entry.value;
   index = index.value;
   rest = record {
-    bytes = λ p o out. byte_kept m2 m3 _ _ _ p o index.rest out.1.0 ∙ byte_kept m1 m2 _ _ _ p o entry.rest out.0;
+    bytes = λ p o out. byte_kept m2 m3 _ _ _ p o index.rest out.1.0
+        ∙ byte_kept m1 m2 _ _ _ p o entry.rest out.0;
     others = λ p out. index.rest.others p out.1.0 ∙ entry.rest.others p out.0;
     backing = λ p. index.rest.backing p ∙ entry.rest.backing p;
     sizes = λ p. index.rest.sizes p ∙ entry.rest.sizes p;
@@ -21,19 +26,39 @@ puts_avail m1 m2 m3 l q next head entry index = record {
   };
 }
 
-pub puts_used : (m1 m2 m3 m4 : Pages) (l : Layout) (q next head count : ℕ) → PutField 4 m1 m2 l.used.page (used_place l q next) head → PutField 4 m2 m3 l.used.page (used_place l q next + 4) count
-    → PutField 2 m3 m4 l.used.page (used_index l) ((next + 1) % 65536) → PutsUsed m1 m4 l q next head count
+pub puts_used : (m1 m2 m3 m4 : Pages) (l : Layout) (q next head count : ℕ)
+    → PutField 4 m1 m2 l.used.page (used_place l q next) head
+    → PutField 4 m2 m3 l.used.page (used_place l q next + 4) count
+    → PutField 2 m3 m4 l.used.page (used_index l) ((next + 1) % 65536)
+    → PutsUsed m1 m4 l q next head count
 puts_used m1 m2 m3 m4 l q next head count id len index = record {
-  id = field_in 4 m3 m4 l.used.page _ _ (used_place l q next) (same_above m3 m4 l.used.page _ _ (used_place l q next) (used_place l q next + 4) index.rest (omega arith)) (omega arith) (omega arith)
-      ∙ field_in 4 m2 m3 l.used.page _ _ (used_place l q next) (same_below m2 m3 l.used.page _ _ (used_place l q next) (used_place l q next + 4) len.rest (omega arith)) (omega arith) (omega arith) ∙ id.value;
-  len = field_in 4 m3 m4 l.used.page _ _ (used_place l q next + 4) (same_above m3 m4 l.used.page _ _ (used_place l q next + 4) (used_place l q next + 8) index.rest (omega arith)) (omega arith) (omega arith) ∙ len.value;
+  id = field_in 4 m3 m4 l.used.page _ _ (used_place l q next)
+      (same_above m3 m4 l.used.page _ _ (used_place l q next) (used_place l q next + 4) index.rest
+      (omega arith)) (omega arith) (omega arith)
+      ∙ field_in 4 m2 m3 l.used.page _ _ (used_place l q next)
+      (same_below m2 m3 l.used.page _ _ (used_place l q next) (used_place l q next + 4) len.rest
+      (omega arith)) (omega arith) (omega arith) ∙ id.value;
+  len = field_in 4 m3 m4 l.used.page _ _ (used_place l q next + 4)
+      (same_above m3 m4 l.used.page _ _ (used_place l q next + 4) (used_place l q next + 8)
+      index.rest (omega arith)) (omega arith) (omega arith) ∙ len.value;
   index = index.value;
   rest = record {
     bytes = λ p o out.
         byte_kept m3 m4 _ _ _ p o index.rest out.1.0
-        ∙ byte_kept m2 m3 _ _ _ p o len.rest (λ i. out.0 (record { page = i.page; from = omega (arith, i.from); to = omega (arith, i.to) }))
-        ∙ byte_kept m1 m2 _ _ _ p o id.rest (λ i. out.0 (record { page = i.page; from = omega (arith, i.from); to = omega (arith, i.to) }));
-    others = λ p out. index.rest.others p out.1.0 ∙ len.rest.others p out.0 ∙ id.rest.others p out.0;
+        ∙ byte_kept m2 m3 _ _ _ p o len.rest
+        (λ i. out.0 (record {
+          page = i.page;
+          from = omega (arith, i.from);
+          to = omega (arith, i.to);
+        }))
+        ∙ byte_kept m1 m2 _ _ _ p o id.rest
+        (λ i. out.0 (record {
+          page = i.page;
+          from = omega (arith, i.from);
+          to = omega (arith, i.to);
+        }));
+    others = λ p out. index.rest.others p out.1.0 ∙ len.rest.others p out.0
+        ∙ id.rest.others p out.0;
     backing = λ p. index.rest.backing p ∙ len.rest.backing p ∙ id.rest.backing p;
     sizes = λ p. index.rest.sizes p ∙ len.rest.sizes p ∙ id.rest.sizes p;
     count = index.rest.count ∙ len.rest.count ∙ id.rest.count;
@@ -41,7 +66,8 @@ puts_used m1 m2 m3 m4 l q next head count id len index = record {
 }
 
 -- the descriptors, and then the entry and the index
-pub publishes : (m1 m2 m3 : Pages) (l : Layout) (q next head : ℕ) → SameBut m1 m2 l.table 0 (16 * q) → PutsAvail m2 m3 l q next head → Publishes m1 m3 l q next head
+pub publishes : (m1 m2 m3 : Pages) (l : Layout) (q next head : ℕ) → SameBut m1 m2 l.table 0 (16 * q)
+    → PutsAvail m2 m3 l q next head → Publishes m1 m3 l q next head
 publishes m1 m2 m3 l q next head table put = record {
   entry = put.entry;
   index = put.index;

@@ -1,5 +1,6 @@
 -- The number that a prefix of some digits shows, and what is left of them.
-use Rattle.std.proofs.Common.{◌≡◌, ℕ, suc, ◌+◌, ◌-◌, ◌*◌, ◌^◌, ◌<◌, ◌≤◌, List, [], ◌∷◌, length, get_or, drop, ap, sym, ◌∙◌, arith}
+use Rattle.std.proofs.Common.{◌≡◌, ℕ, suc, ◌+◌, ◌-◌, ◌*◌, ◌^◌, ◌<◌, ◌≤◌, List, [], ◌∷◌, length}
+use Rattle.std.proofs.Common.{get_or, drop, ap, sym, ◌∙◌, arith}
 use Rattle.std.proofs.Math.Seq.{drop-cons}
 use Rattle.std.proofs.lemmas.List.{drop_all}
 use Rattle.vb_script.specs.Numbers.{IsDecimal, IsDigit, decimal_value, with_digits}
@@ -11,17 +12,20 @@ le-with_digits n (digit ∷ digits) =
     let more = le-with_digits (n * 10 + (digit - 48)) digits in omega (arith, more)
 
 -- where the next byte is no digit, or makes the number too large, the word shows no number
-pub no_number : (word : List ℕ) (i value : ℕ) → decimal_value word ≡ with_digits value (drop i word) → i < length word
+pub no_number : (word : List ℕ) (i value : ℕ) → decimal_value word ≡ with_digits value (drop i word)
+    → i < length word
     → (IsDigit (get_or word i 0) × (value * 10 + (get_or word i 0 - 48) < 2 ^ 32) → ⊥)
     → IsDecimal word × (decimal_value word < 2 ^ 32) → ⊥
 no_number word i value e lt refused (decimal, small) =
-    let next : decimal_value word ≡ with_digits (value * 10 + (get_or word i 0 - 48)) (drop (suc i) word)
+    let next : decimal_value word
+    ≡ with_digits (value * 10 + (get_or word i 0 - 48)) (drop (suc i) word)
     = e ∙ ap (λ rest. with_digits value rest) (drop-cons word i 0 lt) in
     let more = le-with_digits (value * 10 + (get_or word i 0 - 48)) (drop (suc i) word) in
     refused (decimal.1 i 0 lt, omega (arith, next, more, small))
 
 -- at the end of a word its number is the one that all its digits show
-pub whole_number : (word : List ℕ) (i value : ℕ) → decimal_value word ≡ with_digits value (drop i word) → length word ≤ i
+pub whole_number : (word : List ℕ) (i value : ℕ)
+    → decimal_value word ≡ with_digits value (drop i word) → length word ≤ i
     → value ≡ decimal_value word
 whole_number word i value e past =
     sym (e ∙ ap (λ rest. with_digits value rest) (drop_all i word past))

@@ -3,7 +3,8 @@
 ghost use Rattle.std.specs.Prelude.{◌≡◌, ◌≤◌, IfOk, IfSome, IsTrue, true};
 ghost use Rattle.vb_model.specs.Brought.{is_brought};
 ghost use Rattle.vb_script.specs.Events.{event_of};
-ghost use Rattle.vb_script.specs.Lines.{answered_event_of, host_of, is_pace_brought, is_paced, spare_of};
+ghost use Rattle.vb_script.specs.Lines.{answered_event_of, host_of, is_pace_brought, is_paced};
+ghost use Rattle.vb_script.specs.Lines.{spare_of};
 ghost use Rattle.vb_script.specs.Lines.{answered_spare_of};
 ghost use Rattle.vb_script.specs.Names.{pace_of};
 ghost use Rattle.vb_script.specs.Words.{words_of};

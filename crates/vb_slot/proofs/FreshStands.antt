@@ -1,5 +1,6 @@
 -- A slot stands for its guest as it is plugged in.
-use Rattle.std.specs.Prelude.{◌≡◌, ℕ, nat_lt, Bool, true, false, if◌then◌else◌, List, [], length, None, replicate, slice_index_or, refl}
+use Rattle.std.specs.Prelude.{◌≡◌, ℕ, nat_lt, Bool, true, false, if◌then◌else◌, List, [], length}
+use Rattle.std.specs.Prelude.{None, replicate, slice_index_or, refl}
 use Rattle.std.specs.List.{range_with_len}
 use Rattle.std.proofs.Common.{sym, ◌∙◌, ap, subst, arith, inl, inr}
 use Rattle.std.proofs.lemmas.Bool.{cases_lt}
@@ -28,7 +29,8 @@ everywhere {A} n x p = elim (cases_lt p n) [
 ]
 
 none_out : (most : ℕ) → AreOrderly most no_requests
-none_out most = record { heads = λ head. omega arith; few = omega arith; posted = tt; taken = tt; done = tt }
+none_out most = record
+    { heads = λ head. omega arith; few = omega arith; posted = tt; taken = tt; done = tt }
 
 fresh_orderly : (config : Config) (target : ℕ) → IsOrderly (fresh config target)
 fresh_orderly config target = record {
@@ -36,9 +38,13 @@ fresh_orderly config target = record {
   deflating = none_out _;
   reporting = none_out 1;
   state = inl refl;
-  tabled = length-map (range_with_len 0 config.pages) (λ page. if nat_lt page reserved_pages then Reserved else Free) ∙ length-range_with_len 0 config.pages;
+  tabled = length-map (range_with_len 0 config.pages)
+      (λ page. if nat_lt page reserved_pages then Reserved else Free)
+      ∙ length-range_with_len 0 config.pages;
   unreserved = λ page lt.
-      ap is_reserved (get_or-map-range_with_len (λ page. if nat_lt page reserved_pages then Reserved else Free) 0 config.pages page page Reserved lt (omega arith)) ∙ is (nat_lt page reserved_pages);
+      ap is_reserved (get_or-map-range_with_len
+      (λ page. if nat_lt page reserved_pages then Reserved else Free) 0 config.pages page page
+      Reserved lt (omega arith)) ∙ is (nat_lt page reserved_pages);
 }
   where
     is : (b : Bool) → is_reserved (if b then Reserved else Free) ≡ b
@@ -52,17 +58,34 @@ bare_pages n = record {
   framed = length-replicate n None;
   filled = length-replicate n zero_page;
   behind = λ p. ap number_of (everywhere n None p) ∙ sym (everywhere n None p);
-  holds = λ p high lt. ap contents_of (everywhere n None p) ∙ sym (get_or-replicate n p zero_page [] lt);
-  sizes = λ p high lt. ap (λ (xs : List ℕ). length xs) (get_or-replicate n p zero_page [] lt) ∙ length-zero_page;
+  holds = λ p high lt. ap contents_of (everywhere n None p)
+      ∙ sym (get_or-replicate n p zero_page [] lt);
+  sizes = λ p high lt. ap (λ (xs : List ℕ). length xs) (get_or-replicate n p zero_page [] lt)
+      ∙ length-zero_page;
 }
 
-pub fresh_stands : (m1 m2 : Pages) (p1 p2 : Part) (d : DriverState) (sizes : Sizes) → is_config sizes.pages sizes.queue_size sizes.processors ≡ true → IsSpare m1 p1 → m2 ≡ replicate sizes.pages None → p2 ≡ attached sizes p1
+pub fresh_stands : (m1 m2 : Pages) (p1 p2 : Part) (d : DriverState) (sizes : Sizes)
+    → is_config sizes.pages sizes.queue_size sizes.processors ≡ true → IsSpare m1 p1
+    → m2 ≡ replicate sizes.pages None → p2 ≡ attached sizes p1
     → d ≡ fresh_driver sizes.pages sizes.queue_size sizes.processors
-    → Stands m2 p2 d (fresh (record { pages = sizes.pages; queue_size = sizes.queue_size; processors = sizes.processors; paced = p1.paced }) 0)
+    → Stands m2 p2 d (fresh
+    (record {
+      pages = sizes.pages;
+      queue_size = sizes.queue_size;
+      processors = sizes.processors;
+      paced = p1.paced;
+    }) 0)
 fresh_stands m1 m2 p1 p2 d sizes fits spare m p new =
-    let config : Config = record { pages = sizes.pages; queue_size = sizes.queue_size; processors = sizes.processors; paced = p1.paced } in
+    let config : Config =
+    record {
+      pages = sizes.pages;
+      queue_size = sizes.queue_size;
+      processors = sizes.processors;
+      paced = p1.paced;
+    } in
     let g : Guest = fresh config 0 in
-    let there : Ties (replicate sizes.pages None) (attached sizes p1) (fresh_driver sizes.pages sizes.queue_size sizes.processors) g = record {
+    let there : Ties (replicate sizes.pages None) (attached sizes p1)
+    (fresh_driver sizes.pages sizes.queue_size sizes.processors) g = record {
       parts = record {
         guest = record {
           honest = refl;
@@ -93,10 +116,20 @@ fresh_stands m1 m2 p1 p2 d sizes fits spare m p new =
         };
       };
       pages = bare_pages sizes.pages;
-      queues = inl (record { state = inl refl; inflate = refl; deflate = refl; ballooned = refl; actual = refl; last = refl });
+      queues = inl (record {
+        state = inl refl;
+        inflate = refl;
+        deflate = refl;
+        ballooned = refl;
+        actual = refl;
+        last = refl;
+      });
     } in
     record {
-      ties = subst (λ (x : Pages). Ties x p2 d g) (sym m) (subst (λ (x : Part). Ties (replicate sizes.pages None) x d g) (sym p) (subst (λ (x : DriverState). Ties (replicate sizes.pages None) (attached sizes p1) x g) (sym new) there));
+      ties = subst (λ (x : Pages). Ties x p2 d g) (sym m)
+          (subst (λ (x : Part). Ties (replicate sizes.pages None) x d g) (sym p)
+          (subst (λ (x : DriverState). Ties (replicate sizes.pages None) (attached sizes p1) x g)
+          (sym new) there));
       consistent = fresh_consistent config 0;
       orderly = fresh_orderly config 0;
     }

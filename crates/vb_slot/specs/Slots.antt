@@ -8,5 +8,6 @@ use Rattle.vb_slot.specs.declared.slot.Slot.{Slot}
 use Rattle.vb_guest.specs.Stands.{Stands}
 
 -- The driver, and the boxed device with its memory, are those of this guest.
-abbrev pub stands_for : {X : Type 0} {F : X → Type 0} → (DynBox X Global F → Pages) → (DynBox X Global F → Part) → Slot X F → Guest → Type 0
+abbrev pub stands_for : {X : Type 0} {F : X → Type 0} → (DynBox X Global F → Pages)
+    → (DynBox X Global F → Part) → Slot X F → Guest → Type 0
 stands_for mem part s g = Stands (mem s.device.device) (part s.device.device) s.driver g

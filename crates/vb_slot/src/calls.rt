@@ -4,7 +4,9 @@ ghost use Rattle.std.specs.Prelude.{ℕ};
 ghost use Rattle.vb_model.specs.declared.replies.Reply.TheVariants.{Done, Places, Backing};
 ghost use Rattle.vb_model.specs.Guest.{Guest};
 ghost use Rattle.vb_model.specs.World.{Answers};
-ghost use Rattle.vb_guest.specs.Replies.{ready_reply, page_reply, done_reply, bytes_reply, posted_reply, reaped_reply, taken_reply, finished_reply, swept_reply, runs_reply, balloon_reply};
+ghost use Rattle.vb_guest.specs.Replies.{ready_reply, page_reply, done_reply, bytes_reply};
+ghost use Rattle.vb_guest.specs.Replies.{posted_reply, reaped_reply, taken_reply, finished_reply};
+ghost use Rattle.vb_guest.specs.Replies.{swept_reply, runs_reply, balloon_reply};
 ghost use Rattle.vb_guest.specs.Steps.{AreOut, Steps, StepsAlone};
 ghost use Rattle.vb_slot.specs.Slots.{stands_for};
 
@@ -30,7 +32,8 @@ impl Slot {
     /// `BadOrder`, `BadCpu` and `NotHeld`, tested in this order.
     pub fn free(&mut self, cpu: u32, start: u32, order: u32) -> Result<(), Refusal>
         ensures step { (g : Guest) → stands_for mem part self.old g
-            → StepsAlone (stands_for mem part self.new) g (Call.Free cpu start order) (done_reply result) }
+            → StepsAlone (stands_for mem part self.new) g (Call.Free cpu start order)
+            (done_reply result) }
     {
         vb_guest::free(&mut self.driver, cpu, start, order)
     }
@@ -40,7 +43,8 @@ impl Slot {
     pub fn read(&self, alloc: Global, page: u32, offset: u32, len: u32) -> Result<Bytes, Refusal>
         requires { (g : Guest) × stands_for mem part self.now g }
         ensures step { (g : Guest) → stands_for mem part self.now g
-            → StepsAlone (stands_for mem part self.now) g (Call.Read page offset len) (bytes_reply result) }
+            → StepsAlone (stands_for mem part self.now) g (Call.Read page offset len)
+            (bytes_reply result) }
     {
         vb_guest::read(alloc, &self.driver, &self.device, page, offset, len)
     }
@@ -57,7 +61,8 @@ impl Slot {
     ) -> Result<(), Refusal>
         requires { (g : Guest) × stands_for mem part self.old g }
         ensures step { (g : Guest) → stands_for mem part self.old g
-            → Steps (stands_for mem part self.new) K.answers (K.out keeper.old) (K.out keeper.new) g (Call.Write page offset bytes.now) (done_reply result) }
+            → Steps (stands_for mem part self.new) K.answers (K.out keeper.old) (K.out keeper.new) g
+            (Call.Write page offset bytes.now) (done_reply result) }
     {
         vb_guest::write(&self.driver, &mut self.device, keeper, page, offset, bytes)
     }
@@ -68,7 +73,8 @@ impl Slot {
     pub fn init<K: FrameKeeper>(&mut self, keeper: &mut K, wanted: u64) -> Result<(), Refusal>
         requires { (g : Guest) × stands_for mem part self.old g }
         ensures step { (g : Guest) → stands_for mem part self.old g
-            → Steps (stands_for mem part self.new) K.answers (K.out keeper.old) (K.out keeper.new) g (Call.Init wanted) (ready_reply result) }
+            → Steps (stands_for mem part self.new) K.answers (K.out keeper.old) (K.out keeper.new) g
+            (Call.Init wanted) (ready_reply result) }
     {
         vb_guest::init(&mut self.driver, &mut self.device, keeper, wanted)
     }
@@ -141,7 +147,8 @@ impl Slot {
     ) -> Result<u16, Refusal>
         requires { (g : Guest) × stands_for mem part self.old g × AreOut g (K.out keeper.old) }
         ensures step { (g : Guest) → stands_for mem part self.old g
-            → Steps (stands_for mem part self.new) K.answers (K.out keeper.old) (K.out keeper.new) g (Call.Finish queue index) (finished_reply result) }
+            → Steps (stands_for mem part self.new) K.answers (K.out keeper.old) (K.out keeper.new) g
+            (Call.Finish queue index) (finished_reply result) }
     {
         vb_guest::finish(&mut self.device, keeper, queue, index)
     }
@@ -151,7 +158,8 @@ impl Slot {
     pub fn sweep<K: FrameKeeper>(&mut self, keeper: &mut K, page: u32) -> Result<bool, Refusal>
         requires { (g : Guest) × stands_for mem part self.old g × AreOut g (K.out keeper.old) }
         ensures step { (g : Guest) → stands_for mem part self.old g
-            → Steps (stands_for mem part self.new) K.answers (K.out keeper.old) (K.out keeper.new) g (Call.Sweep page) (swept_reply result) }
+            → Steps (stands_for mem part self.new) K.answers (K.out keeper.old) (K.out keeper.new) g
+            (Call.Sweep page) (swept_reply result) }
     {
         vb_guest::sweep(&mut self.device, keeper, page)
     }
@@ -166,7 +174,8 @@ impl Slot {
 
     /// How many pages each place has.
     pub fn places(&self) -> PlaceCounts
-        ensures answer { (g : Guest) → stands_for mem part self.now g → Answers (Query.Places) g (Places result) }
+        ensures answer { (g : Guest) → stands_for mem part self.now g
+            → Answers (Query.Places) g (Places result) }
     {
         vb_guest::places(&self.driver)
     }
@@ -174,7 +183,8 @@ impl Slot {
     /// Which pages are at a place, as runs by rising page. Want of memory is the only refusal.
     pub fn pages_at(&self, alloc: Global, place: Place) -> Result<PageRuns, AllocError>
         requires { (g : Guest) × stands_for mem part self.now g }
-        ensures answer { (g : Guest) → stands_for mem part self.now g → Answers (Query.PagesAt place) g (runs_reply result) }
+        ensures answer { (g : Guest) → stands_for mem part self.now g
+            → Answers (Query.PagesAt place) g (runs_reply result) }
     {
         vb_guest::pages_at(alloc, &self.driver, &self.device, place)
     }
@@ -183,7 +193,8 @@ impl Slot {
     /// only refusal.
     pub fn pages_ballooned(&self, alloc: Global) -> Result<PageRuns, AllocError>
         requires { (g : Guest) × stands_for mem part self.now g }
-        ensures answer { (g : Guest) → stands_for mem part self.now g → Answers (Query.PagesBallooned) g (runs_reply result) }
+        ensures answer { (g : Guest) → stands_for mem part self.now g
+            → Answers (Query.PagesBallooned) g (runs_reply result) }
     {
         vb_guest::pages_ballooned(alloc, &self.device)
     }
@@ -191,14 +202,16 @@ impl Slot {
     /// The count of ballooned pages, the configuration's two numbers (VIRTIO 1.1, 5.5.4) and the
     /// status.
     pub fn balloon(&self) -> BalloonState
-        ensures answer { (g : Guest) → stands_for mem part self.now g → Answers (Query.Balloon) g (balloon_reply result) }
+        ensures answer { (g : Guest) → stands_for mem part self.now g
+            → Answers (Query.Balloon) g (balloon_reply result) }
     {
         vb_guest::balloon(&self.driver, &self.device)
     }
 
     /// The number of the frame behind a page; none where it has none, or isn't there.
     pub fn backing(&self, page: u32) -> Option<u32>
-        ensures answer { (g : Guest) → stands_for mem part self.now g → Answers (Query.Backing page) g (Backing result) }
+        ensures answer { (g : Guest) → stands_for mem part self.now g
+            → Answers (Query.Backing page) g (Backing result) }
     {
         self.device.backing(page)
     }

@@ -30,7 +30,8 @@ pub trait GuestSlot: Drop {
         requires stands { (g : Guest) × stands self.old g × AreOut g (K.out keeper.old) }
         requires brought { is_call_brought call.now ≡ true }
         ensures step { (g : Guest) → stands self.old g
-            → Steps (stands self.new) K.answers (K.out keeper.old) (K.out keeper.new) g call.now result };
+            → Steps (stands self.new) K.answers (K.out keeper.old) (K.out keeper.new) g call.now
+            result };
 
     /// Answers a question about the guest.
     fn query(&self, alloc: Global, query: &Query) -> Reply
@@ -52,10 +53,12 @@ impl Slot {
     /// Answers a call on the guest. Frames that its pages gain are claimed from the keeper, and
     /// those that they lose are put back.
     pub fn call<K: FrameKeeper>(&mut self, alloc: Global, keeper: &mut K, call: &Call) -> Reply
-        requires stands { (g : Guest) × stands_for mem part self.old g × AreOut g (K.out keeper.old) }
+        requires stands { (g : Guest) × stands_for mem part self.old g
+            × AreOut g (K.out keeper.old) }
         requires brought { is_call_brought call.now ≡ true }
         ensures step { (g : Guest) → stands_for mem part self.old g
-            → Steps (stands_for mem part self.new) K.answers (K.out keeper.old) (K.out keeper.new) g call.now result }
+            → Steps (stands_for mem part self.new) K.answers (K.out keeper.old) (K.out keeper.new) g
+            call.now result }
     {
         vb_guest::call(alloc, &mut self.driver, &mut self.device, keeper, call)
     }
@@ -73,7 +76,9 @@ impl Slot {
 impl GuestSlot for Slot {
     ghost use Rattle.vb_guest.specs.Stands.{Stands};
 
-    ghost stands = { λ s g. Stands ((Device-box s.device.device).GuestBytes.mem s.device.device.value) ((Device-box s.device.device).GuestBytes.part s.device.device.value) s.driver g };
+    ghost stands = { λ s g. Stands
+        ((Device-box s.device.device).GuestBytes.mem s.device.device.value)
+        ((Device-box s.device.device).GuestBytes.part s.device.device.value) s.driver g };
 
     fn call<K: FrameKeeper>(&mut self, alloc: Global, keeper: &mut K, call: &Call) -> Reply {
         self.call(alloc, keeper, call)
@@ -99,8 +104,16 @@ impl Slot {
     ) -> Result<Slot, NoSlot>
         requires spare { IsSpare (mem device) (part device) }
         requires config { is_config config.pages config.queue_size config.processors ≡ true }
-        ensures made { IfOk result (λ slot. ⟦<Slot as GuestSlot>⟧.stands slot (fresh (record { pages = config.pages; queue_size = config.queue_size; processors = config.processors; paced = (part device).paced }) 0)) }
-        ensures refused { IfErr result (λ refused. (mem refused.device ≡ mem device) × (part refused.device ≡ part device)) }
+        ensures made { IfOk result
+            (λ slot. ⟦<Slot as GuestSlot>⟧.stands slot
+            (fresh (record {
+              pages = config.pages;
+              queue_size = config.queue_size;
+              processors = config.processors;
+              paced = (part device).paced;
+            }) 0)) }
+        ensures refused { IfErr result
+            (λ refused. (mem refused.device ≡ mem device) × (part refused.device ≡ part device)) }
     {
         let driver = match Driver::new(alloc, config) {
             Ok(driver) => driver,

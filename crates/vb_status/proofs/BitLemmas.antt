@@ -13,4 +13,5 @@ times_is p (suc zero) h l = grind (arith, nat_tests)
 times_is p (suc (suc b)) h l = absurd (omega arith)
 
 pub contains_bit : (k f : ℕ) → eqb (bit_and f (2 ^ k)) (2 ^ k) ≡ has_bit f k
-contains_bit k f = ap (λ (n : ℕ). eqb n (2 ^ k)) (and_pow f k) ∙ times_is (2 ^ k) (bit_at f k) (pow_pos k) (bit_at-lt f k)
+contains_bit k f = ap (λ (n : ℕ). eqb n (2 ^ k)) (and_pow f k)
+    ∙ times_is (2 ^ k) (bit_at f k) (pow_pos k) (bit_at-lt f k)

@@ -1,9 +1,15 @@
 -- What a refused call says, in the words of the rules.
 use Rattle.std.specs.Prelude.{Option, Some, None, Result, Ok, Err}
 use Rattle.vb_model.specs.declared.replies.Refusal.{Refusal}
-use Rattle.vb_model.specs.declared.replies.Refusal.TheVariants.{ClearsBit, OutOfOrder, FeatureNotOffered, MustTellMissing, VersionMissing}
+use Rattle.vb_model.specs.declared.replies.Refusal.TheVariants.{ClearsBit, OutOfOrder}
+use Rattle.vb_model.specs.declared.replies.Refusal.TheVariants.{FeatureNotOffered, MustTellMissing}
+use Rattle.vb_model.specs.declared.replies.Refusal.TheVariants.{VersionMissing}
 use Rattle.vb_status.specs.declared.bits.StatusFault.{StatusFault}
-use Rattle.vb_status.specs.declared.bits.StatusFault.TheVariants.{ClearsBit as ClearsBitFault, OutOfOrder as OutOfOrderFault, FeatureNotOffered as FeatureNotOfferedFault, MustTellMissing as MustTellMissingFault, VersionMissing as VersionMissingFault}
+use Rattle.vb_status.specs.declared.bits.StatusFault.TheVariants.{ClearsBit as ClearsBitFault}
+use Rattle.vb_status.specs.declared.bits.StatusFault.TheVariants.{OutOfOrder as OutOfOrderFault}
+use Rattle.vb_status.specs.declared.bits.StatusFault.TheVariants.{FeatureNotOffered as FeatureNotOfferedFault}
+use Rattle.vb_status.specs.declared.bits.StatusFault.TheVariants.{MustTellMissing as MustTellMissingFault}
+use Rattle.vb_status.specs.declared.bits.StatusFault.TheVariants.{VersionMissing as VersionMissingFault}
 
 abbrev pub refusal_of_fault : StatusFault → Refusal
 refusal_of_fault ClearsBitFault = ClearsBit

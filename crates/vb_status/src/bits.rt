@@ -71,7 +71,8 @@ impl Features {
     pub const OFFERED: Features = Features(0x1_0000_0027);
 
     ghost use Rattle.std.specs.Prelude.{◌≡◌};
-    ghost use Rattle.vb_model.specs.Guest.{must_tell_host, stats_vq, deflate_on_oom, reporting, version_1};
+    ghost use Rattle.vb_model.specs.Guest.{must_tell_host, stats_vq, deflate_on_oom, reporting};
+    ghost use Rattle.vb_model.specs.Guest.{version_1};
     ghost use Rattle.vb_status.specs.Bits.{feature_bits};
 
     /// Whether a page that is given up is used again only after the host was told.
@@ -116,7 +117,8 @@ impl Flags for Features {
     ghost exact = { ⊤ };
 
     ghost table = { (codes "MUST_TELL_HOST", 1) ∷ (codes "STATS_VQ", 2) ∷
-        (codes "DEFLATE_ON_OOM", 4) ∷ (codes "REPORTING", 32) ∷ (codes "VERSION_1", 0x100000000) ∷ [] };
+        (codes "DEFLATE_ON_OOM", 4) ∷ (codes "REPORTING", 32) ∷ (codes "VERSION_1", 0x100000000)
+        ∷ [] };
 
     ghost set_of = { λ s. s.0 };
 

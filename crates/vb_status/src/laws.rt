@@ -3,7 +3,8 @@
 ghost use Rattle.std.specs.Prelude.{◌≡◌, ℕ, true, None, [], ◌∷◌, List, IsTrue};
 ghost use Rattle.vb_model.specs.Guest.{must_tell_host, version_1};
 ghost use Rattle.vb_model.specs.Status.{status_refusal, contains, features_ok};
-ghost use Rattle.vb_status.specs.Agreement.{StatusRequest, Agreement, Leads, AreSteps, unplugged, changes, outcome, initialisation, initialised};
+ghost use Rattle.vb_status.specs.Agreement.{StatusRequest, Agreement, Leads, AreSteps, unplugged};
+ghost use Rattle.vb_status.specs.Agreement.{changes, outcome, initialisation, initialised};
 
 /// An initialisation by ACKNOWLEDGE, DRIVER, the features, FEATURES_OK and DRIVER_OK makes any
 /// device ready with these features, or meets the first refusal of FeatureNotOffered,

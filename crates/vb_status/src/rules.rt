@@ -3,7 +3,9 @@
 ghost use Rattle.std.specs.Prelude.{◌≡◌, ◌==◌, IfOk};
 ghost use Rattle.vb_model.specs.Guest.{must_tell_host, version_1};
 ghost use Rattle.vb_model.specs.Refusals.{first_refusal};
-ghost use Rattle.vb_model.specs.Status.{status_refusal, negotiate_refusal, needed_tests, adds, adds_any, adds_more, skips, is_broken, is_out_of_order, steps, not_for_drivers};
+ghost use Rattle.vb_model.specs.Status.{status_refusal, negotiate_refusal, needed_tests, adds};
+ghost use Rattle.vb_model.specs.Status.{adds_any, adds_more, skips, is_broken, is_out_of_order};
+ghost use Rattle.vb_model.specs.Status.{steps, not_for_drivers};
 ghost use Rattle.vb_status.specs.Answers.{answered_refusal};
 ghost use Rattle.vb_status.specs.Bits.{status_bits, feature_bits};
 

@@ -1,18 +1,21 @@
 -- What an event does to a host is what it does to its world.
-use Rattle.std.proofs.Common.{◌≡◌, ℕ, ◌-◌, ◌<◌, Bool, true, cond, List, length, refl, sym, ap, subst, ◌∙◌, inl, inr, arith, Option, Some, None, is_some, count_by}
+use Rattle.std.proofs.Common.{◌≡◌, ℕ, ◌-◌, ◌<◌, Bool, true, cond, List, length, refl, sym, ap}
+use Rattle.std.proofs.Common.{subst, ◌∙◌, inl, inr, arith, Option, Some, None, is_some, count_by}
 use Rattle.std.proofs.lemmas.List.{get_or-set_same, get_or-set_other, get_or_past}
 use Rattle.std.proofs.lemmas.List.Sums.{sum_by-set}
 use Rattle.std.proofs.lemmas.Bool.{cases_lt}
 use Rattle.std.proofs.lemmas.Bool.Decides.{eqb_tells}
 use Rattle.slab.specs.Slab.{Slab, get, slab_len, with_value}
 use Rattle.vb_model.specs.declared.calls.Call.{Call}
-use Rattle.vb_model.specs.declared.calls.Event.TheVariants.{Guest as OnGuest, Query as Asking, Frames as CountFrames}
+use Rattle.vb_model.specs.declared.calls.Event.TheVariants.{Guest as OnGuest, Query as Asking}
+use Rattle.vb_model.specs.declared.calls.Event.TheVariants.{Frames as CountFrames}
 use Rattle.vb_model.specs.declared.calls.Query.{Query}
 use Rattle.vb_model.specs.declared.replies.Reply.{Reply}
 use Rattle.vb_model.specs.declared.replies.Reply.TheVariants.{Frames, Refused}
 use Rattle.vb_model.specs.declared.replies.Refusal.TheVariants.{NoGuest}
 use Rattle.vb_model.specs.Guest.{Guest}
-use Rattle.vb_model.specs.World.{World, WorldStep, guest_at, with_guest, put_guest, used_frames, Gives, IsOut, Answers, plugged_count}
+use Rattle.vb_model.specs.World.{World, WorldStep, guest_at, with_guest, put_guest, used_frames}
+use Rattle.vb_model.specs.World.{Gives, IsOut, Answers, plugged_count}
 use Rattle.vb_model.proofs.Changes.{with_guest-same, with_guest-other}
 use Rattle.vb_frames.specs.Out.{is_out, TableAnswers}
 use Rattle.vb_frames.proofs.Returns.{same_gives}
@@ -22,16 +25,24 @@ use Rattle.vb_world.specs.Hosts.{IsHost, StandsAt, backing_at}
 use Rattle.vb_world.proofs.Guests.{backing-with, backing-part, count-with, backs_out, out_backs}
 use Rattle.vb_world.proofs.Frames.{used_are_out}
 
-module _ {S D : Type 0} (Stand : S → Guest → Type 0) (Spare : D → Bool → Type 0) (slots : Slab S) (out : List Bool) (devices : List D) (w : World) where
-  pub frames_counted : (used total : ℕ) → IsHost Stand Spare slots out devices w → used ≡ count_by (λ b. b) out → total ≡ length out → WorldStep w CountFrames (Frames used (total - used)) w
+module _ {S D : Type 0} (Stand : S → Guest → Type 0) (Spare : D → Bool → Type 0) (slots : Slab S)
+    (out : List Bool) (devices : List D) (w : World) where
+  pub frames_counted : (used total : ℕ) → IsHost Stand Spare slots out devices w
+      → used ≡ count_by (λ b. b) out → total ≡ length out
+      → WorldStep w CountFrames (Frames used (total - used)) w
   frames_counted used total host u t =
       let e : used ≡ used_frames w = u ∙ sym (used_are_out w out host.backed) in
-      let f : total ≡ w.frames = t ∙ host.frames in
-      (ap (λ (n : ℕ). Frames n (total - n)) e ∙ ap (λ (n : ℕ). Frames (used_frames w) (n - used_frames w)) f, refl)
+      let f : total ≡ w.frames = t ∙ host.frames in (
+        ap (λ (n : ℕ). Frames n (total - n)) e
+            ∙ ap (λ (n : ℕ). Frames (used_frames w) (n - used_frames w)) f,
+        refl,
+      )
 
   -- there is no slot, and so no guest
-  pub no_guest : (n : ℕ) → IsHost Stand Spare slots out devices w → get slots n ≡ None → guest_at w.guests n ≡ None
-  no_guest n host e = of (guest_at w.guests n) (subst (λ (o : Option S). StandsAt Stand o (guest_at w.guests n)) e (host.guests n))
+  pub no_guest : (n : ℕ) → IsHost Stand Spare slots out devices w → get slots n ≡ None
+      → guest_at w.guests n ≡ None
+  no_guest n host e = of (guest_at w.guests n)
+      (subst (λ (o : Option S). StandsAt Stand o (guest_at w.guests n)) e (host.guests n))
     where
       of : (o : Option Guest) → StandsAt Stand None o → o ≡ None
       of None h = refl
@@ -43,28 +54,36 @@ module _ {S D : Type 0} (Stand : S → Guest → Type 0) (Spare : D → Bool →
     pub there : guest_at w.guests n ≡ Some guest
     pub stands : Stand s guest
 
-  pub guest_of : (n : ℕ) (s : S) → IsHost Stand Spare slots out devices w → get slots n ≡ Some s → HasGuest n s
-  guest_of n s host e = of (guest_at w.guests n) refl (subst (λ (o : Option S). StandsAt Stand o (guest_at w.guests n)) e (host.guests n))
+  pub guest_of : (n : ℕ) (s : S) → IsHost Stand Spare slots out devices w → get slots n ≡ Some s
+      → HasGuest n s
+  guest_of n s host e =
+      of (guest_at w.guests n) refl
+      (subst (λ (o : Option S). StandsAt Stand o (guest_at w.guests n)) e (host.guests n))
     where
       of : (o : Option Guest) → guest_at w.guests n ≡ o → StandsAt Stand (Some s) o → HasGuest n s
       of None there h = absurd h
       of (Some g) there h = record { guest = g; there = there; stands = h }
 
-  pub no_guest_step : (n : ℕ) (call : Call) → IsHost Stand Spare slots out devices w → get slots n ≡ None → WorldStep w (OnGuest n call) (Refused NoGuest) w
+  pub no_guest_step : (n : ℕ) (call : Call) → IsHost Stand Spare slots out devices w
+      → get slots n ≡ None → WorldStep w (OnGuest n call) (Refused NoGuest) w
   no_guest_step n call host e = rw (no_guest n host e) (refl, refl)
 
-  pub no_guest_query : (n : ℕ) (query : Query) → IsHost Stand Spare slots out devices w → get slots n ≡ None → WorldStep w (Asking n query) (Refused NoGuest) w
+  pub no_guest_query : (n : ℕ) (query : Query) → IsHost Stand Spare slots out devices w
+      → get slots n ≡ None → WorldStep w (Asking n query) (Refused NoGuest) w
   no_guest_query n query host e = rw (no_guest n host e) (refl, refl)
 
-  pub guest_query : (n : ℕ) (s : S) (query : Query) (reply : Reply) → IsHost Stand Spare slots out devices w → get slots n ≡ Some s
+  pub guest_query : (n : ℕ) (s : S) (query : Query) (reply : Reply)
+      → IsHost Stand Spare slots out devices w → get slots n ≡ Some s
       → ((g : Guest) → Stand s g → Answers query g reply) → WorldStep w (Asking n query) reply w
   guest_query n s query reply host e answers =
       let has = guest_of n s host e in
       rw has.there (answers has.guest has.stands, refl)
 
   -- each frame that backs a page of a guest is out
-  pub guest_frames : (n : ℕ) (s : S) → IsHost Stand Spare slots out devices w → get slots n ≡ Some s → (has : HasGuest n s) → AreOut has.guest out
-  guest_frames n s host e has f = omega (arith, host.backed f, backing-part f n w.guests has.guest has.there)
+  pub guest_frames : (n : ℕ) (s : S) → IsHost Stand Spare slots out devices w → get slots n ≡ Some s
+      → (has : HasGuest n s) → AreOut has.guest out
+  guest_frames n s host e has f =
+      omega (arith, host.backed f, backing-part f n w.guests has.guest has.there)
 
   -- ---- a guest's step
 
@@ -75,49 +94,77 @@ module _ {S D : Type 0} (Stand : S → Guest → Type 0) (Spare : D → Bool →
   ]
 
   -- the slot of one number is another, and so is the guest
-  stands_with : (n : ℕ) (s s' : S) (g : Guest) → IsHost Stand Spare slots out devices w → get slots n ≡ Some s → Stand s' g
-      → (m : ℕ) → StandsAt Stand (get (with_value slots n s') m) (guest_at (with_guest n (Some g) w.guests) m)
+  stands_with : (n : ℕ) (s s' : S) (g : Guest) → IsHost Stand Spare slots out devices w
+      → get slots n ≡ Some s → Stand s' g
+      → (m : ℕ) → StandsAt Stand (get (with_value slots n s') m)
+      (guest_at (with_guest n (Some g) w.guests) m)
   stands_with n s s' g host e stands m = elim (eqb_tells m n) [
     | inl same ↦
-        subst (λ (k : ℕ). StandsAt Stand (get (with_value slots n s') k) (guest_at (with_guest n (Some g) w.guests) k)) (sym same.1)
-        (rw (get_or-set_same slots.slots n (Some s') None (within n s e), with_guest-same n (Some g) w.guests) stands)
-    | inr other ↦ rw (get_or-set_other slots.slots n m (Some s') None other.1, with_guest-other n m (Some g) w.guests (λ h. other.1 (sym h))) (host.guests m)
+        subst (λ (k : ℕ). StandsAt Stand (get (with_value slots n s') k)
+        (guest_at (with_guest n (Some g) w.guests) k)) (sym same.1)
+        (rw (
+          get_or-set_same slots.slots n (Some s') None (within n s e),
+          with_guest-same n (Some g) w.guests,
+        ) stands)
+    | inr other ↦ rw (
+      get_or-set_other slots.slots n m (Some s') None other.1,
+      with_guest-other n m (Some g) w.guests (λ h. other.1 (sym h)),
+    ) (host.guests m)
   ]
 
-  count_with : (n : ℕ) (s s' : S) → get slots n ≡ Some s → slab_len (with_value slots n s') ≡ slab_len slots
+  count_with : (n : ℕ) (s s' : S) → get slots n ≡ Some s
+      → slab_len (with_value slots n s') ≡ slab_len slots
   count_with n s s' e =
-      let a = sum_by-set (λ (x : Option S). cond (is_some x) 1 0) slots.slots n (Some s') None (within n s e) in
+      let a = sum_by-set (λ (x : Option S). cond (is_some x) 1 0) slots.slots n (Some s') None
+      (within n s e) in
       let b = ap {B = ℕ} (λ (x : Option S). cond (is_some x) 1 0) e in
       omega (arith, a, b)
 
-  plugged_with : (n : ℕ) (g : Guest) → (has : Option Guest) → guest_at w.guests n ≡ has → is_some has ≡ true → plugged_count (put_guest n (Some g) w) ≡ plugged_count w
+  plugged_with : (n : ℕ) (g : Guest) → (has : Option Guest) → guest_at w.guests n ≡ has
+      → is_some has ≡ true → plugged_count (put_guest n (Some g) w) ≡ plugged_count w
   plugged_with n g has there some =
       let a = count-with n (Some g) w.guests in
       let b = ap {B = ℕ} (λ (x : Option Guest). cond (is_some x) 1 0) there in
       let c = ap {B = ℕ} (λ (x : Bool). cond x 1 0) some in
       omega (arith, a, b, c)
 
-  pub host_with : (n : ℕ) (s s' : S) (out' : List Bool) (call : Call) (reply : Reply) → IsHost Stand Spare slots out devices w → get slots n ≡ Some s → (has : HasGuest n s)
-      → (step : Steps (Stand s') TableAnswers out out' has.guest call reply) → IsHost Stand Spare (with_value slots n s') out' devices (put_guest n (Some step.new) w)
+  pub host_with : (n : ℕ) (s s' : S) (out' : List Bool) (call : Call) (reply : Reply)
+      → IsHost Stand Spare slots out devices w → get slots n ≡ Some s → (has : HasGuest n s)
+      → (step : Steps (Stand s') TableAnswers out out' has.guest call reply)
+      → IsHost Stand Spare (with_value slots n s') out' devices (put_guest n (Some step.new) w)
   host_with n s s' out' call reply host e has step = record {
     guests = stands_with n s s' step.new host e step.stands;
-    count = count_with n s s' e ∙ (host.count ∙ sym (plugged_with n step.new (Some has.guest) has.there refl));
+    count = count_with n s s' e
+        ∙ (host.count ∙ sym (plugged_with n step.new (Some has.guest) has.there refl));
     room = host.room;
     keys = host.keys;
     next = host.next;
     frames = step.count ∙ host.frames;
     backed = λ f.
         let there = ap (backing_at f) has.there in
-        omega (arith, host.backed f, step.balance f, backing-with f n (Some step.new) w.guests, there);
+        omega (
+          arith,
+          host.backed f,
+          step.balance f,
+          backing-with f n (Some step.new) w.guests,
+          there,
+        );
     spares = host.spares;
   }
 
-  pub guest_step : (n : ℕ) (s s' : S) (out' : List Bool) (call : Call) (reply : Reply) → IsHost Stand Spare slots out devices w → get slots n ≡ Some s
+  pub guest_step : (n : ℕ) (s s' : S) (out' : List Bool) (call : Call) (reply : Reply)
+      → IsHost Stand Spare slots out devices w → get slots n ≡ Some s
       → ((g : Guest) → Stand s g → Steps (Stand s') TableAnswers out out' g call reply)
-      → (new : World) × IsHost Stand Spare (with_value slots n s') out' devices new × WorldStep w (OnGuest n call) reply new
+      → (new : World) × IsHost Stand Spare (with_value slots n s') out' devices new
+      × WorldStep w (OnGuest n call) reply new
   guest_step n s s' out' call reply host e steps =
       let has = guest_of n s host e in
       let step = steps has.guest has.stands in
-      let gives = same_gives w.frames (λ f. is_out out f ≡ true) (IsOut w) step.claims (λ x l h. out_backs w out host.backed x h) (λ x l h. backs_out w out host.backed x h)
-      (subst (λ (k : ℕ). Gives k (λ f. is_out out f ≡ true) step.claims) host.frames (table_gives step.claims out step.answered)) in
-      (put_guest n (Some step.new) w, host_with n s s' out' call reply host e has step, rw has.there (step.claims, step.new, gives, step.step, refl))
+      let gives = same_gives w.frames (λ f. is_out out f ≡ true) (IsOut w) step.claims
+      (λ x l h. out_backs w out host.backed x h) (λ x l h. backs_out w out host.backed x h)
+      (subst (λ (k : ℕ). Gives k (λ f. is_out out f ≡ true) step.claims) host.frames
+      (table_gives step.claims out step.answered)) in (
+        put_guest n (Some step.new) w,
+        host_with n s s' out' call reply host e has step,
+        rw has.there (step.claims, step.new, gives, step.step, refl),
+      )

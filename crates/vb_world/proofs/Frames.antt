@@ -1,5 +1,7 @@
 -- How many frames are out is how many back pages.
-use Rattle.std.proofs.Common.{◌≡◌, ◌≢◌, ℕ, zero, suc, ◌+◌, ◌<◌, Bool, true, List, [], ◌∷◌, length, refl, sym, ap, ◌∙◌, inl, inr, arith, sum_by, Option, Some, None, is_some, count_by}
+use Rattle.std.proofs.Common.{◌≡◌, ◌≢◌, ℕ, zero, suc, ◌+◌, ◌<◌, Bool, true, List, [], ◌∷◌, length}
+use Rattle.std.proofs.Common.{refl, sym, ap, ◌∙◌, inl, inr, arith, sum_by, Option, Some, None}
+use Rattle.std.proofs.Common.{is_some, count_by}
 use Rattle.std.specs.Prelude.{◌==◌, slice_index_or}
 use Rattle.std.proofs.lemmas.List.Sums.{sum_by-cons}
 use Rattle.std.proofs.lemmas.Bool.{false≢true}
@@ -20,7 +22,12 @@ sum_below (suc n) h = h 0 + sum_below n (λ k. h (suc k))
 
 below_same : (n : ℕ) (a b : ℕ → ℕ) → ((k : ℕ) → k < n → a k ≡ b k) → sum_below n a ≡ sum_below n b
 below_same zero a b e = refl
-below_same (suc n) a b e = omega (arith, e 0 (omega arith), below_same n (λ k. a (suc k)) (λ k. b (suc k)) (λ k l. e (suc k) (omega (arith, l))))
+below_same (suc n) a b e =
+    omega (
+      arith,
+      e 0 (omega arith),
+      below_same n (λ k. a (suc k)) (λ k. b (suc k)) (λ k l. e (suc k) (omega (arith, l))),
+    )
 
 below_sum : (n : ℕ) (a b : ℕ → ℕ) → sum_below n (λ k. a k + b k) ≡ sum_below n a + sum_below n b
 below_sum zero a b = omega arith
@@ -47,43 +54,66 @@ same_suc j = elim (eqb_tells j j) [
 
 suc_same : (j k : ℕ) → one_if (suc j == suc k) ≡ one_if (j == k)
 suc_same j k = elim (eqb_tells j k) [
-  | inl same ↦ ap (λ (n : ℕ). one_if (suc j == suc n)) (sym same.1) ∙ (same_suc (suc j) ∙ sym (ap one_if same.0))
+  | inl same ↦ ap (λ (n : ℕ). one_if (suc j == suc n)) (sym same.1)
+      ∙ (same_suc (suc j) ∙ sym (ap one_if same.0))
   | inr other ↦ differ (suc j) (suc k) (λ e. other.1 (omega (arith, e))) ∙ sym (differ j k other.1)
 ]
 
 below_one : (n k : ℕ) → k < n → sum_below n (λ f. one_if (k == f)) ≡ 1
 below_one zero k l = absurd (omega arith)
-below_one (suc n) zero l = omega (arith, below_none n, below_same n (λ f. one_if (0 == suc f)) (λ f. 0) (λ f m. zero_other f))
-below_one (suc n) (suc k) l = omega (arith, below_one n k (omega (arith, l)), below_same n (λ f. one_if (suc k == suc f)) (λ f. one_if (k == f)) (λ f m. suc_same k f), differ (suc k) 0 (λ e. omega (arith, e)))
+below_one (suc n) zero l =
+    omega (
+      arith,
+      below_none n,
+      below_same n (λ f. one_if (0 == suc f)) (λ f. 0) (λ f m. zero_other f),
+    )
+below_one (suc n) (suc k) l =
+    omega (
+      arith,
+      below_one n k (omega (arith, l)),
+      below_same n (λ f. one_if (suc k == suc f)) (λ f. one_if (k == f)) (λ f m. suc_same k f),
+      differ (suc k) 0 (λ e. omega (arith, e)),
+    )
 
-below_flags : (out : List Bool) → sum_below (length out) (λ f. one_if (is_out out f)) ≡ count_by (λ b. b) out
+below_flags : (out : List Bool)
+    → sum_below (length out) (λ f. one_if (is_out out f)) ≡ count_by (λ b. b) out
 below_flags [] = refl
 below_flags (b ∷ bs) = omega (arith, below_flags bs, count_by-cons (λ c. c) b bs)
 
-below_frames : (n : ℕ) (frames : List (Option ℕ)) → ((p f : ℕ) → slice_index_or frames p None ≡ Some f → f < n) → sum_below n (λ f. count_by (is_frame f) frames) ≡ count_by (λ frame. is_some frame) frames
+below_frames : (n : ℕ) (frames : List (Option ℕ))
+    → ((p f : ℕ) → slice_index_or frames p None ≡ Some f → f < n)
+    → sum_below n (λ f. count_by (is_frame f) frames) ≡ count_by (λ frame. is_some frame) frames
 below_frames n [] h = below_none n
 below_frames n (x ∷ xs) h =
     let more = below_frames n xs (λ p f e. h (suc p) f e) in
-    let split = below_same n (λ f. count_by (is_frame f) (x ∷ xs)) (λ f. one_if (is_frame f x) + count_by (is_frame f) xs) (λ f l. count_by-cons (is_frame f) x xs) in
+    let split = below_same n (λ f. count_by (is_frame f) (x ∷ xs))
+    (λ f. one_if (is_frame f x) + count_by (is_frame f) xs)
+    (λ f l. count_by-cons (is_frame f) x xs) in
     let sum = below_sum n (λ f. one_if (is_frame f x)) (λ f. count_by (is_frame f) xs) in
     let first = here x (h 0) in
     omega (arith, more, split, sum, first, count_by-cons (λ frame. is_some frame) x xs)
   where
-    here : (x : Option ℕ) → ((f : ℕ) → x ≡ Some f → f < n) → sum_below n (λ f. one_if (is_frame f x)) ≡ one_if (is_some x)
+    here : (x : Option ℕ) → ((f : ℕ) → x ≡ Some f → f < n)
+        → sum_below n (λ f. one_if (is_frame f x)) ≡ one_if (is_some x)
     here None h = below_none n
     here (Some k) h = below_one n k (h k refl)
 
-below_guests : (n : ℕ) (m : Option Guest → ℕ) → m None ≡ 0 → ((g : Guest) → m (Some g) ≡ backed_count g) → (gs : List (Option Guest))
-    → ((i p f : ℕ) (g : Guest) → guest_at gs i ≡ Some g → slice_index_or g.frames p None ≡ Some f → f < n) → sum_below n (λ f. backing_of f gs) ≡ sum_by m gs
+below_guests : (n : ℕ) (m : Option Guest → ℕ) → m None ≡ 0
+    → ((g : Guest) → m (Some g) ≡ backed_count g) → (gs : List (Option Guest))
+    → ((i p f : ℕ) (g : Guest) → guest_at gs i ≡ Some g → slice_index_or g.frames p None ≡ Some f
+    → f < n) → sum_below n (λ f. backing_of f gs) ≡ sum_by m gs
 below_guests n m none some [] h = below_none n
 below_guests n m none some (x ∷ xs) h =
     let more = below_guests n m none some xs (λ i p f g e. h (suc i) p f g e) in
-    let split = below_same n (λ f. backing_of f (x ∷ xs)) (λ f. backing_at f x + backing_of f xs) (λ f l. sum_by-cons (backing_at f) x xs) in
+    let split = below_same n (λ f. backing_of f (x ∷ xs)) (λ f. backing_at f x + backing_of f xs)
+    (λ f l. sum_by-cons (backing_at f) x xs) in
     let sum = below_sum n (λ f. backing_at f x) (λ f. backing_of f xs) in
     let first = here x (λ p f g e. h 0 p f g e) in
     omega (arith, more, split, sum, first, sum_by-cons m x xs)
   where
-    here : (x : Option Guest) → ((p f : ℕ) (g : Guest) → x ≡ Some g → slice_index_or g.frames p None ≡ Some f → f < n) → sum_below n (λ f. backing_at f x) ≡ m x
+    here : (x : Option Guest)
+        → ((p f : ℕ) (g : Guest) → x ≡ Some g → slice_index_or g.frames p None ≡ Some f → f < n)
+        → sum_below n (λ f. backing_at f x) ≡ m x
     here None h = below_none n ∙ sym none
     here (Some g) h = below_frames n g.frames (λ p f e. h p f g refl e) ∙ sym (some g)
 
@@ -92,8 +122,12 @@ out_within [] f e = absurd (false≢true e)
 out_within (b ∷ bs) zero e = omega arith
 out_within (b ∷ bs) (suc f) e = omega (arith, out_within bs f e)
 
-pub used_are_out : (w : World) (out : List Bool) → ((f : ℕ) → backing_of f w.guests ≡ one_if (is_out out f)) → used_frames w ≡ count_by (λ b. b) out
+pub used_are_out : (w : World) (out : List Bool)
+    → ((f : ℕ) → backing_of f w.guests ≡ one_if (is_out out f))
+    → used_frames w ≡ count_by (λ b. b) out
 used_are_out w out backed =
     let guests = below_guests (length out) _ refl (λ g. refl) w.guests
-    (λ i p f g there has. out_within out f (backs_out w out backed f (i, p, record { guest = g; is_there = there; has = has }))) in
-    sym guests ∙ (below_same (length out) (λ f. backing_of f w.guests) (λ f. one_if (is_out out f)) (λ f l. backed f) ∙ below_flags out)
+    (λ i p f g there has. out_within out f
+    (backs_out w out backed f (i, p, record { guest = g; is_there = there; has = has }))) in
+    sym guests ∙ (below_same (length out) (λ f. backing_of f w.guests) (λ f. one_if (is_out out f))
+    (λ f l. backed f) ∙ below_flags out)

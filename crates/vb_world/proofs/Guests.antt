@@ -1,5 +1,7 @@
 -- Sums and counts over all guests, where one of them changes.
-use Rattle.std.proofs.Common.{◌≡◌, ℕ, zero, suc, ◌+◌, ◌≤◌, Bool, true, false, cond, List, [], ◌∷◌, refl, ap, ◌∙◌, inl, inr, arith, sum_by, Option, Some, None, is_some, count_by}
+use Rattle.std.proofs.Common.{◌≡◌, ℕ, zero, suc, ◌+◌, ◌≤◌, Bool, true, false, cond, List, [], ◌∷◌}
+use Rattle.std.proofs.Common.{refl, ap, ◌∙◌, inl, inr, arith, sum_by, Option, Some, None, is_some}
+use Rattle.std.proofs.Common.{count_by}
 use Rattle.std.specs.Prelude.{◌==◌, slice_index_or}
 use Rattle.std.proofs.lemmas.List.Sums.{sum_by-cons}
 use Rattle.std.proofs.lemmas.Bool.{cases_lt}
@@ -12,33 +14,44 @@ use Rattle.vb_slot.specs.Steps.{is_frame, backing_count}
 use Rattle.vb_frames.specs.Out.{is_out}
 use Rattle.vb_world.specs.Hosts.{backing_at, backing_of}
 
-pub sum-with : (m : Option Guest → ℕ) → m None ≡ 0 → (n : ℕ) (x : Option Guest) (gs : List (Option Guest)) → sum_by m (with_guest n x gs) + m (guest_at gs n) ≡ sum_by m gs + m x
+pub sum-with : (m : Option Guest → ℕ) → m None ≡ 0
+    → (n : ℕ) (x : Option Guest) (gs : List (Option Guest))
+    → sum_by m (with_guest n x gs) + m (guest_at gs n) ≡ sum_by m gs + m x
 sum-with m z zero x [] = omega (arith, sum_by-cons m x [], z)
 sum-with m z zero x (y ∷ gs) = omega (arith, sum_by-cons m x gs, sum_by-cons m y gs)
-sum-with m z (suc n) x [] = omega (arith, sum_by-cons m None (with_guest n x []), sum-with m z n x [], z)
-sum-with m z (suc n) x (y ∷ gs) = omega (arith, sum_by-cons m y (with_guest n x gs), sum_by-cons m y gs, sum-with m z n x gs)
+sum-with m z (suc n) x [] =
+    omega (arith, sum_by-cons m None (with_guest n x []), sum-with m z n x [], z)
+sum-with m z (suc n) x (y ∷ gs) =
+    omega (arith, sum_by-cons m y (with_guest n x gs), sum_by-cons m y gs, sum-with m z n x gs)
 
-pub backing-with : (f n : ℕ) (x : Option Guest) (gs : List (Option Guest)) → backing_of f (with_guest n x gs) + backing_at f (guest_at gs n) ≡ backing_of f gs + backing_at f x
+pub backing-with : (f n : ℕ) (x : Option Guest) (gs : List (Option Guest))
+    → backing_of f (with_guest n x gs) + backing_at f (guest_at gs n)
+    ≡ backing_of f gs + backing_at f x
 backing-with f = sum-with (backing_at f) refl
 
-pub count-with : (n : ℕ) (x : Option Guest) (gs : List (Option Guest)) → count_by is_some (with_guest n x gs) + cond (is_some (guest_at gs n)) 1 0 ≡ count_by is_some gs + cond (is_some x) 1 0
+pub count-with : (n : ℕ) (x : Option Guest) (gs : List (Option Guest))
+    → count_by is_some (with_guest n x gs) + cond (is_some (guest_at gs n)) 1 0
+    ≡ count_by is_some gs + cond (is_some x) 1 0
 count-with n x gs = sum-with (λ y. cond (is_some y) 1 0) refl n x gs
 
 -- a guest's count is part of the sum
-pub backing-part : (f n : ℕ) (gs : List (Option Guest)) (g : Guest) → guest_at gs n ≡ Some g → backing_count f g ≤ backing_of f gs
+pub backing-part : (f n : ℕ) (gs : List (Option Guest)) (g : Guest) → guest_at gs n ≡ Some g
+    → backing_count f g ≤ backing_of f gs
 backing-part f zero [] g e = absurd (cc e)
 backing-part f (suc n) [] g e = absurd (cc e)
 backing-part f zero (y ∷ gs) g e =
     let a = ap (backing_at f) e in
     omega (arith, sum_by-cons (backing_at f) y gs, a)
-backing-part f (suc n) (y ∷ gs) g e = omega (arith, sum_by-cons (backing_at f) y gs, backing-part f n gs g e)
+backing-part f (suc n) (y ∷ gs) g e =
+    omega (arith, sum_by-cons (backing_at f) y gs, backing-part f n gs g e)
 
 -- ---- frames behind pages
 
 same_number : (f : ℕ) → (f == f) ≡ true
 same_number f = grind arith
 
-framed : (f p : ℕ) (frames : List (Option ℕ)) → slice_index_or frames p None ≡ Some f → 1 ≤ count_by (is_frame f) frames
+framed : (f p : ℕ) (frames : List (Option ℕ)) → slice_index_or frames p None ≡ Some f
+    → 1 ≤ count_by (is_frame f) frames
 framed f zero [] e = absurd (cc e)
 framed f (suc p) [] e = absurd (cc e)
 framed f zero (x ∷ xs) e =
@@ -47,7 +60,8 @@ framed f zero (x ∷ xs) e =
     omega (arith, count_by-cons (is_frame f) x xs, b)
 framed f (suc p) (x ∷ xs) e = omega (arith, count_by-cons (is_frame f) x xs, framed f p xs e)
 
-pub page_of : (f : ℕ) (frames : List (Option ℕ)) → 1 ≤ count_by (is_frame f) frames → (p : ℕ) × (slice_index_or frames p None ≡ Some f)
+pub page_of : (f : ℕ) (frames : List (Option ℕ)) → 1 ≤ count_by (is_frame f) frames
+    → (p : ℕ) × (slice_index_or frames p None ≡ Some f)
 page_of f [] h = absurd (omega arith)
 page_of f (None ∷ xs) h =
     let (p, e) = page_of f xs (omega (arith, count_by-cons (is_frame f) None xs)) in
@@ -87,11 +101,22 @@ one_is true h = refl
 one_is false h = absurd (omega arith)
 
 -- the frames that are out are those that back pages
-pub out_backs : (w : World) (out : List Bool) → ((f : ℕ) → backing_of f w.guests ≡ one_if (is_out out f)) → (f : ℕ) → is_out out f ≡ true → IsOut w f
+pub out_backs : (w : World) (out : List Bool)
+    → ((f : ℕ) → backing_of f w.guests ≡ one_if (is_out out f)) → (f : ℕ) → is_out out f ≡ true
+    → IsOut w f
 out_backs w out backed f e =
     let a = ap one_if e in
     let b = behind f w.guests (omega (arith, backed f, a)) in
     (b.n, b.page, record { guest = b.guest; is_there = b.there; has = b.has })
 
-pub backs_out : (w : World) (out : List Bool) → ((f : ℕ) → backing_of f w.guests ≡ one_if (is_out out f)) → (f : ℕ) → IsOut w f → is_out out f ≡ true
-backs_out w out backed f (n, p, b) = one_is (is_out out f) (omega (arith, backed f, backing-part f n w.guests b.guest b.is_there, framed f p b.guest.frames b.has))
+pub backs_out : (w : World) (out : List Bool)
+    → ((f : ℕ) → backing_of f w.guests ≡ one_if (is_out out f)) → (f : ℕ) → IsOut w f
+    → is_out out f ≡ true
+backs_out w out backed f (n, p, b) =
+    one_is (is_out out f)
+    (omega (
+      arith,
+      backed f,
+      backing-part f n w.guests b.guest b.is_there,
+      framed f p b.guest.frames b.has,
+    ))

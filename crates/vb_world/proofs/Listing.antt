@@ -1,5 +1,8 @@
 -- Flagged pages as a rising list, and what the calls on a device leave of the flags.
-use Rattle.std.specs.Prelude.{◌≡◌, ℕ, zero, suc, ◌+◌, ◌<◌, ◌≤◌, ◌==◌, ◌||◌, ◌&&◌, not, Bool, true, false, List, [], ◌∷◌, ◌++◌, length, count_by, replicate, refl, if◌then◌else◌, cond, MatchOption, ⊤, Option, Some, None, is_none, Result}
+use Rattle.std.specs.Prelude.{◌≡◌, ℕ, zero, suc, ◌+◌, ◌<◌, ◌≤◌, ◌==◌, ◌||◌, ◌&&◌, not, Bool, true}
+use Rattle.std.specs.Prelude.{false, List, [], ◌∷◌, ◌++◌, length, count_by, replicate, refl}
+use Rattle.std.specs.Prelude.{if◌then◌else◌, cond, MatchOption, ⊤, Option, Some, None, is_none}
+use Rattle.std.specs.Prelude.{Result}
 use Rattle.std.proofs.Common.{sym, ◌∙◌, ap, subst, arith, get_or, take, eq-eqb}
 use Rattle.std.proofs.lemmas.List.{append-nil, length-replicate, take_more, length-take}
 use Rattle.std.proofs.lemmas.List.Sums.{count_by-le-length}
@@ -10,7 +13,8 @@ use Rattle.vb_model.specs.Requests.{Request}
 use Rattle.vb_model.specs.FirstRefusal.{◌⇒◌, first_refusal}
 use Rattle.vb_model.specs.Tables.{is_queue_of_requests, has_unvisited, is_not_ready, has_fault}
 use Rattle.vb_model.specs.declared.layout.TheConstants.{DEFLATE_QUEUE}
-use Rattle.vb_model.specs.declared.replies.Refusal.TheVariants.{NoQueue, NotReady, NeedsReset, NotTaken, NotWorked}
+use Rattle.vb_model.specs.declared.replies.Refusal.TheVariants.{NoQueue, NotReady, NeedsReset}
+use Rattle.vb_model.specs.declared.replies.Refusal.TheVariants.{NotTaken, NotWorked}
 use Rattle.vb_device.specs.Discards.{flagged}
 use Rattle.vb_device.proofs.Marks.{flagged-length}
 use Rattle.vb_device.specs.Calls.{attached, using, SweepsBy, FinishesBy, Uses}
@@ -19,37 +23,56 @@ use Rattle.vb_model.specs.declared.replies.Refusal.{Refusal}
 use Rattle.vb_model.specs.Tests.{is_in, pages_from, pages_where}
 use Rattle.vb_model.proofs.Tables.{pages_where-passes, count_by-cons}
 
-pub pages_from-append : {A : Type 0} (first : ℕ) (test : A → Bool) (xs ys : List A) → pages_from first test (xs ++ ys) ≡ pages_from first test xs ++ pages_from (first + length xs) test ys
+pub pages_from-append : {A : Type 0} (first : ℕ) (test : A → Bool) (xs ys : List A)
+    → pages_from first test (xs ++ ys) ≡ pages_from first test xs
+    ++ pages_from (first + length xs) test ys
 pages_from-append first test [] ys = ap (λ n. pages_from n test ys) (omega arith)
 pages_from-append first test (x ∷ xs) ys =
-    let ih : pages_from (suc first) test (xs ++ ys) ≡ pages_from (suc first) test xs ++ pages_from (suc first + length xs) test ys = pages_from-append (suc first) test xs ys in
-    let at : pages_from (suc first + length xs) test ys ≡ pages_from (first + suc (length xs)) test ys = ap (λ n. pages_from n test ys) (omega arith) in
-    let tail : pages_from (suc first) test (xs ++ ys) ≡ pages_from (suc first) test xs ++ pages_from (first + suc (length xs)) test ys = ih ∙ ap (λ l. pages_from (suc first) test xs ++ l) at in
-    step (test x) (pages_from (suc first) test (xs ++ ys)) (pages_from (suc first) test xs) (pages_from (first + suc (length xs)) test ys) tail
+    let ih : pages_from (suc first) test (xs ++ ys) ≡ pages_from (suc first) test xs
+    ++ pages_from (suc first + length xs) test ys = pages_from-append (suc first) test xs ys in
+    let at : pages_from (suc first + length xs) test ys
+    ≡ pages_from (first + suc (length xs)) test ys =
+    ap (λ n. pages_from n test ys) (omega arith) in
+    let tail : pages_from (suc first) test (xs ++ ys) ≡ pages_from (suc first) test xs
+    ++ pages_from (first + suc (length xs)) test ys =
+    ih ∙ ap (λ l. pages_from (suc first) test xs ++ l) at in
+    step (test x) (pages_from (suc first) test (xs ++ ys)) (pages_from (suc first) test xs)
+    (pages_from (first + suc (length xs)) test ys) tail
   where
-    step : (b : Bool) (all front back : List ℕ) → all ≡ front ++ back → cond b (first ∷ all) all ≡ cond b (first ∷ front) front ++ back
+    step : (b : Bool) (all front back : List ℕ) → all ≡ front ++ back
+        → cond b (first ∷ all) all ≡ cond b (first ∷ front) front ++ back
     step true all front back e = ap (λ l. first ∷ l) e
     step false all front back e = e
 
 -- one page more of a table
-pages_more : {A : Type 0} (test : A → Bool) (xs : List A) (i : ℕ) (d : A) → i < length xs → pages_where test (take (i + 1) xs) ≡ pages_where test (take i xs) ++ cond (test (get_or xs i d)) (i ∷ []) []
+pages_more : {A : Type 0} (test : A → Bool) (xs : List A) (i : ℕ) (d : A) → i < length xs
+    → pages_where test (take (i + 1) xs) ≡ pages_where test (take i xs)
+    ++ cond (test (get_or xs i d)) (i ∷ []) []
 pages_more test xs i d lt =
     ap (pages_from 0 test) (take_more xs i d lt)
     ∙ (pages_from-append 0 test (take i xs) (get_or xs i d ∷ [])
-    ∙ ap (λ n. pages_where test (take i xs) ++ cond (test (get_or xs i d)) (n ∷ []) []) (omega (arith, length-take i xs)))
+    ∙ ap (λ n. pages_where test (take i xs) ++ cond (test (get_or xs i d)) (n ∷ []) [])
+    (omega (arith, length-take i xs)))
 
-flag_in : (k : ℕ) (flags : List Bool) (i : ℕ) → get_or flags i false ≡ true → is_in (k + i) (pages_from k (λ flag. flag) flags) ≡ true
+flag_in : (k : ℕ) (flags : List Bool) (i : ℕ) → get_or flags i false ≡ true
+    → is_in (k + i) (pages_from k (λ flag. flag) flags) ≡ true
 flag_in k [] zero e = cc
 flag_in k [] (suc i) e = cc
-flag_in k (true ∷ flags) zero e = ap (λ v. v || is_in (k + 0) (pages_from (suc k) (λ flag. flag) flags)) (eq-eqb k (k + 0) (omega arith))
+flag_in k (true ∷ flags) zero e =
+    ap (λ v. v || is_in (k + 0) (pages_from (suc k) (λ flag. flag) flags))
+    (eq-eqb k (k + 0) (omega arith))
 flag_in k (false ∷ flags) zero e = cc
-flag_in k (f ∷ flags) (suc i) e = step f (subst (λ n. is_in n (pages_from (suc k) (λ flag. flag) flags) ≡ true) (omega arith) (flag_in (suc k) flags i e))
+flag_in k (f ∷ flags) (suc i) e =
+    step f (subst (λ n. is_in n (pages_from (suc k) (λ flag. flag) flags) ≡ true) (omega arith)
+    (flag_in (suc k) flags i e))
   where
     here : (v w : Bool) → w ≡ true → (v || w) ≡ true
     here true w e = refl
     here false w e = e
 
-    step : (b : Bool) → is_in (k + suc i) (pages_from (suc k) (λ flag. flag) flags) ≡ true → is_in (k + suc i) (cond b (k ∷ pages_from (suc k) (λ flag. flag) flags) (pages_from (suc k) (λ flag. flag) flags)) ≡ true
+    step : (b : Bool) → is_in (k + suc i) (pages_from (suc k) (λ flag. flag) flags) ≡ true
+        → is_in (k + suc i) (cond b (k ∷ pages_from (suc k) (λ flag. flag) flags)
+        (pages_from (suc k) (λ flag. flag) flags)) ≡ true
     step true h = here (k == (k + suc i)) _ h
     step false h = h
 
@@ -59,15 +82,23 @@ same_truth false true f g = g refl
 same_truth false false f g = refl
 
 -- a page is in the list exactly where its flag is set
-pub listed_is : (flags : List Bool) (page : ℕ) → is_in page (pages_where (λ flag. flag) flags) ≡ get_or flags page false
-listed_is flags page = same_truth _ _ (λ e. pages_where-passes (λ flag. flag) flags page false e) (λ e. subst (λ n. is_in n (pages_where (λ flag. flag) flags) ≡ true) (omega arith) (flag_in 0 flags page e))
+pub listed_is : (flags : List Bool) (page : ℕ)
+    → is_in page (pages_where (λ flag. flag) flags) ≡ get_or flags page false
+listed_is flags page =
+    same_truth _ _ (λ e. pages_where-passes (λ flag. flag) flags page false e)
+    (λ e. subst (λ n. is_in n (pages_where (λ flag. flag) flags) ≡ true) (omega arith)
+    (flag_in 0 flags page e))
 
-length_from : (first : ℕ) (flags : List Bool) → length (pages_from first (λ flag. flag) flags) ≡ count_by (λ flag. flag) flags
+length_from : (first : ℕ) (flags : List Bool)
+    → length (pages_from first (λ flag. flag) flags) ≡ count_by (λ flag. flag) flags
 length_from first [] = refl
-length_from first (true ∷ flags) = omega (arith, length_from (suc first) flags, count_by-cons (λ flag. flag) true flags)
-length_from first (false ∷ flags) = omega (arith, length_from (suc first) flags, count_by-cons (λ flag. flag) false flags)
+length_from first (true ∷ flags) =
+    omega (arith, length_from (suc first) flags, count_by-cons (λ flag. flag) true flags)
+length_from first (false ∷ flags) =
+    omega (arith, length_from (suc first) flags, count_by-cons (λ flag. flag) false flags)
 
-pub listed_count : (flags : List Bool) → length (pages_where (λ flag. flag) flags) ≡ count_by (λ flag. flag) flags
+pub listed_count : (flags : List Bool)
+    → length (pages_where (λ flag. flag) flags) ≡ count_by (λ flag. flag) flags
 listed_count flags = length_from 0 flags
 
 none_from : (first n : ℕ) → pages_from first (λ flag. flag) (replicate n false) ≡ []
@@ -78,34 +109,51 @@ pub none_listed : (n : ℕ) → pages_where (λ flag. flag) (replicate n false) 
 none_listed n = none_from 0 n
 
 -- what is said of what an option holds
-pub told : {X : Type 0} (P : X → Type 0) (o : Option X) (x : X) → o ≡ Some x → MatchOption o ⊤ P → P x
+pub told : {X : Type 0} (P : X → Type 0) (o : Option X) (x : X) → o ≡ Some x → MatchOption o ⊤ P
+    → P x
 told P o x e h = subst (λ v. MatchOption v ⊤ P) e h
 
 -- one page more
-pub listed_more : (flags : List Bool) (i : ℕ) (flag : Bool) (old new : List ℕ) → i < length flags → flag ≡ get_or flags i false → old ≡ pages_where (λ f. f) (take i flags) → new ≡ (if flag then old ++ i ∷ [] else old)
+pub listed_more : (flags : List Bool) (i : ℕ) (flag : Bool) (old new : List ℕ) → i < length flags
+    → flag ≡ get_or flags i false → old ≡ pages_where (λ f. f) (take i flags)
+    → new ≡ (if flag then old ++ i ∷ [] else old)
     → new ≡ pages_where (λ f. f) (take (i + 1) flags)
 listed_more flags i true old new lt f o n =
     n ∙ (ap (λ (xs : List ℕ). xs ++ i ∷ []) o
-    ∙ sym (pages_more (λ f. f) flags i false lt ∙ ap (λ (b : Bool). pages_where (λ f. f) (take i flags) ++ cond b (i ∷ []) []) (sym f)))
+    ∙ sym (pages_more (λ f. f) flags i false lt
+    ∙ ap (λ (b : Bool). pages_where (λ f. f) (take i flags) ++ cond b (i ∷ []) []) (sym f)))
 listed_more flags i false old new lt f o n =
-    n ∙ (o ∙ sym (pages_more (λ f. f) flags i false lt ∙ (ap (λ (b : Bool). pages_where (λ f. f) (take i flags) ++ cond b (i ∷ []) []) (sym f) ∙ append-nil (pages_where (λ f. f) (take i flags)))))
+    n ∙ (o ∙ sym (pages_more (λ f. f) flags i false lt
+    ∙ (ap (λ (b : Bool). pages_where (λ f. f) (take i flags) ++ cond b (i ∷ []) []) (sym f)
+    ∙ append-nil (pages_where (λ f. f) (take i flags)))))
 
 -- no more flags are in the list than there are
-pub listed_fits : (flags : List Bool) (items : List ℕ) (pages : ℕ) → length flags ≡ pages → items ≡ pages_where (λ f. f) flags → length items ≤ pages
-listed_fits flags items pages size e = omega (arith, size, count_by-le-length (λ (f : Bool). f) flags, ap (λ (xs : List ℕ). length xs) e, listed_count flags)
+pub listed_fits : (flags : List Bool) (items : List ℕ) (pages : ℕ) → length flags ≡ pages
+    → items ≡ pages_where (λ f. f) flags → length items ≤ pages
+listed_fits flags items pages size e =
+    omega (
+      arith,
+      size,
+      count_by-le-length (λ (f : Bool). f) flags,
+      ap (λ (xs : List ℕ). length xs) e,
+      listed_count flags,
+    )
 
 -- a device that is attached has no flag set
-pub attached_list : (p1 p2 : Part) (config : Config) (pages room : ℕ) (items : List ℕ) → p2 ≡ attached config p1 → pages ≡ config.pages → items ≡ [] → config.pages ≤ room
+pub attached_list : (p1 p2 : Part) (config : Config) (pages room : ℕ) (items : List ℕ)
+    → p2 ≡ attached config p1 → pages ≡ config.pages → items ≡ [] → config.pages ≤ room
     → (length p2.ballooned ≡ pages) × (pages ≤ room) × (items ≡ pages_where (λ f. f) p2.ballooned)
 attached_list p1 p2 config pages room items e size none fits =
     let flags : p2.ballooned ≡ replicate config.pages false = ap (λ (p : Part). p.ballooned) e in (
       ap (λ (fs : List Bool). length fs) flags ∙ (length-replicate config.pages false ∙ sym size),
       omega (arith, size, fits),
-      none ∙ sym (ap (λ (fs : List Bool). pages_where (λ f. f) fs) flags ∙ none_listed config.pages),
+      none ∙ sym (ap (λ (fs : List Bool). pages_where (λ f. f) fs) flags
+          ∙ none_listed config.pages),
     )
 
 -- a sweep leaves the flags
-pub sweep_keeps : (page : ℕ) (m1 m2 : Pages) (p1 p2 : Part) (result : Result Bool Refusal) → SweepsBy page m1 m2 p1 p2 result → p2.ballooned ≡ p1.ballooned
+pub sweep_keeps : (page : ℕ) (m1 m2 : Pages) (p1 p2 : Part) (result : Result Bool Refusal)
+    → SweepsBy page m1 m2 p1 p2 result → p2.ballooned ≡ p1.ballooned
 sweep_keeps page m1 m2 p1 p2 result s = step (sweep_refusal page p1) refl
   where
     step : (o : Option Refusal) → sweep_refusal page p1 ≡ o → p2.ballooned ≡ p1.ballooned
@@ -114,7 +162,8 @@ sweep_keeps page m1 m2 p1 p2 result s = step (sweep_refusal page p1) refl
 
 -- ---- a finish leaves the number of flags
 
-passed : (a b c d e : Bool) (v w x y z : Refusal) → first_refusal ((a ⇒ v) ∷ (b ⇒ w) ∷ (c ⇒ x) ∷ (d ⇒ y) ∷ (e ⇒ z) ∷ []) ≡ None → d ≡ false
+passed : (a b c d e : Bool) (v w x y z : Refusal)
+    → first_refusal ((a ⇒ v) ∷ (b ⇒ w) ∷ (c ⇒ x) ∷ (d ⇒ y) ∷ (e ⇒ z) ∷ []) ≡ None → d ≡ false
 passed true b c d e v w x y z h = absurd (some_none v h)
   where
     some_none : (why : Refusal) → Some why ≡ None → ⊥
@@ -134,40 +183,60 @@ passed false false false true e v w x y z h = absurd (some_none y h)
 passed false false false false e v w x y z h = refl
 
 queue_keeps : (a b c : Bool) (x : QueuePart) (p : Part)
-    → (if a then record p { inflate = x } else (if b then record p { deflate = x } else (if c then record p { statistics = x } else record p { report = x }))).ballooned ≡ p.ballooned
+    → (if a then record p { inflate = x }
+    else (if b then record p { deflate = x }
+    else (if c then record p { statistics = x } else record p { report = x }))).ballooned
+    ≡ p.ballooned
 queue_keeps true b c x p = refl
 queue_keeps false true c x p = refl
 queue_keeps false false true x p = refl
 queue_keeps false false false x p = refl
 
 settled_size : (a b : Bool) (pages : List ℕ) (loose : List ℕ) (p : Part)
-    → length (if a then record p { ballooned = flagged pages true p.ballooned; loose = loose } else (if b then record p { ballooned = flagged pages false p.ballooned } else record p { loose = loose })).ballooned ≡ length p.ballooned
+    → length (if a then record p { ballooned = flagged pages true p.ballooned; loose = loose }
+    else (if b then record p { ballooned = flagged pages false p.ballooned }
+    else record p { loose = loose })).ballooned ≡ length p.ballooned
 settled_size true b pages loose p = flagged-length pages true p.ballooned
 settled_size false true pages loose p = flagged-length pages false p.ballooned
 settled_size false false pages loose p = refl
 
-used_size : (q index : ℕ) (r : Request) (m1 m2 : Pages) (p1 p2 : Part) (result : Result ℕ Refusal) → Uses q index r m1 m2 p1 p2 result → length p2.ballooned ≡ length p1.ballooned
+used_size : (q index : ℕ) (r : Request) (m1 m2 : Pages) (p1 p2 : Part) (result : Result ℕ Refusal)
+    → Uses q index r m1 m2 p1 p2 result → length p2.ballooned ≡ length p1.ballooned
 used_size q index r m1 m2 p1 p2 result u =
     ap (λ (p : Part). length p.ballooned) u.part
     ∙ (settled_size (q == 0) (q == 1) r.pages _ (using q index p1)
     ∙ ap (λ (fs : List Bool). length fs) (queue_keeps (q == 0) (q == 1) (q == 2) _ p1))
 
-used_some : (q index : ℕ) (m1 m2 : Pages) (p1 p2 : Part) (result : Result ℕ Refusal) (o : Option Request) → FinishesBy q index m1 m2 p1 p2 result → finish_refusal q index p1 ≡ None
+used_some : (q index : ℕ) (m1 m2 : Pages) (p1 p2 : Part) (result : Result ℕ Refusal)
+    (o : Option Request) → FinishesBy q index m1 m2 p1 p2 result → finish_refusal q index p1 ≡ None
     → taken_at q index p1 ≡ o → is_none o ≡ false → length p2.ballooned ≡ length p1.ballooned
 used_some q index m1 m2 p1 p2 result None s e at h = absurd (true_false h)
   where
     true_false : true ≡ false → ⊥
     true_false e = cc
-used_some q index m1 m2 p1 p2 result (Some r) s e at h = used_size q index r m1 m2 p1 p2 result (s.finished r e at)
+used_some q index m1 m2 p1 p2 result (Some r) s e at h =
+    used_size q index r m1 m2 p1 p2 result (s.finished r e at)
 
-finish_by : (q index : ℕ) (m1 m2 : Pages) (p1 p2 : Part) (result : Result ℕ Refusal) (o : Option Refusal) → FinishesBy q index m1 m2 p1 p2 result → finish_refusal q index p1 ≡ o → length p2.ballooned ≡ length p1.ballooned
-finish_by q index m1 m2 p1 p2 result None s e = used_some q index m1 m2 p1 p2 result (taken_at q index p1) s e refl (passed (not (is_queue_of_requests q)) (is_not_ready p1.status) (has_fault p1.status) (is_none (taken_at q index p1)) (p1.paced && not (q == DEFLATE_QUEUE) && has_unvisited (taken_at q index p1)) NoQueue NotReady NeedsReset NotTaken NotWorked e)
-finish_by q index m1 m2 p1 p2 result (Some why) s e = ap (λ (p : Part). length p.ballooned) (s.refused why e).1
+finish_by : (q index : ℕ) (m1 m2 : Pages) (p1 p2 : Part) (result : Result ℕ Refusal)
+    (o : Option Refusal) → FinishesBy q index m1 m2 p1 p2 result → finish_refusal q index p1 ≡ o
+    → length p2.ballooned ≡ length p1.ballooned
+finish_by q index m1 m2 p1 p2 result None s e =
+    used_some q index m1 m2 p1 p2 result (taken_at q index p1) s e refl
+    (passed (not (is_queue_of_requests q)) (is_not_ready p1.status) (has_fault p1.status)
+    (is_none (taken_at q index p1))
+    (p1.paced && not (q == DEFLATE_QUEUE) && has_unvisited (taken_at q index p1)) NoQueue NotReady
+    NeedsReset NotTaken NotWorked e)
+finish_by q index m1 m2 p1 p2 result (Some why) s e =
+    ap (λ (p : Part). length p.ballooned) (s.refused why e).1
 
-pub finish_keeps : (q index : ℕ) (m1 m2 : Pages) (p1 p2 : Part) (result : Result ℕ Refusal) → FinishesBy q index m1 m2 p1 p2 result → length p2.ballooned ≡ length p1.ballooned
-finish_keeps q index m1 m2 p1 p2 result s = finish_by q index m1 m2 p1 p2 result (finish_refusal q index p1) s refl
+pub finish_keeps : (q index : ℕ) (m1 m2 : Pages) (p1 p2 : Part) (result : Result ℕ Refusal)
+    → FinishesBy q index m1 m2 p1 p2 result → length p2.ballooned ≡ length p1.ballooned
+finish_keeps q index m1 m2 p1 p2 result s =
+    finish_by q index m1 m2 p1 p2 result (finish_refusal q index p1) s refl
 
 -- what is left of a list's facts while it is made anew
-pub still_fits : {X : Type 0} (size room : X → ℕ) (E : X → Type 0) (o : Option X) (m n : ℕ) → n ≡ m → MatchOption o ⊤ (λ x. (m ≡ size x) × (size x ≤ room x) × E x) → MatchOption o ⊤ (λ x. (n ≡ size x) × (size x ≤ room x))
+pub still_fits : {X : Type 0} (size room : X → ℕ) (E : X → Type 0) (o : Option X) (m n : ℕ) → n ≡ m
+    → MatchOption o ⊤ (λ x. (m ≡ size x) × (size x ≤ room x) × E x)
+    → MatchOption o ⊤ (λ x. (n ≡ size x) × (size x ≤ room x))
 still_fits size room E None m n e h = h
 still_fits size room E (Some x) m n e h = (e ∙ h.0, h.1)

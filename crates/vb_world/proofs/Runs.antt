@@ -1,5 +1,6 @@
 -- A run of a host goes on.
-use Rattle.std.proofs.Common.{◌≡◌, ℕ, zero, suc, ◌≤◌, Bool, List, [], ◌∷◌, ◌++◌, length, take, refl, sym, ap, subst, arith}
+use Rattle.std.proofs.Common.{◌≡◌, ℕ, zero, suc, ◌≤◌, Bool, List, [], ◌∷◌, ◌++◌, length, take, refl}
+use Rattle.std.proofs.Common.{sym, ap, subst, arith}
 use Rattle.vb_model.specs.declared.calls.Event.{Event}
 use Rattle.vb_model.specs.declared.replies.Reply.{Reply}
 use Rattle.vb_model.specs.World.{World, WorldStep, made}
@@ -9,7 +10,8 @@ use Rattle.vb_model.specs.Safe.{IsSafeRun}
 use Rattle.vb_model.proofs.Runs.{run_is_safe}
 
 -- From the world w the events may get these replies and lead to a world for which Holds.
-pub record Ran (Holds : World → Type 0) (w : World) (events : List Event) (replies : List Reply) : Type 0 where
+pub record Ran (Holds : World → Type 0) (w : World) (events : List Event) (replies : List Reply) :
+    Type 0 where
   pub after : List World
   pub steps : Steps w events replies after
   pub holds : Holds (last_world w after)
@@ -17,8 +19,10 @@ pub record Ran (Holds : World → Type 0) (w : World) (events : List Event) (rep
 pub ran_none : {Holds : World → Type 0} (w : World) → Holds w → Ran Holds w [] []
 ran_none w holds = record { after = []; steps = tt; holds = holds }
 
-pub ran_on : {Holds New : World → Type 0} (w : World) (events : List Event) (replies : List Reply) (event : Event) (reply : Reply) → Ran Holds w events replies
-    → ((v : World) → Holds v → (new : World) × New new × WorldStep v event reply new) → Ran New w (events ++ event ∷ []) (replies ++ reply ∷ [])
+pub ran_on : {Holds New : World → Type 0} (w : World) (events : List Event) (replies : List Reply)
+    (event : Event) (reply : Reply) → Ran Holds w events replies
+    → ((v : World) → Holds v → (new : World) × New new × WorldStep v event reply new)
+    → Ran New w (events ++ event ∷ []) (replies ++ reply ∷ [])
 ran_on {New = New} w events replies event reply ran step =
     let (new, holds, happens) = step (last_world w ran.after) ran.holds in
     record {
@@ -27,7 +31,8 @@ ran_on {New = New} w events replies event reply ran step =
       holds = subst New (sym (last_world-push w ran.after new)) holds;
     }
 
-pub safe_run : {Holds : World → Type 0} (frames : ℕ) (spares : List Bool) (events : List Event) (replies : List Reply) → Ran Holds (made frames spares) events replies
+pub safe_run : {Holds : World → Type 0} (frames : ℕ) (spares : List Bool) (events : List Event)
+    (replies : List Reply) → Ran Holds (made frames spares) events replies
     → (last : World) × Holds last × IsSafeRun (made frames spares) events replies last
 safe_run frames spares events replies ran = (
   last_world (made frames spares) ran.after,
@@ -36,7 +41,13 @@ safe_run frames spares events replies ran = (
     after = ran.after;
     steps = ran.steps;
     ends = refl;
-    safe = run_is_safe frames spares (record { first = made frames spares; events = events; replies = replies; after = ran.after }) (refl, ran.steps);
+    safe = run_is_safe frames spares
+        (record {
+          first = made frames spares;
+          events = events;
+          replies = replies;
+          after = ran.after;
+        }) (refl, ran.steps);
   },
 )
 
@@ -47,9 +58,11 @@ take_whole zero (x ∷ xs) l = absurd (omega (arith, l))
 take_whole (suc n) (x ∷ xs) l = ap (λ (ys : List _). x ∷ ys) (take_whole n xs (omega (arith, l)))
 
 -- each event has one reply
-pub as_many : (w : World) (events : List Event) (replies : List Reply) (after : List World) → Steps w events replies after → length replies ≡ length events
+pub as_many : (w : World) (events : List Event) (replies : List Reply) (after : List World)
+    → Steps w events replies after → length replies ≡ length events
 as_many w [] [] [] s = refl
-as_many w (e ∷ events) (r ∷ replies) (next ∷ after) s = ap suc (as_many next events replies after s.1)
+as_many w (e ∷ events) (r ∷ replies) (next ∷ after) s =
+    ap suc (as_many next events replies after s.1)
 as_many w [] [] (next ∷ after) s = refl
 as_many w [] (r ∷ replies) after s = absurd s
 as_many w (e ∷ events) [] after s = absurd s

@@ -1,5 +1,6 @@
 -- What ties a host's slots, frames and spare devices to a world of the model.
-use Rattle.std.specs.Prelude.{◌≡◌, ℕ, ◌≤◌, ◌^◌, Bool, List, [], ◌∷◌, Option, Some, None, length, sum_by, MatchOption, ⊤}
+use Rattle.std.specs.Prelude.{◌≡◌, ℕ, ◌≤◌, ◌^◌, Bool, List, [], ◌∷◌, Option, Some, None, length}
+use Rattle.std.specs.Prelude.{sum_by, MatchOption, ⊤}
 use Rattle.std.specs.declared.alloc.Global.{Global}
 use Rattle.std.specs.declared.dyn_box.DynBox.{DynBox}
 use Rattle.slab.specs.Slab.{Slab, get, slab_len}

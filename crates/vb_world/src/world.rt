@@ -1,10 +1,13 @@
 //! A host: its frames, its guests, and the devices that no guest has yet.
 
-ghost use Rattle.std.specs.Prelude.{◌≡◌, ◌<◌, ◌≤◌, ◌^◌, ℕ, true, All, IfOk, IfErr, OnErr, OnOk, map, ◌++◌, [], vec_len, vec_capacity, ◌∷◌, List, Bool, IsTrue};
+ghost use Rattle.std.specs.Prelude.{◌≡◌, ◌<◌, ◌≤◌, ◌^◌, ℕ, true, All, IfOk, IfErr, OnErr, OnOk};
+ghost use Rattle.std.specs.Prelude.{map, ◌++◌, [], vec_len, vec_capacity, ◌∷◌, List, Bool, IsTrue};
 ghost use Rattle.vb_model.specs.Brought.{is_brought, is_call_brought, is_query_brought};
 ghost use Rattle.vb_model.specs.Safe.{IsSafeRun};
 ghost use Rattle.vb_model.specs.World.{World as Model, WorldStep, PlugsIn, made};
-ghost use Rattle.vb_model.specs.declared.calls.Event.TheVariants.{Plug, Guest as OnGuest, Query as Asking, Frames as CountFrames};
+ghost use Rattle.vb_model.specs.declared.calls.Event.TheVariants.{Plug, Guest as OnGuest};
+ghost use Rattle.vb_model.specs.declared.calls.Event.TheVariants.{Query as Asking};
+ghost use Rattle.vb_model.specs.declared.calls.Event.TheVariants.{Frames as CountFrames};
 ghost use Rattle.vb_model.specs.Limits.{is_config, max_guests};
 ghost use Rattle.slab.specs.Slab.{slab_len};
 ghost use Rattle.vb_slot.specs.Spare.{IsSpare};

@@ -1,6 +1,7 @@
 //! A device that keeps its ballooned pages as a list of its own.
 
-ghost use Rattle.std.specs.Prelude.{◌≡◌, ◌≤◌, ◌<◌, ◌+◌, ◌++◌, ◌∷◌, [], ⊤, MatchOption, IfOk, length, vec_len, vec_capacity, false, if◌then◌else◌};
+ghost use Rattle.std.specs.Prelude.{◌≡◌, ◌≤◌, ◌<◌, ◌+◌, ◌++◌, ◌∷◌, [], ⊤, MatchOption, IfOk};
+ghost use Rattle.std.specs.Prelude.{length, vec_len, vec_capacity, false, if◌then◌else◌};
 ghost use Rattle.vb_model.specs.Tests.{is_in, pages_where};
 ghost use Rattle.vb_device.specs.Calls.{IsUnused};
 
@@ -114,7 +115,8 @@ impl Model for ListedDevice {
 
     ghost view = { λ s. s.inner };
 
-    ghost invariant = { λ s. MatchOption s.listed ⊤ (λ list. (length s.inner.part.ballooned ≡ list.pages) ×
+    ghost invariant = { λ s. MatchOption s.listed ⊤
+        (λ list. (length s.inner.part.ballooned ≡ list.pages) ×
         (list.pages ≤ vec_capacity list.numbers) ×
         (list.numbers.items ≡ pages_where (λ flag. flag) s.inner.part.ballooned)) };
 }

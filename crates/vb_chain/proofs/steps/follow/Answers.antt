@@ -1,4 +1,5 @@
-use Rattle.std.proofs.Common.{rules, ◌≡◌, ◌+◌, ◌*◌, ◌∷◌, ◌++◌, [], List, ℕ, ap, sym, ◌∙◌, arith, false, subst, Bool, ◌||◌}
+use Rattle.std.proofs.Common.{rules, ◌≡◌, ◌+◌, ◌*◌, ◌∷◌, ◌++◌, [], List, ℕ, ap, sym, ◌∙◌, arith}
+use Rattle.std.proofs.Common.{false, subst, Bool, ◌||◌}
 use Rattle.vb_chain.specs.declared.pieces.Piece.{Piece}
 use Rattle.vb_chain.specs.Table.{descriptor_at}
 use Rattle.vb_chain.specs.Rules.{first_fault, piece_of, has_next, is_writable}
@@ -13,16 +14,24 @@ loop-visited-init g c =
     record {
       more = omega arith;
       inside = omega arith;
-      walked = (c.args.head ∷ [], subst (λ (ps : List Piece). Walked d c.args.size (4096 * c.from.result) c.args.head (c.args.head ∷ []) 0 c.args.head false ps) (sym c.empty-chain.ensures) start);
+      walked = (
+        c.args.head
+            ∷ [],
+        subst (λ (ps : List Piece). Walked d c.args.size (4096 * c.from.result) c.args.head
+            (c.args.head ∷ []) 0 c.args.head false ps) (sym c.empty-chain.ensures) start,
+      );
     }
 
 pub returns-in-Some-clause-fault : goal.returns-in-Some-clause-fault
 returns-in-Some-clause-fault g c =
     let d = descriptor_at (g.G.GuestBytes.mem c.args.ram.now) c.args.table in
     let end = 4096 * c.from.result in
-    let broken = ap (first_fault c.args.size end c.loop-visited.writing c.loop-visited.visited) (sym c.read_descriptor-descriptor.ensures) ∙ sym c.fault_of.ensures ∙ c.in-Some.is in
-    let told = walked_fault d c.args.size end c.args.head c.loop-visited.invariant.walked.0 _ _ _ _ c.in-Some.fault c.loop-visited.invariant.walked.1 broken in
-    subst (λ (n : ℕ). FaultGives d c.args.size (4096 * n) c.args.head c.in-Some.fault) (c.from.ensures ∙ c.pages.ensures) told
+    let broken = ap (first_fault c.args.size end c.loop-visited.writing c.loop-visited.visited)
+    (sym c.read_descriptor-descriptor.ensures) ∙ sym c.fault_of.ensures ∙ c.in-Some.is in
+    let told = walked_fault d c.args.size end c.args.head c.loop-visited.invariant.walked.0 _ _ _ _
+    c.in-Some.fault c.loop-visited.invariant.walked.1 broken in
+    subst (λ (n : ℕ). FaultGives d c.args.size (4096 * n) c.args.head c.in-Some.fault)
+    (c.from.ensures ∙ c.pages.ensures) told
 
 pub returns-then-not-has_next-clause-chain : goal.returns-then-not-has_next-clause-chain
 returns-then-not-has_next-clause-chain g c =
@@ -30,13 +39,17 @@ returns-then-not-has_next-clause-chain g c =
     let end = 4096 * c.from.result in
     let x = c.read_descriptor-descriptor.result in
     let is : x ≡ d c.loop-visited.index = c.read_descriptor-descriptor.ensures in
-    let sound = ap (first_fault c.args.size end c.loop-visited.writing c.loop-visited.visited) (sym is) ∙ sym c.fault_of.ensures ∙ c.in_default.is in
+    let sound = ap (first_fault c.args.size end c.loop-visited.writing c.loop-visited.visited)
+    (sym is) ∙ sym c.fault_of.ensures ∙ c.in_default.is in
     let stop = ap has_next (sym is) ∙ sym c.has_next.ensures ∙ c.if-not-has_next.true in
-    let told = walked_chain d c.args.size end c.args.head c.loop-visited.invariant.walked.0 _ _ _ _ c.loop-visited.invariant.walked.1 (omega arith) sound stop in
+    let told = walked_chain d c.args.size end c.args.head c.loop-visited.invariant.walked.0 _ _ _ _
+    c.loop-visited.invariant.walked.1 (omega arith) sound stop in
     let pieces : c.push.new.self ≡ c.loop-visited.chain ++ piece_of (d c.loop-visited.index) ∷ [] =
-    c.push.ensures ∙ ap (λ (b : Bool). c.loop-visited.chain ++ record { addr = x.addr; len = x.len; writable = b } ∷ []) c.is_writable-writable.ensures
+    c.push.ensures ∙ ap (λ (b : Bool). c.loop-visited.chain
+    ++ record { addr = x.addr; len = x.len; writable = b } ∷ []) c.is_writable-writable.ensures
     ∙ ap (λ y. c.loop-visited.chain ++ piece_of y ∷ []) is in
-    subst (λ (n : ℕ). ChainGives d c.args.size (4096 * n) c.args.head c.push.new.self) (c.from.ensures ∙ c.pages.ensures)
+    subst (λ (n : ℕ). ChainGives d c.args.size (4096 * n) c.args.head c.push.new.self)
+    (c.from.ensures ∙ c.pages.ensures)
     (subst (λ (ps : List Piece). ChainGives d c.args.size end c.args.head ps) (sym pieces) told)
 
 pub loop-visited-preserved : goal.loop-visited-preserved
@@ -45,21 +58,30 @@ loop-visited-preserved g c =
     let end = 4096 * c.from.result in
     let x = c.read_descriptor-descriptor.result in
     let is : x ≡ d c.loop-visited.index = c.read_descriptor-descriptor.ensures in
-    let sound = ap (first_fault c.args.size end c.loop-visited.writing c.loop-visited.visited) (sym is) ∙ sym c.fault_of.ensures ∙ c.in_default.is in
+    let sound = ap (first_fault c.args.size end c.loop-visited.writing c.loop-visited.visited)
+    (sym is) ∙ sym c.fault_of.ensures ∙ c.in_default.is in
     let more = ap has_next (sym is) ∙ sym c.has_next.ensures ∙ c.if-not-has_next.false in
     let path = c.loop-visited.invariant.walked.0 in
-    let W : ℕ → Bool → List Piece → Type 0 = λ n b ps. Walked d c.args.size end c.args.head (path ++ (d c.loop-visited.index).next ∷ []) (c.loop-visited.visited + 1) n b ps in
+    let W : ℕ → Bool → List Piece
+    → Type 0 = λ n b ps. Walked d c.args.size end c.args.head
+    (path ++ (d c.loop-visited.index).next ∷ []) (c.loop-visited.visited + 1) n b ps in
     let pieces : c.push.new.self ≡ c.loop-visited.chain ++ piece_of (d c.loop-visited.index) ∷ [] =
-    c.push.ensures ∙ ap (λ (b : Bool). c.loop-visited.chain ++ record { addr = x.addr; len = x.len; writable = b } ∷ []) c.is_writable-writable.ensures
+    c.push.ensures ∙ ap (λ (b : Bool). c.loop-visited.chain
+    ++ record { addr = x.addr; len = x.len; writable = b } ∷ []) c.is_writable-writable.ensures
     ∙ ap (λ y. c.loop-visited.chain ++ piece_of y ∷ []) is in
-    let step = walked_more d c.args.size end c.args.head path _ _ _ _ c.loop-visited.invariant.walked.1 sound more in
+    let step = walked_more d c.args.size end c.args.head path _ _ _ _
+    c.loop-visited.invariant.walked.1 sound more in
     record {
       more = search rules;
       inside = search rules;
       walked = (
         path ++ (d c.loop-visited.index).next ∷ [],
-        subst (λ (n : ℕ). W n (c.loop-visited.writing || c.is_writable-writable.result) c.push.new.self) (ap (λ y. y.next) (sym is))
-            (subst (λ (b : Bool). W (d c.loop-visited.index).next (c.loop-visited.writing || b) c.push.new.self) (ap is_writable (sym is) ∙ sym c.is_writable-writable.ensures)
-            (subst (λ (ps : List Piece). W (d c.loop-visited.index).next (c.loop-visited.writing || is_writable (d c.loop-visited.index)) ps) (sym pieces) step)),
+        subst (λ (n : ℕ). W n (c.loop-visited.writing || c.is_writable-writable.result)
+            c.push.new.self) (ap (λ y. y.next) (sym is))
+            (subst (λ (b : Bool). W (d c.loop-visited.index).next (c.loop-visited.writing || b)
+            c.push.new.self) (ap is_writable (sym is) ∙ sym c.is_writable-writable.ensures)
+            (subst (λ (ps : List Piece). W (d c.loop-visited.index).next
+            (c.loop-visited.writing || is_writable (d c.loop-visited.index)) ps) (sym pieces)
+            step)),
       );
     }

@@ -1,8 +1,10 @@
-use Rattle.std.proofs.Common.{◌≡◌, ◌∙◌, ℕ, List, true, false, Result, Ok, Err, sym, ap, subst, rules}
+use Rattle.std.proofs.Common.{◌≡◌, ◌∙◌, ℕ, List, true, false, Result, Ok, Err, sym, ap, subst}
+use Rattle.std.proofs.Common.{rules}
 use Rattle.std.specs.Prelude.{MatchResult}
 use Rattle.std.specs.List.{list_any}
 use Rattle.vb_chain.specs.declared.fault.ChainFault.{ChainFault}
-use Rattle.vb_device.specs.Request.{is_request_length, numbers_of, pages_of_numbers, page_request, bytes_of}
+use Rattle.vb_device.specs.Request.{is_request_length, numbers_of, pages_of_numbers, page_request}
+use Rattle.vb_device.specs.Request.{bytes_of}
 use Rattle.vb_device.proofs.Bytes.{wrong_way, bad_length, by_numbers}
 use Rattle.vb_device.proofs.request.page_request.Goals as goal
 

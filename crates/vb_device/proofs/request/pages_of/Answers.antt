@@ -1,9 +1,12 @@
-use Rattle.std.proofs.Common.{◌≡◌, ◌∙◌, ◌<◌, ◌/◌, ℕ, List, Option, Some, None, Ok, sym, ap, arith, take, length, get_or, rules}
+use Rattle.std.proofs.Common.{◌≡◌, ◌∙◌, ◌<◌, ◌/◌, ℕ, List, Option, Some, None, Ok, sym, ap, arith}
+use Rattle.std.proofs.Common.{take, length, get_or, rules}
 use Rattle.std.proofs.lemmas.List.{take_all}
 use Rattle.vb_model.specs.Tests.{is_in}
 use Rattle.vb_chain.specs.declared.fault.ChainFault.{ChainFault}
-use Rattle.vb_device.specs.Request.{numbers_of, number_fault, each_once, first_number_fault, unless_fault}
-use Rattle.vb_device.proofs.Once.{numbers_of-length, numbers_of-at, fault_here, sound_more, once_more, once_few}
+use Rattle.vb_device.specs.Request.{numbers_of, number_fault, each_once, first_number_fault}
+use Rattle.vb_device.specs.Request.{unless_fault}
+use Rattle.vb_device.proofs.Once.{numbers_of-length, numbers_of-at, fault_here, sound_more}
+use Rattle.vb_device.proofs.Once.{once_more, once_few}
 use Rattle.vb_device.proofs.request.pages_of.Goals as goal
 
 pub returns-in-Some : goal.returns-in-Some

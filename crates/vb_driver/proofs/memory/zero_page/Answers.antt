@@ -13,11 +13,18 @@ loop-k-preserved g c =
     let p = c.args.page in
     let k : ℕ = c.loop-k.k in
     let few : k < 16 = omega (arith, c.loop-k-test.true) in
-    let inside : Covers m2 p (256 * k) (length (replicate {A = ℕ} 256 0)) = record { page = omega (arith, c.loop-k.invariant.rest.count, c.requires.inside); bytes = omega (arith, few, length-replicate {A = ℕ} 256 0) } in
-    let backed : IsSome (frame_at m2 p) = subst IsSome (sym (c.loop-k.invariant.rest.backing p)) c.requires.backed in
-    let wrote : Wrote m2 m3 p (256 * k) (replicate 256 0) = at_ok c.write.result _ (c.write.ensures.answers inside backed) c.write.ensures.bytes in
+    let inside : Covers m2 p (256 * k) (length (replicate {A = ℕ} 256 0)) =
+    record {
+      page = omega (arith, c.loop-k.invariant.rest.count, c.requires.inside);
+      bytes = omega (arith, few, length-replicate {A = ℕ} 256 0);
+    } in
+    let backed : IsSome (frame_at m2 p) =
+    subst IsSome (sym (c.loop-k.invariant.rest.backing p)) c.requires.backed in
+    let wrote : Wrote m2 m3 p (256 * k) (replicate 256 0) =
+    at_ok c.write.result _ (c.write.ensures.answers inside backed) c.write.ensures.bytes in
     record {
       zero = λ o lt. zeros_more m2 m3 p (256 * k) 256 c.loop-k.invariant.zero wrote o (omega arith);
-      rest = zeros_inside m1 m2 m3 p (256 * k) 256 (omega (arith, few)) c.loop-k.invariant.rest wrote;
+      rest = zeros_inside m1 m2 m3 p (256 * k) 256 (omega (arith, few)) c.loop-k.invariant.rest
+          wrote;
       part = c.write.ensures.part ∙ c.loop-k.invariant.part;
     }

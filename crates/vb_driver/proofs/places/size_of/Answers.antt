@@ -4,4 +4,5 @@ use Rattle.vb_pages.proofs.Aligned.{pow_small}
 use Rattle.vb_driver.proofs.places.size_of.Goals as goal
 
 pub returns-clause-small : goal.returns-clause-small
-returns-clause-small c = omega (arith, one_shl c.args.order 32 (omega arith), pow_small c.args.order c.requires)
+returns-clause-small c =
+    omega (arith, one_shl c.args.order 32 (omega arith), pow_small c.args.order c.requires)

@@ -4,7 +4,8 @@ use Rattle.vb_guest.proofs.Freed.{large}
 use Rattle.vb_guest.proofs.driver.deflate.Goals as goal
 
 pub deflate-requires : goal.deflate-requires
-deflate-requires g c = let (guest, stands) = c.requires in record { memory = large _ _ _ guest stands; backed = up_backed _ _ _ guest stands }
+deflate-requires g c = let (guest, stands) = c.requires in
+    record { memory = large _ _ _ guest stands; backed = up_backed _ _ _ guest stands }
 
 pub returns : goal.returns
 returns g c = λ guest stands. deflate_step _ _ _ _ _ _ guest _ _ c.deflate.ensures stands

@@ -9,10 +9,15 @@ pub loop-page-preserved : goal.loop-page-preserved
 loop-page-preserved c = elim c.if-is_at.branch [
   | then-is_at+in_ok-push_page w ↦
       ap (λ v. v.items) w.found-is
-      ∙ runs_more (is_place c.args.place) c.args.driver.now.places c.loop-page.page Reserved c.loop-page.found.items _ (omega (arith, c.loop-page-test.true, c.requires)) c.loop-page.invariant
-      (ap (is_place c.args.place) (sym c.place.ensures) ∙ sym w.if-is_at.ensures) (λ pages is. w.in_ok-push_page.ensures pages is)
+      ∙ runs_more (is_place c.args.place) c.args.driver.now.places c.loop-page.page Reserved
+      c.loop-page.found.items _ (omega (arith, c.loop-page-test.true, c.requires))
+      c.loop-page.invariant
+      (ap (is_place c.args.place) (sym c.place.ensures) ∙ sym w.if-is_at.ensures)
+      (λ pages is. w.in_ok-push_page.ensures pages is)
   | else-is_at w ↦
       ap (λ v. v.items) w.found-is
-      ∙ runs_same (is_place c.args.place) c.args.driver.now.places c.loop-page.page Reserved c.loop-page.found.items (omega (arith, c.loop-page-test.true, c.requires)) c.loop-page.invariant
+      ∙ runs_same (is_place c.args.place) c.args.driver.now.places c.loop-page.page Reserved
+      c.loop-page.found.items (omega (arith, c.loop-page-test.true, c.requires))
+      c.loop-page.invariant
       (ap (is_place c.args.place) (sym c.place.ensures) ∙ sym w.if-is_at.ensures)
 ]

@@ -4,4 +4,5 @@ use Rattle.vb_model.specs.World.{is_place, runs}
 use Rattle.vb_guest.proofs.queries.runs_at.Given as goal
 
 abbrev pub invariant-loop-page : goal.invariant-loop-page
-invariant-loop-page l = l.found.items ≡ runs (pages_where (is_place l.place) (take l.page l.driver.places))
+invariant-loop-page l =
+    l.found.items ≡ runs (pages_where (is_place l.place) (take l.page l.driver.places))

@@ -1,12 +1,15 @@
-use Rattle.std.proofs.Common.{◌≡◌, ◌<◌, ◌+◌, ℕ, List, Option, Some, None, set, min, ap, subst, ◌∙◌, sym, arith}
+use Rattle.std.proofs.Common.{◌≡◌, ◌<◌, ◌+◌, ℕ, List, Option, Some, None, set, min, ap, subst, ◌∙◌}
+use Rattle.std.proofs.Common.{sym, arith}
 use Rattle.std.proofs.lemmas.Bool.{both_ways}
 use Rattle.vb_model.specs.Pages.{pages_of}
 use Rattle.vb_pages.specs.Areas.{with_pages, block_at}
 use Rattle.vb_pages.specs.Table.{order_at}
 use Rattle.vb_pages.specs.Tiles.{HasRoom, IsTiled, set_of}
-use Rattle.vb_pages.proofs.TilesLemmas.{joined_tiled, joined_room, joined_set, room_empty, added_tiled, added_set, no_buddy, no_larger, HasNoBuddy}
+use Rattle.vb_pages.proofs.TilesLemmas.{joined_tiled, joined_room, joined_set, room_empty}
+use Rattle.vb_pages.proofs.TilesLemmas.{added_tiled, added_set, no_buddy, no_larger, HasNoBuddy}
 use Rattle.vb_pages.proofs.areas.+put_block.Goals as goal
-use Rattle.vb_pages.proofs.areas.+put_block.Goals.{else-order-lt-MAX_ORDER-via-then-order-lt-MAX_ORDER+else-is_listed, else-order-lt-MAX_ORDER-via-else-order-lt-MAX_ORDER}
+use Rattle.vb_pages.proofs.areas.+put_block.Goals.{else-order-lt-MAX_ORDER-via-then-order-lt-MAX_ORDER+else-is_listed}
+use Rattle.vb_pages.proofs.areas.+put_block.Goals.{else-order-lt-MAX_ORDER-via-else-order-lt-MAX_ORDER}
 
 pub put_block-requires : goal.put_block-requires
 put_block-requires t c =
@@ -18,16 +21,20 @@ put_block-requires t c =
     let nine : k < 9 = c.if-order-lt-MAX_ORDER.true in
     let now : set table b None ≡ c.remove.new.self = sym c.remove.ensures in
     let low : min s b ≡ c.min.result = sym c.min.ensures in
-    let room = joined_room table s k b c.requires.tiled c.requires.room c.buddy_of-buddy.ensures listed nine in (
+    let room = joined_room table s k b c.requires.tiled c.requires.room c.buddy_of-buddy.ensures
+    listed nine in (
       omega arith,
       (
-        subst IsTiled now (joined_tiled table s k b c.requires.tiled c.requires.room c.buddy_of-buddy.ensures listed nine),
-        subst (λ (n : ℕ). HasRoom c.remove.new.self n (k + 1)) low (subst (λ (u : List (Option ℕ)). HasRoom u (min s b) (k + 1)) now room),
+        subst IsTiled now (joined_tiled table s k b c.requires.tiled c.requires.room
+            c.buddy_of-buddy.ensures listed nine),
+        subst (λ (n : ℕ). HasRoom c.remove.new.self n (k + 1)) low
+            (subst (λ (u : List (Option ℕ)). HasRoom u (min s b) (k + 1)) now room),
       ),
     )
 
 pub add-requires-clause-empty : goal.add-requires-clause-empty
-add-requires-clause-empty t c = room_empty c.args.table.now c.args.start c.args.order c.requires.tiled.placed c.requires.room
+add-requires-clause-empty t c =
+    room_empty c.args.table.now c.args.start c.args.order c.requires.tiled.placed c.requires.room
 
 pub returns-then-is_listed-clause-set : goal.returns-then-is_listed-clause-set
 returns-then-is_listed-clause-set t c =
@@ -37,9 +44,12 @@ returns-then-is_listed-clause-set t c =
     let b = c.buddy_of-buddy.result in
     let listed : order_at table b ≡ Some k = c.is_listed.ensures.0 c.if-is_listed.true in
     c.put_block.ensures.set
-    ∙ (ap (λ (n : ℕ). with_pages (pages_of (block_at n (k + 1))) (set_of c.remove.new.self)) c.min.ensures
-    ∙ (ap (λ (u : List (Option ℕ)). with_pages (pages_of (block_at (min s b) (k + 1))) (set_of u)) c.remove.ensures
-    ∙ joined_set table s k b c.requires.tiled c.requires.room c.buddy_of-buddy.ensures listed c.if-order-lt-MAX_ORDER.true))
+    ∙ (ap (λ (n : ℕ). with_pages (pages_of (block_at n (k + 1))) (set_of c.remove.new.self))
+    c.min.ensures
+    ∙ (ap (λ (u : List (Option ℕ)). with_pages (pages_of (block_at (min s b) (k + 1))) (set_of u))
+    c.remove.ensures
+    ∙ joined_set table s k b c.requires.tiled c.requires.room c.buddy_of-buddy.ensures listed
+    c.if-order-lt-MAX_ORDER.true))
 
 pub returns-else-order-lt-MAX_ORDER-clause-tiled : goal.returns-else-order-lt-MAX_ORDER-clause-tiled
 returns-else-order-lt-MAX_ORDER-clause-tiled t c =
@@ -49,11 +59,15 @@ returns-else-order-lt-MAX_ORDER-clause-tiled t c =
     let alone : HasNoBuddy table s k =
     elim c.else-order-lt-MAX_ORDER.branch [
       | else-order-lt-MAX_ORDER-via-then-order-lt-MAX_ORDER+else-is_listed w ↦
-          no_buddy table s k c.buddy_of-buddy.result c.buddy_of-buddy.ensures (λ e. both_ways w.is_listed.result w.if-is_listed.false (w.is_listed.ensures.1 e))
-      | else-order-lt-MAX_ORDER-via-else-order-lt-MAX_ORDER w ↦ no_larger table s k w.if-order-lt-MAX_ORDER.false
+          no_buddy table s k c.buddy_of-buddy.result c.buddy_of-buddy.ensures
+          (λ e. both_ways w.is_listed.result w.if-is_listed.false (w.is_listed.ensures.1 e))
+      | else-order-lt-MAX_ORDER-via-else-order-lt-MAX_ORDER w ↦
+          no_larger table s k w.if-order-lt-MAX_ORDER.false
     ] in
     subst IsTiled (sym c.add.ensures) (added_tiled table s k c.requires.tiled c.requires.room alone)
 
 pub returns-else-order-lt-MAX_ORDER-clause-set : goal.returns-else-order-lt-MAX_ORDER-clause-set
 returns-else-order-lt-MAX_ORDER-clause-set t c =
-    ap set_of c.add.ensures ∙ added_set c.args.table.now c.args.start c.args.order c.requires.tiled.placed c.requires.room
+    ap set_of c.add.ensures
+    ∙ added_set c.args.table.now c.args.start c.args.order c.requires.tiled.placed
+    c.requires.room

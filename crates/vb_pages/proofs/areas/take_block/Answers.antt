@@ -1,28 +1,37 @@
-use Rattle.std.proofs.Common.{◌≡◌, ◌≤◌, ℕ, List, Option, Some, None, set, ap, subst, ◌∙◌, sym, arith}
+use Rattle.std.proofs.Common.{◌≡◌, ◌≤◌, ℕ, List, Option, Some, None, set, ap, subst, ◌∙◌, sym}
+use Rattle.std.proofs.Common.{arith}
 use Rattle.vb_model.specs.Pages.{pages_of}
 use Rattle.vb_pages.specs.Areas.{without_pages, with_pages, block_at}
 use Rattle.vb_pages.specs.Table.{IsLowestStart}
 use Rattle.vb_pages.specs.Tiles.{HasRoom, IsTiled, set_of}
-use Rattle.vb_pages.proofs.TilesLemmas.{removed_tiled, removed_room, chosen, none_inside, none_more, part_left}
+use Rattle.vb_pages.proofs.TilesLemmas.{removed_tiled, removed_room, chosen, none_inside, none_more}
+use Rattle.vb_pages.proofs.TilesLemmas.{part_left}
 use Rattle.vb_pages.proofs.areas.take_block.Goals as goal
 use Rattle.vb_pages.proofs.areas.take_block.Goals.{After-remove}
 
 -- the start that was found, in the table as it was
-found : (c : After-remove) → IsLowestStart c.args.table.now c.loop-larger.larger 0 (Some c.in-Some.start)
-found c = subst (λ (u : List (Option ℕ)). IsLowestStart u c.loop-larger.larger 0 (Some c.in-Some.start)) c.loop-larger.invariant.0 c.in-Some.ensures
+found : (c : After-remove)
+    → IsLowestStart c.args.table.now c.loop-larger.larger 0 (Some c.in-Some.start)
+found c = subst (λ (u : List (Option ℕ)). IsLowestStart u c.loop-larger.larger 0
+    (Some c.in-Some.start)) c.loop-larger.invariant.0 c.in-Some.ensures
 
 left : (c : After-remove) → set c.args.table.now c.in-Some.start None ≡ c.remove.new.self
-left c = ap (λ (u : List (Option ℕ)). set u c.in-Some.start None) (sym c.loop-larger.invariant.0) ∙ sym c.remove.ensures
+left c = ap (λ (u : List (Option ℕ)). set u c.in-Some.start None) (sym c.loop-larger.invariant.0)
+    ∙ sym c.remove.ensures
 
 pub put_rest-requires-clause-tiled : goal.put_rest-requires-clause-tiled
 put_rest-requires-clause-tiled c =
     let d = (goal.at.put_rest-requires-clause-tiled c).After-remove in
-    subst IsTiled (left d) (removed_tiled c.args.table.now c.in-Some.start c.loop-larger.larger c.requires.tiled (found d).0)
+    subst IsTiled (left d)
+    (removed_tiled c.args.table.now c.in-Some.start c.loop-larger.larger c.requires.tiled
+    (found d).0)
 
 pub put_rest-requires-clause-room : goal.put_rest-requires-clause-room
 put_rest-requires-clause-room c =
     let d = (goal.at.put_rest-requires-clause-room c).After-remove in
-    subst (λ (u : List (Option ℕ)). HasRoom u c.in-Some.start c.loop-larger.larger) (left d) (removed_room c.args.table.now c.in-Some.start c.loop-larger.larger c.requires.tiled.placed (found d).0)
+    subst (λ (u : List (Option ℕ)). HasRoom u c.in-Some.start c.loop-larger.larger) (left d)
+    (removed_room c.args.table.now c.in-Some.start c.loop-larger.larger c.requires.tiled.placed
+    (found d).0)
 
 pub returns-in-Some-clause-taken : goal.returns-in-Some-clause-taken
 returns-in-Some-clause-taken c =
@@ -31,21 +40,32 @@ returns-in-Some-clause-taken c =
     let s = c.in-Some.start in
     let k = c.loop-larger.larger in
     let o : c.args.order ≤ k = omega arith in (
-      (k, chosen t c.requires.tiled.placed c.requires.tiled.merged c.args.order s k o c.loop-larger.invariant.1 (found d)),
+      (
+        k,
+        chosen t c.requires.tiled.placed c.requires.tiled.merged c.args.order s k o
+            c.loop-larger.invariant.1 (found d),
+      ),
       c.put_rest.ensures.set
-          ∙ (ap (λ (u : List (Option ℕ)). without_pages (pages_of (block_at s c.args.order)) (with_pages (pages_of (block_at s k)) (set_of u))) (sym (left d))
+          ∙ (ap (λ (u : List (Option ℕ)). without_pages (pages_of (block_at s c.args.order))
+          (with_pages (pages_of (block_at s k)) (set_of u))) (sym (left d))
           ∙ part_left t s k c.args.order c.requires.tiled.placed (found d).0),
     )
 
 pub loop-larger-preserved : goal.loop-larger-preserved
-loop-larger-preserved c = (c.loop-larger.invariant.0, none_more c.args.table.now c.args.order c.loop-larger.larger (subst (λ (u : List (Option ℕ)). IsLowestStart u c.loop-larger.larger 0 None) c.loop-larger.invariant.0 c.in_default.ensures) c.loop-larger.invariant.1)
+loop-larger-preserved c = (
+  c.loop-larger.invariant.0,
+  none_more c.args.table.now c.args.order c.loop-larger.larger
+      (subst (λ (u : List (Option ℕ)). IsLowestStart u c.loop-larger.larger 0 None)
+      c.loop-larger.invariant.0 c.in_default.ensures) c.loop-larger.invariant.1,
+)
 
 pub returns-clause-tiled : goal.returns-clause-tiled
 returns-clause-tiled c = subst IsTiled (sym c.loop-larger.invariant.0) c.requires.tiled
 
 pub returns-clause-taken : goal.returns-clause-taken
 returns-clause-taken c = (
-  none_inside c.args.table.now c.requires.tiled.placed c.requires.tiled.merged c.args.order (λ s k a e.
+  none_inside c.args.table.now c.requires.tiled.placed c.requires.tiled.merged c.args.order
+      (λ s k a e.
       let nine : k ≤ 9 = c.requires.tiled.placed.bounded s k e in
       c.loop-larger.invariant.1 s k a (omega arith) e),
   ap set_of c.loop-larger.invariant.0,

@@ -1,9 +1,11 @@
-use Rattle.std.proofs.Common.{◌≡◌, ◌<◌, ◌+◌, ℕ, List, length, get_or, set, ap, subst, ◌∙◌, sym, arith}
+use Rattle.std.proofs.Common.{◌≡◌, ◌<◌, ◌+◌, ℕ, List, length, get_or, set, ap, subst, ◌∙◌, sym}
+use Rattle.std.proofs.Common.{arith}
 use Rattle.std.specs.Prelude.{count_by}
 use Rattle.std.proofs.lemmas.List.{get_or_default}
 use Rattle.vb_pages.specs.Areas.{with_pages}
 use Rattle.vb_pages.proofs.ListsLemmas.{Once}
-use Rattle.vb_pages.proofs.FreeLemmas.{IsDrainedSoFar, drained_none, next_once, next_drained, all_drained, nothing}
+use Rattle.vb_pages.proofs.FreeLemmas.{IsDrainedSoFar, drained_none, next_once, next_drained}
+use Rattle.vb_pages.proofs.FreeLemmas.{all_drained, nothing}
 use Rattle.vb_pages.proofs.free.drain_lists.Goals as goal
 
 pub loop-list-init : goal.loop-list-init
@@ -13,20 +15,30 @@ pub drain-requires : goal.drain-requires
 drain-requires c =
     let i = c.loop-list.list-index in
     let inside : i < length c.loop-list.lists = omega (arith, c.loop-list.auto.lists) in
-    subst (λ (xs : List ℕ). Once c.loop-list.areas xs) (get_or_default c.loop-list.lists i nothing c.list-item.result inside)
-    (next_once c.args.areas.now c.args.lists.now c.requires i c.loop-list.areas c.loop-list.lists c.loop-list.invariant c.loop-list-test.true)
+    subst (λ (xs : List ℕ). Once c.loop-list.areas xs)
+    (get_or_default c.loop-list.lists i nothing c.list-item.result inside)
+    (next_once c.args.areas.now c.args.lists.now c.requires i c.loop-list.areas c.loop-list.lists
+    c.loop-list.invariant c.loop-list-test.true)
 
 pub loop-list-preserved : goal.loop-list-preserved
 loop-list-preserved c =
     let i = c.loop-list.list-index in
     let inside : i < length c.loop-list.lists = omega (arith, c.loop-list.auto.lists) in
-    let item : get_or c.loop-list.lists i c.list-item.result ≡ get_or c.loop-list.lists i nothing = get_or_default c.loop-list.lists i c.list-item.result nothing inside in
-    let areas : c.drain.new.areas ≡ with_pages (get_or c.loop-list.lists i nothing) c.loop-list.areas = c.drain.ensures.areas ∙ ap (λ (xs : List ℕ). with_pages xs c.loop-list.areas) item in
-    let count : count_by (λ f. f) c.drain.new.areas ≡ count_by (λ f. f) c.loop-list.areas + length (get_or c.loop-list.lists i nothing) = omega (arith, c.drain.ensures.count, ap length item) in
-    subst (λ (xs : List ℕ). IsDrainedSoFar c.args.areas.now c.args.lists.now (i + 1) c.drain.new.areas (set c.loop-list.lists i xs)) (sym c.drain.ensures.empty)
-    (next_drained c.args.areas.now c.args.lists.now c.requires i c.loop-list.areas c.loop-list.lists c.loop-list.invariant c.loop-list-test.true c.drain.new.areas areas count)
+    let item : get_or c.loop-list.lists i c.list-item.result ≡ get_or c.loop-list.lists i nothing =
+    get_or_default c.loop-list.lists i c.list-item.result nothing inside in
+    let areas : c.drain.new.areas
+    ≡ with_pages (get_or c.loop-list.lists i nothing) c.loop-list.areas =
+    c.drain.ensures.areas ∙ ap (λ (xs : List ℕ). with_pages xs c.loop-list.areas) item in
+    let count : count_by (λ f. f) c.drain.new.areas
+    ≡ count_by (λ f. f) c.loop-list.areas + length (get_or c.loop-list.lists i nothing) =
+    omega (arith, c.drain.ensures.count, ap length item) in
+    subst (λ (xs : List ℕ). IsDrainedSoFar c.args.areas.now c.args.lists.now (i + 1)
+    c.drain.new.areas (set c.loop-list.lists i xs)) (sym c.drain.ensures.empty)
+    (next_drained c.args.areas.now c.args.lists.now c.requires i c.loop-list.areas c.loop-list.lists
+    c.loop-list.invariant c.loop-list-test.true c.drain.new.areas areas count)
 
 pub returns : goal.returns
 returns c =
-    let all = all_drained c.args.areas.now c.args.lists.now c.loop-list.list-index c.loop-list.areas c.loop-list.lists c.loop-list-test.false c.loop-list.invariant in
+    let all = all_drained c.args.areas.now c.args.lists.now c.loop-list.list-index c.loop-list.areas
+    c.loop-list.lists c.loop-list-test.false c.loop-list.invariant in
     record { areas = all.0; count = all.1; lists = all.2 }

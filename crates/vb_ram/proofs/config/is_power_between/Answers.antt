@@ -4,4 +4,6 @@ use Rattle.vb_ram.proofs.config.is_power_between.Goals as goal
 
 pub returns : goal.returns
 returns c =
-    ap (λ (b : Bool). b && c.is_power_of_two.result) c.is_between.ensures ∙ ap (λ (b : Bool). is_between c.args.least c.args.most c.args.number && b) c.is_power_of_two.ensures
+    ap (λ (b : Bool). b && c.is_power_of_two.result) c.is_between.ensures
+    ∙ ap (λ (b : Bool). is_between c.args.least c.args.most c.args.number && b)
+    c.is_power_of_two.ensures

@@ -1,4 +1,5 @@
-use Rattle.std.proofs.Common.{◌≡◌, ◌≢◌, ◌∙◌, sym, ap, ℕ, ◌+◌, ◌<◌, List, Option, length, set, get_or, Some, None, Bool, true, false, arith, inl, inr, refl}
+use Rattle.std.proofs.Common.{◌≡◌, ◌≢◌, ◌∙◌, sym, ap, ℕ, ◌+◌, ◌<◌, List, Option, length, set}
+use Rattle.std.proofs.Common.{get_or, Some, None, Bool, true, false, arith, inl, inr, refl}
 use Rattle.std.specs.Prelude.{slice_index, slice_index_or, if◌then◌else◌}
 use Rattle.std.proofs.lemmas.List.{length-set, get_or-set_same, get_or-set_other, ext_get_or}
 use Rattle.std.proofs.lemmas.Bool.{cases_eq}
@@ -9,38 +10,53 @@ use Rattle.vb_ring.proofs.OwnerLaws.{is_in-some, not_in, claimed-at}
 use Rattle.vb_ring.proofs.owners.claim.Goals as goal
 
 -- a table whose path belongs to the head, and whose rest is as before, is the claimed one
-claimed_is : (path : List ℕ) (h : ℕ) (old new : List (Option ℕ)) → length new ≡ length old → ((k : ℕ) → k < length path → slice_index path k < length old)
+claimed_is : (path : List ℕ) (h : ℕ) (old new : List (Option ℕ)) → length new ≡ length old
+    → ((k : ℕ) → k < length path → slice_index path k < length old)
     → ((k : ℕ) → k < length path → slice_index_or new (slice_index path k) None ≡ Some h)
-    → ((i : ℕ) → ((k : ℕ) → k < length path → slice_index path k ≢ i) → slice_index_or new i None ≡ slice_index_or old i None) → new ≡ claimed path h old
+    → ((i : ℕ) → ((k : ℕ) → k < length path → slice_index path k ≢ i)
+    → slice_index_or new i None ≡ slice_index_or old i None) → new ≡ claimed path h old
 claimed_is path h old new len inside now others =
-    ext_get_or None new (claimed path h old) (len ∙ sym (length-each_from 0 (λ i entry. if is_in i path then Some h else entry) old)) (λ i l.
+    ext_get_or None new (claimed path h old)
+    (len ∙ sym (length-each_from 0 (λ i entry. if is_in i path then Some h else entry) old))
+    (λ i l.
     at i (is_in i path) refl ∙ sym (claimed-at path h old i inside))
   where
-    at : (i : ℕ) (b : Bool) → is_in i path ≡ b → slice_index_or new i None ≡ (if is_in i path then Some h else slice_index_or old i None)
+    at : (i : ℕ) (b : Bool) → is_in i path ≡ b
+        → slice_index_or new i None ≡ (if is_in i path then Some h else slice_index_or old i None)
     at i true e =
         let found = is_in-some path i e in
-        ap (λ n. slice_index_or new n None) (sym found.2) ∙ now found.0 found.1 ∙ ap (λ (b : Bool). if b then Some h else slice_index_or old i None) (sym e)
-    at i false e = others i (λ k l. not_in path i k e l) ∙ ap (λ (b : Bool). if b then Some h else slice_index_or old i None) (sym e)
+        ap (λ n. slice_index_or new n None) (sym found.2) ∙ now found.0 found.1
+        ∙ ap (λ (b : Bool). if b then Some h else slice_index_or old i None) (sym e)
+    at i false e = others i (λ k l. not_in path i k e l)
+        ∙ ap (λ (b : Bool). if b then Some h else slice_index_or old i None) (sym e)
 
 pub loop-i-preserved : goal.loop-i-preserved
 loop-i-preserved c =
     let at = c.from.result in
     let path = c.args.path.now in
     let here : slice_index path c.loop-i.i-index ≡ at = sym c.from.ensures in
-    let size : at < length c.loop-i.owner = omega (arith, c.requires c.loop-i.i-index (omega arith), c.loop-i.invariant.len) in
-    let before : (k : ℕ) → k < c.loop-i.i-index + 1 → slice_index path k ≢ at → k < c.loop-i.i-index = λ k h ne.
-    elim (cases_eq k c.loop-i.i-index) [ inl e ↦ absurd (ne (ap (slice_index path) e ∙ here)) | inr far ↦ omega (arith, far) ] in
+    let size : at < length c.loop-i.owner =
+    omega (arith, c.requires c.loop-i.i-index (omega arith), c.loop-i.invariant.len) in
+    let before : (k : ℕ) → k < c.loop-i.i-index + 1 → slice_index path k ≢ at
+    → k < c.loop-i.i-index = λ k h ne.
+    elim (cases_eq k c.loop-i.i-index)
+    [ inl e ↦ absurd (ne (ap (slice_index path) e ∙ here)) | inr far ↦ omega (arith, far) ] in
     record {
       len = length-set c.loop-i.owner at (Some c.args.head) ∙ c.loop-i.invariant.len;
       now = λ k h. elim (cases_eq (slice_index path k) at) [
-        | inl same ↦ ap (λ n. get_or (set c.loop-i.owner at (Some c.args.head)) n None) same ∙ get_or-set_same c.loop-i.owner at (Some c.args.head) None size
-        | inr ne ↦ get_or-set_other c.loop-i.owner at (slice_index path k) (Some c.args.head) None ne ∙ c.loop-i.invariant.now k (before k h ne)
+        | inl same ↦ ap (λ n. get_or (set c.loop-i.owner at (Some c.args.head)) n None) same
+            ∙ get_or-set_same c.loop-i.owner at (Some c.args.head) None size
+        | inr ne ↦ get_or-set_other c.loop-i.owner at (slice_index path k) (Some c.args.head) None
+            ne ∙ c.loop-i.invariant.now k (before k h ne)
       ];
       others = λ i apart.
-          get_or-set_other c.loop-i.owner at i (Some c.args.head) None (λ e. apart c.loop-i.i-index (omega arith) (here ∙ sym e)) ∙ c.loop-i.invariant.others i apart;
+          get_or-set_other c.loop-i.owner at i (Some c.args.head) None
+          (λ e. apart c.loop-i.i-index (omega arith) (here ∙ sym e))
+          ∙ c.loop-i.invariant.others i apart;
     }
 
 pub returns : goal.returns
 returns c =
-    claimed_is c.args.path.now c.args.head c.args.owner.now c.loop-i.owner c.loop-i.invariant.len c.requires
+    claimed_is c.args.path.now c.args.head c.args.owner.now c.loop-i.owner c.loop-i.invariant.len
+    c.requires
     (λ k l. c.loop-i.invariant.now k (omega arith)) c.loop-i.invariant.others

@@ -6,5 +6,6 @@ abbrev pub invariant-loop-i : goal.invariant-loop-i
 invariant-loop-i l = record {
   len : length l.owner ≡ length l.initial.owner;
   now : (k : ℕ) → k < l.i-index → slice_index_or l.owner (slice_index l.path k) None ≡ Some l.head;
-  others : (i : ℕ) → ((k : ℕ) → k < length l.path → slice_index l.path k ≢ i) → slice_index_or l.owner i None ≡ slice_index_or l.initial.owner i None;
+  others : (i : ℕ) → ((k : ℕ) → k < length l.path → slice_index l.path k ≢ i)
+      → slice_index_or l.owner i None ≡ slice_index_or l.initial.owner i None;
 }

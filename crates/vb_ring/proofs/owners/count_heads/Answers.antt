@@ -6,7 +6,8 @@ use Rattle.vb_ring.proofs.Numbers.{numbers_zero, numbers_yes, numbers_no, length
 use Rattle.vb_ring.proofs.owners.count_heads.Goals as goal
 use Rattle.vb_ring.proofs.owners.count_heads.Goals.{then-is_head, else-is_head}
 
-counted_more : (p : ℕ → Bool) (i : ℕ) → p i ≡ true → length (numbers p (i + 1)) ≡ length (numbers p i) + 1
+counted_more : (p : ℕ → Bool) (i : ℕ) → p i ≡ true
+    → length (numbers p (i + 1)) ≡ length (numbers p i) + 1
 counted_more p i e = ap length (numbers_yes p i e) ∙ length_push (numbers p i) i
 
 pub loop-i-init : goal.loop-i-init
@@ -19,6 +20,8 @@ pub loop-i-preserved : goal.loop-i-preserved
 loop-i-preserved c =
     let p : ℕ → Bool = is_head c.args.owner.now in
     elim c.if-is_head.branch [
-      | then-is_head w ↦ w.count-is ∙ ap (λ n. n + 1) c.loop-i.invariant ∙ sym (counted_more p c.loop-i.i (sym c.is_head.ensures ∙ w.if-is_head.true))
-      | else-is_head w ↦ w.count-is ∙ c.loop-i.invariant ∙ sym (ap length (numbers_no p c.loop-i.i (sym c.is_head.ensures ∙ w.if-is_head.false)))
+      | then-is_head w ↦ w.count-is ∙ ap (λ n. n + 1) c.loop-i.invariant
+          ∙ sym (counted_more p c.loop-i.i (sym c.is_head.ensures ∙ w.if-is_head.true))
+      | else-is_head w ↦ w.count-is ∙ c.loop-i.invariant
+          ∙ sym (ap length (numbers_no p c.loop-i.i (sym c.is_head.ensures ∙ w.if-is_head.false)))
     ]

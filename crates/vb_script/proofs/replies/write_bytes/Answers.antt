@@ -8,5 +8,6 @@ loop-byte-init g c = c.in_ok-write_all.ensures.bytes
 
 pub loop-byte-preserved : goal.loop-byte-preserved
 loop-byte-preserved g c =
-    both_written _ (g.W.Write.contents c.loop-byte.out) _ _ _ _ c.loop-byte.invariant c.in_ok-write_byte.ensures
+    both_written _ (g.W.Write.contents c.loop-byte.out) _ _ _ _ c.loop-byte.invariant
+    c.in_ok-write_byte.ensures
     (byte_more c.args.bytes.now c.loop-byte.byte-index c.loop-byte-test.true)

@@ -4,4 +4,6 @@ use Rattle.vb_script.specs.Replies.{bytes_text}
 use Rattle.vb_script.proofs.replies.write_bytes.Given as goal
 
 abbrev pub invariant-loop-byte : goal.invariant-loop-byte
-invariant-loop-byte g l = Appends (g.W.Write.contents l.fn.out) (g.W.Write.contents l.out) (bytes_text (take l.byte-index l.bytes))
+invariant-loop-byte g l =
+    Appends (g.W.Write.contents l.fn.out) (g.W.Write.contents l.out)
+    (bytes_text (take l.byte-index l.bytes))

@@ -4,4 +4,6 @@ use Rattle.vb_script.specs.Replies.{runs_text}
 use Rattle.vb_script.proofs.replies.write_runs.Given as goal
 
 abbrev pub invariant-loop-run : goal.invariant-loop-run
-invariant-loop-run g l = Appends (g.W.Write.contents l.fn.out) (g.W.Write.contents l.out) (runs_text (take l.run-index l.runs))
+invariant-loop-run g l =
+    Appends (g.W.Write.contents l.fn.out) (g.W.Write.contents l.out)
+    (runs_text (take l.run-index l.runs))

@@ -4,4 +4,6 @@ use Rattle.vb_script.specs.Replies.{targets_text}
 use Rattle.vb_script.proofs.replies.write_targets.Given as goal
 
 abbrev pub invariant-loop-target : goal.invariant-loop-target
-invariant-loop-target g l = Appends (g.W.Write.contents l.fn.out) (g.W.Write.contents l.out) (targets_text (take l.target-index l.targets))
+invariant-loop-target g l =
+    Appends (g.W.Write.contents l.fn.out) (g.W.Write.contents l.out)
+    (targets_text (take l.target-index l.targets))

@@ -9,8 +9,10 @@ pub returns-in-Ok-clause-ok : goal.returns-in-Ok-clause-ok
 returns-in-Ok-clause-ok c =
     let some : 0 < length c.args.word.now = search rules in
     let few : length c.args.word.now ≤ 2 * 4096 = omega arith in
-    let decoded : decode_of c.args.word.now ≡ Ok c.in-Ok.bytes.items = c.in-Ok.ensures.ok in
-    (IsByteWord-decodes c.args.word.now c.in-Ok.bytes.items some few decoded, rw c.new.ensures decoded)
+    let decoded : decode_of c.args.word.now ≡ Ok c.in-Ok.bytes.items = c.in-Ok.ensures.ok in (
+      IsByteWord-decodes c.args.word.now c.in-Ok.bytes.items some few decoded,
+      rw c.new.ensures decoded,
+    )
 
 pub returns-in-Err-clause-bad : goal.returns-in-Err-clause-bad
 returns-in-Err-clause-bad c = λ bad shown.
@@ -35,4 +37,5 @@ returns-in-Err-clause-none c = λ bad.
     ]
 
 pub returns-then-is_empty-clause-none : goal.returns-then-is_empty-clause-none
-returns-then-is_empty-clause-none c = λ bad. bytes_out_of_range c.args.word.now (λ some few. absurd (search (rules, tests)))
+returns-then-is_empty-clause-none c =
+    λ bad. bytes_out_of_range c.args.word.now (λ some few. absurd (search (rules, tests)))

@@ -7,18 +7,22 @@ use Rattle.vb_script.proofs.values.number.Goals as goal
 pub returns-in_err-value-clause-shown : goal.returns-in_err-value-clause-shown
 returns-in_err-value-clause-shown c =
     rw c.from_residual.ensures
-    (no_number c.args.word.now c.loop-digit.digit-index c.loop-digit.value c.loop-digit.invariant.value
+    (no_number c.args.word.now c.loop-digit.digit-index c.loop-digit.value
+    c.loop-digit.invariant.value
     c.loop-digit-test.true (λ more. c.in_err-value.ensures more))
 
 pub returns-in_err-value-clause-value : goal.returns-in_err-value-clause-value
-returns-in_err-value-clause-value c = number_shown c.args.word.now _ (returns-in_err-value-clause-shown c)
+returns-in_err-value-clause-value c =
+    number_shown c.args.word.now _ (returns-in_err-value-clause-shown c)
 
 pub returns-clause-shown : goal.returns-clause-shown
 returns-clause-shown c =
-    let whole = whole_number c.args.word.now c.loop-digit.digit-index c.loop-digit.value c.loop-digit.invariant.value
+    let whole = whole_number c.args.word.now c.loop-digit.digit-index c.loop-digit.value
+    c.loop-digit.invariant.value
     c.loop-digit-test.false in
     let some : 0 < length c.args.word.now = search rules in
-    let small : decimal_value c.args.word.now < 2 ^ 32 = omega (arith, whole, c.loop-digit.invariant.fits) in
+    let small : decimal_value c.args.word.now < 2 ^ 32 =
+    omega (arith, whole, c.loop-digit.invariant.fits) in
     (((some, λ k d lt. c.loop-digit.invariant.digits k d (omega arith)), small), whole)
 
 pub returns-clause-value : goal.returns-clause-value

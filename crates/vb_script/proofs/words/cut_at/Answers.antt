@@ -6,8 +6,14 @@ use Rattle.vb_script.proofs.words.cut_at.Goals as goal
 
 pub returns-in-Some-clause-split : goal.returns-in-Some-clause-split
 returns-in-Some-clause-split c =
-    let found = position_from_yields_List (λ x. x == c.args.byte) _ _ c.position.result c.position.ensures.ran (YieldsList-from_slice c.args.text.now cc) (λ x b q k. search (rules, tests)) in cut_found c.args.byte c.args.text.now c.in-Some.end (sym c.in-Some.is ∙ found)
+    let found = position_from_yields_List (λ x. x == c.args.byte) _ _ c.position.result
+    c.position.ensures.ran (YieldsList-from_slice c.args.text.now cc)
+    (λ x b q k. search (rules, tests)) in
+    cut_found c.args.byte c.args.text.now c.in-Some.end (sym c.in-Some.is ∙ found)
 
 pub returns-in-None-clause-split : goal.returns-in-None-clause-split
 returns-in-None-clause-split c =
-    let found = position_from_yields_List (λ x. x == c.args.byte) _ _ c.position.result c.position.ensures.ran (YieldsList-from_slice c.args.text.now cc) (λ x b q k. search (rules, tests)) in not_cut c.args.byte c.args.text.now (sym c.in-None.is ∙ found)
+    let found = position_from_yields_List (λ x. x == c.args.byte) _ _ c.position.result
+    c.position.ensures.ran (YieldsList-from_slice c.args.text.now cc)
+    (λ x b q k. search (rules, tests)) in
+    not_cut c.args.byte c.args.text.now (sym c.in-None.is ∙ found)

@@ -5,4 +5,6 @@ use Rattle.vb_script.specs.Replies.{line_of}
 use Rattle.vb_sim.proofs.run.write_all_lines.Given as goal
 
 abbrev pub invariant-loop-reply : goal.invariant-loop-reply
-invariant-loop-reply g l = Appends (g.W.Write.contents l.fn.out) (g.W.Write.contents l.out) (flat_map line_of (take l.reply-index l.replies))
+invariant-loop-reply g l =
+    Appends (g.W.Write.contents l.fn.out) (g.W.Write.contents l.out)
+    (flat_map line_of (take l.reply-index l.replies))

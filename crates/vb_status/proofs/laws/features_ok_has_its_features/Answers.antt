@@ -3,4 +3,7 @@ use Rattle.vb_status.proofs.Accepted.{requests_keep, at_first}
 use Rattle.vb_status.proofs.laws.features_ok_has_its_features.Goals as goal
 
 pub returns : goal.returns
-returns c = record { both = λ requests last leads e. requests_keep requests unplugged last leads at_first e }
+returns c = record {
+  both = λ requests last leads e. requests_keep requests unplugged last leads
+      at_first e;
+}

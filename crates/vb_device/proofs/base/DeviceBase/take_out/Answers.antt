@@ -1,4 +1,5 @@
-use Rattle.std.proofs.Common.{◌≡◌, ◌∙◌, ◌≤◌, ◌<◌, ℕ, List, None, Some, Ok, Err, get_or, true, sym, ap, subst, rules}
+use Rattle.std.proofs.Common.{◌≡◌, ◌∙◌, ◌≤◌, ◌<◌, ℕ, List, None, Some, Ok, Err, get_or, true, sym}
+use Rattle.std.proofs.Common.{ap, subst, rules}
 use Rattle.std.specs.Prelude.{length, slice_get, IsSome}
 use Rattle.std.proofs.Math.ListN.{set}
 use Rattle.vb_model.specs.declared.replies.Refusal.TheVariants.{NotTaken}
@@ -13,7 +14,8 @@ use Rattle.vb_device.specs.BaseCalls.{queue_refusal, with_lost, TakesOut}
 use Rattle.vb_device.specs.Calls.{without_frames}
 use Rattle.vb_device.proofs.Both.{entry_is, set_back}
 use Rattle.vb_device.proofs.TakesBy.{queue_known, queue_finish, status_ok}
-use Rattle.vb_device.proofs.Finishes.{out_at, out_refused, not_taken, without_taken, base_used, has_pages, can_use, kept_length}
+use Rattle.vb_device.proofs.Finishes.{out_at, out_refused, not_taken, without_taken, base_used}
+use Rattle.vb_device.proofs.Finishes.{has_pages, can_use, kept_length}
 use Rattle.vb_device.proofs.base.DeviceBase.take_out.Goals as goal
 
 pub returns-in-Some-clause-by : goal.returns-in-Some-clause-by

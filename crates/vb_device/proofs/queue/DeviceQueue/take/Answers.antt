@@ -1,4 +1,5 @@
-use Rattle.std.proofs.Common.{◌≡◌, true, false, rules, ◌∙◌, ◌+◌, ◌*◌, ◌≤◌, ◌<◌, ℕ, List, ◌∷◌, [], Option, Some, None, Ok, Err, sym, ap, subst}
+use Rattle.std.proofs.Common.{◌≡◌, true, false, rules, ◌∙◌, ◌+◌, ◌*◌, ◌≤◌, ◌<◌, ℕ, List, ◌∷◌, []}
+use Rattle.std.proofs.Common.{Option, Some, None, Ok, Err, sym, ap, subst}
 use Rattle.std.specs.Prelude.{All, length}
 use Rattle.std.proofs.lemmas.List.Elements.{All-append}
 use Rattle.vb_model.specs.Requests.{Request}

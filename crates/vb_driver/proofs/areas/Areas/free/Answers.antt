@@ -19,9 +19,14 @@ returns-clause-state c =
       | in-Ok w ↦ w.result-is ∙ sym (ap answered w.in-Ok.is)
       | in-Err w ↦ w.result-is ∙ (ap Err w.refusal_of.ensures ∙ sym (ap answered w.in-Err.is))
     ] in
-    subst (λ (v : PageState). OnOk c.match-freed.result (Becomes v new (marked (pages_of b) true (flags_of v.free)) (without_block b v.held))) c.self.view_is
-    (subst (λ (r : Result Unit Refusal). OnOk r (Becomes s new (marked (pages_of b) true (flags_of s.free)) (without_block b s.held))) (sym is)
-    (free_state s new c.args.cpu c.args.start c.args.order c.free-freed.result c.free-freed.ensures.freed c.free-freed.ensures.gained))
+    subst (λ (v : PageState). OnOk c.match-freed.result
+    (Becomes v new (marked (pages_of b) true (flags_of v.free)) (without_block b v.held)))
+    c.self.view_is
+    (subst (λ (r : Result Unit Refusal). OnOk r
+    (Becomes s new (marked (pages_of b) true (flags_of s.free)) (without_block b s.held)))
+    (sym is)
+    (free_state s new c.args.cpu c.args.start c.args.order c.free-freed.result
+    c.free-freed.ensures.freed c.free-freed.ensures.gained))
 
 pub returns-clause-apart : goal.returns-clause-apart
 returns-clause-apart c = areas_apart c.free-freed.new.self c.pages_are_apart.ensures

@@ -7,11 +7,14 @@ use Rattle.vb_driver.specs.State.{DriverState, IsDriver}
 use Rattle.vb_driver.specs.Areas.{flags_of}
 use Rattle.vb_driver.specs.Calls.{AllocatesBy}
 use Rattle.vb_driver.specs.contracts.driver.Driver.{the_view}
-use Rattle.vb_driver.proofs.Owning.{whole_is, alloc_tests_same, free_block_inside, allocated_kept, unallocated_kept}
+use Rattle.vb_driver.proofs.Owning.{whole_is, alloc_tests_same, free_block_inside, allocated_kept}
+use Rattle.vb_driver.proofs.Owning.{unallocated_kept}
 use Rattle.vb_driver.proofs.driver.Driver.alloc.Goals as goal
 
 pub set_block-requires-clause-inside : goal.set_block-requires-clause-inside
-set_block-requires-clause-inside c = free_block_inside (the_view c.self.inside) (block_at c.in-Ok.start c.args.order) c.self.invariant c.in-Ok.ensures.free
+set_block-requires-clause-inside c =
+    free_block_inside (the_view c.self.inside) (block_at c.in-Ok.start c.args.order)
+    c.self.invariant c.in-Ok.ensures.free
 
 pub invariant_of-self : goal.invariant_of-self
 invariant_of-self c =
@@ -19,9 +22,13 @@ invariant_of-self c =
     let new = c.alloc.new.self in
     let b = block_at c.in-Ok.start c.args.order in
     let becomes = c.in-Ok.ensures.state in
-    let kept = allocated_kept d new.free b c.self.invariant c.in-Ok.ensures.free becomes.free becomes.processors in
-    subst (λ (v : List Place). IsDriver (record d { places = v; held = new.held; areas = new.free })) (sym c.set_block.ensures)
-    (subst (λ (v : List Block). IsDriver (record d { places = placed (pages_of b) Used d.places; held = v; areas = new.free })) (sym becomes.held) kept)
+    let kept = allocated_kept d new.free b c.self.invariant c.in-Ok.ensures.free becomes.free
+    becomes.processors in
+    subst (λ (v : List Place). IsDriver
+    (record d { places = v; held = new.held; areas = new.free })) (sym c.set_block.ensures)
+    (subst (λ (v : List Block). IsDriver
+    (record d { places = placed (pages_of b) Used d.places; held = v; areas = new.free }))
+    (sym becomes.held) kept)
 
 pub returns-in-Ok : goal.returns-in-Ok
 returns-in-Ok c =
@@ -30,20 +37,28 @@ returns-in-Ok c =
     let start = c.in-Ok.start in
     let order = c.args.order in
     let b = block_at start order in
-    let new : DriverState = record d { places = c.set_block.new.self; held = areas.held; areas = areas.free } in
+    let new : DriverState =
+    record d { places = c.set_block.new.self; held = areas.held; areas = areas.free } in
     let allocates : AllocatesBy d new c.args.cpu order (Ok start) = record {
       driver = c.self.invariant;
       refusal = c.in-Ok.ensures.refusal ∙ alloc_tests_same d c.args.cpu order c.self.invariant;
       refused = tt;
-      free = sym (whole_is d.places (flags_of d.areas) b c.self.invariant.free) ∙ c.in-Ok.ensures.free;
-      state = ap (λ (v : List Place). record d { places = v; held = areas.held; areas = areas.free }) c.set_block.ensures
-          ∙ ap (λ (v : List Block). record d { places = placed (pages_of b) Used d.places; held = v; areas = areas.free }) c.in-Ok.ensures.state.held;
+      free = sym (whole_is d.places (flags_of d.areas) b c.self.invariant.free)
+          ∙ c.in-Ok.ensures.free;
+      state = ap (λ (v : List Place). record d
+          { places = v; held = areas.held; areas = areas.free }) c.set_block.ensures
+          ∙ ap (λ (v : List Block). record d
+          { places = placed (pages_of b) Used d.places; held = v; areas = areas.free })
+          c.in-Ok.ensures.state.held;
       areas = c.in-Ok.ensures.areas;
     } in
-    subst (λ (v : DriverState). AllocatesBy v new c.args.cpu order (Ok start)) c.self.view_is allocates
+    subst (λ (v : DriverState). AllocatesBy v new c.args.cpu order (Ok start)) c.self.view_is
+    allocates
 
 pub invariant_of-self-in-Err : goal.invariant_of-self-in-Err
-invariant_of-self-in-Err c = unallocated_kept (the_view c.self.inside) c.alloc.new.self c.self.invariant c.in-Err.ensures.refused
+invariant_of-self-in-Err c =
+    unallocated_kept (the_view c.self.inside) c.alloc.new.self c.self.invariant
+    c.in-Err.ensures.refused
 
 pub returns-in-Err : goal.returns-in-Err
 returns-in-Err c =
@@ -52,10 +67,13 @@ returns-in-Err c =
     let new : DriverState = record d { held = areas.held; areas = areas.free } in
     let allocates : AllocatesBy d new c.args.cpu c.args.order (Err c.in-Err.refusal) = record {
       driver = c.self.invariant;
-      refusal = c.in-Err.ensures.refusal ∙ alloc_tests_same d c.args.cpu c.args.order c.self.invariant;
-      refused = ap (λ (v : List Block). record d { held = v; areas = areas.free }) c.in-Err.ensures.refused.held;
+      refusal = c.in-Err.ensures.refusal
+          ∙ alloc_tests_same d c.args.cpu c.args.order c.self.invariant;
+      refused = ap (λ (v : List Block). record d { held = v; areas = areas.free })
+          c.in-Err.ensures.refused.held;
       free = tt;
       state = tt;
       areas = c.in-Err.ensures.areas;
     } in
-    subst (λ (v : DriverState). AllocatesBy v new c.args.cpu c.args.order (Err c.in-Err.refusal)) c.self.view_is allocates
+    subst (λ (v : DriverState). AllocatesBy v new c.args.cpu c.args.order (Err c.in-Err.refusal))
+    c.self.view_is allocates

@@ -13,7 +13,8 @@ use Rattle.vb_driver.proofs.driver.Driver.ask_back.Goals as goal
 pub set_all-requires : goal.set_all-requires
 set_all-requires g c p here =
     let d = the_view c.self.inside in
-    let items : c.deref.result.now ≡ lowest_lent d c.args.count = c.deref.ensures.0 ∙ c.lowest-pages.ensures in
+    let items : c.deref.result.now ≡ lowest_lent d c.args.count =
+    c.deref.ensures.0 ∙ c.lowest-pages.ensures in
     let there : is_in p (lowest_lent d c.args.count) ≡ true = ap (is_in p) (sym items) ∙ here in
     there_by d.places p is_lent refl (lowest_is d.places c.args.count is_lent p there)
 
@@ -22,25 +23,45 @@ invariant_of-self g c =
     let d = the_view c.self.inside in
     let m1 = g.P.GuestBytes.mem c.args.port.now in
     let m2 = g.P.GuestBytes.mem c.post-head.new.ram in
-    let lowest : c.lowest-pages.result.items ≡ lowest_lent d c.args.count = c.lowest-pages.ensures in
-    let placed_is : c.set_all.new.self ≡ placed (lowest_lent d c.args.count) Taking d.places = c.set_all.ensures ∙ ap (λ (l : List ℕ). placed l Taking d.places) (c.deref.ensures.0 ∙ lowest) in
-    let posts : Posts m1 m2 d.deflate c.post-head.new.self 8 (lowest_lent d c.args.count) c.post-head.result = subst (λ (l : List ℕ). Posts m1 m2 d.deflate c.post-head.new.self 8 l c.post-head.result) lowest c.post-head.ensures.posts in
-    subst (λ (ps : List Place). IsDriver (record d { places = ps; deflate = c.post-head.new.self })) (sym placed_is)
-    (asked_kept m1 m2 d c.post-head.new.self 8 c.args.count c.post-head.result c.self.invariant posts)
+    let lowest : c.lowest-pages.result.items ≡ lowest_lent d c.args.count =
+    c.lowest-pages.ensures in
+    let placed_is : c.set_all.new.self ≡ placed (lowest_lent d c.args.count) Taking d.places =
+    c.set_all.ensures ∙ ap (λ (l : List ℕ). placed l Taking d.places)
+    (c.deref.ensures.0 ∙ lowest) in
+    let posts : Posts m1 m2 d.deflate c.post-head.new.self 8 (lowest_lent d c.args.count)
+    c.post-head.result = subst
+    (λ (l : List ℕ). Posts m1 m2 d.deflate c.post-head.new.self 8 l c.post-head.result) lowest
+    c.post-head.ensures.posts in
+    subst (λ (ps : List Place). IsDriver (record d { places = ps; deflate = c.post-head.new.self }))
+    (sym placed_is)
+    (asked_kept m1 m2 d c.post-head.new.self 8 c.args.count c.post-head.result c.self.invariant
+    posts)
 
 pub returns : goal.returns
 returns g c =
     let d = the_view c.self.inside in
     let m1 = g.P.GuestBytes.mem c.args.port.now in
     let m2 = g.P.GuestBytes.mem c.post-head.new.ram in
-    let lowest : c.lowest-pages.result.items ≡ lowest_lent d c.args.count = c.lowest-pages.ensures in
-    let placed_is : c.set_all.new.self ≡ placed (lowest_lent d c.args.count) Taking d.places = c.set_all.ensures ∙ ap (λ (l : List ℕ). placed l Taking d.places) (c.deref.ensures.0 ∙ lowest) in
-    let posts : Posts m1 m2 d.deflate c.post-head.new.self 8 (lowest_lent d c.args.count) c.post-head.result = subst (λ (l : List ℕ). Posts m1 m2 d.deflate c.post-head.new.self 8 l c.post-head.result) lowest c.post-head.ensures.posts in
-    let new : DriverState = record d { places = c.set_all.new.self; deflate = c.post-head.new.self } in
-    let asks : AsksBack m1 m2 (g.P.GuestBytes.part c.args.port.now) (g.P.GuestBytes.part c.post-head.new.ram) d new c.args.count (record { head = c.post-head.result; pages = c.args.count }) = record {
+    let lowest : c.lowest-pages.result.items ≡ lowest_lent d c.args.count =
+    c.lowest-pages.ensures in
+    let placed_is : c.set_all.new.self ≡ placed (lowest_lent d c.args.count) Taking d.places =
+    c.set_all.ensures ∙ ap (λ (l : List ℕ). placed l Taking d.places)
+    (c.deref.ensures.0 ∙ lowest) in
+    let posts : Posts m1 m2 d.deflate c.post-head.new.self 8 (lowest_lent d c.args.count)
+    c.post-head.result = subst
+    (λ (l : List ℕ). Posts m1 m2 d.deflate c.post-head.new.self 8 l c.post-head.result) lowest
+    c.post-head.ensures.posts in
+    let new : DriverState =
+    record d { places = c.set_all.new.self; deflate = c.post-head.new.self } in
+    let asks : AsksBack m1 m2 (g.P.GuestBytes.part c.args.port.now)
+    (g.P.GuestBytes.part c.post-head.new.ram) d new c.args.count
+    (record { head = c.post-head.result; pages = c.args.count }) = record {
       posts = posts;
       pages = refl;
       part = c.post-head.ensures.part;
-      state = ap (λ (ps : List Place). record d { places = ps; deflate = c.post-head.new.self }) placed_is;
+      state = ap (λ (ps : List Place). record d { places = ps; deflate = c.post-head.new.self })
+          placed_is;
     } in
-    subst (λ (v : DriverState). AsksBack m1 m2 (g.P.GuestBytes.part c.args.port.now) (g.P.GuestBytes.part c.post-head.new.ram) v new c.args.count (record { head = c.post-head.result; pages = c.args.count })) c.self.view_is asks
+    subst (λ (v : DriverState). AsksBack m1 m2 (g.P.GuestBytes.part c.args.port.now)
+    (g.P.GuestBytes.part c.post-head.new.ram) v new c.args.count
+    (record { head = c.post-head.result; pages = c.args.count })) c.self.view_is asks

@@ -11,4 +11,6 @@ returns c =
     let d = the_view c.self.inside in
     let lent : c.count-lent.result ≡ count_by is_lent d.places = c.count-lent.ensures in
     let giving : c.count.result ≡ count_by is_giving d.places = c.count.ensures in
-    subst (λ (v : DriverState). c.min-3.result ≡ deflate_count v c.args.target c.args.n) c.self.view_is (omega (arith, c.min.ensures, c.saturating_sub.ensures, c.min-2.ensures, c.min-3.ensures))
+    subst (λ (v : DriverState). c.min-3.result ≡ deflate_count v c.args.target c.args.n)
+    c.self.view_is (omega
+    (arith, c.min.ensures, c.saturating_sub.ensures, c.min-2.ensures, c.min-3.ensures))

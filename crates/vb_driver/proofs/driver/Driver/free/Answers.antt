@@ -12,7 +12,8 @@ pub set_block-requires-clause-inside : goal.set_block-requires-clause-inside
 set_block-requires-clause-inside c =
     let d = the_view c.self.inside in
     let b = block_at c.args.start c.args.order in
-    held_block_inside d b c.self.invariant (freed_was_held d.held b (length d.areas.lists) _ c.in-Ok.ensures.refusal)
+    held_block_inside d b c.self.invariant
+    (freed_was_held d.held b (length d.areas.lists) _ c.in-Ok.ensures.refusal)
 
 pub invariant_of-self : goal.invariant_of-self
 invariant_of-self c =
@@ -20,6 +21,11 @@ invariant_of-self c =
     let new = c.free.new.self in
     let b = block_at c.args.start c.args.order in
     let becomes = c.in-Ok.ensures.state in
-    let kept = block_freed_kept d new b c.self.invariant (freed_was_held d.held b (length d.areas.lists) _ c.in-Ok.ensures.refusal) becomes.free becomes.held becomes.processors c.in-Ok.ensures.apart in
-    subst (λ (v : List Place). IsDriver (record d { places = v; held = new.held; areas = new.free })) (sym c.set_block.ensures)
-    (subst (λ (v : List Block). IsDriver (record d { places = placed (pages_of b) Free d.places; held = v; areas = new.free })) (sym becomes.held) kept)
+    let kept = block_freed_kept d new b c.self.invariant
+    (freed_was_held d.held b (length d.areas.lists) _ c.in-Ok.ensures.refusal) becomes.free
+    becomes.held becomes.processors c.in-Ok.ensures.apart in
+    subst (λ (v : List Place). IsDriver
+    (record d { places = v; held = new.held; areas = new.free })) (sym c.set_block.ensures)
+    (subst (λ (v : List Block). IsDriver
+    (record d { places = placed (pages_of b) Free d.places; held = v; areas = new.free }))
+    (sym becomes.held) kept)

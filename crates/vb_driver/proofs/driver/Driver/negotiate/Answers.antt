@@ -25,22 +25,38 @@ returns-in-Err g c =
     let refusal : Refusal = refusal_of_fault c.in-Err.fault in
     let fine : is_err c.negotiate.result ≡ false = sym c.is_err.ensures.value ∙ c.if-is_err.false in
     let three : began.status ≡ 3 = ap (λ (p : Part). p.status) c.begin.ensures.part in
-    let offered : negotiate_refusal 3 w ≡ None = ap (λ (n : ℕ). negotiate_refusal n w) (sym three) ∙ (sym c.negotiate.ensures.answer ∙ none_ok c.negotiate.result fine) in
-    let took : agreed ≡ record began { features = w } = at_ok c.negotiate.result _ fine c.negotiate.ensures.ok in
-    let here : agreed ≡ record (part_after_reset p1) { status = 3; features = w } = took ∙ ap (λ (p : Part). record p { features = w }) c.begin.ensures.part in
-    let bits : c.union-agreed.result.0 ≡ 11 = c.union-agreed.ensures tt ∙ ap (λ (n : ℕ). bit_or n 8) (c.status.ensures ∙ ap (λ (p : Part). p.status) here) in
-    let answer : Some refusal ≡ status_refusal 3 w 11 = c.in-Err.ensures.answer ∙ (ap (λ (p : Part). status_refusal p.status p.features c.union-agreed.result.0) here ∙ ap (status_refusal 3 w) bits) in
+    let offered : negotiate_refusal 3 w ≡ None =
+    ap (λ (n : ℕ). negotiate_refusal n w) (sym three)
+    ∙ (sym c.negotiate.ensures.answer ∙ none_ok c.negotiate.result fine) in
+    let took : agreed ≡ record began { features = w } =
+    at_ok c.negotiate.result _ fine c.negotiate.ensures.ok in
+    let here : agreed ≡ record (part_after_reset p1) { status = 3; features = w } =
+    took ∙ ap (λ (p : Part). record p { features = w }) c.begin.ensures.part in
+    let bits : c.union-agreed.result.0 ≡ 11 =
+    c.union-agreed.ensures tt
+    ∙ ap (λ (n : ℕ). bit_or n 8) (c.status.ensures ∙ ap (λ (p : Part). p.status) here) in
+    let answer : Some refusal ≡ status_refusal 3 w 11 =
+    c.in-Err.ensures.answer
+    ∙ (ap (λ (p : Part). status_refusal p.status p.features c.union-agreed.result.0) here
+    ∙ ap (status_refusal 3 w) bits) in
     let same : accepted_before refusal w ≡ w = accepted_then w refusal answer in
-    let part : p2 ≡ record (part_after_reset p1) { status = 131; features = w } = c.give_up-in-Err.ensures.part ∙ ap (λ (p : Part). record p { status = bit_or p.status 128 }) (c.in-Err.ensures.err ∙ here) in
+    let part : p2 ≡ record (part_after_reset p1) { status = 131; features = w } =
+    c.give_up-in-Err.ensures.part
+    ∙ ap (λ (p : Part). record p { status = bit_or p.status 128 })
+    (c.in-Err.ensures.err ∙ here) in
     let gives : GivesUp m1 m2 p1 p2 d (record d { features = w }) w = record {
-      mem = c.give_up-in-Err.ensures.mem ∙ (c.write_status.ensures.mem ∙ (c.negotiate.ensures.mem ∙ c.begin.ensures.mem));
+      mem = c.give_up-in-Err.ensures.mem
+          ∙ (c.write_status.ensures.mem ∙ (c.negotiate.ensures.mem ∙ c.begin.ensures.mem));
       part = part;
       driver = refl;
     } in
-    let told : GivesUp m1 m2 p1 p2 c.args.self.now (record d { features = w }) (accepted_before c.refusal_of.result w) =
-    subst (λ (r : Refusal). GivesUp m1 m2 p1 p2 c.args.self.now (record d { features = w }) (accepted_before r w)) (sym c.refusal_of.ensures)
+    let told : GivesUp m1 m2 p1 p2 c.args.self.now (record d { features = w })
+    (accepted_before c.refusal_of.result w) =
+    subst (λ (r : Refusal). GivesUp m1 m2 p1 p2 c.args.self.now (record d { features = w })
+    (accepted_before r w)) (sym c.refusal_of.ensures)
     (subst (λ (n : ℕ). GivesUp m1 m2 p1 p2 c.args.self.now (record d { features = w }) n) (sym same)
-    (subst (λ (v : DriverState). GivesUp m1 m2 p1 p2 v (record d { features = w }) w) c.self.view_is gives)) in
+    (subst (λ (v : DriverState). GivesUp m1 m2 p1 p2 v (record d { features = w }) w) c.self.view_is
+    gives)) in
     record {
       refusal = ap Some c.refusal_of.ensures ∙ (answer ∙ sym (offered_then w offered));
       refused = told;

@@ -11,11 +11,15 @@ use Rattle.vb_driver.proofs.driver.Driver.new.Goals as goal
 
 pub new-requires-2 : goal.new-requires-2
 new-requires-2 c =
-    let limits : AreWithinLimits c.args.config.pages c.args.config.queue_size c.args.config.processors = config_limits c.args.config.pages c.args.config.queue_size c.args.config.processors c.requires in
+    let limits : AreWithinLimits c.args.config.pages c.args.config.queue_size
+    c.args.config.processors =
+    config_limits c.args.config.pages c.args.config.queue_size c.args.config.processors
+    c.requires in
     (limits.pages_least, limits.pages_most, limits.processors_least, limits.processors_most)
 
 pub new-requires-3 : goal.new-requires-3
-new-requires-3 c = size_of_config c.args.config.pages c.args.config.queue_size c.args.config.processors c.requires
+new-requires-3 c = size_of_config c.args.config.pages c.args.config.queue_size
+    c.args.config.processors c.requires
 
 pub invariant_of-result : goal.invariant_of-result
 invariant_of-result c =
@@ -26,8 +30,25 @@ invariant_of-result c =
     let f = feature_bits c.empty.result in
     let limits : AreWithinLimits pages size cpus = config_limits pages size cpus c.requires in
     let d : DriverState = record (fresh_driver pages size cpus) { features = f } in
-    let kept : IsDriver d = fresh_kept pages size cpus f limits.pages_least limits.pages_most (size_of_config pages size cpus c.requires) in
-    subst (λ (v : List Place). IsDriver (record d { places = v; held = areas.held; areas = areas.free; inflate = c.in_ok-new-3.field-0; deflate = c.in_ok-new-4.field-0 })) (sym c.in_ok-new.ensures)
-    (subst (λ (v : PageState). IsDriver (record d { held = v.held; areas = v.free; inflate = c.in_ok-new-3.field-0; deflate = c.in_ok-new-4.field-0 })) (sym c.in_ok-new-2.ensures)
-    (subst (λ (v : Side). IsDriver (record d { inflate = v; deflate = c.in_ok-new-4.field-0 })) (sym c.in_ok-new-3.ensures)
+    let kept : IsDriver d =
+    fresh_kept pages size cpus f limits.pages_least limits.pages_most
+    (size_of_config pages size cpus c.requires) in
+    subst (λ (v : List Place). IsDriver
+    (record d {
+      places = v;
+      held = areas.held;
+      areas = areas.free;
+      inflate = c.in_ok-new-3.field-0;
+      deflate = c.in_ok-new-4.field-0;
+    }))
+    (sym c.in_ok-new.ensures)
+    (subst (λ (v : PageState). IsDriver
+    (record d {
+      held = v.held;
+      areas = v.free;
+      inflate = c.in_ok-new-3.field-0;
+      deflate = c.in_ok-new-4.field-0;
+    })) (sym c.in_ok-new-2.ensures)
+    (subst (λ (v : Side). IsDriver (record d { inflate = v; deflate = c.in_ok-new-4.field-0 }))
+    (sym c.in_ok-new-3.ensures)
     (subst (λ (v : Side). IsDriver (record d { deflate = v })) (sym c.in_ok-new-4.ensures) kept)))

@@ -10,4 +10,5 @@ pub returns : goal.returns
 returns c =
     let d = the_view c.self.inside in
     let lent : c.count.result ≡ count_by is_lent d.places = c.count.ensures in
-    subst (λ (v : DriverState). c.min-2.result ≡ oom_count v c.args.n) c.self.view_is (omega (arith, c.min.ensures, c.min-2.ensures))
+    subst (λ (v : DriverState). c.min-2.result ≡ oom_count v c.args.n) c.self.view_is
+    (omega (arith, c.min.ensures, c.min-2.ensures))

@@ -7,7 +7,17 @@ use Rattle.vb_driver.proofs.driver.Driver.places.Goals as goal
 pub returns-clause-counts : goal.returns-clause-counts
 returns-clause-counts c =
     let d = the_view c.self.inside in
-    subst (λ (v : DriverState). AreCountsOf (record { free = c.count.result; used = c.count-2.result; giving = c.count-3.result; lent = c.count-4.result; taking = c.count-5.result; stranded = c.count-6.result; reporting = c.count-7.result }) v.places) c.self.view_is (record {
+    subst (λ (v : DriverState). AreCountsOf
+    (record {
+      free = c.count.result;
+      used = c.count-2.result;
+      giving = c.count-3.result;
+      lent = c.count-4.result;
+      taking = c.count-5.result;
+      stranded = c.count-6.result;
+      reporting =
+          c.count-7.result;
+    }) v.places) c.self.view_is (record {
       free = c.count.ensures;
       used = c.count-2.ensures;
       giving = c.count-3.ensures;

@@ -8,7 +8,8 @@ use Rattle.vb_driver.specs.Areas.{flags_of}
 use Rattle.vb_driver.specs.Places.{marked}
 use Rattle.vb_driver.specs.contracts.driver.Driver.{the_view}
 use Rattle.vb_model.specs.Orderly.{times}
-use Rattle.vb_driver.proofs.Moving.{freed_taking, freed_once, freed_uncovered, freed_unfree, freed_inside, freed_unreserved, freed_kept}
+use Rattle.vb_driver.proofs.Moving.{freed_taking, freed_once, freed_uncovered, freed_unfree}
+use Rattle.vb_driver.proofs.Moving.{freed_inside, freed_unreserved, freed_kept}
 use Rattle.vb_driver.proofs.driver.Driver.reap_freed.Goals as goal
 
 pub give_all-requires-clause-unreserved : goal.give_all-requires-clause-unreserved
@@ -17,7 +18,8 @@ give_all-requires-clause-unreserved g c p here =
     let head = c.in-Ok-Some.used.0 in
     let next = rw c.in-Ok-Some.field-0-is at c.in-Ok-Some.ensures.next in
     let items : c.deref.result.now ≡ sent_by d.deflate head = c.deref.ensures.0 ∙ next.2 in
-    freed_unreserved d p c.self.invariant (freed_taking d head p next.1 c.self.invariant (ap (is_in p) (sym items) ∙ here))
+    freed_unreserved d p c.self.invariant
+    (freed_taking d head p next.1 c.self.invariant (ap (is_in p) (sym items) ∙ here))
 
 pub give_all-requires-clause-inside : goal.give_all-requires-clause-inside
 give_all-requires-clause-inside g c p here =
@@ -25,7 +27,8 @@ give_all-requires-clause-inside g c p here =
     let head = c.in-Ok-Some.used.0 in
     let next = rw c.in-Ok-Some.field-0-is at c.in-Ok-Some.ensures.next in
     let items : c.deref.result.now ≡ sent_by d.deflate head = c.deref.ensures.0 ∙ next.2 in
-    (freed_inside d p c.self.invariant (freed_taking d head p next.1 c.self.invariant (ap (is_in p) (sym items) ∙ here))).0
+    (freed_inside d p c.self.invariant
+    (freed_taking d head p next.1 c.self.invariant (ap (is_in p) (sym items) ∙ here))).0
 
 pub give_all-requires-clause-taken : goal.give_all-requires-clause-taken
 give_all-requires-clause-taken g c p here =
@@ -33,7 +36,8 @@ give_all-requires-clause-taken g c p here =
     let head = c.in-Ok-Some.used.0 in
     let next = rw c.in-Ok-Some.field-0-is at c.in-Ok-Some.ensures.next in
     let items : c.deref.result.now ≡ sent_by d.deflate head = c.deref.ensures.0 ∙ next.2 in
-    freed_unfree d p c.self.invariant (freed_taking d head p next.1 c.self.invariant (ap (is_in p) (sym items) ∙ here))
+    freed_unfree d p c.self.invariant
+    (freed_taking d head p next.1 c.self.invariant (ap (is_in p) (sym items) ∙ here))
 
 pub give_all-requires-clause-uncovered : goal.give_all-requires-clause-uncovered
 give_all-requires-clause-uncovered g c p here =
@@ -41,7 +45,8 @@ give_all-requires-clause-uncovered g c p here =
     let head = c.in-Ok-Some.used.0 in
     let next = rw c.in-Ok-Some.field-0-is at c.in-Ok-Some.ensures.next in
     let items : c.deref.result.now ≡ sent_by d.deflate head = c.deref.ensures.0 ∙ next.2 in
-    freed_uncovered d p c.self.invariant (freed_taking d head p next.1 c.self.invariant (ap (is_in p) (sym items) ∙ here))
+    freed_uncovered d p c.self.invariant
+    (freed_taking d head p next.1 c.self.invariant (ap (is_in p) (sym items) ∙ here))
 
 pub give_all-requires-clause-once : goal.give_all-requires-clause-once
 give_all-requires-clause-once g c p =
@@ -56,7 +61,8 @@ settle-requires g c p here =
     let d = the_view c.self.inside in
     let head = c.in-Ok-Some.used.0 in
     let next = rw c.in-Ok-Some.field-0-is at c.in-Ok-Some.ensures.next in
-    (freed_inside d p c.self.invariant (freed_taking d head p next.1 c.self.invariant (ap (is_in p) (sym next.2) ∙ here))).1
+    (freed_inside d p c.self.invariant
+    (freed_taking d head p next.1 c.self.invariant (ap (is_in p) (sym next.2) ∙ here))).1
 
 pub invariant_of-self-2 : goal.invariant_of-self-2
 invariant_of-self-2 g c =
@@ -65,9 +71,30 @@ invariant_of-self-2 g c =
     let head = c.in-Ok-Some.used.0 in
     let next = rw c.in-Ok-Some.field-0-is at c.in-Ok-Some.ensures.next in
     let items : c.deref.result.now ≡ sent_by d.deflate head = c.deref.ensures.0 ∙ next.2 in
-    let moved : c.settle.new.places ≡ placed (sent_by d.deflate head) Free d.places = c.settle.ensures.places ∙ ap (λ (l : List ℕ). placed l Free d.places) next.2 in
-    let free : flags_of areas2.free ≡ marked (sent_by d.deflate head) true (flags_of d.areas) = c.give_all.ensures.state.free ∙ ap (λ (l : List ℕ). marked l true (flags_of d.areas)) items in
-    subst (λ (v : List Place). IsDriver (record d { places = v; held = areas2.held; areas = areas2.free; deflate = c.take_back.new.queue })) (sym moved)
-    (subst (λ (v : List Block). IsDriver (record d { places = placed (sent_by d.deflate head) Free d.places; held = v; areas = areas2.free; deflate = c.take_back.new.queue })) (sym c.give_all.ensures.state.held)
-    (subst (λ (v : Side). IsDriver (record d { places = placed (sent_by d.deflate head) Free d.places; areas = areas2.free; deflate = v })) (sym next.3)
-    (freed_kept d areas2.free head next.1 c.self.invariant free c.give_all.ensures.state.processors)))
+    let moved : c.settle.new.places ≡ placed (sent_by d.deflate head) Free d.places =
+    c.settle.ensures.places ∙ ap (λ (l : List ℕ). placed l Free d.places) next.2 in
+    let free : flags_of areas2.free ≡ marked (sent_by d.deflate head) true (flags_of d.areas) =
+    c.give_all.ensures.state.free
+    ∙ ap (λ (l : List ℕ). marked l true (flags_of d.areas)) items in
+    subst (λ (v : List Place). IsDriver
+    (record d {
+      places = v;
+      held = areas2.held;
+      areas = areas2.free;
+      deflate = c.take_back.new.queue;
+    })) (sym moved)
+    (subst (λ (v : List Block). IsDriver
+    (record d {
+      places = placed (sent_by d.deflate head) Free d.places;
+      held = v;
+      areas = areas2.free;
+      deflate = c.take_back.new.queue;
+    })) (sym c.give_all.ensures.state.held)
+    (subst (λ (v : Side). IsDriver
+    (record d {
+      places = placed (sent_by d.deflate head) Free d.places;
+      areas = areas2.free;
+      deflate = v;
+    })) (sym next.3)
+    (freed_kept d areas2.free head next.1 c.self.invariant free
+    c.give_all.ensures.state.processors)))

@@ -20,7 +20,11 @@ invariant_of-self-2 g c =
     let d = the_view c.self.inside in
     let head = c.in-Ok-Some.used.0 in
     let next = rw c.in-Ok-Some.field-0-is at c.in-Ok-Some.ensures.next in
-    let moved : c.settle.new.places ≡ placed (sent_by d.inflate head) Lent d.places = c.settle.ensures.places ∙ ap (λ (l : List ℕ). placed l Lent d.places) next.2 in
-    subst (λ (v : List Place). IsDriver (record d { places = v; inflate = c.take_back.new.queue })) (sym moved)
-    (subst (λ (v : Side). IsDriver (record d { places = placed (sent_by d.inflate head) Lent d.places; inflate = v })) (sym next.3)
+    let moved : c.settle.new.places ≡ placed (sent_by d.inflate head) Lent d.places =
+    c.settle.ensures.places ∙ ap (λ (l : List ℕ). placed l Lent d.places) next.2 in
+    subst (λ (v : List Place). IsDriver (record d { places = v; inflate = c.take_back.new.queue }))
+    (sym moved)
+    (subst (λ (v : Side). IsDriver
+    (record d { places = placed (sent_by d.inflate head) Lent d.places; inflate = v }))
+    (sym next.3)
     (lent_kept d head next.1 c.self.invariant))

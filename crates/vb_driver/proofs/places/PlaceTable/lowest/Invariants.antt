@@ -4,4 +4,6 @@ use Rattle.vb_driver.specs.Places.{is_at}
 use Rattle.vb_driver.proofs.places.PlaceTable.lowest.Given as goal
 
 abbrev pub invariant-loop-page : goal.invariant-loop-page
-invariant-loop-page l = l.lowest.items ≡ take l.most (pages_where (is_at l.place) (take l.page l.self-inside.places.items))
+invariant-loop-page l =
+    l.lowest.items ≡ take l.most
+    (pages_where (is_at l.place) (take l.page l.self-inside.places.items))

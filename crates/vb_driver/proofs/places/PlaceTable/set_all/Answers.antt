@@ -10,8 +10,14 @@ loop-page-init c = sym (marked_none c.args.place c.args.self.now)
 
 pub set-requires : goal.set-requires
 set-requires c =
-    let inside = c.requires (get_or c.args.pages.now c.loop-page.page-index 0) (is_in-at c.args.pages.now c.loop-page.page-index c.loop-page-test.true) in
-    omega (arith, inside, ap (λ (l : List Place). length l) c.loop-page.invariant, length-marked (take c.loop-page.page-index c.args.pages.now) c.args.place c.args.self.now)
+    let inside = c.requires (get_or c.args.pages.now c.loop-page.page-index 0)
+    (is_in-at c.args.pages.now c.loop-page.page-index c.loop-page-test.true) in
+    omega (
+      arith,
+      inside,
+      ap (λ (l : List Place). length l) c.loop-page.invariant,
+      length-marked (take c.loop-page.page-index c.args.pages.now) c.args.place c.args.self.now,
+    )
 
 pub loop-page-preserved : goal.loop-page-preserved
 loop-page-preserved c =
@@ -21,4 +27,5 @@ loop-page-preserved c =
     c.set.ensures
     ∙ (ap (λ (l : List Place). set l x c.args.place) c.loop-page.invariant
     ∙ (sym (marked_more (take i c.args.pages.now) x c.args.place c.args.self.now inside)
-    ∙ ap (λ (l : List ℕ). placed l c.args.place c.args.self.now) (sym (take_more c.args.pages.now i 0 c.loop-page-test.true))))
+    ∙ ap (λ (l : List ℕ). placed l c.args.place c.args.self.now)
+    (sym (take_more c.args.pages.now i 0 c.loop-page-test.true))))

@@ -4,4 +4,5 @@ use Rattle.vb_model.specs.Pages.{placed}
 use Rattle.vb_driver.proofs.places.PlaceTable.set_block.Given as goal
 
 abbrev pub invariant-loop-page : goal.invariant-loop-page
-invariant-loop-page l = l.self ≡ placed (range_with_len l.start (l.page - l.start)) l.place l.initial.self
+invariant-loop-page l =
+    l.self ≡ placed (range_with_len l.start (l.page - l.start)) l.place l.initial.self

@@ -1,4 +1,5 @@
-use Rattle.std.proofs.Common.{◌≡◌, List, [], ◌∷◌, Bool, false, inl, inr, length, ap, ◌∙◌, sym, refl, arith}
+use Rattle.std.proofs.Common.{◌≡◌, List, [], ◌∷◌, Bool, false, inl, inr, length, ap, ◌∙◌, sym, refl}
+use Rattle.std.proofs.Common.{arith}
 use Rattle.std.specs.Prelude.{◌==◌}
 use Rattle.std.proofs.lemmas.Bool.{or_cases, or_left, eqb-true, eq-eqb, both_ways, cases_eq}
 use Rattle.vb_pages.specs.Areas.{has, with_pages}
@@ -25,7 +26,8 @@ loop-page-preserved c =
       (λ p a b l.
           ap (λ (s : List Bool). has s p) e ∙
           elim (cases_eq x p) [
-            | inl same ↦ with_new (x ∷ []) old p (omega (arith, inv.0)) (or_left (x == p) false (eq-eqb x p same))
+            | inl same ↦ with_new (x ∷ []) old p (omega (arith, inv.0))
+                (or_left (x == p) false (eq-eqb x p same))
             | inr differ ↦ with_old (x ∷ []) old p (inv.2 p a (omega arith) l)
           ]),
     )
@@ -33,4 +35,5 @@ loop-page-preserved c =
 pub returns : goal.returns
 returns c =
     let inv = c.loop-page.invariant in
-    unreserved_is c.loop-page.self c.args.pages inv.0 (λ p h. (inv.1 p h).0) (λ p a l. inv.2 p a (omega arith) l)
+    unreserved_is c.loop-page.self c.args.pages inv.0 (λ p h. (inv.1 p h).0)
+    (λ p a l. inv.2 p a (omega arith) l)

@@ -5,4 +5,5 @@ use Rattle.vb_pages.proofs.areas.Areas.fill.Given as goal
 -- the pages that were gone over are in, and no others
 abbrev pub invariant-loop-page : goal.invariant-loop-page
 invariant-loop-page l =
-    (length l.self ≡ l.pages) × ((p : ℕ) → has l.self p ≡ true → (16 ≤ p) × (p < l.page)) × ((p : ℕ) → 16 ≤ p → p < l.page → p < l.pages → has l.self p ≡ true)
+    (length l.self ≡ l.pages) × ((p : ℕ) → has l.self p ≡ true → (16 ≤ p) × (p < l.page))
+    × ((p : ℕ) → 16 ≤ p → p < l.page → p < l.pages → has l.self p ≡ true)

@@ -11,14 +11,19 @@ use Rattle.vb_pages.proofs.areas.Areas.isolate.Goals as goal
 pub returns-in_err-block : goal.returns-in_err-block
 returns-in_err-block c =
     let v : set_of c.self.inside.table ≡ c.args.self.now = c.self.view_is in
-    rw c.from_residual.ensures
-    (λ s k o f m. lowest_none c.self.inside.table c.args.order c.args.from c.self.invariant.0 c.in_err-block.ensures s k o f (subst (λ (x : List Bool). IsMaximal x (block_at s k)) (sym v) m), refl)
+    rw c.from_residual.ensures (
+      λ s k o f m. lowest_none c.self.inside.table c.args.order c.args.from c.self.invariant.0
+          c.in_err-block.ensures s k o f
+          (subst (λ (x : List Bool). IsMaximal x (block_at s k)) (sym v) m),
+      refl,
+    )
 
 pub overflow_sub-self : goal.overflow_sub-self
 overflow_sub-self c =
     let b = c.in_ok-block.block in
     let listed : order_at c.self.inside.table b.start ≡ Some b.order = c.in_ok-block.ensures.0 in
-    let n = count_without_block b.start b.order (set_of c.self.inside.table) (listed_inside c.self.inside.table c.self.invariant.0.placed b.start b.order listed) in
+    let n = count_without_block b.start b.order (set_of c.self.inside.table)
+    (listed_inside c.self.inside.table c.self.invariant.0.placed b.start b.order listed) in
     omega (arith, n, c.self.invariant.1, c.size_of.ensures.size)
 
 pub invariant_of-self : goal.invariant_of-self
@@ -26,8 +31,12 @@ invariant_of-self c =
     let b = c.in_ok-block.block in
     let t = c.self.inside.table in
     let listed : order_at t b.start ≡ Some b.order = c.in_ok-block.ensures.0 in
-    let n = count_without_block b.start b.order (set_of t) (listed_inside t c.self.invariant.0.placed b.start b.order listed) in
-    let now : set_of c.remove.new.self ≡ without_pages (pages_of (block_at b.start b.order)) (set_of t) = ap set_of c.remove.ensures ∙ removed_set t b.start b.order c.self.invariant.0.placed listed in (
+    let n = count_without_block b.start b.order (set_of t)
+    (listed_inside t c.self.invariant.0.placed b.start b.order listed) in
+    let now : set_of c.remove.new.self
+    ≡ without_pages (pages_of (block_at b.start b.order)) (set_of t) =
+    ap set_of c.remove.ensures
+    ∙ removed_set t b.start b.order c.self.invariant.0.placed listed in (
       rw c.remove.ensures (removed_tiled t b.start b.order c.self.invariant.0 listed),
       omega (arith, n, c.self.invariant.1, c.size_of.ensures.size, ap (count_by (λ f. f)) now),
     )
@@ -39,6 +48,9 @@ returns c =
     let v : set_of t ≡ c.args.self.now = c.self.view_is in
     let listed : order_at t b.start ≡ Some b.order = c.in_ok-block.ensures.0 in
     let low = lowest_is t c.args.order c.args.from b c.self.invariant.0 c.in_ok-block.ensures in (
-      subst (λ (x : List Bool). IsLowestFrom x c.args.order c.args.from (block_at b.start b.order)) v low,
-      ap set_of c.remove.ensures ∙ (removed_set t b.start b.order c.self.invariant.0.placed listed ∙ ap (without_pages (pages_of (block_at b.start b.order))) v),
+      subst (λ (x : List Bool). IsLowestFrom x c.args.order c.args.from (block_at b.start b.order))
+          v low,
+      ap set_of c.remove.ensures
+          ∙ (removed_set t b.start b.order c.self.invariant.0.placed listed
+          ∙ ap (without_pages (pages_of (block_at b.start b.order))) v),
     )

@@ -8,8 +8,11 @@ use Rattle.vb_pages.proofs.areas.Areas.new.Goals as goal
 
 pub invariant_of-areas : goal.invariant_of-areas
 invariant_of-areas c =
-    let e : c.in_ok-new.field-0 ≡ replicate c.args.pages None = c.in_ok-new.ensures in
-    (subst IsTiled (sym e) (none_tiled c.args.pages c.requires), sym (ap (λ (t : List (Option ℕ)). count_by (λ f. f) (set_of t)) e ∙ count_none c.args.pages c.requires))
+    let e : c.in_ok-new.field-0 ≡ replicate c.args.pages None = c.in_ok-new.ensures in (
+      subst IsTiled (sym e) (none_tiled c.args.pages c.requires),
+      sym (ap (λ (t : List (Option ℕ)). count_by (λ f. f) (set_of t)) e
+          ∙ count_none c.args.pages c.requires),
+    )
 
 pub fill-requires-clause-pages : goal.fill-requires-clause-pages
 fill-requires-clause-pages c =

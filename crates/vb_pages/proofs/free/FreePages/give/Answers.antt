@@ -1,11 +1,13 @@
-use Rattle.std.proofs.Common.{◌≡◌, ◌<◌, ◌≤◌, ◌+◌, ℕ, List, [], ◌∷◌, ◌++◌, Bool, length, set, take, drop, ap, subst, ◌∙◌, sym, arith}
+use Rattle.std.proofs.Common.{◌≡◌, ◌<◌, ◌≤◌, ◌+◌, ℕ, List, [], ◌∷◌, ◌++◌, Bool, length, set, take}
+use Rattle.std.proofs.Common.{drop, ap, subst, ◌∙◌, sym, arith}
 use Rattle.vb_pages.specs.Areas.{with_pages}
 use Rattle.vb_pages.specs.FreePages.{FreePages, IsSoundFree, HasRoomFor, list_of}
 use Rattle.std.proofs.lemmas.List.{get_or_default, length-append}
 use Rattle.std.proofs.lemmas.Bool.{eqb-false}
 use Rattle.std.specs.Prelude.{◌==◌, false}
 use Rattle.vb_pages.proofs.ListsLemmas.{Once}
-use Rattle.vb_pages.proofs.FreeLemmas.{block_sound, free_of, front_once, spilled_sound, pushed_sound, longer, room_zero, nothing}
+use Rattle.vb_pages.proofs.FreeLemmas.{block_sound, free_of, front_once, spilled_sound}
+use Rattle.vb_pages.proofs.FreeLemmas.{pushed_sound, longer, room_zero, nothing}
 use Rattle.vb_pages.proofs.free.FreePages.give.Goals as goal
 use Rattle.vb_pages.proofs.free.FreePages.give.Goals.{After-push}
 
@@ -13,7 +15,9 @@ pub invariant_of-self : goal.invariant_of-self
 invariant_of-self c =
     let f = free_of c.self.inside.areas c.self.inside.lists.items in
     let v : f ≡ c.args.self.now = c.self.view_is in
-    subst (λ (x : List Bool). IsSoundFree (free_of x c.self.inside.lists.items)) (sym c.give.ensures) (block_sound f c.args.start c.args.order c.self.invariant (subst (λ (x : FreePages). HasRoomFor x c.args.start c.args.order) (sym v) c.requires.room))
+    subst (λ (x : List Bool). IsSoundFree (free_of x c.self.inside.lists.items))
+    (sym c.give.ensures) (block_sound f c.args.start c.args.order c.self.invariant
+    (subst (λ (x : FreePages). HasRoomFor x c.args.start c.args.order) (sym v) c.requires.room))
 
 module _ (c : After-push) (low : c.args.order ≤ 0) where
   abbrev f : FreePages
@@ -26,29 +30,45 @@ module _ (c : After-push) (low : c.args.order ≤ 0) where
   there = subst (λ (x : FreePages). c.args.cpu < length x.lists) (sym view) c.requires.cpu
 
   room : HasRoomFor f c.args.start 0
-  room = room_zero f c.args.start c.args.order low (subst (λ (x : FreePages). HasRoomFor x c.args.start c.args.order) (sym view) c.requires.room)
+  room = room_zero f c.args.start c.args.order low
+      (subst (λ (x : FreePages). HasRoomFor x c.args.start c.args.order) (sym view) c.requires.room)
 
   -- the list with the page
   pushed : c.push.new.self ≡ longer f c.args.cpu c.args.start c.self.invariant there room
   pushed =
       c.push.ensures
-      ∙ ap (λ (xs : List ℕ). xs ++ c.args.start ∷ []) (c.index_mut-list.ensures.value ∙ get_or_default f.lists c.args.cpu c.index_mut-list.result.now nothing there)
+      ∙ ap (λ (xs : List ℕ). xs ++ c.args.start ∷ [])
+      (c.index_mut-list.ensures.value
+      ∙ get_or_default f.lists c.args.cpu c.index_mut-list.result.now nothing there)
 
 pub drain-requires : goal.drain-requires
 drain-requires c =
     let d = (goal.at.drain-requires c).After-push in
     let low : c.args.order ≤ 0 = omega arith in
-    subst (λ (xs : List ℕ). Once c.self.inside.areas xs) (ap (take 8) (sym (pushed d low)) ∙ sym c.split_front.ensures.front) (front_once (f d low) c.args.cpu c.args.start c.self.invariant (there d low) (room d low))
+    subst (λ (xs : List ℕ). Once c.self.inside.areas xs)
+    (ap (take 8) (sym (pushed d low)) ∙ sym c.split_front.ensures.front)
+    (front_once (f d low) c.args.cpu c.args.start c.self.invariant (there d low) (room d low))
 
 pub invariant_of-self-then-is_full : goal.invariant_of-self-then-is_full
 invariant_of-self-then-is_full c =
     let d = (goal.at.invariant_of-self-then-is_full c).After-push in
     let low : c.args.order ≤ 0 = omega arith in
-    let front : c.split_front.result ≡ take 8 (longer (f d low) c.args.cpu c.args.start c.self.invariant (there d low) (room d low)) = c.split_front.ensures.front ∙ ap (take 8) (pushed d low) in
-    let rest : c.split_front.new.self ≡ drop 8 (longer (f d low) c.args.cpu c.args.start c.self.invariant (there d low) (room d low)) = c.split_front.ensures.rest ∙ ap (drop 8) (pushed d low) in
-    let areas : c.drain.new.areas ≡ with_pages (take 8 (longer (f d low) c.args.cpu c.args.start c.self.invariant (there d low) (room d low))) c.self.inside.areas = c.drain.ensures.areas ∙ ap (λ (xs : List ℕ). with_pages xs c.self.inside.areas) front in
-    subst (λ (x : List Bool). IsSoundFree (free_of x (set c.self.inside.lists.items c.args.cpu c.split_front.new.self))) (sym areas)
-    (subst (λ (xs : List ℕ). IsSoundFree (free_of (with_pages (take 8 (longer (f d low) c.args.cpu c.args.start c.self.invariant (there d low) (room d low))) c.self.inside.areas) (set c.self.inside.lists.items c.args.cpu xs))) (sym rest)
+    let front : c.split_front.result
+    ≡ take 8 (longer (f d low) c.args.cpu c.args.start c.self.invariant (there d low)
+    (room d low)) = c.split_front.ensures.front ∙ ap (take 8) (pushed d low) in
+    let rest : c.split_front.new.self
+    ≡ drop 8 (longer (f d low) c.args.cpu c.args.start c.self.invariant (there d low)
+    (room d low)) = c.split_front.ensures.rest ∙ ap (drop 8) (pushed d low) in
+    let areas : c.drain.new.areas
+    ≡ with_pages (take 8 (longer (f d low) c.args.cpu c.args.start c.self.invariant
+    (there d low) (room d low))) c.self.inside.areas = c.drain.ensures.areas
+    ∙ ap (λ (xs : List ℕ). with_pages xs c.self.inside.areas) front in
+    subst (λ (x : List Bool). IsSoundFree
+    (free_of x (set c.self.inside.lists.items c.args.cpu c.split_front.new.self))) (sym areas)
+    (subst (λ (xs : List ℕ). IsSoundFree
+    (free_of (with_pages (take 8
+    (longer (f d low) c.args.cpu c.args.start c.self.invariant (there d low) (room d low)))
+    c.self.inside.areas) (set c.self.inside.lists.items c.args.cpu xs))) (sym rest)
     (spilled_sound (f d low) c.args.cpu c.args.start c.self.invariant (there d low) (room d low)))
 
 pub invariant_of-self-else-is_full : goal.invariant_of-self-else-is_full
@@ -56,9 +76,17 @@ invariant_of-self-else-is_full c =
     let d = (goal.at.invariant_of-self-else-is_full c).After-push in
     let low : c.args.order ≤ 0 = omega arith in
     let e = pushed d low in
-    let not_full : (length c.push.new.self == 16) ≡ false = sym c.is_full.ensures ∙ c.if-is_full.false in
-    let differs : length c.push.new.self ≡ 16 → ⊥ = eqb-false (length c.push.new.self) 16 not_full in
-    let most : length (longer (f d low) c.args.cpu c.args.start c.self.invariant (there d low) (room d low)) ≡ length (list_of (f d low) c.args.cpu) + 1 = length-append (list_of (f d low) c.args.cpu) (c.args.start ∷ []) in
-    let short : length (longer (f d low) c.args.cpu c.args.start c.self.invariant (there d low) (room d low)) < 16 = omega (arith, most, c.self.invariant.short c.args.cpu, ap length e, differs) in
-    subst (λ (xs : List ℕ). IsSoundFree (free_of c.self.inside.areas (set c.self.inside.lists.items c.args.cpu xs))) (sym e)
-    (pushed_sound (f d low) c.args.cpu c.args.start c.self.invariant (there d low) (room d low) short)
+    let not_full : (length c.push.new.self == 16) ≡ false =
+    sym c.is_full.ensures ∙ c.if-is_full.false in
+    let differs : length c.push.new.self ≡ 16
+    → ⊥ = eqb-false (length c.push.new.self) 16 not_full in
+    let most : length (longer (f d low) c.args.cpu c.args.start c.self.invariant (there d low)
+    (room d low)) ≡ length (list_of (f d low) c.args.cpu) + 1 = length-append
+    (list_of (f d low) c.args.cpu) (c.args.start ∷ []) in
+    let short : length (longer (f d low) c.args.cpu c.args.start c.self.invariant (there d low)
+    (room d low)) < 16 = omega
+    (arith, most, c.self.invariant.short c.args.cpu, ap length e, differs) in
+    subst (λ (xs : List ℕ). IsSoundFree
+    (free_of c.self.inside.areas (set c.self.inside.lists.items c.args.cpu xs))) (sym e)
+    (pushed_sound (f d low) c.args.cpu c.args.start c.self.invariant (there d low) (room d low)
+    short)

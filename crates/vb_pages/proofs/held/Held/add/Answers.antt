@@ -14,8 +14,12 @@ returns c =
     let v : held_of (length t) (blocks_of t) ≡ c.args.self.now = c.self.view_is in
     let s = c.args.start in
     let k = c.args.order in
-    let there : s < length t = omega (arith, ap (λ (h : HeldBlocks). h.pages) v, c.requires.there) in
-    let out : list_any (covers s) (blocks_of t) ≡ false = ap (λ (h : HeldBlocks). list_any (covers s) h.blocks) v ∙ c.requires.outside in
-    same_held (length (set t s (Some k))) c.args.self.now.pages (blocks_of (set t s (Some k))) (with_block (block_at s k) c.args.self.now.blocks)
+    let there : s < length t =
+    omega (arith, ap (λ (h : HeldBlocks). h.pages) v, c.requires.there) in
+    let out : list_any (covers s) (blocks_of t) ≡ false =
+    ap (λ (h : HeldBlocks). list_any (covers s) h.blocks) v ∙ c.requires.outside in
+    same_held (length (set t s (Some k))) c.args.self.now.pages (blocks_of (set t s (Some k)))
+    (with_block (block_at s k) c.args.self.now.blocks)
     (length-set t s (Some k) ∙ ap (λ (h : HeldBlocks). h.pages) v)
-    (blocks-with s k t there (uncovered_empty s t out) ∙ ap (λ (h : HeldBlocks). with_block (block_at s k) h.blocks) v)
+    (blocks-with s k t there (uncovered_empty s t out)
+    ∙ ap (λ (h : HeldBlocks). with_block (block_at s k) h.blocks) v)

@@ -1,4 +1,5 @@
-use Rattle.std.proofs.Common.{◌≡◌, ◌-◌, ◌%◌, ◌^◌, ℕ, List, Option, Some, length, ap, ◌∙◌, sym, arith}
+use Rattle.std.proofs.Common.{◌≡◌, ◌-◌, ◌%◌, ◌^◌, ℕ, List, Option, Some, length, ap, ◌∙◌, sym}
+use Rattle.std.proofs.Common.{arith}
 use Rattle.std.specs.List.{list_any}
 use Rattle.vb_model.specs.Pages.{covers}
 use Rattle.vb_pages.specs.Table.{order_at}
@@ -12,8 +13,12 @@ returns-then-is_at c =
     let p = c.args.page in
     let k = c.loop-order.order in
     let v : held_of (length t) (blocks_of t) ≡ c.args.self.now = c.self.view_is in
-    let e : order_at c.deref.result.now (p - p % c.size_of.result) ≡ Some k = c.is_at.ensures.0 c.if-is_at.true in
-    let f : order_at t (p - p % 2 ^ k) ≡ Some k = ap (λ (xs : List (Option ℕ)). order_at xs (p - p % 2 ^ k)) (sym c.deref.ensures.value) ∙ (ap (λ (n : ℕ). order_at c.deref.result.now (p - p % n)) (sym c.size_of.ensures.size) ∙ e) in
+    let e : order_at c.deref.result.now (p - p % c.size_of.result) ≡ Some k =
+    c.is_at.ensures.0 c.if-is_at.true in
+    let f : order_at t (p - p % 2 ^ k) ≡ Some k =
+    ap (λ (xs : List (Option ℕ)). order_at xs (p - p % 2 ^ k)) (sym c.deref.ensures.value)
+    ∙ (ap (λ (n : ℕ). order_at c.deref.result.now (p - p % n)) (sym c.size_of.ensures.size)
+    ∙ e) in
     sym (ap (λ (h : HeldBlocks). list_any (covers p) h.blocks) (sym v) ∙ covers_found p k t f)
 
 pub returns : goal.returns
@@ -21,4 +26,5 @@ returns c =
     let t = c.self.inside.orders.items in
     let p = c.args.page in
     let v : held_of (length t) (blocks_of t) ≡ c.args.self.now = c.self.view_is in
-    sym (ap (λ (h : HeldBlocks). list_any (covers p) h.blocks) (sym v) ∙ covers_not_found p t c.self.invariant (λ k l e. c.loop-order.invariant k (omega arith) e))
+    sym (ap (λ (h : HeldBlocks). list_any (covers p) h.blocks) (sym v)
+    ∙ covers_not_found p t c.self.invariant (λ k l e. c.loop-order.invariant k (omega arith) e))

@@ -16,6 +16,7 @@ returns c =
     let v : held_of (length t) (blocks_of t) ≡ c.args.self.now = c.self.view_is in
     let at : c.deref.result.now ≡ t = c.deref.ensures.value in
     same_bool c.is_at.result (list_any (λ b. is_same_block b (block_at s k)) (blocks_of t))
-    (λ e. at_holds s k t (ap (λ (xs : List (Option ℕ)). order_at xs s) (sym at) ∙ c.is_at.ensures.0 e))
+    (λ e. at_holds s k t (ap (λ (xs : List (Option ℕ)). order_at xs s) (sym at)
+    ∙ c.is_at.ensures.0 e))
     (λ e. c.is_at.ensures.1 (ap (λ (xs : List (Option ℕ)). order_at xs s) at ∙ holds_at s k t e))
     ∙ ap (λ (h : HeldBlocks). list_any (λ b. is_same_block b (block_at s k)) h.blocks) v

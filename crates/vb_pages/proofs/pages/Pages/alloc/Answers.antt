@@ -7,58 +7,82 @@ use Rattle.vb_pages.specs.FreePages.{FreePages, is_free_in, drained}
 use Rattle.vb_pages.specs.PageState.{PageState, is_free_page}
 use Rattle.vb_pages.proofs.FreeLemmas.{nothing, drained_times, serves_is_block}
 use Rattle.vb_pages.proofs.HeldLemmas.{held_of}
-use Rattle.vb_pages.proofs.PagesLemmas.{kept_at, state_of, drained_kept, out_kept, out_free, out_there, out_outside, out_left, none_free, free_same}
+use Rattle.vb_pages.proofs.PagesLemmas.{kept_at, state_of, drained_kept, out_kept, out_free}
+use Rattle.vb_pages.proofs.PagesLemmas.{out_there, out_outside, out_left, none_free, free_same}
 use Rattle.vb_pages.proofs.pages.Pages.alloc.Goals as goal
 
 pub invariant_of-self : goal.invariant_of-self
 invariant_of-self c =
-    kept_at c.take.new.self (drained c.self.inside.free) c.self.inside.held c.self.inside.held c.in_default.ensures.serves.2 refl (drained_kept c.self.inside.free c.self.inside.held c.take.ensures.sound c.self.invariant)
+    kept_at c.take.new.self (drained c.self.inside.free) c.self.inside.held c.self.inside.held
+    c.in_default.ensures.serves.2 refl
+    (drained_kept c.self.inside.free c.self.inside.held c.take.ensures.sound c.self.invariant)
 
 pub returns-in_default-clause-none : goal.returns-in_default-clause-none
 returns-in_default-clause-none c e s b free =
-    let v : state_of c.self.inside.free c.self.inside.held.blocks ≡ c.args.self.now = c.self.view_is in
-    none_free c.self.inside.free c.self.inside.held c.args.cpu c.args.order c.take.ensures.sound c.self.invariant c.in_default.ensures.serves.1 s b (λ p t. ap (λ (x : PageState). is_free_page x p) v ∙ free p t)
+    let v : state_of c.self.inside.free c.self.inside.held.blocks ≡ c.args.self.now =
+    c.self.view_is in
+    none_free c.self.inside.free c.self.inside.held c.args.cpu c.args.order c.take.ensures.sound
+    c.self.invariant c.in_default.ensures.serves.1 s b
+    (λ p t. ap (λ (x : PageState). is_free_page x p) v ∙ free p t)
 
 pub returns-in_default-clause-same : goal.returns-in_default-clause-same
 returns-in_default-clause-same c e =
     let f = c.self.inside.free in
     let v : state_of f c.self.inside.held.blocks ≡ c.args.self.now = c.self.view_is in
     let drains : c.take.new.self ≡ drained f = c.in_default.ensures.serves.2 in (
-      (λ p. ap (λ (x : FreePages). is_free_in x p) drains ∙ (free_same f (drained f) p (drained_times f c.take.ensures.sound p) ∙ ap (λ (x : PageState). is_free_page x p) v)),
+      (λ p. ap (λ (x : FreePages). is_free_in x p) drains
+          ∙ (free_same f (drained f) p (drained_times f c.take.ensures.sound p)
+          ∙ ap (λ (x : PageState). is_free_page x p) v)),
       ap (λ (x : PageState). x.held) v,
-      ap (λ (x : FreePages). x.lists) drains ∙ ap (λ (x : PageState). map (λ (l : List ℕ). nothing) x.free.lists) v,
+      ap (λ (x : FreePages). x.lists) drains
+          ∙ ap (λ (x : PageState). map (λ (l : List ℕ). nothing) x.free.lists) v,
     )
 
 pub add-requires-clause-block : goal.add-requires-clause-block
-add-requires-clause-block c = serves_is_block c.self.inside.free c.take.new.self c.args.cpu c.args.order c.in-Some.start c.in-Some.ensures.serves
+add-requires-clause-block c =
+    serves_is_block c.self.inside.free c.take.new.self c.args.cpu c.args.order c.in-Some.start
+    c.in-Some.ensures.serves
 
 pub add-requires-clause-there : goal.add-requires-clause-there
 add-requires-clause-there c =
     let l : c.args.cpu < length c.self.inside.free.lists = omega arith in
-    out_there c.self.inside.free c.take.new.self c.self.inside.held c.args.cpu c.args.order c.in-Some.start c.take.ensures.sound c.self.invariant l c.in-Some.ensures.serves
+    out_there c.self.inside.free c.take.new.self c.self.inside.held c.args.cpu c.args.order
+    c.in-Some.start c.take.ensures.sound c.self.invariant l c.in-Some.ensures.serves
 
 pub add-requires-clause-outside : goal.add-requires-clause-outside
 add-requires-clause-outside c =
     let l : c.args.cpu < length c.self.inside.free.lists = omega arith in
-    out_outside c.self.inside.free c.take.new.self c.self.inside.held c.args.cpu c.args.order c.in-Some.start c.take.ensures.sound c.self.invariant l c.in-Some.ensures.serves
+    out_outside c.self.inside.free c.take.new.self c.self.inside.held c.args.cpu c.args.order
+    c.in-Some.start c.take.ensures.sound c.self.invariant l c.in-Some.ensures.serves
 
 pub invariant_of-self-2 : goal.invariant_of-self-2
 invariant_of-self-2 c =
     let l : c.args.cpu < length c.self.inside.free.lists = omega arith in
-    kept_at c.take.new.self c.take.new.self c.add.new.self (held_of c.self.inside.held.pages (with_block (block_at c.in-Some.start c.args.order) c.self.inside.held.blocks)) refl c.add.ensures
-    (out_kept c.self.inside.free c.take.new.self c.self.inside.held c.args.cpu c.args.order c.in-Some.start c.take.ensures.sound c.self.invariant l c.in-Some.ensures.serves)
+    kept_at c.take.new.self c.take.new.self c.add.new.self
+    (held_of c.self.inside.held.pages
+    (with_block (block_at c.in-Some.start c.args.order) c.self.inside.held.blocks)) refl
+    c.add.ensures
+    (out_kept c.self.inside.free c.take.new.self c.self.inside.held c.args.cpu c.args.order
+    c.in-Some.start c.take.ensures.sound c.self.invariant l c.in-Some.ensures.serves)
 
 pub returns-clause-was_free : goal.returns-clause-was_free
 returns-clause-was_free c =
     let l : c.args.cpu < length c.self.inside.free.lists = omega arith in
-    let v : state_of c.self.inside.free c.self.inside.held.blocks ≡ c.args.self.now = c.self.view_is in (
-      serves_is_block c.self.inside.free c.take.new.self c.args.cpu c.args.order c.in-Some.start c.in-Some.ensures.serves,
-      λ p t. ap (λ (x : PageState). is_free_page x p) (sym v) ∙ out_free c.self.inside.free c.take.new.self c.self.inside.held c.args.cpu c.args.order c.in-Some.start c.take.ensures.sound c.self.invariant l c.in-Some.ensures.serves p t,
+    let v : state_of c.self.inside.free c.self.inside.held.blocks ≡ c.args.self.now =
+    c.self.view_is in (
+      serves_is_block c.self.inside.free c.take.new.self c.args.cpu c.args.order c.in-Some.start
+          c.in-Some.ensures.serves,
+      λ p t. ap (λ (x : PageState). is_free_page x p) (sym v)
+          ∙ out_free c.self.inside.free c.take.new.self c.self.inside.held c.args.cpu c.args.order
+          c.in-Some.start c.take.ensures.sound c.self.invariant l c.in-Some.ensures.serves p t,
     )
 
 pub returns-clause-left : goal.returns-clause-left
 returns-clause-left c p =
     let l : c.args.cpu < length c.self.inside.free.lists = omega arith in
-    let v : state_of c.self.inside.free c.self.inside.held.blocks ≡ c.args.self.now = c.self.view_is in
-    out_left c.self.inside.free c.take.new.self c.self.inside.held c.args.cpu c.args.order c.in-Some.start c.take.ensures.sound c.self.invariant l c.in-Some.ensures.serves p
-    ∙ ap (λ (x : PageState). is_free_page x p && not (covers p (block_at c.in-Some.start c.args.order))) v
+    let v : state_of c.self.inside.free c.self.inside.held.blocks ≡ c.args.self.now =
+    c.self.view_is in
+    out_left c.self.inside.free c.take.new.self c.self.inside.held c.args.cpu c.args.order
+    c.in-Some.start c.take.ensures.sound c.self.invariant l c.in-Some.ensures.serves p
+    ∙ ap (λ (x : PageState). is_free_page x p
+    && not (covers p (block_at c.in-Some.start c.args.order))) v

@@ -10,14 +10,20 @@ use Rattle.vb_pages.proofs.pages.Pages.isolate.Goals as goal
 
 pub invariant_of-self : goal.invariant_of-self
 invariant_of-self c =
-    isolated_kept c.self.inside.free c.isolate.new.self c.self.inside.held c.args.order c.args.from c.isolate.result c.isolate.ensures.sound c.self.invariant c.isolate.ensures.isolated
+    isolated_kept c.self.inside.free c.isolate.new.self c.self.inside.held c.args.order c.args.from
+    c.isolate.result c.isolate.ensures.sound c.self.invariant c.isolate.ensures.isolated
 
 pub returns-clause-left : goal.returns-clause-left
 returns-clause-left c =
-    let v : state_of c.self.inside.free c.self.inside.held.blocks ≡ c.args.self.now = c.self.view_is in
-    subst (λ (x : PageState). IfSome c.isolate.result (λ b. (p : ℕ) → is_free_in c.isolate.new.self p ≡ (is_free_page x p && not (covers p (block_at b.start b.order))))) v
-    (isolated_left c.self.inside.free c.isolate.new.self c.self.inside.held c.args.order c.args.from c.isolate.result c.isolate.ensures.sound c.self.invariant c.isolate.ensures.isolated)
+    let v : state_of c.self.inside.free c.self.inside.held.blocks ≡ c.args.self.now =
+    c.self.view_is in
+    subst (λ (x : PageState). IfSome c.isolate.result
+    (λ b. (p : ℕ) → is_free_in c.isolate.new.self p
+    ≡ (is_free_page x p && not (covers p (block_at b.start b.order))))) v
+    (isolated_left c.self.inside.free c.isolate.new.self c.self.inside.held c.args.order c.args.from
+    c.isolate.result c.isolate.ensures.sound c.self.invariant c.isolate.ensures.isolated)
 
 pub returns-clause-room : goal.returns-clause-room
 returns-clause-room c =
-    isolated_room c.self.inside.free c.isolate.new.self c.self.inside.held c.args.order c.args.from c.isolate.result c.isolate.ensures.sound c.self.invariant c.isolate.ensures.isolated
+    isolated_room c.self.inside.free c.isolate.new.self c.self.inside.held c.args.order c.args.from
+    c.isolate.result c.isolate.ensures.sound c.self.invariant c.isolate.ensures.isolated

@@ -1,4 +1,5 @@
-use Rattle.std.proofs.Common.{◌≡◌, ◌∙◌, ℕ, true, false, Option, Some, None, Result, Ok, Err, length, take, sym, ap, subst, arith, rules}
+use Rattle.std.proofs.Common.{◌≡◌, ◌∙◌, ℕ, true, false, Option, Some, None, Result, Ok, Err, length}
+use Rattle.std.proofs.Common.{take, sym, ap, subst, arith, rules}
 use Rattle.vb_ring.specs.declared.driver.RingBroken.{RingBroken}
 use Rattle.vb_ring.specs.declared.driver.RingBroken.TheVariants.{NotOutstanding}
 use Rattle.vb_ring.specs.Entries.{is_head, next_id, only_head}
@@ -8,10 +9,12 @@ use Rattle.vb_ring.specs.Ends.{DriverEnd, IsDriverEnd, outstanding, released}
 use Rattle.vb_ring.specs.Calls.{TakesUsedBy}
 use Rattle.vb_ring.proofs.Assemble.{takes_by, takes_after, only_unknown, past_unknown}
 use Rattle.vb_ring.proofs.driver.DriverRing.take_used.Goals as goal
-use Rattle.vb_ring.proofs.driver.DriverRing.take_used.Goals.{then-id-from-via-then-id-from, then-id-from-via-else-id-from+then-not-is_head}
+use Rattle.vb_ring.proofs.driver.DriverRing.take_used.Goals.{then-id-from-via-then-id-from}
+use Rattle.vb_ring.proofs.driver.DriverRing.take_used.Goals.{then-id-from-via-else-id-from+then-not-is_head}
 
 -- what was answered, by what it is
-answer_is : (r : Result (Option ℕ) RingBroken) (o : Option ℕ) (id : ℕ) → Ok o ≡ r → o ≡ Some id → r ≡ Ok (Some id)
+answer_is : (r : Result (Option ℕ) RingBroken) (o : Option ℕ) (id : ℕ) → Ok o ≡ r → o ≡ Some id
+    → r ≡ Ok (Some id)
 answer_is r o id a b = cc
 
 answer_none : (r : Result (Option ℕ) RingBroken) (o : Option ℕ) → Ok o ≡ r → o ≡ None → r ≡ Ok None
@@ -19,56 +22,118 @@ answer_none r o a b = cc
 
 pub returns-in-Err : goal.returns-in-Err
 returns-in-Err g c =
-    let old : DriverEnd = record { layout = c.self.inside.layout; size = c.self.inside.size; published = c.self.inside.published; seen = c.self.inside.seen; owner = take c.self.inside.size c.self.inside.owner } in
+    let old : DriverEnd =
+    record {
+      layout = c.self.inside.layout;
+      size = c.self.inside.size;
+      published = c.self.inside.published;
+      seen = c.self.inside.seen;
+      owner =
+          take c.self.inside.size c.self.inside.owner;
+    } in
     let table : length old.owner ≡ old.size = c.self.invariant.table in
     let is_end : IsDriverEnd old = c.self.invariant in
-    let most : c.count_heads-most.result ≡ outstanding old = c.count_heads-most.ensures ∙ ap (λ k. length (numbers (is_head (take k c.self.inside.owner)) (length (take k c.self.inside.owner)))) c.from-size.ensures
+    let most : c.count_heads-most.result ≡ outstanding old =
+    c.count_heads-most.ensures
+    ∙ ap (λ k. length (numbers (is_head (take k c.self.inside.owner))
+    (length (take k c.self.inside.owner)))) c.from-size.ensures
     ∙ ap (λ k. length (numbers (is_head old.owner) k)) table in
     let mem = g.G.GuestBytes.mem c.args.ram.now in
     let next : next_id mem old.layout old.size old.seen (outstanding old) ≡ Err c.in-Err.broken =
     ap (next_id mem old.layout old.size old.seen) (sym most) ∙ sym c.in-Err.ensures in
     subst (λ (v : DriverEnd). TakesUsedBy mem v v (Err c.in-Err.broken)) c.self.view_is
-    (takes_by mem old (Err c.in-Err.broken) is_end (length-numbers (is_head old.owner) old.size) (sym (ap (only_head old.owner) next)))
+    (takes_by mem old (Err c.in-Err.broken) is_end (length-numbers (is_head old.owner) old.size)
+    (sym (ap (only_head old.owner) next)))
 
 pub returns-in-Ok-None : goal.returns-in-Ok-None
 returns-in-Ok-None g c =
-    let old : DriverEnd = record { layout = c.self.inside.layout; size = c.self.inside.size; published = c.self.inside.published; seen = c.self.inside.seen; owner = take c.self.inside.size c.self.inside.owner } in
+    let old : DriverEnd =
+    record {
+      layout = c.self.inside.layout;
+      size = c.self.inside.size;
+      published = c.self.inside.published;
+      seen = c.self.inside.seen;
+      owner =
+          take c.self.inside.size c.self.inside.owner;
+    } in
     let table : length old.owner ≡ old.size = c.self.invariant.table in
     let is_end : IsDriverEnd old = c.self.invariant in
-    let most : c.count_heads-most.result ≡ outstanding old = c.count_heads-most.ensures ∙ ap (λ k. length (numbers (is_head (take k c.self.inside.owner)) (length (take k c.self.inside.owner)))) c.from-size.ensures
+    let most : c.count_heads-most.result ≡ outstanding old =
+    c.count_heads-most.ensures
+    ∙ ap (λ k. length (numbers (is_head (take k c.self.inside.owner))
+    (length (take k c.self.inside.owner)))) c.from-size.ensures
     ∙ ap (λ k. length (numbers (is_head old.owner) k)) table in
     let mem = g.G.GuestBytes.mem c.args.ram.now in
     let next : next_id mem old.layout old.size old.seen (outstanding old) ≡ Ok None =
-    ap (next_id mem old.layout old.size old.seen) (sym most) ∙ answer_none _ c.in-Ok-None.field-0 c.in-Ok-None.ensures c.in-Ok-None.field-0-is in
-    subst (λ (v : DriverEnd). TakesUsedBy mem v v (Ok None)) c.self.view_is (takes_by mem old (Ok None) is_end (length-numbers (is_head old.owner) old.size) (sym (ap (only_head old.owner) next)))
+    ap (next_id mem old.layout old.size old.seen) (sym most)
+    ∙ answer_none _ c.in-Ok-None.field-0 c.in-Ok-None.ensures c.in-Ok-None.field-0-is in
+    subst (λ (v : DriverEnd). TakesUsedBy mem v v (Ok None)) c.self.view_is
+    (takes_by mem old (Ok None) is_end (length-numbers (is_head old.owner) old.size)
+    (sym (ap (only_head old.owner) next)))
 
 pub returns-then-id-from : goal.returns-then-id-from
 returns-then-id-from g c =
-    let old : DriverEnd = record { layout = c.self.inside.layout; size = c.self.inside.size; published = c.self.inside.published; seen = c.self.inside.seen; owner = take c.self.inside.size c.self.inside.owner } in
+    let old : DriverEnd =
+    record {
+      layout = c.self.inside.layout;
+      size = c.self.inside.size;
+      published = c.self.inside.published;
+      seen = c.self.inside.seen;
+      owner =
+          take c.self.inside.size c.self.inside.owner;
+    } in
     let table : length old.owner ≡ old.size = c.self.invariant.table in
     let is_end : IsDriverEnd old = c.self.invariant in
-    let most : c.count_heads-most.result ≡ outstanding old = c.count_heads-most.ensures ∙ ap (λ k. length (numbers (is_head (take k c.self.inside.owner)) (length (take k c.self.inside.owner)))) c.from-size.ensures
+    let most : c.count_heads-most.result ≡ outstanding old =
+    c.count_heads-most.ensures
+    ∙ ap (λ k. length (numbers (is_head (take k c.self.inside.owner))
+    (length (take k c.self.inside.owner)))) c.from-size.ensures
     ∙ ap (λ k. length (numbers (is_head old.owner) k)) table in
     let mem = g.G.GuestBytes.mem c.args.ram.now in
-    let next : next_id mem old.layout old.size old.seen (outstanding old) ≡ Ok (Some c.in-Ok-Some.id) =
-    ap (next_id mem old.layout old.size old.seen) (sym most) ∙ answer_is _ c.in-Ok-Some.field-0 c.in-Ok-Some.id c.in-Ok-Some.ensures c.in-Ok-Some.field-0-is in
+    let next : next_id mem old.layout old.size old.seen (outstanding old)
+    ≡ Ok (Some c.in-Ok-Some.id) =
+    ap (next_id mem old.layout old.size old.seen) (sym most)
+    ∙ answer_is _ c.in-Ok-Some.field-0 c.in-Ok-Some.id c.in-Ok-Some.ensures
+    c.in-Ok-Some.field-0-is in
     let unknown : is_head old.owner c.in-Ok-Some.id ≡ false = elim c.then-id-from.branch [
-      | then-id-from-via-then-id-from w ↦ past_unknown old.owner c.in-Ok-Some.id (omega (arith, table))
-      | then-id-from-via-else-id-from+then-not-is_head w ↦ ap (λ k. is_head (take k c.self.inside.owner) c.in-Ok-Some.id) (sym c.from-size.ensures) ∙ sym w.is_head.ensures ∙ search rules
+      | then-id-from-via-then-id-from w ↦
+          past_unknown old.owner c.in-Ok-Some.id (omega (arith, table))
+      | then-id-from-via-else-id-from+then-not-is_head w ↦
+          ap (λ k. is_head (take k c.self.inside.owner) c.in-Ok-Some.id) (sym c.from-size.ensures)
+          ∙ sym w.is_head.ensures ∙ search rules
     ] in
     subst (λ (v : DriverEnd). TakesUsedBy mem v v (Err NotOutstanding)) c.self.view_is
-    (takes_by mem old (Err NotOutstanding) is_end (length-numbers (is_head old.owner) old.size) (sym (ap (only_head old.owner) next ∙ only_unknown old.owner c.in-Ok-Some.id unknown)))
+    (takes_by mem old (Err NotOutstanding) is_end (length-numbers (is_head old.owner) old.size)
+    (sym (ap (only_head old.owner) next ∙ only_unknown old.owner c.in-Ok-Some.id unknown)))
 
 pub returns : goal.returns
 returns g c =
-    let old : DriverEnd = record { layout = c.self.inside.layout; size = c.self.inside.size; published = c.self.inside.published; seen = c.self.inside.seen; owner = take c.self.inside.size c.self.inside.owner } in
+    let old : DriverEnd =
+    record {
+      layout = c.self.inside.layout;
+      size = c.self.inside.size;
+      published = c.self.inside.published;
+      seen = c.self.inside.seen;
+      owner =
+          take c.self.inside.size c.self.inside.owner;
+    } in
     let table : length old.owner ≡ old.size = c.self.invariant.table in
     let is_end : IsDriverEnd old = c.self.invariant in
-    let most : c.count_heads-most.result ≡ outstanding old = c.count_heads-most.ensures ∙ ap (λ k. length (numbers (is_head (take k c.self.inside.owner)) (length (take k c.self.inside.owner)))) c.from-size.ensures
+    let most : c.count_heads-most.result ≡ outstanding old =
+    c.count_heads-most.ensures
+    ∙ ap (λ k. length (numbers (is_head (take k c.self.inside.owner))
+    (length (take k c.self.inside.owner)))) c.from-size.ensures
     ∙ ap (λ k. length (numbers (is_head old.owner) k)) table in
     let mem = g.G.GuestBytes.mem c.args.ram.now in
-    let next : next_id mem old.layout old.size old.seen (outstanding old) ≡ Ok (Some c.in-Ok-Some.id) =
-    ap (next_id mem old.layout old.size old.seen) (sym most) ∙ answer_is _ c.in-Ok-Some.field-0 c.in-Ok-Some.id c.in-Ok-Some.ensures c.in-Ok-Some.field-0-is in
-    let out : is_head old.owner c.in-Ok-Some.id ≡ true = ap (λ k. is_head (take k c.self.inside.owner) c.in-Ok-Some.id) (sym c.from-size.ensures) ∙ sym c.is_head.ensures ∙ search rules in
-    let frees : c.release.new.owner ≡ released c.in-Ok-Some.id old.owner = c.release.ensures ∙ ap (λ k. released c.in-Ok-Some.id (take k c.self.inside.owner)) c.from-size.ensures in
+    let next : next_id mem old.layout old.size old.seen (outstanding old)
+    ≡ Ok (Some c.in-Ok-Some.id) =
+    ap (next_id mem old.layout old.size old.seen) (sym most)
+    ∙ answer_is _ c.in-Ok-Some.field-0 c.in-Ok-Some.id c.in-Ok-Some.ensures
+    c.in-Ok-Some.field-0-is in
+    let out : is_head old.owner c.in-Ok-Some.id ≡ true =
+    ap (λ k. is_head (take k c.self.inside.owner) c.in-Ok-Some.id) (sym c.from-size.ensures)
+    ∙ sym c.is_head.ensures ∙ search rules in
+    let frees : c.release.new.owner ≡ released c.in-Ok-Some.id old.owner =
+    c.release.ensures ∙ ap (λ k. released c.in-Ok-Some.id (take k c.self.inside.owner))
+    c.from-size.ensures in
     takes_after mem old _ c.release.new.owner _ c.in-Ok-Some.id c.self.view_is is_end next out frees

@@ -10,7 +10,10 @@ call-requires-clause-stands g c =
     (has.guest, has.stands, guest_frames _ _ _ _ _ w c.args.guest c.in-Some.slot.now host is has)
 
 pub returns-in-Some : goal.returns-in-Some
-returns-in-Some g c = λ w host. guest_step _ _ _ _ _ w c.args.guest c.in-Some.slot.now c.call.new.self _ _ _ host (sym c.in-Some.ensures.value) c.call.ensures.step
+returns-in-Some g c =
+    λ w host. guest_step _ _ _ _ _ w c.args.guest c.in-Some.slot.now c.call.new.self _ _ _ host
+    (sym c.in-Some.ensures.value) c.call.ensures.step
 
 pub returns-in-None : goal.returns-in-None
-returns-in-None g c = λ w host. (w, host, no_guest_step _ _ _ _ _ w c.args.guest _ host (sym c.in-None.ensures.value))
+returns-in-None g c =
+    λ w host. (w, host, no_guest_step _ _ _ _ _ w c.args.guest _ host (sym c.in-None.ensures.value))

@@ -1,19 +1,35 @@
 use Rattle.std.proofs.Common.{arith}
-use Rattle.vb_world.proofs.Plugs.{config_none, config_some, bad_config, too_many, no_device, plug_happens, none_there, some_there}
+use Rattle.vb_world.proofs.Plugs.{config_none, config_some, bad_config, too_many, no_device}
+use Rattle.vb_world.proofs.Plugs.{plug_happens, none_there, some_there}
 use Rattle.vb_world.proofs.world.World.plug.Goals as goal
 
 pub returns-in_default : goal.returns-in_default
-returns-in_default g c = λ w host. (w, host, bad_config w c.args.pages c.args.queue_size c.args.processors (config_none _ _ _ c.new.ensures c.in_default.is))
+returns-in_default g c =
+    λ w host. (
+      w,
+      host,
+      bad_config w c.args.pages c.args.queue_size c.args.processors
+          (config_none _ _ _ c.new.ensures c.in_default.is),
+    )
 
 pub returns-then-len : goal.returns-then-len
 returns-then-len g c = λ w host.
-    let config = config_some _ _ _ _ c.new.ensures c.in-Some.is in
-    (w, host, too_many _ _ _ _ _ w c.args.pages c.args.queue_size c.args.processors host config.fits (omega (arith, c.if-len.true, c.len.ensures)))
+    let config = config_some _ _ _ _ c.new.ensures c.in-Some.is in (
+      w,
+      host,
+      too_many _ _ _ _ _ w c.args.pages c.args.queue_size c.args.processors host config.fits
+          (omega (arith, c.if-len.true, c.len.ensures)),
+    )
 
 pub returns-then-is_empty : goal.returns-then-is_empty
 returns-then-is_empty g c = λ w host.
-    let config = config_some _ _ _ _ c.new.ensures c.in-Some.is in
-    (w, host, no_device _ _ _ _ _ w c.args.pages c.args.queue_size c.args.processors host config.fits (omega (arith, c.if-len.false, c.len.ensures)) (omega (arith, none_there c.if-is_empty.ensures, c.args.self.now.spares.ok)))
+    let config = config_some _ _ _ _ c.new.ensures c.in-Some.is in (
+      w,
+      host,
+      no_device _ _ _ _ _ w c.args.pages c.args.queue_size c.args.processors host
+          config.fits (omega (arith, c.if-len.false, c.len.ensures))
+          (omega (arith, none_there c.if-is_empty.ensures, c.args.self.now.spares.ok)),
+    )
 
 pub plug_first_spare-requires-clause-config : goal.plug_first_spare-requires-clause-config
 plug_first_spare-requires-clause-config g c =
@@ -23,5 +39,11 @@ plug_first_spare-requires-clause-config g c =
 pub returns : goal.returns
 returns g c = λ w host.
     let config = config_some _ _ _ _ c.new.ensures c.in-Some.is in
-    let (new, stands, plugs) = c.plug_first_spare.ensures w host in
-    (new, stands, plug_happens _ _ _ _ _ w c.args.pages c.args.queue_size c.args.processors _ new host config.fits (omega (arith, c.if-len.false, c.len.ensures)) (omega (arith, some_there c.if-is_empty.ensures, c.args.self.now.spares.ok)) (rw config.same at plugs))
+    let (new, stands, plugs) = c.plug_first_spare.ensures w host in (
+      new,
+      stands,
+      plug_happens _ _ _ _ _ w c.args.pages c.args.queue_size c.args.processors _ new
+          host config.fits (omega (arith, c.if-len.false, c.len.ensures))
+          (omega (arith, some_there c.if-is_empty.ensures, c.args.self.now.spares.ok))
+          (rw config.same at plugs),
+    )

@@ -3,10 +3,13 @@ use Rattle.vb_world.proofs.Calls.{guest_of, guest_query, no_guest_query}
 use Rattle.vb_world.proofs.world.World.query.Goals as goal
 
 pub returns-in-Some : goal.returns-in-Some
-returns-in-Some g c = λ w host. guest_query _ _ _ _ _ w c.args.guest c.in-Some.slot.now _ _ host (sym c.in-Some.ensures) c.query.ensures.answer
+returns-in-Some g c =
+    λ w host. guest_query _ _ _ _ _ w c.args.guest c.in-Some.slot.now _ _ host
+    (sym c.in-Some.ensures) c.query.ensures.answer
 
 pub returns-in-None : goal.returns-in-None
-returns-in-None g c = λ w host. no_guest_query _ _ _ _ _ w c.args.guest _ host (sym c.in-None.ensures)
+returns-in-None g c =
+    λ w host. no_guest_query _ _ _ _ _ w c.args.guest _ host (sym c.in-None.ensures)
 
 pub query-requires-clause-stands : goal.query-requires-clause-stands
 query-requires-clause-stands g c =

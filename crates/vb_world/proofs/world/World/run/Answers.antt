@@ -14,15 +14,23 @@ loop-event-init g c = record {
 
 pub loop-event-preserved : goal.loop-event-preserved
 loop-event-preserved g c = record {
-  ran = λ w holds. rw (take_more c.args.events.now c.loop-event.event-index c.event-item.result c.loop-event-test.true, ← c.event-item.is, c.in-Ok.ensures.items)
-      (ran_on w (take c.loop-event.event-index c.args.events.now) c.loop-event.replies.items c.event-item.result c.step-reply.result (c.loop-event.invariant.ran w holds) c.step-reply.ensures);
+  ran = λ w holds. rw (
+    take_more c.args.events.now c.loop-event.event-index c.event-item.result
+        c.loop-event-test.true,
+    ← c.event-item.is,
+    c.in-Ok.ensures.items,
+  )
+      (ran_on w (take c.loop-event.event-index c.args.events.now) c.loop-event.replies.items
+      c.event-item.result c.step-reply.result (c.loop-event.invariant.ran w holds)
+      c.step-reply.ensures);
   brought = c.requires.brought;
   room = search rules;
   count = search rules;
 }
 
 pub step-reply-requires-clause-world : goal.step-reply-requires-clause-world
-step-reply-requires-clause-world g c = let (frames, spares, host) = c.requires.made in let ran = c.loop-event.invariant.ran (made frames spares) host in (_, ran.holds)
+step-reply-requires-clause-world g c = let (frames, spares, host) = c.requires.made in
+    let ran = c.loop-event.invariant.ran (made frames spares) host in (_, ran.holds)
 
 pub returns-clause-run : goal.returns-clause-run
 returns-clause-run g c = λ frames spares host.

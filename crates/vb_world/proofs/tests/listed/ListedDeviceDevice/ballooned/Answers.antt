@@ -9,5 +9,10 @@ use Rattle.vb_world.proofs.tests.listed.ListedDeviceDevice.ballooned.Goals as go
 
 pub returns-in-Some : goal.returns-in-Some
 returns-in-Some c =
-    let facts = told (λ (list : PageList). (length c.self.inside.inner.part.ballooned ≡ list.pages) × (list.pages ≤ vec_capacity list.numbers) × (list.numbers.items ≡ pages_where (λ flag. flag) c.self.inside.inner.part.ballooned)) c.self.inside.listed c.in-Some.list c.in-Some.is c.self.invariant in
-    c.has.ensures ∙ (ap (λ (xs : List ℕ). is_in c.args.page xs) facts.2 ∙ (listed_is c.self.inside.inner.part.ballooned c.args.page ∙ ap (λ (v : DeviceState). is_ballooned v.part.ballooned c.args.page) c.self.view_is))
+    let facts = told (λ (list : PageList). (length c.self.inside.inner.part.ballooned ≡ list.pages)
+    × (list.pages ≤ vec_capacity list.numbers)
+    × (list.numbers.items ≡ pages_where (λ flag. flag) c.self.inside.inner.part.ballooned))
+    c.self.inside.listed c.in-Some.list c.in-Some.is c.self.invariant in
+    c.has.ensures ∙ (ap (λ (xs : List ℕ). is_in c.args.page xs) facts.2
+    ∙ (listed_is c.self.inside.inner.part.ballooned c.args.page
+    ∙ ap (λ (v : DeviceState). is_ballooned v.part.ballooned c.args.page) c.self.view_is))

@@ -7,5 +7,7 @@ use Rattle.vb_world.proofs.tests.listed.ListedDeviceDevice.sweep.Goals as goal
 
 pub invariant_of-self : goal.invariant_of-self
 invariant_of-self c =
-    subst (λ (flags : List Bool). MatchOption c.self.inside.listed ⊤ (λ (list : PageList). (length flags ≡ list.pages) × (list.pages ≤ vec_capacity list.numbers) × (list.numbers.items ≡ pages_where (λ flag. flag) flags)))
+    subst (λ (flags : List Bool). MatchOption c.self.inside.listed ⊤
+    (λ (list : PageList). (length flags ≡ list.pages) × (list.pages ≤ vec_capacity list.numbers)
+    × (list.numbers.items ≡ pages_where (λ flag. flag) flags)))
     (sym (sweep_keeps c.args.page _ _ _ _ _ c.sweep.ensures)) c.self.invariant

@@ -8,5 +8,6 @@ loop-page-preserved c = record {
   room = omega (arith, c.loop-page.invariant.room, c.put_if.ensures.capacity);
   count = omega (arith, c.loop-page.invariant.count, c.put_if.ensures.len);
   items = listed_more c.args.device.now.part.ballooned c.loop-page.page c.ballooned.result _ _
-      (omega (arith, c.requires.size, c.loop-page-test.true)) c.ballooned.ensures c.loop-page.invariant.items c.put_if.ensures.items;
+      (omega (arith, c.requires.size, c.loop-page-test.true)) c.ballooned.ensures
+      c.loop-page.invariant.items c.put_if.ensures.items;
 }

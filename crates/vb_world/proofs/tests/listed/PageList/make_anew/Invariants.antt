@@ -9,5 +9,6 @@ invariant-loop-page l =
       pages : l.self.pages ≡ l.initial.self.pages;
       room : vec_capacity l.initial.self.numbers ≤ vec_capacity l.self.numbers;
       count : vec_len l.self.numbers ≤ l.page;
-      items : l.self.numbers.items ≡ pages_where (λ flag. flag) (take l.page l.device.part.ballooned);
+      items : l.self.numbers.items
+          ≡ pages_where (λ flag. flag) (take l.page l.device.part.ballooned);
     }
