@@ -5,7 +5,7 @@ use Rattle.vb_model.specs.declared.calls.Event.{Event}
 use Rattle.vb_model.specs.declared.replies.Reply.{Reply}
 use Rattle.vb_model.specs.World.{World, WorldStep, made}
 use Rattle.vb_model.specs.Run.{Steps, last_world}
-use Rattle.vb_model.specs.RunLaws.{steps-push, last_world-push}
+use Rattle.vb_model.proofs.RunLaws.{steps-push, last_world-push}
 use Rattle.vb_model.specs.Safe.{IsSafeRun}
 use Rattle.vb_model.proofs.Runs.{run_is_safe}
 
