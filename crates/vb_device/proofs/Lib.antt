@@ -11,4 +11,5 @@ pub mod FromNext
 pub mod Discards
 pub mod Sizes
 pub mod Marks
+pub mod LooseFrames
 pub mod Over

@@ -1,5 +1,5 @@
 -- A device that keeps ballooned pages, from one that has ballooned nothing.
-use Rattle.std.specs.Prelude.{◌≡◌, ℕ, zero, suc, ◌+◌, ◌%◌, ◌≤◌, ◌==◌, Bool, true, false, List}
+use Rattle.std.specs.Prelude.{◌≡◌, ℕ, zero, suc, ◌+◌, ◌%◌, ◌≤◌, ◌==◌, Bool, true, false, List, []}
 use Rattle.std.specs.Prelude.{Option, Some, None, Result, Ok, Err, if◌then◌else◌, refl}
 use Rattle.std.proofs.Common.{sym, ◌∙◌, ap, subst, arith}
 use Rattle.vb_model.specs.declared.replies.Refusal.{Refusal}
@@ -14,6 +14,9 @@ use Rattle.vb_device.specs.BaseCalls.{taken_out, TakesOut, UsesChain}
 use Rattle.vb_device.specs.Queues.{queue_part, with_queue, queue_end}
 use Rattle.vb_ring.specs.Ends.{DeviceEnd}
 use Rattle.vb_ring.specs.Calls.{AddsUsedBy}
+use Rattle.vb_model.specs.Tests.{times}
+use Rattle.vb_device.proofs.LooseFrames.{all_but_loose, lost_alone}
+use Rattle.vb_device.specs.Calls.{lost_frames}
 use Rattle.vb_device.specs.Calls.{taking, without_frames, TakeMeans, TakesBy, FinishesBy, Uses}
 
 -- the part with these flags
@@ -105,37 +108,44 @@ finishes_err q index m1 m2 flags p1 p2 why result is b = record {
 
 -- what both parts of a finish and the marks leave
 settles : (q index : ℕ) (r : Request) (m1 m2 m3 : Pages) (flags : List Bool) (p1 p2 p3 : Part) →
-    q ≤ 1 → m2 ≡ without_frames q r.pages m1 → p2 ≡ taken_out q index r.pages m1 p1 →
-    UsesChain q r.head m2 m3 p2 p3
+    q ≤ 1 → p1.loose ≡ [] → m2 ≡ without_frames q r.pages m1 →
+    p2 ≡ taken_out q index r.pages m1 p1 → UsesChain q r.head m2 m3 p2 p3
     → Uses q index r m1 m3 (over flags p1) (over (flagged r.pages (q == 0) flags) p3) (Ok r.head)
-settles zero index r m1 m2 m3 flags p1 p2 p3 le mem part used = record {
-  answer = refl;
-  part = ap (over (flagged r.pages true flags))
-      (used.part ∙
-      ap (λ (p : Part). with_queue 0
-      (record (queue_part 0 p) { next_used = ((queue_part 0 p).next_used + 1) % 65536 }) p) part);
-  memory = subst (λ (m : Pages). AddsUsedBy m m3 (queue_end 0 p1) (queue_end 0 p3) r.head 0) mem
-      (subst (λ (e : DeviceEnd). AddsUsedBy m2 m3 e (queue_end 0 p3) r.head 0)
-      (ap (queue_end 0) part) used.memory);
-}
-settles (suc zero) index r m1 m2 m3 flags p1 p2 p3 le mem part used = record {
-  answer = refl;
-  part = ap (over (flagged r.pages false flags))
-      (used.part ∙
-      ap (λ (p : Part). with_queue 1
-      (record (queue_part 1 p) { next_used = ((queue_part 1 p).next_used + 1) % 65536 }) p) part);
-  memory = subst (λ (m : Pages). AddsUsedBy m m3 (queue_end 1 p1) (queue_end 1 p3) r.head 0) mem
-      (subst (λ (e : DeviceEnd). AddsUsedBy m2 m3 e (queue_end 1 p3) r.head 0)
-      (ap (queue_end 1) part) used.memory);
-}
-settles (suc (suc n)) index r m1 m2 m3 flags p1 p2 p3 le mem part used = absurd (omega arith)
+settles zero index r m1 m2 m3 flags p1 p2 p3 le none mem part used =
+    let left =
+        used.part ∙
+        ap (λ (p : Part). with_queue 0
+        (record (queue_part 0 p) { next_used = ((queue_part 0 p).next_used + 1) % 65536 }) p) part in
+    record {
+      answer = refl;
+      part = all_but_loose _ _ (ap (over (flagged r.pages true flags)) left);
+      loose = lost_alone p1.loose p3.loose (lost_frames 0 r.pages m1) none
+          (ap (λ (x : Part). x.loose) left);
+      memory = subst (λ (m : Pages). AddsUsedBy m m3 (queue_end 0 p1) (queue_end 0 p3) r.head 0) mem
+          (subst (λ (e : DeviceEnd). AddsUsedBy m2 m3 e (queue_end 0 p3) r.head 0)
+          (ap (queue_end 0) part) used.memory);
+    }
+settles (suc zero) index r m1 m2 m3 flags p1 p2 p3 le none mem part used =
+    let left =
+        used.part ∙
+        ap (λ (p : Part). with_queue 1
+        (record (queue_part 1 p) { next_used = ((queue_part 1 p).next_used + 1) % 65536 }) p) part in
+    record {
+      answer = refl;
+      part = all_but_loose _ _ (ap (over (flagged r.pages false flags)) left);
+      loose = λ n. ap (times n) (ap (λ (x : Part). x.loose) left ∙ none);
+      memory = subst (λ (m : Pages). AddsUsedBy m m3 (queue_end 1 p1) (queue_end 1 p3) r.head 0) mem
+          (subst (λ (e : DeviceEnd). AddsUsedBy m2 m3 e (queue_end 1 p3) r.head 0)
+          (ap (queue_end 1) part) used.memory);
+    }
+settles (suc (suc n)) index r m1 m2 m3 flags p1 p2 p3 le none mem part used = absurd (omega arith)
 
 pub finishes_ok : (q index : ℕ) (m1 m2 m3 : Pages) (flags marks : List Bool) (p1 p2 p3 : Part)
     (r : Request) (result : Result ℕ Refusal) → result ≡ Ok r.head →
-    marks ≡ flagged r.pages (q == 0) flags → q ≤ 1
+    marks ≡ flagged r.pages (q == 0) flags → q ≤ 1 → p1.loose ≡ []
     → TakesOut q index m1 m2 p1 p2 (Ok r) → UsesChain q r.head m2 m3 p2 p3 →
     FinishesBy q index m1 m3 (over flags p1) (over marks p3) result
-finishes_ok q index m1 m2 m3 flags marks p1 p2 p3 r result is marked le b used = record {
+finishes_ok q index m1 m2 m3 flags marks p1 p2 p3 r result is marked le none b used = record {
   refused = λ w e. absurd (ok_err r w (b.refused w e).0);
   finished = λ x e at.
       let got = b.out x e at in
@@ -145,7 +155,7 @@ finishes_ok q index m1 m2 m3 flags marks p1 p2 p3 r result is marked le b used =
       (sym marked)
       (subst (λ (o : Result ℕ Refusal). Uses q index r m1 m3 (over flags p1)
       (over (flagged r.pages (q == 0) flags) p3) o) (sym is)
-      (settles q index r m1 m2 m3 flags p1 p2 p3 le
+      (settles q index r m1 m2 m3 flags p1 p2 p3 le none
       (got.1 ∙ ap (λ (y : Request). without_frames q y.pages m1) (sym same))
       (got.2 ∙ ap (λ (y : Request). taken_out q index y.pages m1 p1) (sym same)) used)));
 }

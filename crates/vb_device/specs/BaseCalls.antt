@@ -1,6 +1,6 @@
 -- What the parts of a device's calls do.
 use Rattle.std.specs.Prelude.{◌≡◌, ℕ, ◌+◌, ◌%◌, ◌<◌, ◌≤◌, ◌==◌, true, nat_lt, List, [], ◌∷◌, ◌++◌}
-use Rattle.std.specs.Prelude.{remove, if◌then◌else◌, Option, Some, None, IsSome, Result, Ok, Err}
+use Rattle.std.specs.Prelude.{remove, if◌then◌else◌, Option, Some, None, IsSome, is_some, Bool, Result, Ok, Err}
 use Rattle.vb_model.specs.declared.layout.TheConstants.{DEFLATE_QUEUE}
 use Rattle.vb_model.specs.declared.replies.Refusal.{Refusal}
 use Rattle.vb_model.specs.declared.replies.Refusal.TheVariants.{NoQueue, NotReady, NeedsReset}
@@ -10,12 +10,12 @@ use Rattle.vb_model.specs.Requests.{Request}
 pub use Rattle.vb_model.specs.FirstRefusal.{refusal_in}
 use Rattle.vb_model.specs.FirstRefusal.{◌⇒◌, first_refusal}
 use Rattle.vb_model.specs.Tables.{work_tests}
-use Rattle.vb_ram.specs.Pages.{Pages, frame_at}
+use Rattle.vb_ram.specs.Pages.{Page, Pages, frame_at}
 use Rattle.vb_ram.specs.Part.{Part}
 use Rattle.vb_ring.specs.Calls.{AddsUsedBy}
 use Rattle.vb_device.specs.Queues.{queue_part, with_queue, queue_end}
-use Rattle.vb_device.specs.Conditions.{finish_refusal, taken_at}
-use Rattle.vb_device.specs.Discards.{frames_behind}
+use Rattle.vb_device.specs.Conditions.{finish_refusal, sweep_refusal, taken_at}
+use Rattle.vb_device.specs.Discards.{discarded, frames_behind}
 use Rattle.vb_device.specs.Calls.{without_frames}
 
 -- Why the status alone refuses a call, where it does.
@@ -26,6 +26,24 @@ readiness_refusal status = first_refusal (work_tests status)
 abbrev pub queue_refusal : ℕ → ℕ → Option Refusal
 queue_refusal q status =
     first_refusal ((nat_lt DEFLATE_QUEUE q ⇒ NoQueue) ∷ work_tests status)
+
+-- ---- loose frames
+
+-- The last loose frame is given out, if there is one.
+abbrev pub GivesLast : Part → Part → Option Page → Type 0
+GivesLast p1 p2 None = (p1.loose ≡ []) × (p2 ≡ p1)
+GivesLast p1 p2 (Some frame) =
+    (p1.loose ≡ p2.loose ++ frame.number ∷ []) × (p2 ≡ record p1 { loose = p2.loose })
+
+-- A page loses its frame, if it has one, which is the last loose one.
+pub record SweepsPage (page : ℕ) (m1 m2 : Pages) (p1 p2 : Part)
+    (result : Result Bool Refusal) : Type 0 where
+  pub refused : (why : Refusal) → sweep_refusal page p1 ≡ Some why →
+      (result ≡ Err why) × (p2 ≡ p1) × (m2 ≡ m1)
+  pub answer : sweep_refusal page p1 ≡ None → result ≡ Ok (is_some (frame_at m1 page))
+  pub memory : sweep_refusal page p1 ≡ None → m2 ≡ discarded (page ∷ []) m1
+  pub part : sweep_refusal page p1 ≡ None →
+      p2 ≡ record p1 { loose = p1.loose ++ frames_behind m1 (page ∷ []) }
 
 -- ---- finish, in its two parts
 

@@ -9,6 +9,7 @@ use Rattle.vb_model.specs.declared.layout.TheConstants.{INFLATE_QUEUE, DEFLATE_Q
 use Rattle.vb_model.specs.declared.replies.Refusal.{Refusal}
 use Rattle.vb_model.specs.declared.replies.Refusal.TheVariants.{Broken}
 use Rattle.vb_model.specs.Layout.{ring_page}
+use Rattle.vb_model.specs.Tests.{times}
 use Rattle.vb_model.specs.Limits.{page_size}
 use Rattle.vb_model.specs.Requests.{Request}
 use Rattle.vb_model.specs.Guest.{no_statistics, zero_page}
@@ -25,7 +26,7 @@ use Rattle.vb_device.specs.declared.claimed.Claimed.TheVariants.{Gave, AskHost, 
 use Rattle.vb_device.specs.Queues.{queue_part, with_queue, queue_end, next_available}
 use Rattle.vb_device.specs.Conditions.{take_refusal, finish_refusal, sweep_refusal, taken_at}
 use Rattle.vb_device.specs.Faults.{Breaks, needing_reset}
-use Rattle.vb_device.specs.Own.{has, without}
+use Rattle.vb_device.specs.Own.{has, without, SameSet}
 use Rattle.vb_device.specs.Discards.{discarded, frames_behind, flagged}
 use Rattle.vb_device.specs.Request.{page_request}
 
@@ -117,16 +118,20 @@ pub record TakesBy (q : ℕ) (m1 m2 : Pages) (p1 p2 : Part)
 abbrev pub without_frames : ℕ → List ℕ → Pages → Pages
 without_frames q pages mem = if q == DEFLATE_QUEUE then mem else discarded pages mem
 
--- An inflate's pages are ballooned, a deflate's are ballooned no more; the frames that pages lose
--- are loose, after those that were.
-abbrev pub settled : ℕ → List ℕ → Pages → Part → Part
-settled q pages mem part =
-    if q == INFLATE_QUEUE then record part {
-      ballooned = flagged pages true part.ballooned;
-      loose = part.loose ++ frames_behind mem pages;
-    }
+-- The frames that they lose.
+abbrev pub lost_frames : ℕ → List ℕ → Pages → List ℕ
+lost_frames q pages mem = if q == DEFLATE_QUEUE then [] else frames_behind mem pages
+
+-- An inflate's pages are ballooned, a deflate's are ballooned no more.
+abbrev pub settled : ℕ → List ℕ → Part → Part
+settled q pages part =
+    if q == INFLATE_QUEUE then record part { ballooned = flagged pages true part.ballooned }
     else (if q == DEFLATE_QUEUE then record part { ballooned = flagged pages false part.ballooned }
-    else record part { loose = part.loose ++ frames_behind mem pages })
+    else part)
+
+-- Just these frames, in any order.
+abbrev pub SameFrames : List ℕ → List ℕ → Type 0
+SameFrames frames others = (n : ℕ) → times n frames ≡ times n others
 
 -- The taken request of this number is used, and those behind it close up.
 abbrev pub using : ℕ → ℕ → Part → Part
@@ -138,12 +143,13 @@ using q index part =
     })
     part
 
--- A taken request is used: its head is answered, its pages are settled, and then the used ring has
--- the head, with length 0.
+-- A taken request is used: its head is answered, its pages are settled, what they lost is loose, and
+-- the used ring has the head, with length 0. No frame was loose before.
 pub record Uses (q index : ℕ) (r : Request) (m1 m2 : Pages) (p1 p2 : Part)
     (result : Result ℕ Refusal) : Type 0 where
   pub answer : result ≡ Ok r.head
-  pub part : p2 ≡ settled q r.pages m1 (using q index p1)
+  pub part : p2 ≡ record (settled q r.pages (using q index p1)) { loose = p2.loose }
+  pub loose : SameFrames p2.loose (lost_frames q r.pages m1)
   pub memory : AddsUsedBy (without_frames q r.pages m1) m2
       (queue_end q p1) (queue_end q p2) r.head 0
 
@@ -164,14 +170,14 @@ pub record SweepsBy (page : ℕ) (m1 m2 : Pages) (p1 p2 : Part)
       (result ≡ Err why) × (p2 ≡ p1) × (m2 ≡ m1)
   pub answer : sweep_refusal page p1 ≡ None → result ≡ Ok (is_some (frame_at m1 page))
   pub memory : sweep_refusal page p1 ≡ None → m2 ≡ discarded (page ∷ []) m1
-  pub part : sweep_refusal page p1 ≡ None →
-      p2 ≡ record p1 { loose = p1.loose ++ frames_behind m1 (page ∷ []) }
+  pub part : sweep_refusal page p1 ≡ None → p2 ≡ record p1 { loose = p2.loose }
+  pub loose : sweep_refusal page p1 ≡ None → SameFrames p2.loose (frames_behind m1 (page ∷ []))
 
--- The last loose frame is given out, if there is one.
+-- Some loose frame is given out, if there is one.
 abbrev pub HandsBack : Part → Part → Option Page → Type 0
 HandsBack p1 p2 None = (p1.loose ≡ []) × (p2 ≡ p1)
 HandsBack p1 p2 (Some frame) =
-    (p1.loose ≡ p2.loose ++ frame.number ∷ []) × (p2 ≡ record p1 { loose = p2.loose })
+    SameFrames p1.loose (frame.number ∷ p2.loose) × (p2 ≡ record p1 { loose = p2.loose })
 
 -- ---- frames of the device's own
 
@@ -181,12 +187,13 @@ abbrev pub Claims : Part → Part → Claimed → Type 0
 Claims p1 p2 AskHost = (p1.keeps ≡ false) × (p2 ≡ p1)
 Claims p1 p2 (Gave frame) =
     (p1.keeps ≡ true) × (frame.bytes ≡ zero_page) × (has p1.own frame.number ≡ false) ×
-    (p2 ≡ record p1 { own = frame.number ∷ p1.own })
+    SameSet p2.own (frame.number ∷ p1.own) × (p2 ≡ record p1 { own = p2.own })
 Claims p1 p2 NoFrame = (p1.keeps ≡ true) × (p2 ≡ p1)
 Claims p1 p2 NoMemory = (p1.keeps ≡ true) × (p2 ≡ p1)
 
 -- A frame whose number is one of the device's own is kept, and any other comes back as it is.
 abbrev pub PutsBack : Part → Part → Page → Option Page → Type 0
 PutsBack p1 p2 frame None =
-    (has p1.own frame.number ≡ true) × (p2 ≡ record p1 { own = without p1.own frame.number })
+    (has p1.own frame.number ≡ true) × SameSet p2.own (without p1.own frame.number) ×
+    (p2 ≡ record p1 { own = p2.own })
 PutsBack p1 p2 frame (Some back) = (has p1.own frame.number ≡ false) × (back ≡ frame) × (p2 ≡ p1)

@@ -13,8 +13,8 @@ ghost use Rattle.vb_ring.specs.Layout.{IsInside};
 ghost use Rattle.vb_status.specs.Bits.{status_bits};
 ghost use Rattle.vb_device.specs.Base.{numbers_of_frames, IsPlain};
 ghost use Rattle.vb_device.specs.BaseCalls.{TakesOut, UsesChain, CanUse, readiness_refusal};
-ghost use Rattle.vb_device.specs.BaseCalls.{queue_refusal, with_lost};
-ghost use Rattle.vb_device.specs.Calls.{IsUnused, attached, TakesBy, SweepsBy, HandsBack};
+ghost use Rattle.vb_device.specs.BaseCalls.{queue_refusal, with_lost, SweepsPage, GivesLast};
+ghost use Rattle.vb_device.specs.Calls.{IsUnused, attached, TakesBy};
 ghost use Rattle.vb_device.specs.Calls.{without_frames};
 ghost use Rattle.vb_device.specs.Discards.{discarded, frames_behind};
 ghost use Rattle.vb_device.specs.QueueState.{status_after};
@@ -295,7 +295,7 @@ impl DeviceBase {
     pub(crate) fn sweep(&mut self, page: u32, ballooned: &PageFlags) -> Result<bool, Refusal>
         requires flags { length ballooned.now ≡ length self.old.mem }
         requires room { length self.old.part.loose ≤ length self.old.mem }
-        ensures by { SweepsBy page self.old.mem self.new.mem
+        ensures by { SweepsPage page self.old.mem self.new.mem
             (record self.old.part { ballooned = ballooned.now })
             (record self.new.part { ballooned = ballooned.now }) result }
         ensures count { length self.new.mem ≡ length self.old.mem }
@@ -311,7 +311,7 @@ impl DeviceBase {
 
     /// Gives out the last loose frame.
     pub(crate) fn hand_back(&mut self) -> Option<Frame>
-        ensures frame { HandsBack self.old.part self.new.part result }
+        ensures frame { GivesLast self.old.part self.new.part result }
         ensures mem { self.new.mem ≡ self.old.mem }
     {
         self.loose.pop()

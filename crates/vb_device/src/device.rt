@@ -91,7 +91,7 @@ pub trait Device: Port + Drop {
     fn finish(&mut self, queue: u32, index: u32) -> Result<u16, Refusal>
         requires backed { contains (Self.part self.old).status driver_ok ≡ true →
             IsSome (frame_at (Self.mem self.old) (ring_page queue)) }
-        requires room { length (Self.part self.old).loose ≤ length (Self.mem self.old) }
+        requires none { (Self.part self.old).loose ≡ [] }
         ensures { FinishesBy queue index (Self.mem self.old) (Self.mem self.new)
             (Self.part self.old) (Self.part self.new) result };
 
@@ -99,7 +99,7 @@ pub trait Device: Port + Drop {
     /// `NotReady`, `NeedsReset` and `NotBallooned`, tested in this order; a refusal changes
     /// nothing.
     fn sweep(&mut self, page: u32) -> Result<bool, Refusal>
-        requires { length (Self.part self.old).loose ≤ length (Self.mem self.old) }
+        requires { (Self.part self.old).loose ≡ [] }
         ensures { SweepsBy page (Self.mem self.old) (Self.mem self.new)
             (Self.part self.old) (Self.part self.new) result };
 
@@ -111,7 +111,7 @@ pub trait Device: Port + Drop {
     fn ballooned_count(&self) -> u32
         ensures { result ≡ count_by (λ flag. flag) (Self.part self.now).ballooned };
 
-    /// Gives out the last of the loose frames; none exactly where no frame is loose.
+    /// Gives out one of the loose frames, in whatever order; none exactly where no frame is loose.
     fn hand_back(&mut self) -> Option<Frame>
         ensures frame { HandsBack (Self.part self.old) (Self.part self.new) result }
         ensures mem { Self.mem self.new ≡ Self.mem self.old };

@@ -1,4 +1,4 @@
-use Rattle.std.proofs.Common.{◌≡◌, ◌∙◌, ℕ, List, Bool, Ok, Err, sym, ap, subst, rules}
+use Rattle.std.proofs.Common.{◌≡◌, ◌∙◌, ℕ, List, [], Bool, Ok, Err, sym, ap, subst, rules}
 use Rattle.std.specs.Prelude.{◌==◌, length}
 use Rattle.vb_device.specs.State.{DeviceState}
 use Rattle.vb_device.specs.Discards.{flagged}
@@ -38,6 +38,8 @@ returns c =
     c.set_all.ensures ∙
     ap (λ (ps : List ℕ). flagged ps (c.args.queue == 0) c.self.inside.ballooned)
     c.pages.ensures.pages in
+    let none : c.self.inside.base.part.loose ≡ [] =
+        ap (λ (v : DeviceState). v.part.loose) c.self.view_is ∙ c.requires.none in
     let used : UsesChain c.args.queue c.in_ok-request.request.head c.take_out.new.self.mem
     c.use_chain.new.self.mem c.take_out.new.self.part c.use_chain.new.self.part =
     subst (λ (h : ℕ). UsesChain c.args.queue h c.take_out.new.self.mem c.use_chain.new.self.mem
@@ -49,4 +51,4 @@ returns c =
     c.use_chain.new.self.mem c.self.inside.ballooned c.set_all.new.self c.self.inside.base.part
     c.take_out.new.self.part c.use_chain.new.self.part c.in_ok-request.request
     (Ok c.head-2.result) (ap (λ (h : ℕ). Ok h) c.head-2.ensures) flags
-    c.in_ok-request.ensures.ready.known c.in_ok-request.ensures.by used)
+    c.in_ok-request.ensures.ready.known none c.in_ok-request.ensures.by used)
