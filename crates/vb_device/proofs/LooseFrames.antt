@@ -1,6 +1,7 @@
 -- The loose frames of a device that keeps them as a list, as a set.
 use Rattle.std.specs.Prelude.{◌≡◌, ℕ, ◌+◌, ◌==◌, Bool, List, [], ◌∷◌, ◌++◌, Option, Some, None}
-use Rattle.std.specs.Prelude.{Result, refl}
+use Rattle.std.specs.Prelude.{Result, length, refl}
+use Rattle.std.proofs.lemmas.List.{length-append}
 use Rattle.std.proofs.Common.{sym, ◌∙◌, ap, subst, arith}
 use Rattle.vb_model.specs.declared.replies.Refusal.{Refusal}
 use Rattle.vb_model.specs.Tests.{times, one_if}
@@ -30,7 +31,11 @@ last_first n x xs =
 pub handed : (p1 p2 : Part) (given : Option Page) → GivesLast p1 p2 given → HandsBack p1 p2 given
 handed p1 p2 None g = g
 handed p1 p2 (Some frame) g =
-    (λ n. ap (times n) g.0 ∙ last_first n frame.number p2.loose, g.1)
+    (
+      λ n. ap (times n) g.0 ∙ last_first n frame.number p2.loose,
+      ap (λ (l : List ℕ). length l) g.0 ∙ length-append p2.loose (frame.number ∷ []),
+      g.1,
+    )
 
 pub swept : (page : ℕ) (m1 m2 : Pages) (p1 p2 : Part) (result : Result Bool Refusal) →
     p1.loose ≡ [] → SweepsPage page m1 m2 p1 p2 result → SweepsBy page m1 m2 p1 p2 result

@@ -177,7 +177,8 @@ pub record SweepsBy (page : ℕ) (m1 m2 : Pages) (p1 p2 : Part)
 abbrev pub HandsBack : Part → Part → Option Page → Type 0
 HandsBack p1 p2 None = (p1.loose ≡ []) × (p2 ≡ p1)
 HandsBack p1 p2 (Some frame) =
-    SameFrames p1.loose (frame.number ∷ p2.loose) × (p2 ≡ record p1 { loose = p2.loose })
+    SameFrames p1.loose (frame.number ∷ p2.loose) × (length p1.loose ≡ length p2.loose + 1) ×
+    (p2 ≡ record p1 { loose = p2.loose })
 
 -- ---- frames of the device's own
 

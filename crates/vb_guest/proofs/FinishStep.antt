@@ -222,8 +222,7 @@ inflate_finished m1 m2 p1 p2 d g i r result is did stands run free =
     } in
     let numbers : (k : ℕ)
     → times k p2.loose ≡ times k (frames_behind m1 r.pages) =
-    λ k. ap (λ (p : Part). times k p.loose) did.part
-    ∙ ap (λ (l : List ℕ). times k (l ++ frames_behind m1 r.pages)) ties.parts.device.loose in
+    λ k. did.loose k in
     let behind : frames_behind m1 r.pages
     ≡ flat_map (λ page. option_to_list (frame_of g.frames page)) r.pages =
     behind_same m1 g.frames r.pages ties.pages.behind in
@@ -341,14 +340,13 @@ deflate_finished m1 m2 p1 p2 d g i r result is did stands run free =
             run.deflate is adds;
       });
     } in
-    let none : p2.loose ≡ [] = ap (λ (p : Part). p.loose) did.part ∙ ties.parts.device.loose in
     subst (λ x. StepsFreeing (Stands m2 (handed_back p2) d) p2.loose g (Finish 1 i)
     (finished_reply x)) (sym did.answer) (record {
       new = new;
       stands = still_stands m1 m2 p1 (handed_back p2) d d g (Finish 1 i) [] (Finished r.head) new
           stands step (ties_same m2 m2 after (handed_back p2) d d new refl part refl there);
       step = guest_step g (Finish 1 i) [] (Finished r.head) new ties.parts.guest.honest step;
-      freed = λ k. omega (arith, ap (times k) none);
+      freed = λ k. omega (arith, did.loose k);
     })
 
 deflate_finish : (m1 m2 : Pages) (p1 p2 : Part) (d : DriverState) (g : Guest) (i : ℕ)

@@ -84,11 +84,10 @@ ring_backed m p d g q stands ok =
       | inr run ↦ run.backed (ring_page q) (low_if (q == 0) (q == 1) (q == 2))
     ]
 
--- there is room for loose frames
-pub loose_room : (m : Pages) (p : Part) (d : DriverState) (g : Guest) → Stands m p d g
-    → length p.loose ≤ length m
-loose_room m p d g stands =
-    omega (arith, ap (λ (l : List ℕ). length l) stands.ties.parts.device.loose)
+-- no frame is loose
+pub none_loose : (m : Pages) (p : Part) (d : DriverState) (g : Guest) → Stands m p d g
+    → p.loose ≡ []
+none_loose m p d g stands = stands.ties.parts.device.loose
 
 pub finish_own : (m1 m2 : Pages) (p1 p2 : Part) (d : DriverState) (g : Guest) (q i : ℕ)
     (result : Result ℕ Refusal) → FinishesBy q i m1 m2 p1 p2 result → Stands m1 p1 d g → p2.own ≡ []

@@ -13,6 +13,7 @@ pub mod PagesKept
 pub mod FinishStep
 pub mod Writing
 pub mod WriteStep
+pub mod Loosing
 pub mod TargetStep
 pub mod Freed
 pub mod SweepStep

@@ -170,8 +170,7 @@ sweep_done m1 m2 p1 p2 d g page result did stands run by_part by_model flag =
     let same : handed_back p2 ≡ p1 = ap handed_back part ∙ loose_none p1 ties.parts.device.loose in
     let numbers : (k : ℕ)
     → times k p2.loose ≡ times k (frames_behind m1 one) =
-    λ k. ap (λ (p : Part). times k p.loose) part
-    ∙ ap (λ (l : List ℕ). times k (l ++ frames_behind m1 one)) ties.parts.device.loose in
+    λ k. did.loose by_part k in
     let behind : frames_behind m1 one
     ≡ flat_map (λ page. option_to_list (frame_of g.frames page)) one =
     behind_same m1 g.frames one ties.pages.behind in

@@ -1,11 +1,11 @@
-use Rattle.vb_guest.proofs.Freed.{ring_backed, loose_room, finish_own, finish_loose, finish_freed}
+use Rattle.vb_guest.proofs.Freed.{ring_backed, none_loose, finish_own, finish_loose, finish_freed}
 use Rattle.vb_guest.proofs.device.finish.Goals as goal
 
 pub finish-answer-requires : goal.finish-answer-requires
 finish-answer-requires g c = let (d, guest, stands, held) = c.requires in
     record {
       backed = ring_backed _ _ d guest c.args.queue stands;
-      room = loose_room _ _ d guest stands;
+      none = none_loose _ _ d guest stands;
     }
 
 pub return_loose-requires : goal.return_loose-requires

@@ -1,10 +1,10 @@
-use Rattle.vb_guest.proofs.Freed.{loose_room}
+use Rattle.vb_guest.proofs.Freed.{none_loose}
 use Rattle.vb_guest.proofs.SweepStep.{sweep_own, sweep_loose, sweep_freed}
 use Rattle.vb_guest.proofs.device.sweep.Goals as goal
 
 pub sweep-answer-requires : goal.sweep-answer-requires
 sweep-answer-requires g c = let (d, guest, stands, held) = c.requires in
-    loose_room _ _ d guest stands
+    none_loose _ _ d guest stands
 
 pub return_loose-requires : goal.return_loose-requires
 return_loose-requires g c =
