@@ -192,19 +192,19 @@ queue_keeps false true c x p = refl
 queue_keeps false false true x p = refl
 queue_keeps false false false x p = refl
 
-settled_size : (a b : Bool) (pages : List ℕ) (loose : List ℕ) (p : Part)
-    → length (if a then record p { ballooned = flagged pages true p.ballooned; loose = loose }
+settled_size : (a b : Bool) (pages : List ℕ) (p : Part)
+    → length (if a then record p { ballooned = flagged pages true p.ballooned }
     else (if b then record p { ballooned = flagged pages false p.ballooned }
-    else record p { loose = loose })).ballooned ≡ length p.ballooned
-settled_size true b pages loose p = flagged-length pages true p.ballooned
-settled_size false true pages loose p = flagged-length pages false p.ballooned
-settled_size false false pages loose p = refl
+    else p)).ballooned ≡ length p.ballooned
+settled_size true b pages p = flagged-length pages true p.ballooned
+settled_size false true pages p = flagged-length pages false p.ballooned
+settled_size false false pages p = refl
 
 used_size : (q index : ℕ) (r : Request) (m1 m2 : Pages) (p1 p2 : Part) (result : Result ℕ Refusal)
     → Uses q index r m1 m2 p1 p2 result → length p2.ballooned ≡ length p1.ballooned
 used_size q index r m1 m2 p1 p2 result u =
     ap (λ (p : Part). length p.ballooned) u.part
-    ∙ (settled_size (q == 0) (q == 1) r.pages _ (using q index p1)
+    ∙ (settled_size (q == 0) (q == 1) r.pages (using q index p1)
     ∙ ap (λ (fs : List Bool). length fs) (queue_keeps (q == 0) (q == 1) (q == 2) _ p1))
 
 used_some : (q index : ℕ) (m1 m2 : Pages) (p1 p2 : Part) (result : Result ℕ Refusal)
