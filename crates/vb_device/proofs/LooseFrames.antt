@@ -1,14 +1,13 @@
 -- The loose frames of a device that keeps them as a list, as a set.
-use Rattle.std.specs.Prelude.{◌≡◌, ℕ, ◌+◌, ◌==◌, Bool, List, [], ◌∷◌, ◌++◌, Option, Some, None}
-use Rattle.std.specs.Prelude.{Result, length, refl}
+use Rattle.std.specs.Prelude.{◌≡◌, ℕ, ◌==◌, Bool, List, [], ◌∷◌, ◌++◌, Option, Some, None}
+use Rattle.std.specs.Prelude.{Result, length}
 use Rattle.std.proofs.lemmas.List.{length-append}
-use Rattle.std.proofs.Common.{sym, ◌∙◌, ap, subst, arith}
+use Rattle.std.proofs.Common.{sym, ◌∙◌, ap, arith}
 use Rattle.vb_model.specs.declared.replies.Refusal.{Refusal}
-use Rattle.vb_model.specs.Tests.{times, one_if}
+use Rattle.vb_model.specs.Tests.{times}
 use Rattle.vb_model.proofs.Tables.{count_by-append, count_by-cons, count_by-one}
 use Rattle.vb_ram.specs.Pages.{Page, Pages}
 use Rattle.vb_ram.specs.Part.{Part}
-use Rattle.vb_device.specs.Conditions.{sweep_refusal}
 use Rattle.vb_device.specs.Discards.{frames_behind}
 use Rattle.vb_device.specs.BaseCalls.{GivesLast, SweepsPage}
 use Rattle.vb_device.specs.Calls.{SameFrames, HandsBack, SweepsBy}
@@ -23,19 +22,21 @@ lost_alone old new lost none is n = ap (times n) (is ∙ ap (λ (l : List ℕ). 
 
 last_first : (n x : ℕ) (xs : List ℕ) → times n (xs ++ x ∷ []) ≡ times n (x ∷ xs)
 last_first n x xs =
-    omega
-    (arith, count_by-append (λ (m : ℕ). m == n) xs (x ∷ []),
-    count_by-one (λ (m : ℕ). m == n) x, count_by-cons (λ (m : ℕ). m == n) x xs)
+    omega (
+      arith,
+      count_by-append (λ (m : ℕ). m == n) xs (x ∷ []),
+      count_by-one (λ (m : ℕ). m == n) x,
+      count_by-cons (λ (m : ℕ). m == n) x xs,
+    )
 
 -- the last one is one of them
 pub handed : (p1 p2 : Part) (given : Option Page) → GivesLast p1 p2 given → HandsBack p1 p2 given
 handed p1 p2 None g = g
-handed p1 p2 (Some frame) g =
-    (
-      λ n. ap (times n) g.0 ∙ last_first n frame.number p2.loose,
-      ap (λ (l : List ℕ). length l) g.0 ∙ length-append p2.loose (frame.number ∷ []),
-      g.1,
-    )
+handed p1 p2 (Some frame) g = (
+  λ n. ap (times n) g.0 ∙ last_first n frame.number p2.loose,
+  ap (λ (l : List ℕ). length l) g.0 ∙ length-append p2.loose (frame.number ∷ []),
+  g.1,
+)
 
 pub swept : (page : ℕ) (m1 m2 : Pages) (p1 p2 : Part) (result : Result Bool Refusal) →
     p1.loose ≡ [] → SweepsPage page m1 m2 p1 p2 result → SweepsBy page m1 m2 p1 p2 result

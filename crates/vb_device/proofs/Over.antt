@@ -113,9 +113,9 @@ settles : (q index : ℕ) (r : Request) (m1 m2 m3 : Pages) (flags : List Bool) (
     → Uses q index r m1 m3 (over flags p1) (over (flagged r.pages (q == 0) flags) p3) (Ok r.head)
 settles zero index r m1 m2 m3 flags p1 p2 p3 le none mem part used =
     let left =
-        used.part ∙
-        ap (λ (p : Part). with_queue 0
-        (record (queue_part 0 p) { next_used = ((queue_part 0 p).next_used + 1) % 65536 }) p) part in
+    used.part ∙
+    ap (λ (p : Part). with_queue 0
+    (record (queue_part 0 p) { next_used = ((queue_part 0 p).next_used + 1) % 65536 }) p) part in
     record {
       answer = refl;
       part = all_but_loose _ _ (ap (over (flagged r.pages true flags)) left);
@@ -127,9 +127,9 @@ settles zero index r m1 m2 m3 flags p1 p2 p3 le none mem part used =
     }
 settles (suc zero) index r m1 m2 m3 flags p1 p2 p3 le none mem part used =
     let left =
-        used.part ∙
-        ap (λ (p : Part). with_queue 1
-        (record (queue_part 1 p) { next_used = ((queue_part 1 p).next_used + 1) % 65536 }) p) part in
+    used.part ∙
+    ap (λ (p : Part). with_queue 1
+    (record (queue_part 1 p) { next_used = ((queue_part 1 p).next_used + 1) % 65536 }) p) part in
     record {
       answer = refl;
       part = all_but_loose _ _ (ap (over (flagged r.pages false flags)) left);

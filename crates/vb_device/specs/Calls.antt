@@ -13,6 +13,7 @@ use Rattle.vb_model.specs.Tests.{times}
 use Rattle.vb_model.specs.Limits.{page_size}
 use Rattle.vb_model.specs.Requests.{Request}
 use Rattle.vb_model.specs.Guest.{no_statistics, zero_page}
+use Rattle.vb_model.specs.Device.{visiting, next_page}
 use Rattle.vb_ram.specs.declared.config.Config.{Config}
 use Rattle.vb_ram.specs.Pages.{Page, Pages, frame_at}
 use Rattle.vb_ram.specs.Part.{Part, no_queue}
@@ -23,8 +24,10 @@ use Rattle.vb_chain.specs.Chain.{ChainGives, FaultGives}
 use Rattle.vb_ring.specs.Calls.{AddsUsedBy}
 use Rattle.vb_device.specs.declared.claimed.Claimed.{Claimed}
 use Rattle.vb_device.specs.declared.claimed.Claimed.TheVariants.{Gave, AskHost, NoFrame, NoMemory}
+use Rattle.vb_device.specs.declared.worked.Worked.{Worked}
 use Rattle.vb_device.specs.Queues.{queue_part, with_queue, queue_end, next_available}
-use Rattle.vb_device.specs.Conditions.{take_refusal, finish_refusal, sweep_refusal, taken_at}
+use Rattle.vb_device.specs.Conditions.{take_refusal, work_refusal, finish_refusal}
+use Rattle.vb_device.specs.Conditions.{sweep_refusal, taken_at}
 use Rattle.vb_device.specs.Faults.{Breaks, needing_reset}
 use Rattle.vb_device.specs.Own.{has, without, SameSet}
 use Rattle.vb_device.specs.Discards.{discarded, frames_behind, flagged}
@@ -112,6 +115,41 @@ pub record TakesBy (q : ℕ) (m1 m2 : Pages) (p1 p2 : Part)
       page_request m1 pieces ≡ Ok pages → (result ≡ Ok (Some h)) × (p2 ≡ taking q h pages p1)
   pub means : TakeMeans q m1 p1 p2 result
 
+-- ---- loose frames
+
+-- Just these frames, in any order.
+abbrev pub SameFrames : List ℕ → List ℕ → Type 0
+SameFrames frames others = (n : ℕ) → times n frames ≡ times n others
+
+-- ---- work
+
+-- The oldest page that is still to be visited, of a device that visits pages.
+abbrev pub next_visit : Part → Option ℕ
+next_visit part = if part.paced then next_page part.inflate.taken else None
+
+-- A page of a taken request on this queue is visited: it loses its frame, if it has one. No frame
+-- was loose before.
+pub record Visits (q page : ℕ) (m1 m2 : Pages) (p1 p2 : Part)
+    (result : Result (Option Worked) Refusal) : Type 0 where
+  pub answer : result ≡ Ok (Some (record { page = page; freed = is_some (frame_at m1 page) }))
+  pub memory : m2 ≡ discarded (page ∷ []) m1
+  pub part : p2 ≡
+      record (with_queue q
+      (record (queue_part q p1) { taken = visiting (queue_part q p1).taken }) p1) {
+        loose = p2.loose;
+      }
+  pub loose : SameFrames p2.loose (frames_behind m1 (page ∷ []))
+
+-- One more step of the device's own work.
+pub record WorksBy (m1 m2 : Pages) (p1 p2 : Part)
+    (result : Result (Option Worked) Refusal) : Type 0 where
+  pub refused : (why : Refusal) → work_refusal p1 ≡ Some why →
+      (result ≡ Err why) × (p2 ≡ p1) × (m2 ≡ m1)
+  pub idle : work_refusal p1 ≡ None → next_visit p1 ≡ None →
+      (result ≡ Ok None) × (p2 ≡ p1) × (m2 ≡ m1)
+  pub visits : (page : ℕ) → work_refusal p1 ≡ None → next_visit p1 ≡ Some page →
+      Visits INFLATE_QUEUE page m1 m2 p1 p2 result
+
 -- ---- finish
 
 -- An inflate's pages and a report's lose their frames, a deflate's keep them.
@@ -128,10 +166,6 @@ settled q pages part =
     if q == INFLATE_QUEUE then record part { ballooned = flagged pages true part.ballooned }
     else (if q == DEFLATE_QUEUE then record part { ballooned = flagged pages false part.ballooned }
     else part)
-
--- Just these frames, in any order.
-abbrev pub SameFrames : List ℕ → List ℕ → Type 0
-SameFrames frames others = (n : ℕ) → times n frames ≡ times n others
 
 -- The taken request of this number is used, and those behind it close up.
 abbrev pub using : ℕ → ℕ → Part → Part

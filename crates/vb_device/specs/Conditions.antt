@@ -1,12 +1,12 @@
 -- What the calls on a device are refused for before they look at guest memory: the tables of the
--- definitions, with
--- the device's own values.
+-- definitions, with the device's own values.
 use Rattle.std.specs.Prelude.{ℕ, length, Option, slice_get}
 use Rattle.vb_model.specs.declared.replies.Refusal.{Refusal}
 use Rattle.vb_model.specs.Requests.{Request}
 use Rattle.vb_model.specs.Guest.{is_ballooned}
 use Rattle.vb_model.specs.FirstRefusal.{first_refusal}
-use Rattle.vb_model.specs.Tables.{take_tests, finish_tests, sweep_tests}
+use Rattle.vb_model.specs.Tables.{take_tests, work_tests, finish_tests}
+use Rattle.vb_model.specs.Tables.{sweep_tests}
 use Rattle.vb_ram.specs.Part.{Part}
 use Rattle.vb_device.specs.Queues.{queue_part}
 
@@ -17,6 +17,9 @@ taken_at q index part = slice_get (queue_part q part).taken index
 abbrev pub take_refusal : ℕ → Part → Option Refusal
 take_refusal q part =
     first_refusal (take_tests q part.status part.features (length (queue_part q part).taken))
+
+abbrev pub work_refusal : Part → Option Refusal
+work_refusal part = first_refusal (work_tests part.status)
 
 abbrev pub finish_refusal : ℕ → ℕ → Part → Option Refusal
 finish_refusal q index part =

@@ -175,7 +175,7 @@ impl DeviceBase {
 
     /// `NotReady` where the driver isn't done with the initialisation or has given up, and
     /// `NeedsReset` after a fault.
-    fn readiness_refusal(&self) -> Option<Refusal>
+    pub(crate) fn readiness_refusal(&self) -> Option<Refusal>
         ensures { result ≡ readiness_refusal self.now.part.status }
     {
         if !self.status.contains(Status::DRIVER_OK) || self.status.contains(Status::FAILED) {

@@ -7,10 +7,10 @@ ghost use Rattle.vb_model.specs.Layout.{ring_page};
 ghost use Rattle.vb_model.specs.Limits.{is_config};
 ghost use Rattle.vb_model.specs.Status.{contains, driver_ok};
 ghost use Rattle.vb_ram.specs.Pages.{frame_at, Supplied, IsWhole};
-ghost use Rattle.vb_device.specs.Calls.{IsUnused, attached, TakesBy, FinishesBy, SweepsBy};
-ghost use Rattle.vb_device.specs.Calls.{HandsBack, Claims, PutsBack};
+ghost use Rattle.vb_device.specs.Calls.{IsUnused, attached, TakesBy, WorksBy, FinishesBy};
+ghost use Rattle.vb_device.specs.Calls.{SweepsBy, HandsBack, Claims, PutsBack};
 
-use crate::Claimed;
+use crate::{Claimed, Worked};
 use std::alloc::{AllocError, Global};
 use vb_model::Refusal;
 use vb_ram::{Config, Frame, RamFault, SupplyRefused};
@@ -79,6 +79,17 @@ pub trait Device: Port + Drop {
     /// break a rule: DEVICE_NEEDS_RESET is set then. Nothing else is changed by a refusal.
     fn take(&mut self, queue: u32) -> Result<Option<u16>, Refusal>
         ensures { TakesBy queue (Self.mem self.old) (Self.mem self.new)
+            (Self.part self.old) (Self.part self.new) result };
+
+    /// Visits the next page of the requests that are taken, where the device is paced (profile): the
+    /// oldest request's first, and of a request its pages in their order. Takes the page's frame
+    /// away, if it has one. None where every page of every taken request is visited, and always
+    /// where the device is immediate.
+    ///
+    /// Refused with `NotReady` and `NeedsReset`, tested in this order. A refusal changes nothing.
+    fn work(&mut self) -> Result<Option<Worked>, Refusal>
+        requires { (Self.part self.old).loose ≡ [] }
+        ensures { WorksBy (Self.mem self.old) (Self.mem self.new)
             (Self.part self.old) (Self.part self.new) result };
 
     /// Uses the taken chain of this number, from 0, on a queue; answers its head. An inflate's

@@ -5,7 +5,7 @@ ghost use Rattle.vb_device.specs.Calls.{IsUnused};
 
 use crate::base::DeviceBase;
 use crate::flags::PageFlags;
-use crate::{Claimed, Device};
+use crate::{Claimed, Device, Worked};
 use bitflags::Flags;
 use std::alloc::{AllocError, Global};
 use std::marker::Model;
@@ -129,6 +129,14 @@ impl Device for ImmediateDevice {
 
     fn take(&mut self, queue: u32) -> Result<Option<u16>, Refusal> {
         self.base.take(queue)
+    }
+
+    fn work(&mut self) -> Result<Option<Worked>, Refusal> {
+        self.base.is_plain();
+        match self.base.readiness_refusal() {
+            Some(why) => Err(why),
+            None => Ok(None),
+        }
     }
 
     fn finish(&mut self, queue: u32, index: u32) -> Result<u16, Refusal> {

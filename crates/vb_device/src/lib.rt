@@ -12,8 +12,10 @@ mod queue;
 mod request;
 #[cfg(test)]
 mod tests;
+mod worked;
 
 pub use claimed::Claimed;
 pub use device::Device;
 pub use immediate::ImmediateDevice;
 pub use laws::{a_request_names_pages_of_the_guest, a_written_request_is_read};
+pub use worked::Worked;

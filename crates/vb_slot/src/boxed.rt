@@ -3,7 +3,7 @@
 ghost use Rattle.std.specs.Prelude.{◌≡◌};
 
 use std::alloc::{AllocError, Global};
-use vb_device::{Claimed, Device};
+use vb_device::{Claimed, Device, Worked};
 use vb_model::Refusal;
 use vb_ram::{Config, Frame, GuestBytes, RamFault, SupplyRefused};
 use vb_status::{Features, Port, Status, StatusFault};
@@ -81,6 +81,10 @@ impl Device for BoxedDevice {
 
     fn take(&mut self, queue: u32) -> Result<Option<u16>, Refusal> {
         self.device.take(queue)
+    }
+
+    fn work(&mut self) -> Result<Option<Worked>, Refusal> {
+        self.device.work()
     }
 
     fn finish(&mut self, queue: u32, index: u32) -> Result<u16, Refusal> {

@@ -39,7 +39,7 @@ returns c =
     ap (λ (ps : List ℕ). flagged ps (c.args.queue == 0) c.self.inside.ballooned)
     c.pages.ensures.pages in
     let none : c.self.inside.base.part.loose ≡ [] =
-        ap (λ (v : DeviceState). v.part.loose) c.self.view_is ∙ c.requires.none in
+    ap (λ (v : DeviceState). v.part.loose) c.self.view_is ∙ c.requires.none in
     let used : UsesChain c.args.queue c.in_ok-request.request.head c.take_out.new.self.mem
     c.use_chain.new.self.mem c.take_out.new.self.part c.use_chain.new.self.part =
     subst (λ (h : ℕ). UsesChain c.args.queue h c.take_out.new.self.mem c.use_chain.new.self.mem
