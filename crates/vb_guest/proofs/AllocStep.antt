@@ -1,10 +1,9 @@
 -- The slot's allocation is a step of the guest.
-use Rattle.std.specs.Prelude.{◌≡◌, ℕ, [], Result, Ok, Err, refl}
+use Rattle.std.specs.Prelude.{ℕ, [], Result, Ok, Err, refl}
 use Rattle.std.proofs.Common.{sym, subst, inl, inr}
 use Rattle.vb_model.specs.declared.calls.Call.TheVariants.{Alloc}
 use Rattle.vb_model.specs.declared.places.Place.TheVariants.{Used}
 use Rattle.vb_model.specs.declared.replies.Refusal.{Refusal}
-use Rattle.vb_model.specs.declared.replies.Reply.{Reply}
 use Rattle.vb_model.specs.declared.replies.Reply.TheVariants.{Page, Refused}
 use Rattle.vb_model.specs.Pages.{pages_of, placed}
 use Rattle.vb_model.specs.Guest.{Guest}
@@ -14,7 +13,7 @@ use Rattle.vb_ram.specs.Part.{Part}
 use Rattle.vb_driver.specs.State.{FreePages, Side, DriverState}
 use Rattle.vb_driver.specs.Answers.{block_at}
 use Rattle.vb_driver.specs.Calls.{AllocatesBy}
-use Rattle.vb_guest.specs.Stands.{Stands, Ties}
+use Rattle.vb_guest.specs.Stands.{Honest, Ties}
 use Rattle.vb_guest.specs.Steps.{StepsAlone}
 use Rattle.vb_guest.specs.Replies.{page_reply}
 use Rattle.vb_guest.proofs.Closing.{honest_performed, honest_refused, steps_alone, ties_areas}
@@ -24,8 +23,8 @@ use Rattle.vb_guest.proofs.Normal.{driver_of, driver_is, keeps_own}
 by_result : (m : Pages) (p : Part) (g : Guest) (areas : FreePages) (si sd : Side) (d2 : DriverState)
     (cpu order : ℕ) (result : Result ℕ Refusal)
     → AllocatesBy (driver_of g areas si sd) d2 cpu order result
-    → Stands m p (driver_of g areas si sd) g
-    → StepsAlone (Stands m p d2) g (Alloc cpu order) (page_reply result)
+    → Honest m p (driver_of g areas si sd) g
+    → StepsAlone (Honest m p d2) g (Alloc cpu order) (page_reply result)
 by_result m p g areas si sd d2 cpu order (Err why) did stands =
     let before = driver_of g areas si sd in
     let refusal = sym did.refusal in
@@ -66,10 +65,10 @@ by_result m p g areas si sd d2 cpu order (Ok start) did stands =
 
 pub alloc_step : (m : Pages) (p : Part) (d1 d2 : DriverState) (g : Guest) (cpu order : ℕ)
     (result : Result ℕ Refusal)
-    → AllocatesBy d1 d2 cpu order result → Stands m p d1 g
-    → StepsAlone (Stands m p d2) g (Alloc cpu order) (page_reply result)
+    → AllocatesBy d1 d2 cpu order result → Honest m p d1 g
+    → StepsAlone (Honest m p d2) g (Alloc cpu order) (page_reply result)
 alloc_step m p d1 d2 g cpu order result did stands =
     let is = driver_is p d1 g stands.ties.parts in
     by_result m p g d1.areas d1.inflate d1.deflate d2 cpu order result
     (subst (λ d. AllocatesBy d d2 cpu order result) is did)
-    (subst (λ d. Stands m p d g) is stands)
+    (subst (λ d. Honest m p d g) is stands)

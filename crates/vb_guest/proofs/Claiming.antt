@@ -1,17 +1,23 @@
 -- What a call of `supply_from` makes of one page and of the rest.
 use Rattle.std.specs.Prelude.{◌≡◌, ℕ, suc, ◌+◌, ◌-◌, ◌<◌, ◌≤◌, Bool, true, false, not, cond, List}
 use Rattle.std.specs.Prelude.{[], ◌∷◌, length, Option, Some, None, is_some, is_none, filter, Result}
-use Rattle.std.specs.Prelude.{Ok, Err, IsErrAnd, slice_set, refl}
+use Rattle.std.specs.Prelude.{Ok, Err, IsErrAnd, ◌++◌, refl}
 use Rattle.std.specs.List.{range_with_len}
-use Rattle.std.proofs.Common.{sym, ◌∙◌, ap, subst, arith}
+use Rattle.std.proofs.lemmas.List.{append-nil, append_assoc}
+use Rattle.std.proofs.Common.{sym, ◌∙◌, ap, subst, arith, eq-eqb}
 use Rattle.vb_model.specs.declared.calls.Claim.{Claim}
 use Rattle.vb_model.specs.declared.calls.Claim.TheVariants.{Gave, GaveNoFrame, GaveNoMemory}
 use Rattle.vb_ram.specs.Pages.{Pages, frame_at, number_of, Supplied}
 use Rattle.vb_frames.specs.declared.keeper.Refused.{Refused}
 use Rattle.vb_frames.specs.declared.keeper.Refused.TheVariants.{NoFrame, Memory}
-use Rattle.vb_frames.specs.Out.{IsFree, claim_in}
+use Rattle.vb_model.specs.Tests.{one_if}
+use Rattle.vb_model.specs.Driver.{given}
+use Rattle.vb_model.specs.Orderly.{times}
+use Rattle.vb_frames.specs.Out.{claim_in}
+use Rattle.vb_guest.specs.Supply.{Supply, is_used, IsClaimed, Moves, nothing}
 use Rattle.vb_guest.specs.Lives.{bare_from, SuppliesBy}
-use Rattle.vb_guest.proofs.Supplying.{not_again, supplied_count, supplied_other, out_back}
+use Rattle.vb_guest.proofs.Supplying.{not_again, supplied_count, supplied_other}
+use Rattle.vb_guest.proofs.Moving.{is_one, times_first, times_one, moves_none, moves_then, moves_as}
 
 -- ---- the pages without frames
 
@@ -53,78 +59,83 @@ none_is None e = refl
 none_is (Some x) e = absurd cc
 
 -- after the rest got frames, the page is still there and has none
-pub still_inside : (out1 out2 : List Bool) (Answers : List Bool → Claim → Type 0) (m m1 m2 : Pages)
-    (page : ℕ) → page < 13 → 64 ≤ length m → m1 ≡ m
-    → SuppliesBy {T = Unit {0}} Answers out1 out2 (bare_from m1 (page + 1)) m1 m2 (Ok tt)
+pub still_inside : (Answers : List Bool → Claim → Type 0) (s1 s2 : Supply) (l1 l2 : List Claim)
+    (m m1 m2 : Pages) (page : ℕ) → page < 13 → 64 ≤ length m → m1 ≡ m
+    → SuppliesBy {T = Unit {0}} Answers s1 s2 l1 l2 (bare_from m1 (page + 1)) m1 m2 (Ok tt)
     → page < length m2
-still_inside out1 out2 Answers m m1 m2 page lt large same did =
+still_inside Answers s1 s2 l1 l2 m m1 m2 page lt large same did =
     omega (
       arith,
       supplied_count (bare_from m1 (page + 1)) _ m1 m2 did.supplied.0,
       ap (λ (x : Pages). length x) same,
     )
 
-pub still_bare : (out1 out2 : List Bool) (Answers : List Bool → Claim → Type 0) (m m1 m2 : Pages)
-    (page : ℕ) → is_some (frame_at m page) ≡ false → m1 ≡ m
-    → SuppliesBy {T = Unit {0}} Answers out1 out2 (bare_from m1 (page + 1)) m1 m2 (Ok tt)
+pub still_bare : (Answers : List Bool → Claim → Type 0) (s1 s2 : Supply) (l1 l2 : List Claim)
+    (m m1 m2 : Pages) (page : ℕ) → is_some (frame_at m page) ≡ false → m1 ≡ m
+    → SuppliesBy {T = Unit {0}} Answers s1 s2 l1 l2 (bare_from m1 (page + 1)) m1 m2 (Ok tt)
     → frame_at m2 page ≡ None
-still_bare out1 out2 Answers m m1 m2 page none same did =
+still_bare Answers s1 s2 l1 l2 m m1 m2 page none same did =
     ap number_of (supplied_other (bare_from m1 (page + 1)) _ m1 m2 page did.supplied.0
     (not_again (bare_test m1) page (13 - (page + 1))))
     ∙ ap (λ (x : Pages). frame_at x page) same ∙ none_is (frame_at m page) none
 
 -- ---- what is left
 
-pub supplies_none : (Answers : List Bool → Claim → Type 0) (out : List Bool) (m : Pages) (page : ℕ)
-    → 13 ≤ page → SuppliesBy {T = Unit {0}} Answers out out (bare_from m page) m m (Ok tt)
-supplies_none Answers out m page past =
-    subst (λ (l : List ℕ). SuppliesBy {T = Unit {0}} Answers out out l m m (Ok tt))
+pub supplies_none : (Answers : List Bool → Claim → Type 0) (s : Supply) (l : List Claim) (m : Pages)
+    (page : ℕ) → 13 ≤ page
+    → SuppliesBy {T = Unit {0}} Answers s s l l (bare_from m page) m m (Ok tt)
+supplies_none Answers s l m page past =
+    subst (λ (pages : List ℕ). SuppliesBy {T = Unit {0}} Answers s s l l pages m m (Ok tt))
     (sym (bare_past m page past))
     (record {
       claims = [];
+      noted = sym (append-nil l);
       made = tt;
       answered = tt;
       answer = refl;
-      supplied = (refl, refl);
+      supplied = (refl, moves_none s);
       refused = tt;
     })
 
-pub supplies_rest : (Answers : List Bool → Claim → Type 0) (out1 out2 : List Bool) (m1 m2 : Pages)
-    (page : ℕ) (result : Result (Unit {0}) Refused) → page < 13 → is_some (frame_at m1 page) ≡ true
-    → SuppliesBy Answers out1 out2 (bare_from m1 (page + 1)) m1 m2 result
-    → SuppliesBy Answers out1 out2 (bare_from m1 page) m1 m2 result
-supplies_rest Answers out1 out2 m1 m2 page result lt has did =
-    subst (λ (l : List ℕ). SuppliesBy Answers out1 out2 l m1 m2 result)
+pub supplies_rest : (Answers : List Bool → Claim → Type 0) (s1 s2 : Supply) (l1 l2 : List Claim)
+    (m1 m2 : Pages) (page : ℕ) (result : Result (Unit {0}) Refused) → page < 13
+    → is_some (frame_at m1 page) ≡ true
+    → SuppliesBy Answers s1 s2 l1 l2 (bare_from m1 (page + 1)) m1 m2 result
+    → SuppliesBy Answers s1 s2 l1 l2 (bare_from m1 page) m1 m2 result
+supplies_rest Answers s1 s2 l1 l2 m1 m2 page result lt has did =
+    subst (λ (l : List ℕ). SuppliesBy Answers s1 s2 l1 l2 l m1 m2 result)
     (sym (bare_skips m1 page lt has)) did
 
 -- the page's claim is refused
-pub supplies_refused : (Answers : List Bool → Claim → Type 0) (out1 out2 : List Bool)
+pub supplies_refused : (Answers : List Bool → Claim → Type 0) (s1 s2 : Supply) (l1 l2 : List Claim)
     (m1 m2 : Pages) (page : ℕ) (why : Refused) → page < 13 → is_some (frame_at m1 page) ≡ false
-    → Answers out1 (claim_in (Err why)) → m2 ≡ m1 → out2 ≡ out1
-    → SuppliesBy {T = Unit {0}} Answers out1 out2 (bare_from m1 page) m1 m2 (Err why)
-supplies_refused Answers out1 out2 m1 m2 page why lt none answer m out =
-    subst (λ (l : List ℕ). SuppliesBy {T = Unit {0}} Answers out1 out2 l m1 m2 (Err why))
-    (sym (bare_takes m1 page lt none)) (by why answer)
+    → IsClaimed Answers s1 s2 (claim_in (Err why)) → l2 ≡ l1 ++ (claim_in (Err why) ∷ [])
+    → m2 ≡ m1 → SuppliesBy {T = Unit {0}} Answers s1 s2 l1 l2 (bare_from m1 page) m1 m2 (Err why)
+supplies_refused Answers s1 s2 l1 l2 m1 m2 page why lt none answer noted m =
+    subst (λ (l : List ℕ). SuppliesBy {T = Unit {0}} Answers s1 s2 l1 l2 l m1 m2 (Err why))
+    (sym (bare_takes m1 page lt none)) (by why answer noted)
   where
-    by : (w : Refused) → Answers out1 (claim_in (Err w))
-        → SuppliesBy {T = Unit {0}} Answers out1 out2 (page ∷ bare_from m1 (page + 1)) m1 m2 (Err w)
-    by NoFrame a = record {
-      claims = GaveNoFrame
-          ∷ [];
+    by : (w : Refused) → IsClaimed Answers s1 s2 (claim_in (Err w))
+        → l2 ≡ l1 ++ (claim_in (Err w) ∷ [])
+        → SuppliesBy {T = Unit {0}} Answers s1 s2 l1 l2 (page ∷ bare_from m1 (page + 1)) m1 m2
+        (Err w)
+    by NoFrame a n = record {
+      claims = GaveNoFrame ∷ [];
+      noted = n;
       made = refl;
-      answered = (a, refl);
+      answered = (s2, a, refl);
       answer = refl;
       supplied = tt;
-      refused = (m, out);
+      refused = (m, a.moves);
     }
-    by Memory a = record {
-      claims = GaveNoMemory
-          ∷ [];
+    by Memory a n = record {
+      claims = GaveNoMemory ∷ [];
+      noted = n;
       made = refl;
-      answered = (a, refl);
+      answered = (s2, a, refl);
       answer = refl;
       supplied = tt;
-      refused = (m, out);
+      refused = (m, a.moves);
     }
 
 -- a refusal that is handed on
@@ -133,55 +144,87 @@ pub err_is : (result : Result (Unit {0}) Refused) (why : Refused) → IsErrAnd r
 err_is (Ok x) why h = absurd h
 err_is (Err e) why h = ap (λ (w : Refused). Err w) (sym h)
 
+-- a claim is noted before those of the rest
+noted_first : (l1 l2 l3 claims : List Claim) (claim : Claim) → l2 ≡ l1 ++ (claim ∷ [])
+    → l3 ≡ l2 ++ claims → l3 ≡ l1 ++ (claim ∷ claims)
+noted_first l1 l2 l3 claims claim first rest =
+    rest ∙ ap (λ (l : List Claim). l ++ claims) first ∙ append_assoc l1 (claim ∷ []) claims
+
 -- the page's claim was answered, and then the rest got frames, and the page the claimed one
-pub supplies_all : (Answers : List Bool → Claim → Type 0) (out1 out2 out3 : List Bool)
-    (m1 m2 m3 m4 : Pages) (page n : ℕ) → page < 13 → is_some (frame_at m1 page) ≡ false
-    → Answers out1 (Gave n) → IsFree out1 n × (out2 ≡ slice_set out1 n true) → m2 ≡ m1
-    → SuppliesBy {T = Unit {0}} Answers out2 out3 (bare_from m2 (page + 1)) m2 m3 (Ok tt)
+pub supplies_all : (Answers : List Bool → Claim → Type 0) (s1 s2 s3 : Supply)
+    (l1 l2 l3 : List Claim) (m1 m2 m3 m4 : Pages) (page n : ℕ) → page < 13
+    → is_some (frame_at m1 page) ≡ false
+    → IsClaimed Answers s1 s2 (Gave n) → l2 ≡ l1 ++ (Gave n ∷ []) → m2 ≡ m1
+    → SuppliesBy {T = Unit {0}} Answers s2 s3 l2 l3 (bare_from m2 (page + 1)) m2 m3 (Ok tt)
     → frame_at m3 page ≡ None → Supplied m3 m4 page n
-    → SuppliesBy {T = Unit {0}} Answers out1 out3 (bare_from m1 page) m1 m4 (Ok tt)
-supplies_all Answers out1 out2 out3 m1 m2 m3 m4 page n lt none answer claimed same rest bare did =
-    let here : SuppliesBy {T = Unit {0}} Answers (slice_set out1 n true) out3
-    (bare_from m1 (page + 1)) m1 m3 (Ok tt) =
-    subst (λ (o : List Bool). SuppliesBy {T = Unit {0}} Answers o out3 (bare_from m1 (page + 1)) m1
-    m3 (Ok tt)) claimed.1
-    (subst (λ (m : Pages). SuppliesBy {T = Unit {0}} Answers out2 out3 (bare_from m (page + 1)) m m3
-    (Ok tt)) same rest) in
-    subst (λ (l : List ℕ). SuppliesBy {T = Unit {0}} Answers out1 out3 l m1 m4 (Ok tt))
+    → SuppliesBy {T = Unit {0}} Answers s1 s3 l1 l3 (bare_from m1 page) m1 m4 (Ok tt)
+supplies_all Answers s1 s2 s3 l1 l2 l3 m1 m2 m3 m4 page n lt none answer noted same rest bare did =
+    let here : SuppliesBy {T = Unit {0}} Answers s2 s3 l2 l3 (bare_from m1 (page + 1)) m1 m3 (Ok tt)
+    = subst (λ (m : Pages). SuppliesBy {T = Unit {0}} Answers s2 s3 l2 l3 (bare_from m (page + 1)) m
+    m3 (Ok tt)) same rest in
+    let claims = here.claims in
+    subst (λ (l : List ℕ). SuppliesBy {T = Unit {0}} Answers s1 s3 l1 l3 l m1 m4 (Ok tt))
     (sym (bare_takes m1 page lt none)) (record {
-      claims = Gave n ∷ here.claims;
+      claims = Gave n ∷ claims;
+      noted = noted_first l1 l2 l3 claims (Gave n) noted here.noted;
       made = here.made;
-      answered = (answer, claimed.0, here.answered);
+      answered = (s2, answer, here.answered);
       answer = here.answer;
-      supplied = ((m3, here.supplied.0, bare, did), here.supplied.1);
+      supplied = (
+        (m3, here.supplied.0, bare, did),
+        moves_as s1 s3 (λ x. times x (n ∷ []) + times x (given claims)) (λ x. 0)
+            (λ x. times x (n ∷ given claims)) nothing
+            (moves_then s1 s2 s3 (λ x. times x (n ∷ [])) nothing (λ x. times x (given claims))
+            nothing answer.moves here.supplied.1)
+            (λ x. omega (arith, times_first x n (given claims), times_one x n)),
+      );
       refused = tt;
     })
 
 -- the page's claim was answered, but one of the rest was refused: the frame goes back
-pub supplies_back : (Answers : List Bool → Claim → Type 0) (out1 out2 out3 out4 : List Bool)
-    (m1 m2 m3 : Pages) (page n : ℕ) (why : Refused) → page < 13 → is_some (frame_at m1 page) ≡ false
-    → Answers out1 (Gave n) → IsFree out1 n × (out2 ≡ slice_set out1 n true) → m2 ≡ m1
-    → SuppliesBy {T = Unit {0}} Answers out2 out3 (bare_from m2 (page + 1)) m2 m3 (Err why)
-    → out4 ≡ slice_set out3 n false
-    → SuppliesBy {T = Unit {0}} Answers out1 out4 (bare_from m1 page) m1 m3 (Err why)
-supplies_back Answers out1 out2 out3 out4 m1 m2 m3 page n why lt none answer claimed same rest back
-    =
-    let here : SuppliesBy {T = Unit {0}} Answers (slice_set out1 n true) out3
-    (bare_from m1 (page + 1)) m1 m3 (Err why) =
-    subst (λ (o : List Bool). SuppliesBy {T = Unit {0}} Answers o out3 (bare_from m1 (page + 1)) m1
-    m3 (Err why)) claimed.1
-    (subst (λ (m : Pages). SuppliesBy {T = Unit {0}} Answers out2 out3 (bare_from m (page + 1)) m m3
-    (Err why)) same rest) in
-    subst (λ (l : List ℕ). SuppliesBy {T = Unit {0}} Answers out1 out4 l m1 m3 (Err why))
+pub supplies_back : (Answers : List Bool → Claim → Type 0) (s1 s2 s3 s4 : Supply)
+    (l1 l2 l3 : List Claim) (m1 m2 m3 m4 : Pages) (page n : ℕ) (why : Refused) → page < 13
+    → is_some (frame_at m1 page) ≡ false
+    → IsClaimed Answers s1 s2 (Gave n) → l2 ≡ l1 ++ (Gave n ∷ []) → m2 ≡ m1
+    → SuppliesBy {T = Unit {0}} Answers s2 s3 l2 l3 (bare_from m2 (page + 1)) m2 m3 (Err why)
+    → m4 ≡ m3 → Moves s3 s4 nothing (λ x. times x (n ∷ []))
+    → SuppliesBy {T = Unit {0}} Answers s1 s4 l1 l3 (bare_from m1 page) m1 m4 (Err why)
+supplies_back Answers s1 s2 s3 s4 l1 l2 l3 m1 m2 m3 m4 page n why lt none answer noted same rest
+    left back =
+    let here : SuppliesBy {T = Unit {0}} Answers s2 s3 l2 l3 (bare_from m1 (page + 1)) m1 m3
+    (Err why)
+    = subst (λ (m : Pages). SuppliesBy {T = Unit {0}} Answers s2 s3 l2 l3 (bare_from m (page + 1)) m
+    m3 (Err why)) same rest in
+    let claims = here.claims in
+    let out = moves_then s1 s2 s3 (λ x. times x (n ∷ [])) nothing nothing nothing answer.moves
+    here.refused.1 in
+    subst (λ (l : List ℕ). SuppliesBy {T = Unit {0}} Answers s1 s4 l1 l3 l m1 m4 (Err why))
     (sym (bare_takes m1 page lt none)) (record {
-      claims = Gave n ∷ here.claims;
+      claims = Gave n ∷ claims;
+      noted = noted_first l1 l2 l3 claims (Gave n) noted here.noted;
       made = here.made;
-      answered = (answer, claimed.0, here.answered);
+      answered = (s2, answer, here.answered);
       answer = here.answer;
       supplied = tt;
       refused = (
-        here.refused.0,
-        back ∙ ap (λ (o : List Bool). slice_set o n false) here.refused.1
-            ∙ out_back out1 n claimed.0.free claimed.0.within,
+        left ∙ here.refused.0,
+        moves_as s1 s4 (λ x. times x (n ∷ []) + 0 + 0) (λ x. 0 + 0 + times x (n ∷ [])) nothing
+            nothing
+            (moves_then s1 s3 s4 (λ x. times x (n ∷ []) + 0) (λ x. 0 + 0) nothing
+            (λ x. times x (n ∷ [])) out back)
+            (λ x. omega arith),
       );
     })
+
+-- the claimed frame is out still, where the rest got none
+pub still_used : (Answers : List Bool → Claim → Type 0) (s1 s2 s3 : Supply) (l2 l3 : List Claim)
+    (m2 m3 : Pages) (pages : List ℕ) (n : ℕ) (why : Refused) → IsClaimed Answers s1 s2 (Gave n)
+    → SuppliesBy {T = Unit {0}} Answers s2 s3 l2 l3 pages m2 m3 (Err why) → is_used s3 n ≡ true
+still_used Answers s1 s2 s3 l2 l3 m2 m3 pages n why answer rest =
+    is_one (is_used s3 n) (omega (
+      arith,
+      answer.moves.balance n,
+      rest.refused.1.balance n,
+      times_one n n,
+      ap one_if (eq-eqb n n refl),
+    ))

@@ -1,5 +1,5 @@
 -- From what a call ties and the model's step to what the slot's clauses say.
-use Rattle.std.specs.Prelude.{◌≡◌, Bool, true, false, List, [], ◌∷◌, Option, Some, None}
+use Rattle.std.specs.Prelude.{◌≡◌, ℕ, Bool, true, false, List, [], ◌∷◌, Option, Some, None}
 use Rattle.std.specs.Prelude.{MatchOption, MatchBool, if◌then◌else◌, refl}
 use Rattle.std.proofs.Common.{sym, ap, subst, inl, inr}
 use Rattle.vb_model.specs.declared.calls.Call.{Call}
@@ -16,7 +16,7 @@ use Rattle.vb_model.proofs.OrderlySteps.{honest_order}
 use Rattle.vb_ram.specs.Pages.{Pages}
 use Rattle.vb_ram.specs.Part.{Part}
 use Rattle.vb_driver.specs.State.{FreePages, DriverState}
-use Rattle.vb_guest.specs.Stands.{Stands, Ties}
+use Rattle.vb_guest.specs.Stands.{Honest, Ties}
 use Rattle.vb_guest.specs.Steps.{StepsAlone}
 
 pub first_holds : (b : Bool) (why : Refusal) (rest : List Test) → b ≡ true
@@ -50,8 +50,8 @@ guest_step g call claims reply new honest step =
 
 pub still_stands : (m1 m2 : Pages) (p1 p2 : Part) (d1 d2 : DriverState) (g : Guest) (call : Call)
     (claims : List Claim) (reply : Reply) (new : Guest)
-    → Stands m1 p1 d1 g → HonestStep g call claims reply new → Ties m2 p2 d2 new
-    → Stands m2 p2 d2 new
+    → Honest m1 p1 d1 g → HonestStep g call claims reply new → Ties m2 p2 d2 new
+    → Honest m2 p2 d2 new
 still_stands m1 m2 p1 p2 d1 d2 g call claims reply new stands step ties = record {
   ties = ties;
   consistent = honest_keeps g call claims reply new stands.consistent step ties.parts.guest.honest;
@@ -61,8 +61,8 @@ still_stands m1 m2 p1 p2 d1 d2 g call claims reply new stands step ties = record
 
 pub steps_alone : (m1 m2 : Pages) (p1 p2 : Part) (d1 d2 : DriverState) (g : Guest) (call : Call)
     (reply : Reply) (new : Guest)
-    → Stands m1 p1 d1 g → HonestStep g call [] reply new → Ties m2 p2 d2 new → new.frames ≡ g.frames
-    → StepsAlone (Stands m2 p2 d2) g call reply
+    → Honest m1 p1 d1 g → HonestStep g call [] reply new → Ties m2 p2 d2 new → new.frames ≡ g.frames
+    → StepsAlone (Honest m2 p2 d2) g call reply
 steps_alone m1 m2 p1 p2 d1 d2 g call reply new stands step ties frames = record {
   new = new;
   stands = still_stands m1 m2 p1 p2 d1 d2 g call [] reply new stands step ties;
@@ -76,6 +76,11 @@ pub ties_same : (m1 m2 : Pages) (p1 p2 : Part) (d1 d2 : DriverState) (g : Guest)
 ties_same m1 m2 p1 p2 d1 d2 g m p d ties =
     subst (λ x. Ties x p2 d2 g) (sym m)
     (subst (λ x. Ties m1 x d2 g) (sym p) (subst (λ x. Ties m1 p1 x g) (sym d) ties))
+
+pub stands_same : (m1 m2 : Pages) (p1 p2 : Part) (d : DriverState) (g : Guest) → m2 ≡ m1 → p2 ≡ p1
+    → Honest m1 p1 d g → Honest m2 p2 d g
+stands_same m1 m2 p1 p2 d g m p stands =
+    subst (λ x. Honest x p2 d g) (sym m) (subst (λ x. Honest m1 x d g) (sym p) stands)
 
 -- the page areas are none of the guest's
 pub ties_areas : (m : Pages) (p : Part) (d : DriverState) (g : Guest) (areas : FreePages)
@@ -96,16 +101,39 @@ ties_areas m p d g areas ties = record {
   ];
 }
 
+-- nor are the frames of the device's own
+pub ties_own : (m : Pages) (p : Part) (d : DriverState) (g : Guest) (own : List ℕ)
+    → Ties m p d g → Ties m (record p { own = own }) d g
+ties_own m p d g own ties = record {
+  parts = ties.parts;
+  pages = ties.pages;
+  queues = elim ties.queues [
+    | inl idle ↦ inl idle
+    | inr run ↦ inr (record {
+      state = run.state;
+      backed = run.backed;
+      inflate_size = run.inflate_size;
+      deflate_size = run.deflate_size;
+      inflate = run.inflate;
+      deflate = run.deflate;
+    })
+  ];
+}
+
+pub honest_own : (m1 m2 : Pages) (p1 p2 : Part) (d : DriverState) (g : Guest) → m2 ≡ m1
+    → p2 ≡ record p1 { own = p2.own } → Honest m1 p1 d g → Honest m2 p2 d g
+honest_own m1 m2 p1 p2 d g m p honest =
+    stands_same m1 m2 (record p1 { own = p2.own }) p2 d g m p (record {
+      ties = ties_own m1 p1 d g p2.own honest.ties;
+      consistent = honest.consistent;
+      orderly = honest.orderly;
+    })
+
 -- a refused call
 pub refused_alone : (m1 m2 : Pages) (p1 p2 : Part) (d1 d2 : DriverState) (g : Guest) (call : Call)
     (why : Refusal)
-    → Stands m1 p1 d1 g → refusal_of g call ≡ Some why → m2 ≡ m1 → p2 ≡ p1 → d2 ≡ d1
-    → StepsAlone (Stands m2 p2 d2) g call (Refused why)
+    → Honest m1 p1 d1 g → refusal_of g call ≡ Some why → m2 ≡ m1 → p2 ≡ p1 → d2 ≡ d1
+    → StepsAlone (Honest m2 p2 d2) g call (Refused why)
 refused_alone m1 m2 p1 p2 d1 d2 g call why stands e m p d =
     steps_alone m1 m2 p1 p2 d1 d2 g call (Refused why) g stands (honest_refused g call why e)
     (ties_same m1 m2 p1 p2 d1 d2 g m p d stands.ties) refl
-
-pub stands_same : (m1 m2 : Pages) (p1 p2 : Part) (d : DriverState) (g : Guest) → m2 ≡ m1 → p2 ≡ p1
-    → Stands m1 p1 d g → Stands m2 p2 d g
-stands_same m1 m2 p1 p2 d g m p stands =
-    subst (λ x. Stands x p2 d g) (sym m) (subst (λ x. Stands m1 x d g) (sym p) stands)

@@ -16,7 +16,7 @@ use Rattle.vb_ram.specs.Pages.{Pages}
 use Rattle.vb_ram.specs.Part.{Part}
 use Rattle.vb_driver.specs.State.{DriverState}
 use Rattle.vb_driver.specs.Calls.{AreCountsOf}
-use Rattle.vb_guest.specs.Stands.{Stands}
+use Rattle.vb_guest.specs.Stands.{Honest}
 
 -- the tests of a place
 record SameTests (p : Place) : Type 0 where
@@ -155,7 +155,7 @@ counts_are counts g are =
     (count_at Taking g) (count_at Stranded g) x) reporting
 
 pub places_answered : (m : Pages) (p : Part) (d : DriverState) (g : Guest) (counts : PlaceCounts)
-    → AreCountsOf counts d.places → Stands m p d g → Places counts ≡ Places (place_counts g)
+    → AreCountsOf counts d.places → Honest m p d g → Places counts ≡ Places (place_counts g)
 places_answered m p d g counts are stands =
     let A : List Place → Type 0 = λ places. AreCountsOf counts places in
     ap Places (counts_are counts g (subst A stands.ties.parts.driver.places are))

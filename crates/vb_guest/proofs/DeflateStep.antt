@@ -29,7 +29,7 @@ use Rattle.vb_driver.specs.State.{FreePages, Side, DriverState, IsDriver}
 use Rattle.vb_driver.specs.Answers.{refusal_in, deflate_tests, oom_tests}
 use Rattle.vb_driver.specs.Answers.{deflate_count as driver_count}
 use Rattle.vb_driver.specs.Calls.{Unchanged, AsksBack, DeflatesBy, DeflatesOnOomBy}
-use Rattle.vb_guest.specs.Stands.{Stands, Ties, IsRunning}
+use Rattle.vb_guest.specs.Stands.{Honest, Ties, IsRunning}
 use Rattle.vb_guest.specs.Steps.{StepsAlone}
 use Rattle.vb_guest.specs.Replies.{posted_reply}
 use Rattle.vb_guest.proofs.Apart.{line_apart}
@@ -83,9 +83,9 @@ asked_back : (m1 m2 : Pages) (p1 p2 : Part) (g : Guest) (areas : FreePages) (si 
     (d2 : DriverState) (call : Call) (count : ℕ) (posted : PostedRequest)
     → IsAsking g call count → IsDriver (driver_of g areas si sd)
     → AsksBack m1 m2 p1 p2 (driver_of g areas si sd) d2 count posted
-    → Stands m1 p1 (driver_of g areas si sd) g → IsRunning m1 p1 (driver_of g areas si sd) g
+    → Honest m1 p1 (driver_of g areas si sd) g → IsRunning m1 p1 (driver_of g areas si sd) g
     → refusal_of g call ≡ None
-    → StepsAlone (Stands m2 p2 d2) g call (Posted posted.head posted.pages)
+    → StepsAlone (Honest m2 p2 d2) g call (Posted posted.head posted.pages)
 asked_back m1 m2 p1 p2 g areas si sd d2 call count posted asks driver did stands run free =
     let ties = stands.ties in
     let pages = lowest_lent count g in
@@ -141,8 +141,8 @@ by_result : (m1 m2 : Pages) (p1 p2 : Part) (g : Guest) (areas : FreePages) (si s
     → refusal_in result ≡ refusal_of g call
     → OnErr result (Unchanged m1 m2 p1 p2 (driver_of g areas si sd) d2)
     → IfOk result (AsksBack m1 m2 p1 p2 (driver_of g areas si sd) d2 count)
-    → Stands m1 p1 (driver_of g areas si sd) g
-    → StepsAlone (Stands m2 p2 d2) g call (posted_reply result)
+    → Honest m1 p1 (driver_of g areas si sd) g
+    → StepsAlone (Honest m2 p2 d2) g call (posted_reply result)
 by_result m1 m2 p1 p2 g areas si sd d2 call count (Err why) asks driver refusal refused did stands =
     refused_alone m1 m2 p1 p2 (driver_of g areas si sd) d2 g call why stands (sym refusal)
     refused.mem refused.part refused.driver
@@ -204,14 +204,14 @@ deflate_asks g n = record {
 
 pub deflate_step : (m1 m2 : Pages) (p1 p2 : Part) (d1 d2 : DriverState) (g : Guest) (n : ℕ)
     (result : Result PostedRequest Refusal)
-    → DeflatesBy m1 m2 p1 p2 d1 d2 n result → Stands m1 p1 d1 g
-    → StepsAlone (Stands m2 p2 d2) g (Deflate n) (posted_reply result)
+    → DeflatesBy m1 m2 p1 p2 d1 d2 n result → Honest m1 p1 d1 g
+    → StepsAlone (Honest m2 p2 d2) g (Deflate n) (posted_reply result)
 deflate_step m1 m2 p1 p2 d1 d2 g n result did stands =
     let is = driver_is p1 d1 g stands.ties.parts in
     let areas = d1.areas in
     let si = d1.inflate in
     let sd = d1.deflate in
-    let here : Stands m1 p1 (driver_of g areas si sd) g = subst (λ d. Stands m1 p1 d g) is stands in
+    let here : Honest m1 p1 (driver_of g areas si sd) g = subst (λ d. Honest m1 p1 d g) is stands in
     let at : DeflatesBy m1 m2 p1 p2 (driver_of g areas si sd) d2 n result =
     subst (λ d. DeflatesBy m1 m2 p1 p2 d d2 n result) is did in
     let D : ℕ → Type 0 = λ s. (s ≡ 0) ⊎ (s ≡ 131) in
@@ -293,14 +293,14 @@ oom_asks g n = record {
 
 pub oom_step : (m1 m2 : Pages) (p1 p2 : Part) (d1 d2 : DriverState) (g : Guest) (n : ℕ)
     (result : Result PostedRequest Refusal)
-    → DeflatesOnOomBy m1 m2 p1 p2 d1 d2 n result → Stands m1 p1 d1 g
-    → StepsAlone (Stands m2 p2 d2) g (Oom n) (posted_reply result)
+    → DeflatesOnOomBy m1 m2 p1 p2 d1 d2 n result → Honest m1 p1 d1 g
+    → StepsAlone (Honest m2 p2 d2) g (Oom n) (posted_reply result)
 oom_step m1 m2 p1 p2 d1 d2 g n result did stands =
     let is = driver_is p1 d1 g stands.ties.parts in
     let areas = d1.areas in
     let si = d1.inflate in
     let sd = d1.deflate in
-    let here : Stands m1 p1 (driver_of g areas si sd) g = subst (λ d. Stands m1 p1 d g) is stands in
+    let here : Honest m1 p1 (driver_of g areas si sd) g = subst (λ d. Honest m1 p1 d g) is stands in
     let at : DeflatesOnOomBy m1 m2 p1 p2 (driver_of g areas si sd) d2 n result =
     subst (λ d. DeflatesOnOomBy m1 m2 p1 p2 d d2 n result) is did in
     let D : ℕ → Type 0 = λ s. (s ≡ 0) ⊎ (s ≡ 131) in

@@ -30,7 +30,7 @@ use Rattle.vb_device.specs.Conditions.{finish_refusal}
 use Rattle.vb_device.specs.Discards.{discarded, frames_behind, flagged}
 use Rattle.vb_device.specs.Calls.{FinishesBy, Uses}
 use Rattle.vb_guest.specs.Line.{IsRequest}
-use Rattle.vb_guest.specs.Stands.{Stands, Ties, IsRunning}
+use Rattle.vb_guest.specs.Stands.{Honest, Ties, IsRunning}
 use Rattle.vb_guest.specs.Steps.{StepsFreeing}
 use Rattle.vb_guest.specs.Replies.{finished_reply}
 use Rattle.vb_guest.proofs.Apart.{line_apart, above_apart}
@@ -120,15 +120,15 @@ test_some paced visits (Some r) e = (r, refl)
 
 pub finish_refused : (m1 m2 : Pages) (p1 p2 : Part) (d : DriverState) (g : Guest) (q i : ℕ)
     (why : Refusal) (result : Result ℕ Refusal)
-    → FinishesBy q i m1 m2 p1 p2 result → Stands m1 p1 d g → finish_refusal q i p1 ≡ Some why
+    → FinishesBy q i m1 m2 p1 p2 result → Honest m1 p1 d g → finish_refusal q i p1 ≡ Some why
     → refusal_of g (Finish q i) ≡ Some why
-    → StepsFreeing (Stands m2 (handed_back p2) d) p2.loose g (Finish q i) (finished_reply result)
+    → StepsFreeing (Honest m2 (handed_back p2) d) p2.loose g (Finish q i) (finished_reply result)
 finish_refused m1 m2 p1 p2 d g q i why result did stands by_part by_model =
     let (answer, part, memory) = did.refused why by_part in
     let step = honest_refused g (Finish q i) why by_model in
     let same = ap handed_back part ∙ loose_none p1 stands.ties.parts.device.loose in
     let none : p2.loose ≡ [] = ap (λ (p : Part). p.loose) part ∙ stands.ties.parts.device.loose in
-    subst (λ r. StepsFreeing (Stands m2 (handed_back p2) d) p2.loose g (Finish q i)
+    subst (λ r. StepsFreeing (Honest m2 (handed_back p2) d) p2.loose g (Finish q i)
     (finished_reply r)) (sym answer) (record {
       new = g;
       stands = still_stands m1 m2 p1 (handed_back p2) d d g (Finish q i) [] (Refused why) g stands
@@ -150,9 +150,9 @@ behind_same mem frames (p ∷ ps) same =
 
 inflate_finished : (m1 m2 : Pages) (p1 p2 : Part) (d : DriverState) (g : Guest) (i : ℕ)
     (r : Request) (result : Result ℕ Refusal)
-    → slice_get g.inflate.taken i ≡ Some r → Uses 0 i r m1 m2 p1 p2 result → Stands m1 p1 d g
+    → slice_get g.inflate.taken i ≡ Some r → Uses 0 i r m1 m2 p1 p2 result → Honest m1 p1 d g
     → IsRunning m1 p1 d g → refusal_of g (Finish 0 i) ≡ None
-    → StepsFreeing (Stands m2 (handed_back p2) d) p2.loose g (Finish 0 i) (finished_reply result)
+    → StepsFreeing (Honest m2 (handed_back p2) d) p2.loose g (Finish 0 i) (finished_reply result)
 inflate_finished m1 m2 p1 p2 d g i r result is did stands run free =
     let ties = stands.ties in
     let n = g.config.pages in
@@ -200,8 +200,6 @@ inflate_finished m1 m2 p1 p2 d g i r result is did stands run free =
           actual = ties.parts.device.actual;
           ballooned = ap (λ (l : List Bool). flagged r.pages true l) ties.parts.device.ballooned;
           last = ties.parts.device.last;
-          keeps = ties.parts.device.keeps;
-          own = ties.parts.device.own;
           loose = refl;
         };
       };
@@ -227,7 +225,7 @@ inflate_finished m1 m2 p1 p2 d g i r result is did stands run free =
     ≡ flat_map (λ page. option_to_list (frame_of g.frames page)) r.pages =
     behind_same m1 g.frames r.pages ties.pages.behind in
     let F : ℕ → Type 0 = λ k. All (λ page. page < k) r.pages in
-    subst (λ x. StepsFreeing (Stands m2 (handed_back p2) d) p2.loose g (Finish 0 i)
+    subst (λ x. StepsFreeing (Honest m2 (handed_back p2) d) p2.loose g (Finish 0 i)
     (finished_reply x)) (sym did.answer) (record {
       new = new;
       stands = still_stands m1 m2 p1 (handed_back p2) d d g (Finish 0 i) [] (Finished r.head) new
@@ -244,8 +242,8 @@ inflate_finished m1 m2 p1 p2 d g i r result is did stands run free =
 
 inflate_finish : (m1 m2 : Pages) (p1 p2 : Part) (d : DriverState) (g : Guest) (i : ℕ)
     (result : Result ℕ Refusal) (o : Option Refusal)
-    → refusal_of g (Finish 0 i) ≡ o → FinishesBy 0 i m1 m2 p1 p2 result → Stands m1 p1 d g
-    → StepsFreeing (Stands m2 (handed_back p2) d) p2.loose g (Finish 0 i)
+    → refusal_of g (Finish 0 i) ≡ o → FinishesBy 0 i m1 m2 p1 p2 result → Honest m1 p1 d g
+    → StepsFreeing (Honest m2 (handed_back p2) d) p2.loose g (Finish 0 i)
     (finished_reply result)
 inflate_finish m1 m2 p1 p2 d g i result o by did stands =
     elim stands.ties.queues [
@@ -270,7 +268,7 @@ inflate_finish m1 m2 p1 p2 d g i result o by did stands =
         → finish_test g.config.paced true (slice_get g.inflate.taken i) ≡ refusal_of g (Finish 0 i)
         → slice_get p1.inflate.taken i ≡ slice_get g.inflate.taken i
         → finish_refusal 0 i p1 ≡ refusal_of g (Finish 0 i)
-        → StepsFreeing (Stands m2 (handed_back p2) d) p2.loose g (Finish 0 i)
+        → StepsFreeing (Honest m2 (handed_back p2) d) p2.loose g (Finish 0 i)
         (finished_reply result)
     by_refusal (Some why) is run model taken device =
         finish_refused m1 m2 p1 p2 d g 0 i why result did stands (device ∙ is) is
@@ -283,9 +281,9 @@ inflate_finish m1 m2 p1 p2 d g i result o by did stands =
 
 deflate_finished : (m1 m2 : Pages) (p1 p2 : Part) (d : DriverState) (g : Guest) (i : ℕ)
     (r : Request) (result : Result ℕ Refusal)
-    → slice_get g.deflate.taken i ≡ Some r → Uses 1 i r m1 m2 p1 p2 result → Stands m1 p1 d g
+    → slice_get g.deflate.taken i ≡ Some r → Uses 1 i r m1 m2 p1 p2 result → Honest m1 p1 d g
     → IsRunning m1 p1 d g → refusal_of g (Finish 1 i) ≡ None
-    → StepsFreeing (Stands m2 (handed_back p2) d) p2.loose g (Finish 1 i) (finished_reply result)
+    → StepsFreeing (Honest m2 (handed_back p2) d) p2.loose g (Finish 1 i) (finished_reply result)
 deflate_finished m1 m2 p1 p2 d g i r result is did stands run free =
     let ties = stands.ties in
     let n = g.config.pages in
@@ -322,8 +320,6 @@ deflate_finished m1 m2 p1 p2 d g i r result is did stands run free =
           actual = ties.parts.device.actual;
           ballooned = ap (λ (l : List Bool). flagged r.pages false l) ties.parts.device.ballooned;
           last = ties.parts.device.last;
-          keeps = ties.parts.device.keeps;
-          own = ties.parts.device.own;
           loose = refl;
         };
       };
@@ -340,7 +336,7 @@ deflate_finished m1 m2 p1 p2 d g i r result is did stands run free =
             run.deflate is adds;
       });
     } in
-    subst (λ x. StepsFreeing (Stands m2 (handed_back p2) d) p2.loose g (Finish 1 i)
+    subst (λ x. StepsFreeing (Honest m2 (handed_back p2) d) p2.loose g (Finish 1 i)
     (finished_reply x)) (sym did.answer) (record {
       new = new;
       stands = still_stands m1 m2 p1 (handed_back p2) d d g (Finish 1 i) [] (Finished r.head) new
@@ -351,8 +347,8 @@ deflate_finished m1 m2 p1 p2 d g i r result is did stands run free =
 
 deflate_finish : (m1 m2 : Pages) (p1 p2 : Part) (d : DriverState) (g : Guest) (i : ℕ)
     (result : Result ℕ Refusal) (o : Option Refusal)
-    → refusal_of g (Finish 1 i) ≡ o → FinishesBy 1 i m1 m2 p1 p2 result → Stands m1 p1 d g
-    → StepsFreeing (Stands m2 (handed_back p2) d) p2.loose g (Finish 1 i)
+    → refusal_of g (Finish 1 i) ≡ o → FinishesBy 1 i m1 m2 p1 p2 result → Honest m1 p1 d g
+    → StepsFreeing (Honest m2 (handed_back p2) d) p2.loose g (Finish 1 i)
     (finished_reply result)
 deflate_finish m1 m2 p1 p2 d g i result o by did stands =
     elim stands.ties.queues [
@@ -377,7 +373,7 @@ deflate_finish m1 m2 p1 p2 d g i result o by did stands =
         → finish_test g.config.paced false (slice_get g.deflate.taken i) ≡ refusal_of g (Finish 1 i)
         → slice_get p1.deflate.taken i ≡ slice_get g.deflate.taken i
         → finish_refusal 1 i p1 ≡ refusal_of g (Finish 1 i)
-        → StepsFreeing (Stands m2 (handed_back p2) d) p2.loose g (Finish 1 i)
+        → StepsFreeing (Honest m2 (handed_back p2) d) p2.loose g (Finish 1 i)
         (finished_reply result)
     by_refusal (Some why) is run model taken device =
         finish_refused m1 m2 p1 p2 d g 1 i why result did stands (device ∙ is) is
@@ -388,12 +384,12 @@ deflate_finish m1 m2 p1 p2 d g i result o by did stands =
 
 pub finish_step : (m1 m2 : Pages) (p1 p2 : Part) (d : DriverState) (g : Guest) (q i : ℕ)
     (result : Result ℕ Refusal)
-    → FinishesBy q i m1 m2 p1 p2 result → Stands m1 p1 d g
-    → StepsFreeing (Stands m2 (handed_back p2) d) p2.loose g (Finish q i)
+    → FinishesBy q i m1 m2 p1 p2 result → Honest m1 p1 d g
+    → StepsFreeing (Honest m2 (handed_back p2) d) p2.loose g (Finish q i)
     (finished_reply result)
 finish_step m1 m2 p1 p2 d g q i result did stands =
     let B : ℕ → Type 0 = λ k. FinishesBy k i m1 m2 p1 p2 result in
-    let S : ℕ → Type 0 = λ k. StepsFreeing (Stands m2 (handed_back p2) d) p2.loose g (Finish k i)
+    let S : ℕ → Type 0 = λ k. StepsFreeing (Honest m2 (handed_back p2) d) p2.loose g (Finish k i)
     (finished_reply result) in
     elim (queue_cases q) [
       | inl first ↦ subst S (sym first)

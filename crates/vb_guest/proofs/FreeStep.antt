@@ -1,10 +1,9 @@
 -- The slot's giving back of a block is a step of the guest.
-use Rattle.std.specs.Prelude.{◌≡◌, ℕ, [], Result, Ok, Err, refl}
+use Rattle.std.specs.Prelude.{ℕ, [], Result, Ok, Err, refl}
 use Rattle.std.proofs.Common.{sym, subst, inl, inr}
 use Rattle.vb_model.specs.declared.calls.Call.TheVariants.{Free}
 use Rattle.vb_model.specs.declared.places.Place.TheVariants.{Free as FreePlace}
 use Rattle.vb_model.specs.declared.replies.Refusal.{Refusal}
-use Rattle.vb_model.specs.declared.replies.Reply.{Reply}
 use Rattle.vb_model.specs.declared.replies.Reply.TheVariants.{Done}
 use Rattle.vb_model.specs.Pages.{pages_of, placed}
 use Rattle.vb_model.specs.Guest.{Guest}
@@ -14,7 +13,7 @@ use Rattle.vb_ram.specs.Part.{Part}
 use Rattle.vb_driver.specs.State.{FreePages, Side, DriverState}
 use Rattle.vb_driver.specs.Answers.{block_at}
 use Rattle.vb_driver.specs.Calls.{FreesBy, after_free}
-use Rattle.vb_guest.specs.Stands.{Stands, Ties}
+use Rattle.vb_guest.specs.Stands.{Honest, Ties}
 use Rattle.vb_guest.specs.Steps.{StepsAlone}
 use Rattle.vb_guest.specs.Replies.{done_reply}
 use Rattle.vb_guest.proofs.Closing.{honest_performed, steps_alone, refused_alone}
@@ -24,8 +23,8 @@ use Rattle.vb_guest.proofs.Normal.{driver_of, driver_is, keeps_own}
 by_result : (m : Pages) (p : Part) (g : Guest) (areas : FreePages) (si sd : Side) (d2 : DriverState)
     (cpu start order : ℕ) (result : Result (Unit {0}) Refusal)
     → FreesBy (driver_of g areas si sd) d2 cpu start order result
-    → Stands m p (driver_of g areas si sd) g
-    → StepsAlone (Stands m p d2) g (Free cpu start order) (done_reply result)
+    → Honest m p (driver_of g areas si sd) g
+    → StepsAlone (Honest m p d2) g (Free cpu start order) (done_reply result)
 by_result m p g areas si sd d2 cpu start order (Err why) did stands =
     refused_alone m m p p (driver_of g areas si sd) d2 g (Free cpu start order) why stands
     (sym did.refusal) refl refl did.refused
@@ -63,10 +62,10 @@ by_result m p g areas si sd d2 cpu start order (Ok done) did stands =
 
 pub free_step : (m : Pages) (p : Part) (d1 d2 : DriverState) (g : Guest) (cpu start order : ℕ)
     (result : Result (Unit {0}) Refusal)
-    → FreesBy d1 d2 cpu start order result → Stands m p d1 g
-    → StepsAlone (Stands m p d2) g (Free cpu start order) (done_reply result)
+    → FreesBy d1 d2 cpu start order result → Honest m p d1 g
+    → StepsAlone (Honest m p d2) g (Free cpu start order) (done_reply result)
 free_step m p d1 d2 g cpu start order result did stands =
     let is = driver_is p d1 g stands.ties.parts in
     by_result m p g d1.areas d1.inflate d1.deflate d2 cpu start order result
     (subst (λ d. FreesBy d d2 cpu start order result) is did)
-    (subst (λ d. Stands m p d g) is stands)
+    (subst (λ d. Honest m p d g) is stands)

@@ -8,7 +8,6 @@ use Rattle.std.proofs.lemmas.List.{length-append}
 use Rattle.vb_model.specs.declared.calls.Call.TheVariants.{Inflate}
 use Rattle.vb_model.specs.declared.replies.Refusal.{Refusal}
 use Rattle.vb_model.specs.declared.replies.Refusal.TheVariants.{NotReady, QueueFull, Nothing}
-use Rattle.vb_model.specs.declared.replies.Reply.{Reply}
 use Rattle.vb_model.specs.declared.replies.Reply.TheVariants.{Posted}
 use Rattle.vb_model.specs.Layout.{ring_page, buffers_page, buffer_page}
 use Rattle.vb_model.specs.Requests.{outstanding, Inflating}
@@ -24,7 +23,7 @@ use Rattle.vb_driver.specs.Coding.{SameButBuffer}
 use Rattle.vb_driver.specs.State.{FreePages, Side, DriverState, IsDriver}
 use Rattle.vb_driver.specs.Answers.{is_up, inflate_tests, inflate_count as driver_count}
 use Rattle.vb_driver.specs.Calls.{Offers, InflatesBy}
-use Rattle.vb_guest.specs.Stands.{Stands, Ties, IsRunning}
+use Rattle.vb_guest.specs.Stands.{Honest, Ties, IsRunning}
 use Rattle.vb_guest.specs.Steps.{StepsAlone}
 use Rattle.vb_guest.specs.Replies.{posted_reply}
 use Rattle.vb_guest.proofs.Apart.{SameLine, line_apart}
@@ -96,9 +95,9 @@ inflate_offered : (m1 m2 : Pages) (p1 p2 : Part) (g : Guest) (areas : FreePages)
     (d2 : DriverState) (n : ℕ) (posted : PostedRequest)
     → IsDriver (driver_of g areas si sd)
     → Offers m1 m2 p1 p2 (driver_of g areas si sd) d2 (inflate_count g n) posted
-    → Stands m1 p1 (driver_of g areas si sd) g → IsRunning m1 p1 (driver_of g areas si sd) g
+    → Honest m1 p1 (driver_of g areas si sd) g → IsRunning m1 p1 (driver_of g areas si sd) g
     → refusal_of g (Inflate n) ≡ None → 0 < inflate_count g n → outstanding g.inflate < room g
-    → StepsAlone (Stands m2 p2 d2) g (Inflate n) (Posted posted.head posted.pages)
+    → StepsAlone (Honest m2 p2 d2) g (Inflate n) (Posted posted.head posted.pages)
 inflate_offered m1 m2 p1 p2 g areas si sd d2 n posted driver did stands run free some fewer =
     let ties = stands.ties in
     let pages = stranded_first g n ++ did.others in
@@ -156,9 +155,9 @@ none_room most out count e = (grind (arith, nat_tests), grind (arith, nat_tests)
 by_result : (m1 m2 : Pages) (p1 p2 : Part) (g : Guest) (areas : FreePages) (si sd : Side)
     (d2 : DriverState) (n : ℕ) (result : Result PostedRequest Refusal)
     → InflatesBy m1 m2 p1 p2 (driver_of g areas si sd) d2 n result
-    → Stands m1 p1 (driver_of g areas si sd) g
+    → Honest m1 p1 (driver_of g areas si sd) g
     → first_refusal (inflate_tests (driver_of g areas si sd) p1 n) ≡ refusal_of g (Inflate n)
-    → StepsAlone (Stands m2 p2 d2) g (Inflate n) (posted_reply result)
+    → StepsAlone (Honest m2 p2 d2) g (Inflate n) (posted_reply result)
 by_result m1 m2 p1 p2 g areas si sd d2 n (Err why) did stands same =
     refused_alone m1 m2 p1 p2 (driver_of g areas si sd) d2 g (Inflate n) why stands
     (sym (did.refusal ∙ same)) did.refused.mem did.refused.part did.refused.driver
@@ -178,14 +177,14 @@ by_result m1 m2 p1 p2 g areas si sd d2 n (Ok posted) did stands same =
 
 pub inflate_step : (m1 m2 : Pages) (p1 p2 : Part) (d1 d2 : DriverState) (g : Guest) (n : ℕ)
     (result : Result PostedRequest Refusal)
-    → InflatesBy m1 m2 p1 p2 d1 d2 n result → Stands m1 p1 d1 g
-    → StepsAlone (Stands m2 p2 d2) g (Inflate n) (posted_reply result)
+    → InflatesBy m1 m2 p1 p2 d1 d2 n result → Honest m1 p1 d1 g
+    → StepsAlone (Honest m2 p2 d2) g (Inflate n) (posted_reply result)
 inflate_step m1 m2 p1 p2 d1 d2 g n result did stands =
     let is = driver_is p1 d1 g stands.ties.parts in
     let areas = d1.areas in
     let si = d1.inflate in
     let sd = d1.deflate in
-    let here : Stands m1 p1 (driver_of g areas si sd) g = subst (λ d. Stands m1 p1 d g) is stands in
+    let here : Honest m1 p1 (driver_of g areas si sd) g = subst (λ d. Honest m1 p1 d g) is stands in
     let D : ℕ → Type 0 = λ s. (s ≡ 0) ⊎ (s ≡ 131) in
     let same : first_refusal (inflate_tests (driver_of g areas si sd) p1 n)
     ≡ refusal_of g (Inflate n) =
@@ -210,7 +209,7 @@ down_not_up status (inr e) up = let P : ℕ
     → Type 0 = λ s. is_up s ≡ true in let wrong : false ≡ true = subst P e up in cc
 
 -- where the device is up, the pages of rings and buffers have frames
-pub up_backed : (m : Pages) (p : Part) (d : DriverState) (g : Guest) → Stands m p d g
+pub up_backed : (m : Pages) (p : Part) (d : DriverState) (g : Guest) → Honest m p d g
     → is_up p.status ≡ true → (page : ℕ) → page < 13 → IsSome (frame_at m page)
 up_backed m p d g stands up page lt =
     elim stands.ties.queues [

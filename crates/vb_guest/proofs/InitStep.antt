@@ -15,7 +15,7 @@ use Rattle.vb_model.specs.declared.replies.Refusal.TheVariants.{FeatureNotOffere
 use Rattle.vb_model.specs.declared.replies.Refusal.TheVariants.{VersionMissing}
 use Rattle.vb_model.specs.declared.replies.Reply.{Reply}
 use Rattle.vb_model.specs.declared.replies.Reply.TheVariants.{Ready, Refused}
-use Rattle.vb_model.specs.Tests.{one_if, is_in}
+use Rattle.vb_model.specs.Tests.{is_in}
 use Rattle.vb_model.specs.Requests.{Requests, no_requests, NoBuffer}
 use Rattle.vb_model.specs.Guest.{Guest, frame_of, all_backed, must_tell_host, version_1}
 use Rattle.vb_model.specs.Guest.{offered_features}
@@ -32,20 +32,22 @@ use Rattle.vb_driver.specs.State.{DriverState, IsDriver, fresh_side}
 use Rattle.vb_driver.specs.Answers.{has_frames, init_tests}
 use Rattle.vb_driver.specs.Calls.{InitsBy, InitRefused, Starts, GivesUp, IsNewRing}
 use Rattle.vb_frames.specs.declared.keeper.Refused.{Refused as WhyRefused}
-use Rattle.vb_frames.specs.Out.{is_out}
+use Rattle.vb_model.specs.Orderly.{times}
 use Rattle.vb_guest.specs.Line.{Line}
-use Rattle.vb_guest.specs.Stands.{Stands, Ties, HasParts, HasPages, IsIdle, beside_queues}
+use Rattle.vb_guest.specs.Stands.{Honest, Ties, HasParts, HasPages, IsIdle, beside_queues}
 use Rattle.vb_guest.specs.Stands.{beside_sides, beside_requests}
-use Rattle.vb_guest.specs.Steps.{Steps, is_frame}
+use Rattle.vb_guest.specs.Steps.{is_frame, backing_count, StepsAlone, StepsOver}
+use Rattle.vb_guest.specs.Supply.{Supply, supply_of, Moves, nothing}
 use Rattle.vb_guest.specs.Replies.{ready_reply}
 use Rattle.vb_guest.specs.Lives.{bare_from, AllSupplied, why_unsupplied, SuppliesBy}
 use Rattle.vb_guest.proofs.Closing.{first_holds, honest_performed, guest_step, still_stands}
-use Rattle.vb_guest.proofs.Closing.{refused_alone, ties_same}
-use Rattle.vb_guest.proofs.Freed.{steps_quiet, large}
+use Rattle.vb_guest.proofs.Closing.{refused_alone, ties_same, honest_own}
+use Rattle.vb_guest.proofs.Freed.{large}
 use Rattle.vb_guest.proofs.PagesKept.{pages_same}
 use Rattle.vb_guest.proofs.Supplying.{all_distinct, bounded, among, supplied_count, supplied_other}
 use Rattle.vb_guest.proofs.Supplying.{supplied_backed, pages_filled, frames_filled}
-use Rattle.vb_guest.proofs.Supplying.{length-after_claims}
+use Rattle.vb_guest.proofs.Moving.{moves_as}
+use Rattle.vb_guest.proofs.Kept.{SameOwn}
 
 either : (b : Bool) → (b ≡ true) ⊎ (b ≡ false)
 either true = inl refl
@@ -59,20 +61,18 @@ up_test s ne = elim (either (s == 0)) [
   | inr other ↦ ap not other
 ]
 
-pub init_up : (Answers : List Bool → Claim → Type 0) (out : List Bool) (m : Pages) (p : Part)
-    (d : DriverState) (g : Guest) (wanted : ℕ) → p.status ≢ 0 → Stands m p d g
-    → Steps (Stands m p d) Answers out out g (Init wanted) (Refused AlreadyUp)
-init_up Answers out m p d g wanted up stands =
-    steps_quiet (Stands m p d) Answers out g (Init wanted) (Refused AlreadyUp)
-    (refused_alone m m p p d d g (Init wanted) AlreadyUp stands
+pub init_up : (m : Pages) (p : Part) (d : DriverState) (g : Guest) (wanted : ℕ) → p.status ≢ 0
+    → Honest m p d g → StepsAlone (Honest m p d) g (Init wanted) (Refused AlreadyUp)
+init_up m p d g wanted up stands =
+    refused_alone m m p p d d g (Init wanted) AlreadyUp stands
     (first_holds (not (g.status == 0)) AlreadyUp []
-    (up_test g.status (λ e. up (stands.ties.parts.device.status ∙ e)))) refl refl refl)
+    (up_test g.status (λ e. up (stands.ties.parts.device.status ∙ e)))) refl refl refl
 
 new_test : (g : Guest) (wanted : ℕ) → g.status ≡ 0 → refusal_of g (Init wanted) ≡ None
 new_test g wanted e = ap (λ (s : ℕ). first_refusal ((not (s == 0) ⇒ AlreadyUp) ∷ [])) e
 
 -- a device whose status is 0 isn't initialised
-new_is_idle : (m : Pages) (p : Part) (d : DriverState) (g : Guest) → g.status ≡ 0 → Stands m p d g
+new_is_idle : (m : Pages) (p : Part) (d : DriverState) (g : Guest) → g.status ≡ 0 → Honest m p d g
     → IsIdle g
 new_is_idle m p d g e stands = elim stands.ties.queues [
   | inl idle ↦ idle
@@ -121,20 +121,29 @@ has_all m backed = all_below (λ page. is_some (frame_at m page)) 0 13
 
 -- ---- no frames: nothing is changed
 
-pub known_answer : (Answers : List Bool → Claim → Type 0) (out1 out2 : List Bool) (pages : List ℕ)
-    (m1 m2 : Pages) (result value : Result (Unit {0}) WhyRefused) → result ≡ value
-    → SuppliesBy Answers out1 out2 pages m1 m2 result
-    → SuppliesBy Answers out1 out2 pages m1 m2 value
-known_answer Answers out1 out2 pages m1 m2 result value is did =
-    subst (λ (r : Result (Unit {0}) WhyRefused). SuppliesBy Answers out1 out2 pages m1 m2 r) is did
+pub known_answer : (Answers : List Bool → Claim → Type 0) (s1 s2 : Supply) (l1 l2 : List Claim)
+    (pages : List ℕ) (m1 m2 : Pages) (result value : Result (Unit {0}) WhyRefused) → result ≡ value
+    → SuppliesBy Answers s1 s2 l1 l2 pages m1 m2 result
+    → SuppliesBy Answers s1 s2 l1 l2 pages m1 m2 value
+known_answer Answers s1 s2 l1 l2 pages m1 m2 result value is did =
+    subst (λ (r : Result (Unit {0}) WhyRefused). SuppliesBy Answers s1 s2 l1 l2 pages m1 m2 r) is did
 
-pub init_unsupplied : (Answers : List Bool → Claim → Type 0) (out1 out2 : List Bool) (m1 m2 : Pages)
-    (p1 p2 : Part) (d : DriverState) (g : Guest) (wanted : ℕ) (why : WhyRefused) (refusal : Refusal)
+pub first_noted : (Answers : List Bool → Claim → Type 0) (s1 s2 : Supply) (l1 l2 : List Claim)
+    (pages : List ℕ) (m1 m2 : Pages) (result : Result (Unit {0}) WhyRefused) → l1 ≡ []
+    → SuppliesBy Answers s1 s2 l1 l2 pages m1 m2 result
+    → SuppliesBy Answers s1 s2 [] l2 pages m1 m2 result
+first_noted Answers s1 s2 l1 l2 pages m1 m2 result none did =
+    subst (λ (l : List Claim). SuppliesBy Answers s1 s2 l l2 pages m1 m2 result) none did
+
+pub init_unsupplied : (Answers : List Bool → Claim → Type 0) (out1 out2 : List Bool)
+    (l : List Claim) (m1 m2 : Pages) (p1 p2 : Part) (d : DriverState) (g : Guest) (wanted : ℕ)
+    (why : WhyRefused) (refusal : Refusal)
     → why_unsupplied {T = Unit {0}} (Err why) ≡ Some refusal → p1.status ≡ 0
-    → SuppliesBy {T = Unit {0}} Answers out1 out2 (bare_from m1 0) m1 m2 (Err why) → p2 ≡ p1
-    → Stands m1 p1 d g
-    → Steps (Stands m2 p2 d) Answers out1 out2 g (Init wanted) (Refused refusal)
-init_unsupplied Answers out1 out2 m1 m2 p1 p2 d g wanted why refusal is new did part stands =
+    → SuppliesBy {T = Unit {0}} Answers (supply_of p1 out1) (supply_of p2 out2) [] l (bare_from m1 0)
+    m1 m2 (Err why) → p2 ≡ record p1 { own = p2.own } → Honest m1 p1 d g
+    → StepsOver (Honest m2 p2 d) Answers (supply_of p1 out1) (supply_of p2 out2) l g (Init wanted)
+    (Refused refusal)
+init_unsupplied Answers out1 out2 l m1 m2 p1 p2 d g wanted why refusal is new did part stands =
     let ties = stands.ties in
     let claims = did.claims in
     let refused : claim_refusal claims ≡ Some refusal = did.answer ∙ is in
@@ -148,17 +157,15 @@ init_unsupplied Answers out1 out2 m1 m2 p1 p2 d g wanted why refusal is new did 
     let step = honest_performed g (Init wanted) claims (Refused refusal) g
     (new_test g wanted (sym ties.parts.device.status ∙ new))
     (made, subst P (sym refused) (refl, refl)) in
-    record {
-      claims = claims;
+    subst (λ (c : List Claim). StepsOver (Honest m2 p2 d) Answers (supply_of p1 out1)
+    (supply_of p2 out2) c g (Init wanted) (Refused refusal)) (sym did.noted) (record {
       new = g;
-      stands = still_stands m1 m2 p1 p2 d d g (Init wanted) claims (Refused refusal) g stands step
-          (ties_same m1 m2 p1 p2 d d g did.refused.0 part refl ties);
+      stands = honest_own m1 m2 p1 p2 d g did.refused.0 part stands;
       step = guest_step g (Init wanted) claims (Refused refusal) g ties.parts.guest.honest step;
       answered = did.answered;
-      balance = λ n. ap (λ (o : List Bool). one_if (is_out o n) + count_by (is_frame n) g.frames)
-          did.refused.1;
-      count = ap (λ (o : List Bool). length o) did.refused.1;
-    }
+      moves = moves_as (supply_of p1 out1) (supply_of p2 out2) nothing nothing
+          (λ n. backing_count n g) (λ n. backing_count n g) did.refused.1 (λ n. omega arith);
+    })
 
 -- ---- the driver's answer
 
@@ -282,8 +289,6 @@ started m2 m3 p1 p3 d1 d2 g frames wanted has backed idle driver parts did =
           actual = sym idle.actual;
           ballooned = no_flags p1 g parts.device.ballooned idle;
           last = sym idle.last;
-          keeps = parts.device.keeps;
-          own = parts.device.own;
           loose = parts.device.loose;
         };
       };
@@ -336,8 +341,6 @@ stopped m2 m3 p1 p3 d1 d2 g frames accepted has idle parts did =
           actual = sym idle.actual;
           ballooned = no_flags p1 g parts.device.ballooned idle;
           last = sym idle.last;
-          keeps = parts.device.keeps;
-          own = parts.device.own;
           loose = parts.device.loose;
         };
       };
@@ -356,9 +359,10 @@ stopped m2 m3 p1 p3 d1 d2 g frames accepted has idle parts did =
 -- ---- the step
 
 -- what the driver's initialisation leaves of a guest whose pages have these frames
-record Leaves (m : Pages) (p : Part) (d : DriverState) (g : Guest) (frames : List (Option ℕ))
+record Leaves (m : Pages) (p1 p : Part) (d : DriverState) (g : Guest) (frames : List (Option ℕ))
     (wanted : ℕ) (reply : Reply) : Type 0 where
   new : Guest
+  same : SameOwn p1 p
   ties : Ties m p d new
   does : Negotiates (feature_refusal wanted) wanted (record g { frames = frames }) reply new
   kept : new.frames ≡ frames
@@ -369,7 +373,7 @@ initialised : (m2 m3 : Pages) (p1 p3 : Part) (d1 d2 : DriverState) (g : Guest)
     → ((p : ℕ) → p < 13 → IsSome (frame_at m2 p)) → p1.status ≡ 0 → IsIdle g
     → HasParts (beside_queues p1) (beside_sides d1) (beside_requests g)
     → InitsBy m2 m3 p1 p3 d1 d2 wanted result
-    → Leaves m3 p3 d2 g frames wanted (ready_reply result)
+    → Leaves m3 p1 p3 d2 g frames wanted (ready_reply result)
 initialised m2 m3 p1 p3 d1 d2 g frames wanted (Ok x) has backed new idle parts did =
     let fine : None ≡ feature_refusal wanted =
     did.refusal ∙ driver_tests m2 p1 wanted new (has_all m2 backed) in
@@ -377,6 +381,10 @@ initialised m2 m3 p1 p3 d1 d2 g frames wanted (Ok x) has backed new idle parts d
     { frames = frames; status = 15; features = wanted; buffer = NoBuffer } in
     record {
       new = after;
+      same = record {
+        flag = ap (λ (p : Part). p.keeps) did.starts.part;
+        numbers = ap (λ (p : Part). p.own) did.starts.part;
+      };
       ties = started m2 m3 p1 p3 d1 d2 g frames wanted has backed idle did.driver parts did.starts;
       does = subst (λ (o : Option Refusal). Negotiates o wanted (record g { frames = frames }) Ready
           after) fine (refl, refl);
@@ -387,23 +395,31 @@ initialised m2 m3 p1 p3 d1 d2 g frames wanted (Err why) has backed new idle part
     did.refusal ∙ driver_tests m2 p1 wanted new (has_all m2 backed) in
     let accepted = accepted_before why wanted in
     let after : Guest = record g { frames = frames; status = 131; features = accepted } in
+    let given : GivesUp m2 m3 p1 p3 d1 d2 accepted =
+    given_up m2 m3 p1 p3 d1 d2 wanted why (sym wrong) did.refused in
     record {
       new = after;
-      ties = stopped m2 m3 p1 p3 d1 d2 g frames accepted has idle parts
-          (given_up m2 m3 p1 p3 d1 d2 wanted why (sym wrong) did.refused);
+      same = record {
+        flag = ap (λ (p : Part). p.keeps) given.part;
+        numbers = ap (λ (p : Part). p.own) given.part;
+      };
+      ties = stopped m2 m3 p1 p3 d1 d2 g frames accepted has idle parts given;
       does = subst (λ (o : Option Refusal). Negotiates o wanted (record g { frames = frames })
           (Refused why) after) wrong (refl, refl);
       kept = refl;
     }
 
-pub init_supplied : (Answers : List Bool → Claim → Type 0) (out1 out2 : List Bool)
-    (m1 m2 m3 : Pages) (p1 p2 p3 : Part) (d1 d2 : DriverState) (g : Guest) (wanted : ℕ)
-    (result : Result (Unit {0}) Refusal)
-    → p1.status ≡ 0 → SuppliesBy {T = Unit {0}} Answers out1 out2 (bare_from m1 0) m1 m2 (Ok tt)
-    → p2 ≡ p1 → InitsBy m2 m3 p2 p3 d1 d2 wanted result → Stands m1 p1 d1 g
-    → Steps (Stands m3 p3 d2) Answers out1 out2 g (Init wanted) (ready_reply result)
-init_supplied Answers out1 out2 m1 m2 m3 p1 p2 p3 d1 d2 g wanted result status did part inits stands
-    =
+pub init_supplied : (Answers : List Bool → Claim → Type 0) (out1 out2 : List Bool) (l : List Claim)
+    (m1 m2 m3 : Pages) (p1 p2 p3 : Part) (d1 d2 : DriverState) (g : Guest) (wanted features : ℕ)
+    (result : Result (Unit {0}) Refusal) → features ≡ wanted
+    → p1.status ≡ 0
+    → SuppliesBy {T = Unit {0}} Answers (supply_of p1 out1) (supply_of p2 out2) [] l (bare_from m1 0)
+    m1 m2 (Ok tt)
+    → p2 ≡ record p1 { own = p2.own } → InitsBy m2 m3 p2 p3 d1 d2 features result → Honest m1 p1 d1 g
+    → StepsOver (Honest m3 p3 d2) Answers (supply_of p1 out1) (supply_of p3 out2) l g (Init wanted)
+    (ready_reply result)
+init_supplied Answers out1 out2 l m1 m2 m3 p1 p2 p3 d1 d2 g wanted features result named status did
+    part inits stands =
     let ties = stands.ties in
     let n = g.config.pages in
     let pages = bare_from m1 0 in
@@ -419,9 +435,11 @@ init_supplied Answers out1 out2 m1 m2 m3 p1 p2 p3 d1 d2 g wanted result status d
     did.supplied.0 ties.pages in
     let backed : (p : ℕ) → p < 13
     → IsSome (frame_at m2 p) = λ p lt. now_backed m1 m2 (given claims) p did.supplied.0 lt in
-    let same : InitsBy m2 m3 p1 p3 d1 d2 wanted result =
-    subst (λ (p : Part). InitsBy m2 m3 p p3 d1 d2 wanted result) part inits in
-    let left = initialised m2 m3 p1 p3 d1 d2 g frames wanted result has backed status idle
+    let between : Part = record p1 { own = p2.own } in
+    let same : InitsBy m2 m3 between p3 d1 d2 wanted result =
+    subst (λ (f : ℕ). InitsBy m2 m3 between p3 d1 d2 f result) named
+    (subst (λ (p : Part). InitsBy m2 m3 p p3 d1 d2 features result) part inits) in
+    let left = initialised m2 m3 between p3 d1 d2 g frames wanted result has backed status idle
     ties.parts same in
     let reply = ready_reply result in
     let P : Option Refusal
@@ -436,44 +454,37 @@ init_supplied Answers out1 out2 m1 m2 m3 p1 p2 p3 d1 d2 g wanted result status d
     (λ supplied. Negotiates (feature_refusal wanted) wanted supplied reply left.new) in
     let step = honest_performed g (Init wanted) claims reply left.new (new_test g wanted new_status)
     (subst S (bare_is m1 g ties.pages.behind) does) in
-    record {
-      claims = claims;
+    let after : supply_of p3 out2 ≡ supply_of p2 out2 =
+    ap (λ (k : Bool). record { keeps = k; own = p3.own; out = out2 })
+    (left.same.flag ∙ sym (ap (λ (p : Part). p.keeps) part))
+    ∙ ap (λ (o : List ℕ). record { keeps = p2.keeps; own = o; out = out2 }) left.same.numbers in
+    subst (λ (c : List Claim). StepsOver (Honest m3 p3 d2) Answers (supply_of p1 out1)
+    (supply_of p3 out2) c g (Init wanted) (ready_reply result)) (sym did.noted) (record {
       new = left.new;
       stands = still_stands m1 m3 p1 p3 d1 d2 g (Init wanted) claims reply left.new stands step
           left.ties;
       step = guest_step g (Init wanted) claims reply left.new ties.parts.guest.honest step;
       answered = did.answered;
-      balance = λ x. (
-          let filled = frames_filled Answers x n pages claims out1 m1 m2 g.frames g.contents
-          did.answer did.made did.answered distinct below did.supplied.0 ties.pages in
-          ap (λ (o : List Bool). one_if (is_out o x) + count_by (is_frame x) g.frames)
-          did.supplied.1 ∙ filled
-          ∙ ap (λ (l : List (Option ℕ)). one_if (is_out out1 x) + count_by (is_frame x) l)
-          (sym left.kept));
-      count = ap (λ (o : List Bool). length o) did.supplied.1 ∙ length-after_claims out1 claims;
-    }
+      moves = subst (λ (s : Supply). Moves (supply_of p1 out1) s (λ n. backing_count n left.new)
+          (λ n. backing_count n g)) (sym after)
+          (moves_as (supply_of p1 out1) (supply_of p2 out2) (λ x. times x (given claims)) nothing
+          (λ n. backing_count n left.new) (λ n. backing_count n g) did.supplied.1
+          (λ x. omega (
+            arith,
+            frames_filled x n pages claims m1 m2 g.frames g.contents did.answer did.made distinct
+                below did.supplied.0 ties.pages,
+            ap (λ (l : List (Option ℕ)). count_by (is_frame x) l) left.kept,
+          )));
+    })
 
 -- memory is as large as it was
-pub still_large : (Answers : List Bool → Claim → Type 0) (out1 out2 : List Bool) (m1 m2 : Pages)
-    (p : Part) (d : DriverState) (g : Guest) → Stands m1 p d g
-    → SuppliesBy {T = Unit {0}} Answers out1 out2 (bare_from m1 0) m1 m2 (Ok tt)
+pub still_large : (Answers : List Bool → Claim → Type 0) (s1 s2 : Supply) (l1 l2 : List Claim)
+    (m1 m2 : Pages) (p : Part) (d : DriverState) (g : Guest) → Honest m1 p d g
+    → SuppliesBy {T = Unit {0}} Answers s1 s2 l1 l2 (bare_from m1 0) m1 m2 (Ok tt)
     → 64 ≤ length m2
-still_large Answers out1 out2 m1 m2 p d g stands did =
+still_large Answers s1 s2 l1 l2 m1 m2 p d g stands did =
     omega (
       arith,
       large m1 p d g stands,
       supplied_count (bare_from m1 0) (given did.claims) m1 m2 did.supplied.0,
     )
-
--- the features by their name in the code
-pub init_named : (Answers : List Bool → Claim → Type 0) (out1 out2 : List Bool) (m1 m2 m3 : Pages)
-    (p1 p2 p3 : Part) (d1 d2 : DriverState) (g : Guest) (wanted features : ℕ)
-    (result : Result (Unit {0}) Refusal)
-    → features ≡ wanted → p1.status ≡ 0
-    → SuppliesBy {T = Unit {0}} Answers out1 out2 (bare_from m1 0) m1 m2 (Ok tt) → p2 ≡ p1
-    → InitsBy m2 m3 p2 p3 d1 d2 features result → Stands m1 p1 d1 g
-    → Steps (Stands m3 p3 d2) Answers out1 out2 g (Init wanted) (ready_reply result)
-init_named Answers out1 out2 m1 m2 m3 p1 p2 p3 d1 d2 g wanted features result named status did part
-    inits stands =
-    init_supplied Answers out1 out2 m1 m2 m3 p1 p2 p3 d1 d2 g wanted result status did part
-    (subst (λ (f : ℕ). InitsBy m2 m3 p2 p3 d1 d2 f result) named inits) stands

@@ -12,8 +12,10 @@ pub mod Discarding
 pub mod PagesKept
 pub mod FinishStep
 pub mod Writing
+pub mod Moving
+pub mod Standing
+pub mod Kept
 pub mod WriteStep
-pub mod Loosing
 pub mod TargetStep
 pub mod Freed
 pub mod SweepStep

@@ -12,7 +12,7 @@ use Rattle.vb_ram.specs.Pages.{Pages, byte_at, contents_at, Covers}
 use Rattle.vb_ram.proofs.Contents.{contents_read}
 use Rattle.vb_ram.specs.Part.{Part}
 use Rattle.vb_driver.specs.State.{DriverState}
-use Rattle.vb_guest.specs.Stands.{Stands}
+use Rattle.vb_guest.specs.Stands.{Honest}
 use Rattle.vb_guest.specs.Steps.{StepsAlone}
 use Rattle.vb_guest.proofs.Closing.{first_holds, honest_performed, steps_alone, refused_alone}
 use Rattle.vb_guest.proofs.Writing.{used_high}
@@ -23,8 +23,8 @@ either true = inl refl
 either false = inr refl
 
 pub read_not_held : (m : Pages) (p : Part) (d : DriverState) (g : Guest) (page off len : ℕ)
-    → is_used (place_of d.places page) ≡ false → Stands m p d g
-    → StepsAlone (Stands m p d) g (Read page off len) (Refused NotHeld)
+    → is_used (place_of d.places page) ≡ false → Honest m p d g
+    → StepsAlone (Honest m p d) g (Read page off len) (Refused NotHeld)
 read_not_held m p d g page off len free stands =
     let unused : is_used (place_of g.places page) ≡ false =
     ap (λ l. is_used (place_of l page)) (sym stands.ties.parts.driver.places) ∙ free in
@@ -39,8 +39,8 @@ read_tests g page off len used =
     ((not b ⇒ NotHeld) ∷ (is_outside g page off len ⇒ OutOfRam) ∷ [])) used
 
 pub read_outside : (m : Pages) (p : Part) (d : DriverState) (g : Guest) (page off len : ℕ)
-    → is_used (place_of d.places page) ≡ true → Stands m p d g → (Covers m page off len → ⊥)
-    → StepsAlone (Stands m p d) g (Read page off len) (Refused OutOfRam)
+    → is_used (place_of d.places page) ≡ true → Honest m p d g → (Covers m page off len → ⊥)
+    → StepsAlone (Honest m p d) g (Read page off len) (Refused OutOfRam)
 read_outside m p d g page off len used stands out =
     let held : is_used (place_of g.places page) ≡ true =
     ap (λ l. is_used (place_of l page)) (sym stands.ties.parts.driver.places) ∙ used in
@@ -52,7 +52,7 @@ read_outside m p d g page off len used stands out =
     ]
 
 read_free : (m : Pages) (p : Part) (d : DriverState) (g : Guest) (page off len : ℕ)
-    → is_used (place_of d.places page) ≡ true → Stands m p d g → Covers m page off len
+    → is_used (place_of d.places page) ≡ true → Honest m p d g → Covers m page off len
     → refusal_of g (Read page off len) ≡ None
 read_free m p d g page off len used stands covers =
     let held : is_used (place_of g.places page) ≡ true =
@@ -62,10 +62,10 @@ read_free m p d g page off len used stands covers =
     (inside_is g m page off len stands.ties.pages.length_is covers)
 
 pub read_done : (m : Pages) (p : Part) (d : DriverState) (g : Guest) (page off len : ℕ)
-    (bytes : List ℕ) → is_used (place_of d.places page) ≡ true → Stands m p d g
+    (bytes : List ℕ) → is_used (place_of d.places page) ≡ true → Honest m p d g
     → Covers m page off len
     → bytes ≡ take len (drop off (contents_at m page))
-    → StepsAlone (Stands m p d) g (Read page off len) (ReadBytes bytes)
+    → StepsAlone (Honest m p d) g (Read page off len) (ReadBytes bytes)
 read_done m p d g page off len bytes used stands covers is =
     let held : is_used (place_of g.places page) ≡ true =
     ap (λ l. is_used (place_of l page)) (sym stands.ties.parts.driver.places) ∙ used in
@@ -79,8 +79,8 @@ read_done m p d g page off len bytes used stands covers is =
     stands.ties refl
 
 pub read_no_memory : (m : Pages) (p : Part) (d : DriverState) (g : Guest) (page off len : ℕ)
-    → is_used (place_of d.places page) ≡ true → Stands m p d g → Covers m page off len
-    → StepsAlone (Stands m p d) g (Read page off len) (Refused NoMemory)
+    → is_used (place_of d.places page) ≡ true → Honest m p d g → Covers m page off len
+    → StepsAlone (Honest m p d) g (Read page off len) (Refused NoMemory)
 read_no_memory m p d g page off len used stands covers =
     steps_alone m m p p d d g (Read page off len) (Refused NoMemory) g stands
     (honest_performed g (Read page off len) [] (Refused NoMemory) g
@@ -88,7 +88,7 @@ read_no_memory m p d g page off len used stands covers =
 
 -- a used page that is there has 4096 bytes
 pub used_whole : (m : Pages) (p : Part) (d : DriverState) (g : Guest) (page off len : ℕ)
-    → is_used (place_of d.places page) ≡ true → Stands m p d g → Covers m page off len
+    → is_used (place_of d.places page) ≡ true → Honest m p d g → Covers m page off len
     → length (contents_at m page) ≡ 4096
 used_whole m p d g page off len used stands covers =
     let held : is_used (place_of g.places page) ≡ true =

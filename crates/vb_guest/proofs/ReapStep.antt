@@ -1,14 +1,12 @@
 -- The slot's reap is a step of the guest.
-use Rattle.std.specs.Prelude.{◌≡◌, ℕ, ◌+◌, ◌≤◌, ◌==◌, Bool, true, false, not, nat_lt, if◌then◌else◌}
+use Rattle.std.specs.Prelude.{◌≡◌, ℕ, ◌+◌, ◌≤◌, ◌==◌, Bool, true, false, not, if◌then◌else◌}
 use Rattle.std.specs.Prelude.{List, [], ◌∷◌, ◌++◌, length, Result, Ok, Err, Option, Some, None}
 use Rattle.std.specs.Prelude.{is_err, slice_get, count_by, drop, refl, ◌⊎◌}
 use Rattle.std.proofs.Common.{sym, ◌∙◌, ap, subst, arith, inl, inr, eq-eqb}
-use Rattle.std.proofs.lemmas.Bool.{le-ltb}
 use Rattle.vb_model.specs.declared.calls.Call.TheVariants.{Reap}
 use Rattle.vb_model.specs.declared.places.Place.TheVariants.{Lent, Free}
 use Rattle.vb_model.specs.declared.replies.Refusal.{Refusal}
 use Rattle.vb_model.specs.declared.replies.Refusal.TheVariants.{NoQueue, NotReady, RingBroken}
-use Rattle.vb_model.specs.declared.replies.Reply.{Reply}
 use Rattle.vb_model.specs.declared.replies.Reply.TheVariants.{NotUsed, Reaped}
 use Rattle.vb_model.specs.Tests.{one_if}
 use Rattle.vb_model.specs.Pages.{placed, is_lent_or_taking}
@@ -33,7 +31,7 @@ use Rattle.vb_driver.specs.Areas.{all_given}
 use Rattle.vb_driver.specs.Answers.{is_up, reap_tests}
 use Rattle.vb_driver.specs.Calls.{ReapsBy, after_reap, next_of, side_of, after_refusal}
 use Rattle.vb_guest.specs.Line.{Line, IsRequest, heads_of, used_of}
-use Rattle.vb_guest.specs.Stands.{Stands, Ties, IsRunning}
+use Rattle.vb_guest.specs.Stands.{Honest, Ties, IsRunning}
 use Rattle.vb_guest.specs.Steps.{StepsAlone}
 use Rattle.vb_guest.specs.Replies.{reaped_reply}
 use Rattle.vb_guest.proofs.Heads.{length-used, headed-all, headed-cons, get_after, none_after}
@@ -140,10 +138,10 @@ running_tests m p d side o e answer =
 -- a refused reap
 reap_refused : (m1 m2 : Pages) (p1 p2 : Part) (d1 d2 : DriverState) (g : Guest) (q : ℕ)
     (why : Refusal) (result : Result (Option ReapedRequest) Refusal)
-    → (why ≡ RingBroken → ⊥) → ReapsBy m1 m2 p1 p2 d1 d2 q result → Stands m1 p1 d1 g
+    → (why ≡ RingBroken → ⊥) → ReapsBy m1 m2 p1 p2 d1 d2 q result → Honest m1 p1 d1 g
     → first_refusal (reap_tests m1 p1 d1 (side_of q d1) q) ≡ Some why
     → refusal_of g (Reap q) ≡ Some why
-    → StepsAlone (Stands m2 p2 d2) g (Reap q) (reaped_reply result)
+    → StepsAlone (Honest m2 p2 d2) g (Reap q) (reaped_reply result)
 reap_refused m1 m2 p1 p2 d1 d2 g q why (Ok got) other did stands by_driver by_model =
     absurd (let wrong = did.refusal ∙ by_driver in cc)
 reap_refused m1 m2 p1 p2 d1 d2 g q why (Err said) other did stands by_driver by_model =
@@ -162,9 +160,9 @@ inflate_reaped : (m1 m2 : Pages) (p1 p2 : Part) (g : Guest) (areas : FreePages) 
     → g.inflate.done ≡ done → next_of got ≡ used_next done
     → ReapsBy m1 m2 p1 p2 (driver_of g areas si sd) d2 0 (Ok got)
     → used_answer m1 si.ring ≡ Ok (used_next done)
-    → Stands m1 p1 (driver_of g areas si sd) g → IsRunning m1 p1 (driver_of g areas si sd) g
+    → Honest m1 p1 (driver_of g areas si sd) g → IsRunning m1 p1 (driver_of g areas si sd) g
     → refusal_of g (Reap 0) ≡ None
-    → StepsAlone (Stands m2 p2 d2) g (Reap 0) (reaped_reply (Ok got))
+    → StepsAlone (Honest m2 p2 d2) g (Reap 0) (reaped_reply (Ok got))
 inflate_reaped m1 m2 p1 p2 g areas si sd d2 [] (Some x) is next did answer stands run free =
     absurd cc
 inflate_reaped m1 m2 p1 p2 g areas si sd d2 (r ∷ rest) None is next did answer stands run free =
@@ -220,8 +218,6 @@ inflate_reaped m1 m2 p1 p2 g areas si sd d2 (r ∷ rest) (Some x) is next did an
           actual = refl;
           ballooned = ties.parts.device.ballooned;
           last = ties.parts.device.last;
-          keeps = ties.parts.device.keeps;
-          own = ties.parts.device.own;
           loose = ties.parts.device.loose;
         };
       };
@@ -243,8 +239,8 @@ inflate_reaped m1 m2 p1 p2 g areas si sd d2 (r ∷ rest) (Some x) is next did an
 inflate_reap : (m1 m2 : Pages) (p1 p2 : Part) (g : Guest) (areas : FreePages) (si sd : Side)
     (d2 : DriverState) (result : Result (Option ReapedRequest) Refusal)
     → ReapsBy m1 m2 p1 p2 (driver_of g areas si sd) d2 0 result
-    → Stands m1 p1 (driver_of g areas si sd) g
-    → StepsAlone (Stands m2 p2 d2) g (Reap 0) (reaped_reply result)
+    → Honest m1 p1 (driver_of g areas si sd) g
+    → StepsAlone (Honest m2 p2 d2) g (Reap 0) (reaped_reply result)
 inflate_reap m1 m2 p1 p2 g areas si sd d2 result did stands =
     elim stands.ties.queues [
       | inl idle ↦
@@ -267,7 +263,7 @@ inflate_reap m1 m2 p1 p2 g areas si sd d2 result did stands =
         → first_refusal (reap_tests m1 p1 (driver_of g areas si sd) si 0) ≡ None
         → used_answer m1 si.ring ≡ Ok (used_next g.inflate.done)
         → IsRunning m1 p1 (driver_of g areas si sd) g
-        → StepsAlone (Stands m2 p2 d2) g (Reap 0) (reaped_reply result)
+        → StepsAlone (Honest m2 p2 d2) g (Reap 0) (reaped_reply result)
     by_result (Err why) did free none answer run = absurd (let wrong = did.refusal ∙ none in cc)
     by_result (Ok got) did free none answer run =
         let next : next_of got ≡ used_next g.inflate.done = (let e = sym did.next ∙ answer in cc) in
@@ -281,9 +277,9 @@ deflate_reaped : (m1 m2 : Pages) (p1 p2 : Part) (g : Guest) (areas : FreePages) 
     → g.deflate.done ≡ done → next_of got ≡ used_next done
     → ReapsBy m1 m2 p1 p2 (driver_of g areas si sd) d2 1 (Ok got)
     → used_answer m1 sd.ring ≡ Ok (used_next done)
-    → Stands m1 p1 (driver_of g areas si sd) g → IsRunning m1 p1 (driver_of g areas si sd) g
+    → Honest m1 p1 (driver_of g areas si sd) g → IsRunning m1 p1 (driver_of g areas si sd) g
     → refusal_of g (Reap 1) ≡ None
-    → StepsAlone (Stands m2 p2 d2) g (Reap 1) (reaped_reply (Ok got))
+    → StepsAlone (Honest m2 p2 d2) g (Reap 1) (reaped_reply (Ok got))
 deflate_reaped m1 m2 p1 p2 g areas si sd d2 [] (Some x) is next did answer stands run free =
     absurd cc
 deflate_reaped m1 m2 p1 p2 g areas si sd d2 (r ∷ rest) None is next did answer stands run free =
@@ -342,8 +338,6 @@ deflate_reaped m1 m2 p1 p2 g areas si sd d2 (r ∷ rest) (Some x) is next did an
           actual = refl;
           ballooned = ties.parts.device.ballooned;
           last = ties.parts.device.last;
-          keeps = ties.parts.device.keeps;
-          own = ties.parts.device.own;
           loose = ties.parts.device.loose;
         };
       };
@@ -365,8 +359,8 @@ deflate_reaped m1 m2 p1 p2 g areas si sd d2 (r ∷ rest) (Some x) is next did an
 deflate_reap : (m1 m2 : Pages) (p1 p2 : Part) (g : Guest) (areas : FreePages) (si sd : Side)
     (d2 : DriverState) (result : Result (Option ReapedRequest) Refusal)
     → ReapsBy m1 m2 p1 p2 (driver_of g areas si sd) d2 1 result
-    → Stands m1 p1 (driver_of g areas si sd) g
-    → StepsAlone (Stands m2 p2 d2) g (Reap 1) (reaped_reply result)
+    → Honest m1 p1 (driver_of g areas si sd) g
+    → StepsAlone (Honest m2 p2 d2) g (Reap 1) (reaped_reply result)
 deflate_reap m1 m2 p1 p2 g areas si sd d2 result did stands =
     elim stands.ties.queues [
       | inl idle ↦
@@ -389,7 +383,7 @@ deflate_reap m1 m2 p1 p2 g areas si sd d2 result did stands =
         → first_refusal (reap_tests m1 p1 (driver_of g areas si sd) sd 1) ≡ None
         → used_answer m1 sd.ring ≡ Ok (used_next g.deflate.done)
         → IsRunning m1 p1 (driver_of g areas si sd) g
-        → StepsAlone (Stands m2 p2 d2) g (Reap 1) (reaped_reply result)
+        → StepsAlone (Honest m2 p2 d2) g (Reap 1) (reaped_reply result)
     by_result (Err why) did free none answer run = absurd (let wrong = did.refusal ∙ none in cc)
     by_result (Ok got) did free none answer run =
         let next : next_of got ≡ used_next g.deflate.done = (let e = sym did.next ∙ answer in cc) in
@@ -398,18 +392,18 @@ deflate_reap m1 m2 p1 p2 g areas si sd d2 result did stands =
 
 pub reap_step : (m1 m2 : Pages) (p1 p2 : Part) (d1 d2 : DriverState) (g : Guest) (q : ℕ)
     (result : Result (Option ReapedRequest) Refusal)
-    → ReapsBy m1 m2 p1 p2 d1 d2 q result → Stands m1 p1 d1 g
-    → StepsAlone (Stands m2 p2 d2) g (Reap q) (reaped_reply result)
+    → ReapsBy m1 m2 p1 p2 d1 d2 q result → Honest m1 p1 d1 g
+    → StepsAlone (Honest m2 p2 d2) g (Reap q) (reaped_reply result)
 reap_step m1 m2 p1 p2 d1 d2 g q result did stands =
     let is = driver_is p1 d1 g stands.ties.parts in
     let areas = d1.areas in
     let si = d1.inflate in
     let sd = d1.deflate in
-    let here : Stands m1 p1 (driver_of g areas si sd) g = subst (λ d. Stands m1 p1 d g) is stands in
+    let here : Honest m1 p1 (driver_of g areas si sd) g = subst (λ d. Honest m1 p1 d g) is stands in
     let at : ReapsBy m1 m2 p1 p2 (driver_of g areas si sd) d2 q result =
     subst (λ d. ReapsBy m1 m2 p1 p2 d d2 q result) is did in
     let B : ℕ → Type 0 = λ k. ReapsBy m1 m2 p1 p2 (driver_of g areas si sd) d2 k result in
-    let S : ℕ → Type 0 = λ k. StepsAlone (Stands m2 p2 d2) g (Reap k) (reaped_reply result) in
+    let S : ℕ → Type 0 = λ k. StepsAlone (Honest m2 p2 d2) g (Reap k) (reaped_reply result) in
     elim (queue_cases q) [
       | inl first ↦ subst S (sym first)
           (inflate_reap m1 m2 p1 p2 g areas si sd d2 result (subst B first at) here)

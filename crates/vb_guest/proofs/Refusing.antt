@@ -1,14 +1,13 @@
 -- Device and model refuse the same calls.
-use Rattle.std.specs.Prelude.{◌≡◌, ℕ, ◌≤◌, Bool, true, false, not, ◌==◌, ◌&&◌, ◌||◌, nat_le, List}
-use Rattle.std.specs.Prelude.{[], ◌∷◌, length, Option, Some, is_some, is_none, slice_get, drop}
+use Rattle.std.specs.Prelude.{◌≡◌, ℕ, ◌≤◌, Bool, true, false, not, ◌&&◌, nat_le, List}
+use Rattle.std.specs.Prelude.{[], ◌∷◌, length, Option, Some, is_none, slice_get, drop}
 use Rattle.std.specs.Prelude.{refl, ◌⊎◌}
-use Rattle.std.proofs.Common.{sym, ◌∙◌, ap, subst, arith, inl, inr}
-use Rattle.std.proofs.lemmas.Bool.{cases_eq, le-ltb}
+use Rattle.std.proofs.Common.{sym, ap, subst, inl, inr}
 use Rattle.vb_model.specs.declared.calls.Call.TheVariants.{Take, Finish}
 use Rattle.vb_model.specs.declared.replies.Refusal.{Refusal}
 use Rattle.vb_model.specs.declared.replies.Refusal.TheVariants.{NoQueue, NotReady, Busy, NotTaken}
 use Rattle.vb_model.specs.declared.replies.Refusal.TheVariants.{NotWorked}
-use Rattle.vb_model.specs.Requests.{Request, kind_of_queue}
+use Rattle.vb_model.specs.Requests.{Request}
 use Rattle.vb_model.specs.Guest.{Guest}
 use Rattle.vb_model.specs.FirstRefusal.{◌⇒◌, first_refusal}
 use Rattle.vb_model.specs.Tables.{has_chains, is_queue_of_requests, has_unvisited, take_tests}

@@ -11,12 +11,12 @@ use Rattle.vb_ram.specs.Part.{Part}
 use Rattle.vb_status.specs.After.{part_after_reset as device_after_reset}
 use Rattle.vb_driver.specs.State.{DriverState, fresh_side}
 use Rattle.vb_driver.specs.Calls.{ResetsBy}
-use Rattle.vb_guest.specs.Stands.{Stands, Ties}
+use Rattle.vb_guest.specs.Stands.{Honest, Ties}
 use Rattle.vb_guest.specs.Steps.{StepsAlone}
 use Rattle.vb_guest.proofs.Closing.{honest_performed, steps_alone, ties_same}
 
 pub reset_step : (m1 m2 : Pages) (p1 p2 : Part) (d1 d2 : DriverState) (g : Guest)
-    → ResetsBy m1 m2 p1 p2 d1 d2 → Stands m1 p1 d1 g → StepsAlone (Stands m2 p2 d2) g Reset Done
+    → ResetsBy m1 m2 p1 p2 d1 d2 → Honest m1 p1 d1 g → StepsAlone (Honest m2 p2 d2) g Reset Done
 reset_step m1 m2 p1 p2 d1 d2 g did stands =
     let parts = stands.ties.parts in
     let new : Guest = after_reset g in
@@ -55,8 +55,6 @@ reset_step m1 m2 p1 p2 d1 d2 g did stands =
           actual = refl;
           ballooned = ap (λ (n : ℕ). replicate n false) size;
           last = refl;
-          keeps = parts.device.keeps;
-          own = parts.device.own;
           loose = parts.device.loose;
         };
       };

@@ -1,22 +1,22 @@
 -- Several pages get frames, one by one.
 use Rattle.std.specs.Prelude.{◌≡◌, ◌≢◌, ℕ, zero, suc, ◌+◌, ◌<◌, ◌≤◌, ◌==◌, ◌||◌, Bool, true, false}
 use Rattle.std.specs.Prelude.{not, if◌then◌else◌, cond, List, [], ◌∷◌, length, Option, Some, None}
-use Rattle.std.specs.Prelude.{IsSome, is_some, filter, slice_set, count_by, refl, ◌⊎◌}
+use Rattle.std.specs.Prelude.{IsSome, is_some, filter, count_by, refl, ◌⊎◌}
 use Rattle.std.specs.List.{range_with_len}
 use Rattle.std.proofs.Common.{sym, ◌∙◌, ap, subst, arith, inl, inr, eq-eqb}
 use Rattle.std.proofs.lemmas.Bool.{cases_eq, eqb-true, or_cases}
-use Rattle.std.proofs.lemmas.List.{ext_get_or, length-set, get_or-set_same, get_or-set_other}
 use Rattle.vb_model.specs.declared.calls.Claim.{Claim}
 use Rattle.vb_model.specs.declared.calls.Claim.TheVariants.{Gave, GaveNoFrame, GaveNoMemory}
-use Rattle.vb_model.specs.Tests.{one_if, is_in, each_from}
+use Rattle.vb_model.specs.Tests.{is_in, each_from}
 use Rattle.vb_model.specs.Guest.{backed, all_backed}
 use Rattle.vb_model.specs.Driver.{given, claim_refusal, AreClaimsFor, AllDistinct}
 use Rattle.vb_ram.specs.Pages.{Pages, page_at, frame_at, number_of}
-use Rattle.vb_frames.specs.Out.{is_out, after_claims, AllAnswered}
 use Rattle.vb_guest.specs.Stands.{HasPages}
 use Rattle.vb_guest.specs.Steps.{is_frame}
 use Rattle.vb_guest.specs.Lives.{AllSupplied}
-use Rattle.vb_guest.proofs.Writing.{pages_supplied, count_backed, out_more}
+use Rattle.vb_model.specs.Orderly.{times}
+use Rattle.vb_guest.proofs.Writing.{pages_supplied, count_backed}
+use Rattle.vb_guest.proofs.Moving.{times_first}
 
 either : (b : Bool) → (b ≡ true) ⊎ (b ≡ false)
 either true = inl refl
@@ -200,71 +200,40 @@ pages_filled n (p ∷ ps) (k ∷ ks) m1 m2 frames contents distinct below (mid, 
     later true b e = refl
     later false b e = e
 
-pub frames_filled : (Answers : List Bool → Claim → Type 0) (x n : ℕ) (pages : List ℕ)
-    (claims : List Claim) (out : List Bool) (m1 m2 : Pages) (frames : List (Option ℕ))
-    (contents : List (List ℕ))
-    → claim_refusal claims ≡ None → AreClaimsFor pages claims → AllAnswered Answers out claims
+-- each frame that was given is behind a page more
+pub frames_filled : (x n : ℕ) (pages : List ℕ) (claims : List Claim) (m1 m2 : Pages)
+    (frames : List (Option ℕ)) (contents : List (List ℕ))
+    → claim_refusal claims ≡ None → AreClaimsFor pages claims
     → AllDistinct pages → ((p : ℕ) → is_in p pages ≡ true → p < n)
     → AllSupplied pages (given claims) m1 m2 → HasPages m1 n frames contents
-    → one_if (is_out (after_claims out claims) x) + count_by (is_frame x) frames
-    ≡ one_if (is_out out x) + count_by (is_frame x) (all_backed pages (given claims) frames)
-frames_filled Answers x n [] [] out m1 m2 frames contents all made answered distinct below supplied
-    has = refl
-frames_filled Answers x n [] (c ∷ cs) out m1 m2 frames contents all made answered distinct below
-    supplied has = absurd made
-frames_filled Answers x n (p ∷ ps) [] out m1 m2 frames contents all made answered distinct below
-    supplied has = absurd made
-frames_filled Answers x n (p ∷ ps) (GaveNoFrame ∷ cs) out m1 m2 frames contents all made answered
-    distinct below supplied has = absurd cc
-frames_filled Answers x n (p ∷ ps) (GaveNoMemory ∷ cs) out m1 m2 frames contents all made answered
-    distinct below supplied has = absurd cc
-frames_filled Answers x n (p ∷ ps) (Gave f ∷ cs) out m1 m2 frames contents all made answered
-    distinct below (mid, before, bare, did) has =
-    let lt : p < n = below p (ap (λ (b : Bool). b || is_in p ps) (eq-eqb p p refl)) in
+    → count_by (is_frame x) (all_backed pages (given claims) frames)
+    ≡ count_by (is_frame x) frames + times x (given claims)
+frames_filled x n [] [] m1 m2 frames contents all made distinct below supplied has = omega arith
+frames_filled x n [] (c ∷ cs) m1 m2 frames contents all made distinct below supplied has =
+    absurd made
+frames_filled x n (p ∷ ps) [] m1 m2 frames contents all made distinct below supplied has =
+    absurd made
+frames_filled x n (p ∷ ps) (GaveNoFrame ∷ cs) m1 m2 frames contents all made distinct below supplied
+    has = absurd cc
+frames_filled x n (p ∷ ps) (GaveNoMemory ∷ cs) m1 m2 frames contents all made distinct below
+    supplied has = absurd cc
+frames_filled x n (p ∷ ps) (Gave f ∷ cs) m1 m2 frames contents all made distinct below
+    (mid, before, bare, did) has =
     let below_too : (q : ℕ) → is_in q ps ≡ true
     → q < n = λ q m. below q (later (p == q) (is_in q ps) m) in
+    let lt : p < n = below p (ap (λ (b : Bool). b || is_in p ps) (eq-eqb p p refl)) in
     let there = pages_filled n ps (given cs) m1 mid frames contents distinct.1 below_too before
     has in
-    let rest = frames_filled Answers x n ps cs (slice_set out f true) m1 mid frames contents all
-    made answered.2 distinct.1 below_too before has in
+    let rest = frames_filled x n ps cs m1 mid frames contents all made distinct.1 below_too before
+    has in
     let more = count_backed x p f (all_backed ps (given cs) frames) (omega (arith, there.framed))
     (sym (there.behind p) ∙ bare) in
     let swap : count_by (is_frame x) (backed p f (all_backed ps (given cs) frames))
     ≡ count_by (is_frame x) (all_backed ps (given cs) (backed p f frames)) =
     ap (λ (l : List (Option ℕ)). count_by (is_frame x) l)
     (backed_last p f ps (given cs) frames (distinct_out p ps distinct.0)) in
-    let out_now = out_more out x f answered.1.within answered.1.free in
-    omega (arith, rest, more, swap, out_now)
+    omega (arith, rest, more, swap, times_first x f (given cs))
   where
     later : (a b : Bool) → b ≡ true → (a || b) ≡ true
     later true b e = refl
     later false b e = e
-
--- ---- the frames that are out, where one goes back
-
-pub out_back : (out : List Bool) (n : ℕ) → is_out out n ≡ false → n < length out
-    → slice_set (slice_set out n true) n false ≡ out
-out_back out n free lt =
-    let once = length-set out n true in
-    let twice = length-set (slice_set out n true) n false in
-    ext_get_or false (slice_set (slice_set out n true) n false) out (twice ∙ once) (λ i h.
-    elim (cases_eq i n) [
-      | inl same ↦
-          ap (λ (k : ℕ). is_out (slice_set (slice_set out n true) n false) k) same
-          ∙ get_or-set_same (slice_set out n true) n false false (omega (arith, once))
-          ∙ sym (ap (λ (k : ℕ). is_out out k) same ∙ free)
-      | inr ne ↦ get_or-set_other (slice_set out n true) n i false false ne
-          ∙ get_or-set_other out n i true false ne
-    ])
-
--- a claimed frame is out
-pub out_now : (out : List Bool) (n : ℕ) → n < length out → is_out (slice_set out n true) n ≡ true
-out_now out n lt = get_or-set_same out n true false lt
-
-pub length-after_claims : (out : List Bool) (claims : List Claim)
-    → length (after_claims out claims) ≡ length out
-length-after_claims out [] = refl
-length-after_claims out (Gave n ∷ claims) =
-    length-after_claims (slice_set out n true) claims ∙ length-set out n true
-length-after_claims out (GaveNoFrame ∷ claims) = length-after_claims out claims
-length-after_claims out (GaveNoMemory ∷ claims) = length-after_claims out claims

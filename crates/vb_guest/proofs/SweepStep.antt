@@ -1,11 +1,10 @@
 -- The slot's sweep is a step of the guest.
 use Rattle.std.specs.Prelude.{◌≡◌, ℕ, zero, suc, ◌<◌, ◌≤◌, Bool, true, false, not, List, [], ◌∷◌}
-use Rattle.std.specs.Prelude.{◌++◌, All, length, Result, Option, Some, None, is_some, refl, ◌⊎◌}
+use Rattle.std.specs.Prelude.{All, length, Result, Option, Some, None, is_some, refl, ◌⊎◌}
 use Rattle.std.specs.Option.{option_to_list}
 use Rattle.std.specs.List.{flat_map}
 use Rattle.std.proofs.Common.{sym, ◌∙◌, ap, subst, arith, inl, inr}
 use Rattle.vb_model.specs.declared.calls.Call.TheVariants.{Sweep}
-use Rattle.vb_model.specs.declared.calls.Claim.{Claim}
 use Rattle.vb_model.specs.declared.places.Place.{Place}
 use Rattle.vb_model.specs.declared.places.Place.TheVariants.{Reserved, Free, Used, Giving, Lent}
 use Rattle.vb_model.specs.declared.places.Place.TheVariants.{Taking, Stranded, Reporting}
@@ -26,8 +25,8 @@ use Rattle.vb_driver.specs.State.{DriverState}
 use Rattle.vb_device.specs.Conditions.{sweep_refusal}
 use Rattle.vb_device.specs.Discards.{discarded, frames_behind}
 use Rattle.vb_device.specs.Calls.{SweepsBy}
-use Rattle.vb_guest.specs.Stands.{Stands, Ties, IsRunning}
-use Rattle.vb_guest.specs.Steps.{Steps, StepsFreeing, AreOut, AreLoose, Returns}
+use Rattle.vb_guest.specs.Stands.{Honest, Ties, IsRunning}
+use Rattle.vb_guest.specs.Steps.{StepsFreeing}
 use Rattle.vb_guest.specs.Replies.{swept_reply}
 use Rattle.vb_guest.proofs.Apart.{line_apart, above_apart}
 use Rattle.vb_guest.proofs.Discarding.{frames_freed}
@@ -36,7 +35,6 @@ use Rattle.vb_guest.proofs.PagesKept.{pages_discarded, page_undiscarded}
 use Rattle.vb_guest.proofs.Closing.{honest_refused, honest_performed, still_stands, guest_step}
 use Rattle.vb_guest.proofs.Closing.{ties_same}
 use Rattle.vb_guest.proofs.FinishStep.{handed_back, loose_none, not_among, behind_same}
-use Rattle.vb_guest.proofs.Freed.{freed_loose, steps_freed}
 
 either : (b : Bool) → (b ≡ true) ⊎ (b ≡ false)
 either true = inl refl
@@ -80,15 +78,15 @@ idle_guest g page down =
 
 sweep_refused : (m1 m2 : Pages) (p1 p2 : Part) (d : DriverState) (g : Guest) (page : ℕ)
     (why : Refusal) (result : Result Bool Refusal)
-    → SweepsBy page m1 m2 p1 p2 result → Stands m1 p1 d g → sweep_refusal page p1 ≡ Some why
+    → SweepsBy page m1 m2 p1 p2 result → Honest m1 p1 d g → sweep_refusal page p1 ≡ Some why
     → refusal_of g (Sweep page) ≡ Some why
-    → StepsFreeing (Stands m2 (handed_back p2) d) p2.loose g (Sweep page) (swept_reply result)
+    → StepsFreeing (Honest m2 (handed_back p2) d) p2.loose g (Sweep page) (swept_reply result)
 sweep_refused m1 m2 p1 p2 d g page why result did stands by_part by_model =
     let (answer, part, memory) = did.refused why by_part in
     let step = honest_refused g (Sweep page) why by_model in
     let same = ap handed_back part ∙ loose_none p1 stands.ties.parts.device.loose in
     let none : p2.loose ≡ [] = ap (λ (p : Part). p.loose) part ∙ stands.ties.parts.device.loose in
-    subst (λ r. StepsFreeing (Stands m2 (handed_back p2) d) p2.loose g (Sweep page) (swept_reply r))
+    subst (λ r. StepsFreeing (Honest m2 (handed_back p2) d) p2.loose g (Sweep page) (swept_reply r))
     (sym answer) (record {
       new = g;
       stands = still_stands m1 m2 p1 (handed_back p2) d d g (Sweep page) [] (Refused why) g stands
@@ -134,10 +132,10 @@ ballooned_free g page sound flag = elim (either (is_reserved (place_of g.places 
 
 sweep_done : (m1 m2 : Pages) (p1 p2 : Part) (d : DriverState) (g : Guest) (page : ℕ)
     (result : Result Bool Refusal)
-    → SweepsBy page m1 m2 p1 p2 result → Stands m1 p1 d g → IsRunning m1 p1 d g
+    → SweepsBy page m1 m2 p1 p2 result → Honest m1 p1 d g → IsRunning m1 p1 d g
     → sweep_refusal page p1 ≡ None → refusal_of g (Sweep page) ≡ None
     → is_ballooned g.ballooned page ≡ true
-    → StepsFreeing (Stands m2 (handed_back p2) d) p2.loose g (Sweep page) (swept_reply result)
+    → StepsFreeing (Honest m2 (handed_back p2) d) p2.loose g (Sweep page) (swept_reply result)
 sweep_done m1 m2 p1 p2 d g page result did stands run by_part by_model flag =
     let ties = stands.ties in
     let n = g.config.pages in
@@ -174,7 +172,7 @@ sweep_done m1 m2 p1 p2 d g page result did stands run by_part by_model flag =
     let behind : frames_behind m1 one
     ≡ flat_map (λ page. option_to_list (frame_of g.frames page)) one =
     behind_same m1 g.frames one ties.pages.behind in
-    subst (λ x. StepsFreeing (Stands m2 (handed_back p2) d) p2.loose g (Sweep page) (swept_reply x))
+    subst (λ x. StepsFreeing (Honest m2 (handed_back p2) d) p2.loose g (Sweep page) (swept_reply x))
     (sym (did.answer by_part)) (record {
       new = new;
       stands = still_stands m1 m2 p1 (handed_back p2) d d g (Sweep page) [] reply new stands step
@@ -191,8 +189,8 @@ sweep_done m1 m2 p1 p2 d g page result did stands run by_part by_model flag =
 
 pub sweep_step : (m1 m2 : Pages) (p1 p2 : Part) (d : DriverState) (g : Guest) (page : ℕ)
     (result : Result Bool Refusal)
-    → SweepsBy page m1 m2 p1 p2 result → Stands m1 p1 d g
-    → StepsFreeing (Stands m2 (handed_back p2) d) p2.loose g (Sweep page) (swept_reply result)
+    → SweepsBy page m1 m2 p1 p2 result → Honest m1 p1 d g
+    → StepsFreeing (Honest m2 (handed_back p2) d) p2.loose g (Sweep page) (swept_reply result)
 sweep_step m1 m2 p1 p2 d g page result did stands =
     elim stands.ties.queues [
       | inl idle ↦
@@ -213,27 +211,3 @@ sweep_step m1 m2 p1 p2 d g page result did stands =
                 (device ∙ ap sweep_test not_there) (model ∙ ap sweep_test not_there)
           ]
     ]
-
--- ---- in the words of the slot's clauses
-
-pub sweep_own : (m1 m2 : Pages) (p1 p2 : Part) (d : DriverState) (g : Guest) (page : ℕ)
-    (result : Result Bool Refusal) → SweepsBy page m1 m2 p1 p2 result → Stands m1 p1 d g
-    → p2.own ≡ []
-sweep_own m1 m2 p1 p2 d g page result did stands =
-    (sweep_step m1 m2 p1 p2 d g page result did stands).stands.ties.parts.device.own
-
-pub sweep_loose : (m1 m2 : Pages) (p1 p2 : Part) (d : DriverState) (g : Guest) (page : ℕ)
-    (result : Result Bool Refusal) (out : List Bool) → SweepsBy page m1 m2 p1 p2 result
-    → Stands m1 p1 d g → AreOut g out → AreLoose p2.loose out
-sweep_loose m1 m2 p1 p2 d g page result out did stands held =
-    freed_loose _ p2.loose g (Sweep page) (swept_reply result) out
-    (sweep_step m1 m2 p1 p2 d g page result did stands) held
-
-pub sweep_freed : (Answers : List Bool → Claim → Type 0) (m1 m2 m3 : Pages) (p1 p2 p3 : Part)
-    (d : DriverState) (g : Guest) (page : ℕ) (result : Result Bool Refusal) (out1 out2 : List Bool)
-    → SweepsBy page m1 m2 p1 p2 result → Stands m1 p1 d g → m3 ≡ m2 → p3 ≡ handed_back p2
-    → Returns p2.loose out1 out2 → length out2 ≡ length out1
-    → Steps (Stands m3 p3 d) Answers out1 out2 g (Sweep page) (swept_reply result)
-sweep_freed Answers m1 m2 m3 p1 p2 p3 d g page result out1 out2 did stands memory part back same =
-    steps_freed Answers m2 m3 p2 p3 d g (Sweep page) (swept_reply result) out1 out2
-    (sweep_step m1 m2 p1 p2 d g page result did stands) memory part back same

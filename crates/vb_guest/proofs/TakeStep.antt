@@ -5,7 +5,6 @@ use Rattle.std.proofs.Common.{sym, ◌∙◌, ap, subst, arith, inl, inr}
 use Rattle.vb_model.specs.declared.calls.Call.TheVariants.{Take}
 use Rattle.vb_model.specs.declared.replies.Refusal.{Refusal}
 use Rattle.vb_model.specs.declared.replies.Refusal.TheVariants.{NoQueue, NotReady, Busy}
-use Rattle.vb_model.specs.declared.replies.Reply.{Reply}
 use Rattle.vb_model.specs.declared.replies.Reply.TheVariants.{Taken, Empty}
 use Rattle.vb_model.specs.Layout.{ring_page, buffers_page}
 use Rattle.vb_model.specs.Requests.{Request, Requests, Inflating, Deflating}
@@ -27,7 +26,7 @@ use Rattle.vb_device.specs.Conditions.{take_refusal}
 use Rattle.vb_device.specs.Queues.{queue_part}
 use Rattle.vb_device.specs.Calls.{TakesBy, taking}
 use Rattle.vb_guest.specs.Line.{Line, IsRequest, heads_of}
-use Rattle.vb_guest.specs.Stands.{Stands, Ties, IsRunning}
+use Rattle.vb_guest.specs.Stands.{Honest, Ties, IsRunning}
 use Rattle.vb_guest.specs.Steps.{StepsAlone}
 use Rattle.vb_guest.specs.Replies.{taken_reply}
 use Rattle.vb_guest.proofs.Heads.{get_after, none_after}
@@ -45,12 +44,12 @@ either false = inr refl
 -- what a refused take replies
 pub take_refused : (m1 m2 : Pages) (p1 p2 : Part) (d : DriverState) (g : Guest) (q : ℕ)
     (why : Refusal) (result : Result (Option ℕ) Refusal)
-    → TakesBy q m1 m2 p1 p2 result → Stands m1 p1 d g → take_refusal q p1 ≡ Some why
+    → TakesBy q m1 m2 p1 p2 result → Honest m1 p1 d g → take_refusal q p1 ≡ Some why
     → refusal_of g (Take q) ≡ Some why
-    → StepsAlone (Stands m2 p2 d) g (Take q) (taken_reply result)
+    → StepsAlone (Honest m2 p2 d) g (Take q) (taken_reply result)
 take_refused m1 m2 p1 p2 d g q why result did stands by_part by_model =
     let (answer, part) = did.refused why by_part in
-    subst (λ r. StepsAlone (Stands m2 p2 d) g (Take q) (taken_reply r)) (sym answer)
+    subst (λ r. StepsAlone (Honest m2 p2 d) g (Take q) (taken_reply r)) (sym answer)
     (refused_alone m1 m2 p1 p2 d d g (Take q) why stands by_model did.memory part refl)
 
 -- the layout by the part's size is that of the driver's side
@@ -105,9 +104,9 @@ free_is taken e = ap (λ (b : Bool). first_refusal ((b ⇒ Busy) ∷ [])) e
 
 inflate_posted : (m1 m2 : Pages) (p1 p2 : Part) (d : DriverState) (g : Guest)
     (posted : List Request) (result : Result (Option ℕ) Refusal)
-    → g.inflate.posted ≡ posted → TakesBy 0 m1 m2 p1 p2 result → Stands m1 p1 d g
+    → g.inflate.posted ≡ posted → TakesBy 0 m1 m2 p1 p2 result → Honest m1 p1 d g
     → IsRunning m1 p1 d g → take_refusal 0 p1 ≡ None → refusal_of g (Take 0) ≡ None
-    → StepsAlone (Stands m2 p2 d) g (Take 0) (taken_reply result)
+    → StepsAlone (Honest m2 p2 d) g (Take 0) (taken_reply result)
 inflate_posted m1 m2 p1 p2 d g [] result is did stands run free_part free =
     let L : List Request → Type 0 =
     λ l. Line m1 0 g.config.pages d.inflate p1.inflate (record g.inflate { posted = l }) in
@@ -116,7 +115,7 @@ inflate_posted m1 m2 p1 p2 d g [] result is did stands run free_part free =
     (subst L is run.inflate) in
     let T : List Request → Type 0 = λ l. Takes Inflating l g Empty g in
     let step = honest_performed g (Take 0) [] Empty g free (refl, subst T (sym is) (refl, refl)) in
-    subst (λ r. StepsAlone (Stands m2 p2 d) g (Take 0) (taken_reply r)) (sym answer)
+    subst (λ r. StepsAlone (Honest m2 p2 d) g (Take 0) (taken_reply r)) (sym answer)
     (steps_alone m1 m2 p1 p2 d d g (Take 0) Empty g stands step
     (ties_same m1 m2 p1 p2 d d g did.memory part refl stands.ties) refl)
 inflate_posted m1 m2 p1 p2 d g (r ∷ rest) result is did stands run free_part free =
@@ -149,14 +148,14 @@ inflate_posted m1 m2 p1 p2 d g (r ∷ rest) result is did stands run free_part f
         deflate = run.deflate;
       });
     } in
-    subst (λ x. StepsAlone (Stands m2 p2 d) g (Take 0) (taken_reply x)) (sym answer)
+    subst (λ x. StepsAlone (Honest m2 p2 d) g (Take 0) (taken_reply x)) (sym answer)
     (steps_alone m1 m2 p1 p2 d d g (Take 0) (Taken r.head) new stands step
     (ties_same m1 m2 after p2 d d new did.memory part refl ties) refl)
 
 inflate_take : (m1 m2 : Pages) (p1 p2 : Part) (d : DriverState) (g : Guest)
     (result : Result (Option ℕ) Refusal)
-    → TakesBy 0 m1 m2 p1 p2 result → Stands m1 p1 d g
-    → StepsAlone (Stands m2 p2 d) g (Take 0) (taken_reply result)
+    → TakesBy 0 m1 m2 p1 p2 result → Honest m1 p1 d g
+    → StepsAlone (Honest m2 p2 d) g (Take 0) (taken_reply result)
 inflate_take m1 m2 p1 p2 d g result did stands =
     elim stands.ties.queues [
       | inl idle ↦
@@ -180,9 +179,9 @@ inflate_take m1 m2 p1 p2 d g result did stands =
 
 deflate_posted : (m1 m2 : Pages) (p1 p2 : Part) (d : DriverState) (g : Guest)
     (posted : List Request) (result : Result (Option ℕ) Refusal)
-    → g.deflate.posted ≡ posted → TakesBy 1 m1 m2 p1 p2 result → Stands m1 p1 d g
+    → g.deflate.posted ≡ posted → TakesBy 1 m1 m2 p1 p2 result → Honest m1 p1 d g
     → IsRunning m1 p1 d g → take_refusal 1 p1 ≡ None → refusal_of g (Take 1) ≡ None
-    → StepsAlone (Stands m2 p2 d) g (Take 1) (taken_reply result)
+    → StepsAlone (Honest m2 p2 d) g (Take 1) (taken_reply result)
 deflate_posted m1 m2 p1 p2 d g [] result is did stands run free_part free =
     let L : List Request → Type 0 =
     λ l. Line m1 1 g.config.pages d.deflate p1.deflate (record g.deflate { posted = l }) in
@@ -191,7 +190,7 @@ deflate_posted m1 m2 p1 p2 d g [] result is did stands run free_part free =
     (subst L is run.deflate) in
     let T : List Request → Type 0 = λ l. Takes Deflating l g Empty g in
     let step = honest_performed g (Take 1) [] Empty g free (refl, subst T (sym is) (refl, refl)) in
-    subst (λ r. StepsAlone (Stands m2 p2 d) g (Take 1) (taken_reply r)) (sym answer)
+    subst (λ r. StepsAlone (Honest m2 p2 d) g (Take 1) (taken_reply r)) (sym answer)
     (steps_alone m1 m2 p1 p2 d d g (Take 1) Empty g stands step
     (ties_same m1 m2 p1 p2 d d g did.memory part refl stands.ties) refl)
 deflate_posted m1 m2 p1 p2 d g (r ∷ rest) result is did stands run free_part free =
@@ -224,14 +223,14 @@ deflate_posted m1 m2 p1 p2 d g (r ∷ rest) result is did stands run free_part f
         inflate = run.inflate;
       });
     } in
-    subst (λ x. StepsAlone (Stands m2 p2 d) g (Take 1) (taken_reply x)) (sym answer)
+    subst (λ x. StepsAlone (Honest m2 p2 d) g (Take 1) (taken_reply x)) (sym answer)
     (steps_alone m1 m2 p1 p2 d d g (Take 1) (Taken r.head) new stands step
     (ties_same m1 m2 after p2 d d new did.memory part refl ties) refl)
 
 deflate_take : (m1 m2 : Pages) (p1 p2 : Part) (d : DriverState) (g : Guest)
     (result : Result (Option ℕ) Refusal)
-    → TakesBy 1 m1 m2 p1 p2 result → Stands m1 p1 d g
-    → StepsAlone (Stands m2 p2 d) g (Take 1) (taken_reply result)
+    → TakesBy 1 m1 m2 p1 p2 result → Honest m1 p1 d g
+    → StepsAlone (Honest m2 p2 d) g (Take 1) (taken_reply result)
 deflate_take m1 m2 p1 p2 d g result did stands =
     elim stands.ties.queues [
       | inl idle ↦
@@ -253,11 +252,11 @@ deflate_take m1 m2 p1 p2 d g result did stands =
 
 pub take_step : (m1 m2 : Pages) (p1 p2 : Part) (d : DriverState) (g : Guest) (q : ℕ)
     (result : Result (Option ℕ) Refusal)
-    → TakesBy q m1 m2 p1 p2 result → Stands m1 p1 d g
-    → StepsAlone (Stands m2 p2 d) g (Take q) (taken_reply result)
+    → TakesBy q m1 m2 p1 p2 result → Honest m1 p1 d g
+    → StepsAlone (Honest m2 p2 d) g (Take q) (taken_reply result)
 take_step m1 m2 p1 p2 d g q result did stands =
     let B : ℕ → Type 0 = λ k. TakesBy k m1 m2 p1 p2 result in
-    let S : ℕ → Type 0 = λ k. StepsAlone (Stands m2 p2 d) g (Take k) (taken_reply result) in
+    let S : ℕ → Type 0 = λ k. StepsAlone (Honest m2 p2 d) g (Take k) (taken_reply result) in
     elim (queue_cases q) [
       | inl first ↦ subst S (sym first)
           (inflate_take m1 m2 p1 p2 d g result (subst B first did) stands)

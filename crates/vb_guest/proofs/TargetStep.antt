@@ -7,14 +7,14 @@ use Rattle.vb_model.specs.Guest.{Guest}
 use Rattle.vb_ram.specs.Pages.{Pages}
 use Rattle.vb_ram.specs.Part.{Part}
 use Rattle.vb_driver.specs.State.{DriverState}
-use Rattle.vb_guest.specs.Stands.{Stands, Ties}
+use Rattle.vb_guest.specs.Stands.{Honest, Ties}
 use Rattle.vb_guest.specs.Steps.{StepsAlone}
 use Rattle.vb_guest.proofs.Closing.{honest_performed, steps_alone, ties_same}
 use Rattle.vb_guest.proofs.Writing.{idle_still}
 
 pub target_step : (m1 m2 : Pages) (p1 p2 : Part) (d : DriverState) (g : Guest) (n : ℕ) → m2 ≡ m1
-    → p2 ≡ record p1 { target = n } → Stands m1 p1 d g
-    → StepsAlone (Stands m2 p2 d) g (SetTarget n) Done
+    → p2 ≡ record p1 { target = n } → Honest m1 p1 d g
+    → StepsAlone (Honest m2 p2 d) g (SetTarget n) Done
 target_step m1 m2 p1 p2 d g n memory part stands =
     let ties = stands.ties in
     let new : Guest = record g { target = n } in
@@ -32,8 +32,6 @@ target_step m1 m2 p1 p2 d g n memory part stands =
           actual = ties.parts.device.actual;
           ballooned = ties.parts.device.ballooned;
           last = ties.parts.device.last;
-          keeps = ties.parts.device.keeps;
-          own = ties.parts.device.own;
           loose = ties.parts.device.loose;
         };
       };

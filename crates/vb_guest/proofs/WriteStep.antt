@@ -1,16 +1,16 @@
 -- The slot's write is a step of the guest.
 use Rattle.std.specs.Prelude.{◌≡◌, ℕ, ◌+◌, ◌<◌, ◌≤◌, Bool, true, false, not, if◌then◌else◌, List}
 use Rattle.std.specs.Prelude.{[], ◌∷◌, length, Option, Some, None, IsSome, is_none, Result, Err}
-use Rattle.std.specs.Prelude.{IsOk, slice_set, refl, ◌⊎◌}
+use Rattle.std.specs.Prelude.{IsOk, refl, ◌⊎◌}
 use Rattle.std.proofs.Common.{sym, ◌∙◌, ap, subst, arith, inl, inr}
 use Rattle.std.proofs.lemmas.Bool.{cases_lt}
-use Rattle.std.proofs.lemmas.List.{length-set}
 use Rattle.std.proofs.lemmas.Bool.Decides.{nat_tests}
 use Rattle.vb_model.specs.declared.calls.Call.TheVariants.{Write}
 use Rattle.vb_model.specs.declared.calls.Claim.{Claim}
 use Rattle.vb_model.specs.declared.calls.Claim.TheVariants.{Gave, GaveNoFrame, GaveNoMemory}
 use Rattle.vb_model.specs.declared.replies.Refusal.{Refusal}
-use Rattle.vb_model.specs.declared.replies.Refusal.TheVariants.{NotHeld, OutOfRam, NoFrame}
+use Rattle.vb_model.specs.declared.replies.Refusal.TheVariants.{NotHeld, OutOfRam}
+use Rattle.vb_model.specs.declared.replies.Refusal.TheVariants.{NoFrame as NoFrameLeft}
 use Rattle.vb_model.specs.declared.replies.Refusal.TheVariants.{NoMemory}
 use Rattle.vb_model.specs.declared.replies.Reply.TheVariants.{Done, Refused}
 use Rattle.vb_model.specs.Pages.{place_of, is_used}
@@ -23,13 +23,23 @@ use Rattle.vb_ram.specs.Pages.{Pages, frame_at, Covers, Wrote, Supplied}
 use Rattle.vb_model.specs.Step.{HonestStep}
 use Rattle.vb_ram.specs.Part.{Part}
 use Rattle.vb_driver.specs.State.{DriverState}
-use Rattle.vb_frames.specs.Out.{IsFree}
-use Rattle.vb_guest.specs.Stands.{Stands, Ties}
-use Rattle.vb_guest.specs.Steps.{Steps, StepsAlone}
+use Rattle.vb_model.specs.Orderly.{times}
+use Rattle.vb_frames.specs.declared.keeper.Refused.{Refused as KeeperRefused}
+use Rattle.vb_frames.specs.declared.keeper.Refused.TheVariants.{NoFrame, Memory}
+use Rattle.vb_frames.specs.Out.{claim_in}
+use Rattle.vb_guest.specs.Stands.{Honest, Ties}
+use Rattle.vb_guest.specs.Steps.{backing_count, StepsAlone, StepsOver}
+use Rattle.vb_guest.specs.Supply.{supply_of, IsClaimed, Moves, nothing}
 use Rattle.vb_guest.proofs.Closing.{first_holds, honest_performed, guest_step, still_stands}
-use Rattle.vb_guest.proofs.Closing.{steps_alone, refused_alone, ties_same}
+use Rattle.vb_guest.proofs.Closing.{steps_alone, refused_alone, honest_own}
 use Rattle.vb_guest.proofs.Writing.{at_page, used_high, pages_wrote, pages_supplied, running_apart}
-use Rattle.vb_guest.proofs.Writing.{idle_still, count_backed, out_more}
+use Rattle.vb_guest.proofs.Writing.{idle_still, count_backed}
+use Rattle.vb_guest.proofs.Moving.{moves_as, times_one}
+
+-- how a refused claim is replied
+abbrev pub refusal_of_claim : KeeperRefused → Refusal
+refusal_of_claim NoFrame = NoFrameLeft
+refusal_of_claim Memory = NoMemory
 
 either : (b : Bool) → (b ≡ true) ⊎ (b ≡ false)
 either true = inl refl
@@ -51,8 +61,8 @@ not_held b e = ap not e
 
 -- a page that isn't used
 pub write_not_held : (m : Pages) (p : Part) (d : DriverState) (g : Guest) (page off : ℕ)
-    (bs : List ℕ) → is_used (place_of d.places page) ≡ false → Stands m p d g
-    → StepsAlone (Stands m p d) g (Write page off bs) (Refused NotHeld)
+    (bs : List ℕ) → is_used (place_of d.places page) ≡ false → Honest m p d g
+    → StepsAlone (Honest m p d) g (Write page off bs) (Refused NotHeld)
 write_not_held m p d g page off bs free stands =
     let unused : is_used (place_of g.places page) ≡ false =
     ap (λ l. is_used (place_of l page)) (sym stands.ties.parts.driver.places) ∙ free in
@@ -69,9 +79,9 @@ write_tests g page off bs used =
     ((not b ⇒ NotHeld) ∷ (is_outside g page off (length bs) ⇒ OutOfRam) ∷ [])) used
 
 pub write_outside : (m1 m2 : Pages) (p1 p2 : Part) (d : DriverState) (g : Guest) (page off : ℕ)
-    (bs : List ℕ) → is_used (place_of d.places page) ≡ true → Stands m1 p1 d g → m2 ≡ m1 → p2 ≡ p1
+    (bs : List ℕ) → is_used (place_of d.places page) ≡ true → Honest m1 p1 d g → m2 ≡ m1 → p2 ≡ p1
     → (Covers m1 page off (length bs) → ⊥)
-    → StepsAlone (Stands m2 p2 d) g (Write page off bs) (Refused OutOfRam)
+    → StepsAlone (Honest m2 p2 d) g (Write page off bs) (Refused OutOfRam)
 write_outside m1 m2 p1 p2 d g page off bs used stands m p out =
     let held : is_used (place_of g.places page) ≡ true =
     ap (λ l. is_used (place_of l page)) (sym stands.ties.parts.driver.places) ∙ used in
@@ -118,10 +128,10 @@ written_ties m1 m2 p1 p2 d g page off bs high covers ties wrote part =
     subst (λ p. Ties m2 p d new) (sym part) there
 
 pub write_backed : (m1 m2 : Pages) (p1 p2 : Part) (d : DriverState) (g : Guest) (page off : ℕ)
-    (bs : List ℕ) → is_used (place_of d.places page) ≡ true → Stands m1 p1 d g
+    (bs : List ℕ) → is_used (place_of d.places page) ≡ true → Honest m1 p1 d g
     → Covers m1 page off (length bs) → (0 < length bs → frame_at m1 page ≡ None → ⊥)
     → Wrote m1 m2 page off bs → p2 ≡ p1
-    → StepsAlone (Stands m2 p2 d) g (Write page off bs) Done
+    → StepsAlone (Honest m2 p2 d) g (Write page off bs) Done
 write_backed m1 m2 p1 p2 d g page off bs used stands covers never wrote part =
     let held : is_used (place_of g.places page) ≡ true =
     ap (λ l. is_used (place_of l page)) (sym stands.ties.parts.driver.places) ∙ used in
@@ -150,47 +160,15 @@ write_backed m1 m2 p1 p2 d g page off bs used stands covers never wrote part =
     need None is behind never (inr none) = needs_empty g page bs (omega arith)
 
 -- a claim that was refused
-pub write_unsupplied : (Answers : List Bool → Claim → Type 0) (out : List Bool) (m1 m2 : Pages)
-    (p1 p2 : Part) (d : DriverState) (g : Guest) (page off : ℕ) (bs : List ℕ) (claim : Claim)
-    (why : Refusal)
-    → ((claim ≡ GaveNoFrame) × (why ≡ NoFrame)) ⊎ ((claim ≡ GaveNoMemory) × (why ≡ NoMemory))
-    → Answers out claim
-    → is_used (place_of d.places page) ≡ true → Stands m1 p1 d g → Covers m1 page off (length bs)
-    → 0 < length bs → frame_at m1 page ≡ None → m2 ≡ m1 → p2 ≡ p1
-    → Steps (Stands m2 p2 d) Answers out out g (Write page off bs) (Refused why)
-write_unsupplied Answers out m1 m2 p1 p2 d g page off bs claim why said answer used stands covers
-    some bare m p =
-    elim said [
-      | inl said_so ↦
-          let E : Claim → Refusal → Type 0 = λ c w. Answers out c
-          → Steps (Stands m2 p2 d) Answers out out g (Write page off bs) (Refused w) in
-          subst (λ w. E claim w) (sym said_so.1)
-          (subst (λ c. E c NoFrame) (sym said_so.0) (λ a. record {
-            claims = GaveNoFrame ∷ [];
-            new = g;
-            stands = same GaveNoFrame NoFrame (refused GaveNoFrame NoFrame (refl, (refl, refl)));
-            step = guest_step g (Write page off bs) _ _ g stands.ties.parts.guest.honest
-                (refused GaveNoFrame NoFrame (refl, (refl, refl)));
-            answered = (a, refl);
-            balance = λ n. refl;
-            count = refl;
-          })) answer
-      | inr said_so ↦
-          let E : Claim → Refusal → Type 0 = λ c w. Answers out c
-          → Steps (Stands m2 p2 d) Answers out out g (Write page off bs) (Refused w) in
-          subst (λ w. E claim w) (sym said_so.1)
-          (subst (λ c. E c NoMemory) (sym said_so.0) (λ a. record {
-            claims = GaveNoMemory ∷ [];
-            new = g;
-            stands = same GaveNoMemory NoMemory
-                (refused GaveNoMemory NoMemory (refl, (refl, refl)));
-            step = guest_step g (Write page off bs) _ _ g stands.ties.parts.guest.honest
-                (refused GaveNoMemory NoMemory (refl, (refl, refl)));
-            answered = (a, refl);
-            balance = λ n. refl;
-            count = refl;
-          })) answer
-    ]
+pub write_unsupplied : (Answers : List Bool → Claim → Type 0) (out1 out2 : List Bool)
+    (m1 m2 : Pages) (p1 p2 : Part) (d : DriverState) (g : Guest) (page off : ℕ) (bs : List ℕ)
+    (why : KeeperRefused) → IsClaimed Answers (supply_of p1 out1) (supply_of p2 out2) (claim_in (Err why))
+    → is_used (place_of d.places page) ≡ true → Honest m1 p1 d g → Covers m1 page off (length bs)
+    → 0 < length bs → frame_at m1 page ≡ None → m2 ≡ m1 → p2 ≡ record p1 { own = p2.own }
+    → StepsOver (Honest m2 p2 d) Answers (supply_of p1 out1) (supply_of p2 out2)
+    (claim_in (Err why) ∷ []) g (Write page off bs) (Refused (refusal_of_claim why))
+write_unsupplied Answers out1 out2 m1 m2 p1 p2 d g page off bs why answer used stands covers some
+    bare m p = by why answer
   where
     held : is_used (place_of g.places page) ≡ true
     held = ap (λ l. is_used (place_of l page)) (sym stands.ties.parts.driver.places) ∙ used
@@ -214,21 +192,46 @@ write_unsupplied Answers out m1 m2 p1 p2 d g page off bs claim why said answer u
         honest_performed g (Write page off bs) (c ∷ []) (Refused w) g free
         (subst W (sym needs) does)
 
-    same : (c : Claim) (w : Refusal) → HonestStep g (Write page off bs) (c ∷ []) (Refused w) g
-        → Stands m2 p2 d g
-    same c w step = still_stands m1 m2 p1 p2 d d g (Write page off bs) (c ∷ []) (Refused w) g stands
-        step (ties_same m1 m2 p1 p2 d d g m p refl stands.ties)
+    same : Honest m2 p2 d g
+    same = honest_own m1 m2 p1 p2 d g m p stands
+
+    by : (w : KeeperRefused) → IsClaimed Answers (supply_of p1 out1) (supply_of p2 out2) (claim_in (Err w))
+        → StepsOver (Honest m2 p2 d) Answers (supply_of p1 out1) (supply_of p2 out2)
+        (claim_in (Err w) ∷ []) g (Write page off bs) (Refused (refusal_of_claim w))
+    by NoFrame a = record {
+      new = g;
+      stands = same;
+      step = guest_step g (Write page off bs) _ _ g stands.ties.parts.guest.honest
+          (refused GaveNoFrame NoFrameLeft (refl, (refl, refl)));
+      answered = (supply_of p2 out2, a, refl);
+      moves = moves_as (supply_of p1 out1) (supply_of p2 out2) nothing nothing
+          (λ n. backing_count n g) (λ n. backing_count n g) a.moves (λ n. omega arith);
+    }
+    by Memory a = record {
+      new = g;
+      stands = same;
+      step = guest_step g (Write page off bs) _ _ g stands.ties.parts.guest.honest
+          (refused GaveNoMemory NoMemory (refl, (refl, refl)));
+      answered = (supply_of p2 out2, a, refl);
+      moves = moves_as (supply_of p1 out1) (supply_of p2 out2) nothing nothing
+          (λ n. backing_count n g) (λ n. backing_count n g) a.moves (λ n. omega arith);
+    }
 
 -- a page that got a frame, and then was written
-pub write_supplied : (Answers : List Bool → Claim → Type 0) (out : List Bool) (m1 m2 m3 : Pages)
-    (p1 p2 : Part) (d : DriverState) (g : Guest) (page off frame : ℕ) (bs : List ℕ)
-    → Answers out (Gave frame) → IsFree out frame → is_used (place_of d.places page) ≡ true
-    → Stands m1 p1 d g → Covers m1 page off (length bs) → 0 < length bs
-    → frame_at m1 page ≡ None
-    → Supplied m1 m2 page frame → Wrote m2 m3 page off bs → p2 ≡ p1
-    → Steps (Stands m3 p2 d) Answers out (slice_set out frame true) g (Write page off bs) Done
-write_supplied Answers out m1 m2 m3 p1 p2 d g page off frame bs answer fresh used stands covers some
-    bare supplied wrote part =
+pub write_supplied : (Answers : List Bool → Claim → Type 0) (out1 out2 : List Bool)
+    (m1 m2 m3 m4 : Pages) (p1 p2 p3 p4 : Part) (d : DriverState) (g : Guest)
+    (page off frame : ℕ) (bs : List ℕ)
+    → IsClaimed Answers (supply_of p1 out1) (supply_of p2 out2) (Gave frame)
+    → is_used (place_of d.places page) ≡ true
+    → Honest m1 p1 d g → Covers m1 page off (length bs) → 0 < length bs
+    → frame_at m1 page ≡ None → m2 ≡ m1
+    → Supplied m2 m3 page frame → Wrote m3 m4 page off bs → p2 ≡ record p1 { own = p2.own }
+    → p3 ≡ p2 → p4 ≡ p3
+    → StepsOver (Honest m4 p4 d) Answers (supply_of p1 out1) (supply_of p4 out2) (Gave frame ∷ []) g
+    (Write page off bs) Done
+write_supplied Answers out1 out2 m1 m2 m3 m4 p1 p2 p3 p4 d g page off frame bs answer used stands
+    covers some bare same now wrote pa pb pc =
+    let supplied : Supplied m1 m3 page frame = subst (λ m. Supplied m m3 page frame) same now in
     let held : is_used (place_of g.places page) ≡ true =
     ap (λ l. is_used (place_of l page)) (sym stands.ties.parts.driver.places) ∙ used in
     let lt : page < g.config.pages = omega (arith, covers.page, stands.ties.pages.length_is) in
@@ -241,13 +244,13 @@ write_supplied Answers out m1 m2 m3 p1 p2 d g page off frame bs answer fresh use
     let needs : pages_needed page bs g ≡ page ∷ [] = needs_one g page bs some bare_too in
     let after : Guest = record g { frames = backed page frame g.frames } in
     let new : Guest = record after { contents = at_page page (overwritten off bs) g.contents } in
-    let mid : Ties m2 p1 d after = record {
+    let mid : Ties m3 p1 d after = record {
       parts = stands.ties.parts;
-      pages = pages_supplied m1 m2 g.config.pages page frame g.frames g.contents lt bare
+      pages = pages_supplied m1 m3 g.config.pages page frame g.frames g.contents lt bare
           stands.ties.pages supplied;
       queues = elim stands.ties.queues [
         | inl idle ↦ inl (idle_still g after refl refl refl refl refl refl refl idle)
-        | inr run ↦ inr (running_apart m1 m2 p1 d g after (λ p low. supplied.others p (omega arith))
+        | inr run ↦ inr (running_apart m1 m3 p1 d g after (λ p low. supplied.others p (omega arith))
             refl refl refl refl run)
       ];
     } in
@@ -256,64 +259,29 @@ write_supplied Answers out m1 m2 m3 p1 p2 d g page off frame bs answer fresh use
     (λ supplied. Written page off bs supplied Done new) in
     let step = honest_performed g (Write page off bs) (Gave frame ∷ []) Done new free
     (subst W (sym needs) (tt, (refl, refl))) in
-    let covers2 : Covers m2 page off (length bs) =
+    let covers2 : Covers m3 page off (length bs) =
     record { page = omega (arith, covers.page, supplied.count); bytes = covers.bytes } in
+    let written = still_stands m1 m4 p1 p1 d d g (Write page off bs) (Gave frame ∷ []) Done new stands
+    step (written_ties m3 m4 p1 p1 d after page off bs high covers2 mid wrote refl) in
+    let part = pc ∙ pb in
+    let own = ap (λ (p : Part). p.own) part in
     record {
-      claims = Gave frame ∷ [];
       new = new;
-      stands = still_stands m1 m3 p1 p2 d d g (Write page off bs) (Gave frame ∷ []) Done new stands
-          step (written_ties m2 m3 p1 p2 d after page off bs high covers2 mid wrote part);
+      stands = honest_own m4 m4 p1 p4 d new refl
+          (part ∙ pa ∙ ap (λ (l : List ℕ). record p1 { own = l }) (sym own)) written;
       step = guest_step g (Write page off bs) (Gave frame ∷ []) Done new
           stands.ties.parts.guest.honest step;
-      answered = (answer, fresh, tt);
-      balance = λ n. omega (
-        arith,
-        count_backed n page frame g.frames (omega (arith, stands.ties.pages.framed)) bare_too,
-        out_more out n frame fresh.within fresh.free,
-      );
-      count = length-set out frame true;
+      answered = (supply_of p2 out2, answer, tt);
+      moves = moves_as (supply_of p1 out1) (supply_of p4 out2) (λ n. times n (frame ∷ [])) nothing
+          (λ n. backing_count n new) (λ n. backing_count n g)
+          (subst (λ p. Moves (supply_of p1 out1) (supply_of p out2) (λ n. times n (frame ∷ []))
+          nothing) (sym part) answer.moves)
+          (λ n. omega (
+            arith,
+            count_backed n page frame g.frames (omega (arith, stands.ties.pages.framed)) bare_too,
+            times_one n frame,
+          ));
     }
-
-pub write_no_frame : (Answers : List Bool → Claim → Type 0) (out1 out2 : List Bool) (m1 m2 : Pages)
-    (p1 p2 : Part) (d : DriverState) (g : Guest) (page off : ℕ) (bs : List ℕ) → out2 ≡ out1
-    → Answers out1 GaveNoFrame
-    → is_used (place_of d.places page) ≡ true → Stands m1 p1 d g → Covers m1 page off (length bs)
-    → 0 < length bs → frame_at m1 page ≡ None → m2 ≡ m1 → p2 ≡ p1
-    → Steps (Stands m2 p2 d) Answers out1 out2 g (Write page off bs) (Refused NoFrame)
-write_no_frame Answers out1 out2 m1 m2 p1 p2 d g page off bs same answer used stands covers some
-    bare m p =
-    subst (λ o. Steps (Stands m2 p2 d) Answers out1 o g (Write page off bs) (Refused NoFrame))
-    (sym same)
-    (write_unsupplied Answers out1 m1 m2 p1 p2 d g page off bs GaveNoFrame NoFrame
-    (inl (refl, refl)) answer used stands covers some bare m p)
-
-pub write_no_memory : (Answers : List Bool → Claim → Type 0) (out1 out2 : List Bool) (m1 m2 : Pages)
-    (p1 p2 : Part) (d : DriverState) (g : Guest) (page off : ℕ) (bs : List ℕ) → out2 ≡ out1
-    → Answers out1 GaveNoMemory
-    → is_used (place_of d.places page) ≡ true → Stands m1 p1 d g → Covers m1 page off (length bs)
-    → 0 < length bs → frame_at m1 page ≡ None → m2 ≡ m1 → p2 ≡ p1
-    → Steps (Stands m2 p2 d) Answers out1 out2 g (Write page off bs) (Refused NoMemory)
-write_no_memory Answers out1 out2 m1 m2 p1 p2 d g page off bs same answer used stands covers some
-    bare m p =
-    subst (λ o. Steps (Stands m2 p2 d) Answers out1 o g (Write page off bs) (Refused NoMemory))
-    (sym same)
-    (write_unsupplied Answers out1 m1 m2 p1 p2 d g page off bs GaveNoMemory NoMemory
-    (inr (refl, refl)) answer used stands covers some bare m p)
-
--- the frame was claimed, put behind the page, and the page written
-pub write_claimed : (Answers : List Bool → Claim → Type 0) (out1 out2 : List Bool)
-    (m1 m2 m3 m4 : Pages) (p1 p2 p3 p4 : Part) (d : DriverState) (g : Guest) (page off frame : ℕ)
-    (bs : List ℕ)
-    → IsFree out1 frame × (out2 ≡ slice_set out1 frame true) → Answers out1 (Gave frame)
-    → is_used (place_of d.places page) ≡ true → Stands m1 p1 d g → Covers m1 page off (length bs)
-    → 0 < length bs → frame_at m1 page ≡ None
-    → m2 ≡ m1 → Supplied m2 m3 page frame → Wrote m3 m4 page off bs → p2 ≡ p1 → p3 ≡ p2 → p4 ≡ p3
-    → Steps (Stands m4 p4 d) Answers out1 out2 g (Write page off bs) Done
-write_claimed Answers out1 out2 m1 m2 m3 m4 p1 p2 p3 p4 d g page off frame bs claimed answer used
-    stands covers some bare same supplied wrote pa pb pc =
-    subst (λ o. Steps (Stands m4 p4 d) Answers out1 o g (Write page off bs) Done) (sym claimed.1)
-    (write_supplied Answers out1 m1 m3 m4 p1 p4 d g page off frame bs answer claimed.0 used stands
-    covers some bare (subst (λ m. Supplied m m3 page frame) same supplied) wrote (pc ∙ pb ∙ pa))
 
 -- ---- what the memory answered
 

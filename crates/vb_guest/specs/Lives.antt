@@ -1,5 +1,5 @@
 -- How pages get frames before an initialisation (VIRTIO 1.1, 3.1.1).
-use Rattle.std.specs.Prelude.{◌≡◌, ℕ, ◌-◌, Bool, List, [], ◌∷◌, Option, Some, None, is_none, Result}
+use Rattle.std.specs.Prelude.{◌≡◌, ℕ, ◌-◌, Bool, List, [], ◌∷◌, ◌++◌, Option, Some, None, is_none, Result}
 use Rattle.std.specs.Prelude.{Ok, Err, OnOk, OnErr, filter}
 use Rattle.std.specs.List.{range_with_len}
 use Rattle.vb_model.specs.declared.calls.Claim.{Claim}
@@ -10,7 +10,8 @@ use Rattle.vb_model.specs.Driver.{given, claim_refusal, AreClaimsFor}
 use Rattle.vb_ram.specs.Pages.{Pages, frame_at, Supplied}
 use Rattle.vb_frames.specs.declared.keeper.Refused.{Refused}
 use Rattle.vb_frames.specs.declared.keeper.Refused.TheVariants.{NoFrame, Memory}
-use Rattle.vb_frames.specs.Out.{AllAnswered, after_claims}
+use Rattle.vb_model.specs.Orderly.{times}
+use Rattle.vb_guest.specs.Supply.{Supply, AreClaimed, Moves, nothing}
 
 -- The pages of rings and buffers from this one on that have no frame, in rising order.
 abbrev pub bare_from : Pages → ℕ → List ℕ
@@ -33,15 +34,18 @@ why_unsupplied (Ok x) = None
 why_unsupplied (Err NoFrame) = Some NoFrameLeft
 why_unsupplied (Err Memory) = Some NoMemory
 
--- One claim is made for each of these pages, up to the first that is refused: all get the frames
--- that were given, or none does, and the frames that were given go back.
-pub record SuppliesBy {T : Type 0} (Answers : List Bool → Claim → Type 0)
-    (old_out new_out : List Bool) (pages : List ℕ) (old new : Pages) (result : Result T Refused) :
+-- One claim is made for each of these pages, up to the first that is refused, and is noted behind
+-- those before: all get the frames that were given, or none does, and the frames that were given go
+-- back.
+pub record SuppliesBy {T : Type 0} (Answers : List Bool → Claim → Type 0) (s1 s2 : Supply)
+    (noted1 noted2 : List Claim) (pages : List ℕ) (old new : Pages) (result : Result T Refused) :
     Type 0 where
   pub claims : List Claim
+  pub noted : noted2 ≡ noted1 ++ claims
   pub made : AreClaimsFor pages claims
-  pub answered : AllAnswered Answers old_out claims
+  pub answered : AreClaimed Answers s1 claims
   pub answer : claim_refusal claims ≡ why_unsupplied result
   pub supplied : OnOk result
-      (AllSupplied pages (given claims) old new × (new_out ≡ after_claims old_out claims))
-  pub refused : OnErr result ((new ≡ old) × (new_out ≡ old_out))
+      (AllSupplied pages (given claims) old new
+      × Moves s1 s2 (λ n. times n (given claims)) nothing)
+  pub refused : OnErr result ((new ≡ old) × Moves s1 s2 nothing nothing)

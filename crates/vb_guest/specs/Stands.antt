@@ -3,6 +3,7 @@ use Rattle.std.specs.Prelude.{◌≡◌, ℕ, ◌<◌, ◌≤◌, Bool, false, t
 use Rattle.std.specs.Prelude.{replicate, slice_index_or, IsSome, ◌⊎◌}
 use Rattle.vb_model.specs.Limits.{is_config, page_size, reserved_pages, ring_and_buffer_pages}
 use Rattle.vb_model.specs.declared.places.Place.{Place}
+use Rattle.vb_model.specs.Tests.{one_if}
 use Rattle.vb_model.specs.Pages.{Block}
 use Rattle.vb_model.specs.Requests.{Requests, no_requests, Buffer, NoBuffer}
 use Rattle.vb_model.specs.Guest.{Guest, Config, LastStatistics, no_statistics, frame_of}
@@ -11,10 +12,11 @@ use Rattle.vb_model.specs.Orderly.{IsOrderly}
 use Rattle.vb_ram.specs.Pages.{Pages, frame_at, contents_at}
 use Rattle.vb_ram.specs.Part.{Part, no_queue}
 use Rattle.vb_driver.specs.State.{DriverState, fresh_side}
+use Rattle.vb_device.specs.Own.{has}
 use Rattle.vb_guest.specs.Line.{Line}
+use Rattle.vb_guest.specs.Steps.{backing_count}
 
--- ---- beside the queues: each record takes the guest's values one by one, so that it stays as it
--- is
+-- ---- beside the queues: each record takes the guest's values one by one, so that it stays as it is
 -- where none of these is changed
 
 -- The guest never scribbled; statistics and reports aren't there yet.
@@ -35,7 +37,7 @@ pub record DriverKeeps (d : DriverState) (c : Config) (at : List Place) (blocks 
   pub held : d.held ≡ blocks
   pub accepted : d.features ≡ bits
 
--- What the device keeps is the guest's. It has no frames of its own, and none is loose.
+-- What the device keeps is the guest's, and no frame is loose.
 pub record DeviceKeeps (part : Part) (c : Config) (state bits wanted given : ℕ) (flags : List Bool)
     (figures : LastStatistics) : Type 0 where
   pub size : part.queue_size ≡ c.queue_size
@@ -46,8 +48,6 @@ pub record DeviceKeeps (part : Part) (c : Config) (state bits wanted given : ℕ
   pub actual : part.actual ≡ given
   pub ballooned : part.ballooned ≡ flags
   pub last : part.last ≡ figures
-  pub keeps : part.keeps ≡ false
-  pub own : part.own ≡ []
   pub loose : part.loose ≡ []
 
 pub record HasParts (part : Part) (d : DriverState) (g : Guest) : Type 0 where
@@ -55,8 +55,10 @@ pub record HasParts (part : Part) (d : DriverState) (g : Guest) : Type 0 where
   pub driver : DriverKeeps d g.config g.places g.held g.features
   pub device : DeviceKeeps part g.config g.status g.features g.target g.actual g.ballooned g.last
 
+-- Of a device, what isn't in its queues and not among its own frames.
 abbrev pub beside_queues : Part → Part
-beside_queues part = record part { inflate = no_queue; deflate = no_queue }
+beside_queues part = record part
+    { inflate = no_queue; deflate = no_queue; keeps = false; own = [] }
 
 -- Of a driver, what isn't in its page areas and in its queues.
 abbrev pub beside_sides : DriverState → DriverState
@@ -109,8 +111,27 @@ pub record Ties (mem : Pages) (part : Part) (d : DriverState) (g : Guest) : Type
   pub pages : HasPages mem g.config.pages g.frames g.contents
   pub queues : IsIdle g ⊎ IsRunning mem part d g
 
--- The driver, the device and its memory are those of this guest.
-pub record Stands (mem : Pages) (part : Part) (d : DriverState) (g : Guest) : Type 0 where
+-- The driver, the device and its memory are those of this honest guest.
+pub record Honest (mem : Pages) (part : Part) (d : DriverState) (g : Guest) : Type 0 where
   pub ties : Ties mem part d g
   pub consistent : IsConsistent g
   pub orderly : IsOrderly g
+
+-- The device says whether it keeps frames of its own. Where it does, those of them that are out are
+-- just those behind the guest's pages, each behind one page; else it has none.
+pub record OwnFrames (keeps : Bool) (part : Part) (g : Guest) : Type 0 where
+  pub flag : part.keeps ≡ keeps
+  pub none : keeps ≡ false → part.own ≡ []
+  pub each : keeps ≡ true → (n : ℕ) → backing_count n g ≡ one_if (has part.own n)
+
+-- By whether the guest is a rogue one: of those there are none yet.
+abbrev pub StandsBy : Bool → Pages → Part → DriverState → Guest → Type 0
+StandsBy false mem part d g = Honest mem part d g
+StandsBy true mem part d g = ⊥
+
+-- The driver, the device and its memory are those of this guest, and the device does, or doesn't, keep
+-- frames of its own.
+pub record Stands (keeps : Bool) (mem : Pages) (part : Part) (d : DriverState) (g : Guest) :
+    Type 0 where
+  pub guest : StandsBy g.rogue mem part d g
+  pub own : OwnFrames keeps part g

@@ -9,6 +9,7 @@ use Rattle.vb_model.specs.Guest.{Guest}
 use Rattle.vb_model.specs.Step.{GuestStep}
 use Rattle.vb_model.specs.Orderly.{times}
 use Rattle.vb_frames.specs.Out.{is_out, AllAnswered}
+use Rattle.vb_guest.specs.Supply.{Supply, AreClaimed, Moves}
 
 abbrev pub is_frame : ℕ → Option ℕ → Bool
 is_frame n None = false
@@ -22,8 +23,8 @@ backing_count n g = count_by (is_frame n) g.frames
 abbrev pub AreOut : Guest → List Bool → Type 0
 AreOut g out = (n : ℕ) → backing_count n g ≤ one_if (is_out out n)
 
--- A step of the guest: what the call's claims were answered, and the guest afterwards, for which
--- New holds. Frames that its pages gain are out then, and those that they lose aren't. The keeper
+-- A step of a guest whose device keeps no frames: what the call's claims were answered, and the guest
+-- afterwards, for which New holds. Frames that its pages gain are out then, and those that they lose aren't. The keeper
 -- has as many frames as before.
 pub record Steps (New : Guest → Type 0) (Answers : List Bool → Claim → Type 0)
     (old_out new_out : List Bool) (g : Guest) (call : Call) (reply : Reply) : Type 0 where
@@ -36,6 +37,18 @@ pub record Steps (New : Guest → Type 0) (Answers : List Bool → Claim → Typ
       → one_if (is_out new_out n) + backing_count n g
       ≡ one_if (is_out old_out n) + backing_count n new
   pub count : length new_out ≡ length old_out
+
+-- A step of the guest over its supply of frames: what the call's claims were answered, and the
+-- guest afterwards, for which New holds. Frames that its pages gain are out then, and those that they
+-- lose aren't.
+pub record StepsOver (New : Guest → Type 0) (Answers : List Bool → Claim → Type 0)
+    (old_supply new_supply : Supply) (claims : List Claim) (g : Guest) (call : Call)
+    (reply : Reply) : Type 0 where
+  pub new : Guest
+  pub stands : New new
+  pub step : GuestStep g call claims reply new
+  pub answered : AreClaimed Answers old_supply claims
+  pub moves : Moves old_supply new_supply (λ n. backing_count n new) (λ n. backing_count n g)
 
 -- A step that claims nothing, and of which no frame enters or leaves a page.
 pub record StepsAlone (New : Guest → Type 0) (g : Guest) (call : Call) (reply : Reply) :
@@ -52,11 +65,3 @@ pub record StepsFreeing (New : Guest → Type 0) (loose : List ℕ) (g : Guest) 
   pub stands : New new
   pub step : GuestStep g call [] reply new
   pub freed : (n : ℕ) → times n loose + backing_count n new ≡ backing_count n g
-
--- Each of these frames is out, and none stands here twice.
-abbrev pub AreLoose : List ℕ → List Bool → Type 0
-AreLoose loose out = (n : ℕ) → times n loose ≤ one_if (is_out out n)
-
--- They aren't out any more, and all others are as before.
-abbrev pub Returns : List ℕ → List Bool → List Bool → Type 0
-Returns loose old new = (n : ℕ) → one_if (is_out new n) + times n loose ≡ one_if (is_out old n)

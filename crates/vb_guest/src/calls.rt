@@ -1,14 +1,16 @@
 //! Calls on a guest and questions about it, told apart by their names.
 
-ghost use Rattle.std.specs.Prelude.{◌≡◌, true};
+ghost use Rattle.std.specs.Prelude.{◌≡◌, Bool, true, false};
 ghost use Rattle.vb_model.specs.Brought.{is_call_brought, is_query_brought};
 ghost use Rattle.vb_model.specs.Guest.{Guest};
 ghost use Rattle.vb_model.specs.World.{Answers};
 ghost use Rattle.vb_guest.specs.Stands.{Stands};
-ghost use Rattle.vb_guest.specs.Steps.{AreOut, Steps};
+ghost use Rattle.vb_guest.specs.Steps.{AreOut, StepsOver};
+ghost use Rattle.vb_guest.specs.Supply.{supply_of};
 
 use crate::device::{finish, set_target, sweep, take};
 use crate::driver::{deflate, free, inflate, oom, reap};
+use crate::frames::Claims;
 use crate::lives::init;
 use crate::memory::{read, write};
 use crate::queries::{balloon, pages_at, pages_ballooned, places};
@@ -23,24 +25,29 @@ use vb_frames::FrameKeeper;
 use vb_model::{Call, Query, Reply};
 
 /// Answers a call on the guest that the driver and the device stand for, which is a step of that
-/// guest. Frames that its pages gain are claimed from the keeper, and those that they lose are put
-/// back.
+/// guest. Frames that its pages gain are claimed from the device, where it keeps frames of its own, else
+/// from the keeper, and those that they lose go back there. Notes what the claims were answered.
 pub fn call<D: Device, K: FrameKeeper>(
     alloc: Global,
     driver: &mut Driver,
     device: &mut D,
     keeper: &mut K,
+    claims: &mut Claims,
     call: &Call,
 ) -> Reply
-    requires stands { (g : Guest) × Stands (D.mem device.old) (D.part device.old) driver.old g
-        × AreOut g (K.out keeper.old) }
+    requires stands { (keeps : Bool) × (g : Guest)
+        × Stands keeps (D.mem device.old) (D.part device.old) driver.old g
+        × (keeps ≡ false → AreOut g (K.out keeper.old)) }
     requires brought { is_call_brought call.now ≡ true }
-    ensures step { (g : Guest) → Stands (D.mem device.old) (D.part device.old) driver.old g
-        → Steps (Stands (D.mem device.new) (D.part device.new) driver.new) K.answers
-        (K.out keeper.old) (K.out keeper.new) g call.now result }
+    ensures step { (keeps : Bool) (g : Guest)
+        → Stands keeps (D.mem device.old) (D.part device.old) driver.old g
+        → StepsOver (Stands keeps (D.mem device.new) (D.part device.new) driver.new) K.answers
+        (supply_of (D.part device.old) (K.out keeper.old))
+        (supply_of (D.part device.new) (K.out keeper.new)) claims.new.items g call.now result }
 {
+    claims.clear();
     match call {
-        Call::Init { features } => ready_reply(init(driver, device, keeper, *features)),
+        Call::Init { features } => ready_reply(init(driver, device, keeper, claims, *features)),
         Call::Alloc { cpu, order } => page_reply(crate::driver::alloc(driver, *cpu, *order)),
         Call::Free { cpu, start, order } => done_reply(free(driver, *cpu, *start, *order)),
         Call::Read { page, offset, len } => {
@@ -50,7 +57,7 @@ pub fn call<D: Device, K: FrameKeeper>(
             page,
             offset,
             bytes,
-        } => done_reply(write(driver, device, keeper, *page, *offset, bytes)),
+        } => done_reply(write(driver, device, keeper, claims, *page, *offset, bytes)),
         Call::Inflate { pages } => posted_reply(inflate(driver, device, *pages)),
         Call::Deflate { pages } => posted_reply(deflate(driver, device, *pages)),
         Call::Oom { pages } => posted_reply(oom(driver, device, *pages)),
@@ -68,9 +75,11 @@ pub fn call<D: Device, K: FrameKeeper>(
 
 /// Answers a question about the guest that the driver and the device stand for.
 pub fn query<D: Device>(alloc: Global, driver: &Driver, device: &D, query: &Query) -> Reply
-    requires stands { (g : Guest) × Stands (D.mem device.now) (D.part device.now) driver.now g }
+    requires stands { (keeps : Bool) × (g : Guest)
+        × Stands keeps (D.mem device.now) (D.part device.now) driver.now g }
     requires brought { is_query_brought query.now ≡ true }
-    ensures answer { (g : Guest) → Stands (D.mem device.now) (D.part device.now) driver.now g
+    ensures answer { (keeps : Bool) (g : Guest)
+        → Stands keeps (D.mem device.now) (D.part device.now) driver.now g
         → Answers query.now g result }
 {
     match query {

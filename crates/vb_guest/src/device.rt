@@ -1,12 +1,13 @@
 //! What the host does to a guest's device.
 
-ghost use Rattle.std.specs.Prelude.{◌≡◌, ℕ};
+ghost use Rattle.std.specs.Prelude.{◌≡◌, Bool, ℕ, [], false};
 ghost use Rattle.vb_model.specs.declared.replies.Reply.TheVariants.{Done};
 ghost use Rattle.vb_model.specs.Guest.{Guest};
 ghost use Rattle.vb_driver.specs.State.{DriverState};
 ghost use Rattle.vb_guest.specs.Replies.{taken_reply, finished_reply, swept_reply};
 ghost use Rattle.vb_guest.specs.Stands.{Stands};
-ghost use Rattle.vb_guest.specs.Steps.{AreOut, Steps, StepsAlone};
+ghost use Rattle.vb_guest.specs.Steps.{AreOut, StepsAlone, StepsOver};
+ghost use Rattle.vb_guest.specs.Supply.{supply_of};
 
 use crate::frames::return_loose;
 use vb_device::Device;
@@ -16,8 +17,9 @@ use vb_model::{Call, Refusal};
 /// The device takes the next chain of a queue (VIRTIO 1.1, 2.6); answers its head, or none where
 /// no chain is available. Refused with `NoQueue`, `NotReady` and `Busy`, tested in this order.
 pub fn take<D: Device>(device: &mut D, queue: u32) -> Result<Option<u16>, Refusal>
-    ensures { (d : DriverState) (g : Guest) → Stands (D.mem device.old) (D.part device.old) d g
-        → StepsAlone (Stands (D.mem device.new) (D.part device.new) d) g (Call.Take queue)
+    ensures { (keeps : Bool) (d : DriverState) (g : Guest)
+        → Stands keeps (D.mem device.old) (D.part device.old) d g
+        → StepsAlone (Stands keeps (D.mem device.new) (D.part device.new) d) g (Call.Take queue)
         (taken_reply result) }
 {
     device.take(queue)
@@ -32,11 +34,15 @@ pub fn finish<D: Device, K: FrameKeeper>(
     queue: u32,
     index: u32,
 ) -> Result<u16, Refusal>
-    requires { (d : DriverState) × (g : Guest) × Stands (D.mem device.old) (D.part device.old) d g
-        × AreOut g (K.out keeper.old) }
-    ensures { (d : DriverState) (g : Guest) → Stands (D.mem device.old) (D.part device.old) d g
-        → Steps (Stands (D.mem device.new) (D.part device.new) d) K.answers (K.out keeper.old)
-        (K.out keeper.new) g (Call.Finish queue index) (finished_reply result) }
+    requires { (keeps : Bool) × (d : DriverState) × (g : Guest)
+        × Stands keeps (D.mem device.old) (D.part device.old) d g
+        × (keeps ≡ false → AreOut g (K.out keeper.old)) }
+    ensures { (keeps : Bool) (d : DriverState) (g : Guest)
+        → Stands keeps (D.mem device.old) (D.part device.old) d g
+        → StepsOver (Stands keeps (D.mem device.new) (D.part device.new) d) K.answers
+        (supply_of (D.part device.old) (K.out keeper.old))
+        (supply_of (D.part device.new) (K.out keeper.new)) [] g
+        (Call.Finish queue index) (finished_reply result) }
 {
     let answer = device.finish(queue, index);
     return_loose(device, keeper);
@@ -44,17 +50,21 @@ pub fn finish<D: Device, K: FrameKeeper>(
 }
 
 /// The host discards what it still has of a ballooned page; answers whether it had a frame, which
-/// goes back to the keeper. Refused with `NotReady` and `NotBallooned`, tested in this order.
+/// goes back to where it came from. Refused with `NotReady` and `NotBallooned`, tested in this order.
 pub fn sweep<D: Device, K: FrameKeeper>(
     device: &mut D,
     keeper: &mut K,
     page: u32,
 ) -> Result<bool, Refusal>
-    requires { (d : DriverState) × (g : Guest) × Stands (D.mem device.old) (D.part device.old) d g
-        × AreOut g (K.out keeper.old) }
-    ensures { (d : DriverState) (g : Guest) → Stands (D.mem device.old) (D.part device.old) d g
-        → Steps (Stands (D.mem device.new) (D.part device.new) d) K.answers (K.out keeper.old)
-        (K.out keeper.new) g (Call.Sweep page) (swept_reply result) }
+    requires { (keeps : Bool) × (d : DriverState) × (g : Guest)
+        × Stands keeps (D.mem device.old) (D.part device.old) d g
+        × (keeps ≡ false → AreOut g (K.out keeper.old)) }
+    ensures { (keeps : Bool) (d : DriverState) (g : Guest)
+        → Stands keeps (D.mem device.old) (D.part device.old) d g
+        → StepsOver (Stands keeps (D.mem device.new) (D.part device.new) d) K.answers
+        (supply_of (D.part device.old) (K.out keeper.old))
+        (supply_of (D.part device.new) (K.out keeper.new)) [] g
+        (Call.Sweep page) (swept_reply result) }
 {
     let answer = device.sweep(page);
     return_loose(device, keeper);
@@ -63,8 +73,9 @@ pub fn sweep<D: Device, K: FrameKeeper>(
 
 /// The host sets how many pages it wants (`num_pages`, VIRTIO 1.1, 5.5.4).
 pub fn set_target<D: Device>(device: &mut D, pages: u32)
-    ensures { (d : DriverState) (g : Guest) → Stands (D.mem device.old) (D.part device.old) d g
-        → StepsAlone (Stands (D.mem device.new) (D.part device.new) d) g (Call.SetTarget pages) Done }
+    ensures { (keeps : Bool) (d : DriverState) (g : Guest)
+        → Stands keeps (D.mem device.old) (D.part device.old) d g
+        → StepsAlone (Stands keeps (D.mem device.new) (D.part device.new) d) g (Call.SetTarget pages) Done }
 {
     device.set_target(pages);
 }

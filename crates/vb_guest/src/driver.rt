@@ -1,6 +1,6 @@
 //! What a guest's balloon driver does with its pages and with its device.
 
-ghost use Rattle.std.specs.Prelude.{◌≡◌, ◌≤◌, ℕ, length};
+ghost use Rattle.std.specs.Prelude.{◌≡◌, Bool, ◌≤◌, ℕ, length};
 ghost use Rattle.vb_model.specs.Guest.{Guest};
 ghost use Rattle.vb_ram.specs.Pages.{Pages};
 ghost use Rattle.vb_ram.specs.Part.{Part};
@@ -15,8 +15,9 @@ use vb_model::{Call, Refusal};
 /// A processor asks for a block of 2^order pages (Gorman, chapter 6); answers its first page.
 /// Refused with `BadOrder`, `BadCpu` and `NoPages`, tested in this order.
 pub fn alloc(driver: &mut Driver, cpu: u32, order: u32) -> Result<u32, Refusal>
-    ensures { (mem : Pages) (part : Part) (g : Guest) → Stands mem part driver.old g
-        → StepsAlone (Stands mem part driver.new) g (Call.Alloc cpu order) (page_reply result) }
+    ensures { (keeps : Bool) (mem : Pages) (part : Part) (g : Guest)
+        → Stands keeps mem part driver.old g
+        → StepsAlone (Stands keeps mem part driver.new) g (Call.Alloc cpu order) (page_reply result) }
 {
     driver.alloc(cpu, order)
 }
@@ -24,8 +25,9 @@ pub fn alloc(driver: &mut Driver, cpu: u32, order: u32) -> Result<u32, Refusal>
 /// A processor gives a block back that an allocation answered (Gorman, chapter 6). Refused with
 /// `BadOrder`, `BadCpu` and `NotHeld`, tested in this order.
 pub fn free(driver: &mut Driver, cpu: u32, start: u32, order: u32) -> Result<(), Refusal>
-    ensures { (mem : Pages) (part : Part) (g : Guest) → Stands mem part driver.old g
-        → StepsAlone (Stands mem part driver.new) g (Call.Free cpu start order) (done_reply result) }
+    ensures { (keeps : Bool) (mem : Pages) (part : Part) (g : Guest)
+        → Stands keeps mem part driver.old g
+        → StepsAlone (Stands keeps mem part driver.new) g (Call.Free cpu start order) (done_reply result) }
 {
     driver.free(cpu, start, order)
 }
@@ -37,9 +39,11 @@ pub fn inflate<D: Device>(
     device: &mut D,
     pages: u32,
 ) -> Result<Posted, Refusal>
-    requires { (g : Guest) × Stands (D.mem device.old) (D.part device.old) driver.old g }
-    ensures { (g : Guest) → Stands (D.mem device.old) (D.part device.old) driver.old g
-        → StepsAlone (Stands (D.mem device.new) (D.part device.new) driver.new) g
+    requires { (keeps : Bool) × (g : Guest)
+        × Stands keeps (D.mem device.old) (D.part device.old) driver.old g }
+    ensures { (keeps : Bool) (g : Guest)
+        → Stands keeps (D.mem device.old) (D.part device.old) driver.old g
+        → StepsAlone (Stands keeps (D.mem device.new) (D.part device.new) driver.new) g
         (Call.Inflate pages) (posted_reply result) }
 {
     driver.inflate(device, pages)
@@ -52,9 +56,11 @@ pub fn deflate<D: Device>(
     device: &mut D,
     pages: u32,
 ) -> Result<Posted, Refusal>
-    requires { (g : Guest) × Stands (D.mem device.old) (D.part device.old) driver.old g }
-    ensures { (g : Guest) → Stands (D.mem device.old) (D.part device.old) driver.old g
-        → StepsAlone (Stands (D.mem device.new) (D.part device.new) driver.new) g
+    requires { (keeps : Bool) × (g : Guest)
+        × Stands keeps (D.mem device.old) (D.part device.old) driver.old g }
+    ensures { (keeps : Bool) (g : Guest)
+        → Stands keeps (D.mem device.old) (D.part device.old) driver.old g
+        → StepsAlone (Stands keeps (D.mem device.new) (D.part device.new) driver.new) g
         (Call.Deflate pages) (posted_reply result) }
 {
     driver.deflate(device, pages)
@@ -64,9 +70,11 @@ pub fn deflate<D: Device>(
 /// DEFLATE_ON_OOM). Refused with `NotReady`, `NoFeature`, `QueueFull` and `Nothing`, tested in this
 /// order.
 pub fn oom<D: Device>(driver: &mut Driver, device: &mut D, pages: u32) -> Result<Posted, Refusal>
-    requires { (g : Guest) × Stands (D.mem device.old) (D.part device.old) driver.old g }
-    ensures { (g : Guest) → Stands (D.mem device.old) (D.part device.old) driver.old g
-        → StepsAlone (Stands (D.mem device.new) (D.part device.new) driver.new) g (Call.Oom pages)
+    requires { (keeps : Bool) × (g : Guest)
+        × Stands keeps (D.mem device.old) (D.part device.old) driver.old g }
+    ensures { (keeps : Bool) (g : Guest)
+        → Stands keeps (D.mem device.old) (D.part device.old) driver.old g
+        → StepsAlone (Stands keeps (D.mem device.new) (D.part device.new) driver.new) g (Call.Oom pages)
         (posted_reply result) }
 {
     driver.oom(device, pages)
@@ -79,9 +87,11 @@ pub fn reap<D: Device>(
     device: &mut D,
     queue: u32,
 ) -> Result<Option<Reaped>, Refusal>
-    requires { (g : Guest) × Stands (D.mem device.old) (D.part device.old) driver.old g }
-    ensures { (g : Guest) → Stands (D.mem device.old) (D.part device.old) driver.old g
-        → StepsAlone (Stands (D.mem device.new) (D.part device.new) driver.new) g (Call.Reap queue)
+    requires { (keeps : Bool) × (g : Guest)
+        × Stands keeps (D.mem device.old) (D.part device.old) driver.old g }
+    ensures { (keeps : Bool) (g : Guest)
+        → Stands keeps (D.mem device.old) (D.part device.old) driver.old g
+        → StepsAlone (Stands keeps (D.mem device.new) (D.part device.new) driver.new) g (Call.Reap queue)
         (reaped_reply result) }
 {
     driver.reap(device, queue)

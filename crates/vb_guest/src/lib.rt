@@ -13,6 +13,7 @@ mod replies;
 pub use calls::{call, query};
 pub use device::{finish, set_target, sweep, take};
 pub use driver::{alloc, deflate, free, inflate, oom, reap};
+pub use frames::{Claims, MAX_CLAIMS};
 pub use lives::{init, reset};
 pub use memory::{read, write};
 pub use queries::{BalloonState, balloon, pages_at, pages_ballooned, places};

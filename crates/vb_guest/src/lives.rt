@@ -1,14 +1,15 @@
 //! A guest's device starts, and starts over (VIRTIO 1.1, 2.1 and 3.1.1).
 
-ghost use Rattle.std.specs.Prelude.{◌≡◌, ◌≤◌, ℕ, length, false};
+ghost use Rattle.std.specs.Prelude.{◌≡◌, Bool, ◌≤◌, ℕ, [], length, false};
 ghost use Rattle.vb_model.specs.Guest.{Guest};
 ghost use Rattle.vb_model.specs.declared.replies.Reply.TheVariants.{Done};
 ghost use Rattle.vb_guest.specs.Lives.{bare_from, SuppliesBy};
 ghost use Rattle.vb_guest.specs.Replies.{ready_reply};
 ghost use Rattle.vb_guest.specs.Stands.{Stands};
-ghost use Rattle.vb_guest.specs.Steps.{Steps, StepsAlone};
+ghost use Rattle.vb_guest.specs.Steps.{StepsAlone, StepsOver};
+ghost use Rattle.vb_guest.specs.Supply.{supply_of};
 
-use crate::frames::claim_frame;
+use crate::frames::{Claims, claim_frame, return_frame};
 use crate::memory::supply;
 use bitflags::Flags;
 use vb_device::Device;
@@ -23,52 +24,62 @@ use vb_status::{Features, Port};
 fn supply_from<D: Device, K: FrameKeeper>(
     device: &mut D,
     keeper: &mut K,
+    claims: &mut Claims,
     page: u32,
 ) -> Result<(), Refused>
-    requires keeps { (D.part device.old).keeps ≡ false }
+    requires none { (D.part device.old).keeps ≡ false → (D.part device.old).own ≡ [] }
     requires memory { 64 ≤ length (D.mem device.old) }
-    ensures supplies { SuppliesBy K.answers (K.out keeper.old) (K.out keeper.new)
+    requires room { length claims.old.items ≤ page }
+    ensures supplies { SuppliesBy K.answers (supply_of (D.part device.old) (K.out keeper.old))
+        (supply_of (D.part device.new) (K.out keeper.new)) claims.old.items claims.new.items
         (bare_from (D.mem device.old) page) (D.mem device.old) (D.mem device.new) result }
-    ensures part { D.part device.new ≡ D.part device.old }
+    ensures part { D.part device.new ≡
+        record (D.part device.old) { own = (D.part device.new).own } }
 {
     if page >= RING_AND_BUFFER_PAGES {
         return Ok(());
     }
     if device.backing(page).is_some() {
-        return supply_from(device, keeper, page + 1);
+        return supply_from(device, keeper, claims, page + 1);
     }
-    let frame = claim_frame(device, keeper)?;
-    match supply_from(device, keeper, page + 1) {
+    let frame = claim_frame(device, keeper, claims)?;
+    match supply_from(device, keeper, claims, page + 1) {
         Ok(()) => {
             supply(device, page, frame);
             Ok(())
         }
         Err(refused) => {
-            keeper.put_back(frame);
+            return_frame(device, keeper, frame);
             Err(refused)
         }
     }
 }
 
 /// The driver initialises the device with these features, once the pages of its rings and buffers
-/// have frames; they keep them where the features are refused. Refused with `AlreadyUp`, then
-/// `NoFrame` or `NoMemory` where a frame is wanting, in which case no page keeps one, then
-/// `FeatureNotOffered`, `MustTellMissing` and `VersionMissing`.
+/// have frames; they keep them where the features are refused. Notes what the claims were answered.
+/// Refused with `AlreadyUp`, then `NoFrame` or `NoMemory` where a frame is wanting, in which case no
+/// page keeps one, then `FeatureNotOffered`, `MustTellMissing` and `VersionMissing`.
 pub fn init<D: Device, K: FrameKeeper>(
     driver: &mut Driver,
     device: &mut D,
     keeper: &mut K,
+    claims: &mut Claims,
     wanted: u64,
 ) -> Result<(), Refusal>
-    requires { (g : Guest) × Stands (D.mem device.old) (D.part device.old) driver.old g }
-    ensures { (g : Guest) → Stands (D.mem device.old) (D.part device.old) driver.old g
-        → Steps (Stands (D.mem device.new) (D.part device.new) driver.new) K.answers
-        (K.out keeper.old) (K.out keeper.new) g (Call.Init wanted) (ready_reply result) }
+    requires { (keeps : Bool) × (g : Guest)
+        × Stands keeps (D.mem device.old) (D.part device.old) driver.old g }
+    ensures { (keeps : Bool) (g : Guest)
+        → Stands keeps (D.mem device.old) (D.part device.old) driver.old g
+        → StepsOver (Stands keeps (D.mem device.new) (D.part device.new) driver.new) K.answers
+        (supply_of (D.part device.old) (K.out keeper.old))
+        (supply_of (D.part device.new) (K.out keeper.new)) claims.new.items g
+        (Call.Init wanted) (ready_reply result) }
 {
+    claims.clear();
     if device.status().bits() != 0 {
         return Err(Refusal::AlreadyUp);
     }
-    match supply_from(device, keeper, 0) {
+    match supply_from(device, keeper, claims, 0) {
         Ok(()) => driver.init(device, Features::from_bits_retain(wanted)),
         Err(Refused::NoFrame) => Err(Refusal::NoFrame),
         Err(Refused::Memory) => Err(Refusal::NoMemory),
@@ -77,8 +88,9 @@ pub fn init<D: Device, K: FrameKeeper>(
 
 /// The driver resets the device (VIRTIO 1.1, 2.1).
 pub fn reset<D: Device>(driver: &mut Driver, device: &mut D)
-    ensures { (g : Guest) → Stands (D.mem device.old) (D.part device.old) driver.old g
-        → StepsAlone (Stands (D.mem device.new) (D.part device.new) driver.new) g Call.Reset Done }
+    ensures { (keeps : Bool) (g : Guest)
+        → Stands keeps (D.mem device.old) (D.part device.old) driver.old g
+        → StepsAlone (Stands keeps (D.mem device.new) (D.part device.new) driver.new) g Call.Reset Done }
 {
     driver.reset(device);
 }

@@ -1,6 +1,6 @@
 //! Bytes of a guest's pages.
 
-ghost use Rattle.std.specs.Prelude.{◌≡◌, ℕ, ◌<◌, ◌≤◌, ◌+◌, None, true, false, length, take, drop};
+ghost use Rattle.std.specs.Prelude.{◌≡◌, Bool, ℕ, ◌<◌, ◌≤◌, ◌+◌, None, true, false, [], length, take, drop};
 ghost use Rattle.std.specs.Prelude.{IfOk, IsSome};
 ghost use Rattle.vb_model.specs.Guest.{Guest};
 ghost use Rattle.vb_model.specs.Pages.{place_of, is_used};
@@ -8,9 +8,10 @@ ghost use Rattle.vb_ram.specs.Pages.{frame_at, contents_at, Covers, Wrote, Suppl
 ghost use Rattle.vb_driver.specs.State.{DriverState};
 ghost use Rattle.vb_guest.specs.Replies.{bytes_reply, done_reply};
 ghost use Rattle.vb_guest.specs.Stands.{Stands};
-ghost use Rattle.vb_guest.specs.Steps.{Steps, StepsAlone};
+ghost use Rattle.vb_guest.specs.Steps.{StepsAlone, StepsOver};
+ghost use Rattle.vb_guest.specs.Supply.{supply_of};
 
-use crate::frames::claim_frame;
+use crate::frames::{Claims, claim_frame};
 use std::alloc::{AllocError, Global};
 use vb_device::Device;
 use vb_driver::Driver;
@@ -48,21 +49,25 @@ fn overwrite<D: Device>(device: &mut D, page: u32, offset: u32, bytes: &Bytes)
 fn write_fresh<D: Device, K: FrameKeeper>(
     device: &mut D,
     keeper: &mut K,
+    claims: &mut Claims,
     page: u32,
     offset: u32,
     bytes: &Bytes,
 ) -> Result<(), Refusal>
-    requires stands { (d : DriverState) × (g : Guest)
-        × Stands (D.mem device.old) (D.part device.old) d g }
+    requires stands { (keeps : Bool) × (d : DriverState) × (g : Guest)
+        × Stands keeps (D.mem device.old) (D.part device.old) d g }
     requires covers { Covers (D.mem device.old) page offset (length bytes.now) }
     requires some { 0 < length bytes.now }
     requires bare { frame_at (D.mem device.old) page ≡ None }
-    ensures { (d : DriverState) (g : Guest) → is_used (place_of d.places page) ≡ true
-        → Stands (D.mem device.old) (D.part device.old) d g
-        → Steps (Stands (D.mem device.new) (D.part device.new) d) K.answers (K.out keeper.old)
-        (K.out keeper.new) g (Call.Write page offset bytes.now) (done_reply result) }
+    requires none { claims.old.items ≡ [] }
+    ensures { (keeps : Bool) (d : DriverState) (g : Guest) → is_used (place_of d.places page) ≡ true
+        → Stands keeps (D.mem device.old) (D.part device.old) d g
+        → StepsOver (Stands keeps (D.mem device.new) (D.part device.new) d) K.answers
+        (supply_of (D.part device.old) (K.out keeper.old))
+        (supply_of (D.part device.new) (K.out keeper.new)) claims.new.items g
+        (Call.Write page offset bytes.now) (done_reply result) }
 {
-    let frame = match claim_frame(device, keeper) {
+    let frame = match claim_frame(device, keeper, claims) {
         Ok(frame) => frame,
         Err(Refused::NoFrame) => return Err(Refusal::NoFrame),
         Err(Refused::Memory) => return Err(Refusal::NoMemory),
@@ -72,30 +77,35 @@ fn write_fresh<D: Device, K: FrameKeeper>(
     Ok(())
 }
 
-/// Writes bytes of a page that an allocation holds, which gets a frame if it has none. Refused with
-/// `NotHeld` where the page isn't used, with `OutOfRam` where the bytes don't lie in a page, and
-/// with `NoFrame` or `NoMemory` where a frame is wanting, tested in this order; a refusal changes
-/// nothing.
+/// Writes bytes of a page that an allocation holds, which gets a frame if it has none, and notes what
+/// the claim of it was answered. Refused with `NotHeld` where the page isn't used, with `OutOfRam`
+/// where the bytes don't lie in a page, and with `NoFrame` or `NoMemory` where a frame is wanting,
+/// tested in this order; a refusal changes nothing.
 pub fn write<D: Device, K: FrameKeeper>(
     driver: &Driver,
     device: &mut D,
     keeper: &mut K,
+    claims: &mut Claims,
     page: u32,
     offset: u32,
     bytes: &Bytes,
 ) -> Result<(), Refusal>
-    requires { (g : Guest) × Stands (D.mem device.old) (D.part device.old) driver.now g }
-    ensures { (g : Guest) → Stands (D.mem device.old) (D.part device.old) driver.now g
-        → Steps (Stands (D.mem device.new) (D.part device.new) driver.now) K.answers
-        (K.out keeper.old) (K.out keeper.new) g (Call.Write page offset bytes.now)
-        (done_reply result) }
+    requires { (keeps : Bool) × (g : Guest)
+        × Stands keeps (D.mem device.old) (D.part device.old) driver.now g }
+    ensures { (keeps : Bool) (g : Guest)
+        → Stands keeps (D.mem device.old) (D.part device.old) driver.now g
+        → StepsOver (Stands keeps (D.mem device.new) (D.part device.new) driver.now) K.answers
+        (supply_of (D.part device.old) (K.out keeper.old))
+        (supply_of (D.part device.new) (K.out keeper.new)) claims.new.items g
+        (Call.Write page offset bytes.now) (done_reply result) }
 {
+    claims.clear();
     if !driver.held(page) {
         return Err(Refusal::NotHeld);
     }
     match device.write(page, offset as usize, bytes.as_slice()) {
         Ok(()) => Ok(()),
-        Err(RamFault::NeedsFrame) => write_fresh(device, keeper, page, offset, bytes),
+        Err(RamFault::NeedsFrame) => write_fresh(device, keeper, claims, page, offset, bytes),
         Err(RamFault::OutOfRam) => Err(Refusal::OutOfRam),
         Err(RamFault::AlreadyBacked) => unreachable!(),
         Err(RamFault::Memory) => unreachable!(),
@@ -141,9 +151,11 @@ pub fn read<D: Device>(
     offset: u32,
     len: u32,
 ) -> Result<Bytes, Refusal>
-    requires { (g : Guest) × Stands (D.mem device.now) (D.part device.now) driver.now g }
-    ensures { (g : Guest) → Stands (D.mem device.now) (D.part device.now) driver.now g
-        → StepsAlone (Stands (D.mem device.now) (D.part device.now) driver.now) g
+    requires { (keeps : Bool) × (g : Guest)
+        × Stands keeps (D.mem device.now) (D.part device.now) driver.now g }
+    ensures { (keeps : Bool) (g : Guest)
+        → Stands keeps (D.mem device.now) (D.part device.now) driver.now g
+        → StepsAlone (Stands keeps (D.mem device.now) (D.part device.now) driver.now) g
         (Call.Read page offset len) (bytes_reply result) }
 {
     if !driver.held(page) {

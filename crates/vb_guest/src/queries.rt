@@ -1,6 +1,6 @@
 //! Questions about a guest.
 
-ghost use Rattle.std.specs.Prelude.{◌≡◌, ℕ, List, [], ◌∷◌, ◌++◌, length, IfOk, OnOk};
+ghost use Rattle.std.specs.Prelude.{◌≡◌, Bool, ℕ, List, [], ◌∷◌, ◌++◌, length, IfOk, OnOk};
 ghost use Rattle.vb_model.specs.Guest.{Guest};
 ghost use Rattle.vb_model.specs.Tests.{pages_where};
 ghost use Rattle.vb_model.specs.World.{Answers, is_place, runs};
@@ -32,7 +32,8 @@ pub struct BalloonState {
 
 /// How many pages each place has.
 pub fn places(driver: &Driver) -> PlaceCounts
-    ensures { (mem : Pages) (part : Part) (g : Guest) → Stands mem part driver.now g
+    ensures { (keeps : Bool) (mem : Pages) (part : Part) (g : Guest)
+        → Stands keeps mem part driver.now g
         → Answers Query.Places g (Places result) }
 {
     driver.places()
@@ -40,7 +41,8 @@ pub fn places(driver: &Driver) -> PlaceCounts
 
 /// The count of ballooned pages, the configuration's two numbers and the status.
 pub fn balloon<D: Device>(driver: &Driver, device: &D) -> BalloonState
-    ensures { (g : Guest) → Stands (D.mem device.now) (D.part device.now) driver.now g
+    ensures { (keeps : Bool) (g : Guest)
+        → Stands keeps (D.mem device.now) (D.part device.now) driver.now g
         → Answers Query.Balloon g (balloon_reply result) }
 {
     BalloonState {
@@ -124,8 +126,10 @@ pub fn pages_at<D: Device>(
     device: &D,
     place: Place,
 ) -> Result<PageRuns, AllocError>
-    requires { (g : Guest) × Stands (D.mem device.now) (D.part device.now) driver.now g }
-    ensures { (g : Guest) → Stands (D.mem device.now) (D.part device.now) driver.now g
+    requires { (keeps : Bool) × (g : Guest)
+        × Stands keeps (D.mem device.now) (D.part device.now) driver.now g }
+    ensures { (keeps : Bool) (g : Guest)
+        → Stands keeps (D.mem device.now) (D.part device.now) driver.now g
         → Answers (Query.PagesAt place) g (runs_reply result) }
 {
     runs_at(alloc, driver, device.pages(), place)
@@ -134,8 +138,10 @@ pub fn pages_at<D: Device>(
 /// Which pages the device holds to be ballooned, as runs by rising page. Want of memory is the only
 /// refusal.
 pub fn pages_ballooned<D: Device>(alloc: Global, device: &D) -> Result<PageRuns, AllocError>
-    requires { (d : DriverState) × (g : Guest) × Stands (D.mem device.now) (D.part device.now) d g }
-    ensures { (d : DriverState) (g : Guest) → Stands (D.mem device.now) (D.part device.now) d g
+    requires { (keeps : Bool) × (d : DriverState) × (g : Guest)
+        × Stands keeps (D.mem device.now) (D.part device.now) d g }
+    ensures { (keeps : Bool) (d : DriverState) (g : Guest)
+        → Stands keeps (D.mem device.now) (D.part device.now) d g
         → Answers Query.PagesBallooned g (runs_reply result) }
 {
     ballooned_runs(alloc, device, device.pages())

@@ -171,12 +171,14 @@ pub enum Event {
     Frames,
 }
 
-/// What a call's claim of a frame was answered.
-#[derive(Clone, Copy, Debug, PartialEq, Eq)]
+/// What a call's claim of a frame was answered. Where nothing was claimed, as in the unused places
+/// of a list, that is `GaveNoFrame`.
+#[derive(Clone, Copy, Debug, Default, PartialEq, Eq)]
 pub enum Claim {
     /// The frame of this number.
     Gave(u32),
     /// No frame is left.
+    #[default]
     GaveNoFrame,
     /// There was no memory for the frame's bytes.
     GaveNoMemory,

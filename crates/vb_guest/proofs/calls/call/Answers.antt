@@ -1,92 +1,101 @@
-use Rattle.vb_guest.proofs.Freed.{steps_quiet}
+use Rattle.vb_guest.proofs.Standing.{steps_quiet}
 use Rattle.vb_guest.proofs.calls.call.Goals as goal
 
 pub returns-in-Init : goal.returns-in-Init
 returns-in-Init g c =
     record {
-      step = λ guest stands. rw (c.in-Init.is, c.ready_reply.ensures)
-          (c.init.ensures guest stands);
+      step = λ keeps guest stands. rw (c.in-Init.is, c.ready_reply.ensures)
+          (c.init.ensures keeps guest stands);
     }
 
 pub returns-in-Alloc : goal.returns-in-Alloc
 returns-in-Alloc g c =
     record {
-      step = λ guest stands. rw (c.in-Alloc.is, c.page_reply.ensures)
-          (steps_quiet _ g.K.FrameKeeper.answers _ guest _ _ (c.alloc.ensures _ _ guest stands));
+      step = λ keeps guest stands. rw (c.clear.ensures, c.in-Alloc.is, c.page_reply.ensures)
+          (steps_quiet keeps _ _ _ _ _ _ guest g.K.FrameKeeper.answers _ _ _ stands
+          (c.alloc.ensures keeps _ _ guest stands));
     }
 
 pub returns-in-Free : goal.returns-in-Free
 returns-in-Free g c =
     record {
-      step = λ guest stands. rw (c.in-Free.is, c.done_reply.ensures)
-          (steps_quiet _ g.K.FrameKeeper.answers _ guest _ _ (c.free.ensures _ _ guest stands));
+      step = λ keeps guest stands. rw (c.clear.ensures, c.in-Free.is, c.done_reply.ensures)
+          (steps_quiet keeps _ _ _ _ _ _ guest g.K.FrameKeeper.answers _ _ _ stands
+          (c.free.ensures keeps _ _ guest stands));
     }
 
 pub returns-in-Read : goal.returns-in-Read
 returns-in-Read g c =
     record {
-      step = λ guest stands. rw (c.in-Read.is, c.bytes_reply.ensures)
-          (steps_quiet _ g.K.FrameKeeper.answers _ guest _ _ (c.read.ensures guest stands));
+      step = λ keeps guest stands. rw (c.clear.ensures, c.in-Read.is, c.bytes_reply.ensures)
+          (steps_quiet keeps _ _ _ _ _ _ guest g.K.FrameKeeper.answers _ _ _ stands
+          (c.read.ensures keeps guest stands));
     }
 
 pub returns-in-Write : goal.returns-in-Write
 returns-in-Write g c =
     record {
-      step = λ guest stands. rw (c.in-Write.is, c.done_reply-in-Write.ensures)
-          (c.write.ensures guest stands);
+      step = λ keeps guest stands. rw (c.in-Write.is, c.done_reply-in-Write.ensures)
+          (c.write.ensures keeps guest stands);
     }
 
 pub returns-in-Inflate : goal.returns-in-Inflate
 returns-in-Inflate g c =
     record {
-      step = λ guest stands. rw (c.in-Inflate.is, c.posted_reply.ensures)
-          (steps_quiet _ g.K.FrameKeeper.answers _ guest _ _ (c.inflate.ensures guest stands));
+      step = λ keeps guest stands. rw (c.clear.ensures, c.in-Inflate.is, c.posted_reply.ensures)
+          (steps_quiet keeps _ _ _ _ _ _ guest g.K.FrameKeeper.answers _ _ _ stands
+          (c.inflate.ensures keeps guest stands));
     }
 
 pub returns-in-Deflate : goal.returns-in-Deflate
 returns-in-Deflate g c =
     record {
-      step = λ guest stands. rw (c.in-Deflate.is, c.posted_reply-in-Deflate.ensures)
-          (steps_quiet _ g.K.FrameKeeper.answers _ guest _ _ (c.deflate.ensures guest stands));
+      step = λ keeps guest stands. rw (c.clear.ensures, c.in-Deflate.is, c.posted_reply-in-Deflate.ensures)
+          (steps_quiet keeps _ _ _ _ _ _ guest g.K.FrameKeeper.answers _ _ _ stands
+          (c.deflate.ensures keeps guest stands));
     }
 
 pub returns-in-Oom : goal.returns-in-Oom
 returns-in-Oom g c = record {
-  step = λ guest stands. rw (c.in-Oom.is, c.posted_reply-in-Oom.ensures)
-      (steps_quiet _ g.K.FrameKeeper.answers _ guest _ _ (c.oom.ensures guest stands));
+  step = λ keeps guest stands. rw (c.clear.ensures, c.in-Oom.is, c.posted_reply-in-Oom.ensures)
+      (steps_quiet keeps _ _ _ _ _ _ guest g.K.FrameKeeper.answers _ _ _ stands
+      (c.oom.ensures keeps guest stands));
 }
 
 pub returns-in-Reap : goal.returns-in-Reap
 returns-in-Reap g c =
     record {
-      step = λ guest stands. rw (c.in-Reap.is, c.reaped_reply.ensures)
-          (steps_quiet _ g.K.FrameKeeper.answers _ guest _ _ (c.reap.ensures guest stands));
+      step = λ keeps guest stands. rw (c.clear.ensures, c.in-Reap.is, c.reaped_reply.ensures)
+          (steps_quiet keeps _ _ _ _ _ _ guest g.K.FrameKeeper.answers _ _ _ stands
+          (c.reap.ensures keeps guest stands));
     }
 
 pub returns-in-Take : goal.returns-in-Take
 returns-in-Take g c =
     record {
-      step = λ guest stands. rw (c.in-Take.is, c.taken_reply.ensures)
-          (steps_quiet _ g.K.FrameKeeper.answers _ guest _ _ (c.take.ensures _ guest stands));
+      step = λ keeps guest stands. rw (c.clear.ensures, c.in-Take.is, c.taken_reply.ensures)
+          (steps_quiet keeps _ _ _ _ _ _ guest g.K.FrameKeeper.answers _ _ _ stands
+          (c.take.ensures keeps _ guest stands));
     }
 
 pub returns-in-Finish : goal.returns-in-Finish
 returns-in-Finish g c =
     record {
-      step = λ guest stands. rw (c.in-Finish.is, c.finished_reply.ensures)
-          (c.finish.ensures _ guest stands);
+      step = λ keeps guest stands. rw (c.clear.ensures, c.in-Finish.is, c.finished_reply.ensures)
+          (c.finish.ensures keeps _ guest stands);
     }
 
 pub returns-in-Sweep : goal.returns-in-Sweep
 returns-in-Sweep g c =
     record {
-      step = λ guest stands. rw (c.in-Sweep.is, c.swept_reply.ensures)
-          (c.sweep.ensures _ guest stands);
+      step = λ keeps guest stands. rw (c.clear.ensures, c.in-Sweep.is, c.swept_reply.ensures)
+          (c.sweep.ensures keeps _ guest stands);
     }
 
 pub returns-in-SetTarget : goal.returns-in-SetTarget
 returns-in-SetTarget g c =
     record {
-      step = λ guest stands. rw c.in-SetTarget.is
-          (steps_quiet _ g.K.FrameKeeper.answers _ guest _ _ (c.set_target.ensures _ guest stands));
+      step = λ keeps guest stands. rw (c.clear.ensures, c.in-SetTarget.is)
+          (steps_quiet keeps _ _ _ _ _ _ guest g.K.FrameKeeper.answers _ _ _ stands
+          (c.set_target.ensures keeps _ guest stands));
     }

@@ -2,10 +2,22 @@ use Rattle.vb_guest.proofs.calls.query.Goals as goal
 
 pub returns-in-Places : goal.returns-in-Places
 returns-in-Places g c =
-    record { answer = λ guest stands. rw c.in-Places.is (c.places.ensures _ _ guest stands) }
+    record { answer = λ keeps guest stands. rw c.in-Places.is (c.places.ensures keeps _ _ guest stands) }
 
 pub returns-in-PagesBallooned : goal.returns-in-PagesBallooned
 returns-in-PagesBallooned g c = record {
-  answer = λ guest stands. rw (c.in-PagesBallooned.is, c.runs_reply-in-PagesBallooned.ensures)
-      (c.pages_ballooned.ensures _ guest stands);
+  answer = λ keeps guest stands. rw (c.in-PagesBallooned.is, c.runs_reply-in-PagesBallooned.ensures)
+      (c.pages_ballooned.ensures keeps _ guest stands);
+}
+
+pub returns-in-PagesAt : goal.returns-in-PagesAt
+returns-in-PagesAt g c = record {
+  answer = λ keeps guest stands. rw (c.in-PagesAt.is, c.runs_reply.ensures)
+      (c.pages_at.ensures keeps guest stands);
+}
+
+pub returns-in-Balloon : goal.returns-in-Balloon
+returns-in-Balloon g c = record {
+  answer = λ keeps guest stands. rw (c.in-Balloon.is, c.balloon_reply.ensures)
+      (c.balloon.ensures keeps guest stands);
 }

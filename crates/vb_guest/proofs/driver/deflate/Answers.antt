@@ -1,11 +1,17 @@
 use Rattle.vb_guest.proofs.InflateStep.{up_backed}
 use Rattle.vb_guest.proofs.DeflateStep.{deflate_step}
 use Rattle.vb_guest.proofs.Freed.{large}
+use Rattle.vb_guest.proofs.Kept.{deflate_kept}
+use Rattle.vb_guest.proofs.Standing.{honest_of, alone_stands}
 use Rattle.vb_guest.proofs.driver.deflate.Goals as goal
 
 pub deflate-requires : goal.deflate-requires
-deflate-requires g c = let (guest, stands) = c.requires in
-    record { memory = large _ _ _ guest stands; backed = up_backed _ _ _ guest stands }
+deflate-requires g c = let (keeps, guest, stands) = c.requires in
+    let honest = honest_of keeps _ _ _ guest stands in
+    record { memory = large _ _ _ guest honest; backed = up_backed _ _ _ guest honest }
 
 pub returns : goal.returns
-returns g c = λ guest stands. deflate_step _ _ _ _ _ _ guest _ _ c.deflate.ensures stands
+returns g c = λ keeps guest stands.
+    let same = deflate_kept _ _ _ _ _ _ _ _ c.deflate.ensures in
+    alone_stands keeps _ _ _ _ _ _ guest _ _ stands same.flag same.numbers
+    (deflate_step _ _ _ _ _ _ guest _ _ c.deflate.ensures (honest_of keeps _ _ _ guest stands))

@@ -1,44 +1,65 @@
-use Rattle.std.proofs.Common.{◌≡◌, ◌∙◌, sym, ap, refl, Err}
+use Rattle.std.proofs.Common.{◌≡◌, ◌∙◌, List, length, arith, sym, ap, refl, Err}
 use Rattle.vb_frames.specs.declared.keeper.Refused.TheVariants.{NoFrame, Memory}
+use Rattle.vb_model.specs.declared.calls.Claim.{Claim}
 use Rattle.vb_model.specs.declared.replies.Refusal.TheVariants.{NoFrame as NoFrameLeft, NoMemory}
 use Rattle.vb_guest.proofs.InitStep.{init_up, known_answer, init_unsupplied, still_large}
-use Rattle.vb_guest.proofs.InitStep.{init_named}
+use Rattle.vb_guest.proofs.InitStep.{init_supplied, first_noted}
+use Rattle.vb_guest.proofs.Freed.{large}
+use Rattle.vb_guest.proofs.Standing.{honest_of, alone_stands, over_stands, steps_quiet}
 use Rattle.vb_guest.proofs.lives.init.Goals as goal
 
 pub returns-then-bits-ne0 : goal.returns-then-bits-ne0
-returns-then-bits-ne0 g c =
-    λ guest stands. init_up g.K.FrameKeeper.answers _ _ _ _ guest c.args.wanted
-    (λ e. c.if-bits-ne0.true (c.bits.ensures tt ∙ c.status.ensures ∙ e)) stands
+returns-then-bits-ne0 g c = λ keeps guest stands.
+    rw (c.clear.ensures)
+    (steps_quiet keeps _ _ _ _ _ _ guest g.K.FrameKeeper.answers _ _ _ stands
+    (alone_stands keeps _ _ _ _ _ _ guest _ _ stands refl refl
+    (init_up _ _ _ guest c.args.wanted
+    (λ e. c.if-bits-ne0.true (c.bits.ensures tt ∙ c.status.ensures ∙ e))
+    (honest_of keeps _ _ _ guest stands))))
+
+pub supply_from-requires : goal.supply_from-requires
+supply_from-requires g c = let (keeps, guest, stands) = c.requires in
+    record {
+      none = λ e. stands.own.none (sym stands.own.flag ∙ e);
+      memory = large _ _ _ guest (honest_of keeps _ _ _ guest stands);
+      room = (let none = ap (λ (l : List Claim). length l) c.clear.ensures in omega (arith, none));
+    }
 
 pub init-requires : goal.init-requires
-init-requires g c = let (guest, stands) = c.requires in
+init-requires g c = let (keeps, guest, stands) = c.requires in
     record {
-      memory = still_large g.K.FrameKeeper.answers _ _ _ _ _ _ guest stands
-          c.in-Ok.ensures.supplies;
+      memory = still_large g.K.FrameKeeper.answers _ _ _ _ _ _ _ _ guest
+          (honest_of keeps _ _ _ guest stands) c.in-Ok.ensures.supplies;
     }
 
 pub returns-in-Ok : goal.returns-in-Ok
-returns-in-Ok g c = λ guest stands.
+returns-in-Ok g c = λ keeps guest stands.
     let new : (g.D.GuestBytes.part c.args.device.now).status ≡ 0 =
     sym c.status.ensures ∙ sym (c.bits.ensures tt) ∙ c.if-bits-ne0.false in
-    init_named g.K.FrameKeeper.answers _ _ _ _ _ _ _ _ _ _ guest c.args.wanted _ _
-    (c.from_bits_retain.ensures tt) new c.in-Ok.ensures.supplies c.in-Ok.ensures.part
-    c.init.ensures stands
+    over_stands keeps _ _ _ _ _ _ guest _ _ _ _ _ _ stands
+    (init_supplied g.K.FrameKeeper.answers _ _ _ _ _ _ _ _ _ _ _ guest c.args.wanted _ _
+    (c.from_bits_retain.ensures tt) new
+    (first_noted g.K.FrameKeeper.answers _ _ _ _ _ _ _ _ c.clear.ensures c.in-Ok.ensures.supplies)
+    c.in-Ok.ensures.part c.init.ensures (honest_of keeps _ _ _ guest stands))
 
 pub returns-in-Err-NoFrame : goal.returns-in-Err-NoFrame
-returns-in-Err-NoFrame g c = λ guest stands.
+returns-in-Err-NoFrame g c = λ keeps guest stands.
     let new : (g.D.GuestBytes.part c.args.device.now).status ≡ 0 =
     sym c.status.ensures ∙ sym (c.bits.ensures tt) ∙ c.if-bits-ne0.false in
-    let did = known_answer g.K.FrameKeeper.answers _ _ _ _ _ c.supply_from.result (Err NoFrame)
+    let did = known_answer g.K.FrameKeeper.answers _ _ _ _ _ _ _ c.supply_from.result (Err NoFrame)
     (c.in-Err-NoFrame.is ∙ ap Err c.in-Err-NoFrame.field-0-is) c.supply_from.ensures.supplies in
-    init_unsupplied g.K.FrameKeeper.answers _ _ _ _ _ _ _ guest c.args.wanted NoFrame NoFrameLeft
-    refl new did c.supply_from.ensures.part stands
+    over_stands keeps _ _ _ _ _ _ guest _ _ _ _ _ _ stands
+    (init_unsupplied g.K.FrameKeeper.answers _ _ _ _ _ _ _ _ guest c.args.wanted NoFrame NoFrameLeft
+    refl new (first_noted g.K.FrameKeeper.answers _ _ _ _ _ _ _ _ c.clear.ensures did)
+    c.supply_from.ensures.part (honest_of keeps _ _ _ guest stands))
 
 pub returns-in-Err-Memory : goal.returns-in-Err-Memory
-returns-in-Err-Memory g c = λ guest stands.
+returns-in-Err-Memory g c = λ keeps guest stands.
     let new : (g.D.GuestBytes.part c.args.device.now).status ≡ 0 =
     sym c.status.ensures ∙ sym (c.bits.ensures tt) ∙ c.if-bits-ne0.false in
-    let did = known_answer g.K.FrameKeeper.answers _ _ _ _ _ c.supply_from.result (Err Memory)
+    let did = known_answer g.K.FrameKeeper.answers _ _ _ _ _ _ _ c.supply_from.result (Err Memory)
     (c.in-Err-Memory.is ∙ ap Err c.in-Err-Memory.field-0-is) c.supply_from.ensures.supplies in
-    init_unsupplied g.K.FrameKeeper.answers _ _ _ _ _ _ _ guest c.args.wanted Memory NoMemory refl
-    new did c.supply_from.ensures.part stands
+    over_stands keeps _ _ _ _ _ _ guest _ _ _ _ _ _ stands
+    (init_unsupplied g.K.FrameKeeper.answers _ _ _ _ _ _ _ _ guest c.args.wanted Memory NoMemory
+    refl new (first_noted g.K.FrameKeeper.answers _ _ _ _ _ _ _ _ c.clear.ensures did)
+    c.supply_from.ensures.part (honest_of keeps _ _ _ guest stands))

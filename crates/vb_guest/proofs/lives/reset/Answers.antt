@@ -1,5 +1,12 @@
+use Rattle.std.proofs.Common.{ap}
+use Rattle.vb_ram.specs.Part.{Part}
 use Rattle.vb_guest.proofs.ResetStep.{reset_step}
+use Rattle.vb_guest.proofs.Standing.{honest_of, alone_stands}
 use Rattle.vb_guest.proofs.lives.reset.Goals as goal
 
 pub returns : goal.returns
-returns g c = λ guest stands. reset_step _ _ _ _ _ _ guest c.reset.ensures stands
+returns g c = λ keeps guest stands.
+    let part = c.reset.ensures.part in
+    alone_stands keeps _ _ _ _ _ _ guest _ _ stands (ap (λ (p : Part). p.keeps) part)
+    (ap (λ (p : Part). p.own) part)
+    (reset_step _ _ _ _ _ _ guest c.reset.ensures (honest_of keeps _ _ _ guest stands))

@@ -1,0 +1,143 @@
+-- Calls that leave alone what a device says of frames of its own.
+use Rattle.std.specs.Prelude.{◌≡◌, ℕ, ◌==◌, ◌&&◌, not, Bool, true, false, List, [], ◌∷◌, is_none}
+use Rattle.std.specs.Prelude.{if◌then◌else◌, Option, Some, None, Result, Ok, Err, refl}
+use Rattle.std.proofs.Common.{◌∙◌, ap}
+use Rattle.vb_model.specs.declared.layout.TheConstants.{INFLATE_QUEUE, DEFLATE_QUEUE}
+use Rattle.vb_model.specs.declared.layout.TheConstants.{STATISTICS_QUEUE}
+use Rattle.vb_model.specs.declared.replies.Refusal.{Refusal}
+use Rattle.vb_model.specs.declared.replies.Refusal.TheVariants.{NoQueue, NotReady, NeedsReset, NotTaken}
+use Rattle.vb_model.specs.declared.replies.Refusal.TheVariants.{NotWorked, Broken, RingBroken}
+use Rattle.vb_model.specs.Refusals.{◌⇒◌, first_refusal}
+use Rattle.vb_model.specs.Requests.{Request}
+use Rattle.vb_model.specs.Tables.{is_queue_of_requests, is_not_ready, has_fault, has_unvisited}
+use Rattle.vb_model.specs.Tests.{flagged}
+use Rattle.vb_ram.specs.Pages.{Pages}
+use Rattle.vb_ram.specs.Part.{Part, QueuePart}
+use Rattle.vb_driver.specs.State.{DriverState}
+use Rattle.vb_driver.specs.declared.answers.Posted.{Posted}
+use Rattle.vb_driver.specs.declared.answers.Reaped.{Reaped}
+use Rattle.vb_driver.specs.Calls.{InflatesBy, DeflatesBy, DeflatesOnOomBy, ReapsBy, after_refusal}
+use Rattle.vb_device.specs.Queues.{with_queue}
+use Rattle.vb_device.specs.Conditions.{finish_refusal, sweep_refusal, taken_at}
+use Rattle.vb_device.specs.Calls.{TakesBy, TakeMeans, taking, FinishesBy, settled, using, SweepsBy}
+
+-- the device keeps frames as it did, and the same of them are out
+pub record SameOwn (p1 p2 : Part) : Type 0 where
+  pub flag : p2.keeps ≡ p1.keeps
+  pub numbers : p2.own ≡ p1.own
+
+pub as_it_was : (p1 p2 : Part) → p2 ≡ p1 → SameOwn p1 p2
+as_it_was p1 p2 e =
+    record { flag = ap (λ (p : Part). p.keeps) e; numbers = ap (λ (p : Part). p.own) e }
+
+same_then : (p1 p2 p3 : Part) → SameOwn p1 p2 → SameOwn p2 p3 → SameOwn p1 p3
+same_then p1 p2 p3 first second =
+    record { flag = second.flag ∙ first.flag; numbers = second.numbers ∙ first.numbers }
+
+-- ---- the driver's calls
+
+pub inflate_kept : (m1 m2 : Pages) (p1 p2 : Part) (d1 d2 : DriverState) (n : ℕ)
+    (result : Result Posted Refusal) → InflatesBy m1 m2 p1 p2 d1 d2 n result → SameOwn p1 p2
+inflate_kept m1 m2 p1 p2 d1 d2 n (Ok posted) did = as_it_was p1 p2 did.offers.part
+inflate_kept m1 m2 p1 p2 d1 d2 n (Err why) did = as_it_was p1 p2 did.refused.part
+
+pub deflate_kept : (m1 m2 : Pages) (p1 p2 : Part) (d1 d2 : DriverState) (n : ℕ)
+    (result : Result Posted Refusal) → DeflatesBy m1 m2 p1 p2 d1 d2 n result → SameOwn p1 p2
+deflate_kept m1 m2 p1 p2 d1 d2 n (Ok posted) did = as_it_was p1 p2 did.asks.part
+deflate_kept m1 m2 p1 p2 d1 d2 n (Err why) did = as_it_was p1 p2 did.refused.part
+
+pub oom_kept : (m1 m2 : Pages) (p1 p2 : Part) (d1 d2 : DriverState) (n : ℕ)
+    (result : Result Posted Refusal) → DeflatesOnOomBy m1 m2 p1 p2 d1 d2 n result → SameOwn p1 p2
+oom_kept m1 m2 p1 p2 d1 d2 n (Ok posted) did = as_it_was p1 p2 did.asks.part
+oom_kept m1 m2 p1 p2 d1 d2 n (Err why) did = as_it_was p1 p2 did.refused.part
+
+after_kept : (why : Refusal) (p : Part) → SameOwn p (after_refusal why p)
+after_kept RingBroken p = record { flag = refl; numbers = refl }
+after_kept _ p = record { flag = refl; numbers = refl }
+
+pub reap_kept : (m1 m2 : Pages) (p1 p2 : Part) (d1 d2 : DriverState) (q : ℕ)
+    (result : Result (Option Reaped) Refusal) → ReapsBy m1 m2 p1 p2 d1 d2 q result → SameOwn p1 p2
+reap_kept m1 m2 p1 p2 d1 d2 q (Ok None) did = as_it_was p1 p2 did.reaps.0
+reap_kept m1 m2 p1 p2 d1 d2 q (Ok (Some reaped)) did =
+    let part = did.reaps.part in
+    record { flag = ap (λ (p : Part). p.keeps) part; numbers = ap (λ (p : Part). p.own) part }
+reap_kept m1 m2 p1 p2 d1 d2 q (Err why) did =
+    same_then p1 (after_refusal why p1) p2 (after_kept why p1)
+    (as_it_was (after_refusal why p1) p2 did.failed)
+
+-- ---- the device's calls
+
+queue_kept : (q : ℕ) (queue : QueuePart) (p : Part) → SameOwn p (with_queue q queue p)
+queue_kept q queue p = by (q == INFLATE_QUEUE) (q == DEFLATE_QUEUE) (q == STATISTICS_QUEUE)
+  where
+    by : (a b c : Bool) → SameOwn p
+        (if a then record p { inflate = queue }
+        else (if b then record p { deflate = queue }
+        else (if c then record p { statistics = queue } else record p { report = queue })))
+    by true b c = record { flag = refl; numbers = refl }
+    by false true c = record { flag = refl; numbers = refl }
+    by false false true = record { flag = refl; numbers = refl }
+    by false false false = record { flag = refl; numbers = refl }
+
+settled_kept : (q : ℕ) (pages : List ℕ) (p : Part) → SameOwn p (settled q pages p)
+settled_kept q pages p = by (q == INFLATE_QUEUE) (q == DEFLATE_QUEUE)
+  where
+    by : (a b : Bool) → SameOwn p
+        (if a then record p { ballooned = flagged pages true p.ballooned }
+        else (if b then record p { ballooned = flagged pages false p.ballooned } else p))
+    by true b = record { flag = refl; numbers = refl }
+    by false true = record { flag = refl; numbers = refl }
+    by false false = record { flag = refl; numbers = refl }
+
+-- the loose frames are none of the device's own
+loose_kept : (p1 p2 : Part) → p2 ≡ record p1 { loose = p2.loose } → SameOwn p1 p2
+loose_kept p1 p2 e =
+    record { flag = ap (λ (p : Part). p.keeps) e; numbers = ap (λ (p : Part). p.own) e }
+
+pub take_kept : (q : ℕ) (m1 m2 : Pages) (p1 p2 : Part) (result : Result (Option ℕ) Refusal)
+    → TakesBy q m1 m2 p1 p2 result → SameOwn p1 p2
+take_kept q m1 m2 p1 p2 result did = by result did.means
+  where
+    by : (r : Result (Option ℕ) Refusal) → TakeMeans q m1 p1 p2 r → SameOwn p1 p2
+    by (Ok None) means = as_it_was p1 p2 means.1
+    by (Ok (Some h)) means =
+        same_then p1 (taking q h means.1.0 p1) p2 (queue_kept q _ p1)
+        (as_it_was (taking q h means.1.0 p1) p2 means.1.2)
+    by (Err (Broken rule)) means =
+        record { flag = ap (λ (p : Part). p.keeps) means.1; numbers = ap (λ (p : Part). p.own) means.1 }
+    by (Err why) means = as_it_was p1 p2 means.1
+
+-- a finish that isn't refused is one of a taken request
+there_is : (a b c d : Bool) (o : Option Request)
+    → first_refusal ((a ⇒ NoQueue) ∷ (b ⇒ NotReady) ∷ (c ⇒ NeedsReset) ∷ (is_none o ⇒ NotTaken)
+    ∷ (d ⇒ NotWorked) ∷ []) ≡ None → (r : Request) × (o ≡ Some r)
+there_is true b c d o e = absurd cc
+there_is false true c d o e = absurd cc
+there_is false false true d o e = absurd cc
+there_is false false false d None e = absurd cc
+there_is false false false d (Some r) e = (r, refl)
+
+pub finish_kept : (q i : ℕ) (m1 m2 : Pages) (p1 p2 : Part) (result : Result ℕ Refusal)
+    → FinishesBy q i m1 m2 p1 p2 result → SameOwn p1 p2
+finish_kept q i m1 m2 p1 p2 result did = by (finish_refusal q i p1) refl
+  where
+    by : (o : Option Refusal) → finish_refusal q i p1 ≡ o → SameOwn p1 p2
+    by (Some why) e = as_it_was p1 p2 (did.refused why e).1
+    by None e =
+        let (r, at) = there_is (not (is_queue_of_requests q)) (is_not_ready p1.status)
+        (has_fault p1.status)
+        (p1.paced && not (q == DEFLATE_QUEUE) && has_unvisited (taken_at q i p1))
+        (taken_at q i p1) e in
+        let after = settled q r.pages (using q i p1) in
+        same_then p1 after p2
+        (same_then p1 (using q i p1) after (queue_kept q _ p1)
+        (settled_kept q r.pages (using q i p1)))
+        (loose_kept after p2 (did.finished r e at).part)
+
+pub sweep_kept : (page : ℕ) (m1 m2 : Pages) (p1 p2 : Part) (result : Result Bool Refusal)
+    → SweepsBy page m1 m2 p1 p2 result → SameOwn p1 p2
+sweep_kept page m1 m2 p1 p2 result did = by (sweep_refusal page p1) refl
+  where
+    by : (o : Option Refusal) → sweep_refusal page p1 ≡ o → SameOwn p1 p2
+    by (Some why) e = as_it_was p1 p2 (did.refused why e).1
+    by None e = loose_kept p1 p2 (did.part e)

@@ -1,0 +1,248 @@
+-- Frames go out of a guest's supply and come back to it.
+use Rattle.std.specs.Prelude.{◌≡◌, ◌≢◌, ℕ, ◌+◌, ◌<◌, ◌≤◌, ◌==◌, ◌||◌, Bool, true, false, not, cond}
+use Rattle.std.specs.Prelude.{if◌then◌else◌, List, [], ◌∷◌, length, slice_set, refl, ◌⊎◌}
+use Rattle.std.proofs.Common.{sym, ◌∙◌, ap, subst, arith, inl, inr}
+use Rattle.std.proofs.lemmas.Bool.{cases_eq, cases_lt, eq-eqb, ne_eqb}
+use Rattle.std.proofs.lemmas.List.{length-set, get_or-set_same, get_or-set_other, get_or_past}
+use Rattle.vb_model.specs.Tests.{one_if}
+use Rattle.vb_model.specs.Orderly.{times}
+use Rattle.vb_model.proofs.Tables.{count_by-cons}
+use Rattle.vb_ram.specs.Part.{Part}
+use Rattle.vb_device.specs.Calls.{SameFrames}
+use Rattle.vb_device.specs.Own.{has, without, SameSet}
+use Rattle.vb_frames.specs.Out.{is_out}
+use Rattle.vb_guest.specs.Supply.{Supply, supply_of, is_used, Moves, nothing, AreLoose}
+use Rattle.vb_guest.proofs.Writing.{out_more}
+
+-- ---- what is used
+
+pub used_own : (s : Supply) (n : ℕ) → s.keeps ≡ true → is_used s n ≡ has s.own n
+used_own s n e = ap (λ (b : Bool). if b then has s.own n else is_out s.out n) e
+
+pub used_out : (s : Supply) (n : ℕ) → s.keeps ≡ false → is_used s n ≡ is_out s.out n
+used_out s n e = ap (λ (b : Bool). if b then has s.own n else is_out s.out n) e
+
+either : (b : Bool) → (b ≡ true) ⊎ (b ≡ false)
+either true = inl refl
+either false = inr refl
+
+pub by_keeps : {P : Type 0} (s : Supply) → (s.keeps ≡ true → P) → (s.keeps ≡ false → P) → P
+by_keeps s own out = elim (either s.keeps) [ inl e ↦ own e | inr e ↦ out e ]
+
+pub is_one : (b : Bool) → 1 ≤ one_if b → b ≡ true
+is_one true h = refl
+is_one false h = absurd (omega (arith, h))
+
+pub times_first : (k n : ℕ) (rest : List ℕ) → times k (n ∷ rest) ≡ one_if (n == k) + times k rest
+times_first k n rest = count_by-cons (λ m. m == k) n rest
+
+pub times_one : (k n : ℕ) → times k (n ∷ []) ≡ one_if (n == k)
+times_one k n = omega (arith, times_first k n [])
+
+-- ---- moves one after the other
+
+pub moves_none : (s : Supply) → Moves s s nothing nothing
+moves_none s = record {
+  keeps = refl;
+  asked = λ e. refl;
+  untouched = λ e. refl;
+  count = refl;
+  balance = λ n. refl;
+}
+
+pub moves_then : (s1 s2 s3 : Supply) (a b c d : ℕ → ℕ) → Moves s1 s2 a b → Moves s2 s3 c d
+    → Moves s1 s3 (λ n. a n + c n) (λ n. b n + d n)
+moves_then s1 s2 s3 a b c d first second = record {
+  keeps = second.keeps ∙ first.keeps;
+  asked = λ e. second.asked (first.keeps ∙ e) ∙ first.asked e;
+  untouched = λ e. second.untouched (first.keeps ∙ e) ∙ first.untouched e;
+  count = second.count ∙ first.count;
+  balance = λ n. omega (arith, first.balance n, second.balance n);
+}
+
+-- as much more gained as lost
+pub moves_as : (s1 s2 : Supply) (a b c d : ℕ → ℕ) → Moves s1 s2 a b
+    → ((n : ℕ) → c n + b n ≡ a n + d n) → Moves s1 s2 c d
+moves_as s1 s2 a b c d moves same = record {
+  keeps = moves.keeps;
+  asked = moves.asked;
+  untouched = moves.untouched;
+  count = moves.count;
+  balance = λ n. omega (arith, moves.balance n, same n);
+}
+
+-- ---- one frame of the keeper's
+
+inside : (out : List Bool) (n : ℕ) → is_out out n ≡ true → n < length out
+inside out n is = elim (cases_lt n (length out)) [
+  | inl lt ↦ lt
+  | inr past ↦ absurd (let none = get_or_past out n false past in cc)
+]
+
+-- it isn't out any more, and all others are as before
+out_less : (n k : ℕ) (out : List Bool) → is_out out n ≡ true
+    → one_if (is_out (slice_set out n false) k) + one_if (n == k) ≡ one_if (is_out out k)
+out_less n k out is = elim (cases_eq n k) [
+  | inl e ↦
+      let gone : is_out (slice_set out n false) n ≡ false =
+      get_or-set_same out n false false (inside out n is) in
+      subst (λ (j : ℕ). one_if (is_out (slice_set out n false) j) + one_if (n == j)
+      ≡ one_if (is_out out j)) e
+      (omega (arith, ap one_if gone, ap one_if (eq-eqb n n refl), ap one_if is))
+  | inr ne ↦
+      let same : is_out (slice_set out n false) k ≡ is_out out k =
+      get_or-set_other out n k false false (λ e. ne (sym e)) in
+      omega (arith, ap one_if same, ap one_if (ne_eqb n k ne))
+]
+
+pub asked_gave : (p1 p2 : Part) (out1 out2 : List Bool) (n : ℕ) → p1.keeps ≡ false → p2 ≡ p1
+    → n < length out1 → is_out out1 n ≡ false → out2 ≡ slice_set out1 n true
+    → Moves (supply_of p1 out1) (supply_of p2 out2) (λ k. times k (n ∷ [])) nothing
+asked_gave p1 p2 out1 out2 n none same within free now = record {
+  keeps = ap (λ (p : Part). p.keeps) same;
+  asked = λ e. ap (λ (p : Part). p.own) same;
+  untouched = λ e. absurd (let wrong : true ≡ false = sym e ∙ none in cc);
+  count = ap (λ (o : List Bool). length o) now ∙ length-set out1 n true;
+  balance = λ k. omega (
+    arith,
+    ap one_if (used_out (supply_of p1 out1) k none),
+    ap one_if (used_out (supply_of p2 out2) k (ap (λ (p : Part). p.keeps) same ∙ none)),
+    ap (λ (o : List Bool). one_if (is_out o k)) now,
+    out_more out1 k n within free,
+    times_one k n,
+  );
+}
+
+pub asked_back : (p1 p2 : Part) (out1 out2 : List Bool) (n : ℕ) → p1.keeps ≡ false → p2 ≡ p1
+    → is_out out1 n ≡ true → out2 ≡ slice_set out1 n false
+    → Moves (supply_of p1 out1) (supply_of p2 out2) nothing (λ k. times k (n ∷ []))
+asked_back p1 p2 out1 out2 n none same is now = record {
+  keeps = ap (λ (p : Part). p.keeps) same;
+  asked = λ e. ap (λ (p : Part). p.own) same;
+  untouched = λ e. absurd (let wrong : true ≡ false = sym e ∙ none in cc);
+  count = ap (λ (o : List Bool). length o) now ∙ length-set out1 n false;
+  balance = λ k. omega (
+    arith,
+    ap one_if (used_out (supply_of p1 out1) k none),
+    ap one_if (used_out (supply_of p2 out2) k (ap (λ (p : Part). p.keeps) same ∙ none)),
+    ap (λ (o : List Bool). one_if (is_out o k)) now,
+    out_less n k out1 is,
+    times_one k n,
+  );
+}
+
+-- ---- one of the device's own
+
+has_more : (n k : ℕ) (own : List ℕ) → has own n ≡ false
+    → one_if (has (n ∷ own) k) ≡ one_if (has own k) + one_if (n == k)
+has_more n k own free = elim (cases_eq n k) [
+  | inl e ↦
+      let is : has (n ∷ own) k ≡ true = ap (λ (b : Bool). b || has own k) (eq-eqb n k e) in
+      let was : has own k ≡ false = ap (has own) (sym e) ∙ free in
+      omega (arith, ap one_if is, ap one_if was, ap one_if (eq-eqb n k e))
+  | inr ne ↦
+      let same : has (n ∷ own) k ≡ has own k = ap (λ (b : Bool). b || has own k) (ne_eqb n k ne) in
+      omega (arith, ap one_if same, ap one_if (ne_eqb n k ne))
+]
+
+has_other : (n k : ℕ) (own : List ℕ) → n ≢ k → has (without own n) k ≡ has own k
+has_other n k [] ne = refl
+has_other n k (m ∷ own) ne = elim (cases_eq m n) [
+  | inl e ↦
+      ap (λ (b : Bool). has (cond (not b) (m ∷ without own n) (without own n)) k) (eq-eqb m n e)
+      ∙ has_other n k own ne
+      ∙ sym (ap (λ (b : Bool). b || has own k) (ne_eqb m k (λ s. ne (sym e ∙ s))))
+  | inr other ↦
+      ap (λ (b : Bool). has (cond (not b) (m ∷ without own n) (without own n)) k)
+      (ne_eqb m n other)
+      ∙ ap (λ (b : Bool). (m == k) || b) (has_other n k own ne)
+]
+
+has_gone : (n : ℕ) (own : List ℕ) → has (without own n) n ≡ false
+has_gone n [] = refl
+has_gone n (m ∷ own) = elim (cases_eq m n) [
+  | inl e ↦
+      ap (λ (b : Bool). has (cond (not b) (m ∷ without own n) (without own n)) n) (eq-eqb m n e)
+      ∙ has_gone n own
+  | inr other ↦
+      ap (λ (b : Bool). has (cond (not b) (m ∷ without own n) (without own n)) n)
+      (ne_eqb m n other)
+      ∙ ap (λ (b : Bool). b || has (without own n) n) (ne_eqb m n other) ∙ has_gone n own
+]
+
+has_less : (n k : ℕ) (own : List ℕ) → has own n ≡ true
+    → one_if (has (without own n) k) + one_if (n == k) ≡ one_if (has own k)
+has_less n k own is = elim (cases_eq n k) [
+  | inl e ↦
+      let gone : has (without own n) k ≡ false =
+      ap (has (without own n)) (sym e) ∙ has_gone n own in
+      let was : has own k ≡ true = ap (has own) (sym e) ∙ is in
+      omega (arith, ap one_if gone, ap one_if was, ap one_if (eq-eqb n k e))
+  | inr ne ↦
+      omega (arith, ap one_if (has_other n k own ne), ap one_if (ne_eqb n k ne))
+]
+
+pub own_gave : (p1 p2 : Part) (out1 out2 : List Bool) (n : ℕ) → p1.keeps ≡ true
+    → has p1.own n ≡ false → SameSet p2.own (n ∷ p1.own) → p2 ≡ record p1 { own = p2.own }
+    → out2 ≡ out1
+    → Moves (supply_of p1 out1) (supply_of p2 out2) (λ k. times k (n ∷ [])) nothing
+own_gave p1 p2 out1 out2 n keeps free now same kept = record {
+  keeps = ap (λ (p : Part). p.keeps) same;
+  asked = λ e. absurd (let wrong : true ≡ false = sym keeps ∙ e in cc);
+  untouched = λ e. kept;
+  count = ap (λ (o : List Bool). length o) kept;
+  balance = λ k. omega (
+    arith,
+    ap one_if (used_own (supply_of p1 out1) k keeps),
+    ap one_if (used_own (supply_of p2 out2) k (ap (λ (p : Part). p.keeps) same ∙ keeps)),
+    ap one_if (now k),
+    has_more n k p1.own free,
+    times_one k n,
+  );
+}
+
+pub own_back : (p1 p2 : Part) (out1 out2 : List Bool) (n : ℕ) → p1.keeps ≡ true
+    → has p1.own n ≡ true → SameSet p2.own (without p1.own n) → p2 ≡ record p1 { own = p2.own }
+    → out2 ≡ out1
+    → Moves (supply_of p1 out1) (supply_of p2 out2) nothing (λ k. times k (n ∷ []))
+own_back p1 p2 out1 out2 n keeps is now same kept = record {
+  keeps = ap (λ (p : Part). p.keeps) same;
+  asked = λ e. absurd (let wrong : true ≡ false = sym keeps ∙ e in cc);
+  untouched = λ e. kept;
+  count = ap (λ (o : List Bool). length o) kept;
+  balance = λ k. omega (
+    arith,
+    ap one_if (used_own (supply_of p1 out1) k keeps),
+    ap one_if (used_own (supply_of p2 out2) k (ap (λ (p : Part). p.keeps) same ∙ keeps)),
+    ap one_if (now k),
+    has_less n k p1.own is,
+    times_one k n,
+  );
+}
+
+-- ---- loose frames
+
+-- a loose frame is out
+pub loose_is_used : (n : ℕ) (loose rest : List ℕ) (s : Supply)
+    → SameFrames loose (n ∷ rest) → AreLoose loose s → is_used s n ≡ true
+loose_is_used n loose rest s same held =
+    is_one (is_used s n)
+    (omega (arith, same n, times_first n n rest, ap one_if (eq-eqb n n refl), held n))
+
+-- once one of them went back, the rest are loose still
+pub still_loose : (n : ℕ) (loose rest : List ℕ) (s1 s2 : Supply)
+    → SameFrames loose (n ∷ rest) → AreLoose loose s1
+    → Moves s1 s2 nothing (λ k. times k (n ∷ [])) → AreLoose rest s2
+still_loose n loose rest s1 s2 same held moves k =
+    omega (arith, moves.balance k, held k, same k, times_first k n rest, times_one k n)
+
+-- a frame that the device took back was one of its own
+pub kept_back : (p1 p2 : Part) (out : List Bool) (n : ℕ) → (p1.keeps ≡ false → p1.own ≡ [])
+    → has p1.own n ≡ true → SameSet p2.own (without p1.own n) → p2 ≡ record p1 { own = p2.own }
+    → Moves (supply_of p1 out) (supply_of p2 out) nothing (λ k. times k (n ∷ []))
+kept_back p1 p2 out n none is now same = elim (either p1.keeps) [
+  | inl keeps ↦ own_back p1 p2 out out n keeps is now same refl
+  | inr not_kept ↦
+      absurd (let wrong : false ≡ true = ap (λ (own : List ℕ). has own n) (sym (none not_kept)) ∙ is in
+      cc)
+]

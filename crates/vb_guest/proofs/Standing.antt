@@ -1,0 +1,182 @@
+-- What stands for a guest once its frames are accounted for: from steps of an honest guest to steps
+-- over its supply.
+use Rattle.std.specs.Prelude.{◌≡◌, ℕ, ◌+◌, Bool, true, false, List, [], Option, count_by, refl}
+use Rattle.std.proofs.Common.{sym, ◌∙◌, ap, subst, arith}
+use Rattle.vb_model.specs.declared.calls.Call.{Call}
+use Rattle.vb_model.specs.declared.calls.Claim.{Claim}
+use Rattle.vb_model.specs.declared.replies.Reply.{Reply}
+use Rattle.vb_model.specs.Tests.{one_if}
+use Rattle.vb_model.specs.Guest.{Guest}
+use Rattle.vb_model.specs.Orderly.{times}
+use Rattle.vb_ram.specs.Pages.{Pages}
+use Rattle.vb_ram.specs.Part.{Part}
+use Rattle.vb_driver.specs.State.{DriverState}
+use Rattle.vb_device.specs.Own.{has}
+use Rattle.vb_guest.specs.Stands.{Honest, OwnFrames, Stands, StandsBy}
+use Rattle.vb_guest.specs.Steps.{is_frame, backing_count, AreOut, StepsAlone, StepsOver, StepsFreeing}
+use Rattle.vb_guest.specs.Supply.{supply_of, is_used, Moves, nothing, AreLoose}
+use Rattle.vb_guest.proofs.Moving.{used_own, used_out, by_keeps, moves_as}
+
+-- ---- the record
+
+pub honest_of : (keeps : Bool) (m : Pages) (p : Part) (d : DriverState) (g : Guest)
+    → Stands keeps m p d g → Honest m p d g
+honest_of keeps m p d g stands = by g.rogue stands.guest
+  where
+    by : (b : Bool) → StandsBy b m p d g → Honest m p d g
+    by false honest = honest
+    by true never = absurd never
+
+pub stands_of : (keeps : Bool) (m : Pages) (p : Part) (d : DriverState) (g : Guest)
+    → Honest m p d g → OwnFrames keeps p g → Stands keeps m p d g
+stands_of keeps m p d g honest own = record {
+  guest = subst (λ b. StandsBy b m p d g) (sym honest.ties.parts.guest.honest) honest;
+  own = own;
+}
+
+-- the same frames, and the device's own as before
+own_same : (keeps : Bool) (p1 p2 : Part) (g new : Guest) → p2.keeps ≡ p1.keeps → p2.own ≡ p1.own
+    → new.frames ≡ g.frames → OwnFrames keeps p1 g → OwnFrames keeps p2 new
+own_same keeps p1 p2 g new flag numbers frames own = record {
+  flag = flag ∙ own.flag;
+  none = λ e. numbers ∙ own.none e;
+  each = λ e n. ap (λ (l : List (Option ℕ)). count_by (is_frame n) l) frames ∙ own.each e n
+      ∙ ap (λ (l : List ℕ). one_if (has l n)) (sym numbers);
+}
+
+-- as many frames went out and came back as pages gained and lost
+own_moved : (keeps : Bool) (p1 p2 : Part) (out1 out2 : List Bool) (g new : Guest)
+    → Moves (supply_of p1 out1) (supply_of p2 out2) (λ n. backing_count n new)
+    (λ n. backing_count n g) → OwnFrames keeps p1 g → OwnFrames keeps p2 new
+own_moved keeps p1 p2 out1 out2 g new moves own = record {
+  flag = moves.keeps ∙ own.flag;
+  none = λ e. moves.asked (own.flag ∙ e) ∙ own.none e;
+  each = λ e n. omega (
+    arith,
+    moves.balance n,
+    ap one_if (used_own (supply_of p1 out1) n (own.flag ∙ e)),
+    ap one_if (used_own (supply_of p2 out2) n (moves.keeps ∙ own.flag ∙ e)),
+    own.each e n,
+  );
+}
+
+pub stands_as : (keeps : Bool) (m1 m2 : Pages) (p1 p2 : Part) (d : DriverState) (g : Guest)
+    → m2 ≡ m1 → p2 ≡ p1 → Stands keeps m1 p1 d g → Stands keeps m2 p2 d g
+stands_as keeps m1 m2 p1 p2 d g m p stands =
+    subst (λ x. Stands keeps x p2 d g) (sym m)
+    (subst (λ x. Stands keeps m1 x d g) (sym p) stands)
+
+-- ---- steps
+
+-- where the device's part beside the call's own matter is as before
+pub alone_stands : (keeps : Bool) (m1 m2 : Pages) (p1 p2 : Part) (d1 d2 : DriverState) (g : Guest)
+    (call : Call) (reply : Reply) → Stands keeps m1 p1 d1 g → p2.keeps ≡ p1.keeps → p2.own ≡ p1.own
+    → StepsAlone (Honest m2 p2 d2) g call reply → StepsAlone (Stands keeps m2 p2 d2) g call reply
+alone_stands keeps m1 m2 p1 p2 d1 d2 g call reply stands flag numbers step = record {
+  new = step.new;
+  stands = stands_of keeps m2 p2 d2 step.new step.stands
+      (own_same keeps p1 p2 g step.new flag numbers step.frames stands.own);
+  step = step.step;
+  frames = step.frames;
+}
+
+pub over_stands : (keeps : Bool) (m1 m2 : Pages) (p1 p2 : Part) (d1 d2 : DriverState) (g : Guest)
+    (Answers : List Bool → Claim → Type 0) (out1 out2 : List Bool) (claims : List Claim)
+    (call : Call) (reply : Reply) → Stands keeps m1 p1 d1 g
+    → StepsOver (Honest m2 p2 d2) Answers (supply_of p1 out1) (supply_of p2 out2) claims g call reply
+    → StepsOver (Stands keeps m2 p2 d2) Answers (supply_of p1 out1) (supply_of p2 out2) claims g
+    call reply
+over_stands keeps m1 m2 p1 p2 d1 d2 g Answers out1 out2 claims call reply stands step = record {
+  new = step.new;
+  stands = stands_of keeps m2 p2 d2 step.new step.stands
+      (own_moved keeps p1 p2 out1 out2 g step.new step.moves stands.own);
+  step = step.step;
+  answered = step.answered;
+  moves = step.moves;
+}
+
+-- a step in which no frame moves
+pub steps_quiet : (keeps : Bool) (m1 m2 : Pages) (p1 p2 : Part) (d1 d2 : DriverState) (g : Guest)
+    (Answers : List Bool → Claim → Type 0) (out : List Bool) (call : Call) (reply : Reply)
+    → Stands keeps m1 p1 d1 g → StepsAlone (Stands keeps m2 p2 d2) g call reply
+    → StepsOver (Stands keeps m2 p2 d2) Answers (supply_of p1 out) (supply_of p2 out) [] g call reply
+steps_quiet keeps m1 m2 p1 p2 d1 d2 g Answers out call reply stands step = record {
+  new = step.new;
+  stands = step.stands;
+  step = step.step;
+  answered = tt;
+  moves = record {
+    keeps = step.stands.own.flag ∙ sym stands.own.flag;
+    asked = λ e. step.stands.own.none (sym stands.own.flag ∙ e)
+        ∙ sym (stands.own.none (sym stands.own.flag ∙ e));
+    untouched = λ e. refl;
+    count = refl;
+    balance = balance;
+  };
+}
+  where
+    same : (n : ℕ) → backing_count n step.new ≡ backing_count n g
+    same n = ap (λ (l : List (Option ℕ)). count_by (is_frame n) l) step.frames
+
+    balance : (n : ℕ) → one_if (is_used (supply_of p2 out) n) + backing_count n g
+        ≡ one_if (is_used (supply_of p1 out) n) + backing_count n step.new
+    balance n = by_keeps (supply_of p1 out)
+        (λ e. (let k = sym stands.own.flag ∙ e in
+        omega (
+          arith,
+          same n,
+          ap one_if (used_own (supply_of p1 out) n e),
+          ap one_if (used_own (supply_of p2 out) n (step.stands.own.flag ∙ k)),
+          stands.own.each k n,
+          step.stands.own.each k n,
+        )))
+        (λ e. (let k = sym stands.own.flag ∙ e in
+        omega (
+          arith,
+          same n,
+          ap one_if (used_out (supply_of p1 out) n e),
+          ap one_if (used_out (supply_of p2 out) n (step.stands.own.flag ∙ k)),
+        )))
+
+-- ---- frames that pages lost
+
+-- they are out
+pub freed_loose : (keeps : Bool) (m1 : Pages) (p1 p2 : Part) (d : DriverState) (g : Guest)
+    (New : Guest → Type 0) (out : List Bool) (call : Call) (reply : Reply)
+    → Stands keeps m1 p1 d g → (keeps ≡ false → AreOut g out)
+    → p2.keeps ≡ p1.keeps → p2.own ≡ p1.own → StepsFreeing New p2.loose g call reply
+    → AreLoose p2.loose (supply_of p2 out)
+freed_loose keeps m1 p1 p2 d g New out call reply stands held flag numbers step n =
+    by_keeps (supply_of p2 out)
+    (λ e. (let k = sym stands.own.flag ∙ sym flag ∙ e in
+    omega (
+      arith,
+      step.freed n,
+      stands.own.each k n,
+      ap one_if (used_own (supply_of p2 out) n e),
+      ap (λ (l : List ℕ). one_if (has l n)) numbers,
+    )))
+    (λ e. (let k = sym stands.own.flag ∙ sym flag ∙ e in
+    omega (arith, step.freed n, held k n, ap one_if (used_out (supply_of p2 out) n e))))
+
+-- they have gone back
+pub steps_freed : (keeps : Bool) (m1 m3 : Pages) (p1 p2 p3 : Part) (d : DriverState) (g : Guest)
+    (Answers : List Bool → Claim → Type 0) (out1 out2 : List Bool) (call : Call) (reply : Reply)
+    → Stands keeps m1 p1 d g → p2.keeps ≡ p1.keeps → p2.own ≡ p1.own
+    → StepsFreeing (λ new. Honest m3 p3 d new) p2.loose g call reply
+    → Moves (supply_of p2 out1) (supply_of p3 out2) nothing (λ n. times n p2.loose)
+    → StepsOver (Stands keeps m3 p3 d) Answers (supply_of p1 out1) (supply_of p3 out2) [] g call
+    reply
+steps_freed keeps m1 m3 p1 p2 p3 d g Answers out1 out2 call reply stands flag numbers step moves =
+    over_stands keeps m1 m3 p1 p3 d d g Answers out1 out2 [] call reply stands (record {
+      new = step.new;
+      stands = step.stands;
+      step = step.step;
+      answered = tt;
+      moves = moves_as (supply_of p1 out1) (supply_of p3 out2) nothing (λ n. times n p2.loose)
+          (λ n. backing_count n step.new) (λ n. backing_count n g) first
+          (λ n. omega (arith, step.freed n));
+    })
+  where
+    first : Moves (supply_of p1 out1) (supply_of p3 out2) nothing (λ n. times n p2.loose)
+    first = rw (← flag, ← numbers) moves
