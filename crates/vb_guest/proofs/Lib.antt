@@ -17,6 +17,7 @@ pub mod Loosing
 pub mod TargetStep
 pub mod Freed
 pub mod SweepStep
+pub mod WorkStep
 pub mod Claimed
 pub mod ReadStep
 pub mod Normal

@@ -31,6 +31,7 @@ impl Call {
                 | Call::Oom { .. }
                 | Call::Reap { .. }
                 | Call::Take { .. }
+                | Call::Work
                 | Call::Finish { .. }
                 | Call::Sweep { .. }
                 | Call::SetTarget { .. }
