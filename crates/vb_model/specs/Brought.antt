@@ -1,6 +1,6 @@
--- What the crates above answer so far: which events, which queues, and devices of which pace. All
--- that is left out is named here and nowhere else.
-use Rattle.std.specs.Prelude.{ℕ, Bool, true, false, not, nat_le}
+-- What the crates above answer so far: which events, and which queues. All that is left out is named
+-- here and nowhere else.
+use Rattle.std.specs.Prelude.{ℕ, Bool, true, false, nat_le}
 use Rattle.vb_model.specs.declared.layout.TheConstants.{DEFLATE_QUEUE}
 use Rattle.vb_model.specs.declared.calls.Call.{Call}
 use Rattle.vb_model.specs.declared.calls.Call.TheVariants.{Init, Alloc, Free, Read, Write, Inflate}
@@ -48,7 +48,3 @@ is_brought _ = false
 -- exist, and no statistics buffer is made available.
 abbrev pub is_queue_brought : ℕ → Bool
 is_queue_brought q = nat_le q DEFLATE_QUEUE
-
--- Immediate devices; a paced one isn't made.
-abbrev pub is_pace_brought : Bool → Bool
-is_pace_brought paced = not paced
