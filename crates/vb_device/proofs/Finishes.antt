@@ -1,12 +1,11 @@
 -- A finish by a device, from the end of its queue.
-use Rattle.std.specs.Prelude.{◌≡◌, ℕ, zero, suc, ◌+◌, ◌%◌, ◌<◌, ◌≤◌, Bool, true, false, ◌==◌, List}
-use Rattle.std.specs.Prelude.{[], ◌∷◌, length, remove, Option, Some, None, is_none, IsSome, Result}
+use Rattle.std.specs.Prelude.{◌≡◌, ℕ, zero, suc, ◌+◌, ◌%◌, ◌<◌, ◌≤◌, Bool, true, false, not, ◌==◌, ◌&&◌, List}
+use Rattle.std.specs.Prelude.{[], ◌∷◌, length, remove, Option, Some, None, IsSome, Result}
 use Rattle.std.specs.Prelude.{Ok, Err, if◌then◌else◌, slice_get, All, refl}
 use Rattle.std.proofs.Common.{sym, ◌∙◌, ap, subst, arith, inl, inr}
 use Rattle.std.proofs.lemmas.Bool.{cases_eq}
 use Rattle.vb_model.specs.declared.replies.Refusal.{Refusal}
-use Rattle.vb_model.specs.declared.replies.Refusal.TheVariants.{NoQueue, NotReady, NeedsReset}
-use Rattle.vb_model.specs.declared.replies.Refusal.TheVariants.{NotTaken}
+use Rattle.vb_model.specs.declared.replies.Refusal.TheVariants.{NoQueue}
 use Rattle.vb_model.specs.Requests.{Request}
 use Rattle.vb_ram.specs.Pages.{Page, Pages, page_at, frame_at, number_of}
 use Rattle.vb_ram.specs.Part.{Part}
@@ -17,9 +16,10 @@ use Rattle.vb_ring.specs.Calls.{AddsUsedBy}
 use Rattle.vb_model.specs.Tables.{is_not_ready, has_fault}
 use Rattle.vb_device.specs.Conditions.{finish_refusal, taken_at}
 use Rattle.vb_device.specs.Queues.{queue_end}
-use Rattle.vb_device.specs.QueueState.{QueueState}
+use Rattle.vb_device.specs.QueueState.{QueueState, taken_refusal}
 use Rattle.vb_device.specs.Discards.{discarded}
 use Rattle.vb_device.specs.Base.{queue_at, base_part, numbers_of_frames, IsDeviceQueue, IsBase}
+use Rattle.vb_device.specs.Base.{with_pace}
 use Rattle.vb_device.specs.BaseCalls.{queue_refusal, with_lost, taken_out, TakesOut, UsesChain}
 use Rattle.vb_device.specs.BaseCalls.{CanUse}
 use Rattle.vb_device.specs.Calls.{without_frames}
@@ -36,28 +36,26 @@ none_some o x a b = cc
 same_refusal : (o : Option Refusal) (x y : Refusal) → o ≡ Some x → o ≡ Some y → x ≡ y
 same_refusal o x y a b = cc
 
-none_first : (o : Option Request) → o ≡ None → (rest : Option Refusal) →
-    (if is_none o then Some NotTaken else rest) ≡ Some NotTaken
-none_first None e rest = refl
-none_first (Some r) e rest = absurd cc
-
 same_request : (o : Option Request) (x y : Request) → o ≡ Some x → o ≡ Some y → x ≡ y
 same_request o x y a b = cc
 
-taken_some : (o : Option Request) (r : Request) → o ≡ Some r → is_none o ≡ false
-taken_some None r e = absurd cc
-taken_some (Some x) r e = refl
-
-free_of : (unready fault none : Bool) →
-    (if unready then Some NotReady else (if fault then Some NeedsReset else None)) ≡ None →
-    none ≡ false
-    → (if unready then Some
-    NotReady else (if fault then Some NeedsReset else (if none then Some NotTaken else None))) ≡
-    None
-free_of true fault none e n = absurd cc
-free_of false true none e n = absurd cc
-free_of false false true e n = absurd cc
-free_of false false false e n = refl
+-- the tests of a finish where the queue's number and the status refuse nothing
+pub finish_left : (q index : ℕ) (paced : Bool) (mem : Pages) (s f t a capacity : ℕ)
+    (qs : List QueueState) (loose : List Page) → IsBase mem s qs capacity →
+    queue_refusal q s ≡ None
+    → finish_refusal q index (with_pace paced (base_part s f t a qs loose)) ≡
+    taken_refusal (paced && not (q == 1)) (slice_get (queue_at q qs).taken index)
+finish_left q index paced mem s f t a capacity [] loose is ok = absurd (omega (arith, is.two))
+finish_left q index paced mem s f t a capacity (x ∷ []) loose is ok =
+    absurd (omega (arith, is.two))
+finish_left zero index paced mem s f t a capacity (x ∷ d ∷ []) loose is ok =
+    after_status (is_not_ready s) (has_fault s) _ ok
+finish_left (suc zero) index paced mem s f t a capacity (x ∷ d ∷ []) loose is ok =
+    after_status (is_not_ready s) (has_fault s) _ ok
+finish_left (suc (suc n)) index paced mem s f t a capacity (x ∷ d ∷ []) loose is ok =
+    absurd (none_some (queue_refusal (suc (suc n)) s) NoQueue ok (far_queue n s))
+finish_left q index paced mem s f t a capacity (x ∷ d ∷ y ∷ ys) loose is ok =
+    absurd (omega (arith, is.two))
 
 taken_out_of : (q index : ℕ) (m1 m2 : Pages) (p1 p2 : Part) (r : Request)
     (result : Result Request Refusal) → result ≡ Ok r → finish_refusal q index p1 ≡ None →
@@ -81,34 +79,39 @@ loose_of s f t a qs loose2 ns e =
 abbrev pub without_taken : QueueState → ℕ → QueueState
 without_taken x index = record x { taken = remove x.taken index }
 
-pub out_at : (q index : ℕ) (m1 m2 : Pages) (s f t a capacity : ℕ) (qs : List QueueState)
-    (loose loose2 : List Page) (r : Request) → IsBase m1 s qs capacity → queue_refusal q s ≡ None →
+pub out_at : (q index : ℕ) (paced : Bool) (m1 m2 : Pages) (s f t a capacity : ℕ)
+    (qs : List QueueState) (loose loose2 : List Page) (r : Request) → IsBase m1 s qs capacity →
+    queue_refusal q s ≡ None
+    → taken_refusal (paced && not (q == 1)) (slice_get (queue_at q qs).taken index) ≡ None →
     slice_get (queue_at q qs).taken index ≡ Some r
     → m2 ≡ without_frames q r.pages m1 →
     numbers_of_frames loose2 ≡ with_lost q m1 r.pages (numbers_of_frames loose)
-    → TakesOut q index m1 m2 (base_part s f t a qs loose)
-    (base_part s f t a (set qs q (without_taken (queue_at q qs) index)) loose2) (Ok r)
-out_at q index m1 m2 s f t a capacity [] loose loose2 r is ok at mem numbers =
+    → TakesOut q index m1 m2 (with_pace paced (base_part s f t a qs loose))
+    (with_pace paced
+    (base_part s f t a (set qs q (without_taken (queue_at q qs) index)) loose2)) (Ok r)
+out_at q index paced m1 m2 s f t a capacity [] loose loose2 r is ok left at mem numbers =
     absurd (omega (arith, is.two))
-out_at q index m1 m2 s f t a capacity (x ∷ []) loose loose2 r is ok at mem numbers =
+out_at q index paced m1 m2 s f t a capacity (x ∷ []) loose loose2 r is ok left at mem numbers =
     absurd (omega (arith, is.two))
-out_at zero index m1 m2 s f t a capacity (x ∷ d ∷ []) loose loose2 r is ok at mem numbers =
-    taken_out_of 0 index m1 m2 (base_part s f t a (x ∷ d ∷ []) loose)
-    (base_part s f t a (without_taken x index ∷ d ∷ []) loose2) r (Ok r) refl
-    (free_of (is_not_ready s) (has_fault s) (is_none (slice_get x.taken index)) ok
-    (taken_some (slice_get x.taken index) r at)) at mem
-    (loose_of s f t a (without_taken x index ∷ d ∷ []) loose2
-    (with_lost 0 m1 r.pages (numbers_of_frames loose)) numbers)
-out_at (suc zero) index m1 m2 s f t a capacity (x ∷ d ∷ []) loose loose2 r is ok at mem numbers =
-    taken_out_of 1 index m1 m2 (base_part s f t a (x ∷ d ∷ []) loose)
-    (base_part s f t a (x ∷ without_taken d index ∷ []) loose2) r (Ok r) refl
-    (free_of (is_not_ready s) (has_fault s) (is_none (slice_get d.taken index)) ok
-    (taken_some (slice_get d.taken index) r at)) at mem
-    (loose_of s f t a (x ∷ without_taken d index ∷ []) loose2
-    (with_lost 1 m1 r.pages (numbers_of_frames loose)) numbers)
-out_at (suc (suc n)) index m1 m2 s f t a capacity (x ∷ d ∷ []) loose loose2 r is ok at mem numbers =
+out_at zero index paced m1 m2 s f t a capacity (x ∷ d ∷ []) loose loose2 r is ok left at mem
+    numbers =
+    taken_out_of 0 index m1 m2 (with_pace paced (base_part s f t a (x ∷ d ∷ []) loose))
+    (with_pace paced (base_part s f t a (without_taken x index ∷ d ∷ []) loose2)) r (Ok r) refl
+    (finish_left 0 index paced m1 s f t a capacity (x ∷ d ∷ []) loose is ok ∙ left) at mem
+    (ap (with_pace paced) (loose_of s f t a (without_taken x index ∷ d ∷ []) loose2
+    (with_lost 0 m1 r.pages (numbers_of_frames loose)) numbers))
+out_at (suc zero) index paced m1 m2 s f t a capacity (x ∷ d ∷ []) loose loose2 r is ok left at mem
+    numbers =
+    taken_out_of 1 index m1 m2 (with_pace paced (base_part s f t a (x ∷ d ∷ []) loose))
+    (with_pace paced (base_part s f t a (x ∷ without_taken d index ∷ []) loose2)) r (Ok r) refl
+    (finish_left 1 index paced m1 s f t a capacity (x ∷ d ∷ []) loose is ok ∙ left) at mem
+    (ap (with_pace paced) (loose_of s f t a (x ∷ without_taken d index ∷ []) loose2
+    (with_lost 1 m1 r.pages (numbers_of_frames loose)) numbers))
+out_at (suc (suc n)) index paced m1 m2 s f t a capacity (x ∷ d ∷ []) loose loose2 r is ok left at
+    mem numbers =
     absurd (none_some (queue_refusal (suc (suc n)) s) NoQueue ok (far_queue n s))
-out_at q index m1 m2 s f t a capacity (x ∷ d ∷ y ∷ ys) loose loose2 r is ok at mem numbers =
+out_at q index paced m1 m2 s f t a capacity (x ∷ d ∷ y ∷ ys) loose loose2 r is ok left at mem
+    numbers =
     absurd (omega (arith, is.two))
 
 -- a call that is refused changes nothing
@@ -119,21 +122,6 @@ out_refused q index mem part why is = record {
       λ other e. (ap Err (same_refusal (finish_refusal q index part) why other is e), refl, refl);
   out = λ r e at. absurd (none_some (finish_refusal q index part) why e is);
 }
-
-pub not_taken : (q index : ℕ) (mem : Pages) (s f t a capacity : ℕ) (qs : List QueueState)
-    (loose : List Page) → IsBase mem s qs capacity → queue_refusal q s ≡ None →
-    slice_get (queue_at q qs).taken index ≡ None
-    → finish_refusal q index (base_part s f t a qs loose) ≡ Some NotTaken
-not_taken q index mem s f t a capacity [] loose is ok at = absurd (omega (arith, is.two))
-not_taken q index mem s f t a capacity (x ∷ []) loose is ok at = absurd (omega (arith, is.two))
-not_taken zero index mem s f t a capacity (x ∷ d ∷ []) loose is ok at =
-    after_status (is_not_ready s) (has_fault s) _ ok ∙ none_first (slice_get x.taken index) at _
-not_taken (suc zero) index mem s f t a capacity (x ∷ d ∷ []) loose is ok at =
-    after_status (is_not_ready s) (has_fault s) _ ok ∙ none_first (slice_get d.taken index) at _
-not_taken (suc (suc n)) index mem s f t a capacity (x ∷ d ∷ []) loose is ok at =
-    absurd (none_some (queue_refusal (suc (suc n)) s) NoQueue ok (far_queue n s))
-not_taken q index mem s f t a capacity (x ∷ d ∷ y ∷ ys) loose is ok at =
-    absurd (omega (arith, is.two))
 
 -- an end whose queue is ready, by its parts
 end_is : (r : DeviceEnd) (l : Layout) (n : ℕ) → r.layout ≡ l → r.size ≡ n → r.ready ≡ true →

@@ -13,3 +13,4 @@ pub mod Sizes
 pub mod Marks
 pub mod LooseFrames
 pub mod Over
+pub mod Visits

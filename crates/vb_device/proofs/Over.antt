@@ -1,5 +1,5 @@
 -- A device that keeps ballooned pages, from one that has ballooned nothing.
-use Rattle.std.specs.Prelude.{◌≡◌, ℕ, zero, suc, ◌+◌, ◌%◌, ◌≤◌, ◌==◌, Bool, true, false, List, []}
+use Rattle.std.specs.Prelude.{◌≡◌, ℕ, zero, suc, ◌+◌, ◌%◌, ◌≤◌, ◌==◌, Bool, true, false, List, [], ◌∷◌}
 use Rattle.std.specs.Prelude.{Option, Some, None, Result, Ok, Err, if◌then◌else◌, refl}
 use Rattle.std.proofs.Common.{sym, ◌∙◌, ap, subst, arith}
 use Rattle.vb_model.specs.declared.replies.Refusal.{Refusal}
@@ -9,47 +9,51 @@ use Rattle.vb_ram.specs.Pages.{Pages}
 use Rattle.vb_ram.specs.Part.{Part, QueuePart}
 use Rattle.vb_chain.specs.declared.fault.ChainFault.{ChainFault}
 use Rattle.vb_device.specs.Faults.{Breaks}
-use Rattle.vb_device.specs.Discards.{flagged}
-use Rattle.vb_device.specs.BaseCalls.{taken_out, TakesOut, UsesChain}
+use Rattle.vb_device.specs.Discards.{frames_behind, flagged}
+use Rattle.vb_device.specs.declared.worked.Worked.{Worked}
+use Rattle.vb_device.specs.Base.{with_pace}
+use Rattle.vb_device.specs.BaseCalls.{readiness_refusal, VisitsNext, taken_out, TakesOut, UsesChain}
+use Rattle.vb_device.specs.Conditions.{work_refusal}
 use Rattle.vb_device.specs.Queues.{queue_part, with_queue, queue_end}
 use Rattle.vb_ring.specs.Ends.{DeviceEnd}
 use Rattle.vb_ring.specs.Calls.{AddsUsedBy}
 use Rattle.vb_model.specs.Tests.{times}
 use Rattle.vb_device.proofs.LooseFrames.{all_but_loose, lost_alone}
-use Rattle.vb_device.specs.Calls.{lost_frames}
+use Rattle.vb_model.specs.Device.{next_page}
+use Rattle.vb_device.specs.Calls.{lost_frames, next_visit, Visits, WorksBy}
 use Rattle.vb_device.specs.Calls.{taking, without_frames, TakeMeans, TakesBy, FinishesBy, Uses}
 
--- the part with these flags
-abbrev pub over : List Bool → Part → Part
-over flags part = record part { ballooned = flags }
+-- the part with these flags, of this pace
+abbrev pub over : Bool → List Bool → Part → Part
+over paced flags part = record part { ballooned = flags; paced = paced }
 
-with_over : (a b c : Bool) (flags : List Bool) (x : QueuePart) (p : Part)
-    → over flags (if a then record p
+with_over : (paced a b c : Bool) (flags : List Bool) (x : QueuePart) (p : Part)
+    → over paced flags (if a then record p
     { inflate = x } else (if b then record p
     { deflate = x } else (if c then record p { statistics = x } else record p { report = x })))
-    ≡ (if a then record (over flags p)
-    { inflate = x } else (if b then record (over flags p)
-    { deflate = x } else (if c then record (over flags p)
-    { statistics = x } else record (over flags p) { report = x })))
-with_over true b c flags x p = refl
-with_over false true c flags x p = refl
-with_over false false true flags x p = refl
-with_over false false false flags x p = refl
+    ≡ (if a then record (over paced flags p)
+    { inflate = x } else (if b then record (over paced flags p)
+    { deflate = x } else (if c then record (over paced flags p)
+    { statistics = x } else record (over paced flags p) { report = x })))
+with_over paced true b c flags x p = refl
+with_over paced false true c flags x p = refl
+with_over paced false false true flags x p = refl
+with_over paced false false false flags x p = refl
 
-taking_over : (q h : ℕ) (pages : List ℕ) (flags : List Bool) (p : Part) →
-    over flags (taking q h pages p) ≡ taking q h pages (over flags p)
-taking_over q h pages flags p = with_over (q == 0) (q == 1) (q == 2) flags _ p
+taking_over : (q h : ℕ) (pages : List ℕ) (paced : Bool) (flags : List Bool) (p : Part) →
+    over paced flags (taking q h pages p) ≡ taking q h pages (over paced flags p)
+taking_over q h pages paced flags p = with_over paced (q == 0) (q == 1) (q == 2) flags _ p
 
-breaks_over : (fault : ChainFault) (flags : List Bool) (p1 p2 : Part)
+breaks_over : (fault : ChainFault) (paced : Bool) (flags : List Bool) (p1 p2 : Part)
     (result : Result (Option ℕ) Refusal) → Breaks fault p1 p2 result →
-    Breaks fault (over flags p1) (over flags p2) result
-breaks_over fault flags p1 p2 result b = record { answer = b.answer; part = ap (over flags) b.part }
+    Breaks fault (over paced flags p1) (over paced flags p2) result
+breaks_over fault paced flags p1 p2 result b = record { answer = b.answer; part = ap (over paced flags) b.part }
 
-means_over : (q : ℕ) (mem : Pages) (flags : List Bool) (p1 p2 : Part)
+means_over : (q : ℕ) (mem : Pages) (paced : Bool) (flags : List Bool) (p1 p2 : Part)
     (result : Result (Option ℕ) Refusal) → TakeMeans q mem p1 p2 result →
-    TakeMeans q mem (over flags p1) (over flags p2) result
-means_over q mem flags p1 p2 (Ok None) m = (m.0, ap (over flags) m.1)
-means_over q mem flags p1 p2 (Ok (Some h)) m = (
+    TakeMeans q mem (over paced flags p1) (over paced flags p2) result
+means_over q mem paced flags p1 p2 (Ok None) m = (m.0, ap (over paced flags) m.1)
+means_over q mem paced flags p1 p2 (Ok (Some h)) m = (
   m.0,
   (
     m.1.0,
@@ -59,28 +63,94 @@ means_over q mem flags p1 p2 (Ok (Some h)) m = (
       chain = m.1.1.chain;
       request = m.1.1.request;
     },
-    ap (over flags) m.1.2 ∙ taking_over q h m.1.0 flags p1,
+    ap (over paced flags) m.1.2 ∙ taking_over q h m.1.0 paced flags p1,
   ),
 )
-means_over q mem flags p1 p2 (Err (Broken rule)) m = (m.0, ap (over flags) m.1)
-means_over q mem flags p1 p2 (Err why) m = (m.0, ap (over flags) m.1)
+means_over q mem paced flags p1 p2 (Err (Broken rule)) m = (m.0, ap (over paced flags) m.1)
+means_over q mem paced flags p1 p2 (Err why) m = (m.0, ap (over paced flags) m.1)
 
-pub takes_over : (q : ℕ) (m1 m2 : Pages) (flags : List Bool) (p1 p2 : Part)
+pub takes_over : (q : ℕ) (m1 m2 : Pages) (paced : Bool) (flags : List Bool) (p1 p2 : Part)
     (result : Result (Option ℕ) Refusal) → TakesBy q m1 m2 p1 p2 result →
-    TakesBy q m1 m2 (over flags p1) (over flags p2) result
-takes_over q m1 m2 flags p1 p2 result t = record {
+    TakesBy q m1 m2 (over paced flags p1) (over paced flags p2) result
+takes_over q m1 m2 paced flags p1 p2 result t = record {
   memory = t.memory;
-  refused = λ why e. ((t.refused why e).0, ap (over flags) (t.refused why e).1);
-  empty = λ e n. ((t.empty e n).0, ap (over flags) (t.empty e n).1);
-  jump = λ f e n. breaks_over f flags p1 p2 result (t.jump f e n);
-  fault = λ h f e n g. breaks_over f flags p1 p2 result (t.fault h f e n g);
-  wrong = λ h pieces f e n g r. breaks_over f flags p1 p2 result (t.wrong h pieces f e n g r);
+  refused = λ why e. ((t.refused why e).0, ap (over paced flags) (t.refused why e).1);
+  empty = λ e n. ((t.empty e n).0, ap (over paced flags) (t.empty e n).1);
+  jump = λ f e n. breaks_over f paced flags p1 p2 result (t.jump f e n);
+  fault = λ h f e n g. breaks_over f paced flags p1 p2 result (t.fault h f e n g);
+  wrong = λ h pieces f e n g r. breaks_over f paced flags p1 p2 result (t.wrong h pieces f e n g r);
   takes = λ h pieces pages e n g r. (
     (t.takes h pieces pages e n g r).0,
-    ap (over flags) (t.takes h pieces pages e n g r).1 ∙ taking_over q h pages flags p1,
+    ap (over paced flags) (t.takes h pieces pages e n g r).1 ∙ taking_over q h pages paced flags p1,
   );
-  means = means_over q m1 flags p1 p2 result t.means;
+  means = means_over q m1 paced flags p1 p2 result t.means;
 }
+
+-- ---- work
+
+no_refusal : (o : Option Refusal) (why : Refusal) → o ≡ None → o ≡ Some why → ⊥
+no_refusal o why a b = cc
+
+same_refusal : (o : Option Refusal) (x y : Refusal) → o ≡ Some x → o ≡ Some y → x ≡ y
+same_refusal o x y a b = cc
+
+no_page : (o : Option ℕ) (page : ℕ) → o ≡ None → o ≡ Some page → ⊥
+no_page o page a b = cc
+
+same_page : (o : Option ℕ) (x y : ℕ) → o ≡ Some x → o ≡ Some y → x ≡ y
+same_page o x y a b = cc
+
+pub works_refused : (mem : Pages) (part : Part) (why : Refusal) →
+    readiness_refusal part.status ≡ Some why → WorksBy mem mem part part (Err why)
+works_refused mem part why is = record {
+  refused = λ w e. (ap Err (same_refusal (work_refusal part) why w is e), refl, refl);
+  idle = λ e n. absurd (no_refusal (work_refusal part) why e is);
+  visits = λ page e n. absurd (no_refusal (work_refusal part) why e is);
+}
+
+-- a device that isn't paced has nothing to do
+pub works_idle : (mem : Pages) (part : Part) → part.paced ≡ false →
+    readiness_refusal part.status ≡ None → WorksBy mem mem part part (Ok None)
+works_idle mem part paced ok =
+    let none : next_visit part ≡ None =
+    ap (λ b. if b then next_page part.inflate.taken else None) paced in
+    record {
+      refused = λ w e. absurd (no_refusal (work_refusal part) w ok e);
+      idle = λ e n. (refl, refl, refl);
+      visits = λ page e n. absurd (no_page (next_visit part) page none n);
+    }
+
+-- a paced one visits the oldest page, if there is one
+pub works_paced : (paced : Bool) (m1 m2 : Pages) (flags : List Bool) (p1 p2 : Part)
+    (found : Option Worked) → paced ≡ true → readiness_refusal p1.status ≡ None → p1.loose ≡ []
+    → VisitsNext m1 m2 p1 p2 found →
+    WorksBy m1 m2 (over paced flags p1) (over paced flags p2) (Ok found)
+works_paced paced m1 m2 flags p1 p2 None is ok none v =
+    let next : next_visit (over paced flags p1) ≡ next_page p1.inflate.taken =
+    ap (λ b. if b then next_page p1.inflate.taken else None) is in
+    record {
+      refused = λ w e. absurd (no_refusal (work_refusal p1) w ok e);
+      idle = λ e n. (refl, ap (over paced flags) v.1, v.2);
+      visits = λ page e n. absurd (no_page (next_page p1.inflate.taken) page v.0 (sym next ∙ n));
+    }
+works_paced paced m1 m2 flags p1 p2 (Some worked) is ok none v =
+    let next : next_visit (over paced flags p1) ≡ next_page p1.inflate.taken =
+    ap (λ b. if b then next_page p1.inflate.taken else None) is in
+    record {
+      refused = λ w e. absurd (no_refusal (work_refusal p1) w ok e);
+      idle = λ e n. absurd (no_page (next_page p1.inflate.taken) worked.page (sym next ∙ n) v.0);
+      visits = λ page e n. subst
+          (λ (x : ℕ). Visits 0 x m1 m2 (over paced flags p1) (over paced flags p2)
+          (Ok (Some worked)))
+          (same_page (next_page p1.inflate.taken) worked.page page v.0 (sym next ∙ n))
+          (record {
+            answer = ap (λ (b : Bool). Ok (Some (record { page = worked.page; freed = b }))) v.1;
+            memory = v.2;
+            part = all_but_loose _ _ (ap (over paced flags) v.3);
+            loose = lost_alone p1.loose p2.loose (frames_behind m1 (worked.page ∷ [])) none
+                (ap (λ (x : Part). x.loose) v.3);
+          });
+    }
 
 -- ---- finish
 
@@ -93,69 +163,69 @@ same_ok o x y a b = cc
 same_err : (o : Result Request Refusal) (x y : Refusal) → o ≡ Err x → o ≡ Err y → x ≡ y
 same_err o x y a b = cc
 
-pub finishes_err : (q index : ℕ) (m1 m2 : Pages) (flags : List Bool) (p1 p2 : Part) (why : Refusal)
-    (result : Result ℕ Refusal) → result ≡ Err why → TakesOut q index m1 m2 p1 p2 (Err why) →
-    FinishesBy q index m1 m2 (over flags p1) (over flags p2) result
-finishes_err q index m1 m2 flags p1 p2 why result is b = record {
+pub finishes_err : (q index : ℕ) (paced : Bool) (m1 m2 : Pages) (flags : List Bool) (p1 p2 : Part) (why : Refusal)
+    (result : Result ℕ Refusal) → result ≡ Err why → TakesOut q index m1 m2 (with_pace paced p1) (with_pace paced p2) (Err why) →
+    FinishesBy q index m1 m2 (over paced flags p1) (over paced flags p2) result
+finishes_err q index paced m1 m2 flags p1 p2 why result is b = record {
   refused =
       λ w e. (
         is ∙ ap Err (same_err (Err why) why w refl (b.refused w e).0),
-        ap (over flags) (b.refused w e).1,
+        ap (over paced flags) (b.refused w e).1,
         (b.refused w e).2,
       );
   finished = λ x e at. absurd (ok_err x why (sym (b.out x e at).0));
 }
 
 -- what both parts of a finish and the marks leave
-settles : (q index : ℕ) (r : Request) (m1 m2 m3 : Pages) (flags : List Bool) (p1 p2 p3 : Part) →
+settles : (q index : ℕ) (paced : Bool) (r : Request) (m1 m2 m3 : Pages) (flags : List Bool) (p1 p2 p3 : Part) →
     q ≤ 1 → p1.loose ≡ [] → m2 ≡ without_frames q r.pages m1 →
-    p2 ≡ taken_out q index r.pages m1 p1 → UsesChain q r.head m2 m3 p2 p3
-    → Uses q index r m1 m3 (over flags p1) (over (flagged r.pages (q == 0) flags) p3) (Ok r.head)
-settles zero index r m1 m2 m3 flags p1 p2 p3 le none mem part used =
+    with_pace paced p2 ≡ taken_out q index r.pages m1 (with_pace paced p1) → UsesChain q r.head m2 m3 p2 p3
+    → Uses q index r m1 m3 (over paced flags p1) (over paced (flagged r.pages (q == 0) flags) p3) (Ok r.head)
+settles zero index paced r m1 m2 m3 flags p1 p2 p3 le none mem part used =
     let left =
-    used.part ∙
+    ap (with_pace paced) used.part ∙
     ap (λ (p : Part). with_queue 0
     (record (queue_part 0 p) { next_used = ((queue_part 0 p).next_used + 1) % 65536 }) p) part in
     record {
       answer = refl;
-      part = all_but_loose _ _ (ap (over (flagged r.pages true flags)) left);
+      part = all_but_loose _ _ (ap (over paced (flagged r.pages true flags)) left);
       loose = lost_alone p1.loose p3.loose (lost_frames 0 r.pages m1) none
           (ap (λ (x : Part). x.loose) left);
       memory = subst (λ (m : Pages). AddsUsedBy m m3 (queue_end 0 p1) (queue_end 0 p3) r.head 0) mem
           (subst (λ (e : DeviceEnd). AddsUsedBy m2 m3 e (queue_end 0 p3) r.head 0)
           (ap (queue_end 0) part) used.memory);
     }
-settles (suc zero) index r m1 m2 m3 flags p1 p2 p3 le none mem part used =
+settles (suc zero) index paced r m1 m2 m3 flags p1 p2 p3 le none mem part used =
     let left =
-    used.part ∙
+    ap (with_pace paced) used.part ∙
     ap (λ (p : Part). with_queue 1
     (record (queue_part 1 p) { next_used = ((queue_part 1 p).next_used + 1) % 65536 }) p) part in
     record {
       answer = refl;
-      part = all_but_loose _ _ (ap (over (flagged r.pages false flags)) left);
+      part = all_but_loose _ _ (ap (over paced (flagged r.pages false flags)) left);
       loose = λ n. ap (times n) (ap (λ (x : Part). x.loose) left ∙ none);
       memory = subst (λ (m : Pages). AddsUsedBy m m3 (queue_end 1 p1) (queue_end 1 p3) r.head 0) mem
           (subst (λ (e : DeviceEnd). AddsUsedBy m2 m3 e (queue_end 1 p3) r.head 0)
           (ap (queue_end 1) part) used.memory);
     }
-settles (suc (suc n)) index r m1 m2 m3 flags p1 p2 p3 le none mem part used = absurd (omega arith)
+settles (suc (suc n)) index paced r m1 m2 m3 flags p1 p2 p3 le none mem part used = absurd (omega arith)
 
-pub finishes_ok : (q index : ℕ) (m1 m2 m3 : Pages) (flags marks : List Bool) (p1 p2 p3 : Part)
+pub finishes_ok : (q index : ℕ) (paced : Bool) (m1 m2 m3 : Pages) (flags marks : List Bool) (p1 p2 p3 : Part)
     (r : Request) (result : Result ℕ Refusal) → result ≡ Ok r.head →
     marks ≡ flagged r.pages (q == 0) flags → q ≤ 1 → p1.loose ≡ []
-    → TakesOut q index m1 m2 p1 p2 (Ok r) → UsesChain q r.head m2 m3 p2 p3 →
-    FinishesBy q index m1 m3 (over flags p1) (over marks p3) result
-finishes_ok q index m1 m2 m3 flags marks p1 p2 p3 r result is marked le none b used = record {
+    → TakesOut q index m1 m2 (with_pace paced p1) (with_pace paced p2) (Ok r) → UsesChain q r.head m2 m3 p2 p3 →
+    FinishesBy q index m1 m3 (over paced flags p1) (over paced marks p3) result
+finishes_ok q index paced m1 m2 m3 flags marks p1 p2 p3 r result is marked le none b used = record {
   refused = λ w e. absurd (ok_err r w (b.refused w e).0);
   finished = λ x e at.
       let got = b.out x e at in
       let same : r ≡ x = same_ok (Ok r) r x refl got.0 in
-      subst (λ (y : Request). Uses q index y m1 m3 (over flags p1) (over marks p3) result) same
-      (subst (λ (fs : List Bool). Uses q index r m1 m3 (over flags p1) (over fs p3) result)
+      subst (λ (y : Request). Uses q index y m1 m3 (over paced flags p1) (over paced marks p3) result) same
+      (subst (λ (fs : List Bool). Uses q index r m1 m3 (over paced flags p1) (over paced fs p3) result)
       (sym marked)
-      (subst (λ (o : Result ℕ Refusal). Uses q index r m1 m3 (over flags p1)
-      (over (flagged r.pages (q == 0) flags) p3) o) (sym is)
-      (settles q index r m1 m2 m3 flags p1 p2 p3 le none
+      (subst (λ (o : Result ℕ Refusal). Uses q index r m1 m3 (over paced flags p1)
+      (over paced (flagged r.pages (q == 0) flags) p3) o) (sym is)
+      (settles q index paced r m1 m2 m3 flags p1 p2 p3 le none
       (got.1 ∙ ap (λ (y : Request). without_frames q y.pages m1) (sym same))
-      (got.2 ∙ ap (λ (y : Request). taken_out q index y.pages m1 p1) (sym same)) used)));
+      (got.2 ∙ ap (λ (y : Request). taken_out q index y.pages m1 (with_pace paced p1)) (sym same)) used)));
 }

@@ -1,5 +1,5 @@
 -- What devices of every kind keep, but for the set of ballooned pages.
-use Rattle.std.specs.Prelude.{◌≡◌, ℕ, ◌+◌, ◌<◌, ◌≤◌, true, false, List, [], map, length}
+use Rattle.std.specs.Prelude.{◌≡◌, ℕ, ◌+◌, ◌<◌, ◌≤◌, Bool, true, false, List, [], map, length}
 use Rattle.std.specs.Prelude.{slice_index_or}
 use Rattle.vb_model.specs.declared.layout.TheConstants.{INFLATE_QUEUE, DEFLATE_QUEUE}
 use Rattle.vb_model.specs.declared.limits.TheConstants.{MIN_GUEST_PAGES}
@@ -52,8 +52,11 @@ pub record IsBase (mem : Pages) (status : ℕ) (queues : List QueueState)
   pub large : 0 < length mem → MIN_GUEST_PAGES ≤ length mem
   pub room : 0 < length mem → length mem + max_request_pages ≤ capacity
 
--- An immediate device that has no frames of its own.
+-- The part of a device of this pace.
+abbrev pub with_pace : Bool → Part → Part
+with_pace paced part = record part { paced = paced }
+
+-- A device that has no frames of its own.
 pub record IsPlain (part : Part) : Type 0 where
-  pub paced : part.paced ≡ false
   pub keeps : part.keeps ≡ false
   pub own : part.own ≡ []

@@ -7,6 +7,8 @@ use Rattle.vb_model.specs.declared.replies.Refusal.TheVariants.{NoQueue}
 use Rattle.vb_model.specs.Layout.{ring_page}
 use Rattle.vb_model.specs.Status.{contains, driver_ok}
 use Rattle.vb_model.specs.Requests.{Request}
+use Rattle.vb_model.specs.Device.{visiting, next_page}
+use Rattle.vb_device.specs.declared.worked.Worked.{Worked}
 pub use Rattle.vb_model.specs.FirstRefusal.{refusal_in}
 use Rattle.vb_model.specs.FirstRefusal.{◌⇒◌, first_refusal}
 use Rattle.vb_model.specs.Tables.{work_tests}
@@ -44,6 +46,21 @@ pub record SweepsPage (page : ℕ) (m1 m2 : Pages) (p1 p2 : Part)
   pub memory : sweep_refusal page p1 ≡ None → m2 ≡ discarded (page ∷ []) m1
   pub part : sweep_refusal page p1 ≡ None →
       p2 ≡ record p1 { loose = p1.loose ++ frames_behind m1 (page ∷ []) }
+
+-- ---- work
+
+-- One more page of the taken inflates is counted as visited.
+abbrev pub with_visit : Part → Part
+with_visit part = record part { inflate = record part.inflate { taken = visiting part.inflate.taken } }
+
+-- The oldest page that isn't visited yet, if there is one, is visited: it loses its frame, if it has
+-- one, which is the last loose one.
+abbrev pub VisitsNext : Pages → Pages → Part → Part → Option Worked → Type 0
+VisitsNext m1 m2 p1 p2 None = (next_page p1.inflate.taken ≡ None) × (p2 ≡ p1) × (m2 ≡ m1)
+VisitsNext m1 m2 p1 p2 (Some worked) =
+    (next_page p1.inflate.taken ≡ Some worked.page) × (worked.freed ≡ is_some (frame_at m1 worked.page))
+    × (m2 ≡ discarded (worked.page ∷ []) m1)
+    × (p2 ≡ record (with_visit p1) { loose = p1.loose ++ frames_behind m1 (worked.page ∷ []) })
 
 -- ---- finish, in its two parts
 

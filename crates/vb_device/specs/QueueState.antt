@@ -1,8 +1,12 @@
 -- One queue of page requests as a device has it.
 use Rattle.std.specs.Prelude.{◌≡◌, ℕ, ◌+◌, ◌*◌, ◌%◌, ◌≤◌, Bool, true, false, nat_le, List, [], ◌∷◌}
 use Rattle.std.specs.Prelude.{◌++◌, All, length, Option, Some, None, Result, Ok, Err, bit_or}
+use Rattle.std.specs.Prelude.{is_none, ◌&&◌}
 use Rattle.vb_model.specs.declared.replies.Refusal.{Refusal}
 use Rattle.vb_model.specs.declared.replies.Refusal.TheVariants.{Busy, Broken}
+use Rattle.vb_model.specs.declared.replies.Refusal.TheVariants.{NotTaken, NotWorked}
+use Rattle.vb_model.specs.FirstRefusal.{◌⇒◌, first_refusal}
+use Rattle.vb_model.specs.Tables.{has_unvisited}
 use Rattle.vb_model.specs.Status.{needs_reset}
 use Rattle.vb_model.specs.Requests.{Request}
 use Rattle.vb_model.specs.Driver.{AllDistinct}
@@ -80,6 +84,13 @@ IsChainOf mem q h pieces =
 abbrev pub IsFaultOf : Pages → QueueState → ℕ → ChainFault → Type 0
 IsFaultOf mem q h fault =
     FaultGives (descriptor_at mem q.ring.layout.table) q.ring.size (page_size * length mem) h fault
+
+-- Why a taken request, if there is one, isn't finished, where it isn't: its pages are to be visited
+-- first or not.
+abbrev pub taken_refusal : Bool → Option Request → Option Refusal
+taken_refusal visits taken =
+    first_refusal
+    ((is_none taken ⇒ NotTaken) ∷ ((visits && has_unvisited taken) ⇒ NotWorked) ∷ [])
 
 -- As many requests are taken as may be.
 abbrev pub is_full : QueueState → Bool

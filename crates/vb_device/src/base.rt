@@ -1,9 +1,10 @@
 //! What devices of every kind keep: memory, status, queues and loose frames.
 
-ghost use Rattle.std.specs.Prelude.{◌≡◌, ◌<◌, ◌≤◌, ◌+◌, ℕ, [], ◌∷◌, ◌++◌, Err, is_some, true};
-ghost use Rattle.std.specs.Prelude.{false, None, Some, IsSome, IsOk, IfOk, OnOk, OnErr, length};
+ghost use Rattle.std.specs.Prelude.{◌≡◌, ◌==◌, ◌&&◌, not, ◌<◌, ◌≤◌, ◌+◌, ℕ, [], ◌∷◌, ◌++◌, Err, is_some, true};
+ghost use Rattle.std.specs.Prelude.{false, None, Some, IsSome, IsOk, IfNone, IfOk, OnOk, OnSome, OnErr, length};
 ghost use Rattle.std.specs.Prelude.{replicate, vec_capacity};
 ghost use Rattle.std.specs.Option.{option_to_list};
+ghost use Rattle.vb_model.specs.declared.layout.TheConstants.{DEFLATE_QUEUE};
 ghost use Rattle.vb_model.specs.Driver.{AllDistinct};
 ghost use Rattle.vb_model.specs.Layout.{ring_page};
 ghost use Rattle.vb_model.specs.Limits.{is_config};
@@ -11,14 +12,17 @@ ghost use Rattle.vb_model.specs.Status.{contains, driver_ok};
 ghost use Rattle.vb_ram.specs.Pages.{frame_at, number_of, Supplied, IsWhole};
 ghost use Rattle.vb_ring.specs.Layout.{IsInside};
 ghost use Rattle.vb_status.specs.Bits.{status_bits};
-ghost use Rattle.vb_device.specs.Base.{numbers_of_frames, IsPlain};
+ghost use Rattle.vb_device.specs.Base.{numbers_of_frames, IsPlain, with_pace};
 ghost use Rattle.vb_device.specs.BaseCalls.{TakesOut, UsesChain, CanUse, readiness_refusal};
 ghost use Rattle.vb_device.specs.BaseCalls.{queue_refusal, with_lost, SweepsPage, GivesLast};
+ghost use Rattle.vb_device.specs.BaseCalls.{with_visit, VisitsNext};
+ghost use Rattle.vb_model.specs.Device.{next_page};
 ghost use Rattle.vb_device.specs.Calls.{IsUnused, attached, TakesBy};
 ghost use Rattle.vb_device.specs.Calls.{without_frames};
 ghost use Rattle.vb_device.specs.Discards.{discarded, frames_behind};
 ghost use Rattle.vb_device.specs.QueueState.{status_after};
 
+use crate::Worked;
 use crate::flags::PageFlags;
 use crate::queue::{DeviceQueue, TakenRequest};
 use bitflags::Flags;
@@ -108,6 +112,13 @@ fn discard_all(ram: &mut Ram, loose: &mut Vec<Frame>, pages: &[u32])
     }
 }
 
+/// Whether a device visits the pages of this queue's requests before it finishes them.
+fn visits_first(paced: bool, queue: u32) -> bool
+    ensures { result ≡ (paced && not (queue == DEFLATE_QUEUE)) }
+{
+    paced && queue != DEFLATE_QUEUE
+}
+
 /// Takes the frames of a request's pages away, where the queue is one whose pages lose them.
 fn discard_request(ram: &mut Ram, loose: &mut Vec<Frame>, queue: u32, pages: &[u32])
     requires room { length loose.old.items + length pages.now ≤ vec_capacity loose.old }
@@ -143,7 +154,7 @@ impl DeviceBase {
         }
     }
 
-    /// The device is immediate and has no frames of its own.
+    /// The device has no frames of its own.
     pub(crate) fn is_plain(&self)
         ensures { IsPlain self.now.part }
     {
@@ -210,14 +221,19 @@ impl DeviceBase {
         taken
     }
 
-    /// Takes a taken request out of queue 0 or 1, with the frames behind an inflate's pages. The
-    /// driver isn't told before `use_chain`.
-    pub(crate) fn take_out(&mut self, queue: u32, index: u32) -> Result<TakenRequest, Refusal>
+    /// Takes a taken request out of queue 0 or 1, with the frames behind an inflate's pages. A
+    /// paced device has visited all of them before. The driver isn't told before `use_chain`.
+    pub(crate) fn take_out(
+        &mut self,
+        queue: u32,
+        index: u32,
+        paced: bool,
+    ) -> Result<TakenRequest, Refusal>
         requires backed { contains self.old.part.status driver_ok ≡ true →
             IsSome (frame_at self.old.mem (ring_page queue)) }
         requires room { length self.old.part.loose ≤ length self.old.mem }
-        ensures by { TakesOut queue index
-            self.old.mem self.new.mem self.old.part self.new.part result }
+        ensures by { TakesOut queue index self.old.mem self.new.mem
+            (with_pace paced self.old.part) (with_pace paced self.new.part) result }
         ensures count { length self.new.mem ≡ length self.old.mem }
         ensures ready { IfOk result
             (λ request. CanUse queue request.head self.new.mem self.new.part) }
@@ -225,9 +241,10 @@ impl DeviceBase {
         if let Some(why) = self.queue_refusal(queue) {
             return Err(why);
         }
-        match self.queues[queue as usize].remove(index) {
-            None => Err(Refusal::NotTaken),
-            Some(request) => {
+        let visits = visits_first(paced, queue);
+        match self.queues[queue as usize].remove(index, visits) {
+            Err(why) => Err(why),
+            Ok(request) => {
                 discard_request(&mut self.ram, &mut self.loose, queue, request.pages());
                 Ok(request)
             }
@@ -288,6 +305,29 @@ impl DeviceBase {
         let had = self.ram.backing(page).is_some();
         discard_all(&mut self.ram, &mut self.loose, &[page]);
         had
+    }
+
+    /// Counts the oldest page of the taken inflates that isn't visited yet as visited.
+    fn count_visit(&mut self) -> Option<u32>
+        ensures page { result ≡ next_page self.old.part.inflate.taken }
+        ensures none { IfNone result (self.new ≡ self.old) }
+        ensures part { self.new.part ≡ with_visit self.old.part }
+        ensures mem { self.new.mem ≡ self.old.mem }
+        ensures attached { OnSome result (0 < length self.new.mem) }
+    {
+        self.queues[0].visit_next()
+    }
+
+    /// Visits the oldest page of the taken inflates that isn't visited yet: takes its frame away,
+    /// if it has one. None where every page is visited.
+    pub(crate) fn visit_next(&mut self) -> Option<Worked>
+        requires room { length self.old.part.loose ≤ length self.old.mem }
+        ensures by { VisitsNext self.old.mem self.new.mem self.old.part self.new.part result }
+        ensures count { length self.new.mem ≡ length self.old.mem }
+    {
+        let page = self.count_visit()?;
+        let freed = self.discard(page);
+        Some(Worked { page, freed })
     }
 
     /// Takes the frame of a page away, if it has one, where these flags have the page; says whether

@@ -2,20 +2,22 @@
 //! queues, ballooned pages and loose frames are before and after each call.
 #![tactic(auto)]
 
+mod balloon;
 mod base;
 mod claimed;
 mod device;
 mod flags;
-mod immediate;
 mod laws;
+mod pace;
 mod queue;
 mod request;
 #[cfg(test)]
 mod tests;
 mod worked;
 
+pub use balloon::{BalloonDevice, ImmediateDevice, PacedDevice};
 pub use claimed::Claimed;
 pub use device::Device;
-pub use immediate::ImmediateDevice;
 pub use laws::{a_request_names_pages_of_the_guest, a_written_request_is_read};
+pub use pace::{Immediate, Pace, Paced};
 pub use worked::Worked;

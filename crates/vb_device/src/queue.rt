@@ -1,16 +1,20 @@
 //! A queue of page requests: the device's end of its ring, and the requests that were taken.
 
-ghost use Rattle.std.specs.Prelude.{◌≡◌, ◌<◌, ◌≤◌, ◌+◌, [], ◌++◌, ◌∷◌, All, IfSome, IfNone, IsTrue};
+ghost use Rattle.std.specs.Prelude.{◌≡◌, ◌<◌, ◌≤◌, ◌+◌, [], ◌++◌, ◌∷◌, All, IfNone, IfOk, OnOk, OnErr, Some, IsTrue};
 ghost use Rattle.std.specs.Prelude.{true, false, nat_le, length, slice_get, remove};
 ghost use Rattle.std.specs.Int.{is_power_of_two};
+ghost use Rattle.std.specs.List.{position};
 ghost use Rattle.vb_model.specs.declared.limits.TheConstants.{MIN_QUEUE_SIZE, MAX_QUEUE_SIZE};
 ghost use Rattle.vb_model.specs.declared.replies.Refusal.TheVariants.{Broken};
 ghost use Rattle.vb_model.specs.Limits.{max_outstanding, max_request_pages};
+ghost use Rattle.vb_model.specs.Device.{is_unvisited, next_page, visiting};
+ghost use Rattle.vb_model.specs.FirstRefusal.{refusal_in};
 ghost use Rattle.vb_ring.specs.Layout.{layout_of, IsInside, IsBacked};
 ghost use Rattle.vb_ring.specs.Ends.{IsDeviceEnd};
 ghost use Rattle.vb_ring.specs.Calls.{AddsUsedBy};
 ghost use Rattle.vb_device.specs.Faults.{rule_of};
 ghost use Rattle.vb_device.specs.QueueState.{started, restarted, is_full, AreNamed, TakesNext};
+ghost use Rattle.vb_device.specs.QueueState.{taken_refusal};
 
 use crate::request::{RequestPages, page_request};
 use arrayvec::ArrayVec;
@@ -58,6 +62,8 @@ pub(crate) struct TakenRequest {
     head: u16,
     /// The pages that it names, in the order in which they first stand there.
     pages: RequestPages,
+    /// How many of them the device has visited, from the first on.
+    visited: u32,
 }
 
 impl Model for TakenRequest {
@@ -66,7 +72,11 @@ impl Model for TakenRequest {
 
     ghost Value = { Request };
 
-    ghost view = { λ r. record { head = r.head; pages = r.pages.items; visited = 0 } };
+    ghost view = { λ r. record {
+      head = r.head;
+      pages = r.pages.items;
+      visited = r.visited;
+    } };
 
     ghost invariant = { λ r. AreNamed r.pages.items };
 }
@@ -76,6 +86,7 @@ impl Default for TakenRequest {
         TakenRequest {
             head: 0,
             pages: ArrayVec::new(),
+            visited: 0,
         }
     }
 }
@@ -95,6 +106,24 @@ impl TakenRequest {
         ensures few { length result.now ≤ max_request_pages }
     {
         &self.pages
+    }
+
+    /// Whether a page of it isn't visited yet.
+    fn is_unvisited(&self) -> bool
+        ensures { result ≡ is_unvisited self.now }
+    {
+        (self.visited as usize) < self.pages.len()
+    }
+
+    /// Counts its next page as visited; answers the page.
+    fn visit(&mut self) -> u32
+        requires { is_unvisited self.old ≡ true }
+        ensures page { slice_get self.old.pages self.old.visited ≡ Some result }
+        ensures visited { self.new ≡ record self.old { visited = self.old.visited + 1 } }
+    {
+        let page = self.pages[self.visited as usize];
+        self.visited += 1;
+        page
     }
 }
 
@@ -188,6 +217,7 @@ impl DeviceQueue {
                         self.taken.push(TakenRequest {
                             head: taken.head,
                             pages,
+                            visited: 0,
                         });
                         Ok(Some(taken.head))
                     }
@@ -200,18 +230,44 @@ impl DeviceQueue {
         }
     }
 
-    /// Takes the request of this number out; those behind it close up.
-    pub(crate) fn remove(&mut self, index: u32) -> Option<TakenRequest>
-        ensures value { result ≡ slice_get self.old.taken index }
-        ensures head { IfSome result (λ r. r.head < self.old.ring.size) }
+    /// The number of the oldest taken request with a page that isn't visited yet.
+    fn oldest_unvisited(&self) -> Option<usize>
+        ensures { result ≡ position is_unvisited self.now.taken }
+    {
+        self.taken.iter().position(|request| request.is_unvisited())
+    }
+
+    /// Counts the oldest page that isn't visited yet as visited; answers the page, or none where
+    /// every page of every taken request is visited.
+    pub(crate) fn visit_next(&mut self) -> Option<u32>
+        ensures page { result ≡ next_page self.old.taken }
         ensures none { IfNone result (self.new ≡ self.old) }
-        ensures rest { IfSome result (λ _. self.new ≡
+        ensures taken { self.new ≡ record self.old { taken = visiting self.old.taken } }
+    {
+        let oldest = self.oldest_unvisited()?;
+        Some(self.taken[oldest].visit())
+    }
+
+    /// Takes the request of this number out; those behind it close up. Refused with `NotTaken`
+    /// where there is none, and with `NotWorked` where its pages are to be visited first and one
+    /// isn't; then nothing is changed.
+    pub(crate) fn remove(&mut self, index: u32, visits: bool) -> Result<TakenRequest, Refusal>
+        ensures refused { refusal_in result ≡
+            taken_refusal visits (slice_get self.old.taken index) }
+        ensures value { IfOk result (λ r. slice_get self.old.taken index ≡ Some r) }
+        ensures head { IfOk result (λ r. r.head < self.old.ring.size) }
+        ensures err { OnErr result (self.new ≡ self.old) }
+        ensures rest { OnOk result (self.new ≡
             record self.old { taken = remove self.old.taken index }) }
     {
-        if index as usize >= self.taken.len() {
-            return None;
+        let at = index as usize;
+        if at >= self.taken.len() {
+            return Err(Refusal::NotTaken);
         }
-        Some(self.taken.remove(index as usize))
+        if visits && self.taken[at].is_unvisited() {
+            return Err(Refusal::NotWorked);
+        }
+        Ok(self.taken.remove(at))
     }
 
     /// Adds a chain to the used ring, with length 0.

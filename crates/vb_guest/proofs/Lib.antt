@@ -19,6 +19,7 @@ pub mod WriteStep
 pub mod TargetStep
 pub mod Freed
 pub mod SweepStep
+pub mod WorkStep
 pub mod Claimed
 pub mod ReadStep
 pub mod Normal

@@ -6,9 +6,10 @@ use Rattle.vb_model.specs.declared.replies.Reply.{Reply}
 use Rattle.vb_model.specs.declared.replies.Reply.TheVariants.{Ready, Done, Page, ReadBytes, Posted}
 use Rattle.vb_model.specs.declared.replies.Reply.TheVariants.{Taken, Empty, Finished, NotUsed}
 use Rattle.vb_model.specs.declared.replies.Reply.TheVariants.{Reaped, Swept, Pages, Balloon}
-use Rattle.vb_model.specs.declared.replies.Reply.TheVariants.{Refused}
+use Rattle.vb_model.specs.declared.replies.Reply.TheVariants.{Refused, Idle, Worked}
 use Rattle.vb_model.specs.declared.places.PageRun.{PageRun}
 use Rattle.vb_guest.specs.declared.queries.BalloonState.{BalloonState}
+use Rattle.vb_device.specs.declared.worked.Worked.{Worked as WorkedPage}
 use Rattle.vb_driver.specs.declared.answers.Posted.{Posted as PostedRequest}
 use Rattle.vb_driver.specs.declared.answers.Reaped.{Reaped as ReapedRequest}
 
@@ -24,6 +25,11 @@ abbrev pub taken_reply : Result (Option ℕ) Refusal → Reply
 taken_reply (Ok None) = Empty
 taken_reply (Ok (Some head)) = Taken head
 taken_reply (Err why) = Refused why
+
+abbrev pub worked_reply : Result (Option WorkedPage) Refusal → Reply
+worked_reply (Ok None) = Idle
+worked_reply (Ok (Some worked)) = Worked worked.page worked.freed
+worked_reply (Err why) = Refused why
 
 abbrev pub finished_reply : Result ℕ Refusal → Reply
 finished_reply (Ok head) = Finished head

@@ -8,7 +8,7 @@ ghost use Rattle.vb_guest.specs.Stands.{Stands};
 ghost use Rattle.vb_guest.specs.Steps.{AreOut, StepsOver};
 ghost use Rattle.vb_guest.specs.Supply.{supply_of};
 
-use crate::device::{finish, set_target, sweep, take};
+use crate::device::{finish, set_target, sweep, take, work};
 use crate::driver::{deflate, free, inflate, oom, reap};
 use crate::frames::Claims;
 use crate::lives::init;
@@ -16,7 +16,7 @@ use crate::memory::{read, write};
 use crate::queries::{balloon, pages_at, pages_ballooned, places};
 use crate::replies::{
     balloon_reply, bytes_reply, done_reply, finished_reply, page_reply, posted_reply, ready_reply,
-    reaped_reply, runs_reply, swept_reply, taken_reply,
+    reaped_reply, runs_reply, swept_reply, taken_reply, worked_reply,
 };
 use std::alloc::Global;
 use vb_device::Device;
@@ -63,6 +63,7 @@ pub fn call<D: Device, K: FrameKeeper>(
         Call::Oom { pages } => posted_reply(oom(driver, device, *pages)),
         Call::Reap { queue } => reaped_reply(reap(driver, device, *queue)),
         Call::Take { queue } => taken_reply(take(device, *queue)),
+        Call::Work => worked_reply(work(device, keeper)),
         Call::Finish { queue, index } => finished_reply(finish(device, keeper, *queue, *index)),
         Call::Sweep { page } => swept_reply(sweep(device, keeper, *page)),
         Call::SetTarget { pages } => {

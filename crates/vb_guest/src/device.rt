@@ -4,13 +4,13 @@ ghost use Rattle.std.specs.Prelude.{◌≡◌, Bool, ℕ, [], false};
 ghost use Rattle.vb_model.specs.declared.replies.Reply.TheVariants.{Done};
 ghost use Rattle.vb_model.specs.Guest.{Guest};
 ghost use Rattle.vb_driver.specs.State.{DriverState};
-ghost use Rattle.vb_guest.specs.Replies.{taken_reply, finished_reply, swept_reply};
+ghost use Rattle.vb_guest.specs.Replies.{taken_reply, worked_reply, finished_reply, swept_reply};
 ghost use Rattle.vb_guest.specs.Stands.{Stands};
 ghost use Rattle.vb_guest.specs.Steps.{AreOut, StepsAlone, StepsOver};
 ghost use Rattle.vb_guest.specs.Supply.{supply_of};
 
 use crate::frames::return_loose;
-use vb_device::Device;
+use vb_device::{Device, Worked};
 use vb_frames::FrameKeeper;
 use vb_model::{Call, Refusal};
 
@@ -23,6 +23,25 @@ pub fn take<D: Device>(device: &mut D, queue: u32) -> Result<Option<u16>, Refusa
         (taken_reply result) }
 {
     device.take(queue)
+}
+
+/// A paced device visits one more page of the requests that it took, the oldest first, and takes
+/// the page's frame away, if it has one; the frame goes back to the keeper. Answers the page and
+/// whether it had a frame; none where no page is left, and always where the device is immediate.
+/// Refused with `NotReady` alone.
+pub fn work<D: Device, K: FrameKeeper>(
+    device: &mut D,
+    keeper: &mut K,
+) -> Result<Option<Worked>, Refusal>
+    requires { (d : DriverState) × (g : Guest) × Stands (D.mem device.old) (D.part device.old) d g
+        × AreOut g (K.out keeper.old) }
+    ensures { (d : DriverState) (g : Guest) → Stands (D.mem device.old) (D.part device.old) d g
+        → Steps (Stands (D.mem device.new) (D.part device.new) d) K.answers (K.out keeper.old)
+        (K.out keeper.new) g Call.Work (worked_reply result) }
+{
+    let answer = device.work();
+    return_loose(device, keeper);
+    answer
 }
 
 /// The device uses the taken chain of this number, from 0, on a queue; answers its head. Frames

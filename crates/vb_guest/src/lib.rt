@@ -11,7 +11,7 @@ mod queries;
 mod replies;
 
 pub use calls::{call, query};
-pub use device::{finish, set_target, sweep, take};
+pub use device::{finish, set_target, sweep, take, work};
 pub use driver::{alloc, deflate, free, inflate, oom, reap};
 pub use frames::{Claims, MAX_CLAIMS};
 pub use lives::{init, reset};

@@ -3,10 +3,11 @@
 ghost use Rattle.std.specs.Prelude.{◌≡◌};
 ghost use Rattle.vb_guest.specs.Replies.{ready_reply, page_reply, done_reply, bytes_reply};
 ghost use Rattle.vb_guest.specs.Replies.{posted_reply, reaped_reply, taken_reply, finished_reply};
-ghost use Rattle.vb_guest.specs.Replies.{swept_reply, runs_reply, balloon_reply};
+ghost use Rattle.vb_guest.specs.Replies.{swept_reply, worked_reply, runs_reply, balloon_reply};
 
 use crate::queries::BalloonState;
 use std::alloc::AllocError;
+use vb_device::Worked;
 use vb_driver::{Posted, Reaped};
 use vb_model::{Bytes, PageRuns, Refusal, Reply};
 
@@ -79,6 +80,19 @@ pub(crate) fn taken_reply(answer: Result<Option<u16>, Refusal>) -> Reply
             head: u32::from(head),
         },
         Ok(None) => Reply::Empty,
+        Err(refusal) => Reply::Refused(refusal),
+    }
+}
+
+pub(crate) fn worked_reply(answer: Result<Option<Worked>, Refusal>) -> Reply
+    ensures { result ≡ worked_reply answer }
+{
+    match answer {
+        Ok(Some(worked)) => Reply::Worked {
+            page: worked.page,
+            freed: worked.freed,
+        },
+        Ok(None) => Reply::Idle,
         Err(refusal) => Reply::Refused(refusal),
     }
 }

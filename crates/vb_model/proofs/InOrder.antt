@@ -175,7 +175,7 @@ orderly_take most r rest rs e h =
       done = h.done;
     }
 
-headed-visiting : (k : ℕ) (rs : List Request) → headed k (visiting rs) ≡ headed k rs
+pub headed-visiting : (k : ℕ) (rs : List Request) → headed k (visiting rs) ≡ headed k rs
 headed-visiting k [] = refl
 headed-visiting k (r ∷ rs) = step (is_unvisited r) (headed-visiting k rs)
   where
@@ -189,7 +189,7 @@ headed-visiting k (r ∷ rs) = step (is_unvisited r) (headed-visiting k rs)
     )
     step false ih = omega (arith, headed-cons k r rs, headed-cons k r (visiting rs))
 
-length-visiting : (rs : List Request) → length (visiting rs) ≡ length rs
+pub length-visiting : (rs : List Request) → length (visiting rs) ≡ length rs
 length-visiting [] = refl
 length-visiting (r ∷ rs) = step (is_unvisited r) (length-visiting rs)
   where

@@ -1,11 +1,11 @@
--- What the crates above answer so far: which events, which queues, and devices of which pace. All
--- that is left out is named here and nowhere else.
-use Rattle.std.specs.Prelude.{ℕ, Bool, true, false, not, nat_le}
+-- What the crates above answer so far: which events, and which queues. All that is left out is named
+-- here and nowhere else.
+use Rattle.std.specs.Prelude.{ℕ, Bool, true, false, nat_le}
 use Rattle.vb_model.specs.declared.layout.TheConstants.{DEFLATE_QUEUE}
 use Rattle.vb_model.specs.declared.calls.Call.{Call}
 use Rattle.vb_model.specs.declared.calls.Call.TheVariants.{Init, Alloc, Free, Read, Write, Inflate}
-use Rattle.vb_model.specs.declared.calls.Call.TheVariants.{Deflate, Oom, Reap, Take, Finish, Sweep}
-use Rattle.vb_model.specs.declared.calls.Call.TheVariants.{SetTarget}
+use Rattle.vb_model.specs.declared.calls.Call.TheVariants.{Deflate, Oom, Reap, Take, Work, Finish}
+use Rattle.vb_model.specs.declared.calls.Call.TheVariants.{Sweep, SetTarget}
 use Rattle.vb_model.specs.declared.calls.Query.{Query}
 use Rattle.vb_model.specs.declared.calls.Query.TheVariants.{Places, PagesAt, PagesBallooned}
 use Rattle.vb_model.specs.declared.calls.Query.TheVariants.{Balloon, Backing}
@@ -23,6 +23,7 @@ is_call_brought (Deflate pages) = true
 is_call_brought (Oom pages) = true
 is_call_brought (Reap queue) = true
 is_call_brought (Take queue) = true
+is_call_brought Work = true
 is_call_brought (Finish queue index) = true
 is_call_brought (Sweep page) = true
 is_call_brought (SetTarget pages) = true
@@ -47,7 +48,3 @@ is_brought _ = false
 -- exist, and no statistics buffer is made available.
 abbrev pub is_queue_brought : ℕ → Bool
 is_queue_brought q = nat_le q DEFLATE_QUEUE
-
--- Immediate devices; a paced one isn't made.
-abbrev pub is_pace_brought : Bool → Bool
-is_pace_brought paced = not paced

@@ -1,18 +1,9 @@
-//! What is answered so far: which events, and devices of which pace.
+//! Which events are answered so far.
 
 ghost use Rattle.std.specs.Prelude.{◌≡◌};
 ghost use Rattle.vb_model.specs.Brought.{is_call_brought, is_query_brought, is_brought};
-ghost use Rattle.vb_model.specs.Brought.{is_pace_brought};
 
 use crate::calls::{Call, Event, Query};
-
-/// Whether there are devices of this pace so far: paced ones, which visit the pages of a request one
-/// by one, or immediate ones.
-pub fn is_pace_brought(paced: bool) -> bool
-    ensures { result ≡ is_pace_brought paced }
-{
-    !paced
-}
 
 impl Call {
     /// Whether guests answer the call so far.
@@ -31,6 +22,7 @@ impl Call {
                 | Call::Oom { .. }
                 | Call::Reap { .. }
                 | Call::Take { .. }
+                | Call::Work
                 | Call::Finish { .. }
                 | Call::Sweep { .. }
                 | Call::SetTarget { .. }

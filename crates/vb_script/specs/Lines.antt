@@ -4,7 +4,7 @@ use Rattle.std.specs.Prelude.{Option, Some, None, Result, Ok, Err, codes}
 use Rattle.std.specs.Option.{option_and_then}
 use Rattle.std.specs.Str.{bytes_eq}
 use Rattle.vb_model.specs.declared.calls.Event.{Event}
-use Rattle.vb_model.specs.Brought.{is_brought, is_pace_brought as is_there}
+use Rattle.vb_model.specs.Brought.{is_brought}
 use Rattle.vb_script.specs.declared.lines.LineFault.{LineFault}
 use Rattle.vb_script.specs.declared.lines.LineFault.TheVariants.{Bad}
 use Rattle.vb_script.specs.declared.lines.Pace.{Pace}
@@ -17,10 +17,6 @@ use Rattle.vb_script.specs.Words.{only_word, only_number}
 abbrev pub is_paced : Pace → Bool
 is_paced Immediate = false
 is_paced Paced = true
-
--- the spare devices that are there so far
-abbrev pub is_pace_brought : Pace → Bool
-is_pace_brought pace = is_there (is_paced pace)
 
 abbrev pub in_range : ℕ → Option ℕ
 in_range frames = if nat_le 1 frames && nat_le frames 65_536 then Some frames else None
@@ -42,14 +38,6 @@ spare_of [] = Err Bad
 spare_of (word ∷ words) =
     if bytes_eq word (codes "spare") then a_pace (option_and_then pace_of (only_word words))
     else Ok None
-
-abbrev pub answered_spare : Result (Option Pace) LineFault → Result (Option Pace) LineFault
-answered_spare (Err fault) = Err fault
-answered_spare (Ok None) = Ok None
-answered_spare (Ok (Some pace)) = if is_pace_brought pace then Ok (Some pace) else Err Bad
-
-abbrev pub answered_spare_of : List (List ℕ) → Result (Option Pace) LineFault
-answered_spare_of words = answered_spare (spare_of words)
 
 abbrev pub answered : Event → Option Event
 answered event = if is_brought event then Some event else None

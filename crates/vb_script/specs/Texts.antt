@@ -6,7 +6,7 @@ use Rattle.std.specs.Option.{option_map}
 use Rattle.vb_model.specs.declared.calls.Event.{Event}
 use Rattle.vb_script.specs.declared.lines.LineFault.{LineFault}
 use Rattle.vb_script.specs.declared.lines.Pace.{Pace}
-use Rattle.vb_script.specs.Lines.{answered_event_of, answered_spare_of, host_of}
+use Rattle.vb_script.specs.Lines.{answered_event_of, spare_of, host_of}
 use Rattle.vb_script.specs.Words.{words_of}
 
 -- nothing behind the last line feed is no line
@@ -51,7 +51,7 @@ with_words (Ok None) words said = option_map (with_event said) (answered_event_o
 
 -- a line behind the first one tells of a spare device, or of an event
 abbrev pub with_line : List ℕ → Said → Option Said
-with_line line said = with_words (answered_spare_of (words_of line)) (words_of line) said
+with_line line said = with_words (spare_of (words_of line)) (words_of line) said
 
 -- the lines that aren't skipped, each with its number among all, of which so many were passed
 abbrev pub numbered : ℕ → List (List ℕ) → List (ℕ × List ℕ)

@@ -1,11 +1,9 @@
 //! The lines of a script.
 
-ghost use Rattle.std.specs.Prelude.{◌≡◌, ◌≤◌, IfOk, IfSome, IsTrue, true};
+ghost use Rattle.std.specs.Prelude.{◌≡◌, ◌≤◌, IfOk, IfSome, IsTrue};
 ghost use Rattle.vb_model.specs.Brought.{is_brought};
 ghost use Rattle.vb_script.specs.Events.{event_of};
-ghost use Rattle.vb_script.specs.Lines.{answered_event_of, host_of, is_pace_brought, is_paced};
-ghost use Rattle.vb_script.specs.Lines.{spare_of};
-ghost use Rattle.vb_script.specs.Lines.{answered_spare_of};
+ghost use Rattle.vb_script.specs.Lines.{answered_event_of, host_of, is_paced, spare_of};
 ghost use Rattle.vb_script.specs.Names.{pace_of};
 ghost use Rattle.vb_script.specs.Words.{words_of};
 
@@ -14,8 +12,8 @@ use crate::names::{PACES, find};
 use crate::values::number;
 use crate::words::Words;
 use std::alloc::{AllocError, Global};
+use vb_model::Event;
 use vb_model::limits::MAX_FRAMES;
-use vb_model::{Event, is_pace_brought};
 
 /// Why a line gives nothing.
 #[derive(Clone, Copy, Debug, PartialEq, Eq)]
@@ -52,13 +50,6 @@ impl Pace {
     {
         matches!(self, Pace::Paced)
     }
-
-    /// Whether such devices are there so far; a script has no line for the others.
-    pub fn is_brought(self) -> bool
-        ensures { result ≡ is_pace_brought self }
-    {
-        is_pace_brought(self.is_paced())
-    }
 }
 
 /// `host FRAMES`: how many frames the host has.
@@ -78,21 +69,8 @@ pub fn host(line: &[u8]) -> Option<u32>
     Some(frames)
 }
 
-/// The pace of a spare device, if the line is about one at all; a pace that isn't there so far
-/// makes a bad line.
-pub fn spare(line: &[u8]) -> Result<Option<Pace>, LineFault>
-    ensures brought { IfOk result (λ found. IfSome found (λ pace. is_pace_brought pace ≡ true)) }
-    ensures value { result ≡ answered_spare_of (words_of line.now) }
-{
-    let pace = any_spare(line)?;
-    match pace {
-        Some(pace) if !pace.is_brought() => Err(LineFault::Bad),
-        _ => Ok(pace),
-    }
-}
-
 /// `spare immediate` or `spare paced`, if the line is about a spare at all.
-pub fn any_spare(line: &[u8]) -> Result<Option<Pace>, LineFault>
+pub fn spare(line: &[u8]) -> Result<Option<Pace>, LineFault>
     ensures { result ≡ spare_of (words_of line.now) }
 {
     let mut words = Words::of(line);

@@ -2,7 +2,6 @@
 
 ghost use Rattle.std.specs.Prelude.{◌≡◌, ◌≤◌, IfErr, IfOk, OnErr, OnOk, true};
 ghost use Rattle.std.specs.Option.{option_map};
-ghost use Rattle.vb_script.specs.Lines.{is_pace_brought};
 ghost use Rattle.vb_script.specs.Scripts.{IfBadLine, lines_left, said_by};
 ghost use Rattle.vb_script.specs.Texts.{host_said, script_of, with_line, with_lines, with_spare};
 
@@ -116,7 +115,6 @@ impl Script {
 
     /// Adds a spare device. There may be no event before it, and not too many beside it.
     fn add_spare(&mut self, pace: Pace) -> Result<(), LineFault>
-        requires { is_pace_brought pace ≡ true }
         ensures ok { OnOk result (with_spare pace (said_by self.old) ≡ Some (said_by self.new)) }
         ensures bad { result ≡ Err LineFault.Bad → with_spare pace (said_by self.old) ≡ None }
         ensures err { OnErr result (said_by self.new ≡ said_by self.old) }

@@ -2,7 +2,6 @@
 
 ghost use Rattle.std.specs.Prelude.{◌≤◌, vec_len, All, IsTrue};
 ghost use Rattle.vb_model.specs.Brought.{is_brought};
-ghost use Rattle.vb_script.specs.Lines.{is_pace_brought};
 
 use crate::lines::Pace;
 use vb_model::Event;
@@ -21,6 +20,5 @@ pub struct Script {
     pub ghost some_frames: { 1 ≤ frames },
     pub ghost frames_in_bound: { frames ≤ 65_536 },
     pub ghost spares_in_bound: { vec_len spares ≤ 64 },
-    pub ghost paces_brought: { All (λ pace. IsTrue (is_pace_brought pace)) spares.items },
     pub ghost all_brought: { All (λ event. IsTrue (is_brought event)) events.items },
 }

@@ -6,13 +6,13 @@ ghost use Rattle.vb_model.specs.Guest.{Guest};
 ghost use Rattle.vb_model.specs.World.{Answers};
 ghost use Rattle.vb_guest.specs.Replies.{ready_reply, page_reply, done_reply, bytes_reply};
 ghost use Rattle.vb_guest.specs.Replies.{posted_reply, reaped_reply, taken_reply, finished_reply};
-ghost use Rattle.vb_guest.specs.Replies.{swept_reply, runs_reply, balloon_reply};
+ghost use Rattle.vb_guest.specs.Replies.{worked_reply, swept_reply, runs_reply, balloon_reply};
 ghost use Rattle.vb_guest.specs.Steps.{AreOut, Steps, StepsAlone};
 ghost use Rattle.vb_slot.specs.Slots.{stands_for};
 
 use crate::slot::Slot;
 use std::alloc::{AllocError, Global};
-use vb_device::Device;
+use vb_device::{Device, Worked};
 use vb_driver::{Posted, Reaped};
 use vb_frames::FrameKeeper;
 use vb_guest::BalloonState;
@@ -135,6 +135,19 @@ impl Slot {
             → StepsAlone (stands_for mem part self.new) g (Call.Take queue) (taken_reply result) }
     {
         vb_guest::take(&mut self.device, queue)
+    }
+
+    /// A paced device visits one more page of the requests that it took, the oldest request first,
+    /// and takes its frame away, if it has one. Answers the page and whether it had a frame; none
+    /// where no page is left to visit, and always where the device is immediate. Refused with
+    /// `NotReady` alone.
+    pub fn work<K: FrameKeeper>(&mut self, keeper: &mut K) -> Result<Option<Worked>, Refusal>
+        requires { (g : Guest) × stands_for mem part self.old g × AreOut g (K.out keeper.old) }
+        ensures step { (g : Guest) → stands_for mem part self.old g
+            → Steps (stands_for mem part self.new) K.answers (K.out keeper.old) (K.out keeper.new) g
+            (Call.Work) (worked_reply result) }
+    {
+        vb_guest::work(&mut self.device, keeper)
     }
 
     /// The device uses the taken chain of this number, from 0, on a queue; answers its head. Refused

@@ -1,6 +1,6 @@
 //! Each line of the format, and each way to be none.
 
-use crate::lines::{LineFault, Pace, any_event, any_spare, event, host, spare};
+use crate::lines::{LineFault, Pace, any_event, event, host, spare};
 use crate::values::{features, number};
 use vb_model::{Call, Event, Place, Query};
 
@@ -20,7 +20,7 @@ static EVENTS: [(&str, [u32; 4], &[u8], bool); 24] = [
     ("stats 7", [7, 0, 0, 0], b"", false),
     ("reap 7 4", [7, 4, 0, 0], b"", true),
     ("take 7 1", [7, 1, 0, 0], b"", true),
-    ("work 7", [7, 0, 0, 0], b"", false),
+    ("work 7", [7, 0, 0, 0], b"", true),
     ("finish 7 1 2", [7, 1, 2, 0], b"", true),
     ("sweep 7 20", [7, 20, 0, 0], b"", true),
     ("ask 7", [7, 0, 0, 0], b"", false),
@@ -317,7 +317,7 @@ fn hosts(rt: HostRuntime) {
 /// Lines, and the spare devices that they bring.
 static SPARES: [(&[u8], Result<Option<Pace>, LineFault>); 10] = [
     (b"spare immediate", Ok(Some(Pace::Immediate))),
-    (b"spare paced", Err(LineFault::Bad)),
+    (b"spare paced", Ok(Some(Pace::Paced))),
     (b"frames", Ok(None)),
     (b"spare", Err(LineFault::Bad)),
     (b"spare ", Err(LineFault::Bad)),
@@ -333,5 +333,4 @@ fn spares(rt: HostRuntime) {
     for (line, expected) in &SPARES {
         assert!(rt; spare(line) == *expected);
     }
-    assert!(rt; any_spare(b"spare paced") == Ok(Some(Pace::Paced)));
 }

@@ -47,7 +47,7 @@ static TEXTS: [(&[u8], Outline); 20] = [
     (b"host 64\n #\n", Err(ScriptFault::BadLine(2))),
     (b"\xef\xbb\xbfhost 64\n", Err(ScriptFault::BadLine(1))),
     (b"host 64\n\tframes\n", Err(ScriptFault::BadLine(2))),
-    (b"host 64\nspare paced\n", Err(ScriptFault::BadLine(2))),
+    (b"host 64\nspare paced\n", Ok(Some((64, 1, 0)))),
     (
         b"host 64\nframes\n\n#\nunplug 0",
         Err(ScriptFault::BadLine(5)),
@@ -115,6 +115,7 @@ fn brings(alloc: Global, text: &[u8], paces: &[Pace]) -> bool {
 
 #[test]
 fn spare_devices_have_their_paces(rt: HostRuntime) {
-    let text = b"host 1\nspare immediate\nspare immediate";
-    assert!(rt; brings(rt.alloc(), text, &[Pace::Immediate, Pace::Immediate]));
+    let text = b"host 1\nspare immediate\nspare paced\nspare immediate";
+    let paces = [Pace::Immediate, Pace::Paced, Pace::Immediate];
+    assert!(rt; brings(rt.alloc(), text, &paces));
 }

@@ -78,6 +78,13 @@ returns-in-Take g c =
           (c.take.ensures keeps _ guest stands));
     }
 
+pub returns-in-Work : goal.returns-in-Work
+returns-in-Work g c =
+    record {
+      step = λ guest stands. rw (c.in-Work.is, c.worked_reply.ensures)
+          (c.work.ensures _ guest stands);
+    }
+
 pub returns-in-Finish : goal.returns-in-Finish
 returns-in-Finish g c =
     record {

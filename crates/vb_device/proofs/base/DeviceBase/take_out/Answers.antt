@@ -1,64 +1,31 @@
-use Rattle.std.proofs.Common.{◌≡◌, ◌∙◌, ◌≤◌, ◌<◌, ℕ, List, None, Some, Ok, Err, get_or, true, sym}
+use Rattle.std.proofs.Common.{◌≡◌, ◌∙◌, ◌≤◌, ◌<◌, ℕ, List, None, Some, Ok, get_or, true, sym}
 use Rattle.std.proofs.Common.{ap, subst, rules}
-use Rattle.std.specs.Prelude.{length, slice_get, IsSome}
+use Rattle.std.specs.Prelude.{length, slice_get, IsSome, Bool, not, ◌&&◌, ◌==◌}
 use Rattle.std.proofs.Math.ListN.{set}
-use Rattle.vb_model.specs.declared.replies.Refusal.TheVariants.{NotTaken}
 use Rattle.vb_model.specs.Layout.{ring_page}
 use Rattle.vb_model.specs.Status.{contains, driver_ok}
 use Rattle.vb_ram.specs.Pages.{Pages, frame_at}
 use Rattle.vb_status.specs.Bits.{status_bits, feature_bits}
 use Rattle.vb_device.specs.State.{DeviceState}
-use Rattle.vb_device.specs.QueueState.{QueueState}
-use Rattle.vb_device.specs.Base.{queue_at, base_part, numbers_of_frames}
+use Rattle.vb_device.specs.QueueState.{QueueState, taken_refusal}
+use Rattle.vb_device.specs.Base.{queue_at, base_part, numbers_of_frames, with_pace}
 use Rattle.vb_device.specs.BaseCalls.{queue_refusal, with_lost, TakesOut}
 use Rattle.vb_device.specs.Calls.{without_frames}
-use Rattle.vb_device.proofs.Both.{entry_is, set_back}
+use Rattle.vb_device.proofs.Both.{entry_is}
 use Rattle.vb_device.proofs.TakesBy.{queue_known, queue_finish, status_ok}
-use Rattle.vb_device.proofs.Finishes.{out_at, out_refused, not_taken, without_taken, base_used}
+use Rattle.vb_device.proofs.Finishes.{out_at, out_refused, without_taken, base_used}
 use Rattle.vb_device.proofs.Finishes.{has_pages, can_use, kept_length}
 use Rattle.vb_device.proofs.base.DeviceBase.take_out.Goals as goal
 
 pub returns-in-Some-clause-by : goal.returns-in-Some-clause-by
 returns-in-Some-clause-by c =
-    out_refused c.args.queue c.args.index c.args.self.now.mem c.args.self.now.part c.in-Some.why
-    (queue_finish c.args.queue c.args.index c.args.self.now.part c.in-Some.why
-    (sym c.in-Some.ensures))
+    out_refused c.args.queue c.args.index c.args.self.now.mem
+    (with_pace c.args.paced c.args.self.now.part) c.in-Some.why
+    (queue_finish c.args.queue c.args.index (with_pace c.args.paced c.args.self.now.part)
+    c.in-Some.why (sym c.in-Some.ensures))
 
-pub returns-in-None-clause-by : goal.returns-in-None-clause-by
-returns-in-None-clause-by c =
-    let open_status : queue_refusal c.args.queue (status_bits c.self.inside.status) ≡ None =
-    search rules in
-    let known : c.args.queue ≤ 1 =
-    queue_known c.args.queue (status_bits c.self.inside.status) open_status in
-    let was : get_or c.self.inside.queues c.args.queue c.index-self-queue.result ≡
-    queue_at c.args.queue c.self.inside.queues =
-    entry_is c.args.queue c.self.inside.queues c.index-self-queue.result c.self.invariant.two known
-    in
-    let none : slice_get (queue_at c.args.queue c.self.inside.queues).taken c.args.index ≡ None =
-    ap (λ (x : QueueState). slice_get x.taken c.args.index) (sym was) ∙
-    (sym c.remove.ensures.value ∙ c.in-None.is) in
-    let back : set c.self.inside.queues c.args.queue c.remove.new.self ≡ c.self.inside.queues =
-    set_back c.args.queue c.self.inside.queues c.remove.new.self c.self.invariant.two known
-    (c.in-None.ensures.none ∙ was) in
-    subst (λ (v : DeviceState). TakesOut c.args.queue c.args.index v.mem c.self.inside.ram v.part
-    (base_part (status_bits c.self.inside.status) (feature_bits c.self.inside.features)
-    c.self.inside.target c.self.inside.actual
-    (set c.self.inside.queues c.args.queue c.remove.new.self) c.self.inside.loose.items)
-    (Err NotTaken)) c.self.view_is
-    (subst (λ (qs : List QueueState). TakesOut c.args.queue c.args.index c.self.inside.ram
-    c.self.inside.ram (base_part (status_bits c.self.inside.status)
-    (feature_bits c.self.inside.features) c.self.inside.target c.self.inside.actual
-    c.self.inside.queues c.self.inside.loose.items)
-    (base_part (status_bits c.self.inside.status) (feature_bits c.self.inside.features)
-    c.self.inside.target c.self.inside.actual qs c.self.inside.loose.items) (Err NotTaken))
-    (sym back)
-    (out_refused c.args.queue c.args.index c.self.inside.ram _ NotTaken
-    (not_taken c.args.queue c.args.index c.self.inside.ram (status_bits c.self.inside.status)
-    (feature_bits c.self.inside.features) c.self.inside.target c.self.inside.actual _
-    c.self.inside.queues c.self.inside.loose.items c.self.invariant open_status none)))
-
-pub invariant_of-self-in-Some-remove : goal.invariant_of-self-in-Some-remove
-invariant_of-self-in-Some-remove c =
+pub invariant_of-self-in-Ok : goal.invariant_of-self-in-Ok
+invariant_of-self-in-Ok c =
     let open_status : queue_refusal c.args.queue (status_bits c.self.inside.status) ≡ None =
     search rules in
     let known : c.args.queue ≤ 1 =
@@ -69,11 +36,11 @@ invariant_of-self-in-Some-remove c =
     in
     let left : c.remove.new.self ≡
     without_taken (queue_at c.args.queue c.self.inside.queues) c.args.index =
-    c.in-Some-remove.ensures.rest ∙ ap (λ (x : QueueState). without_taken x c.args.index) was in
+    c.in-Ok.ensures.rest ∙ ap (λ (x : QueueState). without_taken x c.args.index) was in
     let taken : slice_get (queue_at c.args.queue c.self.inside.queues).taken c.args.index ≡
-    Some c.in-Some-remove.request =
+    Some c.in-Ok.request =
     ap (λ (x : QueueState). slice_get x.taken c.args.index) (sym was) ∙
-    (sym c.remove.ensures.value ∙ c.in-Some-remove.is) in
+    c.in-Ok.ensures.value in
     base_used c.args.queue c.self.inside.ram c.discard_request.new.ram
     (status_bits c.self.inside.status) _ _ c.self.inside.queues c.remove.new.self
     c.self.invariant known
@@ -81,12 +48,12 @@ invariant_of-self-in-Some-remove c =
     kept_length c.args.queue c.pages.result.now c.self.inside.ram)
     c.discard_request.ensures.capacity
     (has_pages c.self.inside.ram (queue_at c.args.queue c.self.inside.queues).taken c.args.index
-    c.in-Some-remove.request (c.self.invariant.each c.args.queue known).none taken)
+    c.in-Ok.request (c.self.invariant.each c.args.queue known).none taken)
     (ap (λ (x : QueueState). x.ring.layout) left) (ap (λ (x : QueueState). x.ring.size) left)
     (ap (λ (x : QueueState). x.ring.ready) left)
 
-pub returns-in-Some-remove-clause-by : goal.returns-in-Some-remove-clause-by
-returns-in-Some-remove-clause-by c =
+pub returns-in-Ok-clause-by : goal.returns-in-Ok-clause-by
+returns-in-Ok-clause-by c =
     let open_status : queue_refusal c.args.queue (status_bits c.self.inside.status) ≡ None =
     search rules in
     let known : c.args.queue ≤ 1 =
@@ -97,42 +64,51 @@ returns-in-Some-remove-clause-by c =
     in
     let left : c.remove.new.self ≡
     without_taken (queue_at c.args.queue c.self.inside.queues) c.args.index =
-    c.in-Some-remove.ensures.rest ∙ ap (λ (x : QueueState). without_taken x c.args.index) was in
+    c.in-Ok.ensures.rest ∙ ap (λ (x : QueueState). without_taken x c.args.index) was in
     let taken : slice_get (queue_at c.args.queue c.self.inside.queues).taken c.args.index ≡
-    Some c.in-Some-remove.request =
+    Some c.in-Ok.request =
     ap (λ (x : QueueState). slice_get x.taken c.args.index) (sym was) ∙
-    (sym c.remove.ensures.value ∙ c.in-Some-remove.is) in
+    c.in-Ok.ensures.value in
     let mem : c.discard_request.new.ram ≡
-    without_frames c.args.queue c.in-Some-remove.request.pages c.self.inside.ram =
+    without_frames c.args.queue c.in-Ok.request.pages c.self.inside.ram =
     c.discard_request.ensures.mem ∙
     ap (λ (ps : List ℕ). without_frames c.args.queue ps c.self.inside.ram) c.pages.ensures.pages
     in
     let numbers : numbers_of_frames c.discard_request.new.loose.items ≡
-    with_lost c.args.queue c.self.inside.ram c.in-Some-remove.request.pages
+    with_lost c.args.queue c.self.inside.ram c.in-Ok.request.pages
     (numbers_of_frames c.self.inside.loose.items) =
     c.discard_request.ensures.loose ∙
     ap (λ (ps : List ℕ). with_lost c.args.queue c.self.inside.ram ps
     (numbers_of_frames c.self.inside.loose.items)) c.pages.ensures.pages in
+    let free : taken_refusal (c.args.paced && not (c.args.queue == 1))
+    (slice_get (queue_at c.args.queue c.self.inside.queues).taken c.args.index) ≡ None =
+    ap (λ (b : Bool). taken_refusal b
+    (slice_get (queue_at c.args.queue c.self.inside.queues).taken c.args.index))
+    (sym c.visits_first-visits.ensures)
+    ∙ (ap (λ (x : QueueState). taken_refusal c.visits_first-visits.result
+    (slice_get x.taken c.args.index)) (sym was) ∙ sym c.in-Ok.ensures.refused) in
     subst (λ (v : DeviceState). TakesOut c.args.queue c.args.index v.mem c.discard_request.new.ram
-    v.part (base_part (status_bits c.self.inside.status) (feature_bits c.self.inside.features)
-    c.self.inside.target c.self.inside.actual
-    (set c.self.inside.queues c.args.queue c.remove.new.self) c.discard_request.new.loose.items)
-    (Ok c.in-Some-remove.request)) c.self.view_is
-    (subst (λ (x : QueueState). TakesOut c.args.queue c.args.index c.self.inside.ram
-    c.discard_request.new.ram
+    (with_pace c.args.paced v.part) (with_pace c.args.paced
     (base_part (status_bits c.self.inside.status) (feature_bits c.self.inside.features)
-    c.self.inside.target c.self.inside.actual c.self.inside.queues c.self.inside.loose.items)
+    c.self.inside.target c.self.inside.actual
+    (set c.self.inside.queues c.args.queue c.remove.new.self) c.discard_request.new.loose.items))
+    (Ok c.in-Ok.request)) c.self.view_is
+    (subst (λ (x : QueueState). TakesOut c.args.queue c.args.index c.self.inside.ram
+    c.discard_request.new.ram (with_pace c.args.paced
+    (base_part (status_bits c.self.inside.status) (feature_bits c.self.inside.features)
+    c.self.inside.target c.self.inside.actual c.self.inside.queues c.self.inside.loose.items))
+    (with_pace c.args.paced
     (base_part (status_bits c.self.inside.status) (feature_bits c.self.inside.features)
     c.self.inside.target c.self.inside.actual (set c.self.inside.queues c.args.queue x)
-    c.discard_request.new.loose.items) (Ok c.in-Some-remove.request)) (sym left)
-    (out_at c.args.queue c.args.index c.self.inside.ram c.discard_request.new.ram
+    c.discard_request.new.loose.items)) (Ok c.in-Ok.request)) (sym left)
+    (out_at c.args.queue c.args.index c.args.paced c.self.inside.ram c.discard_request.new.ram
     (status_bits c.self.inside.status) (feature_bits c.self.inside.features)
     c.self.inside.target c.self.inside.actual _ c.self.inside.queues c.self.inside.loose.items
-    c.discard_request.new.loose.items c.in-Some-remove.request c.self.invariant open_status
+    c.discard_request.new.loose.items c.in-Ok.request c.self.invariant open_status free
     taken mem numbers))
 
-pub returns-in-Some-remove-clause-ready : goal.returns-in-Some-remove-clause-ready
-returns-in-Some-remove-clause-ready c =
+pub returns-in-Ok-clause-ready : goal.returns-in-Ok-clause-ready
+returns-in-Ok-clause-ready c =
     let open_status : queue_refusal c.args.queue (status_bits c.self.inside.status) ≡ None =
     search rules in
     let known : c.args.queue ≤ 1 =
@@ -143,18 +119,18 @@ returns-in-Some-remove-clause-ready c =
     in
     let left : c.remove.new.self ≡
     without_taken (queue_at c.args.queue c.self.inside.queues) c.args.index =
-    c.in-Some-remove.ensures.rest ∙ ap (λ (x : QueueState). without_taken x c.args.index) was in
+    c.in-Ok.ensures.rest ∙ ap (λ (x : QueueState). without_taken x c.args.index) was in
     let driver : contains c.args.self.now.part.status driver_ok ≡ true =
     ap (λ (v : DeviceState). contains v.part.status driver_ok) (sym c.self.view_is) ∙
     status_ok c.args.queue (status_bits c.self.inside.status) open_status in
     let backed : IsSome (frame_at c.self.inside.ram (ring_page c.args.queue)) =
     subst (λ (v : DeviceState). IsSome (frame_at v.mem (ring_page c.args.queue)))
     (sym c.self.view_is) (c.requires.backed driver) in
-    let low : c.in-Some-remove.request.head < (queue_at c.args.queue
+    let low : c.in-Ok.request.head < (queue_at c.args.queue
     c.self.inside.queues).ring.size =
-    subst (λ (x : QueueState). c.in-Some-remove.request.head < x.ring.size) was
-    c.in-Some-remove.ensures.head in
-    can_use c.args.queue c.in-Some-remove.request.head c.pages.result.now c.self.inside.ram
+    subst (λ (x : QueueState). c.in-Ok.request.head < x.ring.size) was
+    c.in-Ok.ensures.head in
+    can_use c.args.queue c.in-Ok.request.head c.pages.result.now c.self.inside.ram
     c.discard_request.new.ram (status_bits c.self.inside.status)
     (feature_bits c.self.inside.features) c.self.inside.target c.self.inside.actual _
     c.self.inside.queues c.remove.new.self c.discard_request.new.loose.items c.self.invariant
@@ -162,8 +138,8 @@ returns-in-Some-remove-clause-ready c =
     (ap (λ (x : QueueState). x.ring.size) left) c.pages.ensures.named.above
     c.discard_request.ensures.mem backed
 
-pub returns-in-Some-remove-clause-count : goal.returns-in-Some-remove-clause-count
-returns-in-Some-remove-clause-count c =
+pub returns-in-Ok-clause-count : goal.returns-in-Ok-clause-count
+returns-in-Ok-clause-count c =
     ap (λ (m : Pages). length m) c.discard_request.ensures.mem ∙
     (kept_length c.args.queue c.pages.result.now c.self.inside.ram ∙
     ap (λ (v : DeviceState). length v.mem) c.self.view_is)

@@ -1,9 +1,7 @@
-use Rattle.std.proofs.Common.{◌∙◌, ◌<◌, suc, List, take, drop, Some, sym, ap, subst, rules}
-use Rattle.std.specs.Prelude.{All, length, slice_get}
+use Rattle.std.proofs.Common.{◌<◌, suc, List, take, drop, sym, subst}
+use Rattle.std.specs.Prelude.{All}
 use Rattle.std.proofs.lemmas.List.Elements.{All-append, All-take, All-drop}
-use Rattle.std.proofs.lemmas.Option.{slice_get-get_or}
 use Rattle.vb_model.specs.Requests.{Request}
-use Rattle.vb_device.specs.QueueState.{QueueState}
 use Rattle.vb_device.proofs.queue.DeviceQueue.remove.Goals as goal
 
 pub invariant_of-self : goal.invariant_of-self
@@ -17,10 +15,3 @@ invariant_of-self c =
     c.self.inside.taken.items c.self.invariant)
     (All-drop (λ (r : Request). r.head < c.self.inside.queue.size) (suc c.args.index)
     c.self.inside.taken.items c.self.invariant))
-
-pub returns-clause-value : goal.returns-clause-value
-returns-clause-value c =
-    let lt : c.args.index < length c.self.inside.taken.items = search rules in
-    ap (λ (r : Request). Some r) c.remove.ensures.value
-    ∙ (sym (slice_get-get_or c.self.inside.taken.items c.args.index c.remove.result lt) ∙
-    ap (λ (q : QueueState). slice_get q.taken c.args.index) c.self.view_is)

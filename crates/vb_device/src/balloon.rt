@@ -1,30 +1,40 @@
-//! The device that does all its work when it finishes a request.
+//! Balloon devices of both paces (profile).
 
-ghost use Rattle.std.specs.Prelude.{◌≡◌, [], true, false, length};
+ghost use Rattle.std.specs.Prelude.{◌≡◌, [], false, length};
 ghost use Rattle.vb_device.specs.Calls.{IsUnused};
 
 use crate::base::DeviceBase;
 use crate::flags::PageFlags;
+use crate::pace::{Immediate, Pace, Paced};
 use crate::{Claimed, Device, Worked};
 use bitflags::Flags;
 use std::alloc::{AllocError, Global};
-use std::marker::Model;
+use std::marker::{Model, PhantomData};
 use vb_model::Refusal;
 use vb_model::layout::INFLATE_QUEUE;
 use vb_ram::{Config, Frame, GuestBytes, RamFault, SupplyRefused};
 use vb_status::{Features, Port, Status, StatusFault};
 
-/// A balloon device that discards an inflate's pages when the request is finished, and has no
-/// frames of its own (profile).
+/// A device that discards an inflate's pages when it finishes the request.
+pub type ImmediateDevice = BalloonDevice<Immediate>;
+
+/// A device that visits an inflate's pages one by one, and discards each, before it finishes the
+/// request.
+pub type PacedDevice = BalloonDevice<Paced>;
+
+/// A balloon device that has no frames of its own. It is paced or not: the paces differ in `paced`,
+/// in `work`, and in what `finish` is refused for.
 #[derive(Drop)]
-pub struct ImmediateDevice {
-    /// What it shares with devices of other kinds.
+pub struct BalloonDevice<P: Pace> {
+    /// All but the set of ballooned pages.
     base: DeviceBase,
     /// The pages that are ballooned.
     ballooned: PageFlags,
+    /// Its pace.
+    pace: PhantomData<P>,
 }
 
-impl Model for ImmediateDevice {
+impl<P: Pace> Model for BalloonDevice<P> {
     ghost use Rattle.std.specs.Prelude.{◌≡◌, length};
     ghost use Rattle.vb_device.specs.State.{DeviceState};
 
@@ -32,28 +42,29 @@ impl Model for ImmediateDevice {
 
     ghost view = { λ s. record {
       mem = s.base.mem;
-      part = record s.base.part { ballooned = s.ballooned };
+      part = record s.base.part { ballooned = s.ballooned; paced = P.IS_PACED };
     } };
 
     ghost invariant = { λ s. length s.ballooned ≡ length s.base.mem };
 }
 
-impl ImmediateDevice {
+impl<P: Pace> BalloonDevice<P> {
     /// A device that no guest has yet.
-    pub fn new(alloc: Global) -> ImmediateDevice
+    pub fn new(alloc: Global) -> Self
         ensures unused { IsUnused result.mem result.part }
-        ensures paced { result.part.paced ≡ false }
+        ensures paced { result.part.paced ≡ P.IS_PACED }
         ensures keeps { result.part.keeps ≡ false }
         ensures own { result.part.own ≡ [] }
     {
-        ImmediateDevice {
+        BalloonDevice {
             base: DeviceBase::new(alloc),
             ballooned: PageFlags::empty(alloc),
+            pace: PhantomData,
         }
     }
 }
 
-impl GuestBytes for ImmediateDevice {
+impl<P: Pace> GuestBytes for BalloonDevice<P> {
     ghost mem = { λ d. d.mem };
 
     ghost part = { λ d. d.part };
@@ -71,7 +82,7 @@ impl GuestBytes for ImmediateDevice {
     }
 }
 
-impl Port for ImmediateDevice {
+impl<P: Pace> Port for BalloonDevice<P> {
     fn status(&self) -> Status {
         self.base.status()
     }
@@ -97,7 +108,7 @@ impl Port for ImmediateDevice {
     }
 }
 
-impl Device for ImmediateDevice {
+impl<P: Pace> Device for BalloonDevice<P> {
     fn attach(&mut self, alloc: Global, config: Config) -> Result<(), AllocError> {
         let ballooned = PageFlags::new(alloc, config.pages)?;
         self.base.attach(alloc, config)?;
@@ -114,8 +125,8 @@ impl Device for ImmediateDevice {
     }
 
     fn paced(&self) -> bool {
-        self.base.is_plain();
-        false
+        let _ = &self.base;
+        P::IS_PACED
     }
 
     fn keeps(&self) -> bool {
@@ -132,15 +143,18 @@ impl Device for ImmediateDevice {
     }
 
     fn work(&mut self) -> Result<Option<Worked>, Refusal> {
-        self.base.is_plain();
-        match self.base.readiness_refusal() {
-            Some(why) => Err(why),
-            None => Ok(None),
+        if let Some(why) = self.base.readiness_refusal() {
+            return Err(why);
+        }
+        if P::IS_PACED {
+            Ok(self.base.visit_next())
+        } else {
+            Ok(None)
         }
     }
 
     fn finish(&mut self, queue: u32, index: u32) -> Result<u16, Refusal> {
-        let request = self.base.take_out(queue, index)?;
+        let request = self.base.take_out(queue, index, P::IS_PACED)?;
         self.ballooned
             .set_all(request.pages(), queue == INFLATE_QUEUE);
         self.base.use_chain(queue, request.head());

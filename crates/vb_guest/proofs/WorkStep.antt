@@ -1,0 +1,339 @@
+-- The device's work is a step of the guest.
+use Rattle.std.specs.Prelude.{◌≡◌, ℕ, ◌+◌, ◌<◌, ◌≤◌, Bool, true, false, cond, if◌then◌else◌, List}
+use Rattle.std.specs.Prelude.{[], ◌∷◌, All, length, Result, Option, Some, None, is_some}
+use Rattle.std.specs.Prelude.{MatchOption, slice_get, refl, ◌⊎◌}
+use Rattle.std.specs.Option.{option_to_list}
+use Rattle.std.specs.List.{flat_map}
+use Rattle.std.proofs.Common.{sym, ◌∙◌, ap, subst, arith, inl, inr}
+use Rattle.std.proofs.lemmas.List.Elements.{All-nil, All-cons, All-tail}
+use Rattle.std.proofs.lemmas.Option.{get_or_from_slice_get, slice_get_within}
+use Rattle.vb_model.specs.declared.calls.Call.TheVariants.{Work}
+use Rattle.vb_model.specs.declared.calls.Claim.{Claim}
+use Rattle.vb_model.specs.declared.replies.Refusal.{Refusal}
+use Rattle.vb_model.specs.declared.replies.Refusal.TheVariants.{NotReady}
+use Rattle.vb_model.specs.declared.replies.Reply.{Reply}
+use Rattle.vb_model.specs.declared.replies.Reply.TheVariants.{Idle, Worked, Refused}
+use Rattle.vb_model.specs.Requests.{Request, Requests, Inflating, Reporting_free, no_requests}
+use Rattle.vb_model.specs.Guest.{Guest, frame_of}
+use Rattle.vb_model.specs.Device.{is_unvisited, visiting, next_page, visited}
+use Rattle.vb_model.specs.Orderly.{times}
+use Rattle.vb_model.specs.Refusals.{refusal_of}
+use Rattle.vb_model.proofs.CallSteps.{Idles, Visits as VisitsOf}
+use Rattle.vb_model.proofs.InOrder.{headed-visiting, length-visiting}
+use Rattle.vb_ram.specs.Pages.{Pages, page_at, frame_at, number_of}
+use Rattle.vb_ram.specs.Part.{Part, QueuePart}
+use Rattle.vb_driver.specs.State.{Side, DriverState}
+use Rattle.vb_device.specs.declared.worked.Worked.{Worked as WorkedPage}
+use Rattle.vb_device.specs.Conditions.{work_refusal}
+use Rattle.vb_device.specs.Discards.{discarded, frames_behind}
+use Rattle.vb_device.specs.Calls.{next_visit, Visits, WorksBy}
+use Rattle.vb_guest.specs.Line.{Line, IsRequest}
+use Rattle.vb_guest.specs.Stands.{Stands, Ties, IsRunning}
+use Rattle.vb_guest.specs.Steps.{Steps, StepsFreeing, AreOut, AreLoose, Returns}
+use Rattle.vb_guest.specs.Replies.{worked_reply}
+use Rattle.vb_guest.proofs.Apart.{line_apart, above_apart}
+use Rattle.vb_guest.proofs.Discarding.{frames_freed}
+use Rattle.vb_guest.proofs.PagesKept.{pages_discarded, page_undiscarded}
+use Rattle.vb_guest.proofs.Closing.{honest_refused, honest_performed, still_stands, guest_step}
+use Rattle.vb_guest.proofs.Closing.{ties_same}
+use Rattle.vb_guest.proofs.FinishStep.{handed_back, loose_none, not_among, behind_same}
+use Rattle.vb_guest.proofs.Freed.{freed_loose, steps_freed}
+
+-- ---- refusals
+
+running_part : (part : Part) → part.status ≡ 15 → work_refusal part ≡ None
+running_part part e =
+    let P : ℕ → Type 0 = λ s. work_refusal (record part { status = s }) ≡ None in
+    subst P (sym e) refl
+
+running : (g : Guest) → g.status ≡ 15 → refusal_of g Work ≡ None
+running g e =
+    let P : ℕ → Type 0 = λ s. refusal_of (record g { status = s }) Work ≡ None in
+    subst P (sym e) refl
+
+idle_part : (part : Part) → (part.status ≡ 0) ⊎ (part.status ≡ 131)
+    → work_refusal part ≡ Some NotReady
+idle_part part down =
+    let P : ℕ → Type 0 = λ s. work_refusal (record part { status = s }) ≡ Some NotReady in
+    elim down [ inl e ↦ subst P (sym e) refl | inr e ↦ subst P (sym e) refl ]
+
+idle_guest : (g : Guest) → (g.status ≡ 0) ⊎ (g.status ≡ 131) → refusal_of g Work ≡ Some NotReady
+idle_guest g down =
+    let P : ℕ → Type 0 = λ s. refusal_of (record g { status = s }) Work ≡ Some NotReady in
+    elim down [ inl e ↦ subst P (sym e) refl | inr e ↦ subst P (sym e) refl ]
+
+work_refused : (m1 m2 : Pages) (p1 p2 : Part) (d : DriverState) (g : Guest) (why : Refusal)
+    (result : Result (Option WorkedPage) Refusal)
+    → WorksBy m1 m2 p1 p2 result → Stands m1 p1 d g → work_refusal p1 ≡ Some why
+    → refusal_of g Work ≡ Some why
+    → StepsFreeing (Stands m2 (handed_back p2) d) p2.loose g Work (worked_reply result)
+work_refused m1 m2 p1 p2 d g why result did stands by_part by_model =
+    let (answer, part, memory) = did.refused why by_part in
+    let step = honest_refused g Work why by_model in
+    let same = ap handed_back part ∙ loose_none p1 stands.ties.parts.device.loose in
+    let none : p2.loose ≡ [] = ap (λ (p : Part). p.loose) part ∙ stands.ties.parts.device.loose in
+    subst (λ r. StepsFreeing (Stands m2 (handed_back p2) d) p2.loose g Work (worked_reply r))
+    (sym answer) (record {
+      new = g;
+      stands = still_stands m1 m2 p1 (handed_back p2) d d g Work [] (Refused why) g stands step
+          (ties_same m1 m2 p1 (handed_back p2) d d g memory same refl stands.ties);
+      step = guest_step g Work [] (Refused why) g stands.ties.parts.guest.honest step;
+      freed = λ n. omega (arith, ap (times n) none);
+    })
+
+-- ---- nothing to visit
+
+-- the next page of a device of this pace
+abbrev visit_of : Bool → List Request → Option ℕ
+visit_of paced taken = if paced then next_page taken else None
+
+-- what a device does that would visit this page of an inflate, and this one of a report
+abbrev WorksOn : Option ℕ → Option ℕ → Guest → Reply → Guest → Type 0
+WorksOn a b g reply new =
+    MatchOption a (MatchOption b (Idles g reply new) (VisitsOf Reporting_free g reply new))
+    (VisitsOf Inflating g reply new)
+
+-- no report is taken
+no_report : (g : Guest) → g.report ≡ no_requests → visit_of g.config.paced g.report.taken ≡ None
+no_report g e =
+    ap (λ (rs : Requests). visit_of g.config.paced rs.taken) e ∙ none g.config.paced
+  where
+    none : (paced : Bool) → visit_of paced [] ≡ None
+    none true = refl
+    none false = refl
+
+work_idle : (m1 m2 : Pages) (p1 p2 : Part) (d : DriverState) (g : Guest)
+    (result : Result (Option WorkedPage) Refusal)
+    → WorksBy m1 m2 p1 p2 result → Stands m1 p1 d g → work_refusal p1 ≡ None
+    → refusal_of g Work ≡ None → next_visit p1 ≡ None
+    → visit_of g.config.paced g.inflate.taken ≡ None
+    → StepsFreeing (Stands m2 (handed_back p2) d) p2.loose g Work (worked_reply result)
+work_idle m1 m2 p1 p2 d g result did stands by_part by_model here there =
+    let (answer, part, memory) = did.idle by_part here in
+    let W : Option ℕ → Type 0 = λ a. WorksOn a (visit_of g.config.paced g.report.taken) g Idle g in
+    let R : Option ℕ → Type 0 = λ b. WorksOn None b g Idle g in
+    let step = honest_performed g Work [] Idle g by_model (
+      refl,
+      subst W (sym there)
+          (subst R (sym (no_report g stands.ties.parts.guest.report)) (refl, refl)),
+    ) in
+    let same = ap handed_back part ∙ loose_none p1 stands.ties.parts.device.loose in
+    let none : p2.loose ≡ [] = ap (λ (p : Part). p.loose) part ∙ stands.ties.parts.device.loose in
+    subst (λ r. StepsFreeing (Stands m2 (handed_back p2) d) p2.loose g Work (worked_reply r))
+    (sym answer) (record {
+      new = g;
+      stands = still_stands m1 m2 p1 (handed_back p2) d d g Work [] Idle g stands step
+          (ties_same m1 m2 p1 (handed_back p2) d d g memory same refl stands.ties);
+      step = guest_step g Work [] Idle g stands.ties.parts.guest.honest step;
+      freed = λ n. omega (arith, ap (times n) none);
+    })
+
+-- ---- a visit
+
+-- what holds of each page of each taken request holds of the next one
+next_taken : (P : ℕ → Type 0) (rs : List Request) (page : ℕ) → All (λ r. All P r.pages) rs
+    → next_page rs ≡ Some page → P page
+next_taken P [] page all e = absurd cc
+next_taken P (r ∷ rs) page all e =
+    step (is_unvisited r) e (next_taken P rs page (All-tail (λ (x : Request). All P x.pages) r rs all))
+  where
+    step : (v : Bool) → cond v (slice_get r.pages r.visited) (next_page rs) ≡ Some page
+        → (next_page rs ≡ Some page → P page) → P page
+    step true is later =
+        subst P (get_or_from_slice_get r.pages r.visited page page is)
+        (all 0 r (omega arith) r.visited page (slice_get_within r.pages r.visited page is))
+    step false is later = later is
+
+-- a visit changes a request's count alone
+all-visiting : (size n : ℕ) (sent : List (List ℕ)) (rs : List Request)
+    → All (IsRequest size n sent) rs → All (IsRequest size n sent) (visiting rs)
+all-visiting size n sent [] all = all
+all-visiting size n sent (r ∷ rs) all =
+    step (is_unvisited r) (all-visiting size n sent rs (All-tail (IsRequest size n sent) r rs all))
+  where
+    step : (v : Bool) → All (IsRequest size n sent) (visiting rs)
+        → All (IsRequest size n sent)
+        (cond v (record r { visited = r.visited + 1 } ∷ rs) (r ∷ visiting rs))
+    step true later =
+        let first : IsRequest size n sent r = all 0 r (omega arith) in
+        let now : IsRequest size n sent (record r { visited = r.visited + 1 }) = record {
+          inside = first.inside;
+          few = first.few;
+          remembered = first.remembered;
+          pages = first.pages;
+        } in
+        All-cons (IsRequest size n sent) (record r { visited = r.visited + 1 }) rs now
+        (All-tail (IsRequest size n sent) r rs all)
+    step false later =
+        All-cons (IsRequest size n sent) r (visiting rs) (all 0 r (omega arith)) later
+
+line_visited : (mem : Pages) (q n : ℕ) (side : Side) (part : QueuePart) (rs : Requests)
+    → Line mem q n side part rs
+    → Line mem q n side (record part { taken = visiting part.taken })
+    (record rs { taken = visiting rs.taken })
+line_visited mem q n side part rs line = record {
+  sized = line.sized;
+  layout = line.layout;
+  buffers = line.buffers;
+  before = line.before;
+  gone = line.gone;
+  shows = line.shows;
+  tracks = line.tracks;
+  next_avail = line.next_avail;
+  next_used = line.next_used;
+  counted = omega (arith, line.counted, length-visiting rs.taken);
+  balance = λ h. omega (arith, line.balance h, headed-visiting h rs.taken);
+  posted = line.posted;
+  taken = all-visiting side.ring.size n side.sent rs.taken line.taken;
+  done = line.done;
+  coded = line.coded;
+  remembers = ap visiting line.remembers;
+}
+
+work_visits : (m1 m2 : Pages) (p1 p2 : Part) (d : DriverState) (g : Guest) (page : ℕ)
+    (result : Result (Option WorkedPage) Refusal)
+    → Visits 0 page m1 m2 p1 p2 result → Stands m1 p1 d g → IsRunning m1 p1 d g
+    → refusal_of g Work ≡ None → visit_of g.config.paced g.inflate.taken ≡ Some page
+    → (16 ≤ page) × (page < g.config.pages)
+    → StepsFreeing (Stands m2 (handed_back p2) d) p2.loose g Work (worked_reply result)
+work_visits m1 m2 p1 p2 d g page result did stands run by_model there high =
+    let ties = stands.ties in
+    let n = g.config.pages in
+    let one : List ℕ = page ∷ [] in
+    let bare = discarded one m1 in
+    let above : All (λ p. 16 ≤ p) one =
+    All-cons (λ p. 16 ≤ p) page [] high.0 (All-nil (λ p. 16 ≤ p)) in
+    let low : (p : ℕ) → p < 16
+    → page_at bare p ≡ page_at m1 p =
+    λ p lt. page_undiscarded one m1 p (not_among one p above lt) in
+    let new : Guest = visited Inflating page g in
+    let reply : Reply = Worked page (is_some (frame_at m1 page)) in
+    let W : Option ℕ → Type 0 =
+    λ a. WorksOn a (visit_of g.config.paced g.report.taken) g reply new in
+    let step = honest_performed g Work [] reply new by_model (
+      refl,
+      subst W (sym there)
+          (ap (λ (o : Option ℕ). Worked page (is_some o)) (ties.pages.behind page), refl),
+    ) in
+    let after : Part = handed_back
+    (record p1 { inflate = record p1.inflate { taken = visiting p1.inflate.taken } }) in
+    let part : handed_back p2 ≡ after = ap handed_back did.part in
+    let fresh : Ties bare after d new = record {
+      parts = record {
+        guest = ties.parts.guest;
+        driver = ties.parts.driver;
+        device = record {
+          size = ties.parts.device.size;
+          paced = ties.parts.device.paced;
+          status = ties.parts.device.status;
+          features = ties.parts.device.features;
+          target = ties.parts.device.target;
+          actual = ties.parts.device.actual;
+          ballooned = ties.parts.device.ballooned;
+          last = ties.parts.device.last;
+          keeps = ties.parts.device.keeps;
+          own = ties.parts.device.own;
+          loose = refl;
+        };
+      };
+      pages = pages_discarded m1 n g.frames g.contents one ties.pages;
+      queues = inr (record {
+        state = run.state;
+        backed = λ p lt. ap is_some (ap number_of (low p (omega arith))) ∙ run.backed p lt;
+        inflate_size = run.inflate_size;
+        deflate_size = run.deflate_size;
+        inflate = line_visited bare 0 n d.inflate p1.inflate g.inflate
+            (line_apart m1 bare 0 n d.inflate p1.inflate g.inflate
+            (above_apart m1 bare 0 (omega arith) (omega arith) low) run.inflate);
+        deflate = line_apart m1 bare 1 n d.deflate p1.deflate g.deflate
+            (above_apart m1 bare 1 (omega arith) (omega arith) low) run.deflate;
+      });
+    } in
+    let numbers : (k : ℕ)
+    → times k p2.loose ≡ times k (frames_behind m1 one) =
+    λ k. did.loose k in
+    let behind : frames_behind m1 one
+    ≡ flat_map (λ page. option_to_list (frame_of g.frames page)) one =
+    behind_same m1 g.frames one ties.pages.behind in
+    let F : ℕ → Type 0 = λ p. p < length g.frames in
+    subst (λ x. StepsFreeing (Stands m2 (handed_back p2) d) p2.loose g Work (worked_reply x))
+    (sym did.answer) (record {
+      new = new;
+      stands = still_stands m1 m2 p1 (handed_back p2) d d g Work [] reply new stands step
+          (ties_same bare m2 after (handed_back p2) d d new did.memory part refl fresh);
+      step = guest_step g Work [] reply new ties.parts.guest.honest step;
+      freed = λ k. omega (
+        arith,
+        numbers k,
+        ap (times k) behind,
+        frames_freed k one g.frames (refl, tt)
+            (All-cons F page [] (omega (arith, high.1, ties.pages.framed)) (All-nil F)),
+      );
+    })
+
+-- a paced device's next page is one of a taken inflate's
+next_high : (paced : Bool) (size n : ℕ) (sent : List (List ℕ)) (taken : List Request) (page : ℕ)
+    → All (IsRequest size n sent) taken → visit_of paced taken ≡ Some page
+    → (16 ≤ page) × (page < n)
+next_high true size n sent taken page all e = (
+  next_taken (λ p. 16 ≤ p) taken page (λ k d lt. (all k d lt).pages.above) e,
+  next_taken (λ p. p < n) taken page (λ k d lt. (all k d lt).pages.below) e,
+)
+next_high false size n sent taken page all e = absurd cc
+
+pub work_step : (m1 m2 : Pages) (p1 p2 : Part) (d : DriverState) (g : Guest)
+    (result : Result (Option WorkedPage) Refusal)
+    → WorksBy m1 m2 p1 p2 result → Stands m1 p1 d g
+    → StepsFreeing (Stands m2 (handed_back p2) d) p2.loose g Work (worked_reply result)
+work_step m1 m2 p1 p2 d g result did stands =
+    elim stands.ties.queues [
+      | inl idle ↦
+          let D : ℕ → Type 0 = λ s. (s ≡ 0) ⊎ (s ≡ 131) in
+          work_refused m1 m2 p1 p2 d g NotReady result did stands
+          (idle_part p1 (subst D (sym stands.ties.parts.device.status) idle.state))
+          (idle_guest g idle.state)
+      | inr run ↦
+          let same : next_visit p1 ≡ visit_of g.config.paced g.inflate.taken =
+          ap (λ (b : Bool). visit_of b p1.inflate.taken) stands.ties.parts.device.paced
+          ∙ ap (λ (rs : List Request). visit_of g.config.paced rs) run.inflate.remembers in
+          by_next (visit_of g.config.paced g.inflate.taken) run refl same
+    ]
+  where
+    by_next : (o : Option ℕ) → IsRunning m1 p1 d g → visit_of g.config.paced g.inflate.taken ≡ o
+        → next_visit p1 ≡ visit_of g.config.paced g.inflate.taken
+        → StepsFreeing (Stands m2 (handed_back p2) d) p2.loose g Work (worked_reply result)
+    by_next None run is same =
+        work_idle m1 m2 p1 p2 d g result did stands
+        (running_part p1 (stands.ties.parts.device.status ∙ run.state)) (running g run.state)
+        (same ∙ is) is
+    by_next (Some page) run is same =
+        work_visits m1 m2 p1 p2 d g page result
+        (did.visits page (running_part p1 (stands.ties.parts.device.status ∙ run.state))
+        (same ∙ is)) stands run (running g run.state) is
+        (next_high g.config.paced d.inflate.ring.size g.config.pages d.inflate.sent g.inflate.taken
+        page run.inflate.taken is)
+
+-- ---- in the words of the slot's clauses
+
+pub work_own : (m1 m2 : Pages) (p1 p2 : Part) (d : DriverState) (g : Guest)
+    (result : Result (Option WorkedPage) Refusal) → WorksBy m1 m2 p1 p2 result
+    → Stands m1 p1 d g → p2.own ≡ []
+work_own m1 m2 p1 p2 d g result did stands =
+    (work_step m1 m2 p1 p2 d g result did stands).stands.ties.parts.device.own
+
+pub work_loose : (m1 m2 : Pages) (p1 p2 : Part) (d : DriverState) (g : Guest)
+    (result : Result (Option WorkedPage) Refusal) (out : List Bool)
+    → WorksBy m1 m2 p1 p2 result → Stands m1 p1 d g → AreOut g out → AreLoose p2.loose out
+work_loose m1 m2 p1 p2 d g result out did stands held =
+    freed_loose _ p2.loose g Work (worked_reply result) out
+    (work_step m1 m2 p1 p2 d g result did stands) held
+
+pub work_freed : (Answers : List Bool → Claim → Type 0) (m1 m2 m3 : Pages) (p1 p2 p3 : Part)
+    (d : DriverState) (g : Guest) (result : Result (Option WorkedPage) Refusal)
+    (out1 out2 : List Bool)
+    → WorksBy m1 m2 p1 p2 result → Stands m1 p1 d g → m3 ≡ m2 → p3 ≡ handed_back p2
+    → Returns p2.loose out1 out2 → length out2 ≡ length out1
+    → Steps (Stands m3 p3 d) Answers out1 out2 g Work (worked_reply result)
+work_freed Answers m1 m2 m3 p1 p2 p3 d g result out1 out2 did stands memory part back same =
+    steps_freed Answers m2 m3 p2 p3 d g Work (worked_reply result) out1 out2
+    (work_step m1 m2 p1 p2 d g result did stands) memory part back same
