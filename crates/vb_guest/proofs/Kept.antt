@@ -18,8 +18,10 @@ use Rattle.vb_driver.specs.declared.answers.Posted.{Posted}
 use Rattle.vb_driver.specs.declared.answers.Reaped.{Reaped}
 use Rattle.vb_driver.specs.Calls.{InflatesBy, DeflatesBy, DeflatesOnOomBy, ReapsBy, after_refusal}
 use Rattle.vb_device.specs.Queues.{with_queue}
-use Rattle.vb_device.specs.Conditions.{finish_refusal, sweep_refusal, taken_at}
-use Rattle.vb_device.specs.Calls.{TakesBy, TakeMeans, taking, FinishesBy, settled, using, SweepsBy}
+use Rattle.vb_device.specs.declared.worked.Worked.{Worked}
+use Rattle.vb_device.specs.Conditions.{work_refusal, finish_refusal, sweep_refusal, taken_at}
+use Rattle.vb_device.specs.Calls.{TakesBy, TakeMeans, taking, next_visit, WorksBy}
+use Rattle.vb_device.specs.Calls.{FinishesBy, settled, using, SweepsBy}
 
 -- the device keeps frames as it did, and the same of them are out
 pub record SameOwn (p1 p2 : Part) : Type 0 where
@@ -141,3 +143,15 @@ sweep_kept page m1 m2 p1 p2 result did = by (sweep_refusal page p1) refl
     by : (o : Option Refusal) → sweep_refusal page p1 ≡ o → SameOwn p1 p2
     by (Some why) e = as_it_was p1 p2 (did.refused why e).1
     by None e = loose_kept p1 p2 (did.part e)
+
+pub work_kept : (m1 m2 : Pages) (p1 p2 : Part) (result : Result (Option Worked) Refusal)
+    → WorksBy m1 m2 p1 p2 result → SameOwn p1 p2
+work_kept m1 m2 p1 p2 result did = by (work_refusal p1) (next_visit p1) refl refl
+  where
+    by : (o : Option Refusal) (next : Option ℕ) → work_refusal p1 ≡ o → next_visit p1 ≡ next
+        → SameOwn p1 p2
+    by (Some why) next e is = as_it_was p1 p2 (did.refused why e).1
+    by None None e is = as_it_was p1 p2 (did.idle e is).1
+    by None (Some page) e is =
+        let part = (did.visits page e is).part in
+        record { flag = ap (λ (p : Part). p.keeps) part; numbers = ap (λ (p : Part). p.own) part }

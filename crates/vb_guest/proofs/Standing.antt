@@ -1,6 +1,6 @@
 -- What stands for a guest once its frames are accounted for: from steps of an honest guest to steps
 -- over its supply.
-use Rattle.std.specs.Prelude.{◌≡◌, ℕ, ◌+◌, Bool, true, false, List, [], Option, count_by, refl}
+use Rattle.std.specs.Prelude.{◌≡◌, ℕ, ◌+◌, Bool, true, false, List, [], ◌∷◌, Option, count_by, refl}
 use Rattle.std.proofs.Common.{sym, ◌∙◌, ap, subst, arith}
 use Rattle.vb_model.specs.declared.calls.Call.{Call}
 use Rattle.vb_model.specs.declared.calls.Claim.{Claim}
@@ -13,8 +13,10 @@ use Rattle.vb_ram.specs.Part.{Part}
 use Rattle.vb_driver.specs.State.{DriverState}
 use Rattle.vb_device.specs.Own.{has}
 use Rattle.vb_guest.specs.Stands.{Honest, OwnFrames, Stands, StandsBy}
-use Rattle.vb_guest.specs.Steps.{is_frame, backing_count, AreOut, StepsAlone, StepsOver, StepsFreeing}
-use Rattle.vb_guest.specs.Supply.{supply_of, is_used, Moves, nothing, AreLoose}
+use Rattle.vb_guest.specs.Steps.{is_frame, backing_count, AreOut, Steps, StepsAlone, StepsOver, StepsFreeing}
+use Rattle.vb_model.specs.declared.calls.Claim.TheVariants.{Gave, GaveNoFrame, GaveNoMemory}
+use Rattle.vb_frames.specs.Out.{AllAnswered}
+use Rattle.vb_guest.specs.Supply.{Supply, AreClaimed, supply_of, is_used, Moves, nothing, AreLoose}
 use Rattle.vb_guest.proofs.Moving.{used_own, used_out, by_keeps, moves_as}
 
 -- ---- the record
@@ -180,3 +182,36 @@ steps_freed keeps m1 m3 p1 p2 p3 d g Answers out1 out2 call reply stands flag nu
   where
     first : Moves (supply_of p1 out1) (supply_of p3 out2) nothing (λ n. times n p2.loose)
     first = rw (← flag, ← numbers) moves
+
+-- ---- where the keeper's frames alone count
+
+claimed_asked : (Answers : List Bool → Claim → Type 0) (s : Supply) (claims : List Claim)
+    → s.keeps ≡ false → AreClaimed Answers s claims → AllAnswered Answers s.out claims
+claimed_asked Answers s [] e are = tt
+claimed_asked Answers s (Gave n ∷ claims) e (mid, first, rest) =
+    let (answer, free, now) = first.asked e in
+    (answer, free, subst (λ (out : List Bool). AllAnswered Answers out claims) now
+    (claimed_asked Answers mid claims (first.moves.keeps ∙ e) rest))
+claimed_asked Answers s (GaveNoFrame ∷ claims) e (mid, first, last) = ((first.asked e).0, last)
+claimed_asked Answers s (GaveNoMemory ∷ claims) e (mid, first, last) = ((first.asked e).0, last)
+
+-- a step over the keeper's frames
+pub steps_asked : (New : Guest → Type 0) (Answers : List Bool → Claim → Type 0) (p1 p2 : Part)
+    (out1 out2 : List Bool) (claims : List Claim) (g : Guest) (call : Call) (reply : Reply)
+    → p1.keeps ≡ false
+    → StepsOver New Answers (supply_of p1 out1) (supply_of p2 out2) claims g call reply
+    → Steps New Answers out1 out2 g call reply
+steps_asked New Answers p1 p2 out1 out2 claims g call reply e step = record {
+  claims = claims;
+  new = step.new;
+  stands = step.stands;
+  step = step.step;
+  answered = claimed_asked Answers (supply_of p1 out1) claims e step.answered;
+  balance = λ n. omega (
+    arith,
+    step.moves.balance n,
+    ap one_if (used_out (supply_of p1 out1) n e),
+    ap one_if (used_out (supply_of p2 out2) n (step.moves.keeps ∙ e)),
+  );
+  count = step.moves.count;
+}

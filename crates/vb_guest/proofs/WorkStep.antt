@@ -28,8 +28,8 @@ use Rattle.vb_device.specs.Conditions.{work_refusal}
 use Rattle.vb_device.specs.Discards.{discarded, frames_behind}
 use Rattle.vb_device.specs.Calls.{next_visit, Visits, WorksBy}
 use Rattle.vb_guest.specs.Line.{Line, IsRequest}
-use Rattle.vb_guest.specs.Stands.{Stands, Ties, IsRunning}
-use Rattle.vb_guest.specs.Steps.{Steps, StepsFreeing, AreOut, AreLoose, Returns}
+use Rattle.vb_guest.specs.Stands.{Honest, Ties, IsRunning}
+use Rattle.vb_guest.specs.Steps.{StepsFreeing}
 use Rattle.vb_guest.specs.Replies.{worked_reply}
 use Rattle.vb_guest.proofs.Apart.{line_apart, above_apart}
 use Rattle.vb_guest.proofs.Discarding.{frames_freed}
@@ -37,7 +37,6 @@ use Rattle.vb_guest.proofs.PagesKept.{pages_discarded, page_undiscarded}
 use Rattle.vb_guest.proofs.Closing.{honest_refused, honest_performed, still_stands, guest_step}
 use Rattle.vb_guest.proofs.Closing.{ties_same}
 use Rattle.vb_guest.proofs.FinishStep.{handed_back, loose_none, not_among, behind_same}
-use Rattle.vb_guest.proofs.Freed.{freed_loose, steps_freed}
 
 -- ---- refusals
 
@@ -64,15 +63,15 @@ idle_guest g down =
 
 work_refused : (m1 m2 : Pages) (p1 p2 : Part) (d : DriverState) (g : Guest) (why : Refusal)
     (result : Result (Option WorkedPage) Refusal)
-    → WorksBy m1 m2 p1 p2 result → Stands m1 p1 d g → work_refusal p1 ≡ Some why
+    → WorksBy m1 m2 p1 p2 result → Honest m1 p1 d g → work_refusal p1 ≡ Some why
     → refusal_of g Work ≡ Some why
-    → StepsFreeing (Stands m2 (handed_back p2) d) p2.loose g Work (worked_reply result)
+    → StepsFreeing (Honest m2 (handed_back p2) d) p2.loose g Work (worked_reply result)
 work_refused m1 m2 p1 p2 d g why result did stands by_part by_model =
     let (answer, part, memory) = did.refused why by_part in
     let step = honest_refused g Work why by_model in
     let same = ap handed_back part ∙ loose_none p1 stands.ties.parts.device.loose in
     let none : p2.loose ≡ [] = ap (λ (p : Part). p.loose) part ∙ stands.ties.parts.device.loose in
-    subst (λ r. StepsFreeing (Stands m2 (handed_back p2) d) p2.loose g Work (worked_reply r))
+    subst (λ r. StepsFreeing (Honest m2 (handed_back p2) d) p2.loose g Work (worked_reply r))
     (sym answer) (record {
       new = g;
       stands = still_stands m1 m2 p1 (handed_back p2) d d g Work [] (Refused why) g stands step
@@ -104,10 +103,10 @@ no_report g e =
 
 work_idle : (m1 m2 : Pages) (p1 p2 : Part) (d : DriverState) (g : Guest)
     (result : Result (Option WorkedPage) Refusal)
-    → WorksBy m1 m2 p1 p2 result → Stands m1 p1 d g → work_refusal p1 ≡ None
+    → WorksBy m1 m2 p1 p2 result → Honest m1 p1 d g → work_refusal p1 ≡ None
     → refusal_of g Work ≡ None → next_visit p1 ≡ None
     → visit_of g.config.paced g.inflate.taken ≡ None
-    → StepsFreeing (Stands m2 (handed_back p2) d) p2.loose g Work (worked_reply result)
+    → StepsFreeing (Honest m2 (handed_back p2) d) p2.loose g Work (worked_reply result)
 work_idle m1 m2 p1 p2 d g result did stands by_part by_model here there =
     let (answer, part, memory) = did.idle by_part here in
     let W : Option ℕ → Type 0 = λ a. WorksOn a (visit_of g.config.paced g.report.taken) g Idle g in
@@ -119,7 +118,7 @@ work_idle m1 m2 p1 p2 d g result did stands by_part by_model here there =
     ) in
     let same = ap handed_back part ∙ loose_none p1 stands.ties.parts.device.loose in
     let none : p2.loose ≡ [] = ap (λ (p : Part). p.loose) part ∙ stands.ties.parts.device.loose in
-    subst (λ r. StepsFreeing (Stands m2 (handed_back p2) d) p2.loose g Work (worked_reply r))
+    subst (λ r. StepsFreeing (Honest m2 (handed_back p2) d) p2.loose g Work (worked_reply r))
     (sym answer) (record {
       new = g;
       stands = still_stands m1 m2 p1 (handed_back p2) d d g Work [] Idle g stands step
@@ -192,10 +191,10 @@ line_visited mem q n side part rs line = record {
 
 work_visits : (m1 m2 : Pages) (p1 p2 : Part) (d : DriverState) (g : Guest) (page : ℕ)
     (result : Result (Option WorkedPage) Refusal)
-    → Visits 0 page m1 m2 p1 p2 result → Stands m1 p1 d g → IsRunning m1 p1 d g
+    → Visits 0 page m1 m2 p1 p2 result → Honest m1 p1 d g → IsRunning m1 p1 d g
     → refusal_of g Work ≡ None → visit_of g.config.paced g.inflate.taken ≡ Some page
     → (16 ≤ page) × (page < g.config.pages)
-    → StepsFreeing (Stands m2 (handed_back p2) d) p2.loose g Work (worked_reply result)
+    → StepsFreeing (Honest m2 (handed_back p2) d) p2.loose g Work (worked_reply result)
 work_visits m1 m2 p1 p2 d g page result did stands run by_model there high =
     let ties = stands.ties in
     let n = g.config.pages in
@@ -231,8 +230,6 @@ work_visits m1 m2 p1 p2 d g page result did stands run by_model there high =
           actual = ties.parts.device.actual;
           ballooned = ties.parts.device.ballooned;
           last = ties.parts.device.last;
-          keeps = ties.parts.device.keeps;
-          own = ties.parts.device.own;
           loose = refl;
         };
       };
@@ -256,7 +253,7 @@ work_visits m1 m2 p1 p2 d g page result did stands run by_model there high =
     ≡ flat_map (λ page. option_to_list (frame_of g.frames page)) one =
     behind_same m1 g.frames one ties.pages.behind in
     let F : ℕ → Type 0 = λ p. p < length g.frames in
-    subst (λ x. StepsFreeing (Stands m2 (handed_back p2) d) p2.loose g Work (worked_reply x))
+    subst (λ x. StepsFreeing (Honest m2 (handed_back p2) d) p2.loose g Work (worked_reply x))
     (sym did.answer) (record {
       new = new;
       stands = still_stands m1 m2 p1 (handed_back p2) d d g Work [] reply new stands step
@@ -283,8 +280,8 @@ next_high false size n sent taken page all e = absurd cc
 
 pub work_step : (m1 m2 : Pages) (p1 p2 : Part) (d : DriverState) (g : Guest)
     (result : Result (Option WorkedPage) Refusal)
-    → WorksBy m1 m2 p1 p2 result → Stands m1 p1 d g
-    → StepsFreeing (Stands m2 (handed_back p2) d) p2.loose g Work (worked_reply result)
+    → WorksBy m1 m2 p1 p2 result → Honest m1 p1 d g
+    → StepsFreeing (Honest m2 (handed_back p2) d) p2.loose g Work (worked_reply result)
 work_step m1 m2 p1 p2 d g result did stands =
     elim stands.ties.queues [
       | inl idle ↦
@@ -301,7 +298,7 @@ work_step m1 m2 p1 p2 d g result did stands =
   where
     by_next : (o : Option ℕ) → IsRunning m1 p1 d g → visit_of g.config.paced g.inflate.taken ≡ o
         → next_visit p1 ≡ visit_of g.config.paced g.inflate.taken
-        → StepsFreeing (Stands m2 (handed_back p2) d) p2.loose g Work (worked_reply result)
+        → StepsFreeing (Honest m2 (handed_back p2) d) p2.loose g Work (worked_reply result)
     by_next None run is same =
         work_idle m1 m2 p1 p2 d g result did stands
         (running_part p1 (stands.ties.parts.device.status ∙ run.state)) (running g run.state)
@@ -312,28 +309,3 @@ work_step m1 m2 p1 p2 d g result did stands =
         (same ∙ is)) stands run (running g run.state) is
         (next_high g.config.paced d.inflate.ring.size g.config.pages d.inflate.sent g.inflate.taken
         page run.inflate.taken is)
-
--- ---- in the words of the slot's clauses
-
-pub work_own : (m1 m2 : Pages) (p1 p2 : Part) (d : DriverState) (g : Guest)
-    (result : Result (Option WorkedPage) Refusal) → WorksBy m1 m2 p1 p2 result
-    → Stands m1 p1 d g → p2.own ≡ []
-work_own m1 m2 p1 p2 d g result did stands =
-    (work_step m1 m2 p1 p2 d g result did stands).stands.ties.parts.device.own
-
-pub work_loose : (m1 m2 : Pages) (p1 p2 : Part) (d : DriverState) (g : Guest)
-    (result : Result (Option WorkedPage) Refusal) (out : List Bool)
-    → WorksBy m1 m2 p1 p2 result → Stands m1 p1 d g → AreOut g out → AreLoose p2.loose out
-work_loose m1 m2 p1 p2 d g result out did stands held =
-    freed_loose _ p2.loose g Work (worked_reply result) out
-    (work_step m1 m2 p1 p2 d g result did stands) held
-
-pub work_freed : (Answers : List Bool → Claim → Type 0) (m1 m2 m3 : Pages) (p1 p2 p3 : Part)
-    (d : DriverState) (g : Guest) (result : Result (Option WorkedPage) Refusal)
-    (out1 out2 : List Bool)
-    → WorksBy m1 m2 p1 p2 result → Stands m1 p1 d g → m3 ≡ m2 → p3 ≡ handed_back p2
-    → Returns p2.loose out1 out2 → length out2 ≡ length out1
-    → Steps (Stands m3 p3 d) Answers out1 out2 g Work (worked_reply result)
-work_freed Answers m1 m2 m3 p1 p2 p3 d g result out1 out2 did stands memory part back same =
-    steps_freed Answers m2 m3 p2 p3 d g Work (worked_reply result) out1 out2
-    (work_step m1 m2 p1 p2 d g result did stands) memory part back same

@@ -26,18 +26,21 @@ pub fn take<D: Device>(device: &mut D, queue: u32) -> Result<Option<u16>, Refusa
 }
 
 /// A paced device visits one more page of the requests that it took, the oldest first, and takes
-/// the page's frame away, if it has one; the frame goes back to the keeper. Answers the page and
+/// the page's frame away, if it has one; the frame goes back to where it came from. Answers the page and
 /// whether it had a frame; none where no page is left, and always where the device is immediate.
 /// Refused with `NotReady` alone.
 pub fn work<D: Device, K: FrameKeeper>(
     device: &mut D,
     keeper: &mut K,
 ) -> Result<Option<Worked>, Refusal>
-    requires { (d : DriverState) × (g : Guest) × Stands (D.mem device.old) (D.part device.old) d g
-        × AreOut g (K.out keeper.old) }
-    ensures { (d : DriverState) (g : Guest) → Stands (D.mem device.old) (D.part device.old) d g
-        → Steps (Stands (D.mem device.new) (D.part device.new) d) K.answers (K.out keeper.old)
-        (K.out keeper.new) g Call.Work (worked_reply result) }
+    requires { (keeps : Bool) × (d : DriverState) × (g : Guest)
+        × Stands keeps (D.mem device.old) (D.part device.old) d g
+        × (keeps ≡ false → AreOut g (K.out keeper.old)) }
+    ensures { (keeps : Bool) (d : DriverState) (g : Guest)
+        → Stands keeps (D.mem device.old) (D.part device.old) d g
+        → StepsOver (Stands keeps (D.mem device.new) (D.part device.new) d) K.answers
+        (supply_of (D.part device.old) (K.out keeper.old))
+        (supply_of (D.part device.new) (K.out keeper.new)) [] g Call.Work (worked_reply result) }
 {
     let answer = device.work();
     return_loose(device, keeper);

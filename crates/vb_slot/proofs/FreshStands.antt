@@ -1,6 +1,6 @@
 -- A slot stands for its guest as it is plugged in.
 use Rattle.std.specs.Prelude.{◌≡◌, ℕ, nat_lt, Bool, true, false, if◌then◌else◌, List, [], length}
-use Rattle.std.specs.Prelude.{None, replicate, slice_index_or, refl}
+use Rattle.std.specs.Prelude.{None, zero, suc, count_by, replicate, slice_index_or, refl}
 use Rattle.std.specs.List.{range_with_len}
 use Rattle.std.proofs.Common.{sym, ◌∙◌, ap, subst, arith, inl, inr}
 use Rattle.std.proofs.lemmas.Bool.{cases_lt}
@@ -8,6 +8,8 @@ use Rattle.std.proofs.lemmas.List.{length-replicate, length-map, get_or-replicat
 use Rattle.std.proofs.lemmas.List.FromFn.{length-range_with_len, get_or-map-range_with_len}
 use Rattle.vb_model.specs.declared.places.Place.TheVariants.{Reserved, Free}
 use Rattle.vb_model.specs.Limits.{is_config, reserved_pages}
+use Rattle.vb_model.specs.Tests.{one_if}
+use Rattle.vb_model.proofs.Tables.{count_by-cons}
 use Rattle.vb_model.specs.Requests.{no_requests}
 use Rattle.vb_model.specs.Guest.{Guest, Config, fresh, zero_page}
 use Rattle.vb_model.specs.Orderly.{IsOrderly, AreOrderly, is_reserved}
@@ -16,10 +18,11 @@ use Rattle.vb_ram.specs.declared.config.Config.{Config as Sizes}
 use Rattle.vb_ram.specs.Pages.{Pages, number_of, contents_of}
 use Rattle.vb_ram.proofs.Contents.{length-zero_page}
 use Rattle.vb_ram.specs.Part.{Part}
-use Rattle.vb_device.specs.Calls.{attached}
+use Rattle.vb_device.specs.Calls.{IsUnused, attached}
+use Rattle.vb_device.specs.Own.{has}
 use Rattle.vb_driver.specs.State.{DriverState, fresh_driver}
 use Rattle.vb_guest.specs.Stands.{Stands, Ties, HasPages}
-use Rattle.vb_slot.specs.Spare.{IsSpare}
+use Rattle.vb_guest.specs.Steps.{is_frame}
 
 -- a list of one element has it everywhere
 everywhere : {A : Type 0} (n : ℕ) (x : A) (p : ℕ) → slice_index_or (replicate n x) p x ≡ x
@@ -64,18 +67,25 @@ bare_pages n = record {
       ∙ length-zero_page;
 }
 
+-- no page has a frame
+pub backs_none : (f n : ℕ) → count_by (is_frame f) (replicate n None) ≡ 0
+backs_none f zero = refl
+backs_none f (suc n) =
+    omega (arith, count_by-cons (is_frame f) None (replicate n None), backs_none f n)
+
 pub fresh_stands : (m1 m2 : Pages) (p1 p2 : Part) (d : DriverState) (sizes : Sizes)
-    → is_config sizes.pages sizes.queue_size sizes.processors ≡ true → IsSpare m1 p1
+    → is_config sizes.pages sizes.queue_size sizes.processors ≡ true → IsUnused m1 p1
+    → p1.own ≡ []
     → m2 ≡ replicate sizes.pages None → p2 ≡ attached sizes p1
     → d ≡ fresh_driver sizes.pages sizes.queue_size sizes.processors
-    → Stands m2 p2 d (fresh
+    → Stands p1.keeps m2 p2 d (fresh
     (record {
       pages = sizes.pages;
       queue_size = sizes.queue_size;
       processors = sizes.processors;
       paced = p1.paced;
     }) 0)
-fresh_stands m1 m2 p1 p2 d sizes fits spare m p new =
+fresh_stands m1 m2 p1 p2 d sizes fits unused none m p new =
     let config : Config =
     record {
       pages = sizes.pages;
@@ -110,9 +120,7 @@ fresh_stands m1 m2 p1 p2 d sizes fits spare m p new =
           actual = refl;
           ballooned = refl;
           last = refl;
-          keeps = spare.keeps;
-          own = spare.own;
-          loose = spare.unused.no_frames;
+          loose = unused.no_frames;
         };
       };
       pages = bare_pages sizes.pages;
@@ -125,11 +133,20 @@ fresh_stands m1 m2 p1 p2 d sizes fits spare m p new =
         last = refl;
       });
     } in
+    let own = ap (λ (x : Part). x.own) p ∙ none in
     record {
-      ties = subst (λ (x : Pages). Ties x p2 d g) (sym m)
-          (subst (λ (x : Part). Ties (replicate sizes.pages None) x d g) (sym p)
-          (subst (λ (x : DriverState). Ties (replicate sizes.pages None) (attached sizes p1) x g)
-          (sym new) there));
-      consistent = fresh_consistent config 0;
-      orderly = fresh_orderly config 0;
+      guest = record {
+        ties = subst (λ (x : Pages). Ties x p2 d g) (sym m)
+            (subst (λ (x : Part). Ties (replicate sizes.pages None) x d g) (sym p)
+            (subst (λ (x : DriverState). Ties (replicate sizes.pages None) (attached sizes p1) x g)
+            (sym new) there));
+        consistent = fresh_consistent config 0;
+        orderly = fresh_orderly config 0;
+      };
+      own = record {
+        flag = ap (λ (x : Part). x.keeps) p;
+        none = λ e. own;
+        each = λ e n. backs_none n sizes.pages
+            ∙ ap (λ (l : List ℕ). one_if (has l n)) (sym own);
+      };
     }

@@ -1,14 +1,14 @@
 //! The calls on a guest and the questions about it, each with an answer of its own type.
 
-ghost use Rattle.std.specs.Prelude.{ℕ};
+ghost use Rattle.std.specs.Prelude.{◌≡◌, ℕ, Bool, [], false};
 ghost use Rattle.vb_model.specs.declared.replies.Reply.TheVariants.{Done, Places, Backing};
 ghost use Rattle.vb_model.specs.Guest.{Guest};
 ghost use Rattle.vb_model.specs.World.{Answers};
 ghost use Rattle.vb_guest.specs.Replies.{ready_reply, page_reply, done_reply, bytes_reply};
 ghost use Rattle.vb_guest.specs.Replies.{posted_reply, reaped_reply, taken_reply, finished_reply};
 ghost use Rattle.vb_guest.specs.Replies.{worked_reply, swept_reply, runs_reply, balloon_reply};
-ghost use Rattle.vb_guest.specs.Steps.{AreOut, Steps, StepsAlone};
-ghost use Rattle.vb_slot.specs.Slots.{stands_for};
+ghost use Rattle.vb_guest.specs.Steps.{AreOut, StepsAlone, StepsOver};
+ghost use Rattle.vb_slot.specs.Slots.{stands_for, supply_from, claims_of};
 
 use crate::slot::Slot;
 use std::alloc::{AllocError, Global};
@@ -16,36 +16,43 @@ use vb_device::{Device, Worked};
 use vb_driver::{Posted, Reaped};
 use vb_frames::FrameKeeper;
 use vb_guest::BalloonState;
-use vb_model::{Bytes, Call, PageRuns, Place, PlaceCounts, Query, Refusal};
+use vb_model::{Bytes, Call, Claim, PageRuns, Place, PlaceCounts, Query, Refusal};
 
 impl Slot {
     /// A processor asks for a block of 2^order pages (Gorman, chapter 6); answers its first page.
     /// Refused with `BadOrder`, `BadCpu` and `NoPages`, tested in this order.
     pub fn alloc(&mut self, cpu: u32, order: u32) -> Result<u32, Refusal>
-        ensures step { (g : Guest) → stands_for mem part self.old g
-            → StepsAlone (stands_for mem part self.new) g (Call.Alloc cpu order) (page_reply result) }
+        ensures step { (keeps : Bool) (g : Guest) → stands_for keeps mem part self.old g
+            → StepsAlone (stands_for keeps mem part self.new) g (Call.Alloc cpu order)
+            (page_reply result) }
+        ensures claimed { claims_of self.new ≡ [] }
     {
+        self.claims.clear();
         vb_guest::alloc(&mut self.driver, cpu, order)
     }
 
     /// A processor gives a block back that an allocation answered (Gorman, chapter 6). Refused with
     /// `BadOrder`, `BadCpu` and `NotHeld`, tested in this order.
     pub fn free(&mut self, cpu: u32, start: u32, order: u32) -> Result<(), Refusal>
-        ensures step { (g : Guest) → stands_for mem part self.old g
-            → StepsAlone (stands_for mem part self.new) g (Call.Free cpu start order)
+        ensures step { (keeps : Bool) (g : Guest) → stands_for keeps mem part self.old g
+            → StepsAlone (stands_for keeps mem part self.new) g (Call.Free cpu start order)
             (done_reply result) }
+        ensures claimed { claims_of self.new ≡ [] }
     {
+        self.claims.clear();
         vb_guest::free(&mut self.driver, cpu, start, order)
     }
 
     /// Bytes of a page that an allocation holds. Refused with `NotHeld`, `OutOfRam` where they don't
     /// lie in a page, and `NoMemory` where there is none for them, tested in this order.
-    pub fn read(&self, alloc: Global, page: u32, offset: u32, len: u32) -> Result<Bytes, Refusal>
-        requires { (g : Guest) × stands_for mem part self.now g }
-        ensures step { (g : Guest) → stands_for mem part self.now g
-            → StepsAlone (stands_for mem part self.now) g (Call.Read page offset len)
+    pub fn read(&mut self, alloc: Global, page: u32, offset: u32, len: u32) -> Result<Bytes, Refusal>
+        requires { (keeps : Bool) × (g : Guest) × stands_for keeps mem part self.old g }
+        ensures step { (keeps : Bool) (g : Guest) → stands_for keeps mem part self.old g
+            → StepsAlone (stands_for keeps mem part self.new) g (Call.Read page offset len)
             (bytes_reply result) }
+        ensures claimed { claims_of self.new ≡ [] }
     {
+        self.claims.clear();
         vb_guest::read(alloc, &self.driver, &self.device, page, offset, len)
     }
 
@@ -59,51 +66,63 @@ impl Slot {
         offset: u32,
         bytes: &Bytes,
     ) -> Result<(), Refusal>
-        requires { (g : Guest) × stands_for mem part self.old g }
-        ensures step { (g : Guest) → stands_for mem part self.old g
-            → Steps (stands_for mem part self.new) K.answers (K.out keeper.old) (K.out keeper.new) g
+        requires { (keeps : Bool) × (g : Guest) × stands_for keeps mem part self.old g }
+        ensures step { (keeps : Bool) (g : Guest) → stands_for keeps mem part self.old g
+            → StepsOver (stands_for keeps mem part self.new) K.answers
+            (supply_from part self.old (K.out keeper.old))
+            (supply_from part self.new (K.out keeper.new)) (claims_of self.new) g
             (Call.Write page offset bytes.now) (done_reply result) }
     {
-        vb_guest::write(&self.driver, &mut self.device, keeper, page, offset, bytes)
+        vb_guest::write(&self.driver, &mut self.device, keeper, &mut self.claims, page, offset, bytes)
     }
 
     /// The driver initialises the device with these features (VIRTIO 1.1, 3.1.1). Refused with
     /// `AlreadyUp`, `NoFrame` or `NoMemory` where a page of rings and buffers gets no frame, then
     /// `FeatureNotOffered`, `MustTellMissing` and `VersionMissing`.
     pub fn init<K: FrameKeeper>(&mut self, keeper: &mut K, wanted: u64) -> Result<(), Refusal>
-        requires { (g : Guest) × stands_for mem part self.old g }
-        ensures step { (g : Guest) → stands_for mem part self.old g
-            → Steps (stands_for mem part self.new) K.answers (K.out keeper.old) (K.out keeper.new) g
+        requires { (keeps : Bool) × (g : Guest) × stands_for keeps mem part self.old g }
+        ensures step { (keeps : Bool) (g : Guest) → stands_for keeps mem part self.old g
+            → StepsOver (stands_for keeps mem part self.new) K.answers
+            (supply_from part self.old (K.out keeper.old))
+            (supply_from part self.new (K.out keeper.new)) (claims_of self.new) g
             (Call.Init wanted) (ready_reply result) }
     {
-        vb_guest::init(&mut self.driver, &mut self.device, keeper, wanted)
+        vb_guest::init(&mut self.driver, &mut self.device, keeper, &mut self.claims, wanted)
     }
 
     /// The driver resets the device (VIRTIO 1.1, 2.1).
     pub fn reset(&mut self)
-        ensures step { (g : Guest) → stands_for mem part self.old g
-            → StepsAlone (stands_for mem part self.new) g (Call.Reset) Done }
+        ensures step { (keeps : Bool) (g : Guest) → stands_for keeps mem part self.old g
+            → StepsAlone (stands_for keeps mem part self.new) g (Call.Reset) Done }
+        ensures claimed { claims_of self.new ≡ [] }
     {
+        self.claims.clear();
         vb_guest::reset(&mut self.driver, &mut self.device);
     }
 
     /// The driver offers up to this many pages to the host (VIRTIO 1.1, 5.5.6). Refused with
     /// `NotReady`, `QueueFull` and `Nothing`, tested in this order.
     pub fn inflate(&mut self, pages: u32) -> Result<Posted, Refusal>
-        requires { (g : Guest) × stands_for mem part self.old g }
-        ensures step { (g : Guest) → stands_for mem part self.old g
-            → StepsAlone (stands_for mem part self.new) g (Call.Inflate pages) (posted_reply result) }
+        requires { (keeps : Bool) × (g : Guest) × stands_for keeps mem part self.old g }
+        ensures step { (keeps : Bool) (g : Guest) → stands_for keeps mem part self.old g
+            → StepsAlone (stands_for keeps mem part self.new) g (Call.Inflate pages)
+            (posted_reply result) }
+        ensures claimed { claims_of self.new ≡ [] }
     {
+        self.claims.clear();
         vb_guest::inflate(&mut self.driver, &mut self.device, pages)
     }
 
     /// The driver asks for up to this many pages back, as far as the target allows (VIRTIO 1.1,
     /// 5.5.6). Refused with `NotReady`, `QueueFull` and `Nothing`, tested in this order.
     pub fn deflate(&mut self, pages: u32) -> Result<Posted, Refusal>
-        requires { (g : Guest) × stands_for mem part self.old g }
-        ensures step { (g : Guest) → stands_for mem part self.old g
-            → StepsAlone (stands_for mem part self.new) g (Call.Deflate pages) (posted_reply result) }
+        requires { (keeps : Bool) × (g : Guest) × stands_for keeps mem part self.old g }
+        ensures step { (keeps : Bool) (g : Guest) → stands_for keeps mem part self.old g
+            → StepsAlone (stands_for keeps mem part self.new) g (Call.Deflate pages)
+            (posted_reply result) }
+        ensures claimed { claims_of self.new ≡ [] }
     {
+        self.claims.clear();
         vb_guest::deflate(&mut self.driver, &mut self.device, pages)
     }
 
@@ -111,29 +130,38 @@ impl Slot {
     /// DEFLATE_ON_OOM). Refused with `NotReady`, `NoFeature`, `QueueFull` and `Nothing`, tested in
     /// this order.
     pub fn oom(&mut self, pages: u32) -> Result<Posted, Refusal>
-        requires { (g : Guest) × stands_for mem part self.old g }
-        ensures step { (g : Guest) → stands_for mem part self.old g
-            → StepsAlone (stands_for mem part self.new) g (Call.Oom pages) (posted_reply result) }
+        requires { (keeps : Bool) × (g : Guest) × stands_for keeps mem part self.old g }
+        ensures step { (keeps : Bool) (g : Guest) → stands_for keeps mem part self.old g
+            → StepsAlone (stands_for keeps mem part self.new) g (Call.Oom pages)
+            (posted_reply result) }
+        ensures claimed { claims_of self.new ≡ [] }
     {
+        self.claims.clear();
         vb_guest::oom(&mut self.driver, &mut self.device, pages)
     }
 
     /// The driver takes the next used request of a queue (VIRTIO 1.1, 2.6.14); answers none where
     /// none is new. Refused with `NoQueue` and `NotReady`, tested in this order.
     pub fn reap(&mut self, queue: u32) -> Result<Option<Reaped>, Refusal>
-        requires { (g : Guest) × stands_for mem part self.old g }
-        ensures step { (g : Guest) → stands_for mem part self.old g
-            → StepsAlone (stands_for mem part self.new) g (Call.Reap queue) (reaped_reply result) }
+        requires { (keeps : Bool) × (g : Guest) × stands_for keeps mem part self.old g }
+        ensures step { (keeps : Bool) (g : Guest) → stands_for keeps mem part self.old g
+            → StepsAlone (stands_for keeps mem part self.new) g (Call.Reap queue)
+            (reaped_reply result) }
+        ensures claimed { claims_of self.new ≡ [] }
     {
+        self.claims.clear();
         vb_guest::reap(&mut self.driver, &mut self.device, queue)
     }
 
     /// The device takes the next chain of a queue (VIRTIO 1.1, 2.6); answers its head, or none where
     /// no chain is available. Refused with `NoQueue`, `NotReady` and `Busy`, tested in this order.
     pub fn take(&mut self, queue: u32) -> Result<Option<u16>, Refusal>
-        ensures step { (g : Guest) → stands_for mem part self.old g
-            → StepsAlone (stands_for mem part self.new) g (Call.Take queue) (taken_reply result) }
+        ensures step { (keeps : Bool) (g : Guest) → stands_for keeps mem part self.old g
+            → StepsAlone (stands_for keeps mem part self.new) g (Call.Take queue)
+            (taken_reply result) }
+        ensures claimed { claims_of self.new ≡ [] }
     {
+        self.claims.clear();
         vb_guest::take(&mut self.device, queue)
     }
 
@@ -142,11 +170,15 @@ impl Slot {
     /// where no page is left to visit, and always where the device is immediate. Refused with
     /// `NotReady` alone.
     pub fn work<K: FrameKeeper>(&mut self, keeper: &mut K) -> Result<Option<Worked>, Refusal>
-        requires { (g : Guest) × stands_for mem part self.old g × AreOut g (K.out keeper.old) }
-        ensures step { (g : Guest) → stands_for mem part self.old g
-            → Steps (stands_for mem part self.new) K.answers (K.out keeper.old) (K.out keeper.new) g
+        requires { (keeps : Bool) × (g : Guest) × stands_for keeps mem part self.old g
+            × (keeps ≡ false → AreOut g (K.out keeper.old)) }
+        ensures step { (keeps : Bool) (g : Guest) → stands_for keeps mem part self.old g
+            → StepsOver (stands_for keeps mem part self.new) K.answers
+            (supply_from part self.old (K.out keeper.old))
+            (supply_from part self.new (K.out keeper.new)) (claims_of self.new) g
             (Call.Work) (worked_reply result) }
     {
+        self.claims.clear();
         vb_guest::work(&mut self.device, keeper)
     }
 
@@ -158,36 +190,54 @@ impl Slot {
         queue: u32,
         index: u32,
     ) -> Result<u16, Refusal>
-        requires { (g : Guest) × stands_for mem part self.old g × AreOut g (K.out keeper.old) }
-        ensures step { (g : Guest) → stands_for mem part self.old g
-            → Steps (stands_for mem part self.new) K.answers (K.out keeper.old) (K.out keeper.new) g
+        requires { (keeps : Bool) × (g : Guest) × stands_for keeps mem part self.old g
+            × (keeps ≡ false → AreOut g (K.out keeper.old)) }
+        ensures step { (keeps : Bool) (g : Guest) → stands_for keeps mem part self.old g
+            → StepsOver (stands_for keeps mem part self.new) K.answers
+            (supply_from part self.old (K.out keeper.old))
+            (supply_from part self.new (K.out keeper.new)) (claims_of self.new) g
             (Call.Finish queue index) (finished_reply result) }
     {
+        self.claims.clear();
         vb_guest::finish(&mut self.device, keeper, queue, index)
     }
 
     /// The host discards what it still has of a ballooned page; answers whether it had a frame.
     /// Refused with `NotReady` and `NotBallooned`, tested in this order.
     pub fn sweep<K: FrameKeeper>(&mut self, keeper: &mut K, page: u32) -> Result<bool, Refusal>
-        requires { (g : Guest) × stands_for mem part self.old g × AreOut g (K.out keeper.old) }
-        ensures step { (g : Guest) → stands_for mem part self.old g
-            → Steps (stands_for mem part self.new) K.answers (K.out keeper.old) (K.out keeper.new) g
+        requires { (keeps : Bool) × (g : Guest) × stands_for keeps mem part self.old g
+            × (keeps ≡ false → AreOut g (K.out keeper.old)) }
+        ensures step { (keeps : Bool) (g : Guest) → stands_for keeps mem part self.old g
+            → StepsOver (stands_for keeps mem part self.new) K.answers
+            (supply_from part self.old (K.out keeper.old))
+            (supply_from part self.new (K.out keeper.new)) (claims_of self.new) g
             (Call.Sweep page) (swept_reply result) }
     {
+        self.claims.clear();
         vb_guest::sweep(&mut self.device, keeper, page)
     }
 
     /// The host sets how many pages it wants (`num_pages`, VIRTIO 1.1, 5.5.4).
     pub fn set_target(&mut self, pages: u32)
-        ensures step { (g : Guest) → stands_for mem part self.old g
-            → StepsAlone (stands_for mem part self.new) g (Call.SetTarget pages) Done }
+        ensures step { (keeps : Bool) (g : Guest) → stands_for keeps mem part self.old g
+            → StepsAlone (stands_for keeps mem part self.new) g (Call.SetTarget pages) Done }
+        ensures claimed { claims_of self.new ≡ [] }
     {
+        self.claims.clear();
         vb_guest::set_target(&mut self.device, pages);
+    }
+
+    /// What the claims of the last call were answered, in order; none where it made none. A call
+    /// makes `MAX_CLAIMS` at the most.
+    pub fn claimed(&self) -> &[Claim]
+        ensures { result.now ≡ claims_of self.now }
+    {
+        self.claims.as_slice()
     }
 
     /// How many pages each place has.
     pub fn places(&self) -> PlaceCounts
-        ensures answer { (g : Guest) → stands_for mem part self.now g
+        ensures answer { (keeps : Bool) (g : Guest) → stands_for keeps mem part self.now g
             → Answers (Query.Places) g (Places result) }
     {
         vb_guest::places(&self.driver)
@@ -195,8 +245,8 @@ impl Slot {
 
     /// Which pages are at a place, as runs by rising page. Want of memory is the only refusal.
     pub fn pages_at(&self, alloc: Global, place: Place) -> Result<PageRuns, AllocError>
-        requires { (g : Guest) × stands_for mem part self.now g }
-        ensures answer { (g : Guest) → stands_for mem part self.now g
+        requires { (keeps : Bool) × (g : Guest) × stands_for keeps mem part self.now g }
+        ensures answer { (keeps : Bool) (g : Guest) → stands_for keeps mem part self.now g
             → Answers (Query.PagesAt place) g (runs_reply result) }
     {
         vb_guest::pages_at(alloc, &self.driver, &self.device, place)
@@ -205,8 +255,8 @@ impl Slot {
     /// Which pages the device holds to be ballooned, as runs by rising page. Want of memory is the
     /// only refusal.
     pub fn pages_ballooned(&self, alloc: Global) -> Result<PageRuns, AllocError>
-        requires { (g : Guest) × stands_for mem part self.now g }
-        ensures answer { (g : Guest) → stands_for mem part self.now g
+        requires { (keeps : Bool) × (g : Guest) × stands_for keeps mem part self.now g }
+        ensures answer { (keeps : Bool) (g : Guest) → stands_for keeps mem part self.now g
             → Answers (Query.PagesBallooned) g (runs_reply result) }
     {
         vb_guest::pages_ballooned(alloc, &self.device)
@@ -215,7 +265,7 @@ impl Slot {
     /// The count of ballooned pages, the configuration's two numbers (VIRTIO 1.1, 5.5.4) and the
     /// status.
     pub fn balloon(&self) -> BalloonState
-        ensures answer { (g : Guest) → stands_for mem part self.now g
+        ensures answer { (keeps : Bool) (g : Guest) → stands_for keeps mem part self.now g
             → Answers (Query.Balloon) g (balloon_reply result) }
     {
         vb_guest::balloon(&self.driver, &self.device)
@@ -223,7 +273,7 @@ impl Slot {
 
     /// The number of the frame behind a page; none where it has none, or isn't there.
     pub fn backing(&self, page: u32) -> Option<u32>
-        ensures answer { (g : Guest) → stands_for mem part self.now g
+        ensures answer { (keeps : Bool) (g : Guest) → stands_for keeps mem part self.now g
             → Answers (Query.Backing page) g (Backing result) }
     {
         self.device.backing(page)

@@ -1,11 +1,11 @@
 //! A guest behind one type: how it is made, and its calls and questions told apart by their names.
 
-ghost use Rattle.std.specs.Prelude.{◌≡◌, ℕ, true};
+ghost use Rattle.std.specs.Prelude.{◌≡◌, ℕ, Bool, true, false};
 ghost use Rattle.vb_model.specs.Guest.{Guest};
 ghost use Rattle.vb_model.specs.World.{Answers};
 ghost use Rattle.vb_model.specs.Brought.{is_call_brought, is_query_brought};
-ghost use Rattle.vb_slot.specs.Slots.{stands_for};
-ghost use Rattle.vb_guest.specs.Steps.{AreOut, Steps};
+ghost use Rattle.vb_slot.specs.Slots.{stands_for, supply_from, claims_of};
+ghost use Rattle.vb_guest.specs.Steps.{AreOut, Steps, StepsOver};
 
 use crate::boxed::BoxedDevice;
 use crate::new::NoSlot;
@@ -13,6 +13,7 @@ use std::alloc::Global;
 use vb_device::Device;
 use vb_driver::Driver;
 use vb_frames::FrameKeeper;
+use vb_guest::Claims;
 use vb_model::{Call, Query, Reply};
 use vb_ram::Config;
 
@@ -47,36 +48,49 @@ pub struct Slot {
     pub(crate) device: BoxedDevice,
     /// Its balloon driver, with its page areas.
     pub(crate) driver: Driver,
+    /// What the claims of the last call were answered.
+    pub(crate) claims: Claims,
 }
 
 impl Slot {
-    /// Answers a call on the guest. Frames that its pages gain are claimed from the keeper, and
-    /// those that they lose are put back.
+    /// Answers a call on the guest. Frames that its pages gain are claimed from its device, where
+    /// that keeps frames of its own, else from the keeper, and those that they lose go back there.
     pub fn call<K: FrameKeeper>(&mut self, alloc: Global, keeper: &mut K, call: &Call) -> Reply
-        requires stands { (g : Guest) × stands_for mem part self.old g
-            × AreOut g (K.out keeper.old) }
+        requires stands { (keeps : Bool) × (g : Guest) × stands_for keeps mem part self.old g
+            × (keeps ≡ false → AreOut g (K.out keeper.old)) }
         requires brought { is_call_brought call.now ≡ true }
-        ensures step { (g : Guest) → stands_for mem part self.old g
-            → Steps (stands_for mem part self.new) K.answers (K.out keeper.old) (K.out keeper.new) g
-            call.now result }
+        ensures step { (keeps : Bool) (g : Guest) → stands_for keeps mem part self.old g
+            → StepsOver (stands_for keeps mem part self.new) K.answers
+            (supply_from part self.old (K.out keeper.old))
+            (supply_from part self.new (K.out keeper.new)) (claims_of self.new) g call.now result }
     {
-        vb_guest::call(alloc, &mut self.driver, &mut self.device, keeper, call)
+        vb_guest::call(
+            alloc,
+            &mut self.driver,
+            &mut self.device,
+            keeper,
+            &mut self.claims,
+            call,
+        )
     }
 
     /// Answers a question about the guest.
     pub fn query(&self, alloc: Global, query: &Query) -> Reply
-        requires stands { (g : Guest) × stands_for mem part self.now g }
+        requires stands { (keeps : Bool) × (g : Guest) × stands_for keeps mem part self.now g }
         requires brought { is_query_brought query.now ≡ true }
-        ensures answer { (g : Guest) → stands_for mem part self.now g → Answers query.now g result }
+        ensures answer { (keeps : Bool) (g : Guest) → stands_for keeps mem part self.now g
+            → Answers query.now g result }
     {
         vb_guest::query(alloc, &self.driver, &self.device, query)
     }
 }
 
+/// A host gives its own frames to guests whose devices keep none.
 impl GuestSlot for Slot {
+    ghost use Rattle.std.specs.Prelude.{false};
     ghost use Rattle.vb_guest.specs.Stands.{Stands};
 
-    ghost stands = { λ s g. Stands
+    ghost stands = { λ s g. Stands false
         ((Device-box s.device.device).GuestBytes.mem s.device.device.value)
         ((Device-box s.device.device).GuestBytes.part s.device.device.value) s.driver g };
 
@@ -90,28 +104,39 @@ impl GuestSlot for Slot {
 }
 
 impl Slot {
-    ghost use Rattle.std.specs.Prelude.{◌≡◌, true, IfOk, IfErr};
+    ghost use Rattle.std.specs.Prelude.{◌≡◌, true, false, IfOk, IfErr, []};
     ghost use Rattle.vb_model.specs.Guest.{fresh};
     ghost use Rattle.vb_model.specs.Limits.{is_config};
-    ghost use Rattle.vb_slot.specs.Spare.{IsSpare};
+    ghost use Rattle.vb_device.specs.Calls.{IsUnused};
+    ghost use Rattle.vb_slot.specs.Slots.{claims_of};
 
-    /// A guest of this size as it is plugged in, on a device that no guest has yet. Refused for want
-    /// of memory alone.
+    /// A guest of this size as it is plugged in, on a device that no guest has yet, and of whose own
+    /// frames, if it keeps such, none is out. Refused for want of memory alone.
     pub fn new(
         alloc: Global,
         device: Box<dyn Device + Send>,
         config: Config,
     ) -> Result<Slot, NoSlot>
-        requires spare { IsSpare (mem device) (part device) }
+        requires unused { IsUnused (mem device) (part device) }
+        requires own { (part device).own ≡ [] }
         requires config { is_config config.pages config.queue_size config.processors ≡ true }
         ensures made { IfOk result
-            (λ slot. ⟦<Slot as GuestSlot>⟧.stands slot
+            (λ slot. stands_for (part device).keeps mem part slot
             (fresh (record {
               pages = config.pages;
               queue_size = config.queue_size;
               processors = config.processors;
               paced = (part device).paced;
             }) 0)) }
+        ensures hosted { IfOk result
+            (λ slot. (part device).keeps ≡ false → ⟦<Slot as GuestSlot>⟧.stands slot
+            (fresh (record {
+              pages = config.pages;
+              queue_size = config.queue_size;
+              processors = config.processors;
+              paced = (part device).paced;
+            }) 0)) }
+        ensures claimed { IfOk result (λ slot. claims_of slot ≡ []) }
         ensures refused { IfErr result
             (λ refused. (mem refused.device ≡ mem device) × (part refused.device ≡ part device)) }
     {
@@ -121,7 +146,11 @@ impl Slot {
         };
         let mut device = BoxedDevice { device };
         match device.attach(alloc, config) {
-            Ok(()) => Ok(Slot { device, driver }),
+            Ok(()) => Ok(Slot {
+                device,
+                driver,
+                claims: Claims::new(),
+            }),
             Err(_) => Err(NoSlot {
                 device: device.device,
             }),

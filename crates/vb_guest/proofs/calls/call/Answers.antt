@@ -81,8 +81,8 @@ returns-in-Take g c =
 pub returns-in-Work : goal.returns-in-Work
 returns-in-Work g c =
     record {
-      step = λ guest stands. rw (c.in-Work.is, c.worked_reply.ensures)
-          (c.work.ensures _ guest stands);
+      step = λ keeps guest stands. rw (c.clear.ensures, c.in-Work.is, c.worked_reply.ensures)
+          (c.work.ensures keeps _ guest stands);
     }
 
 pub returns-in-Finish : goal.returns-in-Finish

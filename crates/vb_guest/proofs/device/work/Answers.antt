@@ -1,20 +1,31 @@
-use Rattle.vb_guest.proofs.Freed.{none_loose}
-use Rattle.vb_guest.proofs.WorkStep.{work_own, work_loose, work_freed}
+use Rattle.std.proofs.Common.{◌∙◌, sym}
+use Rattle.vb_guest.proofs.WorkStep.{work_step}
+use Rattle.vb_guest.proofs.Freed.{none_loose, freed_as}
+use Rattle.vb_guest.proofs.Kept.{work_kept}
+use Rattle.vb_guest.proofs.Standing.{honest_of, freed_loose, steps_freed}
 use Rattle.vb_guest.proofs.device.work.Goals as goal
 
 pub work-answer-requires : goal.work-answer-requires
-work-answer-requires g c = let (d, guest, stands, held) = c.requires in
-    none_loose _ _ d guest stands
+work-answer-requires g c = let (keeps, d, guest, stands, held) = c.requires in
+    let honest = honest_of keeps _ _ d guest stands in
+    none_loose _ _ d guest honest
 
 pub return_loose-requires : goal.return_loose-requires
 return_loose-requires g c =
-    let (d, guest, stands, held) = c.requires in
+    let (keeps, d, guest, stands, held) = c.requires in
+    let did = c.work-answer.ensures in
+    let same = work_kept _ _ _ _ _ did in
     record {
-      own = work_own _ _ _ _ d guest _ c.work-answer.ensures stands;
-      loose = work_loose _ _ _ _ d guest _ _ c.work-answer.ensures stands held;
+      none = λ e. same.numbers ∙ stands.own.none (sym stands.own.flag ∙ (sym same.flag ∙ e));
+      loose = freed_loose keeps _ _ (g.D.GuestBytes.part c.work-answer.new.self) d guest _ _ _ _ stands held same.flag same.numbers
+          (work_step _ _ _ _ d guest _ did (honest_of keeps _ _ d guest stands));
     }
 
 pub returns : goal.returns
-returns g c = λ d guest stands. work_freed _ _ _ _ _ _ _ d guest _ _ _ c.work-answer.ensures stands
-    c.return_loose.ensures.mem c.return_loose.ensures.part c.return_loose.ensures.out
-    c.return_loose.ensures.count
+returns g c = λ keeps d guest stands.
+    let did = c.work-answer.ensures in
+    let same = work_kept _ _ _ _ _ did in
+    let back = c.return_loose.ensures in
+    steps_freed keeps _ _ _ (g.D.GuestBytes.part c.work-answer.new.self) _ d guest _ _ _ _ _ stands same.flag same.numbers
+    (freed_as _ _ _ _ d guest _ _ back.mem back.part
+    (work_step _ _ _ _ d guest _ did (honest_of keeps _ _ d guest stands))) back.moves
