@@ -196,22 +196,25 @@ claimed_asked Answers s (GaveNoFrame ∷ claims) e (mid, first, last) = ((first.
 claimed_asked Answers s (GaveNoMemory ∷ claims) e (mid, first, last) = ((first.asked e).0, last)
 
 -- a step over the keeper's frames
-pub steps_asked : (New : Guest → Type 0) (Answers : List Bool → Claim → Type 0) (p1 p2 : Part)
-    (out1 out2 : List Bool) (claims : List Claim) (g : Guest) (call : Call) (reply : Reply)
-    → p1.keeps ≡ false
-    → StepsOver New Answers (supply_of p1 out1) (supply_of p2 out2) claims g call reply
-    → Steps New Answers out1 out2 g call reply
-steps_asked New Answers p1 p2 out1 out2 claims g call reply e step = record {
+pub steps_asked : (New : Guest → Type 0) (Answers : List Bool → Claim → Type 0) (s1 s2 : Supply)
+    (claims : List Claim) (g : Guest) (call : Call) (reply : Reply) → s1.keeps ≡ false
+    → StepsOver New Answers s1 s2 claims g call reply → Steps New Answers s1.out s2.out g call reply
+steps_asked New Answers s1 s2 claims g call reply e step = record {
   claims = claims;
   new = step.new;
   stands = step.stands;
   step = step.step;
-  answered = claimed_asked Answers (supply_of p1 out1) claims e step.answered;
+  answered = claimed_asked Answers s1 claims e step.answered;
   balance = λ n. omega (
     arith,
     step.moves.balance n,
-    ap one_if (used_out (supply_of p1 out1) n e),
-    ap one_if (used_out (supply_of p2 out2) n (step.moves.keeps ∙ e)),
+    ap one_if (used_out s1 n e),
+    ap one_if (used_out s2 n (step.moves.keeps ∙ e)),
   );
   count = step.moves.count;
 }
+
+-- the device is said to keep what it keeps
+pub stands_keeping : (keeps other : Bool) (m : Pages) (p : Part) (d : DriverState) (g : Guest)
+    → keeps ≡ other → Stands keeps m p d g → Stands other m p d g
+stands_keeping keeps other m p d g e stands = subst (λ b. Stands b m p d g) e stands

@@ -10,7 +10,7 @@ ghost use Rattle.vb_guest.specs.Replies.{worked_reply, swept_reply, runs_reply, 
 ghost use Rattle.vb_guest.specs.Steps.{AreOut, StepsAlone, StepsOver};
 ghost use Rattle.vb_slot.specs.Slots.{stands_for, supply_from, claims_of};
 
-use crate::slot::Slot;
+use crate::slot::{Slot, forget};
 use std::alloc::{AllocError, Global};
 use vb_device::{Device, Worked};
 use vb_driver::{Posted, Reaped};
@@ -27,7 +27,7 @@ impl Slot {
             (page_reply result) }
         ensures claimed { claims_of self.new ≡ [] }
     {
-        self.claims.clear();
+        forget(&mut self.claims);
         vb_guest::alloc(&mut self.driver, cpu, order)
     }
 
@@ -39,20 +39,26 @@ impl Slot {
             (done_reply result) }
         ensures claimed { claims_of self.new ≡ [] }
     {
-        self.claims.clear();
+        forget(&mut self.claims);
         vb_guest::free(&mut self.driver, cpu, start, order)
     }
 
     /// Bytes of a page that an allocation holds. Refused with `NotHeld`, `OutOfRam` where they don't
     /// lie in a page, and `NoMemory` where there is none for them, tested in this order.
-    pub fn read(&mut self, alloc: Global, page: u32, offset: u32, len: u32) -> Result<Bytes, Refusal>
+    pub fn read(
+        &mut self,
+        alloc: Global,
+        page: u32,
+        offset: u32,
+        len: u32,
+    ) -> Result<Bytes, Refusal>
         requires { (keeps : Bool) × (g : Guest) × stands_for keeps mem part self.old g }
         ensures step { (keeps : Bool) (g : Guest) → stands_for keeps mem part self.old g
             → StepsAlone (stands_for keeps mem part self.new) g (Call.Read page offset len)
             (bytes_reply result) }
         ensures claimed { claims_of self.new ≡ [] }
     {
-        self.claims.clear();
+        forget(&mut self.claims);
         vb_guest::read(alloc, &self.driver, &self.device, page, offset, len)
     }
 
@@ -73,7 +79,15 @@ impl Slot {
             (supply_from part self.new (K.out keeper.new)) (claims_of self.new) g
             (Call.Write page offset bytes.now) (done_reply result) }
     {
-        vb_guest::write(&self.driver, &mut self.device, keeper, &mut self.claims, page, offset, bytes)
+        vb_guest::write(
+            &self.driver,
+            &mut self.device,
+            keeper,
+            &mut self.claims,
+            page,
+            offset,
+            bytes,
+        )
     }
 
     /// The driver initialises the device with these features (VIRTIO 1.1, 3.1.1). Refused with
@@ -87,7 +101,13 @@ impl Slot {
             (supply_from part self.new (K.out keeper.new)) (claims_of self.new) g
             (Call.Init wanted) (ready_reply result) }
     {
-        vb_guest::init(&mut self.driver, &mut self.device, keeper, &mut self.claims, wanted)
+        vb_guest::init(
+            &mut self.driver,
+            &mut self.device,
+            keeper,
+            &mut self.claims,
+            wanted,
+        )
     }
 
     /// The driver resets the device (VIRTIO 1.1, 2.1).
@@ -96,7 +116,7 @@ impl Slot {
             → StepsAlone (stands_for keeps mem part self.new) g (Call.Reset) Done }
         ensures claimed { claims_of self.new ≡ [] }
     {
-        self.claims.clear();
+        forget(&mut self.claims);
         vb_guest::reset(&mut self.driver, &mut self.device);
     }
 
@@ -109,7 +129,7 @@ impl Slot {
             (posted_reply result) }
         ensures claimed { claims_of self.new ≡ [] }
     {
-        self.claims.clear();
+        forget(&mut self.claims);
         vb_guest::inflate(&mut self.driver, &mut self.device, pages)
     }
 
@@ -122,7 +142,7 @@ impl Slot {
             (posted_reply result) }
         ensures claimed { claims_of self.new ≡ [] }
     {
-        self.claims.clear();
+        forget(&mut self.claims);
         vb_guest::deflate(&mut self.driver, &mut self.device, pages)
     }
 
@@ -136,7 +156,7 @@ impl Slot {
             (posted_reply result) }
         ensures claimed { claims_of self.new ≡ [] }
     {
-        self.claims.clear();
+        forget(&mut self.claims);
         vb_guest::oom(&mut self.driver, &mut self.device, pages)
     }
 
@@ -149,7 +169,7 @@ impl Slot {
             (reaped_reply result) }
         ensures claimed { claims_of self.new ≡ [] }
     {
-        self.claims.clear();
+        forget(&mut self.claims);
         vb_guest::reap(&mut self.driver, &mut self.device, queue)
     }
 
@@ -161,7 +181,7 @@ impl Slot {
             (taken_reply result) }
         ensures claimed { claims_of self.new ≡ [] }
     {
-        self.claims.clear();
+        forget(&mut self.claims);
         vb_guest::take(&mut self.device, queue)
     }
 
@@ -178,7 +198,7 @@ impl Slot {
             (supply_from part self.new (K.out keeper.new)) (claims_of self.new) g
             (Call.Work) (worked_reply result) }
     {
-        self.claims.clear();
+        forget(&mut self.claims);
         vb_guest::work(&mut self.device, keeper)
     }
 
@@ -198,7 +218,7 @@ impl Slot {
             (supply_from part self.new (K.out keeper.new)) (claims_of self.new) g
             (Call.Finish queue index) (finished_reply result) }
     {
-        self.claims.clear();
+        forget(&mut self.claims);
         vb_guest::finish(&mut self.device, keeper, queue, index)
     }
 
@@ -213,7 +233,7 @@ impl Slot {
             (supply_from part self.new (K.out keeper.new)) (claims_of self.new) g
             (Call.Sweep page) (swept_reply result) }
     {
-        self.claims.clear();
+        forget(&mut self.claims);
         vb_guest::sweep(&mut self.device, keeper, page)
     }
 
@@ -223,7 +243,7 @@ impl Slot {
             → StepsAlone (stands_for keeps mem part self.new) g (Call.SetTarget pages) Done }
         ensures claimed { claims_of self.new ≡ [] }
     {
-        self.claims.clear();
+        forget(&mut self.claims);
         vb_guest::set_target(&mut self.device, pages);
     }
 

@@ -1,6 +1,6 @@
 //! A guest behind one type: how it is made, and its calls and questions told apart by their names.
 
-ghost use Rattle.std.specs.Prelude.{◌≡◌, ℕ, Bool, true, false};
+ghost use Rattle.std.specs.Prelude.{◌≡◌, ℕ, Bool, true, false, []};
 ghost use Rattle.vb_model.specs.Guest.{Guest};
 ghost use Rattle.vb_model.specs.World.{Answers};
 ghost use Rattle.vb_model.specs.Brought.{is_call_brought, is_query_brought};
@@ -50,6 +50,13 @@ pub struct Slot {
     pub(crate) driver: Driver,
     /// What the claims of the last call were answered.
     pub(crate) claims: Claims,
+}
+
+/// Forgets what the claims of the call before were answered.
+pub(crate) fn forget(claims: &mut Claims)
+    ensures { claims.new.items ≡ [] }
+{
+    claims.clear();
 }
 
 impl Slot {

@@ -1,4 +1,4 @@
 use Rattle.vb_slot.proofs.slot.Slot.set_target.Goals as goal
 
 pub returns : goal.returns
-returns g c = record { step = λ keeps guest stands. c.set_target.ensures keeps _ guest stands }
+returns g c = record { step = λ keeps guest stands. c.set_target.ensures keeps _ guest stands; claimed = c.forget.ensures }
