@@ -4,12 +4,12 @@ ghost use Rattle.std.specs.Prelude.{◌≡◌, ◌≤◌, IfOk, IsTrue, All, len
 ghost use Rattle.vb_model.specs.Brought.{is_brought};
 ghost use Rattle.vb_model.specs.Safe.{IsSafeRun};
 ghost use Rattle.vb_model.specs.World.{World as Model, made};
-ghost use Rattle.vb_script.specs.Lines.{is_pace_brought, is_paced};
+ghost use Rattle.vb_script.specs.Lines.{is_paced};
 ghost use Rattle.vb_sim.specs.Plays.{RunsSafely};
 
 use crate::play::Play;
 use std::alloc::{AllocError, Global};
-use vb_device::{Device, ImmediateDevice};
+use vb_device::{Device, ImmediateDevice, PacedDevice};
 use vb_model::{Event, Reply};
 use vb_script::{Pace, Script};
 use vb_world::{World, add_spare};
@@ -36,7 +36,6 @@ fn play_events(
 ) -> Result<Vec<Reply>, AllocError>
     requires some { 1 ≤ frames }
     requires few { frames ≤ 65_536 }
-    requires paces { All (λ pace. IsTrue (is_pace_brought pace)) paces.now }
     requires events { All (λ event. IsTrue (is_brought event)) events.now }
     ensures run { IfOk result (λ replies. (last : Model)
         × IsSafeRun (made frames (map is_paced paces.now)) events.now replies.items last) }
@@ -49,7 +48,10 @@ fn play_events(
                 let device = Box::new(alloc, ImmediateDevice::new(alloc))?;
                 add_spare(&mut spares, device)?;
             }
-            Pace::Paced => unreachable!(),
+            Pace::Paced => {
+                let device = Box::new(alloc, PacedDevice::new(alloc))?;
+                add_spare(&mut spares, device)?;
+            }
         }
     }
     let mut world = World::new(alloc, frames, spares)?;

@@ -2,6 +2,7 @@
 
 mod command_lines;
 mod examples;
+mod paces;
 mod rows;
 mod runs;
 mod sizes;

@@ -17,8 +17,9 @@ use Rattle.vb_model.specs.declared.replies.Refusal.TheVariants.{NoQueue, NotRead
 use Rattle.vb_model.specs.declared.replies.Refusal.TheVariants.{NotTaken, NotWorked}
 use Rattle.vb_device.specs.Discards.{flagged}
 use Rattle.vb_device.proofs.Marks.{flagged-length}
-use Rattle.vb_device.specs.Calls.{attached, using, SweepsBy, FinishesBy, Uses}
-use Rattle.vb_device.specs.Conditions.{sweep_refusal, finish_refusal, taken_at}
+use Rattle.vb_device.specs.declared.worked.Worked.{Worked}
+use Rattle.vb_device.specs.Calls.{attached, using, next_visit, WorksBy, SweepsBy, FinishesBy, Uses}
+use Rattle.vb_device.specs.Conditions.{work_refusal, sweep_refusal, finish_refusal, taken_at}
 use Rattle.vb_model.specs.declared.replies.Refusal.{Refusal}
 use Rattle.vb_model.specs.Tests.{is_in, pages_from, pages_where}
 use Rattle.vb_model.proofs.Tables.{pages_where-passes, count_by-cons}
@@ -159,6 +160,17 @@ sweep_keeps page m1 m2 p1 p2 result s = step (sweep_refusal page p1) refl
     step : (o : Option Refusal) → sweep_refusal page p1 ≡ o → p2.ballooned ≡ p1.ballooned
     step None e = ap (λ (p : Part). p.ballooned) (s.part e)
     step (Some why) e = ap (λ (p : Part). p.ballooned) (s.refused why e).1
+
+-- work leaves the flags
+pub work_keeps : (m1 m2 : Pages) (p1 p2 : Part) (result : Result (Option Worked) Refusal)
+    → WorksBy m1 m2 p1 p2 result → p2.ballooned ≡ p1.ballooned
+work_keeps m1 m2 p1 p2 result w = step (work_refusal p1) refl (next_visit p1) refl
+  where
+    step : (o : Option Refusal) → work_refusal p1 ≡ o → (next : Option ℕ) → next_visit p1 ≡ next
+        → p2.ballooned ≡ p1.ballooned
+    step (Some why) e next at = ap (λ (p : Part). p.ballooned) (w.refused why e).1
+    step None e None at = ap (λ (p : Part). p.ballooned) (w.idle e at).1
+    step None e (Some page) at = ap (λ (p : Part). p.ballooned) (w.visits page e at).part
 
 -- ---- a finish leaves the number of flags
 

@@ -11,10 +11,10 @@ use listed::ListedDevice;
 use std::alloc::{AllocError, Global};
 use std::process::Abort;
 use std::test::Fail;
-use vb_device::{Device, ImmediateDevice};
+use vb_device::{Device, ImmediateDevice, PacedDevice};
 use vb_model::{Bytes, Call, Event, Query, Refusal, Reply};
 
-/// An event, of guest 0, page 16 and queue 0 where such are meant.
+/// An event, of guest 0, page 16 and queue 0 where no other are said.
 enum Line {
     Plug { pages: u32 },
     Init,
@@ -22,11 +22,15 @@ enum Line {
     Write,
     Read,
     Backing,
-    SetTarget,
+    Free,
+    SetTarget { pages: u32 },
     Inflate,
-    Take,
-    Finish,
-    Reap,
+    Deflate,
+    Take { queue: u32 },
+    Work,
+    Finish { queue: u32 },
+    Sweep { page: u32 },
+    Reap { queue: u32 },
     Frames,
 }
 
@@ -41,17 +45,50 @@ static FIRST_PATH: [(Line, Answer); 12] = [
     (Line::Write, ('d', 0, 0)),
     (Line::Read, ('b', 0xabcd_0000, 0)),
     (Line::Backing, ('k', 13, 0)),
-    (Line::SetTarget, ('d', 0, 0)),
+    (Line::SetTarget { pages: 4 }, ('d', 0, 0)),
     (Line::Inflate, ('o', 0, 4)),
-    (Line::Take, ('t', 0, 0)),
-    (Line::Finish, ('f', 0, 0)),
-    (Line::Reap, ('r', 0, 4)),
+    (Line::Take { queue: 0 }, ('t', 0, 0)),
+    (Line::Finish { queue: 0 }, ('f', 0, 0)),
+    (Line::Reap { queue: 0 }, ('r', 0, 4)),
     (Line::Frames, ('u', 14, 50)),
+];
+
+/// A paced device visits four pages, of which one has a frame, and no request before; two come back.
+static PACED_PATH: [(Line, Answer); 29] = [
+    (Line::Plug { pages: 64 }, ('g', 0, 0)),
+    (Line::Work, ('n', 6, 0)),
+    (Line::Init, ('y', 0, 0)),
+    (Line::Alloc, ('p', 16, 0)),
+    (Line::Write, ('d', 0, 0)),
+    (Line::Free, ('d', 0, 0)),
+    (Line::SetTarget { pages: 4 }, ('d', 0, 0)),
+    (Line::Inflate, ('o', 0, 4)),
+    (Line::Work, ('i', 0, 0)),
+    (Line::Take { queue: 0 }, ('t', 0, 0)),
+    (Line::Finish { queue: 0 }, ('n', 7, 0)),
+    (Line::Work, ('w', 16, 1)),
+    (Line::Frames, ('u', 13, 51)),
+    (Line::Work, ('w', 17, 0)),
+    (Line::Work, ('w', 18, 0)),
+    (Line::Finish { queue: 0 }, ('n', 7, 0)),
+    (Line::Work, ('w', 19, 0)),
+    (Line::Work, ('i', 0, 0)),
+    (Line::Finish { queue: 0 }, ('f', 0, 0)),
+    (Line::Reap { queue: 0 }, ('r', 0, 4)),
+    (Line::SetTarget { pages: 2 }, ('d', 0, 0)),
+    (Line::Deflate, ('o', 0, 2)),
+    (Line::Take { queue: 1 }, ('t', 0, 0)),
+    (Line::Work, ('i', 0, 0)),
+    (Line::Finish { queue: 1 }, ('f', 0, 0)),
+    (Line::Reap { queue: 1 }, ('r', 0, 2)),
+    (Line::Sweep { page: 16 }, ('n', 8, 0)),
+    (Line::Sweep { page: 18 }, ('s', 0, 0)),
+    (Line::Frames, ('u', 13, 51)),
 ];
 
 /// A call on no guest, a wrong size, and a second guest on a host with one device.
 static WRONG_PLUGS: [(Line, Answer); 4] = [
-    (Line::Take, ('n', 1, 0)),
+    (Line::Take { queue: 0 }, ('n', 1, 0)),
     (Line::Plug { pages: 65 }, ('n', 2, 0)),
     (Line::Plug { pages: 64 }, ('g', 0, 0)),
     (Line::Plug { pages: 64 }, ('n', 4, 0)),
@@ -118,11 +155,22 @@ fn event_of(alloc: Global, line: &Line) -> Result<Event, AllocError>
             guest: 0,
             query: Query::Backing { page: 16 },
         },
-        Line::SetTarget => on_guest(Call::SetTarget { pages: 4 }),
+        Line::Free => on_guest(Call::Free {
+            cpu: 0,
+            start: 16,
+            order: 0,
+        }),
+        Line::SetTarget { pages } => on_guest(Call::SetTarget { pages: *pages }),
         Line::Inflate => on_guest(Call::Inflate { pages: 4 }),
-        Line::Take => on_guest(Call::Take { queue: 0 }),
-        Line::Finish => on_guest(Call::Finish { queue: 0, index: 0 }),
-        Line::Reap => on_guest(Call::Reap { queue: 0 }),
+        Line::Deflate => on_guest(Call::Deflate { pages: 4 }),
+        Line::Take { queue } => on_guest(Call::Take { queue: *queue }),
+        Line::Work => on_guest(Call::Work),
+        Line::Finish { queue } => on_guest(Call::Finish {
+            queue: *queue,
+            index: 0,
+        }),
+        Line::Sweep { page } => on_guest(Call::Sweep { page: *page }),
+        Line::Reap { queue } => on_guest(Call::Reap { queue: *queue }),
         Line::Frames => Event::Frames,
     })
 }
@@ -168,6 +216,9 @@ fn refusal_of(refusal: Refusal) -> u32 {
         Refusal::TooMany => 3,
         Refusal::NoDevice => 4,
         Refusal::NoFrame => 5,
+        Refusal::NotReady => 6,
+        Refusal::NotWorked => 7,
+        Refusal::NotBallooned => 8,
         _ => 0,
     }
 }
@@ -181,7 +232,10 @@ fn answer_of(reply: &Reply) -> Answer {
         Reply::ReadBytes { bytes } => ('b', bytes_of(bytes.as_slice()), 0),
         Reply::Posted { head, pages } => ('o', *head, *pages),
         Reply::Taken { head } => ('t', *head, 0),
+        Reply::Worked { page, freed } => ('w', *page, u32::from(*freed)),
+        Reply::Idle => ('i', 0, 0),
         Reply::Finished { head } => ('f', *head, 0),
+        Reply::Swept { freed } => ('s', u32::from(*freed), 0),
         Reply::Reaped { head, pages } => ('r', *head, *pages),
         Reply::Backing { frame } => ('k', frame.unwrap_or(99), 0),
         Reply::Frames { used, free } => ('u', *used, *free),
@@ -230,6 +284,21 @@ fn play_immediate(
     play(rt, alloc, frames, spares, table)
 }
 
+/// Lets a table's events happen on a host with a paced device.
+fn play_paced(
+    rt: &impl Abort,
+    alloc: Global,
+    frames: u32,
+    table: &[(Line, Answer)],
+) -> Result<(), AllocError>
+    requires some { 1 ≤ frames }
+    requires few { frames ≤ 65_536 }
+{
+    let mut spares: Vec<Box<dyn Device + Send>> = Vec::new(alloc);
+    add_spare(&mut spares, Box::new(alloc, PacedDevice::new(alloc))?)?;
+    play(rt, alloc, frames, spares, table)
+}
+
 /// Lets a table's events happen on a host with a device that has a list.
 fn play_listed(
     rt: &impl Abort,
@@ -252,9 +321,23 @@ fn the_first_path_on_an_immediate_device(rt: HostRuntime) -> Result<(), Fail> {
 }
 
 #[test]
-fn the_first_path_on_a_device_with_a_list(rt: HostRuntime) -> Result<(), Fail> {
-    play_listed(&rt, rt.alloc(), 64, &FIRST_PATH)?;
+fn a_paced_device_visits_each_page_first(rt: HostRuntime) -> Result<(), Fail> {
+    play_paced(&rt, rt.alloc(), 64, &PACED_PATH)?;
     Ok(())
+}
+
+#[test]
+fn a_device_with_a_list_visits_each_page_first(rt: HostRuntime) -> Result<(), Fail> {
+    play_listed(&rt, rt.alloc(), 64, &PACED_PATH)?;
+    Ok(())
+}
+
+#[test]
+fn calls_on_a_device_with_a_list_are_counted(rt: HostRuntime) {
+    let mut device = ListedDevice::new(rt.alloc());
+    device.set_target(4);
+    assert!(rt; device.work() == Err(Refusal::NotReady));
+    assert!(rt; device.calls() == 2);
 }
 
 #[test]

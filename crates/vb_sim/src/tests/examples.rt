@@ -3,7 +3,7 @@
 use super::{Example, check_all};
 
 /// The text of each file, and that of the file beside it.
-static EXAMPLES: [Example; 2] = [
+static EXAMPLES: [Example; 3] = [
     Example {
         name: "examples/first-path.script",
         script: "\
@@ -139,6 +139,147 @@ ballooned 5 actual 5 target 5 status 15
 page 17
 bytes 00000000
 bytes c0ffee00
+",
+    },
+    Example {
+        name: "examples/paced.script",
+        script: "\
+# Two guests lend pages to their host. The device of the first visits the pages one by one, that of
+# the second takes all their frames at once.
+
+# A host with 64 frames, and a device of each pace.
+host 64
+spare paced
+spare immediate
+
+# Two guests with 64 pages each. Their drivers start the devices.
+plug 64 8 1
+plug 64 8 1
+init 0
+init 1
+
+# In each of them a processor gets two pages, writes to both and frees them. They keep their frames.
+alloc 0 0 0
+write 0 16 0 c0ffee
+alloc 0 0 0
+write 0 17 0 beef
+free 0 0 16 0
+free 0 0 17 0
+alloc 1 0 0
+write 1 16 0 c0ffee
+alloc 1 0 0
+write 1 17 0 beef
+free 1 0 16 0
+free 1 0 17 0
+frames
+
+# The host wants three pages of each, the drivers offer them, and the devices take the requests.
+target 0 3
+target 1 3
+inflate 0 3
+inflate 1 3
+take 0 0
+take 1 0
+
+# The immediate device finishes its request, and two frames go back at once. It visits nothing.
+finish 1 0 0
+frames
+work 1
+
+# The paced one may finish a request only when each of its pages was visited. A visit gives back one
+# frame; page 18 never had one.
+finish 0 0 0
+work 0
+frames
+work 0
+frames
+finish 0 0 0
+pages 0 ballooned
+work 0
+work 0
+
+# Only a finish puts pages into the balloon.
+finish 0 0 0
+pages 0 ballooned
+reap 0 0
+reap 1 0
+balloon 0
+balloon 1
+
+# A request for pages back names no page to visit: both devices finish it at once.
+target 0 1
+target 1 1
+deflate 0 3
+deflate 1 3
+take 0 1
+take 1 1
+work 0
+finish 0 1 0
+finish 1 1 0
+reap 0 1
+reap 1 1
+pages 0 ballooned
+pages 1 ballooned
+places 0
+places 1
+",
+        replies: "\
+guest 0
+guest 1
+ready
+ready
+page 16
+ok
+page 17
+ok
+ok
+ok
+page 16
+ok
+page 17
+ok
+ok
+ok
+frames used 30 free 34
+ok
+ok
+posted 0 3
+posted 0 3
+taken 0
+taken 0
+finished 0
+frames used 28 free 36
+idle
+not worked
+worked 16 freed
+frames used 27 free 37
+worked 17 freed
+frames used 26 free 38
+not worked
+pages
+worked 18 bare
+idle
+finished 0
+pages 16-18
+reaped 0 3
+reaped 0 3
+ballooned 3 actual 3 target 3 status 15
+ballooned 3 actual 3 target 3 status 15
+ok
+ok
+posted 0 2
+posted 0 2
+taken 0
+taken 0
+idle
+finished 0
+finished 0
+reaped 0 2
+reaped 0 2
+pages 18
+pages 18
+free 47 used 0 giving 0 lent 1 taking 0 stranded 0 reporting 0
+free 47 used 0 giving 0 lent 1 taking 0 stranded 0 reporting 0
 ",
     },
 ];

@@ -1,13 +1,13 @@
-//! A device that keeps its ballooned pages as a list of its own.
+//! A paced device that keeps its ballooned pages as a list of its own, and counts its calls.
 
 ghost use Rattle.std.specs.Prelude.{◌≡◌, ◌≤◌, ◌<◌, ◌+◌, ◌++◌, ◌∷◌, [], ⊤, MatchOption, IfOk};
-ghost use Rattle.std.specs.Prelude.{length, vec_len, vec_capacity, false, if◌then◌else◌};
+ghost use Rattle.std.specs.Prelude.{length, vec_len, vec_capacity, true, false, if◌then◌else◌};
 ghost use Rattle.vb_model.specs.Tests.{is_in, pages_where};
 ghost use Rattle.vb_device.specs.Calls.{IsUnused};
 
 use std::alloc::{AllocError, Global};
 use std::marker::Model;
-use vb_device::{Claimed, Device, ImmediateDevice};
+use vb_device::{Claimed, Device, PacedDevice, Worked};
 use vb_model::Refusal;
 use vb_ram::{Config, Frame, GuestBytes, RamFault, SupplyRefused};
 use vb_status::{Features, Port, Status, StatusFault};
@@ -70,7 +70,7 @@ impl PageList {
     }
 
     /// Asks the device page by page.
-    fn make_anew(&mut self, device: &ImmediateDevice)
+    fn make_anew(&mut self, device: &PacedDevice)
         requires size { length device.now.part.ballooned ≡ self.old.pages }
         requires room { self.old.pages ≤ vec_capacity self.old.numbers }
         ensures pages { self.new.pages ≡ self.old.pages }
@@ -86,7 +86,7 @@ impl PageList {
 }
 
 /// Makes the list anew, if the device has a guest.
-fn make_anew(listed: &mut Option<PageList>, device: &ImmediateDevice)
+fn make_anew(listed: &mut Option<PageList>, device: &PacedDevice)
     requires { MatchOption listed.old ⊤ (λ list. (length device.now.part.ballooned ≡ list.pages) ×
         (list.pages ≤ vec_capacity list.numbers)) }
     ensures { MatchOption listed.new ⊤ (λ list. (length device.now.part.ballooned ≡ list.pages) ×
@@ -99,11 +99,18 @@ fn make_anew(listed: &mut Option<PageList>, device: &ImmediateDevice)
     }
 }
 
-/// An immediate device in another's hands: what is ballooned is answered from a list of its own.
+/// One call more.
+fn count(calls: &mut u32) {
+    *calls = calls.saturating_add(1);
+}
+
+/// A paced device in another's hands: what is ballooned is answered from a list of its own, and the
+/// calls by which a host changes the device are counted.
 #[derive(Drop)]
 pub(super) struct ListedDevice {
-    inner: ImmediateDevice,
+    inner: PacedDevice,
     listed: Option<PageList>,
+    calls: u32,
 }
 
 impl Model for ListedDevice {
@@ -125,14 +132,20 @@ impl ListedDevice {
     /// A device that no guest has yet.
     pub(super) fn new(alloc: Global) -> ListedDevice
         ensures unused { IsUnused result.mem result.part }
-        ensures paced { result.part.paced ≡ false }
+        ensures paced { result.part.paced ≡ true }
         ensures keeps { result.part.keeps ≡ false }
         ensures own { result.part.own ≡ [] }
     {
         ListedDevice {
-            inner: ImmediateDevice::new(alloc),
+            inner: PacedDevice::new(alloc),
             listed: None,
+            calls: 0,
         }
+    }
+
+    /// How often a host changed the device.
+    pub(super) fn calls(&self) -> u32 {
+        self.calls
     }
 }
 
@@ -180,6 +193,7 @@ impl Port for ListedDevice {
 
 impl Device for ListedDevice {
     fn attach(&mut self, alloc: Global, config: Config) -> Result<(), AllocError> {
+        count(&mut self.calls);
         let list = PageList::new(alloc, config.pages)?;
         self.inner.attach(alloc, config)?;
         self.listed = Some(list);
@@ -203,20 +217,29 @@ impl Device for ListedDevice {
     }
 
     fn set_target(&mut self, pages: u32) {
+        count(&mut self.calls);
         self.inner.set_target(pages);
     }
 
     fn take(&mut self, queue: u32) -> Result<Option<u16>, Refusal> {
+        count(&mut self.calls);
         self.inner.take(queue)
     }
 
+    fn work(&mut self) -> Result<Option<Worked>, Refusal> {
+        count(&mut self.calls);
+        self.inner.work()
+    }
+
     fn finish(&mut self, queue: u32, index: u32) -> Result<u16, Refusal> {
+        count(&mut self.calls);
         let answer = self.inner.finish(queue, index);
         make_anew(&mut self.listed, &self.inner);
         answer
     }
 
     fn sweep(&mut self, page: u32) -> Result<bool, Refusal> {
+        count(&mut self.calls);
         self.inner.sweep(page)
     }
 

@@ -2,29 +2,51 @@ use Rattle.std.proofs.Common.{◌≡◌, ◌≤◌, refl, List, Bool, false, map
 use Rattle.std.proofs.lemmas.List.{take_all}
 use Rattle.std.proofs.lemmas.Result.{IfOk-weaker}
 use Rattle.vb_world.proofs.Runs.{as_many}
+use Rattle.vb_script.specs.declared.lines.Pace.TheVariants.{Immediate, Paced}
 use Rattle.vb_script.specs.Lines.{is_paced}
 use Rattle.vb_sim.proofs.Paces.{one_more}
 use denote.Param.Object.{read_made}
-use Rattle.vb_sim.proofs.host.play_events.OwnLists.{own-1, at-1-1}
+use Rattle.vb_sim.proofs.host.play_events.OwnLists.{own-1, at-1-1, at-1-2}
 use Rattle.vb_sim.proofs.host.play_events.Goals as goal
+use Rattle.vb_sim.proofs.host.play_events.Goals.{in-Immediate+in_ok-device-in-Immediate+in_ok-add_spare-in-Immediate, in-Paced+in_ok-device-in-Paced+in_ok-add_spare-in-Paced}
 
 pub loop-pace-preserved : goal.loop-pace-preserved
-loop-pace-preserved c =
-    let boxed : ((own-1.entry c.into_dyn_box.result.vtable).1.GuestBytes.part
-    c.into_dyn_box.result.value).paced ≡ c.in_ok-device-in-Immediate.device.value.part.paced
-    = read_made own-1 (own-1.entry at-1-1) at-1-1 refl Bool
-    (λ entry device. (entry.1.GuestBytes.part device).paced) c.into_dyn_box.result.vtable
-    c.into_dyn_box.result.value c.in_ok-device-in-Immediate.device.value
-    c.into_dyn_box.ensures.1 in
-    let made : c.in_ok-device-in-Immediate.device.value.part.paced ≡ false =
-    rw c.in_ok-device-in-Immediate.ensures.ok c.new.ensures.paced in
-    record {
-      spares = search rules;
-      paces = one_more _ c.loop-pace.spares.items c.add_spare.new.spares.items c.into_dyn_box.result
-          c.args.paces.now c.loop-pace.pace-index _
-          c.in_ok-add_spare-in-Immediate.ensures.added c.loop-pace.invariant.paces
-          c.loop-pace-test.true c.in-Immediate.is (boxed ∙ made);
-    }
+loop-pace-preserved c = elim c.match-pace.branch [
+  | in-Immediate+in_ok-device-in-Immediate+in_ok-add_spare-in-Immediate w ↦
+      let device = w.in_ok-device-in-Immediate.device.value in
+      let box = w.into_dyn_box in
+      let boxed : ((own-1.entry box.result.vtable).1.GuestBytes.part box.result.value).paced
+      ≡ device.part.paced
+      = read_made own-1 (own-1.entry at-1-1) at-1-1 refl Bool
+      (λ entry made. (entry.1.GuestBytes.part made).paced) box.result.vtable box.result.value device
+      box.ensures.1 in
+      let made : device.part.paced ≡ is_paced Immediate =
+      rw w.in_ok-device-in-Immediate.ensures.ok w.new.ensures.paced in
+      rw w.spares-is (record {
+        spares = w.add_spare.ensures.spares;
+        paces = one_more _ c.loop-pace.spares.items w.add_spare.new.spares.items box.result
+            c.args.paces.now c.loop-pace.pace-index _ Immediate
+            w.in_ok-add_spare-in-Immediate.ensures.added c.loop-pace.invariant.paces
+            c.loop-pace-test.true w.in-Immediate.is (boxed ∙ made);
+      })
+  | in-Paced+in_ok-device-in-Paced+in_ok-add_spare-in-Paced w ↦
+      let device = w.in_ok-device-in-Paced.device.value in
+      let box = w.into_dyn_box-in-Paced in
+      let boxed : ((own-1.entry box.result.vtable).1.GuestBytes.part box.result.value).paced
+      ≡ device.part.paced
+      = read_made own-1 (own-1.entry at-1-2) at-1-2 refl Bool
+      (λ entry made. (entry.1.GuestBytes.part made).paced) box.result.vtable box.result.value device
+      box.ensures.1 in
+      let made : device.part.paced ≡ is_paced Paced =
+      rw w.in_ok-device-in-Paced.ensures.ok w.new-in-Paced.ensures.paced in
+      rw w.spares-is (record {
+        spares = w.add_spare-in-Paced.ensures.spares;
+        paces = one_more _ c.loop-pace.spares.items w.add_spare-in-Paced.new.spares.items box.result
+            c.args.paces.now c.loop-pace.pace-index _ Paced
+            w.in_ok-add_spare-in-Paced.ensures.added c.loop-pace.invariant.paces
+            c.loop-pace-test.true w.in-Paced.is (boxed ∙ made);
+      })
+]
 
 pub returns-clause-run : goal.returns-clause-run
 returns-clause-run c =
