@@ -1,1 +1,2 @@
 pub mod FreshStands
+pub use Rattle.vb_guest.proofs.Standing

@@ -7,4 +7,4 @@ mod new;
 mod slot;
 
 pub use new::NoSlot;
-pub use slot::{GuestSlot, Slot};
+pub use slot::Slot;

@@ -20,7 +20,7 @@ use vb_frames::FrameTable;
 use vb_model::limits::{MAX_FRAMES, MAX_GUESTS};
 use vb_model::{Call, Event, Query, Refusal, Reply};
 use vb_ram::Config;
-use vb_slot::{GuestSlot, Slot};
+use vb_slot::Slot;
 
 /// A host with its frames, its guests, and the devices that no guest has yet.
 #[derive(Drop)]
