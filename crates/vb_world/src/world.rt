@@ -81,7 +81,7 @@ fn guest_number(key: usize) -> u32
 
 impl World {
     /// A host of so many frames, 1 to 65,536, without guests. A plug takes the first of the spare
-    /// devices that are left. Want of memory is the only refusal.
+    /// devices that are left, and the guest has its pace. Want of memory is the only refusal.
     pub fn new(
         alloc: Global,
         frames: u32,
