@@ -172,9 +172,8 @@ impl DeviceQueue {
             (size ≤ MAX_QUEUE_SIZE) }
         ensures { self.new ≡ started false size self.old.ring }
     {
-        self.taken.clear();
+        self.set_ready(false);
         let _sized = self.queue.set_size(size);
-        self.queue.set_ready(false);
     }
 
     /// Starts or stops the queue; nothing is taken.

@@ -27,6 +27,9 @@ enum Step {
     TakeFirst(u32, u8, [u8; 16], [u8; 6]),
     /// A page is visited. No frame may be loose before.
     Work,
+    /// The inflate that was taken first is settled, and the driver isn't told. No frame may be loose
+    /// before.
+    Settle,
     /// The inflate that was taken as this number is finished. No frame may be loose before.
     FinishInflate(u32),
     /// The deflate that was taken first is finished. No frame may be loose before.
@@ -114,6 +117,16 @@ impl<P: Pace> Host<P> {
         match self.device.work() {
             Ok(Some(Worked { page, freed })) => Answer::Worked(page, freed),
             Ok(None) => Answer::Idle,
+            Err(refusal) => Answer::Refused(refusal),
+        }
+    }
+
+    fn settle(&mut self) -> Answer {
+        if self.device.hand_back().is_some() || self.device.backing(0).is_none() {
+            return Answer::Is(false);
+        }
+        match self.device.settle(0, 0) {
+            Ok(head) => Answer::Head(Some(head)),
             Err(refusal) => Answer::Refused(refusal),
         }
     }
@@ -221,6 +234,7 @@ impl<P: Pace> Host<P> {
                 self.take_first(*queue, *number, descriptor, available)
             }
             Step::Work => self.work(),
+            Step::Settle => self.settle(),
             Step::FinishInflate(index) => self.finish_inflate(*index),
             Step::FinishDeflate => self.finish_deflate(),
             Step::Supply(page, number) => done(self.supply(alloc, *page, *number)),
@@ -696,4 +710,20 @@ static NO_WORK: [(Step, Answer); 3] = [
 #[test]
 fn an_immediate_device_is_idle(rt: HostRuntime) {
     expect(&rt, rt.alloc(), 8, &[&TWO_TAKEN, &NO_WORK]);
+}
+
+/// The frames are gone and the pages ballooned while no used entry is written yet.
+static SETTLED: [(Step, Answer); 7] = [
+    (Step::Settle, Answer::Head(Some(0))),
+    (Step::Read(0, 152), Answer::Bytes([0; 12])),
+    (Step::Backing(18), Answer::Frame(None)),
+    (Step::Backing(20), Answer::Frame(None)),
+    (Step::HandBack, Answer::Frame(Some(41))),
+    (Step::HandBack, Answer::Frame(Some(40))),
+    (Step::AreBallooned(17, 20), Answer::Done),
+];
+
+#[test]
+fn pages_are_settled_before_the_driver_is_told(rt: HostRuntime) {
+    expect(&rt, rt.alloc(), 8, &[&TAKEN, &SETTLED]);
 }

@@ -487,35 +487,40 @@ fn part_of(page: u32, offset: usize) -> Part {
 }
 
 /// How many deeds are kept.
-const DEEDS: usize = 32;
+const DEEDS: usize = 64;
 
-/// A port in memory that keeps what is done to it, in order; of the same deed several times in a
-/// row the first.
+/// What was done, in order; of the same deed several times in a row the first.
 #[derive(Drop)]
-struct Recorder {
-    port: MemoryPort,
-    deeds: [Deed; DEEDS],
+struct Deeds {
+    kept: [Deed; DEEDS],
     count: usize,
 }
 
-impl Recorder {
+impl Deeds {
     fn note(&mut self, deed: Deed) {
         let count = self.count;
-        if count < DEEDS && (count == 0 || self.deeds[count - 1] != deed) {
-            self.deeds[count] = deed;
+        if count < DEEDS && (count == 0 || self.kept[count - 1] != deed) {
+            self.kept[count] = deed;
             self.count = count + 1;
         }
     }
 
-    /// Whether these were the last deeds.
-    fn ends_with(&self, last: &[Deed]) -> bool {
+    /// Whether these were the last ones.
+    fn end_with(&self, last: &[Deed]) -> bool {
         let count = self.count;
         if count > DEEDS || last.len() > count {
             return false;
         }
-        let kept = &self.deeds[count - last.len()..count];
+        let kept = &self.kept[count - last.len()..count];
         kept == last
     }
+}
+
+/// A port in memory that keeps what is done to it.
+#[derive(Drop)]
+struct Recorder {
+    port: MemoryPort,
+    deeds: Deeds,
 }
 
 impl GuestBytes for Recorder {
@@ -532,7 +537,7 @@ impl GuestBytes for Recorder {
     }
 
     fn write(&mut self, page: u32, offset: usize, bytes: &[u8]) -> Result<(), RamFault> {
-        self.note(Deed::Write(page, part_of(page, offset)));
+        self.deeds.note(Deed::Write(page, part_of(page, offset)));
         self.port.write(page, offset, bytes)
     }
 }
@@ -543,7 +548,7 @@ impl Port for Recorder {
     }
 
     fn write_status(&mut self, write: Status) -> Result<(), StatusFault> {
-        self.note(Deed::Status(write.bits()));
+        self.deeds.note(Deed::Status(write.bits()));
         self.port.write_status(write)
     }
 
@@ -575,8 +580,10 @@ impl Watched {
             driver: plugged_in(alloc)?,
             port: Recorder {
                 port,
-                deeds: [Deed::Status(0); DEEDS],
-                count: 0,
+                deeds: Deeds {
+                    kept: [Deed::Status(0); DEEDS],
+                    count: 0,
+                },
             },
         })
     }
@@ -592,13 +599,17 @@ impl Watched {
     }
 }
 
-/// Rings are laid out after the features are agreed on, and before DRIVER_OK (VIRTIO 1.1, 3.1.1).
-static INIT_DEEDS: [Deed; 6] = [
+/// The four rings' pages are zeroed after the features are agreed on, and before DRIVER_OK (VIRTIO 1.1, 3.1.1).
+static INIT_DEEDS: [Deed; 10] = [
     Deed::Status(11),
     Deed::Write(0, Part::Descriptors),
     Deed::Write(0, Part::Available),
     Deed::Write(1, Part::Descriptors),
     Deed::Write(1, Part::Available),
+    Deed::Write(2, Part::Descriptors),
+    Deed::Write(2, Part::Available),
+    Deed::Write(3, Part::Descriptors),
+    Deed::Write(3, Part::Available),
     Deed::Status(15),
 ];
 
@@ -614,7 +625,7 @@ static INFLATE_DEEDS: [Deed; 4] = [
 #[test]
 fn writes_in_the_standards_order(rt: HostRuntime) -> Result<(), Fail> {
     let mut watched = Watched::new(rt.alloc())?;
-    assert!(rt; watched.init() && watched.port.ends_with(&INIT_DEEDS));
-    assert!(rt; watched.inflate() && watched.port.ends_with(&INFLATE_DEEDS));
+    assert!(rt; watched.init() && watched.port.deeds.end_with(&INIT_DEEDS));
+    assert!(rt; watched.inflate() && watched.port.deeds.end_with(&INFLATE_DEEDS));
     Ok(())
 }
