@@ -1,5 +1,6 @@
 -- A device that keeps ballooned pages, from one that has ballooned nothing.
-use Rattle.std.specs.Prelude.{◌≡◌, ℕ, zero, suc, ◌+◌, ◌%◌, ◌≤◌, ◌==◌, Bool, true, false, List, [], ◌∷◌}
+use Rattle.std.specs.Prelude.{◌≡◌, ℕ, zero, suc, ◌+◌, ◌%◌, ◌≤◌, ◌==◌, Bool, true, false, List, []}
+use Rattle.std.specs.Prelude.{◌∷◌}
 use Rattle.std.specs.Prelude.{Option, Some, None, Result, Ok, Err, if◌then◌else◌, refl}
 use Rattle.std.proofs.Common.{sym, ◌∙◌, ap, subst, arith}
 use Rattle.vb_model.specs.declared.replies.Refusal.{Refusal}
@@ -12,7 +13,8 @@ use Rattle.vb_device.specs.Faults.{Breaks}
 use Rattle.vb_device.specs.Discards.{frames_behind, flagged}
 use Rattle.vb_device.specs.declared.worked.Worked.{Worked}
 use Rattle.vb_device.specs.Base.{with_pace}
-use Rattle.vb_device.specs.BaseCalls.{readiness_refusal, VisitsNext, SettlesBy, taken_out, TakesOut, UsesChain}
+use Rattle.vb_device.specs.BaseCalls.{readiness_refusal, VisitsNext, SettlesBy, taken_out}
+use Rattle.vb_device.specs.BaseCalls.{TakesOut, UsesChain}
 use Rattle.vb_device.specs.Conditions.{work_refusal}
 use Rattle.vb_device.specs.Queues.{queue_part, with_queue, queue_end}
 use Rattle.vb_ring.specs.Ends.{DeviceEnd}
@@ -47,7 +49,8 @@ taking_over q h pages paced flags p = with_over paced (q == 0) (q == 1) (q == 2)
 breaks_over : (fault : ChainFault) (paced : Bool) (flags : List Bool) (p1 p2 : Part)
     (result : Result (Option ℕ) Refusal) → Breaks fault p1 p2 result →
     Breaks fault (over paced flags p1) (over paced flags p2) result
-breaks_over fault paced flags p1 p2 result b = record { answer = b.answer; part = ap (over paced flags) b.part }
+breaks_over fault paced flags p1 p2 result b =
+    record { answer = b.answer; part = ap (over paced flags) b.part }
 
 means_over : (q : ℕ) (mem : Pages) (paced : Bool) (flags : List Bool) (p1 p2 : Part)
     (result : Result (Option ℕ) Refusal) → TakeMeans q mem p1 p2 result →

@@ -1,6 +1,7 @@
 -- What the parts of a device's calls do.
 use Rattle.std.specs.Prelude.{◌≡◌, ℕ, ◌+◌, ◌%◌, ◌<◌, ◌≤◌, ◌==◌, true, nat_lt, List, [], ◌∷◌, ◌++◌}
-use Rattle.std.specs.Prelude.{remove, if◌then◌else◌, Option, Some, None, IsSome, is_some, Bool, Result, Ok, Err}
+use Rattle.std.specs.Prelude.{remove, if◌then◌else◌, Option, Some, None, IsSome, is_some, Bool}
+use Rattle.std.specs.Prelude.{Result, Ok, Err}
 use Rattle.vb_model.specs.declared.layout.TheConstants.{INFLATE_QUEUE, DEFLATE_QUEUE}
 use Rattle.vb_model.specs.declared.replies.Refusal.{Refusal}
 use Rattle.vb_model.specs.declared.replies.Refusal.TheVariants.{NoQueue}
@@ -51,14 +52,16 @@ pub record SweepsPage (page : ℕ) (m1 m2 : Pages) (p1 p2 : Part)
 
 -- One more page of the taken inflates is counted as visited.
 abbrev pub with_visit : Part → Part
-with_visit part = record part { inflate = record part.inflate { taken = visiting part.inflate.taken } }
+with_visit part =
+    record part { inflate = record part.inflate { taken = visiting part.inflate.taken } }
 
--- The oldest page that isn't visited yet, if there is one, is visited: it loses its frame, if it has
--- one, which is the last loose one.
+-- The oldest page that isn't visited yet, if there is one, is visited: it loses its frame, if it
+-- has one, which is the last loose one.
 abbrev pub VisitsNext : Pages → Pages → Part → Part → Option Worked → Type 0
 VisitsNext m1 m2 p1 p2 None = (next_page p1.inflate.taken ≡ None) × (p2 ≡ p1) × (m2 ≡ m1)
 VisitsNext m1 m2 p1 p2 (Some worked) =
-    (next_page p1.inflate.taken ≡ Some worked.page) × (worked.freed ≡ is_some (frame_at m1 worked.page))
+    (next_page p1.inflate.taken ≡ Some worked.page)
+    × (worked.freed ≡ is_some (frame_at m1 worked.page))
     × (m2 ≡ discarded (worked.page ∷ []) m1)
     × (p2 ≡ record (with_visit p1) { loose = p1.loose ++ frames_behind m1 (worked.page ∷ []) })
 

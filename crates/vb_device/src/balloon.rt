@@ -145,6 +145,7 @@ impl<P: Pace> Device for BalloonDevice<P> {
     }
 
     fn paced(&self) -> bool {
+        // What the device shows of its fields is known from here on.
         let _ = &self.base;
         P::IS_PACED
     }

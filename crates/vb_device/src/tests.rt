@@ -27,8 +27,8 @@ enum Step {
     TakeFirst(u32, u8, [u8; 16], [u8; 6]),
     /// A page is visited. No frame may be loose before.
     Work,
-    /// The inflate that was taken first is settled, and the driver isn't told. No frame may be loose
-    /// before.
+    /// The inflate that was taken first is settled, and the driver isn't told. No frame may be
+    /// loose before.
     Settle,
     /// The inflate that was taken as this number is finished. No frame may be loose before.
     FinishInflate(u32),

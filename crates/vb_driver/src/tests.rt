@@ -599,7 +599,8 @@ impl Watched {
     }
 }
 
-/// The four rings' pages are zeroed after the features are agreed on, and before DRIVER_OK (VIRTIO 1.1, 3.1.1).
+/// The four rings' pages are zeroed after the features are agreed on, and before DRIVER_OK
+/// (VIRTIO 1.1, 3.1.1).
 static INIT_DEEDS: [Deed; 10] = [
     Deed::Status(11),
     Deed::Write(0, Part::Descriptors),
