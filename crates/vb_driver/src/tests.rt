@@ -10,7 +10,7 @@ use std::process::Abort;
 use std::test::Fail;
 use vb_model::{Place, PlaceCounts, Refusal};
 use vb_ram::{Config, Frame, GuestBytes, Ram, RamFault};
-use vb_status::{Features, MemoryPort, Port};
+use vb_status::{Features, MemoryPort, Port, Status, StatusFault};
 
 /// What is done with a guest.
 #[derive(Clone, Copy)]
@@ -452,4 +452,181 @@ static FULL: [Line; 11] = [
 #[test]
 fn has_as_many_requests_as_descriptors(rt: HostRuntime) -> Result<(), Fail> {
     expect(&rt, rt.alloc(), 13, &FULL)
+}
+
+/// What a driver does to its port.
+#[derive(Clone, Copy, PartialEq)]
+enum Deed {
+    /// It writes the status.
+    Status(u8),
+    /// It writes to a part of a page.
+    Write(u32, Part),
+}
+
+/// A part of a page with a ring of 8 descriptors, or with buffers.
+#[derive(Clone, Copy, PartialEq)]
+enum Part {
+    Descriptors,
+    /// The available ring's flags or entries.
+    Available,
+    /// The available ring's index.
+    AvailableIndex,
+    Buffers,
+}
+
+fn part_of(page: u32, offset: usize) -> Part {
+    if page > 3 {
+        Part::Buffers
+    } else if offset < 128 {
+        Part::Descriptors
+    } else if offset == 130 {
+        Part::AvailableIndex
+    } else {
+        Part::Available
+    }
+}
+
+/// How many deeds are kept.
+const DEEDS: usize = 64;
+
+/// What was done, in order; of the same deed several times in a row the first.
+#[derive(Drop)]
+struct Deeds {
+    kept: [Deed; DEEDS],
+    count: usize,
+}
+
+impl Deeds {
+    fn note(&mut self, deed: Deed) {
+        let count = self.count;
+        if count < DEEDS && (count == 0 || self.kept[count - 1] != deed) {
+            self.kept[count] = deed;
+            self.count = count + 1;
+        }
+    }
+
+    /// Whether these were the last ones.
+    fn end_with(&self, last: &[Deed]) -> bool {
+        let count = self.count;
+        if count > DEEDS || last.len() > count {
+            return false;
+        }
+        let kept = &self.kept[count - last.len()..count];
+        kept == last
+    }
+}
+
+/// A port in memory that keeps what is done to it.
+#[derive(Drop)]
+struct Recorder {
+    port: MemoryPort,
+    deeds: Deeds,
+}
+
+impl GuestBytes for Recorder {
+    ghost mem = { λ r. ⟦<MemoryPort as GuestBytes>⟧.mem r.port };
+
+    ghost part = { λ r. ⟦<MemoryPort as GuestBytes>⟧.part r.port };
+
+    fn pages(&self) -> u32 {
+        self.port.pages()
+    }
+
+    fn read(&self, page: u32, offset: usize, out: &mut [u8]) -> Result<(), RamFault> {
+        self.port.read(page, offset, out)
+    }
+
+    fn write(&mut self, page: u32, offset: usize, bytes: &[u8]) -> Result<(), RamFault> {
+        self.deeds.note(Deed::Write(page, part_of(page, offset)));
+        self.port.write(page, offset, bytes)
+    }
+}
+
+impl Port for Recorder {
+    fn status(&self) -> Status {
+        self.port.status()
+    }
+
+    fn write_status(&mut self, write: Status) -> Result<(), StatusFault> {
+        self.deeds.note(Deed::Status(write.bits()));
+        self.port.write_status(write)
+    }
+
+    fn negotiate(&mut self, wanted: Features) -> Result<(), StatusFault> {
+        self.port.negotiate(wanted)
+    }
+
+    fn target(&self) -> u32 {
+        self.port.target()
+    }
+
+    fn set_actual(&mut self, pages: u32) {
+        self.port.set_actual(pages);
+    }
+}
+
+/// A driver whose deeds are kept.
+#[derive(Drop)]
+struct Watched {
+    driver: Driver,
+    port: Recorder,
+}
+
+impl Watched {
+    fn new(alloc: Global) -> Result<Watched, Fail> {
+        let mut port = port_over(alloc, 13)?;
+        port.set_target(4);
+        Ok(Watched {
+            driver: plugged_in(alloc)?,
+            port: Recorder {
+                port,
+                deeds: Deeds {
+                    kept: [Deed::Status(0); DEEDS],
+                    count: 0,
+                },
+            },
+        })
+    }
+
+    fn init(&mut self) -> bool {
+        self.port.pages() >= 64 && self.driver.init(&mut self.port, Features::OFFERED).is_ok()
+    }
+
+    fn inflate(&mut self) -> bool {
+        self.port.pages() >= 64
+            && all_backed(&mut self.port)
+            && self.driver.inflate(&mut self.port, 4).is_ok()
+    }
+}
+
+/// The four rings' pages are zeroed after the features are agreed on, and before DRIVER_OK
+/// (VIRTIO 1.1, 3.1.1).
+static INIT_DEEDS: [Deed; 10] = [
+    Deed::Status(11),
+    Deed::Write(0, Part::Descriptors),
+    Deed::Write(0, Part::Available),
+    Deed::Write(1, Part::Descriptors),
+    Deed::Write(1, Part::Available),
+    Deed::Write(2, Part::Descriptors),
+    Deed::Write(2, Part::Available),
+    Deed::Write(3, Part::Descriptors),
+    Deed::Write(3, Part::Available),
+    Deed::Status(15),
+];
+
+/// A buffer is filled, its descriptor is written, its head is put into the available ring, and the
+/// index is written last (VIRTIO 1.1, 2.6.13).
+static INFLATE_DEEDS: [Deed; 4] = [
+    Deed::Write(4, Part::Buffers),
+    Deed::Write(0, Part::Descriptors),
+    Deed::Write(0, Part::Available),
+    Deed::Write(0, Part::AvailableIndex),
+];
+
+#[test]
+fn writes_in_the_standards_order(rt: HostRuntime) -> Result<(), Fail> {
+    let mut watched = Watched::new(rt.alloc())?;
+    assert!(rt; watched.init() && watched.port.deeds.end_with(&INIT_DEEDS));
+    assert!(rt; watched.inflate() && watched.port.deeds.end_with(&INFLATE_DEEDS));
+    Ok(())
 }
