@@ -1,1 +1,3 @@
 pub mod FreshStands
+pub mod OwnFrames
+pub mod Numbers
