@@ -5,6 +5,8 @@ mod boxed;
 mod calls;
 mod new;
 mod slot;
+#[cfg(test)]
+mod tests;
 
 pub use new::NoSlot;
 pub use slot::Slot;

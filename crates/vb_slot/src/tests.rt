@@ -1,0 +1,275 @@
+//! A guest on a device that keeps frames of its own: its frames come from there, and go back there.
+
+ghost use Rattle.std.specs.Prelude.{true};
+ghost use Rattle.vb_model.specs.Guest.{Guest};
+ghost use Rattle.vb_slot.specs.Slots.{stands_for};
+
+mod keeping;
+
+use crate::Slot;
+use keeping::KeepingDevice;
+use std::alloc::{AllocError, Global};
+use std::process::Abort;
+use std::test::Fail;
+use vb_driver::{Posted, Reaped};
+use vb_frames::{FrameKeeper, Refused};
+use vb_model::{Bytes, Claim, Refusal};
+use vb_ram::{Config, Frame};
+
+/// All features that the device offers.
+const FEATURES: u64 = 0x1_0000_0027;
+
+/// A keeper that has no frames.
+#[derive(Drop)]
+struct NoFrames;
+
+impl FrameKeeper for NoFrames {
+    ghost use Rattle.std.specs.Prelude.{◌≡◌, []};
+    ghost use Rattle.vb_model.specs.declared.calls.Claim.TheVariants.{GaveNoFrame};
+
+    ghost out = { λ _. [] };
+
+    ghost answers = { λ _ claim. claim ≡ GaveNoFrame };
+
+    fn claim(&mut self) -> Result<Frame, Refused> {
+        Err(Refused::NoFrame)
+    }
+
+    fn put_back(&mut self, _frame: Frame) {
+        unreachable!()
+    }
+}
+
+/// A call or a question, of processor 0, queue 0 and request 0 where such are meant.
+enum Line {
+    Init,
+    Alloc,
+    Free { page: u32 },
+    Write { page: u32 },
+    Read { page: u32 },
+    Backing { page: u32 },
+    SetTarget { pages: u32 },
+    Inflate { pages: u32 },
+    Take,
+    Finish,
+    Reap,
+    Sweep { page: u32 },
+}
+
+/// A letter for the kind of an answer, and its numbers.
+type Answer = (char, u32, u32);
+
+/// A line, its answer, and what its claims are answered.
+type Row = (Line, Answer, &'static [Claim]);
+
+/// The first twelve frames.
+const TWELVE: [Claim; 13] = [
+    Claim::Gave(0),
+    Claim::Gave(1),
+    Claim::Gave(2),
+    Claim::Gave(3),
+    Claim::Gave(4),
+    Claim::Gave(5),
+    Claim::Gave(6),
+    Claim::Gave(7),
+    Claim::Gave(8),
+    Claim::Gave(9),
+    Claim::Gave(10),
+    Claim::Gave(11),
+    Claim::GaveNoFrame,
+];
+
+/// A device of sixteen frames.
+static SIXTEEN_FRAMES: [Row; 24] = [
+    (
+        Line::Init,
+        ('y', 0, 0),
+        &[
+            Claim::Gave(0),
+            Claim::Gave(1),
+            Claim::Gave(2),
+            Claim::Gave(3),
+            Claim::Gave(4),
+            Claim::Gave(5),
+            Claim::Gave(6),
+            Claim::Gave(7),
+            Claim::Gave(8),
+            Claim::Gave(9),
+            Claim::Gave(10),
+            Claim::Gave(11),
+            Claim::Gave(12),
+        ],
+    ),
+    (Line::Alloc, ('p', 16, 0), &[]),
+    (Line::Write { page: 16 }, ('d', 0, 0), &[Claim::Gave(13)]),
+    (Line::Backing { page: 16 }, ('k', 13, 0), &[Claim::Gave(13)]),
+    (Line::Read { page: 16 }, ('b', 0xabcd_0000, 0), &[]),
+    (Line::Free { page: 16 }, ('d', 0, 0), &[]),
+    (Line::SetTarget { pages: 4 }, ('d', 0, 0), &[]),
+    (Line::Inflate { pages: 4 }, ('o', 0, 4), &[]),
+    (Line::Take, ('t', 0, 0), &[]),
+    (Line::Finish, ('f', 0, 0), &[]),
+    (Line::Backing { page: 16 }, ('k', 99, 0), &[]),
+    (Line::Reap, ('r', 0, 4), &[]),
+    (Line::Alloc, ('p', 20, 0), &[]),
+    (Line::Alloc, ('p', 21, 0), &[]),
+    (Line::Alloc, ('p', 22, 0), &[]),
+    (Line::Alloc, ('p', 23, 0), &[]),
+    (Line::Write { page: 20 }, ('d', 0, 0), &[Claim::Gave(13)]),
+    (Line::Write { page: 21 }, ('d', 0, 0), &[Claim::Gave(14)]),
+    (Line::Write { page: 22 }, ('d', 0, 0), &[Claim::Gave(15)]),
+    (Line::Write { page: 23 }, ('n', 1, 0), &[Claim::GaveNoFrame]),
+    (Line::Backing { page: 20 }, ('k', 13, 0), &[Claim::GaveNoFrame]),
+    (Line::Backing { page: 23 }, ('k', 99, 0), &[Claim::GaveNoFrame]),
+    (Line::Sweep { page: 16 }, ('w', 0, 0), &[]),
+    (Line::Sweep { page: 20 }, ('n', 2, 0), &[]),
+];
+
+/// A device of twelve frames, of which none is out after a start that is refused.
+static TWELVE_FRAMES: [Row; 2] = [
+    (Line::Init, ('n', 1, 0), &TWELVE),
+    (Line::Init, ('n', 1, 0), &TWELVE),
+];
+
+fn refused(refusal: Refusal) -> Answer {
+    match refusal {
+        Refusal::NoFrame => ('n', 1, 0),
+        Refusal::NotBallooned => ('n', 2, 0),
+        _ => ('n', 0, 0),
+    }
+}
+
+fn done(letter: char, answer: Result<(), Refusal>) -> Answer {
+    match answer {
+        Ok(()) => (letter, 0, 0),
+        Err(refusal) => refused(refusal),
+    }
+}
+
+fn number(letter: char, answer: Result<u32, Refusal>) -> Answer {
+    match answer {
+        Ok(number) => (letter, number, 0),
+        Err(refusal) => refused(refusal),
+    }
+}
+
+/// The four bytes that were read, as one number.
+fn bytes(answer: Result<Bytes, Refusal>) -> Answer {
+    match answer {
+        Ok(bytes) => match bytes.as_slice() {
+            [a, b, c, d] => ('b', u32::from_be_bytes([*a, *b, *c, *d]), 0),
+            _ => ('b', 0, 0),
+        },
+        Err(refusal) => refused(refusal),
+    }
+}
+
+fn posted(answer: Result<Posted, Refusal>) -> Answer {
+    match answer {
+        Ok(posted) => ('o', u32::from(posted.head), posted.pages),
+        Err(refusal) => refused(refusal),
+    }
+}
+
+fn reaped(answer: Result<Option<Reaped>, Refusal>) -> Answer {
+    match answer {
+        Ok(Some(reaped)) => ('r', u32::from(reaped.head), reaped.pages),
+        Ok(None) => ('r', 99, 0),
+        Err(refusal) => refused(refusal),
+    }
+}
+
+fn taken(answer: Result<Option<u16>, Refusal>) -> Answer {
+    match answer {
+        Ok(Some(head)) => ('t', u32::from(head), 0),
+        Ok(None) => ('t', 99, 0),
+        Err(refusal) => refused(refusal),
+    }
+}
+
+/// Two bytes for a page, which are written to its beginning.
+fn write(alloc: Global, slot: &mut Slot, page: u32) -> Result<Answer, AllocError>
+    requires { (g : Guest) × stands_for true mem part slot.old g }
+    ensures { (g : Guest) × stands_for true mem part slot.new g }
+{
+    let bytes = Bytes::new(vec![in alloc; 0xab, 0xcd]?);
+    Ok(done('d', slot.write(&mut NoFrames, page, 0, &bytes)))
+}
+
+/// What the guest's processor and its driver do, and a question of the host.
+fn answer_of_driver(alloc: Global, slot: &mut Slot, line: &Line) -> Result<Answer, AllocError>
+    requires { (g : Guest) × stands_for true mem part slot.old g }
+    ensures { (g : Guest) × stands_for true mem part slot.new g }
+{
+    Ok(match line {
+        Line::Init => done('y', slot.init(&mut NoFrames, FEATURES)),
+        Line::Alloc => number('p', slot.alloc(0, 0)),
+        Line::Free { page } => done('d', slot.free(0, *page, 0)),
+        Line::Write { page } => write(alloc, slot, *page)?,
+        Line::Read { page } => bytes(slot.read(alloc, *page, 0, 4)),
+        Line::Inflate { pages } => posted(slot.inflate(*pages)),
+        Line::Reap => reaped(slot.reap(0)),
+        Line::Backing { page } => ('k', slot.backing(*page).unwrap_or(99), 0),
+        _ => ('?', 0, 0),
+    })
+}
+
+/// What the host does, and else what the guest does.
+fn answer_of(alloc: Global, slot: &mut Slot, line: &Line) -> Result<Answer, AllocError>
+    requires { (g : Guest) × stands_for true mem part slot.old g }
+    ensures { (g : Guest) × stands_for true mem part slot.new g }
+{
+    Ok(match line {
+        Line::SetTarget { pages } => {
+            slot.set_target(*pages);
+            ('d', 0, 0)
+        }
+        Line::Take => taken(slot.take(0)),
+        Line::Finish => number('f', slot.finish(&mut NoFrames, 0, 0).map(u32::from)),
+        Line::Sweep { page } => number('w', slot.sweep(&mut NoFrames, *page).map(u32::from)),
+        _ => answer_of_driver(alloc, slot, line)?,
+    })
+}
+
+/// Makes the calls of a table.
+fn play_on(
+    rt: &impl Abort,
+    alloc: Global,
+    slot: &mut Slot,
+    table: &[Row],
+) -> Result<(), AllocError>
+    requires { (g : Guest) × stands_for true mem part slot.old g }
+{
+    for (line, answer, claims) in table {
+        let answered = answer_of(alloc, slot, line)?;
+        assert!(rt; answered == *answer);
+        assert!(rt; slot.claimed() == *claims);
+    }
+    Ok(())
+}
+
+/// Makes the calls of a table on a guest whose device has so many frames.
+fn play(rt: &impl Abort, alloc: Global, frames: u32, table: &[Row]) -> Result<(), AllocError> {
+    let device = Box::new(alloc, KeepingDevice::new(alloc, frames)?)?;
+    let config = Config {
+        pages: 64,
+        queue_size: 8,
+        processors: 1,
+    };
+    match Slot::new(alloc, device, config) {
+        Ok(mut slot) => play_on(rt, alloc, &mut slot, table),
+        Err(_) => Err(AllocError),
+    }
+}
+
+#[test]
+fn frames_come_from_the_device_and_go_back_to_it(rt: HostRuntime) -> Result<(), Fail> {
+    play(&rt, rt.alloc(), 16, &SIXTEEN_FRAMES)?;
+    Ok(())
+}
+
+#[test]
+fn a_device_with_a_frame_too_few(rt: HostRuntime) -> Result<(), Fail> {
+    play(&rt, rt.alloc(), 12, &TWELVE_FRAMES)?;
+    Ok(())
+}
