@@ -119,8 +119,16 @@ static SIXTEEN_FRAMES: [Row; 24] = [
     (Line::Write { page: 21 }, ('d', 0, 0), &[Claim::Gave(14)]),
     (Line::Write { page: 22 }, ('d', 0, 0), &[Claim::Gave(15)]),
     (Line::Write { page: 23 }, ('n', 1, 0), &[Claim::GaveNoFrame]),
-    (Line::Backing { page: 20 }, ('k', 13, 0), &[Claim::GaveNoFrame]),
-    (Line::Backing { page: 23 }, ('k', 99, 0), &[Claim::GaveNoFrame]),
+    (
+        Line::Backing { page: 20 },
+        ('k', 13, 0),
+        &[Claim::GaveNoFrame],
+    ),
+    (
+        Line::Backing { page: 23 },
+        ('k', 99, 0),
+        &[Claim::GaveNoFrame],
+    ),
     (Line::Sweep { page: 16 }, ('w', 0, 0), &[]),
     (Line::Sweep { page: 20 }, ('n', 2, 0), &[]),
 ];
@@ -231,19 +239,18 @@ fn answer_of(alloc: Global, slot: &mut Slot, line: &Line) -> Result<Answer, Allo
     })
 }
 
+fn are(claimed: &[Claim], claims: &[Claim]) -> bool {
+    claimed == claims
+}
+
 /// Makes the calls of a table.
-fn play_on(
-    rt: &impl Abort,
-    alloc: Global,
-    slot: &mut Slot,
-    table: &[Row],
-) -> Result<(), AllocError>
+fn play_on(rt: &impl Abort, alloc: Global, slot: &mut Slot, table: &[Row]) -> Result<(), AllocError>
     requires { (g : Guest) × stands_for true mem part slot.old g }
 {
     for (line, answer, claims) in table {
         let answered = answer_of(alloc, slot, line)?;
         assert!(rt; answered == *answer);
-        assert!(rt; slot.claimed() == *claims);
+        assert!(rt; are(slot.claimed(), claims));
     }
     Ok(())
 }

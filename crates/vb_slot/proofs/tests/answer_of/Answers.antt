@@ -1,0 +1,18 @@
+use Rattle.std.proofs.Common.{true}
+use Rattle.vb_slot.proofs.tests.answer_of.Goals as goal
+
+pub returns-in-SetTarget : goal.returns-in-SetTarget
+returns-in-SetTarget g c =
+    let s = c.set_target.ensures.step true c.requires.0 c.requires.1 in (s.new, s.stands)
+
+pub returns-in-Take : goal.returns-in-Take
+returns-in-Take g c =
+    let s = c.take.ensures.step true c.requires.0 c.requires.1 in (s.new, s.stands)
+
+pub returns-in-Finish : goal.returns-in-Finish
+returns-in-Finish g c =
+    let s = c.finish.ensures.step true c.requires.0 c.requires.1 in (s.new, s.stands)
+
+pub returns-in-Sweep : goal.returns-in-Sweep
+returns-in-Sweep g c =
+    let s = c.sweep.ensures.step true c.requires.0 c.requires.1 in (s.new, s.stands)
