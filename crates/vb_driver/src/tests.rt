@@ -486,41 +486,30 @@ fn part_of(page: u32, offset: usize) -> Part {
     }
 }
 
-/// How many deeds are kept.
-const DEEDS: usize = 64;
-
-/// What was done, in order; of the same deed several times in a row the first.
+/// Deeds that are waited for, in order; the same one may come several times in a row.
 #[derive(Drop)]
-struct Deeds {
-    kept: [Deed; DEEDS],
-    count: usize,
+struct Awaited {
+    deeds: &'static [Deed],
+    /// How many of them were the last ones done.
+    met: usize,
 }
 
-impl Deeds {
+impl Awaited {
     fn note(&mut self, deed: Deed) {
-        let count = self.count;
-        if count < DEEDS && (count == 0 || self.kept[count - 1] != deed) {
-            self.kept[count] = deed;
-            self.count = count + 1;
+        let met = self.met;
+        if met < self.deeds.len() && self.deeds[met] == deed {
+            self.met = met + 1;
+        } else if met == 0 || met > self.deeds.len() || self.deeds[met - 1] != deed {
+            self.met = 0;
         }
-    }
-
-    /// Whether these were the last ones.
-    fn end_with(&self, last: &[Deed]) -> bool {
-        let count = self.count;
-        if count > DEEDS || last.len() > count {
-            return false;
-        }
-        let kept = &self.kept[count - last.len()..count];
-        kept == last
     }
 }
 
-/// A port in memory that keeps what is done to it.
+/// A port in memory, and what is waited for there.
 #[derive(Drop)]
 struct Recorder {
     port: MemoryPort,
-    deeds: Deeds,
+    awaited: Awaited,
 }
 
 impl GuestBytes for Recorder {
@@ -537,7 +526,7 @@ impl GuestBytes for Recorder {
     }
 
     fn write(&mut self, page: u32, offset: usize, bytes: &[u8]) -> Result<(), RamFault> {
-        self.deeds.note(Deed::Write(page, part_of(page, offset)));
+        self.awaited.note(Deed::Write(page, part_of(page, offset)));
         self.port.write(page, offset, bytes)
     }
 }
@@ -548,7 +537,7 @@ impl Port for Recorder {
     }
 
     fn write_status(&mut self, write: Status) -> Result<(), StatusFault> {
-        self.deeds.note(Deed::Status(write.bits()));
+        self.awaited.note(Deed::Status(write.bits()));
         self.port.write_status(write)
     }
 
@@ -565,7 +554,7 @@ impl Port for Recorder {
     }
 }
 
-/// A driver whose deeds are kept.
+/// A driver, and the port where its deeds are waited for.
 #[derive(Drop)]
 struct Watched {
     driver: Driver,
@@ -573,29 +562,21 @@ struct Watched {
 }
 
 impl Watched {
-    fn new(alloc: Global) -> Result<Watched, Fail> {
-        let mut port = port_over(alloc, 13)?;
-        port.set_target(4);
-        Ok(Watched {
-            driver: plugged_in(alloc)?,
-            port: Recorder {
-                port,
-                deeds: Deeds {
-                    kept: [Deed::Status(0); DEEDS],
-                    count: 0,
-                },
-            },
-        })
+    /// Whether an initialisation ends with these deeds.
+    fn inits_by(&mut self, deeds: &'static [Deed]) -> bool {
+        self.port.awaited = Awaited { deeds, met: 0 };
+        self.port.pages() >= 64
+            && self.driver.init(&mut self.port, Features::OFFERED).is_ok()
+            && self.port.awaited.met == deeds.len()
     }
 
-    fn init(&mut self) -> bool {
-        self.port.pages() >= 64 && self.driver.init(&mut self.port, Features::OFFERED).is_ok()
-    }
-
-    fn inflate(&mut self) -> bool {
+    /// Whether an inflate ends with these deeds.
+    fn inflates_by(&mut self, deeds: &'static [Deed]) -> bool {
+        self.port.awaited = Awaited { deeds, met: 0 };
         self.port.pages() >= 64
             && all_backed(&mut self.port)
             && self.driver.inflate(&mut self.port, 4).is_ok()
+            && self.port.awaited.met == deeds.len()
     }
 }
 
@@ -623,10 +604,18 @@ static INFLATE_DEEDS: [Deed; 4] = [
     Deed::Write(0, Part::AvailableIndex),
 ];
 
+fn are_in_order(guest: Guest) -> bool {
+    let Guest { driver, mut port } = guest;
+    port.set_target(4);
+    let awaited = Awaited { deeds: &[], met: 0 };
+    let port = Recorder { port, awaited };
+    let mut watched = Watched { driver, port };
+    watched.inits_by(&INIT_DEEDS) && watched.inflates_by(&INFLATE_DEEDS)
+}
+
 #[test]
 fn writes_in_the_standards_order(rt: HostRuntime) -> Result<(), Fail> {
-    let mut watched = Watched::new(rt.alloc())?;
-    assert!(rt; watched.init() && watched.port.deeds.end_with(&INIT_DEEDS));
-    assert!(rt; watched.inflate() && watched.port.deeds.end_with(&INFLATE_DEEDS));
+    let guest = Guest::new(rt.alloc(), 13)?;
+    assert!(rt; are_in_order(guest));
     Ok(())
 }
