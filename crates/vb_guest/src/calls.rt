@@ -11,7 +11,7 @@ ghost use Rattle.vb_guest.specs.Supply.{supply_of};
 use crate::device::{finish, set_target, sweep, take, work};
 use crate::driver::{deflate, free, inflate, oom, reap};
 use crate::frames::Claims;
-use crate::lives::init;
+use crate::lives::{init, reset};
 use crate::memory::{read, write};
 use crate::queries::{balloon, pages_at, pages_ballooned, places};
 use crate::replies::{
@@ -66,6 +66,10 @@ pub fn call<D: Device, K: FrameKeeper>(
         Call::Work => worked_reply(work(device, keeper)),
         Call::Finish { queue, index } => finished_reply(finish(device, keeper, *queue, *index)),
         Call::Sweep { page } => swept_reply(sweep(device, keeper, *page)),
+        Call::Reset => {
+            reset(driver, device);
+            Reply::Done
+        }
         Call::SetTarget { pages } => {
             set_target(device, *pages);
             Reply::Done

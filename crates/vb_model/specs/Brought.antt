@@ -5,7 +5,7 @@ use Rattle.vb_model.specs.declared.layout.TheConstants.{DEFLATE_QUEUE}
 use Rattle.vb_model.specs.declared.calls.Call.{Call}
 use Rattle.vb_model.specs.declared.calls.Call.TheVariants.{Init, Alloc, Free, Read, Write, Inflate}
 use Rattle.vb_model.specs.declared.calls.Call.TheVariants.{Deflate, Oom, Reap, Take, Work, Finish}
-use Rattle.vb_model.specs.declared.calls.Call.TheVariants.{Sweep, SetTarget}
+use Rattle.vb_model.specs.declared.calls.Call.TheVariants.{Sweep, Reset, SetTarget}
 use Rattle.vb_model.specs.declared.calls.Query.{Query}
 use Rattle.vb_model.specs.declared.calls.Query.TheVariants.{Places, PagesAt, PagesBallooned}
 use Rattle.vb_model.specs.declared.calls.Query.TheVariants.{Balloon, Backing}
@@ -14,6 +14,7 @@ use Rattle.vb_model.specs.declared.calls.Event.TheVariants.{Plug, Guest, Query a
 
 abbrev pub is_call_brought : Call → Bool
 is_call_brought (Init features) = true
+is_call_brought Reset = true
 is_call_brought (Alloc cpu order) = true
 is_call_brought (Free cpu start order) = true
 is_call_brought (Read page offset len) = true

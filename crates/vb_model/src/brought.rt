@@ -13,6 +13,7 @@ impl Call {
         matches!(
             self,
             Call::Init { .. }
+                | Call::Reset
                 | Call::Alloc { .. }
                 | Call::Free { .. }
                 | Call::Read { .. }

@@ -3,6 +3,7 @@
 mod command_lines;
 mod examples;
 mod paces;
+mod resets;
 mod rows;
 mod runs;
 mod sizes;

@@ -12,7 +12,7 @@ static EVENTS: [(&str, [u32; 4], &[u8], bool); 24] = [
     ("restart 7", [7, 0, 0, 0], b"", false),
     ("balance 16", [16, 0, 0, 0], b"", false),
     ("frames", [0, 0, 0, 0], b"", true),
-    ("reset 7", [7, 0, 0, 0], b"", false),
+    ("reset 7", [7, 0, 0, 0], b"", true),
     ("inflate 7 3", [7, 3, 0, 0], b"", true),
     ("deflate 7 3", [7, 3, 0, 0], b"", true),
     ("oom 7 3", [7, 3, 0, 0], b"", true),

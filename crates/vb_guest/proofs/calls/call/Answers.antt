@@ -106,3 +106,11 @@ returns-in-SetTarget g c =
           (steps_quiet keeps _ _ _ _ _ _ guest g.K.FrameKeeper.answers _ _ _ stands
           (c.set_target.ensures keeps _ guest stands));
     }
+
+pub returns-in-Reset : goal.returns-in-Reset
+returns-in-Reset g c =
+    record {
+      step = λ keeps guest stands. rw (c.clear.ensures, c.in-Reset.is)
+          (steps_quiet keeps _ _ _ _ _ _ guest g.K.FrameKeeper.answers _ _ _ stands
+          (c.reset.ensures keeps guest stands));
+    }
