@@ -1,5 +1,6 @@
 -- A finish by a device, from the end of its queue.
-use Rattle.std.specs.Prelude.{◌≡◌, ℕ, zero, suc, ◌+◌, ◌%◌, ◌<◌, ◌≤◌, Bool, true, false, not, ◌==◌, ◌&&◌, List}
+use Rattle.std.specs.Prelude.{◌≡◌, ℕ, zero, suc, ◌+◌, ◌%◌, ◌<◌, ◌≤◌, Bool, true, false, not}
+use Rattle.std.specs.Prelude.{◌==◌, ◌&&◌, List}
 use Rattle.std.specs.Prelude.{[], ◌∷◌, length, remove, Option, Some, None, IsSome, Result}
 use Rattle.std.specs.Prelude.{Ok, Err, if◌then◌else◌, slice_get, All, refl}
 use Rattle.std.proofs.Common.{sym, ◌∙◌, ap, subst, arith, inl, inr}

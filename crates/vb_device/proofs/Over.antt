@@ -1,5 +1,6 @@
 -- A device that keeps ballooned pages, from one that has ballooned nothing.
-use Rattle.std.specs.Prelude.{◌≡◌, ℕ, zero, suc, ◌+◌, ◌%◌, ◌≤◌, ◌==◌, Bool, true, false, List, [], ◌∷◌}
+use Rattle.std.specs.Prelude.{◌≡◌, ℕ, zero, suc, ◌+◌, ◌%◌, ◌≤◌, ◌==◌, Bool, true, false, List, []}
+use Rattle.std.specs.Prelude.{◌∷◌}
 use Rattle.std.specs.Prelude.{Option, Some, None, Result, Ok, Err, if◌then◌else◌, refl}
 use Rattle.std.proofs.Common.{sym, ◌∙◌, ap, subst, arith}
 use Rattle.vb_model.specs.declared.replies.Refusal.{Refusal}
@@ -12,7 +13,8 @@ use Rattle.vb_device.specs.Faults.{Breaks}
 use Rattle.vb_device.specs.Discards.{frames_behind, flagged}
 use Rattle.vb_device.specs.declared.worked.Worked.{Worked}
 use Rattle.vb_device.specs.Base.{with_pace}
-use Rattle.vb_device.specs.BaseCalls.{readiness_refusal, VisitsNext, taken_out, TakesOut, UsesChain}
+use Rattle.vb_device.specs.BaseCalls.{readiness_refusal, VisitsNext, SettlesBy, taken_out}
+use Rattle.vb_device.specs.BaseCalls.{TakesOut, UsesChain}
 use Rattle.vb_device.specs.Conditions.{work_refusal}
 use Rattle.vb_device.specs.Queues.{queue_part, with_queue, queue_end}
 use Rattle.vb_ring.specs.Ends.{DeviceEnd}
@@ -47,7 +49,8 @@ taking_over q h pages paced flags p = with_over paced (q == 0) (q == 1) (q == 2)
 breaks_over : (fault : ChainFault) (paced : Bool) (flags : List Bool) (p1 p2 : Part)
     (result : Result (Option ℕ) Refusal) → Breaks fault p1 p2 result →
     Breaks fault (over paced flags p1) (over paced flags p2) result
-breaks_over fault paced flags p1 p2 result b = record { answer = b.answer; part = ap (over paced flags) b.part }
+breaks_over fault paced flags p1 p2 result b =
+    record { answer = b.answer; part = ap (over paced flags) b.part }
 
 means_over : (q : ℕ) (mem : Pages) (paced : Bool) (flags : List Bool) (p1 p2 : Part)
     (result : Result (Option ℕ) Refusal) → TakeMeans q mem p1 p2 result →
@@ -163,69 +166,114 @@ same_ok o x y a b = cc
 same_err : (o : Result Request Refusal) (x y : Refusal) → o ≡ Err x → o ≡ Err y → x ≡ y
 same_err o x y a b = cc
 
-pub finishes_err : (q index : ℕ) (paced : Bool) (m1 m2 : Pages) (flags : List Bool) (p1 p2 : Part) (why : Refusal)
-    (result : Result ℕ Refusal) → result ≡ Err why → TakesOut q index m1 m2 (with_pace paced p1) (with_pace paced p2) (Err why) →
-    FinishesBy q index m1 m2 (over paced flags p1) (over paced flags p2) result
-finishes_err q index paced m1 m2 flags p1 p2 why result is b = record {
+pub settles_err : (q index : ℕ) (paced : Bool) (m1 m2 : Pages) (flags : List Bool) (p1 p2 : Part)
+    (why : Refusal) (result : Result ℕ Refusal) → result ≡ Err why →
+    TakesOut q index m1 m2 (with_pace paced p1) (with_pace paced p2) (Err why)
+    → SettlesBy q index m1 m2 (over paced flags p1) (over paced flags p2) result
+settles_err q index paced m1 m2 flags p1 p2 why result is b = record {
   refused =
       λ w e. (
         is ∙ ap Err (same_err (Err why) why w refl (b.refused w e).0),
         ap (over paced flags) (b.refused w e).1,
         (b.refused w e).2,
       );
-  finished = λ x e at. absurd (ok_err x why (sym (b.out x e at).0));
+  settled = λ x e at. absurd (ok_err x why (sym (b.out x e at).0));
 }
 
--- what both parts of a finish and the marks leave
-settles : (q index : ℕ) (paced : Bool) (r : Request) (m1 m2 m3 : Pages) (flags : List Bool) (p1 p2 p3 : Part) →
-    q ≤ 1 → p1.loose ≡ [] → m2 ≡ without_frames q r.pages m1 →
-    with_pace paced p2 ≡ taken_out q index r.pages m1 (with_pace paced p1) → UsesChain q r.head m2 m3 p2 p3
-    → Uses q index r m1 m3 (over paced flags p1) (over paced (flagged r.pages (q == 0) flags) p3) (Ok r.head)
-settles zero index paced r m1 m2 m3 flags p1 p2 p3 le none mem part used =
-    let left =
-    ap (with_pace paced) used.part ∙
-    ap (λ (p : Part). with_queue 0
-    (record (queue_part 0 p) { next_used = ((queue_part 0 p).next_used + 1) % 65536 }) p) part in
-    record {
-      answer = refl;
-      part = all_but_loose _ _ (ap (over paced (flagged r.pages true flags)) left);
-      loose = lost_alone p1.loose p3.loose (lost_frames 0 r.pages m1) none
-          (ap (λ (x : Part). x.loose) left);
-      memory = subst (λ (m : Pages). AddsUsedBy m m3 (queue_end 0 p1) (queue_end 0 p3) r.head 0) mem
-          (subst (λ (e : DeviceEnd). AddsUsedBy m2 m3 e (queue_end 0 p3) r.head 0)
-          (ap (queue_end 0) part) used.memory);
-    }
-settles (suc zero) index paced r m1 m2 m3 flags p1 p2 p3 le none mem part used =
-    let left =
-    ap (with_pace paced) used.part ∙
-    ap (λ (p : Part). with_queue 1
-    (record (queue_part 1 p) { next_used = ((queue_part 1 p).next_used + 1) % 65536 }) p) part in
-    record {
-      answer = refl;
-      part = all_but_loose _ _ (ap (over paced (flagged r.pages false flags)) left);
-      loose = λ n. ap (times n) (ap (λ (x : Part). x.loose) left ∙ none);
-      memory = subst (λ (m : Pages). AddsUsedBy m m3 (queue_end 1 p1) (queue_end 1 p3) r.head 0) mem
-          (subst (λ (e : DeviceEnd). AddsUsedBy m2 m3 e (queue_end 1 p3) r.head 0)
-          (ap (queue_end 1) part) used.memory);
-    }
-settles (suc (suc n)) index paced r m1 m2 m3 flags p1 p2 p3 le none mem part used = absurd (omega arith)
+-- a request taken out, with flags for those that there were
+marked_out : (q index : ℕ) (pages : List ℕ) (mem : Pages) (paced : Bool) (flags marks : List Bool)
+    (p : Part) → q ≤ 1 → over paced marks (taken_out q index pages mem (with_pace paced p)) ≡
+    record (taken_out q index pages mem (over paced flags p)) { ballooned = marks }
+marked_out zero index pages mem paced flags marks p le = refl
+marked_out (suc zero) index pages mem paced flags marks p le = refl
+marked_out (suc (suc n)) index pages mem paced flags marks p le = absurd (omega arith)
 
-pub finishes_ok : (q index : ℕ) (paced : Bool) (m1 m2 m3 : Pages) (flags marks : List Bool) (p1 p2 p3 : Part)
-    (r : Request) (result : Result ℕ Refusal) → result ≡ Ok r.head →
-    marks ≡ flagged r.pages (q == 0) flags → q ≤ 1 → p1.loose ≡ []
-    → TakesOut q index m1 m2 (with_pace paced p1) (with_pace paced p2) (Ok r) → UsesChain q r.head m2 m3 p2 p3 →
-    FinishesBy q index m1 m3 (over paced flags p1) (over paced marks p3) result
-finishes_ok q index paced m1 m2 m3 flags marks p1 p2 p3 r result is marked le none b used = record {
+pub settles_ok : (q index : ℕ) (paced : Bool) (m1 m2 : Pages) (flags marks : List Bool)
+    (p1 p2 : Part) (r : Request) (result : Result ℕ Refusal) → result ≡ Ok r.head →
+    marks ≡ flagged r.pages (q == 0) flags → q ≤ 1
+    → TakesOut q index m1 m2 (with_pace paced p1) (with_pace paced p2) (Ok r) →
+    SettlesBy q index m1 m2 (over paced flags p1) (over paced marks p2) result
+settles_ok q index paced m1 m2 flags marks p1 p2 r result is marked le b = record {
   refused = λ w e. absurd (ok_err r w (b.refused w e).0);
-  finished = λ x e at.
+  settled = λ x e at.
       let got = b.out x e at in
-      let same : r ≡ x = same_ok (Ok r) r x refl got.0 in
-      subst (λ (y : Request). Uses q index y m1 m3 (over paced flags p1) (over paced marks p3) result) same
-      (subst (λ (fs : List Bool). Uses q index r m1 m3 (over paced flags p1) (over paced fs p3) result)
-      (sym marked)
-      (subst (λ (o : Result ℕ Refusal). Uses q index r m1 m3 (over paced flags p1)
-      (over paced (flagged r.pages (q == 0) flags) p3) o) (sym is)
-      (settles q index paced r m1 m2 m3 flags p1 p2 p3 le none
-      (got.1 ∙ ap (λ (y : Request). without_frames q y.pages m1) (sym same))
-      (got.2 ∙ ap (λ (y : Request). taken_out q index y.pages m1 (with_pace paced p1)) (sym same)) used)));
+      let same : r ≡ x = same_ok (Ok r) r x refl got.0 in (
+        is ∙ ap (λ (y : Request). Ok y.head) same,
+        got.1,
+        ap (over paced marks) got.2 ∙ (marked_out q index x.pages m1 paced flags marks p1 le
+            ∙ ap (λ (fs : List Bool). record (taken_out q index x.pages m1 (over paced flags p1)) {
+              ballooned = fs;
+            })
+            (marked ∙ ap (λ (y : Request). flagged y.pages (q == 0) flags) same)),
+      );
+}
+
+-- what the used entry adds
+settles : (q index : ℕ) (r : Request) (m1 m2 m3 : Pages) (paced : Bool) (marks : List Bool)
+    (p1 p2 b2 b3 : Part) → q ≤ 1 → p1.loose ≡ [] → m2 ≡ without_frames q r.pages m1
+    → p2 ≡ record (taken_out q index r.pages m1 p1) {
+      ballooned = flagged r.pages (q == 0) p1.ballooned;
+    }
+    → over paced marks b2 ≡ p2 → UsesChain q r.head m2 m3 b2 b3 →
+    Uses q index r m1 m3 p1 (over paced marks b3) (Ok r.head)
+settles zero index r m1 m2 m3 paced marks p1 p2 b2 b3 le none mem part view used =
+    let left =
+    ap (over paced marks) used.part ∙
+    ap (λ (p : Part). with_queue 0
+    (record (queue_part 0 p) { next_used = ((queue_part 0 p).next_used + 1) % 65536 }) p)
+    (view ∙ part) in
+    record {
+      answer = refl;
+      part = all_but_loose _ _ left;
+      loose = lost_alone p1.loose b3.loose (lost_frames 0 r.pages m1) none
+          (ap (λ (x : Part). x.loose) left);
+      memory = subst (λ (m : Pages). AddsUsedBy m m3 (queue_end 0 p1) (queue_end 0 b3) r.head 0) mem
+          (subst (λ (e : DeviceEnd). AddsUsedBy m2 m3 e (queue_end 0 b3) r.head 0)
+          (ap (queue_end 0) (view ∙ part)) used.memory);
+    }
+settles (suc zero) index r m1 m2 m3 paced marks p1 p2 b2 b3 le none mem part view used =
+    let left =
+    ap (over paced marks) used.part ∙
+    ap (λ (p : Part). with_queue 1
+    (record (queue_part 1 p) { next_used = ((queue_part 1 p).next_used + 1) % 65536 }) p)
+    (view ∙ part) in
+    record {
+      answer = refl;
+      part = all_but_loose _ _ left;
+      loose = λ n. ap (times n) (ap (λ (x : Part). x.loose) left ∙ none);
+      memory = subst (λ (m : Pages). AddsUsedBy m m3 (queue_end 1 p1) (queue_end 1 b3) r.head 0) mem
+          (subst (λ (e : DeviceEnd). AddsUsedBy m2 m3 e (queue_end 1 b3) r.head 0)
+          (ap (queue_end 1) (view ∙ part)) used.memory);
+    }
+settles (suc (suc n)) index r m1 m2 m3 paced marks p1 p2 b2 b3 le none mem part view used =
+    absurd (omega arith)
+
+num_err : (h : ℕ) (why : Refusal) → Ok h ≡ Err why → ⊥
+num_err h why e = cc
+
+err_num : (h : ℕ) (why : Refusal) → Err why ≡ Ok h → ⊥
+err_num h why e = cc
+
+same_head : (o : Result ℕ Refusal) (x y : ℕ) → o ≡ Ok x → o ≡ Ok y → x ≡ y
+same_head o x y a b = cc
+
+pub finishes_err : (q index : ℕ) (m1 m2 : Pages) (p1 p2 : Part) (why : Refusal) →
+    SettlesBy q index m1 m2 p1 p2 (Err why) → FinishesBy q index m1 m2 p1 p2 (Err why)
+finishes_err q index m1 m2 p1 p2 why b = record {
+  refused = b.refused;
+  finished = λ x e at. absurd (err_num x.head why (b.settled x e at).0);
+}
+
+pub finishes_ok : (q index h : ℕ) (m1 m2 m3 : Pages) (paced : Bool) (marks : List Bool)
+    (p1 p2 b2 b3 : Part) → q ≤ 1 → p1.loose ≡ [] → over paced marks b2 ≡ p2
+    → SettlesBy q index m1 m2 p1 p2 (Ok h) → UsesChain q h m2 m3 b2 b3 →
+    FinishesBy q index m1 m3 p1 (over paced marks b3) (Ok h)
+finishes_ok q index h m1 m2 m3 paced marks p1 p2 b2 b3 le none view b used = record {
+  refused = λ w e. absurd (num_err h w (b.refused w e).0);
+  finished = λ x e at.
+      let got = b.settled x e at in
+      let head : x.head ≡ h = same_head (Ok h) x.head h got.0 refl in
+      subst (λ (n : ℕ). Uses q index x m1 m3 p1 (over paced marks b3) (Ok n)) head
+      (settles q index x m1 m2 m3 paced marks p1 p2 b2 b3 le none got.1 got.2 view
+      (subst (λ (n : ℕ). UsesChain q n m2 m3 b2 b3) (sym head) used));
 }

@@ -1,7 +1,8 @@
 -- What the parts of a device's calls do.
 use Rattle.std.specs.Prelude.{◌≡◌, ℕ, ◌+◌, ◌%◌, ◌<◌, ◌≤◌, ◌==◌, true, nat_lt, List, [], ◌∷◌, ◌++◌}
-use Rattle.std.specs.Prelude.{remove, if◌then◌else◌, Option, Some, None, IsSome, is_some, Bool, Result, Ok, Err}
-use Rattle.vb_model.specs.declared.layout.TheConstants.{DEFLATE_QUEUE}
+use Rattle.std.specs.Prelude.{remove, if◌then◌else◌, Option, Some, None, IsSome, is_some, Bool}
+use Rattle.std.specs.Prelude.{Result, Ok, Err}
+use Rattle.vb_model.specs.declared.layout.TheConstants.{INFLATE_QUEUE, DEFLATE_QUEUE}
 use Rattle.vb_model.specs.declared.replies.Refusal.{Refusal}
 use Rattle.vb_model.specs.declared.replies.Refusal.TheVariants.{NoQueue}
 use Rattle.vb_model.specs.Layout.{ring_page}
@@ -17,7 +18,7 @@ use Rattle.vb_ram.specs.Part.{Part}
 use Rattle.vb_ring.specs.Calls.{AddsUsedBy}
 use Rattle.vb_device.specs.Queues.{queue_part, with_queue, queue_end}
 use Rattle.vb_device.specs.Conditions.{finish_refusal, sweep_refusal, taken_at}
-use Rattle.vb_device.specs.Discards.{discarded, frames_behind}
+use Rattle.vb_device.specs.Discards.{discarded, frames_behind, flagged}
 use Rattle.vb_device.specs.Calls.{without_frames}
 
 -- Why the status alone refuses a call, where it does.
@@ -51,14 +52,16 @@ pub record SweepsPage (page : ℕ) (m1 m2 : Pages) (p1 p2 : Part)
 
 -- One more page of the taken inflates is counted as visited.
 abbrev pub with_visit : Part → Part
-with_visit part = record part { inflate = record part.inflate { taken = visiting part.inflate.taken } }
+with_visit part =
+    record part { inflate = record part.inflate { taken = visiting part.inflate.taken } }
 
--- The oldest page that isn't visited yet, if there is one, is visited: it loses its frame, if it has
--- one, which is the last loose one.
+-- The oldest page that isn't visited yet, if there is one, is visited: it loses its frame, if it
+-- has one, which is the last loose one.
 abbrev pub VisitsNext : Pages → Pages → Part → Part → Option Worked → Type 0
 VisitsNext m1 m2 p1 p2 None = (next_page p1.inflate.taken ≡ None) × (p2 ≡ p1) × (m2 ≡ m1)
 VisitsNext m1 m2 p1 p2 (Some worked) =
-    (next_page p1.inflate.taken ≡ Some worked.page) × (worked.freed ≡ is_some (frame_at m1 worked.page))
+    (next_page p1.inflate.taken ≡ Some worked.page)
+    × (worked.freed ≡ is_some (frame_at m1 worked.page))
     × (m2 ≡ discarded (worked.page ∷ []) m1)
     × (p2 ≡ record (with_visit p1) { loose = p1.loose ++ frames_behind m1 (worked.page ∷ []) })
 
@@ -82,6 +85,18 @@ pub record TakesOut (q index : ℕ) (m1 m2 : Pages) (p1 p2 : Part)
       (result ≡ Err why) × (p2 ≡ p1) × (m2 ≡ m1)
   pub out : (r : Request) → finish_refusal q index p1 ≡ None → taken_at q index p1 ≡ Some r →
       (result ≡ Ok r) × (m2 ≡ without_frames q r.pages m1) × (p2 ≡ taken_out q index r.pages m1 p1)
+
+-- All of a finish but for the used entry: the request is taken out, its pages are flagged, and
+-- nothing is written.
+pub record SettlesBy (q index : ℕ) (m1 m2 : Pages) (p1 p2 : Part)
+    (result : Result ℕ Refusal) : Type 0 where
+  pub refused : (why : Refusal) → finish_refusal q index p1 ≡ Some why →
+      (result ≡ Err why) × (p2 ≡ p1) × (m2 ≡ m1)
+  pub settled : (r : Request) → finish_refusal q index p1 ≡ None → taken_at q index p1 ≡ Some r →
+      (result ≡ Ok r.head) × (m2 ≡ without_frames q r.pages m1) ×
+      (p2 ≡ record (taken_out q index r.pages m1 p1) {
+        ballooned = flagged r.pages (q == INFLATE_QUEUE) p1.ballooned;
+      })
 
 -- A chain from this head of the queue can be told as used: the driver is ready, and the ring's page
 -- has a frame.

@@ -177,8 +177,8 @@ using q index part =
     })
     part
 
--- A taken request is used: its head is answered, its pages are settled, what they lost is loose, and
--- the used ring has the head, with length 0. No frame was loose before.
+-- A taken request is used: its head is answered, its pages are settled, what they lost is loose,
+-- and the used ring has the head, with length 0. No frame was loose before.
 pub record Uses (q index : ℕ) (r : Request) (m1 m2 : Pages) (p1 p2 : Part)
     (result : Result ℕ Refusal) : Type 0 where
   pub answer : result ≡ Ok r.head

@@ -1,6 +1,10 @@
 //! Balloon devices of both paces (profile).
 
-ghost use Rattle.std.specs.Prelude.{◌≡◌, [], false, length};
+ghost use Rattle.std.specs.Prelude.{◌≡◌, [], true, false, IsSome, IfOk, length};
+ghost use Rattle.vb_model.specs.Layout.{ring_page};
+ghost use Rattle.vb_model.specs.Status.{contains, driver_ok};
+ghost use Rattle.vb_ram.specs.Pages.{frame_at};
+ghost use Rattle.vb_device.specs.BaseCalls.{SettlesBy, CanUse};
 ghost use Rattle.vb_device.specs.Calls.{IsUnused};
 
 use crate::base::DeviceBase;
@@ -61,6 +65,22 @@ impl<P: Pace> BalloonDevice<P> {
             ballooned: PageFlags::empty(alloc),
             pace: PhantomData,
         }
+    }
+
+    /// All of `finish` but for the used entry: takes the request out and its pages' frames away,
+    /// and then marks the pages. Nothing is written.
+    pub(crate) fn settle(&mut self, queue: u32, index: u32) -> Result<u16, Refusal>
+        requires backed { contains self.old.part.status driver_ok ≡ true →
+            IsSome (frame_at self.old.mem (ring_page queue)) }
+        requires none { self.old.part.loose ≡ [] }
+        ensures by { SettlesBy queue index self.old.mem self.new.mem
+            self.old.part self.new.part result }
+        ensures ready { IfOk result (λ head. CanUse queue head self.new.mem self.new.part) }
+    {
+        let request = self.base.take_out(queue, index, P::IS_PACED)?;
+        self.ballooned
+            .set_all(request.pages(), queue == INFLATE_QUEUE);
+        Ok(request.head())
     }
 }
 
@@ -125,6 +145,7 @@ impl<P: Pace> Device for BalloonDevice<P> {
     }
 
     fn paced(&self) -> bool {
+        // What the device shows of its fields is known from here on.
         let _ = &self.base;
         P::IS_PACED
     }
@@ -154,11 +175,9 @@ impl<P: Pace> Device for BalloonDevice<P> {
     }
 
     fn finish(&mut self, queue: u32, index: u32) -> Result<u16, Refusal> {
-        let request = self.base.take_out(queue, index, P::IS_PACED)?;
-        self.ballooned
-            .set_all(request.pages(), queue == INFLATE_QUEUE);
-        self.base.use_chain(queue, request.head());
-        Ok(request.head())
+        let head = self.settle(queue, index)?;
+        self.base.use_chain(queue, head);
+        Ok(head)
     }
 
     fn sweep(&mut self, page: u32) -> Result<bool, Refusal> {

@@ -1,10 +1,12 @@
 //! What devices of every kind keep: memory, status, queues and loose frames.
 
-ghost use Rattle.std.specs.Prelude.{◌≡◌, ◌==◌, ◌&&◌, not, ◌<◌, ◌≤◌, ◌+◌, ℕ, [], ◌∷◌, ◌++◌, Err, is_some, true};
-ghost use Rattle.std.specs.Prelude.{false, None, Some, IsSome, IsOk, IfNone, IfOk, OnOk, OnSome, OnErr, length};
+ghost use Rattle.std.specs.Prelude.{◌≡◌, ◌==◌, ◌&&◌, not, ◌<◌, ◌≤◌, ◌+◌, ℕ, [], ◌∷◌, ◌++◌, Err};
+ghost use Rattle.std.specs.Prelude.{is_some, true, false, None, Some, IsSome, IsOk, IfNone, IfOk};
+ghost use Rattle.std.specs.Prelude.{OnOk, OnSome, OnErr, length};
 ghost use Rattle.std.specs.Prelude.{replicate, vec_capacity};
 ghost use Rattle.std.specs.Option.{option_to_list};
 ghost use Rattle.vb_model.specs.declared.layout.TheConstants.{DEFLATE_QUEUE};
+ghost use Rattle.vb_model.specs.Device.{next_page};
 ghost use Rattle.vb_model.specs.Driver.{AllDistinct};
 ghost use Rattle.vb_model.specs.Layout.{ring_page};
 ghost use Rattle.vb_model.specs.Limits.{is_config};
@@ -16,7 +18,6 @@ ghost use Rattle.vb_device.specs.Base.{numbers_of_frames, IsPlain, with_pace};
 ghost use Rattle.vb_device.specs.BaseCalls.{TakesOut, UsesChain, CanUse, readiness_refusal};
 ghost use Rattle.vb_device.specs.BaseCalls.{queue_refusal, with_lost, SweepsPage, GivesLast};
 ghost use Rattle.vb_device.specs.BaseCalls.{with_visit, VisitsNext};
-ghost use Rattle.vb_model.specs.Device.{next_page};
 ghost use Rattle.vb_device.specs.Calls.{IsUnused, attached, TakesBy};
 ghost use Rattle.vb_device.specs.Calls.{without_frames};
 ghost use Rattle.vb_device.specs.Discards.{discarded, frames_behind};

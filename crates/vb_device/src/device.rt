@@ -81,10 +81,10 @@ pub trait Device: Port + Drop {
         ensures { TakesBy queue (Self.mem self.old) (Self.mem self.new)
             (Self.part self.old) (Self.part self.new) result };
 
-    /// Visits the next page of the requests that are taken, where the device is paced (profile): the
-    /// oldest request's first, and of a request its pages in their order. Takes the page's frame
-    /// away, if it has one. None where every page of every taken request is visited, and always
-    /// where the device is immediate.
+    /// Visits the next page of the requests that are taken, where the device is paced (profile):
+    /// the oldest request's first, and of a request its pages in their order. Takes the page's
+    /// frame away, if it has one. None where every page of every taken request is visited, and
+    /// always where the device is immediate.
     ///
     /// Refused with `NotReady` and `NeedsReset`, tested in this order. A refusal changes nothing.
     fn work(&mut self) -> Result<Option<Worked>, Refusal>

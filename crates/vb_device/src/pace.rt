@@ -4,6 +4,7 @@ ghost use Rattle.std.specs.Prelude.{Bool, true, false};
 
 /// When a device takes the frames of an inflate's pages away (profile).
 pub trait Pace {
+    // The constant's value, which contracts cite.
     ghost IS_PACED: { Bool };
 
     /// Whether it visits them one by one before it finishes the request.

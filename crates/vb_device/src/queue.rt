@@ -1,7 +1,7 @@
 //! A queue of page requests: the device's end of its ring, and the requests that were taken.
 
-ghost use Rattle.std.specs.Prelude.{◌≡◌, ◌<◌, ◌≤◌, ◌+◌, [], ◌++◌, ◌∷◌, All, IfNone, IfOk, OnOk, OnErr, Some, IsTrue};
-ghost use Rattle.std.specs.Prelude.{true, false, nat_le, length, slice_get, remove};
+ghost use Rattle.std.specs.Prelude.{◌≡◌, ◌<◌, ◌≤◌, ◌+◌, [], ◌++◌, ◌∷◌, All, IfNone, IfOk, OnOk};
+ghost use Rattle.std.specs.Prelude.{OnErr, Some, IsTrue, true, false, nat_le, length, slice_get, remove};
 ghost use Rattle.std.specs.Int.{is_power_of_two};
 ghost use Rattle.std.specs.List.{position};
 ghost use Rattle.vb_model.specs.declared.limits.TheConstants.{MIN_QUEUE_SIZE, MAX_QUEUE_SIZE};
@@ -172,9 +172,8 @@ impl DeviceQueue {
             (size ≤ MAX_QUEUE_SIZE) }
         ensures { self.new ≡ started false size self.old.ring }
     {
-        self.taken.clear();
+        self.set_ready(false);
         let _sized = self.queue.set_size(size);
-        self.queue.set_ready(false);
     }
 
     /// Starts or stops the queue; nothing is taken.

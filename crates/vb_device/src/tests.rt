@@ -1,6 +1,7 @@
-//! Requests on an immediate device: the tests write what a driver would, and call what a host does.
+//! Requests on devices of both paces: the tests write what a driver would, and call what a host
+//! does.
 
-use crate::{Claimed, Device, ImmediateDevice};
+use crate::{BalloonDevice, Claimed, Device, Immediate, Pace, Paced, Worked};
 use bitflags::Flags;
 use std::alloc::Global;
 use std::process::Abort;
@@ -24,6 +25,11 @@ enum Step {
     /// In a new life the driver writes a page number, a descriptor and an available ring, and the
     /// first chain of a queue is taken.
     TakeFirst(u32, u8, [u8; 16], [u8; 6]),
+    /// A page is visited. No frame may be loose before.
+    Work,
+    /// The inflate that was taken first is settled, and the driver isn't told. No frame may be
+    /// loose before.
+    Settle,
     /// The inflate that was taken as this number is finished. No frame may be loose before.
     FinishInflate(u32),
     /// The deflate that was taken first is finished. No frame may be loose before.
@@ -51,6 +57,9 @@ enum Answer {
     Bytes([u8; 12]),
     /// The head of a chain; none where there is none.
     Head(Option<u16>),
+    /// A page that was visited, and whether it had a frame.
+    Worked(u32, bool),
+    Idle,
     /// The number of a frame; none where there is none.
     Frame(Option<u32>),
     AskHost,
@@ -66,14 +75,14 @@ fn done(is_done: bool) -> Answer {
 
 /// The host, and the driver too, of one device.
 #[derive(Drop)]
-struct Host {
-    device: ImmediateDevice,
+struct Host<P: Pace> {
+    device: BalloonDevice<P>,
 }
 
-impl Host {
+impl<P: Pace> Host<P> {
     /// Its device has a guest of 64 pages, whose rings and buffers have frames 0 to 12.
-    fn new(rt: &impl Abort, alloc: Global, queue_size: u16) -> Host {
-        let mut device = ImmediateDevice::new(alloc);
+    fn new(rt: &impl Abort, alloc: Global, queue_size: u16) -> Self {
+        let mut device = BalloonDevice::<P>::new(alloc);
         let config = Config {
             pages: 64,
             queue_size,
@@ -97,6 +106,27 @@ impl Host {
     fn take(&mut self, queue: u32) -> Answer {
         match self.device.take(queue) {
             Ok(head) => Answer::Head(head),
+            Err(refusal) => Answer::Refused(refusal),
+        }
+    }
+
+    fn work(&mut self) -> Answer {
+        if self.device.hand_back().is_some() {
+            return Answer::Is(false);
+        }
+        match self.device.work() {
+            Ok(Some(Worked { page, freed })) => Answer::Worked(page, freed),
+            Ok(None) => Answer::Idle,
+            Err(refusal) => Answer::Refused(refusal),
+        }
+    }
+
+    fn settle(&mut self) -> Answer {
+        if self.device.hand_back().is_some() || self.device.backing(0).is_none() {
+            return Answer::Is(false);
+        }
+        match self.device.settle(0, 0) {
+            Ok(head) => Answer::Head(Some(head)),
             Err(refusal) => Answer::Refused(refusal),
         }
     }
@@ -203,6 +233,8 @@ impl Host {
             Step::TakeFirst(queue, number, descriptor, available) => {
                 self.take_first(*queue, *number, descriptor, available)
             }
+            Step::Work => self.work(),
+            Step::Settle => self.settle(),
             Step::FinishInflate(index) => self.finish_inflate(*index),
             Step::FinishDeflate => self.finish_deflate(),
             Step::Supply(page, number) => done(self.supply(alloc, *page, *number)),
@@ -223,12 +255,27 @@ impl Host {
     }
 }
 
-/// A device with a guest answers each line of each table.
-fn expect(rt: &impl Abort, alloc: Global, queue_size: u16, tables: &[&[(Step, Answer)]]) {
-    let mut host = Host::new(rt, alloc, queue_size);
+/// A device of a pace, with a guest, answers each line of each table.
+fn expect_of<P: Pace>(
+    rt: &impl Abort,
+    alloc: Global,
+    queue_size: u16,
+    tables: &[&[(Step, Answer)]],
+) {
+    let mut host = Host::<P>::new(rt, alloc, queue_size);
     for lines in tables {
         host.expect(rt, alloc, lines);
     }
+}
+
+/// The same of an immediate device.
+fn expect(rt: &impl Abort, alloc: Global, queue_size: u16, tables: &[&[(Step, Answer)]]) {
+    expect_of::<Immediate>(rt, alloc, queue_size, tables);
+}
+
+/// The same of a paced one, with queues of 8 descriptors.
+fn expect_paced(rt: &impl Abort, alloc: Global, tables: &[&[(Step, Answer)]]) {
+    expect_of::<Paced>(rt, alloc, 8, tables);
 }
 
 /// A request for pages 17 to 20.
@@ -480,8 +527,8 @@ static NOT_ATTACHED: [(Step, Answer); 4] = [
 
 #[test]
 fn a_device_that_is_not_attached(rt: HostRuntime) {
-    let mut host = Host {
-        device: ImmediateDevice::new(rt.alloc()),
+    let mut host = Host::<Immediate> {
+        device: BalloonDevice::new(rt.alloc()),
     };
     host.expect(&rt, rt.alloc(), &NOT_ATTACHED);
 }
@@ -559,4 +606,124 @@ static TWO_IN_ANY_ORDER: [(Step, Answer); 12] = [
 #[test]
 fn requests_are_finished_in_any_order(rt: HostRuntime) {
     expect(&rt, rt.alloc(), 8, &[&TWO_IN_ANY_ORDER]);
+}
+
+/// A request for pages 17 to 20, of which 18 and 20 have frames, is taken.
+static TAKEN: [(Step, Answer); 9] = [
+    (Step::Work, Answer::Refused(Refusal::NotReady)),
+    (Step::Start, Answer::Done),
+    (Step::Work, Answer::Idle),
+    (Step::Supply(18, 40), Answer::Done),
+    (Step::Supply(20, 41), Answer::Done),
+    (Step::Write(4, 0, &NUMBERS), Answer::Done),
+    (Step::Write(0, 0, &SIXTEEN_BYTES), Answer::Done),
+    (Step::Write(0, 128, &AVAILABLE), Answer::Done),
+    (Step::Take(0), Answer::Head(Some(0))),
+];
+
+/// Its pages are visited one by one; page 19 gets a frame after its visit.
+static VISITED: [(Step, Answer); 13] = [
+    (Step::FinishInflate(0), Answer::Refused(Refusal::NotWorked)),
+    (Step::Work, Answer::Worked(17, false)),
+    (Step::Work, Answer::Worked(18, true)),
+    (Step::Backing(18), Answer::Frame(None)),
+    (Step::HandBack, Answer::Frame(Some(40))),
+    (Step::Work, Answer::Worked(19, false)),
+    (Step::Supply(19, 42), Answer::Done),
+    (Step::FinishInflate(0), Answer::Refused(Refusal::NotWorked)),
+    (Step::BalloonedCount, Answer::Count(0)),
+    (Step::Work, Answer::Worked(20, true)),
+    (Step::HandBack, Answer::Frame(Some(41))),
+    (Step::Work, Answer::Idle),
+    (Step::Backing(19), Answer::Frame(Some(42))),
+];
+
+static FINISHED: [(Step, Answer); 7] = [
+    (Step::FinishInflate(0), Answer::Head(Some(0))),
+    (Step::HandBack, Answer::Frame(Some(42))),
+    (Step::HandBack, Answer::Frame(None)),
+    (Step::Backing(19), Answer::Frame(None)),
+    (Step::AreBallooned(17, 20), Answer::Done),
+    (Step::Read(0, 152), Answer::Bytes(USED)),
+    (Step::Work, Answer::Idle),
+];
+
+#[test]
+fn a_paced_device_visits_page_by_page(rt: HostRuntime) {
+    expect_paced(&rt, rt.alloc(), &[&TAKEN, &VISITED, &FINISHED, &DEFLATE]);
+}
+
+/// Requests for pages 17 and 18 and for pages 19 and 20 are taken.
+static TWO_TAKEN: [(Step, Answer); 6] = [
+    (Step::Start, Answer::Done),
+    (Step::Write(4, 0, &NUMBERS), Answer::Done),
+    (Step::Write(0, 0, &TWO_REQUESTS), Answer::Done),
+    (Step::Write(0, 128, &[0, 0, 2, 0, 0, 0, 1, 0]), Answer::Done),
+    (Step::Take(0), Answer::Head(Some(0))),
+    (Step::Take(0), Answer::Head(Some(1))),
+];
+
+static OLDER_FIRST: [(Step, Answer); 10] = [
+    (Step::Work, Answer::Worked(17, false)),
+    (Step::FinishInflate(2), Answer::Refused(Refusal::NotTaken)),
+    (Step::FinishInflate(1), Answer::Refused(Refusal::NotWorked)),
+    (Step::Work, Answer::Worked(18, false)),
+    (Step::Work, Answer::Worked(19, false)),
+    (Step::FinishInflate(0), Answer::Head(Some(0))),
+    (Step::FinishInflate(0), Answer::Refused(Refusal::NotWorked)),
+    (Step::Work, Answer::Worked(20, false)),
+    (Step::Work, Answer::Idle),
+    (Step::FinishInflate(0), Answer::Head(Some(1))),
+];
+
+#[test]
+fn the_older_request_is_visited_first(rt: HostRuntime) {
+    expect_paced(&rt, rt.alloc(), &[&TWO_TAKEN, &OLDER_FIRST]);
+}
+
+/// The taken requests are gone after a reset, and after a fault none is visited.
+static DROPPED: [(Step, Answer); 10] = [
+    (Step::Work, Answer::Worked(17, false)),
+    (Step::WriteStatus(0), Answer::Done),
+    (Step::Work, Answer::Refused(Refusal::NotReady)),
+    (Step::FinishInflate(0), Answer::Refused(Refusal::NotReady)),
+    (Step::Start, Answer::Done),
+    (Step::Work, Answer::Idle),
+    (Step::FinishInflate(0), Answer::Refused(Refusal::NotTaken)),
+    (Step::Write(0, 128, &NINE_AHEAD), Answer::Done),
+    (Step::Take(0), RULE_7),
+    (Step::Work, Answer::Refused(Refusal::NeedsReset)),
+];
+
+#[test]
+fn nothing_is_visited_after_a_reset(rt: HostRuntime) {
+    expect_paced(&rt, rt.alloc(), &[&TWO_TAKEN, &DROPPED]);
+}
+
+/// An immediate device has nothing to visit.
+static NO_WORK: [(Step, Answer); 3] = [
+    (Step::Work, Answer::Idle),
+    (Step::FinishInflate(1), Answer::Head(Some(1))),
+    (Step::Work, Answer::Idle),
+];
+
+#[test]
+fn an_immediate_device_is_idle(rt: HostRuntime) {
+    expect(&rt, rt.alloc(), 8, &[&TWO_TAKEN, &NO_WORK]);
+}
+
+/// The frames are gone and the pages ballooned while no used entry is written yet.
+static SETTLED: [(Step, Answer); 7] = [
+    (Step::Settle, Answer::Head(Some(0))),
+    (Step::Read(0, 152), Answer::Bytes([0; 12])),
+    (Step::Backing(18), Answer::Frame(None)),
+    (Step::Backing(20), Answer::Frame(None)),
+    (Step::HandBack, Answer::Frame(Some(41))),
+    (Step::HandBack, Answer::Frame(Some(40))),
+    (Step::AreBallooned(17, 20), Answer::Done),
+];
+
+#[test]
+fn pages_are_settled_before_the_driver_is_told(rt: HostRuntime) {
+    expect(&rt, rt.alloc(), 8, &[&TAKEN, &SETTLED]);
 }

@@ -189,9 +189,12 @@ claimed_asked : (Answers : List Bool → Claim → Type 0) (s : Supply) (claims 
     → s.keeps ≡ false → AreClaimed Answers s claims → AllAnswered Answers s.out claims
 claimed_asked Answers s [] e are = tt
 claimed_asked Answers s (Gave n ∷ claims) e (mid, first, rest) =
-    let (answer, free, now) = first.asked e in
-    (answer, free, subst (λ (out : List Bool). AllAnswered Answers out claims) now
-    (claimed_asked Answers mid claims (first.moves.keeps ∙ e) rest))
+    let (answer, free, now) = first.asked e in (
+      answer,
+      free,
+      subst (λ (out : List Bool). AllAnswered Answers out claims) now
+          (claimed_asked Answers mid claims (first.moves.keeps ∙ e) rest),
+    )
 claimed_asked Answers s (GaveNoFrame ∷ claims) e (mid, first, last) = ((first.asked e).0, last)
 claimed_asked Answers s (GaveNoMemory ∷ claims) e (mid, first, last) = ((first.asked e).0, last)
 

@@ -4,4 +4,3 @@ pub mod Hex
 pub mod Numbered
 pub mod Pushed
 pub mod WordLemmas
-pub mod Written

@@ -2,7 +2,6 @@ pub mod Events
 pub mod Lines
 pub mod Names
 pub mod Numbers
-pub mod Replies
 pub mod Scripts
 pub mod Texts
 pub mod Values

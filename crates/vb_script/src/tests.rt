@@ -1,5 +1,4 @@
-//! What the contracts leave open: which line makes which event, and the text of replies.
+//! What the contracts leave open: which line makes which event.
 
 mod lines;
-mod replies;
 mod scripts;

@@ -5,8 +5,8 @@ use Rattle.vb_model.specs.World.{World, made}
 use Rattle.vb_model.specs.Safe.{IsSafeRun}
 use Rattle.std.specs.Io.KnownBytes.{Appends}
 use Rattle.std.specs.List.{flat_map}
+use Rattle.vb_reply.specs.Replies.{line_of}
 use Rattle.vb_script.specs.Lines.{is_paced}
-use Rattle.vb_script.specs.Replies.{line_of}
 use Rattle.vb_script.specs.Texts.{Said}
 
 -- the host before anything happens: the script's frames, and its spare devices in their order

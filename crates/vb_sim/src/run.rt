@@ -3,8 +3,8 @@
 ghost use Rattle.std.specs.Prelude.{◌≡◌, ◌⊎◌, IfErr, IfOk, OnOk};
 ghost use Rattle.std.specs.Io.KnownBytes.{Appends, Keeps};
 ghost use Rattle.std.specs.List.{flat_map};
+ghost use Rattle.vb_reply.specs.Replies.{line_of};
 ghost use Rattle.vb_script.specs.Texts.{script_of};
-ghost use Rattle.vb_script.specs.Replies.{line_of};
 ghost use Rattle.vb_sim.specs.Faults.{IfBadLine, UnlessStream, status_of};
 ghost use Rattle.vb_sim.specs.Plays.{MayGet, Prints};
 ghost use Rattle.vb_sim.specs.declared.run.RunFault.TheVariants.{Stream};
@@ -18,7 +18,8 @@ use std::io;
 use std::io::{BufWriter, ErrorKind, Read, Write};
 use thiserror::Error;
 use vb_model::Reply;
-use vb_script::{Script, ScriptFault, parse, write_reply};
+use vb_reply::write_reply;
+use vb_script::{Script, ScriptFault, parse};
 
 /// Bytes of a script: one more is a fault of input.
 pub const MAX_INPUT: u64 = 67_108_864;

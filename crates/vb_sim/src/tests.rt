@@ -8,7 +8,7 @@ mod runs;
 mod sizes;
 
 use crate::run::{SUCCESS, run_script};
-use std::alloc::Global;
+use std::alloc::{AllocError, Global};
 use std::process::Abort;
 
 /// What a run wrote to the output and to the errors, and its exit status.
@@ -37,6 +37,22 @@ fn run(alloc: Global, script: &[u8]) -> Outcome {
         errors,
         status,
     }
+}
+
+/// A text of this start, so many times this part, and this end.
+fn repeated(
+    alloc: Global,
+    start: &str,
+    part: &str,
+    count: usize,
+    end: &str,
+) -> Result<Vec<u8>, AllocError> {
+    let mut text = Vec::from_slice(alloc, start.as_bytes())?;
+    for _ in 0..count {
+        text.extend_from_slice(part.as_bytes())?;
+    }
+    text.extend_from_slice(end.as_bytes())?;
+    Ok(text)
 }
 
 /// A script that runs to its end.

@@ -9,4 +9,4 @@ mod slot;
 mod tests;
 
 pub use new::NoSlot;
-pub use slot::{GuestSlot, Slot};
+pub use slot::Slot;

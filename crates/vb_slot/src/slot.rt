@@ -5,7 +5,7 @@ ghost use Rattle.vb_model.specs.Guest.{Guest};
 ghost use Rattle.vb_model.specs.World.{Answers};
 ghost use Rattle.vb_model.specs.Brought.{is_call_brought, is_query_brought};
 ghost use Rattle.vb_slot.specs.Slots.{stands_for, supply_from, claims_of};
-ghost use Rattle.vb_guest.specs.Steps.{AreOut, Steps, StepsOver};
+ghost use Rattle.vb_guest.specs.Steps.{AreOut, StepsOver};
 
 use crate::boxed::BoxedDevice;
 use crate::new::NoSlot;
@@ -16,30 +16,6 @@ use vb_frames::FrameKeeper;
 use vb_guest::Claims;
 use vb_model::{Call, Query, Reply};
 use vb_ram::Config;
-
-/// What a host has of each guest: something that stands for a guest of the model, and whose calls
-/// are steps of that guest.
-pub trait GuestSlot: Drop {
-    ghost use Rattle.vb_model.specs.Guest.{Guest};
-
-    /// The guests that it may stand for.
-    ghost stands: { Self → Guest → Type 0 };
-
-    /// Answers a call on the guest. Frames that its pages gain are claimed from the keeper, and
-    /// those that they lose are put back.
-    fn call<K: FrameKeeper>(&mut self, alloc: Global, keeper: &mut K, call: &Call) -> Reply
-        requires stands { (g : Guest) × stands self.old g × AreOut g (K.out keeper.old) }
-        requires brought { is_call_brought call.now ≡ true }
-        ensures step { (g : Guest) → stands self.old g
-            → Steps (stands self.new) K.answers (K.out keeper.old) (K.out keeper.new) g call.now
-            result };
-
-    /// Answers a question about the guest.
-    fn query(&self, alloc: Global, query: &Query) -> Reply
-        requires stands { (g : Guest) × stands self.now g }
-        requires brought { is_query_brought query.now ≡ true }
-        ensures answer { (g : Guest) → stands self.now g → Answers query.now g result };
-}
 
 /// A guest: its balloon driver, and its device in a box, with its memory.
 #[derive(Drop)]
@@ -92,24 +68,6 @@ impl Slot {
     }
 }
 
-/// A host gives its own frames to guests whose devices keep none.
-impl GuestSlot for Slot {
-    ghost use Rattle.std.specs.Prelude.{false};
-    ghost use Rattle.vb_guest.specs.Stands.{Stands};
-
-    ghost stands = { λ s g. Stands false
-        ((Device-box s.device.device).GuestBytes.mem s.device.device.value)
-        ((Device-box s.device.device).GuestBytes.part s.device.device.value) s.driver g };
-
-    fn call<K: FrameKeeper>(&mut self, alloc: Global, keeper: &mut K, call: &Call) -> Reply {
-        self.call(alloc, keeper, call)
-    }
-
-    fn query(&self, alloc: Global, query: &Query) -> Reply {
-        self.query(alloc, query)
-    }
-}
-
 impl Slot {
     ghost use Rattle.std.specs.Prelude.{◌≡◌, true, false, IfOk, IfErr, []};
     ghost use Rattle.vb_model.specs.Guest.{fresh};
@@ -129,14 +87,6 @@ impl Slot {
         requires config { is_config config.pages config.queue_size config.processors ≡ true }
         ensures made { IfOk result
             (λ slot. stands_for (part device).keeps mem part slot
-            (fresh (record {
-              pages = config.pages;
-              queue_size = config.queue_size;
-              processors = config.processors;
-              paced = (part device).paced;
-            }) 0)) }
-        ensures hosted { IfOk result
-            (λ slot. (part device).keeps ≡ false → ⟦<Slot as GuestSlot>⟧.stands slot
             (fresh (record {
               pages = config.pages;
               queue_size = config.queue_size;

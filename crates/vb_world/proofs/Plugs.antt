@@ -23,7 +23,7 @@ use Rattle.vb_frames.specs.Out.{is_out}
 use Rattle.vb_ram.specs.Pages.{Pages}
 use Rattle.vb_ram.specs.Part.{Part}
 use Rattle.vb_slot.specs.Spare.{IsSpare}
-use Rattle.vb_slot.specs.Steps.{is_frame}
+use Rattle.vb_slot.proofs.FreshStands.{backs_none}
 use Rattle.vb_world.specs.Hosts.{IsHost, StandsAt, AreSpares, backing_at}
 use Rattle.vb_world.proofs.Guests.{backing-with, count-with}
 use Rattle.vb_world.proofs.Calls.{no_guest}
@@ -62,12 +62,6 @@ host_made Stand P paced slots out devices frames empty room keys none all = reco
 }
 
 -- ---- a plug
-
--- a guest as it is plugged in has no frame
-fresh_backs : (f n : ℕ) → count_by (is_frame f) (replicate n None) ≡ 0
-fresh_backs f zero = refl
-fresh_backs f (suc n) =
-    omega (arith, count_by-cons (is_frame f) None (replicate n None), fresh_backs f n)
 
 module _ {S D : Type 0} (Stand : S → Guest → Type 0) (Spare : D → Bool → Type 0) (slots : Slab S)
     (out : List Bool) (devices : List D) (w : World) where
@@ -158,7 +152,7 @@ module _ {S D : Type 0} (Stand : S → Guest → Type 0) (Spare : D → Bool →
               host.backed f,
               backing-with f n (Some g) w.guests,
               a,
-              fresh_backs f pages,
+              backs_none f pages,
             );
         spares = has.spares;
       } in

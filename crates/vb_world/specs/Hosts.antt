@@ -1,6 +1,6 @@
 -- What ties a host's slots, frames and spare devices to a world of the model.
 use Rattle.std.specs.Prelude.{◌≡◌, ℕ, ◌≤◌, ◌^◌, Bool, List, [], ◌∷◌, Option, Some, None, length}
-use Rattle.std.specs.Prelude.{sum_by, MatchOption, ⊤}
+use Rattle.std.specs.Prelude.{false, sum_by, MatchOption, ⊤}
 use Rattle.std.specs.declared.alloc.Global.{Global}
 use Rattle.std.specs.declared.dyn_box.DynBox.{DynBox}
 use Rattle.slab.specs.Slab.{Slab, get, slab_len}
@@ -57,8 +57,8 @@ abbrev pub spare_as : {X : Type 0} {F : X → Type 0} → (DynBox X Global F →
     (DynBox X Global F → Part) → DynBox X Global F → Bool → Type 0
 spare_as mem part d paced = IsSpare (mem d) (part d) × ((part d).paced ≡ paced)
 
--- The host is one of this world.
+-- The host is one of this world: it gives its frames to guests whose devices keep none.
 abbrev pub IsWorld : {X : Type 0} {F : X → Type 0} → (DynBox X Global F → Pages) →
     (DynBox X Global F → Part) → World X F → Model → Type 0
 IsWorld mem part host w =
-    IsHost (stands_for mem part) (spare_as mem part) host.slots host.table host.spares.items w
+    IsHost (stands_for false mem part) (spare_as mem part) host.slots host.table host.spares.items w

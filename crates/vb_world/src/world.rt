@@ -20,7 +20,7 @@ use vb_frames::FrameTable;
 use vb_model::limits::{MAX_FRAMES, MAX_GUESTS};
 use vb_model::{Call, Event, Query, Refusal, Reply};
 use vb_ram::Config;
-use vb_slot::{GuestSlot, Slot};
+use vb_slot::Slot;
 
 /// A host with its frames, its guests, and the devices that no guest has yet.
 #[derive(Drop)]
@@ -81,7 +81,7 @@ fn guest_number(key: usize) -> u32
 
 impl World {
     /// A host of so many frames, 1 to 65,536, without guests. A plug takes the first of the spare
-    /// devices that are left. Want of memory is the only refusal.
+    /// devices that are left, and the guest has its pace. Want of memory is the only refusal.
     pub fn new(
         alloc: Global,
         frames: u32,

@@ -16,46 +16,48 @@ fn arguments(alloc: Global, words: &[&str]) -> Result<(), ArgumentsFault> {
     read_arguments(alloc, all.as_slice())
 }
 
-/// Words behind the program's name that ask for a run.
-static ACCEPTED: [&[&str]; 2] = [&[], &["run"]];
-
-/// Words that ask for nothing, each alone and behind `run`.
-static REFUSED: [&[&str]; 22] = [
-    &[""],
-    &["run", ""],
-    &["--"],
-    &["run", "--"],
-    &["help"],
-    &["run", "help"],
-    &["--help"],
-    &["run", "--help"],
-    &["-h"],
-    &["run", "-h"],
-    &["-V"],
-    &["run", "-V"],
-    &["--version"],
-    &["run", "--version"],
-    &["threads"],
-    &["run", "threads"],
-    &["ru"],
-    &["run", "ru"],
-    &["RUN"],
-    &["run", "RUN"],
-    &["--bells"],
-    &["run", "--bells"],
+/// Words behind the program's name, and whether they ask for a run. Each that is refused alone is
+/// refused behind `run` too.
+static COMMAND_LINES: [(&[&str], bool); 24] = [
+    (&[], true),
+    (&["run"], true),
+    (&[""], false),
+    (&["run", ""], false),
+    (&["--"], false),
+    (&["run", "--"], false),
+    (&["help"], false),
+    (&["run", "help"], false),
+    (&["--help"], false),
+    (&["run", "--help"], false),
+    (&["-h"], false),
+    (&["run", "-h"], false),
+    (&["-V"], false),
+    (&["run", "-V"], false),
+    (&["--version"], false),
+    (&["run", "--version"], false),
+    (&["threads"], false),
+    (&["run", "threads"], false),
+    (&["ru"], false),
+    (&["run", "ru"], false),
+    (&["RUN"], false),
+    (&["run", "RUN"], false),
+    (&["--bells"], false),
+    (&["run", "--bells"], false),
 ];
 
-#[test]
-fn command_lines(rt: HostRuntime) {
-    for words in &ACCEPTED {
-        assert!(rt; arguments(rt.alloc(), words) == Ok(()));
+/// What a command line is answered that asks for a run, or doesn't.
+fn answer_of(asks: bool) -> Result<(), ArgumentsFault> {
+    if asks {
+        Ok(())
+    } else {
+        Err(ArgumentsFault::Refused)
     }
 }
 
 #[test]
-fn refused_command_lines(rt: HostRuntime) {
-    for words in &REFUSED {
-        assert!(rt; arguments(rt.alloc(), words) == Err(ArgumentsFault::Refused));
+fn command_lines(rt: HostRuntime) {
+    for (words, asks) in &COMMAND_LINES {
+        assert!(rt; arguments(rt.alloc(), words) == answer_of(*asks));
     }
 }
 

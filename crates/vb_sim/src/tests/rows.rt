@@ -1,8 +1,8 @@
 //! Whole scripts on a host with guests, and what they write.
 
-use super::{Example, check_all, run};
+use super::{Example, check_all, repeated, run};
 use crate::run::{BAD_SCRIPT, SUCCESS};
-use std::alloc::{AllocError, Global};
+use std::alloc::AllocError;
 
 /// Scripts that run to their end.
 static SCRIPTS: [Example; 17] = [
@@ -641,20 +641,10 @@ reaped 0 1
 /// So many rounds that the indices of both queues, numbers of 16 bits, begin again.
 const ROUNDS: usize = 65_540;
 
-/// A text with this start, and then all rounds.
-fn all_rounds(alloc: Global, start: &str, round: &str) -> Result<Vec<u8>, AllocError> {
-    let mut text = Vec::new(alloc);
-    text.extend_from_slice(start.as_bytes())?;
-    for _ in 0..ROUNDS {
-        text.extend_from_slice(round.as_bytes())?;
-    }
-    Ok(text)
-}
-
 #[test]
 fn queues_go_on_where_their_indices_begin_again(rt: HostRuntime) -> Result<(), AllocError> {
-    let script = all_rounds(rt.alloc(), START.0, ROUND.0)?;
-    let replies = all_rounds(rt.alloc(), START.1, ROUND.1)?;
+    let script = repeated(rt.alloc(), START.0, ROUND.0, ROUNDS, "")?;
+    let replies = repeated(rt.alloc(), START.1, ROUND.1, ROUNDS, "")?;
     let outcome = run(rt.alloc(), script.as_slice());
     assert!(rt; outcome.shows(replies.as_slice(), b"", SUCCESS));
     Ok(())

@@ -2,7 +2,7 @@
 
 ghost use Rattle.std.specs.Prelude.{◌≡◌, length};
 
-use super::Outcome;
+use super::{Outcome, repeated};
 use crate::play::Play;
 use crate::run::run_script_on;
 use std::alloc::{AllocError, Global};
@@ -39,11 +39,28 @@ impl Play for Starved {
     }
 }
 
-/// A reader of these bytes, a few at a time, which may fail behind them.
+/// What goes wrong with the streams of a run.
+#[derive(Clone, Copy)]
+struct Faults {
+    /// How reading fails behind the script's bytes, if it does.
+    reading: Option<ErrorKind>,
+    /// How many bytes can be written to a stream.
+    room: usize,
+    /// The call that fails among those that write to a stream, counted from 1.
+    call: usize,
+}
+
+/// Nothing goes wrong.
+const NONE: Faults = Faults {
+    reading: None,
+    room: usize::MAX,
+    call: 0,
+};
+
+/// A reader of these bytes, a byte at a time, which may fail behind them.
 #[derive(Drop)]
 struct Slow<'a> {
     rest: &'a [u8],
-    step: usize,
     fails: Option<ErrorKind>,
 }
 
@@ -52,23 +69,25 @@ impl Read for Slow<'_> {
         if let (true, Some(kind)) = (self.rest.is_empty(), self.fails) {
             return Err(io::Error::from(kind));
         }
-        let n = self.step.min(buf.len()).min(self.rest.len());
+        let n = buf.len().min(self.rest.len()).min(1);
         buf[..n].copy_from_slice(&self.rest[..n]);
         self.rest = &self.rest[n..];
         Ok(n)
     }
 }
 
-/// A writer into a list, which fails once it holds so many bytes.
+/// A writer into a list, which fails at one call, and once it holds so many bytes.
 #[derive(Drop)]
-struct Limited<'a> {
+struct Flaky<'a> {
     text: &'a mut Vec<u8>,
-    room: usize,
+    calls: usize,
+    faults: Faults,
 }
 
-impl Write for Limited<'_> {
+impl Write for Flaky<'_> {
     fn write(&mut self, buf: &[u8]) -> io::Result<usize> {
-        if self.text.len() >= self.room {
+        self.calls = self.calls.saturating_add(1);
+        if self.calls == self.faults.call || self.text.len() >= self.faults.room {
             return Err(io::Error::from(ErrorKind::BrokenPipe));
         }
         self.text.extend_from_slice(buf)?;
@@ -80,23 +99,24 @@ impl Write for Limited<'_> {
     }
 }
 
-/// Runs a script that is read a byte at a time.
-fn run(alloc: Global, text: &[u8], fails: Option<ErrorKind>, room: usize) -> Outcome {
+/// Runs a script on a host, over streams with these faults.
+fn run<P: Play>(alloc: Global, host: &mut P, text: &[u8], faults: Faults) -> Outcome {
     let (mut output, mut errors) = (Vec::new(alloc), Vec::new(alloc));
     let input = Slow {
         rest: text,
-        step: 1,
-        fails,
+        fails: faults.reading,
     };
-    let out = Limited {
+    let out = Flaky {
         text: &mut output,
-        room,
+        calls: 0,
+        faults,
     };
-    let err = Limited {
+    let err = Flaky {
         text: &mut errors,
-        room,
+        calls: 0,
+        faults,
     };
-    let status = run_script_on(alloc, &mut Empty, input, out, err);
+    let status = run_script_on(alloc, host, input, out, err);
     Outcome {
         output,
         errors,
@@ -133,7 +153,7 @@ static SCRIPTS: [(&[u8], &[u8], &[u8], u8); 7] = [
 #[test]
 fn each_event_has_a_reply_or_the_first_bad_line_is_named(rt: HostRuntime) {
     for (script, output, errors, status) in &SCRIPTS {
-        let outcome = run(rt.alloc(), script, None, usize::MAX);
+        let outcome = run(rt.alloc(), &mut Empty, script, NONE);
         assert!(rt; outcome.shows(output, errors, *status));
     }
 }
@@ -169,66 +189,21 @@ static BROKEN: [(&[u8], Option<ErrorKind>, usize, &[u8], u8); 6] = [
 
 #[test]
 fn broken_streams_have_their_status(rt: HostRuntime) {
-    for (script, fails, room, errors, status) in &BROKEN {
-        let outcome = run(rt.alloc(), script, *fails, *room);
+    for (script, reading, room, errors, status) in &BROKEN {
+        let faults = Faults {
+            reading: *reading,
+            room: *room,
+            call: 0,
+        };
+        let outcome = run(rt.alloc(), &mut Empty, script, faults);
         assert!(rt; outcome.shows(b"", errors, *status));
     }
 }
 
 #[test]
 fn want_of_memory_is_status_3(rt: HostRuntime) {
-    let (mut output, mut errors) = (Vec::new(rt.alloc()), Vec::new(rt.alloc()));
-    let script = b"host 64\nframes\n".as_slice();
-    let status = run_script_on(rt.alloc(), &mut Starved, script, &mut output, &mut errors);
-    let outcome = Outcome {
-        output,
-        errors,
-        status,
-    };
+    let outcome = run(rt.alloc(), &mut Starved, b"host 64\nframes\n", NONE);
     assert!(rt; outcome.shows(b"", b"run: memory\n", 3));
-}
-
-/// A writer into a list, which fails at one call and at no other.
-#[derive(Drop)]
-struct Flaky<'a> {
-    text: &'a mut Vec<u8>,
-    calls: usize,
-    fails_at: usize,
-}
-
-impl Write for Flaky<'_> {
-    fn write(&mut self, buf: &[u8]) -> io::Result<usize> {
-        self.calls = self.calls.saturating_add(1);
-        if self.calls == self.fails_at {
-            return Err(io::Error::from(ErrorKind::BrokenPipe));
-        }
-        self.text.extend_from_slice(buf)?;
-        Ok(buf.len())
-    }
-
-    fn flush(&mut self) -> io::Result<()> {
-        Ok(())
-    }
-}
-
-/// A script of so many events.
-fn long_script(alloc: Global, events: usize) -> Result<Vec<u8>, AllocError> {
-    let mut script = Vec::from_slice(alloc, b"host 64\n")?;
-    for _ in 0..events {
-        script.extend_from_slice(b"take 0 0\n")?;
-    }
-    Ok(script)
-}
-
-/// The exit status of a script whose output's writer fails at this call and at no other.
-fn flaky_status(alloc: Global, script: &[u8], fails_at: usize) -> u8 {
-    let (mut output, mut errors) = (Vec::new(alloc), Vec::new(alloc));
-    let out = Flaky {
-        text: &mut output,
-        calls: 0,
-        fails_at,
-    };
-    run_script_on(alloc, &mut Empty, script, out, &mut errors)
 }
 
 /// Calls of the writer of 18,000 bytes at which it fails, and the exit statuses.
@@ -236,9 +211,14 @@ static FLAKY: [(usize, u8); 4] = [(1, 4), (2, 4), (3, 4), (100, 0)];
 
 #[test]
 fn a_write_that_fails_once_is_status_4(rt: HostRuntime) -> Result<(), AllocError> {
-    let script = long_script(rt.alloc(), 2000)?;
-    for (fails_at, status) in &FLAKY {
-        assert!(rt; flaky_status(rt.alloc(), script.as_slice(), *fails_at) == *status);
+    let script = repeated(rt.alloc(), "host 64\n", "take 0 0\n", 2000, "")?;
+    for (call, status) in &FLAKY {
+        let faults = Faults {
+            call: *call,
+            ..NONE
+        };
+        let outcome = run(rt.alloc(), &mut Empty, script.as_slice(), faults);
+        assert!(rt; outcome.status == *status);
     }
     Ok(())
 }
@@ -250,7 +230,7 @@ static LENGTHS: [(usize, u8); 2] = [(67_108_864, 0), (67_108_865, 4)];
 fn a_byte_too_many_is_a_fault_of_input(rt: HostRuntime) -> Result<(), AllocError> {
     for (length, status) in &LENGTHS {
         let script = vec![in rt.alloc(); b'\n'; *length]?;
-        let outcome = run(rt.alloc(), script.as_slice(), None, usize::MAX);
+        let outcome = run(rt.alloc(), &mut Empty, script.as_slice(), NONE);
         assert!(rt; outcome.shows(b"", b"", *status));
     }
     Ok(())

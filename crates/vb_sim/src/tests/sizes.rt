@@ -1,8 +1,8 @@
 //! Hosts and guests of other sizes than the rows', and what they write.
 
-use super::{Example, check_all, run};
+use super::{Example, check_all, repeated, run};
 use crate::run::SUCCESS;
-use std::alloc::{AllocError, Global};
+use std::alloc::AllocError;
 
 /// Scripts that run to their end.
 static SIZES: [Example; 3] = [
@@ -172,22 +172,12 @@ read 0 16 0 4096
 read 0 16 0 4097
 ";
 
-/// What is written before a page's bytes, and behind them.
-static AROUND: [&str; 2] = ["guest 0\nready\npage 16\nbytes ", "\nout of ram\n"];
-
-/// The text that a whole page of zeros gives.
-fn whole_page(alloc: Global) -> Result<Vec<u8>, AllocError> {
-    let mut text = Vec::from_slice(alloc, AROUND[0].as_bytes())?;
-    for _ in 0..4096 {
-        text.extend_from_slice(b"00")?;
-    }
-    text.extend_from_slice(AROUND[1].as_bytes())?;
-    Ok(text)
-}
+/// What is written before the bytes of a whole page of zeros, and behind them.
+static AROUND: (&str, &str) = ("guest 0\nready\npage 16\nbytes ", "\nout of ram\n");
 
 #[test]
 fn a_whole_page_is_read(rt: HostRuntime) -> Result<(), AllocError> {
-    let expected = whole_page(rt.alloc())?;
+    let expected = repeated(rt.alloc(), AROUND.0, "00", 4096, AROUND.1)?;
     let outcome = run(rt.alloc(), WHOLE_PAGE.as_bytes());
     assert!(rt; outcome.shows(expected.as_slice(), b"", SUCCESS));
     Ok(())

@@ -1,4 +1,4 @@
-use Rattle.std.proofs.Common.{◌≡◌, ◌≤◌, refl, List, Bool, false, map, length, ap, ◌∙◌, rules, arith}
+use Rattle.std.proofs.Common.{◌≡◌, ◌≤◌, refl, List, Bool, map, length, ap, ◌∙◌, arith}
 use Rattle.std.proofs.lemmas.List.{take_all}
 use Rattle.std.proofs.lemmas.Result.{IfOk-weaker}
 use Rattle.vb_world.proofs.Runs.{as_many}
@@ -8,7 +8,8 @@ use Rattle.vb_sim.proofs.Paces.{one_more}
 use denote.Param.Object.{read_made}
 use Rattle.vb_sim.proofs.host.play_events.OwnLists.{own-1, at-1-1, at-1-2}
 use Rattle.vb_sim.proofs.host.play_events.Goals as goal
-use Rattle.vb_sim.proofs.host.play_events.Goals.{in-Immediate+in_ok-device-in-Immediate+in_ok-add_spare-in-Immediate, in-Paced+in_ok-device-in-Paced+in_ok-add_spare-in-Paced}
+use Rattle.vb_sim.proofs.host.play_events.Goals.{in-Immediate+in_ok-device-in-Immediate+in_ok-add_spare-in-Immediate}
+use Rattle.vb_sim.proofs.host.play_events.Goals.{in-Paced+in_ok-device-in-Paced+in_ok-add_spare-in-Paced}
 
 pub loop-pace-preserved : goal.loop-pace-preserved
 loop-pace-preserved c = elim c.match-pace.branch [

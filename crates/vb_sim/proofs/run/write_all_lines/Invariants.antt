@@ -1,7 +1,7 @@
 use Rattle.std.proofs.Common.{take}
 use Rattle.std.specs.Io.KnownBytes.{Appends}
 use Rattle.std.specs.List.{flat_map}
-use Rattle.vb_script.specs.Replies.{line_of}
+use Rattle.vb_reply.specs.Replies.{line_of}
 use Rattle.vb_sim.proofs.run.write_all_lines.Given as goal
 
 abbrev pub invariant-loop-reply : goal.invariant-loop-reply

@@ -1,66 +1,28 @@
-use Rattle.std.proofs.Common.{◌≡◌, ◌∙◌, ℕ, List, [], Bool, Ok, Err, sym, ap, subst, rules}
-use Rattle.std.specs.Prelude.{◌==◌, length}
+use Rattle.std.proofs.Common.{◌≡◌, Ok, Err, sym, refl, subst, rules}
 use Rattle.vb_device.specs.State.{DeviceState}
-use Rattle.vb_device.specs.Base.{with_pace}
-use Rattle.vb_device.specs.Discards.{flagged}
-use Rattle.vb_device.specs.BaseCalls.{TakesOut, UsesChain}
+use Rattle.vb_device.specs.BaseCalls.{SettlesBy}
 use Rattle.vb_device.specs.Calls.{FinishesBy}
-use Rattle.vb_device.proofs.Marks.{flagged-length}
 use Rattle.vb_device.proofs.Over.{over, finishes_err, finishes_ok}
 use Rattle.vb_device.proofs.balloon.BalloonDeviceDevice.finish.Goals as goal
 
-pub invariant_of-self : goal.invariant_of-self
-invariant_of-self g c = c.self.invariant ∙ sym c.take_out.ensures.count
-
-pub returns-in_err-request : goal.returns-in_err-request
-returns-in_err-request g c =
-    let is : c.from_residual.result ≡ Err c.in_err-request.field-0.0 = search rules in
-    let out : TakesOut c.args.queue c.args.index c.self.inside.base.mem c.take_out.new.self.mem
-    (with_pace g.P.Pace.IS_PACED c.self.inside.base.part)
-    (with_pace g.P.Pace.IS_PACED c.take_out.new.self.part) (Err c.in_err-request.field-0.0) =
-    subst (λ (b : Bool). TakesOut c.args.queue c.args.index c.self.inside.base.mem
-    c.take_out.new.self.mem (with_pace b c.self.inside.base.part)
-    (with_pace b c.take_out.new.self.part) (Err c.in_err-request.field-0.0)) c.IS_PACED.ensures
-    c.in_err-request.ensures.by in
-    subst (λ (v : DeviceState). FinishesBy c.args.queue c.args.index v.mem c.take_out.new.self.mem
-    v.part (over g.P.Pace.IS_PACED c.self.inside.ballooned c.take_out.new.self.part) c.from_residual.result)
-    c.self.view_is
-    (finishes_err c.args.queue c.args.index g.P.Pace.IS_PACED c.self.inside.base.mem c.take_out.new.self.mem
-    c.self.inside.ballooned c.self.inside.base.part c.take_out.new.self.part
-    c.in_err-request.field-0.0 c.from_residual.result is out)
-
-pub invariant_of-self-2 : goal.invariant_of-self-2
-invariant_of-self-2 g c =
-    ap (λ (fs : List Bool). length fs) c.set_all.ensures ∙
-    (flagged-length c.pages.result.now (c.args.queue == 0) c.self.inside.ballooned
-    ∙ (c.self.invariant ∙
-    (sym c.take_out.ensures.count ∙ sym c.use_chain.ensures.memory.puts.rest.count)))
+pub returns-in_err-head : goal.returns-in_err-head
+returns-in_err-head g c =
+    let is : c.from_residual.result ≡ Err c.in_err-head.field-0.0 = search rules in
+    subst (λ (r : _). FinishesBy c.args.queue c.args.index c.args.self.now.mem
+    c.settle.new.self.mem c.args.self.now.part c.settle.new.self.part r) (sym is)
+    (finishes_err c.args.queue c.args.index c.args.self.now.mem c.settle.new.self.mem
+    c.args.self.now.part c.settle.new.self.part c.in_err-head.field-0.0 c.in_err-head.ensures.by)
 
 pub returns : goal.returns
 returns g c =
-    let flags : c.set_all.new.self ≡
-    flagged c.in_ok-request.request.pages (c.args.queue == 0) c.self.inside.ballooned =
-    c.set_all.ensures ∙
-    ap (λ (ps : List ℕ). flagged ps (c.args.queue == 0) c.self.inside.ballooned)
-    c.pages.ensures.pages in
-    let none : c.self.inside.base.part.loose ≡ [] =
-    ap (λ (v : DeviceState). v.part.loose) c.self.view_is ∙ c.requires.none in
-    let out : TakesOut c.args.queue c.args.index c.self.inside.base.mem c.take_out.new.self.mem
-    (with_pace g.P.Pace.IS_PACED c.self.inside.base.part)
-    (with_pace g.P.Pace.IS_PACED c.take_out.new.self.part) (Ok c.in_ok-request.request) =
-    subst (λ (b : Bool). TakesOut c.args.queue c.args.index c.self.inside.base.mem
-    c.take_out.new.self.mem (with_pace b c.self.inside.base.part)
-    (with_pace b c.take_out.new.self.part) (Ok c.in_ok-request.request)) c.IS_PACED.ensures
-    c.in_ok-request.ensures.by in
-    let used : UsesChain c.args.queue c.in_ok-request.request.head c.take_out.new.self.mem
-    c.use_chain.new.self.mem c.take_out.new.self.part c.use_chain.new.self.part =
-    subst (λ (h : ℕ). UsesChain c.args.queue h c.take_out.new.self.mem c.use_chain.new.self.mem
-    c.take_out.new.self.part c.use_chain.new.self.part) c.head.ensures c.use_chain.ensures in
-    subst (λ (v : DeviceState). FinishesBy c.args.queue c.args.index v.mem c.use_chain.new.self.mem
-    v.part (over g.P.Pace.IS_PACED c.set_all.new.self c.use_chain.new.self.part) (Ok c.head-2.result))
-    c.self.view_is
-    (finishes_ok c.args.queue c.args.index g.P.Pace.IS_PACED c.self.inside.base.mem c.take_out.new.self.mem
-    c.use_chain.new.self.mem c.self.inside.ballooned c.set_all.new.self c.self.inside.base.part
-    c.take_out.new.self.part c.use_chain.new.self.part c.in_ok-request.request
-    (Ok c.head-2.result) (ap (λ (h : ℕ). Ok h) c.head-2.ensures) flags
-    c.in_ok-request.ensures.ready.known none out used)
+    let settled : SettlesBy c.args.queue c.args.index c.args.self.now.mem c.self.inside.base.mem
+    c.args.self.now.part
+    (over g.P.Pace.IS_PACED c.self.inside.ballooned c.self.inside.base.part)
+    (Ok c.in_ok-head.head) =
+    subst (λ (v : DeviceState). SettlesBy c.args.queue c.args.index c.args.self.now.mem v.mem
+    c.args.self.now.part v.part (Ok c.in_ok-head.head)) (sym c.self.view_is)
+    c.in_ok-head.ensures.by in
+    finishes_ok c.args.queue c.args.index c.in_ok-head.head c.args.self.now.mem
+    c.self.inside.base.mem c.use_chain.new.self.mem g.P.Pace.IS_PACED c.self.inside.ballooned
+    c.args.self.now.part _ c.self.inside.base.part c.use_chain.new.self.part
+    c.in_ok-head.ensures.ready.known c.requires.none refl settled c.use_chain.ensures

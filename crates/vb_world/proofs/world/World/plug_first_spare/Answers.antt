@@ -1,6 +1,7 @@
 use Rattle.std.proofs.Common.{arith, ◌<◌, length}
 use Rattle.vb_world.proofs.Plugs.{plugged, not_plugged, device_back, spare_of, first_removed}
 use Rattle.vb_world.proofs.Plugs.{spare_like}
+use Rattle.vb_slot.proofs.Standing.{stands_keeping}
 use Rattle.vb_world.proofs.world.World.plug_first_spare.Goals as goal
 
 pub guest_number-requires : goal.guest_number-requires
@@ -9,13 +10,15 @@ guest_number-requires g c =
     let new = c.insert_reserved-key.ensures in
     omega (arith, host.keys, new.key_in_range, new.capacity)
 
-pub new-requires-clause-spare : goal.new-requires-clause-spare
-new-requires-clause-spare g c =
+pub new-requires : goal.new-requires
+new-requires g c =
     let (w, host) = c.requires.world in
     let first = first_removed c.args.self.now.spares.items c.remove-device.result
     c.remove-device.new.self.items (omega (arith, c.requires.some, c.args.self.now.spares.ok))
     c.remove-device.ensures.value c.remove-device.ensures.items in
-    (spare_of _ _ _ _ _ w c.remove-device.result c.remove-device.new.self.items host first).spare.0
+    let spare = (spare_of _ _ _ _ _ w c.remove-device.result c.remove-device.new.self.items host
+    first).spare.0 in
+    record { unused = spare.unused; own = spare.own; config = c.requires.config }
 
 pub returns-in-Ok : goal.returns-in-Ok
 returns-in-Ok g c = λ w host.
@@ -23,11 +26,13 @@ returns-in-Ok g c = λ w host.
     c.remove-device.new.self.items (omega (arith, c.requires.some, c.args.self.now.spares.ok))
     c.remove-device.ensures.value c.remove-device.ensures.items in
     let new = c.insert_reserved-key.ensures in
+    let spare = (spare_of _ _ _ _ _ w c.remove-device.result c.remove-device.new.self.items host
+    first).spare.0 in
     rw c.guest_number.ensures
     (plugged _ _ _ _ _ w c.insert_reserved-key.result c.in-Ok.slot
     c.insert_reserved-key.new.self c.remove-device.result c.remove-device.new.self.items
     c.args.config.pages c.args.config.queue_size c.args.config.processors host first new.key
-    new.was_vacant new.updates new.len new.capacity _ (λ p spare. spare.1) c.in-Ok.ensures.made)
+    new.was_vacant new.updates new.len new.capacity _ (λ p spare. spare.1) (stands_keeping _ _ _ _ _ _ spare.keeps c.in-Ok.ensures.made))
 
 pub returns-in-Err : goal.returns-in-Err
 returns-in-Err g c = λ w host.

@@ -1,11 +1,12 @@
-use Rattle.std.proofs.Common.{sym}
+use Rattle.std.proofs.Common.{sym, false}
 use Rattle.vb_world.proofs.Calls.{guest_of, guest_query, no_guest_query}
 use Rattle.vb_world.proofs.world.World.query.Goals as goal
 
 pub returns-in-Some : goal.returns-in-Some
 returns-in-Some g c =
     λ w host. guest_query _ _ _ _ _ w c.args.guest c.in-Some.slot.now _ _ host
-    (sym c.in-Some.ensures) c.query.ensures.answer
+    (sym c.in-Some.ensures)
+    (λ guest stands. c.query.ensures.answer false guest stands)
 
 pub returns-in-None : goal.returns-in-None
 returns-in-None g c =
@@ -15,4 +16,4 @@ pub query-requires-clause-stands : goal.query-requires-clause-stands
 query-requires-clause-stands g c =
     let (w, host) = c.requires.world in
     let has = guest_of _ _ _ _ _ w c.args.guest c.in-Some.slot.now host (sym c.in-Some.ensures) in
-    (has.guest, has.stands)
+    (false, has.guest, has.stands)

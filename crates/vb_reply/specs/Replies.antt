@@ -75,8 +75,12 @@ freed_text false = codes "bare"
 abbrev pub bytes_text : List ℕ → List ℕ
 bytes_text bytes = codes "bytes " ++ encode_lower bytes
 
+-- a target behind a space
+abbrev pub target_text : ℕ → List ℕ
+target_text target = codes " " ++ decimal target
+
 abbrev pub targets_text : List ℕ → List ℕ
-targets_text targets = codes "targets" ++ flat_map (λ target. codes " " ++ decimal target) targets
+targets_text targets = codes "targets" ++ flat_map target_text targets
 
 abbrev pub runs_text : List PageRun → List ℕ
 runs_text runs = codes "pages" ++ flat_map run_text runs

@@ -1,7 +1,7 @@
 use Rattle.std.proofs.Common.{take}
 use Rattle.std.specs.Io.KnownBytes.{Appends}
-use Rattle.vb_script.specs.Replies.{targets_text}
-use Rattle.vb_script.proofs.replies.write_targets.Given as goal
+use Rattle.vb_reply.specs.Replies.{targets_text}
+use Rattle.vb_reply.proofs.replies.write_targets.Given as goal
 
 abbrev pub invariant-loop-target : goal.invariant-loop-target
 invariant-loop-target g l =

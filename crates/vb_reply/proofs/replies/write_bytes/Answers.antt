@@ -1,6 +1,6 @@
 use Rattle.hex.specs.Hex.{encode_with}
-use Rattle.vb_script.proofs.Written.{both_written, byte_more}
-use Rattle.vb_script.proofs.replies.write_bytes.Goals as goal
+use Rattle.vb_reply.proofs.Written.{both_written, byte_more}
+use Rattle.vb_reply.proofs.replies.write_bytes.Goals as goal
 
 pub loop-byte-init : goal.loop-byte-init
 unfolding encode_with

@@ -4,7 +4,7 @@ use Rattle.std.proofs.Common.{slice_index, Option, Some, None, refl, ap, append_
 use Rattle.std.proofs.lemmas.List.{take_more}
 use Rattle.std.specs.Io.KnownBytes.{Appends}
 use Rattle.hex.specs.Hex.{encode_lower, encode_with, lower_digits}
-use Rattle.vb_script.specs.Replies.{bytes_text}
+use Rattle.vb_reply.specs.Replies.{bytes_text}
 
 -- two pieces, one after the other
 pub both_written : (old mid new : Option (List ℕ)) (first second whole : List ℕ)

@@ -3,9 +3,9 @@
 ghost use Rattle.std.specs.Prelude.{◌≡◌, ◌++◌, ◌∷◌, ◌/◌, ◌%◌, [], codes, slice_index, OnOk};
 ghost use Rattle.std.specs.Io.KnownBytes.{Appends};
 ghost use Rattle.hex.specs.Hex.{lower_digits};
-ghost use Rattle.vb_script.specs.Replies.{bytes_text, counts_text, freed_text, line_of};
-ghost use Rattle.vb_script.specs.Replies.{refusal_text, reply_text, run_text, runs_text};
-ghost use Rattle.vb_script.specs.Replies.{statistic_text, targets_text};
+ghost use Rattle.vb_reply.specs.Replies.{bytes_text, counts_text, freed_text, line_of};
+ghost use Rattle.vb_reply.specs.Replies.{refusal_text, reply_text, run_text, runs_text};
+ghost use Rattle.vb_reply.specs.Replies.{statistic_text, target_text, targets_text};
 
 use std::io;
 use std::io::Write;
@@ -101,9 +101,17 @@ fn write_targets<W: Write>(out: &mut W, targets: &[u32]) -> io::Result<()>
 {
     out.write_all(b"targets")?;
     for target in targets {
-        write!(out, " {target}")?;
+        write_target(out, *target)?;
     }
     Ok(())
+}
+
+/// Writes a target behind a space.
+fn write_target<W: Write>(out: &mut W, target: u32) -> io::Result<()>
+    ensures { OnOk result
+        (Appends (W.contents out.old) (W.contents out.new) (target_text target)) }
+{
+    write!(out, " {target}")
 }
 
 /// Writes how many pages each place has.
