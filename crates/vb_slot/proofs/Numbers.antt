@@ -16,7 +16,8 @@ last k n xs =
 -- a number that stands in no place isn't in the list
 pub absent : (n : ℕ) (xs : List ℕ) → times n xs ≡ 0 → has xs n ≡ false
 absent n [] e = refl
-absent n (x ∷ xs) e = step (x == n) (omega (arith, e, times_first n x xs)) (λ none. absent n xs none)
+absent n (x ∷ xs) e =
+    step (x == n) (omega (arith, e, times_first n x xs)) (λ none. absent n xs none)
   where
     step : (b : Bool) → one_if b + times n xs ≡ 0 → (times n xs ≡ 0 → has xs n ≡ false)
         → (b || has xs n) ≡ false
