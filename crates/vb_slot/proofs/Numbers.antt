@@ -1,23 +1,23 @@
 -- Numbers that stand in one of two lists.
 use Rattle.std.specs.Prelude.{◌≡◌, ◌≢◌, ℕ, ◌+◌, ◌≤◌, ◌==◌, ◌||◌, not, Bool, true, false, cond, List}
-use Rattle.std.specs.Prelude.{[], ◌∷◌, ◌++◌, length, nat_lt, filter, refl}
+use Rattle.std.specs.Prelude.{[], ◌∷◌, ◌++◌, length, nat_lt, refl}
 use Rattle.std.proofs.Common.{sym, ◌∙◌, ap, arith, inl, inr}
 use Rattle.std.proofs.lemmas.Bool.{cases_eq, cases_lt, eq-eqb, ne_eqb, lt-ltb, le-ltb}
 use Rattle.std.proofs.lemmas.List.Folds.{list_any-append}
-use Rattle.vb_model.specs.Tests.{times, one_if, is_in}
-use Rattle.vb_model.proofs.Tables.{count_by-append, count_by-cons, count_by-one}
+use Rattle.vb_model.specs.Tests.{times, one_if}
+use Rattle.vb_model.proofs.Tables.{count_by-append}
 use Rattle.vb_device.specs.Own.{has, without, SameSet}
-
-first : (k n : ℕ) (xs : List ℕ) → times k (n ∷ xs) ≡ one_if (n == k) + times k xs
-first k n xs = count_by-cons (λ m. m == k) n xs
+use Rattle.vb_guest.proofs.Moving.{times_first, times_one}
 
 pub last : (k n : ℕ) (xs : List ℕ) → times k (xs ++ n ∷ []) ≡ times k xs + one_if (n == k)
-last k n xs = omega (arith, count_by-append (λ (m : ℕ). m == k) xs (n ∷ []), count_by-one (λ (m : ℕ). m == k) n)
+last k n xs =
+    omega (arith, count_by-append (λ (m : ℕ). m == k) xs (n ∷ []), times_one k n)
 
 -- a number that stands in no place isn't in the list
 pub absent : (n : ℕ) (xs : List ℕ) → times n xs ≡ 0 → has xs n ≡ false
 absent n [] e = refl
-absent n (x ∷ xs) e = step (x == n) (omega (arith, e, first n x xs)) (λ none. absent n xs none)
+absent n (x ∷ xs) e =
+    step (x == n) (omega (arith, e, times_first n x xs)) (λ none. absent n xs none)
   where
     step : (b : Bool) → one_if b + times n xs ≡ 0 → (times n xs ≡ 0 → has xs n ≡ false)
         → (b || has xs n) ≡ false
@@ -28,7 +28,7 @@ pub present : (n : ℕ) (xs : List ℕ) → has xs n ≡ true → 1 ≤ times n 
 present n [] e = absurd cc
 present n (x ∷ xs) e =
     let h : 1 ≤ one_if (x == n) + times n xs = step (x == n) e (λ some. present n xs some) in
-    omega (arith, h, first n x xs)
+    omega (arith, h, times_first n x xs)
   where
     step : (b : Bool) → (b || has xs n) ≡ true → (has xs n ≡ true → 1 ≤ times n xs)
         → 1 ≤ one_if b + times n xs
@@ -61,7 +61,7 @@ without_it n (x ∷ xs) = step (x == n) refl (without_it n xs)
     step : (b : Bool) → (x == n) ≡ b → times n (without xs n) ≡ 0
         → times n (cond (not b) (x ∷ without xs n) (without xs n)) ≡ 0
     step true e ih = ih
-    step false e ih = omega (arith, ih, first n x (without xs n), ap one_if e)
+    step false e ih = omega (arith, ih, times_first n x (without xs n), ap one_if e)
 
 pub without_others : (k n : ℕ) (xs : List ℕ) → n ≢ k → times k (without xs n) ≡ times k xs
 without_others k n [] ne = refl
@@ -71,13 +71,13 @@ without_others k n (x ∷ xs) ne = elim (cases_eq x n) [
       ∙ omega (
         arith,
         without_others k n xs ne,
-        first k x xs,
+        times_first k x xs,
         ap one_if (ne_eqb x k (λ s. ne (sym e ∙ s))),
       )
   | inr other ↦
       ap (λ (b : Bool). times k (cond (not b) (x ∷ without xs n) (without xs n)))
       (ne_eqb x n other)
-      ∙ omega (arith, without_others k n xs ne, first k x xs, first k x (without xs n))
+      ∙ omega (arith, without_others k n xs ne, times_first k x xs, times_first k x (without xs n))
 ]
 
 pub without_length : (n : ℕ) (xs : List ℕ) → length (without xs n) + times n xs ≡ length xs
@@ -87,8 +87,8 @@ without_length n (x ∷ xs) = step (x == n) refl (without_length n xs)
     step : (b : Bool) → (x == n) ≡ b → length (without xs n) + times n xs ≡ length xs
         → length (cond (not b) (x ∷ without xs n) (without xs n)) + times n (x ∷ xs)
         ≡ length (x ∷ xs)
-    step true e ih = omega (arith, ih, first n x xs, ap one_if e)
-    step false e ih = omega (arith, ih, first n x xs, ap one_if e)
+    step true e ih = omega (arith, ih, times_first n x xs, ap one_if e)
+    step false e ih = omega (arith, ih, times_first n x xs, ap one_if e)
 
 -- one that stands in one place goes behind the numbers of the other list
 pub goes_over : (k n : ℕ) (xs ys : List ℕ) → times n xs ≡ 1

@@ -1,5 +1,5 @@
 -- A device that keeps frames of its own, round one that keeps none.
-use Rattle.std.specs.Prelude.{◌≡◌, ℕ, ◌==◌, Bool, true, false, List, []}
+use Rattle.std.specs.Prelude.{◌≡◌, ℕ, ◌==◌, Bool, true, false, List}
 use Rattle.std.specs.Prelude.{Option, Some, None, Result, Ok, Err, if◌then◌else◌, refl}
 use Rattle.std.proofs.Common.{◌∙◌, ap}
 use Rattle.vb_model.specs.declared.replies.Refusal.{Refusal}

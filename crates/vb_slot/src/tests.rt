@@ -11,6 +11,7 @@ use keeping::KeepingDevice;
 use std::alloc::{AllocError, Global};
 use std::process::Abort;
 use std::test::Fail;
+use vb_device::Worked;
 use vb_driver::{Posted, Reaped};
 use vb_frames::{FrameKeeper, Refused};
 use vb_model::{Bytes, Claim, Refusal};
@@ -50,10 +51,16 @@ enum Line {
     Backing { page: u32 },
     SetTarget { pages: u32 },
     Inflate { pages: u32 },
+    Deflate { pages: u32 },
+    Oom { pages: u32 },
     Take,
+    Work,
     Finish,
     Reap,
     Sweep { page: u32 },
+    Reset,
+    Balloon,
+    Places,
 }
 
 /// A letter for the kind of an answer, and its numbers.
@@ -80,7 +87,7 @@ const TWELVE: [Claim; 13] = [
 ];
 
 /// A device of sixteen frames.
-static SIXTEEN_FRAMES: [Row; 24] = [
+static SIXTEEN_FRAMES: [Row; 34] = [
     (
         Line::Init,
         ('y', 0, 0),
@@ -131,6 +138,16 @@ static SIXTEEN_FRAMES: [Row; 24] = [
     ),
     (Line::Sweep { page: 16 }, ('w', 0, 0), &[]),
     (Line::Sweep { page: 20 }, ('n', 2, 0), &[]),
+    (Line::Balloon, ('l', 4, 4), &[]),
+    (Line::Work, ('i', 0, 0), &[]),
+    (Line::SetTarget { pages: 0 }, ('d', 0, 0), &[]),
+    (Line::Deflate { pages: 1 }, ('o', 0, 1), &[]),
+    (Line::Oom { pages: 1 }, ('o', 1, 1), &[]),
+    (Line::Places, ('c', 40, 4), &[]),
+    (Line::Reset, ('d', 0, 0), &[]),
+    (Line::Balloon, ('l', 0, 0), &[]),
+    (Line::Backing { page: 0 }, ('k', 0, 0), &[]),
+    (Line::Init, ('y', 0, 0), &[]),
 ];
 
 /// A device of twelve frames, of which none is out after a start that is refused.
@@ -140,10 +157,12 @@ static TWELVE_FRAMES: [Row; 2] = [
 ];
 
 fn refused(refusal: Refusal) -> Answer {
-    match refusal {
-        Refusal::NoFrame => ('n', 1, 0),
-        Refusal::NotBallooned => ('n', 2, 0),
-        _ => ('n', 0, 0),
+    if refusal == Refusal::NoFrame {
+        ('n', 1, 0)
+    } else if refusal == Refusal::NotBallooned {
+        ('n', 2, 0)
+    } else {
+        ('n', 0, 0)
     }
 }
 
@@ -195,6 +214,14 @@ fn taken(answer: Result<Option<u16>, Refusal>) -> Answer {
     }
 }
 
+fn worked(answer: Result<Option<Worked>, Refusal>) -> Answer {
+    match answer {
+        Ok(Some(worked)) => ('v', worked.page, u32::from(worked.freed)),
+        Ok(None) => ('i', 0, 0),
+        Err(refusal) => refused(refusal),
+    }
+}
+
 /// Two bytes for a page, which are written to its beginning.
 fn write(alloc: Global, slot: &mut Slot, page: u32) -> Result<Answer, AllocError>
     requires { (g : Guest) × stands_for true mem part slot.old g }
@@ -204,7 +231,23 @@ fn write(alloc: Global, slot: &mut Slot, page: u32) -> Result<Answer, AllocError
     Ok(done('d', slot.write(&mut NoFrames, page, 0, &bytes)))
 }
 
-/// What the guest's processor and its driver do, and a question of the host.
+/// What the host asks.
+fn answer_of_question(slot: &Slot, line: &Line) -> Answer {
+    match line {
+        Line::Backing { page } => ('k', slot.backing(*page).unwrap_or(99), 0),
+        Line::Balloon => {
+            let state = slot.balloon();
+            ('l', state.ballooned, state.actual)
+        }
+        Line::Places => {
+            let counts = slot.places();
+            ('c', counts.free, counts.used)
+        }
+        _ => ('?', 0, 0),
+    }
+}
+
+/// What the guest's processor and its driver do, and else what the host asks.
 fn answer_of_driver(alloc: Global, slot: &mut Slot, line: &Line) -> Result<Answer, AllocError>
     requires { (g : Guest) × stands_for true mem part slot.old g }
     ensures { (g : Guest) × stands_for true mem part slot.new g }
@@ -216,13 +259,14 @@ fn answer_of_driver(alloc: Global, slot: &mut Slot, line: &Line) -> Result<Answe
         Line::Write { page } => write(alloc, slot, *page)?,
         Line::Read { page } => bytes(slot.read(alloc, *page, 0, 4)),
         Line::Inflate { pages } => posted(slot.inflate(*pages)),
+        Line::Deflate { pages } => posted(slot.deflate(*pages)),
+        Line::Oom { pages } => posted(slot.oom(*pages)),
         Line::Reap => reaped(slot.reap(0)),
-        Line::Backing { page } => ('k', slot.backing(*page).unwrap_or(99), 0),
-        _ => ('?', 0, 0),
+        _ => answer_of_question(slot, line),
     })
 }
 
-/// What the host does, and else what the guest does.
+/// What the host does and what else the device does, and else what the guest does.
 fn answer_of(alloc: Global, slot: &mut Slot, line: &Line) -> Result<Answer, AllocError>
     requires { (g : Guest) × stands_for true mem part slot.old g }
     ensures { (g : Guest) × stands_for true mem part slot.new g }
@@ -232,7 +276,12 @@ fn answer_of(alloc: Global, slot: &mut Slot, line: &Line) -> Result<Answer, Allo
             slot.set_target(*pages);
             ('d', 0, 0)
         }
+        Line::Reset => {
+            slot.reset();
+            ('d', 0, 0)
+        }
         Line::Take => taken(slot.take(0)),
+        Line::Work => worked(slot.work(&mut NoFrames)),
         Line::Finish => number('f', slot.finish(&mut NoFrames, 0, 0).map(u32::from)),
         Line::Sweep { page } => number('w', slot.sweep(&mut NoFrames, *page).map(u32::from)),
         _ => answer_of_driver(alloc, slot, line)?,

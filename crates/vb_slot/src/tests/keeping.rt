@@ -2,7 +2,7 @@
 
 ghost use Rattle.std.specs.Prelude.{◌≡◌, ◌≤◌, ◌<◌, ◌+◌, ◌++◌, ◌∷◌, ℕ, [], true, false, not, filter};
 ghost use Rattle.std.specs.Prelude.{length, vec_len, vec_capacity, nat_lt, IfOk, ◌==◌};
-ghost use Rattle.vb_model.specs.Tests.{times, one_if, is_in};
+ghost use Rattle.vb_model.specs.Tests.{times, one_if};
 ghost use Rattle.vb_ram.specs.Part.{Part};
 ghost use Rattle.vb_device.specs.Calls.{IsUnused, Claims, PutsBack};
 

@@ -5,9 +5,17 @@ pub returns-in-SetTarget : goal.returns-in-SetTarget
 returns-in-SetTarget g c =
     let s = c.set_target.ensures.step true c.requires.0 c.requires.1 in (s.new, s.stands)
 
+pub returns-in-Reset : goal.returns-in-Reset
+returns-in-Reset g c =
+    let s = c.reset.ensures.step true c.requires.0 c.requires.1 in (s.new, s.stands)
+
 pub returns-in-Take : goal.returns-in-Take
 returns-in-Take g c =
     let s = c.take.ensures.step true c.requires.0 c.requires.1 in (s.new, s.stands)
+
+pub returns-in-Work : goal.returns-in-Work
+returns-in-Work g c =
+    let s = c.work.ensures.step true c.requires.0 c.requires.1 in (s.new, s.stands)
 
 pub returns-in-Finish : goal.returns-in-Finish
 returns-in-Finish g c =

@@ -21,6 +21,14 @@ pub returns-in-Inflate : goal.returns-in-Inflate
 returns-in-Inflate g c =
     let s = c.inflate.ensures.step true c.requires.0 c.requires.1 in (s.new, s.stands)
 
+pub returns-in-Deflate : goal.returns-in-Deflate
+returns-in-Deflate g c =
+    let s = c.deflate.ensures.step true c.requires.0 c.requires.1 in (s.new, s.stands)
+
+pub returns-in-Oom : goal.returns-in-Oom
+returns-in-Oom g c =
+    let s = c.oom.ensures.step true c.requires.0 c.requires.1 in (s.new, s.stands)
+
 pub returns-in-Reap : goal.returns-in-Reap
 returns-in-Reap g c =
     let s = c.reap.ensures.step true c.requires.0 c.requires.1 in (s.new, s.stands)

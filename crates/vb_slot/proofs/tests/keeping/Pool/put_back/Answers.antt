@@ -1,4 +1,4 @@
-use Rattle.std.proofs.Common.{◌≡◌, ◌∙◌, ◌∷◌, ◌≤◌, ℕ, List, [], length, true, sym, ap, arith, refl}
+use Rattle.std.proofs.Common.{◌≡◌, ◌∙◌, ◌∷◌, ℕ, List, [], length, true, sym, ap, arith}
 use Rattle.std.proofs.lemmas.List.{length-append}
 use Rattle.vb_model.specs.Tests.{times}
 use Rattle.vb_device.specs.Own.{has}
