@@ -232,7 +232,7 @@ times_in_range page first count = cases (nat_le first page && nat_lt page (first
         ]
 
 -- how often a page stands in the pages of blocks
-times_in_blocks : (page : ℕ) (bs : List Block)
+pub times_in_blocks : (page : ℕ) (bs : List Block)
     → times page (pages_of_all bs) ≡ count_by (covers page) bs
 times_in_blocks page [] = refl
 times_in_blocks page (b ∷ bs) =
@@ -387,7 +387,7 @@ flat-one test f first (suc count) each one =
               | inr z ↦ omega arith
             ]
 
-pub one_block : (test : ℕ → Bool) (page : ℕ) (s t j k : ℕ) → j ≤ max_order → k ≤ max_order
+one_block : (test : ℕ → Bool) (page : ℕ) (s t j k : ℕ) → j ≤ max_order → k ≤ max_order
     → holds test page (record { start = s; order = j }) ≡ true
     → holds test page (record { start = t; order = k }) ≡ true → (s ≡ t) × (j ≡ k)
 one_block test page s t j k lj lk hj hk =

@@ -86,7 +86,7 @@ pub distinct_where : {A : Type 0} (test : A → Bool) (xs : List A) (n page : �
 distinct_where test xs n page =
     omega (arith, times-take page n (pages_where test xs), times_rising test xs 0 page)
 
-distinct_list : (xs : List ℕ) (page : ℕ) → AllDistinct xs → times page xs ≤ 1
+pub distinct_list : (xs : List ℕ) (page : ℕ) → AllDistinct xs → times page xs ≤ 1
 distinct_list [] page h = omega arith
 distinct_list (x ∷ xs) page h = step (x == page) refl (distinct_list xs page h.1)
   where
@@ -101,7 +101,7 @@ distinct_list (x ∷ xs) page h = step (x == page) refl (distinct_list xs page h
     step false e ih = let one : one_if (x == page) ≡ 0 = ap one_if e in
         omega (arith, times-cons page x xs, ih)
 
-times-some : (page : ℕ) (xs : List ℕ) → is_in page xs ≡ true → 0 < times page xs
+pub times-some : (page : ℕ) (xs : List ℕ) → is_in page xs ≡ true → 0 < times page xs
 times-some page [] h = absurd cc
 times-some page (x ∷ xs) h = step (x == page) refl h (times-some page xs)
   where

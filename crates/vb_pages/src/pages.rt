@@ -20,7 +20,7 @@ use crate::{FreeBlock, PageFault};
 use arrayvec::ArrayVec;
 use std::alloc::{AllocError, Global};
 use std::marker::Model;
-use vb_model::limits::{MAX_ORDER, MAX_REQUEST_PAGES};
+use vb_model::limits::{MAX_GUEST_PAGES, MAX_ORDER, MAX_REQUEST_PAGES};
 
 /// The pages of a guest: free ones in the buddy areas and in a list for each processor, and held
 /// blocks.
@@ -179,6 +179,7 @@ impl Pages {
     pub fn drain(&mut self)
         ensures drained { self.new ≡ record self.old { free = drained self.old.free } }
         ensures same { (page : ℕ) → is_free_page self.new page ≡ is_free_page self.old page }
+        ensures small { page_count self.old ≤ MAX_GUEST_PAGES }
     {
         self.free.drain();
     }

@@ -1,0 +1,9 @@
+//! Page reporting (profile): which free blocks a guest's driver offers to its host, what it says of
+//! them in guest memory, and how they come back.
+#![tactic(auto)]
+
+mod blocks;
+mod pieces;
+
+pub use blocks::{Blocks, MAX_BLOCKS, choose, give_all};
+pub use pieces::{Pieces, encode};
