@@ -5,14 +5,14 @@ use Rattle.std.specs.Prelude.{◌||◌, count_by, All}
 use Rattle.std.specs.List.{list_any}
 use Rattle.std.proofs.lemmas.List.Elements.{All-head, All-tail}
 use Rattle.std.proofs.lemmas.List.Folds.{list_any-append}
-use Rattle.std.proofs.lemmas.Bool.{or_cases}
+use Rattle.std.proofs.lemmas.Bool.{or_cases, false_from_ne_true}
 use Rattle.vb_model.specs.Tests.{is_in, one_if, times}
 use Rattle.vb_model.specs.Pages.{Block, covers, pages_of, pages_of_all}
 use Rattle.vb_model.specs.Driver.{AllDistinct}
 use Rattle.vb_model.proofs.Tables.{count_by-cons}
 use Rattle.vb_model.proofs.PageSteps.{covers_is}
 use Rattle.vb_model.proofs.Blocks.{times_in_blocks}
-use Rattle.vb_model.proofs.Distinct.{distinct_list, distinct_once}
+use Rattle.vb_model.proofs.Distinct.{distinct_list, distinct_once, times-some}
 use Rattle.vb_pages.specs.declared.block.FreeBlock.{FreeBlock}
 use Rattle.vb_report.specs.Blocks.{block_of, blocks_of, is_covered}
 
@@ -67,18 +67,16 @@ distinct_rest b bs h =
       count_by-cons (covers p) b bs,
     ))
 
-count_some : (p : ℕ) (b : Block) (bs : List Block) → covers p b ≡ true → 0 < count_by (covers p) (b ∷ bs)
-count_some p b bs h =
-    let one : one_if (covers p b) ≡ 1 = ap one_if h in
-    omega (arith, count_by-cons (covers p) b bs)
-
 pub distinct_apart : (p : ℕ) (b : Block) (bs : List Block) → AllDistinct (pages_of_all (b ∷ bs))
-    → covers p b ≡ true → 0 < count_by (covers p) bs → ⊥
-distinct_apart p b bs h c o =
+    → covers p b ≡ true → list_any (covers p) bs ≡ false
+distinct_apart p b bs h c =
+    false_from_ne_true (list_any (covers p) bs) (λ t.
     let one : one_if (covers p b) ≡ 1 = ap one_if c in
     omega (
       arith,
+      times-some p (pages_of_all bs) (in_blocks p bs ∙ t),
       distinct_list (pages_of_all (b ∷ bs)) p h,
       times_in_blocks p (b ∷ bs),
+      times_in_blocks p bs,
       count_by-cons (covers p) b bs,
-    )
+    ))

@@ -9,7 +9,7 @@ use Rattle.std.proofs.lemmas.Bool.{cases_lt, cases_eq}
 pub filter_twice : {A : Type 0} (keep test : A → Bool) (xs : List A)
     → filter keep (filter test xs) ≡ filter (λ x. test x && keep x) xs
 filter_twice keep test [] = refl
-filter_twice keep test (x ∷ xs) = step (test x) (filter_twice keep test xs)
+filter_twice {A = A} keep test (x ∷ xs) = step (test x) (filter_twice keep test xs)
   where
     step : (v : Bool)
         → filter keep (filter test xs) ≡ filter (λ y. test y && keep y) xs
@@ -34,7 +34,7 @@ pub filter_same : {A : Type 0} (test other : A → Bool) (f : ℕ → A) (a n : 
     → ((k : ℕ) → a ≤ k → k < a + n → test (f k) ≡ other (f k))
     → filter test (map f (range_with_len a n)) ≡ filter other (map f (range_with_len a n))
 filter_same test other f a zero h = refl
-filter_same test other f a (suc n) h =
+filter_same {A = A} test other f a (suc n) h =
     ap (λ (v : Bool). cond v (f a ∷ filter test (map f (range_with_len (a + 1) n)))
     (filter test (map f (range_with_len (a + 1) n)))) (h a (omega arith) (omega arith))
     ∙ ap (λ (ys : List A). cond (other (f a)) (f a ∷ ys) ys)

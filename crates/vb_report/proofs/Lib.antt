@@ -1,3 +1,5 @@
 pub mod Covering
+pub mod Giving
 pub mod Maximal
 pub mod Filtering
+pub mod Choosing
