@@ -28,7 +28,7 @@ use Rattle.vb_report.proofs.Filtering.{flat_none, flat_split}
 -- ---- the first block from a page on, and the others
 
 -- of order 4 or more, from a page on
-abbrev is_later : ℕ → Block → Bool
+abbrev pub is_later : ℕ → Block → Bool
 is_later from b = nat_le 4 b.order && nat_le from b.start
 
 module _ (test : ℕ → Bool) (set : List Bool) (same : (p : ℕ) → test p ≡ has set p) where
@@ -36,10 +36,10 @@ module _ (test : ℕ → Bool) (set : List Bool) (same : (p : ℕ) → test p �
   may_name : ℕ → Block → Bool
   may_name from b = is_maximal test b && is_later from b
 
-  record MayName (from : ℕ) (b : Block) : Type 0 where
-    maximal : IsMaximal set b
-    large : 4 ≤ b.order
-    after : from ≤ b.start
+  pub record MayName (from : ℕ) (b : Block) : Type 0 where
+    pub maximal : IsMaximal set b
+    pub large : 4 ≤ b.order
+    pub after : from ≤ b.start
 
   named_is : (from : ℕ) (b : Block) → b.order ≤ 9 → may_name from b ≡ true → MayName from b
   unfolding may_name
@@ -64,7 +64,7 @@ module _ (test : ℕ → Bool) (set : List Bool) (same : (p : ℕ) → test p �
   unfolding may_name
   listed from n = filter_twice (is_later from) (is_maximal test) (blocks_below n)
 
-  none_named : (from n : ℕ) → ((b : Block) → MayName from b → ⊥)
+  pub none_named : (from n : ℕ) → ((b : Block) → MayName from b → ⊥)
       → filter (is_later from) (maximal_blocks n test) ≡ []
   none_named from n never =
       listed from n ∙ flat_none (may_name from) blocks_at 0 n
@@ -142,7 +142,7 @@ module _ (test : ℕ → Bool) (set : List Bool) (same : (p : ℕ) → test p �
         is_named from (block_at r j)
         (record { maximal = x.maximal; large = x.large; after = omega arith })))
 
-    first_named : s < n → filter (is_later from) (maximal_blocks n test)
+    pub first_named : s < n → filter (is_later from) (maximal_blocks n test)
         ≡ block_at s k ∷ filter (is_later (s + 2 ^ k)) (maximal_blocks n test)
     unfolding end
     first_named l =

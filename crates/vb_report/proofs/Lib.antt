@@ -3,3 +3,4 @@ pub mod Giving
 pub mod Maximal
 pub mod Filtering
 pub mod Choosing
+pub mod Taking

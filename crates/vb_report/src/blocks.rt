@@ -3,6 +3,7 @@
 ghost use Rattle.std.specs.Prelude.{◌≡◌, ℕ, ◌<◌, ◌≤◌, ◌&&◌, ◌||◌, not, Bool, [], length, map};
 ghost use Rattle.std.specs.Prelude.{IsTrue, All};
 ghost use Rattle.vb_model.specs.Limits.{max_outstanding, reserved_pages};
+ghost use Rattle.vb_model.specs.declared.limits.TheConstants.{MAX_GUEST_PAGES};
 ghost use Rattle.vb_model.specs.Tests.{is_in};
 ghost use Rattle.vb_model.specs.Pages.{pages_of_all, reported, maximal_blocks};
 ghost use Rattle.vb_model.specs.Driver.{AllDistinct};
@@ -26,6 +27,7 @@ pub type Blocks = ArrayVec<FreeBlock, MAX_BLOCKS>;
 fn take_blocks(pages: &mut Pages, from: u32, room: u32) -> Blocks
     requires room { room ≤ max_outstanding }
     requires drained { drained pages.old.free ≡ pages.old.free }
+    requires small { page_count pages.old ≤ MAX_GUEST_PAGES }
     ensures chosen { (test : ℕ → Bool) → ((page : ℕ) → test page ≡ is_free_page pages.old page) →
         blocks_of result.items ≡ reported room from (maximal_blocks (page_count pages.old) test) }
     ensures taken { pages.new ≡ without_blocks result.items pages.old }
