@@ -1,17 +1,22 @@
 -- What is left of the areas while a report takes its blocks.
 use Rattle.std.proofs.Common.{◌≡◌, ℕ, zero, suc, ◌+◌, ◌-◌, ◌^◌, ◌<◌, ◌≤◌, Bool, true, false, List, []}
 use Rattle.std.proofs.Common.{◌∷◌, ◌++◌, length, map, take, inl, inr, Option, Some, None, refl, sym}
-use Rattle.std.proofs.Common.{◌∙◌, ap, subst, arith, append_assoc, length-append}
+use Rattle.std.proofs.Common.{◌∙◌, ap, subst, arith, append_assoc, length-append, min}
 use Rattle.std.specs.Prelude.{not, ◌&&◌, ◌||◌, filter, All}
 use Rattle.std.proofs.Common.{append-nil}
 use Rattle.std.specs.List.{list_any}
-use Rattle.std.proofs.lemmas.List.{map-append}
+use Rattle.std.proofs.lemmas.List.{map-append, length-map, length-take}
 use Rattle.std.proofs.lemmas.List.Elements.{All-nil, All-push, All-weaker}
 use Rattle.std.proofs.lemmas.Bool.{cases_lt, cases_Bool, both_ways, or_cases, or_left, or_right}
 use Rattle.std.proofs.lemmas.Bool.{or_parts, or_from, and_parts, false_from_ne_true}
 use Rattle.std.proofs.lemmas.Nat.{pow_pos}
 use Rattle.vb_model.specs.Tests.{is_in}
 use Rattle.vb_model.specs.Pages.{Block, size, covers, pages_of, pages_of_all, maximal_blocks, reported}
+use Rattle.vb_model.specs.Tests.{times}
+use Rattle.vb_model.specs.Driver.{AllDistinct}
+use Rattle.vb_model.proofs.Blocks.{reported_distinct}
+use Rattle.vb_model.proofs.CallSteps.{reported_pass}
+use Rattle.vb_model.proofs.Distinct.{distinct_once}
 use Rattle.vb_model.proofs.PageSteps.{covers_is}
 use Rattle.vb_pages.specs.declared.block.FreeBlock.{FreeBlock}
 use Rattle.vb_pages.specs.Areas.{has, with_pages, without_pages, block_at, IsBlock, LiesIn}
@@ -20,11 +25,12 @@ use Rattle.vb_pages.specs.FreePages.{FreePages, in_lists, drained, is_free_in}
 use Rattle.vb_pages.specs.PageState.{PageState, page_count, is_free_page, is_held_page, HasRoomIn}
 use Rattle.vb_pages.specs.PageState.{Isolates}
 use Rattle.vb_pages.proofs.Sets.{is_inside, without_parts, without_old, same_sets, block_bounds}
-use Rattle.vb_pages.proofs.Sets.{length-without_pages, length-with_pages}
+use Rattle.vb_pages.proofs.Sets.{length-without_pages, length-with_pages, has-without_pages}
 use Rattle.vb_pages.proofs.ListsLemmas.{with_none}
 use Rattle.vb_pages.proofs.FreeLemmas.{flat-empty, nothing}
 use Rattle.vb_pages.proofs.PagesLemmas.{covers_bounds, bounds_cover}
 use Rattle.vb_report.specs.Blocks.{block_of, blocks_of, is_covered, without_blocks}
+use Rattle.vb_report.specs.Blocks.{blocks_to_report}
 use Rattle.vb_report.proofs.Covering.{in_covered, covered_more, covering}
 use Rattle.vb_report.proofs.Maximal.{nested, aligned_is}
 use Rattle.vb_report.proofs.Choosing.{is_later, MayName, none_named, first_named}
@@ -358,3 +364,115 @@ taking_full old now from room page count bs t l test same =
     sym (append-nil (blocks_of bs))
     ∙ (ap (λ (k : ℕ). blocks_of bs ++ take k (filter (is_later page) all)) (sym none)
     ∙ t.rest test same)
+
+-- ---- what a report may rely on
+
+pub taking_pages : (old now : PageState) (from room page count : ℕ) (bs : List FreeBlock)
+    → IsTaking old now from room page count bs → page_count now ≡ page_count old
+taking_pages old now from room page count bs t =
+    ap page_count t.state
+    ∙ (length-without_pages (pages_of_all (blocks_of bs)) (areas_of old)
+    ∙ length-with_pages (in_lists old.free) old.free.areas)
+
+-- once the lists are drained, what is free is in the areas
+pub free_is_drained : (s : PageState) (p : ℕ) → drained s.free ≡ s.free
+    → is_free_page s p ≡ has (areas_of s) p
+free_is_drained s p d =
+    ap (λ (f : FreePages). is_free_in f p) (sym d) ∙ free_is_area (areas_of s) s.free.lists p
+
+pub free_without_blocks : (s : PageState) (bs : List FreeBlock) (p : ℕ)
+    → is_free_page (without_blocks bs s) p ≡ (has (areas_of s) p && not (is_covered p bs))
+free_without_blocks s bs p =
+    free_is_area (without_pages (pages_of_all (blocks_of bs)) (areas_of s)) s.free.lists p
+    ∙ (has-without_pages (pages_of_all (blocks_of bs)) (areas_of s) p
+    ∙ ap (λ (v : Bool). has (areas_of s) p && not v) (in_covered p bs))
+
+-- each page of blocks that have room is unreserved, and there
+pub pages_inside : (s : PageState) (bs : List FreeBlock) (p : ℕ)
+    → All (λ b. HasRoomIn s (block_of b)) bs → is_in p (pages_of_all (blocks_of bs)) ≡ true
+    → (16 ≤ p) × (p < page_count s)
+pages_inside s bs p all h =
+    let x = covering (λ b. HasRoomIn s (block_of b)) p bs all (sym (in_covered p bs) ∙ h) in
+    let q = covers_bounds p x.0.start x.0.order x.2 in
+    let low : 16 ≤ x.0.start = x.1.1 in
+    let high : x.0.start + size (block_of x.0) ≤ page_count s = x.1.2 in
+    let first : x.0.start ≤ p = q.0 in
+    let last : p < x.0.start + 2 ^ x.0.order = q.1 in
+    (omega arith, omega arith)
+
+pub drained_state : (s mid : PageState) → mid ≡ record s { free = drained s.free }
+    → drained mid.free ≡ mid.free
+drained_state s mid e =
+    subst (λ (m : PageState). drained m.free ≡ m.free) (sym e) (drained_twice s.free)
+
+pub drained_pages : (s mid : PageState) → mid ≡ record s { free = drained s.free }
+    → page_count mid ≡ page_count s
+drained_pages s mid e = ap page_count e ∙ length-with_pages (in_lists s.free) s.free.areas
+
+-- what a report's blocks are, and what is left
+pub record Chooses (old new : PageState) (from room : ℕ) (bs : List FreeBlock) : Type 0 where
+  pub chosen : blocks_of bs ≡ blocks_to_report old from room
+  pub count : length bs ≤ room
+  pub taken : new ≡ without_blocks bs old
+  pub left : (p : ℕ) → is_free_page new p ≡ (is_free_page old p && not (is_covered p bs))
+  pub distinct : AllDistinct (pages_of_all (blocks_of bs))
+  pub pages : (p : ℕ) → is_in p (pages_of_all (blocks_of bs)) ≡ true
+      → (is_free_page old p ≡ true) × (16 ≤ p) × (p < page_count old)
+
+pub chooses : (old mid new : PageState) (from room : ℕ) (bs : List FreeBlock)
+    → mid ≡ record old { free = drained old.free }
+    → ((p : ℕ) → is_free_page mid p ≡ is_free_page old p)
+    → ((test : ℕ → Bool) → ((p : ℕ) → test p ≡ is_free_page mid p)
+    → blocks_of bs ≡ reported room from (maximal_blocks (page_count mid) test))
+    → new ≡ without_blocks bs mid → All (λ b. HasRoomIn new (block_of b)) bs
+    → Chooses old new from room bs
+chooses old mid new from room bs drains same reports takes fits = record {
+  chosen = chosen;
+  count =
+      let all : List Block =
+      filter (is_later from) (maximal_blocks (page_count old) (is_free_page old)) in
+      let n : length (blocks_of bs) ≡ min room (length all) =
+      ap length chosen ∙ length-take room all in
+      omega (arith, length-map bs block_of, n);
+  taken = taken;
+  left = λ p. ap (λ (s : PageState). is_free_page s p) taken
+      ∙ (free_without_blocks old bs p
+      ∙ ap (λ (v : Bool). v && not (is_covered p bs)) (sym (free p) ∙ same p));
+  distinct = distinct_once (pages_of_all (blocks_of bs)) (λ p.
+      let e : times p (pages_of_all (blocks_of bs))
+      ≡ times p (pages_of_all (blocks_to_report old from room)) =
+      ap (λ (xs : List Block). times p (pages_of_all xs)) chosen in
+      omega (
+        arith,
+        e,
+        reported_distinct (is_free_page old) (is_later from) (page_count old) room p,
+      ));
+  pages = λ p h.
+      let inside = pages_inside new bs p fits h in
+      let few : page_count new ≡ page_count old =
+      ap page_count taken
+      ∙ (length-without_pages (pages_of_all (blocks_of bs)) (areas_of old)
+      ∙ length-with_pages (in_lists old.free) old.free.areas) in (
+        reported_pass (is_free_page old) (page_count old) room from p
+            (ap (λ (xs : List Block). is_in p (pages_of_all xs)) (sym chosen) ∙ h),
+        inside.0,
+        omega (arith, few, inside.1),
+      );
+}
+  where
+    chosen : blocks_of bs ≡ blocks_to_report old from room
+    chosen = reports (is_free_page old) (λ p. sym (same p))
+        ∙ ap (λ (n : ℕ). reported room from (maximal_blocks n (is_free_page old)))
+        (drained_pages old mid drains)
+
+    taken : new ≡ without_blocks bs old
+    taken = takes
+        ∙ (ap (without_blocks bs) drains
+        ∙ ap (λ (f : FreePages). with_free old
+        (with_lists (without_pages (pages_of_all (blocks_of bs)) f.areas) f.lists))
+        (drained_twice old.free))
+
+    free : (p : ℕ) → is_free_page mid p ≡ has (areas_of old) p
+    free p =
+        ap (λ (s : PageState). is_free_page s p) drains
+        ∙ free_is_area (areas_of old) old.free.lists p

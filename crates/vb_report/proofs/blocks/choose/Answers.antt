@@ -1,0 +1,33 @@
+use Rattle.std.proofs.Common.{◌≡◌, ℕ, ap, arith}
+use Rattle.vb_pages.specs.PageState.{PageState}
+use Rattle.vb_report.proofs.Taking.{chooses, drained_state, drained_pages}
+use Rattle.vb_report.proofs.blocks.choose.Goals as goal
+
+pub take_blocks-requires-clause-drained : goal.take_blocks-requires-clause-drained
+take_blocks-requires-clause-drained c =
+    drained_state c.args.pages.now c.drain.new.self c.drain.ensures.drained
+
+pub take_blocks-requires-clause-small : goal.take_blocks-requires-clause-small
+take_blocks-requires-clause-small c =
+    omega (
+      arith,
+      drained_pages c.args.pages.now c.drain.new.self c.drain.ensures.drained,
+      c.drain.ensures.small,
+    )
+
+pub returns : goal.returns
+returns c =
+    let f = chooses c.args.pages.now c.drain.new.self c.take_blocks.new.pages c.args.from c.args.room
+    c.take_blocks.result.items c.drain.ensures.drained c.drain.ensures.same
+    c.take_blocks.ensures.chosen c.take_blocks.ensures.taken c.take_blocks.ensures.room in
+    record {
+      chosen = f.chosen;
+      count = f.count;
+      taken = f.taken;
+      left = f.left;
+      held = ap (λ (s : PageState). s.held) f.taken;
+      lists = ap (λ (s : PageState). s.free.lists) f.taken;
+      distinct = f.distinct;
+      pages = f.pages;
+      room = record { each = c.take_blocks.ensures.room; apart = f.distinct };
+    }
