@@ -33,18 +33,18 @@ room_after s b x room apart = (
   (let inside : x.start + size x ≤ page_count s = room.2 in
       omega (arith, length-with_pages (pages_of b) s.free.areas)),
   λ p l u. (
-      or_from (has (with_pages (pages_of b) s.free.areas) p) (is_in p (in_lists s.free))
-          (false_from_ne_true (has (with_pages (pages_of b) s.free.areas) p) (λ h.
-          elim (with_cases (pages_of b) s.free.areas p h) [
-            | inl old ↦ both_ways (has s.free.areas p)
-                (or_parts (has s.free.areas p) (is_in p (in_lists s.free)) (room.3 p l u).0).0 old
-            | inr new ↦
-                let q = block_bounds b.start b.order p new in
-                both_ways (covers p x) (apart p (bounds_cover p b.start b.order q.0 q.1))
-                (bounds_cover p x.start x.order l u)
-          ])) (or_parts (has s.free.areas p) (is_in p (in_lists s.free)) (room.3 p l u).0).1,
-      (room.3 p l u).1,
-    ),
+    or_from (has (with_pages (pages_of b) s.free.areas) p) (is_in p (in_lists s.free))
+        (false_from_ne_true (has (with_pages (pages_of b) s.free.areas) p) (λ h.
+        elim (with_cases (pages_of b) s.free.areas p h) [
+          | inl old ↦ both_ways (has s.free.areas p)
+              (or_parts (has s.free.areas p) (is_in p (in_lists s.free)) (room.3 p l u).0).0 old
+          | inr new ↦
+              let q = block_bounds b.start b.order p new in
+              both_ways (covers p x) (apart p (bounds_cover p b.start b.order q.0 q.1))
+              (bounds_cover p x.start x.order l u)
+        ])) (or_parts (has s.free.areas p) (is_in p (in_lists s.free)) (room.3 p l u).0).1,
+    (room.3 p l u).1,
+  ),
 )
 
 all_after : (s : PageState) (b : Block) (bs : List FreeBlock) → All (λ x. HasRoomIn s (block_of x)) bs

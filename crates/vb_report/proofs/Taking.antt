@@ -207,10 +207,10 @@ room_less s now b room pages held less = (
   room.1,
   (let inside : b.start + size b ≤ page_count s = room.2 in omega (arith, pages)),
   λ p l u. (
-      false_from_ne_true (is_free_page now p)
-          (λ h. both_ways (is_free_page s p) (room.3 p l u).0 (less p h)),
-      ap (λ (hs : List Block). list_any (covers p) hs) held ∙ (room.3 p l u).1,
-    ),
+    false_from_ne_true (is_free_page now p)
+        (λ h. both_ways (is_free_page s p) (room.3 p l u).0 (less p h)),
+    ap (λ (hs : List Block). list_any (covers p) hs) held ∙ (room.3 p l u).1,
+  ),
 )
 
 -- ---- the loop

@@ -48,9 +48,9 @@ pub record HaveRoom (s : PageState) (blocks : List FreeBlock) : Type 0 where
   pub each : All (λ b. HasRoomIn s (block_of b)) blocks
   pub apart : AllDistinct (pages_of_all (blocks_of blocks))
 
--- its bytes have 32-bit lengths
-abbrev pub IsInReach : FreeBlock → Type 0
-IsInReach b = b.order ≤ max_order
+-- its order is one that blocks have
+abbrev pub HasOrder : FreeBlock → Type 0
+HasOrder b = b.order ≤ max_order
 
 -- the bytes of a block, for the device to write
 abbrev pub piece_of : FreeBlock → Piece

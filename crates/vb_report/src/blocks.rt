@@ -10,7 +10,7 @@ ghost use Rattle.vb_model.specs.Driver.{AllDistinct};
 ghost use Rattle.vb_pages.specs.FreePages.{drained};
 ghost use Rattle.vb_pages.specs.PageState.{page_count, is_free_page, HasRoomIn};
 ghost use Rattle.vb_report.specs.Blocks.{block_of, blocks_of, is_covered, blocks_to_report};
-ghost use Rattle.vb_report.specs.Blocks.{without_blocks, with_blocks, HaveRoom};
+ghost use Rattle.vb_report.specs.Blocks.{without_blocks, with_blocks, HasOrder, HaveRoom};
 
 use arrayvec::ArrayVec;
 use vb_model::limits;
@@ -70,7 +70,8 @@ pub fn choose(pages: &mut Pages, from: u32, room: u32) -> Blocks
         IsTrue (is_free_page pages.old page) × (reserved_pages ≤ page) ×
         (page < page_count pages.old) }
 
-    // They may be given back.
+    // They may be encoded, and be given back.
+    ensures orders { All HasOrder result.items }
     ensures room { HaveRoom pages.new result.items }
 {
     // A report of no block drains the lists as well.

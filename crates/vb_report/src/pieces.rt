@@ -2,7 +2,7 @@
 
 ghost use Rattle.std.specs.Prelude.{◌≡◌, ◌≤◌, map, length, All};
 ghost use Rattle.vb_model.specs.Limits.{max_outstanding};
-ghost use Rattle.vb_report.specs.Blocks.{piece_of, block_of, IsInReach};
+ghost use Rattle.vb_report.specs.Blocks.{piece_of, HasOrder};
 
 use crate::MAX_BLOCKS;
 use arrayvec::ArrayVec;
@@ -15,7 +15,7 @@ pub type Pieces = ArrayVec<Piece, MAX_BLOCKS>;
 
 /// The piece that offers a block to the device: its bytes in guest memory, for the device to write.
 fn piece_of(block: &FreeBlock) -> Piece
-    requires { IsInReach block.now }
+    requires { HasOrder block.now }
     ensures { result ≡ piece_of block.now }
 {
     Piece {
@@ -29,7 +29,7 @@ fn piece_of(block: &FreeBlock) -> Piece
 /// the device to write.
 pub fn encode(blocks: &[FreeBlock]) -> Pieces
     requires count { length blocks.now ≤ max_outstanding }
-    requires reach { All IsInReach blocks.now }
+    requires orders { All HasOrder blocks.now }
     ensures { result.items ≡ map piece_of blocks.now }
 {
     let mut pieces = Pieces::new();

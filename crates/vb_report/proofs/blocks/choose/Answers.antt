@@ -1,5 +1,7 @@
 use Rattle.std.proofs.Common.{◌≡◌, ℕ, ap, arith}
-use Rattle.vb_pages.specs.PageState.{PageState}
+use Rattle.std.proofs.lemmas.List.Elements.{All-weaker}
+use Rattle.vb_pages.specs.PageState.{PageState, HasRoomIn}
+use Rattle.vb_report.specs.Blocks.{block_of, HasOrder}
 use Rattle.vb_report.proofs.Taking.{chooses, drained_state, drained_pages}
 use Rattle.vb_report.proofs.blocks.choose.Goals as goal
 
@@ -29,5 +31,7 @@ returns c =
       lists = ap (λ (s : PageState). s.free.lists) f.taken;
       distinct = f.distinct;
       pages = f.pages;
+      orders = All-weaker (λ b. HasRoomIn c.take_blocks.new.pages (block_of b)) HasOrder
+          (λ b room. room.0.0) c.take_blocks.result.items c.take_blocks.ensures.room;
       room = record { each = c.take_blocks.ensures.room; apart = f.distinct };
     }

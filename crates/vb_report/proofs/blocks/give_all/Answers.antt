@@ -6,7 +6,6 @@ use Rattle.vb_report.proofs.Giving.{split_at, giving_first, giving_next, giving_
 use Rattle.vb_report.proofs.Giving.{free_with_blocks}
 use Rattle.vb_report.proofs.blocks.give_all.Goals as goal
 
-
 abbrev no_block : FreeBlock
 no_block = record { start = 0; order = 0 }
 
