@@ -1,27 +1,18 @@
 -- Which blocks a report takes, one after the other.
-use Rattle.std.proofs.Common.{◌≡◌, ℕ, suc, ◌+◌, ◌-◌, ◌%◌, ◌^◌, ◌<◌, ◌≤◌, Bool, true, false, List, []}
-use Rattle.std.proofs.Common.{◌∷◌, ◌++◌, length, map, take, inl, inr, Option, Some, None, refl, sym}
-use Rattle.std.proofs.Common.{◌∙◌, ap, subst, arith}
-use Rattle.std.specs.Prelude.{not, ◌&&◌, ◌||◌, nat_le, filter, All}
+use Rattle.std.proofs.Common.{◌≡◌, ℕ, ◌+◌, ◌^◌, ◌<◌, ◌≤◌, Bool, true, List, []}
+use Rattle.std.proofs.Common.{◌∷◌, inl, inr, sym}
+use Rattle.std.proofs.Common.{◌∙◌, ap, arith}
+use Rattle.std.specs.Prelude.{◌&&◌, nat_le, filter}
 use Rattle.std.specs.List.{range_with_len, flat_map}
-use Rattle.std.proofs.lemmas.Bool.{cases_lt, cases_Bool, and_parts, and_from, le-leb, leb-true}
-use Rattle.std.proofs.lemmas.Bool.{both_ways, false_from_ne_true, or_parts, or_cases}
+use Rattle.std.proofs.lemmas.Bool.{cases_lt, and_parts, and_from, le-leb, leb-true}
+use Rattle.std.proofs.lemmas.Bool.{false_from_ne_true}
 use Rattle.std.proofs.lemmas.Nat.{pow_pos}
-use Rattle.vb_model.specs.Tests.{is_in}
-use Rattle.vb_model.specs.Pages.{Block, size, covers, pages_of, pages_of_all, is_maximal, blocks_at}
-use Rattle.vb_model.specs.Pages.{blocks_below, maximal_blocks, reported}
-use Rattle.vb_pages.specs.declared.block.FreeBlock.{FreeBlock}
-use Rattle.vb_pages.specs.Areas.{has, with_pages, without_pages, block_at, IsBlock, LiesIn}
-use Rattle.vb_pages.specs.Areas.{LiesWithin, IsMaximal, IsLowestFrom}
-use Rattle.vb_pages.specs.FreePages.{FreePages, in_lists, drained, is_free_in}
-use Rattle.vb_pages.specs.PageState.{PageState, page_count, is_free_page, is_held_page, HasRoomIn}
-use Rattle.vb_pages.specs.PageState.{Isolates}
-use Rattle.vb_pages.proofs.Sets.{same_bool, is_inside, without_parts, without_old, same_sets}
-use Rattle.vb_pages.proofs.Sets.{length-without_pages}
-use Rattle.vb_pages.proofs.PagesLemmas.{covers_bounds, bounds_cover}
-use Rattle.vb_report.specs.Blocks.{block_of, blocks_of, is_covered, without_blocks}
-use Rattle.vb_report.proofs.Covering.{in_covered, covered_more, covering}
-use Rattle.vb_report.proofs.Maximal.{nested, aligned_is, overlap_same, maximal_is, is_maximal_by}
+use Rattle.vb_model.specs.Pages.{Block, is_maximal, blocks_at}
+use Rattle.vb_model.specs.Pages.{blocks_below, maximal_blocks}
+use Rattle.vb_pages.specs.Areas.{has, block_at}
+use Rattle.vb_pages.specs.Areas.{IsMaximal, IsLowestFrom}
+use Rattle.vb_pages.proofs.Sets.{same_bool}
+use Rattle.vb_report.proofs.Maximal.{overlap_same, maximal_is, is_maximal_by}
 use Rattle.vb_report.proofs.Filtering.{filter_twice, filter_none, filter_same, filter_one}
 use Rattle.vb_report.proofs.Filtering.{flat_none, flat_split}
 

@@ -4,7 +4,7 @@ use Rattle.std.proofs.Common.{◌∷◌, ◌++◌, map, inl, inr, refl, sym, ◌
 use Rattle.std.specs.Prelude.{◌&&◌, filter}
 use Rattle.std.specs.List.{range_with_len, flat_map}
 use Rattle.std.proofs.lemmas.List.Elements.{filter-append}
-use Rattle.std.proofs.lemmas.Bool.{cases_lt, cases_eq}
+use Rattle.std.proofs.lemmas.Bool.{cases_eq}
 
 pub filter_twice : {A : Type 0} (keep test : A → Bool) (xs : List A)
     → filter keep (filter test xs) ≡ filter (λ x. test x && keep x) xs

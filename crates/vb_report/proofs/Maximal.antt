@@ -1,10 +1,10 @@
 -- Maximal blocks of a set, and the test that finds them.
-use Rattle.std.proofs.Common.{◌≡◌, ℕ, zero, suc, ◌+◌, ◌-◌, ◌%◌, ◌^◌, ◌<◌, ◌≤◌, Bool, true, false}
+use Rattle.std.proofs.Common.{◌≡◌, ℕ, zero, suc, ◌+◌, ◌-◌, ◌%◌, ◌^◌, ◌<◌, ◌≤◌, Bool, true}
 use Rattle.std.proofs.Common.{List, inl, inr, refl, sym, ◌∙◌, ap, arith}
-use Rattle.std.specs.Prelude.{not, ◌==◌}
+use Rattle.std.specs.Prelude.{not}
 use Rattle.std.specs.List.{list_all, list_any, range_with_len}
 use Rattle.std.proofs.lemmas.Bool.{cases_lt, and_parts, and_from, eqb-true, not-true}
-use Rattle.std.proofs.lemmas.Bool.{not_from_false, false_from_ne_true, both_ways, eq-eqb}
+use Rattle.std.proofs.lemmas.Bool.{not_from_false, false_from_ne_true, both_ways}
 use Rattle.std.proofs.lemmas.Nat.{pow_pos}
 use Rattle.vb_model.specs.Pages.{Block, size, pages_of, is_aligned, around, is_whole, is_maximal}
 use Rattle.vb_model.proofs.Tables.{list_all-at}

@@ -1,5 +1,5 @@
 -- What page reporting does (profile).
-use Rattle.std.specs.Prelude.{◌≡◌, ℕ, ◌+◌, ◌*◌, ◌^◌, ◌≤◌, Bool, true, List, length, map, All}
+use Rattle.std.specs.Prelude.{ℕ, ◌*◌, ◌≤◌, Bool, true, List, map, All}
 use Rattle.std.specs.List.{list_any}
 use Rattle.vb_model.specs.Limits.{page_size, max_order}
 use Rattle.vb_model.specs.Pages.{Block, block_at, size, covers, pages_of_all, reported}

@@ -1,4 +1,4 @@
-use Rattle.std.proofs.Common.{◌≡◌, ℕ, ap, arith}
+use Rattle.std.proofs.Common.{ap, arith}
 use Rattle.std.proofs.lemmas.List.Elements.{All-weaker}
 use Rattle.vb_pages.specs.PageState.{PageState, HasRoomIn}
 use Rattle.vb_report.specs.Blocks.{block_of, HasOrder}

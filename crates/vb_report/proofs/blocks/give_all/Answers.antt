@@ -1,4 +1,4 @@
-use Rattle.std.proofs.Common.{◌≡◌, ◌||◌, ◌+◌, [], drop, get_or, ap, ◌∙◌, refl, arith}
+use Rattle.std.proofs.Common.{◌+◌, drop, get_or, ap, ◌∙◌, refl, arith}
 use Rattle.std.proofs.lemmas.List.{drop_all}
 use Rattle.vb_pages.specs.declared.block.FreeBlock.{FreeBlock}
 use Rattle.vb_pages.specs.PageState.{PageState, is_free_page}

@@ -1,4 +1,4 @@
-use Rattle.std.proofs.Common.{◌≡◌, ℕ, ◌+◌, ◌*◌, ◌%◌, ◌^◌, ◌<◌, ◌≤◌, List, sym, ◌∙◌, ap, subst, arith, []}
+use Rattle.std.proofs.Common.{◌≡◌, ℕ, ◌+◌, ◌*◌, ◌%◌, ◌^◌, ◌≤◌, List, sym, ◌∙◌, subst, arith, []}
 use Rattle.std.proofs.Common.{◌++◌, ◌∷◌}
 use Rattle.vb_pages.specs.declared.block.FreeBlock.{FreeBlock}
 use Rattle.vb_pages.specs.PageState.{page_count}

@@ -1,4 +1,4 @@
-use Rattle.std.proofs.Common.{◌≡◌, ℕ, List, sym, ◌∙◌, ap}
+use Rattle.std.proofs.Common.{ℕ, List, sym, ◌∙◌, ap}
 use Rattle.vb_model.specs.Pages.{Block, is_free, place_of, maximal_blocks, reported}
 use Rattle.vb_model.proofs.Blocks.{maximal_agree}
 use Rattle.vb_pages.specs.PageState.{page_count, is_free_page}
