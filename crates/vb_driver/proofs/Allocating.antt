@@ -13,7 +13,7 @@ use Rattle.std.proofs.lemmas.List.Folds.{list_any_at, list_any_none}
 use Rattle.std.proofs.lemmas.List.FromFn.{get_or-range_with_len, length-range_with_len}
 use Rattle.vb_model.specs.Tests.{is_in, one_if}
 use Rattle.vb_model.specs.Pages.{covers, pages_of, is_aligned}
-use Rattle.vb_model.specs.Driver.{AllDistinct, with_block, without_block}
+use Rattle.vb_model.specs.Driver.{with_block, without_block}
 use Rattle.vb_model.specs.Refusals.{first_refusal, ◌⇒◌}
 use Rattle.vb_model.specs.declared.replies.Refusal.{Refusal}
 use Rattle.vb_model.specs.declared.replies.Refusal.TheVariants.{BadOrder, BadCpu, NoPages}
@@ -381,15 +381,6 @@ taken_free s new pages apart left =
     at : (b : Bool) → 1 ≤ one_if b → b ≡ true
     at true h = refl
     at false h = absurd (omega arith)
-
-pub distinct_once : (pages : List ℕ) → ((p : ℕ) → times p pages ≤ 1) → AllDistinct pages
-distinct_once [] once = tt
-distinct_once (x ∷ xs) once = (
-  not_from_false (is_in x xs) (false_from_ne_true (is_in x xs) (λ h.
-      let one : one_if (eqb x x) ≡ 1 = ap one_if (eq-eqb x x refl) in
-      omega (arith, once x, count_by-cons (λ q. eqb q x) x xs, times_in x xs h))),
-  distinct_once xs (λ p. omega (arith, once p, count_by-cons (λ q. eqb q p) x xs)),
-)
 
 pub taken_once : (new old : Bool) (n : ℕ) → one_if new + n ≡ one_if old → n ≤ 1
 taken_once new true n h = omega arith

@@ -1,7 +1,7 @@
 -- The pages of a new request.
-use Rattle.std.specs.Prelude.{◌≡◌, ℕ, zero, suc, ◌<◌, ◌≤◌, ◌==◌, ◌||◌, Bool, true, false, not}
-use Rattle.std.specs.Prelude.{nat_lt, List, [], ◌∷◌, ◌++◌, All, length, IsTrue, slice_index_or}
-use Rattle.std.specs.Prelude.{refl, ◌⊎◌}
+use Rattle.std.specs.Prelude.{◌≡◌, ℕ, zero, suc, ◌<◌, ◌≤◌, ◌==◌, ◌||◌, Bool, true, false}
+use Rattle.std.specs.Prelude.{nat_lt, List, [], ◌∷◌, ◌++◌, All, length, slice_index_or}
+use Rattle.std.specs.Prelude.{refl}
 use Rattle.std.specs.List.{list_any}
 use Rattle.std.proofs.Common.{sym, ◌∙◌, ap, arith, inl, inr, eq-eqb}
 use Rattle.std.proofs.lemmas.Bool.{cases_lt}
@@ -10,14 +10,14 @@ use Rattle.std.proofs.lemmas.List.{get_or_past}
 use Rattle.vb_model.specs.declared.places.Place.{Place}
 use Rattle.vb_model.specs.declared.places.Place.TheVariants.{Reserved, Free, Used, Giving, Lent}
 use Rattle.vb_model.specs.declared.places.Place.TheVariants.{Taking, Stranded, Reporting}
-use Rattle.vb_model.specs.Tests.{one_if, is_in}
+use Rattle.vb_model.specs.Tests.{is_in}
 use Rattle.vb_model.specs.Pages.{place_of, is_lent}
 use Rattle.vb_model.specs.Guest.{Guest}
 use Rattle.vb_model.specs.Requests.{Request}
-use Rattle.vb_model.specs.Driver.{AllDistinct, AllFreePages, stranded_first, lowest_lent}
+use Rattle.vb_model.specs.Driver.{AllFreePages, stranded_first, lowest_lent}
 use Rattle.vb_model.proofs.PageSteps.{can_be_given}
 use Rattle.vb_model.proofs.CallSteps.{inflated_pages, lent_pages}
-use Rattle.vb_model.proofs.Tables.{count_by-cons}
+use Rattle.vb_model.proofs.Distinct.{distinct_once}
 use Rattle.vb_model.specs.Orderly.{IsOrderly, is_reserved, times, IsRequestSound, AllRequestsSound}
 use Rattle.vb_guest.specs.Line.{AreRequested}
 
@@ -78,42 +78,7 @@ lent_high Taking e = absurd cc
 lent_high Stranded e = absurd cc
 lent_high Reporting e = absurd cc
 
--- ---- distinct pages
-
-either : (b : Bool) → (b ≡ true) ⊎ (b ≡ false)
-either true = inl refl
-either false = inr refl
-
-in_times : (p : ℕ) (ps : List ℕ) → is_in p ps ≡ true → 1 ≤ times p ps
-in_times p [] e = absurd cc
-in_times p (x ∷ xs) e = elim (either (x == p)) [
-  | inl same ↦ omega (arith, count_by-cons (λ (q : ℕ). q == p) x xs, ap one_if same)
-  | inr other ↦ omega (
-    arith,
-    count_by-cons (λ (q : ℕ). q == p) x xs,
-    in_times p xs (ap (λ (b : Bool). b || is_in p xs) (sym other) ∙ e),
-  )
-]
-
-is_not : (b : Bool) → b ≡ false → IsTrue (not b)
-is_not true e = absurd cc
-is_not false e = refl
-
-pub all_distinct : (ps : List ℕ) → ((p : ℕ) → times p ps ≤ 1) → AllDistinct ps
-all_distinct [] once = tt
-all_distinct (p ∷ ps) once = (
-  is_not (is_in p ps) (elim (either (is_in p ps)) [
-    | inr out ↦ out
-    | inl too ↦ absurd (omega (
-      arith,
-      once p,
-      count_by-cons (λ (q : ℕ). q == p) p ps,
-      ap one_if (eq-eqb p p refl),
-      in_times p ps too,
-    ))
-  ]),
-  all_distinct ps (λ q. omega (arith, once q, count_by-cons (λ (x : ℕ). x == q) p ps)),
-)
+-- ---- the pages of a request
 
 pub last_sound : (rs : List Request) (r : Request) → AllRequestsSound (rs ++ r ∷ [])
     → IsRequestSound r
@@ -133,7 +98,7 @@ inflate_requested g n others orderly free once some few =
       few = few;
       above = high.0;
       below = high.1;
-      distinct = all_distinct (stranded_first g n ++ others) once;
+      distinct = distinct_once (stranded_first g n ++ others) once;
     }
 
 pub deflate_requested : (g : Guest) (n : ℕ) → IsOrderly g
@@ -147,5 +112,5 @@ deflate_requested g n orderly once some few =
       few = few;
       above = high.0;
       below = high.1;
-      distinct = all_distinct (lowest_lent n g) once;
+      distinct = distinct_once (lowest_lent n g) once;
     }

@@ -1,21 +1,21 @@
--- Maximal free blocks share no page.
+-- Maximal blocks share no page.
 use Rattle.std.proofs.Common.{◌≡◌, ℕ, zero, suc, ◌+◌, ◌-◌, ◌*◌, ◌/◌, ◌^◌, ◌<◌, ◌≤◌, Bool, true}
-use Rattle.std.proofs.Common.{false, cond, List, [], ◌∷◌, length, take, refl, sym, ap, subst, ◌∙◌}
+use Rattle.std.proofs.Common.{false, cond, List, [], ◌∷◌, take, refl, sym, ap, subst, ◌∙◌}
 use Rattle.std.proofs.Common.{inl, inr, arith, ◌⊎◌, ◌≢◌}
 use Rattle.std.specs.Prelude.{◌==◌, ◌&&◌, ◌%◌, not, count_by, nat_lt, nat_le, filter, map}
 use Rattle.std.specs.List.{list_all, list_any, range_with_len, flat_map}
+use Rattle.std.proofs.lemmas.List.Elements.{filter_agree}
 use Rattle.std.proofs.lemmas.Nat.{pow_pos, mod-mul-add, pow-add, div-add-mod'}
 use Rattle.std.proofs.Math.Nat.{lt_of_mul-lt-mul_left, mul-lt-mul_of_pos_left, mul_assoc, mul_comm}
 use Rattle.std.proofs.Math.Nat.{mul-add}
 use Rattle.std.proofs.lemmas.Bool.{eqb-true, eq-eqb, ne_eqb, le-leb, lt-ltb, and_parts, and_from}
 use Rattle.std.proofs.lemmas.Bool.{cases_lt, cases_eq, leb-true, ltb-true, false_from_ne_true}
 use Rattle.std.proofs.lemmas.Bool.{not-true}
-use Rattle.vb_model.specs.declared.places.Place.{Place}
 use Rattle.vb_model.specs.Limits.{max_order}
 use Rattle.vb_model.specs.Tests.{one_if}
-use Rattle.vb_model.specs.Pages.{Block, size, pages_of, pages_of_all, covers, is_wholly_free}
-use Rattle.vb_model.specs.Pages.{is_maximal_free, is_aligned, around, blocks_at, blocks_below}
-use Rattle.vb_model.specs.Pages.{maximal_free_blocks}
+use Rattle.vb_model.specs.Pages.{Block, size, pages_of, pages_of_all, covers, is_whole}
+use Rattle.vb_model.specs.Pages.{is_maximal, is_aligned, around, blocks_at, blocks_below}
+use Rattle.vb_model.specs.Pages.{maximal_blocks}
 use Rattle.vb_model.specs.Orderly.{times}
 use Rattle.vb_model.proofs.Tables.{count_by-append, count_by-cons}
 use Rattle.vb_model.proofs.Distinct.{times-append, times-cons}
@@ -87,21 +87,21 @@ larger page b c l ab cb ac cc' =
 -- ---- at most one maximal block is round a page
 
 -- a maximal block that covers the page
-abbrev holds : List Place → ℕ → Block → Bool
-holds places page b = is_maximal_free places b && covers page b
+abbrev holds : (ℕ → Bool) → ℕ → Block → Bool
+holds test page b = is_maximal test b && covers page b
 
-record IsRound (places : List Place) (page : ℕ) (b : Block) : Type 0 where
-  free : is_wholly_free places b ≡ true
+record IsRound (test : ℕ → Bool) (page : ℕ) (b : Block) : Type 0 where
+  free : is_whole test b ≡ true
   aligned : is_aligned b ≡ true
   cover : covers page b ≡ true
-  widest : list_any (λ order. is_wholly_free places (around b.start order))
+  widest : list_any (λ order. is_whole test (around b.start order))
       (range_with_len (suc b.order) (max_order - b.order)) ≡ false
 
-is_round : (places : List Place) (page : ℕ) (b : Block) → holds places page b ≡ true
-    → IsRound places page b
-is_round places page b h =
-    let parts = and_parts (is_maximal_free places b) (covers page b) h in
-    let most = and_parts (is_wholly_free places b) _ parts.0 in
+is_round : (test : ℕ → Bool) (page : ℕ) (b : Block) → holds test page b ≡ true
+    → IsRound test page b
+is_round test page b h =
+    let parts = and_parts (is_maximal test b) (covers page b) h in
+    let most = and_parts (is_whole test b) _ parts.0 in
     record {
       free = most.0;
       aligned = (and_parts (is_aligned b) _ most.0).0;
@@ -109,7 +109,7 @@ is_round places page b h =
       widest = not-true _ most.1;
     }
 
-any_in_range : (test : ℕ → Bool) (k first count : ℕ) → first ≤ k → k < first + count → test k ≡ true
+pub any_in_range : (test : ℕ → Bool) (k first count : ℕ) → first ≤ k → k < first + count → test k ≡ true
     → list_any test (range_with_len first count) ≡ true
 any_in_range test k first zero a b h = absurd (omega arith)
 any_in_range test k first (suc count) a b h =
@@ -134,17 +134,17 @@ any_in_range test k first (suc count) a b h =
         there true e = refl
         there false e = e
 
-no_larger : (places : List Place) (page : ℕ) (b c : Block) → c.order ≤ max_order
-    → IsRound places page b → IsRound places page c → b.order < c.order → ⊥
-no_larger places page b c small x y l =
+no_larger : (test : ℕ → Bool) (page : ℕ) (b c : Block) → c.order ≤ max_order
+    → IsRound test page b → IsRound test page c → b.order < c.order → ⊥
+no_larger test page b c small x y l =
     let start : (around b.start c.order).start ≡ c.start =
     larger page b c l x.aligned x.cover y.aligned y.cover in
-    let there : is_wholly_free places (around b.start c.order) ≡ true =
-    ap (λ (s : ℕ). is_wholly_free places (record { start = s; order = c.order })) start
+    let there : is_whole test (around b.start c.order) ≡ true =
+    ap (λ (s : ℕ). is_whole test (record { start = s; order = c.order })) start
     ∙ y.free in
-    let any : list_any (λ order. is_wholly_free places (around b.start order))
+    let any : list_any (λ order. is_whole test (around b.start order))
     (range_with_len (suc b.order) (max_order - b.order)) ≡ true =
-    any_in_range (λ order. is_wholly_free places (around b.start order)) c.order (suc b.order)
+    any_in_range (λ order. is_whole test (around b.start order)) c.order (suc b.order)
     (max_order - b.order) (omega arith) (omega arith) there in
     let bad : true ≡ false = sym any ∙ x.widest in
     absurd cc
@@ -233,7 +233,7 @@ times_in_range page first count = cases (nat_le first page && nat_lt page (first
         ]
 
 -- how often a page stands in the pages of blocks
-times_in_blocks : (page : ℕ) (bs : List Block)
+pub times_in_blocks : (page : ℕ) (bs : List Block)
     → times page (pages_of_all bs) ≡ count_by (covers page) bs
 times_in_blocks page [] = refl
 times_in_blocks page (b ∷ bs) =
@@ -388,56 +388,86 @@ flat-one test f first (suc count) each one =
               | inr z ↦ omega arith
             ]
 
-one_block : (places : List Place) (page : ℕ) (s t j k : ℕ) → j ≤ max_order → k ≤ max_order
-    → holds places page (record { start = s; order = j }) ≡ true
-    → holds places page (record { start = t; order = k }) ≡ true → (s ≡ t) × (j ≡ k)
-one_block places page s t j k lj lk hj hk =
+one_block : (test : ℕ → Bool) (page : ℕ) (s t j k : ℕ) → j ≤ max_order → k ≤ max_order
+    → holds test page (record { start = s; order = j }) ≡ true
+    → holds test page (record { start = t; order = k }) ≡ true → (s ≡ t) × (j ≡ k)
+one_block test page s t j k lj lk hj hk =
     let b : Block = record { start = s; order = j } in
     let c : Block = record { start = t; order = k } in
-    let x = is_round places page b hj in
-    let y = is_round places page c hk in
+    let x = is_round test page b hj in
+    let y = is_round test page c hk in
     let same : j ≡ k =
     elim (cases_lt j k) [
-      | inl l ↦ absurd (no_larger places page b c lk x y l)
+      | inl l ↦ absurd (no_larger test page b c lk x y l)
       | inr l ↦ elim (cases_lt k j)
-          [ inl m ↦ absurd (no_larger places page c b lj y x m) | inr m ↦ omega arith ]
+          [ inl m ↦ absurd (no_larger test page c b lj y x m) | inr m ↦ omega arith ]
     ] in
     (same_start page b c same x.aligned x.cover y.aligned y.cover, same)
 
-at_most_one : (places : List Place) (page n : ℕ) → count_by (holds places page) (blocks_below n) ≤ 1
-at_most_one places page n = flat-one (holds places page) blocks_at 0 n each_start starts
+at_most_one : (test : ℕ → Bool) (page n : ℕ) → count_by (holds test page) (blocks_below n) ≤ 1
+at_most_one test page n = flat-one (holds test page) blocks_at 0 n each_start starts
   where
     test_at : ℕ → ℕ → Bool
-    test_at start order = holds places page (record { start = start; order = order })
+    test_at start order = holds test page (record { start = start; order = order })
 
-    counted : (s : ℕ) → count_by (holds places page) (blocks_at s)
+    counted : (s : ℕ) → count_by (holds test page) (blocks_at s)
         ≡ count_by (test_at s) (range_with_len 0 (suc max_order))
-    counted s = count-map (holds places page) (λ order. record { start = s; order = order })
+    counted s = count-map (holds test page) (λ order. record { start = s; order = order })
         (range_with_len 0 (suc max_order))
 
-    each_start : (s : ℕ) → count_by (holds places page) (blocks_at s) ≤ 1
+    each_start : (s : ℕ) → count_by (holds test page) (blocks_at s) ≤ 1
     each_start s =
         let one = passes-one (test_at s) 0 (suc max_order)
-        (λ a b la lb ha hb. (one_block places page s s a b (omega arith) (omega arith) ha
+        (λ a b la lb ha hb. (one_block test page s s a b (omega arith) (omega arith) ha
         hb).1) in
         omega (arith, counted s, one)
 
-    starts : (s t : ℕ) → 0 < count_by (holds places page) (blocks_at s)
-        → 0 < count_by (holds places page) (blocks_at t) → s ≡ t
+    starts : (s t : ℕ) → 0 < count_by (holds test page) (blocks_at s)
+        → 0 < count_by (holds test page) (blocks_at t) → s ≡ t
     starts s t hs ht =
         let a = passes-some (test_at s) 0 (suc max_order) (omega (arith, counted s)) in
         let b = passes-some (test_at t) 0 (suc max_order) (omega (arith, counted t)) in
-        (one_block places page s t a.0 b.0 (let l : a.0 < 0 + suc max_order = a.1 in omega arith)
+        (one_block test page s t a.0 b.0 (let l : a.0 < 0 + suc max_order = a.1 in omega arith)
         (let l : b.0 < 0 + suc max_order = b.1 in omega arith) a.2 b.2).0
 
--- the pages of some maximal free blocks are distinct
-pub reported_distinct : (places : List Place) (keep : Block → Bool) (n page : ℕ)
-    → times page (pages_of_all (take n (filter keep (maximal_free_blocks places)))) ≤ 1
-reported_distinct places keep n page =
-    let maximal : List Block = maximal_free_blocks places in
+-- the pages of some maximal blocks are distinct
+pub reported_distinct : (test : ℕ → Bool) (keep : Block → Bool) (count n page : ℕ)
+    → times page (pages_of_all (take n (filter keep (maximal_blocks count test)))) ≤ 1
+reported_distinct test keep count n page =
+    let maximal : List Block = maximal_blocks count test in
     let a = times_in_blocks page (take n (filter keep maximal)) in
     let b = count-take (covers page) n (filter keep maximal) in
     let c = count-filter (covers page) keep maximal in
     let d = count-weaker keep (covers page) maximal in
-    let e = count-filter (covers page) (is_maximal_free places) (blocks_below (length places)) in
-    omega (arith, a, b, c, d, e, at_most_one places page (length places))
+    let e = count-filter (covers page) (is_maximal test) (blocks_below count) in
+    omega (arith, a, b, c, d, e, at_most_one test page count)
+
+-- ---- tests that agree
+
+all_agree : (f g : ℕ → Bool) (ns : List ℕ) → ((n : ℕ) → f n ≡ g n) → list_all f ns ≡ list_all g ns
+all_agree f g [] same = refl
+all_agree f g (n ∷ ns) same =
+    ap (λ (v : Bool). v && list_all f ns) (same n)
+    ∙ ap (λ (v : Bool). g n && v) (all_agree f g ns same)
+
+any_agree : (f g : ℕ → Bool) (ns : List ℕ) → ((n : ℕ) → f n ≡ g n) → list_any f ns ≡ list_any g ns
+any_agree f g [] same = refl
+any_agree f g (n ∷ ns) same =
+    ap (λ (v : Bool). Rattle.std.specs.Prelude.◌||◌ v (list_any f ns)) (same n)
+    ∙ ap (λ (v : Bool). Rattle.std.specs.Prelude.◌||◌ (g n) v) (any_agree f g ns same)
+
+whole_agree : (f g : ℕ → Bool) (b : Block) → ((n : ℕ) → f n ≡ g n) → is_whole f b ≡ is_whole g b
+whole_agree f g b same = ap (λ (v : Bool). is_aligned b && v) (all_agree f g (pages_of b) same)
+
+-- the maximal blocks of two tests that agree
+pub maximal_agree : (n : ℕ) (f g : ℕ → Bool) → ((page : ℕ) → f page ≡ g page)
+    → maximal_blocks n f ≡ maximal_blocks n g
+maximal_agree n f g same =
+    filter_agree (is_maximal f) (is_maximal g) (λ b.
+    ap (λ (v : Bool). v && not (list_any (λ order. is_whole f (around b.start order))
+    (range_with_len (suc b.order) (max_order - b.order)))) (whole_agree f g b same)
+    ∙ ap (λ (v : Bool). is_whole g b && not v)
+    (any_agree (λ order. is_whole f (around b.start order))
+    (λ order. is_whole g (around b.start order))
+    (range_with_len (suc b.order) (max_order - b.order))
+    (λ order. whole_agree f g (around b.start order) same))) (blocks_below n)

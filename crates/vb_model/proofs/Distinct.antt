@@ -4,7 +4,7 @@ use Rattle.std.proofs.Common.{◌∷◌, ◌++◌, take, refl, ap, subst, arith}
 use Rattle.std.specs.Prelude.{◌==◌, ◌&&◌, ◌%◌, not, count_by, nat_lt, nat_le, filter, map}
 use Rattle.std.specs.List.{list_all, list_any, range_with_len, flat_map}
 use Rattle.std.proofs.lemmas.Bool.{eqb-true, eqb-false, eq-eqb, ne_eqb, false_from_ne_true}
-use Rattle.std.proofs.lemmas.Bool.{and_parts, cases_eq}
+use Rattle.std.proofs.lemmas.Bool.{and_parts, cases_eq, not_from_false}
 use Rattle.vb_model.specs.declared.places.Place.{Place}
 use Rattle.vb_model.specs.declared.places.Place.TheVariants.{Reserved}
 use Rattle.vb_model.specs.Tests.{is_in, one_if, pages_from, pages_where}
@@ -86,7 +86,7 @@ pub distinct_where : {A : Type 0} (test : A → Bool) (xs : List A) (n page : �
 distinct_where test xs n page =
     omega (arith, times-take page n (pages_where test xs), times_rising test xs 0 page)
 
-distinct_list : (xs : List ℕ) (page : ℕ) → AllDistinct xs → times page xs ≤ 1
+pub distinct_list : (xs : List ℕ) (page : ℕ) → AllDistinct xs → times page xs ≤ 1
 distinct_list [] page h = omega arith
 distinct_list (x ∷ xs) page h = step (x == page) refl (distinct_list xs page h.1)
   where
@@ -100,6 +100,27 @@ distinct_list (x ∷ xs) page h = step (x == page) refl (distinct_list xs page h
         omega (arith, times-cons page x xs, times-none page xs out)
     step false e ih = let one : one_if (x == page) ≡ 0 = ap one_if e in
         omega (arith, times-cons page x xs, ih)
+
+pub times-some : (page : ℕ) (xs : List ℕ) → is_in page xs ≡ true → 0 < times page xs
+times-some page [] h = absurd cc
+times-some page (x ∷ xs) h = step (x == page) refl h (times-some page xs)
+  where
+    step : (v : Bool) → (x == page) ≡ v → Rattle.std.specs.Prelude.◌||◌ v (is_in page xs) ≡ true
+        → (is_in page xs ≡ true → 0 < times page xs) → 0 < times page (x ∷ xs)
+    step true e h ih = let z : one_if (x == page) ≡ 1 = ap one_if e in
+        omega (arith, times-cons page x xs)
+    step false e h ih = let z : one_if (x == page) ≡ 0 = ap one_if e in
+        omega (arith, times-cons page x xs, ih h)
+
+-- a list that names no page more than once
+pub distinct_once : (xs : List ℕ) → ((page : ℕ) → times page xs ≤ 1) → AllDistinct xs
+distinct_once [] once = tt
+distinct_once (x ∷ xs) once = (
+  not_from_false (is_in x xs) (false_from_ne_true (is_in x xs) (λ h.
+      let one : one_if (x == x) ≡ 1 = ap one_if (eq-eqb x x refl) in
+      omega (arith, once x, times-cons x x xs, times-some x xs h))),
+  distinct_once xs (λ page. omega (arith, once page, times-cons page x xs)),
+)
 
 -- stranded pages and then free ones
 pub inflated_distinct : (g : Guest) (n : ℕ) (others : List ℕ) (page : ℕ) → AllFreePages g others

@@ -407,8 +407,9 @@ performs_order (Report from) g claims reply new c h e s honest =
     (with_report g _ (placed pages Reporting g.places) h
     (orderly_posting 1 g.report s.1.0 pages h.reporting s.1.1
     (has_room 1 (outstanding g.report) t.1.1.0)
-    (λ page. reported_distinct g.places
-    (λ b. nat_le min_reported_order b.order && nat_le from b.start) (room g) page))
+    (λ page. reported_distinct (λ p. is_free (place_of g.places p))
+    (λ b. nat_le min_reported_order b.order && nat_le from b.start) (length g.places) (room g)
+    page))
     (length-placed pages Reporting g.places ∙ h.tabled)
     (moved g.config.pages pages Reporting g.places h.unreserved refl
     (λ page k. not_reserved _ is_free refl (reported_pages g from page k))))

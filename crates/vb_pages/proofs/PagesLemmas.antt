@@ -66,11 +66,11 @@ none_count test (b ∷ bs) h =
     let o : one_if (test b) ≡ 0 = ap one_if q.0 in
     omega (arith, count_by-cons test b bs, o, none_count test bs q.1)
 
-covers_bounds : (p s k : ℕ) → covers p (block_at s k) ≡ true → (s ≤ p) × (p < s + 2 ^ k)
+pub covers_bounds : (p s k : ℕ) → covers p (block_at s k) ≡ true → (s ≤ p) × (p < s + 2 ^ k)
 covers_bounds p s k h = let q = and_parts (nat_le s p) (nat_lt p (s + 2 ^ k)) h in
     (leb-true s p q.0, ltb-true p (s + 2 ^ k) q.1)
 
-bounds_cover : (p s k : ℕ) → s ≤ p → p < s + 2 ^ k → covers p (block_at s k) ≡ true
+pub bounds_cover : (p s k : ℕ) → s ≤ p → p < s + 2 ^ k → covers p (block_at s k) ≡ true
 bounds_cover p s k l h =
     and_from (nat_le s p) (nat_lt p (s + 2 ^ k)) (le-leb s p l) (lt-ltb p (s + 2 ^ k) h)
 

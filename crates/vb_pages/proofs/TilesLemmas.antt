@@ -37,7 +37,7 @@ pub record Covered (t : List (Option ℕ)) (p : ℕ) : Type 0 where
 
 -- ---- the test and the fact
 
-any_range : (f : ℕ → Bool) (a n : ℕ) → list_any f (range_with_len a n) ≡ true
+pub any_range : (f : ℕ → Bool) (a n : ℕ) → list_any f (range_with_len a n) ≡ true
     → (k : ℕ) × (a ≤ k) × (k < a + n) × (f k ≡ true)
 any_range f a zero h = absurd cc
 any_range f a (suc n) h =

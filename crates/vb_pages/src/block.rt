@@ -1,7 +1,7 @@
 //! Blocks of pages.
 
 /// A free block: 2^order pages from a multiple of as many on.
-#[derive(Clone, Copy, Debug, PartialEq, Eq)]
+#[derive(Clone, Copy, Debug, Default, PartialEq, Eq)]
 pub struct FreeBlock {
     /// Its first page.
     pub start: u32,

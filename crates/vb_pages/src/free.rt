@@ -97,7 +97,7 @@ impl FreePages {
     }
 
     /// Puts all lists back into the areas.
-    fn drain(&mut self)
+    pub fn drain(&mut self)
         ensures sound { IsSoundFree self.old }
         ensures drained { self.new ≡ drained self.old }
         ensures count { count_by (λ f. f) self.new.areas ≡ free_count self.old }

@@ -7,7 +7,7 @@ ghost use Rattle.vb_model.specs.Tests.{is_in, one_if};
 ghost use Rattle.vb_model.specs.Pages.{covers};
 ghost use Rattle.vb_model.specs.Driver.{with_block, without_block};
 ghost use Rattle.vb_pages.specs.Areas.{block_at, IsBlock};
-ghost use Rattle.vb_pages.specs.FreePages.{free_count};
+ghost use Rattle.vb_pages.specs.FreePages.{free_count, drained};
 ghost use Rattle.vb_pages.specs.PageState.{PageState, page_count, cpu_count, is_free_page};
 ghost use Rattle.vb_pages.specs.PageState.{is_held_page, is_held_block, is_unreserved};
 ghost use Rattle.vb_pages.specs.PageState.{new_page_state, IsWhollyFree, AllocatesBlock, freed};
@@ -20,7 +20,7 @@ use crate::{FreeBlock, PageFault};
 use arrayvec::ArrayVec;
 use std::alloc::{AllocError, Global};
 use std::marker::Model;
-use vb_model::limits::{MAX_ORDER, MAX_REQUEST_PAGES};
+use vb_model::limits::{MAX_GUEST_PAGES, MAX_ORDER, MAX_REQUEST_PAGES};
 
 /// The pages of a guest: free ones in the buddy areas and in a list for each processor, and held
 /// blocks.
@@ -173,6 +173,15 @@ impl Pages {
             (is_free_page self.old page || covers page (block_at start order)) }
     {
         self.free.give_block(start, order);
+    }
+
+    /// Puts the pages of all processors' lists back into the areas, where they merge.
+    pub fn drain(&mut self)
+        ensures drained { self.new ≡ record self.old { free = drained self.old.free } }
+        ensures same { (page : ℕ) → is_free_page self.new page ≡ is_free_page self.old page }
+        ensures small { page_count self.old ≤ MAX_GUEST_PAGES }
+    {
+        self.free.drain();
     }
 
     /// Takes the lowest maximal free block of at least this order that starts at or after a page,

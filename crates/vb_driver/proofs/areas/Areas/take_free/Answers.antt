@@ -6,7 +6,7 @@ use Rattle.vb_driver.specs.Areas.{Becomes, flags_of, is_free_at}
 use Rattle.vb_driver.specs.Places.{marked}
 use Rattle.vb_model.specs.Orderly.{times}
 use Rattle.vb_driver.proofs.Allocating.{count_flags, taken_state, taken_free, taken_once}
-use Rattle.vb_driver.proofs.Allocating.{distinct_once}
+use Rattle.vb_model.proofs.Distinct.{distinct_once}
 use Rattle.vb_driver.proofs.areas.Areas.take_free.Goals as goal
 
 pub take_free-requires-clause-enough : goal.take_free-requires-clause-enough

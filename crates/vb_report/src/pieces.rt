@@ -1,0 +1,40 @@
+//! What a report says of its blocks: pieces of guest memory, as a chain of descriptors has them.
+
+ghost use Rattle.std.specs.Prelude.{◌≡◌, ◌≤◌, map, length, All};
+ghost use Rattle.vb_model.specs.Limits.{max_outstanding};
+ghost use Rattle.vb_report.specs.Blocks.{piece_of, HasOrder};
+
+use crate::MAX_BLOCKS;
+use arrayvec::ArrayVec;
+use vb_chain::Piece;
+use vb_model::limits;
+use vb_pages::FreeBlock;
+
+/// The pieces of a report, one for each block, in their order.
+pub type Pieces = ArrayVec<Piece, MAX_BLOCKS>;
+
+/// The piece that offers a block to the device: its bytes in guest memory, for the device to write.
+fn piece_of(block: &FreeBlock) -> Piece
+    requires { HasOrder block.now }
+    ensures { result ≡ piece_of block.now }
+{
+    Piece {
+        addr: u64::from(block.start) * u64::from(limits::PAGE_SIZE),
+        len: limits::PAGE_SIZE << block.order,
+        writable: true,
+    }
+}
+
+/// The pieces of a report: one for each block, in their order, from its first byte to its last, for
+/// the device to write.
+pub fn encode(blocks: &[FreeBlock]) -> Pieces
+    requires count { length blocks.now ≤ max_outstanding }
+    requires orders { All HasOrder blocks.now }
+    ensures { result.items ≡ map piece_of blocks.now }
+{
+    let mut pieces = Pieces::new();
+    for block in blocks {
+        pieces.push(piece_of(block));
+    }
+    pieces
+}
