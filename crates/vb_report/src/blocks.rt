@@ -48,9 +48,9 @@ fn take_blocks(pages: &mut Pages, from: u32, room: u32) -> Blocks
 }
 
 /// Takes the blocks of a report: all processors' lists are drained, and the first `room` maximal
-/// free blocks leave the areas that have an order of at least 4 and start at page `from` or after
-/// it, by rising start; fewer where there are fewer. No allocation gets a page of them until they
-/// are given back.
+/// free blocks (at most 16) leave the areas that have an order of at least 4 and start at page
+/// `from` or after it, by rising start; fewer where there are fewer. No allocation gets a page of
+/// them until they are given back.
 pub fn choose(pages: &mut Pages, from: u32, room: u32) -> Blocks
     requires { room ≤ max_outstanding }
     // Which blocks, and in which order.
@@ -79,7 +79,8 @@ pub fn choose(pages: &mut Pages, from: u32, room: u32) -> Blocks
     take_blocks(pages, from, room)
 }
 
-/// Gives blocks back to the areas that were taken from them.
+/// Gives blocks back to the areas that were taken from them, as by `choose`: none of their pages is
+/// reserved, free or held, and none lies in two of the blocks.
 pub fn give_all(pages: &mut Pages, blocks: &[FreeBlock])
     requires { HaveRoom pages.old blocks.now }
     ensures given { pages.new ≡ with_blocks blocks.now pages.old }
