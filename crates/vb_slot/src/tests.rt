@@ -20,15 +20,18 @@ use vb_ram::{Config, Frame};
 /// All features that the device offers.
 const FEATURES: u64 = 0x1_0000_0027;
 
-/// A keeper that has no frames.
+/// A keeper that has no frame to give: its only one is out, and nobody here has it.
 #[derive(Drop)]
-struct NoFrames;
+struct NoFrames {
+    /// Whether it is out still.
+    out: bool,
+}
 
 impl FrameKeeper for NoFrames {
-    ghost use Rattle.std.specs.Prelude.{◌≡◌, []};
+    ghost use Rattle.std.specs.Prelude.{◌≡◌, ◌∷◌, []};
     ghost use Rattle.vb_model.specs.declared.calls.Claim.TheVariants.{GaveNoFrame};
 
-    ghost out = { λ _. [] };
+    ghost out = { λ k. k.out ∷ [] };
 
     ghost answers = { λ _ claim. claim ≡ GaveNoFrame };
 
@@ -37,8 +40,13 @@ impl FrameKeeper for NoFrames {
     }
 
     fn put_back(&mut self, _frame: Frame) {
-        unreachable!()
+        self.out = false;
     }
+}
+
+/// Such a keeper.
+fn no_frames() -> NoFrames {
+    NoFrames { out: true }
 }
 
 /// A call or a question, of processor 0, queue 0 and request 0 where such are meant.
@@ -228,7 +236,7 @@ fn write(alloc: Global, slot: &mut Slot, page: u32) -> Result<Answer, AllocError
     ensures { (g : Guest) × stands_for true mem part slot.new g }
 {
     let bytes = Bytes::new(vec![in alloc; 0xab, 0xcd]?);
-    Ok(done('d', slot.write(&mut NoFrames, page, 0, &bytes)))
+    Ok(done('d', slot.write(&mut no_frames(), page, 0, &bytes)))
 }
 
 /// What the host asks.
@@ -253,7 +261,7 @@ fn answer_of_driver(alloc: Global, slot: &mut Slot, line: &Line) -> Result<Answe
     ensures { (g : Guest) × stands_for true mem part slot.new g }
 {
     Ok(match line {
-        Line::Init => done('y', slot.init(&mut NoFrames, FEATURES)),
+        Line::Init => done('y', slot.init(&mut no_frames(), FEATURES)),
         Line::Alloc => number('p', slot.alloc(0, 0)),
         Line::Free { page } => done('d', slot.free(0, *page, 0)),
         Line::Write { page } => write(alloc, slot, *page)?,
@@ -281,9 +289,9 @@ fn answer_of(alloc: Global, slot: &mut Slot, line: &Line) -> Result<Answer, Allo
             ('d', 0, 0)
         }
         Line::Take => taken(slot.take(0)),
-        Line::Work => worked(slot.work(&mut NoFrames)),
-        Line::Finish => number('f', slot.finish(&mut NoFrames, 0, 0).map(u32::from)),
-        Line::Sweep { page } => number('w', slot.sweep(&mut NoFrames, *page).map(u32::from)),
+        Line::Work => worked(slot.work(&mut no_frames())),
+        Line::Finish => number('f', slot.finish(&mut no_frames(), 0, 0).map(u32::from)),
+        Line::Sweep { page } => number('w', slot.sweep(&mut no_frames(), *page).map(u32::from)),
         _ => answer_of_driver(alloc, slot, line)?,
     })
 }
