@@ -13,7 +13,7 @@ use Rattle.vb_model.specs.Layout.{ring_page}
 use Rattle.vb_model.specs.Tests.{times}
 use Rattle.vb_model.specs.Limits.{page_size}
 use Rattle.vb_model.specs.Requests.{Request}
-use Rattle.vb_model.specs.Guest.{no_statistics, zero_page}
+use Rattle.vb_model.specs.Guest.{LastStatistics, no_statistics, zero_page}
 use Rattle.vb_model.specs.Device.{visiting, next_page}
 use Rattle.vb_ram.specs.declared.config.Config.{Config}
 use Rattle.vb_ram.specs.Pages.{Page, Pages, frame_at}
@@ -90,9 +90,11 @@ request_of q mem pieces =
     else (if q == REPORT_QUEUE then report_request pieces else page_request mem pieces)
 
 -- A buffer of statistics replaces what the device knew of its guest's memory.
+abbrev pub noted : ℕ → Pages → List Piece → LastStatistics → LastStatistics
+noted q mem pieces last = if q == STATISTICS_QUEUE then statistics_in mem pieces else last
+
 abbrev pub noting : ℕ → Pages → List Piece → Part → Part
-noting q mem pieces part =
-    if q == STATISTICS_QUEUE then record part { last = statistics_in mem pieces } else part
+noting q mem pieces part = record part { last = noted q mem pieces part.last }
 
 -- The guest's bytes say a chain next, and it is a request for these pages.
 pub record IsNextRequest (q : ℕ) (mem : Pages) (part : Part) (h : ℕ) (pages : List ℕ) : Type 0 where

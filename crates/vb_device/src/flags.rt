@@ -6,6 +6,7 @@ ghost use Rattle.vb_model.specs.Guest.{is_ballooned};
 ghost use Rattle.vb_model.specs.Tests.{one_if};
 ghost use Rattle.vb_device.specs.Discards.{flagged};
 
+use crate::taken::TakenRequest;
 use std::alloc::{AllocError, Global};
 use std::marker::Model;
 
@@ -86,12 +87,12 @@ impl PageFlags {
         self.count = self.count - bit(old) + bit(flag);
     }
 
-    /// Sets the flags of these pages or takes them back.
-    pub(crate) fn set_all(&mut self, pages: &[u32], flag: bool)
-        ensures { self.new ≡ flagged pages.now flag self.old }
+    /// Sets the flags of a request's pages or takes them back.
+    pub(crate) fn set_all(&mut self, request: &TakenRequest, flag: bool)
+        ensures { self.new ≡ flagged request.now.pages flag self.old }
     {
-        for page in pages {
-            self.set(*page, flag);
+        for k in 0..request.count() {
+            self.set(request.page(k), flag);
         }
     }
 
