@@ -85,9 +85,8 @@ fn fault_of_first(pieces: &[Piece]) -> Option<ChainFault>
     ensures { result ≡ first_piece_fault pieces.now }
 {
     for piece in pieces {
-        let fault = fault_of_piece(piece);
-        if fault.is_some() {
-            return fault;
+        if let Some(fault) = fault_of_piece(piece) {
+            return Some(fault);
         }
     }
     None

@@ -80,7 +80,6 @@ fn value_at(bytes: &[u8], k: usize) -> u64
 
 /// What these bytes say: the last statistic of each tag counts.
 fn statistics_of(bytes: &[u8]) -> Statistics
-    requires { length bytes.now ≤ MAX_STATISTICS_LENGTH }
     ensures free { result.free ≡ last_of FREE_MEMORY_TAG (statistics_of bytes.now) }
     ensures total { result.total ≡ last_of TOTAL_MEMORY_TAG (statistics_of bytes.now) }
 {

@@ -55,7 +55,8 @@ impl NamedPages {
 
     /// How many there are; a page that a report names again counts again.
     fn count(&self) -> u32
-        ensures { result ≡ length self.now }
+        ensures count { result ≡ length self.now }
+        ensures above { All (λ page. reserved_pages ≤ page) self.now }
     {
         self.listed.len() as u32 + count_pages(&self.pieces)
     }
@@ -151,6 +152,8 @@ impl TakenRequest {
         ensures page { slice_get self.old.pages self.old.visited ≡ Some result }
         ensures visited { self.new ≡ record self.old { visited = self.old.visited + 1 } }
     {
+        let count = self.count();
+        prove!(self.visited < count);
         let page = self.page(self.visited);
         self.visited += 1;
         page

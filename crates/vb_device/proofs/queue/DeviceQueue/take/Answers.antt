@@ -7,8 +7,8 @@ use Rattle.vb_chain.specs.declared.pieces.Piece.{Piece}
 use Rattle.vb_chain.specs.Table.{descriptor_at}
 use Rattle.vb_ring.specs.declared.device.Taken.{Taken}
 use Rattle.vb_ring.specs.Calls.{PopsBy}
-use Rattle.vb_device.specs.Request.{page_request}
-use Rattle.vb_device.proofs.RequestPages.{request_pages}
+use Rattle.vb_device.specs.Calls.{request_of, noted}
+use Rattle.vb_model.specs.Guest.{LastStatistics}
 use Rattle.vb_device.specs.QueueState.{QueueState, is_full, TakesNext}
 use Rattle.vb_device.proofs.FromNext.{next_busy, next_idle}
 use Rattle.vb_model.specs.declared.replies.Refusal.{Refusal}
@@ -19,50 +19,51 @@ use Rattle.vb_device.proofs.queue.DeviceQueue.take.Goals as goal
 
 pub returns-then-is_full : goal.returns-then-is_full
 returns-then-is_full g c =
-    let full : is_full c.args.self.now ≡ true = search rules in
-    next_busy (g.G.GuestBytes.mem c.args.ram.now) c.args.self.now full
+    let full : is_full c.args.queue c.args.self.now ≡ true = search rules in
+    next_busy c.args.queue (g.G.GuestBytes.mem c.args.ram.now) c.args.self.now (was c.args.last.now) full
 
 pub returns-then-pages-eq0 : goal.returns-then-pages-eq0
 returns-then-pages-eq0 g c =
-    let free : is_full c.args.self.now ≡ false = search rules in
+    let free : is_full c.args.queue c.args.self.now ≡ false = search rules in
     let none : length (g.G.GuestBytes.mem c.args.ram.now) ≡ 0 = search rules in
-    next_idle (g.G.GuestBytes.mem c.args.ram.now) c.args.self.now free none (c.requires.idle none)
+    next_idle c.args.queue (g.G.GuestBytes.mem c.args.ram.now)
+    c.args.self.now (was c.args.last.now) free none (c.requires.idle none)
 
 pub returns-in-Err : goal.returns-in-Err
 returns-in-Err g c =
-    let free : is_full (record { ring = c.self.inside.queue; taken = c.self.inside.taken.items }) ≡
-    false = ap is_full c.self.view_is ∙ (sym c.is_full.ensures ∙ c.if-is_full.false) in
+    let free : is_full c.args.queue (record { ring = c.self.inside.queue; taken = c.self.inside.taken.items }) ≡
+    false = ap (is_full c.args.queue) c.self.view_is ∙ (sym c.is_full.ensures ∙ c.if-is_full.false) in
     let ready : c.self.inside.queue.ready ≡ true =
     ap (λ (q : QueueState). q.ring.ready) c.self.view_is ∙ c.requires.ready in
-    subst (λ (q : QueueState). TakesNext (g.G.GuestBytes.mem c.args.ram.now) q
+    subst (λ (q : QueueState). TakesNext c.args.queue (g.G.GuestBytes.mem c.args.ram.now) q
     (record { ring = c.pop_descriptor_chain.new.self; taken = c.self.inside.taken.items })
     (Err c.broken.result)) c.self.view_is
-    (subst (λ (w : Refusal). TakesNext (g.G.GuestBytes.mem c.args.ram.now)
+    (subst (λ (w : Refusal). TakesNext c.args.queue (g.G.GuestBytes.mem c.args.ram.now)
     (record { ring = c.self.inside.queue; taken = c.self.inside.taken.items })
     (record { ring = c.pop_descriptor_chain.new.self; taken = c.self.inside.taken.items })
     (Err w)) (sym c.broken.ensures)
-    (next_err (g.G.GuestBytes.mem c.args.ram.now) c.self.inside.queue
+    (next_err c.args.queue (g.G.GuestBytes.mem c.args.ram.now) c.self.inside.queue
     c.pop_descriptor_chain.new.self c.self.inside.taken.items c.in-Err.fault free ready
     c.in-Err.ensures))
 
 pub returns-in-None : goal.returns-in-None
 returns-in-None g c =
-    let free : is_full (record { ring = c.self.inside.queue; taken = c.self.inside.taken.items }) ≡
-    false = ap is_full c.self.view_is ∙ (sym c.is_full.ensures ∙ c.if-is_full.false) in
+    let free : is_full c.args.queue (record { ring = c.self.inside.queue; taken = c.self.inside.taken.items }) ≡
+    false = ap (is_full c.args.queue) c.self.view_is ∙ (sym c.is_full.ensures ∙ c.if-is_full.false) in
     let ready : c.self.inside.queue.ready ≡ true =
     ap (λ (q : QueueState). q.ring.ready) c.self.view_is ∙ c.requires.ready in
     let pops : PopsBy (g.G.GuestBytes.mem c.args.ram.now) c.self.inside.queue
     c.pop_descriptor_chain.new.self (Ok None) =
     subst (λ (o : Option Taken). PopsBy (g.G.GuestBytes.mem c.args.ram.now) c.self.inside.queue
     c.pop_descriptor_chain.new.self (Ok o)) c.in-None.is c.in-Ok.ensures in
-    subst (λ (q : QueueState). TakesNext (g.G.GuestBytes.mem c.args.ram.now) q
+    subst (λ (q : QueueState). TakesNext c.args.queue (g.G.GuestBytes.mem c.args.ram.now) q
     (record { ring = c.pop_descriptor_chain.new.self; taken = c.self.inside.taken.items })
     (Ok None)) c.self.view_is
-    (next_none (g.G.GuestBytes.mem c.args.ram.now) c.self.inside.queue
+    (next_none c.args.queue (g.G.GuestBytes.mem c.args.ram.now) c.self.inside.queue
     c.pop_descriptor_chain.new.self c.self.inside.taken.items free ready pops)
 
-pub page_request-requires-clause-inside : goal.page_request-requires-clause-inside
-page_request-requires-clause-inside g c =
+pub read_chain-requires-clause-inside : goal.read_chain-requires-clause-inside
+read_chain-requires-clause-inside g c =
     let pops : PopsBy (g.G.GuestBytes.mem c.args.ram.now) c.self.inside.queue
     c.pop_descriptor_chain.new.self (Ok (Some c.in-Some.taken)) =
     subst (λ (o : Option Taken). PopsBy (g.G.GuestBytes.mem c.args.ram.now) c.self.inside.queue
@@ -78,11 +79,11 @@ pub invariant_of-push : goal.invariant_of-push
 invariant_of-push g c =
     let named =
     request_pages (g.G.GuestBytes.mem c.args.ram.now) c.pieces.result.now
-    c.in-Ok-page_request.pages.items c.in-Ok-page_request.ensures in
+    c.in-Ok-read_chain.pages.items c.in-Ok-read_chain.ensures in
     record { above = named.above; distinct = named.distinct }
 
-pub invariant_of-self-in-Ok-page_request : goal.invariant_of-self-in-Ok-page_request
-invariant_of-self-in-Ok-page_request g c =
+pub invariant_of-self-in-Ok-read_chain : goal.invariant_of-self-in-Ok-read_chain
+invariant_of-self-in-Ok-read_chain g c =
     let pops : PopsBy (g.G.GuestBytes.mem c.args.ram.now) c.self.inside.queue
     c.pop_descriptor_chain.new.self (Ok (Some c.in-Some.taken)) =
     subst (λ (o : Option Taken). PopsBy (g.G.GuestBytes.mem c.args.ram.now) c.self.inside.queue
@@ -92,7 +93,7 @@ invariant_of-self-in-Ok-page_request g c =
     let new : Request =
     record {
       head = c.in-Some.taken.head;
-      pages = c.in-Ok-page_request.pages.items;
+      pages = c.in-Ok-read_chain.pages.items;
       visited = 0;
     } in
     subst (λ (n : ℕ). All (λ (r : Request). r.head < n) c.push.new.self.items) (sym size)
@@ -102,53 +103,53 @@ invariant_of-self-in-Ok-page_request g c =
     (new ∷ []) c.self.invariant
     (one_all (λ (r : Request). r.head < c.self.inside.queue.size) new pops.found.2.chain.inside)))
 
-pub returns-in-Ok-page_request : goal.returns-in-Ok-page_request
-returns-in-Ok-page_request g c =
-    let free : is_full (record { ring = c.self.inside.queue; taken = c.self.inside.taken.items }) ≡
-    false = ap is_full c.self.view_is ∙ (sym c.is_full.ensures ∙ c.if-is_full.false) in
+pub returns-in-Ok-read_chain : goal.returns-in-Ok-read_chain
+returns-in-Ok-read_chain g c =
+    let free : is_full c.args.queue (record { ring = c.self.inside.queue; taken = c.self.inside.taken.items }) ≡
+    false = ap (is_full c.args.queue) c.self.view_is ∙ (sym c.is_full.ensures ∙ c.if-is_full.false) in
     let ready : c.self.inside.queue.ready ≡ true =
     ap (λ (q : QueueState). q.ring.ready) c.self.view_is ∙ c.requires.ready in
     let pops : PopsBy (g.G.GuestBytes.mem c.args.ram.now) c.self.inside.queue
     c.pop_descriptor_chain.new.self (Ok (Some c.in-Some.taken)) =
     subst (λ (o : Option Taken). PopsBy (g.G.GuestBytes.mem c.args.ram.now) c.self.inside.queue
     c.pop_descriptor_chain.new.self (Ok o)) c.in-Some.is c.in-Ok.ensures in
-    let good : page_request (g.G.GuestBytes.mem c.args.ram.now) c.in-Some.taken.chain ≡
-    Ok c.in-Ok-page_request.pages.items =
-    ap (page_request (g.G.GuestBytes.mem c.args.ram.now)) (sym c.pieces.ensures) ∙
-    c.in-Ok-page_request.ensures in
-    subst (λ (q : QueueState). TakesNext (g.G.GuestBytes.mem c.args.ram.now) q
+    let good : request_of c.args.queue (g.G.GuestBytes.mem c.args.ram.now) c.in-Some.taken.chain ≡
+    Ok c.in-Ok-read_chain.pages.items =
+    ap (request_of c.args.queue (g.G.GuestBytes.mem c.args.ram.now)) (sym c.pieces.ensures) ∙
+    c.in-Ok-read_chain.ensures in
+    subst (λ (q : QueueState). TakesNext c.args.queue (g.G.GuestBytes.mem c.args.ram.now) q
     (record { ring = c.pop_descriptor_chain.new.self; taken = c.push.new.self.items })
     (Ok (Some c.in-Some.taken.head))) c.self.view_is
-    (subst (λ (xs : List Request). TakesNext (g.G.GuestBytes.mem c.args.ram.now)
+    (subst (λ (xs : List Request). TakesNext c.args.queue (g.G.GuestBytes.mem c.args.ram.now)
     (record { ring = c.self.inside.queue; taken = c.self.inside.taken.items })
     (record { ring = c.pop_descriptor_chain.new.self; taken = xs })
     (Ok (Some c.in-Some.taken.head))) (sym c.push.ensures.items)
-    (next_right (g.G.GuestBytes.mem c.args.ram.now) c.self.inside.queue
+    (next_right c.args.queue (g.G.GuestBytes.mem c.args.ram.now) c.self.inside.queue
     c.pop_descriptor_chain.new.self c.self.inside.taken.items c.in-Some.taken
-    c.in-Ok-page_request.pages.items free ready pops good))
+    c.in-Ok-read_chain.pages.items free ready pops good))
 
-pub returns-in-Err-page_request : goal.returns-in-Err-page_request
-returns-in-Err-page_request g c =
-    let free : is_full (record { ring = c.self.inside.queue; taken = c.self.inside.taken.items }) ≡
-    false = ap is_full c.self.view_is ∙ (sym c.is_full.ensures ∙ c.if-is_full.false) in
+pub returns-in-Err-read_chain : goal.returns-in-Err-read_chain
+returns-in-Err-read_chain g c =
+    let free : is_full c.args.queue (record { ring = c.self.inside.queue; taken = c.self.inside.taken.items }) ≡
+    false = ap (is_full c.args.queue) c.self.view_is ∙ (sym c.is_full.ensures ∙ c.if-is_full.false) in
     let ready : c.self.inside.queue.ready ≡ true =
     ap (λ (q : QueueState). q.ring.ready) c.self.view_is ∙ c.requires.ready in
     let pops : PopsBy (g.G.GuestBytes.mem c.args.ram.now) c.self.inside.queue
     c.pop_descriptor_chain.new.self (Ok (Some c.in-Some.taken)) =
     subst (λ (o : Option Taken). PopsBy (g.G.GuestBytes.mem c.args.ram.now) c.self.inside.queue
     c.pop_descriptor_chain.new.self (Ok o)) c.in-Some.is c.in-Ok.ensures in
-    let bad : page_request (g.G.GuestBytes.mem c.args.ram.now) c.in-Some.taken.chain ≡
-    Err c.in-Err-page_request.wrong =
-    ap (page_request (g.G.GuestBytes.mem c.args.ram.now)) (sym c.pieces.ensures) ∙
-    c.in-Err-page_request.ensures in
-    subst (λ (q : QueueState). TakesNext (g.G.GuestBytes.mem c.args.ram.now) q
+    let bad : request_of c.args.queue (g.G.GuestBytes.mem c.args.ram.now) c.in-Some.taken.chain ≡
+    Err c.in-Err-read_chain.wrong =
+    ap (request_of c.args.queue (g.G.GuestBytes.mem c.args.ram.now)) (sym c.pieces.ensures) ∙
+    c.in-Err-read_chain.ensures in
+    subst (λ (q : QueueState). TakesNext c.args.queue (g.G.GuestBytes.mem c.args.ram.now) q
     (record { ring = c.go_to_previous_position.new.self; taken = c.self.inside.taken.items })
-    (Err c.broken-in-Err-page_request.result)) c.self.view_is
-    (subst (λ (w : Refusal). TakesNext (g.G.GuestBytes.mem c.args.ram.now)
+    (Err c.broken-in-Err-read_chain.result)) c.self.view_is
+    (subst (λ (w : Refusal). TakesNext c.args.queue (g.G.GuestBytes.mem c.args.ram.now)
     (record { ring = c.self.inside.queue; taken = c.self.inside.taken.items })
     (record { ring = c.go_to_previous_position.new.self; taken = c.self.inside.taken.items })
-    (Err w)) (sym c.broken-in-Err-page_request.ensures)
-    (next_wrong (g.G.GuestBytes.mem c.args.ram.now) c.self.inside.queue
+    (Err w)) (sym c.broken-in-Err-read_chain.ensures)
+    (next_wrong c.args.queue (g.G.GuestBytes.mem c.args.ram.now) c.self.inside.queue
     c.pop_descriptor_chain.new.self c.go_to_previous_position.new.self c.self.inside.taken.items
-    c.in-Some.taken c.in-Err-page_request.wrong free ready pops bad
+    c.in-Some.taken c.in-Err-read_chain.wrong free ready pops bad
     c.go_to_previous_position.ensures))
