@@ -1,6 +1,7 @@
 -- The four queues of a device, of which one is changed, or all.
 use Rattle.std.specs.Prelude.{◌≡◌, ℕ, ◌<◌, ◌≤◌, Bool, true, false, List, [], ◌∷◌, length, map, refl, ◌⊎◌}
-use Rattle.std.proofs.Common.{sym, ◌∙◌, ap, subst, arith, get_or, inl, inr, length-map}
+use Rattle.std.proofs.Common.{sym, ◌∙◌, ap, subst, arith, get_or, inl, inr}
+use Rattle.std.proofs.lemmas.List.{length-map}
 use Rattle.std.proofs.Math.ListN.{set, length-set}
 use Rattle.vb_ram.specs.Pages.{Page, Pages}
 use Rattle.vb_ram.specs.Part.{Part, QueuePart}
@@ -27,7 +28,7 @@ at_each P a b c d q known = elim (queue_cases q) [
       | inl e ↦ subst P (sym e) c
       | inr r3 ↦ elim r3 [
         | inl e ↦ subst P (sym e) d
-        | inr no ↦ absurd (true_false (has_chains q) known (no_chains_at q no))
+        | inr other ↦ absurd (true_false (has_chains q) known (no_chains_at q other))
       ]
     ]
   ]
