@@ -1,12 +1,12 @@
 -- Pages lose their frames one by one.
 use Rattle.std.specs.Prelude.{◌≡◌, ◌≢◌, ℕ, zero, suc, ◌+◌, ◌<◌, ◌≤◌, Bool, true, false, not, ◌||◌}
 use Rattle.std.specs.Prelude.{◌==◌, IsTrue, List, [], ◌∷◌, ◌++◌, length, Option, None, All, refl}
-use Rattle.std.specs.Prelude.{cond, Some, is_some, count_by, if◌then◌else◌}
+use Rattle.std.specs.Prelude.{cond, Some, is_some, IfNone, count_by, if◌then◌else◌}
 use Rattle.std.specs.Option.{option_to_list}
 use Rattle.std.proofs.Common.{sym, ◌∙◌, ap, arith, get_or, take, eq-eqb, inl, inr, rules}
 use Rattle.std.proofs.lemmas.Bool.{eqb-true, cases_eq, cases_lt}
 use Rattle.std.proofs.Math.ListN.{set, length-set}
-use Rattle.std.proofs.lemmas.List.{get_or-set_same, get_or-set_other}
+use Rattle.std.proofs.lemmas.List.{get_or-set_same, get_or-set_other, get_or_past}
 use Rattle.std.proofs.lemmas.List.Sums.{sum_by-set}
 use Rattle.std.proofs.lemmas.List.{take_more, ext_get_or, append-nil, append_assoc}
 use Rattle.std.proofs.lemmas.List.Folds.{list_any-append}
@@ -150,7 +150,7 @@ discarded_is old new page lt d =
     ])
 
 past_none : (mem : Pages) (page : ℕ) → length mem ≤ page → page_at mem page ≡ None
-past_none mem page le = get_or-past mem page None le
+past_none mem page le = get_or_past mem page None le
 
 loses_inside : (old new : Pages) (page : ℕ) → page < length old → Discarded old new page →
     frame_count new + one_if (is_some (page_at old page)) ≡ frame_count old
@@ -159,6 +159,10 @@ loses_inside old new page lt d =
     let is : frame_count new ≡ frame_count (set old page None) =
     ap frame_count (discarded_is old new page lt d) in
     omega (arith, all, is, one_is (is_some (page_at old page)))
+
+pub none_of : (o p : Option Page) (P : Type 0) → o ≡ p → IfNone o P → p ≡ None → P
+none_of None p P e is none = is
+none_of (Some x) p P e is none = absurd cc
 
 -- each frame that is loose came from behind a page
 pub loses_one : (old new : Pages) (page : ℕ) → Discarded old new page →
