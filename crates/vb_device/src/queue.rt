@@ -6,7 +6,7 @@ ghost use Rattle.std.specs.Int.{is_power_of_two};
 ghost use Rattle.std.specs.List.{position};
 ghost use Rattle.vb_model.specs.declared.limits.TheConstants.{MIN_QUEUE_SIZE, MAX_QUEUE_SIZE};
 ghost use Rattle.vb_model.specs.declared.replies.Refusal.TheVariants.{Broken};
-ghost use Rattle.vb_model.specs.Limits.{max_outstanding};
+ghost use Rattle.vb_model.specs.Limits.{max_outstanding, reserved_pages};
 ghost use Rattle.vb_model.specs.Device.{is_unvisited, next_page, visiting};
 ghost use Rattle.vb_model.specs.FirstRefusal.{refusal_in};
 ghost use Rattle.vb_ring.specs.Layout.{layout_of, IsInside, IsBacked};
@@ -194,6 +194,7 @@ impl DeviceQueue {
             taken_refusal visits (slice_get self.old.taken index) }
         ensures value { IfOk result (λ r. slice_get self.old.taken index ≡ Some r) }
         ensures head { IfOk result (λ r. r.head < self.old.ring.size) }
+        ensures above { IfOk result (λ r. All (λ page. reserved_pages ≤ page) r.pages) }
         ensures err { OnErr result (self.new ≡ self.old) }
         ensures rest { OnOk result (self.new ≡
             record self.old { taken = remove self.old.taken index }) }
@@ -205,7 +206,9 @@ impl DeviceQueue {
         if visits && self.taken[at].is_unvisited() {
             return Err(Refusal::NotWorked);
         }
-        Ok(self.taken.remove(at))
+        let request = self.taken.remove(at);
+        let _count = request.count();
+        Ok(request)
     }
 
     /// Adds a chain to the used ring, with length 0.
