@@ -1,9 +1,10 @@
 -- A finish by a device, from the end of its queue.
 use Rattle.std.specs.Prelude.{◌≡◌, ℕ, zero, suc, ◌+◌, ◌%◌, ◌<◌, ◌≤◌, Bool, true, false, not}
 use Rattle.std.specs.Prelude.{◌==◌, ◌&&◌, List}
-use Rattle.std.specs.Prelude.{[], ◌∷◌, length, remove, Option, Some, None, IsSome, Result}
+use Rattle.std.specs.Prelude.{[], ◌∷◌, length, remove, Option, Some, None, IsSome, OnSome, Result}
 use Rattle.std.specs.Prelude.{is_none, Ok, Err, if◌then◌else◌, slice_get, All, refl}
-use Rattle.std.proofs.Common.{sym, ◌∙◌, ap, subst, arith, inl, inr}
+use Rattle.std.proofs.Common.{sym, ◌∙◌, ap, subst, arith, inl, inr, rules}
+use Rattle.vb_model.specs.Device.{next_page}
 use Rattle.std.proofs.lemmas.Bool.{cases_eq}
 use Rattle.vb_model.specs.declared.replies.Refusal.{Refusal}
 use Rattle.vb_model.specs.declared.replies.Refusal.TheVariants.{NotTaken, NotWorked}
@@ -23,7 +24,7 @@ use Rattle.vb_device.specs.Discards.{discarded}
 use Rattle.vb_device.specs.Base.{place_of, queue_at, base_part, numbers_of_frames, IsDeviceQueue, IsBase}
 use Rattle.vb_device.specs.Base.{with_pace}
 use Rattle.vb_device.specs.BaseCalls.{queue_refusal, with_lost, taken_out, TakesOut, UsesChain}
-use Rattle.vb_device.specs.BaseCalls.{CanUse}
+use Rattle.vb_device.specs.BaseCalls.{CanUse, readiness_refusal}
 use Rattle.vb_device.specs.Calls.{without_frames}
 use Rattle.vb_device.proofs.Four.{at_each, part_get, part_set, set_here, base_set}
 use Rattle.vb_device.proofs.TakesBy.{finish_open, queue_known, queue_status, status_ok}
@@ -295,17 +296,33 @@ kept_page q p pages mem low above = by_queue (q == 1)
 
 pub can_use : (q h : ℕ) (pages : List ℕ) (m1 m2 : Pages) (s f t a n c : ℕ)
     (qs : List QueueState) (x2 : QueueState) (l : LastStatistics) (loose : List Page) →
-    IsBase m1 s n qs c → queue_refusal q s ≡ None → h < (queue_at q qs).ring.size
+    IsBase m1 s n qs c → has_chains q ≡ true → readiness_refusal s ≡ None →
+    h < (queue_at q qs).ring.size
     → All (λ page. 16 ≤ page) pages → m2 ≡ without_frames q pages m1 →
     IsSome (frame_at m1 (ring_page q)) →
     CanUse q h m2 (base_part s f t a n (set qs (place_of q) x2) l loose)
-can_use q h pages m1 m2 s f t a n c qs x2 l loose is ok lt above mem backed =
-    let known : has_chains q ≡ true = queue_known q s ok in
+can_use q h pages m1 m2 s f t a n c qs x2 l loose is known ok lt above mem backed =
     record {
       known = known;
-      ready = status_ok s (queue_status q s ok);
+      ready = status_ok s ok;
       head = subst (λ (k : ℕ). h < k) (is.each q known).size lt;
       backed = subst (λ (o : Option Page). IsSome (number_of o))
           (sym (ap (λ (m : Pages). page_at m (ring_page q)) mem ∙
           kept_page q (ring_page q) pages m1 (ring_low q known) above)) backed;
     }
+
+-- a request whose next page is visited stands in memory that has pages
+pub visits_attached : (mem : Pages) (ts : List Request) (page : ℕ) →
+    (length mem ≡ 0 → ts ≡ []) → next_page ts ≡ Some page → 0 < length mem
+visits_attached mem ts page none at = elim (cases_eq (length mem) 0) [
+  | inl e ↦ absurd (no_page page (sym (ap next_page (none e)) ∙ at))
+  | inr ne ↦ omega (arith, ne)
+]
+  where
+    no_page : (page : ℕ) → None ≡ Some page → ⊥
+    no_page page e = cc
+
+pub visits_some : (mem : Pages) (ts : List Request) (found : Option ℕ) →
+    (length mem ≡ 0 → ts ≡ []) → found ≡ next_page ts → OnSome found (0 < length mem)
+visits_some mem ts None none at = search rules
+visits_some mem ts (Some page) none at = visits_attached mem ts page none (sym at)

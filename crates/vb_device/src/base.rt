@@ -349,10 +349,8 @@ impl DeviceBase {
         if let Some(why) = self.readiness_refusal() {
             return Err(why);
         }
-        match self.queues[2].remove(0, false) {
-            Err(why) => Err(why),
-            Ok(buffer) => Ok(buffer.head()),
-        }
+        let buffer = self.queues[2].remove(0, false)?;
+        Ok(buffer.head())
     }
 
     /// Uses the statistics buffer that was taken.

@@ -1,4 +1,4 @@
-use Rattle.std.proofs.Common.{◌≡◌, ◌∙◌, ◌≤◌, ◌<◌, ℕ, List, None, Some, Ok, get_or, true, sym}
+use Rattle.std.proofs.Common.{◌≡◌, ◌∙◌, ◌≤◌, ◌<◌, ℕ, List, None, Some, Ok, Err, get_or, true, sym}
 use Rattle.std.proofs.Common.{ap, subst, rules}
 use Rattle.std.specs.Prelude.{length, slice_get, IsSome, Bool, not, ◌&&◌, ◌==◌}
 use Rattle.std.proofs.Math.ListN.{set}
@@ -16,9 +16,9 @@ use Rattle.vb_device.specs.State.{DeviceState}
 use Rattle.vb_device.specs.QueueState.{QueueState, taken_refusal}
 use Rattle.vb_device.specs.Base.{place_of, queue_at, base_part, numbers_of_frames, with_pace, IsBase}
 use Rattle.vb_device.specs.BaseCalls.{queue_refusal, TakesOut, CanUse}
-use Rattle.vb_device.proofs.Four.{entry_is}
+use Rattle.vb_device.proofs.Four.{entry_is, set_same}
 use Rattle.vb_device.proofs.TakesBy.{queue_known, queue_status, queue_finish, status_ok}
-use Rattle.vb_device.proofs.Finishes.{out_at, out_refused, without_taken, base_used}
+use Rattle.vb_device.proofs.Finishes.{finish_left, out_at, out_refused, without_taken, base_used}
 use Rattle.vb_device.proofs.Finishes.{has_pages, can_use, kept_length}
 use Rattle.vb_device.proofs.base.DeviceBase.take_out.Goals as goal
 
@@ -28,6 +28,57 @@ returns-in-Some-clause-by c =
     (with_pace c.args.paced c.args.self.now.part) c.in-Some.why
     (queue_finish c.args.queue c.args.index (with_pace c.args.paced c.args.self.now.part)
     c.in-Some.why (sym c.in-Some.ensures))
+
+pub returns-in-Err-clause-by : goal.returns-in-Err-clause-by
+returns-in-Err-clause-by c =
+    let open_status : queue_refusal c.args.queue (status_bits c.self.inside.status) ≡ None =
+    search rules in
+    let known : has_chains c.args.queue ≡ true =
+    queue_known c.args.queue (status_bits c.self.inside.status) open_status in
+    let was : get_or c.self.inside.queues c.place_of-place.result c.index-self-place.result ≡
+    queue_at c.args.queue c.self.inside.queues =
+    ap (λ (i : ℕ). get_or c.self.inside.queues i c.index-self-place.result)
+    c.place_of-place.ensures.place ∙
+    entry_is c.args.queue c.self.inside.queues c.index-self-place.result c.self.invariant.four known
+    in
+    let same : c.remove.new.self ≡ queue_at c.args.queue c.self.inside.queues =
+    c.in-Err.ensures.err ∙ was in
+    let last : LastStatistics =
+    record { free = c.self.inside.last.free; total = c.self.inside.last.total } in
+    let why : taken_refusal (c.args.paced && not (c.args.queue == 1))
+    (slice_get (queue_at c.args.queue c.self.inside.queues).taken c.args.index) ≡
+    Some c.in-Err.why =
+    ap (λ (b : Bool). taken_refusal b
+    (slice_get (queue_at c.args.queue c.self.inside.queues).taken c.args.index))
+    (sym c.visits_first-visits.ensures)
+    ∙ (ap (λ (x : QueueState). taken_refusal c.visits_first-visits.result
+    (slice_get x.taken c.args.index)) (sym was) ∙ sym c.in-Err.ensures.refused) in
+    subst (λ (v : DeviceState). TakesOut c.args.queue c.args.index v.mem c.self.inside.ram
+    (with_pace c.args.paced v.part) (with_pace c.args.paced
+    (base_part (status_bits c.self.inside.status) (feature_bits c.self.inside.features)
+    c.self.inside.target c.self.inside.actual c.self.inside.queue_size
+    (set c.self.inside.queues c.place_of-place.result c.remove.new.self) last
+    c.self.inside.loose.items)) (Err c.in-Err.why)) c.self.view_is
+    (subst (λ (ys : List QueueState). TakesOut c.args.queue c.args.index c.self.inside.ram
+    c.self.inside.ram (with_pace c.args.paced
+    (base_part (status_bits c.self.inside.status) (feature_bits c.self.inside.features)
+    c.self.inside.target c.self.inside.actual c.self.inside.queue_size c.self.inside.queues last
+    c.self.inside.loose.items)) (with_pace c.args.paced
+    (base_part (status_bits c.self.inside.status) (feature_bits c.self.inside.features)
+    c.self.inside.target c.self.inside.actual c.self.inside.queue_size ys last
+    c.self.inside.loose.items)) (Err c.in-Err.why))
+    (sym (ap (λ (i : ℕ). set c.self.inside.queues i c.remove.new.self)
+    c.place_of-place.ensures.place
+    ∙ (ap (λ (x : QueueState). set c.self.inside.queues (place_of c.args.queue) x) same
+    ∙ set_same c.args.queue c.self.inside.queues c.self.invariant.four known)))
+    (out_refused c.args.queue c.args.index c.self.inside.ram (with_pace c.args.paced
+    (base_part (status_bits c.self.inside.status) (feature_bits c.self.inside.features)
+    c.self.inside.target c.self.inside.actual c.self.inside.queue_size c.self.inside.queues last
+    c.self.inside.loose.items)) c.in-Err.why
+    (finish_left c.args.queue c.args.index c.args.paced (status_bits c.self.inside.status)
+    (feature_bits c.self.inside.features) c.self.inside.target c.self.inside.actual
+    c.self.inside.queue_size c.self.inside.queues last c.self.inside.loose.items open_status
+    ∙ why)))
 
 pub invariant_of-self-in-Ok : goal.invariant_of-self-in-Ok
 invariant_of-self-in-Ok c =
@@ -171,7 +222,9 @@ returns-in-Ok-clause-ready c =
     c.discard_request.new.ram (status_bits c.self.inside.status)
     (feature_bits c.self.inside.features) c.self.inside.target c.self.inside.actual
     c.self.inside.queue_size _ c.self.inside.queues c.remove.new.self last
-    c.discard_request.new.loose.items c.self.invariant open_status low c.in-Ok.ensures.above
+    c.discard_request.new.loose.items c.self.invariant known
+    (queue_status c.args.queue (status_bits c.self.inside.status) open_status) low
+    c.in-Ok.ensures.above
     c.discard_request.ensures.mem backed)
 
 pub returns-in-Ok-clause-count : goal.returns-in-Ok-clause-count
