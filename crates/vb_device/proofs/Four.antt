@@ -8,7 +8,7 @@ use Rattle.vb_ram.specs.Part.{Part, QueuePart}
 use Rattle.vb_model.specs.Guest.{LastStatistics}
 use Rattle.vb_model.specs.Status.{contains, driver_ok}
 use Rattle.vb_model.specs.Tables.{has_chains, is_queue_of_requests}
-use Rattle.vb_model.proofs.Queues.{queue_cases, no_chains_at}
+use Rattle.vb_model.proofs.Queues.{queue_cases, no_chains_at, no_requests_at}
 use Rattle.vb_ring.specs.declared.layout.Layout.{Layout}
 use Rattle.vb_ring.specs.Layout.{layout_of}
 use Rattle.vb_device.specs.Queues.{queue_part, with_queue}
@@ -34,6 +34,24 @@ at_each P a b c d q known = elim (queue_cases q) [
   ]
 ]
 
+-- the same of the queues on which requests are finished
+pub at_requests : (P : ℕ → Type 0) → P 0 → P 1 → P 4 → (q : ℕ) → is_queue_of_requests q ≡ true →
+    P q
+at_requests P a b d q known = elim (queue_cases q) [
+  | inl e ↦ subst P (sym e) a
+  | inr r ↦ elim r [
+    | inl e ↦ subst P (sym e) b
+    | inr r2 ↦ elim r2 [
+      | inl e ↦ absurd (true_false (is_queue_of_requests q) known (ap is_queue_of_requests e))
+      | inr r3 ↦ elim r3 [
+        | inl e ↦ subst P (sym e) d
+        | inr other ↦
+            absurd (true_false (is_queue_of_requests q) known (no_requests_at q other))
+      ]
+    ]
+  ]
+]
+
 -- what holds of four queues holds of a list of that length
 of_four : (P : List QueueState → Type 0) →
     ((a b c d : QueueState) → P (a ∷ b ∷ c ∷ d ∷ [])) → (qs : List QueueState) →
@@ -52,6 +70,12 @@ entry_is q qs x four known =
     of_four (λ l. get_or l (place_of q) x ≡ queue_at q l)
     (λ a b c d. at_each (λ n. get_or (a ∷ b ∷ c ∷ d ∷ []) (place_of n) x ≡
     queue_at n (a ∷ b ∷ c ∷ d ∷ [])) refl refl refl refl q known) qs four
+
+-- the last queue where the first was changed
+pub last_entry : (qs : List QueueState) (x r : QueueState) → length qs ≡ 4 →
+    get_or (set qs 0 x) 3 r ≡ queue_at 4 qs
+last_entry qs x r four =
+    of_four (λ l. get_or (set l 0 x) 3 r ≡ queue_at 4 l) (λ a b c d. refl) qs four
 
 -- the queue that was put there
 pub set_here : (q : ℕ) (qs : List QueueState) (x : QueueState) → length qs ≡ 4 →

@@ -20,7 +20,7 @@ use Rattle.vb_ram.specs.Part.{Part}
 use Rattle.vb_ring.specs.Calls.{AddsUsedBy}
 use Rattle.vb_device.specs.Queues.{queue_part, with_queue, queue_end}
 use Rattle.vb_device.specs.Conditions.{finish_refusal, sweep_refusal, ask_refusal, taken_at}
-use Rattle.vb_device.specs.Discards.{discarded, frames_behind}
+use Rattle.vb_device.specs.Discards.{discarded, frames_behind, flagged}
 use Rattle.vb_device.specs.Calls.{without_frames, lost_frames, settled}
 
 -- Why the status alone refuses a call, where it does.
@@ -89,6 +89,12 @@ VisitsNext m1 m2 p1 p2 (Some worked) =
 -- The loose frames, with those that a request's pages lose.
 abbrev pub with_lost : ℕ → Pages → List ℕ → List ℕ → List ℕ
 with_lost q mem pages loose = loose ++ lost_frames q pages mem
+
+-- The ballooned pages after a finish: an inflate's are ballooned, a deflate's are ballooned no more,
+-- and a report changes none.
+abbrev pub flags_after : ℕ → List ℕ → List Bool → List Bool
+flags_after q pages flags =
+    if q == REPORT_QUEUE then flags else flagged pages (q == INFLATE_QUEUE) flags
 
 -- The taken request of this number, for these pages, is taken out: those behind it close up, and
 -- what its pages lose is loose.

@@ -15,7 +15,6 @@ use bitflags::Flags;
 use std::alloc::{AllocError, Global};
 use std::marker::{Model, PhantomData};
 use vb_model::Refusal;
-use vb_model::layout::{INFLATE_QUEUE, REPORT_QUEUE};
 use vb_ram::{Config, Frame, GuestBytes, RamFault, SupplyRefused};
 use vb_status::{Features, Port, Status, StatusFault};
 
@@ -78,9 +77,7 @@ impl<P: Pace> BalloonDevice<P> {
         ensures ready { IfOk result (λ head. CanUse queue head self.new.mem self.new.part) }
     {
         let request = self.base.take_out(queue, index, P::IS_PACED)?;
-        if queue != REPORT_QUEUE {
-            self.ballooned.set_all(&request, queue == INFLATE_QUEUE);
-        }
+        self.ballooned.note_finish(queue, &request);
         Ok(request.head())
     }
 }
