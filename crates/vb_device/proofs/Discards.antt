@@ -1,9 +1,9 @@
 -- Pages lose their frames one by one.
-use Rattle.std.specs.Prelude.{◌≡◌, ◌≢◌, ℕ, zero, suc, ◌+◌, ◌<◌, ◌≤◌, Bool, true, false, not, ◌||◌}
-use Rattle.std.specs.Prelude.{◌==◌, IsTrue, List, [], ◌∷◌, ◌++◌, length, Option, None, All, refl}
+use Rattle.std.specs.Prelude.{◌≡◌, ◌≢◌, ℕ, suc, ◌+◌, ◌<◌, ◌≤◌, Bool, true, false, ◌||◌}
+use Rattle.std.specs.Prelude.{◌==◌, List, [], ◌∷◌, ◌++◌, length, Option, None, All, refl}
 use Rattle.std.specs.Prelude.{cond, Some, is_some, IfNone, count_by, if◌then◌else◌}
 use Rattle.std.specs.Option.{option_to_list}
-use Rattle.std.proofs.Common.{sym, ◌∙◌, ap, arith, get_or, take, eq-eqb, inl, inr, rules}
+use Rattle.std.proofs.Common.{sym, ◌∙◌, ap, arith, get_or, take, eq-eqb, inl, inr}
 use Rattle.std.proofs.lemmas.Bool.{eqb-true, cases_eq, cases_lt}
 use Rattle.std.proofs.Math.ListN.{set, length-set}
 use Rattle.std.proofs.lemmas.List.{get_or-set_same, get_or-set_other, get_or_past}

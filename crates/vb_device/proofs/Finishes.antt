@@ -1,7 +1,7 @@
 -- A finish by a device, from the end of its queue.
-use Rattle.std.specs.Prelude.{◌≡◌, ℕ, zero, suc, ◌+◌, ◌%◌, ◌<◌, ◌≤◌, Bool, true, false, not}
+use Rattle.std.specs.Prelude.{◌≡◌, ℕ, ◌+◌, ◌%◌, ◌<◌, ◌≤◌, Bool, true, false, not}
 use Rattle.std.specs.Prelude.{◌==◌, ◌&&◌, List}
-use Rattle.std.specs.Prelude.{[], ◌∷◌, length, remove, Option, Some, None, IsSome, OnSome, Result}
+use Rattle.std.specs.Prelude.{[], length, remove, Option, Some, None, IsSome, OnSome, Result}
 use Rattle.std.specs.Prelude.{is_none, Ok, Err, if◌then◌else◌, slice_get, All, refl}
 use Rattle.std.proofs.Common.{sym, ◌∙◌, ap, subst, arith, inl, inr, rules}
 use Rattle.vb_model.specs.Device.{next_page}
@@ -27,7 +27,7 @@ use Rattle.vb_device.specs.BaseCalls.{queue_refusal, with_lost, taken_out, Takes
 use Rattle.vb_device.specs.BaseCalls.{CanUse, readiness_refusal}
 use Rattle.vb_device.specs.Calls.{without_frames}
 use Rattle.vb_device.proofs.Four.{at_each, part_get, part_set, set_here, base_set}
-use Rattle.vb_device.proofs.TakesBy.{finish_open, queue_known, queue_status, status_ok}
+use Rattle.vb_device.proofs.TakesBy.{finish_open, queue_known, status_ok}
 use Rattle.vb_model.specs.Status.{contains, driver_ok}
 use Rattle.vb_model.specs.Layout.{ring_page}
 use Rattle.vb_device.proofs.Discards.{discarded-length, backed_still}

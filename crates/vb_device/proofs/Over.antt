@@ -1,8 +1,8 @@
 -- A device that keeps ballooned pages, from one that has ballooned nothing.
-use Rattle.std.specs.Prelude.{◌≡◌, ℕ, zero, suc, ◌+◌, ◌%◌, ◌≤◌, ◌==◌, Bool, true, false, List, []}
+use Rattle.std.specs.Prelude.{◌≡◌, ℕ, ◌+◌, ◌%◌, ◌==◌, Bool, true, false, List, []}
 use Rattle.std.specs.Prelude.{◌∷◌}
 use Rattle.std.specs.Prelude.{Option, Some, None, Result, Ok, Err, if◌then◌else◌, ◌++◌, not, is_some, refl}
-use Rattle.std.proofs.Common.{sym, ◌∙◌, ap, subst, arith}
+use Rattle.std.proofs.Common.{sym, ◌∙◌, ap, subst}
 use Rattle.vb_model.specs.declared.replies.Refusal.{Refusal}
 use Rattle.vb_model.specs.declared.replies.Refusal.TheVariants.{Broken, NoQueue}
 use Rattle.vb_model.specs.Requests.{Request}
@@ -10,7 +10,7 @@ use Rattle.vb_ram.specs.Pages.{Pages}
 use Rattle.vb_ram.specs.Part.{Part, QueuePart}
 use Rattle.vb_chain.specs.declared.fault.ChainFault.{ChainFault}
 use Rattle.vb_device.specs.Faults.{Breaks}
-use Rattle.vb_device.specs.Discards.{frames_behind, flagged}
+use Rattle.vb_device.specs.Discards.{frames_behind}
 use Rattle.vb_device.specs.declared.worked.Worked.{Worked}
 use Rattle.vb_device.specs.Base.{with_pace}
 use Rattle.vb_device.specs.BaseCalls.{readiness_refusal, VisitsNext, SettlesBy, taken_out}
@@ -19,7 +19,6 @@ use Rattle.vb_device.specs.Conditions.{work_refusal}
 use Rattle.vb_device.specs.Queues.{queue_part, with_queue, queue_end}
 use Rattle.vb_ring.specs.Ends.{DeviceEnd}
 use Rattle.vb_ring.specs.Calls.{AddsUsedBy}
-use Rattle.vb_model.specs.Tests.{times}
 use Rattle.vb_device.proofs.LooseFrames.{all_but_loose, lost_alone}
 use Rattle.vb_model.specs.Device.{next_page}
 use Rattle.vb_device.specs.Calls.{lost_frames, next_visit, Visits, WorksBy}

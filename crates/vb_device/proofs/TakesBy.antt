@@ -1,8 +1,8 @@
 -- A take by a device, from the take of its queue.
-use Rattle.std.specs.Prelude.{◌≡◌, ℕ, ◌≤◌, Bool, true, false, not, ◌||◌, ◌&&◌, ◌*◌, ◌+◌, ◌%◌, ◌++◌, nat_le}
+use Rattle.std.specs.Prelude.{◌≡◌, ℕ, Bool, true, false, not, ◌||◌, ◌*◌, ◌+◌, ◌%◌, ◌++◌, nat_le}
 use Rattle.std.specs.Prelude.{List, [], ◌∷◌, length, Option, Some, None, Result, Ok, Err}
 use Rattle.std.specs.Prelude.{if◌then◌else◌, bit_or, refl}
-use Rattle.std.proofs.Common.{sym, ◌∙◌, ap, subst, arith}
+use Rattle.std.proofs.Common.{sym, ◌∙◌, ap, subst}
 use Rattle.std.proofs.Math.ListN.{set}
 use Rattle.vb_model.specs.declared.replies.Refusal.{Refusal}
 use Rattle.vb_model.specs.declared.replies.Refusal.TheVariants.{NoQueue, NotReady, NeedsReset, Busy}
@@ -283,8 +283,7 @@ takes_by q mem P x1 x2 s l1 l2 result sits t =
       memory = refl;
       refused = λ why e.
           let full = is_busy (is_full q x1) why (sym sits.refusal ∙ e) in
-          let got = t.busy full.0 in
-          (
+          let got = t.busy full.0 in (
             got.0 ∙ ap Err full.1,
             after_is P x1 x2 s l1 l2 result (Err Busy) got.0 got.1 got.2,
           );

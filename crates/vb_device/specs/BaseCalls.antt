@@ -1,5 +1,5 @@
 -- What the parts of a device's calls do.
-use Rattle.std.specs.Prelude.{◌≡◌, ℕ, ◌+◌, ◌%◌, ◌<◌, ◌≤◌, ◌==◌, true, not, List, [], ◌∷◌, ◌++◌}
+use Rattle.std.specs.Prelude.{◌≡◌, ℕ, ◌+◌, ◌%◌, ◌<◌, ◌==◌, true, not, List, [], ◌∷◌, ◌++◌}
 use Rattle.std.specs.Prelude.{remove, if◌then◌else◌, Option, Some, None, IsSome, is_some, Bool}
 use Rattle.std.specs.Prelude.{Result, Ok, Err}
 use Rattle.vb_model.specs.declared.layout.TheConstants.{INFLATE_QUEUE, STATISTICS_QUEUE}

@@ -1,6 +1,6 @@
 -- One queue as a device has it.
-use Rattle.std.specs.Prelude.{◌≡◌, ℕ, ◌+◌, ◌*◌, ◌%◌, ◌≤◌, Bool, true, false, nat_le, List, [], ◌∷◌}
-use Rattle.std.specs.Prelude.{◌++◌, All, length, Option, Some, None, Result, Ok, Err, bit_or}
+use Rattle.std.specs.Prelude.{◌≡◌, ℕ, ◌+◌, ◌*◌, ◌%◌, Bool, true, false, nat_le, List, [], ◌∷◌}
+use Rattle.std.specs.Prelude.{◌++◌, length, Option, Some, None, Result, Ok, Err, bit_or}
 use Rattle.std.specs.Prelude.{is_none, ◌&&◌}
 use Rattle.vb_model.specs.declared.replies.Refusal.{Refusal}
 use Rattle.vb_model.specs.declared.replies.Refusal.TheVariants.{Busy, Broken}

@@ -29,17 +29,18 @@ ghost use Rattle.vb_device.specs.Calls.{without_frames};
 ghost use Rattle.vb_device.specs.Discards.{discarded, frames_behind};
 ghost use Rattle.vb_device.specs.QueueState.{status_after, started, restarted};
 
-use crate::{Statistics, Worked};
 use crate::flags::PageFlags;
 use crate::queue::DeviceQueue;
 use crate::taken::TakenRequest;
+use crate::{Statistics, Worked};
 use bitflags::Flags;
 use std::alloc::{AllocError, Global};
 use std::marker::Model;
-use vb_model::Refusal;
-use vb_model::layout::{DEFLATE_QUEUE, DEFLATE_RING_PAGE, INFLATE_QUEUE, INFLATE_RING_PAGE};
-use vb_model::layout::{REPORT_QUEUE, REPORT_RING_PAGE, STATISTICS_QUEUE, STATISTICS_RING_PAGE};
-use vb_model::limits;
+use vb_model::layout::{
+    DEFLATE_QUEUE, DEFLATE_RING_PAGE, INFLATE_QUEUE, INFLATE_RING_PAGE, REPORT_QUEUE,
+    REPORT_RING_PAGE, STATISTICS_QUEUE, STATISTICS_RING_PAGE,
+};
+use vb_model::{Refusal, limits};
 use vb_ram::{Config, Frame, GuestBytes, Ram, RamFault, SupplyRefused};
 use vb_status::{Features, Port, Status, StatusFault, negotiate, write_status};
 

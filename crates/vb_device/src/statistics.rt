@@ -12,8 +12,7 @@ ghost use Rattle.vb_device.specs.Statistics.{statistics_in};
 
 use crate::request::{gather, has_writable, total_length};
 use vb_chain::{ChainFault, Piece};
-use vb_model::layout::{FREE_MEMORY_TAG, TOTAL_MEMORY_TAG};
-use vb_model::layout::{MAX_STATISTICS_LENGTH, STATISTIC_SIZE};
+use vb_model::layout::{FREE_MEMORY_TAG, MAX_STATISTICS_LENGTH, STATISTIC_SIZE, TOTAL_MEMORY_TAG};
 use vb_ram::GuestBytes;
 
 /// The figures of a guest's last buffer of statistics, in bytes, as far as it had them (VIRTIO 1.1,

@@ -1,4 +1,4 @@
-use Rattle.std.proofs.Common.{◌≡◌, ◌∙◌, None, Some, ap, sym, arith, rules, get_or}
+use Rattle.std.proofs.Common.{◌≡◌, None, Some, sym, arith, rules, get_or}
 use Rattle.vb_chain.specs.Written.{empty}
 use Rattle.vb_device.specs.Report.{piece_fault}
 use Rattle.vb_device.proofs.Reports.{fault_here, sound_more}

@@ -1,4 +1,4 @@
-use Rattle.std.proofs.Common.{◌≡◌, ◌∙◌, ap, sym, arith, rules}
+use Rattle.std.proofs.Common.{arith}
 use Rattle.vb_chain.specs.Written.{empty}
 use Rattle.vb_device.proofs.Reports.{page_here, count_more}
 use Rattle.vb_device.proofs.report.page_at.Goals as goal

@@ -1,6 +1,6 @@
-use Rattle.std.proofs.Common.{◌≡◌, ◌∙◌, ◌<◌, ◌/◌, ap, sym, arith, rules, length, take}
+use Rattle.std.proofs.Common.{◌∙◌, ◌<◌, ◌/◌, ap, arith, length}
 use Rattle.std.proofs.lemmas.List.{take_all}
-use Rattle.vb_device.specs.Statistics.{statistics_of, last_of, Statistic}
+use Rattle.vb_device.specs.Statistics.{statistics_of, last_of}
 use Rattle.vb_device.proofs.LastStatistics.{last_more, statistics_of-length}
 use Rattle.vb_device.proofs.statistics.statistics_of.Goals as goal
 

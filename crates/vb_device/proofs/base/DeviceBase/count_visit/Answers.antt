@@ -1,4 +1,4 @@
-use Rattle.std.proofs.Common.{◌≡◌, ◌∙◌, Some, get_or, refl, ap, sym}
+use Rattle.std.proofs.Common.{◌∙◌, refl, ap, sym}
 use Rattle.vb_model.specs.Device.{next_page}
 use Rattle.vb_device.specs.QueueState.{QueueState}
 use Rattle.vb_device.specs.Base.{queue_at}

@@ -1,4 +1,4 @@
-use Rattle.std.proofs.Common.{◌≡◌, ◌∙◌, ◌≤◌, ◌<◌, ℕ, List, None, Some, Ok, Err, get_or, true, sym}
+use Rattle.std.proofs.Common.{◌≡◌, ◌∙◌, ◌<◌, ℕ, List, None, Some, Ok, Err, get_or, true, sym}
 use Rattle.std.proofs.Common.{ap, subst, rules}
 use Rattle.std.specs.Prelude.{length, slice_get, IsSome, Bool, not, ◌&&◌, ◌==◌}
 use Rattle.std.proofs.Math.ListN.{set}
