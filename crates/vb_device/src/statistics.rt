@@ -11,6 +11,7 @@ ghost use Rattle.vb_device.specs.Statistics.{is_statistics_length, statistics_re
 ghost use Rattle.vb_device.specs.Statistics.{statistics_in};
 
 use crate::request::{gather, has_writable, total_length};
+use byteorder::{ByteOrder, LittleEndian};
 use vb_chain::{ChainFault, Piece};
 use vb_model::layout::{FREE_MEMORY_TAG, MAX_STATISTICS_LENGTH, STATISTIC_SIZE, TOTAL_MEMORY_TAG};
 use vb_ram::GuestBytes;
@@ -62,9 +63,7 @@ fn tag_at(bytes: &[u8], k: usize) -> u16
     requires { 10 * k + 10 ≤ length bytes.now }
     ensures { result ≡ (statistic_at bytes.now k).tag }
 {
-    let mut word = [0; 2];
-    word.copy_from_slice(&bytes[ENTRY_BYTES * k..ENTRY_BYTES * k + 2]);
-    u16::from_le_bytes(word)
+    LittleEndian::read_u16(&bytes[ENTRY_BYTES * k..])
 }
 
 /// The value of statistic `k` of these bytes.
@@ -72,9 +71,7 @@ fn value_at(bytes: &[u8], k: usize) -> u64
     requires { 10 * k + 10 ≤ length bytes.now }
     ensures { result ≡ (statistic_at bytes.now k).value }
 {
-    let mut word = [0; 8];
-    word.copy_from_slice(&bytes[ENTRY_BYTES * k + 2..ENTRY_BYTES * k + 10]);
-    u64::from_le_bytes(word)
+    LittleEndian::read_u64(&bytes[ENTRY_BYTES * k + 2..])
 }
 
 /// What these bytes say: the last statistic of each tag counts.
