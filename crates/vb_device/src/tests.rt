@@ -38,7 +38,7 @@ enum Step {
     Stats,
     /// A page is visited. No frame may be loose before.
     Work,
-    /// The pages from the first to the last are visited in turn, and none has a frame.
+    /// The pages from the first up to the end are visited in turn, and none has a frame.
     WorkBare(u32, u32),
     /// The inflate that was taken first is settled, and the driver isn't told. No frame may be
     /// loose before.
@@ -197,8 +197,8 @@ impl<P: Pace> Host<P> {
         Answer::Stats(free, total)
     }
 
-    fn work_bare(&mut self, first: u32, last: u32) -> bool {
-        for page in first..last + 1 {
+    fn work_bare(&mut self, first: u32, end: u32) -> bool {
+        for page in first..end {
             if self.work() != Answer::Worked(page, false) {
                 return false;
             }
@@ -323,7 +323,7 @@ impl<P: Pace> Host<P> {
             Step::Ask => self.ask(),
             Step::Stats => self.stats(),
             Step::Work => self.work(),
-            Step::WorkBare(first, last) => done(self.work_bare(*first, *last)),
+            Step::WorkBare(first, end) => done(self.work_bare(*first, *end)),
             Step::Settle => self.settle(),
             Step::FinishInflate(index) => self.finish_inflate(*index),
             Step::FinishDeflate => self.finish_deflate(),
@@ -954,9 +954,9 @@ static REPORT: [(Step, Answer); 16] = [
     (Step::Work, Answer::Worked(16, true)),
     (Step::HandBack, Answer::Frame(Some(40))),
     (Step::FinishReport, Answer::Refused(Refusal::NotWorked)),
-    (Step::WorkBare(17, 62), Answer::Done),
+    (Step::WorkBare(17, 63), Answer::Done),
     (Step::FinishReport, Answer::Refused(Refusal::NotWorked)),
-    (Step::WorkBare(63, 63), Answer::Done),
+    (Step::WorkBare(63, 64), Answer::Done),
     (Step::Work, Answer::Idle),
     (Step::Supply(20, 41), Answer::Done),
     (Step::FinishReport, Answer::Head(Some(0))),
