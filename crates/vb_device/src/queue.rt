@@ -207,6 +207,7 @@ impl DeviceQueue {
             return Err(Refusal::NotWorked);
         }
         let request = self.taken.remove(at);
+        // What is always true of its pages is known from here on.
         let _count = request.count();
         Ok(request)
     }

@@ -101,6 +101,7 @@ pub(crate) fn read_statistics<G: GuestBytes>(
         (said.total ≡ (statistics_in (G.mem ram.now) pieces.now).total))
         (λ fault. statistics_request pieces.now ≡ Err fault) }
 {
+    // That memory has fewer than 2^32 pages is known from here on.
     let _few = ram.pages();
     if has_writable(pieces) {
         return Err(ChainFault::WrongDirection);
