@@ -43,12 +43,8 @@ enum Step {
     /// The inflate that was taken first is settled, and the driver isn't told. No frame may be
     /// loose before.
     Settle,
-    /// The inflate that was taken as this number is finished. No frame may be loose before.
-    FinishInflate(u32),
-    /// The deflate that was taken first is finished. No frame may be loose before.
-    FinishDeflate,
-    /// The report that was taken first is finished. No frame may be loose before.
-    FinishReport,
+    /// The chain of a queue that was taken as this number is finished. No frame may be loose before.
+    Finish(u32, u32),
     /// A frame of this number is put behind a page.
     Supply(u32, u32),
     Backing(u32),
@@ -152,31 +148,16 @@ impl<P: Pace> Host<P> {
         }
     }
 
-    fn finish_inflate(&mut self, index: u32) -> Answer {
-        if self.device.hand_back().is_some() || self.device.backing(0).is_none() {
+    fn finish(&mut self, queue: u32, index: u32) -> Answer {
+        if self.device.hand_back().is_some()
+            || self.device.backing(0).is_none()
+            || self.device.backing(1).is_none()
+            || self.device.backing(2).is_none()
+            || self.device.backing(3).is_none()
+        {
             return Answer::Is(false);
         }
-        match self.device.finish(0, index) {
-            Ok(head) => Answer::Head(Some(head)),
-            Err(refusal) => Answer::Refused(refusal),
-        }
-    }
-
-    fn finish_deflate(&mut self) -> Answer {
-        if self.device.hand_back().is_some() || self.device.backing(1).is_none() {
-            return Answer::Is(false);
-        }
-        match self.device.finish(1, 0) {
-            Ok(head) => Answer::Head(Some(head)),
-            Err(refusal) => Answer::Refused(refusal),
-        }
-    }
-
-    fn finish_report(&mut self) -> Answer {
-        if self.device.hand_back().is_some() || self.device.backing(3).is_none() {
-            return Answer::Is(false);
-        }
-        match self.device.finish(4, 0) {
+        match self.device.finish(queue, index) {
             Ok(head) => Answer::Head(Some(head)),
             Err(refusal) => Answer::Refused(refusal),
         }
@@ -325,9 +306,7 @@ impl<P: Pace> Host<P> {
             Step::Work => self.work(),
             Step::WorkBare(first, end) => done(self.work_bare(*first, *end)),
             Step::Settle => self.settle(),
-            Step::FinishInflate(index) => self.finish_inflate(*index),
-            Step::FinishDeflate => self.finish_deflate(),
-            Step::FinishReport => self.finish_report(),
+            Step::Finish(queue, index) => self.finish(*queue, *index),
             Step::Supply(page, number) => done(self.supply(alloc, *page, *number)),
             Step::Backing(page) => Answer::Frame(self.device.backing(*page)),
             Step::HandBack => self.hand_back(),
@@ -391,7 +370,7 @@ static INFLATE: [(Step, Answer); 7] = [
     (Step::Write(0, 0, &SIXTEEN_BYTES), Answer::Done),
     (Step::Write(0, 128, &AVAILABLE), Answer::Done),
     (Step::Take(0), Answer::Head(Some(0))),
-    (Step::FinishInflate(0), Answer::Head(Some(0))),
+    (Step::Finish(0, 0), Answer::Head(Some(0))),
     (Step::AreBallooned(17, 20), Answer::Done),
 ];
 
@@ -524,7 +503,7 @@ static FAULT: [(Step, Answer); 7] = [
     (Step::Status, Answer::Status(79)),
     (Step::Take(0), Answer::Refused(Refusal::NeedsReset)),
     (Step::Take(1), Answer::Refused(Refusal::NeedsReset)),
-    (Step::FinishInflate(0), Answer::Refused(Refusal::NeedsReset)),
+    (Step::Finish(0, 0), Answer::Refused(Refusal::NeedsReset)),
 ];
 
 #[test]
@@ -539,7 +518,7 @@ static NAMED_TWICE: [(Step, Answer); 8] = [
     (Step::Write(0, 0, &EIGHT_BYTES), Answer::Done),
     (Step::Write(0, 128, &AVAILABLE), Answer::Done),
     (Step::Take(0), Answer::Head(Some(0))),
-    (Step::FinishInflate(0), Answer::Head(Some(0))),
+    (Step::Finish(0, 0), Answer::Head(Some(0))),
     (Step::AreBallooned(20, 20), Answer::Done),
     (Step::BalloonedCount, Answer::Count(1)),
 ];
@@ -563,7 +542,7 @@ static CUT: [(Step, Answer); 9] = [
     (Step::Write(0, 0, &TWO_PIECES), Answer::Done),
     (Step::Write(0, 128, &AVAILABLE), Answer::Done),
     (Step::Take(0), Answer::Head(Some(0))),
-    (Step::FinishInflate(0), Answer::Head(Some(0))),
+    (Step::Finish(0, 0), Answer::Head(Some(0))),
     (Step::AreBallooned(20, 21), Answer::Done),
     (Step::BalloonedCount, Answer::Count(2)),
 ];
@@ -579,7 +558,7 @@ static OVER: [(Step, Answer); 8] = [
     (Step::Write(0, 0, &OVER_THE_END), Answer::Done),
     (Step::Write(0, 128, &AVAILABLE), Answer::Done),
     (Step::Take(0), Answer::Head(Some(0))),
-    (Step::FinishInflate(0), Answer::Head(Some(0))),
+    (Step::Finish(0, 0), Answer::Head(Some(0))),
     (Step::AreBallooned(30, 31), Answer::Done),
 ];
 
@@ -629,7 +608,7 @@ static DEFLATE: [(Step, Answer); 6] = [
     (Step::Write(1, 0, &EIGHT_BYTES), Answer::Done),
     (Step::Write(1, 128, &AVAILABLE), Answer::Done),
     (Step::Take(1), Answer::Head(Some(0))),
-    (Step::FinishDeflate, Answer::Head(Some(0))),
+    (Step::Finish(1, 0), Answer::Head(Some(0))),
     (Step::AreBallooned(19, 20), Answer::Done),
     (Step::Read(1, 152), Answer::Bytes(USED)),
 ];
@@ -646,7 +625,7 @@ static RESET: [(Step, Answer); 7] = [
     (Step::Backing(18), Answer::Frame(None)),
     (Step::Backing(19), Answer::Frame(None)),
     (Step::Backing(20), Answer::Frame(None)),
-    (Step::FinishInflate(0), Answer::Refused(Refusal::NotReady)),
+    (Step::Finish(0, 0), Answer::Refused(Refusal::NotReady)),
 ];
 
 #[test]
@@ -686,11 +665,11 @@ static TWO_IN_ANY_ORDER: [(Step, Answer); 12] = [
     (Step::Write(0, 128, &[0, 0, 2, 0, 0, 0, 1, 0]), Answer::Done),
     (Step::Take(0), Answer::Head(Some(0))),
     (Step::Take(0), Answer::Head(Some(1))),
-    (Step::FinishInflate(2), Answer::Refused(Refusal::NotTaken)),
-    (Step::FinishInflate(1), Answer::Head(Some(1))),
+    (Step::Finish(0, 2), Answer::Refused(Refusal::NotTaken)),
+    (Step::Finish(0, 1), Answer::Head(Some(1))),
     (Step::Read(0, 152), Answer::Bytes(USED_ONE)),
     (Step::AreBallooned(19, 20), Answer::Done),
-    (Step::FinishInflate(0), Answer::Head(Some(0))),
+    (Step::Finish(0, 0), Answer::Head(Some(0))),
     (Step::AreBallooned(17, 20), Answer::Done),
 ];
 
@@ -714,14 +693,14 @@ static TAKEN: [(Step, Answer); 9] = [
 
 /// Its pages are visited one by one; page 19 gets a frame after its visit.
 static VISITED: [(Step, Answer); 13] = [
-    (Step::FinishInflate(0), Answer::Refused(Refusal::NotWorked)),
+    (Step::Finish(0, 0), Answer::Refused(Refusal::NotWorked)),
     (Step::Work, Answer::Worked(17, false)),
     (Step::Work, Answer::Worked(18, true)),
     (Step::Backing(18), Answer::Frame(None)),
     (Step::HandBack, Answer::Frame(Some(40))),
     (Step::Work, Answer::Worked(19, false)),
     (Step::Supply(19, 42), Answer::Done),
-    (Step::FinishInflate(0), Answer::Refused(Refusal::NotWorked)),
+    (Step::Finish(0, 0), Answer::Refused(Refusal::NotWorked)),
     (Step::BalloonedCount, Answer::Count(0)),
     (Step::Work, Answer::Worked(20, true)),
     (Step::HandBack, Answer::Frame(Some(41))),
@@ -730,7 +709,7 @@ static VISITED: [(Step, Answer); 13] = [
 ];
 
 static FINISHED: [(Step, Answer); 7] = [
-    (Step::FinishInflate(0), Answer::Head(Some(0))),
+    (Step::Finish(0, 0), Answer::Head(Some(0))),
     (Step::HandBack, Answer::Frame(Some(42))),
     (Step::HandBack, Answer::Frame(None)),
     (Step::Backing(19), Answer::Frame(None)),
@@ -756,15 +735,15 @@ static TWO_TAKEN: [(Step, Answer); 6] = [
 
 static OLDER_FIRST: [(Step, Answer); 10] = [
     (Step::Work, Answer::Worked(17, false)),
-    (Step::FinishInflate(2), Answer::Refused(Refusal::NotTaken)),
-    (Step::FinishInflate(1), Answer::Refused(Refusal::NotWorked)),
+    (Step::Finish(0, 2), Answer::Refused(Refusal::NotTaken)),
+    (Step::Finish(0, 1), Answer::Refused(Refusal::NotWorked)),
     (Step::Work, Answer::Worked(18, false)),
     (Step::Work, Answer::Worked(19, false)),
-    (Step::FinishInflate(0), Answer::Head(Some(0))),
-    (Step::FinishInflate(0), Answer::Refused(Refusal::NotWorked)),
+    (Step::Finish(0, 0), Answer::Head(Some(0))),
+    (Step::Finish(0, 0), Answer::Refused(Refusal::NotWorked)),
     (Step::Work, Answer::Worked(20, false)),
     (Step::Work, Answer::Idle),
-    (Step::FinishInflate(0), Answer::Head(Some(1))),
+    (Step::Finish(0, 0), Answer::Head(Some(1))),
 ];
 
 #[test]
@@ -777,10 +756,10 @@ static DROPPED: [(Step, Answer); 10] = [
     (Step::Work, Answer::Worked(17, false)),
     (Step::WriteStatus(0), Answer::Done),
     (Step::Work, Answer::Refused(Refusal::NotReady)),
-    (Step::FinishInflate(0), Answer::Refused(Refusal::NotReady)),
+    (Step::Finish(0, 0), Answer::Refused(Refusal::NotReady)),
     (Step::Start, Answer::Done),
     (Step::Work, Answer::Idle),
-    (Step::FinishInflate(0), Answer::Refused(Refusal::NotTaken)),
+    (Step::Finish(0, 0), Answer::Refused(Refusal::NotTaken)),
     (Step::Write(0, 128, &NINE_AHEAD), Answer::Done),
     (Step::Take(0), RULE_7),
     (Step::Work, Answer::Refused(Refusal::NeedsReset)),
@@ -794,7 +773,7 @@ fn nothing_is_visited_after_a_reset(rt: HostRuntime) {
 /// An immediate device has nothing to visit.
 static NO_WORK: [(Step, Answer); 3] = [
     (Step::Work, Answer::Idle),
-    (Step::FinishInflate(1), Answer::Head(Some(1))),
+    (Step::Finish(0, 1), Answer::Head(Some(1))),
     (Step::Work, Answer::Idle),
 ];
 
@@ -921,7 +900,7 @@ static OTHER_QUEUES_BROKEN: [(Step, Answer); 13] = [
     ),
     (Step::TakeChain(4, &REPORT_OF_PAGE_15, AVAILABLE), RULE_10),
     (Step::TakeChain(4, &REPORT_OF_PAGE_15, HEAD_IS_8), RULE_1),
-    (Step::FinishReport, Answer::Refused(Refusal::NeedsReset)),
+    (Step::Finish(4, 0), Answer::Refused(Refusal::NeedsReset)),
 ];
 
 #[test]
@@ -953,17 +932,17 @@ static REPORT: [(Step, Answer); 16] = [
     ),
     (Step::Work, Answer::Worked(16, true)),
     (Step::HandBack, Answer::Frame(Some(40))),
-    (Step::FinishReport, Answer::Refused(Refusal::NotWorked)),
+    (Step::Finish(4, 0), Answer::Refused(Refusal::NotWorked)),
     (Step::WorkBare(17, 63), Answer::Done),
-    (Step::FinishReport, Answer::Refused(Refusal::NotWorked)),
+    (Step::Finish(4, 0), Answer::Refused(Refusal::NotWorked)),
     (Step::WorkBare(63, 64), Answer::Done),
     (Step::Work, Answer::Idle),
     (Step::Supply(20, 41), Answer::Done),
-    (Step::FinishReport, Answer::Head(Some(0))),
+    (Step::Finish(4, 0), Answer::Head(Some(0))),
     (Step::HandBack, Answer::Frame(Some(41))),
     (Step::BalloonedCount, Answer::Count(0)),
     (Step::Read(3, 152), Answer::Bytes(USED)),
-    (Step::FinishReport, Answer::Refused(Refusal::NotTaken)),
+    (Step::Finish(4, 0), Answer::Refused(Refusal::NotTaken)),
     (Step::Take(4), Answer::Head(None)),
 ];
 
@@ -991,13 +970,13 @@ static VISITED_TWICE: [(Step, Answer); 6] = [
     (Step::HandBack, Answer::Frame(Some(40))),
     (Step::Work, Answer::Worked(16, false)),
     (Step::Work, Answer::Idle),
-    (Step::FinishReport, Answer::Head(Some(0))),
+    (Step::Finish(4, 0), Answer::Head(Some(0))),
     (Step::HandBack, Answer::Frame(None)),
 ];
 
 static FINISHED_ONCE: [(Step, Answer); 5] = [
     (Step::Work, Answer::Idle),
-    (Step::FinishReport, Answer::Head(Some(0))),
+    (Step::Finish(4, 0), Answer::Head(Some(0))),
     (Step::HandBack, Answer::Frame(Some(40))),
     (Step::HandBack, Answer::Frame(None)),
     (Step::Backing(16), Answer::Frame(None)),
@@ -1057,7 +1036,7 @@ static REPORT_OF_ALL: [(Step, Answer); 8] = [
     ),
     (Step::Supply(16, 40), Answer::Done),
     (Step::Supply(16_383, 41), Answer::Done),
-    (Step::FinishReport, Answer::Head(Some(0))),
+    (Step::Finish(4, 0), Answer::Head(Some(0))),
     (Step::HandBack, Answer::Frame(Some(41))),
     (Step::HandBack, Answer::Frame(Some(40))),
     (Step::HandBack, Answer::Frame(None)),
