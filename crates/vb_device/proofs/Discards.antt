@@ -1,18 +1,24 @@
 -- Pages lose their frames one by one.
-use Rattle.std.specs.Prelude.{◌≡◌, ◌≢◌, ℕ, zero, suc, ◌+◌, ◌<◌, ◌≤◌, Bool, true, false, not, ◌||◌}
-use Rattle.std.specs.Prelude.{◌==◌, IsTrue, List, [], ◌∷◌, ◌++◌, length, Option, None, All, refl}
-use Rattle.std.specs.Prelude.{cond}
+use Rattle.std.specs.Prelude.{◌≡◌, ◌≢◌, ℕ, suc, ◌+◌, ◌<◌, ◌≤◌, Bool, true, false, ◌||◌}
+use Rattle.std.specs.Prelude.{◌==◌, List, [], ◌∷◌, ◌++◌, length, Option, None, All, refl}
+use Rattle.std.specs.Prelude.{cond, Some, is_some, IfNone, count_by, if◌then◌else◌}
 use Rattle.std.specs.Option.{option_to_list}
-use Rattle.std.proofs.Common.{sym, ◌∙◌, ap, arith, get_or, take, eq-eqb, inl, inr, rules}
-use Rattle.std.proofs.lemmas.Bool.{eqb-true, cases_eq}
+use Rattle.std.proofs.Common.{sym, ◌∙◌, ap, arith, get_or, take, eq-eqb, inl, inr}
+use Rattle.std.proofs.lemmas.Bool.{eqb-true, cases_eq, cases_lt}
+use Rattle.std.proofs.Math.ListN.{set, length-set}
+use Rattle.std.proofs.lemmas.List.{get_or-set_same, get_or-set_other, get_or_past}
+use Rattle.std.proofs.lemmas.List.Sums.{sum_by-set}
 use Rattle.std.proofs.lemmas.List.{take_more, ext_get_or, append-nil, append_assoc}
 use Rattle.std.proofs.lemmas.List.Folds.{list_any-append}
 use Rattle.std.proofs.lemmas.Grind.{flat_map-append}
 use Rattle.vb_model.specs.Tests.{is_in}
-use Rattle.vb_model.specs.Driver.{AllDistinct}
+use Rattle.vb_model.specs.Tests.{one_if}
+use Rattle.vb_model.proofs.Tables.{count_by-cons}
 use Rattle.vb_model.proofs.Tables.{length-each_from, each_page-get}
 use Rattle.vb_ram.specs.Pages.{Page, Pages, page_at, frame_at, number_of, Discarded}
+use Rattle.vb_device.specs.Request.{each_once}
 use Rattle.vb_device.specs.Discards.{discarded, frames_behind}
+use Rattle.vb_device.proofs.Once.{each_once_push}
 
 true_false : true ≡ false → ⊥
 true_false e = cc
@@ -74,73 +80,109 @@ discard_more first mem new pages i page lt at e d =
           (not_equal (get_or pages i 0) q (get_or pages i 0 == q) refl (λ x. ne (x ∙ at)))))))
     ])
 
--- a page that no earlier one is
-is_true_not : (b : Bool) → IsTrue (not b) → b ≡ false
-is_true_not true h = absurd (search rules)
-is_true_not false h = refl
+-- the frame behind a page that may have lost it
+frame_now : (first mem : Pages) (pages : List ℕ) (i page : ℕ) →
+    mem ≡ discarded (take i pages) first →
+    page_at mem page ≡ cond (is_in page (take i pages)) None (page_at first page)
+frame_now first mem pages i page e =
+    ap (λ (m : Pages). page_at m page) e ∙ discarded-at (take i pages) first page
 
-or_right : (a b : Bool) → b ≡ true → (a || b) ≡ true
-or_right true b e = refl
-or_right false b e = e
+frames_push : (first : Pages) (pages : List ℕ) (page : ℕ) →
+    frames_behind first (pages ++ page ∷ []) ≡
+    frames_behind first pages ++ option_to_list (frame_at first page)
+frames_push first pages page =
+    flat_map-append (λ p. option_to_list (frame_at first p)) pages (page ∷ []) ∙
+    ap (λ xs. frames_behind first pages ++ xs) (append-nil (option_to_list (frame_at first page)))
 
-stands_in : (xs : List ℕ) (i : ℕ) → i < length xs → is_in (get_or xs i 0) xs ≡ true
-stands_in [] i lt = absurd (omega arith)
-stands_in (x ∷ xs) zero lt = ap (λ v. v || is_in x xs) (eq-eqb x x refl)
-stands_in (x ∷ xs) (suc i) lt =
-    or_right (x == get_or xs i 0) (is_in (get_or xs i 0) xs) (stands_in xs i (omega arith))
-
-front : (x p : ℕ) (a b : Bool) → (x == p) ≡ b → (b ≡ true → false ≡ true) → a ≡ false →
-    ((x == p) || a) ≡ false
-front x p a true e contra f = absurd (true_false (sym (contra refl)))
-front x p a false e contra f = ap (λ v. v || a) e ∙ f
-
-distinct_front : (pages : List ℕ) (i : ℕ) → AllDistinct pages → i < length pages →
-    is_in (get_or pages i 0) (take i pages) ≡ false
-distinct_front [] i d lt = absurd (omega arith)
-distinct_front (x ∷ xs) zero d lt = refl
-distinct_front (x ∷ xs) (suc i) d lt =
-    front x (get_or xs i 0) (is_in (get_or xs i 0) (take i xs)) (x == get_or xs i 0) refl
-    (λ e. sym (is_true_not (is_in x xs) d.0) ∙
-    (ap (λ n. is_in n xs) (eqb-true x (get_or xs i 0) e) ∙ stands_in xs i (omega arith)))
-    (distinct_front xs i d.1 (omega arith))
-
--- the frame behind the next page is the one that was there first
-pub frame_first : (first mem : Pages) (pages : List ℕ) (i page : ℕ) → AllDistinct pages →
-    i < length pages → get_or pages i 0 ≡ page → mem ≡ discarded (take i pages) first →
-    page_at mem page ≡ page_at first page
-frame_first first mem pages i page d lt at e =
-    ap (λ (m : Pages). page_at m page) e ∙ (discarded-at (take i pages) first page
-    ∙ ap (λ b. cond b None (page_at first page))
-    (ap (λ n. is_in n (take i pages)) (sym at) ∙ distinct_front pages i d lt))
-
-pub frames_more : (first : Pages) (pages : List ℕ) (i page : ℕ) → i < length pages →
-    get_or pages i 0 ≡ page →
-    frames_behind first (take (i + 1) pages) ≡ frames_behind first (take i pages) ++
-    option_to_list (frame_at first page)
-frames_more first pages i page lt at =
-    ap (frames_behind first) (take_more pages i 0 lt ∙ ap (λ n. take i pages ++ n ∷ []) at)
-    ∙ (flat_map-append (λ p. option_to_list (frame_at first p)) (take i pages) (page ∷ []) ∙
-    ap (λ xs. frames_behind first (take i pages) ++ xs)
-    (append-nil (option_to_list (frame_at first page))))
+-- the frames behind pages of which each counts once, with one page more
+once_push : (first : Pages) (once : List ℕ) (page : ℕ) (b : Bool) →
+    frames_behind first (if b then once else once ++ page ∷ []) ≡
+    frames_behind first once ++ option_to_list (number_of (cond b None (page_at first page)))
+once_push first once page true = sym (append-nil (frames_behind first once))
+once_push first once page false = frames_push first once page
 
 pub discarded_none : (mem : Pages) → mem ≡ discarded [] mem
 discarded_none mem =
     ext_get_or None mem (discarded [] mem) (sym (discarded-length [] mem))
     (λ q l. sym (discarded-at [] mem q))
 
+-- one more page, whose frame, if it still has one, is loose now
 pub loose_more : (first mem : Pages) (pages : List ℕ) (i page : ℕ) (result : Option Page)
-    (before now after : List ℕ) → AllDistinct pages → i < length pages → get_or pages i 0 ≡ page →
+    (before now after : List ℕ) → i < length pages → get_or pages i 0 ≡ page →
     mem ≡ discarded (take i pages) first → result ≡ page_at mem page
-    → now ≡ before ++ frames_behind first (take i pages) →
+    → now ≡ before ++ frames_behind first (each_once (take i pages)) →
     after ≡ now ++ option_to_list (number_of result) →
-    after ≡ before ++ frames_behind first (take (i + 1) pages)
-loose_more first mem pages i page result before now after d lt at e got now_is after_is =
+    after ≡ before ++ frames_behind first (each_once (take (i + 1) pages))
+loose_more first mem pages i page result before now after lt at e got now_is after_is =
+    let front : List ℕ = take i pages in
+    let once : each_once (take (i + 1) pages) ≡
+    (if is_in page front then each_once front else each_once front ++ page ∷ []) =
+    ap each_once (take_more pages i 0 lt ∙ ap (λ n. front ++ n ∷ []) at) ∙
+    each_once_push front page in
     after_is ∙ (ap (λ xs. xs ++ option_to_list (number_of result)) now_is
-    ∙ (append_assoc before (frames_behind first (take i pages)) (option_to_list (number_of result))
+    ∙ (append_assoc before (frames_behind first (each_once front))
+    (option_to_list (number_of result))
     ∙ ap (λ xs. before ++ xs)
-    (ap (λ o. frames_behind first (take i pages) ++ option_to_list (number_of o))
-    (got ∙ frame_first first mem pages i page d lt at e) ∙
-    sym (frames_more first pages i page lt at))))
+    (ap (λ o. frames_behind first (each_once front) ++ option_to_list (number_of o))
+    (got ∙ frame_now first mem pages i page e) ∙
+    sym (ap (frames_behind first) once ∙
+    once_push first (each_once front) page (is_in page front)))))
+
+-- ---- how many pages have a frame
+
+abbrev pub frame_count : Pages → ℕ
+frame_count mem = count_by is_some mem
+
+one_is : (b : Bool) → cond b 1 0 ≡ one_if b
+one_is true = refl
+one_is false = refl
+
+discarded_is : (old new : Pages) (page : ℕ) → page < length old → Discarded old new page →
+    new ≡ set old page None
+discarded_is old new page lt d =
+    ext_get_or None new (set old page None) (d.count ∙ sym (length-set old page None))
+    (λ k l. elim (cases_eq k page) [
+      | inl same ↦
+          ap (λ (j : ℕ). page_at new j) same ∙ (d.bare ∙
+          sym (ap (λ (j : ℕ). page_at (set old page None) j) same ∙
+          get_or-set_same old page None None lt))
+      | inr ne ↦ d.others k ne ∙ sym (get_or-set_other old page k None None ne)
+    ])
+
+past_none : (mem : Pages) (page : ℕ) → length mem ≤ page → page_at mem page ≡ None
+past_none mem page le = get_or_past mem page None le
+
+loses_inside : (old new : Pages) (page : ℕ) → page < length old → Discarded old new page →
+    frame_count new + one_if (is_some (page_at old page)) ≡ frame_count old
+loses_inside old new page lt d =
+    let all = sum_by-set (λ (o : Option Page). cond (is_some o) 1 0) old page None None lt in
+    let is : frame_count new ≡ frame_count (set old page None) =
+    ap frame_count (discarded_is old new page lt d) in
+    omega (arith, all, is, one_is (is_some (page_at old page)))
+
+pub none_of : (o p : Option Page) (P : Type 0) → o ≡ p → IfNone o P → p ≡ None → P
+none_of None p P e is none = is
+none_of (Some x) p P e is none = absurd cc
+
+-- each frame that is loose came from behind a page
+pub loses_one : (old new : Pages) (page : ℕ) → Discarded old new page →
+    (page_at old page ≡ None → new ≡ old) →
+    frame_count new + one_if (is_some (page_at old page)) ≡ frame_count old
+loses_one old new page d same = elim (cases_lt page (length old)) [
+  | inl lt ↦ loses_inside old new page lt d
+  | inr le ↦
+      (let none : page_at old page ≡ None = past_none old page le in
+      omega (
+        arith,
+        ap frame_count (same none),
+        ap (λ (o : Option Page). one_if (is_some o)) none,
+      ))
+]
+
+pub few_frames : (mem : Pages) → frame_count mem ≤ length mem
+few_frames [] = omega arith
+few_frames (None ∷ ps) = omega (arith, count_by-cons is_some None ps, few_frames ps)
+few_frames (Some p ∷ ps) = omega (arith, count_by-cons is_some (Some p) ps, few_frames ps)
 
 low_step : (a b : Bool) → a ≡ false → b ≡ false → (a || b) ≡ false
 low_step a b e f = ap (λ v. v || b) e ∙ f

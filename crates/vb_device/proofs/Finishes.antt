@@ -1,31 +1,33 @@
 -- A finish by a device, from the end of its queue.
-use Rattle.std.specs.Prelude.{◌≡◌, ℕ, zero, suc, ◌+◌, ◌%◌, ◌<◌, ◌≤◌, Bool, true, false, not}
+use Rattle.std.specs.Prelude.{◌≡◌, ℕ, ◌+◌, ◌%◌, ◌<◌, ◌≤◌, Bool, true, false, not}
 use Rattle.std.specs.Prelude.{◌==◌, ◌&&◌, List}
-use Rattle.std.specs.Prelude.{[], ◌∷◌, length, remove, Option, Some, None, IsSome, Result}
-use Rattle.std.specs.Prelude.{Ok, Err, if◌then◌else◌, slice_get, All, refl}
-use Rattle.std.proofs.Common.{sym, ◌∙◌, ap, subst, arith, inl, inr}
+use Rattle.std.specs.Prelude.{[], length, remove, Option, Some, None, IsSome, OnSome, Result}
+use Rattle.std.specs.Prelude.{is_none, Ok, Err, if◌then◌else◌, slice_get, All, refl}
+use Rattle.std.proofs.Common.{sym, ◌∙◌, ap, subst, arith, inl, inr, rules}
+use Rattle.vb_model.specs.Device.{next_page}
 use Rattle.std.proofs.lemmas.Bool.{cases_eq}
 use Rattle.vb_model.specs.declared.replies.Refusal.{Refusal}
-use Rattle.vb_model.specs.declared.replies.Refusal.TheVariants.{NoQueue}
+use Rattle.vb_model.specs.declared.replies.Refusal.TheVariants.{NotTaken, NotWorked}
 use Rattle.vb_model.specs.Requests.{Request}
 use Rattle.vb_ram.specs.Pages.{Page, Pages, page_at, frame_at, number_of}
-use Rattle.vb_ram.specs.Part.{Part}
+use Rattle.vb_ram.specs.Part.{Part, QueuePart}
 use Rattle.vb_ring.specs.declared.layout.Layout.{Layout}
 use Rattle.vb_ring.specs.Layout.{layout_of, IsBacked}
 use Rattle.vb_ring.specs.Ends.{DeviceEnd}
 use Rattle.vb_ring.specs.Calls.{AddsUsedBy}
-use Rattle.vb_model.specs.Tables.{is_not_ready, has_fault}
+use Rattle.vb_model.specs.Tables.{has_chains, has_unvisited}
 use Rattle.vb_device.specs.Conditions.{finish_refusal, taken_at}
-use Rattle.vb_device.specs.Queues.{queue_end}
-use Rattle.vb_device.specs.QueueState.{QueueState, taken_refusal}
+use Rattle.vb_device.specs.Queues.{queue_end, with_queue}
+use Rattle.vb_model.specs.Guest.{LastStatistics}
+use Rattle.vb_device.specs.QueueState.{QueueState, part_of, taken_refusal}
 use Rattle.vb_device.specs.Discards.{discarded}
-use Rattle.vb_device.specs.Base.{queue_at, base_part, numbers_of_frames, IsDeviceQueue, IsBase}
+use Rattle.vb_device.specs.Base.{place_of, queue_at, base_part, numbers_of_frames, IsDeviceQueue, IsBase}
 use Rattle.vb_device.specs.Base.{with_pace}
 use Rattle.vb_device.specs.BaseCalls.{queue_refusal, with_lost, taken_out, TakesOut, UsesChain}
-use Rattle.vb_device.specs.BaseCalls.{CanUse}
+use Rattle.vb_device.specs.BaseCalls.{CanUse, readiness_refusal}
 use Rattle.vb_device.specs.Calls.{without_frames}
-use Rattle.vb_device.proofs.Both.{base_set, size_kept}
-use Rattle.vb_device.proofs.TakesBy.{after_status, far_queue, queue_known, status_ok}
+use Rattle.vb_device.proofs.Four.{at_each, part_get, part_set, set_here, base_set}
+use Rattle.vb_device.proofs.TakesBy.{finish_open, queue_known, status_ok}
 use Rattle.vb_model.specs.Status.{contains, driver_ok}
 use Rattle.vb_model.specs.Layout.{ring_page}
 use Rattle.vb_device.proofs.Discards.{discarded-length, backed_still}
@@ -40,23 +42,28 @@ same_refusal o x y a b = cc
 same_request : (o : Option Request) (x y : Request) → o ≡ Some x → o ≡ Some y → x ≡ y
 same_request o x y a b = cc
 
--- the tests of a finish where the queue's number and the status refuse nothing
-pub finish_left : (q index : ℕ) (paced : Bool) (mem : Pages) (s f t a capacity : ℕ)
-    (qs : List QueueState) (loose : List Page) → IsBase mem s qs capacity →
-    queue_refusal q s ≡ None
-    → finish_refusal q index (with_pace paced (base_part s f t a qs loose)) ≡
-    taken_refusal (paced && not (q == 1)) (slice_get (queue_at q qs).taken index)
-finish_left q index paced mem s f t a capacity [] loose is ok = absurd (omega (arith, is.two))
-finish_left q index paced mem s f t a capacity (x ∷ []) loose is ok =
-    absurd (omega (arith, is.two))
-finish_left zero index paced mem s f t a capacity (x ∷ d ∷ []) loose is ok =
-    after_status (is_not_ready s) (has_fault s) _ ok
-finish_left (suc zero) index paced mem s f t a capacity (x ∷ d ∷ []) loose is ok =
-    after_status (is_not_ready s) (has_fault s) _ ok
-finish_left (suc (suc n)) index paced mem s f t a capacity (x ∷ d ∷ []) loose is ok =
-    absurd (none_some (queue_refusal (suc (suc n)) s) NoQueue ok (far_queue n s))
-finish_left q index paced mem s f t a capacity (x ∷ d ∷ y ∷ ys) loose is ok =
-    absurd (omega (arith, is.two))
+-- the tests of a taken request, as those of a finish end
+abbrev taken_refusal_by : Bool → Option Request → Option Refusal
+taken_refusal_by visits taken =
+    if is_none taken then Some NotTaken else (if visits && has_unvisited taken then Some NotWorked
+    else None)
+
+by_and : (visits : Bool) (taken : Option Request) →
+    taken_refusal_by visits taken ≡ taken_refusal visits taken
+by_and visits taken = refl
+
+taken_paced : (q index : ℕ) (paced : Bool) (p : Part) → has_chains q ≡ true →
+    taken_at q index (with_pace paced p) ≡ taken_at q index p
+taken_paced q index paced p known =
+    at_each (λ n. taken_at n index (with_pace paced p) ≡ taken_at n index p)
+    refl refl refl refl q known
+
+out_paced : (q index : ℕ) (pages : List ℕ) (mem : Pages) (paced : Bool) (p : Part) →
+    has_chains q ≡ true → with_pace paced (taken_out q index pages mem p) ≡
+    taken_out q index pages mem (with_pace paced p)
+out_paced q index pages mem paced p known =
+    at_each (λ n. with_pace paced (taken_out n index pages mem p) ≡
+    taken_out n index pages mem (with_pace paced p)) refl refl refl refl q known
 
 taken_out_of : (q index : ℕ) (m1 m2 : Pages) (p1 p2 : Part) (r : Request)
     (result : Result Request Refusal) → result ≡ Ok r → finish_refusal q index p1 ≡ None →
@@ -70,50 +77,57 @@ taken_out_of q index m1 m2 p1 p2 r result answer free at mem part = record {
       (answer, mem, part);
 }
 
--- the part with one queue's last request taken out
-loose_of : (s f t a : ℕ) (qs : List QueueState) (loose2 : List Page) (ns : List ℕ) →
-    numbers_of_frames loose2 ≡ ns →
-    base_part s f t a qs loose2 ≡ record (base_part s f t a qs []) { loose = ns }
-loose_of s f t a qs loose2 ns e =
-    ap (λ (ls : List ℕ). record (base_part s f t a qs []) { loose = ls }) e
-
 abbrev pub without_taken : QueueState → ℕ → QueueState
 without_taken x index = record x { taken = remove x.taken index }
 
-pub out_at : (q index : ℕ) (paced : Bool) (m1 m2 : Pages) (s f t a capacity : ℕ)
-    (qs : List QueueState) (loose loose2 : List Page) (r : Request) → IsBase m1 s qs capacity →
-    queue_refusal q s ≡ None
+-- the tests of a finish where the queue's number and the status refuse nothing
+pub finish_left : (q index : ℕ) (paced : Bool) (s f t a n : ℕ) (qs : List QueueState)
+    (l : LastStatistics) (loose : List Page) → queue_refusal q s ≡ None →
+    finish_refusal q index (with_pace paced (base_part s f t a n qs l loose)) ≡
+    taken_refusal (paced && not (q == 1)) (slice_get (queue_at q qs).taken index)
+finish_left q index paced s f t a n qs l loose ok =
+    finish_open q index s _ ok ∙
+    (ap (λ (k : QueuePart). taken_refusal_by (paced && not (q == 1)) (slice_get k.taken index))
+    (part_get q s f t a n qs l loose (queue_known q s ok)) ∙
+    by_and (paced && not (q == 1)) (slice_get (queue_at q qs).taken index))
+
+-- one queue's last request is taken out
+taken_part : (q index : ℕ) (pages : List ℕ) (mem : Pages) (s f t a n : ℕ) (qs : List QueueState)
+    (l : LastStatistics) (loose loose2 : List Page) → length qs ≡ 4 → has_chains q ≡ true →
+    numbers_of_frames loose2 ≡ with_lost q mem pages (numbers_of_frames loose) →
+    base_part s f t a n (set qs (place_of q) (without_taken (queue_at q qs) index)) l loose2 ≡
+    taken_out q index pages mem (base_part s f t a n qs l loose)
+taken_part q index pages mem s f t a n qs l loose loose2 four known numbers =
+    let x : QueueState = queue_at q qs in
+    let base : List ℕ → Part = λ ns. record (base_part s f t a n qs l []) { loose = ns } in
+    part_set q s f t a n qs (without_taken x index) l loose2 four known
+    ∙ (ap (λ (ns : List ℕ). with_queue q (part_of (without_taken x index)) (base ns)) numbers
+    ∙ ap (λ (k : QueuePart). with_queue q (record k { taken = remove k.taken index })
+    (base (with_lost q mem pages (numbers_of_frames loose))))
+    (sym (part_get q s f t a n qs l loose known)))
+
+pub out_at : (q index : ℕ) (paced : Bool) (m1 m2 : Pages) (s f t a n c : ℕ)
+    (qs : List QueueState) (l : LastStatistics) (loose loose2 : List Page) (r : Request) →
+    IsBase m1 s n qs c → queue_refusal q s ≡ None
     → taken_refusal (paced && not (q == 1)) (slice_get (queue_at q qs).taken index) ≡ None →
     slice_get (queue_at q qs).taken index ≡ Some r
     → m2 ≡ without_frames q r.pages m1 →
     numbers_of_frames loose2 ≡ with_lost q m1 r.pages (numbers_of_frames loose)
-    → TakesOut q index m1 m2 (with_pace paced (base_part s f t a qs loose))
-    (with_pace paced
-    (base_part s f t a (set qs q (without_taken (queue_at q qs) index)) loose2)) (Ok r)
-out_at q index paced m1 m2 s f t a capacity [] loose loose2 r is ok left at mem numbers =
-    absurd (omega (arith, is.two))
-out_at q index paced m1 m2 s f t a capacity (x ∷ []) loose loose2 r is ok left at mem numbers =
-    absurd (omega (arith, is.two))
-out_at zero index paced m1 m2 s f t a capacity (x ∷ d ∷ []) loose loose2 r is ok left at mem
-    numbers =
-    taken_out_of 0 index m1 m2 (with_pace paced (base_part s f t a (x ∷ d ∷ []) loose))
-    (with_pace paced (base_part s f t a (without_taken x index ∷ d ∷ []) loose2)) r (Ok r) refl
-    (finish_left 0 index paced m1 s f t a capacity (x ∷ d ∷ []) loose is ok ∙ left) at mem
-    (ap (with_pace paced) (loose_of s f t a (without_taken x index ∷ d ∷ []) loose2
-    (with_lost 0 m1 r.pages (numbers_of_frames loose)) numbers))
-out_at (suc zero) index paced m1 m2 s f t a capacity (x ∷ d ∷ []) loose loose2 r is ok left at mem
-    numbers =
-    taken_out_of 1 index m1 m2 (with_pace paced (base_part s f t a (x ∷ d ∷ []) loose))
-    (with_pace paced (base_part s f t a (x ∷ without_taken d index ∷ []) loose2)) r (Ok r) refl
-    (finish_left 1 index paced m1 s f t a capacity (x ∷ d ∷ []) loose is ok ∙ left) at mem
-    (ap (with_pace paced) (loose_of s f t a (x ∷ without_taken d index ∷ []) loose2
-    (with_lost 1 m1 r.pages (numbers_of_frames loose)) numbers))
-out_at (suc (suc n)) index paced m1 m2 s f t a capacity (x ∷ d ∷ []) loose loose2 r is ok left at
-    mem numbers =
-    absurd (none_some (queue_refusal (suc (suc n)) s) NoQueue ok (far_queue n s))
-out_at q index paced m1 m2 s f t a capacity (x ∷ d ∷ y ∷ ys) loose loose2 r is ok left at mem
-    numbers =
-    absurd (omega (arith, is.two))
+    → TakesOut q index m1 m2 (with_pace paced (base_part s f t a n qs l loose))
+    (with_pace paced (base_part s f t a n
+    (set qs (place_of q) (without_taken (queue_at q qs) index)) l loose2)) (Ok r)
+out_at q index paced m1 m2 s f t a n c qs l loose loose2 r is ok left at mem numbers =
+    let known : has_chains q ≡ true = queue_known q s ok in
+    taken_out_of q index m1 m2 (with_pace paced (base_part s f t a n qs l loose))
+    (with_pace paced (base_part s f t a n
+    (set qs (place_of q) (without_taken (queue_at q qs) index)) l loose2)) r (Ok r) refl
+    (finish_left q index paced s f t a n qs l loose ok ∙ left)
+    (taken_paced q index paced (base_part s f t a n qs l loose) known ∙
+    (ap (λ (k : QueuePart). slice_get k.taken index) (part_get q s f t a n qs l loose known) ∙ at))
+    mem
+    (ap (with_pace paced)
+    (taken_part q index r.pages m1 s f t a n qs l loose loose2 is.four known numbers) ∙
+    out_paced q index r.pages m1 paced (base_part s f t a n qs l loose) known)
 
 -- a call that is refused changes nothing
 pub out_refused : (q index : ℕ) (mem : Pages) (part : Part) (why : Refusal) →
@@ -150,48 +164,47 @@ queue_is x ring taken e f =
     ap (λ (r : DeviceEnd). record x { ring = r }) e ∙
     ap (λ (ts : List Request). record { ring = ring; taken = ts }) f
 
+-- the device's end of a queue
+end_of_queue : (q : ℕ) (mem : Pages) (s f t a n : ℕ) (qs : List QueueState) (l : LastStatistics)
+    (loose : List Page) (x : QueueState) → has_chains q ≡ true →
+    queue_at q qs ≡ x → x.ring.layout ≡ layout_of (ring_page q) n → x.ring.size ≡ n →
+    x.ring.ready ≡ true → x.ring ≡ queue_end q (base_part s f t a n qs l loose)
+end_of_queue q mem s f t a n qs l loose x known at ring size ready =
+    end_is x.ring (layout_of (ring_page q) n) n ring size ready ∙
+    ap (λ (k : QueuePart). record {
+      layout = layout_of (ring_page q) n;
+      size = n;
+      ready = true;
+      next_avail = k.next_avail;
+      next_used = k.next_used;
+    }) (sym (part_get q s f t a n qs l loose known ∙ ap part_of at))
+
 -- a chain of one queue is used
-pub used_at : (q h : ℕ) (m1 m2 : Pages) (s f t a capacity : ℕ) (qs : List QueueState)
-    (x2 : QueueState) (loose : List Page) → IsBase m1 s qs capacity → q ≤ 1 →
-    contains s driver_ok ≡ true
+pub used_at : (q h : ℕ) (m1 m2 : Pages) (s f t a n c : ℕ) (qs : List QueueState)
+    (x2 : QueueState) (l : LastStatistics) (loose : List Page) → IsBase m1 s n qs c →
+    has_chains q ≡ true → contains s driver_ok ≡ true
     → AddsUsedBy m1 m2 (queue_at q qs).ring x2.ring h 0 → x2.taken ≡ (queue_at q qs).taken →
-    UsesChain q h m1 m2 (base_part s f t a qs loose) (base_part s f t a (set qs q x2) loose)
-used_at q h m1 m2 s f t a capacity [] x2 loose is le ok adds left = absurd (omega (arith, is.two))
-used_at q h m1 m2 s f t a capacity (x ∷ []) x2 loose is le ok adds left =
-    absurd (omega (arith, is.two))
-used_at zero h m1 m2 s f t a capacity (x ∷ d ∷ []) x2 loose is le ok adds left =
-    let now : IsDeviceQueue m1 s x.ring.size 0 x = is.each 0 (omega arith) in
-    let size : x2.ring.size ≡ x.ring.size = ap (λ (e : DeviceEnd). e.size) adds.state in
+    UsesChain q h m1 m2 (base_part s f t a n qs l loose)
+    (base_part s f t a n (set qs (place_of q) x2) l loose)
+used_at q h m1 m2 s f t a n c qs x2 l loose is known ok adds left =
+    let x : QueueState = queue_at q qs in
+    let now : IsDeviceQueue m1 s n q x = is.each q known in
     record {
-      part = ap (λ (y : QueueState). base_part s f t a (y ∷ d ∷ []) loose)
+      part = part_set q s f t a n qs x2 l loose is.four known
+          ∙ (ap (λ (y : QueueState). with_queue q (part_of y) (base_part s f t a n qs l loose))
           (queue_is x2 (record x.ring { next_used = (x.ring.next_used + 1) % 65536 }) x.taken
-          adds.state left);
-      memory = ends_so m1 m2 x.ring x2.ring (queue_end 0 (base_part s f t a (x ∷ d ∷ []) loose))
-          (queue_end 0 (base_part s f t a (x2 ∷ d ∷ []) loose)) h
-          (end_is x.ring (layout_of 0 x.ring.size) x.ring.size now.ring refl (now.ready ok))
-          (end_is x2.ring (layout_of 0 x2.ring.size) x2.ring.size
-          (ap (λ (e : DeviceEnd). e.layout) adds.state ∙
-          (now.ring ∙ ap (layout_of 0) (sym size))) refl
-          (ap (λ (e : DeviceEnd). e.ready) adds.state ∙ now.ready ok)) adds;
-    }
-used_at (suc zero) h m1 m2 s f t a capacity (x ∷ d ∷ []) x2 loose is le ok adds left =
-    let now : IsDeviceQueue m1 s x.ring.size 1 d = is.each 1 (omega arith) in
-    record {
-      part = ap (λ (y : QueueState). base_part s f t a (x ∷ y ∷ []) loose)
-          (queue_is x2 (record d.ring { next_used = (d.ring.next_used + 1) % 65536 }) d.taken
-          adds.state left);
-      memory = ends_so m1 m2 d.ring x2.ring (queue_end 1 (base_part s f t a (x ∷ d ∷ []) loose))
-          (queue_end 1 (base_part s f t a (x ∷ x2 ∷ []) loose)) h
-          (end_is d.ring (layout_of 1 x.ring.size) x.ring.size now.ring now.size (now.ready ok))
-          (end_is x2.ring (layout_of 1 x.ring.size) x.ring.size
+          adds.state left)
+          ∙ ap (λ (k : QueuePart). with_queue q (record k { next_used = (k.next_used + 1) % 65536 })
+          (base_part s f t a n qs l loose)) (sym (part_get q s f t a n qs l loose known)));
+      memory = ends_so m1 m2 x.ring x2.ring (queue_end q (base_part s f t a n qs l loose))
+          (queue_end q (base_part s f t a n (set qs (place_of q) x2) l loose)) h
+          (end_of_queue q m1 s f t a n qs l loose x known refl now.ring now.size (now.ready ok))
+          (end_of_queue q m1 s f t a n (set qs (place_of q) x2) l loose x2 known
+          (set_here q qs x2 is.four known)
           (ap (λ (e : DeviceEnd). e.layout) adds.state ∙ now.ring)
           (ap (λ (e : DeviceEnd). e.size) adds.state ∙ now.size)
           (ap (λ (e : DeviceEnd). e.ready) adds.state ∙ now.ready ok)) adds;
     }
-used_at (suc (suc n)) h m1 m2 s f t a capacity (x ∷ d ∷ []) x2 loose is le ok adds left =
-    absurd (omega arith)
-used_at q h m1 m2 s f t a capacity (x ∷ d ∷ y ∷ ys) x2 loose is le ok adds left =
-    absurd (omega (arith, is.two))
 
 -- ---- what stays true
 
@@ -211,15 +224,15 @@ has_pages mem ts index r none at = elim (cases_eq (length mem) 0) [
 ]
 
 -- one queue's ring and memory's frames may have changed, and no count of pages
-pub base_used : (q : ℕ) (m1 m2 : Pages) (s c1 c2 : ℕ) (qs : List QueueState) (x2 : QueueState) →
-    IsBase m1 s qs c1 → q ≤ 1 → length m2 ≡ length m1 → c2 ≡ c1 → 0 < length m1
+pub base_used : (q : ℕ) (m1 m2 : Pages) (s n c1 c2 : ℕ) (qs : List QueueState) (x2 : QueueState) →
+    IsBase m1 s n qs c1 → has_chains q ≡ true → length m2 ≡ length m1 → c2 ≡ c1 → 0 < length m1
     → x2.ring.layout ≡ (queue_at q qs).ring.layout → x2.ring.size ≡ (queue_at q qs).ring.size →
-    x2.ring.ready ≡ (queue_at q qs).ring.ready → IsBase m2 s (set qs q x2) c2
-base_used q m1 m2 s c1 c2 qs x2 b le len same pos layout size ready =
+    x2.ring.ready ≡ (queue_at q qs).ring.ready → IsBase m2 s n (set qs (place_of q) x2) c2
+base_used q m1 m2 s n c1 c2 qs x2 b known len same pos layout size ready =
     let large : 64 ≤ length m1 = b.large pos in
-    let fits : length m1 + 256 ≤ c1 = b.room pos in
-    base_set q m1 m2 s s c1 c2 qs x2 b le size
-    (λ n x is. record {
+    let fits : length m1 ≤ c1 = b.room in
+    base_set q m1 m2 s s n c1 c2 qs x2 b known
+    (λ k x is. record {
       ring = is.ring;
       size = is.size;
       ready = is.ready;
@@ -233,18 +246,18 @@ base_used q m1 m2 s c1 c2 qs x2 b le len same pos layout size ready =
       idle = λ z. absurd (omega (arith, len, pos, z));
       none = λ z. absurd (omega (arith, len, pos, z));
     })
-    (λ l. omega (arith, len, large)) (λ l. omega (arith, len, same, fits))
+    (λ l. omega (arith, len, large)) (omega (arith, len, same, fits))
 
 -- the same where no queue is changed
-pub base_same : (m1 m2 : Pages) (s c1 c2 : ℕ) (qs : List QueueState) → IsBase m1 s qs c1 →
-    length m2 ≡ length m1 → c2 ≡ c1 → 0 < length m1 → IsBase m2 s qs c2
-base_same m1 m2 s c1 c2 qs b len same pos =
+pub base_same : (m1 m2 : Pages) (s n c1 c2 : ℕ) (qs : List QueueState) → IsBase m1 s n qs c1 →
+    length m2 ≡ length m1 → c2 ≡ c1 → 0 < length m1 → IsBase m2 s n qs c2
+base_same m1 m2 s n c1 c2 qs b len same pos =
     let large : 64 ≤ length m1 = b.large pos in
-    let fits : length m1 + 256 ≤ c1 = b.room pos in
+    let fits : length m1 ≤ c1 = b.room in
     record {
-      two = b.two;
-      each = λ q le. (let is = b.each q
-          le in record {
+      four = b.four;
+      each = λ q known. (let is = b.each q
+          known in record {
             ring = is.ring;
             size = is.size;
             ready = is.ready;
@@ -252,7 +265,7 @@ base_same m1 m2 s c1 c2 qs b len same pos =
             none = λ z. absurd (omega (arith, len, pos, z));
           });
       large = λ l. omega (arith, len, large);
-      room = λ l. omega (arith, len, same, fits);
+      room = omega (arith, len, same, fits);
     }
 
 pub backed_ring : (mem : Pages) (l : Layout) (page n : ℕ) → l ≡ layout_of page n →
@@ -261,10 +274,9 @@ backed_ring mem l page n e b =
     subst (λ (x : Layout). IsBacked mem x) (sym e) (record { table = b; avail = b; used = b })
 
 -- what can be used after a request was taken out
-ring_low : (q : ℕ) → q ≤ 1 → ring_page q < 16
-ring_low zero le = omega arith
-ring_low (suc zero) le = omega arith
-ring_low (suc (suc n)) le = absurd (omega arith)
+ring_low : (q : ℕ) → has_chains q ≡ true → ring_page q < 16
+ring_low q known =
+    at_each (λ n. ring_page n < 16) (omega arith) (omega arith) (omega arith) (omega arith) q known
 
 pub kept_length : (q : ℕ) (pages : List ℕ) (mem : Pages) →
     length (without_frames q pages mem) ≡ length mem
@@ -282,20 +294,35 @@ kept_page q p pages mem low above = by_queue (q == 1)
     by_queue true = refl
     by_queue false = backed_still p pages mem (discarded pages mem) low above refl
 
-pub can_use : (q h : ℕ) (pages : List ℕ) (m1 m2 : Pages) (s f t a capacity : ℕ)
-    (qs : List QueueState) (x2 : QueueState) (loose : List Page) → IsBase m1 s qs capacity →
-    queue_refusal q s ≡ None → h < (queue_at q qs).ring.size →
-    x2.ring.size ≡ (queue_at q qs).ring.size
+pub can_use : (q h : ℕ) (pages : List ℕ) (m1 m2 : Pages) (s f t a n c : ℕ)
+    (qs : List QueueState) (x2 : QueueState) (l : LastStatistics) (loose : List Page) →
+    IsBase m1 s n qs c → has_chains q ≡ true → readiness_refusal s ≡ None →
+    h < (queue_at q qs).ring.size
     → All (λ page. 16 ≤ page) pages → m2 ≡ without_frames q pages m1 →
-    IsSome (frame_at m1 (ring_page q)) → CanUse q h m2 (base_part s f t a (set qs q x2) loose)
-can_use q h pages m1 m2 s f t a capacity qs x2 loose is ok lt size above mem backed =
-    let le : q ≤ 1 = queue_known q s ok in
+    IsSome (frame_at m1 (ring_page q)) →
+    CanUse q h m2 (base_part s f t a n (set qs (place_of q) x2) l loose)
+can_use q h pages m1 m2 s f t a n c qs x2 l loose is known ok lt above mem backed =
     record {
-      known = le;
-      ready = status_ok q s ok;
-      head = subst (λ (n : ℕ). h < n) ((is.each q le).size ∙ sym (size_kept q qs x2 is.two le size))
-          lt;
+      known = known;
+      ready = status_ok s ok;
+      head = subst (λ (k : ℕ). h < k) (is.each q known).size lt;
       backed = subst (λ (o : Option Page). IsSome (number_of o))
           (sym (ap (λ (m : Pages). page_at m (ring_page q)) mem ∙
-          kept_page q (ring_page q) pages m1 (ring_low q le) above)) backed;
+          kept_page q (ring_page q) pages m1 (ring_low q known) above)) backed;
     }
+
+-- a request whose next page is visited stands in memory that has pages
+pub visits_attached : (mem : Pages) (ts : List Request) (page : ℕ) →
+    (length mem ≡ 0 → ts ≡ []) → next_page ts ≡ Some page → 0 < length mem
+visits_attached mem ts page none at = elim (cases_eq (length mem) 0) [
+  | inl e ↦ absurd (no_page page (sym (ap next_page (none e)) ∙ at))
+  | inr ne ↦ omega (arith, ne)
+]
+  where
+    no_page : (page : ℕ) → None ≡ Some page → ⊥
+    no_page page e = cc
+
+pub visits_some : (mem : Pages) (ts : List Request) (found : Option ℕ) →
+    (length mem ≡ 0 → ts ≡ []) → found ≡ next_page ts → OnSome found (0 < length mem)
+visits_some mem ts None none at = search rules
+visits_some mem ts (Some page) none at = visits_attached mem ts page none (sym at)

@@ -4,6 +4,7 @@ use Rattle.std.specs.Prelude.{Err, refl}
 use Rattle.std.proofs.Common.{sym, ◌∙◌, ap, arith}
 use Rattle.vb_model.specs.declared.replies.Refusal.{Refusal}
 use Rattle.vb_model.specs.declared.replies.Refusal.TheVariants.{Busy, Broken}
+use Rattle.vb_model.specs.Guest.{LastStatistics}
 use Rattle.vb_ram.specs.Pages.{Pages, byte_at, field}
 use Rattle.vb_ram.proofs.FieldLaws.{field_zero}
 use Rattle.vb_chain.specs.declared.fault.ChainFault.{ChainFault}
@@ -34,15 +35,16 @@ next_two r x y a b = sym a ∙ b
 none_some : (r : Result (Option ℕ) ChainFault) (h : ℕ) → r ≡ Ok None → r ≡ Ok (Some h) → ⊥
 none_some r h a b = cc
 
-pub next_busy : (mem : Pages) (x : QueueState) → is_full x ≡ true → TakesNext mem x x (Err Busy)
-next_busy mem x full = record {
-  busy = λ b. (refl, refl);
+pub next_busy : (q : ℕ) (mem : Pages) (x : QueueState) (l : LastStatistics) →
+    is_full q x ≡ true → TakesNext q mem x x l l (Err Busy)
+next_busy q mem x l full = record {
+  busy = λ b. (refl, refl, refl);
   empty = λ e n. absurd (true_false (sym full ∙ e));
   jump = λ f e n. absurd (true_false (sym full ∙ e));
   fault = λ h f e n g. absurd (true_false (sym full ∙ e));
   wrong = λ h pieces f e n g r. absurd (true_false (sym full ∙ e));
   takes = λ h pieces pages e n g r. absurd (true_false (sym full ∙ e));
-  means = (refl, full, refl);
+  means = (refl, full, refl, refl);
 }
 
 -- ---- memory of no pages
@@ -67,18 +69,19 @@ idle_next mem x e z =
     (ap (λ (n : ℕ). next_entry [] x.ring.layout x.ring.size n) z ∙
     no_entry x.ring.layout x.ring.size)
 
-pub next_idle : (mem : Pages) (x : QueueState) → is_full x ≡ false → length mem ≡ 0 →
-    x.ring.next_avail ≡ 0 → TakesNext mem x x (Ok None)
-next_idle mem x free e z =
+pub next_idle : (q : ℕ) (mem : Pages) (x : QueueState) (l : LastStatistics) →
+    is_full q x ≡ false → length mem ≡ 0 → x.ring.next_avail ≡ 0 →
+    TakesNext q mem x x l l (Ok None)
+next_idle q mem x l free e z =
     let none : next_of mem x ≡ Ok None = idle_next mem x e z in
     record {
       busy = λ b. absurd (true_false (sym b ∙ free));
-      empty = λ k n. (refl, refl);
+      empty = λ k n. (refl, refl, refl);
       jump = λ f k n. absurd (ok_err None f (sym none ∙ n));
       fault = λ h f k n g. absurd (none_some (next_of mem x) h none n);
       wrong = λ h pieces f k n g r. absurd (none_some (next_of mem x) h none n);
       takes = λ h pieces pages k n g r. absurd (none_some (next_of mem x) h none n);
-      means = (free, refl);
+      means = (free, refl, refl);
     }
 
 -- ---- what a take leaves
@@ -100,14 +103,15 @@ kept mem x1 x2 e =
       idle = λ z. e;
     }
 
-pub keeps_ring : (mem : Pages) (x1 x2 : QueueState) (result : Result (Option ℕ) Refusal) →
-    (length mem ≡ 0 → x1.ring.next_avail ≡ 0) → NextMeans mem x1 x2 result → KeepsRing mem x1 x2
-keeps_ring mem x1 x2 (Ok None) idle m = kept mem x1 x2 m.1
-keeps_ring mem x1 x2 (Ok (Some h)) idle m = record {
+pub keeps_ring : (q : ℕ) (mem : Pages) (x1 x2 : QueueState) (l1 l2 : LastStatistics)
+    (result : Result (Option ℕ) Refusal) → (length mem ≡ 0 → x1.ring.next_avail ≡ 0) →
+    NextMeans q mem x1 x2 l1 l2 result → KeepsRing mem x1 x2
+keeps_ring q mem x1 x2 l1 l2 (Ok None) idle m = kept mem x1 x2 m.1
+keeps_ring q mem x1 x2 l1 l2 (Ok (Some h)) idle m = record {
   layout = ap (λ (x : QueueState). x.ring.layout) m.1.5;
   size = ap (λ (x : QueueState). x.ring.size) m.1.5;
   ready = ap (λ (x : QueueState). x.ring.ready) m.1.5;
   idle = λ z. absurd (none_some (next_of mem x1) h (idle_next mem x1 z (idle z)) m.1.2);
 }
-keeps_ring mem x1 x2 (Err (Broken rule)) idle m = kept mem x1 x2 m.1
-keeps_ring mem x1 x2 (Err why) idle m = kept mem x1 x2 m.2
+keeps_ring q mem x1 x2 l1 l2 (Err (Broken rule)) idle m = kept mem x1 x2 m.1
+keeps_ring q mem x1 x2 l1 l2 (Err why) idle m = kept mem x1 x2 m.2

@@ -4,7 +4,7 @@ pub mod RequestPages
 pub mod OneRequest
 pub mod Chains
 pub mod Takes
-pub mod Both
+pub mod Four
 pub mod TakesBy
 pub mod Finishes
 pub mod FromNext
@@ -14,3 +14,5 @@ pub mod Marks
 pub mod LooseFrames
 pub mod Over
 pub mod Visits
+pub mod Reports
+pub mod LastStatistics

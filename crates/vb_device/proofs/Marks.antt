@@ -1,6 +1,6 @@
 -- Flags by page.
 use Rattle.std.specs.Prelude.{◌≡◌, ℕ, zero, suc, ◌+◌, ◌<◌, ◌≤◌, Bool, true, false, ◌==◌, List, []}
-use Rattle.std.specs.Prelude.{length, count_by, replicate, refl, cond}
+use Rattle.std.specs.Prelude.{length, count_by, replicate, refl, cond, if◌then◌else◌}
 use Rattle.std.proofs.Common.{sym, ◌∙◌, ap, arith, get_or, take, eq-eqb, inl, inr}
 use Rattle.std.proofs.Math.ListN.{set, length-set}
 use Rattle.std.proofs.lemmas.Bool.{cases_eq}
@@ -9,6 +9,7 @@ use Rattle.std.proofs.lemmas.List.Sums.{sum_by-set, get_or-le-sum_by}
 use Rattle.vb_model.specs.Tests.{is_in, one_if}
 use Rattle.vb_model.proofs.Tables.{length-each_from, each_page-get, count_by-cons}
 use Rattle.vb_device.specs.Discards.{flagged}
+use Rattle.vb_device.specs.BaseCalls.{flags_after}
 use Rattle.vb_device.proofs.Discards.{in_more, or_true, or_false, not_equal}
 
 one_is : (b : Bool) → cond b 1 0 ≡ one_if b
@@ -81,3 +82,12 @@ flag_more first flags pages i page flag lt at e =
 pub none_set : (n : ℕ) → count_by (λ b. b) (replicate n false) ≡ 0
 none_set zero = refl
 none_set (suc n) = omega (arith, count_by-cons (λ b. b) false (replicate n false), none_set n)
+
+pub after-length : (q : ℕ) (pages : List ℕ) (flags : List Bool) →
+    length (flags_after q pages flags) ≡ length flags
+after-length q pages flags = by_queue (q == 4)
+  where
+    by_queue : (b : Bool) →
+        length (if b then flags else flagged pages (q == 0) flags) ≡ length flags
+    by_queue true = refl
+    by_queue false = flagged-length pages (q == 0) flags

@@ -11,7 +11,8 @@ use Rattle.vb_chain.specs.declared.fault.ChainFault.{ChainFault}
 use Rattle.vb_ring.specs.declared.device.Taken.{Taken}
 use Rattle.vb_ring.specs.Ends.{DeviceEnd}
 use Rattle.vb_ring.specs.Calls.{PopsBy}
-use Rattle.vb_device.specs.Request.{page_request}
+use Rattle.vb_model.specs.Guest.{LastStatistics}
+use Rattle.vb_device.specs.Calls.{request_of, noted}
 use Rattle.vb_device.specs.Faults.{rule_of}
 use Rattle.vb_device.specs.QueueState.{QueueState, with_request, is_full, TakesNext}
 
@@ -43,38 +44,40 @@ same_fault r f g a b = cc
 same_pages : (r : Result (List ℕ) ChainFault) (xs ys : List ℕ) → r ≡ Ok xs → r ≡ Ok ys → xs ≡ ys
 same_pages r xs ys a b = cc
 
-pub next_none : (mem : Pages) (r1 r2 : DeviceEnd) (taken : List Request) →
-    is_full (at r1 taken) ≡ false → r1.ready ≡ true → PopsBy mem r1 r2 (Ok None) →
-    TakesNext mem (at r1 taken) (at r2 taken) (Ok None)
-next_none mem r1 r2 taken free ready pops =
+pub next_none : (q : ℕ) (mem : Pages) (r1 r2 : DeviceEnd) (taken : List Request)
+    (l : LastStatistics) → is_full q (at r1 taken) ≡ false → r1.ready ≡ true → PopsBy mem r1 r2 (Ok None) →
+    TakesNext q mem (at r1 taken) (at r2 taken) l l (Ok None)
+next_none q mem r1 r2 taken l free ready pops =
     let same : at r2 taken ≡ at r1 taken = ap (λ r. at r taken) pops.state in
     record {
       busy = λ b. absurd (true_false (sym b ∙ free));
-      empty = λ k e. (refl, same);
+      empty = λ k e. (refl, same, refl);
       jump = λ f k e. absurd (ok_err None f (pops.jump f ready e));
       fault = λ h f k e gives. absurd (ok_err None f (pops.fault h f ready e gives));
       wrong = λ h pieces f k e gives bad. absurd (pops.chain h pieces ready e gives);
       takes = λ h pieces pages k e gives good. absurd (pops.chain h pieces ready e gives);
-      means = (free, same);
+      means = (free, same, refl);
     }
 
-pub next_err : (mem : Pages) (r1 r2 : DeviceEnd) (taken : List Request) (f : ChainFault) →
-    is_full (at r1 taken) ≡ false → r1.ready ≡ true → PopsBy mem r1 r2 (Err f) →
-    TakesNext mem (at r1 taken) (at r2 taken) (Err (Broken (rule_of f)))
-next_err mem r1 r2 taken f free ready pops =
+pub next_err : (q : ℕ) (mem : Pages) (r1 r2 : DeviceEnd) (taken : List Request)
+    (l : LastStatistics) (f : ChainFault) →
+    is_full q (at r1 taken) ≡ false → r1.ready ≡ true → PopsBy mem r1 r2 (Err f) →
+    TakesNext q mem (at r1 taken) (at r2 taken) l l (Err (Broken (rule_of f)))
+next_err q mem r1 r2 taken l f free ready pops =
     let same : at r2 taken ≡ at r1 taken = ap (λ r. at r taken) pops.state in
     record {
       busy = λ b. absurd (true_false (sym b ∙ free));
       empty = λ k e. absurd (err_ok None f (pops.none ready e));
-      jump = λ g k e. (ap broken (same_err (Err f) f g refl (pops.jump g ready e)), same);
+      jump = λ g k e. (ap broken (same_err (Err f) f g refl (pops.jump g ready e)), same, refl);
       fault = λ h g k e gives. (
         ap broken
             (same_err (Err f) f g refl (pops.fault h g ready e gives)),
         same,
+        refl,
       );
       wrong = λ h pieces g k e gives bad. absurd (pops.chain h pieces ready e gives);
       takes = λ h pieces pages k e gives good. absurd (pops.chain h pieces ready e gives);
-      means = (free, same);
+      means = (free, same, refl);
     }
 
 -- the end that went back by one
@@ -86,12 +89,13 @@ back r1 r2 r3 small e f =
     f ∙ (ap (λ (r : DeviceEnd). record r { next_avail = (r.next_avail + 65535) % 65536 }) e ∙
     ap (λ (k : ℕ). record r1 { next_avail = k }) n)
 
-pub next_wrong : (mem : Pages) (r1 r2 r3 : DeviceEnd) (taken : List Request) (t : Taken)
-    (f : ChainFault) → is_full (at r1 taken) ≡ false → r1.ready ≡ true →
-    PopsBy mem r1 r2 (Ok (Some t)) → page_request mem t.chain ≡ Err f
+pub next_wrong : (q : ℕ) (mem : Pages) (r1 r2 r3 : DeviceEnd) (taken : List Request)
+    (l : LastStatistics) (t : Taken)
+    (f : ChainFault) → is_full q (at r1 taken) ≡ false → r1.ready ≡ true →
+    PopsBy mem r1 r2 (Ok (Some t)) → request_of q mem t.chain ≡ Err f
     → r3 ≡ record r2 { next_avail = (r2.next_avail + 65535) % 65536 } →
-    TakesNext mem (at r1 taken) (at r3 taken) (Err (Broken (rule_of f)))
-next_wrong mem r1 r2 r3 taken t f free ready pops is undone =
+    TakesNext q mem (at r1 taken) (at r3 taken) l l (Err (Broken (rule_of f)))
+next_wrong q mem r1 r2 r3 taken l t f free ready pops is undone =
     let same : at r3 taken ≡ at r1 taken =
     ap (λ r. at r taken) (back r1 r2 r3 pops.is_end.next_avail pops.state undone) in
     record {
@@ -101,23 +105,25 @@ next_wrong mem r1 r2 r3 taken t f free ready pops is undone =
       fault = λ h g k e gives. absurd (ok_err (Some t) g (pops.fault h g ready e gives));
       wrong = λ h pieces g k e gives bad. (
         ap broken
-            (same_fault (page_request mem t.chain) f g is
-            (ap (page_request mem) (pops.chain h pieces ready e gives).1 ∙ bad)),
+            (same_fault (request_of q mem t.chain) f g is
+            (ap (request_of q mem) (pops.chain h pieces ready e gives).1 ∙ bad)),
         same,
+        refl,
       );
       takes = λ h pieces pages k e gives good. absurd
           (err_ok pages f (sym is ∙
-          (ap (page_request mem) (pops.chain h pieces ready e gives).1 ∙ good)));
-      means = (free, same);
+          (ap (request_of q mem) (pops.chain h pieces ready e gives).1 ∙ good)));
+      means = (free, same, refl);
     }
 
-pub next_right : (mem : Pages) (r1 r2 : DeviceEnd) (taken : List Request) (t : Taken)
-    (pages : List ℕ) → is_full (at r1 taken) ≡ false → r1.ready ≡ true →
-    PopsBy mem r1 r2 (Ok (Some t)) → page_request mem t.chain ≡ Ok pages
-    → TakesNext mem (at r1 taken)
-    (at r2 (taken ++ record { head = t.head; pages = pages; visited = 0 } ∷ []))
+pub next_right : (q : ℕ) (mem : Pages) (r1 r2 : DeviceEnd) (taken : List Request)
+    (l1 l2 : LastStatistics) (t : Taken)
+    (pages : List ℕ) → is_full q (at r1 taken) ≡ false → r1.ready ≡ true →
+    PopsBy mem r1 r2 (Ok (Some t)) → request_of q mem t.chain ≡ Ok pages
+    → l2 ≡ noted q mem t.chain l1 → TakesNext q mem (at r1 taken)
+    (at r2 (taken ++ record { head = t.head; pages = pages; visited = 0 } ∷ [])) l1 l2
     (Ok (Some t.head))
-next_right mem r1 r2 taken t pages free ready pops is =
+next_right q mem r1 r2 taken l1 l2 t pages free ready pops is said =
     let after : at r2 (taken ++ record { head = t.head; pages = pages; visited = 0 } ∷ []) ≡
     with_request t.head pages (at r1 taken) =
     ap (λ r. at r (taken ++ record { head = t.head; pages = pages; visited = 0 } ∷ []))
@@ -129,16 +135,17 @@ next_right mem r1 r2 taken t pages free ready pops is =
       fault = λ h g k e gives. absurd (ok_err (Some t) g (pops.fault h g ready e gives));
       wrong = λ h pieces g k e gives bad. absurd
           (ok_err pages g (sym is ∙
-          (ap (page_request mem) (pops.chain h pieces ready e gives).1 ∙ bad)));
+          (ap (request_of q mem) (pops.chain h pieces ready e gives).1 ∙ bad)));
       takes = λ h pieces ps k e gives good.
           let chain = pops.chain h pieces ready e gives in (
             ap (λ n. Ok (Some n)) chain.0,
             after ∙ (ap (λ n. with_request n pages (at r1 taken)) chain.0 ∙
                 ap (λ xs. with_request h xs (at r1 taken))
-                (same_pages (page_request mem t.chain) pages ps is
-                (ap (page_request mem) chain.1 ∙ good))),
+                (same_pages (request_of q mem t.chain) pages ps is
+                (ap (request_of q mem) chain.1 ∙ good))),
+            said ∙ ap (λ xs. noted q mem xs l1) chain.1,
           );
-      means = (free, (pages, t.chain, pops.found.1, pops.found.2, is, after));
+      means = (free, (pages, t.chain, pops.found.1, pops.found.2, is, after, said));
     }
 
 -- a list of one

@@ -1,36 +1,37 @@
 -- A take by a device, from the take of its queue.
-use Rattle.std.specs.Prelude.{◌≡◌, ℕ, zero, suc, ◌≤◌, Bool, true, false, not, ◌||◌}
-use Rattle.std.specs.Prelude.{nat_lt, List, [], ◌∷◌, length, Option, Some, None, Result, Ok, Err}
+use Rattle.std.specs.Prelude.{◌≡◌, ℕ, Bool, true, false, not, ◌||◌, ◌*◌, ◌+◌, ◌%◌, ◌++◌, nat_le}
+use Rattle.std.specs.Prelude.{List, [], ◌∷◌, length, Option, Some, None, Result, Ok, Err}
 use Rattle.std.specs.Prelude.{if◌then◌else◌, bit_or, refl}
-use Rattle.std.proofs.Common.{sym, ◌∙◌, ap, subst, arith}
-use Rattle.std.proofs.lemmas.Bool.{lt-ltb}
+use Rattle.std.proofs.Common.{sym, ◌∙◌, ap, subst}
+use Rattle.std.proofs.Math.ListN.{set}
 use Rattle.vb_model.specs.declared.replies.Refusal.{Refusal}
 use Rattle.vb_model.specs.declared.replies.Refusal.TheVariants.{NoQueue, NotReady, NeedsReset, Busy}
 use Rattle.vb_model.specs.declared.replies.Refusal.TheVariants.{Broken}
-use Rattle.vb_model.specs.Status.{needs_reset}
-use Rattle.vb_model.specs.Tables.{is_queue_of_requests, has_chains, is_not_ready, has_fault}
-use Rattle.vb_model.proofs.Queues.{no_requests_at, no_chains_at}
+use Rattle.vb_model.specs.Guest.{LastStatistics}
+use Rattle.vb_model.specs.Layout.{ring_page}
+use Rattle.vb_model.specs.Status.{contains, driver_ok, failed, needs_reset}
+use Rattle.vb_model.specs.Tables.{is_queue_of_requests, has_chains, lacks_feature, is_not_ready}
+use Rattle.vb_model.specs.Tables.{has_fault, most_taken}
 use Rattle.vb_ram.specs.Pages.{Page, Pages}
-use Rattle.vb_ram.specs.Part.{Part}
+use Rattle.vb_ram.specs.Part.{Part, QueuePart}
 use Rattle.vb_chain.specs.declared.fault.ChainFault.{ChainFault}
 use Rattle.vb_chain.specs.declared.pieces.Piece.{Piece}
-use Rattle.vb_device.specs.Conditions.{take_refusal, finish_refusal}
-use Rattle.vb_device.specs.Queues.{next_available}
-use Rattle.vb_device.specs.Faults.{Breaks, rule_of, needing_reset}
-use Rattle.vb_device.specs.QueueState.{QueueState, with_request, next_of, IsChainOf, IsFaultOf}
-use Rattle.vb_device.specs.QueueState.{is_full, NextMeans, LeavesBroken, TakesNext, status_after}
-use Rattle.vb_device.specs.BaseCalls.{readiness_refusal, queue_refusal}
-use Rattle.std.specs.Prelude.{◌*◌}
-use Rattle.vb_model.specs.Status.{contains, driver_ok, failed}
 use Rattle.vb_chain.specs.Table.{descriptor_at}
 use Rattle.vb_chain.specs.Chain.{ChainGives, FaultGives}
 use Rattle.vb_ring.specs.declared.layout.Layout.{Layout}
+use Rattle.vb_ring.specs.Layout.{layout_of}
 use Rattle.vb_ring.specs.Entries.{next_entry}
-use Rattle.vb_device.specs.Base.{queue_at, base_part, IsDeviceQueue, IsBase}
-use Rattle.vb_device.proofs.Both.{base_set}
+use Rattle.vb_device.specs.Queues.{queue_part, with_queue, next_available}
+use Rattle.vb_device.specs.Conditions.{take_refusal, finish_refusal}
+use Rattle.vb_device.specs.Faults.{Breaks, rule_of, needing_reset}
+use Rattle.vb_device.specs.QueueState.{QueueState, part_of, with_request, next_of, IsChainOf}
+use Rattle.vb_device.specs.QueueState.{IsFaultOf, is_full, NextMeans, Leaves, TakesNext}
+use Rattle.vb_device.specs.QueueState.{status_after}
+use Rattle.vb_device.specs.Base.{place_of, queue_at, base_part, IsDeviceQueue, IsBase}
+use Rattle.vb_device.specs.BaseCalls.{readiness_refusal, queue_refusal, take_refusal_by}
+use Rattle.vb_device.specs.Calls.{HasChain, HasFault, taking, noted, noting, TakeMeans, TakesBy}
+use Rattle.vb_device.proofs.Four.{at_each, part_get, part_set, set_here, set_same, base_set}
 use Rattle.vb_device.proofs.FromNext.{KeepsRing}
-use Rattle.std.proofs.Math.ListN.{set}
-use Rattle.vb_device.specs.Calls.{HasChain, HasFault, taking, TakeMeans, TakesBy}
 
 -- ---- refusals
 
@@ -40,33 +41,7 @@ same_some o x y a b = cc
 pub none_some : (o : Option Refusal) (x : Refusal) → o ≡ None → o ≡ Some x → ⊥
 none_some o x a b = cc
 
-first_no : (b : Bool) (rest : Option Refusal) → b ≡ false →
-    (if not b then Some NoQueue else rest) ≡ Some NoQueue
-first_no b rest e = ap (λ v. if not v then Some NoQueue else rest) e
-
-pub take_no_queue : (q : ℕ) (part : Part) → 2 ≤ q → take_refusal q part ≡ Some NoQueue
-take_no_queue q part h = first_no (has_chains q) _ (no_chains_at q h)
-
-pub finish_no_queue : (q index : ℕ) (part : Part) → 2 ≤ q →
-    finish_refusal q index part ≡ Some NoQueue
-finish_no_queue q index part h = first_no (is_queue_of_requests q) _ (no_requests_at q h)
-
--- a take that is refused by the table
-pub refused_take : (q : ℕ) (mem : Pages) (part : Part) (why : Refusal) →
-    take_refusal q part ≡ Some why → TakeMeans q mem part part (Err why) →
-    TakesBy q mem mem part part (Err why)
-refused_take q mem part why is means = record {
-  memory = refl;
-  refused = λ other e. (ap Err (same_some (take_refusal q part) why other is e), refl);
-  empty = λ e n. absurd (none_some (take_refusal q part) why e is);
-  jump = λ f e n. absurd (none_some (take_refusal q part) why e is);
-  fault = λ h f e n g. absurd (none_some (take_refusal q part) why e is);
-  wrong = λ h pieces f e n g r. absurd (none_some (take_refusal q part) why e is);
-  takes = λ h pieces pages e n g r. absurd (none_some (take_refusal q part) why e is);
-  means = means;
-}
-
--- the tests after those of the status
+-- the tests of a call, from those that come first
 pub by_status : (unready fault : Bool) (rest : Option Refusal) (why : Refusal) →
     (if unready then Some NotReady else (if fault then Some NeedsReset else None)) ≡ Some why
     → (if unready then Some NotReady else (if fault then Some NeedsReset else rest)) ≡ Some why
@@ -81,81 +56,158 @@ after_status true fault rest e = absurd cc
 after_status false true rest e = absurd cc
 after_status false false rest e = refl
 
-first_yes : (b : Bool) (rest : Option Refusal) → b ≡ true →
-    (if b then Some NoQueue else rest) ≡ Some NoQueue
-first_yes b rest e = ap (λ v. if v then Some NoQueue else rest) e
+-- the four tests of a take
+abbrev four_tests : Bool → Bool → Bool → Bool → Option Refusal → Option Refusal
+four_tests a b c d rest =
+    if a then Some NoQueue else (if b then Some NotReady else (if c then Some NeedsReset
+    else (if d then Some NoQueue else rest)))
 
-pub far_queue : (n s : ℕ) → queue_refusal (suc (suc n)) s ≡ Some NoQueue
-far_queue n s = first_yes (nat_lt 1 (suc (suc n))) _ (lt-ltb 1 (suc (suc n)) (omega arith))
+by_four : (a b c d : Bool) (rest : Option Refusal) (why : Refusal) →
+    four_tests a b c d None ≡ Some why → four_tests a b c d rest ≡ Some why
+by_four true b c d rest why e = e
+by_four false true c d rest why e = e
+by_four false false true d rest why e = e
+by_four false false false true rest why e = e
+by_four false false false false rest why e = absurd cc
 
--- what the queue's number and the status refuse, every call refuses
-pub queue_take : (q : ℕ) (part : Part) (why : Refusal) → queue_refusal q part.status ≡ Some why →
-    take_refusal q part ≡ Some why
-queue_take zero part why e = by_status (is_not_ready part.status) (has_fault part.status) _ why e
-queue_take (suc zero) part why e =
-    by_status (is_not_ready part.status) (has_fault part.status) _ why e
-queue_take (suc (suc n)) part why e =
-    take_no_queue (suc (suc n)) part (omega arith) ∙ (sym (far_queue n part.status) ∙ e)
+after_four : (a b c d : Bool) (rest : Option Refusal) → four_tests a b c d None ≡ None →
+    four_tests a b c d rest ≡ rest
+after_four true b c d rest e = absurd cc
+after_four false true c d rest e = absurd cc
+after_four false false true d rest e = absurd cc
+after_four false false false true rest e = absurd cc
+after_four false false false false rest e = refl
 
+first_false : (a b c d : Bool) → four_tests (not a) b c d None ≡ None → a ≡ true
+first_false true b c d e = refl
+first_false false b c d e = absurd cc
+
+status_false : (a b c d : Bool) → four_tests a b c d None ≡ None →
+    (if b then Some NotReady else (if c then Some NeedsReset else None)) ≡ None
+status_false true b c d e = absurd cc
+status_false false true c d e = absurd cc
+status_false false false true d e = absurd cc
+status_false false false false d e = refl
+
+pub take_refused : (q : ℕ) (part : Part) (why : Refusal) →
+    take_refusal_by q part.status part.features ≡ Some why → take_refusal q part ≡ Some why
+take_refused q part why e =
+    by_four (not (has_chains q)) (is_not_ready part.status) (has_fault part.status)
+    (lacks_feature part.features q) _ why e
+
+pub take_open : (q : ℕ) (part : Part) → take_refusal_by q part.status part.features ≡ None →
+    take_refusal q part ≡
+    (if nat_le (most_taken q) (length (queue_part q part).taken) then Some Busy else None)
+take_open q part e =
+    after_four (not (has_chains q)) (is_not_ready part.status) (has_fault part.status)
+    (lacks_feature part.features q) _ e
+
+pub take_known : (q s f : ℕ) → take_refusal_by q s f ≡ None → has_chains q ≡ true
+take_known q s f e =
+    first_false (has_chains q) (is_not_ready s) (has_fault s) (lacks_feature f q) e
+
+pub take_ready : (q s f : ℕ) → take_refusal_by q s f ≡ None → readiness_refusal s ≡ None
+take_ready q s f e =
+    status_false (not (has_chains q)) (is_not_ready s) (has_fault s) (lacks_feature f q) e
+
+by_kind : (a unready fault : Bool) (rest : Option Refusal) (why : Refusal) →
+    (if a then Some NoQueue else (if unready then Some NotReady else (if fault then Some NeedsReset
+    else None))) ≡ Some why →
+    (if a then Some NoQueue else (if unready then Some NotReady else (if fault then Some NeedsReset
+    else rest))) ≡ Some why
+by_kind true unready fault rest why e = e
+by_kind false unready fault rest why e = by_status unready fault rest why e
+
+-- what a queue's number and the status refuse, a finish refuses
 pub queue_finish : (q index : ℕ) (part : Part) (why : Refusal) →
     queue_refusal q part.status ≡ Some why → finish_refusal q index part ≡ Some why
-queue_finish zero index part why e =
-    by_status (is_not_ready part.status) (has_fault part.status) _ why e
-queue_finish (suc zero) index part why e =
-    by_status (is_not_ready part.status) (has_fault part.status) _ why e
-queue_finish (suc (suc n)) index part why e =
-    finish_no_queue (suc (suc n)) index part (omega arith) ∙ (sym (far_queue n part.status) ∙ e)
+queue_finish q index part why e =
+    by_kind (not (is_queue_of_requests q)) (is_not_ready part.status) (has_fault part.status) _ why e
 
-pub queue_known : (q s : ℕ) → queue_refusal q s ≡ None → q ≤ 1
-queue_known zero s e = omega arith
-queue_known (suc zero) s e = omega arith
-queue_known (suc (suc n)) s e =
-    absurd (none_some (queue_refusal (suc (suc n)) s) NoQueue e (far_queue n s))
+kind_open : (a unready fault : Bool) (rest : Option Refusal) →
+    (if a then Some NoQueue else (if unready then Some NotReady else (if fault then Some NeedsReset
+    else None))) ≡ None →
+    (if a then Some NoQueue else (if unready then Some NotReady else (if fault then Some NeedsReset
+    else rest))) ≡ rest
+kind_open true unready fault rest e = absurd cc
+kind_open false unready fault rest e = after_status unready fault rest e
+
+pub finish_open : (q index : ℕ) (s : ℕ) (rest : Option Refusal) → queue_refusal q s ≡ None →
+    (if not (is_queue_of_requests q) then Some NoQueue else
+    (if is_not_ready s then Some NotReady else (if has_fault s then Some NeedsReset
+    else rest))) ≡ rest
+finish_open q index s rest e =
+    kind_open (not (is_queue_of_requests q)) (is_not_ready s) (has_fault s) rest e
+
+kind_known : (a other : Bool) (rest : Option Refusal) →
+    (if not a then Some NoQueue else rest) ≡ None → (a || other) ≡ true
+kind_known true other rest e = refl
+kind_known false other rest e = absurd cc
+
+pub queue_known : (q s : ℕ) → queue_refusal q s ≡ None → has_chains q ≡ true
+queue_known q s e =
+    kind_known (is_queue_of_requests q) _ (readiness_refusal s) e
+
+kind_rest : (a : Bool) (rest : Option Refusal) →
+    (if a then Some NoQueue else rest) ≡ None → rest ≡ None
+kind_rest true rest e = absurd cc
+kind_rest false rest e = e
 
 pub queue_status : (q s : ℕ) → queue_refusal q s ≡ None → readiness_refusal s ≡ None
-queue_status zero s e = e
-queue_status (suc zero) s e = e
-queue_status (suc (suc n)) s e =
-    absurd (none_some (queue_refusal (suc (suc n)) s) NoQueue e (far_queue n s))
+queue_status q s e = kind_rest (not (is_queue_of_requests q)) (readiness_refusal s) e
 
 -- a refusal of a take is answered as it is
-means_refused : (q : ℕ) (mem : Pages) (part : Part) (far unready fault : Bool) (why : Refusal) →
-    (if far then Some NoQueue else (if unready then Some
-    NotReady else (if fault then Some NeedsReset else None))) ≡ Some why
-    → take_refusal q part ≡ Some why → TakeMeans q mem part part (Err why)
-means_refused q mem part true unready fault why e is =
+means_refused : (q : ℕ) (mem : Pages) (part : Part) (a b c d : Bool) (why : Refusal) →
+    four_tests a b c d None ≡ Some why → take_refusal q part ≡ Some why →
+    TakeMeans q mem part part (Err why)
+means_refused q mem part true b c d why e is =
     subst (λ (w : Refusal). take_refusal q part ≡ Some w → TakeMeans q mem part part (Err w))
     (same_some (Some NoQueue) NoQueue why refl e) (λ r. (r, refl)) is
-means_refused q mem part false true fault why e is =
+means_refused q mem part false true c d why e is =
     subst (λ (w : Refusal). take_refusal q part ≡ Some w → TakeMeans q mem part part (Err w))
     (same_some (Some NotReady) NotReady why refl e) (λ r. (r, refl)) is
-means_refused q mem part false false true why e is =
+means_refused q mem part false false true d why e is =
     subst (λ (w : Refusal). take_refusal q part ≡ Some w → TakeMeans q mem part part (Err w))
     (same_some (Some NeedsReset) NeedsReset why refl e) (λ r. (r, refl)) is
-means_refused q mem part false false false why e is = absurd cc
+means_refused q mem part false false false true why e is =
+    subst (λ (w : Refusal). take_refusal q part ≡ Some w → TakeMeans q mem part part (Err w))
+    (same_some (Some NoQueue) NoQueue why refl e) (λ r. (r, refl)) is
+means_refused q mem part false false false false why e is = absurd cc
 
 pub takes_refused : (q : ℕ) (mem : Pages) (part : Part) (why : Refusal) →
-    queue_refusal q part.status ≡ Some why → TakesBy q mem mem part part (Err why)
+    take_refusal_by q part.status part.features ≡ Some why →
+    TakesBy q mem mem part part (Err why)
 takes_refused q mem part why e =
-    let is : take_refusal q part ≡ Some why = queue_take q part why e in
-    refused_take q mem part why is
-    (means_refused q mem part (nat_lt 1 q) (is_not_ready part.status) (has_fault part.status)
-    why e is)
+    let is : take_refusal q part ≡ Some why = take_refused q part why e in
+    record {
+      memory = refl;
+      refused = λ other o. (ap Err (same_some (take_refusal q part) why other is o), refl);
+      empty = λ o n. absurd (none_some (take_refusal q part) why o is);
+      jump = λ f o n. absurd (none_some (take_refusal q part) why o is);
+      fault = λ h f o n g. absurd (none_some (take_refusal q part) why o is);
+      wrong = λ h pieces f o n g r. absurd (none_some (take_refusal q part) why o is);
+      takes = λ h pieces pages o n g r. absurd (none_some (take_refusal q part) why o is);
+      means = means_refused q mem part (not (has_chains q)) (is_not_ready part.status)
+          (has_fault part.status) (lacks_feature part.features q) why e is;
+    }
 
 -- ---- from the take of the queue
 
--- how a queue and the status sit in a part, and how what its bytes say is the queue's
-pub record Sits (q : ℕ) (mem : Pages) (P : QueueState → ℕ → Part) (x : QueueState)
-    (s : ℕ) : Type 0 where
-  pub refusal : take_refusal q (P x s) ≡ (if is_full x then Some Busy else None)
-  pub next : next_available q mem (P x s) ≡ next_of mem x
-  pub chain : (h : ℕ) (pieces : List Piece) → HasChain q mem (P x s) h pieces →
+-- how a queue, the status and the statistics sit in a part, and how what its bytes say is the
+-- queue's
+pub record Sits (q : ℕ) (mem : Pages) (P : QueueState → ℕ → LastStatistics → Part)
+    (x : QueueState) (s : ℕ) (l : LastStatistics) : Type 0 where
+  pub refusal : take_refusal q (P x s l) ≡ (if is_full q x then Some Busy else None)
+  pub next : next_available q mem (P x s l) ≡ next_of mem x
+  pub chain : (h : ℕ) (pieces : List Piece) → HasChain q mem (P x s l) h pieces →
       IsChainOf mem x h pieces
   pub chain_back : (h : ℕ) (pieces : List Piece) → IsChainOf mem x h pieces →
-      HasChain q mem (P x s) h pieces
-  pub fault : (h : ℕ) (f : ChainFault) → HasFault q mem (P x s) h f → IsFaultOf mem x h f
-  pub resets : needing_reset (P x s) ≡ P x (bit_or s needs_reset)
-  pub takes : (h : ℕ) (pages : List ℕ) → taking q h pages (P x s) ≡ P (with_request h pages x) s
+      HasChain q mem (P x s l) h pieces
+  pub fault : (h : ℕ) (f : ChainFault) → HasFault q mem (P x s l) h f → IsFaultOf mem x h f
+  pub resets : needing_reset (P x s l) ≡ P x (bit_or s needs_reset) l
+  pub takes : (h : ℕ) (pages : List ℕ) (pieces : List Piece) →
+      taking q h pages (noting q mem pieces (P x s l)) ≡
+      P (with_request h pages x) s (noted q mem pieces l)
 
 is_busy : (b : Bool) (why : Refusal) → (if b then Some Busy else None) ≡ Some why →
     (b ≡ true) × (Busy ≡ why)
@@ -166,13 +218,19 @@ not_busy : (b : Bool) → (if b then Some Busy else None) ≡ None → b ≡ fal
 not_busy true e = absurd cc
 not_busy false e = refl
 
-means_of : (q : ℕ) (mem : Pages) (P : QueueState → ℕ → Part) (x1 x2 : QueueState) (s : ℕ)
-    (result : Result (Option ℕ) Refusal) → Sits q mem P x1 s →
-    (is_full x1 ≡ false → take_refusal q (P x1 s) ≡ None)
-    → (is_full x1 ≡ true → take_refusal q (P x1 s) ≡ Some Busy) → NextMeans mem x1 x2 result →
-    TakeMeans q mem (P x1 s) (P x2 (status_after result s)) result
-means_of q mem P x1 x2 s (Ok None) sits free busy m = (free m.0, ap (λ x. P x s) m.1)
-means_of q mem P x1 x2 s (Ok (Some h)) sits free busy m = (
+same_part : (P : QueueState → ℕ → LastStatistics → Part) (x1 x2 : QueueState) (s : ℕ)
+    (l1 l2 : LastStatistics) → x2 ≡ x1 → l2 ≡ l1 → P x2 s l2 ≡ P x1 s l1
+same_part P x1 x2 s l1 l2 e f = ap (λ x. P x s l2) e ∙ ap (λ l. P x1 s l) f
+
+means_of : (q : ℕ) (mem : Pages) (P : QueueState → ℕ → LastStatistics → Part)
+    (x1 x2 : QueueState) (s : ℕ) (l1 l2 : LastStatistics) (result : Result (Option ℕ) Refusal) →
+    Sits q mem P x1 s l1 → (is_full q x1 ≡ false → take_refusal q (P x1 s l1) ≡ None)
+    → (is_full q x1 ≡ true → take_refusal q (P x1 s l1) ≡ Some Busy) →
+    NextMeans q mem x1 x2 l1 l2 result →
+    TakeMeans q mem (P x1 s l1) (P x2 (status_after result s) l2) result
+means_of q mem P x1 x2 s l1 l2 (Ok None) sits free busy m =
+    (free m.0, same_part P x1 x2 s l1 l2 m.1 m.2)
+means_of q mem P x1 x2 s l1 l2 (Ok (Some h)) sits free busy m = (
   free m.0,
   (
     m.1.0,
@@ -182,137 +240,159 @@ means_of q mem P x1 x2 s (Ok (Some h)) sits free busy m = (
       chain = sits.chain_back h m.1.1 m.1.3;
       request = m.1.4;
     },
-    ap (λ x. P x s) m.1.5 ∙ sym (sits.takes h m.1.0),
+    same_part P (with_request h m.1.0 x1) x2 s (noted q mem m.1.1 l1) l2 m.1.5 m.1.6 ∙
+        sym (sits.takes h m.1.0 m.1.1),
   ),
 )
-means_of q mem P x1 x2 s (Err (Broken rule)) sits free busy m =
-    (free m.0, ap (λ x. P x (bit_or s needs_reset)) m.1 ∙ sym sits.resets)
-means_of q mem P x1 x2 s (Err why) sits free busy m =
-    (busy m.1 ∙ ap Some (sym m.0), ap (λ x. P x s) m.2)
+means_of q mem P x1 x2 s l1 l2 (Err (Broken rule)) sits free busy m =
+    (free m.0, same_part P x1 x2 (bit_or s needs_reset) l1 l2 m.1 m.2 ∙ sym sits.resets)
+means_of q mem P x1 x2 s l1 l2 (Err why) sits free busy m =
+    (busy m.1 ∙ ap Some (sym m.0), same_part P x1 x2 s l1 l2 m.2 m.3)
 
 -- the part after an answer
-after_is : (P : QueueState → ℕ → Part) (x1 x2 : QueueState) (s : ℕ)
-    (result to : Result (Option ℕ) Refusal) → result ≡ to → x2 ≡ x1 →
-    P x2 (status_after result s) ≡ P x1 (status_after to s)
-after_is P x1 x2 s result to e f =
-    ap (λ x. P x (status_after result s)) f ∙ ap (λ r. P x1 (status_after r s)) e
+after_is : (P : QueueState → ℕ → LastStatistics → Part) (x1 x2 : QueueState) (s : ℕ)
+    (l1 l2 : LastStatistics) (result to : Result (Option ℕ) Refusal) → result ≡ to → x2 ≡ x1 →
+    l2 ≡ l1 → P x2 (status_after result s) l2 ≡ P x1 (status_after to s) l1
+after_is P x1 x2 s l1 l2 result to e f g =
+    same_part P x1 x2 (status_after result s) l1 l2 f g ∙ ap (λ r. P x1 (status_after r s) l1) e
 
-breaks : (P : QueueState → ℕ → Part) (x1 x2 : QueueState) (s : ℕ) (f : ChainFault)
-    (result : Result (Option ℕ) Refusal) → needing_reset (P x1 s) ≡ P x1 (bit_or s needs_reset) →
-    LeavesBroken f x1 x2 result → Breaks f (P x1 s) (P x2 (status_after result s)) result
-breaks P x1 x2 s f result resets left =
+breaks : (P : QueueState → ℕ → LastStatistics → Part) (x1 x2 : QueueState) (s : ℕ)
+    (l1 l2 : LastStatistics) (f : ChainFault) (result : Result (Option ℕ) Refusal) →
+    needing_reset (P x1 s l1) ≡ P x1 (bit_or s needs_reset) l1 →
+    Leaves x1 x2 l1 l2 result (Err (Broken (rule_of f))) →
+    Breaks f (P x1 s l1) (P x2 (status_after result s) l2) result
+breaks P x1 x2 s l1 l2 f result resets left =
     record {
       answer = left.0;
-      part = after_is P x1 x2 s result (Err (Broken (rule_of f))) left.0 left.1 ∙ sym resets;
+      part = after_is P x1 x2 s l1 l2 result (Err (Broken (rule_of f))) left.0 left.1 left.2 ∙
+          sym resets;
     }
 
-pub takes_by : (q : ℕ) (mem : Pages) (P : QueueState → ℕ → Part) (x1 x2 : QueueState) (s : ℕ)
-    (result : Result (Option ℕ) Refusal) → Sits q mem P x1 s → TakesNext mem x1 x2 result →
-    TakesBy q mem mem (P x1 s) (P x2 (status_after result s)) result
-takes_by q mem P x1 x2 s result sits t =
-    let free : is_full x1 ≡ false → take_refusal q (P x1 s) ≡ None =
+pub takes_by : (q : ℕ) (mem : Pages) (P : QueueState → ℕ → LastStatistics → Part)
+    (x1 x2 : QueueState) (s : ℕ) (l1 l2 : LastStatistics) (result : Result (Option ℕ) Refusal) →
+    Sits q mem P x1 s l1 → TakesNext q mem x1 x2 l1 l2 result →
+    TakesBy q mem mem (P x1 s l1) (P x2 (status_after result s) l2) result
+takes_by q mem P x1 x2 s l1 l2 result sits t =
+    let free : is_full q x1 ≡ false → take_refusal q (P x1 s l1) ≡ None =
     λ e. sits.refusal ∙ ap (λ b. if b then Some Busy else None) e in
-    let busy : is_full x1 ≡ true → take_refusal q (P x1 s) ≡ Some Busy =
+    let busy : is_full q x1 ≡ true → take_refusal q (P x1 s l1) ≡ Some Busy =
     λ e. sits.refusal ∙ ap (λ b. if b then Some Busy else None) e in
-    let room : take_refusal q (P x1 s) ≡ None → is_full x1 ≡ false =
-    λ e. not_busy (is_full x1) (sym sits.refusal ∙ e) in
+    let room : take_refusal q (P x1 s l1) ≡ None → is_full q x1 ≡ false =
+    λ e. not_busy (is_full q x1) (sym sits.refusal ∙ e) in
     record {
       memory = refl;
       refused = λ why e.
-          let full = is_busy (is_full x1) why (sym sits.refusal ∙ e) in
-          let got = t.busy full.0 in
-          (got.0 ∙ ap Err full.1, after_is P x1 x2 s result (Err Busy) got.0 got.1);
+          let full = is_busy (is_full q x1) why (sym sits.refusal ∙ e) in
+          let got = t.busy full.0 in (
+            got.0 ∙ ap Err full.1,
+            after_is P x1 x2 s l1 l2 result (Err Busy) got.0 got.1 got.2,
+          );
       empty = λ e n. (let got = t.empty (room e)
-          (sym sits.next ∙ n) in (got.0, after_is P x1 x2 s result (Ok None) got.0 got.1));
-      jump = λ f e n. breaks P x1 x2 s f result sits.resets (t.jump f (room e) (sym sits.next ∙ n));
-      fault = λ h f e n gives. breaks P x1 x2 s f result sits.resets
+          (sym sits.next ∙ n) in (
+            got.0,
+            after_is P x1 x2 s l1 l2 result (Ok None) got.0 got.1 got.2,
+          ));
+      jump = λ f e n. breaks P x1 x2 s l1 l2 f result sits.resets
+          (t.jump f (room e) (sym sits.next ∙ n));
+      fault = λ h f e n gives. breaks P x1 x2 s l1 l2 f result sits.resets
           (t.fault h f (room e) (sym sits.next ∙ n) (sits.fault h f gives));
-      wrong = λ h pieces f e n gives bad. breaks P x1 x2 s f result sits.resets
+      wrong = λ h pieces f e n gives bad. breaks P x1 x2 s l1 l2 f result sits.resets
           (t.wrong h pieces f (room e) (sym sits.next ∙ n) (sits.chain h pieces gives) bad);
       takes = λ h pieces pages e n gives good.
           let got =
           t.takes h pieces pages (room e) (sym sits.next ∙ n) (sits.chain h pieces gives) good
           in (
             got.0,
-            after_is P (with_request h pages x1) x2 s result (Ok (Some h)) got.0 got.1 ∙
-                sym (sits.takes h pages),
+            after_is P (with_request h pages x1) x2 s (noted q mem pieces l1) l2 result
+                (Ok (Some h)) got.0 got.1 got.2 ∙ sym (sits.takes h pages pieces),
           );
-      means = means_of q mem P x1 x2 s result sits free busy t.means;
+      means = means_of q mem P x1 x2 s l1 l2 result sits free busy t.means;
     }
 
--- ---- the two queues of a device
+-- ---- a queue of a device
 
-abbrev inflate_in : ℕ → ℕ → ℕ → QueueState → List Page → QueueState → ℕ → Part
-inflate_in features target actual deflate loose x s =
-    base_part s features target actual (x ∷ deflate ∷ []) loose
+abbrev with_at : ℕ → ℕ → ℕ → ℕ → ℕ → List QueueState → List Page → QueueState → ℕ →
+    LastStatistics → Part
+with_at q f t a n qs loose x s l = base_part s f t a n (set qs (place_of q) x) l loose
 
-abbrev deflate_in : ℕ → ℕ → ℕ → QueueState → List Page → QueueState → ℕ → Part
-deflate_in features target actual inflate loose x s =
-    base_part s features target actual (inflate ∷ x ∷ []) loose
+-- the part of the queue that was put there
+pub part_here : (q s f t a n : ℕ) (qs : List QueueState) (x : QueueState) (l : LastStatistics)
+    (loose : List Page) → length qs ≡ 4 → has_chains q ≡ true →
+    queue_part q (base_part s f t a n (set qs (place_of q) x) l loose) ≡ part_of x
+part_here q s f t a n qs x l loose four known =
+    part_get q s f t a n (set qs (place_of q) x) l loose known ∙
+    ap part_of (set_here q qs x four known)
 
-sits_inflate : (mem : Pages) (features target actual : ℕ) (x deflate : QueueState)
-    (loose : List Page) (s : ℕ) → readiness_refusal s ≡ None → IsDeviceQueue mem s x.ring.size 0 x →
-    Sits 0 mem (inflate_in features target actual deflate loose) x s
-sits_inflate mem features target actual x deflate loose s ok is = record {
-  refusal = after_status (is_not_ready s) (has_fault s) _ ok;
-  next = ap (λ (l : Layout). next_entry mem l x.ring.size x.ring.next_avail) (sym is.ring);
-  chain = λ h pieces g. subst
-      (λ (l : Layout). ChainGives (descriptor_at mem l.table) x.ring.size (4096 * length mem) h
-      pieces) (sym is.ring) g;
-  chain_back =
-      λ h pieces g. subst (λ (l : Layout). ChainGives (descriptor_at mem l.table) x.ring.size
-      (4096 * length mem) h pieces) is.ring g;
-  fault = λ h f g. subst
-      (λ (l : Layout). FaultGives (descriptor_at mem l.table) x.ring.size (4096 * length mem) h f)
-      (sym is.ring) g;
-  resets = refl;
-  takes = λ h pages. refl;
-}
+taking_two : (q h : ℕ) (pages : List ℕ) (k : QueuePart) (p : Part) → has_chains q ≡ true →
+    taking q h pages (with_queue q k p) ≡ with_queue q (record k {
+      next_avail = (k.next_avail + 1) % 65536;
+      taken = k.taken ++ (record { head = h; pages = pages; visited = 0 } ∷ []);
+    }) p
+taking_two q h pages k p known =
+    at_each (λ n. taking n h pages (with_queue n k p) ≡ with_queue n (record k {
+      next_avail = (k.next_avail + 1) % 65536;
+      taken = k.taken ++ (record { head = h; pages = pages; visited = 0 } ∷ []);
+    }) p) refl refl refl refl q known
 
-sits_deflate : (mem : Pages) (features target actual : ℕ) (inflate x : QueueState)
-    (loose : List Page) (s : ℕ) → readiness_refusal s ≡ None →
-    IsDeviceQueue mem s inflate.ring.size 1 x →
-    Sits 1 mem (deflate_in features target actual inflate loose) x s
-sits_deflate mem features target actual inflate x loose s ok is = record {
-  refusal = after_status (is_not_ready s) (has_fault s) _ ok;
-  next = ap (λ (l : Layout). next_entry mem l inflate.ring.size x.ring.next_avail) (sym is.ring) ∙
-      ap (λ (n : ℕ). next_entry mem x.ring.layout n x.ring.next_avail) (sym is.size);
-  chain = λ h pieces g. subst
-      (λ (n : ℕ). ChainGives (descriptor_at mem x.ring.layout.table) n (4096 * length mem) h pieces)
-      (sym is.size) (subst (λ (l : Layout). ChainGives (descriptor_at mem l.table) inflate.ring.size
-      (4096 * length mem) h pieces) (sym is.ring) g);
-  chain_back =
-      λ h pieces g. subst (λ (l : Layout). ChainGives (descriptor_at mem l.table) inflate.ring.size
-      (4096 * length mem) h pieces) is.ring
-      (subst (λ (n : ℕ). ChainGives (descriptor_at mem x.ring.layout.table) n (4096 * length mem) h
-      pieces) is.size g);
-  fault = λ h f g. subst
-      (λ (n : ℕ). FaultGives (descriptor_at mem x.ring.layout.table) n (4096 * length mem) h f)
-      (sym is.size) (subst (λ (l : Layout). FaultGives (descriptor_at mem l.table) inflate.ring.size
-      (4096 * length mem) h f) (sym is.ring) g);
-  resets = refl;
-  takes = λ h pages. refl;
-}
+takes_at_part : (q : ℕ) (mem : Pages) (s f t a n : ℕ) (qs : List QueueState) (loose : List Page)
+    (x : QueueState) (l : LastStatistics) (h : ℕ) (pages : List ℕ) (pieces : List Piece) →
+    length qs ≡ 4 → has_chains q ≡ true →
+    taking q h pages (noting q mem pieces (with_at q f t a n qs loose x s l)) ≡
+    with_at q f t a n qs loose (with_request h pages x) s (noted q mem pieces l)
+takes_at_part q mem s f t a n qs loose x l h pages pieces four known =
+    let said : LastStatistics = noted q mem pieces l in
+    ap (taking q h pages) (part_set q s f t a n qs x said loose four known) ∙
+    (taking_two q h pages (part_of x) (base_part s f t a n qs said loose) known ∙
+    sym (part_set q s f t a n qs (with_request h pages x) said loose four known))
 
-pub takes_at : (q : ℕ) (mem : Pages) (s f t a capacity : ℕ) (qs : List QueueState) (x2 : QueueState)
-    (loose : List Page) (result : Result (Option ℕ) Refusal) → IsBase mem s qs capacity →
-    queue_refusal q s ≡ None
-    → TakesNext mem (queue_at q qs) x2 result →
-    TakesBy q mem mem (base_part s f t a qs loose)
-    (base_part (status_after result s) f t a (set qs q x2) loose) result
-takes_at q mem s f t a capacity [] x2 loose result is ok takes = absurd (omega (arith, is.two))
-takes_at q mem s f t a capacity (x ∷ []) x2 loose result is ok takes =
-    absurd (omega (arith, is.two))
-takes_at zero mem s f t a capacity (x ∷ d ∷ []) x2 loose result is ok takes =
-    takes_by 0 mem (inflate_in f t a d loose) x x2 s result
-    (sits_inflate mem f t a x d loose s ok (is.each 0 (omega arith))) takes
-takes_at (suc zero) mem s f t a capacity (x ∷ d ∷ []) x2 loose result is ok takes =
-    takes_by 1 mem (deflate_in f t a x loose) d x2 s result
-    (sits_deflate mem f t a x d loose s ok (is.each 1 (omega arith))) takes
-takes_at (suc (suc n)) mem s f t a capacity (x ∷ d ∷ []) x2 loose result is ok takes =
-    absurd (none_some (queue_refusal (suc (suc n)) s) NoQueue ok (far_queue n s))
-takes_at q mem s f t a capacity (x ∷ d ∷ y ∷ ys) x2 loose result is ok takes =
-    absurd (omega (arith, is.two))
+pub sits_at : (q : ℕ) (mem : Pages) (s f t a n c : ℕ) (qs : List QueueState) (loose : List Page)
+    (l : LastStatistics) → IsBase mem s n qs c → take_refusal_by q s f ≡ None →
+    Sits q mem (with_at q f t a n qs loose) (queue_at q qs) s l
+sits_at q mem s f t a n c qs loose l b ok =
+    let known : has_chains q ≡ true = take_known q s f ok in
+    let x : QueueState = queue_at q qs in
+    let is : IsDeviceQueue mem s n q x = b.each q known in
+    let here : queue_part q (with_at q f t a n qs loose x s l) ≡ part_of x =
+    part_here q s f t a n qs x l loose b.four known in
+    record {
+      refusal = take_open q (with_at q f t a n qs loose x s l) ok ∙
+          ap (λ (p : QueuePart). if nat_le (most_taken q) (length p.taken) then Some Busy else None)
+          here;
+      next = ap (λ (p : QueuePart). next_entry mem (layout_of (ring_page q) n) n p.next_avail) here ∙
+          (ap (λ (y : Layout). next_entry mem y n x.ring.next_avail) (sym is.ring) ∙
+          ap (λ (k : ℕ). next_entry mem x.ring.layout k x.ring.next_avail) (sym is.size));
+      chain = λ h pieces g. subst
+          (λ (k : ℕ). ChainGives (descriptor_at mem x.ring.layout.table) k (4096 * length mem) h
+          pieces) (sym is.size)
+          (subst (λ (y : Layout). ChainGives (descriptor_at mem y.table) n (4096 * length mem) h
+          pieces) (sym is.ring) g);
+      chain_back = λ h pieces g. subst
+          (λ (y : Layout). ChainGives (descriptor_at mem y.table) n (4096 * length mem) h pieces)
+          is.ring
+          (subst (λ (k : ℕ). ChainGives (descriptor_at mem x.ring.layout.table) k
+          (4096 * length mem) h pieces) is.size g);
+      fault = λ h y g. subst
+          (λ (k : ℕ). FaultGives (descriptor_at mem x.ring.layout.table) k (4096 * length mem) h y)
+          (sym is.size)
+          (subst (λ (z : Layout). FaultGives (descriptor_at mem z.table) n (4096 * length mem) h y)
+          (sym is.ring) g);
+      resets = refl;
+      takes = λ h pages pieces.
+          takes_at_part q mem s f t a n qs loose x l h pages pieces b.four known;
+    }
+
+pub takes_at : (q : ℕ) (mem : Pages) (s f t a n c : ℕ) (qs : List QueueState) (x2 : QueueState)
+    (l1 l2 : LastStatistics) (loose : List Page) (result : Result (Option ℕ) Refusal) →
+    IsBase mem s n qs c → take_refusal_by q s f ≡ None →
+    TakesNext q mem (queue_at q qs) x2 l1 l2 result →
+    TakesBy q mem mem (base_part s f t a n qs l1 loose)
+    (base_part (status_after result s) f t a n (set qs (place_of q) x2) l2 loose) result
+takes_at q mem s f t a n c qs x2 l1 l2 loose result b ok takes =
+    subst (λ (ys : List QueueState). TakesBy q mem mem (base_part s f t a n ys l1 loose)
+    (base_part (status_after result s) f t a n (set qs (place_of q) x2) l2 loose) result)
+    (set_same q qs b.four (take_known q s f ok))
+    (takes_by q mem (with_at q f t a n qs loose) (queue_at q qs) x2 s l1 l2 result
+    (sits_at q mem s f t a n c qs loose l1 b ok) takes)
 
 -- ---- what stays true of a device
 
@@ -323,17 +403,16 @@ ok_of : (ok failed fault : Bool) →
 ok_of true failed fault e = refl
 ok_of false failed fault e = absurd cc
 
-pub status_ok : (q s : ℕ) → queue_refusal q s ≡ None → contains s driver_ok ≡ true
-status_ok q s e =
-    ok_of (contains s driver_ok) (contains s failed) (has_fault s) (queue_status q s e)
+pub status_ok : (s : ℕ) → readiness_refusal s ≡ None → contains s driver_ok ≡ true
+status_ok s e = ok_of (contains s driver_ok) (contains s failed) (has_fault s) e
 
-pub base_kept : (q : ℕ) (mem : Pages) (s1 s2 capacity : ℕ) (qs : List QueueState)
-    (x2 : QueueState) → IsBase mem s1 qs capacity → queue_refusal q s1 ≡ None →
-    KeepsRing mem (queue_at q qs) x2 → IsBase mem s2 (set qs q x2) capacity
-base_kept q mem s1 s2 capacity qs x2 b ok k =
-    let driver : contains s1 driver_ok ≡ true = status_ok q s1 ok in
-    base_set q mem mem s1 s2 capacity capacity qs x2 b (queue_known q s1 ok) k.size
-    (λ n x is. record {
+pub base_kept : (q : ℕ) (mem : Pages) (s1 s2 n c : ℕ) (qs : List QueueState)
+    (x2 : QueueState) → IsBase mem s1 n qs c → has_chains q ≡ true →
+    contains s1 driver_ok ≡ true → KeepsRing mem (queue_at q qs) x2 →
+    IsBase mem s2 n (set qs (place_of q) x2) c
+base_kept q mem s1 s2 n c qs x2 b known driver k =
+    base_set q mem mem s1 s2 n c c qs x2 b known
+    (λ i x is. record {
       ring = is.ring;
       size = is.size;
       ready = λ e. is.ready driver;

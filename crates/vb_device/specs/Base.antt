@@ -1,10 +1,12 @@
 -- What devices of every kind keep, but for the set of ballooned pages.
-use Rattle.std.specs.Prelude.{◌≡◌, ℕ, ◌+◌, ◌<◌, ◌≤◌, Bool, true, false, List, [], map, length}
-use Rattle.std.specs.Prelude.{slice_index_or}
+use Rattle.std.specs.Prelude.{◌≡◌, ℕ, ◌<◌, ◌≤◌, Bool, true, false, List, [], map, length}
+use Rattle.std.specs.Prelude.{slice_index_or, if◌then◌else◌, ◌==◌}
 use Rattle.vb_model.specs.declared.layout.TheConstants.{INFLATE_QUEUE, DEFLATE_QUEUE}
+use Rattle.vb_model.specs.declared.layout.TheConstants.{STATISTICS_QUEUE, REPORT_QUEUE}
 use Rattle.vb_model.specs.declared.limits.TheConstants.{MIN_GUEST_PAGES}
 use Rattle.vb_model.specs.Layout.{ring_page}
-use Rattle.vb_model.specs.Limits.{max_request_pages}
+use Rattle.vb_model.specs.Guest.{LastStatistics}
+use Rattle.vb_model.specs.Tables.{has_chains}
 use Rattle.vb_model.specs.Status.{contains, driver_ok}
 use Rattle.vb_ram.specs.Pages.{Page, Pages}
 use Rattle.vb_ram.specs.Part.{Part, no_part}
@@ -14,21 +16,28 @@ use Rattle.vb_device.specs.QueueState.{QueueState, part_of, no_ring}
 abbrev pub numbers_of_frames : List Page → List ℕ
 numbers_of_frames frames = map (λ frame. frame.number) frames
 
+-- Where the queue of this number stands among a device's four.
+abbrev pub place_of : ℕ → ℕ
+place_of q = if q == REPORT_QUEUE then 3 else q
+
 -- The queue of this number.
 abbrev pub queue_at : ℕ → List QueueState → QueueState
-queue_at q queues = slice_index_or queues q no_ring
+queue_at q queues = slice_index_or queues (place_of q) no_ring
 
 -- The part of a device of these fields that has ballooned nothing.
-abbrev pub base_part : ℕ → ℕ → ℕ → ℕ → List QueueState → List Page → Part
-base_part status features target actual queues loose =
+abbrev pub base_part : ℕ → ℕ → ℕ → ℕ → ℕ → List QueueState → LastStatistics → List Page → Part
+base_part status features target actual queue_size queues last loose =
     record no_part {
       status = status;
       features = features;
       target = target;
       actual = actual;
-      queue_size = (queue_at INFLATE_QUEUE queues).ring.size;
+      queue_size = queue_size;
       inflate = part_of (queue_at INFLATE_QUEUE queues);
       deflate = part_of (queue_at DEFLATE_QUEUE queues);
+      statistics = part_of (queue_at STATISTICS_QUEUE queues);
+      report = part_of (queue_at REPORT_QUEUE queues);
+      last = last;
       loose = numbers_of_frames loose;
     }
 
@@ -42,15 +51,15 @@ pub record IsDeviceQueue (mem : Pages) (status descriptors q : ℕ)
   pub idle : length mem ≡ 0 → queue.ring.next_avail ≡ 0
   pub none : length mem ≡ 0 → queue.taken ≡ []
 
--- What is always true of these fields: there are both queues, of one size, and an attached device
--- has room for what it will keep.
-pub record IsBase (mem : Pages) (status : ℕ) (queues : List QueueState)
+-- What is always true of these fields: there are four queues, of one size, and an attached device
+-- has room for the frames of all its pages.
+pub record IsBase (mem : Pages) (status queue_size : ℕ) (queues : List QueueState)
     (capacity : ℕ) : Type 0 where
-  pub two : length queues ≡ 2
-  pub each : (q : ℕ) → q ≤ DEFLATE_QUEUE →
-      IsDeviceQueue mem status (queue_at INFLATE_QUEUE queues).ring.size q (queue_at q queues)
+  pub four : length queues ≡ 4
+  pub each : (q : ℕ) → has_chains q ≡ true →
+      IsDeviceQueue mem status queue_size q (queue_at q queues)
   pub large : 0 < length mem → MIN_GUEST_PAGES ≤ length mem
-  pub room : 0 < length mem → length mem + max_request_pages ≤ capacity
+  pub room : length mem ≤ capacity
 
 -- The part of a device of this pace.
 abbrev pub with_pace : Bool → Part → Part

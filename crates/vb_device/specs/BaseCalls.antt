@@ -1,10 +1,11 @@
 -- What the parts of a device's calls do.
-use Rattle.std.specs.Prelude.{◌≡◌, ℕ, ◌+◌, ◌%◌, ◌<◌, ◌≤◌, ◌==◌, true, nat_lt, List, [], ◌∷◌, ◌++◌}
+use Rattle.std.specs.Prelude.{◌≡◌, ℕ, ◌+◌, ◌%◌, ◌<◌, ◌==◌, true, not, List, [], ◌∷◌, ◌++◌}
 use Rattle.std.specs.Prelude.{remove, if◌then◌else◌, Option, Some, None, IsSome, is_some, Bool}
 use Rattle.std.specs.Prelude.{Result, Ok, Err}
-use Rattle.vb_model.specs.declared.layout.TheConstants.{INFLATE_QUEUE, DEFLATE_QUEUE}
+use Rattle.vb_model.specs.declared.layout.TheConstants.{INFLATE_QUEUE, STATISTICS_QUEUE}
+use Rattle.vb_model.specs.declared.layout.TheConstants.{REPORT_QUEUE}
 use Rattle.vb_model.specs.declared.replies.Refusal.{Refusal}
-use Rattle.vb_model.specs.declared.replies.Refusal.TheVariants.{NoQueue}
+use Rattle.vb_model.specs.declared.replies.Refusal.TheVariants.{NoQueue, NotReady, NeedsReset}
 use Rattle.vb_model.specs.Layout.{ring_page}
 use Rattle.vb_model.specs.Status.{contains, driver_ok}
 use Rattle.vb_model.specs.Requests.{Request}
@@ -12,23 +13,31 @@ use Rattle.vb_model.specs.Device.{visiting, next_page}
 use Rattle.vb_device.specs.declared.worked.Worked.{Worked}
 pub use Rattle.vb_model.specs.FirstRefusal.{refusal_in}
 use Rattle.vb_model.specs.FirstRefusal.{◌⇒◌, first_refusal}
-use Rattle.vb_model.specs.Tables.{work_tests}
+use Rattle.vb_model.specs.Tables.{has_chains, is_queue_of_requests, is_not_ready, has_fault}
+use Rattle.vb_model.specs.Tables.{lacks_feature, work_tests}
 use Rattle.vb_ram.specs.Pages.{Page, Pages, frame_at}
 use Rattle.vb_ram.specs.Part.{Part}
 use Rattle.vb_ring.specs.Calls.{AddsUsedBy}
 use Rattle.vb_device.specs.Queues.{queue_part, with_queue, queue_end}
-use Rattle.vb_device.specs.Conditions.{finish_refusal, sweep_refusal, taken_at}
+use Rattle.vb_device.specs.Conditions.{finish_refusal, sweep_refusal, ask_refusal, taken_at}
 use Rattle.vb_device.specs.Discards.{discarded, frames_behind, flagged}
-use Rattle.vb_device.specs.Calls.{without_frames}
+use Rattle.vb_device.specs.Calls.{without_frames, lost_frames, settled}
 
 -- Why the status alone refuses a call, where it does.
 abbrev pub readiness_refusal : ℕ → Option Refusal
 readiness_refusal status = first_refusal (work_tests status)
 
--- Why the number of a queue of page requests and the status refuse a call, where they do.
+-- Why a queue's number, the status and the features refuse a take, where they do.
+abbrev pub take_refusal_by : ℕ → ℕ → ℕ → Option Refusal
+take_refusal_by q status features =
+    first_refusal
+    ((not (has_chains q) ⇒ NoQueue) ∷ (is_not_ready status ⇒ NotReady)
+    ∷ (has_fault status ⇒ NeedsReset) ∷ (lacks_feature features q ⇒ NoQueue) ∷ [])
+
+-- Why a queue's number and the status refuse a finish, where they do.
 abbrev pub queue_refusal : ℕ → ℕ → Option Refusal
 queue_refusal q status =
-    first_refusal ((nat_lt DEFLATE_QUEUE q ⇒ NoQueue) ∷ work_tests status)
+    first_refusal ((not (is_queue_of_requests q) ⇒ NoQueue) ∷ work_tests status)
 
 -- ---- loose frames
 
@@ -50,26 +59,42 @@ pub record SweepsPage (page : ℕ) (m1 m2 : Pages) (p1 p2 : Part)
 
 -- ---- work
 
--- One more page of the taken inflates is counted as visited.
-abbrev pub with_visit : Part → Part
-with_visit part =
-    record part { inflate = record part.inflate { taken = visiting part.inflate.taken } }
+-- The queue that the next page to be visited stands in: that of reports where each page of the taken
+-- inflates is visited.
+abbrev pub visited_queue : Part → ℕ
+visited_queue part = if is_some (next_page part.inflate.taken) then INFLATE_QUEUE else REPORT_QUEUE
+
+-- The next page of the taken inflates and reports, if there is one.
+abbrev pub page_to_visit : Part → Option ℕ
+page_to_visit part = next_page (queue_part (visited_queue part) part).taken
+
+-- One more page of a queue's taken requests is counted as visited.
+abbrev pub with_visit : ℕ → Part → Part
+with_visit q part =
+    with_queue q
+    (record (queue_part q part) { taken = visiting (queue_part q part).taken }) part
 
 -- The oldest page that isn't visited yet, if there is one, is visited: it loses its frame, if it
 -- has one, which is the last loose one.
 abbrev pub VisitsNext : Pages → Pages → Part → Part → Option Worked → Type 0
-VisitsNext m1 m2 p1 p2 None = (next_page p1.inflate.taken ≡ None) × (p2 ≡ p1) × (m2 ≡ m1)
+VisitsNext m1 m2 p1 p2 None = (page_to_visit p1 ≡ None) × (p2 ≡ p1) × (m2 ≡ m1)
 VisitsNext m1 m2 p1 p2 (Some worked) =
-    (next_page p1.inflate.taken ≡ Some worked.page)
+    (page_to_visit p1 ≡ Some worked.page)
     × (worked.freed ≡ is_some (frame_at m1 worked.page))
     × (m2 ≡ discarded (worked.page ∷ []) m1)
-    × (p2 ≡ record (with_visit p1) { loose = p1.loose ++ frames_behind m1 (worked.page ∷ []) })
+    × (p2 ≡ record (with_visit (visited_queue p1) p1) { loose = p1.loose ++ frames_behind m1 (worked.page ∷ []) })
 
 -- ---- finish, in its two parts
 
 -- The loose frames, with those that a request's pages lose.
 abbrev pub with_lost : ℕ → Pages → List ℕ → List ℕ → List ℕ
-with_lost q mem pages loose = if q == DEFLATE_QUEUE then loose else loose ++ frames_behind mem pages
+with_lost q mem pages loose = loose ++ lost_frames q pages mem
+
+-- The ballooned pages after a finish: an inflate's are ballooned, a deflate's are ballooned no more,
+-- and a report changes none.
+abbrev pub flags_after : ℕ → List ℕ → List Bool → List Bool
+flags_after q pages flags =
+    if q == REPORT_QUEUE then flags else flagged pages (q == INFLATE_QUEUE) flags
 
 -- The taken request of this number, for these pages, is taken out: those behind it close up, and
 -- what its pages lose is loose.
@@ -94,14 +119,12 @@ pub record SettlesBy (q index : ℕ) (m1 m2 : Pages) (p1 p2 : Part)
       (result ≡ Err why) × (p2 ≡ p1) × (m2 ≡ m1)
   pub settled : (r : Request) → finish_refusal q index p1 ≡ None → taken_at q index p1 ≡ Some r →
       (result ≡ Ok r.head) × (m2 ≡ without_frames q r.pages m1) ×
-      (p2 ≡ record (taken_out q index r.pages m1 p1) {
-        ballooned = flagged r.pages (q == INFLATE_QUEUE) p1.ballooned;
-      })
+      (p2 ≡ settled q r.pages (taken_out q index r.pages m1 p1))
 
 -- A chain from this head of the queue can be told as used: the driver is ready, and the ring's page
 -- has a frame.
 pub record CanUse (q h : ℕ) (mem : Pages) (part : Part) : Type 0 where
-  pub known : q ≤ DEFLATE_QUEUE
+  pub known : has_chains q ≡ true
   pub ready : contains part.status driver_ok ≡ true
   pub head : h < part.queue_size
   pub backed : IsSome (frame_at mem (ring_page q))
@@ -112,3 +135,17 @@ pub record UsesChain (q h : ℕ) (m1 m2 : Pages) (p1 p2 : Part) : Type 0 where
       with_queue q
       (record (queue_part q p1) { next_used = ((queue_part q p1).next_used + 1) % 65536 }) p1
   pub memory : AddsUsedBy m1 m2 (queue_end q p1) (queue_end q p2) h 0
+
+-- ---- statistics
+
+-- The statistics buffer is taken out, and nothing is written.
+pub record TakesBuffer (m1 m2 : Pages) (p1 p2 : Part) (result : Result ℕ Refusal) : Type 0 where
+  pub refused : (why : Refusal) → ask_refusal p1 ≡ Some why →
+      (result ≡ Err why) × (p2 ≡ p1) × (m2 ≡ m1)
+  pub out : (r : Request) → ask_refusal p1 ≡ None → taken_at STATISTICS_QUEUE 0 p1 ≡ Some r →
+      (result ≡ Ok r.head) × (m2 ≡ m1) ×
+      (p2 ≡ with_queue STATISTICS_QUEUE
+      (record (queue_part STATISTICS_QUEUE p1) {
+        taken = remove (queue_part STATISTICS_QUEUE p1).taken 0;
+      }) p1)
+  pub answers : ask_refusal p1 ≡ None → IsSome (taken_at STATISTICS_QUEUE 0 p1)

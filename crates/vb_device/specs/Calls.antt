@@ -4,15 +4,16 @@
 -- keeps frames of its own may stand round another.
 use Rattle.std.specs.Prelude.{◌≡◌, ℕ, ◌+◌, ◌*◌, ◌%◌, ◌==◌, Bool, true, false, List, [], ◌∷◌, ◌++◌}
 use Rattle.std.specs.Prelude.{length, remove, replicate, if◌then◌else◌, Option, Some, None, is_some}
-use Rattle.std.specs.Prelude.{Result, Ok, Err}
+use Rattle.std.specs.Prelude.{Result, Ok, Err, IsOk}
 use Rattle.vb_model.specs.declared.layout.TheConstants.{INFLATE_QUEUE, DEFLATE_QUEUE}
+use Rattle.vb_model.specs.declared.layout.TheConstants.{STATISTICS_QUEUE, REPORT_QUEUE}
 use Rattle.vb_model.specs.declared.replies.Refusal.{Refusal}
 use Rattle.vb_model.specs.declared.replies.Refusal.TheVariants.{Broken}
 use Rattle.vb_model.specs.Layout.{ring_page}
 use Rattle.vb_model.specs.Tests.{times}
 use Rattle.vb_model.specs.Limits.{page_size}
 use Rattle.vb_model.specs.Requests.{Request}
-use Rattle.vb_model.specs.Guest.{no_statistics, zero_page}
+use Rattle.vb_model.specs.Guest.{LastStatistics, no_statistics, zero_page}
 use Rattle.vb_model.specs.Device.{visiting, next_page}
 use Rattle.vb_ram.specs.declared.config.Config.{Config}
 use Rattle.vb_ram.specs.Pages.{Page, Pages, frame_at}
@@ -27,11 +28,13 @@ use Rattle.vb_device.specs.declared.claimed.Claimed.TheVariants.{Gave, AskHost, 
 use Rattle.vb_device.specs.declared.worked.Worked.{Worked}
 use Rattle.vb_device.specs.Queues.{queue_part, with_queue, queue_end, next_available}
 use Rattle.vb_device.specs.Conditions.{take_refusal, work_refusal, finish_refusal}
-use Rattle.vb_device.specs.Conditions.{sweep_refusal, taken_at}
+use Rattle.vb_device.specs.Conditions.{ask_refusal, sweep_refusal, taken_at}
 use Rattle.vb_device.specs.Faults.{Breaks, needing_reset}
 use Rattle.vb_device.specs.Own.{has, without, SameSet}
 use Rattle.vb_device.specs.Discards.{discarded, frames_behind, flagged}
-use Rattle.vb_device.specs.Request.{page_request}
+use Rattle.vb_device.specs.Request.{page_request, each_once}
+use Rattle.vb_device.specs.Statistics.{statistics_request, statistics_in}
+use Rattle.vb_device.specs.Report.{report_request}
 
 -- ---- attach
 
@@ -79,23 +82,38 @@ taking q h pages part =
     })
     part
 
+-- The pages that a chain of these pieces names on a queue, or what is wrong with it there: a buffer of
+-- statistics names none.
+abbrev pub request_of : ℕ → Pages → List Piece → Result (List ℕ) ChainFault
+request_of q mem pieces =
+    if q == STATISTICS_QUEUE then statistics_request pieces
+    else (if q == REPORT_QUEUE then report_request pieces else page_request mem pieces)
+
+-- A buffer of statistics replaces what the device knew of its guest's memory.
+abbrev pub noted : ℕ → Pages → List Piece → LastStatistics → LastStatistics
+noted q mem pieces last = if q == STATISTICS_QUEUE then statistics_in mem pieces else last
+
+abbrev pub noting : ℕ → Pages → List Piece → Part → Part
+noting q mem pieces part = record part { last = noted q mem pieces part.last }
+
 -- The guest's bytes say a chain next, and it is a request for these pages.
 pub record IsNextRequest (q : ℕ) (mem : Pages) (part : Part) (h : ℕ) (pages : List ℕ) : Type 0 where
   pub next : next_available q mem part ≡ Ok (Some h)
   pub pieces : List Piece
   pub chain : HasChain q mem part h pieces
-  pub request : page_request mem pieces ≡ Ok pages
+  pub request : request_of q mem pieces ≡ Ok pages
 
 -- What each answer of a take says, whatever the guest's bytes are.
 abbrev pub TakeMeans : ℕ → Pages → Part → Part → Result (Option ℕ) Refusal → Type 0
 TakeMeans q mem p1 p2 (Ok None) = (take_refusal q p1 ≡ None) × (p2 ≡ p1)
 TakeMeans q mem p1 p2 (Ok (Some h)) =
     (take_refusal q p1 ≡ None) ×
-    ((pages : List ℕ) × IsNextRequest q mem p1 h pages × (p2 ≡ taking q h pages p1))
+    ((pages : List ℕ) × (next : IsNextRequest q mem p1 h pages)
+    × (p2 ≡ taking q h pages (noting q mem next.pieces p1)))
 TakeMeans q mem p1 p2 (Err (Broken rule)) = (take_refusal q p1 ≡ None) × (p2 ≡ needing_reset p1)
 TakeMeans q mem p1 p2 (Err why) = (take_refusal q p1 ≡ Some why) × (p2 ≡ p1)
 
--- A take from a queue of page requests: the exact answer, and what is left, by the guest's bytes
+-- A take from a queue: the exact answer, and what is left, by the guest's bytes
 -- and the device's own part alone.
 pub record TakesBy (q : ℕ) (m1 m2 : Pages) (p1 p2 : Part)
     (result : Result (Option ℕ) Refusal) : Type 0 where
@@ -109,10 +127,11 @@ pub record TakesBy (q : ℕ) (m1 m2 : Pages) (p1 p2 : Part)
       next_available q m1 p1 ≡ Ok (Some h) → HasFault q m1 p1 h fault → Breaks fault p1 p2 result
   pub wrong : (h : ℕ) (pieces : List Piece) (fault : ChainFault) → take_refusal q p1 ≡ None →
       next_available q m1 p1 ≡ Ok (Some h) → HasChain q m1 p1 h pieces →
-      page_request m1 pieces ≡ Err fault → Breaks fault p1 p2 result
+      request_of q m1 pieces ≡ Err fault → Breaks fault p1 p2 result
   pub takes : (h : ℕ) (pieces : List Piece) (pages : List ℕ) → take_refusal q p1 ≡ None →
       next_available q m1 p1 ≡ Ok (Some h) → HasChain q m1 p1 h pieces →
-      page_request m1 pieces ≡ Ok pages → (result ≡ Ok (Some h)) × (p2 ≡ taking q h pages p1)
+      request_of q m1 pieces ≡ Ok pages →
+      (result ≡ Ok (Some h)) × (p2 ≡ taking q h pages (noting q m1 pieces p1))
   pub means : TakeMeans q m1 p1 p2 result
 
 -- ---- loose frames
@@ -123,9 +142,9 @@ SameFrames frames others = (n : ℕ) → times n frames ≡ times n others
 
 -- ---- work
 
--- The oldest page that is still to be visited, of a device that visits pages.
-abbrev pub next_visit : Part → Option ℕ
-next_visit part = if part.paced then next_page part.inflate.taken else None
+-- The oldest page of a queue that is still to be visited, of a device that visits pages.
+abbrev pub next_visit : ℕ → Part → Option ℕ
+next_visit q part = if part.paced then next_page (queue_part q part).taken else None
 
 -- A page of a taken request on this queue is visited: it loses its frame, if it has one. No frame
 -- was loose before.
@@ -145,10 +164,12 @@ pub record WorksBy (m1 m2 : Pages) (p1 p2 : Part)
     (result : Result (Option Worked) Refusal) : Type 0 where
   pub refused : (why : Refusal) → work_refusal p1 ≡ Some why →
       (result ≡ Err why) × (p2 ≡ p1) × (m2 ≡ m1)
-  pub idle : work_refusal p1 ≡ None → next_visit p1 ≡ None →
-      (result ≡ Ok None) × (p2 ≡ p1) × (m2 ≡ m1)
-  pub visits : (page : ℕ) → work_refusal p1 ≡ None → next_visit p1 ≡ Some page →
+  pub idle : work_refusal p1 ≡ None → next_visit INFLATE_QUEUE p1 ≡ None →
+      next_visit REPORT_QUEUE p1 ≡ None → (result ≡ Ok None) × (p2 ≡ p1) × (m2 ≡ m1)
+  pub inflate : (page : ℕ) → work_refusal p1 ≡ None → next_visit INFLATE_QUEUE p1 ≡ Some page →
       Visits INFLATE_QUEUE page m1 m2 p1 p2 result
+  pub report : (page : ℕ) → work_refusal p1 ≡ None → next_visit INFLATE_QUEUE p1 ≡ None →
+      next_visit REPORT_QUEUE p1 ≡ Some page → Visits REPORT_QUEUE page m1 m2 p1 p2 result
 
 -- ---- finish
 
@@ -156,9 +177,10 @@ pub record WorksBy (m1 m2 : Pages) (p1 p2 : Part)
 abbrev pub without_frames : ℕ → List ℕ → Pages → Pages
 without_frames q pages mem = if q == DEFLATE_QUEUE then mem else discarded pages mem
 
--- The frames that they lose.
+-- The frames that they lose; a page that a report names again has lost its frame already.
 abbrev pub lost_frames : ℕ → List ℕ → Pages → List ℕ
-lost_frames q pages mem = if q == DEFLATE_QUEUE then [] else frames_behind mem pages
+lost_frames q pages mem =
+    if q == DEFLATE_QUEUE then [] else frames_behind mem (each_once pages)
 
 -- An inflate's pages are ballooned, a deflate's are ballooned no more.
 abbrev pub settled : ℕ → List ℕ → Part → Part
@@ -194,6 +216,17 @@ pub record FinishesBy (q index : ℕ) (m1 m2 : Pages) (p1 p2 : Part)
       (result ≡ Err why) × (p2 ≡ p1) × (m2 ≡ m1)
   pub finished : (r : Request) → finish_refusal q index p1 ≡ None → taken_at q index p1 ≡ Some r →
       Uses q index r m1 m2 p1 p2 result
+
+-- ---- statistics
+
+-- The taken statistics buffer is used, with length 0, so that the driver may fill it anew.
+pub record AsksBy {T : Type 0} (m1 m2 : Pages) (p1 p2 : Part) (result : Result T Refusal) : Type 0 where
+  pub refused : (why : Refusal) → ask_refusal p1 ≡ Some why →
+      (result ≡ Err why) × (p2 ≡ p1) × (m2 ≡ m1)
+  pub answers : ask_refusal p1 ≡ None → IsOk result
+  pub part : ask_refusal p1 ≡ None → p2 ≡ using STATISTICS_QUEUE 0 p1
+  pub memory : (r : Request) → ask_refusal p1 ≡ None → taken_at STATISTICS_QUEUE 0 p1 ≡ Some r →
+      AddsUsedBy m1 m2 (queue_end STATISTICS_QUEUE p1) (queue_end STATISTICS_QUEUE p2) r.head 0
 
 -- ---- sweep and the loose frames
 

@@ -1,12 +1,13 @@
 -- What the calls on a device are refused for before they look at guest memory: the tables of the
 -- definitions, with the device's own values.
-use Rattle.std.specs.Prelude.{ℕ, length, Option, slice_get}
+use Rattle.std.specs.Prelude.{ℕ, length, Option, is_some, slice_get}
 use Rattle.vb_model.specs.declared.replies.Refusal.{Refusal}
 use Rattle.vb_model.specs.Requests.{Request}
 use Rattle.vb_model.specs.Guest.{is_ballooned}
 use Rattle.vb_model.specs.FirstRefusal.{first_refusal}
 use Rattle.vb_model.specs.Tables.{take_tests, work_tests, finish_tests}
-use Rattle.vb_model.specs.Tables.{sweep_tests}
+use Rattle.vb_model.specs.Tables.{sweep_tests, ask_tests}
+use Rattle.vb_model.specs.declared.layout.TheConstants.{STATISTICS_QUEUE}
 use Rattle.vb_ram.specs.Part.{Part}
 use Rattle.vb_device.specs.Queues.{queue_part}
 
@@ -24,6 +25,9 @@ work_refusal part = first_refusal (work_tests part.status)
 abbrev pub finish_refusal : ℕ → ℕ → Part → Option Refusal
 finish_refusal q index part =
     first_refusal (finish_tests q part.status part.paced (taken_at q index part))
+
+abbrev pub ask_refusal : Part → Option Refusal
+ask_refusal part = first_refusal (ask_tests part.status (is_some (taken_at STATISTICS_QUEUE 0 part)))
 
 abbrev pub sweep_refusal : ℕ → Part → Option Refusal
 sweep_refusal page part =

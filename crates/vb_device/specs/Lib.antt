@@ -5,6 +5,8 @@ pub mod Faults
 pub mod Own
 pub mod Discards
 pub mod Request
+pub mod Statistics
+pub mod Report
 pub mod Calls
 pub mod QueueState
 pub mod Base

@@ -1,16 +1,16 @@
--- One queue of page requests as a device has it.
-use Rattle.std.specs.Prelude.{◌≡◌, ℕ, ◌+◌, ◌*◌, ◌%◌, ◌≤◌, Bool, true, false, nat_le, List, [], ◌∷◌}
-use Rattle.std.specs.Prelude.{◌++◌, All, length, Option, Some, None, Result, Ok, Err, bit_or}
+-- One queue as a device has it.
+use Rattle.std.specs.Prelude.{◌≡◌, ℕ, ◌+◌, ◌*◌, ◌%◌, Bool, true, false, nat_le, List, [], ◌∷◌}
+use Rattle.std.specs.Prelude.{◌++◌, length, Option, Some, None, Result, Ok, Err, bit_or}
 use Rattle.std.specs.Prelude.{is_none, ◌&&◌}
 use Rattle.vb_model.specs.declared.replies.Refusal.{Refusal}
 use Rattle.vb_model.specs.declared.replies.Refusal.TheVariants.{Busy, Broken}
 use Rattle.vb_model.specs.declared.replies.Refusal.TheVariants.{NotTaken, NotWorked}
 use Rattle.vb_model.specs.FirstRefusal.{◌⇒◌, first_refusal}
-use Rattle.vb_model.specs.Tables.{has_unvisited}
+use Rattle.vb_model.specs.Tables.{has_unvisited, most_taken}
 use Rattle.vb_model.specs.Status.{needs_reset}
 use Rattle.vb_model.specs.Requests.{Request}
-use Rattle.vb_model.specs.Driver.{AllDistinct}
-use Rattle.vb_model.specs.Limits.{page_size, reserved_pages, max_outstanding}
+use Rattle.vb_model.specs.Guest.{LastStatistics}
+use Rattle.vb_model.specs.Limits.{page_size}
 use Rattle.vb_ram.specs.Pages.{Pages}
 use Rattle.vb_ram.specs.Part.{QueuePart}
 use Rattle.vb_chain.specs.declared.fault.ChainFault.{ChainFault}
@@ -21,9 +21,9 @@ use Rattle.vb_ring.specs.Layout.{layout_of}
 use Rattle.vb_ring.specs.Ends.{DeviceEnd}
 use Rattle.vb_ring.specs.Entries.{next_entry}
 use Rattle.vb_device.specs.Faults.{rule_of}
-use Rattle.vb_device.specs.Request.{page_request}
+use Rattle.vb_device.specs.Calls.{request_of, noted}
 
--- The device's end of the ring, and the requests that are taken, oldest first.
+-- The device's end of the ring, and the chains that are taken, oldest first.
 pub record QueueState : Type 0 where
   pub ring : DeviceEnd
   pub taken : List Request
@@ -61,11 +61,6 @@ abbrev pub restarted : Bool → QueueState → QueueState
 restarted ready q =
     record { ring = record q.ring { ready = ready; next_avail = 0; next_used = 0 }; taken = [] }
 
--- Pages that a request names: none of them reserved, and no page twice.
-pub record AreNamed (pages : List ℕ) : Type 0 where
-  pub above : All (λ page. reserved_pages ≤ page) pages
-  pub distinct : AllDistinct pages
-
 -- One more chain is taken, as a request for these pages.
 abbrev pub with_request : ℕ → List ℕ → QueueState → QueueState
 with_request h pages q =
@@ -92,42 +87,50 @@ taken_refusal visits taken =
     first_refusal
     ((is_none taken ⇒ NotTaken) ∷ ((visits && has_unvisited taken) ⇒ NotWorked) ∷ [])
 
--- As many requests are taken as may be.
-abbrev pub is_full : QueueState → Bool
-is_full q = nat_le max_outstanding (length q.taken)
+-- Of a queue of this number as many chains are taken as may be.
+abbrev pub is_full : ℕ → QueueState → Bool
+is_full q x = nat_le (most_taken q) (length x.taken)
 
 -- What each answer says.
-abbrev pub NextMeans : Pages → QueueState → QueueState → Result (Option ℕ) Refusal → Type 0
-NextMeans mem q1 q2 (Ok None) = (is_full q1 ≡ false) × (q2 ≡ q1)
-NextMeans mem q1 q2 (Ok (Some h)) =
-    (is_full q1 ≡ false) ×
+abbrev pub NextMeans : ℕ → Pages → QueueState → QueueState → LastStatistics → LastStatistics →
+    Result (Option ℕ) Refusal → Type 0
+NextMeans q mem x1 x2 l1 l2 (Ok None) = (is_full q x1 ≡ false) × (x2 ≡ x1) × (l2 ≡ l1)
+NextMeans q mem x1 x2 l1 l2 (Ok (Some h)) =
+    (is_full q x1 ≡ false) ×
     ((pages : List ℕ) × (pieces : List Piece) ×
-    (next_of mem q1 ≡ Ok (Some h)) × IsChainOf mem q1 h pieces ×
-    (page_request mem pieces ≡ Ok pages) × (q2 ≡ with_request h pages q1))
-NextMeans mem q1 q2 (Err (Broken rule)) = (is_full q1 ≡ false) × (q2 ≡ q1)
-NextMeans mem q1 q2 (Err why) = (why ≡ Busy) × (is_full q1 ≡ true) × (q2 ≡ q1)
+    (next_of mem x1 ≡ Ok (Some h)) × IsChainOf mem x1 h pieces ×
+    (request_of q mem pieces ≡ Ok pages) × (x2 ≡ with_request h pages x1) ×
+    (l2 ≡ noted q mem pieces l1))
+NextMeans q mem x1 x2 l1 l2 (Err (Broken rule)) =
+    (is_full q x1 ≡ false) × (x2 ≡ x1) × (l2 ≡ l1)
+NextMeans q mem x1 x2 l1 l2 (Err why) =
+    (why ≡ Busy) × (is_full q x1 ≡ true) × (x2 ≡ x1) × (l2 ≡ l1)
 
--- A chain that breaks a rule is left where it is.
-abbrev pub LeavesBroken : ChainFault → QueueState → QueueState → Result (Option ℕ) Refusal → Type 0
-LeavesBroken fault q1 q2 result = (result ≡ Err (Broken (rule_of fault))) × (q2 ≡ q1)
+-- This answer, and nothing is changed.
+abbrev pub Leaves : QueueState → QueueState → LastStatistics → LastStatistics →
+    Result (Option ℕ) Refusal → Result (Option ℕ) Refusal → Type 0
+Leaves x1 x2 l1 l2 result answer = (result ≡ answer) × (x2 ≡ x1) × (l2 ≡ l1)
 
 -- A take of the next chain of a queue that is ready, on any bytes.
-pub record TakesNext (mem : Pages) (q1 q2 : QueueState)
+pub record TakesNext (q : ℕ) (mem : Pages) (x1 x2 : QueueState) (l1 l2 : LastStatistics)
     (result : Result (Option ℕ) Refusal) : Type 0 where
-  pub busy : is_full q1 ≡ true → (result ≡ Err Busy) × (q2 ≡ q1)
-  pub empty : is_full q1 ≡ false → next_of mem q1 ≡ Ok None → (result ≡ Ok None) × (q2 ≡ q1)
-  pub jump : (fault : ChainFault) → is_full q1 ≡ false → next_of mem q1 ≡ Err fault →
-      LeavesBroken fault q1 q2 result
-  pub fault : (h : ℕ) (fault : ChainFault) → is_full q1 ≡ false → next_of mem q1 ≡ Ok (Some h) →
-      IsFaultOf mem q1 h fault → LeavesBroken fault q1 q2 result
-  pub wrong : (h : ℕ) (pieces : List Piece) (fault : ChainFault) → is_full q1 ≡ false →
-      next_of mem q1 ≡ Ok (Some h) → IsChainOf mem q1 h pieces →
-      page_request mem pieces ≡ Err fault → LeavesBroken fault q1 q2 result
-  pub takes : (h : ℕ) (pieces : List Piece) (pages : List ℕ) → is_full q1 ≡ false →
-      next_of mem q1 ≡ Ok (Some h) → IsChainOf mem q1 h pieces →
-      page_request mem pieces ≡ Ok pages →
-      (result ≡ Ok (Some h)) × (q2 ≡ with_request h pages q1)
-  pub means : NextMeans mem q1 q2 result
+  pub busy : is_full q x1 ≡ true → Leaves x1 x2 l1 l2 result (Err Busy)
+  pub empty : is_full q x1 ≡ false → next_of mem x1 ≡ Ok None →
+      Leaves x1 x2 l1 l2 result (Ok None)
+  pub jump : (fault : ChainFault) → is_full q x1 ≡ false → next_of mem x1 ≡ Err fault →
+      Leaves x1 x2 l1 l2 result (Err (Broken (rule_of fault)))
+  pub fault : (h : ℕ) (fault : ChainFault) → is_full q x1 ≡ false →
+      next_of mem x1 ≡ Ok (Some h) → IsFaultOf mem x1 h fault →
+      Leaves x1 x2 l1 l2 result (Err (Broken (rule_of fault)))
+  pub wrong : (h : ℕ) (pieces : List Piece) (fault : ChainFault) → is_full q x1 ≡ false →
+      next_of mem x1 ≡ Ok (Some h) → IsChainOf mem x1 h pieces →
+      request_of q mem pieces ≡ Err fault →
+      Leaves x1 x2 l1 l2 result (Err (Broken (rule_of fault)))
+  pub takes : (h : ℕ) (pieces : List Piece) (pages : List ℕ) → is_full q x1 ≡ false →
+      next_of mem x1 ≡ Ok (Some h) → IsChainOf mem x1 h pieces →
+      request_of q mem pieces ≡ Ok pages →
+      (result ≡ Ok (Some h)) × (x2 ≡ with_request h pages x1) × (l2 ≡ noted q mem pieces l1)
+  pub means : NextMeans q mem x1 x2 l1 l2 result
 
 -- The status after such an answer: a broken rule needs a reset (VIRTIO 1.1, 2.1.2).
 abbrev pub status_after : Result (Option ℕ) Refusal → ℕ → ℕ

@@ -10,12 +10,11 @@ ghost use Rattle.vb_device.specs.Calls.{IsUnused};
 use crate::base::DeviceBase;
 use crate::flags::PageFlags;
 use crate::pace::{Immediate, Pace, Paced};
-use crate::{Claimed, Device, Worked};
+use crate::{Claimed, Device, Statistics, Worked};
 use bitflags::Flags;
 use std::alloc::{AllocError, Global};
 use std::marker::{Model, PhantomData};
 use vb_model::Refusal;
-use vb_model::layout::INFLATE_QUEUE;
 use vb_ram::{Config, Frame, GuestBytes, RamFault, SupplyRefused};
 use vb_status::{Features, Port, Status, StatusFault};
 
@@ -78,8 +77,7 @@ impl<P: Pace> BalloonDevice<P> {
         ensures ready { IfOk result (λ head. CanUse queue head self.new.mem self.new.part) }
     {
         let request = self.base.take_out(queue, index, P::IS_PACED)?;
-        self.ballooned
-            .set_all(request.pages(), queue == INFLATE_QUEUE);
+        self.ballooned.note_finish(queue, &request);
         Ok(request.head())
     }
 }
@@ -182,6 +180,14 @@ impl<P: Pace> Device for BalloonDevice<P> {
 
     fn sweep(&mut self, page: u32) -> Result<bool, Refusal> {
         self.base.sweep(page, &self.ballooned)
+    }
+
+    fn ask_stats(&mut self) -> Result<(), Refusal> {
+        self.base.ask_stats()
+    }
+
+    fn stats(&self) -> Statistics {
+        self.base.stats()
     }
 
     fn ballooned(&self, page: u32) -> bool {

@@ -5,9 +5,12 @@ ghost use Rattle.std.specs.Prelude.{is_some, true, false, None, Some, IsSome, Is
 ghost use Rattle.std.specs.Prelude.{OnOk, OnSome, OnErr, length};
 ghost use Rattle.std.specs.Prelude.{replicate, vec_capacity};
 ghost use Rattle.std.specs.Option.{option_to_list};
-ghost use Rattle.vb_model.specs.declared.layout.TheConstants.{DEFLATE_QUEUE};
-ghost use Rattle.vb_model.specs.Device.{next_page};
-ghost use Rattle.vb_model.specs.Driver.{AllDistinct};
+ghost use Rattle.std.specs.Prelude.{count_by, map, IsTrue};
+ghost use Rattle.std.specs.Int.{is_power_of_two};
+ghost use Rattle.vb_model.specs.declared.layout.TheConstants.{DEFLATE_QUEUE, STATISTICS_QUEUE};
+ghost use Rattle.vb_model.specs.declared.limits.TheConstants.{MIN_QUEUE_SIZE, MAX_QUEUE_SIZE};
+ghost use Rattle.vb_model.specs.Tables.{has_chains, lacks_feature};
+ghost use Rattle.vb_model.specs.Tests.{one_if};
 ghost use Rattle.vb_model.specs.Layout.{ring_page};
 ghost use Rattle.vb_model.specs.Limits.{is_config};
 ghost use Rattle.vb_model.specs.Status.{contains, driver_ok};
@@ -17,26 +20,29 @@ ghost use Rattle.vb_status.specs.Bits.{status_bits};
 ghost use Rattle.vb_device.specs.Base.{numbers_of_frames, IsPlain, with_pace};
 ghost use Rattle.vb_device.specs.BaseCalls.{TakesOut, UsesChain, CanUse, readiness_refusal};
 ghost use Rattle.vb_device.specs.BaseCalls.{queue_refusal, with_lost, SweepsPage, GivesLast};
-ghost use Rattle.vb_device.specs.BaseCalls.{with_visit, VisitsNext};
-ghost use Rattle.vb_device.specs.Calls.{IsUnused, attached, TakesBy};
+ghost use Rattle.vb_device.specs.BaseCalls.{with_visit, VisitsNext, take_refusal_by, TakesBuffer};
+ghost use Rattle.vb_device.specs.BaseCalls.{visited_queue, page_to_visit};
+ghost use Rattle.vb_device.specs.Base.{place_of};
+ghost use Rattle.vb_device.specs.Calls.{IsUnused, attached, TakesBy, AsksBy};
+ghost use Rattle.vb_device.specs.Request.{each_once};
 ghost use Rattle.vb_device.specs.Calls.{without_frames};
 ghost use Rattle.vb_device.specs.Discards.{discarded, frames_behind};
-ghost use Rattle.vb_device.specs.QueueState.{status_after};
+ghost use Rattle.vb_device.specs.QueueState.{status_after, started, restarted};
 
-use crate::Worked;
 use crate::flags::PageFlags;
-use crate::queue::{DeviceQueue, TakenRequest};
+use crate::queue::DeviceQueue;
+use crate::taken::TakenRequest;
+use crate::{Statistics, Worked};
 use bitflags::Flags;
 use std::alloc::{AllocError, Global};
 use std::marker::Model;
-use vb_model::Refusal;
-use vb_model::layout::{DEFLATE_QUEUE, DEFLATE_RING_PAGE, INFLATE_RING_PAGE};
-use vb_model::limits::MAX_REQUEST_PAGES;
+use vb_model::layout::{
+    DEFLATE_QUEUE, DEFLATE_RING_PAGE, INFLATE_QUEUE, INFLATE_RING_PAGE, REPORT_QUEUE,
+    REPORT_RING_PAGE, STATISTICS_QUEUE, STATISTICS_RING_PAGE,
+};
+use vb_model::{Refusal, limits};
 use vb_ram::{Config, Frame, GuestBytes, Ram, RamFault, SupplyRefused};
 use vb_status::{Features, Port, Status, StatusFault, negotiate, write_status};
-
-/// Loose frames beyond one a page for which there is room: those of one request.
-const SPARE_ROOM: usize = MAX_REQUEST_PAGES as usize;
 
 /// A device but for the set of its ballooned pages.
 #[derive(Drop)]
@@ -51,8 +57,12 @@ pub(crate) struct DeviceBase {
     target: u32,
     /// How many the driver says are there (`actual`).
     actual: u32,
-    /// The queues of page requests, by their numbers.
-    queues: [DeviceQueue; 2],
+    /// How many descriptors each queue has.
+    queue_size: u16,
+    /// The queues, those of inflates, deflates, statistics and reports.
+    queues: [DeviceQueue; 4],
+    /// What the last buffer of statistics said.
+    last: Statistics,
     /// Frames that were taken from pages and not handed back yet.
     loose: Vec<Frame>,
 }
@@ -68,10 +78,12 @@ impl Model for DeviceBase {
     ghost view = { λ s. record {
       mem = s.ram;
       part = base_part (status_bits s.status) (feature_bits s.features)
-          s.target s.actual s.queues s.loose.items;
+          s.target s.actual s.queue_size s.queues
+          (record { free = s.last.free; total = s.last.total }) s.loose.items;
     } };
 
-    ghost invariant = { λ s. IsBase s.ram (status_bits s.status) s.queues (vec_capacity s.loose) };
+    ghost invariant = { λ s.
+        IsBase s.ram (status_bits s.status) s.queue_size s.queues (vec_capacity s.loose) };
 }
 
 /// Sets DEVICE_NEEDS_RESET where a take found a broken rule.
@@ -85,10 +97,10 @@ fn note_fault(status: &mut Status, taken: &Result<Option<u16>, Refusal>)
 
 /// Puts a frame, if there is one, behind the loose ones.
 fn put_loose(loose: &mut Vec<Frame>, frame: Option<Frame>)
-    requires { length loose.old.items < vec_capacity loose.old }
+    requires { length loose.old.items + one_if (is_some frame) ≤ vec_capacity loose.old }
     ensures numbers { numbers_of_frames loose.new.items ≡ numbers_of_frames loose.old.items ++
         option_to_list (number_of frame) }
-    ensures count { length loose.new.items ≤ length loose.old.items + 1 }
+    ensures count { length loose.new.items ≡ length loose.old.items + one_if (is_some frame) }
     ensures capacity { vec_capacity loose.new ≡ vec_capacity loose.old }
 {
     let _loose = loose.as_slice();
@@ -98,17 +110,17 @@ fn put_loose(loose: &mut Vec<Frame>, frame: Option<Frame>)
     }
 }
 
-/// Takes the frames of these pages away; those that there were are loose now, in the pages' order.
-fn discard_all(ram: &mut Ram, loose: &mut Vec<Frame>, pages: &[u32])
-    requires room { length loose.old.items + length pages.now ≤ vec_capacity loose.old }
-    requires distinct { AllDistinct pages.now }
-    ensures mem { ram.new ≡ discarded pages.now ram.old }
+/// Takes the frames of a request's pages away; those that there were are loose now, in the pages'
+/// order.
+fn discard_all(ram: &mut Ram, loose: &mut Vec<Frame>, request: &TakenRequest)
+    requires room { length loose.old.items + count_by is_some ram.old ≤ vec_capacity loose.old }
+    ensures mem { ram.new ≡ discarded request.now.pages ram.old }
     ensures loose { numbers_of_frames loose.new.items ≡ numbers_of_frames loose.old.items ++
-        frames_behind ram.old pages.now }
+        frames_behind ram.old (each_once request.now.pages) }
     ensures capacity { vec_capacity loose.new ≡ vec_capacity loose.old }
 {
-    for page in pages {
-        let frame = ram.discard(*page);
+    for k in 0..request.count() {
+        let frame = ram.discard(request.page(k));
         put_loose(loose, frame);
     }
 }
@@ -121,17 +133,50 @@ fn visits_first(paced: bool, queue: u32) -> bool
 }
 
 /// Takes the frames of a request's pages away, where the queue is one whose pages lose them.
-fn discard_request(ram: &mut Ram, loose: &mut Vec<Frame>, queue: u32, pages: &[u32])
-    requires room { length loose.old.items + length pages.now ≤ vec_capacity loose.old }
-    requires distinct { AllDistinct pages.now }
-    ensures mem { ram.new ≡ without_frames queue pages.now ram.old }
+fn discard_request(ram: &mut Ram, loose: &mut Vec<Frame>, queue: u32, request: &TakenRequest)
+    requires room { length loose.old.items + count_by is_some ram.old ≤ vec_capacity loose.old }
+    ensures mem { ram.new ≡ without_frames queue request.now.pages ram.old }
     ensures loose { numbers_of_frames loose.new.items ≡
-        with_lost queue ram.old pages.now (numbers_of_frames loose.old.items) }
+        with_lost queue ram.old request.now.pages (numbers_of_frames loose.old.items) }
     ensures capacity { vec_capacity loose.new ≡ vec_capacity loose.old }
 {
     if queue != DEFLATE_QUEUE {
-        discard_all(ram, loose, pages);
+        discard_all(ram, loose, request);
     }
+}
+
+/// Where the queue of this number stands among a device's four.
+fn place_of(queue: u32) -> usize
+    requires { has_chains queue ≡ true }
+    ensures place { result ≡ place_of queue }
+    ensures small { result < 4 }
+{
+    if queue == REPORT_QUEUE {
+        3
+    } else {
+        queue as usize
+    }
+}
+
+/// Gives each queue so many descriptors; nothing is taken, and none is ready.
+fn set_sizes(queues: &mut [DeviceQueue; 4], size: u16)
+    requires { IsTrue (is_power_of_two size) × (MIN_QUEUE_SIZE ≤ size) × (size ≤ MAX_QUEUE_SIZE) }
+    ensures { queues.new ≡ map (λ q. started false size q.ring) queues.old }
+{
+    queues[0].set_size(size);
+    queues[1].set_size(size);
+    queues[2].set_size(size);
+    queues[3].set_size(size);
+}
+
+/// Starts or stops each queue; nothing is taken.
+fn set_all_ready(queues: &mut [DeviceQueue; 4], ready: bool)
+    ensures { queues.new ≡ map (restarted ready) queues.old }
+{
+    queues[0].set_ready(ready);
+    queues[1].set_ready(ready);
+    queues[2].set_ready(ready);
+    queues[3].set_ready(ready);
 }
 
 impl DeviceBase {
@@ -147,10 +192,14 @@ impl DeviceBase {
             features: Features::empty(),
             target: 0,
             actual: 0,
+            queue_size: limits::MAX_QUEUE_SIZE as u16,
             queues: [
                 DeviceQueue::new(INFLATE_RING_PAGE),
                 DeviceQueue::new(DEFLATE_RING_PAGE),
+                DeviceQueue::new(STATISTICS_RING_PAGE),
+                DeviceQueue::new(REPORT_RING_PAGE),
             ],
+            last: Statistics::NONE,
             loose: Vec::new(alloc),
         }
     }
@@ -174,14 +223,15 @@ impl DeviceBase {
         let Ok(ram) = Ram::new(alloc, config.pages) else {
             return Err(AllocError);
         };
-        self.loose.reserve(config.pages as usize + SPARE_ROOM)?;
+        self.loose.reserve(config.pages as usize)?;
         self.ram = ram;
         self.status = Status::empty();
         self.features = Features::empty();
         self.target = 0;
         self.actual = 0;
-        self.queues[0].set_size(config.queue_size);
-        self.queues[1].set_size(config.queue_size);
+        self.queue_size = config.queue_size;
+        self.last = Statistics::NONE;
+        set_sizes(&mut self.queues, config.queue_size);
         Ok(())
     }
 
@@ -199,31 +249,58 @@ impl DeviceBase {
         }
     }
 
-    /// `NoQueue` where there is no queue of page requests of this number, or what the status alone
+    /// `NoQueue` where no chain is finished on a queue of this number, or what the status alone
     /// refuses a call for.
     fn queue_refusal(&self, queue: u32) -> Option<Refusal>
         ensures { result ≡ queue_refusal queue self.now.part.status }
     {
-        if queue > DEFLATE_QUEUE {
+        if queue != INFLATE_QUEUE && queue != DEFLATE_QUEUE && queue != REPORT_QUEUE {
             return Some(Refusal::NoQueue);
         }
         self.readiness_refusal()
     }
 
-    /// Takes the next chain of queue 0 or 1.
+    /// Whether the queue stands or falls with a feature that the driver didn't accept.
+    fn lacks_feature(&self, queue: u32) -> bool
+        ensures { result ≡ lacks_feature self.now.part.features queue }
+    {
+        queue == STATISTICS_QUEUE && !self.features.stats_vq()
+            || queue == REPORT_QUEUE && !self.features.reporting()
+    }
+
+    /// What a take is refused for by the queue's number, the status and the features.
+    fn take_refusal(&self, queue: u32) -> Option<Refusal>
+        ensures { result ≡
+            take_refusal_by queue self.now.part.status self.now.part.features }
+    {
+        if queue > STATISTICS_QUEUE && queue != REPORT_QUEUE {
+            return Some(Refusal::NoQueue);
+        }
+        if let Some(why) = self.readiness_refusal() {
+            return Some(why);
+        }
+        if self.lacks_feature(queue) {
+            return Some(Refusal::NoQueue);
+        }
+        None
+    }
+
+    /// Takes the next chain of a queue.
     pub(crate) fn take(&mut self, queue: u32) -> Result<Option<u16>, Refusal>
         ensures { TakesBy queue self.old.mem self.new.mem self.old.part self.new.part result }
     {
-        if let Some(why) = self.queue_refusal(queue) {
+        if let Some(why) = self.take_refusal(queue) {
             return Err(why);
         }
-        let taken = self.queues[queue as usize].take(&self.ram);
+        let place = place_of(queue);
+        let taken = self.queues[place].take(queue, &self.ram, &mut self.last);
         note_fault(&mut self.status, &taken);
         taken
     }
 
-    /// Takes a taken request out of queue 0 or 1, with the frames behind an inflate's pages. A
-    /// paced device has visited all of them before. The driver isn't told before `use_chain`.
+    /// Takes a taken request out of queue 0, 1 or 4, with the frames behind an inflate's or a report's
+    /// pages. A paced device has visited all of them before. The driver isn't told before
+    /// `use_chain`.
     pub(crate) fn take_out(
         &mut self,
         queue: u32,
@@ -232,7 +309,7 @@ impl DeviceBase {
     ) -> Result<TakenRequest, Refusal>
         requires backed { contains self.old.part.status driver_ok ≡ true →
             IsSome (frame_at self.old.mem (ring_page queue)) }
-        requires room { length self.old.part.loose ≤ length self.old.mem }
+        requires none { self.old.part.loose ≡ [] }
         ensures by { TakesOut queue index self.old.mem self.new.mem
             (with_pace paced self.old.part) (with_pace paced self.new.part) result }
         ensures count { length self.new.mem ≡ length self.old.mem }
@@ -243,10 +320,11 @@ impl DeviceBase {
             return Err(why);
         }
         let visits = visits_first(paced, queue);
-        match self.queues[queue as usize].remove(index, visits) {
+        let place = place_of(queue);
+        match self.queues[place].remove(index, visits) {
             Err(why) => Err(why),
             Ok(request) => {
-                discard_request(&mut self.ram, &mut self.loose, queue, request.pages());
+                discard_request(&mut self.ram, &mut self.loose, queue, &request);
                 Ok(request)
             }
         }
@@ -257,7 +335,42 @@ impl DeviceBase {
         requires { CanUse queue head self.old.mem self.old.part }
         ensures { UsesChain queue head self.old.mem self.new.mem self.old.part self.new.part }
     {
-        self.queues[queue as usize].add_used(&mut self.ram, head);
+        let place = place_of(queue);
+        self.queues[place].add_used(&mut self.ram, head);
+    }
+
+    /// Takes the statistics buffer out, if it is taken; answers its head.
+    fn take_buffer(&mut self) -> Result<u16, Refusal>
+        requires backed { contains self.old.part.status driver_ok ≡ true →
+            IsSome (frame_at self.old.mem (ring_page STATISTICS_QUEUE)) }
+        ensures by { TakesBuffer self.old.mem self.new.mem self.old.part self.new.part result }
+        ensures ready { IfOk result
+            (λ head. CanUse STATISTICS_QUEUE head self.new.mem self.new.part) }
+    {
+        if let Some(why) = self.readiness_refusal() {
+            return Err(why);
+        }
+        let buffer = self.queues[2].remove(0, false)?;
+        Ok(buffer.head())
+    }
+
+    /// Uses the statistics buffer that was taken.
+    pub(crate) fn ask_stats(&mut self) -> Result<(), Refusal>
+        requires backed { contains self.old.part.status driver_ok ≡ true →
+            IsSome (frame_at self.old.mem (ring_page STATISTICS_QUEUE)) }
+        ensures { AsksBy self.old.mem self.new.mem self.old.part self.new.part result }
+    {
+        let head = self.take_buffer()?;
+        self.use_chain(STATISTICS_QUEUE, head);
+        Ok(())
+    }
+
+    /// What the last buffer of statistics said.
+    pub(crate) fn stats(&self) -> Statistics
+        ensures free { result.free ≡ self.now.part.last.free }
+        ensures total { result.total ≡ self.now.part.last.total }
+    {
+        self.last
     }
 
     /// Puts a frame behind a page.
@@ -294,7 +407,7 @@ impl DeviceBase {
     /// Takes the frame of one page away, if it has one; says whether it had.
     fn discard(&mut self, page: u32) -> bool
         requires attached { 0 < length self.old.mem }
-        requires room { length self.old.part.loose ≤ length self.old.mem }
+        requires none { self.old.part.loose ≡ [] }
         ensures answer { result ≡ is_some (frame_at self.old.mem page) }
         ensures mem { self.new.mem ≡ discarded (page ∷ []) self.old.mem }
         ensures part { self.new.part ≡
@@ -303,26 +416,32 @@ impl DeviceBase {
                   frames_behind self.old.mem (page ∷ []);
             } }
     {
-        let had = self.ram.backing(page).is_some();
-        discard_all(&mut self.ram, &mut self.loose, &[page]);
+        let frame = self.ram.discard(page);
+        let had = frame.is_some();
+        put_loose(&mut self.loose, frame);
         had
     }
 
-    /// Counts the oldest page of the taken inflates that isn't visited yet as visited.
+    /// Counts the next page of the taken inflates as visited, or of the taken reports where there is
+    /// none.
     fn count_visit(&mut self) -> Option<u32>
-        ensures page { result ≡ next_page self.old.part.inflate.taken }
+        ensures page { result ≡ page_to_visit self.old.part }
         ensures none { IfNone result (self.new ≡ self.old) }
-        ensures part { self.new.part ≡ with_visit self.old.part }
+        ensures part { OnSome result
+            (self.new.part ≡ with_visit (visited_queue self.old.part) self.old.part) }
         ensures mem { self.new.mem ≡ self.old.mem }
         ensures attached { OnSome result (0 < length self.new.mem) }
     {
-        self.queues[0].visit_next()
+        if let Some(page) = self.queues[0].visit_next() {
+            return Some(page);
+        }
+        self.queues[3].visit_next()
     }
 
-    /// Visits the oldest page of the taken inflates that isn't visited yet: takes its frame away,
-    /// if it has one. None where every page is visited.
+    /// Visits the next page of the taken inflates, or of the taken reports where there is none: takes
+    /// its frame away, if it has one. None where every page is visited.
     pub(crate) fn visit_next(&mut self) -> Option<Worked>
-        requires room { length self.old.part.loose ≤ length self.old.mem }
+        requires none { self.old.part.loose ≡ [] }
         ensures by { VisitsNext self.old.mem self.new.mem self.old.part self.new.part result }
         ensures count { length self.new.mem ≡ length self.old.mem }
     {
@@ -335,7 +454,7 @@ impl DeviceBase {
     /// it had.
     pub(crate) fn sweep(&mut self, page: u32, ballooned: &PageFlags) -> Result<bool, Refusal>
         requires flags { length ballooned.now ≡ length self.old.mem }
-        requires room { length self.old.part.loose ≤ length self.old.mem }
+        requires none { self.old.part.loose ≡ [] }
         ensures by { SweepsPage page self.old.mem self.new.mem
             (record self.old.part { ballooned = ballooned.now })
             (record self.new.part { ballooned = ballooned.now }) result }
@@ -389,11 +508,10 @@ impl Port for DeviceBase {
         if write.is_empty() {
             self.features = Features::empty();
             self.actual = 0;
-            self.queues[0].set_ready(false);
-            self.queues[1].set_ready(false);
+            self.last = Statistics::NONE;
+            set_all_ready(&mut self.queues, false);
         } else if starts {
-            self.queues[0].set_ready(true);
-            self.queues[1].set_ready(true);
+            set_all_ready(&mut self.queues, true);
         }
         Ok(())
     }

@@ -2,15 +2,16 @@
 
 ghost use Rattle.std.specs.Prelude.{◌≡◌, ◌≤◌, ◌<◌, ℕ, [], true, false, None, IsSome, IsOk, OnOk};
 ghost use Rattle.std.specs.Prelude.{OnErr, length, replicate, count_by};
+ghost use Rattle.vb_model.specs.declared.layout.TheConstants.{STATISTICS_QUEUE};
 ghost use Rattle.vb_model.specs.Guest.{is_ballooned};
 ghost use Rattle.vb_model.specs.Layout.{ring_page};
 ghost use Rattle.vb_model.specs.Limits.{is_config};
 ghost use Rattle.vb_model.specs.Status.{contains, driver_ok};
 ghost use Rattle.vb_ram.specs.Pages.{frame_at, Supplied, IsWhole};
 ghost use Rattle.vb_device.specs.Calls.{IsUnused, attached, TakesBy, WorksBy, FinishesBy};
-ghost use Rattle.vb_device.specs.Calls.{SweepsBy, HandsBack, Claims, PutsBack};
+ghost use Rattle.vb_device.specs.Calls.{AsksBy, SweepsBy, HandsBack, Claims, PutsBack};
 
-use crate::{Claimed, Worked};
+use crate::{Claimed, Statistics, Worked};
 use std::alloc::{AllocError, Global};
 use vb_model::Refusal;
 use vb_ram::{Config, Frame, RamFault, SupplyRefused};
@@ -71,11 +72,13 @@ pub trait Device: Port + Drop {
         ensures part { Self.part self.new ≡ record (Self.part self.old) { target = pages } }
         ensures mem { Self.mem self.new ≡ Self.mem self.old };
 
-    /// Takes the next chain that the driver has made available on queue 0 or 1, and remembers the
-    /// pages that it names; answers its head, or none where no chain is available.
+    /// Takes the next chain that the driver has made available on a queue; answers its head, or none
+    /// where no chain is available. Of a request (queue 0 or 1) or a report (4) it remembers the pages,
+    /// of a buffer of statistics (2) what it says.
     ///
-    /// Refused with `NoQueue`, `NotReady`, `NeedsReset`, and `Busy` where 16 chains of the queue
-    /// are taken, tested in this order; then with `Broken` where the bytes that the driver wrote
+    /// Refused with `NoQueue`, `NotReady`, `NeedsReset`, `NoQueue` where the queue's feature wasn't
+    /// accepted, and `Busy` where 16 chains of the queue, or one of queue 2, are taken, tested in this
+    /// order; then with `Broken` where the bytes that the driver wrote
     /// break a rule: DEVICE_NEEDS_RESET is set then. Nothing else is changed by a refusal.
     fn take(&mut self, queue: u32) -> Result<Option<u16>, Refusal>
         ensures { TakesBy queue (Self.mem self.old) (Self.mem self.new)
@@ -113,6 +116,20 @@ pub trait Device: Port + Drop {
         requires { (Self.part self.old).loose ≡ [] }
         ensures { SweepsBy page (Self.mem self.old) (Self.mem self.new)
             (Self.part self.old) (Self.part self.new) result };
+
+    /// Uses the statistics buffer that was taken, so that the driver fills it anew (VIRTIO 1.1,
+    /// 5.5.6.3). Refused with `NotReady`, `NeedsReset`, and `NotTaken` where none is taken, tested in
+    /// this order; a refusal changes nothing.
+    fn ask_stats(&mut self) -> Result<(), Refusal>
+        requires backed { contains (Self.part self.old).status driver_ok ≡ true →
+            IsSome (frame_at (Self.mem self.old) (ring_page STATISTICS_QUEUE)) }
+        ensures { AsksBy (Self.mem self.old) (Self.mem self.new)
+            (Self.part self.old) (Self.part self.new) result };
+
+    /// What the last buffer of statistics said, each figure in bytes.
+    fn stats(&self) -> Statistics
+        ensures free { result.free ≡ (Self.part self.now).last.free }
+        ensures total { result.total ≡ (Self.part self.now).last.total };
 
     /// Whether the page is ballooned.
     fn ballooned(&self, page: u32) -> bool

@@ -4,10 +4,13 @@ ghost use Rattle.std.specs.Prelude.{◌≡◌, ◌<◌, ◌^◌, ◌≤◌, fals
 ghost use Rattle.std.specs.Prelude.{slice_set};
 ghost use Rattle.vb_model.specs.Guest.{is_ballooned};
 ghost use Rattle.vb_model.specs.Tests.{one_if};
+ghost use Rattle.vb_device.specs.BaseCalls.{flags_after};
 ghost use Rattle.vb_device.specs.Discards.{flagged};
 
+use crate::taken::TakenRequest;
 use std::alloc::{AllocError, Global};
 use std::marker::Model;
+use vb_model::layout::{INFLATE_QUEUE, REPORT_QUEUE};
 
 /// A flag for each page of a guest.
 #[derive(Drop)]
@@ -86,12 +89,22 @@ impl PageFlags {
         self.count = self.count - bit(old) + bit(flag);
     }
 
-    /// Sets the flags of these pages or takes them back.
-    pub(crate) fn set_all(&mut self, pages: &[u32], flag: bool)
-        ensures { self.new ≡ flagged pages.now flag self.old }
+    /// Sets the flags of a request's pages or takes them back.
+    fn set_all(&mut self, request: &TakenRequest, flag: bool)
+        ensures { self.new ≡ flagged request.now.pages flag self.old }
     {
-        for page in pages {
-            self.set(*page, flag);
+        for k in 0..request.count() {
+            self.set(request.page(k), flag);
+        }
+    }
+
+    /// The flags after a request of this queue is finished: those of an inflate's pages are set, those
+    /// of a deflate's are taken back, and a report changes none.
+    pub(crate) fn note_finish(&mut self, queue: u32, request: &TakenRequest)
+        ensures { self.new ≡ flags_after queue request.now.pages self.old }
+    {
+        if queue != REPORT_QUEUE {
+            self.set_all(request, queue == INFLATE_QUEUE);
         }
     }
 

@@ -10,7 +10,10 @@ mod flags;
 mod laws;
 mod pace;
 mod queue;
+mod report;
 mod request;
+mod statistics;
+mod taken;
 #[cfg(test)]
 mod tests;
 mod worked;
@@ -20,4 +23,5 @@ pub use claimed::Claimed;
 pub use device::Device;
 pub use laws::{a_request_names_pages_of_the_guest, a_written_request_is_read};
 pub use pace::{Immediate, Pace, Paced};
+pub use statistics::Statistics;
 pub use worked::Worked;

@@ -1,4 +1,4 @@
-//! A queue of page requests: the device's end of its ring, and the requests that were taken.
+//! A queue: the device's end of its ring, and the chains that were taken.
 
 ghost use Rattle.std.specs.Prelude.{◌≡◌, ◌<◌, ◌≤◌, ◌+◌, [], ◌++◌, ◌∷◌, All, IfNone, IfOk, OnOk};
 ghost use Rattle.std.specs.Prelude.{OnErr, Some, IsTrue, true, false, nat_le, length, slice_get, remove};
@@ -6,26 +6,28 @@ ghost use Rattle.std.specs.Int.{is_power_of_two};
 ghost use Rattle.std.specs.List.{position};
 ghost use Rattle.vb_model.specs.declared.limits.TheConstants.{MIN_QUEUE_SIZE, MAX_QUEUE_SIZE};
 ghost use Rattle.vb_model.specs.declared.replies.Refusal.TheVariants.{Broken};
-ghost use Rattle.vb_model.specs.Limits.{max_outstanding, max_request_pages};
+ghost use Rattle.vb_model.specs.Limits.{max_outstanding, reserved_pages};
 ghost use Rattle.vb_model.specs.Device.{is_unvisited, next_page, visiting};
 ghost use Rattle.vb_model.specs.FirstRefusal.{refusal_in};
 ghost use Rattle.vb_ring.specs.Layout.{layout_of, IsInside, IsBacked};
 ghost use Rattle.vb_ring.specs.Ends.{IsDeviceEnd};
 ghost use Rattle.vb_ring.specs.Calls.{AddsUsedBy};
 ghost use Rattle.vb_device.specs.Faults.{rule_of};
-ghost use Rattle.vb_device.specs.QueueState.{started, restarted, is_full, AreNamed, TakesNext};
+ghost use Rattle.vb_device.specs.QueueState.{started, restarted, is_full, TakesNext};
 ghost use Rattle.vb_device.specs.QueueState.{taken_refusal};
 
-use crate::request::{RequestPages, page_request};
+use crate::Statistics;
+use crate::taken::{TakenRequest, read_chain};
 use arrayvec::ArrayVec;
 use std::marker::Model;
 use vb_chain::ChainFault;
 use vb_model::Refusal;
+use vb_model::layout::STATISTICS_QUEUE;
 use vb_model::limits::MAX_OUTSTANDING;
 use vb_ram::GuestBytes;
 use vb_ring::Queue;
 
-/// Requests of a queue that may be taken at a time.
+/// Chains of a queue that may be taken at a time.
 const MAX_TAKEN: usize = MAX_OUTSTANDING as usize;
 
 /// The number of the rule that a fault breaks.
@@ -55,84 +57,12 @@ fn broken(fault: ChainFault) -> Refusal
     }
 }
 
-/// A request that was taken and isn't finished yet.
-#[derive(Drop)]
-pub(crate) struct TakenRequest {
-    /// The first descriptor of its chain.
-    head: u16,
-    /// The pages that it names, in the order in which they first stand there.
-    pages: RequestPages,
-    /// How many of them the device has visited, from the first on.
-    visited: u32,
-}
-
-impl Model for TakenRequest {
-    ghost use Rattle.vb_model.specs.Requests.{Request};
-    ghost use Rattle.vb_device.specs.QueueState.{AreNamed};
-
-    ghost Value = { Request };
-
-    ghost view = { λ r. record {
-      head = r.head;
-      pages = r.pages.items;
-      visited = r.visited;
-    } };
-
-    ghost invariant = { λ r. AreNamed r.pages.items };
-}
-
-impl Default for TakenRequest {
-    fn default() -> Self {
-        TakenRequest {
-            head: 0,
-            pages: ArrayVec::new(),
-            visited: 0,
-        }
-    }
-}
-
-impl TakenRequest {
-    /// The head of its chain.
-    pub(crate) fn head(&self) -> u16
-        ensures { result ≡ self.now.head }
-    {
-        self.head
-    }
-
-    /// The pages that it names.
-    pub(crate) fn pages(&self) -> &[u32]
-        ensures pages { result.now ≡ self.now.pages }
-        ensures named { AreNamed result.now }
-        ensures few { length result.now ≤ max_request_pages }
-    {
-        &self.pages
-    }
-
-    /// Whether a page of it isn't visited yet.
-    fn is_unvisited(&self) -> bool
-        ensures { result ≡ is_unvisited self.now }
-    {
-        (self.visited as usize) < self.pages.len()
-    }
-
-    /// Counts its next page as visited; answers the page.
-    fn visit(&mut self) -> u32
-        requires { is_unvisited self.old ≡ true }
-        ensures page { slice_get self.old.pages self.old.visited ≡ Some result }
-        ensures visited { self.new ≡ record self.old { visited = self.old.visited + 1 } }
-    {
-        let page = self.pages[self.visited as usize];
-        self.visited += 1;
-        page
-    }
-}
-
-/// The device's end of a queue of page requests.
+/// The device's end of a queue.
 #[derive(Drop)]
 pub(crate) struct DeviceQueue {
     /// The device's end of the ring.
     queue: Queue,
-    /// The requests that are taken, oldest first.
+    /// The chains that are taken, oldest first.
     taken: ArrayVec<TakenRequest, MAX_TAKEN>,
 }
 
@@ -184,24 +114,37 @@ impl DeviceQueue {
         self.queue.set_ready(ready);
     }
 
-    /// Whether as many requests are taken as may be.
-    fn is_full(&self) -> bool
-        ensures { result ≡ is_full self.now }
+    /// Whether as many chains are taken as may be of the queue of this number.
+    fn is_full(&self, queue: u32) -> bool
+        ensures { result ≡ is_full queue self.now }
     {
-        self.taken.len() >= MAX_TAKEN
+        let most = if queue == STATISTICS_QUEUE {
+            1
+        } else {
+            MAX_TAKEN
+        };
+        self.taken.len() >= most
     }
 
-    /// Takes the next chain as a request: answers its head, or none where no chain is available.
-    /// Refused with `Busy` where as many requests are taken as may be, and with `Broken` where the
-    /// chain breaks a rule; then nothing is changed.
-    pub(crate) fn take<G: GuestBytes>(&mut self, ram: &G) -> Result<Option<u16>, Refusal>
+    /// Takes the next chain of this queue, which has this number: answers its head, or none where
+    /// no chain is available. What a buffer of statistics says replaces `last`. Refused with `Busy`
+    /// where as many chains are taken as may be, and with `Broken` where the chain breaks a rule;
+    /// then nothing is changed.
+    pub(crate) fn take<G: GuestBytes>(
+        &mut self,
+        queue: u32,
+        ram: &G,
+        last: &mut Statistics,
+    ) -> Result<Option<u16>, Refusal>
         requires inside { 0 < length (G.mem ram.now) →
             IsInside (G.mem ram.now) self.old.ring.layout }
         requires idle { length (G.mem ram.now) ≡ 0 → self.old.ring.next_avail ≡ 0 }
         requires ready { self.old.ring.ready ≡ true }
-        ensures { TakesNext (G.mem ram.now) self.old self.new result }
+        ensures { TakesNext queue (G.mem ram.now) self.old self.new
+            (record { free = last.old.free; total = last.old.total })
+            (record { free = last.new.free; total = last.new.total }) result }
     {
-        if self.is_full() {
+        if self.is_full(queue) {
             return Err(Refusal::Busy);
         }
         if ram.pages() == 0 {
@@ -211,13 +154,9 @@ impl DeviceQueue {
             Err(fault) => Err(broken(fault)),
             Ok(found) => match found {
                 None => Ok(None),
-                Some(taken) => match page_request(ram, taken.chain.pieces()) {
+                Some(taken) => match read_chain(queue, ram, taken.chain.pieces(), last) {
                     Ok(pages) => {
-                        self.taken.push(TakenRequest {
-                            head: taken.head,
-                            pages,
-                            visited: 0,
-                        });
+                        self.taken.push(TakenRequest::new(taken.head, pages));
                         Ok(Some(taken.head))
                     }
                     Err(wrong) => {
@@ -255,6 +194,7 @@ impl DeviceQueue {
             taken_refusal visits (slice_get self.old.taken index) }
         ensures value { IfOk result (λ r. slice_get self.old.taken index ≡ Some r) }
         ensures head { IfOk result (λ r. r.head < self.old.ring.size) }
+        ensures above { IfOk result (λ r. All (λ page. reserved_pages ≤ page) r.pages) }
         ensures err { OnErr result (self.new ≡ self.old) }
         ensures rest { OnOk result (self.new ≡
             record self.old { taken = remove self.old.taken index }) }
@@ -266,7 +206,10 @@ impl DeviceQueue {
         if visits && self.taken[at].is_unvisited() {
             return Err(Refusal::NotWorked);
         }
-        Ok(self.taken.remove(at))
+        let request = self.taken.remove(at);
+        // What is always true of its pages is known from here on.
+        let _count = request.count();
+        Ok(request)
     }
 
     /// Adds a chain to the used ring, with length 0.

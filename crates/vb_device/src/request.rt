@@ -76,7 +76,7 @@ fn append_bytes<G: GuestBytes>(ram: &G, addr: u64, len: u32, bytes: &mut Request
 }
 
 /// The bytes of all pieces in a row.
-fn gather<G: GuestBytes>(ram: &G, pieces: &[Piece]) -> RequestBytes
+pub(crate) fn gather<G: GuestBytes>(ram: &G, pieces: &[Piece]) -> RequestBytes
     requires inside { All
         (λ piece. piece.addr + piece.len ≤ page_size * length (G.mem ram.now)) pieces.now }
     requires few { length (G.mem ram.now) < 2 ^ 32 }
@@ -91,7 +91,7 @@ fn gather<G: GuestBytes>(ram: &G, pieces: &[Piece]) -> RequestBytes
 }
 
 /// How many bytes the pieces have together.
-fn total_length(pieces: &[Piece]) -> u64
+pub(crate) fn total_length(pieces: &[Piece]) -> u64
     requires { length pieces.now ≤ MAX_QUEUE_SIZE }
     ensures { result ≡ total_length pieces.now }
 {
@@ -110,7 +110,7 @@ fn is_request_length(total: u64) -> bool
 }
 
 /// Whether a piece is the device's to write.
-fn has_writable(pieces: &[Piece]) -> bool
+pub(crate) fn has_writable(pieces: &[Piece]) -> bool
     ensures { result ≡ list_any (λ piece. piece.writable) pieces.now }
 {
     pieces.iter().any(|piece| piece.writable)

@@ -1,7 +1,7 @@
 //! Requests on devices of both paces: the tests write what a driver would, and call what a host
 //! does.
 
-use crate::{BalloonDevice, Claimed, Device, Immediate, Pace, Paced, Worked};
+use crate::{BalloonDevice, Claimed, Device, Immediate, Pace, Paced, Statistics, Worked};
 use bitflags::Flags;
 use std::alloc::Global;
 use std::process::Abort;
@@ -12,8 +12,10 @@ use vb_status::{Features, Port, Status};
 /// What a host and a driver do with a device.
 #[derive(Clone, Copy)]
 enum Step {
-    /// The driver comes through the initialisation, after a reset.
+    /// The driver comes through the initialisation, after a reset, with all features.
     Start,
+    /// The same with just these features.
+    StartWith(u64),
     /// The driver writes the status.
     WriteStatus(u8),
     Status,
@@ -25,15 +27,24 @@ enum Step {
     /// In a new life the driver writes a page number, a descriptor and an available ring, and the
     /// first chain of a queue is taken.
     TakeFirst(u32, u8, [u8; 16], [u8; 6]),
+    /// In a new life the driver writes descriptors and an available ring for queues of 8, and the first
+    /// chain of a queue is taken.
+    TakeChain(u32, &'static [u8], [u8; 6]),
+    /// In a new life the driver writes so many descriptors of page 16, each behind the one before, for
+    /// queues of 64, and takes the report.
+    TakePieces(u8),
+    /// The statistics buffer is given back.
+    Ask,
+    Stats,
     /// A page is visited. No frame may be loose before.
     Work,
+    /// The pages from the first up to the end are visited in turn, and none has a frame.
+    WorkBare(u32, u32),
     /// The inflate that was taken first is settled, and the driver isn't told. No frame may be
     /// loose before.
     Settle,
-    /// The inflate that was taken as this number is finished. No frame may be loose before.
-    FinishInflate(u32),
-    /// The deflate that was taken first is finished. No frame may be loose before.
-    FinishDeflate,
+    /// The chain of a queue that was taken as this number is finished. No frame may be loose before.
+    Finish(u32, u32),
     /// A frame of this number is put behind a page.
     Supply(u32, u32),
     Backing(u32),
@@ -63,6 +74,7 @@ enum Answer {
     /// The number of a frame; none where there is none.
     Frame(Option<u32>),
     AskHost,
+    Stats(Option<u64>, Option<u64>),
 }
 
 fn done(is_done: bool) -> Answer {
@@ -82,9 +94,14 @@ struct Host<P: Pace> {
 impl<P: Pace> Host<P> {
     /// Its device has a guest of 64 pages, whose rings and buffers have frames 0 to 12.
     fn new(rt: &impl Abort, alloc: Global, queue_size: u16) -> Self {
+        Self::of_size(rt, alloc, 64, queue_size)
+    }
+
+    /// The same with so many pages.
+    fn of_size(rt: &impl Abort, alloc: Global, pages: u32, queue_size: u16) -> Self {
         let mut device = BalloonDevice::<P>::new(alloc);
         let config = Config {
-            pages: 64,
+            pages,
             queue_size,
             processors: 1,
         };
@@ -131,24 +148,43 @@ impl<P: Pace> Host<P> {
         }
     }
 
-    fn finish_inflate(&mut self, index: u32) -> Answer {
-        if self.device.hand_back().is_some() || self.device.backing(0).is_none() {
+    fn finish(&mut self, queue: u32, index: u32) -> Answer {
+        if self.device.hand_back().is_some()
+            || self.device.backing(0).is_none()
+            || self.device.backing(1).is_none()
+            || self.device.backing(2).is_none()
+            || self.device.backing(3).is_none()
+        {
             return Answer::Is(false);
         }
-        match self.device.finish(0, index) {
+        match self.device.finish(queue, index) {
             Ok(head) => Answer::Head(Some(head)),
             Err(refusal) => Answer::Refused(refusal),
         }
     }
 
-    fn finish_deflate(&mut self) -> Answer {
-        if self.device.hand_back().is_some() || self.device.backing(1).is_none() {
+    fn ask(&mut self) -> Answer {
+        if self.device.backing(2).is_none() {
             return Answer::Is(false);
         }
-        match self.device.finish(1, 0) {
-            Ok(head) => Answer::Head(Some(head)),
+        match self.device.ask_stats() {
+            Ok(()) => Answer::Done,
             Err(refusal) => Answer::Refused(refusal),
         }
+    }
+
+    fn stats(&self) -> Answer {
+        let Statistics { free, total } = self.device.stats();
+        Answer::Stats(free, total)
+    }
+
+    fn work_bare(&mut self, first: u32, end: u32) -> bool {
+        for page in first..end {
+            if self.work() != Answer::Worked(page, false) {
+                return false;
+            }
+        }
+        true
     }
 
     fn sweep(&mut self, page: u32) -> Answer {
@@ -198,10 +234,17 @@ impl<P: Pace> Host<P> {
     }
 
     fn start(&mut self) -> bool {
+        self.start_with(0x1_0000_0027)
+    }
+
+    fn start_with(&mut self, features: u64) -> bool {
         self.write_status(0)
             && self.write_status(1)
             && self.write_status(3)
-            && self.device.negotiate(Features::OFFERED).is_ok()
+            && self
+                .device
+                .negotiate(Features::from_bits_retain(features))
+                .is_ok()
             && self.write_status(11)
             && self.write_status(15)
     }
@@ -220,9 +263,30 @@ impl<P: Pace> Host<P> {
         self.take(queue)
     }
 
+    fn take_chain(&mut self, queue: u32, descriptors: &[u8], available: &[u8; 6]) -> Answer {
+        let ring_page = if queue == 4 { 3 } else { queue };
+        let _ = self.start();
+        let _ = self.device.write(ring_page, 0, descriptors);
+        let _ = self.device.write(ring_page, 128, available);
+        self.take(queue)
+    }
+
+    fn take_pieces(&mut self, count: u8) -> Answer {
+        let _ = self.start();
+        for k in 0..count {
+            let flags = if k + 1 < count { 3 } else { 2 };
+            let next = if k + 1 < count { k + 1 } else { 0 };
+            let piece = [0, 0, 1, 0, 0, 0, 0, 0, 0, 16, 0, 0, flags, 0, next, 0];
+            let _ = self.device.write(3, 16 * k as usize, &piece);
+        }
+        let _ = self.device.write(3, 1024, &AVAILABLE);
+        self.take(4)
+    }
+
     fn answer_of(&mut self, alloc: Global, step: &Step) -> Answer {
         match step {
             Step::Start => done(self.start()),
+            Step::StartWith(features) => done(self.start_with(*features)),
             Step::WriteStatus(bits) => done(self.write_status(*bits)),
             Step::Status => Answer::Status(self.device.status().bits()),
             Step::Write(page, offset, bytes) => {
@@ -233,10 +297,16 @@ impl<P: Pace> Host<P> {
             Step::TakeFirst(queue, number, descriptor, available) => {
                 self.take_first(*queue, *number, descriptor, available)
             }
+            Step::TakeChain(queue, descriptors, available) => {
+                self.take_chain(*queue, descriptors, available)
+            }
+            Step::TakePieces(count) => self.take_pieces(*count),
+            Step::Ask => self.ask(),
+            Step::Stats => self.stats(),
             Step::Work => self.work(),
+            Step::WorkBare(first, end) => done(self.work_bare(*first, *end)),
             Step::Settle => self.settle(),
-            Step::FinishInflate(index) => self.finish_inflate(*index),
-            Step::FinishDeflate => self.finish_deflate(),
+            Step::Finish(queue, index) => self.finish(*queue, *index),
             Step::Supply(page, number) => done(self.supply(alloc, *page, *number)),
             Step::Backing(page) => Answer::Frame(self.device.backing(*page)),
             Step::HandBack => self.hand_back(),
@@ -300,7 +370,7 @@ static INFLATE: [(Step, Answer); 7] = [
     (Step::Write(0, 0, &SIXTEEN_BYTES), Answer::Done),
     (Step::Write(0, 128, &AVAILABLE), Answer::Done),
     (Step::Take(0), Answer::Head(Some(0))),
-    (Step::FinishInflate(0), Answer::Head(Some(0))),
+    (Step::Finish(0, 0), Answer::Head(Some(0))),
     (Step::AreBallooned(17, 20), Answer::Done),
 ];
 
@@ -433,7 +503,7 @@ static FAULT: [(Step, Answer); 7] = [
     (Step::Status, Answer::Status(79)),
     (Step::Take(0), Answer::Refused(Refusal::NeedsReset)),
     (Step::Take(1), Answer::Refused(Refusal::NeedsReset)),
-    (Step::FinishInflate(0), Answer::Refused(Refusal::NeedsReset)),
+    (Step::Finish(0, 0), Answer::Refused(Refusal::NeedsReset)),
 ];
 
 #[test]
@@ -448,7 +518,7 @@ static NAMED_TWICE: [(Step, Answer); 8] = [
     (Step::Write(0, 0, &EIGHT_BYTES), Answer::Done),
     (Step::Write(0, 128, &AVAILABLE), Answer::Done),
     (Step::Take(0), Answer::Head(Some(0))),
-    (Step::FinishInflate(0), Answer::Head(Some(0))),
+    (Step::Finish(0, 0), Answer::Head(Some(0))),
     (Step::AreBallooned(20, 20), Answer::Done),
     (Step::BalloonedCount, Answer::Count(1)),
 ];
@@ -472,7 +542,7 @@ static CUT: [(Step, Answer); 9] = [
     (Step::Write(0, 0, &TWO_PIECES), Answer::Done),
     (Step::Write(0, 128, &AVAILABLE), Answer::Done),
     (Step::Take(0), Answer::Head(Some(0))),
-    (Step::FinishInflate(0), Answer::Head(Some(0))),
+    (Step::Finish(0, 0), Answer::Head(Some(0))),
     (Step::AreBallooned(20, 21), Answer::Done),
     (Step::BalloonedCount, Answer::Count(2)),
 ];
@@ -488,7 +558,7 @@ static OVER: [(Step, Answer); 8] = [
     (Step::Write(0, 0, &OVER_THE_END), Answer::Done),
     (Step::Write(0, 128, &AVAILABLE), Answer::Done),
     (Step::Take(0), Answer::Head(Some(0))),
-    (Step::FinishInflate(0), Answer::Head(Some(0))),
+    (Step::Finish(0, 0), Answer::Head(Some(0))),
     (Step::AreBallooned(30, 31), Answer::Done),
 ];
 
@@ -538,7 +608,7 @@ static DEFLATE: [(Step, Answer); 6] = [
     (Step::Write(1, 0, &EIGHT_BYTES), Answer::Done),
     (Step::Write(1, 128, &AVAILABLE), Answer::Done),
     (Step::Take(1), Answer::Head(Some(0))),
-    (Step::FinishDeflate, Answer::Head(Some(0))),
+    (Step::Finish(1, 0), Answer::Head(Some(0))),
     (Step::AreBallooned(19, 20), Answer::Done),
     (Step::Read(1, 152), Answer::Bytes(USED)),
 ];
@@ -555,7 +625,7 @@ static RESET: [(Step, Answer); 7] = [
     (Step::Backing(18), Answer::Frame(None)),
     (Step::Backing(19), Answer::Frame(None)),
     (Step::Backing(20), Answer::Frame(None)),
-    (Step::FinishInflate(0), Answer::Refused(Refusal::NotReady)),
+    (Step::Finish(0, 0), Answer::Refused(Refusal::NotReady)),
 ];
 
 #[test]
@@ -595,11 +665,11 @@ static TWO_IN_ANY_ORDER: [(Step, Answer); 12] = [
     (Step::Write(0, 128, &[0, 0, 2, 0, 0, 0, 1, 0]), Answer::Done),
     (Step::Take(0), Answer::Head(Some(0))),
     (Step::Take(0), Answer::Head(Some(1))),
-    (Step::FinishInflate(2), Answer::Refused(Refusal::NotTaken)),
-    (Step::FinishInflate(1), Answer::Head(Some(1))),
+    (Step::Finish(0, 2), Answer::Refused(Refusal::NotTaken)),
+    (Step::Finish(0, 1), Answer::Head(Some(1))),
     (Step::Read(0, 152), Answer::Bytes(USED_ONE)),
     (Step::AreBallooned(19, 20), Answer::Done),
-    (Step::FinishInflate(0), Answer::Head(Some(0))),
+    (Step::Finish(0, 0), Answer::Head(Some(0))),
     (Step::AreBallooned(17, 20), Answer::Done),
 ];
 
@@ -623,14 +693,14 @@ static TAKEN: [(Step, Answer); 9] = [
 
 /// Its pages are visited one by one; page 19 gets a frame after its visit.
 static VISITED: [(Step, Answer); 13] = [
-    (Step::FinishInflate(0), Answer::Refused(Refusal::NotWorked)),
+    (Step::Finish(0, 0), Answer::Refused(Refusal::NotWorked)),
     (Step::Work, Answer::Worked(17, false)),
     (Step::Work, Answer::Worked(18, true)),
     (Step::Backing(18), Answer::Frame(None)),
     (Step::HandBack, Answer::Frame(Some(40))),
     (Step::Work, Answer::Worked(19, false)),
     (Step::Supply(19, 42), Answer::Done),
-    (Step::FinishInflate(0), Answer::Refused(Refusal::NotWorked)),
+    (Step::Finish(0, 0), Answer::Refused(Refusal::NotWorked)),
     (Step::BalloonedCount, Answer::Count(0)),
     (Step::Work, Answer::Worked(20, true)),
     (Step::HandBack, Answer::Frame(Some(41))),
@@ -639,7 +709,7 @@ static VISITED: [(Step, Answer); 13] = [
 ];
 
 static FINISHED: [(Step, Answer); 7] = [
-    (Step::FinishInflate(0), Answer::Head(Some(0))),
+    (Step::Finish(0, 0), Answer::Head(Some(0))),
     (Step::HandBack, Answer::Frame(Some(42))),
     (Step::HandBack, Answer::Frame(None)),
     (Step::Backing(19), Answer::Frame(None)),
@@ -665,15 +735,15 @@ static TWO_TAKEN: [(Step, Answer); 6] = [
 
 static OLDER_FIRST: [(Step, Answer); 10] = [
     (Step::Work, Answer::Worked(17, false)),
-    (Step::FinishInflate(2), Answer::Refused(Refusal::NotTaken)),
-    (Step::FinishInflate(1), Answer::Refused(Refusal::NotWorked)),
+    (Step::Finish(0, 2), Answer::Refused(Refusal::NotTaken)),
+    (Step::Finish(0, 1), Answer::Refused(Refusal::NotWorked)),
     (Step::Work, Answer::Worked(18, false)),
     (Step::Work, Answer::Worked(19, false)),
-    (Step::FinishInflate(0), Answer::Head(Some(0))),
-    (Step::FinishInflate(0), Answer::Refused(Refusal::NotWorked)),
+    (Step::Finish(0, 0), Answer::Head(Some(0))),
+    (Step::Finish(0, 0), Answer::Refused(Refusal::NotWorked)),
     (Step::Work, Answer::Worked(20, false)),
     (Step::Work, Answer::Idle),
-    (Step::FinishInflate(0), Answer::Head(Some(1))),
+    (Step::Finish(0, 0), Answer::Head(Some(1))),
 ];
 
 #[test]
@@ -686,10 +756,10 @@ static DROPPED: [(Step, Answer); 10] = [
     (Step::Work, Answer::Worked(17, false)),
     (Step::WriteStatus(0), Answer::Done),
     (Step::Work, Answer::Refused(Refusal::NotReady)),
-    (Step::FinishInflate(0), Answer::Refused(Refusal::NotReady)),
+    (Step::Finish(0, 0), Answer::Refused(Refusal::NotReady)),
     (Step::Start, Answer::Done),
     (Step::Work, Answer::Idle),
-    (Step::FinishInflate(0), Answer::Refused(Refusal::NotTaken)),
+    (Step::Finish(0, 0), Answer::Refused(Refusal::NotTaken)),
     (Step::Write(0, 128, &NINE_AHEAD), Answer::Done),
     (Step::Take(0), RULE_7),
     (Step::Work, Answer::Refused(Refusal::NeedsReset)),
@@ -703,7 +773,7 @@ fn nothing_is_visited_after_a_reset(rt: HostRuntime) {
 /// An immediate device has nothing to visit.
 static NO_WORK: [(Step, Answer); 3] = [
     (Step::Work, Answer::Idle),
-    (Step::FinishInflate(1), Answer::Head(Some(1))),
+    (Step::Finish(0, 1), Answer::Head(Some(1))),
     (Step::Work, Answer::Idle),
 ];
 
@@ -726,4 +796,255 @@ static SETTLED: [(Step, Answer); 7] = [
 #[test]
 fn pages_are_settled_before_the_driver_is_told(rt: HostRuntime) {
     expect(&rt, rt.alloc(), 8, &[&TAKEN, &SETTLED]);
+}
+
+/// A statistics buffer of 20 bytes at address 0xc000 in a queue of 8, and what a driver with 48 free
+/// pages of 64 writes there.
+const TWENTY_BYTES: [u8; 16] = [0, 0xc0, 0, 0, 0, 0, 0, 0, 20, 0, 0, 0, 0, 0, 0, 0];
+
+const FREE_AND_TOTAL: [u8; 20] = [4, 0, 0, 0, 3, 0, 0, 0, 0, 0, 5, 0, 0, 0, 4, 0, 0, 0, 0, 0];
+
+/// Buffers of 30 and of no bytes there.
+const THIRTY_BYTES: [u8; 16] = [0, 0xc0, 0, 0, 0, 0, 0, 0, 30, 0, 0, 0, 0, 0, 0, 0];
+
+const NO_BYTES: [u8; 16] = [0, 0xc0, 0, 0, 0, 0, 0, 0, 0, 0, 0, 0, 0, 0, 0, 0];
+
+/// Tag 9 with value 1, tag 4 with value 4096, and tag 4 with value 8192.
+const FREE_TWICE: [u8; 30] = [
+    9, 0, 1, 0, 0, 0, 0, 0, 0, 0, 4, 0, 0, 16, 0, 0, 0, 0, 0, 0, 4, 0, 0, 32, 0, 0, 0, 0, 0, 0,
+];
+
+/// The buffer is taken, asked for, and taken again with other statistics and with none.
+static STATISTICS: [(Step, Answer); 23] = [
+    (Step::Start, Answer::Done),
+    (Step::Ask, Answer::Refused(Refusal::NotTaken)),
+    (Step::Stats, Answer::Stats(None, None)),
+    (Step::Write(12, 0, &FREE_AND_TOTAL), Answer::Done),
+    (Step::Write(2, 0, &TWENTY_BYTES), Answer::Done),
+    (Step::Write(2, 128, &AVAILABLE), Answer::Done),
+    (Step::Take(2), Answer::Head(Some(0))),
+    (Step::Stats, Answer::Stats(Some(196_608), Some(262_144))),
+    (Step::Write(2, 130, &[2]), Answer::Done),
+    (Step::Take(2), Answer::Refused(Refusal::Busy)),
+    (Step::Ask, Answer::Done),
+    (Step::Read(2, 152), Answer::Bytes(USED)),
+    (Step::Ask, Answer::Refused(Refusal::NotTaken)),
+    (Step::Stats, Answer::Stats(Some(196_608), Some(262_144))),
+    (Step::Write(12, 0, &FREE_TWICE), Answer::Done),
+    (Step::Write(2, 0, &THIRTY_BYTES), Answer::Done),
+    (Step::Take(2), Answer::Head(Some(0))),
+    (Step::Stats, Answer::Stats(Some(8192), None)),
+    (Step::Ask, Answer::Done),
+    (Step::Write(2, 0, &NO_BYTES), Answer::Done),
+    (Step::Write(2, 130, &[3]), Answer::Done),
+    (Step::Take(2), Answer::Head(Some(0))),
+    (Step::Stats, Answer::Stats(None, None)),
+];
+
+/// A reset empties what the device knew, and the buffer is no longer taken.
+static STATISTICS_RESET: [(Step, Answer); 6] = [
+    (Step::Write(12, 0, &FREE_AND_TOTAL), Answer::Done),
+    (
+        Step::TakeChain(2, &TWENTY_BYTES, AVAILABLE),
+        Answer::Head(Some(0)),
+    ),
+    (Step::Stats, Answer::Stats(Some(196_608), Some(262_144))),
+    (Step::Start, Answer::Done),
+    (Step::Stats, Answer::Stats(None, None)),
+    (Step::Ask, Answer::Refused(Refusal::NotTaken)),
+];
+
+#[test]
+fn statistics_are_taken_and_asked_for(rt: HostRuntime) {
+    expect(&rt, rt.alloc(), 8, &[&STATISTICS, &STATISTICS_RESET]);
+}
+
+/// Statistics of 15 and of 1,030 bytes, and a buffer that the device may write.
+const FIFTEEN_BYTES: [u8; 16] = [0, 0xc0, 0, 0, 0, 0, 0, 0, 15, 0, 0, 0, 0, 0, 0, 0];
+
+const TOO_MANY_BYTES: [u8; 16] = [0, 0xc0, 0, 0, 0, 0, 0, 0, 6, 4, 0, 0, 0, 0, 0, 0];
+
+const MOST_BYTES: [u8; 16] = [0, 0xc0, 0, 0, 0, 0, 0, 0, 252, 3, 0, 0, 0, 0, 0, 0];
+
+/// Reports that the device may not write, of no bytes, of a byte more than a page, from the middle of
+/// a page on, and of page 15.
+const REPORT_TO_READ: [u8; 16] = [0, 0, 1, 0, 0, 0, 0, 0, 0, 16, 0, 0, 0, 0, 0, 0];
+
+const REPORT_OF_NOTHING: [u8; 16] = [0, 0, 1, 0, 0, 0, 0, 0, 0, 0, 0, 0, 2, 0, 0, 0];
+
+const REPORT_OF_A_BYTE_MORE: [u8; 16] = [0, 0, 1, 0, 0, 0, 0, 0, 1, 16, 0, 0, 2, 0, 0, 0];
+
+const REPORT_FROM_THE_MIDDLE: [u8; 16] = [0, 8, 1, 0, 0, 0, 0, 0, 0, 16, 0, 0, 2, 0, 0, 0];
+
+const REPORT_OF_PAGE_15: [u8; 16] = [0, 0xf0, 0, 0, 0, 0, 0, 0, 0, 16, 0, 0, 2, 0, 0, 0];
+
+static OTHER_QUEUES_BROKEN: [(Step, Answer); 13] = [
+    (Step::TakeChain(2, &WRITABLE, AVAILABLE), RULE_5),
+    (Step::TakeChain(2, &FIFTEEN_BYTES, AVAILABLE), RULE_8),
+    (Step::TakeChain(2, &TOO_MANY_BYTES, AVAILABLE), RULE_8),
+    (Step::Status, Answer::Status(79)),
+    (
+        Step::TakeChain(2, &MOST_BYTES, AVAILABLE),
+        Answer::Head(Some(0)),
+    ),
+    (Step::TakeChain(2, &MOST_BYTES, NINE_AHEAD), RULE_7),
+    (Step::TakeChain(4, &REPORT_TO_READ, AVAILABLE), RULE_5),
+    (Step::TakeChain(4, &REPORT_OF_NOTHING, AVAILABLE), RULE_8),
+    (
+        Step::TakeChain(4, &REPORT_OF_A_BYTE_MORE, AVAILABLE),
+        RULE_8,
+    ),
+    (
+        Step::TakeChain(4, &REPORT_FROM_THE_MIDDLE, AVAILABLE),
+        RULE_9,
+    ),
+    (Step::TakeChain(4, &REPORT_OF_PAGE_15, AVAILABLE), RULE_10),
+    (Step::TakeChain(4, &REPORT_OF_PAGE_15, HEAD_IS_8), RULE_1),
+    (Step::Finish(4, 0), Answer::Refused(Refusal::NeedsReset)),
+];
+
+#[test]
+fn the_broken_rule_of_another_queue_is_told(rt: HostRuntime) {
+    expect(&rt, rt.alloc(), 8, &[&OTHER_QUEUES_BROKEN]);
+}
+
+static PIECES: [(Step, Answer); 2] = [
+    (Step::TakePieces(33), RULE_8),
+    (Step::TakePieces(32), Answer::Head(Some(0))),
+];
+
+#[test]
+fn a_report_has_no_more_than_32_pieces(rt: HostRuntime) {
+    expect(&rt, rt.alloc(), 64, &[&PIECES]);
+}
+
+/// Blocks of pages 16 to 31 and 32 to 63, as a driver reports them in a queue of 8.
+const TWO_BLOCKS: [u8; 32] = [
+    0, 0, 1, 0, 0, 0, 0, 0, 0, 0, 1, 0, 3, 0, 1, 0, 0, 0, 2, 0, 0, 0, 0, 0, 0, 0, 2, 0, 2, 0, 0, 0,
+];
+
+/// All free pages are reported, and page 16 has a frame.
+static REPORT: [(Step, Answer); 16] = [
+    (Step::Supply(16, 40), Answer::Done),
+    (
+        Step::TakeChain(4, &TWO_BLOCKS, AVAILABLE),
+        Answer::Head(Some(0)),
+    ),
+    (Step::Work, Answer::Worked(16, true)),
+    (Step::HandBack, Answer::Frame(Some(40))),
+    (Step::Finish(4, 0), Answer::Refused(Refusal::NotWorked)),
+    (Step::WorkBare(17, 63), Answer::Done),
+    (Step::Finish(4, 0), Answer::Refused(Refusal::NotWorked)),
+    (Step::WorkBare(63, 64), Answer::Done),
+    (Step::Work, Answer::Idle),
+    (Step::Supply(20, 41), Answer::Done),
+    (Step::Finish(4, 0), Answer::Head(Some(0))),
+    (Step::HandBack, Answer::Frame(Some(41))),
+    (Step::BalloonedCount, Answer::Count(0)),
+    (Step::Read(3, 152), Answer::Bytes(USED)),
+    (Step::Finish(4, 0), Answer::Refused(Refusal::NotTaken)),
+    (Step::Take(4), Answer::Head(None)),
+];
+
+#[test]
+fn a_report_is_visited_and_finished(rt: HostRuntime) {
+    expect_paced(&rt, rt.alloc(), &[&REPORT]);
+}
+
+/// Page 16 in two pieces.
+const PAGE_16_TWICE: [u8; 32] = [
+    0, 0, 1, 0, 0, 0, 0, 0, 0, 16, 0, 0, 3, 0, 1, 0, 0, 0, 1, 0, 0, 0, 0, 0, 0, 16, 0, 0, 2, 0, 0,
+    0,
+];
+
+static TAKEN_TWICE: [(Step, Answer); 2] = [
+    (
+        Step::TakeChain(4, &PAGE_16_TWICE, AVAILABLE),
+        Answer::Head(Some(0)),
+    ),
+    (Step::Supply(16, 40), Answer::Done),
+];
+
+static VISITED_TWICE: [(Step, Answer); 6] = [
+    (Step::Work, Answer::Worked(16, true)),
+    (Step::HandBack, Answer::Frame(Some(40))),
+    (Step::Work, Answer::Worked(16, false)),
+    (Step::Work, Answer::Idle),
+    (Step::Finish(4, 0), Answer::Head(Some(0))),
+    (Step::HandBack, Answer::Frame(None)),
+];
+
+static FINISHED_ONCE: [(Step, Answer); 5] = [
+    (Step::Work, Answer::Idle),
+    (Step::Finish(4, 0), Answer::Head(Some(0))),
+    (Step::HandBack, Answer::Frame(Some(40))),
+    (Step::HandBack, Answer::Frame(None)),
+    (Step::Backing(16), Answer::Frame(None)),
+];
+
+#[test]
+fn a_page_reported_twice_is_visited_twice(rt: HostRuntime) {
+    expect_paced(&rt, rt.alloc(), &[&TAKEN_TWICE, &VISITED_TWICE]);
+    expect(&rt, rt.alloc(), 8, &[&TAKEN_TWICE, &FINISHED_ONCE]);
+}
+
+/// A request for page 17 is posted and taken after the report, and its page is visited first.
+static INFLATE_FIRST: [(Step, Answer); 9] = [
+    (
+        Step::TakeChain(4, &PAGE_16_TWICE, AVAILABLE),
+        Answer::Head(Some(0)),
+    ),
+    (Step::Work, Answer::Worked(16, false)),
+    (Step::Write(4, 0, &[17, 0, 0, 0]), Answer::Done),
+    (Step::Write(0, 0, &FOUR_BYTES), Answer::Done),
+    (Step::Write(0, 128, &AVAILABLE), Answer::Done),
+    (Step::Take(0), Answer::Head(Some(0))),
+    (Step::Work, Answer::Worked(17, false)),
+    (Step::Work, Answer::Worked(16, false)),
+    (Step::Work, Answer::Idle),
+];
+
+#[test]
+fn an_inflate_is_visited_before_a_report(rt: HostRuntime) {
+    expect_paced(&rt, rt.alloc(), &[&INFLATE_FIRST]);
+}
+
+/// Queues whose feature wasn't accepted.
+static FEATURES_MISSING: [(Step, Answer); 8] = [
+    (Step::StartWith(0x1_0000_0007), Answer::Done),
+    (Step::Take(4), Answer::Refused(Refusal::NoQueue)),
+    (Step::Take(2), Answer::Head(None)),
+    (Step::StartWith(0x1_0000_0001), Answer::Done),
+    (Step::Take(2), Answer::Refused(Refusal::NoQueue)),
+    (Step::Ask, Answer::Refused(Refusal::NotTaken)),
+    (Step::Stats, Answer::Stats(None, None)),
+    (Step::Take(3), Answer::Refused(Refusal::NoQueue)),
+];
+
+#[test]
+fn a_queue_needs_its_feature(rt: HostRuntime) {
+    expect(&rt, rt.alloc(), 8, &[&FEATURES_MISSING]);
+}
+
+/// All pages from page 16 on of a guest of 16,384 pages, in one piece.
+const ALL_PAGES: [u8; 16] = [0, 0, 1, 0, 0, 0, 0, 0, 0, 0, 0xff, 3, 2, 0, 0, 0];
+
+static REPORT_OF_ALL: [(Step, Answer); 8] = [
+    (
+        Step::TakeChain(4, &ALL_PAGES, AVAILABLE),
+        Answer::Head(Some(0)),
+    ),
+    (Step::Supply(16, 40), Answer::Done),
+    (Step::Supply(16_383, 41), Answer::Done),
+    (Step::Finish(4, 0), Answer::Head(Some(0))),
+    (Step::HandBack, Answer::Frame(Some(41))),
+    (Step::HandBack, Answer::Frame(Some(40))),
+    (Step::HandBack, Answer::Frame(None)),
+    (Step::Backing(16_383), Answer::Frame(None)),
+];
+
+#[test]
+fn a_large_guest_reports_all_pages(rt: HostRuntime) {
+    let mut host = Host::<Immediate>::of_size(&rt, rt.alloc(), 16_384, 8);
+    host.expect(&rt, rt.alloc(), &REPORT_OF_ALL);
 }

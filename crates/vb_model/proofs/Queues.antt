@@ -1,32 +1,46 @@
--- Which queues there are: each is that of inflates, that of deflates, or none that is brought.
-use Rattle.std.specs.Prelude.{◌≡◌, ℕ, ◌≤◌, Bool, true, false, ◌==◌, ◌&&◌, ◌||◌, is_some, refl, ◌⊎◌}
-use Rattle.std.proofs.Common.{◌∙◌, ap, arith, inl, inr}
-use Rattle.std.proofs.lemmas.Bool.{cases_eq}
-use Rattle.std.proofs.lemmas.Bool.Decides.{nat_tests}
-use Rattle.vb_model.specs.Requests.{kind_of_queue}
-use Rattle.vb_model.specs.Brought.{is_queue_brought}
+-- Which queues there are: those of inflates, of deflates, of statistics and of reports.
+use Rattle.std.specs.Prelude.{◌≡◌, ◌≢◌, ℕ, Bool, true, false, ◌==◌, ◌||◌, is_some, if◌then◌else◌}
+use Rattle.std.specs.Prelude.{Option, Some, None, refl, ◌⊎◌}
+use Rattle.std.proofs.Common.{sym, ◌∙◌, ap, inl, inr}
+use Rattle.std.proofs.lemmas.Bool.{cases_eq, ne_eqb}
+use Rattle.vb_model.specs.Requests.{Kind, Inflating, Deflating, Reporting_free, kind_of_queue}
 use Rattle.vb_model.specs.Tables.{is_queue_of_requests, has_chains}
 
-pub queue_cases : (q : ℕ) → (q ≡ 0) ⊎ ((q ≡ 1) ⊎ (2 ≤ q))
+-- no queue has this number
+pub record IsNoQueue (q : ℕ) : Type 0 where
+  pub inflate : q ≢ 0
+  pub deflate : q ≢ 1
+  pub statistics : q ≢ 2
+  pub report : q ≢ 4
+
+pub queue_cases : (q : ℕ) → (q ≡ 0) ⊎ ((q ≡ 1) ⊎ ((q ≡ 2) ⊎ ((q ≡ 4) ⊎ IsNoQueue q)))
 queue_cases q = elim (cases_eq q 0) [
   | inl e ↦ inl e
-  | inr ne ↦ elim (cases_eq q 1)
-      [ inl e ↦ inr (inl e) | inr ne' ↦ inr (inr (omega (arith, ne, ne'))) ]
+  | inr a ↦ elim (cases_eq q 1) [
+    | inl e ↦ inr (inl e)
+    | inr b ↦ elim (cases_eq q 2) [
+      | inl e ↦ inr (inr (inl e))
+      | inr c ↦ elim (cases_eq q 4) [
+        | inl e ↦ inr (inr (inr (inl e)))
+        | inr d ↦ inr (inr (inr (inr
+            (record { inflate = a; deflate = b; statistics = c; report = d }))))
+      ]
+    ]
+  ]
 ]
 
-not_brought : (q : ℕ) → 2 ≤ q → is_queue_brought q ≡ false
-not_brought q h = grind (arith, nat_tests)
+-- the kind of a queue, by whether it is queue 0, 1 or 4
+abbrev kind_by : Bool → Bool → Bool → Option Kind
+kind_by a b c =
+    if a then Some Inflating
+    else (if b then Some Deflating else (if c then Some Reporting_free else None))
 
-and_false : (b : Bool) → (b && false) ≡ false
-and_false true = refl
-and_false false = refl
+pub no_requests_at : (q : ℕ) → IsNoQueue q → is_queue_of_requests q ≡ false
+no_requests_at q other =
+    ap (λ (a : Bool). is_some (kind_by a (q == 1) (q == 4))) (ne_eqb q 0 other.inflate)
+    ∙ ap (λ (b : Bool). is_some (kind_by false b (q == 4))) (ne_eqb q 1 other.deflate)
+    ∙ ap (λ (c : Bool). is_some (kind_by false false c)) (ne_eqb q 4 other.report)
 
-pub no_requests_at : (q : ℕ) → 2 ≤ q → is_queue_of_requests q ≡ false
-no_requests_at q h =
-    ap (λ (b : Bool). is_some (kind_of_queue q) && b) (not_brought q h)
-    ∙ and_false (is_some (kind_of_queue q))
-
-pub no_chains_at : (q : ℕ) → 2 ≤ q → has_chains q ≡ false
-no_chains_at q h =
-    ap (λ (b : Bool). b || ((q == 2) && is_queue_brought q)) (no_requests_at q h)
-    ∙ (ap (λ (b : Bool). (q == 2) && b) (not_brought q h) ∙ and_false (q == 2))
+pub no_chains_at : (q : ℕ) → IsNoQueue q → has_chains q ≡ false
+no_chains_at q other =
+    ap (λ (b : Bool). b || (q == 2)) (no_requests_at q other) ∙ ne_eqb q 2 other.statistics

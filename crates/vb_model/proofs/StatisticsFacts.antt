@@ -8,7 +8,6 @@ use Rattle.vb_model.specs.declared.replies.Refusal.TheVariants.{NotTaken}
 use Rattle.vb_model.specs.declared.replies.Reply.TheVariants.{Ready, Done, Filled, NotUsed, Taken}
 use Rattle.vb_model.specs.declared.replies.Reply.TheVariants.{Empty, Asked}
 use Rattle.vb_model.specs.declared.layout.TheConstants.{STATISTICS_QUEUE}
-use Rattle.vb_model.specs.Brought.{is_queue_brought}
 use Rattle.vb_model.specs.Requests.{Figures, Buffer, NoBuffer, BufferPosted, BufferTaken}
 use Rattle.vb_model.specs.Requests.{BufferDone}
 use Rattle.vb_model.specs.Guest.{Guest, LastStatistics}
@@ -44,8 +43,7 @@ buffer_at_init : Negotiates None 0x100000027 down Ready
     (record down {
       status = 15;
       features = 0x100000027;
-      buffer = if is_queue_brought STATISTICS_QUEUE
-          then BufferPosted (record { free = 196608; total = 262144 }) else NoBuffer;
+      buffer = BufferPosted (record { free = 196608; total = 262144 });
     })
 buffer_at_init = (refl, refl)
 
@@ -134,36 +132,23 @@ ask_done_buffer = refl
 
 -- a take of queue 2: first whether the queue is there, then readiness, the feature, and whether the
 -- buffer is taken
-abbrev once_there : Option Refusal → Option Refusal
-once_there refusal = if is_queue_brought STATISTICS_QUEUE then refusal else Some NoQueue
-
-abbrev behind_no_queue : Guest → Option Refusal
-behind_no_queue g = first_refusal (drop 1 (tests g (Take 2)))
-
-take_when_there : refusal_of (with_buffer (BufferPosted old)) (Take 2) ≡ once_there None
-take_when_there = refl
-
-second_take_when_there : refusal_of (with_buffer (BufferTaken old)) (Take 2)
-    ≡ once_there (Some Busy)
-second_take_when_there = refl
-
-take_not_ready : behind_no_queue (record down { buffer = BufferTaken old }) ≡ Some NotReady
+take_not_ready : refusal_of (record down { buffer = BufferTaken old }) (Take 2) ≡ Some NotReady
 take_not_ready = refl
 
-take_without_feature : behind_no_queue (record without_stats_vq { buffer = BufferTaken old })
+take_without_feature : refusal_of (record without_stats_vq { buffer = BufferTaken old }) (Take 2)
     ≡ Some NoQueue
 take_without_feature = refl
 
-take_with_just_its_feature : behind_no_queue (record ready { features = 2 }) ≡ None
+take_with_just_its_feature : refusal_of (record ready { features = 2 }) (Take 2) ≡ None
 take_with_just_its_feature = refl
 
-second_take_is_busy : behind_no_queue (with_buffer (BufferTaken old)) ≡ Some Busy
+second_take_is_busy : refusal_of (with_buffer (BufferTaken old)) (Take 2) ≡ Some Busy
 second_take_is_busy = refl
 
-posted_is_not_busy : behind_no_queue (with_buffer (BufferPosted old)) ≡ None
+posted_is_not_busy : refusal_of (with_buffer (BufferPosted old)) (Take 2) ≡ None
 posted_is_not_busy = refl
 
-done_is_not_busy : behind_no_queue (with_buffer (BufferDone old)) ≡ None
+done_is_not_busy : refusal_of (with_buffer (BufferDone old)) (Take 2) ≡ None
 done_is_not_busy = refl
 
 -- queue 2 is neither finished nor reaped, nor is there a queue 3

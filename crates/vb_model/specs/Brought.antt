@@ -1,14 +1,9 @@
--- What the crates above answer so far: which events, and which queues. All that is left out is named
--- here and nowhere else.
-use Rattle.std.specs.Prelude.{ℕ, Bool, true, false, nat_le}
-use Rattle.vb_model.specs.declared.layout.TheConstants.{DEFLATE_QUEUE}
+-- Which events the crates above answer so far. All that is left out is named here and nowhere else.
+use Rattle.std.specs.Prelude.{Bool, true, false}
 use Rattle.vb_model.specs.declared.calls.Call.{Call}
 use Rattle.vb_model.specs.declared.calls.Call.TheVariants.{Init, Alloc, Free, Read, Write, Inflate}
 use Rattle.vb_model.specs.declared.calls.Call.TheVariants.{Deflate, Oom, Reap, Take, Work, Finish}
-use Rattle.vb_model.specs.declared.calls.Call.TheVariants.{Sweep, Reset, SetTarget}
-use Rattle.vb_model.specs.declared.calls.Query.{Query}
-use Rattle.vb_model.specs.declared.calls.Query.TheVariants.{Places, PagesAt, PagesBallooned}
-use Rattle.vb_model.specs.declared.calls.Query.TheVariants.{Balloon, Backing}
+use Rattle.vb_model.specs.declared.calls.Call.TheVariants.{Sweep, Reset, SetTarget, Report, Stats, Ask}
 use Rattle.vb_model.specs.declared.calls.Event.{Event}
 use Rattle.vb_model.specs.declared.calls.Event.TheVariants.{Plug, Guest, Query as Asking, Frames}
 
@@ -28,24 +23,14 @@ is_call_brought Work = true
 is_call_brought (Finish queue index) = true
 is_call_brought (Sweep page) = true
 is_call_brought (SetTarget pages) = true
+is_call_brought (Report from) = true
+is_call_brought Stats = true
+is_call_brought Ask = true
 is_call_brought _ = false
-
-abbrev pub is_query_brought : Query → Bool
-is_query_brought Places = true
-is_query_brought (PagesAt place) = true
-is_query_brought PagesBallooned = true
-is_query_brought Balloon = true
-is_query_brought (Backing page) = true
-is_query_brought _ = false
 
 abbrev pub is_brought : Event → Bool
 is_brought (Plug pages queue_size processors) = true
 is_brought (Guest guest call) = is_call_brought call
-is_brought (Asking guest query) = is_query_brought query
+is_brought (Asking guest query) = true
 is_brought Frames = true
 is_brought _ = false
-
--- Of the queues those of inflate and deflate requests; the others are answered as queues that don't
--- exist, and no statistics buffer is made available.
-abbrev pub is_queue_brought : ℕ → Bool
-is_queue_brought q = nat_le q DEFLATE_QUEUE

@@ -18,7 +18,6 @@ use Rattle.vb_model.specs.Pages.{Block, block_at, is_free, is_giving, is_lent, i
 use Rattle.vb_model.specs.Pages.{is_wholly_free, is_same_block}
 use Rattle.vb_model.specs.Requests.{Request, kind_of_queue}
 use Rattle.vb_model.specs.Guest.{stats_vq, reporting}
-use Rattle.vb_model.specs.Brought.{is_queue_brought}
 use Rattle.vb_model.specs.FirstRefusal.{Test, ◌⇒◌}
 use Rattle.vb_model.specs.Status.{contains, driver_ok, needs_reset, failed, is_broken}
 
@@ -70,11 +69,11 @@ has_fault status = contains status needs_reset
 -- ---- queues
 
 abbrev pub is_queue_of_requests : ℕ → Bool
-is_queue_of_requests q = is_some (kind_of_queue q) && is_queue_brought q
+is_queue_of_requests q = is_some (kind_of_queue q)
 
 -- a chain can be taken from a queue of this number
 abbrev pub has_chains : ℕ → Bool
-has_chains q = is_queue_of_requests q || ((q == STATISTICS_QUEUE) && is_queue_brought q)
+has_chains q = is_queue_of_requests q || (q == STATISTICS_QUEUE)
 
 -- the queue stands or falls with a feature that wasn't negotiated
 abbrev pub lacks_feature : ℕ → ℕ → Bool

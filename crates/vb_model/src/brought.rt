@@ -1,9 +1,9 @@
 //! Which events are answered so far.
 
 ghost use Rattle.std.specs.Prelude.{◌≡◌};
-ghost use Rattle.vb_model.specs.Brought.{is_call_brought, is_query_brought, is_brought};
+ghost use Rattle.vb_model.specs.Brought.{is_call_brought, is_brought};
 
-use crate::calls::{Call, Event, Query};
+use crate::calls::{Call, Event};
 
 impl Call {
     /// Whether guests answer the call so far.
@@ -27,16 +27,10 @@ impl Call {
                 | Call::Finish { .. }
                 | Call::Sweep { .. }
                 | Call::SetTarget { .. }
+                | Call::Report { .. }
+                | Call::Stats
+                | Call::Ask
         )
-    }
-}
-
-impl Query {
-    /// Whether guests answer the query so far.
-    pub fn is_brought(&self) -> bool
-        ensures { result ≡ is_query_brought self.now }
-    {
-        !matches!(self, Query::Memory)
     }
 }
 
@@ -46,9 +40,8 @@ impl Event {
         ensures { result ≡ is_brought self.now }
     {
         match self {
-            Event::Plug { .. } | Event::Frames => true,
+            Event::Plug { .. } | Event::Query { .. } | Event::Frames => true,
             Event::Guest { call, .. } => call.is_brought(),
-            Event::Query { query, .. } => query.is_brought(),
             Event::Unplug { .. } | Event::Restart { .. } | Event::Balance { .. } => false,
         }
     }

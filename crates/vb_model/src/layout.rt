@@ -34,3 +34,15 @@ pub const DEFLATE_BUFFERS_PAGE: u32 = 8;
 
 /// The page of the statistics buffer.
 pub const STATISTICS_PAGE: u32 = 12;
+
+/// Bytes of a statistic: a tag of 16 bits and a value of 64 (VIRTIO 1.1, 5.5.6.3).
+pub const STATISTIC_SIZE: u32 = 10;
+
+/// Bytes of statistics that a device takes in one buffer, at the most.
+pub const MAX_STATISTICS_LENGTH: u32 = 1020;
+
+/// The tags of the two statistics that a device looks at, both in bytes: memory that is free, and
+/// all memory (VIRTIO 1.1, 5.5.6.4).
+pub const FREE_MEMORY_TAG: u16 = 4;
+
+pub const TOTAL_MEMORY_TAG: u16 = 5;

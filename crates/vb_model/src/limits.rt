@@ -19,6 +19,9 @@ pub const MIN_REPORTED_ORDER: u32 = 4;
 /// that a device has taken: never more, and on the driver's side never more than the queue's size.
 pub const MAX_OUTSTANDING: u32 = 16;
 
+/// Pieces of a chain on the queue of page reports that a device takes, at the most.
+pub const MAX_REPORT_PIECES: u32 = 32;
+
 /// Pages that one inflate or deflate request names.
 pub const MAX_REQUEST_PAGES: u32 = 256;
 

@@ -1,10 +1,9 @@
 use Rattle.std.proofs.Common.{◌≡◌, ◌∙◌, ℕ, List, Bool, Ok, Err, sym, ap, subst, rules}
-use Rattle.std.specs.Prelude.{◌==◌, length}
+use Rattle.std.specs.Prelude.{length}
 use Rattle.vb_device.specs.State.{DeviceState}
 use Rattle.vb_device.specs.Base.{with_pace}
-use Rattle.vb_device.specs.Discards.{flagged}
 use Rattle.vb_device.specs.BaseCalls.{TakesOut, SettlesBy}
-use Rattle.vb_device.proofs.Marks.{flagged-length}
+use Rattle.vb_device.proofs.Marks.{after-length}
 use Rattle.vb_device.proofs.Over.{over, settles_err, settles_ok}
 use Rattle.vb_device.proofs.balloon.BalloonDevice.settle.Goals as goal
 
@@ -30,17 +29,12 @@ returns-in_err-request-clause-by g c =
 
 pub invariant_of-self-2 : goal.invariant_of-self-2
 invariant_of-self-2 g c =
-    ap (λ (fs : List Bool). length fs) c.set_all.ensures ∙
-    (flagged-length c.pages.result.now (c.args.queue == 0) c.self.inside.ballooned
+    ap (λ (fs : List Bool). length fs) c.note_finish.ensures ∙
+    (after-length c.args.queue c.in_ok-request.request.pages c.self.inside.ballooned
     ∙ (c.self.invariant ∙ sym c.take_out.ensures.count))
 
 pub returns-clause-by : goal.returns-clause-by
 returns-clause-by g c =
-    let flags : c.set_all.new.self ≡
-    flagged c.in_ok-request.request.pages (c.args.queue == 0) c.self.inside.ballooned =
-    c.set_all.ensures ∙
-    ap (λ (ps : List ℕ). flagged ps (c.args.queue == 0) c.self.inside.ballooned)
-    c.pages.ensures.pages in
     let out : TakesOut c.args.queue c.args.index c.self.inside.base.mem c.take_out.new.self.mem
     (with_pace g.P.Pace.IS_PACED c.self.inside.base.part)
     (with_pace g.P.Pace.IS_PACED c.take_out.new.self.part) (Ok c.in_ok-request.request) =
@@ -49,9 +43,9 @@ returns-clause-by g c =
     (with_pace b c.take_out.new.self.part) (Ok c.in_ok-request.request)) c.IS_PACED.ensures
     c.in_ok-request.ensures.by in
     subst (λ (v : DeviceState). SettlesBy c.args.queue c.args.index v.mem c.take_out.new.self.mem
-    v.part (over g.P.Pace.IS_PACED c.set_all.new.self c.take_out.new.self.part)
+    v.part (over g.P.Pace.IS_PACED c.note_finish.new.self c.take_out.new.self.part)
     (Ok c.head.result)) c.self.view_is
     (settles_ok c.args.queue c.args.index g.P.Pace.IS_PACED c.self.inside.base.mem
-    c.take_out.new.self.mem c.self.inside.ballooned c.set_all.new.self c.self.inside.base.part
+    c.take_out.new.self.mem c.self.inside.ballooned c.note_finish.new.self c.self.inside.base.part
     c.take_out.new.self.part c.in_ok-request.request (Ok c.head.result)
-    (ap (λ (h : ℕ). Ok h) c.head.ensures) flags c.in_ok-request.ensures.ready.known out)
+    (ap (λ (h : ℕ). Ok h) c.head.ensures) c.note_finish.ensures out)

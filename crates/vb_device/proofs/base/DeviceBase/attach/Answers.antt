@@ -4,17 +4,12 @@ use Rattle.vb_ram.specs.Pages.{Pages}
 use Rattle.std.specs.Prelude.{length}
 use Rattle.vb_ram.proofs.Limits.{config_limits}
 use Rattle.vb_status.specs.Bits.{status_bits}
-use Rattle.vb_device.proofs.Both.{base_started}
+use Rattle.vb_device.proofs.Four.{base_started}
 use Rattle.vb_device.proofs.Sizes.{size_is_power}
 use Rattle.vb_device.proofs.base.DeviceBase.attach.Goals as goal
 
-pub set_size-requires : goal.set_size-requires
-set_size-requires c =
-    size_is_power c.args.config.pages c.args.config.queue_size c.args.config.processors
-    c.requires.config
-
-pub set_size-requires-2 : goal.set_size-requires-2
-set_size-requires-2 c =
+pub set_sizes-requires : goal.set_sizes-requires
+set_sizes-requires c =
     size_is_power c.args.config.pages c.args.config.queue_size c.args.config.processors
     c.requires.config
 
@@ -27,8 +22,7 @@ invariant_of-self-2 c =
     config_limits c.args.config.pages c.args.config.queue_size c.args.config.processors
     c.requires.config in
     base_started c.self.inside.ram c.in-Ok.ram (status_bits c.self.inside.status) _
-    c.args.config.queue_size _ _ c.self.inside.queues c.set_size.new.self c.set_size-2.new.self
-    c.index-self-0.result c.index-self-1.result
-    c.self.invariant c.set_size.ensures c.set_size-2.ensures (search rules)
+    c.self.inside.queue_size c.args.config.queue_size _ _ c.self.inside.queues
+    c.set_sizes.new.queues c.self.invariant c.set_sizes.ensures (search rules)
     (λ l. omega (arith, count, limits.pages_least))
     (search rules)

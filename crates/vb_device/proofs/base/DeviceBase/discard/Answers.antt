@@ -1,15 +1,22 @@
-use Rattle.std.proofs.Common.{◌∙◌, ◌<◌, ◌∷◌, [], ap, rules}
+use Rattle.std.proofs.Common.{◌<◌, ◌∷◌, [], ◌∙◌, ap, arith, refl, rules}
 use Rattle.std.specs.Prelude.{length}
-use Rattle.vb_ram.specs.Pages.{Pages}
 use Rattle.vb_status.specs.Bits.{status_bits}
-use Rattle.vb_device.proofs.Discards.{discarded-length}
+use Rattle.vb_device.specs.State.{DeviceState}
+use Rattle.vb_device.specs.Discards.{discarded}
+use Rattle.vb_device.proofs.Discards.{discard_more, discarded_none}
 use Rattle.vb_device.proofs.Finishes.{base_same}
 use Rattle.vb_device.proofs.base.DeviceBase.discard.Goals as goal
 
 pub invariant_of-self : goal.invariant_of-self
 invariant_of-self c =
     let pos : 0 < length c.self.inside.ram = search rules in
-    base_same c.self.inside.ram c.discard_all.new.ram (status_bits c.self.inside.status) _ _
+    base_same c.self.inside.ram c.discard-frame.new.self (status_bits c.self.inside.status)
+    c.self.inside.queue_size _ _
     c.self.inside.queues c.self.invariant
-    (ap (λ (m : Pages). length m) c.discard_all.ensures.mem ∙
-    discarded-length (c.args.page ∷ []) c.self.inside.ram) c.discard_all.ensures.capacity pos
+    c.discard-frame.ensures.after.count c.put_loose.ensures.capacity pos
+
+pub returns-clause-mem : goal.returns-clause-mem
+returns-clause-mem c =
+    discard_more c.self.inside.ram c.self.inside.ram c.discard-frame.new.self (c.args.page ∷ []) 0
+    c.args.page (omega arith) refl (discarded_none c.self.inside.ram) c.discard-frame.ensures.after
+    ∙ ap (λ (v : DeviceState). discarded (c.args.page ∷ []) v.mem) c.self.view_is

@@ -1,15 +1,23 @@
-use Rattle.std.proofs.Common.{ℕ, ◌≡◌, ◌≤◌, get_or, None, sym, subst, rules}
+use Rattle.std.proofs.Common.{ℕ, ◌≡◌, get_or, true, None, sym, ◌∙◌, ap, subst, rules}
+use Rattle.std.specs.Prelude.{vec_capacity}
 use Rattle.std.proofs.Math.ListN.{set}
+use Rattle.vb_model.specs.Guest.{LastStatistics}
+use Rattle.vb_model.specs.Tables.{has_chains}
 use Rattle.vb_status.specs.Bits.{status_bits, feature_bits}
+use Rattle.vb_device.specs.declared.statistics.Statistics.{Statistics}
 use Rattle.vb_device.specs.State.{DeviceState}
 use Rattle.vb_device.specs.QueueState.{QueueState, TakesNext}
-use Rattle.vb_device.specs.Base.{queue_at, base_part}
-use Rattle.vb_device.specs.BaseCalls.{queue_refusal}
+use Rattle.vb_device.specs.Base.{queue_at, place_of, base_part, IsBase}
+use Rattle.vb_device.specs.BaseCalls.{take_refusal_by}
 use Rattle.vb_device.specs.Calls.{TakesBy}
-use Rattle.vb_device.proofs.Both.{entry_is}
+use Rattle.vb_device.proofs.Four.{entry_is}
 use Rattle.vb_device.proofs.FromNext.{keeps_ring}
-use Rattle.vb_device.proofs.TakesBy.{takes_refused, takes_at, base_kept, queue_known}
+use Rattle.vb_device.proofs.TakesBy.{takes_refused, takes_at, base_kept, take_known, take_ready}
+use Rattle.vb_device.proofs.TakesBy.{status_ok}
 use Rattle.vb_device.proofs.base.DeviceBase.take.Goals as goal
+
+abbrev was : Statistics → LastStatistics
+was last = record { free = last.free; total = last.total }
 
 pub returns-in-Some : goal.returns-in-Some
 returns-in-Some c =
@@ -18,50 +26,81 @@ returns-in-Some c =
 
 pub invariant_of-self : goal.invariant_of-self
 invariant_of-self c =
-    let open_status : queue_refusal c.args.queue (status_bits c.self.inside.status) ≡ None =
-    search rules in
-    let known : c.args.queue ≤ 1 =
-    queue_known c.args.queue (status_bits c.self.inside.status) open_status in
-    let was : get_or c.self.inside.queues c.args.queue c.index-self-queue.result ≡
+    let open_tests : take_refusal_by c.args.queue (status_bits c.self.inside.status)
+    (feature_bits c.self.inside.features) ≡ None = search rules in
+    let known : has_chains c.args.queue ≡ true =
+    take_known c.args.queue (status_bits c.self.inside.status) (feature_bits c.self.inside.features)
+    open_tests in
+    let entry : get_or c.self.inside.queues c.place_of-place.result c.index-self-place.result ≡
     queue_at c.args.queue c.self.inside.queues =
-    entry_is c.args.queue c.self.inside.queues c.index-self-queue.result c.self.invariant.two known
+    ap (λ (i : ℕ). get_or c.self.inside.queues i c.index-self-place.result)
+    c.place_of-place.ensures.place ∙
+    entry_is c.args.queue c.self.inside.queues c.index-self-place.result c.self.invariant.four known
     in
-    let takes : TakesNext c.self.inside.ram (queue_at c.args.queue c.self.inside.queues)
-    c.take-taken.new.self c.take-taken.result =
-    subst (λ (x : QueueState). TakesNext c.self.inside.ram x c.take-taken.new.self
-    c.take-taken.result) was c.take-taken.ensures in
-    base_kept c.args.queue c.self.inside.ram (status_bits c.self.inside.status)
-    (status_bits c.note_fault.new.status) _ c.self.inside.queues c.take-taken.new.self
-    c.self.invariant open_status
-    (keeps_ring c.self.inside.ram (queue_at c.args.queue c.self.inside.queues) c.take-taken.new.self
-    c.take-taken.result (c.self.invariant.each c.args.queue known).idle takes.means)
+    let takes : TakesNext c.args.queue c.self.inside.ram
+    (queue_at c.args.queue c.self.inside.queues) c.take-taken.new.self (was c.self.inside.last)
+    (was c.take-taken.new.last) c.take-taken.result =
+    subst (λ (x : QueueState). TakesNext c.args.queue c.self.inside.ram x c.take-taken.new.self
+    (was c.self.inside.last) (was c.take-taken.new.last) c.take-taken.result) entry
+    c.take-taken.ensures in
+    subst (λ (i : ℕ). IsBase c.self.inside.ram (status_bits c.note_fault.new.status)
+    c.self.inside.queue_size (set c.self.inside.queues i c.take-taken.new.self)
+    (vec_capacity c.self.inside.loose))
+    (sym c.place_of-place.ensures.place)
+    (base_kept c.args.queue c.self.inside.ram (status_bits c.self.inside.status)
+    (status_bits c.note_fault.new.status) c.self.inside.queue_size _ c.self.inside.queues
+    c.take-taken.new.self c.self.invariant known
+    (status_ok (status_bits c.self.inside.status)
+    (take_ready c.args.queue (status_bits c.self.inside.status)
+    (feature_bits c.self.inside.features) open_tests))
+    (keeps_ring c.args.queue c.self.inside.ram (queue_at c.args.queue c.self.inside.queues)
+    c.take-taken.new.self (was c.self.inside.last) (was c.take-taken.new.last) c.take-taken.result
+    (c.self.invariant.each c.args.queue known).idle takes.means))
 
 pub returns : goal.returns
 returns c =
-    let open_status : queue_refusal c.args.queue (status_bits c.self.inside.status) ≡ None =
-    search rules in
-    let known : c.args.queue ≤ 1 =
-    queue_known c.args.queue (status_bits c.self.inside.status) open_status in
-    let was : get_or c.self.inside.queues c.args.queue c.index-self-queue.result ≡
+    let open_tests : take_refusal_by c.args.queue (status_bits c.self.inside.status)
+    (feature_bits c.self.inside.features) ≡ None = search rules in
+    let known : has_chains c.args.queue ≡ true =
+    take_known c.args.queue (status_bits c.self.inside.status) (feature_bits c.self.inside.features)
+    open_tests in
+    let entry : get_or c.self.inside.queues c.place_of-place.result c.index-self-place.result ≡
     queue_at c.args.queue c.self.inside.queues =
-    entry_is c.args.queue c.self.inside.queues c.index-self-queue.result c.self.invariant.two known
+    ap (λ (i : ℕ). get_or c.self.inside.queues i c.index-self-place.result)
+    c.place_of-place.ensures.place ∙
+    entry_is c.args.queue c.self.inside.queues c.index-self-place.result c.self.invariant.four known
     in
-    let takes : TakesNext c.self.inside.ram (queue_at c.args.queue c.self.inside.queues)
-    c.take-taken.new.self c.take-taken.result =
-    subst (λ (x : QueueState). TakesNext c.self.inside.ram x c.take-taken.new.self
-    c.take-taken.result) was c.take-taken.ensures in
+    let takes : TakesNext c.args.queue c.self.inside.ram
+    (queue_at c.args.queue c.self.inside.queues) c.take-taken.new.self (was c.self.inside.last)
+    (was c.take-taken.new.last) c.take-taken.result =
+    subst (λ (x : QueueState). TakesNext c.args.queue c.self.inside.ram x c.take-taken.new.self
+    (was c.self.inside.last) (was c.take-taken.new.last) c.take-taken.result) entry
+    c.take-taken.ensures in
     subst (λ (v : DeviceState). TakesBy c.args.queue v.mem c.self.inside.ram v.part
     (base_part (status_bits c.note_fault.new.status) (feature_bits c.self.inside.features)
-    c.self.inside.target c.self.inside.actual
-    (set c.self.inside.queues c.args.queue c.take-taken.new.self) c.self.inside.loose.items)
-    c.take-taken.result) c.self.view_is
+    c.self.inside.target c.self.inside.actual c.self.inside.queue_size
+    (set c.self.inside.queues c.place_of-place.result c.take-taken.new.self)
+    (was c.take-taken.new.last) c.self.inside.loose.items) c.take-taken.result) c.self.view_is
+    (subst (λ (i : ℕ). TakesBy c.args.queue c.self.inside.ram c.self.inside.ram
+    (base_part (status_bits c.self.inside.status) (feature_bits c.self.inside.features)
+    c.self.inside.target c.self.inside.actual c.self.inside.queue_size c.self.inside.queues
+    (was c.self.inside.last) c.self.inside.loose.items)
+    (base_part (status_bits c.note_fault.new.status) (feature_bits c.self.inside.features)
+    c.self.inside.target c.self.inside.actual c.self.inside.queue_size
+    (set c.self.inside.queues i c.take-taken.new.self)
+    (was c.take-taken.new.last) c.self.inside.loose.items) c.take-taken.result)
+    (sym c.place_of-place.ensures.place)
     (subst (λ (s : ℕ). TakesBy c.args.queue c.self.inside.ram c.self.inside.ram
     (base_part (status_bits c.self.inside.status) (feature_bits c.self.inside.features)
-    c.self.inside.target c.self.inside.actual c.self.inside.queues c.self.inside.loose.items)
-    (base_part s (feature_bits c.self.inside.features) c.self.inside.target c.self.inside.actual
-    (set c.self.inside.queues c.args.queue c.take-taken.new.self) c.self.inside.loose.items)
-    c.take-taken.result) (sym c.note_fault.ensures)
+    c.self.inside.target c.self.inside.actual c.self.inside.queue_size c.self.inside.queues
+    (was c.self.inside.last) c.self.inside.loose.items)
+    (base_part s (feature_bits c.self.inside.features)
+    c.self.inside.target c.self.inside.actual c.self.inside.queue_size
+    (set c.self.inside.queues (place_of c.args.queue) c.take-taken.new.self)
+    (was c.take-taken.new.last) c.self.inside.loose.items) c.take-taken.result)
+    (sym c.note_fault.ensures)
     (takes_at c.args.queue c.self.inside.ram (status_bits c.self.inside.status)
-    (feature_bits c.self.inside.features) c.self.inside.target c.self.inside.actual _
-    c.self.inside.queues c.take-taken.new.self c.self.inside.loose.items c.take-taken.result
-    c.self.invariant open_status takes))
+    (feature_bits c.self.inside.features) c.self.inside.target c.self.inside.actual
+    c.self.inside.queue_size _ c.self.inside.queues c.take-taken.new.self (was c.self.inside.last)
+    (was c.take-taken.new.last) c.self.inside.loose.items c.take-taken.result
+    c.self.invariant open_tests takes)))

@@ -1,19 +1,24 @@
-use Rattle.std.proofs.Common.{◌≡◌, ◌∙◌, ◌≤◌, ◌<◌, ℕ, List, None, Some, Ok, get_or, true, sym}
+use Rattle.std.proofs.Common.{◌≡◌, ◌∙◌, ◌<◌, ℕ, List, None, Some, Ok, Err, get_or, true, sym}
 use Rattle.std.proofs.Common.{ap, subst, rules}
 use Rattle.std.specs.Prelude.{length, slice_get, IsSome, Bool, not, ◌&&◌, ◌==◌}
 use Rattle.std.proofs.Math.ListN.{set}
 use Rattle.vb_model.specs.Layout.{ring_page}
 use Rattle.vb_model.specs.Status.{contains, driver_ok}
-use Rattle.vb_ram.specs.Pages.{Pages, frame_at}
+use Rattle.std.proofs.Common.{[], arith}
+use Rattle.std.specs.Prelude.{vec_capacity}
+use Rattle.std.proofs.lemmas.List.{length-map}
+use Rattle.vb_model.specs.Guest.{LastStatistics}
+use Rattle.vb_model.specs.Tables.{has_chains}
+use Rattle.vb_device.proofs.Discards.{few_frames}
+use Rattle.vb_ram.specs.Pages.{Page, Pages, frame_at}
 use Rattle.vb_status.specs.Bits.{status_bits, feature_bits}
 use Rattle.vb_device.specs.State.{DeviceState}
 use Rattle.vb_device.specs.QueueState.{QueueState, taken_refusal}
-use Rattle.vb_device.specs.Base.{queue_at, base_part, numbers_of_frames, with_pace}
-use Rattle.vb_device.specs.BaseCalls.{queue_refusal, with_lost, TakesOut}
-use Rattle.vb_device.specs.Calls.{without_frames}
-use Rattle.vb_device.proofs.Both.{entry_is}
-use Rattle.vb_device.proofs.TakesBy.{queue_known, queue_finish, status_ok}
-use Rattle.vb_device.proofs.Finishes.{out_at, out_refused, without_taken, base_used}
+use Rattle.vb_device.specs.Base.{place_of, queue_at, base_part, numbers_of_frames, with_pace, IsBase}
+use Rattle.vb_device.specs.BaseCalls.{queue_refusal, TakesOut, CanUse}
+use Rattle.vb_device.proofs.Four.{entry_is, set_same}
+use Rattle.vb_device.proofs.TakesBy.{queue_known, queue_status, queue_finish, status_ok}
+use Rattle.vb_device.proofs.Finishes.{finish_left, out_at, out_refused, without_taken, base_used}
 use Rattle.vb_device.proofs.Finishes.{has_pages, can_use, kept_length}
 use Rattle.vb_device.proofs.base.DeviceBase.take_out.Goals as goal
 
@@ -24,15 +29,68 @@ returns-in-Some-clause-by c =
     (queue_finish c.args.queue c.args.index (with_pace c.args.paced c.args.self.now.part)
     c.in-Some.why (sym c.in-Some.ensures))
 
+pub returns-in-Err-clause-by : goal.returns-in-Err-clause-by
+returns-in-Err-clause-by c =
+    let open_status : queue_refusal c.args.queue (status_bits c.self.inside.status) ≡ None =
+    search rules in
+    let known : has_chains c.args.queue ≡ true =
+    queue_known c.args.queue (status_bits c.self.inside.status) open_status in
+    let was : get_or c.self.inside.queues c.place_of-place.result c.index-self-place.result ≡
+    queue_at c.args.queue c.self.inside.queues =
+    ap (λ (i : ℕ). get_or c.self.inside.queues i c.index-self-place.result)
+    c.place_of-place.ensures.place ∙
+    entry_is c.args.queue c.self.inside.queues c.index-self-place.result c.self.invariant.four known
+    in
+    let same : c.remove.new.self ≡ queue_at c.args.queue c.self.inside.queues =
+    c.in-Err.ensures.err ∙ was in
+    let last : LastStatistics =
+    record { free = c.self.inside.last.free; total = c.self.inside.last.total } in
+    let why : taken_refusal (c.args.paced && not (c.args.queue == 1))
+    (slice_get (queue_at c.args.queue c.self.inside.queues).taken c.args.index) ≡
+    Some c.in-Err.why =
+    ap (λ (b : Bool). taken_refusal b
+    (slice_get (queue_at c.args.queue c.self.inside.queues).taken c.args.index))
+    (sym c.visits_first-visits.ensures)
+    ∙ (ap (λ (x : QueueState). taken_refusal c.visits_first-visits.result
+    (slice_get x.taken c.args.index)) (sym was) ∙ sym c.in-Err.ensures.refused) in
+    subst (λ (v : DeviceState). TakesOut c.args.queue c.args.index v.mem c.self.inside.ram
+    (with_pace c.args.paced v.part) (with_pace c.args.paced
+    (base_part (status_bits c.self.inside.status) (feature_bits c.self.inside.features)
+    c.self.inside.target c.self.inside.actual c.self.inside.queue_size
+    (set c.self.inside.queues c.place_of-place.result c.remove.new.self) last
+    c.self.inside.loose.items)) (Err c.in-Err.why)) c.self.view_is
+    (subst (λ (ys : List QueueState). TakesOut c.args.queue c.args.index c.self.inside.ram
+    c.self.inside.ram (with_pace c.args.paced
+    (base_part (status_bits c.self.inside.status) (feature_bits c.self.inside.features)
+    c.self.inside.target c.self.inside.actual c.self.inside.queue_size c.self.inside.queues last
+    c.self.inside.loose.items)) (with_pace c.args.paced
+    (base_part (status_bits c.self.inside.status) (feature_bits c.self.inside.features)
+    c.self.inside.target c.self.inside.actual c.self.inside.queue_size ys last
+    c.self.inside.loose.items)) (Err c.in-Err.why))
+    (sym (ap (λ (i : ℕ). set c.self.inside.queues i c.remove.new.self)
+    c.place_of-place.ensures.place
+    ∙ (ap (λ (x : QueueState). set c.self.inside.queues (place_of c.args.queue) x) same
+    ∙ set_same c.args.queue c.self.inside.queues c.self.invariant.four known)))
+    (out_refused c.args.queue c.args.index c.self.inside.ram (with_pace c.args.paced
+    (base_part (status_bits c.self.inside.status) (feature_bits c.self.inside.features)
+    c.self.inside.target c.self.inside.actual c.self.inside.queue_size c.self.inside.queues last
+    c.self.inside.loose.items)) c.in-Err.why
+    (finish_left c.args.queue c.args.index c.args.paced (status_bits c.self.inside.status)
+    (feature_bits c.self.inside.features) c.self.inside.target c.self.inside.actual
+    c.self.inside.queue_size c.self.inside.queues last c.self.inside.loose.items open_status
+    ∙ why)))
+
 pub invariant_of-self-in-Ok : goal.invariant_of-self-in-Ok
 invariant_of-self-in-Ok c =
     let open_status : queue_refusal c.args.queue (status_bits c.self.inside.status) ≡ None =
     search rules in
-    let known : c.args.queue ≤ 1 =
+    let known : has_chains c.args.queue ≡ true =
     queue_known c.args.queue (status_bits c.self.inside.status) open_status in
-    let was : get_or c.self.inside.queues c.args.queue c.index-self-queue.result ≡
+    let was : get_or c.self.inside.queues c.place_of-place.result c.index-self-place.result ≡
     queue_at c.args.queue c.self.inside.queues =
-    entry_is c.args.queue c.self.inside.queues c.index-self-queue.result c.self.invariant.two known
+    ap (λ (i : ℕ). get_or c.self.inside.queues i c.index-self-place.result)
+    c.place_of-place.ensures.place ∙
+    entry_is c.args.queue c.self.inside.queues c.index-self-place.result c.self.invariant.four known
     in
     let left : c.remove.new.self ≡
     without_taken (queue_at c.args.queue c.self.inside.queues) c.args.index =
@@ -41,26 +99,45 @@ invariant_of-self-in-Ok c =
     Some c.in-Ok.request =
     ap (λ (x : QueueState). slice_get x.taken c.args.index) (sym was) ∙
     c.in-Ok.ensures.value in
-    base_used c.args.queue c.self.inside.ram c.discard_request.new.ram
-    (status_bits c.self.inside.status) _ _ c.self.inside.queues c.remove.new.self
-    c.self.invariant known
+    subst (λ (i : ℕ). IsBase c.discard_request.new.ram (status_bits c.self.inside.status)
+    c.self.inside.queue_size (set c.self.inside.queues i c.remove.new.self)
+    (vec_capacity c.discard_request.new.loose)) (sym c.place_of-place.ensures.place)
+    (base_used c.args.queue c.self.inside.ram c.discard_request.new.ram
+    (status_bits c.self.inside.status) c.self.inside.queue_size _ _ c.self.inside.queues
+    c.remove.new.self c.self.invariant known
     (ap (λ (m : Pages). length m) c.discard_request.ensures.mem ∙
-    kept_length c.args.queue c.pages.result.now c.self.inside.ram)
+    kept_length c.args.queue c.in-Ok.request.pages c.self.inside.ram)
     c.discard_request.ensures.capacity
     (has_pages c.self.inside.ram (queue_at c.args.queue c.self.inside.queues).taken c.args.index
     c.in-Ok.request (c.self.invariant.each c.args.queue known).none taken)
     (ap (λ (x : QueueState). x.ring.layout) left) (ap (λ (x : QueueState). x.ring.size) left)
-    (ap (λ (x : QueueState). x.ring.ready) left)
+    (ap (λ (x : QueueState). x.ring.ready) left))
+
+pub discard_request-requires : goal.discard_request-requires
+discard_request-requires c =
+    let none : c.args.self.now.part.loose ≡ [] = c.requires.none in
+    let empty : length (numbers_of_frames c.self.inside.loose.items) ≡ 0 =
+    ap (λ (v : DeviceState). length v.part.loose) c.self.view_is ∙ ap (λ (ns : List ℕ). length ns) none
+    in
+    omega (
+      arith,
+      length-map c.self.inside.loose.items (λ (frame : Page). frame.number),
+      empty,
+      few_frames c.self.inside.ram,
+      c.self.invariant.room,
+    )
 
 pub returns-in-Ok-clause-by : goal.returns-in-Ok-clause-by
 returns-in-Ok-clause-by c =
     let open_status : queue_refusal c.args.queue (status_bits c.self.inside.status) ≡ None =
     search rules in
-    let known : c.args.queue ≤ 1 =
+    let known : has_chains c.args.queue ≡ true =
     queue_known c.args.queue (status_bits c.self.inside.status) open_status in
-    let was : get_or c.self.inside.queues c.args.queue c.index-self-queue.result ≡
+    let was : get_or c.self.inside.queues c.place_of-place.result c.index-self-place.result ≡
     queue_at c.args.queue c.self.inside.queues =
-    entry_is c.args.queue c.self.inside.queues c.index-self-queue.result c.self.invariant.two known
+    ap (λ (i : ℕ). get_or c.self.inside.queues i c.index-self-place.result)
+    c.place_of-place.ensures.place ∙
+    entry_is c.args.queue c.self.inside.queues c.index-self-place.result c.self.invariant.four known
     in
     let left : c.remove.new.self ≡
     without_taken (queue_at c.args.queue c.self.inside.queues) c.args.index =
@@ -69,17 +146,8 @@ returns-in-Ok-clause-by c =
     Some c.in-Ok.request =
     ap (λ (x : QueueState). slice_get x.taken c.args.index) (sym was) ∙
     c.in-Ok.ensures.value in
-    let mem : c.discard_request.new.ram ≡
-    without_frames c.args.queue c.in-Ok.request.pages c.self.inside.ram =
-    c.discard_request.ensures.mem ∙
-    ap (λ (ps : List ℕ). without_frames c.args.queue ps c.self.inside.ram) c.pages.ensures.pages
-    in
-    let numbers : numbers_of_frames c.discard_request.new.loose.items ≡
-    with_lost c.args.queue c.self.inside.ram c.in-Ok.request.pages
-    (numbers_of_frames c.self.inside.loose.items) =
-    c.discard_request.ensures.loose ∙
-    ap (λ (ps : List ℕ). with_lost c.args.queue c.self.inside.ram ps
-    (numbers_of_frames c.self.inside.loose.items)) c.pages.ensures.pages in
+    let last : LastStatistics =
+    record { free = c.self.inside.last.free; total = c.self.inside.last.total } in
     let free : taken_refusal (c.args.paced && not (c.args.queue == 1))
     (slice_get (queue_at c.args.queue c.self.inside.queues).taken c.args.index) ≡ None =
     ap (λ (b : Bool). taken_refusal b
@@ -90,39 +158,52 @@ returns-in-Ok-clause-by c =
     subst (λ (v : DeviceState). TakesOut c.args.queue c.args.index v.mem c.discard_request.new.ram
     (with_pace c.args.paced v.part) (with_pace c.args.paced
     (base_part (status_bits c.self.inside.status) (feature_bits c.self.inside.features)
-    c.self.inside.target c.self.inside.actual
-    (set c.self.inside.queues c.args.queue c.remove.new.self) c.discard_request.new.loose.items))
-    (Ok c.in-Ok.request)) c.self.view_is
+    c.self.inside.target c.self.inside.actual c.self.inside.queue_size
+    (set c.self.inside.queues c.place_of-place.result c.remove.new.self) last
+    c.discard_request.new.loose.items)) (Ok c.in-Ok.request)) c.self.view_is
+    (subst (λ (i : ℕ). TakesOut c.args.queue c.args.index c.self.inside.ram
+    c.discard_request.new.ram (with_pace c.args.paced
+    (base_part (status_bits c.self.inside.status) (feature_bits c.self.inside.features)
+    c.self.inside.target c.self.inside.actual c.self.inside.queue_size c.self.inside.queues last
+    c.self.inside.loose.items)) (with_pace c.args.paced
+    (base_part (status_bits c.self.inside.status) (feature_bits c.self.inside.features)
+    c.self.inside.target c.self.inside.actual c.self.inside.queue_size
+    (set c.self.inside.queues i c.remove.new.self) last c.discard_request.new.loose.items))
+    (Ok c.in-Ok.request)) (sym c.place_of-place.ensures.place)
     (subst (λ (x : QueueState). TakesOut c.args.queue c.args.index c.self.inside.ram
     c.discard_request.new.ram (with_pace c.args.paced
     (base_part (status_bits c.self.inside.status) (feature_bits c.self.inside.features)
-    c.self.inside.target c.self.inside.actual c.self.inside.queues c.self.inside.loose.items))
-    (with_pace c.args.paced
+    c.self.inside.target c.self.inside.actual c.self.inside.queue_size c.self.inside.queues last
+    c.self.inside.loose.items)) (with_pace c.args.paced
     (base_part (status_bits c.self.inside.status) (feature_bits c.self.inside.features)
-    c.self.inside.target c.self.inside.actual (set c.self.inside.queues c.args.queue x)
-    c.discard_request.new.loose.items)) (Ok c.in-Ok.request)) (sym left)
+    c.self.inside.target c.self.inside.actual c.self.inside.queue_size
+    (set c.self.inside.queues (place_of c.args.queue) x) last c.discard_request.new.loose.items))
+    (Ok c.in-Ok.request)) (sym left)
     (out_at c.args.queue c.args.index c.args.paced c.self.inside.ram c.discard_request.new.ram
     (status_bits c.self.inside.status) (feature_bits c.self.inside.features)
-    c.self.inside.target c.self.inside.actual _ c.self.inside.queues c.self.inside.loose.items
-    c.discard_request.new.loose.items c.in-Ok.request c.self.invariant open_status free
-    taken mem numbers))
+    c.self.inside.target c.self.inside.actual c.self.inside.queue_size _ c.self.inside.queues last
+    c.self.inside.loose.items c.discard_request.new.loose.items c.in-Ok.request c.self.invariant
+    open_status free taken c.discard_request.ensures.mem c.discard_request.ensures.loose)))
 
 pub returns-in-Ok-clause-ready : goal.returns-in-Ok-clause-ready
 returns-in-Ok-clause-ready c =
     let open_status : queue_refusal c.args.queue (status_bits c.self.inside.status) ≡ None =
     search rules in
-    let known : c.args.queue ≤ 1 =
+    let known : has_chains c.args.queue ≡ true =
     queue_known c.args.queue (status_bits c.self.inside.status) open_status in
-    let was : get_or c.self.inside.queues c.args.queue c.index-self-queue.result ≡
+    let was : get_or c.self.inside.queues c.place_of-place.result c.index-self-place.result ≡
     queue_at c.args.queue c.self.inside.queues =
-    entry_is c.args.queue c.self.inside.queues c.index-self-queue.result c.self.invariant.two known
+    ap (λ (i : ℕ). get_or c.self.inside.queues i c.index-self-place.result)
+    c.place_of-place.ensures.place ∙
+    entry_is c.args.queue c.self.inside.queues c.index-self-place.result c.self.invariant.four known
     in
     let left : c.remove.new.self ≡
     without_taken (queue_at c.args.queue c.self.inside.queues) c.args.index =
     c.in-Ok.ensures.rest ∙ ap (λ (x : QueueState). without_taken x c.args.index) was in
     let driver : contains c.args.self.now.part.status driver_ok ≡ true =
     ap (λ (v : DeviceState). contains v.part.status driver_ok) (sym c.self.view_is) ∙
-    status_ok c.args.queue (status_bits c.self.inside.status) open_status in
+    status_ok (status_bits c.self.inside.status)
+    (queue_status c.args.queue (status_bits c.self.inside.status) open_status) in
     let backed : IsSome (frame_at c.self.inside.ram (ring_page c.args.queue)) =
     subst (λ (v : DeviceState). IsSome (frame_at v.mem (ring_page c.args.queue)))
     (sym c.self.view_is) (c.requires.backed driver) in
@@ -130,16 +211,24 @@ returns-in-Ok-clause-ready c =
     c.self.inside.queues).ring.size =
     subst (λ (x : QueueState). c.in-Ok.request.head < x.ring.size) was
     c.in-Ok.ensures.head in
-    can_use c.args.queue c.in-Ok.request.head c.pages.result.now c.self.inside.ram
+    let last : LastStatistics =
+    record { free = c.self.inside.last.free; total = c.self.inside.last.total } in
+    subst (λ (i : ℕ). CanUse c.args.queue c.in-Ok.request.head c.discard_request.new.ram
+    (base_part (status_bits c.self.inside.status) (feature_bits c.self.inside.features)
+    c.self.inside.target c.self.inside.actual c.self.inside.queue_size
+    (set c.self.inside.queues i c.remove.new.self) last c.discard_request.new.loose.items))
+    (sym c.place_of-place.ensures.place)
+    (can_use c.args.queue c.in-Ok.request.head c.in-Ok.request.pages c.self.inside.ram
     c.discard_request.new.ram (status_bits c.self.inside.status)
-    (feature_bits c.self.inside.features) c.self.inside.target c.self.inside.actual _
-    c.self.inside.queues c.remove.new.self c.discard_request.new.loose.items c.self.invariant
-    open_status low
-    (ap (λ (x : QueueState). x.ring.size) left) c.pages.ensures.named.above
-    c.discard_request.ensures.mem backed
+    (feature_bits c.self.inside.features) c.self.inside.target c.self.inside.actual
+    c.self.inside.queue_size _ c.self.inside.queues c.remove.new.self last
+    c.discard_request.new.loose.items c.self.invariant known
+    (queue_status c.args.queue (status_bits c.self.inside.status) open_status) low
+    c.in-Ok.ensures.above
+    c.discard_request.ensures.mem backed)
 
 pub returns-in-Ok-clause-count : goal.returns-in-Ok-clause-count
 returns-in-Ok-clause-count c =
     ap (λ (m : Pages). length m) c.discard_request.ensures.mem ∙
-    (kept_length c.args.queue c.pages.result.now c.self.inside.ram ∙
+    (kept_length c.args.queue c.in-Ok.request.pages c.self.inside.ram ∙
     ap (λ (v : DeviceState). length v.mem) c.self.view_is)

@@ -1,4 +1,5 @@
-use Rattle.std.proofs.Common.{◌≡◌, get_or, ◌∙◌, ap, subst, true}
+use Rattle.std.proofs.Common.{ℕ, ◌≡◌, get_or, ◌∙◌, ap, sym, subst, true}
+use Rattle.vb_model.specs.Guest.{LastStatistics}
 use Rattle.std.proofs.Math.ListN.{set}
 use Rattle.vb_model.specs.Status.{contains, driver_ok}
 use Rattle.vb_status.specs.Bits.{status_bits, feature_bits}
@@ -7,15 +8,17 @@ use Rattle.vb_device.specs.State.{DeviceState}
 use Rattle.vb_device.specs.QueueState.{QueueState}
 use Rattle.vb_device.specs.Base.{queue_at, base_part}
 use Rattle.vb_device.specs.BaseCalls.{UsesChain}
-use Rattle.vb_device.proofs.Both.{entry_is}
+use Rattle.vb_device.proofs.Four.{entry_is}
 use Rattle.vb_device.proofs.Finishes.{used_at}
 use Rattle.vb_device.proofs.base.DeviceBase.use_chain.Goals as goal
 
 pub returns : goal.returns
 returns c =
-    let was : get_or c.self.inside.queues c.args.queue c.index-self-queue.result ≡
+    let was : get_or c.self.inside.queues c.place_of-place.result c.index-self-place.result ≡
     queue_at c.args.queue c.self.inside.queues =
-    entry_is c.args.queue c.self.inside.queues c.index-self-queue.result c.self.invariant.two
+    ap (λ (i : ℕ). get_or c.self.inside.queues i c.index-self-place.result)
+    c.place_of-place.ensures.place ∙
+    entry_is c.args.queue c.self.inside.queues c.index-self-place.result c.self.invariant.four
     c.requires.known in
     let adds : AddsUsedBy c.self.inside.ram c.add_used.new.ram
     (queue_at c.args.queue c.self.inside.queues).ring c.add_used.new.self.ring c.args.head 0 =
@@ -24,14 +27,25 @@ returns c =
     let driver : contains (status_bits c.self.inside.status) driver_ok ≡ true =
     ap (λ (v : DeviceState). contains v.part.status driver_ok) c.self.view_is ∙
     c.requires.ready in
+    let last : LastStatistics =
+    record { free = c.self.inside.last.free; total = c.self.inside.last.total } in
     subst (λ (v : DeviceState). UsesChain c.args.queue c.args.head v.mem c.add_used.new.ram v.part
     (base_part (status_bits c.self.inside.status) (feature_bits c.self.inside.features)
-    c.self.inside.target c.self.inside.actual
-    (set c.self.inside.queues c.args.queue c.add_used.new.self) c.self.inside.loose.items))
+    c.self.inside.target c.self.inside.actual c.self.inside.queue_size
+    (set c.self.inside.queues c.place_of-place.result c.add_used.new.self) last
+    c.self.inside.loose.items))
     c.self.view_is
+    (subst (λ (i : ℕ). UsesChain c.args.queue c.args.head c.self.inside.ram c.add_used.new.ram
+    (base_part (status_bits c.self.inside.status) (feature_bits c.self.inside.features)
+    c.self.inside.target c.self.inside.actual c.self.inside.queue_size c.self.inside.queues last
+    c.self.inside.loose.items)
+    (base_part (status_bits c.self.inside.status) (feature_bits c.self.inside.features)
+    c.self.inside.target c.self.inside.actual c.self.inside.queue_size
+    (set c.self.inside.queues i c.add_used.new.self) last c.self.inside.loose.items))
+    (sym c.place_of-place.ensures.place)
     (used_at c.args.queue c.args.head c.self.inside.ram c.add_used.new.ram
     (status_bits c.self.inside.status) (feature_bits c.self.inside.features)
-    c.self.inside.target c.self.inside.actual _ c.self.inside.queues c.add_used.new.self
-    c.self.inside.loose.items
+    c.self.inside.target c.self.inside.actual c.self.inside.queue_size _ c.self.inside.queues
+    c.add_used.new.self last c.self.inside.loose.items
     c.self.invariant c.requires.known driver adds
-    (c.add_used.ensures.taken ∙ ap (λ (x : QueueState). x.taken) was))
+    (c.add_used.ensures.taken ∙ ap (λ (x : QueueState). x.taken) was)))

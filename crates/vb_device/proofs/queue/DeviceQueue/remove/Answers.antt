@@ -7,7 +7,7 @@ use Rattle.vb_device.proofs.queue.DeviceQueue.remove.Goals as goal
 pub invariant_of-self : goal.invariant_of-self
 invariant_of-self c =
     subst (λ (xs : List Request). All (λ (r : Request). r.head < c.self.inside.queue.size) xs)
-    (sym c.remove.ensures.items)
+    (sym c.remove-request.ensures.items)
     (All-append (λ (r : Request). r.head < c.self.inside.queue.size)
     (take c.args.index c.self.inside.taken.items)
     (drop (suc c.args.index) c.self.inside.taken.items)

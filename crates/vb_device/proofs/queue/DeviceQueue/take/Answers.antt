@@ -1,4 +1,4 @@
-use Rattle.std.proofs.Common.{◌≡◌, true, false, rules, ◌∙◌, ◌+◌, ◌*◌, ◌≤◌, ◌<◌, ℕ, List, ◌∷◌, []}
+use Rattle.std.proofs.Common.{◌≡◌, ◌++◌, true, false, rules, ◌∙◌, ◌+◌, ◌*◌, ◌≤◌, ◌<◌, ℕ, List, ◌∷◌, []}
 use Rattle.std.proofs.Common.{Option, Some, None, Ok, Err, sym, ap, subst}
 use Rattle.std.specs.Prelude.{All, length}
 use Rattle.std.proofs.lemmas.List.Elements.{All-append}
@@ -7,62 +7,77 @@ use Rattle.vb_chain.specs.declared.pieces.Piece.{Piece}
 use Rattle.vb_chain.specs.Table.{descriptor_at}
 use Rattle.vb_ring.specs.declared.device.Taken.{Taken}
 use Rattle.vb_ring.specs.Calls.{PopsBy}
-use Rattle.vb_device.specs.Request.{page_request}
-use Rattle.vb_device.proofs.RequestPages.{request_pages}
+use Rattle.vb_device.specs.Calls.{request_of, noted}
+use Rattle.vb_model.specs.Guest.{LastStatistics}
 use Rattle.vb_device.specs.QueueState.{QueueState, is_full, TakesNext}
 use Rattle.vb_device.proofs.FromNext.{next_busy, next_idle}
 use Rattle.vb_model.specs.declared.replies.Refusal.{Refusal}
+use Rattle.vb_model.specs.declared.replies.Refusal.TheVariants.{Broken}
+use Rattle.vb_device.specs.Faults.{rule_of}
 use Rattle.vb_device.proofs.Chains.{chain_fits}
 use Rattle.vb_device.proofs.Takes.{next_none, next_err, next_wrong, next_right, one_all}
 use Rattle.vb_ring.specs.Ends.{DeviceEnd}
+use Rattle.vb_device.specs.declared.statistics.Statistics.{Statistics}
 use Rattle.vb_device.proofs.queue.DeviceQueue.take.Goals as goal
+
+-- what the device knows of its guest's memory
+abbrev was : Statistics → LastStatistics
+was last = record { free = last.free; total = last.total }
+
+last_is : (last : Statistics) (said : LastStatistics) →
+    (last.free ≡ said.free) × (last.total ≡ said.total) → was last ≡ said
+last_is last said e =
+    ap (λ (f : Option ℕ). record { free = f; total = last.total }) e.0 ∙
+    ap (λ (t : Option ℕ). record { free = said.free; total = t }) e.1
 
 pub returns-then-is_full : goal.returns-then-is_full
 returns-then-is_full g c =
-    let full : is_full c.args.self.now ≡ true = search rules in
-    next_busy (g.G.GuestBytes.mem c.args.ram.now) c.args.self.now full
+    let full : is_full c.args.queue c.args.self.now ≡ true = search rules in
+    next_busy c.args.queue (g.G.GuestBytes.mem c.args.ram.now) c.args.self.now (was c.args.last.now) full
 
 pub returns-then-pages-eq0 : goal.returns-then-pages-eq0
 returns-then-pages-eq0 g c =
-    let free : is_full c.args.self.now ≡ false = search rules in
+    let free : is_full c.args.queue c.args.self.now ≡ false = search rules in
     let none : length (g.G.GuestBytes.mem c.args.ram.now) ≡ 0 = search rules in
-    next_idle (g.G.GuestBytes.mem c.args.ram.now) c.args.self.now free none (c.requires.idle none)
+    next_idle c.args.queue (g.G.GuestBytes.mem c.args.ram.now)
+    c.args.self.now (was c.args.last.now) free none (c.requires.idle none)
 
 pub returns-in-Err : goal.returns-in-Err
 returns-in-Err g c =
-    let free : is_full (record { ring = c.self.inside.queue; taken = c.self.inside.taken.items }) ≡
-    false = ap is_full c.self.view_is ∙ (sym c.is_full.ensures ∙ c.if-is_full.false) in
+    let free : is_full c.args.queue (record { ring = c.self.inside.queue; taken = c.self.inside.taken.items }) ≡
+    false = ap (is_full c.args.queue) c.self.view_is ∙ (sym c.is_full.ensures ∙ c.if-is_full.false) in
     let ready : c.self.inside.queue.ready ≡ true =
     ap (λ (q : QueueState). q.ring.ready) c.self.view_is ∙ c.requires.ready in
-    subst (λ (q : QueueState). TakesNext (g.G.GuestBytes.mem c.args.ram.now) q
+    subst (λ (q : QueueState). TakesNext c.args.queue (g.G.GuestBytes.mem c.args.ram.now) q
     (record { ring = c.pop_descriptor_chain.new.self; taken = c.self.inside.taken.items })
-    (Err c.broken.result)) c.self.view_is
-    (subst (λ (w : Refusal). TakesNext (g.G.GuestBytes.mem c.args.ram.now)
+    (was c.args.last.now) (was c.args.last.now) (Err c.broken.result)) c.self.view_is
+    (subst (λ (w : Refusal). TakesNext c.args.queue (g.G.GuestBytes.mem c.args.ram.now)
     (record { ring = c.self.inside.queue; taken = c.self.inside.taken.items })
     (record { ring = c.pop_descriptor_chain.new.self; taken = c.self.inside.taken.items })
-    (Err w)) (sym c.broken.ensures)
-    (next_err (g.G.GuestBytes.mem c.args.ram.now) c.self.inside.queue
-    c.pop_descriptor_chain.new.self c.self.inside.taken.items c.in-Err.fault free ready
+    (was c.args.last.now) (was c.args.last.now) (Err w)) (sym c.broken.ensures)
+    (next_err c.args.queue (g.G.GuestBytes.mem c.args.ram.now) c.self.inside.queue
+    c.pop_descriptor_chain.new.self c.self.inside.taken.items
+    (was c.args.last.now) c.in-Err.fault free ready
     c.in-Err.ensures))
 
 pub returns-in-None : goal.returns-in-None
 returns-in-None g c =
-    let free : is_full (record { ring = c.self.inside.queue; taken = c.self.inside.taken.items }) ≡
-    false = ap is_full c.self.view_is ∙ (sym c.is_full.ensures ∙ c.if-is_full.false) in
+    let free : is_full c.args.queue (record { ring = c.self.inside.queue; taken = c.self.inside.taken.items }) ≡
+    false = ap (is_full c.args.queue) c.self.view_is ∙ (sym c.is_full.ensures ∙ c.if-is_full.false) in
     let ready : c.self.inside.queue.ready ≡ true =
     ap (λ (q : QueueState). q.ring.ready) c.self.view_is ∙ c.requires.ready in
     let pops : PopsBy (g.G.GuestBytes.mem c.args.ram.now) c.self.inside.queue
     c.pop_descriptor_chain.new.self (Ok None) =
     subst (λ (o : Option Taken). PopsBy (g.G.GuestBytes.mem c.args.ram.now) c.self.inside.queue
     c.pop_descriptor_chain.new.self (Ok o)) c.in-None.is c.in-Ok.ensures in
-    subst (λ (q : QueueState). TakesNext (g.G.GuestBytes.mem c.args.ram.now) q
+    subst (λ (q : QueueState). TakesNext c.args.queue (g.G.GuestBytes.mem c.args.ram.now) q
     (record { ring = c.pop_descriptor_chain.new.self; taken = c.self.inside.taken.items })
-    (Ok None)) c.self.view_is
-    (next_none (g.G.GuestBytes.mem c.args.ram.now) c.self.inside.queue
-    c.pop_descriptor_chain.new.self c.self.inside.taken.items free ready pops)
+    (was c.args.last.now) (was c.args.last.now) (Ok None)) c.self.view_is
+    (next_none c.args.queue (g.G.GuestBytes.mem c.args.ram.now) c.self.inside.queue
+    c.pop_descriptor_chain.new.self c.self.inside.taken.items (was c.args.last.now) free ready pops)
 
-pub page_request-requires-clause-inside : goal.page_request-requires-clause-inside
-page_request-requires-clause-inside g c =
+pub read_chain-requires-clause-inside : goal.read_chain-requires-clause-inside
+read_chain-requires-clause-inside g c =
     let pops : PopsBy (g.G.GuestBytes.mem c.args.ram.now) c.self.inside.queue
     c.pop_descriptor_chain.new.self (Ok (Some c.in-Some.taken)) =
     subst (λ (o : Option Taken). PopsBy (g.G.GuestBytes.mem c.args.ram.now) c.self.inside.queue
@@ -74,15 +89,8 @@ page_request-requires-clause-inside g c =
     c.self.inside.queue.size (4096 * length (g.G.GuestBytes.mem c.args.ram.now))
     c.in-Some.taken.head c.in-Some.taken.chain pops.found.2)
 
-pub invariant_of-push : goal.invariant_of-push
-invariant_of-push g c =
-    let named =
-    request_pages (g.G.GuestBytes.mem c.args.ram.now) c.pieces.result.now
-    c.in-Ok-page_request.pages.items c.in-Ok-page_request.ensures in
-    record { above = named.above; distinct = named.distinct }
-
-pub invariant_of-self-in-Ok-page_request : goal.invariant_of-self-in-Ok-page_request
-invariant_of-self-in-Ok-page_request g c =
+pub invariant_of-self-in-Ok-read_chain : goal.invariant_of-self-in-Ok-read_chain
+invariant_of-self-in-Ok-read_chain g c =
     let pops : PopsBy (g.G.GuestBytes.mem c.args.ram.now) c.self.inside.queue
     c.pop_descriptor_chain.new.self (Ok (Some c.in-Some.taken)) =
     subst (λ (o : Option Taken). PopsBy (g.G.GuestBytes.mem c.args.ram.now) c.self.inside.queue
@@ -92,63 +100,77 @@ invariant_of-self-in-Ok-page_request g c =
     let new : Request =
     record {
       head = c.in-Some.taken.head;
-      pages = c.in-Ok-page_request.pages.items;
+      pages = c.in-Ok-read_chain.pages;
       visited = 0;
     } in
     subst (λ (n : ℕ). All (λ (r : Request). r.head < n) c.push.new.self.items) (sym size)
     (subst (λ (xs : List Request). All (λ (r : Request). r.head < c.self.inside.queue.size) xs)
-    (sym c.push.ensures.items)
+    (sym (c.push.ensures.items ∙ ap (λ (r : Request). c.self.inside.taken.items ++ r ∷ [])
+    c.new.ensures))
     (All-append (λ (r : Request). r.head < c.self.inside.queue.size) c.self.inside.taken.items
     (new ∷ []) c.self.invariant
     (one_all (λ (r : Request). r.head < c.self.inside.queue.size) new pops.found.2.chain.inside)))
 
-pub returns-in-Ok-page_request : goal.returns-in-Ok-page_request
-returns-in-Ok-page_request g c =
-    let free : is_full (record { ring = c.self.inside.queue; taken = c.self.inside.taken.items }) ≡
-    false = ap is_full c.self.view_is ∙ (sym c.is_full.ensures ∙ c.if-is_full.false) in
+pub returns-in-Ok-read_chain : goal.returns-in-Ok-read_chain
+returns-in-Ok-read_chain g c =
+    let free : is_full c.args.queue (record { ring = c.self.inside.queue; taken = c.self.inside.taken.items }) ≡
+    false = ap (is_full c.args.queue) c.self.view_is ∙ (sym c.is_full.ensures ∙ c.if-is_full.false) in
     let ready : c.self.inside.queue.ready ≡ true =
     ap (λ (q : QueueState). q.ring.ready) c.self.view_is ∙ c.requires.ready in
     let pops : PopsBy (g.G.GuestBytes.mem c.args.ram.now) c.self.inside.queue
     c.pop_descriptor_chain.new.self (Ok (Some c.in-Some.taken)) =
     subst (λ (o : Option Taken). PopsBy (g.G.GuestBytes.mem c.args.ram.now) c.self.inside.queue
     c.pop_descriptor_chain.new.self (Ok o)) c.in-Some.is c.in-Ok.ensures in
-    let good : page_request (g.G.GuestBytes.mem c.args.ram.now) c.in-Some.taken.chain ≡
-    Ok c.in-Ok-page_request.pages.items =
-    ap (page_request (g.G.GuestBytes.mem c.args.ram.now)) (sym c.pieces.ensures) ∙
-    c.in-Ok-page_request.ensures in
-    subst (λ (q : QueueState). TakesNext (g.G.GuestBytes.mem c.args.ram.now) q
+    let good : request_of c.args.queue (g.G.GuestBytes.mem c.args.ram.now) c.in-Some.taken.chain ≡
+    Ok c.in-Ok-read_chain.pages =
+    ap (request_of c.args.queue (g.G.GuestBytes.mem c.args.ram.now)) (sym c.pieces.ensures) ∙
+    c.in-Ok-read_chain.ensures.pages in
+    let said : was c.read_chain.new.last ≡
+    noted c.args.queue (g.G.GuestBytes.mem c.args.ram.now) c.in-Some.taken.chain
+    (was c.args.last.now) =
+    last_is c.read_chain.new.last (noted c.args.queue (g.G.GuestBytes.mem c.args.ram.now)
+    c.pieces.result.now (was c.args.last.now)) c.in-Ok-read_chain.ensures.said
+    ∙ ap (λ (xs : List Piece). noted c.args.queue (g.G.GuestBytes.mem c.args.ram.now) xs
+    (was c.args.last.now)) c.pieces.ensures in
+    subst (λ (q : QueueState). TakesNext c.args.queue (g.G.GuestBytes.mem c.args.ram.now) q
     (record { ring = c.pop_descriptor_chain.new.self; taken = c.push.new.self.items })
-    (Ok (Some c.in-Some.taken.head))) c.self.view_is
-    (subst (λ (xs : List Request). TakesNext (g.G.GuestBytes.mem c.args.ram.now)
+    (was c.args.last.now) (was c.read_chain.new.last) (Ok (Some c.in-Some.taken.head))) c.self.view_is
+    (subst (λ (xs : List Request). TakesNext c.args.queue (g.G.GuestBytes.mem c.args.ram.now)
     (record { ring = c.self.inside.queue; taken = c.self.inside.taken.items })
     (record { ring = c.pop_descriptor_chain.new.self; taken = xs })
-    (Ok (Some c.in-Some.taken.head))) (sym c.push.ensures.items)
-    (next_right (g.G.GuestBytes.mem c.args.ram.now) c.self.inside.queue
-    c.pop_descriptor_chain.new.self c.self.inside.taken.items c.in-Some.taken
-    c.in-Ok-page_request.pages.items free ready pops good))
+    (was c.args.last.now) (was c.read_chain.new.last) (Ok (Some c.in-Some.taken.head))) (sym (c.push.ensures.items ∙ ap (λ (r : Request). c.self.inside.taken.items ++ r ∷ [])
+    c.new.ensures))
+    (next_right c.args.queue (g.G.GuestBytes.mem c.args.ram.now) c.self.inside.queue
+    c.pop_descriptor_chain.new.self c.self.inside.taken.items
+    (was c.args.last.now) (was c.read_chain.new.last) c.in-Some.taken c.in-Ok-read_chain.pages free ready pops good said))
 
-pub returns-in-Err-page_request : goal.returns-in-Err-page_request
-returns-in-Err-page_request g c =
-    let free : is_full (record { ring = c.self.inside.queue; taken = c.self.inside.taken.items }) ≡
-    false = ap is_full c.self.view_is ∙ (sym c.is_full.ensures ∙ c.if-is_full.false) in
+pub returns-in-Err-read_chain : goal.returns-in-Err-read_chain
+returns-in-Err-read_chain g c =
+    let free : is_full c.args.queue (record { ring = c.self.inside.queue; taken = c.self.inside.taken.items }) ≡
+    false = ap (is_full c.args.queue) c.self.view_is ∙ (sym c.is_full.ensures ∙ c.if-is_full.false) in
     let ready : c.self.inside.queue.ready ≡ true =
     ap (λ (q : QueueState). q.ring.ready) c.self.view_is ∙ c.requires.ready in
     let pops : PopsBy (g.G.GuestBytes.mem c.args.ram.now) c.self.inside.queue
     c.pop_descriptor_chain.new.self (Ok (Some c.in-Some.taken)) =
     subst (λ (o : Option Taken). PopsBy (g.G.GuestBytes.mem c.args.ram.now) c.self.inside.queue
     c.pop_descriptor_chain.new.self (Ok o)) c.in-Some.is c.in-Ok.ensures in
-    let bad : page_request (g.G.GuestBytes.mem c.args.ram.now) c.in-Some.taken.chain ≡
-    Err c.in-Err-page_request.wrong =
-    ap (page_request (g.G.GuestBytes.mem c.args.ram.now)) (sym c.pieces.ensures) ∙
-    c.in-Err-page_request.ensures in
-    subst (λ (q : QueueState). TakesNext (g.G.GuestBytes.mem c.args.ram.now) q
+    let bad : request_of c.args.queue (g.G.GuestBytes.mem c.args.ram.now) c.in-Some.taken.chain ≡
+    Err c.in-Err-read_chain.wrong =
+    ap (request_of c.args.queue (g.G.GuestBytes.mem c.args.ram.now)) (sym c.pieces.ensures) ∙
+    c.in-Err-read_chain.ensures.pages in
+    subst (λ (q : QueueState). TakesNext c.args.queue (g.G.GuestBytes.mem c.args.ram.now) q
     (record { ring = c.go_to_previous_position.new.self; taken = c.self.inside.taken.items })
-    (Err c.broken-in-Err-page_request.result)) c.self.view_is
-    (subst (λ (w : Refusal). TakesNext (g.G.GuestBytes.mem c.args.ram.now)
+    (was c.args.last.now) (was c.read_chain.new.last) (Err c.broken-in-Err-read_chain.result)) c.self.view_is
+    (subst (λ (w : Refusal). TakesNext c.args.queue (g.G.GuestBytes.mem c.args.ram.now)
     (record { ring = c.self.inside.queue; taken = c.self.inside.taken.items })
     (record { ring = c.go_to_previous_position.new.self; taken = c.self.inside.taken.items })
-    (Err w)) (sym c.broken-in-Err-page_request.ensures)
-    (next_wrong (g.G.GuestBytes.mem c.args.ram.now) c.self.inside.queue
+    (was c.args.last.now) (was c.read_chain.new.last) (Err w)) (sym c.broken-in-Err-read_chain.ensures)
+    (subst (λ (l : Statistics). TakesNext c.args.queue (g.G.GuestBytes.mem c.args.ram.now)
+    (record { ring = c.self.inside.queue; taken = c.self.inside.taken.items })
+    (record { ring = c.go_to_previous_position.new.self; taken = c.self.inside.taken.items })
+    (was c.args.last.now) (was l) (Err (Broken (rule_of c.in-Err-read_chain.wrong))))
+    (sym c.in-Err-read_chain.ensures.err)
+    (next_wrong c.args.queue (g.G.GuestBytes.mem c.args.ram.now) c.self.inside.queue
     c.pop_descriptor_chain.new.self c.go_to_previous_position.new.self c.self.inside.taken.items
-    c.in-Some.taken c.in-Err-page_request.wrong free ready pops bad
-    c.go_to_previous_position.ensures))
+    (was c.args.last.now) c.in-Some.taken c.in-Err-read_chain.wrong free ready pops bad
+    c.go_to_previous_position.ensures)))

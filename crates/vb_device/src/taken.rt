@@ -1,0 +1,199 @@
+//! A chain that a device has taken.
+
+ghost use Rattle.std.specs.Prelude.{◌≡◌, ◌<◌, ◌≤◌, ◌+◌, ◌*◌, ◌^◌, ◌++◌, [], All, MatchResult};
+ghost use Rattle.std.specs.Prelude.{true, OnOk, OnErr, Ok, Err, Some, length, slice_get};
+ghost use Rattle.vb_model.specs.declared.limits.TheConstants.{MAX_QUEUE_SIZE};
+ghost use Rattle.vb_model.specs.Limits.{page_size, reserved_pages};
+ghost use Rattle.vb_model.specs.Device.{is_unvisited};
+ghost use Rattle.vb_device.specs.Calls.{request_of, noted};
+ghost use Rattle.vb_device.specs.Report.{pages_of_pieces};
+
+use crate::Statistics;
+use crate::report::{ReportPieces, count_pages, page_at, report_of};
+use crate::request::{RequestPages, page_request};
+use crate::statistics::read_statistics;
+use arrayvec::ArrayVec;
+use std::marker::Model;
+use vb_chain::{ChainFault, Piece};
+use vb_model::layout::{REPORT_QUEUE, STATISTICS_QUEUE};
+use vb_ram::GuestBytes;
+
+/// The pages that a chain names: a request lists them one by one, a report has pieces of whole
+/// pages, and a buffer of statistics has neither.
+#[derive(Drop)]
+pub(crate) struct NamedPages {
+    /// Pages one by one, each once, in the order in which they first stand there.
+    listed: RequestPages,
+    /// Pieces of whole pages; a page may stand in several.
+    pieces: ReportPieces,
+}
+
+impl Model for NamedPages {
+    ghost use Rattle.std.specs.Prelude.{◌+◌, ◌*◌, ◌^◌, ◌≤◌, ◌++◌, ℕ, List, All};
+    ghost use Rattle.vb_model.specs.Limits.{page_size, reserved_pages};
+    ghost use Rattle.vb_device.specs.Report.{pages_of_pieces};
+
+    ghost Value = { List ℕ };
+
+    ghost view = { λ s. s.listed.items ++ pages_of_pieces s.pieces.items };
+
+    ghost invariant = { λ s.
+        All (λ page. reserved_pages ≤ page) (s.listed.items ++ pages_of_pieces s.pieces.items) ×
+        All (λ piece. piece.addr + piece.len ≤ page_size * 2 ^ 32) s.pieces.items };
+}
+
+impl NamedPages {
+    /// No pages.
+    fn none() -> NamedPages
+        ensures { result ≡ [] }
+    {
+        NamedPages {
+            listed: ArrayVec::new(),
+            pieces: ArrayVec::new(),
+        }
+    }
+
+    /// How many there are; a page that a report names again counts again.
+    fn count(&self) -> u32
+        ensures count { result ≡ length self.now }
+        ensures above { All (λ page. reserved_pages ≤ page) self.now }
+    {
+        self.listed.len() as u32 + count_pages(&self.pieces)
+    }
+
+    /// Page number `k`, from 0.
+    fn at(&self, k: u32) -> u32
+        requires { k < length self.now }
+        ensures { slice_get self.now k ≡ Some result }
+    {
+        let listed = self.listed.len() as u32;
+        if k < listed {
+            self.listed[k as usize]
+        } else {
+            page_at(&self.pieces, k - listed)
+        }
+    }
+}
+
+/// A chain that was taken and isn't used yet.
+#[derive(Drop)]
+pub(crate) struct TakenRequest {
+    /// The first descriptor of its chain.
+    head: u16,
+    /// The pages that it names.
+    pages: NamedPages,
+    /// How many of them the device has visited, from the first on.
+    visited: u32,
+}
+
+impl Model for TakenRequest {
+    ghost use Rattle.vb_model.specs.Requests.{Request};
+
+    ghost Value = { Request };
+
+    ghost view = { λ r. record { head = r.head; pages = r.pages; visited = r.visited } };
+}
+
+impl Default for TakenRequest {
+    fn default() -> Self {
+        TakenRequest {
+            head: 0,
+            pages: NamedPages::none(),
+            visited: 0,
+        }
+    }
+}
+
+impl TakenRequest {
+    /// A chain from this head, of whose pages none is visited.
+    pub(crate) fn new(head: u16, pages: NamedPages) -> TakenRequest
+        ensures { result ≡ record { head = head; pages = pages; visited = 0 } }
+    {
+        TakenRequest {
+            head,
+            pages,
+            visited: 0,
+        }
+    }
+
+    /// The head of its chain.
+    pub(crate) fn head(&self) -> u16
+        ensures { result ≡ self.now.head }
+    {
+        self.head
+    }
+
+    /// How many pages it names; one that a report names again counts again.
+    pub(crate) fn count(&self) -> u32
+        ensures count { result ≡ length self.now.pages }
+        ensures above { All (λ page. reserved_pages ≤ page) self.now.pages }
+    {
+        self.pages.count()
+    }
+
+    /// The page that it names as number `k`, from 0.
+    pub(crate) fn page(&self, k: u32) -> u32
+        requires { k < length self.now.pages }
+        ensures { slice_get self.now.pages k ≡ Some result }
+    {
+        self.pages.at(k)
+    }
+
+    /// Whether a page of it isn't visited yet.
+    pub(crate) fn is_unvisited(&self) -> bool
+        ensures { result ≡ is_unvisited self.now }
+    {
+        self.visited < self.count()
+    }
+
+    /// Counts its next page as visited; answers the page.
+    pub(crate) fn visit(&mut self) -> u32
+        requires { is_unvisited self.old ≡ true }
+        ensures page { slice_get self.old.pages self.old.visited ≡ Some result }
+        ensures visited { self.new ≡ record self.old { visited = self.old.visited + 1 } }
+    {
+        let count = self.count();
+        prove!(self.visited < count);
+        let page = self.page(self.visited);
+        self.visited += 1;
+        page
+    }
+}
+
+/// The pages that a chain of these pieces names on a queue, or the first rule that it breaks there.
+/// What a buffer of statistics says replaces `last`.
+pub(crate) fn read_chain<G: GuestBytes>(
+    queue: u32,
+    ram: &G,
+    pieces: &[Piece],
+    last: &mut Statistics,
+) -> Result<NamedPages, ChainFault>
+    requires inside { All
+        (λ piece. piece.addr + piece.len ≤ page_size * length (G.mem ram.now)) pieces.now }
+    requires few { length pieces.now ≤ MAX_QUEUE_SIZE }
+    ensures pages { MatchResult result
+        (λ pages. request_of queue (G.mem ram.now) pieces.now ≡ Ok pages)
+        (λ fault. request_of queue (G.mem ram.now) pieces.now ≡ Err fault) }
+    ensures said { OnOk result ((last.new.free ≡ (noted queue (G.mem ram.now) pieces.now
+        (record { free = last.old.free; total = last.old.total })).free) ×
+        (last.new.total ≡ (noted queue (G.mem ram.now) pieces.now
+        (record { free = last.old.free; total = last.old.total })).total)) }
+    ensures err { OnErr result (last.new ≡ last.old) }
+{
+    // That memory has fewer than 2^32 pages is known from here on.
+    let _few = ram.pages();
+    match queue {
+        STATISTICS_QUEUE => {
+            *last = read_statistics(ram, pieces)?;
+            Ok(NamedPages::none())
+        }
+        REPORT_QUEUE => Ok(NamedPages {
+            listed: ArrayVec::new(),
+            pieces: report_of(pieces)?,
+        }),
+        _ => Ok(NamedPages {
+            listed: page_request(ram, pieces)?,
+            pieces: ArrayVec::new(),
+        }),
+    }
+}
