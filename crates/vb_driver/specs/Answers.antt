@@ -7,18 +7,19 @@ use Rattle.vb_model.specs.declared.replies.Refusal.TheVariants.{RingBroken, Alre
 use Rattle.vb_model.specs.declared.limits.TheConstants.{MIN_GUEST_PAGES}
 use Rattle.vb_model.specs.Limits.{ring_and_buffer_pages}
 pub use Rattle.vb_model.specs.Pages.{block_at}
-use Rattle.vb_model.specs.Guest.{deflate_on_oom}
+use Rattle.vb_model.specs.Pages.{Block, reported, maximal_free_blocks}
+use Rattle.vb_model.specs.Guest.{deflate_on_oom, reporting}
 pub use Rattle.vb_model.specs.FirstRefusal.{refusal_in}
 use Rattle.vb_model.specs.FirstRefusal.{Test, ◌⇒◌}
 pub use Rattle.vb_model.specs.Tables.{is_up}
 use Rattle.vb_model.specs.Tables.{pages_to_offer, pages_to_ask, pages_when_short}
 use Rattle.vb_model.specs.Tables.{asking_tests, featured_tests, reap_tests as tests_of_reap}
 use Rattle.vb_model.specs.Tables.{alloc_tests as tests_of_alloc, free_tests as tests_of_free}
-use Rattle.vb_model.specs.Tables.{request_tests as tests_of_request}
+use Rattle.vb_model.specs.Tables.{request_tests as tests_of_request, stats_tests as tests_of_stats}
 use Rattle.vb_model.specs.Life.{feature_tests}
 use Rattle.vb_ram.specs.Pages.{Pages, frame_at}
 use Rattle.vb_ram.specs.Part.{Part}
-use Rattle.vb_ring.specs.Ends.{outstanding, used_answer}
+use Rattle.vb_ring.specs.Ends.{DriverEnd, outstanding, used_answer}
 use Rattle.vb_driver.specs.State.{Side, DriverState, room}
 
 -- ---- the numbers of pages that a call moves
@@ -59,14 +60,28 @@ oom_tests d part n =
     featured_tests part.status (deflate_on_oom d.features) (outstanding d.deflate.ring) (room d)
     (oom_count d n)
 
--- the used ring says what no device may say
-abbrev pub is_ring_broken : Pages → Side → Bool
-is_ring_broken mem side = is_err (used_answer mem side.ring)
+-- the first blocks of order 4 or more from this page on that are wholly free
+abbrev pub blocks_to_report : DriverState → ℕ → List Block
+blocks_to_report d from = reported (room d) from (maximal_free_blocks d.places)
 
--- a reap from the queue whose side this is
-abbrev pub reap_tests : Pages → Part → DriverState → Side → ℕ → List Test
-reap_tests mem part d side queue =
-    tests_of_reap queue part.status d.features ++ ((is_ring_broken mem side ⇒ RingBroken) ∷ [])
+abbrev pub report_tests : DriverState → Part → ℕ → List Test
+report_tests d part from =
+    featured_tests part.status (reporting d.features) (outstanding d.report.ring) 1
+    (length (blocks_to_report d from))
+
+-- the used ring says what no device may say
+abbrev pub is_ring_broken : Pages → DriverEnd → Bool
+is_ring_broken mem ring = is_err (used_answer mem ring)
+
+-- a reap from the queue whose ring this is
+abbrev pub reap_tests : Pages → Part → DriverState → DriverEnd → ℕ → List Test
+reap_tests mem part d ring queue =
+    tests_of_reap queue part.status d.features ++ ((is_ring_broken mem ring ⇒ RingBroken) ∷ [])
+
+abbrev pub stats_tests : Pages → Part → DriverState → List Test
+stats_tests mem part d =
+    tests_of_stats part.status d.features
+    ++ ((is_ring_broken mem d.statistics ⇒ RingBroken) ∷ [])
 
 -- memory has as many pages as the smallest guest's
 abbrev pub IsLargeEnough : Pages → Type 0

@@ -10,9 +10,9 @@ use Rattle.vb_pages.specs.declared.fault.PageFault.TheVariants.{BadOrder as Orde
 use Rattle.vb_pages.specs.declared.fault.PageFault.TheVariants.{BadCpu as NoSuchCpu}
 use Rattle.vb_pages.specs.declared.fault.PageFault.TheVariants.{NoPages as NoFreeBlock}
 use Rattle.vb_pages.specs.declared.fault.PageFault.TheVariants.{NotHeld as NoSuchBlock}
-use Rattle.vb_pages.specs.FreePages.{FreePages, is_free_in as is_free_page}
+use Rattle.vb_pages.specs.FreePages.{FreePages, drained, is_free_in as is_free_page}
 use Rattle.vb_pages.specs.PageState.{PageState, cpu_count, AllocatesBlock, with_free_block}
-use Rattle.vb_pages.specs.Areas.{block_at}
+use Rattle.vb_pages.specs.Areas.{block_at, with_pages, without_pages}
 
 -- whether each page is free
 unfoldable pub flags_of : FreePages → List Bool
@@ -58,6 +58,15 @@ Allots s cpu order (Err refusal) new = new ≡ s
 abbrev pub all_given : List ℕ → PageState → PageState
 all_given [] s = s
 all_given (page ∷ pages) s = all_given pages (with_free_block (block_at page 0) s)
+
+-- these pages come to the areas
+abbrev pub areas_with : List ℕ → FreePages → FreePages
+areas_with pages f = record f { areas = with_pages pages f.areas }
+
+-- all lists are drained, and then these pages leave the areas
+abbrev pub areas_without : List ℕ → FreePages → FreePages
+areas_without pages f =
+    record (drained f) { areas = without_pages pages (drained f).areas }
 
 -- No page is both free and in a held block.
 pub record AreApart (s : PageState) : Type 0 where

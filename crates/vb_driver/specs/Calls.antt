@@ -2,42 +2,52 @@
 -- VIRTIO 1.1, 3.1.1 and 5.5.6.
 use Rattle.std.specs.Prelude.{◌≡◌, ◌≢◌, ℕ, ◌+◌, ◌%◌, ◌<◌, ◌≤◌, ◌==◌, List, [], ◌∷◌}
 use Rattle.std.specs.Prelude.{◌++◌, length, take, map, if◌then◌else◌, Option, Some, None, Result}
-use Rattle.std.specs.Prelude.{Ok, IfOk, IfErr, OnErr, OnOk, MatchOption, IsTrue, count_by}
+use Rattle.std.specs.Prelude.{Ok, IfOk, IfErr, OnErr, OnOk, MatchOption, MatchBool, IsTrue}
+use Rattle.std.specs.Prelude.{count_by, Bool, true, false, ◌*◌}
 use Rattle.std.specs.Prelude.{slice_set, bit_or}
 use Rattle.std.specs.List.{list_all}
 use Rattle.vb_model.specs.declared.places.Place.{Place}
 use Rattle.vb_model.specs.declared.places.PlaceCounts.{PlaceCounts}
 use Rattle.vb_model.specs.declared.places.Place.TheVariants.{Free, Used, Giving, Lent, Taking}
+use Rattle.vb_model.specs.declared.places.Place.TheVariants.{Reporting}
+use Rattle.vb_model.specs.declared.layout.TheConstants.{INFLATE_QUEUE, DEFLATE_QUEUE}
+use Rattle.vb_model.specs.declared.layout.TheConstants.{STATISTICS_PAGE, STATISTIC_SIZE}
 use Rattle.vb_model.specs.declared.replies.Refusal.{Refusal}
 use Rattle.vb_model.specs.declared.replies.Refusal.TheVariants.{RingBroken, AlreadyUp, NoFrame}
+use Rattle.vb_model.specs.declared.replies.Refusal.TheVariants.{Nothing}
 use Rattle.vb_model.specs.Tests.{pages_where}
 use Rattle.vb_model.specs.Pages.{Block, is_free, is_used, is_giving, is_lent, is_taking}
 use Rattle.vb_model.specs.Pages.{is_stranded, is_reporting, is_lent_or_taking, place_of, placed}
-use Rattle.vb_model.specs.Pages.{pages_of, is_wholly_free}
+use Rattle.vb_model.specs.Pages.{pages_of, pages_of_all, is_wholly_free}
+use Rattle.vb_model.specs.Requests.{Figures}
+use Rattle.vb_model.specs.Guest.{stats_vq}
 use Rattle.vb_model.specs.Driver.{AllDistinct, with_block, without_block}
 use Rattle.vb_model.specs.Life.{place_after_reset, feature_refusal, accepted_before}
 use Rattle.vb_model.specs.Limits.{max_outstanding, page_size}
 use Rattle.vb_model.specs.Layout.{buffers_page}
 use Rattle.vb_model.specs.Status.{failed}
 use Rattle.vb_model.specs.Refusals.{first_refusal}
-use Rattle.vb_ram.specs.Pages.{Pages, byte_at, page_at, frame_at, contents_at}
+use Rattle.vb_ram.specs.Pages.{Pages, SameIn}
 use Rattle.vb_ram.specs.Part.{Part}
-use Rattle.vb_pages.specs.FreePages.{FreePages}
+use Rattle.vb_pages.specs.FreePages.{FreePages, drained}
 use Rattle.vb_pages.specs.PageState.{TakesFree, freed}
 use Rattle.vb_status.specs.After.{part_after_reset}
 use Rattle.vb_chain.specs.Table.{descriptor_at}
-use Rattle.vb_ring.specs.Ends.{after_add, after_take, next_head, used_answer}
+use Rattle.vb_ring.specs.Ends.{DriverEnd, after_add, after_take, next_head, used_answer}
 use Rattle.vb_ring.specs.Meaning.{UsedElem, ShowsEntries, Shows, Tracks}
 use Rattle.vb_ring.specs.Calls.{TakesUsedBy}
 use Rattle.vb_driver.specs.declared.answers.Posted.{Posted}
 use Rattle.vb_driver.specs.declared.answers.Reaped.{Reaped}
-use Rattle.vb_driver.specs.Coding.{IsCoded, SameButBuffer, ring_pages}
-use Rattle.vb_driver.specs.State.{Side, DriverState, AreRequests, IsDriver, fresh_side, sent_by}
-use Rattle.vb_driver.specs.State.{page_state, index_values}
-use Rattle.vb_driver.specs.Areas.{Allots, all_given}
+use Rattle.vb_driver.specs.Coding.{IsCoded, SameButBuffer, AreFigures, AreReported, SameButPages}
+use Rattle.vb_driver.specs.Coding.{AreZeroed, ring_pages}
+use Rattle.vb_driver.specs.State.{Side, ReportSide, DriverState, AreRequests, IsDriver, fresh_side}
+use Rattle.vb_driver.specs.State.{fresh_statistics, fresh_report, sent_by, page_state, figures_of}
+use Rattle.vb_driver.specs.State.{index_values}
+use Rattle.vb_driver.specs.Areas.{Allots, all_given, areas_with, areas_without}
 use Rattle.vb_driver.specs.Answers.{refusal_in, inflate_count, deflate_count, oom_count, block_at}
 use Rattle.vb_driver.specs.Answers.{alloc_tests, free_tests, inflate_tests, deflate_tests}
-use Rattle.vb_driver.specs.Answers.{oom_tests, reap_tests, init_tests}
+use Rattle.vb_driver.specs.Answers.{oom_tests, report_tests, reap_tests, stats_tests, init_tests}
+use Rattle.vb_driver.specs.Answers.{blocks_to_report}
 
 -- Nothing is changed.
 pub record Unchanged (m1 m2 : Pages) (p1 p2 : Part) (d1 d2 : DriverState) : Type 0 where
@@ -95,6 +105,17 @@ pub record FreesBy {T : Type 0} (d1 d2 : DriverState) (cpu start order : ℕ)
 
 -- ---- requests
 
+-- One more head is published, and stands last in what the ring shows.
+pub record Announces (m1 m2 : Pages) (r1 r2 : DriverEnd) (head : ℕ) : Type 0 where
+  pub entries : (heads : List ℕ) (elems : List UsedElem)
+      → length heads % index_values ≡ r1.published
+      → ShowsEntries m1 r1.layout r1.size heads elems
+      → ShowsEntries m2 r1.layout r1.size (heads ++ head ∷ []) elems
+  pub shown : (heads : List ℕ) (elems : List UsedElem) (s : ℕ) → Tracks m1 r1 heads elems s
+      → Shows m1 r1.layout r1.size heads elems
+      → Shows m2 r1.layout r1.size (heads ++ head ∷ []) elems
+      × Tracks m2 r2 (heads ++ head ∷ []) elems s
+
 -- A request for these pages goes out on a queue whose buffers begin at page `base`: it has the
 -- lowest head that none of the queue's requests has, stands coded in its buffer, and is published
 -- last.
@@ -108,14 +129,7 @@ pub record Posts (m1 m2 : Pages) (s1 s2 : Side) (base : ℕ) (pages : List ℕ)
   pub coded : IsCoded m2 s1.ring.layout.table base head pages
   pub descriptors : (i : ℕ) → i < s1.ring.size → i ≢ head
       → descriptor_at m2 s1.ring.layout.table i ≡ descriptor_at m1 s1.ring.layout.table i
-  pub entries : (heads : List ℕ) (elems : List UsedElem)
-      → length heads % index_values ≡ s1.ring.published
-      → ShowsEntries m1 s1.ring.layout s1.ring.size heads elems
-      → ShowsEntries m2 s1.ring.layout s1.ring.size (heads ++ head ∷ []) elems
-  pub shown : (heads : List ℕ) (elems : List UsedElem) (s : ℕ) → Tracks m1 s1.ring heads elems s
-      → Shows m1 s1.ring.layout s1.ring.size heads elems
-      → Shows m2 s1.ring.layout s1.ring.size (heads ++ head ∷ []) elems
-      × Tracks m2 s2.ring (heads ++ head ∷ []) elems s
+  pub announces : Announces m1 m2 s1.ring s2.ring head
   pub rest : SameButBuffer m1 m2 s1.ring.layout.table base head
   pub requests : AreRequests s2
 
@@ -177,28 +191,80 @@ pub record DeflatesOnOomBy (m1 m2 : Pages) (p1 p2 : Part) (d1 d2 : DriverState) 
   pub refused : OnErr result (Unchanged m1 m2 p1 p2 d1 d2)
   pub asks : IfOk result (AsksBack m1 m2 p1 p2 d1 d2 (oom_count d1 n))
 
+-- A report of these blocks goes out: its chain has the first descriptors, one a block, and its head,
+-- 0, is published. Other descriptors, other pages, the used ring and the frames are as before.
+pub record PostsReport (m1 m2 : Pages) (s1 s2 : ReportSide) (blocks : List Block) : Type 0 where
+  pub state : s2 ≡ record { ring = after_add s1.ring (length blocks) (Ok 0); blocks = blocks }
+  pub coded : AreReported m2 s1.ring.layout.table blocks
+  pub descriptors : (i : ℕ) → i < s1.ring.size → length blocks ≤ i
+      → descriptor_at m2 s1.ring.layout.table i ≡ descriptor_at m1 s1.ring.layout.table i
+  pub announces : Announces m1 m2 s1.ring s2.ring 0
+  pub rest : SameButPages m1 m2 s1.ring.layout.table s1.ring.layout.table
+
+-- Free blocks are reported to the host; all processors' lists are drained before.
+pub record Reports (m1 m2 : Pages) (p1 p2 : Part) (d1 d2 : DriverState) (blocks : List Block)
+    (posted : Posted) : Type 0 where
+  pub posts : PostsReport m1 m2 d1.report d2.report blocks
+  pub head : posted.head ≡ 0
+  pub pages : posted.pages ≡ length (pages_of_all blocks)
+  pub part : p2 ≡ p1
+  pub state : d2 ≡ record d1 {
+    places = placed (pages_of_all blocks) Reporting d1.places;
+    areas = areas_without (pages_of_all blocks) d1.areas;
+    report = d2.report;
+  }
+
+-- Where there is nothing to report, all lists are drained all the same.
+abbrev pub unreported : Refusal → DriverState → DriverState
+unreported Nothing d = record d { areas = drained d.areas }
+unreported _ d = d
+
+pub record ReportsBy (m1 m2 : Pages) (p1 p2 : Part) (d1 d2 : DriverState) (from : ℕ)
+    (result : Result Posted Refusal) : Type 0 where
+  pub driver : IsDriver d1
+  pub refusal : refusal_in result ≡ first_refusal (report_tests d1 p1 from)
+  pub refused : IfErr result (λ refusal. Unchanged m1 m2 p1 p2 (unreported refusal d1) d2)
+  pub reports : IfOk result (Reports m1 m2 p1 p2 d1 d2 (blocks_to_report d1 from))
+
 -- ---- used requests
 
--- A driver's side of queue 0, or of queue 1.
-abbrev pub side_of : ℕ → DriverState → Side
-side_of queue d = if queue == 0 then d.inflate else d.deflate
+-- The driver's end of the ring of queue 0, 1 or 4.
+abbrev pub ring_of : ℕ → DriverState → DriverEnd
+ring_of queue d =
+    if queue == INFLATE_QUEUE then d.inflate.ring
+    else (if queue == DEFLATE_QUEUE then d.deflate.ring else d.report.ring)
 
-abbrev pub with_side : ℕ → Side → DriverState → DriverState
-with_side queue side d =
-    if queue == 0 then record d { inflate = side } else record d { deflate = side }
-
--- Where the pages of a used request go.
-abbrev pub place_reaped : ℕ → Place
-place_reaped queue = if queue == 0 then Lent else Free
-
--- The page areas, once these pages of a used request have moved on.
-abbrev pub areas_reaped : ℕ → List ℕ → DriverState → FreePages
-areas_reaped queue pages d = if queue == 0 then d.areas else (all_given pages (page_state d)).free
+-- The pages that the request with this head names on queue 0, 1 or 4.
+abbrev pub pages_sent : ℕ → ℕ → DriverState → List ℕ
+pages_sent queue head d =
+    if queue == INFLATE_QUEUE then sent_by d.inflate head
+    else (if queue == DEFLATE_QUEUE then sent_by d.deflate head
+    else pages_of_all d.report.blocks)
 
 -- The request is gone.
 abbrev pub after_reap : Side → ℕ → Side
 after_reap side head =
     record { ring = after_take side.ring (Ok (Some head)); sent = slice_set side.sent head [] }
+
+abbrev pub without_request : ℕ → ℕ → DriverState → DriverState
+without_request queue head d =
+    if queue == INFLATE_QUEUE then record d { inflate = after_reap d.inflate head }
+    else (if queue == DEFLATE_QUEUE then record d { deflate = after_reap d.deflate head }
+    else record d {
+      report = record { ring = after_take d.report.ring (Ok (Some head)); blocks = [] };
+    })
+
+-- Where the pages of a used request go.
+abbrev pub place_reaped : ℕ → Place
+place_reaped queue = if queue == INFLATE_QUEUE then Lent else Free
+
+-- The page areas, once these pages of a used request have moved on: those of a deflate come back one
+-- by one, those of a report in their blocks.
+abbrev pub areas_reaped : ℕ → List ℕ → DriverState → FreePages
+areas_reaped queue pages d =
+    if queue == INFLATE_QUEUE then d.areas
+    else (if queue == DEFLATE_QUEUE then (all_given pages (page_state d)).free
+    else areas_with pages d.areas)
 
 -- These pages of a used request are where they go.
 abbrev pub moved_on : ℕ → List ℕ → DriverState → DriverState
@@ -211,10 +277,9 @@ moved_on queue pages d =
 -- The used request's pages move on, and then `actual` is told.
 pub record Reaps (p1 p2 : Part) (d1 d2 : DriverState) (queue : ℕ) (reaped : Reaped) : Type 0 where
   pub small : reaped.head < max_outstanding
-  pub pages : reaped.pages ≡ length (sent_by (side_of queue d1) reaped.head)
+  pub pages : reaped.pages ≡ length (pages_sent queue reaped.head d1)
   pub state : d2
-      ≡ with_side queue (after_reap (side_of queue d1) reaped.head)
-      (moved_on queue (sent_by (side_of queue d1) reaped.head) d1)
+      ≡ without_request queue reaped.head (moved_on queue (pages_sent queue reaped.head d1) d1)
   pub part : p2 ≡ record p1 { actual = count_by is_lent_or_taking d2.places }
 
 -- What the answer says of the used request that stands next.
@@ -231,37 +296,86 @@ pub record ReapsBy (m1 m2 : Pages) (p1 p2 : Part) (d1 d2 : DriverState) (queue :
     (result : Result (Option Reaped) Refusal) : Type 0 where
   pub driver : IsDriver d1
   pub mem : m2 ≡ m1
-  pub refusal : refusal_in result ≡ first_refusal (reap_tests m1 p1 d1 (side_of queue d1) queue)
+  pub refusal : refusal_in result ≡ first_refusal (reap_tests m1 p1 d1 (ring_of queue d1) queue)
   pub refused : OnErr result (d2 ≡ d1)
   pub failed : IfErr result (λ refusal. p2 ≡ after_refusal refusal p1)
-  pub next : IfOk result (λ got. used_answer m1 (side_of queue d1).ring ≡ Ok (next_of got))
-  pub ring : OnOk result (TakesUsedBy m1 (side_of queue d1).ring (side_of queue d2).ring
-      (used_answer m1 (side_of queue d1).ring))
+  pub next : IfOk result (λ got. used_answer m1 (ring_of queue d1) ≡ Ok (next_of got))
+  pub ring : OnOk result (TakesUsedBy m1 (ring_of queue d1) (ring_of queue d2)
+      (used_answer m1 (ring_of queue d1)))
   pub reaps : IfOk result (λ got. MatchOption got ((p2 ≡ p1) × (d2 ≡ d1)) (Reaps p1 p2 d1 d2 queue))
+
+-- ---- statistics
+
+-- The statistics buffer goes out with these figures: it has descriptor 0, and its head, 0, is
+-- published. The rest of its page, other descriptors, other pages, the used ring and the frames are as
+-- before.
+pub record PostsBuffer (m1 m2 : Pages) (r1 r2 : DriverEnd) (figures : Figures) : Type 0 where
+  pub state : r2 ≡ after_add r1 1 (Ok 0)
+  pub coded : AreFigures m2 r1.layout.table figures
+  pub beyond : SameIn m1 m2 STATISTICS_PAGE (2 * STATISTIC_SIZE) page_size
+  pub descriptors : (i : ℕ) → i < r1.size → i ≢ 0
+      → descriptor_at m2 r1.layout.table i ≡ descriptor_at m1 r1.layout.table i
+  pub announces : Announces m1 m2 r1 r2 0
+  pub rest : SameButPages m1 m2 r1.layout.table STATISTICS_PAGE
+
+-- The driver's end of the queue of statistics, once it has seen that the buffer was used.
+abbrev pub emptied : DriverEnd → DriverEnd
+emptied ring = after_take ring (Ok (Some 0))
+
+-- The buffer was used, and goes out with the figures of now.
+pub record Refills (m1 m2 : Pages) (p1 p2 : Part) (d1 d2 : DriverState) : Type 0 where
+  pub used : used_answer m1 d1.statistics ≡ Ok (Some 0)
+  pub takes : TakesUsedBy m1 d1.statistics (emptied d1.statistics) (Ok (Some 0))
+  pub posts : PostsBuffer m1 m2 (emptied d1.statistics) d2.statistics (figures_of d1)
+  pub part : p2 ≡ p1
+  pub state : d2 ≡ record d1 { statistics = d2.statistics }
+
+-- The buffer wasn't used, and nothing is changed.
+pub record WasntUsed (m1 m2 : Pages) (p1 p2 : Part) (d1 d2 : DriverState) : Type 0 where
+  pub unused : used_answer m1 d1.statistics ≡ Ok None
+  pub unchanged : Unchanged m1 m2 p1 p2 d1 d2
+
+pub record FillsBy (m1 m2 : Pages) (p1 p2 : Part) (d1 d2 : DriverState)
+    (result : Result Bool Refusal) : Type 0 where
+  pub driver : IsDriver d1
+  pub refusal : refusal_in result ≡ first_refusal (stats_tests m1 p1 d1)
+  pub refused : IfErr result (λ refusal. Unchanged m1 m2 (after_refusal refusal p1) p2 d1 d2)
+  pub fills : IfOk result (λ filled. MatchBool filled
+      (Refills m1 m2 p1 p2 d1 d2) (WasntUsed m1 m2 p1 p2 d1 d2))
 
 -- ---- lives
 
 -- The ring of a queue shows that nothing was published and nothing used.
-pub record IsNewRing (mem : Pages) (side : Side) : Type 0 where
-  pub shows : Shows mem side.ring.layout side.ring.size [] []
-  pub tracks : Tracks mem side.ring [] [] 0
+pub record IsNewRing (mem : Pages) (ring : DriverEnd) : Type 0 where
+  pub shows : Shows mem ring.layout ring.size [] []
+  pub tracks : Tracks mem ring [] [] 0
 
--- The rings begin anew in zeroed pages, and the device is told so: its status is ACKNOWLEDGE,
--- DRIVER, FEATURES_OK and DRIVER_OK (1 + 2 + 8 + 4).
+-- Once the rings are zeroed: where a queue of statistics was agreed on, the first buffer goes out,
+-- filled; else that ring is as new.
+abbrev pub FirstBuffer : Bool → Pages → Pages → DriverState → DriverState → Type 0
+FirstBuffer true m1 m2 d1 d2 =
+    PostsBuffer m1 m2 (fresh_statistics d1.queue_size) d2.statistics (figures_of d1)
+FirstBuffer false m1 m2 d1 d2 =
+    (m2 ≡ m1) × (d2.statistics ≡ fresh_statistics d1.queue_size)
+
+-- The rings begin anew in zeroed pages, the first statistics buffer is filled, and the device is told
+-- so: its status is ACKNOWLEDGE, DRIVER, FEATURES_OK and DRIVER_OK (1 + 2 + 8 + 4).
 pub record Starts (m1 m2 : Pages) (p1 p2 : Part) (d1 d2 : DriverState) (wanted : ℕ) : Type 0 where
   pub part : p2 ≡ record (part_after_reset p1) { status = 15; features = wanted }
   pub driver : d2 ≡ record d1 {
     inflate = fresh_side 0 d1.queue_size;
     deflate = fresh_side 1 d1.queue_size;
+    statistics = d2.statistics;
+    report = fresh_report d1.queue_size;
     features = wanted;
   }
-  pub inflate : IsNewRing m2 d2.inflate
-  pub deflate : IsNewRing m2 d2.deflate
-  pub zero : (page offset : ℕ) → page < ring_pages → offset < page_size → byte_at m2 page offset ≡ 0
-  pub others : (page : ℕ) → ring_pages ≤ page → page_at m2 page ≡ page_at m1 page
-  pub backing : (page : ℕ) → frame_at m2 page ≡ frame_at m1 page
-  pub sizes : (page : ℕ) → length (contents_at m2 page) ≡ length (contents_at m1 page)
-  pub count : length m2 ≡ length m1
+  pub inflate : IsNewRing m2 d2.inflate.ring
+  pub deflate : IsNewRing m2 d2.deflate.ring
+  pub report : IsNewRing m2 d2.report.ring
+  pub zeroed : Pages
+  pub rings : AreZeroed m1 zeroed ring_pages
+  pub statistics : IsNewRing zeroed (fresh_statistics d1.queue_size)
+  pub buffer : FirstBuffer (stats_vq wanted) zeroed m2 d1 d2
 
 -- The device and its driver agree on the features (1 + 2 + 8).
 pub record Agrees (m1 m2 : Pages) (p1 p2 : Part) (d1 d2 : DriverState) (wanted : ℕ) : Type 0 where
@@ -297,15 +411,18 @@ pub record InitsBy {T : Type 0} (m1 m2 : Pages) (p1 p2 : Part) (d1 d2 : DriverSt
   pub refused : IfErr result (λ refusal. InitRefused refusal m1 m2 p1 p2 d1 d2 wanted)
   pub starts : OnOk result (Starts m1 m2 p1 p2 d1 d2 wanted)
 
--- A reset of the device: what was lent, or on its way, is stranded, and nothing is outstanding any
--- more. The page areas stay as they are.
+-- A reset of the device: what was lent, or on its way, is stranded, the pages of a report are free,
+-- and nothing is outstanding any more.
 pub record ResetsBy (m1 m2 : Pages) (p1 p2 : Part) (d1 d2 : DriverState) : Type 0 where
   pub driver : IsDriver d1
   pub mem : m2 ≡ m1
   pub part : p2 ≡ part_after_reset p1
   pub state : d2 ≡ record d1 {
     places = map place_after_reset d1.places;
+    areas = areas_with (pages_of_all d1.report.blocks) d1.areas;
     inflate = fresh_side 0 d1.queue_size;
     deflate = fresh_side 1 d1.queue_size;
+    statistics = fresh_statistics d1.queue_size;
+    report = fresh_report d1.queue_size;
     features = 0;
   }

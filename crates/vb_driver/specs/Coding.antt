@@ -1,12 +1,19 @@
 -- How a request stands in guest memory: VIRTIO 1.1, 5.5.6; where the buffers stand is the
 -- profile's.
 use Rattle.std.specs.Prelude.{◌≡◌, ◌≢◌, ℕ, ◌+◌, ◌*◌, ◌<◌, ◌≤◌, List, length, slice_index}
+use Rattle.std.specs.List.{range_with_len}
 use Rattle.vb_model.specs.Limits.{page_size}
 use Rattle.vb_model.specs.Layout.{buffer_page, buffer_offset}
 use Rattle.vb_model.specs.declared.layout.TheConstants.{REQUEST_BUFFER_SIZE, INFLATE_BUFFERS_PAGE}
+use Rattle.vb_model.specs.declared.layout.TheConstants.{STATISTICS_PAGE, STATISTIC_SIZE}
+use Rattle.vb_model.specs.declared.layout.TheConstants.{FREE_MEMORY_TAG, TOTAL_MEMORY_TAG}
+use Rattle.vb_model.specs.Pages.{Block}
+use Rattle.vb_model.specs.Requests.{Figures}
 use Rattle.vb_ram.specs.Pages.{Pages, field, byte_at, page_at, frame_at, contents_at, SameIn}
 use Rattle.vb_chain.specs.declared.descriptor.Descriptor.{Descriptor}
 use Rattle.vb_chain.specs.Table.{descriptor_at}
+use Rattle.vb_chain.specs.Written.{linked}
+use Rattle.vb_report.specs.Blocks.{pieces_of}
 
 -- the rings stand in the first pages, and the buffers follow
 abbrev pub ring_pages : ℕ
@@ -30,6 +37,35 @@ pub record Names (mem : Pages) (p o : ℕ) (pages : List ℕ) : Type 0 where
 pub record IsCoded (mem : Pages) (table base h : ℕ) (pages : List ℕ) : Type 0 where
   pub descriptor : descriptor_at mem table h ≡ buffer_of base h (length pages)
   pub names : Names mem (buffer_page base h) (buffer_offset h) pages
+
+-- a statistic stands at an offset of the buffer's page: its tag, and then its value (VIRTIO 1.1,
+-- 5.5.6.3)
+pub record IsStatistic (mem : Pages) (offset tag value : ℕ) : Type 0 where
+  pub tag : field 2 mem STATISTICS_PAGE offset ≡ tag
+  pub value : field 8 mem STATISTICS_PAGE (offset + 2) ≡ value
+
+-- the readable descriptor of the statistics buffer, which has two statistics
+abbrev pub statistics_buffer : Descriptor
+statistics_buffer =
+    record { addr = page_size * STATISTICS_PAGE; len = 2 * STATISTIC_SIZE; flags = 0; next = 0 }
+
+-- the table has the descriptor of the statistics buffer first, and the buffer these figures: the
+-- memory that is free, and all memory (VIRTIO 1.1, 5.5.6.4)
+pub record AreFigures (mem : Pages) (table : ℕ) (figures : Figures) : Type 0 where
+  pub descriptor : descriptor_at mem table 0 ≡ statistics_buffer
+  pub free : IsStatistic mem 0 FREE_MEMORY_TAG figures.free
+  pub total : IsStatistic mem STATISTIC_SIZE TOTAL_MEMORY_TAG figures.total
+
+-- the table has the chain of a report of these blocks: a descriptor for each, from the first on
+pub record AreReported (mem : Pages) (table : ℕ) (blocks : List Block) : Type 0 where
+  pub chain : (k : ℕ) → k < length blocks → descriptor_at mem table k
+      ≡ linked (range_with_len 0 (length blocks)) (pieces_of blocks) k
+
+-- nothing but these two pages has changed
+pub record SameButPages (old new : Pages) (ring buffer : ℕ) : Type 0 where
+  pub others : (p : ℕ) → p ≢ ring → p ≢ buffer → page_at new p ≡ page_at old p
+  pub backing : (p : ℕ) → frame_at new p ≡ frame_at old p
+  pub count : length new ≡ length old
 
 -- nothing but the ring's page and buffer h has changed
 pub record SameButBuffer (old new : Pages) (ring base h : ℕ) : Type 0 where

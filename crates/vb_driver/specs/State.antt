@@ -1,12 +1,15 @@
 -- What a balloon driver keeps.
-use Rattle.std.specs.Prelude.{map, ◌≡◌, ℕ, ◌<◌, ◌≤◌, true, false, List, []}
-use Rattle.std.specs.Prelude.{length, min, sum_by, count_by, replicate, slice_index_or}
+use Rattle.std.specs.Prelude.{map, ◌≡◌, ℕ, ◌*◌, ◌<◌, ◌≤◌, nat_lt, true, false, List, [], All, IsTrue}
+use Rattle.std.specs.Prelude.{length, min, sum_by, count_by, replicate, slice_index_or, Some, None}
+use Rattle.std.specs.Prelude.{if◌then◌else◌}
 use Rattle.vb_model.specs.declared.places.Place.{Place}
 use Rattle.vb_model.specs.declared.places.Place.TheVariants.{Reserved, Used}
-use Rattle.vb_model.specs.Limits.{max_outstanding, reserved_pages}
+use Rattle.vb_model.specs.declared.layout.TheConstants.{STATISTICS_QUEUE, REPORT_QUEUE}
+use Rattle.vb_model.specs.Limits.{max_outstanding, max_order, page_size, reserved_pages}
 use Rattle.vb_model.specs.declared.limits.TheConstants.{MIN_GUEST_PAGES, MAX_GUEST_PAGES}
 use Rattle.vb_model.specs.Pages.{Block, place_of, all_free, is_free, is_giving, is_lent, is_taking}
-use Rattle.vb_model.specs.Pages.{is_stranded, is_reporting}
+use Rattle.vb_model.specs.Pages.{is_stranded, is_reporting, is_aligned, pages_of_all}
+use Rattle.vb_model.specs.Requests.{Figures}
 use Rattle.vb_model.specs.Layout.{ring_page}
 use Rattle.vb_model.specs.Tests.{one_if}
 use Rattle.vb_model.specs.Orderly.{times}
@@ -23,9 +26,15 @@ pub record Side : Type 0 where
   pub ring : DriverEnd
   pub sent : List (List ℕ)
 
+-- Of the queue of reports: the driver's end of its ring, and the blocks of the report that is out, by
+-- rising start, none where no report is.
+pub record ReportSide : Type 0 where
+  pub ring : DriverEnd
+  pub blocks : List Block
+
 -- A driver: how large its guest is, where each page is, the blocks that allocations hold, by rising
--- start, the page areas with each processor's list, its two queues, and the features that were
--- accepted last.
+-- start, the page areas with each processor's list, its two queues of requests, its end of the queue
+-- of statistics, its queue of reports, and the features that were accepted last.
 pub record DriverState : Type 0 where
   pub pages : ℕ
   pub queue_size : ℕ
@@ -35,6 +44,8 @@ pub record DriverState : Type 0 where
   pub areas : FreePages
   pub inflate : Side
   pub deflate : Side
+  pub statistics : DriverEnd
+  pub report : ReportSide
   pub features : ℕ
 
 -- ---- what is read off a driver
@@ -63,6 +74,10 @@ room d = min d.queue_size max_outstanding
 abbrev pub sent_by : Side → ℕ → List ℕ
 sent_by side head = slice_index_or side.sent head []
 
+-- the figures of a statistics buffer, in bytes (VIRTIO 1.1, 5.5.6.3)
+abbrev pub figures_of : DriverState → Figures
+figures_of d = record { free = free_count d * page_size; total = d.pages * page_size }
+
 -- how often the requests name a page
 abbrev pub naming : ℕ → List (List ℕ) → ℕ
 naming page sent = sum_by (times page) sent
@@ -73,6 +88,9 @@ index_values = 65536
 
 -- ---- a queue of which nothing is out
 
+abbrev pub fresh_ring : ℕ → ℕ → DriverEnd
+fresh_ring queue size = fresh_end (layout_of (ring_page queue) size) size
+
 abbrev pub fresh_at : ℕ → ℕ → Side
 fresh_at page size =
     record {
@@ -82,6 +100,12 @@ fresh_at page size =
 
 abbrev pub fresh_side : ℕ → ℕ → Side
 fresh_side queue size = fresh_at (ring_page queue) size
+
+abbrev pub fresh_statistics : ℕ → DriverEnd
+fresh_statistics size = fresh_ring STATISTICS_QUEUE size
+
+abbrev pub fresh_report : ℕ → ReportSide
+fresh_report size = record { ring = fresh_ring REPORT_QUEUE size; blocks = [] }
 
 -- a driver as it is made
 abbrev pub fresh_driver : ℕ → ℕ → ℕ → DriverState
@@ -95,6 +119,8 @@ fresh_driver pages queue_size processors =
       areas = (new_page_state pages processors).free;
       inflate = fresh_side 0 queue_size;
       deflate = fresh_side 1 queue_size;
+      statistics = fresh_statistics queue_size;
+      report = fresh_report queue_size;
       features = 0;
     }
 
@@ -112,7 +138,29 @@ pub record IsQueue (side : Side) (queue descriptors : ℕ) : Type 0 where
   pub layout : side.ring.layout ≡ layout_of (ring_page queue) descriptors
   pub size : side.ring.size ≡ descriptors
 
--- A page that a request names is giving or taking, and no other names it.
+-- The one statistics buffer stands at descriptor 0, and the ring in its page.
+pub record IsStatisticsQueue (ring : DriverEnd) (descriptors : ℕ) : Type 0 where
+  pub single : (i : ℕ) → is_unused ring.owner i ≡ false → is_head ring.owner i ≡ true
+  pub first : (i : ℕ) → is_head ring.owner i ≡ true → i ≡ 0
+  pub layout : ring.layout ≡ layout_of (ring_page STATISTICS_QUEUE) descriptors
+  pub size : ring.size ≡ descriptors
+
+-- A block that can be given back to the page areas.
+pub record IsAreaBlock (b : Block) : Type 0 where
+  pub order : b.order ≤ max_order
+  pub aligned : IsTrue (is_aligned b)
+
+-- The one report has the first descriptors, one for each of its blocks, and head 0; the ring lies in
+-- its page.
+pub record IsReportQueue (side : ReportSide) (descriptors : ℕ) : Type 0 where
+  pub owned : (i : ℕ) → slice_index_or side.ring.owner i None
+      ≡ (if nat_lt i (length side.blocks) then Some 0 else None)
+  pub few : length side.blocks ≤ max_outstanding
+  pub blocks : All IsAreaBlock side.blocks
+  pub layout : side.ring.layout ≡ layout_of (ring_page REPORT_QUEUE) descriptors
+  pub size : side.ring.size ≡ descriptors
+
+-- A page that a request names is giving, taking or reporting, and no other names it.
 pub record IsDriver (d : DriverState) : Type 0 where
   pub table : length d.places ≡ d.pages
   pub least : MIN_GUEST_PAGES ≤ d.pages
@@ -120,13 +168,15 @@ pub record IsDriver (d : DriverState) : Type 0 where
   pub size : IsSize d.queue_size
   pub inflate : IsQueue d.inflate 0 d.queue_size
   pub deflate : IsQueue d.deflate 1 d.queue_size
+  pub statistics : IsStatisticsQueue d.statistics d.queue_size
+  pub report : IsReportQueue d.report d.queue_size
   pub giving : (page : ℕ) → naming page d.inflate.sent ≤ one_if (is_giving (place_of d.places page))
   pub taking : (page : ℕ) → naming page d.deflate.sent ≤ one_if (is_taking (place_of d.places page))
+  pub reporting : (page : ℕ)
+      → times page (pages_of_all d.report.blocks) ≤ one_if (is_reporting (place_of d.places page))
   -- the areas and the lists have just the free pages, for as many processors
   pub free : flags_of d.areas ≡ map is_free d.places
   pub processors : length d.areas.lists ≡ d.processors
   -- allocations hold used pages alone
   pub used : (page : ℕ) → is_covered page d.held ≡ true → place_of d.places page ≡ Used
   pub reserved : (page : ℕ) → page < reserved_pages → place_of d.places page ≡ Reserved
-  -- reports come later
-  pub unreported : (page : ℕ) → is_reporting (place_of d.places page) ≡ false

@@ -53,6 +53,8 @@ abbrev pub HasOrder : FreeBlock → Type 0
 HasOrder b = b.order ≤ max_order
 
 -- the bytes of a block, for the device to write
-abbrev pub piece_of : FreeBlock → Piece
-piece_of b =
-    record { addr = b.start * page_size; len = page_size * size (block_of b); writable = true }
+abbrev pub piece_of : Block → Piece
+piece_of b = record { addr = b.start * page_size; len = page_size * size b; writable = true }
+
+abbrev pub pieces_of : List Block → List Piece
+pieces_of blocks = map piece_of blocks

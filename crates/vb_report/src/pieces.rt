@@ -1,8 +1,8 @@
 //! What a report says of its blocks: pieces of guest memory, as a chain of descriptors has them.
 
-ghost use Rattle.std.specs.Prelude.{◌≡◌, ◌≤◌, map, length, All};
+ghost use Rattle.std.specs.Prelude.{◌≡◌, ◌≤◌, length, All};
 ghost use Rattle.vb_model.specs.Limits.{max_outstanding};
-ghost use Rattle.vb_report.specs.Blocks.{piece_of, HasOrder};
+ghost use Rattle.vb_report.specs.Blocks.{block_of, blocks_of, piece_of, pieces_of, HasOrder};
 
 use crate::MAX_BLOCKS;
 use arrayvec::ArrayVec;
@@ -16,7 +16,7 @@ pub type Pieces = ArrayVec<Piece, MAX_BLOCKS>;
 /// The piece that offers a block to the device: its bytes in guest memory, for the device to write.
 fn piece_of(block: &FreeBlock) -> Piece
     requires { HasOrder block.now }
-    ensures { result ≡ piece_of block.now }
+    ensures { result ≡ piece_of (block_of block.now) }
 {
     Piece {
         addr: u64::from(block.start) * u64::from(limits::PAGE_SIZE),
@@ -30,7 +30,7 @@ fn piece_of(block: &FreeBlock) -> Piece
 pub fn encode(blocks: &[FreeBlock]) -> Pieces
     requires count { length blocks.now ≤ max_outstanding }
     requires orders { All HasOrder blocks.now }
-    ensures { result.items ≡ map piece_of blocks.now }
+    ensures { result.items ≡ pieces_of (blocks_of blocks.now) }
 {
     let mut pieces = Pieces::new();
     for block in blocks {
