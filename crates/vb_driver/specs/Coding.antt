@@ -41,8 +41,8 @@ pub record IsCoded (mem : Pages) (table base h : ℕ) (pages : List ℕ) : Type 
 -- a statistic stands at an offset of the buffer's page: its tag, and then its value (VIRTIO 1.1,
 -- 5.5.6.3)
 pub record IsStatistic (mem : Pages) (offset tag value : ℕ) : Type 0 where
-  pub tag : field 2 mem STATISTICS_PAGE offset ≡ tag
-  pub value : field 8 mem STATISTICS_PAGE (offset + 2) ≡ value
+  pub tagged : field 2 mem STATISTICS_PAGE offset ≡ tag
+  pub valued : field 8 mem STATISTICS_PAGE (offset + 2) ≡ value
 
 -- the readable descriptor of the statistics buffer, which has two statistics
 abbrev pub statistics_buffer : Descriptor
