@@ -35,3 +35,6 @@ pub mod Supplying
 pub mod Claiming
 pub mod InitStep
 pub mod ResetStep
+pub mod ReportChain
+pub mod BufferChain
+pub mod EachOnce
