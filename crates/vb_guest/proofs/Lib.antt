@@ -38,3 +38,5 @@ pub mod ResetStep
 pub mod ReportChain
 pub mod BufferChain
 pub mod EachOnce
+pub mod OwnBlocks
+pub mod SameRefusals
