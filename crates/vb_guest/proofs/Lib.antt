@@ -1,3 +1,9 @@
+pub mod RingHeads
+pub mod RingPosted
+pub mod RingTaken
+pub mod RingUsed
+pub mod RingReaped
+pub mod RingApart
 pub mod Heads
 pub mod Taking
 pub mod Apart
