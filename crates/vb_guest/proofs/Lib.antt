@@ -46,3 +46,9 @@ pub mod BufferChain
 pub mod EachOnce
 pub mod OwnBlocks
 pub mod SameRefusals
+pub mod BufferLines
+pub mod ReportLines
+pub mod Handing
+pub mod AskStep
+pub mod TakeBufferStep
+pub mod TakeReportStep
