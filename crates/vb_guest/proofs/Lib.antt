@@ -41,3 +41,14 @@ pub mod Supplying
 pub mod Claiming
 pub mod InitStep
 pub mod ResetStep
+pub mod ReportChain
+pub mod BufferChain
+pub mod EachOnce
+pub mod OwnBlocks
+pub mod SameRefusals
+pub mod BufferLines
+pub mod ReportLines
+pub mod Handing
+pub mod AskStep
+pub mod TakeBufferStep
+pub mod TakeReportStep
