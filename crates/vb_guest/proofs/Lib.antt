@@ -52,3 +52,4 @@ pub mod Handing
 pub mod AskStep
 pub mod TakeBufferStep
 pub mod TakeReportStep
+pub mod FinishReportStep
