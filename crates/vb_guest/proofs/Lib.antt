@@ -53,3 +53,5 @@ pub mod AskStep
 pub mod TakeBufferStep
 pub mod TakeReportStep
 pub mod FinishReportStep
+pub mod WorkReportStep
+pub mod ReapReportStep
