@@ -49,12 +49,16 @@ by_result m p g areas si sd d2 cpu order (Ok start) did stands =
       };
       pages = ties.pages;
       queues = elim ties.queues [
-        | inl idle ↦ inl (idle_still g new refl refl refl refl refl refl refl idle)
+        | inl idle ↦ inl (idle_still g new refl refl refl refl refl refl refl refl refl idle)
         | inr run ↦ inr (record {
           state = run.state;
           backed = run.backed;
           inflate_size = run.inflate_size;
           deflate_size = run.deflate_size;
+          statistics_size = run.statistics_size;
+          report_size = run.report_size;
+          statistics = run.statistics;
+          report = run.report;
           inflate = run.inflate;
           deflate = run.deflate;
         })

@@ -227,6 +227,10 @@ inflate_reaped m1 m2 p1 p2 g areas si sd d2 (r ∷ rest) (Some x) is next did an
         backed = run.backed;
         inflate_size = run.inflate_size;
         deflate_size = run.deflate_size;
+        statistics_size = run.statistics_size;
+        report_size = run.report_size;
+        statistics = run.statistics;
+        report = run.report;
         inflate =
             reap;
         deflate = run.deflate;
@@ -347,6 +351,10 @@ deflate_reaped m1 m2 p1 p2 g areas si sd d2 (r ∷ rest) (Some x) is next did an
         backed = run.backed;
         inflate_size = run.inflate_size;
         deflate_size = run.deflate_size;
+        statistics_size = run.statistics_size;
+        report_size = run.report_size;
+        statistics = run.statistics;
+        report = run.report;
         inflate =
             run.inflate;
         deflate = reap;

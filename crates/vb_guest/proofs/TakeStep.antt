@@ -143,6 +143,10 @@ inflate_posted m1 m2 p1 p2 d g (r ∷ rest) result is did stands run free_part f
         backed = run.backed;
         inflate_size = run.inflate_size;
         deflate_size = run.deflate_size;
+        statistics_size = run.statistics_size;
+        report_size = run.report_size;
+        statistics = run.statistics;
+        report = run.report;
         inflate = line_taken m1 0 g.config.pages d.inflate p1.inflate r rest g.inflate.taken
             g.inflate.done line;
         deflate = run.deflate;
@@ -218,6 +222,10 @@ deflate_posted m1 m2 p1 p2 d g (r ∷ rest) result is did stands run free_part f
         backed = run.backed;
         inflate_size = run.inflate_size;
         deflate_size = run.deflate_size;
+        statistics_size = run.statistics_size;
+        report_size = run.report_size;
+        statistics = run.statistics;
+        report = run.report;
         deflate = line_taken m1 1 g.config.pages d.deflate p1.deflate r rest g.deflate.taken
             g.deflate.done line;
         inflate = run.inflate;

@@ -1,4 +1,5 @@
 -- The slot's new target is a step of the guest.
+use Rattle.vb_guest.proofs.Finishing.{line_finished}
 use Rattle.std.specs.Prelude.{◌≡◌, ℕ, [], refl}
 use Rattle.std.proofs.Common.{inl, inr}
 use Rattle.vb_model.specs.declared.calls.Call.TheVariants.{SetTarget}
@@ -37,12 +38,16 @@ target_step m1 m2 p1 p2 d g n memory part stands =
       };
       pages = ties.pages;
       queues = elim ties.queues [
-        | inl idle ↦ inl (idle_still g new refl refl refl refl refl refl refl idle)
+        | inl idle ↦ inl (idle_still g new refl refl refl refl refl refl refl refl refl idle)
         | inr run ↦ inr (record {
           state = run.state;
           backed = run.backed;
           inflate_size = run.inflate_size;
           deflate_size = run.deflate_size;
+          statistics_size = run.statistics_size;
+          report_size = run.report_size;
+          statistics = run.statistics;
+          report = run.report;
           inflate = run.inflate;
           deflate = run.deflate;
         })
