@@ -52,3 +52,6 @@ pub mod Handing
 pub mod AskStep
 pub mod TakeBufferStep
 pub mod TakeReportStep
+pub mod FinishReportStep
+pub mod WorkReportStep
+pub mod ReapReportStep

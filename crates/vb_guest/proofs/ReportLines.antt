@@ -14,7 +14,7 @@ use Rattle.vb_ram.specs.Part.{QueuePart}
 use Rattle.vb_chain.specs.Table.{descriptor_at}
 use Rattle.vb_chain.proofs.TableLaws.{descriptor_apart}
 use Rattle.vb_ring.specs.declared.layout.Layout.{Layout}
-use Rattle.vb_ring.specs.Ends.{DriverEnd, DeviceEnd, after_take}
+use Rattle.vb_ring.specs.Ends.{DriverEnd, DeviceEnd}
 use Rattle.vb_ring.specs.Calls.{AddsUsedBy, TakesUsedBy}
 use Rattle.vb_driver.specs.Coding.{AreReported}
 use Rattle.vb_driver.specs.State.{ReportSide}
@@ -217,20 +217,27 @@ report_used m1 m2 n side part rs i r after line is adds =
       remembers = ap (λ (l : List Request). remove l i) line.remembers;
     }
 
--- the driver sees that it was used, and no other is out
-pub report_reaped : (mem : Pages) (n : ℕ) (side : ReportSide) (part : QueuePart) (r : Request)
-    → ReportLine mem n side part (record { posted = []; taken = []; done = r ∷ [] })
-    → TakesUsedBy mem side.ring (after_take side.ring (Ok (Some r.head))) (Ok (Some r.head))
-    → ReportLine mem n
-    (record { ring = after_take side.ring (Ok (Some r.head)); blocks = [] }) part no_requests
-report_reaped mem n side part r line takes =
-    let P : Request → Type 0 = IsReport side.ring.size n [] in
+-- the driver sees that it was used; no other is out
+pub report_reaped : (mem : Pages) (n : ℕ) (side : ReportSide) (after : DriverEnd)
+    (part : QueuePart) (posted taken : List Request) (r : Request) (rest : List Request)
+    → ReportLine mem n side part (record { posted = posted; taken = taken; done = r ∷ rest })
+    → length posted + (length taken + length (r ∷ rest)) ≤ 1
+    → TakesUsedBy mem side.ring after (Ok (Some r.head))
+    → ReportLine mem n (record { ring = after; blocks = [] }) part
+    (record { posted = posted; taken = taken; done = rest })
+report_reaped mem n side after part [] [] r [] line few takes =
+    let P : Request → Type 0 = IsReport after.size n [] in
     record {
-      ring = ring_reaped mem 4 side.ring (after_take side.ring (Ok (Some r.head))) part.next_avail
-          part.next_used [] [] r.head [] line.ring takes;
+      ring = ring_reaped mem 4 side.ring after part.next_avail part.next_used [] [] r.head []
+          line.ring takes;
       posted = All-nil P;
       taken = All-nil P;
       done = All-nil P;
       coded = All-nil (λ (x : Request). AreReported mem 3 []);
       remembers = line.remembers;
     }
+report_reaped mem n side after part [] [] r (x ∷ rest) line few takes = absurd (omega (arith, few))
+report_reaped mem n side after part [] (x ∷ taken) r rest line few takes =
+    absurd (omega (arith, few))
+report_reaped mem n side after part (x ∷ posted) taken r rest line few takes =
+    absurd (omega (arith, few))

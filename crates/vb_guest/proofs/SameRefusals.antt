@@ -19,7 +19,7 @@ abbrev pub IsIdleStatus : ℕ → Type 0
 IsIdleStatus status = (status ≡ 0) ⊎ (status ≡ 131)
 
 -- what holds at both statuses before an initialisation
-at_both : (P : ℕ → Type 0) (status : ℕ) → IsIdleStatus status → P 0 → P 131 → P status
+pub at_both : (P : ℕ → Type 0) (status : ℕ) → IsIdleStatus status → P 0 → P 131 → P status
 at_both P status (inl e) a b = subst P (sym e) a
 at_both P status (inr e) a b = subst P (sym e) b
 
