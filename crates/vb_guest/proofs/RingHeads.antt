@@ -6,7 +6,7 @@ use Rattle.std.proofs.lemmas.List.{length-map, map-append}
 use Rattle.std.proofs.lemmas.List.Sums.{sum_by-remove}
 use Rattle.std.proofs.lemmas.Option.{get_or_from_slice_get, slice_get_within}
 use Rattle.vb_model.specs.Tests.{one_if}
-use Rattle.vb_model.proofs.Tables.{count_by-cons, count_by-append, count_by-one}
+use Rattle.vb_model.proofs.Distinct.{times-append}
 use Rattle.vb_ram.specs.Pages.{Pages}
 use Rattle.vb_ring.specs.Entries.{is_head}
 use Rattle.vb_ring.specs.Ends.{DriverEnd, outstanding}
@@ -25,12 +25,6 @@ at_most_one false = omega arith
 pub is_one : (b : Bool) → 1 ≤ one_if b → b ≡ true
 is_one true h = refl
 is_one false h = absurd (omega arith)
-
-pub times-cons : (h k : ℕ) (hs : List ℕ) → times h (k ∷ hs) ≡ one_if (k == h) + times h hs
-times-cons h k hs = count_by-cons (λ (m : ℕ). m == h) k hs
-
-pub times-append : (h : ℕ) (hs ks : List ℕ) → times h (hs ++ ks) ≡ times h hs + times h ks
-times-append h hs ks = count_by-append (λ (m : ℕ). m == h) hs ks
 
 cond_one : (b : Bool) → cond {A = ℕ} b 1 0 ≡ one_if b
 cond_one true = refl

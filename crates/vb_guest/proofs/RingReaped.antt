@@ -3,6 +3,7 @@ use Rattle.std.specs.Prelude.{◌≡◌, ℕ, ◌+◌, ◌%◌, Bool, true, if�
 use Rattle.std.specs.Prelude.{length, Result, Ok, Err, Option, Some, slice_get, refl}
 use Rattle.std.proofs.Common.{sym, ◌∙◌, ap, subst, arith, append_assoc}
 use Rattle.std.proofs.lemmas.List.{length_push}
+use Rattle.vb_model.proofs.Distinct.{times-cons}
 use Rattle.vb_ram.specs.Pages.{Pages}
 use Rattle.vb_ring.specs.declared.driver.RingBroken.{RingBroken}
 use Rattle.vb_ring.specs.declared.driver.RingBroken.TheVariants.{NotOutstanding}
@@ -14,7 +15,7 @@ use Rattle.vb_ring.proofs.EntryLaws.{id_shown}
 use Rattle.vb_ring.proofs.MeaningLaws.{times-push, ids-push}
 use Rattle.vb_ring.proofs.Numbers.{length-numbers}
 use Rattle.vb_guest.specs.Ring.{RingStands, used_of}
-use Rattle.vb_guest.proofs.RingHeads.{one_is, is_one, times-cons}
+use Rattle.vb_guest.proofs.RingHeads.{one_is, is_one}
 use Rattle.vb_guest.proofs.RingHeads.{length-used, length-ids, ids-split, get_after}
 use Rattle.vb_guest.proofs.RingHeads.{none_after, ring_once, ring_count}
 
