@@ -55,3 +55,5 @@ pub mod TakeReportStep
 pub mod FinishReportStep
 pub mod WorkReportStep
 pub mod ReapReportStep
+pub mod StatsStep
+pub mod ReportStep

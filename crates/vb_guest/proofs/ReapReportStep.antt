@@ -60,7 +60,7 @@ reap_idle m p d g same down =
     at_both G g.status down refl refl)
 
 -- the model names no broken ring
-never_broken : (a b : Bool)
+pub never_broken : (a b : Bool)
     → first_refusal ((a ⇒ NotReady) ∷ (b ⇒ NoFeature) ∷ []) ≡ Some RingBroken → ⊥
 never_broken true b e = absurd cc
 never_broken false true e = absurd cc
