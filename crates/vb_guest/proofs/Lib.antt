@@ -54,6 +54,7 @@ pub mod TakeBufferStep
 pub mod TakeReportStep
 pub mod FinishReportStep
 pub mod WorkReportStep
+pub mod ReapRefusing
 pub mod ReapReportStep
 pub mod StatsStep
 pub mod ReportStep

@@ -32,53 +32,9 @@ use Rattle.vb_guest.specs.Steps.{StepsAlone}
 use Rattle.vb_guest.specs.Replies.{reaped_reply}
 use Rattle.vb_guest.proofs.RingReaped.{ring_answer}
 use Rattle.vb_guest.proofs.ReportLines.{report_reaped}
-use Rattle.vb_guest.proofs.SameRefusals.{IsIdleStatus, at_both, last_test}
+use Rattle.vb_guest.proofs.Reaping.{used_line}
+use Rattle.vb_guest.proofs.ReapRefusing.{reap_by}
 use Rattle.vb_guest.proofs.Closing.{honest_performed, steps_alone, refused_alone, ties_same}
-
--- ---- refusals
-
--- where the ring isn't broken
-pub reap_same : (m : Pages) (p : Part) (d : DriverState) (g : Guest) (o : Option ℕ)
-    → p.status ≡ g.status → d.features ≡ g.features → used_answer m d.report.ring ≡ Ok o
-    → first_refusal (reap_tests m p d d.report.ring 4) ≡ refusal_of g (Reap 4)
-reap_same m p d g o status features answer =
-    let whole : is_ring_broken m d.report.ring ≡ false =
-    ap (λ (r : Result (Option ℕ) Broken). is_err r) answer in
-    last_test (tests_of_reap 4 p.status d.features) (is_ring_broken m d.report.ring) RingBroken whole
-    ∙ ap (λ (s : ℕ). first_refusal (tests_of_reap 4 s d.features)) status
-    ∙ ap (λ (f : ℕ). first_refusal (tests_of_reap 4 g.status f)) features
-
-reap_idle : (m : Pages) (p : Part) (d : DriverState) (g : Guest) → p.status ≡ g.status
-    → IsIdleStatus g.status
-    → (first_refusal (reap_tests m p d d.report.ring 4) ≡ Some NotReady)
-    × (refusal_of g (Reap 4) ≡ Some NotReady)
-reap_idle m p d g same down =
-    let P : ℕ → Type 0 =
-    λ s. first_refusal (reap_tests m (record p { status = s }) d d.report.ring 4) ≡ Some NotReady in
-    let G : ℕ → Type 0 = λ s. refusal_of (record g { status = s }) (Reap 4) ≡ Some NotReady in
-    (at_both P p.status (subst IsIdleStatus (sym same) down) refl refl,
-    at_both G g.status down refl refl)
-
--- the model names no broken ring
-pub never_broken : (a b : Bool)
-    → first_refusal ((a ⇒ NotReady) ∷ (b ⇒ NoFeature) ∷ []) ≡ Some RingBroken → ⊥
-never_broken true b e = absurd cc
-never_broken false true e = absurd cc
-never_broken false false e = absurd cc
-
-pub unfailed : (why : Refusal) (p : Part) → (why ≡ RingBroken → ⊥) → after_refusal why p ≡ p
-unfailed RingBroken p other = absurd (other refl)
-unfailed _ p other = refl
-
-reap_refused : (m1 m2 : Pages) (p1 p2 : Part) (d1 d2 : DriverState) (g : Guest) (why : Refusal)
-    → ReapsBy m1 m2 p1 p2 d1 d2 4 (Err why) → Honest m1 p1 d1 g
-    → first_refusal (reap_tests m1 p1 d1 d1.report.ring 4) ≡ refusal_of g (Reap 4)
-    → StepsAlone (Honest m2 p2 d2) g (Reap 4) (reaped_reply (Err why))
-reap_refused m1 m2 p1 p2 d1 d2 g why did stands same =
-    let by_model : refusal_of g (Reap 4) ≡ Some why = sym (did.refusal ∙ same) in
-    refused_alone m1 m2 p1 p2 d1 d2 g (Reap 4) why stands by_model did.mem
-    (did.failed ∙ unfailed why p1 (λ e. never_broken (not (is_up g.status))
-    (lacks_feature g.features 4) (by_model ∙ ap Some e))) did.refused
 
 -- ---- a used report, or none
 
@@ -179,34 +135,7 @@ pub reap_report : (m1 m2 : Pages) (p1 p2 : Part) (d1 d2 : DriverState) (g : Gues
     → ReapsBy m1 m2 p1 p2 d1 d2 4 result → Honest m1 p1 d1 g
     → StepsAlone (Honest m2 p2 d2) g (Reap 4) (reaped_reply result)
 reap_report m1 m2 p1 p2 d1 d2 g result did stands =
-    elim stands.ties.queues [
-      | inl idle ↦
-          let both = reap_idle m1 p1 d1 g stands.ties.parts.device.status idle.state in
-          down result did both.0 both.1
-      | inr run ↦
-          let answer = ring_answer m1 4 d1.report.ring p1.report.next_avail p1.report.next_used
-          (heads_of g.report.posted) (heads_of g.report.taken) (heads_of g.report.done)
-          run.report.ring in
-          up result did run answer (reap_same m1 p1 d1 g (slice_get (heads_of g.report.done) 0)
-          stands.ties.parts.device.status stands.ties.parts.driver.accepted answer)
-    ]
-  where
-    down : (result : Result (Option ReapedRequest) Refusal) → ReapsBy m1 m2 p1 p2 d1 d2 4 result
-        → first_refusal (reap_tests m1 p1 d1 d1.report.ring 4) ≡ Some NotReady
-        → refusal_of g (Reap 4) ≡ Some NotReady
-        → StepsAlone (Honest m2 p2 d2) g (Reap 4) (reaped_reply result)
-    down (Ok got) did by_driver by_model = absurd (let wrong = did.refusal ∙ by_driver in cc)
-    down (Err why) did by_driver by_model =
-        reap_refused m1 m2 p1 p2 d1 d2 g why did stands (by_driver ∙ sym by_model)
-
-    up : (result : Result (Option ReapedRequest) Refusal) → ReapsBy m1 m2 p1 p2 d1 d2 4 result
-        → IsRunning m1 p1 d1 g
-        → used_answer m1 d1.report.ring ≡ Ok (slice_get (heads_of g.report.done) 0)
-        → first_refusal (reap_tests m1 p1 d1 d1.report.ring 4) ≡ refusal_of g (Reap 4)
-        → StepsAlone (Honest m2 p2 d2) g (Reap 4) (reaped_reply result)
-    up (Err why) did run answer same = reap_refused m1 m2 p1 p2 d1 d2 g why did stands same
-    up (Ok got) did run answer same =
-        let next : next_of got ≡ slice_get (heads_of g.report.done) 0 =
-        (let e = sym did.next ∙ answer in cc) in
-        report_reap m1 m2 p1 p2 d1 d2 g g.report.done got refl next did answer stands run
-        (sym (did.refusal ∙ same))
+    reap_by m1 m2 p1 p2 d1 d2 g 4 g.report.done result refl did stands
+    (λ run. used_line m1 4 d1.report.ring p1.report g.report run.report.ring)
+    (λ got next done answer run free.
+    report_reap m1 m2 p1 p2 d1 d2 g g.report.done got refl next done answer stands run free)
