@@ -1,12 +1,13 @@
 -- The heads of requests.
-use Rattle.std.specs.Prelude.{◌≡◌, ℕ, zero, suc, ◌+◌, ◌==◌, List, [], ◌∷◌, ◌++◌, length, All, Some}
-use Rattle.std.specs.Prelude.{slice_get, remove, option_map, refl}
+use Rattle.std.specs.Prelude.{◌≡◌, ℕ, zero, suc, ◌+◌, ◌<◌, ◌==◌, Bool, true, false, cond, List, []}
+use Rattle.std.specs.Prelude.{◌∷◌, ◌++◌, length, All, Some, slice_get, remove, option_map, refl}
 use Rattle.std.proofs.Common.{◌∙◌, ap, arith, take, drop}
-use Rattle.std.proofs.lemmas.List.{length-map, map-append, map_push}
-use Rattle.std.proofs.lemmas.List.Elements.{All-append, All-take, All-drop}
+use Rattle.std.proofs.lemmas.List.{length-map, map_push}
+use Rattle.std.proofs.lemmas.List.Elements.{All-append, All-take, All-drop, All-cons, All-tail}
 use Rattle.std.proofs.lemmas.Option.{slice_get-map}
 use Rattle.vb_model.specs.Tests.{one_if, times}
 use Rattle.vb_model.specs.Requests.{Request, Requests, all_requests, headed}
+use Rattle.vb_model.specs.Device.{is_unvisited, visiting}
 use Rattle.vb_model.proofs.Tables.{count_by-cons, count_by-append}
 use Rattle.vb_guest.specs.Line.{heads_of}
 
@@ -56,3 +57,30 @@ pub all_remove : {A : Type 0} (P : A → Type 0) (xs : List A) (i : ℕ) → All
     → All P (remove xs i)
 all_remove P xs i all =
     All-append P (take i xs) (drop (suc i) xs) (All-take P i xs all) (All-drop P (suc i) xs all)
+
+-- ---- visits
+
+-- a visit changes a request's count alone
+pub heads-visiting : (rs : List Request) → heads_of (visiting rs) ≡ heads_of rs
+heads-visiting [] = refl
+heads-visiting (r ∷ rs) = step (is_unvisited r) (heads-visiting rs)
+  where
+    step : (v : Bool) → heads_of (visiting rs) ≡ heads_of rs
+        → heads_of (cond v (record r { visited = r.visited + 1 } ∷ rs) (r ∷ visiting rs))
+        ≡ r.head ∷ heads_of rs
+    step true later = refl
+    step false later = ap (λ (l : List ℕ). r.head ∷ l) later
+
+pub all-visiting : (P : Request → Type 0)
+    → ((r : Request) → P r → P (record r { visited = r.visited + 1 })) → (rs : List Request)
+    → All P rs → All P (visiting rs)
+all-visiting P keeps [] all = all
+all-visiting P keeps (r ∷ rs) all =
+    step (is_unvisited r) (all-visiting P keeps rs (All-tail P r rs all))
+  where
+    step : (v : Bool) → All P (visiting rs)
+        → All P (cond v (record r { visited = r.visited + 1 } ∷ rs) (r ∷ visiting rs))
+    step true later =
+        All-cons P (record r { visited = r.visited + 1 }) rs (keeps r (all 0 r (omega arith)))
+        (All-tail P r rs all)
+    step false later = All-cons P r (visiting rs) (all 0 r (omega arith)) later

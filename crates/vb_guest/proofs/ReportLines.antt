@@ -22,6 +22,7 @@ use Rattle.vb_driver.specs.Calls.{PostsReport}
 use Rattle.vb_guest.specs.Ring.{RingStands}
 use Rattle.vb_guest.specs.Line.{heads_of}
 use Rattle.vb_guest.specs.Reported.{IsReport, ReportLine}
+use Rattle.vb_guest.proofs.Heads.{heads-push, heads-remove, heads-get, heads-visiting, all-visiting}
 use Rattle.vb_guest.proofs.RingApart.{ring_apart}
 use Rattle.vb_guest.proofs.RingPosted.{ring_posted}
 use Rattle.vb_guest.proofs.RingTaken.{ring_taken}
@@ -50,9 +51,6 @@ report_apart old new n side part rs same line = record {
 }
 
 -- ---- a report goes round
-
-heads_push : (rs : List Request) (r : Request) → heads_of (rs ++ r ∷ []) ≡ heads_of rs ++ r.head ∷ []
-heads_push rs r = map_push (λ (x : Request). x.head) rs r
 
 -- the driver posts it
 pub report_posted : (m1 m2 : Pages) (n : ℕ) (s1 s2 : ReportSide) (part : QueuePart)
@@ -105,7 +103,7 @@ report_taken mem n side part r rest taken done line =
     let S : List ℕ → Type 0 = λ l. RingStands mem 4 side.ring ((part.next_avail + 1) % 65536)
     part.next_used (heads_of rest) l (heads_of done) in
     record {
-      ring = subst S (sym (heads_push taken r'))
+      ring = subst S (sym (heads-push taken r'))
           (ring_taken mem 4 side.ring part.next_avail part.next_used r.head (heads_of rest)
           (heads_of taken) (heads_of done) line.ring);
       posted = All-tail P r rest line.posted;
@@ -114,31 +112,6 @@ report_taken mem n side part r rest taken done line =
       coded = All-tail (λ (x : Request). AreReported mem 3 side.blocks) r rest line.coded;
       remembers = ap (λ (l : List Request). l ++ (r' ∷ [])) line.remembers;
     }
-
--- a visit changes a request's count alone
-heads_visiting : (rs : List Request) → heads_of (visiting rs) ≡ heads_of rs
-heads_visiting [] = refl
-heads_visiting (r ∷ rs) = step (is_unvisited r) (heads_visiting rs)
-  where
-    step : (v : Bool) → heads_of (visiting rs) ≡ heads_of rs
-        → heads_of (cond v (record r { visited = r.visited + 1 } ∷ rs) (r ∷ visiting rs))
-        ≡ r.head ∷ heads_of rs
-    step true later = refl
-    step false later = ap (λ (l : List ℕ). r.head ∷ l) later
-
-all_visiting : (P : Request → Type 0)
-    → ((r : Request) → P r → P (record r { visited = r.visited + 1 })) → (rs : List Request)
-    → All P rs → All P (visiting rs)
-all_visiting P keeps [] all = all
-all_visiting P keeps (r ∷ rs) all =
-    step (is_unvisited r) (all_visiting P keeps rs (All-tail P r rs all))
-  where
-    step : (v : Bool) → All P (visiting rs)
-        → All P (cond v (record r { visited = r.visited + 1 } ∷ rs) (r ∷ visiting rs))
-    step true later =
-        All-cons P (record r { visited = r.visited + 1 }) rs (keeps r (all 0 r (omega arith)))
-        (All-tail P r rs all)
-    step false later = All-cons P r (visiting rs) (all 0 r (omega arith)) later
 
 -- the device visits a page of it
 pub report_visited : (mem : Pages) (n : ℕ) (side : ReportSide) (part : QueuePart) (rs : Requests)
@@ -149,9 +122,9 @@ report_visited mem n side part rs line =
     let S : List ℕ → Type 0 = λ l. RingStands mem 4 side.ring part.next_avail part.next_used
     (heads_of rs.posted) l (heads_of rs.done) in
     record {
-      ring = subst S (sym (heads_visiting rs.taken)) line.ring;
+      ring = subst S (sym (heads-visiting rs.taken)) line.ring;
       posted = line.posted;
-      taken = all_visiting (IsReport side.ring.size n side.blocks) (λ r is. record {
+      taken = all-visiting (IsReport side.ring.size n side.blocks) (λ r is. record {
         head = is.head;
         names = is.names;
         some = is.some;
@@ -163,18 +136,6 @@ report_visited mem n side part rs line =
       coded = line.coded;
       remembers = ap visiting line.remembers;
     }
-
-heads_remove : (rs : List Request) (i : ℕ) → heads_of (remove rs i) ≡ remove (heads_of rs) i
-heads_remove rs i =
-    map-append (λ (x : Request). x.head) (take i rs) (drop (suc i) rs)
-    ∙ ap (λ (l : List ℕ). l ++ heads_of (drop (suc i) rs)) (sym (take-map (λ (x : Request). x.head) i rs))
-    ∙ ap (λ (l : List ℕ). take i (heads_of rs) ++ l) (sym (drop-map (λ (x : Request). x.head) (suc i) rs))
-
-head_at : (rs : List Request) (i : ℕ) (r : Request) → slice_get rs i ≡ Some r
-    → slice_get (heads_of rs) i ≡ Some r.head
-head_at [] i r e = absurd cc
-head_at (x ∷ rs) zero r e = (let same : x ≡ r = cc in ap (λ (y : Request). Some y.head) same)
-head_at (x ∷ rs) (suc i) r e = head_at rs i r e
 
 -- the device uses it
 pub report_used : (m1 m2 : Pages) (n : ℕ) (side : ReportSide) (part : QueuePart) (rs : Requests)
@@ -199,13 +160,13 @@ report_used m1 m2 n side part rs i r after line is adds =
     ((part.next_used + 1) % 65536) (heads_of rs.posted) taken done in
     let used = ring_used m1 m2 4 side.ring part.next_avail part.next_used (heads_of rs.posted)
     (heads_of rs.taken) (heads_of rs.done) i r.head after line.ring
-    (head_at rs.taken i r is) adds in
+    (heads-get rs.taken i r is) adds in
     let A : ℕ → Type 0 = λ t. (k : ℕ) → k < side.ring.size
     → descriptor_at m2 t k ≡ descriptor_at m1 t k in
     let same : A 3 = subst A table adds.descriptors in
     record {
-      ring = subst (λ (l : List ℕ). S l (heads_of (rs.done ++ r ∷ []))) (sym (heads_remove rs.taken i))
-          (subst (S (remove (heads_of rs.taken) i)) (sym (heads_push rs.done r)) used);
+      ring = subst (λ (l : List ℕ). S l (heads_of (rs.done ++ r ∷ []))) (sym (heads-remove rs.taken i))
+          (subst (S (remove (heads_of rs.taken) i)) (sym (heads-push rs.done r)) used);
       posted = line.posted;
       taken = All-append P (take i rs.taken) (drop (suc i) rs.taken) (All-take P i rs.taken line.taken)
           (All-drop P (suc i) rs.taken line.taken);

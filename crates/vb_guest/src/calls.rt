@@ -13,11 +13,11 @@ use crate::driver::{deflate, free, inflate, oom, reap, report, stats};
 use crate::frames::Claims;
 use crate::lives::{init, reset};
 use crate::memory::{read, write};
-use crate::queries::{balloon, last_statistics, pages_at, pages_ballooned, places};
+use crate::queries::{balloon, pages_at, pages_ballooned, places, statistics};
 use crate::replies::{
-    asked_reply, balloon_reply, bytes_reply, done_reply, filled_reply, finished_reply,
-    memory_reply, page_reply, posted_reply, ready_reply, reaped_reply, runs_reply, swept_reply,
-    taken_reply, worked_reply,
+    asked_reply, balloon_reply, bytes_reply, done_reply, filled_reply, finished_reply, memory_reply,
+    page_reply, posted_reply, ready_reply, reaped_reply, runs_reply, swept_reply, taken_reply,
+    worked_reply,
 };
 use std::alloc::Global;
 use vb_device::Device;
@@ -78,7 +78,7 @@ pub fn call<D: Device, K: FrameKeeper>(
             set_target(device, *pages);
             Reply::Done
         }
-        _ => unreachable!(),
+        Call::Scribble { .. } => unreachable!(),
     }
 }
 
@@ -97,7 +97,7 @@ pub fn query<D: Device>(alloc: Global, driver: &Driver, device: &D, query: &Quer
         Query::PagesAt(place) => runs_reply(pages_at(alloc, driver, device, *place)),
         Query::PagesBallooned => runs_reply(pages_ballooned(alloc, device)),
         Query::Balloon => balloon_reply(balloon(driver, device)),
-        Query::Memory => memory_reply(last_statistics(device)),
+        Query::Memory => memory_reply(statistics(device)),
         Query::Backing { page } => Reply::Backing {
             frame: device.backing(*page),
         },

@@ -16,8 +16,8 @@ use vb_frames::FrameKeeper;
 use vb_model::{Call, Refusal};
 
 /// The device takes the next chain of a queue (VIRTIO 1.1, 2.6); answers its head, or none where
-/// no chain is available. Refused with `NoQueue`, `NotReady`, `NoQueue` where the queue's feature
-/// wasn't agreed on, and `Busy`, tested in this order.
+/// no chain is available. Of a statistics buffer it reads what it says. Refused with `NoQueue`,
+/// `NotReady`, `NoQueue` where the queue's feature wasn't accepted, and `Busy`, tested in this order.
 pub fn take<D: Device>(device: &mut D, queue: u32) -> Result<Option<u16>, Refusal>
     ensures { (keeps : Bool) (d : DriverState) (g : Guest)
         → Stands keeps (D.mem device.old) (D.part device.old) d g
@@ -95,8 +95,8 @@ pub fn sweep<D: Device, K: FrameKeeper>(
     answer
 }
 
-/// The device uses the statistics buffer that it took, so that the driver fills it anew (VIRTIO 1.1,
-/// 5.5.6.3). Refused with `NotReady` and `NotTaken`, tested in this order.
+/// The device gives the statistics buffer that it took back to the driver, which is to fill it anew
+/// (VIRTIO 1.1, 5.5.6.3). Refused with `NotReady` and `NotTaken`, tested in this order.
 pub fn ask<D: Device>(device: &mut D) -> Result<(), Refusal>
     requires { (keeps : Bool) × (d : DriverState) × (g : Guest)
         × Stands keeps (D.mem device.old) (D.part device.old) d g }

@@ -81,9 +81,8 @@ pub fn oom<D: Device>(driver: &mut Driver, device: &mut D, pages: u32) -> Result
     driver.oom(device, pages)
 }
 
-/// The driver reports to the host the first free blocks of 16 pages or more from this page on, as many
-/// as one request has room for (profile). Refused with `NotReady`, `NoFeature`, `QueueFull` and
-/// `Nothing`, tested in this order.
+/// The driver reports its first free blocks of order 4 or more, from this page on, to the host
+/// (profile). Refused with `NotReady`, `NoFeature`, `QueueFull` and `Nothing`, tested in this order.
 pub fn report<D: Device>(driver: &mut Driver, device: &mut D, from: u32) -> Result<Posted, Refusal>
     requires { (keeps : Bool) × (g : Guest)
         × Stands keeps (D.mem device.old) (D.part device.old) driver.old g }
@@ -95,9 +94,8 @@ pub fn report<D: Device>(driver: &mut Driver, device: &mut D, from: u32) -> Resu
     driver.report(device, from)
 }
 
-/// The driver fills its statistics buffer anew, and makes it available, where the device has used it
-/// (VIRTIO 1.1, 5.5.6.3); answers whether it has. Refused with `NotReady` and `NoFeature`, tested in
-/// this order.
+/// The driver fills the statistics buffer anew where the device has used it, and answers whether it
+/// has (VIRTIO 1.1, 5.5.6.3). Refused with `NotReady` and `NoFeature`, tested in this order.
 pub fn stats<D: Device>(driver: &mut Driver, device: &mut D) -> Result<bool, Refusal>
     requires { (keeps : Bool) × (g : Guest)
         × Stands keeps (D.mem device.old) (D.part device.old) driver.old g }
@@ -110,7 +108,8 @@ pub fn stats<D: Device>(driver: &mut Driver, device: &mut D) -> Result<bool, Ref
 }
 
 /// The driver takes the next used request of a queue (VIRTIO 1.1, 2.6.14); answers none where none
-/// is new. Refused with `NoQueue`, `NotReady` and `NoFeature`, tested in this order.
+/// is new. Refused with `NoQueue`, `NotReady` and, on the queue of reports, `NoFeature`, tested in
+/// this order.
 pub fn reap<D: Device>(
     driver: &mut Driver,
     device: &mut D,

@@ -16,4 +16,4 @@ pub use driver::{alloc, deflate, free, inflate, oom, reap, report, stats};
 pub use frames::{Claims, MAX_CLAIMS};
 pub use lives::{init, reset};
 pub use memory::{read, write};
-pub use queries::{BalloonState, balloon, last_statistics, pages_at, pages_ballooned, places};
+pub use queries::{BalloonState, balloon, pages_at, pages_ballooned, places, statistics};

@@ -53,8 +53,9 @@ pub fn balloon<D: Device>(driver: &Driver, device: &D) -> BalloonState
     }
 }
 
-/// What the last buffer of statistics said (VIRTIO 1.1, 5.5.6.3).
-pub fn last_statistics<D: Device>(device: &D) -> Statistics
+/// What the last statistics buffer that the device took says of the guest's memory, in bytes
+/// (VIRTIO 1.1, 5.5.6.4).
+pub fn statistics<D: Device>(device: &D) -> Statistics
     ensures { (keeps : Bool) (d : DriverState) (g : Guest)
         → Stands keeps (D.mem device.now) (D.part device.now) d g
         → Answers Query.Memory g (memory_reply result) }

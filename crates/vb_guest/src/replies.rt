@@ -157,11 +157,11 @@ pub(crate) fn balloon_reply(state: BalloonState) -> Reply
     }
 }
 
-pub(crate) fn memory_reply(said: Statistics) -> Reply
-    ensures { result ≡ memory_reply said }
+pub(crate) fn memory_reply(last: Statistics) -> Reply
+    ensures { result ≡ memory_reply last }
 {
     Reply::Statistics {
-        free: said.free,
-        total: said.total,
+        free: last.free,
+        total: last.total,
     }
 }

@@ -6,7 +6,7 @@ use Rattle.vb_guest.proofs.device.ask.Goals as goal
 
 pub ask_stats-requires : goal.ask_stats-requires
 ask_stats-requires g c = let (keeps, d, guest, stands) = c.requires in
-    ring_backed _ _ d guest 2 (honest_of keeps _ _ d guest stands)
+    record { backed = ring_backed _ _ d guest 2 (honest_of keeps _ _ d guest stands) }
 
 pub returns : goal.returns
 returns g c = λ keeps d guest stands.

@@ -1,5 +1,5 @@
-use Rattle.vb_guest.proofs.StatsStep.{stats_step}
 use Rattle.vb_guest.proofs.InflateStep.{up_backed}
+use Rattle.vb_guest.proofs.StatsStep.{stats_step}
 use Rattle.vb_guest.proofs.Freed.{large}
 use Rattle.vb_guest.proofs.Kept.{stats_kept}
 use Rattle.vb_guest.proofs.Standing.{honest_of, alone_stands}
