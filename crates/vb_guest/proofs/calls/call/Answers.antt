@@ -114,3 +114,27 @@ returns-in-Reset g c =
           (steps_quiet keeps _ _ _ _ _ _ guest g.K.FrameKeeper.answers _ _ _ stands
           (c.reset.ensures keeps guest stands));
     }
+
+pub returns-in-Report : goal.returns-in-Report
+returns-in-Report g c =
+    record {
+      step = λ keeps guest stands. rw (c.clear.ensures, c.in-Report.is, c.posted_reply-in-Report.ensures)
+          (steps_quiet keeps _ _ _ _ _ _ guest g.K.FrameKeeper.answers _ _ _ stands
+          (c.report.ensures keeps guest stands));
+    }
+
+pub returns-in-Stats : goal.returns-in-Stats
+returns-in-Stats g c =
+    record {
+      step = λ keeps guest stands. rw (c.clear.ensures, c.in-Stats.is, c.filled_reply.ensures)
+          (steps_quiet keeps _ _ _ _ _ _ guest g.K.FrameKeeper.answers _ _ _ stands
+          (c.stats.ensures keeps guest stands));
+    }
+
+pub returns-in-Ask : goal.returns-in-Ask
+returns-in-Ask g c =
+    record {
+      step = λ keeps guest stands. rw (c.clear.ensures, c.in-Ask.is, c.asked_reply.ensures)
+          (steps_quiet keeps _ _ _ _ _ _ guest g.K.FrameKeeper.answers _ _ _ stands
+          (c.ask.ensures keeps _ guest stands));
+    }
