@@ -59,7 +59,7 @@ reap_idle m p d g q ring there same down = (
 )
 
 -- the model names no broken ring
-never_broken : (a b c : Bool)
+pub never_broken : (a b c : Bool)
     → first_refusal ((a ⇒ NoQueue) ∷ (b ⇒ NotReady) ∷ (c ⇒ NoFeature) ∷ []) ≡ Some RingBroken → ⊥
 never_broken true b c e = absurd cc
 never_broken false true c e = absurd cc

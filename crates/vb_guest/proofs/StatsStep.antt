@@ -34,7 +34,7 @@ use Rattle.vb_guest.proofs.BufferLines.{buffer_emptied, buffer_posted}
 use Rattle.vb_guest.proofs.ReportLines.{report_apart}
 use Rattle.vb_guest.proofs.PagesKept.{SamePages, pages_same}
 use Rattle.vb_guest.proofs.SameRefusals.{IsIdleStatus, at_both, last_test}
-use Rattle.vb_guest.proofs.ReapReportStep.{unfailed, never_broken}
+use Rattle.vb_guest.proofs.ReapRefusing.{unfailed, never_broken}
 use Rattle.vb_guest.proofs.Closing.{honest_performed, steps_alone, refused_alone, ties_same}
 
 -- ---- refusals
@@ -68,7 +68,8 @@ stats_refused m1 m2 p1 p2 d1 d2 g why did stands same =
     let by_model : refusal_of g Stats ≡ Some why = sym (did.refusal ∙ same) in
     refused_alone m1 m2 p1 p2 d1 d2 g Stats why stands by_model did.refused.mem
     (did.refused.part ∙ unfailed why p1
-    (λ e. never_broken (not (is_up g.status)) (not (stats_vq g.features)) (by_model ∙ ap Some e)))
+    (λ e. never_broken false (not (is_up g.status)) (not (stats_vq g.features))
+    (by_model ∙ ap Some e)))
     did.refused.driver
 
 -- ---- the buffer wasn't used

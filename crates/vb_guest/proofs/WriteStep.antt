@@ -249,7 +249,7 @@ write_supplied Answers out1 out2 m1 m2 m3 m4 p1 p2 p3 p4 d g page off frame bs a
       pages = pages_supplied m1 m3 g.config.pages page frame g.frames g.contents lt bare
           stands.ties.pages supplied;
       queues = elim stands.ties.queues [
-        | inl idle ↦ inl (idle_still g after refl refl refl refl refl refl refl idle)
+        | inl idle ↦ inl (idle_still g after refl refl refl refl refl refl refl refl refl idle)
         | inr run ↦ inr (running_apart m1 m3 p1 d g after (λ p low. supplied.others p (omega arith))
             refl refl refl refl refl refl run)
       ];
