@@ -1,0 +1,23 @@
+//! Laws of requests, each as the contract of a function that does nothing.
+
+ghost use Rattle.std.specs.Prelude.{◌≡◌, ℕ, ◌∷◌, [], List, Ok, length};
+ghost use Rattle.vb_ram.specs.Pages.{Pages};
+ghost use Rattle.vb_chain.specs.declared.pieces.Piece.{Piece};
+ghost use Rattle.vb_request.specs.Request.{page_request};
+ghost use Rattle.vb_request.specs.Request.{ArePages};
+ghost use Rattle.vb_request.specs.Request.{IsRequestPiece};
+
+/// A readable piece whose little-endian numbers of 32 bits are distinct unreserved pages of the
+/// guest is a request for these pages (VIRTIO 1.1, 5.5.6).
+pub fn a_written_request_is_read()
+    ensures { (mem : Pages) (piece : Piece) (page offset : ℕ) (pages : List ℕ) →
+        IsRequestPiece mem piece page offset pages → ArePages (length mem) pages →
+        page_request mem (piece ∷ []) ≡ Ok pages }
+{}
+
+/// Whatever the bytes are, a request that isn't refused names pages of the guest that aren't
+/// reserved, each once.
+pub fn a_request_names_pages_of_the_guest()
+    ensures { (mem : Pages) (pieces : List Piece) (pages : List ℕ) →
+        page_request mem pieces ≡ Ok pages → ArePages (length mem) pages }
+{}
