@@ -16,10 +16,10 @@ use Rattle.vb_chain.specs.Rules.{piece_of}
 use Rattle.vb_chain.specs.Chain.{ChainGives}
 use Rattle.vb_chain.proofs.ChainLaws.{single_chain, no_fault}
 use Rattle.vb_driver.specs.Coding.{AreFigures, IsStatistic, statistics_buffer}
-use Rattle.vb_device.specs.Request.{byte_of_address, bytes_from, bytes_of}
-use Rattle.vb_device.specs.Statistics.{Statistic, statistic_at, statistics_of, last_of}
-use Rattle.vb_device.specs.Statistics.{statistics_in, statistics_request}
-use Rattle.vb_device.proofs.Bytes.{bytes_from-length}
+use Rattle.vb_request.specs.Request.{byte_of_address, bytes_from, bytes_of}
+use Rattle.vb_request.specs.Statistics.{Statistic, statistic_at, statistics_of, last_of}
+use Rattle.vb_request.specs.Statistics.{statistics_in, statistics_request}
+use Rattle.vb_request.proofs.Bytes.{bytes_from-length}
 
 -- the buffer's one piece
 abbrev pub buffer_pieces : List Piece

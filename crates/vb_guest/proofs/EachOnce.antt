@@ -4,7 +4,7 @@ use Rattle.std.specs.Prelude.{IsTrue, filter, refl}
 use Rattle.std.proofs.Common.{sym, ◌∙◌, ap}
 use Rattle.vb_model.specs.Tests.{is_in}
 use Rattle.vb_model.specs.Driver.{AllDistinct}
-use Rattle.vb_device.specs.Request.{each_once}
+use Rattle.vb_request.specs.Request.{each_once}
 
 not_true : (b : Bool) → IsTrue (not b) → b ≡ false
 not_true true h = absurd (let e : false ≡ true = h in cc)

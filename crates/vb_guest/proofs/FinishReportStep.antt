@@ -24,7 +24,7 @@ use Rattle.vb_ring.specs.declared.layout.Layout.{Layout}
 use Rattle.vb_driver.specs.State.{DriverState}
 use Rattle.vb_device.specs.Conditions.{finish_refusal}
 use Rattle.vb_device.specs.Discards.{discarded, frames_behind}
-use Rattle.vb_device.specs.Request.{each_once}
+use Rattle.vb_request.specs.Request.{each_once}
 use Rattle.vb_device.specs.Calls.{FinishesBy, Uses, using}
 use Rattle.vb_guest.specs.Reported.{IsReport}
 use Rattle.vb_guest.specs.Stands.{Honest, Ties, IsRunning}

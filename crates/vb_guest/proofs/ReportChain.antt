@@ -20,10 +20,10 @@ use Rattle.vb_chain.specs.Chain.{ChainGives}
 use Rattle.vb_chain.specs.Written.{empty, linked, AreSound, IsRoute}
 use Rattle.vb_chain.proofs.ChainLaws.{written_chain}
 use Rattle.vb_driver.specs.Coding.{AreReported}
-use Rattle.vb_device.specs.Request.{first_of_both, unless_fault}
-use Rattle.vb_device.specs.Report.{pages_of_piece, pages_of_pieces, piece_fault, first_piece_fault}
-use Rattle.vb_device.specs.Report.{has_bad_length, report_request}
-use Rattle.vb_device.proofs.Reports.{by_pieces}
+use Rattle.vb_request.specs.Request.{first_of_both, unless_fault}
+use Rattle.vb_request.specs.Report.{pages_of_piece, pages_of_pieces, piece_fault, first_piece_fault}
+use Rattle.vb_request.specs.Report.{has_bad_length, report_request}
+use Rattle.vb_request.proofs.Reports.{by_pieces}
 use Rattle.vb_guest.specs.Reported.{IsOwnBlock}
 
 -- the bytes of a block, and those of all blocks, as a chain has them

@@ -22,7 +22,7 @@ use Rattle.vb_driver.specs.Coding.{buffer_of}
 use Rattle.vb_driver.specs.State.{Side, DriverState}
 use Rattle.vb_device.specs.Conditions.{take_refusal}
 use Rattle.vb_device.specs.Queues.{queue_part}
-use Rattle.vb_device.specs.Request.{page_request}
+use Rattle.vb_request.specs.Request.{page_request}
 use Rattle.vb_device.specs.Calls.{TakesBy, taking, request_of, noting}
 use Rattle.vb_guest.specs.Line.{Line, IsRequest}
 use Rattle.vb_guest.specs.Stands.{Honest, Ties, IsRunning}

@@ -10,7 +10,7 @@ use Rattle.vb_model.specs.declared.replies.Reply.TheVariants.{Refused, Idle, Wor
 use Rattle.vb_model.specs.declared.replies.Reply.TheVariants.{Asked, Statistics as Memory}
 use Rattle.vb_model.specs.declared.places.PageRun.{PageRun}
 use Rattle.vb_guest.specs.declared.queries.BalloonState.{BalloonState}
-use Rattle.vb_device.specs.declared.statistics.Statistics.{Statistics}
+use Rattle.vb_request.specs.declared.statistics.Statistics.{Statistics}
 use Rattle.vb_device.specs.declared.worked.Worked.{Worked as WorkedPage}
 use Rattle.vb_driver.specs.declared.answers.Posted.{Posted as PostedRequest}
 use Rattle.vb_driver.specs.declared.answers.Reaped.{Reaped as ReapedRequest}
