@@ -14,6 +14,7 @@ use std::test::Fail;
 use vb_device::Worked;
 use vb_driver::{Posted, Reaped};
 use vb_frames::{FrameKeeper, Refused};
+use vb_model::limits::PAGE_SIZE;
 use vb_model::{Bytes, Claim, Refusal};
 use vb_ram::{Config, Frame};
 
@@ -267,7 +268,7 @@ fn worked(answer: Result<Option<Worked>, Refusal>) -> Answer {
 /// How many pages a figure of statistics is; 99 where it isn't known.
 fn pages_of(figure: Option<u64>) -> u32 {
     match figure {
-        Some(bytes) => (bytes / 4096) as u32,
+        Some(bytes) => (bytes / u64::from(PAGE_SIZE)) as u32,
         None => 99,
     }
 }

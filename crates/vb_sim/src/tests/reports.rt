@@ -7,7 +7,7 @@ use std::io;
 use std::io::Write;
 
 /// Scripts that run to their end.
-static REPORTS: [Example; 10] = [
+static REPORTS: [Example; 11] = [
     Example {
         name: "a report gives back the frame of a free page",
         script: "\
@@ -388,6 +388,49 @@ finished 0
 reaped 0 16
 posted 0 16
 free 16 used 16 giving 0 lent 0 taking 0 stranded 0 reporting 16
+",
+    },
+    Example {
+        name: "a report puts the pages of the processors' lists together first",
+        script: "\
+host 64
+spare immediate
+plug 64 8 2
+init 0
+alloc 0 0 0
+alloc 0 1 0
+alloc 0 1 0
+free 0 1 16 0
+free 0 1 25 0
+report 0 63
+alloc 0 1 0
+free 0 1 16 0
+report 0 0
+pages 0 reporting
+free 0 0 24 0
+take 0 4
+finish 0 4 0
+reap 0 4
+report 0 0
+",
+        replies: "\
+guest 0
+ready
+page 16
+page 24
+page 25
+ok
+ok
+nothing
+page 16
+ok
+posted 0 32
+pages 32-63
+ok
+taken 0
+finished 0
+reaped 0 32
+posted 0 48
 ",
     },
     Example {
