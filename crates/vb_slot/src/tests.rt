@@ -268,7 +268,7 @@ fn worked(answer: Result<Option<Worked>, Refusal>) -> Answer {
 /// How many pages a figure of statistics is; 99 where it isn't known.
 fn pages_of(figure: Option<u64>) -> u32 {
     match figure {
-        Some(bytes) => (bytes / u64::from(PAGE_SIZE)) as u32,
+        Some(bytes) => u32::try_from(bytes / u64::from(PAGE_SIZE)).unwrap_or(u32::MAX),
         None => 99,
     }
 }
