@@ -3,10 +3,12 @@
 mod command_lines;
 mod examples;
 mod paces;
+mod reports;
 mod resets;
 mod rows;
 mod runs;
 mod sizes;
+mod statistics;
 
 use crate::run::{SUCCESS, run_script};
 use std::alloc::{AllocError, Global};

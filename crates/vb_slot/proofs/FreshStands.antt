@@ -99,8 +99,6 @@ fresh_stands m1 m2 p1 p2 d sizes fits unused none m p new =
       parts = record {
         guest = record {
           honest = refl;
-          buffer = refl;
-          report = refl;
           config = fits;
         };
         driver = record {
@@ -128,6 +126,8 @@ fresh_stands m1 m2 p1 p2 d sizes fits unused none m p new =
         state = inl refl;
         inflate = refl;
         deflate = refl;
+        report = refl;
+        buffer = refl;
         ballooned = refl;
         actual = refl;
         last = refl;

@@ -8,7 +8,8 @@ use Rattle.vb_model.specs.Tests.{flagged}
 use Rattle.vb_ram.specs.Pages.{Pages}
 use Rattle.vb_ram.specs.Part.{Part, QueuePart}
 use Rattle.vb_device.specs.declared.worked.Worked.{Worked}
-use Rattle.vb_device.specs.Calls.{taking, using, settled, TakeMeans, TakesBy, FinishesBy, WorksBy}
+use Rattle.vb_device.specs.Calls.{taking, noting, using, settled, TakeMeans, TakesBy, FinishesBy}
+use Rattle.vb_device.specs.Calls.{Visits, WorksBy, AsksBy}
 
 -- the part with these frames of its own
 abbrev pub keeping : List ℕ → Part → Part
@@ -45,7 +46,7 @@ means_keeping q mem own p1 p2 (Ok (Some h)) m = (
       chain = m.1.1.chain;
       request = m.1.1.request;
     },
-    ap (keeping own) m.1.2 ∙ taking_keeping q h m.1.0 own p1,
+    ap (keeping own) m.1.2 ∙ taking_keeping q h m.1.0 own (noting q mem m.1.1.pieces p1),
   ),
 )
 means_keeping q mem own p1 p2 (Err (Broken rule)) m = (m.0, ap (keeping own) m.1)
@@ -68,9 +69,22 @@ takes_keeping q m1 m2 own p1 p2 result t = record {
   };
   takes = λ h pieces pages e n g r. (
     (t.takes h pieces pages e n g r).0,
-    ap (keeping own) (t.takes h pieces pages e n g r).1 ∙ taking_keeping q h pages own p1,
+    ap (keeping own) (t.takes h pieces pages e n g r).1
+        ∙ taking_keeping q h pages own (noting q m1 pieces p1),
   );
   means = means_keeping q m1 own p1 p2 result t.means;
+}
+
+visits_keeping : (q page : ℕ) (m1 m2 : Pages) (own : List ℕ) (p1 p2 : Part)
+    (result : Result (Option Worked) Refusal) → Visits q page m1 m2 p1 p2 result
+    → Visits q page m1 m2 (keeping own p1) (keeping own p2) result
+visits_keeping q page m1 m2 own p1 p2 result v = record {
+  answer = v.answer;
+  memory = v.memory;
+  part = ap (keeping own) v.part
+      ∙ ap (λ (p : Part). record p { loose = p2.loose })
+      (with_keeping (q == 0) (q == 1) (q == 2) own _ p1);
+  loose = v.loose;
 }
 
 pub works_keeping : (m1 m2 : Pages) (own : List ℕ) (p1 p2 : Part)
@@ -78,13 +92,19 @@ pub works_keeping : (m1 m2 : Pages) (own : List ℕ) (p1 p2 : Part)
     → WorksBy m1 m2 (keeping own p1) (keeping own p2) result
 works_keeping m1 m2 own p1 p2 result w = record {
   refused = λ why e. let r = w.refused why e in (r.0, ap (keeping own) r.1, r.2);
-  idle = λ e n. let r = w.idle e n in (r.0, ap (keeping own) r.1, r.2);
-  visits = λ page e n. let v = w.visits page e n in record {
-    answer = v.answer;
-    memory = v.memory;
-    part = ap (keeping own) v.part;
-    loose = v.loose;
-  };
+  idle = λ e i n. let r = w.idle e i n in (r.0, ap (keeping own) r.1, r.2);
+  inflate = λ page e i. visits_keeping 0 page m1 m2 own p1 p2 result (w.inflate page e i);
+  report = λ page e i n. visits_keeping 4 page m1 m2 own p1 p2 result (w.report page e i n);
+}
+
+pub asks_keeping : {T : Type 0} (m1 m2 : Pages) (own : List ℕ) (p1 p2 : Part)
+    (result : Result T Refusal) → AsksBy m1 m2 p1 p2 result
+    → AsksBy m1 m2 (keeping own p1) (keeping own p2) result
+asks_keeping m1 m2 own p1 p2 result a = record {
+  refused = λ why e. let r = a.refused why e in (r.0, ap (keeping own) r.1, r.2);
+  answers = a.answers;
+  part = λ e. ap (keeping own) (a.part e);
+  memory = a.memory;
 }
 
 settled_keeping : (a b : Bool) (pages own : List ℕ) (p : Part)

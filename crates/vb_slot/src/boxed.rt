@@ -3,7 +3,7 @@
 ghost use Rattle.std.specs.Prelude.{◌≡◌};
 
 use std::alloc::{AllocError, Global};
-use vb_device::{Claimed, Device, Worked};
+use vb_device::{Claimed, Device, Statistics, Worked};
 use vb_model::Refusal;
 use vb_ram::{Config, Frame, GuestBytes, RamFault, SupplyRefused};
 use vb_status::{Features, Port, Status, StatusFault};
@@ -93,6 +93,14 @@ impl Device for BoxedDevice {
 
     fn sweep(&mut self, page: u32) -> Result<bool, Refusal> {
         self.device.sweep(page)
+    }
+
+    fn ask_stats(&mut self) -> Result<(), Refusal> {
+        self.device.ask_stats()
+    }
+
+    fn stats(&self) -> Statistics {
+        self.device.stats()
     }
 
     fn ballooned(&self, page: u32) -> bool {

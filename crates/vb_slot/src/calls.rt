@@ -7,12 +7,13 @@ ghost use Rattle.vb_model.specs.World.{Answers};
 ghost use Rattle.vb_guest.specs.Replies.{ready_reply, page_reply, done_reply, bytes_reply};
 ghost use Rattle.vb_guest.specs.Replies.{posted_reply, reaped_reply, taken_reply, finished_reply};
 ghost use Rattle.vb_guest.specs.Replies.{worked_reply, swept_reply, runs_reply, balloon_reply};
+ghost use Rattle.vb_guest.specs.Replies.{filled_reply, asked_reply, memory_reply};
 ghost use Rattle.vb_guest.specs.Steps.{AreOut, StepsAlone, StepsOver};
 ghost use Rattle.vb_slot.specs.Slots.{stands_for, supply_from, claims_of};
 
 use crate::slot::{Slot, forget};
 use std::alloc::{AllocError, Global};
-use vb_device::{Device, Worked};
+use vb_device::{Device, Statistics, Worked};
 use vb_driver::{Posted, Reaped};
 use vb_frames::FrameKeeper;
 use vb_guest::BalloonState;
@@ -160,8 +161,38 @@ impl Slot {
         vb_guest::oom(&mut self.driver, &mut self.device, pages)
     }
 
-    /// The driver takes the next used request of a queue (VIRTIO 1.1, 2.6.14); answers none where
-    /// none is new. Refused with `NoQueue` and `NotReady`, tested in this order.
+    /// The driver offers the first free blocks of order 4 or more that start at or after this page, at
+    /// most min(Q, 16), in one report of a queue of its own (profile). Refused with `NotReady`,
+    /// `NoFeature` without REPORTING, `QueueFull` while a report is out, and `Nothing`, tested in this
+    /// order.
+    pub fn report(&mut self, from: u32) -> Result<Posted, Refusal>
+        requires { (keeps : Bool) × (g : Guest) × stands_for keeps mem part self.old g }
+        ensures step { (keeps : Bool) (g : Guest) → stands_for keeps mem part self.old g
+            → StepsAlone (stands_for keeps mem part self.new) g (Call.Report from)
+            (posted_reply result) }
+        ensures claimed { claims_of self.new ≡ [] }
+    {
+        forget(&mut self.claims);
+        vb_guest::report(&mut self.driver, &mut self.device, from)
+    }
+
+    /// The driver fills the statistics buffer anew and makes it available, where the device has used
+    /// it (VIRTIO 1.1, 5.5.6.3); answers whether it did. Refused with `NotReady` and, without STATS_VQ,
+    /// `NoFeature`, tested in this order.
+    pub fn stats(&mut self) -> Result<bool, Refusal>
+        requires { (keeps : Bool) × (g : Guest) × stands_for keeps mem part self.old g }
+        ensures step { (keeps : Bool) (g : Guest) → stands_for keeps mem part self.old g
+            → StepsAlone (stands_for keeps mem part self.new) g (Call.Stats)
+            (filled_reply result) }
+        ensures claimed { claims_of self.new ≡ [] }
+    {
+        forget(&mut self.claims);
+        vb_guest::stats(&mut self.driver, &mut self.device)
+    }
+
+    /// The driver takes the next used request of a queue (VIRTIO 1.1, 2.6.14), 0 and 1, or 4 for a
+    /// report; answers none where none is new. Refused with `NoQueue`, `NotReady` and, of queue 4
+    /// without REPORTING, `NoFeature`, tested in this order.
     pub fn reap(&mut self, queue: u32) -> Result<Option<Reaped>, Refusal>
         requires { (keeps : Bool) × (g : Guest) × stands_for keeps mem part self.old g }
         ensures step { (keeps : Bool) (g : Guest) → stands_for keeps mem part self.old g
@@ -173,8 +204,11 @@ impl Slot {
         vb_guest::reap(&mut self.driver, &mut self.device, queue)
     }
 
-    /// The device takes the next chain of a queue (VIRTIO 1.1, 2.6); answers its head, or none where
-    /// no chain is available. Refused with `NoQueue`, `NotReady` and `Busy`, tested in this order.
+    /// The device takes the next chain of a queue (VIRTIO 1.1, 2.6): a request (0 and 1), the buffer of
+    /// statistics (2), which it reads, or a report (4). Answers its head, or none where no chain is
+    /// available. Refused with `NoQueue`, `NotReady`, `NoQueue` where the queue's feature wasn't
+    /// accepted, and `Busy` where 16 chains of the queue, or one of queue 2, are taken, tested in this
+    /// order.
     pub fn take(&mut self, queue: u32) -> Result<Option<u16>, Refusal>
         ensures step { (keeps : Bool) (g : Guest) → stands_for keeps mem part self.old g
             → StepsAlone (stands_for keeps mem part self.new) g (Call.Take queue)
@@ -185,10 +219,10 @@ impl Slot {
         vb_guest::take(&mut self.device, queue)
     }
 
-    /// A paced device visits one more page of the requests that it took, the oldest request first,
-    /// and takes its frame away, if it has one. Answers the page and whether it had a frame; none
-    /// where no page is left to visit, and always where the device is immediate. Refused with
-    /// `NotReady` alone.
+    /// A paced device visits one more page of the requests that it took, the oldest inflate first and
+    /// reports after the inflates, and takes its frame away, if it has one. Answers the page and
+    /// whether it had a frame; none where no page is left to visit, and always where the device is
+    /// immediate. Refused with `NotReady` alone.
     pub fn work<K: FrameKeeper>(&mut self, keeper: &mut K) -> Result<Option<Worked>, Refusal>
         requires { (keeps : Bool) × (g : Guest) × stands_for keeps mem part self.old g
             × (keeps ≡ false → AreOut g (K.out keeper.old)) }
@@ -202,8 +236,9 @@ impl Slot {
         vb_guest::work(&mut self.device, keeper)
     }
 
-    /// The device uses the taken chain of this number, from 0, on a queue; answers its head. Refused
-    /// with `NoQueue`, `NotReady`, `NotTaken` and `NotWorked`, tested in this order.
+    /// The device uses the taken chain of this number, from 0, of requests (queue 0 or 1) or reports
+    /// (4); answers its head. Refused with `NoQueue`, `NotReady`, `NotTaken` and `NotWorked`, tested in
+    /// this order.
     pub fn finish<K: FrameKeeper>(
         &mut self,
         keeper: &mut K,
@@ -235,6 +270,20 @@ impl Slot {
     {
         forget(&mut self.claims);
         vb_guest::sweep(&mut self.device, keeper, page)
+    }
+
+    /// The device asks for statistics: it uses the buffer of them that it took, so that the driver
+    /// fills it anew (VIRTIO 1.1, 5.5.6.3). Refused with `NotReady`, and `NotTaken` where none is taken,
+    /// tested in this order.
+    pub fn ask(&mut self) -> Result<(), Refusal>
+        requires { (keeps : Bool) × (g : Guest) × stands_for keeps mem part self.old g }
+        ensures step { (keeps : Bool) (g : Guest) → stands_for keeps mem part self.old g
+            → StepsAlone (stands_for keeps mem part self.new) g (Call.Ask)
+            (asked_reply result) }
+        ensures claimed { claims_of self.new ≡ [] }
+    {
+        forget(&mut self.claims);
+        vb_guest::ask(&mut self.device)
     }
 
     /// The host sets how many pages it wants (`num_pages`, VIRTIO 1.1, 5.5.4).
@@ -289,6 +338,14 @@ impl Slot {
             → Answers (Query.Balloon) g (balloon_reply result) }
     {
         vb_guest::balloon(&self.driver, &self.device)
+    }
+
+    /// What the last buffer of statistics that the device read said, in bytes (VIRTIO 1.1, 5.5.6.4).
+    pub fn memory(&self) -> Statistics
+        ensures answer { (keeps : Bool) (g : Guest) → stands_for keeps mem part self.now g
+            → Answers (Query.Memory) g (memory_reply result) }
+    {
+        vb_guest::memory(&self.device)
     }
 
     /// The number of the frame behind a page; none where it has none, or isn't there.

@@ -3,7 +3,7 @@
 ghost use Rattle.std.specs.Prelude.{◌≡◌, ℕ, Bool, true, false, []};
 ghost use Rattle.vb_model.specs.Guest.{Guest};
 ghost use Rattle.vb_model.specs.World.{Answers};
-ghost use Rattle.vb_model.specs.Brought.{is_call_brought, is_query_brought};
+ghost use Rattle.vb_model.specs.Brought.{is_call_brought};
 ghost use Rattle.vb_slot.specs.Slots.{stands_for, supply_from, claims_of};
 ghost use Rattle.vb_guest.specs.Steps.{AreOut, StepsOver};
 
@@ -60,7 +60,6 @@ impl Slot {
     /// Answers a question about the guest.
     pub fn query(&self, alloc: Global, query: &Query) -> Reply
         requires stands { (keeps : Bool) × (g : Guest) × stands_for keeps mem part self.now g }
-        requires brought { is_query_brought query.now ≡ true }
         ensures answer { (keeps : Bool) (g : Guest) → stands_for keeps mem part self.now g
             → Answers query.now g result }
     {

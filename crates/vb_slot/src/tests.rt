@@ -14,6 +14,7 @@ use std::test::Fail;
 use vb_device::Worked;
 use vb_driver::{Posted, Reaped};
 use vb_frames::{FrameKeeper, Refused};
+use vb_model::limits::PAGE_SIZE;
 use vb_model::{Bytes, Claim, Refusal};
 use vb_ram::{Config, Frame};
 
@@ -49,7 +50,7 @@ fn no_frames() -> NoFrames {
     NoFrames { out: true }
 }
 
-/// A call or a question, of processor 0, queue 0 and request 0 where such are meant.
+/// A call or a question, of processor 0 and request 0 where such are meant.
 enum Line {
     Init,
     Alloc,
@@ -61,14 +62,18 @@ enum Line {
     Inflate { pages: u32 },
     Deflate { pages: u32 },
     Oom { pages: u32 },
-    Take,
+    Report { from: u32 },
+    Stats,
+    Take { queue: u32 },
     Work,
-    Finish,
-    Reap,
+    Finish { queue: u32 },
+    Reap { queue: u32 },
     Sweep { page: u32 },
+    Ask,
     Reset,
     Balloon,
     Places,
+    Memory,
 }
 
 /// A letter for the kind of an answer, and its numbers.
@@ -77,7 +82,24 @@ type Answer = (char, u32, u32);
 /// A line, its answer, and what its claims are answered.
 type Row = (Line, Answer, &'static [Claim]);
 
-/// The first twelve frames.
+/// The first thirteen frames.
+const THIRTEEN: [Claim; 13] = [
+    Claim::Gave(0),
+    Claim::Gave(1),
+    Claim::Gave(2),
+    Claim::Gave(3),
+    Claim::Gave(4),
+    Claim::Gave(5),
+    Claim::Gave(6),
+    Claim::Gave(7),
+    Claim::Gave(8),
+    Claim::Gave(9),
+    Claim::Gave(10),
+    Claim::Gave(11),
+    Claim::Gave(12),
+];
+
+/// The first twelve frames, and none behind them.
 const TWELVE: [Claim; 13] = [
     Claim::Gave(0),
     Claim::Gave(1),
@@ -96,25 +118,7 @@ const TWELVE: [Claim; 13] = [
 
 /// A device of sixteen frames.
 static SIXTEEN_FRAMES: [Row; 34] = [
-    (
-        Line::Init,
-        ('y', 0, 0),
-        &[
-            Claim::Gave(0),
-            Claim::Gave(1),
-            Claim::Gave(2),
-            Claim::Gave(3),
-            Claim::Gave(4),
-            Claim::Gave(5),
-            Claim::Gave(6),
-            Claim::Gave(7),
-            Claim::Gave(8),
-            Claim::Gave(9),
-            Claim::Gave(10),
-            Claim::Gave(11),
-            Claim::Gave(12),
-        ],
-    ),
+    (Line::Init, ('y', 0, 0), &THIRTEEN),
     (Line::Alloc, ('p', 16, 0), &[]),
     (Line::Write { page: 16 }, ('d', 0, 0), &[Claim::Gave(13)]),
     (Line::Backing { page: 16 }, ('k', 13, 0), &[Claim::Gave(13)]),
@@ -122,10 +126,10 @@ static SIXTEEN_FRAMES: [Row; 34] = [
     (Line::Free { page: 16 }, ('d', 0, 0), &[]),
     (Line::SetTarget { pages: 4 }, ('d', 0, 0), &[]),
     (Line::Inflate { pages: 4 }, ('o', 0, 4), &[]),
-    (Line::Take, ('t', 0, 0), &[]),
-    (Line::Finish, ('f', 0, 0), &[]),
+    (Line::Take { queue: 0 }, ('t', 0, 0), &[]),
+    (Line::Finish { queue: 0 }, ('f', 0, 0), &[]),
     (Line::Backing { page: 16 }, ('k', 99, 0), &[]),
-    (Line::Reap, ('r', 0, 4), &[]),
+    (Line::Reap { queue: 0 }, ('r', 0, 4), &[]),
     (Line::Alloc, ('p', 20, 0), &[]),
     (Line::Alloc, ('p', 21, 0), &[]),
     (Line::Alloc, ('p', 22, 0), &[]),
@@ -158,6 +162,35 @@ static SIXTEEN_FRAMES: [Row; 34] = [
     (Line::Init, ('y', 0, 0), &[]),
 ];
 
+/// A device of fourteen frames: what its guest says of its memory, and a report, which gives the last
+/// frame back.
+static FOURTEEN_FRAMES: [Row; 24] = [
+    (Line::Stats, ('n', 0, 0), &[]),
+    (Line::Init, ('y', 0, 0), &THIRTEEN),
+    (Line::Memory, ('m', 99, 99), &THIRTEEN),
+    (Line::Ask, ('n', 3, 0), &[]),
+    (Line::Take { queue: 2 }, ('t', 0, 0), &[]),
+    (Line::Memory, ('m', 48, 64), &[]),
+    (Line::Take { queue: 2 }, ('n', 4, 0), &[]),
+    (Line::Stats, ('s', 0, 0), &[]),
+    (Line::Alloc, ('p', 16, 0), &[]),
+    (Line::Write { page: 16 }, ('d', 0, 0), &[Claim::Gave(13)]),
+    (Line::Ask, ('a', 0, 0), &[]),
+    (Line::Stats, ('s', 1, 0), &[]),
+    (Line::Take { queue: 2 }, ('t', 0, 0), &[]),
+    (Line::Memory, ('m', 47, 64), &[]),
+    (Line::Free { page: 16 }, ('d', 0, 0), &[]),
+    (Line::Report { from: 0 }, ('o', 0, 48), &[]),
+    (Line::Report { from: 0 }, ('n', 5, 0), &[]),
+    (Line::Take { queue: 4 }, ('t', 0, 0), &[]),
+    (Line::Backing { page: 16 }, ('k', 13, 0), &[]),
+    (Line::Finish { queue: 4 }, ('f', 0, 0), &[]),
+    (Line::Backing { page: 16 }, ('k', 99, 0), &[]),
+    (Line::Reap { queue: 4 }, ('r', 0, 48), &[]),
+    (Line::Alloc, ('p', 16, 0), &[]),
+    (Line::Write { page: 16 }, ('d', 0, 0), &[Claim::Gave(13)]),
+];
+
 /// A device of twelve frames, of which none is out after a start that is refused.
 static TWELVE_FRAMES: [Row; 2] = [
     (Line::Init, ('n', 1, 0), &TWELVE),
@@ -165,13 +198,15 @@ static TWELVE_FRAMES: [Row; 2] = [
 ];
 
 fn refused(refusal: Refusal) -> Answer {
-    if refusal == Refusal::NoFrame {
-        ('n', 1, 0)
-    } else if refusal == Refusal::NotBallooned {
-        ('n', 2, 0)
-    } else {
-        ('n', 0, 0)
-    }
+    let number = match refusal {
+        Refusal::NoFrame => 1,
+        Refusal::NotBallooned => 2,
+        Refusal::NotTaken => 3,
+        Refusal::Busy => 4,
+        Refusal::QueueFull => 5,
+        _ => 0,
+    };
+    ('n', number, 0)
 }
 
 fn done(letter: char, answer: Result<(), Refusal>) -> Answer {
@@ -230,6 +265,14 @@ fn worked(answer: Result<Option<Worked>, Refusal>) -> Answer {
     }
 }
 
+/// How many pages a figure of statistics is; 99 where it isn't known.
+fn pages_of(figure: Option<u64>) -> u32 {
+    match figure {
+        Some(bytes) => u32::try_from(bytes / u64::from(PAGE_SIZE)).unwrap_or(u32::MAX),
+        None => 99,
+    }
+}
+
 /// Two bytes for a page, which are written to its beginning.
 fn write(alloc: Global, slot: &mut Slot, page: u32) -> Result<Answer, AllocError>
     requires { (g : Guest) × stands_for true mem part slot.old g }
@@ -251,6 +294,10 @@ fn answer_of_question(slot: &Slot, line: &Line) -> Answer {
             let counts = slot.places();
             ('c', counts.free, counts.used)
         }
+        Line::Memory => {
+            let said = slot.memory();
+            ('m', pages_of(said.free), pages_of(said.total))
+        }
         _ => ('?', 0, 0),
     }
 }
@@ -269,7 +316,9 @@ fn answer_of_driver(alloc: Global, slot: &mut Slot, line: &Line) -> Result<Answe
         Line::Inflate { pages } => posted(slot.inflate(*pages)),
         Line::Deflate { pages } => posted(slot.deflate(*pages)),
         Line::Oom { pages } => posted(slot.oom(*pages)),
-        Line::Reap => reaped(slot.reap(0)),
+        Line::Report { from } => posted(slot.report(*from)),
+        Line::Stats => number('s', slot.stats().map(u32::from)),
+        Line::Reap { queue } => reaped(slot.reap(*queue)),
         _ => answer_of_question(slot, line),
     })
 }
@@ -288,10 +337,13 @@ fn answer_of(alloc: Global, slot: &mut Slot, line: &Line) -> Result<Answer, Allo
             slot.reset();
             ('d', 0, 0)
         }
-        Line::Take => taken(slot.take(0)),
+        Line::Take { queue } => taken(slot.take(*queue)),
         Line::Work => worked(slot.work(&mut no_frames())),
-        Line::Finish => number('f', slot.finish(&mut no_frames(), 0, 0).map(u32::from)),
+        Line::Finish { queue } => {
+            number('f', slot.finish(&mut no_frames(), *queue, 0).map(u32::from))
+        }
         Line::Sweep { page } => number('w', slot.sweep(&mut no_frames(), *page).map(u32::from)),
+        Line::Ask => done('a', slot.ask()),
         _ => answer_of_driver(alloc, slot, line)?,
     })
 }
@@ -329,6 +381,12 @@ fn play(rt: &impl Abort, alloc: Global, frames: u32, table: &[Row]) -> Result<()
 #[test]
 fn frames_come_from_the_device_and_go_back_to_it(rt: HostRuntime) -> Result<(), Fail> {
     play(&rt, rt.alloc(), 16, &SIXTEEN_FRAMES)?;
+    Ok(())
+}
+
+#[test]
+fn statistics_and_a_report(rt: HostRuntime) -> Result<(), Fail> {
+    play(&rt, rt.alloc(), 14, &FOURTEEN_FRAMES)?;
     Ok(())
 }
 

@@ -12,14 +12,16 @@ use Rattle.vb_ram.specs.Part.{Part, QueuePart}
 use Rattle.vb_model.specs.Requests.{Request}
 use Rattle.vb_model.specs.FirstRefusal.{◌⇒◌, first_refusal}
 use Rattle.vb_model.specs.Tables.{is_queue_of_requests, has_unvisited, is_not_ready, has_fault}
-use Rattle.vb_model.specs.declared.layout.TheConstants.{DEFLATE_QUEUE}
+use Rattle.vb_model.specs.declared.layout.TheConstants.{INFLATE_QUEUE, DEFLATE_QUEUE, REPORT_QUEUE}
 use Rattle.vb_model.specs.declared.replies.Refusal.TheVariants.{NoQueue, NotReady, NeedsReset}
 use Rattle.vb_model.specs.declared.replies.Refusal.TheVariants.{NotTaken, NotWorked}
 use Rattle.vb_device.specs.Discards.{flagged}
 use Rattle.vb_device.proofs.Marks.{flagged-length}
 use Rattle.vb_device.specs.declared.worked.Worked.{Worked}
 use Rattle.vb_device.specs.Calls.{attached, using, next_visit, WorksBy, SweepsBy, FinishesBy, Uses}
-use Rattle.vb_device.specs.Conditions.{work_refusal, sweep_refusal, finish_refusal, taken_at}
+use Rattle.vb_device.specs.Calls.{AsksBy}
+use Rattle.vb_device.specs.Conditions.{work_refusal, sweep_refusal, finish_refusal, ask_refusal}
+use Rattle.vb_device.specs.Conditions.{taken_at}
 use Rattle.vb_model.specs.declared.replies.Refusal.{Refusal}
 use Rattle.vb_model.specs.Tests.{is_in, pages_from, pages_where}
 use Rattle.vb_model.proofs.Tables.{pages_where-passes, count_by-cons}
@@ -164,13 +166,27 @@ sweep_keeps page m1 m2 p1 p2 result s = step (sweep_refusal page p1) refl
 -- work leaves the flags
 pub work_keeps : (m1 m2 : Pages) (p1 p2 : Part) (result : Result (Option Worked) Refusal)
     → WorksBy m1 m2 p1 p2 result → p2.ballooned ≡ p1.ballooned
-work_keeps m1 m2 p1 p2 result w = step (work_refusal p1) refl (next_visit p1) refl
+work_keeps m1 m2 p1 p2 result w =
+    step (work_refusal p1) refl (next_visit INFLATE_QUEUE p1) refl (next_visit REPORT_QUEUE p1) refl
   where
-    step : (o : Option Refusal) → work_refusal p1 ≡ o → (next : Option ℕ) → next_visit p1 ≡ next
-        → p2.ballooned ≡ p1.ballooned
-    step (Some why) e next at = ap (λ (p : Part). p.ballooned) (w.refused why e).1
-    step None e None at = ap (λ (p : Part). p.ballooned) (w.idle e at).1
-    step None e (Some page) at = ap (λ (p : Part). p.ballooned) (w.visits page e at).part
+    step : (o : Option Refusal) → work_refusal p1 ≡ o → (next : Option ℕ)
+        → next_visit INFLATE_QUEUE p1 ≡ next → (other : Option ℕ)
+        → next_visit REPORT_QUEUE p1 ≡ other → p2.ballooned ≡ p1.ballooned
+    step (Some why) e next at other is = ap (λ (p : Part). p.ballooned) (w.refused why e).1
+    step None e (Some page) at other is =
+        ap (λ (p : Part). p.ballooned) (w.inflate page e at).part
+    step None e None at (Some page) is =
+        ap (λ (p : Part). p.ballooned) (w.report page e at is).part
+    step None e None at None is = ap (λ (p : Part). p.ballooned) (w.idle e at is).1
+
+-- a question for statistics leaves the flags
+pub ask_keeps : {T : Type 0} (m1 m2 : Pages) (p1 p2 : Part) (result : Result T Refusal)
+    → AsksBy m1 m2 p1 p2 result → p2.ballooned ≡ p1.ballooned
+ask_keeps m1 m2 p1 p2 result a = step (ask_refusal p1) refl
+  where
+    step : (o : Option Refusal) → ask_refusal p1 ≡ o → p2.ballooned ≡ p1.ballooned
+    step None e = ap (λ (p : Part). p.ballooned) (a.part e)
+    step (Some why) e = ap (λ (p : Part). p.ballooned) (a.refused why e).1
 
 -- ---- a finish leaves the number of flags
 

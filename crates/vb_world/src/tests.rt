@@ -12,6 +12,7 @@ use std::alloc::{AllocError, Global};
 use std::process::Abort;
 use std::test::Fail;
 use vb_device::{Device, ImmediateDevice, PacedDevice};
+use vb_model::limits::PAGE_SIZE;
 use vb_model::{Bytes, Call, Event, Query, Refusal, Reply};
 
 /// An event, of guest 0, page 16 and queue 0 where no other are said.
@@ -31,6 +32,10 @@ enum Line {
     Finish { queue: u32 },
     Sweep { page: u32 },
     Reap { queue: u32 },
+    Report,
+    Stats,
+    Ask,
+    Memory,
     Frames,
 }
 
@@ -84,6 +89,27 @@ static PACED_PATH: [(Line, Answer); 29] = [
     (Line::Sweep { page: 16 }, ('n', 8, 0)),
     (Line::Sweep { page: 18 }, ('s', 0, 0)),
     (Line::Frames, ('u', 13, 51)),
+];
+
+/// What a guest says of its memory, and a report, of which a paced device visits a page.
+static TOLD_PATH: [(Line, Answer); 17] = [
+    (Line::Plug { pages: 64 }, ('g', 0, 0)),
+    (Line::Ask, ('n', 6, 0)),
+    (Line::Init, ('y', 0, 0)),
+    (Line::Memory, ('m', 99, 99)),
+    (Line::Take { queue: 2 }, ('t', 0, 0)),
+    (Line::Memory, ('m', 48, 64)),
+    (Line::Stats, ('l', 0, 0)),
+    (Line::Alloc, ('p', 16, 0)),
+    (Line::Ask, ('a', 0, 0)),
+    (Line::Stats, ('l', 1, 0)),
+    (Line::Take { queue: 2 }, ('t', 0, 0)),
+    (Line::Memory, ('m', 47, 64)),
+    (Line::Report, ('o', 0, 32)),
+    (Line::Report, ('n', 9, 0)),
+    (Line::Take { queue: 4 }, ('t', 0, 0)),
+    (Line::Work, ('w', 32, 0)),
+    (Line::Finish { queue: 4 }, ('n', 7, 0)),
 ];
 
 /// A call on no guest, a wrong size, and a second guest on a host with one device.
@@ -171,6 +197,13 @@ fn event_of(alloc: Global, line: &Line) -> Result<Event, AllocError>
         }),
         Line::Sweep { page } => on_guest(Call::Sweep { page: *page }),
         Line::Reap { queue } => on_guest(Call::Reap { queue: *queue }),
+        Line::Report => on_guest(Call::Report { from: 0 }),
+        Line::Stats => on_guest(Call::Stats),
+        Line::Ask => on_guest(Call::Ask),
+        Line::Memory => Event::Query {
+            guest: 0,
+            query: Query::Memory,
+        },
         Line::Frames => Event::Frames,
     })
 }
@@ -209,6 +242,14 @@ fn bytes_of(bytes: &[u8]) -> u32 {
     }
 }
 
+/// How many pages a figure of statistics is; 99 where it isn't known.
+fn pages_of(figure: Option<u64>) -> u32 {
+    match figure {
+        Some(bytes) => u32::try_from(bytes / u64::from(PAGE_SIZE)).unwrap_or(u32::MAX),
+        None => 99,
+    }
+}
+
 fn refusal_of(refusal: Refusal) -> u32 {
     match refusal {
         Refusal::NoGuest => 1,
@@ -219,6 +260,7 @@ fn refusal_of(refusal: Refusal) -> u32 {
         Refusal::NotReady => 6,
         Refusal::NotWorked => 7,
         Refusal::NotBallooned => 8,
+        Refusal::QueueFull => 9,
         _ => 0,
     }
 }
@@ -237,6 +279,10 @@ fn answer_of(reply: &Reply) -> Answer {
         Reply::Finished { head } => ('f', *head, 0),
         Reply::Swept { freed } => ('s', u32::from(*freed), 0),
         Reply::Reaped { head, pages } => ('r', *head, *pages),
+        Reply::Filled => ('l', 1, 0),
+        Reply::NotUsed => ('l', 0, 0),
+        Reply::Asked => ('a', 0, 0),
+        Reply::Statistics { free, total } => ('m', pages_of(*free), pages_of(*total)),
         Reply::Backing { frame } => ('k', frame.unwrap_or(99), 0),
         Reply::Frames { used, free } => ('u', *used, *free),
         Reply::Refused(refusal) => ('n', refusal_of(*refusal), 0),
@@ -329,6 +375,13 @@ fn a_paced_device_visits_each_page_first(rt: HostRuntime) -> Result<(), Fail> {
 #[test]
 fn a_device_with_a_list_visits_each_page_first(rt: HostRuntime) -> Result<(), Fail> {
     play_listed(&rt, rt.alloc(), 64, &PACED_PATH)?;
+    Ok(())
+}
+
+#[test]
+fn guests_tell_of_their_memory_on_each_paced_device(rt: HostRuntime) -> Result<(), Fail> {
+    play_paced(&rt, rt.alloc(), 64, &TOLD_PATH)?;
+    play_listed(&rt, rt.alloc(), 64, &TOLD_PATH)?;
     Ok(())
 }
 

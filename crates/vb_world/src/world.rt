@@ -2,7 +2,7 @@
 
 ghost use Rattle.std.specs.Prelude.{◌≡◌, ◌<◌, ◌≤◌, ◌^◌, ℕ, true, All, IfOk, IfErr, OnErr, OnOk};
 ghost use Rattle.std.specs.Prelude.{map, ◌++◌, [], vec_len, vec_capacity, ◌∷◌, List, Bool, IsTrue};
-ghost use Rattle.vb_model.specs.Brought.{is_brought, is_call_brought, is_query_brought};
+ghost use Rattle.vb_model.specs.Brought.{is_brought, is_call_brought};
 ghost use Rattle.vb_model.specs.Safe.{IsSafeRun};
 ghost use Rattle.vb_model.specs.World.{World as Model, WorldStep, PlugsIn, made};
 ghost use Rattle.vb_model.specs.declared.calls.Event.TheVariants.{Plug, Guest as OnGuest};
@@ -128,7 +128,6 @@ impl World {
     /// A question about a guest.
     fn query(&self, alloc: Global, guest: u32, query: &Query) -> Reply
         requires world { (w : Model) × IsWorld mem part self.now w }
-        requires brought { is_query_brought query.now ≡ true }
         ensures { (w : Model) → IsWorld mem part self.now w →
             WorldStep w (Asking guest query.now) result w }
     {

@@ -3,7 +3,7 @@
 use super::{Example, check_all};
 
 /// The text of each file, and that of the file beside it.
-static EXAMPLES: [Example; 3] = [
+static EXAMPLES: [Example; 4] = [
     Example {
         name: "examples/first-path.script",
         script: "\
@@ -280,6 +280,92 @@ pages 18
 pages 18
 free 47 used 0 giving 0 lent 1 taking 0 stranded 0 reporting 0
 free 47 used 0 giving 0 lent 1 taking 0 stranded 0 reporting 0
+",
+    },
+    Example {
+        name: "examples/reporting.script",
+        script: "\
+# A guest reports its free pages to its host, which takes their frames back, and tells it how much of
+# its memory is free.
+
+# A host with 64 frames, and one device for a guest.
+host 64
+spare immediate
+
+# A guest with 64 pages, the first 16 of which are its own. Its driver starts the device.
+plug 64 8 1
+init 0
+
+# Its processor gets a block of 16 pages, writes to two of them and frees the block. The pages are
+# free by now, but the host doesn't know, and their frames stay where they are.
+alloc 0 0 4
+write 0 16 0 c0ffee
+write 0 17 0 beef
+free 0 0 16 4
+frames
+
+# The driver reports its free blocks of 16 pages or more. Until the report is back, no processor gets
+# a page of them.
+report 0 0
+pages 0 reporting
+alloc 0 0 0
+
+# The device takes the report and finishes it: two frames go back to the host, and nothing is in the
+# balloon. The driver reaps the report, and the pages are free as before.
+take 0 4
+finish 0 4 0
+frames
+backing 0 16
+balloon 0
+reap 0 4
+places 0
+
+# A page that was reported is used like any other; it lost what it held.
+alloc 0 0 4
+read 0 16 0 4
+
+# When the driver started the device it left it a buffer: what was free then, and all memory, in
+# bytes. The host knows nothing of it until the device takes the buffer.
+memory 0
+take 0 2
+memory 0
+
+# The device has the buffer, so that the driver can't fill it. Where the device asks, it gives the
+# buffer back, the driver fills it anew, and the device takes it again: 16 pages less are free.
+stats 0
+ask 0
+stats 0
+take 0 2
+memory 0
+",
+        replies: "\
+guest 0
+ready
+page 16
+ok
+ok
+ok
+frames used 15 free 49
+posted 0 48
+pages 16-63
+no pages
+taken 0
+finished 0
+frames used 13 free 51
+no backing
+ballooned 0 actual 0 target 0 status 15
+reaped 0 48
+free 48 used 0 giving 0 lent 0 taking 0 stranded 0 reporting 0
+page 16
+bytes 00000000
+memory - -
+taken 0
+memory 196608 262144
+none
+asked
+filled
+taken 0
+memory 131072 262144
 ",
     },
 ];

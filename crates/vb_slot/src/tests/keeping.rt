@@ -7,7 +7,7 @@ ghost use Rattle.vb_ram.specs.Part.{Part};
 ghost use Rattle.vb_device.specs.Calls.{IsUnused, Claims, PutsBack};
 
 use std::alloc::{AllocError, Global};
-use vb_device::{Claimed, Device, ImmediateDevice, Worked};
+use vb_device::{Claimed, Device, ImmediateDevice, Statistics, Worked};
 use vb_model::Refusal;
 use vb_ram::{Config, Frame, GuestBytes, RamFault, SupplyRefused};
 use vb_status::{Features, Port, Status, StatusFault};
@@ -225,6 +225,14 @@ impl Device for KeepingDevice {
 
     fn sweep(&mut self, page: u32) -> Result<bool, Refusal> {
         self.inner.sweep(page)
+    }
+
+    fn ask_stats(&mut self) -> Result<(), Refusal> {
+        self.inner.ask_stats()
+    }
+
+    fn stats(&self) -> Statistics {
+        self.inner.stats()
     }
 
     fn ballooned(&self, page: u32) -> bool {

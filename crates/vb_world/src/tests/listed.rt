@@ -7,7 +7,7 @@ ghost use Rattle.vb_device.specs.Calls.{IsUnused};
 
 use std::alloc::{AllocError, Global};
 use std::marker::Model;
-use vb_device::{Claimed, Device, PacedDevice, Worked};
+use vb_device::{Claimed, Device, PacedDevice, Statistics, Worked};
 use vb_model::Refusal;
 use vb_ram::{Config, Frame, GuestBytes, RamFault, SupplyRefused};
 use vb_status::{Features, Port, Status, StatusFault};
@@ -241,6 +241,15 @@ impl Device for ListedDevice {
     fn sweep(&mut self, page: u32) -> Result<bool, Refusal> {
         count(&mut self.calls);
         self.inner.sweep(page)
+    }
+
+    fn ask_stats(&mut self) -> Result<(), Refusal> {
+        count(&mut self.calls);
+        self.inner.ask_stats()
+    }
+
+    fn stats(&self) -> Statistics {
+        self.inner.stats()
     }
 
     fn ballooned(&self, page: u32) -> bool {

@@ -24,3 +24,7 @@ returns-in-Finish g c =
 pub returns-in-Sweep : goal.returns-in-Sweep
 returns-in-Sweep g c =
     let s = c.sweep.ensures.step true c.requires.0 c.requires.1 in (s.new, s.stands)
+
+pub returns-in-Ask : goal.returns-in-Ask
+returns-in-Ask g c =
+    let s = c.ask.ensures.step true c.requires.0 c.requires.1 in (s.new, s.stands)

@@ -32,3 +32,11 @@ returns-in-Oom g c =
 pub returns-in-Reap : goal.returns-in-Reap
 returns-in-Reap g c =
     let s = c.reap.ensures.step true c.requires.0 c.requires.1 in (s.new, s.stands)
+
+pub returns-in-Report : goal.returns-in-Report
+returns-in-Report g c =
+    let s = c.report.ensures.step true c.requires.0 c.requires.1 in (s.new, s.stands)
+
+pub returns-in-Stats : goal.returns-in-Stats
+returns-in-Stats g c =
+    let s = c.stats.ensures.step true c.requires.0 c.requires.1 in (s.new, s.stands)
