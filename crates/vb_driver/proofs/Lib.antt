@@ -13,3 +13,6 @@ pub mod Allocating
 pub mod Owning
 pub mod Zeroing
 pub mod Starting
+pub mod Figures
+pub mod OneBuffer
+pub mod Filling
