@@ -5,15 +5,17 @@ ghost use Rattle.std.specs.Prelude.{MatchBool, OnErr, true, IsSome, drop, length
 ghost use Rattle.byteorder.specs.Endian.{little_bytes};
 ghost use Rattle.vb_model.specs.Limits.{page_size};
 ghost use Rattle.vb_model.specs.declared.layout.TheConstants.{STATISTICS_PAGE, STATISTIC_SIZE};
+ghost use Rattle.vb_model.specs.declared.layout.TheConstants.{STATISTICS_RING_PAGE};
+ghost use Rattle.vb_model.specs.Guest.{stats_vq};
 ghost use Rattle.vb_model.specs.declared.layout.TheConstants.{FREE_MEMORY_TAG, TOTAL_MEMORY_TAG};
 ghost use Rattle.vb_ram.specs.Pages.{Covers, SameBut, frame_at};
 ghost use Rattle.vb_ring.specs.Layout.{IsSize};
 ghost use Rattle.vb_ring.specs.Ends.{outstanding, used_answer};
 ghost use Rattle.vb_ring.specs.Calls.{TakesUsedBy};
-ghost use Rattle.vb_driver.specs.Coding.{IsStatistic};
+ghost use Rattle.vb_driver.specs.Coding.{IsStatistic, SameButPages};
 ghost use Rattle.vb_driver.specs.Answers.{IsBacked, IsLargeEnough, is_up};
 ghost use Rattle.vb_driver.specs.State.{IsStatisticsQueue, fresh_statistics, figures_of};
-ghost use Rattle.vb_driver.specs.Calls.{PostsBuffer, FillsBy, emptied};
+ghost use Rattle.vb_driver.specs.Calls.{PostsBuffer, FirstBuffer, FillsBy, emptied};
 
 use crate::Driver;
 use crate::reaping::give_up;
@@ -165,6 +167,23 @@ impl Driver {
         let free = self.places.count(Place::Free);
         let total = self.config.pages;
         self.statistics.post(port, bytes_of(free), bytes_of(total));
+    }
+
+    /// Fills and posts the first statistics buffer, where a queue of statistics was agreed on.
+    pub(crate) fn fill_first<P: Port>(&mut self, port: &mut P)
+        requires fresh { self.old.statistics ≡ fresh_statistics self.old.queue_size }
+        requires memory { IsLargeEnough (P.mem port.old) }
+        requires backed { IsBacked (P.mem port.old) }
+        ensures buffer { FirstBuffer (stats_vq self.old.features)
+            (P.mem port.old) (P.mem port.new) self.old self.new }
+        ensures state { self.new ≡ record self.old { statistics = self.new.statistics } }
+        ensures rest { SameButPages (P.mem port.old) (P.mem port.new)
+            STATISTICS_RING_PAGE STATISTICS_PAGE }
+        ensures part { P.part port.new ≡ P.part port.old }
+    {
+        if self.features.stats_vq() {
+            self.fill(port);
+        }
     }
 
     /// Fills the statistics buffer anew where the device has used it (VIRTIO 1.1, 5.5.6.3), and
