@@ -2,6 +2,7 @@ pub mod Counting
 pub mod Placing
 pub mod Buffers
 pub mod RequestTables
+pub mod ReportTables
 pub mod Posting
 pub mod Naming
 pub mod Keeping

@@ -84,13 +84,15 @@ posts_at m1 m2 m3 r r2 sent base h a l pages s adds =
           let out : is_in i (next_path r 1) ≡ false =
           ap (is_in i) path ∙ (or_false (eqb h i) ∙ ne_eqb h i (λ e. ne (sym e))) in
           adds.links.others i lt out ∙ descriptor_apart m1 m2 T i first;
-      entries = λ heads elems counted shows. adds.entries heads elems counted
-          (entries_apart m1 m2 r.layout r.size heads elems s.is_end.fits.size first_avail first_used
-          shows);
-      shown = λ heads elems n tracks shows. adds.shown heads elems n
-          (tracks_apart m1 m2 r heads elems n first tracks)
-          (ring_apart m1 m2 r.layout r.size heads elems s.is_end.fits.size first first_avail
-          first_used shows);
+      announces = record {
+        entries = λ heads elems counted shows. adds.entries heads elems counted
+            (entries_apart m1 m2 r.layout r.size heads elems s.is_end.fits.size first_avail
+            first_used shows);
+        shown = λ heads elems n tracks shows. adds.shown heads elems n
+            (tracks_apart m1 m2 r heads elems n first tracks)
+            (ring_apart m1 m2 r.layout r.size heads elems s.is_end.fits.size first first_avail
+            first_used shows);
+      };
       rest = record {
         others = λ p ne1 ne2. second p ne1 ∙ s.wrote.others p ne2;
         buffers = λ k ne. same_trans m1 m2 m3 (buffer_page base k) (buffer_offset k)

@@ -13,7 +13,7 @@ use Rattle.vb_ring.specs.Layout.{IsSize, Fits, layout_of}
 use Rattle.vb_ring.proofs.MeaningLaws.{fresh_shows, fresh_tracks}
 use Rattle.vb_status.specs.Answers.{answered_refusal}
 use Rattle.vb_status.specs.declared.bits.StatusFault.{StatusFault}
-use Rattle.vb_driver.specs.State.{fresh_at}
+use Rattle.vb_ring.specs.Ends.{fresh_end}
 use Rattle.vb_driver.specs.Coding.{AreZeroed}
 use Rattle.vb_driver.specs.Calls.{IsNewRing}
 
@@ -57,7 +57,7 @@ fits_at page q size = record {
 
 -- a fresh queue's ring in a page of zeros
 pub new_ring : (m1 m2 : Pages) (page q : ℕ) → IsSize q → page < 4 → AreZeroed m1 m2 4
-    → IsNewRing m2 (fresh_at page q)
+    → IsNewRing m2 (fresh_end (layout_of page q) q)
 new_ring m1 m2 page q size low zeroed = record {
   shows = fresh_shows m2 (layout_of page q) q (fits_at page q size)
       (λ k lt. zeroed.zero page k low lt) (λ k lt. zeroed.zero page k low lt);

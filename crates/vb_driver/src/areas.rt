@@ -2,10 +2,10 @@
 
 ghost use Rattle.std.specs.Prelude.{◌≡◌, ◌<◌, ◌≤◌, ◌∷◌, [], ℕ, false, true, Ok, Err, IfOk};
 ghost use Rattle.std.specs.Prelude.{OnOk, OnErr, IsTrue, length, not, nat_lt, nat_le};
-ghost use Rattle.std.specs.Prelude.{count_by, slice_set};
+ghost use Rattle.std.specs.Prelude.{count_by, slice_set, if◌then◌else◌};
 ghost use Rattle.std.specs.List.{list_all};
-ghost use Rattle.vb_model.specs.Tests.{is_in};
-ghost use Rattle.vb_model.specs.Pages.{pages_of};
+ghost use Rattle.vb_model.specs.Tests.{is_in, pages_where};
+ghost use Rattle.vb_model.specs.Pages.{pages_of, place_of, is_reporting};
 ghost use Rattle.vb_model.specs.Driver.{AllDistinct, with_block, without_block};
 ghost use Rattle.vb_model.specs.Limits.{max_order, max_request_pages, reserved_pages};
 ghost use Rattle.vb_model.specs.Orderly.{times};
@@ -17,14 +17,16 @@ ghost use Rattle.vb_pages.specs.PageState.{freed, with_free_block};
 ghost use Rattle.vb_pages.specs.PageState.{TakesFree};
 ghost use Rattle.vb_driver.specs.Answers.{refusal_in, block_at};
 ghost use Rattle.vb_driver.specs.Areas.{AreApart, Becomes, Allots, flags_of, has_block, all_given};
+ghost use Rattle.vb_driver.specs.Areas.{areas_with};
 ghost use Rattle.vb_driver.specs.Areas.{is_free_at, is_covered, is_free_block, refusal_of};
 ghost use Rattle.vb_driver.specs.Places.{marked};
 
+use crate::places::PlaceTable;
 use crate::queue::RequestPages;
 use arrayvec::ArrayVec;
 use std::alloc::{AllocError, Global};
 use std::marker::Model;
-use vb_model::Refusal;
+use vb_model::{Place, Refusal};
 use vb_pages::{PageFault, Pages};
 
 /// The areas of a guest, with the lists of the processors and the held blocks. What the driver
@@ -160,6 +162,46 @@ impl Areas {
     {
         for page in pages {
             self.give_free(*page);
+        }
+    }
+
+    /// Gives a page back if it is reported to the host.
+    fn give_if_reported(&mut self, page: u32, place: Place)
+        requires unreserved { is_reporting place ≡ true → reserved_pages ≤ page }
+        requires inside { page < length (flags_of self.old.free) }
+        requires taken { is_reporting place ≡ true
+            → is_free_at (flags_of self.old.free) page ≡ false }
+        requires uncovered { is_reporting place ≡ true → is_covered page self.old.held ≡ false }
+        ensures state { Becomes self.old self.new
+            (marked (if is_reporting place then page ∷ [] else []) true (flags_of self.old.free))
+            self.old.held }
+        ensures areas { self.new ≡ record self.old {
+          free = areas_with (if is_reporting place then page ∷ [] else []) self.old.free;
+        } }
+    {
+        if matches!(place, Place::Reporting) {
+            self.give_free(page);
+        }
+    }
+
+    /// Gives all pages back that are reported to the host.
+    pub(crate) fn give_reported(&mut self, places: &PlaceTable)
+        requires table { length places.now ≡ length (flags_of self.old.free) }
+        requires unreserved { (page : ℕ) → is_reporting (place_of places.now page) ≡ true
+            → reserved_pages ≤ page }
+        requires taken { (page : ℕ) → is_reporting (place_of places.now page) ≡ true
+            → is_free_at (flags_of self.old.free) page ≡ false }
+        requires uncovered { (page : ℕ) → is_reporting (place_of places.now page) ≡ true
+            → is_covered page self.old.held ≡ false }
+        ensures state { Becomes self.old self.new
+            (marked (pages_where is_reporting places.now) true (flags_of self.old.free))
+            self.old.held }
+        ensures areas { self.new ≡ record self.old {
+          free = areas_with (pages_where is_reporting places.now) self.old.free;
+        } }
+    {
+        for page in 0..places.pages() {
+            self.give_if_reported(page, places.place(page));
         }
     }
 }

@@ -9,7 +9,9 @@ mod memory;
 mod places;
 mod queue;
 mod reaping;
+mod reports;
 mod requests;
+mod statistics;
 #[cfg(test)]
 mod tests;
 

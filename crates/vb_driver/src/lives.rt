@@ -5,7 +5,7 @@ ghost use Rattle.vb_status.specs.After.{part_after_reset, with_new_queues};
 ghost use Rattle.vb_status.specs.Answers.{refusal_of_fault};
 ghost use Rattle.vb_status.specs.Bits.{feature_bits};
 ghost use Rattle.vb_driver.specs.Answers.{IsBacked, IsLargeEnough};
-ghost use Rattle.vb_driver.specs.State.{fresh_side};
+ghost use Rattle.vb_driver.specs.State.{fresh_side, fresh_statistics, fresh_report};
 ghost use Rattle.vb_driver.specs.Coding.{AreZeroed, ring_pages};
 ghost use Rattle.vb_driver.specs.Calls.{IsNewRing, InitsBy, NegotiatesBy, ResetsBy};
 
@@ -71,9 +71,12 @@ impl Driver {
         ensures driver { self.new ≡ record self.old {
           inflate = fresh_side 0 self.old.queue_size;
           deflate = fresh_side 1 self.old.queue_size;
+          statistics = fresh_statistics self.old.queue_size;
+          report = fresh_report self.old.queue_size;
         } }
-        ensures inflate { IsNewRing (P.mem port.new) self.new.inflate }
-        ensures deflate { IsNewRing (P.mem port.new) self.new.deflate }
+        ensures inflate { IsNewRing (P.mem port.new) self.new.inflate.ring }
+        ensures deflate { IsNewRing (P.mem port.new) self.new.deflate.ring }
+        ensures report { IsNewRing (P.mem port.new) self.new.report.ring }
         ensures rings { AreZeroed (P.mem port.old) (P.mem port.new) ring_pages }
     {
         zero_rings(port);
@@ -81,6 +84,8 @@ impl Driver {
             .renew(INFLATE_RING_PAGE, self.config.queue_size);
         self.deflate
             .renew(DEFLATE_RING_PAGE, self.config.queue_size);
+        self.statistics.renew(self.config.queue_size);
+        self.report.renew(self.config.queue_size);
         let ready = port.status().union(Status::DRIVER_OK);
         let _ = port.write_status(ready);
     }
@@ -119,11 +124,14 @@ impl Driver {
             self.old self.new }
     {
         let _ = port.write_status(Status::empty());
+        self.areas.give_reported(&self.places);
         self.places.strand();
         self.inflate
             .renew(INFLATE_RING_PAGE, self.config.queue_size);
         self.deflate
             .renew(DEFLATE_RING_PAGE, self.config.queue_size);
+        self.statistics.renew(self.config.queue_size);
+        self.report.renew(self.config.queue_size);
         self.features = Features::empty();
     }
 }

@@ -74,6 +74,13 @@ impl PlaceTable {
         }
     }
 
+    /// How many pages there are.
+    pub(crate) fn pages(&self) -> u32
+        ensures { result ≡ length self.now }
+    {
+        self.places.len() as u32
+    }
+
     /// Moves a page to a place.
     pub(crate) fn set(&mut self, page: u32, place: Place)
         requires { page < length self.old }
