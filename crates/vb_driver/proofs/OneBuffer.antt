@@ -20,6 +20,7 @@ use Rattle.vb_ring.proofs.Numbers.{numbers_first, numbers_has, numbers_none}
 use Rattle.vb_ring.proofs.OwnerLaws.{released-at}
 use Rattle.vb_driver.specs.State.{IsStatisticsQueue, fresh_statistics}
 use Rattle.vb_driver.specs.Calls.{emptied}
+use Rattle.vb_driver.proofs.ReportTables.{none_owned}
 use Rattle.vb_driver.proofs.RequestTables.{next_path_is, claimed_same, claimed_other}
 
 -- ---- nothing is out
@@ -57,24 +58,10 @@ first_head r some unused =
 
 -- a queue that begins has nothing out
 fresh_unused : (size i : ℕ) → is_unused (fresh_statistics size).owner i ≡ true
-fresh_unused size i = elim (cases_lt i size) [
-  | inl l ↦ ap is_none (get_or-replicate {A = Option ℕ} size i None None l)
-  | inr past ↦ ap is_none
-      (get_or_past (replicate {A = Option ℕ} size None) i None
-      (omega (arith, length-replicate {A = Option ℕ} size None)))
-]
+fresh_unused size i = ap is_none (none_owned size i)
 
 pub fresh_none : (size : ℕ) → outstanding (fresh_statistics size) ≡ 0
 fresh_none size = none_out (fresh_statistics size) (fresh_unused size)
-
-pub fresh_queue : (size : ℕ) → IsStatisticsQueue (fresh_statistics size) size
-fresh_queue size = record {
-  single = λ i used. (let wrong : true ≡ false = sym (fresh_unused size i) ∙ used in cc);
-  first = λ i head.
-      (let wrong : true ≡ false = sym head ∙ no_head _ i (fresh_unused size i) in cc);
-  layout = refl;
-  size = refl;
-}
 
 -- ---- the buffer goes out
 
