@@ -1,9 +1,9 @@
 -- The statistics buffer goes out: it is written, and then its chain is published.
-use Rattle.std.proofs.Common.{◌≡◌, ◌≢◌, ◌∙◌, sym, ap, subst, arith, refl, ℕ, ◌+◌, ◌*◌, ◌<◌, ◌≤◌}
+use Rattle.std.proofs.Common.{◌≡◌, ◌≢◌, ◌∙◌, sym, ap, subst, arith, refl, ℕ, ◌+◌, ◌<◌}
 use Rattle.std.proofs.Common.{false, eqb, List, [], ◌∷◌, length, slice_index, Some, Result, Ok, Err}
 use Rattle.std.proofs.lemmas.Bool.{ne_eqb}
 use Rattle.vb_model.specs.Tests.{is_in}
-use Rattle.vb_ram.specs.Pages.{Pages, page_at, field, SameBut, SameIn}
+use Rattle.vb_ram.specs.Pages.{Pages, page_at, SameBut}
 use Rattle.vb_ram.proofs.FieldLaws.{field_in, same_page, same_above, same_trans}
 use Rattle.vb_chain.specs.declared.pieces.Piece.{Piece}
 use Rattle.vb_chain.specs.Written.{linked}
@@ -11,9 +11,8 @@ use Rattle.vb_chain.specs.Table.{descriptor_at}
 use Rattle.vb_chain.proofs.TableLaws.{descriptor_apart, same_parts}
 use Rattle.vb_ring.specs.declared.driver.Full.{Full}
 use Rattle.vb_ring.specs.declared.layout.Layout.{Layout}
-use Rattle.vb_ring.specs.Layout.{layout_of}
 use Rattle.vb_ring.specs.Ends.{DriverEnd, IsDriverEnd, outstanding, next_head, next_path}
-use Rattle.vb_ring.specs.Ends.{add_answer, after_add, is_unused}
+use Rattle.vb_ring.specs.Ends.{add_answer, after_add}
 use Rattle.vb_ring.specs.Calls.{AddsBy}
 use Rattle.vb_ring.proofs.EntryLaws.{entries_apart}
 use Rattle.vb_ring.proofs.MeaningLaws.{ring_apart, tracks_apart}

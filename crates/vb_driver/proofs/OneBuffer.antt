@@ -1,20 +1,16 @@
 -- The queue of statistics, of which one buffer is out at the most: at descriptor 0.
-use Rattle.std.proofs.Common.{◌≡◌, ◌≢◌, ◌∙◌, sym, ap, subst, arith, refl, ℕ, ◌+◌, ◌*◌, ◌<◌, ◌≤◌}
-use Rattle.std.proofs.Common.{◌%◌, Bool, true, false, cond, eqb, List, [], ◌∷◌, length, slice_index}
+use Rattle.std.proofs.Common.{◌≡◌, ◌∙◌, sym, ap, subst, arith, refl, ℕ, ◌+◌, ◌<◌}
+use Rattle.std.proofs.Common.{◌%◌, Bool, true, false, cond, List, [], ◌∷◌, length}
 use Rattle.std.proofs.Common.{slice_index_or, inl, inr, eq-eqb, Option, Some, None, Result, Ok, Err}
-use Rattle.std.proofs.Common.{is_none, is_some, replicate, MatchBool}
-use Rattle.std.proofs.lemmas.Bool.{cases_eq, cases_lt, cases_Bool, ne_eqb}
+use Rattle.std.proofs.Common.{is_none, is_some, MatchBool}
+use Rattle.std.proofs.lemmas.Bool.{cases_eq, cases_Bool}
 use Rattle.std.proofs.lemmas.Bool.Decides.{eqb_tells}
-use Rattle.std.proofs.lemmas.List.{length-replicate, get_or-replicate, get_or_past}
-use Rattle.vb_model.specs.Layout.{ring_page}
 use Rattle.vb_ram.specs.Pages.{Pages}
-use Rattle.vb_ring.specs.declared.driver.Full.{Full}
 use Rattle.vb_ring.specs.declared.driver.RingBroken.{RingBroken}
 use Rattle.vb_ring.specs.declared.driver.RingBroken.TheVariants.{NotOutstanding}
-use Rattle.vb_ring.specs.Layout.{IsSize, layout_of}
 use Rattle.vb_ring.specs.Entries.{is_own, is_head, only_head}
 use Rattle.vb_ring.specs.Ends.{DriverEnd, IsDriverEnd, is_unused, outstanding, next_head, next_path}
-use Rattle.vb_ring.specs.Ends.{after_add, after_take, claimed, released, used_answer}
+use Rattle.vb_ring.specs.Ends.{after_add, claimed, released, used_answer}
 use Rattle.vb_ring.specs.Calls.{TakesUsedBy}
 use Rattle.vb_ring.proofs.Numbers.{numbers_first, numbers_has, numbers_none}
 use Rattle.vb_ring.proofs.OwnerLaws.{released-at}
