@@ -14,3 +14,5 @@ pub mod Allocating
 pub mod Owning
 pub mod Zeroing
 pub mod Starting
+pub mod ReportAreas
+pub mod ReportPosting
