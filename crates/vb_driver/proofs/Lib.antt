@@ -17,3 +17,5 @@ pub mod Starting
 pub mod Figures
 pub mod OneBuffer
 pub mod Filling
+pub mod ReportAreas
+pub mod ReportPosting

@@ -32,6 +32,7 @@ use Rattle.vb_driver.proofs.Keeping.{kept_changed, there_by, free_marked}
 use Rattle.vb_driver.proofs.Placing.{marked-get}
 use Rattle.vb_driver.proofs.Moving.{free_is_place, list_all_same}
 use Rattle.vb_driver.proofs.Counting.{at_is}
+use Rattle.vb_driver.proofs.ReportTables.{block_inside}
 
 -- ---- free blocks
 
@@ -77,15 +78,6 @@ alloc_tests_same d cpu order kept =
     ∙ ap (λ (v : Bool). first_refusal
     ((nat_lt 9 order ⇒ BadOrder) ∷ (nat_le d.processors cpu ⇒ BadCpu) ∷ (not v ⇒ NoPages) ∷ []))
     (blocks_same d order kept)
-
--- a block whose last page is there lies within
-block_inside : (n : ℕ) (b : Block) → ((p : ℕ) → is_in p (pages_of b) ≡ true → p < n)
-    → b.start + 2 ^ b.order ≤ n
-block_inside n b there =
-    let some = pow_pos b.order in
-    let last = b.start + (2 ^ b.order - 1) in
-    let here : last < n = there last (in_block b.start b.order last (omega arith) (omega arith)) in
-    omega arith
 
 -- ---- blocks that are held
 

@@ -9,6 +9,7 @@ mod memory;
 mod places;
 mod queue;
 mod reaping;
+mod reporting;
 mod reports;
 mod requests;
 mod statistics;
