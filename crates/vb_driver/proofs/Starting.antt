@@ -1,6 +1,6 @@
 -- A device is asked for features, and its rings begin.
-use Rattle.std.proofs.Common.{◌≡◌, ◌≢◌, ◌∙◌, sym, subst, ap, refl, arith, ℕ, ◌<◌, Bool, true, false, not, [], ◌∷◌, None}
-use Rattle.std.proofs.Common.{Some, Result, Ok, Err, is_err, OnOk}
+use Rattle.std.proofs.Common.{◌≡◌, ◌≢◌, ◌∙◌, sym, subst, ap, refl, arith, ℕ, ◌<◌, Bool, true}
+use Rattle.std.proofs.Common.{false, not, [], ◌∷◌, None, Some, Result, Ok, Err, is_err, OnOk}
 use Rattle.vb_model.specs.declared.replies.Refusal.{Refusal}
 use Rattle.vb_model.specs.declared.replies.Refusal.TheVariants.{OutOfOrder, FeatureNotOffered}
 use Rattle.vb_model.specs.declared.replies.Refusal.TheVariants.{MustTellMissing, VersionMissing}
