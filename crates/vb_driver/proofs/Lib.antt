@@ -16,3 +16,4 @@ pub mod Zeroing
 pub mod Starting
 pub mod ReportAreas
 pub mod ReportPosting
+pub mod ReportMoves
