@@ -19,3 +19,4 @@ pub mod OneBuffer
 pub mod Filling
 pub mod ReportAreas
 pub mod ReportPosting
+pub mod ReportMoves

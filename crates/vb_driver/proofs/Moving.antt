@@ -4,6 +4,7 @@ use Rattle.std.proofs.Common.{◌-◌, ◌<◌, ◌≤◌, Bool, true, false, co
 use Rattle.std.proofs.Common.{◌∷◌, ◌++◌, length, take, set, get_or, map, count_by, inl, inr}
 use Rattle.std.proofs.Common.{is_none}
 use Rattle.std.proofs.lemmas.Bool.{cases_lt, lt-ltb, eq-eqb, ne_eqb, false_from_ne_true}
+use Rattle.std.proofs.lemmas.Bool.{both_ways}
 use Rattle.std.proofs.lemmas.List.{length-replicate, length-take, length-map, get_or-map}
 use Rattle.std.proofs.lemmas.List.{get_or_past, same_lists}
 use Rattle.std.specs.List.{list_all}
@@ -422,29 +423,37 @@ freed_once d head p lt kept =
     named_once p head d.deflate.sent is_taking (place_of d.places p)
     (omega (arith, kept.deflate.requests.buffers)) (kept.taking p)
 
-pub freed_uncovered : (d : DriverState) (p : ℕ) → IsDriver d → place_of d.places p ≡ Taking
-    → is_covered p d.held ≡ false
-freed_uncovered d p kept is = at (is_covered p d.held) refl
-  where
-    at : (b : Bool) → is_covered p d.held ≡ b → is_covered p d.held ≡ false
-    at false e = e
-    at true e = (let wrong : true ≡ false = sym (ap is_used (kept.used p e)) ∙ ap is_used is in cc)
+-- ---- a page that isn't used, free or reserved
 
-pub freed_unfree : (d : DriverState) (p : ℕ) → IsDriver d → place_of d.places p ≡ Taking
-    → is_free_at (flags_of d.areas) p ≡ false
-freed_unfree d p kept is = free_is_place d.places (flags_of d.areas) p kept.free ∙ ap is_free is
+pub place_uncovered : (d : DriverState) (p : ℕ) (place : Place) → IsDriver d → is_used place ≡ false
+    → place_of d.places p ≡ place → is_covered p d.held ≡ false
+place_uncovered d p place kept unused is =
+    false_from_ne_true (is_covered p d.held) (λ e.
+    both_ways (is_used (place_of d.places p)) (ap is_used is ∙ unused)
+    (ap is_used (kept.used p e)))
 
-pub freed_inside : (d : DriverState) (p : ℕ) → IsDriver d → place_of d.places p ≡ Taking
+pub place_unfree : (d : DriverState) (p : ℕ) (place : Place) → IsDriver d → is_free place ≡ false
+    → place_of d.places p ≡ place → is_free_at (flags_of d.areas) p ≡ false
+place_unfree d p place kept unfree is =
+    free_is_place d.places (flags_of d.areas) p kept.free ∙ (ap is_free is ∙ unfree)
+
+pub place_inside : (d : DriverState) (p : ℕ) (place : Place) → IsDriver d
+    → is_at Reserved place ≡ false → place_of d.places p ≡ place
     → (p < length (flags_of d.areas)) × (p < length d.places)
-freed_inside d p kept is =
-    let inside : p < length d.places = there_by d.places p is_taking refl (ap is_taking is) in
+place_inside d p place kept unreserved is =
+    let inside : p < length d.places = elim (cases_lt p (length d.places)) [
+      | inl lt ↦ lt
+      | inr past ↦ absurd (both_ways (is_at Reserved (place_of d.places p))
+          (ap (is_at Reserved) is ∙ unreserved)
+          (ap (is_at Reserved) (get_or_past d.places p Reserved past)))
+    ] in
     (omega (arith, ap length kept.free, length-map d.places is_free), inside)
 
-pub freed_unreserved : (d : DriverState) (p : ℕ) → IsDriver d → place_of d.places p ≡ Taking
-    → 16 ≤ p
-freed_unreserved d p kept is = elim (cases_lt p 16) [
-  | inl low ↦ (let wrong : true ≡ false = sym (ap is_taking is)
-      ∙ ap is_taking (kept.reserved p low) in cc)
+pub place_unreserved : (d : DriverState) (p : ℕ) (place : Place) → IsDriver d
+    → is_at Reserved place ≡ false → place_of d.places p ≡ place → 16 ≤ p
+place_unreserved d p place kept unreserved is = elim (cases_lt p 16) [
+  | inl low ↦ absurd (both_ways (is_at Reserved (place_of d.places p))
+      (ap (is_at Reserved) is ∙ unreserved) (ap (is_at Reserved) (kept.reserved p low)))
   | inr far ↦ far
 ]
 

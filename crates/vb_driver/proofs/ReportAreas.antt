@@ -1,8 +1,9 @@
 -- Blocks leave the page areas for a report, and come back.
 use Rattle.std.proofs.Common.{◌≡◌, ◌∙◌, sym, ap, subst, arith, refl, ℕ, ◌+◌, ◌^◌, ◌<◌, ◌≤◌, Bool}
-use Rattle.std.proofs.Common.{true, false, cond, not, ◌&&◌, ◌||◌, List, length, map, slice_index_or}
+use Rattle.std.proofs.Common.{true, false, cond, eqb, not, ◌&&◌, ◌||◌, List, [], ◌∷◌, length, map}
+use Rattle.std.proofs.Common.{slice_index_or}
 use Rattle.std.specs.Prelude.{All, IsTrue}
-use Rattle.std.proofs.lemmas.Bool.{false_from_ne_true, both_ways}
+use Rattle.std.proofs.lemmas.Bool.{eqb-true}
 use Rattle.std.proofs.lemmas.Nat.{pow_pos}
 use Rattle.std.proofs.lemmas.List.{length-map, get_or-map}
 use Rattle.std.proofs.lemmas.List.Elements.{All-map}
@@ -16,7 +17,9 @@ use Rattle.vb_model.proofs.Distinct.{distinct_once}
 use Rattle.vb_pages.specs.declared.block.FreeBlock.{FreeBlock}
 use Rattle.vb_pages.specs.FreePages.{drained}
 use Rattle.vb_pages.specs.PageState.{PageState, page_count, is_free_page, IsApart, HasRoomIn}
+use Rattle.vb_pages.specs.Areas.{without_pages}
 use Rattle.vb_pages.proofs.Sets.{same_bool, in_block, length-with_pages, length-without_pages}
+use Rattle.vb_pages.proofs.Sets.{same_sets, without_parts, without_old}
 use Rattle.vb_report.specs.Blocks.{block_of, blocks_of, is_covered, blocks_to_report, HaveRoom}
 use Rattle.vb_report.specs.Blocks.{with_blocks, without_blocks}
 use Rattle.vb_report.proofs.Covering.{in_covered}
@@ -26,6 +29,7 @@ use Rattle.vb_driver.specs.Places.{marked}
 use Rattle.vb_driver.specs.State.{IsAreaBlock}
 use Rattle.vb_driver.proofs.Flags.{length_flags, flag_free, free_flag, flags_moved, drained_sizes}
 use Rattle.vb_driver.proofs.Moving.{free_is_place}
+use Rattle.vb_driver.proofs.Placing.{marked_none}
 use Rattle.vb_driver.proofs.ReportTables.{in_all, block_inside_all, no_free_block}
 
 -- a page is free just where its flag says so
@@ -75,6 +79,37 @@ chosen_state s new blocks is left =
     gone true false = refl
     gone false true = refl
     gone false false = refl
+
+-- ---- no block is chosen
+
+pub no_blocks : (blocks : List FreeBlock) → eqb (length blocks) 0 ≡ true → blocks ≡ []
+no_blocks [] e = refl
+no_blocks (b ∷ blocks) e =
+    (let some : length (b ∷ blocks) ≡ 0 = eqb-true (length (b ∷ blocks)) 0 e in
+    absurd (omega arith))
+
+pub none_chosen : (s new : PageState) (blocks : List FreeBlock) → blocks ≡ []
+    → Becomes s new (marked (pages_of_all (blocks_of blocks)) false (flags_of s.free)) s.held
+    → Becomes s new (flags_of s.free) s.held
+none_chosen s new blocks none becomes = record {
+  free = becomes.free
+      ∙ (ap (λ (l : List FreeBlock). marked (pages_of_all (blocks_of l)) false (flags_of s.free))
+      none ∙ marked_none false (flags_of s.free));
+  held = becomes.held;
+  processors = becomes.processors;
+}
+
+without_none : (set : List Bool) → without_pages [] set ≡ set
+without_none set =
+    same_sets (without_pages [] set) set (length-without_pages [] set)
+    (λ p e. (without_parts [] set p e).0) (λ p e. without_old [] set p e refl)
+
+pub only_drained : (s new : PageState) (blocks : List FreeBlock) → blocks ≡ []
+    → new ≡ without_blocks blocks s → new ≡ record s { free = drained s.free }
+only_drained s new blocks none is =
+    is ∙ (ap (λ (l : List FreeBlock). without_blocks l s) none
+    ∙ ap (λ (set : List Bool). record s { free = record (drained s.free) { areas = set } })
+    (without_none (drained s.free).areas))
 
 -- ---- blocks come back
 
