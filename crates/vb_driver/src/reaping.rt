@@ -43,7 +43,7 @@ fn take_back<P: Port>(
     requires { IsInside (P.mem port.old) queue.old.ring.layout }
     ensures refusal { refusal_in result ≡ first_refusal (
         (not (is_up (P.part port.old).status) ⇒ NotReady)
-        ∷ (is_ring_broken (P.mem port.old) queue.old ⇒ RingBroken)
+        ∷ (is_ring_broken (P.mem port.old) queue.old.ring ⇒ RingBroken)
         ∷ []) }
     ensures failed { IfErr result (λ refusal.
         P.part port.new ≡ after_refusal refusal (P.part port.old)) }

@@ -27,6 +27,8 @@ enum Step {
     Oom(u32),
     /// A used request of a queue is taken back.
     Reap(u32),
+    /// The statistics buffer is filled anew, where it was used.
+    Stats,
     /// The host sets its target.
     SetTarget(u32),
     /// The device has used a request of a queue: its head, and how many it has used by then.
@@ -185,6 +187,13 @@ impl Guest {
         }
     }
 
+    fn stats(&mut self) -> Result<Answer, Refusal> {
+        if self.port.pages() < 64 || is_up(&self.port) && !all_backed(&mut self.port) {
+            return Err(Refusal::OutOfRam);
+        }
+        Ok(Answer::Is(self.driver.stats(&mut self.port)?))
+    }
+
     fn init(&mut self, features: u64) -> Result<(), Refusal> {
         if self.port.pages() < 64 {
             return Err(Refusal::OutOfRam);
@@ -213,6 +222,7 @@ impl Guest {
             Step::Deflate(pages) => return self.post(Request::Deflate, pages),
             Step::Oom(pages) => return self.post(Request::Oom, pages),
             Step::Reap(queue) => return self.reap(queue),
+            Step::Stats => return self.stats(),
             Step::SetTarget(pages) => self.port.set_target(pages),
             Step::Use(queue, head, used) => self.use_request(queue, head, used),
             Step::See(sight) => return Ok(self.see(sight)),
@@ -454,6 +464,90 @@ fn has_as_many_requests_as_descriptors(rt: HostRuntime) -> Result<(), Fail> {
     expect(&rt, rt.alloc(), 13, &FULL)
 }
 
+/// The descriptor of the statistics buffer: 20 bytes at address 0xc000 that the device reads.
+const FIGURES_AT: [u8; 16] = [0, 0xc0, 0, 0, 0, 0, 0, 0, 20, 0, 0, 0, 0, 0, 0, 0];
+
+/// How the buffer begins with 48, 44 and 32 free pages: tag 4, their bytes, and tag 5.
+const FREE_48: [u8; 16] = [4, 0, 0, 0, 3, 0, 0, 0, 0, 0, 5, 0, 0, 0, 4, 0];
+
+const FREE_44: [u8; 16] = [4, 0, 0, 0xc0, 2, 0, 0, 0, 0, 0, 5, 0, 0, 0, 4, 0];
+
+const FREE_32: [u8; 16] = [4, 0, 0, 0, 2, 0, 0, 0, 0, 0, 5, 0, 0, 0, 4, 0];
+
+/// What follows: the rest of the bytes of all 64 pages, and nothing.
+const ALL_64: [u8; 16] = [4, 0, 0, 0, 0, 0, 0, 0, 0, 0, 0, 0, 0, 0, 0, 0];
+
+/// An available ring in which head 0 was published twice.
+const AVAILABLE_AGAIN: [u8; 16] = [0, 0, 2, 0, 0, 0, 0, 0, 0, 0, 0, 0, 0, 0, 0, 0];
+
+const ZEROS: [u8; 16] = [0; 16];
+
+static STATISTICS: [Line; 19] = [
+    (Step::Stats, Err(Refusal::NotReady)),
+    (Step::Init(ALL), DONE),
+    (Step::See(Sight::Shows(2, 0, FIGURES_AT)), YES),
+    (Step::See(Sight::Shows(2, 128, AVAILABLE)), YES),
+    (Step::See(Sight::Shows(12, 0, FREE_48)), YES),
+    (Step::See(Sight::Shows(12, 14, ALL_64)), YES),
+    (Step::Alloc(0, 4), Ok(Answer::Page(16))),
+    (Step::Stats, NO),
+    (Step::See(Sight::Shows(12, 0, FREE_48)), YES),
+    (Step::See(Sight::Shows(2, 128, AVAILABLE)), YES),
+    (Step::Use(2, 0, 1), DONE),
+    (Step::Stats, YES),
+    (Step::See(Sight::Shows(12, 0, FREE_32)), YES),
+    (Step::See(Sight::Shows(2, 128, AVAILABLE_AGAIN)), YES),
+    (Step::Stats, NO),
+    (Step::Use(2, 0, 2), DONE),
+    (Step::Stats, YES),
+    (Step::Reset, DONE),
+    (Step::Stats, Err(Refusal::NotReady)),
+];
+
+#[test]
+fn fills_the_statistics_buffer(rt: HostRuntime) -> Result<(), Fail> {
+    expect(&rt, rt.alloc(), 13, &STATISTICS)
+}
+
+static NO_STATISTICS: [Line; 8] = [
+    (Step::Init(0x1_0000_0001), DONE),
+    (Step::See(Sight::Shows(2, 0, ZEROS)), YES),
+    (Step::See(Sight::Shows(2, 128, ZEROS)), YES),
+    (Step::See(Sight::Shows(12, 0, ZEROS)), YES),
+    (Step::Stats, Err(Refusal::NoFeature)),
+    (Step::Use(2, 0, 1), DONE),
+    (Step::Stats, Err(Refusal::NoFeature)),
+    (Step::See(Sight::Status), Ok(Answer::Number(15))),
+];
+
+#[test]
+fn has_no_statistics_without_the_feature(rt: HostRuntime) -> Result<(), Fail> {
+    expect(&rt, rt.alloc(), 13, &NO_STATISTICS)
+}
+
+static BROKEN_STATISTICS: [Line; 15] = [
+    (Step::SetTarget(4), DONE),
+    (Step::Init(ALL), DONE),
+    (Step::Use(2, 0, 2), DONE),
+    (Step::Stats, Err(Refusal::RingBroken)),
+    (Step::See(Sight::Status), Ok(Answer::Number(143))),
+    (Step::Stats, Err(Refusal::NotReady)),
+    (Step::Reset, DONE),
+    (Step::Init(ALL), DONE),
+    (Step::Inflate(4), Ok(Answer::Posted(0, 4))),
+    (Step::Use(2, 1, 1), DONE),
+    (Step::Stats, Err(Refusal::RingBroken)),
+    (Step::See(Sight::Status), Ok(Answer::Number(143))),
+    (Step::Reset, DONE),
+    (Step::Init(ALL), DONE),
+    (Step::See(Sight::Shows(12, 0, FREE_44)), YES),
+];
+
+#[test]
+fn gives_up_on_a_broken_ring_of_statistics(rt: HostRuntime) -> Result<(), Fail> {
+    expect(&rt, rt.alloc(), 13, &BROKEN_STATISTICS)
+}
+
 /// What a driver does to its port.
 #[derive(Clone, Copy, PartialEq)]
 enum Deed {
@@ -580,9 +674,9 @@ impl Watched {
     }
 }
 
-/// The four rings' pages are zeroed after the features are agreed on, and before DRIVER_OK
-/// (VIRTIO 1.1, 3.1.1).
-static INIT_DEEDS: [Deed; 10] = [
+/// The four rings' pages are zeroed after the features are agreed on, and the statistics buffer is
+/// filled and posted, before DRIVER_OK (VIRTIO 1.1, 3.1.1 and 5.5.6.3).
+static INIT_DEEDS: [Deed; 14] = [
     Deed::Status(11),
     Deed::Write(0, Part::Descriptors),
     Deed::Write(0, Part::Available),
@@ -592,6 +686,10 @@ static INIT_DEEDS: [Deed; 10] = [
     Deed::Write(2, Part::Available),
     Deed::Write(3, Part::Descriptors),
     Deed::Write(3, Part::Available),
+    Deed::Write(12, Part::Buffers),
+    Deed::Write(2, Part::Descriptors),
+    Deed::Write(2, Part::Available),
+    Deed::Write(2, Part::AvailableIndex),
     Deed::Status(15),
 ];
 
