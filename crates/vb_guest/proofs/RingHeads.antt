@@ -26,7 +26,7 @@ pub is_one : (b : Bool) → 1 ≤ one_if b → b ≡ true
 is_one true h = refl
 is_one false h = absurd (omega arith)
 
-cond_one : (b : Bool) → cond {A = ℕ} b 1 0 ≡ one_if b
+pub cond_one : (b : Bool) → cond {A = ℕ} b 1 0 ≡ one_if b
 cond_one true = refl
 cond_one false = refl
 
