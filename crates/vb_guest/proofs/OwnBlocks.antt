@@ -1,6 +1,7 @@
 -- The blocks of a report, and the pages in them.
-use Rattle.std.specs.Prelude.{◌≡◌, ℕ, suc, ◌+◌, ◌-◌, ◌<◌, ◌≤◌, ◌||◌, Bool, true, false, List, [], ◌∷◌}
-use Rattle.std.specs.Prelude.{◌++◌, All, length, nat_le, ◌&&◌, min, refl, ◌⊎◌}
+use Rattle.std.specs.Prelude.{◌≡◌, ℕ, ◌+◌, ◌-◌, ◌<◌, ◌≤◌, ◌==◌, ◌||◌, Bool, true, false, List, []}
+use Rattle.std.specs.Prelude.{◌∷◌, ◌++◌, All, length, filter, nat_le, ◌&&◌, min, slice_index_or}
+use Rattle.std.specs.Prelude.{refl, ◌⊎◌}
 use Rattle.std.specs.List.{flat_map, range_with_len}
 use Rattle.std.proofs.Common.{◌∙◌, ap, arith, inl, inr}
 use Rattle.std.proofs.lemmas.List.{length-take}
@@ -14,7 +15,8 @@ use Rattle.vb_model.specs.declared.places.Place.TheVariants.{Reserved, Free, Use
 use Rattle.vb_model.specs.declared.places.Place.TheVariants.{Taking, Stranded, Reporting}
 use Rattle.vb_model.specs.Tests.{is_in}
 use Rattle.vb_model.specs.Pages.{Block, block_at, size, pages_of, pages_of_all, is_free, place_of}
-use Rattle.vb_model.specs.Pages.{is_maximal, blocks_at, blocks_below, maximal_blocks}
+use Rattle.vb_model.specs.Pages.{is_maximal, blocks_at, blocks_below, maximal_blocks, reported}
+use Rattle.vb_model.specs.Pages.{maximal_free_blocks}
 use Rattle.vb_model.specs.Guest.{Guest}
 use Rattle.vb_model.specs.Refusals.{reported_blocks, room}
 use Rattle.vb_model.specs.Orderly.{IsOrderly, is_reserved}
@@ -72,7 +74,7 @@ in_range page start len from below = elim (either (is_in page (range_with_len st
 
 in_front : (page : ℕ) (xs ys : List ℕ) → is_in page xs ≡ true → is_in page (xs ++ ys) ≡ true
 in_front page [] ys e = absurd cc
-in_front page (x ∷ xs) ys e = step (Rattle.std.specs.Prelude.◌==◌ x page) (is_in page xs) e (in_front page xs ys)
+in_front page (x ∷ xs) ys e = step (x == page) (is_in page xs) e (in_front page xs ys)
   where
     step : (b c : Bool) → (b || c) ≡ true → (c ≡ true → is_in page (xs ++ ys) ≡ true)
         → (b || is_in page (xs ++ ys)) ≡ true
@@ -82,7 +84,7 @@ in_front page (x ∷ xs) ys e = step (Rattle.std.specs.Prelude.◌==◌ x page) 
 in_back : (page : ℕ) (xs ys : List ℕ) → is_in page ys ≡ true → is_in page (xs ++ ys) ≡ true
 in_back page [] ys e = e
 in_back page (x ∷ xs) ys e =
-    ap (λ (v : Bool). Rattle.std.specs.Prelude.◌==◌ x page || v) (in_back page xs ys e) ∙ by (Rattle.std.specs.Prelude.◌==◌ x page)
+    ap (λ (v : Bool). (x == page) || v) (in_back page xs ys e) ∙ by (x == page)
   where
     by : (b : Bool) → (b || true) ≡ true
     by true = refl
@@ -119,7 +121,7 @@ all_flat P f (n ∷ ns) all = All-append P (f n) (flat_map f ns) (all n) (all_fl
 small_at : (start : ℕ) → All IsSmall (blocks_at start)
 small_at start k d lt =
     let below : k < 10 = omega (arith, lt, length-map-range_with_len (block_at start) 0 10) in
-    let same : Rattle.std.specs.Prelude.slice_index_or (blocks_at start) k d ≡ block_at start k =
+    let same : slice_index_or (blocks_at start) k d ≡ block_at start k =
     get_or-map-range_with_len (block_at start) 0 10 k k d below (omega arith) in
     omega (arith, below, ap (λ (b : Block). b.order) same)
 
@@ -127,9 +129,9 @@ abbrev is_reported : ℕ → Block → Bool
 is_reported from b = nat_le 4 b.order && nat_le from b.start
 
 small_reported : (count n from : ℕ) (test : ℕ → Bool)
-    → All IsSmall (Rattle.vb_model.specs.Pages.reported n from (maximal_blocks count test))
+    → All IsSmall (reported n from (maximal_blocks count test))
 small_reported count n from test =
-    All-take IsSmall n (Rattle.std.specs.Prelude.filter (is_reported from) (maximal_blocks count test))
+    All-take IsSmall n (filter (is_reported from) (maximal_blocks count test))
     (All-filter (is_reported from) IsSmall (maximal_blocks count test)
     (All-filter (is_maximal test) IsSmall (blocks_below count)
     (all_flat IsSmall blocks_at (range_with_len 0 count) small_at)))
@@ -157,6 +159,6 @@ reported_own g from orderly =
 pub reported_few : (g : Guest) (from : ℕ)
     → (length (reported_blocks g from) ≤ 16) × (length (reported_blocks g from) ≤ g.config.queue_size)
 reported_few g from =
-    let blocks : List Block = Rattle.std.specs.Prelude.filter (is_reported from)
-    (Rattle.vb_model.specs.Pages.maximal_free_blocks g.places) in
+    let blocks : List Block = filter (is_reported from)
+    (maximal_free_blocks g.places) in
     (omega (arith, length-take (room g) blocks), omega (arith, length-take (room g) blocks))

@@ -1,6 +1,6 @@
 -- A posted report, as its device finds it.
 use Rattle.std.specs.Prelude.{◌≡◌, ◌≢◌, ℕ, ◌+◌, ◌*◌, ◌/◌, ◌%◌, ◌<◌, ◌≤◌, ◌==◌, ◌||◌, Bool, true}
-use Rattle.std.specs.Prelude.{false, not, nat_lt, List, [], ◌∷◌, ◌++◌, All, length, map, Option, None}
+use Rattle.std.specs.Prelude.{false, not, nat_lt, List, [], ◌∷◌, ◌++◌, All, length, map, Option, Some, None}
 use Rattle.std.specs.Prelude.{Ok, slice_index, slice_index_or, if◌then◌else◌, refl}
 use Rattle.std.specs.List.{list_any, range_with_len}
 use Rattle.std.proofs.Common.{sym, ◌∙◌, ap, subst, arith}
@@ -113,8 +113,8 @@ right_start b above =
     (ap (λ (v : Bool). not v) even) high
   where
     by : (a c : Bool) → a ≡ false → c ≡ false
-        → (if a then Rattle.std.specs.Prelude.Some BadPage
-        else (if c then Rattle.std.specs.Prelude.Some ReservedPage else None)) ≡ None
+        → (if a then Some BadPage
+        else (if c then Some ReservedPage else None)) ≡ None
     by false false e f = refl
     by false true e f = absurd cc
     by true c e f = absurd cc

@@ -3,13 +3,15 @@ use Rattle.std.specs.Prelude.{◌≡◌, ℕ, ◌<◌, ◌==◌, Bool, true, fal
 use Rattle.std.specs.Prelude.{[], ◌∷◌, length, Result, Ok, Err, Option, Some, None, is_some, refl}
 use Rattle.std.proofs.Common.{sym, ◌∙◌, ap, subst, arith, inl, inr}
 use Rattle.std.proofs.lemmas.Bool.Decides.{nat_tests}
+use Rattle.std.proofs.lemmas.List.{length-map}
 use Rattle.vb_model.specs.declared.calls.Call.TheVariants.{Report}
 use Rattle.vb_model.specs.declared.places.Place.{Place}
 use Rattle.vb_model.specs.declared.places.Place.TheVariants.{Reporting}
 use Rattle.vb_model.specs.declared.replies.Refusal.{Refusal}
 use Rattle.vb_model.specs.declared.replies.Refusal.TheVariants.{NotReady, NoFeature, QueueFull}
 use Rattle.vb_model.specs.declared.replies.Refusal.TheVariants.{Nothing}
-use Rattle.vb_model.specs.declared.replies.Reply.TheVariants.{Posted}
+use Rattle.vb_model.specs.declared.replies.Reply.TheVariants.{Posted, Refused}
+use Rattle.vb_model.specs.Limits.{max_outstanding}
 use Rattle.vb_model.specs.Pages.{Block, placed, pages_of_all, reported, maximal_free_blocks}
 use Rattle.vb_model.specs.Requests.{Request, Requests, no_requests, all_requests, headed, outstanding}
 use Rattle.vb_model.specs.Requests.{posting, IsLeastHead, Reporting_free}
@@ -90,7 +92,7 @@ report_refused : (m1 m2 : Pages) (p1 p2 : Part) (d1 d2 : DriverState) (g : Guest
     → StepsAlone (Honest m2 p2 d2) g (Report from) (posted_reply (Err why))
 report_refused m1 m2 p1 p2 d1 d2 g from why did stands same =
     steps_alone m1 m2 p1 p2 d1 d2 g (Report from)
-    (Rattle.vb_model.specs.declared.replies.Reply.TheVariants.Refused why) g stands
+    (Refused why) g stands
     (honest_refused g (Report from) why (sym (did.refusal ∙ same)))
     (unreported_ties why m1 m2 p1 p2 d1 d2 g did.refused.mem did.refused.part did.refused.driver
     stands.ties) refl
@@ -234,9 +236,9 @@ report_step m1 m2 p1 p2 d1 d2 g from result did stands =
           arith,
           ring_count m1 4 d1.report.ring p1.report.next_avail p1.report.next_used
               (heads_of rs.posted) (heads_of rs.taken) (heads_of rs.done) run.report.ring,
-          Rattle.std.proofs.lemmas.List.length-map rs.posted (λ (r : Request). r.head),
-          Rattle.std.proofs.lemmas.List.length-map rs.taken (λ (r : Request). r.head),
-          Rattle.std.proofs.lemmas.List.length-map rs.done (λ (r : Request). r.head),
+          length-map rs.posted (λ (r : Request). r.head),
+          length-map rs.taken (λ (r : Request). r.head),
+          length-map rs.done (λ (r : Request). r.head),
         )
 
     down : (result : Result PostedRequest Refusal) → ReportsBy m1 m2 p1 p2 d1 d2 from result

@@ -1,6 +1,6 @@
 -- The visit of a report's page is a step of the guest.
 use Rattle.std.specs.Prelude.{◌≡◌, ◌≢◌, ℕ, ◌+◌, ◌<◌, ◌≤◌, Bool, true, false, cond, List, [], ◌∷◌, All}
-use Rattle.std.specs.Prelude.{if◌then◌else◌, Result, Option, Some, None, MatchOption, is_some}
+use Rattle.std.specs.Prelude.{length, if◌then◌else◌, Result, Option, Some, None, MatchOption, is_some}
 use Rattle.std.specs.Prelude.{slice_get, refl}
 use Rattle.std.specs.Option.{option_to_list}
 use Rattle.std.specs.List.{flat_map}
@@ -147,7 +147,7 @@ work_report m1 m2 p1 p2 d g page result did stands run by_model none there =
     let behind : frames_behind m1 one
     ≡ flat_map (λ page. option_to_list (frame_of g.frames page)) one =
     behind_same m1 g.frames one ties.pages.behind in
-    let F : ℕ → Type 0 = λ p. p < Rattle.std.specs.Prelude.length g.frames in
+    let F : ℕ → Type 0 = λ p. p < length g.frames in
     subst (λ x. StepsFreeing (Honest m2 (handed_back p2) d) p2.loose g Work (worked_reply x))
     (sym did.answer) (record {
       new = new;
