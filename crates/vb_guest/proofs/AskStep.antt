@@ -95,7 +95,8 @@ ask_done m1 m2 p1 p2 d g figures result is did stands run free_part free =
           buffers = λ p from to. apart p (omega arith);
         }) run.deflate;
         statistics = buffer_used m1 m2 d.statistics p1.statistics figures _ line adds;
-        report = report_apart m1 m2 n d.report p1.report g.report (apart 3 (omega arith)) run.report;
+        report = report_apart m1 m2 n d.report p1.report g.report (apart 3 (omega arith))
+            run.report;
       });
     } in
     subst (StepsAlone (Honest m2 p2 d) g Ask)

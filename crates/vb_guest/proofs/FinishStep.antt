@@ -69,8 +69,8 @@ inflate_finished m1 m2 p1 p2 d g i r result is did stands run free =
     λ p lt. page_undiscarded r.pages m1 p (not_among r.pages p request.pages.above lt) in
     let used_low : d.inflate.ring.layout.used.page ≡ 0 =
     ap (λ (l : Layout). l.used.page) run.inflate.ring.layout in
-    let same = used_same bare m2 (end_of d.inflate.ring p1.inflate) _ r.head 0 (omega (arith, used_low))
-    adds in
+    let same = used_same bare m2 (end_of d.inflate.ring p1.inflate) _ r.head 0
+    (omega (arith, used_low)) adds in
     let mine = line_apart m1 bare 0 n d.inflate p1.inflate g.inflate
     (above_apart m1 bare 0 (omega arith) (omega arith) low) run.inflate in
     let other = line_apart m1 bare 1 n d.deflate p1.deflate g.deflate
@@ -204,8 +204,8 @@ deflate_finished m1 m2 p1 p2 d g i r result is did stands run free =
     (ties.parts.device.size ∙ sym run.deflate_size) did.memory in
     let used_low : d.deflate.ring.layout.used.page ≡ 1 =
     ap (λ (l : Layout). l.used.page) run.deflate.ring.layout in
-    let same = used_same m1 m2 (end_of d.deflate.ring p1.deflate) _ r.head 0 (omega (arith, used_low))
-    adds in
+    let same = used_same m1 m2 (end_of d.deflate.ring p1.deflate) _ r.head 0
+    (omega (arith, used_low)) adds in
     let apart : (p : ℕ) → p ≢ 1
     → page_at m2 p ≡ page_at m1 p =
     λ p other. (let ne : p ≢ d.deflate.ring.layout.used.page = omega (arith, used_low, other) in
@@ -246,7 +246,8 @@ deflate_finished m1 m2 p1 p2 d g i r result is did stands run free =
         report_size = run.report_size;
         statistics = buffer_apart m1 m2 d.statistics p1.statistics g.buffer (apart 2 (omega arith))
             (apart 12 (omega arith)) run.statistics;
-        report = report_apart m1 m2 n d.report p1.report g.report (apart 3 (omega arith)) run.report;
+        report = report_apart m1 m2 n d.report p1.report g.report (apart 3 (omega arith))
+            run.report;
         inflate = line_apart m1 m2 0 n d.inflate p1.inflate g.inflate
             (record { ring = apart 0 (omega arith); buffers = λ p from to. apart p (omega arith) })
             run.inflate;

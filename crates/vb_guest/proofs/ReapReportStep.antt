@@ -79,7 +79,8 @@ report_reap m1 m2 p1 p2 d1 d2 g (r ∷ rest) (Some x) is next did answer stands 
     let K : DriverState → Type 0 =
     λ d. TakesUsedBy m1 d1.report.ring d.report.ring (used_answer m1 d1.report.ring) in
     let taken : TakesUsedBy m1 d1.report.ring after.report.ring (Ok (Some r.head)) =
-    subst (λ a. TakesUsedBy m1 d1.report.ring after.report.ring a) answer (subst K state did.ring) in
+    subst (λ a. TakesUsedBy m1 d1.report.ring after.report.ring a) answer
+    (subst K state did.ring) in
     let few = stands.orderly.reporting.few in
     let there : Ties m1 (record p1 { actual = new.actual }) after new = record {
       parts = record {

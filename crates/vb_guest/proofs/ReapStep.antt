@@ -59,8 +59,10 @@ inflate_reaped m1 m2 p1 p2 g areas sides d2 (r ∷ rest) (Some x) is next did an
     let L : List Request → Type 0 =
     λ l. Line m1 0 n sides.inflate p1.inflate (record g.inflate { done = l }) in
     let line : L (r ∷ rest) = subst L is run.inflate in
-    let request : IsRequest sides.inflate.ring.size n sides.inflate.sent r = line.done 0 r (omega arith) in
-    let sent : sent_by sides.inflate x.head ≡ r.pages = ap (sent_by sides.inflate) same ∙ request.remembered in
+    let request : IsRequest sides.inflate.ring.size n sides.inflate.sent r =
+    line.done 0 r (omega arith) in
+    let sent : sent_by sides.inflate x.head ≡ r.pages =
+    ap (sent_by sides.inflate) same ∙ request.remembered in
     let new : Guest = reaped Inflating r rest g in
     let reply : Reaped x.head x.pages ≡ Reaped r.head (length r.pages) =
     ap (λ (k : ℕ). Reaped k x.pages) same
@@ -68,7 +70,8 @@ inflate_reaped m1 m2 p1 p2 g areas sides d2 (r ∷ rest) (Some x) is next did an
     let T : List Request → Type 0 = λ l. Reaps Inflating l g (Reaped x.head x.pages) new in
     let step = honest_performed g (Reap 0) [] (Reaped x.head x.pages) new free
     (refl, subst T (sym is) (reply, refl)) in
-    let after : DriverState = driver_of new areas (record sides { inflate = after_reap sides.inflate r.head }) in
+    let after : DriverState =
+    driver_of new areas (record sides { inflate = after_reap sides.inflate r.head }) in
     let state : d2 ≡ after =
     did.reaps.state ∙ ap (λ (h : ℕ). driver_of
     (record g { places = placed (sent_by sides.inflate h) Lent g.places }) areas
@@ -80,11 +83,12 @@ inflate_reaped m1 m2 p1 p2 g areas sides d2 (r ∷ rest) (Some x) is next did an
     { actual = count_by is_lent_or_taking d.places }) state in
     let K : DriverState → Type 0 =
     λ d. TakesUsedBy m1 sides.inflate.ring d.inflate.ring (used_answer m1 sides.inflate.ring) in
-    let taken : TakesUsedBy m1 sides.inflate.ring (after_reap sides.inflate r.head).ring (Ok (Some r.head)) =
+    let taken : TakesUsedBy m1 sides.inflate.ring (after_reap sides.inflate r.head).ring
+    (Ok (Some r.head)) =
     subst (λ a. TakesUsedBy m1 sides.inflate.ring (after_reap sides.inflate r.head).ring a) answer
     (subst K state did.ring) in
-    let reap = line_reaped m1 0 n sides.inflate p1.inflate g.inflate.posted g.inflate.taken r rest line
-    taken in
+    let reap = line_reaped m1 0 n sides.inflate p1.inflate g.inflate.posted g.inflate.taken r rest
+    line taken in
     let there : Ties m1 (record p1 { actual = new.actual }) after new = record {
       parts = record {
         guest = ties.parts.guest;
@@ -158,8 +162,10 @@ deflate_reaped m1 m2 p1 p2 g areas sides d2 (r ∷ rest) (Some x) is next did an
     let L : List Request → Type 0 =
     λ l. Line m1 1 n sides.deflate p1.deflate (record g.deflate { done = l }) in
     let line : L (r ∷ rest) = subst L is run.deflate in
-    let request : IsRequest sides.deflate.ring.size n sides.deflate.sent r = line.done 0 r (omega arith) in
-    let sent : sent_by sides.deflate x.head ≡ r.pages = ap (sent_by sides.deflate) same ∙ request.remembered in
+    let request : IsRequest sides.deflate.ring.size n sides.deflate.sent r =
+    line.done 0 r (omega arith) in
+    let sent : sent_by sides.deflate x.head ≡ r.pages =
+    ap (sent_by sides.deflate) same ∙ request.remembered in
     let new : Guest = reaped Deflating r rest g in
     let reply : Reaped x.head x.pages ≡ Reaped r.head (length r.pages) =
     ap (λ (k : ℕ). Reaped k x.pages) same
@@ -182,11 +188,12 @@ deflate_reaped m1 m2 p1 p2 g areas sides d2 (r ∷ rest) (Some x) is next did an
     { actual = count_by is_lent_or_taking d.places }) state in
     let K : DriverState → Type 0 =
     λ d. TakesUsedBy m1 sides.deflate.ring d.deflate.ring (used_answer m1 sides.deflate.ring) in
-    let taken : TakesUsedBy m1 sides.deflate.ring (after_reap sides.deflate r.head).ring (Ok (Some r.head)) =
+    let taken : TakesUsedBy m1 sides.deflate.ring (after_reap sides.deflate r.head).ring
+    (Ok (Some r.head)) =
     subst (λ a. TakesUsedBy m1 sides.deflate.ring (after_reap sides.deflate r.head).ring a) answer
     (subst K state did.ring) in
-    let reap = line_reaped m1 1 n sides.deflate p1.deflate g.deflate.posted g.deflate.taken r rest line
-    taken in
+    let reap = line_reaped m1 1 n sides.deflate p1.deflate g.deflate.posted g.deflate.taken r rest
+    line taken in
     let there : Ties m1 (record p1 { actual = new.actual }) after new = record {
       parts = record {
         guest = ties.parts.guest;

@@ -1,6 +1,7 @@
 -- A posted report, as its device finds it.
-use Rattle.std.specs.Prelude.{◌≡◌, ◌≢◌, ℕ, ◌+◌, ◌*◌, ◌/◌, ◌%◌, ◌<◌, ◌≤◌, ◌==◌, ◌||◌, Bool, true}
-use Rattle.std.specs.Prelude.{false, not, nat_lt, List, [], ◌∷◌, ◌++◌, All, length, map, Option, Some, None}
+use Rattle.std.specs.Prelude.{◌≡◌, ℕ, ◌*◌, ◌/◌, ◌%◌, ◌<◌, ◌≤◌, ◌==◌, ◌||◌, Bool, true}
+use Rattle.std.specs.Prelude.{false, not, nat_lt, List, [], ◌∷◌, ◌++◌, All, length, map}
+use Rattle.std.specs.Prelude.{Option, Some, None}
 use Rattle.std.specs.Prelude.{Ok, slice_index, slice_index_or, if◌then◌else◌, refl}
 use Rattle.std.specs.List.{list_any, range_with_len}
 use Rattle.std.proofs.Common.{sym, ◌∙◌, ap, subst, arith}
@@ -69,7 +70,8 @@ report_chain mem table descriptors n blocks len some inside own reported =
     λ k lt. omega (arith, get_or-range_with_len 0 count k 0 lt) in
     let route : IsRoute descriptors path = record {
       inside = λ k lt. omega (arith, at k (omega (arith, long)), long);
-      apart = λ j k before lt. omega (arith, at j (omega (arith, long)), at k (omega (arith, long)));
+      apart = λ j k before lt.
+          omega (arith, at j (omega (arith, long)), at k (omega (arith, long)));
     } in
     let put : (k : ℕ) → k < length path
     → descriptor_at mem table (slice_index path k) ≡ linked path (pieces_of blocks) k =

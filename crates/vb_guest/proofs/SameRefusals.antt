@@ -55,7 +55,8 @@ take_idle part g same down =
     let G : ℕ → Type 0 =
     λ s. (refusal_of (record g { status = s }) (Take 2) ≡ Some NotReady)
     × (refusal_of (record g { status = s }) (Take 4) ≡ Some NotReady) in
-    let by_part = at_both P part.status (subst IsIdleStatus (sym same) down) (refl, refl) (refl, refl) in
+    let by_part =
+    at_both P part.status (subst IsIdleStatus (sym same) down) (refl, refl) (refl, refl) in
     let by_guest = at_both G g.status down (refl, refl) (refl, refl) in
     ((by_part.0, by_guest.0), (by_part.1, by_guest.1))
 

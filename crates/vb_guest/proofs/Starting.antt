@@ -25,7 +25,6 @@ use Rattle.vb_guest.specs.Reported.{ReportLine}
 use Rattle.vb_guest.specs.Buffer.{BufferLine}
 use Rattle.vb_guest.specs.Stands.{Ties, HasParts, HasPages, IsIdle, beside_queues}
 use Rattle.vb_guest.specs.Stands.{beside_sides, beside_requests}
-use Rattle.vb_guest.specs.Supply.{nothing}
 use Rattle.vb_guest.proofs.Closing.{ties_same}
 use Rattle.vb_guest.proofs.PagesKept.{pages_same}
 use Rattle.vb_guest.proofs.RingPosted.{ring_posted}
@@ -76,8 +75,8 @@ first_line : (b : Bool) (zeroed m : Pages) (d1 d2 : DriverState) (f : Figures)
     → BufferLine m d2.statistics no_queue (first_buffer b f)
 first_line true zeroed m d1 d2 f sized is new did =
     subst (λ (x : Figures). BufferLine m d2.statistics no_queue (BufferPosted x)) is (record {
-      stands = ring_posted zeroed m 2 (fresh_statistics d1.queue_size) d2.statistics 0 0 [] [] [] 1 0
-          (ring_new zeroed 2 (fresh_statistics d1.queue_size) sized refl new) did.state
+      stands = ring_posted zeroed m 2 (fresh_statistics d1.queue_size) d2.statistics 0 0 [] [] []
+          1 0 (ring_new zeroed 2 (fresh_statistics d1.queue_size) sized refl new) did.state
           did.announces;
       figures = did.coded;
       remembers = refl;

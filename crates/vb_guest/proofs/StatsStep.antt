@@ -9,7 +9,8 @@ use Rattle.vb_model.specs.declared.replies.Refusal.{Refusal}
 use Rattle.vb_model.specs.declared.replies.Refusal.TheVariants.{NotReady, RingBroken}
 use Rattle.vb_model.specs.declared.replies.Reply.TheVariants.{Filled, NotUsed}
 use Rattle.vb_model.specs.Pages.{is_free}
-use Rattle.vb_model.specs.Requests.{Figures, Buffer, NoBuffer, BufferPosted, BufferTaken, BufferDone}
+use Rattle.vb_model.specs.Requests.{Figures, Buffer, NoBuffer, BufferPosted, BufferTaken}
+use Rattle.vb_model.specs.Requests.{BufferDone}
 use Rattle.vb_model.specs.Guest.{Guest, stats_vq}
 use Rattle.vb_model.specs.Driver.{figures, Fills}
 use Rattle.vb_model.specs.FirstRefusal.{first_refusal}

@@ -55,7 +55,8 @@ take_posted m1 m2 p1 p2 d g (r ∷ rest) result is did stands run free_part free
     λ l. ReportLine m1 n d.report p1.report (record g.report { posted = l }) in
     let line : L (r ∷ rest) = subst L is run.report in
     let size = ties.parts.device.size ∙ sym run.report_size in
-    let next = same_entry m1 4 p1.queue_size p1.report.next_avail d.report.ring line.ring.layout size
+    let next =
+    same_entry m1 4 p1.queue_size p1.report.next_avail d.report.ring line.ring.layout size
     ∙ ring_next m1 4 d.report.ring p1.report.next_avail p1.report.next_used _ _ _ line.ring in
     let report : IsReport d.report.ring.size n blocks r = line.posted 0 r (omega arith) in
     let chain = report_chain m1 3 p1.queue_size n blocks ties.pages.length_is report.some

@@ -1,5 +1,5 @@
--- What the driver, the device and guest memory say together of the one statistics buffer (VIRTIO 1.1,
--- 5.5.6.3).
+-- What the driver, the device and guest memory say together of the one statistics buffer (VIRTIO
+-- 1.1, 5.5.6.3).
 use Rattle.std.specs.Prelude.{◌≡◌, ℕ, List, [], ◌∷◌, ⊤}
 use Rattle.vb_model.specs.declared.layout.TheConstants.{STATISTICS_QUEUE}
 use Rattle.vb_model.specs.Layout.{ring_page}
