@@ -1,7 +1,7 @@
 -- The slot's ask is a step of the guest.
-use Rattle.std.specs.Prelude.{◌≡◌, ◌≢◌, ℕ, ◌+◌, ◌%◌, ◌<◌, ◌≤◌, Bool, true, false, List, [], ◌∷◌}
-use Rattle.std.specs.Prelude.{remove, Result, Ok, Err, IsOk, Option, Some, None, is_some, slice_get}
-use Rattle.std.specs.Prelude.{refl, ◌⊎◌}
+use Rattle.std.specs.Prelude.{◌≡◌, ◌≢◌, ℕ, Bool, false, List, []}
+use Rattle.std.specs.Prelude.{Result, Ok, Err, IsOk, Some, None, is_some, slice_get}
+use Rattle.std.specs.Prelude.{refl}
 use Rattle.std.proofs.Common.{sym, ◌∙◌, ap, subst, arith, inl, inr}
 use Rattle.vb_model.specs.declared.calls.Call.TheVariants.{Ask}
 use Rattle.vb_model.specs.declared.replies.Refusal.{Refusal}
@@ -14,7 +14,7 @@ use Rattle.vb_model.specs.Device.{Asks}
 use Rattle.vb_model.specs.FirstRefusal.{first_refusal}
 use Rattle.vb_model.specs.Tables.{ask_tests}
 use Rattle.vb_model.specs.Refusals.{refusal_of, is_taken}
-use Rattle.vb_ram.specs.Pages.{Pages, page_at, number_of}
+use Rattle.vb_ram.specs.Pages.{Pages, page_at}
 use Rattle.vb_ram.specs.Part.{Part}
 use Rattle.vb_ring.specs.declared.layout.Layout.{Layout}
 use Rattle.vb_driver.specs.State.{DriverState}

@@ -10,7 +10,7 @@ use Rattle.vb_model.specs.Guest.{Guest}
 use Rattle.vb_model.specs.Driver.{without_block}
 use Rattle.vb_ram.specs.Pages.{Pages}
 use Rattle.vb_ram.specs.Part.{Part}
-use Rattle.vb_driver.specs.State.{FreePages, Side, DriverState}
+use Rattle.vb_driver.specs.State.{FreePages, DriverState}
 use Rattle.vb_driver.specs.Answers.{block_at}
 use Rattle.vb_driver.specs.Calls.{FreesBy, after_free}
 use Rattle.vb_guest.specs.Stands.{Honest, Ties}

@@ -1,34 +1,24 @@
 -- The slot's reap is a step of the guest.
-use Rattle.std.specs.Prelude.{◌≡◌, ℕ, ◌+◌, ◌≤◌, ◌==◌, Bool, true, false, not, if◌then◌else◌}
-use Rattle.std.specs.Prelude.{List, [], ◌∷◌, ◌++◌, length, Result, Ok, Err, Option, Some, None}
-use Rattle.std.specs.Prelude.{is_err, slice_get, count_by, drop, refl, ◌⊎◌}
-use Rattle.std.proofs.Common.{sym, ◌∙◌, ap, subst, arith, inl, inr, eq-eqb}
+use Rattle.std.specs.Prelude.{◌≡◌, ℕ}
+use Rattle.std.specs.Prelude.{List, [], ◌∷◌, length, Result, Ok, Option, Some, None}
+use Rattle.std.specs.Prelude.{count_by, refl}
+use Rattle.std.proofs.Common.{sym, ◌∙◌, ap, subst, arith, inl, inr}
 use Rattle.vb_model.specs.declared.calls.Call.TheVariants.{Reap}
 use Rattle.vb_model.specs.declared.places.Place.TheVariants.{Lent, Free}
 use Rattle.vb_model.specs.declared.replies.Refusal.{Refusal}
-use Rattle.vb_model.specs.declared.replies.Refusal.TheVariants.{NoQueue, NotReady, RingBroken}
 use Rattle.vb_model.specs.declared.replies.Reply.TheVariants.{NotUsed, Reaped}
-use Rattle.vb_model.specs.Tests.{one_if}
 use Rattle.vb_model.specs.Pages.{placed, is_lent_or_taking}
-use Rattle.vb_model.specs.Requests.{Request, Requests, outstanding, headed, Inflating, Deflating}
+use Rattle.vb_model.specs.Requests.{Request, Inflating, Deflating}
 use Rattle.vb_model.specs.Guest.{Guest}
 use Rattle.vb_model.specs.Driver.{reaped, Reaps}
-use Rattle.vb_model.specs.FirstRefusal.{◌⇒◌, first_refusal}
-use Rattle.vb_model.specs.Tables.{is_queue_of_requests}
-use Rattle.vb_model.specs.Refusals.{tests, refusal_of}
+use Rattle.vb_model.specs.Refusals.{refusal_of}
 use Rattle.vb_ram.specs.Pages.{Pages}
-use Rattle.vb_ram.specs.Part.{Part, QueuePart}
-use Rattle.vb_ring.specs.declared.driver.RingBroken.{RingBroken as Broken}
-use Rattle.vb_ring.specs.declared.driver.RingBroken.TheVariants.{NotOutstanding}
-use Rattle.vb_ring.specs.Entries.{is_head, only_head}
-use Rattle.vb_ring.proofs.EntryLaws.{id_shown}
-use Rattle.vb_ring.specs.Ends.{used_answer, outstanding as outstanding_in}
-use Rattle.vb_ring.specs.Meaning.{ids}
+use Rattle.vb_ram.specs.Part.{Part}
+use Rattle.vb_ring.specs.Ends.{used_answer}
 use Rattle.vb_ring.specs.Calls.{TakesUsedBy}
 use Rattle.vb_driver.specs.declared.answers.Reaped.{Reaped as ReapedRequest}
-use Rattle.vb_driver.specs.State.{FreePages, Side, DriverState, sent_by, page_state}
+use Rattle.vb_driver.specs.State.{FreePages, DriverState, sent_by, page_state}
 use Rattle.vb_driver.specs.Areas.{all_given}
-use Rattle.vb_driver.specs.Answers.{is_up, reap_tests}
 use Rattle.vb_driver.specs.Calls.{ReapsBy, after_reap, next_of}
 use Rattle.vb_guest.specs.Line.{Line, IsRequest}
 use Rattle.vb_guest.specs.Stands.{Honest, Ties, IsRunning}

@@ -11,7 +11,6 @@ use Rattle.std.proofs.lemmas.List.Elements.{All-tail}
 use Rattle.std.proofs.lemmas.List.FromFn.{length-range_with_len, get_or-range_with_len}
 use Rattle.vb_model.specs.Pages.{Block, size, pages_of, pages_of_all}
 use Rattle.vb_ram.specs.Pages.{Pages}
-use Rattle.vb_chain.specs.declared.descriptor.Descriptor.{Descriptor}
 use Rattle.vb_chain.specs.declared.pieces.Piece.{Piece}
 use Rattle.vb_chain.specs.declared.fault.ChainFault.{ChainFault}
 use Rattle.vb_chain.specs.declared.fault.ChainFault.TheVariants.{BadPage, ReservedPage}

@@ -1,7 +1,6 @@
 -- The slot's report is a step of the guest.
-use Rattle.std.specs.Prelude.{◌≡◌, ◌≢◌, ℕ, ◌+◌, ◌<◌, ◌≤◌, ◌==◌, Bool, true, false, not, nat_le, List}
+use Rattle.std.specs.Prelude.{◌≡◌, ℕ, ◌<◌, ◌==◌, Bool, true, false, not, nat_le, List}
 use Rattle.std.specs.Prelude.{[], ◌∷◌, length, Result, Ok, Err, Option, Some, None, is_some, refl}
-use Rattle.std.specs.Prelude.{All, ◌⊎◌}
 use Rattle.std.proofs.Common.{sym, ◌∙◌, ap, subst, arith, inl, inr}
 use Rattle.std.proofs.lemmas.Bool.Decides.{nat_tests}
 use Rattle.std.proofs.lemmas.List.{length-map}
@@ -74,9 +73,10 @@ report_idle : (p : Part) (d : DriverState) (g : Guest) (from : ℕ) → p.status
 report_idle p d g from same down =
     let P : ℕ → Type 0 =
     λ s. first_refusal (report_tests d (record p { status = s }) from) ≡ Some NotReady in
-    let G : ℕ → Type 0 = λ s. refusal_of (record g { status = s }) (Report from) ≡ Some NotReady in
-    (at_both P p.status (subst IsIdleStatus (sym same) down) refl refl,
-    at_both G g.status down refl refl)
+    let G : ℕ → Type 0 = λ s. refusal_of (record g { status = s }) (Report from) ≡ Some NotReady in (
+      at_both P p.status (subst IsIdleStatus (sym same) down) refl refl,
+      at_both G g.status down refl refl,
+    )
 
 -- the driver's areas are none of the guest's
 unreported_ties : (why : Refusal) (m1 m2 : Pages) (p1 p2 : Part) (d1 d2 : DriverState) (g : Guest)

@@ -1,12 +1,12 @@
 -- The slot's take of a report is a step of the guest.
-use Rattle.std.specs.Prelude.{◌≡◌, ℕ, ◌*◌, ◌<◌, ◌≤◌, List, [], ◌∷◌, ◌++◌, length, Result, Ok, Option}
-use Rattle.std.specs.Prelude.{Some, None, slice_get, refl}
+use Rattle.std.specs.Prelude.{◌≡◌, ℕ, ◌*◌, List, [], ◌∷◌, ◌++◌, length, Result, Ok, Option}
+use Rattle.std.specs.Prelude.{Some, None, refl}
 use Rattle.std.proofs.Common.{sym, ◌∙◌, ap, subst, arith, inl, inr}
 use Rattle.vb_model.specs.declared.calls.Call.TheVariants.{Take}
 use Rattle.vb_model.specs.declared.replies.Refusal.{Refusal}
 use Rattle.vb_model.specs.declared.replies.Refusal.TheVariants.{NotReady}
 use Rattle.vb_model.specs.declared.replies.Reply.TheVariants.{Taken, Empty}
-use Rattle.vb_model.specs.Requests.{Request, Requests, Reporting_free}
+use Rattle.vb_model.specs.Requests.{Request, Reporting_free}
 use Rattle.vb_model.specs.Guest.{Guest}
 use Rattle.vb_model.specs.Device.{Takes}
 use Rattle.vb_model.specs.Refusals.{refusal_of}
