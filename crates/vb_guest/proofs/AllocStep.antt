@@ -10,7 +10,7 @@ use Rattle.vb_model.specs.Guest.{Guest}
 use Rattle.vb_model.specs.Driver.{with_block}
 use Rattle.vb_ram.specs.Pages.{Pages}
 use Rattle.vb_ram.specs.Part.{Part}
-use Rattle.vb_driver.specs.State.{FreePages, Side, DriverState}
+use Rattle.vb_driver.specs.State.{FreePages, DriverState}
 use Rattle.vb_driver.specs.Answers.{block_at}
 use Rattle.vb_driver.specs.Calls.{AllocatesBy}
 use Rattle.vb_guest.specs.Stands.{Honest, Ties}
@@ -20,7 +20,8 @@ use Rattle.vb_guest.proofs.Closing.{honest_performed, honest_refused, steps_alon
 use Rattle.vb_guest.proofs.Writing.{idle_still}
 use Rattle.vb_guest.proofs.Normal.{Sides, sides_of, driver_of, driver_is, keeps_own}
 
-by_result : (m : Pages) (p : Part) (g : Guest) (areas : FreePages) (sides : Sides) (d2 : DriverState)
+by_result : (m : Pages) (p : Part) (g : Guest) (areas : FreePages) (sides : Sides)
+    (d2 : DriverState)
     (cpu order : ℕ) (result : Result ℕ Refusal)
     → AllocatesBy (driver_of g areas sides) d2 cpu order result
     → Honest m p (driver_of g areas sides) g

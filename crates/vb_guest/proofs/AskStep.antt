@@ -1,7 +1,7 @@
 -- The slot's ask is a step of the guest.
-use Rattle.std.specs.Prelude.{◌≡◌, ◌≢◌, ℕ, ◌+◌, ◌%◌, ◌<◌, ◌≤◌, Bool, true, false, List, [], ◌∷◌}
-use Rattle.std.specs.Prelude.{remove, Result, Ok, Err, IsOk, Option, Some, None, is_some, slice_get}
-use Rattle.std.specs.Prelude.{refl, ◌⊎◌}
+use Rattle.std.specs.Prelude.{◌≡◌, ◌≢◌, ℕ, Bool, false, List, []}
+use Rattle.std.specs.Prelude.{Result, Ok, Err, IsOk, Some, None, is_some, slice_get}
+use Rattle.std.specs.Prelude.{refl}
 use Rattle.std.proofs.Common.{sym, ◌∙◌, ap, subst, arith, inl, inr}
 use Rattle.vb_model.specs.declared.calls.Call.TheVariants.{Ask}
 use Rattle.vb_model.specs.declared.replies.Refusal.{Refusal}
@@ -14,7 +14,7 @@ use Rattle.vb_model.specs.Device.{Asks}
 use Rattle.vb_model.specs.FirstRefusal.{first_refusal}
 use Rattle.vb_model.specs.Tables.{ask_tests}
 use Rattle.vb_model.specs.Refusals.{refusal_of, is_taken}
-use Rattle.vb_ram.specs.Pages.{Pages, page_at, number_of}
+use Rattle.vb_ram.specs.Pages.{Pages, page_at}
 use Rattle.vb_ram.specs.Part.{Part}
 use Rattle.vb_ring.specs.declared.layout.Layout.{Layout}
 use Rattle.vb_driver.specs.State.{DriverState}
@@ -95,7 +95,8 @@ ask_done m1 m2 p1 p2 d g figures result is did stands run free_part free =
           buffers = λ p from to. apart p (omega arith);
         }) run.deflate;
         statistics = buffer_used m1 m2 d.statistics p1.statistics figures _ line adds;
-        report = report_apart m1 m2 n d.report p1.report g.report (apart 3 (omega arith)) run.report;
+        report = report_apart m1 m2 n d.report p1.report g.report (apart 3 (omega arith))
+            run.report;
       });
     } in
     subst (StepsAlone (Honest m2 p2 d) g Ask)

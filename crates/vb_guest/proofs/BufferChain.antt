@@ -1,6 +1,6 @@
 -- A posted statistics buffer, as its device finds it.
 use Rattle.std.specs.Prelude.{◌≡◌, ℕ, ◌+◌, ◌*◌, ◌/◌, ◌%◌, ◌<◌, ◌≤◌, List, [], ◌∷◌, length, take}
-use Rattle.std.specs.Prelude.{map, drop, false, Option, Some, Ok, slice_index, refl}
+use Rattle.std.specs.Prelude.{map, drop, false, Some, Ok, slice_index, refl}
 use Rattle.std.specs.List.{range_with_len}
 use Rattle.std.proofs.Common.{sym, ◌∙◌, ap, arith}
 use Rattle.std.proofs.lemmas.List.{append-nil, get_or-take, get_or-drop}
@@ -9,7 +9,6 @@ use Rattle.vb_model.specs.Requests.{Figures}
 use Rattle.vb_model.specs.Guest.{LastStatistics}
 use Rattle.vb_ram.specs.Pages.{Pages, byte_at}
 use Rattle.vb_ram.proofs.FieldLaws.{field_2, field_8}
-use Rattle.vb_chain.specs.declared.descriptor.Descriptor.{Descriptor}
 use Rattle.vb_chain.specs.declared.pieces.Piece.{Piece}
 use Rattle.vb_chain.specs.Table.{descriptor_at}
 use Rattle.vb_chain.specs.Rules.{piece_of}

@@ -1,5 +1,5 @@
 -- What calls make of the statistics buffer.
-use Rattle.std.specs.Prelude.{◌≡◌, ℕ, ◌+◌, ◌%◌, ◌≤◌, true, List, [], ◌∷◌, ◌++◌, remove, Some, Ok}
+use Rattle.std.specs.Prelude.{◌≡◌, ℕ, ◌+◌, ◌%◌, true, List, [], ◌∷◌, ◌++◌, remove, Some, Ok}
 use Rattle.std.specs.Prelude.{refl}
 use Rattle.std.proofs.Common.{◌∙◌, ap, subst, arith}
 use Rattle.vb_model.specs.Requests.{Request, Figures, Buffer, NoBuffer, BufferPosted, BufferTaken}
@@ -112,8 +112,8 @@ pub buffer_emptied : (mem : Pages) (ring : DriverEnd) (part : QueuePart) (figure
     → TakesUsedBy mem ring (emptied ring) (Ok (Some 0))
     → BufferLine mem (emptied ring) part NoBuffer
 buffer_emptied mem ring part figures line takes = record {
-  stands = ring_reaped mem 2 ring (emptied ring) part.next_avail part.next_used [] [] 0 [] line.stands
-      takes;
+  stands = ring_reaped mem 2 ring (emptied ring) part.next_avail part.next_used [] [] 0 []
+      line.stands takes;
   figures = tt;
   remembers = line.remembers;
 }

@@ -106,8 +106,8 @@ asked_back m1 m2 p1 p2 g areas sides d2 call count posted asks driver did stands
     let length_is : length pages ≡ count = length-lent g count asks.lent in
     let asked = deflate_requested g count stands.orderly once
     (omega (arith, length_is, asks.some free run.state)) (omega (arith, length_is, asks.few)) in
-    let line = line_posted m1 m2 1 g.config.pages sides.deflate d2.deflate p1.deflate g.deflate posted.head
-    pages (omega arith) single asked run.deflate did.posts in
+    let line = line_posted m1 m2 1 g.config.pages sides.deflate d2.deflate p1.deflate g.deflate
+    posted.head pages (omega arith) single asked run.deflate did.posts in
     let table : sides.deflate.ring.layout.table ≡ 1 = ap (λ l. l.table) run.deflate.ring.layout in
     let B : ℕ → Type 0 = λ r. SameButBuffer m1 m2 r 8 posted.head in
     let rest : B 1 = subst B table did.posts.rest in
@@ -135,7 +135,8 @@ asked_back m1 m2 p1 p2 g areas sides d2 call count posted asks driver did stands
             (rest.others 12 (omega arith) (omega (arith, did.posts.small))) run.statistics;
         report = report_apart m1 m2 g.config.pages sides.report p1.report g.report
             (rest.others 3 (omega arith) (omega arith)) run.report;
-        inflate = line_apart m1 m2 0 g.config.pages sides.inflate p1.inflate g.inflate apart run.inflate;
+        inflate = line_apart m1 m2 0 g.config.pages sides.inflate p1.inflate g.inflate apart
+            run.inflate;
         deflate = line;
       });
     } in
@@ -281,7 +282,8 @@ oom_running g n e =
 oom_running_tests : (g : Guest) (areas : FreePages) (sides : Sides) (p : Part) (n : ℕ)
     → p.status ≡ 15
     → first_refusal (oom_tests (driver_of g areas sides) p n)
-    ≡ oom_refusal (deflate_on_oom g.features) (room g) (outstanding_in sides.deflate.ring) (oom_count g n)
+    ≡ oom_refusal (deflate_on_oom g.features) (room g) (outstanding_in sides.deflate.ring)
+    (oom_count g n)
 oom_running_tests g areas sides p n e =
     let P : ℕ → Type 0 = λ s. first_refusal
     (oom_tests (driver_of g areas sides) (record p { status = s }) n)

@@ -20,7 +20,8 @@ but_absent n [] e = refl
 but_absent n (x ∷ xs) e = step (x == n) refl e (but_absent n xs)
   where
     step : (b : Bool) → (x == n) ≡ b → ((x == n) || is_in n xs) ≡ false
-        → (is_in n xs ≡ false → but n xs ≡ xs) → cond (not (x == n)) (x ∷ but n xs) (but n xs) ≡ x ∷ xs
+        → (is_in n xs ≡ false → but n xs ≡ xs)
+        → cond (not (x == n)) (x ∷ but n xs) (but n xs) ≡ x ∷ xs
     step true is out more =
         absurd (let both : true ≡ false = sym (ap (λ v. v || is_in n xs) is) ∙ out in cc)
     step false is out more =

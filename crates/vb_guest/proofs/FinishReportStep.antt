@@ -1,6 +1,6 @@
 -- The slot's finish of a report is a step of the guest.
-use Rattle.std.specs.Prelude.{◌≡◌, ◌≢◌, ℕ, zero, suc, ◌+◌, ◌%◌, ◌<◌, ◌≤◌, Bool, List, [], ◌∷◌, ◌++◌}
-use Rattle.std.specs.Prelude.{All, remove, Result, Option, Some, None, is_some, slice_get, refl, ◌⊎◌}
+use Rattle.std.specs.Prelude.{◌≡◌, ◌≢◌, ℕ, zero, suc, ◌<◌, ◌≤◌, List, [], ◌∷◌}
+use Rattle.std.specs.Prelude.{All, Result, Option, Some, None, is_some, slice_get, refl}
 use Rattle.std.specs.Option.{option_to_list}
 use Rattle.std.specs.List.{flat_map}
 use Rattle.std.proofs.Common.{sym, ◌∙◌, ap, subst, arith, inl, inr}
@@ -88,7 +88,8 @@ report_finished m1 m2 p1 p2 d g i r result is did stands run free =
     let below : All (λ page. page < n) r.pages =
     subst (All (λ page. page < n)) (sym request.names) inside.1 in
     let distinct : AllDistinct r.pages =
-    distinct_once r.pages (sound_at g.report.taken i r stands.orderly.reporting.taken is).distinct in
+    distinct_once r.pages
+    (sound_at g.report.taken i r stands.orderly.reporting.taken is).distinct in
     let adds = same_end bare m2 4 p1.queue_size p1.report.next_avail p1.report.next_used
     d.report.ring _ r.head run.report.ring.layout
     (ties.parts.device.size ∙ sym run.report_size) did.memory in
@@ -196,7 +197,8 @@ finish_report m1 m2 p1 p2 d g i result did stands =
           let taken : slice_get p1.report.taken i ≡ slice_get g.report.taken i =
           ap (λ (l : List Request). slice_get l i) run.report.remembers in
           by_taken (slice_get g.report.taken i) refl run taken
-          (finish_same 4 i p1 g stands.ties.parts.device.status stands.ties.parts.device.paced taken)
+          (finish_same 4 i p1 g stands.ties.parts.device.status stands.ties.parts.device.paced
+          taken)
     ]
   where
     by_refusal : (o : Option Refusal) (r : Request) → refusal_of g (Finish 4 i) ≡ o

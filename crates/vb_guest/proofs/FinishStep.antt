@@ -1,31 +1,24 @@
 -- The slot's finish is a step of the guest.
-use Rattle.std.specs.Prelude.{◌≡◌, ◌≢◌, ℕ, ◌+◌, ◌%◌, ◌<◌, ◌≤◌, ◌==◌, ◌||◌, Bool, true, false, List}
-use Rattle.std.specs.Prelude.{[], ◌∷◌, ◌++◌, All, remove, Result, Option, Some, None, is_some}
+use Rattle.std.specs.Prelude.{◌≡◌, ◌≢◌, ℕ, ◌+◌, ◌%◌, ◌<◌, Bool, true, false, List}
+use Rattle.std.specs.Prelude.{[], All, remove, Result, Option, Some, None, is_some}
 use Rattle.std.specs.Prelude.{slice_get, refl, ◌⊎◌}
 use Rattle.std.proofs.Common.{sym, ◌∙◌, ap, subst, arith, inl, inr}
 use Rattle.std.specs.Option.{option_to_list}
 use Rattle.std.specs.List.{flat_map}
-use Rattle.std.proofs.lemmas.Bool.{eqb-true}
-use Rattle.std.proofs.lemmas.List.Elements.{All-tail}
 use Rattle.std.proofs.lemmas.Option.{get_or_from_slice_get, slice_get_within}
 use Rattle.vb_model.specs.declared.calls.Call.TheVariants.{Finish}
 use Rattle.vb_model.specs.declared.replies.Refusal.{Refusal}
 use Rattle.vb_model.specs.declared.replies.Refusal.TheVariants.{NoQueue, NotReady}
-use Rattle.vb_model.specs.declared.replies.Reply.TheVariants.{Finished, Refused}
-use Rattle.vb_model.specs.Tests.{is_in}
-use Rattle.vb_model.specs.Layout.{ring_page}
+use Rattle.vb_model.specs.declared.replies.Reply.TheVariants.{Finished}
 use Rattle.vb_model.specs.Requests.{Request, Inflating, Deflating}
 use Rattle.vb_model.specs.Guest.{Guest, frame_of}
 use Rattle.vb_model.specs.Device.{used, settled}
 use Rattle.vb_model.specs.Orderly.{times}
 use Rattle.vb_model.specs.Refusals.{refusal_of}
-use Rattle.vb_ram.specs.Pages.{Pages, page_at, frame_at, contents_of, number_of}
-use Rattle.vb_ram.specs.Part.{Part, QueuePart}
+use Rattle.vb_ram.specs.Pages.{Pages, page_at, number_of}
+use Rattle.vb_ram.specs.Part.{Part}
 use Rattle.vb_ring.specs.declared.layout.Layout.{Layout}
-use Rattle.vb_ring.specs.Layout.{layout_of}
-use Rattle.vb_ring.specs.Ends.{DeviceEnd}
-use Rattle.vb_ring.specs.Calls.{AddsUsedBy}
-use Rattle.vb_driver.specs.State.{Side, DriverState}
+use Rattle.vb_driver.specs.State.{DriverState}
 use Rattle.vb_device.specs.Conditions.{finish_refusal}
 use Rattle.vb_device.specs.Discards.{discarded, frames_behind, flagged}
 use Rattle.vb_device.specs.Calls.{FinishesBy, Uses}
@@ -41,7 +34,7 @@ use Rattle.vb_guest.proofs.Finishing.{end_of, line_finished}
 use Rattle.vb_guest.proofs.Handing.{handed_back, not_among, used_same, same_end, behind_same}
 use Rattle.vb_guest.proofs.FinishReportStep.{finish_refused, finish_report}
 use Rattle.vb_guest.proofs.Discarding.{frames_freed}
-use Rattle.vb_guest.proofs.PagesKept.{SamePages, pages_same, pages_discarded, page_undiscarded}
+use Rattle.vb_guest.proofs.PagesKept.{pages_same, pages_discarded, page_undiscarded}
 use Rattle.vb_model.proofs.Queues.{queue_cases, no_requests_at}
 use Rattle.vb_guest.proofs.Refusing.{finish_no_queue, finish_running, finish_running_part}
 use Rattle.vb_guest.proofs.Refusing.{finish_idle, finish_idle_part, finish_test}
@@ -76,8 +69,8 @@ inflate_finished m1 m2 p1 p2 d g i r result is did stands run free =
     λ p lt. page_undiscarded r.pages m1 p (not_among r.pages p request.pages.above lt) in
     let used_low : d.inflate.ring.layout.used.page ≡ 0 =
     ap (λ (l : Layout). l.used.page) run.inflate.ring.layout in
-    let same = used_same bare m2 (end_of d.inflate.ring p1.inflate) _ r.head 0 (omega (arith, used_low))
-    adds in
+    let same = used_same bare m2 (end_of d.inflate.ring p1.inflate) _ r.head 0
+    (omega (arith, used_low)) adds in
     let mine = line_apart m1 bare 0 n d.inflate p1.inflate g.inflate
     (above_apart m1 bare 0 (omega arith) (omega arith) low) run.inflate in
     let other = line_apart m1 bare 1 n d.deflate p1.deflate g.deflate
@@ -211,8 +204,8 @@ deflate_finished m1 m2 p1 p2 d g i r result is did stands run free =
     (ties.parts.device.size ∙ sym run.deflate_size) did.memory in
     let used_low : d.deflate.ring.layout.used.page ≡ 1 =
     ap (λ (l : Layout). l.used.page) run.deflate.ring.layout in
-    let same = used_same m1 m2 (end_of d.deflate.ring p1.deflate) _ r.head 0 (omega (arith, used_low))
-    adds in
+    let same = used_same m1 m2 (end_of d.deflate.ring p1.deflate) _ r.head 0
+    (omega (arith, used_low)) adds in
     let apart : (p : ℕ) → p ≢ 1
     → page_at m2 p ≡ page_at m1 p =
     λ p other. (let ne : p ≢ d.deflate.ring.layout.used.page = omega (arith, used_low, other) in
@@ -253,7 +246,8 @@ deflate_finished m1 m2 p1 p2 d g i r result is did stands run free =
         report_size = run.report_size;
         statistics = buffer_apart m1 m2 d.statistics p1.statistics g.buffer (apart 2 (omega arith))
             (apart 12 (omega arith)) run.statistics;
-        report = report_apart m1 m2 n d.report p1.report g.report (apart 3 (omega arith)) run.report;
+        report = report_apart m1 m2 n d.report p1.report g.report (apart 3 (omega arith))
+            run.report;
         inflate = line_apart m1 m2 0 n d.inflate p1.inflate g.inflate
             (record { ring = apart 0 (omega arith); buffers = λ p from to. apart p (omega arith) })
             run.inflate;

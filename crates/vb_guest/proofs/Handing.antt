@@ -71,11 +71,13 @@ end_by layout size next_avail next_used = record {
 pub same_end : (m1 m2 : Pages) (q size next_avail next_used : ℕ) (ring : DriverEnd)
     (after : DeviceEnd) (head : ℕ) → ring.layout ≡ layout_of (ring_page q) ring.size
     → size ≡ ring.size
-    → AddsUsedBy m1 m2 (end_by (layout_of (ring_page q) size) size next_avail next_used) after head 0
+    → AddsUsedBy m1 m2 (end_by (layout_of (ring_page q) size) size next_avail next_used) after
+    head 0
     → AddsUsedBy m1 m2 (end_by ring.layout ring.size next_avail next_used) after head 0
 same_end m1 m2 q size next_avail next_used ring after head layout same adds =
     let S : ℕ → Type 0 =
-    λ s. AddsUsedBy m1 m2 (end_by (layout_of (ring_page q) s) s next_avail next_used) after head 0 in
+    λ s. AddsUsedBy m1 m2 (end_by (layout_of (ring_page q) s) s next_avail next_used) after
+    head 0 in
     let L : Layout → Type 0 =
     λ l. AddsUsedBy m1 m2 (end_by l ring.size next_avail next_used) after head 0 in
     subst L (sym layout) (subst S same adds)

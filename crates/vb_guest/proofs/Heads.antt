@@ -1,5 +1,5 @@
 -- The heads of requests.
-use Rattle.std.specs.Prelude.{◌≡◌, ℕ, zero, suc, ◌+◌, ◌<◌, ◌==◌, Bool, true, false, cond, List, []}
+use Rattle.std.specs.Prelude.{◌≡◌, ℕ, zero, suc, ◌+◌, ◌==◌, Bool, true, false, cond, List, []}
 use Rattle.std.specs.Prelude.{◌∷◌, ◌++◌, length, All, Some, slice_get, remove, option_map, refl}
 use Rattle.std.proofs.Common.{◌∙◌, ap, arith, take, drop}
 use Rattle.std.proofs.lemmas.List.{length-map, map_push}

@@ -119,8 +119,8 @@ inflate_offered m1 m2 p1 p2 g areas sides d2 n posted driver did stands run free
     length-append (stranded_first g n) did.others ∙ did.enough in
     let asked = inflate_requested g n did.others stands.orderly did.free once
     (omega (arith, count, some)) (omega (arith, count)) in
-    let line = line_posted m1 m2 0 g.config.pages sides.inflate d2.inflate p1.inflate g.inflate posted.head
-    pages (omega arith) single asked run.inflate did.posts in
+    let line = line_posted m1 m2 0 g.config.pages sides.inflate d2.inflate p1.inflate g.inflate
+    posted.head pages (omega arith) single asked run.inflate did.posts in
     let table : sides.inflate.ring.layout.table ≡ 0 = ap (λ l. l.table) run.inflate.ring.layout in
     let B : ℕ → Type 0 = λ r. SameButBuffer m1 m2 r 4 posted.head in
     let rest : B 0 = subst B table did.posts.rest in
@@ -143,12 +143,14 @@ inflate_offered m1 m2 p1 p2 g areas sides d2 n posted driver did stands run free
         deflate_size = run.deflate_size;
         statistics_size = run.statistics_size;
         report_size = run.report_size;
-        statistics = buffer_apart m1 m2 sides.statistics p1.statistics g.buffer (rest.others 2 (omega arith) (omega arith))
+        statistics = buffer_apart m1 m2 sides.statistics p1.statistics g.buffer
+            (rest.others 2 (omega arith) (omega arith))
             (rest.others 12 (omega arith) (omega (arith, did.posts.small))) run.statistics;
         report = report_apart m1 m2 g.config.pages sides.report p1.report g.report
             (rest.others 3 (omega arith) (omega arith)) run.report;
         inflate = line;
-        deflate = line_apart m1 m2 1 g.config.pages sides.deflate p1.deflate g.deflate apart run.deflate;
+        deflate = line_apart m1 m2 1 g.config.pages sides.deflate p1.deflate g.deflate apart
+            run.deflate;
       });
     } in
     steps_alone m1 m2 p1 p2 (driver_of g areas sides) d2 g (Inflate n)

@@ -6,8 +6,9 @@ use Rattle.vb_model.specs.declared.layout.TheConstants.{INFLATE_QUEUE, DEFLATE_Q
 use Rattle.vb_model.specs.declared.layout.TheConstants.{STATISTICS_QUEUE, REPORT_QUEUE}
 use Rattle.vb_model.specs.Device.{visiting}
 use Rattle.vb_model.specs.declared.replies.Refusal.{Refusal}
-use Rattle.vb_model.specs.declared.replies.Refusal.TheVariants.{NoQueue, NotReady, NeedsReset, NotTaken}
-use Rattle.vb_model.specs.declared.replies.Refusal.TheVariants.{NotWorked, Broken, RingBroken}
+use Rattle.vb_model.specs.declared.replies.Refusal.TheVariants.{NoQueue, NotReady, NeedsReset}
+use Rattle.vb_model.specs.declared.replies.Refusal.TheVariants.{NotTaken, NotWorked, Broken}
+use Rattle.vb_model.specs.declared.replies.Refusal.TheVariants.{RingBroken}
 use Rattle.vb_model.specs.Refusals.{◌⇒◌, first_refusal}
 use Rattle.vb_model.specs.Requests.{Request}
 use Rattle.vb_model.specs.Tables.{is_queue_of_requests, is_not_ready, has_fault, has_unvisited}
@@ -112,7 +113,10 @@ take_kept q m1 m2 p1 p2 result did = by result did.means
         (same_then p1 noted after (record { flag = refl; numbers = refl }) (queue_kept q _ noted))
         (as_it_was after p2 means.1.2)
     by (Err (Broken rule)) means =
-        record { flag = ap (λ (p : Part). p.keeps) means.1; numbers = ap (λ (p : Part). p.own) means.1 }
+        record {
+          flag = ap (λ (p : Part). p.keeps) means.1;
+          numbers = ap (λ (p : Part). p.own) means.1;
+        }
     by (Err why) means = as_it_was p1 p2 means.1
 
 -- a finish that isn't refused is one of a taken request

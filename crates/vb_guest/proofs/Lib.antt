@@ -39,6 +39,7 @@ pub mod Counted
 pub mod Runs
 pub mod Supplying
 pub mod Claiming
+pub mod Starting
 pub mod InitStep
 pub mod ResetStep
 pub mod ReportChain

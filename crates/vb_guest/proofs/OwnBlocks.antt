@@ -1,9 +1,9 @@
 -- The blocks of a report, and the pages in them.
 use Rattle.std.specs.Prelude.{◌≡◌, ℕ, ◌+◌, ◌-◌, ◌<◌, ◌≤◌, ◌==◌, ◌||◌, Bool, true, false, List, []}
-use Rattle.std.specs.Prelude.{◌∷◌, ◌++◌, All, length, filter, nat_le, ◌&&◌, min, slice_index_or}
+use Rattle.std.specs.Prelude.{◌∷◌, ◌++◌, All, length, filter, nat_le, ◌&&◌, slice_index_or}
 use Rattle.std.specs.Prelude.{refl, ◌⊎◌}
 use Rattle.std.specs.List.{flat_map, range_with_len}
-use Rattle.std.proofs.Common.{◌∙◌, ap, arith, take, inl, inr}
+use Rattle.std.proofs.Common.{◌∙◌, ap, arith, inl, inr}
 use Rattle.std.proofs.lemmas.List.{length-take}
 use Rattle.std.proofs.lemmas.List.Elements.{All-nil, All-cons, All-append, All-tail, All-take}
 use Rattle.std.proofs.lemmas.List.Elements.{All-filter}
@@ -157,7 +157,8 @@ reported_own g from orderly =
 
 -- no more than the queue has descriptors, and no more than 16
 pub reported_few : (g : Guest) (from : ℕ)
-    → (length (reported_blocks g from) ≤ 16) × (length (reported_blocks g from) ≤ g.config.queue_size)
+    → (length (reported_blocks g from) ≤ 16)
+    × (length (reported_blocks g from) ≤ g.config.queue_size)
 reported_few g from =
     let blocks : List Block = filter (is_reported from)
     (maximal_free_blocks g.places) in

@@ -1,6 +1,6 @@
 -- The driver posts a request.
 use Rattle.std.specs.Prelude.{◌≡◌, ◌≢◌, ℕ, ◌+◌, ◌<◌, ◌==◌, Bool, true, false, cond}
-use Rattle.std.specs.Prelude.{List, [], ◌∷◌, ◌++◌, All, length, Option, Some, None, Ok}
+use Rattle.std.specs.Prelude.{List, [], All, length, Option, Some, None, Ok}
 use Rattle.std.specs.Prelude.{slice_set, slice_index, slice_index_or, is_none, refl, ◌⊎◌}
 use Rattle.std.proofs.Common.{sym, ◌∙◌, ap, subst, arith, inl, inr}
 use Rattle.std.proofs.lemmas.Bool.{cases_eq}

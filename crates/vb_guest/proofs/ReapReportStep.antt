@@ -1,40 +1,34 @@
 -- The slot's reap of a report is a step of the guest.
-use Rattle.std.specs.Prelude.{◌≡◌, ℕ, ◌+◌, ◌≤◌, Bool, true, false, not, List, [], ◌∷◌, length, Result, Ok}
-use Rattle.std.specs.Prelude.{Err, Option, Some, None, is_err, slice_get, count_by, refl, ◌⊎◌}
-use Rattle.std.proofs.Common.{sym, ◌∙◌, ap, subst, arith, inl, inr}
+use Rattle.std.specs.Prelude.{◌≡◌, ℕ, List, [], ◌∷◌, length, Result, Ok}
+use Rattle.std.specs.Prelude.{Option, Some, None, slice_get, count_by, refl}
+use Rattle.std.proofs.Common.{sym, ◌∙◌, ap, subst, arith, inr}
 use Rattle.vb_model.specs.declared.calls.Call.TheVariants.{Reap}
 use Rattle.vb_model.specs.declared.places.Place.{Place}
 use Rattle.vb_model.specs.declared.places.Place.TheVariants.{Free}
 use Rattle.vb_model.specs.declared.replies.Refusal.{Refusal}
-use Rattle.vb_model.specs.declared.replies.Refusal.TheVariants.{NotReady, NoFeature, RingBroken}
 use Rattle.vb_model.specs.declared.replies.Reply.TheVariants.{NotUsed, Reaped}
 use Rattle.vb_model.specs.Pages.{placed, pages_of_all, is_lent_or_taking}
 use Rattle.vb_model.specs.Requests.{Request, Reporting_free}
 use Rattle.vb_model.specs.Guest.{Guest}
 use Rattle.vb_model.specs.Driver.{reaped, Reaps}
-use Rattle.vb_model.specs.FirstRefusal.{◌⇒◌, first_refusal}
-use Rattle.vb_model.specs.Tables.{reap_tests as tests_of_reap, is_up, lacks_feature}
 use Rattle.vb_model.specs.Refusals.{refusal_of}
 use Rattle.vb_ram.specs.Pages.{Pages}
 use Rattle.vb_ram.specs.Part.{Part}
-use Rattle.vb_ring.specs.Ends.{DriverEnd, used_answer, after_take}
+use Rattle.vb_ring.specs.Ends.{used_answer, after_take}
 use Rattle.vb_ring.specs.Calls.{TakesUsedBy}
-use Rattle.vb_ring.specs.declared.driver.RingBroken.{RingBroken as Broken}
 use Rattle.vb_driver.specs.declared.answers.Reaped.{Reaped as ReapedRequest}
 use Rattle.vb_driver.specs.State.{DriverState}
 use Rattle.vb_driver.specs.Areas.{areas_with}
-use Rattle.vb_driver.specs.Answers.{reap_tests, is_ring_broken}
-use Rattle.vb_driver.specs.Calls.{ReapsBy, next_of, after_refusal}
+use Rattle.vb_driver.specs.Calls.{ReapsBy, next_of}
 use Rattle.vb_guest.specs.Line.{heads_of}
 use Rattle.vb_guest.specs.Reported.{ReportLine, IsReport}
 use Rattle.vb_guest.specs.Stands.{Honest, Ties, IsRunning}
 use Rattle.vb_guest.specs.Steps.{StepsAlone}
 use Rattle.vb_guest.specs.Replies.{reaped_reply}
-use Rattle.vb_guest.proofs.RingReaped.{ring_answer}
 use Rattle.vb_guest.proofs.ReportLines.{report_reaped}
 use Rattle.vb_guest.proofs.Reaping.{used_line}
 use Rattle.vb_guest.proofs.ReapRefusing.{reap_by}
-use Rattle.vb_guest.proofs.Closing.{honest_performed, steps_alone, refused_alone, ties_same}
+use Rattle.vb_guest.proofs.Closing.{honest_performed, steps_alone, ties_same}
 
 -- ---- a used report, or none
 
@@ -85,7 +79,8 @@ report_reap m1 m2 p1 p2 d1 d2 g (r ∷ rest) (Some x) is next did answer stands 
     let K : DriverState → Type 0 =
     λ d. TakesUsedBy m1 d1.report.ring d.report.ring (used_answer m1 d1.report.ring) in
     let taken : TakesUsedBy m1 d1.report.ring after.report.ring (Ok (Some r.head)) =
-    subst (λ a. TakesUsedBy m1 d1.report.ring after.report.ring a) answer (subst K state did.ring) in
+    subst (λ a. TakesUsedBy m1 d1.report.ring after.report.ring a) answer
+    (subst K state did.ring) in
     let few = stands.orderly.reporting.few in
     let there : Ties m1 (record p1 { actual = new.actual }) after new = record {
       parts = record {

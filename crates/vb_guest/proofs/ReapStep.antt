@@ -1,34 +1,24 @@
 -- The slot's reap is a step of the guest.
-use Rattle.std.specs.Prelude.{◌≡◌, ℕ, ◌+◌, ◌≤◌, ◌==◌, Bool, true, false, not, if◌then◌else◌}
-use Rattle.std.specs.Prelude.{List, [], ◌∷◌, ◌++◌, length, Result, Ok, Err, Option, Some, None}
-use Rattle.std.specs.Prelude.{is_err, slice_get, count_by, drop, refl, ◌⊎◌}
-use Rattle.std.proofs.Common.{sym, ◌∙◌, ap, subst, arith, inl, inr, eq-eqb}
+use Rattle.std.specs.Prelude.{◌≡◌, ℕ}
+use Rattle.std.specs.Prelude.{List, [], ◌∷◌, length, Result, Ok, Option, Some, None}
+use Rattle.std.specs.Prelude.{count_by, refl}
+use Rattle.std.proofs.Common.{sym, ◌∙◌, ap, subst, arith, inl, inr}
 use Rattle.vb_model.specs.declared.calls.Call.TheVariants.{Reap}
 use Rattle.vb_model.specs.declared.places.Place.TheVariants.{Lent, Free}
 use Rattle.vb_model.specs.declared.replies.Refusal.{Refusal}
-use Rattle.vb_model.specs.declared.replies.Refusal.TheVariants.{NoQueue, NotReady, RingBroken}
 use Rattle.vb_model.specs.declared.replies.Reply.TheVariants.{NotUsed, Reaped}
-use Rattle.vb_model.specs.Tests.{one_if}
 use Rattle.vb_model.specs.Pages.{placed, is_lent_or_taking}
-use Rattle.vb_model.specs.Requests.{Request, Requests, outstanding, headed, Inflating, Deflating}
+use Rattle.vb_model.specs.Requests.{Request, Inflating, Deflating}
 use Rattle.vb_model.specs.Guest.{Guest}
 use Rattle.vb_model.specs.Driver.{reaped, Reaps}
-use Rattle.vb_model.specs.FirstRefusal.{◌⇒◌, first_refusal}
-use Rattle.vb_model.specs.Tables.{is_queue_of_requests}
-use Rattle.vb_model.specs.Refusals.{tests, refusal_of}
+use Rattle.vb_model.specs.Refusals.{refusal_of}
 use Rattle.vb_ram.specs.Pages.{Pages}
-use Rattle.vb_ram.specs.Part.{Part, QueuePart}
-use Rattle.vb_ring.specs.declared.driver.RingBroken.{RingBroken as Broken}
-use Rattle.vb_ring.specs.declared.driver.RingBroken.TheVariants.{NotOutstanding}
-use Rattle.vb_ring.specs.Entries.{is_head, only_head}
-use Rattle.vb_ring.proofs.EntryLaws.{id_shown}
-use Rattle.vb_ring.specs.Ends.{used_answer, outstanding as outstanding_in}
-use Rattle.vb_ring.specs.Meaning.{ids}
+use Rattle.vb_ram.specs.Part.{Part}
+use Rattle.vb_ring.specs.Ends.{used_answer}
 use Rattle.vb_ring.specs.Calls.{TakesUsedBy}
 use Rattle.vb_driver.specs.declared.answers.Reaped.{Reaped as ReapedRequest}
-use Rattle.vb_driver.specs.State.{FreePages, Side, DriverState, sent_by, page_state}
+use Rattle.vb_driver.specs.State.{FreePages, DriverState, sent_by, page_state}
 use Rattle.vb_driver.specs.Areas.{all_given}
-use Rattle.vb_driver.specs.Answers.{is_up, reap_tests}
 use Rattle.vb_driver.specs.Calls.{ReapsBy, after_reap, next_of}
 use Rattle.vb_guest.specs.Line.{Line, IsRequest}
 use Rattle.vb_guest.specs.Stands.{Honest, Ties, IsRunning}
@@ -69,8 +59,10 @@ inflate_reaped m1 m2 p1 p2 g areas sides d2 (r ∷ rest) (Some x) is next did an
     let L : List Request → Type 0 =
     λ l. Line m1 0 n sides.inflate p1.inflate (record g.inflate { done = l }) in
     let line : L (r ∷ rest) = subst L is run.inflate in
-    let request : IsRequest sides.inflate.ring.size n sides.inflate.sent r = line.done 0 r (omega arith) in
-    let sent : sent_by sides.inflate x.head ≡ r.pages = ap (sent_by sides.inflate) same ∙ request.remembered in
+    let request : IsRequest sides.inflate.ring.size n sides.inflate.sent r =
+    line.done 0 r (omega arith) in
+    let sent : sent_by sides.inflate x.head ≡ r.pages =
+    ap (sent_by sides.inflate) same ∙ request.remembered in
     let new : Guest = reaped Inflating r rest g in
     let reply : Reaped x.head x.pages ≡ Reaped r.head (length r.pages) =
     ap (λ (k : ℕ). Reaped k x.pages) same
@@ -78,7 +70,8 @@ inflate_reaped m1 m2 p1 p2 g areas sides d2 (r ∷ rest) (Some x) is next did an
     let T : List Request → Type 0 = λ l. Reaps Inflating l g (Reaped x.head x.pages) new in
     let step = honest_performed g (Reap 0) [] (Reaped x.head x.pages) new free
     (refl, subst T (sym is) (reply, refl)) in
-    let after : DriverState = driver_of new areas (record sides { inflate = after_reap sides.inflate r.head }) in
+    let after : DriverState =
+    driver_of new areas (record sides { inflate = after_reap sides.inflate r.head }) in
     let state : d2 ≡ after =
     did.reaps.state ∙ ap (λ (h : ℕ). driver_of
     (record g { places = placed (sent_by sides.inflate h) Lent g.places }) areas
@@ -90,11 +83,12 @@ inflate_reaped m1 m2 p1 p2 g areas sides d2 (r ∷ rest) (Some x) is next did an
     { actual = count_by is_lent_or_taking d.places }) state in
     let K : DriverState → Type 0 =
     λ d. TakesUsedBy m1 sides.inflate.ring d.inflate.ring (used_answer m1 sides.inflate.ring) in
-    let taken : TakesUsedBy m1 sides.inflate.ring (after_reap sides.inflate r.head).ring (Ok (Some r.head)) =
+    let taken : TakesUsedBy m1 sides.inflate.ring (after_reap sides.inflate r.head).ring
+    (Ok (Some r.head)) =
     subst (λ a. TakesUsedBy m1 sides.inflate.ring (after_reap sides.inflate r.head).ring a) answer
     (subst K state did.ring) in
-    let reap = line_reaped m1 0 n sides.inflate p1.inflate g.inflate.posted g.inflate.taken r rest line
-    taken in
+    let reap = line_reaped m1 0 n sides.inflate p1.inflate g.inflate.posted g.inflate.taken r rest
+    line taken in
     let there : Ties m1 (record p1 { actual = new.actual }) after new = record {
       parts = record {
         guest = ties.parts.guest;
@@ -168,8 +162,10 @@ deflate_reaped m1 m2 p1 p2 g areas sides d2 (r ∷ rest) (Some x) is next did an
     let L : List Request → Type 0 =
     λ l. Line m1 1 n sides.deflate p1.deflate (record g.deflate { done = l }) in
     let line : L (r ∷ rest) = subst L is run.deflate in
-    let request : IsRequest sides.deflate.ring.size n sides.deflate.sent r = line.done 0 r (omega arith) in
-    let sent : sent_by sides.deflate x.head ≡ r.pages = ap (sent_by sides.deflate) same ∙ request.remembered in
+    let request : IsRequest sides.deflate.ring.size n sides.deflate.sent r =
+    line.done 0 r (omega arith) in
+    let sent : sent_by sides.deflate x.head ≡ r.pages =
+    ap (sent_by sides.deflate) same ∙ request.remembered in
     let new : Guest = reaped Deflating r rest g in
     let reply : Reaped x.head x.pages ≡ Reaped r.head (length r.pages) =
     ap (λ (k : ℕ). Reaped k x.pages) same
@@ -192,11 +188,12 @@ deflate_reaped m1 m2 p1 p2 g areas sides d2 (r ∷ rest) (Some x) is next did an
     { actual = count_by is_lent_or_taking d.places }) state in
     let K : DriverState → Type 0 =
     λ d. TakesUsedBy m1 sides.deflate.ring d.deflate.ring (used_answer m1 sides.deflate.ring) in
-    let taken : TakesUsedBy m1 sides.deflate.ring (after_reap sides.deflate r.head).ring (Ok (Some r.head)) =
+    let taken : TakesUsedBy m1 sides.deflate.ring (after_reap sides.deflate r.head).ring
+    (Ok (Some r.head)) =
     subst (λ a. TakesUsedBy m1 sides.deflate.ring (after_reap sides.deflate r.head).ring a) answer
     (subst K state did.ring) in
-    let reap = line_reaped m1 1 n sides.deflate p1.deflate g.deflate.posted g.deflate.taken r rest line
-    taken in
+    let reap = line_reaped m1 1 n sides.deflate p1.deflate g.deflate.posted g.deflate.taken r rest
+    line taken in
     let there : Ties m1 (record p1 { actual = new.actual }) after new = record {
       parts = record {
         guest = ties.parts.guest;

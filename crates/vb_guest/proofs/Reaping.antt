@@ -1,6 +1,6 @@
 -- The driver takes a used request.
-use Rattle.std.specs.Prelude.{◌≡◌, ℕ, ◌==◌, List, [], ◌∷◌, Option, Some, Ok, slice_get, refl}
-use Rattle.std.proofs.Common.{◌∙◌, ap, arith, eq-eqb}
+use Rattle.std.specs.Prelude.{◌≡◌, ℕ, ◌==◌, List, [], ◌∷◌, Option, Some, Ok, slice_get}
+use Rattle.std.proofs.Common.{◌∙◌, arith}
 use Rattle.std.proofs.lemmas.List.{length-set}
 use Rattle.std.proofs.lemmas.List.Elements.{All-tail}
 use Rattle.vb_model.specs.Tests.{one_if}

@@ -1,5 +1,5 @@
 -- Device and model refuse the same calls.
-use Rattle.std.specs.Prelude.{◌≡◌, ℕ, ◌≤◌, Bool, true, false, not, ◌&&◌, nat_le, List}
+use Rattle.std.specs.Prelude.{◌≡◌, ℕ, Bool, true, false, not, ◌&&◌, nat_le, List}
 use Rattle.std.specs.Prelude.{[], ◌∷◌, length, Option, Some, is_none, slice_get, drop}
 use Rattle.std.specs.Prelude.{refl, ◌⊎◌}
 use Rattle.std.proofs.Common.{sym, ap, subst, inl, inr}

@@ -1,6 +1,7 @@
 -- A posted report, as its device finds it.
-use Rattle.std.specs.Prelude.{◌≡◌, ◌≢◌, ℕ, ◌+◌, ◌*◌, ◌/◌, ◌%◌, ◌<◌, ◌≤◌, ◌==◌, ◌||◌, Bool, true}
-use Rattle.std.specs.Prelude.{false, not, nat_lt, List, [], ◌∷◌, ◌++◌, All, length, map, Option, Some, None}
+use Rattle.std.specs.Prelude.{◌≡◌, ℕ, ◌*◌, ◌/◌, ◌%◌, ◌<◌, ◌≤◌, ◌==◌, ◌||◌, Bool, true}
+use Rattle.std.specs.Prelude.{false, not, nat_lt, List, [], ◌∷◌, ◌++◌, All, length, map}
+use Rattle.std.specs.Prelude.{Option, Some, None}
 use Rattle.std.specs.Prelude.{Ok, slice_index, slice_index_or, if◌then◌else◌, refl}
 use Rattle.std.specs.List.{list_any, range_with_len}
 use Rattle.std.proofs.Common.{sym, ◌∙◌, ap, subst, arith}
@@ -11,7 +12,6 @@ use Rattle.std.proofs.lemmas.List.Elements.{All-tail}
 use Rattle.std.proofs.lemmas.List.FromFn.{length-range_with_len, get_or-range_with_len}
 use Rattle.vb_model.specs.Pages.{Block, size, pages_of, pages_of_all}
 use Rattle.vb_ram.specs.Pages.{Pages}
-use Rattle.vb_chain.specs.declared.descriptor.Descriptor.{Descriptor}
 use Rattle.vb_chain.specs.declared.pieces.Piece.{Piece}
 use Rattle.vb_chain.specs.declared.fault.ChainFault.{ChainFault}
 use Rattle.vb_chain.specs.declared.fault.ChainFault.TheVariants.{BadPage, ReservedPage}
@@ -70,7 +70,8 @@ report_chain mem table descriptors n blocks len some inside own reported =
     λ k lt. omega (arith, get_or-range_with_len 0 count k 0 lt) in
     let route : IsRoute descriptors path = record {
       inside = λ k lt. omega (arith, at k (omega (arith, long)), long);
-      apart = λ j k before lt. omega (arith, at j (omega (arith, long)), at k (omega (arith, long)));
+      apart = λ j k before lt.
+          omega (arith, at j (omega (arith, long)), at k (omega (arith, long)));
     } in
     let put : (k : ℕ) → k < length path
     → descriptor_at mem table (slice_index path k) ≡ linked path (pieces_of blocks) k =

@@ -1,14 +1,12 @@
 -- What calls make of the queue of reports.
-use Rattle.std.specs.Prelude.{◌≡◌, ℕ, zero, suc, ◌+◌, ◌%◌, ◌<◌, ◌≤◌, Bool, true, false, List, [], ◌∷◌, ◌++◌, All}
-use Rattle.std.specs.Prelude.{length, remove, cond, Option, Some, Ok, slice_get, slice_index_or, refl}
-use Rattle.std.proofs.Common.{sym, ◌∙◌, ap, subst, arith, take, drop}
-use Rattle.std.proofs.lemmas.List.{map_push, map-append, take-map, drop-map}
+use Rattle.std.specs.Prelude.{◌≡◌, ℕ, ◌+◌, ◌%◌, ◌<◌, ◌≤◌, true, List, [], ◌∷◌, ◌++◌}
+use Rattle.std.specs.Prelude.{length, remove, Some, Ok, slice_get}
+use Rattle.std.proofs.Common.{sym, ◌∙◌, ap, subst, arith}
 use Rattle.std.proofs.lemmas.List.Elements.{All-nil, All-cons, All-push, All-tail}
-use Rattle.std.proofs.lemmas.List.Elements.{All-append, All-take, All-drop}
 use Rattle.std.proofs.lemmas.Option.{get_or_from_slice_get, slice_get_within}
 use Rattle.vb_model.specs.Pages.{Block}
 use Rattle.vb_model.specs.Requests.{Request, Requests, no_requests, posting}
-use Rattle.vb_model.specs.Device.{is_unvisited, visiting}
+use Rattle.vb_model.specs.Device.{visiting}
 use Rattle.vb_ram.specs.Pages.{Pages, page_at}
 use Rattle.vb_ram.specs.Part.{QueuePart}
 use Rattle.vb_chain.specs.Table.{descriptor_at}
@@ -23,6 +21,7 @@ use Rattle.vb_guest.specs.Ring.{RingStands}
 use Rattle.vb_guest.specs.Line.{heads_of}
 use Rattle.vb_guest.specs.Reported.{IsReport, ReportLine}
 use Rattle.vb_guest.proofs.Heads.{heads-push, heads-remove, heads-get, heads-visiting, all-visiting}
+use Rattle.vb_guest.proofs.Heads.{all_remove}
 use Rattle.vb_guest.proofs.RingApart.{ring_apart}
 use Rattle.vb_guest.proofs.RingPosted.{ring_posted}
 use Rattle.vb_guest.proofs.RingTaken.{ring_taken}
@@ -165,11 +164,11 @@ report_used m1 m2 n side part rs i r after line is adds =
     → descriptor_at m2 t k ≡ descriptor_at m1 t k in
     let same : A 3 = subst A table adds.descriptors in
     record {
-      ring = subst (λ (l : List ℕ). S l (heads_of (rs.done ++ r ∷ []))) (sym (heads-remove rs.taken i))
+      ring = subst (λ (l : List ℕ). S l (heads_of (rs.done ++ r ∷ [])))
+          (sym (heads-remove rs.taken i))
           (subst (S (remove (heads_of rs.taken) i)) (sym (heads-push rs.done r)) used);
       posted = line.posted;
-      taken = All-append P (take i rs.taken) (drop (suc i) rs.taken) (All-take P i rs.taken line.taken)
-          (All-drop P (suc i) rs.taken line.taken);
+      taken = all_remove P rs.taken i line.taken;
       done = All-push P rs.done r line.done request;
       coded = λ k d lt. record {
         chain = λ j below. same j (omega (arith, below, (line.posted k d lt).inside))

@@ -1,7 +1,6 @@
 -- The slot's report is a step of the guest.
-use Rattle.std.specs.Prelude.{◌≡◌, ◌≢◌, ℕ, ◌+◌, ◌<◌, ◌≤◌, ◌==◌, Bool, true, false, not, nat_le, List}
+use Rattle.std.specs.Prelude.{◌≡◌, ℕ, ◌<◌, ◌==◌, Bool, true, false, not, nat_le, List}
 use Rattle.std.specs.Prelude.{[], ◌∷◌, length, Result, Ok, Err, Option, Some, None, is_some, refl}
-use Rattle.std.specs.Prelude.{All, ◌⊎◌}
 use Rattle.std.proofs.Common.{sym, ◌∙◌, ap, subst, arith, inl, inr}
 use Rattle.std.proofs.lemmas.Bool.Decides.{nat_tests}
 use Rattle.std.proofs.lemmas.List.{length-map}
@@ -12,9 +11,9 @@ use Rattle.vb_model.specs.declared.replies.Refusal.{Refusal}
 use Rattle.vb_model.specs.declared.replies.Refusal.TheVariants.{NotReady, NoFeature, QueueFull}
 use Rattle.vb_model.specs.declared.replies.Refusal.TheVariants.{Nothing}
 use Rattle.vb_model.specs.declared.replies.Reply.TheVariants.{Posted, Refused}
-use Rattle.vb_model.specs.Limits.{max_outstanding}
 use Rattle.vb_model.specs.Pages.{Block, placed, pages_of_all, reported, maximal_free_blocks}
-use Rattle.vb_model.specs.Requests.{Request, Requests, no_requests, all_requests, headed, outstanding}
+use Rattle.vb_model.specs.Requests.{Request, Requests, no_requests, all_requests, headed}
+use Rattle.vb_model.specs.Requests.{outstanding}
 use Rattle.vb_model.specs.Requests.{posting, IsLeastHead, Reporting_free}
 use Rattle.vb_model.specs.Guest.{Guest, reporting}
 use Rattle.vb_model.specs.Driver.{asking}
@@ -74,9 +73,11 @@ report_idle : (p : Part) (d : DriverState) (g : Guest) (from : ℕ) → p.status
 report_idle p d g from same down =
     let P : ℕ → Type 0 =
     λ s. first_refusal (report_tests d (record p { status = s }) from) ≡ Some NotReady in
-    let G : ℕ → Type 0 = λ s. refusal_of (record g { status = s }) (Report from) ≡ Some NotReady in
-    (at_both P p.status (subst IsIdleStatus (sym same) down) refl refl,
-    at_both G g.status down refl refl)
+    let G : ℕ → Type 0 =
+    λ s. refusal_of (record g { status = s }) (Report from) ≡ Some NotReady in (
+      at_both P p.status (subst IsIdleStatus (sym same) down) refl refl,
+      at_both G g.status down refl refl,
+    )
 
 -- the driver's areas are none of the guest's
 unreported_ties : (why : Refusal) (m1 m2 : Pages) (p1 p2 : Part) (d1 d2 : DriverState) (g : Guest)
@@ -226,7 +227,8 @@ report_step m1 m2 p1 p2 d1 d2 g from result did stands =
       | inr run ↦
           up result did run (report_same p1 d1 g from stands.ties.parts.device.status
           stands.ties.parts.driver.accepted (out_same run)
-          (blocks_same d1 g from stands.ties.parts.driver.queue_size stands.ties.parts.driver.places))
+          (blocks_same d1 g from stands.ties.parts.driver.queue_size
+          stands.ties.parts.driver.places))
     ]
   where
     out_same : IsRunning m1 p1 d1 g → outstanding_in d1.report.ring ≡ outstanding g.report

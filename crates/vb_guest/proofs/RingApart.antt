@@ -1,5 +1,5 @@
 -- What leaves a ring alone, and a ring of which nothing was published.
-use Rattle.std.specs.Prelude.{◌≡◌, ℕ, ◌+◌, List, [], ◌++◌}
+use Rattle.std.specs.Prelude.{◌≡◌, ℕ, List, [], ◌++◌}
 use Rattle.std.specs.Prelude.{length, refl}
 use Rattle.std.proofs.Common.{sym, ◌∙◌, ap}
 use Rattle.vb_model.specs.Layout.{ring_page}

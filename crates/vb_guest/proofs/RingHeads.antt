@@ -1,6 +1,7 @@
 -- The heads of a ring: how often they stand in its lists, and that each is out at most once.
-use Rattle.std.specs.Prelude.{◌≡◌, ℕ, ◌+◌, ◌≤◌, ◌<◌, ◌==◌, Bool, true, false, cond, List, [], ◌∷◌}
-use Rattle.std.specs.Prelude.{◌++◌, length, Some, None, slice_get, slice_index_or, remove, take, refl}
+use Rattle.std.specs.Prelude.{◌≡◌, ℕ, ◌+◌, ◌≤◌, ◌==◌, Bool, true, false, cond, List, [], ◌∷◌}
+use Rattle.std.specs.Prelude.{◌++◌, length, Some, None, slice_get, slice_index_or, remove, take}
+use Rattle.std.specs.Prelude.{refl}
 use Rattle.std.proofs.Common.{◌∙◌, ap, arith, length-append, eq-eqb}
 use Rattle.std.proofs.lemmas.List.{length-map, map-append}
 use Rattle.std.proofs.lemmas.List.Sums.{sum_by-remove}
@@ -26,7 +27,7 @@ pub is_one : (b : Bool) → 1 ≤ one_if b → b ≡ true
 is_one true h = refl
 is_one false h = absurd (omega arith)
 
-cond_one : (b : Bool) → cond {A = ℕ} b 1 0 ≡ one_if b
+pub cond_one : (b : Bool) → cond {A = ℕ} b 1 0 ≡ one_if b
 cond_one true = refl
 cond_one false = refl
 

@@ -1,5 +1,5 @@
 -- The driver publishes a head on a ring.
-use Rattle.std.specs.Prelude.{◌≡◌, ℕ, ◌+◌, List, [], ◌∷◌, ◌++◌}
+use Rattle.std.specs.Prelude.{◌≡◌, ℕ, List, [], ◌∷◌, ◌++◌}
 use Rattle.std.specs.Prelude.{length, Ok}
 use Rattle.std.proofs.Common.{sym, subst, append_assoc}
 use Rattle.vb_ram.specs.Pages.{Pages}

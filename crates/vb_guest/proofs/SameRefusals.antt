@@ -1,15 +1,14 @@
 -- Device, driver and model refuse the same calls on the queues of statistics and reports.
-use Rattle.std.specs.Prelude.{◌≡◌, ℕ, Bool, true, false, not, List, [], ◌∷◌, ◌++◌, length, Option}
-use Rattle.std.specs.Prelude.{Some, None, is_some, if◌then◌else◌, refl, ◌⊎◌}
+use Rattle.std.specs.Prelude.{◌≡◌, ℕ, Bool, true, false, List, [], ◌∷◌, ◌++◌, length, Option}
+use Rattle.std.specs.Prelude.{Some, is_some, if◌then◌else◌, refl, ◌⊎◌}
 use Rattle.std.proofs.Common.{sym, ◌∙◌, ap, subst, inl, inr}
-use Rattle.vb_model.specs.declared.calls.Call.TheVariants.{Take, Finish, Ask, Reap, Stats, Report}
+use Rattle.vb_model.specs.declared.calls.Call.TheVariants.{Take, Finish, Ask}
 use Rattle.vb_model.specs.declared.replies.Refusal.{Refusal}
-use Rattle.vb_model.specs.declared.replies.Refusal.TheVariants.{NotReady, NoFeature, RingBroken}
+use Rattle.vb_model.specs.declared.replies.Refusal.TheVariants.{NotReady}
 use Rattle.vb_model.specs.Requests.{Request}
 use Rattle.vb_model.specs.Guest.{Guest}
 use Rattle.vb_model.specs.FirstRefusal.{Test, ◌⇒◌, first_refusal}
-use Rattle.vb_model.specs.Tables.{take_tests, finish_tests, ask_tests, reap_tests, stats_tests}
-use Rattle.vb_model.specs.Tables.{featured_tests, is_up}
+use Rattle.vb_model.specs.Tables.{take_tests, finish_tests, ask_tests}
 use Rattle.vb_model.specs.Refusals.{refusal_of, taken_count, taken_at as guests_taken, is_taken}
 use Rattle.vb_ram.specs.Part.{Part}
 use Rattle.vb_device.specs.Conditions.{take_refusal, finish_refusal, ask_refusal, taken_at}
@@ -56,7 +55,8 @@ take_idle part g same down =
     let G : ℕ → Type 0 =
     λ s. (refusal_of (record g { status = s }) (Take 2) ≡ Some NotReady)
     × (refusal_of (record g { status = s }) (Take 4) ≡ Some NotReady) in
-    let by_part = at_both P part.status (subst IsIdleStatus (sym same) down) (refl, refl) (refl, refl) in
+    let by_part =
+    at_both P part.status (subst IsIdleStatus (sym same) down) (refl, refl) (refl, refl) in
     let by_guest = at_both G g.status down (refl, refl) (refl, refl) in
     ((by_part.0, by_guest.0), (by_part.1, by_guest.1))
 
@@ -75,9 +75,10 @@ pub finish_idle : (i : ℕ) (part : Part) (g : Guest) → part.status ≡ g.stat
     → (finish_refusal 4 i part ≡ Some NotReady) × (refusal_of g (Finish 4 i) ≡ Some NotReady)
 finish_idle i part g same down =
     let P : ℕ → Type 0 = λ s. finish_refusal 4 i (record part { status = s }) ≡ Some NotReady in
-    let G : ℕ → Type 0 = λ s. refusal_of (record g { status = s }) (Finish 4 i) ≡ Some NotReady in
-    (at_both P part.status (subst IsIdleStatus (sym same) down) refl refl,
-    at_both G g.status down refl refl)
+    let G : ℕ → Type 0 = λ s. refusal_of (record g { status = s }) (Finish 4 i) ≡ Some NotReady in (
+      at_both P part.status (subst IsIdleStatus (sym same) down) refl refl,
+      at_both G g.status down refl refl,
+    )
 
 -- ---- ask
 
@@ -91,6 +92,7 @@ pub ask_idle : (part : Part) (g : Guest) → part.status ≡ g.status → IsIdle
     → (ask_refusal part ≡ Some NotReady) × (refusal_of g Ask ≡ Some NotReady)
 ask_idle part g same down =
     let P : ℕ → Type 0 = λ s. ask_refusal (record part { status = s }) ≡ Some NotReady in
-    let G : ℕ → Type 0 = λ s. refusal_of (record g { status = s }) Ask ≡ Some NotReady in
-    (at_both P part.status (subst IsIdleStatus (sym same) down) refl refl,
-    at_both G g.status down refl refl)
+    let G : ℕ → Type 0 = λ s. refusal_of (record g { status = s }) Ask ≡ Some NotReady in (
+      at_both P part.status (subst IsIdleStatus (sym same) down) refl refl,
+      at_both G g.status down refl refl,
+    )

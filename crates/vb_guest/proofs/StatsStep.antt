@@ -1,21 +1,22 @@
 -- The slot's new fill of the statistics buffer is a step of the guest.
-use Rattle.std.specs.Prelude.{◌≡◌, ◌≢◌, ℕ, ◌+◌, ◌*◌, ◌<◌, ◌≤◌, Bool, true, false, not, List, [], ◌∷◌}
+use Rattle.std.specs.Prelude.{◌≡◌, ℕ, ◌*◌, Bool, true, false, not, List, []}
 use Rattle.std.specs.Prelude.{Result, Ok, Err, Option, Some, None, is_some, is_err, slice_get}
-use Rattle.std.specs.Prelude.{MatchBool, count_by, refl, ◌⊎◌}
+use Rattle.std.specs.Prelude.{count_by, refl}
 use Rattle.std.proofs.Common.{sym, ◌∙◌, ap, subst, arith, inl, inr}
 use Rattle.vb_model.specs.declared.calls.Call.TheVariants.{Stats}
 use Rattle.vb_model.specs.declared.places.Place.{Place}
 use Rattle.vb_model.specs.declared.replies.Refusal.{Refusal}
-use Rattle.vb_model.specs.declared.replies.Refusal.TheVariants.{NotReady, NoFeature, RingBroken}
+use Rattle.vb_model.specs.declared.replies.Refusal.TheVariants.{NotReady, RingBroken}
 use Rattle.vb_model.specs.declared.replies.Reply.TheVariants.{Filled, NotUsed}
 use Rattle.vb_model.specs.Pages.{is_free}
-use Rattle.vb_model.specs.Requests.{Figures, Buffer, NoBuffer, BufferPosted, BufferTaken, BufferDone}
+use Rattle.vb_model.specs.Requests.{Figures, Buffer, NoBuffer, BufferPosted, BufferTaken}
+use Rattle.vb_model.specs.Requests.{BufferDone}
 use Rattle.vb_model.specs.Guest.{Guest, stats_vq}
 use Rattle.vb_model.specs.Driver.{figures, Fills}
-use Rattle.vb_model.specs.FirstRefusal.{◌⇒◌, first_refusal}
+use Rattle.vb_model.specs.FirstRefusal.{first_refusal}
 use Rattle.vb_model.specs.Tables.{stats_tests as tests_of_stats, is_up}
 use Rattle.vb_model.specs.Refusals.{refusal_of}
-use Rattle.vb_ram.specs.Pages.{Pages, page_at, contents_of}
+use Rattle.vb_ram.specs.Pages.{Pages, contents_of}
 use Rattle.vb_ram.specs.Part.{Part}
 use Rattle.vb_ring.specs.declared.layout.Layout.{Layout}
 use Rattle.vb_ring.specs.declared.driver.RingBroken.{RingBroken as Broken}
@@ -23,7 +24,7 @@ use Rattle.vb_ring.specs.Ends.{DriverEnd, used_answer}
 use Rattle.vb_driver.specs.State.{DriverState, figures_of}
 use Rattle.vb_driver.specs.Coding.{SameButPages}
 use Rattle.vb_driver.specs.Answers.{stats_tests, is_ring_broken}
-use Rattle.vb_driver.specs.Calls.{FillsBy, Refills, WasntUsed, after_refusal, emptied, PostsBuffer}
+use Rattle.vb_driver.specs.Calls.{FillsBy, Refills, emptied}
 use Rattle.vb_guest.specs.Buffer.{BufferLine, used_heads}
 use Rattle.vb_guest.specs.Stands.{Honest, Ties, IsRunning}
 use Rattle.vb_guest.specs.Steps.{StepsAlone}
@@ -56,9 +57,10 @@ stats_idle : (m : Pages) (p : Part) (d : DriverState) (g : Guest) → p.status �
 stats_idle m p d g same down =
     let P : ℕ → Type 0 =
     λ s. first_refusal (stats_tests m (record p { status = s }) d) ≡ Some NotReady in
-    let G : ℕ → Type 0 = λ s. refusal_of (record g { status = s }) Stats ≡ Some NotReady in
-    (at_both P p.status (subst IsIdleStatus (sym same) down) refl refl,
-    at_both G g.status down refl refl)
+    let G : ℕ → Type 0 = λ s. refusal_of (record g { status = s }) Stats ≡ Some NotReady in (
+      at_both P p.status (subst IsIdleStatus (sym same) down) refl refl,
+      at_both G g.status down refl refl,
+    )
 
 stats_refused : (m1 m2 : Pages) (p1 p2 : Part) (d1 d2 : DriverState) (g : Guest) (why : Refusal)
     → FillsBy m1 m2 p1 p2 d1 d2 (Err why) → Honest m1 p1 d1 g

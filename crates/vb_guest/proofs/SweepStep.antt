@@ -164,7 +164,8 @@ sweep_done m1 m2 p1 p2 d g page result did stands run by_part by_model flag =
         report_size = run.report_size;
         statistics = buffer_apart m1 bare d.statistics p1.statistics g.buffer (low 2 (omega arith))
             (low 12 (omega arith)) run.statistics;
-        report = report_apart m1 bare n d.report p1.report g.report (low 3 (omega arith)) run.report;
+        report = report_apart m1 bare n d.report p1.report g.report (low 3 (omega arith))
+            run.report;
         inflate = line_apart m1 bare 0 n d.inflate p1.inflate g.inflate
             (above_apart m1 bare 0 (omega arith) (omega arith) low) run.inflate;
         deflate = line_apart m1 bare 1 n d.deflate p1.deflate g.deflate

@@ -1,12 +1,12 @@
 -- The slot's take of a report is a step of the guest.
-use Rattle.std.specs.Prelude.{◌≡◌, ℕ, ◌*◌, ◌<◌, ◌≤◌, List, [], ◌∷◌, ◌++◌, length, Result, Ok, Option}
-use Rattle.std.specs.Prelude.{Some, None, slice_get, refl}
+use Rattle.std.specs.Prelude.{◌≡◌, ℕ, ◌*◌, List, [], ◌∷◌, ◌++◌, length, Result, Ok, Option}
+use Rattle.std.specs.Prelude.{Some, None, refl}
 use Rattle.std.proofs.Common.{sym, ◌∙◌, ap, subst, arith, inl, inr}
 use Rattle.vb_model.specs.declared.calls.Call.TheVariants.{Take}
 use Rattle.vb_model.specs.declared.replies.Refusal.{Refusal}
 use Rattle.vb_model.specs.declared.replies.Refusal.TheVariants.{NotReady}
 use Rattle.vb_model.specs.declared.replies.Reply.TheVariants.{Taken, Empty}
-use Rattle.vb_model.specs.Requests.{Request, Requests, Reporting_free}
+use Rattle.vb_model.specs.Requests.{Request, Reporting_free}
 use Rattle.vb_model.specs.Guest.{Guest}
 use Rattle.vb_model.specs.Device.{Takes}
 use Rattle.vb_model.specs.Refusals.{refusal_of}
@@ -55,7 +55,8 @@ take_posted m1 m2 p1 p2 d g (r ∷ rest) result is did stands run free_part free
     λ l. ReportLine m1 n d.report p1.report (record g.report { posted = l }) in
     let line : L (r ∷ rest) = subst L is run.report in
     let size = ties.parts.device.size ∙ sym run.report_size in
-    let next = same_entry m1 4 p1.queue_size p1.report.next_avail d.report.ring line.ring.layout size
+    let next =
+    same_entry m1 4 p1.queue_size p1.report.next_avail d.report.ring line.ring.layout size
     ∙ ring_next m1 4 d.report.ring p1.report.next_avail p1.report.next_used _ _ _ line.ring in
     let report : IsReport d.report.ring.size n blocks r = line.posted 0 r (omega arith) in
     let chain = report_chain m1 3 p1.queue_size n blocks ties.pages.length_is report.some

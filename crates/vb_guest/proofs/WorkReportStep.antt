@@ -1,6 +1,7 @@
 -- The visit of a report's page is a step of the guest.
-use Rattle.std.specs.Prelude.{◌≡◌, ◌≢◌, ℕ, ◌+◌, ◌<◌, ◌≤◌, Bool, true, false, cond, List, [], ◌∷◌, All}
-use Rattle.std.specs.Prelude.{length, if◌then◌else◌, Result, Option, Some, None, MatchOption, is_some}
+use Rattle.std.specs.Prelude.{◌≡◌, ℕ, ◌<◌, ◌≤◌, Bool, true, false, cond, List, [], ◌∷◌}
+use Rattle.std.specs.Prelude.{All, length, if◌then◌else◌, Result, Option, Some, None}
+use Rattle.std.specs.Prelude.{MatchOption, is_some}
 use Rattle.std.specs.Prelude.{slice_get, refl}
 use Rattle.std.specs.Option.{option_to_list}
 use Rattle.std.specs.List.{flat_map}
@@ -52,7 +53,8 @@ pub next_taken : (P : ℕ → Type 0) (rs : List Request) (page : ℕ) → All (
     → next_page rs ≡ Some page → P page
 next_taken P [] page all e = absurd cc
 next_taken P (r ∷ rs) page all e =
-    step (is_unvisited r) e (next_taken P rs page (All-tail (λ (x : Request). All P x.pages) r rs all))
+    step (is_unvisited r) e
+    (next_taken P rs page (All-tail (λ (x : Request). All P x.pages) r rs all))
   where
     step : (v : Bool) → cond v (slice_get r.pages r.visited) (next_page rs) ≡ Some page
         → (next_page rs ≡ Some page → P page) → P page

@@ -1,25 +1,21 @@
 -- The device's work is a step of the guest.
-use Rattle.std.specs.Prelude.{◌≡◌, ℕ, ◌+◌, ◌<◌, ◌≤◌, Bool, true, false, cond, if◌then◌else◌, List}
+use Rattle.std.specs.Prelude.{◌≡◌, ℕ, ◌<◌, ◌≤◌, Bool, true, false, List}
 use Rattle.std.specs.Prelude.{[], ◌∷◌, All, length, Result, Option, Some, None, is_some}
-use Rattle.std.specs.Prelude.{MatchOption, slice_get, refl, ◌⊎◌}
+use Rattle.std.specs.Prelude.{refl, ◌⊎◌}
 use Rattle.std.specs.Option.{option_to_list}
 use Rattle.std.specs.List.{flat_map}
 use Rattle.std.proofs.Common.{sym, ◌∙◌, ap, subst, arith, inl, inr}
-use Rattle.std.proofs.lemmas.List.Elements.{All-nil, All-cons, All-tail}
-use Rattle.std.proofs.lemmas.Option.{get_or_from_slice_get, slice_get_within}
+use Rattle.std.proofs.lemmas.List.Elements.{All-nil, All-cons}
 use Rattle.vb_model.specs.declared.calls.Call.TheVariants.{Work}
-use Rattle.vb_model.specs.declared.calls.Claim.{Claim}
 use Rattle.vb_model.specs.declared.replies.Refusal.{Refusal}
 use Rattle.vb_model.specs.declared.replies.Refusal.TheVariants.{NotReady}
 use Rattle.vb_model.specs.declared.replies.Reply.{Reply}
 use Rattle.vb_model.specs.declared.replies.Reply.TheVariants.{Idle, Worked, Refused}
-use Rattle.vb_model.specs.Requests.{Request, Requests, Inflating, Reporting_free, no_requests}
+use Rattle.vb_model.specs.Requests.{Request, Requests, Inflating}
 use Rattle.vb_model.specs.Guest.{Guest, frame_of}
-use Rattle.vb_model.specs.Device.{is_unvisited, visiting, next_page, visited}
+use Rattle.vb_model.specs.Device.{visiting, visited}
 use Rattle.vb_model.specs.Orderly.{times}
 use Rattle.vb_model.specs.Refusals.{refusal_of}
-use Rattle.vb_model.proofs.CallSteps.{Idles, Visits as VisitsOf}
-use Rattle.vb_model.proofs.InOrder.{headed-visiting, length-visiting}
 use Rattle.vb_ram.specs.Pages.{Pages, page_at, frame_at, number_of}
 use Rattle.vb_ram.specs.Part.{Part, QueuePart}
 use Rattle.vb_driver.specs.State.{Side, DriverState}
@@ -193,7 +189,8 @@ work_visits m1 m2 p1 p2 d g page result did stands run by_model there high =
         report_size = run.report_size;
         statistics = buffer_apart m1 bare d.statistics p1.statistics g.buffer (low 2 (omega arith))
             (low 12 (omega arith)) run.statistics;
-        report = report_apart m1 bare n d.report p1.report g.report (low 3 (omega arith)) run.report;
+        report = report_apart m1 bare n d.report p1.report g.report (low 3 (omega arith))
+            run.report;
         inflate = line_visited bare 0 n d.inflate p1.inflate g.inflate
             (line_apart m1 bare 0 n d.inflate p1.inflate g.inflate
             (above_apart m1 bare 0 (omega arith) (omega arith) low) run.inflate);

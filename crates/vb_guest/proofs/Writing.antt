@@ -30,6 +30,7 @@ use Rattle.vb_guest.specs.Buffer.{BufferLine}
 use Rattle.vb_guest.specs.Stands.{HasPages, IsIdle, IsRunning}
 use Rattle.vb_guest.specs.Steps.{is_frame}
 use Rattle.vb_guest.proofs.Apart.{line_apart, above_apart}
+use Rattle.vb_guest.proofs.RingHeads.{cond_one}
 use Rattle.vb_guest.proofs.BufferLines.{buffer_apart}
 use Rattle.vb_guest.proofs.ReportLines.{report_apart}
 
@@ -99,10 +100,6 @@ backed-set page frame frames lt =
       | inr ne ↦ at_page-other page (λ old. Some frame) frames i None inside ne
           ∙ sym (get_or-set_other frames page i (Some frame) None ne)
     ])
-
-cond_one : (b : Bool) → cond {A = ℕ} b 1 0 ≡ one_if b
-cond_one true = refl
-cond_one false = refl
 
 -- a frame enters a page that has none
 pub count_backed : (n page frame : ℕ) (frames : List (Option ℕ)) → page < length frames

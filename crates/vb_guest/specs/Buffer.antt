@@ -1,9 +1,9 @@
--- What the driver, the device and guest memory say together of the one statistics buffer (VIRTIO 1.1,
--- 5.5.6.3).
+-- What the driver, the device and guest memory say together of the one statistics buffer (VIRTIO
+-- 1.1, 5.5.6.3).
 use Rattle.std.specs.Prelude.{◌≡◌, ℕ, List, [], ◌∷◌, ⊤}
 use Rattle.vb_model.specs.declared.layout.TheConstants.{STATISTICS_QUEUE}
 use Rattle.vb_model.specs.Layout.{ring_page}
-use Rattle.vb_model.specs.Requests.{Request, Buffer, NoBuffer, BufferPosted, BufferTaken, BufferDone}
+use Rattle.vb_model.specs.Requests.{Request, Buffer, BufferPosted, BufferTaken, BufferDone}
 use Rattle.vb_ram.specs.Pages.{Pages}
 use Rattle.vb_ram.specs.Part.{QueuePart}
 use Rattle.vb_ring.specs.Ends.{DriverEnd}

@@ -1,5 +1,5 @@
--- What the two ends of a queue's ring and guest memory say together: which heads were published, taken,
--- used and seen as used (VIRTIO 1.1, 2.6).
+-- What the two ends of a queue's ring and guest memory say together: which heads were published,
+-- taken, used and seen as used (VIRTIO 1.1, 2.6).
 use Rattle.std.specs.Prelude.{◌≡◌, ℕ, ◌+◌, ◌%◌, List, ◌++◌, length, map}
 use Rattle.vb_model.specs.Layout.{ring_page}
 use Rattle.vb_ram.specs.Pages.{Pages}
@@ -12,8 +12,8 @@ abbrev pub used_of : List ℕ → List UsedElem
 used_of heads = map (λ h. record { id = h; len = 0 }) heads
 
 -- The ring shows the heads that the device took before and the posted ones, and the elements that
--- the driver has seen and those of the used heads that it hasn't. Of the heads that were taken, those
--- that weren't seen as used are the taken and the used ones.
+-- the driver has seen and those of the used heads that it hasn't. Of the heads that were taken,
+-- those that weren't seen as used are the taken and the used ones.
 pub record RingStands (mem : Pages) (queue : ℕ) (ring : DriverEnd) (next_avail next_used : ℕ)
     (posted taken done : List ℕ) : Type 0 where
   pub sized : IsSize ring.size

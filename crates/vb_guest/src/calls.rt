@@ -15,9 +15,9 @@ use crate::lives::{init, reset};
 use crate::memory::{read, write};
 use crate::queries::{balloon, pages_at, pages_ballooned, places, statistics};
 use crate::replies::{
-    asked_reply, balloon_reply, bytes_reply, done_reply, filled_reply, finished_reply, memory_reply,
-    page_reply, posted_reply, ready_reply, reaped_reply, runs_reply, swept_reply, taken_reply,
-    worked_reply,
+    asked_reply, balloon_reply, bytes_reply, done_reply, filled_reply, finished_reply,
+    memory_reply, page_reply, posted_reply, ready_reply, reaped_reply, runs_reply, swept_reply,
+    taken_reply, worked_reply,
 };
 use std::alloc::Global;
 use vb_device::Device;

@@ -50,7 +50,8 @@ returns-in-Inflate g c =
 pub returns-in-Deflate : goal.returns-in-Deflate
 returns-in-Deflate g c =
     record {
-      step = λ keeps guest stands. rw (c.clear.ensures, c.in-Deflate.is, c.posted_reply-in-Deflate.ensures)
+      step = λ keeps guest stands.
+          rw (c.clear.ensures, c.in-Deflate.is, c.posted_reply-in-Deflate.ensures)
           (steps_quiet keeps _ _ _ _ _ _ guest g.K.FrameKeeper.answers _ _ _ stands
           (c.deflate.ensures keeps guest stands));
     }
@@ -118,7 +119,8 @@ returns-in-Reset g c =
 pub returns-in-Report : goal.returns-in-Report
 returns-in-Report g c =
     record {
-      step = λ keeps guest stands. rw (c.clear.ensures, c.in-Report.is, c.posted_reply-in-Report.ensures)
+      step = λ keeps guest stands.
+          rw (c.clear.ensures, c.in-Report.is, c.posted_reply-in-Report.ensures)
           (steps_quiet keeps _ _ _ _ _ _ guest g.K.FrameKeeper.answers _ _ _ stands
           (c.report.ensures keeps guest stands));
     }
