@@ -1,5 +1,5 @@
 -- The pages of a report, piece by piece.
-use Rattle.std.specs.Prelude.{◌≡◌, ℕ, ◌+◌, ◌*◌, ◌/◌, ◌%◌, ◌<◌, ◌≤◌, Bool, true, false}
+use Rattle.std.specs.Prelude.{◌≡◌, ℕ, suc, ◌+◌, ◌*◌, ◌/◌, ◌%◌, ◌<◌, ◌≤◌, Bool, true, false}
 use Rattle.std.specs.Prelude.{not, ◌==◌, ◌||◌, nat_lt, List, [], ◌∷◌, ◌++◌, length, if◌then◌else◌}
 use Rattle.std.specs.Prelude.{Option, Some, None, Ok, Err, All, slice_get, slice_index_or, refl}
 use Rattle.std.specs.List.{list_any}
@@ -160,23 +160,49 @@ above_reserved (x ∷ xs) e =
     All-append (λ page. 16 ≤ page) (pages_of_piece x) (pages_of_pieces xs)
     (from_on (x.addr / 4096) (x.len / 4096) le) (above_reserved xs both.1)
 
-ok_of : (o : Option ChainFault) (ns pages : List ℕ) → unless_fault o ns ≡ Ok pages → o ≡ None
-ok_of None ns pages e = refl
+-- ---- pages of the guest
+
+up_to : (first n count : ℕ) → first + n ≤ count → (k d : ℕ) → k < length (range_with_len first n) →
+    slice_index_or (range_with_len first n) k d < count
+up_to first n count le k d lt =
+    let inside : k < n = omega (arith, lt, length-range_with_len first n) in
+    let at : get_or (range_with_len first n) k d ≡ first + k =
+    get_or-range_with_len first n k d inside in
+    omega (arith, at, le, inside)
+
+pages_below : (count : ℕ) (pieces : List Piece) →
+    All (λ piece. piece.addr + piece.len ≤ 4096 * count) pieces →
+    All (λ page. page < count) (pages_of_pieces pieces)
+pages_below count [] inside = λ k d lt. absurd (omega (arith, lt))
+pages_below count (x ∷ xs) inside =
+    let here : x.addr + x.len ≤ 4096 * count = inside 0 x (omega arith) in
+    All-append (λ page. page < count) (pages_of_piece x) (pages_of_pieces xs)
+    (up_to (x.addr / 4096) (x.len / 4096) count (omega (arith, here)))
+    (pages_below count xs (λ k d lt. inside (suc k) d (omega (arith, lt))))
+
+ok_of : (o : Option ChainFault) (ns pages : List ℕ) → unless_fault o ns ≡ Ok pages →
+    (o ≡ None) × (ns ≡ pages)
+ok_of None ns pages e = (refl, cc)
 ok_of (Some f) ns pages e = absurd cc
 
 by_tests : (pieces : List Piece) (a b : Bool) (pages : List ℕ) →
     (if a then Err WrongDirection else (if b then Err BadLength
     else unless_fault (first_piece_fault pieces) (pages_of_pieces pieces))) ≡ Ok pages →
-    first_piece_fault pieces ≡ None
+    (first_piece_fault pieces ≡ None) × (pages_of_pieces pieces ≡ pages)
 by_tests pieces true b pages e = absurd cc
 by_tests pieces false true pages e = absurd cc
 by_tests pieces false false pages e =
     ok_of (first_piece_fault pieces) (pages_of_pieces pieces) pages e
 
--- a report names no reserved page
-pub report_above : (pieces : List Piece) (pages : List ℕ) → report_request pieces ≡ Ok pages →
-    All (λ page. 16 ≤ page) (pages_of_pieces pieces)
-report_above pieces pages e =
-    above_reserved pieces
-    (by_tests pieces (list_any (λ piece. not piece.writable) pieces)
-    (nat_lt 32 (length pieces) || list_any has_bad_length pieces) pages e)
+-- What a report names.
+pub report_pages : (count : ℕ) (pieces : List Piece) (pages : List ℕ) →
+    All (λ piece. piece.addr + piece.len ≤ 4096 * count) pieces →
+    report_request pieces ≡ Ok pages
+    → All (λ page. 16 ≤ page) pages × All (λ page. page < count) pages
+report_pages count pieces pages inside e =
+    let both = by_tests pieces (list_any (λ piece. not piece.writable) pieces)
+    (nat_lt 32 (length pieces) || list_any has_bad_length pieces) pages e in (
+      subst (λ (xs : List ℕ). All (λ page. 16 ≤ page) xs) both.1 (above_reserved pieces both.0),
+      subst (λ (xs : List ℕ). All (λ page. page < count) xs) both.1
+          (pages_below count pieces inside),
+    )

@@ -16,7 +16,10 @@ mod statistics;
 #[cfg(test)]
 mod tests;
 
-pub use laws::{a_request_names_pages_of_the_guest, a_written_request_is_read};
+pub use laws::{
+    a_report_names_pages_of_the_guest, a_request_names_pages_of_the_guest,
+    a_written_request_is_read,
+};
 pub use named::NamedPages;
 pub use report::read_report;
 pub use request::read_request;
