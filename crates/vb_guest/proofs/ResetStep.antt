@@ -4,7 +4,8 @@ use Rattle.std.proofs.Common.{◌∙◌, ap, inl}
 use Rattle.vb_model.specs.declared.calls.Call.TheVariants.{Reset}
 use Rattle.vb_model.specs.declared.places.Place.{Place}
 use Rattle.vb_model.specs.declared.replies.Reply.TheVariants.{Done}
-use Rattle.vb_model.specs.Pages.{pages_of_all}
+use Rattle.vb_model.specs.Tests.{pages_where}
+use Rattle.vb_model.specs.Pages.{is_reporting}
 use Rattle.vb_model.specs.Guest.{Guest}
 use Rattle.vb_model.specs.Life.{place_after_reset, after_reset}
 use Rattle.vb_ram.specs.Pages.{Pages}
@@ -26,7 +27,7 @@ reset_step m1 m2 p1 p2 d1 d2 g did stands =
     let state : DriverState =
     record d1 {
       places = map place_after_reset d1.places;
-      areas = areas_with (pages_of_all d1.report.blocks) d1.areas;
+      areas = areas_with (pages_where is_reporting d1.places) d1.areas;
       inflate = fresh_side 0 d1.queue_size;
       deflate = fresh_side 1 d1.queue_size;
       statistics = fresh_statistics d1.queue_size;
