@@ -345,7 +345,7 @@ impl Slot {
         ensures answer { (keeps : Bool) (g : Guest) → stands_for keeps mem part self.now g
             → Answers (Query.Memory) g (memory_reply result) }
     {
-        vb_guest::memory(&self.device)
+        vb_guest::statistics(&self.device)
     }
 
     /// The number of the frame behind a page; none where it has none, or isn't there.
