@@ -5,13 +5,15 @@ use Rattle.std.proofs.lemmas.List.{same_lists, length-map, get_or-map, get_or_pa
 use Rattle.std.proofs.lemmas.Bool.{cases_lt}
 use Rattle.vb_model.specs.Tests.{is_in, one_if}
 use Rattle.vb_model.specs.Pages.{place_of, placed, is_free, is_used, is_giving, is_taking}
-use Rattle.vb_model.specs.Pages.{is_reporting, Block}
+use Rattle.vb_model.specs.Pages.{is_reporting, Block, pages_of_all}
+use Rattle.vb_model.specs.Orderly.{times}
 use Rattle.vb_model.specs.declared.places.Place.{Place}
 use Rattle.vb_model.specs.declared.places.Place.TheVariants.{Reserved, Used}
 use Rattle.vb_model.proofs.Tables.{each_page-get, length-each_from}
 use Rattle.vb_pages.specs.FreePages.{FreePages}
 use Rattle.vb_driver.specs.Places.{is_at}
-use Rattle.vb_driver.specs.State.{Side, DriverState, IsQueue, naming, IsDriver}
+use Rattle.vb_driver.specs.State.{Side, ReportSide, DriverState, IsQueue, IsReportQueue, naming}
+use Rattle.vb_driver.specs.State.{IsDriver}
 use Rattle.vb_driver.specs.Areas.{flags_of, is_covered}
 use Rattle.vb_driver.specs.Places.{marked}
 use Rattle.vb_driver.proofs.Placing.{length-marked, marked-get, marked_none}
@@ -72,7 +74,7 @@ free_same places pages to agree =
 
 -- pages that move to a place, as blocks come to be held, or no more
 pub record Changes (d : DriverState) (areas2 : FreePages) (pages : List ℕ) (to : Place)
-    (held2 : List Block) (i2 e2 : Side) : Type 0 where
+    (held2 : List Block) (i2 e2 : Side) (r2 : ReportSide) : Type 0 where
   pub kept : IsDriver d
   pub there : (p : ℕ) → is_in p pages ≡ true → p < length d.places
   pub unreserved : (p : ℕ) → is_in p pages ≡ true → is_at Reserved (place_of d.places p) ≡ false
@@ -82,22 +84,26 @@ pub record Changes (d : DriverState) (areas2 : FreePages) (pages : List ℕ) (to
       (is_giving (cond (is_in p pages) to (place_of d.places p)))
   pub taking : (p : ℕ) → naming p e2.sent ≤ one_if
       (is_taking (cond (is_in p pages) to (place_of d.places p)))
+  pub report : IsReportQueue r2 d.queue_size
+  pub reporting : (p : ℕ) → times p (pages_of_all r2.blocks) ≤ one_if
+      (is_reporting (cond (is_in p pages) to (place_of d.places p)))
   pub free : flags_of areas2 ≡ map is_free (placed pages to d.places)
   pub processors : length areas2.lists ≡ length d.areas.lists
-  pub proper : is_reporting to ≡ false
   pub used : (p : ℕ) → is_covered p held2 ≡ true
       → cond (is_in p pages) to (place_of d.places p) ≡ Used
 
 pub kept_changed : (d : DriverState) (areas2 : FreePages) (pages : List ℕ) (to : Place)
-    (held2 : List Block) (i2 e2 : Side) → Changes d areas2 pages to held2 i2 e2
+    (held2 : List Block) (i2 e2 : Side) (r2 : ReportSide)
+    → Changes d areas2 pages to held2 i2 e2 r2
     → IsDriver (record d {
       places = placed pages to d.places;
       held = held2;
       areas = areas2;
       inflate = i2;
       deflate = e2;
+      report = r2;
     })
-kept_changed d areas2 pages to held2 i2 e2 m =
+kept_changed d areas2 pages to held2 i2 e2 r2 m =
     let place : (p : ℕ) → place_of (placed pages to d.places) p
     ≡ cond (is_in p pages) to (place_of d.places p) =
     λ p. place_placed pages to d.places p (m.there p) in
@@ -108,21 +114,18 @@ kept_changed d areas2 pages to held2 i2 e2 m =
       size = m.kept.size;
       inflate = m.inflate;
       deflate = m.deflate;
+      statistics = m.kept.statistics;
+      report = m.report;
       giving = λ p. omega (arith, m.giving p, ap (λ (v : Place). one_if (is_giving v)) (place p));
       taking = λ p. omega (arith, m.taking p, ap (λ (v : Place). one_if (is_taking v)) (place p));
-      unreported = λ p. ap is_reporting (place p)
-          ∙ proper_at p (is_in p pages) refl (m.kept.unreported p);
+      reporting = λ p. omega
+          (arith, m.reporting p, ap (λ (v : Place). one_if (is_reporting v)) (place p));
       free = m.free;
       used = λ p covered. place p ∙ m.used p covered;
       reserved = λ p low. place p ∙ reserved_at p (is_in p pages) refl (m.kept.reserved p low);
       processors = m.processors ∙ m.kept.processors;
     }
   where
-    proper_at : (p : ℕ) (b : Bool) → is_in p pages ≡ b → is_reporting (place_of d.places p) ≡ false
-        → is_reporting (cond (is_in p pages) to (place_of d.places p)) ≡ false
-    proper_at p true e old = ap (λ v. is_reporting (cond v to (place_of d.places p))) e ∙ m.proper
-    proper_at p false e old = ap (λ v. is_reporting (cond v to (place_of d.places p))) e ∙ old
-
     reserved_at : (p : ℕ) (b : Bool) → is_in p pages ≡ b → place_of d.places p ≡ Reserved
         → cond (is_in p pages) to (place_of d.places p) ≡ Reserved
     reserved_at p true e is =
@@ -131,7 +134,7 @@ kept_changed d areas2 pages to held2 i2 e2 m =
 
 -- pages that are in no held block, and move
 pub record Moves (d : DriverState) (areas2 : FreePages) (pages : List ℕ) (to : Place) (i2 e2 : Side)
-    : Type 0 where
+    (r2 : ReportSide) : Type 0 where
   pub kept : IsDriver d
   pub there : (p : ℕ) → is_in p pages ≡ true → p < length d.places
   pub unreserved : (p : ℕ) → is_in p pages ≡ true → is_at Reserved (place_of d.places p) ≡ false
@@ -142,20 +145,23 @@ pub record Moves (d : DriverState) (areas2 : FreePages) (pages : List ℕ) (to :
       (is_giving (cond (is_in p pages) to (place_of d.places p)))
   pub taking : (p : ℕ) → naming p e2.sent ≤ one_if
       (is_taking (cond (is_in p pages) to (place_of d.places p)))
+  pub report : IsReportQueue r2 d.queue_size
+  pub reporting : (p : ℕ) → times p (pages_of_all r2.blocks) ≤ one_if
+      (is_reporting (cond (is_in p pages) to (place_of d.places p)))
   pub free : flags_of areas2 ≡ map is_free (placed pages to d.places)
   pub processors : length areas2.lists ≡ length d.areas.lists
-  pub proper : is_reporting to ≡ false
 
 pub kept_moved : (d : DriverState) (areas2 : FreePages) (pages : List ℕ) (to : Place) (i2 e2 : Side)
-    → Moves d areas2 pages to i2 e2
+    (r2 : ReportSide) → Moves d areas2 pages to i2 e2 r2
     → IsDriver (record d {
       places = placed pages to d.places;
       areas = areas2;
       inflate = i2;
       deflate = e2;
+      report = r2;
     })
-kept_moved d areas2 pages to i2 e2 m =
-    kept_changed d areas2 pages to d.held i2 e2 (record {
+kept_moved d areas2 pages to i2 e2 r2 m =
+    kept_changed d areas2 pages to d.held i2 e2 r2 (record {
       kept = m.kept;
       there = m.there;
       unreserved = m.unreserved;
@@ -163,9 +169,10 @@ kept_moved d areas2 pages to i2 e2 m =
       deflate = m.deflate;
       giving = m.giving;
       taking = m.taking;
+      report = m.report;
+      reporting = m.reporting;
       free = m.free;
       processors = m.processors;
-      proper = m.proper;
       used = λ p covered. used_at p (is_in p pages) refl (m.kept.used p covered);
     })
   where

@@ -2,6 +2,7 @@ pub mod Counting
 pub mod Placing
 pub mod Buffers
 pub mod RequestTables
+pub mod ReportTables
 pub mod Posting
 pub mod Naming
 pub mod Keeping
@@ -13,3 +14,9 @@ pub mod Allocating
 pub mod Owning
 pub mod Zeroing
 pub mod Starting
+pub mod Figures
+pub mod OneBuffer
+pub mod Filling
+pub mod ReportAreas
+pub mod ReportPosting
+pub mod ReportMoves

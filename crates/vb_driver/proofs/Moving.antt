@@ -1,16 +1,19 @@
 -- The pages that each call moves.
 use Rattle.std.proofs.Common.{◌≡◌, ◌∙◌, sym, ap, subst, arith, refl, ℕ, zero, suc, replicate, ◌+◌}
 use Rattle.std.proofs.Common.{◌-◌, ◌<◌, ◌≤◌, Bool, true, false, cond, eqb, ◌||◌, ◌&&◌, List, []}
-use Rattle.std.proofs.Common.{◌∷◌, ◌++◌, length, take, set, map, count_by, inl, inr}
-use Rattle.std.proofs.lemmas.Bool.{cases_lt, lt-ltb}
+use Rattle.std.proofs.Common.{◌∷◌, ◌++◌, length, take, set, get_or, map, count_by, inl, inr}
+use Rattle.std.proofs.Common.{is_none}
+use Rattle.std.proofs.lemmas.Bool.{cases_lt, lt-ltb, eq-eqb, ne_eqb, false_from_ne_true}
+use Rattle.std.proofs.lemmas.Bool.{both_ways}
 use Rattle.std.proofs.lemmas.List.{length-replicate, length-take, length-map, get_or-map}
-use Rattle.std.proofs.lemmas.List.{get_or_past}
+use Rattle.std.proofs.lemmas.List.{get_or_past, same_lists}
 use Rattle.std.specs.List.{list_all}
 use Rattle.std.proofs.lemmas.List.Sums.{sum_by-cons}
 use Rattle.std.proofs.lemmas.List.Folds.{list_any-append}
 use Rattle.vb_model.specs.Tests.{is_in, one_if, pages_from, pages_where}
 use Rattle.vb_model.specs.Pages.{place_of, placed, is_free, is_used, is_giving, is_lent, is_taking}
 use Rattle.vb_model.specs.Pages.{is_stranded, is_reporting, is_lent_or_taking, all_free}
+use Rattle.vb_model.specs.Pages.{pages_of_all}
 use Rattle.vb_model.specs.declared.places.Place.{Place}
 use Rattle.vb_model.specs.declared.places.Place.TheVariants.{Reserved, Free, Used, Giving, Lent}
 use Rattle.vb_model.specs.declared.places.Place.TheVariants.{Taking, Stranded, Reporting}
@@ -23,20 +26,25 @@ use Rattle.vb_ram.specs.Pages.{Pages}
 use Rattle.vb_pages.specs.FreePages.{FreePages}
 use Rattle.vb_driver.specs.Places.{is_at}
 use Rattle.vb_driver.specs.State.{Side, DriverState, IsQueue, naming, sent_by, fresh_side}
-use Rattle.vb_driver.specs.State.{fresh_driver, IsDriver}
+use Rattle.vb_driver.specs.State.{fresh_driver, IsDriver, IsStatisticsQueue, fresh_statistics}
+use Rattle.vb_driver.specs.State.{fresh_report}
 use Rattle.vb_driver.specs.Areas.{flags_of, is_free_at, is_covered}
 use Rattle.vb_driver.specs.Places.{marked}
 use Rattle.vb_driver.specs.Calls.{Posts, lowest_lent, stranded_first, after_reap}
 use Rattle.vb_model.specs.Orderly.{times}
 use Rattle.vb_driver.proofs.Naming.{naming_more, naming_same, naming_less, named_place, named_once}
-use Rattle.vb_driver.proofs.Naming.{once_lowest, once_append}
+use Rattle.vb_driver.proofs.Naming.{once_lowest, once_append, later_none}
+use Rattle.vb_pages.proofs.ListsLemmas.{times_in}
 use Rattle.vb_driver.proofs.Flags.{fresh_flags}
 use Rattle.vb_driver.proofs.Counting.{at_is}
 use Rattle.vb_driver.proofs.Keeping.{kept_moved, there_by, free_same, free_marked}
 use Rattle.std.proofs.lemmas.List.FromFn.{get_or-map-range_with_len, length-map-range_with_len}
 use Rattle.std.proofs.Common.{nat_lt}
 use Rattle.vb_ring.specs.Layout.{IsSize}
-use Rattle.vb_driver.proofs.Placing.{first_place, or_true}
+use Rattle.vb_driver.proofs.Placing.{first_place, or_true, length-marked, marked-get}
+use Rattle.vb_driver.proofs.ReportTables.{none_owned, fresh_report_queue}
+use Rattle.vb_ring.specs.Entries.{is_own}
+use Rattle.vb_ring.specs.Ends.{DriverEnd}
 use Rattle.vb_driver.proofs.RequestTables.{requests_taken, requests_fresh}
 
 -- ---- tests of places
@@ -101,24 +109,26 @@ asked_kept m1 m2 d e2 base count head kept posts =
     let small : head < length d.deflate.sent =
     omega (arith, posts.small, kept.deflate.requests.buffers) in
     let sent : e2.sent ≡ set d.deflate.sent head pages = ap (λ (s : Side). s.sent) posts.state in
-    kept_moved d d.areas pages Taking d.inflate e2 (record {
+    kept_moved d d.areas pages Taking d.inflate e2 d.report (record {
       kept = kept;
       there = λ p here. there_by d.places p is_lent refl (lowest_is d.places count is_lent p here);
       unreserved = λ p here. ap (is_at Reserved) (lent p here);
       unused = λ p here. ap is_used (lent p here);
       inflate = kept.inflate;
       deflate = posted_queue m1 m2 d.deflate e2 base 1 d.queue_size head pages kept.deflate posts;
-      giving = λ p. naming_same p pages d.inflate.sent is_giving Taking (place_of d.places p)
+      giving = λ p. naming_same p (naming p d.inflate.sent) pages is_giving Taking (place_of d.places p)
           (kept.giving p) (λ here. ap is_giving (lent p here));
       taking = λ p. subst (λ (l : List (List ℕ)). naming p l ≤ one_if
           (is_taking (cond (is_in p pages) Taking (place_of d.places p)))) (sym sent)
           (naming_more p head pages d.deflate.sent is_taking Taking (place_of d.places p) small
           (kept.taking p) (λ here. ap is_taking (lent p here))
           (once_lowest p count is_lent d.places) refl);
+      report = kept.report;
+      reporting = λ p. naming_same p (times p (pages_of_all d.report.blocks)) pages is_reporting Taking
+          (place_of d.places p) (kept.reporting p) (λ here. ap is_reporting (lent p here));
       free = kept.free ∙ free_same d.places pages Taking
           (λ p place is. same_free p place is (is_in p pages) refl lent);
       processors = refl;
-      proper = refl;
     })
   where
     same_free : (p : ℕ) (place : Place) → place ≡ place_of d.places p → (b : Bool)
@@ -185,7 +195,7 @@ offered_kept m1 m2 d areas2 i2 base count head others kept free once taken proce
     → times p pages ≤ 1 =
     λ p. once_append p first others (once_lowest p count is_stranded d.places) (once p)
     (stranded_apart d count p others free) in
-    kept_moved d areas2 pages Giving i2 d.deflate (record {
+    kept_moved d areas2 pages Giving i2 d.deflate d.report (record {
       kept = kept;
       there = λ p here. there_by d.places p (λ v. is_stranded v || is_free v) refl
           (idle_test (place_of d.places p) (λ v. is_stranded v || is_free v) true refl refl
@@ -200,14 +210,17 @@ offered_kept m1 m2 d areas2 i2 base count head others kept free once taken proce
           (naming_more p head pages d.inflate.sent is_giving Giving (place_of d.places p) small
           (kept.giving p) (λ here. idle_test (place_of d.places p) is_giving false refl refl
           (idle p here)) (once_all p) refl);
-      taking = λ p. naming_same p pages d.deflate.sent is_taking Giving (place_of d.places p)
+      taking = λ p. naming_same p (naming p d.deflate.sent) pages is_taking Giving (place_of d.places p)
           (kept.taking p) (λ here. idle_test (place_of d.places p) is_taking false refl refl
+          (idle p here));
+      report = kept.report;
+      reporting = λ p. naming_same p (times p (pages_of_all d.report.blocks)) pages is_reporting Giving
+          (place_of d.places p) (kept.reporting p) (λ here. idle_test (place_of d.places p) is_reporting false refl refl
           (idle p here));
       free = taken ∙ (ap (marked others false) kept.free
           ∙ free_marked d.places pages others Giving false
           (λ p place is. agree p place is (is_in p others) (is_in p first) refl refl));
       processors = processors;
-      proper = refl;
     })
   where
     in_pages : (p : ℕ) → is_in p (stranded_first d count ++ others)
@@ -248,7 +261,7 @@ lent_kept d head lt kept =
     → is_giving (place_of d.places p) ≡ true =
     λ p here. named_place p head d.inflate.sent is_giving (place_of d.places p) small
     (kept.giving p) here in
-    kept_moved d d.areas pages Lent (after_reap d.inflate head) d.deflate (record {
+    kept_moved d d.areas pages Lent (after_reap d.inflate head) d.deflate d.report (record {
       kept = kept;
       there = λ p here. there_by d.places p is_giving refl (giving p here);
       unreserved = λ p here. ap (is_at Reserved)
@@ -258,13 +271,16 @@ lent_kept d head lt kept =
       deflate = kept.deflate;
       giving = λ p. naming_less p head d.inflate.sent is_giving Lent (place_of d.places p) small
           (kept.giving p);
-      taking = λ p. naming_same p pages d.deflate.sent is_taking Lent (place_of d.places p)
+      taking = λ p. naming_same p (naming p d.deflate.sent) pages is_taking Lent (place_of d.places p)
           (kept.taking p) (λ here. ap is_taking
+          (at_is Giving (place_of d.places p) (giving p here)));
+      report = kept.report;
+      reporting = λ p. naming_same p (times p (pages_of_all d.report.blocks)) pages is_reporting Lent
+          (place_of d.places p) (kept.reporting p) (λ here. ap is_reporting
           (at_is Giving (place_of d.places p) (giving p here)));
       free = kept.free ∙ free_same d.places pages Lent
           (λ p place is. same_free p place is (is_in p pages) refl giving);
       processors = refl;
-      proper = refl;
     })
   where
     same_free : (p : ℕ) (place : Place) → place ≡ place_of d.places p → (b : Bool)
@@ -292,7 +308,7 @@ freed_kept d areas2 head lt kept given processors =
     → is_taking (place_of d.places p) ≡ true =
     λ p here. named_place p head d.deflate.sent is_taking (place_of d.places p) small
     (kept.taking p) here in
-    kept_moved d areas2 pages Free d.inflate (after_reap d.deflate head) (record {
+    kept_moved d areas2 pages Free d.inflate (after_reap d.deflate head) d.report (record {
       kept = kept;
       there = λ p here. there_by d.places p is_taking refl (taking p here);
       unreserved = λ p here. ap (is_at Reserved)
@@ -300,15 +316,18 @@ freed_kept d areas2 head lt kept given processors =
       unused = λ p here. ap is_used (at_is Taking (place_of d.places p) (taking p here));
       inflate = kept.inflate;
       deflate = reaped_queue d.deflate 1 d.queue_size head kept.deflate;
-      giving = λ p. naming_same p pages d.inflate.sent is_giving Free (place_of d.places p)
+      giving = λ p. naming_same p (naming p d.inflate.sent) pages is_giving Free (place_of d.places p)
           (kept.giving p) (λ here. ap is_giving
           (at_is Taking (place_of d.places p) (taking p here)));
       taking = λ p. naming_less p head d.deflate.sent is_taking Free (place_of d.places p) small
           (kept.taking p);
+      report = kept.report;
+      reporting = λ p. naming_same p (times p (pages_of_all d.report.blocks)) pages is_reporting Free
+          (place_of d.places p) (kept.reporting p) (λ here. ap is_reporting
+          (at_is Taking (place_of d.places p) (taking p here)));
       free = given ∙ (ap (marked pages true) kept.free
           ∙ free_marked d.places pages pages Free true (λ p place is. agree place (is_in p pages)));
       processors = processors;
-      proper = refl;
     })
   where
     agree : (place : Place) (b : Bool) → cond b true (is_free place) ≡ is_free (cond b Free place)
@@ -404,61 +423,111 @@ freed_once d head p lt kept =
     named_once p head d.deflate.sent is_taking (place_of d.places p)
     (omega (arith, kept.deflate.requests.buffers)) (kept.taking p)
 
-pub freed_uncovered : (d : DriverState) (p : ℕ) → IsDriver d → place_of d.places p ≡ Taking
-    → is_covered p d.held ≡ false
-freed_uncovered d p kept is = at (is_covered p d.held) refl
-  where
-    at : (b : Bool) → is_covered p d.held ≡ b → is_covered p d.held ≡ false
-    at false e = e
-    at true e = (let wrong : true ≡ false = sym (ap is_used (kept.used p e)) ∙ ap is_used is in cc)
+-- ---- a page that isn't used, free or reserved
 
-pub freed_unfree : (d : DriverState) (p : ℕ) → IsDriver d → place_of d.places p ≡ Taking
-    → is_free_at (flags_of d.areas) p ≡ false
-freed_unfree d p kept is = free_is_place d.places (flags_of d.areas) p kept.free ∙ ap is_free is
+pub place_uncovered : (d : DriverState) (p : ℕ) (place : Place) → IsDriver d → is_used place ≡ false
+    → place_of d.places p ≡ place → is_covered p d.held ≡ false
+place_uncovered d p place kept unused is =
+    false_from_ne_true (is_covered p d.held) (λ e.
+    both_ways (is_used (place_of d.places p)) (ap is_used is ∙ unused)
+    (ap is_used (kept.used p e)))
 
-pub freed_inside : (d : DriverState) (p : ℕ) → IsDriver d → place_of d.places p ≡ Taking
+pub place_unfree : (d : DriverState) (p : ℕ) (place : Place) → IsDriver d → is_free place ≡ false
+    → place_of d.places p ≡ place → is_free_at (flags_of d.areas) p ≡ false
+place_unfree d p place kept unfree is =
+    free_is_place d.places (flags_of d.areas) p kept.free ∙ (ap is_free is ∙ unfree)
+
+pub place_inside : (d : DriverState) (p : ℕ) (place : Place) → IsDriver d
+    → is_at Reserved place ≡ false → place_of d.places p ≡ place
     → (p < length (flags_of d.areas)) × (p < length d.places)
-freed_inside d p kept is =
-    let inside : p < length d.places = there_by d.places p is_taking refl (ap is_taking is) in
+place_inside d p place kept unreserved is =
+    let inside : p < length d.places = elim (cases_lt p (length d.places)) [
+      | inl lt ↦ lt
+      | inr past ↦ absurd (both_ways (is_at Reserved (place_of d.places p))
+          (ap (is_at Reserved) is ∙ unreserved)
+          (ap (is_at Reserved) (get_or_past d.places p Reserved past)))
+    ] in
     (omega (arith, ap length kept.free, length-map d.places is_free), inside)
 
-pub freed_unreserved : (d : DriverState) (p : ℕ) → IsDriver d → place_of d.places p ≡ Taking
-    → 16 ≤ p
-freed_unreserved d p kept is = elim (cases_lt p 16) [
-  | inl low ↦ (let wrong : true ≡ false = sym (ap is_taking is)
-      ∙ ap is_taking (kept.reserved p low) in cc)
+pub place_unreserved : (d : DriverState) (p : ℕ) (place : Place) → IsDriver d
+    → is_at Reserved place ≡ false → place_of d.places p ≡ place → 16 ≤ p
+place_unreserved d p place kept unreserved is = elim (cases_lt p 16) [
+  | inl low ↦ absurd (both_ways (is_at Reserved (place_of d.places p))
+      (ap (is_at Reserved) is ∙ unreserved) (ap (is_at Reserved) (kept.reserved p low)))
   | inr far ↦ far
 ]
 
 -- ---- a reset
 
-free_after : (x : Place) → is_reporting x ≡ false → is_free (place_after_reset x) ≡ is_free x
-free_after Reserved e = refl
-free_after Free e = refl
-free_after Used e = refl
-free_after Giving e = refl
-free_after Lent e = refl
-free_after Taking e = refl
-free_after Stranded e = refl
-free_after Reporting e = cc
+-- a page is among those that pass a test exactly where its entry does
+in_from : {A : Type 0} (test : A → Bool) (n k i : ℕ) (xs : List A) (d : A) → i < length xs
+    → n ≡ k + i → is_in n (pages_from k test xs) ≡ test (get_or xs i d)
+in_from test n k i [] d lt is = absurd (omega arith)
+in_from test n k zero (x ∷ xs) d lt is = at (test x)
+  where
+    here : eqb k n ≡ true
+    here = eq-eqb k n (omega arith)
 
-reported_after : (x : Place) → is_reporting x ≡ false → is_reporting (place_after_reset x) ≡ false
-reported_after Reserved e = refl
-reported_after Free e = refl
-reported_after Used e = refl
-reported_after Giving e = refl
-reported_after Lent e = refl
-reported_after Taking e = refl
-reported_after Stranded e = refl
-reported_after Reporting e = cc
+    past : is_in n (pages_from (suc k) test xs) ≡ false
+    past = false_from_ne_true (is_in n (pages_from (suc k) test xs)) (λ h. omega (
+      arith,
+      later_none n (suc k) test xs (omega arith),
+      times_in n (pages_from (suc k) test xs) h,
+    ))
 
-free_all_after : (xs : List Place) → ((p : ℕ) → is_reporting (place_of xs p) ≡ false)
-    → map is_free (map place_after_reset xs) ≡ map is_free xs
-free_all_after [] none = refl
-free_all_after (x ∷ xs) none =
-    let here : is_reporting x ≡ false = none 0 in
-    ap (λ v. v ∷ map is_free (map place_after_reset xs)) (free_after x here)
-    ∙ ap (λ l. is_free x ∷ l) (free_all_after xs (λ p. none (suc p)))
+    at : (b : Bool)
+        → is_in n (cond b (k ∷ pages_from (suc k) test xs) (pages_from (suc k) test xs)) ≡ b
+    at true = ap (λ (v : Bool). v || is_in n (pages_from (suc k) test xs)) here
+    at false = past
+in_from test n k (suc i) (x ∷ xs) d lt is =
+    at (test x) (in_from test n (suc k) i xs d (omega arith) (omega arith))
+  where
+    other : eqb k n ≡ false
+    other = ne_eqb k n (λ e. omega arith)
+
+    at : (b : Bool) → is_in n (pages_from (suc k) test xs) ≡ test (get_or xs i d)
+        → is_in n (cond b (k ∷ pages_from (suc k) test xs) (pages_from (suc k) test xs))
+        ≡ test (get_or xs i d)
+    at true ih = ap (λ (v : Bool). v || is_in n (pages_from (suc k) test xs)) other ∙ ih
+    at false ih = ih
+
+in_where : {A : Type 0} (test : A → Bool) (xs : List A) (n : ℕ) (d : A) → n < length xs
+    → is_in n (pages_where test xs) ≡ test (get_or xs n d)
+in_where test xs n d lt = in_from test n 0 n xs d lt (omega arith)
+
+-- just the reported pages are free besides
+free_after : (x : Place) → is_free (place_after_reset x) ≡ cond (is_reporting x) true (is_free x)
+free_after Reserved = refl
+free_after Free = refl
+free_after Used = refl
+free_after Giving = refl
+free_after Lent = refl
+free_after Taking = refl
+free_after Stranded = refl
+free_after Reporting = refl
+
+free_all_after : (places : List Place)
+    → marked (pages_where is_reporting places) true (map is_free places)
+    ≡ map is_free (map place_after_reset places)
+free_all_after places =
+    let pages = pages_where is_reporting places in
+    let left = marked pages true (map is_free places) in
+    let right = map is_free (map place_after_reset places) in
+    let n1 : length left ≡ length places =
+    length-marked pages true (map is_free places) ∙ length-map places is_free in
+    let n2 : length right ≡ length places =
+    length-map (map place_after_reset places) is_free ∙ length-map places place_after_reset in
+    same_lists left right (n1 ∙ sym n2) (λ k d near.
+    let inside : k < length places = omega arith in
+    marked-get pages true (map is_free places) k d (omega (arith, length-map places is_free))
+    ∙ (ap (λ (v : Bool). cond (is_in k pages) true v)
+    (get_or-map is_free places k Reserved d inside)
+    ∙ (ap (λ (v : Bool). cond v true (is_free (place_of places k)))
+    (in_where is_reporting places k Reserved inside)
+    ∙ (sym (free_after (place_of places k))
+    ∙ sym (get_or-map is_free (map place_after_reset places) k Reserved d
+    (omega (arith, length-map places place_after_reset))
+    ∙ ap is_free (get_or-map place_after_reset places k Reserved Reserved inside))))))
 
 naming_none : (p n : ℕ) → naming p (replicate {A = List ℕ} n []) ≡ 0
 naming_none p zero = refl
@@ -472,15 +541,29 @@ fresh_queue queue size = record {
   size = refl;
 }
 
-pub reset_kept : (d : DriverState) (features : ℕ) → IsDriver d
+pub fresh_statistics_queue : (size : ℕ) → IsStatisticsQueue (fresh_statistics size) size
+fresh_statistics_queue size = record {
+  single = λ i used. (let gone : true ≡ false = sym (ap is_none (none_owned size i)) ∙ used in cc);
+  first = λ i head. (let gone : false ≡ true = sym (ap (is_own i) (none_owned size i)) ∙ head in
+      cc);
+  layout = refl;
+  size = refl;
+}
+
+pub reset_kept : (d : DriverState) (areas2 : FreePages) (features : ℕ) → IsDriver d
+    → flags_of areas2 ≡ marked (pages_where is_reporting d.places) true (flags_of d.areas)
+    → length areas2.lists ≡ length d.areas.lists
     → IsDriver (record d {
       places = map place_after_reset d.places;
+      areas = areas2;
       inflate = fresh_side 0 d.queue_size;
       deflate = fresh_side 1 d.queue_size;
+      statistics = fresh_statistics d.queue_size;
+      report = fresh_report d.queue_size;
       features =
           features;
     })
-reset_kept d features kept =
+reset_kept d areas2 features kept given processors =
     record {
       table = length-map d.places place_after_reset ∙ kept.table;
       least = kept.least;
@@ -488,31 +571,48 @@ reset_kept d features kept =
       size = kept.size;
       inflate = fresh_queue 0 d.queue_size;
       deflate = fresh_queue 1 d.queue_size;
+      statistics = fresh_statistics_queue d.queue_size;
+      report = fresh_report_queue d.queue_size;
       giving = λ p. omega (arith, naming_none p 16);
       taking = λ p. omega (arith, naming_none p 16);
-      unreported = λ p. ap is_reporting (place_of-reset d.places p)
-          ∙ reported_after (place_of d.places p) (kept.unreported p);
-      free = kept.free ∙ sym (free_all_after d.places kept.unreported);
+      reporting = λ p. omega arith;
+      free = given ∙ (ap (marked (pages_where is_reporting d.places) true) kept.free
+          ∙ free_all_after d.places);
       used = λ p covered. place_of-reset d.places p ∙ ap place_after_reset (kept.used p covered);
       reserved = λ p low. place_of-reset d.places p ∙ ap place_after_reset (kept.reserved p low);
+      processors = processors ∙ kept.processors;
+    }
+
+-- ---- the queues begin anew
+
+pub renewed_kept : (d : DriverState) (statistics2 : DriverEnd) → IsDriver d
+    → IsStatisticsQueue statistics2 d.queue_size
+    → IsDriver (record d {
+      inflate = fresh_side 0 d.queue_size;
+      deflate = fresh_side 1 d.queue_size;
+      statistics = statistics2;
+      report = fresh_report d.queue_size;
+    })
+renewed_kept d statistics2 kept statistics =
+    record {
+      table = kept.table;
+      least = kept.least;
+      most = kept.most;
+      size = kept.size;
+      inflate = fresh_queue 0 d.queue_size;
+      deflate = fresh_queue 1 d.queue_size;
+      statistics = statistics;
+      report = fresh_report_queue d.queue_size;
+      giving = λ p. omega (arith, naming_none p 16);
+      taking = λ p. omega (arith, naming_none p 16);
+      reporting = λ p. omega arith;
+      free = kept.free;
+      used = kept.used;
+      reserved = kept.reserved;
       processors = kept.processors;
     }
 
 -- ---- a driver as it is made
-
-reported_first : (b : Bool) → is_reporting (cond b Reserved Free) ≡ false
-reported_first true = refl
-reported_first false = refl
-
-reported_never : (n p : ℕ) → is_reporting (place_of (all_free n) p) ≡ false
-reported_never n p = elim (cases_lt p n) [
-  | inl lt ↦ ap is_reporting
-      (get_or-map-range_with_len first_place 0 n p p Reserved lt (omega arith))
-      ∙ reported_first (nat_lt p 16)
-  | inr past ↦ ap is_reporting
-      (get_or_past (all_free n) p Reserved
-      (omega (arith, length-map-range_with_len first_place 0 n)))
-]
 
 reserved_first : (n p : ℕ) → p < 16 → place_of (all_free n) p ≡ Reserved
 reserved_first n p low = elim (cases_lt p n) [
@@ -534,7 +634,9 @@ fresh_kept pages size processors f least most sized =
       deflate = fresh_queue 1 size;
       giving = λ p. omega (arith, naming_none p 16);
       taking = λ p. omega (arith, naming_none p 16);
-      unreported = reported_never pages;
+      statistics = fresh_statistics_queue size;
+      report = fresh_report_queue size;
+      reporting = λ p. omega arith;
       free = fresh_flags pages processors;
       used = λ p covered. (let wrong : false ≡ true = covered in cc);
       reserved = reserved_first pages;

@@ -34,7 +34,7 @@ once_distinct p (x ∷ xs) d =
     opposite false h = refl
 
 -- the pages of a table that pass a test
-later_none : {A : Type 0} (p k : ℕ) (test : A → Bool) (xs : List A) → p < k
+pub later_none : {A : Type 0} (p k : ℕ) (test : A → Bool) (xs : List A) → p < k
     → times p (pages_from k test xs) ≡ 0
 later_none p k test [] lt = refl
 later_none p k test (x ∷ xs) lt = at (test x) (later_none p (suc k) test xs (omega arith))
@@ -112,15 +112,13 @@ naming_more p h pages sent test to place lt old before once is =
         ap (λ (v : Bool). one_if (test (cond v to place))) e in
         omega arith
 
--- a queue whose pages don't move
-pub naming_same : (p : ℕ) (pages : List ℕ) (sent : List (List ℕ)) (test : Place → Bool)
-    (to place : Place) → naming p sent ≤ one_if (test place)
-    → (is_in p pages ≡ true → test place ≡ false)
-    → naming p sent ≤ one_if (test (cond (is_in p pages) to place))
-naming_same p pages sent test to place old before = at (is_in p pages) refl
+-- what a queue names, where its pages don't move
+pub naming_same : (p n : ℕ) (pages : List ℕ) (test : Place → Bool) (to place : Place)
+    → n ≤ one_if (test place) → (is_in p pages ≡ true → test place ≡ false)
+    → n ≤ one_if (test (cond (is_in p pages) to place))
+naming_same p n pages test to place old before = at (is_in p pages) refl
   where
-    at : (b : Bool) → is_in p pages ≡ b
-        → naming p sent ≤ one_if (test (cond (is_in p pages) to place))
+    at : (b : Bool) → is_in p pages ≡ b → n ≤ one_if (test (cond (is_in p pages) to place))
     at true e = (let none : one_if (test place) ≡ 0 = ap one_if (before e) in omega arith)
     at false e = (let same : one_if (test (cond (is_in p pages) to place))
         ≡ one_if (test place) = ap (λ (v : Bool). one_if (test (cond v to place))) e in omega arith)

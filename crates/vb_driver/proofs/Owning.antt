@@ -9,6 +9,8 @@ use Rattle.std.proofs.lemmas.List.{length-map}
 use Rattle.vb_model.specs.Tests.{is_in}
 use Rattle.vb_model.specs.Pages.{Block, covers, pages_of, is_aligned, is_same_block, is_wholly_free}
 use Rattle.vb_model.specs.Pages.{place_of, placed, is_free, is_used, is_giving, is_taking}
+use Rattle.vb_model.specs.Pages.{is_reporting, pages_of_all}
+use Rattle.vb_model.specs.Orderly.{times}
 use Rattle.vb_model.specs.Driver.{with_block, without_block}
 use Rattle.vb_model.specs.Refusals.{first_refusal, ◌⇒◌}
 use Rattle.vb_model.specs.declared.places.Place.{Place}
@@ -20,7 +22,7 @@ use Rattle.vb_pages.specs.FreePages.{FreePages}
 use Rattle.vb_pages.specs.PageState.{PageState}
 use Rattle.vb_pages.proofs.Sets.{in_block}
 use Rattle.vb_driver.specs.Places.{is_at}
-use Rattle.vb_driver.specs.State.{DriverState, page_state, IsDriver}
+use Rattle.vb_driver.specs.State.{DriverState, page_state, naming, IsDriver}
 use Rattle.vb_driver.specs.Answers.{block_at, alloc_tests}
 use Rattle.vb_driver.specs.Areas.{flags_of, AreApart, Becomes, is_free_at, is_covered}
 use Rattle.vb_driver.specs.Areas.{is_free_block}
@@ -30,6 +32,7 @@ use Rattle.vb_driver.proofs.Keeping.{kept_changed, there_by, free_marked}
 use Rattle.vb_driver.proofs.Placing.{marked-get}
 use Rattle.vb_driver.proofs.Moving.{free_is_place, list_all_same}
 use Rattle.vb_driver.proofs.Counting.{at_is}
+use Rattle.vb_driver.proofs.ReportTables.{block_inside}
 
 -- ---- free blocks
 
@@ -75,15 +78,6 @@ alloc_tests_same d cpu order kept =
     ∙ ap (λ (v : Bool). first_refusal
     ((nat_lt 9 order ⇒ BadOrder) ∷ (nat_le d.processors cpu ⇒ BadCpu) ∷ (not v ⇒ NoPages) ∷ []))
     (blocks_same d order kept)
-
--- a block whose last page is there lies within
-block_inside : (n : ℕ) (b : Block) → ((p : ℕ) → is_in p (pages_of b) ≡ true → p < n)
-    → b.start + 2 ^ b.order ≤ n
-block_inside n b there =
-    let some = pow_pos b.order in
-    let last = b.start + (2 ^ b.order - 1) in
-    let here : last < n = there last (in_block b.start b.order last (omega arith) (omega arith)) in
-    omega arith
 
 -- ---- blocks that are held
 
@@ -166,21 +160,24 @@ allocated_kept d areas2 b kept whole taken processors =
     let pages = pages_of b in
     let free : (p : ℕ) → is_in p pages ≡ true
     → place_of d.places p ≡ Free = λ p here. block_free d b p kept whole here in
-    kept_changed d areas2 pages Used (with_block b d.held) d.inflate d.deflate (record {
+    kept_changed d areas2 pages Used (with_block b d.held) d.inflate d.deflate
+    d.report (record {
       kept = kept;
       there = λ p here. there_by d.places p is_free refl (ap is_free (free p here));
       unreserved = λ p here. ap (is_at Reserved) (free p here);
       inflate = kept.inflate;
       deflate = kept.deflate;
-      giving = λ p. naming_same p pages d.inflate.sent is_giving Used (place_of d.places p)
+      giving = λ p. naming_same p (naming p d.inflate.sent) pages is_giving Used (place_of d.places p)
           (kept.giving p) (λ here. ap is_giving (free p here));
-      taking = λ p. naming_same p pages d.deflate.sent is_taking Used (place_of d.places p)
+      taking = λ p. naming_same p (naming p d.deflate.sent) pages is_taking Used (place_of d.places p)
           (kept.taking p) (λ here. ap is_taking (free p here));
+      report = kept.report;
+      reporting = λ p. naming_same p (times p (pages_of_all d.report.blocks)) pages is_reporting Used
+          (place_of d.places p) (kept.reporting p) (λ here. ap is_reporting (free p here));
       free = taken ∙ (ap (marked pages false) kept.free
           ∙ free_marked d.places pages pages Used false
           (λ p place is. agree place (is_in p pages)));
       processors = processors;
-      proper = refl;
       used = λ p covered. used_at p (is_in p pages) refl (sym (covered_with p b d.held) ∙ covered);
     })
   where
@@ -210,7 +207,9 @@ unallocated_kept d new kept becomes = record {
   deflate = kept.deflate;
   giving = kept.giving;
   taking = kept.taking;
-  unreported = kept.unreported;
+  statistics = kept.statistics;
+  report = kept.report;
+  reporting = kept.reporting;
   free = becomes.free ∙ kept.free;
   used = λ p covered. kept.used p (ap (is_covered p) (sym becomes.held) ∙ covered);
   reserved = kept.reserved;
@@ -262,20 +261,23 @@ block_freed_kept d new b kept held given rest processors apart =
     let pages = pages_of b in
     let used : (p : ℕ) → is_in p pages ≡ true
     → place_of d.places p ≡ Used = λ p here. block_used d b p kept held here in
-    kept_changed d new.free pages Free (without_block b d.held) d.inflate d.deflate (record {
+    kept_changed d new.free pages Free (without_block b d.held) d.inflate d.deflate
+    d.report (record {
       kept = kept;
       there = λ p here. there_by d.places p is_used refl (ap is_used (used p here));
       unreserved = λ p here. ap (is_at Reserved) (used p here);
       inflate = kept.inflate;
       deflate = kept.deflate;
-      giving = λ p. naming_same p pages d.inflate.sent is_giving Free (place_of d.places p)
+      giving = λ p. naming_same p (naming p d.inflate.sent) pages is_giving Free (place_of d.places p)
           (kept.giving p) (λ here. ap is_giving (used p here));
-      taking = λ p. naming_same p pages d.deflate.sent is_taking Free (place_of d.places p)
+      taking = λ p. naming_same p (naming p d.deflate.sent) pages is_taking Free (place_of d.places p)
           (kept.taking p) (λ here. ap is_taking (used p here));
+      report = kept.report;
+      reporting = λ p. naming_same p (times p (pages_of_all d.report.blocks)) pages is_reporting Free
+          (place_of d.places p) (kept.reporting p) (λ here. ap is_reporting (used p here));
       free = given ∙ (ap (marked pages true) kept.free
           ∙ free_marked d.places pages pages Free true (λ p place is. agree place (is_in p pages)));
       processors = processors;
-      proper = refl;
       used = λ p covered. used_at p (is_in p pages) refl covered (used p);
     })
   where

@@ -84,6 +84,30 @@ pub marked_one : {A : Type 0} (x : ℕ) (value : A) (table : List A) → x < len
 marked_one x value table lt =
     marked_more [] x value table lt ∙ ap (λ (l : List _). set l x value) (marked_none value table)
 
+-- some pages, and then others
+pub marked_append : {A : Type 0} (xs ys : List ℕ) (value : A) (table : List A)
+    → marked ys value (marked xs value table) ≡ marked (xs ++ ys) value table
+marked_append {A = A} xs ys value table =
+    let before = marked xs value table in
+    let after = marked ys value before in
+    let all = marked (xs ++ ys) value table in
+    let n1 : length before ≡ length table = length-marked xs value table in
+    let n2 : length after ≡ length before = length-marked ys value before in
+    let n3 : length all ≡ length table = length-marked (xs ++ ys) value table in
+    same_lists after all (omega arith) (λ k d near.
+    marked-get ys value before k d (omega arith)
+    ∙ (ap (λ v. cond (is_in k ys) value v) (marked-get xs value table k d (omega arith))
+    ∙ (swap (is_in k xs) (is_in k ys) value (get_or table k d)
+    ∙ sym (marked-get (xs ++ ys) value table k d (omega arith)
+    ∙ ap (λ (b : Bool). cond b value (get_or table k d))
+    (list_any-append (λ m. eqb m k) xs ys)))))
+  where
+    swap : (x y : Bool) (v old : A) → cond y v (cond x v old) ≡ cond (x || y) v old
+    swap true true v old = refl
+    swap true false v old = refl
+    swap false true v old = refl
+    swap false false v old = refl
+
 -- a block's pages, up to the next
 pub range_push : (start k : ℕ)
     → range_with_len start (suc k) ≡ range_with_len start k ++ (start + k) ∷ []
@@ -245,3 +269,18 @@ scan_ends items most i place places lt so_far full =
     let last = cond (is_at place (get_or places i Reserved)) (i ∷ []) [] in
     so_far ∙ sym (ap (take most) (pages_more (is_at place) places i Reserved lt)
     ∙ take_full most found last (omega arith))
+
+-- a page isn't among those below it
+pub not_in_first : {A : Type 0} (test : A → Bool) (xs : List A) (n : ℕ)
+    → is_in n (pages_where test (take n xs)) ≡ false
+not_in_first test xs n = below 0 (take n xs) (omega (arith, length-take n xs))
+  where
+    below : (k : ℕ) (ys : List _) → k + length ys ≤ n → is_in n (pages_from k test ys) ≡ false
+    below k [] le = refl
+    below k (y ∷ ys) le = at (test y) (below (suc k) ys (omega arith))
+      where
+        at : (b : Bool) → is_in n (pages_from (suc k) test ys) ≡ false
+            → is_in n (cond b (k ∷ pages_from (suc k) test ys) (pages_from (suc k) test ys)) ≡ false
+        at true ih = ap (λ (v : Bool). v || is_in n (pages_from (suc k) test ys))
+            (ne_eqb k n (λ e. omega arith)) ∙ ih
+        at false ih = ih

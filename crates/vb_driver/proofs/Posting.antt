@@ -21,10 +21,54 @@ use Rattle.vb_ring.proofs.EntryLaws.{entries_apart}
 use Rattle.vb_ring.proofs.MeaningLaws.{ring_apart, tracks_apart}
 use Rattle.vb_driver.specs.Coding.{Names}
 use Rattle.vb_driver.specs.State.{AreRequests}
-use Rattle.vb_driver.specs.Calls.{Posts}
+use Rattle.vb_driver.specs.Calls.{Posts, Announces}
 use Rattle.vb_driver.proofs.Buffers.{buffer_apart, names_kept}
 use Rattle.vb_driver.proofs.RequestTables.{add_gives, next_path_is, head_low, requests_added_at}
 use Rattle.vb_driver.proofs.Placing.{or_false}
+
+-- a chain of one readable piece that was published after a write to other pages
+pub record OnePiece (m1 m2 m3 : Pages) (r r2 : DriverEnd) (h a l : ℕ) : Type 0 where
+  pub put : descriptor_at m3 r.layout.table h
+      ≡ record { addr = a; len = l; flags = 0; next = 0 }
+  pub descriptors : (i : ℕ) → i < r.size → i ≢ h
+      → descriptor_at m3 r.layout.table i ≡ descriptor_at m1 r.layout.table i
+  pub others : (p : ℕ) → p ≢ r.layout.table → page_at m3 p ≡ page_at m2 p
+  pub announces : Announces m1 m3 r r2 h
+
+pub one_piece : (m1 m2 m3 : Pages) (r r2 : DriverEnd) (h a l : ℕ) → IsDriverEnd r
+    → next_head r ≡ Some h → r.layout ≡ layout_of r.layout.table r.size
+    → page_at m2 r.layout.table ≡ page_at m1 r.layout.table
+    → AddsBy m2 m3 r r2 (record { addr = a; len = l; writable = false } ∷ []) (Ok h)
+    → OnePiece m1 m2 m3 r r2 h a l
+one_piece m1 m2 m3 r r2 h a l end next layout first adds =
+    let T = r.layout.table in
+    let avail : r.layout.avail.page ≡ T = ap (λ (x : Layout). x.avail.page) layout in
+    let used : r.layout.used.page ≡ T = ap (λ (x : Layout). x.used.page) layout in
+    let path : next_path r 1 ≡ h ∷ [] = next_path_is r h next in
+    let first_avail : page_at m2 r.layout.avail.page ≡ page_at m1 r.layout.avail.page =
+    subst (λ (p : ℕ). page_at m2 p ≡ page_at m1 p) (sym avail) first in
+    let first_used : page_at m2 r.layout.used.page ≡ page_at m1 r.layout.used.page =
+    subst (λ (p : ℕ). page_at m2 p ≡ page_at m1 p) (sym used) first in
+    record {
+      put = subst (λ (p : List ℕ). descriptor_at m3 T (slice_index p 0)
+          ≡ linked p (record { addr = a; len = l; writable = false } ∷ []) 0) path
+          (adds.links.put 0 (omega arith));
+      descriptors = λ i lt ne.
+          let out : is_in i (next_path r 1) ≡ false =
+          ap (is_in i) path ∙ (or_false (eqb h i) ∙ ne_eqb h i (λ e. ne (sym e))) in
+          adds.links.others i lt out ∙ descriptor_apart m1 m2 T i first;
+      others = λ p ne. adds.publishes.rest.others p
+          (ne, ((λ e. ne (e ∙ avail)), ((λ e. ne (e ∙ avail)), tt)));
+      announces = record {
+        entries = λ heads elems counted shows. adds.entries heads elems counted
+            (entries_apart m1 m2 r.layout r.size heads elems end.fits.size first_avail first_used
+            shows);
+        shown = λ heads elems n tracks shows. adds.shown heads elems n
+            (tracks_apart m1 m2 r heads elems n first tracks)
+            (ring_apart m1 m2 r.layout r.size heads elems end.fits.size first first_avail
+            first_used shows);
+      };
+    }
 
 -- what was written and added, by plain names
 pub record Sending (m1 m2 m3 : Pages) (r r2 : DriverEnd) (sent : List (List ℕ)) (base h a l : ℕ)
@@ -49,55 +93,32 @@ pub posts_at : (m1 m2 m3 : Pages) (r r2 : DriverEnd) (sent : List (List ℕ)) (b
     base pages h
 posts_at m1 m2 m3 r r2 sent base h a l pages s adds =
     let T = r.layout.table in
-    let avail : r.layout.avail.page ≡ T = ap (λ (x : Layout). x.avail.page) s.layout in
-    let used : r.layout.used.page ≡ T = ap (λ (x : Layout). x.used.page) s.layout in
     let low = head_low r h s.requests.single s.next in
-    let path : next_path r 1 ≡ h ∷ [] = next_path_is r h s.next in
     let small : h < 16 = omega (arith, low.1, s.room) in
-    let first : page_at m2 T ≡ page_at m1 T = s.wrote.others T (omega (arith, s.low)) in
-    let first_avail : page_at m2 r.layout.avail.page ≡ page_at m1 r.layout.avail.page =
-    s.wrote.others r.layout.avail.page (omega (arith, s.low, avail)) in
-    let first_used : page_at m2 r.layout.used.page ≡ page_at m1 r.layout.used.page =
-    s.wrote.others r.layout.used.page (omega (arith, s.low, used)) in
-    let second : (p : ℕ) → p ≢ T
-    → page_at m3 p ≡ page_at m2 p =
-    λ p ne. adds.publishes.rest.others p
-    (ne, ((λ e. ne (e ∙ avail)), ((λ e. ne (e ∙ avail)), tt))) in
+    let one : OnePiece m1 m2 m3 r r2 h a l =
+    one_piece m1 m2 m3 r r2 h a l s.is_end s.next s.layout (s.wrote.others T (omega (arith, s.low)))
+    adds in
     let above : (k : ℕ) → buffer_page base k ≢ T = λ k. omega (arith, s.low) in
-    let put : descriptor_at m3 T h
-    ≡ linked (h ∷ []) (record { addr = a; len = l; writable = false } ∷ []) 0 =
-    subst (λ (p : List ℕ). descriptor_at m3 T (slice_index p 0)
-    ≡ linked p (record { addr = a; len = l; writable = false } ∷ []) 0) path
-    (adds.links.put 0 (omega arith)) in
     record {
       lowest = s.next;
       small = small;
       state = ap (λ (v : DriverEnd). record { ring = v; sent = set sent h pages }) adds.state;
       coded = record {
-        descriptor = put ∙ same_parts _ _ s.addr s.len refl refl;
+        descriptor = one.put ∙ same_parts _ _ s.addr s.len refl refl;
         names = names_kept m2 m3 (buffer_page base h) (buffer_offset h) pages
             (buffer_offset h + 1024)
             (same_page m2 m3 (buffer_page base h) (buffer_offset h) (buffer_offset h + 1024)
-            (second (buffer_page base h) (above h))) (omega (arith, s.few)) s.names;
+            (one.others (buffer_page base h) (above h))) (omega (arith, s.few)) s.names;
       };
-      descriptors = λ i lt ne.
-          let out : is_in i (next_path r 1) ≡ false =
-          ap (is_in i) path ∙ (or_false (eqb h i) ∙ ne_eqb h i (λ e. ne (sym e))) in
-          adds.links.others i lt out ∙ descriptor_apart m1 m2 T i first;
-      entries = λ heads elems counted shows. adds.entries heads elems counted
-          (entries_apart m1 m2 r.layout r.size heads elems s.is_end.fits.size first_avail first_used
-          shows);
-      shown = λ heads elems n tracks shows. adds.shown heads elems n
-          (tracks_apart m1 m2 r heads elems n first tracks)
-          (ring_apart m1 m2 r.layout r.size heads elems s.is_end.fits.size first first_avail
-          first_used shows);
+      descriptors = one.descriptors;
+      announces = one.announces;
       rest = record {
-        others = λ p ne1 ne2. second p ne1 ∙ s.wrote.others p ne2;
+        others = λ p ne1 ne2. one.others p ne1 ∙ s.wrote.others p ne2;
         buffers = λ k ne. same_trans m1 m2 m3 (buffer_page base k) (buffer_offset k)
             (buffer_offset k + 1024)
             (buffer_apart m1 m2 base h k (4 * length pages) (omega (arith, s.few)) s.wrote ne)
             (same_page m2 m3 (buffer_page base k) (buffer_offset k) (buffer_offset k + 1024)
-            (second (buffer_page base k) (above k)));
+            (one.others (buffer_page base k) (above k)));
         backing = λ p. adds.publishes.rest.backing p ∙ s.wrote.backing p;
         count = adds.publishes.rest.count ∙ s.wrote.count;
       };

@@ -18,6 +18,7 @@ use Rattle.vb_ring.specs.declared.driver.Full.{Full}
 use Rattle.vb_ring.specs.declared.driver.Full.TheVariants.{TooFewFree}
 use Rattle.vb_driver.specs.State.{Side, AreRequests}
 use Rattle.vb_driver.proofs.Placing.{or_false}
+use Rattle.vb_driver.proofs.ReportTables.{none_owned}
 
 -- ---- the next head
 
@@ -197,17 +198,10 @@ pub requests_fresh : (page size : ℕ) (sent : List (List ℕ)) → length sent 
     → AreRequests (record { ring = fresh_end (layout_of page size) size; sent = sent })
 requests_fresh page size sent len =
     record {
-      single = λ i used. (let gone : true ≡ false = sym (ap is_none (none i)) ∙ used in cc);
-      few = λ i head. (let gone : false ≡ true = sym (ap (is_own i) (none i)) ∙ head in cc);
+      single = λ i used. (let gone : true ≡ false = sym (ap is_none (none_owned size i)) ∙ used in cc);
+      few = λ i head. (let gone : false ≡ true = sym (ap (is_own i) (none_owned size i)) ∙ head in cc);
       buffers = len;
     }
-  where
-    none : (i : ℕ) → slice_index_or (replicate {A = Option ℕ} size None) i None ≡ None
-    none i = elim (cases_lt i size) [
-      | inl l ↦ get_or-replicate {A = Option ℕ} size i None None l
-      | inr past ↦ get_or_past (replicate {A = Option ℕ} size None) i None
-          (omega (arith, length-replicate {A = Option ℕ} size None))
-    ]
 
 pub requests_taken_at : (r r2 : DriverEnd) (sent : List (List ℕ)) (h i : ℕ) (blank : List ℕ)
     → AreRequests (record { ring = r; sent = sent }) → r2 ≡ after_take r (Ok (Some h)) → i ≡ h

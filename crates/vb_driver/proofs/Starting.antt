@@ -1,6 +1,6 @@
 -- A device is asked for features, and its rings begin.
-use Rattle.std.proofs.Common.{◌≡◌, ap, refl, arith, ℕ, ◌<◌, Bool, true, false, not, [], ◌∷◌, None}
-use Rattle.std.proofs.Common.{Some, Result, Ok, Err, is_err, OnOk}
+use Rattle.std.proofs.Common.{◌≡◌, ◌≢◌, ◌∙◌, sym, subst, ap, refl, arith, ℕ, ◌<◌, Bool, true}
+use Rattle.std.proofs.Common.{false, not, [], ◌∷◌, None, Some, Result, Ok, Err, is_err, OnOk}
 use Rattle.vb_model.specs.declared.replies.Refusal.{Refusal}
 use Rattle.vb_model.specs.declared.replies.Refusal.TheVariants.{OutOfOrder, FeatureNotOffered}
 use Rattle.vb_model.specs.declared.replies.Refusal.TheVariants.{MustTellMissing, VersionMissing}
@@ -8,13 +8,15 @@ use Rattle.vb_model.specs.Guest.{offered_features, must_tell_host, version_1}
 use Rattle.vb_model.specs.Refusals.{◌⇒◌, first_refusal}
 use Rattle.vb_model.specs.Status.{contains, negotiate_refusal, status_refusal, status_tests}
 use Rattle.vb_model.specs.Life.{feature_refusal, accepted_before}
-use Rattle.vb_ram.specs.Pages.{Pages}
+use Rattle.vb_ram.specs.Pages.{Pages, byte_at, SameIn}
+use Rattle.vb_ram.proofs.FieldLaws.{same_page}
 use Rattle.vb_ring.specs.Layout.{IsSize, Fits, layout_of}
 use Rattle.vb_ring.proofs.MeaningLaws.{fresh_shows, fresh_tracks}
 use Rattle.vb_status.specs.Answers.{answered_refusal}
 use Rattle.vb_status.specs.declared.bits.StatusFault.{StatusFault}
-use Rattle.vb_driver.specs.State.{fresh_at}
-use Rattle.vb_driver.specs.Coding.{AreZeroed}
+use Rattle.vb_ring.specs.Ends.{DriverEnd, fresh_end}
+use Rattle.vb_driver.specs.State.{DriverState, fresh_side, fresh_statistics, fresh_report}
+use Rattle.vb_driver.specs.Coding.{SameButPages}
 use Rattle.vb_driver.specs.Calls.{IsNewRing}
 
 -- features that are offered are refused for what FEATURES_OK needs alone
@@ -56,12 +58,42 @@ fits_at page q size = record {
 }
 
 -- a fresh queue's ring in a page of zeros
-pub new_ring : (m1 m2 : Pages) (page q : ℕ) → IsSize q → page < 4 → AreZeroed m1 m2 4
-    → IsNewRing m2 (fresh_at page q)
-new_ring m1 m2 page q size low zeroed = record {
-  shows = fresh_shows m2 (layout_of page q) q (fits_at page q size)
-      (λ k lt. zeroed.zero page k low lt) (λ k lt. zeroed.zero page k low lt);
-  tracks = fresh_tracks m2 (layout_of page q) q;
+pub new_ring : (mem : Pages) (page q : ℕ) → IsSize q
+    → ((o : ℕ) → o < 4096 → byte_at mem page o ≡ 0) → IsNewRing mem (fresh_end (layout_of page q) q)
+new_ring mem page q size zeros = record {
+  shows = fresh_shows mem (layout_of page q) q (fits_at page q size) zeros zeros;
+  tracks = fresh_tracks mem (layout_of page q) q;
+}
+
+-- the same where the first statistics buffer went out meanwhile
+pub still_new : (m1 m2 m3 : Pages) (page q : ℕ) (ring : DriverEnd)
+    → ring ≡ fresh_end (layout_of page q) q → IsSize q → page ≢ 2 → page ≢ 12
+    → SameButPages m1 m2 2 12 → m3 ≡ m2 → ((o : ℕ) → o < 4096 → byte_at m1 page o ≡ 0)
+    → IsNewRing m3 ring
+still_new m1 m2 m3 page q ring fresh size apart beyond rest told zeros =
+    let same : SameIn m1 m2 page 0 4096 =
+    same_page m1 m2 page 0 4096 (rest.others page apart beyond) in
+    subst (λ (m : Pages). IsNewRing m ring) (sym told)
+    (subst (λ (r : DriverEnd). IsNewRing m2 r) (sym fresh)
+    (new_ring m2 page q size (λ o lt. same.bytes o (omega arith) lt ∙ zeros o lt)))
+
+-- the other queues are fresh then
+pub record OthersFresh (d : DriverState) (q : ℕ) : Type 0 where
+  pub inflate : d.inflate.ring ≡ fresh_end (layout_of 0 q) q
+  pub deflate : d.deflate.ring ≡ fresh_end (layout_of 1 q) q
+  pub report : d.report.ring ≡ fresh_end (layout_of 3 q) q
+
+pub others_fresh : (d1 d2 d3 : DriverState)
+    → d2 ≡ record d1 {
+      inflate = fresh_side 0 d1.queue_size;
+      deflate = fresh_side 1 d1.queue_size;
+      statistics = fresh_statistics d1.queue_size;
+      report = fresh_report d1.queue_size;
+    } → d3 ≡ record d2 { statistics = d3.statistics } → OthersFresh d3 d1.queue_size
+others_fresh d1 d2 d3 e f = record {
+  inflate = ap (λ (d : DriverState). d.inflate.ring) f ∙ ap (λ (d : DriverState). d.inflate.ring) e;
+  deflate = ap (λ (d : DriverState). d.deflate.ring) f ∙ ap (λ (d : DriverState). d.deflate.ring) e;
+  report = ap (λ (d : DriverState). d.report.ring) f ∙ ap (λ (d : DriverState). d.report.ring) e;
 }
 
 -- ---- answers

@@ -411,15 +411,15 @@ pub record InitsBy {T : Type 0} (m1 m2 : Pages) (p1 p2 : Part) (d1 d2 : DriverSt
   pub refused : IfErr result (λ refusal. InitRefused refusal m1 m2 p1 p2 d1 d2 wanted)
   pub starts : OnOk result (Starts m1 m2 p1 p2 d1 d2 wanted)
 
--- A reset of the device: what was lent, or on its way, is stranded, the pages of a report are free,
--- and nothing is outstanding any more.
+-- A reset of the device: what was lent, or on its way, is stranded, pages that are reported are
+-- free, and nothing is outstanding any more.
 pub record ResetsBy (m1 m2 : Pages) (p1 p2 : Part) (d1 d2 : DriverState) : Type 0 where
   pub driver : IsDriver d1
   pub mem : m2 ≡ m1
   pub part : p2 ≡ part_after_reset p1
   pub state : d2 ≡ record d1 {
     places = map place_after_reset d1.places;
-    areas = areas_with (pages_of_all d1.report.blocks) d1.areas;
+    areas = areas_with (pages_where is_reporting d1.places) d1.areas;
     inflate = fresh_side 0 d1.queue_size;
     deflate = fresh_side 1 d1.queue_size;
     statistics = fresh_statistics d1.queue_size;

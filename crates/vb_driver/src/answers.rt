@@ -5,7 +5,7 @@
 pub struct Posted {
     /// The head of its chain.
     pub head: u16,
-    /// How many pages it names, 1 to 256.
+    /// How many pages it names: 1 to 256, or of a report 16 to 8,192.
     pub pages: u32,
 }
 

@@ -2,12 +2,15 @@
 
 ghost use Rattle.std.specs.Prelude.{◌≡◌, ◌<◌, ◌≤◌, ◌∷◌, [], ℕ, false, true, Ok, Err, IfOk};
 ghost use Rattle.std.specs.Prelude.{OnOk, OnErr, IsTrue, length, not, nat_lt, nat_le};
-ghost use Rattle.std.specs.Prelude.{count_by, slice_set};
+ghost use Rattle.std.specs.Prelude.{count_by, slice_set, if◌then◌else◌, map, All, List};
 ghost use Rattle.std.specs.List.{list_all};
-ghost use Rattle.vb_model.specs.Tests.{is_in};
-ghost use Rattle.vb_model.specs.Pages.{pages_of};
+ghost use Rattle.vb_model.specs.Tests.{is_in, pages_where};
+ghost use Rattle.vb_model.specs.declared.places.Place.{Place};
+ghost use Rattle.vb_model.specs.Pages.{pages_of, pages_of_all, place_of, is_free, is_reporting};
+ghost use Rattle.vb_model.specs.Pages.{reported, maximal_free_blocks};
 ghost use Rattle.vb_model.specs.Driver.{AllDistinct, with_block, without_block};
-ghost use Rattle.vb_model.specs.Limits.{max_order, max_request_pages, reserved_pages};
+ghost use Rattle.vb_model.specs.Limits.{max_order, max_outstanding, max_request_pages};
+ghost use Rattle.vb_model.specs.Limits.{reserved_pages};
 ghost use Rattle.vb_model.specs.Orderly.{times};
 ghost use Rattle.vb_model.specs.Refusals.{◌⇒◌, first_refusal};
 ghost use Rattle.vb_model.specs.declared.replies.Refusal.TheVariants.{BadOrder, BadCpu, NoPages};
@@ -17,15 +20,20 @@ ghost use Rattle.vb_pages.specs.PageState.{freed, with_free_block};
 ghost use Rattle.vb_pages.specs.PageState.{TakesFree};
 ghost use Rattle.vb_driver.specs.Answers.{refusal_in, block_at};
 ghost use Rattle.vb_driver.specs.Areas.{AreApart, Becomes, Allots, flags_of, has_block, all_given};
+ghost use Rattle.vb_driver.specs.Areas.{areas_with, areas_without};
+ghost use Rattle.vb_report.specs.Blocks.{blocks_of};
+ghost use Rattle.vb_driver.specs.State.{IsAreaBlock};
 ghost use Rattle.vb_driver.specs.Areas.{is_free_at, is_covered, is_free_block, refusal_of};
 ghost use Rattle.vb_driver.specs.Places.{marked};
 
+use crate::places::{PlaceTable, is_reporting};
 use crate::queue::RequestPages;
 use arrayvec::ArrayVec;
 use std::alloc::{AllocError, Global};
 use std::marker::Model;
-use vb_model::Refusal;
-use vb_pages::{PageFault, Pages};
+use vb_model::{Place, Refusal};
+use vb_pages::{FreeBlock, PageFault, Pages};
+use vb_report::{Blocks, reports_name_free_places};
 
 /// The areas of a guest, with the lists of the processors and the held blocks. What the driver
 /// needs beside them is which pages are free, wherever they stand.
@@ -160,6 +168,95 @@ impl Areas {
     {
         for page in pages {
             self.give_free(*page);
+        }
+    }
+
+    /// Takes the blocks of a report: the first maximal free ones of order 4 or more from a page on,
+    /// at most so many. The lists of all processors are drained first, where there is no such block
+    /// too.
+    pub(crate) fn choose(&mut self, from: u32, room: u32) -> Blocks
+        requires { room ≤ max_outstanding }
+        ensures chosen { (places : List Place) → flags_of self.old.free ≡ map is_free places
+            → blocks_of result.items ≡ reported room from (maximal_free_blocks places) }
+        ensures count { length result.items ≤ room }
+        ensures blocks { All IsAreaBlock (blocks_of result.items) }
+        ensures free { (page : ℕ) → is_in page (pages_of_all (blocks_of result.items)) ≡ true
+            → is_free_at (flags_of self.old.free) page ≡ true }
+        ensures distinct { AllDistinct (pages_of_all (blocks_of result.items)) }
+        ensures state { Becomes self.old self.new
+            (marked (pages_of_all (blocks_of result.items)) false (flags_of self.old.free))
+            self.old.held }
+        ensures areas { self.new ≡ record self.old {
+          free = areas_without (pages_of_all (blocks_of result.items)) self.old.free;
+        } }
+    {
+        // A free page is one of the guest's pages.
+        self.pages.pages_are_apart();
+        reports_name_free_places();
+        vb_report::choose(&mut self.pages, from, room)
+    }
+
+    /// Gives blocks back that were taken, no two of which share a page.
+    pub(crate) fn give_blocks(&mut self, blocks: &[FreeBlock])
+        requires blocks { All IsAreaBlock (blocks_of blocks.now) }
+        requires unreserved { (page : ℕ) → is_in page (pages_of_all (blocks_of blocks.now)) ≡ true
+            → reserved_pages ≤ page }
+        requires inside { (page : ℕ) → is_in page (pages_of_all (blocks_of blocks.now)) ≡ true
+            → page < length (flags_of self.old.free) }
+        requires taken { (page : ℕ) → is_in page (pages_of_all (blocks_of blocks.now)) ≡ true
+            → is_free_at (flags_of self.old.free) page ≡ false }
+        requires uncovered { (page : ℕ) → is_in page (pages_of_all (blocks_of blocks.now)) ≡ true
+            → is_covered page self.old.held ≡ false }
+        requires once { (page : ℕ) → times page (pages_of_all (blocks_of blocks.now)) ≤ 1 }
+        ensures state { Becomes self.old self.new
+            (marked (pages_of_all (blocks_of blocks.now)) true (flags_of self.old.free))
+            self.old.held }
+        ensures areas { self.new ≡ record self.old {
+          free = areas_with (pages_of_all (blocks_of blocks.now)) self.old.free;
+        } }
+    {
+        // A free page is one of the guest's pages.
+        self.pages.pages_are_apart();
+        vb_report::give_all(&mut self.pages, blocks);
+    }
+
+    /// Gives a page back if it is reported to the host.
+    fn give_if_reported(&mut self, page: u32, place: Place)
+        requires unreserved { is_reporting place ≡ true → reserved_pages ≤ page }
+        requires inside { page < length (flags_of self.old.free) }
+        requires taken { is_reporting place ≡ true
+            → is_free_at (flags_of self.old.free) page ≡ false }
+        requires uncovered { is_reporting place ≡ true → is_covered page self.old.held ≡ false }
+        ensures state { Becomes self.old self.new
+            (marked (if is_reporting place then page ∷ [] else []) true (flags_of self.old.free))
+            self.old.held }
+        ensures areas { self.new ≡ record self.old {
+          free = areas_with (if is_reporting place then page ∷ [] else []) self.old.free;
+        } }
+    {
+        if is_reporting(place) {
+            self.give_free(page);
+        }
+    }
+
+    /// Gives all pages back that are reported to the host.
+    pub(crate) fn give_reported(&mut self, places: &PlaceTable)
+        requires table { length places.now ≡ length (flags_of self.old.free) }
+        requires unreserved { (page : ℕ) → is_reporting (place_of places.now page) ≡ true
+            → reserved_pages ≤ page }
+        requires taken { (page : ℕ) → is_reporting (place_of places.now page) ≡ true
+            → is_free_at (flags_of self.old.free) page ≡ false }
+        requires uncovered { (page : ℕ) → is_reporting (place_of places.now page) ≡ true
+            → is_covered page self.old.held ≡ false }
+        ensures state { Becomes self.old self.new
+            (marked (pages_where is_reporting places.now) true (flags_of self.old.free))
+            self.old.held }
+        ensures areas { self.new ≡ record self.old {
+          free = areas_with (pages_where is_reporting places.now) self.old.free;
+        } }
+    {
+        for page in 0..places.pages() {
+            self.give_if_reported(page, places.place(page));
         }
     }
 }

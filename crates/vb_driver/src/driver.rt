@@ -10,6 +10,8 @@ ghost use Rattle.vb_driver.specs.Calls.{AllocatesBy, FreesBy, AreCountsOf};
 use crate::areas::Areas;
 use crate::places::PlaceTable;
 use crate::queue::RequestQueue;
+use crate::reports::ReportQueue;
+use crate::statistics::StatisticsQueue;
 use bitflags::Flags;
 use std::alloc::{AllocError, Global};
 use std::marker::Model;
@@ -31,6 +33,10 @@ pub struct Driver {
     pub(crate) inflate: RequestQueue,
     /// The deflate requests that are out.
     pub(crate) deflate: RequestQueue,
+    /// The statistics buffer.
+    pub(crate) statistics: StatisticsQueue,
+    /// The report that is out.
+    pub(crate) report: ReportQueue,
     /// The features that were accepted last.
     pub(crate) features: Features,
 }
@@ -50,6 +56,8 @@ impl Model for Driver {
       areas = d.areas.free;
       inflate = d.inflate;
       deflate = d.deflate;
+      statistics = d.statistics;
+      report = d.report;
       features = feature_bits d.features;
     } };
 
@@ -62,6 +70,8 @@ impl Model for Driver {
       areas = d.areas.free;
       inflate = d.inflate;
       deflate = d.deflate;
+      statistics = d.statistics;
+      report = d.report;
       features = feature_bits d.features;
     }) };
 }
@@ -80,6 +90,8 @@ impl Driver {
             areas: Areas::new(alloc, config.pages, config.processors)?,
             inflate: RequestQueue::new(alloc, INFLATE_RING_PAGE, config.queue_size)?,
             deflate: RequestQueue::new(alloc, DEFLATE_RING_PAGE, config.queue_size)?,
+            statistics: StatisticsQueue::new(config.queue_size),
+            report: ReportQueue::new(config.queue_size),
             features: Features::empty(),
         })
     }

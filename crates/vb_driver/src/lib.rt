@@ -9,7 +9,10 @@ mod memory;
 mod places;
 mod queue;
 mod reaping;
+mod reporting;
+mod reports;
 mod requests;
+mod statistics;
 #[cfg(test)]
 mod tests;
 

@@ -1,13 +1,16 @@
 //! A guest's driver starts, and starts over (VIRTIO 1.1, 2.1 and 3.1.1).
 
-ghost use Rattle.std.specs.Prelude.{◌≡◌, ◌<◌};
+ghost use Rattle.std.specs.Prelude.{◌≡◌, ◌<◌, ℕ};
+ghost use Rattle.vb_model.specs.Limits.{page_size};
+ghost use Rattle.vb_model.specs.Guest.{stats_vq};
+ghost use Rattle.vb_ram.specs.Pages.{byte_at};
 ghost use Rattle.vb_status.specs.After.{part_after_reset, with_new_queues};
 ghost use Rattle.vb_status.specs.Answers.{refusal_of_fault};
 ghost use Rattle.vb_status.specs.Bits.{feature_bits};
 ghost use Rattle.vb_driver.specs.Answers.{IsBacked, IsLargeEnough};
-ghost use Rattle.vb_driver.specs.State.{fresh_side};
-ghost use Rattle.vb_driver.specs.Coding.{AreZeroed, ring_pages};
-ghost use Rattle.vb_driver.specs.Calls.{IsNewRing, InitsBy, NegotiatesBy, ResetsBy};
+ghost use Rattle.vb_driver.specs.State.{IsDriver, fresh_side, fresh_statistics, fresh_report};
+ghost use Rattle.vb_driver.specs.Coding.{ring_pages};
+ghost use Rattle.vb_driver.specs.Calls.{IsNewRing, FirstBuffer, InitsBy, NegotiatesBy, ResetsBy};
 
 use crate::Driver;
 use crate::memory::{all_backed, zero_rings};
@@ -61,33 +64,56 @@ impl Driver {
         Ok(())
     }
 
-    /// Begins the rings anew in zeroed pages, and tells the device that they are ready.
+    /// Begins all queues anew, with nothing out.
+    fn renew(&mut self)
+        ensures driver { IsDriver self.old }
+        ensures state { self.new ≡ record self.old {
+          inflate = fresh_side 0 self.old.queue_size;
+          deflate = fresh_side 1 self.old.queue_size;
+          statistics = fresh_statistics self.old.queue_size;
+          report = fresh_report self.old.queue_size;
+        } }
+    {
+        self.inflate
+            .renew(INFLATE_RING_PAGE, self.config.queue_size);
+        self.deflate
+            .renew(DEFLATE_RING_PAGE, self.config.queue_size);
+        self.statistics.renew(self.config.queue_size);
+        self.report.renew(self.config.queue_size);
+    }
+
+    /// Begins the queues anew in pages of zeros, posts the first statistics buffer, and tells the
+    /// device that the queues are ready.
     fn start<P: Port>(&mut self, port: &mut P)
         requires status { (P.part port.old).status ≡ 11 }
         requires memory { IsLargeEnough (P.mem port.old) }
         requires backed { IsBacked (P.mem port.old) }
+        requires zeros { (page offset : ℕ) → page < ring_pages → offset < page_size
+            → byte_at (P.mem port.old) page offset ≡ 0 }
         ensures part { P.part port.new
             ≡ record (with_new_queues (P.part port.old)) { status = 15 } }
         ensures driver { self.new ≡ record self.old {
           inflate = fresh_side 0 self.old.queue_size;
           deflate = fresh_side 1 self.old.queue_size;
+          statistics = self.new.statistics;
+          report = fresh_report self.old.queue_size;
         } }
-        ensures inflate { IsNewRing (P.mem port.new) self.new.inflate }
-        ensures deflate { IsNewRing (P.mem port.new) self.new.deflate }
-        ensures rings { AreZeroed (P.mem port.old) (P.mem port.new) ring_pages }
+        ensures inflate { IsNewRing (P.mem port.new) self.new.inflate.ring }
+        ensures deflate { IsNewRing (P.mem port.new) self.new.deflate.ring }
+        ensures report { IsNewRing (P.mem port.new) self.new.report.ring }
+        ensures statistics { IsNewRing (P.mem port.old) (fresh_statistics self.old.queue_size) }
+        ensures buffer { FirstBuffer (stats_vq self.old.features)
+            (P.mem port.old) (P.mem port.new) self.old self.new }
     {
-        zero_rings(port);
-        self.inflate
-            .renew(INFLATE_RING_PAGE, self.config.queue_size);
-        self.deflate
-            .renew(DEFLATE_RING_PAGE, self.config.queue_size);
+        self.renew();
+        self.fill_first(port);
         let ready = port.status().union(Status::DRIVER_OK);
         let _ = port.write_status(ready);
     }
 
-    /// Initialises the device with these features (VIRTIO 1.1, 3.1.1 and 5.5.5): nothing is out
-    /// from then on, and the rings' pages are zeroed. The driver can be initialised again only once
-    /// the device was reset.
+    /// Initialises the device with these features (VIRTIO 1.1, 3.1.1 and 5.5.5): the rings' pages
+    /// are zeroed, and nothing is out from then on but the statistics buffer, where STATS_VQ is
+    /// among them. The driver can be initialised again only once the device was reset.
     ///
     /// Refused for `AlreadyUp` (the status isn't 0), `NoFrame` (one of the pages of the rings and
     /// buffers, 0 to 12, has no frame); then nothing is changed. Refused for `FeatureNotOffered`,
@@ -107,6 +133,7 @@ impl Driver {
             return Err(Refusal::NoFrame);
         }
         self.negotiate(port, wanted)?;
+        zero_rings(port);
         self.start(port);
         Ok(())
     }
@@ -119,11 +146,14 @@ impl Driver {
             self.old self.new }
     {
         let _ = port.write_status(Status::empty());
+        self.areas.give_reported(&self.places);
         self.places.strand();
         self.inflate
             .renew(INFLATE_RING_PAGE, self.config.queue_size);
         self.deflate
             .renew(DEFLATE_RING_PAGE, self.config.queue_size);
+        self.statistics.renew(self.config.queue_size);
+        self.report.renew(self.config.queue_size);
         self.features = Features::empty();
     }
 }

@@ -1,13 +1,17 @@
 //! Where each page of the guest is.
 
 ghost use Rattle.std.specs.Prelude.{◌≡◌, ◌≤◌, ◌<◌, ◌+◌, ◌^◌, ℕ, true, length, take, map, slice_set};
-ghost use Rattle.std.specs.Prelude.{count_by, IfOk};
+ghost use Rattle.std.specs.Prelude.{count_by, IfOk, All};
 ghost use Rattle.vb_model.specs.Tests.{is_in, pages_where};
 ghost use Rattle.vb_model.specs.Pages.{all_free, placed, place_of, pages_of, is_lent_or_taking};
-ghost use Rattle.vb_model.specs.Limits.{max_order, max_request_pages, reserved_pages};
+ghost use Rattle.vb_model.specs.Pages.{pages_of_all, is_reporting};
+ghost use Rattle.vb_model.specs.Limits.{max_order, max_outstanding, max_request_pages};
+ghost use Rattle.vb_model.specs.Limits.{reserved_pages};
 ghost use Rattle.vb_model.specs.declared.limits.TheConstants.{MAX_GUEST_PAGES};
 ghost use Rattle.vb_model.specs.Life.{place_after_reset};
 ghost use Rattle.vb_driver.specs.Answers.{block_at};
+ghost use Rattle.vb_report.specs.Blocks.{blocks_of};
+ghost use Rattle.vb_driver.specs.State.{IsAreaBlock};
 ghost use Rattle.vb_driver.specs.Places.{number_of, is_at};
 
 use crate::queue::RequestPages;
@@ -16,6 +20,7 @@ use std::alloc::{AllocError, Global};
 use std::marker::Model;
 use vb_model::Place;
 use vb_model::limits::RESERVED_PAGES;
+use vb_pages::FreeBlock;
 
 /// Where each page is. A contract sees the places, by page.
 #[derive(Drop)]
@@ -63,6 +68,26 @@ fn size_of(order: u32) -> u32
     1 << order
 }
 
+/// Whether a page is reported to the host.
+pub(crate) fn is_reporting(place: Place) -> bool
+    ensures { result ≡ is_reporting place }
+{
+    matches!(place, Place::Reporting)
+}
+
+/// How many pages the blocks of a report have.
+pub(crate) fn count_pages(blocks: &[FreeBlock]) -> u32
+    requires orders { All IsAreaBlock (blocks_of blocks.now) }
+    requires few { length blocks.now ≤ max_outstanding }
+    ensures { result ≡ length (pages_of_all (blocks_of blocks.now)) }
+{
+    let mut pages = 0;
+    for block in blocks {
+        pages += size_of(block.order);
+    }
+    pages
+}
+
 impl PlaceTable {
     /// The place of a page; one that isn't there counts as reserved.
     pub(crate) fn place(&self, page: u32) -> Place
@@ -72,6 +97,13 @@ impl PlaceTable {
             Some(place) => *place,
             None => Place::Reserved,
         }
+    }
+
+    /// How many pages there are.
+    pub(crate) fn pages(&self) -> u32
+        ensures { result ≡ length self.now }
+    {
+        self.places.len() as u32
     }
 
     /// Moves a page to a place.
@@ -122,6 +154,18 @@ impl PlaceTable {
         let _places = &self.places;
         for page in start..start + size_of(order) {
             self.set(page, place);
+        }
+    }
+
+    /// Moves the pages of these blocks to a place.
+    pub(crate) fn set_blocks(&mut self, blocks: &[FreeBlock], place: Place)
+        requires orders { All IsAreaBlock (blocks_of blocks.now) }
+        requires inside { (page : ℕ) → is_in page (pages_of_all (blocks_of blocks.now)) ≡ true
+            → page < length self.old }
+        ensures { self.new ≡ placed (pages_of_all (blocks_of blocks.now)) place self.old }
+    {
+        for block in blocks {
+            self.set_block(block.start, block.order, place);
         }
     }
 

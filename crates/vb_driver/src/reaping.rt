@@ -7,21 +7,25 @@ ghost use Rattle.vb_model.specs.Tests.{is_in};
 ghost use Rattle.vb_model.specs.Pages.{placed, is_lent_or_taking};
 ghost use Rattle.vb_model.specs.Status.{failed};
 ghost use Rattle.vb_model.specs.Refusals.{◌⇒◌, first_refusal};
-ghost use Rattle.vb_model.specs.declared.replies.Refusal.TheVariants.{NotReady, RingBroken};
+ghost use Rattle.vb_model.specs.declared.replies.Refusal.TheVariants.{NotReady, NoFeature};
+ghost use Rattle.vb_model.specs.declared.replies.Refusal.TheVariants.{RingBroken};
 ghost use Rattle.vb_ring.specs.Layout.{IsInside};
-ghost use Rattle.vb_ring.specs.Ends.{used_answer};
+ghost use Rattle.vb_ring.specs.Ends.{after_take, used_answer};
 ghost use Rattle.vb_ring.specs.Calls.{TakesUsedBy};
-ghost use Rattle.vb_driver.specs.State.{sent_by};
+ghost use Rattle.vb_report.specs.Blocks.{blocks_of};
+ghost use Rattle.vb_driver.specs.State.{IsReportQueue, sent_by};
 ghost use Rattle.vb_driver.specs.Answers.{IsLargeEnough, is_up, is_ring_broken, refusal_in};
 ghost use Rattle.vb_driver.specs.Calls.{ReapsBy, after_refusal, after_reap};
 
-use crate::places::PlaceTable;
+use crate::places::{PlaceTable, count_pages};
 use crate::queue::{RequestPages, RequestQueue};
+use crate::reports::ReportQueue;
 use crate::requests::is_up;
 use crate::{Driver, Reaped};
 use bitflags::Flags;
-use vb_model::layout::{DEFLATE_QUEUE, INFLATE_QUEUE};
+use vb_model::layout::{DEFLATE_QUEUE, INFLATE_QUEUE, REPORT_QUEUE};
 use vb_model::{Place, Refusal};
+use vb_report::Blocks;
 use vb_status::{Port, Status};
 
 /// Tells the device that its driver has given up.
@@ -43,7 +47,7 @@ fn take_back<P: Port>(
     requires { IsInside (P.mem port.old) queue.old.ring.layout }
     ensures refusal { refusal_in result ≡ first_refusal (
         (not (is_up (P.part port.old).status) ⇒ NotReady)
-        ∷ (is_ring_broken (P.mem port.old) queue.old ⇒ RingBroken)
+        ∷ (is_ring_broken (P.mem port.old) queue.old.ring ⇒ RingBroken)
         ∷ []) }
     ensures failed { IfErr result (λ refusal.
         P.part port.new ≡ after_refusal refusal (P.part port.old)) }
@@ -62,6 +66,51 @@ fn take_back<P: Port>(
         return Err(Refusal::NotReady);
     }
     match queue.take_used(port) {
+        Ok(used) => Ok(used),
+        Err(_) => {
+            give_up(port);
+            Err(Refusal::RingBroken)
+        }
+    }
+}
+
+/// Takes the report back if the device has used it, and gives its head and its blocks. The driver
+/// gives up where the used ring says what no device may say.
+fn take_report_back<P: Port>(
+    report: &mut ReportQueue,
+    port: &mut P,
+    accepted: bool,
+) -> Result<Option<(u16, Blocks)>, Refusal>
+    requires inside { IsInside (P.mem port.old) report.old.ring.layout }
+    requires queue { IsReportQueue report.old report.old.ring.size }
+    ensures refusal { refusal_in result ≡ first_refusal (
+        (not (is_up (P.part port.old).status) ⇒ NotReady)
+        ∷ (not accepted ⇒ NoFeature)
+        ∷ (is_ring_broken (P.mem port.old) report.old.ring ⇒ RingBroken)
+        ∷ []) }
+    ensures failed { IfErr result (λ refusal.
+        P.part port.new ≡ after_refusal refusal (P.part port.old)) }
+    ensures kept { OnErr result (report.new ≡ report.old) }
+    ensures part { OnOk result (P.part port.new ≡ P.part port.old) }
+    ensures mem { P.mem port.new ≡ P.mem port.old }
+    ensures ring { OnOk result (TakesUsedBy (P.mem port.old) report.old.ring report.new.ring
+        (used_answer (P.mem port.old) report.old.ring)) }
+    ensures next { IfOk result (λ got. MatchOption got
+        ((used_answer (P.mem port.old) report.old.ring ≡ Ok None) × (report.new ≡ report.old))
+        (λ used. (used_answer (P.mem port.old) report.old.ring ≡ Ok (Some used.0))
+        × (used.0 ≡ 0) × (blocks_of used.1.items ≡ report.old.blocks)
+        × (report.new ≡ record {
+          ring = after_take report.old.ring (Ok (Some used.0));
+          blocks = [];
+        }))) }
+{
+    if !is_up(port) {
+        return Err(Refusal::NotReady);
+    }
+    if !accepted {
+        return Err(Refusal::NoFeature);
+    }
+    match report.take_used(port) {
         Ok(used) => Ok(used),
         Err(_) => {
             give_up(port);
@@ -128,12 +177,36 @@ impl Driver {
         Ok(Some(settle(places, port, &used, Place::Free)))
     }
 
+    /// Takes back the report if the device used it: its pages are free from now on.
+    fn reap_reported<P: Port>(&mut self, port: &mut P) -> Result<Option<Reaped>, Refusal>
+        requires { IsLargeEnough (P.mem port.old) }
+        ensures { ReapsBy (P.mem port.old) (P.mem port.new) (P.part port.old) (P.part port.new)
+            self.old self.new 4 result }
+    {
+        // What holds of each driver is known from here on, where the call is refused too.
+        let places = &mut self.places;
+        let accepted = self.features.reporting();
+        let used = match take_report_back(&mut self.report, port, accepted) {
+            Ok(Some(used)) => used,
+            Ok(None) => return Ok(None),
+            Err(refusal) => return Err(refusal),
+        };
+        self.areas.give_blocks(&used.1);
+        places.set_blocks(&used.1, Place::Free);
+        port.set_actual(places.in_balloon());
+        Ok(Some(Reaped {
+            head: used.0,
+            pages: count_pages(&used.1),
+        }))
+    }
+
     /// Takes back the next request of a queue that the device used, if there is one: the pages of
-    /// an inflate request are lent from now on, those of a deflate request free. Then the device is
-    /// told how many pages are lent or asked back.
+    /// an inflate request are lent from now on, those of a deflate request or of a report free. Then
+    /// the device is told how many pages are lent or asked back.
     ///
-    /// Refused for `NoQueue` (not 0 or 1), `NotReady`, `RingBroken` (the used ring says what no
-    /// device may say: the driver gives up, by FAILED in the status); nothing else is changed then.
+    /// Refused for `NoQueue` (not 0, 1 or 4), `NotReady`, `NoFeature` (queue 4, but REPORTING wasn't
+    /// accepted), `RingBroken` (the used ring says what no device may say: the driver gives up, by
+    /// FAILED in the status); nothing else is changed then.
     pub fn reap<P: Port>(&mut self, port: &mut P, queue: u32) -> Result<Option<Reaped>, Refusal>
         requires { IsLargeEnough (P.mem port.old) }
         ensures { ReapsBy (P.mem port.old) (P.mem port.new) (P.part port.old) (P.part port.new)
@@ -145,6 +218,8 @@ impl Driver {
             self.reap_lent(port)
         } else if queue == DEFLATE_QUEUE {
             self.reap_freed(port)
+        } else if queue == REPORT_QUEUE {
+            self.reap_reported(port)
         } else {
             Err(Refusal::NoQueue)
         }

@@ -25,8 +25,12 @@ enum Step {
     Inflate(u32),
     Deflate(u32),
     Oom(u32),
+    /// Free blocks are reported from a page on.
+    Report(u32),
     /// A used request of a queue is taken back.
     Reap(u32),
+    /// The statistics buffer is filled anew, where it was used.
+    Stats,
     /// The host sets its target.
     SetTarget(u32),
     /// The device has used a request of a queue: its head, and how many it has used by then.
@@ -105,6 +109,7 @@ enum Request {
     Inflate,
     Deflate,
     Oom,
+    Report,
 }
 
 /// A driver, and the port through which it reaches its device.
@@ -162,7 +167,8 @@ impl Guest {
         }
     }
 
-    /// Posts a request; a device that is up needs frames for its rings and buffers.
+    /// Posts a request for so many pages, or a report from a page on; a device that is up needs
+    /// frames for its rings and buffers.
     fn post(&mut self, request: Request, pages: u32) -> Result<Answer, Refusal> {
         if self.port.pages() < 64 || is_up(&self.port) && !all_backed(&mut self.port) {
             return Err(Refusal::OutOfRam);
@@ -171,6 +177,7 @@ impl Guest {
             Request::Inflate => self.driver.inflate(&mut self.port, pages)?,
             Request::Deflate => self.driver.deflate(&mut self.port, pages)?,
             Request::Oom => self.driver.oom(&mut self.port, pages)?,
+            Request::Report => self.driver.report(&mut self.port, pages)?,
         };
         Ok(Answer::Posted(head, pages))
     }
@@ -185,6 +192,13 @@ impl Guest {
         }
     }
 
+    fn stats(&mut self) -> Result<Answer, Refusal> {
+        if self.port.pages() < 64 || is_up(&self.port) && !all_backed(&mut self.port) {
+            return Err(Refusal::OutOfRam);
+        }
+        Ok(Answer::Is(self.driver.stats(&mut self.port)?))
+    }
+
     fn init(&mut self, features: u64) -> Result<(), Refusal> {
         if self.port.pages() < 64 {
             return Err(Refusal::OutOfRam);
@@ -196,11 +210,10 @@ impl Guest {
     /// Writes what a device would: the used ring of 8 descriptors has its index at byte 154 of its
     /// page, and then an element of 8 bytes for each request, which begins with the head.
     fn use_request(&mut self, queue: u32, head: u8, used: u8) {
+        let page = if queue == 4 { 3 } else { queue };
         let element = 148 + 8 * usize::from(used);
-        let _ = self
-            .port
-            .write(queue, element, &[head, 0, 0, 0, 0, 0, 0, 0]);
-        let _ = self.port.write(queue, 154, &[used, 0]);
+        let _ = self.port.write(page, element, &[head, 0, 0, 0, 0, 0, 0, 0]);
+        let _ = self.port.write(page, 154, &[used, 0]);
     }
 
     fn answer(&mut self, step: Step) -> Result<Answer, Refusal> {
@@ -212,7 +225,9 @@ impl Guest {
             Step::Inflate(pages) => return self.post(Request::Inflate, pages),
             Step::Deflate(pages) => return self.post(Request::Deflate, pages),
             Step::Oom(pages) => return self.post(Request::Oom, pages),
+            Step::Report(from) => return self.post(Request::Report, from),
             Step::Reap(queue) => return self.reap(queue),
+            Step::Stats => return self.stats(),
             Step::SetTarget(pages) => self.port.set_target(pages),
             Step::Use(queue, head, used) => self.use_request(queue, head, used),
             Step::See(sight) => return Ok(self.see(sight)),
@@ -454,6 +469,155 @@ fn has_as_many_requests_as_descriptors(rt: HostRuntime) -> Result<(), Fail> {
     expect(&rt, rt.alloc(), 13, &FULL)
 }
 
+/// The descriptor of the statistics buffer: 20 bytes at address 0xc000 that the device reads.
+const FIGURES_AT: [u8; 16] = [0, 0xc0, 0, 0, 0, 0, 0, 0, 20, 0, 0, 0, 0, 0, 0, 0];
+
+/// How the buffer begins with 48, 44 and 32 free pages: tag 4, their bytes, and tag 5.
+const FREE_48: [u8; 16] = [4, 0, 0, 0, 3, 0, 0, 0, 0, 0, 5, 0, 0, 0, 4, 0];
+
+const FREE_44: [u8; 16] = [4, 0, 0, 0xc0, 2, 0, 0, 0, 0, 0, 5, 0, 0, 0, 4, 0];
+
+const FREE_32: [u8; 16] = [4, 0, 0, 0, 2, 0, 0, 0, 0, 0, 5, 0, 0, 0, 4, 0];
+
+/// What follows: the rest of the bytes of all 64 pages, and nothing.
+const ALL_64: [u8; 16] = [4, 0, 0, 0, 0, 0, 0, 0, 0, 0, 0, 0, 0, 0, 0, 0];
+
+/// An available ring in which head 0 was published twice.
+const AVAILABLE_AGAIN: [u8; 16] = [0, 0, 2, 0, 0, 0, 0, 0, 0, 0, 0, 0, 0, 0, 0, 0];
+
+const ZEROS: [u8; 16] = [0; 16];
+
+static STATISTICS: [Line; 19] = [
+    (Step::Stats, Err(Refusal::NotReady)),
+    (Step::Init(ALL), DONE),
+    (Step::See(Sight::Shows(2, 0, FIGURES_AT)), YES),
+    (Step::See(Sight::Shows(2, 128, AVAILABLE)), YES),
+    (Step::See(Sight::Shows(12, 0, FREE_48)), YES),
+    (Step::See(Sight::Shows(12, 14, ALL_64)), YES),
+    (Step::Alloc(0, 4), Ok(Answer::Page(16))),
+    (Step::Stats, NO),
+    (Step::See(Sight::Shows(12, 0, FREE_48)), YES),
+    (Step::See(Sight::Shows(2, 128, AVAILABLE)), YES),
+    (Step::Use(2, 0, 1), DONE),
+    (Step::Stats, YES),
+    (Step::See(Sight::Shows(12, 0, FREE_32)), YES),
+    (Step::See(Sight::Shows(2, 128, AVAILABLE_AGAIN)), YES),
+    (Step::Stats, NO),
+    (Step::Use(2, 0, 2), DONE),
+    (Step::Stats, YES),
+    (Step::Reset, DONE),
+    (Step::Stats, Err(Refusal::NotReady)),
+];
+
+#[test]
+fn fills_the_statistics_buffer(rt: HostRuntime) -> Result<(), Fail> {
+    expect(&rt, rt.alloc(), 13, &STATISTICS)
+}
+
+static NO_STATISTICS: [Line; 8] = [
+    (Step::Init(0x1_0000_0001), DONE),
+    (Step::See(Sight::Shows(2, 0, ZEROS)), YES),
+    (Step::See(Sight::Shows(2, 128, ZEROS)), YES),
+    (Step::See(Sight::Shows(12, 0, ZEROS)), YES),
+    (Step::Stats, Err(Refusal::NoFeature)),
+    (Step::Use(2, 0, 1), DONE),
+    (Step::Stats, Err(Refusal::NoFeature)),
+    (Step::See(Sight::Status), Ok(Answer::Number(15))),
+];
+
+#[test]
+fn has_no_statistics_without_the_feature(rt: HostRuntime) -> Result<(), Fail> {
+    expect(&rt, rt.alloc(), 13, &NO_STATISTICS)
+}
+
+static BROKEN_STATISTICS: [Line; 15] = [
+    (Step::SetTarget(4), DONE),
+    (Step::Init(ALL), DONE),
+    (Step::Use(2, 0, 2), DONE),
+    (Step::Stats, Err(Refusal::RingBroken)),
+    (Step::See(Sight::Status), Ok(Answer::Number(143))),
+    (Step::Stats, Err(Refusal::NotReady)),
+    (Step::Reset, DONE),
+    (Step::Init(ALL), DONE),
+    (Step::Inflate(4), Ok(Answer::Posted(0, 4))),
+    (Step::Use(2, 1, 1), DONE),
+    (Step::Stats, Err(Refusal::RingBroken)),
+    (Step::See(Sight::Status), Ok(Answer::Number(143))),
+    (Step::Reset, DONE),
+    (Step::Init(ALL), DONE),
+    (Step::See(Sight::Shows(12, 0, FREE_44)), YES),
+];
+
+#[test]
+fn gives_up_on_a_broken_ring_of_statistics(rt: HostRuntime) -> Result<(), Fail> {
+    expect(&rt, rt.alloc(), 13, &BROKEN_STATISTICS)
+}
+
+static REPORTS: [Line; 22] = [
+    (Step::Report(0), Err(Refusal::NotReady)),
+    (Step::Reap(4), Err(Refusal::NotReady)),
+    (Step::Init(0x1_0000_0007), DONE),
+    (Step::Report(0), Err(Refusal::NoFeature)),
+    (Step::Reap(4), Err(Refusal::NoFeature)),
+    (Step::Reset, DONE),
+    (Step::Init(ALL), DONE),
+    (Step::Reap(4), Ok(Answer::NoneUsed)),
+    (Step::Report(40), Err(Refusal::Nothing)),
+    (Step::Report(17), Ok(Answer::Posted(0, 32))),
+    (Step::See(Sight::At(Place::Reporting, 32, 64)), YES),
+    (Step::See(Sight::At(Place::Free, 16, 32)), YES),
+    (Step::Report(0), Err(Refusal::QueueFull)),
+    (Step::Alloc(0, 5), Err(Refusal::NoPages)),
+    (Step::Use(4, 0, 1), DONE),
+    (Step::Reap(4), Ok(Answer::Reaped(0, 32))),
+    (Step::See(Sight::Counts(48, 0)), YES),
+    (Step::Reap(4), Ok(Answer::NoneUsed)),
+    (Step::Alloc(0, 5), Ok(Answer::Page(32))),
+    (Step::Report(0), Ok(Answer::Posted(0, 16))),
+    (Step::Use(4, 1, 2), DONE),
+    (Step::Reap(4), Err(Refusal::RingBroken)),
+];
+
+#[test]
+fn reports_free_blocks(rt: HostRuntime) -> Result<(), Fail> {
+    expect(&rt, rt.alloc(), 13, &REPORTS)
+}
+
+/// A chain of 64 KiB from page 16 on, for the device to write, which goes on at descriptor 1.
+const FIRST_BLOCK: [u8; 16] = [0, 0, 1, 0, 0, 0, 0, 0, 0, 0, 1, 0, 3, 0, 1, 0];
+
+/// And of 128 KiB from page 32 on.
+const SECOND_BLOCK: [u8; 16] = [0, 0, 2, 0, 0, 0, 0, 0, 0, 0, 2, 0, 2, 0, 0, 0];
+
+static ALL_REPORTED: [Line; 21] = [
+    (Step::Init(ALL), DONE),
+    (Step::Alloc(0, 0), Ok(Answer::Page(16))),
+    (Step::Free(0, 16, 0), DONE),
+    (Step::Report(0), Ok(Answer::Posted(0, 48))),
+    (Step::See(Sight::At(Place::Reporting, 16, 64)), YES),
+    (Step::See(Sight::Shows(3, 0, FIRST_BLOCK)), YES),
+    (Step::See(Sight::Shows(3, 16, SECOND_BLOCK)), YES),
+    (Step::See(Sight::Shows(3, 128, AVAILABLE)), YES),
+    (Step::Alloc(0, 0), Err(Refusal::NoPages)),
+    (Step::See(Sight::Actual), Ok(Answer::Number(0))),
+    (Step::Use(4, 0, 1), DONE),
+    (Step::Reap(4), Ok(Answer::Reaped(0, 48))),
+    (Step::See(Sight::Counts(48, 0)), YES),
+    (Step::See(Sight::Told), Ok(Answer::Number(0))),
+    (Step::Report(0), Ok(Answer::Posted(0, 48))),
+    (Step::Reset, DONE),
+    (Step::See(Sight::Counts(48, 0)), YES),
+    (Step::Alloc(0, 5), Ok(Answer::Page(32))),
+    (Step::Free(0, 32, 5), DONE),
+    (Step::Init(ALL), DONE),
+    (Step::Report(0), Ok(Answer::Posted(0, 48))),
+];
+
+#[test]
+fn hands_no_reported_page_out(rt: HostRuntime) -> Result<(), Fail> {
+    expect(&rt, rt.alloc(), 13, &ALL_REPORTED)
+}
+
 /// What a driver does to its port.
 #[derive(Clone, Copy, PartialEq)]
 enum Deed {
@@ -578,11 +742,20 @@ impl Watched {
             && self.driver.inflate(&mut self.port, 4).is_ok()
             && self.port.awaited.met == deeds.len()
     }
+
+    /// Whether a report ends with these deeds.
+    fn reports_by(&mut self, deeds: &'static [Deed]) -> bool {
+        self.port.awaited = Awaited { deeds, met: 0 };
+        self.port.pages() >= 64
+            && all_backed(&mut self.port)
+            && self.driver.report(&mut self.port, 0).is_ok()
+            && self.port.awaited.met == deeds.len()
+    }
 }
 
-/// The four rings' pages are zeroed after the features are agreed on, and before DRIVER_OK
-/// (VIRTIO 1.1, 3.1.1).
-static INIT_DEEDS: [Deed; 10] = [
+/// The four rings' pages are zeroed after the features are agreed on, and the statistics buffer is
+/// filled and posted, before DRIVER_OK (VIRTIO 1.1, 3.1.1 and 5.5.6.3).
+static INIT_DEEDS: [Deed; 14] = [
     Deed::Status(11),
     Deed::Write(0, Part::Descriptors),
     Deed::Write(0, Part::Available),
@@ -592,6 +765,10 @@ static INIT_DEEDS: [Deed; 10] = [
     Deed::Write(2, Part::Available),
     Deed::Write(3, Part::Descriptors),
     Deed::Write(3, Part::Available),
+    Deed::Write(12, Part::Buffers),
+    Deed::Write(2, Part::Descriptors),
+    Deed::Write(2, Part::Available),
+    Deed::Write(2, Part::AvailableIndex),
     Deed::Status(15),
 ];
 
@@ -604,13 +781,22 @@ static INFLATE_DEEDS: [Deed; 4] = [
     Deed::Write(0, Part::AvailableIndex),
 ];
 
+/// The same of a report, which has no buffer of its own.
+static REPORT_DEEDS: [Deed; 3] = [
+    Deed::Write(3, Part::Descriptors),
+    Deed::Write(3, Part::Available),
+    Deed::Write(3, Part::AvailableIndex),
+];
+
 fn are_in_order(guest: Guest) -> bool {
     let Guest { driver, mut port } = guest;
     port.set_target(4);
     let awaited = Awaited { deeds: &[], met: 0 };
     let port = Recorder { port, awaited };
     let mut watched = Watched { driver, port };
-    watched.inits_by(&INIT_DEEDS) && watched.inflates_by(&INFLATE_DEEDS)
+    watched.inits_by(&INIT_DEEDS)
+        && watched.inflates_by(&INFLATE_DEEDS)
+        && watched.reports_by(&REPORT_DEEDS)
 }
 
 #[test]

@@ -10,7 +10,7 @@ use Rattle.vb_model.specs.Guest.{Guest}
 use Rattle.vb_model.specs.Driver.{with_block}
 use Rattle.vb_ram.specs.Pages.{Pages}
 use Rattle.vb_ram.specs.Part.{Part}
-use Rattle.vb_driver.specs.State.{FreePages, Side, DriverState}
+use Rattle.vb_driver.specs.State.{FreePages, DriverState}
 use Rattle.vb_driver.specs.Answers.{block_at}
 use Rattle.vb_driver.specs.Calls.{AllocatesBy}
 use Rattle.vb_guest.specs.Stands.{Honest, Ties}
@@ -18,21 +18,22 @@ use Rattle.vb_guest.specs.Steps.{StepsAlone}
 use Rattle.vb_guest.specs.Replies.{page_reply}
 use Rattle.vb_guest.proofs.Closing.{honest_performed, honest_refused, steps_alone, ties_areas}
 use Rattle.vb_guest.proofs.Writing.{idle_still}
-use Rattle.vb_guest.proofs.Normal.{driver_of, driver_is, keeps_own}
+use Rattle.vb_guest.proofs.Normal.{Sides, sides_of, driver_of, driver_is, keeps_own}
 
-by_result : (m : Pages) (p : Part) (g : Guest) (areas : FreePages) (si sd : Side) (d2 : DriverState)
+by_result : (m : Pages) (p : Part) (g : Guest) (areas : FreePages) (sides : Sides)
+    (d2 : DriverState)
     (cpu order : ℕ) (result : Result ℕ Refusal)
-    → AllocatesBy (driver_of g areas si sd) d2 cpu order result
-    → Honest m p (driver_of g areas si sd) g
+    → AllocatesBy (driver_of g areas sides) d2 cpu order result
+    → Honest m p (driver_of g areas sides) g
     → StepsAlone (Honest m p d2) g (Alloc cpu order) (page_reply result)
-by_result m p g areas si sd d2 cpu order (Err why) did stands =
-    let before = driver_of g areas si sd in
+by_result m p g areas sides d2 cpu order (Err why) did stands =
+    let before = driver_of g areas sides in
     let refusal = sym did.refusal in
     steps_alone m m p p before d2 g (Alloc cpu order) (Refused why) g stands
     (honest_refused g (Alloc cpu order) why refusal)
     (subst (λ d. Ties m p d g) (sym did.refused) (ties_areas m p before g d2.areas stands.ties))
     refl
-by_result m p g areas si sd d2 cpu order (Ok start) did stands =
+by_result m p g areas sides d2 cpu order (Ok start) did stands =
     let ties = stands.ties in
     let new : Guest = record g {
       places = placed (pages_of (block_at start order)) Used g.places;
@@ -40,27 +41,31 @@ by_result m p g areas si sd d2 cpu order (Ok start) did stands =
     } in
     let step = honest_performed g (Alloc cpu order) [] (Page start) new (sym did.refusal)
     (refl, (start, did.free, refl, refl)) in
-    let after : DriverState = driver_of new d2.areas si sd in
+    let after : DriverState = driver_of new d2.areas sides in
     let there : Ties m p after new = record {
       parts = record {
         guest = ties.parts.guest;
-        driver = keeps_own new _ _ _;
+        driver = keeps_own new _ _;
         device = ties.parts.device;
       };
       pages = ties.pages;
       queues = elim ties.queues [
-        | inl idle ↦ inl (idle_still g new refl refl refl refl refl refl refl idle)
+        | inl idle ↦ inl (idle_still g new refl refl refl refl refl refl refl refl refl idle)
         | inr run ↦ inr (record {
           state = run.state;
           backed = run.backed;
           inflate_size = run.inflate_size;
           deflate_size = run.deflate_size;
+          statistics_size = run.statistics_size;
+          report_size = run.report_size;
+          statistics = run.statistics;
+          report = run.report;
           inflate = run.inflate;
           deflate = run.deflate;
         })
       ];
     } in
-    steps_alone m m p p (driver_of g areas si sd) d2 g (Alloc cpu order) (Page start) new stands
+    steps_alone m m p p (driver_of g areas sides) d2 g (Alloc cpu order) (Page start) new stands
     step (subst (λ d. Ties m p d new) (sym did.state) there) refl
 
 pub alloc_step : (m : Pages) (p : Part) (d1 d2 : DriverState) (g : Guest) (cpu order : ℕ)
@@ -69,6 +74,6 @@ pub alloc_step : (m : Pages) (p : Part) (d1 d2 : DriverState) (g : Guest) (cpu o
     → StepsAlone (Honest m p d2) g (Alloc cpu order) (page_reply result)
 alloc_step m p d1 d2 g cpu order result did stands =
     let is = driver_is p d1 g stands.ties.parts in
-    by_result m p g d1.areas d1.inflate d1.deflate d2 cpu order result
+    by_result m p g d1.areas (sides_of d1) d2 cpu order result
     (subst (λ d. AllocatesBy d d2 cpu order result) is did)
     (subst (λ d. Honest m p d g) is stands)

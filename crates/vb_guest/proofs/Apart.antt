@@ -1,6 +1,6 @@
--- What leaves a queue of requests alone.
-use Rattle.std.specs.Prelude.{◌≡◌, ℕ, ◌+◌, ◌*◌, ◌<◌, ◌≤◌, List, ◌++◌, length, slice_index_or}
-use Rattle.std.proofs.Common.{sym, ◌∙◌, ap, arith}
+-- What leaves a queue alone.
+use Rattle.std.specs.Prelude.{◌≡◌, ℕ, ◌+◌, ◌*◌, ◌<◌, ◌≤◌, List, length, slice_index_or}
+use Rattle.std.proofs.Common.{◌∙◌, arith}
 use Rattle.vb_model.specs.Layout.{ring_page, buffers_page, buffer_page, buffer_offset}
 use Rattle.vb_model.specs.Requests.{Request, Requests}
 use Rattle.vb_ram.specs.Pages.{Pages, page_at, SameIn}
@@ -8,10 +8,11 @@ use Rattle.vb_ram.specs.Part.{QueuePart}
 use Rattle.vb_ram.proofs.FieldLaws.{field_in, same_page}
 use Rattle.vb_chain.specs.Table.{descriptor_at}
 use Rattle.vb_chain.proofs.TableLaws.{descriptor_apart}
-use Rattle.vb_ring.proofs.MeaningLaws.{ring_apart, tracks_apart}
+use Rattle.vb_ring.specs.Ends.{DriverEnd}
 use Rattle.vb_driver.specs.Coding.{Names, IsCoded}
 use Rattle.vb_driver.specs.State.{Side}
-use Rattle.vb_guest.specs.Line.{Line, IsRequest, heads_of, used_of}
+use Rattle.vb_guest.specs.Line.{Line, IsRequest, RingOf, heads_of}
+use Rattle.vb_guest.proofs.RingApart.{ring_apart}
 
 -- page numbers in a buffer that a write leaves
 pub names_kept : (old new : Pages) (p o : ℕ) (xs : List ℕ) (hi : ℕ) → SameIn old new p o hi
@@ -42,43 +43,30 @@ coded_kept old new q n size sent r is descriptor page code = record {
       code.names;
 }
 
-pub in_page : (q : ℕ) (page : ℕ) (old new : Pages) → page ≡ ring_page q
-    → page_at new (ring_page q) ≡ page_at old (ring_page q) → page_at new page ≡ page_at old page
-in_page q page old new e same =
-    ap (λ (p : ℕ). page_at new p) e ∙ same ∙ sym (ap (λ (p : ℕ). page_at old p) e)
+-- the ring of a queue whose page is as before
+pub requests_apart : (old new : Pages) (q : ℕ) (ring : DriverEnd) (part : QueuePart)
+    (rs : Requests) → page_at new (ring_page q) ≡ page_at old (ring_page q)
+    → RingOf old q ring part rs → RingOf new q ring part rs
+requests_apart old new q ring part rs same stands =
+    ring_apart old new q ring part.next_avail part.next_used (heads_of rs.posted)
+    (heads_of rs.taken) (heads_of rs.done) same stands
 
 pub line_apart : (old new : Pages) (q n : ℕ) (side : Side) (part : QueuePart) (rs : Requests)
     → SameLine old new q → Line old q n side part rs → Line new q n side part rs
-line_apart old new q n side part rs same line =
-    let l = side.ring.layout in
-    let table = in_page q l.table old new (ap (λ x. x.table) line.layout) same.ring in
-    let avail = in_page q l.avail.page old new (ap (λ x. x.avail.page) line.layout) same.ring in
-    let used = in_page q l.used.page old new (ap (λ x. x.used.page) line.layout) same.ring in
-    record {
-      sized = line.sized;
-      layout = line.layout;
-      buffers = line.buffers;
-      before = line.before;
-      gone = line.gone;
-      shows = ring_apart old new l side.ring.size (line.before ++ heads_of rs.posted)
-          (line.gone ++ used_of rs.done) line.sized table avail used line.shows;
-      tracks = tracks_apart old new side.ring (line.before ++ heads_of rs.posted)
-          (line.gone ++ used_of rs.done) (length line.gone) table line.tracks;
-      next_avail = line.next_avail;
-      next_used = line.next_used;
-      counted = line.counted;
-      balance = line.balance;
-      posted = line.posted;
-      taken = line.taken;
-      done = line.done;
-      coded = λ k d lt.
-          let x = slice_index_or rs.posted k d in
-          let is = line.posted k d lt in
-          coded_kept old new q n side.ring.size side.sent x is
-          (descriptor_apart old new (ring_page q) x.head same.ring)
-          (same.buffers _ (omega arith) (omega (arith, is.few))) (line.coded k d lt);
-      remembers = line.remembers;
-    }
+line_apart old new q n side part rs same line = record {
+  ring = requests_apart old new q side.ring part rs same.ring line.ring;
+  buffers = line.buffers;
+  posted = line.posted;
+  taken = line.taken;
+  done = line.done;
+  coded = λ k d lt.
+      let x = slice_index_or rs.posted k d in
+      let is = line.posted k d lt in
+      coded_kept old new q n side.ring.size side.sent x is
+      (descriptor_apart old new (ring_page q) x.head same.ring)
+      (same.buffers _ (omega arith) (omega (arith, is.few))) (line.coded k d lt);
+  remembers = line.remembers;
+}
 
 -- pages above those of rings and buffers are no queue's
 pub above_apart : (old new : Pages) (q : ℕ) → ring_page q < 16 → buffers_page q + 4 ≤ 16

@@ -10,8 +10,8 @@ use Rattle.vb_chain.specs.Rules.{piece_of}
 use Rattle.vb_chain.specs.Chain.{ChainGives}
 use Rattle.vb_chain.proofs.ChainLaws.{single_chain, no_fault}
 use Rattle.vb_driver.specs.Coding.{IsCoded, buffer_of}
-use Rattle.vb_device.specs.Request.{page_request}
-use Rattle.vb_device.proofs.OneRequest.{one_request}
+use Rattle.vb_request.specs.Request.{page_request}
+use Rattle.vb_request.proofs.OneRequest.{one_request}
 use Rattle.vb_guest.specs.Line.{IsRequest}
 
 -- its chain is one readable buffer

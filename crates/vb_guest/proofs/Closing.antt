@@ -95,8 +95,12 @@ ties_areas m p d g areas ties = record {
       backed = run.backed;
       inflate_size = run.inflate_size;
       deflate_size = run.deflate_size;
+      statistics_size = run.statistics_size;
+      report_size = run.report_size;
       inflate = run.inflate;
       deflate = run.deflate;
+      statistics = run.statistics;
+      report = run.report;
     })
   ];
 }
@@ -114,8 +118,12 @@ ties_own m p d g own ties = record {
       backed = run.backed;
       inflate_size = run.inflate_size;
       deflate_size = run.deflate_size;
+      statistics_size = run.statistics_size;
+      report_size = run.report_size;
       inflate = run.inflate;
       deflate = run.deflate;
+      statistics = run.statistics;
+      report = run.report;
     })
   ];
 }

@@ -25,7 +25,7 @@ use Rattle.vb_ram.specs.Part.{Part}
 use Rattle.vb_ring.specs.Ends.{outstanding as outstanding_in}
 use Rattle.vb_driver.specs.declared.answers.Posted.{Posted as PostedRequest}
 use Rattle.vb_driver.specs.Coding.{SameButBuffer}
-use Rattle.vb_driver.specs.State.{FreePages, Side, DriverState, IsDriver}
+use Rattle.vb_driver.specs.State.{FreePages, DriverState, IsDriver}
 use Rattle.vb_driver.specs.Answers.{refusal_in, deflate_tests, oom_tests}
 use Rattle.vb_driver.specs.Answers.{deflate_count as driver_count}
 use Rattle.vb_driver.specs.Calls.{Unchanged, AsksBack, DeflatesBy, DeflatesOnOomBy}
@@ -33,12 +33,14 @@ use Rattle.vb_guest.specs.Stands.{Honest, Ties, IsRunning}
 use Rattle.vb_guest.specs.Steps.{StepsAlone}
 use Rattle.vb_guest.specs.Replies.{posted_reply}
 use Rattle.vb_guest.proofs.Apart.{line_apart}
+use Rattle.vb_guest.proofs.BufferLines.{buffer_apart}
+use Rattle.vb_guest.proofs.ReportLines.{report_apart}
 use Rattle.vb_guest.proofs.Posting.{line_posted, least_head, outstanding_are}
 use Rattle.vb_guest.proofs.PagesKept.{pages_same}
 use Rattle.vb_guest.proofs.Closing.{honest_performed, steps_alone, refused_alone}
 use Rattle.vb_guest.proofs.Offered.{last_sound, deflate_requested}
 use Rattle.vb_guest.proofs.InflateStep.{request_refusal, posted_same, post_apart}
-use Rattle.vb_guest.proofs.Normal.{driver_of, driver_is, keeps_own}
+use Rattle.vb_guest.proofs.Normal.{Sides, sides_of, driver_of, driver_is, keeps_own}
 
 -- ---- the lowest lent pages are as many as were asked for
 
@@ -79,18 +81,18 @@ record IsAsking (g : Guest) (call : Call) (count : ℕ) : Type 0 where
   performs : (reply : Reply) (new : Guest) → Deflates count g reply new
       → Performs call g [] reply new
 
-asked_back : (m1 m2 : Pages) (p1 p2 : Part) (g : Guest) (areas : FreePages) (si sd : Side)
+asked_back : (m1 m2 : Pages) (p1 p2 : Part) (g : Guest) (areas : FreePages) (sides : Sides)
     (d2 : DriverState) (call : Call) (count : ℕ) (posted : PostedRequest)
-    → IsAsking g call count → IsDriver (driver_of g areas si sd)
-    → AsksBack m1 m2 p1 p2 (driver_of g areas si sd) d2 count posted
-    → Honest m1 p1 (driver_of g areas si sd) g → IsRunning m1 p1 (driver_of g areas si sd) g
+    → IsAsking g call count → IsDriver (driver_of g areas sides)
+    → AsksBack m1 m2 p1 p2 (driver_of g areas sides) d2 count posted
+    → Honest m1 p1 (driver_of g areas sides) g → IsRunning m1 p1 (driver_of g areas sides) g
     → refusal_of g call ≡ None
     → StepsAlone (Honest m2 p2 d2) g call (Posted posted.head posted.pages)
-asked_back m1 m2 p1 p2 g areas si sd d2 call count posted asks driver did stands run free =
+asked_back m1 m2 p1 p2 g areas sides d2 call count posted asks driver did stands run free =
     let ties = stands.ties in
     let pages = lowest_lent count g in
     let single = driver.deflate.requests in
-    let least = least_head m1 1 g.config.pages sd p1.deflate g.deflate posted.head run.deflate
+    let least = least_head m1 1 sides.deflate p1.deflate g.deflate posted.head run.deflate.ring
     single did.posts.lowest in
     let new : Guest = asking Deflating posted.head pages g in
     let reply = ap (λ (k : ℕ). Posted posted.head k) did.pages in
@@ -104,18 +106,18 @@ asked_back m1 m2 p1 p2 g areas si sd d2 call count posted asks driver did stands
     let length_is : length pages ≡ count = length-lent g count asks.lent in
     let asked = deflate_requested g count stands.orderly once
     (omega (arith, length_is, asks.some free run.state)) (omega (arith, length_is, asks.few)) in
-    let line = line_posted m1 m2 1 g.config.pages sd d2.deflate p1.deflate g.deflate posted.head
-    pages (omega arith) single asked run.deflate did.posts in
-    let table : sd.ring.layout.table ≡ 1 = ap (λ l. l.table) run.deflate.layout in
+    let line = line_posted m1 m2 1 g.config.pages sides.deflate d2.deflate p1.deflate g.deflate
+    posted.head pages (omega arith) single asked run.deflate did.posts in
+    let table : sides.deflate.ring.layout.table ≡ 1 = ap (λ l. l.table) run.deflate.ring.layout in
     let B : ℕ → Type 0 = λ r. SameButBuffer m1 m2 r 8 posted.head in
     let rest : B 1 = subst B table did.posts.rest in
     let apart = post_apart m1 m2 1 8 posted.head 0 (omega arith) (omega arith)
     (λ p from to. (omega arith, omega (arith, did.posts.small))) rest in
-    let after : DriverState = driver_of new areas si d2.deflate in
+    let after : DriverState = driver_of new areas (record sides { deflate = d2.deflate }) in
     let there : Ties m2 p1 after new = record {
       parts = record {
         guest = ties.parts.guest;
-        driver = keeps_own new _ _ _;
+        driver = keeps_own new _ _;
         device = ties.parts.device;
       };
       pages = pages_same m1 m2 g.config.pages _ _
@@ -126,32 +128,40 @@ asked_back m1 m2 p1 p2 g areas si sd d2 call count posted asks driver did stands
         backed = λ p lt. ap is_some (rest.backing p) ∙ run.backed p lt;
         inflate_size = run.inflate_size;
         deflate_size = ap (λ s. s.ring.size) did.posts.state ∙ run.deflate_size;
-        inflate = line_apart m1 m2 0 g.config.pages si p1.inflate g.inflate apart run.inflate;
+        statistics_size = run.statistics_size;
+        report_size = run.report_size;
+        statistics = buffer_apart m1 m2 sides.statistics p1.statistics g.buffer
+            (rest.others 2 (omega arith) (omega arith))
+            (rest.others 12 (omega arith) (omega (arith, did.posts.small))) run.statistics;
+        report = report_apart m1 m2 g.config.pages sides.report p1.report g.report
+            (rest.others 3 (omega arith) (omega arith)) run.report;
+        inflate = line_apart m1 m2 0 g.config.pages sides.inflate p1.inflate g.inflate apart
+            run.inflate;
         deflate = line;
       });
     } in
-    steps_alone m1 m2 p1 p2 (driver_of g areas si sd) d2 g call (Posted posted.head posted.pages)
+    steps_alone m1 m2 p1 p2 (driver_of g areas sides) d2 g call (Posted posted.head posted.pages)
     new stands step
     (subst (λ d. Ties m2 p2 d new) (sym did.state)
     (subst (λ p. Ties m2 p after new) (sym did.part) there)) refl
 
-by_result : (m1 m2 : Pages) (p1 p2 : Part) (g : Guest) (areas : FreePages) (si sd : Side)
+by_result : (m1 m2 : Pages) (p1 p2 : Part) (g : Guest) (areas : FreePages) (sides : Sides)
     (d2 : DriverState) (call : Call) (count : ℕ) (result : Result PostedRequest Refusal)
-    → IsAsking g call count → IsDriver (driver_of g areas si sd)
+    → IsAsking g call count → IsDriver (driver_of g areas sides)
     → refusal_in result ≡ refusal_of g call
-    → OnErr result (Unchanged m1 m2 p1 p2 (driver_of g areas si sd) d2)
-    → IfOk result (AsksBack m1 m2 p1 p2 (driver_of g areas si sd) d2 count)
-    → Honest m1 p1 (driver_of g areas si sd) g
+    → OnErr result (Unchanged m1 m2 p1 p2 (driver_of g areas sides) d2)
+    → IfOk result (AsksBack m1 m2 p1 p2 (driver_of g areas sides) d2 count)
+    → Honest m1 p1 (driver_of g areas sides) g
     → StepsAlone (Honest m2 p2 d2) g call (posted_reply result)
-by_result m1 m2 p1 p2 g areas si sd d2 call count (Err why) asks driver refusal refused did stands =
-    refused_alone m1 m2 p1 p2 (driver_of g areas si sd) d2 g call why stands (sym refusal)
+by_result m1 m2 p1 p2 g areas sides d2 call count (Err why) asks driver refusal refused did stands =
+    refused_alone m1 m2 p1 p2 (driver_of g areas sides) d2 g call why stands (sym refusal)
     refused.mem refused.part refused.driver
-by_result m1 m2 p1 p2 g areas si sd d2 call count (Ok posted) asks driver refusal refused did stands
+by_result m1 m2 p1 p2 g areas sides d2 call count (Ok posted) asks driver refusal refused did stands
     =
     elim stands.ties.queues [
       | inl idle ↦ absurd (let down = asks.down idle.state in
           let free : refusal_of g call ≡ None = sym refusal in cc)
-      | inr run ↦ asked_back m1 m2 p1 p2 g areas si sd d2 call count posted asks driver did stands
+      | inr run ↦ asked_back m1 m2 p1 p2 g areas sides d2 call count posted asks driver did stands
           run (sym refusal)
     ]
 
@@ -181,15 +191,15 @@ deflate_running g n e =
     ≡ request_refusal (room g) (outstanding g.deflate) (deflate_count g n) in
     subst P (sym e) refl
 
-deflate_running_tests : (g : Guest) (areas : FreePages) (si sd : Side) (p : Part) (n : ℕ)
+deflate_running_tests : (g : Guest) (areas : FreePages) (sides : Sides) (p : Part) (n : ℕ)
     → p.status ≡ 15 → p.target ≡ g.target
-    → first_refusal (deflate_tests (driver_of g areas si sd) p n)
-    ≡ request_refusal (room g) (outstanding_in sd.ring) (deflate_count g n)
-deflate_running_tests g areas si sd p n e t =
+    → first_refusal (deflate_tests (driver_of g areas sides) p n)
+    ≡ request_refusal (room g) (outstanding_in sides.deflate.ring) (deflate_count g n)
+deflate_running_tests g areas sides p n e t =
     let P : ℕ → ℕ → Type 0 =
     λ s target. first_refusal
-    (deflate_tests (driver_of g areas si sd) (record p { status = s; target = target }) n)
-    ≡ request_refusal (room g) (outstanding_in sd.ring) (deflate_count g n) in
+    (deflate_tests (driver_of g areas sides) (record p { status = s; target = target }) n)
+    ≡ request_refusal (room g) (outstanding_in sides.deflate.ring) (deflate_count g n) in
     subst (λ s. P s p.target) (sym e) (subst (λ x. P 15 x) (sym t) refl)
 
 deflate_asks : (g : Guest) (n : ℕ) → IsAsking g (Deflate n) (deflate_count g n)
@@ -209,29 +219,28 @@ pub deflate_step : (m1 m2 : Pages) (p1 p2 : Part) (d1 d2 : DriverState) (g : Gue
 deflate_step m1 m2 p1 p2 d1 d2 g n result did stands =
     let is = driver_is p1 d1 g stands.ties.parts in
     let areas = d1.areas in
-    let si = d1.inflate in
-    let sd = d1.deflate in
-    let here : Honest m1 p1 (driver_of g areas si sd) g = subst (λ d. Honest m1 p1 d g) is stands in
-    let at : DeflatesBy m1 m2 p1 p2 (driver_of g areas si sd) d2 n result =
+    let sides = sides_of d1 in
+    let here : Honest m1 p1 (driver_of g areas sides) g = subst (λ d. Honest m1 p1 d g) is stands in
+    let at : DeflatesBy m1 m2 p1 p2 (driver_of g areas sides) d2 n result =
     subst (λ d. DeflatesBy m1 m2 p1 p2 d d2 n result) is did in
     let D : ℕ → Type 0 = λ s. (s ≡ 0) ⊎ (s ≡ 131) in
-    let same : first_refusal (deflate_tests (driver_of g areas si sd) p1 n)
+    let same : first_refusal (deflate_tests (driver_of g areas sides) p1 n)
     ≡ refusal_of g (Deflate n) =
     elim here.ties.queues [
-      | inl idle ↦ deflate_idle_tests (driver_of g areas si sd) p1 n
+      | inl idle ↦ deflate_idle_tests (driver_of g areas sides) p1 n
           (subst D (sym here.ties.parts.device.status) idle.state)
           ∙ sym (deflate_idle g n idle.state)
       | inr run ↦
-          deflate_running_tests g areas si sd p1 n (here.ties.parts.device.status ∙ run.state)
+          deflate_running_tests g areas sides p1 n (here.ties.parts.device.status ∙ run.state)
           here.ties.parts.device.target
           ∙ ap (λ (k : ℕ). request_refusal (room g) k (deflate_count g n))
-          (outstanding_are m1 1 g.config.pages sd p1.deflate g.deflate run.deflate)
+          (outstanding_are m1 1 sides.deflate.ring p1.deflate g.deflate run.deflate.ring)
           ∙ sym (deflate_running g n run.state)
     ] in
     let A : ℕ → Type 0 = λ t. IfOk result
-    (AsksBack m1 m2 p1 p2 (driver_of g areas si sd) d2
-    (driver_count (driver_of g areas si sd) t n)) in
-    by_result m1 m2 p1 p2 g areas si sd d2 (Deflate n) (deflate_count g n) result (deflate_asks g n)
+    (AsksBack m1 m2 p1 p2 (driver_of g areas sides) d2
+    (driver_count (driver_of g areas sides) t n)) in
+    by_result m1 m2 p1 p2 g areas sides d2 (Deflate n) (deflate_count g n) result (deflate_asks g n)
     at.driver (at.refusal ∙ same) at.refused (subst A here.ties.parts.device.target at.asks)
     here
 
@@ -270,14 +279,15 @@ oom_running g n e =
     (oom_count g n) in
     subst P (sym e) refl
 
-oom_running_tests : (g : Guest) (areas : FreePages) (si sd : Side) (p : Part) (n : ℕ)
+oom_running_tests : (g : Guest) (areas : FreePages) (sides : Sides) (p : Part) (n : ℕ)
     → p.status ≡ 15
-    → first_refusal (oom_tests (driver_of g areas si sd) p n)
-    ≡ oom_refusal (deflate_on_oom g.features) (room g) (outstanding_in sd.ring) (oom_count g n)
-oom_running_tests g areas si sd p n e =
+    → first_refusal (oom_tests (driver_of g areas sides) p n)
+    ≡ oom_refusal (deflate_on_oom g.features) (room g) (outstanding_in sides.deflate.ring)
+    (oom_count g n)
+oom_running_tests g areas sides p n e =
     let P : ℕ → Type 0 = λ s. first_refusal
-    (oom_tests (driver_of g areas si sd) (record p { status = s }) n)
-    ≡ oom_refusal (deflate_on_oom g.features) (room g) (outstanding_in sd.ring)
+    (oom_tests (driver_of g areas sides) (record p { status = s }) n)
+    ≡ oom_refusal (deflate_on_oom g.features) (room g) (outstanding_in sides.deflate.ring)
     (oom_count g n) in
     subst P (sym e) refl
 
@@ -298,21 +308,20 @@ pub oom_step : (m1 m2 : Pages) (p1 p2 : Part) (d1 d2 : DriverState) (g : Guest) 
 oom_step m1 m2 p1 p2 d1 d2 g n result did stands =
     let is = driver_is p1 d1 g stands.ties.parts in
     let areas = d1.areas in
-    let si = d1.inflate in
-    let sd = d1.deflate in
-    let here : Honest m1 p1 (driver_of g areas si sd) g = subst (λ d. Honest m1 p1 d g) is stands in
-    let at : DeflatesOnOomBy m1 m2 p1 p2 (driver_of g areas si sd) d2 n result =
+    let sides = sides_of d1 in
+    let here : Honest m1 p1 (driver_of g areas sides) g = subst (λ d. Honest m1 p1 d g) is stands in
+    let at : DeflatesOnOomBy m1 m2 p1 p2 (driver_of g areas sides) d2 n result =
     subst (λ d. DeflatesOnOomBy m1 m2 p1 p2 d d2 n result) is did in
     let D : ℕ → Type 0 = λ s. (s ≡ 0) ⊎ (s ≡ 131) in
-    let same : first_refusal (oom_tests (driver_of g areas si sd) p1 n) ≡ refusal_of g (Oom n) =
+    let same : first_refusal (oom_tests (driver_of g areas sides) p1 n) ≡ refusal_of g (Oom n) =
     elim here.ties.queues [
-      | inl idle ↦ oom_idle_tests (driver_of g areas si sd) p1 n
+      | inl idle ↦ oom_idle_tests (driver_of g areas sides) p1 n
           (subst D (sym here.ties.parts.device.status) idle.state) ∙ sym (oom_idle g n idle.state)
       | inr run ↦
-          oom_running_tests g areas si sd p1 n (here.ties.parts.device.status ∙ run.state)
+          oom_running_tests g areas sides p1 n (here.ties.parts.device.status ∙ run.state)
           ∙ ap (λ (k : ℕ). oom_refusal (deflate_on_oom g.features) (room g) k (oom_count g n))
-          (outstanding_are m1 1 g.config.pages sd p1.deflate g.deflate run.deflate)
+          (outstanding_are m1 1 sides.deflate.ring p1.deflate g.deflate run.deflate.ring)
           ∙ sym (oom_running g n run.state)
     ] in
-    by_result m1 m2 p1 p2 g areas si sd d2 (Oom n) (oom_count g n) result (oom_asks g n) at.driver
+    by_result m1 m2 p1 p2 g areas sides d2 (Oom n) (oom_count g n) result (oom_asks g n) at.driver
     (at.refusal ∙ same) at.refused at.asks here

@@ -1,31 +1,24 @@
 -- The slot's finish is a step of the guest.
-use Rattle.std.specs.Prelude.{◌≡◌, ◌≢◌, ℕ, ◌+◌, ◌%◌, ◌<◌, ◌≤◌, ◌==◌, ◌||◌, Bool, true, false, List}
-use Rattle.std.specs.Prelude.{[], ◌∷◌, ◌++◌, All, remove, Result, Option, Some, None, is_some}
+use Rattle.std.specs.Prelude.{◌≡◌, ◌≢◌, ℕ, ◌+◌, ◌%◌, ◌<◌, Bool, true, false, List}
+use Rattle.std.specs.Prelude.{[], All, remove, Result, Option, Some, None, is_some}
 use Rattle.std.specs.Prelude.{slice_get, refl, ◌⊎◌}
 use Rattle.std.proofs.Common.{sym, ◌∙◌, ap, subst, arith, inl, inr}
 use Rattle.std.specs.Option.{option_to_list}
 use Rattle.std.specs.List.{flat_map}
-use Rattle.std.proofs.lemmas.Bool.{eqb-true}
-use Rattle.std.proofs.lemmas.List.Elements.{All-tail}
 use Rattle.std.proofs.lemmas.Option.{get_or_from_slice_get, slice_get_within}
 use Rattle.vb_model.specs.declared.calls.Call.TheVariants.{Finish}
 use Rattle.vb_model.specs.declared.replies.Refusal.{Refusal}
 use Rattle.vb_model.specs.declared.replies.Refusal.TheVariants.{NoQueue, NotReady}
-use Rattle.vb_model.specs.declared.replies.Reply.TheVariants.{Finished, Refused}
-use Rattle.vb_model.specs.Tests.{is_in}
-use Rattle.vb_model.specs.Layout.{ring_page}
+use Rattle.vb_model.specs.declared.replies.Reply.TheVariants.{Finished}
 use Rattle.vb_model.specs.Requests.{Request, Inflating, Deflating}
 use Rattle.vb_model.specs.Guest.{Guest, frame_of}
 use Rattle.vb_model.specs.Device.{used, settled}
 use Rattle.vb_model.specs.Orderly.{times}
 use Rattle.vb_model.specs.Refusals.{refusal_of}
-use Rattle.vb_ram.specs.Pages.{Pages, page_at, frame_at, contents_of, number_of}
-use Rattle.vb_ram.specs.Part.{Part, QueuePart}
+use Rattle.vb_ram.specs.Pages.{Pages, page_at, number_of}
+use Rattle.vb_ram.specs.Part.{Part}
 use Rattle.vb_ring.specs.declared.layout.Layout.{Layout}
-use Rattle.vb_ring.specs.Layout.{layout_of}
-use Rattle.vb_ring.specs.Ends.{DeviceEnd}
-use Rattle.vb_ring.specs.Calls.{AddsUsedBy}
-use Rattle.vb_driver.specs.State.{Side, DriverState}
+use Rattle.vb_driver.specs.State.{DriverState}
 use Rattle.vb_device.specs.Conditions.{finish_refusal}
 use Rattle.vb_device.specs.Discards.{discarded, frames_behind, flagged}
 use Rattle.vb_device.specs.Calls.{FinishesBy, Uses}
@@ -34,117 +27,25 @@ use Rattle.vb_guest.specs.Stands.{Honest, Ties, IsRunning}
 use Rattle.vb_guest.specs.Steps.{StepsFreeing}
 use Rattle.vb_guest.specs.Replies.{finished_reply}
 use Rattle.vb_guest.proofs.Apart.{line_apart, above_apart}
+use Rattle.vb_guest.proofs.BufferLines.{buffer_apart}
+use Rattle.vb_guest.proofs.ReportLines.{report_apart}
+use Rattle.vb_guest.proofs.EachOnce.{distinct_each_once}
 use Rattle.vb_guest.proofs.Finishing.{end_of, line_finished}
+use Rattle.vb_guest.proofs.Handing.{handed_back, not_among, used_same, same_end, behind_same}
+use Rattle.vb_guest.proofs.FinishReportStep.{finish_refused, finish_report}
 use Rattle.vb_guest.proofs.Discarding.{frames_freed}
-use Rattle.vb_guest.proofs.PagesKept.{SamePages, pages_same, pages_discarded, page_undiscarded}
-use Rattle.vb_model.proofs.Queues.{queue_cases}
+use Rattle.vb_guest.proofs.PagesKept.{pages_same, pages_discarded, page_undiscarded}
+use Rattle.vb_model.proofs.Queues.{queue_cases, no_requests_at}
 use Rattle.vb_guest.proofs.Refusing.{finish_no_queue, finish_running, finish_running_part}
 use Rattle.vb_guest.proofs.Refusing.{finish_idle, finish_idle_part, finish_test}
-use Rattle.vb_guest.proofs.Closing.{honest_refused, honest_performed, still_stands, guest_step}
+use Rattle.vb_guest.proofs.Closing.{honest_performed, still_stands, guest_step}
 use Rattle.vb_guest.proofs.Closing.{ties_same}
-
--- once its loose frames are gone
-abbrev pub handed_back : Part → Part
-handed_back part = record part { loose = [] }
-
-pub loose_none : (part : Part) → part.loose ≡ [] → handed_back part ≡ part
-loose_none part e = ap (λ (l : List ℕ). record part { loose = l }) (sym e)
-
-either : (b : Bool) → (b ≡ true) ⊎ (b ≡ false)
-either true = inl refl
-either false = inr refl
-
-in_high : (pages : List ℕ) (p : ℕ) → All (λ page. 16 ≤ page) pages → is_in p pages ≡ true → 16 ≤ p
-in_high [] p above e = absurd cc
-in_high (x ∷ xs) p above e = elim (either (x == p)) [
-  | inl same ↦ (let is : x ≡ p = eqb-true x p same in let here : 16 ≤ x = above 0 x (omega arith) in
-      omega arith)
-  | inr other ↦ in_high xs p (All-tail (λ page. 16 ≤ page) x xs above)
-      (ap (λ (b : Bool). b || is_in p xs) (sym other) ∙ e)
-]
-
--- a reserved page isn't among those of a request
-pub not_among : (pages : List ℕ) (p : ℕ) → All (λ page. 16 ≤ page) pages → p < 16
-    → is_in p pages ≡ false
-not_among pages p above low = elim (either (is_in p pages)) [
-  | inl e ↦ absurd (let high : 16 ≤ p = in_high pages p above e in omega arith)
-  | inr e ↦ e
-]
-
--- what is left of memory once a device has used a chain
-pub used_same : (m1 m2 : Pages) (e1 e2 : DeviceEnd) (head len : ℕ) → e1.layout.used.page < 16
-    → AddsUsedBy m1 m2 e1 e2 head len → SamePages m1 m2
-used_same m1 m2 e1 e2 head len low adds = record {
-  count = adds.puts.rest.count;
-  behind = adds.puts.rest.backing;
-  holds = λ p high. let apart : p ≢ e1.layout.used.page = omega arith in
-      ap contents_of (adds.puts.rest.others p (apart, (apart, tt)));
-}
-
--- the device's end of the queue is the one whose ring the driver keeps
-pub same_end : (m1 m2 : Pages) (q size : ℕ) (side : Side) (part : QueuePart) (after : DeviceEnd)
-    (head : ℕ) → side.ring.layout ≡ layout_of (ring_page q) side.ring.size → size ≡ side.ring.size
-    → AddsUsedBy m1 m2 (record {
-      layout = layout_of (ring_page q) size;
-      size = size;
-      ready = true;
-      next_avail = part.next_avail;
-      next_used = part.next_used;
-    }) after head 0
-    → AddsUsedBy m1 m2 (end_of side part) after head 0
-same_end m1 m2 q size side part after head layout same adds =
-    let S : ℕ → Type 0 = λ s. AddsUsedBy m1 m2
-    (record {
-      layout = layout_of (ring_page q) s;
-      size = s;
-      ready = true;
-      next_avail = part.next_avail;
-      next_used = part.next_used;
-    }) after head 0 in
-    let L : Layout → Type 0 =
-    λ l. AddsUsedBy m1 m2
-    (record {
-      layout = l;
-      size = side.ring.size;
-      ready = true;
-      next_avail = part.next_avail;
-      next_used = part.next_used;
-    }) after head 0 in
-    subst L (sym layout) (subst S same adds)
 
 -- no request has the index, or not all its pages were visited
 test_some : (paced visits : Bool) (o : Option Request) → finish_test paced visits o ≡ None
     → (r : Request) × (o ≡ Some r)
 test_some paced visits None e = absurd cc
 test_some paced visits (Some r) e = (r, refl)
-
-pub finish_refused : (m1 m2 : Pages) (p1 p2 : Part) (d : DriverState) (g : Guest) (q i : ℕ)
-    (why : Refusal) (result : Result ℕ Refusal)
-    → FinishesBy q i m1 m2 p1 p2 result → Honest m1 p1 d g → finish_refusal q i p1 ≡ Some why
-    → refusal_of g (Finish q i) ≡ Some why
-    → StepsFreeing (Honest m2 (handed_back p2) d) p2.loose g (Finish q i) (finished_reply result)
-finish_refused m1 m2 p1 p2 d g q i why result did stands by_part by_model =
-    let (answer, part, memory) = did.refused why by_part in
-    let step = honest_refused g (Finish q i) why by_model in
-    let same = ap handed_back part ∙ loose_none p1 stands.ties.parts.device.loose in
-    let none : p2.loose ≡ [] = ap (λ (p : Part). p.loose) part ∙ stands.ties.parts.device.loose in
-    subst (λ r. StepsFreeing (Honest m2 (handed_back p2) d) p2.loose g (Finish q i)
-    (finished_reply r)) (sym answer) (record {
-      new = g;
-      stands = still_stands m1 m2 p1 (handed_back p2) d d g (Finish q i) [] (Refused why) g stands
-          step (ties_same m1 m2 p1 (handed_back p2) d d g memory same refl stands.ties);
-      step = guest_step g (Finish q i) [] (Refused why) g stands.ties.parts.guest.honest step;
-      freed = λ n. omega (arith, ap (times n) none);
-    })
-
--- the frames behind pages are those of the guest's pages
-pub behind_same : (mem : Pages) (frames : List (Option ℕ)) (pages : List ℕ)
-    → ((p : ℕ) → frame_at mem p ≡ frame_of frames p)
-    → frames_behind mem pages ≡ flat_map (λ page. option_to_list (frame_of frames page)) pages
-behind_same mem frames [] same = refl
-behind_same mem frames (p ∷ ps) same =
-    ap (λ (o : Option ℕ). option_to_list o ++ frames_behind mem ps) (same p)
-    ∙ ap (λ (l : List ℕ). option_to_list (frame_of frames p) ++ l) (behind_same mem frames ps same)
 
 -- ---- queue 0
 
@@ -160,15 +61,16 @@ inflate_finished m1 m2 p1 p2 d g i r result is did stands run free =
     let P : Request → Type 0 = IsRequest d.inflate.ring.size n d.inflate.sent in
     let request : P r = subst P (get_or_from_slice_get g.inflate.taken i r r is)
     (run.inflate.taken i r (slice_get_within g.inflate.taken i r is)) in
-    let adds = same_end bare m2 0 p1.queue_size d.inflate p1.inflate _ r.head run.inflate.layout
+    let adds = same_end bare m2 0 p1.queue_size p1.inflate.next_avail p1.inflate.next_used
+    d.inflate.ring _ r.head run.inflate.ring.layout
     (ties.parts.device.size ∙ sym run.inflate_size) did.memory in
     let low : (p : ℕ) → p < 16
     → page_at bare p ≡ page_at m1 p =
     λ p lt. page_undiscarded r.pages m1 p (not_among r.pages p request.pages.above lt) in
     let used_low : d.inflate.ring.layout.used.page ≡ 0 =
-    ap (λ (l : Layout). l.used.page) run.inflate.layout in
-    let same = used_same bare m2 (end_of d.inflate p1.inflate) _ r.head 0 (omega (arith, used_low))
-    adds in
+    ap (λ (l : Layout). l.used.page) run.inflate.ring.layout in
+    let same = used_same bare m2 (end_of d.inflate.ring p1.inflate) _ r.head 0
+    (omega (arith, used_low)) adds in
     let mine = line_apart m1 bare 0 n d.inflate p1.inflate g.inflate
     (above_apart m1 bare 0 (omega arith) (omega arith) low) run.inflate in
     let other = line_apart m1 bare 1 n d.deflate p1.deflate g.deflate
@@ -211,6 +113,14 @@ inflate_finished m1 m2 p1 p2 d g i r result is did stands run free =
             ∙ run.backed p lt;
         inflate_size = run.inflate_size;
         deflate_size = run.deflate_size;
+        statistics_size = run.statistics_size;
+        report_size = run.report_size;
+        statistics = buffer_apart bare m2 d.statistics p1.statistics g.buffer
+            (apart 2 (omega arith)) (apart 12 (omega arith))
+            (buffer_apart m1 bare d.statistics p1.statistics g.buffer (low 2 (omega arith))
+            (low 12 (omega arith)) run.statistics);
+        report = report_apart bare m2 n d.report p1.report g.report (apart 3 (omega arith))
+            (report_apart m1 bare n d.report p1.report g.report (low 3 (omega arith)) run.report);
         inflate = line_finished bare m2 0 n d.inflate p1.inflate g.inflate i r _ (omega arith) mine
             is adds;
         deflate = line_apart bare m2 1 n d.deflate p1.deflate g.deflate
@@ -220,7 +130,9 @@ inflate_finished m1 m2 p1 p2 d g i r result is did stands run free =
     } in
     let numbers : (k : ℕ)
     → times k p2.loose ≡ times k (frames_behind m1 r.pages) =
-    λ k. did.loose k in
+    λ k. did.loose k
+    ∙ ap (λ (l : List ℕ). times k (frames_behind m1 l))
+    (distinct_each_once r.pages request.pages.distinct) in
     let behind : frames_behind m1 r.pages
     ≡ flat_map (λ page. option_to_list (frame_of g.frames page)) r.pages =
     behind_same m1 g.frames r.pages ties.pages.behind in
@@ -287,12 +199,13 @@ deflate_finished : (m1 m2 : Pages) (p1 p2 : Part) (d : DriverState) (g : Guest) 
 deflate_finished m1 m2 p1 p2 d g i r result is did stands run free =
     let ties = stands.ties in
     let n = g.config.pages in
-    let adds = same_end m1 m2 1 p1.queue_size d.deflate p1.deflate _ r.head run.deflate.layout
+    let adds = same_end m1 m2 1 p1.queue_size p1.deflate.next_avail p1.deflate.next_used
+    d.deflate.ring _ r.head run.deflate.ring.layout
     (ties.parts.device.size ∙ sym run.deflate_size) did.memory in
     let used_low : d.deflate.ring.layout.used.page ≡ 1 =
-    ap (λ (l : Layout). l.used.page) run.deflate.layout in
-    let same = used_same m1 m2 (end_of d.deflate p1.deflate) _ r.head 0 (omega (arith, used_low))
-    adds in
+    ap (λ (l : Layout). l.used.page) run.deflate.ring.layout in
+    let same = used_same m1 m2 (end_of d.deflate.ring p1.deflate) _ r.head 0
+    (omega (arith, used_low)) adds in
     let apart : (p : ℕ) → p ≢ 1
     → page_at m2 p ≡ page_at m1 p =
     λ p other. (let ne : p ≢ d.deflate.ring.layout.used.page = omega (arith, used_low, other) in
@@ -329,6 +242,12 @@ deflate_finished m1 m2 p1 p2 d g i r result is did stands run free =
         backed = λ p lt. ap is_some (same.behind p) ∙ run.backed p lt;
         inflate_size = run.inflate_size;
         deflate_size = run.deflate_size;
+        statistics_size = run.statistics_size;
+        report_size = run.report_size;
+        statistics = buffer_apart m1 m2 d.statistics p1.statistics g.buffer (apart 2 (omega arith))
+            (apart 12 (omega arith)) run.statistics;
+        report = report_apart m1 m2 n d.report p1.report g.report (apart 3 (omega arith))
+            run.report;
         inflate = line_apart m1 m2 0 n d.inflate p1.inflate g.inflate
             (record { ring = apart 0 (omega arith); buffers = λ p from to. apart p (omega arith) })
             run.inflate;
@@ -395,11 +314,21 @@ finish_step m1 m2 p1 p2 d g q i result did stands =
       | inl first ↦ subst S (sym first)
           (inflate_finish m1 m2 p1 p2 d g i result (refusal_of g (Finish 0 i)) refl
           (subst B first did) stands)
-      | inr other ↦ elim other [
+      | inr a ↦ elim a [
         | inl second ↦ subst S (sym second)
             (deflate_finish m1 m2 p1 p2 d g i result (refusal_of g (Finish 1 i)) refl
             (subst B second did) stands)
-        | inr none ↦ (let no = finish_no_queue q i g p1 none in
-            finish_refused m1 m2 p1 p2 d g q i NoQueue result did stands no.0 no.1)
+        | inr b ↦ elim b [
+          | inl third ↦ subst S (sym third)
+              (let no = finish_no_queue 2 i g p1 refl in
+              finish_refused m1 m2 p1 p2 d g 2 i NoQueue result (subst B third did) stands no.0
+              no.1)
+          | inr c ↦ elim c [
+            | inl last ↦ subst S (sym last)
+                (finish_report m1 m2 p1 p2 d g i result (subst B last did) stands)
+            | inr none ↦ (let no = finish_no_queue q i g p1 (no_requests_at q none) in
+                finish_refused m1 m2 p1 p2 d g q i NoQueue result did stands no.0 no.1)
+          ]
+        ]
       ]
     ]

@@ -10,7 +10,7 @@ use Rattle.vb_model.specs.Guest.{Guest}
 use Rattle.vb_model.specs.Driver.{without_block}
 use Rattle.vb_ram.specs.Pages.{Pages}
 use Rattle.vb_ram.specs.Part.{Part}
-use Rattle.vb_driver.specs.State.{FreePages, Side, DriverState}
+use Rattle.vb_driver.specs.State.{FreePages, DriverState}
 use Rattle.vb_driver.specs.Answers.{block_at}
 use Rattle.vb_driver.specs.Calls.{FreesBy, after_free}
 use Rattle.vb_guest.specs.Stands.{Honest, Ties}
@@ -18,17 +18,18 @@ use Rattle.vb_guest.specs.Steps.{StepsAlone}
 use Rattle.vb_guest.specs.Replies.{done_reply}
 use Rattle.vb_guest.proofs.Closing.{honest_performed, steps_alone, refused_alone}
 use Rattle.vb_guest.proofs.Writing.{idle_still}
-use Rattle.vb_guest.proofs.Normal.{driver_of, driver_is, keeps_own}
+use Rattle.vb_guest.proofs.Normal.{Sides, sides_of, driver_of, driver_is, keeps_own}
 
-by_result : (m : Pages) (p : Part) (g : Guest) (areas : FreePages) (si sd : Side) (d2 : DriverState)
+by_result : (m : Pages) (p : Part) (g : Guest) (areas : FreePages) (sides : Sides)
+    (d2 : DriverState)
     (cpu start order : ℕ) (result : Result (Unit {0}) Refusal)
-    → FreesBy (driver_of g areas si sd) d2 cpu start order result
-    → Honest m p (driver_of g areas si sd) g
+    → FreesBy (driver_of g areas sides) d2 cpu start order result
+    → Honest m p (driver_of g areas sides) g
     → StepsAlone (Honest m p d2) g (Free cpu start order) (done_reply result)
-by_result m p g areas si sd d2 cpu start order (Err why) did stands =
-    refused_alone m m p p (driver_of g areas si sd) d2 g (Free cpu start order) why stands
+by_result m p g areas sides d2 cpu start order (Err why) did stands =
+    refused_alone m m p p (driver_of g areas sides) d2 g (Free cpu start order) why stands
     (sym did.refusal) refl refl did.refused
-by_result m p g areas si sd d2 cpu start order (Ok done) did stands =
+by_result m p g areas sides d2 cpu start order (Ok done) did stands =
     let ties = stands.ties in
     let new : Guest = record g {
       places = placed (pages_of (block_at start order)) FreePlace g.places;
@@ -37,27 +38,31 @@ by_result m p g areas si sd d2 cpu start order (Ok done) did stands =
     let step = honest_performed g (Free cpu start order) [] Done new (sym did.refusal)
     (refl, refl, refl) in
     let after : DriverState =
-    driver_of new (after_free (driver_of g areas si sd) cpu start order).areas si sd in
+    driver_of new (after_free (driver_of g areas sides) cpu start order).areas sides in
     let there : Ties m p after new = record {
       parts = record {
         guest = ties.parts.guest;
-        driver = keeps_own new _ _ _;
+        driver = keeps_own new _ _;
         device = ties.parts.device;
       };
       pages = ties.pages;
       queues = elim ties.queues [
-        | inl idle ↦ inl (idle_still g new refl refl refl refl refl refl refl idle)
+        | inl idle ↦ inl (idle_still g new refl refl refl refl refl refl refl refl refl idle)
         | inr run ↦ inr (record {
           state = run.state;
           backed = run.backed;
           inflate_size = run.inflate_size;
           deflate_size = run.deflate_size;
+          statistics_size = run.statistics_size;
+          report_size = run.report_size;
+          statistics = run.statistics;
+          report = run.report;
           inflate = run.inflate;
           deflate = run.deflate;
         })
       ];
     } in
-    steps_alone m m p p (driver_of g areas si sd) d2 g (Free cpu start order) Done new stands step
+    steps_alone m m p p (driver_of g areas sides) d2 g (Free cpu start order) Done new stands step
     (subst (λ d. Ties m p d new) (sym did.state) there) refl
 
 pub free_step : (m : Pages) (p : Part) (d1 d2 : DriverState) (g : Guest) (cpu start order : ℕ)
@@ -66,6 +71,6 @@ pub free_step : (m : Pages) (p : Part) (d1 d2 : DriverState) (g : Guest) (cpu st
     → StepsAlone (Honest m p d2) g (Free cpu start order) (done_reply result)
 free_step m p d1 d2 g cpu start order result did stands =
     let is = driver_is p d1 g stands.ties.parts in
-    by_result m p g d1.areas d1.inflate d1.deflate d2 cpu start order result
+    by_result m p g d1.areas (sides_of d1) d2 cpu start order result
     (subst (λ d. FreesBy d d2 cpu start order result) is did)
     (subst (λ d. Honest m p d g) is stands)

@@ -14,7 +14,7 @@ use Rattle.vb_driver.specs.State.{DriverState}
 use Rattle.vb_guest.specs.Stands.{Honest}
 use Rattle.vb_guest.specs.Steps.{StepsFreeing}
 use Rattle.vb_guest.proofs.Closing.{honest_own}
-use Rattle.vb_guest.proofs.FinishStep.{handed_back}
+use Rattle.vb_guest.proofs.Handing.{handed_back}
 
 -- the frames of the device's own may have changed
 pub freed_as : (m2 m3 : Pages) (p2 p3 : Part) (d : DriverState) (g : Guest) (call : Call)

@@ -20,18 +20,20 @@ use Rattle.vb_ram.specs.Part.{Part}
 use Rattle.vb_ring.specs.Ends.{outstanding as outstanding_in}
 use Rattle.vb_driver.specs.declared.answers.Posted.{Posted as PostedRequest}
 use Rattle.vb_driver.specs.Coding.{SameButBuffer}
-use Rattle.vb_driver.specs.State.{FreePages, Side, DriverState, IsDriver}
+use Rattle.vb_driver.specs.State.{FreePages, DriverState, IsDriver}
 use Rattle.vb_driver.specs.Answers.{is_up, inflate_tests, inflate_count as driver_count}
 use Rattle.vb_driver.specs.Calls.{Offers, InflatesBy}
 use Rattle.vb_guest.specs.Stands.{Honest, Ties, IsRunning}
 use Rattle.vb_guest.specs.Steps.{StepsAlone}
 use Rattle.vb_guest.specs.Replies.{posted_reply}
 use Rattle.vb_guest.proofs.Apart.{SameLine, line_apart}
+use Rattle.vb_guest.proofs.BufferLines.{buffer_apart}
+use Rattle.vb_guest.proofs.ReportLines.{report_apart}
 use Rattle.vb_guest.proofs.Posting.{line_posted, least_head, outstanding_are}
 use Rattle.vb_guest.proofs.PagesKept.{SamePages, pages_same}
 use Rattle.vb_guest.proofs.Closing.{honest_performed, steps_alone, refused_alone}
 use Rattle.vb_guest.proofs.Offered.{last_sound, inflate_requested}
-use Rattle.vb_guest.proofs.Normal.{driver_of, driver_is, keeps_own}
+use Rattle.vb_guest.proofs.Normal.{Sides, sides_of, driver_of, driver_is, keeps_own}
 
 -- a new request of a queue is refused for want of room, or of pages
 abbrev pub request_refusal : ℕ → ℕ → ℕ → Option Refusal
@@ -69,15 +71,15 @@ running_refusal g n e =
     ≡ request_refusal (room g) (outstanding g.inflate) (inflate_count g n) in
     subst P (sym e) refl
 
-running_tests : (g : Guest) (areas : FreePages) (si sd : Side) (p : Part) (n : ℕ) → p.status ≡ 15
+running_tests : (g : Guest) (areas : FreePages) (sides : Sides) (p : Part) (n : ℕ) → p.status ≡ 15
     → p.target ≡ g.target
-    → first_refusal (inflate_tests (driver_of g areas si sd) p n)
-    ≡ request_refusal (room g) (outstanding_in si.ring) (inflate_count g n)
-running_tests g areas si sd p n e t =
+    → first_refusal (inflate_tests (driver_of g areas sides) p n)
+    ≡ request_refusal (room g) (outstanding_in sides.inflate.ring) (inflate_count g n)
+running_tests g areas sides p n e t =
     let P : ℕ → ℕ → Type 0 =
     λ s target. first_refusal
-    (inflate_tests (driver_of g areas si sd) (record p { status = s; target = target }) n)
-    ≡ request_refusal (room g) (outstanding_in si.ring) (inflate_count g n) in
+    (inflate_tests (driver_of g areas sides) (record p { status = s; target = target }) n)
+    ≡ request_refusal (room g) (outstanding_in sides.inflate.ring) (inflate_count g n) in
     subst (λ s. P s p.target) (sym e) (subst (λ x. P 15 x) (sym t) refl)
 
 -- the queue on the other side of a post is as before
@@ -91,18 +93,18 @@ post_apart m1 m2 ring base head other ne low far same = record {
   buffers = λ p from to. let (a, b) = far p from to in same.others p a b;
 }
 
-inflate_offered : (m1 m2 : Pages) (p1 p2 : Part) (g : Guest) (areas : FreePages) (si sd : Side)
+inflate_offered : (m1 m2 : Pages) (p1 p2 : Part) (g : Guest) (areas : FreePages) (sides : Sides)
     (d2 : DriverState) (n : ℕ) (posted : PostedRequest)
-    → IsDriver (driver_of g areas si sd)
-    → Offers m1 m2 p1 p2 (driver_of g areas si sd) d2 (inflate_count g n) posted
-    → Honest m1 p1 (driver_of g areas si sd) g → IsRunning m1 p1 (driver_of g areas si sd) g
+    → IsDriver (driver_of g areas sides)
+    → Offers m1 m2 p1 p2 (driver_of g areas sides) d2 (inflate_count g n) posted
+    → Honest m1 p1 (driver_of g areas sides) g → IsRunning m1 p1 (driver_of g areas sides) g
     → refusal_of g (Inflate n) ≡ None → 0 < inflate_count g n → outstanding g.inflate < room g
     → StepsAlone (Honest m2 p2 d2) g (Inflate n) (Posted posted.head posted.pages)
-inflate_offered m1 m2 p1 p2 g areas si sd d2 n posted driver did stands run free some fewer =
+inflate_offered m1 m2 p1 p2 g areas sides d2 n posted driver did stands run free some fewer =
     let ties = stands.ties in
     let pages = stranded_first g n ++ did.others in
     let single = driver.inflate.requests in
-    let least = least_head m1 0 g.config.pages si p1.inflate g.inflate posted.head run.inflate
+    let least = least_head m1 0 sides.inflate p1.inflate g.inflate posted.head run.inflate.ring
     single did.posts.lowest in
     let new : Guest = asking Inflating posted.head pages g in
     let reply = ap (λ (k : ℕ). Posted posted.head k) did.pages in
@@ -117,18 +119,18 @@ inflate_offered m1 m2 p1 p2 g areas si sd d2 n posted driver did stands run free
     length-append (stranded_first g n) did.others ∙ did.enough in
     let asked = inflate_requested g n did.others stands.orderly did.free once
     (omega (arith, count, some)) (omega (arith, count)) in
-    let line = line_posted m1 m2 0 g.config.pages si d2.inflate p1.inflate g.inflate posted.head
-    pages (omega arith) single asked run.inflate did.posts in
-    let table : si.ring.layout.table ≡ 0 = ap (λ l. l.table) run.inflate.layout in
+    let line = line_posted m1 m2 0 g.config.pages sides.inflate d2.inflate p1.inflate g.inflate
+    posted.head pages (omega arith) single asked run.inflate did.posts in
+    let table : sides.inflate.ring.layout.table ≡ 0 = ap (λ l. l.table) run.inflate.ring.layout in
     let B : ℕ → Type 0 = λ r. SameButBuffer m1 m2 r 4 posted.head in
     let rest : B 0 = subst B table did.posts.rest in
     let apart = post_apart m1 m2 0 4 posted.head 1 (omega arith) (omega arith)
     (λ p from to. (omega arith, omega (arith, did.posts.small))) rest in
-    let after : DriverState = driver_of new d2.areas d2.inflate sd in
+    let after : DriverState = driver_of new d2.areas (record sides { inflate = d2.inflate }) in
     let there : Ties m2 p1 after new = record {
       parts = record {
         guest = ties.parts.guest;
-        driver = keeps_own new _ _ _;
+        driver = keeps_own new _ _;
         device = ties.parts.device;
       };
       pages = pages_same m1 m2 g.config.pages _ _
@@ -139,11 +141,19 @@ inflate_offered m1 m2 p1 p2 g areas si sd d2 n posted driver did stands run free
         backed = λ p lt. ap is_some (rest.backing p) ∙ run.backed p lt;
         inflate_size = ap (λ s. s.ring.size) did.posts.state ∙ run.inflate_size;
         deflate_size = run.deflate_size;
+        statistics_size = run.statistics_size;
+        report_size = run.report_size;
+        statistics = buffer_apart m1 m2 sides.statistics p1.statistics g.buffer
+            (rest.others 2 (omega arith) (omega arith))
+            (rest.others 12 (omega arith) (omega (arith, did.posts.small))) run.statistics;
+        report = report_apart m1 m2 g.config.pages sides.report p1.report g.report
+            (rest.others 3 (omega arith) (omega arith)) run.report;
         inflate = line;
-        deflate = line_apart m1 m2 1 g.config.pages sd p1.deflate g.deflate apart run.deflate;
+        deflate = line_apart m1 m2 1 g.config.pages sides.deflate p1.deflate g.deflate apart
+            run.deflate;
       });
     } in
-    steps_alone m1 m2 p1 p2 (driver_of g areas si sd) d2 g (Inflate n)
+    steps_alone m1 m2 p1 p2 (driver_of g areas sides) d2 g (Inflate n)
     (Posted posted.head posted.pages) new stands step
     (subst (λ d. Ties m2 p2 d new) (sym did.state)
     (subst (λ p. Ties m2 p after new) (sym did.part) there)) refl
@@ -152,25 +162,25 @@ none_room : (most out count : ℕ) → request_refusal most out count ≡ None
     → (out < most) × (0 < count)
 none_room most out count e = (grind (arith, nat_tests), grind (arith, nat_tests))
 
-by_result : (m1 m2 : Pages) (p1 p2 : Part) (g : Guest) (areas : FreePages) (si sd : Side)
+by_result : (m1 m2 : Pages) (p1 p2 : Part) (g : Guest) (areas : FreePages) (sides : Sides)
     (d2 : DriverState) (n : ℕ) (result : Result PostedRequest Refusal)
-    → InflatesBy m1 m2 p1 p2 (driver_of g areas si sd) d2 n result
-    → Honest m1 p1 (driver_of g areas si sd) g
-    → first_refusal (inflate_tests (driver_of g areas si sd) p1 n) ≡ refusal_of g (Inflate n)
+    → InflatesBy m1 m2 p1 p2 (driver_of g areas sides) d2 n result
+    → Honest m1 p1 (driver_of g areas sides) g
+    → first_refusal (inflate_tests (driver_of g areas sides) p1 n) ≡ refusal_of g (Inflate n)
     → StepsAlone (Honest m2 p2 d2) g (Inflate n) (posted_reply result)
-by_result m1 m2 p1 p2 g areas si sd d2 n (Err why) did stands same =
-    refused_alone m1 m2 p1 p2 (driver_of g areas si sd) d2 g (Inflate n) why stands
+by_result m1 m2 p1 p2 g areas sides d2 n (Err why) did stands same =
+    refused_alone m1 m2 p1 p2 (driver_of g areas sides) d2 g (Inflate n) why stands
     (sym (did.refusal ∙ same)) did.refused.mem did.refused.part did.refused.driver
-by_result m1 m2 p1 p2 g areas si sd d2 n (Ok posted) did stands same =
+by_result m1 m2 p1 p2 g areas sides d2 n (Ok posted) did stands same =
     let free : refusal_of g (Inflate n) ≡ None = sym (did.refusal ∙ same) in
     elim stands.ties.queues [
       | inl idle ↦ absurd (let down = idle_refused g n idle.state in cc)
       | inr run ↦
           let room_left = none_room (room g) (outstanding g.inflate) (inflate_count g n)
           (sym (running_refusal g n run.state) ∙ free) in
-          let O : ℕ → Type 0 = λ t. Offers m1 m2 p1 p2 (driver_of g areas si sd) d2
-          (driver_count (driver_of g areas si sd) t n) posted in
-          inflate_offered m1 m2 p1 p2 g areas si sd d2 n posted did.driver
+          let O : ℕ → Type 0 = λ t. Offers m1 m2 p1 p2 (driver_of g areas sides) d2
+          (driver_count (driver_of g areas sides) t n) posted in
+          inflate_offered m1 m2 p1 p2 g areas sides d2 n posted did.driver
           (subst O stands.ties.parts.device.target did.offers) stands run free room_left.1
           room_left.0
     ]
@@ -182,24 +192,23 @@ pub inflate_step : (m1 m2 : Pages) (p1 p2 : Part) (d1 d2 : DriverState) (g : Gue
 inflate_step m1 m2 p1 p2 d1 d2 g n result did stands =
     let is = driver_is p1 d1 g stands.ties.parts in
     let areas = d1.areas in
-    let si = d1.inflate in
-    let sd = d1.deflate in
-    let here : Honest m1 p1 (driver_of g areas si sd) g = subst (λ d. Honest m1 p1 d g) is stands in
+    let sides = sides_of d1 in
+    let here : Honest m1 p1 (driver_of g areas sides) g = subst (λ d. Honest m1 p1 d g) is stands in
     let D : ℕ → Type 0 = λ s. (s ≡ 0) ⊎ (s ≡ 131) in
-    let same : first_refusal (inflate_tests (driver_of g areas si sd) p1 n)
+    let same : first_refusal (inflate_tests (driver_of g areas sides) p1 n)
     ≡ refusal_of g (Inflate n) =
     elim here.ties.queues [
-      | inl idle ↦ idle_tests (driver_of g areas si sd) p1 n
+      | inl idle ↦ idle_tests (driver_of g areas sides) p1 n
           (subst D (sym here.ties.parts.device.status) idle.state)
           ∙ sym (idle_refused g n idle.state)
       | inr run ↦
-          running_tests g areas si sd p1 n (here.ties.parts.device.status ∙ run.state)
+          running_tests g areas sides p1 n (here.ties.parts.device.status ∙ run.state)
           here.ties.parts.device.target
           ∙ ap (λ (k : ℕ). request_refusal (room g) k (inflate_count g n))
-          (outstanding_are m1 0 g.config.pages si p1.inflate g.inflate run.inflate)
+          (outstanding_are m1 0 sides.inflate.ring p1.inflate g.inflate run.inflate.ring)
           ∙ sym (running_refusal g n run.state)
     ] in
-    by_result m1 m2 p1 p2 g areas si sd d2 n result
+    by_result m1 m2 p1 p2 g areas sides d2 n result
     (subst (λ d. InflatesBy m1 m2 p1 p2 d d2 n result) is did) here same
 
 down_not_up : (status : ℕ) → (status ≡ 0) ⊎ (status ≡ 131) → is_up status ≡ true → ⊥

@@ -1,12 +1,11 @@
 -- The slot's initialisation is a step of the guest.
 use Rattle.std.specs.Prelude.{◌≡◌, ◌≢◌, ℕ, zero, suc, ◌+◌, ◌<◌, ◌≤◌, ◌==◌, Bool, true, false, not}
 use Rattle.std.specs.Prelude.{◌&&◌, if◌then◌else◌, cond, List, [], ◌∷◌, length, Option, Some, None}
-use Rattle.std.specs.Prelude.{IsSome, is_some, is_none, MatchOption, Result, Ok, Err, All, filter}
-use Rattle.std.specs.Prelude.{replicate, count_by, refl, ◌⊎◌}
+use Rattle.std.specs.Prelude.{IsSome, is_some, is_none, MatchOption, Result, Ok, Err, filter}
+use Rattle.std.specs.Prelude.{count_by, refl, ◌⊎◌}
 use Rattle.std.specs.List.{range_with_len, list_all}
 use Rattle.std.proofs.Common.{sym, ◌∙◌, ap, subst, arith, inl, inr}
 use Rattle.std.proofs.lemmas.Bool.{eqb-true}
-use Rattle.std.proofs.lemmas.List.{length-replicate}
 use Rattle.vb_model.specs.declared.calls.Call.TheVariants.{Init}
 use Rattle.vb_model.specs.declared.calls.Claim.{Claim}
 use Rattle.vb_model.specs.declared.replies.Refusal.{Refusal}
@@ -16,24 +15,20 @@ use Rattle.vb_model.specs.declared.replies.Refusal.TheVariants.{VersionMissing}
 use Rattle.vb_model.specs.declared.replies.Reply.{Reply}
 use Rattle.vb_model.specs.declared.replies.Reply.TheVariants.{Ready, Refused}
 use Rattle.vb_model.specs.Tests.{is_in}
-use Rattle.vb_model.specs.Requests.{Requests, no_requests, NoBuffer}
 use Rattle.vb_model.specs.Guest.{Guest, frame_of, all_backed, must_tell_host, version_1}
-use Rattle.vb_model.specs.Guest.{offered_features}
+use Rattle.vb_model.specs.Guest.{offered_features, stats_vq}
 use Rattle.vb_model.specs.Status.{contains}
 use Rattle.vb_model.specs.Refusals.{◌⇒◌, first_refusal, refusal_of}
 use Rattle.vb_model.specs.Life.{lacking, feature_tests, feature_refusal, accepted_before}
 use Rattle.vb_model.specs.Life.{Negotiates}
-use Rattle.vb_model.specs.Driver.{given, claim_refusal, AreClaimsFor, Supplying}
-use Rattle.vb_ram.specs.Pages.{Pages, frame_at, number_of, contents_of}
-use Rattle.vb_ram.specs.Part.{Part, no_queue}
-use Rattle.vb_status.specs.After.{part_after_reset}
-use Rattle.vb_ring.specs.Layout.{IsSize}
-use Rattle.vb_driver.specs.State.{DriverState, IsDriver, fresh_side}
+use Rattle.vb_model.specs.Driver.{given, claim_refusal, AreClaimsFor, Supplying, figures}
+use Rattle.vb_ram.specs.Pages.{Pages, frame_at, number_of}
+use Rattle.vb_ram.specs.Part.{Part}
+use Rattle.vb_driver.specs.State.{DriverState}
 use Rattle.vb_driver.specs.Answers.{has_frames, init_tests}
-use Rattle.vb_driver.specs.Calls.{InitsBy, InitRefused, Starts, GivesUp, IsNewRing}
+use Rattle.vb_driver.specs.Calls.{InitsBy, InitRefused, GivesUp}
 use Rattle.vb_frames.specs.declared.keeper.Refused.{Refused as WhyRefused}
 use Rattle.vb_model.specs.Orderly.{times}
-use Rattle.vb_guest.specs.Line.{Line}
 use Rattle.vb_guest.specs.Stands.{Honest, Ties, HasParts, HasPages, IsIdle, beside_queues}
 use Rattle.vb_guest.specs.Stands.{beside_sides, beside_requests}
 use Rattle.vb_guest.specs.Steps.{is_frame, backing_count, StepsAlone, StepsOver}
@@ -41,13 +36,13 @@ use Rattle.vb_guest.specs.Supply.{Supply, supply_of, Moves, nothing}
 use Rattle.vb_guest.specs.Replies.{ready_reply}
 use Rattle.vb_guest.specs.Lives.{bare_from, AllSupplied, why_unsupplied, SuppliesBy}
 use Rattle.vb_guest.proofs.Closing.{first_holds, honest_performed, guest_step, still_stands}
-use Rattle.vb_guest.proofs.Closing.{refused_alone, ties_same, honest_own}
+use Rattle.vb_guest.proofs.Closing.{refused_alone, honest_own}
 use Rattle.vb_guest.proofs.Freed.{large}
-use Rattle.vb_guest.proofs.PagesKept.{pages_same}
 use Rattle.vb_guest.proofs.Supplying.{all_distinct, bounded, among, supplied_count, supplied_other}
 use Rattle.vb_guest.proofs.Supplying.{supplied_backed, pages_filled, frames_filled}
 use Rattle.vb_guest.proofs.Moving.{moves_as}
 use Rattle.vb_guest.proofs.Kept.{SameOwn}
+use Rattle.vb_guest.proofs.Starting.{first_buffer, started, stopped}
 
 either : (b : Bool) → (b ≡ true) ⊎ (b ≡ false)
 either true = inl refl
@@ -206,156 +201,6 @@ driver_tests m p wanted new backed =
     ((not (s == 0) ⇒ AlreadyUp) ∷ (not (has_frames m) ⇒ NoFrame) ∷ feature_tests wanted)) new
     ∙ ap (λ (b : Bool). first_refusal ((not b ⇒ NoFrame) ∷ feature_tests wanted)) backed
 
--- ---- the guest afterwards
-
-no_flags : (p : Part) (g : Guest) → p.ballooned ≡ g.ballooned → IsIdle g
-    → replicate (length p.ballooned) false ≡ g.ballooned
-no_flags p g same idle =
-    let len : length p.ballooned ≡ g.config.pages =
-    ap (λ (l : List Bool). length l) (same ∙ idle.ballooned)
-    ∙ length-replicate g.config.pages false in
-    ap (λ (n : ℕ). replicate n false) len ∙ sym idle.ballooned
-
-all_none : {A : Type 0} (P : A → Type 0) → All P []
-all_none P k d lt = absurd (omega arith)
-
--- nothing was published, and nothing used
-fresh_line : (m : Pages) (queue count q : ℕ) → IsSize q → IsNewRing m (fresh_side queue q)
-    → Line m queue count (fresh_side queue q) no_queue no_requests
-fresh_line m queue count q sized ring = record {
-  sized = sized;
-  layout = refl;
-  buffers = refl;
-  before = [];
-  gone = [];
-  shows = ring.shows;
-  tracks = ring.tracks;
-  next_avail = refl;
-  next_used = refl;
-  counted = refl;
-  balance = λ h. refl;
-  posted = all_none _;
-  taken = all_none _;
-  done = all_none _;
-  coded = all_none _;
-  remembers = refl;
-}
-
--- the guest whose pages have these frames, and whose device is initialised
-started : (m2 m3 : Pages) (p1 p3 : Part) (d1 d2 : DriverState) (g : Guest)
-    (frames : List (Option ℕ)) (wanted : ℕ) → HasPages m2 g.config.pages frames g.contents
-    → ((p : ℕ) → p < 13 → IsSome (frame_at m2 p))
-    → IsIdle g → IsDriver d1 → HasParts (beside_queues p1) (beside_sides d1) (beside_requests g)
-    → Starts m2 m3 p1 p3 d1 d2 wanted
-    → Ties m3 p3 d2 (record g
-    { frames = frames; status = 15; features = wanted; buffer = NoBuffer })
-started m2 m3 p1 p3 d1 d2 g frames wanted has backed idle driver parts did =
-    let new : Guest = record g
-    { frames = frames; status = 15; features = wanted; buffer = NoBuffer } in
-    let part : Part = record (part_after_reset p1) { status = 15; features = wanted } in
-    let state : DriverState =
-    record d1 {
-      inflate = fresh_side 0 d1.queue_size;
-      deflate = fresh_side 1 d1.queue_size;
-      features = wanted;
-    } in
-    let n = g.config.pages in
-    let inflate = fresh_line m3 0 n d1.queue_size driver.size
-    (subst (λ (d : DriverState). IsNewRing m3 d.inflate) did.driver did.inflate) in
-    let deflate = fresh_line m3 1 n d1.queue_size driver.size
-    (subst (λ (d : DriverState). IsNewRing m3 d.deflate) did.driver did.deflate) in
-    let there : Ties m3 part state new = record {
-      parts = record {
-        guest = record {
-          honest = parts.guest.honest;
-          buffer = refl;
-          report = parts.guest.report;
-          config = parts.guest.config;
-        };
-        driver = record {
-          pages = parts.driver.pages;
-          queue_size = parts.driver.queue_size;
-          processors = parts.driver.processors;
-          places = parts.driver.places;
-          held = parts.driver.held;
-          accepted = refl;
-        };
-        device = record {
-          size = parts.device.size;
-          paced = parts.device.paced;
-          status = refl;
-          features = refl;
-          target = parts.device.target;
-          actual = sym idle.actual;
-          ballooned = no_flags p1 g parts.device.ballooned idle;
-          last = sym idle.last;
-          loose = parts.device.loose;
-        };
-      };
-      pages = pages_same m2 m3 n frames g.contents
-          (record {
-            count = did.count;
-            behind = did.backing;
-            holds = λ p high. ap contents_of (did.others p (omega arith));
-          }) has;
-      queues = inr (record {
-        state = refl;
-        backed = λ p lt. ap is_some (did.backing p) ∙ backed p lt;
-        inflate_size = parts.driver.queue_size;
-        deflate_size = parts.driver.queue_size;
-        inflate = subst (λ (rs : Requests). Line m3 0 n (fresh_side 0 d1.queue_size) no_queue rs)
-            (sym idle.inflate) inflate;
-        deflate = subst (λ (rs : Requests). Line m3 1 n (fresh_side 1 d1.queue_size) no_queue rs)
-            (sym idle.deflate) deflate;
-      });
-    } in
-    ties_same m3 m3 part p3 state d2 new refl did.part did.driver there
-
--- the guest whose pages have these frames, and whose driver gave up
-stopped : (m2 m3 : Pages) (p1 p3 : Part) (d1 d2 : DriverState) (g : Guest)
-    (frames : List (Option ℕ)) (accepted : ℕ) → HasPages m2 g.config.pages frames g.contents
-    → IsIdle g → HasParts (beside_queues p1) (beside_sides d1) (beside_requests g)
-    → GivesUp m2 m3 p1 p3 d1 d2 accepted
-    → Ties m3 p3 d2 (record g { frames = frames; status = 131; features = accepted })
-stopped m2 m3 p1 p3 d1 d2 g frames accepted has idle parts did =
-    let new : Guest = record g { frames = frames; status = 131; features = accepted } in
-    let part : Part = record (part_after_reset p1) { status = 131; features = accepted } in
-    let state : DriverState = record d1 { features = accepted } in
-    let there : Ties m2 part state new = record {
-      parts = record {
-        guest = parts.guest;
-        driver = record {
-          pages = parts.driver.pages;
-          queue_size = parts.driver.queue_size;
-          processors = parts.driver.processors;
-          places = parts.driver.places;
-          held = parts.driver.held;
-          accepted = refl;
-        };
-        device = record {
-          size = parts.device.size;
-          paced = parts.device.paced;
-          status = refl;
-          features = refl;
-          target = parts.device.target;
-          actual = sym idle.actual;
-          ballooned = no_flags p1 g parts.device.ballooned idle;
-          last = sym idle.last;
-          loose = parts.device.loose;
-        };
-      };
-      pages = has;
-      queues = inl (record {
-        state = inr refl;
-        inflate = idle.inflate;
-        deflate = idle.deflate;
-        ballooned = idle.ballooned;
-        actual = idle.actual;
-        last = idle.last;
-      });
-    } in
-    ties_same m2 m3 part p3 state d2 new did.mem did.part did.driver there
-
 -- ---- the step
 
 -- what the driver's initialisation leaves of a guest whose pages have these frames
@@ -377,8 +222,13 @@ initialised : (m2 m3 : Pages) (p1 p3 : Part) (d1 d2 : DriverState) (g : Guest)
 initialised m2 m3 p1 p3 d1 d2 g frames wanted (Ok x) has backed new idle parts did =
     let fine : None ≡ feature_refusal wanted =
     did.refusal ∙ driver_tests m2 p1 wanted new (has_all m2 backed) in
-    let after : Guest = record g
-    { frames = frames; status = 15; features = wanted; buffer = NoBuffer } in
+    let after : Guest =
+    record g {
+      frames = frames;
+      status = 15;
+      features = wanted;
+      buffer = first_buffer (stats_vq wanted) (figures g);
+    } in
     record {
       new = after;
       same = record {

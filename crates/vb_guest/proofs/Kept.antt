@@ -3,10 +3,12 @@ use Rattle.std.specs.Prelude.{◌≡◌, ℕ, ◌==◌, ◌&&◌, not, Bool, tru
 use Rattle.std.specs.Prelude.{if◌then◌else◌, Option, Some, None, Result, Ok, Err, refl}
 use Rattle.std.proofs.Common.{◌∙◌, ap}
 use Rattle.vb_model.specs.declared.layout.TheConstants.{INFLATE_QUEUE, DEFLATE_QUEUE}
-use Rattle.vb_model.specs.declared.layout.TheConstants.{STATISTICS_QUEUE}
+use Rattle.vb_model.specs.declared.layout.TheConstants.{STATISTICS_QUEUE, REPORT_QUEUE}
+use Rattle.vb_model.specs.Device.{visiting}
 use Rattle.vb_model.specs.declared.replies.Refusal.{Refusal}
-use Rattle.vb_model.specs.declared.replies.Refusal.TheVariants.{NoQueue, NotReady, NeedsReset, NotTaken}
-use Rattle.vb_model.specs.declared.replies.Refusal.TheVariants.{NotWorked, Broken, RingBroken}
+use Rattle.vb_model.specs.declared.replies.Refusal.TheVariants.{NoQueue, NotReady, NeedsReset}
+use Rattle.vb_model.specs.declared.replies.Refusal.TheVariants.{NotTaken, NotWorked, Broken}
+use Rattle.vb_model.specs.declared.replies.Refusal.TheVariants.{RingBroken}
 use Rattle.vb_model.specs.Refusals.{◌⇒◌, first_refusal}
 use Rattle.vb_model.specs.Requests.{Request}
 use Rattle.vb_model.specs.Tables.{is_queue_of_requests, is_not_ready, has_fault, has_unvisited}
@@ -17,11 +19,13 @@ use Rattle.vb_driver.specs.State.{DriverState}
 use Rattle.vb_driver.specs.declared.answers.Posted.{Posted}
 use Rattle.vb_driver.specs.declared.answers.Reaped.{Reaped}
 use Rattle.vb_driver.specs.Calls.{InflatesBy, DeflatesBy, DeflatesOnOomBy, ReapsBy, after_refusal}
-use Rattle.vb_device.specs.Queues.{with_queue}
+use Rattle.vb_driver.specs.Calls.{ReportsBy, FillsBy}
+use Rattle.vb_device.specs.Queues.{queue_part, with_queue}
 use Rattle.vb_device.specs.declared.worked.Worked.{Worked}
-use Rattle.vb_device.specs.Conditions.{work_refusal, finish_refusal, sweep_refusal, taken_at}
-use Rattle.vb_device.specs.Calls.{TakesBy, TakeMeans, taking, next_visit, WorksBy}
-use Rattle.vb_device.specs.Calls.{FinishesBy, settled, using, SweepsBy}
+use Rattle.vb_device.specs.Conditions.{work_refusal, finish_refusal, sweep_refusal, ask_refusal}
+use Rattle.vb_device.specs.Conditions.{taken_at}
+use Rattle.vb_device.specs.Calls.{TakesBy, TakeMeans, taking, noting, next_visit, Visits, WorksBy}
+use Rattle.vb_device.specs.Calls.{FinishesBy, settled, using, SweepsBy, AsksBy}
 
 -- the device keeps frames as it did, and the same of them are out
 pub record SameOwn (p1 p2 : Part) : Type 0 where
@@ -103,10 +107,16 @@ take_kept q m1 m2 p1 p2 result did = by result did.means
     by : (r : Result (Option ℕ) Refusal) → TakeMeans q m1 p1 p2 r → SameOwn p1 p2
     by (Ok None) means = as_it_was p1 p2 means.1
     by (Ok (Some h)) means =
-        same_then p1 (taking q h means.1.0 p1) p2 (queue_kept q _ p1)
-        (as_it_was (taking q h means.1.0 p1) p2 means.1.2)
+        let noted = noting q m1 means.1.1.pieces p1 in
+        let after = taking q h means.1.0 noted in
+        same_then p1 after p2
+        (same_then p1 noted after (record { flag = refl; numbers = refl }) (queue_kept q _ noted))
+        (as_it_was after p2 means.1.2)
     by (Err (Broken rule)) means =
-        record { flag = ap (λ (p : Part). p.keeps) means.1; numbers = ap (λ (p : Part). p.own) means.1 }
+        record {
+          flag = ap (λ (p : Part). p.keeps) means.1;
+          numbers = ap (λ (p : Part). p.own) means.1;
+        }
     by (Err why) means = as_it_was p1 p2 means.1
 
 -- a finish that isn't refused is one of a taken request
@@ -144,14 +154,49 @@ sweep_kept page m1 m2 p1 p2 result did = by (sweep_refusal page p1) refl
     by (Some why) e = as_it_was p1 p2 (did.refused why e).1
     by None e = loose_kept p1 p2 (did.part e)
 
+visit_kept : (q page : ℕ) (m1 m2 : Pages) (p1 p2 : Part) (result : Result (Option Worked) Refusal)
+    → Visits q page m1 m2 p1 p2 result → SameOwn p1 p2
+visit_kept q page m1 m2 p1 p2 result did =
+    let after = with_queue q
+    (record (queue_part q p1) { taken = visiting (queue_part q p1).taken }) p1 in
+    same_then p1 after p2 (queue_kept q _ p1) (loose_kept after p2 did.part)
+
 pub work_kept : (m1 m2 : Pages) (p1 p2 : Part) (result : Result (Option Worked) Refusal)
     → WorksBy m1 m2 p1 p2 result → SameOwn p1 p2
-work_kept m1 m2 p1 p2 result did = by (work_refusal p1) (next_visit p1) refl refl
+work_kept m1 m2 p1 p2 result did =
+    by (work_refusal p1) (next_visit INFLATE_QUEUE p1) (next_visit REPORT_QUEUE p1) refl refl refl
   where
-    by : (o : Option Refusal) (next : Option ℕ) → work_refusal p1 ≡ o → next_visit p1 ≡ next
+    by : (o : Option Refusal) (first second : Option ℕ) → work_refusal p1 ≡ o
+        → next_visit INFLATE_QUEUE p1 ≡ first → next_visit REPORT_QUEUE p1 ≡ second
         → SameOwn p1 p2
-    by (Some why) next e is = as_it_was p1 p2 (did.refused why e).1
-    by None None e is = as_it_was p1 p2 (did.idle e is).1
-    by None (Some page) e is =
-        let part = (did.visits page e is).part in
-        record { flag = ap (λ (p : Part). p.keeps) part; numbers = ap (λ (p : Part). p.own) part }
+    by (Some why) first second e is other = as_it_was p1 p2 (did.refused why e).1
+    by None None None e is other = as_it_was p1 p2 (did.idle e is other).1
+    by None (Some page) second e is other =
+        visit_kept INFLATE_QUEUE page m1 m2 p1 p2 result (did.inflate page e is)
+    by None None (Some page) e is other =
+        visit_kept REPORT_QUEUE page m1 m2 p1 p2 result (did.report page e is other)
+
+-- ---- statistics and reports
+
+pub report_kept : (m1 m2 : Pages) (p1 p2 : Part) (d1 d2 : DriverState) (from : ℕ)
+    (result : Result Posted Refusal) → ReportsBy m1 m2 p1 p2 d1 d2 from result → SameOwn p1 p2
+report_kept m1 m2 p1 p2 d1 d2 from (Ok posted) did = as_it_was p1 p2 did.reports.part
+report_kept m1 m2 p1 p2 d1 d2 from (Err why) did = as_it_was p1 p2 did.refused.part
+
+pub stats_kept : (m1 m2 : Pages) (p1 p2 : Part) (d1 d2 : DriverState) (result : Result Bool Refusal)
+    → FillsBy m1 m2 p1 p2 d1 d2 result → SameOwn p1 p2
+stats_kept m1 m2 p1 p2 d1 d2 (Ok true) did = as_it_was p1 p2 did.fills.part
+stats_kept m1 m2 p1 p2 d1 d2 (Ok false) did = as_it_was p1 p2 did.fills.unchanged.part
+stats_kept m1 m2 p1 p2 d1 d2 (Err why) did =
+    same_then p1 (after_refusal why p1) p2 (after_kept why p1)
+    (as_it_was (after_refusal why p1) p2 did.refused.part)
+
+pub ask_kept : {T : Type 0} (m1 m2 : Pages) (p1 p2 : Part) (result : Result T Refusal)
+    → AsksBy m1 m2 p1 p2 result → SameOwn p1 p2
+ask_kept m1 m2 p1 p2 result did = by (ask_refusal p1) refl
+  where
+    by : (o : Option Refusal) → ask_refusal p1 ≡ o → SameOwn p1 p2
+    by (Some why) e = as_it_was p1 p2 (did.refused why e).1
+    by None e =
+        let after = using STATISTICS_QUEUE 0 p1 in
+        same_then p1 after p2 (queue_kept STATISTICS_QUEUE _ p1) (as_it_was after p2 (did.part e))

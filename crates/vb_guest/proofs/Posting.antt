@@ -1,10 +1,10 @@
 -- The driver posts a request.
-use Rattle.std.specs.Prelude.{◌≡◌, ◌≢◌, ℕ, ◌+◌, ◌*◌, ◌/◌, ◌%◌, ◌<◌, ◌≤◌, ◌==◌, Bool, true, false}
-use Rattle.std.specs.Prelude.{List, [], ◌∷◌, ◌++◌, All, length, Option, Some, None, Ok, slice_get}
+use Rattle.std.specs.Prelude.{◌≡◌, ◌≢◌, ℕ, ◌+◌, ◌<◌, ◌==◌, Bool, true, false, cond}
+use Rattle.std.specs.Prelude.{List, [], All, length, Option, Some, None, Ok}
 use Rattle.std.specs.Prelude.{slice_set, slice_index, slice_index_or, is_none, refl, ◌⊎◌}
-use Rattle.std.proofs.Common.{sym, ◌∙◌, ap, subst, arith, append_assoc, inl, inr, eq-eqb}
+use Rattle.std.proofs.Common.{sym, ◌∙◌, ap, subst, arith, inl, inr}
 use Rattle.std.proofs.lemmas.Bool.{cases_eq}
-use Rattle.std.proofs.lemmas.List.{map_push, length-set, get_or-set_same, get_or-set_other}
+use Rattle.std.proofs.lemmas.List.{length-set, get_or-set_same, get_or-set_other}
 use Rattle.std.proofs.lemmas.List.Elements.{All-push}
 use Rattle.std.proofs.lemmas.Option.{get_or_from_slice_get, slice_get_within}
 use Rattle.std.proofs.lemmas.List.Sums.{get_or-le-sum_by}
@@ -15,50 +15,48 @@ use Rattle.vb_model.specs.Requests.{Request, Requests, all_requests, headed, out
 use Rattle.vb_model.specs.Requests.{IsLeastHead}
 use Rattle.vb_ram.specs.Pages.{Pages}
 use Rattle.vb_ram.specs.Part.{QueuePart}
+use Rattle.vb_chain.specs.Table.{descriptor_at}
 use Rattle.vb_ring.proofs.Numbers.{numbers_pass, numbers_has, numbers_rise}
 use Rattle.vb_ring.specs.Entries.{is_own, is_head}
 use Rattle.vb_ring.specs.Ends.{DriverEnd, is_unused, free_descriptors, next_head, after_add}
 use Rattle.vb_ring.specs.Ends.{outstanding as outstanding_in}
-use Rattle.vb_ring.specs.Meaning.{UsedElem, ids, times, Shows, Tracks}
 use Rattle.vb_driver.specs.Coding.{IsCoded}
 use Rattle.vb_driver.specs.State.{Side, AreRequests}
-use Rattle.vb_driver.specs.Calls.{Posts}
-use Rattle.vb_guest.specs.Line.{AreRequested, Line, IsRequest, heads_of, used_of}
-use Rattle.vb_guest.proofs.Heads.{times-published, headed-all, length-published}
+use Rattle.vb_driver.specs.Calls.{Announces, Posts}
+use Rattle.vb_guest.specs.Ring.{RingStands}
+use Rattle.vb_guest.specs.Line.{AreRequested, Line, IsRequest, RingOf, heads_of}
+use Rattle.vb_guest.proofs.RingHeads.{ring_once, ring_count}
+use Rattle.vb_guest.proofs.RingPosted.{ring_posted}
+use Rattle.vb_guest.proofs.Heads.{times-heads, length-heads, heads-push, headed-all}
 use Rattle.vb_guest.proofs.Apart.{names_kept}
 
--- the first s of a list that begins with s others are those
-pub take_front : {A : Type 0} (xs ys : List A)
-    → Rattle.std.specs.Prelude.take (length xs) (xs ++ ys) ≡ xs
-take_front [] ys = take_none ys
-  where
-    take_none : {A : Type 0} (ys : List A) → Rattle.std.specs.Prelude.take {A = A} 0 ys ≡ []
-    take_none ys = refl
-take_front (x ∷ xs) ys = ap (λ l. x ∷ l) (take_front xs ys)
-
 -- the requests that have a head are one exactly where the driver's table has the head
-pub headed_once : (mem : Pages) (q n : ℕ) (side : Side) (part : QueuePart) (rs : Requests) (h : ℕ)
-    → Line mem q n side part rs
-    → headed h (all_requests rs) ≡ one_if (is_head side.ring.owner h)
-headed_once mem q n side part rs h line =
-    let front : times h (ids
-    (Rattle.std.specs.Prelude.take (length line.gone) (line.gone ++ used_of rs.done)))
-    ≡ times h (ids line.gone) =
-    ap (λ (l : List UsedElem). times h (ids l)) (take_front line.gone (used_of rs.done)) in
+pub headed_once : (mem : Pages) (q : ℕ) (ring : DriverEnd) (part : QueuePart) (rs : Requests)
+    (h : ℕ) → RingOf mem q ring part rs
+    → headed h (all_requests rs) ≡ one_if (is_head ring.owner h)
+headed_once mem q ring part rs h stands =
     omega (
       arith,
-      line.tracks.out h,
-      front,
-      times-published h line.before rs.posted,
-      line.balance h,
+      ring_once mem q ring part.next_avail part.next_used (heads_of rs.posted) (heads_of rs.taken)
+          (heads_of rs.done) h stands,
+      times-heads h rs.posted,
+      times-heads h rs.taken,
+      times-heads h rs.done,
       headed-all h rs,
     )
 
 -- as many chains are out as there are requests
-pub outstanding_are : (mem : Pages) (q n : ℕ) (side : Side) (part : QueuePart) (rs : Requests)
-    → Line mem q n side part rs → outstanding_in side.ring ≡ outstanding rs
-outstanding_are mem q n side part rs line =
-    omega (arith, line.tracks.count, length-published line.before rs.posted, line.counted)
+pub outstanding_are : (mem : Pages) (q : ℕ) (ring : DriverEnd) (part : QueuePart) (rs : Requests)
+    → RingOf mem q ring part rs → outstanding_in ring ≡ outstanding rs
+outstanding_are mem q ring part rs stands =
+    omega (
+      arith,
+      ring_count mem q ring part.next_avail part.next_used (heads_of rs.posted)
+          (heads_of rs.taken) (heads_of rs.done) stands,
+      length-heads rs.posted,
+      length-heads rs.taken,
+      length-heads rs.done,
+    )
 
 none_own : (h : ℕ) (o : Option ℕ) → is_none o ≡ true → is_own h o ≡ false
 none_own h None e = refl
@@ -103,24 +101,22 @@ lowest_is r h is =
     }
 
 -- the new head is the least that no request has
-pub least_head : (mem : Pages) (q n : ℕ) (side : Side) (part : QueuePart) (rs : Requests) (h : ℕ)
-    → Line mem q n side part rs → AreRequests side → next_head side.ring ≡ Some h → IsLeastHead rs h
-least_head mem q n side part rs h line single is =
+pub least_head : (mem : Pages) (q : ℕ) (side : Side) (part : QueuePart) (rs : Requests) (h : ℕ)
+    → RingOf mem q side.ring part rs → AreRequests side → next_head side.ring ≡ Some h
+    → IsLeastHead rs h
+least_head mem q side part rs h stands single is =
     let lowest = lowest_is side.ring h is in
     record {
-      new = headed_once mem q n side part rs h line
+      new = headed_once mem q side.ring part rs h stands
           ∙ ap one_if (none_own h (slice_index_or side.ring.owner h None) lowest.free);
       least = λ k lt.
           let one : headed k (all_requests rs) ≡ 1 =
-          headed_once mem q n side part rs k line
+          headed_once mem q side.ring part rs k stands
           ∙ ap one_if (single.single k (lowest.below k lt)) in
           omega (arith, one);
     }
 
-one_is : (h : ℕ) → one_if (h == h) ≡ 1
-one_is h = ap one_if (eq-eqb h h refl)
-
-is_same : (h k : ℕ) → h ≡ k → Rattle.std.specs.Prelude.cond {A = ℕ} (h == k) 1 0 ≡ 1
+is_same : (h k : ℕ) → h ≡ k → cond {A = ℕ} (h == k) 1 0 ≡ 1
 is_same h k e = grind (arith, nat_tests)
 
 -- a head that no request has is not that of one of them
@@ -129,7 +125,7 @@ pub not_headed : (rs : List Request) (h k : ℕ) (d : Request) → headed h rs �
 not_headed rs h k d none lt e =
     let one = is_same (slice_index_or rs k d).head h e in
     let less = get_or-le-sum_by
-    (λ (r : Request). Rattle.std.specs.Prelude.cond {A = ℕ} (r.head == h) 1 0) rs k d lt in
+    (λ (r : Request). cond {A = ℕ} (r.head == h) 1 0) rs k d lt in
     omega arith
 
 -- a request that was out is still remembered
@@ -145,6 +141,19 @@ still_out size n sent h pages rs none all k d lt =
           (not_headed rs h k d none lt) ∙ is.remembered;
       pages = is.pages;
     }
+
+-- the head of the new request is the last of the posted ones
+pub requests_posted : (m1 m2 : Pages) (q : ℕ) (ring after : DriverEnd) (part : QueuePart)
+    (rs : Requests) (n head : ℕ) (pages : List ℕ)
+    → RingOf m1 q ring part rs → after ≡ after_add ring n (Ok head)
+    → Announces m1 m2 ring after head → RingOf m2 q after part (posting head pages rs)
+requests_posted m1 m2 q ring after part rs n head pages stands state did =
+    let R : List ℕ → Type 0 = λ l. RingStands m2 q after part.next_avail part.next_used l
+    (heads_of rs.taken) (heads_of rs.done) in
+    subst R
+    (sym (heads-push rs.posted (record { head = head; pages = pages; visited = 0 })))
+    (ring_posted m1 m2 q ring after part.next_avail part.next_used (heads_of rs.posted)
+    (heads_of rs.taken) (heads_of rs.done) n head stands state did)
 
 -- the queue's side once the request is out
 abbrev pub posted_side : Side → ℕ → List ℕ → Side
@@ -171,23 +180,14 @@ line_posted m1 m2 q n side after part rs head pages low single fine line did =
     line_posted_at m1 m2 q n side part rs head pages low single fine line did =
         let r : Request = record { head = head; pages = pages; visited = 0 } in
         let l = side.ring.layout in
-        let heads = line.before ++ heads_of rs.posted in
-        let elems = line.gone ++ used_of rs.done in
+        let sent = slice_set side.sent head pages in
+        let P : Request → Type 0 = IsRequest side.ring.size n sent in
         let lowest = lowest_is side.ring head did.lowest in
         let none : headed head (all_requests rs) ≡ 0 =
-        (least_head m1 q n side part rs head line single did.lowest).new in
+        (least_head m1 q side part rs head line.ring single did.lowest).new in
         let parts = headed-all head rs in
-        let grown : heads ++ head ∷ [] ≡ line.before ++ heads_of (rs.posted ++ r ∷ []) =
-        append_assoc line.before (heads_of rs.posted) (head ∷ [])
-        ∙ ap (λ (x : List ℕ). line.before ++ x)
-        (sym (map_push (λ (x : Request). x.head) rs.posted r)) in
-        let shown = did.shown heads elems (length line.gone) line.tracks line.shows in
-        let Q : List ℕ → Type 0 = λ x. Shows m2 l side.ring.size x elems in
-        let T : List ℕ → Type 0 =
-        λ x. Tracks m2 (posted_side side head pages).ring x elems (length line.gone) in
-        let table : l.table ≡ ring_page q = ap (λ x. x.table) line.layout in
-        let now : IsRequest side.ring.size n (slice_set side.sent head pages) r =
-        record {
+        let table : l.table ≡ ring_page q = ap (λ x. x.table) line.ring.layout in
+        let now : P r = record {
           inside = lowest.inside;
           few = did.small;
           remembered = get_or-set_same side.sent head pages []
@@ -196,20 +196,11 @@ line_posted m1 m2 q n side after part rs head pages low single fine line did =
         } in
         let C : ℕ → Type 0 = λ p. IsCoded m2 p (buffers_page q) head pages in
         record {
-          sized = line.sized;
-          layout = line.layout;
+          ring = requests_posted m1 m2 q side.ring (after_add side.ring 1 (Ok head)) part rs 1 head
+              pages line.ring refl did.announces;
           buffers = length-set side.sent head pages ∙ line.buffers;
-          before = line.before;
-          gone = line.gone;
-          shows = subst Q grown shown.0;
-          tracks = subst T grown shown.1;
-          next_avail = line.next_avail;
-          next_used = line.next_used;
-          counted = line.counted;
-          balance = line.balance;
-          posted = All-push (IsRequest side.ring.size n (slice_set side.sent head pages)) rs.posted
-              r (still_out side.ring.size n side.sent head pages rs.posted (omega arith)
-              line.posted) now;
+          posted = All-push P rs.posted r (still_out side.ring.size n side.sent head pages rs.posted
+              (omega arith) line.posted) now;
           taken = still_out side.ring.size n side.sent head pages rs.taken (omega arith) line.taken;
           done = still_out side.ring.size n side.sent head pages rs.done (omega arith) line.done;
           coded = All-push (λ (x : Request). IsCoded m2 (ring_page q) (buffers_page q) x.head
@@ -219,10 +210,9 @@ line_posted m1 m2 q n side after part rs head pages low single fine line did =
               let code = line.coded k d lt in
               let apart : x.head ≢ head = not_headed rs.posted head k d (omega arith) lt in
               record {
-                descriptor = ap (λ (p : ℕ). Rattle.vb_chain.specs.Table.descriptor_at m2 p x.head)
-                    (sym table) ∙ did.descriptors x.head known.inside apart
-                    ∙ ap (λ (p : ℕ). Rattle.vb_chain.specs.Table.descriptor_at m1 p x.head) table
-                    ∙ code.descriptor;
+                descriptor = ap (λ (p : ℕ). descriptor_at m2 p x.head) (sym table)
+                    ∙ did.descriptors x.head known.inside apart
+                    ∙ ap (λ (p : ℕ). descriptor_at m1 p x.head) table ∙ code.descriptor;
                 names = names_kept m1 m2 (buffer_page (buffers_page q) x.head)
                     (buffer_offset x.head) x.pages (buffer_offset x.head + 1024)
                     (did.rest.buffers x.head apart) (omega (arith, known.pages.few)) code.names;

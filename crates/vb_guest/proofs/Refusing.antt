@@ -1,5 +1,5 @@
 -- Device and model refuse the same calls.
-use Rattle.std.specs.Prelude.{◌≡◌, ℕ, ◌≤◌, Bool, true, false, not, ◌&&◌, nat_le, List}
+use Rattle.std.specs.Prelude.{◌≡◌, ℕ, Bool, true, false, not, ◌&&◌, nat_le, List}
 use Rattle.std.specs.Prelude.{[], ◌∷◌, length, Option, Some, is_none, slice_get, drop}
 use Rattle.std.specs.Prelude.{refl, ◌⊎◌}
 use Rattle.std.proofs.Common.{sym, ap, subst, inl, inr}
@@ -13,21 +13,18 @@ use Rattle.vb_model.specs.FirstRefusal.{◌⇒◌, first_refusal}
 use Rattle.vb_model.specs.Tables.{has_chains, is_queue_of_requests, has_unvisited, take_tests}
 use Rattle.vb_model.specs.Tables.{finish_tests}
 use Rattle.vb_model.specs.Refusals.{tests, refusal_of}
-use Rattle.vb_model.proofs.Queues.{no_requests_at, no_chains_at}
+use Rattle.vb_model.proofs.Queues.{IsNoQueue, no_chains_at}
 use Rattle.vb_ram.specs.Part.{Part}
 use Rattle.vb_device.specs.Conditions.{take_refusal, finish_refusal, taken_at}
 use Rattle.vb_device.specs.Queues.{queue_part}
 use Rattle.vb_guest.proofs.Closing.{first_holds}
 
-pub no_chains : (q : ℕ) → 2 ≤ q → not (has_chains q) ≡ true
+pub no_chains : (q : ℕ) → IsNoQueue q → not (has_chains q) ≡ true
 no_chains q h = ap not (no_chains_at q h)
-
-pub no_requests_there : (q : ℕ) → 2 ≤ q → not (is_queue_of_requests q) ≡ true
-no_requests_there q h = ap not (no_requests_at q h)
 
 -- ---- take
 
-pub take_no_queue : (q : ℕ) (g : Guest) (part : Part) → 2 ≤ q
+pub take_no_queue : (q : ℕ) (g : Guest) (part : Part) → IsNoQueue q
     → (take_refusal q part ≡ Some NoQueue) × (refusal_of g (Take q) ≡ Some NoQueue)
 take_no_queue q g part h = (
   first_holds (not (has_chains q)) NoQueue
@@ -77,14 +74,14 @@ take_idle g down =
 
 -- ---- finish
 
-pub finish_no_queue : (q i : ℕ) (g : Guest) (part : Part) → 2 ≤ q
+pub finish_no_queue : (q i : ℕ) (g : Guest) (part : Part) → is_queue_of_requests q ≡ false
     → (finish_refusal q i part ≡ Some NoQueue) × (refusal_of g (Finish q i) ≡ Some NoQueue)
 finish_no_queue q i g part h = (
   first_holds (not (is_queue_of_requests q)) NoQueue
       (drop 1 (finish_tests q part.status part.paced (taken_at q i part)))
-      (no_requests_there q h),
+      (ap not h),
   first_holds (not (is_queue_of_requests q)) NoQueue (drop 1 (tests g (Finish q i)))
-      (no_requests_there q h),
+      (ap not h),
 )
 
 -- which taken chains aren't finished: there is none, or it isn't worked off

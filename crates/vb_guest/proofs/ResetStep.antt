@@ -4,12 +4,14 @@ use Rattle.std.proofs.Common.{◌∙◌, ap, inl}
 use Rattle.vb_model.specs.declared.calls.Call.TheVariants.{Reset}
 use Rattle.vb_model.specs.declared.places.Place.{Place}
 use Rattle.vb_model.specs.declared.replies.Reply.TheVariants.{Done}
+use Rattle.vb_model.specs.Pages.{pages_of_all}
 use Rattle.vb_model.specs.Guest.{Guest}
 use Rattle.vb_model.specs.Life.{place_after_reset, after_reset}
 use Rattle.vb_ram.specs.Pages.{Pages}
 use Rattle.vb_ram.specs.Part.{Part}
 use Rattle.vb_status.specs.After.{part_after_reset as device_after_reset}
-use Rattle.vb_driver.specs.State.{DriverState, fresh_side}
+use Rattle.vb_driver.specs.State.{DriverState, fresh_side, fresh_statistics, fresh_report}
+use Rattle.vb_driver.specs.Areas.{areas_with}
 use Rattle.vb_driver.specs.Calls.{ResetsBy}
 use Rattle.vb_guest.specs.Stands.{Honest, Ties}
 use Rattle.vb_guest.specs.Steps.{StepsAlone}
@@ -24,8 +26,11 @@ reset_step m1 m2 p1 p2 d1 d2 g did stands =
     let state : DriverState =
     record d1 {
       places = map place_after_reset d1.places;
+      areas = areas_with (pages_of_all d1.report.blocks) d1.areas;
       inflate = fresh_side 0 d1.queue_size;
       deflate = fresh_side 1 d1.queue_size;
+      statistics = fresh_statistics d1.queue_size;
+      report = fresh_report d1.queue_size;
       features = 0;
     } in
     let size : length p1.ballooned ≡ g.config.pages =
@@ -34,8 +39,6 @@ reset_step m1 m2 p1 p2 d1 d2 g did stands =
       parts = record {
         guest = record {
           honest = parts.guest.honest;
-          buffer = refl;
-          report = refl;
           config = parts.guest.config;
         };
         driver = record {
@@ -63,6 +66,8 @@ reset_step m1 m2 p1 p2 d1 d2 g did stands =
         state = inl refl;
         inflate = refl;
         deflate = refl;
+        report = refl;
+        buffer = refl;
         ballooned = refl;
         actual = refl;
         last = refl;

@@ -29,12 +29,14 @@ use Rattle.vb_guest.specs.Stands.{Honest, Ties, IsRunning}
 use Rattle.vb_guest.specs.Steps.{StepsFreeing}
 use Rattle.vb_guest.specs.Replies.{swept_reply}
 use Rattle.vb_guest.proofs.Apart.{line_apart, above_apart}
+use Rattle.vb_guest.proofs.BufferLines.{buffer_apart}
+use Rattle.vb_guest.proofs.ReportLines.{report_apart}
 use Rattle.vb_guest.proofs.Discarding.{frames_freed}
 use Rattle.vb_guest.proofs.Offered.{high_page}
 use Rattle.vb_guest.proofs.PagesKept.{pages_discarded, page_undiscarded}
 use Rattle.vb_guest.proofs.Closing.{honest_refused, honest_performed, still_stands, guest_step}
 use Rattle.vb_guest.proofs.Closing.{ties_same}
-use Rattle.vb_guest.proofs.FinishStep.{handed_back, loose_none, not_among, behind_same}
+use Rattle.vb_guest.proofs.Handing.{handed_back, loose_none, not_among, behind_same}
 
 either : (b : Bool) → (b ≡ true) ⊎ (b ≡ false)
 either true = inl refl
@@ -158,6 +160,12 @@ sweep_done m1 m2 p1 p2 d g page result did stands run by_part by_model flag =
         backed = λ p lt. ap is_some (ap number_of (low p (omega arith))) ∙ run.backed p lt;
         inflate_size = run.inflate_size;
         deflate_size = run.deflate_size;
+        statistics_size = run.statistics_size;
+        report_size = run.report_size;
+        statistics = buffer_apart m1 bare d.statistics p1.statistics g.buffer (low 2 (omega arith))
+            (low 12 (omega arith)) run.statistics;
+        report = report_apart m1 bare n d.report p1.report g.report (low 3 (omega arith))
+            run.report;
         inflate = line_apart m1 bare 0 n d.inflate p1.inflate g.inflate
             (above_apart m1 bare 0 (omega arith) (omega arith) low) run.inflate;
         deflate = line_apart m1 bare 1 n d.deflate p1.deflate g.deflate

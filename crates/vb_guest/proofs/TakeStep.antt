@@ -15,51 +15,32 @@ use Rattle.vb_ram.specs.Pages.{Pages}
 use Rattle.vb_ram.specs.Part.{Part}
 use Rattle.vb_ram.proofs.Limits.{config_limits}
 use Rattle.vb_chain.specs.Table.{descriptor_at}
+use Rattle.vb_chain.specs.declared.pieces.Piece.{Piece}
 use Rattle.vb_chain.specs.Rules.{piece_of}
 use Rattle.vb_chain.specs.Chain.{ChainGives}
 use Rattle.vb_driver.specs.Coding.{buffer_of}
-use Rattle.vb_ring.specs.declared.layout.Layout.{Layout}
-use Rattle.vb_ring.specs.Layout.{layout_of}
-use Rattle.vb_ring.specs.Entries.{next_entry}
 use Rattle.vb_driver.specs.State.{Side, DriverState}
 use Rattle.vb_device.specs.Conditions.{take_refusal}
 use Rattle.vb_device.specs.Queues.{queue_part}
-use Rattle.vb_device.specs.Calls.{TakesBy, taking}
-use Rattle.vb_guest.specs.Line.{Line, IsRequest, heads_of}
+use Rattle.vb_request.specs.Request.{page_request}
+use Rattle.vb_device.specs.Calls.{TakesBy, taking, request_of, noting}
+use Rattle.vb_guest.specs.Line.{Line, IsRequest}
 use Rattle.vb_guest.specs.Stands.{Honest, Ties, IsRunning}
 use Rattle.vb_guest.specs.Steps.{StepsAlone}
 use Rattle.vb_guest.specs.Replies.{taken_reply}
-use Rattle.vb_guest.proofs.Heads.{get_after, none_after}
+use Rattle.vb_guest.proofs.Handing.{same_entry}
+use Rattle.vb_guest.proofs.TakeBufferStep.{take_refused, take_buffer}
+use Rattle.vb_guest.proofs.TakeReportStep.{take_report}
 use Rattle.vb_guest.proofs.Taking.{next_shown, line_taken}
 use Rattle.vb_guest.proofs.Chains.{coded_chain, coded_pages}
 use Rattle.vb_model.proofs.Queues.{queue_cases}
 use Rattle.vb_guest.proofs.Refusing.{take_no_queue, take_running, take_running_part, take_idle}
 use Rattle.vb_guest.proofs.Refusing.{take_idle_part, busy_test}
-use Rattle.vb_guest.proofs.Closing.{steps_alone, refused_alone, honest_performed, ties_same}
+use Rattle.vb_guest.proofs.Closing.{steps_alone, honest_performed, ties_same}
 
 either : (b : Bool) → (b ≡ true) ⊎ (b ≡ false)
 either true = inl refl
 either false = inr refl
-
--- what a refused take replies
-pub take_refused : (m1 m2 : Pages) (p1 p2 : Part) (d : DriverState) (g : Guest) (q : ℕ)
-    (why : Refusal) (result : Result (Option ℕ) Refusal)
-    → TakesBy q m1 m2 p1 p2 result → Honest m1 p1 d g → take_refusal q p1 ≡ Some why
-    → refusal_of g (Take q) ≡ Some why
-    → StepsAlone (Honest m2 p2 d) g (Take q) (taken_reply result)
-take_refused m1 m2 p1 p2 d g q why result did stands by_part by_model =
-    let (answer, part) = did.refused why by_part in
-    subst (λ r. StepsAlone (Honest m2 p2 d) g (Take q) (taken_reply r)) (sym answer)
-    (refused_alone m1 m2 p1 p2 d d g (Take q) why stands by_model did.memory part refl)
-
--- the layout by the part's size is that of the driver's side
-pub same_entry : (mem : Pages) (q size next : ℕ) (side : Side)
-    → side.ring.layout ≡ layout_of (ring_page q) side.ring.size → size ≡ side.ring.size
-    → next_entry mem (layout_of (ring_page q) size) size next
-    ≡ next_entry mem side.ring.layout side.ring.size next
-same_entry mem q size next side layout same =
-    ap (λ (s : ℕ). next_entry mem (layout_of (ring_page q) s) s next) same
-    ∙ ap (λ (l : Layout). next_entry mem l side.ring.size next) (sym layout)
 
 -- what the device says of a queue with no posted request, and of one with some
 pub take_empty : (q n : ℕ) (m1 m2 : Pages) (p1 p2 : Part) (side : Side) (taken done : List Request)
@@ -69,30 +50,36 @@ pub take_empty : (q n : ℕ) (m1 m2 : Pages) (p1 p2 : Part) (side : Side) (taken
     → (result ≡ Ok None) × (p2 ≡ p1)
 take_empty q n m1 m2 p1 p2 side taken done result did free size line =
     let rs : Requests = record { posted = []; taken = taken; done = done } in
-    let next = same_entry m1 q p1.queue_size (queue_part q p1).next_avail side line.layout size
-    ∙ next_shown m1 q n side (queue_part q p1) rs line ∙ ap Ok (none_after line.before) in
+    let next = same_entry m1 q p1.queue_size (queue_part q p1).next_avail side.ring line.ring.layout
+    size ∙ next_shown m1 q side.ring (queue_part q p1) rs line.ring in
     did.empty free next
+
+-- a chain of these pieces is one of page numbers, and says nothing of statistics
+pub record IsPlain (q : ℕ) (mem : Pages) (part : Part) (pieces : List Piece) : Type 0 where
+  pub request : request_of q mem pieces ≡ page_request mem pieces
+  pub quiet : noting q mem pieces part ≡ part
 
 pub take_next : (q n : ℕ) (m1 m2 : Pages) (p1 p2 : Part) (side : Side) (r : Request)
     (rest taken done : List Request) (result : Result (Option ℕ) Refusal)
     → buffers_page q ≤ 8 → 64 ≤ n → length m1 ≡ n
+    → IsPlain q m1 p1 (piece_of (buffer_of (buffers_page q) r.head (length r.pages)) ∷ [])
     → TakesBy q m1 m2 p1 p2 result → take_refusal q p1 ≡ None → p1.queue_size ≡ side.ring.size
     → Line m1 q n side (queue_part q p1)
     (record { posted = r ∷ rest; taken = taken; done = done })
     → (result ≡ Ok (Some r.head)) × (p2 ≡ taking q r.head r.pages p1)
-take_next q n m1 m2 p1 p2 side r rest taken done result low large len did free size line =
+take_next q n m1 m2 p1 p2 side r rest taken done result low large len plain did free size line =
     let rs : Requests = record { posted = r ∷ rest; taken = taken; done = done } in
-    let next = same_entry m1 q p1.queue_size (queue_part q p1).next_avail side line.layout size
-    ∙ next_shown m1 q n side (queue_part q p1) rs line
-    ∙ ap Ok (get_after line.before r.head (heads_of rest)) in
+    let next = same_entry m1 q p1.queue_size (queue_part q p1).next_avail side.ring line.ring.layout
+    size ∙ next_shown m1 q side.ring (queue_part q p1) rs line.ring in
     let is : IsRequest side.ring.size n side.sent r = line.posted 0 r (omega arith) in
     let code = line.coded 0 r (omega arith) in
     let chain = coded_chain m1 q side.ring.size n side.sent r low large len is code in
     let pieces = piece_of (buffer_of (buffers_page q) r.head (length r.pages)) ∷ [] in
     let C : ℕ → Type 0 = λ s. ChainGives (descriptor_at m1 (ring_page q)) s (4096 * length m1)
     r.head pieces in
-    did.takes r.head pieces r.pages free next (subst C (sym size) chain)
-    (coded_pages m1 q side.ring.size n side.sent r len is code)
+    let (answer, part) = did.takes r.head pieces r.pages free next (subst C (sym size) chain)
+    (plain.request ∙ coded_pages m1 q side.ring.size n side.sent r len is code) in
+    (answer, part ∙ ap (taking q r.head r.pages) plain.quiet)
 
 busy_is : (taken : List Request) → nat_le 16 (length taken) ≡ true → busy_test taken ≡ Some Busy
 busy_is taken e = ap (λ (b : Bool). first_refusal ((b ⇒ Busy) ∷ [])) e
@@ -125,7 +112,8 @@ inflate_posted m1 m2 p1 p2 d g (r ∷ rest) result is did stands run free_part f
     let limits = config_limits g.config.pages g.config.queue_size g.config.processors
     stands.ties.parts.guest.config in
     let (answer, part) = take_next 0 g.config.pages m1 m2 p1 p2 d.inflate r rest g.inflate.taken
-    g.inflate.done result (omega arith) limits.pages_least stands.ties.pages.length_is did
+    g.inflate.done result (omega arith) limits.pages_least stands.ties.pages.length_is
+    (record { request = refl; quiet = refl }) did
     free_part (stands.ties.parts.device.size ∙ sym run.inflate_size) line in
     let new : Guest = record g {
       inflate = record g.inflate
@@ -143,6 +131,10 @@ inflate_posted m1 m2 p1 p2 d g (r ∷ rest) result is did stands run free_part f
         backed = run.backed;
         inflate_size = run.inflate_size;
         deflate_size = run.deflate_size;
+        statistics_size = run.statistics_size;
+        report_size = run.report_size;
+        statistics = run.statistics;
+        report = run.report;
         inflate = line_taken m1 0 g.config.pages d.inflate p1.inflate r rest g.inflate.taken
             g.inflate.done line;
         deflate = run.deflate;
@@ -200,7 +192,8 @@ deflate_posted m1 m2 p1 p2 d g (r ∷ rest) result is did stands run free_part f
     let limits = config_limits g.config.pages g.config.queue_size g.config.processors
     stands.ties.parts.guest.config in
     let (answer, part) = take_next 1 g.config.pages m1 m2 p1 p2 d.deflate r rest g.deflate.taken
-    g.deflate.done result (omega arith) limits.pages_least stands.ties.pages.length_is did
+    g.deflate.done result (omega arith) limits.pages_least stands.ties.pages.length_is
+    (record { request = refl; quiet = refl }) did
     free_part (stands.ties.parts.device.size ∙ sym run.deflate_size) line in
     let new : Guest = record g {
       deflate = record g.deflate
@@ -218,6 +211,10 @@ deflate_posted m1 m2 p1 p2 d g (r ∷ rest) result is did stands run free_part f
         backed = run.backed;
         inflate_size = run.inflate_size;
         deflate_size = run.deflate_size;
+        statistics_size = run.statistics_size;
+        report_size = run.report_size;
+        statistics = run.statistics;
+        report = run.report;
         deflate = line_taken m1 1 g.config.pages d.deflate p1.deflate r rest g.deflate.taken
             g.deflate.done line;
         inflate = run.inflate;
@@ -260,10 +257,18 @@ take_step m1 m2 p1 p2 d g q result did stands =
     elim (queue_cases q) [
       | inl first ↦ subst S (sym first)
           (inflate_take m1 m2 p1 p2 d g result (subst B first did) stands)
-      | inr other ↦ elim other [
+      | inr a ↦ elim a [
         | inl second ↦ subst S (sym second)
             (deflate_take m1 m2 p1 p2 d g result (subst B second did) stands)
-        | inr none ↦ (let no = take_no_queue q g p1 none in
-            take_refused m1 m2 p1 p2 d g q NoQueue result did stands no.0 no.1)
+        | inr b ↦ elim b [
+          | inl third ↦ subst S (sym third)
+              (take_buffer m1 m2 p1 p2 d g result (subst B third did) stands)
+          | inr c ↦ elim c [
+            | inl last ↦ subst S (sym last)
+                (take_report m1 m2 p1 p2 d g result (subst B last did) stands)
+            | inr none ↦ (let no = take_no_queue q g p1 none in
+                take_refused m1 m2 p1 p2 d g q NoQueue result did stands no.0 no.1)
+          ]
+        ]
       ]
     ]

@@ -37,12 +37,16 @@ target_step m1 m2 p1 p2 d g n memory part stands =
       };
       pages = ties.pages;
       queues = elim ties.queues [
-        | inl idle ↦ inl (idle_still g new refl refl refl refl refl refl refl idle)
+        | inl idle ↦ inl (idle_still g new refl refl refl refl refl refl refl refl refl idle)
         | inr run ↦ inr (record {
           state = run.state;
           backed = run.backed;
           inflate_size = run.inflate_size;
           deflate_size = run.deflate_size;
+          statistics_size = run.statistics_size;
+          report_size = run.report_size;
+          statistics = run.statistics;
+          report = run.report;
           inflate = run.inflate;
           deflate = run.deflate;
         })

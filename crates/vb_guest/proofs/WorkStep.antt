@@ -1,25 +1,21 @@
 -- The device's work is a step of the guest.
-use Rattle.std.specs.Prelude.{◌≡◌, ℕ, ◌+◌, ◌<◌, ◌≤◌, Bool, true, false, cond, if◌then◌else◌, List}
+use Rattle.std.specs.Prelude.{◌≡◌, ℕ, ◌<◌, ◌≤◌, Bool, true, false, List}
 use Rattle.std.specs.Prelude.{[], ◌∷◌, All, length, Result, Option, Some, None, is_some}
-use Rattle.std.specs.Prelude.{MatchOption, slice_get, refl, ◌⊎◌}
+use Rattle.std.specs.Prelude.{refl, ◌⊎◌}
 use Rattle.std.specs.Option.{option_to_list}
 use Rattle.std.specs.List.{flat_map}
 use Rattle.std.proofs.Common.{sym, ◌∙◌, ap, subst, arith, inl, inr}
-use Rattle.std.proofs.lemmas.List.Elements.{All-nil, All-cons, All-tail}
-use Rattle.std.proofs.lemmas.Option.{get_or_from_slice_get, slice_get_within}
+use Rattle.std.proofs.lemmas.List.Elements.{All-nil, All-cons}
 use Rattle.vb_model.specs.declared.calls.Call.TheVariants.{Work}
-use Rattle.vb_model.specs.declared.calls.Claim.{Claim}
 use Rattle.vb_model.specs.declared.replies.Refusal.{Refusal}
 use Rattle.vb_model.specs.declared.replies.Refusal.TheVariants.{NotReady}
 use Rattle.vb_model.specs.declared.replies.Reply.{Reply}
 use Rattle.vb_model.specs.declared.replies.Reply.TheVariants.{Idle, Worked, Refused}
-use Rattle.vb_model.specs.Requests.{Request, Requests, Inflating, Reporting_free, no_requests}
+use Rattle.vb_model.specs.Requests.{Request, Requests, Inflating}
 use Rattle.vb_model.specs.Guest.{Guest, frame_of}
-use Rattle.vb_model.specs.Device.{is_unvisited, visiting, next_page, visited}
+use Rattle.vb_model.specs.Device.{visiting, visited}
 use Rattle.vb_model.specs.Orderly.{times}
 use Rattle.vb_model.specs.Refusals.{refusal_of}
-use Rattle.vb_model.proofs.CallSteps.{Idles, Visits as VisitsOf}
-use Rattle.vb_model.proofs.InOrder.{headed-visiting, length-visiting}
 use Rattle.vb_ram.specs.Pages.{Pages, page_at, frame_at, number_of}
 use Rattle.vb_ram.specs.Part.{Part, QueuePart}
 use Rattle.vb_driver.specs.State.{Side, DriverState}
@@ -27,16 +23,21 @@ use Rattle.vb_device.specs.declared.worked.Worked.{Worked as WorkedPage}
 use Rattle.vb_device.specs.Conditions.{work_refusal}
 use Rattle.vb_device.specs.Discards.{discarded, frames_behind}
 use Rattle.vb_device.specs.Calls.{next_visit, Visits, WorksBy}
-use Rattle.vb_guest.specs.Line.{Line, IsRequest}
+use Rattle.vb_guest.specs.Line.{Line, IsRequest, heads_of}
+use Rattle.vb_guest.specs.Ring.{RingStands}
 use Rattle.vb_guest.specs.Stands.{Honest, Ties, IsRunning}
 use Rattle.vb_guest.specs.Steps.{StepsFreeing}
 use Rattle.vb_guest.specs.Replies.{worked_reply}
 use Rattle.vb_guest.proofs.Apart.{line_apart, above_apart}
+use Rattle.vb_guest.proofs.BufferLines.{buffer_apart}
+use Rattle.vb_guest.proofs.ReportLines.{report_apart}
+use Rattle.vb_guest.proofs.Heads.{heads-visiting, all-visiting}
 use Rattle.vb_guest.proofs.Discarding.{frames_freed}
 use Rattle.vb_guest.proofs.PagesKept.{pages_discarded, page_undiscarded}
 use Rattle.vb_guest.proofs.Closing.{honest_refused, honest_performed, still_stands, guest_step}
 use Rattle.vb_guest.proofs.Closing.{ties_same}
-use Rattle.vb_guest.proofs.FinishStep.{handed_back, loose_none, not_among, behind_same}
+use Rattle.vb_guest.proofs.Handing.{handed_back, loose_none, not_among, behind_same}
+use Rattle.vb_guest.proofs.WorkReportStep.{visit_of, WorksOn, next_taken, work_report}
 
 -- ---- refusals
 
@@ -82,39 +83,21 @@ work_refused m1 m2 p1 p2 d g why result did stands by_part by_model =
 
 -- ---- nothing to visit
 
--- the next page of a device of this pace
-abbrev visit_of : Bool → List Request → Option ℕ
-visit_of paced taken = if paced then next_page taken else None
-
--- what a device does that would visit this page of an inflate, and this one of a report
-abbrev WorksOn : Option ℕ → Option ℕ → Guest → Reply → Guest → Type 0
-WorksOn a b g reply new =
-    MatchOption a (MatchOption b (Idles g reply new) (VisitsOf Reporting_free g reply new))
-    (VisitsOf Inflating g reply new)
-
--- no report is taken
-no_report : (g : Guest) → g.report ≡ no_requests → visit_of g.config.paced g.report.taken ≡ None
-no_report g e =
-    ap (λ (rs : Requests). visit_of g.config.paced rs.taken) e ∙ none g.config.paced
-  where
-    none : (paced : Bool) → visit_of paced [] ≡ None
-    none true = refl
-    none false = refl
-
 work_idle : (m1 m2 : Pages) (p1 p2 : Part) (d : DriverState) (g : Guest)
     (result : Result (Option WorkedPage) Refusal)
     → WorksBy m1 m2 p1 p2 result → Honest m1 p1 d g → work_refusal p1 ≡ None
-    → refusal_of g Work ≡ None → next_visit p1 ≡ None
-    → visit_of g.config.paced g.inflate.taken ≡ None
+    → refusal_of g Work ≡ None → next_visit 0 p1 ≡ None
+    → next_visit 4 p1 ≡ None → visit_of g.config.paced g.inflate.taken ≡ None
+    → visit_of g.config.paced g.report.taken ≡ None
     → StepsFreeing (Honest m2 (handed_back p2) d) p2.loose g Work (worked_reply result)
-work_idle m1 m2 p1 p2 d g result did stands by_part by_model here there =
-    let (answer, part, memory) = did.idle by_part here in
+work_idle m1 m2 p1 p2 d g result did stands by_part by_model here later there after =
+    let (answer, part, memory) = did.idle by_part here later in
     let W : Option ℕ → Type 0 = λ a. WorksOn a (visit_of g.config.paced g.report.taken) g Idle g in
     let R : Option ℕ → Type 0 = λ b. WorksOn None b g Idle g in
     let step = honest_performed g Work [] Idle g by_model (
       refl,
       subst W (sym there)
-          (subst R (sym (no_report g stands.ties.parts.guest.report)) (refl, refl)),
+          (subst R (sym after) (refl, refl)),
     ) in
     let same = ap handed_back part ∙ loose_none p1 stands.ties.parts.device.loose in
     let none : p2.loose ≡ [] = ap (λ (p : Part). p.loose) part ∙ stands.ties.parts.device.loose in
@@ -129,65 +112,28 @@ work_idle m1 m2 p1 p2 d g result did stands by_part by_model here there =
 
 -- ---- a visit
 
--- what holds of each page of each taken request holds of the next one
-next_taken : (P : ℕ → Type 0) (rs : List Request) (page : ℕ) → All (λ r. All P r.pages) rs
-    → next_page rs ≡ Some page → P page
-next_taken P [] page all e = absurd cc
-next_taken P (r ∷ rs) page all e =
-    step (is_unvisited r) e (next_taken P rs page (All-tail (λ (x : Request). All P x.pages) r rs all))
-  where
-    step : (v : Bool) → cond v (slice_get r.pages r.visited) (next_page rs) ≡ Some page
-        → (next_page rs ≡ Some page → P page) → P page
-    step true is later =
-        subst P (get_or_from_slice_get r.pages r.visited page page is)
-        (all 0 r (omega arith) r.visited page (slice_get_within r.pages r.visited page is))
-    step false is later = later is
-
 -- a visit changes a request's count alone
-all-visiting : (size n : ℕ) (sent : List (List ℕ)) (rs : List Request)
-    → All (IsRequest size n sent) rs → All (IsRequest size n sent) (visiting rs)
-all-visiting size n sent [] all = all
-all-visiting size n sent (r ∷ rs) all =
-    step (is_unvisited r) (all-visiting size n sent rs (All-tail (IsRequest size n sent) r rs all))
-  where
-    step : (v : Bool) → All (IsRequest size n sent) (visiting rs)
-        → All (IsRequest size n sent)
-        (cond v (record r { visited = r.visited + 1 } ∷ rs) (r ∷ visiting rs))
-    step true later =
-        let first : IsRequest size n sent r = all 0 r (omega arith) in
-        let now : IsRequest size n sent (record r { visited = r.visited + 1 }) = record {
-          inside = first.inside;
-          few = first.few;
-          remembered = first.remembered;
-          pages = first.pages;
-        } in
-        All-cons (IsRequest size n sent) (record r { visited = r.visited + 1 }) rs now
-        (All-tail (IsRequest size n sent) r rs all)
-    step false later =
-        All-cons (IsRequest size n sent) r (visiting rs) (all 0 r (omega arith)) later
-
 line_visited : (mem : Pages) (q n : ℕ) (side : Side) (part : QueuePart) (rs : Requests)
     → Line mem q n side part rs
     → Line mem q n side (record part { taken = visiting part.taken })
     (record rs { taken = visiting rs.taken })
-line_visited mem q n side part rs line = record {
-  sized = line.sized;
-  layout = line.layout;
-  buffers = line.buffers;
-  before = line.before;
-  gone = line.gone;
-  shows = line.shows;
-  tracks = line.tracks;
-  next_avail = line.next_avail;
-  next_used = line.next_used;
-  counted = omega (arith, line.counted, length-visiting rs.taken);
-  balance = λ h. omega (arith, line.balance h, headed-visiting h rs.taken);
-  posted = line.posted;
-  taken = all-visiting side.ring.size n side.sent rs.taken line.taken;
-  done = line.done;
-  coded = line.coded;
-  remembers = ap visiting line.remembers;
-}
+line_visited mem q n side part rs line =
+    let S : List ℕ → Type 0 = λ l. RingStands mem q side.ring part.next_avail part.next_used
+    (heads_of rs.posted) l (heads_of rs.done) in
+    record {
+      ring = subst S (sym (heads-visiting rs.taken)) line.ring;
+      buffers = line.buffers;
+      posted = line.posted;
+      taken = all-visiting (IsRequest side.ring.size n side.sent) (λ r is. record {
+        inside = is.inside;
+        few = is.few;
+        remembered = is.remembered;
+        pages = is.pages;
+      }) rs.taken line.taken;
+      done = line.done;
+      coded = line.coded;
+      remembers = ap visiting line.remembers;
+    }
 
 work_visits : (m1 m2 : Pages) (p1 p2 : Part) (d : DriverState) (g : Guest) (page : ℕ)
     (result : Result (Option WorkedPage) Refusal)
@@ -239,6 +185,12 @@ work_visits m1 m2 p1 p2 d g page result did stands run by_model there high =
         backed = λ p lt. ap is_some (ap number_of (low p (omega arith))) ∙ run.backed p lt;
         inflate_size = run.inflate_size;
         deflate_size = run.deflate_size;
+        statistics_size = run.statistics_size;
+        report_size = run.report_size;
+        statistics = buffer_apart m1 bare d.statistics p1.statistics g.buffer (low 2 (omega arith))
+            (low 12 (omega arith)) run.statistics;
+        report = report_apart m1 bare n d.report p1.report g.report (low 3 (omega arith))
+            run.report;
         inflate = line_visited bare 0 n d.inflate p1.inflate g.inflate
             (line_apart m1 bare 0 n d.inflate p1.inflate g.inflate
             (above_apart m1 bare 0 (omega arith) (omega arith) low) run.inflate);
@@ -290,22 +242,31 @@ work_step m1 m2 p1 p2 d g result did stands =
           (idle_part p1 (subst D (sym stands.ties.parts.device.status) idle.state))
           (idle_guest g idle.state)
       | inr run ↦
-          let same : next_visit p1 ≡ visit_of g.config.paced g.inflate.taken =
-          ap (λ (b : Bool). visit_of b p1.inflate.taken) stands.ties.parts.device.paced
+          let paced = stands.ties.parts.device.paced in
+          let first : next_visit 0 p1 ≡ visit_of g.config.paced g.inflate.taken =
+          ap (λ (b : Bool). visit_of b p1.inflate.taken) paced
           ∙ ap (λ (rs : List Request). visit_of g.config.paced rs) run.inflate.remembers in
-          by_next (visit_of g.config.paced g.inflate.taken) run refl same
+          let second : next_visit 4 p1 ≡ visit_of g.config.paced g.report.taken =
+          ap (λ (b : Bool). visit_of b p1.report.taken) paced
+          ∙ ap (λ (rs : List Request). visit_of g.config.paced rs) run.report.remembers in
+          by_next (visit_of g.config.paced g.inflate.taken) (visit_of g.config.paced g.report.taken)
+          run (running_part p1 (stands.ties.parts.device.status ∙ run.state)) refl refl first second
     ]
   where
-    by_next : (o : Option ℕ) → IsRunning m1 p1 d g → visit_of g.config.paced g.inflate.taken ≡ o
-        → next_visit p1 ≡ visit_of g.config.paced g.inflate.taken
+    by_next : (o later : Option ℕ) → IsRunning m1 p1 d g → work_refusal p1 ≡ None
+        → visit_of g.config.paced g.inflate.taken ≡ o
+        → visit_of g.config.paced g.report.taken ≡ later
+        → next_visit 0 p1 ≡ visit_of g.config.paced g.inflate.taken
+        → next_visit 4 p1 ≡ visit_of g.config.paced g.report.taken
         → StepsFreeing (Honest m2 (handed_back p2) d) p2.loose g Work (worked_reply result)
-    by_next None run is same =
-        work_idle m1 m2 p1 p2 d g result did stands
-        (running_part p1 (stands.ties.parts.device.status ∙ run.state)) (running g run.state)
-        (same ∙ is) is
-    by_next (Some page) run is same =
-        work_visits m1 m2 p1 p2 d g page result
-        (did.visits page (running_part p1 (stands.ties.parts.device.status ∙ run.state))
-        (same ∙ is)) stands run (running g run.state) is
+    by_next None None run free is none first second =
+        work_idle m1 m2 p1 p2 d g result did stands free (running g run.state) (first ∙ is)
+        (second ∙ none) is none
+    by_next None (Some page) run free is some first second =
+        work_report m1 m2 p1 p2 d g page result (did.report page free (first ∙ is) (second ∙ some))
+        stands run (running g run.state) is some
+    by_next (Some page) later run free is what first second =
+        work_visits m1 m2 p1 p2 d g page result (did.inflate page free (first ∙ is)) stands run
+        (running g run.state) is
         (next_high g.config.paced d.inflate.ring.size g.config.pages d.inflate.sent g.inflate.taken
         page run.inflate.taken is)

@@ -120,9 +120,9 @@ written_ties m1 m2 p1 p2 d g page off bs high covers ties wrote part =
       pages = pages_wrote m1 m2 g.config.pages page off bs g.frames g.contents high
           (omega (arith, covers.page, ties.pages.length_is)) covers.bytes ties.pages wrote;
       queues = elim ties.queues [
-        | inl idle ↦ inl (idle_still g new refl refl refl refl refl refl refl idle)
+        | inl idle ↦ inl (idle_still g new refl refl refl refl refl refl refl refl refl idle)
         | inr run ↦ inr (running_apart m1 m2 p1 d g new (λ p lt. wrote.rest.others p (omega arith))
-            refl refl refl refl run)
+            refl refl refl refl refl refl run)
       ];
     } in
     subst (λ p. Ties m2 p d new) (sym part) there
@@ -249,9 +249,9 @@ write_supplied Answers out1 out2 m1 m2 m3 m4 p1 p2 p3 p4 d g page off frame bs a
       pages = pages_supplied m1 m3 g.config.pages page frame g.frames g.contents lt bare
           stands.ties.pages supplied;
       queues = elim stands.ties.queues [
-        | inl idle ↦ inl (idle_still g after refl refl refl refl refl refl refl idle)
+        | inl idle ↦ inl (idle_still g after refl refl refl refl refl refl refl refl refl idle)
         | inr run ↦ inr (running_apart m1 m3 p1 d g after (λ p low. supplied.others p (omega arith))
-            refl refl refl refl run)
+            refl refl refl refl refl refl run)
       ];
     } in
     let W : List ℕ → Type 0 =

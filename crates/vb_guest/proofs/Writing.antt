@@ -13,7 +13,7 @@ use Rattle.vb_model.specs.declared.places.Place.{Place}
 use Rattle.vb_model.specs.declared.places.Place.TheVariants.{Used}
 use Rattle.vb_model.specs.Tests.{one_if, each_page}
 use Rattle.vb_model.specs.Pages.{place_of, is_used}
-use Rattle.vb_model.specs.Requests.{Requests}
+use Rattle.vb_model.specs.Requests.{Requests, Buffer}
 use Rattle.vb_model.specs.Guest.{Guest, zero_page, frame_of, backed}
 use Rattle.vb_model.specs.Driver.{overwritten}
 use Rattle.vb_model.specs.Orderly.{IsOrderly, is_reserved}
@@ -24,9 +24,15 @@ use Rattle.vb_ram.proofs.Contents.{contents_wrote}
 use Rattle.vb_ram.specs.Part.{Part}
 use Rattle.vb_driver.specs.State.{DriverState}
 use Rattle.vb_frames.specs.Out.{is_out}
+use Rattle.vb_guest.specs.Line.{Line}
+use Rattle.vb_guest.specs.Reported.{ReportLine}
+use Rattle.vb_guest.specs.Buffer.{BufferLine}
 use Rattle.vb_guest.specs.Stands.{HasPages, IsIdle, IsRunning}
 use Rattle.vb_guest.specs.Steps.{is_frame}
 use Rattle.vb_guest.proofs.Apart.{line_apart, above_apart}
+use Rattle.vb_guest.proofs.RingHeads.{cond_one}
+use Rattle.vb_guest.proofs.BufferLines.{buffer_apart}
+use Rattle.vb_guest.proofs.ReportLines.{report_apart}
 
 either : (b : Bool) → (b ≡ true) ⊎ (b ≡ false)
 either true = inl refl
@@ -94,10 +100,6 @@ backed-set page frame frames lt =
       | inr ne ↦ at_page-other page (λ old. Some frame) frames i None inside ne
           ∙ sym (get_or-set_other frames page i (Some frame) None ne)
     ])
-
-cond_one : (b : Bool) → cond {A = ℕ} b 1 0 ≡ one_if b
-cond_one true = refl
-cond_one false = refl
 
 -- a frame enters a page that has none
 pub count_backed : (n page frame : ℕ) (frames : List (Option ℕ)) → page < length frames
@@ -229,19 +231,23 @@ pages_supplied m1 m2 n page frame frames contents lt bare has did = record {
 pub running_apart : (m1 m2 : Pages) (p : Part) (d : DriverState) (g new : Guest)
     → ((page : ℕ) → page < 16 → page_at m2 page ≡ page_at m1 page)
     → new.status ≡ g.status → new.config ≡ g.config → new.inflate ≡ g.inflate
-    → new.deflate ≡ g.deflate → IsRunning m1 p d g → IsRunning m2 p d new
-running_apart m1 m2 p d g new same status config inflate deflate run =
+    → new.deflate ≡ g.deflate → new.report ≡ g.report → new.buffer ≡ g.buffer
+    → IsRunning m1 p d g → IsRunning m2 p d new
+running_apart m1 m2 p d g new same status config inflate deflate report buffer run =
     let n = g.config.pages in
-    let I : ℕ → Requests → Type 0 =
-    λ k rs. Rattle.vb_guest.specs.Line.Line m2 0 k d.inflate p.inflate rs in
-    let D : ℕ → Requests → Type 0 =
-    λ k rs. Rattle.vb_guest.specs.Line.Line m2 1 k d.deflate p.deflate rs in
     let pages : n ≡ new.config.pages = ap (λ c. c.pages) (sym config) in
+    let size : g.config.queue_size ≡ new.config.queue_size = ap (λ c. c.queue_size) (sym config) in
+    let I : ℕ → Requests → Type 0 = λ k rs. Line m2 0 k d.inflate p.inflate rs in
+    let D : ℕ → Requests → Type 0 = λ k rs. Line m2 1 k d.deflate p.deflate rs in
+    let R : ℕ → Requests → Type 0 = λ k rs. ReportLine m2 k d.report p.report rs in
+    let B : Buffer → Type 0 = λ b. BufferLine m2 d.statistics p.statistics b in
     record {
       state = status ∙ run.state;
       backed = λ page lt. ap is_some (ap number_of (same page (omega arith))) ∙ run.backed page lt;
-      inflate_size = run.inflate_size ∙ ap (λ c. c.queue_size) (sym config);
-      deflate_size = run.deflate_size ∙ ap (λ c. c.queue_size) (sym config);
+      inflate_size = run.inflate_size ∙ size;
+      deflate_size = run.deflate_size ∙ size;
+      statistics_size = run.statistics_size ∙ size;
+      report_size = run.report_size ∙ size;
       inflate = subst (λ rs. I new.config.pages rs) (sym inflate)
           (subst (λ k. I k g.inflate) pages
           (line_apart m1 m2 0 n d.inflate p.inflate g.inflate
@@ -250,16 +256,24 @@ running_apart m1 m2 p d g new same status config inflate deflate run =
           (subst (λ k. D k g.deflate) pages
           (line_apart m1 m2 1 n d.deflate p.deflate g.deflate
           (above_apart m1 m2 1 (omega arith) (omega arith) same) run.deflate));
+      statistics = subst B (sym buffer)
+          (buffer_apart m1 m2 d.statistics p.statistics g.buffer (same 2 (omega arith))
+          (same 12 (omega arith)) run.statistics);
+      report = subst (λ rs. R new.config.pages rs) (sym report)
+          (subst (λ k. R k g.report) pages
+          (report_apart m1 m2 n d.report p.report g.report (same 3 (omega arith)) run.report));
     }
 
 pub idle_still : (g new : Guest) → new.status ≡ g.status → new.config ≡ g.config
-    → new.inflate ≡ g.inflate → new.deflate ≡ g.deflate → new.ballooned ≡ g.ballooned
-    → new.actual ≡ g.actual → new.last ≡ g.last
-    → IsIdle g → IsIdle new
-idle_still g new status config inflate deflate ballooned actual last idle = record {
+    → new.inflate ≡ g.inflate → new.deflate ≡ g.deflate → new.report ≡ g.report
+    → new.buffer ≡ g.buffer → new.ballooned ≡ g.ballooned → new.actual ≡ g.actual
+    → new.last ≡ g.last → IsIdle g → IsIdle new
+idle_still g new status config inflate deflate report buffer ballooned actual last idle = record {
   state = elim idle.state [ inl e ↦ inl (status ∙ e) | inr e ↦ inr (status ∙ e) ];
   inflate = inflate ∙ idle.inflate;
   deflate = deflate ∙ idle.deflate;
+  report = report ∙ idle.report;
+  buffer = buffer ∙ idle.buffer;
   ballooned = ballooned ∙ idle.ballooned
       ∙ ap (λ c. Rattle.std.specs.Prelude.replicate c.pages false) (sym config);
   actual = actual ∙ idle.actual;

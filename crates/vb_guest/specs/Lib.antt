@@ -1,4 +1,7 @@
+pub mod Ring
 pub mod Line
+pub mod Reported
+pub mod Buffer
 pub mod Stands
 pub mod Supply
 pub mod Steps

@@ -1,23 +1,24 @@
--- What the driver, the device and guest memory say together of one queue of requests.
-use Rattle.std.specs.Prelude.{◌≡◌, ℕ, ◌+◌, ◌%◌, ◌<◌, ◌≤◌, List, ◌++◌, All, length, map}
-use Rattle.std.specs.Prelude.{slice_index_or, []}
+-- What the driver, the device and guest memory say together of a queue of requests.
+use Rattle.std.specs.Prelude.{◌≡◌, ℕ, ◌<◌, ◌≤◌, List, All, length, map, slice_index_or, []}
 use Rattle.vb_model.specs.Limits.{max_outstanding, max_request_pages, reserved_pages}
 use Rattle.vb_model.specs.Layout.{ring_page, buffers_page}
-use Rattle.vb_model.specs.Requests.{Request, Requests, headed}
+use Rattle.vb_model.specs.Requests.{Request, Requests}
+use Rattle.vb_model.specs.Driver.{AllDistinct}
 use Rattle.vb_ram.specs.Pages.{Pages}
 use Rattle.vb_ram.specs.Part.{QueuePart}
-use Rattle.vb_ring.specs.Layout.{IsSize, layout_of}
-use Rattle.vb_ring.specs.Meaning.{UsedElem, ids, times, Shows, Tracks}
+use Rattle.vb_ring.specs.Ends.{DriverEnd}
 use Rattle.vb_driver.specs.Coding.{IsCoded}
 use Rattle.vb_driver.specs.State.{Side}
-use Rattle.vb_model.specs.Driver.{AllDistinct}
+use Rattle.vb_guest.specs.Ring.{RingStands}
 
 abbrev pub heads_of : List Request → List ℕ
 heads_of rs = map (λ r. r.head) rs
 
--- The used elements of these requests: no byte was written.
-abbrev pub used_of : List Request → List UsedElem
-used_of rs = map (λ r. record { id = r.head; len = 0 }) rs
+-- The ring of a queue has the heads of these requests.
+abbrev pub RingOf : Pages → ℕ → DriverEnd → QueuePart → Requests → Type 0
+RingOf mem queue ring part rs =
+    RingStands mem queue ring part.next_avail part.next_used
+    (heads_of rs.posted) (heads_of rs.taken) (heads_of rs.done)
 
 -- Pages that a guest of so many pages asks the device for.
 pub record AreRequested (count : ℕ) (pages : List ℕ) : Type 0 where
@@ -35,25 +36,10 @@ pub record IsRequest (size count : ℕ) (sent : List (List ℕ)) (r : Request) :
   pub remembered : slice_index_or sent r.head [] ≡ r.pages
   pub pages : AreRequested count r.pages
 
--- The ring shows the heads that the device took before and those of the posted requests, and the
--- elements that the driver reaped and those of the used ones.
--- Of the heads that were taken, those that weren't reaped are the taken and the used requests'.
 pub record Line (mem : Pages) (queue count : ℕ) (side : Side) (part : QueuePart) (rs : Requests) :
     Type 0 where
-  pub sized : IsSize side.ring.size
-  pub layout : side.ring.layout ≡ layout_of (ring_page queue) side.ring.size
+  pub ring : RingOf mem queue side.ring part rs
   pub buffers : length side.sent ≡ max_outstanding
-  pub before : List ℕ
-  pub gone : List UsedElem
-  pub shows : Shows mem side.ring.layout side.ring.size (before ++ heads_of rs.posted)
-      (gone ++ used_of rs.done)
-  pub tracks : Tracks mem side.ring (before ++ heads_of rs.posted) (gone ++ used_of rs.done)
-      (length gone)
-  pub next_avail : length before % 65536 ≡ part.next_avail
-  pub next_used : length (gone ++ used_of rs.done) % 65536 ≡ part.next_used
-  pub counted : length before ≡ length gone + (length rs.taken + length rs.done)
-  pub balance : (h : ℕ)
-      → times h before ≡ times h (ids gone) + (headed h rs.taken + headed h rs.done)
   pub posted : All (IsRequest side.ring.size count side.sent) rs.posted
   pub taken : All (IsRequest side.ring.size count side.sent) rs.taken
   pub done : All (IsRequest side.ring.size count side.sent) rs.done

@@ -1,14 +1,16 @@
 -- How what a driver or a device answers is replied.
-use Rattle.std.specs.Prelude.{ℕ, Bool, List, Option, Some, None, Result, Ok, Err}
+use Rattle.std.specs.Prelude.{ℕ, Bool, true, false, List, Option, Some, None, Result, Ok, Err}
 use Rattle.vb_model.specs.declared.replies.Refusal.{Refusal}
 use Rattle.vb_model.specs.declared.replies.Refusal.TheVariants.{NoMemory}
 use Rattle.vb_model.specs.declared.replies.Reply.{Reply}
 use Rattle.vb_model.specs.declared.replies.Reply.TheVariants.{Ready, Done, Page, ReadBytes, Posted}
 use Rattle.vb_model.specs.declared.replies.Reply.TheVariants.{Taken, Empty, Finished, NotUsed}
 use Rattle.vb_model.specs.declared.replies.Reply.TheVariants.{Reaped, Swept, Pages, Balloon}
-use Rattle.vb_model.specs.declared.replies.Reply.TheVariants.{Refused, Idle, Worked}
+use Rattle.vb_model.specs.declared.replies.Reply.TheVariants.{Refused, Idle, Worked, Filled}
+use Rattle.vb_model.specs.declared.replies.Reply.TheVariants.{Asked, Statistics as Memory}
 use Rattle.vb_model.specs.declared.places.PageRun.{PageRun}
 use Rattle.vb_guest.specs.declared.queries.BalloonState.{BalloonState}
+use Rattle.vb_request.specs.declared.statistics.Statistics.{Statistics}
 use Rattle.vb_device.specs.declared.worked.Worked.{Worked as WorkedPage}
 use Rattle.vb_driver.specs.declared.answers.Posted.{Posted as PostedRequest}
 use Rattle.vb_driver.specs.declared.answers.Reaped.{Reaped as ReapedRequest}
@@ -52,6 +54,15 @@ reaped_reply (Ok None) = NotUsed
 reaped_reply (Ok (Some reaped)) = Reaped reaped.head reaped.pages
 reaped_reply (Err why) = Refused why
 
+abbrev pub filled_reply : Result Bool Refusal → Reply
+filled_reply (Ok true) = Filled
+filled_reply (Ok false) = NotUsed
+filled_reply (Err why) = Refused why
+
+abbrev pub asked_reply : {T : Type 0} → Result T Refusal → Reply
+asked_reply (Ok x) = Asked
+asked_reply (Err why) = Refused why
+
 abbrev pub done_reply : {T : Type 0} → Result T Refusal → Reply
 done_reply (Ok x) = Done
 done_reply (Err why) = Refused why
@@ -63,3 +74,6 @@ runs_reply (Err e) = Refused NoMemory
 
 abbrev pub balloon_reply : BalloonState → Reply
 balloon_reply state = Balloon state.ballooned state.actual state.target state.status
+
+abbrev pub memory_reply : Statistics → Reply
+memory_reply said = Memory said.free said.total

@@ -5,26 +5,25 @@ use Rattle.vb_model.specs.Limits.{is_config, page_size, reserved_pages, ring_and
 use Rattle.vb_model.specs.declared.places.Place.{Place}
 use Rattle.vb_model.specs.Tests.{one_if}
 use Rattle.vb_model.specs.Pages.{Block}
-use Rattle.vb_model.specs.Requests.{Requests, no_requests, Buffer, NoBuffer}
+use Rattle.vb_model.specs.Requests.{no_requests, NoBuffer}
 use Rattle.vb_model.specs.Guest.{Guest, Config, LastStatistics, no_statistics, frame_of}
 use Rattle.vb_model.specs.Consistent.{IsConsistent}
 use Rattle.vb_model.specs.Orderly.{IsOrderly}
 use Rattle.vb_ram.specs.Pages.{Pages, frame_at, contents_at}
 use Rattle.vb_ram.specs.Part.{Part, no_queue}
-use Rattle.vb_driver.specs.State.{DriverState, fresh_side}
+use Rattle.vb_driver.specs.State.{DriverState, fresh_side, fresh_statistics, fresh_report}
 use Rattle.vb_device.specs.Own.{has}
 use Rattle.vb_guest.specs.Line.{Line}
+use Rattle.vb_guest.specs.Reported.{ReportLine}
+use Rattle.vb_guest.specs.Buffer.{BufferLine}
 use Rattle.vb_guest.specs.Steps.{backing_count}
 
 -- ---- beside the queues: each record takes the guest's values one by one, so that it stays as it is
 -- where none of these is changed
 
--- The guest never scribbled; statistics and reports aren't there yet.
-pub record IsPlainGuest (rogue : Bool) (statistics : Buffer) (reports : Requests) (c : Config) :
-    Type 0 where
+-- The guest never scribbled, and is as large as a guest may be.
+pub record IsPlainGuest (rogue : Bool) (c : Config) : Type 0 where
   pub honest : rogue ≡ false
-  pub buffer : statistics ≡ NoBuffer
-  pub report : reports ≡ no_requests
   pub config : is_config c.pages c.queue_size c.processors ≡ true
 
 -- What the driver keeps is the guest's.
@@ -51,14 +50,21 @@ pub record DeviceKeeps (part : Part) (c : Config) (state bits wanted given : ℕ
   pub loose : part.loose ≡ []
 
 pub record HasParts (part : Part) (d : DriverState) (g : Guest) : Type 0 where
-  pub guest : IsPlainGuest g.rogue g.buffer g.report g.config
+  pub guest : IsPlainGuest g.rogue g.config
   pub driver : DriverKeeps d g.config g.places g.held g.features
   pub device : DeviceKeeps part g.config g.status g.features g.target g.actual g.ballooned g.last
 
 -- Of a device, what isn't in its queues and not among its own frames.
 abbrev pub beside_queues : Part → Part
-beside_queues part = record part
-    { inflate = no_queue; deflate = no_queue; keeps = false; own = [] }
+beside_queues part =
+    record part {
+      inflate = no_queue;
+      deflate = no_queue;
+      statistics = no_queue;
+      report = no_queue;
+      keeps = false;
+      own = [];
+    }
 
 -- Of a driver, what isn't in its page areas and in its queues.
 abbrev pub beside_sides : DriverState → DriverState
@@ -66,12 +72,21 @@ beside_sides d = record d {
   areas = record { areas = []; lists = [] };
   inflate = fresh_side 0 2;
   deflate = fresh_side 0 2;
+  statistics = fresh_statistics 2;
+  report = fresh_report 2;
 }
 
 -- Of a guest, what isn't in its requests and in its memory.
 abbrev pub beside_requests : Guest → Guest
-beside_requests g = record g
-    { inflate = no_requests; deflate = no_requests; frames = []; contents = [] }
+beside_requests g =
+    record g {
+      inflate = no_requests;
+      deflate = no_requests;
+      report = no_requests;
+      buffer = NoBuffer;
+      frames = [];
+      contents = [];
+    }
 
 -- The pages of memory have these frames, and the unreserved ones these contents.
 pub record HasPages (mem : Pages) (count : ℕ) (frames : List (Option ℕ)) (contents : List (List ℕ))
@@ -91,19 +106,25 @@ pub record IsIdle (g : Guest) : Type 0 where
   pub state : (g.status ≡ 0) ⊎ (g.status ≡ 131)
   pub inflate : g.inflate ≡ no_requests
   pub deflate : g.deflate ≡ no_requests
+  pub report : g.report ≡ no_requests
+  pub buffer : g.buffer ≡ NoBuffer
   pub ballooned : g.ballooned ≡ replicate g.config.pages false
   pub actual : g.actual ≡ 0
   pub last : g.last ≡ no_statistics
 
--- The device is initialised: the pages of rings and buffers have frames, and both queues stand
+-- The device is initialised: the pages of rings and buffers have frames, and the four queues stand
 -- there.
 pub record IsRunning (mem : Pages) (part : Part) (d : DriverState) (g : Guest) : Type 0 where
   pub state : g.status ≡ 15
   pub backed : (page : ℕ) → page < ring_and_buffer_pages → IsSome (frame_at mem page)
   pub inflate_size : d.inflate.ring.size ≡ g.config.queue_size
   pub deflate_size : d.deflate.ring.size ≡ g.config.queue_size
+  pub statistics_size : d.statistics.size ≡ g.config.queue_size
+  pub report_size : d.report.ring.size ≡ g.config.queue_size
   pub inflate : Line mem 0 g.config.pages d.inflate part.inflate g.inflate
   pub deflate : Line mem 1 g.config.pages d.deflate part.deflate g.deflate
+  pub statistics : BufferLine mem d.statistics part.statistics g.buffer
+  pub report : ReportLine mem g.config.pages d.report part.report g.report
 
 -- What the calls keep, the model's own laws aside.
 pub record Ties (mem : Pages) (part : Part) (d : DriverState) (g : Guest) : Type 0 where

@@ -1,22 +1,23 @@
 //! Calls on a guest and questions about it, told apart by their names.
 
 ghost use Rattle.std.specs.Prelude.{◌≡◌, Bool, true, false};
-ghost use Rattle.vb_model.specs.Brought.{is_call_brought, is_query_brought};
+ghost use Rattle.vb_model.specs.Brought.{is_call_brought};
 ghost use Rattle.vb_model.specs.Guest.{Guest};
 ghost use Rattle.vb_model.specs.World.{Answers};
 ghost use Rattle.vb_guest.specs.Stands.{Stands};
 ghost use Rattle.vb_guest.specs.Steps.{AreOut, StepsOver};
 ghost use Rattle.vb_guest.specs.Supply.{supply_of};
 
-use crate::device::{finish, set_target, sweep, take, work};
-use crate::driver::{deflate, free, inflate, oom, reap};
+use crate::device::{ask, finish, set_target, sweep, take, work};
+use crate::driver::{deflate, free, inflate, oom, reap, report, stats};
 use crate::frames::Claims;
 use crate::lives::{init, reset};
 use crate::memory::{read, write};
-use crate::queries::{balloon, pages_at, pages_ballooned, places};
+use crate::queries::{balloon, pages_at, pages_ballooned, places, statistics};
 use crate::replies::{
-    balloon_reply, bytes_reply, done_reply, finished_reply, page_reply, posted_reply, ready_reply,
-    reaped_reply, runs_reply, swept_reply, taken_reply, worked_reply,
+    asked_reply, balloon_reply, bytes_reply, done_reply, filled_reply, finished_reply,
+    memory_reply, page_reply, posted_reply, ready_reply, reaped_reply, runs_reply, swept_reply,
+    taken_reply, worked_reply,
 };
 use std::alloc::Global;
 use vb_device::Device;
@@ -61,11 +62,14 @@ pub fn call<D: Device, K: FrameKeeper>(
         Call::Inflate { pages } => posted_reply(inflate(driver, device, *pages)),
         Call::Deflate { pages } => posted_reply(deflate(driver, device, *pages)),
         Call::Oom { pages } => posted_reply(oom(driver, device, *pages)),
+        Call::Report { from } => posted_reply(report(driver, device, *from)),
+        Call::Stats => filled_reply(stats(driver, device)),
         Call::Reap { queue } => reaped_reply(reap(driver, device, *queue)),
         Call::Take { queue } => taken_reply(take(device, *queue)),
         Call::Work => worked_reply(work(device, keeper)),
         Call::Finish { queue, index } => finished_reply(finish(device, keeper, *queue, *index)),
         Call::Sweep { page } => swept_reply(sweep(device, keeper, *page)),
+        Call::Ask => asked_reply(ask(device)),
         Call::Reset => {
             reset(driver, device);
             Reply::Done
@@ -74,7 +78,7 @@ pub fn call<D: Device, K: FrameKeeper>(
             set_target(device, *pages);
             Reply::Done
         }
-        _ => unreachable!(),
+        Call::Scribble { .. } => unreachable!(),
     }
 }
 
@@ -82,7 +86,6 @@ pub fn call<D: Device, K: FrameKeeper>(
 pub fn query<D: Device>(alloc: Global, driver: &Driver, device: &D, query: &Query) -> Reply
     requires stands { (keeps : Bool) × (g : Guest)
         × Stands keeps (D.mem device.now) (D.part device.now) driver.now g }
-    requires brought { is_query_brought query.now ≡ true }
     ensures answer { (keeps : Bool) (g : Guest)
         → Stands keeps (D.mem device.now) (D.part device.now) driver.now g
         → Answers query.now g result }
@@ -94,9 +97,9 @@ pub fn query<D: Device>(alloc: Global, driver: &Driver, device: &D, query: &Quer
         Query::PagesAt(place) => runs_reply(pages_at(alloc, driver, device, *place)),
         Query::PagesBallooned => runs_reply(pages_ballooned(alloc, device)),
         Query::Balloon => balloon_reply(balloon(driver, device)),
+        Query::Memory => memory_reply(statistics(device)),
         Query::Backing { page } => Reply::Backing {
             frame: device.backing(*page),
         },
-        _ => unreachable!(),
     }
 }

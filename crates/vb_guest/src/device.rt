@@ -5,6 +5,7 @@ ghost use Rattle.vb_model.specs.declared.replies.Reply.TheVariants.{Done};
 ghost use Rattle.vb_model.specs.Guest.{Guest};
 ghost use Rattle.vb_driver.specs.State.{DriverState};
 ghost use Rattle.vb_guest.specs.Replies.{taken_reply, worked_reply, finished_reply, swept_reply};
+ghost use Rattle.vb_guest.specs.Replies.{asked_reply};
 ghost use Rattle.vb_guest.specs.Stands.{Stands};
 ghost use Rattle.vb_guest.specs.Steps.{AreOut, StepsAlone, StepsOver};
 ghost use Rattle.vb_guest.specs.Supply.{supply_of};
@@ -15,7 +16,8 @@ use vb_frames::FrameKeeper;
 use vb_model::{Call, Refusal};
 
 /// The device takes the next chain of a queue (VIRTIO 1.1, 2.6); answers its head, or none where
-/// no chain is available. Refused with `NoQueue`, `NotReady` and `Busy`, tested in this order.
+/// no chain is available. Of a statistics buffer it reads what it says. Refused with `NoQueue`,
+/// `NotReady`, `NoQueue` where the queue's feature wasn't accepted, and `Busy`, tested in this order.
 pub fn take<D: Device>(device: &mut D, queue: u32) -> Result<Option<u16>, Refusal>
     ensures { (keeps : Bool) (d : DriverState) (g : Guest)
         → Stands keeps (D.mem device.old) (D.part device.old) d g
@@ -91,6 +93,19 @@ pub fn sweep<D: Device, K: FrameKeeper>(
     let answer = device.sweep(page);
     return_loose(device, keeper);
     answer
+}
+
+/// The device gives the statistics buffer that it took back to the driver, which is to fill it anew
+/// (VIRTIO 1.1, 5.5.6.3). Refused with `NotReady` and `NotTaken`, tested in this order.
+pub fn ask<D: Device>(device: &mut D) -> Result<(), Refusal>
+    requires { (keeps : Bool) × (d : DriverState) × (g : Guest)
+        × Stands keeps (D.mem device.old) (D.part device.old) d g }
+    ensures { (keeps : Bool) (d : DriverState) (g : Guest)
+        → Stands keeps (D.mem device.old) (D.part device.old) d g
+        → StepsAlone (Stands keeps (D.mem device.new) (D.part device.new) d) g Call.Ask
+        (asked_reply result) }
+{
+    device.ask_stats()
 }
 
 /// The host sets how many pages it wants (`num_pages`, VIRTIO 1.1, 5.5.4).

@@ -5,6 +5,7 @@ ghost use Rattle.vb_model.specs.Guest.{Guest};
 ghost use Rattle.vb_ram.specs.Pages.{Pages};
 ghost use Rattle.vb_ram.specs.Part.{Part};
 ghost use Rattle.vb_guest.specs.Replies.{done_reply, page_reply, posted_reply, reaped_reply};
+ghost use Rattle.vb_guest.specs.Replies.{filled_reply};
 ghost use Rattle.vb_guest.specs.Stands.{Stands};
 ghost use Rattle.vb_guest.specs.Steps.{StepsAlone};
 
@@ -80,8 +81,35 @@ pub fn oom<D: Device>(driver: &mut Driver, device: &mut D, pages: u32) -> Result
     driver.oom(device, pages)
 }
 
+/// The driver reports its first free blocks of order 4 or more, from this page on, to the host
+/// (profile). Refused with `NotReady`, `NoFeature`, `QueueFull` and `Nothing`, tested in this order.
+pub fn report<D: Device>(driver: &mut Driver, device: &mut D, from: u32) -> Result<Posted, Refusal>
+    requires { (keeps : Bool) × (g : Guest)
+        × Stands keeps (D.mem device.old) (D.part device.old) driver.old g }
+    ensures { (keeps : Bool) (g : Guest)
+        → Stands keeps (D.mem device.old) (D.part device.old) driver.old g
+        → StepsAlone (Stands keeps (D.mem device.new) (D.part device.new) driver.new) g
+        (Call.Report from) (posted_reply result) }
+{
+    driver.report(device, from)
+}
+
+/// The driver fills the statistics buffer anew where the device has used it, and answers whether it
+/// has (VIRTIO 1.1, 5.5.6.3). Refused with `NotReady` and `NoFeature`, tested in this order.
+pub fn stats<D: Device>(driver: &mut Driver, device: &mut D) -> Result<bool, Refusal>
+    requires { (keeps : Bool) × (g : Guest)
+        × Stands keeps (D.mem device.old) (D.part device.old) driver.old g }
+    ensures { (keeps : Bool) (g : Guest)
+        → Stands keeps (D.mem device.old) (D.part device.old) driver.old g
+        → StepsAlone (Stands keeps (D.mem device.new) (D.part device.new) driver.new) g Call.Stats
+        (filled_reply result) }
+{
+    driver.stats(device)
+}
+
 /// The driver takes the next used request of a queue (VIRTIO 1.1, 2.6.14); answers none where none
-/// is new. Refused with `NoQueue` and `NotReady`, tested in this order.
+/// is new. Refused with `NoQueue`, `NotReady` and, on the queue of reports, `NoFeature`, tested in
+/// this order.
 pub fn reap<D: Device>(
     driver: &mut Driver,
     device: &mut D,

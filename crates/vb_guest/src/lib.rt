@@ -11,9 +11,9 @@ mod queries;
 mod replies;
 
 pub use calls::{call, query};
-pub use device::{finish, set_target, sweep, take, work};
-pub use driver::{alloc, deflate, free, inflate, oom, reap};
+pub use device::{ask, finish, set_target, sweep, take, work};
+pub use driver::{alloc, deflate, free, inflate, oom, reap, report, stats};
 pub use frames::{Claims, MAX_CLAIMS};
 pub use lives::{init, reset};
 pub use memory::{read, write};
-pub use queries::{BalloonState, balloon, pages_at, pages_ballooned, places};
+pub use queries::{BalloonState, balloon, pages_at, pages_ballooned, places, statistics};

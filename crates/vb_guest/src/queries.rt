@@ -8,12 +8,12 @@ ghost use Rattle.vb_model.specs.declared.replies.Reply.TheVariants.{Places};
 ghost use Rattle.vb_ram.specs.Pages.{Pages};
 ghost use Rattle.vb_ram.specs.Part.{Part};
 ghost use Rattle.vb_driver.specs.State.{DriverState};
-ghost use Rattle.vb_guest.specs.Replies.{runs_reply, balloon_reply};
+ghost use Rattle.vb_guest.specs.Replies.{runs_reply, balloon_reply, memory_reply};
 ghost use Rattle.vb_guest.specs.Stands.{Stands};
 
 use bitflags::Flags;
 use std::alloc::{AllocError, Global};
-use vb_device::Device;
+use vb_device::{Device, Statistics};
 use vb_driver::Driver;
 use vb_model::{PageRun, PageRuns, Place, PlaceCounts, Query};
 
@@ -51,6 +51,16 @@ pub fn balloon<D: Device>(driver: &Driver, device: &D) -> BalloonState
         target: device.target(),
         status: device.status().bits(),
     }
+}
+
+/// What the last statistics buffer that the device took says of the guest's memory, in bytes
+/// (VIRTIO 1.1, 5.5.6.4).
+pub fn statistics<D: Device>(device: &D) -> Statistics
+    ensures { (keeps : Bool) (d : DriverState) (g : Guest)
+        → Stands keeps (D.mem device.now) (D.part device.now) d g
+        → Answers Query.Memory g (memory_reply result) }
+{
+    device.stats()
 }
 
 /// Whether this is the place.

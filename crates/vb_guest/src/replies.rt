@@ -4,10 +4,11 @@ ghost use Rattle.std.specs.Prelude.{◌≡◌};
 ghost use Rattle.vb_guest.specs.Replies.{ready_reply, page_reply, done_reply, bytes_reply};
 ghost use Rattle.vb_guest.specs.Replies.{posted_reply, reaped_reply, taken_reply, finished_reply};
 ghost use Rattle.vb_guest.specs.Replies.{swept_reply, worked_reply, runs_reply, balloon_reply};
+ghost use Rattle.vb_guest.specs.Replies.{filled_reply, asked_reply, memory_reply};
 
 use crate::queries::BalloonState;
 use std::alloc::AllocError;
-use vb_device::Worked;
+use vb_device::{Statistics, Worked};
 use vb_driver::{Posted, Reaped};
 use vb_model::{Bytes, PageRuns, Refusal, Reply};
 
@@ -117,6 +118,25 @@ pub(crate) fn swept_reply(answer: Result<bool, Refusal>) -> Reply
     }
 }
 
+pub(crate) fn filled_reply(answer: Result<bool, Refusal>) -> Reply
+    ensures { result ≡ filled_reply answer }
+{
+    match answer {
+        Ok(true) => Reply::Filled,
+        Ok(false) => Reply::NotUsed,
+        Err(refusal) => Reply::Refused(refusal),
+    }
+}
+
+pub(crate) fn asked_reply(answer: Result<(), Refusal>) -> Reply
+    ensures { result ≡ asked_reply answer }
+{
+    match answer {
+        Ok(()) => Reply::Asked,
+        Err(refusal) => Reply::Refused(refusal),
+    }
+}
+
 pub(crate) fn runs_reply(answer: Result<PageRuns, AllocError>) -> Reply
     ensures { result ≡ runs_reply answer }
 {
@@ -134,5 +154,14 @@ pub(crate) fn balloon_reply(state: BalloonState) -> Reply
         actual: state.actual,
         target: state.target,
         status: u32::from(state.status),
+    }
+}
+
+pub(crate) fn memory_reply(last: Statistics) -> Reply
+    ensures { result ≡ memory_reply last }
+{
+    Reply::Statistics {
+        free: last.free,
+        total: last.total,
     }
 }

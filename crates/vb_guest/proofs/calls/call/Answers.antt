@@ -50,7 +50,8 @@ returns-in-Inflate g c =
 pub returns-in-Deflate : goal.returns-in-Deflate
 returns-in-Deflate g c =
     record {
-      step = λ keeps guest stands. rw (c.clear.ensures, c.in-Deflate.is, c.posted_reply-in-Deflate.ensures)
+      step = λ keeps guest stands.
+          rw (c.clear.ensures, c.in-Deflate.is, c.posted_reply-in-Deflate.ensures)
           (steps_quiet keeps _ _ _ _ _ _ guest g.K.FrameKeeper.answers _ _ _ stands
           (c.deflate.ensures keeps guest stands));
     }
@@ -113,4 +114,29 @@ returns-in-Reset g c =
       step = λ keeps guest stands. rw (c.clear.ensures, c.in-Reset.is)
           (steps_quiet keeps _ _ _ _ _ _ guest g.K.FrameKeeper.answers _ _ _ stands
           (c.reset.ensures keeps guest stands));
+    }
+
+pub returns-in-Report : goal.returns-in-Report
+returns-in-Report g c =
+    record {
+      step = λ keeps guest stands.
+          rw (c.clear.ensures, c.in-Report.is, c.posted_reply-in-Report.ensures)
+          (steps_quiet keeps _ _ _ _ _ _ guest g.K.FrameKeeper.answers _ _ _ stands
+          (c.report.ensures keeps guest stands));
+    }
+
+pub returns-in-Stats : goal.returns-in-Stats
+returns-in-Stats g c =
+    record {
+      step = λ keeps guest stands. rw (c.clear.ensures, c.in-Stats.is, c.filled_reply.ensures)
+          (steps_quiet keeps _ _ _ _ _ _ guest g.K.FrameKeeper.answers _ _ _ stands
+          (c.stats.ensures keeps guest stands));
+    }
+
+pub returns-in-Ask : goal.returns-in-Ask
+returns-in-Ask g c =
+    record {
+      step = λ keeps guest stands. rw (c.clear.ensures, c.in-Ask.is, c.asked_reply.ensures)
+          (steps_quiet keeps _ _ _ _ _ _ guest g.K.FrameKeeper.answers _ _ _ stands
+          (c.ask.ensures keeps _ guest stands));
     }

@@ -21,3 +21,9 @@ returns-in-Balloon g c = record {
   answer = λ keeps guest stands. rw (c.in-Balloon.is, c.balloon_reply.ensures)
       (c.balloon.ensures keeps guest stands);
 }
+
+pub returns-in-Memory : goal.returns-in-Memory
+returns-in-Memory g c = record {
+  answer = λ keeps guest stands. rw (c.in-Memory.is, c.memory_reply.ensures)
+      (c.statistics.ensures keeps _ guest stands);
+}

@@ -4,7 +4,8 @@ use Rattle.vb_pages.specs.PageState.{PageState}
 use Rattle.vb_ram.specs.Limits.{AreWithinLimits}
 use Rattle.vb_ram.proofs.Limits.{config_limits}
 use Rattle.vb_status.specs.Bits.{feature_bits}
-use Rattle.vb_driver.specs.State.{Side, DriverState, fresh_driver, IsDriver}
+use Rattle.vb_ring.specs.Ends.{DriverEnd}
+use Rattle.vb_driver.specs.State.{Side, ReportSide, DriverState, fresh_driver, IsDriver}
 use Rattle.vb_driver.proofs.Moving.{fresh_kept}
 use Rattle.vb_driver.proofs.Sizes.{size_of_config}
 use Rattle.vb_driver.proofs.driver.Driver.new.Goals as goal
@@ -40,6 +41,8 @@ invariant_of-result c =
       areas = areas.free;
       inflate = c.in_ok-new-3.field-0;
       deflate = c.in_ok-new-4.field-0;
+      statistics = c.new-5.result;
+      report = c.new-6.result;
     }))
     (sym c.in_ok-new.ensures)
     (subst (λ (v : PageState). IsDriver
@@ -48,7 +51,19 @@ invariant_of-result c =
       areas = v.free;
       inflate = c.in_ok-new-3.field-0;
       deflate = c.in_ok-new-4.field-0;
+      statistics = c.new-5.result;
+      report = c.new-6.result;
     })) (sym c.in_ok-new-2.ensures)
-    (subst (λ (v : Side). IsDriver (record d { inflate = v; deflate = c.in_ok-new-4.field-0 }))
-    (sym c.in_ok-new-3.ensures)
-    (subst (λ (v : Side). IsDriver (record d { deflate = v })) (sym c.in_ok-new-4.ensures) kept)))
+    (subst (λ (v : Side). IsDriver
+    (record d {
+      inflate = v;
+      deflate = c.in_ok-new-4.field-0;
+      statistics = c.new-5.result;
+      report = c.new-6.result;
+    })) (sym c.in_ok-new-3.ensures)
+    (subst (λ (v : Side). IsDriver
+    (record d { deflate = v; statistics = c.new-5.result; report = c.new-6.result }))
+    (sym c.in_ok-new-4.ensures)
+    (subst (λ (v : DriverEnd). IsDriver (record d { statistics = v; report = c.new-6.result }))
+    (sym c.new-5.ensures)
+    (subst (λ (v : ReportSide). IsDriver (record d { report = v })) (sym c.new-6.ensures) kept)))))

@@ -1,15 +1,15 @@
-use Rattle.std.proofs.Common.{◌≡◌, ◌≤◌, ◌∙◌, sym, ap, subst, ℕ, List, true}
+use Rattle.std.proofs.Common.{◌≡◌, ◌≤◌, ◌∙◌, sym, ap, subst, refl, ℕ, List, true}
 use Rattle.vb_model.specs.Tests.{is_in}
 use Rattle.vb_model.specs.Pages.{placed, Block}
 use Rattle.vb_model.specs.declared.places.Place.{Place}
-use Rattle.vb_model.specs.declared.places.Place.TheVariants.{Free}
+use Rattle.vb_model.specs.declared.places.Place.TheVariants.{Free, Taking}
 use Rattle.vb_driver.specs.State.{Side, sent_by, IsDriver}
 use Rattle.vb_driver.specs.Areas.{flags_of}
 use Rattle.vb_driver.specs.Places.{marked}
 use Rattle.vb_driver.specs.contracts.driver.Driver.{the_view}
 use Rattle.vb_model.specs.Orderly.{times}
-use Rattle.vb_driver.proofs.Moving.{freed_taking, freed_once, freed_uncovered, freed_unfree}
-use Rattle.vb_driver.proofs.Moving.{freed_inside, freed_unreserved, freed_kept}
+use Rattle.vb_driver.proofs.Moving.{freed_taking, freed_once, place_uncovered, place_unfree}
+use Rattle.vb_driver.proofs.Moving.{place_inside, place_unreserved, freed_kept}
 use Rattle.vb_driver.proofs.driver.Driver.reap_freed.Goals as goal
 
 pub give_all-requires-clause-unreserved : goal.give_all-requires-clause-unreserved
@@ -18,7 +18,7 @@ give_all-requires-clause-unreserved g c p here =
     let head = c.in-Ok-Some.used.0 in
     let next = rw c.in-Ok-Some.field-0-is at c.in-Ok-Some.ensures.next in
     let items : c.deref.result.now ≡ sent_by d.deflate head = c.deref.ensures.0 ∙ next.2 in
-    freed_unreserved d p c.self.invariant
+    place_unreserved d p Taking c.self.invariant refl
     (freed_taking d head p next.1 c.self.invariant (ap (is_in p) (sym items) ∙ here))
 
 pub give_all-requires-clause-inside : goal.give_all-requires-clause-inside
@@ -27,7 +27,7 @@ give_all-requires-clause-inside g c p here =
     let head = c.in-Ok-Some.used.0 in
     let next = rw c.in-Ok-Some.field-0-is at c.in-Ok-Some.ensures.next in
     let items : c.deref.result.now ≡ sent_by d.deflate head = c.deref.ensures.0 ∙ next.2 in
-    (freed_inside d p c.self.invariant
+    (place_inside d p Taking c.self.invariant refl
     (freed_taking d head p next.1 c.self.invariant (ap (is_in p) (sym items) ∙ here))).0
 
 pub give_all-requires-clause-taken : goal.give_all-requires-clause-taken
@@ -36,7 +36,7 @@ give_all-requires-clause-taken g c p here =
     let head = c.in-Ok-Some.used.0 in
     let next = rw c.in-Ok-Some.field-0-is at c.in-Ok-Some.ensures.next in
     let items : c.deref.result.now ≡ sent_by d.deflate head = c.deref.ensures.0 ∙ next.2 in
-    freed_unfree d p c.self.invariant
+    place_unfree d p Taking c.self.invariant refl
     (freed_taking d head p next.1 c.self.invariant (ap (is_in p) (sym items) ∙ here))
 
 pub give_all-requires-clause-uncovered : goal.give_all-requires-clause-uncovered
@@ -45,7 +45,7 @@ give_all-requires-clause-uncovered g c p here =
     let head = c.in-Ok-Some.used.0 in
     let next = rw c.in-Ok-Some.field-0-is at c.in-Ok-Some.ensures.next in
     let items : c.deref.result.now ≡ sent_by d.deflate head = c.deref.ensures.0 ∙ next.2 in
-    freed_uncovered d p c.self.invariant
+    place_uncovered d p Taking c.self.invariant refl
     (freed_taking d head p next.1 c.self.invariant (ap (is_in p) (sym items) ∙ here))
 
 pub give_all-requires-clause-once : goal.give_all-requires-clause-once
@@ -61,7 +61,7 @@ settle-requires g c p here =
     let d = the_view c.self.inside in
     let head = c.in-Ok-Some.used.0 in
     let next = rw c.in-Ok-Some.field-0-is at c.in-Ok-Some.ensures.next in
-    (freed_inside d p c.self.invariant
+    (place_inside d p Taking c.self.invariant refl
     (freed_taking d head p next.1 c.self.invariant (ap (is_in p) (sym next.2) ∙ here))).1
 
 pub invariant_of-self-2 : goal.invariant_of-self-2

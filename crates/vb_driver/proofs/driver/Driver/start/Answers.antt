@@ -1,29 +1,32 @@
-use Rattle.std.proofs.Common.{sym, subst, arith}
-use Rattle.vb_ram.specs.Pages.{Pages}
-use Rattle.vb_driver.specs.State.{Side}
-use Rattle.vb_driver.specs.Coding.{AreZeroed}
-use Rattle.vb_driver.specs.Calls.{IsNewRing}
-use Rattle.vb_driver.proofs.Starting.{new_ring}
+use Rattle.std.proofs.Common.{arith}
+use Rattle.vb_driver.proofs.Starting.{new_ring, still_new, others_fresh}
 use Rattle.vb_driver.proofs.driver.Driver.start.Goals as goal
 
 pub returns-clause-inflate : goal.returns-clause-inflate
 returns-clause-inflate g c =
-    let m1 = g.P.GuestBytes.mem c.args.port.now in
-    let m2 = g.P.GuestBytes.mem c.write_status.new.self in
-    let zeroed : AreZeroed m1 m2 4 =
-    subst (λ (m : Pages). AreZeroed m1 m 4) (sym c.write_status.ensures.mem)
-    c.zero_rings.ensures.zeroed in
-    subst (λ (s : Side). IsNewRing m2 s) (sym c.renew.ensures)
-    (new_ring m1 m2 0 c.self.inside.config.queue_size c.self.invariant.size (omega arith)
-    zeroed)
+    let others = others_fresh c.args.self.now c.renew.new.self c.fill_first.new.self
+    c.renew.ensures.state c.fill_first.ensures.state in
+    still_new (g.P.GuestBytes.mem c.args.port.now) _ _ 0 c.args.self.now.queue_size _
+    others.inflate c.renew.ensures.driver.size (omega arith) (omega arith) c.fill_first.ensures.rest
+    c.write_status.ensures.mem (λ o lt. c.requires.zeros 0 o (omega arith) lt)
 
 pub returns-clause-deflate : goal.returns-clause-deflate
 returns-clause-deflate g c =
-    let m1 = g.P.GuestBytes.mem c.args.port.now in
-    let m2 = g.P.GuestBytes.mem c.write_status.new.self in
-    let zeroed : AreZeroed m1 m2 4 =
-    subst (λ (m : Pages). AreZeroed m1 m 4) (sym c.write_status.ensures.mem)
-    c.zero_rings.ensures.zeroed in
-    subst (λ (s : Side). IsNewRing m2 s) (sym c.renew-2.ensures)
-    (new_ring m1 m2 1 c.self.inside.config.queue_size c.self.invariant.size (omega arith)
-    zeroed)
+    let others = others_fresh c.args.self.now c.renew.new.self c.fill_first.new.self
+    c.renew.ensures.state c.fill_first.ensures.state in
+    still_new (g.P.GuestBytes.mem c.args.port.now) _ _ 1 c.args.self.now.queue_size _
+    others.deflate c.renew.ensures.driver.size (omega arith) (omega arith) c.fill_first.ensures.rest
+    c.write_status.ensures.mem (λ o lt. c.requires.zeros 1 o (omega arith) lt)
+
+pub returns-clause-report : goal.returns-clause-report
+returns-clause-report g c =
+    let others = others_fresh c.args.self.now c.renew.new.self c.fill_first.new.self
+    c.renew.ensures.state c.fill_first.ensures.state in
+    still_new (g.P.GuestBytes.mem c.args.port.now) _ _ 3 c.args.self.now.queue_size _
+    others.report c.renew.ensures.driver.size (omega arith) (omega arith) c.fill_first.ensures.rest
+    c.write_status.ensures.mem (λ o lt. c.requires.zeros 3 o (omega arith) lt)
+
+pub returns-clause-statistics : goal.returns-clause-statistics
+returns-clause-statistics g c =
+    new_ring (g.P.GuestBytes.mem c.args.port.now) 2 c.args.self.now.queue_size
+    c.renew.ensures.driver.size (λ o lt. c.requires.zeros 2 o (omega arith) lt)

@@ -1,0 +1,115 @@
+-- The statistics buffer goes out: it is written, and then its chain is published.
+use Rattle.std.proofs.Common.{◌≡◌, ◌∙◌, sym, ap, subst, arith, refl, ℕ, ◌+◌, ◌<◌}
+use Rattle.std.proofs.Common.{false, List, [], ◌∷◌, length, Some, Result, Ok, Err}
+use Rattle.vb_ram.specs.Pages.{Pages, page_at, SameBut}
+use Rattle.vb_ram.proofs.FieldLaws.{field_in, same_page, same_above, same_trans}
+use Rattle.vb_chain.specs.declared.pieces.Piece.{Piece}
+use Rattle.vb_chain.proofs.TableLaws.{same_parts}
+use Rattle.vb_ring.specs.declared.driver.Full.{Full}
+use Rattle.vb_ring.specs.declared.layout.Layout.{Layout}
+use Rattle.vb_ring.specs.Layout.{layout_of}
+use Rattle.vb_ring.specs.Ends.{DriverEnd, IsDriverEnd, outstanding, next_head}
+use Rattle.vb_ring.specs.Ends.{add_answer, after_add}
+use Rattle.vb_ring.specs.Calls.{AddsBy}
+use Rattle.vb_driver.specs.Coding.{IsStatistic}
+use Rattle.vb_driver.specs.State.{IsStatisticsQueue}
+use Rattle.vb_driver.specs.Calls.{PostsBuffer}
+use Rattle.vb_driver.proofs.RequestTables.{add_gives}
+use Rattle.vb_driver.proofs.Posting.{OnePiece, one_piece, added_head}
+use Rattle.vb_driver.proofs.OneBuffer.{none_used, first_head, queue_added}
+
+-- what was written and added, by plain names
+pub record Filling (m1 m2 m3 : Pages) (r r2 : DriverEnd) (n a free total : ℕ) : Type 0 where
+  pub queue : IsStatisticsQueue r n
+  pub is_end : IsDriverEnd r
+  pub none : outstanding r ≡ 0
+  pub free_is : IsStatistic m2 0 4 free
+  pub total_is : IsStatistic m2 10 5 total
+  pub wrote : SameBut m1 m2 12 0 20
+  pub addr : a ≡ 49152
+
+-- a statistic in a page that a write to another leaves
+statistic_kept : (old new : Pages) (offset tag value : ℕ) → page_at new 12 ≡ page_at old 12
+    → IsStatistic old offset tag value → IsStatistic new offset tag value
+statistic_kept old new offset tag value same s = record {
+  tagged = field_in 2 old new 12 offset (offset + 10) offset (same_page old new 12 _ _ same)
+      (omega arith) (omega arith) ∙ s.tagged;
+  valued = field_in 8 old new 12 offset (offset + 10) (offset + 2) (same_page old new 12 _ _ same)
+      (omega arith) (omega arith) ∙ s.valued;
+}
+
+-- the descriptor that the buffer gets is the lowest
+pub next_is_first : (r : DriverEnd) (n : ℕ) → IsStatisticsQueue r n → IsDriverEnd r
+    → outstanding r ≡ 0 → next_head r ≡ Some 0
+next_is_first r n queue end none =
+    let some : 0 < r.size = omega (arith, end.fits.size.least) in
+    first_head r some (none_used r n queue some none)
+
+fills_at : (m1 m2 m3 : Pages) (r r2 : DriverEnd) (n a free total : ℕ)
+    → Filling m1 m2 m3 r r2 n a free total
+    → AddsBy m2 m3 r r2 (record { addr = a; len = 20; writable = false } ∷ []) (Ok 0)
+    → PostsBuffer m1 m3 r r2 (record { free = free; total = total })
+fills_at m1 m2 m3 r r2 n a free total s adds =
+    let T = r.layout.table in
+    let at : T ≡ 2 = ap (λ (x : Layout). x.table) s.queue.layout in
+    let layout : r.layout ≡ layout_of T r.size =
+    s.queue.layout ∙ sym (ap (λ (p : ℕ). layout_of p r.size) at ∙ ap (layout_of 2) s.queue.size) in
+    let one : OnePiece m1 m2 m3 r r2 0 a 20 =
+    one_piece m1 m2 m3 r r2 0 a 20 s.is_end (next_is_first r n s.queue s.is_end s.none) layout
+    (s.wrote.others T (omega (arith, at))) adds in
+    let buffer : page_at m3 12 ≡ page_at m2 12 = one.others 12 (omega (arith, at)) in
+    record {
+      state = adds.state;
+      coded = record {
+        descriptor = one.put ∙ same_parts _ _ s.addr refl refl refl;
+        free = statistic_kept m2 m3 0 4 free buffer s.free_is;
+        total = statistic_kept m2 m3 10 5 total buffer s.total_is;
+      };
+      beyond = same_trans m1 m2 m3 12 20 4096
+          (same_above m1 m2 12 0 20 20 4096 s.wrote (omega arith))
+          (same_page m2 m3 12 20 4096 buffer);
+      descriptors = one.descriptors;
+      announces = one.announces;
+      rest = record {
+        others = λ p ne1 ne2. one.others p ne1 ∙ s.wrote.others p ne2;
+        backing = λ p. adds.publishes.rest.backing p ∙ s.wrote.backing p;
+        count = adds.publishes.rest.count ∙ s.wrote.count;
+      };
+    }
+
+-- whatever head the add tells, it is 0
+pub fills_by : (m1 m2 m3 : Pages) (r r2 : DriverEnd) (n a g free total : ℕ)
+    → Filling m1 m2 m3 r r2 n a free total
+    → AddsBy m2 m3 r r2 (record { addr = a; len = 20; writable = false } ∷ []) (Ok g)
+    → PostsBuffer m1 m3 r r2 (record { free = free; total = total })
+fills_by m1 m2 m3 r r2 n a g free total s adds =
+    let pieces : List Piece = record { addr = a; len = 20; writable = false } ∷ [] in
+    let same : 0 ≡ g = added_head m2 m3 r r2 0 g pieces refl
+    (next_is_first r n s.queue s.is_end s.none) adds in
+    fills_at m1 m2 m3 r r2 n a free total s
+    (subst (λ (h : ℕ). AddsBy m2 m3 r r2 pieces (Ok h)) (sym same) adds)
+
+pub filled_queue : (m2 m3 : Pages) (r r2 : DriverEnd) (n g : ℕ) (pieces : List Piece)
+    → length pieces ≡ 1 → IsStatisticsQueue r n → outstanding r ≡ 0
+    → AddsBy m2 m3 r r2 pieces (Ok g) → IsStatisticsQueue r2 n
+filled_queue m2 m3 r r2 n g pieces one queue none adds =
+    let some : 0 < r.size = omega (arith, adds.is_end.fits.size.least) in
+    let unused = none_used r n queue some none in
+    let same : 0 ≡ g = added_head m2 m3 r r2 0 g pieces one (first_head r some unused) adds in
+    let state : r2 ≡ after_add r 1 (Ok 0) =
+    adds.state ∙ (ap (λ (k : ℕ). after_add r k (Ok g)) one
+    ∙ ap (λ (h : ℕ). after_add r 1 (Ok h)) (sym same)) in
+    subst (λ (v : DriverEnd). IsStatisticsQueue v n) (sym state)
+    (queue_added r n queue adds.is_end some unused)
+
+-- an add of one piece isn't refused
+pub not_full : (m2 m3 : Pages) (r r2 : DriverEnd) (n : ℕ) (full : Full) (pieces : List Piece)
+    → length pieces ≡ 1 → IsStatisticsQueue r n → outstanding r ≡ 0
+    → AddsBy m2 m3 r r2 pieces (Err full) → ⊥
+not_full m2 m3 r r2 n full pieces one queue none adds =
+    let answer : Err full ≡ add_answer r 1 = adds.value ∙ ap (add_answer r) one in
+    inside full (Err full) (Ok 0) refl refl
+    (answer ∙ add_gives r 0 (next_is_first r n queue adds.is_end none))
+  where
+    inside : (f : Full) (a b : Result ℕ Full) → a ≡ Err f → b ≡ Ok 0 → a ≡ b → ⊥
+    inside f a b e g q = cc

@@ -1,0 +1,185 @@
+-- The queue of statistics, of which one buffer is out at the most: at descriptor 0.
+use Rattle.std.proofs.Common.{◌≡◌, ◌∙◌, sym, ap, subst, arith, refl, ℕ, ◌+◌, ◌<◌}
+use Rattle.std.proofs.Common.{◌%◌, Bool, true, false, cond, List, [], ◌∷◌, length}
+use Rattle.std.proofs.Common.{slice_index_or, inl, inr, eq-eqb, Option, Some, None, Result, Ok, Err}
+use Rattle.std.proofs.Common.{is_none, is_some, MatchBool}
+use Rattle.std.proofs.lemmas.Bool.{cases_eq, cases_Bool}
+use Rattle.std.proofs.lemmas.Bool.Decides.{eqb_tells}
+use Rattle.vb_ram.specs.Pages.{Pages}
+use Rattle.vb_ring.specs.declared.driver.RingBroken.{RingBroken}
+use Rattle.vb_ring.specs.declared.driver.RingBroken.TheVariants.{NotOutstanding}
+use Rattle.vb_ring.specs.Entries.{is_own, is_head, only_head}
+use Rattle.vb_ring.specs.Ends.{DriverEnd, IsDriverEnd, is_unused, outstanding, next_head, next_path}
+use Rattle.vb_ring.specs.Ends.{after_add, claimed, released, used_answer}
+use Rattle.vb_ring.specs.Calls.{TakesUsedBy}
+use Rattle.vb_ring.proofs.Numbers.{numbers_first, numbers_has, numbers_none}
+use Rattle.vb_ring.proofs.OwnerLaws.{released-at}
+use Rattle.vb_driver.specs.State.{IsStatisticsQueue, fresh_statistics}
+use Rattle.vb_driver.specs.Calls.{emptied}
+use Rattle.vb_driver.proofs.ReportTables.{none_owned}
+use Rattle.vb_driver.proofs.RequestTables.{next_path_is, claimed_same, claimed_other}
+
+-- ---- nothing is out
+
+-- where nothing is out, no descriptor is in use
+pub none_used : (r : DriverEnd) (n : ℕ) → IsStatisticsQueue r n → 0 < r.size → outstanding r ≡ 0
+    → (i : ℕ) → is_unused r.owner i ≡ true
+none_used r n queue some none i = elim (cases_Bool (is_unused r.owner i)) [
+  | inl unused ↦ unused
+  | inr used ↦
+      let head : is_head r.owner i ≡ true = queue.single i used in
+      let first : i ≡ 0 = queue.first i head in
+      let at : is_head r.owner 0 ≡ true = sym (ap (is_head r.owner) first) ∙ head in
+      let found = numbers_has (is_head r.owner) r.size 0 some at in
+      absurd (omega (arith, found.1, none))
+]
+
+no_head : (owner : List (Option ℕ)) (i : ℕ) → is_unused owner i ≡ true → is_head owner i ≡ false
+no_head owner i unused = at (slice_index_or owner i None) unused
+  where
+    at : (o : Option ℕ) → is_none o ≡ true → is_own i o ≡ false
+    at None e = refl
+    at (Some h) e = cc
+
+-- and the other way round
+pub none_out : (r : DriverEnd) → ((i : ℕ) → is_unused r.owner i ≡ true) → outstanding r ≡ 0
+none_out r unused =
+    ap length (numbers_none (is_head r.owner) r.size (λ i lt. no_head r.owner i (unused i)))
+
+-- the next head is 0 then
+pub first_head : (r : DriverEnd) → 0 < r.size → ((i : ℕ) → is_unused r.owner i ≡ true)
+    → next_head r ≡ Some 0
+first_head r some unused =
+    numbers_first (is_unused r.owner) r.size 0 some (unused 0) (λ j below. absurd (omega arith))
+
+-- a queue that begins has nothing out
+fresh_unused : (size i : ℕ) → is_unused (fresh_statistics size).owner i ≡ true
+fresh_unused size i = ap is_none (none_owned size i)
+
+pub fresh_none : (size : ℕ) → outstanding (fresh_statistics size) ≡ 0
+fresh_none size = none_out (fresh_statistics size) (fresh_unused size)
+
+-- ---- the buffer goes out
+
+claimed_queue : (owner : List (Option ℕ)) → ((i : ℕ) → is_unused owner i ≡ true)
+    → 0 < length owner → (i : ℕ) → is_unused (claimed (0 ∷ []) 0 owner) i ≡ false → i ≡ 0
+claimed_queue owner unused some i used = elim (cases_eq i 0) [
+  | inl same ↦ same
+  | inr ne ↦
+      (let wrong : true ≡ false =
+      sym (unused i) ∙ (sym (ap is_none (claimed_other 0 i owner some ne)) ∙ used) in cc)
+]
+
+pub queue_added : (r : DriverEnd) (n : ℕ) → IsStatisticsQueue r n → IsDriverEnd r → 0 < r.size
+    → ((i : ℕ) → is_unused r.owner i ≡ true) → IsStatisticsQueue (after_add r 1 (Ok 0)) n
+queue_added r n queue end some unused =
+    let owner = claimed (0 ∷ []) 0 r.owner in
+    let inside : 0 < length r.owner = omega (arith, end.table) in
+    let path : next_path r 1 ≡ 0 ∷ [] = next_path_is r 0 (first_head r some unused) in
+    let good : IsStatisticsQueue
+    (record r { published = (r.published + 1) % 65536; owner = owner }) n = record {
+      single = λ i used.
+          let zero_is : i ≡ 0 = claimed_queue r.owner unused inside i used in
+          ap (is_head owner) zero_is
+          ∙ (ap (is_own 0) (claimed_same 0 r.owner inside) ∙ eq-eqb 0 0 refl);
+      first = λ i head. elim (cases_Bool (is_unused owner i)) [
+        | inl free ↦ (let wrong : true ≡ false = sym head ∙ no_head owner i free in cc)
+        | inr used ↦ claimed_queue r.owner unused inside i used
+      ];
+      layout = queue.layout;
+      size = queue.size;
+    } in
+    subst (λ (p : List ℕ). IsStatisticsQueue
+    (record r { published = (r.published + 1) % 65536; owner = claimed p 0 r.owner }) n) (sym path)
+    good
+
+-- ---- and comes back
+
+own_tells : (o : Option ℕ) (h : ℕ) → is_own h o ≡ true → o ≡ Some h
+own_tells None h e = cc
+own_tells (Some k) h e = elim (eqb_tells k h) [
+  | inl same ↦ ap Some same.1
+  | inr other ↦ (let wrong : true ≡ false = sym e ∙ other.0 in cc)
+]
+
+released_unused : (r : DriverEnd) (n : ℕ) → IsStatisticsQueue r n → (i : ℕ)
+    → is_unused (released 0 r.owner) i ≡ true
+released_unused r n queue i = elim (cases_Bool (is_unused r.owner i)) [
+  | inl unused ↦ ap is_none (released-at 0 r.owner i) ∙ none_left (slice_index_or r.owner i None)
+      unused
+  | inr used ↦
+      let head : is_head r.owner i ≡ true = queue.single i used in
+      let own : is_own 0 (slice_index_or r.owner i None) ≡ true =
+      ap (λ (h : ℕ). is_own h (slice_index_or r.owner i None)) (sym (queue.first i head)) ∙ head in
+      ap is_none (released-at 0 r.owner i)
+      ∙ ap (λ (b : Bool). is_none (cond b None (slice_index_or r.owner i None))) own
+]
+  where
+    none_left : (o : Option ℕ) → is_none o ≡ true → is_none (cond (is_own 0 o) None o) ≡ true
+    none_left None e = refl
+    none_left (Some k) e = cc
+
+pub queue_taken : (r : DriverEnd) (n : ℕ) → IsStatisticsQueue r n → IsStatisticsQueue (emptied r) n
+queue_taken r n queue = record {
+  single = λ i used.
+      (let wrong : true ≡ false = sym (released_unused r n queue i) ∙ used in cc);
+  first = λ i head.
+      (let wrong : true ≡ false = sym head ∙ no_head _ i (released_unused r n queue i) in cc);
+  layout = queue.layout;
+  size = queue.size;
+}
+
+pub taken_none : (r : DriverEnd) (n : ℕ) → IsStatisticsQueue r n → outstanding (emptied r) ≡ 0
+taken_none r n queue = none_out (emptied r) (released_unused r n queue)
+
+-- a head that is taken is 0
+pub taken_first : (r : DriverEnd) (n h : ℕ) (next : Result (Option ℕ) RingBroken)
+    → IsStatisticsQueue r n → only_head r.owner next ≡ Ok (Some h) → h ≡ 0
+taken_first r n h (Err fault) queue e = cc
+taken_first r n h (Ok None) queue e = cc
+taken_first r n h (Ok (Some id)) queue e = elim (cases_Bool (is_head r.owner id)) [
+  | inl head ↦
+      let same : id ≡ h = given id h (is_head r.owner id) head e in
+      sym same ∙ queue.first id head
+  | inr other ↦ refused id h (is_head r.owner id) other e
+]
+  where
+    given : (x y : ℕ) (b : Bool) → b ≡ true
+        → cond b (Ok (Some x)) (Err NotOutstanding) ≡ Ok (Some y) → x ≡ y
+    given x y true f g = cc
+    given x y false f g = cc
+
+    refused : (x y : ℕ) (b : Bool) → b ≡ false
+        → cond b (Ok (Some x)) (Err NotOutstanding) ≡ Ok (Some y) → y ≡ 0
+    refused x y true f g = cc
+    refused x y false f g = cc
+
+-- what is told of a take: whether the buffer was used
+abbrev Tells : Pages → DriverEnd → DriverEnd → ℕ → Bool → Type 0
+Tells mem r r2 n told =
+    MatchBool told
+    ((used_answer mem r ≡ Ok (Some 0)) × TakesUsedBy mem r r2 (Ok (Some 0)) × (r2 ≡ emptied r)
+    × (outstanding r2 ≡ 0) × IsStatisticsQueue r2 n)
+    ((used_answer mem r ≡ Ok None) × (r2 ≡ r))
+
+pub tells_of : (mem : Pages) (r r2 now : DriverEnd) (n : ℕ) (used : Option ℕ) (told : Bool)
+    → r ≡ now → IsStatisticsQueue now n → told ≡ is_some used → TakesUsedBy mem r r2 (Ok used)
+    → Tells mem now r2 n told
+tells_of mem r r2 now n used told at queue is takes =
+    subst (λ (v : DriverEnd). Tells mem v r2 n told) at
+    (subst (λ (b : Bool). Tells mem r r2 n b) (sym is)
+    (by_used used (subst (λ (v : DriverEnd). IsStatisticsQueue v n) (sym at) queue) takes))
+  where
+    by_used : (o : Option ℕ) → IsStatisticsQueue r n → TakesUsedBy mem r r2 (Ok o)
+        → Tells mem r r2 n (is_some o)
+    by_used None q t = (sym t.value, t.state)
+    by_used (Some h) q t =
+        let first : h ≡ 0 = taken_first r n h _ q (sym t.value) in
+        let taken : TakesUsedBy mem r r2 (Ok (Some 0)) =
+        subst (λ (k : ℕ). TakesUsedBy mem r r2 (Ok (Some k))) first t in (
+          sym taken.value,
+          taken,
+          taken.state,
+          ap outstanding taken.state ∙ taken_none r n q,
+          subst (λ (v : DriverEnd). IsStatisticsQueue v n) (sym taken.state) (queue_taken r n q),
+        )

@@ -1,0 +1,164 @@
+-- Blocks leave the page areas for a report, and come back.
+use Rattle.std.proofs.Common.{◌≡◌, ◌∙◌, sym, ap, subst, arith, refl, ℕ, ◌+◌, ◌^◌, ◌<◌, ◌≤◌, Bool}
+use Rattle.std.proofs.Common.{true, false, cond, eqb, not, ◌&&◌, ◌||◌, List, [], ◌∷◌, length, map}
+use Rattle.std.proofs.Common.{slice_index_or}
+use Rattle.std.specs.Prelude.{All, IsTrue}
+use Rattle.std.proofs.lemmas.Bool.{eqb-true}
+use Rattle.std.proofs.lemmas.Nat.{pow_pos}
+use Rattle.std.proofs.lemmas.List.{length-map, get_or-map}
+use Rattle.std.proofs.lemmas.List.Elements.{All-map}
+use Rattle.vb_model.specs.Tests.{is_in}
+use Rattle.vb_model.specs.Orderly.{times}
+use Rattle.vb_model.specs.Driver.{AllDistinct}
+use Rattle.vb_model.specs.Pages.{Block, pages_of, pages_of_all, is_free, place_of, reported}
+use Rattle.vb_model.specs.Pages.{maximal_free_blocks}
+use Rattle.vb_model.specs.declared.places.Place.{Place}
+use Rattle.vb_model.proofs.Distinct.{distinct_once}
+use Rattle.vb_pages.specs.declared.block.FreeBlock.{FreeBlock}
+use Rattle.vb_pages.specs.FreePages.{drained}
+use Rattle.vb_pages.specs.PageState.{PageState, page_count, is_free_page, IsApart, HasRoomIn}
+use Rattle.vb_pages.specs.Areas.{without_pages}
+use Rattle.vb_pages.proofs.Sets.{same_bool, in_block, length-with_pages, length-without_pages}
+use Rattle.vb_pages.proofs.Sets.{same_sets, without_parts, without_old}
+use Rattle.vb_report.specs.Blocks.{block_of, blocks_of, is_covered, blocks_to_report, HaveRoom}
+use Rattle.vb_report.specs.Blocks.{with_blocks, without_blocks}
+use Rattle.vb_report.proofs.Covering.{in_covered}
+use Rattle.vb_driver.specs.Areas.{Becomes, flags_of, is_free_at}
+use Rattle.vb_driver.specs.Areas.{is_covered as is_in_block}
+use Rattle.vb_driver.specs.Places.{marked}
+use Rattle.vb_driver.specs.State.{IsAreaBlock}
+use Rattle.vb_driver.proofs.Flags.{length_flags, flag_free, free_flag, flags_moved, drained_sizes}
+use Rattle.vb_driver.proofs.Moving.{free_is_place}
+use Rattle.vb_driver.proofs.Placing.{marked_none}
+use Rattle.vb_driver.proofs.ReportTables.{in_all, block_inside_all, no_free_block}
+
+-- a page is free just where its flag says so
+flag_is : (s : PageState) (p : ℕ) → IsApart s
+    → is_free_page s p ≡ is_free_at (flags_of s.free) p
+flag_is s p apart =
+    same_bool (is_free_page s p) (is_free_at (flags_of s.free) p) (free_flag s p apart)
+    (flag_free s p)
+
+-- ---- blocks are chosen
+
+pub chosen_places : (s : PageState) (from room : ℕ) → IsApart s
+    → ((t : PageState) (places : List Place) → length places ≡ page_count t
+    → ((p : ℕ) → is_free_page t p ≡ is_free (place_of places p)) → (f r : ℕ)
+    → blocks_to_report t f r ≡ reported r f (maximal_free_blocks places))
+    → (places : List Place) → flags_of s.free ≡ map is_free places
+    → blocks_to_report s from room ≡ reported room from (maximal_free_blocks places)
+chosen_places s from room apart law places is =
+    law s places
+    (omega (arith, length_flags s, ap (λ (l : List Bool). length l) is, length-map places is_free))
+    (λ p. flag_is s p apart ∙ free_is_place places (flags_of s.free) p is) from room
+
+pub chosen_blocks : (s : PageState) (blocks : List FreeBlock) → HaveRoom s blocks
+    → All IsAreaBlock (blocks_of blocks)
+chosen_blocks s blocks room =
+    All-map IsAreaBlock block_of blocks (λ k d lt.
+    let fits = room.each k d lt in
+    record { order = fits.0.0; aligned = fits.0.1 })
+
+pub chosen_state : (s new : PageState) (blocks : List FreeBlock) → new ≡ without_blocks blocks s
+    → ((p : ℕ) → is_free_page new p ≡ (is_free_page s p && not (is_covered p blocks)))
+    → Becomes s new (marked (pages_of_all (blocks_of blocks)) false (flags_of s.free)) s.held
+chosen_state s new blocks is left =
+    let pages = pages_of_all (blocks_of blocks) in
+    let sizes = drained_sizes s.free in
+    record {
+      free = flags_moved s new pages false
+          (ap page_count is ∙ (length-without_pages pages (drained s.free).areas ∙ sizes.pages))
+          (λ p. left p ∙ (ap (λ (v : Bool). is_free_page s p && not v) (sym (in_covered p blocks))
+          ∙ gone (is_free_page s p) (is_in p pages)));
+      held = ap (λ (v : PageState). v.held) is;
+      processors = ap (λ (v : PageState). length v.free.lists) is ∙ sizes.cpus;
+    }
+  where
+    gone : (old v : Bool) → (old && not v) ≡ cond v false old
+    gone true true = refl
+    gone true false = refl
+    gone false true = refl
+    gone false false = refl
+
+-- ---- no block is chosen
+
+pub no_blocks : (blocks : List FreeBlock) → eqb (length blocks) 0 ≡ true → blocks ≡ []
+no_blocks [] e = refl
+no_blocks (b ∷ blocks) e =
+    (let some : length (b ∷ blocks) ≡ 0 = eqb-true (length (b ∷ blocks)) 0 e in
+    absurd (omega arith))
+
+pub none_chosen : (s new : PageState) (blocks : List FreeBlock) → blocks ≡ []
+    → Becomes s new (marked (pages_of_all (blocks_of blocks)) false (flags_of s.free)) s.held
+    → Becomes s new (flags_of s.free) s.held
+none_chosen s new blocks none becomes = record {
+  free = becomes.free
+      ∙ (ap (λ (l : List FreeBlock). marked (pages_of_all (blocks_of l)) false (flags_of s.free))
+      none ∙ marked_none false (flags_of s.free));
+  held = becomes.held;
+  processors = becomes.processors;
+}
+
+without_none : (set : List Bool) → without_pages [] set ≡ set
+without_none set =
+    same_sets (without_pages [] set) set (length-without_pages [] set)
+    (λ p e. (without_parts [] set p e).0) (λ p e. without_old [] set p e refl)
+
+pub only_drained : (s new : PageState) (blocks : List FreeBlock) → blocks ≡ []
+    → new ≡ without_blocks blocks s → new ≡ record s { free = drained s.free }
+only_drained s new blocks none is =
+    is ∙ (ap (λ (l : List FreeBlock). without_blocks l s) none
+    ∙ ap (λ (set : List Bool). record s { free = record (drained s.free) { areas = set } })
+    (without_none (drained s.free).areas))
+
+-- ---- blocks come back
+
+pub have_room : (s : PageState) (blocks : List FreeBlock) → IsApart s
+    → All IsAreaBlock (blocks_of blocks)
+    → ((p : ℕ) → is_in p (pages_of_all (blocks_of blocks)) ≡ true → 16 ≤ p)
+    → ((p : ℕ) → is_in p (pages_of_all (blocks_of blocks)) ≡ true → p < length (flags_of s.free))
+    → ((p : ℕ) → is_in p (pages_of_all (blocks_of blocks)) ≡ true
+    → is_free_at (flags_of s.free) p ≡ false)
+    → ((p : ℕ) → is_in p (pages_of_all (blocks_of blocks)) ≡ true → is_in_block p s.held ≡ false)
+    → ((p : ℕ) → times p (pages_of_all (blocks_of blocks)) ≤ 1) → HaveRoom s blocks
+have_room s blocks apart good unreserved inside taken uncovered once = record {
+  each = λ k d lt.
+      let b = block_of (slice_index_or blocks k d) in
+      let is : slice_index_or (blocks_of blocks) k (block_of d) ≡ b =
+      get_or-map block_of blocks k d (block_of d) lt in
+      let fine : IsAreaBlock b = subst IsAreaBlock is
+      (good k (block_of d) (omega (arith, length-map blocks block_of))) in
+      let here : (p : ℕ) → b.start ≤ p → p < b.start + 2 ^ b.order
+      → is_in p (pages_of_all (blocks_of blocks)) ≡ true = λ p l u.
+      in_all (blocks_of blocks) k (block_of d) p (omega (arith, length-map blocks block_of))
+      (subst (λ (v : Block). is_in p (pages_of v) ≡ true) (sym is)
+      (in_block b.start b.order p l u)) in
+      let some = pow_pos b.order in (
+        (fine.order, fine.aligned),
+        unreserved b.start (here b.start (omega arith) (omega arith)),
+        block_inside_all blocks k d (page_count s) lt
+            (λ p h. omega (arith, inside p h, length_flags s)),
+        λ p l u. (flag_is s p apart ∙ taken p (here p l u), uncovered p (here p l u)),
+      );
+  apart = distinct_once (pages_of_all (blocks_of blocks)) once;
+}
+
+pub given_blocks : (s new : PageState) (blocks : List FreeBlock) → new ≡ with_blocks blocks s
+    → ((p : ℕ) → is_free_page new p ≡ (is_free_page s p || is_covered p blocks))
+    → Becomes s new (marked (pages_of_all (blocks_of blocks)) true (flags_of s.free)) s.held
+given_blocks s new blocks is gained =
+    let pages = pages_of_all (blocks_of blocks) in
+    record {
+      free = flags_moved s new pages true
+          (ap page_count is ∙ length-with_pages pages s.free.areas)
+          (λ p. gained p ∙ (ap (λ (v : Bool). is_free_page s p || v) (sym (in_covered p blocks))
+          ∙ came (is_free_page s p) (is_in p pages)));
+      held = ap (λ (v : PageState). v.held) is;
+      processors = ap (λ (v : PageState). length v.free.lists) is;
+    }
+  where
+    came : (old v : Bool) → (old || v) ≡ cond v true old
+    came true true = refl
+    came true false = refl
+    came false true = refl
+    came false false = refl

@@ -1,0 +1,305 @@
+-- The queue of reports, whose one chain has the first descriptors.
+use Rattle.std.proofs.Common.{◌≡◌, ◌∙◌, sym, ap, subst, arith, refl, ℕ, zero, suc, ◌+◌, ◌<◌, ◌≤◌}
+use Rattle.std.proofs.Common.{Bool, true, false, cond, eqb, List, [], ◌∷◌, ◌++◌, length, take, map}
+use Rattle.std.proofs.Common.{Option, None, Some, Result, Ok, Err, inl, inr, replicate, is_none}
+use Rattle.std.proofs.Common.{slice_index, slice_index_or, nat_lt, add-one}
+use Rattle.std.proofs.lemmas.Bool.{cases_lt, le-ltb, lt-ltb, eqb-true, both_ways}
+use Rattle.std.proofs.lemmas.List.{length-replicate, get_or-replicate, get_or_past}
+use Rattle.std.proofs.lemmas.List.Elements.{All-nil}
+use Rattle.std.proofs.lemmas.List.FromFn.{take-map-range_with_len, length-range_with_len}
+use Rattle.std.proofs.lemmas.List.FromFn.{get_or-range_with_len}
+use Rattle.std.specs.List.{range_with_len}
+use Rattle.vb_model.specs.Tests.{is_in}
+use Rattle.vb_model.specs.Pages.{Block}
+use Rattle.vb_model.proofs.PageSteps.{is_in-range, outside-range}
+use Rattle.vb_ram.specs.Pages.{Pages}
+use Rattle.vb_ring.specs.declared.driver.Full.{Full}
+use Rattle.vb_ring.specs.declared.driver.Full.TheVariants.{TooFewFree}
+use Rattle.vb_ring.specs.declared.driver.RingBroken.{RingBroken}
+use Rattle.vb_ring.specs.declared.driver.RingBroken.TheVariants.{NotOutstanding}
+use Rattle.std.specs.Prelude.{All}
+use Rattle.vb_ring.specs.Entries.{is_own, is_head, only_head}
+use Rattle.vb_ring.specs.Ends.{DriverEnd, IsDriverEnd, is_unused, outstanding, free_descriptors}
+use Rattle.vb_ring.specs.Ends.{next_path, add_answer, after_add, after_take, claimed, released}
+use Rattle.vb_ring.specs.Ends.{used_answer}
+use Rattle.vb_ring.specs.Numbers.{numbers}
+use Rattle.vb_ring.proofs.Numbers.{numbers_yes, numbers_zero, length_all}
+use Rattle.vb_ring.proofs.OwnerLaws.{claimed-at, released-at}
+use Rattle.vb_driver.specs.State.{ReportSide, IsReportQueue, IsAreaBlock, fresh_report}
+use Rattle.vb_driver.proofs.Placing.{range_push}
+use Rattle.vb_pages.proofs.Sets.{in_block}
+use Rattle.vb_pages.specs.declared.block.FreeBlock.{FreeBlock}
+use Rattle.vb_report.specs.Blocks.{block_of, blocks_of, HasOrder}
+use Rattle.vb_model.specs.Pages.{pages_of, pages_of_all}
+use Rattle.std.proofs.lemmas.Nat.{pow_pos}
+use Rattle.std.proofs.lemmas.Bool.{or_left, or_right}
+use Rattle.std.proofs.lemmas.List.{length-map, get_or-map, take_more, map-append, length-append}
+use Rattle.std.proofs.lemmas.List.Folds.{list_any-append}
+use Rattle.std.proofs.lemmas.Grind.{flat_map-append}
+use Rattle.std.proofs.Common.{append-nil, ◌-◌, ◌^◌}
+
+-- nothing belongs to a chain
+pub none_owned : (size i : ℕ) → slice_index_or (replicate {A = Option ℕ} size None) i None ≡ None
+none_owned size i = elim (cases_lt i size) [
+  | inl l ↦ get_or-replicate {A = Option ℕ} size i None None l
+  | inr past ↦ get_or_past (replicate {A = Option ℕ} size None) i None
+      (omega (arith, length-replicate {A = Option ℕ} size None))
+]
+
+-- the head of the one chain, of a descriptor that it has
+abbrev head_if : Bool → Option ℕ
+head_if b = cond b (Some 0) None
+
+no_block : (i : ℕ) → head_if (nat_lt i 0) ≡ None
+no_block i = ap head_if (le-ltb i 0 (omega arith))
+
+pub fresh_report_queue : (size : ℕ) → IsReportQueue (fresh_report size) size
+fresh_report_queue size = record {
+  owned = λ i. none_owned size i ∙ sym (no_block i);
+  few = omega arith;
+  blocks = All-nil IsAreaBlock;
+  layout = refl;
+  size = refl;
+}
+
+-- ---- blocks, one after the other
+
+abbrev pub no_free_block : FreeBlock
+no_free_block = record { start = 0; order = 0 }
+
+abbrev pub block_in : List FreeBlock → ℕ → Block
+block_in blocks i = block_of (slice_index_or blocks i no_free_block)
+
+pub orders_of : (blocks : List FreeBlock) → All IsAreaBlock (blocks_of blocks)
+    → All HasOrder blocks
+orders_of blocks all k d lt =
+    let good : IsAreaBlock (slice_index_or (blocks_of blocks) k (block_of d)) =
+    all k (block_of d) (omega (arith, length-map blocks block_of)) in
+    subst (λ (b : Block). b.order ≤ 9) (get_or-map block_of blocks k d (block_of d) lt) good.order
+
+pub order_of : (blocks : List FreeBlock) (i : ℕ) → All IsAreaBlock (blocks_of blocks)
+    → i < length blocks → (block_in blocks i).order ≤ 9
+order_of blocks i all lt = orders_of blocks all i no_free_block lt
+
+pub pages_more_blocks : (blocks : List FreeBlock) (i : ℕ) → i < length blocks
+    → pages_of_all (blocks_of (take (i + 1) blocks))
+    ≡ pages_of_all (blocks_of (take i blocks)) ++ pages_of (block_in blocks i)
+pages_more_blocks blocks i lt =
+    let last = slice_index_or blocks i no_free_block in
+    ap (λ (l : List FreeBlock). pages_of_all (blocks_of l)) (take_more blocks i no_free_block lt)
+    ∙ (ap pages_of_all (map-append block_of (take i blocks) (last ∷ []))
+    ∙ (flat_map-append pages_of (blocks_of (take i blocks)) (block_of last ∷ [])
+    ∙ ap (λ (l : List ℕ). pages_of_all (blocks_of (take i blocks)) ++ l)
+    (append-nil (pages_of (block_of last)))))
+
+pub length_more_blocks : (blocks : List FreeBlock) (i : ℕ) → i < length blocks
+    → length (pages_of_all (blocks_of (take (i + 1) blocks)))
+    ≡ length (pages_of_all (blocks_of (take i blocks))) + 2 ^ (block_in blocks i).order
+length_more_blocks blocks i lt =
+    let b = block_in blocks i in
+    let all : length (pages_of_all (blocks_of (take (i + 1) blocks)))
+    ≡ length (pages_of_all (blocks_of (take i blocks)) ++ pages_of b) =
+    ap length (pages_more_blocks blocks i lt) in
+    omega (
+      arith,
+      all,
+      length-append (pages_of_all (blocks_of (take i blocks))) (pages_of b),
+      length-range_with_len b.start (2 ^ b.order),
+    )
+
+-- a page of one of the blocks is a page of all
+pub in_all : (bs : List Block) (i : ℕ) (d : Block) (p : ℕ) → i < length bs
+    → is_in p (pages_of (slice_index_or bs i d)) ≡ true → is_in p (pages_of_all bs) ≡ true
+in_all [] i d p lt here = absurd (omega arith)
+in_all (b ∷ bs) zero d p lt here =
+    list_any-append (λ m. eqb m p) (pages_of b) (pages_of_all bs)
+    ∙ or_left (is_in p (pages_of b)) (is_in p (pages_of_all bs)) here
+in_all (b ∷ bs) (suc i) d p lt here =
+    list_any-append (λ m. eqb m p) (pages_of b) (pages_of_all bs)
+    ∙ or_right (is_in p (pages_of b)) (is_in p (pages_of_all bs))
+    (in_all bs i d p (omega arith) here)
+
+-- a block whose last page is there lies within
+pub block_inside : (n : ℕ) (b : Block) → ((p : ℕ) → is_in p (pages_of b) ≡ true → p < n)
+    → b.start + 2 ^ b.order ≤ n
+block_inside n b there =
+    let some = pow_pos b.order in
+    let last = b.start + (2 ^ b.order - 1) in
+    let here : last < n = there last (in_block b.start b.order last (omega arith) (omega arith)) in
+    omega arith
+
+pub block_inside_all : (blocks : List FreeBlock) (i : ℕ) (d : FreeBlock) (n : ℕ) → i < length blocks
+    → ((p : ℕ) → is_in p (pages_of_all (blocks_of blocks)) ≡ true → p < n)
+    → (slice_index_or blocks i d).start + 2 ^ (slice_index_or blocks i d).order ≤ n
+block_inside_all blocks i d n lt there =
+    let b = block_of (slice_index_or blocks i d) in
+    let is : slice_index_or (blocks_of blocks) i (block_of d) ≡ b =
+    get_or-map block_of blocks i d (block_of d) lt in
+    block_inside n b (λ p here. there p (in_all (blocks_of blocks) i (block_of d) p
+    (omega (arith, length-map blocks block_of))
+    (subst (λ (v : Block). is_in p (pages_of v) ≡ true) (sym is) here)))
+
+-- ---- nothing is out
+
+-- where no chain is out, there is no report
+pub none_out : (side : ReportSide) (size : ℕ) → IsReportQueue side size → IsDriverEnd side.ring
+    → outstanding side.ring ≡ 0 → side.blocks ≡ []
+none_out side size queue end none = at side.blocks refl
+  where
+    at : (blocks : List Block) → side.blocks ≡ blocks → side.blocks ≡ []
+    at [] e = e
+    at (b ∷ blocks) e =
+        let first : slice_index_or side.ring.owner 0 None ≡ Some 0 =
+        queue.owned 0 ∙ ap head_if
+        (lt-ltb 0 (length side.blocks) (omega (arith, ap length e))) in
+        let head : is_head side.ring.owner 0 ≡ true = ap (is_own 0) first in
+        let inside : 0 < length side.ring.owner = elim (cases_lt 0 (length side.ring.owner)) [
+          | inl l ↦ l
+          | inr past ↦ (let wrong : true ≡ false = ap is_none
+              (sym (get_or_past side.ring.owner 0 None past) ∙ first) in
+              absurd (both_ways false refl (sym wrong)))
+        ] in
+        let some : 1 ≤ outstanding side.ring =
+        length_all (is_head side.ring.owner) side.ring.size 1 (omega (arith, end.table))
+        (λ i lt. subst (λ (n : ℕ). is_head side.ring.owner n ≡ true) (omega arith) head) in
+        absurd (omega arith)
+
+-- and then no descriptor is in use
+pub unowned : (side : ReportSide) (size : ℕ) → IsReportQueue side size → side.blocks ≡ [] → (i : ℕ)
+    → slice_index_or side.ring.owner i None ≡ None
+unowned side size queue none i =
+    queue.owned i
+    ∙ (ap (λ (n : ℕ). head_if (nat_lt i n)) (ap length none) ∙ no_block i)
+
+-- ---- the first descriptors
+
+all_numbers : (test : ℕ → Bool) (n : ℕ) → ((i : ℕ) → test i ≡ true)
+    → numbers test n ≡ range_with_len 0 n
+all_numbers test zero all = numbers_zero test
+all_numbers test (suc n) all =
+    let next : 0 + n ≡ n = omega arith in
+    ap (numbers test) (sym (add-one n))
+    ∙ (numbers_yes test n (all n)
+    ∙ (ap (λ (l : List ℕ). l ++ n ∷ []) (all_numbers test n all)
+    ∙ sym (range_push 0 n ∙ ap (λ (k : ℕ). range_with_len 0 n ++ k ∷ []) next)))
+
+same_map : (xs : List ℕ) → map (λ (n : ℕ). n) xs ≡ xs
+same_map [] = refl
+same_map (x ∷ xs) = ap (λ (l : List ℕ). x ∷ l) (same_map xs)
+
+module _ (r : DriverEnd) (none : (i : ℕ) → slice_index_or r.owner i None ≡ None) where
+  all_free : free_descriptors r ≡ range_with_len 0 r.size
+  all_free = all_numbers (is_unused r.owner) r.size (λ i. ap is_none (none i))
+
+  pub first_path : (n : ℕ) → n ≤ r.size → next_path r n ≡ range_with_len 0 n
+  first_path n room =
+      ap (take n) (all_free ∙ sym (same_map (range_with_len 0 r.size)))
+      ∙ (take-map-range_with_len (λ (n : ℕ). n) 0 r.size n room ∙ same_map (range_with_len 0 n))
+
+  -- there is room, and the head is 0
+  pub first_head : (n : ℕ) → 0 < n → n ≤ r.size → add_answer r n ≡ Ok 0
+  first_head n some room =
+      let enough : nat_lt (length (free_descriptors r)) n ≡ false =
+      le-ltb (length (free_descriptors r)) n
+      (omega (arith, ap length all_free, length-range_with_len 0 r.size)) in
+      let head : slice_index (next_path r n) 0 ≡ 0 =
+      ap (λ (l : List ℕ). slice_index l 0) (first_path n room)
+      ∙ get_or-range_with_len 0 n 0 0 some in
+      ap (λ (v : Bool). cond v (Err TooFewFree) (Ok (slice_index (next_path r n) 0))) enough
+      ∙ ap (λ (h : ℕ). Ok h) head
+
+in_first : (i n : ℕ) → is_in i (range_with_len 0 n) ≡ nat_lt i n
+in_first i n = at (is_in i (range_with_len 0 n)) refl
+  where
+    at : (b : Bool) → is_in i (range_with_len 0 n) ≡ b → is_in i (range_with_len 0 n) ≡ nat_lt i n
+    at true e = e ∙ sym (lt-ltb i n (omega (arith, (is_in-range i 0 n e).1)))
+    at false e = elim (cases_lt i n) [
+      | inl l ↦ absurd (outside-range i 0 n e (omega arith) (omega arith))
+      | inr past ↦ e ∙ sym (le-ltb i n past)
+    ]
+
+pub not_first : (i n : ℕ) → n ≤ i → is_in i (range_with_len 0 n) ≡ false
+not_first i n past = in_first i n ∙ le-ltb i n past
+
+-- ---- a report goes out, and comes back
+
+pub posted_report_queue : (side : ReportSide) (size : ℕ) (r2 : DriverEnd) (blocks : List Block)
+    → IsReportQueue side size → IsDriverEnd side.ring → side.blocks ≡ [] → length blocks ≤ 16
+    → length blocks ≤ side.ring.size → All IsAreaBlock blocks
+    → r2 ≡ after_add side.ring (length blocks) (Ok 0)
+    → IsReportQueue (record { ring = r2; blocks = blocks }) size
+posted_report_queue side size r2 blocks queue end nothing few room good state =
+    subst (λ (v : DriverEnd). IsReportQueue (record { ring = v; blocks = blocks }) size) (sym state)
+    (record {
+      owned = owned;
+      few = few;
+      blocks = good;
+      layout = queue.layout;
+      size = queue.size;
+    })
+  where
+    n : ℕ
+    n = length blocks
+
+    none : (i : ℕ) → slice_index_or side.ring.owner i None ≡ None
+    none i = unowned side size queue nothing i
+
+    owned : (i : ℕ) → slice_index_or (claimed (next_path side.ring (length blocks)) 0 side.ring.owner) i None
+        ≡ head_if (nat_lt i (length blocks))
+    owned i =
+        let path : next_path side.ring (length blocks) ≡ range_with_len 0 (length blocks) =
+        first_path side.ring (λ k. unowned side size queue nothing k) (length blocks) room in
+        ap (λ (p : List ℕ). slice_index_or (claimed p 0 side.ring.owner) i None) path
+        ∙ (claimed-at (range_with_len 0 (length blocks)) 0 side.ring.owner i (λ k lt.
+        let near : k < length blocks = omega (arith, length-range_with_len 0 (length blocks)) in
+        omega (arith, get_or-range_with_len 0 (length blocks) k 0 near, end.table))
+        ∙ (ap (λ (v : Bool). cond v (Some 0) (slice_index_or side.ring.owner i None))
+        (in_first i (length blocks))
+        ∙ ap (λ (o : Option ℕ). cond (nat_lt i (length blocks)) (Some 0) o)
+        (unowned side size queue nothing i)))
+
+-- a chain that is taken back has head 0
+only_out : (owner : List (Option ℕ)) (answer : Result (Option ℕ) RingBroken) (h : ℕ)
+    → only_head owner answer ≡ Ok (Some h) → is_head owner h ≡ true
+only_out owner (Err fault) h e = cc
+only_out owner (Ok None) h e = cc
+only_out owner (Ok (Some id)) h e = at (is_head owner id) refl e
+  where
+    same : (a b : ℕ) (x y : Result (Option ℕ) RingBroken) → x ≡ Ok (Some a) → y ≡ Ok (Some b)
+        → x ≡ y → a ≡ b
+    same a b x y p q s = cc
+
+    at : (v : Bool) → is_head owner id ≡ v
+        → cond v (Ok (Some id)) (Err NotOutstanding) ≡ Ok (Some h) → is_head owner h ≡ true
+    at true is s = subst (λ (n : ℕ). is_head owner n ≡ true) (same id h _ _ refl s refl) is
+    at false is s = cc
+
+pub head_zero : (mem : Pages) (side : ReportSide) (size h : ℕ) → IsReportQueue side size
+    → used_answer mem side.ring ≡ Ok (Some h) → h ≡ 0
+head_zero mem side size h queue answer =
+    let head : is_head side.ring.owner h ≡ true = only_out side.ring.owner _ h answer in
+    at (nat_lt h (length side.blocks)) (ap (is_own h) (sym (queue.owned h)) ∙ head)
+  where
+    at : (v : Bool) → is_own h (head_if v) ≡ true → h ≡ 0
+    at true e = sym (eqb-true 0 h e)
+    at false e = cc
+
+pub taken_report_queue : (side : ReportSide) (size h : ℕ) (r2 : DriverEnd) → IsReportQueue side size
+    → h ≡ 0 → r2 ≡ after_take side.ring (Ok (Some h))
+    → IsReportQueue (record { ring = r2; blocks = [] }) size
+taken_report_queue side size h r2 queue zero_is state =
+    subst (λ (v : DriverEnd). IsReportQueue (record { ring = v; blocks = [] }) size) (sym state)
+    (record {
+      owned = λ i. ap (λ (n : ℕ). slice_index_or (released n side.ring.owner) i None) zero_is
+          ∙ (released-at 0 side.ring.owner i
+          ∙ (ap (λ (o : Option ℕ). cond (is_own 0 o) None o) (queue.owned i)
+          ∙ (gone (nat_lt i (length side.blocks)) ∙ sym (no_block i))));
+      few = omega arith;
+      blocks = All-nil IsAreaBlock;
+      layout = queue.layout;
+      size = queue.size;
+    })
+  where
+    gone : (v : Bool) → cond (is_own 0 (head_if v)) None (head_if v) ≡ None
+    gone true = refl
+    gone false = refl

@@ -1,0 +1,17 @@
+use Rattle.std.proofs.Common.{◌≡◌, ◌∙◌, ap, arith, ℕ, List, length, take, ◌+◌, ◌^◌}
+use Rattle.vb_model.specs.Pages.{pages_of, pages_of_all}
+use Rattle.vb_report.specs.Blocks.{blocks_of}
+use Rattle.vb_driver.proofs.ReportTables.{order_of, pages_more_blocks, length_more_blocks, block_in}
+use Rattle.vb_driver.proofs.places.count_pages.Goals as goal
+
+pub size_of-pages-requires : goal.size_of-pages-requires
+size_of-pages-requires c =
+    order_of c.args.blocks.now c.loop-block.block-index c.requires.orders c.loop-block-test.true
+
+pub loop-block-preserved : goal.loop-block-preserved
+loop-block-preserved c =
+    let more = length_more_blocks c.args.blocks.now c.loop-block.block-index
+    c.loop-block-test.true in (
+      omega (arith, c.loop-block.invariant.0, c.size_of-pages.ensures.size, more),
+      omega (arith, c.loop-block.invariant.1, c.size_of-pages.ensures.small),
+    )

@@ -1,0 +1,73 @@
+use Rattle.std.proofs.Common.{◌≡◌, ◌∙◌, sym, ap, subst, refl, arith, List, All, Result, Ok, Err}
+use Rattle.std.proofs.lemmas.List.{length-map}
+use Rattle.vb_ring.specs.declared.driver.Full.{Full}
+use Rattle.vb_pages.specs.declared.block.FreeBlock.{FreeBlock}
+use Rattle.vb_report.specs.Blocks.{block_of, blocks_of, pieces_of}
+use Rattle.vb_driver.specs.State.{ReportSide, IsReportQueue, IsAreaBlock}
+use Rattle.vb_driver.specs.Calls.{PostsReport}
+use Rattle.vb_driver.specs.contracts.reports.ReportQueue.{the_view}
+use Rattle.vb_driver.proofs.ReportTables.{orders_of, posted_report_queue}
+use Rattle.vb_driver.proofs.ReportPosting.{Reporting, reporting, same_head, nothing, answer_is}
+use Rattle.vb_driver.proofs.ReportPosting.{ring_is, posts_report, not_full}
+use Rattle.vb_driver.proofs.reports.ReportQueue.post.Goals as goal
+
+pub encode-pieces-requires-clause-orders : goal.encode-pieces-requires-clause-orders
+encode-pieces-requires-clause-orders g c =
+    orders_of c.deref.result.now
+    (subst (λ (l : List FreeBlock). All IsAreaBlock (blocks_of l)) (sym c.deref.ensures.0)
+    c.requires.blocks)
+
+pub unreachable-requires : goal.unreachable-requires
+unreachable-requires g c =
+    let m1 = g.G.GuestBytes.mem c.args.ram.now in
+    let m2 = g.G.GuestBytes.mem c.add.new.ram in
+    let coded : c.deref-2.result.now ≡ pieces_of (blocks_of c.args.blocks.items) =
+    c.deref-2.ensures.0 ∙ (c.encode-pieces.ensures
+    ∙ ap (λ (l : List FreeBlock). pieces_of (blocks_of l)) c.deref.ensures.0) in
+    let s = reporting m1 m2 (the_view c.self.inside) c.args.self.now c.add.new.self
+    c.deref-2.result.now c.args.blocks.items c.add.result c.self.view_is c.requires.queue
+    c.requires.none_out c.requires.some c.requires.room coded c.add.ensures.adds in
+    not_full c.add.result c.in_default.field-0 (answer_is _ _ _ _ _ _ _ _ s) c.in_default.is
+
+pub returns-clause-posts : goal.returns-clause-posts
+returns-clause-posts g c =
+    let m1 = g.G.GuestBytes.mem c.args.ram.now in
+    let m2 = g.G.GuestBytes.mem c.add.new.ram in
+    let blocks = blocks_of c.args.blocks.items in
+    let coded : c.deref-2.result.now ≡ pieces_of blocks =
+    c.deref-2.ensures.0 ∙ (c.encode-pieces.ensures
+    ∙ ap (λ (l : List FreeBlock). pieces_of (blocks_of l)) c.deref.ensures.0) in
+    let s = reporting m1 m2 (the_view c.self.inside) c.args.self.now c.add.new.self
+    c.deref-2.result.now c.args.blocks.items c.add.result c.self.view_is c.requires.queue
+    c.requires.none_out c.requires.some c.requires.room coded c.add.ensures.adds in
+    subst (λ (v : ReportSide). PostsReport m1 m2 v
+    (record { ring = c.add.new.self; blocks = blocks }) blocks) c.self.view_is
+    (posts_report _ _ _ _ _ _ _ _ s)
+
+pub returns-clause-queue : goal.returns-clause-queue
+returns-clause-queue g c =
+    let m1 = g.G.GuestBytes.mem c.args.ram.now in
+    let m2 = g.G.GuestBytes.mem c.add.new.ram in
+    let blocks = blocks_of c.args.blocks.items in
+    let coded : c.deref-2.result.now ≡ pieces_of blocks =
+    c.deref-2.ensures.0 ∙ (c.encode-pieces.ensures
+    ∙ ap (λ (l : List FreeBlock). pieces_of (blocks_of l)) c.deref.ensures.0) in
+    let s = reporting m1 m2 (the_view c.self.inside) c.args.self.now c.add.new.self
+    c.deref-2.result.now c.args.blocks.items c.add.result c.self.view_is c.requires.queue
+    c.requires.none_out c.requires.some c.requires.room coded c.add.ensures.adds in
+    posted_report_queue (the_view c.self.inside) c.args.self.now.ring.size c.add.new.self blocks s.queue s.adds.is_end
+    (nothing _ _ _ _ _ _ _ _ s)
+    (omega (arith, length-map c.args.blocks.items block_of, c.requires.few)) s.room
+    c.requires.blocks (ring_is _ _ _ _ _ _ _ _ s)
+
+pub returns-clause-head : goal.returns-clause-head
+returns-clause-head g c =
+    let m1 = g.G.GuestBytes.mem c.args.ram.now in
+    let m2 = g.G.GuestBytes.mem c.add.new.ram in
+    let coded : c.deref-2.result.now ≡ pieces_of (blocks_of c.args.blocks.items) =
+    c.deref-2.ensures.0 ∙ (c.encode-pieces.ensures
+    ∙ ap (λ (l : List FreeBlock). pieces_of (blocks_of l)) c.deref.ensures.0) in
+    let s = reporting m1 m2 (the_view c.self.inside) c.args.self.now c.add.new.self
+    c.deref-2.result.now c.args.blocks.items c.add.result c.self.view_is c.requires.queue
+    c.requires.none_out c.requires.some c.requires.room coded c.add.ensures.adds in
+    same_head c.in-Ok.head 0 c.add.result (Ok 0) c.in-Ok.is refl (answer_is _ _ _ _ _ _ _ _ s)

@@ -1,0 +1,49 @@
+use Rattle.std.proofs.Common.{◌≡◌, sym, subst, refl}
+use Rattle.vb_ring.specs.Ends.{DriverEnd, outstanding}
+use Rattle.vb_driver.specs.State.{IsStatisticsQueue}
+use Rattle.vb_driver.specs.Calls.{PostsBuffer}
+use Rattle.vb_driver.proofs.Filling.{Filling, fills_by, filled_queue, not_full}
+use Rattle.vb_driver.proofs.statistics.StatisticsQueue.post.Goals as goal
+
+pub unreachable-requires : goal.unreachable-requires
+unreachable-requires g c =
+    let r = c.self.inside.ring in
+    let n = c.args.self.now.size in
+    let queue : IsStatisticsQueue r n =
+    subst (λ (v : DriverEnd). IsStatisticsQueue v n) (sym c.self.view_is) c.requires.queue in
+    let none : outstanding r ≡ 0 =
+    subst (λ (v : DriverEnd). outstanding v ≡ 0) (sym c.self.view_is) c.requires.none in
+    not_full _ _ r _ n c.in_default.field-0 _ refl queue none c.in_default.ensures.adds
+
+pub returns-clause-posts : goal.returns-clause-posts
+returns-clause-posts g c =
+    let r = c.self.inside.ring in
+    let n = c.args.self.now.size in
+    let m1 = g.G.GuestBytes.mem c.args.ram.now in
+    let m2 = g.G.GuestBytes.mem c.write_figures.new.ram in
+    let m3 = g.G.GuestBytes.mem c.add.new.ram in
+    let filling : Filling m1 m2 m3 r c.add.new.self n c.from.result c.args.free c.args.total =
+    record {
+      queue = subst (λ (v : DriverEnd). IsStatisticsQueue v n) (sym c.self.view_is)
+          c.requires.queue;
+      is_end = c.in-Ok.ensures.adds.is_end;
+      none = subst (λ (v : DriverEnd). outstanding v ≡ 0) (sym c.self.view_is) c.requires.none;
+      free_is = c.write_figures.ensures.free;
+      total_is = c.write_figures.ensures.total;
+      wrote = c.write_figures.ensures.rest;
+      addr = c.from.ensures;
+    } in
+    subst (λ (v : DriverEnd). PostsBuffer m1 m3 v c.add.new.self
+    (record { free = c.args.free; total = c.args.total })) c.self.view_is
+    (fills_by m1 m2 m3 r c.add.new.self n c.from.result c.in-Ok.field-0 c.args.free c.args.total
+    filling c.in-Ok.ensures.adds)
+
+pub returns-clause-queue : goal.returns-clause-queue
+returns-clause-queue g c =
+    let r = c.self.inside.ring in
+    let n = c.args.self.now.size in
+    let queue : IsStatisticsQueue r n =
+    subst (λ (v : DriverEnd). IsStatisticsQueue v n) (sym c.self.view_is) c.requires.queue in
+    let none : outstanding r ≡ 0 =
+    subst (λ (v : DriverEnd). outstanding v ≡ 0) (sym c.self.view_is) c.requires.none in
+    filled_queue _ _ r c.add.new.self n c.in-Ok.field-0 _ refl queue none c.in-Ok.ensures.adds

@@ -1,0 +1,158 @@
+-- The slot's ask is a step of the guest.
+use Rattle.std.specs.Prelude.{◌≡◌, ◌≢◌, ℕ, Bool, false, List, []}
+use Rattle.std.specs.Prelude.{Result, Ok, Err, IsOk, Some, None, is_some, slice_get}
+use Rattle.std.specs.Prelude.{refl}
+use Rattle.std.proofs.Common.{sym, ◌∙◌, ap, subst, arith, inl, inr}
+use Rattle.vb_model.specs.declared.calls.Call.TheVariants.{Ask}
+use Rattle.vb_model.specs.declared.replies.Refusal.{Refusal}
+use Rattle.vb_model.specs.declared.replies.Refusal.TheVariants.{NotReady, NotTaken}
+use Rattle.vb_model.specs.declared.replies.Reply.TheVariants.{Asked}
+use Rattle.vb_model.specs.Requests.{Request, Figures, Buffer, NoBuffer, BufferPosted, BufferTaken}
+use Rattle.vb_model.specs.Requests.{BufferDone}
+use Rattle.vb_model.specs.Guest.{Guest}
+use Rattle.vb_model.specs.Device.{Asks}
+use Rattle.vb_model.specs.FirstRefusal.{first_refusal}
+use Rattle.vb_model.specs.Tables.{ask_tests}
+use Rattle.vb_model.specs.Refusals.{refusal_of, is_taken}
+use Rattle.vb_ram.specs.Pages.{Pages, page_at}
+use Rattle.vb_ram.specs.Part.{Part}
+use Rattle.vb_ring.specs.declared.layout.Layout.{Layout}
+use Rattle.vb_driver.specs.State.{DriverState}
+use Rattle.vb_device.specs.Conditions.{ask_refusal, taken_at}
+use Rattle.vb_device.specs.Calls.{AsksBy, using}
+use Rattle.vb_guest.specs.Buffer.{BufferLine, taken_requests}
+use Rattle.vb_guest.specs.Stands.{Honest, Ties, IsRunning}
+use Rattle.vb_guest.specs.Steps.{StepsAlone}
+use Rattle.vb_guest.specs.Replies.{asked_reply}
+use Rattle.vb_guest.proofs.Apart.{line_apart}
+use Rattle.vb_guest.proofs.BufferLines.{buffer_used}
+use Rattle.vb_guest.proofs.ReportLines.{report_apart}
+use Rattle.vb_guest.proofs.Handing.{used_same, same_end, end_by}
+use Rattle.vb_guest.proofs.PagesKept.{SamePages, pages_same}
+use Rattle.vb_guest.proofs.SameRefusals.{ask_same, ask_idle}
+use Rattle.vb_guest.proofs.Closing.{honest_performed, steps_alone, refused_alone, ties_same}
+
+ask_refused : {T : Type 0} (m1 m2 : Pages) (p1 p2 : Part) (d : DriverState) (g : Guest)
+    (why : Refusal) (result : Result T Refusal)
+    → AsksBy m1 m2 p1 p2 result → Honest m1 p1 d g → ask_refusal p1 ≡ Some why
+    → refusal_of g Ask ≡ Some why
+    → StepsAlone (Honest m2 p2 d) g Ask (asked_reply result)
+ask_refused m1 m2 p1 p2 d g why result did stands by_part by_model =
+    let (answer, part, memory) = did.refused why by_part in
+    subst (λ r. StepsAlone (Honest m2 p2 d) g Ask (asked_reply r)) (sym answer)
+    (refused_alone m1 m2 p1 p2 d d g Ask why stands by_model memory part refl)
+
+asked_ok : {T : Type 0} (result : Result T Refusal) → IsOk result → asked_reply result ≡ Asked
+asked_ok (Ok x) ok = refl
+asked_ok (Err why) ok = absurd cc
+
+-- the taken buffer is used
+ask_done : {T : Type 0} (m1 m2 : Pages) (p1 p2 : Part) (d : DriverState) (g : Guest)
+    (figures : Figures) (result : Result T Refusal)
+    → g.buffer ≡ BufferTaken figures → AsksBy m1 m2 p1 p2 result → Honest m1 p1 d g
+    → IsRunning m1 p1 d g → ask_refusal p1 ≡ None → refusal_of g Ask ≡ None
+    → StepsAlone (Honest m2 p2 d) g Ask (asked_reply result)
+ask_done m1 m2 p1 p2 d g figures result is did stands run free_part free =
+    let ties = stands.ties in
+    let n = g.config.pages in
+    let r : Request = record { head = 0; pages = []; visited = 0 } in
+    let L : Buffer → Type 0 = λ b. BufferLine m1 d.statistics p1.statistics b in
+    let line : L (BufferTaken figures) = subst L is run.statistics in
+    let taken : taken_at 2 0 p1 ≡ Some r =
+    ap (λ (l : List Request). slice_get l 0) line.remembers in
+    let adds = same_end m1 m2 2 p1.queue_size p1.statistics.next_avail p1.statistics.next_used
+    d.statistics _ 0 line.stands.layout (ties.parts.device.size ∙ sym run.statistics_size)
+    (did.memory r free_part taken) in
+    let used_low : d.statistics.layout.used.page ≡ 2 =
+    ap (λ (l : Layout). l.used.page) line.stands.layout in
+    let apart : (p : ℕ) → p ≢ 2 → page_at m2 p ≡ page_at m1 p =
+    λ p ne. (let other : p ≢ d.statistics.layout.used.page =
+    λ e. ne (e ∙ used_low) in
+    adds.puts.rest.others p (other, (other, tt))) in
+    let same : SamePages m1 m2 = used_same m1 m2
+    (end_by d.statistics.layout d.statistics.size p1.statistics.next_avail
+    p1.statistics.next_used) _ 0 0 (omega (arith, used_low)) adds in
+    let new : Guest = record g { buffer = BufferDone figures } in
+    let A : Buffer → Type 0 = λ b. Asks b g Asked new in
+    let step = honest_performed g Ask [] Asked new free (refl, subst A (sym is) (refl, refl)) in
+    let after : Part = using 2 0 p1 in
+    let there : Ties m2 after d new = record {
+      parts = ties.parts;
+      pages = pages_same m1 m2 n _ _ same ties.pages;
+      queues = inr (record {
+        state = run.state;
+        backed = λ p lt. ap is_some (same.behind p) ∙ run.backed p lt;
+        inflate_size = run.inflate_size;
+        deflate_size = run.deflate_size;
+        statistics_size = run.statistics_size;
+        report_size = run.report_size;
+        inflate = line_apart m1 m2 0 n d.inflate p1.inflate g.inflate (record {
+          ring = apart 0 (omega arith);
+          buffers = λ p from to. apart p (omega arith);
+        }) run.inflate;
+        deflate = line_apart m1 m2 1 n d.deflate p1.deflate g.deflate (record {
+          ring = apart 1 (omega arith);
+          buffers = λ p from to. apart p (omega arith);
+        }) run.deflate;
+        statistics = buffer_used m1 m2 d.statistics p1.statistics figures _ line adds;
+        report = report_apart m1 m2 n d.report p1.report g.report (apart 3 (omega arith))
+            run.report;
+      });
+    } in
+    subst (StepsAlone (Honest m2 p2 d) g Ask)
+    (sym (asked_ok result (did.answers free_part)))
+    (steps_alone m1 m2 p1 p2 d d g Ask Asked new stands step
+    (ties_same m2 m2 after p2 d d new refl (did.part free_part) refl there) refl)
+
+-- the buffer that a device remembers
+taken_is : (b : Buffer) → is_some (slice_get (taken_requests b) 0) ≡ is_taken b
+taken_is NoBuffer = refl
+taken_is (BufferPosted figures) = refl
+taken_is (BufferTaken figures) = refl
+taken_is (BufferDone figures) = refl
+
+not_taken : (g : Guest) (b : Buffer) → g.status ≡ 15 → g.buffer ≡ b → is_taken b ≡ false
+    → refusal_of g Ask ≡ Some NotTaken
+not_taken g b up is other =
+    let P : ℕ → Bool → Type 0 =
+    λ s t. first_refusal (ask_tests s t) ≡ Some NotTaken in
+    subst (λ s. P s (is_taken g.buffer)) (sym up)
+    (subst (λ t. P 15 t) (sym (ap is_taken is ∙ other)) refl)
+
+is_free : (g : Guest) (figures : Figures) → g.status ≡ 15 → g.buffer ≡ BufferTaken figures
+    → refusal_of g Ask ≡ None
+is_free g figures up is =
+    let P : ℕ → Bool → Type 0 =
+    λ s t. first_refusal (ask_tests s t) ≡ None in
+    subst (λ s. P s (is_taken g.buffer)) (sym up) (subst (λ t. P 15 t) (sym (ap is_taken is)) refl)
+
+pub ask_step : {T : Type 0} (m1 m2 : Pages) (p1 p2 : Part) (d : DriverState) (g : Guest)
+    (result : Result T Refusal) → AsksBy m1 m2 p1 p2 result → Honest m1 p1 d g
+    → StepsAlone (Honest m2 p2 d) g Ask (asked_reply result)
+ask_step m1 m2 p1 p2 d g result did stands =
+    elim stands.ties.queues [
+      | inl idle ↦
+          let both = ask_idle p1 g stands.ties.parts.device.status idle.state in
+          ask_refused m1 m2 p1 p2 d g NotReady result did stands both.0 both.1
+      | inr run ↦
+          by_buffer g.buffer refl run (ask_same p1 g stands.ties.parts.device.status
+          (ap (λ (l : List Request). is_some (slice_get l 0)) run.statistics.remembers
+          ∙ taken_is g.buffer))
+    ]
+  where
+    refused : (b : Buffer) → g.buffer ≡ b → is_taken b ≡ false → IsRunning m1 p1 d g
+        → ask_refusal p1 ≡ refusal_of g Ask
+        → StepsAlone (Honest m2 p2 d) g Ask (asked_reply result)
+    refused b is other run same =
+        let why = not_taken g b run.state is other in
+        ask_refused m1 m2 p1 p2 d g NotTaken result did stands (same ∙ why) why
+
+    by_buffer : (b : Buffer) → g.buffer ≡ b → IsRunning m1 p1 d g
+        → ask_refusal p1 ≡ refusal_of g Ask
+        → StepsAlone (Honest m2 p2 d) g Ask (asked_reply result)
+    by_buffer (BufferTaken figures) is run same =
+        let free = is_free g figures run.state is in
+        ask_done m1 m2 p1 p2 d g figures result is did stands run (same ∙ free) free
+    by_buffer NoBuffer is run same = refused NoBuffer is refl run same
+    by_buffer (BufferPosted figures) is run same = refused (BufferPosted figures) is refl run same
+    by_buffer (BufferDone figures) is run same = refused (BufferDone figures) is refl run same

@@ -1,0 +1,99 @@
+-- A posted statistics buffer, as its device finds it.
+use Rattle.std.specs.Prelude.{◌≡◌, ℕ, ◌+◌, ◌*◌, ◌/◌, ◌%◌, ◌<◌, ◌≤◌, List, [], ◌∷◌, length, take}
+use Rattle.std.specs.Prelude.{map, drop, false, Some, Ok, slice_index, refl}
+use Rattle.std.specs.List.{range_with_len}
+use Rattle.std.proofs.Common.{sym, ◌∙◌, ap, arith}
+use Rattle.std.proofs.lemmas.List.{append-nil, get_or-take, get_or-drop}
+use Rattle.std.proofs.lemmas.List.FromFn.{get_or-map-range_with_len}
+use Rattle.vb_model.specs.Requests.{Figures}
+use Rattle.vb_model.specs.Guest.{LastStatistics}
+use Rattle.vb_ram.specs.Pages.{Pages, byte_at}
+use Rattle.vb_ram.proofs.FieldLaws.{field_2, field_8}
+use Rattle.vb_chain.specs.declared.pieces.Piece.{Piece}
+use Rattle.vb_chain.specs.Table.{descriptor_at}
+use Rattle.vb_chain.specs.Rules.{piece_of}
+use Rattle.vb_chain.specs.Chain.{ChainGives}
+use Rattle.vb_chain.proofs.ChainLaws.{single_chain, no_fault}
+use Rattle.vb_driver.specs.Coding.{AreFigures, IsStatistic, statistics_buffer}
+use Rattle.vb_request.specs.Request.{byte_of_address, bytes_from, bytes_of}
+use Rattle.vb_request.specs.Statistics.{Statistic, statistic_at, statistics_of, last_of}
+use Rattle.vb_request.specs.Statistics.{statistics_in, statistics_request}
+use Rattle.vb_request.proofs.Bytes.{bytes_from-length}
+
+-- the buffer's one piece
+abbrev pub buffer_pieces : List Piece
+buffer_pieces = piece_of statistics_buffer ∷ []
+
+-- its chain is one readable piece
+pub buffer_chain : (mem : Pages) (table descriptors : ℕ) (figures : Figures) → 64 ≤ length mem
+    → 0 < descriptors → AreFigures mem table figures
+    → ChainGives (descriptor_at mem table) descriptors (4096 * length mem) 0 buffer_pieces
+buffer_chain mem table descriptors figures large some code =
+    single_chain (descriptor_at mem table) descriptors (4096 * length mem) 0 statistics_buffer some
+    code.descriptor refl
+    (no_fault descriptors (4096 * length mem) false 0 statistics_buffer refl
+    (omega (arith, large)) (λ e. cc) (λ e. cc))
+
+-- it is a buffer of statistics, and names no pages
+pub buffer_names : statistics_request buffer_pieces ≡ Ok []
+buffer_names = refl
+
+-- ---- what it says
+
+abbrev buffer_bytes : Pages → List ℕ
+buffer_bytes mem = bytes_from mem 49152 20
+
+bytes_are : (mem : Pages) → bytes_of mem buffer_pieces ≡ buffer_bytes mem
+unfolding bytes_of
+bytes_are mem = append-nil (buffer_bytes mem)
+
+-- byte i of the buffer
+byte_is : (mem : Pages) (i : ℕ) → i < 20 → slice_index (buffer_bytes mem) i ≡ byte_at mem 12 i
+byte_is mem i lt =
+    let page : (49152 + i) / 4096 ≡ 12 = omega (arith, lt) in
+    let offset : (49152 + i) % 4096 ≡ i = omega (arith, lt) in
+    get_or-map-range_with_len (byte_of_address mem) 49152 20 i (49152 + i) 0 lt refl
+    ∙ ap (λ (p : ℕ). byte_at mem p ((49152 + i) % 4096)) page ∙ ap (byte_at mem 12) offset
+
+-- byte j of n bytes from the offset on
+part_is : (mem : Pages) (n o j : ℕ) → o + n ≤ 20 → j < n
+    → slice_index (take n (drop o (buffer_bytes mem))) j ≡ byte_at mem 12 (o + j)
+part_is mem n o j fits lt =
+    get_or-take n (drop o (buffer_bytes mem)) j 0 lt
+    ∙ get_or-drop o (buffer_bytes mem) j 0 ∙ byte_is mem (o + j) (omega (arith, fits, lt))
+
+abbrev stated : ℕ → ℕ → Statistic
+stated tag value = record { tag = tag; value = value }
+
+statistic_is : (mem : Pages) (k tag value : ℕ) → k < 2 → IsStatistic mem (10 * k) tag value
+    → statistic_at (buffer_bytes mem) k ≡ stated tag value
+statistic_is mem k tag value lt is =
+    let word = field_2 mem 12 (10 * k) (take 2 (drop (10 * k) (buffer_bytes mem)))
+    (λ j l. part_is mem 2 (10 * k) j (omega (arith, lt)) l) in
+    let long = field_8 mem 12 (10 * k + 2) (take 8 (drop (10 * k + 2) (buffer_bytes mem)))
+    (λ j l. part_is mem 8 (10 * k + 2) j (omega (arith, lt)) l) in
+    ap (λ (v : ℕ). stated v (statistic_at (buffer_bytes mem) k).value) (sym word ∙ is.tagged)
+    ∙ ap (stated tag) (sym long ∙ is.valued)
+
+two_statistics : (mem : Pages)
+    → statistics_of (buffer_bytes mem)
+    ≡ statistic_at (buffer_bytes mem) 0 ∷ statistic_at (buffer_bytes mem) 1 ∷ []
+unfolding statistics_of
+two_statistics mem =
+    ap (λ (n : ℕ). map (statistic_at (buffer_bytes mem)) (range_with_len 0 (n / 10)))
+    (bytes_from-length mem 49152 20)
+
+abbrev said_by : List Statistic → LastStatistics
+said_by ss = record { free = last_of 4 ss; total = last_of 5 ss }
+
+-- it says the figures
+pub buffer_says : (mem : Pages) (table : ℕ) (figures : Figures) → AreFigures mem table figures
+    → statistics_in mem buffer_pieces
+    ≡ record { free = Some figures.free; total = Some figures.total }
+buffer_says mem table figures code =
+    let first = statistic_is mem 0 4 figures.free (omega arith) code.free in
+    let second = statistic_is mem 1 5 figures.total (omega arith) code.total in
+    ap (λ (l : List ℕ). said_by (statistics_of l)) (bytes_are mem)
+    ∙ ap said_by (two_statistics mem)
+    ∙ ap (λ (s : Statistic). said_by (s ∷ statistic_at (buffer_bytes mem) 1 ∷ [])) first
+    ∙ ap (λ (s : Statistic). said_by (stated 4 figures.free ∷ s ∷ [])) second

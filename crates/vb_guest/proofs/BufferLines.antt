@@ -1,0 +1,119 @@
+-- What calls make of the statistics buffer.
+use Rattle.std.specs.Prelude.{◌≡◌, ℕ, ◌+◌, ◌%◌, true, List, [], ◌∷◌, ◌++◌, remove, Some, Ok}
+use Rattle.std.specs.Prelude.{refl}
+use Rattle.std.proofs.Common.{◌∙◌, ap, subst, arith}
+use Rattle.vb_model.specs.Requests.{Request, Figures, Buffer, NoBuffer, BufferPosted, BufferTaken}
+use Rattle.vb_model.specs.Requests.{BufferDone}
+use Rattle.vb_ram.specs.Pages.{Pages, page_at}
+use Rattle.vb_ram.specs.Part.{QueuePart}
+use Rattle.vb_ram.proofs.FieldLaws.{field_in, same_page}
+use Rattle.vb_chain.proofs.TableLaws.{descriptor_apart}
+use Rattle.vb_ring.specs.declared.layout.Layout.{Layout}
+use Rattle.vb_ring.specs.Ends.{DriverEnd, DeviceEnd}
+use Rattle.vb_ring.specs.Calls.{AddsUsedBy, TakesUsedBy}
+use Rattle.vb_driver.specs.Coding.{AreFigures, IsStatistic}
+use Rattle.vb_driver.specs.Calls.{PostsBuffer, emptied}
+use Rattle.vb_guest.specs.Buffer.{BufferLine, HasFigures}
+use Rattle.vb_guest.proofs.RingApart.{ring_apart}
+use Rattle.vb_guest.proofs.RingPosted.{ring_posted}
+use Rattle.vb_guest.proofs.RingTaken.{ring_taken}
+use Rattle.vb_guest.proofs.RingUsed.{ring_used}
+use Rattle.vb_guest.proofs.RingReaped.{ring_reaped}
+
+-- ---- memory changes elsewhere
+
+statistic_kept : (old new : Pages) (offset tag value : ℕ) → page_at new 12 ≡ page_at old 12
+    → IsStatistic old offset tag value → IsStatistic new offset tag value
+statistic_kept old new offset tag value same is = record {
+  tagged = field_in 2 old new 12 offset (offset + 2) offset (same_page old new 12 _ _ same)
+      (omega arith) (omega arith) ∙ is.tagged;
+  valued = field_in 8 old new 12 (offset + 2) (offset + 10) (offset + 2)
+      (same_page old new 12 _ _ same) (omega arith) (omega arith) ∙ is.valued;
+}
+
+figures_kept : (old new : Pages) (figures : Figures) → page_at new 2 ≡ page_at old 2
+    → page_at new 12 ≡ page_at old 12 → AreFigures old 2 figures → AreFigures new 2 figures
+figures_kept old new figures ring buffer are = record {
+  descriptor = descriptor_apart old new 2 0 ring ∙ are.descriptor;
+  free = statistic_kept old new 0 4 figures.free buffer are.free;
+  total = statistic_kept old new 10 5 figures.total buffer are.total;
+}
+
+-- the pages of the ring and of the buffer are as before
+pub buffer_apart : (old new : Pages) (ring : DriverEnd) (part : QueuePart) (buffer : Buffer)
+    → page_at new 2 ≡ page_at old 2 → page_at new 12 ≡ page_at old 12
+    → BufferLine old ring part buffer → BufferLine new ring part buffer
+buffer_apart old new ring part buffer same_ring same_buffer line = record {
+  stands = ring_apart old new 2 ring part.next_avail part.next_used _ _ _ same_ring line.stands;
+  figures = by buffer line.figures;
+  remembers = line.remembers;
+}
+  where
+    by : (buffer : Buffer) → HasFigures old buffer → HasFigures new buffer
+    by (BufferPosted figures) has = figures_kept old new figures same_ring same_buffer has
+    by NoBuffer has = tt
+    by (BufferTaken figures) has = tt
+    by (BufferDone figures) has = tt
+
+-- ---- the buffer goes round
+
+-- the device takes it
+pub buffer_taken : (mem : Pages) (ring : DriverEnd) (part : QueuePart) (figures : Figures)
+    → BufferLine mem ring part (BufferPosted figures)
+    → BufferLine mem ring (record part {
+      next_avail = (part.next_avail + 1) % 65536;
+      taken = part.taken ++ (record { head = 0; pages = []; visited = 0 } ∷ []);
+    }) (BufferTaken figures)
+buffer_taken mem ring part figures line = record {
+  stands = ring_taken mem 2 ring part.next_avail part.next_used 0 [] [] [] line.stands;
+  figures = tt;
+  remembers = ap (λ (l : List Request). l ++ (record { head = 0; pages = []; visited = 0 } ∷ []))
+      line.remembers;
+}
+
+-- the device uses it
+pub buffer_used : (m1 m2 : Pages) (ring : DriverEnd) (part : QueuePart) (figures : Figures)
+    (after : DeviceEnd)
+    → BufferLine m1 ring part (BufferTaken figures)
+    → AddsUsedBy m1 m2 (record {
+      layout = ring.layout;
+      size = ring.size;
+      ready = true;
+      next_avail = part.next_avail;
+      next_used = part.next_used;
+    }) after 0 0
+    → BufferLine m2 ring (record part {
+      next_used = (part.next_used + 1) % 65536;
+      taken = remove part.taken 0;
+    }) (BufferDone figures)
+buffer_used m1 m2 ring part figures after line adds = record {
+  stands = ring_used m1 m2 2 ring part.next_avail part.next_used [] (0 ∷ []) [] 0 0 after
+      line.stands refl adds;
+  figures = tt;
+  remembers = ap (λ (l : List Request). remove l 0) line.remembers;
+}
+
+-- the driver posts it
+pub buffer_posted : (m1 m2 : Pages) (r1 r2 : DriverEnd) (part : QueuePart) (figures : Figures)
+    → BufferLine m1 r1 part NoBuffer → PostsBuffer m1 m2 r1 r2 figures
+    → BufferLine m2 r2 part (BufferPosted figures)
+buffer_posted m1 m2 r1 r2 part figures line posts =
+    let table : r1.layout.table ≡ 2 = ap (λ (l : Layout). l.table) line.stands.layout in
+    record {
+      stands = ring_posted m1 m2 2 r1 r2 part.next_avail part.next_used [] [] [] 1 0 line.stands
+          posts.state posts.announces;
+      figures = subst (λ (t : ℕ). AreFigures m2 t figures) table posts.coded;
+      remembers = line.remembers;
+    }
+
+-- the driver sees that it was used
+pub buffer_emptied : (mem : Pages) (ring : DriverEnd) (part : QueuePart) (figures : Figures)
+    → BufferLine mem ring part (BufferDone figures)
+    → TakesUsedBy mem ring (emptied ring) (Ok (Some 0))
+    → BufferLine mem (emptied ring) part NoBuffer
+buffer_emptied mem ring part figures line takes = record {
+  stands = ring_reaped mem 2 ring (emptied ring) part.next_avail part.next_used [] [] 0 []
+      line.stands takes;
+  figures = tt;
+  remembers = line.remembers;
+}

@@ -1,0 +1,225 @@
+-- The slot's finish of a report is a step of the guest.
+use Rattle.std.specs.Prelude.{◌≡◌, ◌≢◌, ℕ, zero, suc, ◌<◌, ◌≤◌, List, [], ◌∷◌}
+use Rattle.std.specs.Prelude.{All, Result, Option, Some, None, is_some, slice_get, refl}
+use Rattle.std.specs.Option.{option_to_list}
+use Rattle.std.specs.List.{flat_map}
+use Rattle.std.proofs.Common.{sym, ◌∙◌, ap, subst, arith, inl, inr}
+use Rattle.std.proofs.lemmas.Option.{get_or_from_slice_get, slice_get_within}
+use Rattle.vb_model.specs.declared.calls.Call.TheVariants.{Finish}
+use Rattle.vb_model.specs.declared.replies.Refusal.{Refusal}
+use Rattle.vb_model.specs.declared.replies.Refusal.TheVariants.{NotReady, NotTaken}
+use Rattle.vb_model.specs.declared.replies.Reply.TheVariants.{Finished, Refused}
+use Rattle.vb_model.specs.Requests.{Request, Reporting_free}
+use Rattle.vb_model.specs.Guest.{Guest, frame_of}
+use Rattle.vb_model.specs.Driver.{AllDistinct}
+use Rattle.vb_model.specs.Device.{used, settled}
+use Rattle.vb_model.specs.FirstRefusal.{first_refusal}
+use Rattle.vb_model.specs.Tables.{finish_tests}
+use Rattle.vb_model.specs.Refusals.{refusal_of}
+use Rattle.vb_model.specs.Orderly.{times, IsRequestSound, AllRequestsSound}
+use Rattle.vb_model.proofs.Distinct.{distinct_once}
+use Rattle.vb_ram.specs.Pages.{Pages, page_at, number_of}
+use Rattle.vb_ram.specs.Part.{Part}
+use Rattle.vb_ring.specs.declared.layout.Layout.{Layout}
+use Rattle.vb_driver.specs.State.{DriverState}
+use Rattle.vb_device.specs.Conditions.{finish_refusal}
+use Rattle.vb_device.specs.Discards.{discarded, frames_behind}
+use Rattle.vb_request.specs.Request.{each_once}
+use Rattle.vb_device.specs.Calls.{FinishesBy, Uses, using}
+use Rattle.vb_guest.specs.Reported.{IsReport}
+use Rattle.vb_guest.specs.Stands.{Honest, Ties, IsRunning}
+use Rattle.vb_guest.specs.Steps.{StepsFreeing}
+use Rattle.vb_guest.specs.Replies.{finished_reply}
+use Rattle.vb_guest.proofs.Apart.{line_apart}
+use Rattle.vb_guest.proofs.BufferLines.{buffer_apart}
+use Rattle.vb_guest.proofs.ReportLines.{report_apart, report_used}
+use Rattle.vb_guest.proofs.EachOnce.{distinct_each_once}
+use Rattle.vb_guest.proofs.OwnBlocks.{own_pages}
+use Rattle.vb_guest.proofs.Discarding.{frames_freed}
+use Rattle.vb_guest.proofs.PagesKept.{SamePages, pages_same, pages_discarded, page_undiscarded}
+use Rattle.vb_guest.proofs.Handing.{handed_back, loose_none, not_among, used_same, same_end, end_by}
+use Rattle.vb_guest.proofs.Handing.{behind_same}
+use Rattle.vb_guest.proofs.SameRefusals.{finish_same, finish_idle}
+use Rattle.vb_guest.proofs.Closing.{honest_refused, honest_performed, still_stands, guest_step}
+use Rattle.vb_guest.proofs.Closing.{ties_same}
+
+-- a refused finish of any queue
+pub finish_refused : (m1 m2 : Pages) (p1 p2 : Part) (d : DriverState) (g : Guest) (q i : ℕ)
+    (why : Refusal) (result : Result ℕ Refusal)
+    → FinishesBy q i m1 m2 p1 p2 result → Honest m1 p1 d g → finish_refusal q i p1 ≡ Some why
+    → refusal_of g (Finish q i) ≡ Some why
+    → StepsFreeing (Honest m2 (handed_back p2) d) p2.loose g (Finish q i) (finished_reply result)
+finish_refused m1 m2 p1 p2 d g q i why result did stands by_part by_model =
+    let (answer, part, memory) = did.refused why by_part in
+    let step = honest_refused g (Finish q i) why by_model in
+    let same = ap handed_back part ∙ loose_none p1 stands.ties.parts.device.loose in
+    let none : p2.loose ≡ [] = ap (λ (p : Part). p.loose) part ∙ stands.ties.parts.device.loose in
+    subst (λ r. StepsFreeing (Honest m2 (handed_back p2) d) p2.loose g (Finish q i)
+    (finished_reply r)) (sym answer) (record {
+      new = g;
+      stands = still_stands m1 m2 p1 (handed_back p2) d d g (Finish q i) [] (Refused why) g stands
+          step (ties_same m1 m2 p1 (handed_back p2) d d g memory same refl stands.ties);
+      step = guest_step g (Finish q i) [] (Refused why) g stands.ties.parts.guest.honest step;
+      freed = λ n. omega (arith, ap (times n) none);
+    })
+
+-- a request among sound ones
+sound_at : (rs : List Request) (i : ℕ) (r : Request) → AllRequestsSound rs
+    → slice_get rs i ≡ Some r → IsRequestSound r
+sound_at [] i r all is = absurd cc
+sound_at (x ∷ rs) zero r all is = (let same : x ≡ r = cc in subst IsRequestSound same all.0)
+sound_at (x ∷ rs) (suc i) r all is = sound_at rs i r all.1 is
+
+report_finished : (m1 m2 : Pages) (p1 p2 : Part) (d : DriverState) (g : Guest) (i : ℕ)
+    (r : Request) (result : Result ℕ Refusal)
+    → slice_get g.report.taken i ≡ Some r → Uses 4 i r m1 m2 p1 p2 result → Honest m1 p1 d g
+    → IsRunning m1 p1 d g → refusal_of g (Finish 4 i) ≡ None
+    → StepsFreeing (Honest m2 (handed_back p2) d) p2.loose g (Finish 4 i) (finished_reply result)
+report_finished m1 m2 p1 p2 d g i r result is did stands run free =
+    let ties = stands.ties in
+    let n = g.config.pages in
+    let bare = discarded r.pages m1 in
+    let P : Request → Type 0 = IsReport d.report.ring.size n d.report.blocks in
+    let request : P r = subst P (get_or_from_slice_get g.report.taken i r r is)
+    (run.report.taken i r (slice_get_within g.report.taken i r is)) in
+    let inside = own_pages n d.report.blocks request.blocks_are in
+    let above : All (λ page. 16 ≤ page) r.pages =
+    subst (All (λ page. 16 ≤ page)) (sym request.names) inside.0 in
+    let below : All (λ page. page < n) r.pages =
+    subst (All (λ page. page < n)) (sym request.names) inside.1 in
+    let distinct : AllDistinct r.pages =
+    distinct_once r.pages
+    (sound_at g.report.taken i r stands.orderly.reporting.taken is).distinct in
+    let adds = same_end bare m2 4 p1.queue_size p1.report.next_avail p1.report.next_used
+    d.report.ring _ r.head run.report.ring.layout
+    (ties.parts.device.size ∙ sym run.report_size) did.memory in
+    let low : (p : ℕ) → p < 16
+    → page_at bare p ≡ page_at m1 p =
+    λ p lt. page_undiscarded r.pages m1 p (not_among r.pages p above lt) in
+    let used_low : d.report.ring.layout.used.page ≡ 3 =
+    ap (λ (l : Layout). l.used.page) run.report.ring.layout in
+    let same : SamePages bare m2 = used_same bare m2
+    (end_by d.report.ring.layout d.report.ring.size p1.report.next_avail p1.report.next_used) _
+    r.head 0 (omega (arith, used_low)) adds in
+    let apart : (p : ℕ) → p < 16 → p ≢ 3
+    → page_at m2 p ≡ page_at m1 p =
+    λ p lt ne. (let other : p ≢ d.report.ring.layout.used.page = λ e. ne (e ∙ used_low) in
+    adds.puts.rest.others p (other, (other, tt)) ∙ low p lt) in
+    let new : Guest = settled Reporting_free r.pages (used Reporting_free i r g) in
+    let step = honest_performed g (Finish 4 i) [] (Finished r.head) new free
+    (refl, (r, is, refl, refl)) in
+    let after : Part = handed_back (using 4 i p1) in
+    let part : handed_back p2 ≡ after = ap handed_back did.part in
+    let there : Ties m2 after d new = record {
+      parts = record {
+        guest = ties.parts.guest;
+        driver = ties.parts.driver;
+        device = record {
+          size = ties.parts.device.size;
+          paced = ties.parts.device.paced;
+          status = ties.parts.device.status;
+          features = ties.parts.device.features;
+          target = ties.parts.device.target;
+          actual = ties.parts.device.actual;
+          ballooned = ties.parts.device.ballooned;
+          last = ties.parts.device.last;
+          loose = refl;
+        };
+      };
+      pages = pages_same bare m2 n _ _ same
+          (pages_discarded m1 n g.frames g.contents r.pages ties.pages);
+      queues = inr (record {
+        state = run.state;
+        backed = λ p lt. ap is_some (same.behind p ∙ ap number_of (low p (omega arith)))
+            ∙ run.backed p lt;
+        inflate_size = run.inflate_size;
+        deflate_size = run.deflate_size;
+        statistics_size = run.statistics_size;
+        report_size = run.report_size;
+        inflate = line_apart m1 m2 0 n d.inflate p1.inflate g.inflate (record {
+          ring = apart 0 (omega arith) (omega arith);
+          buffers = λ p from to. apart p (omega arith) (omega arith);
+        }) run.inflate;
+        deflate = line_apart m1 m2 1 n d.deflate p1.deflate g.deflate (record {
+          ring = apart 1 (omega arith) (omega arith);
+          buffers = λ p from to. apart p (omega arith) (omega arith);
+        }) run.deflate;
+        statistics = buffer_apart m1 m2 d.statistics p1.statistics g.buffer
+            (apart 2 (omega arith) (omega arith)) (apart 12 (omega arith) (omega arith))
+            run.statistics;
+        report = report_used bare m2 n d.report p1.report g.report i r _
+            (report_apart m1 bare n d.report p1.report g.report (low 3 (omega arith)) run.report)
+            is adds;
+      });
+    } in
+    let numbers : (k : ℕ)
+    → times k p2.loose ≡ times k (frames_behind m1 (each_once r.pages)) =
+    λ k. did.loose k in
+    let once : frames_behind m1 (each_once r.pages) ≡ frames_behind m1 r.pages =
+    ap (frames_behind m1) (distinct_each_once r.pages distinct) in
+    let behind : frames_behind m1 r.pages
+    ≡ flat_map (λ page. option_to_list (frame_of g.frames page)) r.pages =
+    behind_same m1 g.frames r.pages ties.pages.behind in
+    let F : ℕ → Type 0 = λ k. All (λ page. page < k) r.pages in
+    subst (λ x. StepsFreeing (Honest m2 (handed_back p2) d) p2.loose g (Finish 4 i)
+    (finished_reply x)) (sym did.answer) (record {
+      new = new;
+      stands = still_stands m1 m2 p1 (handed_back p2) d d g (Finish 4 i) [] (Finished r.head) new
+          stands step (ties_same m2 m2 after (handed_back p2) d d new refl part refl there);
+      step = guest_step g (Finish 4 i) [] (Finished r.head) new ties.parts.guest.honest step;
+      freed = λ k. omega (
+        arith,
+        numbers k,
+        ap (times k) once,
+        ap (times k) behind,
+        frames_freed k r.pages g.frames distinct (subst F (sym ties.pages.framed) below),
+      );
+    })
+
+not_taken : (g : Guest) (i : ℕ) → g.status ≡ 15 → slice_get g.report.taken i ≡ None
+    → refusal_of g (Finish 4 i) ≡ Some NotTaken
+not_taken g i up none =
+    let P : ℕ → Option Request → Type 0 =
+    λ s o. first_refusal (finish_tests 4 s g.config.paced o) ≡ Some NotTaken in
+    subst (λ s. P s (slice_get g.report.taken i)) (sym up)
+    (subst (λ o. P 15 o) (sym none) refl)
+
+pub finish_report : (m1 m2 : Pages) (p1 p2 : Part) (d : DriverState) (g : Guest) (i : ℕ)
+    (result : Result ℕ Refusal)
+    → FinishesBy 4 i m1 m2 p1 p2 result → Honest m1 p1 d g
+    → StepsFreeing (Honest m2 (handed_back p2) d) p2.loose g (Finish 4 i) (finished_reply result)
+finish_report m1 m2 p1 p2 d g i result did stands =
+    elim stands.ties.queues [
+      | inl idle ↦
+          let both = finish_idle i p1 g stands.ties.parts.device.status idle.state in
+          finish_refused m1 m2 p1 p2 d g 4 i NotReady result did stands both.0 both.1
+      | inr run ↦
+          let taken : slice_get p1.report.taken i ≡ slice_get g.report.taken i =
+          ap (λ (l : List Request). slice_get l i) run.report.remembers in
+          by_taken (slice_get g.report.taken i) refl run taken
+          (finish_same 4 i p1 g stands.ties.parts.device.status stands.ties.parts.device.paced
+          taken)
+    ]
+  where
+    by_refusal : (o : Option Refusal) (r : Request) → refusal_of g (Finish 4 i) ≡ o
+        → slice_get g.report.taken i ≡ Some r → IsRunning m1 p1 d g
+        → slice_get p1.report.taken i ≡ slice_get g.report.taken i
+        → finish_refusal 4 i p1 ≡ refusal_of g (Finish 4 i)
+        → StepsFreeing (Honest m2 (handed_back p2) d) p2.loose g (Finish 4 i)
+        (finished_reply result)
+    by_refusal (Some why) r is at run taken same =
+        finish_refused m1 m2 p1 p2 d g 4 i why result did stands (same ∙ is) is
+    by_refusal None r is at run taken same =
+        report_finished m1 m2 p1 p2 d g i r result at (did.finished r (same ∙ is) (taken ∙ at))
+        stands run is
+
+    by_taken : (o : Option Request) → slice_get g.report.taken i ≡ o → IsRunning m1 p1 d g
+        → slice_get p1.report.taken i ≡ slice_get g.report.taken i
+        → finish_refusal 4 i p1 ≡ refusal_of g (Finish 4 i)
+        → StepsFreeing (Honest m2 (handed_back p2) d) p2.loose g (Finish 4 i)
+        (finished_reply result)
+    by_taken None at run taken same =
+        let why = not_taken g i run.state at in
+        finish_refused m1 m2 p1 p2 d g 4 i NotTaken result did stands (same ∙ why) why
+    by_taken (Some r) at run taken same =
+        by_refusal (refusal_of g (Finish 4 i)) r refl at run taken same

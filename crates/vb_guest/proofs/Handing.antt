@@ -1,0 +1,101 @@
+-- What a device's call leaves of memory and of its part, and which frames pages lose.
+use Rattle.std.specs.Prelude.{◌≡◌, ◌≢◌, ℕ, ◌<◌, ◌≤◌, ◌==◌, ◌||◌, Bool, true, false, List, [], ◌∷◌}
+use Rattle.std.specs.Prelude.{◌++◌, All, Option, refl, ◌⊎◌}
+use Rattle.std.specs.Option.{option_to_list}
+use Rattle.std.specs.List.{flat_map}
+use Rattle.std.proofs.Common.{sym, ◌∙◌, ap, subst, arith, inl, inr}
+use Rattle.std.proofs.lemmas.Bool.{eqb-true}
+use Rattle.std.proofs.lemmas.List.Elements.{All-tail}
+use Rattle.vb_model.specs.Tests.{is_in}
+use Rattle.vb_model.specs.Layout.{ring_page}
+use Rattle.vb_model.specs.Guest.{frame_of}
+use Rattle.vb_ram.specs.Pages.{Pages, frame_at, contents_of}
+use Rattle.vb_ram.specs.Part.{Part}
+use Rattle.vb_ring.specs.declared.layout.Layout.{Layout}
+use Rattle.vb_ring.specs.Layout.{layout_of}
+use Rattle.vb_ring.specs.Entries.{next_entry}
+use Rattle.vb_ring.specs.Ends.{DriverEnd, DeviceEnd}
+use Rattle.vb_ring.specs.Calls.{AddsUsedBy}
+use Rattle.vb_device.specs.Discards.{frames_behind}
+use Rattle.vb_guest.proofs.PagesKept.{SamePages}
+
+-- once its loose frames are gone
+abbrev pub handed_back : Part → Part
+handed_back part = record part { loose = [] }
+
+pub loose_none : (part : Part) → part.loose ≡ [] → handed_back part ≡ part
+loose_none part e = ap (λ (l : List ℕ). record part { loose = l }) (sym e)
+
+either : (b : Bool) → (b ≡ true) ⊎ (b ≡ false)
+either true = inl refl
+either false = inr refl
+
+in_high : (pages : List ℕ) (p : ℕ) → All (λ page. 16 ≤ page) pages → is_in p pages ≡ true → 16 ≤ p
+in_high [] p above e = absurd cc
+in_high (x ∷ xs) p above e = elim (either (x == p)) [
+  | inl same ↦ (let is : x ≡ p = eqb-true x p same in let here : 16 ≤ x = above 0 x (omega arith) in
+      omega arith)
+  | inr other ↦ in_high xs p (All-tail (λ page. 16 ≤ page) x xs above)
+      (ap (λ (b : Bool). b || is_in p xs) (sym other) ∙ e)
+]
+
+-- a reserved page isn't among those of a request
+pub not_among : (pages : List ℕ) (p : ℕ) → All (λ page. 16 ≤ page) pages → p < 16
+    → is_in p pages ≡ false
+not_among pages p above low = elim (either (is_in p pages)) [
+  | inl e ↦ absurd (let high : 16 ≤ p = in_high pages p above e in omega arith)
+  | inr e ↦ e
+]
+
+-- what is left of memory once a device has used a chain
+pub used_same : (m1 m2 : Pages) (e1 e2 : DeviceEnd) (head len : ℕ) → e1.layout.used.page < 16
+    → AddsUsedBy m1 m2 e1 e2 head len → SamePages m1 m2
+used_same m1 m2 e1 e2 head len low adds = record {
+  count = adds.puts.rest.count;
+  behind = adds.puts.rest.backing;
+  holds = λ p high. let apart : p ≢ e1.layout.used.page = omega arith in
+      ap contents_of (adds.puts.rest.others p (apart, (apart, tt)));
+}
+
+-- the device's end of a ring, as the driver keeps the ring
+abbrev pub end_by : Layout → ℕ → ℕ → ℕ → DeviceEnd
+end_by layout size next_avail next_used = record {
+  layout = layout;
+  size = size;
+  ready = true;
+  next_avail = next_avail;
+  next_used = next_used;
+}
+
+-- the device's end of the queue is the one whose ring the driver keeps
+pub same_end : (m1 m2 : Pages) (q size next_avail next_used : ℕ) (ring : DriverEnd)
+    (after : DeviceEnd) (head : ℕ) → ring.layout ≡ layout_of (ring_page q) ring.size
+    → size ≡ ring.size
+    → AddsUsedBy m1 m2 (end_by (layout_of (ring_page q) size) size next_avail next_used) after
+    head 0
+    → AddsUsedBy m1 m2 (end_by ring.layout ring.size next_avail next_used) after head 0
+same_end m1 m2 q size next_avail next_used ring after head layout same adds =
+    let S : ℕ → Type 0 =
+    λ s. AddsUsedBy m1 m2 (end_by (layout_of (ring_page q) s) s next_avail next_used) after
+    head 0 in
+    let L : Layout → Type 0 =
+    λ l. AddsUsedBy m1 m2 (end_by l ring.size next_avail next_used) after head 0 in
+    subst L (sym layout) (subst S same adds)
+
+-- the next entry of the queue is that of the ring which the driver keeps
+pub same_entry : (mem : Pages) (q size next : ℕ) (ring : DriverEnd)
+    → ring.layout ≡ layout_of (ring_page q) ring.size → size ≡ ring.size
+    → next_entry mem (layout_of (ring_page q) size) size next
+    ≡ next_entry mem ring.layout ring.size next
+same_entry mem q size next ring layout same =
+    ap (λ (s : ℕ). next_entry mem (layout_of (ring_page q) s) s next) same
+    ∙ ap (λ (l : Layout). next_entry mem l ring.size next) (sym layout)
+
+-- the frames behind pages are those of the guest's pages
+pub behind_same : (mem : Pages) (frames : List (Option ℕ)) (pages : List ℕ)
+    → ((p : ℕ) → frame_at mem p ≡ frame_of frames p)
+    → frames_behind mem pages ≡ flat_map (λ page. option_to_list (frame_of frames page)) pages
+behind_same mem frames [] same = refl
+behind_same mem frames (p ∷ ps) same =
+    ap (λ (o : Option ℕ). option_to_list o ++ frames_behind mem ps) (same p)
+    ∙ ap (λ (l : List ℕ). option_to_list (frame_of frames p) ++ l) (behind_same mem frames ps same)

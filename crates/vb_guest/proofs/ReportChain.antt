@@ -1,0 +1,155 @@
+-- A posted report, as its device finds it.
+use Rattle.std.specs.Prelude.{◌≡◌, ℕ, ◌*◌, ◌/◌, ◌%◌, ◌<◌, ◌≤◌, ◌==◌, ◌||◌, Bool, true}
+use Rattle.std.specs.Prelude.{false, not, nat_lt, List, [], ◌∷◌, ◌++◌, All, length, map}
+use Rattle.std.specs.Prelude.{Option, Some, None}
+use Rattle.std.specs.Prelude.{Ok, slice_index, slice_index_or, if◌then◌else◌, refl}
+use Rattle.std.specs.List.{list_any, range_with_len}
+use Rattle.std.proofs.Common.{sym, ◌∙◌, ap, subst, arith}
+use Rattle.std.proofs.lemmas.Bool.{le-ltb, ne_eqb, eq-eqb}
+use Rattle.std.proofs.lemmas.Nat.{pow_pos}
+use Rattle.std.proofs.lemmas.List.{length-map, get_or-map}
+use Rattle.std.proofs.lemmas.List.Elements.{All-tail}
+use Rattle.std.proofs.lemmas.List.FromFn.{length-range_with_len, get_or-range_with_len}
+use Rattle.vb_model.specs.Pages.{Block, size, pages_of, pages_of_all}
+use Rattle.vb_ram.specs.Pages.{Pages}
+use Rattle.vb_chain.specs.declared.pieces.Piece.{Piece}
+use Rattle.vb_chain.specs.declared.fault.ChainFault.{ChainFault}
+use Rattle.vb_chain.specs.declared.fault.ChainFault.TheVariants.{BadPage, ReservedPage}
+use Rattle.vb_chain.specs.Table.{descriptor_at}
+use Rattle.vb_chain.specs.Chain.{ChainGives}
+use Rattle.vb_chain.specs.Written.{empty, linked, AreSound, IsRoute}
+use Rattle.vb_chain.proofs.ChainLaws.{written_chain}
+use Rattle.vb_driver.specs.Coding.{AreReported}
+use Rattle.vb_request.specs.Request.{first_of_both, unless_fault}
+use Rattle.vb_request.specs.Report.{pages_of_piece, pages_of_pieces, piece_fault, first_piece_fault}
+use Rattle.vb_request.specs.Report.{has_bad_length, report_request}
+use Rattle.vb_request.proofs.Reports.{by_pieces}
+use Rattle.vb_guest.specs.Reported.{IsOwnBlock}
+
+-- the bytes of a block, and those of all blocks, as a chain has them
+abbrev piece_of : Block → Piece
+piece_of b = record { addr = b.start * 4096; len = 4096 * size b; writable = true }
+
+abbrev pub pieces_of : List Block → List Piece
+pieces_of blocks = map piece_of blocks
+
+-- a block in the middle of the list, and its piece
+piece_at : (blocks : List Block) (k : ℕ) (d : Block) → k < length blocks
+    → slice_index_or (pieces_of blocks) k empty ≡ piece_of (slice_index_or blocks k d)
+piece_at blocks k d lt = get_or-map piece_of blocks k d empty lt
+
+abbrev no_block : Block
+no_block = record { start = 0; order = 0 }
+
+-- its blocks' bytes are pieces that a chain may have
+report_sound : (n : ℕ) (mem : Pages) (blocks : List Block) → length mem ≡ n → 0 < length blocks
+    → All (IsOwnBlock n) blocks → AreSound (4096 * length mem) (pieces_of blocks)
+report_sound n mem blocks len some own = record {
+  some = omega (arith, some, length-map blocks piece_of);
+  fit = λ k lt.
+      let at : k < length blocks = omega (arith, length-map blocks piece_of) in
+      let b : Block = slice_index_or blocks k no_block in
+      let is : IsOwnBlock n b = own k no_block at in
+      let here = piece_at blocks k no_block at in
+      omega (arith, ap (λ (p : Piece). p.addr) here, ap (λ (p : Piece). p.len) here, is.below, len);
+  ordered = λ j k before lt e.
+      ap (λ (p : Piece). p.writable)
+      (piece_at blocks k no_block (omega (arith, length-map blocks piece_of)));
+}
+
+-- its chain has the first descriptors, and a piece for each block
+pub report_chain : (mem : Pages) (table descriptors n : ℕ) (blocks : List Block) → length mem ≡ n
+    → 0 < length blocks → length blocks ≤ descriptors → All (IsOwnBlock n) blocks
+    → AreReported mem table blocks
+    → ChainGives (descriptor_at mem table) descriptors (4096 * length mem) 0 (pieces_of blocks)
+report_chain mem table descriptors n blocks len some inside own reported =
+    let count : ℕ = length blocks in
+    let path : List ℕ = range_with_len 0 count in
+    let long : length path ≡ count = length-range_with_len 0 count in
+    let at : (k : ℕ) → k < count → slice_index path k ≡ k =
+    λ k lt. omega (arith, get_or-range_with_len 0 count k 0 lt) in
+    let route : IsRoute descriptors path = record {
+      inside = λ k lt. omega (arith, at k (omega (arith, long)), long);
+      apart = λ j k before lt.
+          omega (arith, at j (omega (arith, long)), at k (omega (arith, long)));
+    } in
+    let put : (k : ℕ) → k < length path
+    → descriptor_at mem table (slice_index path k) ≡ linked path (pieces_of blocks) k =
+    λ k lt. let below : k < count = omega (arith, long) in
+    ap (descriptor_at mem table) (at k below) ∙ reported.chain k below in
+    let G : ℕ → Type 0 = λ h. ChainGives (descriptor_at mem table) descriptors
+    (4096 * length mem) h (pieces_of blocks) in
+    subst G (at 0 some)
+    (written_chain (descriptor_at mem table) descriptors (4096 * length mem) path
+    (pieces_of blocks) route (long ∙ sym (length-map blocks piece_of))
+    (omega (arith, long, inside)) (report_sound n mem blocks len some own) put)
+
+-- ---- the pages that it names
+
+all_writable : (blocks : List Block)
+    → list_any (λ piece. not piece.writable) (pieces_of blocks) ≡ false
+all_writable [] = refl
+all_writable (b ∷ bs) = all_writable bs
+
+whole_length : (b : Block) → has_bad_length (piece_of b) ≡ false
+whole_length b =
+    let pos : 0 < size b = pow_pos b.order in
+    let some : ((4096 * size b) == 0) ≡ false = ne_eqb (4096 * size b) 0 (omega arith) in
+    let rest : ((4096 * size b) % 4096 == 0) ≡ true =
+    eq-eqb ((4096 * size b) % 4096) 0 (omega arith) in
+    ap (λ (v : Bool). v || not ((4096 * size b) % 4096 == 0)) some
+    ∙ ap (λ (v : Bool). not v) rest
+
+all_whole : (blocks : List Block) → list_any has_bad_length (pieces_of blocks) ≡ false
+all_whole [] = refl
+all_whole (b ∷ bs) =
+    ap (λ (v : Bool). v || list_any has_bad_length (pieces_of bs)) (whole_length b) ∙ all_whole bs
+
+right_start : (b : Block) → 16 ≤ b.start → piece_fault (piece_of b) ≡ None
+right_start b above =
+    let even : ((b.start * 4096) % 4096 == 0) ≡ true =
+    eq-eqb ((b.start * 4096) % 4096) 0 (omega arith) in
+    let high : nat_lt ((b.start * 4096) / 4096) 16 ≡ false =
+    le-ltb ((b.start * 4096) / 4096) 16 (omega arith) in
+    by (not ((b.start * 4096) % 4096 == 0)) (nat_lt ((b.start * 4096) / 4096) 16)
+    (ap (λ (v : Bool). not v) even) high
+  where
+    by : (a c : Bool) → a ≡ false → c ≡ false
+        → (if a then Some BadPage
+        else (if c then Some ReservedPage else None)) ≡ None
+    by false false e f = refl
+    by false true e f = absurd cc
+    by true c e f = absurd cc
+
+all_right : (n : ℕ) (blocks : List Block) → All (IsOwnBlock n) blocks
+    → first_piece_fault (pieces_of blocks) ≡ None
+all_right n [] own = refl
+all_right n (b ∷ bs) own =
+    let first : IsOwnBlock n b = own 0 b (omega arith) in
+    ap (λ (o : Option ChainFault). first_of_both o (first_piece_fault (pieces_of bs)))
+    (right_start b first.above) ∙ all_right n bs (All-tail (IsOwnBlock n) b bs own)
+
+piece_pages : (b : Block) → pages_of_piece (piece_of b) ≡ pages_of b
+piece_pages b =
+    let start : (b.start * 4096) / 4096 ≡ b.start = omega arith in
+    let count : (4096 * size b) / 4096 ≡ size b = omega arith in
+    ap (λ (k : ℕ). range_with_len k ((4096 * size b) / 4096)) start
+    ∙ ap (range_with_len b.start) count
+
+pages_named : (blocks : List Block) → pages_of_pieces (pieces_of blocks) ≡ pages_of_all blocks
+pages_named [] = refl
+pages_named (b ∷ bs) =
+    ap (λ (l : List ℕ). l ++ pages_of_pieces (pieces_of bs)) (piece_pages b)
+    ∙ ap (λ (l : List ℕ). pages_of b ++ l) (pages_named bs)
+
+-- it is a report of the pages of its blocks
+pub report_pages : (n : ℕ) (blocks : List Block) → length blocks ≤ 16 → All (IsOwnBlock n) blocks
+    → report_request (pieces_of blocks) ≡ Ok (pages_of_all blocks)
+report_pages n blocks few own =
+    let short : nat_lt 32 (length (pieces_of blocks)) ≡ false =
+    le-ltb 32 (length (pieces_of blocks)) (omega (arith, length-map blocks piece_of)) in
+    by_pieces (pieces_of blocks) (all_writable blocks)
+    (ap (λ (v : Bool). v || list_any has_bad_length (pieces_of blocks)) short ∙ all_whole blocks)
+    ∙ ap (λ (o : Option ChainFault). unless_fault o (pages_of_pieces (pieces_of blocks)))
+    (all_right n blocks own)
+    ∙ ap (λ (l : List ℕ). Ok l) (pages_named blocks)

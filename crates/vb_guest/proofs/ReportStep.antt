@@ -1,0 +1,266 @@
+-- The slot's report is a step of the guest.
+use Rattle.std.specs.Prelude.{◌≡◌, ℕ, ◌<◌, ◌==◌, Bool, true, false, not, nat_le, List}
+use Rattle.std.specs.Prelude.{[], ◌∷◌, length, Result, Ok, Err, Option, Some, None, is_some, refl}
+use Rattle.std.proofs.Common.{sym, ◌∙◌, ap, subst, arith, inl, inr}
+use Rattle.std.proofs.lemmas.Bool.Decides.{nat_tests}
+use Rattle.std.proofs.lemmas.List.{length-map}
+use Rattle.vb_model.specs.declared.calls.Call.TheVariants.{Report}
+use Rattle.vb_model.specs.declared.places.Place.{Place}
+use Rattle.vb_model.specs.declared.places.Place.TheVariants.{Reporting}
+use Rattle.vb_model.specs.declared.replies.Refusal.{Refusal}
+use Rattle.vb_model.specs.declared.replies.Refusal.TheVariants.{NotReady, NoFeature, QueueFull}
+use Rattle.vb_model.specs.declared.replies.Refusal.TheVariants.{Nothing}
+use Rattle.vb_model.specs.declared.replies.Reply.TheVariants.{Posted, Refused}
+use Rattle.vb_model.specs.Pages.{Block, placed, pages_of_all, reported, maximal_free_blocks}
+use Rattle.vb_model.specs.Requests.{Request, Requests, no_requests, all_requests, headed}
+use Rattle.vb_model.specs.Requests.{outstanding}
+use Rattle.vb_model.specs.Requests.{posting, IsLeastHead, Reporting_free}
+use Rattle.vb_model.specs.Guest.{Guest, reporting}
+use Rattle.vb_model.specs.Driver.{asking}
+use Rattle.vb_model.specs.FirstRefusal.{◌⇒◌, first_refusal}
+use Rattle.vb_model.specs.Tables.{featured_tests, is_up, most_requests}
+use Rattle.vb_model.specs.Refusals.{refusal_of, reported_blocks}
+use Rattle.vb_ram.specs.Pages.{Pages, contents_of}
+use Rattle.vb_ram.specs.Part.{Part}
+use Rattle.vb_ring.specs.declared.layout.Layout.{Layout}
+use Rattle.vb_ring.specs.Ends.{outstanding as outstanding_in}
+use Rattle.vb_driver.specs.declared.answers.Posted.{Posted as PostedRequest}
+use Rattle.vb_driver.specs.Coding.{SameButPages}
+use Rattle.vb_driver.specs.State.{DriverState, ReportSide}
+use Rattle.vb_driver.specs.Areas.{areas_without}
+use Rattle.vb_driver.specs.Answers.{report_tests, blocks_to_report}
+use Rattle.vb_driver.specs.Calls.{Reports, ReportsBy, unreported}
+use Rattle.vb_guest.specs.Line.{heads_of}
+use Rattle.vb_guest.specs.Reported.{IsReport, ReportLine}
+use Rattle.vb_guest.specs.Stands.{Honest, Ties, IsRunning}
+use Rattle.vb_guest.specs.Steps.{StepsAlone}
+use Rattle.vb_guest.specs.Replies.{posted_reply}
+use Rattle.vb_guest.proofs.RingHeads.{ring_count}
+use Rattle.vb_guest.proofs.Apart.{line_apart}
+use Rattle.vb_guest.proofs.BufferLines.{buffer_apart}
+use Rattle.vb_guest.proofs.ReportLines.{report_posted}
+use Rattle.vb_guest.proofs.OwnBlocks.{reported_own, reported_few}
+use Rattle.vb_guest.proofs.PagesKept.{SamePages, pages_same}
+use Rattle.vb_guest.proofs.SameRefusals.{IsIdleStatus, at_both}
+use Rattle.vb_guest.proofs.Closing.{honest_performed, honest_refused, steps_alone, ties_same}
+use Rattle.vb_guest.proofs.Closing.{ties_areas}
+
+-- ---- refusals
+
+blocks_same : (d : DriverState) (g : Guest) (from : ℕ) → d.queue_size ≡ g.config.queue_size
+    → d.places ≡ g.places → blocks_to_report d from ≡ reported_blocks g from
+blocks_same d g from size places =
+    ap (λ (s : ℕ). reported (most_requests s) from (maximal_free_blocks d.places)) size
+    ∙ ap (λ (l : List Place). reported (most_requests g.config.queue_size) from
+    (maximal_free_blocks l)) places
+
+report_same : (p : Part) (d : DriverState) (g : Guest) (from : ℕ) → p.status ≡ g.status
+    → d.features ≡ g.features → outstanding_in d.report.ring ≡ outstanding g.report
+    → blocks_to_report d from ≡ reported_blocks g from
+    → first_refusal (report_tests d p from) ≡ refusal_of g (Report from)
+report_same p d g from status features out blocks =
+    let R : ℕ → ℕ → ℕ → List Block → Option Refusal =
+    λ s f o l. first_refusal (featured_tests s (reporting f) o 1 (length l)) in
+    ap (λ s. R s d.features (outstanding_in d.report.ring) (blocks_to_report d from)) status
+    ∙ ap (λ f. R g.status f (outstanding_in d.report.ring) (blocks_to_report d from)) features
+    ∙ ap (λ o. R g.status g.features o (blocks_to_report d from)) out
+    ∙ ap (λ l. R g.status g.features (outstanding g.report) l) blocks
+
+report_idle : (p : Part) (d : DriverState) (g : Guest) (from : ℕ) → p.status ≡ g.status
+    → IsIdleStatus g.status
+    → (first_refusal (report_tests d p from) ≡ Some NotReady)
+    × (refusal_of g (Report from) ≡ Some NotReady)
+report_idle p d g from same down =
+    let P : ℕ → Type 0 =
+    λ s. first_refusal (report_tests d (record p { status = s }) from) ≡ Some NotReady in
+    let G : ℕ → Type 0 =
+    λ s. refusal_of (record g { status = s }) (Report from) ≡ Some NotReady in (
+      at_both P p.status (subst IsIdleStatus (sym same) down) refl refl,
+      at_both G g.status down refl refl,
+    )
+
+-- the driver's areas are none of the guest's
+unreported_ties : (why : Refusal) (m1 m2 : Pages) (p1 p2 : Part) (d1 d2 : DriverState) (g : Guest)
+    → m2 ≡ m1 → p2 ≡ p1 → d2 ≡ unreported why d1 → Ties m1 p1 d1 g → Ties m2 p2 d2 g
+unreported_ties Nothing m1 m2 p1 p2 d1 d2 g m p d ties =
+    ties_same m1 m2 p1 p2 (unreported Nothing d1) d2 g m p d (ties_areas m1 p1 d1 g _ ties)
+unreported_ties _ m1 m2 p1 p2 d1 d2 g m p d ties = ties_same m1 m2 p1 p2 d1 d2 g m p d ties
+
+report_refused : (m1 m2 : Pages) (p1 p2 : Part) (d1 d2 : DriverState) (g : Guest) (from : ℕ)
+    (why : Refusal)
+    → ReportsBy m1 m2 p1 p2 d1 d2 from (Err why) → Honest m1 p1 d1 g
+    → first_refusal (report_tests d1 p1 from) ≡ refusal_of g (Report from)
+    → StepsAlone (Honest m2 p2 d2) g (Report from) (posted_reply (Err why))
+report_refused m1 m2 p1 p2 d1 d2 g from why did stands same =
+    steps_alone m1 m2 p1 p2 d1 d2 g (Report from)
+    (Refused why) g stands
+    (honest_refused g (Report from) why (sym (did.refusal ∙ same)))
+    (unreported_ties why m1 m2 p1 p2 d1 d2 g did.refused.mem did.refused.part did.refused.driver
+    stands.ties) refl
+
+-- ---- a new report
+
+-- none is out, and there is a block
+none_out : (a b : Bool) (out count : ℕ)
+    → first_refusal ((a ⇒ NotReady) ∷ (b ⇒ NoFeature) ∷ (nat_le 1 out ⇒ QueueFull)
+    ∷ ((count == 0) ⇒ Nothing) ∷ []) ≡ None
+    → (out ≡ 0) × (0 < count)
+none_out true b out count e = absurd cc
+none_out false true out count e = absurd cc
+none_out false false out count e = (grind (arith, nat_tests), grind (arith, nat_tests))
+
+all_gone : (rs : Requests) → outstanding rs ≡ 0 → rs ≡ no_requests
+all_gone rs e = by rs.posted rs.taken rs.done refl refl refl e
+  where
+    by : (posted taken done : List Request) → rs.posted ≡ posted → rs.taken ≡ taken → rs.done ≡ done
+        → outstanding rs ≡ 0 → rs ≡ no_requests
+    by [] [] [] a b c e =
+        ap (λ (l : List Request). record rs { posted = l }) a
+        ∙ ap (λ (l : List Request). record rs { posted = []; taken = l }) b
+        ∙ ap (λ (l : List Request). record rs { posted = []; taken = []; done = l }) c
+    by (x ∷ xs) taken done a b c e =
+        absurd (omega (arith, ap (λ (l : List Request). length l) a, e))
+    by [] (x ∷ xs) done a b c e =
+        absurd (omega (arith, ap (λ (l : List Request). length l) b, e))
+    by [] [] (x ∷ xs) a b c e =
+        absurd (omega (arith, ap (λ (l : List Request). length l) c, e))
+
+first_head : (rs : Requests) → rs ≡ no_requests → IsLeastHead rs 0
+first_head rs e = record {
+  new = ap (λ (x : Requests). headed 0 (all_requests x)) e;
+  least = λ h lt. absurd (omega (arith, lt));
+}
+
+report_out : (m1 m2 : Pages) (p1 p2 : Part) (d1 d2 : DriverState) (g : Guest) (from : ℕ)
+    (posted : PostedRequest)
+    → Reports m1 m2 p1 p2 d1 d2 (reported_blocks g from) posted → Honest m1 p1 d1 g
+    → IsRunning m1 p1 d1 g → refusal_of g (Report from) ≡ None → outstanding g.report ≡ 0
+    → 0 < length (reported_blocks g from)
+    → StepsAlone (Honest m2 p2 d2) g (Report from) (Posted posted.head posted.pages)
+report_out m1 m2 p1 p2 d1 d2 g from posted did stands run free none some =
+    let ties = stands.ties in
+    let n = g.config.pages in
+    let blocks = reported_blocks g from in
+    let pages = pages_of_all blocks in
+    let gone : g.report ≡ no_requests = all_gone g.report none in
+    let new : Guest = asking Reporting_free 0 pages g in
+    let reply : Posted posted.head posted.pages ≡ Posted 0 (length pages) =
+    ap (λ (h : ℕ). Posted h posted.pages) did.head ∙ ap (Posted 0) did.pages in
+    let step = honest_performed g (Report from) [] (Posted posted.head posted.pages) new free
+    (refl, (0, first_head g.report gone, reply, refl)) in
+    let table : d1.report.ring.layout.table ≡ 3 =
+    ap (λ (l : Layout). l.table) run.report.ring.layout in
+    let rest : SameButPages m1 m2 3 3 =
+    subst (λ (t : ℕ). SameButPages m1 m2 t t) table did.posts.rest in
+    let same : SamePages m1 m2 = record {
+      count = rest.count;
+      behind = rest.backing;
+      holds = λ p high. ap contents_of (rest.others p (omega arith) (omega arith));
+    } in
+    let few = reported_few g from in
+    let is : IsReport d1.report.ring.size n blocks
+    (record { head = 0; pages = pages; visited = 0 }) = record {
+      head = refl;
+      names = refl;
+      some = some;
+      few = few.0;
+      inside = omega (arith, few.1, run.report_size);
+      blocks_are = reported_own g from stands.orderly;
+    } in
+    let L : Requests → Type 0 = λ rs. ReportLine m1 n d1.report p1.report rs in
+    let M : Requests → Type 0 = λ rs. ReportLine m2 n d2.report p1.report (posting 0 pages rs) in
+    let line : M g.report =
+    subst M (sym gone) (report_posted m1 m2 n d1.report d2.report p1.report blocks pages
+    (subst L gone run.report) did.posts is) in
+    let after : DriverState = record d1 {
+      places = placed pages Reporting d1.places;
+      areas = areas_without pages d1.areas;
+      report = d2.report;
+    } in
+    let there : Ties m2 p1 after new = record {
+      parts = record {
+        guest = ties.parts.guest;
+        driver = record {
+          pages = ties.parts.driver.pages;
+          queue_size = ties.parts.driver.queue_size;
+          processors = ties.parts.driver.processors;
+          places = ap (placed pages Reporting) ties.parts.driver.places;
+          held = ties.parts.driver.held;
+          accepted = ties.parts.driver.accepted;
+        };
+        device = ties.parts.device;
+      };
+      pages = pages_same m1 m2 n _ _ same ties.pages;
+      queues = inr (record {
+        state = run.state;
+        backed = λ p lt. ap is_some (rest.backing p) ∙ run.backed p lt;
+        inflate_size = run.inflate_size;
+        deflate_size = run.deflate_size;
+        statistics_size = run.statistics_size;
+        report_size = ap (λ (s : ReportSide). s.ring.size) did.posts.state ∙ run.report_size;
+        inflate = line_apart m1 m2 0 n d1.inflate p1.inflate g.inflate (record {
+          ring = rest.others 0 (omega arith) (omega arith);
+          buffers = λ p from to. rest.others p (omega arith) (omega arith);
+        }) run.inflate;
+        deflate = line_apart m1 m2 1 n d1.deflate p1.deflate g.deflate (record {
+          ring = rest.others 1 (omega arith) (omega arith);
+          buffers = λ p from to. rest.others p (omega arith) (omega arith);
+        }) run.deflate;
+        statistics = buffer_apart m1 m2 d1.statistics p1.statistics g.buffer
+            (rest.others 2 (omega arith) (omega arith)) (rest.others 12 (omega arith) (omega arith))
+            run.statistics;
+        report = line;
+      });
+    } in
+    steps_alone m1 m2 p1 p2 d1 d2 g (Report from) (Posted posted.head posted.pages) new stands step
+    (ties_same m2 m2 p1 p2 after d2 new refl did.part did.state there) refl
+
+pub report_step : (m1 m2 : Pages) (p1 p2 : Part) (d1 d2 : DriverState) (g : Guest) (from : ℕ)
+    (result : Result PostedRequest Refusal)
+    → ReportsBy m1 m2 p1 p2 d1 d2 from result → Honest m1 p1 d1 g
+    → StepsAlone (Honest m2 p2 d2) g (Report from) (posted_reply result)
+report_step m1 m2 p1 p2 d1 d2 g from result did stands =
+    elim stands.ties.queues [
+      | inl idle ↦
+          let both = report_idle p1 d1 g from stands.ties.parts.device.status idle.state in
+          down result did both.0 both.1
+      | inr run ↦
+          up result did run (report_same p1 d1 g from stands.ties.parts.device.status
+          stands.ties.parts.driver.accepted (out_same run)
+          (blocks_same d1 g from stands.ties.parts.driver.queue_size
+          stands.ties.parts.driver.places))
+    ]
+  where
+    out_same : IsRunning m1 p1 d1 g → outstanding_in d1.report.ring ≡ outstanding g.report
+    out_same run =
+        let rs = g.report in
+        omega (
+          arith,
+          ring_count m1 4 d1.report.ring p1.report.next_avail p1.report.next_used
+              (heads_of rs.posted) (heads_of rs.taken) (heads_of rs.done) run.report.ring,
+          length-map rs.posted (λ (r : Request). r.head),
+          length-map rs.taken (λ (r : Request). r.head),
+          length-map rs.done (λ (r : Request). r.head),
+        )
+
+    down : (result : Result PostedRequest Refusal) → ReportsBy m1 m2 p1 p2 d1 d2 from result
+        → first_refusal (report_tests d1 p1 from) ≡ Some NotReady
+        → refusal_of g (Report from) ≡ Some NotReady
+        → StepsAlone (Honest m2 p2 d2) g (Report from) (posted_reply result)
+    down (Ok posted) did by_driver by_model = absurd (let wrong = did.refusal ∙ by_driver in cc)
+    down (Err why) did by_driver by_model =
+        report_refused m1 m2 p1 p2 d1 d2 g from why did stands (by_driver ∙ sym by_model)
+
+    up : (result : Result PostedRequest Refusal) → ReportsBy m1 m2 p1 p2 d1 d2 from result
+        → IsRunning m1 p1 d1 g
+        → first_refusal (report_tests d1 p1 from) ≡ refusal_of g (Report from)
+        → StepsAlone (Honest m2 p2 d2) g (Report from) (posted_reply result)
+    up (Err why) did run same = report_refused m1 m2 p1 p2 d1 d2 g from why did stands same
+    up (Ok posted) did run same =
+        let free : refusal_of g (Report from) ≡ None = sym (did.refusal ∙ same) in
+        let fits = none_out (not (is_up g.status)) (not (reporting g.features))
+        (outstanding g.report) (length (reported_blocks g from)) free in
+        let R : List Block → Type 0 = λ l. Reports m1 m2 p1 p2 d1 d2 l posted in
+        report_out m1 m2 p1 p2 d1 d2 g from posted
+        (subst R (blocks_same d1 g from stands.ties.parts.driver.queue_size
+        stands.ties.parts.driver.places) did.reports) stands run free fits.0 fits.1

@@ -1,0 +1,255 @@
+-- The guest once its driver started the device, or gave up.
+use Rattle.std.specs.Prelude.{◌≡◌, ℕ, ◌*◌, ◌<◌, ◌≤◌, Bool, true, false}
+use Rattle.std.specs.Prelude.{if◌then◌else◌, List, [], length, Option}
+use Rattle.std.specs.Prelude.{IsSome, is_some, All}
+use Rattle.std.specs.Prelude.{replicate, count_by, refl}
+use Rattle.std.proofs.Common.{sym, ◌∙◌, ap, subst, arith, inl, inr}
+use Rattle.std.proofs.lemmas.List.{length-replicate}
+use Rattle.vb_model.specs.declared.places.Place.{Place}
+use Rattle.vb_model.specs.Pages.{is_free}
+use Rattle.vb_model.specs.Requests.{Requests, no_requests, Buffer, NoBuffer, BufferPosted, Figures}
+use Rattle.vb_model.specs.Guest.{Guest}
+use Rattle.vb_model.specs.Guest.{stats_vq}
+use Rattle.vb_model.specs.Driver.{figures}
+use Rattle.vb_ram.specs.Pages.{Pages, page_at, frame_at, contents_of}
+use Rattle.vb_ram.specs.Part.{Part, no_queue}
+use Rattle.vb_status.specs.After.{part_after_reset}
+use Rattle.vb_ring.specs.Layout.{IsSize}
+use Rattle.vb_ring.specs.Ends.{DriverEnd}
+use Rattle.vb_driver.specs.Coding.{AreZeroed, ring_pages}
+use Rattle.vb_driver.specs.State.{DriverState, IsDriver, fresh_side, fresh_statistics, fresh_report}
+use Rattle.vb_driver.specs.State.{figures_of}
+use Rattle.vb_driver.specs.Calls.{Starts, GivesUp, IsNewRing, FirstBuffer}
+use Rattle.vb_guest.specs.Line.{Line}
+use Rattle.vb_guest.specs.Reported.{ReportLine}
+use Rattle.vb_guest.specs.Buffer.{BufferLine}
+use Rattle.vb_guest.specs.Stands.{Ties, HasParts, HasPages, IsIdle, beside_queues}
+use Rattle.vb_guest.specs.Stands.{beside_sides, beside_requests}
+use Rattle.vb_guest.proofs.Closing.{ties_same}
+use Rattle.vb_guest.proofs.PagesKept.{pages_same}
+use Rattle.vb_guest.proofs.RingPosted.{ring_posted}
+use Rattle.vb_guest.proofs.RingApart.{ring_new}
+
+no_flags : (p : Part) (g : Guest) → p.ballooned ≡ g.ballooned → IsIdle g
+    → replicate (length p.ballooned) false ≡ g.ballooned
+no_flags p g same idle =
+    let len : length p.ballooned ≡ g.config.pages =
+    ap (λ (l : List Bool). length l) (same ∙ idle.ballooned)
+    ∙ length-replicate g.config.pages false in
+    ap (λ (n : ℕ). replicate n false) len ∙ sym idle.ballooned
+
+all_none : {A : Type 0} (P : A → Type 0) → All P []
+all_none P k d lt = absurd (omega arith)
+
+-- nothing was published, and nothing used
+fresh_line : (m : Pages) (queue count q : ℕ) → IsSize q → IsNewRing m (fresh_side queue q).ring
+    → Line m queue count (fresh_side queue q) no_queue no_requests
+fresh_line m queue count q sized new = record {
+  ring = ring_new m queue (fresh_side queue q).ring sized refl new;
+  buffers = refl;
+  posted = all_none _;
+  taken = all_none _;
+  done = all_none _;
+  coded = all_none _;
+  remembers = refl;
+}
+
+fresh_report_line : (m : Pages) (count q : ℕ) → IsSize q → IsNewRing m (fresh_report q).ring
+    → ReportLine m count (fresh_report q) no_queue no_requests
+fresh_report_line m count q sized new = record {
+  ring = ring_new m 4 (fresh_report q).ring sized refl new;
+  posted = all_none _;
+  taken = all_none _;
+  done = all_none _;
+  coded = all_none _;
+  remembers = refl;
+}
+
+-- the first statistics buffer, where there is one
+abbrev pub first_buffer : Bool → Figures → Buffer
+first_buffer b f = if b then BufferPosted f else NoBuffer
+
+first_line : (b : Bool) (zeroed m : Pages) (d1 d2 : DriverState) (f : Figures)
+    → IsSize d1.queue_size → figures_of d1 ≡ f
+    → IsNewRing zeroed (fresh_statistics d1.queue_size) → FirstBuffer b zeroed m d1 d2
+    → BufferLine m d2.statistics no_queue (first_buffer b f)
+first_line true zeroed m d1 d2 f sized is new did =
+    subst (λ (x : Figures). BufferLine m d2.statistics no_queue (BufferPosted x)) is (record {
+      stands = ring_posted zeroed m 2 (fresh_statistics d1.queue_size) d2.statistics 0 0 [] [] []
+          1 0 (ring_new zeroed 2 (fresh_statistics d1.queue_size) sized refl new) did.state
+          did.announces;
+      figures = did.coded;
+      remembers = refl;
+    })
+first_line false zeroed m d1 d2 f sized is new did =
+    let L : Pages → DriverEnd → Type 0 = λ x r. BufferLine x r no_queue NoBuffer in
+    subst (λ (x : Pages). L x d2.statistics) (sym did.0)
+    (subst (L zeroed) (sym did.1) (record {
+      stands = ring_new zeroed 2 (fresh_statistics d1.queue_size) sized refl new;
+      figures = tt;
+      remembers = refl;
+    }))
+
+first_size : (b : Bool) (zeroed m : Pages) (d1 d2 : DriverState) → FirstBuffer b zeroed m d1 d2
+    → d2.statistics.size ≡ d1.queue_size
+first_size true zeroed m d1 d2 did = ap (λ (r : DriverEnd). r.size) did.state
+first_size false zeroed m d1 d2 did = ap (λ (r : DriverEnd). r.size) did.1
+
+-- what the start leaves of memory
+record KeepsPages (old new : Pages) : Type 0 where
+  count : length new ≡ length old
+  backing : (p : ℕ) → frame_at new p ≡ frame_at old p
+  high : (p : ℕ) → 16 ≤ p → page_at new p ≡ page_at old p
+
+start_keeps : (b : Bool) (m1 zeroed m : Pages) (d1 d2 : DriverState)
+    → AreZeroed m1 zeroed ring_pages → FirstBuffer b zeroed m d1 d2 → KeepsPages m1 m
+start_keeps true m1 zeroed m d1 d2 zeroes did = record {
+  count = did.rest.count ∙ zeroes.count;
+  backing = λ p. did.rest.backing p ∙ zeroes.backing p;
+  high = λ p at. did.rest.others p (omega arith) (omega arith) ∙ zeroes.others p (omega arith);
+}
+start_keeps false m1 zeroed m d1 d2 zeroes did = record {
+  count = ap (λ (x : Pages). length x) did.0 ∙ zeroes.count;
+  backing = λ p. ap (λ (x : Pages). frame_at x p) did.0 ∙ zeroes.backing p;
+  high = λ p at. ap (λ (x : Pages). page_at x p) did.0 ∙ zeroes.others p (omega arith);
+}
+
+figures_are : (d : DriverState) (g : Guest) → d.places ≡ g.places → d.pages ≡ g.config.pages
+    → figures_of d ≡ figures g
+figures_are d g places pages =
+    ap (λ (l : List Place). record { free = count_by is_free l * 4096; total = d.pages * 4096 })
+    places
+    ∙ ap (λ (n : ℕ). record { free = count_by is_free g.places * 4096; total = n * 4096 }) pages
+
+-- the guest whose pages have these frames, and whose device is initialised
+pub started : (m2 m3 : Pages) (p1 p3 : Part) (d1 d2 : DriverState) (g : Guest)
+    (frames : List (Option ℕ)) (wanted : ℕ) → HasPages m2 g.config.pages frames g.contents
+    → ((p : ℕ) → p < 13 → IsSome (frame_at m2 p))
+    → IsIdle g → IsDriver d1 → HasParts (beside_queues p1) (beside_sides d1) (beside_requests g)
+    → Starts m2 m3 p1 p3 d1 d2 wanted
+    → Ties m3 p3 d2 (record g {
+      frames = frames;
+      status = 15;
+      features = wanted;
+      buffer = first_buffer (stats_vq wanted) (figures g);
+    })
+started m2 m3 p1 p3 d1 d2 g frames wanted has backed idle driver parts did =
+    let new : Guest =
+    record g {
+      frames = frames;
+      status = 15;
+      features = wanted;
+      buffer = first_buffer (stats_vq wanted) (figures g);
+    } in
+    let part : Part = record (part_after_reset p1) { status = 15; features = wanted } in
+    let state : DriverState =
+    record d1 {
+      inflate = fresh_side 0 d1.queue_size;
+      deflate = fresh_side 1 d1.queue_size;
+      statistics = d2.statistics;
+      report = fresh_report d1.queue_size;
+      features = wanted;
+    } in
+    let n = g.config.pages in
+    let inflate = fresh_line m3 0 n d1.queue_size driver.size
+    (subst (λ (d : DriverState). IsNewRing m3 d.inflate.ring) did.driver did.inflate) in
+    let deflate = fresh_line m3 1 n d1.queue_size driver.size
+    (subst (λ (d : DriverState). IsNewRing m3 d.deflate.ring) did.driver did.deflate) in
+    let report = fresh_report_line m3 n d1.queue_size driver.size
+    (subst (λ (d : DriverState). IsNewRing m3 d.report.ring) did.driver did.report) in
+    let keeps = start_keeps (stats_vq wanted) m2 did.zeroed m3 d1 d2 did.rings did.buffer in
+    let there : Ties m3 part state new = record {
+      parts = record {
+        guest = parts.guest;
+        driver = record {
+          pages = parts.driver.pages;
+          queue_size = parts.driver.queue_size;
+          processors = parts.driver.processors;
+          places = parts.driver.places;
+          held = parts.driver.held;
+          accepted = refl;
+        };
+        device = record {
+          size = parts.device.size;
+          paced = parts.device.paced;
+          status = refl;
+          features = refl;
+          target = parts.device.target;
+          actual = sym idle.actual;
+          ballooned = no_flags p1 g parts.device.ballooned idle;
+          last = sym idle.last;
+          loose = parts.device.loose;
+        };
+      };
+      pages = pages_same m2 m3 n frames g.contents
+          (record {
+            count = keeps.count;
+            behind = keeps.backing;
+            holds = λ p high. ap contents_of (keeps.high p high);
+          }) has;
+      queues = inr (record {
+        state = refl;
+        backed = λ p lt. ap is_some (keeps.backing p) ∙ backed p lt;
+        inflate_size = parts.driver.queue_size;
+        deflate_size = parts.driver.queue_size;
+        statistics_size = first_size (stats_vq wanted) did.zeroed m3 d1 d2 did.buffer
+            ∙ parts.driver.queue_size;
+        report_size = parts.driver.queue_size;
+        inflate = subst (λ (rs : Requests). Line m3 0 n (fresh_side 0 d1.queue_size) no_queue rs)
+            (sym idle.inflate) inflate;
+        deflate = subst (λ (rs : Requests). Line m3 1 n (fresh_side 1 d1.queue_size) no_queue rs)
+            (sym idle.deflate) deflate;
+        statistics = first_line (stats_vq wanted) did.zeroed m3 d1 d2 (figures g) driver.size
+            (figures_are d1 g parts.driver.places parts.driver.pages) did.statistics did.buffer;
+        report = subst (λ (rs : Requests). ReportLine m3 n (fresh_report d1.queue_size) no_queue rs)
+            (sym idle.report) report;
+      });
+    } in
+    ties_same m3 m3 part p3 state d2 new refl did.part did.driver there
+
+-- the guest whose pages have these frames, and whose driver gave up
+pub stopped : (m2 m3 : Pages) (p1 p3 : Part) (d1 d2 : DriverState) (g : Guest)
+    (frames : List (Option ℕ)) (accepted : ℕ) → HasPages m2 g.config.pages frames g.contents
+    → IsIdle g → HasParts (beside_queues p1) (beside_sides d1) (beside_requests g)
+    → GivesUp m2 m3 p1 p3 d1 d2 accepted
+    → Ties m3 p3 d2 (record g { frames = frames; status = 131; features = accepted })
+stopped m2 m3 p1 p3 d1 d2 g frames accepted has idle parts did =
+    let new : Guest = record g { frames = frames; status = 131; features = accepted } in
+    let part : Part = record (part_after_reset p1) { status = 131; features = accepted } in
+    let state : DriverState = record d1 { features = accepted } in
+    let there : Ties m2 part state new = record {
+      parts = record {
+        guest = parts.guest;
+        driver = record {
+          pages = parts.driver.pages;
+          queue_size = parts.driver.queue_size;
+          processors = parts.driver.processors;
+          places = parts.driver.places;
+          held = parts.driver.held;
+          accepted = refl;
+        };
+        device = record {
+          size = parts.device.size;
+          paced = parts.device.paced;
+          status = refl;
+          features = refl;
+          target = parts.device.target;
+          actual = sym idle.actual;
+          ballooned = no_flags p1 g parts.device.ballooned idle;
+          last = sym idle.last;
+          loose = parts.device.loose;
+        };
+      };
+      pages = has;
+      queues = inl (record {
+        state = inr refl;
+        inflate = idle.inflate;
+        deflate = idle.deflate;
+        report = idle.report;
+        buffer = idle.buffer;
+        ballooned = idle.ballooned;
+        actual = idle.actual;
+        last = idle.last;
+      });
+    } in
+    ties_same m2 m3 part p3 state d2 new did.mem did.part did.driver there

@@ -1,0 +1,204 @@
+-- The slot's new fill of the statistics buffer is a step of the guest.
+use Rattle.std.specs.Prelude.{◌≡◌, ℕ, ◌*◌, Bool, true, false, not, List, []}
+use Rattle.std.specs.Prelude.{Result, Ok, Err, Option, Some, None, is_some, is_err, slice_get}
+use Rattle.std.specs.Prelude.{count_by, refl}
+use Rattle.std.proofs.Common.{sym, ◌∙◌, ap, subst, arith, inl, inr}
+use Rattle.vb_model.specs.declared.calls.Call.TheVariants.{Stats}
+use Rattle.vb_model.specs.declared.places.Place.{Place}
+use Rattle.vb_model.specs.declared.replies.Refusal.{Refusal}
+use Rattle.vb_model.specs.declared.replies.Refusal.TheVariants.{NotReady, RingBroken}
+use Rattle.vb_model.specs.declared.replies.Reply.TheVariants.{Filled, NotUsed}
+use Rattle.vb_model.specs.Pages.{is_free}
+use Rattle.vb_model.specs.Requests.{Figures, Buffer, NoBuffer, BufferPosted, BufferTaken}
+use Rattle.vb_model.specs.Requests.{BufferDone}
+use Rattle.vb_model.specs.Guest.{Guest, stats_vq}
+use Rattle.vb_model.specs.Driver.{figures, Fills}
+use Rattle.vb_model.specs.FirstRefusal.{first_refusal}
+use Rattle.vb_model.specs.Tables.{stats_tests as tests_of_stats, is_up}
+use Rattle.vb_model.specs.Refusals.{refusal_of}
+use Rattle.vb_ram.specs.Pages.{Pages, contents_of}
+use Rattle.vb_ram.specs.Part.{Part}
+use Rattle.vb_ring.specs.declared.layout.Layout.{Layout}
+use Rattle.vb_ring.specs.declared.driver.RingBroken.{RingBroken as Broken}
+use Rattle.vb_ring.specs.Ends.{DriverEnd, used_answer}
+use Rattle.vb_driver.specs.State.{DriverState, figures_of}
+use Rattle.vb_driver.specs.Coding.{SameButPages}
+use Rattle.vb_driver.specs.Answers.{stats_tests, is_ring_broken}
+use Rattle.vb_driver.specs.Calls.{FillsBy, Refills, emptied}
+use Rattle.vb_guest.specs.Buffer.{BufferLine, used_heads}
+use Rattle.vb_guest.specs.Stands.{Honest, Ties, IsRunning}
+use Rattle.vb_guest.specs.Steps.{StepsAlone}
+use Rattle.vb_guest.specs.Replies.{filled_reply}
+use Rattle.vb_guest.proofs.RingReaped.{ring_answer}
+use Rattle.vb_guest.proofs.Apart.{line_apart}
+use Rattle.vb_guest.proofs.BufferLines.{buffer_emptied, buffer_posted}
+use Rattle.vb_guest.proofs.ReportLines.{report_apart}
+use Rattle.vb_guest.proofs.PagesKept.{SamePages, pages_same}
+use Rattle.vb_guest.proofs.SameRefusals.{IsIdleStatus, at_both, last_test}
+use Rattle.vb_guest.proofs.ReapRefusing.{unfailed, never_broken}
+use Rattle.vb_guest.proofs.Closing.{honest_performed, steps_alone, refused_alone, ties_same}
+
+-- ---- refusals
+
+-- where the ring isn't broken
+stats_same : (m : Pages) (p : Part) (d : DriverState) (g : Guest) (o : Option ℕ)
+    → p.status ≡ g.status → d.features ≡ g.features → used_answer m d.statistics ≡ Ok o
+    → first_refusal (stats_tests m p d) ≡ refusal_of g Stats
+stats_same m p d g o status features answer =
+    let whole : is_ring_broken m d.statistics ≡ false =
+    ap (λ (r : Result (Option ℕ) Broken). is_err r) answer in
+    last_test (tests_of_stats p.status d.features) (is_ring_broken m d.statistics) RingBroken whole
+    ∙ ap (λ (s : ℕ). first_refusal (tests_of_stats s d.features)) status
+    ∙ ap (λ (f : ℕ). first_refusal (tests_of_stats g.status f)) features
+
+stats_idle : (m : Pages) (p : Part) (d : DriverState) (g : Guest) → p.status ≡ g.status
+    → IsIdleStatus g.status
+    → (first_refusal (stats_tests m p d) ≡ Some NotReady) × (refusal_of g Stats ≡ Some NotReady)
+stats_idle m p d g same down =
+    let P : ℕ → Type 0 =
+    λ s. first_refusal (stats_tests m (record p { status = s }) d) ≡ Some NotReady in
+    let G : ℕ → Type 0 = λ s. refusal_of (record g { status = s }) Stats ≡ Some NotReady in (
+      at_both P p.status (subst IsIdleStatus (sym same) down) refl refl,
+      at_both G g.status down refl refl,
+    )
+
+stats_refused : (m1 m2 : Pages) (p1 p2 : Part) (d1 d2 : DriverState) (g : Guest) (why : Refusal)
+    → FillsBy m1 m2 p1 p2 d1 d2 (Err why) → Honest m1 p1 d1 g
+    → first_refusal (stats_tests m1 p1 d1) ≡ refusal_of g Stats
+    → StepsAlone (Honest m2 p2 d2) g Stats (filled_reply (Err why))
+stats_refused m1 m2 p1 p2 d1 d2 g why did stands same =
+    let by_model : refusal_of g Stats ≡ Some why = sym (did.refusal ∙ same) in
+    refused_alone m1 m2 p1 p2 d1 d2 g Stats why stands by_model did.refused.mem
+    (did.refused.part ∙ unfailed why p1
+    (λ e. never_broken false (not (is_up g.status)) (not (stats_vq g.features))
+    (by_model ∙ ap Some e)))
+    did.refused.driver
+
+-- ---- the buffer wasn't used
+
+not_used : (m1 m2 : Pages) (p1 p2 : Part) (d1 d2 : DriverState) (g : Guest) (b : Buffer)
+    (filled : Bool)
+    → g.buffer ≡ b → used_answer m1 d1.statistics ≡ Ok None → Fills b g NotUsed g
+    → FillsBy m1 m2 p1 p2 d1 d2 (Ok filled) → Honest m1 p1 d1 g → refusal_of g Stats ≡ None
+    → StepsAlone (Honest m2 p2 d2) g Stats (filled_reply (Ok filled))
+not_used m1 m2 p1 p2 d1 d2 g b true is answer none did stands free =
+    absurd (let wrong = sym answer ∙ did.fills.used in cc)
+not_used m1 m2 p1 p2 d1 d2 g b false is answer none did stands free =
+    let F : Buffer → Type 0 = λ x. Fills x g NotUsed g in
+    steps_alone m1 m2 p1 p2 d1 d2 g Stats NotUsed g stands
+    (honest_performed g Stats [] NotUsed g free (refl, subst F (sym is) none))
+    (ties_same m1 m2 p1 p2 d1 d2 g did.fills.unchanged.mem did.fills.unchanged.part
+    did.fills.unchanged.driver stands.ties) refl
+
+-- ---- the used buffer is filled anew
+
+figures_same : (d : DriverState) (g : Guest) → d.places ≡ g.places → d.pages ≡ g.config.pages
+    → figures_of d ≡ figures g
+figures_same d g places pages =
+    ap (λ (l : List Place). (let f : Figures =
+    record { free = count_by is_free l * 4096; total = d.pages * 4096 } in f)) places
+    ∙ ap (λ (n : ℕ). (let f : Figures =
+    record { free = count_by is_free g.places * 4096; total = n * 4096 } in f)) pages
+
+refilled : (m1 m2 : Pages) (p1 p2 : Part) (d1 d2 : DriverState) (g : Guest) (old : Figures)
+    → g.buffer ≡ BufferDone old → Refills m1 m2 p1 p2 d1 d2 → Honest m1 p1 d1 g
+    → IsRunning m1 p1 d1 g → refusal_of g Stats ≡ None
+    → StepsAlone (Honest m2 p2 d2) g Stats Filled
+refilled m1 m2 p1 p2 d1 d2 g old is did stands run free =
+    let ties = stands.ties in
+    let n = g.config.pages in
+    let now : Figures = figures g in
+    let L : Buffer → Type 0 = λ b. BufferLine m1 d1.statistics p1.statistics b in
+    let line : L (BufferDone old) = subst L is run.statistics in
+    let table : d1.statistics.layout.table ≡ 2 =
+    ap (λ (l : Layout). l.table) line.stands.layout in
+    let rest : SameButPages m1 m2 2 12 =
+    subst (λ (t : ℕ). SameButPages m1 m2 t 12) table did.posts.rest in
+    let same : SamePages m1 m2 = record {
+      count = rest.count;
+      behind = rest.backing;
+      holds = λ p high. ap contents_of (rest.others p (omega arith) (omega arith));
+    } in
+    let new : Guest = record g { buffer = BufferPosted now } in
+    let F : Buffer → Type 0 = λ b. Fills b g Filled new in
+    let step = honest_performed g Stats [] Filled new free (refl, subst F (sym is) (refl, refl)) in
+    let after : DriverState = record d1 { statistics = d2.statistics } in
+    let emptied_line = buffer_emptied m1 d1.statistics p1.statistics old line did.takes in
+    let B : Figures → Type 0 = λ f. BufferLine m2 d2.statistics p1.statistics (BufferPosted f) in
+    let posted : B now =
+    subst B (figures_same d1 g ties.parts.driver.places ties.parts.driver.pages)
+    (buffer_posted m1 m2 (emptied d1.statistics) d2.statistics p1.statistics (figures_of d1)
+    emptied_line did.posts) in
+    let there : Ties m2 p1 after new = record {
+      parts = ties.parts;
+      pages = pages_same m1 m2 n _ _ same ties.pages;
+      queues = inr (record {
+        state = run.state;
+        backed = λ p lt. ap is_some (rest.backing p) ∙ run.backed p lt;
+        inflate_size = run.inflate_size;
+        deflate_size = run.deflate_size;
+        statistics_size = ap (λ (r : DriverEnd). r.size) did.posts.state ∙ run.statistics_size;
+        report_size = run.report_size;
+        inflate = line_apart m1 m2 0 n d1.inflate p1.inflate g.inflate (record {
+          ring = rest.others 0 (omega arith) (omega arith);
+          buffers = λ p from to. rest.others p (omega arith) (omega arith);
+        }) run.inflate;
+        deflate = line_apart m1 m2 1 n d1.deflate p1.deflate g.deflate (record {
+          ring = rest.others 1 (omega arith) (omega arith);
+          buffers = λ p from to. rest.others p (omega arith) (omega arith);
+        }) run.deflate;
+        statistics = posted;
+        report = report_apart m1 m2 n d1.report p1.report g.report
+            (rest.others 3 (omega arith) (omega arith)) run.report;
+      });
+    } in
+    steps_alone m1 m2 p1 p2 d1 d2 g Stats Filled new stands step
+    (ties_same m2 m2 p1 p2 after d2 new refl did.part did.state there) refl
+
+pub stats_step : (m1 m2 : Pages) (p1 p2 : Part) (d1 d2 : DriverState) (g : Guest)
+    (result : Result Bool Refusal) → FillsBy m1 m2 p1 p2 d1 d2 result → Honest m1 p1 d1 g
+    → StepsAlone (Honest m2 p2 d2) g Stats (filled_reply result)
+stats_step m1 m2 p1 p2 d1 d2 g result did stands =
+    elim stands.ties.queues [
+      | inl idle ↦
+          let both = stats_idle m1 p1 d1 g stands.ties.parts.device.status idle.state in
+          down result did both.0 both.1
+      | inr run ↦
+          let answer = ring_answer m1 2 d1.statistics p1.statistics.next_avail
+          p1.statistics.next_used _ _ (used_heads g.buffer) run.statistics.stands in
+          up result did run answer (stats_same m1 p1 d1 g (slice_get (used_heads g.buffer) 0)
+          stands.ties.parts.device.status stands.ties.parts.driver.accepted answer)
+    ]
+  where
+    down : (result : Result Bool Refusal) → FillsBy m1 m2 p1 p2 d1 d2 result
+        → first_refusal (stats_tests m1 p1 d1) ≡ Some NotReady → refusal_of g Stats ≡ Some NotReady
+        → StepsAlone (Honest m2 p2 d2) g Stats (filled_reply result)
+    down (Ok filled) did by_driver by_model = absurd (let wrong = did.refusal ∙ by_driver in cc)
+    down (Err why) did by_driver by_model =
+        stats_refused m1 m2 p1 p2 d1 d2 g why did stands (by_driver ∙ sym by_model)
+
+    by_buffer : (b : Buffer) (filled : Bool) → g.buffer ≡ b
+        → FillsBy m1 m2 p1 p2 d1 d2 (Ok filled)
+        → IsRunning m1 p1 d1 g → used_answer m1 d1.statistics ≡ Ok (slice_get (used_heads b) 0)
+        → refusal_of g Stats ≡ None
+        → StepsAlone (Honest m2 p2 d2) g Stats (filled_reply (Ok filled))
+    by_buffer (BufferDone old) true is did run answer free =
+        refilled m1 m2 p1 p2 d1 d2 g old is did.fills stands run free
+    by_buffer (BufferDone old) false is did run answer free =
+        absurd (let wrong = sym answer ∙ did.fills.unused in cc)
+    by_buffer NoBuffer filled is did run answer free =
+        not_used m1 m2 p1 p2 d1 d2 g NoBuffer filled is answer (refl, refl) did stands free
+    by_buffer (BufferPosted figures) filled is did run answer free =
+        not_used m1 m2 p1 p2 d1 d2 g (BufferPosted figures) filled is answer (refl, refl) did stands
+        free
+    by_buffer (BufferTaken figures) filled is did run answer free =
+        not_used m1 m2 p1 p2 d1 d2 g (BufferTaken figures) filled is answer (refl, refl) did stands
+        free
+
+    up : (result : Result Bool Refusal) → FillsBy m1 m2 p1 p2 d1 d2 result → IsRunning m1 p1 d1 g
+        → used_answer m1 d1.statistics ≡ Ok (slice_get (used_heads g.buffer) 0)
+        → first_refusal (stats_tests m1 p1 d1) ≡ refusal_of g Stats
+        → StepsAlone (Honest m2 p2 d2) g Stats (filled_reply result)
+    up (Err why) did run answer same = stats_refused m1 m2 p1 p2 d1 d2 g why did stands same
+    up (Ok filled) did run answer same =
+        by_buffer g.buffer filled refl did run answer (sym (did.refusal ∙ same))

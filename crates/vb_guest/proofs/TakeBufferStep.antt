@@ -1,0 +1,172 @@
+-- The slot's take of the statistics buffer is a step of the guest.
+use Rattle.std.specs.Prelude.{◌≡◌, ℕ, ◌*◌, List, [], length, Result, Ok, Option, Some}
+use Rattle.std.specs.Prelude.{None, slice_get, refl}
+use Rattle.std.proofs.Common.{sym, ◌∙◌, ap, subst, arith, inl, inr}
+use Rattle.vb_model.specs.declared.calls.Call.TheVariants.{Take}
+use Rattle.vb_model.specs.declared.replies.Refusal.{Refusal}
+use Rattle.vb_model.specs.declared.replies.Refusal.TheVariants.{NotReady}
+use Rattle.vb_model.specs.declared.replies.Reply.TheVariants.{Taken, Empty}
+use Rattle.vb_model.specs.Tests.{one_if}
+use Rattle.vb_model.specs.Requests.{Request, Figures, Buffer, NoBuffer, BufferPosted, BufferTaken}
+use Rattle.vb_model.specs.Requests.{BufferDone}
+use Rattle.vb_model.specs.Guest.{Guest, LastStatistics}
+use Rattle.vb_model.specs.Device.{TakesBuffer}
+use Rattle.vb_model.specs.Refusals.{refusal_of, is_taken}
+use Rattle.vb_ram.specs.Pages.{Pages}
+use Rattle.vb_ram.specs.Part.{Part}
+use Rattle.vb_ram.proofs.Limits.{config_limits}
+use Rattle.vb_chain.specs.Table.{descriptor_at}
+use Rattle.vb_chain.specs.Chain.{ChainGives}
+use Rattle.vb_driver.specs.State.{DriverState}
+use Rattle.vb_device.specs.Conditions.{take_refusal}
+use Rattle.vb_device.specs.Calls.{TakesBy, taking}
+use Rattle.vb_guest.specs.Buffer.{BufferLine, posted_heads, taken_requests}
+use Rattle.vb_guest.specs.Stands.{Honest, Ties, IsRunning}
+use Rattle.vb_guest.specs.Steps.{StepsAlone}
+use Rattle.vb_guest.specs.Replies.{taken_reply}
+use Rattle.vb_guest.proofs.BufferChain.{buffer_pieces, buffer_chain, buffer_names, buffer_says}
+use Rattle.vb_guest.proofs.BufferLines.{buffer_taken}
+use Rattle.vb_guest.proofs.Handing.{same_entry}
+use Rattle.vb_guest.proofs.RingTaken.{ring_next}
+use Rattle.vb_guest.proofs.SameRefusals.{take_same, take_idle}
+use Rattle.vb_guest.proofs.Closing.{honest_performed, steps_alone, refused_alone, ties_same}
+
+-- a refused take of any queue
+pub take_refused : (m1 m2 : Pages) (p1 p2 : Part) (d : DriverState) (g : Guest) (q : ℕ)
+    (why : Refusal) (result : Result (Option ℕ) Refusal)
+    → TakesBy q m1 m2 p1 p2 result → Honest m1 p1 d g → take_refusal q p1 ≡ Some why
+    → refusal_of g (Take q) ≡ Some why
+    → StepsAlone (Honest m2 p2 d) g (Take q) (taken_reply result)
+take_refused m1 m2 p1 p2 d g q why result did stands by_part by_model =
+    let (answer, part) = did.refused why by_part in
+    subst (λ r. StepsAlone (Honest m2 p2 d) g (Take q) (taken_reply r)) (sym answer)
+    (refused_alone m1 m2 p1 p2 d d g (Take q) why stands by_model did.memory part refl)
+
+-- no buffer is posted
+take_none : (m1 m2 : Pages) (p1 p2 : Part) (d : DriverState) (g : Guest) (b : Buffer)
+    (result : Result (Option ℕ) Refusal)
+    → g.buffer ≡ b → posted_heads b ≡ [] → TakesBuffer b g Empty g → TakesBy 2 m1 m2 p1 p2 result
+    → Honest m1 p1 d g → IsRunning m1 p1 d g → take_refusal 2 p1 ≡ None
+    → refusal_of g (Take 2) ≡ None
+    → StepsAlone (Honest m2 p2 d) g (Take 2) (taken_reply result)
+take_none m1 m2 p1 p2 d g b result is none empty did stands run free_part free =
+    let line = run.statistics in
+    let next = same_entry m1 2 p1.queue_size p1.statistics.next_avail d.statistics
+    line.stands.layout (stands.ties.parts.device.size ∙ sym run.statistics_size)
+    ∙ ring_next m1 2 d.statistics p1.statistics.next_avail p1.statistics.next_used _ _ _ line.stands
+    ∙ ap (λ (l : List ℕ). Ok (slice_get l 0)) (ap posted_heads is ∙ none) in
+    let (answer, part) = did.empty free_part next in
+    let T : Buffer → Type 0 = λ x. TakesBuffer x g Empty g in
+    let step = honest_performed g (Take 2) [] Empty g free (refl, subst T (sym is) empty) in
+    subst (λ r. StepsAlone (Honest m2 p2 d) g (Take 2) (taken_reply r)) (sym answer)
+    (steps_alone m1 m2 p1 p2 d d g (Take 2) Empty g stands step
+    (ties_same m1 m2 p1 p2 d d g did.memory part refl stands.ties) refl)
+
+-- the posted buffer is taken
+take_posted : (m1 m2 : Pages) (p1 p2 : Part) (d : DriverState) (g : Guest) (figures : Figures)
+    (result : Result (Option ℕ) Refusal)
+    → g.buffer ≡ BufferPosted figures → TakesBy 2 m1 m2 p1 p2 result
+    → Honest m1 p1 d g → IsRunning m1 p1 d g → take_refusal 2 p1 ≡ None
+    → refusal_of g (Take 2) ≡ None
+    → StepsAlone (Honest m2 p2 d) g (Take 2) (taken_reply result)
+take_posted m1 m2 p1 p2 d g figures result is did stands run free_part free =
+    let ties = stands.ties in
+    let said : LastStatistics =
+    record { free = Some figures.free; total = Some figures.total } in
+    let L : Buffer → Type 0 = λ b. BufferLine m1 d.statistics p1.statistics b in
+    let line : L (BufferPosted figures) = subst L is run.statistics in
+    let size = ties.parts.device.size ∙ sym run.statistics_size in
+    let next = same_entry m1 2 p1.queue_size p1.statistics.next_avail d.statistics
+    line.stands.layout size
+    ∙ ring_next m1 2 d.statistics p1.statistics.next_avail p1.statistics.next_used _ _ _
+    line.stands in
+    let limits = config_limits g.config.pages g.config.queue_size g.config.processors
+    ties.parts.guest.config in
+    let chain : ChainGives (descriptor_at m1 2) p1.queue_size (4096 * length m1) 0 buffer_pieces =
+    buffer_chain m1 2 p1.queue_size figures
+    (omega (arith, limits.pages_least, ties.pages.length_is))
+    (omega (arith, limits.queue_least, ties.parts.device.size)) line.figures in
+    let (answer, part) = did.takes 0 buffer_pieces [] free_part next chain buffer_names in
+    let new : Guest = record g { buffer = BufferTaken figures; last = said } in
+    let T : Buffer → Type 0 = λ b. TakesBuffer b g (Taken 0) new in
+    let step = honest_performed g (Take 2) [] (Taken 0) new free
+    (refl, subst T (sym is) (refl, refl)) in
+    let after : Part = taking 2 0 [] (record p1 { last = said }) in
+    let left : p2 ≡ after =
+    part ∙ ap (λ (l : LastStatistics). taking 2 0 [] (record p1 { last = l }))
+    (buffer_says m1 2 figures line.figures) in
+    let there : Ties m1 after d new = record {
+      parts = record {
+        guest = ties.parts.guest;
+        driver = ties.parts.driver;
+        device = record {
+          size = ties.parts.device.size;
+          paced = ties.parts.device.paced;
+          status = ties.parts.device.status;
+          features = ties.parts.device.features;
+          target = ties.parts.device.target;
+          actual = ties.parts.device.actual;
+          ballooned = ties.parts.device.ballooned;
+          last = refl;
+          loose = ties.parts.device.loose;
+        };
+      };
+      pages = ties.pages;
+      queues = inr (record {
+        state = run.state;
+        backed = run.backed;
+        inflate_size = run.inflate_size;
+        deflate_size = run.deflate_size;
+        statistics_size = run.statistics_size;
+        report_size = run.report_size;
+        inflate = run.inflate;
+        deflate = run.deflate;
+        statistics = buffer_taken m1 d.statistics p1.statistics figures line;
+        report = run.report;
+      });
+    } in
+    subst (λ x. StepsAlone (Honest m2 p2 d) g (Take 2) (taken_reply x)) (sym answer)
+    (steps_alone m1 m2 p1 p2 d d g (Take 2) (Taken 0) new stands step
+    (ties_same m1 m2 after p2 d d new did.memory left refl there) refl)
+
+taken_count : (b : Buffer) → length (taken_requests b) ≡ one_if (is_taken b)
+taken_count NoBuffer = refl
+taken_count (BufferPosted figures) = refl
+taken_count (BufferTaken figures) = refl
+taken_count (BufferDone figures) = refl
+
+pub take_buffer : (m1 m2 : Pages) (p1 p2 : Part) (d : DriverState) (g : Guest)
+    (result : Result (Option ℕ) Refusal)
+    → TakesBy 2 m1 m2 p1 p2 result → Honest m1 p1 d g
+    → StepsAlone (Honest m2 p2 d) g (Take 2) (taken_reply result)
+take_buffer m1 m2 p1 p2 d g result did stands =
+    elim stands.ties.queues [
+      | inl idle ↦
+          let both = (take_idle p1 g stands.ties.parts.device.status idle.state).0 in
+          take_refused m1 m2 p1 p2 d g 2 NotReady result did stands both.0 both.1
+      | inr run ↦
+          by_refusal (refusal_of g (Take 2)) refl run
+          (take_same 2 p1 g stands.ties.parts.device.status stands.ties.parts.device.features
+          (ap (λ (l : List Request). length l) run.statistics.remembers ∙ taken_count g.buffer))
+    ]
+  where
+    by_buffer : (b : Buffer) → g.buffer ≡ b → IsRunning m1 p1 d g → take_refusal 2 p1 ≡ None
+        → refusal_of g (Take 2) ≡ None
+        → StepsAlone (Honest m2 p2 d) g (Take 2) (taken_reply result)
+    by_buffer (BufferPosted figures) is run free_part free =
+        take_posted m1 m2 p1 p2 d g figures result is did stands run free_part free
+    by_buffer NoBuffer is run free_part free =
+        take_none m1 m2 p1 p2 d g NoBuffer result is refl (refl, refl) did stands run free_part free
+    by_buffer (BufferTaken figures) is run free_part free =
+        take_none m1 m2 p1 p2 d g (BufferTaken figures) result is refl (refl, refl) did stands run
+        free_part free
+    by_buffer (BufferDone figures) is run free_part free =
+        take_none m1 m2 p1 p2 d g (BufferDone figures) result is refl (refl, refl) did stands run
+        free_part free
+
+    by_refusal : (o : Option Refusal) → refusal_of g (Take 2) ≡ o → IsRunning m1 p1 d g
+        → take_refusal 2 p1 ≡ refusal_of g (Take 2)
+        → StepsAlone (Honest m2 p2 d) g (Take 2) (taken_reply result)
+    by_refusal (Some why) is run same =
+        take_refused m1 m2 p1 p2 d g 2 why result did stands (same ∙ is) is
+    by_refusal None is run same = by_buffer g.buffer refl run (same ∙ is) is

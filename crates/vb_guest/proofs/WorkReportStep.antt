@@ -1,0 +1,166 @@
+-- The visit of a report's page is a step of the guest.
+use Rattle.std.specs.Prelude.{◌≡◌, ℕ, ◌<◌, ◌≤◌, Bool, true, false, cond, List, [], ◌∷◌}
+use Rattle.std.specs.Prelude.{All, length, if◌then◌else◌, Result, Option, Some, None}
+use Rattle.std.specs.Prelude.{MatchOption, is_some}
+use Rattle.std.specs.Prelude.{slice_get, refl}
+use Rattle.std.specs.Option.{option_to_list}
+use Rattle.std.specs.List.{flat_map}
+use Rattle.std.proofs.Common.{sym, ◌∙◌, ap, subst, arith, inr}
+use Rattle.std.proofs.lemmas.List.Elements.{All-nil, All-cons, All-tail}
+use Rattle.std.proofs.lemmas.Option.{get_or_from_slice_get, slice_get_within}
+use Rattle.vb_model.specs.declared.calls.Call.TheVariants.{Work}
+use Rattle.vb_model.specs.declared.replies.Refusal.{Refusal}
+use Rattle.vb_model.specs.declared.replies.Reply.{Reply}
+use Rattle.vb_model.specs.declared.replies.Reply.TheVariants.{Worked}
+use Rattle.vb_model.specs.Pages.{Block}
+use Rattle.vb_model.specs.Requests.{Request, Inflating, Reporting_free}
+use Rattle.vb_model.specs.Guest.{Guest, frame_of}
+use Rattle.vb_model.specs.Device.{is_unvisited, visiting, next_page, visited}
+use Rattle.vb_model.specs.Orderly.{times}
+use Rattle.vb_model.specs.Refusals.{refusal_of}
+use Rattle.vb_model.proofs.CallSteps.{Idles, Visits as VisitsOf}
+use Rattle.vb_ram.specs.Pages.{Pages, page_at, frame_at, number_of}
+use Rattle.vb_ram.specs.Part.{Part}
+use Rattle.vb_driver.specs.State.{DriverState}
+use Rattle.vb_device.specs.declared.worked.Worked.{Worked as WorkedPage}
+use Rattle.vb_device.specs.Discards.{discarded, frames_behind}
+use Rattle.vb_device.specs.Calls.{Visits}
+use Rattle.vb_guest.specs.Reported.{IsReport}
+use Rattle.vb_guest.specs.Stands.{Honest, Ties, IsRunning}
+use Rattle.vb_guest.specs.Steps.{StepsFreeing}
+use Rattle.vb_guest.specs.Replies.{worked_reply}
+use Rattle.vb_guest.proofs.Apart.{line_apart, above_apart}
+use Rattle.vb_guest.proofs.BufferLines.{buffer_apart}
+use Rattle.vb_guest.proofs.ReportLines.{report_apart, report_visited}
+use Rattle.vb_guest.proofs.OwnBlocks.{own_pages}
+use Rattle.vb_guest.proofs.Discarding.{frames_freed}
+use Rattle.vb_guest.proofs.PagesKept.{pages_discarded, page_undiscarded}
+use Rattle.vb_guest.proofs.Handing.{handed_back, not_among, behind_same}
+use Rattle.vb_guest.proofs.Closing.{honest_performed, still_stands, guest_step, ties_same}
+
+-- the next page of a device of this pace
+abbrev pub visit_of : Bool → List Request → Option ℕ
+visit_of paced taken = if paced then next_page taken else None
+
+-- what a device does that would visit this page of an inflate, and this one of a report
+abbrev pub WorksOn : Option ℕ → Option ℕ → Guest → Reply → Guest → Type 0
+WorksOn a b g reply new =
+    MatchOption a (MatchOption b (Idles g reply new) (VisitsOf Reporting_free g reply new))
+    (VisitsOf Inflating g reply new)
+
+-- what holds of each page of each taken request holds of the next one
+pub next_taken : (P : ℕ → Type 0) (rs : List Request) (page : ℕ) → All (λ r. All P r.pages) rs
+    → next_page rs ≡ Some page → P page
+next_taken P [] page all e = absurd cc
+next_taken P (r ∷ rs) page all e =
+    step (is_unvisited r) e
+    (next_taken P rs page (All-tail (λ (x : Request). All P x.pages) r rs all))
+  where
+    step : (v : Bool) → cond v (slice_get r.pages r.visited) (next_page rs) ≡ Some page
+        → (next_page rs ≡ Some page → P page) → P page
+    step true is later =
+        subst P (get_or_from_slice_get r.pages r.visited page page is)
+        (all 0 r (omega arith) r.visited page (slice_get_within r.pages r.visited page is))
+    step false is later = later is
+
+-- the next page of a report is an unreserved one of the guest
+pub report_high : (paced : Bool) (descriptors n : ℕ) (blocks : List Block) (taken : List Request)
+    (page : ℕ) → All (IsReport descriptors n blocks) taken → visit_of paced taken ≡ Some page
+    → (16 ≤ page) × (page < n)
+report_high true descriptors n blocks taken page all e =
+    let H : ℕ → Type 0 = λ p. 16 ≤ p in
+    let L : ℕ → Type 0 = λ p. p < n in (
+      next_taken H taken page (λ k d lt. let is = all k d lt in
+          subst (All H) (sym is.names) (own_pages n blocks is.blocks_are).0) e,
+      next_taken L taken page (λ k d lt. let is = all k d lt in
+          subst (All L) (sym is.names) (own_pages n blocks is.blocks_are).1) e,
+    )
+report_high false descriptors n blocks taken page all e = absurd cc
+
+pub work_report : (m1 m2 : Pages) (p1 p2 : Part) (d : DriverState) (g : Guest) (page : ℕ)
+    (result : Result (Option WorkedPage) Refusal)
+    → Visits 4 page m1 m2 p1 p2 result → Honest m1 p1 d g → IsRunning m1 p1 d g
+    → refusal_of g Work ≡ None → visit_of g.config.paced g.inflate.taken ≡ None
+    → visit_of g.config.paced g.report.taken ≡ Some page
+    → StepsFreeing (Honest m2 (handed_back p2) d) p2.loose g Work (worked_reply result)
+work_report m1 m2 p1 p2 d g page result did stands run by_model none there =
+    let ties = stands.ties in
+    let n = g.config.pages in
+    let high = report_high g.config.paced d.report.ring.size n d.report.blocks g.report.taken page
+    run.report.taken there in
+    let one : List ℕ = page ∷ [] in
+    let bare = discarded one m1 in
+    let above : All (λ p. 16 ≤ p) one =
+    All-cons (λ p. 16 ≤ p) page [] high.0 (All-nil (λ p. 16 ≤ p)) in
+    let low : (p : ℕ) → p < 16
+    → page_at bare p ≡ page_at m1 p =
+    λ p lt. page_undiscarded one m1 p (not_among one p above lt) in
+    let new : Guest = visited Reporting_free page g in
+    let reply : Reply = Worked page (is_some (frame_at m1 page)) in
+    let W : Option ℕ → Type 0 =
+    λ a. WorksOn a (visit_of g.config.paced g.report.taken) g reply new in
+    let R : Option ℕ → Type 0 = λ b. WorksOn None b g reply new in
+    let step = honest_performed g Work [] reply new by_model (
+      refl,
+      subst W (sym none)
+          (subst R (sym there)
+          (ap (λ (o : Option ℕ). Worked page (is_some o)) (ties.pages.behind page), refl)),
+    ) in
+    let after : Part = handed_back
+    (record p1 { report = record p1.report { taken = visiting p1.report.taken } }) in
+    let part : handed_back p2 ≡ after = ap handed_back did.part in
+    let fresh : Ties bare after d new = record {
+      parts = record {
+        guest = ties.parts.guest;
+        driver = ties.parts.driver;
+        device = record {
+          size = ties.parts.device.size;
+          paced = ties.parts.device.paced;
+          status = ties.parts.device.status;
+          features = ties.parts.device.features;
+          target = ties.parts.device.target;
+          actual = ties.parts.device.actual;
+          ballooned = ties.parts.device.ballooned;
+          last = ties.parts.device.last;
+          loose = refl;
+        };
+      };
+      pages = pages_discarded m1 n g.frames g.contents one ties.pages;
+      queues = inr (record {
+        state = run.state;
+        backed = λ p lt. ap is_some (ap number_of (low p (omega arith))) ∙ run.backed p lt;
+        inflate_size = run.inflate_size;
+        deflate_size = run.deflate_size;
+        statistics_size = run.statistics_size;
+        report_size = run.report_size;
+        inflate = line_apart m1 bare 0 n d.inflate p1.inflate g.inflate
+            (above_apart m1 bare 0 (omega arith) (omega arith) low) run.inflate;
+        deflate = line_apart m1 bare 1 n d.deflate p1.deflate g.deflate
+            (above_apart m1 bare 1 (omega arith) (omega arith) low) run.deflate;
+        statistics = buffer_apart m1 bare d.statistics p1.statistics g.buffer (low 2 (omega arith))
+            (low 12 (omega arith)) run.statistics;
+        report = report_visited bare n d.report p1.report g.report
+            (report_apart m1 bare n d.report p1.report g.report (low 3 (omega arith)) run.report);
+      });
+    } in
+    let numbers : (k : ℕ)
+    → times k p2.loose ≡ times k (frames_behind m1 one) =
+    λ k. did.loose k in
+    let behind : frames_behind m1 one
+    ≡ flat_map (λ page. option_to_list (frame_of g.frames page)) one =
+    behind_same m1 g.frames one ties.pages.behind in
+    let F : ℕ → Type 0 = λ p. p < length g.frames in
+    subst (λ x. StepsFreeing (Honest m2 (handed_back p2) d) p2.loose g Work (worked_reply x))
+    (sym did.answer) (record {
+      new = new;
+      stands = still_stands m1 m2 p1 (handed_back p2) d d g Work [] reply new stands step
+          (ties_same bare m2 after (handed_back p2) d d new did.memory part refl fresh);
+      step = guest_step g Work [] reply new ties.parts.guest.honest step;
+      freed = λ k. omega (
+        arith,
+        numbers k,
+        ap (times k) behind,
+        frames_freed k one g.frames (refl, tt)
+            (All-cons F page [] (omega (arith, high.1, ties.pages.framed)) (All-nil F)),
+      );
+    })

@@ -1,0 +1,38 @@
+-- What the driver, the device and guest memory say together of the queue of reports (profile).
+use Rattle.std.specs.Prelude.{◌≡◌, ℕ, ◌+◌, ◌<◌, ◌≤◌, List, All, length}
+use Rattle.vb_model.specs.declared.layout.TheConstants.{REPORT_QUEUE}
+use Rattle.vb_model.specs.Limits.{max_outstanding, max_order, reserved_pages}
+use Rattle.vb_model.specs.Layout.{ring_page}
+use Rattle.vb_model.specs.Pages.{Block, size, pages_of_all}
+use Rattle.vb_model.specs.Requests.{Request, Requests}
+use Rattle.vb_ram.specs.Pages.{Pages}
+use Rattle.vb_ram.specs.Part.{QueuePart}
+use Rattle.vb_driver.specs.Coding.{AreReported}
+use Rattle.vb_driver.specs.State.{ReportSide}
+use Rattle.vb_guest.specs.Line.{RingOf}
+
+-- A block of a guest of so many pages, above the reserved ones.
+pub record IsOwnBlock (count : ℕ) (b : Block) : Type 0 where
+  pub order : b.order ≤ max_order
+  pub above : reserved_pages ≤ b.start
+  pub below : b.start + size b ≤ count
+
+-- The request is the report of these blocks, for which a table of so many descriptors has room.
+pub record IsReport (descriptors count : ℕ) (blocks : List Block) (r : Request) : Type 0 where
+  pub head : r.head ≡ 0
+  pub names : r.pages ≡ pages_of_all blocks
+  pub some : 0 < length blocks
+  pub few : length blocks ≤ max_outstanding
+  pub inside : length blocks ≤ descriptors
+  pub blocks_are : All (IsOwnBlock count) blocks
+
+-- The report that is out, if one is, is that of the blocks which the driver remembers; while it is
+-- posted, the queue's table has its chain.
+pub record ReportLine (mem : Pages) (count : ℕ) (side : ReportSide) (part : QueuePart)
+    (rs : Requests) : Type 0 where
+  pub ring : RingOf mem REPORT_QUEUE side.ring part rs
+  pub posted : All (IsReport side.ring.size count side.blocks) rs.posted
+  pub taken : All (IsReport side.ring.size count side.blocks) rs.taken
+  pub done : All (IsReport side.ring.size count side.blocks) rs.done
+  pub coded : All (λ r. AreReported mem (ring_page REPORT_QUEUE) side.blocks) rs.posted
+  pub remembers : part.taken ≡ rs.taken
