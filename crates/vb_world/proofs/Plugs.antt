@@ -1,5 +1,5 @@
 -- A host is made, and guests are plugged in.
-use Rattle.std.proofs.Common.{◌≡◌, ℕ, zero, suc, ◌+◌, ◌<◌, ◌≤◌, ◌^◌, Bool, true, false, cond, List}
+use Rattle.std.proofs.Common.{◌≡◌, ℕ, suc, ◌+◌, ◌<◌, ◌≤◌, ◌^◌, Bool, true, false, cond, List}
 use Rattle.std.proofs.Common.{[], ◌∷◌, length, get_or, map, refl, sym, ap, subst, ◌∙◌, inl, inr}
 use Rattle.std.proofs.Common.{arith, Option, Some, None, is_some, count_by, All}
 use Rattle.std.specs.Prelude.{◌==◌, MatchOption, replicate, ⊤, nat_le, if◌then◌else◌}
@@ -18,7 +18,6 @@ use Rattle.vb_model.specs.Guest.{Guest, Config, fresh}
 use Rattle.vb_model.specs.World.{World, guest_at, with_guest, made, Plugs, PlugsIn, WorldStep}
 use Rattle.vb_model.specs.World.{plugged_count, has_no_spare}
 use Rattle.vb_model.proofs.Changes.{with_guest-same, with_guest-other}
-use Rattle.vb_model.proofs.Tables.{count_by-cons}
 use Rattle.vb_frames.specs.Out.{is_out}
 use Rattle.vb_ram.specs.Pages.{Pages}
 use Rattle.vb_ram.specs.Part.{Part}

@@ -12,8 +12,8 @@ pub returns-in-None : goal.returns-in-None
 returns-in-None g c =
     λ w host. no_guest_query _ _ _ _ _ w c.args.guest _ host (sym c.in-None.ensures)
 
-pub query-requires-clause-stands : goal.query-requires-clause-stands
-query-requires-clause-stands g c =
+pub query-requires : goal.query-requires
+query-requires g c =
     let (w, host) = c.requires.world in
     let has = guest_of _ _ _ _ _ w c.args.guest c.in-Some.slot.now host (sym c.in-Some.ensures) in
-    (false, has.guest, has.stands)
+    record { stands = (false, has.guest, has.stands) }
