@@ -3,6 +3,8 @@
 
 mod level;
 mod set;
+#[cfg(test)]
+mod tests;
 mod word;
 
 pub use set::{BitSet, MAX_BOUND};
