@@ -64,8 +64,9 @@ found_from word bit l fits some =
       from = from;
       within = lowest.0;
       one = one_bit word found (sym (rest_from word bit found l from lowest.0) ∙ lowest.1);
-      lowest = λ k after before. no_bit word k
-          (sym (rest_from word bit k l after (omega (arith, before, lowest.0))) ∙ lowest.2 k before);
+      lowest = λ k after before.
+          let inside : k < 64 = omega (arith, before, lowest.0) in
+          no_bit word k (sym (rest_from word bit k l after inside) ∙ lowest.2 k before);
     }
 
 -- `MAX >> (64 - count)` has its lowest bits 1, so many of them

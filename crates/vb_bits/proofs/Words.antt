@@ -1,7 +1,7 @@
 -- The flags that words stand for.
-use Rattle.std.proofs.Common.{◌≡◌, ◌≢◌, ℕ, ◌+◌, ◌-◌, ◌*◌, ◌/◌, ◌%◌, ◌^◌, ◌<◌, ◌≤◌, Bool, true, false}
+use Rattle.std.proofs.Common.{◌≡◌, ◌≢◌, ℕ, ◌+◌, ◌-◌, ◌*◌, ◌/◌, ◌%◌, ◌^◌, ◌<◌, ◌≤◌, Bool, true}
 use Rattle.std.proofs.Common.{List, length, get_or, set, replicate, eqb, ltb, not, sym, ap, ◌∙◌}
-use Rattle.std.proofs.Common.{◌↔◌, inl, inr, arith}
+use Rattle.std.proofs.Common.{◌↔◌, false, inl, inr, arith}
 use Rattle.std.specs.Int.{bit_at}
 use Rattle.std.proofs.lemmas.Bool.{cases_lt, not-false, eqb-true, eq-eqb}
 use Rattle.std.proofs.lemmas.Bool.Decides.{eqb_tells, nat_tests}
@@ -19,6 +19,11 @@ use Rattle.vb_bits.proofs.Bits.{one_bit, no_bit}
 pub length-flags : (bound : ℕ) (words : List ℕ) → length (flags_of bound words) ≡ bound
 unfolding flags_of
 length-flags bound words = length-map-range_with_len (in_words words) 0 bound
+
+-- the bound is how many flags there are
+pub bound_is : (bound : ℕ) (words : List ℕ) (flags : List Bool) → flags_of bound words ≡ flags
+    → bound ≡ length flags
+bound_is bound words flags e = sym (length-flags bound words) ∙ ap length e
 
 pub has_flag : (bound : ℕ) (words : List ℕ) → AreWordsOf bound words → (n : ℕ)
     → has (flags_of bound words) n ≡ in_words words n

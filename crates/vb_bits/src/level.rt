@@ -1,6 +1,6 @@
 //! A set of numbers as the bits of words, without a summary.
 
-ghost use Rattle.std.specs.Prelude.{◌≡◌, ℕ, ◌+◌, ◌-◌, ◌*◌, ◌/◌, ◌<◌, ◌≤◌, ◌↔◌, true, false, List};
+ghost use Rattle.std.specs.Prelude.{◌≡◌, ℕ, ◌+◌, ◌*◌, ◌/◌, ◌<◌, ◌≤◌, ◌↔◌, true, false};
 ghost use Rattle.std.specs.Prelude.{length, replicate, slice_index, slice_set, IfOk};
 ghost use Rattle.vb_model.specs.Tests.{has_bit};
 ghost use Rattle.vb_bits.specs.Sets.{has, HasNoneIn, IsNextInWord};

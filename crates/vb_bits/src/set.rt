@@ -1,6 +1,6 @@
 //! A set of numbers with a count and a summary.
 
-ghost use Rattle.std.specs.Prelude.{◌≡◌, ◌==◌, ℕ, ◌+◌, ◌-◌, ◌*◌, ◌/◌, ◌<◌, ◌≤◌, true, false, List, Bool};
+ghost use Rattle.std.specs.Prelude.{◌≡◌, ◌==◌, ℕ, ◌+◌, ◌*◌, ◌<◌, ◌≤◌, true, false, List, Bool};
 ghost use Rattle.std.specs.Prelude.{length, not, replicate, count_by, slice_index, slice_set, IfOk};
 ghost use Rattle.std.specs.Option.{ForSome};
 ghost use Rattle.vb_model.specs.Tests.{has_bit};

@@ -1,6 +1,6 @@
 //! A table of a host's frames.
 
-ghost use Rattle.std.specs.Prelude.{◌≡◌, ℕ, ◌<◌, ◌≤◌, true, false, List, Bool};
+ghost use Rattle.std.specs.Prelude.{◌≡◌, ◌<◌, ◌≤◌, true, false, List, Bool};
 ghost use Rattle.std.specs.Prelude.{length, replicate, IfOk, count_by};
 ghost use Rattle.vb_model.specs.declared.calls.Claim.{Claim};
 ghost use Rattle.vb_model.specs.World.{Gives};
@@ -13,8 +13,8 @@ use vb_bits::BitSet;
 use vb_model::limits::MAX_FRAMES;
 use vb_ram::Frame;
 
-/// The frames of a host, numbered from 0 on. A claim gives the least number that isn't out; it
-/// looks at three words, however many frames there are.
+/// The frames of a host, numbered from 0 on. A claim gives the least number that isn't out, which
+/// three words tell, however many frames there are.
 #[derive(Drop)]
 pub struct FrameTable {
     /// Where the frames' bytes come from.

@@ -1,6 +1,6 @@
-use Rattle.std.proofs.Common.{length, sym, ap, ◌∙◌}
-use Rattle.vb_bits.proofs.Words.{length-flags}
+use Rattle.vb_bits.proofs.Words.{bound_is}
 use Rattle.vb_bits.proofs.level.Level.bound.Goals as goal
 
 pub returns : goal.returns
-returns c = sym (length-flags c.self.inside.bound c.self.inside.words.items) ∙ ap length c.self.view_is
+returns c =
+    bound_is c.self.inside.bound c.self.inside.words.items c.args.self.now c.self.view_is

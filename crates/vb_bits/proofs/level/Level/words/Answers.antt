@@ -1,24 +1,22 @@
-use Rattle.std.proofs.Common.{◌≡◌, ◌+◌, ◌*◌, ℕ, List, Bool, length, get_or, sym, ap, ◌∙◌, arith}
+use Rattle.std.proofs.Common.{◌≡◌, ◌+◌, ◌*◌, ℕ, List, Bool, length, get_or, ap, ◌∙◌, arith}
 use Rattle.vb_model.specs.Tests.{has_bit}
 use Rattle.vb_bits.specs.Sets.{has}
-use Rattle.vb_bits.proofs.Words.{length-flags, bit_is_flag}
+use Rattle.vb_bits.proofs.Words.{bound_is, bit_is_flag}
 use Rattle.vb_bits.proofs.level.Level.words.Goals as goal
 
 pub returns-clause-enough : goal.returns-clause-enough
 returns-clause-enough c =
     let items = c.self.inside.words.items in
-    let len : length c.args.self.now ≡ c.self.inside.bound =
-    sym (ap length c.self.view_is) ∙ length-flags c.self.inside.bound items in
+    let bound = bound_is c.self.inside.bound items c.args.self.now c.self.view_is in
     let same : length c.deref.result.now ≡ length items = ap length c.deref.ensures.value in
-    omega (arith, c.self.invariant.enough)
+    omega (arith, bound, c.self.invariant.enough)
 
 pub returns-clause-fewest : goal.returns-clause-fewest
 returns-clause-fewest c =
     let items = c.self.inside.words.items in
-    let len : length c.args.self.now ≡ c.self.inside.bound =
-    sym (ap length c.self.view_is) ∙ length-flags c.self.inside.bound items in
+    let bound = bound_is c.self.inside.bound items c.args.self.now c.self.view_is in
     let same : length c.deref.result.now ≡ length items = ap length c.deref.ensures.value in
-    omega (arith, c.self.invariant.fewest)
+    omega (arith, bound, c.self.invariant.fewest)
 
 pub returns-clause-bits : goal.returns-clause-bits
 returns-clause-bits c = λ w b l.
