@@ -1,3 +1,3 @@
-pub mod Grouping
+pub mod Free
 pub mod Least
 pub mod Returns

@@ -43,9 +43,11 @@ impl FrameKeeper for Refusing {
 /// Two frames, or none: what two claims of any keeper come to.
 fn claim_two<K: FrameKeeper>(keeper: &mut K) -> Result<(Frame, Frame), Refused>
     ensures answers { IfOk result (λ frames.
-        AllAnswered K.answers (K.out keeper.old) (Gave frames.0.number ∷ Gave frames.1.number ∷ [])) }
+        AllAnswered K.answers (K.out keeper.old)
+        (Gave frames.0.number ∷ Gave frames.1.number ∷ [])) }
     ensures ok { IfOk result (λ frames.
-        K.out keeper.new ≡ after_claims (K.out keeper.old) (Gave frames.0.number ∷ Gave frames.1.number ∷ [])) }
+        K.out keeper.new ≡ after_claims (K.out keeper.old)
+        (Gave frames.0.number ∷ Gave frames.1.number ∷ [])) }
     ensures others { IfOk result (λ frames. frames.0.number ≢ frames.1.number) }
     ensures err { OnErr result (K.out keeper.new ≡ K.out keeper.old) }
 {

@@ -1,0 +1,11 @@
+//! Sets of numbers below a bound, as bits of 64-bit words with a summary above them.
+#![tactic(auto)]
+
+mod level;
+mod set;
+#[cfg(test)]
+mod tests;
+mod word;
+
+pub use set::{BitSet, MAX_BOUND};
+pub use word::WORD_BITS;

@@ -1,0 +1,70 @@
+//! The bits of one word.
+
+ghost use Rattle.std.specs.Prelude.{◌≡◌, ◌≢◌, ℕ, ◌<◌, ◌≤◌, true, false, MatchOption, nat_lt};
+ghost use Rattle.vb_model.specs.Tests.{has_bit};
+ghost use Rattle.vb_bits.specs.Words.{IsLowestFrom};
+
+/// Bits of a word, so many numbers stand in one.
+pub const WORD_BITS: u32 = 64;
+
+/// Whether the bit is 1.
+pub fn is_one(word: u64, bit: u32) -> bool
+    requires { bit < WORD_BITS }
+    ensures { result ≡ has_bit word bit }
+{
+    word >> bit & 1 == 1
+}
+
+/// The word with the bit made 1.
+fn with_one(word: u64, bit: u32) -> u64
+    requires { bit < WORD_BITS }
+    ensures same { has_bit result bit ≡ true }
+    ensures others { (k : ℕ) → k < WORD_BITS → k ≢ bit → has_bit result k ≡ has_bit word k }
+{
+    word | 1 << bit
+}
+
+/// The word with the bit made 0.
+fn with_zero(word: u64, bit: u32) -> u64
+    requires { bit < WORD_BITS }
+    ensures same { has_bit result bit ≡ false }
+    ensures others { (k : ℕ) → k < WORD_BITS → k ≢ bit → has_bit result k ≡ has_bit word k }
+{
+    word & !(1 << bit)
+}
+
+/// The word with the bit made 1 or 0.
+pub fn with_bit(word: u64, bit: u32, one: bool) -> u64
+    requires { bit < WORD_BITS }
+    ensures same { has_bit result bit ≡ one }
+    ensures others { (k : ℕ) → k < WORD_BITS → k ≢ bit → has_bit result k ≡ has_bit word k }
+{
+    if one {
+        with_one(word, bit)
+    } else {
+        with_zero(word, bit)
+    }
+}
+
+/// The lowest bit that is 1, from this one on.
+pub fn lowest_from(word: u64, bit: u32) -> Option<u32>
+    requires { bit < WORD_BITS }
+    ensures { MatchOption result ((k : ℕ) → bit ≤ k → k < WORD_BITS → has_bit word k ≡ false)
+        (λ found. IsLowestFrom word bit found) }
+{
+    let rest = word & (u64::MAX << bit);
+    if rest == 0 {
+        None
+    } else {
+        Some(rest.trailing_zeros())
+    }
+}
+
+/// A word whose lowest bits are 1, so many of them, 1 to 64.
+pub fn low_ones(count: u32) -> u64
+    requires some { 0 < count }
+    requires few { count ≤ WORD_BITS }
+    ensures { (k : ℕ) → k < WORD_BITS → has_bit result k ≡ nat_lt k count }
+{
+    u64::MAX >> (WORD_BITS - count)
+}
