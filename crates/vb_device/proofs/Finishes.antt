@@ -19,7 +19,7 @@ use Rattle.vb_model.specs.Tables.{has_chains, has_unvisited}
 use Rattle.vb_device.specs.Conditions.{finish_refusal, taken_at}
 use Rattle.vb_device.specs.Queues.{queue_end, with_queue}
 use Rattle.vb_model.specs.Guest.{LastStatistics}
-use Rattle.vb_device.specs.QueueState.{QueueState, part_of, taken_refusal}
+use Rattle.vb_request.specs.QueueState.{QueueState, part_of, taken_refusal}
 use Rattle.vb_device.specs.Discards.{discarded}
 use Rattle.vb_device.specs.Base.{place_of, queue_at, base_part, numbers_of_frames, IsDeviceQueue, IsBase}
 use Rattle.vb_device.specs.Base.{with_pace}

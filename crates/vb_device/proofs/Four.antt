@@ -11,7 +11,7 @@ use Rattle.vb_model.proofs.Queues.{queue_cases, no_chains_at, no_requests_at}
 use Rattle.vb_ring.specs.declared.layout.Layout.{Layout}
 use Rattle.vb_ring.specs.Layout.{layout_of}
 use Rattle.vb_device.specs.Queues.{queue_part, with_queue}
-use Rattle.vb_device.specs.QueueState.{QueueState, part_of, started, restarted}
+use Rattle.vb_request.specs.QueueState.{QueueState, part_of, started, restarted}
 use Rattle.vb_device.specs.Base.{place_of, queue_at, base_part, IsDeviceQueue, IsBase}
 
 true_false : (b : Bool) → b ≡ true → b ≡ false → ⊥

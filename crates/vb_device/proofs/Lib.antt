@@ -1,12 +1,8 @@
-pub mod Chains
-pub mod Takes
 pub mod Four
 pub mod TakesBy
 pub mod Finishes
-pub mod FromNext
 pub mod Discards
 pub mod Sizes
 pub mod Marks
 pub mod LooseFrames
 pub mod Over
-pub mod Visits

@@ -23,15 +23,14 @@ use Rattle.vb_ring.specs.Layout.{layout_of}
 use Rattle.vb_ring.specs.Entries.{next_entry}
 use Rattle.vb_device.specs.Queues.{queue_part, with_queue, next_available}
 use Rattle.vb_device.specs.Conditions.{take_refusal, finish_refusal}
-use Rattle.vb_device.specs.Faults.{Breaks, rule_of, needing_reset}
-use Rattle.vb_device.specs.QueueState.{QueueState, part_of, with_request, next_of, IsChainOf}
-use Rattle.vb_device.specs.QueueState.{IsFaultOf, is_full, NextMeans, Leaves, TakesNext}
-use Rattle.vb_device.specs.QueueState.{status_after}
+use Rattle.vb_device.specs.Faults.{Breaks, rule_of, needing_reset, status_after}
+use Rattle.vb_request.specs.QueueState.{QueueState, part_of, with_request, next_of, IsChainOf}
+use Rattle.vb_request.specs.QueueState.{IsFaultOf, is_full, NextMeans, Leaves, TakesNext}
 use Rattle.vb_device.specs.Base.{place_of, queue_at, base_part, IsDeviceQueue, IsBase}
 use Rattle.vb_device.specs.BaseCalls.{readiness_refusal, queue_refusal, take_refusal_by}
 use Rattle.vb_device.specs.Calls.{HasChain, HasFault, taking, noted, noting, TakeMeans, TakesBy}
 use Rattle.vb_device.proofs.Four.{at_each, part_get, part_set, set_here, set_same, base_set}
-use Rattle.vb_device.proofs.FromNext.{KeepsRing}
+use Rattle.vb_request.proofs.FromNext.{KeepsRing}
 
 -- ---- refusals
 

@@ -11,7 +11,7 @@ use Rattle.vb_model.specs.Status.{contains, driver_ok}
 use Rattle.vb_ram.specs.Pages.{Page, Pages}
 use Rattle.vb_ram.specs.Part.{Part, no_part}
 use Rattle.vb_ring.specs.Layout.{layout_of}
-use Rattle.vb_device.specs.QueueState.{QueueState, part_of, no_ring}
+use Rattle.vb_request.specs.QueueState.{QueueState, part_of, no_ring}
 
 abbrev pub numbers_of_frames : List Page → List ℕ
 numbers_of_frames frames = map (λ frame. frame.number) frames

@@ -13,7 +13,7 @@ use Rattle.vb_model.specs.Layout.{ring_page}
 use Rattle.vb_model.specs.Tests.{times}
 use Rattle.vb_model.specs.Limits.{page_size}
 use Rattle.vb_model.specs.Requests.{Request}
-use Rattle.vb_model.specs.Guest.{LastStatistics, no_statistics, zero_page}
+use Rattle.vb_model.specs.Guest.{no_statistics, zero_page}
 use Rattle.vb_model.specs.Device.{visiting, next_page}
 use Rattle.vb_ram.specs.declared.config.Config.{Config}
 use Rattle.vb_ram.specs.Pages.{Page, Pages, frame_at}
@@ -32,9 +32,8 @@ use Rattle.vb_device.specs.Conditions.{ask_refusal, sweep_refusal, taken_at}
 use Rattle.vb_device.specs.Faults.{Breaks, needing_reset}
 use Rattle.vb_device.specs.Own.{has, without, SameSet}
 use Rattle.vb_device.specs.Discards.{discarded, frames_behind, flagged}
-use Rattle.vb_request.specs.Request.{page_request, each_once}
-use Rattle.vb_request.specs.Statistics.{statistics_request, statistics_in}
-use Rattle.vb_request.specs.Report.{report_request}
+use Rattle.vb_request.specs.Request.{each_once}
+pub use Rattle.vb_request.specs.Chains.{request_of, noted}
 
 -- ---- attach
 
@@ -81,17 +80,6 @@ taking q h pages part =
       taken = (queue_part q part).taken ++ (record { head = h; pages = pages; visited = 0 } ∷ []);
     })
     part
-
--- The pages that a chain of these pieces names on a queue, or what is wrong with it there: a buffer of
--- statistics names none.
-abbrev pub request_of : ℕ → Pages → List Piece → Result (List ℕ) ChainFault
-request_of q mem pieces =
-    if q == STATISTICS_QUEUE then statistics_request pieces
-    else (if q == REPORT_QUEUE then report_request pieces else page_request mem pieces)
-
--- A buffer of statistics replaces what the device knew of its guest's memory.
-abbrev pub noted : ℕ → Pages → List Piece → LastStatistics → LastStatistics
-noted q mem pieces last = if q == STATISTICS_QUEUE then statistics_in mem pieces else last
 
 abbrev pub noting : ℕ → Pages → List Piece → Part → Part
 noting q mem pieces part = record part { last = noted q mem pieces part.last }

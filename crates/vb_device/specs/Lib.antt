@@ -5,6 +5,5 @@ pub mod Faults
 pub mod Own
 pub mod Discards
 pub mod Calls
-pub mod QueueState
 pub mod Base
 pub mod BaseCalls

@@ -27,11 +27,10 @@ ghost use Rattle.vb_device.specs.Calls.{IsUnused, attached, TakesBy, AsksBy};
 ghost use Rattle.vb_request.specs.Request.{each_once};
 ghost use Rattle.vb_device.specs.Calls.{without_frames};
 ghost use Rattle.vb_device.specs.Discards.{discarded, frames_behind};
-ghost use Rattle.vb_device.specs.QueueState.{status_after, started, restarted};
+ghost use Rattle.vb_device.specs.Faults.{status_after};
+ghost use Rattle.vb_request.specs.QueueState.{started, restarted};
 
 use crate::flags::PageFlags;
-use crate::queue::DeviceQueue;
-use crate::taken::TakenRequest;
 use crate::{Statistics, Worked};
 use bitflags::Flags;
 use std::alloc::{AllocError, Global};
@@ -42,6 +41,7 @@ use vb_model::layout::{
 };
 use vb_model::{Refusal, limits};
 use vb_ram::{Config, Frame, GuestBytes, Ram, RamFault, SupplyRefused};
+use vb_request::{DeviceQueue, TakenRequest};
 use vb_status::{Features, Port, Status, StatusFault, negotiate, write_status};
 
 /// A device but for the set of its ballooned pages.

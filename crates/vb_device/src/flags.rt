@@ -7,10 +7,10 @@ ghost use Rattle.vb_model.specs.Tests.{one_if};
 ghost use Rattle.vb_device.specs.BaseCalls.{flags_after};
 ghost use Rattle.vb_device.specs.Discards.{flagged};
 
-use crate::taken::TakenRequest;
 use std::alloc::{AllocError, Global};
 use std::marker::Model;
 use vb_model::layout::{INFLATE_QUEUE, REPORT_QUEUE};
+use vb_request::TakenRequest;
 
 /// A flag for each page of a guest.
 #[derive(Drop)]

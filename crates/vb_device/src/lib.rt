@@ -8,8 +8,6 @@ mod claimed;
 mod device;
 mod flags;
 mod pace;
-mod queue;
-mod taken;
 #[cfg(test)]
 mod tests;
 mod worked;

@@ -4,3 +4,7 @@ pub mod RequestPages
 pub mod OneRequest
 pub mod Reports
 pub mod LastStatistics
+pub mod Chains
+pub mod Takes
+pub mod FromNext
+pub mod Visits

@@ -1,3 +1,5 @@
 pub mod Request
 pub mod Statistics
 pub mod Report
+pub mod Chains
+pub mod QueueState

@@ -10,9 +10,11 @@
 mod buffer;
 mod laws;
 mod named;
+mod queue;
 mod report;
 mod request;
 mod statistics;
+mod taken;
 #[cfg(test)]
 mod tests;
 
@@ -21,6 +23,8 @@ pub use laws::{
     a_written_request_is_read,
 };
 pub use named::NamedPages;
+pub use queue::DeviceQueue;
 pub use report::read_report;
 pub use request::read_request;
 pub use statistics::{Statistics, read_statistics};
+pub use taken::TakenRequest;

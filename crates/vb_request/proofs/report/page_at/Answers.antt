@@ -1,4 +1,4 @@
-use Rattle.std.proofs.Common.{◌≡◌, ◌≤◌, ◌∙◌, List, sym, ap, arith, length, take}
+use Rattle.std.proofs.Common.{◌≡◌, ◌≤◌, List, sym, ap, arith, length, take}
 use Rattle.std.proofs.lemmas.List.{take_all}
 use Rattle.std.proofs.lemmas.Option.{slice_get_past}
 use Rattle.vb_chain.specs.declared.pieces.Piece.{Piece}

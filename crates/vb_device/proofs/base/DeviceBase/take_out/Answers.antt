@@ -13,7 +13,7 @@ use Rattle.vb_device.proofs.Discards.{few_frames}
 use Rattle.vb_ram.specs.Pages.{Page, Pages, frame_at}
 use Rattle.vb_status.specs.Bits.{status_bits, feature_bits}
 use Rattle.vb_device.specs.State.{DeviceState}
-use Rattle.vb_device.specs.QueueState.{QueueState, taken_refusal}
+use Rattle.vb_request.specs.QueueState.{QueueState, taken_refusal}
 use Rattle.vb_device.specs.Base.{place_of, queue_at, base_part, numbers_of_frames, with_pace, IsBase}
 use Rattle.vb_device.specs.BaseCalls.{queue_refusal, TakesOut, CanUse}
 use Rattle.vb_device.proofs.Four.{entry_is, set_same}

@@ -5,7 +5,7 @@ use Rattle.vb_model.specs.Status.{contains, driver_ok}
 use Rattle.vb_status.specs.Bits.{status_bits, feature_bits}
 use Rattle.vb_ring.specs.Calls.{AddsUsedBy}
 use Rattle.vb_device.specs.State.{DeviceState}
-use Rattle.vb_device.specs.QueueState.{QueueState}
+use Rattle.vb_request.specs.QueueState.{QueueState}
 use Rattle.vb_device.specs.Base.{queue_at, base_part}
 use Rattle.vb_device.specs.BaseCalls.{UsesChain}
 use Rattle.vb_device.proofs.Four.{entry_is}

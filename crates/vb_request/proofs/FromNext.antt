@@ -11,7 +11,7 @@ use Rattle.vb_chain.specs.declared.fault.ChainFault.{ChainFault}
 use Rattle.vb_chain.specs.declared.fault.ChainFault.TheVariants.{IndexJump}
 use Rattle.vb_ring.specs.declared.layout.Layout.{Layout}
 use Rattle.vb_ring.specs.Entries.{next_by, next_entry, ahead, avail_index, avail_place}
-use Rattle.vb_device.specs.QueueState.{QueueState, next_of, is_full, NextMeans, TakesNext}
+use Rattle.vb_request.specs.QueueState.{QueueState, next_of, is_full, NextMeans, TakesNext}
 
 true_false : true ≡ false → ⊥
 true_false e = cc

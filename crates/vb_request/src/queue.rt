@@ -12,9 +12,9 @@ ghost use Rattle.vb_model.specs.FirstRefusal.{refusal_in};
 ghost use Rattle.vb_ring.specs.Layout.{layout_of, IsInside, IsBacked};
 ghost use Rattle.vb_ring.specs.Ends.{IsDeviceEnd};
 ghost use Rattle.vb_ring.specs.Calls.{AddsUsedBy};
-ghost use Rattle.vb_device.specs.Faults.{rule_of};
-ghost use Rattle.vb_device.specs.QueueState.{started, restarted, is_full, TakesNext};
-ghost use Rattle.vb_device.specs.QueueState.{taken_refusal};
+ghost use Rattle.vb_request.specs.Chains.{rule_of};
+ghost use Rattle.vb_request.specs.QueueState.{started, restarted, is_full, TakesNext};
+ghost use Rattle.vb_request.specs.QueueState.{taken_refusal};
 
 use crate::Statistics;
 use crate::taken::{TakenRequest, read_chain};
@@ -59,7 +59,7 @@ fn broken(fault: ChainFault) -> Refusal
 
 /// The device's end of a queue.
 #[derive(Drop)]
-pub(crate) struct DeviceQueue {
+pub struct DeviceQueue {
     /// The device's end of the ring.
     queue: Queue,
     /// The chains that are taken, oldest first.
@@ -68,7 +68,7 @@ pub(crate) struct DeviceQueue {
 
 impl Model for DeviceQueue {
     ghost use Rattle.std.specs.Prelude.{◌<◌, All};
-    ghost use Rattle.vb_device.specs.QueueState.{QueueState};
+    ghost use Rattle.vb_request.specs.QueueState.{QueueState};
 
     ghost Value = { QueueState };
 
@@ -79,7 +79,7 @@ impl Model for DeviceQueue {
 
 impl DeviceQueue {
     /// A queue whose ring is in this page, and which isn't ready.
-    pub(crate) fn new(page: u32) -> DeviceQueue
+    pub fn new(page: u32) -> DeviceQueue
         ensures { result ≡
             started false MAX_QUEUE_SIZE
             (record {
@@ -97,7 +97,7 @@ impl DeviceQueue {
     }
 
     /// Gives the queue so many descriptors; nothing is taken, and it isn't ready.
-    pub(crate) fn set_size(&mut self, size: u16)
+    pub fn set_size(&mut self, size: u16)
         requires { IsTrue (is_power_of_two size) × (MIN_QUEUE_SIZE ≤ size) ×
             (size ≤ MAX_QUEUE_SIZE) }
         ensures { self.new ≡ started false size self.old.ring }
@@ -107,7 +107,7 @@ impl DeviceQueue {
     }
 
     /// Starts or stops the queue; nothing is taken.
-    pub(crate) fn set_ready(&mut self, ready: bool)
+    pub fn set_ready(&mut self, ready: bool)
         ensures { self.new ≡ restarted ready self.old }
     {
         self.taken.clear();
@@ -130,7 +130,7 @@ impl DeviceQueue {
     /// no chain is available. What a buffer of statistics says replaces `last`. Refused with `Busy`
     /// where as many chains are taken as may be, and with `Broken` where the chain breaks a rule;
     /// then nothing is changed.
-    pub(crate) fn take<G: GuestBytes>(
+    pub fn take<G: GuestBytes>(
         &mut self,
         queue: u32,
         ram: &G,
@@ -177,7 +177,7 @@ impl DeviceQueue {
 
     /// Counts the oldest page that isn't visited yet as visited; answers the page, or none where
     /// every page of every taken request is visited.
-    pub(crate) fn visit_next(&mut self) -> Option<u32>
+    pub fn visit_next(&mut self) -> Option<u32>
         ensures page { result ≡ next_page self.old.taken }
         ensures none { IfNone result (self.new ≡ self.old) }
         ensures taken { self.new ≡ record self.old { taken = visiting self.old.taken } }
@@ -189,7 +189,7 @@ impl DeviceQueue {
     /// Takes the request of this number out; those behind it close up. Refused with `NotTaken`
     /// where there is none, and with `NotWorked` where its pages are to be visited first and one
     /// isn't; then nothing is changed.
-    pub(crate) fn remove(&mut self, index: u32, visits: bool) -> Result<TakenRequest, Refusal>
+    pub fn remove(&mut self, index: u32, visits: bool) -> Result<TakenRequest, Refusal>
         ensures refused { refusal_in result ≡
             taken_refusal visits (slice_get self.old.taken index) }
         ensures value { IfOk result (λ r. slice_get self.old.taken index ≡ Some r) }
@@ -213,7 +213,7 @@ impl DeviceQueue {
     }
 
     /// Adds a chain to the used ring, with length 0.
-    pub(crate) fn add_used<G: GuestBytes>(&mut self, ram: &mut G, head: u16)
+    pub fn add_used<G: GuestBytes>(&mut self, ram: &mut G, head: u16)
         requires backed { IsBacked (G.mem ram.old) self.old.ring.layout }
         requires ready { self.old.ring.ready ≡ true }
         requires head { head < self.old.ring.size }

@@ -12,9 +12,9 @@ use Rattle.vb_ring.specs.declared.device.Taken.{Taken}
 use Rattle.vb_ring.specs.Ends.{DeviceEnd}
 use Rattle.vb_ring.specs.Calls.{PopsBy}
 use Rattle.vb_model.specs.Guest.{LastStatistics}
-use Rattle.vb_device.specs.Calls.{request_of, noted}
-use Rattle.vb_device.specs.Faults.{rule_of}
-use Rattle.vb_device.specs.QueueState.{QueueState, with_request, is_full, TakesNext}
+use Rattle.vb_request.specs.Chains.{request_of, noted}
+use Rattle.vb_request.specs.Chains.{rule_of}
+use Rattle.vb_request.specs.QueueState.{QueueState, with_request, is_full, TakesNext}
 
 abbrev at : DeviceEnd → List Request → QueueState
 at ring taken = record { ring = ring; taken = taken }

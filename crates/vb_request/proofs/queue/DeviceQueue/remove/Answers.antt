@@ -2,7 +2,7 @@ use Rattle.std.proofs.Common.{◌<◌, suc, List, take, drop, sym, subst}
 use Rattle.std.specs.Prelude.{All}
 use Rattle.std.proofs.lemmas.List.Elements.{All-append, All-take, All-drop}
 use Rattle.vb_model.specs.Requests.{Request}
-use Rattle.vb_device.proofs.queue.DeviceQueue.remove.Goals as goal
+use Rattle.vb_request.proofs.queue.DeviceQueue.remove.Goals as goal
 
 pub invariant_of-self : goal.invariant_of-self
 invariant_of-self c =

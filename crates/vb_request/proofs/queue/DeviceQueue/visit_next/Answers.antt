@@ -4,9 +4,9 @@ use Rattle.std.specs.List.{position}
 use Rattle.std.specs.Prelude.{slice_get}
 use Rattle.vb_model.specs.Requests.{Request}
 use Rattle.vb_model.specs.Device.{is_unvisited, visiting, next_page}
-use Rattle.vb_device.specs.QueueState.{QueueState}
-use Rattle.vb_device.proofs.Visits.{once_more, visits_at, visits_none, refill_set, heads_below}
-use Rattle.vb_device.proofs.queue.DeviceQueue.visit_next.Goals as goal
+use Rattle.vb_request.specs.QueueState.{QueueState}
+use Rattle.vb_request.proofs.Visits.{once_more, visits_at, visits_none, refill_set, heads_below}
+use Rattle.vb_request.proofs.queue.DeviceQueue.visit_next.Goals as goal
 
 pub returns-in_err-oldest-clause-page : goal.returns-in_err-oldest-clause-page
 returns-in_err-oldest-clause-page c =

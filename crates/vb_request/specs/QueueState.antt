@@ -1,13 +1,12 @@
 -- One queue as a device has it.
 use Rattle.std.specs.Prelude.{◌≡◌, ℕ, ◌+◌, ◌*◌, ◌%◌, Bool, true, false, nat_le, List, [], ◌∷◌}
-use Rattle.std.specs.Prelude.{◌++◌, length, Option, Some, None, Result, Ok, Err, bit_or}
+use Rattle.std.specs.Prelude.{◌++◌, length, Option, Some, None, Result, Ok, Err}
 use Rattle.std.specs.Prelude.{is_none, ◌&&◌}
 use Rattle.vb_model.specs.declared.replies.Refusal.{Refusal}
 use Rattle.vb_model.specs.declared.replies.Refusal.TheVariants.{Busy, Broken}
 use Rattle.vb_model.specs.declared.replies.Refusal.TheVariants.{NotTaken, NotWorked}
 use Rattle.vb_model.specs.FirstRefusal.{◌⇒◌, first_refusal}
 use Rattle.vb_model.specs.Tables.{has_unvisited, most_taken}
-use Rattle.vb_model.specs.Status.{needs_reset}
 use Rattle.vb_model.specs.Requests.{Request}
 use Rattle.vb_model.specs.Guest.{LastStatistics}
 use Rattle.vb_model.specs.Limits.{page_size}
@@ -20,8 +19,7 @@ use Rattle.vb_chain.specs.Chain.{ChainGives, FaultGives}
 use Rattle.vb_ring.specs.Layout.{layout_of}
 use Rattle.vb_ring.specs.Ends.{DeviceEnd}
 use Rattle.vb_ring.specs.Entries.{next_entry}
-use Rattle.vb_device.specs.Faults.{rule_of}
-use Rattle.vb_device.specs.Calls.{request_of, noted}
+use Rattle.vb_request.specs.Chains.{request_of, noted, rule_of}
 
 -- The device's end of the ring, and the chains that are taken, oldest first.
 pub record QueueState : Type 0 where
@@ -131,9 +129,3 @@ pub record TakesNext (q : ℕ) (mem : Pages) (x1 x2 : QueueState) (l1 l2 : LastS
       request_of q mem pieces ≡ Ok pages →
       (result ≡ Ok (Some h)) × (x2 ≡ with_request h pages x1) × (l2 ≡ noted q mem pieces l1)
   pub means : NextMeans q mem x1 x2 l1 l2 result
-
--- The status after such an answer: a broken rule needs a reset (VIRTIO 1.1, 2.1.2).
-abbrev pub status_after : Result (Option ℕ) Refusal → ℕ → ℕ
-status_after (Err (Broken rule)) status = bit_or status needs_reset
-status_after (Err why) status = status
-status_after (Ok head) status = status

@@ -5,18 +5,17 @@ ghost use Rattle.std.specs.Prelude.{true, OnOk, OnErr, Ok, Err, Some, length, sl
 ghost use Rattle.vb_model.specs.declared.limits.TheConstants.{MAX_QUEUE_SIZE};
 ghost use Rattle.vb_model.specs.Limits.{page_size, reserved_pages};
 ghost use Rattle.vb_model.specs.Device.{is_unvisited};
-ghost use Rattle.vb_device.specs.Calls.{request_of, noted};
+ghost use Rattle.vb_request.specs.Chains.{request_of, noted};
 
-use crate::Statistics;
+use crate::{NamedPages, Statistics, read_report, read_request, read_statistics};
 use std::marker::Model;
 use vb_chain::{ChainFault, Piece};
 use vb_model::layout::{REPORT_QUEUE, STATISTICS_QUEUE};
 use vb_ram::GuestBytes;
-use vb_request::{NamedPages, read_report, read_request, read_statistics};
 
 /// A chain that was taken and isn't used yet.
 #[derive(Drop)]
-pub(crate) struct TakenRequest {
+pub struct TakenRequest {
     /// The first descriptor of its chain.
     head: u16,
     /// The pages that it names.
@@ -56,14 +55,14 @@ impl TakenRequest {
     }
 
     /// The head of its chain.
-    pub(crate) fn head(&self) -> u16
+    pub fn head(&self) -> u16
         ensures { result ≡ self.now.head }
     {
         self.head
     }
 
     /// How many pages it names; one that a report names again counts again.
-    pub(crate) fn count(&self) -> u32
+    pub fn count(&self) -> u32
         ensures count { result ≡ length self.now.pages }
         ensures above { All (λ page. reserved_pages ≤ page) self.now.pages }
     {
@@ -71,7 +70,7 @@ impl TakenRequest {
     }
 
     /// The page that it names as number `k`, from 0.
-    pub(crate) fn page(&self, k: u32) -> u32
+    pub fn page(&self, k: u32) -> u32
         requires { k < length self.now.pages }
         ensures { slice_get self.now.pages k ≡ Some result }
     {

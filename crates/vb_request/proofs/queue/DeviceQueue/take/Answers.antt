@@ -7,18 +7,18 @@ use Rattle.vb_chain.specs.declared.pieces.Piece.{Piece}
 use Rattle.vb_chain.specs.Table.{descriptor_at}
 use Rattle.vb_ring.specs.declared.device.Taken.{Taken}
 use Rattle.vb_ring.specs.Calls.{PopsBy}
-use Rattle.vb_device.specs.Calls.{request_of, noted}
+use Rattle.vb_request.specs.Chains.{request_of, noted}
 use Rattle.vb_model.specs.Guest.{LastStatistics}
-use Rattle.vb_device.specs.QueueState.{QueueState, is_full, TakesNext}
-use Rattle.vb_device.proofs.FromNext.{next_busy, next_idle}
+use Rattle.vb_request.specs.QueueState.{QueueState, is_full, TakesNext}
+use Rattle.vb_request.proofs.FromNext.{next_busy, next_idle}
 use Rattle.vb_model.specs.declared.replies.Refusal.{Refusal}
 use Rattle.vb_model.specs.declared.replies.Refusal.TheVariants.{Broken}
-use Rattle.vb_device.specs.Faults.{rule_of}
-use Rattle.vb_device.proofs.Chains.{chain_fits}
-use Rattle.vb_device.proofs.Takes.{next_none, next_err, next_wrong, next_right, one_all}
+use Rattle.vb_request.specs.Chains.{rule_of}
+use Rattle.vb_request.proofs.Chains.{chain_fits}
+use Rattle.vb_request.proofs.Takes.{next_none, next_err, next_wrong, next_right, one_all}
 use Rattle.vb_ring.specs.Ends.{DeviceEnd}
 use Rattle.vb_request.specs.declared.statistics.Statistics.{Statistics}
-use Rattle.vb_device.proofs.queue.DeviceQueue.take.Goals as goal
+use Rattle.vb_request.proofs.queue.DeviceQueue.take.Goals as goal
 
 -- what the device knows of its guest's memory
 abbrev was : Statistics → LastStatistics
