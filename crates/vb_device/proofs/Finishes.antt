@@ -21,7 +21,8 @@ use Rattle.vb_device.specs.Queues.{queue_end, with_queue}
 use Rattle.vb_model.specs.Guest.{LastStatistics}
 use Rattle.vb_request.specs.QueueState.{QueueState, part_of, taken_refusal}
 use Rattle.vb_device.specs.Discards.{discarded}
-use Rattle.vb_device.specs.Base.{place_of, queue_at, base_part, numbers_of_frames, IsDeviceQueue, IsBase}
+use Rattle.vb_device.specs.Base.{place_of, queue_at, base_part, numbers_of_frames, IsDeviceQueue}
+use Rattle.vb_device.specs.Base.{IsBase}
 use Rattle.vb_device.specs.Base.{with_pace}
 use Rattle.vb_device.specs.BaseCalls.{queue_refusal, with_lost, taken_out, TakesOut, UsesChain}
 use Rattle.vb_device.specs.BaseCalls.{CanUse, readiness_refusal}

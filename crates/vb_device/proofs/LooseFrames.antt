@@ -14,7 +14,8 @@ use Rattle.vb_device.specs.Calls.{SameFrames, HandsBack, SweepsBy}
 
 -- a part with a list of loose frames, as an equation for all else
 pub all_but_loose : (p q : Part) → p ≡ q → p ≡ record q { loose = p.loose }
-all_but_loose p q e = e ∙ ap (λ (l : List ℕ). record q { loose = l }) (ap (λ (x : Part). x.loose) (sym e))
+all_but_loose p q e = e ∙ ap (λ (l : List ℕ). record q { loose = l }) (ap (λ (x : Part). x.loose)
+    (sym e))
 
 -- where nothing was loose, what is loose are the lost frames
 pub lost_alone : (old new lost : List ℕ) → old ≡ [] → new ≡ old ++ lost → SameFrames new lost

@@ -1,7 +1,8 @@
 -- A device that keeps ballooned pages, from one that has ballooned nothing.
 use Rattle.std.specs.Prelude.{◌≡◌, ℕ, ◌+◌, ◌%◌, ◌==◌, Bool, true, false, List, []}
 use Rattle.std.specs.Prelude.{◌∷◌}
-use Rattle.std.specs.Prelude.{Option, Some, None, Result, Ok, Err, if◌then◌else◌, ◌++◌, not, is_some, refl}
+use Rattle.std.specs.Prelude.{Option, Some, None, Result, Ok, Err, if◌then◌else◌, ◌++◌, not}
+use Rattle.std.specs.Prelude.{is_some, refl}
 use Rattle.std.proofs.Common.{sym, ◌∙◌, ap, subst}
 use Rattle.vb_model.specs.declared.replies.Refusal.{Refusal}
 use Rattle.vb_model.specs.declared.replies.Refusal.TheVariants.{Broken, NoQueue}
@@ -22,7 +23,8 @@ use Rattle.vb_ring.specs.Calls.{AddsUsedBy}
 use Rattle.vb_device.proofs.LooseFrames.{all_but_loose, lost_alone}
 use Rattle.vb_model.specs.Device.{next_page}
 use Rattle.vb_device.specs.Calls.{lost_frames, next_visit, Visits, WorksBy}
-use Rattle.vb_device.specs.Calls.{taking, noting, without_frames, settled, using, TakeMeans, TakesBy}
+use Rattle.vb_device.specs.Calls.{taking, noting, without_frames, settled, using, TakeMeans}
+use Rattle.vb_device.specs.Calls.{TakesBy}
 use Rattle.vb_device.specs.Calls.{FinishesBy, Uses}
 use Rattle.vb_model.specs.Tables.{has_chains, is_queue_of_requests}
 use Rattle.vb_device.specs.Conditions.{finish_refusal, taken_at}
@@ -272,7 +274,8 @@ marked_out q index pages mem paced flags marks p known is =
     (λ e. ap (λ fs. over paced fs (taken_out 4 index pages mem (with_pace paced p))) e)
     q known is
 
-kind_of_finish : (a : Bool) (rest : Option Refusal) → (if not a then Some NoQueue else rest) ≡ None →
+kind_of_finish : (a : Bool) (rest : Option Refusal) →
+    (if not a then Some NoQueue else rest) ≡ None →
     a ≡ true
 kind_of_finish true rest e = refl
 kind_of_finish false rest e = absurd cc
@@ -354,7 +357,8 @@ settles q index r m1 m2 m3 paced marks p1 p2 b2 b3 known kind none mem part view
           (ap (λ (x : Part). x.loose) left);
       memory = subst (λ (m : Pages). AddsUsedBy m m3 (queue_end q p1)
           (queue_end q (over paced marks b3)) r.head 0) mem
-          (subst (λ (e : DeviceEnd). AddsUsedBy m2 m3 e (queue_end q (over paced marks b3)) r.head 0)
+          (subst (λ (e : DeviceEnd). AddsUsedBy m2 m3 e (queue_end q (over paced marks b3)) r.head
+          0)
           end
           (subst (λ (e : DeviceEnd). AddsUsedBy m2 m3 (queue_end q b2) e r.head 0)
           (sym (end_over q paced marks b3 known)) used.memory));

@@ -121,7 +121,8 @@ by_kind false unready fault rest why e = by_status unready fault rest why e
 pub queue_finish : (q index : ℕ) (part : Part) (why : Refusal) →
     queue_refusal q part.status ≡ Some why → finish_refusal q index part ≡ Some why
 queue_finish q index part why e =
-    by_kind (not (is_queue_of_requests q)) (is_not_ready part.status) (has_fault part.status) _ why e
+    by_kind (not (is_queue_of_requests q)) (is_not_ready part.status) (has_fault part.status) _ why
+    e
 
 kind_open : (a unready fault : Bool) (rest : Option Refusal) →
     (if a then Some NoQueue else (if unready then Some NotReady else (if fault then Some NeedsReset
@@ -357,7 +358,8 @@ sits_at q mem s f t a n c qs loose l b ok =
       refusal = take_open q (with_at q f t a n qs loose x s l) ok ∙
           ap (λ (p : QueuePart). if nat_le (most_taken q) (length p.taken) then Some Busy else None)
           here;
-      next = ap (λ (p : QueuePart). next_entry mem (layout_of (ring_page q) n) n p.next_avail) here ∙
+      next = ap (λ (p : QueuePart). next_entry mem (layout_of (ring_page q) n) n p.next_avail)
+          here ∙
           (ap (λ (y : Layout). next_entry mem y n x.ring.next_avail) (sym is.ring) ∙
           ap (λ (k : ℕ). next_entry mem x.ring.layout k x.ring.next_avail) (sym is.size));
       chain = λ h pieces g. subst

@@ -208,7 +208,8 @@ pub record FinishesBy (q index : ℕ) (m1 m2 : Pages) (p1 p2 : Part)
 -- ---- statistics
 
 -- The taken statistics buffer is used, with length 0, so that the driver may fill it anew.
-pub record AsksBy {T : Type 0} (m1 m2 : Pages) (p1 p2 : Part) (result : Result T Refusal) : Type 0 where
+pub record AsksBy {T : Type 0} (m1 m2 : Pages) (p1 p2 : Part)
+    (result : Result T Refusal) : Type 0 where
   pub refused : (why : Refusal) → ask_refusal p1 ≡ Some why →
       (result ≡ Err why) × (p2 ≡ p1) × (m2 ≡ m1)
   pub answers : ask_refusal p1 ≡ None → IsOk result

@@ -72,14 +72,14 @@ pub trait Device: Port + Drop {
         ensures part { Self.part self.new ≡ record (Self.part self.old) { target = pages } }
         ensures mem { Self.mem self.new ≡ Self.mem self.old };
 
-    /// Takes the next chain that the driver has made available on a queue; answers its head, or none
-    /// where no chain is available. Of a request (queue 0 or 1) or a report (4) it remembers the pages,
-    /// of a buffer of statistics (2) what it says.
+    /// Takes the next chain that the driver has made available on a queue; answers its head, or
+    /// none where no chain is available. Of a request (queue 0 or 1) or a report (4) it remembers
+    /// the pages, of a buffer of statistics (2) what it says.
     ///
     /// Refused with `NoQueue`, `NotReady`, `NeedsReset`, `NoQueue` where the queue's feature wasn't
-    /// accepted, and `Busy` where 16 chains of the queue, or one of queue 2, are taken, tested in this
-    /// order; then with `Broken` where the bytes that the driver wrote
-    /// break a rule: DEVICE_NEEDS_RESET is set then. Nothing else is changed by a refusal.
+    /// accepted, and `Busy` where 16 chains of the queue, or one of queue 2, are taken, tested in
+    /// this order; then with `Broken` where the bytes that the driver wrote break a rule:
+    /// DEVICE_NEEDS_RESET is set then. Nothing else is changed by a refusal.
     fn take(&mut self, queue: u32) -> Result<Option<u16>, Refusal>
         ensures { TakesBy queue (Self.mem self.old) (Self.mem self.new)
             (Self.part self.old) (Self.part self.new) result };
@@ -118,8 +118,8 @@ pub trait Device: Port + Drop {
             (Self.part self.old) (Self.part self.new) result };
 
     /// Uses the statistics buffer that was taken, so that the driver fills it anew (VIRTIO 1.1,
-    /// 5.5.6.3). Refused with `NotReady`, `NeedsReset`, and `NotTaken` where none is taken, tested in
-    /// this order; a refusal changes nothing.
+    /// 5.5.6.3). Refused with `NotReady`, `NeedsReset`, and `NotTaken` where none is taken, tested
+    /// in this order; a refusal changes nothing.
     fn ask_stats(&mut self) -> Result<(), Refusal>
         requires backed { contains (Self.part self.old).status driver_ok ≡ true →
             IsSome (frame_at (Self.mem self.old) (ring_page STATISTICS_QUEUE)) }

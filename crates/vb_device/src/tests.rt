@@ -24,8 +24,8 @@ enum Step {
     /// Twelve bytes of a page are read.
     Read(u32, usize),
     Take(u32),
-    /// In a new life the driver writes descriptors and an available ring for queues of 8, and the first
-    /// chain of a queue is taken.
+    /// In a new life the driver writes descriptors and an available ring for queues of 8, and the
+    /// first chain of a queue is taken.
     TakeChain(u32, &'static [u8], [u8; 6]),
     /// The statistics buffer is given back.
     Ask,
@@ -37,7 +37,8 @@ enum Step {
     /// The inflate that was taken first is settled, and the driver isn't told. No frame may be
     /// loose before.
     Settle,
-    /// The chain of a queue that was taken as this number is finished. No frame may be loose before.
+    /// The chain of a queue that was taken as this number is finished. No frame may be loose
+    /// before.
     Finish(u32, u32),
     /// A frame of this number is put behind a page.
     Supply(u32, u32),
@@ -629,8 +630,8 @@ const SETTLED: &'static [(Step, Answer)] = &[
     (Step::AreBallooned(17, 20), Answer::Done),
 ];
 
-/// A statistics buffer of 20 bytes at address 0xc000 in a queue of 8, and what a driver with 48 free
-/// pages of 64 writes there.
+/// A statistics buffer of 20 bytes at address 0xc000 in a queue of 8, and what a driver with 48
+/// free pages of 64 writes there.
 const TWENTY_BYTES: [u8; 16] = [0, 0xc0, 0, 0, 0, 0, 0, 0, 20, 0, 0, 0, 0, 0, 0, 0];
 
 const FREE_AND_TOTAL: [u8; 20] = [4, 0, 0, 0, 3, 0, 0, 0, 0, 0, 5, 0, 0, 0, 4, 0, 0, 0, 0, 0];
@@ -688,7 +689,8 @@ const STATISTICS_RESET: &'static [(Step, Answer)] = &[
 /// Statistics of 15 bytes.
 const FIFTEEN_BYTES: [u8; 16] = [0, 0xc0, 0, 0, 0, 0, 0, 0, 15, 0, 0, 0, 0, 0, 0, 0];
 
-/// Reports that the device may not write, of no bytes, from the middle of a page on, and of page 15.
+/// Reports that the device may not write, of no bytes, from the middle of a page on, and of page
+/// 15.
 const REPORT_TO_READ: [u8; 16] = [0, 0, 1, 0, 0, 0, 0, 0, 0, 16, 0, 0, 0, 0, 0, 0];
 
 const REPORT_OF_NOTHING: [u8; 16] = [0, 0, 1, 0, 0, 0, 0, 0, 0, 0, 0, 0, 2, 0, 0, 0];

@@ -1,6 +1,7 @@
 -- Statistics one after another.
 use Rattle.std.specs.Prelude.{◌≡◌, ℕ, ◌+◌, ◌/◌, ◌<◌, Bool, true, false, ◌==◌, List}
-use Rattle.std.specs.Prelude.{[], ◌∷◌, ◌++◌, length, if◌then◌else◌, Option, Some, None, Ok, Err, refl}
+use Rattle.std.specs.Prelude.{[], ◌∷◌, ◌++◌, length, if◌then◌else◌, Option, Some, None, Ok, Err}
+use Rattle.std.specs.Prelude.{refl}
 use Rattle.std.specs.List.{list_any}
 use Rattle.std.proofs.Common.{sym, ◌∙◌, ap, arith, get_or, take}
 use Rattle.std.proofs.lemmas.List.{take_more}
@@ -24,7 +25,8 @@ last_append tag [] ys = later_none (last_of tag ys)
     later_none (Some v) = refl
 last_append tag (x ∷ xs) ys =
     ap (λ o. later_or o (if x.tag == tag then Some x.value else None)) (last_append tag xs ys) ∙
-    sym (later_assoc (last_of tag ys) (last_of tag xs) (if x.tag == tag then Some x.value else None))
+    sym (later_assoc (last_of tag ys) (last_of tag xs) (if x.tag == tag then Some x.value else
+    None))
 
 pub statistics_of-length : (bytes : List ℕ) → length (statistics_of bytes) ≡ length bytes / 10
 unfolding statistics_of
@@ -62,7 +64,8 @@ last_more which tag value k bytes old new lt tag_is value_is so_far is =
     ∙ (ap (λ (v : ℕ). if here.tag == which then Some v else old)
     (value_is ∙ sym (ap (λ (s : Statistic). s.value) at))
     ∙ (noted_so (here.tag == which) here.value old
-    ∙ (ap (λ (o : Option ℕ). later_or (if here.tag == which then Some here.value else None) o) so_far
+    ∙ (ap (λ (o : Option ℕ). later_or (if here.tag == which then Some here.value else None) o)
+    so_far
     ∙ sym (ap (last_of which) (take_more (statistics_of bytes) k no_statistic inside)
     ∙ last_append which (take k (statistics_of bytes)) (here ∷ []))))))
 

@@ -76,7 +76,8 @@ page_here pieces i k rest d lt at inside =
     ∙ (get_or-append_right before (here ++ after) (length before) k 0 refl (omega (arith, at))
     ∙ (ap (λ (j : ℕ). get_or (here ++ after) j 0) (omega (arith, at))
     ∙ (get_or_append_left here after 0 rest (omega (arith, len, inside))
-    ∙ get_or-range_with_len ((get_or pieces i d).addr / 4096) ((get_or pieces i d).len / 4096) rest 0
+    ∙ get_or-range_with_len ((get_or pieces i d).addr / 4096) ((get_or pieces i d).len / 4096) rest
+    0
     inside))))
 
 -- ---- faults
@@ -94,13 +95,15 @@ first_fault-append (x ∷ xs) ys =
     assoc (Some f) b c = refl
 
 -- the first wrong piece
-pub fault_here : (pieces : List Piece) (i : ℕ) (d : Piece) (fault : ChainFault) → i < length pieces →
+pub fault_here : (pieces : List Piece) (i : ℕ) (d : Piece) (fault : ChainFault) →
+    i < length pieces →
     first_piece_fault (take i pieces) ≡ None → piece_fault (get_or pieces i d) ≡ Some fault →
     first_piece_fault pieces ≡ Some fault
 fault_here pieces i d fault lt before here =
     ap first_piece_fault (split_at pieces i d lt)
     ∙ (first_fault-append (take i pieces) (get_or pieces i d ∷ drop (i + 1) pieces)
-    ∙ (ap (λ o. first_of_both o (first_piece_fault (get_or pieces i d ∷ drop (i + 1) pieces))) before
+    ∙ (ap (λ o. first_of_both o (first_piece_fault (get_or pieces i d ∷ drop (i + 1) pieces)))
+    before
     ∙ ap (λ o. first_of_both o (first_piece_fault (drop (i + 1) pieces))) here))
 
 -- one more piece that is right

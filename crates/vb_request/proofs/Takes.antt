@@ -45,7 +45,8 @@ same_pages : (r : Result (List ℕ) ChainFault) (xs ys : List ℕ) → r ≡ Ok 
 same_pages r xs ys a b = cc
 
 pub next_none : (q : ℕ) (mem : Pages) (r1 r2 : DeviceEnd) (taken : List Request)
-    (l : LastStatistics) → is_full q (at r1 taken) ≡ false → r1.ready ≡ true → PopsBy mem r1 r2 (Ok None) →
+    (l : LastStatistics) → is_full q (at r1 taken) ≡ false → r1.ready ≡ true → PopsBy mem r1 r2 (Ok
+    None) →
     TakesNext q mem (at r1 taken) (at r2 taken) l l (Ok None)
 next_none q mem r1 r2 taken l free ready pops =
     let same : at r2 taken ≡ at r1 taken = ap (λ r. at r taken) pops.state in

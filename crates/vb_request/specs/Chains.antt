@@ -13,8 +13,8 @@ use Rattle.vb_request.specs.Request.{page_request}
 use Rattle.vb_request.specs.Statistics.{statistics_request, statistics_in}
 use Rattle.vb_request.specs.Report.{report_request}
 
--- The pages that a chain of these pieces names on a queue, or what is wrong with it there: a buffer of
--- statistics names none.
+-- The pages that a chain of these pieces names on a queue, or what is wrong with it there: a buffer
+-- of statistics names none.
 abbrev pub request_of : ℕ → Pages → List Piece → Result (List ℕ) ChainFault
 request_of q mem pieces =
     if q == STATISTICS_QUEUE then statistics_request pieces

@@ -1,5 +1,5 @@
--- The pages that a chain of queue 4 names: whole pages in a row, by pieces that the device may write
--- (profile).
+-- The pages that a chain of queue 4 names: whole pages in a row, by pieces that the device may
+-- write (profile).
 use Rattle.std.specs.Prelude.{ℕ, ◌/◌, ◌%◌, ◌==◌, ◌||◌, Bool, not, nat_lt, List, [], ◌∷◌, length}
 use Rattle.std.specs.Prelude.{if◌then◌else◌, Option, Some, None, Result, Err}
 use Rattle.std.specs.List.{list_any, flat_map, range_with_len}

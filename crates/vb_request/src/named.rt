@@ -24,8 +24,8 @@ pub(crate) type ReportPieces = ArrayVec<Piece, MAX_PIECES>;
 
 /// The pages that a chain names, in order; none of them is reserved.
 ///
-/// A request lists them, each once, at most 256. Of a report the pieces are kept, at most 32, and no
-/// list of pages, which a guest could make 500,000 long; a page may stand in several pieces.
+/// A request lists them, each once, at most 256. Of a report the pieces are kept, at most 32, and
+/// no list of pages, which a guest could make 500,000 long; a page may stand in several pieces.
 #[derive(Drop)]
 pub struct NamedPages {
     /// Pages one by one.
@@ -50,7 +50,7 @@ impl Model for NamedPages {
 
 impl NamedPages {
     /// No pages, as a buffer of statistics names.
-    pub fn none() -> NamedPages
+    pub(crate) fn none() -> NamedPages
         ensures { result ≡ [] }
     {
         NamedPages {

@@ -1,7 +1,8 @@
-//! A queue: the device's end of its ring, and the chains that were taken.
+//! A queue of a device: its end of the ring, and the chains that were taken.
 
 ghost use Rattle.std.specs.Prelude.{◌≡◌, ◌<◌, ◌≤◌, ◌+◌, [], ◌++◌, ◌∷◌, All, IfNone, IfOk, OnOk};
-ghost use Rattle.std.specs.Prelude.{OnErr, Some, IsTrue, true, false, nat_le, length, slice_get, remove};
+ghost use Rattle.std.specs.Prelude.{OnErr, Some, IsTrue, true, false, nat_le, length, slice_get};
+ghost use Rattle.std.specs.Prelude.{remove};
 ghost use Rattle.std.specs.Int.{is_power_of_two};
 ghost use Rattle.std.specs.List.{position};
 ghost use Rattle.vb_model.specs.declared.limits.TheConstants.{MIN_QUEUE_SIZE, MAX_QUEUE_SIZE};
@@ -57,7 +58,8 @@ fn broken(fault: ChainFault) -> Refusal
     }
 }
 
-/// The device's end of a queue.
+/// A queue of a device: its end of the ring, and the chains that were taken from it and aren't used
+/// yet, oldest first, at most 16.
 #[derive(Drop)]
 pub struct DeviceQueue {
     /// The device's end of the ring.
@@ -78,7 +80,7 @@ impl Model for DeviceQueue {
 }
 
 impl DeviceQueue {
-    /// A queue whose ring is in this page, and which isn't ready.
+    /// A queue of 128 descriptors whose ring is in this page; it isn't ready.
     pub fn new(page: u32) -> DeviceQueue
         ensures { result ≡
             started false MAX_QUEUE_SIZE
@@ -96,7 +98,8 @@ impl DeviceQueue {
         }
     }
 
-    /// Gives the queue so many descriptors; nothing is taken, and it isn't ready.
+    /// Gives the queue so many descriptors, a power of two from 2 to 128; nothing is taken, and it
+    /// isn't ready.
     pub fn set_size(&mut self, size: u16)
         requires { IsTrue (is_power_of_two size) × (MIN_QUEUE_SIZE ≤ size) ×
             (size ≤ MAX_QUEUE_SIZE) }
@@ -106,7 +109,7 @@ impl DeviceQueue {
         let _sized = self.queue.set_size(size);
     }
 
-    /// Starts or stops the queue; nothing is taken.
+    /// Starts or stops the queue; what was taken is dropped.
     pub fn set_ready(&mut self, ready: bool)
         ensures { self.new ≡ restarted ready self.old }
     {
@@ -127,9 +130,11 @@ impl DeviceQueue {
     }
 
     /// Takes the next chain of this queue, which has this number: answers its head, or none where
-    /// no chain is available. What a buffer of statistics says replaces `last`. Refused with `Busy`
-    /// where as many chains are taken as may be, and with `Broken` where the chain breaks a rule;
-    /// then nothing is changed.
+    /// no chain is available. What a buffer of statistics says replaces `last`.
+    ///
+    /// Refused with `Busy` where 16 chains are taken, or one of queue 2, and then with `Broken` and
+    /// the rule's number where the available index is too far ahead or the chain breaks a rule. A
+    /// refusal changes nothing: the same chain is the next one again.
     pub fn take<G: GuestBytes>(
         &mut self,
         queue: u32,
@@ -212,7 +217,9 @@ impl DeviceQueue {
         Ok(request)
     }
 
-    /// Adds a chain to the used ring, with length 0.
+    /// Tells the driver that the chain from this head was used: adds it to the used ring, with
+    /// length
+    /// 0. What is taken stays.
     pub fn add_used<G: GuestBytes>(&mut self, ram: &mut G, head: u16)
         requires backed { IsBacked (G.mem ram.old) self.old.ring.layout }
         requires ready { self.old.ring.ready ≡ true }

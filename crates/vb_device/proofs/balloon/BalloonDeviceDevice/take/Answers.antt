@@ -10,4 +10,5 @@ returns g c =
     (over g.P.Pace.IS_PACED c.self.inside.ballooned c.take.new.self.part) c.take.result)
     c.self.view_is
     (takes_over c.args.queue c.self.inside.base.mem c.take.new.self.mem g.P.Pace.IS_PACED
-    c.self.inside.ballooned c.self.inside.base.part c.take.new.self.part c.take.result c.take.ensures)
+    c.self.inside.ballooned c.self.inside.base.part c.take.new.self.part c.take.result
+    c.take.ensures)

@@ -14,7 +14,8 @@ use Rattle.vb_ram.specs.Pages.{Page, Pages, frame_at}
 use Rattle.vb_status.specs.Bits.{status_bits, feature_bits}
 use Rattle.vb_device.specs.State.{DeviceState}
 use Rattle.vb_request.specs.QueueState.{QueueState, taken_refusal}
-use Rattle.vb_device.specs.Base.{place_of, queue_at, base_part, numbers_of_frames, with_pace, IsBase}
+use Rattle.vb_device.specs.Base.{place_of, queue_at, base_part, numbers_of_frames, with_pace}
+use Rattle.vb_device.specs.Base.{IsBase}
 use Rattle.vb_device.specs.BaseCalls.{queue_refusal, TakesOut, CanUse}
 use Rattle.vb_device.proofs.Four.{entry_is, set_same}
 use Rattle.vb_device.proofs.TakesBy.{queue_known, queue_status, queue_finish, status_ok}
@@ -117,7 +118,8 @@ pub discard_request-requires : goal.discard_request-requires
 discard_request-requires c =
     let none : c.args.self.now.part.loose ≡ [] = c.requires.none in
     let empty : length (numbers_of_frames c.self.inside.loose.items) ≡ 0 =
-    ap (λ (v : DeviceState). length v.part.loose) c.self.view_is ∙ ap (λ (ns : List ℕ). length ns) none
+    ap (λ (v : DeviceState). length v.part.loose) c.self.view_is ∙ ap (λ (ns : List ℕ). length ns)
+    none
     in
     omega (
       arith,

@@ -1,4 +1,5 @@
-use Rattle.std.proofs.Common.{◌≡◌, ◌++◌, true, false, rules, ◌∙◌, ◌+◌, ◌*◌, ◌≤◌, ◌<◌, ℕ, List, ◌∷◌, []}
+use Rattle.std.proofs.Common.{◌≡◌, ◌++◌, true, false, rules, ◌∙◌, ◌+◌, ◌*◌, ◌≤◌, ◌<◌, ℕ, List, ◌∷◌}
+use Rattle.std.proofs.Common.{[]}
 use Rattle.std.proofs.Common.{Option, Some, None, Ok, Err, sym, ap, subst}
 use Rattle.std.specs.Prelude.{All, length}
 use Rattle.std.proofs.lemmas.List.Elements.{All-append}
@@ -33,7 +34,8 @@ last_is last said e =
 pub returns-then-is_full : goal.returns-then-is_full
 returns-then-is_full g c =
     let full : is_full c.args.queue c.args.self.now ≡ true = search rules in
-    next_busy c.args.queue (g.G.GuestBytes.mem c.args.ram.now) c.args.self.now (was c.args.last.now) full
+    next_busy c.args.queue (g.G.GuestBytes.mem c.args.ram.now) c.args.self.now (was c.args.last.now)
+    full
 
 pub returns-then-pages-eq0 : goal.returns-then-pages-eq0
 returns-then-pages-eq0 g c =
@@ -44,8 +46,13 @@ returns-then-pages-eq0 g c =
 
 pub returns-in-Err : goal.returns-in-Err
 returns-in-Err g c =
-    let free : is_full c.args.queue (record { ring = c.self.inside.queue; taken = c.self.inside.taken.items }) ≡
-    false = ap (is_full c.args.queue) c.self.view_is ∙ (sym c.is_full.ensures ∙ c.if-is_full.false) in
+    let free : is_full c.args.queue (record {
+      ring = c.self.inside.queue;
+      taken =
+          c.self.inside.taken.items;
+    }) ≡
+    false = ap (is_full c.args.queue) c.self.view_is ∙ (sym c.is_full.ensures ∙ c.if-is_full.false)
+    in
     let ready : c.self.inside.queue.ready ≡ true =
     ap (λ (q : QueueState). q.ring.ready) c.self.view_is ∙ c.requires.ready in
     subst (λ (q : QueueState). TakesNext c.args.queue (g.G.GuestBytes.mem c.args.ram.now) q
@@ -62,8 +69,13 @@ returns-in-Err g c =
 
 pub returns-in-None : goal.returns-in-None
 returns-in-None g c =
-    let free : is_full c.args.queue (record { ring = c.self.inside.queue; taken = c.self.inside.taken.items }) ≡
-    false = ap (is_full c.args.queue) c.self.view_is ∙ (sym c.is_full.ensures ∙ c.if-is_full.false) in
+    let free : is_full c.args.queue (record {
+      ring = c.self.inside.queue;
+      taken =
+          c.self.inside.taken.items;
+    }) ≡
+    false = ap (is_full c.args.queue) c.self.view_is ∙ (sym c.is_full.ensures ∙ c.if-is_full.false)
+    in
     let ready : c.self.inside.queue.ready ≡ true =
     ap (λ (q : QueueState). q.ring.ready) c.self.view_is ∙ c.requires.ready in
     let pops : PopsBy (g.G.GuestBytes.mem c.args.ram.now) c.self.inside.queue
@@ -113,8 +125,13 @@ invariant_of-self-in-Ok-read_chain g c =
 
 pub returns-in-Ok-read_chain : goal.returns-in-Ok-read_chain
 returns-in-Ok-read_chain g c =
-    let free : is_full c.args.queue (record { ring = c.self.inside.queue; taken = c.self.inside.taken.items }) ≡
-    false = ap (is_full c.args.queue) c.self.view_is ∙ (sym c.is_full.ensures ∙ c.if-is_full.false) in
+    let free : is_full c.args.queue (record {
+      ring = c.self.inside.queue;
+      taken =
+          c.self.inside.taken.items;
+    }) ≡
+    false = ap (is_full c.args.queue) c.self.view_is ∙ (sym c.is_full.ensures ∙ c.if-is_full.false)
+    in
     let ready : c.self.inside.queue.ready ≡ true =
     ap (λ (q : QueueState). q.ring.ready) c.self.view_is ∙ c.requires.ready in
     let pops : PopsBy (g.G.GuestBytes.mem c.args.ram.now) c.self.inside.queue
@@ -134,20 +151,28 @@ returns-in-Ok-read_chain g c =
     (was c.args.last.now)) c.pieces.ensures in
     subst (λ (q : QueueState). TakesNext c.args.queue (g.G.GuestBytes.mem c.args.ram.now) q
     (record { ring = c.pop_descriptor_chain.new.self; taken = c.push.new.self.items })
-    (was c.args.last.now) (was c.read_chain.new.last) (Ok (Some c.in-Some.taken.head))) c.self.view_is
+    (was c.args.last.now) (was c.read_chain.new.last) (Ok (Some c.in-Some.taken.head)))
+    c.self.view_is
     (subst (λ (xs : List Request). TakesNext c.args.queue (g.G.GuestBytes.mem c.args.ram.now)
     (record { ring = c.self.inside.queue; taken = c.self.inside.taken.items })
     (record { ring = c.pop_descriptor_chain.new.self; taken = xs })
-    (was c.args.last.now) (was c.read_chain.new.last) (Ok (Some c.in-Some.taken.head))) (sym (c.push.ensures.items ∙ ap (λ (r : Request). c.self.inside.taken.items ++ r ∷ [])
+    (was c.args.last.now) (was c.read_chain.new.last) (Ok (Some c.in-Some.taken.head))) (sym
+    (c.push.ensures.items ∙ ap (λ (r : Request). c.self.inside.taken.items ++ r ∷ [])
     c.new.ensures))
     (next_right c.args.queue (g.G.GuestBytes.mem c.args.ram.now) c.self.inside.queue
     c.pop_descriptor_chain.new.self c.self.inside.taken.items
-    (was c.args.last.now) (was c.read_chain.new.last) c.in-Some.taken c.in-Ok-read_chain.pages free ready pops good said))
+    (was c.args.last.now) (was c.read_chain.new.last) c.in-Some.taken c.in-Ok-read_chain.pages free
+    ready pops good said))
 
 pub returns-in-Err-read_chain : goal.returns-in-Err-read_chain
 returns-in-Err-read_chain g c =
-    let free : is_full c.args.queue (record { ring = c.self.inside.queue; taken = c.self.inside.taken.items }) ≡
-    false = ap (is_full c.args.queue) c.self.view_is ∙ (sym c.is_full.ensures ∙ c.if-is_full.false) in
+    let free : is_full c.args.queue (record {
+      ring = c.self.inside.queue;
+      taken =
+          c.self.inside.taken.items;
+    }) ≡
+    false = ap (is_full c.args.queue) c.self.view_is ∙ (sym c.is_full.ensures ∙ c.if-is_full.false)
+    in
     let ready : c.self.inside.queue.ready ≡ true =
     ap (λ (q : QueueState). q.ring.ready) c.self.view_is ∙ c.requires.ready in
     let pops : PopsBy (g.G.GuestBytes.mem c.args.ram.now) c.self.inside.queue
@@ -160,11 +185,13 @@ returns-in-Err-read_chain g c =
     c.in-Err-read_chain.ensures.pages in
     subst (λ (q : QueueState). TakesNext c.args.queue (g.G.GuestBytes.mem c.args.ram.now) q
     (record { ring = c.go_to_previous_position.new.self; taken = c.self.inside.taken.items })
-    (was c.args.last.now) (was c.read_chain.new.last) (Err c.broken-in-Err-read_chain.result)) c.self.view_is
+    (was c.args.last.now) (was c.read_chain.new.last) (Err c.broken-in-Err-read_chain.result))
+    c.self.view_is
     (subst (λ (w : Refusal). TakesNext c.args.queue (g.G.GuestBytes.mem c.args.ram.now)
     (record { ring = c.self.inside.queue; taken = c.self.inside.taken.items })
     (record { ring = c.go_to_previous_position.new.self; taken = c.self.inside.taken.items })
-    (was c.args.last.now) (was c.read_chain.new.last) (Err w)) (sym c.broken-in-Err-read_chain.ensures)
+    (was c.args.last.now) (was c.read_chain.new.last) (Err w)) (sym
+    c.broken-in-Err-read_chain.ensures)
     (subst (λ (l : Statistics). TakesNext c.args.queue (g.G.GuestBytes.mem c.args.ram.now)
     (record { ring = c.self.inside.queue; taken = c.self.inside.taken.items })
     (record { ring = c.go_to_previous_position.new.self; taken = c.self.inside.taken.items })
