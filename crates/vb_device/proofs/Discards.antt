@@ -164,12 +164,12 @@ loses_inside old new page lt d =
     ap frame_count (discarded_is old new page lt d) in
     omega (arith, all, is, one_is (is_some (page_at old page)))
 
-pub none_of : (o p : Option Page) (P : Type 0) → o ≡ p → IfNone o P → p ≡ None → P
+none_of : (o p : Option Page) (P : Type 0) → o ≡ p → IfNone o P → p ≡ None → P
 none_of None p P e is none = is
 none_of (Some x) p P e is none = absurd cc
 
 -- each frame that is loose came from behind a page
-pub loses_one : (old new : Pages) (page : ℕ) → Discarded old new page →
+loses_one : (old new : Pages) (page : ℕ) → Discarded old new page →
     (page_at old page ≡ None → new ≡ old) →
     frame_count new + one_if (is_some (page_at old page)) ≡ frame_count old
 loses_one old new page d same = elim (cases_lt page (length old)) [
@@ -183,7 +183,18 @@ loses_one old new page d same = elim (cases_lt page (length old)) [
       ))
 ]
 
-pub few_frames : (mem : Pages) → frame_count mem ≤ length mem
+-- the same, by what was found behind the page
+pub loses_found : (old new : Pages) (page : ℕ) (found : Option Page) → found ≡ page_at old page →
+    Discarded old new page → IfNone found (new ≡ old) →
+    frame_count new + one_if (is_some found) ≡ frame_count old
+loses_found old new page found is d same =
+    omega (
+      arith,
+      loses_one old new page d (none_of found (page_at old page) (new ≡ old) is same),
+      ap (λ (o : Option Page). one_if (is_some o)) is,
+    )
+
+few_frames : (mem : Pages) → frame_count mem ≤ length mem
 few_frames [] = omega arith
 few_frames (None ∷ ps) = omega (arith, count_by-cons is_some None ps, few_frames ps)
 few_frames (Some p ∷ ps) = omega (arith, count_by-cons is_some (Some p) ps, few_frames ps)
@@ -206,7 +217,8 @@ room_for_all mem loose capacity none room =
 -- the pages of a memory, with one page more
 pages_more : (n : ℕ) → range_with_len 0 (n + 1) ≡ range_with_len 0 n ++ n ∷ []
 pages_more n =
-    sym (map-id (range_with_len 0 (n + 1))) ∙ (map-range_with_len_more (λ (k : ℕ). k) 0 n n (omega arith) ∙
+    sym (map-id (range_with_len 0 (n + 1)))
+    ∙ (map-range_with_len_more (λ (k : ℕ). k) 0 n n (omega arith) ∙
     ap (λ (ns : List ℕ). ns ++ n ∷ []) (map-id (range_with_len 0 n)))
 
 page_is_new : (n : ℕ) (b : Bool) → is_in n (range_with_len 0 n) ≡ b → b ≡ false

@@ -20,7 +20,8 @@ use vb_status::Port;
 /// A balloon device with the memory of its guest (VIRTIO 1.1, 5.5). What a driver sees of it is its
 /// `Port`; the calls here are the host's.
 ///
-/// A frame that a call takes from a page is loose in the device until `hand_back` gives it out.
+/// A guest's life on it begins with `attach` and ends with `detach`. A frame that a call takes from
+/// a page is loose in the device until `hand_back` gives it out.
 /// Only `attach` takes memory, and `claim` of a device that has frames of its own.
 pub trait Device: Port + Drop {
     /// Gives an unused device a guest of this size: memory with no frame, and nothing initialised.
