@@ -20,10 +20,10 @@ use Rattle.vb_model.proofs.Tables.{count_by-cons}
 use Rattle.vb_model.proofs.Tables.{length-each_from, each_page-get}
 use Rattle.vb_model.proofs.PageSteps.{is_in-range, outside-range}
 use Rattle.vb_ram.specs.Pages.{Page, Pages, page_at, frame_at, number_of, Discarded}
-use Rattle.vb_device.specs.Request.{each_once}
+use Rattle.vb_request.specs.Request.{each_once}
 use Rattle.vb_device.specs.Base.{numbers_of_frames}
 use Rattle.vb_device.specs.Discards.{discarded, frames_behind}
-use Rattle.vb_device.proofs.Once.{each_once_push}
+use Rattle.vb_request.proofs.Once.{each_once_push}
 
 true_false : true ≡ false → ⊥
 true_false e = cc

@@ -1,7 +1,3 @@
-pub mod Once
-pub mod Bytes
-pub mod RequestPages
-pub mod OneRequest
 pub mod Chains
 pub mod Takes
 pub mod Four
@@ -14,5 +10,3 @@ pub mod Marks
 pub mod LooseFrames
 pub mod Over
 pub mod Visits
-pub mod Reports
-pub mod LastStatistics

@@ -34,9 +34,9 @@ use Rattle.vb_device.specs.Conditions.{ask_refusal, sweep_refusal, taken_at}
 use Rattle.vb_device.specs.Faults.{Breaks, needing_reset}
 use Rattle.vb_device.specs.Own.{has, without, SameSet}
 use Rattle.vb_device.specs.Discards.{discarded, frames_behind, flagged}
-use Rattle.vb_device.specs.Request.{page_request, each_once}
-use Rattle.vb_device.specs.Statistics.{statistics_request, statistics_in}
-use Rattle.vb_device.specs.Report.{report_request}
+use Rattle.vb_request.specs.Request.{page_request, each_once}
+use Rattle.vb_request.specs.Statistics.{statistics_request, statistics_in}
+use Rattle.vb_request.specs.Report.{report_request}
 
 -- ---- attach
 

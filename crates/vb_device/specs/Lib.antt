@@ -4,9 +4,6 @@ pub mod Conditions
 pub mod Faults
 pub mod Own
 pub mod Discards
-pub mod Request
-pub mod Statistics
-pub mod Report
 pub mod Calls
 pub mod QueueState
 pub mod Base

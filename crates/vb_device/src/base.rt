@@ -26,7 +26,7 @@ ghost use Rattle.vb_device.specs.BaseCalls.{with_visit, VisitsNext, take_refusal
 ghost use Rattle.vb_device.specs.BaseCalls.{visited_queue, page_to_visit};
 ghost use Rattle.vb_device.specs.Base.{place_of};
 ghost use Rattle.vb_device.specs.Calls.{IsUnused, attached, TakesBy, AsksBy, DetachesBy};
-ghost use Rattle.vb_device.specs.Request.{each_once};
+ghost use Rattle.vb_request.specs.Request.{each_once};
 ghost use Rattle.vb_device.specs.Calls.{without_frames};
 ghost use Rattle.vb_device.specs.Discards.{discarded, frames_behind};
 ghost use Rattle.vb_device.specs.QueueState.{status_after, started, restarted};

@@ -1,79 +1,18 @@
 //! A chain that a device has taken.
 
-ghost use Rattle.std.specs.Prelude.{◌≡◌, ◌<◌, ◌≤◌, ◌+◌, ◌*◌, ◌^◌, ◌++◌, [], All, MatchResult};
+ghost use Rattle.std.specs.Prelude.{◌≡◌, ◌<◌, ◌≤◌, ◌+◌, ◌*◌, ◌^◌, All, MatchResult};
 ghost use Rattle.std.specs.Prelude.{true, OnOk, OnErr, Ok, Err, Some, length, slice_get};
 ghost use Rattle.vb_model.specs.declared.limits.TheConstants.{MAX_QUEUE_SIZE};
 ghost use Rattle.vb_model.specs.Limits.{page_size, reserved_pages};
 ghost use Rattle.vb_model.specs.Device.{is_unvisited};
 ghost use Rattle.vb_device.specs.Calls.{request_of, noted};
-ghost use Rattle.vb_device.specs.Report.{pages_of_pieces};
 
 use crate::Statistics;
-use crate::report::{ReportPieces, count_pages, page_at, report_of};
-use crate::request::{RequestPages, page_request};
-use crate::statistics::read_statistics;
-use arrayvec::ArrayVec;
 use std::marker::Model;
 use vb_chain::{ChainFault, Piece};
 use vb_model::layout::{REPORT_QUEUE, STATISTICS_QUEUE};
 use vb_ram::GuestBytes;
-
-/// The pages that a chain names: a request lists them one by one, a report has pieces of whole
-/// pages, and a buffer of statistics has neither.
-#[derive(Drop)]
-pub(crate) struct NamedPages {
-    /// Pages one by one, each once, in the order in which they first stand there.
-    listed: RequestPages,
-    /// Pieces of whole pages; a page may stand in several.
-    pieces: ReportPieces,
-}
-
-impl Model for NamedPages {
-    ghost use Rattle.std.specs.Prelude.{◌+◌, ◌*◌, ◌^◌, ◌≤◌, ◌++◌, ℕ, List, All};
-    ghost use Rattle.vb_model.specs.Limits.{page_size, reserved_pages};
-    ghost use Rattle.vb_device.specs.Report.{pages_of_pieces};
-
-    ghost Value = { List ℕ };
-
-    ghost view = { λ s. s.listed.items ++ pages_of_pieces s.pieces.items };
-
-    ghost invariant = { λ s.
-        All (λ page. reserved_pages ≤ page) (s.listed.items ++ pages_of_pieces s.pieces.items) ×
-        All (λ piece. piece.addr + piece.len ≤ page_size * 2 ^ 32) s.pieces.items };
-}
-
-impl NamedPages {
-    /// No pages.
-    fn none() -> NamedPages
-        ensures { result ≡ [] }
-    {
-        NamedPages {
-            listed: ArrayVec::new(),
-            pieces: ArrayVec::new(),
-        }
-    }
-
-    /// How many there are; a page that a report names again counts again.
-    fn count(&self) -> u32
-        ensures count { result ≡ length self.now }
-        ensures above { All (λ page. reserved_pages ≤ page) self.now }
-    {
-        self.listed.len() as u32 + count_pages(&self.pieces)
-    }
-
-    /// Page number `k`, from 0.
-    fn at(&self, k: u32) -> u32
-        requires { k < length self.now }
-        ensures { slice_get self.now k ≡ Some result }
-    {
-        let listed = self.listed.len() as u32;
-        if k < listed {
-            self.listed[k as usize]
-        } else {
-            page_at(&self.pieces, k - listed)
-        }
-    }
-}
+use vb_request::{NamedPages, read_report, read_request, read_statistics};
 
 /// A chain that was taken and isn't used yet.
 #[derive(Drop)]
@@ -136,7 +75,7 @@ impl TakenRequest {
         requires { k < length self.now.pages }
         ensures { slice_get self.now.pages k ≡ Some result }
     {
-        self.pages.at(k)
+        self.pages.get(k).unwrap()
     }
 
     /// Whether a page of it isn't visited yet.
@@ -187,13 +126,7 @@ pub(crate) fn read_chain<G: GuestBytes>(
             *last = read_statistics(ram, pieces)?;
             Ok(NamedPages::none())
         }
-        REPORT_QUEUE => Ok(NamedPages {
-            listed: ArrayVec::new(),
-            pieces: report_of(pieces)?,
-        }),
-        _ => Ok(NamedPages {
-            listed: page_request(ram, pieces)?,
-            pieces: ArrayVec::new(),
-        }),
+        REPORT_QUEUE => read_report(pieces),
+        _ => read_request(ram, pieces),
     }
 }

@@ -3,7 +3,7 @@ use Rattle.std.specs.Prelude.{length}
 use Rattle.std.proofs.lemmas.List.{append-nil, take_all}
 use Rattle.std.proofs.lemmas.Option.{get_or_from_slice_get}
 use Rattle.vb_device.specs.Base.{numbers_of_frames}
-use Rattle.vb_device.specs.Request.{each_once}
+use Rattle.vb_request.specs.Request.{each_once}
 use Rattle.vb_device.specs.Discards.{discarded, frames_behind}
 use Rattle.vb_device.proofs.Discards.{discard_more, loose_more, discarded_none}
 use Rattle.vb_device.proofs.base.discard_all.Goals as goal

@@ -4,7 +4,7 @@ use Rattle.std.proofs.Math.ListN.{set}
 use Rattle.vb_model.specs.Guest.{LastStatistics}
 use Rattle.vb_model.specs.Tables.{has_chains}
 use Rattle.vb_status.specs.Bits.{status_bits, feature_bits}
-use Rattle.vb_device.specs.declared.statistics.Statistics.{Statistics}
+use Rattle.vb_request.specs.declared.statistics.Statistics.{Statistics}
 use Rattle.vb_device.specs.State.{DeviceState}
 use Rattle.vb_device.specs.QueueState.{QueueState, TakesNext}
 use Rattle.vb_device.specs.Base.{queue_at, place_of, base_part, IsBase}

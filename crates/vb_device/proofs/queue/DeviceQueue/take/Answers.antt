@@ -17,7 +17,7 @@ use Rattle.vb_device.specs.Faults.{rule_of}
 use Rattle.vb_device.proofs.Chains.{chain_fits}
 use Rattle.vb_device.proofs.Takes.{next_none, next_err, next_wrong, next_right, one_all}
 use Rattle.vb_ring.specs.Ends.{DeviceEnd}
-use Rattle.vb_device.specs.declared.statistics.Statistics.{Statistics}
+use Rattle.vb_request.specs.declared.statistics.Statistics.{Statistics}
 use Rattle.vb_device.proofs.queue.DeviceQueue.take.Goals as goal
 
 -- what the device knows of its guest's memory

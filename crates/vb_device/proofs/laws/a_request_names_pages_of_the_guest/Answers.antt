@@ -1,5 +1,0 @@
-use Rattle.vb_device.proofs.RequestPages.{request_pages}
-use Rattle.vb_device.proofs.laws.a_request_names_pages_of_the_guest.Goals as goal
-
-pub returns : goal.returns
-returns c = request_pages

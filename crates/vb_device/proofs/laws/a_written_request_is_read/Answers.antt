@@ -1,5 +1,0 @@
-use Rattle.vb_device.proofs.OneRequest.{one_request}
-use Rattle.vb_device.proofs.laws.a_written_request_is_read.Goals as goal
-
-pub returns : goal.returns
-returns c = one_request

@@ -1,0 +1,6 @@
+pub mod Once
+pub mod Bytes
+pub mod RequestPages
+pub mod OneRequest
+pub mod Reports
+pub mod LastStatistics

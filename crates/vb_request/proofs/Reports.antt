@@ -1,0 +1,208 @@
+-- The pages of a report, piece by piece.
+use Rattle.std.specs.Prelude.{◌≡◌, ℕ, suc, ◌+◌, ◌*◌, ◌/◌, ◌%◌, ◌<◌, ◌≤◌, Bool, true, false}
+use Rattle.std.specs.Prelude.{not, ◌==◌, ◌||◌, nat_lt, List, [], ◌∷◌, ◌++◌, length, if◌then◌else◌}
+use Rattle.std.specs.Prelude.{Option, Some, None, Ok, Err, All, slice_get, slice_index_or, refl}
+use Rattle.std.specs.List.{list_any}
+use Rattle.std.proofs.Common.{sym, ◌∙◌, ap, subst, arith, get_or, take, drop, drop-cons, add-one}
+use Rattle.std.proofs.Common.{length-append}
+use Rattle.std.proofs.lemmas.Bool.{ltb-false}
+use Rattle.std.proofs.lemmas.Grind.{flat_map-append}
+use Rattle.std.proofs.lemmas.List.{append-nil, take_more, take-append-drop, get_or_append_left}
+use Rattle.std.proofs.lemmas.List.{get_or-append_right}
+use Rattle.std.proofs.lemmas.List.Elements.{All-append}
+use Rattle.std.proofs.lemmas.List.FromFn.{length-range_with_len, get_or-range_with_len}
+use Rattle.std.proofs.lemmas.Option.{slice_get-get_or}
+use Rattle.std.specs.List.{range_with_len}
+use Rattle.vb_chain.specs.declared.pieces.Piece.{Piece}
+use Rattle.vb_chain.specs.declared.fault.ChainFault.{ChainFault}
+use Rattle.vb_chain.specs.declared.fault.ChainFault.TheVariants.{BadPage, ReservedPage, BadLength}
+use Rattle.vb_chain.specs.declared.fault.ChainFault.TheVariants.{WrongDirection}
+use Rattle.vb_request.specs.Request.{first_of_both, unless_fault}
+use Rattle.vb_request.specs.Report.{pages_of_piece, pages_of_pieces, piece_fault, first_piece_fault}
+use Rattle.vb_request.specs.Report.{has_bad_length, report_request}
+
+pub piece_length : (piece : Piece) → length (pages_of_piece piece) ≡ piece.len / 4096
+piece_length piece = length-range_with_len (piece.addr / 4096) (piece.len / 4096)
+
+-- one more piece
+pages_more : (pieces : List Piece) (i : ℕ) (d : Piece) → i < length pieces →
+    pages_of_pieces (take (i + 1) pieces) ≡
+    pages_of_pieces (take i pieces) ++ pages_of_piece (get_or pieces i d)
+pages_more pieces i d lt =
+    ap pages_of_pieces (take_more pieces i d lt) ∙
+    (flat_map-append pages_of_piece (take i pieces) (get_or pieces i d ∷ []) ∙
+    ap (λ xs. pages_of_pieces (take i pieces) ++ xs)
+    (append-nil (pages_of_piece (get_or pieces i d))))
+
+pub count_more : (pieces : List Piece) (i : ℕ) (d : Piece) → i < length pieces →
+    length (pages_of_pieces (take (i + 1) pieces)) ≡
+    length (pages_of_pieces (take i pieces)) + (get_or pieces i d).len / 4096
+count_more pieces i d lt =
+    ap (λ (xs : List ℕ). length xs) (pages_more pieces i d lt) ∙
+    (length-append (pages_of_pieces (take i pieces)) (pages_of_piece (get_or pieces i d)) ∙
+    ap (λ n. length (pages_of_pieces (take i pieces)) + n) (piece_length (get_or pieces i d)))
+
+split_at : (pieces : List Piece) (i : ℕ) (d : Piece) → i < length pieces →
+    pieces ≡ take i pieces ++ (get_or pieces i d ∷ drop (i + 1) pieces)
+split_at pieces i d lt =
+    sym (take-append-drop i pieces) ∙
+    ap (λ xs. take i pieces ++ xs)
+    (drop-cons pieces i d lt ∙ ap (λ j. get_or pieces i d ∷ drop j pieces) (sym (add-one i)))
+
+-- a page of this piece
+pub page_here : (pieces : List Piece) (i k rest : ℕ) (d : Piece) → i < length pieces →
+    k ≡ length (pages_of_pieces (take i pieces)) + rest → rest < (get_or pieces i d).len / 4096 →
+    slice_get (pages_of_pieces pieces) k ≡ Some ((get_or pieces i d).addr / 4096 + rest)
+page_here pieces i k rest d lt at inside =
+    let before : List ℕ = pages_of_pieces (take i pieces) in
+    let here : List ℕ = pages_of_piece (get_or pieces i d) in
+    let after : List ℕ = pages_of_pieces (drop (i + 1) pieces) in
+    let all : pages_of_pieces pieces ≡ before ++ (here ++ after) =
+    ap pages_of_pieces (split_at pieces i d lt) ∙
+    flat_map-append pages_of_piece (take i pieces) (get_or pieces i d ∷ drop (i + 1) pieces) in
+    let len : length here ≡ (get_or pieces i d).len / 4096 = piece_length (get_or pieces i d) in
+    let whole : k < length (pages_of_pieces pieces) =
+    omega (
+      arith,
+      ap (λ (xs : List ℕ). length xs) all,
+      length-append before (here ++ after),
+      length-append here after,
+      len,
+      at,
+      inside,
+    ) in
+    slice_get-get_or (pages_of_pieces pieces) k 0 whole
+    ∙ ap Some (ap (λ (xs : List ℕ). get_or xs k 0) all
+    ∙ (get_or-append_right before (here ++ after) (length before) k 0 refl (omega (arith, at))
+    ∙ (ap (λ (j : ℕ). get_or (here ++ after) j 0) (omega (arith, at))
+    ∙ (get_or_append_left here after 0 rest (omega (arith, len, inside))
+    ∙ get_or-range_with_len ((get_or pieces i d).addr / 4096) ((get_or pieces i d).len / 4096) rest 0
+    inside))))
+
+-- ---- faults
+
+pub first_fault-append : (xs ys : List Piece) →
+    first_piece_fault (xs ++ ys) ≡ first_of_both (first_piece_fault xs) (first_piece_fault ys)
+first_fault-append [] ys = refl
+first_fault-append (x ∷ xs) ys =
+    ap (first_of_both (piece_fault x)) (first_fault-append xs ys) ∙
+    assoc (piece_fault x) (first_piece_fault xs) (first_piece_fault ys)
+  where
+    assoc : (a b c : Option ChainFault) →
+        first_of_both a (first_of_both b c) ≡ first_of_both (first_of_both a b) c
+    assoc None b c = refl
+    assoc (Some f) b c = refl
+
+-- the first wrong piece
+pub fault_here : (pieces : List Piece) (i : ℕ) (d : Piece) (fault : ChainFault) → i < length pieces →
+    first_piece_fault (take i pieces) ≡ None → piece_fault (get_or pieces i d) ≡ Some fault →
+    first_piece_fault pieces ≡ Some fault
+fault_here pieces i d fault lt before here =
+    ap first_piece_fault (split_at pieces i d lt)
+    ∙ (first_fault-append (take i pieces) (get_or pieces i d ∷ drop (i + 1) pieces)
+    ∙ (ap (λ o. first_of_both o (first_piece_fault (get_or pieces i d ∷ drop (i + 1) pieces))) before
+    ∙ ap (λ o. first_of_both o (first_piece_fault (drop (i + 1) pieces))) here))
+
+-- one more piece that is right
+pub sound_more : (pieces : List Piece) (i : ℕ) (d : Piece) → i < length pieces →
+    first_piece_fault (take i pieces) ≡ None → piece_fault (get_or pieces i d) ≡ None →
+    first_piece_fault (take (i + 1) pieces) ≡ None
+sound_more pieces i d lt before here =
+    ap first_piece_fault (take_more pieces i d lt)
+    ∙ (first_fault-append (take i pieces) (get_or pieces i d ∷ [])
+    ∙ (ap (λ o. first_of_both o (first_piece_fault (get_or pieces i d ∷ []))) before
+    ∙ ap (λ o. first_of_both o None) here))
+
+-- ---- the answers to a chain
+
+pub wrong_way : (pieces : List Piece) → list_any (λ piece. not piece.writable) pieces ≡ true →
+    report_request pieces ≡ Err WrongDirection
+wrong_way pieces e = rw e refl
+
+pub wrong_length : (pieces : List Piece) (bad : Bool) →
+    list_any (λ piece. not piece.writable) pieces ≡ false →
+    (nat_lt 32 (length pieces) || list_any has_bad_length pieces) ≡ true →
+    report_request pieces ≡ Err BadLength
+wrong_length pieces bad e f = rw (e, f) refl
+
+pub by_pieces : (pieces : List Piece) → list_any (λ piece. not piece.writable) pieces ≡ false →
+    (nat_lt 32 (length pieces) || list_any has_bad_length pieces) ≡ false →
+    report_request pieces ≡ unless_fault (first_piece_fault pieces) (pages_of_pieces pieces)
+by_pieces pieces e f = rw (e, f) refl
+
+-- ---- reserved pages
+
+none_of_both : (a b : Option ChainFault) → first_of_both a b ≡ None → (a ≡ None) × (b ≡ None)
+none_of_both None b e = (refl, e)
+none_of_both (Some f) b e = absurd cc
+
+second_no : (a b : Bool) →
+    (if a then Some BadPage else (if b then Some ReservedPage else None)) ≡ None → b ≡ false
+second_no true b e = absurd cc
+second_no false true e = absurd cc
+second_no false false e = refl
+
+from_on : (first n : ℕ) → 16 ≤ first → (k d : ℕ) → k < length (range_with_len first n) →
+    16 ≤ slice_index_or (range_with_len first n) k d
+from_on first n le k d lt =
+    let at : get_or (range_with_len first n) k d ≡ first + k =
+    get_or-range_with_len first n k d (omega (arith, lt, length-range_with_len first n)) in
+    omega (arith, at, le)
+
+pub above_reserved : (pieces : List Piece) → first_piece_fault pieces ≡ None →
+    All (λ page. 16 ≤ page) (pages_of_pieces pieces)
+above_reserved [] e = λ k d lt. absurd (omega (arith, lt))
+above_reserved (x ∷ xs) e =
+    let both = none_of_both (piece_fault x) (first_piece_fault xs) e in
+    let le : 16 ≤ x.addr / 4096 =
+    ltb-false (x.addr / 4096) 16
+    (second_no (not (x.addr % 4096 == 0)) (nat_lt (x.addr / 4096) 16) both.0) in
+    All-append (λ page. 16 ≤ page) (pages_of_piece x) (pages_of_pieces xs)
+    (from_on (x.addr / 4096) (x.len / 4096) le) (above_reserved xs both.1)
+
+-- ---- pages of the guest
+
+up_to : (first n count : ℕ) → first + n ≤ count → (k d : ℕ) → k < length (range_with_len first n) →
+    slice_index_or (range_with_len first n) k d < count
+up_to first n count le k d lt =
+    let inside : k < n = omega (arith, lt, length-range_with_len first n) in
+    let at : get_or (range_with_len first n) k d ≡ first + k =
+    get_or-range_with_len first n k d inside in
+    omega (arith, at, le, inside)
+
+pages_below : (count : ℕ) (pieces : List Piece) →
+    All (λ piece. piece.addr + piece.len ≤ 4096 * count) pieces →
+    All (λ page. page < count) (pages_of_pieces pieces)
+pages_below count [] inside = λ k d lt. absurd (omega (arith, lt))
+pages_below count (x ∷ xs) inside =
+    let here : x.addr + x.len ≤ 4096 * count = inside 0 x (omega arith) in
+    All-append (λ page. page < count) (pages_of_piece x) (pages_of_pieces xs)
+    (up_to (x.addr / 4096) (x.len / 4096) count (omega (arith, here)))
+    (pages_below count xs (λ k d lt. inside (suc k) d (omega (arith, lt))))
+
+ok_of : (o : Option ChainFault) (ns pages : List ℕ) → unless_fault o ns ≡ Ok pages →
+    (o ≡ None) × (ns ≡ pages)
+ok_of None ns pages e = (refl, cc)
+ok_of (Some f) ns pages e = absurd cc
+
+by_tests : (pieces : List Piece) (a b : Bool) (pages : List ℕ) →
+    (if a then Err WrongDirection else (if b then Err BadLength
+    else unless_fault (first_piece_fault pieces) (pages_of_pieces pieces))) ≡ Ok pages →
+    (first_piece_fault pieces ≡ None) × (pages_of_pieces pieces ≡ pages)
+by_tests pieces true b pages e = absurd cc
+by_tests pieces false true pages e = absurd cc
+by_tests pieces false false pages e =
+    ok_of (first_piece_fault pieces) (pages_of_pieces pieces) pages e
+
+-- What a report names.
+pub report_pages : (count : ℕ) (pieces : List Piece) (pages : List ℕ) →
+    All (λ piece. piece.addr + piece.len ≤ 4096 * count) pieces →
+    report_request pieces ≡ Ok pages
+    → All (λ page. 16 ≤ page) pages × All (λ page. page < count) pages
+report_pages count pieces pages inside e =
+    let both = by_tests pieces (list_any (λ piece. not piece.writable) pieces)
+    (nat_lt 32 (length pieces) || list_any has_bad_length pieces) pages e in (
+      subst (λ (xs : List ℕ). All (λ page. 16 ≤ page) xs) both.1 (above_reserved pieces both.0),
+      subst (λ (xs : List ℕ). All (λ page. page < count) xs) both.1
+          (pages_below count pieces inside),
+    )

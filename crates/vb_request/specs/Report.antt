@@ -1,0 +1,43 @@
+-- The pages that a chain of queue 4 names: whole pages in a row, by pieces that the device may write
+-- (profile).
+use Rattle.std.specs.Prelude.{ℕ, ◌/◌, ◌%◌, ◌==◌, ◌||◌, Bool, not, nat_lt, List, [], ◌∷◌, length}
+use Rattle.std.specs.Prelude.{if◌then◌else◌, Option, Some, None, Result, Err}
+use Rattle.std.specs.List.{list_any, flat_map, range_with_len}
+use Rattle.vb_model.specs.declared.limits.TheConstants.{MAX_REPORT_PIECES}
+use Rattle.vb_model.specs.Limits.{page_size, reserved_pages}
+use Rattle.vb_chain.specs.declared.pieces.Piece.{Piece}
+use Rattle.vb_chain.specs.declared.fault.ChainFault.{ChainFault}
+use Rattle.vb_chain.specs.declared.fault.ChainFault.TheVariants.{WrongDirection, BadLength, BadPage}
+use Rattle.vb_chain.specs.declared.fault.ChainFault.TheVariants.{ReservedPage}
+use Rattle.vb_request.specs.Request.{first_of_both, unless_fault}
+
+-- The pages of a piece of whole pages, rising.
+abbrev pub pages_of_piece : Piece → List ℕ
+pages_of_piece piece = range_with_len (piece.addr / page_size) (piece.len / page_size)
+
+-- Those of all pieces, in their order; a page that is named again stands there again.
+abbrev pub pages_of_pieces : List Piece → List ℕ
+pages_of_pieces pieces = flat_map pages_of_piece pieces
+
+-- The piece isn't some whole pages long.
+abbrev pub has_bad_length : Piece → Bool
+has_bad_length piece = (piece.len == 0) || not (piece.len % page_size == 0)
+
+-- What is wrong with where a piece begins.
+abbrev pub piece_fault : Piece → Option ChainFault
+piece_fault piece =
+    if not (piece.addr % page_size == 0) then Some BadPage
+    else (if nat_lt (piece.addr / page_size) reserved_pages then Some ReservedPage else None)
+
+-- What is wrong with the first wrong piece.
+abbrev pub first_piece_fault : List Piece → Option ChainFault
+first_piece_fault [] = None
+first_piece_fault (piece ∷ pieces) = first_of_both (piece_fault piece) (first_piece_fault pieces)
+
+-- The pages that a chain of these pieces names, or what is wrong with it.
+abbrev pub report_request : List Piece → Result (List ℕ) ChainFault
+report_request pieces =
+    if list_any (λ piece. not piece.writable) pieces then Err WrongDirection
+    else (if nat_lt MAX_REPORT_PIECES (length pieces) || list_any has_bad_length pieces
+    then Err BadLength
+    else unless_fault (first_piece_fault pieces) (pages_of_pieces pieces))

@@ -1,0 +1,117 @@
+//! The pages of a report: a chain of the queue of reports (profile).
+
+ghost use Rattle.std.specs.Prelude.{◌≡◌, ◌+◌, ◌*◌, ◌<◌, ◌≤◌, ◌^◌, not, All, MatchResult, Ok, Err};
+ghost use Rattle.std.specs.Prelude.{length, slice_get};
+ghost use Rattle.std.specs.List.{list_any};
+ghost use Rattle.vb_model.specs.declared.limits.TheConstants.{MAX_REPORT_PIECES};
+ghost use Rattle.vb_model.specs.Limits.{page_size};
+ghost use Rattle.vb_request.specs.Report.{pages_of_pieces, has_bad_length, piece_fault};
+ghost use Rattle.vb_request.specs.Report.{first_piece_fault, report_request};
+
+use crate::NamedPages;
+use crate::named::{MAX_PIECES, ReportPieces};
+use arrayvec::ArrayVec;
+use vb_chain::{ChainFault, Piece};
+use vb_model::limits::{PAGE_SIZE, RESERVED_PAGES};
+
+/// Bytes of a page.
+const PAGE_BYTES: u64 = PAGE_SIZE as u64;
+
+/// How many pages the pieces have together; a page that is named again counts again.
+pub(crate) fn count_pages(pieces: &[Piece]) -> u32
+    requires { length pieces.now ≤ MAX_REPORT_PIECES }
+    ensures value { result ≡ length (pages_of_pieces pieces.now) }
+    ensures few { result ≤ MAX_REPORT_PIECES * 1048576 }
+{
+    let mut count = 0;
+    for piece in pieces {
+        count += piece.len / PAGE_SIZE;
+    }
+    count
+}
+
+/// Page number `k`, from 0, of the pages of all pieces; none where they have no more than `k`.
+pub(crate) fn page_at(pieces: &[Piece], k: u32) -> Option<u32>
+    requires { All (λ piece. piece.addr + piece.len ≤ page_size * 2 ^ 32) pieces.now }
+    ensures { result ≡ slice_get (pages_of_pieces pieces.now) k }
+{
+    let mut rest = k;
+    for piece in pieces {
+        let count = piece.len / PAGE_SIZE;
+        if rest < count {
+            return Some((piece.addr / PAGE_BYTES) as u32 + rest);
+        }
+        rest -= count;
+    }
+    None
+}
+
+/// Whether a piece is the device's to read.
+fn has_readable(pieces: &[Piece]) -> bool
+    ensures { result ≡ list_any (λ piece. not piece.writable) pieces.now }
+{
+    pieces.iter().any(|piece| !piece.writable)
+}
+
+/// Whether a piece isn't some whole pages long.
+fn has_wrong_length(pieces: &[Piece]) -> bool
+    ensures { result ≡ list_any has_bad_length pieces.now }
+{
+    pieces
+        .iter()
+        .any(|piece| piece.len == 0 || piece.len % PAGE_SIZE != 0)
+}
+
+/// What is wrong with where a piece begins.
+fn fault_of_piece(piece: &Piece) -> Option<ChainFault>
+    ensures { result ≡ piece_fault piece.now }
+{
+    if piece.addr % PAGE_BYTES != 0 {
+        Some(ChainFault::BadPage)
+    } else if piece.addr / PAGE_BYTES < u64::from(RESERVED_PAGES) {
+        Some(ChainFault::ReservedPage)
+    } else {
+        None
+    }
+}
+
+/// What is wrong with the first wrong piece.
+fn fault_of_first(pieces: &[Piece]) -> Option<ChainFault>
+    ensures { result ≡ first_piece_fault pieces.now }
+{
+    for piece in pieces {
+        if let Some(fault) = fault_of_piece(piece) {
+            return Some(fault);
+        }
+    }
+    None
+}
+
+/// The pages that a chain of these pieces names on the queue of reports: those of each piece in
+/// turn, rising; a page that is named again stands there again.
+///
+/// The pieces lie in a guest's memory, as those of a chain do that `vb_chain::walk` gives: no page
+/// has a number of 2^32 or more. Refused, tested in this order:
+///
+/// - `WrongDirection` where a piece is the device's to read;
+/// - `BadLength` where there are more than 32 pieces, or one isn't some whole pages long;
+/// - for the first piece that is wrong, `BadPage` where it doesn't begin where a page does, and
+///   `ReservedPage` where it begins with a reserved page.
+pub fn read_report(pieces: &[Piece]) -> Result<NamedPages, ChainFault>
+    requires inside { All (λ piece. piece.addr + piece.len ≤ page_size * 2 ^ 32) pieces.now }
+    ensures { MatchResult result (λ pages. report_request pieces.now ≡ Ok pages)
+        (λ fault. report_request pieces.now ≡ Err fault) }
+{
+    if has_readable(pieces) {
+        return Err(ChainFault::WrongDirection);
+    }
+    if pieces.len() > MAX_PIECES || has_wrong_length(pieces) {
+        return Err(ChainFault::BadLength);
+    }
+    if let Some(fault) = fault_of_first(pieces) {
+        return Err(fault);
+    }
+    let mut named: ReportPieces = ArrayVec::new();
+    let _fits = named.try_extend_from_slice(pieces);
+    Ok(NamedPages::of_pieces(named))
+}

@@ -1,0 +1,130 @@
+//! The pages of a request: a chain of the queue of inflates or of deflates.
+
+ghost use Rattle.std.specs.Prelude.{◌≡◌, ◌+◌, ◌*◌, ◌<◌, ◌≤◌, ◌++◌, ◌∷◌, []};
+ghost use Rattle.std.specs.Prelude.{if◌then◌else◌, Ok, Err, All, MatchResult, length};
+ghost use Rattle.vb_model.specs.declared.layout.TheConstants.{REQUEST_BUFFER_SIZE};
+ghost use Rattle.vb_model.specs.declared.limits.TheConstants.{MAX_QUEUE_SIZE};
+ghost use Rattle.vb_model.specs.Limits.{page_size, max_request_pages};
+ghost use Rattle.vb_model.specs.Tests.{is_in};
+ghost use Rattle.vb_request.specs.Request.{number_at, numbers_of, number_fault, pages_of_numbers};
+ghost use Rattle.vb_request.specs.Request.{is_request_length, page_request};
+
+use crate::NamedPages;
+use crate::buffer::{gather, has_writable, total_length};
+use crate::named::RequestPages;
+use arrayvec::ArrayVec;
+use vb_chain::{ChainFault, Piece};
+use vb_model::layout::REQUEST_BUFFER_SIZE;
+use vb_model::limits::RESERVED_PAGES;
+use vb_ram::GuestBytes;
+
+/// Whether a request may have so many bytes.
+fn is_request_length(total: u64) -> bool
+    ensures { result ≡ is_request_length total }
+{
+    total > 0 && total <= u64::from(REQUEST_BUFFER_SIZE) && total % 4 == 0
+}
+
+/// Number `k` of these bytes, four bytes each.
+fn number_at(bytes: &[u8], k: usize) -> u32
+    requires { 4 * k + 4 ≤ length bytes.now }
+    ensures { result ≡ number_at bytes.now k }
+{
+    let mut word = [0; 4];
+    word.copy_from_slice(&bytes[4 * k..4 * k + 4]);
+    u32::from_le_bytes(word)
+}
+
+/// What is wrong with a page number, where memory has `count` pages.
+fn number_fault(count: u32, number: u32) -> Option<ChainFault>
+    ensures { result ≡ number_fault count number }
+{
+    if number >= count {
+        Some(ChainFault::BadPage)
+    } else if number < RESERVED_PAGES {
+        Some(ChainFault::ReservedPage)
+    } else {
+        None
+    }
+}
+
+/// Whether the page is among these.
+fn is_named(pages: &[u32], number: u32) -> bool
+    ensures { result ≡ is_in number pages.now }
+{
+    pages.contains(&number)
+}
+
+/// Puts a page behind the others, unless it is there.
+fn add_once(pages: &mut RequestPages, number: u32)
+    requires { length pages.old.items < max_request_pages }
+    ensures { pages.new.items ≡
+        (if is_in number pages.old.items then pages.old.items else pages.old.items ++ number ∷ []) }
+{
+    if !is_named(pages, number) {
+        pages.push(number);
+    }
+}
+
+/// The pages that the numbers in these bytes are, each once, or what is wrong with the first wrong
+/// one.
+fn pages_of(count: u32, bytes: &[u8]) -> Result<RequestPages, ChainFault>
+    requires { length bytes.now ≤ REQUEST_BUFFER_SIZE }
+    ensures { MatchResult result (λ pages. pages_of_numbers count (numbers_of bytes.now) ≡
+        Ok pages.items) (λ fault. pages_of_numbers count (numbers_of bytes.now) ≡ Err fault) }
+{
+    let mut pages: RequestPages = ArrayVec::new();
+    for k in 0..bytes.len() / 4 {
+        let number = number_at(bytes, k);
+        if let Some(fault) = number_fault(count, number) {
+            return Err(fault);
+        }
+        add_once(&mut pages, number);
+    }
+    Ok(pages)
+}
+
+/// The numbers that a chain of these pieces lists, each once, or what is wrong with it.
+fn page_request<G: GuestBytes>(ram: &G, pieces: &[Piece]) -> Result<RequestPages, ChainFault>
+    requires inside { All
+        (λ piece. piece.addr + piece.len ≤ page_size * length (G.mem ram.now)) pieces.now }
+    requires few { length pieces.now ≤ MAX_QUEUE_SIZE }
+    ensures { MatchResult result (λ pages. page_request (G.mem ram.now) pieces.now ≡
+        Ok pages.items) (λ fault. page_request (G.mem ram.now) pieces.now ≡ Err fault) }
+{
+    let count = ram.pages();
+    if has_writable(pieces) {
+        return Err(ChainFault::WrongDirection);
+    }
+    let total = total_length(pieces);
+    if !is_request_length(total) {
+        return Err(ChainFault::BadLength);
+    }
+    let bytes = gather(ram, pieces);
+    pages_of(count, &bytes)
+}
+
+/// The pages that a chain of these pieces names on the queue of inflates or of deflates, each once,
+/// in the order in which they first stand there: little-endian numbers of 32 bits (VIRTIO 1.1,
+/// 5.5.6), at most 256.
+///
+/// The pieces lie in the guest's memory and are no more than a queue has descriptors, as those of a
+/// chain do that `vb_chain::walk` gives. Refused, tested in this order:
+///
+/// - `WrongDirection` where a piece is the device's to write;
+/// - `BadLength` where the pieces have no byte together, more than 1024, or no multiple of 4;
+/// - for the first number that is wrong, `BadPage` where the guest has no such page, and
+///   `ReservedPage` where the page is reserved.
+pub fn read_request<G: GuestBytes>(ram: &G, pieces: &[Piece]) -> Result<NamedPages, ChainFault>
+    requires inside { All
+        (λ piece. piece.addr + piece.len ≤ page_size * length (G.mem ram.now)) pieces.now }
+    requires few { length pieces.now ≤ MAX_QUEUE_SIZE }
+    ensures { MatchResult result
+        (λ pages. page_request (G.mem ram.now) pieces.now ≡ Ok pages)
+        (λ fault. page_request (G.mem ram.now) pieces.now ≡ Err fault) }
+{
+    match page_request(ram, pieces) {
+        Ok(listed) => Ok(NamedPages::of_list(listed)),
+        Err(fault) => Err(fault),
+    }
+}
