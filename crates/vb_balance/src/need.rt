@@ -4,13 +4,14 @@ ghost use Rattle.std.specs.Prelude.{◌≡◌};
 
 use arrayvec::ArrayVec;
 use std::marker::Model;
+use vb_model::Numbers;
 use vb_model::limits::MAX_GUESTS;
 
 /// Guests that share a host, at most, as a capacity.
 pub(crate) const GUESTS: usize = MAX_GUESTS as usize;
 
 /// What a guest has, and what it can spare, in pages.
-#[derive(Clone, Copy, Debug, PartialEq, Eq)]
+#[derive(Clone, Copy, Debug, Default, PartialEq, Eq)]
 pub struct GuestNeed {
     /// Its pages.
     pub pages: u32,
@@ -49,6 +50,13 @@ impl Targets {
         ensures { result.now ≡ self.now }
     {
         self.pages.as_slice()
+    }
+
+    /// The targets as a reply has them.
+    pub fn into_numbers(self) -> Numbers
+        ensures { result ≡ self }
+    {
+        Numbers::new(self.pages)
     }
 }
 

@@ -24,6 +24,24 @@ fn expect_short(rt: &impl Abort, needs: &[GuestNeed], frames: u32, missing: u64)
     }
 }
 
+/// What two guests of 64 pages can spare, the frames, and the targets as a reply has them.
+static REPLIES: [([u32; 2], u32, [u32; 2]); 4] = [
+    ([32, 32], 100, [28, 0]),
+    ([32, 32], 64, [32, 32]),
+    ([30, 40], 80, [8, 40]),
+    ([0, 0], 128, [0, 0]),
+];
+
+#[test]
+fn replies_have_all_targets_in_order(rt: HostRuntime) {
+    for ([one, other], frames, expected) in &REPLIES {
+        match targets(&[need(64, *one), need(64, *other)], *frames) {
+            Ok(targets) => assert!(rt; targets.into_numbers().as_slice() == expected.as_slice()),
+            Err(short) => assert_eq!(rt; short.missing, 0),
+        }
+    }
+}
+
 #[test]
 fn asks_the_guest_of_most_spare_first(rt: HostRuntime) {
     let two = [need(64, 40), need(64, 30)];

@@ -1,22 +1,27 @@
 -- Pages lose their frames one by one.
-use Rattle.std.specs.Prelude.{◌≡◌, ◌≢◌, ℕ, suc, ◌+◌, ◌<◌, ◌≤◌, Bool, true, false, ◌||◌}
+use Rattle.std.specs.Prelude.{◌≡◌, ◌≢◌, ℕ, zero, suc, ◌+◌, ◌<◌, ◌≤◌, Bool, true, false, ◌||◌}
 use Rattle.std.specs.Prelude.{◌==◌, List, [], ◌∷◌, ◌++◌, length, Option, None, All, refl}
-use Rattle.std.specs.Prelude.{cond, Some, is_some, IfNone, count_by, if◌then◌else◌}
+use Rattle.std.specs.Prelude.{cond, Some, is_some, IfNone, count_by, if◌then◌else◌, replicate}
+use Rattle.std.specs.List.{range_with_len}
 use Rattle.std.specs.Option.{option_to_list}
-use Rattle.std.proofs.Common.{sym, ◌∙◌, ap, arith, get_or, take, eq-eqb, inl, inr}
+use Rattle.std.proofs.Common.{sym, ◌∙◌, ap, arith, get_or, take, eq-eqb, inl, inr, subst, add-one}
 use Rattle.std.proofs.lemmas.Bool.{eqb-true, cases_eq, cases_lt}
 use Rattle.std.proofs.Math.ListN.{set, length-set}
 use Rattle.std.proofs.lemmas.List.{get_or-set_same, get_or-set_other, get_or_past}
 use Rattle.std.proofs.lemmas.List.Sums.{sum_by-set}
 use Rattle.std.proofs.lemmas.List.{take_more, ext_get_or, append-nil, append_assoc}
+use Rattle.std.proofs.lemmas.List.{length-map, length-replicate, get_or-replicate, map-id}
+use Rattle.std.proofs.lemmas.List.FromFn.{map-range_with_len_more}
 use Rattle.std.proofs.lemmas.List.Folds.{list_any-append}
 use Rattle.std.proofs.lemmas.Grind.{flat_map-append}
 use Rattle.vb_model.specs.Tests.{is_in}
 use Rattle.vb_model.specs.Tests.{one_if}
 use Rattle.vb_model.proofs.Tables.{count_by-cons}
 use Rattle.vb_model.proofs.Tables.{length-each_from, each_page-get}
+use Rattle.vb_model.proofs.PageSteps.{is_in-range, outside-range}
 use Rattle.vb_ram.specs.Pages.{Page, Pages, page_at, frame_at, number_of, Discarded}
 use Rattle.vb_request.specs.Request.{each_once}
+use Rattle.vb_device.specs.Base.{numbers_of_frames}
 use Rattle.vb_device.specs.Discards.{discarded, frames_behind}
 use Rattle.vb_request.proofs.Once.{each_once_push}
 
@@ -107,24 +112,23 @@ discarded_none mem =
     (λ q l. sym (discarded-at [] mem q))
 
 -- one more page, whose frame, if it still has one, is loose now
-pub loose_more : (first mem : Pages) (pages : List ℕ) (i page : ℕ) (result : Option Page)
-    (before now after : List ℕ) → i < length pages → get_or pages i 0 ≡ page →
-    mem ≡ discarded (take i pages) first → result ≡ page_at mem page
+pub loose_more : (first mem : Pages) (pages : List ℕ) (i page : ℕ) (before now after : List ℕ) →
+    i < length pages → get_or pages i 0 ≡ page → mem ≡ discarded (take i pages) first
     → now ≡ before ++ frames_behind first (each_once (take i pages)) →
-    after ≡ now ++ option_to_list (number_of result) →
+    after ≡ now ++ option_to_list (frame_at mem page) →
     after ≡ before ++ frames_behind first (each_once (take (i + 1) pages))
-loose_more first mem pages i page result before now after lt at e got now_is after_is =
+loose_more first mem pages i page before now after lt at e now_is after_is =
     let front : List ℕ = take i pages in
     let once : each_once (take (i + 1) pages) ≡
     (if is_in page front then each_once front else each_once front ++ page ∷ []) =
     ap each_once (take_more pages i 0 lt ∙ ap (λ n. front ++ n ∷ []) at) ∙
     each_once_push front page in
-    after_is ∙ (ap (λ xs. xs ++ option_to_list (number_of result)) now_is
+    after_is ∙ (ap (λ xs. xs ++ option_to_list (frame_at mem page)) now_is
     ∙ (append_assoc before (frames_behind first (each_once front))
-    (option_to_list (number_of result))
+    (option_to_list (frame_at mem page))
     ∙ ap (λ xs. before ++ xs)
     (ap (λ o. frames_behind first (each_once front) ++ option_to_list (number_of o))
-    (got ∙ frame_now first mem pages i page e) ∙
+    (frame_now first mem pages i page e) ∙
     sym (ap (frames_behind first) once ∙
     once_push first (each_once front) page (is_in page front)))))
 
@@ -160,12 +164,12 @@ loses_inside old new page lt d =
     ap frame_count (discarded_is old new page lt d) in
     omega (arith, all, is, one_is (is_some (page_at old page)))
 
-pub none_of : (o p : Option Page) (P : Type 0) → o ≡ p → IfNone o P → p ≡ None → P
+none_of : (o p : Option Page) (P : Type 0) → o ≡ p → IfNone o P → p ≡ None → P
 none_of None p P e is none = is
 none_of (Some x) p P e is none = absurd cc
 
 -- each frame that is loose came from behind a page
-pub loses_one : (old new : Pages) (page : ℕ) → Discarded old new page →
+loses_one : (old new : Pages) (page : ℕ) → Discarded old new page →
     (page_at old page ≡ None → new ≡ old) →
     frame_count new + one_if (is_some (page_at old page)) ≡ frame_count old
 loses_one old new page d same = elim (cases_lt page (length old)) [
@@ -179,10 +183,76 @@ loses_one old new page d same = elim (cases_lt page (length old)) [
       ))
 ]
 
-pub few_frames : (mem : Pages) → frame_count mem ≤ length mem
+-- the same, by what was found behind the page
+pub loses_found : (old new : Pages) (page : ℕ) (found : Option Page) → found ≡ page_at old page →
+    Discarded old new page → IfNone found (new ≡ old) →
+    frame_count new + one_if (is_some found) ≡ frame_count old
+loses_found old new page found is d same =
+    omega (
+      arith,
+      loses_one old new page d (none_of found (page_at old page) (new ≡ old) is same),
+      ap (λ (o : Option Page). one_if (is_some o)) is,
+    )
+
+few_frames : (mem : Pages) → frame_count mem ≤ length mem
 few_frames [] = omega arith
 few_frames (None ∷ ps) = omega (arith, count_by-cons is_some None ps, few_frames ps)
 few_frames (Some p ∷ ps) = omega (arith, count_by-cons is_some (Some p) ps, few_frames ps)
+
+-- where no frame is loose, there is room for those of all pages
+pub room_for_all : (mem : Pages) (loose : List Page) (capacity : ℕ) →
+    numbers_of_frames loose ≡ [] → length mem ≤ capacity →
+    length loose + frame_count mem ≤ capacity
+room_for_all mem loose capacity none room =
+    omega (
+      arith,
+      length-map loose (λ (frame : Page). frame.number),
+      ap (λ (ns : List ℕ). length ns) none,
+      few_frames mem,
+      room,
+    )
+
+-- ---- all pages
+
+-- the pages of a memory, with one page more
+pages_more : (n : ℕ) → range_with_len 0 (n + 1) ≡ range_with_len 0 n ++ n ∷ []
+pages_more n =
+    sym (map-id (range_with_len 0 (n + 1)))
+    ∙ (map-range_with_len_more (λ (k : ℕ). k) 0 n n (omega arith) ∙
+    ap (λ (ns : List ℕ). ns ++ n ∷ []) (map-id (range_with_len 0 n)))
+
+page_is_new : (n : ℕ) (b : Bool) → is_in n (range_with_len 0 n) ≡ b → b ≡ false
+page_is_new n true e = absurd (omega (arith, (is_in-range n 0 n e).1))
+page_is_new n false e = refl
+
+-- each of them is there once
+pub all_once : (n : ℕ) → each_once (range_with_len 0 n) ≡ range_with_len 0 n
+all_once zero = refl
+all_once (suc n) =
+    let put : Bool → List ℕ → List ℕ = λ b ns. if b then ns else ns ++ n ∷ [] in
+    subst (λ (m : ℕ). each_once (range_with_len 0 m) ≡ range_with_len 0 m) (add-one n)
+    (ap each_once (pages_more n) ∙ (each_once_push (range_with_len 0 n) n ∙
+    (ap (λ b. put b (each_once (range_with_len 0 n)))
+    (page_is_new n (is_in n (range_with_len 0 n)) refl) ∙
+    (ap (put false) (all_once n) ∙ sym (pages_more n)))))
+
+page_is_there : (q n : ℕ) (b : Bool) → q < n → is_in q (range_with_len 0 n) ≡ b → b ≡ true
+page_is_there q n true lt e = refl
+page_is_there q n false lt e = absurd (outside-range q 0 n e (omega arith) (omega (arith, lt)))
+
+-- a memory of which each page has lost its frame
+pub all_discarded : (mem : Pages) →
+    discarded (range_with_len 0 (length mem)) mem ≡ replicate (length mem) None
+all_discarded mem =
+    let all : List ℕ = range_with_len 0 (length mem) in
+    let size : length (discarded all mem) ≡ length mem = discarded-length all mem in
+    ext_get_or None (discarded all mem) (replicate (length mem) None)
+    (size ∙ sym (length-replicate (length mem) None))
+    (λ q l.
+    let inside : q < length mem = omega (arith, l, size) in
+    discarded-at all mem q ∙ (ap (λ b. cond b None (page_at mem q))
+    (page_is_there q (length mem) (is_in q all) inside refl) ∙
+    sym (get_or-replicate (length mem) q None None inside)))
 
 low_step : (a b : Bool) → a ≡ false → b ≡ false → (a || b) ≡ false
 low_step a b e f = ap (λ v. v || b) e ∙ f

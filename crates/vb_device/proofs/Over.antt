@@ -1,6 +1,6 @@
 -- A device that keeps ballooned pages, from one that has ballooned nothing.
 use Rattle.std.specs.Prelude.{◌≡◌, ℕ, ◌+◌, ◌%◌, ◌==◌, Bool, true, false, List, []}
-use Rattle.std.specs.Prelude.{◌∷◌}
+use Rattle.std.specs.Prelude.{◌∷◌, length, replicate}
 use Rattle.std.specs.Prelude.{Option, Some, None, Result, Ok, Err, if◌then◌else◌, ◌++◌, not, is_some, refl}
 use Rattle.std.proofs.Common.{sym, ◌∙◌, ap, subst}
 use Rattle.vb_model.specs.declared.replies.Refusal.{Refusal}
@@ -23,7 +23,8 @@ use Rattle.vb_device.proofs.LooseFrames.{all_but_loose, lost_alone}
 use Rattle.vb_model.specs.Device.{next_page}
 use Rattle.vb_device.specs.Calls.{lost_frames, next_visit, Visits, WorksBy}
 use Rattle.vb_device.specs.Calls.{taking, noting, without_frames, settled, using, TakeMeans, TakesBy}
-use Rattle.vb_device.specs.Calls.{FinishesBy, Uses}
+use Rattle.vb_device.specs.Calls.{FinishesBy, Uses, DetachesBy}
+use Rattle.vb_status.specs.After.{part_after_reset}
 use Rattle.vb_model.specs.Tables.{has_chains, is_queue_of_requests}
 use Rattle.vb_device.specs.Conditions.{finish_refusal, taken_at}
 use Rattle.vb_device.specs.BaseCalls.{visited_queue, page_to_visit, with_visit, flags_after}
@@ -217,6 +218,19 @@ works_paced paced m1 m2 flags p1 p2 (Some worked) is ok none v =
           visits_on 4 page paced m1 m2 flags p1 p2 worked refl
           (last_queue p1 (sym inflate ∙ n)) none (sym report ∙ r) v;
     }
+
+-- ---- detach
+
+-- a reset device has ballooned nothing
+pub detaches_over : (m1 m2 : Pages) (paced : Bool) (flags marks : List Bool) (p1 p2 : Part) →
+    marks ≡ replicate (length flags) false → DetachesBy m1 m2 p1 p2 →
+    DetachesBy m1 m2 (over paced flags p1) (over paced marks p2)
+detaches_over m1 m2 paced flags marks p1 p2 none d = record {
+  memory = d.memory;
+  part = ap (over paced marks) d.part ∙
+      ap (λ (fs : List Bool). over paced fs (record (part_after_reset p1) { loose = p2.loose })) none;
+  loose = d.loose;
+}
 
 -- ---- finish
 

@@ -5,6 +5,7 @@
 use Rattle.std.specs.Prelude.{◌≡◌, ℕ, ◌+◌, ◌*◌, ◌%◌, ◌==◌, Bool, true, false, List, [], ◌∷◌, ◌++◌}
 use Rattle.std.specs.Prelude.{length, remove, replicate, if◌then◌else◌, Option, Some, None, is_some}
 use Rattle.std.specs.Prelude.{Result, Ok, Err, IsOk}
+use Rattle.std.specs.List.{range_with_len}
 use Rattle.vb_model.specs.declared.layout.TheConstants.{INFLATE_QUEUE, DEFLATE_QUEUE}
 use Rattle.vb_model.specs.declared.layout.TheConstants.{STATISTICS_QUEUE, REPORT_QUEUE}
 use Rattle.vb_model.specs.declared.replies.Refusal.{Refusal}
@@ -23,6 +24,7 @@ use Rattle.vb_chain.specs.declared.pieces.Piece.{Piece}
 use Rattle.vb_chain.specs.Table.{descriptor_at}
 use Rattle.vb_chain.specs.Chain.{ChainGives, FaultGives}
 use Rattle.vb_ring.specs.Calls.{AddsUsedBy}
+use Rattle.vb_status.specs.After.{part_after_reset}
 use Rattle.vb_device.specs.declared.claimed.Claimed.{Claimed}
 use Rattle.vb_device.specs.declared.claimed.Claimed.TheVariants.{Gave, AskHost, NoFrame, NoMemory}
 use Rattle.vb_device.specs.declared.worked.Worked.{Worked}
@@ -246,6 +248,14 @@ HandsBack p1 p2 None = (p1.loose ≡ []) × (p2 ≡ p1)
 HandsBack p1 p2 (Some frame) =
     SameFrames p1.loose (frame.number ∷ p2.loose) × (length p1.loose ≡ length p2.loose + 1) ×
     (p2 ≡ record p1 { loose = p2.loose })
+
+-- ---- detach
+
+-- The device is reset (VIRTIO 1.1, 2.1), and every page loses its frame. No frame was loose before.
+pub record DetachesBy (m1 m2 : Pages) (p1 p2 : Part) : Type 0 where
+  pub memory : m2 ≡ replicate (length m1) None
+  pub part : p2 ≡ record (part_after_reset p1) { loose = p2.loose }
+  pub loose : SameFrames p2.loose (frames_behind m1 (range_with_len 0 (length m1)))
 
 -- ---- frames of the device's own
 

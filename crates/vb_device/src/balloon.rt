@@ -198,6 +198,11 @@ impl<P: Pace> Device for BalloonDevice<P> {
         self.ballooned.count()
     }
 
+    fn detach(&mut self) {
+        self.base.detach();
+        self.ballooned.clear();
+    }
+
     fn hand_back(&mut self) -> Option<Frame> {
         self.base.hand_back()
     }

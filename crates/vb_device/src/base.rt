@@ -5,6 +5,7 @@ ghost use Rattle.std.specs.Prelude.{is_some, true, false, None, Some, IsSome, Is
 ghost use Rattle.std.specs.Prelude.{OnOk, OnSome, OnErr, length};
 ghost use Rattle.std.specs.Prelude.{replicate, vec_capacity};
 ghost use Rattle.std.specs.Option.{option_to_list};
+ghost use Rattle.std.specs.List.{range_with_len};
 ghost use Rattle.std.specs.Prelude.{count_by, map, IsTrue};
 ghost use Rattle.std.specs.Int.{is_power_of_two};
 ghost use Rattle.vb_model.specs.declared.layout.TheConstants.{DEFLATE_QUEUE, STATISTICS_QUEUE};
@@ -14,8 +15,9 @@ ghost use Rattle.vb_model.specs.Tests.{one_if};
 ghost use Rattle.vb_model.specs.Layout.{ring_page};
 ghost use Rattle.vb_model.specs.Limits.{is_config};
 ghost use Rattle.vb_model.specs.Status.{contains, driver_ok};
-ghost use Rattle.vb_ram.specs.Pages.{frame_at, number_of, Supplied, IsWhole};
+ghost use Rattle.vb_ram.specs.Pages.{frame_at, number_of, Discarded, Supplied, IsWhole};
 ghost use Rattle.vb_ring.specs.Layout.{IsInside};
+ghost use Rattle.vb_status.specs.After.{part_after_reset};
 ghost use Rattle.vb_status.specs.Bits.{status_bits};
 ghost use Rattle.vb_device.specs.Base.{numbers_of_frames, IsPlain, with_pace};
 ghost use Rattle.vb_device.specs.BaseCalls.{TakesOut, UsesChain, CanUse, readiness_refusal};
@@ -23,7 +25,7 @@ ghost use Rattle.vb_device.specs.BaseCalls.{queue_refusal, with_lost, SweepsPage
 ghost use Rattle.vb_device.specs.BaseCalls.{with_visit, VisitsNext, take_refusal_by, TakesBuffer};
 ghost use Rattle.vb_device.specs.BaseCalls.{visited_queue, page_to_visit};
 ghost use Rattle.vb_device.specs.Base.{place_of};
-ghost use Rattle.vb_device.specs.Calls.{IsUnused, attached, TakesBy, AsksBy};
+ghost use Rattle.vb_device.specs.Calls.{IsUnused, attached, TakesBy, AsksBy, DetachesBy};
 ghost use Rattle.vb_request.specs.Request.{each_once};
 ghost use Rattle.vb_device.specs.Calls.{without_frames};
 ghost use Rattle.vb_device.specs.Discards.{discarded, frames_behind};
@@ -110,6 +112,23 @@ fn put_loose(loose: &mut Vec<Frame>, frame: Option<Frame>)
     }
 }
 
+/// Takes the frame of a page away, which is loose now; says whether there was one.
+fn discard_page(ram: &mut Ram, loose: &mut Vec<Frame>, page: u32) -> bool
+    requires room { length loose.old.items + count_by is_some ram.old ≤ vec_capacity loose.old }
+    ensures had { result ≡ is_some (frame_at ram.old page) }
+    ensures after { Discarded ram.old ram.new page }
+    ensures numbers { numbers_of_frames loose.new.items ≡ numbers_of_frames loose.old.items ++
+        option_to_list (frame_at ram.old page) }
+    ensures sum { length loose.new.items + count_by is_some ram.new ≡
+        length loose.old.items + count_by is_some ram.old }
+    ensures capacity { vec_capacity loose.new ≡ vec_capacity loose.old }
+{
+    let frame = ram.discard(page);
+    let had = frame.is_some();
+    put_loose(loose, frame);
+    had
+}
+
 /// Takes the frames of a request's pages away; those that there were are loose now, in the pages'
 /// order.
 fn discard_all(ram: &mut Ram, loose: &mut Vec<Frame>, request: &TakenRequest)
@@ -120,8 +139,20 @@ fn discard_all(ram: &mut Ram, loose: &mut Vec<Frame>, request: &TakenRequest)
     ensures capacity { vec_capacity loose.new ≡ vec_capacity loose.old }
 {
     for k in 0..request.count() {
-        let frame = ram.discard(request.page(k));
-        put_loose(loose, frame);
+        discard_page(ram, loose, request.page(k));
+    }
+}
+
+/// Takes the frames of all pages away; those that there were are loose now, in the pages' order.
+fn discard_memory(ram: &mut Ram, loose: &mut Vec<Frame>)
+    requires room { length loose.old.items + count_by is_some ram.old ≤ vec_capacity loose.old }
+    ensures mem { ram.new ≡ replicate (length ram.old) None }
+    ensures loose { numbers_of_frames loose.new.items ≡ numbers_of_frames loose.old.items ++
+        frames_behind ram.old (range_with_len 0 (length ram.old)) }
+    ensures capacity { vec_capacity loose.new ≡ vec_capacity loose.old }
+{
+    for page in 0..ram.pages() {
+        discard_page(ram, loose, page);
     }
 }
 
@@ -223,16 +254,27 @@ impl DeviceBase {
         let Ok(ram) = Ram::new(alloc, config.pages) else {
             return Err(AllocError);
         };
-        self.loose.reserve(config.pages as usize)?;
+        let mut loose = Vec::new(alloc);
+        loose.reserve(config.pages as usize)?;
+        self.reset();
         self.ram = ram;
-        self.status = Status::empty();
-        self.features = Features::empty();
+        self.loose = loose;
         self.target = 0;
-        self.actual = 0;
         self.queue_size = config.queue_size;
-        self.last = Statistics::NONE;
         set_sizes(&mut self.queues, config.queue_size);
         Ok(())
+    }
+
+    /// Forgets what the driver did and said; the target stays.
+    fn reset(&mut self)
+        ensures mem { self.new.mem ≡ self.old.mem }
+        ensures part { self.new.part ≡ part_after_reset self.old.part }
+    {
+        self.status = Status::empty();
+        self.features = Features::empty();
+        self.actual = 0;
+        self.last = Statistics::NONE;
+        set_all_ready(&mut self.queues, false);
     }
 
     /// `NotReady` where the driver isn't done with the initialisation or has given up, and
@@ -416,10 +458,7 @@ impl DeviceBase {
                   frames_behind self.old.mem (page ∷ []);
             } }
     {
-        let frame = self.ram.discard(page);
-        let had = frame.is_some();
-        put_loose(&mut self.loose, frame);
-        had
+        discard_page(&mut self.ram, &mut self.loose, page)
     }
 
     /// Counts the next page of the taken inflates as visited, or of the taken reports where there is
@@ -469,6 +508,15 @@ impl DeviceBase {
         Ok(self.discard(page))
     }
 
+    /// Resets the device, and takes the frames of all pages away.
+    pub(crate) fn detach(&mut self)
+        requires { self.old.part.loose ≡ [] }
+        ensures { DetachesBy self.old.mem self.new.mem self.old.part self.new.part }
+    {
+        self.reset();
+        discard_memory(&mut self.ram, &mut self.loose);
+    }
+
     /// Gives out the last loose frame.
     pub(crate) fn hand_back(&mut self) -> Option<Frame>
         ensures frame { GivesLast self.old.part self.new.part result }
@@ -503,14 +551,13 @@ impl Port for DeviceBase {
 
     fn write_status(&mut self, write: Status) -> Result<(), StatusFault> {
         let status = write_status(self.status, self.features, write)?;
+        if write.is_empty() {
+            self.reset();
+            return Ok(());
+        }
         let starts = write.contains(Status::DRIVER_OK) && !self.status.contains(Status::DRIVER_OK);
         self.status = status;
-        if write.is_empty() {
-            self.features = Features::empty();
-            self.actual = 0;
-            self.last = Statistics::NONE;
-            set_all_ready(&mut self.queues, false);
-        } else if starts {
+        if starts {
             set_all_ready(&mut self.queues, true);
         }
         Ok(())

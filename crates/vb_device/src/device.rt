@@ -9,7 +9,7 @@ ghost use Rattle.vb_model.specs.Limits.{is_config};
 ghost use Rattle.vb_model.specs.Status.{contains, driver_ok};
 ghost use Rattle.vb_ram.specs.Pages.{frame_at, Supplied, IsWhole};
 ghost use Rattle.vb_device.specs.Calls.{IsUnused, attached, TakesBy, WorksBy, FinishesBy};
-ghost use Rattle.vb_device.specs.Calls.{AsksBy, SweepsBy, HandsBack, Claims, PutsBack};
+ghost use Rattle.vb_device.specs.Calls.{AsksBy, SweepsBy, DetachesBy, HandsBack, Claims, PutsBack};
 
 use crate::{Claimed, Statistics, Worked};
 use std::alloc::{AllocError, Global};
@@ -20,7 +20,8 @@ use vb_status::Port;
 /// A balloon device with the memory of its guest (VIRTIO 1.1, 5.5). What a driver sees of it is its
 /// `Port`; the calls here are the host's.
 ///
-/// A frame that a call takes from a page is loose in the device until `hand_back` gives it out.
+/// A guest's life on it begins with `attach` and ends with `detach`. A frame that a call takes from
+/// a page is loose in the device until `hand_back` gives it out.
 /// Only `attach` takes memory, and `claim` of a device that has frames of its own.
 pub trait Device: Port + Drop {
     /// Gives an unused device a guest of this size: memory with no frame, and nothing initialised.
@@ -138,6 +139,13 @@ pub trait Device: Port + Drop {
     /// How many pages are ballooned.
     fn ballooned_count(&self) -> u32
         ensures { result ≡ count_by (λ flag. flag) (Self.part self.now).ballooned };
+
+    /// Ends the guest's life on the device: it is reset (VIRTIO 1.1, 2.1), its target kept, and the
+    /// frames of all pages are taken away, to be handed back. No frame may be loose before.
+    fn detach(&mut self)
+        requires { (Self.part self.old).loose ≡ [] }
+        ensures { DetachesBy (Self.mem self.old) (Self.mem self.new)
+            (Self.part self.old) (Self.part self.new) };
 
     /// Gives out one of the loose frames, in whatever order; none exactly where no frame is loose.
     fn hand_back(&mut self) -> Option<Frame>

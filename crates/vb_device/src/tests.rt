@@ -1,6 +1,8 @@
 //! Requests on devices of both paces: the tests write what a driver would, and call what a host
 //! does.
 
+mod random_rings;
+
 use crate::{BalloonDevice, Claimed, Device, Immediate, Pace, Paced, Statistics, Worked};
 use bitflags::Flags;
 use std::alloc::Global;
@@ -49,6 +51,12 @@ enum Step {
     AreBallooned(u32, u32),
     BalloonedCount,
     Claim,
+    SetTarget(u32),
+    Target,
+    /// The guest's life ends. No frame may be loose before.
+    Detach,
+    /// Whether no page has a frame.
+    AreBare,
 }
 
 /// What is answered.
@@ -193,6 +201,28 @@ impl<P: Pace> Host<P> {
         }
     }
 
+    fn set_target(&mut self, pages: u32) -> Answer {
+        self.device.set_target(pages);
+        Answer::Done
+    }
+
+    fn detach(&mut self) -> Answer {
+        if self.device.hand_back().is_some() {
+            return Answer::Is(false);
+        }
+        self.device.detach();
+        Answer::Done
+    }
+
+    fn are_bare(&self) -> bool {
+        for page in 0..self.device.pages() {
+            if self.device.backing(page).is_some() {
+                return false;
+            }
+        }
+        true
+    }
+
     fn claim(&mut self) -> Answer {
         match self.device.claim() {
             Claimed::AskHost => Answer::AskHost,
@@ -273,6 +303,10 @@ impl<P: Pace> Host<P> {
             Step::AreBallooned(first, last) => done(self.are_ballooned(*first, *last)),
             Step::BalloonedCount => Answer::Count(self.device.ballooned_count()),
             Step::Claim => self.claim(),
+            Step::SetTarget(pages) => self.set_target(*pages),
+            Step::Target => Answer::Count(self.device.target()),
+            Step::Detach => self.detach(),
+            Step::AreBare => done(self.are_bare()),
         }
     }
 
@@ -957,4 +991,71 @@ fn paced_devices_visit_pages(rt: HostRuntime) {
     for scenario in &PACED {
         expect::<Paced>(&rt, rt.alloc(), scenario);
     }
+}
+
+/// Pages 17 to 20 are ballooned, pages 17 and 63 have frames, and one more inflate is taken.
+const BEFORE_DETACHING: &'static [(Step, Answer)] = &[
+    (Step::SetTarget(4), Answer::Done),
+    (Step::Supply(17, 40), Answer::Done),
+    (Step::Supply(63, 41), Answer::Done),
+    (Step::Write(0, 130, &[2]), Answer::Done),
+    (Step::Take(0), Answer::Head(Some(0))),
+    (Step::BalloonedCount, Answer::Count(4)),
+    (Step::Status, Answer::Status(15)),
+];
+
+/// The device is reset, its target stays, and no page has a frame.
+const DETACHED: &'static [(Step, Answer)] = &[
+    (Step::Detach, Answer::Done),
+    (Step::Status, Answer::Status(0)),
+    (Step::BalloonedCount, Answer::Count(0)),
+    (Step::AreBallooned(64, 64), Answer::Done),
+    (Step::Target, Answer::Count(4)),
+    (Step::AreBare, Answer::Done),
+    (Step::Take(0), Answer::Refused(Refusal::NotReady)),
+];
+
+/// The frames of pages 63, 17 and 12 to 0, each once, and no others.
+const ALL_FRAMES: &'static [(Step, Answer)] = &[
+    (Step::HandBack, Answer::Frame(Some(41))),
+    (Step::HandBack, Answer::Frame(Some(40))),
+    (Step::HandBack, Answer::Frame(Some(12))),
+    (Step::HandBack, Answer::Frame(Some(11))),
+    (Step::HandBack, Answer::Frame(Some(10))),
+    (Step::HandBack, Answer::Frame(Some(9))),
+    (Step::HandBack, Answer::Frame(Some(8))),
+    (Step::HandBack, Answer::Frame(Some(7))),
+    (Step::HandBack, Answer::Frame(Some(6))),
+    (Step::HandBack, Answer::Frame(Some(5))),
+    (Step::HandBack, Answer::Frame(Some(4))),
+    (Step::HandBack, Answer::Frame(Some(3))),
+    (Step::HandBack, Answer::Frame(Some(2))),
+    (Step::HandBack, Answer::Frame(Some(1))),
+    (Step::HandBack, Answer::Frame(Some(0))),
+    (Step::HandBack, Answer::Frame(None)),
+];
+
+const NOTHING_LEFT: &'static [(Step, Answer)] = &[
+    (Step::Detach, Answer::Done),
+    (Step::HandBack, Answer::Frame(None)),
+    (Step::Status, Answer::Status(0)),
+    (Step::Target, Answer::Count(4)),
+];
+
+static DETACHES: Scenario = (
+    "a detached device gives all frames up",
+    64,
+    8,
+    &[
+        INFLATE,
+        BEFORE_DETACHING,
+        DETACHED,
+        ALL_FRAMES,
+        NOTHING_LEFT,
+    ],
+);
+
+#[test]
+fn a_detached_device_gives_all_frames_up(rt: HostRuntime) {
+    expect::<Immediate>(&rt, rt.alloc(), &DETACHES);
 }

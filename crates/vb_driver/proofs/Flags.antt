@@ -26,10 +26,10 @@ use Rattle.vb_pages.proofs.ListsLemmas.{one_if_true, one_if_le}
 use Rattle.vb_pages.proofs.FreeLemmas.{flat-replicate}
 use Rattle.vb_driver.specs.Answers.{block_at}
 use Rattle.vb_driver.specs.Areas.{flags_of, is_free_at, all_given}
-use Rattle.vb_driver.specs.Places.{marked}
+use Rattle.vb_driver.specs.Places.{marked, first_place}
 use Rattle.vb_model.specs.Orderly.{times}
 use Rattle.vb_pages.proofs.ListsLemmas.{times_in, times_out}
-use Rattle.vb_driver.proofs.Placing.{first_place, length-marked, or_false}
+use Rattle.vb_driver.proofs.Placing.{length-marked, or_false}
 
 -- ---- a page's flag
 

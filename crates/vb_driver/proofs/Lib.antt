@@ -20,3 +20,4 @@ pub mod Filling
 pub mod ReportAreas
 pub mod ReportPosting
 pub mod ReportMoves
+pub mod Restarting

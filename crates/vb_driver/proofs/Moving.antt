@@ -29,7 +29,7 @@ use Rattle.vb_driver.specs.State.{Side, DriverState, IsQueue, naming, sent_by, f
 use Rattle.vb_driver.specs.State.{fresh_driver, IsDriver, IsStatisticsQueue, fresh_statistics}
 use Rattle.vb_driver.specs.State.{fresh_report}
 use Rattle.vb_driver.specs.Areas.{flags_of, is_free_at, is_covered}
-use Rattle.vb_driver.specs.Places.{marked}
+use Rattle.vb_driver.specs.Places.{marked, first_place}
 use Rattle.vb_driver.specs.Calls.{Posts, lowest_lent, stranded_first, after_reap}
 use Rattle.vb_model.specs.Orderly.{times}
 use Rattle.vb_driver.proofs.Naming.{naming_more, naming_same, naming_less, named_place, named_once}
@@ -41,7 +41,7 @@ use Rattle.vb_driver.proofs.Keeping.{kept_moved, there_by, free_same, free_marke
 use Rattle.std.proofs.lemmas.List.FromFn.{get_or-map-range_with_len, length-map-range_with_len}
 use Rattle.std.proofs.Common.{nat_lt}
 use Rattle.vb_ring.specs.Layout.{IsSize}
-use Rattle.vb_driver.proofs.Placing.{first_place, or_true, length-marked, marked-get}
+use Rattle.vb_driver.proofs.Placing.{or_true, length-marked, marked-get}
 use Rattle.vb_driver.proofs.ReportTables.{none_owned, fresh_report_queue}
 use Rattle.vb_ring.specs.Entries.{is_own}
 use Rattle.vb_ring.specs.Ends.{DriverEnd}

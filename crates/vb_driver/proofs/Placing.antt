@@ -15,7 +15,7 @@ use Rattle.vb_model.specs.declared.places.Place.TheVariants.{Reserved, Free}
 use Rattle.vb_model.specs.Tests.{is_in, pages_from, pages_where}
 use Rattle.vb_model.specs.Pages.{placed, all_free}
 use Rattle.vb_driver.proofs.Counting.{at_number}
-use Rattle.vb_driver.specs.Places.{marked, number_of, is_at}
+use Rattle.vb_driver.specs.Places.{marked, number_of, is_at, first_place}
 use Rattle.vb_model.proofs.Tables.{length-each_from, each_page-get}
 
 -- ---- some pages of a table have one value
@@ -162,18 +162,15 @@ changed_all old now f i c all =
     let inside : k < length old = omega (arith, c.same) in
     c.put k d (omega arith) inside ∙ sym (get_or-map f old k d d inside))
 
-abbrev pub first_place : ℕ → Place
-first_place page = if nat_lt page 16 then Reserved else Free
-
-pub filled_all : (n : ℕ) (now : List Place) (i : ℕ)
-    → Changing (replicate n Reserved) now (λ k old. first_place k) i → n ≤ i → now ≡ all_free n
-filled_all n now i c all =
+pub filled_all : (old now : List Place) (i : ℕ) → Changing old now (λ k place. first_place k) i
+    → length old ≤ i → now ≡ all_free (length old)
+filled_all old now i c all =
+    let n : ℕ = length old in
     same_lists now (all_free n)
-    (c.same ∙ (length-replicate n Reserved
-    ∙ sym (length-map (range_with_len 0 n) first_place ∙ length-range_with_len 0 n)))
+    (c.same ∙ sym (length-map (range_with_len 0 n) first_place ∙ length-range_with_len 0 n))
     (λ k d near.
-    let inside : k < n = omega (arith, c.same, length-replicate n Reserved) in
-    c.put k d (omega arith) (omega (arith, length-replicate n Reserved))
+    let inside : k < n = omega (arith, c.same) in
+    c.put k d (omega arith) inside
     ∙ sym (get_or-map-range_with_len first_place 0 n k k d inside (omega arith)))
 
 -- ---- the pages that pass a test

@@ -1,7 +1,8 @@
 -- A table of places, and how many pages it has at each.
-use Rattle.std.specs.Prelude.{true, false, ◌≡◌, ℕ}
+use Rattle.std.specs.Prelude.{true, false, ◌≡◌, ℕ, nat_lt, if◌then◌else◌}
 use Rattle.std.specs.Prelude.{Bool, List, length, ◌≤◌, slice_index, count_by}
 pub use Rattle.vb_model.specs.Tests.{marked}
+use Rattle.vb_model.specs.Limits.{reserved_pages}
 use Rattle.vb_model.specs.Pages.{is_free, is_used, is_giving, is_lent, is_taking, is_stranded}
 use Rattle.vb_model.specs.Pages.{is_reporting}
 use Rattle.vb_model.specs.declared.places.Place.{Place}
@@ -34,6 +35,10 @@ is_at Lent = is_lent
 is_at Taking = is_taking
 is_at Stranded = is_stranded
 is_at Reporting = is_reporting
+
+-- where a page is as the guest is plugged in
+abbrev pub first_place : ℕ → Place
+first_place page = if nat_lt page reserved_pages then Reserved else Free
 
 -- the table of counts says of each place how many pages have it
 pub record AreCounts (counts : List ℕ) (places : List Place) : Type 0 where

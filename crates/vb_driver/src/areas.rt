@@ -15,7 +15,8 @@ ghost use Rattle.vb_model.specs.Orderly.{times};
 ghost use Rattle.vb_model.specs.Refusals.{◌⇒◌, first_refusal};
 ghost use Rattle.vb_model.specs.declared.replies.Refusal.TheVariants.{BadOrder, BadCpu, NoPages};
 ghost use Rattle.vb_model.specs.declared.replies.Refusal.TheVariants.{NotHeld};
-ghost use Rattle.vb_pages.specs.PageState.{IsGuestSize, cpu_count, is_held_block, new_page_state};
+ghost use Rattle.vb_pages.specs.PageState.{IsGuestSize, cpu_count, page_count, is_held_block};
+ghost use Rattle.vb_pages.specs.PageState.{new_page_state};
 ghost use Rattle.vb_pages.specs.PageState.{freed, with_free_block};
 ghost use Rattle.vb_pages.specs.PageState.{TakesFree};
 ghost use Rattle.vb_driver.specs.Answers.{refusal_in, block_at};
@@ -72,6 +73,13 @@ impl Areas {
         Ok(Areas {
             pages: Pages::new(alloc, pages, processors)?,
         })
+    }
+
+    /// All pages are free again but the reserved ones, and no block is held.
+    pub(crate) fn renew(&mut self)
+        ensures { self.new ≡ new_page_state (page_count self.old) (cpu_count self.old) }
+    {
+        self.pages.renew();
     }
 
     /// Allocates a block.

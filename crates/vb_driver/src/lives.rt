@@ -8,7 +8,8 @@ ghost use Rattle.vb_status.specs.After.{part_after_reset, with_new_queues};
 ghost use Rattle.vb_status.specs.Answers.{refusal_of_fault};
 ghost use Rattle.vb_status.specs.Bits.{feature_bits};
 ghost use Rattle.vb_driver.specs.Answers.{IsBacked, IsLargeEnough};
-ghost use Rattle.vb_driver.specs.State.{IsDriver, fresh_side, fresh_statistics, fresh_report};
+ghost use Rattle.vb_driver.specs.State.{IsDriver, fresh_driver, fresh_side, fresh_statistics};
+ghost use Rattle.vb_driver.specs.State.{fresh_report};
 ghost use Rattle.vb_driver.specs.Coding.{ring_pages};
 ghost use Rattle.vb_driver.specs.Calls.{IsNewRing, FirstBuffer, InitsBy, NegotiatesBy, ResetsBy};
 
@@ -155,5 +156,18 @@ impl Driver {
         self.statistics.renew(self.config.queue_size);
         self.report.renew(self.config.queue_size);
         self.features = Features::empty();
+    }
+
+    /// Begins a new life (profile): resets the device, and all is as when the guest was plugged in.
+    /// Every unreserved page is free, in the page areas, and no allocation is held.
+    pub fn restart<P: Port>(&mut self, port: &mut P)
+        ensures memory { P.mem port.new ≡ P.mem port.old }
+        ensures part { P.part port.new ≡ part_after_reset (P.part port.old) }
+        ensures driver { self.new
+            ≡ fresh_driver self.old.pages self.old.queue_size self.old.processors }
+    {
+        self.reset(port);
+        self.places.renew();
+        self.areas.renew();
     }
 }

@@ -12,7 +12,7 @@ ghost use Rattle.vb_model.specs.Life.{place_after_reset};
 ghost use Rattle.vb_driver.specs.Answers.{block_at};
 ghost use Rattle.vb_report.specs.Blocks.{blocks_of};
 ghost use Rattle.vb_driver.specs.State.{IsAreaBlock};
-ghost use Rattle.vb_driver.specs.Places.{number_of, is_at};
+ghost use Rattle.vb_driver.specs.Places.{number_of, is_at, first_place};
 
 use crate::queue::RequestPages;
 use arrayvec::ArrayVec;
@@ -120,18 +120,24 @@ impl PlaceTable {
 
     /// The table of a guest of so many pages as it is plugged in: all unreserved pages are free.
     pub(crate) fn new(alloc: Global, pages: u32) -> Result<Self, AllocError>
-        requires most { pages ≤ MAX_GUEST_PAGES }
-        requires least { reserved_pages ≤ pages }
+        requires { pages ≤ MAX_GUEST_PAGES }
         ensures { IfOk result (λ table. table ≡ all_free pages) }
     {
-        let mut places = vec![in alloc; Place::Reserved; pages as usize]?;
+        let places = vec![in alloc; Place::Reserved; pages as usize]?;
         let mut counts = [0; 8];
         counts[number_of(Place::Reserved)] = pages;
         let mut table = PlaceTable { places, counts };
-        for page in RESERVED_PAGES..pages {
-            table.set(page, Place::Free);
-        }
+        table.renew();
         Ok(table)
+    }
+
+    /// Moves each page to the place that it has where the guest is plugged in.
+    pub(crate) fn renew(&mut self)
+        ensures { self.new ≡ all_free (length self.old) }
+    {
+        for page in 0..self.pages() {
+            self.set(page, first_place(page));
+        }
     }
 
     /// Moves these pages to a place.
@@ -207,6 +213,17 @@ impl PlaceTable {
         ensures { result ≡ count_by (is_at place) self.now }
     {
         self.counts[number_of(place)]
+    }
+}
+
+/// The place that a page has where the guest is plugged in.
+fn first_place(page: u32) -> Place
+    ensures { result ≡ first_place page }
+{
+    if page < RESERVED_PAGES {
+        Place::Reserved
+    } else {
+        Place::Free
     }
 }
 

@@ -1,6 +1,8 @@
 //! A driver's calls over guest memory with no device behind it. A line of a table is a step and its
 //! answer; what a device would write into a ring is a step too.
 
+mod random_rings;
+
 use crate::memory::all_backed;
 use crate::requests::is_up;
 use crate::{Driver, Posted, Reaped};
@@ -22,6 +24,7 @@ enum Step {
     /// The driver starts with these features.
     Init(u64),
     Reset,
+    Restart,
     Inflate(u32),
     Deflate(u32),
     Oom(u32),
@@ -222,6 +225,7 @@ impl Guest {
             Step::Free(cpu, start, order) => self.driver.free(cpu, start, order)?,
             Step::Init(features) => self.init(features)?,
             Step::Reset => self.driver.reset(&mut self.port),
+            Step::Restart => self.driver.restart(&mut self.port),
             Step::Inflate(pages) => return self.post(Request::Inflate, pages),
             Step::Deflate(pages) => return self.post(Request::Deflate, pages),
             Step::Oom(pages) => return self.post(Request::Oom, pages),
@@ -335,6 +339,33 @@ static LIVES: [Line; 22] = [
 #[test]
 fn starts_and_starts_over(rt: HostRuntime) -> Result<(), Fail> {
     expect(&rt, rt.alloc(), 13, &LIVES)
+}
+
+/// A new life begins with a block held, pages lent, a request out and pages in a processor's list.
+static NEW_LIFE: [Line; 18] = [
+    (Step::Alloc(0, 3), Ok(Answer::Page(16))),
+    (Step::SetTarget(8), DONE),
+    (Step::Init(ALL), DONE),
+    (Step::Inflate(4), Ok(Answer::Posted(0, 4))),
+    (Step::Use(0, 0, 1), DONE),
+    (Step::Reap(0), Ok(Answer::Reaped(0, 4))),
+    (Step::Inflate(4), Ok(Answer::Posted(0, 4))),
+    (Step::Alloc(0, 0), Ok(Answer::Page(32))),
+    (Step::Restart, DONE),
+    (Step::See(Sight::At(Place::Free, 16, 64)), YES),
+    (Step::See(Sight::Counts(48, 0)), YES),
+    (Step::See(Sight::Status), Ok(Answer::Number(0))),
+    (Step::Free(0, 16, 3), Err(Refusal::NotHeld)),
+    (Step::Inflate(1), Err(Refusal::NotReady)),
+    (Step::Alloc(0, 5), Ok(Answer::Page(32))),
+    (Step::Alloc(0, 0), Ok(Answer::Page(16))),
+    (Step::Init(ALL), DONE),
+    (Step::Inflate(1), Ok(Answer::Posted(0, 1))),
+];
+
+#[test]
+fn begins_a_new_life(rt: HostRuntime) -> Result<(), Fail> {
+    expect(&rt, rt.alloc(), 13, &NEW_LIFE)
 }
 
 /// Pages 16 to 19, as the buffer of a request has them.

@@ -16,7 +16,8 @@ use Rattle.vb_ram.specs.Pages.{Pages}
 use Rattle.vb_ram.specs.Part.{Part}
 use Rattle.vb_driver.specs.State.{DriverState}
 use Rattle.vb_driver.specs.Calls.{AreCountsOf}
-use Rattle.vb_guest.specs.Stands.{Honest}
+use Rattle.vb_guest.specs.Stands.{Stands}
+use Rattle.vb_guest.proofs.Standing.{by_guest}
 
 -- the tests of a place
 record SameTests (p : Place) : Type 0 where
@@ -154,8 +155,11 @@ counts_are counts g are =
     ∙ ap (λ x. whole (count_at Free g) (count_at Used g) (count_at Giving g) (count_at Lent g)
     (count_at Taking g) (count_at Stranded g) x) reporting
 
-pub places_answered : (m : Pages) (p : Part) (d : DriverState) (g : Guest) (counts : PlaceCounts)
-    → AreCountsOf counts d.places → Honest m p d g → Places counts ≡ Places (place_counts g)
-places_answered m p d g counts are stands =
+pub places_answered : (keeps : Bool) (m : Pages) (p : Part) (d : DriverState) (g : Guest)
+    (counts : PlaceCounts) → AreCountsOf counts d.places → Stands keeps m p d g
+    → Places counts ≡ Places (place_counts g)
+places_answered keeps m p d g counts are stands =
     let A : List Place → Type 0 = λ places. AreCountsOf counts places in
-    ap Places (counts_are counts g (subst A stands.ties.parts.driver.places are))
+    let same : d.places ≡ g.places = by_guest keeps m p d g stands
+    (λ honest. honest.ties.parts.driver.places) (λ rogue. rogue.places) in
+    ap Places (counts_are counts g (subst A same are))

@@ -82,7 +82,7 @@ not_in : (b : Bool) → IsTrue (not b) → b ≡ false
 not_in true h = absurd (let e : false ≡ true = h in cc)
 not_in false h = refl
 
-one_frame : (n : ℕ) (o : Option ℕ) → times n (option_to_list o) ≡ one_if (is_frame n o)
+pub one_frame : (n : ℕ) (o : Option ℕ) → times n (option_to_list o) ≡ one_if (is_frame n o)
 one_frame n None = refl
 one_frame n (Some f) = omega (arith, count_by-cons (λ (p : ℕ). p == n) f [])
 

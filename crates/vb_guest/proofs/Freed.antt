@@ -1,6 +1,6 @@
 -- Frames that pages lost have gone back.
 use Rattle.std.specs.Prelude.{◌≡◌, ℕ, ◌<◌, ◌≤◌, ◌==◌, if◌then◌else◌, Bool}
-use Rattle.std.specs.Prelude.{true, false, [], length, IsSome, ◌⊎◌}
+use Rattle.std.specs.Prelude.{true, false, List, [], length, IsSome, ◌⊎◌}
 use Rattle.std.proofs.Common.{subst, arith, inl, inr}
 use Rattle.vb_model.specs.declared.calls.Call.{Call}
 use Rattle.vb_model.specs.declared.replies.Reply.{Reply}
@@ -11,10 +11,11 @@ use Rattle.vb_ram.specs.Pages.{Pages, frame_at}
 use Rattle.vb_ram.specs.Part.{Part}
 use Rattle.vb_ram.proofs.Limits.{config_limits}
 use Rattle.vb_driver.specs.State.{DriverState}
-use Rattle.vb_guest.specs.Stands.{Honest}
+use Rattle.vb_guest.specs.Stands.{Honest, Rogue}
 use Rattle.vb_guest.specs.Steps.{StepsFreeing}
 use Rattle.vb_guest.proofs.Closing.{honest_own}
 use Rattle.vb_guest.proofs.Handing.{handed_back}
+use Rattle.vb_guest.proofs.Rogues.{rogue_own}
 
 -- the frames of the device's own may have changed
 pub freed_as : (m2 m3 : Pages) (p2 p3 : Part) (d : DriverState) (g : Guest) (call : Call)
@@ -28,15 +29,26 @@ freed_as m2 m3 p2 p3 d g call reply memory part step = record {
   freed = step.freed;
 }
 
+pub freed_rogue : (m2 m3 : Pages) (p2 p3 : Part) (d : DriverState) (g : Guest) (call : Call)
+    (reply : Reply) → m3 ≡ m2 → p3 ≡ record p2 { loose = []; own = p3.own }
+    → StepsFreeing (Rogue m2 (handed_back p2) d) p2.loose g call reply
+    → StepsFreeing (Rogue m3 p3 d) p2.loose g call reply
+freed_rogue m2 m3 p2 p3 d g call reply memory part step = record {
+  new = step.new;
+  stands = rogue_own m2 m3 (handed_back p2) p3 d step.new memory part step.stands;
+  step = step.step;
+  freed = step.freed;
+}
+
 -- ---- finish
 
-low_if : (a b c : Bool) → (if a then 0 else (if b then 1 else (if c then 2 else 3))) < 13
+pub low_if : (a b c : Bool) → (if a then 0 else (if b then 1 else (if c then 2 else 3))) < 13
 low_if true b c = omega arith
 low_if false true c = omega arith
 low_if false false true = omega arith
 low_if false false false = omega arith
 
-down_not_ok : (status : ℕ) → (status ≡ 0) ⊎ (status ≡ 131) → contains status driver_ok ≡ true → ⊥
+pub down_not_ok : (status : ℕ) → (status ≡ 0) ⊎ (status ≡ 131) → contains status driver_ok ≡ true → ⊥
 down_not_ok status (inl e) ok = let P : ℕ
     → Type 0 = λ s. contains s driver_ok ≡ true in let wrong : false ≡ true = subst P e ok in cc
 down_not_ok status (inr e) ok = let P : ℕ
@@ -52,11 +64,6 @@ ring_backed m p d g q stands ok =
           absurd (down_not_ok g.status idle.state (subst P stands.ties.parts.device.status ok)))
       | inr run ↦ run.backed (ring_page q) (low_if (q == 0) (q == 1) (q == 2))
     ]
-
--- no frame is loose
-pub none_loose : (m : Pages) (p : Part) (d : DriverState) (g : Guest) → Honest m p d g
-    → p.loose ≡ []
-none_loose m p d g stands = stands.ties.parts.device.loose
 
 -- a guest has 64 pages at the least
 pub large : (m : Pages) (p : Part) (d : DriverState) (g : Guest) → Honest m p d g → 64 ≤ length m

@@ -40,6 +40,7 @@ use Rattle.vb_guest.proofs.Closing.{refused_alone, honest_own}
 use Rattle.vb_guest.proofs.Freed.{large}
 use Rattle.vb_guest.proofs.Supplying.{all_distinct, bounded, among, supplied_count, supplied_other}
 use Rattle.vb_guest.proofs.Supplying.{supplied_backed, pages_filled, frames_filled}
+use Rattle.vb_guest.proofs.Writing.{frames_of}
 use Rattle.vb_guest.proofs.Moving.{moves_as}
 use Rattle.vb_guest.proofs.Kept.{SameOwn}
 use Rattle.vb_guest.proofs.Starting.{first_buffer, started, stopped}
@@ -82,13 +83,13 @@ filter_same f h (x ∷ xs) same =
     ap (λ (b : Bool). cond b (x ∷ filter f xs) (filter f xs)) (same x)
     ∙ ap (λ (l : List ℕ). cond (h x) (x ∷ l) l) (filter_same f h xs same)
 
-bare_is : (m : Pages) (g : Guest) → ((p : ℕ) → frame_at m p ≡ frame_of g.frames p)
+pub bare_is : (m : Pages) (g : Guest) → ((p : ℕ) → frame_at m p ≡ frame_of g.frames p)
     → bare_from m 0 ≡ lacking g
 bare_is m g behind = filter_same (λ page. is_none (frame_at m page))
     (λ page. is_none (frame_of g.frames page)) (range_with_len 0 13) (λ x. ap is_none (behind x))
 
 -- once they have frames, each page of rings and buffers has one
-now_backed : (m1 m2 : Pages) (numbers : List ℕ) (page : ℕ)
+pub now_backed : (m1 m2 : Pages) (numbers : List ℕ) (page : ℕ)
     → AllSupplied (bare_from m1 0) numbers m1 m2 → page < 13 → IsSome (frame_at m2 page)
 now_backed m1 m2 numbers page supplied lt = elim (either (is_in page (bare_from m1 0))) [
   | inl there ↦ supplied_backed (bare_from m1 0) numbers m1 m2 page supplied there
@@ -110,7 +111,7 @@ all_below test a (suc n) holds =
     ap (λ (b : Bool). b && list_all test (range_with_len (a + 1) n)) (holds a (omega arith))
     ∙ all_below test (a + 1) n (λ p lt. holds p (omega arith))
 
-has_all : (m : Pages) → ((p : ℕ) → p < 13 → IsSome (frame_at m p)) → has_frames m ≡ true
+pub has_all : (m : Pages) → ((p : ℕ) → p < 13 → IsSome (frame_at m p)) → has_frames m ≡ true
 has_all m backed = all_below (λ page. is_some (frame_at m page)) 0 13
     (λ p lt. backed p (omega arith))
 
@@ -180,7 +181,7 @@ refused_feature wanted why e =
     step false false true k = inr (inr cc)
     step false false false k = absurd cc
 
-given_up : (m1 m2 : Pages) (p1 p2 : Part) (d1 d2 : DriverState) (wanted : ℕ) (why : Refusal)
+pub given_up : (m1 m2 : Pages) (p1 p2 : Part) (d1 d2 : DriverState) (wanted : ℕ) (why : Refusal)
     → feature_refusal wanted ≡ Some why → InitRefused why m1 m2 p1 p2 d1 d2 wanted
     → GivesUp m1 m2 p1 p2 d1 d2 (accepted_before why wanted)
 given_up m1 m2 p1 p2 d1 d2 wanted why e did =
@@ -194,7 +195,7 @@ given_up m1 m2 p1 p2 d1 d2 wanted why e did =
       ]
     ]
 
-driver_tests : (m : Pages) (p : Part) (wanted : ℕ) → p.status ≡ 0 → has_frames m ≡ true
+pub driver_tests : (m : Pages) (p : Part) (wanted : ℕ) → p.status ≡ 0 → has_frames m ≡ true
     → first_refusal (init_tests m p wanted) ≡ feature_refusal wanted
 driver_tests m p wanted new backed =
     ap (λ (s : ℕ). first_refusal
@@ -321,8 +322,8 @@ init_supplied Answers out1 out2 l m1 m2 m3 p1 p2 p3 d1 d2 g wanted features resu
           (λ n. backing_count n left.new) (λ n. backing_count n g) did.supplied.1
           (λ x. omega (
             arith,
-            frames_filled x n pages claims m1 m2 g.frames g.contents did.answer did.made distinct
-                below did.supplied.0 ties.pages,
+            frames_filled x n pages claims m1 m2 g.frames did.answer did.made distinct below
+                did.supplied.0 (frames_of m1 n g.frames g.contents ties.pages),
             ap (λ (l : List (Option ℕ)). count_by (is_frame x) l) left.kept,
           )));
     })

@@ -59,3 +59,11 @@ pub mod ReapRefusing
 pub mod ReapReportStep
 pub mod StatsStep
 pub mod ReportStep
+pub mod Fresh
+pub mod RestartStep
+pub mod Rogues
+pub mod RogueDriver
+pub mod RogueDevice
+pub mod Asked
+pub mod RogueLives
+pub mod RogueMemory

@@ -27,7 +27,7 @@ pages_same old new n frames contents same has = record {
   sizes = has.sizes;
 }
 
-number_if : (b : Bool) (x : Option Page)
+pub number_if : (b : Bool) (x : Option Page)
     → number_of (if b then None else x) ≡ (if b then None else number_of x)
 number_if true x = refl
 number_if false x = refl

@@ -86,18 +86,6 @@ read_no_memory m p d g page off len used stands covers =
     (honest_performed g (Read page off len) [] (Refused NoMemory) g
     (read_free m p d g page off len used stands covers) (refl, inr refl, refl)) stands.ties refl
 
--- a used page that is there has 4096 bytes
-pub used_whole : (m : Pages) (p : Part) (d : DriverState) (g : Guest) (page off len : ℕ)
-    → is_used (place_of d.places page) ≡ true → Honest m p d g → Covers m page off len
-    → length (contents_at m page) ≡ 4096
-used_whole m p d g page off len used stands covers =
-    let held : is_used (place_of g.places page) ≡ true =
-    ap (λ l. is_used (place_of l page)) (sym stands.ties.parts.driver.places) ∙ used in
-    let lt : page < g.config.pages = omega (arith, covers.page, stands.ties.pages.length_is) in
-    let high = used_high g page stands.orderly held lt in
-    ap (λ (l : List ℕ). length l) (stands.ties.pages.holds page high lt)
-    ∙ stands.ties.pages.sizes page high lt
-
 pub bytes_read : (m : Pages) (page off len : ℕ) (old out : List ℕ) → Covers m page off len
     → length (contents_at m page) ≡ 4096 → length old ≡ len → length out ≡ length old
     → ((k : ℕ) → k < length old → slice_index out k ≡ byte_at m page (off + k))

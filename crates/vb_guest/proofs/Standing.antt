@@ -1,6 +1,7 @@
 -- What stands for a guest once its frames are accounted for: from steps of an honest guest to steps
 -- over its supply.
-use Rattle.std.specs.Prelude.{◌≡◌, ℕ, ◌+◌, Bool, true, false, List, [], ◌∷◌, Option, count_by, refl}
+use Rattle.std.specs.Prelude.{◌≡◌, ℕ, ◌+◌, Bool, true, false, List, [], ◌∷◌, Option, count_by, length}
+use Rattle.std.specs.Prelude.{refl}
 use Rattle.std.proofs.Common.{sym, ◌∙◌, ap, subst, arith}
 use Rattle.vb_model.specs.declared.calls.Call.{Call}
 use Rattle.vb_model.specs.declared.calls.Claim.{Claim}
@@ -12,29 +13,46 @@ use Rattle.vb_ram.specs.Pages.{Pages}
 use Rattle.vb_ram.specs.Part.{Part}
 use Rattle.vb_driver.specs.State.{DriverState}
 use Rattle.vb_device.specs.Own.{has}
-use Rattle.vb_guest.specs.Stands.{Honest, OwnFrames, Stands, StandsBy}
+use Rattle.vb_guest.specs.Stands.{Honest, Rogue, OwnFrames, Stands, StandsBy}
 use Rattle.vb_guest.specs.Steps.{is_frame, backing_count, AreOut, Steps, StepsAlone, StepsOver, StepsFreeing}
 use Rattle.vb_model.specs.declared.calls.Claim.TheVariants.{Gave, GaveNoFrame, GaveNoMemory}
-use Rattle.vb_frames.specs.Out.{AllAnswered}
+use Rattle.vb_frames.specs.Out.{is_out, AllAnswered}
 use Rattle.vb_guest.specs.Supply.{Supply, AreClaimed, supply_of, is_used, Moves, nothing, AreLoose}
 use Rattle.vb_guest.proofs.Moving.{used_own, used_out, by_keeps, moves_as}
 
 -- ---- the record
 
-pub honest_of : (keeps : Bool) (m : Pages) (p : Part) (d : DriverState) (g : Guest)
-    → Stands keeps m p d g → Honest m p d g
-honest_of keeps m p d g stands = by g.rogue stands.guest
+-- what the guest's own part of the record is: an honest one's or a rogue one's
+abbrev pub IsGuest : Pages → Part → DriverState → Guest → Type 0
+IsGuest m p d g = StandsBy g.rogue m p d g
+
+pub honest_is : (m : Pages) (p : Part) (d : DriverState) (g : Guest) → Honest m p d g
+    → IsGuest m p d g
+honest_is m p d g honest =
+    subst (λ b. StandsBy b m p d g) (sym honest.ties.parts.guest.honest) honest
+
+pub rogue_is : (m : Pages) (p : Part) (d : DriverState) (g : Guest) → Rogue m p d g
+    → IsGuest m p d g
+rogue_is m p d g rogue = subst (λ b. StandsBy b m p d g) (sym rogue.rogue) rogue
+
+-- by which of the two it is
+pub by_guest : {P : Type 0} (keeps : Bool) (m : Pages) (p : Part) (d : DriverState) (g : Guest)
+    → Stands keeps m p d g → (Honest m p d g → P) → (Rogue m p d g → P) → P
+by_guest {P} keeps m p d g stands honest rogue = by g.rogue stands.guest
   where
-    by : (b : Bool) → StandsBy b m p d g → Honest m p d g
-    by false honest = honest
-    by true never = absurd never
+    by : (b : Bool) → StandsBy b m p d g → P
+    by false h = honest h
+    by true r = rogue r
+
+-- what either says
+pub none_loose : (keeps : Bool) (m : Pages) (p : Part) (d : DriverState) (g : Guest)
+    → Stands keeps m p d g → p.loose ≡ []
+none_loose keeps m p d g stands = by_guest keeps m p d g stands
+    (λ honest. honest.ties.parts.device.loose) (λ rogue. rogue.loose)
 
 pub stands_of : (keeps : Bool) (m : Pages) (p : Part) (d : DriverState) (g : Guest)
-    → Honest m p d g → OwnFrames keeps p g → Stands keeps m p d g
-stands_of keeps m p d g honest own = record {
-  guest = subst (λ b. StandsBy b m p d g) (sym honest.ties.parts.guest.honest) honest;
-  own = own;
-}
+    → IsGuest m p d g → OwnFrames keeps p g → Stands keeps m p d g
+stands_of keeps m p d g guest own = record { guest = guest; own = own }
 
 -- the same frames, and the device's own as before
 own_same : (keeps : Bool) (p1 p2 : Part) (g new : Guest) → p2.keeps ≡ p1.keeps → p2.own ≡ p1.own
@@ -47,7 +65,7 @@ own_same keeps p1 p2 g new flag numbers frames own = record {
 }
 
 -- as many frames went out and came back as pages gained and lost
-own_moved : (keeps : Bool) (p1 p2 : Part) (out1 out2 : List Bool) (g new : Guest)
+pub own_moved : (keeps : Bool) (p1 p2 : Part) (out1 out2 : List Bool) (g new : Guest)
     → Moves (supply_of p1 out1) (supply_of p2 out2) (λ n. backing_count n new)
     (λ n. backing_count n g) → OwnFrames keeps p1 g → OwnFrames keeps p2 new
 own_moved keeps p1 p2 out1 out2 g new moves own = record {
@@ -70,32 +88,61 @@ stands_as keeps m1 m2 p1 p2 d g m p stands =
 
 -- ---- steps
 
--- where the device's part beside the call's own matter is as before
+-- where the device's part beside the call's own matter is as before, and so are the pages' frames
+pub stands_with : (keeps : Bool) (m1 m2 : Pages) (p1 p2 : Part) (d1 d2 : DriverState)
+    (g new : Guest) → Stands keeps m1 p1 d1 g → p2.keeps ≡ p1.keeps → p2.own ≡ p1.own
+    → new.frames ≡ g.frames → IsGuest m2 p2 d2 new → Stands keeps m2 p2 d2 new
+stands_with keeps m1 m2 p1 p2 d1 d2 g new stands flag numbers frames guest =
+    stands_of keeps m2 p2 d2 new guest
+    (own_same keeps p1 p2 g new flag numbers frames stands.own)
+
+-- an honest guest's step, or a rogue one's
 pub alone_stands : (keeps : Bool) (m1 m2 : Pages) (p1 p2 : Part) (d1 d2 : DriverState) (g : Guest)
     (call : Call) (reply : Reply) → Stands keeps m1 p1 d1 g → p2.keeps ≡ p1.keeps → p2.own ≡ p1.own
-    → StepsAlone (Honest m2 p2 d2) g call reply → StepsAlone (Stands keeps m2 p2 d2) g call reply
-alone_stands keeps m1 m2 p1 p2 d1 d2 g call reply stands flag numbers step = record {
-  new = step.new;
-  stands = stands_of keeps m2 p2 d2 step.new step.stands
-      (own_same keeps p1 p2 g step.new flag numbers step.frames stands.own);
-  step = step.step;
-  frames = step.frames;
-}
+    → (Honest m1 p1 d1 g → StepsAlone (Honest m2 p2 d2) g call reply)
+    → (Rogue m1 p1 d1 g → StepsAlone (Rogue m2 p2 d2) g call reply)
+    → StepsAlone (Stands keeps m2 p2 d2) g call reply
+alone_stands keeps m1 m2 p1 p2 d1 d2 g call reply stands flag numbers honest rogue =
+    by_guest keeps m1 p1 d1 g stands
+    (λ h. either (Honest m2 p2 d2) (honest_is m2 p2 d2) (honest h))
+    (λ r. either (Rogue m2 p2 d2) (rogue_is m2 p2 d2) (rogue r))
+  where
+    either : (New : Guest → Type 0) → ((new : Guest) → New new → IsGuest m2 p2 d2 new)
+        → StepsAlone New g call reply → StepsAlone (Stands keeps m2 p2 d2) g call reply
+    either New is step = record {
+      new = step.new;
+      stands = stands_with keeps m1 m2 p1 p2 d1 d2 g step.new stands flag numbers step.frames
+          (is step.new step.stands);
+      step = step.step;
+      frames = step.frames;
+    }
 
 pub over_stands : (keeps : Bool) (m1 m2 : Pages) (p1 p2 : Part) (d1 d2 : DriverState) (g : Guest)
     (Answers : List Bool → Claim → Type 0) (out1 out2 : List Bool) (claims : List Claim)
     (call : Call) (reply : Reply) → Stands keeps m1 p1 d1 g
-    → StepsOver (Honest m2 p2 d2) Answers (supply_of p1 out1) (supply_of p2 out2) claims g call reply
+    → (Honest m1 p1 d1 g → StepsOver (Honest m2 p2 d2) Answers (supply_of p1 out1)
+    (supply_of p2 out2) claims g call reply)
+    → (Rogue m1 p1 d1 g → StepsOver (Rogue m2 p2 d2) Answers (supply_of p1 out1)
+    (supply_of p2 out2) claims g call reply)
     → StepsOver (Stands keeps m2 p2 d2) Answers (supply_of p1 out1) (supply_of p2 out2) claims g
     call reply
-over_stands keeps m1 m2 p1 p2 d1 d2 g Answers out1 out2 claims call reply stands step = record {
-  new = step.new;
-  stands = stands_of keeps m2 p2 d2 step.new step.stands
-      (own_moved keeps p1 p2 out1 out2 g step.new step.moves stands.own);
-  step = step.step;
-  answered = step.answered;
-  moves = step.moves;
-}
+over_stands keeps m1 m2 p1 p2 d1 d2 g Answers out1 out2 claims call reply stands honest rogue =
+    by_guest keeps m1 p1 d1 g stands
+    (λ h. either (Honest m2 p2 d2) (honest_is m2 p2 d2) (honest h))
+    (λ r. either (Rogue m2 p2 d2) (rogue_is m2 p2 d2) (rogue r))
+  where
+    either : (New : Guest → Type 0) → ((new : Guest) → New new → IsGuest m2 p2 d2 new)
+        → StepsOver New Answers (supply_of p1 out1) (supply_of p2 out2) claims g call reply
+        → StepsOver (Stands keeps m2 p2 d2) Answers (supply_of p1 out1) (supply_of p2 out2) claims
+        g call reply
+    either New is step = record {
+      new = step.new;
+      stands = stands_of keeps m2 p2 d2 step.new (is step.new step.stands)
+          (own_moved keeps p1 p2 out1 out2 g step.new step.moves stands.own);
+      step = step.step;
+      answered = step.answered;
+      moves = step.moves;
+    }
 
 -- a step in which no frame moves
 pub steps_quiet : (keeps : Bool) (m1 m2 : Pages) (p1 p2 : Part) (d1 d2 : DriverState) (g : Guest)
@@ -142,35 +189,55 @@ steps_quiet keeps m1 m2 p1 p2 d1 d2 g Answers out call reply stands step = recor
 
 -- ---- frames that pages lost
 
+-- how many frames of each number they are
+abbrev pub AreLost : Guest → (ℕ → ℕ) → Type 0
+AreLost g lost = (new : Guest) × ((n : ℕ) → lost n + backing_count n new ≡ backing_count n g)
+
 -- they are out
 pub freed_loose : (keeps : Bool) (m1 : Pages) (p1 p2 : Part) (d : DriverState) (g : Guest)
-    (New : Guest → Type 0) (out : List Bool) (call : Call) (reply : Reply)
-    → Stands keeps m1 p1 d g → (keeps ≡ false → AreOut g out)
-    → p2.keeps ≡ p1.keeps → p2.own ≡ p1.own → StepsFreeing New p2.loose g call reply
+    (out : List Bool) → Stands keeps m1 p1 d g → (keeps ≡ false → AreOut g out)
+    → p2.keeps ≡ p1.keeps → p2.own ≡ p1.own
+    → (Honest m1 p1 d g → AreLost g (λ n. times n p2.loose))
+    → (Rogue m1 p1 d g → AreLost g (λ n. times n p2.loose))
     → AreLoose p2.loose (supply_of p2 out)
-freed_loose keeps m1 p1 p2 d g New out call reply stands held flag numbers step n =
+freed_loose keeps m1 p1 p2 d g out stands held flag numbers honest rogue n =
+    let lost = by_guest keeps m1 p1 d g stands honest rogue in
     by_keeps (supply_of p2 out)
     (λ e. (let k = sym stands.own.flag ∙ sym flag ∙ e in
     omega (
       arith,
-      step.freed n,
+      lost.1 n,
       stands.own.each k n,
       ap one_if (used_own (supply_of p2 out) n e),
       ap (λ (l : List ℕ). one_if (has l n)) numbers,
     )))
     (λ e. (let k = sym stands.own.flag ∙ sym flag ∙ e in
-    omega (arith, step.freed n, held k n, ap one_if (used_out (supply_of p2 out) n e))))
+    omega (arith, lost.1 n, held k n, ap one_if (used_out (supply_of p2 out) n e))))
 
--- they have gone back
+pub lost_by : (New : Guest → Type 0) (loose : List ℕ) (g : Guest) (call : Call) (reply : Reply)
+    → StepsFreeing New loose g call reply → AreLost g (λ n. times n loose)
+lost_by New loose g call reply step = (step.new, step.freed)
+
+-- and have gone back
 pub steps_freed : (keeps : Bool) (m1 m3 : Pages) (p1 p2 p3 : Part) (d : DriverState) (g : Guest)
     (Answers : List Bool → Claim → Type 0) (out1 out2 : List Bool) (call : Call) (reply : Reply)
     → Stands keeps m1 p1 d g → p2.keeps ≡ p1.keeps → p2.own ≡ p1.own
-    → StepsFreeing (λ new. Honest m3 p3 d new) p2.loose g call reply
+    → (Honest m1 p1 d g → StepsFreeing (Honest m3 p3 d) p2.loose g call reply)
+    → (Rogue m1 p1 d g → StepsFreeing (Rogue m3 p3 d) p2.loose g call reply)
     → Moves (supply_of p2 out1) (supply_of p3 out2) nothing (λ n. times n p2.loose)
     → StepsOver (Stands keeps m3 p3 d) Answers (supply_of p1 out1) (supply_of p3 out2) [] g call
     reply
-steps_freed keeps m1 m3 p1 p2 p3 d g Answers out1 out2 call reply stands flag numbers step moves =
-    over_stands keeps m1 m3 p1 p3 d d g Answers out1 out2 [] call reply stands (record {
+steps_freed keeps m1 m3 p1 p2 p3 d g Answers out1 out2 call reply stands flag numbers honest rogue
+    moves =
+    over_stands keeps m1 m3 p1 p3 d d g Answers out1 out2 [] call reply stands
+    (λ h. over (Honest m3 p3 d) (honest h)) (λ r. over (Rogue m3 p3 d) (rogue r))
+  where
+    first : Moves (supply_of p1 out1) (supply_of p3 out2) nothing (λ n. times n p2.loose)
+    first = rw (← flag, ← numbers) moves
+
+    over : (New : Guest → Type 0) → StepsFreeing New p2.loose g call reply
+        → StepsOver New Answers (supply_of p1 out1) (supply_of p3 out2) [] g call reply
+    over New step = record {
       new = step.new;
       stands = step.stands;
       step = step.step;
@@ -178,10 +245,7 @@ steps_freed keeps m1 m3 p1 p2 p3 d g Answers out1 out2 call reply stands flag nu
       moves = moves_as (supply_of p1 out1) (supply_of p3 out2) nothing (λ n. times n p2.loose)
           (λ n. backing_count n step.new) (λ n. backing_count n g) first
           (λ n. omega (arith, step.freed n));
-    })
-  where
-    first : Moves (supply_of p1 out1) (supply_of p3 out2) nothing (λ n. times n p2.loose)
-    first = rw (← flag, ← numbers) moves
+    }
 
 -- ---- where the keeper's frames alone count
 
@@ -198,24 +262,40 @@ claimed_asked Answers s (Gave n ∷ claims) e (mid, first, rest) =
 claimed_asked Answers s (GaveNoFrame ∷ claims) e (mid, first, last) = ((first.asked e).0, last)
 claimed_asked Answers s (GaveNoMemory ∷ claims) e (mid, first, last) = ((first.asked e).0, last)
 
+-- Of the keeper's frames, so many of each number went out, and so many came back.
+pub record KeeperMoves (old_out new_out : List Bool) (gained lost : ℕ → ℕ) : Type 0 where
+  pub balance : (n : ℕ)
+      → one_if (is_out new_out n) + lost n ≡ one_if (is_out old_out n) + gained n
+  pub count : length new_out ≡ length old_out
+
+pub moves_asked : (s1 s2 : Supply) (gained lost : ℕ → ℕ) → s1.keeps ≡ false
+    → Moves s1 s2 gained lost → KeeperMoves s1.out s2.out gained lost
+moves_asked s1 s2 gained lost e moves = record {
+  balance = λ n. omega (
+    arith,
+    moves.balance n,
+    ap one_if (used_out s1 n e),
+    ap one_if (used_out s2 n (moves.keeps ∙ e)),
+  );
+  count = moves.count;
+}
+
 -- a step over the keeper's frames
 pub steps_asked : (New : Guest → Type 0) (Answers : List Bool → Claim → Type 0) (s1 s2 : Supply)
     (claims : List Claim) (g : Guest) (call : Call) (reply : Reply) → s1.keeps ≡ false
     → StepsOver New Answers s1 s2 claims g call reply → Steps New Answers s1.out s2.out g call reply
-steps_asked New Answers s1 s2 claims g call reply e step = record {
-  claims = claims;
-  new = step.new;
-  stands = step.stands;
-  step = step.step;
-  answered = claimed_asked Answers s1 claims e step.answered;
-  balance = λ n. omega (
-    arith,
-    step.moves.balance n,
-    ap one_if (used_out s1 n e),
-    ap one_if (used_out s2 n (step.moves.keeps ∙ e)),
-  );
-  count = step.moves.count;
-}
+steps_asked New Answers s1 s2 claims g call reply e step =
+    let keeper = moves_asked s1 s2 (λ n. backing_count n step.new) (λ n. backing_count n g) e
+    step.moves in
+    record {
+      claims = claims;
+      new = step.new;
+      stands = step.stands;
+      step = step.step;
+      answered = claimed_asked Answers s1 claims e step.answered;
+      balance = keeper.balance;
+      count = keeper.count;
+    }
 
 -- the device is said to keep what it keeps
 pub stands_keeping : (keeps other : Bool) (m : Pages) (p : Part) (d : DriverState) (g : Guest)

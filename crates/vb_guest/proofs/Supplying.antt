@@ -10,12 +10,12 @@ use Rattle.vb_model.specs.declared.calls.Claim.TheVariants.{Gave, GaveNoFrame, G
 use Rattle.vb_model.specs.Tests.{is_in, each_from}
 use Rattle.vb_model.specs.Guest.{backed, all_backed}
 use Rattle.vb_model.specs.Driver.{given, claim_refusal, AreClaimsFor, AllDistinct}
-use Rattle.vb_ram.specs.Pages.{Pages, page_at, frame_at, number_of}
+use Rattle.vb_ram.specs.Pages.{Pages, page_at, frame_at, number_of, Supplied}
 use Rattle.vb_guest.specs.Stands.{HasPages}
 use Rattle.vb_guest.specs.Steps.{is_frame}
 use Rattle.vb_guest.specs.Lives.{AllSupplied}
 use Rattle.vb_model.specs.Orderly.{times}
-use Rattle.vb_guest.proofs.Writing.{pages_supplied, count_backed}
+use Rattle.vb_guest.proofs.Writing.{HasFrames, frames_supplied, pages_supplied, count_backed}
 use Rattle.vb_guest.proofs.Moving.{times_first}
 
 either : (b : Bool) → (b ≡ true) ⊎ (b ≡ false)
@@ -181,50 +181,73 @@ distinct_out p ps e = elim (either (is_in p ps)) [
   | inr out ↦ out
 ]
 
-pub pages_filled : (n : ℕ) (pages numbers : List ℕ) (m1 m2 : Pages) (frames : List (Option ℕ))
-    (contents : List (List ℕ)) → AllDistinct pages → ((p : ℕ) → is_in p pages ≡ true → p < n)
-    → AllSupplied pages numbers m1 m2 → HasPages m1 n frames contents
-    → HasPages m2 n (all_backed pages numbers frames) contents
-pages_filled n [] numbers m1 m2 frames contents distinct below e has =
-    subst (λ m. HasPages m n frames contents) (sym e) has
-pages_filled n (p ∷ ps) [] m1 m2 frames contents distinct below none has = absurd none
-pages_filled n (p ∷ ps) (k ∷ ks) m1 m2 frames contents distinct below (mid, before, bare, did) has =
+-- what one page's new frame leaves, the new frames of all pages leave
+filled_by : (Has : Pages → List (Option ℕ) → Type 0) (n : ℕ) (pages numbers : List ℕ)
+    (m1 m2 : Pages) (frames : List (Option ℕ))
+    → ((old new : Pages) (page frame : ℕ) (before : List (Option ℕ)) → page < n
+    → frame_at old page ≡ None → Has old before → Supplied old new page frame
+    → Has new (backed page frame before))
+    → AllDistinct pages → ((p : ℕ) → is_in p pages ≡ true → p < n)
+    → AllSupplied pages numbers m1 m2 → Has m1 frames
+    → Has m2 (all_backed pages numbers frames)
+filled_by Has n [] numbers m1 m2 frames one distinct below e has =
+    subst (λ m. Has m frames) (sym e) has
+filled_by Has n (p ∷ ps) [] m1 m2 frames one distinct below none has = absurd none
+filled_by Has n (p ∷ ps) (k ∷ ks) m1 m2 frames one distinct below (mid, before, bare, did) has =
     let out = distinct_out p ps distinct.0 in
     let lt : p < n = below p (ap (λ (b : Bool). b || is_in p ps) (eq-eqb p p refl)) in
-    let there = pages_filled n ps ks m1 mid frames contents distinct.1
+    let there = filled_by Has n ps ks m1 mid frames one distinct.1
     (λ q m. below q (later (p == q) (is_in q ps) m)) before has in
-    subst (λ l. HasPages m2 n l contents) (backed_last p k ps ks frames out)
-    (pages_supplied mid m2 n p k (all_backed ps ks frames) contents lt bare there did)
+    subst (λ l. Has m2 l) (backed_last p k ps ks frames out)
+    (one mid m2 p k (all_backed ps ks frames) lt bare there did)
   where
     later : (a b : Bool) → b ≡ true → (a || b) ≡ true
     later true b e = refl
     later false b e = e
 
+pub pages_filled : (n : ℕ) (pages numbers : List ℕ) (m1 m2 : Pages) (frames : List (Option ℕ))
+    (contents : List (List ℕ)) → AllDistinct pages → ((p : ℕ) → is_in p pages ≡ true → p < n)
+    → AllSupplied pages numbers m1 m2 → HasPages m1 n frames contents
+    → HasPages m2 n (all_backed pages numbers frames) contents
+pages_filled n pages numbers m1 m2 frames contents distinct below supplied has =
+    filled_by (λ m l. HasPages m n l contents) n pages numbers m1 m2 frames
+    (λ old new page frame before lt bare all did.
+    pages_supplied old new n page frame before contents lt bare all did) distinct below supplied has
+
+pub frames_given : (n : ℕ) (pages numbers : List ℕ) (m1 m2 : Pages) (frames : List (Option ℕ))
+    → AllDistinct pages → ((p : ℕ) → is_in p pages ≡ true → p < n)
+    → AllSupplied pages numbers m1 m2 → HasFrames m1 n frames
+    → HasFrames m2 n (all_backed pages numbers frames)
+frames_given n pages numbers m1 m2 frames distinct below supplied has =
+    filled_by (λ m l. HasFrames m n l) n pages numbers m1 m2 frames
+    (λ old new page frame before lt bare all did.
+    frames_supplied old new n page frame before lt all did) distinct below supplied has
+
 -- each frame that was given is behind a page more
 pub frames_filled : (x n : ℕ) (pages : List ℕ) (claims : List Claim) (m1 m2 : Pages)
-    (frames : List (Option ℕ)) (contents : List (List ℕ))
+    (frames : List (Option ℕ))
     → claim_refusal claims ≡ None → AreClaimsFor pages claims
     → AllDistinct pages → ((p : ℕ) → is_in p pages ≡ true → p < n)
-    → AllSupplied pages (given claims) m1 m2 → HasPages m1 n frames contents
+    → AllSupplied pages (given claims) m1 m2 → HasFrames m1 n frames
     → count_by (is_frame x) (all_backed pages (given claims) frames)
     ≡ count_by (is_frame x) frames + times x (given claims)
-frames_filled x n [] [] m1 m2 frames contents all made distinct below supplied has = omega arith
-frames_filled x n [] (c ∷ cs) m1 m2 frames contents all made distinct below supplied has =
+frames_filled x n [] [] m1 m2 frames all made distinct below supplied has = omega arith
+frames_filled x n [] (c ∷ cs) m1 m2 frames all made distinct below supplied has =
     absurd made
-frames_filled x n (p ∷ ps) [] m1 m2 frames contents all made distinct below supplied has =
+frames_filled x n (p ∷ ps) [] m1 m2 frames all made distinct below supplied has =
     absurd made
-frames_filled x n (p ∷ ps) (GaveNoFrame ∷ cs) m1 m2 frames contents all made distinct below supplied
+frames_filled x n (p ∷ ps) (GaveNoFrame ∷ cs) m1 m2 frames all made distinct below supplied
     has = absurd cc
-frames_filled x n (p ∷ ps) (GaveNoMemory ∷ cs) m1 m2 frames contents all made distinct below
+frames_filled x n (p ∷ ps) (GaveNoMemory ∷ cs) m1 m2 frames all made distinct below
     supplied has = absurd cc
-frames_filled x n (p ∷ ps) (Gave f ∷ cs) m1 m2 frames contents all made distinct below
+frames_filled x n (p ∷ ps) (Gave f ∷ cs) m1 m2 frames all made distinct below
     (mid, before, bare, did) has =
     let below_too : (q : ℕ) → is_in q ps ≡ true
     → q < n = λ q m. below q (later (p == q) (is_in q ps) m) in
     let lt : p < n = below p (ap (λ (b : Bool). b || is_in p ps) (eq-eqb p p refl)) in
-    let there = pages_filled n ps (given cs) m1 mid frames contents distinct.1 below_too before
+    let there = frames_given n ps (given cs) m1 mid frames distinct.1 below_too before
     has in
-    let rest = frames_filled x n ps cs m1 mid frames contents all made distinct.1 below_too before
+    let rest = frames_filled x n ps cs m1 mid frames all made distinct.1 below_too before
     has in
     let more = count_backed x p f (all_backed ps (given cs) frames) (omega (arith, there.framed))
     (sym (there.behind p) ∙ bare) in

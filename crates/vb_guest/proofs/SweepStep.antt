@@ -111,7 +111,7 @@ reserved_alone Stranded e = absurd cc
 reserved_alone Reporting e = absurd cc
 
 -- no reserved page is ballooned
-ballooned_free : (g : Guest) (page : ℕ) → IsConsistent g → is_ballooned g.ballooned page ≡ true
+pub ballooned_free : (g : Guest) (page : ℕ) → IsConsistent g → is_ballooned g.ballooned page ≡ true
     → is_reserved (place_of g.places page) ≡ false
 ballooned_free g page sound flag = elim (either (is_reserved (place_of g.places page))) [
   | inr free ↦ free

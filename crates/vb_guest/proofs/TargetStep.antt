@@ -4,18 +4,23 @@ use Rattle.std.proofs.Common.{inl, inr}
 use Rattle.vb_model.specs.declared.calls.Call.TheVariants.{SetTarget}
 use Rattle.vb_model.specs.declared.replies.Reply.TheVariants.{Done}
 use Rattle.vb_model.specs.Guest.{Guest}
+use Rattle.vb_model.specs.Step.{HonestStep}
 use Rattle.vb_ram.specs.Pages.{Pages}
 use Rattle.vb_ram.specs.Part.{Part}
 use Rattle.vb_driver.specs.State.{DriverState}
 use Rattle.vb_guest.specs.Stands.{Honest, Ties}
 use Rattle.vb_guest.specs.Steps.{StepsAlone}
-use Rattle.vb_guest.proofs.Closing.{honest_performed, steps_alone, ties_same}
+use Rattle.vb_guest.proofs.Closing.{guest_step, honest_performed, still_stands, ties_same}
 use Rattle.vb_guest.proofs.Writing.{idle_still}
 
-pub target_step : (m1 m2 : Pages) (p1 p2 : Part) (d : DriverState) (g : Guest) (n : ℕ) → m2 ≡ m1
-    → p2 ≡ record p1 { target = n } → Honest m1 p1 d g
-    → StepsAlone (Honest m2 p2 d) g (SetTarget n) Done
-target_step m1 m2 p1 p2 d g n memory part stands =
+target_set : (g : Guest) (n : ℕ) → HonestStep g (SetTarget n) [] Done (record g { target = n })
+target_set g n =
+    honest_performed g (SetTarget n) [] Done (record g { target = n }) refl (refl, refl, refl)
+
+-- the guest has the new target
+pub target_stands : (m1 m2 : Pages) (p1 p2 : Part) (d : DriverState) (g : Guest) (n : ℕ) → m2 ≡ m1
+    → p2 ≡ record p1 { target = n } → Honest m1 p1 d g → Honest m2 p2 d (record g { target = n })
+target_stands m1 m2 p1 p2 d g n memory part stands =
     let ties = stands.ties in
     let new : Guest = record g { target = n } in
     let after : Part = record p1 { target = n } in
@@ -52,6 +57,16 @@ target_step m1 m2 p1 p2 d g n memory part stands =
         })
       ];
     } in
-    let step = honest_performed g (SetTarget n) [] Done new refl (refl, refl, refl) in
-    steps_alone m1 m2 p1 p2 d d g (SetTarget n) Done new stands step
-    (ties_same m1 m2 after p2 d d new memory part refl there) refl
+    still_stands m1 m2 p1 p2 d d g (SetTarget n) [] Done new stands (target_set g n)
+    (ties_same m1 m2 after p2 d d new memory part refl there)
+
+pub target_step : (m1 m2 : Pages) (p1 p2 : Part) (d : DriverState) (g : Guest) (n : ℕ) → m2 ≡ m1
+    → p2 ≡ record p1 { target = n } → Honest m1 p1 d g
+    → StepsAlone (Honest m2 p2 d) g (SetTarget n) Done
+target_step m1 m2 p1 p2 d g n memory part stands = record {
+  new = record g { target = n };
+  stands = target_stands m1 m2 p1 p2 d g n memory part stands;
+  step = guest_step g (SetTarget n) [] Done (record g { target = n })
+      stands.ties.parts.guest.honest (target_set g n);
+  frames = refl;
+}

@@ -103,7 +103,7 @@ needs_empty : (g : Guest) (page : ℕ) (bs : List ℕ) → length bs ≡ 0 → p
 needs_empty g page [] e = refl
 needs_empty g page (b ∷ bs) e = absurd (omega arith)
 
-needs_one : (g : Guest) (page : ℕ) (bs : List ℕ) → 0 < length bs → frame_of g.frames page ≡ None
+pub needs_one : (g : Guest) (page : ℕ) (bs : List ℕ) → 0 < length bs → frame_of g.frames page ≡ None
     → pages_needed page bs g ≡ page ∷ []
 needs_one g page [] some is = absurd (omega arith)
 needs_one g page (b ∷ bs) some is = ap (λ (o : Option ℕ). if is_none o then page ∷ [] else []) is

@@ -186,15 +186,24 @@ pages_wrote m1 m2 n page off bs frames contents high lt fits has wrote =
       ];
     }
 
--- a page with no frame holds zeros, and so it does with a new one
-pub pages_supplied : (m1 m2 : Pages) (n page frame : ℕ) (frames : List (Option ℕ))
-    (contents : List (List ℕ)) → page < n → frame_at m1 page ≡ None
-    → HasPages m1 n frames contents → Supplied m1 m2 page frame
-    → HasPages m2 n (backed page frame frames) contents
-pages_supplied m1 m2 n page frame frames contents lt bare has did = record {
+-- the pages of memory have these frames
+pub record HasFrames (mem : Pages) (count : ℕ) (frames : List (Option ℕ)) : Type 0 where
+  pub length_is : length mem ≡ count
+  pub framed : length frames ≡ count
+  pub behind : (page : ℕ) → frame_at mem page ≡ frame_of frames page
+
+pub frames_of : (mem : Pages) (count : ℕ) (frames : List (Option ℕ)) (contents : List (List ℕ))
+    → HasPages mem count frames contents → HasFrames mem count frames
+frames_of mem count frames contents has =
+    record { length_is = has.length_is; framed = has.framed; behind = has.behind }
+
+-- a page has a frame more
+pub frames_supplied : (m1 m2 : Pages) (n page frame : ℕ) (frames : List (Option ℕ)) → page < n
+    → HasFrames m1 n frames → Supplied m1 m2 page frame
+    → HasFrames m2 n (backed page frame frames)
+frames_supplied m1 m2 n page frame frames lt has did = record {
   length_is = did.count ∙ has.length_is;
   framed = length-at_page page (λ (old : Option ℕ). Some frame) frames ∙ has.framed;
-  filled = has.filled;
   behind = λ p. elim (cases_eq p page) [
     | inl same ↦
         ap (λ (k : ℕ). frame_at m2 k) same ∙ did.backed
@@ -204,13 +213,6 @@ pages_supplied m1 m2 n page frame frames contents lt bare has did = record {
     | inr ne ↦ ap number_of (did.others p ne) ∙ has.behind p
         ∙ sym (past_or p ne (cases_lt p (length frames)))
   ];
-  holds = λ p up low. elim (cases_eq p page) [
-    | inl same ↦ ap (λ (k : ℕ). contents_at m2 k) same ∙ did.contents
-        ∙ sym (zeros (page_at m1 page) bare) ∙ ap (λ (k : ℕ). contents_at m1 k) (sym same)
-        ∙ has.holds p up low
-    | inr ne ↦ ap contents_of (did.others p ne) ∙ has.holds p up low
-  ];
-  sizes = has.sizes;
 }
   where
     past_or : (p : ℕ) → p ≢ page → (p < length frames) ⊎ (length frames ≤ p)
@@ -222,6 +224,28 @@ pages_supplied m1 m2 n page frame frames contents lt bare has did = record {
         (omega (arith, length-at_page page (λ (old : Option ℕ). Some frame) frames))
         ∙ sym (Rattle.std.proofs.lemmas.List.get_or_past frames p None past)
 
+-- a page with no frame holds zeros, and so it does with a new one
+pub pages_supplied : (m1 m2 : Pages) (n page frame : ℕ) (frames : List (Option ℕ))
+    (contents : List (List ℕ)) → page < n → frame_at m1 page ≡ None
+    → HasPages m1 n frames contents → Supplied m1 m2 page frame
+    → HasPages m2 n (backed page frame frames) contents
+pages_supplied m1 m2 n page frame frames contents lt bare has did =
+    let all = frames_supplied m1 m2 n page frame frames lt (frames_of m1 n frames contents has)
+    did in
+    record {
+      length_is = all.length_is;
+      framed = all.framed;
+      filled = has.filled;
+      behind = all.behind;
+      holds = λ p up low. elim (cases_eq p page) [
+        | inl same ↦ ap (λ (k : ℕ). contents_at m2 k) same ∙ did.contents
+            ∙ sym (zeros (page_at m1 page) bare) ∙ ap (λ (k : ℕ). contents_at m1 k) (sym same)
+            ∙ has.holds p up low
+        | inr ne ↦ ap contents_of (did.others p ne) ∙ has.holds p up low
+      ];
+      sizes = has.sizes;
+    }
+  where
     zeros : (x : Option Rattle.vb_ram.specs.Pages.Page) → number_of x ≡ None
         → contents_of x ≡ zero_page
     zeros None e = refl

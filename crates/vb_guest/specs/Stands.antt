@@ -1,12 +1,14 @@
 -- What ties a driver, a device's part and guest memory to a guest of the model.
 use Rattle.std.specs.Prelude.{◌≡◌, ℕ, ◌<◌, ◌≤◌, Bool, false, true, List, Option, [], length}
-use Rattle.std.specs.Prelude.{replicate, slice_index_or, IsSome, ◌⊎◌}
+use Rattle.std.specs.Prelude.{replicate, slice_index_or, IsSome, ◌⊎◌, All, count_by}
 use Rattle.vb_model.specs.Limits.{is_config, page_size, reserved_pages, ring_and_buffer_pages}
 use Rattle.vb_model.specs.declared.places.Place.{Place}
 use Rattle.vb_model.specs.Tests.{one_if}
-use Rattle.vb_model.specs.Pages.{Block}
-use Rattle.vb_model.specs.Requests.{no_requests, NoBuffer}
+use Rattle.vb_model.specs.Pages.{Block, is_lent_or_taking}
+use Rattle.vb_model.specs.Status.{contains, driver_ok}
+use Rattle.vb_model.specs.Requests.{Request, no_requests, NoBuffer}
 use Rattle.vb_model.specs.Guest.{Guest, Config, LastStatistics, no_statistics, frame_of}
+use Rattle.vb_model.specs.Guest.{is_ballooned}
 use Rattle.vb_model.specs.Consistent.{IsConsistent}
 use Rattle.vb_model.specs.Orderly.{IsOrderly}
 use Rattle.vb_ram.specs.Pages.{Pages, frame_at, contents_at}
@@ -145,10 +147,53 @@ pub record OwnFrames (keeps : Bool) (part : Part) (g : Guest) : Type 0 where
   pub none : keeps ≡ false → part.own ≡ []
   pub each : keeps ≡ true → (n : ℕ) → backing_count n g ≡ one_if (has part.own n)
 
--- By whether the guest is a rogue one: of those there are none yet.
+-- ---- a guest that wrote past its driver
+
+-- The request names pages of a guest of so many pages, none of them reserved.
+pub record IsOwnRequest (count : ℕ) (r : Request) : Type 0 where
+  pub above : All (λ page. reserved_pages ≤ page) r.pages
+  pub below : All (λ page. page < count) r.pages
+
+-- Whatever its rings say, the pages of rings and buffers have frames, and what the device took names
+-- pages that it may take frames from.
+pub record IsRogueUp (mem : Pages) (part : Part) : Type 0 where
+  pub backed : (page : ℕ) → page < ring_and_buffer_pages → IsSome (frame_at mem page)
+  pub inflates : All (IsOwnRequest (length mem)) part.inflate.taken
+  pub reports : All (IsOwnRequest (length mem)) part.report.taken
+
+-- How large the guest is, what its driver and its device keep and are asked for, and the frames behind
+-- its pages: nothing of its rings, of its requests, and of what its pages hold.
+pub record Rogue (mem : Pages) (part : Part) (d : DriverState) (g : Guest) : Type 0 where
+  pub rogue : g.rogue ≡ true
+  pub config : is_config g.config.pages g.config.queue_size g.config.processors ≡ true
+  -- the driver
+  pub pages : d.pages ≡ g.config.pages
+  pub queue_size : d.queue_size ≡ g.config.queue_size
+  pub processors : d.processors ≡ g.config.processors
+  pub places : d.places ≡ g.places
+  pub placed : length g.places ≡ g.config.pages
+  pub actual : g.actual ≡ count_by is_lent_or_taking g.places
+  -- the device
+  pub size : part.queue_size ≡ g.config.queue_size
+  pub paced : part.paced ≡ g.config.paced
+  pub status : part.status ≡ g.status
+  pub target : part.target ≡ g.target
+  pub last : part.last ≡ g.last
+  pub ballooned : part.ballooned ≡ g.ballooned
+  pub flagged : length g.ballooned ≡ g.config.pages
+  pub unreserved : (page : ℕ) → page < reserved_pages → is_ballooned g.ballooned page ≡ false
+  pub loose : part.loose ≡ []
+  -- memory
+  pub length_is : length mem ≡ g.config.pages
+  pub framed : length g.frames ≡ g.config.pages
+  pub filled : length g.contents ≡ g.config.pages
+  pub behind : (page : ℕ) → frame_at mem page ≡ frame_of g.frames page
+  pub up : contains part.status driver_ok ≡ true → IsRogueUp mem part
+
+-- By whether the guest wrote past its driver.
 abbrev pub StandsBy : Bool → Pages → Part → DriverState → Guest → Type 0
 StandsBy false mem part d g = Honest mem part d g
-StandsBy true mem part d g = ⊥
+StandsBy true mem part d g = Rogue mem part d g
 
 -- The driver, the device and its memory are those of this guest, and the device does, or doesn't, keep
 -- frames of its own.

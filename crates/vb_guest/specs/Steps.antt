@@ -9,7 +9,10 @@ use Rattle.vb_model.specs.Guest.{Guest}
 use Rattle.vb_model.specs.Step.{GuestStep}
 use Rattle.vb_model.specs.Orderly.{times}
 use Rattle.vb_frames.specs.Out.{is_out, AllAnswered}
-use Rattle.vb_guest.specs.Supply.{Supply, AreClaimed, Moves}
+use Rattle.vb_model.specs.Life.{after_restart}
+use Rattle.vb_ram.specs.Pages.{Pages, frame_at}
+use Rattle.vb_ram.specs.Part.{Part}
+use Rattle.vb_guest.specs.Supply.{Supply, AreClaimed, Moves, nothing}
 
 abbrev pub is_frame : ℕ → Option ℕ → Bool
 is_frame n None = false
@@ -65,3 +68,19 @@ pub record StepsFreeing (New : Guest → Type 0) (loose : List ℕ) (g : Guest) 
   pub stands : New new
   pub step : GuestStep g call [] reply new
   pub freed : (n : ℕ) → times n loose + backing_count n new ≡ backing_count n g
+
+-- Every frame behind a page of the guest went back to where it came from, and no other frame moved.
+abbrev pub AllReturn : Supply → Supply → Guest → Type 0
+AllReturn old_supply new_supply g = Moves old_supply new_supply nothing (λ n. backing_count n g)
+
+-- No page has a frame, and no frame is loose.
+pub record IsBare (mem : Pages) (part : Part) : Type 0 where
+  pub frames : (page : ℕ) → frame_at mem page ≡ None
+  pub loose : part.loose ≡ []
+
+-- A new life of the guest, for which New holds: as it was plugged in, with its target, and with none
+-- of the frames that it had.
+pub record Restarts (New : Guest → Type 0) (old_supply new_supply : Supply) (g : Guest) :
+    Type 0 where
+  pub stands : New (after_restart g)
+  pub moves : AllReturn old_supply new_supply g

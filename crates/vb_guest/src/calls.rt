@@ -1,7 +1,6 @@
 //! Calls on a guest and questions about it, told apart by their names.
 
-ghost use Rattle.std.specs.Prelude.{◌≡◌, Bool, true, false};
-ghost use Rattle.vb_model.specs.Brought.{is_call_brought};
+ghost use Rattle.std.specs.Prelude.{◌≡◌, Bool, false};
 ghost use Rattle.vb_model.specs.Guest.{Guest};
 ghost use Rattle.vb_model.specs.World.{Answers};
 ghost use Rattle.vb_guest.specs.Stands.{Stands};
@@ -12,7 +11,7 @@ use crate::device::{ask, finish, set_target, sweep, take, work};
 use crate::driver::{deflate, free, inflate, oom, reap, report, stats};
 use crate::frames::Claims;
 use crate::lives::{init, reset};
-use crate::memory::{read, write};
+use crate::memory::{read, scribble, write};
 use crate::queries::{balloon, pages_at, pages_ballooned, places, statistics};
 use crate::replies::{
     asked_reply, balloon_reply, bytes_reply, done_reply, filled_reply, finished_reply,
@@ -39,7 +38,6 @@ pub fn call<D: Device, K: FrameKeeper>(
     requires stands { (keeps : Bool) × (g : Guest)
         × Stands keeps (D.mem device.old) (D.part device.old) driver.old g
         × (keeps ≡ false → AreOut g (K.out keeper.old)) }
-    requires brought { is_call_brought call.now ≡ true }
     ensures step { (keeps : Bool) (g : Guest)
         → Stands keeps (D.mem device.old) (D.part device.old) driver.old g
         → StepsOver (Stands keeps (D.mem device.new) (D.part device.new) driver.new) K.answers
@@ -78,7 +76,11 @@ pub fn call<D: Device, K: FrameKeeper>(
             set_target(device, *pages);
             Reply::Done
         }
-        Call::Scribble { .. } => unreachable!(),
+        Call::Scribble {
+            page,
+            offset,
+            bytes,
+        } => done_reply(scribble(device, keeper, claims, *page, *offset, bytes)),
     }
 }
 

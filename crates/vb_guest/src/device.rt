@@ -110,7 +110,10 @@ pub fn ask<D: Device>(device: &mut D) -> Result<(), Refusal>
 
 /// The host sets how many pages it wants (`num_pages`, VIRTIO 1.1, 5.5.4).
 pub fn set_target<D: Device>(device: &mut D, pages: u32)
-    ensures { (keeps : Bool) (d : DriverState) (g : Guest)
+    ensures aims { (keeps : Bool) (d : DriverState) (g : Guest)
+        → Stands keeps (D.mem device.old) (D.part device.old) d g
+        → Stands keeps (D.mem device.new) (D.part device.new) d (record g { target = pages }) }
+    ensures step { (keeps : Bool) (d : DriverState) (g : Guest)
         → Stands keeps (D.mem device.old) (D.part device.old) d g
         → StepsAlone (Stands keeps (D.mem device.new) (D.part device.new) d) g (Call.SetTarget pages) Done }
 {

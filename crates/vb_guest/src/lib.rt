@@ -14,6 +14,8 @@ pub use calls::{call, query};
 pub use device::{ask, finish, set_target, sweep, take, work};
 pub use driver::{alloc, deflate, free, inflate, oom, reap, report, stats};
 pub use frames::{Claims, MAX_CLAIMS};
-pub use lives::{init, reset};
-pub use memory::{read, write};
-pub use queries::{BalloonState, balloon, pages_at, pages_ballooned, places, statistics};
+pub use lives::{empty, init, reset, restart};
+pub use memory::{read, scribble, write};
+pub use queries::{
+    BalloonState, balloon, pages, pages_at, pages_ballooned, places, spare, statistics,
+};

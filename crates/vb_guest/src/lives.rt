@@ -1,15 +1,20 @@
 //! A guest's device starts, and starts over (VIRTIO 1.1, 2.1 and 3.1.1).
 
-ghost use Rattle.std.specs.Prelude.{◌≡◌, Bool, ◌≤◌, ℕ, [], length, false};
+ghost use Rattle.std.specs.Prelude.{◌≡◌, Bool, ◌≤◌, ℕ, [], length, false, None, replicate};
+ghost use Rattle.std.specs.List.{range_with_len};
 ghost use Rattle.vb_model.specs.Guest.{Guest};
 ghost use Rattle.vb_model.specs.declared.replies.Reply.TheVariants.{Done};
+ghost use Rattle.vb_model.specs.Orderly.{times};
+ghost use Rattle.vb_status.specs.After.{part_after_reset};
+ghost use Rattle.vb_driver.specs.State.{DriverState};
+ghost use Rattle.vb_device.specs.Discards.{frames_behind};
 ghost use Rattle.vb_guest.specs.Lives.{bare_from, SuppliesBy};
 ghost use Rattle.vb_guest.specs.Replies.{ready_reply};
 ghost use Rattle.vb_guest.specs.Stands.{Stands};
-ghost use Rattle.vb_guest.specs.Steps.{StepsAlone, StepsOver};
-ghost use Rattle.vb_guest.specs.Supply.{supply_of};
+ghost use Rattle.vb_guest.specs.Steps.{AreOut, StepsAlone, StepsOver, AllReturn, IsBare, Restarts};
+ghost use Rattle.vb_guest.specs.Supply.{supply_of, AreLoose, Moves, nothing};
 
-use crate::frames::{Claims, claim_frame, return_frame};
+use crate::frames::{Claims, claim_frame, return_frame, return_loose};
 use crate::memory::supply;
 use bitflags::Flags;
 use vb_device::Device;
@@ -93,4 +98,55 @@ pub fn reset<D: Device>(driver: &mut Driver, device: &mut D)
         → StepsAlone (Stands keeps (D.mem device.new) (D.part device.new) driver.new) g Call.Reset Done }
 {
     driver.reset(device);
+}
+
+/// Resets the device, and gives the frames of all pages back.
+fn take_all_back<D: Device, K: FrameKeeper>(device: &mut D, keeper: &mut K)
+    requires none { (D.part device.old).keeps ≡ false → (D.part device.old).own ≡ [] }
+    requires loose { (D.part device.old).loose ≡ [] }
+    requires out { AreLoose
+        (frames_behind (D.mem device.old) (range_with_len 0 (length (D.mem device.old))))
+        (supply_of (D.part device.old) (K.out keeper.old)) }
+    ensures mem { D.mem device.new ≡ replicate (length (D.mem device.old)) None }
+    ensures part { D.part device.new ≡ record (part_after_reset (D.part device.old)) {
+      loose = [];
+      own = (D.part device.new).own;
+    } }
+    ensures moves { Moves (supply_of (D.part device.old) (K.out keeper.old))
+        (supply_of (D.part device.new) (K.out keeper.new)) nothing
+        (λ n. times n
+        (frames_behind (D.mem device.old) (range_with_len 0 (length (D.mem device.old))))) }
+{
+    device.detach();
+    return_loose(device, keeper);
+}
+
+/// A new life of the guest begins (profile): the device is reset, every frame goes back to where it
+/// came from, and all unreserved pages are free. The target stays.
+pub fn restart<D: Device, K: FrameKeeper>(driver: &mut Driver, device: &mut D, keeper: &mut K)
+    requires { (keeps : Bool) × (g : Guest)
+        × Stands keeps (D.mem device.old) (D.part device.old) driver.old g
+        × (keeps ≡ false → AreOut g (K.out keeper.old)) }
+    ensures { (keeps : Bool) (g : Guest)
+        → Stands keeps (D.mem device.old) (D.part device.old) driver.old g
+        → Restarts (Stands keeps (D.mem device.new) (D.part device.new) driver.new)
+        (supply_of (D.part device.old) (K.out keeper.old))
+        (supply_of (D.part device.new) (K.out keeper.new)) g }
+{
+    driver.restart(device);
+    take_all_back(device, keeper);
+}
+
+/// The guest's life ends: the device is reset, and every frame goes back to where it came from.
+pub fn empty<D: Device, K: FrameKeeper>(device: &mut D, keeper: &mut K)
+    requires { (keeps : Bool) × (d : DriverState) × (g : Guest)
+        × Stands keeps (D.mem device.old) (D.part device.old) d g
+        × (keeps ≡ false → AreOut g (K.out keeper.old)) }
+    ensures bare { IsBare (D.mem device.new) (D.part device.new) }
+    ensures returned { (keeps : Bool) (d : DriverState) (g : Guest)
+        → Stands keeps (D.mem device.old) (D.part device.old) d g
+        → AllReturn (supply_of (D.part device.old) (K.out keeper.old))
+        (supply_of (D.part device.new) (K.out keeper.new)) g }
+{
+    take_all_back(device, keeper);
 }

@@ -46,7 +46,7 @@ fn overwrite<D: Device>(device: &mut D, page: u32, offset: u32, bytes: &Bytes)
 }
 
 /// Writes bytes of a page that gets a frame first.
-fn write_fresh<D: Device, K: FrameKeeper>(
+fn put_fresh<D: Device, K: FrameKeeper>(
     device: &mut D,
     keeper: &mut K,
     claims: &mut Claims,
@@ -60,12 +60,19 @@ fn write_fresh<D: Device, K: FrameKeeper>(
     requires some { 0 < length bytes.now }
     requires bare { frame_at (D.mem device.old) page ≡ None }
     requires none { claims.old.items ≡ [] }
-    ensures { (keeps : Bool) (d : DriverState) (g : Guest) → is_used (place_of d.places page) ≡ true
+    ensures writes { (keeps : Bool) (d : DriverState) (g : Guest)
+        → is_used (place_of d.places page) ≡ true
         → Stands keeps (D.mem device.old) (D.part device.old) d g
         → StepsOver (Stands keeps (D.mem device.new) (D.part device.new) d) K.answers
         (supply_of (D.part device.old) (K.out keeper.old))
         (supply_of (D.part device.new) (K.out keeper.new)) claims.new.items g
         (Call.Write page offset bytes.now) (done_reply result) }
+    ensures scribbles { (keeps : Bool) (d : DriverState) (g : Guest)
+        → Stands keeps (D.mem device.old) (D.part device.old) d g
+        → StepsOver (Stands keeps (D.mem device.new) (D.part device.new) d) K.answers
+        (supply_of (D.part device.old) (K.out keeper.old))
+        (supply_of (D.part device.new) (K.out keeper.new)) claims.new.items g
+        (Call.Scribble page offset bytes.now) (done_reply result) }
 {
     let frame = match claim_frame(device, keeper, claims) {
         Ok(frame) => frame,
@@ -75,6 +82,42 @@ fn write_fresh<D: Device, K: FrameKeeper>(
     supply(device, page, frame);
     overwrite(device, page, offset, bytes);
     Ok(())
+}
+
+/// Writes bytes of a page, which gets a frame if it has none. Refused with `OutOfRam` where the bytes
+/// don't lie in a page, and with `NoFrame` or `NoMemory` where a frame is wanting.
+fn put_bytes<D: Device, K: FrameKeeper>(
+    device: &mut D,
+    keeper: &mut K,
+    claims: &mut Claims,
+    page: u32,
+    offset: u32,
+    bytes: &Bytes,
+) -> Result<(), Refusal>
+    requires stands { (keeps : Bool) × (d : DriverState) × (g : Guest)
+        × Stands keeps (D.mem device.old) (D.part device.old) d g }
+    requires none { claims.old.items ≡ [] }
+    ensures writes { (keeps : Bool) (d : DriverState) (g : Guest)
+        → is_used (place_of d.places page) ≡ true
+        → Stands keeps (D.mem device.old) (D.part device.old) d g
+        → StepsOver (Stands keeps (D.mem device.new) (D.part device.new) d) K.answers
+        (supply_of (D.part device.old) (K.out keeper.old))
+        (supply_of (D.part device.new) (K.out keeper.new)) claims.new.items g
+        (Call.Write page offset bytes.now) (done_reply result) }
+    ensures scribbles { (keeps : Bool) (d : DriverState) (g : Guest)
+        → Stands keeps (D.mem device.old) (D.part device.old) d g
+        → StepsOver (Stands keeps (D.mem device.new) (D.part device.new) d) K.answers
+        (supply_of (D.part device.old) (K.out keeper.old))
+        (supply_of (D.part device.new) (K.out keeper.new)) claims.new.items g
+        (Call.Scribble page offset bytes.now) (done_reply result) }
+{
+    match device.write(page, offset as usize, bytes.as_slice()) {
+        Ok(()) => Ok(()),
+        Err(RamFault::NeedsFrame) => put_fresh(device, keeper, claims, page, offset, bytes),
+        Err(RamFault::OutOfRam) => Err(Refusal::OutOfRam),
+        Err(RamFault::AlreadyBacked) => unreachable!(),
+        Err(RamFault::Memory) => unreachable!(),
+    }
 }
 
 /// Writes bytes of a page that an allocation holds, which gets a frame if it has none, and notes what
@@ -103,13 +146,32 @@ pub fn write<D: Device, K: FrameKeeper>(
     if !driver.held(page) {
         return Err(Refusal::NotHeld);
     }
-    match device.write(page, offset as usize, bytes.as_slice()) {
-        Ok(()) => Ok(()),
-        Err(RamFault::NeedsFrame) => write_fresh(device, keeper, claims, page, offset, bytes),
-        Err(RamFault::OutOfRam) => Err(Refusal::OutOfRam),
-        Err(RamFault::AlreadyBacked) => unreachable!(),
-        Err(RamFault::Memory) => unreachable!(),
-    }
+    put_bytes(device, keeper, claims, page, offset, bytes)
+}
+
+/// Writes bytes of any page past the driver (profile), which gets a frame if it has none, and notes what
+/// the claim of it was answered. From then on nothing is said any more of what the guest's rings,
+/// requests and pages hold. Refused with `OutOfRam` where the bytes don't lie in a page, and with
+/// `NoFrame` or `NoMemory` where a frame is wanting, tested in this order; a refusal changes nothing.
+pub fn scribble<D: Device, K: FrameKeeper>(
+    device: &mut D,
+    keeper: &mut K,
+    claims: &mut Claims,
+    page: u32,
+    offset: u32,
+    bytes: &Bytes,
+) -> Result<(), Refusal>
+    requires { (keeps : Bool) × (d : DriverState) × (g : Guest)
+        × Stands keeps (D.mem device.old) (D.part device.old) d g }
+    ensures { (keeps : Bool) (d : DriverState) (g : Guest)
+        → Stands keeps (D.mem device.old) (D.part device.old) d g
+        → StepsOver (Stands keeps (D.mem device.new) (D.part device.new) d) K.answers
+        (supply_of (D.part device.old) (K.out keeper.old))
+        (supply_of (D.part device.new) (K.out keeper.new)) claims.new.items g
+        (Call.Scribble page offset bytes.now) (done_reply result) }
+{
+    claims.clear();
+    put_bytes(device, keeper, claims, page, offset, bytes)
 }
 
 /// Whether these bytes lie in a page of guest memory.
@@ -128,11 +190,12 @@ fn read_bytes<D: Device>(
     offset: u32,
     len: u32,
 ) -> Result<Bytes, AllocError>
-    requires covers { Covers (D.mem device.now) page offset len }
-    requires whole { length (contents_at (D.mem device.now) page) ≡ 4096 }
+    requires { Covers (D.mem device.now) page offset len }
     ensures { IfOk result
         (λ bytes. bytes ≡ take len (drop offset (contents_at (D.mem device.now) page))) }
 {
+    // That each page has as many bytes as a page has is known from here on.
+    let _frame = device.backing(page);
     let mut bytes = vec![in alloc; 0; len as usize]?;
     match device.read(page, offset as usize, &mut bytes) {
         Ok(()) => Ok(Bytes::new(bytes)),

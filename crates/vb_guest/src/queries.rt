@@ -2,6 +2,7 @@
 
 ghost use Rattle.std.specs.Prelude.{◌≡◌, Bool, ℕ, List, [], ◌∷◌, ◌++◌, length, IfOk, OnOk};
 ghost use Rattle.vb_model.specs.Guest.{Guest};
+ghost use Rattle.vb_model.specs.Balance.{spare};
 ghost use Rattle.vb_model.specs.Tests.{pages_where};
 ghost use Rattle.vb_model.specs.World.{Answers, is_place, runs};
 ghost use Rattle.vb_model.specs.declared.replies.Reply.TheVariants.{Places};
@@ -15,6 +16,7 @@ use bitflags::Flags;
 use std::alloc::{AllocError, Global};
 use vb_device::{Device, Statistics};
 use vb_driver::Driver;
+use vb_model::limits::{PAGE_SIZE, RESERVED_PAGES};
 use vb_model::{PageRun, PageRuns, Place, PlaceCounts, Query};
 
 /// What a device and its driver say of the balloon.
@@ -61,6 +63,28 @@ pub fn statistics<D: Device>(device: &D) -> Statistics
         → Answers Query.Memory g (memory_reply result) }
 {
     device.stats()
+}
+
+/// How many pages the guest has.
+pub fn pages<D: Device>(device: &D) -> u32
+    ensures { (keeps : Bool) (d : DriverState) (g : Guest)
+        → Stands keeps (D.mem device.now) (D.part device.now) d g → result ≡ g.config.pages }
+{
+    device.pages()
+}
+
+/// How many pages the guest can spare (profile): those that are ballooned, and those that its last
+/// statistics call free above the floor, in pages; at most all unreserved ones.
+pub fn spare<D: Device>(device: &D, floor: u32) -> u32
+    requires { (keeps : Bool) × (d : DriverState) × (g : Guest)
+        × Stands keeps (D.mem device.now) (D.part device.now) d g }
+    ensures { (keeps : Bool) (d : DriverState) (g : Guest)
+        → Stands keeps (D.mem device.now) (D.part device.now) d g → result ≡ spare floor g }
+{
+    let free = device.stats().free.unwrap_or(0) / u64::from(PAGE_SIZE);
+    let above = free.saturating_sub(u64::from(floor));
+    let most = u64::from(device.pages() - RESERVED_PAGES);
+    most.min(u64::from(device.ballooned_count()) + above) as u32
 }
 
 /// Whether this is the place.

@@ -73,7 +73,7 @@ pub enum Refusal {
     /// There was no memory.
     NoMemory,
     /// The guests can't spare so many of the pages that the host lacks.
-    Short { missing: u32 },
+    Short { missing: u64 },
 }
 
 /// A number for each guest, at most eight: it stands in place and takes no memory. A contract sees

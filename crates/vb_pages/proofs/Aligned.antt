@@ -1,17 +1,52 @@
 -- Multiples of a number, and of powers of two.
 use Rattle.std.proofs.Common.{◌≡◌, ℕ, suc, ◌+◌, ◌-◌, ◌*◌, ◌/◌, ◌%◌, ◌^◌, ◌<◌, ◌≤◌, inl, inr, sym}
-use Rattle.std.proofs.Common.{◌∙◌, ap, arith}
-use Rattle.std.proofs.lemmas.Nat.{div-add-mod', mod-mul-add, mul-le, pow-add, pow_pos}
+use Rattle.std.proofs.Common.{◌∙◌, ap, min, arith}
+use Rattle.std.proofs.lemmas.Nat.{div-add-mod', div-mul-add, mod-mul-add, mul-le, pow-add, pow_pos}
+use Rattle.std.proofs.lemmas.Nat.{mod_below}
+use Rattle.std.proofs.lemmas.Grind.{div_ceil_times}
 use Rattle.std.proofs.lemmas.Bool.{cases_lt}
 use Rattle.std.proofs.Math.Nat.{mul_assoc}
 use Rattle.std.proofs.Math.Pow.{pow_mono}
 
-multiple_of : (a m : ℕ) → a % m ≡ 0 → (a / m) * m ≡ a
+pub multiple_of : (a m : ℕ) → a % m ≡ 0 → (a / m) * m ≡ a
 multiple_of a m h = omega (arith, div-add-mod' a m, h)
 
 pub zero_mod : (x m : ℕ) → 0 < m → (x * m) % m ≡ 0
 zero_mod x m h = let e : x * m ≡ x * m + 0 = omega arith in
     ap (λ (n : ℕ). n % m) e ∙ mod-mul-add x m 0 h
+
+pub times_div : (x m : ℕ) → 0 < m → (x * m) / m ≡ x
+times_div x m h = let e : x * m ≡ x * m + 0 = omega arith in
+    ap (λ (n : ℕ). n / m) e ∙ div-mul-add x m 0 h
+
+-- which multiple it is, where one more fits
+pub block_fits : (a n m : ℕ) → 0 < m → a % m ≡ 0 → a + m ≤ n → a / m < n / m
+block_fits a n m pos h l =
+    elim (cases_lt (a / m) (n / m)) [
+      | inl lt ↦ lt
+      | inr ge ↦
+          let b : (n / m) * m ≤ (a / m) * m = mul-le (n / m) m (a / m) m ge (omega arith) in
+          let low : n % m < m = mod_below n m pos in
+          absurd (omega (arith, b, low, multiple_of a m h, div-add-mod' n m))
+    ]
+
+-- the multiples from a number on
+pub div_ceil_le : (n b m : ℕ) → 0 < m → n ≤ b * m → n / m + min 1 (n % m) ≤ b
+div_ceil_le n b m pos l =
+    let up = n / m + min 1 (n % m) in
+    elim (cases_lt b up) [
+      | inl lt ↦
+          let step : suc b * m ≤ up * m = mul-le (suc b) m up m lt (omega arith) in
+          let one : suc b * m ≡ b * m + m = omega arith in
+          absurd (omega (arith, step, one, (div_ceil_times n m pos).1))
+      | inr ge ↦ ge
+    ]
+
+pub div_ceil_from : (n b m : ℕ) → 0 < m → n / m + min 1 (n % m) ≤ b → n ≤ b * m
+div_ceil_from n b m pos l =
+    let up = n / m + min 1 (n % m) in
+    let step : up * m ≤ b * m = mul-le up m b m l (omega arith) in
+    omega (arith, step, (div_ceil_times n m pos).0)
 
 -- the next multiple
 pub aligned_step : (a e m : ℕ) → a % m ≡ 0 → e % m ≡ 0 → a < e → a + m ≤ e

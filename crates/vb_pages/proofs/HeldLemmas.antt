@@ -4,20 +4,17 @@ use Rattle.std.proofs.Common.{false, List, [], ◌∷◌, length, set, replicate
 use Rattle.std.proofs.Common.{refl, sym, ◌∙◌, ap, arith}
 use Rattle.std.specs.Prelude.{◌==◌, nat_lt, nat_le}
 use Rattle.std.specs.List.{list_any}
-use Rattle.std.proofs.lemmas.List.{get_or-set_same, get_or-set_other, get_or-replicate}
-use Rattle.std.proofs.lemmas.List.{length-replicate}
-use Rattle.std.proofs.lemmas.Bool.{cases_eq, both_ways, or_cases, or_left, or_right, and_parts}
+use Rattle.std.proofs.lemmas.Bool.{both_ways, or_cases, or_left, or_right, and_parts}
 use Rattle.std.proofs.lemmas.Bool.{and_from, eqb-true, eq-eqb, ne_eqb, ltb-true, lt-ltb, le-ltb}
 use Rattle.std.proofs.lemmas.Bool.{le-leb, leb-true, cond-true, cond-false, and_left}
 use Rattle.std.proofs.lemmas.Bool.{false_from_ne_true}
 use Rattle.std.proofs.lemmas.Nat.{pow_pos}
 use Rattle.vb_model.specs.Pages.{Block, covers, is_same_block}
 use Rattle.vb_model.specs.Driver.{with_block, without_block}
-use Rattle.vb_pages.specs.Table.{order_at}
-use Rattle.vb_pages.specs.Areas.{block_at, IsBlock}
-use Rattle.vb_pages.specs.Held.{HeldBlocks, blocks_from, blocks_of, IsAligned}
+use Rattle.vb_pages.specs.Table.{order_at, AreBlocks}
+use Rattle.vb_pages.specs.Areas.{block_at}
+use Rattle.vb_pages.specs.Held.{HeldBlocks, blocks_from, blocks_of}
 use Rattle.vb_pages.proofs.Aligned.{aligned_same, floor_aligned}
-use Rattle.vb_pages.proofs.TableLemmas.{is_there}
 
 moved : (f i : ℕ) → suc f + i ≡ f + suc i
 moved f i = omega arith
@@ -188,7 +185,7 @@ pub covers_found : (p k : ℕ) (t : List (Option ℕ)) → order_at t (p - p % 2
 covers_found p k t e = let pos : 0 < 2 ^ k = pow_pos k in
     at_covers p (p - p % 2 ^ k) k t e (omega arith) (omega arith)
 
-pub covers_not_found : (p : ℕ) (t : List (Option ℕ)) → IsAligned t
+pub covers_not_found : (p : ℕ) (t : List (Option ℕ)) → AreBlocks t
     → ((k : ℕ) → k < 10 → order_at t (p - p % 2 ^ k) ≡ Some k → ⊥)
     → list_any (covers p) (blocks_of t) ≡ false
 covers_not_found p t aligned none =
@@ -204,47 +201,6 @@ covers_not_found p t aligned none =
     let nine : k ≤ 9 = aligned.bounded q.0 k q.2 in
     none k (omega arith) (ap (order_at t) same ∙ q.2))
 
-pub with_aligned : (s k : ℕ) (t : List (Option ℕ)) → s < length t → IsBlock (block_at s k)
-    → IsAligned t → IsAligned (set t s (Some k))
-with_aligned s k t l b h =
-    record { bounded = λ r j e. (both r j e).0; aligned = λ r j e. (both r j e).1 }
-  where
-    both : (r j : ℕ) → order_at (set t s (Some k)) r ≡ Some j → (j ≤ 9) × (r % 2 ^ j ≡ 0)
-    both r j e =
-        elim (cases_eq r s) [
-          | inl same ↦
-              let n : order_at (set t s (Some k)) r ≡ Some k =
-              ap (order_at (set t s (Some k))) same ∙ get_or-set_same t s (Some k) None l in
-              let q : Some j ≡ Some k = sym e ∙ n in
-              let o : j ≡ k = cc in (
-                omega (arith, b.0, o),
-                ap (λ (x : ℕ). x % 2 ^ j) same
-                    ∙ (ap (λ (x : ℕ). s % 2 ^ x) o ∙ eqb-true (s % 2 ^ k) 0 b.1),
-              )
-          | inr differ ↦
-              let old : order_at t r ≡ Some j =
-              sym (get_or-set_other t s r (Some k) None differ) ∙ e in
-              (h.bounded r j old, h.aligned r j old)
-        ]
-
-pub without_aligned : (s : ℕ) (t : List (Option ℕ)) → s < length t → IsAligned t
-    → IsAligned (set t s None)
-without_aligned s t l h =
-    record {
-      bounded = λ r j e. h.bounded r j (old r j e);
-      aligned = λ r j e. h.aligned r j (old r j e);
-    }
-  where
-    old : (r j : ℕ) → order_at (set t s None) r ≡ Some j → order_at t r ≡ Some j
-    old r j e =
-        elim (cases_eq r s) [
-          | inl same ↦
-              let n : order_at (set t s None) r ≡ None =
-              ap (order_at (set t s None)) same ∙ get_or-set_same t s None None l in
-              absurd (let bad : Some j ≡ None = sym e ∙ n in cc)
-          | inr differ ↦ sym (get_or-set_other t s r None None differ) ∙ e
-        ]
-
 none_from : (f n : ℕ) → blocks_from f (replicate n None) ≡ []
 none_from f zero = refl
 none_from f (suc n) = none_from (suc f) n
@@ -252,17 +208,6 @@ none_from f (suc n) = none_from (suc f) n
 pub blocks-none : (n : ℕ) → blocks_of (replicate n None) ≡ []
 unfolding blocks_of
 blocks-none n = none_from 0 n
-
-pub none_aligned : (n : ℕ) → IsAligned (replicate n None)
-none_aligned n = record
-    { bounded = λ s k e. absurd (never s k e); aligned = λ s k e. absurd (never s k e) }
-  where
-    never : (s k : ℕ) → order_at (replicate n None) s ≡ Some k → ⊥
-    never s k e =
-        let l : s < n = omega
-        (arith, is_there (replicate n None) s k e, length-replicate {A = Option ℕ} n None) in
-        let bad : Some k ≡ None = sym e ∙ get_or-replicate n s None None l in
-        cc
 
 abbrev pub held_of : ℕ → List Block → HeldBlocks
 held_of pages blocks = record { pages = pages; blocks = blocks }

@@ -1,4 +1,3 @@
-pub mod StartsLemmas
 pub mod TableLemmas
 pub mod Aligned
 pub mod Sets

@@ -196,8 +196,13 @@ module _ (f g : FreePages) (h : HeldBlocks) (cpu order s : ℕ) (sound : IsSound
       let pos : 0 < 2 ^ order = pow_pos order in
       some_free f s (out_free s (bounds_cover s s order (omega arith) (omega arith)))
 
-  pub out_there : s < h.pages
-  out_there = let q = unreserved_below f h.blocks s (omega (arith, kept.apart s, out_some)) in
+  pub out_fits : s + 2 ^ order ≤ h.pages
+  out_fits =
+      let pos : 0 < 2 ^ order = pow_pos order in
+      let last = s + 2 ^ order - 1 in
+      let some : 1 ≤ times_free f last =
+      some_free f last (out_free last (bounds_cover last s order (omega arith) (omega arith))) in
+      let q = unreserved_below f h.blocks last (omega (arith, kept.apart last, some)) in
       omega (arith, q.1, kept.pages)
 
   pub out_outside : list_any (covers s) h.blocks ≡ false

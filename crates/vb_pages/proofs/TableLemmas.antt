@@ -1,131 +1,22 @@
--- The pages of a table that pass a test, around one page.
-use Rattle.std.proofs.Common.{◌≡◌, ◌≢◌, ℕ, zero, suc, ◌+◌, ◌-◌, ◌<◌, ◌≤◌, inl, inr, [], ◌∷◌, ◌++◌}
-use Rattle.std.proofs.Common.{List, length, get_or, set, take, drop, Bool, true, false, cond}
-use Rattle.std.proofs.Common.{Option, Some, None, slice_get, refl, sym, ◌∙◌, ap, arith}
-use Rattle.std.proofs.Common.{length-append, replicate}
-use Rattle.std.proofs.lemmas.List.{set_split, set-get_or, take-append-drop, length-take}
-use Rattle.std.proofs.lemmas.List.{length-drop, get_or-set_same, get_or-set_other, same_lists}
-use Rattle.std.proofs.lemmas.List.{length-set, length-replicate, get_or_past, get_or-drop}
+-- A table and the sets of its blocks, order by order.
+use Rattle.std.proofs.Common.{◌≡◌, ◌≢◌, ℕ, zero, suc, ◌+◌, ◌*◌, ◌/◌, ◌%◌, ◌^◌, ◌<◌, ◌≤◌, inl, inr}
+use Rattle.std.proofs.Common.{List, [], length, get_or, set, replicate, Bool, true, false, min}
+use Rattle.std.proofs.Common.{eqb, Option, Some, None, refl, sym, ◌∙◌, ap, arith}
+use Rattle.std.proofs.lemmas.List.{get_or-set_same, get_or-set_other, get_or_past, get_or_default}
+use Rattle.std.proofs.lemmas.List.{same_lists, ext_get_or, length-set, length-replicate}
+use Rattle.std.proofs.lemmas.List.{get_or-replicate}
 use Rattle.std.proofs.lemmas.List.FromFn.{get_or-map-range_with_len, length-map-range_with_len}
 use Rattle.std.proofs.lemmas.Bool.{cases_lt, cases_eq, eqb-true, eq-eqb, ne_eqb, both_ways}
-use Rattle.vb_model.specs.Tests.{pages_from}
-use Rattle.vb_pages.specs.Starts.{Starts, AllBelow, AllFrom}
-use Rattle.vb_pages.specs.Table.{order_at, is_order, starts_of, index_of, IsLowestStart}
+use Rattle.std.proofs.lemmas.Bool.{cond-true, cond-false, and_parts, and_from}
+use Rattle.std.proofs.lemmas.Nat.{pow_pos, mul-le}
+use Rattle.vb_bits.specs.Sets.{has, HasNoneFrom, IsLeastFrom}
+use Rattle.vb_pages.specs.Table.{order_at, is_order, AreBlocks, room_of, set_of_order, sets_of}
+use Rattle.vb_pages.specs.Table.{is_in_sets, first_of, table_of, AreSetsOf, IsLowestStart}
+use Rattle.vb_pages.proofs.Aligned.{multiple_of, times_div, block_fits, div_ceil_le}
+use Rattle.vb_pages.proofs.Aligned.{div_ceil_from}
+use Rattle.vb_pages.proofs.Sets.{same_bool, is_inside}
 
--- ---- pages_from
-
-module _ {A : Type 0} (test : A → Bool) where
-  pub pages_from-append : (f : ℕ) (u w : List A)
-      → pages_from f test (u ++ w) ≡ pages_from f test u ++ pages_from (f + length u) test w
-  pages_from-append f [] w = let e : f ≡ f + 0 = omega arith in
-      ap (λ (n : ℕ). pages_from n test w) e
-  pages_from-append f (x ∷ u) w = step (test x) (pages_from-append (suc f) u w)
-    where
-      moved : pages_from (suc f + length u) test w ≡ pages_from (f + suc (length u)) test w
-      moved = let e : suc f + length u ≡ f + suc (length u) = omega arith in
-          ap (λ (n : ℕ). pages_from n test w) e
-
-      step : (v : Bool) → pages_from (suc f) test (u ++ w) ≡ pages_from (suc f) test u
-          ++ pages_from (suc f + length u) test w
-          → cond v (f ∷ pages_from (suc f) test (u ++ w)) (pages_from (suc f) test (u ++ w))
-          ≡ cond v (f ∷ pages_from (suc f) test u) (pages_from (suc f) test u)
-          ++ pages_from (f + suc (length u)) test w
-      step true ih = ap (λ (ns : List ℕ). f ∷ ns)
-          (ih ∙ ap (λ (ns : List ℕ). pages_from (suc f) test u ++ ns) moved)
-      step false ih = ih ∙ ap (λ (ns : List ℕ). pages_from (suc f) test u ++ ns) moved
-
-  pub pages_from-bounds : (f : ℕ) (u : List A) (j : ℕ) → j < length (pages_from f test u)
-      → (f ≤ get_or (pages_from f test u) j 0) × (get_or (pages_from f test u) j 0 < f + length u)
-  pages_from-bounds f [] j h = absurd (omega arith)
-  pages_from-bounds f (x ∷ u) j h = step (test x) j (λ i. pages_from-bounds (suc f) u i) h
-    where
-      step : (v : Bool) (j : ℕ)
-          → ((i : ℕ) → i < length (pages_from (suc f) test u)
-          → (suc f ≤ get_or (pages_from (suc f) test u) i 0)
-          × (get_or (pages_from (suc f) test u) i 0 < suc f + length u))
-          → j < length (cond v (f ∷ pages_from (suc f) test u) (pages_from (suc f) test u))
-          → (f ≤ get_or (cond v (f ∷ pages_from (suc f) test u) (pages_from (suc f) test u)) j 0)
-          × (get_or (cond v (f ∷ pages_from (suc f) test u) (pages_from (suc f) test u)) j 0 < f +
-          suc (length u))
-      step true zero ih h = (omega arith, omega arith)
-      step true (suc j) ih h = let r = ih j (omega arith) in (omega arith, omega arith)
-      step false j ih h = let r = ih j h in (omega arith, omega arith)
-
-  pub length-pages_from : (f : ℕ) (u : List A) → length (pages_from f test u) ≤ length u
-  length-pages_from f [] = omega arith
-  length-pages_from f (x ∷ u) = step (test x) (length-pages_from (suc f) u)
-    where
-      step : (v : Bool) → length (pages_from (suc f) test u) ≤ length u
-          → length (cond v (f ∷ pages_from (suc f) test u) (pages_from (suc f) test u)) ≤ suc
-          (length u)
-      step true h = omega arith
-      step false h = omega arith
-
--- ---- around one page
-
-pub front_of : ℕ → ℕ → List (Option ℕ) → List ℕ
-front_of k s t = pages_from 0 (is_order k) (take s t)
-
-pub back_of : ℕ → ℕ → List (Option ℕ) → List ℕ
-back_of k s t = pages_from (suc s) (is_order k) (drop (suc s) t)
-
-pub around : (k s : ℕ) (t : List (Option ℕ)) (v : Option ℕ) → s < length t
-    → starts_of k (set t s v) ≡ front_of k s t
-    ++ cond (is_order k v) (s ∷ back_of k s t) (back_of k s t)
-unfolding starts_of front_of back_of
-around k s t v h =
-    let l : 0 + length (take s t) ≡ s = omega (arith, length-take s t) in
-    let at : ℕ → List ℕ = λ n. pages_from n (is_order k) (v ∷ drop (suc s) t) in
-    ap (λ (u : List (Option ℕ)). pages_from 0 (is_order k) u) (set_split t s v h)
-    ∙ (pages_from-append (is_order k) 0 (take s t) (v ∷ drop (suc s) t)
-    ∙ ap (λ (n : ℕ). pages_from 0 (is_order k) (take s t) ++ at n) l)
-
-pub around_now : (k s : ℕ) (t : List (Option ℕ)) → s < length t
-    → starts_of k t ≡ front_of k s t
-    ++ cond (is_order k (order_at t s)) (s ∷ back_of k s t) (back_of k s t)
-around_now k s t h = ap (starts_of k) (sym (set-get_or t s None)) ∙ around k s t (order_at t s) h
-
-pub front_below : (k s : ℕ) (t : List (Option ℕ)) → s ≤ length t → AllBelow s (front_of k s t)
-unfolding front_of
-front_below k s t h j l =
-    omega (arith, pages_from-bounds (is_order k) 0 (take s t) j l, length-take s t)
-
-pub back_above : (k s : ℕ) (t : List (Option ℕ)) → AllFrom s (back_of k s t)
-unfolding back_of
-back_above k s t j l = omega (arith, pages_from-bounds (is_order k) (suc s) (drop (suc s) t) j l)
-
-pub from_cons : (s : ℕ) (xs : List ℕ) → AllFrom s xs → AllFrom s (s ∷ xs)
-from_cons s xs h zero l = omega arith
-from_cons s xs h (suc k) l = h k (omega arith)
-
-pub length-around : (k s : ℕ) (t : List (Option ℕ)) → s < length t
-    → length (front_of k s t ++ back_of k s t) < length t
-unfolding front_of back_of
-length-around k s t h =
-    omega (
-      arith,
-      length-append (pages_from 0 (is_order k) (take s t))
-          (pages_from (suc s) (is_order k) (drop (suc s) t)),
-      length-pages_from (is_order k) 0 (take s t),
-      length-pages_from (is_order k) (suc s) (drop (suc s) t),
-      length-take s t,
-      length-drop (suc s) t,
-    )
-
--- ---- the index
-
-abbrev pub entry : List ℕ → ℕ → Starts
-entry items room = record { items = items; room = room }
-
-pub length-index_of : (t : List (Option ℕ)) → length (index_of t) ≡ 10
-unfolding index_of
-length-index_of t = length-map-range_with_len (λ order. entry (starts_of order t) (length t)) 0 10
-
-pub index_at : (t : List (Option ℕ)) (k : ℕ) (d : Starts) → k < 10
-    → get_or (index_of t) k d ≡ entry (starts_of k t) (length t)
-unfolding index_of
-index_at t k d h = get_or-map-range_with_len (λ order. entry (starts_of order t) (length t)) 0 10 k
-    k d h (omega arith)
+-- ---- the order of a page
 
 pub is_order-self : (k : ℕ) → is_order k (Some k) ≡ true
 is_order-self k = eq-eqb k k refl
@@ -133,85 +24,9 @@ is_order-self k = eq-eqb k k refl
 is_order-other : (j k : ℕ) → j ≢ k → is_order j (Some k) ≡ false
 is_order-other j k h = ne_eqb k j (λ e. h (sym e))
 
--- the starts of an order that the change leaves alone
-starts-kept : (j s : ℕ) (t : List (Option ℕ)) (v : Option ℕ) → s < length t → is_order j v ≡ false
-    → is_order j (order_at t s) ≡ false → starts_of j (set t s v) ≡ starts_of j t
-starts-kept j s t v h e f =
-    around j s t v h
-    ∙ (ap (λ (b : Bool). front_of j s t ++ cond b (s ∷ back_of j s t) (back_of j s t)) (e ∙ sym f)
-    ∙ sym (around_now j s t h))
-
-index-change : (k s : ℕ) (t : List (Option ℕ)) (v : Option ℕ) (items : List ℕ) → k < 10
-    → s < length t → starts_of k (set t s v) ≡ items
-    → ((j : ℕ) → j ≢ k → (is_order j v ≡ false) × (is_order j (order_at t s) ≡ false))
-    → index_of (set t s v) ≡ set (index_of t) k (entry items (length t))
-index-change k s t v items hk hs e other =
-    same_lists (index_of (set t s v)) (set (index_of t) k (entry items (length t)))
-    (length-index_of (set t s v)
-    ∙ (sym (length-index_of t) ∙ sym (length-set (index_of t) k (entry items (length t))))) at
-  where
-    at : (j : ℕ) (d : Starts) → j < length (index_of (set t s v))
-        → get_or (index_of (set t s v)) j d
-        ≡ get_or (set (index_of t) k (entry items (length t))) j d
-    at j d h =
-        let hj : j < 10 = omega (arith, length-index_of (set t s v)) in
-        let room : entry (starts_of j (set t s v)) (length (set t s v))
-        ≡ entry (starts_of j (set t s v)) (length t) =
-        ap (λ (n : ℕ). entry (starts_of j (set t s v)) n) (length-set t s v) in
-        index_at (set t s v) j d hj ∙ (room ∙
-        elim (cases_eq j k) [
-          | inl same ↦
-              ap (λ (n : ℕ). entry (starts_of n (set t s v)) (length t)) same
-              ∙ (ap (λ (xs : List ℕ). entry xs (length t)) e
-              ∙ (sym (get_or-set_same (index_of t) k (entry items (length t)) d
-              (omega (arith, length-index_of t)))
-              ∙ ap (λ (n : ℕ). get_or (set (index_of t) k (entry items (length t))) n d)
-              (sym same)))
-          | inr differ ↦
-              ap (λ (xs : List ℕ). entry xs (length t))
-              (starts-kept j s t v hs (other j differ).0 (other j differ).1)
-              ∙ (sym (index_at t j d hj)
-              ∙ sym (get_or-set_other (index_of t) k j (entry items (length t)) d differ))
-        ])
-
-pub starts-added : (k s : ℕ) (t : List (Option ℕ)) → s < length t
-    → starts_of k (set t s (Some k)) ≡ front_of k s t ++ s ∷ back_of k s t
-starts-added k s t h =
-    around k s t (Some k) h
-    ∙ ap (λ (b : Bool). front_of k s t ++ cond b (s ∷ back_of k s t) (back_of k s t))
-    (is_order-self k)
-
-pub starts-removed : (k s : ℕ) (t : List (Option ℕ)) → s < length t
-    → starts_of k (set t s None) ≡ front_of k s t ++ back_of k s t
-starts-removed k s t h = around k s t None h
-
-pub starts-without : (k s : ℕ) (t : List (Option ℕ)) → s < length t → order_at t s ≡ None
-    → starts_of k t ≡ front_of k s t ++ back_of k s t
-starts-without k s t h e =
-    around_now k s t h ∙ ap
-    (λ (o : Option ℕ). front_of k s t ++ cond (is_order k o) (s ∷ back_of k s t) (back_of k s t)) e
-
-pub starts-with : (k s : ℕ) (t : List (Option ℕ)) → s < length t → order_at t s ≡ Some k
-    → starts_of k t ≡ front_of k s t ++ s ∷ back_of k s t
-starts-with k s t h e =
-    around_now k s t h ∙ (ap
-    (λ (o : Option ℕ). front_of k s t ++ cond (is_order k o) (s ∷ back_of k s t) (back_of k s t)) e
-    ∙ ap (λ (b : Bool). front_of k s t ++ cond b (s ∷ back_of k s t) (back_of k s t))
-    (is_order-self k))
-
-pub index-added : (k s : ℕ) (t : List (Option ℕ)) → k < 10 → s < length t → order_at t s ≡ None
-    → index_of (set t s (Some k))
-    ≡ set (index_of t) k (entry (front_of k s t ++ s ∷ back_of k s t) (length t))
-index-added k s t hk hs e =
-    index-change k s t (Some k) _ hk hs (starts-added k s t hs)
-    (λ j differ. (is_order-other j k differ, ap (is_order j) e))
-
-pub index-removed : (k s : ℕ) (t : List (Option ℕ)) → k < 10 → s < length t → order_at t s ≡ Some k
-    → index_of (set t s None)
-    ≡ set (index_of t) k (entry (front_of k s t ++ back_of k s t) (length t))
-index-removed k s t hk hs e =
-    index-change k s t None _ hk hs (starts-removed k s t hs)
-    (λ j differ. (refl, ap (is_order j) e ∙ is_order-other j k differ))
+pub is_order-true : (k : ℕ) (o : Option ℕ) → is_order k o ≡ true → o ≡ Some k
+is_order-true k None h = absurd cc
+is_order-true k (Some j) h = ap (λ (n : ℕ). Some n) (eqb-true j k h)
 
 -- a page where a block starts is there
 pub is_there : (t : List (Option ℕ)) (s k : ℕ) → order_at t s ≡ Some k → s < length t
@@ -222,148 +37,463 @@ is_there t s k e =
           absurd (let bad : Some k ≡ None = sym e ∙ n in cc)
     ]
 
--- what a read of the index gives
-pub list_now : (xs : List Starts) (t : List (Option ℕ)) (k : ℕ) (r : Starts) → xs ≡ index_of t
-    → k < 10 → r ≡ get_or xs k r → r ≡ entry (starts_of k t) (length t)
-list_now xs t k r e h read = read ∙ (ap (λ (ys : List Starts). get_or ys k r) e ∙ index_at t k r h)
+-- ---- the sets of a table
+
+pub length-set_of_order : (k : ℕ) (t : List (Option ℕ))
+    → length (set_of_order k t) ≡ room_of k (length t)
+unfolding set_of_order
+length-set_of_order k t =
+    length-map-range_with_len (λ b. is_order k (order_at t (b * 2 ^ k))) 0 (room_of k (length t))
+
+pub set_at : (k : ℕ) (t : List (Option ℕ)) (b : ℕ) → b < room_of k (length t)
+    → has (set_of_order k t) b ≡ is_order k (order_at t (b * 2 ^ k))
+unfolding set_of_order
+set_at k t b h =
+    get_or-map-range_with_len (λ n. is_order k (order_at t (n * 2 ^ k))) 0 (room_of k (length t)) b
+    b false h (omega arith)
+
+pub length-sets_of : (t : List (Option ℕ)) → length (sets_of t) ≡ 10
+unfolding sets_of
+length-sets_of t = length-map-range_with_len (λ order. set_of_order order t) 0 10
+
+pub sets_at : (t : List (Option ℕ)) (k : ℕ) (d : List Bool) → k < 10
+    → get_or (sets_of t) k d ≡ set_of_order k t
+unfolding sets_of
+sets_at t k d h =
+    get_or-map-range_with_len (λ order. set_of_order order t) 0 10 k k d h (omega arith)
+
+-- a block's number is below the bound of its set
+pub block_below : (t : List (Option ℕ)) (s k : ℕ) → s % 2 ^ k ≡ 0 → s + 2 ^ k ≤ length t
+    → s / 2 ^ k < room_of k (length t)
+block_below t s k e l = omega (arith, block_fits s (length t) (2 ^ k) (pow_pos k) e l)
+
+-- a member of an order's set is a block of the table
+pub member_listed : (t : List (Option ℕ)) (k b : ℕ) → has (set_of_order k t) b ≡ true
+    → order_at t (b * 2 ^ k) ≡ Some k
+member_listed t k b h =
+    let below : b < room_of k (length t) =
+    omega (arith, is_inside (set_of_order k t) b h, length-set_of_order k t) in
+    is_order-true k (order_at t (b * 2 ^ k)) (sym (set_at k t b below) ∙ h)
+
+pub listed_member : (t : List (Option ℕ)) (k s : ℕ) → AreBlocks t → order_at t s ≡ Some k
+    → has (set_of_order k t) (s / 2 ^ k) ≡ true
+listed_member t k s blocks e =
+    let aligned : s % 2 ^ k ≡ 0 = blocks.aligned s k e in
+    set_at k t (s / 2 ^ k) (block_below t s k aligned (blocks.fits s k e))
+    ∙ ap (λ (n : ℕ). is_order k (order_at t n)) (multiple_of s (2 ^ k) aligned)
+    ∙ ap (is_order k) e
+    ∙ is_order-self k
+
+pub listed_number : (t : List (Option ℕ)) (k b : ℕ) → AreBlocks t
+    → order_at t (b * 2 ^ k) ≡ Some k → has (set_of_order k t) b ≡ true
+listed_number t k b blocks e =
+    ap (λ (n : ℕ). has (set_of_order k t) n) (sym (times_div b (2 ^ k) (pow_pos k)))
+    ∙ listed_member t k (b * 2 ^ k) blocks e
+
+-- ---- the table of its sets
+
+first_is : (test : ℕ → Bool) (n more k : ℕ) → n ≤ k → k < n + more → test k ≡ true
+    → ((j : ℕ) → j ≢ k → test j ≡ false) → first_of test n more ≡ Some k
+first_is test n zero k l h e other = absurd (omega arith)
+first_is test n (suc more) k l h e other =
+    elim (cases_eq n k) [
+      | inl same ↦
+          cond-true (test n) (Some n) (first_of test (suc n) more) (ap test same ∙ e)
+          ∙ ap (λ (i : ℕ). Some i) same
+      | inr differ ↦
+          cond-false (test n) (Some n) (first_of test (suc n) more) (other n differ)
+          ∙ first_is test (suc n) more k (omega arith) (omega arith) e other
+    ]
+
+first_none : (test : ℕ → Bool) (n more : ℕ) → ((j : ℕ) → test j ≡ false)
+    → first_of test n more ≡ None
+first_none test n zero other = refl
+first_none test n (suc more) other =
+    cond-false (test n) (Some n) (first_of test (suc n) more) (other n)
+    ∙ first_none test (suc n) more other
+
+-- a page's test is that of its entry
+tested : (t : List (Option ℕ)) (p k : ℕ) → AreBlocks t
+    → is_in_sets (sets_of t) p k ≡ is_order k (order_at t p)
+tested t p k blocks =
+    same_bool (is_in_sets (sets_of t) p k) (is_order k (order_at t p)) to from
+  where
+    to : is_in_sets (sets_of t) p k ≡ true → is_order k (order_at t p) ≡ true
+    to h =
+        let parts = and_parts (eqb (p % 2 ^ k) 0) (has (get_or (sets_of t) k []) (p / 2 ^ k)) h in
+        elim (cases_lt k 10) [
+          | inl l ↦
+              let member : has (set_of_order k t) (p / 2 ^ k) ≡ true =
+              ap (λ (xs : List Bool). has xs (p / 2 ^ k)) (sym (sets_at t k [] l)) ∙ parts.1 in
+              ap (is_order k)
+              (ap (order_at t) (sym (multiple_of p (2 ^ k) (eqb-true (p % 2 ^ k) 0 parts.0)))
+              ∙ member_listed t k (p / 2 ^ k) member)
+              ∙ is_order-self k
+          | inr past ↦
+              absurd (both_ways (has (get_or (sets_of t) k []) (p / 2 ^ k))
+              (ap (λ (xs : List Bool). has xs (p / 2 ^ k))
+              (get_or_past (sets_of t) k [] (omega (arith, length-sets_of t)))) parts.1)
+        ]
+
+    from : is_order k (order_at t p) ≡ true → is_in_sets (sets_of t) p k ≡ true
+    from h =
+        let e : order_at t p ≡ Some k = is_order-true k (order_at t p) h in
+        let ten : k < 10 = omega (arith, blocks.bounded p k e) in
+        and_from (eqb (p % 2 ^ k) 0) (has (get_or (sets_of t) k []) (p / 2 ^ k))
+        (eq-eqb (p % 2 ^ k) 0 (blocks.aligned p k e))
+        (ap (λ (xs : List Bool). has xs (p / 2 ^ k)) (sets_at t k [] ten)
+        ∙ listed_member t k p blocks e)
+
+pub length-table_of : (pages : ℕ) (sets : List (List Bool)) → length (table_of pages sets) ≡ pages
+unfolding table_of
+length-table_of pages sets =
+    length-map-range_with_len (λ page. first_of (is_in_sets sets page) 0 10) 0 pages
+
+table_at : (t : List (Option ℕ)) → AreBlocks t → (p : ℕ) (d : Option ℕ) → p < length t
+    → get_or (table_of (length t) (sets_of t)) p d ≡ order_at t p
+unfolding table_of
+table_at t blocks p d l =
+    get_or-map-range_with_len (λ page. first_of (is_in_sets (sets_of t) page) 0 10) 0 (length t) p p
+    d l (omega arith)
+    ∙ entry (order_at t p) refl
+  where
+    entry : (o : Option ℕ) → order_at t p ≡ o → first_of (is_in_sets (sets_of t) p) 0 10 ≡ o
+    entry None e =
+        first_none (is_in_sets (sets_of t) p) 0 10
+        (λ j. tested t p j blocks ∙ ap (is_order j) e)
+    entry (Some k) e =
+        first_is (is_in_sets (sets_of t) p) 0 10 k (omega arith)
+        (omega (arith, blocks.bounded p k e))
+        (tested t p k blocks ∙ ap (is_order k) e ∙ is_order-self k)
+        (λ j differ. tested t p j blocks ∙ ap (is_order j) e ∙ is_order-other j k differ)
+
+-- the sets of a table stand for it
+table_of_sets : (t : List (Option ℕ)) → AreBlocks t → table_of (length t) (sets_of t) ≡ t
+table_of_sets t blocks =
+    same_lists (table_of (length t) (sets_of t)) t (length-table_of (length t) (sets_of t))
+    (λ p d l.
+    let inside : p < length t = omega (arith, length-table_of (length t) (sets_of t)) in
+    table_at t blocks p d inside ∙ get_or_default t p None d inside)
+
+-- sets, and the table that they stand for
+pub record StandFor (pages : ℕ) (sets : List (List Bool)) (t : List (Option ℕ)) : Type 0 where
+  pub table : table_of pages sets ≡ t
+  pub kept : AreSetsOf pages sets
+
+pub stand_for : (pages : ℕ) (sets : List (List Bool)) (t : List (Option ℕ)) → pages ≤ 16384
+    → pages ≡ length t → sets ≡ sets_of t → AreBlocks t → StandFor pages sets t
+stand_for pages sets t small l e blocks =
+    let same : table_of pages sets ≡ t =
+    ap (λ (n : ℕ). table_of n sets) l
+    ∙ ap (λ (xs : List (List Bool)). table_of (length t) xs) e
+    ∙ table_of_sets t blocks in
+    record {
+      table = same;
+      kept = record { small = small; same = e ∙ ap sets_of (sym same); blocks = rw same blocks };
+    }
+
+-- what a read of the sets gives
+pub set_now : (pages : ℕ) (sets : List (List Bool)) (k : ℕ) (read : List Bool)
+    → AreSetsOf pages sets → k < 10 → read ≡ get_or sets k read
+    → read ≡ set_of_order k (table_of pages sets)
+set_now pages sets k read s h e =
+    e ∙ ap (λ (xs : List (List Bool)). get_or xs k read) s.same
+    ∙ sets_at (table_of pages sets) k read h
+
+pub ten_sets : (pages : ℕ) (sets : List (List Bool)) → AreSetsOf pages sets → length sets ≡ 10
+ten_sets pages sets s = ap length s.same ∙ length-sets_of (table_of pages sets)
+
+-- ---- one entry changed
+
+-- a set that the change leaves alone
+set-kept : (j s : ℕ) (t : List (Option ℕ)) (v : Option ℕ) → s < length t → is_order j v ≡ false
+    → is_order j (order_at t s) ≡ false → set_of_order j (set t s v) ≡ set_of_order j t
+set-kept j s t v l now before =
+    ext_get_or false (set_of_order j (set t s v)) (set_of_order j t)
+    (length-set_of_order j (set t s v)
+    ∙ ap (room_of j) (length-set t s v)
+    ∙ sym (length-set_of_order j t))
+    (λ b h.
+    let inside : b < room_of j (length (set t s v)) =
+    omega (arith, length-set_of_order j (set t s v)) in
+    let inside' : b < room_of j (length t) =
+    rw (length-set t s v) at inside in
+    set_at j (set t s v) b inside ∙ (at b ∙ sym (set_at j t b inside')))
+  where
+    at : (b : ℕ) → is_order j (order_at (set t s v) (b * 2 ^ j))
+        ≡ is_order j (order_at t (b * 2 ^ j))
+    at b =
+        elim (cases_eq (b * 2 ^ j) s) [
+          | inl same ↦
+              ap (λ (n : ℕ). is_order j (order_at (set t s v) n)) same
+              ∙ ap (is_order j) (get_or-set_same t s v None l)
+              ∙ now
+              ∙ sym before
+              ∙ ap (λ (n : ℕ). is_order j (order_at t n)) (sym same)
+          | inr differ ↦ ap (is_order j) (get_or-set_other t s (b * 2 ^ j) v None differ)
+        ]
+
+-- the set that it changes
+set-changed : (k s : ℕ) (t : List (Option ℕ)) (v : Option ℕ) (flag : Bool) → s < length t
+    → s % 2 ^ k ≡ 0 → is_order k v ≡ flag
+    → set_of_order k (set t s v) ≡ set (set_of_order k t) (s / 2 ^ k) flag
+set-changed k s t v flag l aligned e =
+    ext_get_or false (set_of_order k (set t s v)) (set (set_of_order k t) (s / 2 ^ k) flag)
+    (length-set_of_order k (set t s v)
+    ∙ ap (room_of k) (length-set t s v)
+    ∙ sym (length-set (set_of_order k t) (s / 2 ^ k) flag ∙ length-set_of_order k t))
+    (λ b h.
+    let inside : b < room_of k (length (set t s v)) =
+    omega (arith, length-set_of_order k (set t s v)) in
+    let inside' : b < room_of k (length t) =
+    rw (length-set t s v) at inside in
+    set_at k (set t s v) b inside ∙ at b inside')
+  where
+    at : (b : ℕ) → b < room_of k (length t) → is_order k (order_at (set t s v) (b * 2 ^ k))
+        ≡ has (set (set_of_order k t) (s / 2 ^ k) flag) b
+    at b h =
+        elim (cases_eq b (s / 2 ^ k)) [
+          | inl same ↦
+              let start : b * 2 ^ k ≡ s =
+              ap (λ (n : ℕ). n * 2 ^ k) same ∙ multiple_of s (2 ^ k) aligned in
+              let inside : s / 2 ^ k < length (set_of_order k t) =
+              omega (arith, same, length-set_of_order k t) in
+              ap (λ (n : ℕ). is_order k (order_at (set t s v) n)) start
+              ∙ ap (is_order k) (get_or-set_same t s v None l)
+              ∙ e
+              ∙ sym (get_or-set_same (set_of_order k t) (s / 2 ^ k) flag false inside)
+              ∙ ap (λ (n : ℕ). has (set (set_of_order k t) (s / 2 ^ k) flag) n) (sym same)
+          | inr differ ↦
+              let apart : b * 2 ^ k ≢ s =
+              λ q. differ (sym (times_div b (2 ^ k) (pow_pos k))
+              ∙ ap (λ (n : ℕ). n / 2 ^ k) q) in
+              ap (is_order k) (get_or-set_other t s (b * 2 ^ k) v None apart)
+              ∙ sym (set_at k t b h)
+              ∙ sym (get_or-set_other (set_of_order k t) (s / 2 ^ k) b flag false differ)
+        ]
+
+sets-changed : (k s : ℕ) (t : List (Option ℕ)) (v : Option ℕ) (flag : Bool) → k < 10
+    → s < length t → s % 2 ^ k ≡ 0 → is_order k v ≡ flag
+    → ((j : ℕ) → j ≢ k → (is_order j v ≡ false) × (is_order j (order_at t s) ≡ false))
+    → sets_of (set t s v) ≡ set (sets_of t) k (set (set_of_order k t) (s / 2 ^ k) flag)
+sets-changed k s t v flag ten l aligned e other =
+    same_lists (sets_of (set t s v)) (set (sets_of t) k new)
+    (length-sets_of (set t s v) ∙ sym (length-set (sets_of t) k new ∙ length-sets_of t)) at
+  where
+    new : List Bool
+    new = set (set_of_order k t) (s / 2 ^ k) flag
+
+    at : (j : ℕ) (d : List Bool) → j < length (sets_of (set t s v))
+        → get_or (sets_of (set t s v)) j d ≡ get_or (set (sets_of t) k new) j d
+    at j d h =
+        let below : j < 10 = omega (arith, length-sets_of (set t s v)) in
+        sets_at (set t s v) j d below
+        ∙ elim (cases_eq j k) [
+          | inl same ↦
+              ap (λ (n : ℕ). set_of_order n (set t s v)) same
+              ∙ set-changed k s t v flag l aligned e
+              ∙ sym (get_or-set_same (sets_of t) k new d (omega (arith, length-sets_of t)))
+              ∙ ap (λ (n : ℕ). get_or (set (sets_of t) k new) n d) (sym same)
+          | inr differ ↦
+              set-kept j s t v l (other j differ).0 (other j differ).1
+              ∙ sym (sets_at t j d below)
+              ∙ sym (get_or-set_other (sets_of t) k j new d differ)
+        ]
+
+-- a block that comes to the table
+pub with_block_added : (t : List (Option ℕ)) (s k : ℕ) → AreBlocks t → k ≤ 9 → s % 2 ^ k ≡ 0
+    → s + 2 ^ k ≤ length t → AreBlocks (set t s (Some k))
+with_block_added t s k blocks nine aligned fits =
+    record {
+      bounded = λ r j e. (all r j e).0;
+      aligned = λ r j e. (all r j e).1;
+      fits = λ r j e. (all r j e).2;
+    }
+  where
+    there : s < length t
+    there = let pos : 0 < 2 ^ k = pow_pos k in omega arith
+
+    all : (r j : ℕ) → order_at (set t s (Some k)) r ≡ Some j
+        → (j ≤ 9) × (r % 2 ^ j ≡ 0) × (r + 2 ^ j ≤ length (set t s (Some k)))
+    all r j e =
+        elim (cases_eq r s) [
+          | inl same ↦
+              let now : Some j ≡ Some k =
+              sym e ∙ (ap (order_at (set t s (Some k))) same
+              ∙ get_or-set_same t s (Some k) None there) in
+              let o : j ≡ k = cc in
+              let w : 2 ^ j ≡ 2 ^ k = ap (λ (i : ℕ). 2 ^ i) o in (
+                omega (arith, o),
+                ap (λ (n : ℕ). n % 2 ^ j) same ∙ ap (λ (n : ℕ). s % 2 ^ n) o ∙ aligned,
+                omega (arith, same, w, length-set t s (Some k)),
+              )
+          | inr differ ↦
+              let old : order_at t r ≡ Some j =
+              sym (get_or-set_other t s r (Some k) None differ) ∙ e in (
+                blocks.bounded r j old,
+                blocks.aligned r j old,
+                omega (arith, blocks.fits r j old, length-set t s (Some k)),
+              )
+        ]
+
+-- an entry that stays when a block leaves
+pub entry_kept : (t : List (Option ℕ)) (s r j : ℕ) → s < length t
+    → order_at (set t s None) r ≡ Some j → (r ≢ s) × (order_at t r ≡ Some j)
+entry_kept t s r j l e =
+    elim (cases_eq r s) [
+      | inl same ↦
+          let n : order_at (set t s None) r ≡ None =
+          ap (order_at (set t s None)) same ∙ get_or-set_same t s None None l in
+          absurd (let bad : Some j ≡ None = sym e ∙ n in cc)
+      | inr differ ↦ (differ, sym (get_or-set_other t s r None None differ) ∙ e)
+    ]
+
+pub with_block_removed : (t : List (Option ℕ)) (s : ℕ) → s < length t → AreBlocks t
+    → AreBlocks (set t s None)
+with_block_removed t s l blocks = record {
+  bounded = λ r j e. blocks.bounded r j (entry_kept t s r j l e).1;
+  aligned = λ r j e. blocks.aligned r j (entry_kept t s r j l e).1;
+  fits = λ r j e.
+      omega (arith, blocks.fits r j (entry_kept t s r j l e).1, length-set t s None);
+}
+
+-- a table without a block
+pub none_at : (n p : ℕ) → order_at (replicate n None) p ≡ None
+none_at n p =
+    elim (cases_lt p n) [
+      | inl l ↦ get_or-replicate n p None None l
+      | inr past ↦ get_or_past (replicate n None) p None
+          (omega (arith, length-replicate {A = Option ℕ} n None))
+    ]
+
+pub none_entry : (n s k : ℕ) → order_at (replicate n None) s ≡ Some k → ⊥
+none_entry n s k e = let bad : Some k ≡ None = sym e ∙ none_at n s in cc
+
+pub no_blocks : (n : ℕ) → AreBlocks (replicate n None)
+no_blocks n = record {
+  bounded = λ s k e. absurd (none_entry n s k e);
+  aligned = λ s k e. absurd (none_entry n s k e);
+  fits = λ s k e. absurd (none_entry n s k e);
+}
+
+-- ---- what the calls leave
+
+module _ (pages : ℕ) (sets : List (List Bool)) (s : AreSetsOf pages sets) where
+  abbrev table : List (Option ℕ)
+  table = table_of pages sets
+
+  set_row : (k n : ℕ) (flag : Bool) (read row : List Bool) → k < 10 → read ≡ get_or sets k read
+      → row ≡ set read n flag
+      → set sets k row ≡ set (sets_of table) k (set (set_of_order k table) n flag)
+  set_row k n flag read row ten r e =
+      ap (λ (x : List Bool). set sets k x)
+      (e ∙ ap (λ (x : List Bool). set x n flag) (set_now pages sets k read s ten r))
+      ∙ ap (λ (xs : List (List Bool)). set xs k (set (set_of_order k table) n flag)) s.same
+
+  pub added : (k start : ℕ) (read row : List Bool) → k ≤ 9 → start % 2 ^ k ≡ 0
+      → start + 2 ^ k ≤ length table → order_at table start ≡ None → read ≡ get_or sets k read
+      → row ≡ set read (start / 2 ^ k) true
+      → StandFor pages (set sets k row) (set table start (Some k))
+  added k start read row nine aligned fits empty r e =
+      let pos : 0 < 2 ^ k = pow_pos k in
+      let ten : k < 10 = omega arith in
+      let there : start < length table = omega arith in
+      stand_for pages (set sets k row) (set table start (Some k)) s.small
+      (sym (length-set table start (Some k) ∙ length-table_of pages sets))
+      (set_row k (start / 2 ^ k) true read row ten r e
+      ∙ sym (sets-changed k start table (Some k) true ten there aligned (is_order-self k)
+      (λ j differ. (is_order-other j k differ, ap (is_order j) empty))))
+      (with_block_added table start k s.blocks nine aligned fits)
+
+  pub removed : (k start : ℕ) (read row : List Bool) → order_at table start ≡ Some k
+      → read ≡ get_or sets k read → row ≡ set read (start / 2 ^ k) false
+      → StandFor pages (set sets k row) (set table start None)
+  removed k start read row listed r e =
+      let ten : k < 10 = omega (arith, s.blocks.bounded start k listed) in
+      let there : start < length table = is_there table start k listed in
+      stand_for pages (set sets k row) (set table start None) s.small
+      (sym (length-set table start None ∙ length-table_of pages sets))
+      (set_row k (start / 2 ^ k) false read row ten r e
+      ∙ sym (sets-changed k start table None false ten there
+      (s.blocks.aligned start k listed) refl
+      (λ j differ. (refl, ap (is_order j) listed ∙ is_order-other j k differ))))
+      (with_block_removed table start there s.blocks)
+
+-- sets without a member
+pub none : (pages : ℕ) (sets : List (List Bool)) → pages ≤ 16384 → length sets ≡ 10
+    → ((k : ℕ) (d : List Bool) → k < 10 → get_or sets k d ≡ replicate (room_of k pages) false)
+    → StandFor pages sets (replicate pages None)
+none pages sets small ten h =
+    stand_for pages sets t small (sym count)
+    (same_lists sets (sets_of t) (ten ∙ sym (length-sets_of t))
+    (λ k d l.
+    let below : k < 10 = omega (arith, ten) in
+    h k d below ∙ (sym (empty k) ∙ sym (sets_at t k d below))))
+    (no_blocks pages)
+  where
+    t : List (Option ℕ)
+    t = replicate pages None
+
+    count : length t ≡ pages
+    count = length-replicate {A = Option ℕ} pages None
+
+    empty : (k : ℕ) → set_of_order k t ≡ replicate (room_of k pages) false
+    empty k =
+        ext_get_or false (set_of_order k t) (replicate (room_of k pages) false)
+        (length-set_of_order k t
+        ∙ ap (room_of k) count
+        ∙ sym (length-replicate (room_of k pages) false))
+        (λ b l.
+        let inside : b < room_of k (length t) = omega (arith, length-set_of_order k t) in
+        let inside' : b < room_of k pages = rw count at inside in
+        set_at k t b inside
+        ∙ (ap (is_order k) (none_at pages (b * 2 ^ k))
+        ∙ sym (get_or-replicate (room_of k pages) b false false inside')))
+
+-- sets of which all members were taken out
+pub cleared : (pages : ℕ) (sets new : List (List Bool)) → AreSetsOf pages sets
+    → length new ≡ length sets
+    → ((k : ℕ) (d : List Bool) → k < 10
+    → get_or new k d ≡ replicate (length (get_or sets k d)) false)
+    → StandFor pages new (replicate pages None)
+cleared pages sets new s l h =
+    none pages new s.small (l ∙ ten_sets pages sets s) (λ k d below.
+    h k d below
+    ∙ ap (λ (n : ℕ). replicate n false)
+    (ap (λ (xs : List (List Bool)). length (get_or xs k d)) s.same
+    ∙ ap length (sets_at (table_of pages sets) k d below)
+    ∙ length-set_of_order k (table_of pages sets)
+    ∙ ap (room_of k) (length-table_of pages sets)))
 
 -- ---- the lowest start
 
-pub is_order-true : (k : ℕ) (o : Option ℕ) → is_order k o ≡ true → o ≡ Some k
-is_order-true k None h = absurd cc
-is_order-true k (Some j) h = ap (λ (n : ℕ). Some n) (eqb-true j k h)
+pub lowest_none : (t : List (Option ℕ)) (k n : ℕ) → AreBlocks t
+    → HasNoneFrom (set_of_order k t) (n / 2 ^ k + min 1 (n % 2 ^ k)) → IsLowestStart t k n None
+lowest_none t k n blocks none = λ page from listed.
+    let aligned = multiple_of page (2 ^ k) (blocks.aligned page k listed) in
+    both_ways (has (set_of_order k t) (page / 2 ^ k))
+    (none (page / 2 ^ k)
+    (div_ceil_le n (page / 2 ^ k) (2 ^ k) (pow_pos k) (omega (arith, from, aligned))))
+    (listed_member t k page blocks listed)
 
-abbrev HeadIs : ℕ → ℕ → List (Option ℕ) → Option ℕ → Type 0
-HeadIs k f w None = (i : ℕ) → order_at w i ≡ Some k → ⊥
-HeadIs k f w (Some s) =
-    (f ≤ s) × (order_at w (s - f) ≡ Some k) × ((i : ℕ) → order_at w i ≡ Some k → s ≤ f + i)
-
-head_from : (k f : ℕ) (w : List (Option ℕ))
-    → HeadIs k f w (slice_get (pages_from f (is_order k) w) 0)
-head_from k f [] = λ i e. cc
-head_from k f (x ∷ w) = step (is_order k x) refl (head_from k (suc f) w)
-  where
-    later : (o : Option ℕ) → is_order k x ≡ false → HeadIs k (suc f) w o → HeadIs k f (x ∷ w) o
-    later None n h = at
-      where
-        at : (i : ℕ) → order_at (x ∷ w) i ≡ Some k → ⊥
-        at zero e = both_ways (is_order k x) n (ap (is_order k) e ∙ is_order-self k)
-        at (suc i) e = h i e
-    later (Some s) n h = (omega arith, found, at)
-      where
-        found : order_at (x ∷ w) (s - f) ≡ Some k
-        found = let e : s - f ≡ suc (s - suc f) = omega (arith, h.0) in
-            ap (order_at (x ∷ w)) e ∙ h.1
-
-        at : (i : ℕ) → order_at (x ∷ w) i ≡ Some k → s ≤ f + i
-        at zero e = absurd (both_ways (is_order k x) n (ap (is_order k) e ∙ is_order-self k))
-        at (suc i) e = omega (arith, h.2 i e)
-
-    step : (v : Bool) → is_order k x ≡ v
-        → HeadIs k (suc f) w (slice_get (pages_from (suc f) (is_order k) w) 0)
-        → HeadIs k f (x ∷ w) (slice_get
-        (cond v (f ∷ pages_from (suc f) (is_order k) w) (pages_from (suc f) (is_order k) w)) 0)
-    step true e h = (
-      omega arith,
-      ap (order_at (x ∷ w)) (let z : f - f ≡ 0 = omega arith in z)
-          ∙ is_order-true k x e,
-      λ i q. omega arith,
-    )
-    step false e h = later (slice_get (pages_from (suc f) (is_order k) w) 0) e h
-
-pub before_of : ℕ → ℕ → List (Option ℕ) → List ℕ
-before_of k n t = pages_from 0 (is_order k) (take n t)
-
-pub after_of : ℕ → ℕ → List (Option ℕ) → List ℕ
-after_of k n t = pages_from (length (take n t)) (is_order k) (drop n t)
-
-pub starts-split : (k n : ℕ) (t : List (Option ℕ))
-    → starts_of k t ≡ before_of k n t ++ after_of k n t
-unfolding starts_of before_of after_of
-starts-split k n t =
-    ap (λ (u : List (Option ℕ)). pages_from 0 (is_order k) u) (sym (take-append-drop n t))
-    ∙ (pages_from-append (is_order k) 0 (take n t) (drop n t)
-    ∙ ap (λ (m : ℕ). pages_from 0 (is_order k) (take n t) ++ pages_from m (is_order k) (drop n t))
-    (let z : 0 + length (take n t) ≡ length (take n t) = omega arith in z))
-
-pub before_below : (k n : ℕ) (t : List (Option ℕ)) → AllBelow n (before_of k n t)
-unfolding before_of
-before_below k n t j l =
-    omega (arith, pages_from-bounds (is_order k) 0 (take n t) j l, length-take n t)
-
-pub after_above : (k n : ℕ) (t : List (Option ℕ)) → AllFrom n (after_of k n t)
-unfolding after_of
-after_above k n t j l =
-    omega (
-      arith,
-      pages_from-bounds (is_order k) (length (take n t)) (drop n t) j l,
-      length-pages_from (is_order k) (length (take n t)) (drop n t),
-      length-drop n t,
-      length-take n t,
-    )
-
-pub lowest_after : (k n : ℕ) (t : List (Option ℕ))
-    → IsLowestStart t k n (slice_get (after_of k n t) 0)
-unfolding after_of
-lowest_after k n t = step (slice_get (pages_from (length (take n t)) (is_order k) (drop n t)) 0)
-    (head_from k (length (take n t)) (drop n t))
-  where
-    at : (i : ℕ) → order_at (drop n t) i ≡ order_at t (n + i)
-    at i = get_or-drop n t i None
-
-    step : (o : Option ℕ) → HeadIs k (length (take n t)) (drop n t) o → IsLowestStart t k n o
-    step None h = λ page l e.
-        let q : n + (page - n) ≡ page = omega arith in
-        h (page - n) (at (page - n) ∙ (ap (order_at t) q ∙ e))
-    step (Some s) h =
-        let i : s - length (take n t) < length (drop n t) =
-        is_there (drop n t) (s - length (take n t)) k h.1 in
-        let m : length (take n t) ≡ n = omega (arith, i, length-drop n t, length-take n t) in
-        let q : n + (s - length (take n t)) ≡ s = omega (arith, m, h.0) in (
-          ap (order_at t) (sym q) ∙ (sym (at (s - length (take n t))) ∙ h.1),
-          omega (arith, m, h.0),
-          λ page l e.
-              let r : n + (page - n) ≡ page = omega arith in
-              let low : s ≤ length (take n t) + (page - n) =
-              h.2 (page - n) (at (page - n) ∙ (ap (order_at t) r ∙ e)) in
-              omega (arith, m, low),
-        )
-
-pub lowest_first : (k : ℕ) (t : List (Option ℕ)) → IsLowestStart t k 0 (slice_get (starts_of k t) 0)
-unfolding starts_of after_of
-lowest_first k t = lowest_after k 0 t
-
--- ---- no blocks
-
-none_from : (k f n : ℕ) → pages_from f (is_order k) (replicate n None) ≡ []
-none_from k f zero = refl
-none_from k f (suc n) = none_from k (suc f) n
-
-pub starts-none : (k n : ℕ) → starts_of k (replicate n None) ≡ []
-unfolding starts_of
-starts-none k n = none_from k 0 n
-
-pub index-none : (n : ℕ) (xs : List Starts) → length xs ≡ 10
-    → ((k : ℕ) (d : Starts) → k < 10 → get_or xs k d ≡ entry [] n)
-    → xs ≡ index_of (replicate n None)
-index-none n xs l h =
-    same_lists xs (index_of (replicate n None)) (l ∙ sym (length-index_of (replicate n None)))
-    (λ k d lt.
-    let b : k < 10 = omega (arith, l) in
-    h k d b ∙ (ap (λ (ys : List ℕ). entry ys n) (sym (starts-none k n))
-    ∙ (ap (λ (m : ℕ). entry (starts_of k (replicate n None)) m) (sym (length-replicate n None))
-    ∙ sym (index_at (replicate n None) k d b))))
-
-pub index-emptied : (xs ys : List Starts) (t : List (Option ℕ)) → xs ≡ index_of t
-    → length ys ≡ length xs
-    → ((k : ℕ) (d : Starts) → k < length xs → get_or ys k d ≡ record (get_or xs k d) { items = [] })
-    → ys ≡ index_of (replicate (length t) None)
-index-emptied xs ys t e l h =
-    let ten : length xs ≡ 10 = ap length e ∙ length-index_of t in
-    index-none (length t) ys (l ∙ ten) (λ k d lt.
-    h k d (omega (arith, ten))
-    ∙ (ap (λ (zs : List Starts). entry [] (get_or zs k d).room) e
-    ∙ ap (λ (x : Starts). entry [] x.room) (index_at t k d lt)))
-
-pub same_entry : (a b : Starts) → a.items ≡ b.items → a.room ≡ b.room → a ≡ b
-same_entry a b e f = ap (λ (xs : List ℕ). entry xs a.room) e ∙ ap (λ (n : ℕ). entry b.items n) f
+pub lowest_some : (t : List (Option ℕ)) (k n b : ℕ) → AreBlocks t
+    → IsLeastFrom (set_of_order k t) (n / 2 ^ k + min 1 (n % 2 ^ k)) b
+    → IsLowestStart t k n (Some (b * 2 ^ k))
+lowest_some t k n b blocks least = (
+  member_listed t k b least.member,
+  div_ceil_from n b (2 ^ k) (pow_pos k) least.from,
+  λ page from listed.
+      let aligned = multiple_of page (2 ^ k) (blocks.aligned page k listed) in
+      elim (cases_lt (page / 2 ^ k) b) [
+        | inl before ↦
+            absurd (both_ways (has (set_of_order k t) (page / 2 ^ k))
+            (least.least (page / 2 ^ k)
+            (div_ceil_le n (page / 2 ^ k) (2 ^ k) (pow_pos k) (omega (arith, from, aligned)))
+            before)
+            (listed_member t k page blocks listed))
+        | inr after ↦
+            let step : b * 2 ^ k ≤ (page / 2 ^ k) * 2 ^ k =
+            mul-le b (2 ^ k) (page / 2 ^ k) (2 ^ k) after (omega arith) in
+            omega (arith, step, aligned)
+      ],
+)

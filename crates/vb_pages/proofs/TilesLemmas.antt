@@ -5,7 +5,6 @@ use Rattle.std.proofs.Common.{inr, Bool, true, false, not, List, length, set, re
 use Rattle.std.proofs.Common.{Some, None, refl, sym, ◌∙◌, ap, subst, arith}
 use Rattle.std.specs.List.{list_any, range_with_len}
 use Rattle.std.proofs.lemmas.List.{get_or-set_same, get_or-set_other, length-set, length-replicate}
-use Rattle.std.proofs.lemmas.List.{get_or-replicate}
 use Rattle.std.proofs.lemmas.List.FromFn.{get_or-map-range_with_len, length-map-range_with_len}
 use Rattle.std.proofs.lemmas.Nat.{pow_pos}
 use Rattle.std.proofs.lemmas.Bool.{cases_lt, cases_eq, cases_Bool, both_ways, or_cases, or_left}
@@ -21,7 +20,8 @@ use Rattle.vb_pages.specs.Areas.{has, with_pages, without_pages, block_at, IsBlo
 use Rattle.vb_pages.specs.Areas.{LiesWithin, IsMaximal, HasNoBlock, IsChosen}
 use Rattle.vb_pages.proofs.Aligned.{aligned_step, aligned_same, right_half, aligned_down}
 use Rattle.vb_pages.proofs.Aligned.{end_aligned, pow_twice, floor_aligned}
-use Rattle.vb_pages.proofs.TableLemmas.{is_order-true, is_order-self, is_there}
+use Rattle.vb_pages.proofs.TableLemmas.{is_order-true, is_order-self, is_there, entry_kept}
+use Rattle.vb_pages.proofs.TableLemmas.{with_block_added, with_block_removed, no_blocks, none_entry}
 use Rattle.vb_pages.proofs.Sets.{same_sets, is_inside, length-with_pages, length-without_pages}
 use Rattle.vb_pages.proofs.Sets.{with_old, with_new, with_cases, without_parts, without_old}
 use Rattle.vb_pages.proofs.Sets.{in_block, block_bounds, not_in_block, has-without_pages}
@@ -78,9 +78,9 @@ covered_to t p placed c =
     let high : p < (p - p % 2 ^ c.order) + 2 ^ c.order = omega arith in
     let same : p - p % 2 ^ c.order ≡ c.start =
     aligned_same (p - p % 2 ^ c.order) c.start (2 ^ c.order) p
-    (floor_aligned p (2 ^ c.order) pos) (placed.aligned c.start c.order c.listed) low high c.low
-    c.high in
-    let ten : c.order ≤ 9 = placed.bounded c.start c.order c.listed in
+    (floor_aligned p (2 ^ c.order) pos) (placed.blocks.aligned c.start c.order c.listed) low high
+    c.low c.high in
+    let ten : c.order ≤ 9 = placed.blocks.bounded c.start c.order c.listed in
     range_any (λ order. is_order order (order_at t (p - p % 2 ^ order))) 0 10 c.order (omega arith)
     (omega arith) (ap (is_order c.order) (ap (order_at t) same ∙ c.listed)
     ∙ is_order-self c.order)
@@ -101,7 +101,8 @@ in_set t p h =
 module _ (t : List (Option ℕ)) (placed : IsPlaced t) where
   pub to_set : (p : ℕ) → Covered t p → has (set_of t) p ≡ true
   to_set p c =
-      let l : p < length t = omega (arith, c.low, c.high, placed.fits c.start c.order c.listed) in
+      let l : p < length t =
+      omega (arith, c.low, c.high, placed.blocks.fits c.start c.order c.listed) in
       has-set_of t p l ∙ covered_to t p placed c
 
   -- just one block covers a page
@@ -160,7 +161,7 @@ module _ (t : List (Option ℕ)) (placed : IsPlaced t) where
                 let step : a + 2 ^ suc j ≤ x.start + 2 ^ x.order =
                 aligned_step a (x.start + 2 ^ x.order) (2 ^ suc j) e
                 (end_aligned x.start (suc j) x.order lt
-                (placed.aligned x.start x.order x.listed)) (omega (arith, x.high)) in
+                (placed.blocks.aligned x.start x.order x.listed)) (omega (arith, x.high)) in
                 record {
                   start = x.start;
                   order = x.order;
@@ -174,7 +175,7 @@ module _ (t : List (Option ℕ)) (placed : IsPlaced t) where
                   | inl lt ↦
                       let start_ok : y.start % 2 ^ suc j ≡ 0 =
                       aligned_down y.start (suc j) y.order lt
-                      (placed.aligned y.start y.order y.listed) in
+                      (placed.blocks.aligned y.start y.order y.listed) in
                       let low : y.start ≤ a =
                       elim (cases_lt a y.start) [
                         | inl past ↦ absurd (omega
@@ -211,7 +212,8 @@ module _ (t : List (Option ℕ)) (placed : IsPlaced t) where
   listed_inside s k e p l h = to_set p (listed_page s k p e l h)
 
   pub listed_block : (s k : ℕ) → order_at t s ≡ Some k → IsBlock (block_at s k)
-  listed_block s k e = (placed.bounded s k e, eq-eqb (s % 2 ^ k) 0 (placed.aligned s k e))
+  listed_block s k e =
+      (placed.blocks.bounded s k e, eq-eqb (s % 2 ^ k) 0 (placed.blocks.aligned s k e))
 
   inside_within : IsMerged t → (c : Block) → IsBlock c → LiesIn (set_of t) c
       → Within c.start c.order
@@ -273,29 +275,18 @@ module _ (t : List (Option ℕ)) (placed : IsPlaced t) where
 
 -- ---- a block leaves the table
 
-kept : (t : List (Option ℕ)) (s r j : ℕ) → s < length t → order_at (set t s None) r ≡ Some j
-    → (r ≢ s) × (order_at t r ≡ Some j)
-kept t s r j l e =
-    elim (cases_eq r s) [
-      | inl same ↦
-          let n : order_at (set t s None) r ≡ None =
-          ap (order_at (set t s None)) same ∙ get_or-set_same t s None None l in
-          absurd (let bad : Some j ≡ None = sym e ∙ n in cc)
-      | inr differ ↦ (differ, sym (get_or-set_other t s r None None differ) ∙ e)
-    ]
-
 pub removed_placed : (t : List (Option ℕ)) (s : ℕ) → s < length t → IsPlaced t
     → IsPlaced (set t s None)
 removed_placed t s l placed = record {
-  bounded = λ r j e. placed.bounded r j (kept t s r j l e).1;
-  aligned = λ r j e. placed.aligned r j (kept t s r j l e).1;
-  fits = λ r j e. omega (arith, placed.fits r j (kept t s r j l e).1, length-set t s None);
-  apart = λ r j q i e a b f. placed.apart r j q i (kept t s r j l e).1 a b (kept t s q i l f).1;
+  blocks = with_block_removed t s l placed.blocks;
+  apart = λ r j q i e a b f.
+      placed.apart r j q i (entry_kept t s r j l e).1 a b (entry_kept t s q i l f).1;
 }
 
 pub removed_merged : (t : List (Option ℕ)) (s : ℕ) → s < length t → IsMerged t
     → IsMerged (set t s None)
-removed_merged t s l merged r j e f = merged r j (kept t s r j l e).1 (kept t s (r + 2 ^ j) j l f).1
+removed_merged t s l merged r j e f =
+    merged r j (entry_kept t s r j l e).1 (entry_kept t s (r + 2 ^ j) j l f).1
 
 pub removed_set : (t : List (Option ℕ)) (s k : ℕ) → IsPlaced t → order_at t s ≡ Some k
     → set_of (set t s None) ≡ without_pages (pages_of (block_at s k)) (set_of t)
@@ -316,7 +307,7 @@ removed_set t s k placed e =
     to : (p : ℕ) → has (set_of t') p ≡ true → has (without_pages block (set_of t)) p ≡ true
     to p h =
         let c = in_set t' p h in
-        let q = kept t s c.start c.order l c.listed in
+        let q = entry_kept t s c.start c.order l c.listed in
         let d : Covered t p =
         record { start = c.start; order = c.order; listed = q.1; low = c.low; high = c.high } in
         without_old block (set_of t) p (to_set t placed p d)
@@ -384,28 +375,12 @@ module _ (t : List (Option ℕ)) (s k : ℕ) (placed : IsPlaced t) (room : HasRo
       ]
 
   pub added_placed : IsPlaced (set t s (Some k))
-  added_placed = record { bounded = bounded; aligned = aligned; fits = fits; apart = apart }
+  added_placed =
+      record {
+        blocks = with_block_added t s k placed.blocks room.bounded room.aligned room.fits;
+        apart = apart;
+      }
     where
-      bounded : (r j : ℕ) → order_at (set t s (Some k)) r ≡ Some j → j ≤ 9
-      bounded r j e = elim (entry_cases r j e)
-          [ inl q ↦ omega (arith, q.1, room.bounded) | inr q ↦ placed.bounded r j q.1 ]
-
-      aligned : (r j : ℕ) → order_at (set t s (Some k)) r ≡ Some j → r % 2 ^ j ≡ 0
-      aligned r j e =
-          elim (entry_cases r j e) [
-            | inl q ↦ ap (λ (x : ℕ). x % 2 ^ j) q.0 ∙ (ap (λ (x : ℕ). s % 2 ^ x) q.1 ∙ room.aligned)
-            | inr q ↦ placed.aligned r j q.1
-          ]
-
-      fits : (r j : ℕ) → order_at (set t s (Some k)) r ≡ Some j
-          → r + 2 ^ j ≤ length (set t s (Some k))
-      fits r j e =
-          elim (entry_cases r j e) [
-            | inl q ↦ let w : 2 ^ j ≡ 2 ^ k = ap (λ (i : ℕ). 2 ^ i) q.1 in
-                omega (arith, room.fits, length-set t s (Some k), w, q.0)
-            | inr q ↦ omega (arith, placed.fits r j q.1, length-set t s (Some k))
-          ]
-
       apart : (r j q i : ℕ) → order_at (set t s (Some k)) r ≡ Some j → r < q → q < r + 2 ^ j
           → order_at (set t s (Some k)) q ≡ Some i → ⊥
       apart r j q i e a b f =
@@ -552,9 +527,6 @@ no_larger t s k h = record { right = λ e a nine. omega arith; left = λ r e f a
 module _ (t : List (Option ℕ)) (s k b low : ℕ) (placed : IsPlaced t) (room : HasRoom t s k)
     (buddy : IsBuddy s k b) (listed : order_at t b ≡ Some k) (nine : k < 9)
     (least : low ≡ min s b) where
-  merge_there : b < length t
-  merge_there = is_there t b k listed
-
   abbrev after : List (Option ℕ)
   after = set t b None
 
@@ -606,7 +578,7 @@ module _ (t : List (Option ℕ)) (s k b low : ℕ) (placed : IsPlaced t) (room :
         bounded = omega arith;
         aligned = elim left_case [ inl q ↦ q.2 | inr q ↦ q.2 ];
         fits = elim left_case [
-          | inl q ↦ omega (arith, placed.fits b k listed, length-set t b None, q.0, q.1)
+          | inl q ↦ omega (arith, placed.blocks.fits b k listed, length-set t b None, q.0, q.1)
           | inr q ↦
               omega (arith, room.fits, length-set t b None, q.0, q.1)
         ];
@@ -639,9 +611,6 @@ module _ (t : List (Option ℕ)) (s k b low : ℕ) (placed : IsPlaced t) (room :
 
 -- the upper half of a block goes in
 module _ (t : List (Option ℕ)) (s k : ℕ) (placed : IsPlaced t) (room : HasRoom t s (suc k)) where
-  upper_there : s < length t
-  upper_there = let pos : 0 < 2 ^ suc k = pow_pos (suc k) in omega (arith, room.fits)
-
   pub upper_room : HasRoom t (s + 2 ^ k) k
   upper_room =
       let twice : 2 ^ suc k ≡ 2 ^ k + 2 ^ k = pow_twice k in
@@ -696,9 +665,9 @@ pub removed_room : (t : List (Option ℕ)) (s k : ℕ) → IsPlaced t → order_
     → HasRoom (set t s None) s k
 removed_room t s k placed e =
     record {
-      bounded = placed.bounded s k e;
-      aligned = placed.aligned s k e;
-      fits = omega (arith, placed.fits s k e, length-set t s None);
+      bounded = placed.blocks.bounded s k e;
+      aligned = placed.blocks.aligned s k e;
+      fits = omega (arith, placed.blocks.fits s k e, length-set t s None);
       outside = λ p l h.
           ap (λ (x : List Bool). has x p) (removed_set t s k placed e)
           ∙ (has-without_pages (pages_of (block_at s k)) (set_of t) p
@@ -729,36 +698,15 @@ added_tiled t s k tiled room alone =
 -- no blocks make up no pages
 pub none_tiled : (n : ℕ) → n ≤ 16384 → IsTiled (replicate n None)
 none_tiled n h = record {
-  placed = record {
-    bounded = λ s k e. absurd (no s k e);
-    aligned = λ s k e. absurd (no s k e);
-    fits = λ s k e. absurd (no s k e);
-    apart = λ s k r j e a b f. no s k e;
-  };
-  merged = λ s k e f a b. no s k e;
+  placed = record { blocks = no_blocks n; apart = λ s k r j e a b f. none_entry n s k e };
+  merged = λ s k e f a b. none_entry n s k e;
   small = omega (arith, length-replicate {A = Option ℕ} n None);
 }
-  where
-    no : (s k : ℕ) → order_at (replicate n None) s ≡ Some k → ⊥
-    no s k e =
-        let l : s < n = omega
-        (arith, is_there (replicate n None) s k e, length-replicate {A = Option ℕ} n None) in
-        let bad : Some k ≡ None = sym e ∙ get_or-replicate n s None None l in
-        cc
 
 pub none_set : (n p : ℕ) → n ≤ 16384 → has (set_of (replicate n None)) p ≡ false
 none_set n p h =
     false_from_ne_true (has (set_of (replicate n None)) p) (λ e.
-    let c = in_set (replicate n None) p e in
-    let t = none_tiled n h in
-    let l : c.start < n =
-    omega (
-      arith,
-      is_there (replicate n None) c.start c.order c.listed,
-      length-replicate {A = Option ℕ} n None,
-    ) in
-    let bad : Some c.order ≡ None = sym c.listed ∙ get_or-replicate n c.start None None l in
-    cc)
+    let c = in_set (replicate n None) p e in none_entry n c.start c.order c.listed)
 
 -- ---- the lowest listed block, order by order
 
@@ -769,66 +717,6 @@ IsLowestBelow table order from end (Some b) =
     (order_at table b.start ≡ Some b.order) × (order ≤ b.order) × (b.order ≤ 9) × (from ≤ b.start)
     × ((start larger : ℕ) → order ≤ larger → larger < end → from ≤ start
     → order_at table start ≡ Some larger → b.start ≤ start)
-
--- no block of the next order
-pub lowest_same : (t : List (Option ℕ)) (order from k : ℕ) (best : Option FreeBlock)
-    → IsLowestStart t k from None → IsLowestBelow t order from k best
-    → IsLowestBelow t order from (k + 1) best
-lowest_same t order from k None none h = λ s j a b c e.
-    elim (cases_eq j k) [
-      | inl same ↦ none s c (e ∙ ap (λ (i : ℕ). Some i) same)
-      | inr differ ↦ h s j a (omega arith) c e
-    ]
-lowest_same t order from k (Some x) none h = (
-  h.0,
-  h.1,
-  h.2,
-  h.3,
-  λ s j a b c e.
-      elim (cases_eq j k) [
-        | inl same ↦ absurd (none s c (e ∙ ap (λ (i : ℕ). Some i) same))
-        | inr differ ↦ h.4 s j a (omega arith) c e
-      ],
-)
-
--- one that isn't lower
-pub lowest_kept : (t : List (Option ℕ)) (order from k s : ℕ) (x : FreeBlock)
-    → IsLowestStart t k from (Some s) → x.start ≤ s → IsLowestBelow t order from k (Some x)
-    → IsLowestBelow t order from (k + 1) (Some x)
-lowest_kept t order from k s x low le h = (
-  h.0,
-  h.1,
-  h.2,
-  h.3,
-  λ r j a b c e.
-      elim (cases_eq j k) [
-        | inl same ↦ omega (arith, low.2 r c (e ∙ ap (λ (i : ℕ). Some i) same))
-        | inr differ ↦ h.4 r j a (omega arith) c e
-      ],
-)
-
--- a lower one, or the first
-pub lowest_taken : (t : List (Option ℕ)) (order from k s : ℕ) (best : Option FreeBlock) → order ≤ k
-    → IsLowestStart t k from (Some s) → ((x : FreeBlock) → best ≡ Some x → s < x.start) → k ≤ 9
-    → IsLowestBelow t order from k best
-    → IsLowestBelow t order from (k + 1) (Some (record { start = s; order = k }))
-lowest_taken t order from k s best o low less nine h = (
-  low.0,
-  o,
-  nine,
-  low.1,
-  λ r j a b c e.
-      elim (cases_eq j k) [
-        | inl same ↦ low.2 r c (e ∙ ap (λ (i : ℕ). Some i) same)
-        | inr differ ↦ other best h less r j a (omega arith) c e
-      ],
-)
-  where
-    other : (best : Option FreeBlock) → IsLowestBelow t order from k best
-        → ((x : FreeBlock) → best ≡ Some x → s < x.start) → (r j : ℕ) → order ≤ j → j < k → from ≤ r
-        → order_at t r ≡ Some j → s ≤ r
-    other None h less = λ r j a b c e. absurd (h r j a b c e)
-    other (Some x) h less = λ r j a b c e. omega (arith, less x refl, h.4 r j a b c e)
 
 pub lowest_all : (t : List (Option ℕ)) (order from end : ℕ) (best : Option FreeBlock) → 9 < end
     → IsLowestBelow t order from end best → IsLowestListed t order from best
@@ -874,18 +762,12 @@ module _ (t : List (Option ℕ)) (s w size : ℕ) (tiled : IsTiled t) (room : Ha
   rest_at : s + 2 ^ (w - 1) ≡ s + size
   rest_at = ap (λ (n : ℕ). s + n) (sym size_is)
 
-  pub rest_there : s + size < length t
-  rest_there = omega (
-    arith,
-    rest_at,
-    room_there t (s + 2 ^ (w - 1)) (w - 1) tiled.placed
-        (upper_room t s (w - 1) tiled.placed rest_whole),
-  )
+  pub rest_upper : HasRoom t (s + size) (w - 1)
+  rest_upper = subst (λ (n : ℕ). HasRoom t n (w - 1)) rest_at
+      (upper_room t s (w - 1) tiled.placed rest_whole)
 
   pub rest_empty : order_at t (s + size) ≡ None
-  rest_empty = ap (order_at t) (sym rest_at)
-      ∙ room_empty t (s + 2 ^ (w - 1)) (w - 1) tiled.placed
-      (upper_room t s (w - 1) tiled.placed rest_whole)
+  rest_empty = room_empty t (s + size) (w - 1) tiled.placed rest_upper
 
   rest_table : halved t s (w - 1) tiled.placed rest_whole ≡ set t (s + size) (Some (w - 1))
   rest_table = ap (λ (n : ℕ). set t n (Some (w - 1))) rest_at

@@ -1,17 +1,18 @@
 -- Sets of pages and the blocks that lie in them. Blocks of a power of two, their halving and
 -- merging: Gorman, "Understanding the Linux Virtual Memory Manager", chapter 6. Which block a
 -- request gets is the profile's.
-use Rattle.std.specs.Prelude.{◌≡◌, ℕ, ◌+◌, ◌<◌, ◌≤◌, Bool, false, not, ◌&&◌, ◌||◌, nat_le, List}
-use Rattle.std.specs.Prelude.{map, Option, Some, None, IsTrue, slice_index_or}
+use Rattle.std.specs.Prelude.{◌≡◌, ℕ, ◌+◌, ◌*◌, ◌/◌, ◌^◌, ◌<◌, ◌≤◌, ◌↔◌, Bool, true, false, not}
+use Rattle.std.specs.Prelude.{◌&&◌, ◌||◌, nat_le, max, List, length, map, slice_index, Option, Some}
+use Rattle.std.specs.Prelude.{None, IsTrue}
+use Rattle.std.specs.Int.{div_ceil}
 use Rattle.std.specs.List.{range_with_len}
-use Rattle.vb_model.specs.Tests.{is_in, each_page}
+use Rattle.vb_model.specs.Tests.{is_in, each_page, has_bit}
 use Rattle.vb_model.specs.Limits.{max_order, reserved_pages}
 pub use Rattle.vb_model.specs.Pages.{block_at}
-use Rattle.vb_model.specs.Pages.{Block, size, pages_of, is_aligned}
-
 -- a set of pages is a flag a page; a page that isn't there isn't in it
-abbrev pub has : List Bool → ℕ → Bool
-has set page = slice_index_or set page false
+pub use Rattle.vb_bits.specs.Sets.{has}
+use Rattle.vb_bits.specs.declared.word.TheConstants.{WORD_BITS}
+use Rattle.vb_model.specs.Pages.{Block, size, pages_of, is_aligned}
 
 -- these pages come to the set
 unfoldable pub with_pages : List ℕ → List Bool → List Bool
@@ -73,3 +74,10 @@ pub record IsLowestFrom (set : List Bool) (order from : ℕ) (b : Block) : Type 
   pub sufficient : order ≤ b.order
   pub after : from ≤ b.start
   pub lowest : (c : Block) → IsMaximal set c → order ≤ c.order → from ≤ c.start → b.start ≤ c.start
+
+-- the set's maximal blocks of this order as bits: bit b of word w is 1 exactly if one starts at
+-- page (64 w + b) * 2^order; the words are the fewest that so many pages need, at least one
+pub record AreBlockBits (set : List Bool) (order : ℕ) (words : List ℕ) : Type 0 where
+  pub fewest : length words ≡ max 1 (div_ceil (length set / 2 ^ order) WORD_BITS)
+  pub tells : (w b : ℕ) → b < WORD_BITS → (has_bit (slice_index words w) b ≡ true) ↔
+      IsMaximal set (block_at ((WORD_BITS * w + b) * 2 ^ order) order)

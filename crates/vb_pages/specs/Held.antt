@@ -1,8 +1,6 @@
 -- Held blocks: a table by page, seen as blocks by rising start.
-use Rattle.std.specs.Prelude.{◌≡◌, ℕ, suc, ◌%◌, ◌^◌, ◌≤◌, List, [], ◌∷◌, Option, Some, None}
-use Rattle.vb_model.specs.Limits.{max_order}
+use Rattle.std.specs.Prelude.{ℕ, suc, List, [], ◌∷◌, Option, Some, None}
 use Rattle.vb_model.specs.Pages.{Block}
-use Rattle.vb_pages.specs.Table.{order_at}
 use Rattle.vb_pages.specs.Areas.{block_at}
 
 -- so many pages, and the held blocks by rising start
@@ -18,8 +16,3 @@ blocks_from first (Some order ∷ table) = block_at first order ∷ blocks_from 
 
 unfoldable pub blocks_of : List (Option ℕ) → List Block
 blocks_of table = blocks_from 0 table
-
--- its blocks are aligned, of order 0 to 9
-pub record IsAligned (table : List (Option ℕ)) : Type 0 where
-  pub bounded : (start order : ℕ) → order_at table start ≡ Some order → order ≤ max_order
-  pub aligned : (start order : ℕ) → order_at table start ≡ Some order → start % 2 ^ order ≡ 0

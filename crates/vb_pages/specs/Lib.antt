@@ -1,4 +1,3 @@
-pub mod Starts
 pub mod Table
 pub mod Areas
 pub mod Tiles

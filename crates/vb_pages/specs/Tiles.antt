@@ -4,7 +4,7 @@ use Rattle.std.specs.Prelude.{Option, Some, None, ◌⊎◌}
 use Rattle.std.specs.List.{list_any, range_with_len}
 use Rattle.vb_model.specs.Limits.{max_order}
 use Rattle.vb_model.specs.declared.limits.TheConstants.{MAX_GUEST_PAGES}
-use Rattle.vb_pages.specs.Table.{order_at, is_order}
+use Rattle.vb_pages.specs.Table.{order_at, is_order, AreBlocks}
 use Rattle.vb_pages.specs.declared.block.FreeBlock.{FreeBlock}
 use Rattle.vb_pages.specs.Areas.{LiesOutside, block_at}
 
@@ -20,10 +20,7 @@ set_of table = map (is_covered table) (range_with_len 0 (length table))
 
 -- its blocks are aligned, lie in the table and share no page
 pub record IsPlaced (table : List (Option ℕ)) : Type 0 where
-  pub bounded : (start order : ℕ) → order_at table start ≡ Some order → order ≤ max_order
-  pub aligned : (start order : ℕ) → order_at table start ≡ Some order → start % 2 ^ order ≡ 0
-  pub fits : (start order : ℕ) → order_at table start ≡ Some order →
-      start + 2 ^ order ≤ length table
+  pub blocks : AreBlocks table
   pub apart : (start order other k : ℕ) → order_at table start ≡ Some order → start < other →
       other < start + 2 ^ order → order_at table other ≡ Some k → ⊥
 

@@ -6,22 +6,14 @@ ghost use Rattle.vb_model.specs.Pages.{pages_of};
 ghost use Rattle.vb_pages.specs.Table.{order_at};
 ghost use Rattle.vb_pages.specs.Areas.{has, with_pages, without_pages, unreserved, block_at};
 ghost use Rattle.vb_pages.specs.Areas.{IsBlock, IsMaximal, LiesOutside, TakesBlock, IsLowestFrom};
+ghost use Rattle.vb_pages.specs.Areas.{AreBlockBits};
 ghost use Rattle.vb_pages.specs.Tiles.{IsBuddy, HasRoom, IsTiled, set_of, IsLowestListed};
 
-use crate::FreeBlock;
+use crate::block::{FreeBlock, size_of};
 use crate::table::Table;
 use std::alloc::{AllocError, Global};
 use std::marker::Model;
 use vb_model::limits::{MAX_GUEST_PAGES, MAX_ORDER, RESERVED_PAGES};
-
-/// How many pages a block of the order has.
-pub fn size_of(order: u32) -> u32
-    requires { order ≤ MAX_ORDER }
-    ensures size { result ≡ 2 ^ order }
-    ensures small { result ≤ 512 }
-{
-    1 << order
-}
 
 /// Where the other half of the next larger block starts.
 fn buddy_of(start: u32, order: u32) -> u32
@@ -80,7 +72,7 @@ fn take_block(table: &mut Table, order: u32) -> Option<u32>
     ensures taken { TakesBlock (set_of table.old) order result (set_of table.new) }
 {
     for larger in order..=MAX_ORDER {
-        if let Some(start) = table.first(larger) {
+        if let Some(start) = table.first_from(larger, 0) {
             table.remove(start, larger);
             put_rest(table, start, larger, order);
             return Some(start);
@@ -109,6 +101,24 @@ fn lowest_from(table: &Table, order: u32, from: u32) -> Option<FreeBlock>
         }
     }
     best
+}
+
+/// The order of the largest block that starts at one page and ends at or before another.
+fn largest_order(start: u32, end: u32) -> u32
+    requires { start < end }
+    ensures bounded { result ≤ MAX_ORDER }
+    ensures aligned { start % 2 ^ result ≡ 0 }
+    ensures fits { start + 2 ^ result ≤ end }
+    ensures largest { result < MAX_ORDER → start % 2 ^ (result + 1) ≡ 0 →
+        end < start + 2 ^ (result + 1) }
+{
+    for order in 0..MAX_ORDER {
+        let size = size_of(order + 1);
+        if start % size != 0 || end - start < size {
+            return order;
+        }
+    }
+    MAX_ORDER
 }
 
 /// The areas, as a set of pages.
@@ -145,15 +155,18 @@ impl Areas {
         Ok(areas)
     }
 
-    /// Puts all pages in but the reserved ones.
+    /// Puts all pages in but the reserved ones, as the largest blocks.
     fn fill(&mut self, pages: u32)
         requires pages { pages ≡ length self.old }
         requires small { pages ≤ MAX_GUEST_PAGES }
         requires empty { (page : ℕ) → has self.old page ≡ false }
         ensures { self.new ≡ unreserved pages }
     {
-        for page in RESERVED_PAGES..pages {
-            self.give(page, 0);
+        let mut page = RESERVED_PAGES;
+        while page < pages {
+            let order = largest_order(page, pages);
+            self.give(page, order);
+            page += size_of(order);
         }
     }
 
@@ -162,6 +175,14 @@ impl Areas {
         ensures { result ≡ count_by (λ f. f) self.now }
     {
         self.count
+    }
+
+    /// The maximal blocks of this order as bits.
+    pub fn bits(&self, order: u32) -> &[u64]
+        requires { order ≤ MAX_ORDER }
+        ensures { AreBlockBits self.now order result.now }
+    {
+        self.table.bits(order)
     }
 
     /// Takes what a request of this order gets.

@@ -8,6 +8,7 @@ ghost use Rattle.vb_model.specs.Tests.{one_if};
 ghost use Rattle.vb_model.specs.Pages.{pages_of};
 ghost use Rattle.vb_pages.specs.Areas.{has, with_pages, without_pages, unreserved, block_at};
 ghost use Rattle.vb_pages.specs.Areas.{IsBlock, IsMaximal, IsLowestFrom, HasNoBlock};
+ghost use Rattle.vb_pages.specs.Areas.{AreBlockBits};
 ghost use Rattle.vb_pages.specs.FreePages.{FreePages as Free, times_free, free_count, drained};
 ghost use Rattle.vb_pages.specs.FreePages.{TakesPages, Tries, Serves, given_back, IsSoundFree};
 ghost use Rattle.vb_pages.specs.FreePages.{HasRoomFor};
@@ -94,6 +95,14 @@ impl FreePages {
         ensures { result ≡ length self.now.lists }
     {
         self.lists.len()
+    }
+
+    /// The maximal blocks of this order in the areas as bits.
+    pub fn bits(&self, order: u32) -> &[u64]
+        requires { order ≤ MAX_ORDER }
+        ensures { AreBlockBits self.now.areas order result.now }
+    {
+        self.areas.bits(order)
     }
 
     /// Puts all lists back into the areas.

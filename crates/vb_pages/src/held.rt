@@ -1,64 +1,53 @@
 //! Held blocks, by the page where they start.
 
-ghost use Rattle.std.specs.Prelude.{◌≡◌, ℕ, ◌<◌, ◌≤◌, ◌↔◌, List, [], Some, false, true, IsTrue};
-ghost use Rattle.std.specs.Prelude.{IfOk};
+ghost use Rattle.std.specs.Prelude.{◌≡◌, ◌+◌, ◌^◌, ◌≤◌, [], false, true, IfOk};
 ghost use Rattle.std.specs.List.{list_any};
 ghost use Rattle.vb_model.specs.Pages.{covers, is_same_block};
 ghost use Rattle.vb_model.specs.Driver.{with_block, without_block};
-ghost use Rattle.vb_pages.specs.Table.{order_at};
 ghost use Rattle.vb_pages.specs.Areas.{block_at, IsBlock};
 
-use crate::areas::size_of;
+use crate::block::size_of;
+use crate::table::Table;
 use std::alloc::{AllocError, Global};
 use std::marker::Model;
-use vb_model::limits::MAX_ORDER;
-
-/// Whether a block of this order starts at the page.
-fn is_at(orders: &[Option<u8>], page: u32, order: u32) -> bool
-    ensures { IsTrue result ↔ (order_at orders.now page ≡ Some order) }
-{
-    match orders.get(page as usize) {
-        Some(Some(there)) => u32::from(*there) == order,
-        _ => false,
-    }
-}
+use vb_model::limits::{MAX_GUEST_PAGES, MAX_ORDER};
 
 /// The held blocks.
 #[derive(Drop)]
 pub struct Held {
-    /// Of each page, the order of the held block that starts there.
-    orders: Vec<Option<u8>>,
+    /// The held blocks.
+    table: Table,
 }
 
 impl Model for Held {
     ghost use Rattle.std.specs.Prelude.{length};
-    ghost use Rattle.vb_pages.specs.Held.{HeldBlocks, blocks_of, IsAligned};
+    ghost use Rattle.vb_pages.specs.Table.{AreBlocks};
+    ghost use Rattle.vb_pages.specs.Held.{HeldBlocks, blocks_of};
 
     ghost Value = { HeldBlocks };
 
-    ghost view = { λ h. record {
-      pages = length h.orders.items;
-      blocks = blocks_of h.orders.items;
-    } };
+    ghost view = { λ h. record { pages = length h.table; blocks = blocks_of h.table } };
 
-    ghost invariant = { λ h. IsAligned h.orders.items };
+    ghost invariant = { λ h. AreBlocks h.table };
 }
 
 impl Held {
     /// No held blocks among so many pages.
     pub fn new(alloc: Global, pages: u32) -> Result<Self, AllocError>
+        requires { pages ≤ MAX_GUEST_PAGES }
         ensures { IfOk result (λ h. h ≡ record { pages = pages; blocks = [] }) }
     {
         Ok(Held {
-            orders: vec![in alloc; None; pages as usize]?,
+            table: Table::new(alloc, pages)?,
         })
     }
 
     /// Whether just this block is held.
     pub fn holds(&self, start: u32, order: u32) -> bool
+        requires { order ≤ MAX_ORDER }
         ensures { result ≡ list_any (λ h. is_same_block h (block_at start order)) self.now.blocks }
     {
-        is_at(&self.orders, start, order)
+        self.table.is_listed(start, order)
     }
 
     /// Whether the page lies in a held block.
@@ -66,7 +55,8 @@ impl Held {
         ensures { result ≡ list_any (covers page) self.now.blocks }
     {
         for order in 0..=MAX_ORDER {
-            if is_at(&self.orders, page - page % size_of(order), order) {
+            let start = page - page % size_of(order);
+            if self.table.is_listed(start, order) {
                 return true;
             }
         }
@@ -76,12 +66,12 @@ impl Held {
     /// A block is held from now on.
     pub fn add(&mut self, start: u32, order: u32)
         requires block { IsBlock (block_at start order) }
-        requires there { start < self.old.pages }
+        requires fits { start + 2 ^ order ≤ self.old.pages }
         requires outside { list_any (covers start) self.old.blocks ≡ false }
         ensures { self.new ≡
             record self.old { blocks = with_block (block_at start order) self.old.blocks } }
     {
-        self.orders[start as usize] = Some(order as u8);
+        self.table.add(start, order);
     }
 
     /// A block is no longer held.
@@ -91,13 +81,13 @@ impl Held {
         ensures removed { self.new ≡
             record self.old { blocks = without_block (block_at start order) self.old.blocks } }
     {
-        self.orders[start as usize] = None;
+        self.table.remove(start, order);
     }
 
     /// No block is held.
     pub fn clear(&mut self)
         ensures { self.new ≡ record self.old { blocks = [] } }
     {
-        self.orders.fill(None);
+        self.table.clear();
     }
 }

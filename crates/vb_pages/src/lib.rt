@@ -12,7 +12,6 @@ mod free;
 mod held;
 mod lists;
 mod pages;
-mod starts;
 mod table;
 #[cfg(test)]
 mod tests;

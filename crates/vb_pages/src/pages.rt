@@ -6,7 +6,7 @@ ghost use Rattle.std.specs.Prelude.{IfSome, IsTrue, count_by, false, true};
 ghost use Rattle.vb_model.specs.Tests.{is_in, one_if};
 ghost use Rattle.vb_model.specs.Pages.{covers};
 ghost use Rattle.vb_model.specs.Driver.{with_block, without_block};
-ghost use Rattle.vb_pages.specs.Areas.{block_at, IsBlock};
+ghost use Rattle.vb_pages.specs.Areas.{block_at, IsBlock, AreBlockBits};
 ghost use Rattle.vb_pages.specs.FreePages.{free_count, drained};
 ghost use Rattle.vb_pages.specs.PageState.{PageState, page_count, cpu_count, is_free_page};
 ghost use Rattle.vb_pages.specs.PageState.{is_held_page, is_held_block, is_unreserved};
@@ -200,6 +200,17 @@ impl Pages {
         ensures { result ≡ free_count self.now.free }
     {
         self.free.count()
+    }
+
+    /// The blocks of this order in the areas, which are the maximal free ones there, as bits: bit b
+    /// of word w is 1 exactly if one starts at page (64 w + b) * 2^order. The words are the fewest
+    /// that hold a bit for each block that the pages have room for, and at least one; further bits
+    /// are 0. Takes no memory.
+    pub fn bits(&self, order: u32) -> &[u64]
+        requires { order ≤ MAX_ORDER }
+        ensures { AreBlockBits self.now.free.areas order result.now }
+    {
+        self.free.bits(order)
     }
 
     /// Makes all pages free again but the reserved ones.

@@ -1,72 +1,77 @@
-//! Which blocks there are: an order a page, and each order's starts in order.
+//! Which blocks there are: of each order, the set of its blocks.
 
-ghost use Rattle.std.specs.Prelude.{◌≡◌, ℕ, ◌<◌, ◌≤◌, List, length, replicate, slice_set, Some};
-ghost use Rattle.std.specs.Prelude.{None, IfOk, IsTrue, ◌↔◌};
-ghost use Rattle.vb_pages.specs.Table.{order_at, IsLowestStart};
+ghost use Rattle.std.specs.Prelude.{◌≡◌, ℕ, ◌+◌, ◌*◌, ◌/◌, ◌%◌, ◌^◌, ◌<◌, ◌≤◌, ◌↔◌, true, max};
+ghost use Rattle.std.specs.Prelude.{List, length, replicate, slice_index, slice_set};
+ghost use Rattle.std.specs.Prelude.{Some, None, IfOk, IsTrue};
+ghost use Rattle.std.specs.Int.{div_ceil};
+ghost use Rattle.vb_model.specs.Tests.{has_bit};
+ghost use Rattle.vb_pages.specs.Table.{order_at, set_of_order, AreBlocks, IsLowestStart};
 
-use crate::starts::StartList;
+use crate::block::size_of;
 use std::alloc::{AllocError, Global};
 use std::marker::Model;
+use vb_bits::{BitSet, WORD_BITS};
 use vb_model::limits::{MAX_GUEST_PAGES, MAX_ORDER};
 
 /// Blocks by the page where they start.
 #[derive(Drop)]
 pub struct Table {
-    /// Of each page, the order of the block that starts there.
-    orders: Vec<Option<u8>>,
-    /// Of each order, where its blocks start.
-    starts: Vec<StartList>,
+    /// How many pages there are.
+    pages: u32,
+    /// Of each order, its blocks by their numbers: block b starts at page b * 2^order.
+    blocks: Vec<BitSet>,
 }
 
 impl Model for Table {
-    ghost use Rattle.std.specs.Prelude.{◌≡◌, ℕ, List, Option};
-    ghost use Rattle.vb_pages.specs.Table.{index_of};
+    ghost use Rattle.std.specs.Prelude.{ℕ, List, Option};
+    ghost use Rattle.vb_pages.specs.Table.{table_of, AreSetsOf};
 
     ghost Value = { List (Option ℕ) };
 
-    ghost view = { λ t. t.orders.items };
+    ghost view = { λ t. table_of t.pages t.blocks.items };
 
-    ghost invariant = { λ t. t.starts.items ≡ index_of t.orders.items };
+    ghost invariant = { λ t. AreSetsOf t.pages t.blocks.items };
 }
 
 impl Table {
     /// A table of so many pages, without a block.
     pub fn new(alloc: Global, pages: u32) -> Result<Self, AllocError>
+        requires { pages ≤ MAX_GUEST_PAGES }
         ensures { IfOk result (λ t. t ≡ replicate pages None) }
     {
-        let room = pages as usize;
-        let orders = vec![in alloc; None; room]?;
-        let mut starts = Vec::with_capacity(alloc, MAX_ORDER as usize + 1)?;
-        for _order in 0..=MAX_ORDER {
-            starts.push(StartList::new(alloc, room)?)?;
+        let mut blocks = Vec::with_capacity(alloc, MAX_ORDER as usize + 1)?;
+        for order in 0..=MAX_ORDER {
+            let room = (pages / size_of(order)).max(1);
+            blocks.push(BitSet::new(alloc, room)?)?;
         }
-        Ok(Table { orders, starts })
+        Ok(Table { pages, blocks })
     }
 
     /// How many pages there are.
     pub fn pages(&self) -> u32
-        requires { length self.now ≤ MAX_GUEST_PAGES }
         ensures { result ≡ length self.now }
     {
-        self.orders.len() as u32
+        self.pages
+    }
+
+    /// The blocks of this order by their numbers.
+    fn of_order(&self, order: u32) -> &BitSet
+        requires { order ≤ MAX_ORDER }
+        ensures set { result.now ≡ set_of_order order self.now }
+        ensures blocks { AreBlocks self.now }
+        ensures small { length self.now ≤ MAX_GUEST_PAGES }
+    {
+        &self.blocks[order as usize]
     }
 
     /// Whether a block of this order starts at the page.
     pub fn is_listed(&self, page: u32, order: u32) -> bool
+        requires { order ≤ MAX_ORDER }
         ensures { IsTrue result ↔ (order_at self.now page ≡ Some order) }
     {
-        match self.orders.get(page as usize) {
-            Some(Some(there)) => u32::from(*there) == order,
-            _ => false,
-        }
-    }
-
-    /// The lowest start of a block of this order.
-    pub fn first(&self, order: u32) -> Option<u32>
-        requires { order ≤ MAX_ORDER }
-        ensures { IsLowestStart self.now order 0 result }
-    {
-        self.starts[order as usize].first()
+        let blocks = self.of_order(order);
+        let size = size_of(order);
+        page % size == 0 && blocks.contains(page / size)
     }
 
     /// The lowest start, from a page on, of a block of this order.
@@ -74,18 +79,35 @@ impl Table {
         requires { order ≤ MAX_ORDER }
         ensures { IsLowestStart self.now order from result }
     {
-        self.starts[order as usize].first_from(from)
+        let blocks = self.of_order(order);
+        let size = size_of(order);
+        match blocks.first_from(from.div_ceil(size)) {
+            Some(block) => Some(block * size),
+            None => None,
+        }
+    }
+
+    /// The blocks of this order as bits: bit b of word w is 1 exactly if a block starts at page
+    /// (64 w + b) * 2^order.
+    pub fn bits(&self, order: u32) -> &[u64]
+        requires { order ≤ MAX_ORDER }
+        ensures words { length result.now
+            ≡ max 1 (div_ceil (length self.now / 2 ^ order) WORD_BITS) }
+        ensures bits { (w b : ℕ) → b < WORD_BITS → (has_bit (slice_index result.now w) b ≡ true) ↔
+            (order_at self.now ((WORD_BITS * w + b) * 2 ^ order) ≡ Some order) }
+    {
+        self.of_order(order).words()
     }
 
     /// Puts a block in.
     pub fn add(&mut self, start: u32, order: u32)
         requires order { order ≤ MAX_ORDER }
-        requires there { start < length self.old }
+        requires aligned { start % 2 ^ order ≡ 0 }
+        requires fits { start + 2 ^ order ≤ length self.old }
         requires empty { order_at self.old start ≡ None }
         ensures { self.new ≡ slice_set self.old start (Some order) }
     {
-        self.orders[start as usize] = Some(order as u8);
-        self.starts[order as usize].add(start);
+        self.blocks[order as usize].insert(start / size_of(order));
     }
 
     /// Takes a block out.
@@ -94,17 +116,15 @@ impl Table {
         requires there { order_at self.old start ≡ Some order }
         ensures { self.new ≡ slice_set self.old start None }
     {
-        self.orders[start as usize] = None;
-        self.starts[order as usize].remove(start);
+        self.blocks[order as usize].remove(start / size_of(order));
     }
 
     /// Takes all blocks out.
     pub fn clear(&mut self)
         ensures { self.new ≡ replicate (length self.old) None }
     {
-        self.orders.fill(None);
-        for list in self.starts.iter_mut() {
-            list.clear();
+        for set in self.blocks.iter_mut() {
+            set.clear();
         }
     }
 }

@@ -7,12 +7,13 @@ ghost use Rattle.vb_pages.specs.PageState.{IsGuestSize};
 mod walk;
 
 use crate::{PageFault, Pages};
-use Answer::{Block, Count, Done, Is, NoBlock, Page, Refused, Three};
+use Answer::{Block, Count, Done, Is, NoBlock, Page, Refused, Three, Words};
 use PageFault::{BadCpu, BadOrder, NoPages, NotHeld};
-use Step::{Alloc, Free, FreeCount, Held, Isolate, Renew, TakeThree};
+use Step::{Alloc, Bits, Free, FreeCount, Held, Isolate, Renew, TakeThree};
 use arrayvec::ArrayVec;
 use std::alloc::{AllocError, Global};
 use std::test::Fail;
+use vb_model::limits::MAX_ORDER;
 
 /// One call of an example.
 enum Step {
@@ -27,6 +28,8 @@ enum Step {
     /// A block of at least an order is taken that starts at or after a page.
     Isolate(u32, u32),
     FreeCount,
+    /// The words of an order's blocks.
+    Bits(u32),
     Renew,
 }
 
@@ -42,6 +45,8 @@ enum Answer {
     Block(u32, u32),
     NoBlock,
     Count(u32),
+    /// How many words there are, the first one and the last.
+    Words(usize, u64, u64),
 }
 
 /// Three free pages, one after the other.
@@ -54,6 +59,16 @@ fn take_three(pages: &mut Pages) -> [u32; 3] {
         [first, second, third] => [*first, *second, *third],
         _ => [0; 3],
     }
+}
+
+fn words_of(pages: &Pages, order: u32) -> Answer {
+    if order > MAX_ORDER {
+        return Words(0, 0, 0);
+    }
+    let words = pages.bits(order);
+    let first = words.first().copied().unwrap_or(0);
+    let last = words.last().copied().unwrap_or(0);
+    Words(words.len(), first, last)
 }
 
 fn make(pages: &mut Pages, step: &Step) -> Answer {
@@ -73,6 +88,7 @@ fn make(pages: &mut Pages, step: &Step) -> Answer {
             None => NoBlock,
         },
         FreeCount => Count(pages.free_count()),
+        Bits(order) => words_of(pages, *order),
         Renew => {
             pages.renew();
             Done
@@ -222,5 +238,105 @@ static TAKEN_PAGES: [(Step, Answer); 9] = [
 #[test]
 fn taken_pages(rt: HostRuntime) -> Result<(), Fail> {
     assert_eq!(rt; first_wrong(rt.alloc(), 64, 1, &TAKEN_PAGES)?, None);
+    Ok(())
+}
+
+static SMALLEST_GUEST: [(Step, Answer); 21] = [
+    (Bits(9), Words(1, 0, 0)),
+    (Bits(8), Words(1, 0, 0)),
+    (Bits(6), Words(1, 0, 0)),
+    (Bits(5), Words(1, 1 << 1, 1 << 1)),
+    (Bits(4), Words(1, 1 << 1, 1 << 1)),
+    (Bits(0), Words(1, 0, 0)),
+    (Isolate(8, 0), NoBlock),
+    (Alloc(0, 8), Refused(NoPages)),
+    (Alloc(0, 0), Page(16)),
+    (Bits(4), Words(1, 0, 0)),
+    (Bits(3), Words(1, 1 << 3, 1 << 3)),
+    (Free(0, 16, 0), Done),
+    (Bits(0), Words(1, 0, 0)),
+    (TakeThree, Three([16, 17, 18])),
+    (Bits(0), Words(1, 1 << 19, 1 << 19)),
+    (Bits(1), Words(1, 0, 0)),
+    (Bits(2), Words(1, 1 << 5, 1 << 5)),
+    (Renew, Done),
+    (Bits(5), Words(1, 1 << 1, 1 << 1)),
+    (Bits(2), Words(1, 0, 0)),
+    (Bits(0), Words(1, 0, 0)),
+];
+
+/// The smallest guest has no room for a block of order 7 or more.
+#[test]
+fn smallest_guest(rt: HostRuntime) -> Result<(), Fail> {
+    assert_eq!(rt; first_wrong(rt.alloc(), 64, 1, &SMALLEST_GUEST)?, None);
+    Ok(())
+}
+
+static ODD_GUEST: [(Step, Answer); 17] = [
+    (FreeCount, Count(984)),
+    (Bits(9), Words(1, 0, 0)),
+    (Bits(8), Words(1, 1 << 1 | 1 << 2, 1 << 1 | 1 << 2)),
+    (Bits(7), Words(1, 1 << 1 | 1 << 6, 1 << 1 | 1 << 6)),
+    (Bits(3), Words(2, 0, 1 << 60)),
+    (Bits(0), Words(16, 0, 0)),
+    (Isolate(3, 961), Block(992, 3)),
+    (Isolate(0, 993), NoBlock),
+    (Bits(3), Words(2, 0, 0)),
+    (Alloc(0, 9), Refused(NoPages)),
+    (Renew, Done),
+    (Bits(3), Words(2, 0, 1 << 60)),
+    (Alloc(0, 3), Page(992)),
+    (Held(999), Is(true)),
+    (Alloc(0, 3), Page(16)),
+    (Free(0, 992, 3), Done),
+    (Bits(3), Words(2, 1 << 3, 1 << 60)),
+];
+
+/// The pages are no power of two, and the last block ends with them.
+#[test]
+fn odd_guest(rt: HostRuntime) -> Result<(), Fail> {
+    assert_eq!(rt; first_wrong(rt.alloc(), 1_000, 1, &ODD_GUEST)?, None);
+    Ok(())
+}
+
+static BOTH_WORDS: [(Step, Answer); 32] = [
+    (Alloc(0, 9), Page(512)),
+    (Alloc(0, 9), Page(1024)),
+    (Alloc(0, 9), Page(1536)),
+    (Alloc(0, 8), Page(256)),
+    (Alloc(0, 7), Page(128)),
+    (Alloc(0, 6), Page(64)),
+    (Alloc(0, 5), Page(32)),
+    (Alloc(0, 4), Page(16)),
+    (FreeCount, Count(0)),
+    (Free(0, 512, 9), Done),
+    (Alloc(0, 8), Page(512)),
+    (Alloc(0, 7), Page(768)),
+    (Alloc(0, 6), Page(896)),
+    (Alloc(0, 5), Page(960)),
+    (Alloc(0, 4), Page(992)),
+    (Alloc(0, 4), Page(1008)),
+    (Free(0, 1024, 9), Done),
+    (Alloc(0, 4), Page(1024)),
+    (Alloc(0, 4), Page(1040)),
+    (Bits(4), Words(2, 0, 0)),
+    (Free(0, 1008, 4), Done),
+    (Bits(4), Words(2, 1 << 63, 0)),
+    (Free(0, 1040, 4), Done),
+    (Bits(4), Words(2, 1 << 63, 1 << 1)),
+    (Isolate(4, 1009), Block(1040, 4)),
+    (Free(0, 1024, 4), Done),
+    (Bits(4), Words(2, 1 << 63, 1 << 0)),
+    (Isolate(4, 1009), Block(1024, 4)),
+    (Isolate(4, 1009), Block(1056, 5)),
+    (Alloc(0, 4), Page(1008)),
+    (Bits(4), Words(2, 0, 0)),
+    (Bits(6), Words(1, 1 << 17, 1 << 17)),
+];
+
+/// Blocks 63, 64 and 65 of order 4 stand at the end of one word and at the start of the next.
+#[test]
+fn both_words(rt: HostRuntime) -> Result<(), Fail> {
+    assert_eq!(rt; first_wrong(rt.alloc(), 2_048, 1, &BOTH_WORDS)?, None);
     Ok(())
 }

@@ -53,7 +53,7 @@ each_right count (n ∷ ns) e =
     let both = none_of_both (number_fault count n) (first_number_fault count ns) e in
     all_cons (λ m. number_fault count m ≡ None) n ns both.0 (each_right count ns both.1)
 
-once_all : (P : ℕ → Type 0) (ns : List ℕ) → All P ns → All P (each_once ns)
+pub once_all : (P : ℕ → Type 0) (ns : List ℕ) → All P ns → All P (each_once ns)
 once_all P [] all = λ k d lt. absurd (omega arith)
 once_all P (n ∷ ns) all =
     all_cons P n (filter (λ m. not (m == n)) (each_once ns)) (all 0 n (omega arith))
@@ -109,7 +109,7 @@ distinct_filter p (x ∷ xs) d = distinct_step p x xs (p x) d.0 (distinct_filter
 is_true : IsTrue (not false)
 is_true = search rules
 
-once_distinct : (ns : List ℕ) → AllDistinct (each_once ns)
+pub once_distinct : (ns : List ℕ) → AllDistinct (each_once ns)
 once_distinct [] = tt
 once_distinct (n ∷ ns) = (
   subst (λ (v : Bool). IsTrue (not v)) (sym (out_of_but n (each_once ns))) is_true,

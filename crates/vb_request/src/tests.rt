@@ -72,7 +72,7 @@ fn memory(rt: &impl Abort, alloc: Global) -> Ram {
     ram
 }
 
-fn pieces_of(parts: &[Part]) -> ArrayVec<Piece, 40> {
+fn pieces_of(parts: &[Part]) -> ArrayVec<Piece, 128> {
     let mut pieces = ArrayVec::new();
     for part in parts {
         let (addr, len, writable) = match part {
@@ -182,6 +182,17 @@ fn requests_name_pages(rt: HostRuntime) {
     for (at, (parts, wanted)) in REQUESTS.iter().enumerate() {
         assert!(rt; asks(&ram, parts, wanted), "line {at}");
     }
+}
+
+/// 65 pieces of 66,076,420 bytes: 2^32 + 4 bytes in all, of which a length of 32 bits would say 4.
+static OVER_32_BITS: [Part; 65] = [Read(0, 66_076_420); 65];
+
+#[test]
+fn lengths_are_added_up_beyond_32_bits(rt: HostRuntime) {
+    let Ok(ram) = Ram::new(rt.alloc(), 16_384) else {
+        rt.abort()
+    };
+    assert!(rt; asks(&ram, &OVER_32_BITS, &Err(ChainFault::BadLength)));
 }
 
 fn says(ram: &Ram, parts: &[Part], wanted: &Result<Statistics, ChainFault>) -> bool {

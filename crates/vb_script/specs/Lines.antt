@@ -1,15 +1,12 @@
--- What a line of words says, and what of it is answered so far.
+-- What a line of words says.
 use Rattle.std.specs.Prelude.{ℕ, ◌&&◌, nat_le, Bool, true, false, if◌then◌else◌, List, [], ◌∷◌}
 use Rattle.std.specs.Prelude.{Option, Some, None, Result, Ok, Err, codes}
 use Rattle.std.specs.Option.{option_and_then}
 use Rattle.std.specs.Str.{bytes_eq}
-use Rattle.vb_model.specs.declared.calls.Event.{Event}
-use Rattle.vb_model.specs.Brought.{is_brought}
 use Rattle.vb_script.specs.declared.lines.LineFault.{LineFault}
 use Rattle.vb_script.specs.declared.lines.LineFault.TheVariants.{Bad}
 use Rattle.vb_script.specs.declared.lines.Pace.{Pace}
 use Rattle.vb_script.specs.declared.lines.Pace.TheVariants.{Immediate, Paced}
-use Rattle.vb_script.specs.Events.{event_of}
 use Rattle.vb_script.specs.Names.{pace_of}
 use Rattle.vb_script.specs.Words.{only_word, only_number}
 
@@ -38,10 +35,3 @@ spare_of [] = Err Bad
 spare_of (word ∷ words) =
     if bytes_eq word (codes "spare") then a_pace (option_and_then pace_of (only_word words))
     else Ok None
-
-abbrev pub answered : Event → Option Event
-answered event = if is_brought event then Some event else None
-
--- the event of a line, if it is answered so far
-abbrev pub answered_event_of : List (List ℕ) → Option Event
-answered_event_of words = option_and_then answered (event_of words)

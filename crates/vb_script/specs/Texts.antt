@@ -6,7 +6,8 @@ use Rattle.std.specs.Option.{option_map}
 use Rattle.vb_model.specs.declared.calls.Event.{Event}
 use Rattle.vb_script.specs.declared.lines.LineFault.{LineFault}
 use Rattle.vb_script.specs.declared.lines.Pace.{Pace}
-use Rattle.vb_script.specs.Lines.{answered_event_of, spare_of, host_of}
+use Rattle.vb_script.specs.Events.{event_of}
+use Rattle.vb_script.specs.Lines.{spare_of, host_of}
 use Rattle.vb_script.specs.Words.{words_of}
 
 -- nothing behind the last line feed is no line
@@ -47,7 +48,7 @@ with_event said event = record said { events = said.events ++ event ∷ [] }
 abbrev pub with_words : Result (Option Pace) LineFault → List (List ℕ) → Said → Option Said
 with_words (Err fault) words said = None
 with_words (Ok (Some pace)) words said = with_spare pace said
-with_words (Ok None) words said = option_map (with_event said) (answered_event_of words)
+with_words (Ok None) words said = option_map (with_event said) (event_of words)
 
 -- a line behind the first one tells of a spare device, or of an event
 abbrev pub with_line : List ℕ → Said → Option Said

@@ -1,9 +1,8 @@
 //! The lines of a script.
 
-ghost use Rattle.std.specs.Prelude.{◌≡◌, ◌≤◌, IfOk, IfSome, IsTrue};
-ghost use Rattle.vb_model.specs.Brought.{is_brought};
+ghost use Rattle.std.specs.Prelude.{◌≡◌, ◌≤◌, IfOk, IfSome};
 ghost use Rattle.vb_script.specs.Events.{event_of};
-ghost use Rattle.vb_script.specs.Lines.{answered_event_of, host_of, is_paced, spare_of};
+ghost use Rattle.vb_script.specs.Lines.{host_of, is_paced, spare_of};
 ghost use Rattle.vb_script.specs.Names.{pace_of};
 ghost use Rattle.vb_script.specs.Words.{words_of};
 
@@ -89,21 +88,8 @@ fn pace_of(word: &[u8]) -> Option<Pace>
     find(&PACES, word)
 }
 
-/// The event of a line, if it is answered so far.
+/// The event of a line.
 pub fn event(alloc: Global, line: &[u8]) -> Result<Event, LineFault>
-    ensures brought { IfOk result (λ event. IsTrue (is_brought event)) }
-    ensures ok { IfOk result (λ event. answered_event_of (words_of line.now) ≡ Some event) }
-    ensures bad { result ≡ Err LineFault.Bad → answered_event_of (words_of line.now) ≡ None }
-{
-    let event = any_event(alloc, line)?;
-    if !event.is_brought() {
-        return Err(LineFault::Bad);
-    }
-    Ok(event)
-}
-
-/// The event of a line, whether it is answered so far or not.
-pub fn any_event(alloc: Global, line: &[u8]) -> Result<Event, LineFault>
     ensures ok { IfOk result (λ event. event_of (words_of line.now) ≡ Some event) }
     ensures bad { result ≡ Err LineFault.Bad → event_of (words_of line.now) ≡ None }
 {

@@ -1,14 +1,12 @@
 //! Scripts: a host, its spare devices, and what happens.
 
-ghost use Rattle.std.specs.Prelude.{◌≤◌, vec_len, All, IsTrue};
-ghost use Rattle.vb_model.specs.Brought.{is_brought};
+ghost use Rattle.std.specs.Prelude.{◌≤◌, vec_len};
 
 use crate::lines::Pace;
 use vb_model::Event;
 
 /// What a script says: the first line the host's frames, the next ones its spare devices, all
-/// others what happens. Whoever has one can run it: its numbers are within their bounds, and each
-/// of its events is answered.
+/// others what happens. Whoever has one can run it: its numbers are within their bounds.
 #[derive(Drop)]
 pub struct Script {
     /// Frames of the host, from 1 to 65,536.
@@ -20,5 +18,4 @@ pub struct Script {
     pub ghost some_frames: { 1 ≤ frames },
     pub ghost frames_in_bound: { frames ≤ 65_536 },
     pub ghost spares_in_bound: { vec_len spares ≤ 64 },
-    pub ghost all_brought: { All (λ event. IsTrue (is_brought event)) events.items },
 }

@@ -1,7 +1,6 @@
 //! The host that a script's events happen on.
 
-ghost use Rattle.std.specs.Prelude.{◌≡◌, ◌≤◌, IfOk, IsTrue, All, length, map, vec_len};
-ghost use Rattle.vb_model.specs.Brought.{is_brought};
+ghost use Rattle.std.specs.Prelude.{◌≡◌, ◌≤◌, IfOk, All, length, map, vec_len};
 ghost use Rattle.vb_model.specs.Safe.{IsSafeRun};
 ghost use Rattle.vb_model.specs.World.{World as Model, made};
 ghost use Rattle.vb_script.specs.Lines.{is_paced};
@@ -36,7 +35,6 @@ fn play_events(
 ) -> Result<Vec<Reply>, AllocError>
     requires some { 1 ≤ frames }
     requires few { frames ≤ 65_536 }
-    requires events { All (λ event. IsTrue (is_brought event)) events.now }
     ensures run { IfOk result (λ replies. (last : Model)
         × IsSafeRun (made frames (map is_paced paces.now)) events.now replies.items last) }
     ensures count { IfOk result (λ replies. vec_len replies ≡ length events.now) }

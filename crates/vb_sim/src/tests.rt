@@ -1,10 +1,15 @@
 //! What the contracts leave open: what a whole run writes, the exit statuses, and the command line.
 
+mod balances;
 mod command_lines;
+mod endings;
 mod examples;
+mod lives;
 mod paces;
 mod reports;
 mod resets;
+mod restarts;
+mod rogues;
 mod rows;
 mod runs;
 mod sizes;

@@ -2,3 +2,4 @@ pub mod FreshStands
 pub mod OwnFrames
 pub mod Numbers
 pub use Rattle.vb_guest.proofs.Standing
+pub use Rattle.vb_guest.proofs.Fresh

@@ -9,7 +9,7 @@ use Rattle.vb_ram.specs.Pages.{Pages}
 use Rattle.vb_ram.specs.Part.{Part, QueuePart}
 use Rattle.vb_device.specs.declared.worked.Worked.{Worked}
 use Rattle.vb_device.specs.Calls.{taking, noting, using, settled, TakeMeans, TakesBy, FinishesBy}
-use Rattle.vb_device.specs.Calls.{Visits, WorksBy, AsksBy}
+use Rattle.vb_device.specs.Calls.{Visits, WorksBy, AsksBy, DetachesBy}
 
 -- the part with these frames of its own
 abbrev pub keeping : List ℕ → Part → Part
@@ -105,6 +105,14 @@ asks_keeping m1 m2 own p1 p2 result a = record {
   answers = a.answers;
   part = λ e. ap (keeping own) (a.part e);
   memory = a.memory;
+}
+
+pub detaches_keeping : (m1 m2 : Pages) (own : List ℕ) (p1 p2 : Part) → DetachesBy m1 m2 p1 p2
+    → DetachesBy m1 m2 (keeping own p1) (keeping own p2)
+detaches_keeping m1 m2 own p1 p2 d = record {
+  memory = d.memory;
+  part = ap (keeping own) d.part;
+  loose = d.loose;
 }
 
 settled_keeping : (a b : Bool) (pages own : List ℕ) (p : Part)

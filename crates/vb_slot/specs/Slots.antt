@@ -8,6 +8,7 @@ use Rattle.vb_ram.specs.Pages.{Pages}
 use Rattle.vb_ram.specs.Part.{Part}
 use Rattle.vb_slot.specs.declared.slot.Slot.{Slot}
 use Rattle.vb_guest.specs.Stands.{Stands}
+use Rattle.vb_guest.specs.Steps.{IsBare}
 use Rattle.vb_guest.specs.Supply.{Supply, supply_of}
 
 -- The driver, and the boxed device with its memory, are those of this guest, and the device does, or
@@ -24,3 +25,8 @@ supply_from part s out = supply_of (part s.device.device) out
 -- What the claims of the last call were answered, in order.
 abbrev pub claims_of : {X : Type 0} {F : X → Type 0} → Slot X F → List Claim
 claims_of s = s.claims.items
+
+-- No page of the slot's guest has a frame, and its device has none to hand back.
+abbrev pub is_empty : {X : Type 0} {F : X → Type 0} → (DynBox X Global F → Pages)
+    → (DynBox X Global F → Part) → Slot X F → Type 0
+is_empty mem part s = IsBare (mem s.device.device) (part s.device.device)

@@ -111,6 +111,10 @@ impl Device for BoxedDevice {
         self.device.ballooned_count()
     }
 
+    fn detach(&mut self) {
+        self.device.detach();
+    }
+
     fn hand_back(&mut self) -> Option<Frame> {
         self.device.hand_back()
     }

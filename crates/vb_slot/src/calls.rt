@@ -2,14 +2,15 @@
 
 ghost use Rattle.std.specs.Prelude.{◌≡◌, ℕ, Bool, [], false};
 ghost use Rattle.vb_model.specs.declared.replies.Reply.TheVariants.{Done, Places, Backing};
+ghost use Rattle.vb_model.specs.Balance.{spare};
 ghost use Rattle.vb_model.specs.Guest.{Guest};
 ghost use Rattle.vb_model.specs.World.{Answers};
 ghost use Rattle.vb_guest.specs.Replies.{ready_reply, page_reply, done_reply, bytes_reply};
 ghost use Rattle.vb_guest.specs.Replies.{posted_reply, reaped_reply, taken_reply, finished_reply};
 ghost use Rattle.vb_guest.specs.Replies.{worked_reply, swept_reply, runs_reply, balloon_reply};
 ghost use Rattle.vb_guest.specs.Replies.{filled_reply, asked_reply, memory_reply};
-ghost use Rattle.vb_guest.specs.Steps.{AreOut, StepsAlone, StepsOver};
-ghost use Rattle.vb_slot.specs.Slots.{stands_for, supply_from, claims_of};
+ghost use Rattle.vb_guest.specs.Steps.{AllReturn, AreOut, Restarts, StepsAlone, StepsOver};
+ghost use Rattle.vb_slot.specs.Slots.{stands_for, supply_from, claims_of, is_empty};
 
 use crate::slot::{Slot, forget};
 use std::alloc::{AllocError, Global};
@@ -82,6 +83,33 @@ impl Slot {
     {
         vb_guest::write(
             &self.driver,
+            &mut self.device,
+            keeper,
+            &mut self.claims,
+            page,
+            offset,
+            bytes,
+        )
+    }
+
+    /// Writes bytes of any page past the driver (profile), which gets a frame if it has none. From then on,
+    /// up to its next life, nothing is said of what the guest's rings, requests and pages hold. Refused
+    /// with `OutOfRam`, and `NoFrame` or `NoMemory` where a frame is wanting, tested in this order.
+    pub fn scribble<K: FrameKeeper>(
+        &mut self,
+        keeper: &mut K,
+        page: u32,
+        offset: u32,
+        bytes: &Bytes,
+    ) -> Result<(), Refusal>
+        requires { (keeps : Bool) × (g : Guest) × stands_for keeps mem part self.old g }
+        ensures step { (keeps : Bool) (g : Guest) → stands_for keeps mem part self.old g
+            → StepsOver (stands_for keeps mem part self.new) K.answers
+            (supply_from part self.old (K.out keeper.old))
+            (supply_from part self.new (K.out keeper.new)) (claims_of self.new) g
+            (Call.Scribble page offset bytes.now) (done_reply result) }
+    {
+        vb_guest::scribble(
             &mut self.device,
             keeper,
             &mut self.claims,
@@ -288,12 +316,63 @@ impl Slot {
 
     /// The host sets how many pages it wants (`num_pages`, VIRTIO 1.1, 5.5.4).
     pub fn set_target(&mut self, pages: u32)
+        ensures aims { (keeps : Bool) (g : Guest) → stands_for keeps mem part self.old g
+            → stands_for keeps mem part self.new (record g { target = pages }) }
         ensures step { (keeps : Bool) (g : Guest) → stands_for keeps mem part self.old g
             → StepsAlone (stands_for keeps mem part self.new) g (Call.SetTarget pages) Done }
         ensures claimed { claims_of self.new ≡ [] }
     {
         forget(&mut self.claims);
         vb_guest::set_target(&mut self.device, pages);
+    }
+
+    /// A new life of the guest begins (profile): the device is reset, every frame of the guest goes back
+    /// to where it came from, and all unreserved pages are free. The target stays.
+    pub fn restart<K: FrameKeeper>(&mut self, keeper: &mut K)
+        requires { (keeps : Bool) × (g : Guest) × stands_for keeps mem part self.old g
+            × (keeps ≡ false → AreOut g (K.out keeper.old)) }
+        ensures life { (keeps : Bool) (g : Guest) → stands_for keeps mem part self.old g
+            → Restarts (stands_for keeps mem part self.new)
+            (supply_from part self.old (K.out keeper.old))
+            (supply_from part self.new (K.out keeper.new)) g }
+        ensures claimed { claims_of self.new ≡ [] }
+    {
+        forget(&mut self.claims);
+        vb_guest::restart(&mut self.driver, &mut self.device, keeper);
+    }
+
+    /// The guest's life ends: the device is reset, and every frame of the guest goes back to where it
+    /// came from, in whatever order. A slot is emptied before it is dropped: a frame that a dropped
+    /// slot still has never comes back.
+    pub fn empty<K: FrameKeeper>(&mut self, keeper: &mut K)
+        requires { (keeps : Bool) × (g : Guest) × stands_for keeps mem part self.old g
+            × (keeps ≡ false → AreOut g (K.out keeper.old)) }
+        ensures empty { is_empty mem part self.new }
+        ensures returned { (keeps : Bool) (g : Guest) → stands_for keeps mem part self.old g
+            → AllReturn (supply_from part self.old (K.out keeper.old))
+            (supply_from part self.new (K.out keeper.new)) g }
+        ensures claimed { claims_of self.new ≡ [] }
+    {
+        forget(&mut self.claims);
+        vb_guest::empty(&mut self.device, keeper);
+    }
+
+    /// How many pages the guest has.
+    pub fn pages(&self) -> u32
+        ensures { (keeps : Bool) (g : Guest) → stands_for keeps mem part self.now g
+            → result ≡ g.config.pages }
+    {
+        vb_guest::pages(&self.device)
+    }
+
+    /// How many pages the guest can spare (profile): those that are ballooned, and those that its last
+    /// statistics call free above the floor, in pages; at most all unreserved ones.
+    pub fn spare(&self, floor: u32) -> u32
+        requires { (keeps : Bool) × (g : Guest) × stands_for keeps mem part self.now g }
+        ensures { (keeps : Bool) (g : Guest) → stands_for keeps mem part self.now g
+            → result ≡ spare floor g }
+    {
+        vb_guest::spare(&self.device, floor)
     }
 
     /// What the claims of the last call were answered, in order; none where it made none. A call

@@ -3,7 +3,6 @@
 ghost use Rattle.std.specs.Prelude.{◌≡◌, ℕ, Bool, true, false, []};
 ghost use Rattle.vb_model.specs.Guest.{Guest};
 ghost use Rattle.vb_model.specs.World.{Answers};
-ghost use Rattle.vb_model.specs.Brought.{is_call_brought};
 ghost use Rattle.vb_slot.specs.Slots.{stands_for, supply_from, claims_of};
 ghost use Rattle.vb_guest.specs.Steps.{AreOut, StepsOver};
 
@@ -41,7 +40,6 @@ impl Slot {
     pub fn call<K: FrameKeeper>(&mut self, alloc: Global, keeper: &mut K, call: &Call) -> Reply
         requires stands { (keeps : Bool) × (g : Guest) × stands_for keeps mem part self.old g
             × (keeps ≡ false → AreOut g (K.out keeper.old)) }
-        requires brought { is_call_brought call.now ≡ true }
         ensures step { (keeps : Bool) (g : Guest) → stands_for keeps mem part self.old g
             → StepsOver (stands_for keeps mem part self.new) K.answers
             (supply_from part self.old (K.out keeper.old))

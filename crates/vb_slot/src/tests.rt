@@ -11,7 +11,7 @@ use keeping::KeepingDevice;
 use std::alloc::{AllocError, Global};
 use std::process::Abort;
 use std::test::Fail;
-use vb_device::Worked;
+use vb_device::{Claimed, Device, Worked};
 use vb_driver::{Posted, Reaped};
 use vb_frames::{FrameKeeper, Refused};
 use vb_model::limits::PAGE_SIZE;
@@ -71,9 +71,12 @@ enum Line {
     Sweep { page: u32 },
     Ask,
     Reset,
+    Restart,
     Balloon,
     Places,
     Memory,
+    Pages,
+    Spare { floor: u32 },
 }
 
 /// A letter for the kind of an answer, and its numbers.
@@ -197,6 +200,41 @@ static TWELVE_FRAMES: [Row; 2] = [
     (Line::Init, ('n', 1, 0), &TWELVE),
 ];
 
+/// A device of sixteen frames, whose guest begins a new life: what it told of its memory, the page that
+/// it lent and its request are forgotten, and its frames are claimed anew, the first one first.
+static NEW_LIFE: [Row; 30] = [
+    (Line::Pages, ('z', 64, 0), &[]),
+    (Line::Spare { floor: 0 }, ('e', 0, 0), &[]),
+    (Line::Init, ('y', 0, 0), &THIRTEEN),
+    (Line::Take { queue: 2 }, ('t', 0, 0), &[]),
+    (Line::Spare { floor: 8 }, ('e', 40, 0), &[]),
+    (Line::Alloc, ('p', 16, 0), &[]),
+    (Line::Write { page: 16 }, ('d', 0, 0), &[Claim::Gave(13)]),
+    (Line::SetTarget { pages: 6 }, ('d', 0, 0), &[]),
+    (Line::Inflate { pages: 4 }, ('o', 0, 4), &[]),
+    (Line::Take { queue: 0 }, ('t', 0, 0), &[]),
+    (Line::Finish { queue: 0 }, ('f', 0, 0), &[]),
+    (Line::Spare { floor: 8 }, ('e', 44, 0), &[]),
+    (Line::Spare { floor: 0 }, ('e', 48, 0), &[]),
+    (Line::Spare { floor: 49 }, ('e', 4, 0), &[]),
+    (Line::Inflate { pages: 4 }, ('o', 1, 2), &[]),
+    (Line::Take { queue: 0 }, ('t', 1, 0), &[]),
+    (Line::Write { page: 16 }, ('d', 0, 0), &[]),
+    (Line::Restart, ('d', 0, 0), &[]),
+    (Line::Pages, ('z', 64, 0), &[]),
+    (Line::Places, ('c', 48, 0), &[]),
+    (Line::Balloon, ('l', 0, 0), &[]),
+    (Line::Memory, ('m', 99, 99), &[]),
+    (Line::Spare { floor: 0 }, ('e', 0, 0), &[]),
+    (Line::Backing { page: 16 }, ('k', 99, 0), &[]),
+    (Line::Backing { page: 0 }, ('k', 99, 0), &[]),
+    (Line::Init, ('y', 0, 0), &THIRTEEN),
+    (Line::Finish { queue: 0 }, ('n', 3, 0), &[]),
+    (Line::Inflate { pages: 8 }, ('o', 0, 6), &[]),
+    (Line::Alloc, ('p', 22, 0), &[]),
+    (Line::Write { page: 22 }, ('d', 0, 0), &[Claim::Gave(13)]),
+];
+
 fn refused(refusal: Refusal) -> Answer {
     let number = match refusal {
         Refusal::NoFrame => 1,
@@ -298,6 +336,7 @@ fn answer_of_question(slot: &Slot, line: &Line) -> Answer {
             let said = slot.memory();
             ('m', pages_of(said.free), pages_of(said.total))
         }
+        Line::Pages => ('z', slot.pages(), 0),
         _ => ('?', 0, 0),
     }
 }
@@ -319,6 +358,7 @@ fn answer_of_driver(alloc: Global, slot: &mut Slot, line: &Line) -> Result<Answe
         Line::Report { from } => posted(slot.report(*from)),
         Line::Stats => number('s', slot.stats().map(u32::from)),
         Line::Reap { queue } => reaped(slot.reap(*queue)),
+        Line::Spare { floor } => ('e', slot.spare(*floor), 0),
         _ => answer_of_question(slot, line),
     })
 }
@@ -335,6 +375,10 @@ fn answer_of(alloc: Global, slot: &mut Slot, line: &Line) -> Result<Answer, Allo
         }
         Line::Reset => {
             slot.reset();
+            ('d', 0, 0)
+        }
+        Line::Restart => {
+            slot.restart(&mut no_frames());
             ('d', 0, 0)
         }
         Line::Take { queue } => taken(slot.take(*queue)),
@@ -355,6 +399,7 @@ fn are(claimed: &[Claim], claims: &[Claim]) -> bool {
 /// Makes the calls of a table.
 fn play_on(rt: &impl Abort, alloc: Global, slot: &mut Slot, table: &[Row]) -> Result<(), AllocError>
     requires { (g : Guest) × stands_for true mem part slot.old g }
+    ensures { (g : Guest) × stands_for true mem part slot.new g }
 {
     for (line, answer, claims) in table {
         let answered = answer_of(alloc, slot, line)?;
@@ -364,7 +409,19 @@ fn play_on(rt: &impl Abort, alloc: Global, slot: &mut Slot, table: &[Row]) -> Re
     Ok(())
 }
 
-/// Makes the calls of a table on a guest whose device has so many frames.
+/// How many frames the device of a slot has to give, up to a hundred.
+fn count_frames(slot: &mut Slot) -> u32 {
+    let mut given: u32 = 0;
+    for _claim in 0..100 {
+        if let Claimed::Gave(_frame) = slot.device.claim() {
+            given = given.saturating_add(1);
+        }
+    }
+    given
+}
+
+/// Makes the calls of a table on a guest whose device has so many frames. Once the guest is gone, the
+/// device has them all.
 fn play(rt: &impl Abort, alloc: Global, frames: u32, table: &[Row]) -> Result<(), AllocError> {
     let device = Box::new(alloc, KeepingDevice::new(alloc, frames)?)?;
     let config = Config {
@@ -373,7 +430,12 @@ fn play(rt: &impl Abort, alloc: Global, frames: u32, table: &[Row]) -> Result<()
         processors: 1,
     };
     match Slot::new(alloc, device, config) {
-        Ok(mut slot) => play_on(rt, alloc, &mut slot, table),
+        Ok(mut slot) => {
+            play_on(rt, alloc, &mut slot, table)?;
+            slot.empty(&mut no_frames());
+            assert!(rt; count_frames(&mut slot) == frames);
+            Ok(())
+        }
         Err(_) => Err(AllocError),
     }
 }
@@ -387,6 +449,12 @@ fn frames_come_from_the_device_and_go_back_to_it(rt: HostRuntime) -> Result<(), 
 #[test]
 fn statistics_and_a_report(rt: HostRuntime) -> Result<(), Fail> {
     play(&rt, rt.alloc(), 14, &FOURTEEN_FRAMES)?;
+    Ok(())
+}
+
+#[test]
+fn a_new_life_on_the_same_device(rt: HostRuntime) -> Result<(), Fail> {
+    play(&rt, rt.alloc(), 16, &NEW_LIFE)?;
     Ok(())
 }
 

@@ -1,11 +1,12 @@
 -- What an event does to a host is what it does to its world.
-use Rattle.std.proofs.Common.{◌≡◌, ℕ, ◌-◌, ◌<◌, Bool, true, cond, List, length, refl, sym, ap}
+use Rattle.std.specs.Prelude.{MatchOption, ⊤}
+use Rattle.std.proofs.Common.{◌≡◌, ℕ, ◌-◌, ◌<◌, ◌≤◌, Bool, true, cond, List, length, refl, sym, ap}
 use Rattle.std.proofs.Common.{subst, ◌∙◌, inl, inr, arith, Option, Some, None, is_some, count_by}
 use Rattle.std.proofs.lemmas.List.{get_or-set_same, get_or-set_other, get_or_past}
 use Rattle.std.proofs.lemmas.List.Sums.{sum_by-set}
 use Rattle.std.proofs.lemmas.Bool.{cases_lt}
 use Rattle.std.proofs.lemmas.Bool.Decides.{eqb_tells}
-use Rattle.slab.specs.Slab.{Slab, get, slab_len, with_value}
+use Rattle.slab.specs.Slab.{Slab, get, slab_len, with_value, Updates}
 use Rattle.vb_model.specs.declared.calls.Call.{Call}
 use Rattle.vb_model.specs.declared.calls.Event.TheVariants.{Guest as OnGuest, Query as Asking}
 use Rattle.vb_model.specs.declared.calls.Event.TheVariants.{Frames as CountFrames}
@@ -20,7 +21,9 @@ use Rattle.vb_model.proofs.Changes.{with_guest-same, with_guest-other}
 use Rattle.vb_frames.specs.Out.{is_out, TableAnswers}
 use Rattle.vb_frames.proofs.Returns.{same_gives}
 use Rattle.vb_frames.proofs.Least.{table_gives}
-use Rattle.vb_slot.specs.Steps.{Steps, AreOut}
+use Rattle.vb_model.specs.Limits.{max_guests}
+use Rattle.vb_slot.specs.Steps.{Steps, AreOut, backing_count}
+use Rattle.vb_slot.proofs.Standing.{KeeperMoves}
 use Rattle.vb_world.specs.Hosts.{IsHost, StandsAt, backing_at}
 use Rattle.vb_world.proofs.Guests.{backing-with, backing-part, count-with, backs_out, out_backs}
 use Rattle.vb_world.proofs.Frames.{used_are_out}
@@ -85,7 +88,7 @@ module _ {S D : Type 0} (Stand : S → Guest → Type 0) (Spare : D → Bool →
   guest_frames n s host e has f =
       omega (arith, host.backed f, backing-part f n w.guests has.guest has.there)
 
-  -- ---- a guest's step
+  -- ---- another guest, or none, at a number
 
   within : (n : ℕ) (s : S) → get slots n ≡ Some s → n < length slots.slots
   within n s e = elim (cases_lt n (length slots.slots)) [
@@ -94,23 +97,51 @@ module _ {S D : Type 0} (Stand : S → Guest → Type 0) (Spare : D → Bool →
   ]
 
   -- the slot of one number is another, and so is the guest
-  stands_with : (n : ℕ) (s s' : S) (g : Guest) → IsHost Stand Spare slots out devices w
-      → get slots n ≡ Some s → Stand s' g
-      → (m : ℕ) → StandsAt Stand (get (with_value slots n s') m)
-      (guest_at (with_guest n (Some g) w.guests) m)
-  stands_with n s s' g host e stands m = elim (eqb_tells m n) [
+  stands_with : (n : ℕ) (slots' : Slab S) (o : Option S) (x : Option Guest)
+      → IsHost Stand Spare slots out devices w → Updates slots slots' n o → StandsAt Stand o x
+      → (m : ℕ) → StandsAt Stand (get slots' m) (guest_at (with_guest n x w.guests) m)
+  stands_with n slots' o x host new stands m = elim (eqb_tells m n) [
     | inl same ↦
-        subst (λ (k : ℕ). StandsAt Stand (get (with_value slots n s') k)
-        (guest_at (with_guest n (Some g) w.guests) k)) (sym same.1)
-        (rw (
-          get_or-set_same slots.slots n (Some s') None (within n s e),
-          with_guest-same n (Some g) w.guests,
-        ) stands)
+        subst (λ (k : ℕ). StandsAt Stand (get slots' k) (guest_at (with_guest n x w.guests) k))
+        (sym same.1) (rw (new.changed, with_guest-same n x w.guests) stands)
     | inr other ↦ rw (
-      get_or-set_other slots.slots n m (Some s') None other.1,
-      with_guest-other n m (Some g) w.guests (λ h. other.1 (sym h)),
+      new.others m other.1,
+      with_guest-other n m x w.guests (λ h. other.1 (sym h)),
     ) (host.guests m)
   ]
+
+  -- Where the frames of the guest that was there have come back, and those of the one that is there
+  -- now are out.
+  pub host_updated : (n : ℕ) (slots' : Slab S) (o : Option S) (x : Option Guest)
+      (out' : List Bool) (given : Option ℕ) → IsHost Stand Spare slots out devices w
+      → Updates slots slots' n o → StandsAt Stand o x
+      → slab_len slots' ≡ plugged_count (put_guest n x w)
+      → plugged_count (put_guest n x w) ≤ max_guests
+      → slots'.capacity ≡ slots.capacity
+      → MatchOption given ⊤ (λ last. last ≡ slots'.vacant_key)
+      → KeeperMoves out out' (λ f. backing_at f x) (λ f. backing_at f (guest_at w.guests n))
+      → IsHost Stand Spare slots' out' devices (record (put_guest n x w) { given_up = given })
+  host_updated n slots' o x out' given host new stands count few capacity next moves = record {
+    guests = stands_with n slots' o x host new stands;
+    count = count;
+    few = few;
+    room = omega (arith, host.room, capacity);
+    keys = omega (arith, host.keys, capacity);
+    next = next;
+    frames = moves.count ∙ host.frames;
+    backed = λ f.
+        omega (arith, host.backed f, moves.balance f, backing-with f n x w.guests);
+    spares = host.spares;
+  }
+
+  -- ---- the guest of a slot changes
+
+  value_updates : (n : ℕ) (s s' : S) → get slots n ≡ Some s
+      → Updates slots (with_value slots n s') n (Some s')
+  value_updates n s s' e = record {
+    changed = get_or-set_same slots.slots n (Some s') None (within n s e);
+    others = λ m ne. get_or-set_other slots.slots n m (Some s') None ne;
+  }
 
   count_with : (n : ℕ) (s s' : S) → get slots n ≡ Some s
       → slab_len (with_value slots n s') ≡ slab_len slots
@@ -128,29 +159,23 @@ module _ {S D : Type 0} (Stand : S → Guest → Type 0) (Spare : D → Bool →
       let c = ap {B = ℕ} (λ (x : Bool). cond x 1 0) some in
       omega (arith, a, b, c)
 
-  pub host_with : (n : ℕ) (s s' : S) (out' : List Bool) (call : Call) (reply : Reply)
-      → IsHost Stand Spare slots out devices w → get slots n ≡ Some s → (has : HasGuest n s)
-      → (step : Steps (Stand s') TableAnswers out out' has.guest call reply)
-      → IsHost Stand Spare (with_value slots n s') out' devices (put_guest n (Some step.new) w)
-  host_with n s s' out' call reply host e has step = record {
-    guests = stands_with n s s' step.new host e step.stands;
-    count = count_with n s s' e
-        ∙ (host.count ∙ sym (plugged_with n step.new (Some has.guest) has.there refl));
-    room = host.room;
-    keys = host.keys;
-    next = host.next;
-    frames = step.count ∙ host.frames;
-    backed = λ f.
-        let there = ap (backing_at f) has.there in
-        omega (
-          arith,
-          host.backed f,
-          step.balance f,
-          backing-with f n (Some step.new) w.guests,
-          there,
-        );
-    spares = host.spares;
-  }
+  pub host_with : (n : ℕ) (s s' : S) (g new : Guest) (out' : List Bool)
+      → IsHost Stand Spare slots out devices w → get slots n ≡ Some s → guest_at w.guests n ≡ Some g
+      → Stand s' new → KeeperMoves out out' (λ f. backing_count f new) (λ f. backing_count f g)
+      → IsHost Stand Spare (with_value slots n s') out' devices (put_guest n (Some new) w)
+  host_with n s s' g new out' host e there stands moves =
+      let same = plugged_with n new (Some g) there refl in
+      host_updated n (with_value slots n s') (Some s') (Some new) out' w.given_up host
+      (value_updates n s s' e) stands (count_with n s s' e ∙ (host.count ∙ sym same))
+      (omega (arith, same, host.few)) refl host.next
+      (record {
+        balance = λ f.
+            let was = ap (backing_at f) there in
+            omega (arith, moves.balance f, was);
+        count = moves.count;
+      })
+
+  -- ---- a guest's step
 
   pub guest_step : (n : ℕ) (s s' : S) (out' : List Bool) (call : Call) (reply : Reply)
       → IsHost Stand Spare slots out devices w → get slots n ≡ Some s
@@ -165,6 +190,7 @@ module _ {S D : Type 0} (Stand : S → Guest → Type 0) (Spare : D → Bool →
       (subst (λ (k : ℕ). Gives k (λ f. is_out out f ≡ true) step.claims) host.frames
       (table_gives step.claims out step.answered)) in (
         put_guest n (Some step.new) w,
-        host_with n s s' out' call reply host e has step,
+        host_with n s s' has.guest step.new out' host e has.there step.stands
+            (record { balance = step.balance; count = step.count }),
         rw has.there (step.claims, step.new, gives, step.step, refl),
       )

@@ -4,4 +4,6 @@ pub mod Calls
 pub mod Plugs
 pub mod Runs
 pub mod Listing
-pub mod Pushed
+pub mod Lives
+pub mod Aiming
+pub mod Balancing

@@ -22,7 +22,7 @@ use Rattle.vb_frames.specs.Out.{is_out}
 use Rattle.vb_ram.specs.Pages.{Pages}
 use Rattle.vb_ram.specs.Part.{Part}
 use Rattle.vb_slot.specs.Spare.{IsSpare}
-use Rattle.vb_slot.proofs.FreshStands.{backs_none}
+use Rattle.vb_slot.proofs.Fresh.{backs_none}
 use Rattle.vb_world.specs.Hosts.{IsHost, StandsAt, AreSpares, backing_at}
 use Rattle.vb_world.proofs.Guests.{backing-with, count-with}
 use Rattle.vb_world.proofs.Calls.{no_guest}
@@ -52,6 +52,7 @@ pub host_made : {S D : Type 0} (Stand : S → Guest → Type 0) (P : D → Type 
 host_made Stand P paced slots out devices frames empty room keys none all = record {
   guests = λ n. rw empty tt;
   count = rw empty refl;
+  few = omega arith;
   room = room;
   keys = keys;
   next = tt;
@@ -105,6 +106,7 @@ module _ {S D : Type 0} (Stand : S → Guest → Type 0) (Spare : D → Bool →
   pub plugged : (n : ℕ) (s : S) (slots' : Slab S) (d : D) (rest : List D)
       (pages queue_size processors : ℕ) → IsHost Stand Spare slots out devices w
       → devices ≡ d ∷ rest
+      → slab_len slots < max_guests
       → n ≡ slots.vacant_key → get slots n ≡ None → Updates slots slots' n (Some s)
       → slab_len slots' ≡ slab_len slots + 1 → slots'.capacity ≡ slots.capacity
       → (pace : Bool) → ((p : Bool) → Spare d p → pace ≡ p)
@@ -112,8 +114,8 @@ module _ {S D : Type 0} (Stand : S → Guest → Type 0) (Spare : D → Bool →
       { pages = pages; queue_size = queue_size; processors = processors; paced = pace }) 0)
       → (new : World) × IsHost Stand Spare slots' out rest new
       × PlugsIn pages queue_size processors w.spares w (Plugged n) new
-  plugged n s slots' d rest pages queue_size processors host e key vacant new len capacity pace
-      is_pace stands =
+  plugged n s slots' d rest pages queue_size processors host e few key vacant new len capacity
+      pace is_pace stands =
       let has = spare_of d rest host e in
       let config : Config =
       record {
@@ -140,6 +142,7 @@ module _ {S D : Type 0} (Stand : S → Guest → Type 0) (Spare : D → Bool →
               paced = b;
             }) 0)) (is_pace has.paced has.spare) stands);
         count = len ∙ (ap (λ (k : ℕ). k + 1) host.count ∙ sym (one_more n g none));
+        few = omega (arith, few, host.count, one_more n g none);
         room = omega (arith, host.room, capacity);
         keys = omega (arith, host.keys, capacity);
         next = tt;
@@ -192,6 +195,7 @@ module _ {S D : Type 0} (Stand : S → Guest → Type 0) (Spare : D → Bool →
       record {
         guests = host.guests;
         count = host.count;
+        few = host.few;
         room = host.room;
         keys = host.keys;
         next = host.next;

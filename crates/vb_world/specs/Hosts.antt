@@ -45,6 +45,7 @@ pub record IsHost {S D : Type 0} (Stand : S → Guest → Type 0) (Spare : D →
     (slots : Slab S) (out : List Bool) (devices : List D) (w : Model) : Type 0 where
   pub guests : (n : ℕ) → StandsAt Stand (get slots n) (guest_at w.guests n)
   pub count : slab_len slots ≡ plugged_count w
+  pub few : plugged_count w ≤ max_guests
   pub room : max_guests ≤ slots.capacity
   pub keys : slots.capacity ≤ 2 ^ 32
   pub next : MatchOption w.given_up ⊤ (λ last. last ≡ slots.vacant_key)

@@ -1,7 +1,6 @@
 //! What the contracts leave open: the answers of whole runs, and that any device serves.
 
-ghost use Rattle.std.specs.Prelude.{◌≡◌, ◌≤◌, true, All, IsTrue, IfOk};
-ghost use Rattle.vb_model.specs.Brought.{is_brought, is_call_brought};
+ghost use Rattle.std.specs.Prelude.{◌≤◌, All};
 ghost use Rattle.vb_slot.specs.Spare.{IsSpare};
 
 mod listed;
@@ -15,10 +14,16 @@ use vb_device::{Device, ImmediateDevice, PacedDevice};
 use vb_model::limits::PAGE_SIZE;
 use vb_model::{Bytes, Call, Event, Query, Refusal, Reply};
 
+/// All features that a device offers.
+const FEATURES: u64 = 0x1_0000_0027;
+
 /// An event, of guest 0, page 16 and queue 0 where no other are said.
 enum Line {
     Plug { pages: u32 },
+    Unplug { guest: u32 },
+    Restart,
     Init,
+    InitOf { guest: u32 },
     Alloc,
     Write,
     Read,
@@ -28,6 +33,7 @@ enum Line {
     Inflate,
     Deflate,
     Take { queue: u32 },
+    TakeOf { guest: u32, queue: u32 },
     Work,
     Finish { queue: u32 },
     Sweep { page: u32 },
@@ -36,6 +42,8 @@ enum Line {
     Stats,
     Ask,
     Memory,
+    Balloon,
+    Balance { floor: u32 },
     Frames,
 }
 
@@ -133,6 +141,88 @@ static NINE_PLUGS: [(Line, Answer); 9] = [
     (Line::Plug { pages: 64 }, ('n', 3, 0)),
 ];
 
+/// A guest goes, and its device with it: no guest has its number.
+static LEAVING: [(Line, Answer); 11] = [
+    (Line::Plug { pages: 64 }, ('g', 0, 0)),
+    (Line::Init, ('y', 0, 0)),
+    (Line::Alloc, ('p', 16, 0)),
+    (Line::Write, ('d', 0, 0)),
+    (Line::Frames, ('u', 14, 50)),
+    (Line::Unplug { guest: 0 }, ('d', 0, 0)),
+    (Line::Frames, ('u', 0, 64)),
+    (Line::Init, ('n', 1, 0)),
+    (Line::Unplug { guest: 0 }, ('n', 1, 0)),
+    (Line::Restart, ('n', 1, 0)),
+    (Line::Plug { pages: 64 }, ('n', 4, 0)),
+];
+
+/// Three guests, of which two go: the next one has the number that was given up last.
+static PLUGGED_AGAIN: [(Line, Answer); 12] = [
+    (Line::Plug { pages: 64 }, ('g', 0, 0)),
+    (Line::Plug { pages: 64 }, ('g', 1, 0)),
+    (Line::Plug { pages: 64 }, ('g', 2, 0)),
+    (Line::InitOf { guest: 0 }, ('y', 0, 0)),
+    (Line::InitOf { guest: 1 }, ('y', 0, 0)),
+    (Line::InitOf { guest: 2 }, ('y', 0, 0)),
+    (Line::Unplug { guest: 0 }, ('d', 0, 0)),
+    (Line::Frames, ('u', 26, 38)),
+    (Line::Unplug { guest: 1 }, ('d', 0, 0)),
+    (Line::Frames, ('u', 13, 51)),
+    (Line::Plug { pages: 64 }, ('g', 1, 0)),
+    (Line::InitOf { guest: 1 }, ('y', 0, 0)),
+];
+
+/// A guest of a paced device begins a new life twice: while a request is visited, and while pages
+/// are ballooned. The target stays.
+static NEW_LIVES: [(Line, Answer); 29] = [
+    (Line::Plug { pages: 64 }, ('g', 0, 0)),
+    (Line::Init, ('y', 0, 0)),
+    (Line::Alloc, ('p', 16, 0)),
+    (Line::Write, ('d', 0, 0)),
+    (Line::Free, ('d', 0, 0)),
+    (Line::SetTarget { pages: 4 }, ('d', 0, 0)),
+    (Line::Inflate, ('o', 0, 4)),
+    (Line::Take { queue: 0 }, ('t', 0, 0)),
+    (Line::Work, ('w', 16, 1)),
+    (Line::Restart, ('d', 0, 0)),
+    (Line::Frames, ('u', 0, 64)),
+    (Line::Work, ('n', 6, 0)),
+    (Line::Init, ('y', 0, 0)),
+    (Line::Work, ('i', 0, 0)),
+    (Line::Inflate, ('o', 0, 4)),
+    (Line::Take { queue: 0 }, ('t', 0, 0)),
+    (Line::Work, ('w', 16, 0)),
+    (Line::Work, ('w', 17, 0)),
+    (Line::Work, ('w', 18, 0)),
+    (Line::Work, ('w', 19, 0)),
+    (Line::Finish { queue: 0 }, ('f', 0, 0)),
+    (Line::Balloon, ('c', 4, 0)),
+    (Line::Take { queue: 2 }, ('t', 0, 0)),
+    (Line::Memory, ('m', 48, 64)),
+    (Line::Restart, ('d', 0, 0)),
+    (Line::Balloon, ('c', 0, 0)),
+    (Line::Memory, ('m', 99, 99)),
+    (Line::Init, ('y', 0, 0)),
+    (Line::Alloc, ('p', 16, 0)),
+];
+
+/// Two guests of 64 pages on a host of a hundred frames: 28 pages are missing. Each guest can spare
+/// 8 pages above a floor of 40, and 32 above one of 16.
+static BALANCED: [(Line, Answer); 12] = [
+    (Line::Balance { floor: 0 }, ('x', 99, 99)),
+    (Line::Plug { pages: 64 }, ('g', 0, 0)),
+    (Line::Plug { pages: 64 }, ('g', 1, 0)),
+    (Line::Balance { floor: 16 }, ('n', 10, 28)),
+    (Line::InitOf { guest: 0 }, ('y', 0, 0)),
+    (Line::InitOf { guest: 1 }, ('y', 0, 0)),
+    (Line::TakeOf { guest: 0, queue: 2 }, ('t', 0, 0)),
+    (Line::TakeOf { guest: 1, queue: 2 }, ('t', 0, 0)),
+    (Line::Balance { floor: 40 }, ('n', 10, 12)),
+    (Line::Inflate, ('n', 0, 0)),
+    (Line::Balance { floor: 16 }, ('x', 28, 0)),
+    (Line::Inflate, ('o', 0, 4)),
+];
+
 /// A driver starts on a host of twelve frames.
 static TWELVE_FRAMES: [(Line, Answer); 3] = [
     (Line::Plug { pages: 64 }, ('g', 0, 0)),
@@ -147,25 +237,29 @@ static THIRTEEN_FRAMES: [(Line, Answer); 3] = [
     (Line::Frames, ('u', 13, 0)),
 ];
 
-fn on_guest(call: Call) -> Event
-    requires { is_call_brought call ≡ true }
-    ensures { is_brought result ≡ true }
-{
-    Event::Guest { guest: 0, call }
+fn on(guest: u32, call: Call) -> Event {
+    Event::Guest { guest, call }
 }
 
-fn event_of(alloc: Global, line: &Line) -> Result<Event, AllocError>
-    ensures { IfOk result (λ event. is_brought event ≡ true) }
-{
+fn on_guest(call: Call) -> Event {
+    on(0, call)
+}
+
+fn question(query: Query) -> Event {
+    Event::Query { guest: 0, query }
+}
+
+fn event_of(alloc: Global, line: &Line) -> Result<Event, AllocError> {
     Ok(match line {
         Line::Plug { pages } => Event::Plug {
             pages: *pages,
             queue_size: 8,
             processors: 1,
         },
-        Line::Init => on_guest(Call::Init {
-            features: 0x1_0000_0027,
-        }),
+        Line::Unplug { guest } => Event::Unplug { guest: *guest },
+        Line::Restart => Event::Restart { guest: 0 },
+        Line::Init => on_guest(Call::Init { features: FEATURES }),
+        Line::InitOf { guest } => on(*guest, Call::Init { features: FEATURES }),
         Line::Alloc => on_guest(Call::Alloc { cpu: 0, order: 0 }),
         Line::Write => on_guest(Call::Write {
             page: 16,
@@ -177,10 +271,7 @@ fn event_of(alloc: Global, line: &Line) -> Result<Event, AllocError>
             offset: 0,
             len: 4,
         }),
-        Line::Backing => Event::Query {
-            guest: 0,
-            query: Query::Backing { page: 16 },
-        },
+        Line::Backing => question(Query::Backing { page: 16 }),
         Line::Free => on_guest(Call::Free {
             cpu: 0,
             start: 16,
@@ -190,6 +281,7 @@ fn event_of(alloc: Global, line: &Line) -> Result<Event, AllocError>
         Line::Inflate => on_guest(Call::Inflate { pages: 4 }),
         Line::Deflate => on_guest(Call::Deflate { pages: 4 }),
         Line::Take { queue } => on_guest(Call::Take { queue: *queue }),
+        Line::TakeOf { guest, queue } => on(*guest, Call::Take { queue: *queue }),
         Line::Work => on_guest(Call::Work),
         Line::Finish { queue } => on_guest(Call::Finish {
             queue: *queue,
@@ -200,38 +292,20 @@ fn event_of(alloc: Global, line: &Line) -> Result<Event, AllocError>
         Line::Report => on_guest(Call::Report { from: 0 }),
         Line::Stats => on_guest(Call::Stats),
         Line::Ask => on_guest(Call::Ask),
-        Line::Memory => Event::Query {
-            guest: 0,
-            query: Query::Memory,
-        },
+        Line::Memory => question(Query::Memory),
+        Line::Balloon => question(Query::Balloon),
+        Line::Balance { floor } => Event::Balance { floor: *floor },
         Line::Frames => Event::Frames,
     })
 }
 
 /// The events of a table.
-#[derive(Drop)]
-struct Story {
-    events: Vec<Event>,
-    ghost all_brought: { All (λ event. IsTrue (is_brought event)) events.items },
-}
-
-impl Story {
-    fn add(&mut self, event: Event) -> Result<(), AllocError>
-        requires { is_brought event ≡ true }
-    {
-        self.events.push(event).map_err(AllocError::from)?;
-        Ok(())
+fn events_of(alloc: Global, table: &[(Line, Answer)]) -> Result<Vec<Event>, AllocError> {
+    let mut events = Vec::new(alloc);
+    for (line, _) in table {
+        events.push(event_of(alloc, line)?)?;
     }
-
-    fn new(alloc: Global, table: &[(Line, Answer)]) -> Result<Story, AllocError> {
-        let mut story = Story {
-            events: Vec::new(alloc),
-        };
-        for (line, _) in table {
-            story.add(event_of(alloc, line)?)?;
-        }
-        Ok(story)
-    }
+    Ok(events)
 }
 
 /// The four bytes that were read, as one number.
@@ -239,6 +313,14 @@ fn bytes_of(bytes: &[u8]) -> u32 {
     match bytes {
         [a, b, c, d] => u32::from_be_bytes([*a, *b, *c, *d]),
         _ => 0,
+    }
+}
+
+/// The targets of two guests.
+fn targets_of(targets: &[u32]) -> Answer {
+    match targets {
+        [first, second] => ('x', *first, *second),
+        _ => ('x', 99, 99),
     }
 }
 
@@ -261,6 +343,15 @@ fn refusal_of(refusal: Refusal) -> u32 {
         Refusal::NotWorked => 7,
         Refusal::NotBallooned => 8,
         Refusal::QueueFull => 9,
+        Refusal::Short { .. } => 10,
+        _ => 0,
+    }
+}
+
+/// How many pages are missing, where too few can be spared.
+fn missing_of(refusal: Refusal) -> u32 {
+    match refusal {
+        Refusal::Short { missing } => u32::try_from(missing).unwrap_or(u32::MAX),
         _ => 0,
     }
 }
@@ -285,7 +376,13 @@ fn answer_of(reply: &Reply) -> Answer {
         Reply::Statistics { free, total } => ('m', pages_of(*free), pages_of(*total)),
         Reply::Backing { frame } => ('k', frame.unwrap_or(99), 0),
         Reply::Frames { used, free } => ('u', *used, *free),
-        Reply::Refused(refusal) => ('n', refusal_of(*refusal), 0),
+        Reply::Balloon {
+            ballooned,
+            actual,
+            ..
+        } => ('c', *ballooned, *actual),
+        Reply::Targets { pages } => targets_of(pages.as_slice()),
+        Reply::Refused(refusal) => ('n', refusal_of(*refusal), missing_of(*refusal)),
         _ => ('?', 0, 0),
     }
 }
@@ -302,9 +399,9 @@ fn play(
     requires few { frames ≤ 65_536 }
     requires spares { All (λ d. IsSpare (mem d) (part d)) spares.items }
 {
-    let story = Story::new(alloc, table)?;
+    let events = events_of(alloc, table)?;
     let mut world = World::new(alloc, frames, spares)?;
-    let replies = world.run(alloc, &story.events)?;
+    let replies = world.run(alloc, &events)?;
     assert!(rt; replies.len() == table.len());
     for (reply, (_, answer)) in replies.iter().zip(table) {
         assert!(rt; answer_of(reply) == *answer);
@@ -402,6 +499,33 @@ fn plugs_are_refused(rt: HostRuntime) -> Result<(), Fail> {
 #[test]
 fn a_ninth_guest_is_refused(rt: HostRuntime) -> Result<(), Fail> {
     play_immediate(&rt, rt.alloc(), 64, 8, &NINE_PLUGS)?;
+    Ok(())
+}
+
+#[test]
+fn a_guest_that_goes_leaves_its_frames(rt: HostRuntime) -> Result<(), Fail> {
+    play_immediate(&rt, rt.alloc(), 64, 1, &LEAVING)?;
+    play_paced(&rt, rt.alloc(), 64, &LEAVING)?;
+    play_listed(&rt, rt.alloc(), 64, &LEAVING)?;
+    Ok(())
+}
+
+#[test]
+fn the_number_that_was_given_up_last_is_next(rt: HostRuntime) -> Result<(), Fail> {
+    play_immediate(&rt, rt.alloc(), 64, 4, &PLUGGED_AGAIN)?;
+    Ok(())
+}
+
+#[test]
+fn new_lives_on_each_paced_device(rt: HostRuntime) -> Result<(), Fail> {
+    play_paced(&rt, rt.alloc(), 64, &NEW_LIVES)?;
+    play_listed(&rt, rt.alloc(), 64, &NEW_LIVES)?;
+    Ok(())
+}
+
+#[test]
+fn targets_of_two_guests(rt: HostRuntime) -> Result<(), Fail> {
+    play_immediate(&rt, rt.alloc(), 100, 2, &BALANCED)?;
     Ok(())
 }
 

@@ -2,10 +2,12 @@
 
 ghost use Rattle.std.specs.Prelude.{◌≡◌, ◌<◌, ◌≤◌, ◌^◌, ℕ, true, All, IfOk, IfErr, OnErr, OnOk};
 ghost use Rattle.std.specs.Prelude.{map, ◌++◌, [], vec_len, vec_capacity, ◌∷◌, List, Bool, IsTrue};
-ghost use Rattle.vb_model.specs.Brought.{is_brought, is_call_brought};
+ghost use Rattle.std.specs.Prelude.{length};
 ghost use Rattle.vb_model.specs.Safe.{IsSafeRun};
 ghost use Rattle.vb_model.specs.World.{World as Model, WorldStep, PlugsIn, made};
+ghost use Rattle.vb_model.specs.World.{needs, with_targets};
 ghost use Rattle.vb_model.specs.declared.calls.Event.TheVariants.{Plug, Guest as OnGuest};
+ghost use Rattle.vb_model.specs.declared.calls.Event.TheVariants.{Unplug, Restart, Balance};
 ghost use Rattle.vb_model.specs.declared.calls.Event.TheVariants.{Query as Asking};
 ghost use Rattle.vb_model.specs.declared.calls.Event.TheVariants.{Frames as CountFrames};
 ghost use Rattle.vb_model.specs.Limits.{is_config, max_guests};
@@ -13,14 +15,19 @@ ghost use Rattle.slab.specs.Slab.{slab_len};
 ghost use Rattle.vb_slot.specs.Spare.{IsSpare};
 ghost use Rattle.vb_world.specs.Hosts.{IsWorld};
 
+use arrayvec::ArrayVec;
 use slab::Slab;
 use std::alloc::{AllocError, Global};
+use vb_balance::{GuestNeed, targets};
 use vb_device::Device;
 use vb_frames::FrameTable;
 use vb_model::limits::{MAX_FRAMES, MAX_GUESTS};
 use vb_model::{Call, Event, Query, Refusal, Reply};
 use vb_ram::Config;
 use vb_slot::Slot;
+
+/// As many guests as there may be, as a capacity.
+const GUESTS: usize = MAX_GUESTS as usize;
 
 /// A host with its frames, its guests, and the devices that no guest has yet.
 #[derive(Drop)]
@@ -64,7 +71,7 @@ fn new_slots(alloc: Global) -> Result<Slab<Slot>, AllocError>
     ensures room { IfOk result (λ slots. max_guests ≤ slots.capacity) }
     ensures keys { IfOk result (λ slots. slots.capacity ≤ 2 ^ 32) }
 {
-    let slots = Slab::with_capacity(alloc, MAX_GUESTS as usize)?;
+    let slots = Slab::with_capacity(alloc, GUESTS)?;
     if slots.capacity() > u32::MAX as usize {
         return Err(AllocError);
     }
@@ -114,7 +121,6 @@ impl World {
     /// A call on a guest.
     fn call(&mut self, alloc: Global, guest: u32, call: &Call) -> Reply
         requires world { (w : Model) × IsWorld mem part self.old w }
-        requires brought { is_call_brought call.now ≡ true }
         ensures { (w : Model) → IsWorld mem part self.old w →
             (new : Model) × IsWorld mem part self.new new ×
             WorldStep w (OnGuest guest call.now) result new }
@@ -181,10 +187,96 @@ impl World {
         }
     }
 
+    /// A guest goes, and its device with it. Its frames are free again, and its number is the next
+    /// guest's.
+    fn unplug(&mut self, guest: u32) -> Reply
+        requires world { (w : Model) × IsWorld mem part self.old w }
+        ensures { (w : Model) → IsWorld mem part self.old w →
+            (new : Model) × IsWorld mem part self.new new ×
+            WorldStep w (Unplug guest) result new }
+    {
+        match self.slots.try_remove(guest as usize) {
+            Some(mut slot) => {
+                slot.empty(&mut self.table);
+                Reply::Done
+            }
+            None => Reply::Refused(Refusal::NoGuest),
+        }
+    }
+
+    /// A new life of a guest begins, on its device. Its frames are free again.
+    fn restart(&mut self, guest: u32) -> Reply
+        requires world { (w : Model) × IsWorld mem part self.old w }
+        ensures { (w : Model) → IsWorld mem part self.old w →
+            (new : Model) × IsWorld mem part self.new new ×
+            WorldStep w (Restart guest) result new }
+    {
+        match self.slots.get_mut(guest as usize) {
+            Some(slot) => {
+                slot.restart(&mut self.table);
+                Reply::Done
+            }
+            None => Reply::Refused(Refusal::NoGuest),
+        }
+    }
+
+    /// What the guests have and can spare, by rising number of guest.
+    fn needs(&self, floor: u32) -> ArrayVec<GuestNeed, GUESTS>
+        requires world { (w : Model) × IsWorld mem part self.now w }
+        ensures { (w : Model) → IsWorld mem part self.now w → result.items ≡ needs floor w }
+    {
+        let mut needs = ArrayVec::new();
+        for key in 0..self.slots.capacity() {
+            if let Some(slot) = self.slots.get(key) {
+                needs.push(GuestNeed {
+                    pages: slot.pages(),
+                    spare: slot.spare(floor),
+                });
+            }
+        }
+        needs
+    }
+
+    /// Sets the guests' targets, by rising number of guest.
+    fn set_targets(&mut self, targets: &[u32])
+        requires world { (w : Model) × IsWorld mem part self.old w }
+        requires one_each { length targets.now ≡ slab_len self.old.slots }
+        ensures { (w : Model) → IsWorld mem part self.old w → IsWorld mem part self.new
+            (record w { guests = with_targets targets.now w.guests }) }
+    {
+        let mut next = 0;
+        for key in 0..self.slots.capacity() {
+            if let Some(slot) = self.slots.get_mut(key) {
+                slot.set_target(targets[next]);
+                next += 1;
+            }
+        }
+    }
+
+    /// New targets for all guests, so that the host's frames suffice for all pages.
+    fn balance(&mut self, floor: u32) -> Reply
+        requires world { (w : Model) × IsWorld mem part self.old w }
+        ensures { (w : Model) → IsWorld mem part self.old w →
+            (new : Model) × IsWorld mem part self.new new ×
+            WorldStep w (Balance floor) result new }
+    {
+        let needs = self.needs(floor);
+        match targets(needs.as_slice(), self.table.frames()) {
+            Ok(targets) => {
+                self.set_targets(targets.as_slice());
+                Reply::Targets {
+                    pages: targets.into_numbers(),
+                }
+            }
+            Err(short) => Reply::Refused(Refusal::Short {
+                missing: short.missing,
+            }),
+        }
+    }
+
     /// What one event is answered, and what it leaves.
     pub fn step(&mut self, alloc: Global, event: &Event) -> Reply
         requires world { (w : Model) × IsWorld mem part self.old w }
-        requires brought { is_brought event.now ≡ true }
         ensures { (w : Model) → IsWorld mem part self.old w →
             (new : Model) × IsWorld mem part self.new new × WorldStep w event.now result new }
     {
@@ -194,10 +286,12 @@ impl World {
                 queue_size,
                 processors,
             } => self.plug(alloc, *pages, *queue_size, *processors),
+            Event::Unplug { guest } => self.unplug(*guest),
+            Event::Restart { guest } => self.restart(*guest),
             Event::Guest { guest, call } => self.call(alloc, *guest, call),
             Event::Query { guest, query } => self.query(alloc, *guest, query),
+            Event::Balance { floor } => self.balance(*floor),
             Event::Frames => self.count_frames(),
-            Event::Unplug { .. } | Event::Restart { .. } | Event::Balance { .. } => unreachable!(),
         }
     }
 
@@ -207,7 +301,6 @@ impl World {
     pub fn run(&mut self, alloc: Global, events: &[Event]) -> Result<Vec<Reply>, AllocError>
         requires made { (frames : ℕ) × (spares : List Bool) ×
             IsWorld mem part self.old (made frames spares) }
-        requires brought { All (λ event. IsTrue (is_brought event)) events.now }
         ensures run { (frames : ℕ) (spares : List Bool) →
             IsWorld mem part self.old (made frames spares)
             → IfOk result (λ replies. (last : Model) × IsWorld mem part self.new last ×

@@ -273,6 +273,13 @@ fn calls_agree_with_a_plain_model(rt: HostRuntime) -> Result<(), Fail> {
     Ok(())
 }
 
+/// The same on pages that are no power of two.
+#[test]
+fn calls_agree_on_an_odd_guest(rt: HostRuntime) -> Result<(), Fail> {
+    assert_eq!(rt; first_apart(rt.alloc(), 1_000, 3, 2_000)?, None);
+    Ok(())
+}
+
 /// The same on the largest guest, a few calls.
 #[test]
 fn calls_agree_on_the_largest_guest(rt: HostRuntime) -> Result<(), Fail> {

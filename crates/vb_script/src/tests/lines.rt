@@ -1,41 +1,35 @@
 //! Each line of the format, and each way to be none.
 
-use crate::lines::{LineFault, Pace, any_event, event, host, spare};
+use crate::lines::{LineFault, Pace, event, host, spare};
 use crate::values::{features, number};
 use vb_model::{Call, Event, Place, Query};
 
-/// Lines of events, each with its numbers in order, its bytes, and whether it is answered so far.
-/// Numbers that a line lacks are 0.
-static EVENTS: [(&str, [u32; 4], &[u8], bool); 24] = [
-    ("plug 64 8 1", [64, 8, 1, 0], b"", true),
-    ("unplug 7", [7, 0, 0, 0], b"", false),
-    ("restart 7", [7, 0, 0, 0], b"", false),
-    ("balance 16", [16, 0, 0, 0], b"", false),
-    ("frames", [0, 0, 0, 0], b"", true),
-    ("reset 7", [7, 0, 0, 0], b"", true),
-    ("inflate 7 3", [7, 3, 0, 0], b"", true),
-    ("deflate 7 3", [7, 3, 0, 0], b"", true),
-    ("oom 7 3", [7, 3, 0, 0], b"", true),
-    ("report 7 16", [7, 16, 0, 0], b"", true),
-    ("stats 7", [7, 0, 0, 0], b"", true),
-    ("reap 7 4", [7, 4, 0, 0], b"", true),
-    ("take 7 1", [7, 1, 0, 0], b"", true),
-    ("work 7", [7, 0, 0, 0], b"", true),
-    ("finish 7 1 2", [7, 1, 2, 0], b"", true),
-    ("sweep 7 20", [7, 20, 0, 0], b"", true),
-    ("ask 7", [7, 0, 0, 0], b"", true),
-    ("target 7 4", [7, 4, 0, 0], b"", true),
-    ("alloc 7 1 5", [7, 1, 5, 0], b"", true),
-    ("free 7 1 32 5", [7, 1, 32, 5], b"", true),
-    ("read 7 16 4092 4", [7, 16, 4092, 4], b"", true),
-    (
-        "write 7 16 2 abCDe0",
-        [7, 16, 2, 0],
-        &[0xab, 0xcd, 0xe0],
-        true,
-    ),
-    ("write 7 16 0 ab", [7, 16, 0, 0], &[0xab], true),
-    ("scribble 7 0 130 0900", [7, 0, 130, 0], &[9, 0], false),
+/// Lines of events, each with its numbers in order, and its bytes. Numbers that a line lacks are 0.
+static EVENTS: [(&str, [u32; 4], &[u8]); 24] = [
+    ("plug 64 8 1", [64, 8, 1, 0], b""),
+    ("unplug 7", [7, 0, 0, 0], b""),
+    ("restart 7", [7, 0, 0, 0], b""),
+    ("balance 16", [16, 0, 0, 0], b""),
+    ("frames", [0, 0, 0, 0], b""),
+    ("reset 7", [7, 0, 0, 0], b""),
+    ("inflate 7 3", [7, 3, 0, 0], b""),
+    ("deflate 7 3", [7, 3, 0, 0], b""),
+    ("oom 7 3", [7, 3, 0, 0], b""),
+    ("report 7 16", [7, 16, 0, 0], b""),
+    ("stats 7", [7, 0, 0, 0], b""),
+    ("reap 7 4", [7, 4, 0, 0], b""),
+    ("take 7 1", [7, 1, 0, 0], b""),
+    ("work 7", [7, 0, 0, 0], b""),
+    ("finish 7 1 2", [7, 1, 2, 0], b""),
+    ("sweep 7 20", [7, 20, 0, 0], b""),
+    ("ask 7", [7, 0, 0, 0], b""),
+    ("target 7 4", [7, 4, 0, 0], b""),
+    ("alloc 7 1 5", [7, 1, 5, 0], b""),
+    ("free 7 1 32 5", [7, 1, 32, 5], b""),
+    ("read 7 16 4092 4", [7, 16, 4092, 4], b""),
+    ("write 7 16 2 abCDe0", [7, 16, 2, 0], &[0xab, 0xcd, 0xe0]),
+    ("write 7 16 0 ab", [7, 16, 0, 0], &[0xab]),
+    ("scribble 7 0 130 0900", [7, 0, 130, 0], &[9, 0]),
 ];
 
 /// An event's name, its numbers in the order of its line, and its bytes.
@@ -123,11 +117,9 @@ fn is_bad(found: Result<Event, LineFault>) -> bool {
 
 #[test]
 fn events(rt: HostRuntime) {
-    for (line, numbers, bytes, is_answered) in &EVENTS {
-        let found = any_event(rt.alloc(), line.as_bytes());
+    for (line, numbers, bytes) in &EVENTS {
+        let found = event(rt.alloc(), line.as_bytes());
         assert!(rt; shows(found, line, *numbers, bytes), "at {line}");
-        let answered = event(rt.alloc(), line.as_bytes());
-        assert!(rt; is_bad(answered) != *is_answered, "at {line}");
     }
 }
 
@@ -157,20 +149,20 @@ fn features_of_a_line(rt: HostRuntime) {
     }
 }
 
-/// Lines that ask about guest 7, what they ask, and whether it is answered so far.
-static QUESTIONS: [(&str, Query, bool); 12] = [
-    ("places 7", Query::Places, true),
-    ("balloon 7", Query::Balloon, true),
-    ("memory 7", Query::Memory, true),
-    ("backing 7 16", Query::Backing { page: 16 }, true),
-    ("pages 7 ballooned", Query::PagesBallooned, true),
-    ("pages 7 free", Query::PagesAt(Place::Free), true),
-    ("pages 7 used", Query::PagesAt(Place::Used), true),
-    ("pages 7 giving", Query::PagesAt(Place::Giving), true),
-    ("pages 7 lent", Query::PagesAt(Place::Lent), true),
-    ("pages 7 taking", Query::PagesAt(Place::Taking), true),
-    ("pages 7 stranded", Query::PagesAt(Place::Stranded), true),
-    ("pages 7 reporting", Query::PagesAt(Place::Reporting), true),
+/// Lines that ask about guest 7, and what they ask.
+static QUESTIONS: [(&str, Query); 12] = [
+    ("places 7", Query::Places),
+    ("balloon 7", Query::Balloon),
+    ("memory 7", Query::Memory),
+    ("backing 7 16", Query::Backing { page: 16 }),
+    ("pages 7 ballooned", Query::PagesBallooned),
+    ("pages 7 free", Query::PagesAt(Place::Free)),
+    ("pages 7 used", Query::PagesAt(Place::Used)),
+    ("pages 7 giving", Query::PagesAt(Place::Giving)),
+    ("pages 7 lent", Query::PagesAt(Place::Lent)),
+    ("pages 7 taking", Query::PagesAt(Place::Taking)),
+    ("pages 7 stranded", Query::PagesAt(Place::Stranded)),
+    ("pages 7 reporting", Query::PagesAt(Place::Reporting)),
 ];
 
 /// Whether a line was read to this question about guest 7.
@@ -180,11 +172,9 @@ fn asks(found: Result<Event, LineFault>, expected: Query) -> bool {
 
 #[test]
 fn questions(rt: HostRuntime) {
-    for (line, query, is_answered) in &QUESTIONS {
-        let found = any_event(rt.alloc(), line.as_bytes());
+    for (line, query) in &QUESTIONS {
+        let found = event(rt.alloc(), line.as_bytes());
         assert!(rt; asks(found, *query), "at {line}");
-        let answered = event(rt.alloc(), line.as_bytes());
-        assert!(rt; is_bad(answered) != *is_answered, "at {line}");
     }
 }
 
@@ -251,7 +241,7 @@ static BAD_LINES: [&[u8]; 56] = [
 #[test]
 fn bad_lines(rt: HostRuntime) {
     for line in &BAD_LINES {
-        assert!(rt; is_bad(any_event(rt.alloc(), line)));
+        assert!(rt; is_bad(event(rt.alloc(), line)));
     }
 }
 

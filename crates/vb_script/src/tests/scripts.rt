@@ -49,7 +49,7 @@ static TEXTS: [(&[u8], Outline); 20] = [
     (b"host 64\n\tframes\n", Err(ScriptFault::BadLine(2))),
     (b"host 64\nspare paced\n", Ok(Some((64, 1, 0)))),
     (
-        b"host 64\nframes\n\n#\nunplug 0",
+        b"host 64\nframes\n\n#\nunplug",
         Err(ScriptFault::BadLine(5)),
     ),
     (b"host 64\nframes\n\n\n", Ok(Some((64, 0, 1)))),

@@ -81,27 +81,37 @@ ready
 ",
     },
     Example {
-        name: "a paced device forgets the request that it was at",
+        name: "a reset keeps frames, and strands pages that were lent",
         script: "\
 host 64
-spare paced
+spare immediate
 plug 64 8 1
 init 0
-alloc 0 0 0
+alloc 0 0 2
 write 0 16 0 aa
-target 0 4
-inflate 0 4
-take 0 0
-work 0
-work 0
-work 0
+write 0 17 0 bb
+free 0 0 16 2
+alloc 0 0 0
+write 0 16 0 cc
+target 0 3
+inflate 0 3
+backing 0 17
 reset 0
-places 0
-pages 0 ballooned
+frames
+backing 0 17
+backing 0 16
 read 0 16 0 1
+places 0
+pages 0 stranded
+balloon 0
 init 0
-inflate 0 256
-pages 0 giving
+frames
+inflate 0 3
+take 0 0
+finish 0 0 0
+frames
+reap 0 0
+pages 0 lent
 ",
         replies: "\
 guest 0
@@ -109,75 +119,89 @@ ready
 page 16
 ok
 ok
-posted 0 4
-taken 0
-worked 17 bare
-worked 18 bare
-worked 19 bare
 ok
-free 43 used 1 giving 0 lent 0 taking 0 stranded 4 reporting 0
-pages
-bytes aa
+page 16
+ok
+ok
+posted 0 3
+frame 14
+ok
+frames used 15 free 49
+frame 14
+frame 13
+bytes cc
+free 44 used 1 giving 0 lent 0 taking 0 stranded 3 reporting 0
+pages 17-19
+ballooned 0 actual 0 target 3 status 0
 ready
-posted 0 4
-pages 17-20
+frames used 15 free 49
+posted 0 3
+taken 0
+finished 0
+frames used 14 free 50
+reaped 0 3
+pages 17-19
 ",
     },
     Example {
-        name: "a reset between the use of pages that come back and their return",
+        name: "nothing is taken after a reset",
         script: "\
 host 64
 spare paced
 plug 64 8 1
 init 0
-alloc 0 0 0
-write 0 16 0 aa
 target 0 4
-inflate 0 4
+inflate 0 2
+inflate 0 2
 take 0 0
-work 0
-work 0
-work 0
+report 0 0
+take 0 4
+take 0 2
+memory 0
+reset 0
 work 0
 finish 0 0 0
+ask 0
 reap 0 0
-target 0 2
-deflate 0 2
-take 0 1
-finish 0 1 0
-reset 0
-places 0
-pages 0 ballooned
-read 0 16 0 1
+memory 0
 init 0
-inflate 0 256
-pages 0 giving
+work 0
+take 0 0
+take 0 4
+finish 0 0 0
+finish 0 4 0
+ask 0
+reap 0 0
+reap 0 4
+places 0
 ",
         replies: "\
 guest 0
 ready
-page 16
-ok
-ok
-posted 0 4
-taken 0
-worked 17 bare
-worked 18 bare
-worked 19 bare
-worked 20 bare
-finished 0
-reaped 0 4
 ok
 posted 0 2
+posted 1 2
 taken 0
-finished 0
+posted 0 32
+taken 0
+taken 0
+memory 196608 262144
 ok
-free 43 used 1 giving 0 lent 0 taking 0 stranded 4 reporting 0
-pages
-bytes aa
+not ready
+not ready
+not ready
+not ready
+memory - -
 ready
-posted 0 4
-pages 17-20
+idle
+empty
+empty
+not taken
+not taken
+not taken
+none
+none
+free 44 used 0 giving 0 lent 0 taking 0 stranded 4 reporting 0
 ",
     },
 ];

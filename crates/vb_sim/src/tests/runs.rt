@@ -136,7 +136,7 @@ static SCRIPTS: [(&[u8], &[u8], &[u8], u8); 7] = [
         0,
     ),
     (
-        b"# first\nhost 64\n\nspare immediate\ntake 0 0\n#\nrestart 0",
+        b"# first\nhost 64\n\nspare immediate\ntake 0 0\n#\nscribble 0 0 0 0",
         b"",
         b"script: line 7: bad line\n",
         1,

@@ -243,6 +243,10 @@ impl Device for KeepingDevice {
         self.inner.ballooned_count()
     }
 
+    fn detach(&mut self) {
+        self.inner.detach();
+    }
+
     fn hand_back(&mut self) -> Option<Frame> {
         self.inner.hand_back()
     }

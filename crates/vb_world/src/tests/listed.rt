@@ -266,6 +266,12 @@ impl Device for ListedDevice {
         }
     }
 
+    fn detach(&mut self) {
+        count(&mut self.calls);
+        self.inner.detach();
+        make_anew(&mut self.listed, &self.inner);
+    }
+
     fn hand_back(&mut self) -> Option<Frame> {
         self.inner.hand_back()
     }

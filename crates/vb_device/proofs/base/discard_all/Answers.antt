@@ -1,14 +1,11 @@
 use Rattle.std.proofs.Common.{◌≡◌, ◌<◌, ◌∙◌, ◌++◌, ℕ, List, ap, sym, refl, arith, get_or, take}
-use Rattle.std.specs.Prelude.{length, is_some, Option}
+use Rattle.std.specs.Prelude.{length}
 use Rattle.std.proofs.lemmas.List.{append-nil, take_all}
 use Rattle.std.proofs.lemmas.Option.{get_or_from_slice_get}
 use Rattle.vb_device.specs.Base.{numbers_of_frames}
 use Rattle.vb_request.specs.Request.{each_once}
 use Rattle.vb_device.specs.Discards.{discarded, frames_behind}
-use Rattle.vb_device.proofs.Discards.{discard_more, loose_more, discarded_none, loses_one}
-use Rattle.vb_device.proofs.Discards.{none_of}
-use Rattle.vb_model.specs.Tests.{one_if}
-use Rattle.vb_ram.specs.Pages.{Page, page_at}
+use Rattle.vb_device.proofs.Discards.{discard_more, loose_more, discarded_none}
 use Rattle.vb_device.proofs.base.discard_all.Goals as goal
 
 pub loop-k-init : goal.loop-k-init
@@ -19,18 +16,8 @@ loop-k-init c = record {
   capacity = refl;
 }
 
-pub put_loose-requires : goal.put_loose-requires
-put_loose-requires c =
-    omega (
-      arith,
-      loses_one c.loop-k.ram c.discard-frame.new.self c.page.result c.discard-frame.ensures.after
-          (none_of c.discard-frame.result (page_at c.loop-k.ram c.page.result)
-          (c.discard-frame.new.self ≡ c.loop-k.ram) c.discard-frame.ensures.frame
-          c.discard-frame.ensures.none),
-      ap (λ (o : Option Page). one_if (is_some o)) c.discard-frame.ensures.frame,
-      c.loop-k.invariant.room,
-      c.loop-k.invariant.capacity,
-    )
+pub discard_page-requires : goal.discard_page-requires
+discard_page-requires c = omega (arith, c.loop-k.invariant.room, c.loop-k.invariant.capacity)
 
 pub loop-k-preserved : goal.loop-k-preserved
 loop-k-preserved c =
@@ -39,26 +26,16 @@ loop-k-preserved c =
     let at : get_or c.args.request.now.pages c.loop-k.k 0 ≡ c.page.result =
     get_or_from_slice_get c.args.request.now.pages c.loop-k.k c.page.result 0 c.page.ensures in
     record {
-      mem = discard_more c.args.ram.now c.loop-k.ram c.discard-frame.new.self
+      mem = discard_more c.args.ram.now c.loop-k.ram c.discard_page.new.ram
           c.args.request.now.pages c.loop-k.k c.page.result lt at
-          c.loop-k.invariant.mem c.discard-frame.ensures.after;
+          c.loop-k.invariant.mem c.discard_page.ensures.after;
       loose = loose_more c.args.ram.now c.loop-k.ram c.args.request.now.pages c.loop-k.k
-          c.page.result c.discard-frame.result
-          (numbers_of_frames c.args.loose.now.items) (numbers_of_frames c.loop-k.loose.items)
-          (numbers_of_frames c.put_loose.new.loose.items) lt at
-          c.loop-k.invariant.mem c.discard-frame.ensures.frame c.loop-k.invariant.loose
-          c.put_loose.ensures.numbers;
-      room = omega (
-        arith,
-        loses_one c.loop-k.ram c.discard-frame.new.self c.page.result c.discard-frame.ensures.after
-            (none_of c.discard-frame.result (page_at c.loop-k.ram c.page.result)
-            (c.discard-frame.new.self ≡ c.loop-k.ram) c.discard-frame.ensures.frame
-            c.discard-frame.ensures.none),
-        ap (λ (o : Option Page). one_if (is_some o)) c.discard-frame.ensures.frame,
-        c.put_loose.ensures.count,
-        c.loop-k.invariant.room,
-      );
-      capacity = c.put_loose.ensures.capacity ∙ c.loop-k.invariant.capacity;
+          c.page.result (numbers_of_frames c.args.loose.now.items)
+          (numbers_of_frames c.loop-k.loose.items)
+          (numbers_of_frames c.discard_page.new.loose.items) lt at
+          c.loop-k.invariant.mem c.loop-k.invariant.loose c.discard_page.ensures.numbers;
+      room = omega (arith, c.discard_page.ensures.sum, c.loop-k.invariant.room);
+      capacity = c.discard_page.ensures.capacity ∙ c.loop-k.invariant.capacity;
     }
 
 pub returns-clause-mem : goal.returns-clause-mem

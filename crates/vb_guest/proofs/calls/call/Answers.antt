@@ -105,7 +105,7 @@ returns-in-SetTarget g c =
     record {
       step = λ keeps guest stands. rw (c.clear.ensures, c.in-SetTarget.is)
           (steps_quiet keeps _ _ _ _ _ _ guest g.K.FrameKeeper.answers _ _ _ stands
-          (c.set_target.ensures keeps _ guest stands));
+          (c.set_target.ensures.step keeps _ guest stands));
     }
 
 pub returns-in-Reset : goal.returns-in-Reset

@@ -1,15 +1,17 @@
 use Rattle.vb_guest.proofs.AskStep.{ask_step}
-use Rattle.vb_guest.proofs.Freed.{ring_backed}
+use Rattle.vb_guest.proofs.Asked.{has_ring}
 use Rattle.vb_guest.proofs.Kept.{ask_kept}
-use Rattle.vb_guest.proofs.Standing.{honest_of, alone_stands}
+use Rattle.vb_guest.proofs.RogueDevice.{ask_rogue}
+use Rattle.vb_guest.proofs.Standing.{alone_stands}
 use Rattle.vb_guest.proofs.device.ask.Goals as goal
 
 pub ask_stats-requires : goal.ask_stats-requires
 ask_stats-requires g c = let (keeps, d, guest, stands) = c.requires in
-    record { backed = ring_backed _ _ d guest 2 (honest_of keeps _ _ d guest stands) }
+    record { backed = has_ring keeps _ _ d guest 2 stands }
 
 pub returns : goal.returns
 returns g c = λ keeps d guest stands.
     let same = ask_kept _ _ _ _ _ c.ask_stats.ensures in
     alone_stands keeps _ _ _ _ d d guest _ _ stands same.flag same.numbers
-    (ask_step _ _ _ _ d guest _ c.ask_stats.ensures (honest_of keeps _ _ _ guest stands))
+    (λ honest. ask_step _ _ _ _ d guest _ c.ask_stats.ensures honest)
+    (λ rogue. ask_rogue _ _ _ _ d guest _ c.ask_stats.ensures rogue)

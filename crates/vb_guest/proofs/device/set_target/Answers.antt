@@ -1,12 +1,24 @@
-use Rattle.std.proofs.Common.{ap}
+use Rattle.std.proofs.Common.{ap, refl}
 use Rattle.vb_ram.specs.Part.{Part}
-use Rattle.vb_guest.proofs.TargetStep.{target_step}
-use Rattle.vb_guest.proofs.Standing.{honest_of, alone_stands}
+use Rattle.vb_guest.proofs.TargetStep.{target_stands, target_step}
+use Rattle.vb_guest.proofs.RogueDevice.{target_stands_rogue, target_rogue}
+use Rattle.vb_guest.proofs.Standing.{alone_stands, by_guest, honest_is, rogue_is, stands_with}
 use Rattle.vb_guest.proofs.device.set_target.Goals as goal
 
 pub returns : goal.returns
-returns g c = λ keeps d guest stands.
+returns g c =
     let part = c.set_target.ensures.part in
-    alone_stands keeps _ _ _ _ d d guest _ _ stands (ap (λ (p : Part). p.keeps) part)
-    (ap (λ (p : Part). p.own) part)
-    (target_step _ _ _ _ d guest _ c.set_target.ensures.mem part (honest_of keeps _ _ _ guest stands))
+    let memory = c.set_target.ensures.mem in
+    let flag = ap (λ (p : Part). p.keeps) part in
+    let numbers = ap (λ (p : Part). p.own) part in
+    record {
+      aims = λ keeps d guest stands.
+          stands_with keeps _ _ _ _ d d guest _ stands flag numbers refl
+          (by_guest keeps _ _ d guest stands
+          (λ honest. honest_is _ _ d _ (target_stands _ _ _ _ d guest _ memory part honest))
+          (λ rogue. rogue_is _ _ d _ (target_stands_rogue _ _ _ _ d guest _ memory part rogue)));
+      step = λ keeps d guest stands.
+          alone_stands keeps _ _ _ _ d d guest _ _ stands flag numbers
+          (λ honest. target_step _ _ _ _ d guest _ memory part honest)
+          (λ rogue. target_rogue _ _ _ _ d guest _ memory part rogue);
+    }

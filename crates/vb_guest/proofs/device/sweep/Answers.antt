@@ -1,14 +1,15 @@
 use Rattle.std.proofs.Common.{◌∙◌, sym}
 use Rattle.vb_guest.proofs.SweepStep.{sweep_step}
-use Rattle.vb_guest.proofs.Freed.{none_loose, freed_as}
+use Rattle.vb_guest.proofs.RogueDevice.{sweep_rogue}
+use Rattle.vb_guest.proofs.Freed.{freed_as, freed_rogue}
 use Rattle.vb_guest.proofs.Kept.{sweep_kept}
-use Rattle.vb_guest.proofs.Standing.{honest_of, freed_loose, steps_freed}
+use Rattle.vb_guest.proofs.Standing.{none_loose, freed_loose, lost_by, steps_freed}
 use Rattle.vb_guest.proofs.device.sweep.Goals as goal
 
 pub sweep-answer-requires : goal.sweep-answer-requires
-sweep-answer-requires g c = let (keeps, d, guest, stands, held) = c.requires in
-    let honest = honest_of keeps _ _ d guest stands in
-    none_loose _ _ d guest honest
+sweep-answer-requires g c =
+    let (keeps, d, guest, stands, held) = c.requires in
+    none_loose keeps _ _ d guest stands
 
 pub return_loose-requires : goal.return_loose-requires
 return_loose-requires g c =
@@ -17,8 +18,10 @@ return_loose-requires g c =
     let same = sweep_kept _ _ _ _ _ _ did in
     record {
       none = λ e. same.numbers ∙ stands.own.none (sym stands.own.flag ∙ (sym same.flag ∙ e));
-      loose = freed_loose keeps _ _ (g.D.GuestBytes.part c.sweep-answer.new.self) d guest _ _ _ _ stands held same.flag same.numbers
-          (sweep_step _ _ _ _ d guest _ _ did (honest_of keeps _ _ d guest stands));
+      loose = freed_loose keeps _ _ (g.D.GuestBytes.part c.sweep-answer.new.self) d guest _ stands
+          held same.flag same.numbers
+          (λ honest. lost_by _ _ guest _ _ (sweep_step _ _ _ _ d guest _ _ did honest))
+          (λ rogue. lost_by _ _ guest _ _ (sweep_rogue _ _ _ _ d guest _ _ did rogue));
     }
 
 pub returns : goal.returns
@@ -26,6 +29,9 @@ returns g c = λ keeps d guest stands.
     let did = c.sweep-answer.ensures in
     let same = sweep_kept _ _ _ _ _ _ did in
     let back = c.return_loose.ensures in
-    steps_freed keeps _ _ _ (g.D.GuestBytes.part c.sweep-answer.new.self) _ d guest _ _ _ _ _ stands same.flag same.numbers
-    (freed_as _ _ _ _ d guest _ _ back.mem back.part
-    (sweep_step _ _ _ _ d guest _ _ did (honest_of keeps _ _ d guest stands))) back.moves
+    steps_freed keeps _ _ _ (g.D.GuestBytes.part c.sweep-answer.new.self) _ d guest _ _ _ _ _
+    stands same.flag same.numbers
+    (λ honest. freed_as _ _ _ _ d guest _ _ back.mem back.part
+    (sweep_step _ _ _ _ d guest _ _ did honest))
+    (λ rogue. freed_rogue _ _ _ _ d guest _ _ back.mem back.part
+    (sweep_rogue _ _ _ _ d guest _ _ did rogue)) back.moves

@@ -1,10 +1,12 @@
 use Rattle.vb_guest.proofs.TakeStep.{take_step}
 use Rattle.vb_guest.proofs.Kept.{take_kept}
-use Rattle.vb_guest.proofs.Standing.{honest_of, alone_stands}
+use Rattle.vb_guest.proofs.RogueDevice.{take_rogue}
+use Rattle.vb_guest.proofs.Standing.{alone_stands}
 use Rattle.vb_guest.proofs.device.take.Goals as goal
 
 pub returns : goal.returns
 returns g c = λ keeps d guest stands.
     let same = take_kept _ _ _ _ _ _ c.take.ensures in
     alone_stands keeps _ _ _ _ d d guest _ _ stands same.flag same.numbers
-    (take_step _ _ _ _ d guest _ _ c.take.ensures (honest_of keeps _ _ _ guest stands))
+    (λ honest. take_step _ _ _ _ d guest _ _ c.take.ensures honest)
+    (λ rogue. take_rogue _ _ _ _ d guest _ _ c.take.ensures rogue)

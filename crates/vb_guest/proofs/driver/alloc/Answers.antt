@@ -1,9 +1,11 @@
 use Rattle.std.proofs.Common.{refl}
 use Rattle.vb_guest.proofs.AllocStep.{alloc_step}
-use Rattle.vb_guest.proofs.Standing.{honest_of, alone_stands}
+use Rattle.vb_guest.proofs.RogueDriver.{alloc_rogue}
+use Rattle.vb_guest.proofs.Standing.{alone_stands}
 use Rattle.vb_guest.proofs.driver.alloc.Goals as goal
 
 pub returns : goal.returns
 returns c = λ keeps mem part guest stands.
     alone_stands keeps mem mem part part _ _ guest _ _ stands refl refl
-    (alloc_step mem part _ _ guest _ _ _ c.alloc.ensures (honest_of keeps _ _ _ guest stands))
+    (λ honest. alloc_step mem part _ _ guest _ _ _ c.alloc.ensures honest)
+    (λ rogue. alloc_rogue mem part _ _ guest _ _ _ c.alloc.ensures rogue)

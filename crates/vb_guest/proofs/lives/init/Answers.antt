@@ -4,8 +4,10 @@ use Rattle.vb_model.specs.declared.calls.Claim.{Claim}
 use Rattle.vb_model.specs.declared.replies.Refusal.TheVariants.{NoFrame as NoFrameLeft, NoMemory}
 use Rattle.vb_guest.proofs.InitStep.{init_up, known_answer, init_unsupplied, still_large}
 use Rattle.vb_guest.proofs.InitStep.{init_supplied, first_noted}
-use Rattle.vb_guest.proofs.Freed.{large}
-use Rattle.vb_guest.proofs.Standing.{honest_of, alone_stands, over_stands, steps_quiet}
+use Rattle.vb_guest.proofs.Asked.{is_large}
+use Rattle.vb_guest.proofs.RogueLives.{init_up_rogue, init_unsupplied_rogue, init_supplied_rogue}
+use Rattle.vb_guest.proofs.RogueLives.{still_large_rogue}
+use Rattle.vb_guest.proofs.Standing.{by_guest, alone_stands, over_stands, steps_quiet}
 use Rattle.vb_guest.proofs.lives.init.Goals as goal
 
 pub returns-then-bits-ne0 : goal.returns-then-bits-ne0
@@ -13,23 +15,26 @@ returns-then-bits-ne0 g c = λ keeps guest stands.
     rw (c.clear.ensures)
     (steps_quiet keeps _ _ _ _ _ _ guest g.K.FrameKeeper.answers _ _ _ stands
     (alone_stands keeps _ _ _ _ _ _ guest _ _ stands refl refl
-    (init_up _ _ _ guest c.args.wanted
-    (λ e. c.if-bits-ne0.true (c.bits.ensures tt ∙ c.status.ensures ∙ e))
-    (honest_of keeps _ _ _ guest stands))))
+    (λ honest. init_up _ _ _ guest c.args.wanted
+    (λ e. c.if-bits-ne0.true (c.bits.ensures tt ∙ c.status.ensures ∙ e)) honest)
+    (λ rogue. init_up_rogue _ _ _ guest c.args.wanted rogue)))
 
 pub supply_from-requires : goal.supply_from-requires
 supply_from-requires g c = let (keeps, guest, stands) = c.requires in
     record {
       none = λ e. stands.own.none (sym stands.own.flag ∙ e);
-      memory = large _ _ _ guest (honest_of keeps _ _ _ guest stands);
+      memory = is_large keeps _ _ _ guest stands;
       room = (let none = ap (λ (l : List Claim). length l) c.clear.ensures in omega (arith, none));
     }
 
 pub init-requires : goal.init-requires
 init-requires g c = let (keeps, guest, stands) = c.requires in
     record {
-      memory = still_large g.K.FrameKeeper.answers _ _ _ _ _ _ _ _ guest
-          (honest_of keeps _ _ _ guest stands) c.in-Ok.ensures.supplies;
+      memory = by_guest keeps _ _ _ guest stands
+          (λ honest. still_large g.K.FrameKeeper.answers _ _ _ _ _ _ _ _ guest honest
+          c.in-Ok.ensures.supplies)
+          (λ rogue. still_large_rogue g.K.FrameKeeper.answers _ _ _ _ _ _ _ _ guest rogue
+          c.in-Ok.ensures.supplies);
     }
 
 pub returns-in-Ok : goal.returns-in-Ok
@@ -37,10 +42,14 @@ returns-in-Ok g c = λ keeps guest stands.
     let new : (g.D.GuestBytes.part c.args.device.now).status ≡ 0 =
     sym c.status.ensures ∙ sym (c.bits.ensures tt) ∙ c.if-bits-ne0.false in
     over_stands keeps _ _ _ _ _ _ guest _ _ _ _ _ _ stands
-    (init_supplied g.K.FrameKeeper.answers _ _ _ _ _ _ _ _ _ _ _ guest c.args.wanted _ _
+    (λ honest. init_supplied g.K.FrameKeeper.answers _ _ _ _ _ _ _ _ _ _ _ guest c.args.wanted _ _
     (c.from_bits_retain.ensures tt) new
     (first_noted g.K.FrameKeeper.answers _ _ _ _ _ _ _ _ c.clear.ensures c.in-Ok.ensures.supplies)
-    c.in-Ok.ensures.part c.init.ensures (honest_of keeps _ _ _ guest stands))
+    c.in-Ok.ensures.part c.init.ensures honest)
+    (λ rogue. init_supplied_rogue g.K.FrameKeeper.answers _ _ _ _ _ _ _ _ _ _ _ guest
+    c.args.wanted _ _ (c.from_bits_retain.ensures tt) new
+    (first_noted g.K.FrameKeeper.answers _ _ _ _ _ _ _ _ c.clear.ensures c.in-Ok.ensures.supplies)
+    c.in-Ok.ensures.part c.init.ensures rogue)
 
 pub returns-in-Err-NoFrame : goal.returns-in-Err-NoFrame
 returns-in-Err-NoFrame g c = λ keeps guest stands.
@@ -49,9 +58,13 @@ returns-in-Err-NoFrame g c = λ keeps guest stands.
     let did = known_answer g.K.FrameKeeper.answers _ _ _ _ _ _ _ c.supply_from.result (Err NoFrame)
     (c.in-Err-NoFrame.is ∙ ap Err c.in-Err-NoFrame.field-0-is) c.supply_from.ensures.supplies in
     over_stands keeps _ _ _ _ _ _ guest _ _ _ _ _ _ stands
-    (init_unsupplied g.K.FrameKeeper.answers _ _ _ _ _ _ _ _ guest c.args.wanted NoFrame NoFrameLeft
-    refl new (first_noted g.K.FrameKeeper.answers _ _ _ _ _ _ _ _ c.clear.ensures did)
-    c.supply_from.ensures.part (honest_of keeps _ _ _ guest stands))
+    (λ honest. init_unsupplied g.K.FrameKeeper.answers _ _ _ _ _ _ _ _ guest c.args.wanted NoFrame
+    NoFrameLeft refl new
+    (first_noted g.K.FrameKeeper.answers _ _ _ _ _ _ _ _ c.clear.ensures did)
+    c.supply_from.ensures.part honest)
+    (λ rogue. init_unsupplied_rogue g.K.FrameKeeper.answers _ _ _ _ _ _ _ _ guest c.args.wanted
+    NoFrame NoFrameLeft refl (first_noted g.K.FrameKeeper.answers _ _ _ _ _ _ _ _ c.clear.ensures did)
+    c.supply_from.ensures.part rogue)
 
 pub returns-in-Err-Memory : goal.returns-in-Err-Memory
 returns-in-Err-Memory g c = λ keeps guest stands.
@@ -60,6 +73,10 @@ returns-in-Err-Memory g c = λ keeps guest stands.
     let did = known_answer g.K.FrameKeeper.answers _ _ _ _ _ _ _ c.supply_from.result (Err Memory)
     (c.in-Err-Memory.is ∙ ap Err c.in-Err-Memory.field-0-is) c.supply_from.ensures.supplies in
     over_stands keeps _ _ _ _ _ _ guest _ _ _ _ _ _ stands
-    (init_unsupplied g.K.FrameKeeper.answers _ _ _ _ _ _ _ _ guest c.args.wanted Memory NoMemory
-    refl new (first_noted g.K.FrameKeeper.answers _ _ _ _ _ _ _ _ c.clear.ensures did)
-    c.supply_from.ensures.part (honest_of keeps _ _ _ guest stands))
+    (λ honest. init_unsupplied g.K.FrameKeeper.answers _ _ _ _ _ _ _ _ guest c.args.wanted Memory
+    NoMemory refl new
+    (first_noted g.K.FrameKeeper.answers _ _ _ _ _ _ _ _ c.clear.ensures did)
+    c.supply_from.ensures.part honest)
+    (λ rogue. init_unsupplied_rogue g.K.FrameKeeper.answers _ _ _ _ _ _ _ _ guest c.args.wanted
+    Memory NoMemory refl (first_noted g.K.FrameKeeper.answers _ _ _ _ _ _ _ _ c.clear.ensures did)
+    c.supply_from.ensures.part rogue)

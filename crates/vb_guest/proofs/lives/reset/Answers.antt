@@ -1,7 +1,8 @@
 use Rattle.std.proofs.Common.{ap}
 use Rattle.vb_ram.specs.Part.{Part}
 use Rattle.vb_guest.proofs.ResetStep.{reset_step}
-use Rattle.vb_guest.proofs.Standing.{honest_of, alone_stands}
+use Rattle.vb_guest.proofs.RogueDriver.{reset_rogue}
+use Rattle.vb_guest.proofs.Standing.{alone_stands}
 use Rattle.vb_guest.proofs.lives.reset.Goals as goal
 
 pub returns : goal.returns
@@ -9,4 +10,5 @@ returns g c = λ keeps guest stands.
     let part = c.reset.ensures.part in
     alone_stands keeps _ _ _ _ _ _ guest _ _ stands (ap (λ (p : Part). p.keeps) part)
     (ap (λ (p : Part). p.own) part)
-    (reset_step _ _ _ _ _ _ guest c.reset.ensures (honest_of keeps _ _ _ guest stands))
+    (λ honest. reset_step _ _ _ _ _ _ guest c.reset.ensures honest)
+    (λ rogue. reset_rogue _ _ _ _ _ _ guest c.reset.ensures rogue)

@@ -1,8 +1,9 @@
 use Rattle.std.proofs.Common.{refl}
-use Rattle.vb_guest.proofs.Standing.{honest_of}
+use Rattle.vb_guest.proofs.Standing.{by_guest}
 use Rattle.vb_guest.proofs.queries.statistics.Goals as goal
 
 pub returns : goal.returns
 returns g c = λ keeps d guest stands.
-    let last = (honest_of keeps _ _ _ guest stands).ties.parts.device.last in
+    let last = by_guest keeps _ _ d guest stands (λ honest. honest.ties.parts.device.last)
+    (λ rogue. rogue.last) in
     rw (c.stats.ensures.free, c.stats.ensures.total, last) refl

@@ -3,14 +3,19 @@ use Rattle.std.proofs.Common.{arith}
 use Rattle.vb_model.specs.Pages.{pages_of}
 use Rattle.vb_pages.specs.Areas.{with_pages, without_pages, block_at}
 use Rattle.vb_pages.specs.Tiles.{HasRoom, IsTiled, set_of}
-use Rattle.vb_pages.proofs.TilesLemmas.{rest_there, rest_empty, rest_tiled, rest_room, rest_set}
+use Rattle.vb_pages.proofs.TilesLemmas.{rest_upper, rest_empty, rest_tiled, rest_room, rest_set}
 use Rattle.vb_pages.proofs.TilesLemmas.{none_left}
 use Rattle.vb_pages.proofs.areas.+put_rest.Goals as goal
 
-pub add-requires-clause-there : goal.add-requires-clause-there
-add-requires-clause-there t c =
-    rest_there c.args.table.now c.args.start c.args.whole c.size_of.result c.requires.tiled
-    c.requires.room (omega arith) c.size_of.ensures.size
+pub add-requires-clause-aligned : goal.add-requires-clause-aligned
+add-requires-clause-aligned t c =
+    (rest_upper c.args.table.now c.args.start c.args.whole c.size_of.result c.requires.tiled
+    c.requires.room (omega arith) c.size_of.ensures.size).aligned
+
+pub add-requires-clause-fits : goal.add-requires-clause-fits
+add-requires-clause-fits t c =
+    (rest_upper c.args.table.now c.args.start c.args.whole c.size_of.result c.requires.tiled
+    c.requires.room (omega arith) c.size_of.ensures.size).fits
 
 pub add-requires-clause-empty : goal.add-requires-clause-empty
 add-requires-clause-empty t c =

@@ -66,7 +66,7 @@ pub returns-clause-taken : goal.returns-clause-taken
 returns-clause-taken c = (
   none_inside c.args.table.now c.requires.tiled.placed c.requires.tiled.merged c.args.order
       (λ s k a e.
-      let nine : k ≤ 9 = c.requires.tiled.placed.bounded s k e in
+      let nine : k ≤ 9 = c.requires.tiled.placed.blocks.bounded s k e in
       c.loop-larger.invariant.1 s k a (omega arith) e),
   ap set_of c.loop-larger.invariant.0,
 )

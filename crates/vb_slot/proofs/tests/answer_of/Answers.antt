@@ -28,3 +28,7 @@ returns-in-Sweep g c =
 pub returns-in-Ask : goal.returns-in-Ask
 returns-in-Ask g c =
     let s = c.ask.ensures.step true c.requires.0 c.requires.1 in (s.new, s.stands)
+
+pub returns-in-Restart : goal.returns-in-Restart
+returns-in-Restart g c =
+    (_, (c.restart.ensures.life true c.requires.0 c.requires.1).stands)

@@ -10,13 +10,13 @@ use Rattle.vb_device.proofs.base.DeviceBase.discard.Goals as goal
 pub invariant_of-self : goal.invariant_of-self
 invariant_of-self c =
     let pos : 0 < length c.self.inside.ram = search rules in
-    base_same c.self.inside.ram c.discard-frame.new.self (status_bits c.self.inside.status)
+    base_same c.self.inside.ram c.discard_page.new.ram (status_bits c.self.inside.status)
     c.self.inside.queue_size _ _
     c.self.inside.queues c.self.invariant
-    c.discard-frame.ensures.after.count c.put_loose.ensures.capacity pos
+    c.discard_page.ensures.after.count c.discard_page.ensures.capacity pos
 
 pub returns-clause-mem : goal.returns-clause-mem
 returns-clause-mem c =
-    discard_more c.self.inside.ram c.self.inside.ram c.discard-frame.new.self (c.args.page ∷ []) 0
-    c.args.page (omega arith) refl (discarded_none c.self.inside.ram) c.discard-frame.ensures.after
+    discard_more c.self.inside.ram c.self.inside.ram c.discard_page.new.ram (c.args.page ∷ []) 0
+    c.args.page (omega arith) refl (discarded_none c.self.inside.ram) c.discard_page.ensures.after
     ∙ ap (λ (v : DeviceState). discarded (c.args.page ∷ []) v.mem) c.self.view_is

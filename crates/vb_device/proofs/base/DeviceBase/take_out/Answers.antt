@@ -1,16 +1,14 @@
 use Rattle.std.proofs.Common.{◌≡◌, ◌∙◌, ◌<◌, ℕ, List, None, Some, Ok, Err, get_or, true, sym}
-use Rattle.std.proofs.Common.{ap, subst, rules}
+use Rattle.std.proofs.Common.{ap, subst, rules, []}
 use Rattle.std.specs.Prelude.{length, slice_get, IsSome, Bool, not, ◌&&◌, ◌==◌}
 use Rattle.std.proofs.Math.ListN.{set}
 use Rattle.vb_model.specs.Layout.{ring_page}
 use Rattle.vb_model.specs.Status.{contains, driver_ok}
-use Rattle.std.proofs.Common.{[], arith}
 use Rattle.std.specs.Prelude.{vec_capacity}
-use Rattle.std.proofs.lemmas.List.{length-map}
 use Rattle.vb_model.specs.Guest.{LastStatistics}
 use Rattle.vb_model.specs.Tables.{has_chains}
-use Rattle.vb_device.proofs.Discards.{few_frames}
-use Rattle.vb_ram.specs.Pages.{Page, Pages, frame_at}
+use Rattle.vb_device.proofs.Discards.{room_for_all}
+use Rattle.vb_ram.specs.Pages.{Pages, frame_at}
 use Rattle.vb_status.specs.Bits.{status_bits, feature_bits}
 use Rattle.vb_device.specs.State.{DeviceState}
 use Rattle.vb_device.specs.QueueState.{QueueState, taken_refusal}
@@ -115,17 +113,12 @@ invariant_of-self-in-Ok c =
 
 pub discard_request-requires : goal.discard_request-requires
 discard_request-requires c =
-    let none : c.args.self.now.part.loose ≡ [] = c.requires.none in
-    let empty : length (numbers_of_frames c.self.inside.loose.items) ≡ 0 =
-    ap (λ (v : DeviceState). length v.part.loose) c.self.view_is ∙ ap (λ (ns : List ℕ). length ns) none
-    in
-    omega (
-      arith,
-      length-map c.self.inside.loose.items (λ (frame : Page). frame.number),
-      empty,
-      few_frames c.self.inside.ram,
-      c.self.invariant.room,
-    )
+    let none : numbers_of_frames c.self.inside.loose.items ≡ [] =
+    ap (λ (v : DeviceState). v.part.loose) c.self.view_is ∙ c.requires.none in
+    record {
+      room = room_for_all c.self.inside.ram c.self.inside.loose.items
+          (vec_capacity c.self.inside.loose) none c.self.invariant.room;
+    }
 
 pub returns-in-Ok-clause-by : goal.returns-in-Ok-clause-by
 returns-in-Ok-clause-by c =

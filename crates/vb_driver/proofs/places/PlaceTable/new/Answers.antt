@@ -1,15 +1,10 @@
 use Rattle.std.proofs.Common.{ap, ℕ, List, [], ◌∷◌, set}
 use Rattle.vb_driver.proofs.Counting.{reserved_table}
-use Rattle.vb_driver.proofs.Placing.{filled_all}
 use Rattle.vb_driver.proofs.places.PlaceTable.new.Goals as goal
-
-pub returns : goal.returns
-returns c = filled_all c.args.pages c.loop-page.table c.loop-page.page c.loop-page.invariant
-    c.loop-page-test.false
 
 pub invariant_of-table : goal.invariant_of-table
 invariant_of-table c =
     let zeros : List ℕ = 0 ∷ 0 ∷ 0 ∷ 0 ∷ 0 ∷ 0 ∷ 0 ∷ 0 ∷ [] in
     reserved_table _ c.in_ok-places.places.items c.args.pages
     (ap (λ (k : ℕ). set zeros k c.args.pages) c.number_of.ensures)
-    (c.in_ok-places.ensures.items_if_clones_equal (λ y e. e)) c.requires.most
+    (c.in_ok-places.ensures.items_if_clones_equal (λ y e. e)) c.requires

@@ -1,9 +1,13 @@
-use Rattle.std.proofs.Common.{◌≡◌, ◌<◌, ◌≤◌, ℕ, length, true}
+use Rattle.std.proofs.Common.{◌≡◌, ◌-◌, ◌<◌, ◌≤◌, ℕ, length, true}
 use Rattle.vb_pages.specs.Areas.{has}
 use Rattle.vb_pages.proofs.areas.Areas.fill.Given as goal
 
 -- the pages that were gone over are in, and no others
 abbrev pub invariant-loop-page : goal.invariant-loop-page
 invariant-loop-page l =
-    (length l.self ≡ l.pages) × ((p : ℕ) → has l.self p ≡ true → (16 ≤ p) × (p < l.page))
+    (length l.self ≡ l.pages) × (16 ≤ l.page)
+    × ((p : ℕ) → has l.self p ≡ true → (16 ≤ p) × (p < l.page))
     × ((p : ℕ) → 16 ≤ p → p < l.page → p < l.pages → has l.self p ≡ true)
+
+abbrev pub decreases-loop-page : goal.decreases-loop-page
+decreases-loop-page l = l.pages - l.page

@@ -1,4 +1,4 @@
-use Rattle.std.proofs.Common.{◌≡◌, ◌-◌, ◌%◌, ◌^◌, ℕ, List, Option, Some, length, ap, ◌∙◌, sym}
+use Rattle.std.proofs.Common.{◌≡◌, ◌-◌, ◌%◌, ◌^◌, ℕ, Some, length, ap, ◌∙◌, sym}
 use Rattle.std.proofs.Common.{arith}
 use Rattle.std.specs.List.{list_any}
 use Rattle.vb_model.specs.Pages.{covers}
@@ -7,23 +7,20 @@ use Rattle.vb_pages.specs.Held.{HeldBlocks, blocks_of}
 use Rattle.vb_pages.proofs.HeldLemmas.{held_of, covers_found, covers_not_found}
 use Rattle.vb_pages.proofs.held.Held.covers.Goals as goal
 
-pub returns-then-is_at : goal.returns-then-is_at
-returns-then-is_at c =
-    let t = c.self.inside.orders.items in
+pub returns-then-is_listed : goal.returns-then-is_listed
+returns-then-is_listed c =
+    let t = c.self.inside.table in
     let p = c.args.page in
     let k = c.loop-order.order in
     let v : held_of (length t) (blocks_of t) ≡ c.args.self.now = c.self.view_is in
-    let e : order_at c.deref.result.now (p - p % c.size_of.result) ≡ Some k =
-    c.is_at.ensures.0 c.if-is_at.true in
-    let f : order_at t (p - p % 2 ^ k) ≡ Some k =
-    ap (λ (xs : List (Option ℕ)). order_at xs (p - p % 2 ^ k)) (sym c.deref.ensures.value)
-    ∙ (ap (λ (n : ℕ). order_at c.deref.result.now (p - p % n)) (sym c.size_of.ensures.size)
-    ∙ e) in
-    sym (ap (λ (h : HeldBlocks). list_any (covers p) h.blocks) (sym v) ∙ covers_found p k t f)
+    let listed : order_at t (p - p % 2 ^ k) ≡ Some k =
+    ap (λ (n : ℕ). order_at t (p - p % n)) (sym c.size_of.ensures.size)
+    ∙ c.is_listed.ensures.0 c.if-is_listed.true in
+    sym (ap (λ (h : HeldBlocks). list_any (covers p) h.blocks) (sym v) ∙ covers_found p k t listed)
 
 pub returns : goal.returns
 returns c =
-    let t = c.self.inside.orders.items in
+    let t = c.self.inside.table in
     let p = c.args.page in
     let v : held_of (length t) (blocks_of t) ≡ c.args.self.now = c.self.view_is in
     sym (ap (λ (h : HeldBlocks). list_any (covers p) h.blocks) (sym v)

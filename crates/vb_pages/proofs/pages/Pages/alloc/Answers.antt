@@ -8,7 +8,7 @@ use Rattle.vb_pages.specs.PageState.{PageState, is_free_page}
 use Rattle.vb_pages.proofs.FreeLemmas.{nothing, drained_times, serves_is_block}
 use Rattle.vb_pages.proofs.HeldLemmas.{held_of}
 use Rattle.vb_pages.proofs.PagesLemmas.{kept_at, state_of, drained_kept, out_kept, out_free}
-use Rattle.vb_pages.proofs.PagesLemmas.{out_there, out_outside, out_left, none_free, free_same}
+use Rattle.vb_pages.proofs.PagesLemmas.{out_fits, out_outside, out_left, none_free, free_same}
 use Rattle.vb_pages.proofs.pages.Pages.alloc.Goals as goal
 
 pub invariant_of-self : goal.invariant_of-self
@@ -43,10 +43,10 @@ add-requires-clause-block c =
     serves_is_block c.self.inside.free c.take.new.self c.args.cpu c.args.order c.in-Some.start
     c.in-Some.ensures.serves
 
-pub add-requires-clause-there : goal.add-requires-clause-there
-add-requires-clause-there c =
+pub add-requires-clause-fits : goal.add-requires-clause-fits
+add-requires-clause-fits c =
     let l : c.args.cpu < length c.self.inside.free.lists = omega arith in
-    out_there c.self.inside.free c.take.new.self c.self.inside.held c.args.cpu c.args.order
+    out_fits c.self.inside.free c.take.new.self c.self.inside.held c.args.cpu c.args.order
     c.in-Some.start c.take.ensures.sound c.self.invariant l c.in-Some.ensures.serves
 
 pub add-requires-clause-outside : goal.add-requires-clause-outside

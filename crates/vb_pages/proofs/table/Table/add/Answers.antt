@@ -1,66 +1,59 @@
-use Rattle.std.proofs.Common.{◌≡◌, ◌<◌, None, List, ℕ, ◌∷◌, ◌++◌, length, arith, sym, ◌∙◌, ap, set}
-use Rattle.vb_pages.specs.Starts.{Starts}
-use Rattle.vb_pages.specs.Table.{order_at, index_of}
-use Rattle.vb_pages.proofs.TableLemmas.{list_now, length-index_of, index-added, starts-without}
-use Rattle.vb_pages.proofs.TableLemmas.{length-around, front_of, back_of, front_below, back_above}
-use Rattle.vb_pages.proofs.TableLemmas.{entry}
+use Rattle.std.proofs.Common.{◌≡◌, ◌/◌, ◌<◌, None, Some, Option, List, ℕ, length, set, true}
+use Rattle.std.proofs.Common.{sym, ◌∙◌, ap, subst, arith}
+use Rattle.vb_pages.specs.Table.{order_at, room_of, table_of}
+use Rattle.vb_pages.proofs.TableLemmas.{StandFor, added, ten_sets, set_now, block_below}
+use Rattle.vb_pages.proofs.TableLemmas.{length-set_of_order}
 use Rattle.vb_pages.proofs.table.Table.add.Goals as goal
-use Rattle.vb_pages.proofs.table.Table.add.Goals.{After-index_mut-2}
+use Rattle.vb_pages.proofs.table.Table.add.Goals.{After-insert}
 
-pub index_mut-requires-2 : goal.index_mut-requires-2
-index_mut-requires-2 c =
-    let i : c.self.inside.starts.items ≡ index_of c.self.inside.orders.items = c.self.invariant in
+pub index_mut-requires : goal.index_mut-requires
+index_mut-requires c =
     omega (
       arith,
-      ap length i,
-      length-index_of c.self.inside.orders.items,
-      c.self.inside.starts.ok.0,
+      ten_sets c.self.inside.pages c.self.inside.blocks.items c.self.invariant,
+      c.self.inside.blocks.ok.0,
     )
 
--- the list of the order, before
-list_is : (c : After-index_mut-2)
-    → c.index_mut-2.result.now
-    ≡ entry (front_of c.args.order c.args.start c.self.inside.orders.items
-    ++ back_of c.args.order c.args.start c.self.inside.orders.items)
-    (length c.self.inside.orders.items)
-list_is c =
-    let t = c.self.inside.orders.items in
-    let v : t ≡ c.args.self.now = c.self.view_is in
-    let there : c.args.start < length t = rw v c.requires.there in
-    let empty : order_at t c.args.start ≡ None = rw v c.requires.empty in
-    let k : c.args.order < 10 = omega arith in
-    list_now c.self.inside.starts.items t c.args.order c.index_mut-2.result.now c.self.invariant k
-    c.index_mut-2.ensures.value
-    ∙ ap (λ (xs : List ℕ). entry xs (length t))
-    (starts-without c.args.order c.args.start t there empty)
-
-pub add-requires : goal.add-requires
-add-requires c =
-    let e = list_is c in
-    let t = c.self.inside.orders.items in
-    let v : t ≡ c.args.self.now = c.self.view_is in
-    let there : c.args.start < length t = rw v c.requires.there in
-    rw e (length-around c.args.order c.args.start t there)
-
-pub invariant_of-self : goal.invariant_of-self
-invariant_of-self c =
-    let t = c.self.inside.orders.items in
+pub insert-requires : goal.insert-requires
+insert-requires c =
+    let pages = c.self.inside.pages in
+    let sets = c.self.inside.blocks.items in
     let k = c.args.order in
     let s = c.args.start in
-    let i : c.self.inside.starts.items ≡ index_of t = c.self.invariant in
+    let t = table_of pages sets in
     let v : t ≡ c.args.self.now = c.self.view_is in
-    let there : s < length t = rw v c.requires.there in
-    let empty : order_at t s ≡ None = rw v c.requires.empty in
-    let below_ten : k < 10 = omega arith in
-    let e = list_is (goal.at-invariant_of-self c).After-index_mut-2 in
-    let put : c.add.new.self
-    ≡ entry (front_of k s t ++ s ∷ back_of k s t) c.index_mut-2.result.now.room =
-    c.add.ensures (front_of k s t) (back_of k s t) (ap (λ (x : Starts). x.items) e)
-    (front_below k s t (omega arith)) (λ j l. omega (arith, back_above k s t j l)) in
-    let room : c.index_mut-2.result.now.room ≡ length t = ap (λ (x : Starts). x.room) e in
-    let now : c.add.new.self ≡ entry (front_of k s t ++ s ∷ back_of k s t) (length t) =
-    put ∙ ap (λ (n : ℕ). entry (front_of k s t ++ s ∷ back_of k s t) n) room in
-    ap (λ (x : Starts). set c.self.inside.starts.items k x) now
-    ∙ (ap (λ (xs : List Starts). set xs k (entry (front_of k s t ++ s ∷ back_of k s t) (length t)))
-    i
-    ∙ sym (index-added k s t below_ten there empty))
+    let ten : k < 10 = omega arith in
+    let now = set_now pages sets k c.index_mut.result.now c.self.invariant ten
+    c.index_mut.ensures.value in
+    let below = block_below t s k c.requires.aligned
+    (omega (arith, ap length v, c.requires.fits)) in
+    let number : s / c.size_of.result < room_of k (length t) =
+    subst (λ (m : ℕ). s / m < room_of k (length t)) (sym c.size_of.ensures.size) below in
+    omega (arith, number, ap length now, length-set_of_order k t)
+
+-- the sets with the block
+after : (c : After-insert)
+    → StandFor c.self.inside.pages
+    (set c.self.inside.blocks.items c.args.order c.insert.new.self)
+    (set (table_of c.self.inside.pages c.self.inside.blocks.items) c.args.start
+    (Some c.args.order))
+after c =
+    let pages = c.self.inside.pages in
+    let sets = c.self.inside.blocks.items in
+    let t = table_of pages sets in
+    let v : t ≡ c.args.self.now = c.self.view_is in
+    let empty : order_at t c.args.start ≡ None =
+    ap (λ (u : List (Option ℕ)). order_at u c.args.start) v ∙ c.requires.empty in
+    added pages sets c.self.invariant c.args.order c.args.start c.index_mut.result.now
+    c.insert.new.self (omega arith) c.requires.aligned (omega (arith, ap length v, c.requires.fits))
+    empty c.index_mut.ensures.value
+    (c.insert.ensures.set
+    ∙ ap (λ (n : ℕ). set c.index_mut.result.now (c.args.start / n) true) c.size_of.ensures.size)
+
+pub invariant_of-self : goal.invariant_of-self
+invariant_of-self c = (after (goal.at.invariant_of-self c).After-insert).kept
+
+pub returns : goal.returns
+returns c =
+    (after (goal.at.returns c).After-insert).table
+    ∙ ap (λ (u : List (Option ℕ)). set u c.args.start (Some c.args.order)) c.self.view_is

@@ -1,10 +1,10 @@
-use Rattle.std.proofs.Common.{◌≡◌, ◌<◌, ℕ, get_or, []}
-use Rattle.vb_pages.specs.Starts.{Starts}
+use Rattle.std.proofs.Common.{◌≡◌, ◌<◌, ℕ, List, Bool, false, length, replicate, get_or}
 use Rattle.vb_pages.proofs.table.Table.clear.Given as goal
 
--- the lists that were gone over are empty, and each keeps its room
-abbrev pub invariant-loop-list : goal.invariant-loop-list
-invariant-loop-list l =
-    ((k : ℕ) (d : Starts) → k < l.list-index → (get_or l.list-items k d).items ≡ [])
-    × ((k : ℕ) (d : Starts)
-    → (get_or l.list-items k d).room ≡ (get_or l.initial.list-items k d).room)
+-- the sets that were gone over have no member, and each keeps its bound
+abbrev pub invariant-loop-set : goal.invariant-loop-set
+invariant-loop-set l =
+    ((k : ℕ) (d : List Bool) → k < l.set-index
+    → get_or l.set-items k d ≡ replicate (length (get_or l.set-items k d)) false)
+    × ((k : ℕ) (d : List Bool) → length (get_or l.set-items k d)
+    ≡ length (get_or l.initial.set-items k d))

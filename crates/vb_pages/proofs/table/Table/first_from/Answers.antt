@@ -1,34 +1,52 @@
-use Rattle.std.proofs.Common.{◌≡◌, ◌<◌, ℕ, List, Option, length, sym, ◌∙◌, ap, subst, arith, ◌++◌}
-use Rattle.std.proofs.Common.{slice_get}
-use Rattle.vb_pages.specs.Starts.{Starts}
-use Rattle.vb_pages.specs.Table.{index_of, IsLowestStart}
-use Rattle.vb_pages.proofs.TableLemmas.{list_now, length-index_of, lowest_after, starts-split}
-use Rattle.vb_pages.proofs.TableLemmas.{before_of, after_of, before_below, after_above}
+use Rattle.std.proofs.Common.{◌≡◌, ◌/◌, ◌%◌, ◌+◌, ◌*◌, ◌^◌, Some, List, Bool, ℕ, min, subst, sym, ◌∙◌}
+use Rattle.std.proofs.Common.{ap, arith}
+use Rattle.vb_bits.specs.Sets.{HasNoneFrom, IsLeastFrom}
+use Rattle.vb_pages.specs.Table.{IsLowestStart}
+use Rattle.vb_pages.proofs.TableLemmas.{is_there, lowest_none, lowest_some}
 use Rattle.vb_pages.proofs.table.Table.first_from.Goals as goal
+use Rattle.vb_pages.proofs.table.Table.first_from.Goals.{After-first_from}
 
-pub index-requires : goal.index-requires
-index-requires c =
-    let i : c.self.inside.starts.items ≡ index_of c.self.inside.orders.items = c.self.invariant in
+-- the first number of a block that starts at the page or after it
+up : (c : After-first_from)
+    → c.div_ceil.result ≡ c.args.from / 2 ^ c.args.order + min 1 (c.args.from % 2 ^ c.args.order)
+up c =
+    c.div_ceil.ensures
+    ∙ ap (λ (m : ℕ). c.args.from / m + min 1 (c.args.from % m)) c.size_of-size.ensures.size
+
+-- the start of a block that was found
+found : (c : After-first_from) (b : ℕ) → IsLeastFrom c.of_order-blocks.result.now c.div_ceil.result b
+    → IsLowestStart c.args.self.now c.args.order c.args.from (Some (b * c.size_of-size.result))
+found c b least =
+    let t = c.args.self.now in
+    let k = c.args.order in
+    let from = c.args.from in
+    subst (λ (m : ℕ). IsLowestStart t k from (Some (b * m))) (sym c.size_of-size.ensures.size)
+    (lowest_some t k from b c.of_order-blocks.ensures.blocks
+    (subst (λ (xs : List Bool). IsLeastFrom xs (from / 2 ^ k + min 1 (from % 2 ^ k)) b)
+    c.of_order-blocks.ensures.set
+    (subst (λ (n : ℕ). IsLeastFrom c.of_order-blocks.result.now n b) (up c) least)))
+
+pub overflow_mul-result : goal.overflow_mul-result
+overflow_mul-result c =
+    let t = c.args.self.now in
+    let low = found (goal.at.overflow_mul-result c).After-first_from c.in-Some.block
+    c.in-Some.ensures in
     omega (
       arith,
-      ap length i,
-      length-index_of c.self.inside.orders.items,
-      c.self.inside.starts.ok.0,
+      is_there t (c.in-Some.block * c.size_of-size.result) c.args.order low.0,
+      c.of_order-blocks.ensures.small,
     )
 
-pub returns : goal.returns
-returns c =
-    let t = c.self.inside.orders.items in
+pub returns-in-Some : goal.returns-in-Some
+returns-in-Some c =
+    found (goal.at.returns-in-Some c).After-first_from c.in-Some.block c.in-Some.ensures
+
+pub returns-in-None : goal.returns-in-None
+returns-in-None c =
     let k = c.args.order in
-    let v : t ≡ c.args.self.now = c.self.view_is in
-    let below_ten : k < 10 = omega arith in
-    let e = list_now c.self.inside.starts.items t k c.index.result.now c.self.invariant below_ten
-    c.index.ensures in
-    let n = c.args.from in
-    let split : c.index.result.now.items ≡ before_of k n t ++ after_of k n t =
-    ap (λ (x : Starts). x.items) e ∙ starts-split k n t in
-    let r : c.first_from.result ≡ slice_get (after_of k n t) 0 =
-    c.first_from.ensures (before_of k n t) (after_of k n t) split (before_below k n t)
-    (after_above k n t) in
-    subst (λ (u : List (Option ℕ)). IsLowestStart u k n c.first_from.result) v
-    (subst (λ (o : Option ℕ). IsLowestStart t k n o) (sym r) (lowest_after k n t))
+    let from = c.args.from in
+    lowest_none c.args.self.now k from c.of_order-blocks.ensures.blocks
+    (subst (λ (xs : List Bool). HasNoneFrom xs (from / 2 ^ k + min 1 (from % 2 ^ k)))
+    c.of_order-blocks.ensures.set
+    (subst (λ (n : ℕ). HasNoneFrom c.of_order-blocks.result.now n)
+    (up (goal.at.returns-in-None c).After-first_from) c.in-None.ensures))

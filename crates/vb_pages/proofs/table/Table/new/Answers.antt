@@ -1,31 +1,53 @@
-use Rattle.std.proofs.Common.{◌≡◌, None, List, ℕ, [], ◌∷◌, ◌++◌, length, get_or, map, replicate}
-use Rattle.std.proofs.Common.{arith, sym, ◌∙◌, ap, rules}
+use Rattle.std.proofs.Common.{◌≡◌, ◌+◌, ◌/◌, ℕ, None, List, Bool, false, [], ◌∷◌, ◌++◌, length}
+use Rattle.std.proofs.Common.{get_or, map, max, replicate, arith, sym, ◌∙◌, ap}
 use Rattle.std.specs.List.{range_with_len}
 use Rattle.std.proofs.lemmas.List.FromFn.{map-range_with_len_more, length-map-range_with_len}
 use Rattle.std.proofs.lemmas.List.FromFn.{get_or-map-range_with_len}
-use Rattle.vb_pages.specs.Starts.{Starts}
-use Rattle.vb_pages.specs.Table.{index_of}
-use Rattle.vb_pages.proofs.TableLemmas.{index-none, entry}
+use Rattle.vb_pages.specs.Table.{room_of}
+use Rattle.vb_pages.proofs.TableLemmas.{StandFor, none}
 use Rattle.vb_pages.proofs.table.Table.new.Goals as goal
+use Rattle.vb_pages.proofs.table.Table.new.Goals.{After-loop-order}
+
+-- a set without a member
+abbrev bare : ℕ → ℕ → List Bool
+bare pages k = replicate (room_of k pages) false
+
+-- one set more
+pushed : (pages k room : ℕ) (old new : List (List Bool)) (row : List Bool)
+    → new ≡ old ++ row ∷ [] → row ≡ replicate room false → room ≡ room_of k pages
+    → old ≡ map (bare pages) (range_with_len 0 k)
+    → new ≡ map (bare pages) (range_with_len 0 (k + 1))
+pushed pages k room old new row e set same before =
+    e
+    ∙ ap (λ (x : List Bool). old ++ x ∷ []) (set ∙ ap (λ (n : ℕ). replicate n false) same)
+    ∙ ap (λ (xs : List (List Bool)). xs ++ bare pages k ∷ []) before
+    ∙ sym (map-range_with_len_more (bare pages) 0 k k (omega arith))
 
 pub loop-order-preserved : goal.loop-order-preserved
 loop-order-preserved c =
+    let room : c.max-room.result ≡ room_of c.loop-order.order c.args.pages =
+    c.max-room.ensures
+    ∙ ap (λ (m : ℕ). max (c.args.pages / m) 1) c.size_of.ensures.size
+    ∙ omega arith in
+    pushed c.args.pages c.loop-order.order c.max-room.result c.loop-order.blocks.items
+    c.push.new.self.items c.in_ok-new.field-0 c.in_ok-push.ensures.items c.in_ok-new.ensures room
+    c.loop-order.invariant
+
+-- all sets are there
+all : (c : After-loop-order) → c.loop-order.order ≡ 10
+    → StandFor c.args.pages c.loop-order.blocks.items (replicate c.args.pages None)
+all c ten =
     let n = c.args.pages in
-    c.in_ok-push.ensures.items
-    ∙ (ap (λ (x : Starts). c.loop-order.starts.items ++ x ∷ []) c.in_ok-new.ensures
-    ∙ (ap (λ (xs : List Starts). xs ++ entry [] n ∷ []) c.loop-order.invariant
-    ∙ sym (map-range_with_len_more (λ k. entry [] n) 0 c.loop-order._order c.loop-order._order
-    (omega arith))))
+    let e : c.loop-order.blocks.items ≡ map (bare n) (range_with_len 0 10) =
+    c.loop-order.invariant ∙ ap (λ (m : ℕ). map (bare n) (range_with_len 0 m)) ten in
+    none n c.loop-order.blocks.items c.requires
+    (ap length e ∙ length-map-range_with_len (bare n) 0 10)
+    (λ k d l. ap (λ (xs : List (List Bool)). get_or xs k d) e
+    ∙ get_or-map-range_with_len (bare n) 0 10 k k d l (omega arith))
 
 pub invariant_of-result : goal.invariant_of-result
 invariant_of-result c =
-    let n = c.args.pages in
-    let orders : c.in_ok-orders.orders.items ≡ replicate c.args.pages None = search rules in
-    let ten : c.loop-order._order ≡ 10 = omega arith in
-    let e : c.loop-order.starts.items ≡ map (λ k. entry [] n) (range_with_len 0 10) =
-    c.loop-order.invariant ∙ ap (λ (m : ℕ). map (λ k. entry [] n) (range_with_len 0 m)) ten in
-    index-none n c.loop-order.starts.items
-    (ap length e ∙ length-map-range_with_len (λ k. entry [] n) 0 10)
-    (λ k d lt. ap (λ (xs : List Starts). get_or xs k d) e
-    ∙ get_or-map-range_with_len (λ k. entry [] n) 0 10 k k d lt (omega arith))
-    ∙ ap index_of (sym orders)
+    (all (goal.at.invariant_of-result c).After-loop-order (omega arith)).kept
+
+pub returns : goal.returns
+returns c = (all (goal.at.returns c).After-loop-order (omega arith)).table

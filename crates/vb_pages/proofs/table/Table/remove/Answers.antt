@@ -1,86 +1,59 @@
-use Rattle.std.proofs.Common.{◌≡◌, ◌<◌, Some, Option, List, ℕ, ◌∷◌, ◌++◌, length, arith, sym, ◌∙◌}
-use Rattle.std.proofs.Common.{ap, set}
-use Rattle.vb_pages.specs.Starts.{Starts, AllFrom}
-use Rattle.vb_pages.specs.Table.{order_at, index_of}
-use Rattle.vb_pages.proofs.TableLemmas.{list_now, length-index_of, index-removed, starts-with}
-use Rattle.vb_pages.proofs.TableLemmas.{is_there, front_of, back_of, front_below, back_above, entry}
+use Rattle.std.proofs.Common.{◌≡◌, ◌/◌, ◌<◌, None, Some, Option, List, ℕ, length, set, false}
+use Rattle.std.proofs.Common.{sym, ◌∙◌, ap, subst, arith}
+use Rattle.vb_pages.specs.Table.{order_at, room_of, table_of}
+use Rattle.vb_pages.proofs.TableLemmas.{StandFor, removed, ten_sets, set_now, block_below}
+use Rattle.vb_pages.proofs.TableLemmas.{length-set_of_order}
 use Rattle.vb_pages.proofs.table.Table.remove.Goals as goal
-use Rattle.vb_pages.proofs.table.Table.remove.Goals.{After-index_mut-2}
+use Rattle.vb_pages.proofs.table.Table.remove.Goals.{After-remove}
 
 pub index_mut-requires : goal.index_mut-requires
 index_mut-requires c =
-    let v : c.self.inside.orders.items ≡ c.args.self.now = c.self.view_is in
-    let there : order_at c.self.inside.orders.items c.args.start ≡ Some c.args.order =
-    rw v c.requires.there in
     omega (
       arith,
-      is_there c.self.inside.orders.items c.args.start c.args.order there,
-      c.self.inside.orders.ok.0,
+      ten_sets c.self.inside.pages c.self.inside.blocks.items c.self.invariant,
+      c.self.inside.blocks.ok.0,
     )
-
-pub index_mut-requires-2 : goal.index_mut-requires-2
-index_mut-requires-2 c =
-    let i : c.self.inside.starts.items ≡ index_of c.self.inside.orders.items = c.self.invariant in
-    omega (
-      arith,
-      ap length i,
-      length-index_of c.self.inside.orders.items,
-      c.self.inside.starts.ok.0,
-    )
-
--- the list of the order, before
-list_is : (c : After-index_mut-2)
-    → c.index_mut-2.result.now
-    ≡ entry (front_of c.args.order c.args.start c.self.inside.orders.items ++ c.args.start
-    ∷ back_of c.args.order c.args.start c.self.inside.orders.items)
-    (length c.self.inside.orders.items)
-list_is c =
-    let t = c.self.inside.orders.items in
-    let v : t ≡ c.args.self.now = c.self.view_is in
-    let there : order_at t c.args.start ≡ Some c.args.order = rw v c.requires.there in
-    let k : c.args.order < 10 = omega arith in
-    list_now c.self.inside.starts.items t c.args.order c.index_mut-2.result.now c.self.invariant k
-    c.index_mut-2.ensures.value
-    ∙ ap (λ (xs : List ℕ). entry xs (length t))
-    (starts-with c.args.order c.args.start t (is_there t c.args.start c.args.order there) there)
-
-above : (k s : ℕ) (t : List (Option ℕ)) → AllFrom s (back_of k s t)
-above k s t = λ j l. omega (arith, back_above k s t j l)
 
 pub remove-requires : goal.remove-requires
 remove-requires c =
-    let e = list_is c in
-    let t = c.self.inside.orders.items in
+    let pages = c.self.inside.pages in
+    let sets = c.self.inside.blocks.items in
     let k = c.args.order in
     let s = c.args.start in
+    let t = table_of pages sets in
     let v : t ≡ c.args.self.now = c.self.view_is in
-    let there : order_at t s ≡ Some k = rw v c.requires.there in
-    let l : s < length t = is_there t s k there in (
-      front_of k s t,
-      back_of k s t,
-      ap (λ (x : Starts). x.items) e,
-      front_below k s t (omega arith),
-      above k s t,
-    )
+    let listed : order_at t s ≡ Some k =
+    ap (λ (u : List (Option ℕ)). order_at u s) v ∙ c.requires.there in
+    let ten : k < 10 = omega arith in
+    let now = set_now pages sets k c.index_mut.result.now c.self.invariant ten
+    c.index_mut.ensures.value in
+    let below = block_below t s k (c.self.invariant.blocks.aligned s k listed)
+    (c.self.invariant.blocks.fits s k listed) in
+    let number : s / c.size_of.result < room_of k (length t) =
+    subst (λ (m : ℕ). s / m < room_of k (length t)) (sym c.size_of.ensures.size) below in
+    omega (arith, number, ap length now, length-set_of_order k t)
+
+-- the sets without the block
+after : (c : After-remove)
+    → StandFor c.self.inside.pages
+    (set c.self.inside.blocks.items c.args.order c.remove.new.self)
+    (set (table_of c.self.inside.pages c.self.inside.blocks.items) c.args.start None)
+after c =
+    let pages = c.self.inside.pages in
+    let sets = c.self.inside.blocks.items in
+    let t = table_of pages sets in
+    let v : t ≡ c.args.self.now = c.self.view_is in
+    let listed : order_at t c.args.start ≡ Some c.args.order =
+    ap (λ (u : List (Option ℕ)). order_at u c.args.start) v ∙ c.requires.there in
+    removed pages sets c.self.invariant c.args.order c.args.start c.index_mut.result.now
+    c.remove.new.self listed c.index_mut.ensures.value
+    (c.remove.ensures.set
+    ∙ ap (λ (n : ℕ). set c.index_mut.result.now (c.args.start / n) false) c.size_of.ensures.size)
 
 pub invariant_of-self : goal.invariant_of-self
-invariant_of-self c =
-    let t = c.self.inside.orders.items in
-    let k = c.args.order in
-    let s = c.args.start in
-    let i : c.self.inside.starts.items ≡ index_of t = c.self.invariant in
-    let v : t ≡ c.args.self.now = c.self.view_is in
-    let there : order_at t s ≡ Some k = rw v c.requires.there in
-    let l : s < length t = is_there t s k there in
-    let below_ten : k < 10 = omega arith in
-    let e = list_is (goal.at-invariant_of-self c).After-index_mut-2 in
-    let put : c.remove.new.self
-    ≡ entry (front_of k s t ++ back_of k s t) c.index_mut-2.result.now.room =
-    c.remove.ensures (front_of k s t) (back_of k s t) (ap (λ (x : Starts). x.items) e)
-    (front_below k s t (omega arith)) (above k s t) in
-    let room : c.index_mut-2.result.now.room ≡ length t = ap (λ (x : Starts). x.room) e in
-    let now : c.remove.new.self ≡ entry (front_of k s t ++ back_of k s t) (length t) =
-    put ∙ ap (λ (n : ℕ). entry (front_of k s t ++ back_of k s t) n) room in
-    ap (λ (x : Starts). set c.self.inside.starts.items k x) now
-    ∙ (ap (λ (xs : List Starts). set xs k (entry (front_of k s t ++ back_of k s t) (length t))) i
-    ∙ sym (index-removed k s t below_ten l there))
+invariant_of-self c = (after (goal.at.invariant_of-self c).After-remove).kept
+
+pub returns : goal.returns
+returns c =
+    (after (goal.at.returns c).After-remove).table
+    ∙ ap (λ (u : List (Option ℕ)). set u c.args.start None) c.self.view_is

@@ -3,16 +3,19 @@ use Rattle.vb_slot.proofs.Standing.{steps_asked}
 use Rattle.vb_world.proofs.Calls.{guest_step, guest_frames, guest_of, no_guest_step}
 use Rattle.vb_world.proofs.world.World.call.Goals as goal
 
-pub call-requires-clause-stands : goal.call-requires-clause-stands
-call-requires-clause-stands g c =
+pub call-requires : goal.call-requires
+call-requires g c =
     let (w, host) = c.requires.world in
     let is = sym c.in-Some.ensures.value in
-    let has = guest_of _ _ _ _ _ w c.args.guest c.in-Some.slot.now host is in (
-      false,
-      has.guest,
-      has.stands,
-      λ e. guest_frames _ _ _ _ _ w c.args.guest c.in-Some.slot.now host is has,
-    )
+    let has = guest_of _ _ _ _ _ w c.args.guest c.in-Some.slot.now host is in
+    record {
+      stands = (
+        false,
+        has.guest,
+        has.stands,
+        λ e. guest_frames _ _ _ _ _ w c.args.guest c.in-Some.slot.now host is has,
+      );
+    }
 
 pub returns-in-Some : goal.returns-in-Some
 returns-in-Some g c =

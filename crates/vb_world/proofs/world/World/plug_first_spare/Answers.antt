@@ -31,7 +31,8 @@ returns-in-Ok g c = λ w host.
     rw c.guest_number.ensures
     (plugged _ _ _ _ _ w c.insert_reserved-key.result c.in-Ok.slot
     c.insert_reserved-key.new.self c.remove-device.result c.remove-device.new.self.items
-    c.args.config.pages c.args.config.queue_size c.args.config.processors host first new.key
+    c.args.config.pages c.args.config.queue_size c.args.config.processors host first
+    c.requires.few new.key
     new.was_vacant new.updates new.len new.capacity _ (λ p spare. spare.1) (stands_keeping _ _ _ _ _ _ spare.keeps c.in-Ok.ensures.made))
 
 pub returns-in-Err : goal.returns-in-Err

@@ -7,7 +7,6 @@ use Rattle.vb_world.proofs.world.World.run.Goals as goal
 pub loop-event-init : goal.loop-event-init
 loop-event-init g c = record {
   ran = λ w holds. rw c.in_ok-replies.ensures.items (ran_none w holds);
-  brought = c.requires.brought;
   room = omega (arith, c.in_ok-replies.ensures.capacity);
   count = c.in_ok-replies.ensures.len;
 }
@@ -23,14 +22,15 @@ loop-event-preserved g c = record {
       (ran_on w (take c.loop-event.event-index c.args.events.now) c.loop-event.replies.items
       c.event-item.result c.step-reply.result (c.loop-event.invariant.ran w holds)
       c.step-reply.ensures);
-  brought = c.requires.brought;
   room = search rules;
   count = search rules;
 }
 
-pub step-reply-requires-clause-world : goal.step-reply-requires-clause-world
-step-reply-requires-clause-world g c = let (frames, spares, host) = c.requires.made in
-    let ran = c.loop-event.invariant.ran (made frames spares) host in (_, ran.holds)
+pub step-reply-requires : goal.step-reply-requires
+step-reply-requires g c =
+    let (frames, spares, host) = c.requires.made in
+    let ran = c.loop-event.invariant.ran (made frames spares) host in
+    record { world = (_, ran.holds) }
 
 pub returns-clause-run : goal.returns-clause-run
 returns-clause-run g c = λ frames spares host.

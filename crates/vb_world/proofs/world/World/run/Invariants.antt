@@ -1,7 +1,6 @@
 use Rattle.std.proofs.Common.{◌≡◌, ◌≤◌, length, take, vec_len}
-use Rattle.std.specs.Prelude.{vec_capacity, All, IsTrue}
+use Rattle.std.specs.Prelude.{vec_capacity}
 use Rattle.vb_model.specs.World.{World}
-use Rattle.vb_model.specs.Brought.{is_brought}
 use Rattle.vb_world.specs.Hosts.{IsWorld}
 use Rattle.vb_world.proofs.Runs.{Ran}
 use Rattle.vb_world.proofs.world.World.run.Given as goal
@@ -15,7 +14,6 @@ invariant-loop-event g l =
           → Ran (IsWorld (λ b. (goal.Device-dyn g (b.vtable, b.value)).GuestBytes.mem b.value)
           (λ b. (goal.Device-dyn g (b.vtable, b.value)).GuestBytes.part b.value) l.self) w
           (take l.event-index l.events) l.replies.items;
-      brought : All (λ event. IsTrue (is_brought event)) l.events;
       room : length l.events ≤ vec_capacity l.replies;
       count : vec_len l.replies ≡ l.event-index;
     }

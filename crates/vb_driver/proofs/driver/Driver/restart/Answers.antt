@@ -1,0 +1,20 @@
+use Rattle.std.proofs.Common.{◌≡◌, ◌∙◌, sym, ap, subst, ℕ}
+use Rattle.vb_driver.specs.State.{DriverState, IsDriver, fresh_driver}
+use Rattle.vb_driver.specs.contracts.driver.Driver.{the_view}
+use Rattle.vb_driver.proofs.Moving.{fresh_kept}
+use Rattle.vb_driver.proofs.Restarting.{restarted}
+use Rattle.vb_driver.proofs.driver.Driver.restart.Goals as goal
+
+pub invariant_of-self : goal.invariant_of-self
+invariant_of-self g c =
+    let d = c.reset.ensures.driver in
+    subst IsDriver
+    (sym (restarted c.args.self.now (the_view c.self.inside) c.renew.new.self c.renew-2.new.self
+    c.self.invariant (c.self.view_is ∙ c.reset.ensures.state) c.renew.ensures c.renew-2.ensures))
+    (fresh_kept c.args.self.now.pages c.args.self.now.queue_size c.args.self.now.processors 0
+    d.least d.most d.size)
+
+pub returns-clause-driver : goal.returns-clause-driver
+returns-clause-driver g c =
+    restarted c.args.self.now (the_view c.self.inside) c.renew.new.self c.renew-2.new.self
+    c.self.invariant (c.self.view_is ∙ c.reset.ensures.state) c.renew.ensures c.renew-2.ensures

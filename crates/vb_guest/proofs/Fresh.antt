@@ -1,0 +1,119 @@
+-- A guest as it is plugged in, or as a new life begins.
+use Rattle.std.specs.Prelude.{◌≡◌, ℕ, nat_lt, Bool, true, false, if◌then◌else◌, List, [], length}
+use Rattle.std.specs.Prelude.{None, zero, suc, count_by, replicate, slice_index_or, refl}
+use Rattle.std.specs.List.{range_with_len}
+use Rattle.std.proofs.Common.{sym, ◌∙◌, ap, arith, inl, inr}
+use Rattle.std.proofs.lemmas.Bool.{cases_lt}
+use Rattle.std.proofs.lemmas.List.{length-replicate, length-map, get_or-replicate, get_or_past}
+use Rattle.std.proofs.lemmas.List.FromFn.{length-range_with_len, get_or-map-range_with_len}
+use Rattle.vb_model.specs.declared.places.Place.TheVariants.{Reserved, Free}
+use Rattle.vb_model.specs.Limits.{is_config, reserved_pages}
+use Rattle.vb_model.specs.Requests.{no_requests}
+use Rattle.vb_model.specs.Guest.{Config, fresh, no_statistics, zero_page}
+use Rattle.vb_model.specs.Orderly.{IsOrderly, AreOrderly, is_reserved}
+use Rattle.vb_model.proofs.GuestSteps.{fresh_consistent}
+use Rattle.vb_model.proofs.Tables.{count_by-cons}
+use Rattle.vb_ram.specs.Pages.{number_of, contents_of}
+use Rattle.vb_ram.proofs.Contents.{length-zero_page}
+use Rattle.vb_ram.specs.Part.{Part}
+use Rattle.vb_driver.specs.State.{fresh_driver}
+use Rattle.vb_guest.specs.Stands.{Honest, DeviceKeeps, HasPages}
+use Rattle.vb_guest.specs.Steps.{is_frame}
+
+-- a list of one element has it everywhere
+pub everywhere : {A : Type 0} (n : ℕ) (x : A) (p : ℕ) → slice_index_or (replicate n x) p x ≡ x
+everywhere {A} n x p = elim (cases_lt p n) [
+  | inl lt ↦ get_or-replicate n p x x lt
+  | inr past ↦ get_or_past (replicate n x) p x (omega (arith, length-replicate n x))
+]
+
+none_out : (most : ℕ) → AreOrderly most no_requests
+none_out most = record
+    { heads = λ head. omega arith; few = omega arith; posted = tt; taken = tt; done = tt }
+
+fresh_orderly : (config : Config) (target : ℕ) → IsOrderly (fresh config target)
+fresh_orderly config target = record {
+  inflating = none_out _;
+  deflating = none_out _;
+  reporting = none_out 1;
+  state = inl refl;
+  tabled = length-map (range_with_len 0 config.pages)
+      (λ page. if nat_lt page reserved_pages then Reserved else Free)
+      ∙ length-range_with_len 0 config.pages;
+  unreserved = λ page lt.
+      ap is_reserved (get_or-map-range_with_len
+      (λ page. if nat_lt page reserved_pages then Reserved else Free) 0 config.pages page page
+      Reserved lt (omega arith)) ∙ is (nat_lt page reserved_pages);
+}
+  where
+    is : (b : Bool) → is_reserved (if b then Reserved else Free) ≡ b
+    is true = refl
+    is false = refl
+
+-- no page has a frame, and each holds zeros
+bare_pages : (n : ℕ) → HasPages (replicate n None) n (replicate n None) (replicate n zero_page)
+bare_pages n = record {
+  length_is = length-replicate n None;
+  framed = length-replicate n None;
+  filled = length-replicate n zero_page;
+  behind = λ p. ap number_of (everywhere n None p) ∙ sym (everywhere n None p);
+  holds = λ p high lt. ap contents_of (everywhere n None p)
+      ∙ sym (get_or-replicate n p zero_page [] lt);
+  sizes = λ p high lt. ap (λ (xs : List ℕ). length xs) (get_or-replicate n p zero_page [] lt)
+      ∙ length-zero_page;
+}
+
+-- no page has the frame
+pub backs_none : (f n : ℕ) → count_by (is_frame f) (replicate n None) ≡ 0
+backs_none f zero = refl
+backs_none f (suc n) =
+    omega (arith, count_by-cons (is_frame f) None (replicate n None), backs_none f n)
+
+-- a fresh driver, and a device of which nothing was asked yet
+pub fresh_honest : (c : Config) (wanted : ℕ) (part : Part)
+    → is_config c.pages c.queue_size c.processors ≡ true
+    → DeviceKeeps part c 0 0 wanted 0 (replicate c.pages false) no_statistics
+    → Honest (replicate c.pages None) part (fresh_driver c.pages c.queue_size c.processors)
+    (fresh c wanted)
+fresh_honest c wanted part fits device = record {
+  ties = record {
+    parts = record {
+      guest = record {
+        honest = refl;
+        config = fits;
+      };
+      driver = record {
+        pages = refl;
+        queue_size = refl;
+        processors = refl;
+        places = refl;
+        held = refl;
+        accepted = refl;
+      };
+      device = record {
+        size = device.size;
+        paced = device.paced;
+        status = device.status;
+        features = device.features;
+        target = device.target;
+        actual = device.actual;
+        ballooned = device.ballooned;
+        last = device.last;
+        loose = device.loose;
+      };
+    };
+    pages = bare_pages c.pages;
+    queues = inl (record {
+      state = inl refl;
+      inflate = refl;
+      deflate = refl;
+      report = refl;
+      buffer = refl;
+      ballooned = refl;
+      actual = refl;
+      last = refl;
+    });
+  };
+  consistent = fresh_consistent c wanted;
+  orderly = fresh_orderly c wanted;
+}

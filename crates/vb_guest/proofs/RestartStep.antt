@@ -1,0 +1,208 @@
+-- A guest's life ends, and a new one begins: all its frames go back.
+use Rattle.std.specs.Prelude.{◌≡◌, ℕ, ◌+◌, ◌<◌, ◌==◌, Bool, true, false, List, [], ◌∷◌, length}
+use Rattle.std.specs.Prelude.{suc, Option, None, count_by, replicate, slice_index_or, refl}
+use Rattle.std.specs.Option.{option_to_list}
+use Rattle.std.specs.List.{flat_map, range_with_len}
+use Rattle.std.proofs.Common.{sym, ◌∙◌, ap, subst, arith}
+use Rattle.std.proofs.lemmas.List.{length-replicate}
+use Rattle.vb_model.specs.Tests.{one_if}
+use Rattle.vb_model.specs.Limits.{is_config}
+use Rattle.vb_model.specs.Guest.{Guest, no_statistics}
+use Rattle.vb_model.specs.Life.{after_restart}
+use Rattle.vb_model.specs.Orderly.{times}
+use Rattle.vb_model.proofs.Tables.{count_by-cons, count_by-append}
+use Rattle.vb_ram.specs.Pages.{Pages, frame_at, number_of}
+use Rattle.vb_ram.specs.Part.{Part}
+use Rattle.vb_status.specs.After.{part_after_reset}
+use Rattle.vb_driver.specs.State.{DriverState, fresh_driver}
+use Rattle.vb_device.specs.Discards.{frames_behind}
+use Rattle.vb_device.specs.Own.{has}
+use Rattle.vb_guest.specs.Stands.{Honest, DeviceKeeps, Stands}
+use Rattle.vb_guest.specs.Steps.{is_frame, backing_count, AreOut, AllReturn, IsBare, Restarts}
+use Rattle.vb_guest.specs.Supply.{Supply, supply_of, Moves, nothing, AreLoose}
+use Rattle.vb_guest.proofs.Discarding.{one_frame}
+use Rattle.vb_guest.proofs.Fresh.{everywhere, backs_none, fresh_honest}
+use Rattle.vb_guest.proofs.Moving.{used_own, used_out, by_keeps, moves_as}
+use Rattle.vb_guest.proofs.Standing.{by_guest, stands_of, own_moved}
+use Rattle.vb_guest.proofs.Writing.{HasFrames, frames_of}
+
+-- ---- the frames behind all pages
+
+-- each frame as often as it is in the table
+all_behind : (n first : ℕ) (mem : Pages) (frames : List (Option ℕ))
+    → ((i : ℕ) → i < length frames → frame_at mem (first + i) ≡ slice_index_or frames i None)
+    → times n (frames_behind mem (range_with_len first (length frames)))
+    ≡ count_by (is_frame n) frames
+all_behind n first mem [] same = refl
+all_behind n first mem (x ∷ xs) same =
+    let here : frame_at mem first ≡ x =
+    ap (frame_at mem) (omega arith) ∙ same 0 (omega arith) in
+    let rest = all_behind n (first + 1) mem xs (λ i lt.
+    ap (frame_at mem) (omega arith) ∙ same (suc i) (omega (arith, lt))) in
+    let others = frames_behind mem (range_with_len (first + 1) (length xs)) in
+    omega (
+      arith,
+      rest,
+      count_by-append (λ (m : ℕ). m == n) (option_to_list (frame_at mem first)) others,
+      ap (λ (o : Option ℕ). times n (option_to_list o)) here,
+      one_frame n x,
+      count_by-cons (is_frame n) x xs,
+    )
+
+-- ---- what is needed of the guest
+
+-- how large it is, its target and its pace, and the frames behind its pages
+record Rooted (mem : Pages) (part : Part) (d : DriverState) (g : Guest) : Type 0 where
+  config : is_config g.config.pages g.config.queue_size g.config.processors ≡ true
+  pages : d.pages ≡ g.config.pages
+  queue_size : d.queue_size ≡ g.config.queue_size
+  processors : d.processors ≡ g.config.processors
+  size : part.queue_size ≡ g.config.queue_size
+  paced : part.paced ≡ g.config.paced
+  target : part.target ≡ g.target
+  flagged : length part.ballooned ≡ g.config.pages
+  frames : HasFrames mem g.config.pages g.frames
+
+rooted : (keeps : Bool) (mem : Pages) (part : Part) (d : DriverState) (g : Guest)
+    → Stands keeps mem part d g → Rooted mem part d g
+rooted keeps mem part d g stands = by_guest keeps mem part d g stands
+    (λ honest. let parts = honest.ties.parts in
+    record {
+      config = parts.guest.config;
+      pages = parts.driver.pages;
+      queue_size = parts.driver.queue_size;
+      processors = parts.driver.processors;
+      size = parts.device.size;
+      paced = parts.device.paced;
+      target = parts.device.target;
+      flagged = ap (λ (l : List Bool). length l) parts.device.ballooned
+          ∙ honest.consistent.flagged;
+      frames = frames_of mem g.config.pages g.frames g.contents honest.ties.pages;
+    })
+    (λ rogue. record {
+      config = rogue.config;
+      pages = rogue.pages;
+      queue_size = rogue.queue_size;
+      processors = rogue.processors;
+      size = rogue.size;
+      paced = rogue.paced;
+      target = rogue.target;
+      flagged = ap (λ (l : List Bool). length l) rogue.ballooned ∙ rogue.flagged;
+      frames = record
+          { length_is = rogue.length_is; framed = rogue.framed; behind = rogue.behind };
+    })
+
+-- all frames of the guest
+abbrev pub all_frames : Pages → List ℕ
+all_frames mem = frames_behind mem (range_with_len 0 (length mem))
+
+frames_of_guest : (mem : Pages) (g : Guest) → HasFrames mem g.config.pages g.frames
+    → (n : ℕ) → times n (all_frames mem) ≡ backing_count n g
+frames_of_guest mem g pages n =
+    let size : length mem ≡ length g.frames = pages.length_is ∙ sym pages.framed in
+    ap (λ (k : ℕ). times n (frames_behind mem (range_with_len 0 k))) size
+    ∙ all_behind n 0 mem g.frames (λ i lt. ap (frame_at mem) (omega arith) ∙ pages.behind i)
+
+-- they are out
+pub all_loose : (keeps : Bool) (mem : Pages) (part : Part) (d : DriverState) (g : Guest)
+    (out : List Bool) → Stands keeps mem part d g → (keeps ≡ false → AreOut g out)
+    → AreLoose (all_frames mem) (supply_of part out)
+all_loose keeps mem part d g out stands held n =
+    let same = frames_of_guest mem g (rooted keeps mem part d g stands).frames n in
+    by_keeps (supply_of part out)
+    (λ e. (let k = sym stands.own.flag ∙ e in
+    omega (
+      arith,
+      same,
+      stands.own.each k n,
+      ap one_if (used_own (supply_of part out) n e),
+    )))
+    (λ e. (let k = sym stands.own.flag ∙ e in
+    omega (arith, same, held k n, ap one_if (used_out (supply_of part out) n e))))
+
+-- and have gone back
+pub all_returned : (keeps : Bool) (mem : Pages) (part : Part) (d : DriverState) (g : Guest)
+    (s1 s2 : Supply) → Stands keeps mem part d g
+    → Moves s1 s2 nothing (λ n. times n (all_frames mem)) → AllReturn s1 s2 g
+all_returned keeps mem part d g s1 s2 stands moves =
+    moves_as s1 s2 nothing (λ n. times n (all_frames mem)) nothing (λ n. backing_count n g) moves
+    (λ n. omega (arith, frames_of_guest mem g (rooted keeps mem part d g stands).frames n))
+
+-- no page has one
+pub is_bare : (mem : Pages) (part : Part) (n : ℕ) → mem ≡ replicate n None → part.loose ≡ []
+    → IsBare mem part
+is_bare mem part n none loose = record {
+  frames = λ page. ap (λ (m : Pages). frame_at m page) none ∙ ap number_of (everywhere n None page);
+  loose = loose;
+}
+
+-- ---- the new life
+
+-- what the device keeps
+part_restarted : (m1 : Pages) (p1 p2 : Part) (d1 : DriverState) (g : Guest) (own : List ℕ)
+    → Rooted m1 p1 d1 g
+    → p2 ≡ record (part_after_reset (part_after_reset p1)) { loose = []; own = own }
+    → DeviceKeeps p2 g.config 0 0 g.target 0 (replicate g.config.pages false) no_statistics
+part_restarted m1 p1 p2 d1 g own root is = record {
+  size = ap (λ (p : Part). p.queue_size) is ∙ root.size;
+  paced = ap (λ (p : Part). p.paced) is ∙ root.paced;
+  status = ap (λ (p : Part). p.status) is;
+  features = ap (λ (p : Part). p.features) is;
+  target = ap (λ (p : Part). p.target) is ∙ root.target;
+  actual = ap (λ (p : Part). p.actual) is;
+  ballooned = ap (λ (p : Part). p.ballooned) is
+      ∙ ap (λ (n : ℕ). replicate n false)
+      (length-replicate (length p1.ballooned) false ∙ root.flagged);
+  last = ap (λ (p : Part). p.last) is;
+  loose = ap (λ (p : Part). p.loose) is;
+}
+
+driver_restarted : (m1 : Pages) (p1 : Part) (d1 d2 : DriverState) (g : Guest) → Rooted m1 p1 d1 g
+    → d2 ≡ fresh_driver d1.pages d1.queue_size d1.processors
+    → d2 ≡ fresh_driver g.config.pages g.config.queue_size g.config.processors
+driver_restarted m1 p1 d1 d2 g root is =
+    is ∙ (ap (λ (n : ℕ). fresh_driver n d1.queue_size d1.processors) root.pages
+    ∙ (ap (λ (n : ℕ). fresh_driver g.config.pages n d1.processors) root.queue_size
+    ∙ ap (λ (n : ℕ). fresh_driver g.config.pages g.config.queue_size n) root.processors))
+
+honest_restarted : (m1 m2 : Pages) (p1 p2 : Part) (d1 d2 : DriverState) (g : Guest)
+    → Rooted m1 p1 d1 g → m2 ≡ replicate (length m1) None
+    → p2 ≡ record (part_after_reset (part_after_reset p1)) { loose = []; own = p2.own }
+    → d2 ≡ fresh_driver d1.pages d1.queue_size d1.processors → Honest m2 p2 d2 (after_restart g)
+honest_restarted m1 m2 p1 p2 d1 d2 g root m p d =
+    let size : m2 ≡ replicate g.config.pages None =
+    m ∙ ap (λ (n : ℕ). replicate n None) root.frames.length_is in
+    subst (λ (x : Pages). Honest x p2 d2 (after_restart g)) (sym size)
+    (subst (λ (x : DriverState). Honest (replicate g.config.pages None) p2 x (after_restart g))
+    (sym (driver_restarted m1 p1 d1 d2 g root d))
+    (fresh_honest g.config g.target p2 root.config (part_restarted m1 p1 p2 d1 g p2.own root p)))
+
+pub restart_step : (keeps : Bool) (m1 between m2 : Pages) (p1 reset p2 : Part)
+    (d1 d2 : DriverState) (g : Guest) (out1 out2 : List Bool) → Stands keeps m1 p1 d1 g
+    → between ≡ m1 → reset ≡ part_after_reset p1
+    → d2 ≡ fresh_driver d1.pages d1.queue_size d1.processors
+    → m2 ≡ replicate (length between) None
+    → p2 ≡ record (part_after_reset reset) { loose = []; own = p2.own }
+    → Moves (supply_of reset out1) (supply_of p2 out2) nothing (λ n. times n (all_frames between))
+    → Restarts (Stands keeps m2 p2 d2) (supply_of p1 out1) (supply_of p2 out2) g
+restart_step keeps m1 between m2 p1 reset p2 d1 d2 g out1 out2 stands same was d m p moved =
+    let root = rooted keeps m1 p1 d1 g stands in
+    let back : AllReturn (supply_of p1 out1) (supply_of p2 out2) g =
+    all_returned keeps m1 p1 d1 g (supply_of p1 out1) (supply_of p2 out2) stands
+    (subst (λ (x : Pages). Moves (supply_of p1 out1) (supply_of p2 out2) nothing
+    (λ n. times n (all_frames x))) same
+    (subst (λ (x : Supply). Moves x (supply_of p2 out2) nothing
+    (λ n. times n (all_frames between))) (ap (λ (x : Part). supply_of x out1) was) moved)) in
+    let fresh_frames : Moves (supply_of p1 out1) (supply_of p2 out2)
+    (λ n. backing_count n (after_restart g)) (λ n. backing_count n g) =
+    moves_as (supply_of p1 out1) (supply_of p2 out2) nothing (λ n. backing_count n g)
+    (λ n. backing_count n (after_restart g)) (λ n. backing_count n g) back
+    (λ n. omega (arith, backs_none n g.config.pages)) in
+    record {
+      stands = stands_of keeps m2 p2 d2 (after_restart g)
+          (honest_restarted m1 m2 p1 p2 d1 d2 g root
+          (m ∙ ap (λ (x : Pages). replicate (length x) None) same)
+          (p ∙ ap (λ (x : Part). record (part_after_reset x) { loose = []; own = p2.own }) was) d)
+          (own_moved keeps p1 p2 out1 out2 g (after_restart g) fresh_frames stands.own);
+      moves = back;
+    }

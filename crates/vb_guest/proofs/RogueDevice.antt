@@ -1,0 +1,848 @@
+-- What a device does for a guest that wrote past its driver.
+use Rattle.std.specs.Prelude.{◌≡◌, ◌≢◌, ℕ, zero, suc, ◌+◌, ◌<◌, ◌≤◌, ◌==◌, Bool, true, false, not}
+use Rattle.std.specs.Prelude.{◌&&◌, ◌||◌, List, [], ◌∷◌, ◌++◌, length, All, Option, Some, None, Result, ◌%◌, ◌*◌}
+use Rattle.std.specs.Prelude.{Ok, Err, refl, if◌then◌else◌, slice_get, slice_index_or, remove, is_some}
+use Rattle.std.specs.Prelude.{is_none, count_by, IsOk}
+use Rattle.std.specs.Option.{option_to_list}
+use Rattle.std.specs.List.{flat_map, list_any}
+use Rattle.std.proofs.Common.{sym, ◌∙◌, ap, subst, arith, inl, inr}
+use Rattle.std.proofs.lemmas.List.Elements.{All-push, All-cons, All-nil}
+use Rattle.std.proofs.lemmas.List.{get_or_past}
+use Rattle.std.proofs.lemmas.Bool.{cases_lt, cases_eq, ne_eqb, eqb-true}
+use Rattle.std.proofs.lemmas.Option.{get_or_from_slice_get, slice_get_within}
+use Rattle.vb_model.specs.declared.calls.Call.{Call}
+use Rattle.vb_model.specs.declared.calls.Call.TheVariants.{Take, Work, Finish, Sweep, Ask, SetTarget}
+use Rattle.vb_model.specs.declared.layout.TheConstants.{INFLATE_QUEUE, DEFLATE_QUEUE}
+use Rattle.vb_model.specs.declared.layout.TheConstants.{STATISTICS_QUEUE, REPORT_QUEUE}
+use Rattle.vb_model.specs.declared.replies.Refusal.{Refusal}
+use Rattle.vb_model.specs.declared.replies.Refusal.TheVariants.{NoFrame, NoQueue, NotReady, NeedsReset}
+use Rattle.vb_model.specs.declared.replies.Refusal.TheVariants.{Broken, Busy, NotTaken, NotWorked}
+use Rattle.vb_model.specs.declared.replies.Refusal.TheVariants.{NotBallooned}
+use Rattle.vb_model.specs.declared.replies.Reply.{Reply}
+use Rattle.vb_model.specs.declared.replies.Reply.TheVariants.{Refused, Done, Swept, Finished}
+use Rattle.vb_model.specs.FirstRefusal.{Test, ◌⇒◌, first_refusal}
+use Rattle.vb_model.specs.Limits.{page_size, reserved_pages}
+use Rattle.vb_model.specs.Layout.{ring_page}
+use Rattle.vb_model.specs.Requests.{Request}
+use Rattle.vb_model.specs.Guest.{Guest, is_ballooned, frame_of}
+use Rattle.vb_model.specs.Device.{is_unvisited, next_page, visiting}
+use Rattle.vb_model.specs.Orderly.{times}
+use Rattle.vb_model.specs.Status.{contains, driver_ok, failed, needs_reset}
+use Rattle.vb_model.specs.Tables.{is_not_ready, has_fault, has_chains, lacks_feature, most_taken}
+use Rattle.vb_model.specs.Tables.{is_queue_of_requests, has_unvisited, take_tests, work_tests}
+use Rattle.vb_model.specs.Tables.{sweep_tests, finish_tests, ask_tests}
+use Rattle.vb_model.specs.Rogue.{target_after}
+use Rattle.vb_model.specs.Tests.{flagged, is_in}
+use Rattle.vb_ram.specs.Pages.{Pages, frame_at, page_at, number_of}
+use Rattle.vb_ram.specs.Part.{Part, QueuePart}
+use Rattle.vb_chain.specs.declared.fault.ChainFault.TheVariants.{WrongDirection, BadLength}
+use Rattle.vb_chain.specs.declared.pieces.Piece.{Piece}
+use Rattle.vb_chain.specs.Table.{descriptor_at}
+use Rattle.vb_request.specs.Request.{page_request, each_once, is_request_length}
+use Rattle.vb_request.specs.Request.{total_length}
+use Rattle.vb_request.specs.Report.{report_request}
+use Rattle.vb_request.specs.Statistics.{statistics_request, is_statistics_length}
+use Rattle.vb_request.proofs.RequestPages.{request_pages, once_distinct, once_all}
+use Rattle.vb_request.proofs.Reports.{report_pages}
+use Rattle.vb_request.proofs.Once.{is_in-each_once}
+use Rattle.vb_device.proofs.Chains.{chain_fits}
+use Rattle.vb_device.specs.declared.worked.Worked.{Worked}
+use Rattle.vb_device.specs.Discards.{discarded, frames_behind}
+use Rattle.vb_device.specs.Faults.{needing_reset}
+use Rattle.vb_device.specs.Queues.{queue_part, with_queue}
+use Rattle.vb_device.specs.Conditions.{take_refusal, work_refusal, finish_refusal, sweep_refusal}
+use Rattle.vb_device.specs.Conditions.{ask_refusal, taken_at}
+use Rattle.vb_device.specs.Calls.{TakesBy, TakeMeans, IsNextRequest, taking, noting, request_of}
+use Rattle.vb_device.specs.Calls.{WorksBy, Visits, next_visit, FinishesBy, Uses, using, settled}
+use Rattle.vb_device.specs.Calls.{without_frames, lost_frames, SweepsBy, AsksBy, SameFrames}
+use Rattle.vb_driver.specs.State.{DriverState}
+use Rattle.vb_guest.specs.Stands.{IsOwnRequest, IsRogueUp, Rogue}
+use Rattle.vb_guest.specs.Steps.{StepsAlone, StepsFreeing, backing_count, is_frame}
+use Rattle.vb_guest.specs.Replies.{taken_reply, worked_reply, finished_reply, swept_reply, asked_reply}
+use Rattle.vb_guest.proofs.Discarding.{with_entry, length-with_entry, with_entry-get}
+use Rattle.vb_guest.proofs.Discarding.{with_none-get, frames_freed}
+use Rattle.vb_guest.proofs.Handing.{handed_back, loose_none, not_among, behind_same}
+use Rattle.vb_guest.proofs.Heads.{all_remove, all-visiting}
+use Rattle.vb_guest.proofs.WorkReportStep.{next_taken}
+use Rattle.vb_guest.proofs.PagesKept.{number_if, page_discarded, length-discarded}
+use Rattle.vb_guest.proofs.Rogues.{DeviceSame, Keeps, driver_same, device_same, rogue_alone}
+use Rattle.vb_guest.proofs.Rogues.{rogue_after, rogue_stands, rogue_step, IsOther}
+use Rattle.vb_guest.proofs.Rogues.{keeps_part, not_no_frame, refused_not, up_kept}
+
+-- a device that refuses nothing is initialised
+pub not_down : (ok broken : Bool) (o : Option Refusal)
+    → (if not ok || broken then Some NotReady else o) ≡ None → ok ≡ true
+not_down true broken o e = refl
+not_down false broken o e = absurd cc
+
+-- ---- a queue of the device changes
+
+-- which of the queues it is
+pub with_same : (q : ℕ) (x : QueuePart) (p : Part) → DeviceSame p (with_queue q x p)
+with_same q x p = by (q == INFLATE_QUEUE) (q == DEFLATE_QUEUE) (q == STATISTICS_QUEUE)
+  where
+    by : (a b c : Bool) → DeviceSame p
+        (if a then record p { inflate = x } else (if b then record p { deflate = x }
+        else (if c then record p { statistics = x } else record p { report = x })))
+    by true b c = record
+        { size = refl; paced = refl; loose = λ e. e; flagged = refl; unreserved = λ page low e. e }
+    by false true c = record
+        { size = refl; paced = refl; loose = λ e. e; flagged = refl; unreserved = λ page low e. e }
+    by false false true = record
+        { size = refl; paced = refl; loose = λ e. e; flagged = refl; unreserved = λ page low e. e }
+    by false false false = record
+        { size = refl; paced = refl; loose = λ e. e; flagged = refl; unreserved = λ page low e. e }
+
+pub with_state : (q : ℕ) (x : QueuePart) (p : Part) → ((with_queue q x p).status ≡ p.status)
+    × ((with_queue q x p).target ≡ p.target)
+with_state q x p = by (q == INFLATE_QUEUE) (q == DEFLATE_QUEUE) (q == STATISTICS_QUEUE)
+  where
+    after : Bool → Bool → Bool → Part
+    after a b c = if a then record p { inflate = x } else (if b then record p { deflate = x }
+        else (if c then record p { statistics = x } else record p { report = x }))
+
+    by : (a b c : Bool) → ((after a b c).status ≡ p.status) × ((after a b c).target ≡ p.target)
+    by true b c = (refl, refl)
+    by false true c = (refl, refl)
+    by false false true = (refl, refl)
+    by false false false = (refl, refl)
+
+-- the requests that are taken are still the guest's own
+pub record AreOwn (n : ℕ) (p : Part) : Type 0 where
+  pub inflates : All (IsOwnRequest n) p.inflate.taken
+  pub reports : All (IsOwnRequest n) p.report.taken
+
+pub with_own : (n q : ℕ) (x : QueuePart) (p : Part)
+    → (All (IsOwnRequest n) (queue_part q p).taken → All (IsOwnRequest n) x.taken) → AreOwn n p
+    → AreOwn n (with_queue q x p)
+with_own n q x p keeps own =
+    by (q == INFLATE_QUEUE) (q == DEFLATE_QUEUE) (q == STATISTICS_QUEUE) keeps
+  where
+    by : (a b c : Bool) → (All (IsOwnRequest n) (if a then p.inflate else (if b then p.deflate
+        else (if c then p.statistics else p.report))).taken → All (IsOwnRequest n) x.taken)
+        → AreOwn n (if a then record p { inflate = x } else (if b then record p { deflate = x }
+        else (if c then record p { statistics = x } else record p { report = x })))
+    by true b c f = record { inflates = f own.inflates; reports = own.reports }
+    by false true c f = record { inflates = own.inflates; reports = own.reports }
+    by false false true f = record { inflates = own.inflates; reports = own.reports }
+    by false false false f = record { inflates = own.inflates; reports = f own.reports }
+
+-- ---- take
+
+-- statistics name no pages
+statistics_pages : (a b : Bool) (pages : List ℕ)
+    → (if a then Err WrongDirection else (if b then Err BadLength else Ok [])) ≡ Ok pages
+    → pages ≡ []
+statistics_pages true b pages e = absurd cc
+statistics_pages false true pages e = absurd cc
+statistics_pages false false pages e = cc
+
+-- the request that a take remembers names the guest's own pages
+request_own : (q : ℕ) (mem : Pages) (part : Part) (h : ℕ) (pages : List ℕ)
+    → IsNextRequest q mem part h pages
+    → IsOwnRequest (length mem) (record { head = h; pages = pages; visited = 0 })
+request_own q mem part h pages next =
+    by (q == STATISTICS_QUEUE) (q == REPORT_QUEUE) next.request
+  where
+    by : (a b : Bool) → (if a then statistics_request next.pieces
+        else (if b then report_request next.pieces else page_request mem next.pieces)) ≡ Ok pages
+        → IsOwnRequest (length mem) (record { head = h; pages = pages; visited = 0 })
+    by true b e =
+        let none : pages ≡ [] = statistics_pages (list_any (λ piece. piece.writable)
+        next.pieces) (not (is_statistics_length (total_length next.pieces))) pages e in
+        record {
+          above = subst (All (λ page. 16 ≤ page)) (sym none) (λ k d lt. absurd (omega (arith, lt)));
+          below = subst (All (λ page. page < length mem)) (sym none)
+              (λ k d lt. absurd (omega (arith, lt)));
+        }
+    by false true e =
+        let fits = chain_fits (descriptor_at mem (ring_page q)) part.queue_size
+        (page_size * length mem) h next.pieces next.chain in
+        let own = report_pages (length mem) next.pieces pages fits e in
+        record { above = own.0; below = own.1 }
+    by false false e =
+        let own = request_pages mem next.pieces pages e in
+        record { above = own.above; below = own.below }
+
+takes_up : (a b c d f : Bool) → first_refusal ((a ⇒ NoQueue) ∷ (b ⇒ NotReady) ∷ (c ⇒ NeedsReset)
+    ∷ (d ⇒ NoQueue) ∷ (f ⇒ Busy) ∷ []) ≡ None → b ≡ false
+takes_up true b c d f e = absurd cc
+takes_up false true c d f e = absurd cc
+takes_up false false c d f e = refl
+
+-- not not ready
+ok_of : (ok broken : Bool) → (not ok || broken) ≡ false → ok ≡ true
+ok_of true broken e = refl
+ok_of false broken e = absurd cc
+
+pub take_rogue : (m1 m2 : Pages) (p1 p2 : Part) (d : DriverState) (g : Guest) (q : ℕ)
+    (result : Result (Option ℕ) Refusal) → TakesBy q m1 m2 p1 p2 result → Rogue m1 p1 d g
+    → StepsAlone (Rogue m2 p2 d) g (Take q) (taken_reply result)
+take_rogue m1 m2 p1 p2 d g q result did rogue =
+    subst (λ (m : Pages). StepsAlone (Rogue m p2 d) g (Take q) (taken_reply result))
+    (sym did.memory) (by result did.means)
+  where
+    ready : take_refusal q p1 ≡ None → contains p1.status driver_ok ≡ true
+    ready e = ok_of (contains p1.status driver_ok) (contains p1.status failed)
+        (takes_up (not (has_chains q)) (is_not_ready p1.status) (has_fault p1.status)
+        (lacks_feature p1.features q) _ e)
+
+    by : (r : Result (Option ℕ) Refusal) → TakeMeans q m1 p1 p2 r
+        → StepsAlone (Rogue m1 p2 d) g (Take q) (taken_reply r)
+    by (Ok None) means = rogue_alone m1 m1 p1 p2 d d g (Take q) _ rogue
+        (keeps_part m1 m1 p1 p2 d d (driver_same d d refl) means.1 refl (λ page. refl)) refl
+        (λ page. refl) (ap (λ (p : Part). p.target) means.1) (λ e. cc)
+        (λ page offset bytes e. cc)
+    by (Ok (Some h)) means =
+        let pages = means.1.0 in
+        let next = means.1.1 in
+        let part = means.1.2 in
+        let noted : Part = noting q m1 next.pieces p1 in
+        let x : QueuePart = record (queue_part q noted) {
+          next_avail = ((queue_part q noted).next_avail + 1) % 65536;
+          taken = (queue_part q noted).taken
+              ++ (record { head = h; pages = pages; visited = 0 } ∷ []);
+        } in
+        let same = with_same q x noted in
+        let state = with_state q x noted in
+        rogue_alone m1 m1 p1 p2 d d g (Take q) _ rogue
+        (record {
+          driver = driver_same d d refl;
+          device = subst (DeviceSame p1) (sym part) (record {
+            size = same.size;
+            paced = same.paced;
+            loose = same.loose;
+            flagged = same.flagged;
+            unreserved = same.unreserved;
+          });
+          up = λ was ok.
+              let up = was (ap (λ (s : ℕ). contains s driver_ok)
+              (sym (ap (λ (p : Part). p.status) part ∙ state.0)) ∙ ok) in
+              let own = subst (AreOwn (length m1)) (sym part) (with_own (length m1) q x noted
+              (λ all. All-push (IsOwnRequest (length m1)) (queue_part q noted).taken
+              (record { head = h; pages = pages; visited = 0 }) all
+              (request_own q m1 p1 h pages next))
+              (record { inflates = up.inflates; reports = up.reports })) in
+              record { backed = up.backed; inflates = own.inflates; reports = own.reports };
+        }) refl (λ page. refl) (ap (λ (p : Part). p.target) part ∙ state.1) (λ e. cc)
+        (λ page offset bytes e. cc)
+    by (Err (Broken rule)) means =
+        let part = means.1 in
+        rogue_alone m1 m1 p1 p2 d d g (Take q) _ rogue
+        (record {
+          driver = driver_same d d refl;
+          device = record {
+            size = ap (λ (p : Part). p.queue_size) part;
+            paced = ap (λ (p : Part). p.paced) part;
+            loose = λ none. ap (λ (p : Part). p.loose) part ∙ none;
+            flagged = ap (λ (p : Part). length p.ballooned) part;
+            unreserved = λ page low none.
+                ap (λ (p : Part). is_ballooned p.ballooned page) part ∙ none;
+          };
+          up = λ was ok. up_kept m1 m1 p1 p2 refl (λ page low. refl)
+              (ap (λ (p : Part). p.inflate.taken) part)
+              (ap (λ (p : Part). p.report.taken) part) (was (ready means.0));
+        }) refl (λ page. refl) (ap (λ (p : Part). p.target) part) (λ e. cc)
+        (λ page offset bytes e. cc)
+    by (Err why) means = rogue_alone m1 m1 p1 p2 d d g (Take q) _ rogue
+        (keeps_part m1 m1 p1 p2 d d (driver_same d d refl) means.1 refl (λ page. refl)) refl
+        (λ page. refl) (ap (λ (p : Part). p.target) means.1)
+        (refused_not why (λ e. not_no_frame (take_tests q p1.status p1.features
+        (length (queue_part q p1).taken)) refl (means.0 ∙ e)))
+        (λ page offset bytes e. cc)
+
+-- ---- pages lose their frames
+
+-- what a call leaves of the device's part, which may be up as before
+pub record PartChanges (n : ℕ) (p1 p2 : Part) : Type 0 where
+  pub device : DeviceSame p1 p2
+  pub status : p2.status ≡ p1.status
+  pub target : p2.target ≡ p1.target
+  pub own : AreOwn n p1 → AreOwn n p2
+
+changes_with : (n q : ℕ) (x : QueuePart) (p : Part)
+    → (All (IsOwnRequest n) (queue_part q p).taken → All (IsOwnRequest n) x.taken)
+    → PartChanges n p (with_queue q x p)
+changes_with n q x p keeps =
+    let state = with_state q x p in
+    record {
+      device = with_same q x p;
+      status = state.0;
+      target = state.1;
+      own = with_own n q x p keeps;
+    }
+
+changes_then : (n : ℕ) (p1 p2 p3 : Part) → PartChanges n p1 p2 → PartChanges n p2 p3
+    → PartChanges n p1 p3
+changes_then n p1 p2 p3 first second = record {
+  device = record {
+    size = second.device.size ∙ first.device.size;
+    paced = second.device.paced ∙ first.device.paced;
+    loose = λ none. second.device.loose (first.device.loose none);
+    flagged = second.device.flagged ∙ first.device.flagged;
+    unreserved = λ page low none.
+        second.device.unreserved page low (first.device.unreserved page low none);
+  };
+  status = second.status ∙ first.status;
+  target = second.target ∙ first.target;
+  own = λ own. second.own (first.own own);
+}
+
+-- once what is loose has been handed back
+changes_back : (n : ℕ) (p1 p p2 : Part) → PartChanges n p1 p
+    → p2 ≡ record p { loose = p2.loose } → PartChanges n p1 (handed_back p2)
+changes_back n p1 p p2 changes is = subst (PartChanges n p1) (sym (ap handed_back is)) (record {
+  device = record {
+    size = changes.device.size;
+    paced = changes.device.paced;
+    loose = λ none. refl;
+    flagged = changes.device.flagged;
+    unreserved = changes.device.unreserved;
+  };
+  status = changes.status;
+  target = changes.target;
+  own = λ own. let after = changes.own own in
+      record { inflates = after.inflates; reports = after.reports };
+})
+
+none_of : (b : Bool) (x : Option ℕ) (frame : ℕ) → (if b then None else x) ≡ Some frame
+    → x ≡ Some frame
+none_of true x frame e = absurd cc
+none_of false x frame e = e
+
+-- pages that aren't reserved lose their frames, which are loose then
+pub rogue_freed : (m1 m2 : Pages) (p1 p2 : Part) (d : DriverState) (g : Guest) (call : Call)
+    (reply : Reply) (r : Request) → IsOwnRequest (length m1) r
+    → PartChanges (length m1) p1 (handed_back p2) → contains p1.status driver_ok ≡ true
+    → length m2 ≡ length m1
+    → ((page : ℕ) → frame_at m2 page ≡ frame_at (discarded r.pages m1) page)
+    → SameFrames p2.loose (frames_behind m1 (each_once r.pages))
+    → target_after call p1.target ≡ p1.target → reply ≢ Refused NoFrame → IsOther call
+    → Rogue m1 p1 d g → StepsFreeing (Rogue m2 (handed_back p2) d) p2.loose g call reply
+rogue_freed m1 m2 p1 p2 d g call reply r own changes ok count same loose still answer other rogue =
+    let once = each_once r.pages in
+    let frames = with_entry once None g.frames in
+    let at : (page : ℕ) → frame_at (discarded r.pages m1) page
+    ≡ (if is_in page r.pages then None else frame_at m1 page) =
+    λ page. ap number_of (page_discarded r.pages m1 page)
+    ∙ number_if (is_in page r.pages) (page_at m1 page) in
+    let get : (page : ℕ) → frame_of frames page
+    ≡ (if is_in page once then None else frame_of g.frames page) =
+    λ page. with_none-get once None g.frames page in
+    let behind : (page : ℕ) → frame_at m2 page ≡ frame_of frames page =
+    λ page. same page ∙ at page
+    ∙ ap (λ (b : Bool). if b then None else frame_at m1 page) (sym (is_in-each_once page r.pages))
+    ∙ ap (λ (o : Option ℕ). if is_in page once then None else o) (rogue.behind page)
+    ∙ sym (get page) in
+    let low : (page : ℕ) → page < reserved_pages → frame_at m2 page ≡ frame_at m1 page =
+    λ page lt. same page ∙ at page
+    ∙ ap (λ (b : Bool). if b then None else frame_at m1 page)
+    (not_among r.pages page own.above lt) in
+    let keeps : Keeps m1 m2 p1 (handed_back p2) d d = record {
+      driver = driver_same d d refl;
+      device = changes.device;
+      up = λ was up.
+          let before = was ok in
+          let after = changes.own
+          (record { inflates = before.inflates; reports = before.reports }) in
+          record {
+            backed = λ page lt. ap is_some (low page (omega (arith, lt))) ∙ before.backed page lt;
+            inflates = subst (λ (n : ℕ). All (IsOwnRequest n) p2.inflate.taken) (sym count)
+                after.inflates;
+            reports = subst (λ (n : ℕ). All (IsOwnRequest n) p2.report.taken) (sym count)
+                after.reports;
+          };
+    } in
+    let stands = rogue_stands m1 m2 p1 (handed_back p2) d d g frames rogue keeps count
+    (length-with_entry once None g.frames) behind in
+    let sized : length m1 ≡ length g.frames = rogue.length_is ∙ sym rogue.framed in
+    let below : All (λ page. page < length g.frames) once =
+    once_all (λ page. page < length g.frames) r.pages
+    (subst (λ (n : ℕ). All (λ page. page < n) r.pages) sized own.below) in
+    record {
+      new = rogue_after g frames (handed_back p2) d;
+      stands = stands;
+      step = rogue_step m1 m2 p1 (handed_back p2) d d g frames call reply rogue stands
+          (changes.target ∙ sym still)
+          (λ page frame e. none_of (is_in page once) (frame_of g.frames page) frame
+          (sym (get page) ∙ e)) answer other;
+      freed = λ k. omega (
+        arith,
+        loose k,
+        ap (times k) (behind_same m1 g.frames once rogue.behind),
+        frames_freed k once g.frames (once_distinct r.pages) below,
+      );
+    }
+
+-- no page does
+pub none_freed : (m1 m2 : Pages) (p1 p2 : Part) (d : DriverState) (g : Guest) (call : Call)
+    (reply : Reply) → m2 ≡ m1 → p2 ≡ p1 → target_after call p1.target ≡ p1.target
+    → reply ≢ Refused NoFrame → IsOther call → Rogue m1 p1 d g
+    → StepsFreeing (Rogue m2 (handed_back p2) d) p2.loose g call reply
+none_freed m1 m2 p1 p2 d g call reply memory part still answer other rogue =
+    let same : (page : ℕ) → frame_at m2 page ≡ frame_at m1 page =
+    λ page. ap (λ (m : Pages). frame_at m page) memory in
+    let count : length m2 ≡ length m1 = ap (λ (m : Pages). length m) memory in
+    let none : p2.loose ≡ [] = ap (λ (p : Part). p.loose) part ∙ rogue.loose in
+    let step = rogue_alone m1 m2 p1 p2 d d g call reply rogue
+    (keeps_part m1 m2 p1 p2 d d (driver_same d d refl) part count same) count same
+    (ap (λ (p : Part). p.target) part ∙ sym still) answer other in
+    record {
+      new = step.new;
+      stands = subst (λ (p : Part). Rogue m2 p d step.new) (sym (loose_none p2 none)) step.stands;
+      step = step.step;
+      freed = λ k. omega (
+        arith,
+        ap (times k) none,
+        ap (λ (l : List (Option ℕ)). count_by (is_frame k) l) step.frames,
+      );
+    }
+
+-- ---- work
+
+works_up : (a b : Bool) → first_refusal ((a ⇒ NotReady) ∷ (b ⇒ NeedsReset) ∷ []) ≡ None → a ≡ false
+works_up true b e = absurd cc
+works_up false b e = refl
+
+-- the next page to visit is one of a taken request
+next_own : (n : ℕ) (paced : Bool) (taken : List Request) (page : ℕ) → All (IsOwnRequest n) taken
+    → (if paced then next_page taken else None) ≡ Some page
+    → IsOwnRequest n (record { head = 0; pages = page ∷ []; visited = 0 })
+next_own n true taken page all e = record {
+  above = All-cons (λ p. 16 ≤ p) page []
+      (next_taken (λ p. 16 ≤ p) taken page (λ k x lt. (all k x lt).above) e) (All-nil (λ p. 16 ≤ p));
+  below = All-cons (λ p. p < n) page []
+      (next_taken (λ p. p < n) taken page (λ k x lt. (all k x lt).below) e) (All-nil (λ p. p < n));
+}
+next_own n false taken page all e = absurd cc
+
+visits_rogue : (m1 m2 : Pages) (p1 p2 : Part) (d : DriverState) (g : Guest) (q page : ℕ)
+    (result : Result (Option Worked) Refusal) → Visits q page m1 m2 p1 p2 result
+    → IsOwnRequest (length m1) (record { head = 0; pages = page ∷ []; visited = 0 })
+    → contains p1.status driver_ok ≡ true → Rogue m1 p1 d g
+    → StepsFreeing (Rogue m2 (handed_back p2) d) p2.loose g Work (worked_reply result)
+visits_rogue m1 m2 p1 p2 d g q page result did own ok rogue =
+    let x : QueuePart =
+    record (queue_part q p1) { taken = visiting (queue_part q p1).taken } in
+    let one : Request = record { head = 0; pages = page ∷ []; visited = 0 } in
+    subst (λ (r : Result (Option Worked) Refusal).
+    StepsFreeing (Rogue m2 (handed_back p2) d) p2.loose g Work (worked_reply r)) (sym did.answer)
+    (rogue_freed m1 m2 p1 p2 d g Work _ one own
+    (changes_back (length m1) p1 (with_queue q x p1) p2
+    (changes_with (length m1) q x p1 (λ all. all-visiting (IsOwnRequest (length m1))
+    (λ r own. record { above = own.above; below = own.below }) (queue_part q p1).taken all))
+    did.part) ok (ap (λ (m : Pages). length m) did.memory ∙ length-discarded (page ∷ []) m1)
+    (λ p. ap (λ (m : Pages). frame_at m p) did.memory) did.loose refl (λ e. cc)
+    (λ page offset bytes e. cc) rogue)
+
+pub work_rogue : (m1 m2 : Pages) (p1 p2 : Part) (d : DriverState) (g : Guest)
+    (result : Result (Option Worked) Refusal) → WorksBy m1 m2 p1 p2 result → Rogue m1 p1 d g
+    → StepsFreeing (Rogue m2 (handed_back p2) d) p2.loose g Work (worked_reply result)
+work_rogue m1 m2 p1 p2 d g result did rogue = by (work_refusal p1) refl
+  where
+    Done : Result (Option Worked) Refusal → Type 0
+    Done r = StepsFreeing (Rogue m2 (handed_back p2) d) p2.loose g Work (worked_reply r)
+
+    ready : work_refusal p1 ≡ None → contains p1.status driver_ok ≡ true
+    ready e = ok_of (contains p1.status driver_ok) (contains p1.status failed)
+        (works_up (is_not_ready p1.status) (has_fault p1.status) e)
+
+    later : work_refusal p1 ≡ None → next_visit INFLATE_QUEUE p1 ≡ None → (o : Option ℕ)
+        → next_visit REPORT_QUEUE p1 ≡ o → Done result
+    later e first None second =
+        let (answer, part, memory) = did.idle e first second in
+        subst Done (sym answer) (none_freed m1 m2 p1 p2 d g Work _ memory part refl (λ x. cc)
+        (λ page offset bytes x. cc) rogue)
+    later e first (Some page) second =
+        visits_rogue m1 m2 p1 p2 d g REPORT_QUEUE page result (did.report page e first second)
+        (next_own (length m1) p1.paced p1.report.taken page (rogue.up (ready e)).reports second)
+        (ready e) rogue
+
+    visits : work_refusal p1 ≡ None → (o : Option ℕ) → next_visit INFLATE_QUEUE p1 ≡ o
+        → Done result
+    visits e None first = later e first (next_visit REPORT_QUEUE p1) refl
+    visits e (Some page) first =
+        visits_rogue m1 m2 p1 p2 d g INFLATE_QUEUE page result (did.inflate page e first)
+        (next_own (length m1) p1.paced p1.inflate.taken page (rogue.up (ready e)).inflates first)
+        (ready e) rogue
+
+    by : (o : Option Refusal) → work_refusal p1 ≡ o → Done result
+    by (Some why) e =
+        let (answer, part, memory) = did.refused why e in
+        subst Done (sym answer) (none_freed m1 m2 p1 p2 d g Work _ memory part refl
+        (refused_not why (λ x. not_no_frame (work_tests p1.status) refl (e ∙ x)))
+        (λ page offset bytes x. cc) rogue)
+    by None e = visits e (next_visit INFLATE_QUEUE p1) refl
+
+-- ---- sweep
+
+sweeps_up : (a b c : Bool)
+    → first_refusal ((a ⇒ NotReady) ∷ (b ⇒ NeedsReset) ∷ (not c ⇒ NotBallooned) ∷ []) ≡ None
+    → (a ≡ false) × (c ≡ true)
+sweeps_up true b c e = absurd cc
+sweeps_up false true c e = absurd cc
+sweeps_up false false true e = (refl, refl)
+sweeps_up false false false e = absurd cc
+
+-- a ballooned page is one of the guest's, and not reserved
+ballooned_own : (m : Pages) (p : Part) (d : DriverState) (g : Guest) (page : ℕ) → Rogue m p d g
+    → is_ballooned p.ballooned page ≡ true
+    → IsOwnRequest (length m) (record { head = 0; pages = page ∷ []; visited = 0 })
+ballooned_own m p d g page rogue flag =
+    let at : is_ballooned g.ballooned page ≡ true =
+    sym (ap (λ (l : List Bool). is_ballooned l page) rogue.ballooned) ∙ flag in
+    let high : 16 ≤ page = elim (cases_lt page 16) [
+      | inl low ↦ absurd (let wrong : true ≡ false = sym at ∙ rogue.unreserved page low in cc)
+      | inr up ↦ up
+    ] in
+    let inside : page < length m = elim (cases_lt page (length m)) [
+      | inl lt ↦ lt
+      | inr past ↦ absurd (let wrong : true ≡ false = sym at
+          ∙ get_or_past g.ballooned page false
+          (omega (arith, past, rogue.length_is, rogue.flagged)) in cc)
+    ] in
+    record {
+      above = All-cons (λ p. 16 ≤ p) page [] high (All-nil (λ p. 16 ≤ p));
+      below = All-cons (λ p. p < length m) page [] inside (All-nil (λ p. p < length m));
+    }
+
+pub sweep_rogue : (m1 m2 : Pages) (p1 p2 : Part) (d : DriverState) (g : Guest) (page : ℕ)
+    (result : Result Bool Refusal) → SweepsBy page m1 m2 p1 p2 result → Rogue m1 p1 d g
+    → StepsFreeing (Rogue m2 (handed_back p2) d) p2.loose g (Sweep page) (swept_reply result)
+sweep_rogue m1 m2 p1 p2 d g page result did rogue = by (sweep_refusal page p1) refl
+  where
+    Done : Result Bool Refusal → Type 0
+    Done r = StepsFreeing (Rogue m2 (handed_back p2) d) p2.loose g (Sweep page) (swept_reply r)
+
+    by : (o : Option Refusal) → sweep_refusal page p1 ≡ o → Done result
+    by (Some why) e =
+        let (answer, part, memory) = did.refused why e in
+        subst Done (sym answer) (none_freed m1 m2 p1 p2 d g (Sweep page) _ memory part refl
+        (refused_not why (λ x. not_no_frame
+        (sweep_tests p1.status (is_ballooned p1.ballooned page)) refl (e ∙ x)))
+        (λ page offset bytes x. cc) rogue)
+    by None e =
+        let (up, flag) = sweeps_up (is_not_ready p1.status) (has_fault p1.status)
+        (is_ballooned p1.ballooned page) e in
+        let one : Request = record { head = 0; pages = page ∷ []; visited = 0 } in
+        let same : PartChanges (length m1) p1 p1 = record {
+          device = device_same p1 p1 refl;
+          status = refl;
+          target = refl;
+          own = λ own. own;
+        } in
+        subst Done (sym (did.answer e))
+        (rogue_freed m1 m2 p1 p2 d g (Sweep page) _ one
+        (ballooned_own m1 p1 d g page rogue flag)
+        (changes_back (length m1) p1 p1 p2 same (did.part e))
+        (ok_of (contains p1.status driver_ok) (contains p1.status failed) up)
+        (ap (λ (m : Pages). length m) (did.memory e) ∙ length-discarded (page ∷ []) m1)
+        (λ p. ap (λ (m : Pages). frame_at m p) (did.memory e)) (did.loose e) refl (λ x. cc)
+        (λ page offset bytes x. cc) rogue)
+
+-- ---- finish
+
+-- the flags of pages that aren't reserved change
+flagged_same : (pages : List ℕ) (value : Bool) (flags : List Bool) (page : ℕ)
+    → All (λ p. 16 ≤ p) pages → page < reserved_pages → is_ballooned flags page ≡ false
+    → is_ballooned (flagged pages value flags) page ≡ false
+flagged_same pages value flags page above low none = elim (cases_lt page (length flags)) [
+  | inl inside ↦ with_entry-get pages value flags page false inside
+      ∙ ap (λ (b : Bool). if b then value else is_ballooned flags page)
+      (not_among pages page above low) ∙ none
+  | inr past ↦ get_or_past (flagged pages value flags) page false
+      (omega (arith, past, length-with_entry pages value flags))
+]
+
+-- pages that stop being ballooned
+unflagged_same : (pages : List ℕ) (flags : List Bool) (page : ℕ)
+    → is_ballooned flags page ≡ false → is_ballooned (flagged pages false flags) page ≡ false
+unflagged_same pages flags page none =
+    with_none-get pages false flags page ∙ either (is_in page pages)
+  where
+    either : (b : Bool) → (if b then false else is_ballooned flags page) ≡ false
+    either true = refl
+    either false = none
+
+settled_changes : (n q : ℕ) (pages : List ℕ) (p : Part)
+    → ((q == INFLATE_QUEUE) ≡ true → All (λ p. 16 ≤ p) pages)
+    → PartChanges n p (settled q pages p)
+settled_changes n q pages p above = by (q == INFLATE_QUEUE) (q == DEFLATE_QUEUE) above
+  where
+    by : (a b : Bool) → (a ≡ true → All (λ p. 16 ≤ p) pages) → PartChanges n p
+        (if a then record p { ballooned = flagged pages true p.ballooned }
+        else (if b then record p { ballooned = flagged pages false p.ballooned } else p))
+    by true b high = record {
+      device = record {
+        size = refl;
+        paced = refl;
+        loose = λ e. e;
+        flagged = length-with_entry pages true p.ballooned;
+        unreserved = λ page low none.
+            flagged_same pages true p.ballooned page (high refl) low none;
+      };
+      status = refl;
+      target = refl;
+      own = λ own. record { inflates = own.inflates; reports = own.reports };
+    }
+    by false true high = record {
+      device = record {
+        size = refl;
+        paced = refl;
+        loose = λ e. e;
+        flagged = length-with_entry pages false p.ballooned;
+        unreserved = λ page low none. unflagged_same pages p.ballooned page none;
+      };
+      status = refl;
+      target = refl;
+      own = λ own. record { inflates = own.inflates; reports = own.reports };
+    }
+    by false false high =
+        record { device = device_same p p refl; status = refl; target = refl; own = λ own. own }
+
+finishes_up : (a b c d f : Bool) → first_refusal ((not a ⇒ NoQueue) ∷ (b ⇒ NotReady)
+    ∷ (c ⇒ NeedsReset) ∷ (d ⇒ NotTaken) ∷ (f ⇒ NotWorked) ∷ []) ≡ None → (a ≡ true) × (b ≡ false)
+finishes_up true true c d f e = absurd cc
+finishes_up true false c d f e = (refl, refl)
+finishes_up false b c d f e = absurd cc
+
+-- what was taken on a queue of inflates or reports is the guest's own
+own_taken : (n q : ℕ) (p : Part) → is_queue_of_requests q ≡ true → (q == DEFLATE_QUEUE) ≡ false
+    → AreOwn n p → All (IsOwnRequest n) (queue_part q p).taken
+own_taken n q p is other own = elim (cases_eq q 2) [
+  | inl e ↦ absurd
+      (let wrong : false ≡ true =
+      subst (λ (k : ℕ). is_queue_of_requests k ≡ true) e is in
+      cc)
+  | inr ne ↦ by (q == INFLATE_QUEUE) (q == DEFLATE_QUEUE) (q == STATISTICS_QUEUE) other
+      (ne_eqb q 2 ne)
+]
+  where
+    by : (a b c : Bool) → b ≡ false → c ≡ false → All (IsOwnRequest n) (if a then p.inflate
+        else (if b then p.deflate else (if c then p.statistics else p.report))).taken
+    by true b c e f = own.inflates
+    by false true c e f = absurd cc
+    by false false true e f = absurd cc
+    by false false false e f = own.reports
+
+-- a finish that isn't refused is one of a taken request
+taken_request : (a b c f : Bool) (o : Option Request) → first_refusal ((not a ⇒ NoQueue)
+    ∷ (b ⇒ NotReady) ∷ (c ⇒ NeedsReset) ∷ (is_none o ⇒ NotTaken) ∷ (f ⇒ NotWorked) ∷ []) ≡ None
+    → (r : Request) × (o ≡ Some r)
+taken_request false b c f o e = absurd cc
+taken_request true true c f o e = absurd cc
+taken_request true false true f o e = absurd cc
+taken_request true false false f None e = absurd cc
+taken_request true false false f (Some r) e = (r, refl)
+
+-- a queue isn't two
+not_both : (q : ℕ) → (q == DEFLATE_QUEUE) ≡ true → (q == INFLATE_QUEUE) ≡ true → ⊥
+not_both q one other =
+    let first : q ≡ 1 = eqb-true q 1 one in
+    let second : q ≡ 0 = eqb-true q 0 other in
+    omega (arith, first, second)
+
+abbrev nothing_named : Request
+nothing_named = record { head = 0; pages = []; visited = 0 }
+
+names_nothing : (n : ℕ) → IsOwnRequest n nothing_named
+names_nothing n = record { above = All-nil (λ p. 16 ≤ p); below = All-nil (λ p. p < n) }
+
+pub finish_rogue : (m1 m2 : Pages) (p1 p2 : Part) (d : DriverState) (g : Guest) (q i : ℕ)
+    (result : Result ℕ Refusal) → FinishesBy q i m1 m2 p1 p2 result → Rogue m1 p1 d g
+    → StepsFreeing (Rogue m2 (handed_back p2) d) p2.loose g (Finish q i) (finished_reply result)
+finish_rogue m1 m2 p1 p2 d g q i result did rogue = by (finish_refusal q i p1) refl
+  where
+    Done : Result ℕ Refusal → Type 0
+    Done r = StepsFreeing (Rogue m2 (handed_back p2) d) p2.loose g (Finish q i) (finished_reply r)
+
+    unworked : Bool
+    unworked = p1.paced && not (q == DEFLATE_QUEUE) && has_unvisited (taken_at q i p1)
+
+    -- the request's pages, or none, lose their frames
+    settles : (r lost : Request) → Uses q i r m1 m2 p1 p2 result
+        → contains p1.status driver_ok ≡ true → IsOwnRequest (length m1) lost
+        → ((q == INFLATE_QUEUE) ≡ true → All (λ p. 16 ≤ p) r.pages)
+        → ((page : ℕ) → frame_at (without_frames q r.pages m1) page
+        ≡ frame_at (discarded lost.pages m1) page)
+        → length (without_frames q r.pages m1) ≡ length m1
+        → lost_frames q r.pages m1 ≡ frames_behind m1 (each_once lost.pages) → Done result
+    settles r lost uses ok own high same count loose =
+        let x : QueuePart = record (queue_part q p1) {
+          next_used = ((queue_part q p1).next_used + 1) % 65536;
+          taken = remove (queue_part q p1).taken i;
+        } in
+        let n = length m1 in
+        let after : Part = settled q r.pages (using q i p1) in
+        subst Done (sym uses.answer)
+        (rogue_freed m1 m2 p1 p2 d g (Finish q i) _ lost own
+        (changes_back n p1 after p2
+        (changes_then n p1 (using q i p1) after
+        (changes_with n q x p1 (λ all. all_remove (IsOwnRequest n) (queue_part q p1).taken i all))
+        (settled_changes n q r.pages (using q i p1) high)) uses.part) ok
+        (uses.memory.puts.rest.count ∙ count)
+        (λ page. uses.memory.puts.rest.backing page ∙ same page)
+        (λ k. uses.loose k ∙ ap (times k) loose) refl (λ x. cc) (λ page offset bytes x. cc) rogue)
+
+    uses_request : (r : Request) → finish_refusal q i p1 ≡ None → taken_at q i p1 ≡ Some r
+        → (b : Bool) → (q == DEFLATE_QUEUE) ≡ b → Uses q i r m1 m2 p1 p2 result → Done result
+    uses_request r e at true deflates uses =
+        let ready = finishes_up (is_queue_of_requests q) (is_not_ready p1.status)
+        (has_fault p1.status) (is_none (taken_at q i p1)) unworked e in
+        let whole : without_frames q r.pages m1 ≡ m1 =
+        ap (λ (b : Bool). if b then m1 else discarded r.pages m1) deflates in
+        let other : (q == INFLATE_QUEUE) ≡ true → All (λ p. 16 ≤ p) r.pages =
+        λ inflates. absurd (not_both q deflates inflates) in
+        settles r nothing_named uses
+        (ok_of (contains p1.status driver_ok) (contains p1.status failed) ready.1)
+        (names_nothing (length m1)) other
+        (λ page. ap (λ (m : Pages). frame_at m page) whole
+        ∙ sym (ap number_of (page_discarded [] m1 page)))
+        (ap (λ (m : Pages). length m) whole)
+        (ap (λ (b : Bool). if b then [] else frames_behind m1 (each_once r.pages)) deflates)
+    uses_request r e at false other uses =
+        let ready = finishes_up (is_queue_of_requests q) (is_not_ready p1.status)
+        (has_fault p1.status) (is_none (taken_at q i p1)) unworked e in
+        let ok = ok_of (contains p1.status driver_ok) (contains p1.status failed) ready.1 in
+        let up = rogue.up ok in
+        let all = own_taken (length m1) q p1 ready.0 other
+        (record { inflates = up.inflates; reports = up.reports }) in
+        let taken = (queue_part q p1).taken in
+        let own : IsOwnRequest (length m1) r =
+        subst (IsOwnRequest (length m1)) (get_or_from_slice_get taken i r r at)
+        (all i r (slice_get_within taken i r at)) in
+        let bare : without_frames q r.pages m1 ≡ discarded r.pages m1 =
+        ap (λ (b : Bool). if b then m1 else discarded r.pages m1) other in
+        settles r r uses ok own (λ e. own.above) (λ page. ap (λ (m : Pages). frame_at m page) bare)
+        (ap (λ (m : Pages). length m) bare ∙ length-discarded r.pages m1)
+        (ap (λ (b : Bool). if b then [] else frames_behind m1 (each_once r.pages)) other)
+
+    by : (o : Option Refusal) → finish_refusal q i p1 ≡ o → Done result
+    by (Some why) e =
+        let (answer, part, memory) = did.refused why e in
+        subst Done (sym answer) (none_freed m1 m2 p1 p2 d g (Finish q i) _ memory part refl
+        (refused_not why (λ x. not_no_frame
+        (finish_tests q p1.status p1.paced (taken_at q i p1)) refl (e ∙ x)))
+        (λ page offset bytes x. cc) rogue)
+    by None e =
+        let (r, at) = taken_request (is_queue_of_requests q) (is_not_ready p1.status)
+        (has_fault p1.status) unworked (taken_at q i p1) e in
+        uses_request r e at (q == DEFLATE_QUEUE) refl (did.finished r e at)
+
+-- ---- ask and target
+
+asks_up : (a b c : Bool) → first_refusal ((a ⇒ NotReady) ∷ (b ⇒ NeedsReset) ∷ (c ⇒ NotTaken) ∷ [])
+    ≡ None → a ≡ false
+asks_up true b c e = absurd cc
+asks_up false b c e = refl
+
+taken_buffer : (a b : Bool) (o : Option Request) → first_refusal ((a ⇒ NotReady)
+    ∷ (b ⇒ NeedsReset) ∷ (not (is_some o) ⇒ NotTaken) ∷ []) ≡ None → (r : Request) × (o ≡ Some r)
+taken_buffer true b o e = absurd cc
+taken_buffer false true o e = absurd cc
+taken_buffer false false None e = absurd cc
+taken_buffer false false (Some r) e = (r, refl)
+
+asked_not : {T : Type 0} (r : Result T Refusal) → IsOk r → asked_reply r ≢ Refused NoFrame
+asked_not (Ok x) ok e = cc
+asked_not (Err why) ok e = absurd cc
+
+pub ask_rogue : {T : Type 0} (m1 m2 : Pages) (p1 p2 : Part) (d : DriverState) (g : Guest)
+    (result : Result T Refusal) → AsksBy m1 m2 p1 p2 result → Rogue m1 p1 d g
+    → StepsAlone (Rogue m2 p2 d) g Ask (asked_reply result)
+ask_rogue m1 m2 p1 p2 d g result did rogue = by (ask_refusal p1) refl
+  where
+    by : (o : Option Refusal) → ask_refusal p1 ≡ o
+        → StepsAlone (Rogue m2 p2 d) g Ask (asked_reply result)
+    by (Some why) e =
+        let (answer, part, memory) = did.refused why e in
+        let same : (page : ℕ) → frame_at m2 page ≡ frame_at m1 page =
+        λ page. ap (λ (m : Pages). frame_at m page) memory in
+        let count : length m2 ≡ length m1 = ap (λ (m : Pages). length m) memory in
+        subst (λ (r : Result _ Refusal). StepsAlone (Rogue m2 p2 d) g Ask (asked_reply r))
+        (sym answer)
+        (rogue_alone m1 m2 p1 p2 d d g Ask (Refused why) rogue
+        (keeps_part m1 m2 p1 p2 d d (driver_same d d refl) part count same) count same
+        (ap (λ (p : Part). p.target) part)
+        (refused_not why (λ x. not_no_frame (ask_tests p1.status
+        (is_some (taken_at STATISTICS_QUEUE 0 p1))) refl (e ∙ x)))
+        (λ page offset bytes x. cc))
+    by None e =
+        let part = did.part e in
+        let ready = ok_of (contains p1.status driver_ok) (contains p1.status failed)
+        (asks_up (is_not_ready p1.status) (has_fault p1.status)
+        (not (is_some (taken_at STATISTICS_QUEUE 0 p1))) e) in
+        let at = taken_buffer (is_not_ready p1.status) (has_fault p1.status)
+        (taken_at STATISTICS_QUEUE 0 p1) e in
+        let adds = did.memory at.0 e at.1 in
+        rogue_alone m1 m2 p1 p2 d d g Ask _ rogue
+        (record {
+          driver = driver_same d d refl;
+          device = record {
+            size = ap (λ (p : Part). p.queue_size) part;
+            paced = ap (λ (p : Part). p.paced) part;
+            loose = λ none. ap (λ (p : Part). p.loose) part ∙ none;
+            flagged = ap (λ (p : Part). length p.ballooned) part;
+            unreserved = λ page low none.
+                ap (λ (p : Part). is_ballooned p.ballooned page) part ∙ none;
+          };
+          up = λ was ok. up_kept m1 m2 p1 p2 adds.puts.rest.count
+              (λ page low. adds.puts.rest.backing page)
+              (ap (λ (p : Part). p.inflate.taken) part)
+              (ap (λ (p : Part). p.report.taken) part) (was ready);
+        }) adds.puts.rest.count adds.puts.rest.backing (ap (λ (p : Part). p.target) part)
+        (asked_not result (did.answers e)) (λ page offset bytes x. cc)
+
+pub target_stands_rogue : (m1 m2 : Pages) (p1 p2 : Part) (d : DriverState) (g : Guest) (n : ℕ)
+    → m2 ≡ m1 → p2 ≡ record p1 { target = n } → Rogue m1 p1 d g
+    → Rogue m2 p2 d (record g { target = n })
+target_stands_rogue m1 m2 p1 p2 d g n memory part rogue =
+    subst (λ (m : Pages). Rogue m p2 d (record g { target = n })) (sym memory)
+    (subst (λ (p : Part). Rogue m1 p d (record g { target = n })) (sym part) (record {
+      rogue = rogue.rogue;
+      config = rogue.config;
+      pages = rogue.pages;
+      queue_size = rogue.queue_size;
+      processors = rogue.processors;
+      places = rogue.places;
+      placed = rogue.placed;
+      actual = rogue.actual;
+      size = rogue.size;
+      paced = rogue.paced;
+      status = rogue.status;
+      target = refl;
+      last = rogue.last;
+      ballooned = rogue.ballooned;
+      flagged = rogue.flagged;
+      unreserved = rogue.unreserved;
+      loose = rogue.loose;
+      length_is = rogue.length_is;
+      framed = rogue.framed;
+      filled = rogue.filled;
+      behind = rogue.behind;
+      up = λ ok. let up = rogue.up ok in
+          record { backed = up.backed; inflates = up.inflates; reports = up.reports };
+    }))
+
+pub target_rogue : (m1 m2 : Pages) (p1 p2 : Part) (d : DriverState) (g : Guest) (n : ℕ)
+    → m2 ≡ m1 → p2 ≡ record p1 { target = n } → Rogue m1 p1 d g
+    → StepsAlone (Rogue m2 p2 d) g (SetTarget n) Done
+target_rogue m1 m2 p1 p2 d g n memory part rogue =
+    let same : (page : ℕ) → frame_at m2 page ≡ frame_at m1 page =
+    λ page. ap (λ (m : Pages). frame_at m page) memory in
+    let count : length m2 ≡ length m1 = ap (λ (m : Pages). length m) memory in
+    rogue_alone m1 m2 p1 p2 d d g (SetTarget n) Done rogue
+    (record {
+      driver = driver_same d d refl;
+      device = record {
+        size = ap (λ (p : Part). p.queue_size) part;
+        paced = ap (λ (p : Part). p.paced) part;
+        loose = λ none. ap (λ (p : Part). p.loose) part ∙ none;
+        flagged = ap (λ (p : Part). length p.ballooned) part;
+        unreserved = λ page low none.
+            ap (λ (p : Part). is_ballooned p.ballooned page) part ∙ none;
+      };
+      up = λ was ok. up_kept m1 m2 p1 p2 count (λ page low. same page)
+          (ap (λ (p : Part). p.inflate.taken) part) (ap (λ (p : Part). p.report.taken) part)
+          (was (ap (λ (p : Part). contains p.status driver_ok) (sym part) ∙ ok));
+    }) count same (ap (λ (p : Part). p.target) part) (λ e. cc) (λ page offset bytes e. cc)

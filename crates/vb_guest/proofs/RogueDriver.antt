@@ -1,0 +1,367 @@
+-- What a driver does for a guest that wrote past it.
+use Rattle.std.specs.Prelude.{◌≡◌, ◌≢◌, ℕ, ◌==◌, Bool, true, false, not, ◌&&◌, List, [], ◌∷◌, length}
+use Rattle.std.specs.Prelude.{Option, Some, None, Result, Ok, Err, refl, if◌then◌else◌}
+use Rattle.std.proofs.Common.{sym, ◌∙◌, ap, subst}
+use Rattle.std.proofs.lemmas.List.{length-map, length-replicate}
+use Rattle.vb_model.specs.declared.calls.Call.{Call}
+use Rattle.vb_model.specs.declared.calls.Call.TheVariants.{Alloc, Free, Inflate, Deflate, Oom}
+use Rattle.vb_model.specs.declared.calls.Call.TheVariants.{Report, Stats, Reap, Reset}
+use Rattle.vb_model.specs.declared.layout.TheConstants.{INFLATE_QUEUE, DEFLATE_QUEUE}
+use Rattle.vb_model.specs.declared.places.Place.{Place}
+use Rattle.vb_model.specs.declared.replies.Refusal.{Refusal}
+use Rattle.vb_model.specs.declared.replies.Refusal.TheVariants.{NoFrame, NoQueue, NotReady, NoFeature}
+use Rattle.vb_model.specs.declared.replies.Refusal.TheVariants.{RingBroken, Nothing}
+use Rattle.vb_model.specs.declared.replies.Reply.{Reply}
+use Rattle.vb_model.specs.declared.replies.Reply.TheVariants.{Refused, Done}
+use Rattle.vb_model.specs.FirstRefusal.{Test, ◌⇒◌, first_refusal}
+use Rattle.vb_model.specs.Guest.{Guest, is_ballooned, stats_vq}
+use Rattle.vb_model.specs.Life.{place_after_reset}
+use Rattle.vb_model.specs.Pages.{placed}
+use Rattle.vb_model.specs.Rogue.{target_after}
+use Rattle.vb_model.specs.Status.{contains, driver_ok, is_broken}
+use Rattle.vb_model.specs.Tables.{is_queue_of_requests, lacks_feature}
+use Rattle.vb_ram.specs.Pages.{Pages, frame_at}
+use Rattle.vb_ram.specs.Part.{Part}
+use Rattle.vb_ring.specs.Ends.{after_take}
+use Rattle.vb_driver.specs.State.{DriverState}
+use Rattle.vb_driver.specs.declared.answers.Posted.{Posted}
+use Rattle.vb_driver.specs.declared.answers.Reaped.{Reaped}
+use Rattle.vb_driver.specs.Answers.{alloc_tests, free_tests, inflate_tests, deflate_tests, oom_tests}
+use Rattle.vb_driver.specs.Answers.{report_tests, reap_tests, stats_tests, is_ring_broken}
+use Rattle.vb_driver.specs.Calls.{AllocatesBy, FreesBy, InflatesBy, DeflatesBy, DeflatesOnOomBy}
+use Rattle.vb_driver.specs.Calls.{ReportsBy, FillsBy, ReapsBy, ResetsBy, Unchanged, AsksBack}
+use Rattle.vb_driver.specs.Calls.{after_refusal, after_reap, unreported, without_request, moved_on}
+use Rattle.vb_driver.specs.Calls.{place_reaped, ring_of}
+use Rattle.vb_driver.proofs.Placing.{length-marked}
+use Rattle.vb_guest.specs.Stands.{Rogue}
+use Rattle.vb_guest.specs.Steps.{StepsAlone}
+use Rattle.vb_guest.specs.Replies.{page_reply, done_reply, posted_reply, reaped_reply, filled_reply}
+use Rattle.vb_guest.proofs.Fresh.{everywhere}
+use Rattle.vb_guest.proofs.Rogues.{DriverSame, Keeps, driver_same, rogue_alone, IsOther}
+use Rattle.vb_guest.proofs.Rogues.{keeps_part, not_no_frame, refused_not, up_kept}
+
+-- the refusal isn't for want of frames
+not_for_frames : (why : Refusal) (tests : List Test) → Some why ≡ first_refusal tests
+    → first_refusal tests ≢ Some NoFrame → Refused why ≢ Refused NoFrame
+not_for_frames why tests is other = refused_not why (λ e. other (sym is ∙ e))
+
+-- ---- calls that leave the device alone
+
+-- a call that leaves it as it was, and the frames of memory
+part_alone : (m1 m2 : Pages) (p1 p2 : Part) (d1 d2 : DriverState) (g : Guest) (call : Call)
+    (reply : Reply) → DriverSame d1 d2 → p2 ≡ p1 → length m2 ≡ length m1
+    → ((page : ℕ) → frame_at m2 page ≡ frame_at m1 page)
+    → target_after call p1.target ≡ p1.target → reply ≢ Refused NoFrame → IsOther call
+    → Rogue m1 p1 d1 g → StepsAlone (Rogue m2 p2 d2) g call reply
+part_alone m1 m2 p1 p2 d1 d2 g call reply driver part count same still answer other rogue =
+    rogue_alone m1 m2 p1 p2 d1 d2 g call reply rogue
+    (keeps_part m1 m2 p1 p2 d1 d2 driver part count same) count same
+    (ap (λ (p : Part). p.target) part ∙ sym still) answer other
+
+-- one that changes nothing
+unchanged_alone : (m1 m2 : Pages) (p1 p2 : Part) (d1 d2 : DriverState) (g : Guest) (call : Call)
+    (why : Refusal) (tests : List Test) → Unchanged m1 m2 p1 p2 d1 d2
+    → target_after call p1.target ≡ p1.target → Some why ≡ first_refusal tests
+    → first_refusal tests ≢ Some NoFrame → IsOther call → Rogue m1 p1 d1 g
+    → StepsAlone (Rogue m2 p2 d2) g call (Refused why)
+unchanged_alone m1 m2 p1 p2 d1 d2 g call why tests same still is none other rogue =
+    part_alone m1 m2 p1 p2 d1 d2 g call (Refused why) (driver_same d1 d2 same.driver) same.part
+    (ap (λ (m : Pages). length m) same.mem)
+    (λ page. ap (λ (m : Pages). frame_at m page) same.mem) still
+    (not_for_frames why tests is none) other rogue
+
+-- pages have changed their places
+moved : (d1 d2 : DriverState) (pages : List ℕ) (place : Place)
+    → d2.pages ≡ d1.pages → d2.queue_size ≡ d1.queue_size → d2.processors ≡ d1.processors
+    → d2.places ≡ placed pages place d1.places → DriverSame d1 d2
+moved d1 d2 pages place count size processors places = record {
+  pages = count;
+  queue_size = size;
+  processors = processors;
+  table = ap (λ (l : List Place). length l) places ∙ length-marked pages place d1.places;
+}
+
+pub alloc_rogue : (m : Pages) (p : Part) (d1 d2 : DriverState) (g : Guest) (cpu order : ℕ)
+    (result : Result ℕ Refusal) → AllocatesBy d1 d2 cpu order result → Rogue m p d1 g
+    → StepsAlone (Rogue m p d2) g (Alloc cpu order) (page_reply result)
+alloc_rogue m p d1 d2 g cpu order (Ok start) did rogue =
+    part_alone m m p p d1 d2 g (Alloc cpu order) _
+    (moved d1 d2 _ _ (ap (λ (d : DriverState). d.pages) did.state)
+    (ap (λ (d : DriverState). d.queue_size) did.state)
+    (ap (λ (d : DriverState). d.processors) did.state)
+    (ap (λ (d : DriverState). d.places) did.state)) refl refl (λ page. refl) refl (λ e. cc)
+    (λ page offset bytes e. cc) rogue
+alloc_rogue m p d1 d2 g cpu order (Err why) did rogue =
+    part_alone m m p p d1 d2 g (Alloc cpu order) (Refused why)
+    (record {
+      pages = ap (λ (d : DriverState). d.pages) did.refused;
+      queue_size = ap (λ (d : DriverState). d.queue_size) did.refused;
+      processors = ap (λ (d : DriverState). d.processors) did.refused;
+      table = ap (λ (d : DriverState). length d.places) did.refused;
+    }) refl refl (λ page. refl) refl
+    (not_for_frames why (alloc_tests d1 cpu order) did.refusal
+    (not_no_frame (alloc_tests d1 cpu order) refl)) (λ page offset bytes e. cc) rogue
+
+pub free_rogue : {T : Type 0} (m : Pages) (p : Part) (d1 d2 : DriverState) (g : Guest)
+    (cpu start order : ℕ) (result : Result T Refusal) → FreesBy d1 d2 cpu start order result
+    → Rogue m p d1 g → StepsAlone (Rogue m p d2) g (Free cpu start order) (done_reply result)
+free_rogue m p d1 d2 g cpu start order (Ok x) did rogue =
+    part_alone m m p p d1 d2 g (Free cpu start order) _
+    (moved d1 d2 _ _ (ap (λ (d : DriverState). d.pages) did.state)
+    (ap (λ (d : DriverState). d.queue_size) did.state)
+    (ap (λ (d : DriverState). d.processors) did.state)
+    (ap (λ (d : DriverState). d.places) did.state)) refl refl (λ page. refl) refl (λ e. cc)
+    (λ page offset bytes e. cc) rogue
+free_rogue m p d1 d2 g cpu start order (Err why) did rogue =
+    part_alone m m p p d1 d2 g (Free cpu start order) (Refused why)
+    (driver_same d1 d2 did.refused) refl refl (λ page. refl) refl
+    (not_for_frames why (free_tests d1 cpu start order) did.refusal
+    (not_no_frame (free_tests d1 cpu start order) refl)) (λ page offset bytes e. cc) rogue
+
+-- ---- requests
+
+pub inflate_rogue : (m1 m2 : Pages) (p1 p2 : Part) (d1 d2 : DriverState) (g : Guest) (n : ℕ)
+    (result : Result Posted Refusal) → InflatesBy m1 m2 p1 p2 d1 d2 n result → Rogue m1 p1 d1 g
+    → StepsAlone (Rogue m2 p2 d2) g (Inflate n) (posted_reply result)
+inflate_rogue m1 m2 p1 p2 d1 d2 g n (Ok posted) did rogue =
+    let offers = did.offers in
+    part_alone m1 m2 p1 p2 d1 d2 g (Inflate n) _
+    (moved d1 d2 _ _ (ap (λ (d : DriverState). d.pages) offers.state)
+    (ap (λ (d : DriverState). d.queue_size) offers.state)
+    (ap (λ (d : DriverState). d.processors) offers.state)
+    (ap (λ (d : DriverState). d.places) offers.state)) offers.part offers.posts.rest.count
+    offers.posts.rest.backing refl (λ e. cc) (λ page offset bytes e. cc) rogue
+inflate_rogue m1 m2 p1 p2 d1 d2 g n (Err why) did rogue =
+    unchanged_alone m1 m2 p1 p2 d1 d2 g (Inflate n) why (inflate_tests d1 p1 n) did.refused refl
+    did.refusal (not_no_frame (inflate_tests d1 p1 n) refl) (λ page offset bytes e. cc) rogue
+
+asks_rogue : (m1 m2 : Pages) (p1 p2 : Part) (d1 d2 : DriverState) (g : Guest) (call : Call)
+    (count : ℕ) (posted : Posted) → AsksBack m1 m2 p1 p2 d1 d2 count posted
+    → target_after call p1.target ≡ p1.target → IsOther call → Rogue m1 p1 d1 g
+    → StepsAlone (Rogue m2 p2 d2) g call (posted_reply (Ok posted))
+asks_rogue m1 m2 p1 p2 d1 d2 g call count posted asks still other rogue =
+    part_alone m1 m2 p1 p2 d1 d2 g call _
+    (moved d1 d2 _ _ (ap (λ (d : DriverState). d.pages) asks.state)
+    (ap (λ (d : DriverState). d.queue_size) asks.state)
+    (ap (λ (d : DriverState). d.processors) asks.state)
+    (ap (λ (d : DriverState). d.places) asks.state)) asks.part asks.posts.rest.count
+    asks.posts.rest.backing still (λ e. cc) other rogue
+
+pub deflate_rogue : (m1 m2 : Pages) (p1 p2 : Part) (d1 d2 : DriverState) (g : Guest) (n : ℕ)
+    (result : Result Posted Refusal) → DeflatesBy m1 m2 p1 p2 d1 d2 n result → Rogue m1 p1 d1 g
+    → StepsAlone (Rogue m2 p2 d2) g (Deflate n) (posted_reply result)
+deflate_rogue m1 m2 p1 p2 d1 d2 g n (Ok posted) did rogue =
+    asks_rogue m1 m2 p1 p2 d1 d2 g (Deflate n) _ posted did.asks refl
+    (λ page offset bytes e. cc) rogue
+deflate_rogue m1 m2 p1 p2 d1 d2 g n (Err why) did rogue =
+    unchanged_alone m1 m2 p1 p2 d1 d2 g (Deflate n) why (deflate_tests d1 p1 n) did.refused refl
+    did.refusal (not_no_frame (deflate_tests d1 p1 n) refl) (λ page offset bytes e. cc) rogue
+
+pub oom_rogue : (m1 m2 : Pages) (p1 p2 : Part) (d1 d2 : DriverState) (g : Guest) (n : ℕ)
+    (result : Result Posted Refusal) → DeflatesOnOomBy m1 m2 p1 p2 d1 d2 n result
+    → Rogue m1 p1 d1 g → StepsAlone (Rogue m2 p2 d2) g (Oom n) (posted_reply result)
+oom_rogue m1 m2 p1 p2 d1 d2 g n (Ok posted) did rogue =
+    asks_rogue m1 m2 p1 p2 d1 d2 g (Oom n) _ posted did.asks refl (λ page offset bytes e. cc)
+    rogue
+oom_rogue m1 m2 p1 p2 d1 d2 g n (Err why) did rogue =
+    unchanged_alone m1 m2 p1 p2 d1 d2 g (Oom n) why (oom_tests d1 p1 n) did.refused refl
+    did.refusal (not_no_frame (oom_tests d1 p1 n) refl) (λ page offset bytes e. cc) rogue
+
+unreported_same : (why : Refusal) (d : DriverState) → DriverSame d (unreported why d)
+unreported_same Nothing d =
+    record { pages = refl; queue_size = refl; processors = refl; table = refl }
+unreported_same _ d = driver_same d d refl
+
+same_driver : (d1 d2 d3 : DriverState) → DriverSame d1 d2 → d3 ≡ d2 → DriverSame d1 d3
+same_driver d1 d2 d3 same e = subst (DriverSame d1) (sym e) same
+
+pub report_rogue : (m1 m2 : Pages) (p1 p2 : Part) (d1 d2 : DriverState) (g : Guest) (from : ℕ)
+    (result : Result Posted Refusal) → ReportsBy m1 m2 p1 p2 d1 d2 from result
+    → Rogue m1 p1 d1 g → StepsAlone (Rogue m2 p2 d2) g (Report from) (posted_reply result)
+report_rogue m1 m2 p1 p2 d1 d2 g from (Ok posted) did rogue =
+    let reports = did.reports in
+    part_alone m1 m2 p1 p2 d1 d2 g (Report from) _
+    (moved d1 d2 _ _ (ap (λ (d : DriverState). d.pages) reports.state)
+    (ap (λ (d : DriverState). d.queue_size) reports.state)
+    (ap (λ (d : DriverState). d.processors) reports.state)
+    (ap (λ (d : DriverState). d.places) reports.state)) reports.part reports.posts.rest.count
+    reports.posts.rest.backing refl (λ e. cc) (λ page offset bytes e. cc) rogue
+report_rogue m1 m2 p1 p2 d1 d2 g from (Err why) did rogue =
+    let same = did.refused in
+    part_alone m1 m2 p1 p2 d1 d2 g (Report from) (Refused why)
+    (same_driver d1 (unreported why d1) d2 (unreported_same why d1) same.driver) same.part
+    (ap (λ (m : Pages). length m) same.mem)
+    (λ page. ap (λ (m : Pages). frame_at m page) same.mem) refl
+    (not_for_frames why (report_tests d1 p1 from) did.refusal
+    (not_no_frame (report_tests d1 p1 from) refl)) (λ page offset bytes e. cc) rogue
+
+-- ---- used requests
+
+-- the driver gives up on a broken ring of a device that is up
+failed_keeps : (why : Refusal) (m : Pages) (p1 p2 : Part) (d : DriverState)
+    → p2 ≡ after_refusal why p1
+    → (why ≡ RingBroken → contains p1.status driver_ok ≡ true) → Keeps m m p1 p2 d d
+failed_keeps RingBroken m p1 p2 d is up = record {
+  driver = driver_same d d refl;
+  device = record {
+    size = ap (λ (p : Part). p.queue_size) is;
+    paced = ap (λ (p : Part). p.paced) is;
+    loose = λ none. ap (λ (p : Part). p.loose) is ∙ none;
+    flagged = ap (λ (p : Part). length p.ballooned) is;
+    unreserved = λ page low none. ap (λ (p : Part). is_ballooned p.ballooned page) is ∙ none;
+  };
+  up = λ was ok. up_kept m m p1 p2 refl (λ page low. refl)
+      (ap (λ (p : Part). p.inflate.taken) is) (ap (λ (p : Part). p.report.taken) is)
+      (was (up refl));
+}
+failed_keeps _ m p1 p2 d is up =
+    keeps_part m m p1 p2 d d (driver_same d d refl) is refl (λ page. refl)
+
+failed_target : (why : Refusal) (p : Part) → (after_refusal why p).target ≡ p.target
+failed_target RingBroken p = refl
+failed_target _ p = refl
+
+failed_alone : (m1 m2 : Pages) (p1 p2 : Part) (d1 d2 : DriverState) (g : Guest) (call : Call)
+    (why : Refusal) (tests : List Test) → Unchanged m1 m2 (after_refusal why p1) p2 d1 d2
+    → (why ≡ RingBroken → contains p1.status driver_ok ≡ true)
+    → target_after call p1.target ≡ p1.target → Some why ≡ first_refusal tests
+    → first_refusal tests ≢ Some NoFrame → IsOther call → Rogue m1 p1 d1 g
+    → StepsAlone (Rogue m2 p2 d2) g call (Refused why)
+failed_alone m1 m2 p1 p2 d1 d2 g call why tests same up still is none other rogue =
+    subst (λ (m : Pages). StepsAlone (Rogue m p2 d2) g call (Refused why)) (sym same.mem)
+    (subst (λ (d : DriverState). StepsAlone (Rogue m1 p2 d) g call (Refused why)) (sym same.driver)
+    (rogue_alone m1 m1 p1 p2 d1 d1 g call (Refused why) rogue
+    (failed_keeps why m1 p1 p2 d1 same.part up) refl (λ page. refl)
+    (ap (λ (p : Part). p.target) same.part ∙ failed_target why p1 ∙ sym still)
+    (not_for_frames why tests is none) other))
+
+reap_up : (queue up sound lacks broken : Bool) (why : Refusal)
+    → Some why ≡ first_refusal ((not queue ⇒ NoQueue) ∷ (not (up && sound) ⇒ NotReady)
+    ∷ (lacks ⇒ NoFeature) ∷ (broken ⇒ RingBroken) ∷ []) → why ≡ RingBroken → up ≡ true
+reap_up false up sound lacks broken why e is = absurd cc
+reap_up true true sound lacks broken why e is = refl
+reap_up true false sound lacks broken why e is = absurd cc
+
+stats_up : (up sound accepted broken : Bool) (why : Refusal)
+    → Some why ≡ first_refusal ((not (up && sound) ⇒ NotReady) ∷ (not accepted ⇒ NoFeature)
+    ∷ (broken ⇒ RingBroken) ∷ []) → why ≡ RingBroken → up ≡ true
+stats_up true sound accepted broken why e is = refl
+stats_up false sound accepted broken why e is = absurd cc
+
+without_same : (q head : ℕ) (d : DriverState) → DriverSame d (without_request q head d)
+without_same q head d = by (q == INFLATE_QUEUE) (q == DEFLATE_QUEUE)
+  where
+    by : (a b : Bool) → DriverSame d
+        (if a then record d { inflate = after_reap d.inflate head }
+        else (if b then record d { deflate = after_reap d.deflate head }
+        else record d {
+          report = record { ring = after_take d.report.ring (Ok (Some head)); blocks = [] };
+        }))
+    by true b = record { pages = refl; queue_size = refl; processors = refl; table = refl }
+    by false true = record { pages = refl; queue_size = refl; processors = refl; table = refl }
+    by false false = record { pages = refl; queue_size = refl; processors = refl; table = refl }
+
+reaped_same : (q head : ℕ) (pages : List ℕ) (d1 d2 : DriverState)
+    → d2 ≡ without_request q head (moved_on q pages d1) → DriverSame d1 d2
+reaped_same q head pages d1 d2 is =
+    let first = without_same q head (moved_on q pages d1) in
+    same_driver d1 (without_request q head (moved_on q pages d1)) d2
+    (record {
+      pages = first.pages;
+      queue_size = first.queue_size;
+      processors = first.processors;
+      table = first.table ∙ length-marked pages (place_reaped q) d1.places;
+    }) is
+
+pub reap_rogue : (m1 m2 : Pages) (p1 p2 : Part) (d1 d2 : DriverState) (g : Guest) (q : ℕ)
+    (result : Result (Option Reaped) Refusal) → ReapsBy m1 m2 p1 p2 d1 d2 q result
+    → Rogue m1 p1 d1 g → StepsAlone (Rogue m2 p2 d2) g (Reap q) (reaped_reply result)
+reap_rogue m1 m2 p1 p2 d1 d2 g q (Ok None) did rogue =
+    part_alone m1 m2 p1 p2 d1 d2 g (Reap q) _ (driver_same d1 d2 did.reaps.1) did.reaps.0
+    (ap (λ (m : Pages). length m) did.mem) (λ page. ap (λ (m : Pages). frame_at m page) did.mem)
+    refl (λ e. cc) (λ page offset bytes e. cc) rogue
+reap_rogue m1 m2 p1 p2 d1 d2 g q (Ok (Some reaped)) did rogue =
+    let part = did.reaps.part in
+    let same : (page : ℕ) → frame_at m2 page ≡ frame_at m1 page =
+    λ page. ap (λ (m : Pages). frame_at m page) did.mem in
+    let count : length m2 ≡ length m1 = ap (λ (m : Pages). length m) did.mem in
+    rogue_alone m1 m2 p1 p2 d1 d2 g (Reap q) _ rogue
+    (record {
+      driver = reaped_same q reaped.head _ d1 d2 did.reaps.state;
+      device = record {
+        size = ap (λ (p : Part). p.queue_size) part;
+        paced = ap (λ (p : Part). p.paced) part;
+        loose = λ none. ap (λ (p : Part). p.loose) part ∙ none;
+        flagged = ap (λ (p : Part). length p.ballooned) part;
+        unreserved = λ page low none.
+            ap (λ (p : Part). is_ballooned p.ballooned page) part ∙ none;
+      };
+      up = λ was ok. up_kept m1 m2 p1 p2 count (λ page low. same page)
+          (ap (λ (p : Part). p.inflate.taken) part) (ap (λ (p : Part). p.report.taken) part)
+          (was (ap (λ (p : Part). contains p.status driver_ok) (sym part) ∙ ok));
+    }) count same (ap (λ (p : Part). p.target) part) (λ e. cc) (λ page offset bytes e. cc)
+reap_rogue m1 m2 p1 p2 d1 d2 g q (Err why) did rogue =
+    failed_alone m1 m2 p1 p2 d1 d2 g (Reap q) why (reap_tests m1 p1 d1 (ring_of q d1) q)
+    (record { mem = did.mem; part = did.failed; driver = did.refused })
+    (reap_up (is_queue_of_requests q) (contains p1.status driver_ok) (not (is_broken p1.status))
+    (lacks_feature d1.features q) (is_ring_broken m1 (ring_of q d1)) why did.refusal) refl
+    did.refusal (not_no_frame (reap_tests m1 p1 d1 (ring_of q d1) q) refl)
+    (λ page offset bytes e. cc) rogue
+
+pub stats_rogue : (m1 m2 : Pages) (p1 p2 : Part) (d1 d2 : DriverState) (g : Guest)
+    (result : Result Bool Refusal) → FillsBy m1 m2 p1 p2 d1 d2 result → Rogue m1 p1 d1 g
+    → StepsAlone (Rogue m2 p2 d2) g Stats (filled_reply result)
+stats_rogue m1 m2 p1 p2 d1 d2 g (Ok true) did rogue =
+    let fills = did.fills in
+    part_alone m1 m2 p1 p2 d1 d2 g Stats _
+    (record {
+      pages = ap (λ (d : DriverState). d.pages) fills.state;
+      queue_size = ap (λ (d : DriverState). d.queue_size) fills.state;
+      processors = ap (λ (d : DriverState). d.processors) fills.state;
+      table = ap (λ (d : DriverState). length d.places) fills.state;
+    }) fills.part fills.posts.rest.count fills.posts.rest.backing refl (λ e. cc)
+    (λ page offset bytes e. cc) rogue
+stats_rogue m1 m2 p1 p2 d1 d2 g (Ok false) did rogue =
+    let same = did.fills.unchanged in
+    part_alone m1 m2 p1 p2 d1 d2 g Stats _ (driver_same d1 d2 same.driver) same.part
+    (ap (λ (m : Pages). length m) same.mem)
+    (λ page. ap (λ (m : Pages). frame_at m page) same.mem) refl (λ e. cc)
+    (λ page offset bytes e. cc) rogue
+stats_rogue m1 m2 p1 p2 d1 d2 g (Err why) did rogue =
+    failed_alone m1 m2 p1 p2 d1 d2 g Stats why (stats_tests m1 p1 d1) did.refused
+    (stats_up (contains p1.status driver_ok) (not (is_broken p1.status)) (stats_vq d1.features)
+    (is_ring_broken m1 d1.statistics) why did.refusal) refl did.refusal
+    (not_no_frame (stats_tests m1 p1 d1) refl) (λ page offset bytes e. cc) rogue
+
+-- ---- a reset
+
+pub reset_rogue : (m1 m2 : Pages) (p1 p2 : Part) (d1 d2 : DriverState) (g : Guest)
+    → ResetsBy m1 m2 p1 p2 d1 d2 → Rogue m1 p1 d1 g → StepsAlone (Rogue m2 p2 d2) g Reset Done
+reset_rogue m1 m2 p1 p2 d1 d2 g did rogue =
+    let part = did.part in
+    rogue_alone m1 m2 p1 p2 d1 d2 g Reset Done rogue
+    (record {
+      driver = record {
+        pages = ap (λ (d : DriverState). d.pages) did.state;
+        queue_size = ap (λ (d : DriverState). d.queue_size) did.state;
+        processors = ap (λ (d : DriverState). d.processors) did.state;
+        table = ap (λ (d : DriverState). length d.places) did.state
+            ∙ length-map d1.places place_after_reset;
+      };
+      device = record {
+        size = ap (λ (p : Part). p.queue_size) part;
+        paced = ap (λ (p : Part). p.paced) part;
+        loose = λ none. ap (λ (p : Part). p.loose) part ∙ none;
+        flagged = ap (λ (p : Part). length p.ballooned) part
+            ∙ length-replicate (length p1.ballooned) false;
+        unreserved = λ page low none. ap (λ (p : Part). is_ballooned p.ballooned page) part
+            ∙ everywhere (length p1.ballooned) false page;
+      };
+      up = λ was ok. absurd
+          (let down : contains 0 driver_ok ≡ true =
+          ap (λ (p : Part). contains p.status driver_ok) (sym part) ∙ ok in
+          let wrong : false ≡ true = down in
+          cc);
+    }) (ap (λ (m : Pages). length m) did.mem)
+    (λ page. ap (λ (m : Pages). frame_at m page) did.mem) (ap (λ (p : Part). p.target) part)
+    (λ e. cc) (λ page offset bytes e. cc)

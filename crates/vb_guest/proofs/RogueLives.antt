@@ -1,0 +1,271 @@
+-- A guest that wrote past its driver is initialised; an honest guest becomes one.
+use Rattle.std.specs.Prelude.{◌≡◌, ◌≢◌, ℕ, ◌<◌, Bool, true, false, List, [], ◌∷◌, length, All, Option}
+use Rattle.std.specs.Prelude.{Some, None, Result, Ok, Err, IsSome, MatchOption, count_by, is_none}
+use Rattle.std.specs.Prelude.{refl, ◌≤◌, is_some}
+use Rattle.std.proofs.Common.{sym, ◌∙◌, ap, subst, arith, inl, inr}
+use Rattle.std.proofs.lemmas.List.{length-replicate}
+use Rattle.std.proofs.lemmas.List.Elements.{All-nil}
+use Rattle.vb_model.specs.declared.calls.Call.TheVariants.{Init}
+use Rattle.vb_model.specs.declared.calls.Claim.{Claim}
+use Rattle.vb_model.specs.declared.replies.Refusal.{Refusal}
+use Rattle.vb_model.specs.declared.replies.Refusal.TheVariants.{AlreadyUp, NoFrame}
+use Rattle.vb_model.specs.declared.replies.Reply.TheVariants.{Refused}
+use Rattle.vb_model.specs.Driver.{AllDistinct, given, claim_refusal, AreClaimsFor}
+use Rattle.vb_model.specs.Guest.{Guest, all_backed, stats_vq, is_ballooned}
+use Rattle.vb_model.specs.Life.{lacking, feature_tests, feature_refusal, accepted_before}
+use Rattle.vb_model.specs.Orderly.{times}
+use Rattle.vb_model.specs.Requests.{Request}
+use Rattle.vb_model.specs.Rogue.{LosesFrames}
+use Rattle.vb_model.specs.Status.{contains, driver_ok}
+use Rattle.vb_model.specs.Tests.{is_in}
+use Rattle.vb_ram.specs.Pages.{Pages, frame_at}
+use Rattle.vb_ram.specs.Part.{Part}
+use Rattle.vb_ram.proofs.Limits.{config_limits}
+use Rattle.vb_frames.specs.declared.keeper.Refused.{Refused as WhyRefused}
+use Rattle.vb_status.specs.After.{part_after_reset}
+use Rattle.vb_driver.specs.State.{DriverState}
+use Rattle.vb_driver.specs.Calls.{InitsBy, Starts, FirstBuffer, GivesUp}
+use Rattle.vb_guest.specs.Lives.{bare_from, AllSupplied, why_unsupplied, SuppliesBy}
+use Rattle.vb_guest.specs.Replies.{ready_reply}
+use Rattle.vb_guest.specs.Stands.{Honest, IsOwnRequest, IsRogueUp, Rogue}
+use Rattle.vb_guest.specs.Steps.{backing_count, is_frame, StepsAlone, StepsOver}
+use Rattle.vb_guest.specs.Supply.{Supply, supply_of, Moves, nothing}
+use Rattle.vb_guest.proofs.Fresh.{everywhere}
+use Rattle.vb_guest.proofs.InitStep.{bare_is, now_backed, has_all, given_up, driver_tests}
+use Rattle.vb_guest.proofs.Moving.{moves_as}
+use Rattle.vb_guest.proofs.OwnBlocks.{own_pages}
+use Rattle.vb_guest.proofs.Rogues.{Keeps, DeviceSame, driver_same, rogue_after, rogue_stands}
+use Rattle.vb_guest.proofs.Rogues.{rogue_alone, rogue_steps, rogue_unclaimed, keeps_part}
+use Rattle.vb_guest.proofs.Rogues.{not_no_frame, refused_not}
+use Rattle.vb_guest.proofs.Supplying.{all_distinct, bounded, frames_given, frames_filled}
+use Rattle.vb_guest.proofs.Supplying.{supplied_count}
+use Rattle.vb_guest.proofs.Writing.{HasFrames}
+
+pub init_up_rogue : (m : Pages) (p : Part) (d : DriverState) (g : Guest) (wanted : ℕ)
+    → Rogue m p d g → StepsAlone (Rogue m p d) g (Init wanted) (Refused AlreadyUp)
+init_up_rogue m p d g wanted rogue =
+    rogue_alone m m p p d d g (Init wanted) _ rogue
+    (keeps_part m m p p d d (driver_same d d refl) refl refl (λ page. refl)) refl (λ page. refl)
+    refl (λ e. cc) (λ page offset bytes e. cc)
+
+pub init_unsupplied_rogue : (Answers : List Bool → Claim → Type 0) (out1 out2 : List Bool)
+    (l : List Claim) (m1 m2 : Pages) (p1 p2 : Part) (d : DriverState) (g : Guest) (wanted : ℕ)
+    (why : WhyRefused) (refusal : Refusal)
+    → why_unsupplied {T = Unit {0}} (Err why) ≡ Some refusal
+    → SuppliesBy {T = Unit {0}} Answers (supply_of p1 out1) (supply_of p2 out2) [] l (bare_from m1 0)
+    m1 m2 (Err why) → p2 ≡ record p1 { own = p2.own } → Rogue m1 p1 d g
+    → StepsOver (Rogue m2 p2 d) Answers (supply_of p1 out1) (supply_of p2 out2) l g (Init wanted)
+    (Refused refusal)
+init_unsupplied_rogue Answers out1 out2 l m1 m2 p1 p2 d g wanted why refusal is did part rogue =
+    subst (λ (c : List Claim). StepsOver (Rogue m2 p2 d) Answers (supply_of p1 out1)
+    (supply_of p2 out2) c g (Init wanted) (Refused refusal)) (sym did.noted)
+    (rogue_unclaimed Answers out1 out2 m1 m2 p1 p2 d g (Init wanted) did.claims refusal rogue
+    did.refused.0 part
+    (subst (λ (l : List ℕ). AreClaimsFor l did.claims) (bare_is m1 g rogue.behind) did.made)
+    (did.answer ∙ is) refl (λ page offset bytes e. absurd cc) did.answered did.refused.1)
+
+-- ---- with frames
+
+-- what an initialisation, or one whose features are refused, leaves
+record Leaves (m2 m3 : Pages) (p2 p3 : Part) (d1 d2 : DriverState) : Type 0 where
+  keeps : Keeps m2 m3 p2 p3 d1 d2
+  count : length m3 ≡ length m2
+  same : (page : ℕ) → frame_at m3 page ≡ frame_at m2 page
+  target : p3.target ≡ p2.target
+  flag : p3.keeps ≡ p2.keeps
+  numbers : p3.own ≡ p2.own
+
+-- the part after a reset, with another status
+reset_device : (p p2 : Part) (state features : ℕ)
+    → p2 ≡ record (part_after_reset p) { status = state; features = features } → DeviceSame p p2
+reset_device p p2 state features is = record {
+  size = ap (λ (x : Part). x.queue_size) is;
+  paced = ap (λ (x : Part). x.paced) is;
+  loose = λ none. ap (λ (x : Part). x.loose) is ∙ none;
+  flagged = ap (λ (x : Part). length x.ballooned) is ∙ length-replicate (length p.ballooned) false;
+  unreserved = λ page low none. ap (λ (x : Part). is_ballooned x.ballooned page) is
+      ∙ everywhere (length p.ballooned) false page;
+}
+
+first_buffer_frames : (stats : Bool) (m1 m2 : Pages) (d1 d2 : DriverState)
+    → FirstBuffer stats m1 m2 d1 d2
+    → (length m2 ≡ length m1) × ((page : ℕ) → frame_at m2 page ≡ frame_at m1 page)
+first_buffer_frames true m1 m2 d1 d2 first = (first.rest.count, first.rest.backing)
+first_buffer_frames false m1 m2 d1 d2 first = (
+  ap (λ (m : Pages). length m) first.0,
+  λ page. ap (λ (m : Pages). frame_at m page) first.0,
+)
+
+started_leaves : (m2 m3 : Pages) (p2 p3 : Part) (d1 d2 : DriverState) (wanted : ℕ)
+    → ((page : ℕ) → page < 13 → IsSome (frame_at m2 page)) → Starts m2 m3 p2 p3 d1 d2 wanted
+    → Leaves m2 m3 p2 p3 d1 d2
+started_leaves m2 m3 p2 p3 d1 d2 wanted backed starts =
+    let first = first_buffer_frames (stats_vq wanted) starts.zeroed m3 d1 d2 starts.buffer in
+    let same : (page : ℕ) → frame_at m3 page ≡ frame_at m2 page =
+    λ page. first.1 page ∙ starts.rings.backing page in
+    record {
+      keeps = record {
+        driver = record {
+          pages = ap (λ (d : DriverState). d.pages) starts.driver;
+          queue_size = ap (λ (d : DriverState). d.queue_size) starts.driver;
+          processors = ap (λ (d : DriverState). d.processors) starts.driver;
+          table = ap (λ (d : DriverState). length d.places) starts.driver;
+        };
+        device = reset_device p2 p3 15 wanted starts.part;
+        up = λ was ok. record {
+          backed = λ page lt. ap is_some (same page) ∙ backed page lt;
+          inflates = subst (All (IsOwnRequest (length m3)))
+              (sym (ap (λ (p : Part). p.inflate.taken) starts.part))
+              (All-nil (IsOwnRequest (length m3)));
+          reports = subst (All (IsOwnRequest (length m3)))
+              (sym (ap (λ (p : Part). p.report.taken) starts.part))
+              (All-nil (IsOwnRequest (length m3)));
+        };
+      };
+      count = first.0 ∙ starts.rings.count;
+      same = same;
+      target = ap (λ (p : Part). p.target) starts.part;
+      flag = ap (λ (p : Part). p.keeps) starts.part;
+      numbers = ap (λ (p : Part). p.own) starts.part;
+    }
+
+stopped_leaves : (m2 m3 : Pages) (p2 p3 : Part) (d1 d2 : DriverState) (features : ℕ)
+    → GivesUp m2 m3 p2 p3 d1 d2 features → Leaves m2 m3 p2 p3 d1 d2
+stopped_leaves m2 m3 p2 p3 d1 d2 features stops = record {
+  keeps = record {
+    driver = record {
+      pages = ap (λ (d : DriverState). d.pages) stops.driver;
+      queue_size = ap (λ (d : DriverState). d.queue_size) stops.driver;
+      processors = ap (λ (d : DriverState). d.processors) stops.driver;
+      table = ap (λ (d : DriverState). length d.places) stops.driver;
+    };
+    device = reset_device p2 p3 131 features stops.part;
+    up = λ was ok. absurd
+        (let down : contains 131 driver_ok ≡ true =
+        ap (λ (p : Part). contains p.status driver_ok) (sym stops.part) ∙ ok in
+        let wrong : false ≡ true = down in
+        cc);
+  };
+  count = ap (λ (m : Pages). length m) stops.mem;
+  same = λ page. ap (λ (m : Pages). frame_at m page) stops.mem;
+  target = ap (λ (p : Part). p.target) stops.part;
+  flag = ap (λ (p : Part). p.keeps) stops.part;
+  numbers = ap (λ (p : Part). p.own) stops.part;
+}
+
+inits_leave : (m2 m3 : Pages) (p2 p3 : Part) (d1 d2 : DriverState) (wanted : ℕ)
+    (result : Result (Unit {0}) Refusal) → p2.status ≡ 0
+    → ((page : ℕ) → page < 13 → IsSome (frame_at m2 page))
+    → InitsBy m2 m3 p2 p3 d1 d2 wanted result
+    → Leaves m2 m3 p2 p3 d1 d2 × (ready_reply result ≢ Refused NoFrame)
+inits_leave m2 m3 p2 p3 d1 d2 wanted (Ok x) new backed did =
+    (started_leaves m2 m3 p2 p3 d1 d2 wanted backed did.starts, λ e. cc)
+inits_leave m2 m3 p2 p3 d1 d2 wanted (Err why) new backed did =
+    let is : Some why ≡ feature_refusal wanted =
+    did.refusal ∙ driver_tests m2 p2 wanted new (has_all m2 backed) in (
+      stopped_leaves m2 m3 p2 p3 d1 d2 (accepted_before why wanted)
+          (given_up m2 m3 p2 p3 d1 d2 wanted why (sym is) did.refused),
+      refused_not why (λ e. not_no_frame (feature_tests wanted) refl (sym is ∙ e)),
+    )
+
+pub init_supplied_rogue : (Answers : List Bool → Claim → Type 0) (out1 out2 : List Bool)
+    (l : List Claim) (m1 m2 m3 : Pages) (p1 p2 p3 : Part) (d1 d2 : DriverState) (g : Guest)
+    (wanted features : ℕ) (result : Result (Unit {0}) Refusal) → features ≡ wanted
+    → p1.status ≡ 0
+    → SuppliesBy {T = Unit {0}} Answers (supply_of p1 out1) (supply_of p2 out2) [] l (bare_from m1 0)
+    m1 m2 (Ok tt)
+    → p2 ≡ record p1 { own = p2.own } → InitsBy m2 m3 p2 p3 d1 d2 features result → Rogue m1 p1 d1 g
+    → StepsOver (Rogue m3 p3 d2) Answers (supply_of p1 out1) (supply_of p3 out2) l g (Init wanted)
+    (ready_reply result)
+init_supplied_rogue Answers out1 out2 l m1 m2 m3 p1 p2 p3 d1 d2 g wanted features result named
+    status did part inits rogue =
+    let n = g.config.pages in
+    let pages = lacking g in
+    let claims = did.claims in
+    let bare : bare_from m1 0 ≡ lacking g = bare_is m1 g rogue.behind in
+    let made : AreClaimsFor pages claims =
+    subst (λ (x : List ℕ). AreClaimsFor x claims) bare did.made in
+    let supplied : AllSupplied pages (given claims) m1 m2 =
+    subst (λ (x : List ℕ). AllSupplied x (given claims) m1 m2) bare did.supplied.0 in
+    let frames : List (Option ℕ) = all_backed pages (given claims) g.frames in
+    let distinct = subst AllDistinct bare (all_distinct (λ page. is_none (frame_at m1 page)) 0 13) in
+    let below : (p : ℕ) → is_in p pages ≡ true → p < n =
+    λ p there. (let low = bounded (λ page. is_none (frame_at m1 page)) 0 13 p
+    (ap (is_in p) bare ∙ there) in
+    omega (
+      arith,
+      low,
+      (config_limits g.config.pages g.config.queue_size g.config.processors
+          rogue.config).pages_least,
+    )) in
+    let before : HasFrames m1 n g.frames =
+    record { length_is = rogue.length_is; framed = rogue.framed; behind = rogue.behind } in
+    let has = frames_given n pages (given claims) m1 m2 g.frames distinct below supplied before in
+    let backed : (p : ℕ) → p < 13 → IsSome (frame_at m2 p) =
+    λ p lt. now_backed m1 m2 (given claims) p did.supplied.0 lt in
+    let new : p2.status ≡ 0 = ap (λ (p : Part). p.status) part ∙ status in
+    let same : InitsBy m2 m3 p2 p3 d1 d2 wanted result =
+    subst (λ (f : ℕ). InitsBy m2 m3 p2 p3 d1 d2 f result) named inits in
+    let (left, answer) = inits_leave m2 m3 p2 p3 d1 d2 wanted result new backed same in
+    let given_frames : Rogue m2 p2 d1 (rogue_after g frames p2 d1) =
+    rogue_stands m1 m2 p1 p2 d1 d1 g frames rogue
+    (record {
+      driver = driver_same d1 d1 refl;
+      device = record {
+        size = ap (λ (p : Part). p.queue_size) part;
+        paced = ap (λ (p : Part). p.paced) part;
+        loose = λ none. ap (λ (p : Part). p.loose) part ∙ none;
+        flagged = ap (λ (p : Part). length p.ballooned) part;
+        unreserved = λ page low none.
+            ap (λ (p : Part). is_ballooned p.ballooned page) part ∙ none;
+      };
+      up = λ was ok. absurd
+          (let down : contains 0 driver_ok ≡ true =
+          ap (λ (s : ℕ). contains s driver_ok) (sym new) ∙ ok in
+          let wrong : false ≡ true = down in
+          cc);
+    }) (has.length_is ∙ sym rogue.length_is) (has.framed ∙ sym rogue.framed) has.behind in
+    let after : Guest = rogue_after g frames p3 d2 in
+    let stands : Rogue m3 p3 d2 after =
+    rogue_stands m2 m3 p2 p3 d1 d2 (rogue_after g frames p2 d1) frames given_frames left.keeps
+    left.count refl (λ page. left.same page ∙ has.behind page) in
+    let P : Option Refusal → Type 0 =
+    λ o. MatchOption o (LosesFrames frames frames)
+    (λ refusal. (ready_reply result ≡ Refused refusal) × (frames ≡ g.frames)) in
+    let step = rogue_steps m1 m3 p1 p3 d1 d2 g after (Init wanted) claims (ready_reply result) pages
+    rogue stands refl (left.target ∙ ap (λ (p : Part). p.target) part) (inr refl) made
+    (subst P (sym did.answer) (λ page frame e. e)) (λ e. absurd (answer e))
+    (λ page offset bytes e. absurd cc) in
+    let same_supply : supply_of p3 out2 ≡ supply_of p2 out2 =
+    ap (λ (k : Bool). record { keeps = k; own = p3.own; out = out2 }) left.flag
+    ∙ ap (λ (o : List ℕ). record { keeps = p2.keeps; own = o; out = out2 }) left.numbers in
+    subst (λ (c : List Claim). StepsOver (Rogue m3 p3 d2) Answers (supply_of p1 out1)
+    (supply_of p3 out2) c g (Init wanted) (ready_reply result)) (sym did.noted) (record {
+      new = after;
+      stands = stands;
+      step = step;
+      answered = did.answered;
+      moves = subst (λ (s : Supply). Moves (supply_of p1 out1) s (λ n. backing_count n after)
+          (λ n. backing_count n g)) (sym same_supply)
+          (moves_as (supply_of p1 out1) (supply_of p2 out2) (λ x. times x (given claims)) nothing
+          (λ n. backing_count n after) (λ n. backing_count n g) did.supplied.1
+          (λ x. omega (
+            arith,
+            frames_filled x n pages claims m1 m2 g.frames did.answer made distinct below supplied
+                before,
+          )));
+    })
+
+-- memory is as large as it was
+pub still_large_rogue : (Answers : List Bool → Claim → Type 0) (s1 s2 : Supply) (l1 l2 : List Claim)
+    (m1 m2 : Pages) (p : Part) (d : DriverState) (g : Guest) → Rogue m1 p d g
+    → SuppliesBy {T = Unit {0}} Answers s1 s2 l1 l2 (bare_from m1 0) m1 m2 (Ok tt)
+    → 64 ≤ length m2
+still_large_rogue Answers s1 s2 l1 l2 m1 m2 p d g rogue did =
+    omega (
+      arith,
+      (config_limits g.config.pages g.config.queue_size g.config.processors
+          rogue.config).pages_least,
+      rogue.length_is,
+      supplied_count (bare_from m1 0) (given did.claims) m1 m2 did.supplied.0,
+    )

@@ -1,0 +1,535 @@
+-- Bytes of a guest's pages that are written past its driver, and those that a rogue guest writes.
+use Rattle.std.specs.Prelude.{◌≡◌, ◌≢◌, ℕ, ◌<◌, Bool, true, false, List, [], ◌∷◌, length, Option}
+use Rattle.std.specs.Prelude.{Some, None, All, MatchOption, is_some, is_none, count_by, ◌≤◌, refl}
+use Rattle.std.specs.Prelude.{if◌then◌else◌, ◌+◌}
+use Rattle.std.proofs.Common.{sym, ◌∙◌, ap, subst, arith, inl, inr}
+use Rattle.std.proofs.lemmas.Bool.{cases_eq, cases_lt}
+use Rattle.vb_model.specs.declared.calls.Call.{Call}
+use Rattle.vb_model.specs.declared.calls.Call.TheVariants.{Read, Write, Scribble}
+use Rattle.vb_model.specs.declared.calls.Claim.{Claim}
+use Rattle.vb_model.specs.declared.calls.Claim.TheVariants.{Gave, GaveNoFrame, GaveNoMemory}
+use Rattle.vb_model.specs.declared.replies.Refusal.{Refusal}
+use Rattle.vb_model.specs.declared.replies.Refusal.TheVariants.{OutOfRam, NoMemory}
+use Rattle.vb_model.specs.declared.replies.Refusal.TheVariants.{NoFrame as NoFrameLeft}
+use Rattle.vb_model.specs.declared.replies.Reply.{Reply}
+use Rattle.vb_model.specs.declared.replies.Reply.TheVariants.{Done, Refused}
+use Rattle.vb_model.specs.Driver.{given, claim_refusal, AreClaimsFor, pages_needed}
+use Rattle.vb_model.specs.FirstRefusal.{◌⇒◌, first_refusal}
+use Rattle.vb_model.specs.Guest.{Guest, frame_of, backed, all_backed, is_ballooned}
+use Rattle.vb_model.specs.Limits.{reserved_pages}
+use Rattle.vb_model.specs.Orderly.{times}
+use Rattle.vb_model.specs.Refusals.{refusal_of, is_outside}
+use Rattle.vb_model.specs.Requests.{Request}
+use Rattle.vb_model.specs.Rogue.{RogueStep, ScribbleStep, Scribbles, Scribbled, IsRogueAfter}
+use Rattle.vb_model.specs.Rogue.{LosesFrames}
+use Rattle.vb_model.specs.Status.{contains, driver_ok}
+use Rattle.vb_model.specs.Step.{HonestStep, GuestStep}
+use Rattle.vb_ram.specs.Pages.{Pages, frame_at, number_of, Covers, Wrote, Supplied}
+use Rattle.vb_ram.specs.Part.{Part}
+use Rattle.vb_frames.specs.declared.keeper.Refused.{Refused as KeeperRefused}
+use Rattle.vb_frames.specs.declared.keeper.Refused.TheVariants.{NoFrame, Memory}
+use Rattle.vb_frames.specs.Out.{claim_in}
+use Rattle.vb_driver.specs.State.{DriverState}
+use Rattle.vb_guest.specs.Reported.{IsReport}
+use Rattle.vb_guest.specs.Stands.{Honest, IsOwnRequest, IsRogueUp, Rogue, Stands}
+use Rattle.vb_guest.specs.Steps.{backing_count, is_frame, StepsAlone, StepsOver}
+use Rattle.vb_guest.specs.Supply.{supply_of, AreClaimed, IsClaimed, Moves, nothing}
+use Rattle.vb_guest.proofs.Closing.{honest_refused, guest_step, refused_alone, honest_own}
+use Rattle.vb_guest.proofs.Freed.{down_not_ok}
+use Rattle.vb_guest.proofs.Moving.{moves_as, times_one}
+use Rattle.vb_guest.proofs.Offered.{high_page}
+use Rattle.vb_guest.proofs.OwnBlocks.{own_pages}
+use Rattle.vb_guest.proofs.Rogues.{Keeps, driver_same, device_same, keeps_part, rogue_after}
+use Rattle.vb_guest.proofs.Rogues.{rogue_stands, rogue_alone, rogue_steps, rogue_unclaimed}
+use Rattle.vb_guest.proofs.Standing.{by_guest, rogue_is, stands_with, stands_of, own_moved}
+use Rattle.vb_guest.proofs.Standing.{alone_stands, over_stands}
+use Rattle.vb_guest.proofs.SweepStep.{ballooned_free}
+use Rattle.vb_guest.proofs.WriteStep.{inside_is, outside_is, needs_one, refusal_of_claim}
+use Rattle.vb_guest.proofs.Writing.{HasFrames, frames_supplied, count_backed}
+
+-- ---- any guest as a rogue one
+
+-- an honest guest's requests name its own pages
+up_honest : (m : Pages) (p : Part) (d : DriverState) (g : Guest) → Honest m p d g
+    → contains p.status driver_ok ≡ true → IsRogueUp m p
+up_honest m p d g honest ok = elim honest.ties.queues [
+  | inl idle ↦
+      (let P : ℕ → Type 0 = λ s. contains s driver_ok ≡ true in
+      absurd (down_not_ok g.status idle.state (subst P honest.ties.parts.device.status ok)))
+  | inr run ↦
+      let n = g.config.pages in
+      let sized : (rs : List Request) → All (IsOwnRequest n) rs
+      → All (IsOwnRequest (length m)) rs =
+      λ rs all. subst (λ (k : ℕ). All (IsOwnRequest k) rs) (sym honest.ties.pages.length_is) all in
+      record {
+        backed = run.backed;
+        inflates = sized p.inflate.taken (subst (All (IsOwnRequest n)) (sym run.inflate.remembers)
+            (λ k r lt. let is = run.inflate.taken k r lt in
+            record { above = is.pages.above; below = is.pages.below }));
+        reports = sized p.report.taken (subst (All (IsOwnRequest n)) (sym run.report.remembers)
+            (λ k r lt. let is = run.report.taken k r lt in
+            let own = own_pages n d.report.blocks is.blocks_are in
+            record {
+              above = subst (All (λ page. 16 ≤ page)) (sym is.names) own.0;
+              below = subst (All (λ page. page < n)) (sym is.names) own.1;
+            }));
+      }
+]
+
+-- and no reserved page is ballooned
+low_honest : (g : Guest) (page : ℕ) (flag : Bool) → is_ballooned g.ballooned page ≡ flag
+    → ((e : is_ballooned g.ballooned page ≡ true) → 16 ≤ page) → page < reserved_pages
+    → is_ballooned g.ballooned page ≡ false
+low_honest g page true is high low = absurd (omega (arith, high is, low))
+low_honest g page false is high low = is
+
+abbrev pub marked : Guest → Guest
+marked g = record g { rogue = true }
+
+pub as_rogue : (keeps : Bool) (m : Pages) (p : Part) (d : DriverState) (g : Guest)
+    → Stands keeps m p d g → Rogue m p d (marked g)
+as_rogue keeps m p d g stands = by_guest keeps m p d g stands
+    (λ honest. let parts = honest.ties.parts in
+    record {
+      rogue = refl;
+      config = parts.guest.config;
+      pages = parts.driver.pages;
+      queue_size = parts.driver.queue_size;
+      processors = parts.driver.processors;
+      places = parts.driver.places;
+      placed = honest.consistent.sized;
+      actual = honest.consistent.counted;
+      size = parts.device.size;
+      paced = parts.device.paced;
+      status = parts.device.status;
+      target = parts.device.target;
+      last = parts.device.last;
+      ballooned = parts.device.ballooned;
+      flagged = honest.consistent.flagged;
+      unreserved = λ page low. low_honest g page (is_ballooned g.ballooned page) refl
+          (λ e. (high_page g page honest.orderly
+          (ballooned_free g page honest.consistent e)).0) low;
+      loose = parts.device.loose;
+      length_is = honest.ties.pages.length_is;
+      framed = honest.ties.pages.framed;
+      filled = honest.ties.pages.filled;
+      behind = honest.ties.pages.behind;
+      up = up_honest m p d g honest;
+    })
+    (λ rogue. record {
+      rogue = refl;
+      config = rogue.config;
+      pages = rogue.pages;
+      queue_size = rogue.queue_size;
+      processors = rogue.processors;
+      places = rogue.places;
+      placed = rogue.placed;
+      actual = rogue.actual;
+      size = rogue.size;
+      paced = rogue.paced;
+      status = rogue.status;
+      target = rogue.target;
+      last = rogue.last;
+      ballooned = rogue.ballooned;
+      flagged = rogue.flagged;
+      unreserved = rogue.unreserved;
+      loose = rogue.loose;
+      length_is = rogue.length_is;
+      framed = rogue.framed;
+      filled = rogue.filled;
+      behind = rogue.behind;
+      up = rogue.up;
+    })
+
+-- ---- a rogue guest reads and writes
+
+pub read_rogue : (m : Pages) (p : Part) (d : DriverState) (g : Guest) (page off len : ℕ)
+    (reply : Reply) → reply ≢ Refused NoFrameLeft → Rogue m p d g
+    → StepsAlone (Rogue m p d) g (Read page off len) reply
+read_rogue m p d g page off len reply answer rogue =
+    rogue_alone m m p p d d g (Read page off len) reply rogue
+    (keeps_part m m p p d d (driver_same d d refl) refl refl (λ page. refl)) refl (λ page. refl)
+    refl answer (λ page offset bytes e. cc)
+
+-- frames are as they were
+pub write_rogue : (m1 m2 : Pages) (p1 p2 : Part) (d : DriverState) (g : Guest) (page off : ℕ)
+    (bs : List ℕ) (reply : Reply) → length m2 ≡ length m1
+    → ((page : ℕ) → frame_at m2 page ≡ frame_at m1 page) → p2 ≡ p1
+    → reply ≢ Refused NoFrameLeft → Rogue m1 p1 d g
+    → StepsAlone (Rogue m2 p2 d) g (Write page off bs) reply
+write_rogue m1 m2 p1 p2 d g page off bs reply count same part answer rogue =
+    rogue_alone m1 m2 p1 p2 d d g (Write page off bs) reply rogue
+    (keeps_part m1 m2 p1 p2 d d (driver_same d d refl) part count same) count same
+    (ap (λ (p : Part). p.target) part) answer (λ page offset bytes e. cc)
+
+-- ---- a page got a frame first
+
+-- what the guest is then
+pub supplied_rogue : (m1 m2 m3 m4 : Pages) (p1 p2 p3 p4 : Part) (d : DriverState) (g : Guest)
+    (page off frame : ℕ) (bs : List ℕ) → Covers m1 page off (length bs) → m2 ≡ m1
+    → Supplied m2 m3 page frame → Wrote m3 m4 page off bs → p2 ≡ record p1 { own = p2.own }
+    → p3 ≡ p2 → p4 ≡ p3 → Rogue m1 p1 d g
+    → Rogue m4 p4 d (rogue_after g (backed page frame g.frames) p4 d)
+supplied_rogue m1 m2 m3 m4 p1 p2 p3 p4 d g page off frame bs covers same now wrote pa pb pc rogue =
+    let supplied : Supplied m1 m3 page frame = subst (λ m. Supplied m m3 page frame) same now in
+    let lt : page < g.config.pages = omega (arith, covers.page, rogue.length_is) in
+    let has = frames_supplied m1 m3 g.config.pages page frame g.frames lt
+    (record { length_is = rogue.length_is; framed = rogue.framed; behind = rogue.behind })
+    supplied in
+    let own = ap (λ (p : Part). p.own) (pc ∙ pb) in
+    let part : p4 ≡ record p1 { own = p4.own } =
+    pc ∙ pb ∙ pa ∙ ap (λ (l : List ℕ). record p1 { own = l }) (sym own) in
+    let count : length m4 ≡ length m1 = wrote.rest.count ∙ supplied.count in
+    let still : (q : ℕ) → is_some (frame_at m1 q) ≡ true → is_some (frame_at m4 q) ≡ true =
+    λ q there. ap is_some (wrote.rest.backing q) ∙ elim (cases_eq q page) [
+      | inl at ↦ ap (λ (k : ℕ). is_some (frame_at m3 k)) at ∙ ap is_some supplied.backed
+      | inr ne ↦ ap (λ o. is_some (number_of o)) (supplied.others q ne) ∙ there
+    ] in
+    rogue_stands m1 m4 p1 p4 d d g (backed page frame g.frames) rogue
+    (record {
+      driver = driver_same d d refl;
+      device = record {
+        size = ap (λ (p : Part). p.queue_size) part;
+        paced = ap (λ (p : Part). p.paced) part;
+        loose = λ none. ap (λ (p : Part). p.loose) part ∙ none;
+        flagged = ap (λ (p : Part). length p.ballooned) part;
+        unreserved = λ page low none.
+            ap (λ (p : Part). is_ballooned p.ballooned page) part ∙ none;
+      };
+      up = λ was ok.
+          let up = was (ap (λ (p : Part). contains p.status driver_ok) (sym part) ∙ ok) in
+          record {
+            backed = λ q low. still q (up.backed q low);
+            inflates = subst (λ (n : ℕ). All (IsOwnRequest n) p4.inflate.taken) (sym count)
+                (subst (All (IsOwnRequest (length m1)))
+                (sym (ap (λ (p : Part). p.inflate.taken) part)) up.inflates);
+            reports = subst (λ (n : ℕ). All (IsOwnRequest n) p4.report.taken) (sym count)
+                (subst (All (IsOwnRequest (length m1)))
+                (sym (ap (λ (p : Part). p.report.taken) part)) up.reports);
+          };
+    }) count (has.framed ∙ sym rogue.framed) (λ q. wrote.rest.backing q ∙ has.behind q)
+
+-- the frames that went out
+supplied_moves : (Answers : List Bool → Claim → Type 0) (out1 out2 : List Bool)
+    (m1 : Pages) (p1 p2 p4 : Part) (g new : Guest) (page frame : ℕ)
+    → IsClaimed Answers (supply_of p1 out1) (supply_of p2 out2) (Gave frame) → p4 ≡ p2
+    → page < length g.frames → frame_of g.frames page ≡ None
+    → new.frames ≡ backed page frame g.frames
+    → Moves (supply_of p1 out1) (supply_of p4 out2) (λ n. backing_count n new)
+    (λ n. backing_count n g)
+supplied_moves Answers out1 out2 m1 p1 p2 p4 g new page frame answer part lt bare frames =
+    moves_as (supply_of p1 out1) (supply_of p4 out2) (λ n. times n (frame ∷ [])) nothing
+    (λ n. backing_count n new) (λ n. backing_count n g)
+    (subst (λ p. Moves (supply_of p1 out1) (supply_of p out2) (λ n. times n (frame ∷ []))
+    nothing) (sym part) answer.moves)
+    (λ n. omega (
+      arith,
+      count_backed n page frame g.frames lt bare,
+      times_one n frame,
+      ap (λ (l : List (Option ℕ)). count_by (is_frame n) l) frames,
+    ))
+
+pub write_supplied_rogue : (Answers : List Bool → Claim → Type 0) (out1 out2 : List Bool)
+    (m1 m2 m3 m4 : Pages) (p1 p2 p3 p4 : Part) (d : DriverState) (g : Guest)
+    (page off frame : ℕ) (bs : List ℕ)
+    → IsClaimed Answers (supply_of p1 out1) (supply_of p2 out2) (Gave frame)
+    → Rogue m1 p1 d g → Covers m1 page off (length bs) → 0 < length bs
+    → frame_at m1 page ≡ None → m2 ≡ m1
+    → Supplied m2 m3 page frame → Wrote m3 m4 page off bs → p2 ≡ record p1 { own = p2.own }
+    → p3 ≡ p2 → p4 ≡ p3
+    → StepsOver (Rogue m4 p4 d) Answers (supply_of p1 out1) (supply_of p4 out2) (Gave frame ∷ []) g
+    (Write page off bs) Done
+write_supplied_rogue Answers out1 out2 m1 m2 m3 m4 p1 p2 p3 p4 d g page off frame bs answer rogue
+    covers some bare same now wrote pa pb pc =
+    let bare_too : frame_of g.frames page ≡ None = sym (rogue.behind page) ∙ bare in
+    let needs : pages_needed page bs g ≡ page ∷ [] = needs_one g page bs some bare_too in
+    let new : Guest = rogue_after g (backed page frame g.frames) p4 d in
+    let stands = supplied_rogue m1 m2 m3 m4 p1 p2 p3 p4 d g page off frame bs covers same now wrote
+    pa pb pc rogue in
+    record {
+      new = new;
+      stands = stands;
+      step = rogue_steps m1 m4 p1 p4 d d g new (Write page off bs) (Gave frame ∷ []) Done
+          (page ∷ []) rogue stands refl (ap (λ (p : Part). p.target) (pc ∙ pb ∙ pa))
+          (inr (sym needs)) tt (λ page frame e. e) (λ e. absurd cc)
+          (λ page offset bytes e. absurd cc);
+      answered = (supply_of p2 out2, answer, tt);
+      moves = supplied_moves Answers out1 out2 m1 p1 p2 p4 g new page frame answer (pc ∙ pb)
+          (omega (arith, covers.page, rogue.length_is, rogue.framed)) bare_too refl;
+    }
+
+-- how a refused claim is noted
+abbrev pub claim_of : KeeperRefused → Claim
+claim_of NoFrame = GaveNoFrame
+claim_of Memory = GaveNoMemory
+
+refused_for : (why : KeeperRefused) (page : ℕ)
+    → AreClaimsFor (page ∷ []) (claim_of why ∷ [])
+    × (claim_refusal (claim_of why ∷ []) ≡ Some (refusal_of_claim why))
+refused_for NoFrame page = (refl, refl)
+refused_for Memory page = (refl, refl)
+
+refused_claimed : (Answers : List Bool → Claim → Type 0) (out1 out2 : List Bool) (p1 p2 : Part)
+    (why : KeeperRefused)
+    → IsClaimed Answers (supply_of p1 out1) (supply_of p2 out2) (claim_of why)
+    → AreClaimed Answers (supply_of p1 out1) (claim_of why ∷ [])
+    × Moves (supply_of p1 out1) (supply_of p2 out2) nothing nothing
+refused_claimed Answers out1 out2 p1 p2 NoFrame a = ((supply_of p2 out2, a, refl), a.moves)
+refused_claimed Answers out1 out2 p1 p2 Memory a = ((supply_of p2 out2, a, refl), a.moves)
+
+pub write_unsupplied_rogue : (Answers : List Bool → Claim → Type 0) (out1 out2 : List Bool)
+    (m1 m2 : Pages) (p1 p2 : Part) (d : DriverState) (g : Guest) (page off : ℕ) (bs : List ℕ)
+    (why : KeeperRefused)
+    → IsClaimed Answers (supply_of p1 out1) (supply_of p2 out2) (claim_of why) → Rogue m1 p1 d g
+    → 0 < length bs → frame_at m1 page ≡ None → m2 ≡ m1 → p2 ≡ record p1 { own = p2.own }
+    → StepsOver (Rogue m2 p2 d) Answers (supply_of p1 out1) (supply_of p2 out2)
+    (claim_of why ∷ []) g (Write page off bs) (Refused (refusal_of_claim why))
+write_unsupplied_rogue Answers out1 out2 m1 m2 p1 p2 d g page off bs why answer rogue some bare m
+    p =
+    let needs : pages_needed page bs g ≡ page ∷ [] =
+    needs_one g page bs some (sym (rogue.behind page) ∙ bare) in
+    let refused = refused_for why page in
+    let claimed = refused_claimed Answers out1 out2 p1 p2 why answer in
+    rogue_unclaimed Answers out1 out2 m1 m2 p1 p2 d g (Write page off bs) (claim_of why ∷ [])
+    (refusal_of_claim why) rogue m p
+    (subst (λ (l : List ℕ). AreClaimsFor l (claim_of why ∷ [])) (sym needs) refused.0) refused.1
+    refl (λ page offset bytes e. absurd cc) claimed.0 claimed.1
+
+-- ---- a scribble
+
+-- bytes that lie in a page aren't refused for it
+scribble_fits : (m : Pages) (g : Guest) (page off : ℕ) (bs : List ℕ)
+    → length m ≡ g.config.pages → Covers m page off (length bs)
+    → refusal_of g (Scribble page off bs) ≡ None
+scribble_fits m g page off bs size covers =
+    ap (λ (b : Bool). first_refusal ((b ⇒ OutOfRam) ∷ []))
+    (inside_is g m page off (length bs) size covers)
+
+-- two scribbles of the same bytes
+same_scribble : (page off : ℕ) (bs : List ℕ) (q o : ℕ) (b : List ℕ) (g : Guest)
+    (claims : List Claim) (reply : Reply) (new : Guest) → Scribble page off bs ≡ Scribble q o b
+    → ScribbleStep page off bs g claims reply new → ScribbleStep q o b g claims reply new
+same_scribble page off bs q o b g claims reply new e step =
+    let first : page ≡ q = cc in
+    let second : off ≡ o = cc in
+    let third : bs ≡ b = cc in
+    subst (λ (x : ℕ). ScribbleStep x o b g claims reply new) first
+    (subst (λ (x : ℕ). ScribbleStep page x b g claims reply new) second
+    (subst (λ (x : List ℕ). ScribbleStep page off x g claims reply new) third step))
+
+-- the step is one of an honest guest, and of a rogue one as well
+scribble_step : (m1 m2 : Pages) (p1 p2 : Part) (d : DriverState) (g new : Guest)
+    (page off : ℕ) (bs : List ℕ) (claims : List Claim) (keeps : Bool)
+    → Stands keeps m1 p1 d g → Rogue m2 p2 d new → new.config ≡ g.config
+    → p2.target ≡ p1.target → AreClaimsFor (pages_needed page bs g) claims
+    → claim_refusal claims ≡ None
+    → new.frames ≡ all_backed (pages_needed page bs g) (given claims) g.frames
+    → refusal_of g (Scribble page off bs) ≡ None
+    → GuestStep g (Scribble page off bs) claims Done new
+scribble_step m1 m2 p1 p2 d g new page off bs claims keeps stands rogue config target made all
+    frames free =
+    let old = as_rogue keeps m1 p1 d g stands in
+    let filled : List (Option ℕ) = all_backed (pages_needed page bs g) (given claims) g.frames in
+    let after : IsRogueAfter (record g { frames = filled }) new = record {
+      still = rogue.rogue;
+      config = config;
+      unreserved = rogue.unreserved;
+      sizes = record {
+        placed = rogue.placed;
+        flagged = rogue.flagged;
+        framed = rogue.framed;
+        filled = rogue.filled;
+      };
+    } in
+    let done : Scribbled (record g { frames = filled }) Done new = record {
+      answered = refl;
+      state = after;
+      target = sym rogue.target ∙ target ∙ old.target;
+      frames = frames;
+    } in
+    let M : Option Refusal → Type 0 =
+    λ o. MatchOption o (Scribbled (record g { frames = filled }) Done new)
+    (λ refusal. (Done ≡ Refused refusal) × (new ≡ g)) in
+    let scribbles : Scribbles page bs g claims Done new = (made, subst M (sym all) done) in
+    let S : Option Refusal → Type 0 =
+    λ o. MatchOption o (Scribbles page bs g claims Done new)
+    (λ refusal. (claims ≡ []) × (Done ≡ Refused refusal) × (new ≡ g)) in
+    let step : ScribbleStep page off bs g claims Done new = subst S (sym free) scribbles in
+    by_guest keeps m1 p1 d g stands
+    (λ honest. guest_step g (Scribble page off bs) claims Done new
+    honest.ties.parts.guest.honest step)
+    (λ was. rogue_steps m1 m2 p1 p2 d d g new (Scribble page off bs) claims Done
+    (pages_needed page bs g) was rogue config target (inr refl) made
+    (let F : Option Refusal → Type 0 =
+    λ o. MatchOption o (LosesFrames filled new.frames)
+    (λ refusal. (Done ≡ Refused refusal) × (new.frames ≡ g.frames)) in
+    subst F (sym all) (λ q frame e. ap (λ (l : List (Option ℕ)). frame_of l q) (sym frames) ∙ e))
+    (λ e. absurd cc) (λ q o b e. same_scribble page off bs q o b g claims Done new e step))
+
+-- a page that has a frame, or no bytes, needs none
+needs_nothing : (m : Pages) (g : Guest) (page : ℕ) (bs : List ℕ)
+    → ((q : ℕ) → frame_at m q ≡ frame_of g.frames q)
+    → (0 < length bs → frame_at m page ≡ None → ⊥) → pages_needed page bs g ≡ []
+needs_nothing m g page [] behind never = refl
+needs_nothing m g page (b ∷ bs) behind never = by (frame_of g.frames page) refl
+  where
+    by : (o : Option ℕ) → frame_of g.frames page ≡ o → pages_needed page (b ∷ bs) g ≡ []
+    by None e = absurd (never (omega arith) (behind page ∙ e))
+    by (Some frame) e = ap (λ (x : Option ℕ). if is_none x then page ∷ [] else []) e
+
+-- no frame was wanting
+pub scribble_alone : (keeps : Bool) (m1 m2 : Pages) (p1 p2 : Part) (d : DriverState) (g : Guest)
+    (page off : ℕ) (bs : List ℕ) → Stands keeps m1 p1 d g → Covers m1 page off (length bs)
+    → (0 < length bs → frame_at m1 page ≡ None → ⊥) → Wrote m1 m2 page off bs → p2 ≡ p1
+    → StepsAlone (Stands keeps m2 p2 d) g (Scribble page off bs) Done
+scribble_alone keeps m1 m2 p1 p2 d g page off bs stands covers never wrote part =
+    let old = as_rogue keeps m1 p1 d g stands in
+    let rest = wrote.rest in
+    let new : Guest = rogue_after (marked g) g.frames p2 d in
+    let rogue : Rogue m2 p2 d new = rogue_stands m1 m2 p1 p2 d d (marked g) g.frames old
+    (keeps_part m1 m2 p1 p2 d d (driver_same d d refl) part rest.count rest.backing) rest.count refl
+    (λ q. rest.backing q ∙ old.behind q) in
+    let needs : pages_needed page bs g ≡ [] = needs_nothing m1 g page bs old.behind never in
+    record {
+      new = new;
+      stands = stands_with keeps m1 m2 p1 p2 d d g new stands (ap (λ (p : Part). p.keeps) part)
+          (ap (λ (p : Part). p.own) part) refl (rogue_is m2 p2 d new rogue);
+      step = scribble_step m1 m2 p1 p2 d g new page off bs [] keeps stands rogue refl
+          (ap (λ (p : Part). p.target) part)
+          (subst (λ (l : List ℕ). AreClaimsFor l []) (sym needs) tt) refl
+          (ap (λ (l : List ℕ). all_backed l [] g.frames) (sym needs))
+          (scribble_fits m1 g page off bs old.length_is covers);
+      frames = refl;
+    }
+
+-- the bytes don't lie in a page
+pub scribble_outside : (keeps : Bool) (m1 m2 : Pages) (p1 p2 : Part) (d : DriverState) (g : Guest)
+    (page off : ℕ) (bs : List ℕ) → Stands keeps m1 p1 d g → m2 ≡ m1 → p2 ≡ p1
+    → (Covers m1 page off (length bs) → ⊥)
+    → StepsAlone (Stands keeps m2 p2 d) g (Scribble page off bs) (Refused OutOfRam)
+scribble_outside keeps m1 m2 p1 p2 d g page off bs stands m p out =
+    alone_stands keeps m1 m2 p1 p2 d d g (Scribble page off bs) (Refused OutOfRam) stands
+    (ap (λ (x : Part). x.keeps) p) (ap (λ (x : Part). x.own) p)
+    (λ honest. refused_alone m1 m2 p1 p2 d d g (Scribble page off bs) OutOfRam honest refused m p
+    refl)
+    (λ rogue. (let same : Rogue m2 p2 d g =
+    subst (λ (x : Pages). Rogue x p2 d g) (sym m)
+    (subst (λ (x : Part). Rogue m1 x d g) (sym p) rogue) in
+    record {
+      new = g;
+      stands = same;
+      step = rogue_steps m1 m2 p1 p2 d d g g (Scribble page off bs) [] (Refused OutOfRam) [] rogue
+          same refl (ap (λ (x : Part). x.target) p) (inl refl) tt (λ q frame e. e) (λ e. absurd cc)
+          (λ q o b e. same_scribble page off bs q o b g [] (Refused OutOfRam) g e step);
+      frames = refl;
+    }))
+  where
+    size : length m1 ≡ g.config.pages
+    size = (as_rogue keeps m1 p1 d g stands).length_is
+
+    outside : (b : Bool) → is_outside g page off (length bs) ≡ b
+        → is_outside g page off (length bs) ≡ true
+    outside true e = e
+    outside false e = absurd (out (outside_is g m1 page off (length bs) size e))
+
+    refused : refusal_of g (Scribble page off bs) ≡ Some OutOfRam
+    refused = ap (λ (b : Bool). first_refusal ((b ⇒ OutOfRam) ∷ []))
+        (outside (is_outside g page off (length bs)) refl)
+
+    step : ScribbleStep page off bs g [] (Refused OutOfRam) g
+    step =
+        let none : List Claim = [] in
+        let S : Option Refusal → Type 0 =
+        λ o. MatchOption o (Scribbles page bs g none (Refused OutOfRam) g)
+        (λ refusal. (none ≡ []) × (Refused OutOfRam ≡ Refused refusal) × (g ≡ g)) in
+        subst S (sym refused) (refl, refl, refl)
+
+-- a claim was refused
+pub scribble_unsupplied : (keeps : Bool) (Answers : List Bool → Claim → Type 0)
+    (out1 out2 : List Bool) (m1 m2 : Pages) (p1 p2 : Part) (d : DriverState) (g : Guest)
+    (page off : ℕ) (bs : List ℕ) (why : KeeperRefused)
+    → IsClaimed Answers (supply_of p1 out1) (supply_of p2 out2) (claim_of why)
+    → Stands keeps m1 p1 d g → Covers m1 page off (length bs) → 0 < length bs
+    → frame_at m1 page ≡ None → m2 ≡ m1 → p2 ≡ record p1 { own = p2.own }
+    → StepsOver (Stands keeps m2 p2 d) Answers (supply_of p1 out1) (supply_of p2 out2)
+    (claim_of why ∷ []) g (Scribble page off bs) (Refused (refusal_of_claim why))
+scribble_unsupplied keeps Answers out1 out2 m1 m2 p1 p2 d g page off bs why answer stands covers
+    some bare m p =
+    over_stands keeps m1 m2 p1 p2 d d g Answers out1 out2 (claim_of why ∷ []) (Scribble page off bs)
+    (Refused (refusal_of_claim why)) stands
+    (λ honest. record {
+      new = g;
+      stands = honest_own m1 m2 p1 p2 d g m p honest;
+      step = guest_step g (Scribble page off bs) (claim_of why ∷ [])
+          (Refused (refusal_of_claim why)) g honest.ties.parts.guest.honest step;
+      answered = claimed.0;
+      moves = moves_as (supply_of p1 out1) (supply_of p2 out2) nothing nothing
+          (λ n. backing_count n g) (λ n. backing_count n g) claimed.1 (λ n. omega arith);
+    })
+    (λ rogue. rogue_unclaimed Answers out1 out2 m1 m2 p1 p2 d g (Scribble page off bs)
+    (claim_of why ∷ []) (refusal_of_claim why) rogue m p made (refused_for why page).1 refl
+    (λ q o b e. same_scribble page off bs q o b g (claim_of why ∷ [])
+    (Refused (refusal_of_claim why)) g e step) claimed.0 claimed.1)
+  where
+    old : Rogue m1 p1 d (marked g)
+    old = as_rogue keeps m1 p1 d g stands
+
+    needs : pages_needed page bs g ≡ page ∷ []
+    needs = needs_one g page bs some (sym (old.behind page) ∙ bare)
+
+    made : AreClaimsFor (pages_needed page bs g) (claim_of why ∷ [])
+    made = subst (λ (l : List ℕ). AreClaimsFor l (claim_of why ∷ [])) (sym needs)
+        (refused_for why page).0
+
+    claimed : AreClaimed Answers (supply_of p1 out1) (claim_of why ∷ [])
+        × Moves (supply_of p1 out1) (supply_of p2 out2) nothing nothing
+    claimed = refused_claimed Answers out1 out2 p1 p2 why answer
+
+    step : ScribbleStep page off bs g (claim_of why ∷ []) (Refused (refusal_of_claim why)) g
+    step =
+        let claims : List Claim = claim_of why ∷ [] in
+        let reply : Reply = Refused (refusal_of_claim why) in
+        let filled : List (Option ℕ) = all_backed (pages_needed page bs g) (given claims) g.frames in
+        let M : Option Refusal → Type 0 =
+        λ o. MatchOption o (Scribbled (record g { frames = filled }) reply g)
+        (λ refusal. (reply ≡ Refused refusal) × (g ≡ g)) in
+        let scribbles : Scribbles page bs g claims reply g =
+        (made, subst M (sym (refused_for why page).1) (refl, refl)) in
+        let S : Option Refusal → Type 0 =
+        λ o. MatchOption o (Scribbles page bs g claims reply g)
+        (λ refusal. (claims ≡ []) × (reply ≡ Refused refusal) × (g ≡ g)) in
+        subst S (sym (scribble_fits m1 g page off bs old.length_is covers)) scribbles
+
+-- a page got a frame, and then was written
+pub scribble_supplied : (keeps : Bool) (Answers : List Bool → Claim → Type 0)
+    (out1 out2 : List Bool) (m1 m2 m3 m4 : Pages) (p1 p2 p3 p4 : Part) (d : DriverState) (g : Guest)
+    (page off frame : ℕ) (bs : List ℕ)
+    → IsClaimed Answers (supply_of p1 out1) (supply_of p2 out2) (Gave frame)
+    → Stands keeps m1 p1 d g → Covers m1 page off (length bs) → 0 < length bs
+    → frame_at m1 page ≡ None → m2 ≡ m1
+    → Supplied m2 m3 page frame → Wrote m3 m4 page off bs → p2 ≡ record p1 { own = p2.own }
+    → p3 ≡ p2 → p4 ≡ p3
+    → StepsOver (Stands keeps m4 p4 d) Answers (supply_of p1 out1) (supply_of p4 out2)
+    (Gave frame ∷ []) g (Scribble page off bs) Done
+scribble_supplied keeps Answers out1 out2 m1 m2 m3 m4 p1 p2 p3 p4 d g page off frame bs answer
+    stands covers some bare same now wrote pa pb pc =
+    let old = as_rogue keeps m1 p1 d g stands in
+    let bare_too : frame_of g.frames page ≡ None = sym (old.behind page) ∙ bare in
+    let needs : pages_needed page bs g ≡ page ∷ [] = needs_one g page bs some bare_too in
+    let new : Guest = rogue_after (marked g) (backed page frame g.frames) p4 d in
+    let rogue = supplied_rogue m1 m2 m3 m4 p1 p2 p3 p4 d (marked g) page off frame bs covers same
+    now wrote pa pb pc old in
+    let moves = supplied_moves Answers out1 out2 m1 p1 p2 p4 g new page frame answer (pc ∙ pb)
+    (omega (arith, covers.page, old.length_is, old.framed)) bare_too refl in
+    record {
+      new = new;
+      stands = stands_of keeps m4 p4 d new (rogue_is m4 p4 d new rogue)
+          (own_moved keeps p1 p4 out1 out2 g new moves stands.own);
+      step = scribble_step m1 m4 p1 p4 d g new page off bs (Gave frame ∷ []) keeps stands rogue refl
+          (ap (λ (p : Part). p.target) (pc ∙ pb ∙ pa))
+          (subst (λ (l : List ℕ). AreClaimsFor l (Gave frame ∷ [])) (sym needs) tt) refl
+          (ap (λ (l : List ℕ). all_backed l (frame ∷ []) g.frames) (sym needs))
+          (scribble_fits m1 g page off bs old.length_is covers);
+      answered = (supply_of p2 out2, answer, tt);
+      moves = moves;
+    }

@@ -1,0 +1,315 @@
+-- A call on a guest that wrote past its driver: what it keeps is enough.
+use Rattle.std.specs.Prelude.{◌≡◌, ◌≢◌, ℕ, ◌<◌, Bool, true, false, List, [], ◌∷◌, length}
+use Rattle.std.specs.Prelude.{All, Option, Some, None, MatchBool, count_by, refl, if◌then◌else◌}
+use Rattle.std.specs.Prelude.{is_some, ◌⊎◌, MatchOption}
+use Rattle.std.proofs.Common.{sym, ◌∙◌, ap, subst, inl, inr, arith}
+use Rattle.vb_model.specs.declared.calls.Call.{Call}
+use Rattle.vb_model.specs.declared.calls.Call.TheVariants.{Scribble}
+use Rattle.vb_model.specs.declared.calls.Claim.{Claim}
+use Rattle.vb_model.specs.declared.replies.Refusal.{Refusal}
+use Rattle.vb_model.specs.declared.replies.Refusal.TheVariants.{NoFrame}
+use Rattle.vb_model.specs.declared.replies.Reply.{Reply}
+use Rattle.vb_model.specs.declared.replies.Reply.TheVariants.{Refused}
+use Rattle.vb_model.specs.Limits.{reserved_pages}
+use Rattle.vb_model.specs.Pages.{is_lent_or_taking}
+use Rattle.vb_model.specs.Status.{contains, driver_ok}
+use Rattle.vb_model.specs.FirstRefusal.{Test, first_refusal}
+use Rattle.vb_model.specs.Guest.{Guest, frame_of, is_ballooned, all_backed}
+use Rattle.vb_model.specs.Driver.{given, claim_refusal, AreClaimsFor}
+use Rattle.vb_model.specs.Rogue.{RogueStep, ScribbleStep, LosesFrames, may_need, target_after}
+use Rattle.vb_model.specs.Step.{HonestStep, GuestStep}
+use Rattle.vb_ram.specs.Pages.{Pages, frame_at}
+use Rattle.vb_ram.specs.Part.{Part}
+use Rattle.vb_driver.specs.State.{DriverState}
+use Rattle.vb_guest.specs.Stands.{IsOwnRequest, IsRogueUp, Rogue}
+use Rattle.vb_guest.specs.Steps.{backing_count, StepsAlone, StepsOver}
+use Rattle.vb_guest.specs.Supply.{AreClaimed, supply_of, Moves, nothing}
+use Rattle.vb_guest.proofs.Moving.{moves_as}
+
+-- ---- what a call keeps
+
+-- the driver is as large, and has as many places
+pub record DriverSame (d1 d2 : DriverState) : Type 0 where
+  pub pages : d2.pages ≡ d1.pages
+  pub queue_size : d2.queue_size ≡ d1.queue_size
+  pub processors : d2.processors ≡ d1.processors
+  pub table : length d2.places ≡ length d1.places
+
+-- the device is as large, and has no reserved page ballooned
+pub record DeviceSame (p1 p2 : Part) : Type 0 where
+  pub size : p2.queue_size ≡ p1.queue_size
+  pub paced : p2.paced ≡ p1.paced
+  pub loose : p1.loose ≡ [] → p2.loose ≡ []
+  pub flagged : length p2.ballooned ≡ length p1.ballooned
+  pub unreserved : (page : ℕ) → page < reserved_pages → is_ballooned p1.ballooned page ≡ false
+      → is_ballooned p2.ballooned page ≡ false
+
+pub record Keeps (m1 m2 : Pages) (p1 p2 : Part) (d1 d2 : DriverState) : Type 0 where
+  pub driver : DriverSame d1 d2
+  pub device : DeviceSame p1 p2
+  pub up : (contains p1.status driver_ok ≡ true → IsRogueUp m1 p1)
+      → contains p2.status driver_ok ≡ true → IsRogueUp m2 p2
+
+pub driver_same : (d1 d2 : DriverState) → d2 ≡ d1 → DriverSame d1 d2
+driver_same d1 d2 e = record {
+  pages = ap (λ (d : DriverState). d.pages) e;
+  queue_size = ap (λ (d : DriverState). d.queue_size) e;
+  processors = ap (λ (d : DriverState). d.processors) e;
+  table = ap (λ (d : DriverState). length d.places) e;
+}
+
+pub device_same : (p1 p2 : Part) → p2 ≡ p1 → DeviceSame p1 p2
+device_same p1 p2 e = record {
+  size = ap (λ (p : Part). p.queue_size) e;
+  paced = ap (λ (p : Part). p.paced) e;
+  loose = λ none. ap (λ (p : Part). p.loose) e ∙ none;
+  flagged = ap (λ (p : Part). length p.ballooned) e;
+  unreserved = λ page low none.
+      ap (λ (p : Part). is_ballooned p.ballooned page) e ∙ none;
+}
+
+-- ---- the guest afterwards
+
+-- what its driver and its device say of it then
+abbrev pub rogue_after : Guest → List (Option ℕ) → Part → DriverState → Guest
+rogue_after g frames part d =
+    record g {
+      places = d.places;
+      actual = count_by is_lent_or_taking d.places;
+      status = part.status;
+      target = part.target;
+      last = part.last;
+      ballooned = part.ballooned;
+      frames = frames;
+    }
+
+pub rogue_stands : (m1 m2 : Pages) (p1 p2 : Part) (d1 d2 : DriverState) (g : Guest)
+    (frames : List (Option ℕ)) → Rogue m1 p1 d1 g → Keeps m1 m2 p1 p2 d1 d2
+    → length m2 ≡ length m1 → length frames ≡ length g.frames
+    → ((page : ℕ) → frame_at m2 page ≡ frame_of frames page)
+    → Rogue m2 p2 d2 (rogue_after g frames p2 d2)
+rogue_stands m1 m2 p1 p2 d1 d2 g frames rogue keeps count framed behind = record {
+  rogue = rogue.rogue;
+  config = rogue.config;
+  pages = keeps.driver.pages ∙ rogue.pages;
+  queue_size = keeps.driver.queue_size ∙ rogue.queue_size;
+  processors = keeps.driver.processors ∙ rogue.processors;
+  places = refl;
+  placed = keeps.driver.table ∙ ap length rogue.places ∙ rogue.placed;
+  actual = refl;
+  size = keeps.device.size ∙ rogue.size;
+  paced = keeps.device.paced ∙ rogue.paced;
+  status = refl;
+  target = refl;
+  last = refl;
+  ballooned = refl;
+  flagged = keeps.device.flagged ∙ ap length rogue.ballooned ∙ rogue.flagged;
+  unreserved = λ page low. keeps.device.unreserved page low
+      (ap (λ (flags : List Bool). is_ballooned flags page) rogue.ballooned
+      ∙ rogue.unreserved page low);
+  loose = keeps.device.loose rogue.loose;
+  length_is = count ∙ rogue.length_is;
+  framed = framed ∙ rogue.framed;
+  filled = rogue.filled;
+  behind = behind;
+  up = keeps.up rogue.up;
+}
+
+-- ---- its step
+
+-- it is no scribble
+abbrev pub IsOther : Call → Type 0
+IsOther call = (page offset : ℕ) (bytes : List ℕ) → call ≢ Scribble page offset bytes
+
+-- the guest afterwards is bound by what the call claimed
+pub rogue_steps : (m1 m2 : Pages) (p1 p2 : Part) (d1 d2 : DriverState) (g new : Guest)
+    (call : Call) (claims : List Claim) (reply : Reply) (pages : List ℕ) → Rogue m1 p1 d1 g
+    → Rogue m2 p2 d2 new → new.config ≡ g.config → p2.target ≡ target_after call p1.target
+    → (pages ≡ []) ⊎ (pages ≡ may_need call g) → AreClaimsFor pages claims
+    → MatchOption (claim_refusal claims)
+    (LosesFrames (all_backed pages (given claims) g.frames) new.frames)
+    (λ refusal. (reply ≡ Refused refusal) × (new.frames ≡ g.frames))
+    → (reply ≡ Refused NoFrame → claim_refusal claims ≡ Some NoFrame)
+    → ((page offset : ℕ) (bytes : List ℕ) → call ≡ Scribble page offset bytes
+    → ScribbleStep page offset bytes g claims reply new)
+    → GuestStep g call claims reply new
+rogue_steps m1 m2 p1 p2 d1 d2 g new call claims reply pages old after config target needed claimed
+    frames no_frame scribble =
+    let step : RogueStep g call claims reply new = record {
+      stays = record {
+        still = after.rogue;
+        config = config;
+        unreserved = after.unreserved;
+        sizes = record {
+          placed = after.placed;
+          flagged = after.flagged;
+          framed = after.framed;
+          filled = after.filled;
+        };
+      };
+      target = sym after.target ∙ target ∙ ap (target_after call) old.target;
+      pages = pages;
+      needed = needed;
+      claimed = claimed;
+      frames = frames;
+      no_frame = no_frame;
+      scribble = scribble;
+    } in
+    let P : Bool → Type 0 =
+    λ b. MatchBool b (RogueStep g call claims reply new) (HonestStep g call claims reply new) in
+    subst P (sym old.rogue) step
+
+-- it claims nothing
+pub rogue_step : (m1 m2 : Pages) (p1 p2 : Part) (d1 d2 : DriverState) (g : Guest)
+    (frames : List (Option ℕ)) (call : Call) (reply : Reply) → Rogue m1 p1 d1 g
+    → Rogue m2 p2 d2 (rogue_after g frames p2 d2) → p2.target ≡ target_after call p1.target
+    → LosesFrames g.frames frames → reply ≢ Refused NoFrame → IsOther call
+    → GuestStep g call [] reply (rogue_after g frames p2 d2)
+rogue_step m1 m2 p1 p2 d1 d2 g frames call reply old new target loses no_frame other =
+    rogue_steps m1 m2 p1 p2 d1 d2 g (rogue_after g frames p2 d2) call [] reply [] old new refl
+    target (inl refl) tt loses (λ e. absurd (no_frame e))
+    (λ page offset bytes e. absurd (other page offset bytes e))
+
+-- and no page changes its frame
+pub rogue_alone : (m1 m2 : Pages) (p1 p2 : Part) (d1 d2 : DriverState) (g : Guest) (call : Call)
+    (reply : Reply) → Rogue m1 p1 d1 g → Keeps m1 m2 p1 p2 d1 d2 → length m2 ≡ length m1
+    → ((page : ℕ) → frame_at m2 page ≡ frame_at m1 page)
+    → p2.target ≡ target_after call p1.target → reply ≢ Refused NoFrame → IsOther call
+    → StepsAlone (Rogue m2 p2 d2) g call reply
+rogue_alone m1 m2 p1 p2 d1 d2 g call reply rogue keeps count same target no_frame other =
+    let stands = rogue_stands m1 m2 p1 p2 d1 d2 g g.frames rogue keeps count refl
+    (λ page. same page ∙ rogue.behind page) in
+    record {
+      new = rogue_after g g.frames p2 d2;
+      stands = stands;
+      step = rogue_step m1 m2 p1 p2 d1 d2 g g.frames call reply rogue stands target
+          (λ page frame e. e) no_frame other;
+      frames = refl;
+    }
+
+-- ---- pages that stay backed
+
+-- where the pages of rings and buffers keep their frames, and nothing is taken
+pub up_kept : (m1 m2 : Pages) (p1 p2 : Part) → length m2 ≡ length m1
+    → ((page : ℕ) → page < reserved_pages → frame_at m2 page ≡ frame_at m1 page)
+    → p2.inflate.taken ≡ p1.inflate.taken → p2.report.taken ≡ p1.report.taken
+    → IsRogueUp m1 p1 → IsRogueUp m2 p2
+up_kept m1 m2 p1 p2 count same inflates reports up = record {
+  backed = λ page low. ap is_some (same page (omega (arith, low))) ∙ up.backed page low;
+  inflates = subst (λ (n : ℕ). All (IsOwnRequest n) p2.inflate.taken) (sym count)
+      (subst (All (IsOwnRequest (length m1))) (sym inflates) up.inflates);
+  reports = subst (λ (n : ℕ). All (IsOwnRequest n) p2.report.taken) (sym count)
+      (subst (All (IsOwnRequest (length m1))) (sym reports) up.reports);
+}
+
+-- the device's part is as it was
+pub keeps_part : (m1 m2 : Pages) (p1 p2 : Part) (d1 d2 : DriverState) → DriverSame d1 d2
+    → p2 ≡ p1 → length m2 ≡ length m1 → ((page : ℕ) → frame_at m2 page ≡ frame_at m1 page)
+    → Keeps m1 m2 p1 p2 d1 d2
+keeps_part m1 m2 p1 p2 d1 d2 driver part count same = record {
+  driver = driver;
+  device = device_same p1 p2 part;
+  up = λ up ok. up_kept m1 m2 p1 p2 count (λ page low. same page)
+      (ap (λ (p : Part). p.inflate.taken) part) (ap (λ (p : Part). p.report.taken) part)
+      (up (ap (λ (p : Part). contains p.status driver_ok) (sym part) ∙ ok));
+}
+
+-- ---- which refusals there are
+
+abbrev is_no_frame : Refusal → Bool
+is_no_frame NoFrame = true
+is_no_frame _ = false
+
+-- none of these tests is for want of frames
+abbrev pub are_others : List Test → Bool
+are_others [] = true
+are_others (test ∷ tests) = if is_no_frame test.refusal then false else are_others tests
+
+pub not_no_frame : (tests : List Test) → are_others tests ≡ true
+    → first_refusal tests ≢ Some NoFrame
+not_no_frame [] e first = cc
+not_no_frame (test ∷ tests) e first =
+    step test.holds test.refusal (λ rest. not_no_frame tests rest) e first
+  where
+    others : (b x : Bool) → (if b then false else x) ≡ true → x ≡ true
+    others true x e = absurd cc
+    others false x e = e
+
+    step : (holds : Bool) (why : Refusal)
+        → (are_others tests ≡ true → first_refusal tests ≢ Some NoFrame)
+        → (if is_no_frame why then false else are_others tests) ≡ true
+        → (if holds then Some why else first_refusal tests) ≡ Some NoFrame → ⊥
+    step true why rest e first =
+        let is : why ≡ NoFrame = cc in
+        let P : Refusal → Type 0 =
+        λ (w : Refusal). (if is_no_frame w then false else are_others tests) ≡ true in
+        let wrong : false ≡ true = subst P is e in
+        cc
+    step false why rest e first = rest (others (is_no_frame why) (are_others tests) e) first
+
+pub refused_not : (why : Refusal) → Some why ≢ Some NoFrame → Refused why ≢ Refused NoFrame
+refused_not why ne e = ne (let same : why ≡ NoFrame = cc in ap (λ (w : Refusal). Some w) same)
+
+-- ---- frames that it claims
+
+-- the device's own frames are none of what it keeps of a guest
+pub rogue_own : (m1 m2 : Pages) (p1 p2 : Part) (d : DriverState) (g : Guest) → m2 ≡ m1
+    → p2 ≡ record p1 { own = p2.own } → Rogue m1 p1 d g → Rogue m2 p2 d g
+rogue_own m1 m2 p1 p2 d g memory part rogue =
+    subst (λ (m : Pages). Rogue m p2 d g) (sym memory)
+    (subst (λ (p : Part). Rogue m1 p d g) (sym part) (record {
+      rogue = rogue.rogue;
+      config = rogue.config;
+      pages = rogue.pages;
+      queue_size = rogue.queue_size;
+      processors = rogue.processors;
+      places = rogue.places;
+      placed = rogue.placed;
+      actual = rogue.actual;
+      size = rogue.size;
+      paced = rogue.paced;
+      status = rogue.status;
+      target = rogue.target;
+      last = rogue.last;
+      ballooned = rogue.ballooned;
+      flagged = rogue.flagged;
+      unreserved = rogue.unreserved;
+      loose = rogue.loose;
+      length_is = rogue.length_is;
+      framed = rogue.framed;
+      filled = rogue.filled;
+      behind = rogue.behind;
+      up = λ ok. let up = rogue.up ok in
+          record { backed = up.backed; inflates = up.inflates; reports = up.reports };
+    }))
+
+-- a claim was refused: nothing is changed
+pub rogue_unclaimed : (Answers : List Bool → Claim → Type 0) (out1 out2 : List Bool)
+    (m1 m2 : Pages) (p1 p2 : Part) (d : DriverState) (g : Guest) (call : Call)
+    (claims : List Claim) (why : Refusal) → Rogue m1 p1 d g → m2 ≡ m1
+    → p2 ≡ record p1 { own = p2.own } → AreClaimsFor (may_need call g) claims
+    → claim_refusal claims ≡ Some why → target_after call p1.target ≡ p1.target
+    → ((page offset : ℕ) (bytes : List ℕ) → call ≡ Scribble page offset bytes
+    → ScribbleStep page offset bytes g claims (Refused why) g)
+    → AreClaimed Answers (supply_of p1 out1) claims
+    → Moves (supply_of p1 out1) (supply_of p2 out2) nothing nothing
+    → StepsOver (Rogue m2 p2 d) Answers (supply_of p1 out1) (supply_of p2 out2) claims g call
+    (Refused why)
+rogue_unclaimed Answers out1 out2 m1 m2 p1 p2 d g call claims why rogue memory part made refused
+    still scribble answered moves =
+    let stands = rogue_own m1 m2 p1 p2 d g memory part rogue in
+    let P : Option Refusal → Type 0 =
+    λ o. MatchOption o (LosesFrames (all_backed (may_need call g) (given claims) g.frames) g.frames)
+    (λ refusal. (Refused why ≡ Refused refusal) × (g.frames ≡ g.frames)) in
+    record {
+      new = g;
+      stands = stands;
+      step = rogue_steps m1 m2 p1 p2 d d g g call claims (Refused why) (may_need call g) rogue
+          stands refl (ap (λ (p : Part). p.target) part ∙ sym still) (inr refl) made
+          (subst P (sym refused) (refl, refl))
+          (λ e. refused ∙ ap (λ (r : Refusal). Some r) (let same : why ≡ NoFrame = cc in same))
+          scribble;
+      answered = answered;
+      moves = moves_as (supply_of p1 out1) (supply_of p2 out2) nothing nothing
+          (λ n. backing_count n g) (λ n. backing_count n g) moves (λ n. omega arith);
+    }

@@ -1,0 +1,14 @@
+use Rattle.vb_guest.proofs.RestartStep.{all_loose, restart_step}
+use Rattle.vb_guest.proofs.lives.restart.Goals as goal
+
+pub take_all_back-requires-clause-out : goal.take_all_back-requires-clause-out
+take_all_back-requires-clause-out g c =
+    let (keeps, guest, stands, held) = c.requires in
+    rw (c.restart.ensures.memory, c.restart.ensures.part)
+    (all_loose keeps _ _ _ guest _ stands held)
+
+pub returns : goal.returns
+returns g c = λ keeps guest stands.
+    let back = c.take_all_back.ensures in
+    restart_step keeps _ _ _ _ _ _ _ _ guest _ _ stands c.restart.ensures.memory
+    c.restart.ensures.part c.restart.ensures.driver back.mem back.part back.moves

@@ -1,0 +1,31 @@
+use Rattle.std.proofs.Common.{◌≡◌, List, Bool, sym, ap, subst, arith}
+use Rattle.vb_model.specs.Tests.{one_if}
+use Rattle.vb_model.specs.Orderly.{times}
+use Rattle.vb_ram.specs.Part.{Part}
+use Rattle.vb_guest.specs.Supply.{Supply, supply_of, is_used, Moves, nothing}
+use Rattle.vb_guest.proofs.Moving.{moves_as}
+use Rattle.vb_guest.proofs.RestartStep.{all_frames}
+use Rattle.vb_guest.proofs.lives.take_all_back.Goals as goal
+
+pub return_loose-requires-clause-loose : goal.return_loose-requires-clause-loose
+return_loose-requires-clause-loose g c n =
+    let out : List Bool = g.K.FrameKeeper.out c.args.keeper.now in
+    omega (
+      arith,
+      c.detach.ensures.loose n,
+      c.requires.out n,
+      ap (λ (p : Part). one_if (is_used (supply_of p out) n)) c.detach.ensures.part,
+    )
+
+pub returns-clause-moves : goal.returns-clause-moves
+returns-clause-moves g c =
+    let out : List Bool = g.K.FrameKeeper.out c.args.keeper.now in
+    let before : Supply = supply_of (g.D.GuestBytes.part c.args.device.now) out in
+    let after : Supply = supply_of (g.D.GuestBytes.part c.return_loose.new.device)
+    (g.K.FrameKeeper.out c.return_loose.new.keeper) in
+    let loose : List _ = (g.D.GuestBytes.part c.detach.new.self).loose in
+    moves_as before after nothing (λ n. times n loose) nothing
+    (λ n. times n (all_frames (g.D.GuestBytes.mem c.args.device.now)))
+    (subst (λ (s : Supply). Moves s after nothing (λ n. times n loose))
+    (ap (λ (p : Part). supply_of p out) c.detach.ensures.part) c.return_loose.ensures.moves)
+    (λ n. omega (arith, c.detach.ensures.loose n))

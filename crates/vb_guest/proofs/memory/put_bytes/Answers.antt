@@ -1,0 +1,75 @@
+use Rattle.std.proofs.Common.{◌∙◌, ap, length, Err}
+use Rattle.vb_ram.specs.Pages.{Pages, frame_at}
+use Rattle.vb_ram.specs.declared.fault.RamFault.TheVariants.{OutOfRam}
+use Rattle.vb_guest.proofs.Kept.{as_it_was}
+use Rattle.vb_guest.proofs.RogueMemory.{write_rogue, scribble_alone, scribble_outside}
+use Rattle.vb_guest.proofs.Standing.{alone_stands, steps_quiet, stands_as}
+use Rattle.vb_guest.proofs.WriteStep.{write_backed, write_outside, needs_frame, not_covered}
+use Rattle.vb_guest.proofs.memory.put_bytes.Goals as goal
+
+pub returns-in-Ok : goal.returns-in-Ok
+returns-in-Ok g c =
+    let did = c.in-Ok.ensures in
+    let same = as_it_was _ _ did.part in
+    record {
+      writes = λ keeps d guest used stands. rw (c.requires.none, ← c.as_slice.ensures)
+          (steps_quiet keeps _ _ _ _ _ _ guest g.K.FrameKeeper.answers _ _ _ stands
+          (alone_stands keeps _ _ _ _ d d guest _ _ stands same.flag same.numbers
+          (λ honest. write_backed _ _ _ _ d guest _ _ _ used honest did.covers
+          (λ some bare. (let wrong = did.needs_frame did.covers some bare in cc)) did.bytes
+          did.part)
+          (λ rogue. write_rogue _ _ _ _ d guest _ _ _ _ did.bytes.rest.count
+          did.bytes.rest.backing did.part (λ e. cc) rogue)));
+      scribbles = λ keeps d guest stands. rw (c.requires.none, ← c.as_slice.ensures)
+          (steps_quiet keeps _ _ _ _ _ _ guest g.K.FrameKeeper.answers _ _ _ stands
+          (scribble_alone keeps _ _ _ _ d guest _ _ _ stands did.covers
+          (λ some bare. (let wrong = did.needs_frame did.covers some bare in cc)) did.bytes
+          did.part));
+    }
+
+pub put_fresh-requires : goal.put_fresh-requires
+put_fresh-requires g c =
+    let did = c.write.ensures in
+    let here = c.in-Err-NeedsFrame.ensures in
+    let found = needs_frame _ _ _ _ c.write.result did.answers did.out_of_ram did.empty
+    (c.in-Err-NeedsFrame.is ∙ ap Err c.in-Err-NeedsFrame.field-0-is) in
+    let (keeps, d, guest, stands) = c.requires.stands in
+    record {
+      stands = (keeps, d, guest, stands_as keeps _ _ _ _ d guest here.unwritten did.part stands);
+      covers = rw (here.unwritten, ← c.as_slice.ensures) found.0;
+      some = rw (← c.as_slice.ensures) found.1;
+      bare = rw here.unwritten found.2;
+      none = c.requires.none;
+    }
+
+pub returns-in-Err-NeedsFrame : goal.returns-in-Err-NeedsFrame
+returns-in-Err-NeedsFrame g c = record {
+  writes = λ keeps d guest used stands. rw (← c.write.ensures.part)
+      (c.put_fresh.ensures.writes keeps d guest used
+      (stands_as keeps _ _ _ _ d guest c.in-Err-NeedsFrame.ensures.unwritten c.write.ensures.part
+      stands));
+  scribbles = λ keeps d guest stands. rw (← c.write.ensures.part)
+      (c.put_fresh.ensures.scribbles keeps d guest
+      (stands_as keeps _ _ _ _ d guest c.in-Err-NeedsFrame.ensures.unwritten c.write.ensures.part
+      stands));
+}
+
+pub returns-in-Err-OutOfRam : goal.returns-in-Err-OutOfRam
+returns-in-Err-OutOfRam g c =
+    let did = c.write.ensures in
+    let same = as_it_was _ _ did.part in
+    let here = c.in-Err-OutOfRam.ensures in
+    let outside = not_covered _ _ _ _ c.write.result OutOfRam did.answers did.needs_frame did.empty
+    (c.in-Err-OutOfRam.is ∙ ap Err c.in-Err-OutOfRam.field-0-is) (λ e. cc) in
+    record {
+      writes = λ keeps d guest used stands. rw (c.requires.none, ← c.as_slice.ensures)
+          (steps_quiet keeps _ _ _ _ _ _ guest g.K.FrameKeeper.answers _ _ _ stands
+          (alone_stands keeps _ _ _ _ d d guest _ _ stands same.flag same.numbers
+          (λ honest. write_outside _ _ _ _ d guest _ _ _ used honest here.unwritten did.part outside)
+          (λ rogue. write_rogue _ _ _ _ d guest _ _ _ _
+          (ap (λ (m : Pages). length m) here.unwritten)
+          (λ page. ap (λ (m : Pages). frame_at m page) here.unwritten) did.part (λ e. cc) rogue)));
+      scribbles = λ keeps d guest stands. rw (c.requires.none, ← c.as_slice.ensures)
+          (steps_quiet keeps _ _ _ _ _ _ guest g.K.FrameKeeper.answers _ _ _ stands
+          (scribble_outside keeps _ _ _ _ d guest _ _ _ stands here.unwritten did.part outside));
+    }
