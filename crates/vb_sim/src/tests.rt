@@ -1,5 +1,6 @@
 //! What the contracts leave open: what a whole run writes, the exit statuses, and the command line.
 
+mod balance_examples;
 mod balances;
 mod command_lines;
 mod endings;

@@ -1,9 +1,9 @@
-//! The scripts of the folder `examples`, and the text that each is expected to give.
+//! The scripts of the folder `examples` that have no balance, and the text that each is to give.
 
 use super::{Example, check_all};
 
 /// The text of each file, and that of the file beside it.
-static EXAMPLES: [Example; 6] = [
+static EXAMPLES: [Example; 5] = [
     Example {
         name: "examples/first-path.script",
         script: "\
@@ -369,133 +369,6 @@ memory 131072 262144
 ",
     },
     Example {
-        name: "examples/two-guests.script",
-        script: "\
-# Two guests on a host with too few frames for both. They say how much memory they have free, and
-# the host has them give pages back, so that both can go on.
-
-# A host with 35 frames, and two devices.
-host 35
-spare immediate
-spare immediate
-
-# Two guests with 64 pages each. Their drivers start the devices, which takes 13 frames a guest.
-plug 64 8 1
-plug 64 8 1
-init 0
-init 1
-
-# The first guest gets eight pages, writes to each and frees them. They keep their frames, so that
-# one frame is left.
-alloc 0 0 3
-write 0 16 0 c0ffee
-write 0 17 0 c0ffee
-write 0 18 0 c0ffee
-write 0 19 0 c0ffee
-write 0 20 0 c0ffee
-write 0 21 0 c0ffee
-write 0 22 0 c0ffee
-write 0 23 0 c0ffee
-free 0 0 16 3
-frames
-
-# The second guest gets two pages, and can write to one of them only.
-alloc 1 0 1
-write 1 16 0 cafe
-write 1 17 0 beef
-
-# The host has 35 frames for 128 pages, so 93 pages are too many. It knows nothing of the guests'
-# free memory yet, so all 93 stay missing.
-balance 0
-
-# Each device takes what its guest said when it started: 48 pages are free. The second guest has two
-# pages less by now; its device asks it, and takes what it says.
-take 0 2
-take 1 2
-ask 1
-stats 1
-take 1 2
-memory 0
-memory 1
-
-# If each guest were to keep one free page, they could spare 47 and 45: one too few. If they keep
-# none they can spare 48 and 46. The first has more to spare and gives all, the second the rest.
-balance 1
-balance 0
-balloon 0
-balloon 1
-
-# The first guest offers its 48 pages, and its device finishes the request: the eight frames go
-# back.
-inflate 0 48
-take 0 0
-finish 0 0 0
-reap 0 0
-frames
-
-# The second guest can write now.
-write 1 17 0 beef
-
-# It gives its share too: 45 pages that never had a frame. What it wrote stays.
-inflate 1 45
-take 1 0
-finish 1 0 0
-reap 1 0
-balloon 0
-balloon 1
-read 1 16 0 2
-read 1 17 0 2
-frames
-",
-        replies: "\
-guest 0
-guest 1
-ready
-ready
-page 16
-ok
-ok
-ok
-ok
-ok
-ok
-ok
-ok
-ok
-frames used 34 free 1
-page 16
-ok
-no frame
-short 93
-taken 0
-taken 0
-asked
-filled
-taken 0
-memory 196608 262144
-memory 188416 262144
-short 1
-targets 48 45
-ballooned 0 actual 0 target 48 status 15
-ballooned 0 actual 0 target 45 status 15
-posted 0 48
-taken 0
-finished 0
-reaped 0 48
-frames used 27 free 8
-ok
-posted 0 45
-taken 0
-finished 0
-reaped 0 45
-ballooned 48 actual 48 target 48 status 15
-ballooned 45 actual 45 target 45 status 15
-bytes cafe
-bytes beef
-frames used 28 free 7
-",
-    },
-    Example {
         name: "examples/rogue.script",
         script: "\
 # Guest 0 writes past its driver into the rings that it shares with its device. Each fault has a name, the
@@ -522,8 +395,8 @@ take 0 0
 sweep 0 16
 # while guest 1 goes on.
 read 1 16 0 4
-target 1 2
-inflate 1 2
+target 1 24
+inflate 1 24
 take 1 0
 finish 1 0 0
 reap 1 0
@@ -545,8 +418,8 @@ balloon 0
 restart 0
 frames
 init 0
-target 0 1
-inflate 0 1
+target 0 16
+inflate 0 16
 take 0 0
 finish 0 0 0
 reap 0 0
@@ -568,11 +441,11 @@ needs reset
 needs reset
 bytes c0ffee00
 ok
-posted 0 2
+posted 0 24
 taken 0
 finished 0
-reaped 0 2
-pages 17-18
+reaped 0 24
+pages 17-40
 ok
 ready
 ok
@@ -588,10 +461,10 @@ ok
 frames used 14 free 26
 ready
 ok
-posted 0 1
+posted 0 16
 taken 0
 finished 0
-reaped 0 1
+reaped 0 16
 bytes c0ffee00
 ",
     },
