@@ -27,18 +27,14 @@ enum Step {
     StartWith(u64),
     /// The driver writes the status.
     WriteStatus(u8),
-    Status,
     /// Bytes are written to a page, from an offset on.
     Write(u32, usize, &'static [u8]),
-    /// Twelve bytes of a page are read.
-    Read(u32, usize),
-    Take(u32),
     /// In a new life the driver writes descriptors and an available ring for queues of 8, and the first
     /// chain of a queue is taken.
     TakeChain(u32, &'static [u8], [u8; 6]),
+    Take(u32),
     /// The statistics buffer is given back.
     Ask,
-    Stats,
     /// A page is visited. No frame may be loose before.
     Work,
     /// The pages from the first up to the end are visited in turn, and none has a frame.
@@ -50,18 +46,28 @@ enum Step {
     Finish(u32, u32),
     /// A frame of this number is put behind a page.
     Supply(u32, u32),
-    Backing(u32),
     HandBack,
     /// The frame of a page is swept away. No frame may be loose before.
     Sweep(u32),
+    Claim,
+    SetTarget(u32),
+    /// The guest's life ends. No frame may be loose before.
+    Detach,
+    See(Sight),
+}
+
+/// What can be seen of a device and its guest.
+#[derive(Clone, Copy)]
+enum Sight {
+    Status,
+    /// Twelve bytes of a page.
+    Bytes(u32, usize),
+    Stats,
+    Backing(u32),
     /// Whether all pages from the first to the last are ballooned, and no others.
     AreBallooned(u32, u32),
     BalloonedCount,
-    Claim,
-    SetTarget(u32),
     Target,
-    /// The guest's life ends. No frame may be loose before.
-    Detach,
     /// Whether no page has a frame.
     AreBare,
 }
@@ -286,37 +292,43 @@ impl<P: Pace> Host<P> {
         self.take(queue)
     }
 
+    fn see(&self, sight: Sight) -> Answer {
+        match sight {
+            Sight::Status => Answer::Status(self.device.status().bits()),
+            Sight::Bytes(page, offset) => Answer::Bytes(self.read(page, offset)),
+            Sight::Stats => self.stats(),
+            Sight::Backing(page) => Answer::Frame(self.device.backing(page)),
+            Sight::AreBallooned(first, last) => done(self.are_ballooned(first, last)),
+            Sight::BalloonedCount => Answer::Count(self.device.ballooned_count()),
+            Sight::Target => Answer::Count(self.device.target()),
+            Sight::AreBare => done(self.are_bare()),
+        }
+    }
+
     fn answer_of(&mut self, alloc: Global, step: &Step) -> Answer {
         match step {
             Step::Start => done(self.start()),
             Step::StartWith(features) => done(self.start_with(*features)),
             Step::WriteStatus(bits) => done(self.write_status(*bits)),
-            Step::Status => Answer::Status(self.device.status().bits()),
             Step::Write(page, offset, bytes) => {
                 done(self.device.write(*page, *offset, bytes).is_ok())
             }
-            Step::Read(page, offset) => Answer::Bytes(self.read(*page, *offset)),
-            Step::Take(queue) => self.take(*queue),
             Step::TakeChain(queue, descriptors, available) => {
                 self.take_chain(*queue, descriptors, available)
             }
+            Step::Take(queue) => self.take(*queue),
             Step::Ask => self.ask(),
-            Step::Stats => self.stats(),
             Step::Work => self.work(),
             Step::WorkBare(first, end) => done(self.work_bare(*first, *end)),
             Step::Settle => self.settle(),
             Step::Finish(queue, index) => self.finish(*queue, *index),
             Step::Supply(page, number) => done(self.supply(alloc, *page, *number)),
-            Step::Backing(page) => Answer::Frame(self.device.backing(*page)),
             Step::HandBack => self.hand_back(),
             Step::Sweep(page) => self.sweep(*page),
-            Step::AreBallooned(first, last) => done(self.are_ballooned(*first, *last)),
-            Step::BalloonedCount => Answer::Count(self.device.ballooned_count()),
             Step::Claim => self.claim(),
             Step::SetTarget(pages) => self.set_target(*pages),
-            Step::Target => Answer::Count(self.device.target()),
             Step::Detach => self.detach(),
-            Step::AreBare => done(self.are_bare()),
+            Step::See(sight) => self.see(*sight),
         }
     }
 

@@ -1,7 +1,7 @@
 //! A device before it has a guest, and one that is taken away.
 
 use super::requests::INFLATE;
-use super::{Answer, Host, Scenario, Step, expect};
+use super::{Answer, Host, Scenario, Sight, Step, expect};
 use crate::{BalloonDevice, Immediate};
 use vb_model::Refusal;
 
@@ -27,18 +27,18 @@ const BEFORE_DETACHING: &'static [(Step, Answer)] = &[
     (Step::Supply(63, 41), Answer::Done),
     (Step::Write(0, 130, &[2]), Answer::Done),
     (Step::Take(0), Answer::Head(Some(0))),
-    (Step::BalloonedCount, Answer::Count(4)),
-    (Step::Status, Answer::Status(15)),
+    (Step::See(Sight::BalloonedCount), Answer::Count(4)),
+    (Step::See(Sight::Status), Answer::Status(15)),
 ];
 
 /// The device is reset, its target stays, and no page has a frame.
 const DETACHED: &'static [(Step, Answer)] = &[
     (Step::Detach, Answer::Done),
-    (Step::Status, Answer::Status(0)),
-    (Step::BalloonedCount, Answer::Count(0)),
-    (Step::AreBallooned(64, 64), Answer::Done),
-    (Step::Target, Answer::Count(4)),
-    (Step::AreBare, Answer::Done),
+    (Step::See(Sight::Status), Answer::Status(0)),
+    (Step::See(Sight::BalloonedCount), Answer::Count(0)),
+    (Step::See(Sight::AreBallooned(64, 64)), Answer::Done),
+    (Step::See(Sight::Target), Answer::Count(4)),
+    (Step::See(Sight::AreBare), Answer::Done),
     (Step::Take(0), Answer::Refused(Refusal::NotReady)),
 ];
 
@@ -65,8 +65,8 @@ const ALL_FRAMES: &'static [(Step, Answer)] = &[
 const NOTHING_LEFT: &'static [(Step, Answer)] = &[
     (Step::Detach, Answer::Done),
     (Step::HandBack, Answer::Frame(None)),
-    (Step::Status, Answer::Status(0)),
-    (Step::Target, Answer::Count(4)),
+    (Step::See(Sight::Status), Answer::Status(0)),
+    (Step::See(Sight::Target), Answer::Count(4)),
 ];
 
 static DETACHES: Scenario = (

@@ -4,7 +4,7 @@ use super::bytes::{
     AVAILABLE, EMPTY, FOUR_BYTES, HEAD_IS_8, NINE_AHEAD, NUMBERS, SIXTEEN_BYTES, WRITABLE,
 };
 use super::requests::INFLATE;
-use super::{Answer, Scenario, Step, expect};
+use super::{Answer, Scenario, Sight, Step, expect};
 use crate::Immediate;
 use vb_model::Refusal;
 
@@ -80,7 +80,7 @@ const FAULT: &'static [(Step, Answer)] = &[
     (Step::Start, Answer::Done),
     (Step::Write(0, 128, &NINE_AHEAD), Answer::Done),
     (Step::Take(0), Answer::Broken(7)),
-    (Step::Status, Answer::Status(79)),
+    (Step::See(Sight::Status), Answer::Status(79)),
     (Step::Take(0), Answer::Refused(Refusal::NeedsReset)),
     (Step::Take(1), Answer::Refused(Refusal::NeedsReset)),
     (Step::Finish(0, 0), Answer::Refused(Refusal::NeedsReset)),
@@ -119,7 +119,7 @@ const OTHER_QUEUES_BROKEN: &'static [(Step, Answer)] = &[
         Step::TakeChain(2, &FIFTEEN_BYTES, AVAILABLE),
         Answer::Broken(8),
     ),
-    (Step::Status, Answer::Status(79)),
+    (Step::See(Sight::Status), Answer::Status(79)),
     (Step::TakeChain(2, &EMPTY, NINE_AHEAD), Answer::Broken(7)),
     (
         Step::TakeChain(4, &REPORT_TO_READ, AVAILABLE),
@@ -153,7 +153,7 @@ const FEATURES_MISSING: &'static [(Step, Answer)] = &[
     (Step::StartWith(0x1_0000_0001), Answer::Done),
     (Step::Take(2), Answer::Refused(Refusal::NoQueue)),
     (Step::Ask, Answer::Refused(Refusal::NotTaken)),
-    (Step::Stats, Answer::Stats(None, None)),
+    (Step::See(Sight::Stats), Answer::Stats(None, None)),
     (Step::Take(3), Answer::Refused(Refusal::NoQueue)),
 ];
 

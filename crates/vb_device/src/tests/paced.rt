@@ -3,7 +3,7 @@
 use super::bytes::{AVAILABLE, FOUR_BYTES, NINE_AHEAD, PAGE_16_TWICE, USED};
 use super::requests::{DEFLATE, TAKEN, TWO_TAKEN};
 use super::statistics_and_reports::TAKEN_TWICE;
-use super::{Answer, Scenario, Step, expect};
+use super::{Answer, Scenario, Sight, Step, expect};
 use crate::Paced;
 use vb_model::Refusal;
 
@@ -12,25 +12,25 @@ const VISITED: &'static [(Step, Answer)] = &[
     (Step::Finish(0, 0), Answer::Refused(Refusal::NotWorked)),
     (Step::Work, Answer::Worked(17, false)),
     (Step::Work, Answer::Worked(18, true)),
-    (Step::Backing(18), Answer::Frame(None)),
+    (Step::See(Sight::Backing(18)), Answer::Frame(None)),
     (Step::HandBack, Answer::Frame(Some(40))),
     (Step::Work, Answer::Worked(19, false)),
     (Step::Supply(19, 42), Answer::Done),
     (Step::Finish(0, 0), Answer::Refused(Refusal::NotWorked)),
-    (Step::BalloonedCount, Answer::Count(0)),
+    (Step::See(Sight::BalloonedCount), Answer::Count(0)),
     (Step::Work, Answer::Worked(20, true)),
     (Step::HandBack, Answer::Frame(Some(41))),
     (Step::Work, Answer::Idle),
-    (Step::Backing(19), Answer::Frame(Some(42))),
+    (Step::See(Sight::Backing(19)), Answer::Frame(Some(42))),
 ];
 
 const FINISHED: &'static [(Step, Answer)] = &[
     (Step::Finish(0, 0), Answer::Head(Some(0))),
     (Step::HandBack, Answer::Frame(Some(42))),
     (Step::HandBack, Answer::Frame(None)),
-    (Step::Backing(19), Answer::Frame(None)),
-    (Step::AreBallooned(17, 20), Answer::Done),
-    (Step::Read(0, 152), Answer::Bytes(USED)),
+    (Step::See(Sight::Backing(19)), Answer::Frame(None)),
+    (Step::See(Sight::AreBallooned(17, 20)), Answer::Done),
+    (Step::See(Sight::Bytes(0, 152)), Answer::Bytes(USED)),
     (Step::Work, Answer::Idle),
 ];
 
@@ -83,8 +83,8 @@ const REPORT: &'static [(Step, Answer)] = &[
     (Step::Supply(20, 41), Answer::Done),
     (Step::Finish(4, 0), Answer::Head(Some(0))),
     (Step::HandBack, Answer::Frame(Some(41))),
-    (Step::BalloonedCount, Answer::Count(0)),
-    (Step::Read(3, 152), Answer::Bytes(USED)),
+    (Step::See(Sight::BalloonedCount), Answer::Count(0)),
+    (Step::See(Sight::Bytes(3, 152)), Answer::Bytes(USED)),
     (Step::Finish(4, 0), Answer::Refused(Refusal::NotTaken)),
     (Step::Take(4), Answer::Head(None)),
 ];

@@ -1,7 +1,7 @@
 //! Inflates and deflates on immediate devices.
 
 use super::bytes::{AVAILABLE, EIGHT_BYTES, NUMBERS, SIXTEEN_BYTES, TWO_REQUESTS, USED};
-use super::{Answer, Scenario, Step, expect};
+use super::{Answer, Scenario, Sight, Step, expect};
 use crate::Immediate;
 use vb_model::Refusal;
 
@@ -13,23 +13,23 @@ pub(super) const INFLATE: &'static [(Step, Answer)] = &[
     (Step::Write(0, 128, &AVAILABLE), Answer::Done),
     (Step::Take(0), Answer::Head(Some(0))),
     (Step::Finish(0, 0), Answer::Head(Some(0))),
-    (Step::AreBallooned(17, 20), Answer::Done),
+    (Step::See(Sight::AreBallooned(17, 20)), Answer::Done),
 ];
 
 const INFLATED: &'static [(Step, Answer)] = &[
-    (Step::Read(0, 152), Answer::Bytes(USED)),
-    (Step::BalloonedCount, Answer::Count(4)),
-    (Step::Backing(17), Answer::Frame(None)),
-    (Step::Backing(18), Answer::Frame(None)),
-    (Step::Backing(19), Answer::Frame(None)),
-    (Step::Backing(20), Answer::Frame(None)),
+    (Step::See(Sight::Bytes(0, 152)), Answer::Bytes(USED)),
+    (Step::See(Sight::BalloonedCount), Answer::Count(4)),
+    (Step::See(Sight::Backing(17)), Answer::Frame(None)),
+    (Step::See(Sight::Backing(18)), Answer::Frame(None)),
+    (Step::See(Sight::Backing(19)), Answer::Frame(None)),
+    (Step::See(Sight::Backing(20)), Answer::Frame(None)),
     (Step::Take(0), Answer::Head(None)),
 ];
 
 const FRAME_BEHIND_17: &'static [(Step, Answer)] = &[(Step::Supply(17, 40), Answer::Done)];
 
 const FRAME_IS_LOOSE: &'static [(Step, Answer)] = &[
-    (Step::Backing(17), Answer::Frame(None)),
+    (Step::See(Sight::Backing(17)), Answer::Frame(None)),
     (Step::HandBack, Answer::Frame(Some(40))),
     (Step::HandBack, Answer::Frame(None)),
 ];
@@ -40,17 +40,17 @@ pub(super) const DEFLATE: &'static [(Step, Answer)] = &[
     (Step::Write(1, 128, &AVAILABLE), Answer::Done),
     (Step::Take(1), Answer::Head(Some(0))),
     (Step::Finish(1, 0), Answer::Head(Some(0))),
-    (Step::AreBallooned(19, 20), Answer::Done),
-    (Step::Read(1, 152), Answer::Bytes(USED)),
+    (Step::See(Sight::AreBallooned(19, 20)), Answer::Done),
+    (Step::See(Sight::Bytes(1, 152)), Answer::Bytes(USED)),
 ];
 
 const RESET: &'static [(Step, Answer)] = &[
     (Step::WriteStatus(0), Answer::Done),
-    (Step::BalloonedCount, Answer::Count(0)),
-    (Step::Backing(17), Answer::Frame(None)),
-    (Step::Backing(18), Answer::Frame(None)),
-    (Step::Backing(19), Answer::Frame(None)),
-    (Step::Backing(20), Answer::Frame(None)),
+    (Step::See(Sight::BalloonedCount), Answer::Count(0)),
+    (Step::See(Sight::Backing(17)), Answer::Frame(None)),
+    (Step::See(Sight::Backing(18)), Answer::Frame(None)),
+    (Step::See(Sight::Backing(19)), Answer::Frame(None)),
+    (Step::See(Sight::Backing(20)), Answer::Frame(None)),
     (Step::Finish(0, 0), Answer::Refused(Refusal::NotReady)),
 ];
 
@@ -76,10 +76,10 @@ const TWO_IN_ANY_ORDER: &'static [(Step, Answer)] = &[
     (Step::Take(0), Answer::Head(Some(1))),
     (Step::Finish(0, 2), Answer::Refused(Refusal::NotTaken)),
     (Step::Finish(0, 1), Answer::Head(Some(1))),
-    (Step::Read(0, 152), Answer::Bytes(USED_ONE)),
-    (Step::AreBallooned(19, 20), Answer::Done),
+    (Step::See(Sight::Bytes(0, 152)), Answer::Bytes(USED_ONE)),
+    (Step::See(Sight::AreBallooned(19, 20)), Answer::Done),
     (Step::Finish(0, 0), Answer::Head(Some(0))),
-    (Step::AreBallooned(17, 20), Answer::Done),
+    (Step::See(Sight::AreBallooned(17, 20)), Answer::Done),
 ];
 
 /// Requests for pages 17 and 18 and for pages 19 and 20 are taken.
@@ -115,12 +115,12 @@ pub(super) const TAKEN: &'static [(Step, Answer)] = &[
 /// The frames are gone and the pages ballooned while no used entry is written yet.
 const SETTLED: &'static [(Step, Answer)] = &[
     (Step::Settle, Answer::Head(Some(0))),
-    (Step::Read(0, 152), Answer::Bytes([0; 12])),
-    (Step::Backing(18), Answer::Frame(None)),
-    (Step::Backing(20), Answer::Frame(None)),
+    (Step::See(Sight::Bytes(0, 152)), Answer::Bytes([0; 12])),
+    (Step::See(Sight::Backing(18)), Answer::Frame(None)),
+    (Step::See(Sight::Backing(20)), Answer::Frame(None)),
     (Step::HandBack, Answer::Frame(Some(41))),
     (Step::HandBack, Answer::Frame(Some(40))),
-    (Step::AreBallooned(17, 20), Answer::Done),
+    (Step::See(Sight::AreBallooned(17, 20)), Answer::Done),
 ];
 
 /// What immediate devices make of inflates and deflates.

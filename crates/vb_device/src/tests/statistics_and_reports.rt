@@ -1,7 +1,7 @@
 //! Statistics and reports on immediate devices.
 
 use super::bytes::{AVAILABLE, PAGE_16_TWICE, USED};
-use super::{Answer, Scenario, Step, expect};
+use super::{Answer, Scenario, Sight, Step, expect};
 use crate::Immediate;
 use vb_model::Refusal;
 
@@ -25,27 +25,33 @@ const FREE_TWICE: [u8; 30] = [
 const STATISTICS: &'static [(Step, Answer)] = &[
     (Step::Start, Answer::Done),
     (Step::Ask, Answer::Refused(Refusal::NotTaken)),
-    (Step::Stats, Answer::Stats(None, None)),
+    (Step::See(Sight::Stats), Answer::Stats(None, None)),
     (Step::Write(12, 0, &FREE_AND_TOTAL), Answer::Done),
     (Step::Write(2, 0, &TWENTY_BYTES), Answer::Done),
     (Step::Write(2, 128, &AVAILABLE), Answer::Done),
     (Step::Take(2), Answer::Head(Some(0))),
-    (Step::Stats, Answer::Stats(Some(196_608), Some(262_144))),
+    (
+        Step::See(Sight::Stats),
+        Answer::Stats(Some(196_608), Some(262_144)),
+    ),
     (Step::Write(2, 130, &[2]), Answer::Done),
     (Step::Take(2), Answer::Refused(Refusal::Busy)),
     (Step::Ask, Answer::Done),
-    (Step::Read(2, 152), Answer::Bytes(USED)),
+    (Step::See(Sight::Bytes(2, 152)), Answer::Bytes(USED)),
     (Step::Ask, Answer::Refused(Refusal::NotTaken)),
-    (Step::Stats, Answer::Stats(Some(196_608), Some(262_144))),
+    (
+        Step::See(Sight::Stats),
+        Answer::Stats(Some(196_608), Some(262_144)),
+    ),
     (Step::Write(12, 0, &FREE_TWICE), Answer::Done),
     (Step::Write(2, 0, &THIRTY_BYTES), Answer::Done),
     (Step::Take(2), Answer::Head(Some(0))),
-    (Step::Stats, Answer::Stats(Some(8192), None)),
+    (Step::See(Sight::Stats), Answer::Stats(Some(8192), None)),
     (Step::Ask, Answer::Done),
     (Step::Write(2, 0, &NO_BYTES), Answer::Done),
     (Step::Write(2, 130, &[3]), Answer::Done),
     (Step::Take(2), Answer::Head(Some(0))),
-    (Step::Stats, Answer::Stats(None, None)),
+    (Step::See(Sight::Stats), Answer::Stats(None, None)),
 ];
 
 /// A reset empties what the device knew, and the buffer is no longer taken.
@@ -55,9 +61,12 @@ const STATISTICS_RESET: &'static [(Step, Answer)] = &[
         Step::TakeChain(2, &TWENTY_BYTES, AVAILABLE),
         Answer::Head(Some(0)),
     ),
-    (Step::Stats, Answer::Stats(Some(196_608), Some(262_144))),
+    (
+        Step::See(Sight::Stats),
+        Answer::Stats(Some(196_608), Some(262_144)),
+    ),
     (Step::Start, Answer::Done),
-    (Step::Stats, Answer::Stats(None, None)),
+    (Step::See(Sight::Stats), Answer::Stats(None, None)),
     (Step::Ask, Answer::Refused(Refusal::NotTaken)),
 ];
 
@@ -74,7 +83,7 @@ const FINISHED_ONCE: &'static [(Step, Answer)] = &[
     (Step::Finish(4, 0), Answer::Head(Some(0))),
     (Step::HandBack, Answer::Frame(Some(40))),
     (Step::HandBack, Answer::Frame(None)),
-    (Step::Backing(16), Answer::Frame(None)),
+    (Step::See(Sight::Backing(16)), Answer::Frame(None)),
 ];
 
 /// All pages from page 16 on of a guest of 16,384 pages, in one piece.
@@ -91,7 +100,7 @@ const REPORT_OF_ALL: &'static [(Step, Answer)] = &[
     (Step::HandBack, Answer::Frame(Some(41))),
     (Step::HandBack, Answer::Frame(Some(40))),
     (Step::HandBack, Answer::Frame(None)),
-    (Step::Backing(16_383), Answer::Frame(None)),
+    (Step::See(Sight::Backing(16_383)), Answer::Frame(None)),
 ];
 
 /// What they make of statistics and reports.
