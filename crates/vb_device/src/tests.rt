@@ -10,7 +10,7 @@ mod requests;
 mod second_reading;
 mod statistics_and_reports;
 
-use crate::{BalloonDevice, Claimed, Device, Immediate, Pace, Paced, Statistics, Worked};
+use crate::{BalloonDevice, Claimed, Device, Pace, Statistics, Worked};
 use bitflags::Flags;
 use std::alloc::Global;
 use std::process::Abort;
@@ -29,8 +29,8 @@ enum Step {
     WriteStatus(u8),
     /// Bytes are written to a page, from an offset on.
     Write(u32, usize, &'static [u8]),
-    /// In a new life the driver writes descriptors and an available ring for queues of 8, and the first
-    /// chain of a queue is taken.
+    /// In a new life the driver writes descriptors and an available ring for queues of 8, and the
+    /// first chain of a queue is taken.
     TakeChain(u32, &'static [u8], [u8; 6]),
     Take(u32),
     /// The statistics buffer is given back.
@@ -42,7 +42,8 @@ enum Step {
     /// The inflate that was taken first is settled, and the driver isn't told. No frame may be
     /// loose before.
     Settle,
-    /// The chain of a queue that was taken as this number is finished. No frame may be loose before.
+    /// The chain of a queue that was taken as this number is finished. No frame may be loose
+    /// before.
     Finish(u32, u32),
     /// A frame of this number is put behind a page.
     Supply(u32, u32),

@@ -104,7 +104,8 @@ const ONE_TOO_MANY: &'static [(Step, Answer)] = &[
 /// Statistics of 15 bytes.
 const FIFTEEN_BYTES: [u8; 16] = [0, 0xc0, 0, 0, 0, 0, 0, 0, 15, 0, 0, 0, 0, 0, 0, 0];
 
-/// Reports that the device may not write, of no bytes, from the middle of a page on, and of page 15.
+/// Reports that the device may not write, of no bytes, from the middle of a page on, and of page
+/// 15.
 const REPORT_TO_READ: [u8; 16] = [0, 0, 1, 0, 0, 0, 0, 0, 0, 16, 0, 0, 0, 0, 0, 0];
 
 const REPORT_OF_NOTHING: [u8; 16] = [0, 0, 1, 0, 0, 0, 0, 0, 0, 0, 0, 0, 2, 0, 0, 0];

@@ -5,8 +5,8 @@ use super::{Answer, Scenario, Sight, Step, expect};
 use crate::Immediate;
 use vb_model::Refusal;
 
-/// A statistics buffer of 20 bytes at address 0xc000 in a queue of 8, and what a driver with 48 free
-/// pages of 64 writes there.
+/// A statistics buffer of 20 bytes at address 0xc000 in a queue of 8, and what a driver with 48
+/// free pages of 64 writes there.
 const TWENTY_BYTES: [u8; 16] = [0, 0xc0, 0, 0, 0, 0, 0, 0, 20, 0, 0, 0, 0, 0, 0, 0];
 
 const FREE_AND_TOTAL: [u8; 20] = [4, 0, 0, 0, 3, 0, 0, 0, 0, 0, 5, 0, 0, 0, 4, 0, 0, 0, 0, 0];
