@@ -1,67 +1,30 @@
-//! Rings of random bytes: a device answers as a second reading of the same bytes has it, which is
-//! written from the rules alone.
+//! Rings of random bytes: a device answers as a second reading of the same bytes has it.
 
+use super::second_reading::answer_of;
 use super::{Answer, Host};
 use crate::{Immediate, Pace, Paced};
-use arrayvec::ArrayVec;
+use byteorder::{ByteOrder, LittleEndian};
+use rand_core::Rng;
+use rand_pcg::Pcg32;
 use std::alloc::{AllocError, Global};
 use std::process::Abort;
 use std::test::Fail;
-use vb_model::Refusal;
 use vb_ram::GuestBytes;
 
-/// Numbers that look random, from a fixed seed.
-#[derive(Drop)]
-struct Numbers {
-    state: u64,
-}
-
-impl Numbers {
-    /// A number below this one, or 0.
-    fn below(&mut self, end: u64) -> u64 {
-        self.state = self
-            .state
-            .wrapping_mul(6_364_136_223_846_793_005)
-            .wrapping_add(1_442_695_040_888_963_407);
-        (self.state >> 33).checked_rem(end).unwrap_or(0)
-    }
-
-    /// True once in so many times.
-    fn is_rare(&mut self, times: u64) -> bool {
-        self.below(times) == 0
-    }
-}
-
-/// Puts a number of so many bytes, the lowest first.
-fn put(bytes: &mut [u8], at: usize, count: usize, value: u64) {
-    let mut rest = value;
-    for k in 0..count {
-        if let Some(byte) = bytes.get_mut(at.wrapping_add(k)) {
-            *byte = (rest % 256) as u8;
-        }
-        rest /= 256;
-    }
-}
-
-/// The number that is there.
-fn number(bytes: &[u8], at: usize, count: usize) -> u64 {
-    let mut value: u64 = 0;
-    for k in (0..count).rev() {
-        let byte = bytes.get(at.wrapping_add(k)).copied().unwrap_or(0);
-        value = value.wrapping_mul(256).wrapping_add(u64::from(byte));
-    }
-    value
+/// A number below this one, or 0.
+fn below(numbers: &mut Pcg32, end: u32) -> u32 {
+    numbers.next_u32().checked_rem(end).unwrap_or(0)
 }
 
 /// What most descriptors of a queue are like: the pages in which they begin, at what step of bytes,
 /// the unit of their lengths, and their flags.
 #[derive(Clone, Copy)]
 struct Habit {
-    first_page: u64,
-    pages: u64,
-    step: u64,
-    unit: u64,
-    flags: u64,
+    first_page: u32,
+    pages: u32,
+    step: u32,
+    unit: u32,
+    flags: u16,
 }
 
 /// Of requests, which are read in the buffers.
@@ -102,321 +65,94 @@ fn habit_of(queue: u32) -> Habit {
 impl Habit {
     /// Where a descriptor begins: at times in a ring, near the end of memory, near the end of a
     /// page, or near the last address of 64 bits.
-    fn address(&self, numbers: &mut Numbers) -> u64 {
-        let steps = 4096_u64.checked_div(self.step).unwrap_or(0);
-        let offset = numbers.below(steps).wrapping_mul(self.step);
-        let page = self.first_page.wrapping_add(numbers.below(self.pages));
-        match numbers.below(40) {
-            0 => numbers.below(16_384),
-            1 => 262_144_u64.wrapping_sub(numbers.below(20)),
-            2 => page.wrapping_mul(4096).wrapping_sub(numbers.below(20)),
-            3 => 0_u64.wrapping_sub(numbers.below(20)),
-            _ => page.wrapping_mul(4096).wrapping_add(offset),
+    fn address(&self, numbers: &mut Pcg32) -> u64 {
+        let page = self.first_page.wrapping_add(below(numbers, self.pages));
+        let start = u64::from(page) * 4096;
+        let little = u64::from(below(numbers, 20));
+        match below(numbers, 40) {
+            0 => u64::from(below(numbers, 16_384)),
+            1 => 262_144_u64.wrapping_sub(little),
+            2 => start.wrapping_sub(little),
+            3 => 0_u64.wrapping_sub(little),
+            _ => start.wrapping_add(self.offset(numbers)),
         }
     }
 
-    fn length(&self, numbers: &mut Numbers) -> u64 {
-        match numbers.below(40) {
-            0 => numbers.below(17),
-            1 => numbers.below(103).wrapping_mul(10),
-            2 => numbers.below(257).wrapping_mul(4),
+    /// Where in its page.
+    fn offset(&self, numbers: &mut Pcg32) -> u64 {
+        let steps = 4096_u32.checked_div(self.step).unwrap_or(0);
+        u64::from(below(numbers, steps).wrapping_mul(self.step))
+    }
+
+    fn length(&self, numbers: &mut Pcg32) -> u32 {
+        match below(numbers, 40) {
+            0 => below(numbers, 17),
+            1 => below(numbers, 103).wrapping_mul(10),
+            2 => below(numbers, 257).wrapping_mul(4),
             3 => 4096,
-            _ => numbers.below(5).wrapping_mul(self.unit),
+            _ => below(numbers, 5).wrapping_mul(self.unit),
         }
     }
 
     /// Each flag is at times another than the habit has; NEXT is set in a third, or in all where
     /// the chains are long.
-    fn flags(&self, numbers: &mut Numbers, is_long: bool) -> u64 {
-        let next = if is_long || numbers.is_rare(3) { 1 } else { 0 };
-        let write = if numbers.is_rare(20) { 2 } else { 0 };
-        let indirect = if numbers.is_rare(40) { 4 } else { 0 };
+    fn flags(&self, numbers: &mut Pcg32, is_long: bool) -> u16 {
+        let is_next = is_long || below(numbers, 3) == 0;
+        let next = if is_next { 1 } else { 0 };
+        let write = if below(numbers, 20) == 0 { 2 } else { 0 };
+        let indirect = if below(numbers, 40) == 0 { 4 } else { 0 };
         self.flags ^ (next | write | indirect)
     }
 }
 
 /// A number of a descriptor, at times one that the queue doesn't have.
-fn random_index(numbers: &mut Numbers) -> u64 {
-    match numbers.below(60) {
-        0 => numbers.below(65_536),
-        1 => numbers.below(10),
-        _ => numbers.below(8),
-    }
+fn random_index(numbers: &mut Pcg32) -> u16 {
+    let end = match below(numbers, 60) {
+        0 => 65_536,
+        1 => 10,
+        _ => 8,
+    };
+    (below(numbers, end) % 65_536) as u16
 }
 
 /// The descriptors and the available ring of a queue of 8.
-fn random_ring(numbers: &mut Numbers, queue: u32) -> [u8; 150] {
+fn random_ring(numbers: &mut Pcg32, queue: u32) -> [u8; 150] {
     let habit = habit_of(queue);
-    let is_long = numbers.is_rare(4);
+    let is_long = below(numbers, 4) == 0;
     let mut bytes = [0; 150];
     for k in 0..8 {
-        put(&mut bytes, 16 * k, 8, habit.address(numbers));
-        put(&mut bytes, 16 * k + 8, 4, habit.length(numbers));
-        put(&mut bytes, 16 * k + 12, 2, habit.flags(numbers, is_long));
-        put(&mut bytes, 16 * k + 14, 2, random_index(numbers));
-        put(&mut bytes, 132 + 2 * k, 2, random_index(numbers));
+        LittleEndian::write_u64(&mut bytes[16 * k..], habit.address(numbers));
+        LittleEndian::write_u32(&mut bytes[16 * k + 8..], habit.length(numbers));
+        LittleEndian::write_u16(&mut bytes[16 * k + 12..], habit.flags(numbers, is_long));
+        LittleEndian::write_u16(&mut bytes[16 * k + 14..], random_index(numbers));
+        LittleEndian::write_u16(&mut bytes[132 + 2 * k..], random_index(numbers));
     }
-    let ahead = if numbers.is_rare(60) { 65_536 } else { 10 };
-    put(&mut bytes, 130, 2, numbers.below(ahead));
+    LittleEndian::write_u16(&mut bytes[130..], random_ahead(numbers));
     bytes
 }
 
+/// How far the available ring is ahead, mostly not too far.
+fn random_ahead(numbers: &mut Pcg32) -> u16 {
+    let end = if below(numbers, 60) == 0 { 65_536 } else { 10 };
+    (below(numbers, end) % 65_536) as u16
+}
+
 /// A number, mostly that of a page that a request may name.
-fn random_page(numbers: &mut Numbers) -> u64 {
-    match numbers.below(128) {
-        0 => numbers.below(128),
-        1 => numbers.below(0x7fff_ffff),
-        _ => 16_u64.wrapping_add(numbers.below(48)),
+fn random_page(numbers: &mut Pcg32) -> u32 {
+    match below(numbers, 128) {
+        0 => below(numbers, 128),
+        1 => numbers.next_u32(),
+        _ => 16_u32.wrapping_add(below(numbers, 48)),
     }
 }
 
 /// A buffer page of such numbers.
-fn random_buffer(numbers: &mut Numbers) -> [u8; 4096] {
+fn random_buffer(numbers: &mut Pcg32) -> [u8; 4096] {
     let mut bytes = [0; 4096];
     for k in 0..1024 {
-        put(&mut bytes, 4 * k, 4, random_page(numbers));
+        LittleEndian::write_u32(&mut bytes[4 * k..], random_page(numbers));
     }
     bytes
-}
-
-/// A descriptor as the second reading sees it.
-#[derive(Clone, Copy, Default)]
-struct Link {
-    addr: u64,
-    len: u64,
-    flags: u64,
-    next: u64,
-}
-
-impl Link {
-    /// Descriptor `index` of the table that begins at `ring`.
-    fn at(bytes: &[u8], ring: usize, index: u64) -> Link {
-        let at = ring.wrapping_add(index.wrapping_mul(16) as usize);
-        Link {
-            addr: number(bytes, at, 8),
-            len: number(bytes, at.wrapping_add(8), 4),
-            flags: number(bytes, at.wrapping_add(12), 2),
-            next: number(bytes, at.wrapping_add(14), 2),
-        }
-    }
-
-    fn has(&self, flag: u64) -> bool {
-        self.flags & flag != 0
-    }
-
-    /// The first rule that it breaks as number `at` of its chain, after a writable one or none.
-    fn broken_rule(&self, at: u32, is_after_writable: bool) -> Option<u32> {
-        let end = self.addr.saturating_add(self.len);
-        if self.has(4) {
-            Some(4)
-        } else if end > 64 * 4096 {
-            Some(6)
-        } else if is_after_writable && !self.has(2) {
-            Some(5)
-        } else if self.has(1) && self.next >= 8 {
-            Some(2)
-        } else if self.has(1) && at == 7 {
-            Some(3)
-        } else {
-            None
-        }
-    }
-
-    /// The rule that it breaks as the first one of a report that does.
-    fn broken_rule_of_report(&self) -> Option<u32> {
-        if self.addr % 4096 > 0 {
-            Some(9)
-        } else if self.addr / 4096 < 16 {
-            Some(10)
-        } else {
-            None
-        }
-    }
-}
-
-type Links = ArrayVec<Link, 8>;
-
-/// The chain from a head, or the first rule that it breaks.
-fn chain_from(bytes: &[u8], ring: usize, head: u64) -> Result<Links, u32> {
-    let mut links = ArrayVec::new();
-    let mut index = head;
-    let mut is_after_writable = false;
-    if head >= 8 {
-        return Err(1);
-    }
-    for at in 0..8 {
-        let link = Link::at(bytes, ring, index);
-        if let Some(rule) = link.broken_rule(at, is_after_writable) {
-            return Err(rule);
-        }
-        let _ = links.try_push(link);
-        if !link.has(1) {
-            break;
-        }
-        is_after_writable = is_after_writable || link.has(2);
-        index = link.next;
-    }
-    Ok(links)
-}
-
-/// Whether a link is the device's to write, or one is its to read.
-fn has_direction(links: &Links, is_write: bool) -> bool {
-    for link in links.as_slice() {
-        if link.has(2) == is_write {
-            return true;
-        }
-    }
-    false
-}
-
-fn total_length(links: &Links) -> u64 {
-    let mut total: u64 = 0;
-    for link in links.as_slice() {
-        total = total.saturating_add(link.len);
-    }
-    total
-}
-
-/// The bytes of a chain, read one after the other as numbers of four bytes.
-#[derive(Drop)]
-struct Reader {
-    last_four: u64,
-    count: u64,
-}
-
-impl Reader {
-    /// The rule that a number breaks which ends with this byte.
-    fn read_byte(&mut self, byte: u8) -> Option<u32> {
-        let high = u64::from(byte).wrapping_mul(1 << 24);
-        self.last_four = (self.last_four / 256).wrapping_add(high);
-        self.count = self.count.wrapping_add(1);
-        if self.count % 4 > 0 {
-            None
-        } else if self.last_four >= 64 {
-            Some(9)
-        } else if self.last_four < 16 {
-            Some(10)
-        } else {
-            None
-        }
-    }
-
-    fn read_link(&mut self, bytes: &[u8], link: &Link) -> Option<u32> {
-        for k in 0..link.len {
-            let at = link.addr.wrapping_add(k) as usize;
-            let byte = bytes.get(at).copied().unwrap_or(0);
-            if let Some(rule) = self.read_byte(byte) {
-                return Some(rule);
-            }
-        }
-        None
-    }
-}
-
-fn broken_by_numbers(bytes: &[u8], links: &Links) -> Option<u32> {
-    let mut reader = Reader {
-        last_four: 0,
-        count: 0,
-    };
-    for link in links.as_slice() {
-        if let Some(rule) = reader.read_link(bytes, link) {
-            return Some(rule);
-        }
-    }
-    None
-}
-
-fn broken_by_request(bytes: &[u8], links: &Links) -> Option<u32> {
-    let total = total_length(links);
-    if has_direction(links, true) {
-        Some(5)
-    } else if total < 4 || total > 1024 || total % 4 > 0 {
-        Some(8)
-    } else {
-        broken_by_numbers(bytes, links)
-    }
-}
-
-fn broken_by_statistics(links: &Links) -> Option<u32> {
-    let total = total_length(links);
-    if has_direction(links, true) {
-        Some(5)
-    } else if total > 1020 || total % 10 > 0 {
-        Some(8)
-    } else {
-        None
-    }
-}
-
-fn has_part_of_a_page(links: &Links) -> bool {
-    for link in links.as_slice() {
-        if link.len == 0 || link.len % 4096 > 0 {
-            return true;
-        }
-    }
-    false
-}
-
-fn broken_by_report(links: &Links) -> Option<u32> {
-    if has_direction(links, false) {
-        return Some(5);
-    }
-    if has_part_of_a_page(links) {
-        return Some(8);
-    }
-    for link in links.as_slice() {
-        if let Some(rule) = link.broken_rule_of_report() {
-            return Some(rule);
-        }
-    }
-    None
-}
-
-/// The head that stands at a place of the available ring, or the first rule that its chain breaks.
-fn taken_head(bytes: &[u8], queue: u32, ring: usize, entry: u64) -> Result<u16, u32> {
-    let at = ring
-        .wrapping_add(132)
-        .wrapping_add((entry % 8 * 2) as usize);
-    let head = number(bytes, at, 2);
-    let links = chain_from(bytes, ring, head)?;
-    let broken = match queue {
-        2 => broken_by_statistics(&links),
-        4 => broken_by_report(&links),
-        _ => broken_by_request(bytes, &links),
-    };
-    match broken {
-        Some(rule) => Err(rule),
-        None => Ok((head % 8) as u16),
-    }
-}
-
-fn broken(rule: u32) -> Answer {
-    Answer::Refused(Refusal::Broken { rule })
-}
-
-/// What a take answers after so many others.
-fn answer_of(bytes: &[u8], queue: u32, taken: u64) -> Answer {
-    let ring = match queue {
-        1 => 4096,
-        2 => 2 * 4096,
-        4 => 3 * 4096,
-        _ => 0,
-    };
-    let available = number(bytes, ring + 130, 2);
-    let ahead = available.wrapping_sub(taken) % 65_536;
-    if queue == 2 && taken > 0 {
-        return Answer::Refused(Refusal::Busy);
-    }
-    if ahead == 0 {
-        return Answer::Head(None);
-    }
-    if ahead > 8 {
-        return broken(7);
-    }
-    match taken_head(bytes, queue, ring, taken) {
-        Ok(head) => Answer::Head(Some(head)),
-        Err(rule) => broken(rule),
-    }
 }
 
 /// A device, and the bytes of its guest's memory.
@@ -461,7 +197,7 @@ impl<P: Pace> Guest<P> {
     }
 
     /// Whether the device answers ten new rings of the queue as the second reading does.
-    fn takes_ten_as_read(&mut self, numbers: &mut Numbers, queue: u32) -> bool {
+    fn takes_ten_as_read(&mut self, numbers: &mut Pcg32, queue: u32) -> bool {
         let ring_page = if queue == 4 { 3 } else { queue };
         for _ring in 0..10 {
             self.write(ring_page, &random_ring(numbers, queue));
@@ -474,7 +210,7 @@ impl<P: Pace> Guest<P> {
 
     /// Of 5,000 rings of a queue, the number of the first ten of which the device answers one
     /// otherwise. The buffer pages change in turn.
-    fn first_wrong_ten(&mut self, numbers: &mut Numbers, queue: u32) -> Option<u32> {
+    fn first_wrong_ten(&mut self, numbers: &mut Pcg32, queue: u32) -> Option<u32> {
         for ten in 0..500 {
             self.write(4 + ten % 9, &random_buffer(numbers));
             if !self.takes_ten_as_read(numbers, queue) {
@@ -487,9 +223,7 @@ impl<P: Pace> Guest<P> {
 
 /// Expects that a device of this pace answers each ring of a queue as the second reading has it.
 fn expect_as_read<P: Pace>(rt: &impl Abort, alloc: Global, queue: u32) -> Result<(), Fail> {
-    let mut numbers = Numbers {
-        state: u64::from(queue),
-    };
+    let mut numbers = Pcg32::new(1, u64::from(queue));
     let mut guest = Guest::<P>::new(rt, alloc)?;
     assert_eq!(rt; guest.first_wrong_ten(&mut numbers, queue), None);
     Ok(())

@@ -4,48 +4,18 @@
 use super::{ALL, Answer, Guest, Step};
 use crate::requests::is_up;
 use bitflags::Flags;
+use byteorder::{ByteOrder, LittleEndian};
+use rand_core::Rng;
+use rand_pcg::Pcg32;
 use std::process::Abort;
 use std::test::Fail;
 use vb_model::Refusal;
 use vb_ram::GuestBytes;
 use vb_status::Port;
 
-/// Numbers that look random, from a fixed seed.
-#[derive(Drop)]
-struct Numbers {
-    state: u64,
-}
-
-impl Numbers {
-    /// A number below this one, or 0.
-    fn below(&mut self, end: u64) -> u64 {
-        self.state = self
-            .state
-            .wrapping_mul(6_364_136_223_846_793_005)
-            .wrapping_add(1_442_695_040_888_963_407);
-        (self.state >> 33).checked_rem(end).unwrap_or(0)
-    }
-}
-
-/// Puts a number of so many bytes, the lowest first.
-fn put(bytes: &mut [u8], at: usize, count: usize, value: u64) {
-    let mut rest = value;
-    for k in 0..count {
-        if let Some(byte) = bytes.get_mut(at.wrapping_add(k)) {
-            *byte = (rest % 256) as u8;
-        }
-        rest /= 256;
-    }
-}
-
-/// The number that is there.
-fn number(bytes: &[u8], at: usize, count: usize) -> u64 {
-    let mut value: u64 = 0;
-    for k in (0..count).rev() {
-        let byte = bytes.get(at.wrapping_add(k)).copied().unwrap_or(0);
-        value = value.wrapping_mul(256).wrapping_add(u64::from(byte));
-    }
-    value
+/// A number below this one, or 0.
+fn below(numbers: &mut Pcg32, end: u32) -> u32 {
+    numbers.next_u32().checked_rem(end).unwrap_or(0)
 }
 
 /// The requests of a queue of 8 as the test remembers them.
@@ -54,7 +24,7 @@ struct Outstanding {
     /// Which heads are out.
     heads: [bool; 8],
     /// How many used elements were taken back.
-    seen: u64,
+    seen: u16,
 }
 
 impl Outstanding {
@@ -65,8 +35,8 @@ impl Outstanding {
         }
     }
 
-    fn count(&self) -> u64 {
-        let mut count: u64 = 0;
+    fn count(&self) -> u32 {
+        let mut count: u32 = 0;
         for head in 0..8 {
             if self.heads[head] {
                 count = count.saturating_add(1);
@@ -75,52 +45,55 @@ impl Outstanding {
         count
     }
 
-    fn set(&mut self, head: u64, is_out: bool) {
-        if let Some(there) = self.heads.get_mut(head as usize) {
+    fn set(&mut self, head: u16, is_out: bool) {
+        if let Some(there) = self.heads.get_mut(usize::from(head)) {
             *there = is_out;
         }
     }
 
     /// What the used ring says next: a head, or none.
-    fn next(&self, used: &[u8]) -> Result<Option<u64>, Refusal> {
-        let ahead = number(used, 2, 2).wrapping_sub(self.seen) % 65_536;
+    fn next(&self, used: &[u8; 70]) -> Result<Option<u16>, Refusal> {
+        let ahead = LittleEndian::read_u16(&used[2..]).wrapping_sub(self.seen);
         if ahead == 0 {
             return Ok(None);
         }
-        if ahead > self.count() {
+        if u32::from(ahead) > self.count() {
             return Err(Refusal::RingBroken);
         }
-        let place = (self.seen % 8) as usize;
-        let id = number(used, 4 + 8 * place, 4);
+        let place = usize::from(self.seen % 8);
+        let id = LittleEndian::read_u32(&used[4 + 8 * place..]);
         match self.heads.get(id as usize) {
-            Some(true) => Ok(Some(id)),
+            Some(true) => Ok(Some((id % 8) as u16)),
             _ => Err(Refusal::RingBroken),
         }
     }
 
     /// An id, mostly one that is out.
-    fn random_id(&self, numbers: &mut Numbers) -> u64 {
-        match numbers.below(32) {
-            0 => numbers.below(0x7fff_ffff),
-            1 => numbers.below(8).wrapping_add(65_536),
-            2 => numbers.below(10),
-            _ => numbers.below(self.count()),
+    fn random_id(&self, numbers: &mut Pcg32) -> u32 {
+        match below(numbers, 32) {
+            0 => numbers.next_u32(),
+            1 => below(numbers, 8).wrapping_add(65_536),
+            2 => below(numbers, 10),
+            _ => below(numbers, self.count()),
         }
     }
 
-    /// A used ring, mostly with an index that isn't too far ahead.
-    fn random_used(&self, numbers: &mut Numbers) -> [u8; 70] {
-        let mut bytes = [0; 70];
-        let ahead = match numbers.below(16) {
-            0 => numbers.below(65_536),
-            1 => numbers.below(10),
-            _ => numbers.below(self.count().saturating_add(1)),
+    /// A used index, mostly one that isn't too far ahead.
+    fn random_index(&self, numbers: &mut Pcg32) -> u16 {
+        let ahead = match below(numbers, 16) {
+            0 => numbers.next_u32(),
+            1 => below(numbers, 10),
+            _ => below(numbers, self.count().saturating_add(1)),
         };
-        put(&mut bytes, 0, 2, numbers.below(65_536));
-        put(&mut bytes, 2, 2, self.seen.wrapping_add(ahead));
+        self.seen.wrapping_add((ahead % 65_536) as u16)
+    }
+
+    fn random_used(&self, numbers: &mut Pcg32) -> [u8; 70] {
+        let mut bytes = [0; 70];
+        numbers.fill_bytes(&mut bytes);
+        LittleEndian::write_u16(&mut bytes[2..], self.random_index(numbers));
         for k in 0..8 {
-            put(&mut bytes, 4 + 8 * k, 4, self.random_id(numbers));
-            put(&mut bytes, 8 + 8 * k, 4, numbers.below(0x7fff_ffff));
+            LittleEndian::write_u32(&mut bytes[4 + 8 * k..], self.random_id(numbers));
         }
         bytes
     }
@@ -160,30 +133,30 @@ impl Played {
     }
 
     /// Posts so many requests, as far as the driver does.
-    fn post_some(&mut self, count: u64) {
+    fn post_some(&mut self, count: u32) {
         for _request in 0..count {
             if let Ok(Answer::Posted(head, _)) = self.post() {
-                self.outstanding.set(u64::from(head), true);
+                self.outstanding.set(head, true);
             }
         }
     }
 
     /// Takes a request back, and answers its head; of the statistics buffer, which goes out again,
     /// head 0.
-    fn take_back(&mut self) -> Result<Option<u64>, Refusal> {
+    fn take_back(&mut self) -> Result<Option<u16>, Refusal> {
         let answer = match self.queue {
             2 => self.guest.stats()?,
             _ => self.guest.reap(self.queue)?,
         };
         match answer {
-            Answer::Reaped(head, _) => Ok(Some(u64::from(head))),
+            Answer::Reaped(head, _) => Ok(Some(head)),
             Answer::Is(true) => Ok(Some(0)),
             _ => Ok(None),
         }
     }
 
     /// Whether requests are taken back as the second reading has it, until there is no further one.
-    fn takes_back_as_read(&mut self, used: &[u8]) -> bool {
+    fn takes_back_as_read(&mut self, used: &[u8; 70]) -> bool {
         for _request in 0..9 {
             let expected = self.outstanding.next(used);
             if self.take_back() != expected {
@@ -200,13 +173,13 @@ impl Played {
     }
 
     /// The number of the first of 5,000 used rings that is answered otherwise.
-    fn first_wrong_ring(&mut self, numbers: &mut Numbers) -> Option<u32> {
+    fn first_wrong_ring(&mut self, numbers: &mut Pcg32) -> Option<u32> {
         let page = if self.queue == 4 { 3 } else { self.queue };
         for at in 0..5_000 {
             if !is_up(&self.guest.port) {
                 self.begin();
             }
-            self.post_some(numbers.below(5));
+            self.post_some(below(numbers, 5));
             let used = self.outstanding.random_used(numbers);
             let _ = self.guest.port.write(page, 152, &used);
             if !self.takes_back_as_read(&used) {
@@ -219,9 +192,7 @@ impl Played {
 
 /// Expects that a new guest's driver answers each used ring as the second reading has it.
 fn expect_as_read(rt: &impl Abort, guest: Guest, queue: u32) {
-    let mut numbers = Numbers {
-        state: u64::from(queue),
-    };
+    let mut numbers = Pcg32::new(1, u64::from(queue));
     let mut played = Played {
         guest,
         queue,

@@ -4,25 +4,14 @@ ghost use Rattle.vb_pages.specs.PageState.{IsGuestSize};
 
 use crate::{PageFault, Pages};
 use arrayvec::ArrayVec;
+use rand_core::Rng;
+use rand_pcg::Pcg32;
 use std::alloc::{AllocError, Global};
 use std::test::Fail;
 
-/// Pseudo-random numbers from a fixed seed.
-#[derive(Drop)]
-struct Numbers {
-    state: u64,
-}
-
-impl Numbers {
-    /// A number below this one, or 0.
-    fn below(&mut self, end: u32) -> u32 {
-        self.state = self
-            .state
-            .wrapping_mul(6_364_136_223_846_793_005)
-            .wrapping_add(1_442_695_040_888_963_407);
-        let number = u32::try_from(self.state >> 33).unwrap_or(0);
-        number.checked_rem(end).unwrap_or(0)
-    }
+/// A number below this one, or 0.
+fn below(numbers: &mut Pcg32, end: u32) -> u32 {
+    numbers.next_u32().checked_rem(end).unwrap_or(0)
 }
 
 /// The pages in the areas, the lists of two processors, oldest first, and the held blocks, each by
@@ -213,7 +202,7 @@ impl Plain {
 struct Pair {
     pages: Pages,
     plain: Plain,
-    numbers: Numbers,
+    numbers: Pcg32,
 }
 
 impl Pair {
@@ -224,21 +213,21 @@ impl Pair {
         Ok(Pair {
             pages: Pages::new(alloc, size, 2)?,
             plain: Plain::new(alloc, size)?,
-            numbers: Numbers { state: seed },
+            numbers: Pcg32::new(seed, 0),
         })
     }
 
     /// One pseudo-random call, on both; whether they answer alike.
     fn call(&mut self) -> bool {
-        let cpu = self.numbers.below(3);
-        if self.numbers.below(5) < 3 {
-            let order = self.numbers.below(4).saturating_mul(self.numbers.below(4));
+        let cpu = below(&mut self.numbers, 3);
+        if below(&mut self.numbers, 5) < 3 {
+            let order = below(&mut self.numbers, 4).saturating_mul(below(&mut self.numbers, 4));
             return self.pages.alloc(cpu, order) == self.plain.alloc(cpu, order);
         }
         let held = u32::try_from(self.plain.held.len()).unwrap_or(0);
-        let chosen = self.numbers.below(held) as usize;
+        let chosen = below(&mut self.numbers, held) as usize;
         let (start, order) = self.plain.held.get(chosen).copied().unwrap_or((16, 0));
-        let order = if self.numbers.below(9) == 0 {
+        let order = if below(&mut self.numbers, 9) == 0 {
             order.saturating_add(1)
         } else {
             order
