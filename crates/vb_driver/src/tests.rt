@@ -1,6 +1,7 @@
 //! A driver's calls over guest memory with no device behind it. A line of a table is a step and its
 //! answer; what a device would write into a ring is a step too.
 
+mod lent;
 mod random_rings;
 
 use crate::memory::all_backed;
