@@ -1,6 +1,9 @@
 //! The lent pages as bits, after each of a table of calls: the words that the rules give, worked
 //! out by hand, and of each page just what `place` tells of it.
 
+ghost use Rattle.std.specs.Prelude.{◌≡◌, true};
+ghost use Rattle.vb_model.specs.Limits.{is_config};
+
 use crate::Driver;
 use crate::memory::all_backed;
 use crate::places::PlaceTable;
@@ -62,7 +65,9 @@ fn port_of(alloc: Global, pages: u32) -> Result<MemoryPort, RamFault> {
 }
 
 /// A guest of so many pages, with queues of 8 descriptors and one processor.
-fn guest_of(alloc: Global, pages: u32) -> Result<Guest, Fail> {
+fn guest_of(alloc: Global, pages: u32) -> Result<Guest, Fail>
+    requires { is_config pages 8 1 ≡ true }
+{
     let config = Config {
         pages,
         queue_size: 8,
@@ -193,7 +198,9 @@ impl Guest {
 }
 
 /// How many words a guest of so many pages has, and its first line that is wrong.
-fn run(alloc: Global, pages: u32, lines: &[Line]) -> Result<(usize, Option<usize>), Fail> {
+fn run(alloc: Global, pages: u32, lines: &[Line]) -> Result<(usize, Option<usize>), Fail>
+    requires { is_config pages 8 1 ≡ true }
+{
     let mut guest = guest_of(alloc, pages)?;
     let words = guest.driver.lent_bits().len();
     Ok((words, guest.first_wrong(lines)))
