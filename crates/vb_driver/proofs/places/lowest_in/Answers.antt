@@ -1,4 +1,4 @@
-use Rattle.std.proofs.Common.{◌∙◌, ◌+◌, ◌∷◌, ◌++◌, [], sym, subst, arith, ℕ, List}
+use Rattle.std.proofs.Common.{◌+◌, sym, subst, arith, ℕ, List}
 use Rattle.vb_driver.proofs.Marking.{AreFirst, first_more, first_all}
 use Rattle.vb_driver.proofs.places.lowest_in.Goals as goal
 
