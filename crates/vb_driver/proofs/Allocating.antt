@@ -5,7 +5,7 @@ use Rattle.std.proofs.Common.{length, get_or, set, map, inl, inr, IsTrue, Option
 use Rattle.std.proofs.Common.{IfOk, OnOk, OnErr, nat_le, nat_lt, count_by, eq-eqb}
 use Rattle.std.specs.List.{list_all, range_with_len}
 use Rattle.std.proofs.lemmas.Bool.{cases_lt, and_parts, and_from, false_from_ne_true}
-use Rattle.std.proofs.lemmas.Bool.{not_from_false, ne_eqb, ltb-true, leb-true, lt-ltb, le-ltb}
+use Rattle.std.proofs.lemmas.Bool.{ne_eqb, ltb-true, leb-true, lt-ltb, le-ltb}
 use Rattle.std.proofs.lemmas.Bool.{le-leb, lt-leb}
 use Rattle.std.proofs.lemmas.Nat.{pow_pos}
 use Rattle.std.proofs.lemmas.List.Sums.{count_by-le-length}

@@ -1,18 +1,20 @@
 -- Counts of places, as a page moves.
 use Rattle.std.proofs.Common.{◌≡◌, ◌∙◌, sym, ap, arith, ℕ, ◌+◌, ◌-◌, ◌<◌, ◌≤◌, cond, eqb, List}
 use Rattle.std.proofs.Common.{length, get_or, set, count_by, inl, inr, eq-eqb, refl, not, [], ◌∷◌}
-use Rattle.std.proofs.Common.{Bool, true, false, zero, suc, replicate}
+use Rattle.std.proofs.Common.{Bool, true, false, zero, suc, replicate, map}
 use Rattle.std.proofs.lemmas.List.Sums.{sum_by-set, get_or-le-sum_by}
 use Rattle.std.proofs.lemmas.List.{length-replicate, get_or-set_same, get_or-set_other, length-set}
 use Rattle.std.specs.List.{list_all, range_with_len}
 use Rattle.std.proofs.lemmas.Bool.{cases_eq, ne_eqb, eqb-true}
 use Rattle.vb_model.specs.Tests.{one_if}
+use Rattle.vb_model.specs.Pages.{is_lent, is_stranded}
 use Rattle.vb_model.specs.declared.places.Place.{Place}
 use Rattle.vb_model.specs.declared.places.Place.TheVariants.{Reserved, Free, Used, Giving, Lent}
 use Rattle.vb_model.specs.declared.places.Place.TheVariants.{Taking, Stranded, Reporting}
 use Rattle.vb_model.proofs.Tables.{list_all-at, count_by-cons}
 use Rattle.vb_pages.proofs.Sets.{in_block}
 use Rattle.vb_driver.specs.Places.{number_of, is_at, AreCounts, IsTable}
+use Rattle.vb_driver.proofs.Marking.{none_of}
 
 pub number_small : (place : Place) → number_of place < 8
 number_small Reserved = omega arith
@@ -187,15 +189,21 @@ count_replicate test x (suc n) =
     at true ih = omega arith
     at false ih = omega arith
 
-pub reserved_table : (counts : List ℕ) (places : List Place) (pages : ℕ)
-    → counts ≡ pages ∷ 0 ∷ 0 ∷ 0 ∷ 0 ∷ 0 ∷ 0 ∷ 0 ∷ [] → places ≡ replicate pages Reserved
-    → pages ≤ 16384 → IsTable counts places
-reserved_table counts places pages counted is most = record {
+pub reserved_table : (counts : List ℕ) (lent stranded : List Bool) (places : List Place) (pages : ℕ)
+    → counts ≡ pages ∷ 0 ∷ 0 ∷ 0 ∷ 0 ∷ 0 ∷ 0 ∷ 0 ∷ [] → lent ≡ replicate pages false
+    → stranded ≡ replicate pages false → places ≡ replicate pages Reserved
+    → pages ≤ 16384 → IsTable counts lent stranded places
+reserved_table counts lent stranded places pages counted lents strandeds is most = record {
   kinds = ap (λ (l : List ℕ). length l) counted;
   are_counts = record {
     each = λ place. ap (λ (l : List ℕ). get_or l (number_of place) 0) counted
         ∙ (at place ∙ sym (ap (count_by (is_at place)) is
         ∙ count_replicate (is_at place) Reserved pages));
+  };
+  are_sets = record {
+    of_lent = lents ∙ (none_of is_lent Reserved pages refl ∙ ap (map is_lent) (sym is));
+    of_stranded = strandeds
+        ∙ (none_of is_stranded Reserved pages refl ∙ ap (map is_stranded) (sym is));
   };
   small = omega (arith, ap (λ (l : List Place). length l) is, length-replicate pages Reserved);
 }

@@ -39,7 +39,6 @@ use Rattle.vb_driver.proofs.Flags.{fresh_flags}
 use Rattle.vb_driver.proofs.Counting.{at_is}
 use Rattle.vb_driver.proofs.Keeping.{kept_moved, there_by, free_same, free_marked}
 use Rattle.std.proofs.lemmas.List.FromFn.{get_or-map-range_with_len, length-map-range_with_len}
-use Rattle.std.proofs.Common.{nat_lt}
 use Rattle.vb_ring.specs.Layout.{IsSize}
 use Rattle.vb_driver.proofs.Placing.{or_true, length-marked, marked-get}
 use Rattle.vb_driver.proofs.ReportTables.{none_owned, fresh_report_queue}

@@ -1,10 +1,9 @@
 -- The pages of the guest's own: blocks that are allocated and freed.
-use Rattle.std.proofs.Common.{◌≡◌, ◌∙◌, sym, ap, arith, refl, ℕ, ◌+◌, ◌-◌, ◌^◌, ◌<◌, ◌≤◌, Bool}
+use Rattle.std.proofs.Common.{◌≡◌, ◌∙◌, sym, ap, arith, refl, ℕ, ◌+◌, ◌^◌, ◌<◌, ◌≤◌, Bool}
 use Rattle.std.proofs.Common.{true, false, cond, eqb, not, ◌||◌, ◌&&◌, List, [], ◌∷◌, length, map}
 use Rattle.std.proofs.Common.{inl, inr, None, nat_le, nat_lt}
 use Rattle.std.specs.List.{list_any, list_all, range_with_len}
 use Rattle.std.proofs.lemmas.Bool.{and_parts, or_cases, or_left, or_right, both_ways, eqb-true}
-use Rattle.std.proofs.lemmas.Nat.{pow_pos}
 use Rattle.std.proofs.lemmas.List.{length-map}
 use Rattle.vb_model.specs.Tests.{is_in}
 use Rattle.vb_model.specs.Pages.{Block, covers, pages_of, is_aligned, is_same_block, is_wholly_free}
@@ -20,7 +19,6 @@ use Rattle.vb_model.proofs.Tables.{list_all-at}
 use Rattle.vb_model.proofs.PageSteps.{covers_is}
 use Rattle.vb_pages.specs.FreePages.{FreePages}
 use Rattle.vb_pages.specs.PageState.{PageState}
-use Rattle.vb_pages.proofs.Sets.{in_block}
 use Rattle.vb_driver.specs.Places.{is_at}
 use Rattle.vb_driver.specs.State.{DriverState, page_state, naming, IsDriver}
 use Rattle.vb_driver.specs.Answers.{block_at, alloc_tests}

@@ -1,21 +1,19 @@
 -- Tables of places, as pages move one by one.
 use Rattle.std.proofs.Common.{◌≡◌, ◌∙◌, sym, ap, arith, refl, ℕ, zero, suc, ◌+◌, ◌-◌, ◌<◌, ◌≤◌}
 use Rattle.std.proofs.Common.{Bool, true, false, cond, eqb, ◌||◌, List, [], ◌∷◌, ◌++◌, length, take}
-use Rattle.std.proofs.Common.{get_or, set, map, replicate, inl, inr, eq-eqb, append-nil}
-use Rattle.std.proofs.Common.{if◌then◌else◌, nat_lt}
+use Rattle.std.proofs.Common.{get_or, set, map, inl, inr, eq-eqb}
+use Rattle.std.proofs.Common.{if◌then◌else◌}
 use Rattle.std.proofs.lemmas.List.{same_lists, get_or-set_same, get_or-set_other, length-set}
-use Rattle.std.proofs.lemmas.List.{get_or-map, length-map, take_more, length-replicate}
-use Rattle.std.proofs.lemmas.List.{take-append-le, length-take}
+use Rattle.std.proofs.lemmas.List.{get_or-map, length-map, take_more}
+use Rattle.std.proofs.lemmas.List.{length-take}
 use Rattle.std.proofs.lemmas.List.Folds.{list_any-append, list_any_at}
 use Rattle.std.proofs.lemmas.List.FromFn.{get_or-map-range_with_len, length-range_with_len}
 use Rattle.std.proofs.lemmas.Bool.{cases_eq, ne_eqb}
 use Rattle.std.specs.List.{range_with_len}
 use Rattle.vb_model.specs.declared.places.Place.{Place}
-use Rattle.vb_model.specs.declared.places.Place.TheVariants.{Reserved, Free}
 use Rattle.vb_model.specs.Tests.{is_in, pages_from, pages_where}
 use Rattle.vb_model.specs.Pages.{placed, all_free}
-use Rattle.vb_driver.proofs.Counting.{at_number}
-use Rattle.vb_driver.specs.Places.{marked, number_of, is_at, first_place}
+use Rattle.vb_driver.specs.Places.{marked, first_place}
 use Rattle.vb_model.proofs.Tables.{length-each_from, each_page-get}
 
 -- ---- some pages of a table have one value
@@ -206,66 +204,10 @@ pages_more test xs i d lt =
     ∙ ap (λ n. pages_where test (take i xs) ++ cond (test (get_or xs i d)) (n ∷ []) [])
     (omega (arith, length-take i xs)))
 
-take_nil : (n : ℕ) → take {A = ℕ} n [] ≡ []
-take_nil zero = refl
-take_nil (suc n) = refl
-
--- the first ones of a list that grows
-pub take_push : (most : ℕ) (xs : List ℕ) (x : ℕ) → length (take most xs) < most
-    → take most (xs ++ x ∷ []) ≡ take most xs ++ x ∷ []
-take_push zero xs x lt = absurd (omega arith)
-take_push (suc most) [] x lt = ap (λ (l : List ℕ). x ∷ l) (take_nil most)
-take_push (suc most) (y ∷ xs) x lt = ap (λ l. y ∷ l) (take_push most xs x (omega arith))
-
-pub take_full : (most : ℕ) (xs ys : List ℕ) → most ≤ length (take most xs)
-    → take most (xs ++ ys) ≡ take most xs
-take_full most xs ys full = take-append-le most xs ys (omega (arith, length-take most xs))
-
 -- an entry is among the entries
 pub is_in-at : (xs : List ℕ) (i : ℕ) → i < length xs → is_in (get_or xs i 0) xs ≡ true
 is_in-at xs i lt = list_any_at (λ m. eqb m (get_or xs i 0)) xs i 0 lt
     (eq-eqb (get_or xs i 0) (get_or xs i 0) refl)
-
--- a scan for the first pages that have a place: the next page has it, or hasn't, or enough are
--- found
-pub scan_hits : (items : List ℕ) (most i : ℕ) (place x : Place) (places : List Place)
-    → i < length places → x ≡ get_or places i x → number_of x ≡ number_of place
-    → items ≡ take most (pages_where (is_at place) (take i places)) → length items < most
-    → items ++ i ∷ [] ≡ take most (pages_where (is_at place) (take (i + 1) places))
-scan_hits items most i place x places lt here same so_far few =
-    let found = pages_where (is_at place) (take i places) in
-    let size : length items ≡ length (take most found) = ap length so_far in
-    let one : cond (is_at place (get_or places i x)) (i ∷ []) [] ≡ i ∷ [] =
-    ap (λ v. cond v (i ∷ []) [])
-    (ap (is_at place) (sym here)
-    ∙ (sym (at_number place x) ∙ eq-eqb (number_of x) (number_of place) same)) in
-    ap (λ l. l ++ i ∷ []) so_far
-    ∙ (sym (take_push most found i (omega arith))
-    ∙ sym (ap (take most) (pages_more (is_at place) places i x lt ∙ ap (λ l. found ++ l) one)))
-
-pub scan_misses : (items : List ℕ) (most i : ℕ) (place x : Place) (places : List Place)
-    → i < length places → x ≡ get_or places i x → (number_of x ≡ number_of place → ⊥)
-    → items ≡ take most (pages_where (is_at place) (take i places))
-    → items ≡ take most (pages_where (is_at place) (take (i + 1) places))
-scan_misses items most i place x places lt here other so_far =
-    let found = pages_where (is_at place) (take i places) in
-    let none : cond (is_at place (get_or places i x)) (i ∷ []) [] ≡ [] =
-    ap (λ v. cond v (i ∷ []) [])
-    (ap (is_at place) (sym here)
-    ∙ (sym (at_number place x) ∙ ne_eqb (number_of x) (number_of place) other)) in
-    so_far ∙ sym (ap (take most)
-    (pages_more (is_at place) places i x lt ∙ (ap (λ l. found ++ l) none ∙ append-nil found)))
-
-pub scan_ends : (items : List ℕ) (most i : ℕ) (place : Place) (places : List Place)
-    → i < length places
-    → items ≡ take most (pages_where (is_at place) (take i places)) → most ≤ length items
-    → items ≡ take most (pages_where (is_at place) (take (i + 1) places))
-scan_ends items most i place places lt so_far full =
-    let found = pages_where (is_at place) (take i places) in
-    let size : length items ≡ length (take most found) = ap length so_far in
-    let last = cond (is_at place (get_or places i Reserved)) (i ∷ []) [] in
-    so_far ∙ sym (ap (take most) (pages_more (is_at place) places i Reserved lt)
-    ∙ take_full most found last (omega arith))
 
 -- a page isn't among those below it
 pub not_in_first : {A : Type 0} (test : A → Bool) (xs : List A) (n : ℕ)

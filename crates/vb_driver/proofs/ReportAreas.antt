@@ -2,21 +2,20 @@
 use Rattle.std.proofs.Common.{◌≡◌, ◌∙◌, sym, ap, subst, arith, refl, ℕ, ◌+◌, ◌^◌, ◌<◌, ◌≤◌, Bool}
 use Rattle.std.proofs.Common.{true, false, cond, eqb, not, ◌&&◌, ◌||◌, List, [], ◌∷◌, length, map}
 use Rattle.std.proofs.Common.{slice_index_or}
-use Rattle.std.specs.Prelude.{All, IsTrue}
+use Rattle.std.specs.Prelude.{All}
 use Rattle.std.proofs.lemmas.Bool.{eqb-true}
 use Rattle.std.proofs.lemmas.Nat.{pow_pos}
 use Rattle.std.proofs.lemmas.List.{length-map, get_or-map}
 use Rattle.std.proofs.lemmas.List.Elements.{All-map}
 use Rattle.vb_model.specs.Tests.{is_in}
 use Rattle.vb_model.specs.Orderly.{times}
-use Rattle.vb_model.specs.Driver.{AllDistinct}
 use Rattle.vb_model.specs.Pages.{Block, pages_of, pages_of_all, is_free, place_of, reported}
 use Rattle.vb_model.specs.Pages.{maximal_free_blocks}
 use Rattle.vb_model.specs.declared.places.Place.{Place}
 use Rattle.vb_model.proofs.Distinct.{distinct_once}
 use Rattle.vb_pages.specs.declared.block.FreeBlock.{FreeBlock}
 use Rattle.vb_pages.specs.FreePages.{drained}
-use Rattle.vb_pages.specs.PageState.{PageState, page_count, is_free_page, IsApart, HasRoomIn}
+use Rattle.vb_pages.specs.PageState.{PageState, page_count, is_free_page, IsApart}
 use Rattle.vb_pages.specs.Areas.{without_pages}
 use Rattle.vb_pages.proofs.Sets.{same_bool, in_block, length-with_pages, length-without_pages}
 use Rattle.vb_pages.proofs.Sets.{same_sets, without_parts, without_old}
@@ -30,7 +29,7 @@ use Rattle.vb_driver.specs.State.{IsAreaBlock}
 use Rattle.vb_driver.proofs.Flags.{length_flags, flag_free, free_flag, flags_moved, drained_sizes}
 use Rattle.vb_driver.proofs.Moving.{free_is_place}
 use Rattle.vb_driver.proofs.Placing.{marked_none}
-use Rattle.vb_driver.proofs.ReportTables.{in_all, block_inside_all, no_free_block}
+use Rattle.vb_driver.proofs.ReportTables.{in_all, block_inside_all}
 
 -- a page is free just where its flag says so
 flag_is : (s : PageState) (p : ℕ) → IsApart s

@@ -1,5 +1,5 @@
 -- The driver as a report goes out, and as it comes back.
-use Rattle.std.proofs.Common.{◌≡◌, ◌∙◌, sym, ap, arith, refl, ℕ, ◌<◌, ◌≤◌, Bool, true, false, cond}
+use Rattle.std.proofs.Common.{◌≡◌, ◌∙◌, sym, ap, arith, refl, ℕ, ◌≤◌, Bool, true, false, cond}
 use Rattle.std.proofs.Common.{List, [], length}
 use Rattle.vb_model.specs.Tests.{is_in, one_if}
 use Rattle.vb_model.specs.Orderly.{times}

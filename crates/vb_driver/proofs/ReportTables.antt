@@ -13,7 +13,6 @@ use Rattle.vb_model.specs.Tests.{is_in}
 use Rattle.vb_model.specs.Pages.{Block}
 use Rattle.vb_model.proofs.PageSteps.{is_in-range, outside-range}
 use Rattle.vb_ram.specs.Pages.{Pages}
-use Rattle.vb_ring.specs.declared.driver.Full.{Full}
 use Rattle.vb_ring.specs.declared.driver.Full.TheVariants.{TooFewFree}
 use Rattle.vb_ring.specs.declared.driver.RingBroken.{RingBroken}
 use Rattle.vb_ring.specs.declared.driver.RingBroken.TheVariants.{NotOutstanding}

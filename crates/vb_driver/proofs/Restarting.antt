@@ -1,5 +1,5 @@
 -- A driver that begins a new life is as a new one.
-use Rattle.std.proofs.Common.{◌≡◌, ◌∙◌, sym, ap, subst, ℕ, List, [], length, map}
+use Rattle.std.proofs.Common.{◌≡◌, ◌∙◌, sym, ap, List, length, map}
 use Rattle.std.proofs.lemmas.List.{length-map}
 use Rattle.vb_model.specs.declared.places.Place.{Place}
 use Rattle.vb_model.specs.Pages.{all_free, is_free}

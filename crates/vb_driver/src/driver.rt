@@ -4,6 +4,7 @@ ghost use Rattle.std.specs.Prelude.{◌≡◌, ◌<◌, true, IfOk, count_by};
 ghost use Rattle.vb_model.specs.Limits.{is_config};
 ghost use Rattle.vb_model.specs.Pages.{place_of, is_used};
 ghost use Rattle.vb_model.specs.Pages.{is_lent_or_taking};
+ghost use Rattle.vb_driver.specs.Places.{AreLentBits};
 ghost use Rattle.vb_driver.specs.State.{IsDriver, fresh_driver};
 ghost use Rattle.vb_driver.specs.Calls.{AllocatesBy, FreesBy, AreCountsOf};
 
@@ -125,6 +126,15 @@ impl Driver {
         ensures { result ≡ count_by is_lent_or_taking self.now.places }
     {
         self.places.in_balloon()
+    }
+
+    /// The lent pages as bits: bit b of word w is 1 exactly if page 64 w + b is lent. The words are
+    /// the fewest that hold a bit for each page, and at least one; further bits are 0. Takes no
+    /// memory.
+    pub fn lent_bits(&self) -> &[u64]
+        ensures { AreLentBits self.now.places result.now }
+    {
+        self.places.lent_bits()
     }
 
     /// Whether an allocation holds the page.

@@ -2,9 +2,10 @@
 
 ghost use Rattle.std.specs.Prelude.{◌≡◌, ◌≤◌, ◌<◌, ◌+◌, ◌^◌, ℕ, true, length, take, map, slice_set};
 ghost use Rattle.std.specs.Prelude.{count_by, IfOk, All};
+ghost use Rattle.vb_bits.specs.Sets.{has};
 ghost use Rattle.vb_model.specs.Tests.{is_in, pages_where};
 ghost use Rattle.vb_model.specs.Pages.{all_free, placed, place_of, pages_of, is_lent_or_taking};
-ghost use Rattle.vb_model.specs.Pages.{pages_of_all, is_reporting};
+ghost use Rattle.vb_model.specs.Pages.{pages_of_all, is_lent, is_stranded, is_reporting};
 ghost use Rattle.vb_model.specs.Limits.{max_order, max_outstanding, max_request_pages};
 ghost use Rattle.vb_model.specs.Limits.{reserved_pages};
 ghost use Rattle.vb_model.specs.declared.limits.TheConstants.{MAX_GUEST_PAGES};
@@ -12,12 +13,13 @@ ghost use Rattle.vb_model.specs.Life.{place_after_reset};
 ghost use Rattle.vb_driver.specs.Answers.{block_at};
 ghost use Rattle.vb_report.specs.Blocks.{blocks_of};
 ghost use Rattle.vb_driver.specs.State.{IsAreaBlock};
-ghost use Rattle.vb_driver.specs.Places.{number_of, is_at, first_place};
+ghost use Rattle.vb_driver.specs.Places.{number_of, is_at, first_place, AreLentBits};
 
 use crate::queue::RequestPages;
 use arrayvec::ArrayVec;
 use std::alloc::{AllocError, Global};
 use std::marker::Model;
+use vb_bits::BitSet;
 use vb_model::Place;
 use vb_model::limits::RESERVED_PAGES;
 use vb_pages::FreeBlock;
@@ -29,6 +31,10 @@ pub(crate) struct PlaceTable {
     places: Vec<Place>,
     /// How many pages have a place, by the number of the place.
     counts: [u32; 8],
+    /// The lent pages.
+    lent: BitSet,
+    /// The stranded pages.
+    stranded: BitSet,
 }
 
 impl Model for PlaceTable {
@@ -40,7 +46,7 @@ impl Model for PlaceTable {
 
     ghost view = { λ t. t.places.items };
 
-    ghost invariant = { λ t. IsTable t.counts t.places.items };
+    ghost invariant = { λ t. IsTable t.counts t.lent t.stranded t.places.items };
 }
 
 /// The number of a place in a table of counts.
@@ -68,6 +74,20 @@ fn size_of(order: u32) -> u32
     1 << order
 }
 
+/// Whether a page is lent to the host.
+fn is_lent(place: Place) -> bool
+    ensures { result ≡ is_lent place }
+{
+    matches!(place, Place::Lent)
+}
+
+/// Whether a page is stranded.
+fn is_stranded(place: Place) -> bool
+    ensures { result ≡ is_stranded place }
+{
+    matches!(place, Place::Stranded)
+}
+
 /// Whether a page is reported to the host.
 pub(crate) fn is_reporting(place: Place) -> bool
     ensures { result ≡ is_reporting place }
@@ -86,6 +106,42 @@ pub(crate) fn count_pages(blocks: &[FreeBlock]) -> u32
         pages += size_of(block.order);
     }
     pages
+}
+
+/// Puts a page into the set of a place or takes it out of it, where that changes the set.
+fn mark(set: &mut BitSet, page: u32, was: bool, is: bool)
+    requires inside { page < length set.old }
+    requires was { was ≡ has set.old page }
+    ensures { set.new ≡ slice_set set.old page is }
+{
+    if is == was {
+        return;
+    }
+    if is {
+        set.insert(page);
+    } else {
+        set.remove(page);
+    }
+}
+
+/// The lowest pages of a set, so many at most.
+fn lowest_in(set: &BitSet, most: u32) -> RequestPages
+    requires few { most ≤ max_request_pages }
+    requires small { length set.now ≤ MAX_GUEST_PAGES }
+    ensures { result.items ≡ take most (pages_where (λ b. b) set.now) }
+{
+    let mut lowest = ArrayVec::new();
+    let mut from = 0;
+    for _found in 0..most {
+        match set.first_from(from) {
+            Some(page) => {
+                lowest.push(page);
+                from = page + 1;
+            }
+            None => return lowest,
+        }
+    }
+    lowest
 }
 
 impl PlaceTable {
@@ -111,22 +167,34 @@ impl PlaceTable {
         requires { page < length self.old }
         ensures { self.new ≡ slice_set self.old page place }
     {
-        let page = page as usize;
-        let old = self.places[page];
+        let old = self.places[page as usize];
         self.counts[number_of(old)] -= 1;
         self.counts[number_of(place)] += 1;
-        self.places[page] = place;
+        self.places[page as usize] = place;
+        mark(&mut self.lent, page, is_lent(old), is_lent(place));
+        mark(
+            &mut self.stranded,
+            page,
+            is_stranded(old),
+            is_stranded(place),
+        );
     }
 
     /// The table of a guest of so many pages as it is plugged in: all unreserved pages are free.
     pub(crate) fn new(alloc: Global, pages: u32) -> Result<Self, AllocError>
-        requires { pages ≤ MAX_GUEST_PAGES }
+        requires some { 0 < pages }
+        requires most { pages ≤ MAX_GUEST_PAGES }
         ensures { IfOk result (λ table. table ≡ all_free pages) }
     {
         let places = vec![in alloc; Place::Reserved; pages as usize]?;
         let mut counts = [0; 8];
         counts[number_of(Place::Reserved)] = pages;
-        let mut table = PlaceTable { places, counts };
+        let mut table = PlaceTable {
+            places,
+            counts,
+            lent: BitSet::new(alloc, pages)?,
+            stranded: BitSet::new(alloc, pages)?,
+        };
         table.renew();
         Ok(table)
     }
@@ -182,18 +250,27 @@ impl PlaceTable {
         self.counts[number_of(Place::Lent)] + self.counts[number_of(Place::Taking)]
     }
 
-    /// The lowest pages that have a place, so many at most.
-    pub(crate) fn lowest(&self, place: Place, most: u32) -> RequestPages
+    /// The lowest lent pages, so many at most.
+    pub(crate) fn lowest_lent(&self, most: u32) -> RequestPages
         requires { most ≤ max_request_pages }
-        ensures { result.items ≡ take most (pages_where (is_at place) self.now) }
+        ensures { result.items ≡ take most (pages_where is_lent self.now) }
     {
-        let mut lowest = ArrayVec::new();
-        for page in 0..self.places.len() {
-            if lowest.len() < most as usize && number_of(self.places[page]) == number_of(place) {
-                lowest.push(page as u32);
-            }
-        }
-        lowest
+        lowest_in(&self.lent, most)
+    }
+
+    /// The lowest stranded pages, so many at most.
+    pub(crate) fn lowest_stranded(&self, most: u32) -> RequestPages
+        requires { most ≤ max_request_pages }
+        ensures { result.items ≡ take most (pages_where is_stranded self.now) }
+    {
+        lowest_in(&self.stranded, most)
+    }
+
+    /// The lent pages as bits.
+    pub(crate) fn lent_bits(&self) -> &[u64]
+        ensures { AreLentBits self.now result.now }
+    {
+        self.lent.words()
     }
 
     /// Moves each page to the place that it has after a reset of the device.

@@ -85,7 +85,7 @@ impl Driver {
         ensures { Offers (P.mem port.old) (P.mem port.new) (P.part port.old) (P.part port.new)
             self.old self.new count result }
     {
-        let mut pages = self.places.lowest(Place::Stranded, count);
+        let mut pages = self.places.lowest_stranded(count);
         let others = self.areas.take_free(count - pages.len() as u32);
         append(&mut pages, &others);
         self.places.set_all(&pages, Place::Giving);
@@ -103,7 +103,7 @@ impl Driver {
         ensures { AsksBack (P.mem port.old) (P.mem port.new) (P.part port.old) (P.part port.new)
             self.old self.new count result }
     {
-        let pages = self.places.lowest(Place::Lent, count);
+        let pages = self.places.lowest_lent(count);
         self.places.set_all(&pages, Place::Taking);
         let head = self.deflate.post(port, DEFLATE_BUFFERS_PAGE, pages);
         Posted { head, pages: count }

@@ -2,6 +2,7 @@
 //! answer; what a device would write into a ring is a step too.
 
 mod blocks;
+mod lent;
 mod lives;
 mod order_of_writes;
 mod random_rings;

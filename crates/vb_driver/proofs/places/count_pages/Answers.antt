@@ -1,7 +1,5 @@
-use Rattle.std.proofs.Common.{◌≡◌, ◌∙◌, ap, arith, ℕ, List, length, take, ◌+◌, ◌^◌}
-use Rattle.vb_model.specs.Pages.{pages_of, pages_of_all}
-use Rattle.vb_report.specs.Blocks.{blocks_of}
-use Rattle.vb_driver.proofs.ReportTables.{order_of, pages_more_blocks, length_more_blocks, block_in}
+use Rattle.std.proofs.Common.{arith}
+use Rattle.vb_driver.proofs.ReportTables.{order_of, length_more_blocks}
 use Rattle.vb_driver.proofs.places.count_pages.Goals as goal
 
 pub size_of-pages-requires : goal.size_of-pages-requires

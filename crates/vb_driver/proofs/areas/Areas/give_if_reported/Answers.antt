@@ -1,5 +1,4 @@
-use Rattle.std.proofs.Common.{◌≡◌, ◌∙◌, sym, ap, subst, refl, ℕ, Bool, true, cond, List, ◌∷◌, []}
-use Rattle.vb_pages.specs.PageState.{PageState}
+use Rattle.std.proofs.Common.{◌≡◌, ◌∙◌, sym, ap, subst, refl, Bool, true, cond, List, ◌∷◌, []}
 use Rattle.vb_pages.proofs.ListsLemmas.{with_none}
 use Rattle.vb_driver.specs.Areas.{Becomes, flags_of, areas_with}
 use Rattle.vb_driver.specs.Places.{marked}

@@ -14,7 +14,7 @@ pub set_all-requires : goal.set_all-requires
 set_all-requires g c p here =
     let d = the_view c.self.inside in
     let items : c.deref.result.now ≡ lowest_lent d c.args.count =
-    c.deref.ensures.0 ∙ c.lowest-pages.ensures in
+    c.deref.ensures.0 ∙ c.lowest_lent-pages.ensures in
     let there : is_in p (lowest_lent d c.args.count) ≡ true = ap (is_in p) (sym items) ∙ here in
     there_by d.places p is_lent refl (lowest_is d.places c.args.count is_lent p there)
 
@@ -23,8 +23,8 @@ invariant_of-self g c =
     let d = the_view c.self.inside in
     let m1 = g.P.GuestBytes.mem c.args.port.now in
     let m2 = g.P.GuestBytes.mem c.post-head.new.ram in
-    let lowest : c.lowest-pages.result.items ≡ lowest_lent d c.args.count =
-    c.lowest-pages.ensures in
+    let lowest : c.lowest_lent-pages.result.items ≡ lowest_lent d c.args.count =
+    c.lowest_lent-pages.ensures in
     let placed_is : c.set_all.new.self ≡ placed (lowest_lent d c.args.count) Taking d.places =
     c.set_all.ensures ∙ ap (λ (l : List ℕ). placed l Taking d.places)
     (c.deref.ensures.0 ∙ lowest) in
@@ -42,8 +42,8 @@ returns g c =
     let d = the_view c.self.inside in
     let m1 = g.P.GuestBytes.mem c.args.port.now in
     let m2 = g.P.GuestBytes.mem c.post-head.new.ram in
-    let lowest : c.lowest-pages.result.items ≡ lowest_lent d c.args.count =
-    c.lowest-pages.ensures in
+    let lowest : c.lowest_lent-pages.result.items ≡ lowest_lent d c.args.count =
+    c.lowest_lent-pages.ensures in
     let placed_is : c.set_all.new.self ≡ placed (lowest_lent d c.args.count) Taking d.places =
     c.set_all.ensures ∙ ap (λ (l : List ℕ). placed l Taking d.places)
     (c.deref.ensures.0 ∙ lowest) in

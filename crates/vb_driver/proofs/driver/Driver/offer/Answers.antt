@@ -17,8 +17,8 @@ use Rattle.vb_driver.proofs.driver.Driver.offer.Goals as goal
 pub take_free-others-requires-clause-free : goal.take_free-others-requires-clause-free
 take_free-others-requires-clause-free g c =
     let d = the_view c.self.inside in
-    let first : c.lowest-pages.result.items ≡ stranded_first d c.args.count =
-    c.lowest-pages.ensures in
+    let first : c.lowest_stranded-pages.result.items ≡ stranded_first d c.args.count =
+    c.lowest_stranded-pages.ensures in
     let there : c.args.count ≤ Rattle.std.specs.Prelude.count_by is_stranded d.places +
     Rattle.std.specs.Prelude.count_by is_free d.places =
     subst (λ (v : DriverState). c.args.count ≤ Rattle.std.specs.Prelude.count_by is_stranded
@@ -31,8 +31,8 @@ pub set_all-requires : goal.set_all-requires
 set_all-requires g c p here =
     let d = the_view c.self.inside in
     let others = c.take_free-others.result.items in
-    let first : c.lowest-pages.result.items ≡ stranded_first d c.args.count =
-    c.lowest-pages.ensures in
+    let first : c.lowest_stranded-pages.result.items ≡ stranded_first d c.args.count =
+    c.lowest_stranded-pages.ensures in
     let pages : c.deref-2.result.now ≡ stranded_first d c.args.count ++ others =
     c.deref-2.ensures.0 ∙
     (c.append.ensures ∙ (ap (λ (l : List ℕ). l ++ c.deref.result.now) first
@@ -47,8 +47,8 @@ invariant_of-self g c =
     let m1 = g.P.GuestBytes.mem c.args.port.now in
     let m2 = g.P.GuestBytes.mem c.post-head.new.ram in
     let others = c.take_free-others.result.items in
-    let first : c.lowest-pages.result.items ≡ stranded_first d c.args.count =
-    c.lowest-pages.ensures in
+    let first : c.lowest_stranded-pages.result.items ≡ stranded_first d c.args.count =
+    c.lowest_stranded-pages.ensures in
     let items : c.append.new.pages.items ≡ stranded_first d c.args.count ++ others =
     c.append.ensures ∙ (ap (λ (l : List ℕ). l ++ c.deref.result.now) first
     ∙ ap (λ (l : List ℕ). stranded_first d c.args.count ++ l) c.deref.ensures.0) in
@@ -91,8 +91,8 @@ returns g c =
     let p1 = g.P.GuestBytes.part c.args.port.now in
     let p2 = g.P.GuestBytes.part c.post-head.new.ram in
     let others = c.take_free-others.result.items in
-    let first : c.lowest-pages.result.items ≡ stranded_first d c.args.count =
-    c.lowest-pages.ensures in
+    let first : c.lowest_stranded-pages.result.items ≡ stranded_first d c.args.count =
+    c.lowest_stranded-pages.ensures in
     let items : c.append.new.pages.items ≡ stranded_first d c.args.count ++ others =
     c.append.ensures ∙ (ap (λ (l : List ℕ). l ++ c.deref.result.now) first
     ∙ ap (λ (l : List ℕ). stranded_first d c.args.count ++ l) c.deref.ensures.0) in

@@ -1,10 +1,9 @@
-use Rattle.std.proofs.Common.{◌≡◌, ◌≤◌, ◌∙◌, sym, ap, subst, refl, ℕ, List, [], true}
+use Rattle.std.proofs.Common.{◌≡◌, ◌≤◌, ◌∙◌, sym, ap, subst, refl, List, true}
 use Rattle.vb_model.specs.Tests.{is_in}
 use Rattle.vb_model.specs.Orderly.{times}
 use Rattle.vb_model.specs.Pages.{Block, pages_of_all, placed}
 use Rattle.vb_model.specs.declared.places.Place.{Place}
 use Rattle.vb_model.specs.declared.places.Place.TheVariants.{Free, Reporting}
-use Rattle.vb_pages.specs.declared.block.FreeBlock.{FreeBlock}
 use Rattle.vb_report.specs.Blocks.{blocks_of}
 use Rattle.vb_driver.specs.Areas.{flags_of}
 use Rattle.vb_driver.specs.Places.{marked}

@@ -8,10 +8,9 @@ use Rattle.vb_pages.specs.declared.block.FreeBlock.{FreeBlock}
 use Rattle.vb_pages.specs.FreePages.{drained}
 use Rattle.vb_pages.specs.PageState.{PageState}
 use Rattle.vb_report.specs.Blocks.{blocks_of}
-use Rattle.vb_driver.specs.Areas.{Becomes, flags_of, is_free_at}
+use Rattle.vb_driver.specs.Areas.{flags_of, is_free_at}
 use Rattle.vb_driver.specs.Places.{marked}
 use Rattle.vb_driver.specs.State.{ReportSide, DriverState, IsReportQueue, IsDriver, page_state}
-use Rattle.vb_driver.specs.Calls.{Unchanged}
 use Rattle.vb_driver.specs.contracts.driver.Driver.{the_view}
 use Rattle.vb_driver.proofs.Owning.{unallocated_kept}
 use Rattle.vb_driver.proofs.ReportAreas.{no_blocks, none_chosen, only_drained}

@@ -1,12 +1,12 @@
-use Rattle.std.proofs.Common.{◌≡◌, ◌∙◌, sym, ap, subst, refl, arith, List, map, true, length}
+use Rattle.std.proofs.Common.{◌∙◌, sym, ap, subst, refl, List, map, length}
 use Rattle.std.proofs.lemmas.List.{length-map}
-use Rattle.vb_model.specs.Pages.{Block, place_of, is_free, is_reporting}
+use Rattle.vb_model.specs.Pages.{Block, place_of, is_free}
 use Rattle.vb_model.specs.Life.{place_after_reset}
 use Rattle.vb_model.specs.declared.places.Place.{Place}
 use Rattle.vb_model.specs.declared.places.Place.TheVariants.{Reporting}
 use Rattle.vb_status.specs.Bits.{feature_bits}
 use Rattle.vb_ring.specs.Ends.{DriverEnd}
-use Rattle.vb_driver.specs.State.{Side, ReportSide, DriverState, IsDriver, fresh_side}
+use Rattle.vb_driver.specs.State.{Side, ReportSide, IsDriver, fresh_side}
 use Rattle.vb_driver.specs.State.{fresh_statistics}
 use Rattle.vb_driver.specs.contracts.driver.Driver.{the_view}
 use Rattle.vb_driver.proofs.Counting.{at_is}

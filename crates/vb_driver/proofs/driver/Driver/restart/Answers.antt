@@ -1,5 +1,5 @@
-use Rattle.std.proofs.Common.{◌≡◌, ◌∙◌, sym, ap, subst, ℕ}
-use Rattle.vb_driver.specs.State.{DriverState, IsDriver, fresh_driver}
+use Rattle.std.proofs.Common.{◌∙◌, sym, subst}
+use Rattle.vb_driver.specs.State.{IsDriver}
 use Rattle.vb_driver.specs.contracts.driver.Driver.{the_view}
 use Rattle.vb_driver.proofs.Moving.{fresh_kept}
 use Rattle.vb_driver.proofs.Restarting.{restarted}

@@ -1,4 +1,4 @@
-use Rattle.std.proofs.Common.{◌≡◌, ◌<◌, ◌+◌, sym, subst, arith, List, length}
+use Rattle.std.proofs.Common.{◌<◌, ◌+◌, sym, subst, arith, List, length}
 use Rattle.vb_model.specs.declared.places.Place.{Place}
 use Rattle.vb_driver.specs.Places.{first_place}
 use Rattle.vb_driver.proofs.Placing.{Changing, changing_more, filled_all}

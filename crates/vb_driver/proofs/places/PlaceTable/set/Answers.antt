@@ -1,7 +1,9 @@
 use Rattle.std.proofs.Common.{◌≡◌, ◌∙◌, ap, arith, ℕ, length, get_or, set, count_by}
 use Rattle.std.proofs.lemmas.List.{length-set}
 use Rattle.vb_model.specs.declared.places.Place.{Place}
+use Rattle.vb_model.specs.Pages.{is_lent, is_stranded}
 use Rattle.vb_driver.proofs.Counting.{counts_moved, counts_some, number_small}
+use Rattle.vb_driver.proofs.Marking.{set_moved}
 use Rattle.vb_driver.specs.Places.{is_at}
 use Rattle.vb_driver.proofs.places.PlaceTable.set.Goals as goal
 
@@ -34,5 +36,13 @@ invariant_of-self c =
           c.args.place c.index-old.result.now c.self.invariant.kinds (omega arith)
           c.index-old.ensures c.number_of.ensures c.number_of-2.ensures (omega arith) (omega arith)
           c.self.invariant.are_counts;
+      are_sets = record {
+        of_lent = set_moved is_lent c.self.inside.lent _ places c.args.page c.args.place
+            c.is_lent-2.result c.self.invariant.are_sets.of_lent c.mark.ensures
+            c.is_lent-2.ensures;
+        of_stranded = set_moved is_stranded c.self.inside.stranded _ places c.args.page
+            c.args.place c.is_stranded-2.result c.self.invariant.are_sets.of_stranded
+            c.mark-2.ensures c.is_stranded-2.ensures;
+      };
       small = omega (arith, length-set places c.args.page c.args.place);
     }

@@ -1,7 +1,7 @@
-use Rattle.std.proofs.Common.{◌≡◌, ◌∙◌, sym, ap, arith, ℕ, List, length, take, ◌++◌}
+use Rattle.std.proofs.Common.{◌∙◌, sym, ap, arith, ℕ, List, length, take}
 use Rattle.vb_model.specs.Pages.{placed, pages_of, pages_of_all}
 use Rattle.vb_model.specs.declared.places.Place.{Place}
-use Rattle.vb_report.specs.Blocks.{block_of, blocks_of}
+use Rattle.vb_report.specs.Blocks.{blocks_of}
 use Rattle.vb_driver.proofs.Placing.{length-marked, marked_none, marked_append}
 use Rattle.vb_driver.proofs.ReportTables.{order_of, block_inside_all, pages_more_blocks, block_in}
 use Rattle.vb_driver.proofs.ReportTables.{no_free_block}

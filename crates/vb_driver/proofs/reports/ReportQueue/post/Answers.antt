@@ -1,13 +1,12 @@
-use Rattle.std.proofs.Common.{◌≡◌, ◌∙◌, sym, ap, subst, refl, arith, List, All, Result, Ok, Err}
+use Rattle.std.proofs.Common.{◌≡◌, ◌∙◌, sym, ap, subst, refl, arith, List, All, Ok}
 use Rattle.std.proofs.lemmas.List.{length-map}
-use Rattle.vb_ring.specs.declared.driver.Full.{Full}
 use Rattle.vb_pages.specs.declared.block.FreeBlock.{FreeBlock}
 use Rattle.vb_report.specs.Blocks.{block_of, blocks_of, pieces_of}
-use Rattle.vb_driver.specs.State.{ReportSide, IsReportQueue, IsAreaBlock}
+use Rattle.vb_driver.specs.State.{ReportSide, IsAreaBlock}
 use Rattle.vb_driver.specs.Calls.{PostsReport}
 use Rattle.vb_driver.specs.contracts.reports.ReportQueue.{the_view}
 use Rattle.vb_driver.proofs.ReportTables.{orders_of, posted_report_queue}
-use Rattle.vb_driver.proofs.ReportPosting.{Reporting, reporting, same_head, nothing, answer_is}
+use Rattle.vb_driver.proofs.ReportPosting.{reporting, same_head, nothing, answer_is}
 use Rattle.vb_driver.proofs.ReportPosting.{ring_is, posts_report, not_full}
 use Rattle.vb_driver.proofs.reports.ReportQueue.post.Goals as goal
 

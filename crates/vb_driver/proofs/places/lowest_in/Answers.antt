@@ -1,0 +1,17 @@
+use Rattle.std.proofs.Common.{◌+◌, sym, subst, arith, ℕ, List}
+use Rattle.vb_driver.proofs.Marking.{AreFirst, first_more, first_all}
+use Rattle.vb_driver.proofs.places.lowest_in.Goals as goal
+
+pub returns-in-None : goal.returns-in-None
+returns-in-None c =
+    first_all c.loop-found.lowest.items c.args.set.now c.loop-found.from c.loop-found._found
+    c.args.most c.loop-found.invariant c.in-None.ensures (omega (arith, c.loop-found-test.true))
+
+pub loop-found-preserved : goal.loop-found-preserved
+loop-found-preserved c =
+    let page = c.in-Some.page in
+    subst
+    (λ (items : List ℕ). AreFirst items c.args.set.now (page + 1) (c.loop-found._found + 1))
+    (sym c.push.ensures.items)
+    (first_more c.loop-found.lowest.items c.args.set.now c.loop-found.from c.loop-found._found page
+    c.loop-found.invariant c.in-Some.ensures)

@@ -1,0 +1,430 @@
+//! The lent pages as bits, after each of a table of calls: the words that the rules give, worked
+//! out by hand, and of each page just what `place` tells of it.
+
+ghost use Rattle.std.specs.Prelude.{◌≡◌, true};
+ghost use Rattle.vb_model.specs.Limits.{is_config};
+
+use crate::Driver;
+use crate::memory::all_backed;
+use crate::places::PlaceTable;
+use crate::requests::is_up;
+use bitflags::Flags;
+use std::alloc::Global;
+use std::process::Abort;
+use std::test::Fail;
+use vb_model::{Place, Refusal};
+use vb_ram::{Config, Frame, GuestBytes, Ram, RamFault};
+use vb_status::{Features, MemoryPort};
+
+/// What is done with a guest.
+#[derive(Clone, Copy)]
+enum Step {
+    /// The driver starts, and the host sets its target.
+    Init(u32),
+    SetTarget(u32),
+    Inflate(u32),
+    Deflate(u32),
+    /// The device has used the request with head 0 of a queue, and so many of the queue by then,
+    /// and the driver takes it back.
+    Reap(u32, u8),
+    /// So many blocks of an order are allocated.
+    Hold(u32, u32),
+    Reset,
+    Restart,
+}
+
+/// A call, and the words of lent pages that aren't 0 after it.
+type Line = (Step, &'static [(usize, u64)]);
+
+const ALL_ONES: u64 = 0xffff_ffff_ffff_ffff;
+
+/// Those of pages 16 to 63.
+const ALL_UNRESERVED: u64 = 0xffff_ffff_ffff_0000;
+
+const LAST_BIT: u64 = 0x8000_0000_0000_0000;
+
+const ALL_BUT_THE_LAST: u64 = 0x7fff_ffff_ffff_ffff;
+
+/// All features but that of reports, which the bits don't need.
+const FEATURES: u64 = 0x1_0000_0007;
+
+/// A driver, and the port through which it reaches its device.
+#[derive(Drop)]
+struct Guest {
+    driver: Driver,
+    port: MemoryPort,
+}
+
+/// Guest memory of which the pages of rings and buffers have frames.
+fn port_of(alloc: Global, pages: u32) -> Result<MemoryPort, RamFault> {
+    let mut ram = Ram::new(alloc, pages)?;
+    for page in 0..16 {
+        let _ = ram.supply(page, Frame::fresh(alloc, page)?);
+    }
+    Ok(MemoryPort::new(ram))
+}
+
+/// A guest of so many pages, with queues of 8 descriptors and one processor.
+fn guest_of(alloc: Global, pages: u32) -> Result<Guest, Fail>
+    requires { is_config pages 8 1 ≡ true }
+{
+    let config = Config {
+        pages,
+        queue_size: 8,
+        processors: 1,
+    };
+    Ok(Guest {
+        driver: Driver::new(alloc, config)?,
+        port: port_of(alloc, pages)?,
+    })
+}
+
+/// The word that is wanted.
+fn word_of(wanted: &[(usize, u64)], at: usize) -> u64 {
+    for word in wanted {
+        if word.0 == at {
+            return word.1;
+        }
+    }
+    0
+}
+
+/// Whether the words are those that are wanted, and 0 elsewhere.
+fn are_words(words: &[u64], wanted: &[(usize, u64)]) -> bool {
+    for at in 0..words.len() {
+        if words[at] != word_of(wanted, at) {
+            return false;
+        }
+    }
+    true
+}
+
+/// Whether the bits are those of the pages from this one on.
+fn are_bits(driver: &Driver, first: u32, word: u64) -> bool {
+    for bit in 0..64 {
+        let lent = driver.place(first.wrapping_add(bit)) == Place::Lent;
+        if (word >> bit) % 2 != u64::from(lent) {
+            return false;
+        }
+    }
+    true
+}
+
+/// Whether each bit tells whether its page is lent.
+fn are_places(driver: &Driver) -> bool {
+    let mut first: u32 = 0;
+    for word in driver.lent_bits() {
+        if !are_bits(driver, first, *word) {
+            return false;
+        }
+        first = first.wrapping_add(64);
+    }
+    true
+}
+
+impl Guest {
+    /// Whether just these words of lent pages aren't 0.
+    fn shows(&self, wanted: &[(usize, u64)]) -> bool {
+        are_words(self.driver.lent_bits(), wanted) && are_places(&self.driver)
+    }
+
+    fn init(&mut self, target: u32) -> Result<(), Refusal> {
+        if self.port.pages() < 64 {
+            return Err(Refusal::OutOfRam);
+        }
+        self.port.set_target(target);
+        self.driver
+            .init(&mut self.port, Features::from_bits_retain(FEATURES))
+    }
+
+    /// Posts a request; a device that is up needs frames for its rings and buffers.
+    fn post(&mut self, deflates: bool, pages: u32) -> Result<(), Refusal> {
+        if self.port.pages() < 64 || is_up(&self.port) && !all_backed(&mut self.port) {
+            return Err(Refusal::OutOfRam);
+        }
+        let _posted = if deflates {
+            self.driver.deflate(&mut self.port, pages)?
+        } else {
+            self.driver.inflate(&mut self.port, pages)?
+        };
+        Ok(())
+    }
+
+    /// Writes what a device would: the used ring of 8 descriptors has its index at byte 154 of its
+    /// page, and then an element of 8 bytes for each request, which begins with the head.
+    fn reap(&mut self, queue: u32, used: u8) -> Result<(), Refusal> {
+        if self.port.pages() < 64 {
+            return Err(Refusal::OutOfRam);
+        }
+        let element = 148 + 8 * usize::from(used);
+        let _ = self.port.write(queue, element, &[0; 8]);
+        let _ = self.port.write(queue, 154, &[used, 0]);
+        match self.driver.reap(&mut self.port, queue)? {
+            Some(_) => Ok(()),
+            None => Err(Refusal::Nothing),
+        }
+    }
+
+    fn hold(&mut self, order: u32, blocks: u32) -> Result<(), Refusal> {
+        for _block in 0..blocks {
+            let _start = self.driver.alloc(0, order)?;
+        }
+        Ok(())
+    }
+
+    fn call(&mut self, step: Step) -> Result<(), Refusal> {
+        match step {
+            Step::Init(target) => return self.init(target),
+            Step::SetTarget(target) => self.port.set_target(target),
+            Step::Inflate(pages) => return self.post(false, pages),
+            Step::Deflate(pages) => return self.post(true, pages),
+            Step::Reap(queue, used) => return self.reap(queue, used),
+            Step::Hold(order, blocks) => return self.hold(order, blocks),
+            Step::Reset => self.driver.reset(&mut self.port),
+            Step::Restart => self.driver.restart(&mut self.port),
+        }
+        Ok(())
+    }
+
+    /// The number of the first line that is refused, or after which other pages are lent.
+    fn first_wrong(&mut self, lines: &[Line]) -> Option<usize> {
+        for at in 0..lines.len() {
+            if self.call(lines[at].0).is_err() || !self.shows(lines[at].1) {
+                return Some(at);
+            }
+        }
+        None
+    }
+}
+
+/// How many words a guest of so many pages has, and its first line that is wrong.
+fn run(alloc: Global, pages: u32, lines: &[Line]) -> Result<(usize, Option<usize>), Fail>
+    requires { is_config pages 8 1 ≡ true }
+{
+    let mut guest = guest_of(alloc, pages)?;
+    let words = guest.driver.lent_bits().len();
+    Ok((words, guest.first_wrong(lines)))
+}
+
+static ONE_WORD: [Line; 24] = [
+    (Step::Init(40), &[]),
+    (Step::Inflate(4), &[]),
+    (Step::Reap(0, 1), &[(0, 0x000f_0000)]),
+    (Step::Inflate(32), &[(0, 0x000f_0000)]),
+    (Step::Reap(0, 2), &[(0, 0x000f_ffff_ffff_0000)]),
+    (Step::SetTarget(30), &[(0, 0x000f_ffff_ffff_0000)]),
+    (Step::Deflate(3), &[(0, 0x000f_ffff_fff8_0000)]),
+    (Step::Reap(1, 1), &[(0, 0x000f_ffff_fff8_0000)]),
+    (Step::SetTarget(64), &[(0, 0x000f_ffff_fff8_0000)]),
+    // Page 18 is a block of its own, and 16 the first page of two.
+    (Step::Inflate(2), &[(0, 0x000f_ffff_fff8_0000)]),
+    (Step::Reap(0, 3), &[(0, 0x000f_ffff_fffd_0000)]),
+    (Step::SetTarget(0), &[(0, 0x000f_ffff_fffd_0000)]),
+    (Step::Deflate(1), &[(0, 0x000f_ffff_fffc_0000)]),
+    (Step::Reset, &[]),
+    (Step::Init(10), &[]),
+    // Stranded pages go first, and page 17 is free.
+    (Step::Inflate(3), &[]),
+    (Step::Reap(0, 1), &[(0, 0x000d_0000)]),
+    (Step::Reset, &[]),
+    (Step::Init(10), &[]),
+    (Step::Inflate(1), &[]),
+    (Step::Restart, &[]),
+    (Step::Init(1), &[]),
+    (Step::Inflate(5), &[]),
+    (Step::Reap(0, 1), &[(0, 0x0001_0000)]),
+];
+
+#[test]
+fn has_one_word_of_lent_pages(rt: HostRuntime) -> Result<(), Fail> {
+    assert_eq!(rt; run(rt.alloc(), 64, &ONE_WORD)?, (1, None));
+    Ok(())
+}
+
+static TWO_WORDS: [Line; 23] = [
+    (Step::Init(112), &[]),
+    (Step::Inflate(8), &[]),
+    (Step::Reap(0, 1), &[(0, 0x00ff_0000)]),
+    (Step::Inflate(256), &[(0, 0x00ff_0000)]),
+    (Step::Reap(0, 2), &[(0, ALL_UNRESERVED), (1, ALL_ONES)]),
+    (Step::SetTarget(0), &[(0, ALL_UNRESERVED), (1, ALL_ONES)]),
+    // Pages 16 to 65, then 66 to 126, then the last one.
+    (Step::Deflate(50), &[(1, 0xffff_ffff_ffff_fffc)]),
+    (Step::Reap(1, 1), &[(1, 0xffff_ffff_ffff_fffc)]),
+    (Step::Deflate(61), &[(1, LAST_BIT)]),
+    (Step::Reap(1, 2), &[(1, LAST_BIT)]),
+    (Step::Deflate(1), &[]),
+    (Step::Reap(1, 3), &[]),
+    // Pages 16 to 31 and 32 to 63 are allocated, and page 64 is lent.
+    (Step::Hold(4, 1), &[]),
+    (Step::Hold(5, 1), &[]),
+    (Step::SetTarget(64), &[]),
+    (Step::Inflate(1), &[]),
+    (Step::Reap(0, 3), &[(1, 1)]),
+    (Step::Reset, &[]),
+    (Step::Init(0), &[]),
+    (Step::Inflate(1), &[]),
+    (Step::Reap(0, 1), &[(1, 1)]),
+    (Step::Restart, &[]),
+    (Step::Init(0), &[]),
+];
+
+#[test]
+fn has_two_words_of_lent_pages(rt: HostRuntime) -> Result<(), Fail> {
+    assert_eq!(rt; run(rt.alloc(), 128, &TWO_WORDS)?, (2, None));
+    Ok(())
+}
+
+/// Pages 16 to 271.
+const FIRST_PAGES: &[(usize, u64)] = &[
+    (0, ALL_UNRESERVED),
+    (1, ALL_ONES),
+    (2, ALL_ONES),
+    (3, ALL_ONES),
+    (4, 0xffff),
+];
+
+/// Pages 16 to 271, and 15,872 to 16,127.
+const FIRST_AND_LATE: &[(usize, u64)] = &[
+    (0, ALL_UNRESERVED),
+    (1, ALL_ONES),
+    (2, ALL_ONES),
+    (3, ALL_ONES),
+    (4, 0xffff),
+    (248, ALL_ONES),
+    (249, ALL_ONES),
+    (250, ALL_ONES),
+    (251, ALL_ONES),
+];
+
+/// Pages 15,872 to 16,127.
+const LATE_PAGES: &[(usize, u64)] = &[
+    (248, ALL_ONES),
+    (249, ALL_ONES),
+    (250, ALL_ONES),
+    (251, ALL_ONES),
+];
+
+/// Pages 15,872 to 16,383.
+const LAST_PAGES: &[(usize, u64)] = &[
+    (248, ALL_ONES),
+    (249, ALL_ONES),
+    (250, ALL_ONES),
+    (251, ALL_ONES),
+    (252, ALL_ONES),
+    (253, ALL_ONES),
+    (254, ALL_ONES),
+    (255, ALL_ONES),
+];
+
+/// Pages 16,127 to 16,383.
+const ONE_MORE: &[(usize, u64)] = &[
+    (251, LAST_BIT),
+    (252, ALL_ONES),
+    (253, ALL_ONES),
+    (254, ALL_ONES),
+    (255, ALL_ONES),
+];
+
+/// Pages 15,872 to 16,126.
+const STRANDED_FIRST: &[(usize, u64)] = &[
+    (248, ALL_ONES),
+    (249, ALL_ONES),
+    (250, ALL_ONES),
+    (251, ALL_BUT_THE_LAST),
+];
+
+/// Pages 15,872 to 16,382.
+const STRANDED_THEN: &[(usize, u64)] = &[
+    (248, ALL_ONES),
+    (249, ALL_ONES),
+    (250, ALL_ONES),
+    (251, ALL_ONES),
+    (252, ALL_ONES),
+    (253, ALL_ONES),
+    (254, ALL_ONES),
+    (255, ALL_BUT_THE_LAST),
+];
+
+static MANY_WORDS: [Line; 31] = [
+    (Step::Init(16_000), &[]),
+    (Step::Inflate(256), &[]),
+    (Step::Reap(0, 1), FIRST_PAGES),
+    // All that is free is allocated but the last block of 512 pages.
+    (Step::Hold(4, 1), FIRST_PAGES),
+    (Step::Hold(5, 1), FIRST_PAGES),
+    (Step::Hold(6, 1), FIRST_PAGES),
+    (Step::Hold(7, 1), FIRST_PAGES),
+    (Step::Hold(9, 30), FIRST_PAGES),
+    (Step::Inflate(256), FIRST_PAGES),
+    (Step::Reap(0, 2), FIRST_AND_LATE),
+    (Step::SetTarget(0), FIRST_AND_LATE),
+    (Step::Deflate(256), LATE_PAGES),
+    (Step::Reap(1, 1), LATE_PAGES),
+    (Step::SetTarget(16_000), LATE_PAGES),
+    // What came back is allocated, and the second half of the last block is left.
+    (Step::Hold(4, 2), LATE_PAGES),
+    (Step::Hold(5, 1), LATE_PAGES),
+    (Step::Hold(6, 1), LATE_PAGES),
+    (Step::Hold(7, 1), LATE_PAGES),
+    (Step::Inflate(256), LATE_PAGES),
+    (Step::Reap(0, 3), LAST_PAGES),
+    (Step::SetTarget(0), LAST_PAGES),
+    (Step::Deflate(255), ONE_MORE),
+    (Step::Deflate(256), &[(255, LAST_BIT)]),
+    (Step::Reset, &[]),
+    (Step::Init(0), &[]),
+    (Step::Inflate(255), &[]),
+    (Step::Reap(0, 1), STRANDED_FIRST),
+    (Step::Inflate(257), STRANDED_FIRST),
+    (Step::Reap(0, 2), STRANDED_THEN),
+    (Step::Restart, &[]),
+    (Step::Init(0), &[]),
+];
+
+#[test]
+fn has_many_words_of_lent_pages(rt: HostRuntime) -> Result<(), Fail> {
+    assert_eq!(rt; run(rt.alloc(), 16_384, &MANY_WORDS)?, (256, None));
+    Ok(())
+}
+
+/// A page that moves to a place, and the words of lent pages then.
+type Move = (u32, Place, [u64; 2]);
+
+/// The last word of 100 pages has bits for 36 of them.
+static MOVES: [Move; 11] = [
+    (16, Place::Lent, [0x0001_0000, 0]),
+    (63, Place::Lent, [0x8000_0000_0001_0000, 0]),
+    (99, Place::Lent, [0x8000_0000_0001_0000, 0x0008_0000_0000]),
+    (64, Place::Lent, [0x8000_0000_0001_0000, 0x0008_0000_0001]),
+    (64, Place::Lent, [0x8000_0000_0001_0000, 0x0008_0000_0001]),
+    (63, Place::Taking, [0x0001_0000, 0x0008_0000_0001]),
+    (99, Place::Stranded, [0x0001_0000, 1]),
+    (98, Place::Giving, [0x0001_0000, 1]),
+    (99, Place::Lent, [0x0001_0000, 0x0008_0000_0001]),
+    (16, Place::Stranded, [0, 0x0008_0000_0001]),
+    (64, Place::Free, [0, 0x0008_0000_0000]),
+];
+
+/// The number of the first move after which other pages are lent.
+fn first_wrong_move(table: &mut PlaceTable, moves: &[Move]) -> Option<usize> {
+    for at in 0..moves.len() {
+        let (page, place, wanted) = moves[at];
+        if page >= table.pages() {
+            return Some(at);
+        }
+        table.set(page, place);
+        let words = table.lent_bits();
+        if words.len() != 2 || words[0] != wanted[0] || words[1] != wanted[1] {
+            return Some(at);
+        }
+    }
+    None
+}
+
+#[test]
+fn has_a_last_word_in_part(rt: HostRuntime) -> Result<(), Fail> {
+    let mut table = PlaceTable::new(rt.alloc(), 100)?;
+    assert_eq!(rt; first_wrong_move(&mut table, &MOVES), None);
+    Ok(())
+}
