@@ -1,5 +1,5 @@
 -- Which events may find no memory, and that nothing is changed then.
-use Rattle.std.proofs.Common.{◌≡◌, ℕ, zero, suc, Bool, true, false, List, [], ◌∷◌, refl, ap}
+use Rattle.std.proofs.Common.{sym, ◌≡◌, ℕ, zero, suc, Bool, true, false, List, [], ◌∷◌, refl, ap}
 use Rattle.std.proofs.Common.{◌∙◌, ◌⊎◌, inl, inr}
 use Rattle.std.specs.Prelude.{◌==◌, ◌||◌, not, Option, Some, None, MatchBool}
 use Rattle.vb_model.specs.declared.calls.Call.{Call}
@@ -28,12 +28,11 @@ use Rattle.vb_model.specs.StepLaws.{WantsChangeNothing, may_want_memory, call_ma
 use Rattle.vb_model.specs.StepLaws.{is_list}
 use Rattle.vb_model.proofs.CallSteps.{match_cases}
 use Rattle.vb_model.proofs.Wanting.{wants, none_wants, refused_otherwise, claims_needed}
-use Rattle.vb_model.proofs.Wanting.{no_memory_exact}
+use Rattle.vb_model.proofs.Wanting.{no_want, no_memory_exact}
 
 -- a reply that isn't want of memory
 not_wanted : {A : Type 0} (reply : Reply) → Refused NoMemory ≡ reply → wants reply ≡ false → A
-not_wanted reply e f =
-    absurd (let t : wants (Refused NoMemory) ≡ false = ap wants e ∙ f in cc)
+not_wanted reply e f = no_want reply NoMemory f refl (sym e)
 
 -- ---- a call
 

@@ -391,9 +391,10 @@ supplies_lack pages g claims reply new why Rest s rest w e =
     some_refusal : Refusal → Option Refusal
     some_refusal x = Some x
 
-otherwise : {A : Type 0} (reply : Reply) (why : Refusal) → wants reply ≡ false
+-- a reply that is no such refusal isn't this one
+pub no_want : {A : Type 0} (reply : Reply) (why : Refusal) → wants reply ≡ false
     → is_want why ≡ true → reply ≡ Refused why → A
-otherwise reply why f w e = absurd (let t : wants reply ≡ true = ap wants e ∙ w in cc)
+no_want reply why f w e = absurd (let t : wants reply ≡ true = ap wants e ∙ w in cc)
 
 reads_none : (page offset len : ℕ) (g : Guest) (claims : List Claim) (new : Guest) (why : Refusal)
     → Refused NoMemory ≡ Refused why → new ≡ g → Fails why (Read page offset len) g claims new
@@ -413,51 +414,51 @@ performs_lack (Write page offset bytes) g claims reply new why s w e =
 performs_lack (Scribble page offset bytes) g claims reply new why s w e =
     inl (supplies_lack (pages_needed page bytes g) g claims reply new why
     (λ m. Scribbled m reply new) s (λ m r. ap wants r.answered) w e)
-performs_lack (SetTarget n) g claims reply new why s w e = otherwise reply why (ap wants s.1) w e
-performs_lack Reset g claims reply new why s w e = otherwise reply why (ap wants s.1) w e
+performs_lack (SetTarget n) g claims reply new why s w e = no_want reply why (ap wants s.1) w e
+performs_lack Reset g claims reply new why s w e = no_want reply why (ap wants s.1) w e
 performs_lack (Read page offset len) g claims reply new why s w e =
     elim s.1 [
-      | inl k ↦ otherwise reply why (ap wants k) w e
+      | inl k ↦ no_want reply why (ap wants k) w e
       | inr k ↦ reads_none page offset len g claims new why (sym k ∙ e) s.2
     ]
 performs_lack (Sweep page) g claims reply new why s w e =
-    otherwise reply why (ap wants s.1.0) w e
+    no_want reply why (ap wants s.1.0) w e
 performs_lack (Alloc cpu order) g claims reply new why s w e =
-    otherwise reply why (ap wants s.1.2) w e
+    no_want reply why (ap wants s.1.2) w e
 performs_lack (Free cpu start order) g claims reply new why s w e =
-    otherwise reply why (ap wants s.1) w e
-performs_lack (Inflate n) g claims reply new why s w e = otherwise reply why (ap wants s.1.6) w e
-performs_lack (Deflate n) g claims reply new why s w e = otherwise reply why (ap wants s.1.2) w e
-performs_lack (Oom n) g claims reply new why s w e = otherwise reply why (ap wants s.1.2) w e
+    no_want reply why (ap wants s.1) w e
+performs_lack (Inflate n) g claims reply new why s w e = no_want reply why (ap wants s.1.6) w e
+performs_lack (Deflate n) g claims reply new why s w e = no_want reply why (ap wants s.1.2) w e
+performs_lack (Oom n) g claims reply new why s w e = no_want reply why (ap wants s.1.2) w e
 performs_lack (Report from) g claims reply new why s w e =
-    otherwise reply why (ap wants s.1.2) w e
+    no_want reply why (ap wants s.1.2) w e
 performs_lack Stats g claims reply new why s w e =
-    otherwise reply why (fills_otherwise g.buffer g reply new s.1) w e
+    no_want reply why (fills_otherwise g.buffer g reply new s.1) w e
 performs_lack Ask g claims reply new why s w e =
-    otherwise reply why (asks_otherwise g.buffer g reply new s.1) w e
+    no_want reply why (asks_otherwise g.buffer g reply new s.1) w e
 performs_lack (Reap q) g claims reply new why s w e =
     elim (match_cases (kind_of_queue q) ⊥ (λ kind. Reaps kind (requests kind g).done g reply new)
     s.1) [
       | inl n ↦ absurd n.1
-      | inr k ↦ otherwise reply why (reaps_otherwise k.0 (requests k.0 g).done g reply new k.2) w e
+      | inr k ↦ no_want reply why (reaps_otherwise k.0 (requests k.0 g).done g reply new k.2) w e
     ]
 performs_lack (Take q) g claims reply new why s w e =
     elim (match_cases (kind_of_queue q) (TakesBuffer g.buffer g reply new)
     (λ kind. Takes kind (requests kind g).posted g reply new) s.1) [
-      | inl n ↦ otherwise reply why (takes_buffer_otherwise g.buffer g reply new n.1) w e
-      | inr k ↦ otherwise reply why
+      | inl n ↦ no_want reply why (takes_buffer_otherwise g.buffer g reply new n.1) w e
+      | inr k ↦ no_want reply why
           (takes_otherwise k.0 (requests k.0 g).posted g reply new k.2) w e
     ]
 performs_lack Work g claims reply new why s w e =
     elim (works_cases (cond g.config.paced (next_page g.inflate.taken) None)
     (cond g.config.paced (next_page g.report.taken) None) g reply new s.1) [
-      | inl i ↦ otherwise reply why (ap wants i.0) w e
-      | inr v ↦ otherwise reply why (ap wants v.2.0) w e
+      | inl i ↦ no_want reply why (ap wants i.0) w e
+      | inr v ↦ no_want reply why (ap wants v.2.0) w e
     ]
 performs_lack (Finish q i) g claims reply new why s w e =
     elim (match_cases (kind_of_queue q) ⊥ (λ kind. Finishes kind i g reply new) s.1) [
       | inl n ↦ absurd n.1
-      | inr k ↦ otherwise reply why (ap wants k.2.2) w e
+      | inr k ↦ no_want reply why (ap wants k.2.2) w e
     ]
 
 -- the claims that a call for these pages made ended without a frame

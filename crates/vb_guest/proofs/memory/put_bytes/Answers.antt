@@ -19,7 +19,7 @@ returns-in-Ok g c =
           (λ some bare. (let wrong = did.needs_frame did.covers some bare in cc)) did.bytes
           did.part)
           (λ rogue. write_rogue _ _ _ _ d guest _ _ _ _ did.bytes.rest.count
-          did.bytes.rest.backing did.part (λ e. cc) rogue)));
+          did.bytes.rest.backing did.part refl rogue)));
       scribbles = λ keeps d guest stands. rw (c.requires.none, ← c.as_slice.ensures)
           (steps_quiet keeps _ _ _ _ _ _ guest g.K.FrameKeeper.answers _ _ _ stands
           (scribble_alone keeps _ _ _ _ d guest _ _ _ stands did.covers
@@ -68,7 +68,7 @@ returns-in-Err-OutOfRam g c =
           (λ honest. write_outside _ _ _ _ d guest _ _ _ used honest here.unwritten did.part outside)
           (λ rogue. write_rogue _ _ _ _ d guest _ _ _ _
           (ap (λ (m : Pages). length m) here.unwritten)
-          (λ page. ap (λ (m : Pages). frame_at m page) here.unwritten) did.part (λ e. cc) rogue)));
+          (λ page. ap (λ (m : Pages). frame_at m page) here.unwritten) did.part refl rogue)));
       scribbles = λ keeps d guest stands. rw (c.requires.none, ← c.as_slice.ensures)
           (steps_quiet keeps _ _ _ _ _ _ guest g.K.FrameKeeper.answers _ _ _ stands
           (scribble_outside keeps _ _ _ _ d guest _ _ _ stands here.unwritten did.part outside));
