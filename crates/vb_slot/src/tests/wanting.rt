@@ -1,7 +1,7 @@
 //! Claims that find no memory: the call is refused, nothing is kept of it, and it is done when it is
 //! made again.
 
-ghost use Rattle.std.specs.Prelude.{false, IfOk};
+ghost use Rattle.std.specs.Prelude.{false};
 ghost use Rattle.vb_model.specs.Guest.{Guest};
 ghost use Rattle.vb_slot.specs.Slots.{stands_for};
 
@@ -59,19 +59,6 @@ impl FrameKeeper for Wanting {
     }
 }
 
-/// A guest of 64 pages.
-fn guest(alloc: Global) -> Result<Slot, AllocError>
-    ensures { IfOk result (λ slot. (g : Guest) × stands_for false mem part slot g) }
-{
-    let device = Box::new(alloc, ImmediateDevice::new(alloc))?;
-    let config = Config {
-        pages: 64,
-        queue_size: 8,
-        processors: 1,
-    };
-    Slot::new(alloc, device, config).map_err(|_| AllocError)
-}
-
 /// Whether these are the claims of a start of which this one found no memory.
 fn ends_without(claims: &[Claim], refused: usize) -> bool {
     match claims.split_last() {
@@ -95,21 +82,15 @@ fn init(slot: &mut Slot, keeper: &mut Wanting) -> Result<(), Refusal>
     slot.init(keeper, FEATURES)
 }
 
-/// Two bytes are written to page 16, which an allocation holds, or past the driver.
-fn put(
-    alloc: Global,
-    slot: &mut Slot,
-    keeper: &mut Wanting,
-    held: bool,
-) -> Result<Result<(), Refusal>, AllocError>
+/// Bytes are written to page 16, which an allocation holds, or past the driver.
+fn put(slot: &mut Slot, keeper: &mut Wanting, held: bool, bytes: &Bytes) -> Result<(), Refusal>
     requires { (g : Guest) × stands_for false mem part slot.old g }
     ensures { (g : Guest) × stands_for false mem part slot.new g }
 {
-    let bytes = Bytes::new(vec![in alloc; 0xab, 0xcd]?);
     if held {
-        Ok(slot.write(keeper, 16, 0, &bytes))
+        slot.write(keeper, 16, 0, bytes)
     } else {
-        Ok(slot.scribble(keeper, 16, 0, &bytes))
+        slot.scribble(keeper, 16, 0, bytes)
     }
 }
 
@@ -122,46 +103,88 @@ fn alloc_page(slot: &mut Slot) -> Result<u32, Refusal>
 }
 
 /// A start of which this claim finds no memory, and the next one.
-fn start_twice(rt: &impl Abort, alloc: Global, refused: usize) -> Result<(), AllocError> {
-    let mut keeper = Wanting::new(alloc, refused)?;
-    let mut slot = guest(alloc)?;
-    let answer = init(&mut slot, &mut keeper);
+fn start_twice(rt: &impl Abort, slot: &mut Slot, keeper: &mut Wanting, refused: usize)
+    requires { (g : Guest) × stands_for false mem part slot.old g }
+{
+    let answer = init(slot, keeper);
     assert!(rt; answer == Err(Refusal::NoMemory) && ends_without(slot.claimed(), refused));
-    assert!(rt; has_no_frames(&slot) && keeper.table.used() == 0 && slot.balloon().status == 0);
-    let answer = init(&mut slot, &mut keeper);
+    assert!(rt; has_no_frames(slot) && keeper.table.used() == 0 && slot.balloon().status == 0);
+    let answer = init(slot, keeper);
     assert!(rt; answer == Ok(()) && slot.claimed() == THIRTEEN.as_slice());
     assert!(rt; keeper.table.used() == 13 && slot.balloon().status == 15);
-    Ok(())
-}
-
-#[test]
-fn a_start_that_finds_no_memory_keeps_no_frame(rt: HostRuntime) -> Result<(), Fail> {
-    for refused in 0..13 {
-        start_twice(&rt, rt.alloc(), refused)?;
-    }
-    Ok(())
 }
 
 /// Bytes that find no memory for the frame of their page, and the same bytes again.
-fn put_twice(rt: &impl Abort, alloc: Global, held: bool) -> Result<(), AllocError> {
-    let mut keeper = Wanting::new(alloc, 0)?;
-    let mut slot = guest(alloc)?;
-    assert!(rt; alloc_page(&mut slot) == Ok(16));
-    let answer = put(alloc, &mut slot, &mut keeper, held)?;
+fn put_twice(
+    rt: &impl Abort,
+    alloc: Global,
+    slot: &mut Slot,
+    keeper: &mut Wanting,
+    held: bool,
+) -> Result<(), AllocError>
+    requires { (g : Guest) × stands_for false mem part slot.old g }
+{
+    let bytes = Bytes::new(vec![in alloc; 0xab, 0xcd]?);
+    assert!(rt; alloc_page(slot) == Ok(16));
+    let answer = put(slot, keeper, held, &bytes);
     assert!(rt;
         answer == Err(Refusal::NoMemory) && slot.claimed() == [Claim::GaveNoMemory].as_slice()
     );
     assert!(rt; slot.backing(16).is_none() && keeper.table.used() == 0);
-    let answer = put(alloc, &mut slot, &mut keeper, held)?;
+    let answer = put(slot, keeper, held, &bytes);
     assert!(rt; answer == Ok(()) && slot.claimed() == [Claim::Gave(0)].as_slice());
     assert!(rt; slot.backing(16) == Some(0) && keeper.table.used() == 1);
     Ok(())
 }
 
+/// What is done twice, of which the first time finds no memory.
+#[derive(Clone, Copy)]
+enum Twice {
+    /// A start, at this claim of its.
+    Start(usize),
+    /// A write to a page that is held.
+    Write,
+    /// One past the driver.
+    Scribble,
+}
+
+/// A guest of 64 pages does something twice.
+fn play(rt: &impl Abort, alloc: Global, what: Twice) -> Result<(), AllocError> {
+    let refused = match what {
+        Twice::Start(refused) => refused,
+        Twice::Write | Twice::Scribble => 0,
+    };
+    let mut keeper = Wanting::new(alloc, refused)?;
+    let device = Box::new(alloc, ImmediateDevice::new(alloc))?;
+    let config = Config {
+        pages: 64,
+        queue_size: 8,
+        processors: 1,
+    };
+    match Slot::new(alloc, device, config) {
+        Ok(mut slot) => match what {
+            Twice::Start(_) => {
+                start_twice(rt, &mut slot, &mut keeper, refused);
+                Ok(())
+            }
+            Twice::Write => put_twice(rt, alloc, &mut slot, &mut keeper, true),
+            Twice::Scribble => put_twice(rt, alloc, &mut slot, &mut keeper, false),
+        },
+        Err(_) => Err(AllocError),
+    }
+}
+
+#[test]
+fn a_start_that_finds_no_memory_keeps_no_frame(rt: HostRuntime) -> Result<(), Fail> {
+    for refused in 0..13 {
+        play(&rt, rt.alloc(), Twice::Start(refused))?;
+    }
+    Ok(())
+}
+
 #[test]
 fn bytes_that_find_no_memory_leave_their_page_bare(rt: HostRuntime) -> Result<(), Fail> {
-    for held in [true, false] {
-        put_twice(&rt, rt.alloc(), held)?;
-    }
+    play(&rt, rt.alloc(), Twice::Write)?;
+    play(&rt, rt.alloc(), Twice::Scribble)?;
     Ok(())
 }
