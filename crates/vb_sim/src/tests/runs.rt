@@ -223,7 +223,7 @@ static SPOKEN: (&[u8], &[u8]) = (
 
 #[test]
 fn nothing_is_written_where_reading_fails_at_any_byte(rt: HostRuntime) {
-    let (script, _replies) = SPOKEN;
+    let script = SPOKEN.0;
     let faults = Faults {
         reading: Some(ErrorKind::ConnectionReset),
         ..NONE
@@ -237,7 +237,7 @@ fn nothing_is_written_where_reading_fails_at_any_byte(rt: HostRuntime) {
 /// Whether a run on a stream with room for so many bytes fails, and has written so much of its replies,
 /// or of these and what comes behind them.
 fn fails_at(alloc: Global, room: usize, heals: bool) -> bool {
-    let (script, replies) = SPOKEN;
+    let (script, replies) = (SPOKEN.0, SPOKEN.1);
     let faults = Faults {
         room,
         heals,
@@ -253,8 +253,7 @@ fn fails_at(alloc: Global, room: usize, heals: bool) -> bool {
 
 #[test]
 fn what_is_written_where_writing_fails_at_any_byte_is_true(rt: HostRuntime) {
-    let (_script, replies) = SPOKEN;
-    for room in 0..replies.len() {
+    for room in 0..SPOKEN.1.len() {
         assert!(rt; fails_at(rt.alloc(), room, false), "at byte {room}");
         assert!(rt; fails_at(rt.alloc(), room, true), "at byte {room}");
     }
@@ -265,7 +264,7 @@ static MISSPOKEN: (&[u8], &[u8]) = (b"host 64\nplug\n", b"script: line 2: bad li
 
 #[test]
 fn a_bad_line_that_cant_be_named_is_status_4(rt: HostRuntime) {
-    let (script, errors) = MISSPOKEN;
+    let (script, errors) = (MISSPOKEN.0, MISSPOKEN.1);
     for room in 0..errors.len() {
         let faults = Faults { room, ..NONE };
         let outcome = run(rt.alloc(), &mut Host, script, faults);
