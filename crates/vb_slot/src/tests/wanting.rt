@@ -1,7 +1,7 @@
 //! Claims that find no memory: the call is refused, nothing is kept of it, and it is done when it is
 //! made again.
 
-ghost use Rattle.std.specs.Prelude.{false};
+ghost use Rattle.std.specs.Prelude.{Bool};
 ghost use Rattle.vb_model.specs.Guest.{Guest};
 ghost use Rattle.vb_slot.specs.Slots.{stands_for};
 
@@ -76,16 +76,16 @@ fn has_no_frames(slot: &Slot) -> bool {
 
 /// The driver initialises the device.
 fn init(slot: &mut Slot, keeper: &mut Wanting) -> Result<(), Refusal>
-    requires { (g : Guest) × stands_for false mem part slot.old g }
-    ensures { (g : Guest) × stands_for false mem part slot.new g }
+    requires { (keeps : Bool) × (g : Guest) × stands_for keeps mem part slot.old g }
+    ensures { (keeps : Bool) × (g : Guest) × stands_for keeps mem part slot.new g }
 {
     slot.init(keeper, FEATURES)
 }
 
 /// Bytes are written to page 16, which an allocation holds, or past the driver.
 fn put(slot: &mut Slot, keeper: &mut Wanting, held: bool, bytes: &Bytes) -> Result<(), Refusal>
-    requires { (g : Guest) × stands_for false mem part slot.old g }
-    ensures { (g : Guest) × stands_for false mem part slot.new g }
+    requires { (keeps : Bool) × (g : Guest) × stands_for keeps mem part slot.old g }
+    ensures { (keeps : Bool) × (g : Guest) × stands_for keeps mem part slot.new g }
 {
     if held {
         slot.write(keeper, 16, 0, bytes)
@@ -96,15 +96,15 @@ fn put(slot: &mut Slot, keeper: &mut Wanting, held: bool, bytes: &Bytes) -> Resu
 
 /// Page 16 is handed out.
 fn alloc_page(slot: &mut Slot) -> Result<u32, Refusal>
-    requires { (g : Guest) × stands_for false mem part slot.old g }
-    ensures { (g : Guest) × stands_for false mem part slot.new g }
+    requires { (keeps : Bool) × (g : Guest) × stands_for keeps mem part slot.old g }
+    ensures { (keeps : Bool) × (g : Guest) × stands_for keeps mem part slot.new g }
 {
     slot.alloc(0, 0)
 }
 
 /// A start of which this claim finds no memory, and the next one.
 fn start_twice(rt: &impl Abort, slot: &mut Slot, keeper: &mut Wanting, refused: usize)
-    requires { (g : Guest) × stands_for false mem part slot.old g }
+    requires { (keeps : Bool) × (g : Guest) × stands_for keeps mem part slot.old g }
 {
     let answer = init(slot, keeper);
     assert!(rt; answer == Err(Refusal::NoMemory) && ends_without(slot.claimed(), refused));
@@ -122,7 +122,7 @@ fn put_twice(
     keeper: &mut Wanting,
     held: bool,
 ) -> Result<(), AllocError>
-    requires { (g : Guest) × stands_for false mem part slot.old g }
+    requires { (keeps : Bool) × (g : Guest) × stands_for keeps mem part slot.old g }
 {
     let bytes = Bytes::new(vec![in alloc; 0xab, 0xcd]?);
     assert!(rt; alloc_page(slot) == Ok(16));

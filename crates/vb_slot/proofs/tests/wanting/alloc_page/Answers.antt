@@ -1,5 +1,6 @@
-use Rattle.std.proofs.Common.{false}
 use Rattle.vb_slot.proofs.tests.wanting.alloc_page.Goals as goal
 
 pub returns : goal.returns
-returns g c = let s = c.alloc.ensures.step false c.requires.0 c.requires.1 in (s.new, s.stands)
+returns g c =
+    let (keeps, guest, stands) = c.requires in
+    let s = c.alloc.ensures.step keeps guest stands in (keeps, s.new, s.stands)
