@@ -477,6 +477,29 @@ fn play_listed(
     play(rt, alloc, frames, spares, table)
 }
 
+/// Lets a table's events happen on a host with two devices that find no memory for their guests, the
+/// first one twice and the second one once.
+fn play_refusing(
+    rt: &impl Abort,
+    alloc: Global,
+    frames: u32,
+    table: &[(Line, Answer)],
+) -> Result<(), AllocError>
+    requires some { 1 ≤ frames }
+    requires few { frames ≤ 65_536 }
+{
+    let mut spares: Vec<Box<dyn Device + Send>> = Vec::new(alloc);
+    add_spare(
+        &mut spares,
+        Box::new(alloc, ListedDevice::refusing(alloc, 2))?,
+    )?;
+    add_spare(
+        &mut spares,
+        Box::new(alloc, ListedDevice::refusing(alloc, 1))?,
+    )?;
+    play(rt, alloc, frames, spares, table)
+}
+
 #[test]
 fn the_first_path_on_an_immediate_device(rt: HostRuntime) -> Result<(), Fail> {
     play_immediate(&rt, rt.alloc(), 64, 1, &FIRST_PATH)?;
@@ -518,12 +541,7 @@ fn plugs_are_refused(rt: HostRuntime) -> Result<(), Fail> {
 
 #[test]
 fn a_plug_that_finds_no_memory_keeps_its_spare(rt: HostRuntime) -> Result<(), Fail> {
-    let mut spares: Vec<Box<dyn Device + Send>> = Vec::new(rt.alloc());
-    for refusals in [2, 1] {
-        let device = ListedDevice::refusing(rt.alloc(), refusals);
-        add_spare(&mut spares, Box::new(rt.alloc(), device)?)?;
-    }
-    play(&rt, rt.alloc(), 64, spares, &WANTING_PLUGS)?;
+    play_refusing(&rt, rt.alloc(), 64, &WANTING_PLUGS)?;
     Ok(())
 }
 
