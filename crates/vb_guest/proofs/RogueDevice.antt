@@ -1,5 +1,5 @@
 -- What a device does for a guest that wrote past its driver.
-use Rattle.std.specs.Prelude.{◌≡◌, ◌≢◌, ℕ, zero, suc, ◌+◌, ◌<◌, ◌≤◌, ◌==◌, Bool, true, false, not}
+use Rattle.std.specs.Prelude.{◌≡◌, ℕ, zero, suc, ◌+◌, ◌<◌, ◌≤◌, ◌==◌, Bool, true, false, not}
 use Rattle.std.specs.Prelude.{◌&&◌, ◌||◌, List, [], ◌∷◌, ◌++◌, length, All, Option, Some, None, Result, ◌%◌, ◌*◌}
 use Rattle.std.specs.Prelude.{Ok, Err, refl, if◌then◌else◌, slice_get, slice_index_or, remove, is_some}
 use Rattle.std.specs.Prelude.{is_none, count_by, IsOk}
@@ -15,7 +15,7 @@ use Rattle.vb_model.specs.declared.calls.Call.TheVariants.{Take, Work, Finish, S
 use Rattle.vb_model.specs.declared.layout.TheConstants.{INFLATE_QUEUE, DEFLATE_QUEUE}
 use Rattle.vb_model.specs.declared.layout.TheConstants.{STATISTICS_QUEUE, REPORT_QUEUE}
 use Rattle.vb_model.specs.declared.replies.Refusal.{Refusal}
-use Rattle.vb_model.specs.declared.replies.Refusal.TheVariants.{NoFrame, NoQueue, NotReady, NeedsReset}
+use Rattle.vb_model.specs.declared.replies.Refusal.TheVariants.{NoQueue, NotReady, NeedsReset}
 use Rattle.vb_model.specs.declared.replies.Refusal.TheVariants.{Broken, Busy, NotTaken, NotWorked}
 use Rattle.vb_model.specs.declared.replies.Refusal.TheVariants.{NotBallooned}
 use Rattle.vb_model.specs.declared.replies.Reply.{Reply}
@@ -33,6 +33,7 @@ use Rattle.vb_model.specs.Tables.{is_queue_of_requests, has_unvisited, take_test
 use Rattle.vb_model.specs.Tables.{sweep_tests, finish_tests, ask_tests}
 use Rattle.vb_model.specs.Rogue.{target_after}
 use Rattle.vb_model.specs.Tests.{flagged, is_in}
+use Rattle.vb_model.proofs.Wanting.{wants, refused_otherwise}
 use Rattle.vb_ram.specs.Pages.{Pages, frame_at, page_at, number_of}
 use Rattle.vb_ram.specs.Part.{Part, QueuePart}
 use Rattle.vb_chain.specs.declared.fault.ChainFault.TheVariants.{WrongDirection, BadLength}
@@ -67,7 +68,7 @@ use Rattle.vb_guest.proofs.WorkReportStep.{next_taken}
 use Rattle.vb_guest.proofs.PagesKept.{number_if, page_discarded, length-discarded}
 use Rattle.vb_guest.proofs.Rogues.{DeviceSame, Keeps, driver_same, device_same, rogue_alone}
 use Rattle.vb_guest.proofs.Rogues.{rogue_after, rogue_stands, rogue_step, IsOther}
-use Rattle.vb_guest.proofs.Rogues.{keeps_part, not_no_frame, refused_not, up_kept}
+use Rattle.vb_guest.proofs.Rogues.{keeps_part, up_kept}
 
 -- a device that refuses nothing is initialised
 pub not_down : (ok broken : Bool) (o : Option Refusal)
@@ -191,7 +192,7 @@ take_rogue m1 m2 p1 p2 d g q result did rogue =
         → StepsAlone (Rogue m1 p2 d) g (Take q) (taken_reply r)
     by (Ok None) means = rogue_alone m1 m1 p1 p2 d d g (Take q) _ rogue
         (keeps_part m1 m1 p1 p2 d d (driver_same d d refl) means.1 refl (λ page. refl)) refl
-        (λ page. refl) (ap (λ (p : Part). p.target) means.1) (λ e. cc)
+        (λ page. refl) (ap (λ (p : Part). p.target) means.1) refl
         (λ page offset bytes e. cc)
     by (Ok (Some h)) means =
         let pages = means.1.0 in
@@ -224,7 +225,7 @@ take_rogue m1 m2 p1 p2 d g q result did rogue =
               (request_own q m1 p1 h pages next))
               (record { inflates = up.inflates; reports = up.reports })) in
               record { backed = up.backed; inflates = own.inflates; reports = own.reports };
-        }) refl (λ page. refl) (ap (λ (p : Part). p.target) part ∙ state.1) (λ e. cc)
+        }) refl (λ page. refl) (ap (λ (p : Part). p.target) part ∙ state.1) refl
         (λ page offset bytes e. cc)
     by (Err (Broken rule)) means =
         let part = means.1 in
@@ -242,13 +243,13 @@ take_rogue m1 m2 p1 p2 d g q result did rogue =
           up = λ was ok. up_kept m1 m1 p1 p2 refl (λ page low. refl)
               (ap (λ (p : Part). p.inflate.taken) part)
               (ap (λ (p : Part). p.report.taken) part) (was (ready means.0));
-        }) refl (λ page. refl) (ap (λ (p : Part). p.target) part) (λ e. cc)
+        }) refl (λ page. refl) (ap (λ (p : Part). p.target) part) refl
         (λ page offset bytes e. cc)
     by (Err why) means = rogue_alone m1 m1 p1 p2 d d g (Take q) _ rogue
         (keeps_part m1 m1 p1 p2 d d (driver_same d d refl) means.1 refl (λ page. refl)) refl
         (λ page. refl) (ap (λ (p : Part). p.target) means.1)
-        (refused_not why (λ e. not_no_frame (take_tests q p1.status p1.features
-        (length (queue_part q p1).taken)) refl (means.0 ∙ e)))
+        (refused_otherwise (take_tests q p1.status p1.features
+        (length (queue_part q p1).taken)) why refl means.0)
         (λ page offset bytes e. cc)
 
 -- ---- pages lose their frames
@@ -317,7 +318,7 @@ pub rogue_freed : (m1 m2 : Pages) (p1 p2 : Part) (d : DriverState) (g : Guest) (
     → length m2 ≡ length m1
     → ((page : ℕ) → frame_at m2 page ≡ frame_at (discarded r.pages m1) page)
     → SameFrames p2.loose (frames_behind m1 (each_once r.pages))
-    → target_after call p1.target ≡ p1.target → reply ≢ Refused NoFrame → IsOther call
+    → target_after call p1.target ≡ p1.target → wants reply ≡ false → IsOther call
     → Rogue m1 p1 d g → StepsFreeing (Rogue m2 (handed_back p2) d) p2.loose g call reply
 rogue_freed m1 m2 p1 p2 d g call reply r own changes ok count same loose still answer other rogue =
     let once = each_once r.pages in
@@ -377,7 +378,7 @@ rogue_freed m1 m2 p1 p2 d g call reply r own changes ok count same loose still a
 -- no page does
 pub none_freed : (m1 m2 : Pages) (p1 p2 : Part) (d : DriverState) (g : Guest) (call : Call)
     (reply : Reply) → m2 ≡ m1 → p2 ≡ p1 → target_after call p1.target ≡ p1.target
-    → reply ≢ Refused NoFrame → IsOther call → Rogue m1 p1 d g
+    → wants reply ≡ false → IsOther call → Rogue m1 p1 d g
     → StepsFreeing (Rogue m2 (handed_back p2) d) p2.loose g call reply
 none_freed m1 m2 p1 p2 d g call reply memory part still answer other rogue =
     let same : (page : ℕ) → frame_at m2 page ≡ frame_at m1 page =
@@ -432,7 +433,7 @@ visits_rogue m1 m2 p1 p2 d g q page result did own ok rogue =
     (changes_with (length m1) q x p1 (λ all. all-visiting (IsOwnRequest (length m1))
     (λ r own. record { above = own.above; below = own.below }) (queue_part q p1).taken all))
     did.part) ok (ap (λ (m : Pages). length m) did.memory ∙ length-discarded (page ∷ []) m1)
-    (λ p. ap (λ (m : Pages). frame_at m p) did.memory) did.loose refl (λ e. cc)
+    (λ p. ap (λ (m : Pages). frame_at m p) did.memory) did.loose refl refl
     (λ page offset bytes e. cc) rogue)
 
 pub work_rogue : (m1 m2 : Pages) (p1 p2 : Part) (d : DriverState) (g : Guest)
@@ -451,7 +452,7 @@ work_rogue m1 m2 p1 p2 d g result did rogue = by (work_refusal p1) refl
         → next_visit REPORT_QUEUE p1 ≡ o → Done result
     later e first None second =
         let (answer, part, memory) = did.idle e first second in
-        subst Done (sym answer) (none_freed m1 m2 p1 p2 d g Work _ memory part refl (λ x. cc)
+        subst Done (sym answer) (none_freed m1 m2 p1 p2 d g Work _ memory part refl refl
         (λ page offset bytes x. cc) rogue)
     later e first (Some page) second =
         visits_rogue m1 m2 p1 p2 d g REPORT_QUEUE page result (did.report page e first second)
@@ -470,7 +471,7 @@ work_rogue m1 m2 p1 p2 d g result did rogue = by (work_refusal p1) refl
     by (Some why) e =
         let (answer, part, memory) = did.refused why e in
         subst Done (sym answer) (none_freed m1 m2 p1 p2 d g Work _ memory part refl
-        (refused_not why (λ x. not_no_frame (work_tests p1.status) refl (e ∙ x)))
+        (refused_otherwise (work_tests p1.status) why refl e)
         (λ page offset bytes x. cc) rogue)
     by None e = visits e (next_visit INFLATE_QUEUE p1) refl
 
@@ -518,8 +519,7 @@ sweep_rogue m1 m2 p1 p2 d g page result did rogue = by (sweep_refusal page p1) r
     by (Some why) e =
         let (answer, part, memory) = did.refused why e in
         subst Done (sym answer) (none_freed m1 m2 p1 p2 d g (Sweep page) _ memory part refl
-        (refused_not why (λ x. not_no_frame
-        (sweep_tests p1.status (is_ballooned p1.ballooned page)) refl (e ∙ x)))
+        (refused_otherwise (sweep_tests p1.status (is_ballooned p1.ballooned page)) why refl e)
         (λ page offset bytes x. cc) rogue)
     by None e =
         let (up, flag) = sweeps_up (is_not_ready p1.status) (has_fault p1.status)
@@ -537,7 +537,7 @@ sweep_rogue m1 m2 p1 p2 d g page result did rogue = by (sweep_refusal page p1) r
         (changes_back (length m1) p1 p1 p2 same (did.part e))
         (ok_of (contains p1.status driver_ok) (contains p1.status failed) up)
         (ap (λ (m : Pages). length m) (did.memory e) ∙ length-discarded (page ∷ []) m1)
-        (λ p. ap (λ (m : Pages). frame_at m p) (did.memory e)) (did.loose e) refl (λ x. cc)
+        (λ p. ap (λ (m : Pages). frame_at m p) (did.memory e)) (did.loose e) refl refl
         (λ page offset bytes x. cc) rogue)
 
 -- ---- finish
@@ -682,7 +682,7 @@ finish_rogue m1 m2 p1 p2 d g q i result did rogue = by (finish_refusal q i p1) r
         (settled_changes n q r.pages (using q i p1) high)) uses.part) ok
         (uses.memory.puts.rest.count ∙ count)
         (λ page. uses.memory.puts.rest.backing page ∙ same page)
-        (λ k. uses.loose k ∙ ap (times k) loose) refl (λ x. cc) (λ page offset bytes x. cc) rogue)
+        (λ k. uses.loose k ∙ ap (times k) loose) refl refl (λ page offset bytes x. cc) rogue)
 
     uses_request : (r : Request) → finish_refusal q i p1 ≡ None → taken_at q i p1 ≡ Some r
         → (b : Bool) → (q == DEFLATE_QUEUE) ≡ b → Uses q i r m1 m2 p1 p2 result → Done result
@@ -721,8 +721,7 @@ finish_rogue m1 m2 p1 p2 d g q i result did rogue = by (finish_refusal q i p1) r
     by (Some why) e =
         let (answer, part, memory) = did.refused why e in
         subst Done (sym answer) (none_freed m1 m2 p1 p2 d g (Finish q i) _ memory part refl
-        (refused_not why (λ x. not_no_frame
-        (finish_tests q p1.status p1.paced (taken_at q i p1)) refl (e ∙ x)))
+        (refused_otherwise (finish_tests q p1.status p1.paced (taken_at q i p1)) why refl e)
         (λ page offset bytes x. cc) rogue)
     by None e =
         let (r, at) = taken_request (is_queue_of_requests q) (is_not_ready p1.status)
@@ -743,9 +742,9 @@ taken_buffer false true o e = absurd cc
 taken_buffer false false None e = absurd cc
 taken_buffer false false (Some r) e = (r, refl)
 
-asked_not : {T : Type 0} (r : Result T Refusal) → IsOk r → asked_reply r ≢ Refused NoFrame
-asked_not (Ok x) ok e = cc
-asked_not (Err why) ok e = absurd cc
+asked_not : {T : Type 0} (r : Result T Refusal) → IsOk r → wants (asked_reply r) ≡ false
+asked_not (Ok x) ok = refl
+asked_not (Err why) ok = absurd cc
 
 pub ask_rogue : {T : Type 0} (m1 m2 : Pages) (p1 p2 : Part) (d : DriverState) (g : Guest)
     (result : Result T Refusal) → AsksBy m1 m2 p1 p2 result → Rogue m1 p1 d g
@@ -764,8 +763,8 @@ ask_rogue m1 m2 p1 p2 d g result did rogue = by (ask_refusal p1) refl
         (rogue_alone m1 m2 p1 p2 d d g Ask (Refused why) rogue
         (keeps_part m1 m2 p1 p2 d d (driver_same d d refl) part count same) count same
         (ap (λ (p : Part). p.target) part)
-        (refused_not why (λ x. not_no_frame (ask_tests p1.status
-        (is_some (taken_at STATISTICS_QUEUE 0 p1))) refl (e ∙ x)))
+        (refused_otherwise (ask_tests p1.status
+        (is_some (taken_at STATISTICS_QUEUE 0 p1))) why refl e)
         (λ page offset bytes x. cc))
     by None e =
         let part = did.part e in
@@ -845,4 +844,4 @@ target_rogue m1 m2 p1 p2 d g n memory part rogue =
       up = λ was ok. up_kept m1 m2 p1 p2 count (λ page low. same page)
           (ap (λ (p : Part). p.inflate.taken) part) (ap (λ (p : Part). p.report.taken) part)
           (was (ap (λ (p : Part). contains p.status driver_ok) (sym part) ∙ ok));
-    }) count same (ap (λ (p : Part). p.target) part) (λ e. cc) (λ page offset bytes e. cc)
+    }) count same (ap (λ (p : Part). p.target) part) refl (λ page offset bytes e. cc)

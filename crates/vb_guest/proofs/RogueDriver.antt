@@ -1,5 +1,5 @@
 -- What a driver does for a guest that wrote past it.
-use Rattle.std.specs.Prelude.{◌≡◌, ◌≢◌, ℕ, ◌==◌, Bool, true, false, not, ◌&&◌, List, [], ◌∷◌, length}
+use Rattle.std.specs.Prelude.{◌≡◌, ℕ, ◌==◌, Bool, true, false, not, ◌&&◌, List, [], ◌∷◌, length}
 use Rattle.std.specs.Prelude.{Option, Some, None, Result, Ok, Err, refl, if◌then◌else◌}
 use Rattle.std.proofs.Common.{sym, ◌∙◌, ap, subst}
 use Rattle.std.proofs.lemmas.List.{length-map, length-replicate}
@@ -9,7 +9,7 @@ use Rattle.vb_model.specs.declared.calls.Call.TheVariants.{Report, Stats, Reap, 
 use Rattle.vb_model.specs.declared.layout.TheConstants.{INFLATE_QUEUE, DEFLATE_QUEUE}
 use Rattle.vb_model.specs.declared.places.Place.{Place}
 use Rattle.vb_model.specs.declared.replies.Refusal.{Refusal}
-use Rattle.vb_model.specs.declared.replies.Refusal.TheVariants.{NoFrame, NoQueue, NotReady, NoFeature}
+use Rattle.vb_model.specs.declared.replies.Refusal.TheVariants.{NoQueue, NotReady, NoFeature}
 use Rattle.vb_model.specs.declared.replies.Refusal.TheVariants.{RingBroken, Nothing}
 use Rattle.vb_model.specs.declared.replies.Reply.{Reply}
 use Rattle.vb_model.specs.declared.replies.Reply.TheVariants.{Refused, Done}
@@ -20,6 +20,7 @@ use Rattle.vb_model.specs.Pages.{placed}
 use Rattle.vb_model.specs.Rogue.{target_after}
 use Rattle.vb_model.specs.Status.{contains, driver_ok, is_broken}
 use Rattle.vb_model.specs.Tables.{is_queue_of_requests, lacks_feature}
+use Rattle.vb_model.proofs.Wanting.{wants, none_wants, refused_otherwise}
 use Rattle.vb_ram.specs.Pages.{Pages, frame_at}
 use Rattle.vb_ram.specs.Part.{Part}
 use Rattle.vb_ring.specs.Ends.{after_take}
@@ -38,12 +39,12 @@ use Rattle.vb_guest.specs.Steps.{StepsAlone}
 use Rattle.vb_guest.specs.Replies.{page_reply, done_reply, posted_reply, reaped_reply, filled_reply}
 use Rattle.vb_guest.proofs.Fresh.{everywhere}
 use Rattle.vb_guest.proofs.Rogues.{DriverSame, Keeps, driver_same, rogue_alone, IsOther}
-use Rattle.vb_guest.proofs.Rogues.{keeps_part, not_no_frame, refused_not, up_kept}
+use Rattle.vb_guest.proofs.Rogues.{keeps_part, up_kept}
 
--- the refusal isn't for want of frames
-not_for_frames : (why : Refusal) (tests : List Test) → Some why ≡ first_refusal tests
-    → first_refusal tests ≢ Some NoFrame → Refused why ≢ Refused NoFrame
-not_for_frames why tests is other = refused_not why (λ e. other (sym is ∙ e))
+-- the refusal is one of these tests, none of which is for want of frames or of memory
+not_for_want : (why : Refusal) (tests : List Test) → Some why ≡ first_refusal tests
+    → none_wants tests ≡ true → wants (Refused why) ≡ false
+not_for_want why tests is others = refused_otherwise tests why others (sym is)
 
 -- ---- calls that leave the device alone
 
@@ -51,7 +52,7 @@ not_for_frames why tests is other = refused_not why (λ e. other (sym is ∙ e))
 part_alone : (m1 m2 : Pages) (p1 p2 : Part) (d1 d2 : DriverState) (g : Guest) (call : Call)
     (reply : Reply) → DriverSame d1 d2 → p2 ≡ p1 → length m2 ≡ length m1
     → ((page : ℕ) → frame_at m2 page ≡ frame_at m1 page)
-    → target_after call p1.target ≡ p1.target → reply ≢ Refused NoFrame → IsOther call
+    → target_after call p1.target ≡ p1.target → wants reply ≡ false → IsOther call
     → Rogue m1 p1 d1 g → StepsAlone (Rogue m2 p2 d2) g call reply
 part_alone m1 m2 p1 p2 d1 d2 g call reply driver part count same still answer other rogue =
     rogue_alone m1 m2 p1 p2 d1 d2 g call reply rogue
@@ -62,13 +63,13 @@ part_alone m1 m2 p1 p2 d1 d2 g call reply driver part count same still answer ot
 unchanged_alone : (m1 m2 : Pages) (p1 p2 : Part) (d1 d2 : DriverState) (g : Guest) (call : Call)
     (why : Refusal) (tests : List Test) → Unchanged m1 m2 p1 p2 d1 d2
     → target_after call p1.target ≡ p1.target → Some why ≡ first_refusal tests
-    → first_refusal tests ≢ Some NoFrame → IsOther call → Rogue m1 p1 d1 g
+    → none_wants tests ≡ true → IsOther call → Rogue m1 p1 d1 g
     → StepsAlone (Rogue m2 p2 d2) g call (Refused why)
 unchanged_alone m1 m2 p1 p2 d1 d2 g call why tests same still is none other rogue =
     part_alone m1 m2 p1 p2 d1 d2 g call (Refused why) (driver_same d1 d2 same.driver) same.part
     (ap (λ (m : Pages). length m) same.mem)
     (λ page. ap (λ (m : Pages). frame_at m page) same.mem) still
-    (not_for_frames why tests is none) other rogue
+    (not_for_want why tests is none) other rogue
 
 -- pages have changed their places
 moved : (d1 d2 : DriverState) (pages : List ℕ) (place : Place)
@@ -89,7 +90,7 @@ alloc_rogue m p d1 d2 g cpu order (Ok start) did rogue =
     (moved d1 d2 _ _ (ap (λ (d : DriverState). d.pages) did.state)
     (ap (λ (d : DriverState). d.queue_size) did.state)
     (ap (λ (d : DriverState). d.processors) did.state)
-    (ap (λ (d : DriverState). d.places) did.state)) refl refl (λ page. refl) refl (λ e. cc)
+    (ap (λ (d : DriverState). d.places) did.state)) refl refl (λ page. refl) refl refl
     (λ page offset bytes e. cc) rogue
 alloc_rogue m p d1 d2 g cpu order (Err why) did rogue =
     part_alone m m p p d1 d2 g (Alloc cpu order) (Refused why)
@@ -99,8 +100,8 @@ alloc_rogue m p d1 d2 g cpu order (Err why) did rogue =
       processors = ap (λ (d : DriverState). d.processors) did.refused;
       table = ap (λ (d : DriverState). length d.places) did.refused;
     }) refl refl (λ page. refl) refl
-    (not_for_frames why (alloc_tests d1 cpu order) did.refusal
-    (not_no_frame (alloc_tests d1 cpu order) refl)) (λ page offset bytes e. cc) rogue
+    (not_for_want why (alloc_tests d1 cpu order) did.refusal
+    refl) (λ page offset bytes e. cc) rogue
 
 pub free_rogue : {T : Type 0} (m : Pages) (p : Part) (d1 d2 : DriverState) (g : Guest)
     (cpu start order : ℕ) (result : Result T Refusal) → FreesBy d1 d2 cpu start order result
@@ -110,13 +111,13 @@ free_rogue m p d1 d2 g cpu start order (Ok x) did rogue =
     (moved d1 d2 _ _ (ap (λ (d : DriverState). d.pages) did.state)
     (ap (λ (d : DriverState). d.queue_size) did.state)
     (ap (λ (d : DriverState). d.processors) did.state)
-    (ap (λ (d : DriverState). d.places) did.state)) refl refl (λ page. refl) refl (λ e. cc)
+    (ap (λ (d : DriverState). d.places) did.state)) refl refl (λ page. refl) refl refl
     (λ page offset bytes e. cc) rogue
 free_rogue m p d1 d2 g cpu start order (Err why) did rogue =
     part_alone m m p p d1 d2 g (Free cpu start order) (Refused why)
     (driver_same d1 d2 did.refused) refl refl (λ page. refl) refl
-    (not_for_frames why (free_tests d1 cpu start order) did.refusal
-    (not_no_frame (free_tests d1 cpu start order) refl)) (λ page offset bytes e. cc) rogue
+    (not_for_want why (free_tests d1 cpu start order) did.refusal
+    refl) (λ page offset bytes e. cc) rogue
 
 -- ---- requests
 
@@ -130,10 +131,10 @@ inflate_rogue m1 m2 p1 p2 d1 d2 g n (Ok posted) did rogue =
     (ap (λ (d : DriverState). d.queue_size) offers.state)
     (ap (λ (d : DriverState). d.processors) offers.state)
     (ap (λ (d : DriverState). d.places) offers.state)) offers.part offers.posts.rest.count
-    offers.posts.rest.backing refl (λ e. cc) (λ page offset bytes e. cc) rogue
+    offers.posts.rest.backing refl refl (λ page offset bytes e. cc) rogue
 inflate_rogue m1 m2 p1 p2 d1 d2 g n (Err why) did rogue =
     unchanged_alone m1 m2 p1 p2 d1 d2 g (Inflate n) why (inflate_tests d1 p1 n) did.refused refl
-    did.refusal (not_no_frame (inflate_tests d1 p1 n) refl) (λ page offset bytes e. cc) rogue
+    did.refusal refl (λ page offset bytes e. cc) rogue
 
 asks_rogue : (m1 m2 : Pages) (p1 p2 : Part) (d1 d2 : DriverState) (g : Guest) (call : Call)
     (count : ℕ) (posted : Posted) → AsksBack m1 m2 p1 p2 d1 d2 count posted
@@ -145,7 +146,7 @@ asks_rogue m1 m2 p1 p2 d1 d2 g call count posted asks still other rogue =
     (ap (λ (d : DriverState). d.queue_size) asks.state)
     (ap (λ (d : DriverState). d.processors) asks.state)
     (ap (λ (d : DriverState). d.places) asks.state)) asks.part asks.posts.rest.count
-    asks.posts.rest.backing still (λ e. cc) other rogue
+    asks.posts.rest.backing still refl other rogue
 
 pub deflate_rogue : (m1 m2 : Pages) (p1 p2 : Part) (d1 d2 : DriverState) (g : Guest) (n : ℕ)
     (result : Result Posted Refusal) → DeflatesBy m1 m2 p1 p2 d1 d2 n result → Rogue m1 p1 d1 g
@@ -155,7 +156,7 @@ deflate_rogue m1 m2 p1 p2 d1 d2 g n (Ok posted) did rogue =
     (λ page offset bytes e. cc) rogue
 deflate_rogue m1 m2 p1 p2 d1 d2 g n (Err why) did rogue =
     unchanged_alone m1 m2 p1 p2 d1 d2 g (Deflate n) why (deflate_tests d1 p1 n) did.refused refl
-    did.refusal (not_no_frame (deflate_tests d1 p1 n) refl) (λ page offset bytes e. cc) rogue
+    did.refusal refl (λ page offset bytes e. cc) rogue
 
 pub oom_rogue : (m1 m2 : Pages) (p1 p2 : Part) (d1 d2 : DriverState) (g : Guest) (n : ℕ)
     (result : Result Posted Refusal) → DeflatesOnOomBy m1 m2 p1 p2 d1 d2 n result
@@ -165,7 +166,7 @@ oom_rogue m1 m2 p1 p2 d1 d2 g n (Ok posted) did rogue =
     rogue
 oom_rogue m1 m2 p1 p2 d1 d2 g n (Err why) did rogue =
     unchanged_alone m1 m2 p1 p2 d1 d2 g (Oom n) why (oom_tests d1 p1 n) did.refused refl
-    did.refusal (not_no_frame (oom_tests d1 p1 n) refl) (λ page offset bytes e. cc) rogue
+    did.refusal refl (λ page offset bytes e. cc) rogue
 
 unreported_same : (why : Refusal) (d : DriverState) → DriverSame d (unreported why d)
 unreported_same Nothing d =
@@ -185,15 +186,15 @@ report_rogue m1 m2 p1 p2 d1 d2 g from (Ok posted) did rogue =
     (ap (λ (d : DriverState). d.queue_size) reports.state)
     (ap (λ (d : DriverState). d.processors) reports.state)
     (ap (λ (d : DriverState). d.places) reports.state)) reports.part reports.posts.rest.count
-    reports.posts.rest.backing refl (λ e. cc) (λ page offset bytes e. cc) rogue
+    reports.posts.rest.backing refl refl (λ page offset bytes e. cc) rogue
 report_rogue m1 m2 p1 p2 d1 d2 g from (Err why) did rogue =
     let same = did.refused in
     part_alone m1 m2 p1 p2 d1 d2 g (Report from) (Refused why)
     (same_driver d1 (unreported why d1) d2 (unreported_same why d1) same.driver) same.part
     (ap (λ (m : Pages). length m) same.mem)
     (λ page. ap (λ (m : Pages). frame_at m page) same.mem) refl
-    (not_for_frames why (report_tests d1 p1 from) did.refusal
-    (not_no_frame (report_tests d1 p1 from) refl)) (λ page offset bytes e. cc) rogue
+    (not_for_want why (report_tests d1 p1 from) did.refusal
+    refl) (λ page offset bytes e. cc) rogue
 
 -- ---- used requests
 
@@ -225,7 +226,7 @@ failed_alone : (m1 m2 : Pages) (p1 p2 : Part) (d1 d2 : DriverState) (g : Guest) 
     (why : Refusal) (tests : List Test) → Unchanged m1 m2 (after_refusal why p1) p2 d1 d2
     → (why ≡ RingBroken → contains p1.status driver_ok ≡ true)
     → target_after call p1.target ≡ p1.target → Some why ≡ first_refusal tests
-    → first_refusal tests ≢ Some NoFrame → IsOther call → Rogue m1 p1 d1 g
+    → none_wants tests ≡ true → IsOther call → Rogue m1 p1 d1 g
     → StepsAlone (Rogue m2 p2 d2) g call (Refused why)
 failed_alone m1 m2 p1 p2 d1 d2 g call why tests same up still is none other rogue =
     subst (λ (m : Pages). StepsAlone (Rogue m p2 d2) g call (Refused why)) (sym same.mem)
@@ -233,7 +234,7 @@ failed_alone m1 m2 p1 p2 d1 d2 g call why tests same up still is none other rogu
     (rogue_alone m1 m1 p1 p2 d1 d1 g call (Refused why) rogue
     (failed_keeps why m1 p1 p2 d1 same.part up) refl (λ page. refl)
     (ap (λ (p : Part). p.target) same.part ∙ failed_target why p1 ∙ sym still)
-    (not_for_frames why tests is none) other))
+    (not_for_want why tests is none) other))
 
 reap_up : (queue up sound lacks broken : Bool) (why : Refusal)
     → Some why ≡ first_refusal ((not queue ⇒ NoQueue) ∷ (not (up && sound) ⇒ NotReady)
@@ -279,7 +280,7 @@ pub reap_rogue : (m1 m2 : Pages) (p1 p2 : Part) (d1 d2 : DriverState) (g : Guest
 reap_rogue m1 m2 p1 p2 d1 d2 g q (Ok None) did rogue =
     part_alone m1 m2 p1 p2 d1 d2 g (Reap q) _ (driver_same d1 d2 did.reaps.1) did.reaps.0
     (ap (λ (m : Pages). length m) did.mem) (λ page. ap (λ (m : Pages). frame_at m page) did.mem)
-    refl (λ e. cc) (λ page offset bytes e. cc) rogue
+    refl refl (λ page offset bytes e. cc) rogue
 reap_rogue m1 m2 p1 p2 d1 d2 g q (Ok (Some reaped)) did rogue =
     let part = did.reaps.part in
     let same : (page : ℕ) → frame_at m2 page ≡ frame_at m1 page =
@@ -299,13 +300,13 @@ reap_rogue m1 m2 p1 p2 d1 d2 g q (Ok (Some reaped)) did rogue =
       up = λ was ok. up_kept m1 m2 p1 p2 count (λ page low. same page)
           (ap (λ (p : Part). p.inflate.taken) part) (ap (λ (p : Part). p.report.taken) part)
           (was (ap (λ (p : Part). contains p.status driver_ok) (sym part) ∙ ok));
-    }) count same (ap (λ (p : Part). p.target) part) (λ e. cc) (λ page offset bytes e. cc)
+    }) count same (ap (λ (p : Part). p.target) part) refl (λ page offset bytes e. cc)
 reap_rogue m1 m2 p1 p2 d1 d2 g q (Err why) did rogue =
     failed_alone m1 m2 p1 p2 d1 d2 g (Reap q) why (reap_tests m1 p1 d1 (ring_of q d1) q)
     (record { mem = did.mem; part = did.failed; driver = did.refused })
     (reap_up (is_queue_of_requests q) (contains p1.status driver_ok) (not (is_broken p1.status))
     (lacks_feature d1.features q) (is_ring_broken m1 (ring_of q d1)) why did.refusal) refl
-    did.refusal (not_no_frame (reap_tests m1 p1 d1 (ring_of q d1) q) refl)
+    did.refusal refl
     (λ page offset bytes e. cc) rogue
 
 pub stats_rogue : (m1 m2 : Pages) (p1 p2 : Part) (d1 d2 : DriverState) (g : Guest)
@@ -319,19 +320,19 @@ stats_rogue m1 m2 p1 p2 d1 d2 g (Ok true) did rogue =
       queue_size = ap (λ (d : DriverState). d.queue_size) fills.state;
       processors = ap (λ (d : DriverState). d.processors) fills.state;
       table = ap (λ (d : DriverState). length d.places) fills.state;
-    }) fills.part fills.posts.rest.count fills.posts.rest.backing refl (λ e. cc)
+    }) fills.part fills.posts.rest.count fills.posts.rest.backing refl refl
     (λ page offset bytes e. cc) rogue
 stats_rogue m1 m2 p1 p2 d1 d2 g (Ok false) did rogue =
     let same = did.fills.unchanged in
     part_alone m1 m2 p1 p2 d1 d2 g Stats _ (driver_same d1 d2 same.driver) same.part
     (ap (λ (m : Pages). length m) same.mem)
-    (λ page. ap (λ (m : Pages). frame_at m page) same.mem) refl (λ e. cc)
+    (λ page. ap (λ (m : Pages). frame_at m page) same.mem) refl refl
     (λ page offset bytes e. cc) rogue
 stats_rogue m1 m2 p1 p2 d1 d2 g (Err why) did rogue =
     failed_alone m1 m2 p1 p2 d1 d2 g Stats why (stats_tests m1 p1 d1) did.refused
     (stats_up (contains p1.status driver_ok) (not (is_broken p1.status)) (stats_vq d1.features)
     (is_ring_broken m1 d1.statistics) why did.refusal) refl did.refusal
-    (not_no_frame (stats_tests m1 p1 d1) refl) (λ page offset bytes e. cc) rogue
+    refl (λ page offset bytes e. cc) rogue
 
 -- ---- a reset
 
@@ -364,4 +365,4 @@ reset_rogue m1 m2 p1 p2 d1 d2 g did rogue =
           cc);
     }) (ap (λ (m : Pages). length m) did.mem)
     (λ page. ap (λ (m : Pages). frame_at m page) did.mem) (ap (λ (p : Part). p.target) part)
-    (λ e. cc) (λ page offset bytes e. cc)
+    refl (λ page offset bytes e. cc)

@@ -1,5 +1,5 @@
 -- A guest that wrote past its driver is initialised; an honest guest becomes one.
-use Rattle.std.specs.Prelude.{◌≡◌, ◌≢◌, ℕ, ◌<◌, Bool, true, false, List, [], ◌∷◌, length, All, Option}
+use Rattle.std.specs.Prelude.{◌≡◌, ℕ, ◌<◌, Bool, true, false, List, [], ◌∷◌, length, All, Option}
 use Rattle.std.specs.Prelude.{Some, None, Result, Ok, Err, IsSome, MatchOption, count_by, is_none}
 use Rattle.std.specs.Prelude.{refl, ◌≤◌, is_some}
 use Rattle.std.proofs.Common.{sym, ◌∙◌, ap, subst, arith, inl, inr}
@@ -8,7 +8,7 @@ use Rattle.std.proofs.lemmas.List.Elements.{All-nil}
 use Rattle.vb_model.specs.declared.calls.Call.TheVariants.{Init}
 use Rattle.vb_model.specs.declared.calls.Claim.{Claim}
 use Rattle.vb_model.specs.declared.replies.Refusal.{Refusal}
-use Rattle.vb_model.specs.declared.replies.Refusal.TheVariants.{AlreadyUp, NoFrame}
+use Rattle.vb_model.specs.declared.replies.Refusal.TheVariants.{AlreadyUp, NoFrame, NoMemory}
 use Rattle.vb_model.specs.declared.replies.Reply.TheVariants.{Refused}
 use Rattle.vb_model.specs.Driver.{AllDistinct, given, claim_refusal, AreClaimsFor}
 use Rattle.vb_model.specs.Guest.{Guest, all_backed, stats_vq, is_ballooned}
@@ -18,6 +18,7 @@ use Rattle.vb_model.specs.Requests.{Request}
 use Rattle.vb_model.specs.Rogue.{LosesFrames}
 use Rattle.vb_model.specs.Status.{contains, driver_ok}
 use Rattle.vb_model.specs.Tests.{is_in}
+use Rattle.vb_model.proofs.Wanting.{wants, no_want, refused_otherwise}
 use Rattle.vb_ram.specs.Pages.{Pages, frame_at}
 use Rattle.vb_ram.specs.Part.{Part}
 use Rattle.vb_ram.proofs.Limits.{config_limits}
@@ -36,7 +37,6 @@ use Rattle.vb_guest.proofs.Moving.{moves_as}
 use Rattle.vb_guest.proofs.OwnBlocks.{own_pages}
 use Rattle.vb_guest.proofs.Rogues.{Keeps, DeviceSame, driver_same, rogue_after, rogue_stands}
 use Rattle.vb_guest.proofs.Rogues.{rogue_alone, rogue_steps, rogue_unclaimed, keeps_part}
-use Rattle.vb_guest.proofs.Rogues.{not_no_frame, refused_not}
 use Rattle.vb_guest.proofs.Supplying.{all_distinct, bounded, frames_given, frames_filled}
 use Rattle.vb_guest.proofs.Supplying.{supplied_count}
 use Rattle.vb_guest.proofs.Writing.{HasFrames}
@@ -46,7 +46,7 @@ pub init_up_rogue : (m : Pages) (p : Part) (d : DriverState) (g : Guest) (wanted
 init_up_rogue m p d g wanted rogue =
     rogue_alone m m p p d d g (Init wanted) _ rogue
     (keeps_part m m p p d d (driver_same d d refl) refl refl (λ page. refl)) refl (λ page. refl)
-    refl (λ e. cc) (λ page offset bytes e. cc)
+    refl refl (λ page offset bytes e. cc)
 
 pub init_unsupplied_rogue : (Answers : List Bool → Claim → Type 0) (out1 out2 : List Bool)
     (l : List Claim) (m1 m2 : Pages) (p1 p2 : Part) (d : DriverState) (g : Guest) (wanted : ℕ)
@@ -157,15 +157,15 @@ inits_leave : (m2 m3 : Pages) (p2 p3 : Part) (d1 d2 : DriverState) (wanted : ℕ
     (result : Result (Unit {0}) Refusal) → p2.status ≡ 0
     → ((page : ℕ) → page < 13 → IsSome (frame_at m2 page))
     → InitsBy m2 m3 p2 p3 d1 d2 wanted result
-    → Leaves m2 m3 p2 p3 d1 d2 × (ready_reply result ≢ Refused NoFrame)
+    → Leaves m2 m3 p2 p3 d1 d2 × (wants (ready_reply result) ≡ false)
 inits_leave m2 m3 p2 p3 d1 d2 wanted (Ok x) new backed did =
-    (started_leaves m2 m3 p2 p3 d1 d2 wanted backed did.starts, λ e. cc)
+    (started_leaves m2 m3 p2 p3 d1 d2 wanted backed did.starts, refl)
 inits_leave m2 m3 p2 p3 d1 d2 wanted (Err why) new backed did =
     let is : Some why ≡ feature_refusal wanted =
     did.refusal ∙ driver_tests m2 p2 wanted new (has_all m2 backed) in (
       stopped_leaves m2 m3 p2 p3 d1 d2 (accepted_before why wanted)
           (given_up m2 m3 p2 p3 d1 d2 wanted why (sym is) did.refused),
-      refused_not why (λ e. not_no_frame (feature_tests wanted) refl (sym is ∙ e)),
+      refused_otherwise (feature_tests wanted) why refl (sym is),
     )
 
 pub init_supplied_rogue : (Answers : List Bool → Claim → Type 0) (out1 out2 : List Bool)
@@ -234,8 +234,8 @@ init_supplied_rogue Answers out1 out2 l m1 m2 m3 p1 p2 p3 d1 d2 g wanted feature
     (λ refusal. (ready_reply result ≡ Refused refusal) × (frames ≡ g.frames)) in
     let step = rogue_steps m1 m3 p1 p3 d1 d2 g after (Init wanted) claims (ready_reply result) pages
     rogue stands refl (left.target ∙ ap (λ (p : Part). p.target) part) (inr refl) made
-    (subst P (sym did.answer) (λ page frame e. e)) (λ e. absurd (answer e))
-    (λ page offset bytes e. absurd cc) in
+    (subst P (sym did.answer) (λ page frame e. e)) (no_want _ NoFrame answer refl)
+    (no_want _ NoMemory answer refl) (λ page offset bytes e. absurd cc) in
     let same_supply : supply_of p3 out2 ≡ supply_of p2 out2 =
     ap (λ (k : Bool). record { keeps = k; own = p3.own; out = out2 }) left.flag
     ∙ ap (λ (o : List ℕ). record { keeps = p2.keeps; own = o; out = out2 }) left.numbers in

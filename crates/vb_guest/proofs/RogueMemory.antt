@@ -24,6 +24,7 @@ use Rattle.vb_model.specs.Rogue.{RogueStep, ScribbleStep, Scribbles, Scribbled, 
 use Rattle.vb_model.specs.Rogue.{LosesFrames}
 use Rattle.vb_model.specs.Status.{contains, driver_ok}
 use Rattle.vb_model.specs.Step.{HonestStep, GuestStep}
+use Rattle.vb_model.proofs.Wanting.{wants}
 use Rattle.vb_ram.specs.Pages.{Pages, frame_at, number_of, Covers, Wrote, Supplied}
 use Rattle.vb_ram.specs.Part.{Part}
 use Rattle.vb_frames.specs.declared.keeper.Refused.{Refused as KeeperRefused}
@@ -146,16 +147,20 @@ as_rogue keeps m p d g stands = by_guest keeps m p d g stands
 pub read_rogue : (m : Pages) (p : Part) (d : DriverState) (g : Guest) (page off len : ℕ)
     (reply : Reply) → reply ≢ Refused NoFrameLeft → Rogue m p d g
     → StepsAlone (Rogue m p d) g (Read page off len) reply
-read_rogue m p d g page off len reply answer rogue =
-    rogue_alone m m p p d d g (Read page off len) reply rogue
-    (keeps_part m m p p d d (driver_same d d refl) refl refl (λ page. refl)) refl (λ page. refl)
-    refl answer (λ page offset bytes e. cc)
+read_rogue m p d g page off len reply answer rogue = record {
+  new = g;
+  stands = rogue;
+  step = rogue_steps m m p p d d g g (Read page off len) [] reply [] rogue rogue refl refl
+      (inl refl) tt (λ page frame e. e) (λ e. absurd (answer e)) (λ e. (inr refl, refl))
+      (λ page offset bytes e. absurd cc);
+  frames = refl;
+}
 
 -- frames are as they were
 pub write_rogue : (m1 m2 : Pages) (p1 p2 : Part) (d : DriverState) (g : Guest) (page off : ℕ)
     (bs : List ℕ) (reply : Reply) → length m2 ≡ length m1
     → ((page : ℕ) → frame_at m2 page ≡ frame_at m1 page) → p2 ≡ p1
-    → reply ≢ Refused NoFrameLeft → Rogue m1 p1 d g
+    → wants reply ≡ false → Rogue m1 p1 d g
     → StepsAlone (Rogue m2 p2 d) g (Write page off bs) reply
 write_rogue m1 m2 p1 p2 d g page off bs reply count same part answer rogue =
     rogue_alone m1 m2 p1 p2 d d g (Write page off bs) reply rogue
@@ -251,7 +256,7 @@ write_supplied_rogue Answers out1 out2 m1 m2 m3 m4 p1 p2 p3 p4 d g page off fram
       stands = stands;
       step = rogue_steps m1 m4 p1 p4 d d g new (Write page off bs) (Gave frame ∷ []) Done
           (page ∷ []) rogue stands refl (ap (λ (p : Part). p.target) (pc ∙ pb ∙ pa))
-          (inr (sym needs)) tt (λ page frame e. e) (λ e. absurd cc)
+          (inr (sym needs)) tt (λ page frame e. e) (λ e. absurd cc) (λ e. absurd cc)
           (λ page offset bytes e. absurd cc);
       answered = (supply_of p2 out2, answer, tt);
       moves = supplied_moves Answers out1 out2 m1 p1 p2 p4 g new page frame answer (pc ∙ pb)
@@ -364,7 +369,8 @@ scribble_step m1 m2 p1 p2 d g new page off bs claims keeps stands rogue config t
     λ o. MatchOption o (LosesFrames filled new.frames)
     (λ refusal. (Done ≡ Refused refusal) × (new.frames ≡ g.frames)) in
     subst F (sym all) (λ q frame e. ap (λ (l : List (Option ℕ)). frame_of l q) (sym frames) ∙ e))
-    (λ e. absurd cc) (λ q o b e. same_scribble page off bs q o b g claims Done new e step))
+    (λ e. absurd cc) (λ e. absurd cc)
+    (λ q o b e. same_scribble page off bs q o b g claims Done new e step))
 
 -- a page that has a frame, or no bytes, needs none
 needs_nothing : (m : Pages) (g : Guest) (page : ℕ) (bs : List ℕ)
@@ -420,7 +426,7 @@ scribble_outside keeps m1 m2 p1 p2 d g page off bs stands m p out =
       stands = same;
       step = rogue_steps m1 m2 p1 p2 d d g g (Scribble page off bs) [] (Refused OutOfRam) [] rogue
           same refl (ap (λ (x : Part). x.target) p) (inl refl) tt (λ q frame e. e) (λ e. absurd cc)
-          (λ q o b e. same_scribble page off bs q o b g [] (Refused OutOfRam) g e step);
+          (λ e. absurd cc) (λ q o b e. same_scribble page off bs q o b g [] (Refused OutOfRam) g e step);
       frames = refl;
     }))
   where

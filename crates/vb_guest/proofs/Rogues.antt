@@ -7,17 +7,18 @@ use Rattle.vb_model.specs.declared.calls.Call.{Call}
 use Rattle.vb_model.specs.declared.calls.Call.TheVariants.{Scribble}
 use Rattle.vb_model.specs.declared.calls.Claim.{Claim}
 use Rattle.vb_model.specs.declared.replies.Refusal.{Refusal}
-use Rattle.vb_model.specs.declared.replies.Refusal.TheVariants.{NoFrame}
+use Rattle.vb_model.specs.declared.replies.Refusal.TheVariants.{NoFrame, NoMemory}
 use Rattle.vb_model.specs.declared.replies.Reply.{Reply}
 use Rattle.vb_model.specs.declared.replies.Reply.TheVariants.{Refused}
 use Rattle.vb_model.specs.Limits.{reserved_pages}
 use Rattle.vb_model.specs.Pages.{is_lent_or_taking}
 use Rattle.vb_model.specs.Status.{contains, driver_ok}
-use Rattle.vb_model.specs.FirstRefusal.{Test, first_refusal}
 use Rattle.vb_model.specs.Guest.{Guest, frame_of, is_ballooned, all_backed}
 use Rattle.vb_model.specs.Driver.{given, claim_refusal, AreClaimsFor}
 use Rattle.vb_model.specs.Rogue.{RogueStep, ScribbleStep, LosesFrames, may_need, target_after}
+use Rattle.vb_model.specs.Rogue.{is_read}
 use Rattle.vb_model.specs.Step.{HonestStep, GuestStep}
+use Rattle.vb_model.proofs.Wanting.{wants, no_want}
 use Rattle.vb_ram.specs.Pages.{Pages, frame_at}
 use Rattle.vb_ram.specs.Part.{Part}
 use Rattle.vb_driver.specs.State.{DriverState}
@@ -130,11 +131,13 @@ pub rogue_steps : (m1 m2 : Pages) (p1 p2 : Part) (d1 d2 : DriverState) (g new : 
     (LosesFrames (all_backed pages (given claims) g.frames) new.frames)
     (λ refusal. (reply ≡ Refused refusal) × (new.frames ≡ g.frames))
     → (reply ≡ Refused NoFrame → claim_refusal claims ≡ Some NoFrame)
+    → (reply ≡ Refused NoMemory
+    → ((claim_refusal claims ≡ Some NoMemory) ⊎ (is_read call ≡ true)) × (new ≡ g))
     → ((page offset : ℕ) (bytes : List ℕ) → call ≡ Scribble page offset bytes
     → ScribbleStep page offset bytes g claims reply new)
     → GuestStep g call claims reply new
 rogue_steps m1 m2 p1 p2 d1 d2 g new call claims reply pages old after config target needed claimed
-    frames no_frame scribble =
+    frames no_frame no_memory scribble =
     let step : RogueStep g call claims reply new = record {
       stays = record {
         still = after.rogue;
@@ -153,6 +156,7 @@ rogue_steps m1 m2 p1 p2 d1 d2 g new call claims reply pages old after config tar
       claimed = claimed;
       frames = frames;
       no_frame = no_frame;
+      no_memory = no_memory;
       scribble = scribble;
     } in
     let P : Bool → Type 0 =
@@ -163,27 +167,27 @@ rogue_steps m1 m2 p1 p2 d1 d2 g new call claims reply pages old after config tar
 pub rogue_step : (m1 m2 : Pages) (p1 p2 : Part) (d1 d2 : DriverState) (g : Guest)
     (frames : List (Option ℕ)) (call : Call) (reply : Reply) → Rogue m1 p1 d1 g
     → Rogue m2 p2 d2 (rogue_after g frames p2 d2) → p2.target ≡ target_after call p1.target
-    → LosesFrames g.frames frames → reply ≢ Refused NoFrame → IsOther call
+    → LosesFrames g.frames frames → wants reply ≡ false → IsOther call
     → GuestStep g call [] reply (rogue_after g frames p2 d2)
-rogue_step m1 m2 p1 p2 d1 d2 g frames call reply old new target loses no_frame other =
+rogue_step m1 m2 p1 p2 d1 d2 g frames call reply old new target loses answer other =
     rogue_steps m1 m2 p1 p2 d1 d2 g (rogue_after g frames p2 d2) call [] reply [] old new refl
-    target (inl refl) tt loses (λ e. absurd (no_frame e))
-    (λ page offset bytes e. absurd (other page offset bytes e))
+    target (inl refl) tt loses (no_want reply NoFrame answer refl)
+    (no_want reply NoMemory answer refl) (λ page offset bytes e. absurd (other page offset bytes e))
 
 -- and no page changes its frame
 pub rogue_alone : (m1 m2 : Pages) (p1 p2 : Part) (d1 d2 : DriverState) (g : Guest) (call : Call)
     (reply : Reply) → Rogue m1 p1 d1 g → Keeps m1 m2 p1 p2 d1 d2 → length m2 ≡ length m1
     → ((page : ℕ) → frame_at m2 page ≡ frame_at m1 page)
-    → p2.target ≡ target_after call p1.target → reply ≢ Refused NoFrame → IsOther call
+    → p2.target ≡ target_after call p1.target → wants reply ≡ false → IsOther call
     → StepsAlone (Rogue m2 p2 d2) g call reply
-rogue_alone m1 m2 p1 p2 d1 d2 g call reply rogue keeps count same target no_frame other =
+rogue_alone m1 m2 p1 p2 d1 d2 g call reply rogue keeps count same target answer other =
     let stands = rogue_stands m1 m2 p1 p2 d1 d2 g g.frames rogue keeps count refl
     (λ page. same page ∙ rogue.behind page) in
     record {
       new = rogue_after g g.frames p2 d2;
       stands = stands;
       step = rogue_step m1 m2 p1 p2 d1 d2 g g.frames call reply rogue stands target
-          (λ page frame e. e) no_frame other;
+          (λ page frame e. e) answer other;
       frames = refl;
     }
 
@@ -213,42 +217,6 @@ keeps_part m1 m2 p1 p2 d1 d2 driver part count same = record {
       (ap (λ (p : Part). p.inflate.taken) part) (ap (λ (p : Part). p.report.taken) part)
       (up (ap (λ (p : Part). contains p.status driver_ok) (sym part) ∙ ok));
 }
-
--- ---- which refusals there are
-
-abbrev is_no_frame : Refusal → Bool
-is_no_frame NoFrame = true
-is_no_frame _ = false
-
--- none of these tests is for want of frames
-abbrev pub are_others : List Test → Bool
-are_others [] = true
-are_others (test ∷ tests) = if is_no_frame test.refusal then false else are_others tests
-
-pub not_no_frame : (tests : List Test) → are_others tests ≡ true
-    → first_refusal tests ≢ Some NoFrame
-not_no_frame [] e first = cc
-not_no_frame (test ∷ tests) e first =
-    step test.holds test.refusal (λ rest. not_no_frame tests rest) e first
-  where
-    others : (b x : Bool) → (if b then false else x) ≡ true → x ≡ true
-    others true x e = absurd cc
-    others false x e = e
-
-    step : (holds : Bool) (why : Refusal)
-        → (are_others tests ≡ true → first_refusal tests ≢ Some NoFrame)
-        → (if is_no_frame why then false else are_others tests) ≡ true
-        → (if holds then Some why else first_refusal tests) ≡ Some NoFrame → ⊥
-    step true why rest e first =
-        let is : why ≡ NoFrame = cc in
-        let P : Refusal → Type 0 =
-        λ (w : Refusal). (if is_no_frame w then false else are_others tests) ≡ true in
-        let wrong : false ≡ true = subst P is e in
-        cc
-    step false why rest e first = rest (others (is_no_frame why) (are_others tests) e) first
-
-pub refused_not : (why : Refusal) → Some why ≢ Some NoFrame → Refused why ≢ Refused NoFrame
-refused_not why ne e = ne (let same : why ≡ NoFrame = cc in ap (λ (w : Refusal). Some w) same)
 
 -- ---- frames that it claims
 
@@ -308,7 +276,11 @@ rogue_unclaimed Answers out1 out2 m1 m2 p1 p2 d g call claims why rogue memory p
           stands refl (ap (λ (p : Part). p.target) part ∙ sym still) (inr refl) made
           (subst P (sym refused) (refl, refl))
           (λ e. refused ∙ ap (λ (r : Refusal). Some r) (let same : why ≡ NoFrame = cc in same))
-          scribble;
+          (λ e. (
+            inl (refused
+                ∙ ap (λ (r : Refusal). Some r) (let same : why ≡ NoMemory = cc in same)),
+            refl,
+          )) scribble;
       answered = answered;
       moves = moves_as (supply_of p1 out1) (supply_of p2 out2) nothing nothing
           (λ n. backing_count n g) (λ n. backing_count n g) moves (λ n. omega arith);

@@ -147,6 +147,7 @@ frames_may_go = record {
   claimed = tt;
   frames = none_gained;
   no_frame = λ e. cc;
+  no_memory = λ e. absurd cc;
   scribble = λ page offset bytes e. cc;
 }
 
@@ -185,3 +186,21 @@ target_is_set reply new s = s.target
 no_frame_without_a_claim : (new : Guest)
     → RogueStep after (Write 18 0 (1 ∷ [])) [] (Refused NoFrame) new → ⊥
 no_frame_without_a_claim new s = let e : None ≡ Some NoFrame = s.no_frame refl in cc
+
+-- one for want of memory too, or a read, and it changes nothing
+no_memory_without_a_claim : (new : Guest)
+    → RogueStep after (Write 18 0 (1 ∷ [])) [] (Refused NoMemory) new → ⊥
+no_memory_without_a_claim new s = elim (s.no_memory refl).0 [
+  | inl claimed ↦ (let e : None ≡ Some NoMemory = claimed in cc)
+  | inr read ↦ cc
+]
+
+no_memory_for_a_take : (new : Guest) → RogueStep after (Take 0) [] (Refused NoMemory) new → ⊥
+no_memory_for_a_take new s = elim (s.no_memory refl).0 [
+  | inl claimed ↦ (let e : None ≡ Some NoMemory = claimed in cc)
+  | inr read ↦ cc
+]
+
+no_memory_keeps_all : (new : Guest)
+    → RogueStep after (Read 17 0 1) [] (Refused NoMemory) new → new ≡ after
+no_memory_keeps_all new s = (s.no_memory refl).1

@@ -1,4 +1,4 @@
--- Which calls claim frames, and what a refusal for want of frames means.
+-- Which calls claim frames, and what a refusal for want of frames or of memory means.
 use Rattle.std.proofs.Common.{◌≡◌, ℕ, ◌<◌, Bool, true, false, cond, List, [], ◌∷◌, length, refl}
 use Rattle.std.proofs.Common.{sym, ap, subst, ◌∙◌, ◌⊎◌, inl, inr, arith}
 use Rattle.std.specs.Prelude.{◌==◌, ◌||◌, not, Option, Some, None, MatchBool, is_none}
@@ -13,7 +13,7 @@ use Rattle.vb_model.specs.declared.calls.Claim.{Claim}
 use Rattle.vb_model.specs.declared.calls.Claim.TheVariants.{Gave, GaveNoFrame, GaveNoMemory}
 use Rattle.vb_model.specs.declared.calls.Event.TheVariants.{Guest as OnGuest}
 use Rattle.vb_model.specs.declared.replies.Refusal.{Refusal}
-use Rattle.vb_model.specs.declared.replies.Refusal.TheVariants.{NoFrame}
+use Rattle.vb_model.specs.declared.replies.Refusal.TheVariants.{NoFrame, NoMemory}
 use Rattle.vb_model.specs.declared.replies.Reply.{Reply}
 use Rattle.vb_model.specs.declared.replies.Reply.TheVariants.{Refused}
 use Rattle.vb_model.specs.Tests.{is_in}
@@ -25,11 +25,12 @@ use Rattle.vb_model.specs.Driver.{given, claim_refusal, AreClaimsFor, Supplying,
 use Rattle.vb_model.specs.Driver.{Written, pages_needed}
 use Rattle.vb_model.specs.Device.{Takes, TakesBuffer, Finishes, Asks, next_page}
 use Rattle.vb_model.specs.Life.{feature_tests, feature_refusal, Negotiates, lacking}
-use Rattle.vb_model.specs.Rogue.{LosesFrames, RogueStep, Scribbled, may_need}
+use Rattle.vb_model.specs.Rogue.{LosesFrames, RogueStep, Scribbled, may_need, is_read}
 use Rattle.vb_model.specs.Step.{Performs, HonestStep, GuestStep}
 use Rattle.vb_model.specs.World.{Happens, Calls, Gives, IsOut, guest_at, world_tests}
 use Rattle.vb_model.specs.StepLaws.{ClaimsAreNeeded, FramesEnterByClaims, RefusedClaimsAreAnswered}
 use Rattle.vb_model.specs.StepLaws.{NeededPagesAreBare, NoFrameIsExact, WantOfFrames}
+use Rattle.vb_model.specs.StepLaws.{NoMemoryIsExact}
 use Rattle.vb_model.proofs.Tables.{list_all-at}
 use Rattle.vb_model.proofs.CallSteps.{match_cases, works_cases, all_filtered, supplied}
 use Rattle.vb_model.proofs.Frames.{FramesMove, backed_cases, honest_move, rogue_move}
@@ -276,31 +277,32 @@ want frames Out (page ∷ pages) (Gave f ∷ claims) gives a r =
     later x got (inl (inr e)) = inr (or_first (f == x) (is_in x got) (eq-eqb f x (sym e)))
     later x got (inr k) = inr (or_later (f == x) (is_in x got) k)
 
--- a reply that is no refusal for want of a frame
-abbrev is_no_frame : Refusal → Bool
-is_no_frame NoFrame = true
-is_no_frame _ = false
+-- a reply that is a refusal for want of a frame, or of memory
+abbrev pub is_want : Refusal → Bool
+is_want NoFrame = true
+is_want NoMemory = true
+is_want _ = false
 
-abbrev wants_frame : Reply → Bool
-wants_frame (Refused refusal) = is_no_frame refusal
-wants_frame _ = false
+abbrev pub wants : Reply → Bool
+wants (Refused refusal) = is_want refusal
+wants _ = false
 
-abbrev none_wants : List Test → Bool
-none_wants ts = list_all (λ t. not (is_no_frame t.refusal)) ts
+abbrev pub none_wants : List Test → Bool
+none_wants ts = list_all (λ t. not (is_want t.refusal)) ts
 
-refused_otherwise : (ts : List Test) (refusal : Refusal) → none_wants ts ≡ true
-    → first_refusal ts ≡ Some refusal → is_no_frame refusal ≡ false
+pub refused_otherwise : (ts : List Test) (refusal : Refusal) → none_wants ts ≡ true
+    → first_refusal ts ≡ Some refusal → is_want refusal ≡ false
 refused_otherwise [] refusal h e = absurd cc
 refused_otherwise (t ∷ ts) refusal h e = step t.holds e (refused_otherwise ts refusal)
   where
     step : (v : Bool) → cond v (Some t.refusal) (first_refusal ts) ≡ Some refusal
-        → (none_wants ts ≡ true → first_refusal ts ≡ Some refusal → is_no_frame refusal ≡ false)
-        → is_no_frame refusal ≡ false
+        → (none_wants ts ≡ true → first_refusal ts ≡ Some refusal → is_want refusal ≡ false)
+        → is_want refusal ≡ false
     step true e ih =
         let same : t.refusal ≡ refusal = cc in
-        ap is_no_frame (sym same)
-        ∙ not-true _ (and_parts (not (is_no_frame t.refusal)) (none_wants ts) h).0
-    step false e ih = ih (and_parts (not (is_no_frame t.refusal)) (none_wants ts) h).1 e
+        ap is_want (sym same)
+        ∙ not-true _ (and_parts (not (is_want t.refusal)) (none_wants ts) h).0
+    step false e ih = ih (and_parts (not (is_want t.refusal)) (none_wants ts) h).1 e
 
 tests_otherwise : (g : Guest) (call : Call) → none_wants (tests g call) ≡ true
 tests_otherwise g (Init wanted) = refl
@@ -324,146 +326,171 @@ tests_otherwise g Ask = refl
 tests_otherwise g (SetTarget n) = refl
 
 fills_otherwise : (buffer : Buffer) (g : Guest) (reply : Reply) (new : Guest)
-    → Fills buffer g reply new → wants_frame reply ≡ false
-fills_otherwise NoBuffer g reply new s = ap wants_frame s.0
-fills_otherwise (BufferPosted f) g reply new s = ap wants_frame s.0
-fills_otherwise (BufferTaken f) g reply new s = ap wants_frame s.0
-fills_otherwise (BufferDone f) g reply new s = ap wants_frame s.0
+    → Fills buffer g reply new → wants reply ≡ false
+fills_otherwise NoBuffer g reply new s = ap wants s.0
+fills_otherwise (BufferPosted f) g reply new s = ap wants s.0
+fills_otherwise (BufferTaken f) g reply new s = ap wants s.0
+fills_otherwise (BufferDone f) g reply new s = ap wants s.0
 
 takes_buffer_otherwise : (buffer : Buffer) (g : Guest) (reply : Reply) (new : Guest)
-    → TakesBuffer buffer g reply new → wants_frame reply ≡ false
-takes_buffer_otherwise NoBuffer g reply new s = ap wants_frame s.0
-takes_buffer_otherwise (BufferPosted f) g reply new s = ap wants_frame s.0
-takes_buffer_otherwise (BufferTaken f) g reply new s = ap wants_frame s.0
-takes_buffer_otherwise (BufferDone f) g reply new s = ap wants_frame s.0
+    → TakesBuffer buffer g reply new → wants reply ≡ false
+takes_buffer_otherwise NoBuffer g reply new s = ap wants s.0
+takes_buffer_otherwise (BufferPosted f) g reply new s = ap wants s.0
+takes_buffer_otherwise (BufferTaken f) g reply new s = ap wants s.0
+takes_buffer_otherwise (BufferDone f) g reply new s = ap wants s.0
 
 asks_otherwise : (buffer : Buffer) (g : Guest) (reply : Reply) (new : Guest)
-    → Asks buffer g reply new → wants_frame reply ≡ false
+    → Asks buffer g reply new → wants reply ≡ false
 asks_otherwise NoBuffer g reply new s = absurd s
 asks_otherwise (BufferPosted f) g reply new s = absurd s
-asks_otherwise (BufferTaken f) g reply new s = ap wants_frame s.0
+asks_otherwise (BufferTaken f) g reply new s = ap wants s.0
 asks_otherwise (BufferDone f) g reply new s = absurd s
 
 reaps_otherwise : (kind : Kind) (done : List Request) (g : Guest) (reply : Reply) (new : Guest)
-    → Reaps kind done g reply new → wants_frame reply ≡ false
-reaps_otherwise kind [] g reply new s = ap wants_frame s.0
-reaps_otherwise kind (r ∷ rest) g reply new s = ap wants_frame s.0
+    → Reaps kind done g reply new → wants reply ≡ false
+reaps_otherwise kind [] g reply new s = ap wants s.0
+reaps_otherwise kind (r ∷ rest) g reply new s = ap wants s.0
 
 takes_otherwise : (kind : Kind) (posted : List Request) (g : Guest) (reply : Reply) (new : Guest)
-    → Takes kind posted g reply new → wants_frame reply ≡ false
-takes_otherwise kind [] g reply new s = ap wants_frame s.0
-takes_otherwise kind (r ∷ rest) g reply new s = ap wants_frame s.0
+    → Takes kind posted g reply new → wants reply ≡ false
+takes_otherwise kind [] g reply new s = ap wants s.0
+takes_otherwise kind (r ∷ rest) g reply new s = ap wants s.0
 
 negotiates_otherwise : (wanted : ℕ) (o : Option Refusal) (g : Guest) (reply : Reply) (new : Guest)
-    → feature_refusal wanted ≡ o → Negotiates o wanted g reply new → wants_frame reply ≡ false
-negotiates_otherwise wanted None g reply new e s = ap wants_frame s.0
+    → feature_refusal wanted ≡ o → Negotiates o wanted g reply new → wants reply ≡ false
+negotiates_otherwise wanted None g reply new e s = ap wants s.0
 negotiates_otherwise wanted (Some refusal) g reply new e s =
-    ap wants_frame s.0 ∙ refused_otherwise (feature_tests wanted) refusal refl e
+    ap wants s.0 ∙ refused_otherwise (feature_tests wanted) refusal refl e
 
--- the claims that a call for these pages made ended without a frame
-abbrev Lacks : List ℕ → List Claim → Type 0
-Lacks pages claims = AreClaimsFor pages claims × (claim_refusal claims ≡ Some NoFrame)
+-- the claims that a call for these pages made ended so, and nothing is changed
+abbrev Lacks : Refusal → List ℕ → Guest → List Claim → Guest → Type 0
+Lacks why pages g claims new =
+    AreClaimsFor pages claims × (claim_refusal claims ≡ Some why) × (new ≡ g)
+
+-- or the bytes of its answer found no memory
+abbrev Fails : Refusal → Call → Guest → List Claim → Guest → Type 0
+Fails why call g claims new =
+    Lacks why (may_need call g) g claims new
+    ⊎ ((is_read call ≡ true) × (why ≡ NoMemory) × (new ≡ g))
 
 supplies_lack : (pages : List ℕ) (g : Guest) (claims : List Claim) (reply : Reply) (new : Guest)
-    (Rest : Guest → Type 0) → Supplying pages g claims reply new Rest
-    → ((m : Guest) → Rest m → wants_frame reply ≡ false) → reply ≡ Refused NoFrame
-    → Lacks pages claims
-supplies_lack pages g claims reply new Rest s rest e =
+    (why : Refusal) (Rest : Guest → Type 0) → Supplying pages g claims reply new Rest
+    → ((m : Guest) → Rest m → wants reply ≡ false) → is_want why ≡ true → reply ≡ Refused why
+    → Lacks why pages g claims new
+supplies_lack pages g claims reply new why Rest s rest w e =
     elim (match_cases (claim_refusal claims) (Rest (supplied pages claims g))
     (λ refusal. (reply ≡ Refused refusal) × (new ≡ g)) s.1) [
-      | inl m ↦ absurd (let a : wants_frame reply ≡ false = rest _ m.1 in
-          let b : wants_frame reply ≡ true = ap wants_frame e in cc)
+      | inl m ↦ absurd (let a : wants reply ≡ false = rest _ m.1 in
+          let b : wants reply ≡ true = ap wants e ∙ w in cc)
       | inr r ↦
-          let told : Refused r.0 ≡ Refused NoFrame = sym r.2.0 ∙ e in
-          let same : r.0 ≡ NoFrame = cc in
-          (s.0, r.1 ∙ ap (λ (x : Refusal). some_refusal x) same)
+          let told : Refused r.0 ≡ Refused why = sym r.2.0 ∙ e in
+          let same : r.0 ≡ why = cc in
+          (s.0, r.1 ∙ ap (λ (x : Refusal). some_refusal x) same, r.2.1)
     ]
   where
     some_refusal : Refusal → Option Refusal
     some_refusal x = Some x
 
-otherwise : (reply : Reply) → wants_frame reply ≡ false → reply ≡ Refused NoFrame → ⊥
-otherwise reply f e = let t : wants_frame reply ≡ true = ap wants_frame e in cc
+-- a reply that is no such refusal isn't this one
+pub no_want : {A : Type 0} (reply : Reply) (why : Refusal) → wants reply ≡ false
+    → is_want why ≡ true → reply ≡ Refused why → A
+no_want reply why f w e = absurd (let t : wants reply ≡ true = ap wants e ∙ w in cc)
+
+reads_none : (page offset len : ℕ) (g : Guest) (claims : List Claim) (new : Guest) (why : Refusal)
+    → Refused NoMemory ≡ Refused why → new ≡ g → Fails why (Read page offset len) g claims new
+reads_none page offset len g claims new why e same =
+    let is : why ≡ NoMemory = cc in inr (refl, is, same)
 
 performs_lack : (call : Call) (g : Guest) (claims : List Claim) (reply : Reply) (new : Guest)
-    → Performs call g claims reply new → reply ≡ Refused NoFrame → Lacks (may_need call g) claims
-performs_lack (Init wanted) g claims reply new s e =
-    supplies_lack (lacking g) g claims reply new
+    (why : Refusal) → Performs call g claims reply new → is_want why ≡ true
+    → reply ≡ Refused why → Fails why call g claims new
+performs_lack (Init wanted) g claims reply new why s w e =
+    inl (supplies_lack (lacking g) g claims reply new why
     (λ m. Negotiates (feature_refusal wanted) wanted m reply new) s
-    (λ m r. negotiates_otherwise wanted (feature_refusal wanted) m reply new refl r) e
-performs_lack (Write page offset bytes) g claims reply new s e =
-    supplies_lack (pages_needed page bytes g) g claims reply new
-    (λ m. Written page offset bytes m reply new) s (λ m r. ap wants_frame r.0) e
-performs_lack (Scribble page offset bytes) g claims reply new s e =
-    supplies_lack (pages_needed page bytes g) g claims reply new (λ m. Scribbled m reply new) s
-    (λ m r. ap wants_frame r.answered) e
-performs_lack (SetTarget n) g claims reply new s e = absurd (otherwise reply (ap wants_frame s.1) e)
-performs_lack Reset g claims reply new s e = absurd (otherwise reply (ap wants_frame s.1) e)
-performs_lack (Read page offset len) g claims reply new s e =
-    absurd (otherwise reply (elim s.1 [ inl k ↦ ap wants_frame k | inr k ↦ ap wants_frame k ]) e)
-performs_lack (Sweep page) g claims reply new s e =
-    absurd (otherwise reply (ap wants_frame s.1.0) e)
-performs_lack (Alloc cpu order) g claims reply new s e =
-    absurd (otherwise reply (ap wants_frame s.1.2) e)
-performs_lack (Free cpu start order) g claims reply new s e =
-    absurd (otherwise reply (ap wants_frame s.1) e)
-performs_lack (Inflate n) g claims reply new s e = absurd (otherwise reply (ap wants_frame s.1.6) e)
-performs_lack (Deflate n) g claims reply new s e = absurd (otherwise reply (ap wants_frame s.1.2) e)
-performs_lack (Oom n) g claims reply new s e = absurd (otherwise reply (ap wants_frame s.1.2) e)
-performs_lack (Report from) g claims reply new s e =
-    absurd (otherwise reply (ap wants_frame s.1.2) e)
-performs_lack Stats g claims reply new s e =
-    absurd (otherwise reply (fills_otherwise g.buffer g reply new s.1) e)
-performs_lack Ask g claims reply new s e =
-    absurd (otherwise reply (asks_otherwise g.buffer g reply new s.1) e)
-performs_lack (Reap q) g claims reply new s e =
+    (λ m r. negotiates_otherwise wanted (feature_refusal wanted) m reply new refl r) w e)
+performs_lack (Write page offset bytes) g claims reply new why s w e =
+    inl (supplies_lack (pages_needed page bytes g) g claims reply new why
+    (λ m. Written page offset bytes m reply new) s (λ m r. ap wants r.0) w e)
+performs_lack (Scribble page offset bytes) g claims reply new why s w e =
+    inl (supplies_lack (pages_needed page bytes g) g claims reply new why
+    (λ m. Scribbled m reply new) s (λ m r. ap wants r.answered) w e)
+performs_lack (SetTarget n) g claims reply new why s w e = no_want reply why (ap wants s.1) w e
+performs_lack Reset g claims reply new why s w e = no_want reply why (ap wants s.1) w e
+performs_lack (Read page offset len) g claims reply new why s w e =
+    elim s.1 [
+      | inl k ↦ no_want reply why (ap wants k) w e
+      | inr k ↦ reads_none page offset len g claims new why (sym k ∙ e) s.2
+    ]
+performs_lack (Sweep page) g claims reply new why s w e =
+    no_want reply why (ap wants s.1.0) w e
+performs_lack (Alloc cpu order) g claims reply new why s w e =
+    no_want reply why (ap wants s.1.2) w e
+performs_lack (Free cpu start order) g claims reply new why s w e =
+    no_want reply why (ap wants s.1) w e
+performs_lack (Inflate n) g claims reply new why s w e = no_want reply why (ap wants s.1.6) w e
+performs_lack (Deflate n) g claims reply new why s w e = no_want reply why (ap wants s.1.2) w e
+performs_lack (Oom n) g claims reply new why s w e = no_want reply why (ap wants s.1.2) w e
+performs_lack (Report from) g claims reply new why s w e =
+    no_want reply why (ap wants s.1.2) w e
+performs_lack Stats g claims reply new why s w e =
+    no_want reply why (fills_otherwise g.buffer g reply new s.1) w e
+performs_lack Ask g claims reply new why s w e =
+    no_want reply why (asks_otherwise g.buffer g reply new s.1) w e
+performs_lack (Reap q) g claims reply new why s w e =
     elim (match_cases (kind_of_queue q) ⊥ (λ kind. Reaps kind (requests kind g).done g reply new)
     s.1) [
       | inl n ↦ absurd n.1
-      | inr k ↦ absurd (otherwise reply (reaps_otherwise k.0 (requests k.0 g).done g reply new k.2)
-          e)
+      | inr k ↦ no_want reply why (reaps_otherwise k.0 (requests k.0 g).done g reply new k.2) w e
     ]
-performs_lack (Take q) g claims reply new s e =
+performs_lack (Take q) g claims reply new why s w e =
     elim (match_cases (kind_of_queue q) (TakesBuffer g.buffer g reply new)
     (λ kind. Takes kind (requests kind g).posted g reply new) s.1) [
-      | inl n ↦ absurd (otherwise reply (takes_buffer_otherwise g.buffer g reply new n.1) e)
-      | inr k ↦ absurd (otherwise reply
-          (takes_otherwise k.0 (requests k.0 g).posted g reply new k.2) e)
+      | inl n ↦ no_want reply why (takes_buffer_otherwise g.buffer g reply new n.1) w e
+      | inr k ↦ no_want reply why
+          (takes_otherwise k.0 (requests k.0 g).posted g reply new k.2) w e
     ]
-performs_lack Work g claims reply new s e =
+performs_lack Work g claims reply new why s w e =
     elim (works_cases (cond g.config.paced (next_page g.inflate.taken) None)
     (cond g.config.paced (next_page g.report.taken) None) g reply new s.1) [
-      | inl i ↦ absurd (otherwise reply (ap wants_frame i.0) e)
-      | inr v ↦ absurd (otherwise reply (ap wants_frame v.2.0) e)
+      | inl i ↦ no_want reply why (ap wants i.0) w e
+      | inr v ↦ no_want reply why (ap wants v.2.0) w e
     ]
-performs_lack (Finish q i) g claims reply new s e =
+performs_lack (Finish q i) g claims reply new why s w e =
     elim (match_cases (kind_of_queue q) ⊥ (λ kind. Finishes kind i g reply new) s.1) [
       | inl n ↦ absurd n.1
-      | inr k ↦ absurd (otherwise reply (ap wants_frame k.2.2) e)
+      | inr k ↦ no_want reply why (ap wants k.2.2) w e
     ]
 
+-- the claims that a call for these pages made ended without a frame
+abbrev NoneLeft : List ℕ → List Claim → Type 0
+NoneLeft pages claims = AreClaimsFor pages claims × (claim_refusal claims ≡ Some NoFrame)
+
 step_lacks : (g : Guest) (call : Call) (claims : List Claim) (new : Guest)
-    → GuestStep g call claims (Refused NoFrame) new → Lacks (may_need call g) claims
+    → GuestStep g call claims (Refused NoFrame) new → NoneLeft (may_need call g) claims
 step_lacks g call claims new s = cases g.rogue s
   where
     rogue : (pages : List ℕ) → (pages ≡ []) ⊎ (pages ≡ may_need call g) → AreClaimsFor pages claims
-        → claim_refusal claims ≡ Some NoFrame → Lacks (may_need call g) claims
+        → claim_refusal claims ≡ Some NoFrame → NoneLeft (may_need call g) claims
     rogue pages (inl e) a r =
         absurd (let none : claim_refusal claims
         ≡ None = ap claim_refusal (no_claims pages claims e a) in cc)
     rogue pages (inr e) a r = (subst (λ (ps : List ℕ). AreClaimsFor ps claims) e a, r)
 
     cases : (b : Bool) → MatchBool b (RogueStep g call claims (Refused NoFrame) new)
-        (HonestStep g call claims (Refused NoFrame) new) → Lacks (may_need call g) claims
+        (HonestStep g call claims (Refused NoFrame) new) → NoneLeft (may_need call g) claims
     cases true r = rogue r.pages r.needed r.claimed (r.no_frame refl)
     cases false p =
         elim (match_cases (refusal_of g call) (Performs call g claims (Refused NoFrame) new)
         (λ refusal. (claims ≡ []) × (Refused NoFrame ≡ Refused refusal) × (new ≡ g)) p) [
-          | inl d ↦ performs_lack call g claims (Refused NoFrame) new d.1 refl
+          | inl d ↦
+              elim (performs_lack call g claims (Refused NoFrame) new NoFrame d.1 refl refl) [
+                | inl lacks ↦ (lacks.0, lacks.1)
+                | inr read ↦ absurd (let e : NoFrame ≡ NoMemory = read.1 in cc)
+              ]
           | inr r ↦ absurd (let told : Refused NoFrame ≡ Refused r.0 = r.2.1 in
-              let f : is_no_frame r.0 ≡ false =
+              let f : is_want r.0 ≡ false =
               refused_otherwise (tests g call) r.0 (tests_otherwise g call) r.1 in
-              let t : wants_frame (Refused NoFrame) ≡ false = ap wants_frame told ∙ f in cc)
+              let t : wants (Refused NoFrame) ≡ false = ap wants told ∙ f in cc)
         ]
 
 pub no_frame_exact : NoFrameIsExact
@@ -472,9 +499,9 @@ no_frame_exact w v n call g here s =
     (Happens (OnGuest n call) w (Refused NoFrame) v)
     (λ refusal. (Refused NoFrame ≡ Refused refusal) × (v ≡ w)) s) [
       | inr r ↦ absurd (let told : Refused NoFrame ≡ Refused r.0 = r.2.0 in
-          let f : is_no_frame r.0 ≡ false =
+          let f : is_want r.0 ≡ false =
           refused_otherwise (world_tests w (OnGuest n call)) r.0 refl r.1 in
-          let t : wants_frame (Refused NoFrame) ≡ false = ap wants_frame told ∙ f in cc)
+          let t : wants (Refused NoFrame) ≡ false = ap wants told ∙ f in cc)
       | inl p ↦
           elim (match_cases (guest_at w.guests n) ⊥
           (λ g. Calls n g w (OnGuest n call) (Refused NoFrame) v) p.1) [
@@ -487,3 +514,26 @@ no_frame_exact w v n call g here s =
                 (record { claimed = wanted.0; fewer = wanted.1; all_out = wanted.2 })
           ]
     ]
+
+-- ---- no memory is left
+
+pub no_memory_exact : NoMemoryIsExact
+no_memory_exact g call claims new s = cases g.rogue s
+  where
+    cases : (b : Bool) → MatchBool b (RogueStep g call claims (Refused NoMemory) new)
+        (HonestStep g call claims (Refused NoMemory) new)
+        → ((claim_refusal claims ≡ Some NoMemory) ⊎ (is_read call ≡ true)) × (new ≡ g)
+    cases true r = r.no_memory refl
+    cases false p =
+        elim (match_cases (refusal_of g call) (Performs call g claims (Refused NoMemory) new)
+        (λ refusal. (claims ≡ []) × (Refused NoMemory ≡ Refused refusal) × (new ≡ g)) p) [
+          | inl d ↦
+              elim (performs_lack call g claims (Refused NoMemory) new NoMemory d.1 refl refl) [
+                | inl lacks ↦ (inl lacks.1, lacks.2)
+                | inr read ↦ (inr read.0, read.2)
+              ]
+          | inr r ↦ absurd (let told : Refused NoMemory ≡ Refused r.0 = r.2.1 in
+              let f : is_want r.0 ≡ false =
+              refused_otherwise (tests g call) r.0 (tests_otherwise g call) r.1 in
+              let t : wants (Refused NoMemory) ≡ false = ap wants told ∙ f in cc)
+        ]

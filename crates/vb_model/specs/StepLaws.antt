@@ -1,14 +1,17 @@
 -- What one event may change: targets, configurations, other guests, frames; and who claims frames.
-use Rattle.std.specs.Prelude.{◌≡◌, ◌≢◌, ℕ, ◌<◌, true, false, List, [], Some, None, length, IsTrue}
-use Rattle.std.specs.Prelude.{◌⊎◌}
+use Rattle.std.specs.Prelude.{◌≡◌, ◌≢◌, ℕ, ◌<◌, Bool, true, false, not, ◌||◌, List, [], Option, Some}
+use Rattle.std.specs.Prelude.{None, length, IsTrue, ◌⊎◌}
 use Rattle.vb_model.specs.declared.calls.Call.{Call}
 use Rattle.vb_model.specs.declared.calls.Call.TheVariants.{Init, Scribble, SetTarget}
 use Rattle.vb_model.specs.declared.calls.Claim.{Claim}
 use Rattle.vb_model.specs.declared.calls.Event.{Event}
-use Rattle.vb_model.specs.declared.calls.Event.TheVariants.{Unplug, Restart, Guest as OnGuest}
+use Rattle.vb_model.specs.declared.calls.Event.TheVariants.{Plug, Unplug, Restart}
+use Rattle.vb_model.specs.declared.calls.Event.TheVariants.{Guest as OnGuest, Query as Asking}
 use Rattle.vb_model.specs.declared.calls.Event.TheVariants.{Balance}
+use Rattle.vb_model.specs.declared.calls.Query.{Query}
+use Rattle.vb_model.specs.declared.calls.Query.TheVariants.{PagesAt, PagesBallooned}
 use Rattle.vb_model.specs.declared.replies.Refusal.{Refusal}
-use Rattle.vb_model.specs.declared.replies.Refusal.TheVariants.{NoFrame}
+use Rattle.vb_model.specs.declared.replies.Refusal.TheVariants.{NoFrame, NoMemory}
 use Rattle.vb_model.specs.declared.replies.Reply.{Reply}
 use Rattle.vb_model.specs.declared.replies.Reply.TheVariants.{Done, Refused}
 use Rattle.vb_model.specs.Limits.{reserved_pages}
@@ -16,7 +19,7 @@ use Rattle.vb_model.specs.Tests.{is_in}
 use Rattle.vb_model.specs.Guest.{Guest, frame_of, is_ballooned}
 use Rattle.vb_model.specs.Driver.{given, claim_refusal, AreClaimsFor}
 use Rattle.vb_model.specs.Life.{feature_refusal}
-use Rattle.vb_model.specs.Rogue.{may_need}
+use Rattle.vb_model.specs.Rogue.{may_need, is_read}
 use Rattle.vb_model.specs.Step.{HonestStep, GuestStep}
 use Rattle.vb_model.specs.World.{World, WorldStep, Backs, IsOut, guest_at}
 
@@ -127,6 +130,43 @@ abbrev pub NoFrameIsExact : Type 0
 NoFrameIsExact =
     (w v : World) (n : ℕ) (call : Call) (g : Guest) → guest_at w.guests n ≡ Some g
     → WorldStep w (OnGuest n call) (Refused NoFrame) v → WantOfFrames w (may_need call g)
+
+-- ---- want of memory
+
+-- a call of a guest, honest or rogue, is refused for want of memory only where a claim of its was,
+-- or for bytes that it is answered with; and nothing is changed
+abbrev pub NoMemoryIsExact : Type 0
+NoMemoryIsExact =
+    (g : Guest) (call : Call) (claims : List Claim) (new : Guest)
+    → GuestStep g call claims (Refused NoMemory) new
+    → ((claim_refusal claims ≡ Some NoMemory) ⊎ IsTrue (is_read call)) × (new ≡ g)
+
+abbrev pub is_none_of : List ℕ → Bool
+is_none_of [] = true
+is_none_of _ = false
+
+-- a call may find no memory where it needs a frame, or is answered with bytes
+abbrev pub call_may_want : Option Guest → Call → Bool
+call_may_want None call = false
+call_may_want (Some g) call = is_read call || not (is_none_of (may_need call g))
+
+-- the question is answered with a list
+abbrev pub is_list : Query → Bool
+is_list (PagesAt place) = true
+is_list PagesBallooned = true
+is_list _ = false
+
+-- the events that may find no memory
+abbrev pub may_want_memory : World → Event → Bool
+may_want_memory w (Plug pages queue_size processors) = true
+may_want_memory w (OnGuest n call) = call_may_want (guest_at w.guests n) call
+may_want_memory w (Asking n query) = is_list query
+may_want_memory w _ = false
+
+-- and each of them leaves the world as it was
+abbrev pub WantsChangeNothing : Type 0
+WantsChangeNothing = (w : World) (event : Event) (v : World)
+    → WorldStep w event (Refused NoMemory) v → IsTrue (may_want_memory w event) × (v ≡ w)
 
 -- no reserved page is ballooned
 abbrev pub HasNoReservedBallooned : Guest → Type 0

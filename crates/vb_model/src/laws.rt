@@ -12,7 +12,8 @@ ghost use Rattle.vb_model.specs.StepLaws.{RoguesAreMade, ScribblesMakeRogues, Ro
 ghost use Rattle.vb_model.specs.StepLaws.{FramesEnterByClaims, RefusedClaimsAreAnswered};
 ghost use Rattle.vb_model.specs.StepLaws.{ClaimsAreNeeded, NeededPagesAreBare, NoFrameIsExact};
 ghost use Rattle.vb_model.specs.StepLaws.{HasNoReservedBallooned, RefusalsChangeNothing};
-ghost use Rattle.vb_model.specs.StepLaws.{RefusedEventsChangeNothing};
+ghost use Rattle.vb_model.specs.StepLaws.{RefusedEventsChangeNothing, NoMemoryIsExact};
+ghost use Rattle.vb_model.specs.StepLaws.{WantsChangeNothing};
 ghost use Rattle.vb_model.specs.Determined.{HonestStepsAgree};
 ghost use Rattle.vb_model.specs.GuestRun.{InOneLife, Alone};
 ghost use Rattle.vb_model.specs.declared.calls.Event.{Event};
@@ -105,6 +106,14 @@ pub fn claims_are_needed()
 /// not out than it needs.
 pub fn no_frame_is_exact()
     ensures exact { NoFrameIsExact }
+{}
+
+/// Want of memory is answered by a plug; by a call of a guest, honest or rogue, that claimed a frame
+/// and was refused for it; by a read; and by a question for a list of pages: by no other event. It
+/// changes nothing.
+pub fn want_of_memory_changes_nothing()
+    ensures calls { NoMemoryIsExact }
+    ensures events { WantsChangeNothing }
 {}
 
 /// A step of an honest guest is determined by its state, the call and what its claims were given, but

@@ -112,7 +112,7 @@ impl Numbers {
 pub enum Reply {
     /// The new guest's number.
     Plugged {
-        guest: u32,
+        guest: usize,
     },
     /// It was done.
     Done,

@@ -62,8 +62,13 @@ fn pages_of_the_host(rt: HostRuntime) {
 fn numbers(rt: HostRuntime) {
     let alloc = rt.alloc();
     check(&rt, alloc, Reply::Plugged { guest: 0 }, "guest 0");
-    let guest = u32::MAX;
-    check(&rt, alloc, Reply::Plugged { guest }, "guest 4294967295");
+    let guest = usize::MAX;
+    check(
+        &rt,
+        alloc,
+        Reply::Plugged { guest },
+        "guest 18446744073709551615",
+    );
     check(&rt, alloc, Reply::Page { start: 16 }, "page 16");
     let frame = Some(13);
     check(&rt, alloc, Reply::Backing { frame }, "frame 13");

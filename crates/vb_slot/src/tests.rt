@@ -5,6 +5,7 @@ ghost use Rattle.vb_model.specs.Guest.{Guest};
 ghost use Rattle.vb_slot.specs.Slots.{stands_for};
 
 mod keeping;
+mod wanting;
 
 use crate::Slot;
 use keeping::KeepingDevice;

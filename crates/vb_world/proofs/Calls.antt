@@ -126,7 +126,6 @@ module _ {S D : Type 0} (Stand : S → Guest → Type 0) (Spare : D → Bool →
     count = count;
     few = few;
     room = omega (arith, host.room, capacity);
-    keys = omega (arith, host.keys, capacity);
     next = next;
     frames = moves.count ∙ host.frames;
     backed = λ f.

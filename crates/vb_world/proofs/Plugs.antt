@@ -1,5 +1,5 @@
 -- A host is made, and guests are plugged in.
-use Rattle.std.proofs.Common.{◌≡◌, ℕ, suc, ◌+◌, ◌<◌, ◌≤◌, ◌^◌, Bool, true, false, cond, List}
+use Rattle.std.proofs.Common.{◌≡◌, ℕ, suc, ◌+◌, ◌<◌, ◌≤◌, Bool, true, false, cond, List}
 use Rattle.std.proofs.Common.{[], ◌∷◌, length, get_or, map, refl, sym, ap, subst, ◌∙◌, inl, inr}
 use Rattle.std.proofs.Common.{arith, Option, Some, None, is_some, count_by, All}
 use Rattle.std.specs.Prelude.{◌==◌, MatchOption, replicate, ⊤, nat_le, if◌then◌else◌}
@@ -46,15 +46,13 @@ spares_of P paced (d ∷ ds) all = (
 
 pub host_made : {S D : Type 0} (Stand : S → Guest → Type 0) (P : D → Type 0) (paced : D → Bool)
     (slots : Slab S) (out : List Bool) (devices : List D) (frames : ℕ)
-    → slots.slots ≡ [] → max_guests ≤ slots.capacity → slots.capacity ≤ 2 ^ 32
-    → out ≡ replicate frames false → All P devices
+    → slots.slots ≡ [] → max_guests ≤ slots.capacity → out ≡ replicate frames false → All P devices
     → IsHost Stand (λ d p. P d × (paced d ≡ p)) slots out devices (made frames (map paced devices))
-host_made Stand P paced slots out devices frames empty room keys none all = record {
+host_made Stand P paced slots out devices frames empty room none all = record {
   guests = λ n. rw empty tt;
   count = rw empty refl;
   few = omega arith;
   room = room;
-  keys = keys;
   next = tt;
   frames = rw none (length-replicate frames false);
   backed = λ f. rw (none, none_out frames f) refl;
@@ -144,7 +142,6 @@ module _ {S D : Type 0} (Stand : S → Guest → Type 0) (Spare : D → Bool →
         count = len ∙ (ap (λ (k : ℕ). k + 1) host.count ∙ sym (one_more n g none));
         few = omega (arith, few, host.count, one_more n g none);
         room = omega (arith, host.room, capacity);
-        keys = omega (arith, host.keys, capacity);
         next = tt;
         frames = host.frames;
         backed = λ f.
@@ -197,7 +194,6 @@ module _ {S D : Type 0} (Stand : S → Guest → Type 0) (Spare : D → Bool →
         count = host.count;
         few = host.few;
         room = host.room;
-        keys = host.keys;
         next = host.next;
         frames = host.frames;
         backed = host.backed;

@@ -1,5 +1,5 @@
 -- What ties a host's slots, frames and spare devices to a world of the model.
-use Rattle.std.specs.Prelude.{◌≡◌, ℕ, ◌≤◌, ◌^◌, Bool, List, [], ◌∷◌, Option, Some, None, length}
+use Rattle.std.specs.Prelude.{◌≡◌, ℕ, ◌≤◌, Bool, List, [], ◌∷◌, Option, Some, None, length}
 use Rattle.std.specs.Prelude.{false, sum_by, MatchOption, ⊤}
 use Rattle.std.specs.declared.alloc.Global.{Global}
 use Rattle.std.specs.declared.dyn_box.DynBox.{DynBox}
@@ -47,7 +47,6 @@ pub record IsHost {S D : Type 0} (Stand : S → Guest → Type 0) (Spare : D →
   pub count : slab_len slots ≡ plugged_count w
   pub few : plugged_count w ≤ max_guests
   pub room : max_guests ≤ slots.capacity
-  pub keys : slots.capacity ≤ 2 ^ 32
   pub next : MatchOption w.given_up ⊤ (λ last. last ≡ slots.vacant_key)
   pub frames : length out ≡ w.frames
   pub backed : (frame : ℕ) → backing_of frame w.guests ≡ one_if (is_out out frame)

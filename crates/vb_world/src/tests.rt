@@ -128,6 +128,25 @@ static WRONG_PLUGS: [(Line, Answer); 4] = [
     (Line::Plug { pages: 64 }, ('n', 4, 0)),
 ];
 
+/// Two plugs that find no memory on the first device and one on the second: the next one has the same
+/// device, and the number that was given up.
+static WANTING_PLUGS: [(Line, Answer); 14] = [
+    (Line::Plug { pages: 64 }, ('n', 11, 0)),
+    (Line::Frames, ('u', 0, 64)),
+    (Line::Balloon, ('n', 1, 0)),
+    (Line::Plug { pages: 64 }, ('n', 11, 0)),
+    (Line::Plug { pages: 64 }, ('g', 0, 0)),
+    (Line::Init, ('y', 0, 0)),
+    (Line::Alloc, ('p', 16, 0)),
+    (Line::Unplug { guest: 0 }, ('d', 0, 0)),
+    (Line::Plug { pages: 64 }, ('n', 11, 0)),
+    (Line::Frames, ('u', 0, 64)),
+    (Line::Balloon, ('n', 1, 0)),
+    (Line::Plug { pages: 64 }, ('g', 0, 0)),
+    (Line::Init, ('y', 0, 0)),
+    (Line::Plug { pages: 64 }, ('n', 4, 0)),
+];
+
 /// Nine guests, on a host with eight devices or more.
 static NINE_PLUGS: [(Line, Answer); 9] = [
     (Line::Plug { pages: 64 }, ('g', 0, 0)),
@@ -344,6 +363,7 @@ fn refusal_of(refusal: Refusal) -> u32 {
         Refusal::NotBallooned => 8,
         Refusal::QueueFull => 9,
         Refusal::Short { .. } => 10,
+        Refusal::NoMemory => 11,
         _ => 0,
     }
 }
@@ -358,7 +378,7 @@ fn missing_of(refusal: Refusal) -> u32 {
 
 fn answer_of(reply: &Reply) -> Answer {
     match reply {
-        Reply::Plugged { guest } => ('g', *guest, 0),
+        Reply::Plugged { guest } => ('g', u32::try_from(*guest).unwrap_or(u32::MAX), 0),
         Reply::Done => ('d', 0, 0),
         Reply::Ready => ('y', 0, 0),
         Reply::Page { start } => ('p', *start, 0),
@@ -457,6 +477,29 @@ fn play_listed(
     play(rt, alloc, frames, spares, table)
 }
 
+/// Lets a table's events happen on a host with two devices that find no memory for their guests, the
+/// first one twice and the second one once.
+fn play_refusing(
+    rt: &impl Abort,
+    alloc: Global,
+    frames: u32,
+    table: &[(Line, Answer)],
+) -> Result<(), AllocError>
+    requires some { 1 ≤ frames }
+    requires few { frames ≤ 65_536 }
+{
+    let mut spares: Vec<Box<dyn Device + Send>> = Vec::new(alloc);
+    add_spare(
+        &mut spares,
+        Box::new(alloc, ListedDevice::refusing(alloc, 2))?,
+    )?;
+    add_spare(
+        &mut spares,
+        Box::new(alloc, ListedDevice::refusing(alloc, 1))?,
+    )?;
+    play(rt, alloc, frames, spares, table)
+}
+
 #[test]
 fn the_first_path_on_an_immediate_device(rt: HostRuntime) -> Result<(), Fail> {
     play_immediate(&rt, rt.alloc(), 64, 1, &FIRST_PATH)?;
@@ -493,6 +536,12 @@ fn calls_on_a_device_with_a_list_are_counted(rt: HostRuntime) {
 #[test]
 fn plugs_are_refused(rt: HostRuntime) -> Result<(), Fail> {
     play_immediate(&rt, rt.alloc(), 64, 1, &WRONG_PLUGS)?;
+    Ok(())
+}
+
+#[test]
+fn a_plug_that_finds_no_memory_keeps_its_spare(rt: HostRuntime) -> Result<(), Fail> {
+    play_refusing(&rt, rt.alloc(), 64, &WANTING_PLUGS)?;
     Ok(())
 }
 

@@ -65,27 +65,6 @@ fn put_first(devices: &mut Vec<Box<dyn Device + Send>>, device: Box<dyn Device +
     }
 }
 
-/// Slots for all guests that there may be, whose keys fit 32 bits.
-fn new_slots(alloc: Global) -> Result<Slab<Slot>, AllocError>
-    ensures empty { IfOk result (λ slots. slots.slots ≡ []) }
-    ensures room { IfOk result (λ slots. max_guests ≤ slots.capacity) }
-    ensures keys { IfOk result (λ slots. slots.capacity ≤ 2 ^ 32) }
-{
-    let slots = Slab::with_capacity(alloc, GUESTS)?;
-    if slots.capacity() > u32::MAX as usize {
-        return Err(AllocError);
-    }
-    Ok(slots)
-}
-
-/// The key of a slot, as its guest's number.
-fn guest_number(key: usize) -> u32
-    requires { key < 2 ^ 32 }
-    ensures { result ≡ key }
-{
-    key as u32
-}
-
 impl World {
     /// A host of so many frames, 1 to 65,536, without guests. A plug takes the first of the spare
     /// devices that are left, and the guest has its pace. Want of memory is the only refusal.
@@ -102,7 +81,7 @@ impl World {
     {
         Ok(World {
             table: FrameTable::new(alloc, frames)?,
-            slots: new_slots(alloc)?,
+            slots: Slab::with_capacity(alloc, GUESTS)?,
             spares,
         })
     }
@@ -175,10 +154,8 @@ impl World {
         let device = self.spares.remove(0);
         match Slot::new(alloc, device, config) {
             Ok(slot) => {
-                let key = self.slots.insert_reserved(slot);
-                Reply::Plugged {
-                    guest: guest_number(key),
-                }
+                let guest = self.slots.insert_reserved(slot);
+                Reply::Plugged { guest }
             }
             Err(refused) => {
                 put_first(&mut self.spares, refused.device);

@@ -104,6 +104,15 @@ fn count(calls: &mut u32) {
     *calls = calls.saturating_add(1);
 }
 
+/// Want of memory, as often as this number says.
+fn refuse(refusals: &mut u32) -> Result<(), AllocError> {
+    if *refusals == 0 {
+        return Ok(());
+    }
+    *refusals -= 1;
+    Err(AllocError)
+}
+
 /// A paced device in another's hands: what is ballooned is answered from a list of its own, and the
 /// calls by which a host changes the device are counted.
 #[derive(Drop)]
@@ -111,6 +120,8 @@ pub(super) struct ListedDevice {
     inner: PacedDevice,
     listed: Option<PageList>,
     calls: u32,
+    /// How often it will find no memory for a guest.
+    refusals: u32,
 }
 
 impl Model for ListedDevice {
@@ -136,10 +147,21 @@ impl ListedDevice {
         ensures keeps { result.part.keeps ≡ false }
         ensures own { result.part.own ≡ [] }
     {
+        ListedDevice::refusing(alloc, 0)
+    }
+
+    /// One that finds no memory for its guest so many times.
+    pub(super) fn refusing(alloc: Global, refusals: u32) -> ListedDevice
+        ensures unused { IsUnused result.mem result.part }
+        ensures paced { result.part.paced ≡ true }
+        ensures keeps { result.part.keeps ≡ false }
+        ensures own { result.part.own ≡ [] }
+    {
         ListedDevice {
             inner: PacedDevice::new(alloc),
             listed: None,
             calls: 0,
+            refusals,
         }
     }
 
@@ -194,6 +216,7 @@ impl Port for ListedDevice {
 impl Device for ListedDevice {
     fn attach(&mut self, alloc: Global, config: Config) -> Result<(), AllocError> {
         count(&mut self.calls);
+        refuse(&mut self.refusals)?;
         let list = PageList::new(alloc, config.pages)?;
         self.inner.attach(alloc, config)?;
         self.listed = Some(list);

@@ -10,7 +10,7 @@ returns-then-not-held g c =
     (steps_quiet keeps _ _ _ _ _ _ guest g.K.FrameKeeper.answers _ _ _ stands
     (alone_stands keeps _ _ _ _ _ _ guest _ _ stands refl refl
     (λ honest. write_not_held _ _ _ guest _ _ _ (sym c.if-not-held.ensures) honest)
-    (λ rogue. write_rogue _ _ _ _ _ guest _ _ _ _ refl (λ page. refl) refl (λ e. cc) rogue)))
+    (λ rogue. write_rogue _ _ _ _ _ guest _ _ _ _ refl (λ page. refl) refl refl rogue)))
 
 pub put_bytes-requires-clause-stands : goal.put_bytes-requires-clause-stands
 put_bytes-requires-clause-stands g c =

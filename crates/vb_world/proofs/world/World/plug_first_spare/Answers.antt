@@ -4,12 +4,6 @@ use Rattle.vb_world.proofs.Plugs.{spare_like}
 use Rattle.vb_slot.proofs.Standing.{stands_keeping}
 use Rattle.vb_world.proofs.world.World.plug_first_spare.Goals as goal
 
-pub guest_number-requires : goal.guest_number-requires
-guest_number-requires g c =
-    let (w, host) = c.requires.world in
-    let new = c.insert_reserved-key.ensures in
-    omega (arith, host.keys, new.key_in_range, new.capacity)
-
 pub new-requires : goal.new-requires
 new-requires g c =
     let (w, host) = c.requires.world in
@@ -25,12 +19,11 @@ returns-in-Ok g c = λ w host.
     let first = first_removed c.args.self.now.spares.items c.remove-device.result
     c.remove-device.new.self.items (omega (arith, c.requires.some, c.args.self.now.spares.ok))
     c.remove-device.ensures.value c.remove-device.ensures.items in
-    let new = c.insert_reserved-key.ensures in
+    let new = c.insert_reserved-guest.ensures in
     let spare = (spare_of _ _ _ _ _ w c.remove-device.result c.remove-device.new.self.items host
     first).spare.0 in
-    rw c.guest_number.ensures
-    (plugged _ _ _ _ _ w c.insert_reserved-key.result c.in-Ok.slot
-    c.insert_reserved-key.new.self c.remove-device.result c.remove-device.new.self.items
+    (plugged _ _ _ _ _ w c.insert_reserved-guest.result c.in-Ok.slot
+    c.insert_reserved-guest.new.self c.remove-device.result c.remove-device.new.self.items
     c.args.config.pages c.args.config.queue_size c.args.config.processors host first
     c.requires.few new.key
     new.was_vacant new.updates new.len new.capacity _ (λ p spare. spare.1) (stands_keeping _ _ _ _ _ _ spare.keeps c.in-Ok.ensures.made))

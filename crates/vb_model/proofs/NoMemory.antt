@@ -1,0 +1,153 @@
+-- Which events may find no memory, and that nothing is changed then.
+use Rattle.std.proofs.Common.{sym, ◌≡◌, ℕ, zero, suc, Bool, true, false, List, [], ◌∷◌, refl, ap}
+use Rattle.std.proofs.Common.{◌∙◌, ◌⊎◌, inl, inr}
+use Rattle.std.specs.Prelude.{◌==◌, ◌||◌, not, Option, Some, None, MatchBool}
+use Rattle.vb_model.specs.declared.calls.Call.{Call}
+use Rattle.vb_model.specs.declared.calls.Claim.{Claim}
+use Rattle.vb_model.specs.declared.calls.Event.{Event}
+use Rattle.vb_model.specs.declared.calls.Event.TheVariants.{Plug, Unplug, Restart, Guest as OnGuest}
+use Rattle.vb_model.specs.declared.calls.Event.TheVariants.{Query as Asking, Balance}
+use Rattle.vb_model.specs.declared.calls.Event.TheVariants.{Frames as CountFrames}
+use Rattle.vb_model.specs.declared.calls.Query.{Query}
+use Rattle.vb_model.specs.declared.calls.Query.TheVariants.{Places as AskPlaces, PagesAt}
+use Rattle.vb_model.specs.declared.calls.Query.TheVariants.{PagesBallooned, Balloon as AskBalloon}
+use Rattle.vb_model.specs.declared.calls.Query.TheVariants.{Memory as AskMemory}
+use Rattle.vb_model.specs.declared.calls.Query.TheVariants.{Backing as AskBacking}
+use Rattle.vb_model.specs.declared.replies.Refusal.TheVariants.{NoMemory, Short}
+use Rattle.vb_model.specs.declared.replies.Reply.{Reply}
+use Rattle.vb_model.specs.declared.replies.Reply.TheVariants.{Done, Targets, Refused}
+use Rattle.vb_model.specs.FirstRefusal.{first_refusal}
+use Rattle.vb_model.specs.Guest.{Guest}
+use Rattle.vb_model.specs.Driver.{AreClaimsFor, claim_refusal}
+use Rattle.vb_model.specs.Life.{after_restart}
+use Rattle.vb_model.specs.Rogue.{may_need, is_read}
+use Rattle.vb_model.specs.Balance.{AreTargets, shortage}
+use Rattle.vb_model.specs.World.{World, Happens, Calls, Answers, PlugsIn, guest_at}
+use Rattle.vb_model.specs.World.{with_guest, put_guest, with_targets, world_tests, needs}
+use Rattle.vb_model.specs.StepLaws.{WantsChangeNothing, may_want_memory, call_may_want, is_none_of}
+use Rattle.vb_model.specs.StepLaws.{is_list}
+use Rattle.vb_model.proofs.CallSteps.{match_cases}
+use Rattle.vb_model.proofs.Wanting.{wants, none_wants, refused_otherwise, claims_needed}
+use Rattle.vb_model.proofs.Wanting.{no_want, no_memory_exact}
+
+-- a reply that isn't want of memory
+not_wanted : {A : Type 0} (reply : Reply) → Refused NoMemory ≡ reply → wants reply ≡ false → A
+not_wanted reply e f = no_want reply NoMemory f refl (sym e)
+
+-- ---- a call
+
+with_guest-again : (n : ℕ) (g : Guest) (xs : List (Option Guest)) → guest_at xs n ≡ Some g
+    → with_guest n (Some g) xs ≡ xs
+with_guest-again zero g [] e = absurd cc
+with_guest-again zero g (x ∷ xs) e = cc
+with_guest-again (suc n) g [] e = absurd cc
+with_guest-again (suc n) g (x ∷ xs) e = ap (λ ys. x ∷ ys) (with_guest-again n g xs e)
+
+-- a claim was refused, so there was a page to claim a frame for
+some_needed : (pages : List ℕ) (claims : List Claim) → AreClaimsFor pages claims
+    → claim_refusal claims ≡ Some NoMemory → not (is_none_of pages) ≡ true
+some_needed [] [] a e = absurd cc
+some_needed [] (claim ∷ claims) a e = absurd a
+some_needed (page ∷ pages) claims a e = refl
+
+or_second : (a b : Bool) → b ≡ true → (a || b) ≡ true
+or_second true b e = refl
+or_second false b e = e
+
+or_first : (a b : Bool) → a ≡ true → (a || b) ≡ true
+or_first true b e = refl
+or_first false b e = absurd cc
+
+calls_want : (n : ℕ) (call : Call) (g : Guest) (w v : World) → guest_at w.guests n ≡ Some g
+    → Calls n g w (OnGuest n call) (Refused NoMemory) v
+    → (call_may_want (guest_at w.guests n) call ≡ true) × (v ≡ w)
+calls_want n call g w v here s =
+    let exact = no_memory_exact g call s.0 s.1 s.3 in (
+      ap (λ (o : Option Guest). call_may_want o call) here ∙ may exact.0,
+      s.4 ∙ ap (λ (x : Guest). put_guest n (Some x) w) exact.1
+          ∙ ap (λ (xs : List (Option Guest)). record w { guests = xs })
+          (with_guest-again n g w.guests here),
+    )
+  where
+    claimed : (s.0 ≡ []) ⊎ AreClaimsFor (may_need call g) s.0
+        → claim_refusal s.0 ≡ Some NoMemory → not (is_none_of (may_need call g)) ≡ true
+    claimed (inl none) e =
+        absurd (let no : claim_refusal s.0 ≡ None = ap claim_refusal none in cc)
+    claimed (inr made) e = some_needed (may_need call g) s.0 made e
+
+    may : (claim_refusal s.0 ≡ Some NoMemory) ⊎ (is_read call ≡ true)
+        → (is_read call || not (is_none_of (may_need call g))) ≡ true
+    may (inl e) = or_second (is_read call) (not (is_none_of (may_need call g)))
+        (claimed (claims_needed g call s.0 (Refused NoMemory) s.1 s.3) e)
+    may (inr read) = or_first (is_read call) (not (is_none_of (may_need call g))) read
+
+-- ---- a question
+
+answers_want : (query : Query) (g : Guest) → Answers query g (Refused NoMemory)
+    → is_list query ≡ true
+answers_want AskPlaces g e = not_wanted _ e refl
+answers_want (PagesAt place) g e = refl
+answers_want PagesBallooned g e = refl
+answers_want AskBalloon g e = not_wanted _ e refl
+answers_want AskMemory g e = not_wanted _ e refl
+answers_want (AskBacking page) g e = not_wanted _ e refl
+
+-- ---- an event
+
+happens_want : (event : Event) (w v : World) → Happens event w (Refused NoMemory) v
+    → (may_want_memory w event ≡ true) × (v ≡ w)
+happens_want (Plug pages queue_size processors) w v s = plugs w.spares s
+  where
+    plugs : (spares : List Bool)
+        → PlugsIn pages queue_size processors spares w (Refused NoMemory) v
+        → (may_want_memory w (Plug pages queue_size processors) ≡ true) × (v ≡ w)
+    plugs [] s = absurd s
+    plugs (paced ∷ rest) (inl none) = (refl, none.1)
+    plugs (paced ∷ rest) (inr p) = not_wanted _ p.3 refl
+happens_want (Unplug n) w v s = not_wanted _ s.0 refl
+happens_want (Restart n) w v s =
+    elim (match_cases (guest_at w.guests n) ⊥
+    (λ g. (Refused NoMemory ≡ Done) × (v ≡ put_guest n (Some (after_restart g)) w)) s) [
+      | inl none ↦ absurd none.1
+      | inr g ↦ not_wanted _ g.2.0 refl
+    ]
+happens_want (OnGuest n call) w v s =
+    elim (match_cases (guest_at w.guests n) ⊥
+    (λ g. Calls n g w (OnGuest n call) (Refused NoMemory) v) s) [
+      | inl none ↦ absurd none.1
+      | inr g ↦ calls_want n call g.0 w v g.1 g.2
+    ]
+happens_want (Asking n query) w v s =
+    elim (match_cases (guest_at w.guests n) ⊥ (λ g. Answers query g (Refused NoMemory)) s.0) [
+      | inl none ↦ absurd none.1
+      | inr g ↦ (answers_want query g.0 g.2, s.1)
+    ]
+happens_want (Balance floor) w v s = balances (shortage (needs floor w) w.frames == 0) s
+  where
+    balances : (b : Bool)
+        → MatchBool b ((targets : List ℕ) × AreTargets (needs floor w) w.frames targets
+        × (Refused NoMemory ≡ Targets targets)
+        × (v ≡ record w { guests = with_targets targets w.guests }))
+        ((Refused NoMemory ≡ Refused (Short (shortage (needs floor w) w.frames))) × (v ≡ w))
+        → (may_want_memory w (Balance floor) ≡ true) × (v ≡ w)
+    balances false s = not_wanted _ s.0 refl
+    balances true s = not_wanted _ s.2 refl
+happens_want CountFrames w v s = not_wanted _ s.0 refl
+
+tests_of_others : (w : World) (event : Event) → none_wants (world_tests w event) ≡ true
+tests_of_others w (Plug pages queue_size processors) = refl
+tests_of_others w (Unplug n) = refl
+tests_of_others w (Restart n) = refl
+tests_of_others w (OnGuest n call) = refl
+tests_of_others w (Asking n query) = refl
+tests_of_others w (Balance floor) = refl
+tests_of_others w CountFrames = refl
+
+pub wants_change_nothing : WantsChangeNothing
+wants_change_nothing w event v s =
+    elim (match_cases (first_refusal (world_tests w event)) (Happens event w (Refused NoMemory) v)
+    (λ r. (Refused NoMemory ≡ Refused r) × (v ≡ w)) s) [
+      | inl p ↦ happens_want event w v p.1
+      | inr r ↦ not_wanted (Refused r.0) r.2.0
+          (refused_otherwise (world_tests w event) r.0 (tests_of_others w event) r.1)
+    ]
