@@ -1,5 +1,5 @@
 -- What a driver and a device ask for before a call, of an honest guest and of a rogue one.
-use Rattle.std.specs.Prelude.{◌≡◌, ℕ, ◌<◌, ◌≤◌, ◌==◌, ◌&&◌, not, if◌then◌else◌, Bool, true, false}
+use Rattle.std.specs.Prelude.{◌≡◌, ℕ, ◌<◌, ◌≤◌, ◌==◌, ◌&&◌, not, Bool, true, false}
 use Rattle.std.specs.Prelude.{length, IsSome, refl}
 use Rattle.std.proofs.Common.{arith}
 use Rattle.vb_model.specs.Layout.{ring_page}

@@ -1,6 +1,6 @@
 -- Frames that pages lost have gone back.
 use Rattle.std.specs.Prelude.{◌≡◌, ℕ, ◌<◌, ◌≤◌, ◌==◌, if◌then◌else◌, Bool}
-use Rattle.std.specs.Prelude.{true, false, List, [], length, IsSome, ◌⊎◌}
+use Rattle.std.specs.Prelude.{true, false, [], length, IsSome, ◌⊎◌}
 use Rattle.std.proofs.Common.{subst, arith, inl, inr}
 use Rattle.vb_model.specs.declared.calls.Call.{Call}
 use Rattle.vb_model.specs.declared.replies.Reply.{Reply}

@@ -12,7 +12,6 @@ use Rattle.vb_device.specs.Calls.{SameFrames}
 use Rattle.vb_device.specs.Own.{has, without, SameSet}
 use Rattle.vb_frames.specs.Out.{is_out}
 use Rattle.vb_guest.specs.Supply.{Supply, supply_of, is_used, Moves, nothing, AreLoose}
-use Rattle.vb_guest.proofs.Writing.{out_more}
 
 -- ---- what is used
 
@@ -95,24 +94,6 @@ out_less n k out is = elim (cases_eq n k) [
       omega (arith, ap one_if same, ap one_if (ne_eqb n k ne))
 ]
 
-pub asked_gave : (p1 p2 : Part) (out1 out2 : List Bool) (n : ℕ) → p1.keeps ≡ false → p2 ≡ p1
-    → n < length out1 → is_out out1 n ≡ false → out2 ≡ slice_set out1 n true
-    → Moves (supply_of p1 out1) (supply_of p2 out2) (λ k. times k (n ∷ [])) nothing
-asked_gave p1 p2 out1 out2 n none same within free now = record {
-  keeps = ap (λ (p : Part). p.keeps) same;
-  asked = λ e. ap (λ (p : Part). p.own) same;
-  untouched = λ e. absurd (let wrong : true ≡ false = sym e ∙ none in cc);
-  count = ap (λ (o : List Bool). length o) now ∙ length-set out1 n true;
-  balance = λ k. omega (
-    arith,
-    ap one_if (used_out (supply_of p1 out1) k none),
-    ap one_if (used_out (supply_of p2 out2) k (ap (λ (p : Part). p.keeps) same ∙ none)),
-    ap (λ (o : List Bool). one_if (is_out o k)) now,
-    out_more out1 k n within free,
-    times_one k n,
-  );
-}
-
 pub asked_back : (p1 p2 : Part) (out1 out2 : List Bool) (n : ℕ) → p1.keeps ≡ false → p2 ≡ p1
     → is_out out1 n ≡ true → out2 ≡ slice_set out1 n false
     → Moves (supply_of p1 out1) (supply_of p2 out2) nothing (λ k. times k (n ∷ []))
@@ -182,25 +163,6 @@ has_less n k own is = elim (cases_eq n k) [
       omega (arith, ap one_if (has_other n k own ne), ap one_if (ne_eqb n k ne))
 ]
 
-pub own_gave : (p1 p2 : Part) (out1 out2 : List Bool) (n : ℕ) → p1.keeps ≡ true
-    → has p1.own n ≡ false → SameSet p2.own (n ∷ p1.own) → p2 ≡ record p1 { own = p2.own }
-    → out2 ≡ out1
-    → Moves (supply_of p1 out1) (supply_of p2 out2) (λ k. times k (n ∷ [])) nothing
-own_gave p1 p2 out1 out2 n keeps free now same kept = record {
-  keeps = ap (λ (p : Part). p.keeps) same;
-  asked = λ e. absurd (let wrong : true ≡ false = sym keeps ∙ e in cc);
-  untouched = λ e. kept;
-  count = ap (λ (o : List Bool). length o) kept;
-  balance = λ k. omega (
-    arith,
-    ap one_if (used_own (supply_of p1 out1) k keeps),
-    ap one_if (used_own (supply_of p2 out2) k (ap (λ (p : Part). p.keeps) same ∙ keeps)),
-    ap one_if (now k),
-    has_more n k p1.own free,
-    times_one k n,
-  );
-}
-
 pub own_back : (p1 p2 : Part) (out1 out2 : List Bool) (n : ℕ) → p1.keeps ≡ true
     → has p1.own n ≡ true → SameSet p2.own (without p1.own n) → p2 ≡ record p1 { own = p2.own }
     → out2 ≡ out1
@@ -228,13 +190,6 @@ pub loose_is_used : (n : ℕ) (loose rest : List ℕ) (s : Supply)
 loose_is_used n loose rest s same held =
     is_one (is_used s n)
     (omega (arith, same n, times_first n n rest, ap one_if (eq-eqb n n refl), held n))
-
--- once one of them went back, the rest are loose still
-pub still_loose : (n : ℕ) (loose rest : List ℕ) (s1 s2 : Supply)
-    → SameFrames loose (n ∷ rest) → AreLoose loose s1
-    → Moves s1 s2 nothing (λ k. times k (n ∷ [])) → AreLoose rest s2
-still_loose n loose rest s1 s2 same held moves k =
-    omega (arith, moves.balance k, held k, same k, times_first k n rest, times_one k n)
 
 -- a frame that the device took back was one of its own
 pub kept_back : (p1 p2 : Part) (out : List Bool) (n : ℕ) → (p1.keeps ≡ false → p1.own ≡ [])

@@ -2,7 +2,7 @@
 use Rattle.std.specs.Prelude.{◌≡◌, ℕ, ◌+◌, ◌<◌, ◌==◌, Bool, true, false, List, [], ◌∷◌, length}
 use Rattle.std.specs.Prelude.{suc, Option, None, count_by, replicate, slice_index_or, refl}
 use Rattle.std.specs.Option.{option_to_list}
-use Rattle.std.specs.List.{flat_map, range_with_len}
+use Rattle.std.specs.List.{range_with_len}
 use Rattle.std.proofs.Common.{sym, ◌∙◌, ap, subst, arith}
 use Rattle.std.proofs.lemmas.List.{length-replicate}
 use Rattle.vb_model.specs.Tests.{one_if}
@@ -16,7 +16,6 @@ use Rattle.vb_ram.specs.Part.{Part}
 use Rattle.vb_status.specs.After.{part_after_reset}
 use Rattle.vb_driver.specs.State.{DriverState, fresh_driver}
 use Rattle.vb_device.specs.Discards.{frames_behind}
-use Rattle.vb_device.specs.Own.{has}
 use Rattle.vb_guest.specs.Stands.{Honest, DeviceKeeps, Stands}
 use Rattle.vb_guest.specs.Steps.{is_frame, backing_count, AreOut, AllReturn, IsBare, Restarts}
 use Rattle.vb_guest.specs.Supply.{Supply, supply_of, Moves, nothing, AreLoose}

@@ -1,10 +1,9 @@
 -- What a device does for a guest that wrote past its driver.
-use Rattle.std.specs.Prelude.{◌≡◌, ℕ, zero, suc, ◌+◌, ◌<◌, ◌≤◌, ◌==◌, Bool, true, false, not}
+use Rattle.std.specs.Prelude.{◌≡◌, ℕ, ◌+◌, ◌<◌, ◌≤◌, ◌==◌, Bool, true, false, not}
 use Rattle.std.specs.Prelude.{◌&&◌, ◌||◌, List, [], ◌∷◌, ◌++◌, length, All, Option, Some, None, Result, ◌%◌, ◌*◌}
-use Rattle.std.specs.Prelude.{Ok, Err, refl, if◌then◌else◌, slice_get, slice_index_or, remove, is_some}
+use Rattle.std.specs.Prelude.{Ok, Err, refl, if◌then◌else◌, remove, is_some}
 use Rattle.std.specs.Prelude.{is_none, count_by, IsOk}
-use Rattle.std.specs.Option.{option_to_list}
-use Rattle.std.specs.List.{flat_map, list_any}
+use Rattle.std.specs.List.{list_any}
 use Rattle.std.proofs.Common.{sym, ◌∙◌, ap, subst, arith, inl, inr}
 use Rattle.std.proofs.lemmas.List.Elements.{All-push, All-cons, All-nil}
 use Rattle.std.proofs.lemmas.List.{get_or_past}
@@ -19,16 +18,16 @@ use Rattle.vb_model.specs.declared.replies.Refusal.TheVariants.{NoQueue, NotRead
 use Rattle.vb_model.specs.declared.replies.Refusal.TheVariants.{Broken, Busy, NotTaken, NotWorked}
 use Rattle.vb_model.specs.declared.replies.Refusal.TheVariants.{NotBallooned}
 use Rattle.vb_model.specs.declared.replies.Reply.{Reply}
-use Rattle.vb_model.specs.declared.replies.Reply.TheVariants.{Refused, Done, Swept, Finished}
-use Rattle.vb_model.specs.FirstRefusal.{Test, ◌⇒◌, first_refusal}
+use Rattle.vb_model.specs.declared.replies.Reply.TheVariants.{Refused, Done}
+use Rattle.vb_model.specs.FirstRefusal.{◌⇒◌, first_refusal}
 use Rattle.vb_model.specs.Limits.{page_size, reserved_pages}
 use Rattle.vb_model.specs.Layout.{ring_page}
 use Rattle.vb_model.specs.Requests.{Request}
 use Rattle.vb_model.specs.Guest.{Guest, is_ballooned, frame_of}
-use Rattle.vb_model.specs.Device.{is_unvisited, next_page, visiting}
+use Rattle.vb_model.specs.Device.{next_page, visiting}
 use Rattle.vb_model.specs.Orderly.{times}
-use Rattle.vb_model.specs.Status.{contains, driver_ok, failed, needs_reset}
-use Rattle.vb_model.specs.Tables.{is_not_ready, has_fault, has_chains, lacks_feature, most_taken}
+use Rattle.vb_model.specs.Status.{contains, driver_ok, failed}
+use Rattle.vb_model.specs.Tables.{is_not_ready, has_fault, has_chains, lacks_feature}
 use Rattle.vb_model.specs.Tables.{is_queue_of_requests, has_unvisited, take_tests, work_tests}
 use Rattle.vb_model.specs.Tables.{sweep_tests, finish_tests, ask_tests}
 use Rattle.vb_model.specs.Rogue.{target_after}
@@ -37,9 +36,8 @@ use Rattle.vb_model.proofs.Wanting.{wants, refused_otherwise}
 use Rattle.vb_ram.specs.Pages.{Pages, frame_at, page_at, number_of}
 use Rattle.vb_ram.specs.Part.{Part, QueuePart}
 use Rattle.vb_chain.specs.declared.fault.ChainFault.TheVariants.{WrongDirection, BadLength}
-use Rattle.vb_chain.specs.declared.pieces.Piece.{Piece}
 use Rattle.vb_chain.specs.Table.{descriptor_at}
-use Rattle.vb_request.specs.Request.{page_request, each_once, is_request_length}
+use Rattle.vb_request.specs.Request.{page_request, each_once}
 use Rattle.vb_request.specs.Request.{total_length}
 use Rattle.vb_request.specs.Report.{report_request}
 use Rattle.vb_request.specs.Statistics.{statistics_request, is_statistics_length}
@@ -49,16 +47,15 @@ use Rattle.vb_request.proofs.Once.{is_in-each_once}
 use Rattle.vb_device.proofs.Chains.{chain_fits}
 use Rattle.vb_device.specs.declared.worked.Worked.{Worked}
 use Rattle.vb_device.specs.Discards.{discarded, frames_behind}
-use Rattle.vb_device.specs.Faults.{needing_reset}
 use Rattle.vb_device.specs.Queues.{queue_part, with_queue}
 use Rattle.vb_device.specs.Conditions.{take_refusal, work_refusal, finish_refusal, sweep_refusal}
 use Rattle.vb_device.specs.Conditions.{ask_refusal, taken_at}
-use Rattle.vb_device.specs.Calls.{TakesBy, TakeMeans, IsNextRequest, taking, noting, request_of}
+use Rattle.vb_device.specs.Calls.{TakesBy, TakeMeans, IsNextRequest, noting}
 use Rattle.vb_device.specs.Calls.{WorksBy, Visits, next_visit, FinishesBy, Uses, using, settled}
 use Rattle.vb_device.specs.Calls.{without_frames, lost_frames, SweepsBy, AsksBy, SameFrames}
 use Rattle.vb_driver.specs.State.{DriverState}
-use Rattle.vb_guest.specs.Stands.{IsOwnRequest, IsRogueUp, Rogue}
-use Rattle.vb_guest.specs.Steps.{StepsAlone, StepsFreeing, backing_count, is_frame}
+use Rattle.vb_guest.specs.Stands.{IsOwnRequest, Rogue}
+use Rattle.vb_guest.specs.Steps.{StepsAlone, StepsFreeing, is_frame}
 use Rattle.vb_guest.specs.Replies.{taken_reply, worked_reply, finished_reply, swept_reply, asked_reply}
 use Rattle.vb_guest.proofs.Discarding.{with_entry, length-with_entry, with_entry-get}
 use Rattle.vb_guest.proofs.Discarding.{with_none-get, frames_freed}
@@ -66,15 +63,10 @@ use Rattle.vb_guest.proofs.Handing.{handed_back, loose_none, not_among, behind_s
 use Rattle.vb_guest.proofs.Heads.{all_remove, all-visiting}
 use Rattle.vb_guest.proofs.WorkReportStep.{next_taken}
 use Rattle.vb_guest.proofs.PagesKept.{number_if, page_discarded, length-discarded}
-use Rattle.vb_guest.proofs.Rogues.{DeviceSame, Keeps, driver_same, device_same, rogue_alone}
+use Rattle.vb_guest.proofs.Rogues.{DeviceSame, Keeps, driver_same, device_alike, rogue_alone}
+use Rattle.vb_guest.proofs.Rogues.{kept_of_rogue}
 use Rattle.vb_guest.proofs.Rogues.{rogue_after, rogue_stands, rogue_step, IsOther}
 use Rattle.vb_guest.proofs.Rogues.{keeps_part, up_kept}
-
--- a device that refuses nothing is initialised
-pub not_down : (ok broken : Bool) (o : Option Refusal)
-    → (if not ok || broken then Some NotReady else o) ≡ None → ok ≡ true
-not_down true broken o e = refl
-not_down false broken o e = absurd cc
 
 -- ---- a queue of the device changes
 
@@ -232,14 +224,7 @@ take_rogue m1 m2 p1 p2 d g q result did rogue =
         rogue_alone m1 m1 p1 p2 d d g (Take q) _ rogue
         (record {
           driver = driver_same d d refl;
-          device = record {
-            size = ap (λ (p : Part). p.queue_size) part;
-            paced = ap (λ (p : Part). p.paced) part;
-            loose = λ none. ap (λ (p : Part). p.loose) part ∙ none;
-            flagged = ap (λ (p : Part). length p.ballooned) part;
-            unreserved = λ page low none.
-                ap (λ (p : Part). is_ballooned p.ballooned page) part ∙ none;
-          };
+          device = device_alike p1 p2 (ap kept_of_rogue part);
           up = λ was ok. up_kept m1 m1 p1 p2 refl (λ page low. refl)
               (ap (λ (p : Part). p.inflate.taken) part)
               (ap (λ (p : Part). p.report.taken) part) (was (ready means.0));
@@ -526,7 +511,7 @@ sweep_rogue m1 m2 p1 p2 d g page result did rogue = by (sweep_refusal page p1) r
         (is_ballooned p1.ballooned page) e in
         let one : Request = record { head = 0; pages = page ∷ []; visited = 0 } in
         let same : PartChanges (length m1) p1 p1 = record {
-          device = device_same p1 p1 refl;
+          device = device_alike p1 p1 refl;
           status = refl;
           target = refl;
           own = λ own. own;
@@ -598,7 +583,7 @@ settled_changes n q pages p above = by (q == INFLATE_QUEUE) (q == DEFLATE_QUEUE)
       own = λ own. record { inflates = own.inflates; reports = own.reports };
     }
     by false false high =
-        record { device = device_same p p refl; status = refl; target = refl; own = λ own. own }
+        record { device = device_alike p p refl; status = refl; target = refl; own = λ own. own }
 
 finishes_up : (a b c d f : Bool) → first_refusal ((not a ⇒ NoQueue) ∷ (b ⇒ NotReady)
     ∷ (c ⇒ NeedsReset) ∷ (d ⇒ NotTaken) ∷ (f ⇒ NotWorked) ∷ []) ≡ None → (a ≡ true) × (b ≡ false)
@@ -777,51 +762,13 @@ ask_rogue m1 m2 p1 p2 d g result did rogue = by (ask_refusal p1) refl
         rogue_alone m1 m2 p1 p2 d d g Ask _ rogue
         (record {
           driver = driver_same d d refl;
-          device = record {
-            size = ap (λ (p : Part). p.queue_size) part;
-            paced = ap (λ (p : Part). p.paced) part;
-            loose = λ none. ap (λ (p : Part). p.loose) part ∙ none;
-            flagged = ap (λ (p : Part). length p.ballooned) part;
-            unreserved = λ page low none.
-                ap (λ (p : Part). is_ballooned p.ballooned page) part ∙ none;
-          };
+          device = device_alike p1 p2 (ap kept_of_rogue part);
           up = λ was ok. up_kept m1 m2 p1 p2 adds.puts.rest.count
               (λ page low. adds.puts.rest.backing page)
               (ap (λ (p : Part). p.inflate.taken) part)
               (ap (λ (p : Part). p.report.taken) part) (was ready);
         }) adds.puts.rest.count adds.puts.rest.backing (ap (λ (p : Part). p.target) part)
         (asked_not result (did.answers e)) (λ page offset bytes x. cc)
-
-pub target_stands_rogue : (m1 m2 : Pages) (p1 p2 : Part) (d : DriverState) (g : Guest) (n : ℕ)
-    → m2 ≡ m1 → p2 ≡ record p1 { target = n } → Rogue m1 p1 d g
-    → Rogue m2 p2 d (record g { target = n })
-target_stands_rogue m1 m2 p1 p2 d g n memory part rogue =
-    subst (λ (m : Pages). Rogue m p2 d (record g { target = n })) (sym memory)
-    (subst (λ (p : Part). Rogue m1 p d (record g { target = n })) (sym part) (record {
-      rogue = rogue.rogue;
-      config = rogue.config;
-      pages = rogue.pages;
-      queue_size = rogue.queue_size;
-      processors = rogue.processors;
-      places = rogue.places;
-      placed = rogue.placed;
-      actual = rogue.actual;
-      size = rogue.size;
-      paced = rogue.paced;
-      status = rogue.status;
-      target = refl;
-      last = rogue.last;
-      ballooned = rogue.ballooned;
-      flagged = rogue.flagged;
-      unreserved = rogue.unreserved;
-      loose = rogue.loose;
-      length_is = rogue.length_is;
-      framed = rogue.framed;
-      filled = rogue.filled;
-      behind = rogue.behind;
-      up = λ ok. let up = rogue.up ok in
-          record { backed = up.backed; inflates = up.inflates; reports = up.reports };
-    }))
 
 pub target_rogue : (m1 m2 : Pages) (p1 p2 : Part) (d : DriverState) (g : Guest) (n : ℕ)
     → m2 ≡ m1 → p2 ≡ record p1 { target = n } → Rogue m1 p1 d g
@@ -833,14 +780,7 @@ target_rogue m1 m2 p1 p2 d g n memory part rogue =
     rogue_alone m1 m2 p1 p2 d d g (SetTarget n) Done rogue
     (record {
       driver = driver_same d d refl;
-      device = record {
-        size = ap (λ (p : Part). p.queue_size) part;
-        paced = ap (λ (p : Part). p.paced) part;
-        loose = λ none. ap (λ (p : Part). p.loose) part ∙ none;
-        flagged = ap (λ (p : Part). length p.ballooned) part;
-        unreserved = λ page low none.
-            ap (λ (p : Part). is_ballooned p.ballooned page) part ∙ none;
-      };
+      device = device_alike p1 p2 (ap kept_of_rogue part);
       up = λ was ok. up_kept m1 m2 p1 p2 count (λ page low. same page)
           (ap (λ (p : Part). p.inflate.taken) part) (ap (λ (p : Part). p.report.taken) part)
           (was (ap (λ (p : Part). contains p.status driver_ok) (sym part) ∙ ok));

@@ -40,6 +40,7 @@ use Rattle.vb_guest.specs.Replies.{page_reply, done_reply, posted_reply, reaped_
 use Rattle.vb_guest.proofs.Fresh.{everywhere}
 use Rattle.vb_guest.proofs.Rogues.{DriverSame, Keeps, driver_same, rogue_alone, IsOther}
 use Rattle.vb_guest.proofs.Rogues.{keeps_part, up_kept}
+use Rattle.vb_guest.proofs.Rogues.{device_alike, kept_of_rogue}
 
 -- the refusal is one of these tests, none of which is for want of frames or of memory
 not_for_want : (why : Refusal) (tests : List Test) → Some why ≡ first_refusal tests
@@ -204,13 +205,7 @@ failed_keeps : (why : Refusal) (m : Pages) (p1 p2 : Part) (d : DriverState)
     → (why ≡ RingBroken → contains p1.status driver_ok ≡ true) → Keeps m m p1 p2 d d
 failed_keeps RingBroken m p1 p2 d is up = record {
   driver = driver_same d d refl;
-  device = record {
-    size = ap (λ (p : Part). p.queue_size) is;
-    paced = ap (λ (p : Part). p.paced) is;
-    loose = λ none. ap (λ (p : Part). p.loose) is ∙ none;
-    flagged = ap (λ (p : Part). length p.ballooned) is;
-    unreserved = λ page low none. ap (λ (p : Part). is_ballooned p.ballooned page) is ∙ none;
-  };
+  device = device_alike p1 p2 (ap kept_of_rogue is);
   up = λ was ok. up_kept m m p1 p2 refl (λ page low. refl)
       (ap (λ (p : Part). p.inflate.taken) is) (ap (λ (p : Part). p.report.taken) is)
       (was (up refl));
@@ -289,14 +284,7 @@ reap_rogue m1 m2 p1 p2 d1 d2 g q (Ok (Some reaped)) did rogue =
     rogue_alone m1 m2 p1 p2 d1 d2 g (Reap q) _ rogue
     (record {
       driver = reaped_same q reaped.head _ d1 d2 did.reaps.state;
-      device = record {
-        size = ap (λ (p : Part). p.queue_size) part;
-        paced = ap (λ (p : Part). p.paced) part;
-        loose = λ none. ap (λ (p : Part). p.loose) part ∙ none;
-        flagged = ap (λ (p : Part). length p.ballooned) part;
-        unreserved = λ page low none.
-            ap (λ (p : Part). is_ballooned p.ballooned page) part ∙ none;
-      };
+      device = device_alike p1 p2 (ap kept_of_rogue part);
       up = λ was ok. up_kept m1 m2 p1 p2 count (λ page low. same page)
           (ap (λ (p : Part). p.inflate.taken) part) (ap (λ (p : Part). p.report.taken) part)
           (was (ap (λ (p : Part). contains p.status driver_ok) (sym part) ∙ ok));

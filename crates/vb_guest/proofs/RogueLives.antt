@@ -1,8 +1,8 @@
 -- A guest that wrote past its driver is initialised; an honest guest becomes one.
-use Rattle.std.specs.Prelude.{◌≡◌, ℕ, ◌<◌, Bool, true, false, List, [], ◌∷◌, length, All, Option}
-use Rattle.std.specs.Prelude.{Some, None, Result, Ok, Err, IsSome, MatchOption, count_by, is_none}
+use Rattle.std.specs.Prelude.{◌≡◌, ℕ, ◌<◌, Bool, true, false, List, [], length, All, Option}
+use Rattle.std.specs.Prelude.{Some, Result, Ok, Err, IsSome, MatchOption, is_none}
 use Rattle.std.specs.Prelude.{refl, ◌≤◌, is_some}
-use Rattle.std.proofs.Common.{sym, ◌∙◌, ap, subst, arith, inl, inr}
+use Rattle.std.proofs.Common.{sym, ◌∙◌, ap, subst, arith, inr}
 use Rattle.std.proofs.lemmas.List.{length-replicate}
 use Rattle.std.proofs.lemmas.List.Elements.{All-nil}
 use Rattle.vb_model.specs.declared.calls.Call.TheVariants.{Init}
@@ -10,11 +10,10 @@ use Rattle.vb_model.specs.declared.calls.Claim.{Claim}
 use Rattle.vb_model.specs.declared.replies.Refusal.{Refusal}
 use Rattle.vb_model.specs.declared.replies.Refusal.TheVariants.{AlreadyUp, NoFrame, NoMemory}
 use Rattle.vb_model.specs.declared.replies.Reply.TheVariants.{Refused}
-use Rattle.vb_model.specs.Driver.{AllDistinct, given, claim_refusal, AreClaimsFor}
+use Rattle.vb_model.specs.Driver.{AllDistinct, given, AreClaimsFor}
 use Rattle.vb_model.specs.Guest.{Guest, all_backed, stats_vq, is_ballooned}
 use Rattle.vb_model.specs.Life.{lacking, feature_tests, feature_refusal, accepted_before}
 use Rattle.vb_model.specs.Orderly.{times}
-use Rattle.vb_model.specs.Requests.{Request}
 use Rattle.vb_model.specs.Rogue.{LosesFrames}
 use Rattle.vb_model.specs.Status.{contains, driver_ok}
 use Rattle.vb_model.specs.Tests.{is_in}
@@ -28,15 +27,15 @@ use Rattle.vb_driver.specs.State.{DriverState}
 use Rattle.vb_driver.specs.Calls.{InitsBy, Starts, FirstBuffer, GivesUp}
 use Rattle.vb_guest.specs.Lives.{bare_from, AllSupplied, why_unsupplied, SuppliesBy}
 use Rattle.vb_guest.specs.Replies.{ready_reply}
-use Rattle.vb_guest.specs.Stands.{Honest, IsOwnRequest, IsRogueUp, Rogue}
-use Rattle.vb_guest.specs.Steps.{backing_count, is_frame, StepsAlone, StepsOver}
+use Rattle.vb_guest.specs.Stands.{IsOwnRequest, Rogue}
+use Rattle.vb_guest.specs.Steps.{backing_count, StepsAlone, StepsOver}
 use Rattle.vb_guest.specs.Supply.{Supply, supply_of, Moves, nothing}
 use Rattle.vb_guest.proofs.Fresh.{everywhere}
 use Rattle.vb_guest.proofs.InitStep.{bare_is, now_backed, has_all, given_up, driver_tests}
 use Rattle.vb_guest.proofs.Moving.{moves_as}
-use Rattle.vb_guest.proofs.OwnBlocks.{own_pages}
 use Rattle.vb_guest.proofs.Rogues.{Keeps, DeviceSame, driver_same, rogue_after, rogue_stands}
 use Rattle.vb_guest.proofs.Rogues.{rogue_alone, rogue_steps, rogue_unclaimed, keeps_part}
+use Rattle.vb_guest.proofs.Rogues.{device_alike, kept_of_rogue}
 use Rattle.vb_guest.proofs.Supplying.{all_distinct, bounded, frames_given, frames_filled}
 use Rattle.vb_guest.proofs.Supplying.{supplied_count}
 use Rattle.vb_guest.proofs.Writing.{HasFrames}
@@ -211,14 +210,7 @@ init_supplied_rogue Answers out1 out2 l m1 m2 m3 p1 p2 p3 d1 d2 g wanted feature
     rogue_stands m1 m2 p1 p2 d1 d1 g frames rogue
     (record {
       driver = driver_same d1 d1 refl;
-      device = record {
-        size = ap (λ (p : Part). p.queue_size) part;
-        paced = ap (λ (p : Part). p.paced) part;
-        loose = λ none. ap (λ (p : Part). p.loose) part ∙ none;
-        flagged = ap (λ (p : Part). length p.ballooned) part;
-        unreserved = λ page low none.
-            ap (λ (p : Part). is_ballooned p.ballooned page) part ∙ none;
-      };
+      device = device_alike p1 p2 (ap kept_of_rogue part);
       up = λ was ok. absurd
           (let down : contains 0 driver_ok ≡ true =
           ap (λ (s : ℕ). contains s driver_ok) (sym new) ∙ ok in

@@ -1,15 +1,14 @@
 -- Bytes of a guest's pages that are written past its driver, and those that a rogue guest writes.
 use Rattle.std.specs.Prelude.{◌≡◌, ◌≢◌, ℕ, ◌<◌, Bool, true, false, List, [], ◌∷◌, length, Option}
 use Rattle.std.specs.Prelude.{Some, None, All, MatchOption, is_some, is_none, count_by, ◌≤◌, refl}
-use Rattle.std.specs.Prelude.{if◌then◌else◌, ◌+◌}
+use Rattle.std.specs.Prelude.{if◌then◌else◌}
 use Rattle.std.proofs.Common.{sym, ◌∙◌, ap, subst, arith, inl, inr}
-use Rattle.std.proofs.lemmas.Bool.{cases_eq, cases_lt}
-use Rattle.vb_model.specs.declared.calls.Call.{Call}
+use Rattle.std.proofs.lemmas.Bool.{cases_eq}
 use Rattle.vb_model.specs.declared.calls.Call.TheVariants.{Read, Write, Scribble}
 use Rattle.vb_model.specs.declared.calls.Claim.{Claim}
 use Rattle.vb_model.specs.declared.calls.Claim.TheVariants.{Gave, GaveNoFrame, GaveNoMemory}
 use Rattle.vb_model.specs.declared.replies.Refusal.{Refusal}
-use Rattle.vb_model.specs.declared.replies.Refusal.TheVariants.{OutOfRam, NoMemory}
+use Rattle.vb_model.specs.declared.replies.Refusal.TheVariants.{OutOfRam}
 use Rattle.vb_model.specs.declared.replies.Refusal.TheVariants.{NoFrame as NoFrameLeft}
 use Rattle.vb_model.specs.declared.replies.Reply.{Reply}
 use Rattle.vb_model.specs.declared.replies.Reply.TheVariants.{Done, Refused}
@@ -20,33 +19,32 @@ use Rattle.vb_model.specs.Limits.{reserved_pages}
 use Rattle.vb_model.specs.Orderly.{times}
 use Rattle.vb_model.specs.Refusals.{refusal_of, is_outside}
 use Rattle.vb_model.specs.Requests.{Request}
-use Rattle.vb_model.specs.Rogue.{RogueStep, ScribbleStep, Scribbles, Scribbled, IsRogueAfter}
+use Rattle.vb_model.specs.Rogue.{ScribbleStep, Scribbles, Scribbled, IsRogueAfter}
 use Rattle.vb_model.specs.Rogue.{LosesFrames}
 use Rattle.vb_model.specs.Status.{contains, driver_ok}
-use Rattle.vb_model.specs.Step.{HonestStep, GuestStep}
+use Rattle.vb_model.specs.Step.{GuestStep}
 use Rattle.vb_model.proofs.Wanting.{wants}
 use Rattle.vb_ram.specs.Pages.{Pages, frame_at, number_of, Covers, Wrote, Supplied}
 use Rattle.vb_ram.specs.Part.{Part}
 use Rattle.vb_frames.specs.declared.keeper.Refused.{Refused as KeeperRefused}
 use Rattle.vb_frames.specs.declared.keeper.Refused.TheVariants.{NoFrame, Memory}
-use Rattle.vb_frames.specs.Out.{claim_in}
 use Rattle.vb_driver.specs.State.{DriverState}
-use Rattle.vb_guest.specs.Reported.{IsReport}
 use Rattle.vb_guest.specs.Stands.{Honest, IsOwnRequest, IsRogueUp, Rogue, Stands}
 use Rattle.vb_guest.specs.Steps.{backing_count, is_frame, StepsAlone, StepsOver}
 use Rattle.vb_guest.specs.Supply.{supply_of, AreClaimed, IsClaimed, Moves, nothing}
-use Rattle.vb_guest.proofs.Closing.{honest_refused, guest_step, refused_alone, honest_own}
+use Rattle.vb_guest.proofs.Closing.{guest_step, refused_alone, honest_own}
 use Rattle.vb_guest.proofs.Freed.{down_not_ok}
 use Rattle.vb_guest.proofs.Moving.{moves_as, times_one}
 use Rattle.vb_guest.proofs.Offered.{high_page}
 use Rattle.vb_guest.proofs.OwnBlocks.{own_pages}
-use Rattle.vb_guest.proofs.Rogues.{Keeps, driver_same, device_same, keeps_part, rogue_after}
+use Rattle.vb_guest.proofs.Rogues.{driver_same, device_alike, keeps_part, rogue_after}
+use Rattle.vb_guest.proofs.Rogues.{kept_of_rogue}
 use Rattle.vb_guest.proofs.Rogues.{rogue_stands, rogue_alone, rogue_steps, rogue_unclaimed}
 use Rattle.vb_guest.proofs.Standing.{by_guest, rogue_is, stands_with, stands_of, own_moved}
 use Rattle.vb_guest.proofs.Standing.{alone_stands, over_stands}
 use Rattle.vb_guest.proofs.SweepStep.{ballooned_free}
 use Rattle.vb_guest.proofs.WriteStep.{inside_is, outside_is, needs_one, refusal_of_claim}
-use Rattle.vb_guest.proofs.Writing.{HasFrames, frames_supplied, count_backed}
+use Rattle.vb_guest.proofs.Writing.{frames_supplied, count_backed}
 
 -- ---- any guest as a rogue one
 
@@ -193,14 +191,7 @@ supplied_rogue m1 m2 m3 m4 p1 p2 p3 p4 d g page off frame bs covers same now wro
     rogue_stands m1 m4 p1 p4 d d g (backed page frame g.frames) rogue
     (record {
       driver = driver_same d d refl;
-      device = record {
-        size = ap (λ (p : Part). p.queue_size) part;
-        paced = ap (λ (p : Part). p.paced) part;
-        loose = λ none. ap (λ (p : Part). p.loose) part ∙ none;
-        flagged = ap (λ (p : Part). length p.ballooned) part;
-        unreserved = λ page low none.
-            ap (λ (p : Part). is_ballooned p.ballooned page) part ∙ none;
-      };
+      device = device_alike p1 p4 (ap kept_of_rogue part);
       up = λ was ok.
           let up = was (ap (λ (p : Part). contains p.status driver_ok) (sym part) ∙ ok) in
           record {

@@ -1,6 +1,6 @@
 -- A call on a guest that wrote past its driver: what it keeps is enough.
-use Rattle.std.specs.Prelude.{◌≡◌, ◌≢◌, ℕ, ◌<◌, Bool, true, false, List, [], ◌∷◌, length}
-use Rattle.std.specs.Prelude.{All, Option, Some, None, MatchBool, count_by, refl, if◌then◌else◌}
+use Rattle.std.specs.Prelude.{◌≡◌, ◌≢◌, ℕ, ◌<◌, Bool, true, false, List, [], length}
+use Rattle.std.specs.Prelude.{All, Option, Some, MatchBool, count_by, refl}
 use Rattle.std.specs.Prelude.{is_some, ◌⊎◌, MatchOption}
 use Rattle.std.proofs.Common.{sym, ◌∙◌, ap, subst, inl, inr, arith}
 use Rattle.vb_model.specs.declared.calls.Call.{Call}
@@ -20,7 +20,7 @@ use Rattle.vb_model.specs.Rogue.{is_read}
 use Rattle.vb_model.specs.Step.{HonestStep, GuestStep}
 use Rattle.vb_model.proofs.Wanting.{wants, no_want}
 use Rattle.vb_ram.specs.Pages.{Pages, frame_at}
-use Rattle.vb_ram.specs.Part.{Part}
+use Rattle.vb_ram.specs.Part.{Part, no_part}
 use Rattle.vb_driver.specs.State.{DriverState}
 use Rattle.vb_guest.specs.Stands.{IsOwnRequest, IsRogueUp, Rogue}
 use Rattle.vb_guest.specs.Steps.{backing_count, StepsAlone, StepsOver}
@@ -59,8 +59,18 @@ driver_same d1 d2 e = record {
   table = ap (λ (d : DriverState). length d.places) e;
 }
 
-pub device_same : (p1 p2 : Part) → p2 ≡ p1 → DeviceSame p1 p2
-device_same p1 p2 e = record {
+-- what of a device is known where its guest is rogue, but what it answers to queries
+abbrev pub kept_of_rogue : Part → Part
+kept_of_rogue p =
+    record no_part {
+      queue_size = p.queue_size;
+      paced = p.paced;
+      loose = p.loose;
+      ballooned = p.ballooned;
+    }
+
+pub device_alike : (p1 p2 : Part) → kept_of_rogue p2 ≡ kept_of_rogue p1 → DeviceSame p1 p2
+device_alike p1 p2 e = record {
   size = ap (λ (p : Part). p.queue_size) e;
   paced = ap (λ (p : Part). p.paced) e;
   loose = λ none. ap (λ (p : Part). p.loose) e ∙ none;
@@ -212,20 +222,20 @@ pub keeps_part : (m1 m2 : Pages) (p1 p2 : Part) (d1 d2 : DriverState) → Driver
     → Keeps m1 m2 p1 p2 d1 d2
 keeps_part m1 m2 p1 p2 d1 d2 driver part count same = record {
   driver = driver;
-  device = device_same p1 p2 part;
+  device = device_alike p1 p2 (ap kept_of_rogue part);
   up = λ up ok. up_kept m1 m2 p1 p2 count (λ page low. same page)
       (ap (λ (p : Part). p.inflate.taken) part) (ap (λ (p : Part). p.report.taken) part)
       (up (ap (λ (p : Part). contains p.status driver_ok) (sym part) ∙ ok));
 }
 
--- ---- frames that it claims
+-- ---- a target is set, and frames of the device's own go out or back
 
--- the device's own frames are none of what it keeps of a guest
-pub rogue_own : (m1 m2 : Pages) (p1 p2 : Part) (d : DriverState) (g : Guest) → m2 ≡ m1
-    → p2 ≡ record p1 { own = p2.own } → Rogue m1 p1 d g → Rogue m2 p2 d g
-rogue_own m1 m2 p1 p2 d g memory part rogue =
-    subst (λ (m : Pages). Rogue m p2 d g) (sym memory)
-    (subst (λ (p : Part). Rogue m1 p d g) (sym part) (record {
+pub rogue_changed : (m1 m2 : Pages) (p1 p2 : Part) (d : DriverState) (g : Guest) (n : ℕ)
+    (own : List ℕ) → m2 ≡ m1 → p2 ≡ record p1 { target = n; own = own } → Rogue m1 p1 d g
+    → Rogue m2 p2 d (record g { target = n })
+rogue_changed m1 m2 p1 p2 d g n own memory part rogue =
+    subst (λ (m : Pages). Rogue m p2 d (record g { target = n })) (sym memory)
+    (subst (λ (p : Part). Rogue m1 p d (record g { target = n })) (sym part) (record {
       rogue = rogue.rogue;
       config = rogue.config;
       pages = rogue.pages;
@@ -237,7 +247,7 @@ rogue_own m1 m2 p1 p2 d g memory part rogue =
       size = rogue.size;
       paced = rogue.paced;
       status = rogue.status;
-      target = rogue.target;
+      target = refl;
       last = rogue.last;
       ballooned = rogue.ballooned;
       flagged = rogue.flagged;
@@ -250,6 +260,15 @@ rogue_own m1 m2 p1 p2 d g memory part rogue =
       up = λ ok. let up = rogue.up ok in
           record { backed = up.backed; inflates = up.inflates; reports = up.reports };
     }))
+
+-- the device's own frames are none of what it keeps of a guest
+pub rogue_own : (m1 m2 : Pages) (p1 p2 : Part) (d : DriverState) (g : Guest) → m2 ≡ m1
+    → p2 ≡ record p1 { own = p2.own } → Rogue m1 p1 d g → Rogue m2 p2 d g
+rogue_own m1 m2 p1 p2 d g memory part rogue =
+    subst (λ (n : ℕ). Rogue m2 p2 d (record g { target = n })) rogue.target
+    (rogue_changed m1 m2 p1 p2 d g p1.target p2.own memory part rogue)
+
+-- ---- frames that it claims
 
 -- a claim was refused: nothing is changed
 pub rogue_unclaimed : (Answers : List Bool → Claim → Type 0) (out1 out2 : List Bool)

@@ -56,9 +56,6 @@ pub inside_is : (g : Guest) (mem : Pages) (page off len : ℕ) → length mem �
 inside_is g mem page off len e covers = let lt = covers.page in let fits = covers.bytes in
     grind (arith, nat_tests)
 
-not_held : (b : Bool) → b ≡ false → not b ≡ true
-not_held b e = ap not e
-
 -- a page that isn't used
 pub write_not_held : (m : Pages) (p : Part) (d : DriverState) (g : Guest) (page off : ℕ)
     (bs : List ℕ) → is_used (place_of d.places page) ≡ false → Honest m p d g

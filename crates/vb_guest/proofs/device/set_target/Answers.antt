@@ -1,7 +1,8 @@
 use Rattle.std.proofs.Common.{ap, refl}
 use Rattle.vb_ram.specs.Part.{Part}
 use Rattle.vb_guest.proofs.TargetStep.{target_stands, target_step}
-use Rattle.vb_guest.proofs.RogueDevice.{target_stands_rogue, target_rogue}
+use Rattle.vb_guest.proofs.RogueDevice.{target_rogue}
+use Rattle.vb_guest.proofs.Rogues.{rogue_changed}
 use Rattle.vb_guest.proofs.Standing.{alone_stands, by_guest, honest_is, rogue_is, stands_with}
 use Rattle.vb_guest.proofs.device.set_target.Goals as goal
 
@@ -16,7 +17,7 @@ returns g c =
           stands_with keeps _ _ _ _ d d guest _ stands flag numbers refl
           (by_guest keeps _ _ d guest stands
           (λ honest. honest_is _ _ d _ (target_stands _ _ _ _ d guest _ memory part honest))
-          (λ rogue. rogue_is _ _ d _ (target_stands_rogue _ _ _ _ d guest _ memory part rogue)));
+          (λ rogue. rogue_is _ _ d _ (rogue_changed _ _ _ _ d guest _ _ memory part rogue)));
       step = λ keeps d guest stands.
           alone_stands keeps _ _ _ _ d d guest _ _ stands flag numbers
           (λ honest. target_step _ _ _ _ d guest _ memory part honest)

@@ -1,4 +1,4 @@
-use Rattle.std.proofs.Common.{◌≡◌, List, Bool, sym, ap, subst, arith}
+use Rattle.std.proofs.Common.{List, Bool, ap, subst, arith}
 use Rattle.vb_model.specs.Tests.{one_if}
 use Rattle.vb_model.specs.Orderly.{times}
 use Rattle.vb_ram.specs.Part.{Part}
