@@ -7,20 +7,23 @@ ghost use Rattle.vb_chain.specs.declared.descriptor.TheConstants.{DESCRIPTORS_IN
 ghost use Rattle.vb_chain.specs.Table.{descriptor_at};
 
 use crate::{DESCRIPTOR_SIZE, Descriptor};
-use vb_ram::{GuestBytes, read_u16, read_u32, read_u64, write_u16, write_u32, write_u64};
+use byteorder::{ByteOrder, LittleEndian};
+use vb_ram::{GuestBytes, write_u16, write_u32, write_u64};
 
-/// Reads the descriptor of a number, in the table at the start of a page (VIRTIO 1.1, 2.6.5).
+/// Reads the descriptor of a number, in the table at the start of a page (VIRTIO 1.1, 2.6.5). Its
+/// bytes are read at once.
 pub fn read_descriptor<G: GuestBytes>(ram: &G, page: u32, index: u16) -> Descriptor
     requires page { page < length (G.mem ram.now) }
     requires index { index < DESCRIPTORS_IN_A_PAGE }
     ensures { result ≡ descriptor_at (G.mem ram.now) page index }
 {
-    let at = DESCRIPTOR_SIZE * usize::from(index);
+    let mut bytes = [0; DESCRIPTOR_SIZE];
+    let _ = ram.read(page, DESCRIPTOR_SIZE * usize::from(index), &mut bytes);
     Descriptor {
-        addr: read_u64(ram, page, at),
-        len: read_u32(ram, page, at + 8),
-        flags: read_u16(ram, page, at + 12),
-        next: read_u16(ram, page, at + 14),
+        addr: LittleEndian::read_u64(&bytes),
+        len: LittleEndian::read_u32(&bytes[8..]),
+        flags: LittleEndian::read_u16(&bytes[12..]),
+        next: LittleEndian::read_u16(&bytes[14..]),
     }
 }
 
