@@ -1,7 +1,7 @@
 use Rattle.std.specs.Prelude.{◌≡◌, ℕ, ◌+◌, ◌*◌}
 use Rattle.std.proofs.Common.{◌∙◌, ap, arith}
-use Rattle.vb_ram.specs.Pages.{page_at, Pages, SameIn, PutField}
-use Rattle.vb_ram.proofs.FieldLaws.{same_page, field_in, same_below}
+use Rattle.vb_ram.specs.Pages.{page_at, Pages, SameIn}
+use Rattle.vb_ram.proofs.FieldLaws.{same_page, field_in}
 use Rattle.vb_chain.specs.declared.descriptor.Descriptor.{Descriptor}
 use Rattle.vb_chain.specs.Table.{descriptor_at}
 
@@ -24,27 +24,6 @@ descriptor_kept old new p i same = same_parts _ _
     (field_in 4 old new p (16 * i) (16 * i + 16) (16 * i + 8) same (omega arith) (omega arith))
     (field_in 2 old new p (16 * i) (16 * i + 16) (16 * i + 12) same (omega arith) (omega arith))
     (field_in 2 old new p (16 * i) (16 * i + 16) (16 * i + 14) same (omega arith) (omega arith))
-
--- four fields put one after the other make a descriptor
-pub descriptor_put : (m1 m2 m3 m4 m5 : Pages) (p i : ℕ) (d : Descriptor)
-    → PutField 8 m1 m2 p (16 * i) d.addr → PutField 4 m2 m3 p (16 * i + 8) d.len
-    → PutField 2 m3 m4 p (16 * i + 12) d.flags → PutField 2 m4 m5 p (16 * i + 14) d.next
-    → descriptor_at m5 p i ≡ d
-unfolding descriptor_at
-descriptor_put m1 m2 m3 m4 m5 p i d w x y z = same_parts _ _
-    (field_in 8 m4 m5 p (16 * i) (16 * i + 8) (16 * i)
-    (same_below m4 m5 p _ _ _ _ z.rest (omega arith)) (omega arith) (omega arith)
-    ∙ field_in 8 m3 m4 p (16 * i) (16 * i + 8) (16 * i)
-    (same_below m3 m4 p _ _ _ _ y.rest (omega arith)) (omega arith) (omega arith)
-    ∙ field_in 8 m2 m3 p (16 * i) (16 * i + 8) (16 * i)
-    (same_below m2 m3 p _ _ _ _ x.rest (omega arith)) (omega arith) (omega arith) ∙ w.value)
-    (field_in 4 m4 m5 p (16 * i + 8) (16 * i + 12) (16 * i + 8)
-    (same_below m4 m5 p _ _ _ _ z.rest (omega arith)) (omega arith) (omega arith)
-    ∙ field_in 4 m3 m4 p (16 * i + 8) (16 * i + 12) (16 * i + 8)
-    (same_below m3 m4 p _ _ _ _ y.rest (omega arith)) (omega arith) (omega arith) ∙ x.value)
-    (field_in 2 m4 m5 p (16 * i + 12) (16 * i + 14) (16 * i + 12)
-    (same_below m4 m5 p _ _ _ _ z.rest (omega arith)) (omega arith) (omega arith) ∙ y.value)
-    z.value
 
 -- where the table's page is as before, so is each descriptor
 pub descriptor_apart : (old new : Pages) (p i : ℕ) → page_at new p ≡ page_at old p

@@ -1,8 +1,8 @@
 -- From one head there is one chain, or one fault, and not both.
 use Rattle.std.proofs.Common.{◌≡◌, ℕ, zero, suc, ◌+◌, ◌-◌, ◌<◌, ◌≤◌, List, true, false, Some, None}
-use Rattle.std.proofs.Common.{Result, Ok, Err, length, map, take, sym, ◌∙◌, ap, inl, inr, arith}
+use Rattle.std.proofs.Common.{length, map, take, sym, ◌∙◌, ap, inl, inr, arith}
 use Rattle.std.proofs.Common.{add-one}
-use Rattle.std.specs.Prelude.{slice_index, IfOk, IfErr, IsOkAnd}
+use Rattle.std.specs.Prelude.{slice_index}
 use Rattle.std.specs.List.{list_any}
 use Rattle.std.proofs.lemmas.List.{length-take-le, get_or-take}
 use Rattle.std.proofs.lemmas.Grind.{same_number_lists}
@@ -125,16 +125,3 @@ fault_is_one d q end head f g (inl a) (inr b) = let past = a.past in let inside 
 fault_is_one d q end head f g (inr a) (inl b) = let past = b.past in let inside = a.1.inside in
     absurd (omega arith)
 fault_is_one d q end head f g (inr a) (inr b) = breaks_same d q end head a.0 b.0 f g a.1 b.1
-
--- what an answer that is right says of each chain and each fault
-pub answer_chain : (d : ℕ → Descriptor) (q end head : ℕ) (r : Result (List Piece) ChainFault)
-    → IfOk r (ChainGives d q end head) → IfErr r (λ f. FaultGives d q end head f)
-    → (xs : List Piece) → ChainGives d q end head xs → IsOkAnd r (λ got. got ≡ xs)
-answer_chain d q end head (Ok got) a b xs c = chain_is_one d q end head got xs a c
-answer_chain d q end head (Err f) a b xs c = absurd (chain_or_fault d q end head xs f c b)
-
-pub answer_fault : (d : ℕ → Descriptor) (q end head : ℕ) (r : Result (List Piece) ChainFault)
-    → IfOk r (ChainGives d q end head) → IfErr r (λ f. FaultGives d q end head f)
-    → (g : ChainFault) → FaultGives d q end head g → r ≡ Err g
-answer_fault d q end head (Ok got) a b g c = absurd (chain_or_fault d q end head got g a c)
-answer_fault d q end head (Err f) a b g c = ap Err (fault_is_one d q end head f g b c)

@@ -3,7 +3,6 @@
 ghost use Rattle.std.specs.Prelude.{◌≡◌, ◌<◌, [], ◌∷◌, ◌++◌, length};
 ghost use Rattle.vb_chain.specs.declared.pieces.TheConstants.{MAX_DESCRIPTORS};
 
-use arrayvec::ArrayVec;
 use std::marker::Model;
 use vb_model::limits;
 
@@ -21,20 +20,39 @@ pub struct Piece {
     pub writable: bool,
 }
 
-/// A chain: its pieces, in order, never more than a table has descriptors.
+/// What stands where a chain has no piece.
+const NO_PIECE: Piece = Piece {
+    addr: 0,
+    len: 0,
+    writable: false,
+};
+
+/// A chain: its pieces, in order, never more than a table has descriptors. It has room for all of
+/// them, so whoever reads many chains keeps one and lets it be filled.
 #[derive(Drop)]
 pub struct Chain {
-    /// They, in order.
-    pieces: ArrayVec<Piece, MAX_DESCRIPTORS>,
+    /// They, in order; past `len` unused.
+    pieces: [Piece; MAX_DESCRIPTORS],
+    /// How many there are.
+    len: usize,
 }
 
 impl Model for Chain {
-    ghost use Rattle.std.specs.Prelude.{List};
+    ghost use Rattle.std.specs.Prelude.{◌≤◌, List, take};
     ghost use Rattle.vb_chain.specs.declared.pieces.Piece.{Piece};
+    ghost use Rattle.vb_chain.specs.declared.pieces.TheConstants.{MAX_DESCRIPTORS};
 
     ghost Value = { List Piece };
 
-    ghost view = { λ c. c.pieces.items };
+    ghost view = { λ c. take c.len c.pieces };
+
+    ghost invariant = { λ c. c.len ≤ MAX_DESCRIPTORS };
+}
+
+impl Default for Chain {
+    fn default() -> Chain {
+        Chain::new()
+    }
 }
 
 impl Chain {
@@ -42,16 +60,24 @@ impl Chain {
     pub fn pieces(&self) -> &[Piece]
         ensures { result.now ≡ self.now }
     {
-        &self.pieces
+        &self.pieces[..self.len]
     }
 
     /// A chain of no piece yet.
-    pub(crate) fn empty() -> Chain
+    pub fn new() -> Chain
         ensures { result ≡ [] }
     {
         Chain {
-            pieces: ArrayVec::new(),
+            pieces: [NO_PIECE; MAX_DESCRIPTORS],
+            len: 0,
         }
+    }
+
+    /// Takes all pieces out.
+    pub fn clear(&mut self)
+        ensures { self.new ≡ [] }
+    {
+        self.len = 0;
     }
 
     /// Puts a piece behind the others.
@@ -59,6 +85,7 @@ impl Chain {
         requires { length self.old < MAX_DESCRIPTORS }
         ensures { self.new ≡ self.old ++ piece ∷ [] }
     {
-        self.pieces.push(piece);
+        self.pieces[self.len] = piece;
+        self.len += 1;
     }
 }

@@ -1,6 +1,7 @@
 //! The walk along a chain.
 
-ghost use Rattle.std.specs.Prelude.{◌≡◌, ◌+◌, ◌*◌, ◌<◌, ◌≤◌, IfOk, IfErr, IsOkAnd, List, length};
+ghost use Rattle.std.specs.Prelude.{◌≡◌, ◌+◌, ◌*◌, ◌<◌, ◌≤◌, IfOk, IfErr, IsOk, IsOkAnd, OnOk, OnErr};
+ghost use Rattle.std.specs.Prelude.{List, [], length};
 ghost use Rattle.vb_ram.specs.Pages.{end_of};
 ghost use Rattle.vb_chain.specs.declared.pieces.TheConstants.{MAX_DESCRIPTORS};
 ghost use Rattle.vb_chain.specs.Table.{descriptor_at};
@@ -65,15 +66,60 @@ pub fn walk<G: GuestBytes>(ram: &G, table: u32, head: u16, size: u16) -> Result<
         FaultGives (descriptor_at (G.mem ram.now) table) size (end_of (G.mem ram.now)) head f →
         result ≡ Err f }
 {
-    follow(ram, table, head, size)
+    let mut chain = Chain::new();
+    match walk_into(ram, table, head, size, &mut chain) {
+        Ok(()) => Ok(chain),
+        Err(fault) => Err(fault),
+    }
+}
+
+/// The same walk into a chain that the caller keeps, so that none is made or moved. What the chain
+/// held before is gone; where the walk ends with a fault, it is left with no piece.
+pub fn walk_into<G: GuestBytes>(
+    ram: &G,
+    table: u32,
+    head: u16,
+    size: u16,
+    chain: &mut Chain,
+) -> Result<(), ChainFault>
+    requires table { table < length (G.mem ram.now) }
+    requires size { size ≤ MAX_DESCRIPTORS }
+    ensures chain { OnOk result (ChainGives
+        (descriptor_at (G.mem ram.now) table) size (end_of (G.mem ram.now)) head chain.new) }
+    ensures fault { IfErr result (λ f.
+        FaultGives (descriptor_at (G.mem ram.now) table) size (end_of (G.mem ram.now)) head f) }
+    ensures none { OnErr result (chain.new ≡ []) }
+    ensures short { OnOk result ((0 < length chain.new) × (length chain.new ≤ size)) }
+    ensures each_chain { (pieces : List Piece) →
+        ChainGives (descriptor_at (G.mem ram.now) table) size (end_of (G.mem ram.now)) head pieces →
+        IsOk result × (chain.new ≡ pieces) }
+    ensures each_fault { (f : ChainFault) →
+        FaultGives (descriptor_at (G.mem ram.now) table) size (end_of (G.mem ram.now)) head f →
+        result ≡ Err f }
+{
+    chain.clear();
+    match follow(ram, table, head, size, chain) {
+        Ok(()) => Ok(()),
+        Err(fault) => {
+            chain.clear();
+            Err(fault)
+        }
+    }
 }
 
 /// The walk itself, one descriptor after the other.
-fn follow<G: GuestBytes>(ram: &G, table: u32, head: u16, size: u16) -> Result<Chain, ChainFault>
+fn follow<G: GuestBytes>(
+    ram: &G,
+    table: u32,
+    head: u16,
+    size: u16,
+    chain: &mut Chain,
+) -> Result<(), ChainFault>
     requires table { table < length (G.mem ram.now) }
     requires size { size ≤ MAX_DESCRIPTORS }
-    ensures chain { IfOk result (λ chain.
-        ChainGives (descriptor_at (G.mem ram.now) table) size (end_of (G.mem ram.now)) head chain) }
+    requires empty { chain.old ≡ [] }
+    ensures chain { OnOk result (ChainGives
+        (descriptor_at (G.mem ram.now) table) size (end_of (G.mem ram.now)) head chain.new) }
     ensures fault { IfErr result (λ f.
         FaultGives (descriptor_at (G.mem ram.now) table) size (end_of (G.mem ram.now)) head f) }
 {
@@ -81,7 +127,6 @@ fn follow<G: GuestBytes>(ram: &G, table: u32, head: u16, size: u16) -> Result<Ch
         return Err(ChainFault::BadHead);
     }
     let end = limits::PAGE_SIZE as u64 * u64::from(ram.pages());
-    let mut chain = Chain::empty();
     let mut writing = false;
     let mut index = head;
     for visited in 0..size {
@@ -97,7 +142,7 @@ fn follow<G: GuestBytes>(ram: &G, table: u32, head: u16, size: u16) -> Result<Ch
         });
         writing |= writable;
         if !descriptor.has_next() {
-            return Ok(chain);
+            return Ok(());
         }
         index = descriptor.next;
     }

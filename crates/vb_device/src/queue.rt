@@ -20,7 +20,7 @@ use crate::Statistics;
 use crate::taken::{TakenRequest, read_chain};
 use arrayvec::ArrayVec;
 use std::marker::Model;
-use vb_chain::ChainFault;
+use vb_chain::{Chain, ChainFault};
 use vb_model::Refusal;
 use vb_model::layout::STATISTICS_QUEUE;
 use vb_model::limits::MAX_OUTSTANDING;
@@ -150,14 +150,15 @@ impl DeviceQueue {
         if ram.pages() == 0 {
             return Ok(None);
         }
-        match self.queue.pop_descriptor_chain(ram) {
+        let mut chain = Chain::new();
+        match self.queue.pop_descriptor_chain_into(ram, &mut chain) {
             Err(fault) => Err(broken(fault)),
             Ok(found) => match found {
                 None => Ok(None),
-                Some(taken) => match read_chain(queue, ram, taken.chain.pieces(), last) {
+                Some(head) => match read_chain(queue, ram, chain.pieces(), last) {
                     Ok(pages) => {
-                        self.taken.push(TakenRequest::new(taken.head, pages));
-                        Ok(Some(taken.head))
+                        self.taken.push(TakenRequest::new(head, pages));
+                        Ok(Some(head))
                     }
                     Err(wrong) => {
                         self.queue.go_to_previous_position();

@@ -1,16 +1,14 @@
 -- The contracts of the ring's calls, put together from what their parts give.
 use Rattle.std.specs.Prelude.{◌≡◌, ◌≢◌, ℕ, ◌+◌, ◌*◌, ◌%◌, ◌<◌, ◌≤◌, nat_lt, Bool, true, false, List}
 use Rattle.std.specs.Prelude.{[], ◌∷◌, ◌++◌, Option, Some, None, Result, Ok, Err, if◌then◌else◌}
-use Rattle.std.specs.Prelude.{length, take, slice_get, slice_index, slice_index_or, refl}
+use Rattle.std.specs.Prelude.{length, slice_get, slice_index, slice_index_or, refl}
 use Rattle.std.proofs.Common.{sym, ◌∙◌, ap, subst, arith, inl, inr}
 use Rattle.std.proofs.lemmas.Bool.{cases_eq, lt-ltb, le-ltb}
-use Rattle.std.proofs.lemmas.List.{length_push, length-map, get_or-map, length-take, take_at}
+use Rattle.std.proofs.lemmas.List.{length_push, length-map, get_or-map, length-take}
 use Rattle.std.proofs.lemmas.List.{get_or_past}
-use Rattle.vb_model.proofs.Tables.{length-each_from}
 use Rattle.vb_ring.proofs.Numbers.{length-numbers}
 use Rattle.vb_ring.proofs.Puts.{publishes}
 use Rattle.std.proofs.lemmas.Option.{slice_get-get_or, slice_get_past}
-use Rattle.vb_model.specs.Tests.{is_in}
 use Rattle.vb_ram.specs.Pages.{Pages, SameBut}
 use Rattle.vb_chain.specs.declared.pieces.Piece.{Piece}
 use Rattle.vb_chain.specs.Table.{descriptor_at}
@@ -25,6 +23,7 @@ use Rattle.vb_ring.specs.Entries.{is_own, is_head, next_id, only_head}
 use Rattle.vb_ring.specs.Ends.{DriverEnd, IsDriverEnd, DeviceEnd, IsDeviceEnd, free_descriptors}
 use Rattle.vb_ring.specs.Ends.{next_path, claimed, released, outstanding, after_add, used_answer}
 use Rattle.vb_ring.specs.Ends.{after_take}
+use Rattle.vb_ring.specs.Kept.{IsFreeChain}
 use Rattle.vb_ring.proofs.OwnerLaws.{not_in}
 use Rattle.vb_ring.specs.Meaning.{UsedElem, no_elem, ids, Shows, ShowsEntries, Tracks}
 use Rattle.vb_ring.proofs.FrameLaws.{outside_in}
@@ -109,6 +108,22 @@ links_kept m1 m2 m3 l q next head path pieces fits len inside put others w =
           ∙ put k (omega (arith, len));
       others = λ i lt out. kept i lt ∙ others i (λ k h. not_in path i k out h);
     }
+
+-- the next chain's descriptors are a free chain of the table
+pub next_chain : (r : DriverEnd) (n : ℕ) (path : List ℕ) → IsDriverEnd r → 0 < n
+    → path ≡ next_path r n → length path ≡ n → IsFreeChain r.owner path
+next_chain r n path is_end some along count = record {
+  some = omega (arith, some, count);
+  inside = λ k l. omega (arith, same k, (next_path-free r n k (here k l)).0, is_end.table);
+  free = λ k l. ap (λ i. slice_index_or r.owner i None) (same k) ∙ (next_path-free r n k (here k l)).1;
+  rise = λ j k l h. omega (arith, same j, same k, next_path-rise r n j k l (here k h));
+}
+  where
+    same : (k : ℕ) → slice_index path k ≡ slice_index (next_path r n) k
+    same k = ap (λ (xs : List ℕ). slice_index xs k) along
+
+    here : (k : ℕ) → k < length path → k < length (next_path r n)
+    here k l = omega (arith, ap length along, l)
 
 -- the next chain's descriptors are a route
 pub next_route : (r : DriverEnd) (n : ℕ) → IsRoute r.size (next_path r n)
@@ -229,45 +244,12 @@ adds_along m1 m2 m3 r pieces path new along is_end some len put others table w o
     (Ok (slice_index path 0)))
     (sym (owner ∙ ap (λ (xs : List ℕ). claimed xs (slice_index path 0) r.owner) along)) ok
 
--- ---- where the table is the first part of a longer one
-
-pub adds_after : (m1 m2 m3 : Pages) (r now : DriverEnd) (pieces : List Piece) (path : List ℕ)
-    (new more : List (Option ℕ)) → r ≡ now → path ≡ next_path r (length pieces) → IsDriverEnd r
-    → 0 < length pieces → length path ≡ length pieces
-    → ((k : ℕ) → k < length path
-    → descriptor_at m2 r.layout.table (slice_index path k) ≡ linked path pieces k)
-    → ((i : ℕ) → ((k : ℕ) → k < length path → slice_index path k ≢ i)
-    → descriptor_at m2 r.layout.table i ≡ descriptor_at m1 r.layout.table i)
-    → SameBut m1 m2 r.layout.table 0 (16 * r.size)
-    → PutsAvail m2 m3 r.layout r.size r.published (slice_index path 0)
-    → new ≡ claimed path (slice_index path 0) r.owner
-    → AddsBy m1 m3 now (record r
-    { published = (r.published + 1) % 65536; owner = take r.size (new ++ more) }) pieces
-    (Ok (slice_index path 0))
-adds_after m1 m2 m3 r now pieces path new more same along is_end some len put others table w owner =
-    let count : length new ≡ r.size =
-    ap length owner ∙ length-each_from 0
-    (λ i old. if is_in i path then Some (slice_index path 0) else old) r.owner ∙ is_end.table in
-    subst (λ (v : DriverEnd). AddsBy m1 m3 v
-    (record r { published = (r.published + 1) % 65536; owner = take r.size (new ++ more) })
-    pieces (Ok (slice_index path 0))) same
-    (adds_along m1 m2 m3 r pieces path (take r.size (new ++ more)) along is_end some len put others
-    table w (take_at new more r.size count ∙ owner))
-
-pub takes_after : (mem : Pages) (r now : DriverEnd) (new more : List (Option ℕ)) (id : ℕ) → r ≡ now
+pub takes_after : (mem : Pages) (r : DriverEnd) (new : List (Option ℕ)) (id : ℕ)
     → IsDriverEnd r → next_id mem r.layout r.size r.seen (outstanding r) ≡ Ok (Some id)
     → is_head r.owner id ≡ true → new ≡ released id r.owner
-    → TakesUsedBy mem now
-    (record r { seen = (r.seen + 1) % 65536; owner = take r.size (new ++ more) }) (Ok (Some id))
-takes_after mem r now new more id same is_end next out owner =
-    let count : length new ≡ r.size =
-    ap length owner ∙ length-map r.owner (λ old. if is_own id old then None else old)
-    ∙ is_end.table in
-    subst (λ (v : DriverEnd). TakesUsedBy mem v
-    (record r { seen = (r.seen + 1) % 65536; owner = take r.size (new ++ more) })
-    (Ok (Some id))) same
-    (subst (λ (xs : List (Option ℕ)). TakesUsedBy mem r
-    (record r { seen = (r.seen + 1) % 65536; owner = xs }) (Ok (Some id)))
-    (sym (take_at new more r.size count ∙ owner))
+    → TakesUsedBy mem r (record r { seen = (r.seen + 1) % 65536; owner = new }) (Ok (Some id))
+takes_after mem r new id is_end next out owner =
+    subst (λ (xs : List (Option ℕ)). TakesUsedBy mem r
+    (record r { seen = (r.seen + 1) % 65536; owner = xs }) (Ok (Some id))) (sym owner)
     (takes_by mem r (Ok (Some id)) is_end (length-numbers (is_head r.owner) r.size)
-    (sym (ap (only_head r.owner) next ∙ only_out r.owner id out))))
+    (sym (ap (only_head r.owner) next ∙ only_out r.owner id out)))

@@ -1,13 +1,12 @@
 -- Laws of what the bytes of a ring mean.
 use Rattle.std.specs.Prelude.{◌≡◌, ◌≢◌, ℕ, zero, suc, ◌+◌, ◌<◌, ◌≤◌, ◌==◌, nat_lt, Bool, true}
 use Rattle.std.specs.Prelude.{false, List, [], ◌∷◌, ◌++◌, Option, Some, None, Ok, is_none}
-use Rattle.std.specs.Prelude.{if◌then◌else◌, length, take, replicate, slice_index, slice_index_or}
+use Rattle.std.specs.Prelude.{length, take, replicate, slice_index, slice_index_or}
 use Rattle.std.specs.Prelude.{refl}
 use Rattle.std.proofs.Common.{sym, ◌∙◌, ap, subst, arith, inl, inr, eq-eqb, add-one, add-zero}
-use Rattle.std.proofs.lemmas.Bool.{cases_eq, cases_lt, eqb-true, ltb-true}
-use Rattle.std.proofs.lemmas.List.{length_push, get_or_past, length-map, get_or-take}
-use Rattle.std.proofs.lemmas.List.{length-take-le, take-append-le, get_or-replicate}
-use Rattle.std.proofs.lemmas.List.{length-replicate}
+use Rattle.std.proofs.lemmas.Bool.{cases_eq, eqb-true, ltb-true}
+use Rattle.std.proofs.lemmas.List.{length_push, length-map, get_or-take}
+use Rattle.std.proofs.lemmas.List.{length-take-le, take-append-le}
 use Rattle.vb_model.specs.Tests.{is_in, one_if}
 use Rattle.vb_model.proofs.Tables.{count_by-append, count_by-cons}
 use Rattle.vb_ram.specs.Pages.{Pages, byte_at, page_at}
@@ -22,12 +21,13 @@ use Rattle.vb_ring.specs.declared.layout.Layout.{Layout}
 use Rattle.vb_ring.specs.Layout.{IsSize, Fits}
 use Rattle.vb_ring.specs.Entries.{avail_index, used_index, is_own, is_head}
 use Rattle.vb_ring.specs.Numbers.{numbers}
-use Rattle.vb_ring.proofs.Numbers.{numbers_pass, numbers_rise, numbers_none, length_gain}
+use Rattle.vb_ring.proofs.Numbers.{numbers_pass, numbers_rise, numbers_none}
 use Rattle.vb_ring.proofs.Numbers.{length_two}
 use Rattle.vb_ring.specs.Ends.{DriverEnd, IsDriverEnd, is_unused, free_descriptors, outstanding}
 use Rattle.vb_ring.specs.Ends.{next_path, claimed, released, after_add, after_take, fresh_end}
-use Rattle.vb_ring.proofs.OwnerLaws.{is_in-at, is_in-some, nowhere_in, take_inside, claimed-at}
-use Rattle.vb_ring.proofs.OwnerLaws.{released-at}
+use Rattle.vb_ring.proofs.OwnerLaws.{nowhere_in, take_inside, free_none}
+use Rattle.vb_ring.proofs.OwnerLaws.{some_same, none_some, head_inside}
+use Rattle.vb_ring.proofs.OwnerLaws.{Claims, claims, Releases, releases, fresh_free}
 use Rattle.vb_ring.specs.Meaning.{UsedElem, no_elem, ids, times, IsOutstanding, IsTablePath}
 use Rattle.vb_ring.specs.Meaning.{ShowsEntries, Shows, Tracks}
 use Rattle.vb_ring.specs.Calls.{Links}
@@ -237,37 +237,6 @@ written_path d q h path pieces put first some xs whole (suc k) l =
 
 -- ---- what a driver's end that tracks a ring knows
 
-own_some : (h : ℕ) (o : Option ℕ) → is_own h o ≡ true → o ≡ Some h
-own_some h None e = cc
-own_some h (Some k) e = ap Some (eqb-true k h e)
-
-own_self : (h : ℕ) (o : Option ℕ) → o ≡ Some h → is_own h o ≡ true
-own_self h o e = ap (is_own h) e ∙ eq-eqb h h refl
-
-own_other : (h j : ℕ) (o : Option ℕ) → o ≡ Some h → h ≢ j → is_own j o ≡ false
-own_other h j o e ne = ap (is_own j) e ∙ at (h == j) refl
-  where
-    at : (b : Bool) → (h == j) ≡ b → (h == j) ≡ false
-    at true f = absurd (ne (eqb-true h j f))
-    at false f = f
-
-free_none : (o : Option ℕ) → is_none o ≡ true → o ≡ None
-free_none None e = refl
-free_none (Some k) e = cc
-
-some_same : (h j : ℕ) → Some h ≡ Some j → h ≡ j
-some_same h j e = cc
-
-none_some : (h : ℕ) (o : Option ℕ) → o ≡ None → o ≡ Some h → ⊥
-none_some h o a b = cc
-
--- A head whose chain is out is one of the table's.
-head_inside : (owner : List (Option ℕ)) (h : ℕ) → is_head owner h ≡ true → h < length owner
-head_inside owner h e = elim (cases_lt h (length owner)) [
-  | inl l ↦ l
-  | inr past ↦ absurd (none_some h _ (get_or_past owner h None past) (own_some h _ e))
-]
-
 -- A head that was published more often than it was used is out.
 out_head : (mem : Pages) (r : DriverEnd) (heads : List ℕ) (elems : List UsedElem) (s : ℕ) (h : ℕ)
     → Tracks mem r heads elems s → IsOutstanding heads elems h → is_head r.owner h ≡ true
@@ -342,26 +311,11 @@ added_tracks m1 m3 r pieces h heads elems s is_end links some fits first tracks 
     next_path-free r (length pieces) in
     let inside : (k : ℕ) → k < length path
     → slice_index path k < length r.owner = λ k l. omega (arith, (free k l).0, is_end.table) in
-    let mine : (k : ℕ) → k < length path → slice_index_or new (slice_index path k) None ≡ Some h =
-    λ k l. claimed-at path h r.owner (slice_index path k) inside
-    ∙ ap (λ (b : Bool). if b then Some h else slice_index_or r.owner (slice_index path k) None)
-    (is_in-at path k l) in
-    let rest : (i : ℕ) → is_in i path ≡ false
-    → slice_index_or new i None ≡ slice_index_or r.owner i None =
-    λ i e. claimed-at path h r.owner i inside
-    ∙ ap (λ (b : Bool). if b then Some h else slice_index_or r.owner i None) e in
     let begin : 0 < length path = omega (arith, len) in
-    let head_old : is_head r.owner h ≡ false =
-    ap (is_own h) (ap (λ i. slice_index_or r.owner i None) (sym first) ∙ (free 0 begin).1) in
-    let head_new : is_head new h ≡ true =
-    own_self h _ (ap (λ i. slice_index_or new i None) (sym first) ∙ mine 0 begin) in
-    let same : (i : ℕ) → i ≢ h
-    → is_head r.owner i ≡ is_head new i =
-    λ i ne. same_by path h r.owner new i ne mine rest (λ k l. (free k l).1) (is_in i path)
-    refl in
+    let claim : Claims r.owner new path h =
+    claims r.owner path h begin first (λ k l. (inside k l, (free k l).1)) in
     let gain : length (numbers (is_head new) r.size) ≡ outstanding r + 1 =
-    length_gain (is_head r.owner) (is_head new) r.size h
-    (omega (arith, (free 0 begin).0, first)) head_old head_new same in
+    claim.count r.size (omega (arith, (free 0 begin).0, first)) in
     let both : length (free_descriptors r) + outstanding r ≤ r.size =
     length_two (is_unused r.owner) (is_head r.owner) r.size
     (λ i e. ap (is_own i) (free_none _ e)) in (
@@ -376,15 +330,15 @@ added_tracks m1 m3 r pieces h heads elems s is_end links some fits first tracks 
             times-push j heads h,
             one_is h j (sym e),
             tracks.out j,
-            ap one_if (ap (is_head r.owner) e ∙ head_old),
-            ap one_if (ap (is_head new) e ∙ head_new),
+            ap one_if (ap (is_head r.owner) e ∙ claim.before),
+            ap one_if (ap (is_head new) e ∙ claim.after),
           )
           | inr ne ↦ omega (
             arith,
             times-push j heads h,
             one_other h j (λ e. ne (sym e)),
             tracks.out j,
-            ap one_if (same j ne),
+            ap one_if (claim.same j ne),
           )
         ];
         owns = λ j out xs whole k l. elim (cases_eq j h) [
@@ -393,7 +347,7 @@ added_tracks m1 m3 r pieces h heads elems s is_end links some fits first tracks 
               (λ i lt. links.put i (omega (arith, len))) first begin xs
               (subst (λ (n : ℕ). IsTablePath (descriptor_at m3 r.layout.table) r.size n xs) e whole)
               k l in
-              ap (λ i. slice_index_or new i None) along.1 ∙ mine k along.0 ∙ ap Some (sym e)
+              ap (λ i. slice_index_or new i None) along.1 ∙ claim.mine k along.0 ∙ ap Some (sym e)
           | inr ne ↦
               let apart : (i : ℕ) → slice_index_or r.owner i None ≡ Some j → is_in i path ≡ false =
               λ i own. nowhere_in path i
@@ -402,25 +356,12 @@ added_tracks m1 m3 r pieces h heads elems s is_end links some fits first tracks 
               let old : slice_index_or r.owner (slice_index xs k) None ≡ Some j =
               path_good (descriptor_at m1 r.layout.table) (descriptor_at m3 r.layout.table) r.size j
               (λ i. slice_index_or r.owner i None ≡ Some j) xs whole
-              (λ i lt own. links.others i lt (apart i own)) (tracks.owns j (same j ne ∙ out)) k l in
-              rest (slice_index xs k) (apart (slice_index xs k) old) ∙ old
+              (λ i lt own. links.others i lt (apart i own)) (tracks.owns j (claim.same j ne ∙ out)) k l in
+              claim.rest (slice_index xs k) (apart (slice_index xs k) old) ∙ old
         ];
       },
       omega (arith, both),
     )
-  where
-    same_by : (path : List ℕ) (h : ℕ) (old new : List (Option ℕ)) (i : ℕ) → i ≢ h
-        → ((k : ℕ) → k < length path → slice_index_or new (slice_index path k) None ≡ Some h)
-        → ((n : ℕ) → is_in n path ≡ false → slice_index_or new n None ≡ slice_index_or old n None)
-        → ((k : ℕ) → k < length path → slice_index_or old (slice_index path k) None ≡ None)
-        → (b : Bool) → is_in i path ≡ b → is_head old i ≡ is_head new i
-    same_by path h old new i ne mine rest free true e =
-        let found = is_in-some path i e in
-        ap (is_own i) (ap (λ n. slice_index_or old n None) (sym found.2) ∙ free found.0 found.1)
-        ∙ sym (own_other h i _
-        (ap (λ n. slice_index_or new n None) (sym found.2) ∙ mine found.0 found.1)
-        (λ x. ne (sym x)))
-    same_by path h old new i ne mine rest free false e = ap (is_own i) (sym (rest i e))
 
 -- ---- a take
 
@@ -453,25 +394,9 @@ pub taken_tracks : (mem : Pages) (r : DriverEnd) (heads : List ℕ) (elems : Lis
     → Tracks mem (after_take r (Ok (Some id))) heads elems (s + 1)
 taken_tracks mem r heads elems s id is_end tracks lt is out =
     let new : List (Option ℕ) = released id r.owner in
-    let mine : slice_index_or r.owner id None ≡ Some id = own_some id _ out in
-    let freed : (i : ℕ) → slice_index_or new i None
-    ≡ (if is_own id (slice_index_or r.owner i None) then None
-    else slice_index_or r.owner i None) = released-at id r.owner in
-    let gone : is_head new id ≡ false =
-    ap (is_own id) (freed id
-    ∙ ap (λ (b : Bool). if b then None else slice_index_or r.owner id None) out) in
-    let kept : (i j : ℕ) → slice_index_or r.owner i None ≡ Some j → j ≢ id
-    → slice_index_or new i None ≡ Some j =
-    λ i j own ne. freed i
-    ∙ ap (λ (b : Bool). if b then None else slice_index_or r.owner i None)
-    (own_other j id _ own ne) ∙ own in
-    let same : (i : ℕ) → i ≢ id
-    → is_head new i ≡ is_head r.owner i =
-    λ i ne. same_by id r.owner new i ne (freed i) (is_own id (slice_index_or r.owner i None))
-    refl in
+    let release : Releases r.owner new id = releases r.owner id out in
     let gain : outstanding r ≡ length (numbers (is_head new) r.size) + 1 =
-    length_gain (is_head new) (is_head r.owner) r.size id
-    (omega (arith, head_inside r.owner id out, is_end.table)) gone out same in
+    release.count r.size (omega (arith, head_inside r.owner id out, is_end.table)) in
     record {
       published = tracks.published;
       seen = omega (arith, tracks.seen);
@@ -484,31 +409,21 @@ taken_tracks mem r heads elems s id is_end tracks lt is out =
           times-next j elems s lt,
           one_is (slice_index_or elems s no_elem).id j (is ∙ sym e),
           ap one_if (ap (is_head r.owner) e ∙ out),
-          ap one_if (ap (is_head new) e ∙ gone),
+          ap one_if (ap (is_head new) e ∙ release.gone),
         )
         | inr ne ↦ omega (
           arith,
           tracks.out j,
           times-next j elems s lt,
           one_other (slice_index_or elems s no_elem).id j (λ e. ne (sym e ∙ is)),
-          ap one_if (same j ne),
+          ap one_if (release.same j ne),
         )
       ];
       owns = λ j own xs whole k l. elim (cases_eq j id) [
-        | inl e ↦ (let wrong : true ≡ false = sym own ∙ ap (is_head new) e ∙ gone in cc)
-        | inr ne ↦ kept (slice_index xs k) j (tracks.owns j (sym (same j ne) ∙ own) xs whole k l) ne
+        | inl e ↦ (let wrong : true ≡ false = sym own ∙ ap (is_head new) e ∙ release.gone in cc)
+        | inr ne ↦ release.kept (slice_index xs k) j (tracks.owns j (sym (release.same j ne) ∙ own) xs whole k l) ne
       ];
     }
-  where
-    same_by : (id : ℕ) (old new : List (Option ℕ)) (i : ℕ) → i ≢ id
-        → slice_index_or new i None
-        ≡ (if is_own id (slice_index_or old i None) then None else slice_index_or old i None)
-        → (b : Bool) → is_own id (slice_index_or old i None) ≡ b → is_head new i ≡ is_head old i
-    same_by id old new i ne freed true e =
-        ap (is_own i) (freed ∙ ap (λ (b : Bool). if b then None else slice_index_or old i None) e)
-        ∙ sym (own_other id i _ (own_some id _ e) (λ x. ne (sym x)))
-    same_by id old new i ne freed false e =
-        ap (is_own i) (freed ∙ ap (λ (b : Bool). if b then None else slice_index_or old i None) e)
 
 -- ---- a use
 
@@ -616,12 +531,7 @@ fresh_shows mem l q fits a u =
 
 -- A fresh driver's end has no head out.
 fresh_none : (q i : ℕ) → is_head (replicate q None) i ≡ false
-fresh_none q i = elim (cases_lt i q) [
-  | inl l ↦ ap (is_own i) (get_or-replicate {A = Option ℕ} q i None None l)
-  | inr past ↦ ap (is_own i)
-      (get_or_past (replicate {A = Option ℕ} q None) i None
-      (omega (arith, length-replicate {A = Option ℕ} q None)))
-]
+fresh_none q i = ap (is_own i) (fresh_free q i)
 
 -- It tracks a ring of which nothing was published.
 pub fresh_tracks : (mem : Pages) (l : Layout) (q : ℕ) → Tracks mem (fresh_end l q) [] [] 0

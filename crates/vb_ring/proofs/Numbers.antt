@@ -1,11 +1,12 @@
 -- The numbers below a limit that pass a test.
 use Rattle.std.specs.Prelude.{◌≡◌, ◌≢◌, ◌⊎◌, ℕ, zero, suc, ◌+◌, ◌<◌, ◌≤◌, Bool, true, false, List}
 use Rattle.std.specs.Prelude.{[], ◌∷◌, ◌++◌, length, slice_index, if◌then◌else◌, refl, slice_get}
-use Rattle.std.specs.Prelude.{Some}
+use Rattle.std.specs.Prelude.{Some, take}
 use Rattle.vb_model.specs.Tests.{one_if}
 use Rattle.std.proofs.lemmas.Option.{slice_get-get_or}
 use Rattle.std.proofs.Common.{sym, ◌∙◌, ap, arith, inl, inr, add-one, add-zero}
-use Rattle.std.proofs.lemmas.List.{length_push, get_or_append_left, get_or_push}
+use Rattle.std.proofs.lemmas.List.{length_push, get_or_append_left, get_or_push, length-take}
+use Rattle.std.proofs.lemmas.List.{take_all, take-append-le}
 use Rattle.std.proofs.lemmas.Bool.{cases_eq}
 use Rattle.vb_ring.specs.Numbers.{numbers}
 
@@ -263,4 +264,28 @@ length_all p (suc n) h l all = elim (cases_eq h (suc n)) [
     length_all p n n (omega arith) (λ i k. all i (omega (arith, e))),
   )
   | inr ne ↦ omega (arith, length_suc p n, length_all p n h (omega (arith, ne)) all)
+]
+
+-- The first numbers of those below n are the numbers below a lower limit.
+pub numbers_prefix : (p : ℕ → Bool) (m n : ℕ) → m ≤ n
+    → take (length (numbers p m)) (numbers p n) ≡ numbers p m
+numbers_prefix p m zero l =
+    let none : m ≡ 0 = omega (arith, l) in
+    ap (λ k. take (length (numbers p k)) (numbers p 0)) none
+    ∙ take_all (length (numbers p 0)) (numbers p 0) (omega arith) ∙ ap (numbers p) (sym none)
+numbers_prefix p m (suc n) l = elim (cases_eq m (suc n)) [
+  | inl same ↦
+      ap (λ k. take (length (numbers p k)) (numbers p (suc n))) same
+      ∙ take_all (length (numbers p (suc n))) (numbers p (suc n)) (omega arith)
+      ∙ ap (numbers p) (sym same)
+  | inr ne ↦
+      let before = numbers_prefix p m n (omega (arith, l, ne)) in
+      let fits : length (numbers p m) ≤ length (numbers p n) =
+      omega (arith, ap length before, length-take (length (numbers p m)) (numbers p n)) in
+      elim (either_way (p n)) [
+        | inl pass ↦
+            ap (take (length (numbers p m))) (suc_yes p n true pass refl)
+            ∙ take-append-le (length (numbers p m)) (numbers p n) (n ∷ []) fits ∙ before
+        | inr fail ↦ ap (take (length (numbers p m))) (suc_no p n fail) ∙ before
+      ]
 ]

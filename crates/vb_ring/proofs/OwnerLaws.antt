@@ -1,14 +1,17 @@
 -- Laws of the driver's table.
 use Rattle.std.specs.Prelude.{◌≡◌, ◌≢◌, ℕ, zero, suc, ◌<◌, ◌==◌, ◌||◌, Bool, true, false, List, []}
-use Rattle.std.specs.Prelude.{◌∷◌, Option, Some, None, if◌then◌else◌, length, take, slice_index}
-use Rattle.std.specs.Prelude.{slice_index_or, refl}
+use Rattle.std.specs.Prelude.{◌∷◌, ◌+◌, Option, Some, None, is_none, if◌then◌else◌, length, take}
+use Rattle.std.specs.Prelude.{replicate, slice_index, slice_index_or, refl}
 use Rattle.std.specs.List.{list_any}
 use Rattle.std.proofs.Common.{sym, ◌∙◌, ap, arith, inl, inr, eq-eqb, min}
 use Rattle.std.proofs.lemmas.Bool.{cases_lt, eqb-true}
 use Rattle.std.proofs.lemmas.List.{length-map, get_or-map, get_or_past, get_or-take, length-take}
+use Rattle.std.proofs.lemmas.List.{get_or-replicate, length-replicate}
 use Rattle.vb_model.specs.Tests.{is_in}
 use Rattle.vb_model.proofs.Tables.{each_page-get}
-use Rattle.vb_ring.specs.Entries.{is_own}
+use Rattle.vb_ring.specs.Entries.{is_own, is_head}
+use Rattle.vb_ring.specs.Numbers.{numbers}
+use Rattle.vb_ring.proofs.Numbers.{length_gain}
 use Rattle.vb_ring.specs.Ends.{claimed, released}
 
 -- A number that equals itself.
@@ -69,7 +72,15 @@ take_inside xs n k h =
     let l : k < n = omega (arith, len) in
     (omega (arith, len), l, get_or-take n xs k 0 l)
 
--- ---- claimed and released tables
+-- ---- fresh, claimed and released tables
+
+-- An owner in a table of which nothing is out.
+pub fresh_free : (q i : ℕ) → slice_index_or (replicate {A = Option ℕ} q None) i None ≡ None
+fresh_free q i = elim (cases_lt i q) [
+  | inl l ↦ get_or-replicate {A = Option ℕ} q i None None l
+  | inr past ↦ get_or_past (replicate {A = Option ℕ} q None) i None
+      (omega (arith, length-replicate {A = Option ℕ} q None))
+]
 
 -- An owner in a table of which a path was claimed.
 pub claimed-at : (path : List ℕ) (h : ℕ) (owner : List (Option ℕ)) (i : ℕ)
@@ -94,3 +105,146 @@ released-at h owner i = elim (cases_lt i (length owner)) [
       ∙ ap (λ (o : Option ℕ). if is_own h o then None else o)
       (sym (get_or_past owner i None past))
 ]
+
+-- ---- one owner
+
+pub own_some : (h : ℕ) (o : Option ℕ) → is_own h o ≡ true → o ≡ Some h
+own_some h None e = cc
+own_some h (Some k) e = ap Some (eqb-true k h e)
+
+pub own_self : (h : ℕ) (o : Option ℕ) → o ≡ Some h → is_own h o ≡ true
+own_self h o e = ap (is_own h) e ∙ eq-eqb h h refl
+
+pub own_other : (h j : ℕ) (o : Option ℕ) → o ≡ Some h → h ≢ j → is_own j o ≡ false
+own_other h j o e ne = ap (is_own j) e ∙ at (h == j) refl
+  where
+    at : (b : Bool) → (h == j) ≡ b → (h == j) ≡ false
+    at true f = absurd (ne (eqb-true h j f))
+    at false f = f
+
+pub free_none : (o : Option ℕ) → is_none o ≡ true → o ≡ None
+free_none None e = refl
+free_none (Some k) e = cc
+
+pub some_same : (h j : ℕ) → Some h ≡ Some j → h ≡ j
+some_same h j e = cc
+
+pub none_some : (h : ℕ) (o : Option ℕ) → o ≡ None → o ≡ Some h → ⊥
+none_some h o a b = cc
+
+-- A head whose chain is out is one of the table's.
+pub head_inside : (owner : List (Option ℕ)) (h : ℕ) → is_head owner h ≡ true → h < length owner
+head_inside owner h e = elim (cases_lt h (length owner)) [
+  | inl l ↦ l
+  | inr past ↦ absurd (none_some h _ (get_or_past owner h None past) (own_some h _ e))
+]
+
+-- ---- what a claim and a release leave
+
+-- A path of free descriptors belongs to a head that was none.
+pub record Claims (owner new : List (Option ℕ)) (path : List ℕ) (h : ℕ) : Type 0 where
+  pub mine : (k : ℕ) → k < length path → slice_index_or new (slice_index path k) None ≡ Some h
+  pub rest : (i : ℕ) → is_in i path ≡ false
+      → slice_index_or new i None ≡ slice_index_or owner i None
+  pub before : is_head owner h ≡ false
+  pub after : is_head new h ≡ true
+  pub same : (i : ℕ) → i ≢ h → is_head owner i ≡ is_head new i
+  pub count : (n : ℕ) → h < n
+      → length (numbers (is_head new) n) ≡ length (numbers (is_head owner) n) + 1
+
+pub claims : (owner : List (Option ℕ)) (path : List ℕ) (h : ℕ) → 0 < length path
+    → slice_index path 0 ≡ h
+    → ((k : ℕ) → k < length path → (slice_index path k < length owner)
+    × (slice_index_or owner (slice_index path k) None ≡ None))
+    → Claims owner (claimed path h owner) path h
+claims owner path h begin first free =
+    let new : List (Option ℕ) = claimed path h owner in
+    let inside : (k : ℕ) → k < length path → slice_index path k < length owner =
+    λ k l. (free k l).0 in
+    let mine : (k : ℕ) → k < length path → slice_index_or new (slice_index path k) None ≡ Some h =
+    λ k l. claimed-at path h owner (slice_index path k) inside
+    ∙ ap (λ (b : Bool). if b then Some h else slice_index_or owner (slice_index path k) None)
+    (is_in-at path k l) in
+    let rest : (i : ℕ) → is_in i path ≡ false
+    → slice_index_or new i None ≡ slice_index_or owner i None =
+    λ i e. claimed-at path h owner i inside
+    ∙ ap (λ (b : Bool). if b then Some h else slice_index_or owner i None) e in
+    let before : is_head owner h ≡ false =
+    ap (is_own h) (ap (λ i. slice_index_or owner i None) (sym first) ∙ (free 0 begin).1) in
+    let after : is_head new h ≡ true =
+    own_self h _ (ap (λ i. slice_index_or new i None) (sym first) ∙ mine 0 begin) in
+    let same : (i : ℕ) → i ≢ h → is_head owner i ≡ is_head new i =
+    λ i ne. same_by new i ne mine rest (is_in i path) refl in
+    record {
+      mine = mine;
+      rest = rest;
+      before = before;
+      after = after;
+      same = same;
+      count = λ n l. length_gain (is_head owner) (is_head new) n h l before after same;
+    }
+  where
+    same_by : (new : List (Option ℕ)) (i : ℕ) → i ≢ h
+        → ((k : ℕ) → k < length path → slice_index_or new (slice_index path k) None ≡ Some h)
+        → ((n : ℕ) → is_in n path ≡ false → slice_index_or new n None ≡ slice_index_or owner n None)
+        → (b : Bool) → is_in i path ≡ b → is_head owner i ≡ is_head new i
+    same_by new i ne mine rest true e =
+        let found = is_in-some path i e in
+        ap (is_own i)
+        (ap (λ n. slice_index_or owner n None) (sym found.2) ∙ (free found.0 found.1).1)
+        ∙ sym (own_other h i _
+        (ap (λ n. slice_index_or new n None) (sym found.2) ∙ mine found.0 found.1)
+        (λ x. ne (sym x)))
+    same_by new i ne mine rest false e = ap (is_own i) (sym (rest i e))
+
+-- The descriptors of a head that was out are free.
+pub record Releases (owner new : List (Option ℕ)) (h : ℕ) : Type 0 where
+  pub gone : is_head new h ≡ false
+  pub kept : (i j : ℕ) → slice_index_or owner i None ≡ Some j → j ≢ h
+      → slice_index_or new i None ≡ Some j
+  pub was : (i j : ℕ) → slice_index_or new i None ≡ Some j
+      → (slice_index_or owner i None ≡ Some j) × (j ≢ h)
+  pub same : (i : ℕ) → i ≢ h → is_head new i ≡ is_head owner i
+  pub count : (n : ℕ) → h < n
+      → length (numbers (is_head owner) n) ≡ length (numbers (is_head new) n) + 1
+
+pub releases : (owner : List (Option ℕ)) (h : ℕ) → is_head owner h ≡ true
+    → Releases owner (released h owner) h
+releases owner h out =
+    let new : List (Option ℕ) = released h owner in
+    let gone : is_head new h ≡ false =
+    ap (is_own h) (released-at h owner h
+    ∙ ap (λ (b : Bool). if b then None else slice_index_or owner h None) out) in
+    let same : (i : ℕ) → i ≢ h → is_head new i ≡ is_head owner i =
+    λ i ne. same_by i ne (is_own h (slice_index_or owner i None)) refl in
+    record {
+      gone = gone;
+      kept = λ i j own ne. released-at h owner i
+          ∙ ap (λ (b : Bool). if b then None else slice_index_or owner i None)
+          (own_other j h _ own ne) ∙ own;
+      was = λ i j own. was_by i j own (is_own h (slice_index_or owner i None)) refl;
+      same = same;
+      count = λ n l. length_gain (is_head new) (is_head owner) n h l gone out same;
+    }
+  where
+    freed_by : (i : ℕ) (b : Bool) → is_own h (slice_index_or owner i None) ≡ b
+        → slice_index_or (released h owner) i None
+        ≡ (if b then None else slice_index_or owner i None)
+    freed_by i b e = released-at h owner i
+        ∙ ap (λ (b : Bool). if b then None else slice_index_or owner i None) e
+
+    was_by : (i j : ℕ) → slice_index_or (released h owner) i None ≡ Some j
+        → (b : Bool) → is_own h (slice_index_or owner i None) ≡ b
+        → (slice_index_or owner i None ≡ Some j) × (j ≢ h)
+    was_by i j own true e = absurd (none_some j _ (freed_by i true e) own)
+    was_by i j own false e =
+        let here : slice_index_or owner i None ≡ Some j = sym (freed_by i false e) ∙ own in (
+          here,
+          λ is. (let wrong : true ≡ false = sym (own_self h _ (here ∙ ap Some is)) ∙ e in cc),
+        )
+
+    same_by : (i : ℕ) → i ≢ h → (b : Bool) → is_own h (slice_index_or owner i None) ≡ b
+        → is_head (released h owner) i ≡ is_head owner i
+    same_by i ne true e = ap (is_own i) (freed_by i true e)
+        ∙ sym (own_other h i _ (own_some h _ e) (λ x. ne (sym x)))
+    same_by i ne false e = ap (is_own i) (freed_by i false e)

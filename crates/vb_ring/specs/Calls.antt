@@ -104,6 +104,12 @@ after_pop q (Err fault) = q
 after_pop q (Ok None) = q
 after_pop q (Ok (Some taken)) = record q { next_avail = (q.next_avail + 1) % 65536 }
 
+-- What was popped, where the head is answered and the pieces stand in a chain that is kept.
+abbrev pub popped : Result (Option ℕ) ChainFault → List Piece → Result (Option Taken) ChainFault
+popped (Err fault) pieces = Err fault
+popped (Ok None) pieces = Ok None
+popped (Ok (Some h)) pieces = Ok (Some (record { head = h; chain = pieces }))
+
 -- A pop: nothing where the queue isn't ready or nothing stands there, a fault where the index is
 -- too far ahead or on the way along the chain, and else the chain's head and pieces.
 pub record PopsBy (mem : Pages) (q1 q2 : DeviceEnd) (result : Result (Option Taken) ChainFault) :

@@ -1,17 +1,17 @@
 //! The device's end.
 
 ghost use Rattle.std.specs.Prelude.{◌≡◌, ◌+◌, ◌%◌, ◌<◌, ◌≤◌, ◌↔◌, IsTrue, true, false};
-ghost use Rattle.std.specs.Prelude.{if◌then◌else◌};
+ghost use Rattle.std.specs.Prelude.{if◌then◌else◌, [], Ok, None, OnErr};
 ghost use Rattle.std.specs.Int.{is_power_of_two};
 ghost use Rattle.vb_model.specs.declared.limits.TheConstants.{MIN_QUEUE_SIZE, MAX_QUEUE_SIZE};
 ghost use Rattle.vb_ring.specs.Layout.{layout_of, IsInside, IsBacked};
 ghost use Rattle.vb_ring.specs.Ends.{IsDeviceEnd};
-ghost use Rattle.vb_ring.specs.Calls.{PopsBy, AddsUsedBy};
+ghost use Rattle.vb_ring.specs.Calls.{PopsBy, popped, AddsUsedBy};
 
 use crate::entries::{next_avail, put_used};
 use crate::{Layout, MAX_QUEUE_SIZE, MIN_QUEUE_SIZE};
 use std::marker::Model;
-use vb_chain::{Chain, ChainFault, walk};
+use vb_chain::{Chain, ChainFault, walk_into};
 use vb_ram::GuestBytes;
 
 /// A chain that was popped: its head, and its pieces.
@@ -139,16 +139,37 @@ impl Queue {
         requires { IsInside (G.mem ram.now) self.old.layout }
         ensures { PopsBy (G.mem ram.now) self.old self.new result }
     {
+        let mut chain = Chain::new();
+        match self.pop_descriptor_chain_into(ram, &mut chain)? {
+            Some(head) => Ok(Some(Taken { head, chain })),
+            None => Ok(None),
+        }
+    }
+
+    /// Takes the next chain that the driver has published, into a chain that the caller keeps, so
+    /// that none is made or moved; answers its head. What the chain held before is gone; where none
+    /// is taken, it is left with no piece.
+    pub fn pop_descriptor_chain_into<G: GuestBytes>(
+        &mut self,
+        ram: &G,
+        chain: &mut Chain,
+    ) -> Result<Option<u16>, ChainFault>
+        requires { IsInside (G.mem ram.now) self.old.layout }
+        ensures pops { PopsBy (G.mem ram.now) self.old self.new (popped result chain.new) }
+        ensures none { result ≡ Ok None → chain.new ≡ [] }
+        ensures err { OnErr result (chain.new ≡ []) }
+    {
+        chain.clear();
         if !self.ready {
             return Ok(None);
         }
         let Some(head) = next_avail(ram, self.layout, self.size, self.next_avail)? else {
             return Ok(None);
         };
-        match walk(ram, self.layout.table, head, self.size) {
-            Ok(chain) => {
+        match walk_into(ram, self.layout.table, head, self.size, chain) {
+            Ok(()) => {
                 self.next_avail = self.next_avail.wrapping_add(1);
-                Ok(Some(Taken { head, chain }))
+                Ok(Some(head))
             }
             Err(fault) => Err(fault),
         }

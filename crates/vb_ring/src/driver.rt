@@ -7,9 +7,10 @@ ghost use Rattle.vb_ring.specs.Calls.{AddsBy, TakesUsedBy};
 
 use crate::Layout;
 use crate::entries::{next_used, put_avail};
-use crate::owners::{claim, count_heads, free_path, is_head, lowest_free, release};
+use crate::owners::Owners;
+use arrayvec::ArrayVec;
 use std::marker::Model;
-use vb_chain::{MAX_DESCRIPTORS, Piece, write_chain};
+use vb_chain::{Piece, write_chain};
 use vb_ram::GuestBytes;
 
 /// Why `add` refuses.
@@ -40,12 +41,11 @@ pub struct DriverRing {
     published: u16,
     /// How many used elements were seen, modulo 65,536.
     seen: u16,
-    /// For each descriptor the head of the chain that it belongs to, or none; past `size` unused.
-    owner: [Option<u16>; MAX_DESCRIPTORS],
+    /// For each descriptor the head of the chain that it belongs to, or none.
+    owners: Owners,
 }
 
 impl Model for DriverRing {
-    ghost use Rattle.std.specs.Prelude.{take};
     ghost use Rattle.vb_ring.specs.Ends.{DriverEnd, IsDriverEnd};
 
     ghost Value = { DriverEnd };
@@ -55,7 +55,7 @@ impl Model for DriverRing {
       size = s.size;
       published = s.published;
       seen = s.seen;
-      owner = take s.size s.owner;
+      owner = s.owners;
     } };
 
     ghost invariant = { λ s. IsDriverEnd (record {
@@ -63,7 +63,7 @@ impl Model for DriverRing {
       size = s.size;
       published = s.published;
       seen = s.seen;
-      owner = take s.size s.owner;
+      owner = s.owners;
     }) };
 }
 
@@ -80,7 +80,7 @@ impl DriverRing {
             size,
             published: 0,
             seen: 0,
-            owner: [None; MAX_DESCRIPTORS],
+            owners: Owners::new(size),
         }
     }
 
@@ -97,7 +97,7 @@ impl DriverRing {
         ensures is_end { IsDriverEnd self.now }
         ensures value { result ≡ next_head self.now }
     {
-        lowest_free(&self.owner[..usize::from(self.size)])
+        self.owners.lowest_free()
     }
 
     /// How many chains were added and not taken back.
@@ -105,7 +105,7 @@ impl DriverRing {
         ensures is_end { IsDriverEnd self.now }
         ensures value { result ≡ outstanding self.now }
     {
-        count_heads(&self.owner[..usize::from(self.size)])
+        self.owners.outstanding()
     }
 
     /// Publishes a chain of these pieces on the lowest free descriptors, in rising order (VIRTIO
@@ -116,15 +116,16 @@ impl DriverRing {
         ensures adds { AddsBy (G.mem ram.old) (G.mem ram.new) self.old self.new pieces.now result }
         ensures part { G.part ram.new ≡ G.part ram.old }
     {
-        let Some(path) = free_path(&self.owner[..usize::from(self.size)], pieces.len()) else {
+        let mut path = ArrayVec::new();
+        if !self.owners.find_free(pieces.len(), &mut path) {
             return Err(Full::TooFewFree);
-        };
+        }
         let path: &[u16] = &path;
         let head = path[0];
         write_chain(ram, self.layout.table, self.size, path, pieces);
         put_avail(ram, self.layout, self.size, self.published, head);
         self.published = self.published.wrapping_add(1);
-        claim(&mut self.owner[..usize::from(self.size)], path, head);
+        self.owners.claim(path);
         Ok(head)
     }
 
@@ -134,18 +135,17 @@ impl DriverRing {
         requires { IsInside (G.mem ram.now) self.old.layout }
         ensures { TakesUsedBy (G.mem ram.now) self.old self.new result }
     {
-        let size = usize::from(self.size);
-        let most = count_heads(&self.owner[..size]);
+        let most = self.owners.outstanding();
         let id = match next_used(ram, self.layout, self.size, self.seen, most) {
             Ok(Some(id)) => id,
             Ok(None) => return Ok(None),
             Err(broken) => return Err(broken),
         };
-        if id >= u32::from(self.size) || !is_head(&self.owner[..size], id as u16) {
+        if id >= u32::from(self.size) || !self.owners.is_head(id as u16) {
             return Err(RingBroken::NotOutstanding);
         }
         let head = id as u16;
-        release(&mut self.owner[..size], head);
+        self.owners.release(head);
         self.seen = self.seen.wrapping_add(1);
         Ok(Some(head))
     }

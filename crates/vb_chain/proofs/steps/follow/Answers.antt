@@ -18,7 +18,7 @@ loop-visited-init g c =
         c.args.head
             ∷ [],
         subst (λ (ps : List Piece). Walked d c.args.size (4096 * c.from.result) c.args.head
-            (c.args.head ∷ []) 0 c.args.head false ps) (sym c.empty-chain.ensures) start,
+            (c.args.head ∷ []) 0 c.args.head false ps) (sym c.requires.empty) start,
       );
     }
 

@@ -6,7 +6,7 @@ use Rattle.vb_model.specs.Requests.{Request}
 use Rattle.vb_chain.specs.declared.pieces.Piece.{Piece}
 use Rattle.vb_chain.specs.Table.{descriptor_at}
 use Rattle.vb_ring.specs.declared.device.Taken.{Taken}
-use Rattle.vb_ring.specs.Calls.{PopsBy}
+use Rattle.vb_ring.specs.Calls.{PopsBy, popped}
 use Rattle.vb_device.specs.Calls.{request_of, noted}
 use Rattle.vb_model.specs.Guest.{LastStatistics}
 use Rattle.vb_device.specs.QueueState.{QueueState, is_full, TakesNext}
@@ -49,16 +49,16 @@ returns-in-Err g c =
     let ready : c.self.inside.queue.ready ≡ true =
     ap (λ (q : QueueState). q.ring.ready) c.self.view_is ∙ c.requires.ready in
     subst (λ (q : QueueState). TakesNext c.args.queue (g.G.GuestBytes.mem c.args.ram.now) q
-    (record { ring = c.pop_descriptor_chain.new.self; taken = c.self.inside.taken.items })
+    (record { ring = c.pop_descriptor_chain_into.new.self; taken = c.self.inside.taken.items })
     (was c.args.last.now) (was c.args.last.now) (Err c.broken.result)) c.self.view_is
     (subst (λ (w : Refusal). TakesNext c.args.queue (g.G.GuestBytes.mem c.args.ram.now)
     (record { ring = c.self.inside.queue; taken = c.self.inside.taken.items })
-    (record { ring = c.pop_descriptor_chain.new.self; taken = c.self.inside.taken.items })
+    (record { ring = c.pop_descriptor_chain_into.new.self; taken = c.self.inside.taken.items })
     (was c.args.last.now) (was c.args.last.now) (Err w)) (sym c.broken.ensures)
     (next_err c.args.queue (g.G.GuestBytes.mem c.args.ram.now) c.self.inside.queue
-    c.pop_descriptor_chain.new.self c.self.inside.taken.items
+    c.pop_descriptor_chain_into.new.self c.self.inside.taken.items
     (was c.args.last.now) c.in-Err.fault free ready
-    c.in-Err.ensures))
+    c.in-Err.ensures.pops))
 
 pub returns-in-None : goal.returns-in-None
 returns-in-None g c =
@@ -67,39 +67,46 @@ returns-in-None g c =
     let ready : c.self.inside.queue.ready ≡ true =
     ap (λ (q : QueueState). q.ring.ready) c.self.view_is ∙ c.requires.ready in
     let pops : PopsBy (g.G.GuestBytes.mem c.args.ram.now) c.self.inside.queue
-    c.pop_descriptor_chain.new.self (Ok None) =
-    subst (λ (o : Option Taken). PopsBy (g.G.GuestBytes.mem c.args.ram.now) c.self.inside.queue
-    c.pop_descriptor_chain.new.self (Ok o)) c.in-None.is c.in-Ok.ensures in
+    c.pop_descriptor_chain_into.new.self (Ok None) =
+    subst (λ (o : Option ℕ). PopsBy (g.G.GuestBytes.mem c.args.ram.now) c.self.inside.queue
+    c.pop_descriptor_chain_into.new.self (popped (Ok o) c.pop_descriptor_chain_into.new.chain))
+    c.in-None.is c.in-Ok.ensures.pops in
     subst (λ (q : QueueState). TakesNext c.args.queue (g.G.GuestBytes.mem c.args.ram.now) q
-    (record { ring = c.pop_descriptor_chain.new.self; taken = c.self.inside.taken.items })
+    (record { ring = c.pop_descriptor_chain_into.new.self; taken = c.self.inside.taken.items })
     (was c.args.last.now) (was c.args.last.now) (Ok None)) c.self.view_is
     (next_none c.args.queue (g.G.GuestBytes.mem c.args.ram.now) c.self.inside.queue
-    c.pop_descriptor_chain.new.self c.self.inside.taken.items (was c.args.last.now) free ready pops)
+    c.pop_descriptor_chain_into.new.self c.self.inside.taken.items (was c.args.last.now) free ready pops)
 
 pub read_chain-requires-clause-inside : goal.read_chain-requires-clause-inside
 read_chain-requires-clause-inside g c =
+    let taken : Taken =
+    record { head = c.in-Some.head; chain = c.pop_descriptor_chain_into.new.chain } in
     let pops : PopsBy (g.G.GuestBytes.mem c.args.ram.now) c.self.inside.queue
-    c.pop_descriptor_chain.new.self (Ok (Some c.in-Some.taken)) =
-    subst (λ (o : Option Taken). PopsBy (g.G.GuestBytes.mem c.args.ram.now) c.self.inside.queue
-    c.pop_descriptor_chain.new.self (Ok o)) c.in-Some.is c.in-Ok.ensures in
+    c.pop_descriptor_chain_into.new.self (Ok (Some taken)) =
+    subst (λ (o : Option ℕ). PopsBy (g.G.GuestBytes.mem c.args.ram.now) c.self.inside.queue
+    c.pop_descriptor_chain_into.new.self (popped (Ok o) c.pop_descriptor_chain_into.new.chain))
+    c.in-Some.is c.in-Ok.ensures.pops in
     subst (λ (xs : List Piece). All
     (λ piece. piece.addr + piece.len ≤ 4096 * length (g.G.GuestBytes.mem c.args.ram.now)) xs)
     (sym c.pieces.ensures)
     (chain_fits (descriptor_at (g.G.GuestBytes.mem c.args.ram.now) c.self.inside.queue.layout.table)
     c.self.inside.queue.size (4096 * length (g.G.GuestBytes.mem c.args.ram.now))
-    c.in-Some.taken.head c.in-Some.taken.chain pops.found.2)
+    taken.head taken.chain pops.found.2)
 
 pub invariant_of-self-in-Ok-read_chain : goal.invariant_of-self-in-Ok-read_chain
 invariant_of-self-in-Ok-read_chain g c =
+    let taken : Taken =
+    record { head = c.in-Some.head; chain = c.pop_descriptor_chain_into.new.chain } in
     let pops : PopsBy (g.G.GuestBytes.mem c.args.ram.now) c.self.inside.queue
-    c.pop_descriptor_chain.new.self (Ok (Some c.in-Some.taken)) =
-    subst (λ (o : Option Taken). PopsBy (g.G.GuestBytes.mem c.args.ram.now) c.self.inside.queue
-    c.pop_descriptor_chain.new.self (Ok o)) c.in-Some.is c.in-Ok.ensures in
-    let size : c.pop_descriptor_chain.new.self.size ≡ c.self.inside.queue.size =
+    c.pop_descriptor_chain_into.new.self (Ok (Some taken)) =
+    subst (λ (o : Option ℕ). PopsBy (g.G.GuestBytes.mem c.args.ram.now) c.self.inside.queue
+    c.pop_descriptor_chain_into.new.self (popped (Ok o) c.pop_descriptor_chain_into.new.chain))
+    c.in-Some.is c.in-Ok.ensures.pops in
+    let size : c.pop_descriptor_chain_into.new.self.size ≡ c.self.inside.queue.size =
     ap (λ (q : DeviceEnd). q.size) pops.state in
     let new : Request =
     record {
-      head = c.in-Some.taken.head;
+      head = taken.head;
       pages = c.in-Ok-read_chain.pages;
       visited = 0;
     } in
@@ -117,32 +124,35 @@ returns-in-Ok-read_chain g c =
     false = ap (is_full c.args.queue) c.self.view_is ∙ (sym c.is_full.ensures ∙ c.if-is_full.false) in
     let ready : c.self.inside.queue.ready ≡ true =
     ap (λ (q : QueueState). q.ring.ready) c.self.view_is ∙ c.requires.ready in
+    let taken : Taken =
+    record { head = c.in-Some.head; chain = c.pop_descriptor_chain_into.new.chain } in
     let pops : PopsBy (g.G.GuestBytes.mem c.args.ram.now) c.self.inside.queue
-    c.pop_descriptor_chain.new.self (Ok (Some c.in-Some.taken)) =
-    subst (λ (o : Option Taken). PopsBy (g.G.GuestBytes.mem c.args.ram.now) c.self.inside.queue
-    c.pop_descriptor_chain.new.self (Ok o)) c.in-Some.is c.in-Ok.ensures in
-    let good : request_of c.args.queue (g.G.GuestBytes.mem c.args.ram.now) c.in-Some.taken.chain ≡
+    c.pop_descriptor_chain_into.new.self (Ok (Some taken)) =
+    subst (λ (o : Option ℕ). PopsBy (g.G.GuestBytes.mem c.args.ram.now) c.self.inside.queue
+    c.pop_descriptor_chain_into.new.self (popped (Ok o) c.pop_descriptor_chain_into.new.chain))
+    c.in-Some.is c.in-Ok.ensures.pops in
+    let good : request_of c.args.queue (g.G.GuestBytes.mem c.args.ram.now) taken.chain ≡
     Ok c.in-Ok-read_chain.pages =
     ap (request_of c.args.queue (g.G.GuestBytes.mem c.args.ram.now)) (sym c.pieces.ensures) ∙
     c.in-Ok-read_chain.ensures.pages in
     let said : was c.read_chain.new.last ≡
-    noted c.args.queue (g.G.GuestBytes.mem c.args.ram.now) c.in-Some.taken.chain
+    noted c.args.queue (g.G.GuestBytes.mem c.args.ram.now) taken.chain
     (was c.args.last.now) =
     last_is c.read_chain.new.last (noted c.args.queue (g.G.GuestBytes.mem c.args.ram.now)
     c.pieces.result.now (was c.args.last.now)) c.in-Ok-read_chain.ensures.said
     ∙ ap (λ (xs : List Piece). noted c.args.queue (g.G.GuestBytes.mem c.args.ram.now) xs
     (was c.args.last.now)) c.pieces.ensures in
     subst (λ (q : QueueState). TakesNext c.args.queue (g.G.GuestBytes.mem c.args.ram.now) q
-    (record { ring = c.pop_descriptor_chain.new.self; taken = c.push.new.self.items })
-    (was c.args.last.now) (was c.read_chain.new.last) (Ok (Some c.in-Some.taken.head))) c.self.view_is
+    (record { ring = c.pop_descriptor_chain_into.new.self; taken = c.push.new.self.items })
+    (was c.args.last.now) (was c.read_chain.new.last) (Ok (Some taken.head))) c.self.view_is
     (subst (λ (xs : List Request). TakesNext c.args.queue (g.G.GuestBytes.mem c.args.ram.now)
     (record { ring = c.self.inside.queue; taken = c.self.inside.taken.items })
-    (record { ring = c.pop_descriptor_chain.new.self; taken = xs })
-    (was c.args.last.now) (was c.read_chain.new.last) (Ok (Some c.in-Some.taken.head))) (sym (c.push.ensures.items ∙ ap (λ (r : Request). c.self.inside.taken.items ++ r ∷ [])
+    (record { ring = c.pop_descriptor_chain_into.new.self; taken = xs })
+    (was c.args.last.now) (was c.read_chain.new.last) (Ok (Some taken.head))) (sym (c.push.ensures.items ∙ ap (λ (r : Request). c.self.inside.taken.items ++ r ∷ [])
     c.new.ensures))
     (next_right c.args.queue (g.G.GuestBytes.mem c.args.ram.now) c.self.inside.queue
-    c.pop_descriptor_chain.new.self c.self.inside.taken.items
-    (was c.args.last.now) (was c.read_chain.new.last) c.in-Some.taken c.in-Ok-read_chain.pages free ready pops good said))
+    c.pop_descriptor_chain_into.new.self c.self.inside.taken.items
+    (was c.args.last.now) (was c.read_chain.new.last) taken c.in-Ok-read_chain.pages free ready pops good said))
 
 pub returns-in-Err-read_chain : goal.returns-in-Err-read_chain
 returns-in-Err-read_chain g c =
@@ -150,11 +160,14 @@ returns-in-Err-read_chain g c =
     false = ap (is_full c.args.queue) c.self.view_is ∙ (sym c.is_full.ensures ∙ c.if-is_full.false) in
     let ready : c.self.inside.queue.ready ≡ true =
     ap (λ (q : QueueState). q.ring.ready) c.self.view_is ∙ c.requires.ready in
+    let taken : Taken =
+    record { head = c.in-Some.head; chain = c.pop_descriptor_chain_into.new.chain } in
     let pops : PopsBy (g.G.GuestBytes.mem c.args.ram.now) c.self.inside.queue
-    c.pop_descriptor_chain.new.self (Ok (Some c.in-Some.taken)) =
-    subst (λ (o : Option Taken). PopsBy (g.G.GuestBytes.mem c.args.ram.now) c.self.inside.queue
-    c.pop_descriptor_chain.new.self (Ok o)) c.in-Some.is c.in-Ok.ensures in
-    let bad : request_of c.args.queue (g.G.GuestBytes.mem c.args.ram.now) c.in-Some.taken.chain ≡
+    c.pop_descriptor_chain_into.new.self (Ok (Some taken)) =
+    subst (λ (o : Option ℕ). PopsBy (g.G.GuestBytes.mem c.args.ram.now) c.self.inside.queue
+    c.pop_descriptor_chain_into.new.self (popped (Ok o) c.pop_descriptor_chain_into.new.chain))
+    c.in-Some.is c.in-Ok.ensures.pops in
+    let bad : request_of c.args.queue (g.G.GuestBytes.mem c.args.ram.now) taken.chain ≡
     Err c.in-Err-read_chain.wrong =
     ap (request_of c.args.queue (g.G.GuestBytes.mem c.args.ram.now)) (sym c.pieces.ensures) ∙
     c.in-Err-read_chain.ensures.pages in
@@ -171,6 +184,6 @@ returns-in-Err-read_chain g c =
     (was c.args.last.now) (was l) (Err (Broken (rule_of c.in-Err-read_chain.wrong))))
     (sym c.in-Err-read_chain.ensures.err)
     (next_wrong c.args.queue (g.G.GuestBytes.mem c.args.ram.now) c.self.inside.queue
-    c.pop_descriptor_chain.new.self c.go_to_previous_position.new.self c.self.inside.taken.items
-    (was c.args.last.now) c.in-Some.taken c.in-Err-read_chain.wrong free ready pops bad
+    c.pop_descriptor_chain_into.new.self c.go_to_previous_position.new.self c.self.inside.taken.items
+    (was c.args.last.now) taken c.in-Err-read_chain.wrong free ready pops bad
     c.go_to_previous_position.ensures)))

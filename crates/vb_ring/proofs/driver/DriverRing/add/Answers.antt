@@ -1,10 +1,13 @@
-use Rattle.std.proofs.Common.{◌≡◌, ◌∙◌, ◌<◌, ℕ, List, length, take, sym, ap, subst, arith}
-use Rattle.std.specs.Prelude.{slice_index}
+use Rattle.std.proofs.Common.{◌≡◌, ◌∙◌, ◌+◌, ◌%◌, Some, Ok, length, take, sym, ap, subst}
+use Rattle.std.proofs.Common.{arith}
+use Rattle.std.specs.Prelude.{slice_index, if◌then◌else◌}
+use Rattle.vb_model.specs.Tests.{is_in}
+use Rattle.vb_model.proofs.Tables.{length-each_from}
 use Rattle.vb_chain.specs.Written.{IsRoute}
 use Rattle.vb_ring.specs.Numbers.{numbers}
-use Rattle.vb_ring.specs.Ends.{DriverEnd, IsDriverEnd, is_unused, claimed, next_path}
-use Rattle.vb_ring.proofs.MeaningLaws.{next_path-free}
-use Rattle.vb_ring.proofs.Assemble.{adds_after, next_route}
+use Rattle.vb_ring.specs.Ends.{DriverEnd, is_unused, next_path}
+use Rattle.vb_ring.specs.Calls.{AddsBy}
+use Rattle.vb_ring.proofs.Assemble.{adds_along, next_route, next_chain}
 use Rattle.vb_ring.proofs.driver.DriverRing.add.Goals as goal
 
 pub write_chain-requires-clause-route : goal.write_chain-requires-clause-route
@@ -15,16 +18,12 @@ write_chain-requires-clause-route g c =
       size = c.self.inside.size;
       published = c.self.inside.published;
       seen = c.self.inside.seen;
-      owner =
-          take c.self.inside.size c.self.inside.owner;
+      owner = c.self.inside.owners;
     } in
-    let table : length old.owner ≡ old.size = c.self.invariant.table in
     let along : c.deref-path.result.now ≡ next_path old (length c.args.pieces.now) =
-    c.deref-path.ensures.0 ∙ c.in-Some.ensures.found.0
-    ∙ ap (λ k. take (length c.args.pieces.now)
-    (numbers (is_unused (take k c.self.inside.owner)) (length (take k c.self.inside.owner))))
-    c.from.ensures
-    ∙ ap (λ k. take (length c.args.pieces.now) (numbers (is_unused old.owner) k)) table in
+    c.deref-path.ensures.0 ∙ c.find_free.ensures.found c.if-not-find_free.false
+    ∙ ap (λ k. take (length c.args.pieces.now) (numbers (is_unused old.owner) k))
+    c.self.invariant.table in
     subst (IsRoute old.size) (sym along) (next_route old (length c.args.pieces.now))
 
 pub claim-requires : goal.claim-requires
@@ -35,22 +34,28 @@ claim-requires g c =
       size = c.self.inside.size;
       published = c.self.inside.published;
       seen = c.self.inside.seen;
-      owner =
-          take c.self.inside.size c.self.inside.owner;
+      owner = c.self.inside.owners;
     } in
-    let table : length old.owner ≡ old.size = c.self.invariant.table in
     let along : c.deref-path.result.now ≡ next_path old (length c.args.pieces.now) =
-    c.deref-path.ensures.0 ∙ c.in-Some.ensures.found.0
-    ∙ ap (λ k. take (length c.args.pieces.now)
-    (numbers (is_unused (take k c.self.inside.owner)) (length (take k c.self.inside.owner))))
-    c.from.ensures
-    ∙ ap (λ k. take (length c.args.pieces.now) (numbers (is_unused old.owner) k)) table in
-    subst (λ (n : ℕ). (k : ℕ) → k < length c.deref-path.result.now
-    → slice_index c.deref-path.result.now k < length (take n c.self.inside.owner))
-    (sym c.from-2.ensures)
-    (subst (λ (xs : List ℕ). (k : ℕ) → k < length xs → slice_index xs k < length old.owner)
-    (sym along)
-    (λ k h. omega (arith, (next_path-free old (length c.args.pieces.now) k h).0, table)))
+    c.deref-path.ensures.0 ∙ c.find_free.ensures.found c.if-not-find_free.false
+    ∙ ap (λ k. take (length c.args.pieces.now) (numbers (is_unused old.owner) k))
+    c.self.invariant.table in
+    let count : length c.deref-path.result.now ≡ length c.args.pieces.now =
+    ap length c.deref-path.ensures.0 ∙ c.find_free.ensures.count c.if-not-find_free.false in
+    next_chain old (length c.args.pieces.now) c.deref-path.result.now c.self.invariant
+    c.requires.some along count
+
+pub invariant_of-self : goal.invariant_of-self
+invariant_of-self g c =
+    let path = c.deref-path.result.now in
+    record {
+      fits = c.self.invariant.fits;
+      table = ap length c.claim.ensures ∙ length-each_from 0
+          (λ i old. if is_in i path then Some (slice_index path 0) else old) c.self.inside.owners
+          ∙ c.self.invariant.table;
+      published = omega arith;
+      seen = c.self.invariant.seen;
+    }
 
 pub returns-clause-adds : goal.returns-clause-adds
 returns-clause-adds g c =
@@ -60,25 +65,20 @@ returns-clause-adds g c =
       size = c.self.inside.size;
       published = c.self.inside.published;
       seen = c.self.inside.seen;
-      owner =
-          take c.self.inside.size c.self.inside.owner;
+      owner = c.self.inside.owners;
     } in
-    let table : length old.owner ≡ old.size = c.self.invariant.table in
-    let is_end : IsDriverEnd old = c.self.invariant in
     let along : c.deref-path.result.now ≡ next_path old (length c.args.pieces.now) =
-    c.deref-path.ensures.0 ∙ c.in-Some.ensures.found.0
-    ∙ ap (λ k. take (length c.args.pieces.now)
-    (numbers (is_unused (take k c.self.inside.owner)) (length (take k c.self.inside.owner))))
-    c.from.ensures
-    ∙ ap (λ k. take (length c.args.pieces.now) (numbers (is_unused old.owner) k)) table in
+    c.deref-path.ensures.0 ∙ c.find_free.ensures.found c.if-not-find_free.false
+    ∙ ap (λ k. take (length c.args.pieces.now) (numbers (is_unused old.owner) k))
+    c.self.invariant.table in
     let count : length c.deref-path.result.now ≡ length c.args.pieces.now =
-    ap length c.deref-path.ensures.0 ∙ c.in-Some.ensures.found.1 in
-    let claims : c.claim.new.owner
-    ≡ claimed c.deref-path.result.now (slice_index c.deref-path.result.now 0) old.owner =
-    c.claim.ensures ∙ ap (λ k. claimed c.deref-path.result.now
-    (slice_index c.deref-path.result.now 0) (take k c.self.inside.owner)) c.from-2.ensures in
-    adds_after (g.G.GuestBytes.mem c.args.ram.now) (g.G.GuestBytes.mem c.write_chain.new.ram)
-    (g.G.GuestBytes.mem c.put_avail.new.ram) old _ c.args.pieces.now c.deref-path.result.now
-    c.claim.new.owner _
-    c.self.view_is along is_end c.requires.some count c.write_chain.ensures.put
-    c.write_chain.ensures.others c.write_chain.ensures.rest c.put_avail.ensures.puts claims
+    ap length c.deref-path.ensures.0 ∙ c.find_free.ensures.count c.if-not-find_free.false in
+    subst (λ (v : DriverEnd). AddsBy (g.G.GuestBytes.mem c.args.ram.now)
+    (g.G.GuestBytes.mem c.put_avail.new.ram) v
+    (record old { published = (old.published + 1) % 65536; owner = c.claim.new.self })
+    c.args.pieces.now (Ok (slice_index c.deref-path.result.now 0))) c.self.view_is
+    (adds_along (g.G.GuestBytes.mem c.args.ram.now) (g.G.GuestBytes.mem c.write_chain.new.ram)
+    (g.G.GuestBytes.mem c.put_avail.new.ram) old c.args.pieces.now c.deref-path.result.now
+    c.claim.new.self along c.self.invariant c.requires.some count c.write_chain.ensures.put
+    c.write_chain.ensures.others c.write_chain.ensures.rest c.put_avail.ensures.puts
+    c.claim.ensures)

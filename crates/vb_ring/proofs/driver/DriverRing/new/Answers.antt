@@ -1,6 +1,5 @@
-use Rattle.std.proofs.Common.{◌≡◌, ℕ, List, Option, None, arith}
+use Rattle.std.proofs.Common.{◌≡◌, ℕ, List, Option, None}
 use Rattle.std.specs.Prelude.{replicate}
-use Rattle.std.proofs.lemmas.List.{take-replicate}
 use Rattle.vb_ring.specs.declared.layout.Layout.{Layout}
 use Rattle.vb_ring.specs.Layout.{layout_of}
 use Rattle.vb_ring.specs.Ends.{fresh_end}
@@ -14,6 +13,4 @@ fresh_is : (page q : ℕ) (l : Layout) (owner : List (Option ℕ)) → l ≡ lay
 fresh_is page q l owner a b = cc
 
 pub returns-clause-value : goal.returns-clause-value
-returns-clause-value c =
-    fresh_is c.args.page c.args.size c.at.result _ c.at.ensures.value
-    (take-replicate c.args.size 128 None (omega arith))
+returns-clause-value c = fresh_is c.args.page c.args.size _ _ c.at.ensures.value c.new.ensures

@@ -1,11 +1,11 @@
 use Rattle.std.proofs.Common.{◌≡◌, ◌∙◌, ℕ, true, false, Option, Some, None, Result, Ok, Err, length}
-use Rattle.std.proofs.Common.{take, sym, ap, subst, arith, rules}
+use Rattle.std.proofs.Common.{◌+◌, ◌%◌, sym, ap, subst, arith, rules}
 use Rattle.vb_ring.specs.declared.driver.RingBroken.{RingBroken}
 use Rattle.vb_ring.specs.declared.driver.RingBroken.TheVariants.{NotOutstanding}
 use Rattle.vb_ring.specs.Entries.{is_head, next_id, only_head}
 use Rattle.vb_ring.specs.Numbers.{numbers}
 use Rattle.vb_ring.proofs.Numbers.{length-numbers}
-use Rattle.vb_ring.specs.Ends.{DriverEnd, IsDriverEnd, outstanding, released}
+use Rattle.vb_ring.specs.Ends.{DriverEnd, IsDriverEnd, outstanding}
 use Rattle.vb_ring.specs.Calls.{TakesUsedBy}
 use Rattle.vb_ring.proofs.Assemble.{takes_by, takes_after, only_unknown, past_unknown}
 use Rattle.vb_ring.proofs.driver.DriverRing.take_used.Goals as goal
@@ -28,16 +28,12 @@ returns-in-Err g c =
       size = c.self.inside.size;
       published = c.self.inside.published;
       seen = c.self.inside.seen;
-      owner =
-          take c.self.inside.size c.self.inside.owner;
+      owner = c.self.inside.owners;
     } in
     let table : length old.owner ≡ old.size = c.self.invariant.table in
     let is_end : IsDriverEnd old = c.self.invariant in
-    let most : c.count_heads-most.result ≡ outstanding old =
-    c.count_heads-most.ensures
-    ∙ ap (λ k. length (numbers (is_head (take k c.self.inside.owner))
-    (length (take k c.self.inside.owner)))) c.from-size.ensures
-    ∙ ap (λ k. length (numbers (is_head old.owner) k)) table in
+    let most : c.outstanding-most.result ≡ outstanding old =
+    c.outstanding-most.ensures ∙ ap (λ k. length (numbers (is_head old.owner) k)) table in
     let mem = g.G.GuestBytes.mem c.args.ram.now in
     let next : next_id mem old.layout old.size old.seen (outstanding old) ≡ Err c.in-Err.broken =
     ap (next_id mem old.layout old.size old.seen) (sym most) ∙ sym c.in-Err.ensures in
@@ -53,16 +49,12 @@ returns-in-Ok-None g c =
       size = c.self.inside.size;
       published = c.self.inside.published;
       seen = c.self.inside.seen;
-      owner =
-          take c.self.inside.size c.self.inside.owner;
+      owner = c.self.inside.owners;
     } in
     let table : length old.owner ≡ old.size = c.self.invariant.table in
     let is_end : IsDriverEnd old = c.self.invariant in
-    let most : c.count_heads-most.result ≡ outstanding old =
-    c.count_heads-most.ensures
-    ∙ ap (λ k. length (numbers (is_head (take k c.self.inside.owner))
-    (length (take k c.self.inside.owner)))) c.from-size.ensures
-    ∙ ap (λ k. length (numbers (is_head old.owner) k)) table in
+    let most : c.outstanding-most.result ≡ outstanding old =
+    c.outstanding-most.ensures ∙ ap (λ k. length (numbers (is_head old.owner) k)) table in
     let mem = g.G.GuestBytes.mem c.args.ram.now in
     let next : next_id mem old.layout old.size old.seen (outstanding old) ≡ Ok None =
     ap (next_id mem old.layout old.size old.seen) (sym most)
@@ -79,16 +71,12 @@ returns-then-id-from g c =
       size = c.self.inside.size;
       published = c.self.inside.published;
       seen = c.self.inside.seen;
-      owner =
-          take c.self.inside.size c.self.inside.owner;
+      owner = c.self.inside.owners;
     } in
     let table : length old.owner ≡ old.size = c.self.invariant.table in
     let is_end : IsDriverEnd old = c.self.invariant in
-    let most : c.count_heads-most.result ≡ outstanding old =
-    c.count_heads-most.ensures
-    ∙ ap (λ k. length (numbers (is_head (take k c.self.inside.owner))
-    (length (take k c.self.inside.owner)))) c.from-size.ensures
-    ∙ ap (λ k. length (numbers (is_head old.owner) k)) table in
+    let most : c.outstanding-most.result ≡ outstanding old =
+    c.outstanding-most.ensures ∙ ap (λ k. length (numbers (is_head old.owner) k)) table in
     let mem = g.G.GuestBytes.mem c.args.ram.now in
     let next : next_id mem old.layout old.size old.seen (outstanding old)
     ≡ Ok (Some c.in-Ok-Some.id) =
@@ -99,8 +87,7 @@ returns-then-id-from g c =
       | then-id-from-via-then-id-from w ↦
           past_unknown old.owner c.in-Ok-Some.id (omega (arith, table))
       | then-id-from-via-else-id-from+then-not-is_head w ↦
-          ap (λ k. is_head (take k c.self.inside.owner) c.in-Ok-Some.id) (sym c.from-size.ensures)
-          ∙ sym w.is_head.ensures ∙ search rules
+          sym w.is_head.ensures ∙ search rules
     ] in
     subst (λ (v : DriverEnd). TakesUsedBy mem v v (Err NotOutstanding)) c.self.view_is
     (takes_by mem old (Err NotOutstanding) is_end (length-numbers (is_head old.owner) old.size)
@@ -114,16 +101,12 @@ returns g c =
       size = c.self.inside.size;
       published = c.self.inside.published;
       seen = c.self.inside.seen;
-      owner =
-          take c.self.inside.size c.self.inside.owner;
+      owner = c.self.inside.owners;
     } in
     let table : length old.owner ≡ old.size = c.self.invariant.table in
     let is_end : IsDriverEnd old = c.self.invariant in
-    let most : c.count_heads-most.result ≡ outstanding old =
-    c.count_heads-most.ensures
-    ∙ ap (λ k. length (numbers (is_head (take k c.self.inside.owner))
-    (length (take k c.self.inside.owner)))) c.from-size.ensures
-    ∙ ap (λ k. length (numbers (is_head old.owner) k)) table in
+    let most : c.outstanding-most.result ≡ outstanding old =
+    c.outstanding-most.ensures ∙ ap (λ k. length (numbers (is_head old.owner) k)) table in
     let mem = g.G.GuestBytes.mem c.args.ram.now in
     let next : next_id mem old.layout old.size old.seen (outstanding old)
     ≡ Ok (Some c.in-Ok-Some.id) =
@@ -131,9 +114,11 @@ returns g c =
     ∙ answer_is _ c.in-Ok-Some.field-0 c.in-Ok-Some.id c.in-Ok-Some.ensures
     c.in-Ok-Some.field-0-is in
     let out : is_head old.owner c.in-Ok-Some.id ≡ true =
-    ap (λ k. is_head (take k c.self.inside.owner) c.in-Ok-Some.id) (sym c.from-size.ensures)
-    ∙ sym c.is_head.ensures ∙ search rules in
-    let frees : c.release.new.owner ≡ released c.in-Ok-Some.id old.owner =
-    c.release.ensures ∙ ap (λ k. released c.in-Ok-Some.id (take k c.self.inside.owner))
-    c.from-size.ensures in
-    takes_after mem old _ c.release.new.owner _ c.in-Ok-Some.id c.self.view_is is_end next out frees
+    sym c.is_head.ensures ∙ search rules in
+    subst (λ (v : DriverEnd). TakesUsedBy mem v
+    (record old { seen = (old.seen + 1) % 65536; owner = c.release.new.self })
+    (Ok (Some c.in-Ok-Some.id))) c.self.view_is
+    (takes_after mem old c.release.new.self c.in-Ok-Some.id is_end next out c.release.ensures)
+
+pub release-requires : goal.release-requires
+release-requires g c = sym c.is_head.ensures ∙ search rules

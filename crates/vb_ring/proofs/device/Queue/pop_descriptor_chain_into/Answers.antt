@@ -5,7 +5,7 @@ use Rattle.vb_ring.specs.declared.device.Taken.{Taken}
 use Rattle.vb_ring.specs.Ends.{DeviceEnd, IsDeviceEnd}
 use Rattle.vb_ring.specs.Calls.{PopsBy, after_pop}
 use Rattle.vb_ring.proofs.Pops.{pops_idle, pops_none, pops_chain, pops_fault}
-use Rattle.vb_ring.proofs.device.Queue.pop_descriptor_chain.Goals as goal
+use Rattle.vb_ring.proofs.device.Queue.pop_descriptor_chain_into.Goals as goal
 
 -- what was answered, by what it is
 answer_is : (r : Result (Option ℕ) ChainFault) (o : Option ℕ) (h : ℕ) → Ok o ≡ r → o ≡ Some h
@@ -15,8 +15,8 @@ answer_is r o h a b = cc
 answer_none : (r : Result (Option ℕ) ChainFault) (o : Option ℕ) → Ok o ≡ r → o ≡ None → r ≡ Ok None
 answer_none r o a b = cc
 
-pub returns-then-not-self : goal.returns-then-not-self
-returns-then-not-self g c =
+pub returns-then-not-self-clause-pops : goal.returns-then-not-self-clause-pops
+returns-then-not-self-clause-pops g c =
     let old : DeviceEnd =
     record {
       layout = c.self.inside.layout;
@@ -31,8 +31,8 @@ returns-then-not-self g c =
     subst (λ (v : DeviceEnd). PopsBy (g.G.GuestBytes.mem c.args.ram.now) v v (Ok None))
     c.self.view_is (pops_idle (g.G.GuestBytes.mem c.args.ram.now) old is_end idle)
 
-pub returns-in_default : goal.returns-in_default
-returns-in_default g c =
+pub returns-in_default-clause-pops : goal.returns-in_default-clause-pops
+returns-in_default-clause-pops g c =
     let old : DeviceEnd =
     record {
       layout = c.self.inside.layout;
@@ -48,8 +48,8 @@ returns-in_default g c =
     (pops_none (g.G.GuestBytes.mem c.args.ram.now) old is_end
     (answer_none _ c.in_ok-head.field-0 c.in_ok-head.ensures c.in_default.is))
 
-pub returns-in-Ok : goal.returns-in-Ok
-returns-in-Ok g c =
+pub returns-in-Ok-clause-pops : goal.returns-in-Ok-clause-pops
+returns-in-Ok-clause-pops g c =
     let old : DeviceEnd =
     record {
       layout = c.self.inside.layout;
@@ -61,16 +61,16 @@ returns-in-Ok g c =
     } in
     let is_end : IsDeviceEnd old = c.self.invariant in
     let ready : c.self.inside.ready ≡ true = search rules in
-    let taken : Taken = record { head = c.in-Some.head; chain = c.in-Ok.chain } in
+    let taken : Taken = record { head = c.in-Some.head; chain = c.walk_into.new.chain } in
     subst (λ (v : DeviceEnd). PopsBy (g.G.GuestBytes.mem c.args.ram.now) v
     (after_pop old (Ok (Some taken))) (Ok (Some taken))) c.self.view_is
     (pops_chain (g.G.GuestBytes.mem c.args.ram.now) old taken is_end ready
     (answer_is _ c.in_ok-head.field-0 c.in-Some.head c.in_ok-head.ensures c.in-Some.is)
-    c.in-Ok.ensures.chain c.in-Ok.ensures.each_chain
+    c.in-Ok.ensures.chain (λ pieces gives. (c.in-Ok.ensures.each_chain pieces gives).1)
     (λ f gives. (let wrong = c.in-Ok.ensures.each_fault f gives in cc)))
 
-pub returns-in-Err : goal.returns-in-Err
-returns-in-Err g c =
+pub returns-in-Err-clause-pops : goal.returns-in-Err-clause-pops
+returns-in-Err-clause-pops g c =
     let old : DeviceEnd =
     record {
       layout = c.self.inside.layout;
@@ -86,5 +86,5 @@ returns-in-Err g c =
     c.self.view_is
     (pops_fault (g.G.GuestBytes.mem c.args.ram.now) old c.in-Some.head c.in-Err.fault is_end ready
     (answer_is _ c.in_ok-head.field-0 c.in-Some.head c.in_ok-head.ensures c.in-Some.is)
-    (λ pieces gives. c.in-Err.ensures.each_chain pieces gives)
+    (λ pieces gives. (let wrong = (c.in-Err.ensures.each_chain pieces gives).0 in cc))
     (λ f gives. (let same = c.in-Err.ensures.each_fault f gives in cc)))

@@ -1,0 +1,193 @@
+-- What the driver's table keeps, after each change of the owners.
+use Rattle.std.specs.Prelude.{◌≡◌, ◌≢◌, ℕ, ◌+◌, ◌-◌, ◌<◌, ◌≤◌, Bool, true, false, List, Option, Some, None}
+use Rattle.std.specs.Prelude.{◌++◌, if◌then◌else◌, replicate, take, length, slice_index, slice_index_or, refl}
+use Rattle.std.proofs.Common.{sym, ◌∙◌, ap, subst, arith, inl, inr, set}
+use Rattle.std.proofs.lemmas.Bool.{cases_eq}
+use Rattle.std.proofs.lemmas.List.{length-map, get_or-set_same, get_or-set_other}
+use Rattle.std.proofs.lemmas.List.{take_at, length-replicate}
+use Rattle.vb_model.specs.Tests.{is_in}
+use Rattle.vb_model.proofs.Tables.{length-each_from}
+use Rattle.vb_ring.specs.Entries.{is_own, is_head}
+use Rattle.vb_ring.specs.Numbers.{numbers}
+use Rattle.vb_ring.specs.Ends.{claimed, released}
+use Rattle.vb_ring.specs.Kept.{LiesBetween, AreKept, IsFreeChain}
+use Rattle.vb_ring.proofs.Numbers.{numbers_none, numbers_has}
+use Rattle.vb_ring.proofs.OwnerLaws.{Claims, claims, Releases, releases, is_in-some, some_same}
+use Rattle.vb_ring.proofs.OwnerLaws.{none_some, own_some, head_inside, fresh_free}
+
+-- How many heads a table has, by its length.
+heads_of : (owner : List (Option ℕ)) (n m : ℕ) → n ≡ m
+    → length (numbers (is_head owner) n) ≡ length (numbers (is_head owner) m)
+heads_of owner n m e = ap (λ k. length (numbers (is_head owner) k)) e
+
+-- A table of which nothing is out.
+pub fresh_kept : (owner : List (Option ℕ)) (count : ℕ) (last : List ℕ) → count ≤ 128
+    → owner ≡ replicate count None → AreKept owner count 0 last
+fresh_kept owner count last few fresh =
+    let free : (i : ℕ) → slice_index_or owner i None ≡ None =
+    λ i. ap (λ (xs : List (Option ℕ)). slice_index_or xs i None) fresh ∙ fresh_free count i in
+    let none : (h : ℕ) → is_head owner h ≡ false = λ h. ap (is_own h) (free h) in
+    record {
+      size = ap length fresh ∙ length-replicate {A = Option ℕ} count None;
+      few = few;
+      heads = sym (ap length (numbers_none (is_head owner) (length owner) (λ i l. none i)));
+      within = λ i h own. absurd (none_some h _ (free i) own);
+      ends = λ h out. (let wrong : true ≡ false = sym out ∙ none h in cc);
+    }
+
+-- A chain is out: some are.
+pub some_out : (owner : List (Option ℕ)) (count out h : ℕ) (last : List ℕ)
+    → AreKept owner count out last → is_head owner h ≡ true → 0 < out
+some_out owner count out h last kept is =
+    let found = numbers_has (is_head owner) (length owner) h (head_inside owner h is) is in
+    omega (arith, kept.heads, found.1)
+
+-- A chain more is out.
+pub claim_keeps : (owner : List (Option ℕ)) (count out : ℕ) (last path : List ℕ) (h e : ℕ)
+    → AreKept owner count out last → length last ≡ 128
+    → IsFreeChain owner path → slice_index path 0 ≡ h → slice_index path (length path - 1) ≡ e
+    → AreKept (claimed path h owner) count (out + 1) (set last h e)
+claim_keeps owner count out last path h e kept room chain first end =
+    let new : List (Option ℕ) = claimed path h owner in
+    let some : 0 < length path = chain.some in
+    let begin : h < length owner = omega (arith, chain.inside 0 some, first) in
+    let claim : Claims owner new path h =
+    claims owner path h some first (λ k l. (chain.inside k l, chain.free k l)) in
+    let len : length new ≡ length owner =
+    length-each_from 0 (λ i old. if is_in i path then Some h else old) owner in
+    let here : slice_index (set last h e) h ≡ e =
+    get_or-set_same last h e 0 (omega (arith, begin, kept.size, kept.few, room)) in
+    record {
+      size = len ∙ kept.size;
+      few = kept.few;
+      heads = omega (
+        arith,
+        kept.heads,
+        claim.count (length owner) begin,
+        heads_of new (length new) (length owner) len,
+      );
+      within = λ i j own. within_by claim here i j own (is_in i path) refl;
+      ends = λ j is. elim (cases_eq j h) [
+        | inl same ↦ omega (
+          arith,
+          ap (slice_index (set last h e)) same,
+          here,
+          end,
+          chain.inside (length path - 1) (omega arith),
+          kept.size,
+        )
+        | inr ne ↦ omega (
+          arith,
+          get_or-set_other last h j e 0 ne,
+          kept.ends j (claim.same j ne ∙ is),
+        )
+      ];
+    }
+  where
+    -- a place of the path lies between its ends
+    from_first : (k : ℕ) → k < length path → h ≤ slice_index path k
+    from_first k l = elim (cases_eq k 0) [
+      | inl is ↦ omega (arith, first, ap (slice_index path) is)
+      | inr ne ↦ omega (arith, first, chain.rise 0 k (omega (arith, ne)) l)
+    ]
+
+    to_last : (k : ℕ) → k < length path → slice_index path k ≤ e
+    to_last k l = elim (cases_eq k (length path - 1)) [
+      | inl is ↦ omega (arith, end, ap (slice_index path) is)
+      | inr ne ↦ omega (
+        arith,
+        end,
+        chain.rise k (length path - 1) (omega (arith, ne, l)) (omega (arith, l)),
+      )
+    ]
+
+    within_by : Claims owner (claimed path h owner) path h → slice_index (set last h e) h ≡ e
+        → (i j : ℕ) → slice_index_or (claimed path h owner) i None ≡ Some j
+        → (b : Bool) → is_in i path ≡ b → LiesBetween (claimed path h owner) (set last h e) i j
+    within_by claim here i j own true is =
+        let found = is_in-some path i is in
+        let head : h ≡ j =
+        some_same h j (sym (claim.mine found.0 found.1)
+        ∙ ap (λ n. slice_index_or (claimed path h owner) n None) found.2 ∙ own) in
+        record {
+          out = ap (is_head (claimed path h owner)) (sym head) ∙ claim.after;
+          from = omega (arith, head, from_first found.0 found.1, found.2);
+          to = omega (
+            arith,
+            to_last found.0 found.1,
+            found.2,
+            here,
+            ap (slice_index (set last h e)) head,
+          );
+        }
+    within_by claim here i j own false is =
+        let old : LiesBetween owner last i j = kept.within i j (sym (claim.rest i is) ∙ own) in
+        let ne : j ≢ h = λ same.
+        (let wrong : true ≡ false = sym old.out ∙ ap (is_head owner) same ∙ claim.before in cc) in
+        record {
+          out = sym (claim.same j ne) ∙ old.out;
+          from = old.from;
+          to = omega (arith, old.to, get_or-set_other last h j e 0 ne);
+        }
+
+-- A chain less is out.
+pub release_keeps : (owner : List (Option ℕ)) (count out : ℕ) (last : List ℕ) (h : ℕ)
+    → AreKept owner count out last → is_head owner h ≡ true
+    → AreKept (released h owner) count (out - 1) last
+release_keeps owner count out last h kept is =
+    let new : List (Option ℕ) = released h owner in
+    let release : Releases owner new h = releases owner h is in
+    let len : length new ≡ length owner =
+    length-map owner (λ old. if is_own h old then None else old) in
+    record {
+      size = len ∙ kept.size;
+      few = kept.few;
+      heads = omega (
+        arith,
+        kept.heads,
+        release.count (length owner) (head_inside owner h is),
+        heads_of new (length new) (length owner) len,
+      );
+      within = λ i j own.
+          let was = release.was i j own in
+          let old : LiesBetween owner last i j = kept.within i j was.0 in
+          record { out = release.same j was.1 ∙ old.out; from = old.from; to = old.to };
+      ends = λ j out. kept.ends j (elim (cases_eq j h) [
+        | inl same ↦
+            (let wrong : true ≡ false = sym out ∙ ap (is_head new) same ∙ release.gone in cc)
+        | inr ne ↦ sym (release.same j ne) ∙ out
+      ]);
+    }
+
+-- Where the descriptors of a chain that is out lie.
+pub release_between : (owner : List (Option ℕ)) (count out : ℕ) (last : List ℕ) (h : ℕ)
+    → AreKept owner count out last
+    → (i : ℕ) → is_own h (slice_index_or owner i None) ≡ true → (h ≤ i) × (i ≤ slice_index last h)
+release_between owner count out last h kept i own =
+    let old : LiesBetween owner last i h = kept.within i h (own_some h _ own) in (old.from, old.to)
+
+-- ---- where the table is the first part of a longer one
+
+pub claim_after : (owner new more : List (Option ℕ)) (count out : ℕ) (last path : List ℕ)
+    (at h e : ℕ) → AreKept owner count out last → length last ≡ 128
+    → IsFreeChain owner path → slice_index path 0 ≡ h → slice_index path (length path - 1) ≡ e
+    → at ≡ h → new ≡ claimed path h owner
+    → AreKept (take count (new ++ more)) count (out + 1) (set last at e)
+claim_after owner new more count out last path at h e kept room chain first end place is =
+    let after : AreKept (claimed path h owner) count (out + 1) (set last h e) =
+    claim_keeps owner count out last path h e kept room chain first end in
+    let whole : take count (new ++ more) ≡ claimed path h owner =
+    take_at new more count (ap length is ∙ after.size) ∙ is in
+    subst (λ (xs : List (Option ℕ)). AreKept xs count (out + 1) (set last at e)) (sym whole)
+    (subst (λ (n : ℕ). AreKept (claimed path h owner) count (out + 1) (set last n e)) (sym place)
+    after)
+
+pub release_after : (owner new more : List (Option ℕ)) (count out : ℕ) (last : List ℕ) (h : ℕ)
+    → AreKept owner count out last → is_head owner h ≡ true → new ≡ released h owner
+    → AreKept (take count (new ++ more)) count (out - 1) last
+release_after owner new more count out last h kept head is =
+    let after : AreKept (released h owner) count (out - 1) last =
+    release_keeps owner count out last h kept head in
+    let whole : take count (new ++ more) ≡ released h owner =
+    take_at new more count (ap length is ∙ after.size) ∙ is in
+    subst (λ (xs : List (Option ℕ)). AreKept xs count (out - 1) last) (sym whole) after
