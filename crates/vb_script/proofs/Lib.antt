@@ -3,4 +3,5 @@ pub mod Digits
 pub mod Hex
 pub mod Numbered
 pub mod Pushed
+pub mod SameWords
 pub mod WordLemmas
