@@ -3,5 +3,4 @@ pub mod Digits
 pub mod Hex
 pub mod Numbered
 pub mod Pushed
-pub mod SameWords
 pub mod WordLemmas

@@ -134,9 +134,17 @@ pub fn find<T: Copy>(table: &[(&[u8], T)], word: &[u8]) -> Option<T>
     None
 }
 
-/// Whether two words are the same. Most are told apart by their lengths, at less cost.
+/// Whether two words are the same. They are short, and most differ in their lengths or at once.
 fn is_same(name: &[u8], word: &[u8]) -> bool
     ensures { result ≡ bytes_eq name.now word.now }
 {
-    name.len() == word.len() && name == word
+    if name.len() != word.len() {
+        return false;
+    }
+    for index in 0..name.len() {
+        if name[index] != word[index] {
+            return false;
+        }
+    }
+    true
 }
