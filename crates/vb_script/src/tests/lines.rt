@@ -4,6 +4,7 @@ use crate::events::event;
 use crate::lines::{LineFault, Pace, host, spare};
 use crate::values::{features, number};
 use crate::words::Words;
+use std::alloc::Global;
 use vb_model::{Call, Event, Place, Query};
 
 /// Lines of events, each with its numbers in order, and its bytes. Numbers that a line lacks are 0.
