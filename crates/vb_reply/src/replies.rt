@@ -1,123 +1,191 @@
 //! Replies, each as its line.
 
-ghost use Rattle.std.specs.Prelude.{◌≡◌, ◌++◌, ◌∷◌, ◌/◌, ◌%◌, [], codes, slice_index, OnOk};
+ghost use Rattle.std.specs.Prelude.{◌≡◌, ◌++◌, ◌∷◌, [], codes, OnOk};
+ghost use Rattle.std.specs.Fmt.{decimal};
 ghost use Rattle.std.specs.Io.KnownBytes.{Appends};
-ghost use Rattle.hex.specs.Hex.{lower_digits};
+ghost use Rattle.std.specs.List.{flat_map};
+ghost use Rattle.vb_model.specs.declared.replies.Refusal.TheVariants.{Short};
+ghost use Rattle.vb_model.specs.declared.replies.Reply.TheVariants.{Balloon, Swept, Worked};
+ghost use Rattle.vb_reply.specs.Held.{Puts};
 ghost use Rattle.vb_reply.specs.Replies.{bytes_text, counts_text, freed_text, line_of};
 ghost use Rattle.vb_reply.specs.Replies.{refusal_text, reply_text, run_text, runs_text};
 ghost use Rattle.vb_reply.specs.Replies.{statistic_text, target_text, targets_text};
 
+use crate::held::{Held, put, put_digits, put_number, put_with, release};
 use std::io;
 use std::io::Write;
 use vb_model::{PageRun, PlaceCounts, Refusal, Reply};
-
-/// The hexadecimal digits, by what they show.
-const DIGITS: [u8; 16] = *b"0123456789abcdef";
 
 /// Writes what an event was answered as one line, which ends in a line feed. Fails where a write to
 /// `out` does; what was written until then is part of the line.
 pub fn write_reply<W: Write>(out: &mut W, reply: &Reply) -> io::Result<()>
     ensures { OnOk result (Appends (W.contents out.old) (W.contents out.new) (line_of reply.now)) }
 {
-    write_text(out, reply)?;
-    out.write_all(b"\n")
+    let mut line = Held::new();
+    put_line(out, &mut line, reply)?;
+    release(out, &mut line)?;
+    Ok(())
 }
 
-/// Writes what an event was answered.
-fn write_text<W: Write>(out: &mut W, reply: &Reply) -> io::Result<()>
+/// Writes what events were answered, a line each. Many lines go to `out` at once; no memory is
+/// taken. Fails where a write to `out` does; what was written until then is a first part of them.
+pub fn write_replies<W: Write>(out: &mut W, replies: &[Reply]) -> io::Result<()>
     ensures { OnOk result
-        (Appends (W.contents out.old) (W.contents out.new) (reply_text reply.now)) }
+        (Appends (W.contents out.old) (W.contents out.new) (flat_map line_of replies.now)) }
+{
+    let mut held = Held::new();
+    for reply in replies {
+        put_line(out, &mut held, reply)?;
+    }
+    release(out, &mut held)?;
+    Ok(())
+}
+
+/// Puts what an event was answered as one line.
+fn put_line<W: Write>(out: &mut W, held: &mut Held, reply: &Reply) -> io::Result<()>
+    ensures { OnOk result (Puts (W.contents out.old) held.old.items (W.contents out.new)
+        held.new.items (line_of reply.now)) }
+{
+    put_text(out, held, reply)?;
+    put(out, held, b"\n")
+}
+
+/// Puts what an event was answered.
+fn put_text<W: Write>(out: &mut W, held: &mut Held, reply: &Reply) -> io::Result<()>
+    ensures { OnOk result
+        (Puts (W.contents out.old) held.old.items (W.contents out.new)
+        held.new.items (reply_text reply.now)) }
 {
     match reply {
-        Reply::Done => out.write_all(b"ok"),
-        Reply::Plugged { guest } => write!(out, "guest {guest}"),
-        Reply::Ready => out.write_all(b"ready"),
-        Reply::Page { start } => write!(out, "page {start}"),
-        Reply::ReadBytes { bytes } => write_bytes(out, bytes.as_slice()),
-        Reply::Posted { head, pages } => write!(out, "posted {head} {pages}"),
-        Reply::Filled => out.write_all(b"filled"),
-        Reply::NotUsed => out.write_all(b"none"),
-        Reply::Reaped { head, pages } => write!(out, "reaped {head} {pages}"),
-        Reply::Taken { head } => write!(out, "taken {head}"),
-        Reply::Empty => out.write_all(b"empty"),
-        Reply::Worked { page, freed } => write!(out, "worked {page} {}", freed_word(*freed)),
-        Reply::Idle => out.write_all(b"idle"),
-        Reply::Finished { head } => write!(out, "finished {head}"),
-        Reply::Swept { freed } => write!(out, "swept {}", freed_word(*freed)),
-        Reply::Asked => out.write_all(b"asked"),
-        Reply::Targets { pages } => write_targets(out, pages.as_slice()),
-        Reply::Places { counts } => write_counts(out, *counts),
-        Reply::Pages { runs } => write_runs(out, runs.as_slice()),
+        Reply::Done => put(out, held, b"ok"),
+        Reply::Plugged { guest } => put_with(out, held, b"guest ", *guest),
+        Reply::Ready => put(out, held, b"ready"),
+        Reply::Page { start } => put_with(out, held, b"page ", *start),
+        Reply::ReadBytes { bytes } => put_bytes(out, held, bytes.as_slice()),
+        Reply::Posted { head, pages } => put_two(out, held, b"posted ", *head, b" ", *pages),
+        Reply::Filled => put(out, held, b"filled"),
+        Reply::NotUsed => put(out, held, b"none"),
+        Reply::Reaped { head, pages } => put_two(out, held, b"reaped ", *head, b" ", *pages),
+        Reply::Taken { head } => put_with(out, held, b"taken ", *head),
+        Reply::Empty => put(out, held, b"empty"),
+        Reply::Worked { page, freed } => put_worked(out, held, *page, *freed),
+        Reply::Idle => put(out, held, b"idle"),
+        Reply::Finished { head } => put_with(out, held, b"finished ", *head),
+        Reply::Swept { freed } => put_swept(out, held, *freed),
+        Reply::Asked => put(out, held, b"asked"),
+        Reply::Targets { pages } => put_targets(out, held, pages.as_slice()),
+        Reply::Places { counts } => put_counts(out, held, *counts),
+        Reply::Pages { runs } => put_runs(out, held, runs.as_slice()),
         Reply::Balloon {
             ballooned,
             actual,
             target,
             status,
-        } => write!(
-            out,
-            "ballooned {ballooned} actual {actual} target {target} status {status}"
-        ),
-        Reply::Statistics { free, total } => write_statistics(out, *free, *total),
-        Reply::Backing { frame: None } => out.write_all(b"no backing"),
-        Reply::Backing { frame: Some(frame) } => write!(out, "frame {frame}"),
-        Reply::Frames { used, free } => write!(out, "frames used {used} free {free}"),
-        Reply::Refused(refusal) => write_refusal(out, *refusal),
+        } => put_balloon(out, held, *ballooned, *actual, *target, *status),
+        Reply::Statistics { free, total } => put_statistics(out, held, *free, *total),
+        Reply::Backing { frame: None } => put(out, held, b"no backing"),
+        Reply::Backing { frame: Some(frame) } => put_with(out, held, b"frame ", *frame),
+        Reply::Frames { used, free } => {
+            put_two(out, held, b"frames used ", *used, b" free ", *free)
+        }
+        Reply::Refused(refusal) => put_refusal(out, held, *refusal),
     }
 }
 
 /// Whether a page had a frame, which it then lost.
-fn freed_word(freed: bool) -> &'static str
+fn freed_word(freed: bool) -> &'static [u8]
     ensures { result.now ≡ freed_text freed }
 {
-    if freed { "freed" } else { "bare" }
+    if freed { b"freed" } else { b"bare" }
 }
 
-/// Writes bytes as hexadecimal digits of lower case.
-fn write_bytes<W: Write>(out: &mut W, bytes: &[u8]) -> io::Result<()>
+/// Puts the page that was visited, and whether it had a frame.
+fn put_worked<W: Write>(out: &mut W, held: &mut Held, page: u32, freed: bool) -> io::Result<()>
+    ensures { OnOk result (Puts (W.contents out.old) held.old.items (W.contents out.new)
+        held.new.items (reply_text (Worked page freed))) }
+{
+    put_with(out, held, b"worked ", page)?;
+    put(out, held, b" ")?;
+    put(out, held, freed_word(freed))
+}
+
+/// Puts that a page was swept, and whether it had a frame.
+fn put_swept<W: Write>(out: &mut W, held: &mut Held, freed: bool) -> io::Result<()>
+    ensures { OnOk result (Puts (W.contents out.old) held.old.items (W.contents out.new)
+        held.new.items (reply_text (Swept freed))) }
+{
+    put(out, held, b"swept ")?;
+    put(out, held, freed_word(freed))
+}
+
+/// Puts the count of ballooned pages, the configuration's two numbers, and the status.
+fn put_balloon<W: Write>(
+    out: &mut W,
+    held: &mut Held,
+    ballooned: u32,
+    actual: u32,
+    target: u32,
+    status: u32,
+) -> io::Result<()>
+    ensures { OnOk result (Puts (W.contents out.old) held.old.items (W.contents out.new)
+        held.new.items (reply_text (Balloon ballooned actual target status))) }
+{
+    put_two(out, held, b"ballooned ", ballooned, b" actual ", actual)?;
+    put_two(out, held, b" target ", target, b" status ", status)
+}
+
+/// Puts bytes as hexadecimal digits of lower case.
+fn put_bytes<W: Write>(out: &mut W, held: &mut Held, bytes: &[u8]) -> io::Result<()>
+    ensures { OnOk result (Puts (W.contents out.old) held.old.items (W.contents out.new)
+        held.new.items (bytes_text bytes.now)) }
+{
+    put(out, held, b"bytes ")?;
+    put_digits(out, held, bytes)
+}
+
+/// Puts a number behind each of two texts.
+fn put_two<W: Write>(
+    out: &mut W,
+    held: &mut Held,
+    first: &[u8],
+    number: u32,
+    second: &[u8],
+    other: u32,
+) -> io::Result<()>
+    ensures { OnOk result (Puts (W.contents out.old) held.old.items (W.contents out.new)
+        held.new.items (first.now ++ (decimal number ++ (second.now ++ decimal other)))) }
+{
+    put_with(out, held, first, number)?;
+    put_with(out, held, second, other)
+}
+
+/// Puts the guests' targets, by rising number of guest.
+fn put_targets<W: Write>(out: &mut W, held: &mut Held, targets: &[u32]) -> io::Result<()>
     ensures { OnOk result
-        (Appends (W.contents out.old) (W.contents out.new) (bytes_text bytes.now)) }
+        (Puts (W.contents out.old) held.old.items (W.contents out.new)
+        held.new.items (targets_text targets.now)) }
 {
-    out.write_all(b"bytes ")?;
-    for byte in bytes {
-        write_byte(out, *byte)?;
-    }
-    Ok(())
-}
-
-/// Writes a byte as two digits, the high four bits first.
-fn write_byte<W: Write>(out: &mut W, byte: u8) -> io::Result<()>
-    ensures { OnOk result (Appends (W.contents out.old) (W.contents out.new)
-        (slice_index lower_digits (byte / 16) ∷ slice_index lower_digits (byte % 16) ∷ [])) }
-{
-    let high = DIGITS[usize::from(byte / 16)];
-    let low = DIGITS[usize::from(byte % 16)];
-    out.write_all(&[high, low])
-}
-
-/// Writes the guests' targets, by rising number of guest.
-fn write_targets<W: Write>(out: &mut W, targets: &[u32]) -> io::Result<()>
-    ensures { OnOk result
-        (Appends (W.contents out.old) (W.contents out.new) (targets_text targets.now)) }
-{
-    out.write_all(b"targets")?;
+    put(out, held, b"targets")?;
     for target in targets {
-        write_target(out, *target)?;
+        put_target(out, held, *target)?;
     }
     Ok(())
 }
 
-/// Writes a target behind a space.
-fn write_target<W: Write>(out: &mut W, target: u32) -> io::Result<()>
+/// Puts a target behind a space.
+fn put_target<W: Write>(out: &mut W, held: &mut Held, target: u32) -> io::Result<()>
     ensures { OnOk result
-        (Appends (W.contents out.old) (W.contents out.new) (target_text target)) }
+        (Puts (W.contents out.old) held.old.items (W.contents out.new)
+        held.new.items (target_text target)) }
 {
-    write!(out, " {target}")
+    put_with(out, held, b" ", target)
 }
 
-/// Writes how many pages each place has.
-fn write_counts<W: Write>(out: &mut W, counts: PlaceCounts) -> io::Result<()>
+/// Puts how many pages each place has.
+fn put_counts<W: Write>(out: &mut W, held: &mut Held, counts: PlaceCounts) -> io::Result<()>
     ensures { OnOk result
-        (Appends (W.contents out.old) (W.contents out.new) (counts_text counts)) }
+        (Puts (W.contents out.old) held.old.items (W.contents out.new)
+        held.new.items (counts_text counts)) }
 {
     let PlaceCounts {
         free,
@@ -128,93 +196,119 @@ fn write_counts<W: Write>(out: &mut W, counts: PlaceCounts) -> io::Result<()>
         stranded,
         reporting,
     } = counts;
-    write!(out, "free {free} used {used} giving {giving} lent {lent} ")?;
-    write!(
-        out,
-        "taking {taking} stranded {stranded} reporting {reporting}"
-    )
+    put_two(out, held, b"free ", free, b" used ", used)?;
+    put_two(out, held, b" giving ", giving, b" lent ", lent)?;
+    put_two(out, held, b" taking ", taking, b" stranded ", stranded)?;
+    put_with(out, held, b" reporting ", reporting)
 }
 
-/// Writes runs of pages, one page alone by its number.
-fn write_runs<W: Write>(out: &mut W, runs: &[PageRun]) -> io::Result<()>
+/// Puts runs of pages, one page alone by its number.
+fn put_runs<W: Write>(out: &mut W, held: &mut Held, runs: &[PageRun]) -> io::Result<()>
     ensures { OnOk result
-        (Appends (W.contents out.old) (W.contents out.new) (runs_text runs.now)) }
+        (Puts (W.contents out.old) held.old.items (W.contents out.new)
+        held.new.items (runs_text runs.now)) }
 {
-    out.write_all(b"pages")?;
+    put(out, held, b"pages")?;
     for run in runs {
-        write_run(out, *run)?;
+        put_run(out, held, *run)?;
     }
     Ok(())
 }
 
-/// Writes a run of pages behind a space.
-fn write_run<W: Write>(out: &mut W, run: PageRun) -> io::Result<()>
-    ensures { OnOk result (Appends (W.contents out.old) (W.contents out.new) (run_text run)) }
+/// Puts a run of pages behind a space.
+fn put_run<W: Write>(out: &mut W, held: &mut Held, run: PageRun) -> io::Result<()>
+    ensures { OnOk result (Puts (W.contents out.old) held.old.items (W.contents out.new)
+        held.new.items (run_text run)) }
 {
     let PageRun { first, last } = run;
     if first == last {
-        write!(out, " {first}")
+        put_with(out, held, b" ", first)
     } else {
-        write!(out, " {first}-{last}")
+        put_two(out, held, b" ", first, b"-", last)
     }
 }
 
-/// Writes the last statistics, in bytes, each as `-` where it isn't known.
-fn write_statistics<W: Write>(out: &mut W, free: Option<u64>, total: Option<u64>) -> io::Result<()>
-    ensures { OnOk result (Appends (W.contents out.old) (W.contents out.new)
-        (codes "memory" ++ (statistic_text free ++ statistic_text total))) }
+/// Puts the last statistics, in bytes, each as `-` where it isn't known.
+fn put_statistics<W: Write>(
+    out: &mut W,
+    held: &mut Held,
+    free: Option<u64>,
+    total: Option<u64>,
+) -> io::Result<()>
+    ensures { OnOk result (Puts (W.contents out.old) held.old.items (W.contents out.new)
+        held.new.items (codes "memory" ++ (statistic_text free ++ statistic_text total))) }
 {
-    out.write_all(b"memory")?;
-    write_statistic(out, free)?;
-    write_statistic(out, total)
+    put(out, held, b"memory")?;
+    put_statistic(out, held, free)?;
+    put_statistic(out, held, total)
 }
 
-/// Writes one statistic behind a space.
-fn write_statistic<W: Write>(out: &mut W, value: Option<u64>) -> io::Result<()>
+/// Puts one statistic behind a space.
+fn put_statistic<W: Write>(out: &mut W, held: &mut Held, value: Option<u64>) -> io::Result<()>
     ensures { OnOk result
-        (Appends (W.contents out.old) (W.contents out.new) (statistic_text value)) }
+        (Puts (W.contents out.old) held.old.items (W.contents out.new)
+        held.new.items (statistic_text value)) }
 {
     match value {
-        Some(value) => write!(out, " {value}"),
-        None => out.write_all(b" -"),
+        Some(value) => put_known(out, held, value),
+        None => put(out, held, b" -"),
     }
 }
 
-/// Writes why an event was refused.
-fn write_refusal<W: Write>(out: &mut W, refusal: Refusal) -> io::Result<()>
+/// Puts why an event was refused.
+fn put_refusal<W: Write>(out: &mut W, held: &mut Held, refusal: Refusal) -> io::Result<()>
     ensures { OnOk result
-        (Appends (W.contents out.old) (W.contents out.new) (refusal_text refusal)) }
+        (Puts (W.contents out.old) held.old.items (W.contents out.new)
+        held.new.items (refusal_text refusal)) }
 {
     match refusal {
-        Refusal::NoGuest => out.write_all(b"no guest"),
-        Refusal::BadConfig => out.write_all(b"bad config"),
-        Refusal::TooMany => out.write_all(b"too many"),
-        Refusal::NoDevice => out.write_all(b"no device"),
-        Refusal::BadOrder => out.write_all(b"bad order"),
-        Refusal::BadCpu => out.write_all(b"bad cpu"),
-        Refusal::NoPages => out.write_all(b"no pages"),
-        Refusal::NotHeld => out.write_all(b"not held"),
-        Refusal::NotReady => out.write_all(b"not ready"),
-        Refusal::QueueFull => out.write_all(b"queue full"),
-        Refusal::Nothing => out.write_all(b"nothing"),
-        Refusal::RingBroken => out.write_all(b"ring broken"),
-        Refusal::NoFeature => out.write_all(b"no feature"),
-        Refusal::AlreadyUp => out.write_all(b"already up"),
-        Refusal::FeatureNotOffered => out.write_all(b"feature not offered"),
-        Refusal::MustTellMissing => out.write_all(b"must tell missing"),
-        Refusal::VersionMissing => out.write_all(b"version missing"),
-        Refusal::ClearsBit => out.write_all(b"clears bit"),
-        Refusal::OutOfOrder => out.write_all(b"out of order"),
-        Refusal::NoQueue => out.write_all(b"no queue"),
-        Refusal::NeedsReset => out.write_all(b"needs reset"),
-        Refusal::Busy => out.write_all(b"busy"),
-        Refusal::Broken { rule } => write!(out, "broken C{rule}"),
-        Refusal::NotTaken => out.write_all(b"not taken"),
-        Refusal::NotWorked => out.write_all(b"not worked"),
-        Refusal::NotBallooned => out.write_all(b"not ballooned"),
-        Refusal::OutOfRam => out.write_all(b"out of ram"),
-        Refusal::NoFrame => out.write_all(b"no frame"),
-        Refusal::NoMemory => out.write_all(b"memory"),
-        Refusal::Short { missing } => write!(out, "short {missing}"),
+        Refusal::NoGuest => put(out, held, b"no guest"),
+        Refusal::BadConfig => put(out, held, b"bad config"),
+        Refusal::TooMany => put(out, held, b"too many"),
+        Refusal::NoDevice => put(out, held, b"no device"),
+        Refusal::BadOrder => put(out, held, b"bad order"),
+        Refusal::BadCpu => put(out, held, b"bad cpu"),
+        Refusal::NoPages => put(out, held, b"no pages"),
+        Refusal::NotHeld => put(out, held, b"not held"),
+        Refusal::NotReady => put(out, held, b"not ready"),
+        Refusal::QueueFull => put(out, held, b"queue full"),
+        Refusal::Nothing => put(out, held, b"nothing"),
+        Refusal::RingBroken => put(out, held, b"ring broken"),
+        Refusal::NoFeature => put(out, held, b"no feature"),
+        Refusal::AlreadyUp => put(out, held, b"already up"),
+        Refusal::FeatureNotOffered => put(out, held, b"feature not offered"),
+        Refusal::MustTellMissing => put(out, held, b"must tell missing"),
+        Refusal::VersionMissing => put(out, held, b"version missing"),
+        Refusal::ClearsBit => put(out, held, b"clears bit"),
+        Refusal::OutOfOrder => put(out, held, b"out of order"),
+        Refusal::NoQueue => put(out, held, b"no queue"),
+        Refusal::NeedsReset => put(out, held, b"needs reset"),
+        Refusal::Busy => put(out, held, b"busy"),
+        Refusal::Broken { rule } => put_with(out, held, b"broken C", rule),
+        Refusal::NotTaken => put(out, held, b"not taken"),
+        Refusal::NotWorked => put(out, held, b"not worked"),
+        Refusal::NotBallooned => put(out, held, b"not ballooned"),
+        Refusal::OutOfRam => put(out, held, b"out of ram"),
+        Refusal::NoFrame => put(out, held, b"no frame"),
+        Refusal::NoMemory => put(out, held, b"memory"),
+        Refusal::Short { missing } => put_short(out, held, missing),
     }
+}
+
+/// Puts a statistic that is known, behind a space.
+fn put_known<W: Write>(out: &mut W, held: &mut Held, value: u64) -> io::Result<()>
+    ensures { OnOk result (Puts (W.contents out.old) held.old.items (W.contents out.new)
+        held.new.items (statistic_text (Some value))) }
+{
+    put(out, held, b" ")?;
+    put_number(out, held, value)
+}
+
+/// Puts how many pages stay missing.
+fn put_short<W: Write>(out: &mut W, held: &mut Held, missing: u64) -> io::Result<()>
+    ensures { OnOk result (Puts (W.contents out.old) held.old.items (W.contents out.new)
+        held.new.items (refusal_text (Short missing))) }
+{
+    put(out, held, b"short ")?;
+    put_number(out, held, missing)
 }

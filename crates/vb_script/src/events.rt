@@ -1,6 +1,6 @@
 //! The event that a line's words name.
 
-ghost use Rattle.std.specs.Prelude.{◌≡◌, IfOk, MatchOption};
+ghost use Rattle.std.specs.Prelude.{◌≡◌, ◌∷◌, IfOk, MatchOption};
 ghost use Rattle.vb_model.specs.declared.calls.Event.TheVariants.{Guest as OnGuest};
 ghost use Rattle.vb_model.specs.declared.calls.Event.TheVariants.{Query as Asking};
 ghost use Rattle.vb_script.specs.Events.{bytes_event, event_of, four_number, init_event};
@@ -23,12 +23,14 @@ use vb_model::{Bytes, Call, Event, Query};
 /// 5.5.3 and 6): MUST_TELL_HOST, STATS_VQ, DEFLATE_ON_OOM, page reporting (profile) and VERSION_1.
 pub const DEFAULT_FEATURES: u64 = 0x1_0000_0027;
 
-/// The event that these words name. Words that name none make a bad line.
-pub fn read_event(alloc: Global, words: &mut Words<'_>) -> Result<Event, LineFault>
-    ensures ok { IfOk result (λ event. event_of (words_left words.old.rest) ≡ Some event) }
-    ensures bad { result ≡ Err LineFault.Bad → event_of (words_left words.old.rest) ≡ None }
+/// The event that a line's first word and those behind it name. Words that name none make a bad
+/// line.
+pub fn event(alloc: Global, word: &[u8], words: &mut Words<'_>) -> Result<Event, LineFault>
+    ensures ok { IfOk result
+        (λ event. event_of (word.now ∷ words_left words.old.rest) ≡ Some event) }
+    ensures bad { result ≡ Err LineFault.Bad
+        → event_of (word.now ∷ words_left words.old.rest) ≡ None }
 {
-    let word = words.next().ok_or(LineFault::Bad)?;
     let form = form_of(word).ok_or(LineFault::Bad)?;
     match form {
         Form::Frames => frames(words).ok_or(LineFault::Bad),

@@ -1,17 +1,15 @@
 //! The lines of a script.
 
-ghost use Rattle.std.specs.Prelude.{◌≡◌, ◌≤◌, IfOk, IfSome};
-ghost use Rattle.vb_script.specs.Events.{event_of};
-ghost use Rattle.vb_script.specs.Lines.{host_of, is_paced, spare_of};
+ghost use Rattle.std.specs.Option.{option_and_then};
+ghost use Rattle.std.specs.Prelude.{◌≡◌, ◌≤◌, IfSome};
+ghost use Rattle.vb_script.specs.Lines.{host_of, is_paced};
 ghost use Rattle.vb_script.specs.Names.{pace_of};
-ghost use Rattle.vb_script.specs.Words.{words_of};
+ghost use Rattle.vb_script.specs.Words.{only_word, words_left, words_of};
 
-use crate::events::read_event;
 use crate::names::{PACES, find};
 use crate::values::number;
 use crate::words::Words;
-use std::alloc::{AllocError, Global};
-use vb_model::Event;
+use std::alloc::AllocError;
 use vb_model::limits::MAX_FRAMES;
 
 /// Why a line gives nothing.
@@ -68,17 +66,11 @@ pub fn host(line: &[u8]) -> Option<u32>
     Some(frames)
 }
 
-/// `spare immediate` or `spare paced`, if the line is about a spare at all.
-pub fn spare(line: &[u8]) -> Result<Option<Pace>, LineFault>
-    ensures { result ≡ spare_of (words_of line.now) }
+/// The rest of `spare immediate` or `spare paced`.
+pub fn spare(words: &mut Words<'_>) -> Option<Pace>
+    ensures { result ≡ option_and_then pace_of (only_word (words_left words.old.rest)) }
 {
-    let mut words = Words::of(line);
-    if words.next().ok_or(LineFault::Bad)? != b"spare".as_slice() {
-        return Ok(None);
-    }
-    let word = words.last().ok_or(LineFault::Bad)?;
-    let pace = pace_of(word).ok_or(LineFault::Bad)?;
-    Ok(Some(pace))
+    pace_of(words.last()?)
 }
 
 /// The pace of this name.
@@ -86,12 +78,4 @@ fn pace_of(word: &[u8]) -> Option<Pace>
     ensures { result ≡ pace_of word.now }
 {
     find(&PACES, word)
-}
-
-/// The event of a line.
-pub fn event(alloc: Global, line: &[u8]) -> Result<Event, LineFault>
-    ensures ok { IfOk result (λ event. event_of (words_of line.now) ≡ Some event) }
-    ensures bad { result ≡ Err LineFault.Bad → event_of (words_of line.now) ≡ None }
-{
-    read_event(alloc, &mut Words::of(line))
 }

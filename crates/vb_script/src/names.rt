@@ -1,6 +1,7 @@
 //! The words that a script's lines have besides numbers and digits.
 
 ghost use Rattle.std.specs.Prelude.{◌≡◌};
+ghost use Rattle.std.specs.Str.{bytes_eq};
 ghost use Rattle.vb_script.specs.Names.{found_in};
 
 use crate::lines::Pace;
@@ -126,9 +127,24 @@ pub fn find<T: Copy>(table: &[(&[u8], T)], word: &[u8]) -> Option<T>
     ensures { result ≡ found_in table.now word.now }
 {
     for (name, meaning) in table {
-        if *name == word {
+        if is_same(name, word) {
             return Some(*meaning);
         }
     }
     None
+}
+
+/// Whether two words are the same. They are short, and most differ in their lengths or at once.
+fn is_same(name: &[u8], word: &[u8]) -> bool
+    ensures { result ≡ bytes_eq name.now word.now }
+{
+    if name.len() != word.len() {
+        return false;
+    }
+    for index in 0..name.len() {
+        if name[index] != word[index] {
+            return false;
+        }
+    }
+    true
 }

@@ -5,13 +5,18 @@ ghost use Rattle.std.specs.Option.{option_map};
 ghost use Rattle.vb_script.specs.Scripts.{IfBadLine, lines_left, said_by};
 ghost use Rattle.vb_script.specs.Texts.{host_said, script_of, with_line, with_lines, with_spare};
 
-use crate::lines::{LineFault, Pace, event, host, spare};
+use crate::events::event;
+use crate::lines::{LineFault, Pace, host, spare};
 use crate::script::Script;
 use crate::texts::{Line, Lines};
+use crate::words::Words;
 use std::alloc::{AllocError, Global};
 
 /// Spare devices that a script may bring.
 const MAX_SPARES: usize = 64;
+
+/// Bytes of the shortest line of an event, as `ask 0`, with its line feed: no event takes fewer.
+const SHORTEST_EVENT: usize = 6;
 
 /// Why a text gives no script.
 #[derive(Clone, Copy, Debug, PartialEq, Eq)]
@@ -72,11 +77,11 @@ fn parse_rest(alloc: Global, frames: u32, mut lines: Lines<'_>) -> Result<Script
     ensures bad { IfErr result (λ fault. IfBadLine fault
         (λ number. with_lines (lines_left lines.entry) (host_said frames) ≡ Err number)) }
 {
-    let count = count_lines(lines.rest);
+    let most_events = lines.rest.len() / SHORTEST_EVENT + 1;
     let mut script = Script {
         frames,
         spares: Vec::with_capacity(alloc, MAX_SPARES)?,
-        events: Vec::with_capacity(alloc, count)?,
+        events: Vec::with_capacity(alloc, most_events)?,
     };
     while let Some(line) = lines.next() {
         if let Err(fault) = script.add(alloc, line.text) {
@@ -86,16 +91,6 @@ fn parse_rest(alloc: Global, frames: u32, mut lines: Lines<'_>) -> Result<Script
     Ok(script)
 }
 
-/// How many lines of a text aren't skipped.
-fn count_lines(text: &[u8]) -> usize {
-    let mut lines = Lines::of(text);
-    let mut count: usize = 0;
-    while let Some(_line) = lines.next() {
-        count = count.saturating_add(1);
-    }
-    count
-}
-
 impl Script {
     /// Adds what a line behind the first one says: a spare device, or an event.
     fn add(&mut self, alloc: Global, line: &[u8]) -> Result<(), LineFault>
@@ -103,14 +98,15 @@ impl Script {
         ensures bad { result ≡ Err LineFault.Bad → with_line line.now (said_by self.old) ≡ None }
         ensures err { OnErr result (said_by self.new ≡ said_by self.old) }
     {
-        match spare(line)? {
-            Some(pace) => self.add_spare(pace),
-            None => {
-                let event = event(alloc, line)?;
-                self.events.push(event).map_err(AllocError::from)?;
-                Ok(())
-            }
+        let mut words = Words::of(line);
+        let word = words.next().ok_or(LineFault::Bad)?;
+        if word == b"spare".as_slice() {
+            let pace = spare(&mut words).ok_or(LineFault::Bad)?;
+            return self.add_spare(pace);
         }
+        let event = event(alloc, word, &mut words)?;
+        self.events.push(event).map_err(AllocError::from)?;
+        Ok(())
     }
 
     /// Adds a spare device. There may be no event before it, and not too many beside it.

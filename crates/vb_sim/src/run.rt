@@ -4,6 +4,8 @@ ghost use Rattle.std.specs.Prelude.{◌≡◌, ◌⊎◌, IfErr, IfOk, OnOk};
 ghost use Rattle.std.specs.Io.KnownBytes.{Appends, Keeps};
 ghost use Rattle.std.specs.List.{flat_map};
 ghost use Rattle.vb_reply.specs.Replies.{line_of};
+ghost use Rattle.std.specs.Option.{option_map};
+ghost use Rattle.vb_script.specs.Scripts.{IfBadLine as IfBadScript, said_by};
 ghost use Rattle.vb_script.specs.Texts.{script_of};
 ghost use Rattle.vb_sim.specs.Faults.{IfBadLine, UnlessStream, status_of};
 ghost use Rattle.vb_sim.specs.Plays.{MayGet, Prints};
@@ -15,10 +17,10 @@ use crate::host::Host;
 use crate::play::Play;
 use std::alloc::{AllocError, Global};
 use std::io;
-use std::io::{BufWriter, ErrorKind, Read, Write};
+use std::io::{ErrorKind, Read, Write};
 use thiserror::Error;
 use vb_model::Reply;
-use vb_reply::write_reply;
+use vb_reply::write_replies;
 use vb_script::{Script, ScriptFault, parse};
 
 /// Bytes of a script: one more is a fault of input.
@@ -162,15 +164,15 @@ pub fn refuse<E: Write>(fault: ArgumentsFault, errors: &mut E) -> u8
     }
 }
 
-/// Reads a script, runs it and writes its replies.
+/// Reads a script, runs it and writes its replies, once all are there.
 fn answer<P: Play, R: Read + Drop, O: Write + Drop>(
     alloc: Global,
     host: &mut P,
     input: R,
-    output: O,
+    mut output: O,
 ) -> Result<(), RunFault> {
     let text = read_text(alloc, input)?;
-    write_replies(alloc, host, text.as_slice(), output)
+    play_into(alloc, host, text, &mut output)
 }
 
 /// Reads all of the input, if it isn't too long.
@@ -183,30 +185,18 @@ fn read_text<R: Read + Drop>(alloc: Global, input: R) -> Result<Vec<u8>, RunFaul
     Ok(text)
 }
 
-/// Runs a script and writes its replies, once all are there. The memory to write them is taken
-/// before anything runs.
-fn write_replies<P: Play, O: Write + Drop>(
-    alloc: Global,
-    host: &mut P,
-    text: &[u8],
-    output: O,
-) -> Result<(), RunFault> {
-    let mut out = BufWriter::new(alloc, output)?;
-    play_into(alloc, host, text, &mut out)
-}
-
 /// Runs a script and writes its replies to `out`, a line each. Nothing is written where a line of
 /// the script is bad, or where there was no memory.
 fn play_into<P: Play, W: Write>(
     alloc: Global,
     host: &mut P,
-    text: &[u8],
+    text: Vec<u8>,
     out: &mut W,
 ) -> Result<(), RunFault>
     ensures ok { OnOk result
-        (Prints P.played (script_of text.now) (W.contents out.old) (W.contents out.new)) }
+        (Prints P.played (script_of text.items) (W.contents out.old) (W.contents out.new)) }
     ensures bad { IfErr result
-        (λ fault. IfBadLine fault (λ number. script_of text.now ≡ Err number)) }
+        (λ fault. IfBadLine fault (λ number. script_of text.items ≡ Err number)) }
     ensures nothing { IfErr result
         (λ fault. UnlessStream fault (Keeps (W.contents out.old) (W.contents out.new))) }
 {
@@ -216,15 +206,24 @@ fn play_into<P: Play, W: Write>(
 
 /// What the events of a script are answered, in order. Nothing happens where one of its lines is
 /// bad, and nothing is answered where it has none.
-fn replies_to<P: Play>(alloc: Global, host: &mut P, text: &[u8]) -> Result<Vec<Reply>, RunFault>
-    ensures ok { IfOk result (λ replies. MayGet P.played (script_of text.now) replies.items) }
+fn replies_to<P: Play>(alloc: Global, host: &mut P, text: Vec<u8>) -> Result<Vec<Reply>, RunFault>
+    ensures ok { IfOk result (λ replies. MayGet P.played (script_of text.items) replies.items) }
     ensures bad { IfErr result
-        (λ fault. IfBadLine fault (λ number. script_of text.now ≡ Err number)) }
+        (λ fault. IfBadLine fault (λ number. script_of text.items ≡ Err number)) }
 {
-    match parse(alloc, text)? {
+    match read_script(alloc, text)? {
         None => Ok(Vec::new(alloc)),
         Some(script) => Ok(host.play(alloc, &script)?),
     }
+}
+
+/// Reads a script from its text, which is let go before anything runs.
+fn read_script(alloc: Global, text: Vec<u8>) -> Result<Option<Script>, ScriptFault>
+    ensures ok { IfOk result (λ script. script_of text.items ≡ Ok (option_map said_by script)) }
+    ensures bad { IfErr result
+        (λ fault. IfBadScript fault (λ number. script_of text.items ≡ Err number)) }
+{
+    parse(alloc, text.as_slice())
 }
 
 /// Writes a line for each reply; a fault of the stream ends the run.
@@ -244,8 +243,6 @@ fn write_all_lines<W: Write>(out: &mut W, replies: &[Reply]) -> io::Result<()>
     ensures { OnOk result
         (Appends (W.contents out.old) (W.contents out.new) (flat_map line_of replies.now)) }
 {
-    for reply in replies {
-        write_reply(out, reply)?;
-    }
+    write_replies(out, replies)?;
     out.flush()
 }

@@ -1,7 +1,10 @@
 //! Each line of the format, and each way to be none.
 
-use crate::lines::{LineFault, Pace, event, host, spare};
+use crate::events::event;
+use crate::lines::{LineFault, Pace, host, spare};
 use crate::values::{features, number};
+use crate::words::Words;
+use std::alloc::Global;
 use vb_model::{Call, Event, Place, Query};
 
 /// Lines of events, each with its numbers in order, and its bytes. Numbers that a line lacks are 0.
@@ -110,6 +113,13 @@ fn shows(
     }
 }
 
+/// The event of a line.
+fn event_of(alloc: Global, line: &[u8]) -> Result<Event, LineFault> {
+    let mut words = Words::of(line);
+    let word = words.next().ok_or(LineFault::Bad)?;
+    event(alloc, word, &mut words)
+}
+
 /// Whether what a line was read to is a fault of the line.
 fn is_bad(found: Result<Event, LineFault>) -> bool {
     matches!(found, Err(LineFault::Bad))
@@ -118,7 +128,7 @@ fn is_bad(found: Result<Event, LineFault>) -> bool {
 #[test]
 fn events(rt: HostRuntime) {
     for (line, numbers, bytes) in &EVENTS {
-        let found = event(rt.alloc(), line.as_bytes());
+        let found = event_of(rt.alloc(), line.as_bytes());
         assert!(rt; shows(found, line, *numbers, bytes), "at {line}");
     }
 }
@@ -145,7 +155,7 @@ fn wanted(found: Result<Event, LineFault>) -> Option<u64> {
 #[test]
 fn features_of_a_line(rt: HostRuntime) {
     for (line, features) in &INITS {
-        assert!(rt; wanted(event(rt.alloc(), line)) == Some(*features));
+        assert!(rt; wanted(event_of(rt.alloc(), line)) == Some(*features));
     }
 }
 
@@ -173,7 +183,7 @@ fn asks(found: Result<Event, LineFault>, expected: Query) -> bool {
 #[test]
 fn questions(rt: HostRuntime) {
     for (line, query) in &QUESTIONS {
-        let found = event(rt.alloc(), line.as_bytes());
+        let found = event_of(rt.alloc(), line.as_bytes());
         assert!(rt; asks(found, *query), "at {line}");
     }
 }
@@ -241,7 +251,7 @@ static BAD_LINES: [&[u8]; 56] = [
 #[test]
 fn bad_lines(rt: HostRuntime) {
     for line in &BAD_LINES {
-        assert!(rt; is_bad(event(rt.alloc(), line)));
+        assert!(rt; is_bad(event_of(rt.alloc(), line)));
     }
 }
 
@@ -318,9 +328,19 @@ static SPARES: [(&[u8], Result<Option<Pace>, LineFault>); 10] = [
     (b"Spare immediate", Ok(None)),
 ];
 
+/// The spare device that a line brings, if its first word says that it brings one.
+fn spare_of(line: &[u8]) -> Result<Option<Pace>, LineFault> {
+    let mut words = Words::of(line);
+    if words.next() != Some(b"spare".as_slice()) {
+        return Ok(None);
+    }
+    let pace = spare(&mut words).ok_or(LineFault::Bad)?;
+    Ok(Some(pace))
+}
+
 #[test]
 fn spares(rt: HostRuntime) {
     for (line, expected) in &SPARES {
-        assert!(rt; spare(line) == *expected);
+        assert!(rt; spare_of(line) == *expected);
     }
 }

@@ -1,4 +1,0 @@
-use Rattle.vb_reply.proofs.replies.write_text.Goals as goal
-
-pub returns-in-Frames : goal.returns-in-Frames
-returns-in-Frames g c = rw c.in-Frames.is c.write-in-Frames.ensures.bytes
