@@ -5,7 +5,7 @@ ghost use Rattle.std.specs.Fmt.{decimal};
 ghost use Rattle.std.specs.Io.KnownBytes.{Appends};
 ghost use Rattle.std.specs.List.{flat_map};
 ghost use Rattle.vb_model.specs.declared.replies.Refusal.TheVariants.{Short};
-ghost use Rattle.vb_model.specs.declared.replies.Reply.TheVariants.{Balloon, Swept, Worked};
+ghost use Rattle.vb_model.specs.declared.replies.Reply.TheVariants.{Balloon, Plugged, Swept, Worked};
 ghost use Rattle.vb_reply.specs.Held.{Puts};
 ghost use Rattle.vb_reply.specs.Replies.{bytes_text, counts_text, freed_text, line_of};
 ghost use Rattle.vb_reply.specs.Replies.{refusal_text, reply_text, run_text, runs_text};
@@ -58,7 +58,7 @@ fn put_text<W: Write>(out: &mut W, held: &mut Held, reply: &Reply) -> io::Result
 {
     match reply {
         Reply::Done => put(out, held, b"ok"),
-        Reply::Plugged { guest } => put_with(out, held, b"guest ", *guest),
+        Reply::Plugged { guest } => put_plugged(out, held, *guest),
         Reply::Ready => put(out, held, b"ready"),
         Reply::Page { start } => put_with(out, held, b"page ", *start),
         Reply::ReadBytes { bytes } => put_bytes(out, held, bytes.as_slice()),
@@ -97,6 +97,15 @@ fn freed_word(freed: bool) -> &'static [u8]
     ensures { result.now ≡ freed_text freed }
 {
     if freed { b"freed" } else { b"bare" }
+}
+
+/// Puts the number of a new guest.
+fn put_plugged<W: Write>(out: &mut W, held: &mut Held, guest: usize) -> io::Result<()>
+    ensures { OnOk result (Puts (W.contents out.old) held.old.items (W.contents out.new)
+        held.new.items (reply_text (Plugged guest))) }
+{
+    put(out, held, b"guest ")?;
+    put_number(out, held, guest as u64)
 }
 
 /// Puts the page that was visited, and whether it had a frame.
