@@ -5,6 +5,8 @@ ghost use Rattle.std.specs.Prelude.{◌≤◌};
 
 use crate::host::Host;
 use crate::play::Play;
+use rand_core::Rng;
+use rand_pcg::Pcg32;
 use std::alloc::{AllocError, Global};
 use std::process::Abort;
 use std::test::Fail;
@@ -26,22 +28,9 @@ const TENS: u32 = 2_000;
 /// So many tens are between two questions after all pages.
 const TENS_UNASKED: u32 = 25;
 
-/// Pseudo-random numbers from a fixed seed.
-#[derive(Drop)]
-struct Numbers {
-    state: u64,
-}
-
-impl Numbers {
-    /// A number below this one, or 0.
-    fn below(&mut self, end: u32) -> u32 {
-        self.state = self
-            .state
-            .wrapping_mul(6_364_136_223_846_793_005)
-            .wrapping_add(1_442_695_040_888_963_407);
-        let number = u32::try_from(self.state >> 33).unwrap_or(0);
-        number.checked_rem(end).unwrap_or(0)
-    }
+/// A number below this one, or 0.
+fn below(numbers: &mut Pcg32, end: u32) -> u32 {
+    numbers.next_u32().checked_rem(end).unwrap_or(0)
 }
 
 /// What a guest, its device or the host does.
@@ -132,13 +121,13 @@ fn on_guest(guest: u32, call: Call) -> Event {
 /// The event of a step, with numbers that mostly make sense.
 fn event_of(
     alloc: Global,
-    numbers: &mut Numbers,
+    numbers: &mut Pcg32,
     guest: u32,
     step: Step,
 ) -> Result<Event, AllocError> {
-    let page = numbers.below(8).saturating_add(16);
-    let number = numbers.below(24);
-    let few = numbers.below(3).saturating_add(1);
+    let page = below(numbers, 8).saturating_add(16);
+    let number = below(numbers, 24);
+    let few = below(numbers, 3).saturating_add(1);
     let call = match step {
         Step::Balance => return Ok(Event::Balance { floor: few }),
         Step::Init => Call::Init {
@@ -252,7 +241,7 @@ fn add_plug(script: &mut Script) -> Result<(), AllocError> {
 /// Whoever makes up a script.
 #[derive(Drop)]
 struct Author {
-    numbers: Numbers,
+    numbers: Pcg32,
     /// The step of each guest's life that comes next.
     next: [usize; GUESTS as usize],
 }
@@ -260,8 +249,8 @@ struct Author {
 impl Author {
     /// The next step of a guest: mostly the one in turn, else any.
     fn step(&mut self, guest: u32) -> Step {
-        let any = self.numbers.below(STEPS as u32) as usize;
-        let is_in_turn = self.numbers.below(4) > 0;
+        let any = below(&mut self.numbers, STEPS as u32) as usize;
+        let is_in_turn = below(&mut self.numbers, 4) > 0;
         let Some(next) = self.next.get_mut(guest as usize) else {
             return Step::Init;
         };
@@ -275,7 +264,7 @@ impl Author {
     /// Ten steps of any guests.
     fn add_steps(&mut self, alloc: Global, script: &mut Script) -> Result<(), AllocError> {
         for _step in 0..10 {
-            let guest = self.numbers.below(GUESTS);
+            let guest = below(&mut self.numbers, GUESTS);
             let step = self.step(guest);
             add(script, event_of(alloc, &mut self.numbers, guest, step)?)?;
         }
@@ -285,12 +274,12 @@ impl Author {
     /// The end of a guest's life, more often of one with a low number: a reset, a restart, or now
     /// and then it goes and another one comes.
     fn add_end(&mut self, script: &mut Script) -> Result<(), AllocError> {
-        let highest = self.numbers.below(GUESTS);
-        let guest = self.numbers.below(highest.saturating_add(1));
+        let highest = below(&mut self.numbers, GUESTS);
+        let guest = below(&mut self.numbers, highest.saturating_add(1));
         if let Some(next) = self.next.get_mut(guest as usize) {
             *next = 0;
         }
-        match self.numbers.below(40) {
+        match below(&mut self.numbers, 40) {
             0 => {
                 add(script, Event::Unplug { guest })?;
                 add_plug(script)
@@ -415,7 +404,7 @@ fn live(rt: &impl Abort, alloc: Global, frames: u32, seed: u64) -> Result<(), Al
     requires few { frames ≤ FRAMES }
 {
     let mut author = Author {
-        numbers: Numbers { state: seed },
+        numbers: Pcg32::new(seed, 0),
         next: [0; GUESTS as usize],
     };
     let mut script = host_of(alloc, frames)?;

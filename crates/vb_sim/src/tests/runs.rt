@@ -3,6 +3,7 @@
 ghost use Rattle.std.specs.Prelude.{◌≡◌, length};
 
 use super::{Outcome, repeated};
+use crate::host::Host;
 use crate::play::Play;
 use crate::run::run_script_on;
 use std::alloc::{AllocError, Global};
@@ -48,6 +49,10 @@ struct Faults {
     room: usize,
     /// The call that fails among those that write to a stream, counted from 1.
     call: usize,
+    /// The most bytes that one call writes.
+    most: usize,
+    /// Whether a stream that has failed works again from then on.
+    heals: bool,
 }
 
 /// Nothing goes wrong.
@@ -55,6 +60,8 @@ const NONE: Faults = Faults {
     reading: None,
     room: usize::MAX,
     call: 0,
+    most: usize::MAX,
+    heals: false,
 };
 
 /// A reader of these bytes, a byte at a time, which may fail behind them.
@@ -81,17 +88,23 @@ impl Read for Slow<'_> {
 struct Flaky<'a> {
     text: &'a mut Vec<u8>,
     calls: usize,
+    room: usize,
     faults: Faults,
 }
 
 impl Write for Flaky<'_> {
     fn write(&mut self, buf: &[u8]) -> io::Result<usize> {
         self.calls = self.calls.saturating_add(1);
-        if self.calls == self.faults.call || self.text.len() >= self.faults.room {
+        let room = self.room.saturating_sub(self.text.len());
+        if self.calls == self.faults.call || room == 0 {
+            if self.faults.heals {
+                self.room = usize::MAX;
+            }
             return Err(io::Error::from(ErrorKind::BrokenPipe));
         }
-        self.text.extend_from_slice(buf)?;
-        Ok(buf.len())
+        let n = buf.len().min(room).min(self.faults.most);
+        self.text.extend_from_slice(&buf[..n])?;
+        Ok(n)
     }
 
     fn flush(&mut self) -> io::Result<()> {
@@ -109,11 +122,13 @@ fn run<P: Play>(alloc: Global, host: &mut P, text: &[u8], faults: Faults) -> Out
     let out = Flaky {
         text: &mut output,
         calls: 0,
+        room: faults.room,
         faults,
     };
     let err = Flaky {
         text: &mut errors,
         calls: 0,
+        room: faults.room,
         faults,
     };
     let status = run_script_on(alloc, host, input, out, err);
@@ -193,10 +208,78 @@ fn broken_streams_have_their_status(rt: HostRuntime) {
         let faults = Faults {
             reading: *reading,
             room: *room,
-            call: 0,
+            ..NONE
         };
         let outcome = run(rt.alloc(), &mut Empty, script, faults);
         assert!(rt; outcome.shows(b"", errors, *status));
+    }
+}
+
+/// A script and its replies.
+static SPOKEN: (&[u8], &[u8]) = (
+    b"host 64\nspare paced\nplug 64 8 1\ninit 0\nframes\n",
+    b"guest 0\nready\nframes used 13 free 51\n",
+);
+
+#[test]
+fn nothing_is_written_where_reading_fails_at_any_byte(rt: HostRuntime) {
+    let script = SPOKEN.0;
+    let faults = Faults {
+        reading: Some(ErrorKind::ConnectionReset),
+        ..NONE
+    };
+    for length in 0..=script.len() {
+        let outcome = run(rt.alloc(), &mut Host, &script[..length], faults);
+        assert!(rt; outcome.shows(b"", b"", 4), "behind byte {length}");
+    }
+}
+
+/// Whether a run on a stream with room for so many bytes fails, and has written so much of its replies,
+/// or of these and what comes behind them.
+fn fails_at(alloc: Global, room: usize, heals: bool) -> bool {
+    let (script, replies) = (SPOKEN.0, SPOKEN.1);
+    let faults = Faults {
+        room,
+        heals,
+        ..NONE
+    };
+    let outcome = run(alloc, &mut Host, script, faults);
+    outcome.status == 4
+        && outcome.errors.is_empty()
+        && outcome.output.len() >= room
+        && (heals || outcome.output.len() == room)
+        && replies.starts_with(&outcome.output)
+}
+
+#[test]
+fn what_is_written_where_writing_fails_at_any_byte_is_true(rt: HostRuntime) {
+    for room in 0..SPOKEN.1.len() {
+        assert!(rt; fails_at(rt.alloc(), room, false), "at byte {room}");
+        assert!(rt; fails_at(rt.alloc(), room, true), "at byte {room}");
+    }
+}
+
+/// A script with a bad line, and what is said of it.
+static MISSPOKEN: (&[u8], &[u8]) = (b"host 64\nplug\n", b"script: line 2: bad line\n");
+
+#[test]
+fn a_bad_line_that_cant_be_named_is_status_4(rt: HostRuntime) {
+    let (script, errors) = (MISSPOKEN.0, MISSPOKEN.1);
+    for room in 0..errors.len() {
+        let faults = Faults { room, ..NONE };
+        let outcome = run(rt.alloc(), &mut Host, script, faults);
+        assert!(rt; outcome.shows(b"", &errors[..room], 4), "at byte {room}");
+    }
+}
+
+#[test]
+fn streams_may_write_less_than_they_are_given(rt: HostRuntime) {
+    for most in 1..5 {
+        let faults = Faults { most, ..NONE };
+        let outcome = run(rt.alloc(), &mut Host, SPOKEN.0, faults);
+        assert!(rt; outcome.shows(SPOKEN.1, b"", 0), "{most} at a time");
+        let outcome = run(rt.alloc(), &mut Host, MISSPOKEN.0, faults);
+        assert!(rt; outcome.shows(b"", MISSPOKEN.1, 1), "{most} at a time");
     }
 }
 
