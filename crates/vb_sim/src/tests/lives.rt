@@ -272,19 +272,19 @@ impl Author {
     }
 
     /// The end of a guest's life, more often of one with a low number: a reset, a restart, or now
-    /// and then it goes and another one comes.
+    /// and then it goes and another one comes, for which a spare device is left.
     fn add_end(&mut self, script: &mut Script) -> Result<(), AllocError> {
         let highest = below(&mut self.numbers, GUESTS);
         let guest = below(&mut self.numbers, highest.saturating_add(1));
         if let Some(next) = self.next.get_mut(guest as usize) {
             *next = 0;
         }
-        match below(&mut self.numbers, 40) {
+        match below(&mut self.numbers, 64) {
             0 => {
                 add(script, Event::Unplug { guest })?;
                 add_plug(script)
             }
-            1..=16 => add(script, Event::Restart { guest }),
+            1..=26 => add(script, Event::Restart { guest }),
             _ => add(script, on_guest(guest, Call::Reset)),
         }
     }
