@@ -2,9 +2,9 @@
 
 ghost use Rattle.std.specs.Prelude.{◌≡◌, ◌≤◌, ◌+◌, ◌*◌, ◌^◌, [], All, length, slice_get};
 ghost use Rattle.vb_model.specs.Limits.{page_size, reserved_pages};
-ghost use Rattle.vb_request.specs.Report.{pages_of_pieces};
+ghost use Rattle.vb_request.specs.Report.{pages_of_pieces, RunsFrom};
 
-use crate::report::{count_pages, page_at};
+use crate::report::{count_pages, run_at};
 use arrayvec::ArrayVec;
 use std::marker::Model;
 use vb_chain::Piece;
@@ -21,6 +21,26 @@ pub(crate) type RequestPages = ArrayVec<u32, MAX_PAGES>;
 
 /// The pieces of a report.
 pub(crate) type ReportPieces = ArrayVec<Piece, MAX_PIECES>;
+
+/// Some of the pages that a chain names, whose numbers rise by one.
+#[derive(Clone, Copy)]
+pub struct PageRun {
+    /// How many pages the chain names before them.
+    pub at: u32,
+    /// The first of them.
+    pub first: u32,
+    /// How many they are.
+    pub count: u32,
+}
+
+impl PageRun {
+    /// A run of no pages.
+    pub const NONE: PageRun = PageRun {
+        at: 0,
+        first: 0,
+        count: 0,
+    };
+}
 
 /// The pages that a chain names, in order; none of them is reserved.
 ///
@@ -95,11 +115,25 @@ impl NamedPages {
     pub fn get(&self, k: u32) -> Option<u32>
         ensures { result ≡ slice_get self.now k }
     {
+        let run = self.run(k)?;
+        Some(run.first)
+    }
+
+    /// A run that begins with the page of this number, from 0; none where there are no more than
+    /// that.
+    pub fn run(&self, k: u32) -> Option<PageRun>
+        ensures { RunsFrom self.now k result }
+    {
         let listed = self.listed.len() as u32;
         if k < listed {
-            Some(self.listed[k as usize])
-        } else {
-            page_at(&self.pieces, k - listed)
+            let first = self.listed[k as usize];
+            return Some(PageRun {
+                at: k,
+                first,
+                count: 1,
+            });
         }
+        let run = run_at(&self.pieces, k - listed)?;
+        Some(PageRun { at: k, ..run })
     }
 }
