@@ -1,5 +1,5 @@
 -- The pages of a report, piece by piece.
-use Rattle.std.specs.Prelude.{◌≡◌, ℕ, zero, suc, ◌+◌, ◌*◌, ◌/◌, ◌%◌, ◌<◌, ◌≤◌, Bool, true, false}
+use Rattle.std.specs.Prelude.{◌≡◌, ℕ, suc, ◌+◌, ◌*◌, ◌/◌, ◌%◌, ◌<◌, ◌≤◌, Bool, true, false}
 use Rattle.std.specs.Prelude.{not, ◌==◌, ◌||◌, nat_lt, List, [], ◌∷◌, ◌++◌, length, if◌then◌else◌}
 use Rattle.std.specs.Prelude.{Option, Some, None, Ok, Err, All, slice_get, slice_index_or, refl}
 use Rattle.std.specs.List.{list_any}
@@ -19,8 +19,7 @@ use Rattle.vb_chain.specs.declared.fault.ChainFault.TheVariants.{BadPage, Reserv
 use Rattle.vb_chain.specs.declared.fault.ChainFault.TheVariants.{WrongDirection}
 use Rattle.vb_request.specs.Request.{first_of_both, unless_fault}
 use Rattle.vb_request.specs.Report.{pages_of_piece, pages_of_pieces, piece_fault, first_piece_fault}
-use Rattle.vb_request.specs.Report.{has_bad_length, report_request, IsRun}
-use Rattle.vb_request.specs.declared.named.PageRun.{PageRun}
+use Rattle.vb_request.specs.Report.{has_bad_length, report_request}
 
 pub piece_length : (piece : Piece) → length (pages_of_piece piece) ≡ piece.len / 4096
 piece_length piece = length-range_with_len (piece.addr / 4096) (piece.len / 4096)
@@ -79,22 +78,6 @@ page_here pieces i k rest d lt at inside =
     ∙ (get_or_append_left here after 0 rest (omega (arith, len, inside))
     ∙ get_or-range_with_len ((get_or pieces i d).addr / 4096) ((get_or pieces i d).len / 4096) rest 0
     inside))))
-
-slice_get-behind : (xs ys : List ℕ) (i k : ℕ) → length xs + i ≡ k →
-    slice_get (xs ++ ys) k ≡ slice_get ys i
-slice_get-behind [] ys i k e = ap (λ (j : ℕ). slice_get ys j) (omega (arith, e))
-slice_get-behind (x ∷ xs) ys i zero e = absurd (omega (arith, e))
-slice_get-behind (x ∷ xs) ys i (suc k) e = slice_get-behind xs ys i k (omega (arith, e))
-
--- a run of the pages behind others
-pub run_behind : (listed ps pages : List ℕ) (k : ℕ) (run : PageRun) → listed ++ ps ≡ pages →
-    length listed + run.at ≡ k → IsRun ps run → IsRun pages (record run { at = k })
-run_behind listed ps pages k run whole at is = record {
-  at = λ i lt.
-      ap (λ (xs : List ℕ). slice_get xs (k + i)) (sym whole)
-      ∙ (slice_get-behind listed ps (run.at + i) (k + i) (omega (arith, at)) ∙ is.at i lt);
-  below = is.below;
-}
 
 -- ---- faults
 
