@@ -38,6 +38,7 @@ use crate::{Statistics, Worked};
 use bitflags::Flags;
 use std::alloc::{AllocError, Global};
 use std::marker::Model;
+use vb_chain::Chain;
 use vb_model::layout::{
     DEFLATE_QUEUE, DEFLATE_RING_PAGE, INFLATE_QUEUE, INFLATE_RING_PAGE, REPORT_QUEUE,
     REPORT_RING_PAGE, STATISTICS_QUEUE, STATISTICS_RING_PAGE,
@@ -68,6 +69,8 @@ pub(crate) struct DeviceBase {
     last: Statistics,
     /// Frames that were taken from pages and not handed back yet.
     loose: Vec<Frame>,
+    /// Room for the chain that is taken next.
+    chain: Chain,
 }
 
 impl Model for DeviceBase {
@@ -234,6 +237,7 @@ impl DeviceBase {
             ],
             last: Statistics::NONE,
             loose: Vec::new(alloc),
+            chain: Chain::new(),
         }
     }
 
@@ -337,7 +341,7 @@ impl DeviceBase {
             return Err(why);
         }
         let place = place_of(queue);
-        let taken = self.queues[place].take(queue, &self.ram, &mut self.last);
+        let taken = self.queues[place].take(queue, &self.ram, &mut self.chain, &mut self.last);
         note_fault(&mut self.status, &taken);
         taken
     }
