@@ -38,12 +38,14 @@ use crate::{Statistics, Worked};
 use bitflags::Flags;
 use std::alloc::{AllocError, Global};
 use std::marker::Model;
+use vb_chain::Chain;
 use vb_model::layout::{
     DEFLATE_QUEUE, DEFLATE_RING_PAGE, INFLATE_QUEUE, INFLATE_RING_PAGE, REPORT_QUEUE,
     REPORT_RING_PAGE, STATISTICS_QUEUE, STATISTICS_RING_PAGE,
 };
 use vb_model::{Refusal, limits};
 use vb_ram::{Config, Frame, GuestBytes, Ram, RamFault, SupplyRefused};
+use vb_request::PageRun;
 use vb_status::{Features, Port, Status, StatusFault, negotiate, write_status};
 
 /// A device but for the set of its ballooned pages.
@@ -67,6 +69,8 @@ pub(crate) struct DeviceBase {
     last: Statistics,
     /// Frames that were taken from pages and not handed back yet.
     loose: Vec<Frame>,
+    /// Room for the chain that is taken next.
+    chain: Chain,
 }
 
 impl Model for DeviceBase {
@@ -138,8 +142,9 @@ fn discard_all(ram: &mut Ram, loose: &mut Vec<Frame>, request: &TakenRequest)
         frames_behind ram.old (each_once request.now.pages) }
     ensures capacity { vec_capacity loose.new ≡ vec_capacity loose.old }
 {
+    let mut run = PageRun::NONE;
     for k in 0..request.count() {
-        discard_page(ram, loose, request.page(k));
+        discard_page(ram, loose, request.page_in(k, &mut run));
     }
 }
 
@@ -232,6 +237,7 @@ impl DeviceBase {
             ],
             last: Statistics::NONE,
             loose: Vec::new(alloc),
+            chain: Chain::new(),
         }
     }
 
@@ -335,7 +341,7 @@ impl DeviceBase {
             return Err(why);
         }
         let place = place_of(queue);
-        let taken = self.queues[place].take(queue, &self.ram, &mut self.last);
+        let taken = self.queues[place].take(queue, &self.ram, &mut self.chain, &mut self.last);
         note_fault(&mut self.status, &taken);
         taken
     }

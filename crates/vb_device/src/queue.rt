@@ -129,11 +129,12 @@ impl DeviceQueue {
     /// Takes the next chain of this queue, which has this number: answers its head, or none where
     /// no chain is available. What a buffer of statistics says replaces `last`. Refused with `Busy`
     /// where as many chains are taken as may be, and with `Broken` where the chain breaks a rule;
-    /// then nothing is changed.
+    /// then nothing is changed. In `chain` it has room to work.
     pub(crate) fn take<G: GuestBytes>(
         &mut self,
         queue: u32,
         ram: &G,
+        chain: &mut Chain,
         last: &mut Statistics,
     ) -> Result<Option<u16>, Refusal>
         requires inside { 0 < length (G.mem ram.now) →
@@ -150,8 +151,7 @@ impl DeviceQueue {
         if ram.pages() == 0 {
             return Ok(None);
         }
-        let mut chain = Chain::new();
-        match self.queue.pop_descriptor_chain_into(ram, &mut chain) {
+        match self.queue.pop_descriptor_chain_into(ram, chain) {
             Err(fault) => Err(broken(fault)),
             Ok(found) => match found {
                 None => Ok(None),

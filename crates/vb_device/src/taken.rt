@@ -5,6 +5,7 @@ ghost use Rattle.std.specs.Prelude.{true, OnOk, OnErr, Ok, Err, Some, length, sl
 ghost use Rattle.vb_model.specs.declared.limits.TheConstants.{MAX_QUEUE_SIZE};
 ghost use Rattle.vb_model.specs.Limits.{page_size, reserved_pages};
 ghost use Rattle.vb_model.specs.Device.{is_unvisited};
+ghost use Rattle.vb_request.specs.Report.{IsRun};
 ghost use Rattle.vb_device.specs.Calls.{request_of, noted};
 
 use crate::Statistics;
@@ -12,7 +13,7 @@ use std::marker::Model;
 use vb_chain::{ChainFault, Piece};
 use vb_model::layout::{REPORT_QUEUE, STATISTICS_QUEUE};
 use vb_ram::GuestBytes;
-use vb_request::{NamedPages, read_report, read_request, read_statistics};
+use vb_request::{NamedPages, PageRun, read_report, read_request, read_statistics};
 
 /// A chain that was taken and isn't used yet.
 #[derive(Drop)]
@@ -76,6 +77,22 @@ impl TakenRequest {
         ensures { slice_get self.now.pages k ≡ Some result }
     {
         self.pages.get(k).unwrap()
+    }
+
+    /// The same, where `run` is one of its runs: looked up anew, and kept there, where page `k` isn't
+    /// one of them.
+    pub(crate) fn page_in(&self, k: u32, run: &mut PageRun) -> u32
+        requires some { k < length self.now.pages }
+        requires run { IsRun self.now.pages run.old }
+        ensures page { slice_get self.now.pages k ≡ Some result }
+        ensures run { IsRun self.now.pages run.new }
+    {
+        if run.at <= k && k - run.at < run.count {
+            return run.first + (k - run.at);
+        }
+        let next = self.pages.run(k).unwrap();
+        *run = next;
+        next.first
     }
 
     /// Whether a page of it isn't visited yet.

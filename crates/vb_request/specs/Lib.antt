@@ -1,3 +1,4 @@
 pub mod Request
 pub mod Statistics
 pub mod Report
+mod Kept

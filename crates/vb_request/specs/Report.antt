@@ -1,7 +1,8 @@
 -- The pages that a chain of queue 4 names: whole pages in a row, by pieces that the device may write
 -- (profile).
-use Rattle.std.specs.Prelude.{ℕ, ◌/◌, ◌%◌, ◌==◌, ◌||◌, Bool, not, nat_lt, List, [], ◌∷◌, length}
-use Rattle.std.specs.Prelude.{if◌then◌else◌, Option, Some, None, Result, Err}
+use Rattle.std.specs.Prelude.{◌≡◌, ℕ, ◌+◌, ◌^◌, ◌<◌, ◌≤◌, ◌/◌, ◌%◌, ◌==◌, ◌||◌, Bool, not, nat_lt, List}
+use Rattle.std.specs.Prelude.{[], ◌∷◌, length, slice_get}
+use Rattle.std.specs.Prelude.{if◌then◌else◌, Option, Some, None, Result, Err, MatchOption}
 use Rattle.std.specs.List.{list_any, flat_map, range_with_len}
 use Rattle.vb_model.specs.declared.limits.TheConstants.{MAX_REPORT_PIECES}
 use Rattle.vb_model.specs.Limits.{page_size, reserved_pages}
@@ -9,6 +10,7 @@ use Rattle.vb_chain.specs.declared.pieces.Piece.{Piece}
 use Rattle.vb_chain.specs.declared.fault.ChainFault.{ChainFault}
 use Rattle.vb_chain.specs.declared.fault.ChainFault.TheVariants.{WrongDirection, BadLength, BadPage}
 use Rattle.vb_chain.specs.declared.fault.ChainFault.TheVariants.{ReservedPage}
+use Rattle.vb_request.specs.declared.named.PageRun.{PageRun}
 use Rattle.vb_request.specs.Request.{first_of_both, unless_fault}
 
 -- The pages of a piece of whole pages, rising.
@@ -41,3 +43,14 @@ report_request pieces =
     else (if nat_lt MAX_REPORT_PIECES (length pieces) || list_any has_bad_length pieces
     then Err BadLength
     else unless_fault (first_piece_fault pieces) (pages_of_pieces pieces))
+
+-- These pages have the run's numbers from its place on.
+pub record IsRun (pages : List ℕ) (run : PageRun) : Type 0 where
+  pub at : (i : ℕ) → i < run.count → slice_get pages (run.at + i) ≡ Some (run.first + i)
+  pub below : run.first + run.count ≤ 2 ^ 32
+
+-- A run that begins with the page of number `k`; none where there are no more than `k` pages.
+abbrev pub RunsFrom : List ℕ → ℕ → Option PageRun → Type 0
+RunsFrom pages k result =
+    MatchOption result (length pages ≤ k) (λ run.
+    (run.at ≡ k) × (0 < run.count) × IsRun pages run)

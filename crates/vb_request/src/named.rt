@@ -2,9 +2,9 @@
 
 ghost use Rattle.std.specs.Prelude.{◌≡◌, ◌≤◌, ◌+◌, ◌*◌, ◌^◌, [], All, length, slice_get};
 ghost use Rattle.vb_model.specs.Limits.{page_size, reserved_pages};
-ghost use Rattle.vb_request.specs.Report.{pages_of_pieces};
+ghost use Rattle.vb_request.specs.Report.{pages_of_pieces, RunsFrom};
 
-use crate::report::{count_pages, page_at};
+use crate::report::{count_pages, run_at};
 use arrayvec::ArrayVec;
 use std::marker::Model;
 use vb_chain::Piece;
@@ -22,30 +22,71 @@ pub(crate) type RequestPages = ArrayVec<u32, MAX_PAGES>;
 /// The pieces of a report.
 pub(crate) type ReportPieces = ArrayVec<Piece, MAX_PIECES>;
 
+/// Some of the pages that a chain names, whose numbers rise by one.
+#[derive(Clone, Copy)]
+pub struct PageRun {
+    /// How many pages the chain names before them.
+    pub at: u32,
+    /// The first of them.
+    pub first: u32,
+    /// How many they are.
+    pub count: u32,
+}
+
+impl PageRun {
+    /// A run of no pages.
+    pub const NONE: PageRun = PageRun {
+        at: 0,
+        first: 0,
+        count: 0,
+    };
+}
+
+/// The run of the one page of this number among pages that are listed.
+fn listed_run(listed: &[u32], k: u32) -> Option<PageRun>
+    ensures { RunsFrom listed.now k result }
+{
+    if k as usize >= listed.len() {
+        return None;
+    }
+    Some(PageRun {
+        at: k,
+        first: listed[k as usize],
+        count: 1,
+    })
+}
+
+/// Where the pages of a chain are kept.
+#[derive(Drop)]
+pub(crate) enum Kept {
+    /// Pages one by one.
+    Listed(RequestPages),
+    /// Pieces of whole pages.
+    Pieces(ReportPieces),
+}
+
 /// The pages that a chain names, in order; none of them is reserved.
 ///
 /// A request lists them, each once, at most 256. Of a report the pieces are kept, at most 32, and no
 /// list of pages, which a guest could make 500,000 long; a page may stand in several pieces.
 #[derive(Drop)]
 pub struct NamedPages {
-    /// Pages one by one.
-    listed: RequestPages,
-    /// Pieces of whole pages, whose pages come after those.
-    pieces: ReportPieces,
+    /// One or the other.
+    kept: Kept,
 }
 
 impl Model for NamedPages {
-    ghost use Rattle.std.specs.Prelude.{◌+◌, ◌*◌, ◌^◌, ◌≤◌, ◌++◌, ℕ, List, All};
+    ghost use Rattle.std.specs.Prelude.{◌+◌, ◌*◌, ◌^◌, ◌≤◌, ℕ, List, All};
     ghost use Rattle.vb_model.specs.Limits.{page_size, reserved_pages};
-    ghost use Rattle.vb_request.specs.Report.{pages_of_pieces};
+    ghost use Rattle.vb_request.specs.Kept.{kept_pages, kept_pieces};
 
     ghost Value = { List ℕ };
 
-    ghost view = { λ s. s.listed.items ++ pages_of_pieces s.pieces.items };
+    ghost view = { λ s. kept_pages s.kept };
 
     ghost invariant = { λ s.
-        All (λ page. reserved_pages ≤ page) (s.listed.items ++ pages_of_pieces s.pieces.items) ×
-        All (λ piece. piece.addr + piece.len ≤ page_size * 2 ^ 32) s.pieces.items };
+        All (λ page. reserved_pages ≤ page) (kept_pages s.kept) ×
+        All (λ piece. piece.addr + piece.len ≤ page_size * 2 ^ 32) (kept_pieces s.kept) };
 }
 
 impl NamedPages {
@@ -54,8 +95,7 @@ impl NamedPages {
         ensures { result ≡ [] }
     {
         NamedPages {
-            listed: ArrayVec::new(),
-            pieces: ArrayVec::new(),
+            kept: Kept::Pieces(ArrayVec::new()),
         }
     }
 
@@ -65,8 +105,7 @@ impl NamedPages {
         ensures { result ≡ listed.items }
     {
         NamedPages {
-            listed,
-            pieces: ArrayVec::new(),
+            kept: Kept::Listed(listed),
         }
     }
 
@@ -78,8 +117,7 @@ impl NamedPages {
         ensures { result ≡ pages_of_pieces pieces.items }
     {
         NamedPages {
-            listed: ArrayVec::new(),
-            pieces,
+            kept: Kept::Pieces(pieces),
         }
     }
 
@@ -88,18 +126,28 @@ impl NamedPages {
         ensures count { result ≡ length self.now }
         ensures above { All (λ page. reserved_pages ≤ page) self.now }
     {
-        self.listed.len() as u32 + count_pages(&self.pieces)
+        match &self.kept {
+            Kept::Listed(listed) => listed.len() as u32,
+            Kept::Pieces(pieces) => count_pages(pieces),
+        }
     }
 
     /// The page of this number, from 0; none where there are no more than that.
     pub fn get(&self, k: u32) -> Option<u32>
         ensures { result ≡ slice_get self.now k }
     {
-        let listed = self.listed.len() as u32;
-        if k < listed {
-            Some(self.listed[k as usize])
-        } else {
-            page_at(&self.pieces, k - listed)
+        let run = self.run(k)?;
+        Some(run.first)
+    }
+
+    /// A run that begins with the page of this number, from 0; none where there are no more than
+    /// that.
+    pub fn run(&self, k: u32) -> Option<PageRun>
+        ensures { RunsFrom self.now k result }
+    {
+        match &self.kept {
+            Kept::Listed(listed) => listed_run(listed, k),
+            Kept::Pieces(pieces) => run_at(pieces, k),
         }
     }
 }

@@ -1,15 +1,16 @@
 //! The pages of a report: a chain of the queue of reports (profile).
 
 ghost use Rattle.std.specs.Prelude.{◌≡◌, ◌+◌, ◌*◌, ◌<◌, ◌≤◌, ◌^◌, not, All, MatchResult, Ok, Err};
-ghost use Rattle.std.specs.Prelude.{length, slice_get};
+ghost use Rattle.std.specs.Prelude.{length};
 ghost use Rattle.std.specs.List.{list_any};
 ghost use Rattle.vb_model.specs.declared.limits.TheConstants.{MAX_REPORT_PIECES};
 ghost use Rattle.vb_model.specs.Limits.{page_size};
+ghost use Rattle.vb_request.specs.Report.{RunsFrom};
 ghost use Rattle.vb_request.specs.Report.{pages_of_pieces, has_bad_length, piece_fault};
 ghost use Rattle.vb_request.specs.Report.{first_piece_fault, report_request};
 
 use crate::NamedPages;
-use crate::named::{MAX_PIECES, ReportPieces};
+use crate::named::{MAX_PIECES, PageRun, ReportPieces};
 use arrayvec::ArrayVec;
 use vb_chain::{ChainFault, Piece};
 use vb_model::limits::{PAGE_SIZE, RESERVED_PAGES};
@@ -30,16 +31,21 @@ pub(crate) fn count_pages(pieces: &[Piece]) -> u32
     count
 }
 
-/// Page number `k`, from 0, of the pages of all pieces; none where they have no more than `k`.
-pub(crate) fn page_at(pieces: &[Piece], k: u32) -> Option<u32>
+/// A run of the pages of all pieces, which begins with page number `k`, from 0; none where they have
+/// no more than `k`.
+pub(crate) fn run_at(pieces: &[Piece], k: u32) -> Option<PageRun>
     requires { All (λ piece. piece.addr + piece.len ≤ page_size * 2 ^ 32) pieces.now }
-    ensures { result ≡ slice_get (pages_of_pieces pieces.now) k }
+    ensures { RunsFrom (pages_of_pieces pieces.now) k result }
 {
     let mut rest = k;
     for piece in pieces {
         let count = piece.len / PAGE_SIZE;
         if rest < count {
-            return Some((piece.addr / PAGE_BYTES) as u32 + rest);
+            return Some(PageRun {
+                at: k,
+                first: (piece.addr / PAGE_BYTES) as u32 + rest,
+                count: count - rest,
+            });
         }
         rest -= count;
     }

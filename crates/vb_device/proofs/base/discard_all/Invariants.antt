@@ -2,6 +2,7 @@ use Rattle.std.proofs.Common.{◌≡◌, ◌≤◌, ◌+◌, ◌++◌, take, len
 use Rattle.std.specs.Prelude.{vec_capacity}
 use Rattle.vb_device.specs.Base.{numbers_of_frames}
 use Rattle.vb_request.specs.Request.{each_once}
+use Rattle.vb_request.specs.Report.{IsRun}
 use Rattle.vb_device.specs.Discards.{discarded, frames_behind}
 use Rattle.vb_device.proofs.Discards.{frame_count}
 use Rattle.vb_device.proofs.base.discard_all.Given as goal
@@ -14,4 +15,5 @@ invariant-loop-k l =
           frames_behind l.initial.ram (each_once (take l.k l.request.pages));
       room : length l.loose.items + frame_count l.ram ≤ vec_capacity l.initial.loose;
       capacity : vec_capacity l.loose ≡ vec_capacity l.initial.loose;
+      run : IsRun l.request.pages l.run;
     }

@@ -1,6 +1,6 @@
 use Rattle.std.proofs.Common.{◌≡◌, ◌+◌, take, length}
 use Rattle.vb_request.specs.Report.{pages_of_pieces}
-use Rattle.vb_request.proofs.report.page_at.Given as goal
+use Rattle.vb_request.proofs.report.run_at.Given as goal
 
 abbrev pub invariant-loop-piece : goal.invariant-loop-piece
 invariant-loop-piece l =
