@@ -127,6 +127,10 @@ fn discard_page(ram: &mut Ram, loose: &mut Vec<Frame>, page: u32) -> bool
         length loose.old.items + count_by is_some ram.old }
     ensures capacity { vec_capacity loose.new ≡ vec_capacity loose.old }
 {
+    // A page without a frame is left alone: a report names thousands of them.
+    if ram.backing(page).is_none() {
+        return false;
+    }
     let frame = ram.discard(page);
     let had = frame.is_some();
     put_loose(loose, frame);

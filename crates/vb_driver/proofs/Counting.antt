@@ -41,6 +41,10 @@ numbered Taking = refl
 numbered Stranded = refl
 numbered Reporting = refl
 
+pub number_is : (place other : Place) → number_of place ≡ number_of other → place ≡ other
+number_is place other e =
+    sym (numbered place) ∙ (ap (λ (n : ℕ). get_or by_number n Reserved) e ∙ numbered other)
+
 abbrev same : Bool → Bool → Bool
 same a b = cond a b (not b)
 
@@ -72,35 +76,33 @@ at_number place other =
 
 pub at_is : (place other : Place) → is_at place other ≡ true → other ≡ place
 at_is place other here =
-    let equal : number_of other ≡ number_of place =
-    eqb-true (number_of other) (number_of place) (at_number place other ∙ here) in
-    sym (numbered other) ∙ (ap (λ (n : ℕ). get_or by_number n Reserved) equal ∙ numbered place)
+    number_is other place (eqb-true (number_of other) (number_of place) (at_number place other ∙ here))
 
 -- ---- counts
 
--- 1 where the numbers are equal
-abbrev pub hit : ℕ → ℕ → ℕ
-hit a b = cond (eqb a b) 1 0
+-- so many where the numbers are equal
+abbrev pub hits : ℕ → ℕ → ℕ → ℕ
+hits m a b = cond (eqb a b) m 0
 
-hit_same : (a b : ℕ) → a ≡ b → hit a b ≡ 1
-hit_same a b e = ap (λ v. cond v 1 0) (eq-eqb a b e)
+hits_same : (m a b : ℕ) → a ≡ b → hits m a b ≡ m
+hits_same m a b e = ap (λ v. cond v m 0) (eq-eqb a b e)
 
-hit_other : (a b : ℕ) → (a ≡ b → ⊥) → hit a b ≡ 0
-hit_other a b ne = ap (λ v. cond v 1 0) (ne_eqb a b ne)
+pub hits_other : (m a b : ℕ) → (a ≡ b → ⊥) → hits m a b ≡ 0
+hits_other m a b ne = ap (λ v. cond v m 0) (ne_eqb a b ne)
 
 -- how many pages have a place, as one moves
-count_moves : (places : List Place) (page : ℕ) (which new old : Place) → page < length places
-    → count_by (is_at which) (set places page new) + hit (number_of (get_or places page old))
-    (number_of which) ≡ count_by (is_at which) places + hit (number_of new) (number_of which)
+pub count_moves : (places : List Place) (page : ℕ) (which new old : Place) → page < length places
+    → count_by (is_at which) (set places page new) + hits 1 (number_of (get_or places page old))
+    (number_of which) ≡ count_by (is_at which) places + hits 1 (number_of new) (number_of which)
 count_moves places page which new old lt =
-    let hits : (x : Place)
-    → hit (number_of x) (number_of which) ≡ cond (is_at which x) 1 0 =
+    let at : (x : Place)
+    → hits 1 (number_of x) (number_of which) ≡ cond (is_at which x) 1 0 =
     λ x. ap (λ v. cond v 1 0) (at_number which x) in
     omega (
       arith,
       sum_by-set (λ x. cond (is_at which x) 1 0) places page new old lt,
-      hits new,
-      hits (get_or places page old),
+      at new,
+      at (get_or places page old),
     )
 
 -- a page's own place has a page
@@ -108,13 +110,63 @@ pub counts_some : (places : List Place) (page : ℕ) (old : Place) → page < le
     → 1 ≤ count_by (is_at (get_or places page old)) places
 counts_some places page old lt =
     let here = get_or places page old in
-    let one : hit (number_of here) (number_of here) ≡ 1 =
-    hit_same (number_of here) (number_of here) refl in
+    let one : hits 1 (number_of here) (number_of here) ≡ 1 =
+    hits_same 1 (number_of here) (number_of here) refl in
     let low : cond (is_at here here) 1 0 ≤ count_by (is_at here) places =
     get_or-le-sum_by (λ x. cond (is_at here x) 1 0) places page old lt in
-    let same_hit : hit (number_of here) (number_of here) ≡ cond (is_at here here) 1 0 =
+    let same_hit : hits 1 (number_of here) (number_of here) ≡ cond (is_at here here) 1 0 =
     ap (λ v. cond v 1 0) (at_number here here) in
     omega arith
+
+-- the counts after so many pages moved from one place to another
+pub counts_shifted : (counts : List ℕ) (places now : List Place) (o n m : ℕ) (new old : Place)
+    → length counts ≡ 8 → o ≡ number_of old → n ≡ number_of new → o < 8 → n < 8
+    → m ≤ count_by (is_at old) places
+    → ((which : Place) → count_by (is_at which) now + hits m (number_of old) (number_of which)
+    ≡ count_by (is_at which) places + hits m (number_of new) (number_of which))
+    → AreCounts counts places
+    → AreCounts (set (set counts o (get_or counts o 0 - m)) n
+    (get_or (set counts o (get_or counts o 0 - m)) n 0 + m)) now
+counts_shifted counts places now o n m new old eight was is small small2 some moves all =
+    let mid = set counts o (get_or counts o 0 - m) in
+    let size : length mid ≡ length counts = length-set counts o _ in
+    let own : get_or counts o 0 ≡ count_by (is_at old) places =
+    ap (λ k. get_or counts k 0) was ∙ all.each old in
+    record {
+      each = λ which.
+          let w = number_of which in
+          let moved = moves which in
+          let before : get_or counts w 0 ≡ count_by (is_at which) places = all.each which in
+          let middle : get_or mid w 0 + hits m o w ≡ count_by (is_at which) places =
+          elim (cases_eq w o) [
+            | inl same ↦
+                let e : get_or mid w 0 ≡ get_or counts o 0 - m =
+                ap (λ k. get_or mid k 0) same ∙ get_or-set_same counts o _ 0 (omega arith) in
+                let f : get_or counts w 0 ≡ get_or counts o 0 = ap (λ k. get_or counts k 0) same in
+                let h : hits m o w ≡ m = hits_same m o w (sym same) in
+                omega arith
+            | inr ne ↦
+                let e : get_or mid w 0 ≡ get_or counts w 0 = get_or-set_other counts o w _ 0 ne in
+                let h : hits m o w ≡ 0 = hits_other m o w (λ q. ne (sym q)) in
+                omega arith
+          ] in
+          let from : hits m o w ≡ hits m (number_of old) w = ap (λ k. hits m k w) was in
+          let to : hits m n w ≡ hits m (number_of new) w = ap (λ k. hits m k w) is in
+          elim (cases_eq w n) [
+            | inl same ↦
+                let e : get_or (set mid n (get_or mid n 0 + m)) w 0 ≡ get_or mid n 0 + m =
+                ap (λ k. get_or (set mid n (get_or mid n 0 + m)) k 0) same
+                ∙ get_or-set_same mid n _ 0 (omega arith) in
+                let f : get_or mid w 0 ≡ get_or mid n 0 = ap (λ k. get_or mid k 0) same in
+                let h : hits m n w ≡ m = hits_same m n w (sym same) in
+                omega arith
+            | inr ne ↦
+                let e : get_or (set mid n (get_or mid n 0 + m)) w 0 ≡ get_or mid w 0 =
+                get_or-set_other mid n w _ 0 ne in
+                let h : hits m n w ≡ 0 = hits_other m n w (λ q. ne (sym q)) in
+                omega arith
+          ];
+    }
 
 -- the counts after a page moved
 pub counts_moved : (counts : List ℕ) (places : List Place) (page o n : ℕ) (new was : Place)
@@ -124,53 +176,16 @@ pub counts_moved : (counts : List ℕ) (places : List Place) (page o n : ℕ) (n
     → AreCounts (set (set counts o (get_or counts o 0 - 1)) n
     (get_or (set counts o (get_or counts o 0 - 1)) n 0 + 1)) (set places page new)
 counts_moved counts places page o n new old eight lt here was is small small2 all =
-    let mid = set counts o (get_or counts o 0 - 1) in
-    let size : length mid ≡ length counts = length-set counts o _ in
-    let own : get_or counts o 0 ≡ count_by (is_at old) places =
-    ap (λ k. get_or counts k 0) was ∙ all.each old in
-    let some : 1 ≤ count_by (is_at old) places =
     let e : count_by (is_at old) places ≡ count_by (is_at (get_or places page old)) places =
-    ap (λ v. count_by (is_at v) places) here in omega (arith, counts_some places page old lt) in
-    record {
-      each = λ which.
-          let w = number_of which in
-          let there : hit (number_of (get_or places page old)) w ≡ hit (number_of old) w =
-          ap (λ v. hit (number_of v) w) (sym here) in
-          let moves : count_by (is_at which) (set places page new) + hit
-          (number_of (get_or places page old)) w
-          ≡ count_by (is_at which) places + hit (number_of new) w =
-          count_moves places page which new old lt in
-          let before : get_or counts w 0 ≡ count_by (is_at which) places = all.each which in
-          let middle : get_or mid w 0 + hit o w ≡ count_by (is_at which) places =
-          elim (cases_eq w o) [
-            | inl same ↦
-                let e : get_or mid w 0 ≡ get_or counts o 0 - 1 =
-                ap (λ k. get_or mid k 0) same ∙ get_or-set_same counts o _ 0 (omega arith) in
-                let f : get_or counts w 0 ≡ get_or counts o 0 = ap (λ k. get_or counts k 0) same in
-                let h : hit o w ≡ 1 = hit_same o w (sym same) in
-                omega arith
-            | inr ne ↦
-                let e : get_or mid w 0 ≡ get_or counts w 0 = get_or-set_other counts o w _ 0 ne in
-                let h : hit o w ≡ 0 = hit_other o w (λ q. ne (sym q)) in
-                omega arith
-          ] in
-          let hits : hit o w ≡ hit (number_of old) w = ap (λ k. hit k w) was in
-          let hits2 : hit n w ≡ hit (number_of new) w = ap (λ k. hit k w) is in
-          elim (cases_eq w n) [
-            | inl same ↦
-                let e : get_or (set mid n (get_or mid n 0 + 1)) w 0 ≡ get_or mid n 0 + 1 =
-                ap (λ k. get_or (set mid n (get_or mid n 0 + 1)) k 0) same
-                ∙ get_or-set_same mid n _ 0 (omega arith) in
-                let f : get_or mid w 0 ≡ get_or mid n 0 = ap (λ k. get_or mid k 0) same in
-                let h : hit n w ≡ 1 = hit_same n w (sym same) in
-                omega arith
-            | inr ne ↦
-                let e : get_or (set mid n (get_or mid n 0 + 1)) w 0 ≡ get_or mid w 0 =
-                get_or-set_other mid n w _ 0 ne in
-                let h : hit n w ≡ 0 = hit_other n w (λ q. ne (sym q)) in
-                omega arith
-          ];
-    }
+    ap (λ v. count_by (is_at v) places) here in
+    counts_shifted counts places (set places page new) o n 1 new old eight was is small small2
+    (omega (arith, counts_some places page old lt))
+    (λ which.
+    let w = number_of which in
+    let there : hits 1 (number_of (get_or places page old)) w ≡ hits 1 (number_of old) w =
+    ap (λ v. hits 1 (number_of v) w) (sym here) in
+    omega (arith, count_moves places page which new old lt))
+    all
 
 -- ---- a table of reserved pages
 

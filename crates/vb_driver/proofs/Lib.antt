@@ -1,5 +1,6 @@
 pub mod Counting
 pub mod Placing
+pub mod Runs
 pub mod Marking
 pub mod Buffers
 pub mod RequestTables

@@ -129,6 +129,32 @@ placed_next start page place ps from lt =
     (ap (λ (n : ℕ). range_with_len start k ++ n ∷ []) (sym here)
     ∙ (sym (range_push start k) ∙ ap (λ (n : ℕ). range_with_len start n) next))
 
+-- a run of pages, and then the pages behind it
+range_append : (start a b : ℕ)
+    → range_with_len start a ++ range_with_len (start + a) b ≡ range_with_len start (a + b)
+range_append start zero b = ap (λ (n : ℕ). range_with_len n b) (omega arith)
+    ∙ ap (range_with_len start) (omega arith)
+range_append start (suc a) b =
+    let here : start + suc a ≡ start + 1 + a = omega arith in
+    let all : suc (a + b) ≡ suc a + b = omega arith in
+    ap (λ (l : List ℕ). start ∷ l)
+    (ap (λ (n : ℕ). range_with_len (start + 1) a ++ range_with_len n b) here
+    ∙ range_append (start + 1) a b)
+    ∙ ap (range_with_len start) all
+
+pub placed_further : (start page next : ℕ) (place : Place) (ps : List Place) → start ≤ page
+    → page ≤ next
+    → placed (range_with_len page (next - page)) place
+    (placed (range_with_len start (page - start)) place ps)
+    ≡ placed (range_with_len start (next - start)) place ps
+placed_further start page next place ps from further =
+    let here : start + (page - start) ≡ page = omega arith in
+    let all : (page - start) + (next - page) ≡ next - start = omega arith in
+    marked_append (range_with_len start (page - start)) (range_with_len page (next - page)) place ps
+    ∙ ap (λ (l : List ℕ). placed l place ps)
+    (ap (λ (n : ℕ). range_with_len start (page - start) ++ range_with_len n (next - page)) (sym here)
+    ∙ (range_append start (page - start) (next - page) ∙ ap (range_with_len start) all))
+
 -- ---- each page to a place of its own
 
 -- the first i entries have changed
@@ -151,6 +177,22 @@ changing_more old now f i y c lt is =
         | inr ne ↦ get_or-set_other now i k y d ne ∙ c.put k d (omega (arith, ne)) inside
       ];
       rest = λ k d far. get_or-set_other now i k y d (omega arith) ∙ c.rest k d (omega arith);
+    }
+
+-- the next entry is already what it is to be
+pub changing_kept : (old now : List Place) (f : ℕ → Place → Place) (i : ℕ)
+    → Changing old now f i → ((d : Place) → get_or now i d ≡ f i (get_or old i d))
+    → Changing old now f (i + 1)
+changing_kept old now f i c is =
+    record {
+      same = c.same;
+      put = λ k d near inside. elim (cases_eq k i) [
+        | inl same ↦
+            ap (λ n. get_or now n d) same
+            ∙ (is d ∙ sym (ap (λ n. f n (get_or old n d)) same))
+        | inr ne ↦ c.put k d (omega (arith, ne)) inside
+      ];
+      rest = λ k d far. c.rest k d (omega arith);
     }
 
 pub changed_all : (old now : List Place) (f : Place → Place) (i : ℕ) → Changing old now (λ k. f) i

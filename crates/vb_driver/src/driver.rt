@@ -1,6 +1,7 @@
 //! The balloon driver, and the pages of the guest's own.
 
-ghost use Rattle.std.specs.Prelude.{◌≡◌, ◌<◌, true, IfOk, count_by};
+ghost use Rattle.std.specs.Prelude.{◌≡◌, ◌<◌, ◌≤◌, true, length, IfOk, count_by};
+ghost use Rattle.vb_model.specs.declared.limits.TheConstants.{MAX_GUEST_PAGES};
 ghost use Rattle.vb_model.specs.Limits.{is_config};
 ghost use Rattle.vb_model.specs.Pages.{place_of, is_used};
 ghost use Rattle.vb_model.specs.Pages.{is_lent_or_taking};
@@ -102,6 +103,14 @@ impl Driver {
         ensures { result ≡ place_of self.now.places page }
     {
         self.places.place(page)
+    }
+
+    /// Where each page is, by page. Takes no memory.
+    pub fn places_by_page(&self) -> &[Place]
+        ensures places { result.now ≡ self.now.places }
+        ensures few { length result.now ≤ MAX_GUEST_PAGES }
+    {
+        self.places.as_slice()
     }
 
     /// How many pages each place has.

@@ -1,6 +1,8 @@
 //! Where each page of the guest is.
 
-ghost use Rattle.std.specs.Prelude.{◌≡◌, ◌≤◌, ◌<◌, ◌+◌, ◌^◌, ℕ, true, length, take, map, slice_set};
+ghost use Rattle.std.specs.Prelude.{◌≡◌, ◌≤◌, ◌<◌, ◌+◌, ◌-◌, ◌^◌, ◌||◌, ℕ, true, length, take, map};
+ghost use Rattle.std.specs.Prelude.{slice_set};
+ghost use Rattle.std.specs.List.{range_with_len};
 ghost use Rattle.std.specs.Prelude.{count_by, IfOk, All};
 ghost use Rattle.vb_bits.specs.Sets.{has};
 ghost use Rattle.vb_model.specs.Tests.{is_in, pages_where};
@@ -124,6 +126,40 @@ fn mark(set: &mut BitSet, page: u32, was: bool, is: bool)
     }
 }
 
+/// Whether the pages of a place are kept as a set.
+fn is_in_set(place: Place) -> bool
+    ensures { result ≡ (is_lent place || is_stranded place) }
+{
+    is_lent(place) || is_stranded(place)
+}
+
+/// The first page from `start` on, and before `end`, that isn't at this place, else `end`.
+fn end_of_run(places: &[Place], start: u32, end: u32, place: Place) -> u32
+    requires order { start ≤ end }
+    requires inside { end ≤ length places.now }
+    ensures from { start ≤ result }
+    ensures bound { result ≤ end }
+    ensures same { (page : ℕ) → start ≤ page → page < result → place_of places.now page ≡ place }
+{
+    for page in start..end {
+        if number_of(places[page as usize]) != number_of(place) {
+            return page;
+        }
+    }
+    end
+}
+
+/// Puts a place into a table for the pages from `start` on and before `end`.
+fn put_all(places: &mut [Place], start: u32, end: u32, place: Place)
+    requires order { start ≤ end }
+    requires inside { end ≤ length places.old }
+    ensures { places.new ≡ placed (range_with_len start (end - start)) place places.old }
+{
+    for page in start..end {
+        places[page as usize] = place;
+    }
+}
+
 /// The lowest pages of a set, so many at most.
 fn lowest_in(set: &BitSet, most: u32) -> RequestPages
     requires few { most ≤ max_request_pages }
@@ -153,6 +189,14 @@ impl PlaceTable {
             Some(place) => *place,
             None => Place::Reserved,
         }
+    }
+
+    /// The places, by page.
+    pub(crate) fn as_slice(&self) -> &[Place]
+        ensures places { result.now ≡ self.now }
+        ensures few { length result.now ≤ MAX_GUEST_PAGES }
+    {
+        &self.places
     }
 
     /// How many pages there are.
@@ -218,6 +262,29 @@ impl PlaceTable {
         }
     }
 
+    /// Moves the pages of a run to a place: from this page on those that are where it is, and none from
+    /// `end` on. Answers where the run ends.
+    fn move_run(&mut self, start: u32, end: u32, place: Place) -> u32
+        requires some { start < end }
+        requires inside { end ≤ length self.old }
+        ensures further { start < result }
+        ensures bound { result ≤ end }
+        ensures moved { self.new ≡
+            placed (range_with_len start (result - start)) place self.old }
+    {
+        let old = self.places[start as usize];
+        if is_in_set(old) || is_in_set(place) {
+            self.set(start, place);
+            return start + 1;
+        }
+        let next = end_of_run(&self.places, start + 1, end, old);
+        let count = next - start;
+        self.counts[number_of(old)] -= count;
+        self.counts[number_of(place)] += count;
+        put_all(&mut self.places, start, next, place);
+        next
+    }
+
     /// Moves the pages of a block to a place.
     pub(crate) fn set_block(&mut self, start: u32, order: u32, place: Place)
         requires order { order ≤ max_order }
@@ -226,8 +293,10 @@ impl PlaceTable {
     {
         // What holds of each table, as how many pages it has, is known from here on.
         let _places = &self.places;
-        for page in start..start + size_of(order) {
-            self.set(page, place);
+        let end = start + size_of(order);
+        let mut page = start;
+        while page < end {
+            page = self.move_run(page, end, place);
         }
     }
 
@@ -281,7 +350,10 @@ impl PlaceTable {
         for page in 0..pages {
             let page = page as u32;
             let place = self.place(page);
-            self.set(page, after_reset(place));
+            let after = after_reset(place);
+            if number_of(after) != number_of(place) {
+                self.set(page, after);
+            }
         }
     }
 

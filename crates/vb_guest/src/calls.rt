@@ -96,7 +96,7 @@ pub fn query<D: Device>(alloc: Global, driver: &Driver, device: &D, query: &Quer
         Query::Places => Reply::Places {
             counts: places(driver),
         },
-        Query::PagesAt(place) => runs_reply(pages_at(alloc, driver, device, *place)),
+        Query::PagesAt(place) => runs_reply(pages_at(alloc, driver, *place)),
         Query::PagesBallooned => runs_reply(pages_ballooned(alloc, device)),
         Query::Balloon => balloon_reply(balloon(driver, device)),
         Query::Memory => memory_reply(statistics(device)),

@@ -1,10 +1,11 @@
 //! Questions about a guest.
 
-ghost use Rattle.std.specs.Prelude.{◌≡◌, Bool, ℕ, List, [], ◌∷◌, ◌++◌, length, IfOk, OnOk};
+ghost use Rattle.std.specs.Prelude.{◌≡◌, ◌≤◌, Bool, ℕ, List, [], ◌∷◌, ◌++◌, length, IfOk, OnOk};
 ghost use Rattle.vb_model.specs.Guest.{Guest};
 ghost use Rattle.vb_model.specs.Balance.{spare};
 ghost use Rattle.vb_model.specs.Tests.{pages_where};
 ghost use Rattle.vb_model.specs.World.{Answers, is_place, runs};
+ghost use Rattle.vb_model.specs.declared.limits.TheConstants.{MAX_GUEST_PAGES};
 ghost use Rattle.vb_model.specs.declared.replies.Reply.TheVariants.{Places};
 ghost use Rattle.vb_ram.specs.Pages.{Pages};
 ghost use Rattle.vb_ram.specs.Part.{Part};
@@ -124,15 +125,15 @@ fn push_page(found: &mut Vec<PageRun>, page: u32) -> Result<(), AllocError>
     }
 }
 
-/// The runs of the pages at a place.
-fn runs_at(alloc: Global, driver: &Driver, count: u32, place: Place) -> Result<PageRuns, AllocError>
-    requires { count ≡ length driver.now.places }
-    ensures { IfOk result (λ found. found ≡ runs (pages_where (is_place place) driver.now.places)) }
+/// The runs of the pages at a place, where these are the places of all pages.
+fn runs_at(alloc: Global, places: &[Place], place: Place) -> Result<PageRuns, AllocError>
+    requires { length places.now ≤ MAX_GUEST_PAGES }
+    ensures { IfOk result (λ found. found ≡ runs (pages_where (is_place place) places.now)) }
 {
     let mut found = Vec::new(alloc);
-    for page in 0..count {
-        if is_at(place, driver.place(page)) {
-            push_page(&mut found, page)?;
+    for page in 0..places.len() {
+        if is_at(place, places[page]) {
+            push_page(&mut found, page as u32)?;
         }
     }
     Ok(PageRuns::new(found))
@@ -154,19 +155,14 @@ fn ballooned_runs<D: Device>(alloc: Global, device: &D, count: u32) -> Result<Pa
 }
 
 /// Which pages are at a place, as runs by rising page. Want of memory is the only refusal.
-pub fn pages_at<D: Device>(
-    alloc: Global,
-    driver: &Driver,
-    device: &D,
-    place: Place,
-) -> Result<PageRuns, AllocError>
-    requires { (keeps : Bool) × (g : Guest)
-        × Stands keeps (D.mem device.now) (D.part device.now) driver.now g }
-    ensures { (keeps : Bool) (g : Guest)
-        → Stands keeps (D.mem device.now) (D.part device.now) driver.now g
+pub fn pages_at(alloc: Global, driver: &Driver, place: Place) -> Result<PageRuns, AllocError>
+    requires { (keeps : Bool) × (mem : Pages) × (part : Part) × (g : Guest)
+        × Stands keeps mem part driver.now g }
+    ensures { (keeps : Bool) (mem : Pages) (part : Part) (g : Guest)
+        → Stands keeps mem part driver.now g
         → Answers (Query.PagesAt place) g (runs_reply result) }
 {
-    runs_at(alloc, driver, device.pages(), place)
+    runs_at(alloc, driver.places_by_page(), place)
 }
 
 /// Which pages the device holds to be ballooned, as runs by rising page. Want of memory is the only

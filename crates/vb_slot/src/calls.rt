@@ -397,7 +397,7 @@ impl Slot {
         ensures answer { (keeps : Bool) (g : Guest) → stands_for keeps mem part self.now g
             → Answers (Query.PagesAt place) g (runs_reply result) }
     {
-        vb_guest::pages_at(alloc, &self.driver, &self.device, place)
+        vb_guest::pages_at(alloc, &self.driver, place)
     }
 
     /// Which pages the device holds to be ballooned, as runs by rising page. Want of memory is the

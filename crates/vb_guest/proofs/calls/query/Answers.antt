@@ -13,7 +13,7 @@ returns-in-PagesBallooned g c = record {
 pub returns-in-PagesAt : goal.returns-in-PagesAt
 returns-in-PagesAt g c = record {
   answer = λ keeps guest stands. rw (c.in-PagesAt.is, c.runs_reply.ensures)
-      (c.pages_at.ensures keeps guest stands);
+      (c.pages_at.ensures keeps _ _ guest stands);
 }
 
 pub returns-in-Balloon : goal.returns-in-Balloon

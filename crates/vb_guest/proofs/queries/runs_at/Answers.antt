@@ -1,4 +1,4 @@
-use Rattle.std.proofs.Common.{◌∙◌, ap, arith, sym}
+use Rattle.std.proofs.Common.{◌∙◌, ap, sym}
 use Rattle.vb_model.specs.declared.places.Place.TheVariants.{Reserved}
 use Rattle.vb_model.specs.World.{is_place}
 use Rattle.vb_guest.proofs.Runs.{runs_more, runs_same}
@@ -9,15 +9,12 @@ pub loop-page-preserved : goal.loop-page-preserved
 loop-page-preserved c = elim c.if-is_at.branch [
   | then-is_at+in_ok-push_page w ↦
       ap (λ v. v.items) w.found-is
-      ∙ runs_more (is_place c.args.place) c.args.driver.now.places c.loop-page.page Reserved
-      c.loop-page.found.items _ (omega (arith, c.loop-page-test.true, c.requires))
-      c.loop-page.invariant
-      (ap (is_place c.args.place) (sym c.place.ensures) ∙ sym w.if-is_at.ensures)
-      (λ pages is. w.in_ok-push_page.ensures pages is)
+      ∙ runs_more (is_place c.args.place) c.args.places.now c.loop-page.page Reserved
+      c.loop-page.found.items _ c.loop-page-test.true c.loop-page.invariant
+      (sym w.if-is_at.ensures) (λ pages is. w.in_ok-push_page.ensures pages is)
   | else-is_at w ↦
       ap (λ v. v.items) w.found-is
-      ∙ runs_same (is_place c.args.place) c.args.driver.now.places c.loop-page.page Reserved
-      c.loop-page.found.items (omega (arith, c.loop-page-test.true, c.requires))
-      c.loop-page.invariant
-      (ap (is_place c.args.place) (sym c.place.ensures) ∙ sym w.if-is_at.ensures)
+      ∙ runs_same (is_place c.args.place) c.args.places.now c.loop-page.page Reserved
+      c.loop-page.found.items c.loop-page-test.true c.loop-page.invariant
+      (sym w.if-is_at.ensures)
 ]

@@ -5,4 +5,4 @@ use Rattle.vb_guest.proofs.queries.runs_at.Given as goal
 
 abbrev pub invariant-loop-page : goal.invariant-loop-page
 invariant-loop-page l =
-    l.found.items ≡ runs (pages_where (is_place l.place) (take l.page l.driver.places))
+    l.found.items ≡ runs (pages_where (is_place l.place) (take l.page l.places))

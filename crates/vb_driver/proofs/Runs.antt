@@ -1,0 +1,185 @@
+-- Tables of places, as the pages of a run move that are all at one place.
+use Rattle.std.proofs.Common.{◌≡◌, ◌∙◌, sym, ap, arith, refl, ℕ, zero, suc, ◌+◌, ◌-◌, ◌<◌, ◌≤◌}
+use Rattle.std.proofs.Common.{Bool, true, false, cond, eqb, ◌||◌, List, length, get_or, set, map}
+use Rattle.std.proofs.Common.{count_by, eq-eqb}
+use Rattle.std.proofs.Common.{inl, inr}
+use Rattle.std.proofs.lemmas.Bool.{cases_eq, ne_eqb}
+use Rattle.std.proofs.lemmas.List.{get_or_default, length-set}
+use Rattle.std.proofs.Math.Seq.{map-set_same}
+use Rattle.std.specs.List.{range_with_len}
+use Rattle.vb_model.specs.declared.places.Place.{Place}
+use Rattle.vb_model.specs.declared.places.Place.TheVariants.{Reserved, Free, Used, Giving, Lent}
+use Rattle.vb_model.specs.declared.places.Place.TheVariants.{Taking, Stranded, Reporting}
+use Rattle.vb_model.specs.Tests.{is_in}
+use Rattle.vb_model.specs.Pages.{placed, place_of, is_lent, is_stranded}
+use Rattle.vb_driver.specs.Places.{number_of, is_at, IsTable}
+use Rattle.vb_driver.proofs.Counting.{hits, hits_other, count_moves, counts_shifted, number_small}
+use Rattle.vb_driver.proofs.Placing.{length-marked, marked-get, marked_none, marked_more, range_push}
+
+-- these pages are at this place
+pub record AreAt (places : List Place) (start n : ℕ) (place : Place) : Type 0 where
+  pub inside : start + n ≤ length places
+  pub each : (page : ℕ) → start ≤ page → page < start + n → place_of places page ≡ place
+
+fewer : (places : List Place) (start n : ℕ) (place : Place) → AreAt places start (suc n) place
+    → AreAt places start n place
+fewer places start n place are = record {
+  inside = omega (arith, are.inside);
+  each = λ page from before. are.each page from (omega arith);
+}
+
+not_in_run : (start n page : ℕ) → start + n ≤ page → is_in page (range_with_len start n) ≡ false
+not_in_run start zero page le = refl
+not_in_run start (suc n) page le =
+    ap (λ (b : Bool). b || is_in page (range_with_len (start + 1) n))
+    (ne_eqb start page (λ e. omega arith))
+    ∙ not_in_run (start + 1) n page (omega arith)
+
+-- the pages of a run, the first of which is where it was found
+pub run_is : (places : List Place) (start next : ℕ) (old : Place) → start < next
+    → next ≤ length places → old ≡ get_or places start old
+    → ((page : ℕ) → start + 1 ≤ page → page < next → place_of places page ≡ old)
+    → AreAt places start (next - start) old
+run_is places start next old further bound here same = record {
+  inside = omega arith;
+  each = λ page from before. elim (cases_eq page start) [
+    | inl first ↦
+        ap (place_of places) first
+        ∙ (get_or_default places start Reserved old (omega arith) ∙ sym here)
+    | inr later ↦ same page (omega (arith, later)) (omega arith)
+  ];
+}
+
+-- one page more of the run
+abbrev moved : List Place → ℕ → ℕ → Place → List Place
+moved places start n place = placed (range_with_len start n) place places
+
+moved_more : (places : List Place) (start n : ℕ) (place : Place) → start + n < length places
+    → moved places start (suc n) place ≡ set (moved places start n place) (start + n) place
+moved_more places start n place lt =
+    ap (λ (l : List ℕ). placed l place places) (range_push start n)
+    ∙ marked_more (range_with_len start n) (start + n) place places lt
+
+-- the next page of the run is where it was
+next_at : (places : List Place) (start n : ℕ) (new old d : Place)
+    → AreAt places start (suc n) old → get_or (moved places start n new) (start + n) d ≡ old
+next_at places start n new old d are =
+    marked-get (range_with_len start n) new places (start + n) d (omega (arith, are.inside))
+    ∙ (ap (λ (b : Bool). cond b new (get_or places (start + n) d))
+    (not_in_run start n (start + n) (omega arith))
+    ∙ (get_or_default places (start + n) d Reserved (omega (arith, are.inside))
+    ∙ are.each (start + n) (omega arith) (omega arith)))
+
+-- ---- counts
+
+hits_more : (n a b : ℕ) → hits (suc n) a b ≡ hits n a b + hits 1 a b
+hits_more n a b = at (eqb a b)
+  where
+    at : (b : Bool) → cond b (suc n) 0 ≡ cond b n 0 + cond b 1 0
+    at true = omega arith
+    at false = omega arith
+
+no_hits : (a b : ℕ) → hits 0 a b ≡ 0
+no_hits a b = at (eqb a b)
+  where
+    at : (b : Bool) → cond b zero zero ≡ zero
+    at true = refl
+    at false = refl
+
+pub run_counted : (places : List Place) (start n : ℕ) (new old which : Place)
+    → AreAt places start n old
+    → count_by (is_at which) (placed (range_with_len start n) new places)
+    + hits n (number_of old) (number_of which)
+    ≡ count_by (is_at which) places + hits n (number_of new) (number_of which)
+run_counted places start zero new old which are =
+    let none = no_hits (number_of old) (number_of which) in
+    let none2 = no_hits (number_of new) (number_of which) in
+    omega (arith, ap (λ (l : List Place). count_by (is_at which) l) (marked_none new places))
+run_counted places start (suc n) new old which are =
+    let before = moved places start n new in
+    let w = number_of which in
+    let lt : start + n < length places = omega (arith, are.inside) in
+    let size : length before ≡ length places =
+    length-marked (range_with_len start n) new places in
+    let here : hits 1 (number_of (get_or before (start + n) old)) w ≡ hits 1 (number_of old) w =
+    ap (λ (p : Place). hits 1 (number_of p) w) (next_at places start n new old old are) in
+    let more = hits_more n (number_of old) w in
+    let more2 = hits_more n (number_of new) w in
+    omega (
+      arith,
+      ap (λ (l : List Place). count_by (is_at which) l) (moved_more places start n new lt),
+      count_moves before (start + n) which new old (omega arith),
+      run_counted places start n new old which (fewer places start n old are),
+    )
+
+-- another place
+abbrev other : Place → Place
+other Reserved = Free
+other _ = Reserved
+
+is_other : (place : Place) → number_of (other place) ≡ number_of place → ⊥
+is_other Reserved e = omega (arith, e)
+is_other Free e = omega (arith, e)
+is_other Used e = omega (arith, e)
+is_other Giving e = omega (arith, e)
+is_other Lent e = omega (arith, e)
+is_other Taking e = omega (arith, e)
+is_other Stranded e = omega (arith, e)
+is_other Reporting e = omega (arith, e)
+
+-- so many pages are at the place at least
+pub run_some : (places : List Place) (start n : ℕ) (old : Place) → AreAt places start n old
+    → n ≤ count_by (is_at old) places
+run_some places start n old are =
+    let own : hits n (number_of old) (number_of old) ≡ n =
+    ap (λ (b : Bool). cond b n 0) (eq-eqb (number_of old) (number_of old) refl) in
+    let none : hits n (number_of (other old)) (number_of old) ≡ 0 =
+    hits_other n (number_of (other old)) (number_of old) (is_other old) in
+    omega (arith, run_counted places start n (other old) old old are)
+
+-- ---- sets
+
+-- a set that has the pages at neither place
+pub run_unset : (test : Place → Bool) (places : List Place) (start n : ℕ) (new old : Place)
+    → AreAt places start n old → test new ≡ false → test old ≡ false
+    → map test (placed (range_with_len start n) new places) ≡ map test places
+run_unset test places start zero new old are is was =
+    ap (map test) (marked_none new places)
+run_unset test places start (suc n) new old are is was =
+    let before = moved places start n new in
+    ap (map test) (moved_more places start n new (omega (arith, are.inside)))
+    ∙ (map-set_same test before (start + n) new old
+    (is ∙ sym (ap test (next_at places start n new old old are) ∙ was))
+    ∙ run_unset test places start n new old (fewer places start n old are) is was)
+
+-- ---- tables
+
+pub neither : (a b : Bool) → (a || b) ≡ false → (a ≡ false) × (b ≡ false)
+neither true b e = cc
+neither false true e = cc
+neither false false e = (refl, refl)
+
+-- the table after a run moved between places that no set has
+pub run_table : (counts : List ℕ) (lent stranded : List Bool) (places : List Place)
+    (start n o k : ℕ) (new old : Place) → IsTable counts lent stranded places
+    → AreAt places start n old → o ≡ number_of old → k ≡ number_of new
+    → is_lent new ≡ false → is_lent old ≡ false → is_stranded new ≡ false → is_stranded old ≡ false
+    → IsTable (set (set counts o (get_or counts o 0 - n)) k
+    (get_or (set counts o (get_or counts o 0 - n)) k 0 + n)) lent stranded
+    (placed (range_with_len start n) new places)
+run_table counts lent stranded places start n o k new old table are was is unlent bare unstranded kept =
+    let small = number_small old in
+    let small2 = number_small new in
+    record {
+      kinds = length-set (set counts o _) k _ ∙ (length-set counts o _ ∙ table.kinds);
+      are_counts = counts_shifted counts places (placed (range_with_len start n) new places) o k n
+          new old table.kinds was is (omega arith) (omega arith) (run_some places start n old are)
+          (λ which. run_counted places start n new old which are) table.are_counts;
+      are_sets = record {
+        of_lent = table.are_sets.of_lent
+            ∙ sym (run_unset is_lent places start n new old are unlent bare);
+        of_stranded = table.are_sets.of_stranded
+            ∙ sym (run_unset is_stranded places start n new old are unstranded kept);
+      };
+      small = omega (arith, table.small, length-marked (range_with_len start n) new places);
+    }

@@ -1,0 +1,8 @@
+use Rattle.std.proofs.Common.{◌≡◌, ◌-◌}
+use Rattle.std.specs.List.{range_with_len}
+use Rattle.vb_model.specs.Pages.{placed}
+use Rattle.vb_driver.proofs.places.put_all.Given as goal
+
+abbrev pub invariant-loop-page : goal.invariant-loop-page
+invariant-loop-page l =
+    l.places ≡ placed (range_with_len l.start (l.page - l.start)) l.place l.initial.places
