@@ -179,22 +179,6 @@ changing_more old now f i y c lt is =
       rest = λ k d far. get_or-set_other now i k y d (omega arith) ∙ c.rest k d (omega arith);
     }
 
--- the next entry is already what it is to be
-pub changing_kept : (old now : List Place) (f : ℕ → Place → Place) (i : ℕ)
-    → Changing old now f i → ((d : Place) → get_or now i d ≡ f i (get_or old i d))
-    → Changing old now f (i + 1)
-changing_kept old now f i c is =
-    record {
-      same = c.same;
-      put = λ k d near inside. elim (cases_eq k i) [
-        | inl same ↦
-            ap (λ n. get_or now n d) same
-            ∙ (is d ∙ sym (ap (λ n. f n (get_or old n d)) same))
-        | inr ne ↦ c.put k d (omega (arith, ne)) inside
-      ];
-      rest = λ k d far. c.rest k d (omega arith);
-    }
-
 pub changed_all : (old now : List Place) (f : Place → Place) (i : ℕ) → Changing old now (λ k. f) i
     → length old ≤ i → now ≡ map f old
 changed_all old now f i c all =

@@ -142,7 +142,7 @@ fn end_of_run(places: &[Place], start: u32, end: u32, place: Place) -> u32
     ensures same { (page : ℕ) → start ≤ page → page < result → place_of places.now page ≡ place }
 {
     for page in start..end {
-        if number_of(places[page as usize]) != number_of(place) {
+        if places[page as usize] != place {
             return page;
         }
     }
@@ -212,6 +212,9 @@ impl PlaceTable {
         ensures { self.new ≡ slice_set self.old page place }
     {
         let old = self.places[page as usize];
+        if old == place {
+            return;
+        }
         self.counts[number_of(old)] -= 1;
         self.counts[number_of(place)] += 1;
         self.places[page as usize] = place;
@@ -350,10 +353,7 @@ impl PlaceTable {
         for page in 0..pages {
             let page = page as u32;
             let place = self.place(page);
-            let after = after_reset(place);
-            if number_of(after) != number_of(place) {
-                self.set(page, after);
-            }
+            self.set(page, after_reset(place));
         }
     }
 

@@ -92,17 +92,7 @@ pub fn spare<D: Device>(device: &D, floor: u32) -> u32
 fn is_at(place: Place, other: Place) -> bool
     ensures { result ≡ is_place place other }
 {
-    matches!(
-        (place, other),
-        (Place::Reserved, Place::Reserved)
-            | (Place::Free, Place::Free)
-            | (Place::Used, Place::Used)
-            | (Place::Giving, Place::Giving)
-            | (Place::Lent, Place::Lent)
-            | (Place::Taking, Place::Taking)
-            | (Place::Stranded, Place::Stranded)
-            | (Place::Reporting, Place::Reporting)
-    )
+    place == other
 }
 
 /// Adds a page, above those before it, to the runs.

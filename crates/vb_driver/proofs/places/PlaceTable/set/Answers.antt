@@ -11,14 +11,14 @@ pub overflow_sub-self : goal.overflow_sub-self
 overflow_sub-self c =
     let counts = c.self.inside.counts in
     let places = c.self.inside.places.items in
-    let old = c.index-old.result.now in
+    let old = c.index.result.now in
     let size : length places ≡ length c.args.self.now = ap length c.self.view_is in
     let own : get_or counts c.number_of.result 0 ≡ count_by (is_at old) places =
     ap (λ (k : ℕ). get_or counts k 0) c.number_of.ensures
     ∙ c.self.invariant.are_counts.each old in
     let here : count_by (is_at old) places
     ≡ count_by (is_at (get_or places c.args.page old)) places =
-    ap (λ (p : Place). count_by (is_at p) places) c.index-old.ensures in
+    ap (λ (p : Place). count_by (is_at p) places) c.index.ensures in
     let small = number_small old in
     omega (arith, counts_some places c.args.page old (omega arith))
 
@@ -26,15 +26,15 @@ pub invariant_of-self : goal.invariant_of-self
 invariant_of-self c =
     let counts = c.self.inside.counts in
     let places = c.self.inside.places.items in
-    let small = number_small c.index-old.result.now in
+    let small = number_small c.index.result.now in
     let small2 = number_small c.args.place in
     let size : length places ≡ length c.args.self.now = ap length c.self.view_is in
     record {
       kinds = length-set (set counts c.number_of.result _) c.number_of-2.result _
           ∙ (length-set counts c.number_of.result _ ∙ c.self.invariant.kinds);
       are_counts = counts_moved counts places c.args.page c.number_of.result c.number_of-2.result
-          c.args.place c.index-old.result.now c.self.invariant.kinds (omega arith)
-          c.index-old.ensures c.number_of.ensures c.number_of-2.ensures (omega arith) (omega arith)
+          c.args.place c.index.result.now c.self.invariant.kinds (omega arith)
+          c.index.ensures c.number_of.ensures c.number_of-2.ensures (omega arith) (omega arith)
           c.self.invariant.are_counts;
       are_sets = record {
         of_lent = set_moved is_lent c.self.inside.lent _ places c.args.page c.args.place
