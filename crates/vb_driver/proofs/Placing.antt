@@ -2,7 +2,7 @@
 use Rattle.std.proofs.Common.{◌≡◌, ◌∙◌, sym, ap, arith, refl, ℕ, zero, suc, ◌+◌, ◌-◌, ◌<◌, ◌≤◌}
 use Rattle.std.proofs.Common.{Bool, true, false, cond, eqb, ◌||◌, List, [], ◌∷◌, ◌++◌, length, take}
 use Rattle.std.proofs.Common.{get_or, set, map, inl, inr, eq-eqb}
-use Rattle.std.proofs.Common.{if◌then◌else◌}
+use Rattle.std.proofs.Common.{count_by, if◌then◌else◌}
 use Rattle.std.proofs.lemmas.List.{same_lists, get_or-set_same, get_or-set_other, length-set}
 use Rattle.std.proofs.lemmas.List.{get_or-map, length-map, take_more}
 use Rattle.std.proofs.lemmas.List.{length-take}
@@ -11,10 +11,10 @@ use Rattle.std.proofs.lemmas.List.FromFn.{get_or-map-range_with_len, length-rang
 use Rattle.std.proofs.lemmas.Bool.{cases_eq, ne_eqb}
 use Rattle.std.specs.List.{range_with_len}
 use Rattle.vb_model.specs.declared.places.Place.{Place}
-use Rattle.vb_model.specs.Tests.{is_in, pages_from, pages_where}
+use Rattle.vb_model.specs.Tests.{is_in, one_if, pages_from, pages_where}
 use Rattle.vb_model.specs.Pages.{placed, all_free}
 use Rattle.vb_driver.specs.Places.{marked, first_place}
-use Rattle.vb_model.proofs.Tables.{length-each_from, each_page-get}
+use Rattle.vb_model.proofs.Tables.{count_by-cons, length-each_from, each_page-get}
 
 -- ---- some pages of a table have one value
 
@@ -186,17 +186,6 @@ changed_all old now f i c all =
     let inside : k < length old = omega (arith, c.same) in
     c.put k d (omega arith) inside ∙ sym (get_or-map f old k d d inside))
 
-pub filled_all : (old now : List Place) (i : ℕ) → Changing old now (λ k place. first_place k) i
-    → length old ≤ i → now ≡ all_free (length old)
-filled_all old now i c all =
-    let n : ℕ = length old in
-    same_lists now (all_free n)
-    (c.same ∙ sym (length-map (range_with_len 0 n) first_place ∙ length-range_with_len 0 n))
-    (λ k d near.
-    let inside : k < n = omega (arith, c.same) in
-    c.put k d (omega arith) inside
-    ∙ sym (get_or-map-range_with_len first_place 0 n k k d inside (omega arith)))
-
 -- ---- the pages that pass a test
 
 pub pages_from-append : {A : Type 0} (first : ℕ) (test : A → Bool) (xs ys : List A)
@@ -229,6 +218,19 @@ pages_more test xs i d lt =
     ∙ (pages_from-append 0 test (take i xs) (get_or xs i d ∷ [])
     ∙ ap (λ n. pages_where test (take i xs) ++ cond (test (get_or xs i d)) (n ∷ []) [])
     (omega (arith, length-take i xs)))
+
+-- there is none where their count is 0
+pub none_where : {A : Type 0} (test : A → Bool) (first : ℕ) (xs : List A) → count_by test xs ≡ 0
+    → pages_from first test xs ≡ []
+none_where test first [] e = refl
+none_where test first (x ∷ xs) e =
+    at (test x) (omega (arith, count_by-cons test x xs, e)) (λ none. none_where test (suc first) xs none)
+  where
+    at : (b : Bool) → one_if b + count_by test xs ≡ 0
+        → (count_by test xs ≡ 0 → pages_from (suc first) test xs ≡ [])
+        → cond b (first ∷ pages_from (suc first) test xs) (pages_from (suc first) test xs) ≡ []
+    at true none ih = absurd (omega (arith, none))
+    at false none ih = ih (omega (arith, none))
 
 -- an entry is among the entries
 pub is_in-at : (xs : List ℕ) (i : ℕ) → i < length xs → is_in (get_or xs i 0) xs ≡ true

@@ -1,18 +1,19 @@
 -- Tables of places, as the pages of a run move that are all at one place.
 use Rattle.std.proofs.Common.{◌≡◌, ◌∙◌, sym, ap, arith, refl, ℕ, zero, suc, ◌+◌, ◌-◌, ◌<◌, ◌≤◌}
-use Rattle.std.proofs.Common.{Bool, true, false, cond, eqb, ◌||◌, List, length, get_or, set, map}
-use Rattle.std.proofs.Common.{count_by, eq-eqb}
-use Rattle.std.proofs.Common.{inl, inr}
-use Rattle.std.proofs.lemmas.Bool.{cases_eq, ne_eqb}
-use Rattle.std.proofs.lemmas.List.{get_or_default, length-set}
+use Rattle.std.proofs.Common.{Bool, true, false, cond, ◌||◌, List, length, get_or, set, map}
+use Rattle.std.proofs.Common.{count_by, eq-eqb, eqb, if◌then◌else◌, inl, inr, min}
+use Rattle.std.proofs.lemmas.Bool.{cases_eq, cases_lt, le-ltb, lt-ltb, ne_eqb}
+use Rattle.std.proofs.lemmas.List.{get_or_default, length-map, length-set, same_lists}
+use Rattle.std.proofs.lemmas.List.FromFn.{get_or-map-range_with_len, length-range_with_len}
 use Rattle.std.proofs.Math.Seq.{map-set_same}
 use Rattle.std.specs.List.{range_with_len}
 use Rattle.vb_model.specs.declared.places.Place.{Place}
 use Rattle.vb_model.specs.declared.places.Place.TheVariants.{Reserved, Free, Used, Giving, Lent}
 use Rattle.vb_model.specs.declared.places.Place.TheVariants.{Taking, Stranded, Reporting}
+use Rattle.vb_model.specs.Limits.{reserved_pages}
 use Rattle.vb_model.specs.Tests.{is_in}
-use Rattle.vb_model.specs.Pages.{placed, place_of, is_lent, is_stranded}
-use Rattle.vb_driver.specs.Places.{number_of, is_at, IsTable}
+use Rattle.vb_model.specs.Pages.{all_free, placed, place_of, is_lent, is_stranded}
+use Rattle.vb_driver.specs.Places.{number_of, is_at, first_place, IsTable}
 use Rattle.vb_driver.proofs.Counting.{hits, hits_other, count_moves, counts_shifted, number_small}
 use Rattle.vb_driver.proofs.Placing.{length-marked, marked-get, marked_none, marked_more, range_push}
 
@@ -183,3 +184,64 @@ run_table counts lent stranded places start n o k new old table are was is unlen
       };
       small = omega (arith, table.small, length-marked (range_with_len start n) new places);
     }
+
+-- ---- a table as the guest is plugged in
+
+below_run : (start n page : ℕ) → page < start → is_in page (range_with_len start n) ≡ false
+below_run start zero page lt = refl
+below_run start (suc n) page lt =
+    ap (λ (b : Bool). b || is_in page (range_with_len (start + 1) n))
+    (ne_eqb start page (λ e. omega arith))
+    ∙ below_run (start + 1) n page (omega arith)
+
+in_run : (start n page : ℕ) → start ≤ page → page < start + n
+    → is_in page (range_with_len start n) ≡ true
+in_run start zero page from before = absurd (omega arith)
+in_run start (suc n) page from before = elim (cases_eq page start) [
+  | inl first ↦
+      ap (λ (b : Bool). b || is_in page (range_with_len (start + 1) n))
+      (eq-eqb start page (sym first))
+  | inr later ↦
+      ap (λ (b : Bool). b || is_in page (range_with_len (start + 1) n))
+      (ne_eqb start page (λ e. later (sym e)))
+      ∙ in_run (start + 1) n page (omega (arith, later)) (omega arith)
+]
+
+-- the first pages reserved and the others free
+pub first_table : (places : List Place) (reserved : ℕ) → reserved ≡ min reserved_pages (length places)
+    → placed (range_with_len reserved (length places - reserved)) Free
+    (placed (range_with_len 0 reserved) Reserved places) ≡ all_free (length places)
+first_table places reserved is =
+    let n : ℕ = length places in
+    let low = placed (range_with_len 0 reserved) Reserved places in
+    let all = placed (range_with_len reserved (n - reserved)) Free low in
+    let n1 : length low ≡ n = length-marked (range_with_len 0 reserved) Reserved places in
+    let n2 : length all ≡ length low =
+    length-marked (range_with_len reserved (n - reserved)) Free low in
+    same_lists all (all_free n)
+    (omega (arith, length-map (range_with_len 0 n) first_place, length-range_with_len 0 n))
+    (λ k d near.
+    let inside : k < n = omega arith in
+    marked-get (range_with_len reserved (n - reserved)) Free low k d (omega arith)
+    ∙ (at k d inside ∙ sym (get_or-map-range_with_len first_place 0 n k k d inside (omega arith))))
+  where
+    at : (k : ℕ) (d : Place) → k < length places
+        → cond (is_in k (range_with_len reserved (length places - reserved))) Free
+        (get_or (placed (range_with_len 0 reserved) Reserved places) k d) ≡ first_place k
+    at k d inside = elim (cases_lt k reserved) [
+      | inl low ↦
+          ap (λ (b : Bool). cond b Free
+          (get_or (placed (range_with_len 0 reserved) Reserved places) k d))
+          (below_run reserved (length places - reserved) k low)
+          ∙ (marked-get (range_with_len 0 reserved) Reserved places k d inside
+          ∙ (ap (λ (b : Bool). cond b Reserved (get_or places k d))
+          (in_run 0 reserved k (omega arith) (omega (arith, low)))
+          ∙ sym (ap (λ (b : Bool). if b then Reserved else Free)
+          (lt-ltb k 16 (omega (arith, low, is))))))
+      | inr high ↦
+          ap (λ (b : Bool). cond b Free
+          (get_or (placed (range_with_len 0 reserved) Reserved places) k d))
+          (in_run reserved (length places - reserved) k high (omega (arith, high, is)))
+          ∙ sym (ap (λ (b : Bool). if b then Reserved else Free)
+          (le-ltb k 16 (omega (arith, high, is, inside))))
+    ]

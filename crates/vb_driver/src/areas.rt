@@ -263,6 +263,9 @@ impl Areas {
           free = areas_with (pages_where is_reporting places.now) self.old.free;
         } }
     {
+        if places.count(Place::Reporting) == 0 {
+            return;
+        }
         for page in 0..places.pages() {
             self.give_if_reported(page, places.place(page));
         }

@@ -15,7 +15,7 @@ ghost use Rattle.vb_model.specs.Life.{place_after_reset};
 ghost use Rattle.vb_driver.specs.Answers.{block_at};
 ghost use Rattle.vb_report.specs.Blocks.{blocks_of};
 ghost use Rattle.vb_driver.specs.State.{IsAreaBlock};
-ghost use Rattle.vb_driver.specs.Places.{number_of, is_at, first_place, AreLentBits};
+ghost use Rattle.vb_driver.specs.Places.{number_of, is_at, AreLentBits};
 
 use crate::queue::RequestPages;
 use arrayvec::ArrayVec;
@@ -250,9 +250,10 @@ impl PlaceTable {
     pub(crate) fn renew(&mut self)
         ensures { self.new ≡ all_free (length self.old) }
     {
-        for page in 0..self.pages() {
-            self.set(page, first_place(page));
-        }
+        let pages = self.pages();
+        let reserved = RESERVED_PAGES.min(pages);
+        self.set_range(0, reserved, Place::Reserved);
+        self.set_range(reserved, pages, Place::Free);
     }
 
     /// Moves these pages to a place.
@@ -288,6 +289,18 @@ impl PlaceTable {
         next
     }
 
+    /// Moves the pages from `start` on and before `end` to a place.
+    fn set_range(&mut self, start: u32, end: u32, place: Place)
+        requires order { start ≤ end }
+        requires inside { end ≤ length self.old }
+        ensures { self.new ≡ placed (range_with_len start (end - start)) place self.old }
+    {
+        let mut page = start;
+        while page < end {
+            page = self.move_run(page, end, place);
+        }
+    }
+
     /// Moves the pages of a block to a place.
     pub(crate) fn set_block(&mut self, start: u32, order: u32, place: Place)
         requires order { order ≤ max_order }
@@ -296,11 +309,7 @@ impl PlaceTable {
     {
         // What holds of each table, as how many pages it has, is known from here on.
         let _places = &self.places;
-        let end = start + size_of(order);
-        let mut page = start;
-        while page < end {
-            page = self.move_run(page, end, place);
-        }
+        self.set_range(start, start + size_of(order), place);
     }
 
     /// Moves the pages of these blocks to a place.
@@ -362,17 +371,6 @@ impl PlaceTable {
         ensures { result ≡ count_by (is_at place) self.now }
     {
         self.counts[number_of(place)]
-    }
-}
-
-/// The place that a page has where the guest is plugged in.
-fn first_place(page: u32) -> Place
-    ensures { result ≡ first_place page }
-{
-    if page < RESERVED_PAGES {
-        Place::Reserved
-    } else {
-        Place::Free
     }
 }
 

@@ -10,8 +10,28 @@ use Rattle.vb_pages.proofs.ListsLemmas.{with_none, with_append_turned}
 use Rattle.vb_driver.specs.Areas.{flags_of, is_free_at, is_covered, areas_with}
 use Rattle.vb_driver.specs.Places.{marked}
 use Rattle.vb_driver.proofs.Placing.{length-marked, marked-get, marked_none, marked_append}
-use Rattle.vb_driver.proofs.Placing.{pages_more, not_in_first}
+use Rattle.vb_driver.proofs.Placing.{pages_more, not_in_first, none_where}
 use Rattle.vb_driver.proofs.areas.Areas.give_reported.Goals as goal
+
+pub returns-then-count-eq0-clause-state : goal.returns-then-count-eq0-clause-state
+returns-then-count-eq0-clause-state c =
+    let free = flags_of c.args.self.now.free in
+    let none : pages_where is_reporting c.args.places.now ≡ [] =
+    none_where is_reporting 0 c.args.places.now (sym c.count.ensures ∙ c.if-count-eq0.true) in
+    record {
+      free = sym (ap (λ (l : List ℕ). marked l true free) none ∙ marked_none true free);
+      held = refl;
+      processors = refl;
+    }
+
+pub returns-then-count-eq0-clause-areas : goal.returns-then-count-eq0-clause-areas
+returns-then-count-eq0-clause-areas c =
+    let old = c.args.self.now in
+    let none : pages_where is_reporting c.args.places.now ≡ [] =
+    none_where is_reporting 0 c.args.places.now (sym c.count.ensures ∙ c.if-count-eq0.true) in
+    sym (ap (λ (l : List ℕ). record old { free = areas_with l old.free }) none
+    ∙ ap (λ (set : List Bool). record old { free = record old.free { areas = set } })
+    (with_none old.free.areas))
 
 pub loop-page-init : goal.loop-page-init
 loop-page-init c =

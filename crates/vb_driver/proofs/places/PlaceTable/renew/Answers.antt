@@ -1,19 +1,31 @@
-use Rattle.std.proofs.Common.{◌<◌, ◌+◌, sym, subst, arith, List, length}
+use Rattle.std.proofs.Common.{◌≡◌, ◌∙◌, ◌-◌, ap, arith, min, ℕ, List, length}
+use Rattle.std.specs.List.{range_with_len}
 use Rattle.vb_model.specs.declared.places.Place.{Place}
-use Rattle.vb_driver.specs.Places.{first_place}
-use Rattle.vb_driver.proofs.Placing.{Changing, changing_more, filled_all}
+use Rattle.vb_model.specs.declared.places.Place.TheVariants.{Reserved, Free}
+use Rattle.vb_model.specs.Pages.{placed}
+use Rattle.vb_driver.proofs.Placing.{length-marked}
+use Rattle.vb_driver.proofs.Runs.{first_table}
 use Rattle.vb_driver.proofs.places.PlaceTable.renew.Goals as goal
 
-pub loop-page-preserved : goal.loop-page-preserved
-loop-page-preserved c =
-    let old = c.args.self.now in
-    let i = c.loop-page.page in
-    let inside : i < length old = omega (arith, c.loop-page-test.true, c.pages-page-end.ensures) in
-    subst (λ (l : List Place). Changing old l (λ k place. first_place k) (i + 1)) (sym c.set.ensures)
-    (changing_more old c.loop-page.self (λ k place. first_place k) i c.first_place.result
-    c.loop-page.invariant inside (λ d. c.first_place.ensures))
+pub set_range-requires-2-clause-inside : goal.set_range-requires-2-clause-inside
+set_range-requires-2-clause-inside c =
+    let r = c.min-reserved.result in
+    omega (
+      arith,
+      c.pages-pages.ensures,
+      ap (λ (l : List Place). length l) c.set_range.ensures,
+      length-marked (range_with_len 0 (r - 0)) Reserved c.args.self.now,
+    )
 
 pub returns : goal.returns
 returns c =
-    filled_all c.args.self.now c.loop-page.self c.loop-page.page c.loop-page.invariant
-    (omega (arith, c.loop-page-test.false, c.pages-page-end.ensures))
+    let r = c.min-reserved.result in
+    let places = c.args.self.now in
+    let all : c.pages-pages.result ≡ length places = c.pages-pages.ensures in
+    let low : r - 0 ≡ r = omega arith in
+    c.set_range-2.ensures
+    ∙ (ap (λ (l : List Place). placed (range_with_len r (c.pages-pages.result - r)) Free l)
+    (c.set_range.ensures ∙ ap (λ (n : ℕ). placed (range_with_len 0 n) Reserved places) low)
+    ∙ (ap (λ (n : ℕ). placed (range_with_len r (n - r)) Free
+    (placed (range_with_len 0 r) Reserved places)) all
+    ∙ first_table places r (c.min-reserved.ensures ∙ ap (λ (n : ℕ). min 16 n) all)))

@@ -1,7 +1,7 @@
 use Rattle.std.proofs.Common.{◌≡◌, ◌-◌, ◌≤◌}
 use Rattle.std.specs.List.{range_with_len}
 use Rattle.vb_model.specs.Pages.{placed}
-use Rattle.vb_driver.proofs.places.PlaceTable.set_block.Given as goal
+use Rattle.vb_driver.proofs.places.PlaceTable.set_range.Given as goal
 
 abbrev pub invariant-loop-page : goal.invariant-loop-page
 invariant-loop-page l = (l.start ≤ l.page) × (l.page ≤ l.end)
