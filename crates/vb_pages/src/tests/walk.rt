@@ -1,5 +1,6 @@
 //! Pseudo-random calls against a plain model of sets and lists, and many calls in a row.
 
+ghost use Rattle.std.specs.Prelude.{◌≤◌};
 ghost use Rattle.vb_pages.specs.PageState.{IsGuestSize};
 
 use crate::{PageFault, Pages};
@@ -7,6 +8,7 @@ use arrayvec::ArrayVec;
 use rand_core::Rng;
 use rand_pcg::Pcg32;
 use std::alloc::{AllocError, Global};
+use std::collections::BTreeSet;
 use std::test::Fail;
 
 /// A number below this one, or 0.
@@ -14,90 +16,93 @@ fn below(numbers: &mut Pcg32, end: u32) -> u32 {
     numbers.next_u32().checked_rem(end).unwrap_or(0)
 }
 
-/// The pages in the areas, the lists of two processors, oldest first, and the held blocks, each by
-/// its start and order.
-#[derive(Drop)]
-struct Plain {
-    areas: Vec<bool>,
-    lists: [ArrayVec<u32, 16>; 2],
-    held: ArrayVec<(u32, u32), 256>,
-}
-
 /// How many pages a block has, by its order.
-static SIZES: [u32; 11] = [1, 2, 4, 8, 16, 32, 64, 128, 256, 512, 1024];
+static SIZES: [u32; 10] = [1, 2, 4, 8, 16, 32, 64, 128, 256, 512];
 
 fn size(order: u32) -> u32 {
     SIZES.get(order as usize).copied().unwrap_or(0)
 }
 
-/// Puts a block into the areas or takes it out.
-fn set(areas: &mut [bool], start: u32, order: u32, is_free: bool) {
-    for page in start..start.saturating_add(size(order)) {
-        if let Some(there) = areas.get_mut(page as usize) {
-            *there = is_free;
-        }
-    }
-}
-
-/// Puts the oldest pages of a list into the areas.
-fn give_back(areas: &mut [bool], list: &mut ArrayVec<u32, 16>, count: u32) {
-    for _page in 0..count {
-        if let Some(page) = list.pop_at(0) {
-            set(areas, page, 0, true);
-        }
-    }
+/// A plain allocator: the blocks of the areas, each by its order and its start, the lists of the
+/// processors, oldest first, and the held blocks, each by its start and order.
+#[derive(Drop)]
+struct Plain {
+    processors: u32,
+    areas: BTreeSet<(u32, u32)>,
+    lists: [ArrayVec<u32, 16>; 4],
+    held: ArrayVec<(u32, u32), 256>,
+    /// How many pages the areas have.
+    count: u32,
 }
 
 impl Plain {
-    fn new(alloc: Global, pages: u32) -> Result<Plain, AllocError> {
-        let mut areas = vec![in alloc; true; pages as usize]?;
-        set(&mut areas, 0, 4, false);
-        Ok(Plain {
-            areas,
-            lists: [ArrayVec::new(), ArrayVec::new()],
+    /// A guest of so many pages, of which the first 16 are reserved.
+    fn new(alloc: Global, pages: u32, processors: u32) -> Plain {
+        let mut plain = Plain {
+            processors,
+            areas: BTreeSet::new(alloc),
+            lists: [
+                ArrayVec::new(),
+                ArrayVec::new(),
+                ArrayVec::new(),
+                ArrayVec::new(),
+            ],
             held: ArrayVec::new(),
-        })
-    }
-
-    fn is_free(&self, start: u32, order: u32) -> bool {
-        for page in start..start.saturating_add(size(order)) {
-            if !matches!(self.areas.get(page as usize), Some(true)) {
-                return false;
-            }
+            count: 0,
+        };
+        for page in 16..pages {
+            plain.give(page, 0);
         }
-        true
+        plain
     }
 
-    fn is_maximal(&self, start: u32, order: u32) -> bool {
-        let wider = order.saturating_add(1);
-        let around = start.saturating_sub(start.checked_rem(size(wider)).unwrap_or(0));
-        self.is_free(start, order) && !(order < 9 && self.is_free(around, wider))
+    fn put(&mut self, start: u32, order: u32) {
+        let _ = self.areas.insert((order, start));
     }
 
-    /// The lowest maximal block of an order.
-    fn lowest(&self, order: u32) -> Option<u32> {
-        let pages = u32::try_from(self.areas.len()).unwrap_or(0);
-        for start in 0..pages {
-            if start.checked_rem(size(order)) == Some(0) && self.is_maximal(start, order) {
-                return Some(start);
+    /// Puts a block into the areas, which is joined with its other half as long as that is there.
+    fn give(&mut self, start: u32, order: u32) {
+        self.count = self.count.saturating_add(size(order));
+        let mut start = start;
+        for half in order..9 {
+            let other = start ^ size(half);
+            if !self.areas.remove(&(half, other)) {
+                self.put(start, half);
+                return;
             }
+            start = start.min(other);
         }
-        None
+        self.put(start, 9);
     }
 
+    /// The block of the smallest order that is wide enough, and of these the one that begins lowest.
+    fn first(&self, order: u32) -> Option<(u32, u32)> {
+        self.areas.range((order, 0)..).next().copied()
+    }
+
+    /// Takes a block from the areas; of one that is wider the upper halves stay.
     fn take(&mut self, order: u32) -> Option<u32> {
-        for wide in order..10 {
-            if let Some(start) = self.lowest(wide) {
-                set(&mut self.areas, start, order, false);
-                return Some(start);
+        let (wide, start) = self.first(order)?;
+        self.areas.remove(&(wide, start));
+        for half in order..wide {
+            self.put(start.saturating_add(size(half)), half);
+        }
+        self.count = self.count.saturating_sub(size(order));
+        Some(start)
+    }
+
+    /// Puts the oldest pages of a list into the areas.
+    fn give_back(&mut self, cpu: usize, count: u32) {
+        for _page in 0..count {
+            if let Some(page) = self.lists.get_mut(cpu).and_then(|list| list.pop_at(0)) {
+                self.give(page, 0);
             }
         }
-        None
     }
 
     fn drain(&mut self) {
-        for list in self.lists.iter_mut() {
-            give_back(&mut self.areas, list, 16);
+        for cpu in 0..4 {
+            self.give_back(cpu, 16);
         }
     }
 
@@ -142,7 +147,7 @@ impl Plain {
         if order > 9 {
             return Err(PageFault::BadOrder);
         }
-        if cpu > 1 {
+        if cpu >= self.processors {
             return Err(PageFault::BadCpu);
         }
         let mut start = self.take_once(cpu, order);
@@ -161,14 +166,14 @@ impl Plain {
         if order > 9 {
             return Err(PageFault::BadOrder);
         }
-        if cpu > 1 {
+        if cpu >= self.processors {
             return Err(PageFault::BadCpu);
         }
         let place = self.held.iter().position(|block| *block == (start, order));
         let place = place.ok_or(PageFault::NotHeld)?;
         self.held.swap_pop(place);
         if order > 0 {
-            set(&mut self.areas, start, order, true);
+            self.give(start, order);
         } else {
             self.push(cpu, start);
             self.spill(cpu);
@@ -178,26 +183,40 @@ impl Plain {
 
     /// Of sixteen pages in a list, those that were put in first go back.
     fn spill(&mut self, cpu: u32) {
-        if let Some(list) = self.lists.get_mut(cpu as usize) {
-            if list.is_full() {
-                give_back(&mut self.areas, list, 8);
-            }
+        if self
+            .lists
+            .get(cpu as usize)
+            .is_some_and(|list| list.is_full())
+        {
+            self.give_back(cpu as usize, 8);
         }
     }
 
-    fn free_count(&self) -> usize {
-        let mut count = 0usize;
-        for is_free in &self.areas {
-            count = count.saturating_add(usize::from(*is_free));
-        }
+    fn free_count(&self) -> u32 {
+        let mut count = self.count;
         for list in &self.lists {
-            count = count.saturating_add(list.len());
+            count = count.saturating_add(u32::try_from(list.len()).unwrap_or(0));
         }
         count
     }
+
+    /// Whether bit b of word w is 1 exactly where a block of the order begins at (64 w + b) 2^order.
+    fn are_bits(&self, order: u32, words: &[u64]) -> bool {
+        let mut start: u32 = 0;
+        for word in words {
+            for bit in 0..64u32 {
+                let is_there = self.areas.contains(&(order, start));
+                if (*word >> bit) % 2 != u64::from(is_there) {
+                    return false;
+                }
+                start = start.saturating_add(size(order));
+            }
+        }
+        true
+    }
 }
 
-/// The allocator beside the plain model, and what chooses the calls.
+/// The allocator beside the plain one, and what chooses the calls.
 #[derive(Drop)]
 struct Pair {
     pages: Pages,
@@ -206,20 +225,21 @@ struct Pair {
 }
 
 impl Pair {
-    /// A guest of so many pages and of two processors.
-    fn new(alloc: Global, size: u32, seed: u64) -> Result<Pair, AllocError>
-        requires { IsGuestSize size 2 }
+    /// A guest of so many pages and processors.
+    fn new(alloc: Global, pages: u32, processors: u32, seed: u64) -> Result<Pair, AllocError>
+        requires { IsGuestSize pages processors }
     {
         Ok(Pair {
-            pages: Pages::new(alloc, size, 2)?,
-            plain: Plain::new(alloc, size)?,
+            pages: Pages::new(alloc, pages, processors)?,
+            plain: Plain::new(alloc, pages, processors),
             numbers: Pcg32::new(seed, 0),
         })
     }
 
-    /// One pseudo-random call, on both; whether they answer alike.
+    /// One pseudo-random call, on both, of a processor or of one that isn't there; whether they answer
+    /// alike.
     fn call(&mut self) -> bool {
-        let cpu = below(&mut self.numbers, 3);
+        let cpu = below(&mut self.numbers, self.plain.processors.saturating_add(1));
         if below(&mut self.numbers, 5) < 3 {
             let order = below(&mut self.numbers, 4).saturating_mul(below(&mut self.numbers, 4));
             return self.pages.alloc(cpu, order) == self.plain.alloc(cpu, order);
@@ -235,11 +255,26 @@ impl Pair {
         self.pages.free(cpu, start, order) == self.plain.free(cpu, start, order)
     }
 
-    /// The first of so many calls that isn't answered alike, or after which the free pages aren't
-    /// as many.
+    /// Whether both have the same blocks of each order.
+    fn are_blocks(&self) -> bool {
+        for order in 0..10 {
+            if !self.plain.are_bits(order, self.pages.bits(order)) {
+                return false;
+            }
+        }
+        true
+    }
+
+    /// Whether both have the same free pages: their count, and now and then their blocks.
+    fn are_alike(&self, number: u32) -> bool {
+        self.pages.free_count() == self.plain.free_count()
+            && (number % 5_000 != 0 || self.are_blocks())
+    }
+
+    /// The first of so many calls that isn't answered alike, or after which the free pages differ.
     fn first_apart(&mut self, calls: u32) -> Option<u32> {
         for number in 0..calls {
-            if !self.call() || self.pages.free_count() as usize != self.plain.free_count() {
+            if !self.call() || !self.are_alike(number) {
                 return Some(number);
             }
         }
@@ -247,32 +282,39 @@ impl Pair {
     }
 }
 
-/// The first of so many calls on a new guest that tells the two apart.
-fn first_apart(alloc: Global, size: u32, seed: u64, calls: u32) -> Result<Option<u32>, AllocError>
-    requires { IsGuestSize size 2 }
+/// The first of 100,000 calls on a new guest that tells the two apart.
+fn first_apart(
+    alloc: Global,
+    pages: u32,
+    processors: u32,
+    seed: u64,
+) -> Result<Option<u32>, AllocError>
+    requires { IsGuestSize pages processors }
 {
-    let mut pair = Pair::new(alloc, size, seed)?;
-    Ok(pair.first_apart(calls))
+    let mut pair = Pair::new(alloc, pages, processors, seed)?;
+    Ok(pair.first_apart(100_000))
 }
 
-/// 20,000 calls of two processors and one that isn't there, on 64 pages.
+/// Calls on the smallest guest, of one processor and of four.
 #[test]
-fn calls_agree_with_a_plain_model(rt: HostRuntime) -> Result<(), Fail> {
-    assert_eq!(rt; first_apart(rt.alloc(), 64, 1, 20_000)?, None);
+fn calls_agree_with_a_plain_allocator(rt: HostRuntime) -> Result<(), Fail> {
+    assert_eq!(rt; first_apart(rt.alloc(), 64, 1, 1)?, None);
+    assert_eq!(rt; first_apart(rt.alloc(), 64, 4, 2)?, None);
     Ok(())
 }
 
 /// The same on pages that are no power of two.
 #[test]
 fn calls_agree_on_an_odd_guest(rt: HostRuntime) -> Result<(), Fail> {
-    assert_eq!(rt; first_apart(rt.alloc(), 1_000, 3, 2_000)?, None);
+    assert_eq!(rt; first_apart(rt.alloc(), 1_000, 3, 3)?, None);
     Ok(())
 }
 
-/// The same on the largest guest, a few calls.
+/// The same on the largest guest.
 #[test]
 fn calls_agree_on_the_largest_guest(rt: HostRuntime) -> Result<(), Fail> {
-    assert_eq!(rt; first_apart(rt.alloc(), 16_384, 2, 200)?, None);
+    assert_eq!(rt; first_apart(rt.alloc(), 16_384, 1, 4)?, None);
+    assert_eq!(rt; first_apart(rt.alloc(), 16_384, 4, 5)?, None);
     Ok(())
 }
 
