@@ -7,13 +7,12 @@ use Rattle.std.proofs.lemmas.List.{same_lists, get_or-set_same, get_or-set_other
 use Rattle.std.proofs.lemmas.List.{get_or-map, length-map, take_more}
 use Rattle.std.proofs.lemmas.List.{length-take}
 use Rattle.std.proofs.lemmas.List.Folds.{list_any-append, list_any_at}
-use Rattle.std.proofs.lemmas.List.FromFn.{get_or-map-range_with_len, length-range_with_len}
 use Rattle.std.proofs.lemmas.Bool.{cases_eq, ne_eqb}
 use Rattle.std.specs.List.{range_with_len}
 use Rattle.vb_model.specs.declared.places.Place.{Place}
 use Rattle.vb_model.specs.Tests.{is_in, one_if, pages_from, pages_where}
-use Rattle.vb_model.specs.Pages.{placed, all_free}
-use Rattle.vb_driver.specs.Places.{marked, first_place}
+use Rattle.vb_model.specs.Pages.{placed}
+use Rattle.vb_driver.specs.Places.{marked}
 use Rattle.vb_model.proofs.Tables.{count_by-cons, length-each_from, each_page-get}
 
 -- ---- some pages of a table have one value
