@@ -45,7 +45,7 @@ use vb_model::layout::{
 };
 use vb_model::{Refusal, limits};
 use vb_ram::{Config, Frame, GuestBytes, Ram, RamFault, SupplyRefused};
-use vb_request::PageRun;
+use vb_request::NamedRun;
 use vb_status::{Features, Port, Status, StatusFault, negotiate, write_status};
 
 /// A device but for the set of its ballooned pages.
@@ -146,7 +146,7 @@ fn discard_all(ram: &mut Ram, loose: &mut Vec<Frame>, request: &TakenRequest)
         frames_behind ram.old (each_once request.now.pages) }
     ensures capacity { vec_capacity loose.new ≡ vec_capacity loose.old }
 {
-    let mut run = PageRun::NONE;
+    let mut run = NamedRun::NONE;
     for k in 0..request.count() {
         discard_page(ram, loose, request.page_in(k, &mut run));
     }

@@ -13,7 +13,7 @@ use std::marker::Model;
 use vb_chain::{ChainFault, Piece};
 use vb_model::layout::{REPORT_QUEUE, STATISTICS_QUEUE};
 use vb_ram::GuestBytes;
-use vb_request::{NamedPages, PageRun, read_report, read_request, read_statistics};
+use vb_request::{NamedPages, NamedRun, read_report, read_request, read_statistics};
 
 /// A chain that was taken and isn't used yet.
 #[derive(Drop)]
@@ -81,7 +81,7 @@ impl TakenRequest {
 
     /// The same, where `run` is one of its runs: looked up anew, and kept there, where page `k` isn't
     /// one of them.
-    pub(crate) fn page_in(&self, k: u32, run: &mut PageRun) -> u32
+    pub(crate) fn page_in(&self, k: u32, run: &mut NamedRun) -> u32
         requires some { k < length self.now.pages }
         requires run { IsRun self.now.pages run.old }
         ensures page { slice_get self.now.pages k ≡ Some result }

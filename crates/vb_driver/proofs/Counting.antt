@@ -41,10 +41,6 @@ numbered Taking = refl
 numbered Stranded = refl
 numbered Reporting = refl
 
-pub number_is : (place other : Place) → number_of place ≡ number_of other → place ≡ other
-number_is place other e =
-    sym (numbered place) ∙ (ap (λ (n : ℕ). get_or by_number n Reserved) e ∙ numbered other)
-
 abbrev same : Bool → Bool → Bool
 same a b = cond a b (not b)
 
@@ -76,7 +72,9 @@ at_number place other =
 
 pub at_is : (place other : Place) → is_at place other ≡ true → other ≡ place
 at_is place other here =
-    number_is other place (eqb-true (number_of other) (number_of place) (at_number place other ∙ here))
+    let equal : number_of other ≡ number_of place =
+    eqb-true (number_of other) (number_of place) (at_number place other ∙ here) in
+    sym (numbered other) ∙ (ap (λ (n : ℕ). get_or by_number n Reserved) equal ∙ numbered place)
 
 -- ---- counts
 

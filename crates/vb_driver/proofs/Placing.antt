@@ -154,16 +154,16 @@ placed_further start page next place ps from further =
     (ap (λ (n : ℕ). range_with_len start (page - start) ++ range_with_len n (next - page)) (sym here)
     ∙ (range_append start (page - start) (next - page) ∙ ap (range_with_len start) all))
 
--- ---- each page to a place of its own
+-- ---- each page to a place that its own decides
 
 -- the first i entries have changed
-pub record Changing (old now : List Place) (f : ℕ → Place → Place) (i : ℕ) : Type 0 where
+pub record Changing (old now : List Place) (f : Place → Place) (i : ℕ) : Type 0 where
   pub same : length now ≡ length old
-  pub put : (k : ℕ) (d : Place) → k < i → k < length old → get_or now k d ≡ f k (get_or old k d)
+  pub put : (k : ℕ) (d : Place) → k < i → k < length old → get_or now k d ≡ f (get_or old k d)
   pub rest : (k : ℕ) (d : Place) → i ≤ k → get_or now k d ≡ get_or old k d
 
-pub changing_more : (old now : List Place) (f : ℕ → Place → Place) (i : ℕ) (y : Place)
-    → Changing old now f i → i < length old → ((d : Place) → y ≡ f i (get_or old i d))
+pub changing_more : (old now : List Place) (f : Place → Place) (i : ℕ) (y : Place)
+    → Changing old now f i → i < length old → ((d : Place) → y ≡ f (get_or old i d))
     → Changing old (set now i y) f (i + 1)
 changing_more old now f i y c lt is =
     record {
@@ -172,13 +172,13 @@ changing_more old now f i y c lt is =
         | inl same ↦
             ap (λ n. get_or (set now i y) n d) same
             ∙ (get_or-set_same now i y d (omega (arith, c.same))
-            ∙ (is d ∙ sym (ap (λ n. f n (get_or old n d)) same)))
+            ∙ (is d ∙ sym (ap (λ n. f (get_or old n d)) same)))
         | inr ne ↦ get_or-set_other now i k y d ne ∙ c.put k d (omega (arith, ne)) inside
       ];
       rest = λ k d far. get_or-set_other now i k y d (omega arith) ∙ c.rest k d (omega arith);
     }
 
-pub changed_all : (old now : List Place) (f : Place → Place) (i : ℕ) → Changing old now (λ k. f) i
+pub changed_all : (old now : List Place) (f : Place → Place) (i : ℕ) → Changing old now f i
     → length old ≤ i → now ≡ map f old
 changed_all old now f i c all =
     same_lists now (map f old) (c.same ∙ sym (length-map old f)) (λ k d near.

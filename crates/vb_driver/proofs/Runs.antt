@@ -1,8 +1,9 @@
 -- Tables of places, as the pages of a run move that are all at one place.
 use Rattle.std.proofs.Common.{◌≡◌, ◌∙◌, sym, ap, arith, refl, ℕ, zero, suc, ◌+◌, ◌-◌, ◌<◌, ◌≤◌}
-use Rattle.std.proofs.Common.{Bool, true, false, cond, ◌||◌, List, length, get_or, set, map}
+use Rattle.std.proofs.Common.{Bool, true, false, cond, List, length, get_or, set, map}
 use Rattle.std.proofs.Common.{count_by, eq-eqb, eqb, if◌then◌else◌, inl, inr, min}
-use Rattle.std.proofs.lemmas.Bool.{cases_eq, cases_lt, le-ltb, lt-ltb, ne_eqb}
+use Rattle.std.proofs.lemmas.Bool.{cases_Bool, cases_eq, cases_lt, false_from_ne_true, le-ltb}
+use Rattle.std.proofs.lemmas.Bool.{lt-ltb}
 use Rattle.std.proofs.lemmas.List.{get_or_default, length-map, length-set, same_lists}
 use Rattle.std.proofs.lemmas.List.FromFn.{get_or-map-range_with_len, length-range_with_len}
 use Rattle.std.proofs.Math.Seq.{map-set_same}
@@ -13,6 +14,7 @@ use Rattle.vb_model.specs.declared.places.Place.TheVariants.{Taking, Stranded, R
 use Rattle.vb_model.specs.Limits.{reserved_pages}
 use Rattle.vb_model.specs.Tests.{is_in}
 use Rattle.vb_model.specs.Pages.{all_free, placed, place_of, is_lent, is_stranded}
+use Rattle.vb_model.proofs.PageSteps.{is_in-range, outside-range}
 use Rattle.vb_driver.specs.Places.{number_of, is_at, first_place, IsTable}
 use Rattle.vb_driver.proofs.Counting.{hits, hits_other, count_moves, counts_shifted, number_small}
 use Rattle.vb_driver.proofs.Placing.{length-marked, marked-get, marked_none, marked_more, range_push}
@@ -29,12 +31,19 @@ fewer places start n place are = record {
   each = λ page from before. are.each page from (omega arith);
 }
 
-not_in_run : (start n page : ℕ) → start + n ≤ page → is_in page (range_with_len start n) ≡ false
-not_in_run start zero page le = refl
-not_in_run start (suc n) page le =
-    ap (λ (b : Bool). b || is_in page (range_with_len (start + 1) n))
-    (ne_eqb start page (λ e. omega arith))
-    ∙ not_in_run (start + 1) n page (omega arith)
+-- the pages of a run, and the others
+pub in_range : (page start len : ℕ) → start ≤ page → page < start + len
+    → is_in page (range_with_len start len) ≡ true
+in_range page start len from before = elim (cases_Bool (is_in page (range_with_len start len))) [
+  | inl there ↦ there
+  | inr away ↦ absurd (outside-range page start len away from before)
+]
+
+not_in_range : (page start len : ℕ) → (start ≤ page → page < start + len → ⊥)
+    → is_in page (range_with_len start len) ≡ false
+not_in_range page start len away =
+    false_from_ne_true (is_in page (range_with_len start len))
+    (λ there. let bounds = is_in-range page start len there in away bounds.0 bounds.1)
 
 -- the pages of a run, the first of which is where it was found
 pub run_is : (places : List Place) (start next : ℕ) (old : Place) → start < next
@@ -67,7 +76,7 @@ next_at : (places : List Place) (start n : ℕ) (new old d : Place)
 next_at places start n new old d are =
     marked-get (range_with_len start n) new places (start + n) d (omega (arith, are.inside))
     ∙ (ap (λ (b : Bool). cond b new (get_or places (start + n) d))
-    (not_in_run start n (start + n) (omega arith))
+    (not_in_range (start + n) start n (λ from before. omega (arith, before)))
     ∙ (get_or_default places (start + n) d Reserved (omega (arith, are.inside))
     ∙ are.each (start + n) (omega arith) (omega arith)))
 
@@ -155,11 +164,6 @@ run_unset test places start (suc n) new old are is was =
 
 -- ---- tables
 
-pub neither : (a b : Bool) → (a || b) ≡ false → (a ≡ false) × (b ≡ false)
-neither true b e = cc
-neither false true e = cc
-neither false false e = (refl, refl)
-
 -- the table after a run moved between places that no set has
 pub run_table : (counts : List ℕ) (lent stranded : List Bool) (places : List Place)
     (start n o k : ℕ) (new old : Place) → IsTable counts lent stranded places
@@ -187,26 +191,6 @@ run_table counts lent stranded places start n o k new old table are was is unlen
 
 -- ---- a table as the guest is plugged in
 
-below_run : (start n page : ℕ) → page < start → is_in page (range_with_len start n) ≡ false
-below_run start zero page lt = refl
-below_run start (suc n) page lt =
-    ap (λ (b : Bool). b || is_in page (range_with_len (start + 1) n))
-    (ne_eqb start page (λ e. omega arith))
-    ∙ below_run (start + 1) n page (omega arith)
-
-in_run : (start n page : ℕ) → start ≤ page → page < start + n
-    → is_in page (range_with_len start n) ≡ true
-in_run start zero page from before = absurd (omega arith)
-in_run start (suc n) page from before = elim (cases_eq page start) [
-  | inl first ↦
-      ap (λ (b : Bool). b || is_in page (range_with_len (start + 1) n))
-      (eq-eqb start page (sym first))
-  | inr later ↦
-      ap (λ (b : Bool). b || is_in page (range_with_len (start + 1) n))
-      (ne_eqb start page (λ e. later (sym e)))
-      ∙ in_run (start + 1) n page (omega (arith, later)) (omega arith)
-]
-
 -- the first pages reserved and the others free
 pub first_table : (places : List Place) (reserved : ℕ) → reserved ≡ min reserved_pages (length places)
     → placed (range_with_len reserved (length places - reserved)) Free
@@ -232,16 +216,17 @@ first_table places reserved is =
       | inl low ↦
           ap (λ (b : Bool). cond b Free
           (get_or (placed (range_with_len 0 reserved) Reserved places) k d))
-          (below_run reserved (length places - reserved) k low)
+          (not_in_range k reserved (length places - reserved)
+          (λ from before. omega (arith, low, from)))
           ∙ (marked-get (range_with_len 0 reserved) Reserved places k d inside
           ∙ (ap (λ (b : Bool). cond b Reserved (get_or places k d))
-          (in_run 0 reserved k (omega arith) (omega (arith, low)))
+          (in_range k 0 reserved (omega arith) (omega (arith, low)))
           ∙ sym (ap (λ (b : Bool). if b then Reserved else Free)
           (lt-ltb k 16 (omega (arith, low, is))))))
       | inr high ↦
           ap (λ (b : Bool). cond b Free
           (get_or (placed (range_with_len 0 reserved) Reserved places) k d))
-          (in_run reserved (length places - reserved) k high (omega (arith, high, is)))
+          (in_range k reserved (length places - reserved) high (omega (arith, high, is)))
           ∙ sym (ap (λ (b : Bool). if b then Reserved else Free)
           (le-ltb k 16 (omega (arith, high, is, inside))))
     ]

@@ -1,9 +1,9 @@
 -- The blocks of a report, and the pages in them.
 use Rattle.std.specs.Prelude.{◌≡◌, ℕ, ◌+◌, ◌-◌, ◌<◌, ◌≤◌, ◌==◌, ◌||◌, Bool, true, false, List, []}
 use Rattle.std.specs.Prelude.{◌∷◌, ◌++◌, All, length, filter, nat_le, ◌&&◌, slice_index_or}
-use Rattle.std.specs.Prelude.{refl, ◌⊎◌}
+use Rattle.std.specs.Prelude.{refl}
 use Rattle.std.specs.List.{flat_map, range_with_len}
-use Rattle.std.proofs.Common.{◌∙◌, ap, arith, inl, inr}
+use Rattle.std.proofs.Common.{◌∙◌, ap, arith}
 use Rattle.std.proofs.lemmas.List.{length-take}
 use Rattle.std.proofs.lemmas.List.Elements.{All-nil, All-cons, All-append, All-tail, All-take}
 use Rattle.std.proofs.lemmas.List.Elements.{All-filter}
@@ -21,7 +21,7 @@ use Rattle.vb_model.specs.Guest.{Guest}
 use Rattle.vb_model.specs.Refusals.{reported_blocks, room}
 use Rattle.vb_model.specs.Orderly.{IsOrderly, is_reserved}
 use Rattle.vb_model.proofs.CallSteps.{reported_pages}
-use Rattle.vb_model.proofs.PageSteps.{outside-range}
+use Rattle.vb_driver.proofs.Runs.{in_range}
 use Rattle.vb_guest.specs.Reported.{IsOwnBlock}
 use Rattle.vb_guest.proofs.Offered.{high_page}
 
@@ -60,17 +60,6 @@ own_pages n (b ∷ bs) own =
     )
 
 -- ---- the blocks that a guest reports
-
-either : (b : Bool) → (b ≡ true) ⊎ (b ≡ false)
-either true = inl refl
-either false = inr refl
-
-in_range : (page start len : ℕ) → start ≤ page → page < start + len
-    → is_in page (range_with_len start len) ≡ true
-in_range page start len from below = elim (either (is_in page (range_with_len start len))) [
-  | inl e ↦ e
-  | inr e ↦ absurd (outside-range page start len e from below)
-]
 
 in_front : (page : ℕ) (xs ys : List ℕ) → is_in page xs ≡ true → is_in page (xs ++ ys) ≡ true
 in_front page [] ys e = absurd cc

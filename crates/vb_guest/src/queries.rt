@@ -146,8 +146,6 @@ fn ballooned_runs<D: Device>(alloc: Global, device: &D, count: u32) -> Result<Pa
 
 /// Which pages are at a place, as runs by rising page. Want of memory is the only refusal.
 pub fn pages_at(alloc: Global, driver: &Driver, place: Place) -> Result<PageRuns, AllocError>
-    requires { (keeps : Bool) × (mem : Pages) × (part : Part) × (g : Guest)
-        × Stands keeps mem part driver.now g }
     ensures { (keeps : Bool) (mem : Pages) (part : Part) (g : Guest)
         → Stands keeps mem part driver.now g
         → Answers (Query.PagesAt place) g (runs_reply result) }

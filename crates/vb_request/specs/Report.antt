@@ -10,7 +10,7 @@ use Rattle.vb_chain.specs.declared.pieces.Piece.{Piece}
 use Rattle.vb_chain.specs.declared.fault.ChainFault.{ChainFault}
 use Rattle.vb_chain.specs.declared.fault.ChainFault.TheVariants.{WrongDirection, BadLength, BadPage}
 use Rattle.vb_chain.specs.declared.fault.ChainFault.TheVariants.{ReservedPage}
-use Rattle.vb_request.specs.declared.named.PageRun.{PageRun}
+use Rattle.vb_request.specs.declared.named.NamedRun.{NamedRun}
 use Rattle.vb_request.specs.Request.{first_of_both, unless_fault}
 
 -- The pages of a piece of whole pages, rising.
@@ -45,12 +45,12 @@ report_request pieces =
     else unless_fault (first_piece_fault pieces) (pages_of_pieces pieces))
 
 -- These pages have the run's numbers from its place on.
-pub record IsRun (pages : List ℕ) (run : PageRun) : Type 0 where
+pub record IsRun (pages : List ℕ) (run : NamedRun) : Type 0 where
   pub at : (i : ℕ) → i < run.count → slice_get pages (run.at + i) ≡ Some (run.first + i)
   pub below : run.first + run.count ≤ 2 ^ 32
 
 -- A run that begins with the page of number `k`; none where there are no more than `k` pages.
-abbrev pub RunsFrom : List ℕ → ℕ → Option PageRun → Type 0
+abbrev pub RunsFrom : List ℕ → ℕ → Option NamedRun → Type 0
 RunsFrom pages k result =
     MatchOption result (length pages ≤ k) (λ run.
     (run.at ≡ k) × (0 < run.count) × IsRun pages run)

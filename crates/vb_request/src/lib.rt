@@ -20,7 +20,7 @@ pub use laws::{
     a_report_names_pages_of_the_guest, a_request_names_pages_of_the_guest,
     a_written_request_is_read,
 };
-pub use named::{NamedPages, PageRun};
+pub use named::{NamedPages, NamedRun};
 pub use report::read_report;
 pub use request::read_request;
 pub use statistics::{Statistics, read_statistics};

@@ -24,7 +24,7 @@ pub(crate) type ReportPieces = ArrayVec<Piece, MAX_PIECES>;
 
 /// Some of the pages that a chain names, whose numbers rise by one.
 #[derive(Clone, Copy)]
-pub struct PageRun {
+pub struct NamedRun {
     /// How many pages the chain names before them.
     pub at: u32,
     /// The first of them.
@@ -33,9 +33,9 @@ pub struct PageRun {
     pub count: u32,
 }
 
-impl PageRun {
+impl NamedRun {
     /// A run of no pages.
-    pub const NONE: PageRun = PageRun {
+    pub const NONE: NamedRun = NamedRun {
         at: 0,
         first: 0,
         count: 0,
@@ -43,13 +43,13 @@ impl PageRun {
 }
 
 /// The run of the one page of this number among pages that are listed.
-fn listed_run(listed: &[u32], k: u32) -> Option<PageRun>
+fn listed_run(listed: &[u32], k: u32) -> Option<NamedRun>
     ensures { RunsFrom listed.now k result }
 {
     if k as usize >= listed.len() {
         return None;
     }
-    Some(PageRun {
+    Some(NamedRun {
         at: k,
         first: listed[k as usize],
         count: 1,
@@ -141,8 +141,8 @@ impl NamedPages {
     }
 
     /// A run that begins with the page of this number, from 0; none where there are no more than
-    /// that.
-    pub fn run(&self, k: u32) -> Option<PageRun>
+    /// that. How many pages it has behind that one is left open.
+    pub fn run(&self, k: u32) -> Option<NamedRun>
         ensures { RunsFrom self.now k result }
     {
         match &self.kept {

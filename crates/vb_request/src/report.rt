@@ -10,7 +10,7 @@ ghost use Rattle.vb_request.specs.Report.{pages_of_pieces, has_bad_length, piece
 ghost use Rattle.vb_request.specs.Report.{first_piece_fault, report_request};
 
 use crate::NamedPages;
-use crate::named::{MAX_PIECES, PageRun, ReportPieces};
+use crate::named::{MAX_PIECES, NamedRun, ReportPieces};
 use arrayvec::ArrayVec;
 use vb_chain::{ChainFault, Piece};
 use vb_model::limits::{PAGE_SIZE, RESERVED_PAGES};
@@ -33,7 +33,7 @@ pub(crate) fn count_pages(pieces: &[Piece]) -> u32
 
 /// A run of the pages of all pieces, which begins with page number `k`, from 0; none where they have
 /// no more than `k`.
-pub(crate) fn run_at(pieces: &[Piece], k: u32) -> Option<PageRun>
+pub(crate) fn run_at(pieces: &[Piece], k: u32) -> Option<NamedRun>
     requires { All (λ piece. piece.addr + piece.len ≤ page_size * 2 ^ 32) pieces.now }
     ensures { RunsFrom (pages_of_pieces pieces.now) k result }
 {
@@ -41,7 +41,7 @@ pub(crate) fn run_at(pieces: &[Piece], k: u32) -> Option<PageRun>
     for piece in pieces {
         let count = piece.len / PAGE_SIZE;
         if rest < count {
-            return Some(PageRun {
+            return Some(NamedRun {
                 at: k,
                 first: (piece.addr / PAGE_BYTES) as u32 + rest,
                 count: count - rest,

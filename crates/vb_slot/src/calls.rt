@@ -393,7 +393,6 @@ impl Slot {
 
     /// Which pages are at a place, as runs by rising page. Want of memory is the only refusal.
     pub fn pages_at(&self, alloc: Global, place: Place) -> Result<PageRuns, AllocError>
-        requires { (keeps : Bool) × (g : Guest) × stands_for keeps mem part self.now g }
         ensures answer { (keeps : Bool) (g : Guest) → stands_for keeps mem part self.now g
             → Answers (Query.PagesAt place) g (runs_reply result) }
     {

@@ -1,12 +1,13 @@
 use Rattle.std.proofs.Common.{◌≡◌, ◌∙◌, ◌+◌, ◌-◌, ◌++◌, sym, ap, subst, arith, ℕ, List, length, take, drop}
 use Rattle.std.proofs.Common.{set, count_by, get_or}
+use Rattle.std.proofs.lemmas.Bool.{or_parts}
 use Rattle.std.proofs.Math.Seq.{take-append_seam}
 use Rattle.std.specs.List.{range_with_len}
 use Rattle.vb_model.specs.declared.places.Place.{Place}
 use Rattle.vb_model.specs.Pages.{placed, place_of, is_lent, is_stranded}
 use Rattle.vb_driver.specs.Places.{is_at, IsTable}
 use Rattle.vb_driver.proofs.Placing.{marked_one, length-marked}
-use Rattle.vb_driver.proofs.Runs.{AreAt, run_is, run_some, run_table, neither}
+use Rattle.vb_driver.proofs.Runs.{AreAt, run_is, run_some, run_table}
 use Rattle.vb_driver.proofs.places.PlaceTable.move_run.Goals as goal
 
 pub returns-then-is_in_set-clause-moved : goal.returns-then-is_in_set-clause-moved
@@ -49,8 +50,8 @@ invariant_of-self c =
     c.index-old.ensures
     (λ page from before. ap (λ (l : List Place). place_of l page) (sym c.deref.ensures.value)
     ∙ c.end_of_run-next.ensures.same page from before) in
-    let from = neither (is_lent old) (is_stranded old) (sym c.if-is_in_set.ensures) in
-    let to = neither (is_lent new) (is_stranded new) (sym c.if-is_in_set-2.ensures) in
+    let from = or_parts (is_lent old) (is_stranded old) (sym c.if-is_in_set.ensures) in
+    let to = or_parts (is_lent new) (is_stranded new) (sym c.if-is_in_set-2.ensures) in
     let after : List Place = placed (range_with_len start n) new places in
     let put : c.put_all.new.places ≡ after =
     c.put_all.ensures

@@ -12,9 +12,9 @@ loop-page-preserved c =
     let i = c.loop-page.page in
     let size : length c.self.inside.places.items ≡ length old = ap length c.self.view_is in
     let inside : i < length old = omega (arith, c.loop-page-test.true, c.len-pages.ensures) in
-    let P : List Place → Type 0 = λ l. Changing old l (λ k. place_after_reset) (i + 1) in
+    let P : List Place → Type 0 = λ l. Changing old l place_after_reset (i + 1) in
     subst P (sym c.set.ensures)
-    (changing_more old c.loop-page.self (λ k. place_after_reset) i c.after_reset.result
+    (changing_more old c.loop-page.self place_after_reset i c.after_reset.result
     c.loop-page.invariant inside
     (λ d. c.after_reset.ensures
     ∙ ap place_after_reset

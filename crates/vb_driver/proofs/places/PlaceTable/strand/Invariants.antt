@@ -3,4 +3,4 @@ use Rattle.vb_driver.proofs.Placing.{Changing}
 use Rattle.vb_driver.proofs.places.PlaceTable.strand.Given as goal
 
 abbrev pub invariant-loop-page : goal.invariant-loop-page
-invariant-loop-page l = Changing l.initial.self l.self (λ k. place_after_reset) l.page
+invariant-loop-page l = Changing l.initial.self l.self place_after_reset l.page
