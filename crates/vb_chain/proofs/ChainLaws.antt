@@ -11,7 +11,7 @@ use Rattle.std.proofs.lemmas.Bool.{lt-ltb, le-ltb, ltb-true}
 use Rattle.std.proofs.lemmas.Grind.{common_steps}
 use Rattle.vb_chain.specs.Written.{link_to, linked, empty, IsRoute, AreSound}
 use Rattle.vb_chain.specs.Rules.{flag, has_next, is_writable, piece_of, first_fault}
-use Rattle.vb_chain.specs.Chain.{fault_at, IsChain, ChainGives}
+use Rattle.vb_chain.specs.Chain.{fault_at, ChainGives}
 
 -- one descriptor with no NEXT, on which no rule is broken, is a chain
 pub single_chain : (d : ℕ → Descriptor) (q end head : ℕ) (x : Descriptor) → head < q → d head ≡ x
@@ -148,34 +148,6 @@ same_any p s [] h = refl
 same_any p s (x ∷ xs) h =
     ap (λ b. b || list_any p xs) (h 0 (omega arith))
     ∙ ap (λ b. s x || b) (same_any p s xs (λ k lt. h (suc k) (omega arith)))
-
--- a chain stays a chain where its own descriptors stay
-pub chain_kept : (d e : ℕ → Descriptor) (q end head : ℕ) (path : List ℕ)
-    → ((k : ℕ) → k < length path → e (slice_index path k) ≡ d (slice_index path k))
-    → IsChain d q end head path → IsChain e q end head path
-chain_kept d e q end head path same c = record {
-  inside = c.inside;
-  is_path = record {
-    some = c.is_path.some;
-    begins = c.is_path.begins;
-    onward = λ k h. ap has_next (same k (omega arith)) ∙ c.is_path.onward k h;
-    linked = λ k h. ap (λ y. y.next) (same k (omega arith)) ∙ c.is_path.linked k h;
-  };
-  short = c.short;
-  sound = λ k h.
-      let cut : length (take k path) ≡ k = length-take-le k path (omega arith) in
-      let front : list_any (λ i. is_writable (e i)) (take k path)
-      ≡ list_any (λ i. is_writable (d i)) (take k path) =
-      same_any (λ i. is_writable (e i)) (λ i. is_writable (d i)) (take k path) (λ j lt.
-      let below : j < k = omega (arith, cut) in
-      ap (λ n. is_writable (e n)) (get_or-take k path j 0 below)
-      ∙ ap is_writable (same j (omega arith))
-      ∙ ap (λ n. is_writable (d n)) (sym (get_or-take k path j 0 below))) in
-      ap (λ b. first_fault q end b k (e (slice_index path k))) front
-      ∙ ap (first_fault q end (list_any (λ i. is_writable (d i)) (take k path)) k) (same k h)
-      ∙ c.sound k h;
-  ends = λ k h. ap has_next (same k (omega arith)) ∙ c.ends k h;
-}
 
 -- a chain has a piece, and no more pieces than the table has descriptors
 pub chain_size : (d : ℕ → Descriptor) (q end head : ℕ) (pieces : List Piece)

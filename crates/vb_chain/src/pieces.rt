@@ -10,7 +10,7 @@ use vb_model::limits;
 pub const MAX_DESCRIPTORS: usize = limits::MAX_QUEUE_SIZE as usize;
 
 /// A part of guest memory that a descriptor gives to the device.
-#[derive(Clone, Copy, Debug, Default, PartialEq, Eq)]
+#[derive(Clone, Copy, Debug, PartialEq, Eq)]
 pub struct Piece {
     /// Where it begins in guest memory, in bytes.
     pub addr: u64,
@@ -47,12 +47,6 @@ impl Model for Chain {
     ghost view = { λ c. take c.len c.pieces };
 
     ghost invariant = { λ c. c.len ≤ MAX_DESCRIPTORS };
-}
-
-impl Default for Chain {
-    fn default() -> Chain {
-        Chain::new()
-    }
 }
 
 impl Chain {

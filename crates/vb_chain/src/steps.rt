@@ -1,7 +1,7 @@
 //! The walk along a chain.
 
-ghost use Rattle.std.specs.Prelude.{◌≡◌, ◌+◌, ◌*◌, ◌<◌, ◌≤◌, IfOk, IfErr, IsOk, IsOkAnd, OnOk, OnErr};
-ghost use Rattle.std.specs.Prelude.{List, [], length};
+ghost use Rattle.std.specs.Prelude.{◌≡◌, ◌+◌, ◌*◌, ◌<◌, ◌≤◌, IfOk, IfErr, IsOk, IsOkAnd};
+ghost use Rattle.std.specs.Prelude.{OnOk, OnErr, List, [], length};
 ghost use Rattle.vb_ram.specs.Pages.{end_of};
 ghost use Rattle.vb_chain.specs.declared.pieces.TheConstants.{MAX_DESCRIPTORS};
 ghost use Rattle.vb_chain.specs.Table.{descriptor_at};

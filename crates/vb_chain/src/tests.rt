@@ -183,6 +183,28 @@ static WRITTEN_CHAIN: [(Step, Answer); 4] = [
     ),
 ];
 
+/// Pieces that differ in one field.
+#[test]
+fn pieces_that_differ_are_told_apart(rt: HostRuntime) {
+    let piece = BUFFER;
+    assert!(rt;
+        piece == BUFFER
+            && piece
+                != Piece {
+                    addr: 0x5000,
+                    ..BUFFER
+                }
+    );
+    assert!(rt;
+        piece != Piece { len: 8, ..BUFFER }
+            && piece
+                != Piece {
+                    writable: true,
+                    ..BUFFER
+                }
+    );
+}
+
 #[test]
 fn a_written_chain_has_its_bytes(rt: HostRuntime) -> Result<(), Fail> {
     expect(&rt, rt.alloc(), &WRITTEN_CHAIN)
@@ -307,9 +329,14 @@ static FAULT_NUMBERS: [(ChainFault, u8); 10] = [
     (ChainFault::ReservedPage, 10),
 ];
 
+/// Each has its number, and the first one equals itself alone.
 #[test]
 fn faults_have_their_numbers(rt: HostRuntime) {
     for (fault, number) in &FAULT_NUMBERS {
         assert!(rt; *fault as u8 == *number, "{number}");
+        assert!(rt;
+            (*fault == ChainFault::BadHead) == (*number == 1),
+            "{number}"
+        );
     }
 }

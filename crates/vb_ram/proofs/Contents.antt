@@ -9,7 +9,7 @@ use Rattle.std.proofs.lemmas.List.{get_or-drop, get_or_append_left, get_or-appen
 use Rattle.vb_model.specs.Guest.{zero_page}
 use Rattle.vb_model.specs.Driver.{overwritten}
 use Rattle.vb_ram.specs.Pages.{Page, Pages, byte_of, contents_of, number_of, page_at, frame_at}
-use Rattle.vb_ram.specs.Pages.{contents_at, byte_at, IsWhole, SameBut, SameIn, Wrote, Supplied}
+use Rattle.vb_ram.specs.Pages.{contents_at, byte_at, IsWhole, SameBut, Wrote, Supplied}
 use Rattle.vb_ram.specs.Pages.{Discarded}
 
 -- so many zeros, at any offset
@@ -63,15 +63,6 @@ pub same_contents : (a b : Pages) (p : ℕ) → length (contents_at a p) ≡ len
 same_contents a b p len same =
     ext_get_or 0 (contents_at a p) (contents_at b p) len
     (λ o h. sym (byte_at-contents a p o) ∙ same o ∙ byte_at-contents b p o)
-
--- where a whole page's bytes are as before, so is their list
-pub contents_same : (old new : Pages) (p : ℕ) → IsWhole old → IsWhole new → SameIn old new p 0 4096
-    → contents_at new p ≡ contents_at old p
-contents_same old new p whole_old whole_new same =
-    ext_get_or 0 (contents_at new p) (contents_at old p)
-    (whole_new.sizes p ∙ sym (whole_old.sizes p)) (λ o h.
-    sym (byte_at-contents new p o) ∙ same.bytes o (omega arith) (omega (arith, whole_new.sizes p))
-    ∙ byte_at-contents old p o)
 
 -- a write leaves the bytes before, its own, and the bytes behind
 pub contents_wrote : (old new : Pages) (p off : ℕ) (bs : List ℕ) → Wrote old new p off bs
@@ -155,7 +146,3 @@ whole_discarded old new p whole d = record {
     | inr ne ↦ ap (λ page. length (contents_of page)) (d.others q ne) ∙ whole.sizes q
   ];
 }
-
--- a page that lost its frame, and any page that has none, reads as zeros
-pub contents_bare : (mem : Pages) (p : ℕ) → page_at mem p ≡ None → contents_at mem p ≡ zero_page
-contents_bare mem p bare = ap contents_of bare

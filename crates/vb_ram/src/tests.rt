@@ -229,12 +229,31 @@ fn numbers_stand_lowest_byte_first(rt: HostRuntime) -> Result<(), Fail> {
     expect(&rt, rt.alloc(), &NUMBERS)
 }
 
+static FAULT_NUMBERS: [(RamFault, u8); 4] = [
+    (RamFault::OutOfRam, 1),
+    (RamFault::NeedsFrame, 2),
+    (RamFault::AlreadyBacked, 3),
+    (RamFault::Memory, 4),
+];
+
+/// Each has its number, and the first one equals itself alone.
 #[test]
 fn faults_have_their_numbers(rt: HostRuntime) {
-    assert!(rt; RamFault::OutOfRam as u8 == 1);
-    assert!(rt; RamFault::NeedsFrame as u8 == 2);
-    assert!(rt; RamFault::AlreadyBacked as u8 == 3);
-    assert!(rt; RamFault::Memory as u8 == 4);
+    for (fault, number) in &FAULT_NUMBERS {
+        assert!(rt; *fault as u8 == *number, "{number}");
+        assert!(rt;
+            (*fault == RamFault::OutOfRam) == (*number == 1),
+            "{number}"
+        );
+    }
+}
+
+/// Of two guests that differ in one size.
+#[test]
+fn sizes_that_differ_are_told_apart(rt: HostRuntime) {
+    let guest = Config::new(64, 8, 1);
+    assert!(rt; guest == Config::new(64, 8, 1) && guest != Config::new(128, 8, 1));
+    assert!(rt; guest != Config::new(64, 16, 1) && guest != Config::new(64, 8, 2));
 }
 
 /// Pages, queue size and processors of guests, and whether there are such guests.
