@@ -1,12 +1,12 @@
 //! Claims one after the other, at a keeper that refuses and at a table.
 
-ghost use Rattle.std.specs.Prelude.{◌≡◌, ℕ, ◌+◌, ◌<◌, ◌≤◌, List, [], ◌∷◌, Bool, true, false, ◌≢◌};
+ghost use Rattle.std.specs.Prelude.{◌≡◌, ◌<◌, [], ◌∷◌, ◌≢◌};
 ghost use Rattle.std.specs.Prelude.{OnErr, IfOk};
-ghost use Rattle.vb_model.specs.declared.calls.Claim.{Claim};
 ghost use Rattle.vb_model.specs.declared.calls.Claim.TheVariants.{Gave};
 ghost use Rattle.vb_frames.specs.Out.{AllAnswered, after_claims};
 
 use crate::{FrameKeeper, FrameTable, Refused};
+use std::alloc::Global;
 use std::process::Abort;
 use std::test::Fail;
 use vb_ram::Frame;
@@ -110,8 +110,28 @@ fn two_claims_of_any_keeper_give_two_frames_or_none(rt: HostRuntime) -> Result<(
     Ok(())
 }
 
+/// How many frames hosts have: the ends of words, of their summary and of the limits.
+static SIZES: [u32; 12] = [
+    1, 2, 63, 64, 65, 4095, 4096, 4097, 65_471, 65_472, 65_535, 65_536,
+];
+
+/// A table of so many frames gives number 0 first, and has as many as it was made with.
+fn expect_table(rt: &impl Abort, alloc: Global, frames: u32) {
+    assert!(rt; 0 < frames && frames <= 65_536);
+    let mut table = FrameTable::new(alloc, frames).expect(rt, "no memory");
+    assert!(rt; table.frames() == frames && table.used() == 0);
+    return_the_next(rt, &mut table, 0);
+}
+
+#[test]
+fn tables_have_their_sizes(rt: HostRuntime) {
+    for frames in &SIZES {
+        expect_table(&rt, rt.alloc(), *frames);
+    }
+}
+
 #[test]
 fn numbers_its_refusals(rt: HostRuntime) {
-    assert_eq!(rt; Refused::NoFrame as u8, 1);
-    assert_eq!(rt; Refused::Memory as u8, 2);
+    assert!(rt; Refused::NoFrame as u8 == 1 && Refused::Memory as u8 == 2);
+    assert!(rt; Refused::NoFrame != Refused::Memory && Refused::Memory == Refused::Memory);
 }
