@@ -10,7 +10,7 @@ use vb_model::limits;
 pub const MAX_DESCRIPTORS: usize = limits::MAX_QUEUE_SIZE as usize;
 
 /// A part of guest memory that a descriptor gives to the device.
-#[derive(Clone, Copy, Debug, PartialEq, Eq)]
+#[derive(Clone, Copy, Debug, Default, PartialEq, Eq)]
 pub struct Piece {
     /// Where it begins in guest memory, in bytes.
     pub addr: u64,

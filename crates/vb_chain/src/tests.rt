@@ -183,28 +183,6 @@ static WRITTEN_CHAIN: [(Step, Answer); 4] = [
     ),
 ];
 
-/// Pieces that differ in one field.
-#[test]
-fn pieces_that_differ_are_told_apart(rt: HostRuntime) {
-    let piece = BUFFER;
-    assert!(rt;
-        piece == BUFFER
-            && piece
-                != Piece {
-                    addr: 0x5000,
-                    ..BUFFER
-                }
-    );
-    assert!(rt;
-        piece != Piece { len: 8, ..BUFFER }
-            && piece
-                != Piece {
-                    writable: true,
-                    ..BUFFER
-                }
-    );
-}
-
 #[test]
 fn a_written_chain_has_its_bytes(rt: HostRuntime) -> Result<(), Fail> {
     expect(&rt, rt.alloc(), &WRITTEN_CHAIN)
@@ -216,6 +194,44 @@ const BUFFER: Piece = Piece {
     len: 16,
     writable: false,
 };
+
+/// Pieces, and whether each is that buffer: the others differ from it in one field.
+static PIECES: [(Piece, bool); 4] = [
+    (BUFFER, true),
+    (
+        Piece {
+            addr: 0x5000,
+            len: 16,
+            writable: false,
+        },
+        false,
+    ),
+    (
+        Piece {
+            addr: 0x4000,
+            len: 8,
+            writable: false,
+        },
+        false,
+    ),
+    (
+        Piece {
+            addr: 0x4000,
+            len: 16,
+            writable: true,
+        },
+        false,
+    ),
+];
+
+#[test]
+fn pieces_that_differ_are_told_apart(rt: HostRuntime) {
+    for (at, (piece, same)) in PIECES.iter().enumerate() {
+        assert!(rt; (*piece == BUFFER) == *same, "{at}");
+    }
+    let none = Piece::default();
+    assert!(rt; none.addr == 0 && none.len == 0 && !none.writable);
+}
 
 static LONG_CHAINS: [(Step, Answer); 13] = [
     (Step::Put(0, 0x4000, 16, 1, 1), Answer::Done),

@@ -3,13 +3,12 @@ use Rattle.std.proofs.Common.{◌≡◌, ℕ, Bool, true, false, not, eqb, ◌&&
 use Rattle.std.proofs.Common.{refl, subst, IsTrue, ◌⊎◌, inl, inr}
 use Rattle.std.proofs.lemmas.Bool.{false≢true, eqb-true}
 use Rattle.vb_model.specs.Guest.{must_tell_host, version_1, offered_features}
-use Rattle.vb_model.specs.declared.replies.Refusal.{Refusal}
 use Rattle.vb_model.specs.declared.replies.Refusal.TheVariants.{ClearsBit, OutOfOrder}
 use Rattle.vb_model.specs.declared.replies.Refusal.TheVariants.{FeatureNotOffered, MustTellMissing}
 use Rattle.vb_model.specs.declared.replies.Refusal.TheVariants.{VersionMissing}
-use Rattle.vb_model.specs.Refusals.{Test, ◌⇒◌, first_refusal}
-use Rattle.vb_model.specs.Status.{contains, adds, is_out_of_order, needed_tests, status_tests}
-use Rattle.vb_model.specs.Status.{features_ok, negotiate_refusal, negotiate_tests}
+use Rattle.vb_model.specs.Refusals.{◌⇒◌, first_refusal}
+use Rattle.vb_model.specs.Status.{contains, adds, is_out_of_order, status_tests}
+use Rattle.vb_model.specs.Status.{features_ok}
 use Rattle.vb_status.specs.Agreement.{StatusRequest, Write, Negotiate, Agreement}
 use Rattle.vb_status.specs.Agreement.{refusal_of_request, after_request, Leads, unplugged}
 

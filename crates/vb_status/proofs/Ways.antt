@@ -3,7 +3,6 @@ use Rattle.std.proofs.Common.{◌≡◌, ◌≢◌, ℕ, zero, suc, ◌+◌, ◌
 use Rattle.std.proofs.Common.{◌||◌, List, [], ◌∷◌, None, cond, refl, sym, subst, ap, ◌∙◌, ◌⊎◌, inl}
 use Rattle.std.proofs.Common.{inr, below_more, arith}
 use Rattle.std.proofs.lemmas.Bool.{false≢true, eqb-true, eq-eqb}
-use Rattle.std.proofs.lemmas.Bool.Decides.{nat_tests}
 use Rattle.vb_model.specs.Refusals.{first_refusal}
 use Rattle.vb_model.specs.Status.{contains, is_out_of_order, status_tests}
 use Rattle.vb_status.specs.Agreement.{StatusRequest, Write, Negotiate, Agreement}

@@ -1,13 +1,11 @@
 -- What a driver and its device agree on, request by request, until the device is ready:
 -- VIRTIO 1.1, 3.1.1.
-use Rattle.std.specs.Prelude.{◌≡◌, ℕ, suc, ◌+◌, ◌^◌, ◌<◌, ◌==◌, not, List, [], ◌∷◌, Option, Some}
-use Rattle.std.specs.Prelude.{None, MatchOption, if◌then◌else◌, ◌≢◌}
-use Rattle.vb_model.specs.Guest.{offered_features, must_tell_host, version_1}
+use Rattle.std.specs.Prelude.{◌≡◌, ℕ, ◌^◌, ◌<◌, ◌==◌, List, [], ◌∷◌, Option, Some}
+use Rattle.std.specs.Prelude.{None, if◌then◌else◌, ◌≢◌}
+use Rattle.vb_model.specs.Guest.{offered_features}
 use Rattle.vb_model.specs.declared.replies.Refusal.{Refusal}
-use Rattle.vb_model.specs.declared.replies.Refusal.TheVariants.{FeatureNotOffered}
-use Rattle.vb_model.specs.Refusals.{◌⇒◌, first_refusal}
 use Rattle.vb_model.specs.Life.{feature_refusal}
-use Rattle.vb_model.specs.Status.{contains, needed_tests, features_ok, failed, status_refusal}
+use Rattle.vb_model.specs.Status.{contains, status_refusal}
 use Rattle.vb_model.specs.Status.{negotiate_refusal}
 
 pub data StatusRequest : Type 0 where

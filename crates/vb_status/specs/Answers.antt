@@ -5,18 +5,18 @@ use Rattle.vb_model.specs.declared.replies.Refusal.TheVariants.{ClearsBit, OutOf
 use Rattle.vb_model.specs.declared.replies.Refusal.TheVariants.{FeatureNotOffered, MustTellMissing}
 use Rattle.vb_model.specs.declared.replies.Refusal.TheVariants.{VersionMissing}
 use Rattle.vb_status.specs.declared.bits.StatusFault.{StatusFault}
-use Rattle.vb_status.specs.declared.bits.StatusFault.TheVariants.{ClearsBit as ClearsBitFault}
-use Rattle.vb_status.specs.declared.bits.StatusFault.TheVariants.{OutOfOrder as OutOfOrderFault}
-use Rattle.vb_status.specs.declared.bits.StatusFault.TheVariants.{FeatureNotOffered as FeatureNotOfferedFault}
-use Rattle.vb_status.specs.declared.bits.StatusFault.TheVariants.{MustTellMissing as MustTellMissingFault}
-use Rattle.vb_status.specs.declared.bits.StatusFault.TheVariants.{VersionMissing as VersionMissingFault}
+use Rattle.vb_status.specs.declared.bits.StatusFault.TheVariants.{ClearsBit as ClearsOne}
+use Rattle.vb_status.specs.declared.bits.StatusFault.TheVariants.{OutOfOrder as BreaksOrder}
+use Rattle.vb_status.specs.declared.bits.StatusFault.TheVariants.{FeatureNotOffered as OffersNot}
+use Rattle.vb_status.specs.declared.bits.StatusFault.TheVariants.{MustTellMissing as LacksMustTell}
+use Rattle.vb_status.specs.declared.bits.StatusFault.TheVariants.{VersionMissing as LacksVersion}
 
 abbrev pub refusal_of_fault : StatusFault → Refusal
-refusal_of_fault ClearsBitFault = ClearsBit
-refusal_of_fault OutOfOrderFault = OutOfOrder
-refusal_of_fault FeatureNotOfferedFault = FeatureNotOffered
-refusal_of_fault MustTellMissingFault = MustTellMissing
-refusal_of_fault VersionMissingFault = VersionMissing
+refusal_of_fault ClearsOne = ClearsBit
+refusal_of_fault BreaksOrder = OutOfOrder
+refusal_of_fault OffersNot = FeatureNotOffered
+refusal_of_fault LacksMustTell = MustTellMissing
+refusal_of_fault LacksVersion = VersionMissing
 
 -- why the call was refused, where it was
 abbrev pub answered_refusal : {T : Type 0} → Result T StatusFault → Option Refusal

@@ -1,6 +1,6 @@
 //! Which writes of the status and which features are accepted.
 
-ghost use Rattle.std.specs.Prelude.{◌≡◌, ◌==◌, IfOk};
+ghost use Rattle.std.specs.Prelude.{◌≡◌, IfOk};
 ghost use Rattle.vb_model.specs.Guest.{must_tell_host, version_1};
 ghost use Rattle.vb_model.specs.Refusals.{first_refusal};
 ghost use Rattle.vb_model.specs.Status.{status_refusal, negotiate_refusal, needed_tests, adds};

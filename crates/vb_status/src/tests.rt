@@ -73,13 +73,29 @@ fn negotiates_what_is_offered(rt: HostRuntime) {
     assert!(rt; Features::all() == Features::OFFERED);
 }
 
+static FAULT_NUMBERS: [(StatusFault, u8); 5] = [
+    (StatusFault::ClearsBit, 1),
+    (StatusFault::OutOfOrder, 2),
+    (StatusFault::FeatureNotOffered, 3),
+    (StatusFault::MustTellMissing, 4),
+    (StatusFault::VersionMissing, 5),
+];
+
+/// Each has its number, and the first one equals itself alone.
 #[test]
 fn numbers_its_faults(rt: HostRuntime) {
-    assert_eq!(rt; StatusFault::ClearsBit as u8, 1);
-    assert_eq!(rt; StatusFault::OutOfOrder as u8, 2);
-    assert_eq!(rt; StatusFault::FeatureNotOffered as u8, 3);
-    assert_eq!(rt; StatusFault::MustTellMissing as u8, 4);
-    assert_eq!(rt; StatusFault::VersionMissing as u8, 5);
+    for (fault, number) in &FAULT_NUMBERS {
+        assert!(rt; *fault as u8 == *number, "{number}");
+        assert!(rt;
+            (*fault == StatusFault::ClearsBit) == (*number == 1),
+            "{number}"
+        );
+    }
+}
+
+#[test]
+fn bits_that_differ_are_told_apart(rt: HostRuntime) {
+    assert!(rt; status(1) != status(3) && features(1) != features(ALL));
 }
 
 #[test]
