@@ -1,16 +1,13 @@
 -- What follows for whoever adds and takes chains.
-use Rattle.std.specs.Prelude.{◌≡◌, ◌≢◌, ◌⊎◌, ℕ, ◌<◌, ◌≤◌, Bool, true, false, List, [], ◌∷◌, Option}
+use Rattle.std.specs.Prelude.{◌≡◌, ℕ, ◌<◌, ◌≤◌, Bool, true, false, List, [], ◌∷◌, Option}
 use Rattle.std.specs.Prelude.{Some, None, Result, Ok, Err, if◌then◌else◌, length, slice_get}
-use Rattle.std.specs.Prelude.{slice_index, slice_index_or, slice_set, refl}
+use Rattle.std.specs.Prelude.{slice_index, slice_index_or, refl}
 use Rattle.std.proofs.Common.{sym, ◌∙◌, ap, subst, arith, inl, inr}
 use Rattle.std.proofs.lemmas.Bool.{cases_eq, cases_lt, lt-ltb, le-ltb}
-use Rattle.std.proofs.lemmas.List.{length-take, length-set, get_or-set_same, get_or-set_other}
-use Rattle.std.proofs.lemmas.List.{ext_get_or}
+use Rattle.std.proofs.lemmas.List.{length-take}
 use Rattle.std.proofs.lemmas.Option.{slice_get-get_or}
 use Rattle.std.specs.Prelude.{nat_lt}
 use Rattle.vb_ring.specs.declared.driver.Full.TheVariants.{TooFewFree}
-use Rattle.vb_model.specs.Tests.{is_in}
-use Rattle.vb_model.proofs.Tables.{length-each_from}
 use Rattle.vb_ram.specs.Pages.{Pages}
 use Rattle.vb_chain.specs.declared.pieces.Piece.{Piece}
 use Rattle.vb_chain.specs.Table.{descriptor_at}
@@ -22,8 +19,8 @@ use Rattle.vb_ring.specs.Entries.{is_head}
 use Rattle.vb_ring.proofs.Numbers.{numbers_pass, numbers_rise, numbers_has, length_all}
 use Rattle.vb_ring.proofs.Numbers.{length-numbers}
 use Rattle.vb_ring.specs.Ends.{DriverEnd, is_unused, free_descriptors, next_head, next_path}
-use Rattle.vb_ring.specs.Ends.{outstanding, claimed, AreSingle}
-use Rattle.vb_ring.proofs.OwnerLaws.{is_in-at, nowhere_in, claimed-at}
+use Rattle.vb_ring.specs.Ends.{outstanding, AreSingle}
+use Rattle.vb_ring.proofs.OwnerLaws.{nowhere_in}
 use Rattle.vb_ring.proofs.MeaningLaws.{next_path-free, next_path-rise}
 use Rattle.vb_ring.specs.Calls.{AddsBy}
 
@@ -117,29 +114,3 @@ next_low r h single next =
             found.2,
           ))
         ]
-
--- A chain of one descriptor claims that descriptor alone.
-pub claimed_single : (h : ℕ) (owner : List (Option ℕ)) → h < length owner
-    → claimed (h ∷ []) h owner ≡ slice_set owner h (Some h)
-claimed_single h owner lt =
-    ext_get_or None (claimed (h ∷ []) h owner) (slice_set owner h (Some h))
-    (length-each_from 0 (λ i old. if is_in i (h ∷ []) then Some h else old) owner
-    ∙ sym (length-set owner h (Some h))) (λ i l.
-    claimed-at (h ∷ []) h owner i
-    (λ k lt'. omega (arith, ap (slice_index (h ∷ [])) (zero_of k lt'))) ∙ at i (cases_eq i h))
-  where
-    zero_of : (k : ℕ) → k < 1 → k ≡ 0
-    zero_of k l = omega arith
-
-    at : (i : ℕ) → (i ≡ h) ⊎ (i ≢ h)
-        → (if is_in i (h ∷ []) then Some h else slice_index_or owner i None)
-        ≡ slice_index_or (slice_set owner h (Some h)) i None
-    at i (inl e) =
-        ap (λ (b : Bool). if b then Some h else slice_index_or owner i None)
-        (ap (λ n. is_in n (h ∷ [])) e ∙ is_in-at (h ∷ []) 0 (omega arith))
-        ∙ sym (ap (λ n. slice_index_or (slice_set owner h (Some h)) n None) e
-        ∙ get_or-set_same owner h (Some h) None lt)
-    at i (inr ne) =
-        ap (λ (b : Bool). if b then Some h else slice_index_or owner i None)
-        (nowhere_in (h ∷ []) i (λ k l e. ne (sym e ∙ ap (slice_index (h ∷ [])) (zero_of k l))))
-        ∙ sym (get_or-set_other owner h i (Some h) None ne)

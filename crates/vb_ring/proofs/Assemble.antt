@@ -3,7 +3,7 @@ use Rattle.std.specs.Prelude.{◌≡◌, ◌≢◌, ℕ, ◌+◌, ◌*◌, ◌%�
 use Rattle.std.specs.Prelude.{[], ◌∷◌, ◌++◌, Option, Some, None, Result, Ok, Err, if◌then◌else◌}
 use Rattle.std.specs.Prelude.{length, slice_get, slice_index, slice_index_or, refl}
 use Rattle.std.proofs.Common.{sym, ◌∙◌, ap, subst, arith, inl, inr}
-use Rattle.std.proofs.lemmas.Bool.{cases_eq, lt-ltb, le-ltb}
+use Rattle.std.proofs.lemmas.Bool.{cases_eq, le-ltb}
 use Rattle.std.proofs.lemmas.List.{length_push, length-map, get_or-map, length-take}
 use Rattle.std.proofs.lemmas.List.{get_or_past}
 use Rattle.vb_ring.proofs.Numbers.{length-numbers}
@@ -36,25 +36,8 @@ use Rattle.vb_ring.specs.Calls.{AddsUsedBy}
 
 -- ---- add
 
-answer_few : (a n h : ℕ) → a < n → (if nat_lt a n then Err TooFewFree else Ok h) ≡ Err TooFewFree
-answer_few a n h lt = ap (λ (b : Bool). if b then Err TooFewFree else Ok h) (lt-ltb a n lt)
-
 answer_enough : (a n h : ℕ) → n ≤ a → (if nat_lt a n then Err TooFewFree else Ok h) ≡ Ok h
 answer_enough a n h le = ap (λ (b : Bool). if b then Err TooFewFree else Ok h) (le-ltb a n le)
-
-pub adds_few : (mem : Pages) (r : DriverEnd) (pieces : List Piece) → IsDriverEnd r
-    → length (free_descriptors r) < length pieces → AddsBy mem mem r r pieces (Err TooFewFree)
-adds_few mem r pieces is_end few = record {
-  is_end = is_end;
-  value = sym (answer_few (length (free_descriptors r)) (length pieces)
-      (slice_index (next_path r (length pieces)) 0) few);
-  state = refl;
-  full = refl;
-  links = tt;
-  publishes = tt;
-  entries = tt;
-  shown = tt;
-}
 
 pub adds_ok : (old new : Pages) (r : DriverEnd) (pieces : List Piece) (h : ℕ) → IsDriverEnd r
     → 0 < length pieces → length pieces ≤ length (free_descriptors r)

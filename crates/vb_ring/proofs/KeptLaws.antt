@@ -13,7 +13,7 @@ use Rattle.vb_ring.specs.Ends.{claimed, released}
 use Rattle.vb_ring.specs.Kept.{LiesBetween, AreKept, IsFreeChain}
 use Rattle.vb_ring.proofs.Numbers.{numbers_none, numbers_has}
 use Rattle.vb_ring.proofs.OwnerLaws.{Claims, claims, Releases, releases, is_in-some, some_same}
-use Rattle.vb_ring.proofs.OwnerLaws.{none_some, own_some, head_inside, fresh_free}
+use Rattle.vb_ring.proofs.OwnerLaws.{none_some, head_inside, fresh_free}
 
 -- How many heads a table has, by its length.
 heads_of : (owner : List (Option ℕ)) (n m : ℕ) → n ≡ m
@@ -158,13 +158,6 @@ release_keeps owner count out last h kept is =
         | inr ne ↦ sym (release.same j ne) ∙ out
       ]);
     }
-
--- Where the descriptors of a chain that is out lie.
-pub release_between : (owner : List (Option ℕ)) (count out : ℕ) (last : List ℕ) (h : ℕ)
-    → AreKept owner count out last
-    → (i : ℕ) → is_own h (slice_index_or owner i None) ≡ true → (h ≤ i) × (i ≤ slice_index last h)
-release_between owner count out last h kept i own =
-    let old : LiesBetween owner last i h = kept.within i h (own_some h _ own) in (old.from, old.to)
 
 -- ---- where the table is the first part of a longer one
 

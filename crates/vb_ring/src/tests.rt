@@ -1,6 +1,7 @@
 //! What no clause says: the layout and the bytes as the standard has them, and rings of any bytes
 //! read a second time.
 
+mod order;
 mod random_rings;
 
 use crate::{DriverRing, Full, Layout, Queue, RingBroken, Taken};
@@ -242,6 +243,13 @@ fn layouts(rt: HostRuntime) {
         assert!(rt; offsets(*size) == Some((*avail, *used, *end)), "{size}");
     }
     assert!(rt; Layout::at(3, 8).used.page == 3);
+}
+
+#[test]
+fn rings_and_faults_that_differ_are_told_apart(rt: HostRuntime) {
+    assert!(rt; Layout::at(3, 8) != Layout::of(8) && Layout::at(0, 16) != Layout::of(8));
+    assert!(rt; Layout::at(0, 8) == Layout::of(8));
+    assert!(rt; RingBroken::IndexAhead != RingBroken::NotOutstanding);
 }
 
 /// Numbers of descriptors, whether a queue may have so many, and how many it has then.
