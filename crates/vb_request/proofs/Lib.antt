@@ -4,3 +4,4 @@ pub mod RequestPages
 pub mod OneRequest
 pub mod Reports
 pub mod LastStatistics
+mod NumberFacts
