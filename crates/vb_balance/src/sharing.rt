@@ -1,6 +1,6 @@
 //! Sharing out what is missing.
 
-ghost use Rattle.std.specs.Prelude.{◌≡◌, ℕ, ◌+◌, ◌<◌, ◌≤◌, List, Bool, true, false, length};
+ghost use Rattle.std.specs.Prelude.{◌≡◌, ℕ, ◌+◌, ◌<◌, ◌≤◌, List, true, false, length};
 ghost use Rattle.std.specs.Prelude.{replicate, nat_lt, MatchOption, MatchResult};
 ghost use Rattle.vb_model.specs.Balance.{Need, AreTargets, missing, shortage};
 ghost use Rattle.vb_balance.specs.Giving.{has_given, IsNext, HaveGiven};

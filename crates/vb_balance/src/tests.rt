@@ -1,87 +1,86 @@
 //! Worked numbers.
 
-use crate::{GuestNeed, targets};
-use std::process::Abort;
+use crate::{GuestNeed, Short, targets};
+use arrayvec::ArrayVec;
+
+/// The pages and spare pages of each guest.
+type Needs = &'static [(u32, u32)];
+
+/// What each guest is asked for, or what stays missing.
+type Answer = Result<&'static [u32], u64>;
 
 fn need(pages: u32, spare: u32) -> GuestNeed {
     GuestNeed { pages, spare }
 }
 
-/// What each guest is asked for, or what stays missing.
-fn expect_targets(rt: &impl Abort, needs: &[GuestNeed], frames: u32, expected: &[u32]) {
-    assert!(rt; needs.len() <= 8);
-    match targets(needs, frames) {
-        Ok(targets) => assert!(rt; targets.as_slice() == expected),
-        Err(short) => assert_eq!(rt; short.missing, 0),
+/// The first eight of these.
+fn needs_of(guests: &[(u32, u32)]) -> ArrayVec<GuestNeed, 8> {
+    let mut needs = ArrayVec::new();
+    for (pages, spare) in guests {
+        if !needs.is_full() {
+            needs.push(need(*pages, *spare));
+        }
+    }
+    needs
+}
+
+/// Whether guests of these needs are asked so for this many frames, and told so in a reply.
+fn are_asked(guests: &[(u32, u32)], frames: u32, answer: &Answer) -> bool {
+    match (targets(&needs_of(guests), frames), answer) {
+        (Ok(targets), Ok(expected)) => {
+            targets.as_slice() == *expected && targets.into_numbers().as_slice() == *expected
+        }
+        (Err(short), Err(missing)) => short.missing == *missing,
+        _ => false,
     }
 }
 
-fn expect_short(rt: &impl Abort, needs: &[GuestNeed], frames: u32, missing: u64) {
-    assert!(rt; needs.len() <= 8);
-    match targets(needs, frames) {
-        Ok(targets) => assert_eq!(rt; targets.as_slice().len(), 9),
-        Err(short) => assert_eq!(rt; short.missing, missing),
-    }
-}
+const EIGHT: [(u32, u32); 8] = [
+    (64, 1),
+    (64, 2),
+    (64, 3),
+    (64, 4),
+    (64, 5),
+    (64, 6),
+    (64, 7),
+    (64, 8),
+];
 
-/// What two guests of 64 pages can spare, the frames, and the targets as a reply has them.
-static REPLIES: [([u32; 2], u32, [u32; 2]); 4] = [
-    ([32, 32], 100, [28, 0]),
-    ([32, 32], 64, [32, 32]),
-    ([30, 40], 80, [8, 40]),
-    ([0, 0], 128, [0, 0]),
+static ROWS: [(Needs, u32, Answer); 15] = [
+    (&[(64, 32), (64, 32)], 100, Ok(&[28, 0])),
+    (&[(64, 32), (64, 32)], 64, Ok(&[32, 32])),
+    (&[(64, 0), (64, 0)], 128, Ok(&[0, 0])),
+    // The guest of most spare first.
+    (&[(64, 40), (64, 30)], 100, Ok(&[28, 0])),
+    (&[(64, 40), (64, 30)], 128, Ok(&[0, 0])),
+    (&[(64, 40), (64, 30)], 40, Err(18)),
+    (&[(64, 30), (64, 40)], 80, Ok(&[8, 40])),
+    // The lowest number first at a tie.
+    (&[(64, 20), (64, 20)], 100, Ok(&[20, 8])),
+    (&[(64, 5), (64, 20), (64, 20)], 171, Ok(&[0, 20, 1])),
+    // No guest, and eight.
+    (&[], 10, Ok(&[])),
+    (&EIGHT, 476, Ok(&[1, 2, 3, 4, 5, 6, 7, 8])),
+    (&EIGHT, 500, Ok(&[0, 0, 0, 0, 0, 0, 4, 8])),
+    (&EIGHT, 475, Err(1)),
+    (
+        &[(4_000_000_000, 0), (4_000_000_000, 0)],
+        0,
+        Err(8_000_000_000),
+    ),
+    (&[(64, 1), (64, 1)], 0, Err(126)),
 ];
 
 #[test]
-fn replies_have_all_targets_in_order(rt: HostRuntime) {
-    for ([one, other], frames, expected) in &REPLIES {
-        match targets(&[need(64, *one), need(64, *other)], *frames) {
-            Ok(targets) => assert!(rt; targets.into_numbers().as_slice() == expected.as_slice()),
-            Err(short) => assert_eq!(rt; short.missing, 0),
-        }
+fn guests_are_asked_for_what_is_missing(rt: HostRuntime) {
+    for (at, (guests, frames, answer)) in ROWS.iter().enumerate() {
+        assert!(rt; are_asked(guests, *frames, answer), "row {at}");
     }
 }
 
+/// Needs and shortages that differ are told apart; the default need is none.
 #[test]
-fn asks_the_guest_of_most_spare_first(rt: HostRuntime) {
-    let two = [need(64, 40), need(64, 30)];
-    expect_targets(&rt, &two, 100, &[28, 0]);
-    expect_targets(&rt, &two, 128, &[0, 0]);
-    expect_short(&rt, &two, 40, 18);
-    expect_targets(&rt, &[need(64, 30), need(64, 40)], 80, &[8, 40]);
-}
-
-#[test]
-fn asks_the_lowest_number_first_at_a_tie(rt: HostRuntime) {
-    expect_targets(&rt, &[need(64, 20), need(64, 20)], 100, &[20, 8]);
-    expect_targets(
-        &rt,
-        &[need(64, 5), need(64, 20), need(64, 20)],
-        171,
-        &[0, 20, 1],
-    );
-}
-
-#[test]
-fn shares_among_no_guest_and_eight(rt: HostRuntime) {
-    expect_targets(&rt, &[], 10, &[]);
-    let eight = [
-        need(64, 1),
-        need(64, 2),
-        need(64, 3),
-        need(64, 4),
-        need(64, 5),
-        need(64, 6),
-        need(64, 7),
-        need(64, 8),
-    ];
-    expect_targets(&rt, &eight, 476, &[1, 2, 3, 4, 5, 6, 7, 8]);
-    expect_targets(&rt, &eight, 500, &[0, 0, 0, 0, 0, 0, 4, 8]);
-    expect_short(&rt, &eight, 475, 1);
-    expect_short(
-        &rt,
-        &[need(4_000_000_000, 0), need(4_000_000_000, 0)],
-        0,
-        8_000_000_000,
-    );
+fn differing_numbers_are_told_apart(rt: HostRuntime) {
+    assert!(rt; need(0, 0) == GuestNeed::default() && need(0, 0) != need(1, 0));
+    assert!(rt; need(0, 0) != need(0, 1) && Short { missing: 1 } != Short { missing: 2 });
 }
