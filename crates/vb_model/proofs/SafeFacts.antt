@@ -3,7 +3,7 @@ use Rattle.std.proofs.Common.{◌≡◌, ℕ, zero, suc, ◌<◌, ◌≤◌, tru
 use Rattle.std.proofs.Common.{replicate, refl, ap, subst, ◌∙◌, inl, inr, arith}
 use Rattle.std.specs.Prelude.{Option, Some, None, slice_get}
 use Rattle.vb_model.specs.declared.places.Place.{Place}
-use Rattle.vb_model.specs.declared.places.Place.TheVariants.{Reserved, Free as FreePlace, Used}
+use Rattle.vb_model.specs.declared.places.Place.TheVariants.{Free as FreePlace, Used}
 use Rattle.vb_model.specs.declared.places.Place.TheVariants.{Giving, Lent, Taking}
 use Rattle.vb_model.specs.declared.calls.Call.TheVariants.{Alloc, Write, Inflate, Reap, Take, Work}
 use Rattle.vb_model.specs.declared.calls.Call.TheVariants.{Sweep}
@@ -19,7 +19,7 @@ use Rattle.vb_model.specs.World.{World}
 use Rattle.vb_model.specs.Run.{History}
 use Rattle.vb_model.specs.GuestRun.{Entry, Called, GuestRun}
 use Rattle.vb_model.specs.Safe.{Safe, NoFrameTwice, IsHonest, IsOneLife, Brings, ReapsDeflate}
-use Rattle.vb_model.proofs.Samples.{ready, request}
+use Rattle.vb_model.proofs.Samples.{ready, page_16_at, request}
 
 abbrev at : Guest → World
 at g = record { frames = 64; guests = Some g ∷ []; spares = []; given_up = None }
@@ -33,7 +33,7 @@ goes g event reply new =
     record { first = at g; events = event ∷ []; replies = reply ∷ []; after = at new ∷ [] }
 
 abbrev place_16 : Place → Guest
-place_16 place = record ready { places = replicate 16 Reserved ++ (place ∷ replicate 47 FreePlace) }
+place_16 place = page_16_at place ready
 
 -- ---- a frame behind two pages, of two guests or of one
 
