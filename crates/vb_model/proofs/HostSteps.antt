@@ -2,8 +2,6 @@
 use Rattle.std.proofs.Common.{◌≡◌, ◌≢◌, ℕ, Bool, true, false, List, [], ◌∷◌, sym, ap, ◌∙◌}
 use Rattle.std.proofs.Common.{inl, inr}
 use Rattle.std.specs.Prelude.{Option, Some, None, MatchOption, MatchBool, ◌==◌, ⊤}
-use Rattle.vb_model.specs.declared.calls.Call.{Call}
-use Rattle.vb_model.specs.declared.calls.Event.{Event}
 use Rattle.vb_model.specs.declared.calls.Event.TheVariants.{Plug, Unplug, Restart}
 use Rattle.vb_model.specs.declared.calls.Event.TheVariants.{Guest as OnGuest, Query as Asking}
 use Rattle.vb_model.specs.declared.calls.Event.TheVariants.{Balance, Frames as CountFrames}
@@ -20,9 +18,9 @@ use Rattle.vb_model.specs.FirstRefusal.{first_refusal}
 use Rattle.vb_model.specs.Guest.{Guest, Config, fresh}
 use Rattle.vb_model.specs.Life.{after_restart}
 use Rattle.vb_model.specs.Balance.{AreTargets, shortage}
-use Rattle.vb_model.specs.World.{World, WorldStep, Happens, Plugs, PlugsIn, Calls, Answers, Balances}
+use Rattle.vb_model.specs.World.{World, Happens, Plugs, PlugsIn, Calls, Answers, Balances}
 use Rattle.vb_model.specs.World.{world_tests, guest_at, with_guest, put_guest, needs, with_targets}
-use Rattle.vb_model.specs.HostLaws.{WorldsAgree, HostStepsAgree, CallsLeaveTheHost}
+use Rattle.vb_model.specs.HostLaws.{HostStepsAgree, CallsLeaveTheHost}
 use Rattle.vb_model.proofs.Unique.{unique}
 
 -- either the event is refused for this, and nothing is changed, or this happens

@@ -1,6 +1,6 @@
 -- Histories that are safe at first and go wrong behind another event: of guest 1, whose status is 0.
 use Rattle.std.proofs.Common.{◌≡◌, ℕ, zero, suc, ◌<◌, ◌≤◌, true, false, List, [], ◌∷◌, ◌++◌}
-use Rattle.std.proofs.Common.{replicate, refl, ap, subst, ◌∙◌, inl, inr, arith}
+use Rattle.std.proofs.Common.{replicate, refl, ap, subst, ◌∙◌, inl, arith}
 use Rattle.std.specs.Prelude.{Option, Some, None, slice_get}
 use Rattle.vb_model.specs.declared.places.Place.TheVariants.{Free as FreePlace, Used}
 use Rattle.vb_model.specs.declared.places.Place.TheVariants.{Giving, Lent, Taking}
@@ -13,7 +13,6 @@ use Rattle.vb_model.specs.declared.replies.Refusal.TheVariants.{RingBroken, Brok
 use Rattle.vb_model.specs.declared.replies.Reply.{Reply}
 use Rattle.vb_model.specs.declared.replies.Reply.TheVariants.{Done, Page, Posted, Reaped, Swept}
 use Rattle.vb_model.specs.declared.replies.Reply.TheVariants.{Frames, Refused}
-use Rattle.vb_model.specs.Requests.{Request}
 use Rattle.vb_model.specs.Guest.{Guest}
 use Rattle.vb_model.specs.World.{World}
 use Rattle.vb_model.specs.Run.{History}
