@@ -1,3 +1,1 @@
-pub mod Lists
-pub mod Unique
 pub mod Rounds

@@ -11,7 +11,7 @@ use Rattle.std.proofs.Math.Seq.{take-append_seam}
 use Rattle.std.proofs.lemmas.List.Sums.{sum_by-set, sum_by-cons, sum-map}
 use Rattle.vb_model.specs.Balance.{Need, AreTargets, GivesBefore, missing, shortage, spare_at}
 use Rattle.vb_balance.specs.Giving.{has_given, IsNext, HaveGiven}
-use Rattle.vb_balance.proofs.Lists.{sum-le}
+use Rattle.vb_model.proofs.Sums.{sum-le}
 
 module _ (needs : List Need) (gave : List Bool) (p : ℕ) (waits : has_given gave p ≡ false)
     (there : p < length gave) where

@@ -55,7 +55,7 @@ stays g new h n f c =
     (subst (λ (fs : List (Option ℕ)). AreBlank g.config.pages fs new.contents) (sym f)
     (subst (λ (cs : List (List ℕ)). AreBlank g.config.pages g.frames cs) (sym c) h))
 
-length-zero_page : length zero_page ≡ page_size
+pub length-zero_page : length zero_page ≡ page_size
 unfolding zero_page
 length-zero_page = length-replicate {A = ℕ} page_size 0
 

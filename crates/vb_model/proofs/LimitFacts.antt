@@ -8,6 +8,9 @@ use Rattle.vb_model.specs.declared.limits.TheConstants.{MAX_REQUEST_PAGES, MAX_G
 use Rattle.vb_model.specs.declared.limits.TheConstants.{MIN_GUEST_PAGES, MAX_GUEST_PAGES}
 use Rattle.vb_model.specs.declared.limits.TheConstants.{MIN_QUEUE_SIZE, MAX_QUEUE_SIZE}
 use Rattle.vb_model.specs.declared.limits.TheConstants.{MAX_PROCESSORS, MAX_FRAMES}
+use Rattle.vb_model.specs.declared.limits.TheConstants.{MAX_REPORT_PIECES}
+use Rattle.vb_model.specs.declared.layout.TheConstants.{STATISTIC_SIZE, MAX_STATISTICS_LENGTH}
+use Rattle.vb_model.specs.declared.layout.TheConstants.{FREE_MEMORY_TAG, TOTAL_MEMORY_TAG}
 use Rattle.vb_model.specs.declared.layout.TheConstants.{INFLATE_QUEUE, DEFLATE_QUEUE}
 use Rattle.vb_model.specs.declared.layout.TheConstants.{STATISTICS_QUEUE, REPORT_QUEUE}
 use Rattle.vb_model.specs.declared.layout.TheConstants.{INFLATE_RING_PAGE, DEFLATE_RING_PAGE}
@@ -17,6 +20,7 @@ use Rattle.vb_model.specs.declared.layout.TheConstants.{DEFLATE_BUFFERS_PAGE, ST
 use Rattle.vb_model.specs.Limits.{page_size, reserved_pages, ring_and_buffer_pages, max_order}
 use Rattle.vb_model.specs.Limits.{min_reported_order, max_outstanding, max_request_pages}
 use Rattle.vb_model.specs.Limits.{max_guests, max_frames, is_power_of_two, is_config}
+use Rattle.vb_model.specs.Status.{acknowledge, driver, features_ok, driver_ok, needs_reset, failed}
 use Rattle.vb_model.specs.Layout.{ring_page, buffers_page, buffer_page, buffer_offset}
 
 -- bytes of a page; reserved pages, and those of rings and buffers
@@ -30,6 +34,20 @@ orders_are = refl
 -- requests outstanding on a queue, and pages of a request
 requests_are : MAX_OUTSTANDING ∷ MAX_REQUEST_PAGES ∷ [] ≡ 16 ∷ 256 ∷ []
 requests_are = refl
+
+-- pieces of a report that a device takes
+pieces_are : MAX_REPORT_PIECES ∷ [] ≡ 32 ∷ []
+pieces_are = refl
+
+-- statistics: bytes of each, at most so many bytes of all, and the tags of free and of all memory
+statistics_are : STATISTIC_SIZE ∷ MAX_STATISTICS_LENGTH ∷ FREE_MEMORY_TAG ∷ TOTAL_MEMORY_TAG
+    ∷ [] ≡ 10 ∷ 1020 ∷ 4 ∷ 5 ∷ []
+statistics_are = refl
+
+-- the bits of the status: ACKNOWLEDGE, DRIVER, FEATURES_OK, DRIVER_OK, DEVICE_NEEDS_RESET, FAILED
+status_bits_are : acknowledge ∷ driver ∷ features_ok ∷ driver_ok ∷ needs_reset ∷ failed ∷ [] ≡ 1
+    ∷ 2 ∷ 8 ∷ 4 ∷ 64 ∷ 128 ∷ []
+status_bits_are = refl
 
 -- guests at a time, frames, and the sizes of a guest
 guests_are : MAX_GUESTS ∷ MAX_FRAMES ∷ MIN_GUEST_PAGES ∷ MAX_GUEST_PAGES ∷ MIN_QUEUE_SIZE

@@ -1,5 +1,5 @@
 -- Worked facts of the answers to queries.
-use Rattle.std.proofs.Common.{◌≡◌, ℕ, true, false, [], ◌∷◌, ◌++◌, replicate, refl, inl, inr}
+use Rattle.std.proofs.Common.{◌≡◌, ℕ, true, false, [], ◌∷◌, ◌++◌, replicate, refl, inl, inr, ◌⊎◌}
 use Rattle.std.specs.Prelude.{Some, None}
 use Rattle.vb_model.specs.declared.places.Place.TheVariants.{Reserved, Free, Used, Giving, Lent}
 use Rattle.vb_model.specs.declared.places.Place.TheVariants.{Taking, Stranded, Reporting}
@@ -11,6 +11,7 @@ use Rattle.vb_model.specs.declared.calls.Query.TheVariants.{PagesBallooned, Ball
 use Rattle.vb_model.specs.declared.calls.Query.TheVariants.{Memory as AskMemory}
 use Rattle.vb_model.specs.declared.calls.Query.TheVariants.{Backing as AskBacking}
 use Rattle.vb_model.specs.declared.replies.Refusal.TheVariants.{NoMemory}
+use Rattle.vb_model.specs.declared.replies.Reply.{Reply}
 use Rattle.vb_model.specs.declared.replies.Reply.TheVariants.{Places, Pages, Balloon, Statistics}
 use Rattle.vb_model.specs.declared.replies.Reply.TheVariants.{Backing, Refused}
 use Rattle.vb_model.specs.Guest.{Guest}
@@ -129,6 +130,46 @@ not_for_memory e = cc
 
 not_for_backing : NoMemoryFor (AskBacking 16) → ⊥
 not_for_backing e = cc
+
+-- ---- and no other answer is one
+
+no_other_counts : (reply : Reply) → Answers AskPlaces mixed reply
+    → reply ≡ Places (record {
+      free = 21;
+      used = 2;
+      giving = 3;
+      lent = 4;
+      taking = 5;
+      stranded = 6;
+      reporting = 7;
+    })
+no_other_counts reply a = a
+
+no_other_numbers : (reply : Reply)
+    → Answers AskBalloon (record ballooned { actual = 9; target = 11; status = 131 }) reply
+    → reply ≡ Balloon 3 9 11 131
+no_other_numbers reply a = a
+
+no_other_statistics : (reply : Reply)
+    → Answers AskMemory (record ready { last = record { free = Some 196608; total = Some 262144 } })
+    reply
+    → reply ≡ Statistics (Some 196608) (Some 262144)
+no_other_statistics reply a = a
+
+no_other_frame : (reply : Reply) → Answers (AskBacking 16) backed reply
+    → reply ≡ Backing (Some 13)
+no_other_frame reply a = a
+
+no_frame_at_all : (reply : Reply) → Answers (AskBacking 17) backed reply → reply ≡ Backing None
+no_frame_at_all reply a = a
+
+no_other_pages : (reply : Reply) → Answers (PagesAt Taking) mixed reply
+    → (reply ≡ Pages (run 46 50 ∷ [])) ⊎ (reply ≡ Refused NoMemory)
+no_other_pages reply a = a
+
+no_other_ballooned_pages : (reply : Reply) → Answers PagesBallooned ballooned reply
+    → (reply ≡ Pages (run 41 42 ∷ run 44 44 ∷ [])) ⊎ (reply ≡ Refused NoMemory)
+no_other_ballooned_pages reply a = a
 
 -- a rogue guest is asked like any other, and a query leaves the world as it is
 abbrev world : World

@@ -1,6 +1,6 @@
 -- Worked facts of scribbles and of what a rogue guest may need.
 use Rattle.std.proofs.Common.{◌≡◌, ℕ, ◌<◌, true, false, List, [], ◌∷◌, ◌++◌, map, replicate, refl}
-use Rattle.std.proofs.Common.{◌∙◌, inl, inr, arith}
+use Rattle.std.proofs.Common.{◌∙◌, ap, inl, inr, arith}
 use Rattle.std.specs.Prelude.{Option, Some, None}
 use Rattle.std.specs.List.{range_with_len}
 use Rattle.std.proofs.Math.ListN.{get_or-append}
@@ -10,14 +10,16 @@ use Rattle.vb_model.specs.declared.calls.Call.TheVariants.{Init, Reset, Alloc, F
 use Rattle.vb_model.specs.declared.calls.Call.TheVariants.{Scribble, Inflate, Deflate, Oom, Report}
 use Rattle.vb_model.specs.declared.calls.Call.TheVariants.{Stats, Reap, Take, Work, Finish, Sweep}
 use Rattle.vb_model.specs.declared.calls.Call.TheVariants.{Ask, SetTarget}
+use Rattle.vb_model.specs.declared.calls.Claim.{Claim}
 use Rattle.vb_model.specs.declared.calls.Claim.TheVariants.{Gave, GaveNoFrame, GaveNoMemory}
 use Rattle.vb_model.specs.declared.replies.Refusal.TheVariants.{OutOfRam, NoFrame, NoMemory}
 use Rattle.vb_model.specs.declared.replies.Reply.{Reply}
 use Rattle.vb_model.specs.declared.replies.Reply.TheVariants.{Done, Idle, Refused}
 use Rattle.vb_model.specs.declared.places.Place.TheVariants.{Lent}
-use Rattle.vb_model.specs.Guest.{Guest, is_ballooned, frame_of}
+use Rattle.vb_model.specs.Guest.{Guest, Config, is_ballooned, frame_of}
 use Rattle.vb_model.specs.Refusals.{refusal_of}
-use Rattle.vb_model.specs.Rogue.{LosesFrames, HasAllPages, RogueStep, may_need}
+use Rattle.vb_model.specs.Rogue.{LosesFrames, HasAllPages, IsRogueAfter, ScribbleStep}
+use Rattle.vb_model.specs.Rogue.{RogueStep, may_need}
 use Rattle.vb_model.specs.Step.{HonestStep}
 use Rattle.vb_model.proofs.Samples.{config, ready, down}
 
@@ -157,6 +159,49 @@ one_page_more s = let e : Same 65 64 = s.stays.sizes.flagged in omega arith
 
 no_places : RogueStep after Work [] Idle (record lost { places = [] }) → ⊥
 no_places s = let e : Same 0 64 = s.stays.sizes.placed in omega arith
+
+-- each table by page has an entry for each page, and no more
+a_place_more : HasAllPages (record ready { places = replicate 65 Lent }) → ⊥
+a_place_more h = let e : Same 65 64 = h.placed in omega arith
+
+a_flag_more : HasAllPages (record ready { ballooned = replicate 65 false }) → ⊥
+a_flag_more h = let e : Same 65 64 = h.flagged in omega arith
+
+a_frame_more : HasAllPages (record ready { frames = replicate 65 None }) → ⊥
+a_frame_more h = let e : Same 65 64 = h.framed in omega arith
+
+no_frames : HasAllPages (record ready { frames = [] }) → ⊥
+no_frames h = let e : Same 0 64 = h.framed in omega arith
+
+a_page_of_bytes_more : HasAllPages (record ready { contents = replicate 65 [] }) → ⊥
+a_page_of_bytes_more h = let e : Same 65 64 = h.filled in omega arith
+
+no_bytes : HasAllPages (record ready { contents = [] }) → ⊥
+no_bytes h = let e : Same 0 64 = h.filled in omega arith
+
+-- it stays rogue, with its configuration, and no reserved page of it is ballooned
+not_honest_again : IsRogueAfter after (record after { rogue = false }) → ⊥
+not_honest_again s = let e : false ≡ true = s.still in cc
+
+another_configuration : IsRogueAfter after
+    (record after { config = record config { queue_size = 16 } }) → ⊥
+another_configuration s =
+    let e : Same 16 8 = ap (λ (c : Config). c.queue_size) s.config in omega arith
+
+last_reserved_ballooned : IsRogueAfter after
+    (record after { ballooned = replicate 15 false ++ (true ∷ replicate 48 false) }) → ⊥
+last_reserved_ballooned s = let e : true ≡ false = s.unreserved 15 (omega arith) in cc
+
+-- a scribble that doesn't lie in a page is refused, of a rogue guest too
+past_the_last_byte : (claims : List Claim) (reply : Reply) (new : Guest)
+    → ScribbleStep 63 4095 (1 ∷ 2 ∷ []) after claims reply new
+    → (claims ≡ []) × (reply ≡ Refused OutOfRam) × (new ≡ after)
+past_the_last_byte claims reply new s = s
+
+past_the_last_page : (claims : List Claim) (reply : Reply) (new : Guest)
+    → ScribbleStep 64 0 [] after claims reply new
+    → (claims ≡ []) × (reply ≡ Refused OutOfRam) × (new ≡ after)
+past_the_last_page claims reply new s = s
 
 -- a rogue guest's scribble is answered as an honest one's: out of memory, no frame, done
 scribbled_again : (reply : Reply) (new : Guest)

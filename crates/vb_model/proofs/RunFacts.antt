@@ -1,7 +1,7 @@
 -- Worked facts of runs, of states, and of the entries of one guest.
 use Rattle.std.proofs.Common.{◌≡◌, ℕ, List, [], ◌∷◌, ◌++◌, true, false, refl, sym, ◌∙◌, ap, subst}
-use Rattle.std.proofs.Common.{arith}
-use Rattle.std.specs.Prelude.{Some, None}
+use Rattle.std.proofs.Common.{arith, length}
+use Rattle.std.specs.Prelude.{Some, None, unwrap_or}
 use Rattle.vb_model.specs.declared.calls.Actor.TheVariants.{Balancer, Processor}
 use Rattle.vb_model.specs.declared.calls.Call.TheVariants.{Work, SetTarget, Write, Scribble}
 use Rattle.vb_model.specs.declared.calls.Claim.{Claim}
@@ -96,6 +96,30 @@ looks = (refl, refl)
 
 looks_at_another_spare : EntryStep known (Looked 16 31) known → ⊥
 looks_at_another_spare s = let e : Same 31 32 = s.0 in omega arith
+
+a_look_sets_no_target : EntryStep known (Looked 16 32) (record known { target = 3 }) → ⊥
+a_look_sets_no_target s = let e : Same 3 0 = ap (λ (g : Guest). g.target) s.1 in omega arith
+
+a_look_forgets_nothing : EntryStep known (Looked 16 32) ready → ⊥
+a_look_forgets_nothing s =
+    let e : Same 0 196608 = ap (λ (g : Guest). unwrap_or g.last.free 0) s.1 in omega arith
+
+a_look_takes_no_page : EntryStep known (Looked 16 32) (record known { places = [] }) → ⊥
+a_look_takes_no_page s = let e : Same 0 64 = ap (λ (g : Guest). length g.places) s.1 in omega arith
+
+-- a run of no entries ends where it began, and each entry goes on where the one before it ended
+no_entries : (new : Guest) → GuestRun known [] new → new ≡ known
+no_entries new run = run
+
+an_end_elsewhere : GuestRun ready (Called Balancer (SetTarget 3) [] Done ∷ []) ready → ⊥
+an_end_elsewhere (mid, step, end) =
+    let e : Same 0 3 = ap (λ (g : Guest). g.target) (end ∙ step.2) in omega arith
+
+a_start_elsewhere : (floor spare : ℕ) (new : Guest)
+    → GuestRun ready (Called Balancer (SetTarget 3) [] Done ∷ Looked floor spare ∷ []) new
+    → new.target ≡ 3
+a_start_elsewhere floor spare new (mid, step, (next, look, end)) =
+    ap (λ (g : Guest). g.target) (end ∙ (look.1 ∙ step.2))
 
 -- a history begins with a guest as it is plugged in, with the target kept
 empty_history : IsHistory config 0 [] down

@@ -1,9 +1,9 @@
 -- Histories that are not safe, one for each thing that safety promises.
 use Rattle.std.proofs.Common.{◌≡◌, ℕ, zero, suc, ◌<◌, ◌≤◌, true, false, List, [], ◌∷◌, ◌++◌}
 use Rattle.std.proofs.Common.{replicate, refl, ap, subst, ◌∙◌, inl, inr, arith}
-use Rattle.std.specs.Prelude.{Option, Some, None, slice_get}
+use Rattle.std.specs.Prelude.{Option, Some, None, slice_get, length}
 use Rattle.vb_model.specs.declared.places.Place.{Place}
-use Rattle.vb_model.specs.declared.places.Place.TheVariants.{Reserved, Free as FreePlace, Used}
+use Rattle.vb_model.specs.declared.places.Place.TheVariants.{Free as FreePlace, Used}
 use Rattle.vb_model.specs.declared.places.Place.TheVariants.{Giving, Lent, Taking}
 use Rattle.vb_model.specs.declared.calls.Call.TheVariants.{Alloc, Write, Inflate, Reap, Take, Work}
 use Rattle.vb_model.specs.declared.calls.Call.TheVariants.{Sweep}
@@ -12,14 +12,15 @@ use Rattle.vb_model.specs.declared.calls.Event.TheVariants.{Guest as OnGuest, Re
 use Rattle.vb_model.specs.declared.replies.Refusal.TheVariants.{RingBroken, Broken, NoFrame}
 use Rattle.vb_model.specs.declared.replies.Reply.{Reply}
 use Rattle.vb_model.specs.declared.replies.Reply.TheVariants.{Done, Page, Posted, Reaped, Idle}
-use Rattle.vb_model.specs.declared.replies.Reply.TheVariants.{Swept, Refused}
+use Rattle.vb_model.specs.declared.replies.Reply.TheVariants.{Swept, NotUsed, Refused}
 use Rattle.vb_model.specs.Requests.{Request, names}
 use Rattle.vb_model.specs.Guest.{Guest}
 use Rattle.vb_model.specs.World.{World}
 use Rattle.vb_model.specs.Run.{History}
 use Rattle.vb_model.specs.GuestRun.{Entry, Called, GuestRun}
 use Rattle.vb_model.specs.Safe.{Safe, NoFrameTwice, IsHonest, IsOneLife, Brings, ReapsDeflate}
-use Rattle.vb_model.proofs.Samples.{ready, request}
+use Rattle.vb_model.specs.Safe.{part}
+use Rattle.vb_model.proofs.Samples.{ready, page_16_at, request}
 
 abbrev at : Guest → World
 at g = record { frames = 64; guests = Some g ∷ []; spares = []; given_up = None }
@@ -33,7 +34,7 @@ goes g event reply new =
     record { first = at g; events = event ∷ []; replies = reply ∷ []; after = at new ∷ [] }
 
 abbrev place_16 : Place → Guest
-place_16 place = record ready { places = replicate 16 Reserved ++ (place ∷ replicate 47 FreePlace) }
+place_16 place = page_16_at place ready
 
 -- ---- a frame behind two pages, of two guests or of one
 
@@ -188,23 +189,62 @@ reaps_page_16 = record {
   reply = refl;
 }
 
+abbrev used_deflates : List Request → Option Guest → List Request
+used_deflates none None = none
+used_deflates none (Some g) = g.deflate.done
+
+first_is : (a : Request) (rest : List Request) (b : Request) (more : List Request)
+    → a ∷ rest ≡ b ∷ more → a ≡ b
+first_is a rest b more e = cc
+
 not_page_17 : ReapsDeflate given_back 0 17 0 → ⊥
 not_page_17 r =
     let there : Some coming_back ≡ Some r.guest = r.is_there in
     let used : request 0 (16 ∷ []) 0 ∷ [] ≡ r.request ∷ r.others =
-    ap (option_done []) there ∙ r.done in
+    ap (used_deflates []) there ∙ r.done in
     let same : request 0 (16 ∷ []) 0 ≡ r.request =
     first_is (request 0 (16 ∷ []) 0) [] r.request r.others used in
     let named : false ≡ true = ap (names 17) same ∙ r.named in
     cc
-  where
-    option_done : List Request → Option Guest → List Request
-    option_done none None = none
-    option_done none (Some g) = g.deflate.done
 
-    first_is : (a : Request) (rest : List Request) (b : Request) (more : List Request)
-        → a ∷ rest ≡ b ∷ more → a ≡ b
-    first_is a rest b more e = cc
+-- none is another guest's reap, one of another queue, one that was answered otherwise, or one while
+-- another request is the first used one
+anothers_reap : ReapsDeflate (goes coming_back (OnGuest 1 (Reap 1)) (Reaped 0 1) coming_back) 0 16 0
+    → ⊥
+anothers_reap r = let e : Some (OnGuest 1 (Reap 1)) ≡ Some (OnGuest 0 (Reap 1)) = r.event in cc
+
+reap_of_an_inflate : ReapsDeflate
+    (goes coming_back (OnGuest 0 (Reap 0)) (Reaped 0 1) coming_back) 0 16 0 → ⊥
+reap_of_an_inflate r = let e : Some (OnGuest 0 (Reap 0)) ≡ Some (OnGuest 0 (Reap 1)) = r.event in cc
+
+nothing_reaped : ReapsDeflate (goes coming_back (OnGuest 0 (Reap 1)) NotUsed coming_back) 0 16 0 → ⊥
+nothing_reaped r =
+    let e : Some NotUsed ≡ Some (Reaped r.request.head (length r.request.pages)) = r.reply in cc
+
+abbrev behind_another : Guest
+behind_another = record (place_16 Taking) {
+  deflate = record {
+    posted = [];
+    taken = [];
+    done = request 1 (17 ∷ []) 0 ∷ request 0 (16 ∷ []) 0 ∷ [];
+  };
+}
+
+not_the_first : ReapsDeflate (goes behind_another (OnGuest 0 (Reap 1)) (Reaped 0 1) behind_another)
+    0 16 0 → ⊥
+not_the_first r =
+    let there : Some behind_another ≡ Some r.guest = r.is_there in
+    let used : request 1 (17 ∷ []) 0 ∷ request 0 (16 ∷ []) 0 ∷ [] ≡ r.request ∷ r.others =
+    ap (used_deflates []) there ∙ r.done in
+    let same : request 1 (17 ∷ []) 0 ≡ r.request =
+    first_is (request 1 (17 ∷ []) 0) (request 0 (16 ∷ []) 0 ∷ []) r.request r.others used in
+    let named : false ≡ true = ap (names 16) same ∙ r.named in
+    cc
+
+-- so many entries from one on
+part_of_five : part {A = ℕ} 1 3 (5 ∷ 6 ∷ 7 ∷ 8 ∷ 9 ∷ []) ∷ part {A = ℕ} 3 4 (5 ∷ 6 ∷ 7 ∷ 8 ∷ 9 ∷ [])
+    ∷ [] ≡ (6 ∷ 7 ∷ 8 ∷ []) ∷ (8 ∷ 9 ∷ []) ∷ []
+part_of_five = refl
 
 -- ---- driver and device don't agree on a page
 

@@ -1,5 +1,5 @@
 -- Guests from which worked facts start.
-use Rattle.std.specs.Prelude.{ℕ, true, List, ◌++◌, replicate}
+use Rattle.std.specs.Prelude.{ℕ, true, List, ◌∷◌, ◌++◌, replicate}
 use Rattle.vb_model.specs.declared.places.Place.{Place}
 use Rattle.vb_model.specs.declared.places.Place.TheVariants.{Reserved, Free, Used, Giving, Lent}
 use Rattle.vb_model.specs.declared.places.Place.TheVariants.{Taking, Stranded, Reporting}
@@ -41,6 +41,11 @@ mixed_places =
 
 abbrev pub mixed : Guest
 mixed = record ready { places = mixed_places }
+
+-- the guest with page 16 at this place, and no other but reserved and free ones
+abbrev pub page_16_at : Place → Guest → Guest
+page_16_at place g =
+    record g { places = replicate 16 Reserved ++ (place ∷ replicate 47 Free) }
 
 -- a request for these pages, of which so many are visited
 abbrev pub request : ℕ → List ℕ → ℕ → Request

@@ -2,8 +2,7 @@
 -- test goes first.
 -- 79 is a ready device that needs a reset, 143 one whose driver gave up, 207 both.
 use Rattle.std.proofs.Common.{◌≡◌, true, false, [], ◌∷◌, map, refl}
-use Rattle.std.specs.Prelude.{Option, Some, None}
-use Rattle.vb_model.specs.declared.replies.Refusal.{Refusal}
+use Rattle.std.specs.Prelude.{Some, None}
 use Rattle.vb_model.specs.declared.replies.Refusal.TheVariants.{NotReady, NeedsReset, QueueFull}
 use Rattle.vb_model.specs.declared.replies.Refusal.TheVariants.{Nothing, NoFeature, NoQueue, Busy}
 use Rattle.vb_model.specs.declared.replies.Refusal.TheVariants.{NotTaken, NotWorked, NotBallooned}
@@ -69,6 +68,30 @@ takes_below_the_limit = refl
 takes_of_no_queue : map (λ status. first_refusal (take_tests 3 status 0 0)) (0 ∷ 15 ∷ 79 ∷ [])
     ≡ Some NoQueue ∷ Some NoQueue ∷ Some NoQueue ∷ []
 takes_of_no_queue = refl
+
+-- the feature comes behind the status, and before the limit: 1 chain of queue 2, 16 of queue 4
+takes_without_the_feature : map (λ status. first_refusal (take_tests 2 status 4294967333 1))
+    (11 ∷ 15 ∷ 79 ∷ 143 ∷ 207 ∷ []) ≡ Some NotReady ∷ Some NoQueue ∷ Some NeedsReset
+    ∷ Some NotReady ∷ Some NotReady ∷ []
+takes_without_the_feature = refl
+
+takes_of_reports_without_it : map (λ status. first_refusal (take_tests 4 status 4294967303 16))
+    (11 ∷ 15 ∷ 79 ∷ 143 ∷ 207 ∷ []) ≡ Some NotReady ∷ Some NoQueue ∷ Some NeedsReset
+    ∷ Some NotReady ∷ Some NotReady ∷ []
+takes_of_reports_without_it = refl
+
+takes_with_the_feature : first_refusal (take_tests 2 15 2 0) ∷ first_refusal (take_tests 2 15 2 1)
+    ∷ first_refusal (take_tests 4 15 32 15) ∷ first_refusal (take_tests 4 15 32 16) ∷ [] ≡ None
+    ∷ Some Busy ∷ None ∷ Some Busy ∷ []
+takes_with_the_feature = refl
+
+reaps_without_the_feature : map (λ status. first_refusal (reap_tests 4 status 4294967303))
+    (0 ∷ 15 ∷ 79 ∷ 143 ∷ []) ≡ Some NotReady ∷ Some NoFeature ∷ Some NotReady ∷ Some NotReady ∷ []
+reaps_without_the_feature = refl
+
+no_reap_of_statistics : map (λ q. first_refusal (reap_tests q 15 4294967335)) (1 ∷ 2 ∷ 4 ∷ 5 ∷ [])
+    ≡ None ∷ Some NoQueue ∷ None ∷ Some NoQueue ∷ []
+no_reap_of_statistics = refl
 
 works : map (λ status. first_refusal (work_tests status)) (11 ∷ 15 ∷ 79 ∷ 143 ∷ 207 ∷ [])
     ≡ Some NotReady ∷ None ∷ Some NeedsReset ∷ Some NotReady ∷ Some NotReady ∷ []

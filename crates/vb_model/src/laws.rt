@@ -2,7 +2,7 @@
 
 ghost use Rattle.std.specs.Prelude.{ℕ, Bool, List, [], ◌∷◌, ◌≡◌, Some, false};
 ghost use Rattle.vb_model.specs.Run.{History, Run, Steps, last_world, guest_in};
-ghost use Rattle.vb_model.specs.Safe.{Safe, IsHonest};
+ghost use Rattle.vb_model.specs.Safe.{Safe, IsHonest, IsSafeRun};
 ghost use Rattle.vb_model.specs.Consistent.{IsConsistent};
 ghost use Rattle.vb_model.specs.Orderly.{IsOrderly};
 ghost use Rattle.vb_model.specs.Blank.{IsBlank};
@@ -16,6 +16,7 @@ ghost use Rattle.vb_model.specs.StepLaws.{RefusedEventsChangeNothing, NoMemoryIs
 ghost use Rattle.vb_model.specs.StepLaws.{WantsChangeNothing};
 ghost use Rattle.vb_model.specs.Determined.{HonestStepsAgree};
 ghost use Rattle.vb_model.specs.GuestRun.{InOneLife, Alone};
+ghost use Rattle.vb_model.specs.HostLaws.{HostStepsAgree, CallsLeaveTheHost};
 ghost use Rattle.vb_model.specs.declared.calls.Event.{Event};
 ghost use Rattle.vb_model.specs.declared.replies.Reply.{Reply};
 ghost use Rattle.vb_model.specs.declared.replies.Reply.TheVariants.{Plugged, Ready, Page, Done};
@@ -145,4 +146,17 @@ pub fn a_run_is_there()
     ensures run { (h : History) × Run 64 (false ∷ []) h
         × (h.replies ≡ Plugged 0 ∷ Ready ∷ Page 16 ∷ Done ∷ Done ∷ Posted 0 4 ∷ Taken 0 ∷ Finished 0
         ∷ Reaped 0 4 ∷ []) }
+{}
+
+/// A step of the host is determined by the world and the event, but for the number of a new guest
+/// where none was given up, for want of memory, and for what a guest's own step leaves open; a call
+/// of a guest leaves the number of frames, the spare devices and the number given up.
+pub fn host_steps_agree()
+    ensures agree { HostStepsAgree }
+    ensures calls { CallsLeaveTheHost }
+{}
+
+/// A run of no events that is promised to be safe ends where it began.
+pub fn no_events_change_nothing()
+    ensures empty { (w v : World) → IsSafeRun w [] [] v → v ≡ w }
 {}

@@ -3,7 +3,7 @@ use Rattle.std.proofs.Common.{◌≡◌, ℕ, ◌<◌, List, length, slice_index
 use Rattle.std.proofs.Common.{inr, arith}
 use Rattle.std.proofs.lemmas.Bool.{cases_order}
 use Rattle.vb_model.specs.Balance.{Need, AreTargets, GivesBefore, spare_at}
-use Rattle.vb_balance.proofs.Lists.{same_by_sum, somewhere_more}
+use Rattle.vb_model.proofs.Sums.{same_by_sum, somewhere_more}
 
 -- of two guests one gives before the other
 pub one_before : (needs : List Need) (i j : ℕ)

@@ -1,0 +1,214 @@
+-- The host's events are determined, but for the number of a new guest and want of memory.
+use Rattle.std.proofs.Common.{◌≡◌, ◌≢◌, ℕ, Bool, true, false, List, [], ◌∷◌, sym, ap, ◌∙◌}
+use Rattle.std.proofs.Common.{inl, inr}
+use Rattle.std.specs.Prelude.{Option, Some, None, MatchOption, MatchBool, ◌==◌, ⊤}
+use Rattle.vb_model.specs.declared.calls.Event.TheVariants.{Plug, Unplug, Restart}
+use Rattle.vb_model.specs.declared.calls.Event.TheVariants.{Guest as OnGuest, Query as Asking}
+use Rattle.vb_model.specs.declared.calls.Event.TheVariants.{Balance, Frames as CountFrames}
+use Rattle.vb_model.specs.declared.calls.Query.{Query}
+use Rattle.vb_model.specs.declared.calls.Query.TheVariants.{Places as AskPlaces, PagesAt}
+use Rattle.vb_model.specs.declared.calls.Query.TheVariants.{PagesBallooned, Balloon as AskBalloon}
+use Rattle.vb_model.specs.declared.calls.Query.TheVariants.{Memory as AskMemory}
+use Rattle.vb_model.specs.declared.calls.Query.TheVariants.{Backing as AskBacking}
+use Rattle.vb_model.specs.declared.replies.Refusal.{Refusal}
+use Rattle.vb_model.specs.declared.replies.Refusal.TheVariants.{NoMemory, Short}
+use Rattle.vb_model.specs.declared.replies.Reply.{Reply}
+use Rattle.vb_model.specs.declared.replies.Reply.TheVariants.{Plugged, Done, Targets, Refused}
+use Rattle.vb_model.specs.FirstRefusal.{first_refusal}
+use Rattle.vb_model.specs.Guest.{Guest, Config, fresh}
+use Rattle.vb_model.specs.Life.{after_restart}
+use Rattle.vb_model.specs.Balance.{AreTargets, shortage}
+use Rattle.vb_model.specs.World.{World, Happens, Plugs, PlugsIn, Calls, Answers, Balances}
+use Rattle.vb_model.specs.World.{world_tests, guest_at, with_guest, put_guest, needs, with_targets}
+use Rattle.vb_model.specs.HostLaws.{HostStepsAgree, CallsLeaveTheHost}
+use Rattle.vb_model.proofs.Unique.{unique}
+
+-- either the event is refused for this, and nothing is changed, or this happens
+abbrev Either : Option Refusal → World → Reply → World → Type 0 → Type 0
+Either r w reply new Else = MatchOption r Else (λ refusal. (reply ≡ Refused refusal) × (new ≡ w))
+
+-- ---- what one call leaves
+
+abbrev SameHost : World → World → Type 0
+SameHost w new = (new.frames ≡ w.frames) × (new.spares ≡ w.spares) × (new.given_up ≡ w.given_up)
+
+pub call_leaves_host : CallsLeaveTheHost
+call_leaves_host w n call reply new s =
+    by (first_refusal (world_tests w (OnGuest n call))) s
+  where
+    performed : (g : Option Guest)
+        → MatchOption g ⊥ (λ h. Calls n h w (OnGuest n call) reply new) → SameHost w new
+    performed None c = absurd c
+    performed (Some g) c = (
+      ap (λ (v : World). v.frames) c.4,
+      ap (λ (v : World). v.spares) c.4,
+      ap (λ (v : World). v.given_up) c.4,
+    )
+
+    by : (r : Option Refusal) → Either r w reply new (Happens (OnGuest n call) w reply new)
+        → SameHost w new
+    by None c = performed (guest_at w.guests n) c
+    by (Some refusal) c = (
+      ap (λ (v : World). v.frames) c.1,
+      ap (λ (v : World). v.spares) c.1,
+      ap (λ (v : World). v.given_up) c.1,
+    )
+
+-- ---- two answers to one event
+
+abbrev Same : Reply → World → Reply → World → Type 0
+Same reply new reply' new' = (reply ≡ reply') × (new ≡ new')
+
+by_refusal : (r : Option Refusal) (w : World) (reply : Reply) (new : World) (reply' : Reply)
+    (new' : World) (Else Else' : Type 0) → Either r w reply new Else → Either r w reply' new' Else'
+    → (Else → Else' → Same reply new reply' new') → Same reply new reply' new'
+by_refusal None w reply new reply' new' Else Else' a b same = same a b
+by_refusal (Some refusal) w reply new reply' new' Else Else' a b same =
+    (a.0 ∙ sym b.0, a.1 ∙ sym b.1)
+
+restarts_agree : (w : World) (n : ℕ) (g : Option Guest) (reply : Reply) (new : World)
+    (reply' : Reply) (new' : World)
+    → MatchOption g ⊥ (λ h. (reply ≡ Done) × (new ≡ put_guest n (Some (after_restart h)) w))
+    → MatchOption g ⊥ (λ h. (reply' ≡ Done) × (new' ≡ put_guest n (Some (after_restart h)) w))
+    → Same reply new reply' new'
+restarts_agree w n None reply new reply' new' a b = absurd a
+restarts_agree w n (Some g) reply new reply' new' a b = (a.0 ∙ sym b.0, a.1 ∙ sym b.1)
+
+answers_agree : (query : Query) (g : Guest) (reply reply' : Reply) → Answers query g reply
+    → Answers query g reply' → reply ≢ Refused NoMemory → reply' ≢ Refused NoMemory → reply ≡ reply'
+answers_agree AskPlaces g reply reply' a b x y = a ∙ sym b
+answers_agree AskBalloon g reply reply' a b x y = a ∙ sym b
+answers_agree AskMemory g reply reply' a b x y = a ∙ sym b
+answers_agree (AskBacking page) g reply reply' a b x y = a ∙ sym b
+answers_agree (PagesAt place) g reply reply' (inl a) (inl b) x y = a ∙ sym b
+answers_agree (PagesAt place) g reply reply' (inr a) b x y = absurd (x a)
+answers_agree (PagesAt place) g reply reply' (inl a) (inr b) x y = absurd (y b)
+answers_agree PagesBallooned g reply reply' (inl a) (inl b) x y = a ∙ sym b
+answers_agree PagesBallooned g reply reply' (inr a) b x y = absurd (x a)
+answers_agree PagesBallooned g reply reply' (inl a) (inr b) x y = absurd (y b)
+
+queries_agree : (query : Query) (w : World) (g : Option Guest) (reply : Reply) (new : World)
+    (reply' : Reply) (new' : World)
+    → MatchOption g ⊥ (λ h. Answers query h reply) × (new ≡ w)
+    → MatchOption g ⊥ (λ h. Answers query h reply') × (new' ≡ w)
+    → reply ≢ Refused NoMemory → reply' ≢ Refused NoMemory → Same reply new reply' new'
+queries_agree query w None reply new reply' new' a b x y = absurd a.0
+queries_agree query w (Some g) reply new reply' new' a b x y =
+    (answers_agree query g reply reply' a.0 b.0 x y, a.1 ∙ sym b.1)
+
+balances_agree : (floor : ℕ) (w : World) (reply : Reply) (new : World) (reply' : Reply)
+    (new' : World) → Balances floor w reply new → Balances floor w reply' new'
+    → Same reply new reply' new'
+balances_agree floor w reply new reply' new' a b =
+    by (shortage (needs floor w) w.frames == 0) a b
+  where
+    by : (enough : Bool)
+        → MatchBool enough
+        ((targets : List ℕ) × AreTargets (needs floor w) w.frames targets
+        × (reply ≡ Targets targets)
+        × (new ≡ record w { guests = with_targets targets w.guests }))
+        ((reply ≡ Refused (Short (shortage (needs floor w) w.frames))) × (new ≡ w))
+        → MatchBool enough
+        ((targets : List ℕ) × AreTargets (needs floor w) w.frames targets
+        × (reply' ≡ Targets targets)
+        × (new' ≡ record w { guests = with_targets targets w.guests }))
+        ((reply' ≡ Refused (Short (shortage (needs floor w) w.frames))) × (new' ≡ w))
+        → Same reply new reply' new'
+    by true a b =
+        let one : a.0 ≡ b.0 = unique (needs floor w) w.frames a.0 b.0 a.1 b.1 in (
+          a.2 ∙ (ap Targets one ∙ sym b.2),
+          a.3 ∙ (ap (λ (ts : List ℕ). record w { guests = with_targets ts w.guests }) one
+              ∙ sym b.3),
+        )
+    by false a b = (a.0 ∙ sym b.0, a.1 ∙ sym b.1)
+
+-- ---- the plug: of two answers with one number, or with the number given up
+
+abbrev plugged_in : Config → List Bool → World → ℕ → World
+plugged_in config rest w n =
+    record {
+      frames = w.frames;
+      guests = with_guest n (Some (fresh config 0)) w.guests;
+      spares = rest;
+      given_up = None;
+    }
+
+one_number : (config : Config) (rest : List Bool) (w : World) (reply : Reply) (new : World)
+    (reply' : Reply) (new' : World) (p : Plugs config rest w reply new)
+    (q : Plugs config rest w reply' new') → p.0 ≡ q.0 → Same reply new reply' new'
+one_number config rest w reply new reply' new' p q e =
+    (p.3 ∙ (ap Plugged e ∙ sym q.3), p.4 ∙ (ap (plugged_in config rest w) e ∙ sym q.4))
+
+last_number : (given_up : Option ℕ) (last n : ℕ) → given_up ≡ Some last
+    → MatchOption given_up ⊤ (λ number. n ≡ number) → n ≡ last
+last_number None last n e m = absurd cc
+last_number (Some number) last n e m = let same : number ≡ last = cc in m ∙ same
+
+abbrev AgreeOnPlug : World → Reply → World → Reply → World → Type 0
+AgreeOnPlug w reply new reply' new' =
+    (reply ≡ reply' → new ≡ new')
+    × ((last : ℕ) → w.given_up ≡ Some last → reply ≡ reply')
+    × ((refusal : Refusal) → reply ≡ Refused refusal → reply ≡ reply')
+
+plugs_agree : (config : Config) (rest : List Bool) (w : World) (reply : Reply) (new : World)
+    (reply' : Reply) (new' : World) → Plugs config rest w reply new
+    → Plugs config rest w reply' new' → AgreeOnPlug w reply new reply' new'
+plugs_agree config rest w reply new reply' new' p q = (
+  (λ e. (one_number config rest w reply new reply' new' p q
+      (number_of p.0 q.0 (sym p.3 ∙ (e ∙ q.3)))).1),
+  (λ last e. (one_number config rest w reply new reply' new' p q
+      (last_number w.given_up last p.0 e p.2 ∙ sym (last_number w.given_up last q.0 e q.2))).0),
+  (λ refusal e. absurd (none refusal (sym p.3 ∙ e))),
+)
+  where
+    number_of : (n m : ℕ) → Plugged n ≡ Plugged m → n ≡ m
+    number_of n m e = cc
+
+    none : (refusal : Refusal) → Plugged p.0 ≡ Refused refusal → ⊥
+    none refusal e = cc
+
+plugs_in_agree : (pages queue_size processors : ℕ) (spares : List Bool) (w : World) (reply : Reply)
+    (new : World) (reply' : Reply) (new' : World)
+    → PlugsIn pages queue_size processors spares w reply new
+    → PlugsIn pages queue_size processors spares w reply' new' → reply ≢ Refused NoMemory
+    → reply' ≢ Refused NoMemory → AgreeOnPlug w reply new reply' new'
+plugs_in_agree pages queue_size processors [] w reply new reply' new' a b x y = absurd a
+plugs_in_agree pages queue_size processors (paced ∷ rest) w reply new reply' new' (inl a) b x y =
+    absurd (x a.0)
+plugs_in_agree pages queue_size processors (paced ∷ rest) w reply new reply' new' (inr p) (inl b) x
+    y =
+    absurd (y b.0)
+plugs_in_agree pages queue_size processors (paced ∷ rest) w reply new reply' new' (inr p) (inr q) x
+    y =
+    plugs_agree _ rest w reply new reply' new' p q
+
+-- ---- all events
+
+pub hosts_agree : HostStepsAgree
+hosts_agree w (Plug pages queue_size processors) reply new reply' new' s t x y =
+    by (first_refusal (world_tests w (Plug pages queue_size processors))) s t
+  where
+    by : (r : Option Refusal)
+        → Either r w reply new (PlugsIn pages queue_size processors w.spares w reply new)
+        → Either r w reply' new' (PlugsIn pages queue_size processors w.spares w reply' new')
+        → AgreeOnPlug w reply new reply' new'
+    by None a b =
+        plugs_in_agree pages queue_size processors w.spares w reply new reply' new' a b x y
+    by (Some refusal) a b =
+        ((λ e. a.1 ∙ sym b.1), (λ last e. a.0 ∙ sym b.0), (λ other e. a.0 ∙ sym b.0))
+hosts_agree w (Unplug n) reply new reply' new' s t x y =
+    by_refusal (first_refusal (world_tests w (Unplug n))) w reply new reply' new' _ _ s t
+    (λ a b. (a.0 ∙ sym b.0, a.1 ∙ sym b.1))
+hosts_agree w (Restart n) reply new reply' new' s t x y =
+    by_refusal (first_refusal (world_tests w (Restart n))) w reply new reply' new' _ _ s t
+    (λ a b. restarts_agree w n (guest_at w.guests n) reply new reply' new' a b)
+hosts_agree w (OnGuest n call) reply new reply' new' s t x y =
+    let a = call_leaves_host w n call reply new s in
+    let b = call_leaves_host w n call reply' new' t in
+    (a.0 ∙ sym b.0, a.1 ∙ sym b.1, a.2 ∙ sym b.2)
+hosts_agree w (Asking n query) reply new reply' new' s t x y =
+    by_refusal (first_refusal (world_tests w (Asking n query))) w reply new reply' new' _ _ s t
+    (λ a b. queries_agree query w (guest_at w.guests n) reply new reply' new' a b x y)
+hosts_agree w (Balance floor) reply new reply' new' s t x y =
+    balances_agree floor w reply new reply' new' s t
+hosts_agree w CountFrames reply new reply' new' s t x y = (s.0 ∙ sym t.0, s.1 ∙ sym t.1)

@@ -1,0 +1,200 @@
+-- Histories that are safe at first and go wrong behind another event: of guest 1, whose status is 0.
+use Rattle.std.proofs.Common.{◌≡◌, ℕ, zero, suc, ◌<◌, ◌≤◌, true, false, List, [], ◌∷◌, ◌++◌}
+use Rattle.std.proofs.Common.{replicate, refl, ap, subst, ◌∙◌, inl, arith}
+use Rattle.std.specs.Prelude.{Option, Some, None, slice_get}
+use Rattle.vb_model.specs.declared.places.Place.TheVariants.{Free as FreePlace, Used}
+use Rattle.vb_model.specs.declared.places.Place.TheVariants.{Giving, Lent, Taking}
+use Rattle.vb_model.specs.declared.calls.Call.TheVariants.{Alloc, Write, Inflate, Reap, Take, Work}
+use Rattle.vb_model.specs.declared.calls.Call.TheVariants.{Sweep}
+use Rattle.vb_model.specs.declared.calls.Event.{Event}
+use Rattle.vb_model.specs.declared.calls.Event.TheVariants.{Guest as OnGuest, Restart}
+use Rattle.vb_model.specs.declared.calls.Event.TheVariants.{Frames as CountFrames}
+use Rattle.vb_model.specs.declared.replies.Refusal.TheVariants.{RingBroken, Broken, NotReady}
+use Rattle.vb_model.specs.declared.replies.Reply.{Reply}
+use Rattle.vb_model.specs.declared.replies.Reply.TheVariants.{Done, Page, Posted, Reaped, Swept}
+use Rattle.vb_model.specs.declared.replies.Reply.TheVariants.{Frames, Refused}
+use Rattle.vb_model.specs.Guest.{Guest}
+use Rattle.vb_model.specs.World.{World}
+use Rattle.vb_model.specs.Run.{History}
+use Rattle.vb_model.specs.GuestRun.{Entry, Called, GuestRun}
+use Rattle.vb_model.specs.Safe.{Safe, IsHonest, IsOneLife, Brings, ReapsDeflate}
+use Rattle.vb_model.proofs.Samples.{ready, down, page_16_at, request}
+
+abbrev at : Guest → World
+at g = record { frames = 64; guests = Some ready ∷ Some g ∷ []; spares = []; given_up = None }
+
+abbrev goes : Event → Guest → Event → Reply → Guest → History
+goes earlier g event reply new =
+    record {
+      first = at g;
+      events = earlier ∷ event ∷ [];
+      replies = Done ∷ reply ∷ [];
+      after = at g ∷ at new ∷ [];
+    }
+
+-- the guest is down, and then this
+abbrev becomes : Guest → History
+becomes g = record {
+  first = at down;
+  events = CountFrames ∷ [];
+  replies = Frames 0 64 ∷ [];
+  after = at g ∷ [];
+}
+
+-- ---- one state
+
+-- of a rogue guest too no frame backs two pages
+abbrev rogue : Guest
+rogue = record down { frames = Some 5 ∷ None ∷ Some 5 ∷ []; rogue = true }
+
+frame_twice : Safe (becomes rogue) → ⊥
+frame_twice s =
+    let e = s.no_frame_twice 1 (at rogue) refl 5 1 0 1 2
+    (record { guest = rogue; is_there = refl; has = refl })
+    (record { guest = rogue; is_there = refl; has = refl }) in
+    omega (arith, e.1)
+
+lent_but_not_ballooned : Safe (becomes (page_16_at Lent down)) → ⊥
+lent_but_not_ballooned s = let e : false ≡ true =
+    (s.both_agree 1 1 (page_16_at Lent down) (refl, refl) 16).1 (inl refl) in cc
+
+abbrev flagged : Guest
+flagged = record (page_16_at Used down) { ballooned = replicate 16 false ++ (true ∷ []) }
+
+quiet_but_different : Safe (becomes flagged) → ⊥
+quiet_but_different s = let e : Used ≡ Lent =
+    (s.quiet 1 1 flagged (refl, refl) refl refl 16).0 refl in cc
+
+abbrev Same : ℕ → ℕ → Type 0
+Same a b = a ≡ b
+
+abbrev counted : Guest
+counted = record (page_16_at Giving down) { actual = 1 }
+
+actual_too_high : Safe (becomes counted) → ⊥
+actual_too_high s = let e : Same 1 0 = s.actual 1 1 counted (refl, refl) in omega arith
+
+-- ---- one event
+
+abbrev used_with : Option ℕ → List ℕ → Guest
+used_with frame bytes =
+    record (page_16_at Used down)
+    { frames = replicate 16 None ++ (frame ∷ []); contents = replicate 16 [] ++ (bytes ∷ []) }
+
+abbrev SameFrame : Option ℕ → Option ℕ → Type 0
+SameFrame a b = a ≡ b
+
+frame_lost : Safe (goes CountFrames (used_with (Some 5) []) (OnGuest 1 (Sweep 16)) (Swept true)
+    (used_with None [])) → ⊥
+frame_lost s = let e : SameFrame None (Some 5) =
+    s.keeps_frame 1 1 16 5 (used_with (Some 5) []) (used_with None []) (refl, refl) (refl, refl)
+    refl refl refl in cc
+
+abbrev one_byte : ℕ → List ℕ
+one_byte byte = byte ∷ []
+
+-- behind a write of the guest's own another guest's write to a page of the same number changes its
+-- bytes
+bytes_changed : Safe (goes (OnGuest 1 (Write 16 0 (1 ∷ []))) (used_with None (one_byte 1))
+    (OnGuest 0 (Write 16 0 (2 ∷ []))) Done (used_with None (one_byte 2))) → ⊥
+bytes_changed s =
+    let e : one_byte 2 ≡ one_byte 1 =
+    s.keeps_contents 1 1 16 (used_with None (one_byte 1)) (used_with None (one_byte 2))
+    (refl, refl) (refl, refl) refl refl
+    (λ own. let q : Some (OnGuest 0 (Write 16 0 (2 ∷ [])))
+    ≡ Some (OnGuest 1 (Write 16 own.0 own.1)) = own.2 in cc) in
+    cc
+
+broken_chain : Safe (goes CountFrames down (OnGuest 1 (Take 0)) (Refused (Broken 3)) down) → ⊥
+broken_chain s = (s.not_broken 1 1 down (Take 0) 3 (refl, refl) refl).0 refl
+
+broken_ring : Safe (goes CountFrames down (OnGuest 1 (Reap 0)) (Refused RingBroken) down) → ⊥
+broken_ring s = (s.not_broken 1 1 down (Reap 0) 0 (refl, refl) refl).1 refl
+
+-- behind a restart of the guest itself: its new life is a run of its own too
+not_its_own : Safe (goes (Restart 1) down (OnGuest 1 Work) Done down) → ⊥
+not_its_own s =
+    let a = s.alone 1 1 1 (at down) down down refl refl (refl, refl)
+    ((λ e. cc), (λ e. cc), tt) in
+    let own = a.are.2 in
+    let later : a.are.1 ≡ [] = a.are.3 in
+    let is : a.entries ≡ Called own.0 Work own.1 Done ∷ [] =
+    a.are.4 ∙ (ap (λ (l : List Entry). l ++ a.are.1) own.4
+    ∙ ap (λ (l : List Entry). (Called own.0 Work own.1 Done ∷ []) ++ l) later) in
+    let run = subst (λ (l : List Entry). GuestRun down l down) is a.run in
+    let wrong : Done ≡ Refused NotReady = run.1.1 in
+    cc
+
+-- ---- a page is offered and handed out again: a deflate request that names it came back before the
+-- offer, none after it; in between another guest is restarted, which is still one life of this one
+
+abbrev coming_back : Guest
+coming_back = record (page_16_at Taking down)
+    { deflate = record { posted = []; taken = []; done = request 0 (16 ∷ []) 0 ∷ [] } }
+
+abbrev offered_again : History
+offered_again = record {
+  first = at coming_back;
+  events =
+      OnGuest 1 (Reap 1) ∷ OnGuest 1 (Inflate 1) ∷ Restart 0 ∷ OnGuest 1 (Reap 1)
+      ∷ OnGuest 1 (Alloc 0 0) ∷ [];
+  replies = Reaped 0 1 ∷ Posted 0 1 ∷ Done ∷ Reaped 0 1 ∷ Page 16 ∷ [];
+  after =
+      at (page_16_at FreePlace down) ∷ at (page_16_at Giving down) ∷ at (page_16_at Giving down)
+      ∷ at (page_16_at FreePlace down) ∷ at (page_16_at Used down) ∷ [];
+}
+
+reaped_before : ReapsDeflate offered_again 1 16 0
+reaped_before = record {
+  guest = coming_back;
+  request = request 0 (16 ∷ []) 0;
+  others = [];
+  event = refl;
+  is_there = refl;
+  done = refl;
+  named = refl;
+  reply = refl;
+}
+
+one_life : IsOneLife offered_again 1 1 4
+one_life = record { honest = honest; no_restart = no_restart }
+  where
+    honest : (j : ℕ) → 1 ≤ j → j ≤ 5 → (g : Guest) × IsHonest offered_again 1 j g
+    honest zero a b = absurd (omega arith)
+    honest (suc zero) a b = (page_16_at FreePlace down, (refl, refl))
+    honest (suc (suc zero)) a b = (page_16_at Giving down, (refl, refl))
+    honest (suc (suc (suc zero))) a b = (page_16_at Giving down, (refl, refl))
+    honest (suc (suc (suc (suc zero)))) a b = (page_16_at FreePlace down, (refl, refl))
+    honest (suc (suc (suc (suc (suc zero))))) a b = (page_16_at Used down, (refl, refl))
+    honest (suc (suc (suc (suc (suc (suc j)))))) a b = absurd (omega arith)
+
+    no_restart : (j : ℕ) → 1 ≤ j → j ≤ 4 → slice_get offered_again.events j ≡ Some (Restart 1) → ⊥
+    no_restart zero a b e = cc
+    no_restart (suc zero) a b e = cc
+    no_restart (suc (suc zero)) a b e = cc
+    no_restart (suc (suc (suc zero))) a b e = cc
+    no_restart (suc (suc (suc (suc zero)))) a b e = cc
+    no_restart (suc (suc (suc (suc (suc j))))) a b e = absurd (omega arith)
+
+brought_to_giving : Brings offered_again 1 16 Giving 1
+brought_to_giving =
+    (page_16_at FreePlace down, page_16_at Giving down, refl, refl, (λ e. cc), refl)
+
+brought_to_used : Brings offered_again 1 16 Used 4
+brought_to_used = (page_16_at FreePlace down, page_16_at Used down, refl, refl, (λ e. cc), refl)
+
+none_reaped_since : (j : ℕ) → 1 < j → j < 4 → ReapsDeflate offered_again 1 16 j → ⊥
+none_reaped_since zero a b r = absurd (omega arith)
+none_reaped_since (suc zero) a b r = absurd (omega arith)
+none_reaped_since (suc (suc zero)) a b r =
+    let e : Some (Restart 0) ≡ Some (OnGuest 1 (Reap 1)) = r.event in cc
+none_reaped_since (suc (suc (suc zero))) a b r =
+    let same : page_16_at Giving down ≡ r.guest = cc in
+    let none : [] ≡ r.request ∷ r.others = ap (λ (g : Guest). g.deflate.done) same ∙ r.done in
+    cc
+none_reaped_since (suc (suc (suc (suc j)))) a b r = absurd (omega arith)
+
+reaped_too_early : Safe offered_again → ⊥
+reaped_too_early s =
+    let r = s.told_first 1 16 1 4 (omega arith) one_life brought_to_giving brought_to_used in
+    none_reaped_since r.0 r.1 r.2 r.3

@@ -1,0 +1,141 @@
+-- Worked facts of the words in which the laws over single steps are stated.
+use Rattle.std.proofs.Common.{◌≡◌, ℕ, ◌<◌, List, [], ◌∷◌, ◌++◌, true, false, map, replicate}
+use Rattle.std.proofs.Common.{refl, ap, ◌∙◌, ◌⊎◌, inl, inr, length, arith}
+use Rattle.std.specs.Prelude.{Some, None, IsTrue}
+use Rattle.std.proofs.Math.ListN.{get_or-append}
+use Rattle.std.proofs.lemmas.List.{get_or-replicate}
+use Rattle.vb_model.specs.declared.places.Place.TheVariants.{Lent}
+use Rattle.vb_model.specs.declared.calls.Call.TheVariants.{Init, Reset, Read, Write, Scribble, Work}
+use Rattle.vb_model.specs.declared.calls.Call.TheVariants.{Inflate, Take}
+use Rattle.vb_model.specs.declared.calls.Event.TheVariants.{Plug, Unplug, Restart}
+use Rattle.vb_model.specs.declared.calls.Event.TheVariants.{Guest as OnGuest, Query as Asking}
+use Rattle.vb_model.specs.declared.calls.Event.TheVariants.{Balance, Frames as CountFrames}
+use Rattle.vb_model.specs.declared.calls.Query.TheVariants.{Places, PagesAt, PagesBallooned}
+use Rattle.vb_model.specs.declared.calls.Query.TheVariants.{Balloon, Memory, Backing}
+use Rattle.vb_model.specs.declared.replies.Refusal.TheVariants.{NotHeld, MustTellMissing, NoFrame}
+use Rattle.vb_model.specs.Tests.{is_in}
+use Rattle.vb_model.specs.Guest.{Guest}
+use Rattle.vb_model.specs.Life.{feature_refusal}
+use Rattle.vb_model.specs.World.{World, IsOut}
+use Rattle.vb_model.specs.StepLaws.{IsOfOthers, HasNoFrame, WantOfFrames, may_want_memory}
+use Rattle.vb_model.specs.StepLaws.{HasNoReservedBallooned, IsUnchanged}
+use Rattle.vb_model.proofs.Samples.{ready, down}
+
+abbrev Same : ℕ → ℕ → Type 0
+Same a b = a ≡ b
+
+-- guest 1, whose page 16 has frame 5
+abbrev backed : Guest
+backed = record ready { frames = replicate 16 None ++ (Some 5 ∷ replicate 47 None) }
+
+abbrev world : World
+world = record { frames = 6; guests = None ∷ Some backed ∷ []; spares = []; given_up = None }
+
+-- ---- events that are made for a guest, and those that aren't
+
+own_call : IsOfOthers 1 (OnGuest 1 Work) → ⊥
+own_call o = o.no_call Work refl
+
+own_restart : IsOfOthers 1 (Restart 1) → ⊥
+own_restart o = o.no_restart refl
+
+own_unplug : IsOfOthers 1 (Unplug 1) → ⊥
+own_unplug o = o.no_unplug refl
+
+anothers_events : IsOfOthers 1 (OnGuest 0 Work) × IsOfOthers 1 (Restart 2) × IsOfOthers 1 (Unplug 0)
+    × IsOfOthers 1 (Asking 1 Places) × IsOfOthers 1 (Balance 0) × IsOfOthers 1 CountFrames
+    × IsOfOthers 1 (Plug 64 8 1)
+anothers_events = (
+  record { no_call = λ call e. cc; no_restart = λ e. cc; no_unplug = λ e. cc },
+  record { no_call = λ call e. cc; no_restart = λ e. cc; no_unplug = λ e. cc },
+  record { no_call = λ call e. cc; no_restart = λ e. cc; no_unplug = λ e. cc },
+  record { no_call = λ call e. cc; no_restart = λ e. cc; no_unplug = λ e. cc },
+  record { no_call = λ call e. cc; no_restart = λ e. cc; no_unplug = λ e. cc },
+  record { no_call = λ call e. cc; no_restart = λ e. cc; no_unplug = λ e. cc },
+  record { no_call = λ call e. cc; no_restart = λ e. cc; no_unplug = λ e. cc },
+)
+
+-- ---- frames
+
+a_frame_is_there : HasNoFrame world 1 → ⊥
+a_frame_is_there h = h 16 5 (record { guest = backed; is_there = refl; has = refl })
+
+-- a page wants a frame while no frame is out; or no page wants one
+abbrev empty : World
+empty = record { frames = 6; guests = []; spares = []; given_up = None }
+
+frame_0_is_free : WantOfFrames empty (17 ∷ []) → ⊥
+frame_0_is_free want = by want.claimed want.fewer want.all_out
+  where
+    by : (claimed : List ℕ) → length claimed < 1
+        → ((frame : ℕ) → frame < 6 → IsOut empty frame ⊎ IsTrue (is_in frame claimed)) → ⊥
+    by (f ∷ claimed) fewer all_out = absurd (omega (arith, fewer))
+    by [] fewer all_out =
+        elim (all_out 0 (omega arith)) [
+          | inl out ↦ (let e : None ≡ Some out.2.guest = out.2.is_there in cc)
+          | inr given ↦ cc
+        ]
+
+no_page_wants_one : WantOfFrames world [] → ⊥
+no_page_wants_one want = let l : length want.claimed < 0 = want.fewer in absurd (omega (arith, l))
+
+-- ---- reserved pages
+
+page_15_ballooned : HasNoReservedBallooned
+    (record ready { ballooned = replicate 15 false ++ (true ∷ replicate 48 false) }) → ⊥
+page_15_ballooned h = let e : true ≡ false = h 15 (omega arith) in cc
+
+page_16_ballooned : HasNoReservedBallooned
+    (record ready { ballooned = replicate 16 false ++ (true ∷ replicate 47 false) })
+page_16_ballooned page l =
+    get_or-append (replicate 16 false) (true ∷ replicate 47 false) false page l
+    ∙ get_or-replicate 16 page false false l
+
+-- ---- what a refusal leaves: the guest as it was, but for features that an initialisation refused
+
+abbrev failed : Guest
+failed = record down { status = 131 }
+
+changed_by_a_reset : IsUnchanged Reset NotHeld down failed → ⊥
+changed_by_a_reset (inl same) =
+    let e : Same 131 0 = ap (λ (g : Guest). g.status) same in omega arith
+changed_by_a_reset (inr (wanted, call, refused, status)) = cc
+
+failed_for_features : IsUnchanged (Init 0x100000026) MustTellMissing down failed
+failed_for_features = inr (0x100000026, refl, refl, refl)
+
+failed_for_want_of_frames : IsUnchanged (Init 0x100000027) NoFrame down failed → ⊥
+failed_for_want_of_frames (inl same) =
+    let e : Same 131 0 = ap (λ (g : Guest). g.status) same in omega arith
+failed_for_want_of_frames (inr (wanted, call, refused, status)) =
+    let same : 0x100000027 ≡ wanted = cc in
+    let e : None ≡ Some NoFrame = ap feature_refusal same ∙ refused in
+    cc
+
+initialised_but_refused : IsUnchanged (Init 0x100000026) MustTellMissing down ready → ⊥
+initialised_but_refused (inl same) =
+    let e : Same 15 0 = ap (λ (g : Guest). g.status) same in omega arith
+initialised_but_refused (inr (wanted, call, refused, status)) =
+    let e : Same 15 131 = status in omega arith
+
+-- ---- which events may want memory: a plug, what needs a frame, a read, and lists of pages
+
+wants_of_events : map (may_want_memory world)
+    (Plug 64 8 1 ∷ Unplug 1 ∷ Restart 1 ∷ Balance 0 ∷ CountFrames ∷ []) ≡ true ∷ false ∷ false
+    ∷ false ∷ false ∷ []
+wants_of_events = refl
+
+wants_of_questions : map (λ query. may_want_memory world (Asking 1 query))
+    (Places ∷ PagesAt Lent ∷ PagesBallooned ∷ Balloon ∷ Memory ∷ Backing 16 ∷ []) ≡ false ∷ true
+    ∷ true ∷ false ∷ false ∷ false ∷ []
+wants_of_questions = refl
+
+wants_of_calls : map (λ call. may_want_memory world (OnGuest 1 call))
+    (Read 16 0 1 ∷ Write 16 0 (1 ∷ []) ∷ Write 17 0 (1 ∷ []) ∷ Write 17 0 []
+    ∷ Scribble 17 0 (1 ∷ []) ∷ Init 0 ∷ Reset ∷ Inflate 1 ∷ Take 0 ∷ Work ∷ []) ≡ true ∷ false
+    ∷ true ∷ false ∷ true ∷ true ∷ false ∷ false ∷ false ∷ false ∷ []
+wants_of_calls = refl
+
+no_guest_wants_none : map (λ call. may_want_memory world (OnGuest 0 call))
+    (Read 16 0 1 ∷ Init 0 ∷ []) ≡ false ∷ false ∷ []
+no_guest_wants_none = refl
