@@ -59,8 +59,8 @@ pub record SweepsPage (page : ℕ) (m1 m2 : Pages) (p1 p2 : Part)
 
 -- ---- work
 
--- The queue that the next page to be visited stands in: that of reports where each page of the taken
--- inflates is visited.
+-- The queue that the next page to be visited stands in: that of reports where each page of the
+-- taken inflates is visited.
 abbrev pub visited_queue : Part → ℕ
 visited_queue part = if is_some (next_page part.inflate.taken) then INFLATE_QUEUE else REPORT_QUEUE
 
@@ -82,7 +82,9 @@ VisitsNext m1 m2 p1 p2 (Some worked) =
     (page_to_visit p1 ≡ Some worked.page)
     × (worked.freed ≡ is_some (frame_at m1 worked.page))
     × (m2 ≡ discarded (worked.page ∷ []) m1)
-    × (p2 ≡ record (with_visit (visited_queue p1) p1) { loose = p1.loose ++ frames_behind m1 (worked.page ∷ []) })
+    × (p2 ≡ record (with_visit (visited_queue p1) p1) {
+      loose = p1.loose ++ frames_behind m1 (worked.page ∷ []);
+    })
 
 -- ---- finish, in its two parts
 
@@ -90,8 +92,8 @@ VisitsNext m1 m2 p1 p2 (Some worked) =
 abbrev pub with_lost : ℕ → Pages → List ℕ → List ℕ → List ℕ
 with_lost q mem pages loose = loose ++ lost_frames q pages mem
 
--- The ballooned pages after a finish: an inflate's are ballooned, a deflate's are ballooned no more,
--- and a report changes none.
+-- The ballooned pages after a finish: an inflate's are ballooned, a deflate's are ballooned no
+-- more, and a report changes none.
 abbrev pub flags_after : ℕ → List ℕ → List Bool → List Bool
 flags_after q pages flags =
     if q == REPORT_QUEUE then flags else flagged pages (q == INFLATE_QUEUE) flags

@@ -4,8 +4,11 @@
 -- keeps frames of its own may stand round another.
 use Rattle.std.specs.Prelude.{◌≡◌, ℕ, ◌+◌, ◌*◌, ◌%◌, ◌==◌, Bool, true, false, List, [], ◌∷◌, ◌++◌}
 use Rattle.std.specs.Prelude.{length, remove, replicate, if◌then◌else◌, Option, Some, None, is_some}
-use Rattle.std.specs.Prelude.{Result, Ok, Err, IsOk}
+use Rattle.std.specs.Prelude.{Result, Ok, Err, IsOk, ⊤}
 use Rattle.std.specs.List.{range_with_len}
+use Rattle.vb_model.specs.declared.calls.Claim.{Claim}
+use Rattle.vb_model.specs.declared.calls.Claim.TheVariants.{Gave as GaveNumber, GaveNoFrame}
+use Rattle.vb_model.specs.declared.calls.Claim.TheVariants.{GaveNoMemory}
 use Rattle.vb_model.specs.declared.layout.TheConstants.{INFLATE_QUEUE, DEFLATE_QUEUE}
 use Rattle.vb_model.specs.declared.layout.TheConstants.{STATISTICS_QUEUE, REPORT_QUEUE}
 use Rattle.vb_model.specs.declared.replies.Refusal.{Refusal}
@@ -84,8 +87,8 @@ taking q h pages part =
     })
     part
 
--- The pages that a chain of these pieces names on a queue, or what is wrong with it there: a buffer of
--- statistics names none.
+-- The pages that a chain of these pieces names on a queue, or what is wrong with it there: a buffer
+-- of statistics names none.
 abbrev pub request_of : ℕ → Pages → List Piece → Result (List ℕ) ChainFault
 request_of q mem pieces =
     if q == STATISTICS_QUEUE then statistics_request pieces
@@ -222,7 +225,8 @@ pub record FinishesBy (q index : ℕ) (m1 m2 : Pages) (p1 p2 : Part)
 -- ---- statistics
 
 -- The taken statistics buffer is used, with length 0, so that the driver may fill it anew.
-pub record AsksBy {T : Type 0} (m1 m2 : Pages) (p1 p2 : Part) (result : Result T Refusal) : Type 0 where
+pub record AsksBy {T : Type 0} (m1 m2 : Pages) (p1 p2 : Part) (result : Result T Refusal) :
+    Type 0 where
   pub refused : (why : Refusal) → ask_refusal p1 ≡ Some why →
       (result ≡ Err why) × (p2 ≡ p1) × (m2 ≡ m1)
   pub answers : ask_refusal p1 ≡ None → IsOk result
@@ -260,14 +264,23 @@ pub record DetachesBy (m1 m2 : Pages) (p1 p2 : Part) : Type 0 where
 -- ---- frames of the device's own
 
 -- A claim: a device that keeps no frames asks the host; one that does gives a frame of zeros whose
--- number wasn't out, or has none, or no memory for its bytes.
+-- number wasn't out, or has none, or no memory for its bytes; then the same numbers are out.
 abbrev pub Claims : Part → Part → Claimed → Type 0
 Claims p1 p2 AskHost = (p1.keeps ≡ false) × (p2 ≡ p1)
 Claims p1 p2 (Gave frame) =
     (p1.keeps ≡ true) × (frame.bytes ≡ zero_page) × (has p1.own frame.number ≡ false) ×
     SameSet p2.own (frame.number ∷ p1.own) × (p2 ≡ record p1 { own = p2.own })
-Claims p1 p2 NoFrame = (p1.keeps ≡ true) × (p2 ≡ p1)
-Claims p1 p2 NoMemory = (p1.keeps ≡ true) × (p2 ≡ p1)
+Claims p1 p2 NoFrame =
+    (p1.keeps ≡ true) × SameSet p2.own p1.own × (p2 ≡ record p1 { own = p2.own })
+Claims p1 p2 NoMemory =
+    (p1.keeps ≡ true) × SameSet p2.own p1.own × (p2 ≡ record p1 { own = p2.own })
+
+-- Where a device answers a claim itself, it may answer so.
+abbrev pub IsAnswered : (Claim → Bool) → Claimed → Type 0
+IsAnswered may AskHost = ⊤
+IsAnswered may (Gave frame) = may (GaveNumber frame.number) ≡ true
+IsAnswered may NoFrame = may GaveNoFrame ≡ true
+IsAnswered may NoMemory = may GaveNoMemory ≡ true
 
 -- A frame whose number is one of the device's own is kept, and any other comes back as it is.
 abbrev pub PutsBack : Part → Part → Page → Option Page → Type 0

@@ -27,7 +27,8 @@ finish_refusal q index part =
     first_refusal (finish_tests q part.status part.paced (taken_at q index part))
 
 abbrev pub ask_refusal : Part → Option Refusal
-ask_refusal part = first_refusal (ask_tests part.status (is_some (taken_at STATISTICS_QUEUE 0 part)))
+ask_refusal part =
+    first_refusal (ask_tests part.status (is_some (taken_at STATISTICS_QUEUE 0 part)))
 
 abbrev pub sweep_refusal : ℕ → Part → Option Refusal
 sweep_refusal page part =

@@ -52,8 +52,8 @@ impl<P: Pace> Model for BalloonDevice<P> {
 }
 
 impl<P: Pace> BalloonDevice<P> {
-    /// A device that no guest has yet.
-    pub fn new(alloc: Global) -> Self
+    /// A device of this pace that no guest has yet.
+    pub(crate) fn of_pace(alloc: Global) -> Self
         ensures unused { IsUnused result.mem result.part }
         ensures paced { result.part.paced ≡ P.IS_PACED }
         ensures keeps { result.part.keeps ≡ false }
@@ -79,6 +79,30 @@ impl<P: Pace> BalloonDevice<P> {
         let request = self.base.take_out(queue, index, P::IS_PACED)?;
         self.ballooned.note_finish(queue, &request);
         Ok(request.head())
+    }
+}
+
+impl ImmediateDevice {
+    /// An immediate device that no guest has yet.
+    pub fn new(alloc: Global) -> ImmediateDevice
+        ensures unused { IsUnused result.mem result.part }
+        ensures paced { result.part.paced ≡ false }
+        ensures keeps { result.part.keeps ≡ false }
+        ensures own { result.part.own ≡ [] }
+    {
+        BalloonDevice::of_pace(alloc)
+    }
+}
+
+impl PacedDevice {
+    /// A paced device that no guest has yet.
+    pub fn new(alloc: Global) -> PacedDevice
+        ensures unused { IsUnused result.mem result.part }
+        ensures paced { result.part.paced ≡ true }
+        ensures keeps { result.part.keeps ≡ false }
+        ensures own { result.part.own ≡ [] }
+    {
+        BalloonDevice::of_pace(alloc)
     }
 }
 
@@ -127,6 +151,8 @@ impl<P: Pace> Port for BalloonDevice<P> {
 }
 
 impl<P: Pace> Device for BalloonDevice<P> {
+    ghost answers = { λ _ _. false };
+
     fn attach(&mut self, alloc: Global, config: Config) -> Result<(), AllocError> {
         let ballooned = PageFlags::new(alloc, config.pages)?;
         self.base.attach(alloc, config)?;

@@ -350,8 +350,8 @@ impl DeviceBase {
         taken
     }
 
-    /// Takes a taken request out of queue 0, 1 or 4, with the frames behind an inflate's or a report's
-    /// pages. A paced device has visited all of them before. The driver isn't told before
+    /// Takes a taken request out of queue 0, 1 or 4, with the frames behind an inflate's or a
+    /// report's pages. A paced device has visited all of them before. The driver isn't told before
     /// `use_chain`.
     pub(crate) fn take_out(
         &mut self,
@@ -471,8 +471,8 @@ impl DeviceBase {
         discard_page(&mut self.ram, &mut self.loose, page)
     }
 
-    /// Counts the next page of the taken inflates as visited, or of the taken reports where there is
-    /// none.
+    /// Counts the next page of the taken inflates as visited, or of the taken reports where there
+    /// is none.
     fn count_visit(&mut self) -> Option<u32>
         ensures page { result ≡ page_to_visit self.old.part }
         ensures none { IfNone result (self.new ≡ self.old) }
@@ -487,8 +487,8 @@ impl DeviceBase {
         self.queues[3].visit_next()
     }
 
-    /// Visits the next page of the taken inflates, or of the taken reports where there is none: takes
-    /// its frame away, if it has one. None where every page is visited.
+    /// Visits the next page of the taken inflates, or of the taken reports where there is none:
+    /// takes its frame away, if it has one. None where every page is visited.
     pub(crate) fn visit_next(&mut self) -> Option<Worked>
         requires none { self.old.part.loose ≡ [] }
         ensures by { VisitsNext self.old.mem self.new.mem self.old.part self.new.part result }

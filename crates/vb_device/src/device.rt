@@ -1,7 +1,8 @@
 //! What a host sees of a device.
 
-ghost use Rattle.std.specs.Prelude.{◌≡◌, ◌≤◌, ◌<◌, ℕ, [], true, false, None, IsSome, IsOk, OnOk};
-ghost use Rattle.std.specs.Prelude.{OnErr, length, replicate, count_by};
+ghost use Rattle.std.specs.Prelude.{◌≡◌, ◌≤◌, ◌<◌, ℕ, Bool, [], true, false, None, IsSome, IsOk};
+ghost use Rattle.std.specs.Prelude.{OnOk, OnErr, length, replicate, count_by};
+ghost use Rattle.vb_model.specs.declared.calls.Claim.{Claim};
 ghost use Rattle.vb_model.specs.declared.layout.TheConstants.{STATISTICS_QUEUE};
 ghost use Rattle.vb_model.specs.Guest.{is_ballooned};
 ghost use Rattle.vb_model.specs.Layout.{ring_page};
@@ -9,7 +10,8 @@ ghost use Rattle.vb_model.specs.Limits.{is_config};
 ghost use Rattle.vb_model.specs.Status.{contains, driver_ok};
 ghost use Rattle.vb_ram.specs.Pages.{frame_at, Supplied, IsWhole};
 ghost use Rattle.vb_device.specs.Calls.{IsUnused, attached, TakesBy, WorksBy, FinishesBy};
-ghost use Rattle.vb_device.specs.Calls.{AsksBy, SweepsBy, DetachesBy, HandsBack, Claims, PutsBack};
+ghost use Rattle.vb_device.specs.Calls.{AsksBy, SweepsBy, DetachesBy, HandsBack, Claims};
+ghost use Rattle.vb_device.specs.Calls.{IsAnswered, PutsBack};
 
 use crate::{Claimed, Statistics, Worked};
 use std::alloc::{AllocError, Global};
@@ -24,6 +26,9 @@ use vb_status::Port;
 /// a page is loose in the device until `hand_back` gives it out.
 /// Only `attach` takes memory, and `claim` of a device that has frames of its own.
 pub trait Device: Port + Drop {
+    /// Whether the device, as it is, may answer the claim of a frame of its own so.
+    ghost answers: { Self → Claim → Bool };
+
     /// Gives an unused device a guest of this size: memory with no frame, and nothing initialised.
     /// Refused for want of memory alone; then nothing is changed.
     fn attach(&mut self, alloc: Global, config: Config) -> Result<(), AllocError>
@@ -73,14 +78,14 @@ pub trait Device: Port + Drop {
         ensures part { Self.part self.new ≡ record (Self.part self.old) { target = pages } }
         ensures mem { Self.mem self.new ≡ Self.mem self.old };
 
-    /// Takes the next chain that the driver has made available on a queue; answers its head, or none
-    /// where no chain is available. Of a request (queue 0 or 1) or a report (4) it remembers the pages,
-    /// of a buffer of statistics (2) what it says.
+    /// Takes the next chain that the driver has made available on a queue; answers its head, or
+    /// none where no chain is available. Of a request (queue 0 or 1) or a report (4) it remembers
+    /// the pages, of a buffer of statistics (2) what it says.
     ///
     /// Refused with `NoQueue`, `NotReady`, `NeedsReset`, `NoQueue` where the queue's feature wasn't
-    /// accepted, and `Busy` where 16 chains of the queue, or one of queue 2, are taken, tested in this
-    /// order; then with `Broken` where the bytes that the driver wrote
-    /// break a rule: DEVICE_NEEDS_RESET is set then. Nothing else is changed by a refusal.
+    /// accepted, and `Busy` where 16 chains of the queue, or one of queue 2, are taken, tested in
+    /// this order; then with `Broken` where the bytes that the driver wrote break a rule:
+    /// DEVICE_NEEDS_RESET is set then. Nothing else is changed by a refusal.
     fn take(&mut self, queue: u32) -> Result<Option<u16>, Refusal>
         ensures { TakesBy queue (Self.mem self.old) (Self.mem self.new)
             (Self.part self.old) (Self.part self.new) result };
@@ -119,8 +124,8 @@ pub trait Device: Port + Drop {
             (Self.part self.old) (Self.part self.new) result };
 
     /// Uses the statistics buffer that was taken, so that the driver fills it anew (VIRTIO 1.1,
-    /// 5.5.6.3). Refused with `NotReady`, `NeedsReset`, and `NotTaken` where none is taken, tested in
-    /// this order; a refusal changes nothing.
+    /// 5.5.6.3). Refused with `NotReady`, `NeedsReset`, and `NotTaken` where none is taken, tested
+    /// in this order; a refusal changes nothing.
     fn ask_stats(&mut self) -> Result<(), Refusal>
         requires backed { contains (Self.part self.old).status driver_ok ≡ true →
             IsSome (frame_at (Self.mem self.old) (ring_page STATISTICS_QUEUE)) }
@@ -152,9 +157,11 @@ pub trait Device: Port + Drop {
         ensures frame { HandsBack (Self.part self.old) (Self.part self.new) result }
         ensures mem { Self.mem self.new ≡ Self.mem self.old };
 
-    /// Claims a frame of the device's own for a page of its guest.
+    /// Claims a frame of the device's own for a page of its guest. A refused claim leaves the same
+    /// frames out.
     fn claim(&mut self) -> Claimed
         ensures frame { Claims (Self.part self.old) (Self.part self.new) result }
+        ensures answered { IsAnswered (answers self.old) result }
         ensures mem { Self.mem self.new ≡ Self.mem self.old };
 
     /// Takes a frame back that the device gave out of its own; any other comes back to the caller.

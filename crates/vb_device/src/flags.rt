@@ -98,8 +98,8 @@ impl PageFlags {
         }
     }
 
-    /// The flags after a request of this queue is finished: those of an inflate's pages are set, those
-    /// of a deflate's are taken back, and a report changes none.
+    /// The flags after a request of this queue is finished: those of an inflate's pages are set,
+    /// those of a deflate's are taken back, and a report changes none.
     pub(crate) fn note_finish(&mut self, queue: u32, request: &TakenRequest)
         ensures { self.new ≡ flags_after queue request.now.pages self.old }
     {

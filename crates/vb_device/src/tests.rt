@@ -112,7 +112,7 @@ struct Host<P: Pace> {
 impl<P: Pace> Host<P> {
     /// Its device has a guest of so many pages, whose rings and buffers have frames 0 to 12.
     fn new(rt: &impl Abort, alloc: Global, pages: u32, queue_size: u16) -> Self {
-        let mut device = BalloonDevice::<P>::new(alloc);
+        let mut device = BalloonDevice::<P>::of_pace(alloc);
         let config = Config {
             pages,
             queue_size,

@@ -1,14 +1,15 @@
 -- Writes of the driver to guest memory.
 use Rattle.std.proofs.Common.{◌≡◌, ◌≢◌, ◌∙◌, sym, ap, subst, arith, ℕ, ◌+◌, ◌-◌, ◌*◌, ◌/◌, ◌%◌, ◌<◌}
 use Rattle.std.proofs.Common.{◌≤◌, List, length, inl, inr, None, Result, Ok, Err, slice_index, OnOk}
-use Rattle.std.proofs.Common.{OnErr, IsOk}
+use Rattle.std.proofs.Common.{OnErr, IsOk, ◌∷◌}
 use Rattle.std.proofs.lemmas.Bool.{cases_lt, cases_eq}
 use Rattle.std.proofs.lemmas.List.{same_lists, get_or_default}
 use Rattle.std.proofs.Math.Nat.{div-add-mod}
 use Rattle.vb_model.specs.Layout.{buffer_page, buffer_offset}
 use Rattle.vb_ram.specs.Pages.{Pages, page_at, byte_at, SameBut, SameIn, Wrote}
-use Rattle.vb_ram.proofs.FieldLaws.{field_in, same_below, same_above, same_other}
+use Rattle.vb_ram.proofs.FieldLaws.{field_in, same_page, same_below, same_above, same_other}
 use Rattle.vb_ram.proofs.Contents.{same_page_at, same_contents}
+use Rattle.vb_ring.specs.Frame.{Extent, IsIn, SameOutside}
 use Rattle.vb_driver.specs.Coding.{Names}
 
 -- bytes that stood there already, written, change nothing
@@ -77,3 +78,29 @@ names_kept old new p o xs hi same fits n = record {
   each = λ k lt. field_in 4 old new p o hi (o + 4 * k) same (omega arith) (omega arith)
       ∙ n.each k lt;
 }
+
+-- bytes of one page are written, and then others
+pub outside_both : (m1 m2 m3 : Pages) (p lo hi : ℕ) (es : List Extent) → SameBut m1 m2 p lo hi
+    → SameOutside m2 m3 es
+    → SameOutside m1 m3 (record { page = p; from = lo; to = hi } ∷ es)
+outside_both m1 m2 m3 p lo hi es first then = record {
+  bytes = λ q o out. then.bytes q o out.1 ∙ before q o out.0;
+  others = λ q out. then.others q out.1 ∙ first.others q out.0;
+  backing = λ q. then.backing q ∙ first.backing q;
+  sizes = λ q. then.sizes q ∙ first.sizes q;
+  count = then.count ∙ first.count;
+}
+  where
+    before : (q o : ℕ) → (IsIn (record { page = p; from = lo; to = hi }) q o → ⊥)
+        → byte_at m2 q o ≡ byte_at m1 q o
+    before q o out = elim (cases_eq q p) [
+      | inr ne ↦ (same_page m1 m2 q o (o + 1) (first.others q ne)).bytes o (omega arith) (omega arith)
+      | inl is ↦ subst (λ (k : ℕ). byte_at m2 k o ≡ byte_at m1 k o) (sym is)
+          (elim (cases_lt o lo) [
+            | inl low ↦ first.below o low
+            | inr from ↦ elim (cases_lt o hi) [
+              | inr past ↦ first.above o past
+              | inl to ↦ absurd (out (record { page = is; from = from; to = to }))
+            ]
+          ])
+    ]

@@ -13,7 +13,8 @@ use Rattle.vb_ring.specs.Ends.{add_answer, after_add}
 use Rattle.vb_ring.specs.Calls.{AddsBy}
 use Rattle.vb_driver.specs.Coding.{IsStatistic}
 use Rattle.vb_driver.specs.State.{IsStatisticsQueue}
-use Rattle.vb_driver.specs.Calls.{PostsBuffer}
+use Rattle.vb_driver.specs.Calls.{PostsBuffer, written_of}
+use Rattle.vb_driver.proofs.Buffers.{outside_both}
 use Rattle.vb_driver.proofs.RequestTables.{add_gives}
 use Rattle.vb_driver.proofs.Posting.{OnePiece, one_piece, added_head}
 use Rattle.vb_driver.proofs.OneBuffer.{none_used, first_head, queue_added}
@@ -75,6 +76,7 @@ fills_at m1 m2 m3 r r2 n a free total s adds =
         backing = λ p. adds.publishes.rest.backing p ∙ s.wrote.backing p;
         count = adds.publishes.rest.count ∙ s.wrote.count;
       };
+      outside = outside_both m1 m2 m3 12 0 20 (written_of r) s.wrote adds.publishes.rest;
     }
 
 -- whatever head the add tells, it is 0

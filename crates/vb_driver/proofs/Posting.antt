@@ -21,8 +21,8 @@ use Rattle.vb_ring.proofs.EntryLaws.{entries_apart}
 use Rattle.vb_ring.proofs.MeaningLaws.{ring_apart, tracks_apart}
 use Rattle.vb_driver.specs.Coding.{Names}
 use Rattle.vb_driver.specs.State.{AreRequests}
-use Rattle.vb_driver.specs.Calls.{Posts, Announces}
-use Rattle.vb_driver.proofs.Buffers.{buffer_apart, names_kept}
+use Rattle.vb_driver.specs.Calls.{Posts, Announces, written_of}
+use Rattle.vb_driver.proofs.Buffers.{buffer_apart, names_kept, outside_both}
 use Rattle.vb_driver.proofs.RequestTables.{add_gives, next_path_is, head_low, requests_added_at}
 use Rattle.vb_driver.proofs.Placing.{or_false}
 
@@ -122,6 +122,8 @@ posts_at m1 m2 m3 r r2 sent base h a l pages s adds =
         backing = λ p. adds.publishes.rest.backing p ∙ s.wrote.backing p;
         count = adds.publishes.rest.count ∙ s.wrote.count;
       };
+      outside = outside_both m1 m2 m3 (buffer_page base h) (buffer_offset h)
+          (buffer_offset h + 4 * length pages) (written_of r) s.wrote adds.publishes.rest;
       requests = requests_added_at r r2 sent h h pages s.requests s.is_end s.next small adds.state
           refl;
     }

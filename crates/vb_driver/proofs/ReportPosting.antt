@@ -111,4 +111,5 @@ module _ (m1 m2 : Pages) (side : ReportSide) (r2 : DriverEnd) (pieces : List Pie
           backing = added.publishes.rest.backing;
           count = added.publishes.rest.count;
         };
+        outside = added.publishes.rest;
       }

@@ -24,7 +24,7 @@ use Rattle.vb_model.specs.Guest.{stats_vq}
 use Rattle.vb_model.specs.Driver.{AllDistinct, with_block, without_block}
 use Rattle.vb_model.specs.Life.{place_after_reset, feature_refusal, accepted_before}
 use Rattle.vb_model.specs.Limits.{max_outstanding, page_size}
-use Rattle.vb_model.specs.Layout.{buffers_page}
+use Rattle.vb_model.specs.Layout.{buffers_page, buffer_page, buffer_offset}
 use Rattle.vb_model.specs.Status.{failed}
 use Rattle.vb_model.specs.Refusals.{first_refusal}
 use Rattle.vb_ram.specs.Pages.{Pages, SameIn}
@@ -35,7 +35,8 @@ use Rattle.vb_status.specs.After.{part_after_reset}
 use Rattle.vb_chain.specs.Table.{descriptor_at}
 use Rattle.vb_ring.specs.Ends.{DriverEnd, after_add, after_take, next_head, used_answer}
 use Rattle.vb_ring.specs.Meaning.{UsedElem, ShowsEntries, Shows, Tracks}
-use Rattle.vb_ring.specs.Calls.{TakesUsedBy}
+use Rattle.vb_ring.specs.Calls.{TakesUsedBy, table_extent, avail_entry, avail_counter}
+use Rattle.vb_ring.specs.Frame.{Extent, SameOutside}
 use Rattle.vb_driver.specs.declared.answers.Posted.{Posted}
 use Rattle.vb_driver.specs.declared.answers.Reaped.{Reaped}
 use Rattle.vb_driver.specs.Coding.{IsCoded, SameButBuffer, AreFigures, AreReported, SameButPages}
@@ -116,10 +117,30 @@ pub record Announces (m1 m2 : Pages) (r1 r2 : DriverEnd) (head : ℕ) : Type 0 w
       → Shows m2 r1.layout r1.size (heads ++ head ∷ []) elems
       × Tracks m2 r2 (heads ++ head ∷ []) elems s
 
+-- What an add writes to its ring: the descriptors, the available entry and the available index.
+-- Both flags, both event words, the used ring and what lies between are not among them.
+abbrev pub written_of : DriverEnd → List Extent
+written_of ring =
+    table_extent ring.layout ring.size ∷ avail_entry ring.layout ring.size ring.published
+    ∷ avail_counter ring.layout ∷ []
+
+-- The page numbers of a request in its buffer.
+abbrev pub numbers_extent : ℕ → ℕ → ℕ → Extent
+numbers_extent base head count =
+    record {
+      page = buffer_page base head;
+      from = buffer_offset head;
+      to = buffer_offset head + 4 * count;
+    }
+
+-- The figures in the statistics buffer.
+abbrev pub figures_extent : Extent
+figures_extent = record { page = STATISTICS_PAGE; from = 0; to = 2 * STATISTIC_SIZE }
+
 -- A request for these pages goes out on a queue whose buffers begin at page `base`: it has the
 -- lowest head that none of the queue's requests has, stands coded in its buffer, and is published
 -- last.
--- Other buffers, other pages, the used ring and the frames are as before.
+-- Nothing else of memory has changed.
 pub record Posts (m1 m2 : Pages) (s1 s2 : Side) (base : ℕ) (pages : List ℕ)
     (head : ℕ) : Type 0 where
   pub lowest : next_head s1.ring ≡ Some head
@@ -131,6 +152,7 @@ pub record Posts (m1 m2 : Pages) (s1 s2 : Side) (base : ℕ) (pages : List ℕ)
       → descriptor_at m2 s1.ring.layout.table i ≡ descriptor_at m1 s1.ring.layout.table i
   pub announces : Announces m1 m2 s1.ring s2.ring head
   pub rest : SameButBuffer m1 m2 s1.ring.layout.table base head
+  pub outside : SameOutside m1 m2 (numbers_extent base head (length pages) ∷ written_of s1.ring)
   pub requests : AreRequests s2
 
 -- The stranded pages that an inflate request offers first.
@@ -191,8 +213,8 @@ pub record DeflatesOnOomBy (m1 m2 : Pages) (p1 p2 : Part) (d1 d2 : DriverState) 
   pub refused : OnErr result (Unchanged m1 m2 p1 p2 d1 d2)
   pub asks : IfOk result (AsksBack m1 m2 p1 p2 d1 d2 (oom_count d1 n))
 
--- A report of these blocks goes out: its chain has the first descriptors, one a block, and its head,
--- 0, is published. Other descriptors, other pages, the used ring and the frames are as before.
+-- A report of these blocks goes out: its chain has the first descriptors, one a block, and its
+-- head, 0, is published. Nothing else of memory has changed.
 pub record PostsReport (m1 m2 : Pages) (s1 s2 : ReportSide) (blocks : List Block) : Type 0 where
   pub state : s2 ≡ record { ring = after_add s1.ring (length blocks) (Ok 0); blocks = blocks }
   pub coded : AreReported m2 s1.ring.layout.table blocks
@@ -200,6 +222,7 @@ pub record PostsReport (m1 m2 : Pages) (s1 s2 : ReportSide) (blocks : List Block
       → descriptor_at m2 s1.ring.layout.table i ≡ descriptor_at m1 s1.ring.layout.table i
   pub announces : Announces m1 m2 s1.ring s2.ring 0
   pub rest : SameButPages m1 m2 s1.ring.layout.table s1.ring.layout.table
+  pub outside : SameOutside m1 m2 (written_of s1.ring)
 
 -- Free blocks are reported to the host; all processors' lists are drained before.
 pub record Reports (m1 m2 : Pages) (p1 p2 : Part) (d1 d2 : DriverState) (blocks : List Block)
@@ -258,8 +281,8 @@ without_request queue head d =
 abbrev pub place_reaped : ℕ → Place
 place_reaped queue = if queue == INFLATE_QUEUE then Lent else Free
 
--- The page areas, once these pages of a used request have moved on: those of a deflate come back one
--- by one, those of a report in their blocks.
+-- The page areas, once these pages of a used request have moved on: those of a deflate come back
+-- one by one, those of a report in their blocks.
 abbrev pub areas_reaped : ℕ → List ℕ → DriverState → FreePages
 areas_reaped queue pages d =
     if queue == INFLATE_QUEUE then d.areas
@@ -307,8 +330,7 @@ pub record ReapsBy (m1 m2 : Pages) (p1 p2 : Part) (d1 d2 : DriverState) (queue :
 -- ---- statistics
 
 -- The statistics buffer goes out with these figures: it has descriptor 0, and its head, 0, is
--- published. The rest of its page, other descriptors, other pages, the used ring and the frames are as
--- before.
+-- published. Nothing else of memory has changed.
 pub record PostsBuffer (m1 m2 : Pages) (r1 r2 : DriverEnd) (figures : Figures) : Type 0 where
   pub state : r2 ≡ after_add r1 1 (Ok 0)
   pub coded : AreFigures m2 r1.layout.table figures
@@ -317,6 +339,7 @@ pub record PostsBuffer (m1 m2 : Pages) (r1 r2 : DriverEnd) (figures : Figures) :
       → descriptor_at m2 r1.layout.table i ≡ descriptor_at m1 r1.layout.table i
   pub announces : Announces m1 m2 r1 r2 0
   pub rest : SameButPages m1 m2 r1.layout.table STATISTICS_PAGE
+  pub outside : SameOutside m1 m2 (figures_extent ∷ written_of r1)
 
 -- The driver's end of the queue of statistics, once it has seen that the buffer was used.
 abbrev pub emptied : DriverEnd → DriverEnd
@@ -358,8 +381,8 @@ FirstBuffer true m1 m2 d1 d2 =
 FirstBuffer false m1 m2 d1 d2 =
     (m2 ≡ m1) × (d2.statistics ≡ fresh_statistics d1.queue_size)
 
--- The rings begin anew in zeroed pages, the first statistics buffer is filled, and the device is told
--- so: its status is ACKNOWLEDGE, DRIVER, FEATURES_OK and DRIVER_OK (1 + 2 + 8 + 4).
+-- The rings begin anew in zeroed pages, the first statistics buffer is filled, and the device is
+-- told so: its status is ACKNOWLEDGE, DRIVER, FEATURES_OK and DRIVER_OK (1 + 2 + 8 + 4).
 pub record Starts (m1 m2 : Pages) (p1 p2 : Part) (d1 d2 : DriverState) (wanted : ℕ) : Type 0 where
   pub part : p2 ≡ record (part_after_reset p1) { status = 15; features = wanted }
   pub driver : d2 ≡ record d1 {

@@ -266,8 +266,8 @@ impl PlaceTable {
         }
     }
 
-    /// Moves the pages of a run to a place: from this page on those that are where it is, and none from
-    /// `end` on. Answers where the run ends.
+    /// Moves the pages of a run to a place: from this page on those that are where it is, and none
+    /// from `end` on. Answers where the run ends.
     fn move_run(&mut self, start: u32, end: u32, place: Place) -> u32
         requires some { start < end }
         requires inside { end ≤ length self.old }

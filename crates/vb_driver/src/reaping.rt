@@ -201,12 +201,12 @@ impl Driver {
     }
 
     /// Takes back the next request of a queue that the device used, if there is one: the pages of
-    /// an inflate request are lent from now on, those of a deflate request or of a report free. Then
-    /// the device is told how many pages are lent or asked back.
+    /// an inflate request are lent from now on, those of a deflate request or of a report free.
+    /// Then the device is told how many pages are lent or asked back.
     ///
-    /// Refused for `NoQueue` (not 0, 1 or 4), `NotReady`, `NoFeature` (queue 4, but REPORTING wasn't
-    /// accepted), `RingBroken` (the used ring says what no device may say: the driver gives up, by
-    /// FAILED in the status); nothing else is changed then.
+    /// Refused for `NoQueue` (not 0, 1 or 4), `NotReady`, `NoFeature` (queue 4, but REPORTING
+    /// wasn't accepted), `RingBroken` (the used ring says what no device may say: the driver gives
+    /// up, by FAILED in the status); nothing else is changed then.
     pub fn reap<P: Port>(&mut self, port: &mut P, queue: u32) -> Result<Option<Reaped>, Refusal>
         requires { IsLargeEnough (P.mem port.old) }
         ensures { ReapsBy (P.mem port.old) (P.mem port.new) (P.part port.old) (P.part port.new)

@@ -44,13 +44,13 @@ impl Driver {
     }
 
     /// Reports free blocks to the host, which may take their frames (profile): the first ones of
-    /// order 4 or more from page `from` on, by rising start, at most 16 and as many as the queue has
-    /// descriptors. No allocation gets a page of them until the report is reaped. The lists of all
-    /// processors are drained into the page areas before.
+    /// order 4 or more from page `from` on, by rising start, at most 16 and as many as the queue
+    /// has descriptors. No allocation gets a page of them until the report is reaped. The lists of
+    /// all processors are drained into the page areas before.
     ///
     /// Refused for `NotReady`, `NoFeature` (REPORTING wasn't accepted), `QueueFull` (a report is
-    /// out); then nothing is changed. Refused for `Nothing` (there is no such block); then the lists
-    /// are drained, and no page changes its place.
+    /// out); then nothing is changed. Refused for `Nothing` (there is no such block); then the
+    /// lists are drained, and no page changes its place.
     pub fn report<P: Port>(&mut self, port: &mut P, from: u32) -> Result<Posted, Refusal>
         requires memory { IsLargeEnough (P.mem port.old) }
         requires backed { is_up (P.part port.old).status ≡ true → IsBacked (P.mem port.old) }

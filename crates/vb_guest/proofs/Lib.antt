@@ -67,3 +67,4 @@ pub mod RogueDevice
 pub mod Asked
 pub mod RogueLives
 pub mod RogueMemory
+pub mod Exactly

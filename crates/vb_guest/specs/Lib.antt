@@ -7,3 +7,4 @@ pub mod Supply
 pub mod Steps
 pub mod Replies
 pub mod Lives
+pub mod Exact

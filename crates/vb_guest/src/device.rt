@@ -4,6 +4,8 @@ ghost use Rattle.std.specs.Prelude.{◌≡◌, Bool, ℕ, [], false};
 ghost use Rattle.vb_model.specs.declared.replies.Reply.TheVariants.{Done};
 ghost use Rattle.vb_model.specs.Guest.{Guest};
 ghost use Rattle.vb_driver.specs.State.{DriverState};
+ghost use Rattle.vb_device.specs.Calls.{TakesBy, WorksBy, FinishesBy, SweepsBy, AsksBy};
+ghost use Rattle.vb_guest.specs.Exact.{IsHandedBack};
 ghost use Rattle.vb_guest.specs.Replies.{taken_reply, worked_reply, finished_reply, swept_reply};
 ghost use Rattle.vb_guest.specs.Replies.{asked_reply};
 ghost use Rattle.vb_guest.specs.Stands.{Stands};
@@ -19,10 +21,12 @@ use vb_model::{Call, Refusal};
 /// no chain is available. Of a statistics buffer it reads what it says. Refused with `NoQueue`,
 /// `NotReady`, `NoQueue` where the queue's feature wasn't accepted, and `Busy`, tested in this order.
 pub fn take<D: Device>(device: &mut D, queue: u32) -> Result<Option<u16>, Refusal>
-    ensures { (keeps : Bool) (d : DriverState) (g : Guest)
+    ensures step { (keeps : Bool) (d : DriverState) (g : Guest)
         → Stands keeps (D.mem device.old) (D.part device.old) d g
         → StepsAlone (Stands keeps (D.mem device.new) (D.part device.new) d) g (Call.Take queue)
         (taken_reply result) }
+    ensures exact { TakesBy queue (D.mem device.old) (D.mem device.new)
+        (D.part device.old) (D.part device.new) result }
 {
     device.take(queue)
 }
@@ -38,11 +42,13 @@ pub fn work<D: Device, K: FrameKeeper>(
     requires { (keeps : Bool) × (d : DriverState) × (g : Guest)
         × Stands keeps (D.mem device.old) (D.part device.old) d g
         × (keeps ≡ false → AreOut g (K.out keeper.old)) }
-    ensures { (keeps : Bool) (d : DriverState) (g : Guest)
+    ensures step { (keeps : Bool) (d : DriverState) (g : Guest)
         → Stands keeps (D.mem device.old) (D.part device.old) d g
         → StepsOver (Stands keeps (D.mem device.new) (D.part device.new) d) K.answers
         (supply_of (D.part device.old) (K.out keeper.old))
         (supply_of (D.part device.new) (K.out keeper.new)) [] g Call.Work (worked_reply result) }
+    ensures exact { IsHandedBack (λ part. WorksBy (D.mem device.old) (D.mem device.new)
+        (D.part device.old) part result) (D.part device.new) }
 {
     let answer = device.work();
     return_loose(device, keeper);
@@ -61,12 +67,14 @@ pub fn finish<D: Device, K: FrameKeeper>(
     requires { (keeps : Bool) × (d : DriverState) × (g : Guest)
         × Stands keeps (D.mem device.old) (D.part device.old) d g
         × (keeps ≡ false → AreOut g (K.out keeper.old)) }
-    ensures { (keeps : Bool) (d : DriverState) (g : Guest)
+    ensures step { (keeps : Bool) (d : DriverState) (g : Guest)
         → Stands keeps (D.mem device.old) (D.part device.old) d g
         → StepsOver (Stands keeps (D.mem device.new) (D.part device.new) d) K.answers
         (supply_of (D.part device.old) (K.out keeper.old))
         (supply_of (D.part device.new) (K.out keeper.new)) [] g
         (Call.Finish queue index) (finished_reply result) }
+    ensures exact { IsHandedBack (λ part. FinishesBy queue index (D.mem device.old) (D.mem device.new)
+        (D.part device.old) part result) (D.part device.new) }
 {
     let answer = device.finish(queue, index);
     return_loose(device, keeper);
@@ -83,12 +91,14 @@ pub fn sweep<D: Device, K: FrameKeeper>(
     requires { (keeps : Bool) × (d : DriverState) × (g : Guest)
         × Stands keeps (D.mem device.old) (D.part device.old) d g
         × (keeps ≡ false → AreOut g (K.out keeper.old)) }
-    ensures { (keeps : Bool) (d : DriverState) (g : Guest)
+    ensures step { (keeps : Bool) (d : DriverState) (g : Guest)
         → Stands keeps (D.mem device.old) (D.part device.old) d g
         → StepsOver (Stands keeps (D.mem device.new) (D.part device.new) d) K.answers
         (supply_of (D.part device.old) (K.out keeper.old))
         (supply_of (D.part device.new) (K.out keeper.new)) [] g
         (Call.Sweep page) (swept_reply result) }
+    ensures exact { IsHandedBack (λ part. SweepsBy page (D.mem device.old) (D.mem device.new)
+        (D.part device.old) part result) (D.part device.new) }
 {
     let answer = device.sweep(page);
     return_loose(device, keeper);
@@ -100,10 +110,12 @@ pub fn sweep<D: Device, K: FrameKeeper>(
 pub fn ask<D: Device>(device: &mut D) -> Result<(), Refusal>
     requires { (keeps : Bool) × (d : DriverState) × (g : Guest)
         × Stands keeps (D.mem device.old) (D.part device.old) d g }
-    ensures { (keeps : Bool) (d : DriverState) (g : Guest)
+    ensures step { (keeps : Bool) (d : DriverState) (g : Guest)
         → Stands keeps (D.mem device.old) (D.part device.old) d g
         → StepsAlone (Stands keeps (D.mem device.new) (D.part device.new) d) g Call.Ask
         (asked_reply result) }
+    ensures exact { AsksBy (D.mem device.old) (D.mem device.new)
+        (D.part device.old) (D.part device.new) result }
 {
     device.ask_stats()
 }
@@ -116,6 +128,8 @@ pub fn set_target<D: Device>(device: &mut D, pages: u32)
     ensures step { (keeps : Bool) (d : DriverState) (g : Guest)
         → Stands keeps (D.mem device.old) (D.part device.old) d g
         → StepsAlone (Stands keeps (D.mem device.new) (D.part device.new) d) g (Call.SetTarget pages) Done }
+    ensures part { D.part device.new ≡ record (D.part device.old) { target = pages } }
+    ensures mem { D.mem device.new ≡ D.mem device.old }
 {
     device.set_target(pages);
 }

@@ -4,6 +4,8 @@ ghost use Rattle.std.specs.Prelude.{◌≡◌, Bool, ◌≤◌, ℕ, length};
 ghost use Rattle.vb_model.specs.Guest.{Guest};
 ghost use Rattle.vb_ram.specs.Pages.{Pages};
 ghost use Rattle.vb_ram.specs.Part.{Part};
+ghost use Rattle.vb_driver.specs.Calls.{AllocatesBy, FreesBy, InflatesBy, DeflatesBy, DeflatesOnOomBy};
+ghost use Rattle.vb_driver.specs.Calls.{ReportsBy, FillsBy, ReapsBy};
 ghost use Rattle.vb_guest.specs.Replies.{done_reply, page_reply, posted_reply, reaped_reply};
 ghost use Rattle.vb_guest.specs.Replies.{filled_reply};
 ghost use Rattle.vb_guest.specs.Stands.{Stands};
@@ -16,9 +18,10 @@ use vb_model::{Call, Refusal};
 /// A processor asks for a block of 2^order pages (Gorman, chapter 6); answers its first page.
 /// Refused with `BadOrder`, `BadCpu` and `NoPages`, tested in this order.
 pub fn alloc(driver: &mut Driver, cpu: u32, order: u32) -> Result<u32, Refusal>
-    ensures { (keeps : Bool) (mem : Pages) (part : Part) (g : Guest)
+    ensures step { (keeps : Bool) (mem : Pages) (part : Part) (g : Guest)
         → Stands keeps mem part driver.old g
         → StepsAlone (Stands keeps mem part driver.new) g (Call.Alloc cpu order) (page_reply result) }
+    ensures exact { AllocatesBy driver.old driver.new cpu order result }
 {
     driver.alloc(cpu, order)
 }
@@ -26,9 +29,10 @@ pub fn alloc(driver: &mut Driver, cpu: u32, order: u32) -> Result<u32, Refusal>
 /// A processor gives a block back that an allocation answered (Gorman, chapter 6). Refused with
 /// `BadOrder`, `BadCpu` and `NotHeld`, tested in this order.
 pub fn free(driver: &mut Driver, cpu: u32, start: u32, order: u32) -> Result<(), Refusal>
-    ensures { (keeps : Bool) (mem : Pages) (part : Part) (g : Guest)
+    ensures step { (keeps : Bool) (mem : Pages) (part : Part) (g : Guest)
         → Stands keeps mem part driver.old g
         → StepsAlone (Stands keeps mem part driver.new) g (Call.Free cpu start order) (done_reply result) }
+    ensures exact { FreesBy driver.old driver.new cpu start order result }
 {
     driver.free(cpu, start, order)
 }
@@ -42,10 +46,12 @@ pub fn inflate<D: Device>(
 ) -> Result<Posted, Refusal>
     requires { (keeps : Bool) × (g : Guest)
         × Stands keeps (D.mem device.old) (D.part device.old) driver.old g }
-    ensures { (keeps : Bool) (g : Guest)
+    ensures step { (keeps : Bool) (g : Guest)
         → Stands keeps (D.mem device.old) (D.part device.old) driver.old g
         → StepsAlone (Stands keeps (D.mem device.new) (D.part device.new) driver.new) g
         (Call.Inflate pages) (posted_reply result) }
+    ensures exact { InflatesBy (D.mem device.old) (D.mem device.new)
+        (D.part device.old) (D.part device.new) driver.old driver.new pages result }
 {
     driver.inflate(device, pages)
 }
@@ -59,10 +65,12 @@ pub fn deflate<D: Device>(
 ) -> Result<Posted, Refusal>
     requires { (keeps : Bool) × (g : Guest)
         × Stands keeps (D.mem device.old) (D.part device.old) driver.old g }
-    ensures { (keeps : Bool) (g : Guest)
+    ensures step { (keeps : Bool) (g : Guest)
         → Stands keeps (D.mem device.old) (D.part device.old) driver.old g
         → StepsAlone (Stands keeps (D.mem device.new) (D.part device.new) driver.new) g
         (Call.Deflate pages) (posted_reply result) }
+    ensures exact { DeflatesBy (D.mem device.old) (D.mem device.new)
+        (D.part device.old) (D.part device.new) driver.old driver.new pages result }
 {
     driver.deflate(device, pages)
 }
@@ -73,10 +81,12 @@ pub fn deflate<D: Device>(
 pub fn oom<D: Device>(driver: &mut Driver, device: &mut D, pages: u32) -> Result<Posted, Refusal>
     requires { (keeps : Bool) × (g : Guest)
         × Stands keeps (D.mem device.old) (D.part device.old) driver.old g }
-    ensures { (keeps : Bool) (g : Guest)
+    ensures step { (keeps : Bool) (g : Guest)
         → Stands keeps (D.mem device.old) (D.part device.old) driver.old g
         → StepsAlone (Stands keeps (D.mem device.new) (D.part device.new) driver.new) g (Call.Oom pages)
         (posted_reply result) }
+    ensures exact { DeflatesOnOomBy (D.mem device.old) (D.mem device.new)
+        (D.part device.old) (D.part device.new) driver.old driver.new pages result }
 {
     driver.oom(device, pages)
 }
@@ -86,10 +96,12 @@ pub fn oom<D: Device>(driver: &mut Driver, device: &mut D, pages: u32) -> Result
 pub fn report<D: Device>(driver: &mut Driver, device: &mut D, from: u32) -> Result<Posted, Refusal>
     requires { (keeps : Bool) × (g : Guest)
         × Stands keeps (D.mem device.old) (D.part device.old) driver.old g }
-    ensures { (keeps : Bool) (g : Guest)
+    ensures step { (keeps : Bool) (g : Guest)
         → Stands keeps (D.mem device.old) (D.part device.old) driver.old g
         → StepsAlone (Stands keeps (D.mem device.new) (D.part device.new) driver.new) g
         (Call.Report from) (posted_reply result) }
+    ensures exact { ReportsBy (D.mem device.old) (D.mem device.new)
+        (D.part device.old) (D.part device.new) driver.old driver.new from result }
 {
     driver.report(device, from)
 }
@@ -99,10 +111,12 @@ pub fn report<D: Device>(driver: &mut Driver, device: &mut D, from: u32) -> Resu
 pub fn stats<D: Device>(driver: &mut Driver, device: &mut D) -> Result<bool, Refusal>
     requires { (keeps : Bool) × (g : Guest)
         × Stands keeps (D.mem device.old) (D.part device.old) driver.old g }
-    ensures { (keeps : Bool) (g : Guest)
+    ensures step { (keeps : Bool) (g : Guest)
         → Stands keeps (D.mem device.old) (D.part device.old) driver.old g
         → StepsAlone (Stands keeps (D.mem device.new) (D.part device.new) driver.new) g Call.Stats
         (filled_reply result) }
+    ensures exact { FillsBy (D.mem device.old) (D.mem device.new)
+        (D.part device.old) (D.part device.new) driver.old driver.new result }
 {
     driver.stats(device)
 }
@@ -117,10 +131,12 @@ pub fn reap<D: Device>(
 ) -> Result<Option<Reaped>, Refusal>
     requires { (keeps : Bool) × (g : Guest)
         × Stands keeps (D.mem device.old) (D.part device.old) driver.old g }
-    ensures { (keeps : Bool) (g : Guest)
+    ensures step { (keeps : Bool) (g : Guest)
         → Stands keeps (D.mem device.old) (D.part device.old) driver.old g
         → StepsAlone (Stands keeps (D.mem device.new) (D.part device.new) driver.new) g (Call.Reap queue)
         (reaped_reply result) }
+    ensures exact { ReapsBy (D.mem device.old) (D.mem device.new)
+        (D.part device.old) (D.part device.new) driver.old driver.new queue result }
 {
     driver.reap(device, queue)
 }

@@ -5,9 +5,10 @@ ghost use Rattle.std.specs.List.{range_with_len};
 ghost use Rattle.vb_model.specs.Guest.{Guest};
 ghost use Rattle.vb_model.specs.declared.replies.Reply.TheVariants.{Done};
 ghost use Rattle.vb_model.specs.Orderly.{times};
-ghost use Rattle.vb_status.specs.After.{part_after_reset};
-ghost use Rattle.vb_driver.specs.State.{DriverState};
+ghost use Rattle.vb_driver.specs.Calls.{ResetsBy};
+ghost use Rattle.vb_driver.specs.State.{DriverState, fresh_driver};
 ghost use Rattle.vb_device.specs.Discards.{frames_behind};
+ghost use Rattle.vb_guest.specs.Exact.{InitialisesBy, IsReset};
 ghost use Rattle.vb_guest.specs.Lives.{bare_from, SuppliesBy};
 ghost use Rattle.vb_guest.specs.Replies.{ready_reply};
 ghost use Rattle.vb_guest.specs.Stands.{Stands};
@@ -73,12 +74,15 @@ pub fn init<D: Device, K: FrameKeeper>(
 ) -> Result<(), Refusal>
     requires { (keeps : Bool) × (g : Guest)
         × Stands keeps (D.mem device.old) (D.part device.old) driver.old g }
-    ensures { (keeps : Bool) (g : Guest)
+    ensures step { (keeps : Bool) (g : Guest)
         → Stands keeps (D.mem device.old) (D.part device.old) driver.old g
         → StepsOver (Stands keeps (D.mem device.new) (D.part device.new) driver.new) K.answers
         (supply_of (D.part device.old) (K.out keeper.old))
         (supply_of (D.part device.new) (K.out keeper.new)) claims.new.items g
         (Call.Init wanted) (ready_reply result) }
+    ensures exact { InitialisesBy K.answers (supply_of (D.part device.old) (K.out keeper.old))
+        (K.out keeper.new) (D.mem device.old) (D.mem device.new) (D.part device.old)
+        (D.part device.new) driver.old driver.new claims.new.items wanted result }
 {
     claims.clear();
     if device.status().bits() != 0 {
@@ -93,9 +97,11 @@ pub fn init<D: Device, K: FrameKeeper>(
 
 /// The driver resets the device (VIRTIO 1.1, 2.1).
 pub fn reset<D: Device>(driver: &mut Driver, device: &mut D)
-    ensures { (keeps : Bool) (g : Guest)
+    ensures step { (keeps : Bool) (g : Guest)
         → Stands keeps (D.mem device.old) (D.part device.old) driver.old g
         → StepsAlone (Stands keeps (D.mem device.new) (D.part device.new) driver.new) g Call.Reset Done }
+    ensures exact { ResetsBy (D.mem device.old) (D.mem device.new)
+        (D.part device.old) (D.part device.new) driver.old driver.new }
 {
     driver.reset(device);
 }
@@ -108,10 +114,7 @@ fn take_all_back<D: Device, K: FrameKeeper>(device: &mut D, keeper: &mut K)
         (frames_behind (D.mem device.old) (range_with_len 0 (length (D.mem device.old))))
         (supply_of (D.part device.old) (K.out keeper.old)) }
     ensures mem { D.mem device.new ≡ replicate (length (D.mem device.old)) None }
-    ensures part { D.part device.new ≡ record (part_after_reset (D.part device.old)) {
-      loose = [];
-      own = (D.part device.new).own;
-    } }
+    ensures part { IsReset (D.part device.old) (D.part device.new) }
     ensures moves { Moves (supply_of (D.part device.old) (K.out keeper.old))
         (supply_of (D.part device.new) (K.out keeper.new)) nothing
         (λ n. times n
@@ -127,11 +130,15 @@ pub fn restart<D: Device, K: FrameKeeper>(driver: &mut Driver, device: &mut D, k
     requires { (keeps : Bool) × (g : Guest)
         × Stands keeps (D.mem device.old) (D.part device.old) driver.old g
         × (keeps ≡ false → AreOut g (K.out keeper.old)) }
-    ensures { (keeps : Bool) (g : Guest)
+    ensures life { (keeps : Bool) (g : Guest)
         → Stands keeps (D.mem device.old) (D.part device.old) driver.old g
         → Restarts (Stands keeps (D.mem device.new) (D.part device.new) driver.new)
         (supply_of (D.part device.old) (K.out keeper.old))
         (supply_of (D.part device.new) (K.out keeper.new)) g }
+    ensures mem { D.mem device.new ≡ replicate (length (D.mem device.old)) None }
+    ensures part { IsReset (D.part device.old) (D.part device.new) }
+    ensures driver { driver.new
+        ≡ fresh_driver driver.old.pages driver.old.queue_size driver.old.processors }
 {
     driver.restart(device);
     take_all_back(device, keeper);
@@ -143,6 +150,8 @@ pub fn empty<D: Device, K: FrameKeeper>(device: &mut D, keeper: &mut K)
         × Stands keeps (D.mem device.old) (D.part device.old) d g
         × (keeps ≡ false → AreOut g (K.out keeper.old)) }
     ensures bare { IsBare (D.mem device.new) (D.part device.new) }
+    ensures mem { D.mem device.new ≡ replicate (length (D.mem device.old)) None }
+    ensures part { IsReset (D.part device.old) (D.part device.new) }
     ensures returned { (keeps : Bool) (d : DriverState) (g : Guest)
         → Stands keeps (D.mem device.old) (D.part device.old) d g
         → AllReturn (supply_of (D.part device.old) (K.out keeper.old))

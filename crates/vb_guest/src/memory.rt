@@ -6,6 +6,7 @@ ghost use Rattle.vb_model.specs.Guest.{Guest};
 ghost use Rattle.vb_model.specs.Pages.{place_of, is_used};
 ghost use Rattle.vb_ram.specs.Pages.{frame_at, contents_at, Covers, Wrote, Supplied};
 ghost use Rattle.vb_driver.specs.State.{DriverState};
+ghost use Rattle.vb_guest.specs.Exact.{FillsBare, IsQuiet, PutsBy, ReadsBy};
 ghost use Rattle.vb_guest.specs.Replies.{bytes_reply, done_reply};
 ghost use Rattle.vb_guest.specs.Stands.{Stands};
 ghost use Rattle.vb_guest.specs.Steps.{StepsAlone, StepsOver};
@@ -73,6 +74,9 @@ fn put_fresh<D: Device, K: FrameKeeper>(
         (supply_of (D.part device.old) (K.out keeper.old))
         (supply_of (D.part device.new) (K.out keeper.new)) claims.new.items g
         (Call.Scribble page offset bytes.now) (done_reply result) }
+    ensures exact { FillsBare K.answers (supply_of (D.part device.old) (K.out keeper.old))
+        (supply_of (D.part device.new) (K.out keeper.new)) (D.mem device.old) (D.mem device.new)
+        (D.part device.old) (D.part device.new) claims.new.items page offset bytes.now result }
 {
     let frame = match claim_frame(device, keeper, claims) {
         Ok(frame) => frame,
@@ -110,6 +114,9 @@ fn put_bytes<D: Device, K: FrameKeeper>(
         (supply_of (D.part device.old) (K.out keeper.old))
         (supply_of (D.part device.new) (K.out keeper.new)) claims.new.items g
         (Call.Scribble page offset bytes.now) (done_reply result) }
+    ensures exact { PutsBy K.answers (supply_of (D.part device.old) (K.out keeper.old))
+        (supply_of (D.part device.new) (K.out keeper.new)) (D.mem device.old) (D.mem device.new)
+        (D.part device.old) (D.part device.new) claims.new.items page offset bytes.now result }
 {
     match device.write(page, offset as usize, bytes.as_slice()) {
         Ok(()) => Ok(()),
@@ -135,12 +142,20 @@ pub fn write<D: Device, K: FrameKeeper>(
 ) -> Result<(), Refusal>
     requires { (keeps : Bool) × (g : Guest)
         × Stands keeps (D.mem device.old) (D.part device.old) driver.now g }
-    ensures { (keeps : Bool) (g : Guest)
+    ensures step { (keeps : Bool) (g : Guest)
         → Stands keeps (D.mem device.old) (D.part device.old) driver.now g
         → StepsOver (Stands keeps (D.mem device.new) (D.part device.new) driver.now) K.answers
         (supply_of (D.part device.old) (K.out keeper.old))
         (supply_of (D.part device.new) (K.out keeper.new)) claims.new.items g
         (Call.Write page offset bytes.now) (done_reply result) }
+    ensures refused { is_used (place_of driver.now.places page) ≡ false → (result ≡ Err Refusal.NotHeld)
+        × IsQuiet (supply_of (D.part device.old) (K.out keeper.old))
+        (supply_of (D.part device.new) (K.out keeper.new)) (D.mem device.old) (D.mem device.new)
+        (D.part device.old) (D.part device.new) claims.new.items }
+    ensures exact { is_used (place_of driver.now.places page) ≡ true
+        → PutsBy K.answers (supply_of (D.part device.old) (K.out keeper.old))
+        (supply_of (D.part device.new) (K.out keeper.new)) (D.mem device.old) (D.mem device.new)
+        (D.part device.old) (D.part device.new) claims.new.items page offset bytes.now result }
 {
     claims.clear();
     if !driver.held(page) {
@@ -163,12 +178,15 @@ pub fn scribble<D: Device, K: FrameKeeper>(
 ) -> Result<(), Refusal>
     requires { (keeps : Bool) × (d : DriverState) × (g : Guest)
         × Stands keeps (D.mem device.old) (D.part device.old) d g }
-    ensures { (keeps : Bool) (d : DriverState) (g : Guest)
+    ensures step { (keeps : Bool) (d : DriverState) (g : Guest)
         → Stands keeps (D.mem device.old) (D.part device.old) d g
         → StepsOver (Stands keeps (D.mem device.new) (D.part device.new) d) K.answers
         (supply_of (D.part device.old) (K.out keeper.old))
         (supply_of (D.part device.new) (K.out keeper.new)) claims.new.items g
         (Call.Scribble page offset bytes.now) (done_reply result) }
+    ensures exact { PutsBy K.answers (supply_of (D.part device.old) (K.out keeper.old))
+        (supply_of (D.part device.new) (K.out keeper.new)) (D.mem device.old) (D.mem device.new)
+        (D.part device.old) (D.part device.new) claims.new.items page offset bytes.now result }
 {
     claims.clear();
     put_bytes(device, keeper, claims, page, offset, bytes)
@@ -216,10 +234,11 @@ pub fn read<D: Device>(
 ) -> Result<Bytes, Refusal>
     requires { (keeps : Bool) × (g : Guest)
         × Stands keeps (D.mem device.now) (D.part device.now) driver.now g }
-    ensures { (keeps : Bool) (g : Guest)
+    ensures step { (keeps : Bool) (g : Guest)
         → Stands keeps (D.mem device.now) (D.part device.now) driver.now g
         → StepsAlone (Stands keeps (D.mem device.now) (D.part device.now) driver.now) g
         (Call.Read page offset len) (bytes_reply result) }
+    ensures exact { ReadsBy (D.mem device.now) driver.now.places page offset len result }
 {
     if !driver.held(page) {
         return Err(Refusal::NotHeld);

@@ -1,26 +1,44 @@
 -- What a slot stands for.
-use Rattle.std.specs.Prelude.{Bool, List}
+use Rattle.std.specs.Prelude.{◌≡◌, Bool, List}
 use Rattle.std.specs.declared.alloc.Global.{Global}
 use Rattle.std.specs.declared.dyn_box.DynBox.{DynBox}
 use Rattle.vb_model.specs.declared.calls.Claim.{Claim}
 use Rattle.vb_model.specs.Guest.{Guest}
 use Rattle.vb_ram.specs.Pages.{Pages}
 use Rattle.vb_ram.specs.Part.{Part}
+use Rattle.vb_driver.specs.State.{DriverState}
 use Rattle.vb_slot.specs.declared.slot.Slot.{Slot}
 use Rattle.vb_guest.specs.Stands.{Stands}
 use Rattle.vb_guest.specs.Steps.{IsBare}
 use Rattle.vb_guest.specs.Supply.{Supply, supply_of}
 
+-- The memory of the slot's device, and what the device keeps beside it.
+abbrev pub memory_of : {X : Type 0} {F : X → Type 0} → (DynBox X Global F → Pages) → Slot X F → Pages
+memory_of mem s = mem s.device.device
+
+abbrev pub part_of : {X : Type 0} {F : X → Type 0} → (DynBox X Global F → Part) → Slot X F → Part
+part_of part s = part s.device.device
+
+-- The slot's driver.
+abbrev pub driver_of : {X : Type 0} {F : X → Type 0} → Slot X F → DriverState
+driver_of s = s.driver
+
+-- The device is as it was.
+abbrev pub IsUntouched : {X : Type 0} {F : X → Type 0} → (DynBox X Global F → Pages)
+    → (DynBox X Global F → Part) → Slot X F → Slot X F → Type 0
+IsUntouched mem part old new =
+    (memory_of mem new ≡ memory_of mem old) × (part_of part new ≡ part_of part old)
+
 -- The driver, and the boxed device with its memory, are those of this guest, and the device does, or
 -- doesn't, keep frames of its own.
 abbrev pub stands_for : {X : Type 0} {F : X → Type 0} → Bool → (DynBox X Global F → Pages)
     → (DynBox X Global F → Part) → Slot X F → Guest → Type 0
-stands_for keeps mem part s g = Stands keeps (mem s.device.device) (part s.device.device) s.driver g
+stands_for keeps mem part s g = Stands keeps (memory_of mem s) (part_of part s) (driver_of s) g
 
 -- The frames of the slot's device, and those of a keeper.
 abbrev pub supply_from : {X : Type 0} {F : X → Type 0} → (DynBox X Global F → Part) → Slot X F
     → List Bool → Supply
-supply_from part s out = supply_of (part s.device.device) out
+supply_from part s out = supply_of (part_of part s) out
 
 -- What the claims of the last call were answered, in order.
 abbrev pub claims_of : {X : Type 0} {F : X → Type 0} → Slot X F → List Claim
@@ -29,4 +47,4 @@ claims_of s = s.claims.items
 -- No page of the slot's guest has a frame, and its device has none to hand back.
 abbrev pub is_empty : {X : Type 0} {F : X → Type 0} → (DynBox X Global F → Pages)
     → (DynBox X Global F → Part) → Slot X F → Type 0
-is_empty mem part s = IsBare (mem s.device.device) (part s.device.device)
+is_empty mem part s = IsBare (memory_of mem s) (part_of part s)

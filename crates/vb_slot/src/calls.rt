@@ -1,23 +1,30 @@
 //! The calls on a guest and the questions about it, each with an answer of its own type.
 
-ghost use Rattle.std.specs.Prelude.{◌≡◌, ℕ, Bool, [], false};
+ghost use Rattle.std.specs.Prelude.{◌≡◌, ◌≤◌, ℕ, Bool, None, [], false, length, replicate, true};
 ghost use Rattle.vb_model.specs.declared.replies.Reply.TheVariants.{Done, Places, Backing};
 ghost use Rattle.vb_model.specs.Balance.{spare};
 ghost use Rattle.vb_model.specs.Guest.{Guest};
+ghost use Rattle.vb_model.specs.Pages.{place_of, is_used};
 ghost use Rattle.vb_model.specs.World.{Answers};
+ghost use Rattle.vb_device.specs.Calls.{TakesBy, WorksBy, FinishesBy, SweepsBy, AsksBy};
+ghost use Rattle.vb_driver.specs.Calls.{AllocatesBy, FreesBy, InflatesBy, DeflatesBy, DeflatesOnOomBy};
+ghost use Rattle.vb_driver.specs.Calls.{ReportsBy, FillsBy, ReapsBy, ResetsBy};
+ghost use Rattle.vb_driver.specs.State.{fresh_driver};
+ghost use Rattle.vb_guest.specs.Exact.{InitialisesBy, IsHandedBack, IsQuiet, IsReset, PutsBy, ReadsBy};
 ghost use Rattle.vb_guest.specs.Replies.{ready_reply, page_reply, done_reply, bytes_reply};
 ghost use Rattle.vb_guest.specs.Replies.{posted_reply, reaped_reply, taken_reply, finished_reply};
 ghost use Rattle.vb_guest.specs.Replies.{worked_reply, swept_reply, runs_reply, balloon_reply};
 ghost use Rattle.vb_guest.specs.Replies.{filled_reply, asked_reply, memory_reply};
 ghost use Rattle.vb_guest.specs.Steps.{AllReturn, AreOut, Restarts, StepsAlone, StepsOver};
 ghost use Rattle.vb_slot.specs.Slots.{stands_for, supply_from, claims_of, is_empty};
+ghost use Rattle.vb_slot.specs.Slots.{memory_of, part_of, driver_of, IsUntouched};
 
 use crate::slot::{Slot, forget};
 use std::alloc::{AllocError, Global};
 use vb_device::{Device, Statistics, Worked};
 use vb_driver::{Posted, Reaped};
 use vb_frames::FrameKeeper;
-use vb_guest::BalloonState;
+use vb_guest::{BalloonState, MAX_CLAIMS};
 use vb_model::{Bytes, Call, Claim, PageRuns, Place, PlaceCounts, Query, Refusal};
 
 impl Slot {
@@ -28,6 +35,8 @@ impl Slot {
             → StepsAlone (stands_for keeps mem part self.new) g (Call.Alloc cpu order)
             (page_reply result) }
         ensures claimed { claims_of self.new ≡ [] }
+        ensures exact { AllocatesBy (driver_of self.old) (driver_of self.new) cpu order result }
+        ensures device { IsUntouched mem part self.old self.new }
     {
         forget(&mut self.claims);
         vb_guest::alloc(&mut self.driver, cpu, order)
@@ -40,6 +49,8 @@ impl Slot {
             → StepsAlone (stands_for keeps mem part self.new) g (Call.Free cpu start order)
             (done_reply result) }
         ensures claimed { claims_of self.new ≡ [] }
+        ensures exact { FreesBy (driver_of self.old) (driver_of self.new) cpu start order result }
+        ensures device { IsUntouched mem part self.old self.new }
     {
         forget(&mut self.claims);
         vb_guest::free(&mut self.driver, cpu, start, order)
@@ -59,6 +70,9 @@ impl Slot {
             → StepsAlone (stands_for keeps mem part self.new) g (Call.Read page offset len)
             (bytes_reply result) }
         ensures claimed { claims_of self.new ≡ [] }
+        ensures exact { ReadsBy (memory_of mem self.old) (driver_of self.old).places page offset len result }
+        ensures driver { driver_of self.new ≡ driver_of self.old }
+        ensures device { IsUntouched mem part self.old self.new }
     {
         forget(&mut self.claims);
         vb_guest::read(alloc, &self.driver, &self.device, page, offset, len)
@@ -80,6 +94,17 @@ impl Slot {
             (supply_from part self.old (K.out keeper.old))
             (supply_from part self.new (K.out keeper.new)) (claims_of self.new) g
             (Call.Write page offset bytes.now) (done_reply result) }
+        ensures refused { is_used (place_of (driver_of self.old).places page) ≡ false
+            → (result ≡ Err Refusal.NotHeld) × IsQuiet (supply_from part self.old (K.out keeper.old))
+            (supply_from part self.new (K.out keeper.new))
+            (memory_of mem self.old) (memory_of mem self.new)
+            (part_of part self.old) (part_of part self.new) (claims_of self.new) }
+        ensures exact { is_used (place_of (driver_of self.old).places page) ≡ true
+            → PutsBy K.answers (supply_from part self.old (K.out keeper.old))
+            (supply_from part self.new (K.out keeper.new))
+            (memory_of mem self.old) (memory_of mem self.new)
+            (part_of part self.old) (part_of part self.new) (claims_of self.new) page offset bytes.now result }
+        ensures driver { driver_of self.new ≡ driver_of self.old }
     {
         vb_guest::write(
             &self.driver,
@@ -108,6 +133,11 @@ impl Slot {
             (supply_from part self.old (K.out keeper.old))
             (supply_from part self.new (K.out keeper.new)) (claims_of self.new) g
             (Call.Scribble page offset bytes.now) (done_reply result) }
+        ensures exact { PutsBy K.answers (supply_from part self.old (K.out keeper.old))
+            (supply_from part self.new (K.out keeper.new))
+            (memory_of mem self.old) (memory_of mem self.new)
+            (part_of part self.old) (part_of part self.new) (claims_of self.new) page offset bytes.now result }
+        ensures driver { driver_of self.new ≡ driver_of self.old }
     {
         vb_guest::scribble(
             &mut self.device,
@@ -129,6 +159,10 @@ impl Slot {
             (supply_from part self.old (K.out keeper.old))
             (supply_from part self.new (K.out keeper.new)) (claims_of self.new) g
             (Call.Init wanted) (ready_reply result) }
+        ensures exact { InitialisesBy K.answers (supply_from part self.old (K.out keeper.old))
+            (K.out keeper.new) (memory_of mem self.old) (memory_of mem self.new)
+            (part_of part self.old) (part_of part self.new) (driver_of self.old) (driver_of self.new)
+            (claims_of self.new) wanted result }
     {
         vb_guest::init(
             &mut self.driver,
@@ -144,6 +178,8 @@ impl Slot {
         ensures step { (keeps : Bool) (g : Guest) → stands_for keeps mem part self.old g
             → StepsAlone (stands_for keeps mem part self.new) g (Call.Reset) Done }
         ensures claimed { claims_of self.new ≡ [] }
+        ensures exact { ResetsBy (memory_of mem self.old) (memory_of mem self.new)
+            (part_of part self.old) (part_of part self.new) (driver_of self.old) (driver_of self.new) }
     {
         forget(&mut self.claims);
         vb_guest::reset(&mut self.driver, &mut self.device);
@@ -157,6 +193,8 @@ impl Slot {
             → StepsAlone (stands_for keeps mem part self.new) g (Call.Inflate pages)
             (posted_reply result) }
         ensures claimed { claims_of self.new ≡ [] }
+        ensures exact { InflatesBy (memory_of mem self.old) (memory_of mem self.new)
+            (part_of part self.old) (part_of part self.new) (driver_of self.old) (driver_of self.new) pages result }
     {
         forget(&mut self.claims);
         vb_guest::inflate(&mut self.driver, &mut self.device, pages)
@@ -170,6 +208,8 @@ impl Slot {
             → StepsAlone (stands_for keeps mem part self.new) g (Call.Deflate pages)
             (posted_reply result) }
         ensures claimed { claims_of self.new ≡ [] }
+        ensures exact { DeflatesBy (memory_of mem self.old) (memory_of mem self.new)
+            (part_of part self.old) (part_of part self.new) (driver_of self.old) (driver_of self.new) pages result }
     {
         forget(&mut self.claims);
         vb_guest::deflate(&mut self.driver, &mut self.device, pages)
@@ -184,6 +224,8 @@ impl Slot {
             → StepsAlone (stands_for keeps mem part self.new) g (Call.Oom pages)
             (posted_reply result) }
         ensures claimed { claims_of self.new ≡ [] }
+        ensures exact { DeflatesOnOomBy (memory_of mem self.old) (memory_of mem self.new)
+            (part_of part self.old) (part_of part self.new) (driver_of self.old) (driver_of self.new) pages result }
     {
         forget(&mut self.claims);
         vb_guest::oom(&mut self.driver, &mut self.device, pages)
@@ -199,6 +241,8 @@ impl Slot {
             → StepsAlone (stands_for keeps mem part self.new) g (Call.Report from)
             (posted_reply result) }
         ensures claimed { claims_of self.new ≡ [] }
+        ensures exact { ReportsBy (memory_of mem self.old) (memory_of mem self.new)
+            (part_of part self.old) (part_of part self.new) (driver_of self.old) (driver_of self.new) from result }
     {
         forget(&mut self.claims);
         vb_guest::report(&mut self.driver, &mut self.device, from)
@@ -213,6 +257,8 @@ impl Slot {
             → StepsAlone (stands_for keeps mem part self.new) g (Call.Stats)
             (filled_reply result) }
         ensures claimed { claims_of self.new ≡ [] }
+        ensures exact { FillsBy (memory_of mem self.old) (memory_of mem self.new)
+            (part_of part self.old) (part_of part self.new) (driver_of self.old) (driver_of self.new) result }
     {
         forget(&mut self.claims);
         vb_guest::stats(&mut self.driver, &mut self.device)
@@ -227,6 +273,8 @@ impl Slot {
             → StepsAlone (stands_for keeps mem part self.new) g (Call.Reap queue)
             (reaped_reply result) }
         ensures claimed { claims_of self.new ≡ [] }
+        ensures exact { ReapsBy (memory_of mem self.old) (memory_of mem self.new)
+            (part_of part self.old) (part_of part self.new) (driver_of self.old) (driver_of self.new) queue result }
     {
         forget(&mut self.claims);
         vb_guest::reap(&mut self.driver, &mut self.device, queue)
@@ -242,6 +290,9 @@ impl Slot {
             → StepsAlone (stands_for keeps mem part self.new) g (Call.Take queue)
             (taken_reply result) }
         ensures claimed { claims_of self.new ≡ [] }
+        ensures exact { TakesBy queue (memory_of mem self.old) (memory_of mem self.new)
+            (part_of part self.old) (part_of part self.new) result }
+        ensures driver { driver_of self.new ≡ driver_of self.old }
     {
         forget(&mut self.claims);
         vb_guest::take(&mut self.device, queue)
@@ -259,6 +310,9 @@ impl Slot {
             (supply_from part self.old (K.out keeper.old))
             (supply_from part self.new (K.out keeper.new)) (claims_of self.new) g
             (Call.Work) (worked_reply result) }
+        ensures exact { IsHandedBack (λ after. WorksBy (memory_of mem self.old) (memory_of mem self.new)
+            (part_of part self.old) after result) (part_of part self.new) }
+        ensures driver { driver_of self.new ≡ driver_of self.old }
     {
         forget(&mut self.claims);
         vb_guest::work(&mut self.device, keeper)
@@ -280,6 +334,9 @@ impl Slot {
             (supply_from part self.old (K.out keeper.old))
             (supply_from part self.new (K.out keeper.new)) (claims_of self.new) g
             (Call.Finish queue index) (finished_reply result) }
+        ensures exact { IsHandedBack (λ after. FinishesBy queue index (memory_of mem self.old) (memory_of mem self.new)
+            (part_of part self.old) after result) (part_of part self.new) }
+        ensures driver { driver_of self.new ≡ driver_of self.old }
     {
         forget(&mut self.claims);
         vb_guest::finish(&mut self.device, keeper, queue, index)
@@ -295,6 +352,9 @@ impl Slot {
             (supply_from part self.old (K.out keeper.old))
             (supply_from part self.new (K.out keeper.new)) (claims_of self.new) g
             (Call.Sweep page) (swept_reply result) }
+        ensures exact { IsHandedBack (λ after. SweepsBy page (memory_of mem self.old) (memory_of mem self.new)
+            (part_of part self.old) after result) (part_of part self.new) }
+        ensures driver { driver_of self.new ≡ driver_of self.old }
     {
         forget(&mut self.claims);
         vb_guest::sweep(&mut self.device, keeper, page)
@@ -309,6 +369,9 @@ impl Slot {
             → StepsAlone (stands_for keeps mem part self.new) g (Call.Ask)
             (asked_reply result) }
         ensures claimed { claims_of self.new ≡ [] }
+        ensures exact { AsksBy (memory_of mem self.old) (memory_of mem self.new)
+            (part_of part self.old) (part_of part self.new) result }
+        ensures driver { driver_of self.new ≡ driver_of self.old }
     {
         forget(&mut self.claims);
         vb_guest::ask(&mut self.device)
@@ -321,6 +384,9 @@ impl Slot {
         ensures step { (keeps : Bool) (g : Guest) → stands_for keeps mem part self.old g
             → StepsAlone (stands_for keeps mem part self.new) g (Call.SetTarget pages) Done }
         ensures claimed { claims_of self.new ≡ [] }
+        ensures part { part_of part self.new ≡ record (part_of part self.old) { target = pages } }
+        ensures mem { memory_of mem self.new ≡ memory_of mem self.old }
+        ensures driver { driver_of self.new ≡ driver_of self.old }
     {
         forget(&mut self.claims);
         vb_guest::set_target(&mut self.device, pages);
@@ -336,6 +402,11 @@ impl Slot {
             (supply_from part self.old (K.out keeper.old))
             (supply_from part self.new (K.out keeper.new)) g }
         ensures claimed { claims_of self.new ≡ [] }
+        ensures mem { memory_of mem self.new
+            ≡ replicate (length (memory_of mem self.old)) None }
+        ensures part { IsReset (part_of part self.old) (part_of part self.new) }
+        ensures driver { driver_of self.new ≡ fresh_driver (driver_of self.old).pages
+            (driver_of self.old).queue_size (driver_of self.old).processors }
     {
         forget(&mut self.claims);
         vb_guest::restart(&mut self.driver, &mut self.device, keeper);
@@ -352,6 +423,9 @@ impl Slot {
             → AllReturn (supply_from part self.old (K.out keeper.old))
             (supply_from part self.new (K.out keeper.new)) g }
         ensures claimed { claims_of self.new ≡ [] }
+        ensures mem { memory_of mem self.new
+            ≡ replicate (length (memory_of mem self.old)) None }
+        ensures part { IsReset (part_of part self.old) (part_of part self.new) }
     {
         forget(&mut self.claims);
         vb_guest::empty(&mut self.device, keeper);
@@ -378,7 +452,8 @@ impl Slot {
     /// What the claims of the last call were answered, in order; none where it made none. A call
     /// makes `MAX_CLAIMS` at the most.
     pub fn claimed(&self) -> &[Claim]
-        ensures { result.now ≡ claims_of self.now }
+        ensures claims { result.now ≡ claims_of self.now }
+        ensures few { length result.now ≤ MAX_CLAIMS }
     {
         self.claims.as_slice()
     }

@@ -15,7 +15,7 @@ const NOT_ATTACHED: &'static [(Step, Answer)] = &[
 #[test]
 fn a_device_that_is_not_attached(rt: HostRuntime) {
     let mut host = Host::<Immediate> {
-        device: BalloonDevice::new(rt.alloc()),
+        device: BalloonDevice::of_pace(rt.alloc()),
     };
     assert!(rt; host.first_wrong(rt.alloc(), NOT_ATTACHED).is_none());
 }

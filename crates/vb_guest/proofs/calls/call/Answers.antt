@@ -5,7 +5,7 @@ pub returns-in-Init : goal.returns-in-Init
 returns-in-Init g c =
     record {
       step = λ keeps guest stands. rw (c.in-Init.is, c.ready_reply.ensures)
-          (c.init.ensures keeps guest stands);
+          (c.init.ensures.step keeps guest stands);
     }
 
 pub returns-in-Alloc : goal.returns-in-Alloc
@@ -13,7 +13,7 @@ returns-in-Alloc g c =
     record {
       step = λ keeps guest stands. rw (c.clear.ensures, c.in-Alloc.is, c.page_reply.ensures)
           (steps_quiet keeps _ _ _ _ _ _ guest g.K.FrameKeeper.answers _ _ _ stands
-          (c.alloc.ensures keeps _ _ guest stands));
+          (c.alloc.ensures.step keeps _ _ guest stands));
     }
 
 pub returns-in-Free : goal.returns-in-Free
@@ -21,7 +21,7 @@ returns-in-Free g c =
     record {
       step = λ keeps guest stands. rw (c.clear.ensures, c.in-Free.is, c.done_reply.ensures)
           (steps_quiet keeps _ _ _ _ _ _ guest g.K.FrameKeeper.answers _ _ _ stands
-          (c.free.ensures keeps _ _ guest stands));
+          (c.free.ensures.step keeps _ _ guest stands));
     }
 
 pub returns-in-Read : goal.returns-in-Read
@@ -29,14 +29,14 @@ returns-in-Read g c =
     record {
       step = λ keeps guest stands. rw (c.clear.ensures, c.in-Read.is, c.bytes_reply.ensures)
           (steps_quiet keeps _ _ _ _ _ _ guest g.K.FrameKeeper.answers _ _ _ stands
-          (c.read.ensures keeps guest stands));
+          (c.read.ensures.step keeps guest stands));
     }
 
 pub returns-in-Write : goal.returns-in-Write
 returns-in-Write g c =
     record {
       step = λ keeps guest stands. rw (c.in-Write.is, c.done_reply-in-Write.ensures)
-          (c.write.ensures keeps guest stands);
+          (c.write.ensures.step keeps guest stands);
     }
 
 pub returns-in-Inflate : goal.returns-in-Inflate
@@ -44,7 +44,7 @@ returns-in-Inflate g c =
     record {
       step = λ keeps guest stands. rw (c.clear.ensures, c.in-Inflate.is, c.posted_reply.ensures)
           (steps_quiet keeps _ _ _ _ _ _ guest g.K.FrameKeeper.answers _ _ _ stands
-          (c.inflate.ensures keeps guest stands));
+          (c.inflate.ensures.step keeps guest stands));
     }
 
 pub returns-in-Deflate : goal.returns-in-Deflate
@@ -53,14 +53,14 @@ returns-in-Deflate g c =
       step = λ keeps guest stands.
           rw (c.clear.ensures, c.in-Deflate.is, c.posted_reply-in-Deflate.ensures)
           (steps_quiet keeps _ _ _ _ _ _ guest g.K.FrameKeeper.answers _ _ _ stands
-          (c.deflate.ensures keeps guest stands));
+          (c.deflate.ensures.step keeps guest stands));
     }
 
 pub returns-in-Oom : goal.returns-in-Oom
 returns-in-Oom g c = record {
   step = λ keeps guest stands. rw (c.clear.ensures, c.in-Oom.is, c.posted_reply-in-Oom.ensures)
       (steps_quiet keeps _ _ _ _ _ _ guest g.K.FrameKeeper.answers _ _ _ stands
-      (c.oom.ensures keeps guest stands));
+      (c.oom.ensures.step keeps guest stands));
 }
 
 pub returns-in-Reap : goal.returns-in-Reap
@@ -68,7 +68,7 @@ returns-in-Reap g c =
     record {
       step = λ keeps guest stands. rw (c.clear.ensures, c.in-Reap.is, c.reaped_reply.ensures)
           (steps_quiet keeps _ _ _ _ _ _ guest g.K.FrameKeeper.answers _ _ _ stands
-          (c.reap.ensures keeps guest stands));
+          (c.reap.ensures.step keeps guest stands));
     }
 
 pub returns-in-Take : goal.returns-in-Take
@@ -76,28 +76,28 @@ returns-in-Take g c =
     record {
       step = λ keeps guest stands. rw (c.clear.ensures, c.in-Take.is, c.taken_reply.ensures)
           (steps_quiet keeps _ _ _ _ _ _ guest g.K.FrameKeeper.answers _ _ _ stands
-          (c.take.ensures keeps _ guest stands));
+          (c.take.ensures.step keeps _ guest stands));
     }
 
 pub returns-in-Work : goal.returns-in-Work
 returns-in-Work g c =
     record {
       step = λ keeps guest stands. rw (c.clear.ensures, c.in-Work.is, c.worked_reply.ensures)
-          (c.work.ensures keeps _ guest stands);
+          (c.work.ensures.step keeps _ guest stands);
     }
 
 pub returns-in-Finish : goal.returns-in-Finish
 returns-in-Finish g c =
     record {
       step = λ keeps guest stands. rw (c.clear.ensures, c.in-Finish.is, c.finished_reply.ensures)
-          (c.finish.ensures keeps _ guest stands);
+          (c.finish.ensures.step keeps _ guest stands);
     }
 
 pub returns-in-Sweep : goal.returns-in-Sweep
 returns-in-Sweep g c =
     record {
       step = λ keeps guest stands. rw (c.clear.ensures, c.in-Sweep.is, c.swept_reply.ensures)
-          (c.sweep.ensures keeps _ guest stands);
+          (c.sweep.ensures.step keeps _ guest stands);
     }
 
 pub returns-in-SetTarget : goal.returns-in-SetTarget
@@ -113,7 +113,7 @@ returns-in-Reset g c =
     record {
       step = λ keeps guest stands. rw (c.clear.ensures, c.in-Reset.is)
           (steps_quiet keeps _ _ _ _ _ _ guest g.K.FrameKeeper.answers _ _ _ stands
-          (c.reset.ensures keeps guest stands));
+          (c.reset.ensures.step keeps guest stands));
     }
 
 pub returns-in-Report : goal.returns-in-Report
@@ -122,7 +122,7 @@ returns-in-Report g c =
       step = λ keeps guest stands.
           rw (c.clear.ensures, c.in-Report.is, c.posted_reply-in-Report.ensures)
           (steps_quiet keeps _ _ _ _ _ _ guest g.K.FrameKeeper.answers _ _ _ stands
-          (c.report.ensures keeps guest stands));
+          (c.report.ensures.step keeps guest stands));
     }
 
 pub returns-in-Stats : goal.returns-in-Stats
@@ -130,7 +130,7 @@ returns-in-Stats g c =
     record {
       step = λ keeps guest stands. rw (c.clear.ensures, c.in-Stats.is, c.filled_reply.ensures)
           (steps_quiet keeps _ _ _ _ _ _ guest g.K.FrameKeeper.answers _ _ _ stands
-          (c.stats.ensures keeps guest stands));
+          (c.stats.ensures.step keeps guest stands));
     }
 
 pub returns-in-Ask : goal.returns-in-Ask
@@ -138,5 +138,5 @@ returns-in-Ask g c =
     record {
       step = λ keeps guest stands. rw (c.clear.ensures, c.in-Ask.is, c.asked_reply.ensures)
           (steps_quiet keeps _ _ _ _ _ _ guest g.K.FrameKeeper.answers _ _ _ stands
-          (c.ask.ensures keeps _ guest stands));
+          (c.ask.ensures.step keeps _ guest stands));
     }

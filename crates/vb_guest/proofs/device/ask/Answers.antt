@@ -9,8 +9,8 @@ pub ask_stats-requires : goal.ask_stats-requires
 ask_stats-requires g c = let (keeps, d, guest, stands) = c.requires in
     record { backed = has_ring keeps _ _ d guest 2 stands }
 
-pub returns : goal.returns
-returns g c = λ keeps d guest stands.
+pub returns-clause-step : goal.returns-clause-step
+returns-clause-step g c = λ keeps d guest stands.
     let same = ask_kept _ _ _ _ _ c.ask_stats.ensures in
     alone_stands keeps _ _ _ _ d d guest _ _ stands same.flag same.numbers
     (λ honest. ask_step _ _ _ _ d guest _ c.ask_stats.ensures honest)

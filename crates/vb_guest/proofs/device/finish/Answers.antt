@@ -28,8 +28,8 @@ return_loose-requires g c =
           (λ rogue. lost_by _ _ guest _ _ (finish_rogue _ _ _ _ d guest _ _ _ did rogue));
     }
 
-pub returns : goal.returns
-returns g c = λ keeps d guest stands.
+pub returns-clause-step : goal.returns-clause-step
+returns-clause-step g c = λ keeps d guest stands.
     let did = c.finish-answer.ensures in
     let same = finish_kept _ _ _ _ _ _ _ did in
     let back = c.return_loose.ensures in
@@ -39,3 +39,8 @@ returns g c = λ keeps d guest stands.
     (finish_step _ _ _ _ d guest _ _ _ did honest))
     (λ rogue. freed_rogue _ _ _ _ d guest _ _ back.mem back.part
     (finish_rogue _ _ _ _ d guest _ _ _ did rogue)) back.moves
+
+pub returns-clause-exact : goal.returns-clause-exact
+returns-clause-exact g c =
+    let back = c.return_loose.ensures in
+    rw (back.mem) (g.D.GuestBytes.part c.finish-answer.new.self, c.finish-answer.ensures, back.part)

@@ -22,4 +22,6 @@ returns g c =
           alone_stands keeps _ _ _ _ d d guest _ _ stands flag numbers
           (λ honest. target_step _ _ _ _ d guest _ memory part honest)
           (λ rogue. target_rogue _ _ _ _ d guest _ memory part rogue);
+      part = part;
+      mem = memory;
     }

@@ -24,8 +24,8 @@ return_loose-requires g c =
           (λ rogue. lost_by _ _ guest _ _ (work_rogue _ _ _ _ d guest _ did rogue));
     }
 
-pub returns : goal.returns
-returns g c = λ keeps d guest stands.
+pub returns-clause-step : goal.returns-clause-step
+returns-clause-step g c = λ keeps d guest stands.
     let did = c.work-answer.ensures in
     let same = work_kept _ _ _ _ _ did in
     let back = c.return_loose.ensures in
@@ -35,3 +35,8 @@ returns g c = λ keeps d guest stands.
     (work_step _ _ _ _ d guest _ did honest))
     (λ rogue. freed_rogue _ _ _ _ d guest _ _ back.mem back.part
     (work_rogue _ _ _ _ d guest _ did rogue)) back.moves
+
+pub returns-clause-exact : goal.returns-clause-exact
+returns-clause-exact g c =
+    let back = c.return_loose.ensures in
+    rw (back.mem) (g.D.GuestBytes.part c.work-answer.new.self, c.work-answer.ensures, back.part)

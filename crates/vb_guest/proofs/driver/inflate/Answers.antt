@@ -12,8 +12,8 @@ inflate-requires g c = let (keeps, guest, stands) = c.requires in
       backed = is_backed keeps _ _ _ guest stands;
     }
 
-pub returns : goal.returns
-returns g c = λ keeps guest stands.
+pub returns-clause-step : goal.returns-clause-step
+returns-clause-step g c = λ keeps guest stands.
     let same = inflate_kept _ _ _ _ _ _ _ _ c.inflate.ensures in
     alone_stands keeps _ _ _ _ _ _ guest _ _ stands same.flag same.numbers
     (λ honest. inflate_step _ _ _ _ _ _ guest _ _ c.inflate.ensures honest)

@@ -12,8 +12,8 @@ report-requires g c = let (keeps, guest, stands) = c.requires in
       backed = is_backed keeps _ _ _ guest stands;
     }
 
-pub returns : goal.returns
-returns g c = λ keeps guest stands.
+pub returns-clause-step : goal.returns-clause-step
+returns-clause-step g c = λ keeps guest stands.
     let same = report_kept _ _ _ _ _ _ _ _ c.report.ensures in
     alone_stands keeps _ _ _ _ _ _ guest _ _ stands same.flag same.numbers
     (λ honest. report_step _ _ _ _ _ _ guest _ _ c.report.ensures honest)

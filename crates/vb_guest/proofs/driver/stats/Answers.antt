@@ -12,8 +12,8 @@ stats-requires g c = let (keeps, guest, stands) = c.requires in
       backed = is_backed keeps _ _ _ guest stands;
     }
 
-pub returns : goal.returns
-returns g c = λ keeps guest stands.
+pub returns-clause-step : goal.returns-clause-step
+returns-clause-step g c = λ keeps guest stands.
     let same = stats_kept _ _ _ _ _ _ _ c.stats.ensures in
     alone_stands keeps _ _ _ _ _ _ guest _ _ stands same.flag same.numbers
     (λ honest. stats_step _ _ _ _ _ _ guest _ c.stats.ensures honest)

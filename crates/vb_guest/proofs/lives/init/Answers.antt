@@ -4,6 +4,7 @@ use Rattle.vb_model.specs.declared.calls.Claim.{Claim}
 use Rattle.vb_model.specs.declared.replies.Refusal.TheVariants.{NoFrame as NoFrameLeft, NoMemory}
 use Rattle.vb_guest.proofs.InitStep.{init_up, known_answer, init_unsupplied, still_large}
 use Rattle.vb_guest.proofs.InitStep.{init_supplied, first_noted}
+use Rattle.vb_guest.proofs.Exactly.{begins}
 use Rattle.vb_guest.proofs.Asked.{is_large}
 use Rattle.vb_guest.proofs.RogueLives.{init_up_rogue, init_unsupplied_rogue, init_supplied_rogue}
 use Rattle.vb_guest.proofs.RogueLives.{still_large_rogue}
@@ -11,13 +12,19 @@ use Rattle.vb_guest.proofs.Standing.{by_guest, alone_stands, over_stands, steps_
 use Rattle.vb_guest.proofs.lives.init.Goals as goal
 
 pub returns-then-bits-ne0 : goal.returns-then-bits-ne0
-returns-then-bits-ne0 g c = λ keeps guest stands.
-    rw (c.clear.ensures)
-    (steps_quiet keeps _ _ _ _ _ _ guest g.K.FrameKeeper.answers _ _ _ stands
-    (alone_stands keeps _ _ _ _ _ _ guest _ _ stands refl refl
-    (λ honest. init_up _ _ _ guest c.args.wanted
-    (λ e. c.if-bits-ne0.true (c.bits.ensures tt ∙ c.status.ensures ∙ e)) honest)
-    (λ rogue. init_up_rogue _ _ _ guest c.args.wanted rogue)))
+returns-then-bits-ne0 g c = record {
+  exact = record {
+    up = λ _. (refl, record { mem = refl; part = refl; driver = refl }, refl, c.clear.ensures);
+    new = λ e. absurd (c.if-bits-ne0.true (c.bits.ensures tt ∙ c.status.ensures ∙ e));
+  };
+  step = λ keeps guest stands.
+      rw (c.clear.ensures)
+      (steps_quiet keeps _ _ _ _ _ _ guest g.K.FrameKeeper.answers _ _ _ stands
+      (alone_stands keeps _ _ _ _ _ _ guest _ _ stands refl refl
+      (λ honest. init_up _ _ _ guest c.args.wanted
+      (λ e. c.if-bits-ne0.true (c.bits.ensures tt ∙ c.status.ensures ∙ e)) honest)
+      (λ rogue. init_up_rogue _ _ _ guest c.args.wanted rogue)));
+}
 
 pub supply_from-requires : goal.supply_from-requires
 supply_from-requires g c = let (keeps, guest, stands) = c.requires in
@@ -38,45 +45,60 @@ init-requires g c = let (keeps, guest, stands) = c.requires in
     }
 
 pub returns-in-Ok : goal.returns-in-Ok
-returns-in-Ok g c = λ keeps guest stands.
+returns-in-Ok g c =
     let new : (g.D.GuestBytes.part c.args.device.now).status ≡ 0 =
     sym c.status.ensures ∙ sym (c.bits.ensures tt) ∙ c.if-bits-ne0.false in
-    over_stands keeps _ _ _ _ _ _ guest _ _ _ _ _ _ stands
-    (λ honest. init_supplied g.K.FrameKeeper.answers _ _ _ _ _ _ _ _ _ _ _ guest c.args.wanted _ _
-    (c.from_bits_retain.ensures tt) new
-    (first_noted g.K.FrameKeeper.answers _ _ _ _ _ _ _ _ c.clear.ensures c.in-Ok.ensures.supplies)
-    c.in-Ok.ensures.part c.init.ensures honest)
-    (λ rogue. init_supplied_rogue g.K.FrameKeeper.answers _ _ _ _ _ _ _ _ _ _ _ guest
-    c.args.wanted _ _ (c.from_bits_retain.ensures tt) new
-    (first_noted g.K.FrameKeeper.answers _ _ _ _ _ _ _ _ c.clear.ensures c.in-Ok.ensures.supplies)
-    c.in-Ok.ensures.part c.init.ensures rogue)
+    record {
+      exact = begins g.K.FrameKeeper.answers _ _ _ _ _ _ _ _ _ _ _ _ _ _ new c.in-Ok.ensures.part
+          (first_noted g.K.FrameKeeper.answers _ _ _ _ _ _ _ _ c.clear.ensures c.in-Ok.ensures.supplies)
+          (rw (← c.from_bits_retain.ensures tt) c.init.ensures);
+      step = λ keeps guest stands. over_stands keeps _ _ _ _ _ _ guest _ _ _ _ _ _ stands
+          (λ honest. init_supplied g.K.FrameKeeper.answers _ _ _ _ _ _ _ _ _ _ _ guest c.args.wanted _ _
+          (c.from_bits_retain.ensures tt) new
+          (first_noted g.K.FrameKeeper.answers _ _ _ _ _ _ _ _ c.clear.ensures c.in-Ok.ensures.supplies)
+          c.in-Ok.ensures.part c.init.ensures honest)
+          (λ rogue. init_supplied_rogue g.K.FrameKeeper.answers _ _ _ _ _ _ _ _ _ _ _ guest
+          c.args.wanted _ _ (c.from_bits_retain.ensures tt) new
+          (first_noted g.K.FrameKeeper.answers _ _ _ _ _ _ _ _ c.clear.ensures c.in-Ok.ensures.supplies)
+          c.in-Ok.ensures.part c.init.ensures rogue);
+    }
 
 pub returns-in-Err-NoFrame : goal.returns-in-Err-NoFrame
-returns-in-Err-NoFrame g c = λ keeps guest stands.
+returns-in-Err-NoFrame g c =
     let new : (g.D.GuestBytes.part c.args.device.now).status ≡ 0 =
     sym c.status.ensures ∙ sym (c.bits.ensures tt) ∙ c.if-bits-ne0.false in
     let did = known_answer g.K.FrameKeeper.answers _ _ _ _ _ _ _ c.supply_from.result (Err NoFrame)
     (c.in-Err-NoFrame.is ∙ ap Err c.in-Err-NoFrame.field-0-is) c.supply_from.ensures.supplies in
-    over_stands keeps _ _ _ _ _ _ guest _ _ _ _ _ _ stands
-    (λ honest. init_unsupplied g.K.FrameKeeper.answers _ _ _ _ _ _ _ _ guest c.args.wanted NoFrame
-    NoFrameLeft refl new
-    (first_noted g.K.FrameKeeper.answers _ _ _ _ _ _ _ _ c.clear.ensures did)
-    c.supply_from.ensures.part honest)
-    (λ rogue. init_unsupplied_rogue g.K.FrameKeeper.answers _ _ _ _ _ _ _ _ guest c.args.wanted
-    NoFrame NoFrameLeft refl (first_noted g.K.FrameKeeper.answers _ _ _ _ _ _ _ _ c.clear.ensures did)
-    c.supply_from.ensures.part rogue)
+    record {
+      exact = begins g.K.FrameKeeper.answers _ _ _ _ _ _ _ _ _ _ _ _ _ _ new c.supply_from.ensures.part
+          (first_noted g.K.FrameKeeper.answers _ _ _ _ _ _ _ _ c.clear.ensures did)
+          (refl, record { mem = refl; part = refl; driver = refl });
+      step = λ keeps guest stands. over_stands keeps _ _ _ _ _ _ guest _ _ _ _ _ _ stands
+          (λ honest. init_unsupplied g.K.FrameKeeper.answers _ _ _ _ _ _ _ _ guest c.args.wanted NoFrame
+          NoFrameLeft refl new
+          (first_noted g.K.FrameKeeper.answers _ _ _ _ _ _ _ _ c.clear.ensures did)
+          c.supply_from.ensures.part honest)
+          (λ rogue. init_unsupplied_rogue g.K.FrameKeeper.answers _ _ _ _ _ _ _ _ guest c.args.wanted
+          NoFrame NoFrameLeft refl (first_noted g.K.FrameKeeper.answers _ _ _ _ _ _ _ _ c.clear.ensures did)
+          c.supply_from.ensures.part rogue);
+    }
 
 pub returns-in-Err-Memory : goal.returns-in-Err-Memory
-returns-in-Err-Memory g c = λ keeps guest stands.
+returns-in-Err-Memory g c =
     let new : (g.D.GuestBytes.part c.args.device.now).status ≡ 0 =
     sym c.status.ensures ∙ sym (c.bits.ensures tt) ∙ c.if-bits-ne0.false in
     let did = known_answer g.K.FrameKeeper.answers _ _ _ _ _ _ _ c.supply_from.result (Err Memory)
     (c.in-Err-Memory.is ∙ ap Err c.in-Err-Memory.field-0-is) c.supply_from.ensures.supplies in
-    over_stands keeps _ _ _ _ _ _ guest _ _ _ _ _ _ stands
-    (λ honest. init_unsupplied g.K.FrameKeeper.answers _ _ _ _ _ _ _ _ guest c.args.wanted Memory
-    NoMemory refl new
-    (first_noted g.K.FrameKeeper.answers _ _ _ _ _ _ _ _ c.clear.ensures did)
-    c.supply_from.ensures.part honest)
-    (λ rogue. init_unsupplied_rogue g.K.FrameKeeper.answers _ _ _ _ _ _ _ _ guest c.args.wanted
-    Memory NoMemory refl (first_noted g.K.FrameKeeper.answers _ _ _ _ _ _ _ _ c.clear.ensures did)
-    c.supply_from.ensures.part rogue)
+    record {
+      exact = begins g.K.FrameKeeper.answers _ _ _ _ _ _ _ _ _ _ _ _ _ _ new c.supply_from.ensures.part
+          (first_noted g.K.FrameKeeper.answers _ _ _ _ _ _ _ _ c.clear.ensures did)
+          (refl, record { mem = refl; part = refl; driver = refl });
+      step = λ keeps guest stands. over_stands keeps _ _ _ _ _ _ guest _ _ _ _ _ _ stands
+          (λ honest. init_unsupplied g.K.FrameKeeper.answers _ _ _ _ _ _ _ _ guest c.args.wanted Memory
+          NoMemory refl new
+          (first_noted g.K.FrameKeeper.answers _ _ _ _ _ _ _ _ c.clear.ensures did)
+          c.supply_from.ensures.part honest)
+          (λ rogue. init_unsupplied_rogue g.K.FrameKeeper.answers _ _ _ _ _ _ _ _ guest c.args.wanted
+          Memory NoMemory refl (first_noted g.K.FrameKeeper.answers _ _ _ _ _ _ _ _ c.clear.ensures did)
+          c.supply_from.ensures.part rogue);
+    }

@@ -5,8 +5,8 @@ use Rattle.vb_guest.proofs.RogueDriver.{reset_rogue}
 use Rattle.vb_guest.proofs.Standing.{alone_stands}
 use Rattle.vb_guest.proofs.lives.reset.Goals as goal
 
-pub returns : goal.returns
-returns g c = λ keeps guest stands.
+pub returns-clause-step : goal.returns-clause-step
+returns-clause-step g c = λ keeps guest stands.
     let part = c.reset.ensures.part in
     alone_stands keeps _ _ _ _ _ _ guest _ _ stands (ap (λ (p : Part). p.keeps) part)
     (ap (λ (p : Part). p.own) part)

@@ -1,3 +1,4 @@
+use Rattle.vb_guest.proofs.Exactly.{reset_twice}
 use Rattle.vb_guest.proofs.RestartStep.{all_loose, restart_step}
 use Rattle.vb_guest.proofs.lives.restart.Goals as goal
 
@@ -7,8 +8,16 @@ take_all_back-requires-clause-out g c =
     rw (c.restart.ensures.memory, c.restart.ensures.part)
     (all_loose keeps _ _ _ guest _ stands held)
 
-pub returns : goal.returns
-returns g c = λ keeps guest stands.
+pub returns-clause-life : goal.returns-clause-life
+returns-clause-life g c = λ keeps guest stands.
     let back = c.take_all_back.ensures in
     restart_step keeps _ _ _ _ _ _ _ _ guest _ _ stands c.restart.ensures.memory
     c.restart.ensures.part c.restart.ensures.driver back.mem back.part back.moves
+
+pub returns-clause-mem : goal.returns-clause-mem
+returns-clause-mem g c = rw (← c.restart.ensures.memory) (c.take_all_back.ensures.mem)
+
+pub returns-clause-part : goal.returns-clause-part
+returns-clause-part g c =
+    reset_twice (g.D.GuestBytes.part c.args.device.now) (g.D.GuestBytes.part c.restart.new.port)
+    (g.D.GuestBytes.part c.take_all_back.new.device) c.restart.ensures.part c.take_all_back.ensures.part

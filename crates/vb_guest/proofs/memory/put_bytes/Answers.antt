@@ -1,8 +1,11 @@
-use Rattle.std.proofs.Common.{◌∙◌, ap, length, Err, refl}
+use Rattle.std.proofs.Common.{◌∙◌, ap, length, Ok, Err, refl}
 use Rattle.vb_model.specs.declared.replies.Refusal.TheVariants.{OutOfRam as Outside}
 use Rattle.vb_model.specs.declared.replies.Reply.TheVariants.{Done, Refused}
 use Rattle.vb_ram.specs.Pages.{Pages, frame_at}
 use Rattle.vb_ram.specs.declared.fault.RamFault.TheVariants.{OutOfRam}
+use Rattle.vb_ram.specs.Part.{Part}
+use Rattle.vb_guest.specs.Supply.{supply_of}
+use Rattle.vb_guest.proofs.Exactly.{puts_outside, puts_there, puts_bare}
 use Rattle.vb_guest.proofs.Kept.{as_it_was}
 use Rattle.vb_guest.proofs.RogueMemory.{write_rogue, scribble_alone, scribble_outside}
 use Rattle.vb_guest.proofs.Standing.{alone_stands, steps_quiet, stands_as}
@@ -27,6 +30,12 @@ returns-in-Ok g c =
           (scribble_alone keeps _ _ _ _ d guest _ _ _ stands did.covers
           (λ some bare. (let wrong = did.needs_frame did.covers some bare in cc)) did.bytes
           did.part));
+      exact = rw (← c.as_slice.ensures)
+          (puts_there g.K.FrameKeeper.answers _ _ _ _ _ _ _ _ _ _ (Ok tt) refl did.covers
+          (λ some bare. (let wrong = did.needs_frame did.covers some bare in cc)) did.bytes
+          did.none_written did.part
+          (ap (λ (p : Part). supply_of p (g.K.FrameKeeper.out c.args.keeper.now)) did.part)
+          c.requires.none);
     }
 
 pub put_fresh-requires : goal.put_fresh-requires
@@ -45,16 +54,23 @@ put_fresh-requires g c =
     }
 
 pub returns-in-Err-NeedsFrame : goal.returns-in-Err-NeedsFrame
-returns-in-Err-NeedsFrame g c = record {
-  writes = λ keeps d guest used stands. rw (← c.write.ensures.part)
-      (c.put_fresh.ensures.writes keeps d guest used
-      (stands_as keeps _ _ _ _ d guest c.in-Err-NeedsFrame.ensures.unwritten c.write.ensures.part
-      stands));
-  scribbles = λ keeps d guest stands. rw (← c.write.ensures.part)
-      (c.put_fresh.ensures.scribbles keeps d guest
-      (stands_as keeps _ _ _ _ d guest c.in-Err-NeedsFrame.ensures.unwritten c.write.ensures.part
-      stands));
-}
+returns-in-Err-NeedsFrame g c =
+    let did = c.write.ensures in
+    let found = needs_frame _ _ _ _ c.write.result did.answers did.out_of_ram did.empty
+    (c.in-Err-NeedsFrame.is ∙ ap Err c.in-Err-NeedsFrame.field-0-is) in
+    record {
+      writes = λ keeps d guest used stands. rw (← c.write.ensures.part)
+          (c.put_fresh.ensures.writes keeps d guest used
+          (stands_as keeps _ _ _ _ d guest c.in-Err-NeedsFrame.ensures.unwritten c.write.ensures.part
+          stands));
+      scribbles = λ keeps d guest stands. rw (← c.write.ensures.part)
+          (c.put_fresh.ensures.scribbles keeps d guest
+          (stands_as keeps _ _ _ _ d guest c.in-Err-NeedsFrame.ensures.unwritten c.write.ensures.part
+          stands));
+      exact = puts_bare g.K.FrameKeeper.answers _ _ _ _ _ _ _ _ _ _ _ _ _
+          (rw (← c.as_slice.ensures) found.0) (rw (← c.as_slice.ensures) found.1) found.2
+          c.in-Err-NeedsFrame.ensures.unwritten did.part c.put_fresh.ensures.exact;
+    }
 
 pub returns-in-Err-OutOfRam : goal.returns-in-Err-OutOfRam
 returns-in-Err-OutOfRam g c =
@@ -74,4 +90,12 @@ returns-in-Err-OutOfRam g c =
       scribbles = λ keeps d guest stands. rw (c.requires.none, ← c.as_slice.ensures)
           (steps_quiet keeps _ _ _ _ _ _ guest g.K.FrameKeeper.answers _ _ _ stands
           (scribble_outside keeps _ _ _ _ d guest _ _ _ stands here.unwritten did.part outside));
+      exact = rw (← c.as_slice.ensures)
+          (puts_outside g.K.FrameKeeper.answers _ _ _ _ _ _ _ _ _ _ _ outside refl
+          (record {
+            mem = here.unwritten;
+            part = did.part;
+            supply = ap (λ (p : Part). supply_of p (g.K.FrameKeeper.out c.args.keeper.now)) did.part;
+            none = c.requires.none;
+          }));
     }

@@ -1,7 +1,9 @@
-use Rattle.std.proofs.Common.{◌∙◌, List, length, arith, ap, Err}
+use Rattle.std.proofs.Common.{◌∙◌, List, length, arith, ap, refl, Ok, Err}
 use Rattle.vb_model.specs.declared.calls.Claim.{Claim}
+use Rattle.vb_model.specs.declared.calls.Claim.TheVariants.{GaveNoFrame, GaveNoMemory}
 use Rattle.vb_frames.specs.declared.keeper.Refused.TheVariants.{NoFrame, Memory}
 use Rattle.vb_guest.proofs.Claimed.{claim_answered, noted_alone}
+use Rattle.vb_guest.proofs.Exactly.{fills_given}
 use Rattle.vb_guest.proofs.RogueMemory.{write_supplied_rogue, write_unsupplied_rogue}
 use Rattle.vb_guest.proofs.RogueMemory.{scribble_supplied, scribble_unsupplied}
 use Rattle.vb_guest.proofs.Standing.{over_stands}
@@ -30,6 +32,13 @@ returns-in-Err-NoFrame g c =
           rw (noted_alone _ _ _ _ is c.requires.none did.noted)
           (scribble_unsupplied keeps g.K.FrameKeeper.answers _ _ _ _ _ _ d guest _ _ _ NoFrame
           answer stands c.requires.covers c.requires.some c.requires.bare did.mem did.part);
+      exact = record {
+        claim = GaveNoFrame;
+        noted = noted_alone _ _ _ _ is c.requires.none did.noted;
+        claimed = answer;
+        part = did.part;
+        fills = (refl, did.mem);
+      };
     }
 
 pub returns-in-Err-Memory : goal.returns-in-Err-Memory
@@ -49,6 +58,13 @@ returns-in-Err-Memory g c =
           rw (noted_alone _ _ _ _ is c.requires.none did.noted)
           (scribble_unsupplied keeps g.K.FrameKeeper.answers _ _ _ _ _ _ d guest _ _ _ Memory
           answer stands c.requires.covers c.requires.some c.requires.bare did.mem did.part);
+      exact = record {
+        claim = GaveNoMemory;
+        noted = noted_alone _ _ _ _ is c.requires.none did.noted;
+        claimed = answer;
+        part = did.part;
+        fills = (refl, did.mem);
+      };
     }
 
 pub returns : goal.returns
@@ -73,4 +89,8 @@ returns g c =
           answer stands c.requires.covers c.requires.some c.requires.bare did.mem
           c.supply.ensures.supplied c.overwrite.ensures.wrote did.part c.supply.ensures.part
           c.overwrite.ensures.part);
+      exact = fills_given g.K.FrameKeeper.answers _ _ _ _ _ _ _ _ _ _ _ _ _ _ _ (Ok tt) refl answer
+          (noted_alone _ _ _ _ c.in-Ok.is c.requires.none did.noted) did.mem
+          c.supply.ensures.supplied c.overwrite.ensures.wrote did.part c.supply.ensures.part
+          c.overwrite.ensures.part;
     }

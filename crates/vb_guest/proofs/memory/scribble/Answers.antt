@@ -1,4 +1,4 @@
 use Rattle.vb_guest.proofs.memory.scribble.Goals as goal
 
 pub returns : goal.returns
-returns g c = c.put_bytes.ensures.scribbles
+returns g c = record { step = c.put_bytes.ensures.scribbles; exact = c.put_bytes.ensures.exact }

@@ -5,17 +5,24 @@ use Rattle.vb_guest.proofs.WriteStep.{write_not_held}
 use Rattle.vb_guest.proofs.memory.write.Goals as goal
 
 pub returns-then-not-held : goal.returns-then-not-held
-returns-then-not-held g c =
-    λ keeps guest stands. rw (c.clear.ensures)
-    (steps_quiet keeps _ _ _ _ _ _ guest g.K.FrameKeeper.answers _ _ _ stands
-    (alone_stands keeps _ _ _ _ _ _ guest _ _ stands refl refl
-    (λ honest. write_not_held _ _ _ guest _ _ _ (sym c.if-not-held.ensures) honest)
-    (λ rogue. write_rogue _ _ _ _ _ guest _ _ _ _ refl (λ page. refl) refl refl rogue)))
+returns-then-not-held g c = record {
+  step = λ keeps guest stands. rw (c.clear.ensures)
+      (steps_quiet keeps _ _ _ _ _ _ guest g.K.FrameKeeper.answers _ _ _ stands
+      (alone_stands keeps _ _ _ _ _ _ guest _ _ stands refl refl
+      (λ honest. write_not_held _ _ _ guest _ _ _ (sym c.if-not-held.ensures) honest)
+      (λ rogue. write_rogue _ _ _ _ _ guest _ _ _ _ refl (λ page. refl) refl refl rogue)));
+  refused = λ _. (refl, record { mem = refl; part = refl; supply = refl; none = c.clear.ensures });
+  exact = λ used. (let unused = sym c.if-not-held.ensures in cc);
+}
 
 pub put_bytes-requires-clause-stands : goal.put_bytes-requires-clause-stands
 put_bytes-requires-clause-stands g c =
     let (keeps, guest, stands) = c.requires in (keeps, _, guest, stands)
 
 pub returns : goal.returns
-returns g c = λ keeps guest stands.
-    c.put_bytes.ensures.writes keeps _ guest (sym c.if-not-held.ensures) stands
+returns g c = record {
+  step = λ keeps guest stands.
+      c.put_bytes.ensures.writes keeps _ guest (sym c.if-not-held.ensures) stands;
+  refused = λ unused. (let used = sym c.if-not-held.ensures in cc);
+  exact = λ _. c.put_bytes.ensures.exact;
+}

@@ -1,8 +1,7 @@
 use Rattle.vb_slot.proofs.slot.Slot.empty.Goals as goal
 
-pub returns : goal.returns
-returns g c = record {
-  empty = c.empty.ensures.bare;
-  returned = λ keeps guest stands. c.empty.ensures.returned keeps _ guest stands;
-  claimed = c.forget.ensures;
-}
+pub returns-clause-empty : goal.returns-clause-empty
+returns-clause-empty g c = c.empty.ensures.bare
+
+pub returns-clause-returned : goal.returns-clause-returned
+returns-clause-returned g c = λ keeps guest stands. c.empty.ensures.returned keeps _ guest stands

@@ -1,4 +1,4 @@
 use Rattle.vb_slot.proofs.slot.Slot.work.Goals as goal
 
-pub returns : goal.returns
-returns g c = record { step = λ keeps guest stands. rw (c.forget.ensures) (c.work.ensures keeps _ guest stands) }
+pub returns-clause-step : goal.returns-clause-step
+returns-clause-step g c = λ keeps guest stands. rw (c.forget.ensures) (c.work.ensures.step keeps _ guest stands)
