@@ -1,6 +1,9 @@
 //! A driver's calls over guest memory with no device behind it. A line of a table is a step and its
 //! answer; what a device would write into a ring is a step too.
 
+ghost use Rattle.std.specs.Prelude.{◌≡◌, true};
+ghost use Rattle.vb_model.specs.Limits.{is_config};
+
 mod blocks;
 mod lent;
 mod lives;
@@ -14,11 +17,10 @@ use crate::memory::all_backed;
 use crate::requests::is_up;
 use crate::{Driver, Posted, Reaped};
 use bitflags::Flags;
-use std::alloc::{AllocError, Global};
+use std::alloc::Global;
 use std::process::Abort;
-use std::test::Fail;
 use vb_model::{Place, PlaceCounts, Refusal};
-use vb_ram::{Config, Frame, GuestBytes, Ram, RamFault};
+use vb_ram::{Config, Frame, GuestBytes, Ram};
 use vb_status::{Features, MemoryPort, Port};
 
 /// What is done with a guest.
@@ -95,25 +97,38 @@ const ALL: u64 = 0x1_0000_0027;
 /// An available ring with one entry, for head 0.
 const AVAILABLE: [u8; 16] = [0, 0, 1, 0, 0, 0, 0, 0, 0, 0, 0, 0, 0, 0, 0, 0];
 
-/// Guest memory of 64 pages, of which the first so many have frames.
-fn port_over(alloc: Global, backed: u32) -> Result<MemoryPort, RamFault> {
-    let mut ram = Ram::new(alloc, 64)?;
-    for page in 0..backed {
-        let _ = ram.supply(page, Frame::fresh(alloc, page)?);
-    }
-    Ok(MemoryPort::new(ram))
+/// Puts a frame behind a page.
+fn supply(rt: &impl Abort, alloc: Global, ram: &mut Ram, page: u32) {
+    let Ok(frame) = Frame::fresh(alloc, page) else {
+        rt.abort()
+    };
+    assert!(rt; ram.supply(page, frame).is_ok());
 }
 
-/// A driver of 64 pages, with queues of 8 descriptors and one processor.
-fn plugged_in(alloc: Global) -> Result<Driver, AllocError> {
-    Driver::new(
-        alloc,
-        Config {
-            pages: 64,
-            queue_size: 8,
-            processors: 1,
-        },
-    )
+/// Guest memory of so many pages, of which the first `backed` have frames.
+fn port_of(rt: &impl Abort, alloc: Global, pages: u32, backed: u32) -> MemoryPort {
+    let Ok(mut ram) = Ram::new(alloc, pages) else {
+        rt.abort()
+    };
+    for page in 0..backed {
+        supply(rt, alloc, &mut ram, page);
+    }
+    MemoryPort::new(ram)
+}
+
+/// A driver of so many pages, with queues of 8 descriptors and one processor.
+fn driver_of(rt: &impl Abort, alloc: Global, pages: u32) -> Driver
+    requires { is_config pages 8 1 ≡ true }
+{
+    let config = Config {
+        pages,
+        queue_size: 8,
+        processors: 1,
+    };
+    let Ok(driver) = Driver::new(alloc, config) else {
+        rt.abort()
+    };
+    driver
 }
 
 /// A call that posts a request.
@@ -133,11 +148,14 @@ struct Guest {
 }
 
 impl Guest {
-    fn new(alloc: Global, backed: u32) -> Result<Guest, Fail> {
-        Ok(Guest {
-            driver: plugged_in(alloc)?,
-            port: port_over(alloc, backed)?,
-        })
+    /// A guest of so many pages, of which the first `backed` have frames.
+    fn new(rt: &impl Abort, alloc: Global, pages: u32, backed: u32) -> Guest
+        requires { is_config pages 8 1 ≡ true }
+    {
+        Guest {
+            driver: driver_of(rt, alloc, pages),
+            port: port_of(rt, alloc, pages, backed),
+        }
     }
 
     fn are_counts(&self, free: u32, used: u32) -> bool {
@@ -260,14 +278,9 @@ impl Guest {
     }
 }
 
-/// The same of a new guest, of whose pages the first so many have frames.
-fn first_wrong_of_new(alloc: Global, backed: u32, lines: &[Line]) -> Result<Option<usize>, Fail> {
-    let mut guest = Guest::new(alloc, backed)?;
-    Ok(guest.first_wrong(lines))
-}
-
-/// Expects that a new guest answers each line so.
-fn expect(rt: &impl Abort, alloc: Global, backed: u32, lines: &[Line]) -> Result<(), Fail> {
-    assert_eq!(rt; first_wrong_of_new(alloc, backed, lines)?, None);
-    Ok(())
+/// Expects that a new guest of 64 pages, of which the first so many have frames, answers each line
+/// so.
+fn expect(rt: &impl Abort, alloc: Global, backed: u32, lines: &[Line]) {
+    let mut guest = Guest::new(rt, alloc, 64, backed);
+    assert_eq!(rt; guest.first_wrong(lines), None);
 }

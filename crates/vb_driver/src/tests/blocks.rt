@@ -1,7 +1,6 @@
 //! Blocks of pages, and what is refused before a driver is up.
 
 use super::{ALL, Answer, DONE, Line, NO, Sight, Step, YES, expect};
-use std::test::Fail;
 use vb_model::{Place, Refusal};
 
 static BLOCKS: [Line; 16] = [
@@ -24,8 +23,8 @@ static BLOCKS: [Line; 16] = [
 ];
 
 #[test]
-fn hands_blocks_out(rt: HostRuntime) -> Result<(), Fail> {
-    expect(&rt, rt.alloc(), 0, &BLOCKS)
+fn hands_blocks_out(rt: HostRuntime) {
+    expect(&rt, rt.alloc(), 0, &BLOCKS);
 }
 
 static REFUSALS: [Line; 17] = [
@@ -49,6 +48,6 @@ static REFUSALS: [Line; 17] = [
 ];
 
 #[test]
-fn refuses_before_an_initialisation(rt: HostRuntime) -> Result<(), Fail> {
-    expect(&rt, rt.alloc(), 12, &REFUSALS)
+fn refuses_before_an_initialisation(rt: HostRuntime) {
+    expect(&rt, rt.alloc(), 12, &REFUSALS);
 }

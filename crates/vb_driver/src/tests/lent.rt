@@ -4,17 +4,14 @@
 ghost use Rattle.std.specs.Prelude.{◌≡◌, true};
 ghost use Rattle.vb_model.specs.Limits.{is_config};
 
+use super::{ALL, Answer, Guest, Request};
 use crate::Driver;
-use crate::memory::all_backed;
 use crate::places::PlaceTable;
-use crate::requests::is_up;
-use bitflags::Flags;
 use std::alloc::Global;
 use std::process::Abort;
 use std::test::Fail;
 use vb_model::{Place, Refusal};
-use vb_ram::{Config, Frame, GuestBytes, Ram, RamFault};
-use vb_status::{Features, MemoryPort};
+use vb_status::Port;
 
 /// What is done with a guest.
 #[derive(Clone, Copy)]
@@ -44,40 +41,6 @@ const ALL_UNRESERVED: u64 = 0xffff_ffff_ffff_0000;
 const LAST_BIT: u64 = 0x8000_0000_0000_0000;
 
 const ALL_BUT_THE_LAST: u64 = 0x7fff_ffff_ffff_ffff;
-
-/// All features but that of reports, which the bits don't need.
-const FEATURES: u64 = 0x1_0000_0007;
-
-/// A driver, and the port through which it reaches its device.
-#[derive(Drop)]
-struct Guest {
-    driver: Driver,
-    port: MemoryPort,
-}
-
-/// Guest memory of which the pages of rings and buffers have frames.
-fn port_of(alloc: Global, pages: u32) -> Result<MemoryPort, RamFault> {
-    let mut ram = Ram::new(alloc, pages)?;
-    for page in 0..16 {
-        let _ = ram.supply(page, Frame::fresh(alloc, page)?);
-    }
-    Ok(MemoryPort::new(ram))
-}
-
-/// A guest of so many pages, with queues of 8 descriptors and one processor.
-fn guest_of(alloc: Global, pages: u32) -> Result<Guest, Fail>
-    requires { is_config pages 8 1 ≡ true }
-{
-    let config = Config {
-        pages,
-        queue_size: 8,
-        processors: 1,
-    };
-    Ok(Guest {
-        driver: Driver::new(alloc, config)?,
-        port: port_of(alloc, pages)?,
-    })
-}
 
 /// The word that is wanted.
 fn word_of(wanted: &[(usize, u64)], at: usize) -> u64 {
@@ -122,88 +85,67 @@ fn are_places(driver: &Driver) -> bool {
     true
 }
 
-impl Guest {
-    /// Whether just these words of lent pages aren't 0.
-    fn shows(&self, wanted: &[(usize, u64)]) -> bool {
-        are_words(self.driver.lent_bits(), wanted) && are_places(&self.driver)
-    }
+/// Whether just these words of lent pages aren't 0.
+fn shows(driver: &Driver, wanted: &[(usize, u64)]) -> bool {
+    are_words(driver.lent_bits(), wanted) && are_places(driver)
+}
 
-    fn init(&mut self, target: u32) -> Result<(), Refusal> {
-        if self.port.pages() < 64 {
-            return Err(Refusal::OutOfRam);
-        }
-        self.port.set_target(target);
-        self.driver
-            .init(&mut self.port, Features::from_bits_retain(FEATURES))
-    }
-
-    /// Posts a request; a device that is up needs frames for its rings and buffers.
-    fn post(&mut self, deflates: bool, pages: u32) -> Result<(), Refusal> {
-        if self.port.pages() < 64 || is_up(&self.port) && !all_backed(&mut self.port) {
-            return Err(Refusal::OutOfRam);
-        }
-        let _posted = if deflates {
-            self.driver.deflate(&mut self.port, pages)?
-        } else {
-            self.driver.inflate(&mut self.port, pages)?
-        };
-        Ok(())
-    }
-
-    /// Writes what a device would: the used ring of 8 descriptors has its index at byte 154 of its
-    /// page, and then an element of 8 bytes for each request, which begins with the head.
-    fn reap(&mut self, queue: u32, used: u8) -> Result<(), Refusal> {
-        if self.port.pages() < 64 {
-            return Err(Refusal::OutOfRam);
-        }
-        let element = 148 + 8 * usize::from(used);
-        let _ = self.port.write(queue, element, &[0; 8]);
-        let _ = self.port.write(queue, 154, &[used, 0]);
-        match self.driver.reap(&mut self.port, queue)? {
-            Some(_) => Ok(()),
-            None => Err(Refusal::Nothing),
-        }
-    }
-
-    fn hold(&mut self, order: u32, blocks: u32) -> Result<(), Refusal> {
-        for _block in 0..blocks {
-            let _start = self.driver.alloc(0, order)?;
-        }
-        Ok(())
-    }
-
-    fn call(&mut self, step: Step) -> Result<(), Refusal> {
-        match step {
-            Step::Init(target) => return self.init(target),
-            Step::SetTarget(target) => self.port.set_target(target),
-            Step::Inflate(pages) => return self.post(false, pages),
-            Step::Deflate(pages) => return self.post(true, pages),
-            Step::Reap(queue, used) => return self.reap(queue, used),
-            Step::Hold(order, blocks) => return self.hold(order, blocks),
-            Step::Reset => self.driver.reset(&mut self.port),
-            Step::Restart => self.driver.restart(&mut self.port),
-        }
-        Ok(())
-    }
-
-    /// The number of the first line that is refused, or after which other pages are lent.
-    fn first_wrong(&mut self, lines: &[Line]) -> Option<usize> {
-        for at in 0..lines.len() {
-            if self.call(lines[at].0).is_err() || !self.shows(lines[at].1) {
-                return Some(at);
-            }
-        }
-        None
+/// The device has used the request with head 0, and the driver takes one back.
+fn reap(guest: &mut Guest, queue: u32, used: u8) -> Result<Answer, Refusal> {
+    guest.use_request(queue, 0, used);
+    match guest.reap(queue)? {
+        Answer::NoneUsed => Err(Refusal::Nothing),
+        reaped => Ok(reaped),
     }
 }
 
-/// How many words a guest of so many pages has, and its first line that is wrong.
-fn run(alloc: Global, pages: u32, lines: &[Line]) -> Result<(usize, Option<usize>), Fail>
+fn hold(driver: &mut Driver, order: u32, blocks: u32) -> Result<(), Refusal> {
+    for _block in 0..blocks {
+        let _start = driver.alloc(0, order)?;
+    }
+    Ok(())
+}
+
+fn call(guest: &mut Guest, step: Step) -> Result<(), Refusal> {
+    match step {
+        Step::Init(target) => {
+            guest.port.set_target(target);
+            guest.init(ALL)?;
+        }
+        Step::SetTarget(target) => guest.port.set_target(target),
+        Step::Inflate(pages) => {
+            let _posted = guest.post(Request::Inflate, pages)?;
+        }
+        Step::Deflate(pages) => {
+            let _posted = guest.post(Request::Deflate, pages)?;
+        }
+        Step::Reap(queue, used) => {
+            let _reaped = reap(guest, queue, used)?;
+        }
+        Step::Hold(order, blocks) => hold(&mut guest.driver, order, blocks)?,
+        Step::Reset => guest.driver.reset(&mut guest.port),
+        Step::Restart => guest.driver.restart(&mut guest.port),
+    }
+    Ok(())
+}
+
+/// The number of the first line that is refused, or after which other pages are lent.
+fn first_wrong(guest: &mut Guest, lines: &[Line]) -> Option<usize> {
+    for at in 0..lines.len() {
+        if call(guest, lines[at].0).is_err() || !shows(&guest.driver, lines[at].1) {
+            return Some(at);
+        }
+    }
+    None
+}
+
+/// Expects that a guest of so many pages has so many words, and after each line those that it says.
+fn expect(rt: &impl Abort, alloc: Global, pages: u32, words: usize, lines: &[Line])
     requires { is_config pages 8 1 ≡ true }
 {
-    let mut guest = guest_of(alloc, pages)?;
-    let words = guest.driver.lent_bits().len();
-    Ok((words, guest.first_wrong(lines)))
+    let mut guest = Guest::new(rt, alloc, pages, 16);
+    assert!(rt; guest.driver.lent_bits().len() == words);
+    assert_eq!(rt; first_wrong(&mut guest, lines), None);
 }
 
 static ONE_WORD: [Line; 24] = [
@@ -236,9 +178,8 @@ static ONE_WORD: [Line; 24] = [
 ];
 
 #[test]
-fn has_one_word_of_lent_pages(rt: HostRuntime) -> Result<(), Fail> {
-    assert_eq!(rt; run(rt.alloc(), 64, &ONE_WORD)?, (1, None));
-    Ok(())
+fn has_one_word_of_lent_pages(rt: HostRuntime) {
+    expect(&rt, rt.alloc(), 64, 1, &ONE_WORD);
 }
 
 static TWO_WORDS: [Line; 23] = [
@@ -270,9 +211,8 @@ static TWO_WORDS: [Line; 23] = [
 ];
 
 #[test]
-fn has_two_words_of_lent_pages(rt: HostRuntime) -> Result<(), Fail> {
-    assert_eq!(rt; run(rt.alloc(), 128, &TWO_WORDS)?, (2, None));
-    Ok(())
+fn has_two_words_of_lent_pages(rt: HostRuntime) {
+    expect(&rt, rt.alloc(), 128, 2, &TWO_WORDS);
 }
 
 /// Pages 16 to 271.
@@ -383,9 +323,8 @@ static MANY_WORDS: [Line; 31] = [
 ];
 
 #[test]
-fn has_many_words_of_lent_pages(rt: HostRuntime) -> Result<(), Fail> {
-    assert_eq!(rt; run(rt.alloc(), 16_384, &MANY_WORDS)?, (256, None));
-    Ok(())
+fn has_many_words_of_lent_pages(rt: HostRuntime) {
+    expect(&rt, rt.alloc(), 16_384, 256, &MANY_WORDS);
 }
 
 /// A page that moves to a place, and the words of lent pages then.

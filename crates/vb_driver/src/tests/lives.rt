@@ -1,7 +1,6 @@
 //! Initialisations, resets, and new lives of a guest.
 
 use super::{ALL, Answer, DONE, Line, Sight, Step, YES, expect};
-use std::test::Fail;
 use vb_model::{Place, Refusal};
 
 static LIVES: [Line; 22] = [
@@ -30,8 +29,8 @@ static LIVES: [Line; 22] = [
 ];
 
 #[test]
-fn starts_and_starts_over(rt: HostRuntime) -> Result<(), Fail> {
-    expect(&rt, rt.alloc(), 13, &LIVES)
+fn starts_and_starts_over(rt: HostRuntime) {
+    expect(&rt, rt.alloc(), 13, &LIVES);
 }
 
 /// A new life begins with a block held, pages lent, a request out and pages in a processor's list.
@@ -57,8 +56,8 @@ static NEW_LIFE: [Line; 18] = [
 ];
 
 #[test]
-fn begins_a_new_life(rt: HostRuntime) -> Result<(), Fail> {
-    expect(&rt, rt.alloc(), 13, &NEW_LIFE)
+fn begins_a_new_life(rt: HostRuntime) {
+    expect(&rt, rt.alloc(), 13, &NEW_LIFE);
 }
 
 /// Pages 16 to 19, as the buffer of a request has them.
@@ -90,6 +89,6 @@ static STRANDED: [Line; 19] = [
 ];
 
 #[test]
-fn offers_stranded_pages_first(rt: HostRuntime) -> Result<(), Fail> {
-    expect(&rt, rt.alloc(), 13, &STRANDED)
+fn offers_stranded_pages_first(rt: HostRuntime) {
+    expect(&rt, rt.alloc(), 13, &STRANDED);
 }

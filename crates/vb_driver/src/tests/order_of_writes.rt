@@ -5,7 +5,6 @@ use crate::Driver;
 use crate::memory::all_backed;
 use bitflags::Flags;
 use std::process::Abort;
-use std::test::Fail;
 use vb_ram::{GuestBytes, RamFault};
 use vb_status::{Features, MemoryPort, Port, Status, StatusFault};
 
@@ -191,8 +190,7 @@ fn are_in_order(guest: Guest) -> bool {
 }
 
 #[test]
-fn writes_in_the_standards_order(rt: HostRuntime) -> Result<(), Fail> {
-    let guest = Guest::new(rt.alloc(), 13)?;
+fn writes_in_the_standards_order(rt: HostRuntime) {
+    let guest = Guest::new(&rt, rt.alloc(), 64, 13);
     assert!(rt; are_in_order(guest));
-    Ok(())
 }

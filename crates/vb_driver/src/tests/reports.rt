@@ -1,7 +1,6 @@
 //! Reports of free blocks.
 
 use super::{ALL, AVAILABLE, Answer, DONE, Line, Sight, Step, YES, expect};
-use std::test::Fail;
 use vb_model::{Place, Refusal};
 
 static REPORTS: [Line; 22] = [
@@ -30,8 +29,8 @@ static REPORTS: [Line; 22] = [
 ];
 
 #[test]
-fn reports_free_blocks(rt: HostRuntime) -> Result<(), Fail> {
-    expect(&rt, rt.alloc(), 13, &REPORTS)
+fn reports_free_blocks(rt: HostRuntime) {
+    expect(&rt, rt.alloc(), 13, &REPORTS);
 }
 
 /// A chain of 64 KiB from page 16 on, for the device to write, which goes on at descriptor 1.
@@ -65,6 +64,6 @@ static ALL_REPORTED: [Line; 21] = [
 ];
 
 #[test]
-fn hands_no_reported_page_out(rt: HostRuntime) -> Result<(), Fail> {
-    expect(&rt, rt.alloc(), 13, &ALL_REPORTED)
+fn hands_no_reported_page_out(rt: HostRuntime) {
+    expect(&rt, rt.alloc(), 13, &ALL_REPORTED);
 }

@@ -1,7 +1,6 @@
 //! Inflates and deflates, and how their requests come back.
 
 use super::{ALL, AVAILABLE, Answer, DONE, Line, Sight, Step, YES, expect};
-use std::test::Fail;
 use vb_model::{Place, Refusal};
 
 /// A request for pages 17 to 20.
@@ -21,8 +20,8 @@ static REQUEST: [Line; 7] = [
 ];
 
 #[test]
-fn a_request_is_the_standards_bytes(rt: HostRuntime) -> Result<(), Fail> {
-    expect(&rt, rt.alloc(), 13, &REQUEST)
+fn a_request_is_the_standards_bytes(rt: HostRuntime) {
+    expect(&rt, rt.alloc(), 13, &REQUEST);
 }
 
 static BACK: [Line; 22] = [
@@ -51,8 +50,8 @@ static BACK: [Line; 22] = [
 ];
 
 #[test]
-fn asks_pages_back(rt: HostRuntime) -> Result<(), Fail> {
-    expect(&rt, rt.alloc(), 13, &BACK)
+fn asks_pages_back(rt: HostRuntime) {
+    expect(&rt, rt.alloc(), 13, &BACK);
 }
 
 static ORDER: [Line; 18] = [
@@ -77,8 +76,8 @@ static ORDER: [Line; 18] = [
 ];
 
 #[test]
-fn reaps_in_the_devices_order(rt: HostRuntime) -> Result<(), Fail> {
-    expect(&rt, rt.alloc(), 13, &ORDER)
+fn reaps_in_the_devices_order(rt: HostRuntime) {
+    expect(&rt, rt.alloc(), 13, &ORDER);
 }
 
 static FULL: [Line; 11] = [
@@ -96,6 +95,6 @@ static FULL: [Line; 11] = [
 ];
 
 #[test]
-fn has_as_many_requests_as_descriptors(rt: HostRuntime) -> Result<(), Fail> {
-    expect(&rt, rt.alloc(), 13, &FULL)
+fn has_as_many_requests_as_descriptors(rt: HostRuntime) {
+    expect(&rt, rt.alloc(), 13, &FULL);
 }

@@ -1,7 +1,6 @@
 //! The statistics buffer.
 
 use super::{ALL, AVAILABLE, Answer, DONE, Line, NO, Sight, Step, YES, expect};
-use std::test::Fail;
 use vb_model::Refusal;
 
 /// The descriptor of the statistics buffer: 20 bytes at address 0xc000 that the device reads.
@@ -45,8 +44,8 @@ static STATISTICS: [Line; 19] = [
 ];
 
 #[test]
-fn fills_the_statistics_buffer(rt: HostRuntime) -> Result<(), Fail> {
-    expect(&rt, rt.alloc(), 13, &STATISTICS)
+fn fills_the_statistics_buffer(rt: HostRuntime) {
+    expect(&rt, rt.alloc(), 13, &STATISTICS);
 }
 
 static NO_STATISTICS: [Line; 8] = [
@@ -61,8 +60,8 @@ static NO_STATISTICS: [Line; 8] = [
 ];
 
 #[test]
-fn has_no_statistics_without_the_feature(rt: HostRuntime) -> Result<(), Fail> {
-    expect(&rt, rt.alloc(), 13, &NO_STATISTICS)
+fn has_no_statistics_without_the_feature(rt: HostRuntime) {
+    expect(&rt, rt.alloc(), 13, &NO_STATISTICS);
 }
 
 static BROKEN_STATISTICS: [Line; 15] = [
@@ -84,6 +83,6 @@ static BROKEN_STATISTICS: [Line; 15] = [
 ];
 
 #[test]
-fn gives_up_on_a_broken_ring_of_statistics(rt: HostRuntime) -> Result<(), Fail> {
-    expect(&rt, rt.alloc(), 13, &BROKEN_STATISTICS)
+fn gives_up_on_a_broken_ring_of_statistics(rt: HostRuntime) {
+    expect(&rt, rt.alloc(), 13, &BROKEN_STATISTICS);
 }
