@@ -1,6 +1,6 @@
 -- Each step keeps the rule.
-use Rattle.std.proofs.Common.{◌≡◌, ◌≢◌, ℕ, zero, suc, ◌+◌, ◌<◌, ◌≤◌, Bool, true, false, cond, eqb, ◌||◌}
-use Rattle.std.proofs.Common.{List, [], ◌∷◌, length, set, refl, sym, ap, ◌∙◌, subst, ⊎_elim, arith}
+use Rattle.std.proofs.Common.{◌≡◌, ◌≢◌, ℕ, zero, suc, ◌+◌, ◌<◌, ◌≤◌, Bool, true, false, cond, eqb}
+use Rattle.std.proofs.Common.{◌||◌, List, [], ◌∷◌, length, set, refl, sym, ap, ◌∙◌, subst, ⊎_elim, arith}
 use Rattle.std.proofs.Common.{eq-eqb, ne_eqb, eqb-true, get_or-set_same, get_or-set_other}
 use Rattle.std.proofs.Common.{length-set, true≢false}
 use Rattle.std.specs.Prelude.{slice_index}
@@ -107,7 +107,8 @@ kept_after size words views id tag f x held held' r at m low new = record {
   small = λ j. dite (ℕ_discrete j f)
       (λ e. subst (λ (k : ℕ). k ≤ size.guests)
       (sym (ap (slice_index (set words f x)) e ∙ get_or-set_same words f x 0 m.inside)) low)
-      (λ n. subst (λ (k : ℕ). k ≤ size.guests) (sym (get_or-set_other words f j x 0 n)) (r.small j));
+      (λ n. subst (λ (k : ℕ). k ≤ size.guests) (sym (get_or-set_other words f j x 0 n))
+      (r.small j));
   tied = λ i v e. ⊎_elim
       (λ (t : (i ≡ id) × (pass tag held' ≡ v)).
       subst (λ (y : View). AllTied size.guests (set words f x) y.holdings) t.1

@@ -54,12 +54,16 @@ pub within_next : (i bound : ℕ) (ns : List ℕ) → Within i bound ns
     → Within (i + 1) bound (without ns i)
 within_next i bound [] w = tt
 within_next i bound (n ∷ ns) w = dite (ℕ_discrete n i)
-    (λ e. subst (λ (b : Bool). Within (i + 1) bound (cond (not b) (n ∷ without ns i) (without ns i)))
-    (sym (eq-eqb n i e)) (within_next i bound ns w.2))
+    (λ e. subst left (sym (eq-eqb n i e)) (within_next i bound ns w.2))
     (λ ne. let low = w.0 in
-    subst (λ (b : Bool). Within (i + 1) bound (cond (not b) (n ∷ without ns i) (without ns i)))
-    (sym (ne_eqb n i ne))
-    (dite (ℕ_discrete n i) (λ e. absurd (ne e)) (λ more. omega arith), w.1, within_next i bound ns w.2))
+    subst left (sym (ne_eqb n i ne)) (
+      dite (ℕ_discrete n i) (λ e. absurd (ne e)) (λ more. omega arith),
+      w.1,
+      within_next i bound ns w.2,
+    ))
+  where
+    left : Bool → Type 0
+    left b = Within (i + 1) bound (cond (not b) (n ∷ without ns i) (without ns i))
 
 pub within_end : (bound : ℕ) (ns : List ℕ) → Within bound bound ns → ns ≡ []
 within_end bound [] w = refl
@@ -83,22 +87,25 @@ zeros zero f = refl
 zeros (suc n) zero = refl
 zeros (suc n) (suc f) = zeros n f
 
-new_passes_push : (table : TableId) (tag n : ℕ) → new_passes table tag (suc n)
-    ≡ new_passes table tag n ++ record { table = table; tag = tag + n; held = [] } ∷ []
+abbrev pub new_pass : TableId → ℕ → Pass
+new_pass table tag = record { table = table; tag = tag; held = [] }
+
+new_passes_push : (table : TableId) (tag n : ℕ)
+    → new_passes table tag (suc n) ≡ new_passes table tag n ++ new_pass table (tag + n) ∷ []
 new_passes_push table tag zero =
     let e : tag ≡ tag + 0 = omega arith in
-    ap (λ (t : ℕ). record { table = table; tag = t; held = [] } ∷ []) e
+    ap (λ (t : ℕ). new_pass table t ∷ []) e
 new_passes_push table tag (suc n) =
     let e : suc tag + n ≡ tag + suc n = omega arith in
-    ap (λ (ps : List Pass). record { table = table; tag = tag; held = [] } ∷ ps)
+    ap (λ (ps : List Pass). new_pass table tag ∷ ps)
     (new_passes_push table (suc tag) n
-    ∙ ap (λ (t : ℕ). new_passes table (suc tag) n ++ record { table = table; tag = t; held = [] } ∷ []) e)
+    ∙ ap (λ (t : ℕ). new_passes table (suc tag) n ++ new_pass table t ∷ []) e)
 
 -- one more pass has the next tag
-pub new_passes_next : (table : TableId) (n : ℕ) → new_passes table 0 (n + 1)
-    ≡ new_passes table 0 n ++ record { table = table; tag = n; held = [] } ∷ []
+pub new_passes_next : (table : TableId) (n : ℕ)
+    → new_passes table 0 (n + 1) ≡ new_passes table 0 n ++ new_pass table n ∷ []
 new_passes_next table n =
     let one : n + 1 ≡ suc n = omega arith in
     let e : 0 + n ≡ n = omega arith in
     ap (new_passes table 0) one ∙ new_passes_push table 0 n
-    ∙ ap (λ (t : ℕ). new_passes table 0 n ++ record { table = table; tag = t; held = [] } ∷ []) e
+    ∙ ap (λ (t : ℕ). new_passes table 0 n ++ new_pass table t ∷ []) e

@@ -44,7 +44,7 @@ abbrev pub AllTied : ℕ → List ℕ → List Holding → Type 0
 AllTied guests words [] = Unit {0}
 AllTied guests words (p ∷ ps) = IsTied guests words p × AllTied guests words ps
 
--- A word a frame: 0 where the frame is free, else its holder's tag and 1. Each pass has a tag of its
+-- A word a frame: 0 where the frame is free, else its holder's tag + 1. Each pass has a tag of its
 -- own.
 pub record IsKept (size : Size) (words : List ℕ) (views : List View) : Type 0 where
   pub wide : length words ≡ size.frames

@@ -1,7 +1,7 @@
 //! Single steps on the words.
 
-ghost use Rattle.std.specs.Prelude.{◌≡◌, ℕ, ◌+◌, ◌-◌, ◌<◌, ◌≤◌, [], ◌∷◌, true, false, IfSome, IfNone};
-ghost use Rattle.std.specs.Prelude.{if◌then◌else◌};
+ghost use Rattle.std.specs.Prelude.{◌≡◌, ℕ, ◌+◌, ◌-◌, ◌<◌, ◌≤◌, [], ◌∷◌, true, false, IfSome};
+ghost use Rattle.std.specs.Prelude.{IfNone, if◌then◌else◌};
 ghost use Rattle.vb_device.specs.Own.{has, without};
 ghost use Rattle.vb_shared.specs.Passes.{IsPass};
 ghost use Rattle.vb_shared.specs.Rule.{pass, view_of};
