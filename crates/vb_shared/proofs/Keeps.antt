@@ -1,0 +1,291 @@
+-- Each step keeps the rule.
+use Rattle.std.proofs.Common.{◌≡◌, ◌≢◌, ℕ, zero, suc, ◌+◌, ◌<◌, ◌≤◌, Bool, true, false, cond, eqb}
+use Rattle.std.proofs.Common.{◌||◌, List, [], ◌∷◌, length, set, refl, sym, ap, ◌∙◌, subst, ⊎_elim, arith}
+use Rattle.std.proofs.Common.{eq-eqb, ne_eqb, eqb-true, get_or-set_same, get_or-set_other}
+use Rattle.std.proofs.Common.{length-set, true≢false}
+use Rattle.std.specs.Prelude.{slice_index}
+use Rattle.std.proofs.lemmas.List.{set-get_or}
+use mathlib.Core.Option.{some, none, some-ne-none, some-injective}
+use mathlib.Core.Logic.{dite}
+use native.Mathlib.Decide.{ℕ_discrete}
+use prog.Atomic.{either}
+use lib.ListN.{get_elem?}
+use Rattle.atomic_table.specs.Table.{State, Me, Act, Allows, Valid, carried_after, step, keeps}
+use Rattle.atomic_table.proofs.Lists.{at_set, set_again}
+use Rattle.vb_model.specs.Tests.{one_if}
+use Rattle.vb_device.specs.Own.{has, without}
+use Rattle.vb_shared.specs.declared.rule.Holding.{Holding}
+use Rattle.vb_shared.specs.declared.rule.View.{View}
+use Rattle.vb_shared.specs.declared.rule.Size.{Size}
+use Rattle.vb_shared.specs.Rule.{pass, count, count_all, AllTied, IsKept, Kept, StepKind, TryClaim}
+use Rattle.vb_shared.specs.Rule.{PutBack, Look, word_after, held_after}
+use Rattle.vb_shared.specs.Steps.{claimed, returned}
+use Rattle.vb_shared.proofs.Lists.{has_without, has_not_without, without_none}
+
+-- ---- tags
+
+pub count_at : (tag : ℕ) (views : List View) (i : ℕ) (v : View) → get_elem? views i ≡ some v
+    → count tag v.holdings ≤ count_all tag views
+count_at tag [] i v e = absurd (some-ne-none v (sym e))
+count_at tag (x ∷ xs) zero v e =
+    subst (λ (y : View). count tag y.holdings ≤ count tag x.holdings + count_all tag xs)
+    (some-injective x v e) (omega arith)
+count_at tag (x ∷ xs) (suc i) v e = let h = count_at tag xs i v e in omega arith
+
+-- two places of the views
+pub count_two : (tag : ℕ) (views : List View) (i j : ℕ) (v w : View) → i ≢ j
+    → get_elem? views i ≡ some v → get_elem? views j ≡ some w
+    → count tag v.holdings + count tag w.holdings ≤ count_all tag views
+count_two tag [] i j v w ne e f = absurd (some-ne-none v (sym e))
+count_two tag (x ∷ xs) zero zero v w ne e f = absurd (ne refl)
+count_two tag (x ∷ xs) zero (suc j) v w ne e f =
+    let h = count_at tag xs j w f in
+    subst (λ (y : View). count tag y.holdings + count tag w.holdings
+    ≤ count tag x.holdings + count_all tag xs) (some-injective x v e) (omega arith)
+count_two tag (x ∷ xs) (suc i) zero v w ne e f =
+    let h = count_at tag xs i v e in
+    subst (λ (y : View). count tag v.holdings + count tag y.holdings
+    ≤ count tag x.holdings + count_all tag xs) (some-injective x w f) (omega arith)
+count_two tag (x ∷ xs) (suc i) (suc j) v w ne e f =
+    let h = count_two tag xs i j v w (λ k. ne (ap suc k)) e f in
+    omega arith
+
+pub count_set : (tag : ℕ) (views : List View) (i : ℕ) (v w : View) → get_elem? views i ≡ some v
+    → count_all tag (set views i w) + count tag v.holdings
+    ≡ count_all tag views + count tag w.holdings
+count_set tag [] i v w e = absurd (some-ne-none v (sym e))
+count_set tag (x ∷ xs) zero v w e =
+    subst (λ (y : View). count tag w.holdings + count_all tag xs + count tag y.holdings
+    ≡ count tag x.holdings + count_all tag xs + count tag w.holdings)
+    (some-injective x v e) (omega arith)
+count_set tag (x ∷ xs) (suc i) v w e = let h = count_set tag xs i v w e in omega arith
+
+pub one_tag : (tag : ℕ) → one_if (eqb tag tag) ≡ 1
+one_tag tag = ap one_if (eq-eqb tag tag refl)
+
+pub not_tag : (t tag n : ℕ) → one_if (eqb t tag) + n ≡ 0 → t ≢ tag
+not_tag t tag n zero_sum e =
+    let one : one_if (eqb t tag) ≡ 1 = ap one_if (eq-eqb t tag e) in
+    absurd (omega arith)
+
+-- ---- a step by the pass with a tag: the word f becomes x, and both are no other tag's
+
+record Moves (words : List ℕ) (f x tag : ℕ) : Type 0 where
+  pub inside : f < length words
+  pub before : (t : ℕ) → t ≢ tag → slice_index words f ≢ t + 1
+  pub after : (t : ℕ) → t ≢ tag → x ≢ t + 1
+
+word_same : (words : List ℕ) (f x tag t j : ℕ) → Moves words f x tag → t ≢ tag
+    → eqb (slice_index (set words f x) j) (t + 1) ≡ eqb (slice_index words j) (t + 1)
+word_same words f x tag t j m ne = dite (ℕ_discrete j f)
+    (λ e. ap (λ k. eqb (slice_index (set words f x) k) (t + 1)) e
+    ∙ ap (λ n. eqb n (t + 1)) (get_or-set_same words f x 0 m.inside)
+    ∙ ne_eqb x (t + 1) (m.after t ne)
+    ∙ sym (ap (λ k. eqb (slice_index words k) (t + 1)) e
+    ∙ ne_eqb (slice_index words f) (t + 1) (m.before t ne)))
+    (λ n. ap (λ k. eqb k (t + 1)) (get_or-set_other words f j x 0 n))
+
+tied_after : (guests : ℕ) (words : List ℕ) (f x tag : ℕ) (ps : List Holding) → Moves words f x tag
+    → count tag ps ≡ 0 → AllTied guests words ps → AllTied guests (set words f x) ps
+tied_after guests words f x tag [] m absent tied = tt
+tied_after guests words f x tag (p ∷ ps) m absent tied = (
+  (
+    tied.0.0,
+    λ j. word_same words f x tag p.tag j m (not_tag p.tag tag (count tag ps) absent)
+        ∙ tied.0.1 j,
+  ),
+  tied_after guests words f x tag ps m (omega arith) tied.1,
+)
+
+kept_after : (size : Size) (words : List ℕ) (views : List View) (id tag f x : ℕ)
+    (held held' : List ℕ) → IsKept size words views → get_elem? views id ≡ some (pass tag held)
+    → Moves words f x tag → x ≤ size.guests
+    → ((j : ℕ) → eqb (slice_index (set words f x) j) (tag + 1) ≡ has held' j)
+    → IsKept size (set words f x) (set views id (pass tag held'))
+kept_after size words views id tag f x held held' r at m low new = record {
+  wide = length-set words f x ∙ r.wide;
+  small = λ j. dite (ℕ_discrete j f)
+      (λ e. subst (λ (k : ℕ). k ≤ size.guests)
+      (sym (ap (slice_index (set words f x)) e ∙ get_or-set_same words f x 0 m.inside)) low)
+      (λ n. subst (λ (k : ℕ). k ≤ size.guests) (sym (get_or-set_other words f j x 0 n))
+      (r.small j));
+  tied = λ i v e. ⊎_elim
+      (λ (t : (i ≡ id) × (pass tag held' ≡ v)).
+      subst (λ (y : View). AllTied size.guests (set words f x) y.holdings) t.1
+      (((r.tied id (pass tag held) at).0.0, new), tt))
+      (λ (t : (i ≢ id) × (get_elem? views i ≡ some v)).
+      let two = count_two tag views i id v (pass tag held) t.0 t.1 at in
+      let most = r.apart tag in
+      let one = one_tag tag in
+      tied_after size.guests words f x tag v.holdings m (omega arith) (r.tied i v t.1))
+      (at_set views id i (pass tag held') v e);
+  apart = λ t.
+      let c = count_set t views id (pass tag held) (pass tag held') at in
+      let most = r.apart t in
+      omega arith;
+}
+
+-- nothing changes
+pub still : (size : Size) (words : List ℕ) (views : List View) (id f : ℕ) (v : View)
+    → IsKept size words views → get_elem? views id ≡ some v
+    → IsKept size (set words f (slice_index words f)) (set views id v)
+still size words views id f v r at =
+    subst (λ (ws : List ℕ). IsKept size ws (set views id v)) (sym (set-get_or words f 0))
+    (subst (IsKept size words) (sym (set_again views id v at)) r)
+
+-- ---- a try
+
+try_kept : (size : Size) (words : List ℕ) (views : List View) (id tag f : ℕ) (held : List ℕ)
+    → f < size.frames → IsKept size words views → get_elem? views id ≡ some (pass tag held)
+    → (b : Bool) → eqb (slice_index words f) 0 ≡ b
+    → IsKept size (set words f (cond b (tag + 1) (slice_index words f)))
+    (set views id (pass tag (cond b (f ∷ held) held)))
+try_kept size words views id tag f held low r at true is =
+    let free : slice_index words f ≡ 0 = eqb-true _ _ is in
+    let mine = (r.tied id (pass tag held) at).0 in
+    let wide = r.wide in
+    let tag_low = mine.0 in
+    let m : Moves words f (tag + 1) tag = record {
+      inside = omega arith;
+      before = λ t _ e. omega arith;
+      after = λ t ne e. ne (omega arith);
+    } in
+    kept_after size words views id tag f (tag + 1) held (f ∷ held) r at m (omega arith)
+    (λ j. dite (ℕ_discrete j f)
+    (λ e. ap (λ k. eqb (slice_index (set words f (tag + 1)) k) (tag + 1)) e
+    ∙ ap (λ n. eqb n (tag + 1)) (get_or-set_same words f (tag + 1) 0 m.inside)
+    ∙ eq-eqb (tag + 1) (tag + 1) refl
+    ∙ sym (ap (λ b. b || has held j) (eq-eqb f j (sym e))))
+    (λ n. ap (λ k. eqb k (tag + 1)) (get_or-set_other words f j (tag + 1) 0 n)
+    ∙ mine.1 j
+    ∙ sym (ap (λ b. b || has held j) (ne_eqb f j (λ e. n (sym e))))))
+try_kept size words views id tag f held low r at false is =
+    still size words views id f (pass tag held) r at
+
+-- a frame whose word is 0 is no pass'
+not_held : (size : Size) (words : List ℕ) (views : List View) (id tag f : ℕ) (held : List ℕ)
+    → IsKept size words views → get_elem? views id ≡ some (pass tag held)
+    → eqb (slice_index words f) 0 ≡ true → has held f ≡ false
+not_held size words views id tag f held r at is =
+    let free : slice_index words f ≡ 0 = eqb-true _ _ is in
+    sym ((r.tied id (pass tag held) at).0.1 f)
+    ∙ ne_eqb (slice_index words f) (tag + 1) (λ e. omega arith)
+
+-- ---- a put-back
+
+return_kept : (size : Size) (words : List ℕ) (views : List View) (id tag f : ℕ) (held : List ℕ)
+    → f < size.frames → IsKept size words views → get_elem? views id ≡ some (pass tag held)
+    → (b : Bool) → eqb (slice_index words f) (tag + 1) ≡ b
+    → IsKept size (set words f (cond b 0 (slice_index words f)))
+    (set views id (pass tag (cond b (without held f) held)))
+return_kept size words views id tag f held low r at true is =
+    let own : slice_index words f ≡ tag + 1 = eqb-true _ _ is in
+    let mine = (r.tied id (pass tag held) at).0 in
+    let wide = r.wide in
+    let m : Moves words f 0 tag = record {
+      inside = omega arith;
+      before = λ t ne e. ne (omega arith);
+      after = λ t _ e. omega arith;
+    } in
+    kept_after size words views id tag f 0 held (without held f) r at m (omega arith)
+    (λ j. dite (ℕ_discrete j f)
+    (λ e. ap (λ k. eqb (slice_index (set words f 0) k) (tag + 1)) e
+    ∙ ap (λ n. eqb n (tag + 1)) (get_or-set_same words f 0 0 m.inside)
+    ∙ ne_eqb 0 (tag + 1) (λ z. omega arith)
+    ∙ sym (ap (has (without held f)) e ∙ has_not_without held f))
+    (λ n. ap (λ k. eqb k (tag + 1)) (get_or-set_other words f j 0 0 n)
+    ∙ mine.1 j ∙ sym (has_without held f j n)))
+return_kept size words views id tag f held low r at false is =
+    still size words views id f (pass tag held) r at
+
+-- where the word isn't its own, the pass doesn't hold the frame
+without_is : (size : Size) (words : List ℕ) (views : List View) (id tag f : ℕ) (held : List ℕ)
+    → IsKept size words views → get_elem? views id ≡ some (pass tag held)
+    → (b : Bool) → eqb (slice_index words f) (tag + 1) ≡ b
+    → cond b (without held f) held ≡ without held f
+without_is size words views id tag f held r at true is = refl
+without_is size words views id tag f held r at false is =
+    sym (without_none held f (sym ((r.tied id (pass tag held) at).0.1 f) ∙ is))
+
+-- ---- all three
+
+pub stepped : (kind : StepKind) (size : Size) (words : List ℕ) (views : List View) (i tag f : ℕ)
+    (held : List ℕ) → f < size.frames → IsKept size words views
+    → get_elem? views i ≡ some (pass tag held)
+    → IsKept size (set words f (word_after kind tag (slice_index words f)))
+    (set views i (pass tag (held_after kind tag (slice_index words f) f held)))
+stepped TryClaim size words views i tag f held low r at =
+    try_kept size words views i tag f held low r at (eqb (slice_index words f) 0) refl
+stepped PutBack size words views i tag f held low r at =
+    return_kept size words views i tag f held low r at (eqb (slice_index words f) (tag + 1)) refl
+stepped Look size words views i tag f held low r at =
+    still size words views i f (pass tag held) r at
+
+-- ---- what a seat owes for a step
+
+either_is : (b : Bool) (n m : ℕ) → either b n m ≡ cond b n m
+either_is true n m = refl
+either_is false n m = refl
+
+claims_at : (size : Size) (slots id f tag : ℕ) (held : List ℕ) (c : List (ℕ × Unit {0}))
+    → f < size.frames
+    → Allows (Kept size) slots id (pass tag held, c) f (λ n. either (eqb n 0) (tag + 1) n)
+    (claimed (step slots f 0 (tag + 1) none) (pass tag held, c))
+claims_at size slots id f tag held c low s r _ at _ =
+    let found = slice_index s.words f in (
+      pass tag (cond (eqb found 0) (f ∷ held) held),
+      keeps,
+      tt,
+      subst (λ (n : ℕ). IsKept size (set s.words f n)
+          (set s.views id (pass tag (cond (eqb found 0) (f ∷ held) held))))
+          (sym (either_is (eqb found 0) (tag + 1) found))
+          (stepped TryClaim size s.words s.views id tag f held low r at),
+      (refl, held_is (eqb found 0), not_held size s.words s.views id tag f held r at),
+    )
+  where
+    held_is : (b : Bool) → pass tag (cond b (f ∷ held) held)
+        ≡ record {
+          holdings = cond b (record { tag = tag; held = f ∷ held } ∷ [])
+              (record { tag = tag; held = held } ∷ []);
+        }
+    held_is true = refl
+    held_is false = refl
+
+pub claims : (size : Size) (slots id f tag : ℕ) (held : List ℕ) (me : Me (Unit {0}) View)
+    → f < size.frames → me.0 ≡ pass tag held
+    → Allows (Kept size) slots id me f (λ n. either (eqb n 0) (tag + 1) n)
+    (claimed (step slots f 0 (tag + 1) none) me)
+claims size slots id f tag held me low is =
+    subst (λ (v : View). Allows (Kept size) slots id (v, me.1) f
+    (λ n. either (eqb n 0) (tag + 1) n) (claimed (step slots f 0 (tag + 1) none) (v, me.1)))
+    (sym is) (claims_at size slots id f tag held me.1 low)
+
+gives_at : (size : Size) (slots id f tag : ℕ) (held : List ℕ) (c : List (ℕ × Unit {0}))
+    → f < size.frames
+    → Allows (Kept size) slots id (pass tag held, c) f (λ n. either (eqb n (tag + 1)) 0 n)
+    (returned (step slots f (tag + 1) 0 none) (pass tag held, c))
+gives_at size slots id f tag held c low s r _ at _ =
+    let found = slice_index s.words f in (
+      pass tag (cond (eqb found (tag + 1)) (without held f) held),
+      keeps,
+      tt,
+      subst (λ (n : ℕ). IsKept size (set s.words f n)
+          (set s.views id (pass tag (cond (eqb found (tag + 1)) (without held f) held))))
+          (sym (either_is (eqb found (tag + 1)) 0 found))
+          (stepped PutBack size s.words s.views id tag f held low r at),
+      (
+        refl,
+        ap (pass tag) (without_is size s.words s.views id tag f held r at
+            (eqb found (tag + 1)) refl),
+        (r.tied id (pass tag held) at).0.1 f,
+      ),
+    )
+
+pub gives : (size : Size) (slots id f tag : ℕ) (held : List ℕ) (me : Me (Unit {0}) View)
+    → f < size.frames → me.0 ≡ pass tag held
+    → Allows (Kept size) slots id me f (λ n. either (eqb n (tag + 1)) 0 n)
+    (returned (step slots f (tag + 1) 0 none) me)
+gives size slots id f tag held me low is =
+    subst (λ (v : View). Allows (Kept size) slots id (v, me.1) f
+    (λ n. either (eqb n (tag + 1)) 0 n) (returned (step slots f (tag + 1) 0 none) (v, me.1)))
+    (sym is) (gives_at size slots id f tag held me.1 low)

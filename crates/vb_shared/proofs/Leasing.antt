@@ -1,0 +1,129 @@
+-- What a call does to a device's part, it does to the part of a device that stands round it.
+use Rattle.std.specs.Prelude.{◌≡◌, ℕ, ◌==◌, Bool, true, false, List}
+use Rattle.std.specs.Prelude.{Option, Some, None, Result, Ok, Err, if◌then◌else◌, refl}
+use Rattle.std.proofs.Common.{◌∙◌, ap}
+use Rattle.vb_model.specs.declared.replies.Refusal.{Refusal}
+use Rattle.vb_model.specs.declared.replies.Refusal.TheVariants.{Broken}
+use Rattle.vb_model.specs.Tests.{flagged}
+use Rattle.vb_ram.specs.Pages.{Pages}
+use Rattle.vb_ram.specs.Part.{Part, QueuePart}
+use Rattle.vb_device.specs.declared.worked.Worked.{Worked}
+use Rattle.vb_device.specs.Calls.{taking, noting, using, settled, TakeMeans, TakesBy, FinishesBy}
+use Rattle.vb_device.specs.Calls.{Visits, WorksBy}
+
+-- the part of a device that leases these frames
+abbrev pub leasing : List ℕ → Part → Part
+leasing own part = record part { keeps = true; own = own }
+
+queue_leasing : (a b c : Bool) (own : List ℕ) (x : QueuePart) (p : Part)
+    → leasing own (if a then record p { inflate = x }
+    else (if b then record p { deflate = x }
+    else (if c then record p { statistics = x } else record p { report = x })))
+    ≡ (if a then record (leasing own p) { inflate = x }
+    else (if b then record (leasing own p) { deflate = x }
+    else (if c then record (leasing own p) { statistics = x }
+    else record (leasing own p) { report = x })))
+queue_leasing true b c own x p = refl
+queue_leasing false true c own x p = refl
+queue_leasing false false true own x p = refl
+queue_leasing false false false own x p = refl
+
+taking_leasing : (q h : ℕ) (pages own : List ℕ) (p : Part)
+    → leasing own (taking q h pages p) ≡ taking q h pages (leasing own p)
+taking_leasing q h pages own p = queue_leasing (q == 0) (q == 1) (q == 2) own _ p
+
+means_leasing : (q : ℕ) (mem : Pages) (own : List ℕ) (p1 p2 : Part)
+    (result : Result (Option ℕ) Refusal) → TakeMeans q mem p1 p2 result
+    → TakeMeans q mem (leasing own p1) (leasing own p2) result
+means_leasing q mem own p1 p2 (Ok None) m = (m.0, ap (leasing own) m.1)
+means_leasing q mem own p1 p2 (Ok (Some h)) m = (
+  m.0,
+  (
+    m.1.0,
+    record {
+      next = m.1.1.next;
+      pieces = m.1.1.pieces;
+      chain = m.1.1.chain;
+      request = m.1.1.request;
+    },
+    ap (leasing own) m.1.2 ∙ taking_leasing q h m.1.0 own (noting q mem m.1.1.pieces p1),
+  ),
+)
+means_leasing q mem own p1 p2 (Err (Broken rule)) m = (m.0, ap (leasing own) m.1)
+means_leasing q mem own p1 p2 (Err why) m = (m.0, ap (leasing own) m.1)
+
+pub takes_leasing : (q : ℕ) (m1 m2 : Pages) (own : List ℕ) (p1 p2 : Part)
+    (result : Result (Option ℕ) Refusal) → TakesBy q m1 m2 p1 p2 result
+    → TakesBy q m1 m2 (leasing own p1) (leasing own p2) result
+takes_leasing q m1 m2 own p1 p2 result t = record {
+  memory = t.memory;
+  refused = λ why e. ((t.refused why e).0, ap (leasing own) (t.refused why e).1);
+  empty = λ e n. ((t.empty e n).0, ap (leasing own) (t.empty e n).1);
+  jump = λ f e n. record
+      { answer = (t.jump f e n).answer; part = ap (leasing own) (t.jump f e n).part };
+  fault = λ h f e n g. record
+      { answer = (t.fault h f e n g).answer; part = ap (leasing own) (t.fault h f e n g).part };
+  wrong = λ h pieces f e n g r. record {
+    answer = (t.wrong h pieces f e n g r).answer;
+    part = ap (leasing own) (t.wrong h pieces f e n g r).part;
+  };
+  takes = λ h pieces pages e n g r. (
+    (t.takes h pieces pages e n g r).0,
+    ap (leasing own) (t.takes h pieces pages e n g r).1
+        ∙ taking_leasing q h pages own (noting q m1 pieces p1),
+  );
+  means = means_leasing q m1 own p1 p2 result t.means;
+}
+
+visits_leasing : (q page : ℕ) (m1 m2 : Pages) (own : List ℕ) (p1 p2 : Part)
+    (result : Result (Option Worked) Refusal) → Visits q page m1 m2 p1 p2 result
+    → Visits q page m1 m2 (leasing own p1) (leasing own p2) result
+visits_leasing q page m1 m2 own p1 p2 result v = record {
+  answer = v.answer;
+  memory = v.memory;
+  part = ap (leasing own) v.part
+      ∙ ap (λ (p : Part). record p { loose = p2.loose })
+      (queue_leasing (q == 0) (q == 1) (q == 2) own _ p1);
+  loose = v.loose;
+}
+
+pub works_leasing : (m1 m2 : Pages) (own : List ℕ) (p1 p2 : Part)
+    (result : Result (Option Worked) Refusal) → WorksBy m1 m2 p1 p2 result
+    → WorksBy m1 m2 (leasing own p1) (leasing own p2) result
+works_leasing m1 m2 own p1 p2 result w = record {
+  refused = λ why e. let r = w.refused why e in (r.0, ap (leasing own) r.1, r.2);
+  idle = λ e i n. let r = w.idle e i n in (r.0, ap (leasing own) r.1, r.2);
+  inflate = λ page e i. visits_leasing 0 page m1 m2 own p1 p2 result (w.inflate page e i);
+  report = λ page e i n. visits_leasing 4 page m1 m2 own p1 p2 result (w.report page e i n);
+}
+
+settled_leasing : (a b : Bool) (pages own : List ℕ) (p : Part)
+    → leasing own (if a then record p { ballooned = flagged pages true p.ballooned }
+    else (if b then record p { ballooned = flagged pages false p.ballooned } else p))
+    ≡ (if a then record (leasing own p) { ballooned = flagged pages true p.ballooned }
+    else (if b then record (leasing own p) { ballooned = flagged pages false p.ballooned }
+    else leasing own p))
+settled_leasing true b pages own p = refl
+settled_leasing false true pages own p = refl
+settled_leasing false false pages own p = refl
+
+uses_leasing : (q index : ℕ) (pages own : List ℕ) (p : Part)
+    → leasing own (settled q pages (using q index p))
+    ≡ settled q pages (using q index (leasing own p))
+uses_leasing q index pages own p =
+    settled_leasing (q == 0) (q == 1) pages own (using q index p)
+    ∙ ap (settled q pages) (queue_leasing (q == 0) (q == 1) (q == 2) own _ p)
+
+pub finishes_leasing : (q index : ℕ) (m1 m2 : Pages) (own : List ℕ) (p1 p2 : Part)
+    (result : Result ℕ Refusal) → FinishesBy q index m1 m2 p1 p2 result
+    → FinishesBy q index m1 m2 (leasing own p1) (leasing own p2) result
+finishes_leasing q index m1 m2 own p1 p2 result f = record {
+  refused = λ why e. let r = f.refused why e in (r.0, ap (leasing own) r.1, r.2);
+  finished = λ r e at. let u = f.finished r e at in record {
+    answer = u.answer;
+    part = ap (leasing own) u.part
+        ∙ ap (λ (p : Part). record p { loose = p2.loose }) (uses_leasing q index r.pages own p1);
+    loose = u.loose;
+    memory = u.memory;
+  };
+}

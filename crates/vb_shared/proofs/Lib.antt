@@ -1,0 +1,4 @@
+pub mod Lists
+pub mod Keeps
+pub mod Shares
+pub mod Leasing

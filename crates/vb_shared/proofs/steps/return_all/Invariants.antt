@@ -1,0 +1,11 @@
+use Rattle.std.proofs.Common.{◌≡◌, []}
+use Rattle.vb_shared.specs.Rule.{pass}
+use Rattle.vb_shared.specs.Steps.{held_of}
+use Rattle.vb_shared.specs.Passes.{Within}
+use Rattle.vb_shared.proofs.steps.return_all.Given as goal
+
+abbrev pub invariant-loop-frame : goal.invariant-loop-frame
+invariant-loop-frame l =
+    (l.place.table_id ≡ l.initial.place.table_id) ×
+    (l.place.me ≡ (pass l.tag (held_of l.place.me.0), [])) ×
+    Within l.frame l.frames (held_of l.place.me.0)
