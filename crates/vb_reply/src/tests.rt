@@ -1,8 +1,10 @@
 //! Each reply's line, as docs/SCRIPTS.md has it.
 
-use crate::replies::write_reply;
+use crate::replies::{write_replies, write_reply};
 use arrayvec::ArrayVec;
 use std::alloc::{AllocError, Global};
+use std::io;
+use std::io::{ErrorKind, Write};
 use std::process::Abort;
 use vb_model::{Bytes, Numbers, PageRun, PageRuns, PlaceCounts, Refusal, Reply};
 
@@ -116,7 +118,7 @@ fn statistics(rt: HostRuntime) {
 }
 
 /// Refusals, and their lines.
-static REFUSALS: [(Refusal, &str); 31] = [
+static REFUSALS: [(Refusal, &str); 33] = [
     (Refusal::NoGuest, "no guest"),
     (Refusal::BadConfig, "bad config"),
     (Refusal::TooMany, "too many"),
@@ -148,6 +150,11 @@ static REFUSALS: [(Refusal, &str); 31] = [
     (Refusal::NoFrame, "no frame"),
     (Refusal::NoMemory, "memory"),
     (Refusal::Short { missing: 18 }, "short 18"),
+    (Refusal::Short { missing: 0 }, "short 0"),
+    (
+        Refusal::Short { missing: u64::MAX },
+        "short 18446744073709551615",
+    ),
 ];
 
 #[test]
@@ -212,5 +219,226 @@ fn pages(rt: HostRuntime) -> Result<(), AllocError> {
         let runs = PageRuns::new(Vec::from_slice(rt.alloc(), runs)?);
         check(&rt, rt.alloc(), Reply::Pages { runs }, line);
     }
+    Ok(())
+}
+
+/// A list of a reply, whose items are all alike.
+enum Items {
+    Bytes(u8),
+    Targets(u32),
+    Runs(PageRun),
+}
+
+impl Items {
+    /// The reply with so many of them.
+    fn reply(&self, alloc: Global, count: usize) -> Result<Reply, AllocError> {
+        Ok(match self {
+            Items::Bytes(byte) => Reply::ReadBytes {
+                bytes: Bytes::new(vec![in alloc; *byte; count]?),
+            },
+            Items::Targets(target) => Reply::Targets {
+                pages: targets_of(*target, count),
+            },
+            Items::Runs(run) => Reply::Pages {
+                runs: PageRuns::new(vec![in alloc; *run; count]?),
+            },
+        })
+    }
+}
+
+/// So many targets, as far as there is room.
+fn targets_of(target: u32, count: usize) -> Numbers {
+    let mut targets = ArrayVec::new();
+    for _ in 0..count {
+        let _room = targets.try_push(target);
+    }
+    Numbers::new(targets)
+}
+
+/// All pages that have a number.
+const ALL_PAGES: PageRun = PageRun {
+    first: 0,
+    last: u32::MAX,
+};
+
+/// The last page that has a number.
+const LAST_PAGE: PageRun = PageRun {
+    first: u32::MAX,
+    last: u32::MAX,
+};
+
+/// Long lists, how their lines begin, and what each item adds.
+static LONG: [(Items, usize, &str, &str); 12] = [
+    (Items::Bytes(0xa5), 255, "bytes ", "a5"),
+    (Items::Bytes(0xa5), 256, "bytes ", "a5"),
+    (Items::Bytes(0xa5), 257, "bytes ", "a5"),
+    (Items::Bytes(0), 4095, "bytes ", "00"),
+    (Items::Bytes(0xff), 4096, "bytes ", "ff"),
+    (Items::Targets(65_536), 1, "targets", " 65536"),
+    (Items::Targets(u32::MAX), 7, "targets", " 4294967295"),
+    (Items::Targets(u32::MAX), 8, "targets", " 4294967295"),
+    (Items::Runs(ALL_PAGES), 7, "pages", " 0-4294967295"),
+    (Items::Runs(ALL_PAGES), 400, "pages", " 0-4294967295"),
+    (Items::Runs(LAST_PAGE), 1000, "pages", " 4294967295"),
+    (Items::Runs(ALL_PAGES), 8192, "pages", " 0-4294967295"),
+];
+
+/// A text of this start, so many times this part, and a line feed.
+fn repeated(alloc: Global, start: &str, part: &str, count: usize) -> Result<Vec<u8>, AllocError> {
+    let mut text = Vec::from_slice(alloc, start.as_bytes())?;
+    for _ in 0..count {
+        text.extend_from_slice(part.as_bytes())?;
+    }
+    text.extend_from_slice(b"\n")?;
+    Ok(text)
+}
+
+#[test]
+fn long_lists(rt: HostRuntime) -> Result<(), AllocError> {
+    for (items, count, start, part) in &LONG {
+        let reply = items.reply(rt.alloc(), *count)?;
+        let expected = repeated(rt.alloc(), start, part, *count)?;
+        assert!(rt;
+            written(rt.alloc(), &reply) == expected,
+            "{count} of {part}"
+        );
+    }
+    Ok(())
+}
+
+/// Counts that are as large as they may be.
+const LARGE: [(Reply, &str); 7] = [
+    (
+        Reply::Posted {
+            head: u32::MAX,
+            pages: u32::MAX,
+        },
+        "posted 4294967295 4294967295",
+    ),
+    (
+        Reply::Reaped {
+            head: u32::MAX,
+            pages: u32::MAX,
+        },
+        "reaped 4294967295 4294967295",
+    ),
+    (
+        Reply::Worked {
+            page: u32::MAX,
+            freed: true,
+        },
+        "worked 4294967295 freed",
+    ),
+    (
+        Reply::Frames {
+            used: u32::MAX,
+            free: u32::MAX,
+        },
+        "frames used 4294967295 free 4294967295",
+    ),
+    (
+        Reply::Balloon {
+            ballooned: u32::MAX,
+            actual: u32::MAX,
+            target: u32::MAX,
+            status: u32::MAX,
+        },
+        "ballooned 4294967295 actual 4294967295 target 4294967295 status 4294967295",
+    ),
+    (
+        Reply::Statistics {
+            free: Some(u64::MAX),
+            total: Some(u64::MAX),
+        },
+        "memory 18446744073709551615 18446744073709551615",
+    ),
+    (
+        Reply::Places {
+            counts: PlaceCounts {
+                free: u32::MAX,
+                used: u32::MAX,
+                giving: u32::MAX,
+                lent: u32::MAX,
+                taking: u32::MAX,
+                stranded: u32::MAX,
+                reporting: u32::MAX,
+            },
+        },
+        "free 4294967295 used 4294967295 giving 4294967295 lent 4294967295 \
+taking 4294967295 stranded 4294967295 reporting 4294967295",
+    ),
+];
+
+#[test]
+fn large_numbers(rt: HostRuntime) {
+    for (reply, line) in &LARGE {
+        let text = written(rt.alloc(), reply);
+        assert!(rt; is_line(text.as_slice(), line), "at {line}");
+    }
+}
+
+/// A writer that fails at one call, counted from 1, and at no other.
+#[derive(Drop)]
+struct Failing {
+    calls: usize,
+    fails_at: usize,
+}
+
+impl Write for Failing {
+    fn write(&mut self, buf: &[u8]) -> io::Result<usize> {
+        self.calls = self.calls.saturating_add(1);
+        if self.calls == self.fails_at {
+            return Err(io::Error::from(ErrorKind::BrokenPipe));
+        }
+        Ok(buf.len())
+    }
+
+    fn flush(&mut self) -> io::Result<()> {
+        Ok(())
+    }
+}
+
+/// Whether writing replies to such a writer succeeds, and how many calls it makes.
+fn calls_of(replies: &[Reply], fails_at: usize) -> (bool, usize) {
+    let mut out = Failing { calls: 0, fails_at };
+    let succeeds = write_replies(&mut out, replies).is_ok();
+    (succeeds, out.calls)
+}
+
+/// The long lists as replies, one after the other.
+fn long_replies(alloc: Global) -> Result<Vec<Reply>, AllocError> {
+    let mut replies = Vec::new(alloc);
+    for (items, count, _start, _part) in &LONG {
+        let reply = items.reply(alloc, *count)?;
+        replies.push(reply).map_err(AllocError::from)?;
+    }
+    Ok(replies)
+}
+
+#[test]
+fn nothing_is_written_behind_a_failure(rt: HostRuntime) -> Result<(), AllocError> {
+    let replies = long_replies(rt.alloc())?;
+    let (succeeds, calls) = calls_of(replies.as_slice(), 0);
+    assert!(rt; succeeds && calls > 7);
+    for call in 1..=calls {
+        assert!(rt;
+            calls_of(replies.as_slice(), call) == (false, call),
+            "at {call}"
+        );
+    }
+    Ok(())
+}
+
+#[test]
+fn many_replies(rt: HostRuntime) -> Result<(), AllocError> {
+    let mut replies = Vec::new(rt.alloc());
+    for _ in 0..20_000 {
+        replies.push(Reply::Done).map_err(AllocError::from)?;
+    }
+    let mut text = Vec::new(rt.alloc());
+    let result = write_replies(&mut text, replies.as_slice());
+    let expected = repeated(rt.alloc(), "", "ok\n", 19_999)?;
+    assert!(rt; result.is_ok() && text.len() == 60_000);
+    assert!(rt; text.strip_suffix(b"ok\n") == expected.strip_suffix(b"\n"));
     Ok(())
 }

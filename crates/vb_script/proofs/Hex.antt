@@ -1,6 +1,8 @@
 -- Which words of hexadecimal digits show bytes.
-use Rattle.std.proofs.Common.{◌≡◌, ℕ, ◌*◌, ◌<◌, ◌≤◌, List, length, Ok, Err}
-use Rattle.hex.specs.Hex.{decode_of}
+use Rattle.std.proofs.Common.{◌≡◌, ℕ, ◌*◌, ◌/◌, ◌<◌, ◌≤◌, ◌==◌, true, List, length, Result, Ok, Err}
+use Rattle.std.proofs.Common.{MatchResult, refl, arith}
+use Rattle.std.proofs.lemmas.Bool.Decides.{nat_tests}
+use Rattle.hex.specs.Hex.{decode_of, decode_sized}
 use Rattle.hex.specs.declared.error.FromHexError.{FromHexError}
 use Rattle.hex.proofs.HexLemmas.{decode_of-digits, decode_of-ok}
 use Rattle.vb_script.specs.Numbers.{IsByteWord}
@@ -17,3 +19,40 @@ pub not_byte_word : (word : List ℕ) (fault : FromHexError) → decode_of word 
 not_byte_word word fault e is =
     let found = decode_of-digits word is.2 is.3 in
     let shown : decode_of word ≡ Ok found.0 = found.1 in cc
+
+-- room for just its digits' bytes asks nothing more of a word
+sized_whole : (word : List ℕ) (n : ℕ) → n ≡ length word / 2 → decode_sized word n ≡ decode_of word
+sized_whole word n e =
+    let same : (length word / 2 == n) ≡ true = grind (arith, nat_tests) in
+    rw same refl
+
+abbrev pub Decoded : List ℕ → List ℕ → Result Unit FromHexError → Type 0
+Decoded word bytes result =
+    MatchResult (decode_of word) (λ found. (result ≡ Ok tt) × (bytes ≡ found))
+    (λ fault. result ≡ Err fault)
+
+pub decoded : (word bytes : List ℕ) (n : ℕ) (r : Result Unit FromHexError)
+    → MatchResult (decode_sized word n) (λ found. (r ≡ Ok tt) × (bytes ≡ found))
+    (λ fault. r ≡ Err fault)
+    → n ≡ length word / 2 → Decoded word bytes r
+decoded word bytes n r is e = rw (← sized_whole word n e) is
+
+pub decoded_ok : (word bytes : List ℕ) (r : Result Unit FromHexError) → Decoded word bytes r
+    → r ≡ Ok tt → decode_of word ≡ Ok bytes
+decoded_ok word bytes r is ok = at (decode_of word) is
+  where
+    at : (d : Result (List ℕ) FromHexError)
+        → MatchResult d (λ found. (r ≡ Ok tt) × (bytes ≡ found)) (λ fault. r ≡ Err fault)
+        → d ≡ Ok bytes
+    at (Ok found) is = rw is.1 refl
+    at (Err fault) is = cc
+
+pub decoded_err : (word bytes : List ℕ) (r : Result Unit FromHexError) (fault : FromHexError)
+    → Decoded word bytes r → r ≡ Err fault → decode_of word ≡ Err fault
+decoded_err word bytes r fault is err = at (decode_of word) is
+  where
+    at : (d : Result (List ℕ) FromHexError)
+        → MatchResult d (λ found. (r ≡ Ok tt) × (bytes ≡ found)) (λ fault. r ≡ Err fault)
+        → d ≡ Err fault
+    at (Ok found) is = cc
+    at (Err other) is = cc

@@ -1,5 +1,7 @@
 -- What the values of a reader of scripts say.
 use Rattle.std.specs.Prelude.{ℕ, List, ⊤}
+use Rattle.vb_script.specs.declared.lines.LineFault.{LineFault}
+use Rattle.vb_script.specs.declared.lines.LineFault.TheVariants.{Bad, Memory as NoMemory}
 use Rattle.vb_script.specs.declared.texts.Lines.{Lines}
 use Rattle.vb_script.specs.declared.reading.ScriptFault.{ScriptFault}
 use Rattle.vb_script.specs.declared.reading.ScriptFault.TheVariants.{BadLine, Memory}
@@ -17,3 +19,8 @@ lines_left lines = numbered lines.passed (lines_of lines.rest.now)
 abbrev pub IfBadLine : ScriptFault → (ℕ → Type 0) → Type 0
 IfBadLine (BadLine number) P = P number
 IfBadLine Memory P = ⊤
+
+-- a bad line is named by its number
+abbrev pub fault_at : ℕ → LineFault → ScriptFault
+fault_at number Bad = BadLine number
+fault_at number NoMemory = Memory

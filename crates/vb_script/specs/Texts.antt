@@ -1,6 +1,6 @@
 -- The lines of a text, and what they say.
-use Rattle.std.specs.Prelude.{ℕ, ◌+◌, ◌==◌, ◌&&◌, nat_lt, Bool, true, if◌then◌else◌, List, [], ◌∷◌}
-use Rattle.std.specs.Prelude.{◌++◌, length, slice_get, Option, Some, None, is_none, Result, Ok, Err}
+use Rattle.std.specs.Prelude.{ℕ, ◌+◌, ◌==◌, ◌&&◌, nat_lt, Bool, true, false, if◌then◌else◌, List, [], ◌∷◌}
+use Rattle.std.specs.Prelude.{◌++◌, length, slice_get, Option, Some, None, is_none, is_some, Result, Ok, Err}
 use Rattle.std.specs.List.{slice_split}
 use Rattle.std.specs.Option.{option_map}
 use Rattle.vb_model.specs.declared.calls.Event.{Event}
@@ -89,3 +89,11 @@ script_with (line ∷ lines) = behind_host line.0 (host_of (words_of line.1)) li
 -- what a text says: the first of its lines the host's frames; a text without any says nothing
 unfoldable pub script_of : List ℕ → Result (Option Said) ℕ
 script_of text = script_with (numbered 0 (lines_of text))
+
+abbrev pub is_host_first : List (ℕ × List ℕ) → Bool
+is_host_first [] = false
+is_host_first (line ∷ lines) = is_some (host_of (words_of line.1))
+
+-- whether the first line that isn't skipped gives a host its frames
+unfoldable pub begins_with_host : List ℕ → Bool
+begins_with_host text = is_host_first (numbered 0 (lines_of text))

@@ -1,6 +1,6 @@
 //! The event that a line's words name.
 
-ghost use Rattle.std.specs.Prelude.{◌≡◌, ◌∷◌, IfOk, MatchOption};
+ghost use Rattle.std.specs.Prelude.{◌≡◌, ◌∷◌, IfOk, IsSome, MatchOption};
 ghost use Rattle.vb_model.specs.declared.calls.Event.TheVariants.{Guest as OnGuest};
 ghost use Rattle.vb_model.specs.declared.calls.Event.TheVariants.{Query as Asking};
 ghost use Rattle.vb_script.specs.Events.{bytes_event, event_of, four_number, init_event};
@@ -30,6 +30,8 @@ pub fn event(alloc: Global, word: &[u8], words: &mut Words<'_>) -> Result<Event,
         (λ event. event_of (word.now ∷ words_left words.old.rest) ≡ Some event) }
     ensures bad { result ≡ Err LineFault.Bad
         → event_of (word.now ∷ words_left words.old.rest) ≡ None }
+    ensures memory { result ≡ Err LineFault.Memory
+        → IsSome (event_of (word.now ∷ words_left words.old.rest)) }
 {
     let form = form_of(word).ok_or(LineFault::Bad)?;
     match form {
@@ -223,6 +225,8 @@ fn asking(guest: u32, query: Query) -> Event
 fn with_bytes(alloc: Global, name: WithBytes, words: &mut Words<'_>) -> Result<Event, LineFault>
     ensures ok { IfOk result (λ event. bytes_event name (words_left words.old.rest) ≡ Some event) }
     ensures bad { result ≡ Err LineFault.Bad → bytes_event name (words_left words.old.rest) ≡ None }
+    ensures memory { result ≡ Err LineFault.Memory
+        → IsSome (bytes_event name (words_left words.old.rest)) }
 {
     let (guest, page, offset, word) = three_and_a_word(words).ok_or(LineFault::Bad)?;
     let bytes = bytes(alloc, word)?;

@@ -1,9 +1,10 @@
 //! The text of a script, read line by line.
 
-ghost use Rattle.std.specs.Prelude.{◌≡◌, ◌≤◌, IfErr, IfOk, OnErr, OnOk};
+ghost use Rattle.std.specs.Prelude.{◌≡◌, ◌≤◌, ◌/◌, ◌+◌, true, IfErr, IfOk, IsSome, OnErr, OnOk, vec_capacity};
 ghost use Rattle.std.specs.Option.{option_map};
-ghost use Rattle.vb_script.specs.Scripts.{IfBadLine, lines_left, said_by};
-ghost use Rattle.vb_script.specs.Texts.{host_said, script_of, with_line, with_lines, with_spare};
+ghost use Rattle.vb_script.specs.Scripts.{IfBadLine, fault_at, lines_left, said_by};
+ghost use Rattle.vb_script.specs.Texts.{begins_with_host, host_said, script_of};
+ghost use Rattle.vb_script.specs.Texts.{with_line, with_lines, with_spare};
 
 use crate::events::event;
 use crate::lines::{LineFault, Pace, host, spare};
@@ -41,8 +42,9 @@ impl From<AllocError> for ScriptFault {
 impl Line<'_> {
     /// What a fault in this line means to the script.
     fn fault(self, fault: LineFault) -> ScriptFault
-        ensures { IfBadLine result
+        ensures bad { IfBadLine result
             (λ number. (fault ≡ LineFault.Bad) × (number ≡ self.entry.number)) }
+        ensures exact { result ≡ fault_at self.entry.number fault }
     {
         match fault {
             LineFault::Bad => ScriptFault::BadLine(self.number),
@@ -53,11 +55,12 @@ impl Line<'_> {
 
 /// Reads a script from its whole text, whatever bytes that has. A text of comments and empty lines
 /// alone has no lines, and so no host: there is no script, and no fault. Refused are a bad line,
-/// and a script that there is no memory for.
+/// and a script that there is no memory for; none is wanted for the first line.
 pub fn parse(alloc: Global, text: &[u8]) -> Result<Option<Script>, ScriptFault>
     ensures ok { IfOk result (λ script. script_of text.now ≡ Ok (option_map said_by script)) }
     ensures bad { IfErr result
         (λ fault. IfBadLine fault (λ number. script_of text.now ≡ Err number)) }
+    ensures memory { result ≡ Err ScriptFault.Memory → begins_with_host text.now ≡ true }
 {
     let mut lines = Lines::of(text);
     let Some(first) = lines.next() else {
@@ -77,12 +80,7 @@ fn parse_rest(alloc: Global, frames: u32, mut lines: Lines<'_>) -> Result<Script
     ensures bad { IfErr result (λ fault. IfBadLine fault
         (λ number. with_lines (lines_left lines.entry) (host_said frames) ≡ Err number)) }
 {
-    let most_events = lines.rest.len() / SHORTEST_EVENT + 1;
-    let mut script = Script {
-        frames,
-        spares: Vec::with_capacity(alloc, MAX_SPARES)?,
-        events: Vec::with_capacity(alloc, most_events)?,
-    };
+    let mut script = Script::of_host(alloc, frames, lines.rest.len())?;
     while let Some(line) = lines.next() {
         if let Err(fault) = script.add(alloc, line.text) {
             return Err(line.fault(fault));
@@ -92,10 +90,26 @@ fn parse_rest(alloc: Global, frames: u32, mut lines: Lines<'_>) -> Result<Script
 }
 
 impl Script {
+    /// What the first line says, with room for as many events as may stand in so many bytes.
+    fn of_host(alloc: Global, frames: u32, bytes: usize) -> Result<Script, AllocError>
+        requires some { 1 ≤ frames }
+        requires bound { frames ≤ 65_536 }
+        ensures said { IfOk result (λ script. said_by script ≡ host_said frames) }
+        ensures room { IfOk result (λ script. vec_capacity script.events ≡ bytes / 6 + 1) }
+    {
+        Ok(Script {
+            frames,
+            spares: Vec::with_capacity(alloc, MAX_SPARES)?,
+            events: Vec::with_capacity(alloc, bytes / SHORTEST_EVENT + 1)?,
+        })
+    }
+
     /// Adds what a line behind the first one says: a spare device, or an event.
     fn add(&mut self, alloc: Global, line: &[u8]) -> Result<(), LineFault>
         ensures ok { OnOk result (with_line line.now (said_by self.old) ≡ Some (said_by self.new)) }
         ensures bad { result ≡ Err LineFault.Bad → with_line line.now (said_by self.old) ≡ None }
+        ensures memory { result ≡ Err LineFault.Memory
+            → IsSome (with_line line.now (said_by self.old)) }
         ensures err { OnErr result (said_by self.new ≡ said_by self.old) }
     {
         let mut words = Words::of(line);
@@ -109,16 +123,20 @@ impl Script {
         Ok(())
     }
 
-    /// Adds a spare device. There may be no event before it, and not too many beside it.
+    /// Adds a spare device. There may be no event before it, and not too many beside it; no memory
+    /// is wanted.
     fn add_spare(&mut self, pace: Pace) -> Result<(), LineFault>
         ensures ok { OnOk result (with_spare pace (said_by self.old) ≡ Some (said_by self.new)) }
-        ensures bad { result ≡ Err LineFault.Bad → with_spare pace (said_by self.old) ≡ None }
+        ensures bad { IfErr result (λ fault. (fault ≡ LineFault.Bad)
+            × (with_spare pace (said_by self.old) ≡ None)) }
         ensures err { OnErr result (said_by self.new ≡ said_by self.old) }
     {
         if !self.events.is_empty() || self.spares.len() >= MAX_SPARES {
             return Err(LineFault::Bad);
         }
-        self.spares.push(pace).map_err(AllocError::from)?;
-        Ok(())
+        match self.spares.push(pace) {
+            Ok(()) => Ok(()),
+            Err(_) => unreachable!(),
+        }
     }
 }

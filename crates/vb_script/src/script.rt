@@ -1,6 +1,6 @@
 //! Scripts: a host, its spare devices, and what happens.
 
-ghost use Rattle.std.specs.Prelude.{◌≤◌, vec_len};
+ghost use Rattle.std.specs.Prelude.{◌≤◌, vec_capacity, vec_len};
 
 use crate::lines::Pace;
 use vb_model::Event;
@@ -18,4 +18,5 @@ pub struct Script {
     pub ghost some_frames: { 1 ≤ frames },
     pub ghost frames_in_bound: { frames ≤ 65_536 },
     pub ghost spares_in_bound: { vec_len spares ≤ 64 },
+    pub ghost room_for_spares: { 64 ≤ vec_capacity spares },
 }

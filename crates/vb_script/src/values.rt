@@ -1,6 +1,6 @@
 //! What a word of decimal or hexadecimal digits shows.
 
-ghost use Rattle.std.specs.Prelude.{◌≡◌, ◌≢◌, ◌+◌, ◌-◌, ◌*◌, ◌^◌, ◌<◌, IfOk, IsOk, MatchOption};
+ghost use Rattle.std.specs.Prelude.{◌≡◌, ◌+◌, ◌-◌, ◌*◌, ◌^◌, ◌<◌, IfOk, IsOk, IsSome, MatchOption};
 ghost use Rattle.std.specs.Prelude.{SomeIff};
 ghost use Rattle.hex.specs.Hex.{decode_of, decode_sized};
 ghost use Rattle.vb_script.specs.Numbers.{IsByteWord, IsDecimal, IsDigit, ShowsBits, decimal_value};
@@ -8,7 +8,6 @@ ghost use Rattle.vb_script.specs.Values.{bytes_of, features_of, positive_of};
 ghost use Rattle.vb_script.specs.Words.{number_of};
 
 use crate::lines::LineFault;
-use hex::FromHexError;
 use std::alloc::Global;
 use vb_model::Bytes;
 use vb_model::limits::PAGE_SIZE;
@@ -70,22 +69,15 @@ pub fn bytes(alloc: Global, word: &[u8]) -> Result<Bytes, LineFault>
     ensures bad { result ≡ Err LineFault.Bad → ¬ IsByteWord word.now }
     ensures value { IfOk result (λ bytes. bytes_of word.now ≡ Some bytes) }
     ensures none { result ≡ Err LineFault.Bad → bytes_of word.now ≡ None }
+    ensures memory { result ≡ Err LineFault.Memory → IsSome (bytes_of word.now) }
 {
     if word.is_empty() || word.len() > 2 * PAGE_SIZE as usize {
         return Err(LineFault::Bad);
     }
-    match hex::decode(alloc, word) {
-        Ok(bytes) => Ok(Bytes::new(bytes)),
-        Err(fault) => Err(decoding_fault(fault)),
-    }
-}
-
-/// What a line is answered whose word isn't decoded.
-fn decoding_fault(fault: FromHexError) -> LineFault
-    ensures { result ≡ LineFault.Bad → fault ≢ FromHexError.OutOfMemory }
-{
-    match fault {
-        FromHexError::OutOfMemory => LineFault::Memory,
-        _ => LineFault::Bad,
+    let mut room = [0u8; PAGE_SIZE as usize];
+    let shown = &mut room[..word.len() / 2];
+    match hex::decode_to_slice(word, shown) {
+        Ok(()) => Ok(Bytes::new(Vec::from_slice(alloc, shown)?)),
+        Err(_fault) => Err(LineFault::Bad),
     }
 }

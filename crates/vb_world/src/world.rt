@@ -1,6 +1,6 @@
 //! A host: its frames, its guests, and the devices that no guest has yet.
 
-ghost use Rattle.std.specs.Prelude.{◌≡◌, ◌<◌, ◌≤◌, ◌^◌, ℕ, true, All, IfOk, IfErr, OnErr, OnOk};
+ghost use Rattle.std.specs.Prelude.{◌≡◌, ◌<◌, ◌≤◌, ◌^◌, ℕ, true, All, IfOk, IsOk, IfErr, OnErr, OnOk};
 ghost use Rattle.std.specs.Prelude.{map, ◌++◌, [], vec_len, vec_capacity, ◌∷◌, List, Bool, IsTrue};
 ghost use Rattle.std.specs.Prelude.{length};
 ghost use Rattle.vb_model.specs.Safe.{IsSafeRun};
@@ -40,7 +40,8 @@ pub struct World {
     spares: Vec<Box<dyn Device + Send>>,
 }
 
-/// Adds a device behind the spare ones. Refused for want of memory alone; the device is gone then.
+/// Adds a device behind the spare ones. Refused for want of memory alone, which there isn't where
+/// the list has room; the device is gone then.
 pub fn add_spare(
     spares: &mut Vec<Box<dyn Device + Send>>,
     device: Box<dyn Device + Send>,
@@ -49,6 +50,7 @@ pub fn add_spare(
     requires device { IsSpare (mem device) (part device) }
     ensures spares { All (λ d. IsSpare (mem d) (part d)) spares.new.items }
     ensures added { OnOk result (spares.new.items ≡ spares.old.items ++ device ∷ []) }
+    ensures room { vec_len spares.old < vec_capacity spares.old → IsOk result }
 {
     spares.push(device)?;
     Ok(())
@@ -274,7 +276,8 @@ impl World {
 
     /// Lets events happen, one after the other, and gives what each is answered.
     ///
-    /// Want of memory for the replies is the only refusal, and comes before the first event.
+    /// Want of memory for the replies is the only refusal, and comes before the first event. Where
+    /// there is no event there is none.
     pub fn run(&mut self, alloc: Global, events: &[Event]) -> Result<Vec<Reply>, AllocError>
         requires made { (frames : ℕ) × (spares : List Bool) ×
             IsWorld mem part self.old (made frames spares) }
@@ -284,6 +287,7 @@ impl World {
             IsSafeRun (made frames spares) events.now replies.items last) }
         ensures err { (w : Model) → IsWorld mem part self.old w →
             OnErr result (IsWorld mem part self.new w) }
+        ensures silent { length events.now ≡ 0 → IsOk result }
     {
         let mut replies = Vec::with_capacity(alloc, events.len())?;
         for event in events {

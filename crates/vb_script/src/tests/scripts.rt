@@ -68,38 +68,95 @@ fn texts(rt: HostRuntime) {
     }
 }
 
-/// Starts of texts, each with a part that stands behind it so many times, and what that is read to:
-/// no more than 64 spare devices, and the bytes of a page and no more.
-static REPEATED: [(&[u8], &[u8], usize, Outline); 4] = [
-    (b"host 1\n", b"spare immediate\n", 64, Ok(Some((1, 64, 0)))),
+/// Lines of so many spare devices behind a host's, of so many events, lines that are skipped, and a
+/// write of so many bytes.
+#[derive(Clone, Copy)]
+enum Part {
+    Spares,
+    Frames,
+    Skipped,
+    Bytes,
+}
+
+impl Part {
+    /// How such a text begins, and the part that it repeats.
+    fn texts(self) -> (&'static [u8], &'static [u8]) {
+        match self {
+            Part::Spares => (b"host 1\n", b"spare immediate\n"),
+            Part::Frames => (b"host 1\n", b"frames\n"),
+            Part::Skipped => (b"", b"#\n"),
+            Part::Bytes => (b"host 1\nwrite 0 16 0 ", b"aB"),
+        }
+    }
+}
+
+/// Parts, each with how often it stands there, the end behind it, and what that text is read to: no
+/// more than 64 spare devices, the bytes of a page and no more, and lines far down.
+static REPEATED: [(Part, usize, &[u8], Outline); 17] = [
+    (Part::Spares, 1, b"", Ok(Some((1, 1, 0)))),
+    (Part::Spares, 63, b"", Ok(Some((1, 63, 0)))),
+    (Part::Spares, 64, b"", Ok(Some((1, 64, 0)))),
+    (Part::Spares, 64, b"frames\n", Ok(Some((1, 64, 1)))),
+    (Part::Spares, 65, b"", Err(ScriptFault::BadLine(66))),
+    (Part::Frames, 20_000, b"", Ok(Some((1, 0, 20_000)))),
     (
-        b"host 1\n",
-        b"spare immediate\n",
-        65,
-        Err(ScriptFault::BadLine(66)),
+        Part::Frames,
+        150,
+        b"write 0 16 0 a\n",
+        Err(ScriptFault::BadLine(152)),
     ),
-    (b"host 1\nwrite 0 16 0 ", b"aB", 4096, Ok(Some((1, 0, 1)))),
     (
-        b"host 1\nwrite 0 16 0 ",
-        b"aB",
-        4097,
+        Part::Frames,
+        150,
+        b"write 0 16 0 0g\n",
+        Err(ScriptFault::BadLine(152)),
+    ),
+    (
+        Part::Frames,
+        2_000,
+        b"spare paced\n",
+        Err(ScriptFault::BadLine(2_002)),
+    ),
+    (
+        Part::Skipped,
+        1_500,
+        b"frames\n",
+        Err(ScriptFault::BadLine(1_501)),
+    ),
+    (Part::Skipped, 1_500, b"host 64", Ok(Some((64, 0, 0)))),
+    (Part::Skipped, 20_000, b"\n\n#", Ok(None)),
+    (Part::Bytes, 4095, b"", Ok(Some((1, 0, 1)))),
+    (Part::Bytes, 4096, b"\nframes", Ok(Some((1, 0, 2)))),
+    (
+        Part::Bytes,
+        4095,
+        b"a\nframes",
         Err(ScriptFault::BadLine(2)),
     ),
+    (
+        Part::Bytes,
+        4095,
+        b"0g\nframes",
+        Err(ScriptFault::BadLine(2)),
+    ),
+    (Part::Bytes, 4097, b"", Err(ScriptFault::BadLine(2))),
 ];
 
-/// A text of this start, and so many times this part behind it.
-fn repeated(alloc: Global, start: &[u8], part: &[u8], count: usize) -> Result<Vec<u8>, AllocError> {
+/// A text with this part so many times, and this end.
+fn repeated(alloc: Global, part: Part, count: usize, end: &[u8]) -> Result<Vec<u8>, AllocError> {
+    let (start, part) = part.texts();
     let mut text = Vec::from_slice(alloc, start)?;
     for _ in 0..count {
         text.extend_from_slice(part)?;
     }
+    text.extend_from_slice(end)?;
     Ok(text)
 }
 
 #[test]
 fn limits(rt: HostRuntime) -> Result<(), AllocError> {
-    for (start, part, count, expected) in &REPEATED {
-        let text = repeated(rt.alloc(), start, part, *count)?;
+    for (part, count, end, expected) in &REPEATED {
+        let text = repeated(rt.alloc(), *part, *count, end)?;
         assert!(rt; outline(rt.alloc(), text.as_slice()) == *expected);
     }
     Ok(())

@@ -1,5 +1,5 @@
 use Rattle.std.proofs.Common.{rules}
-use Rattle.vb_script.specs.Texts.{script_of}
+use Rattle.vb_script.specs.Texts.{begins_with_host, script_of}
 use Rattle.vb_script.proofs.reading.parse.Goals as goal
 
 pub returns-in_default-clause-ok : goal.returns-in_default-clause-ok
@@ -17,3 +17,7 @@ returns-in_err-script-clause-bad c = search rules
 pub returns-clause-ok : goal.returns-clause-ok
 unfolding script_of
 returns-clause-ok c = search rules
+
+pub returns-in_err-script-clause-memory : goal.returns-in_err-script-clause-memory
+unfolding begins_with_host
+returns-in_err-script-clause-memory c = λ _. search rules
