@@ -17,7 +17,8 @@ returns-then-bits-ne0 g c = λ keeps guest stands.
     (alone_stands keeps _ _ _ _ _ _ guest _ _ stands refl refl
     (λ honest. init_up _ _ _ guest c.args.wanted
     (λ e. c.if-bits-ne0.true (c.bits.ensures tt ∙ c.status.ensures ∙ e)) honest)
-    (λ rogue. init_up_rogue _ _ _ guest c.args.wanted rogue)))
+    (λ rogue. init_up_rogue _ _ _ guest c.args.wanted
+    (λ e. c.if-bits-ne0.true (c.bits.ensures tt ∙ c.status.ensures ∙ e)) rogue)))
 
 pub supply_from-requires : goal.supply_from-requires
 supply_from-requires g c = let (keeps, guest, stands) = c.requires in
@@ -63,7 +64,7 @@ returns-in-Err-NoFrame g c = λ keeps guest stands.
     (first_noted g.K.FrameKeeper.answers _ _ _ _ _ _ _ _ c.clear.ensures did)
     c.supply_from.ensures.part honest)
     (λ rogue. init_unsupplied_rogue g.K.FrameKeeper.answers _ _ _ _ _ _ _ _ guest c.args.wanted
-    NoFrame NoFrameLeft refl (first_noted g.K.FrameKeeper.answers _ _ _ _ _ _ _ _ c.clear.ensures did)
+    NoFrame NoFrameLeft refl new (first_noted g.K.FrameKeeper.answers _ _ _ _ _ _ _ _ c.clear.ensures did)
     c.supply_from.ensures.part rogue)
 
 pub returns-in-Err-Memory : goal.returns-in-Err-Memory
@@ -78,5 +79,5 @@ returns-in-Err-Memory g c = λ keeps guest stands.
     (first_noted g.K.FrameKeeper.answers _ _ _ _ _ _ _ _ c.clear.ensures did)
     c.supply_from.ensures.part honest)
     (λ rogue. init_unsupplied_rogue g.K.FrameKeeper.answers _ _ _ _ _ _ _ _ guest c.args.wanted
-    Memory NoMemory refl (first_noted g.K.FrameKeeper.answers _ _ _ _ _ _ _ _ c.clear.ensures did)
+    Memory NoMemory refl new (first_noted g.K.FrameKeeper.answers _ _ _ _ _ _ _ _ c.clear.ensures did)
     c.supply_from.ensures.part rogue)
