@@ -12,6 +12,7 @@ use Rattle.vb_model.specs.Requests.{no_requests}
 use Rattle.vb_model.specs.Guest.{Config, fresh, no_statistics, zero_page}
 use Rattle.vb_model.specs.Orderly.{IsOrderly, AreOrderly, is_reserved}
 use Rattle.vb_model.proofs.GuestSteps.{fresh_consistent}
+use Rattle.vb_model.proofs.OrderlySteps.{fresh_order}
 use Rattle.vb_model.proofs.Tables.{count_by-cons}
 use Rattle.vb_ram.specs.Pages.{number_of, contents_of}
 use Rattle.vb_ram.proofs.Contents.{length-zero_page}
@@ -26,29 +27,6 @@ everywhere {A} n x p = elim (cases_lt p n) [
   | inl lt ↦ get_or-replicate n p x x lt
   | inr past ↦ get_or_past (replicate n x) p x (omega (arith, length-replicate n x))
 ]
-
-none_out : (most : ℕ) → AreOrderly most no_requests
-none_out most = record
-    { heads = λ head. omega arith; few = omega arith; posted = tt; taken = tt; done = tt }
-
-fresh_orderly : (config : Config) (target : ℕ) → IsOrderly (fresh config target)
-fresh_orderly config target = record {
-  inflating = none_out _;
-  deflating = none_out _;
-  reporting = none_out 1;
-  state = inl refl;
-  tabled = length-map (range_with_len 0 config.pages)
-      (λ page. if nat_lt page reserved_pages then Reserved else Free)
-      ∙ length-range_with_len 0 config.pages;
-  unreserved = λ page lt.
-      ap is_reserved (get_or-map-range_with_len
-      (λ page. if nat_lt page reserved_pages then Reserved else Free) 0 config.pages page page
-      Reserved lt (omega arith)) ∙ is (nat_lt page reserved_pages);
-}
-  where
-    is : (b : Bool) → is_reserved (if b then Reserved else Free) ≡ b
-    is true = refl
-    is false = refl
 
 -- no page has a frame, and each holds zeros
 bare_pages : (n : ℕ) → HasPages (replicate n None) n (replicate n None) (replicate n zero_page)
@@ -115,5 +93,5 @@ fresh_honest c wanted part fits device = record {
     });
   };
   consistent = fresh_consistent c wanted;
-  orderly = fresh_orderly c wanted;
+  orderly = fresh_order c wanted;
 }

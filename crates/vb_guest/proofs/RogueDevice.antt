@@ -2,7 +2,7 @@
 use Rattle.std.specs.Prelude.{◌≡◌, ℕ, ◌+◌, ◌<◌, ◌≤◌, ◌==◌, Bool, true, false, not}
 use Rattle.std.specs.Prelude.{◌&&◌, ◌||◌, List, [], ◌∷◌, ◌++◌, length, All, Option, Some, None, Result, ◌%◌, ◌*◌}
 use Rattle.std.specs.Prelude.{Ok, Err, refl, if◌then◌else◌, remove, is_some}
-use Rattle.std.specs.Prelude.{is_none, count_by, IsOk}
+use Rattle.std.specs.Prelude.{is_none, count_by, IsOk, bit_or}
 use Rattle.std.specs.List.{list_any}
 use Rattle.std.proofs.Common.{sym, ◌∙◌, ap, subst, arith, inl, inr}
 use Rattle.std.proofs.lemmas.List.Elements.{All-push, All-cons, All-nil}
@@ -26,12 +26,13 @@ use Rattle.vb_model.specs.Requests.{Request}
 use Rattle.vb_model.specs.Guest.{Guest, is_ballooned, frame_of}
 use Rattle.vb_model.specs.Device.{next_page, visiting}
 use Rattle.vb_model.specs.Orderly.{times}
-use Rattle.vb_model.specs.Status.{contains, driver_ok, failed}
+use Rattle.vb_model.specs.Status.{contains, driver_ok, failed, needs_reset}
 use Rattle.vb_model.specs.Tables.{is_not_ready, has_fault, has_chains, lacks_feature}
 use Rattle.vb_model.specs.Tables.{is_queue_of_requests, has_unvisited, take_tests, work_tests}
 use Rattle.vb_model.specs.Tables.{sweep_tests, finish_tests, ask_tests}
-use Rattle.vb_model.specs.Rogue.{target_after}
+use Rattle.vb_model.specs.Rogue.{target_after, pages_to_back}
 use Rattle.vb_model.specs.Tests.{flagged, is_in}
+use Rattle.vb_model.proofs.Refusing.{is_refused}
 use Rattle.vb_model.proofs.Wanting.{wants, refused_otherwise}
 use Rattle.vb_ram.specs.Pages.{Pages, frame_at, page_at, number_of}
 use Rattle.vb_ram.specs.Part.{Part, QueuePart}
@@ -66,7 +67,9 @@ use Rattle.vb_guest.proofs.PagesKept.{number_if, page_discarded, length-discarde
 use Rattle.vb_guest.proofs.Rogues.{DeviceSame, Keeps, driver_same, device_alike, rogue_alone}
 use Rattle.vb_guest.proofs.Rogues.{kept_of_rogue}
 use Rattle.vb_guest.proofs.Rogues.{rogue_after, rogue_stands, rogue_step, IsOther}
-use Rattle.vb_guest.proofs.Rogues.{keeps_part, up_kept}
+use Rattle.vb_guest.proofs.Rogues.{keeps_part, up_kept, rogue_same, said, IsLeft, left_by}
+use Rattle.vb_guest.proofs.Rogues.{no_refusal}
+use Rattle.vb_guest.proofs.RogueDriver.{left_same}
 
 -- ---- a queue of the device changes
 
@@ -185,7 +188,7 @@ take_rogue m1 m2 p1 p2 d g q result did rogue =
     by (Ok None) means = rogue_alone m1 m1 p1 p2 d d g (Take q) _ rogue
         (keeps_part m1 m1 p1 p2 d d (driver_same d d refl) means.1 refl (λ page. refl)) refl
         (λ page. refl) (ap (λ (p : Part). p.target) means.1) refl
-        (λ page offset bytes e. cc)
+        (λ page offset bytes e. cc) refl (λ why e. no_refusal _ why refl e)
     by (Ok (Some h)) means =
         let pages = means.1.0 in
         let next = means.1.1 in
@@ -218,7 +221,7 @@ take_rogue m1 m2 p1 p2 d g q result did rogue =
               (record { inflates = up.inflates; reports = up.reports })) in
               record { backed = up.backed; inflates = own.inflates; reports = own.reports };
         }) refl (λ page. refl) (ap (λ (p : Part). p.target) part ∙ state.1) refl
-        (λ page offset bytes e. cc)
+        (λ page offset bytes e. cc) refl (λ why e. no_refusal _ why refl e)
     by (Err (Broken rule)) means =
         let part = means.1 in
         rogue_alone m1 m1 p1 p2 d d g (Take q) _ rogue
@@ -229,13 +232,19 @@ take_rogue m1 m2 p1 p2 d g q result did rogue =
               (ap (λ (p : Part). p.inflate.taken) part)
               (ap (λ (p : Part). p.report.taken) part) (was (ready means.0));
         }) refl (λ page. refl) (ap (λ (p : Part). p.target) part) refl
-        (λ page offset bytes e. cc)
+        (λ page offset bytes e. cc) refl
+        (left_by (Take q) (Broken rule) [] g (rogue_after g g.frames p2 d)
+        (rogue_same m1 p1 p2 d d g g.frames rogue refl (ap said part)
+        ∙ ap (λ (n : ℕ). record g { status = n })
+        (ap (λ (p : Part). p.status) part ∙ ap (λ (n : ℕ). bit_or n needs_reset) rogue.status)))
     by (Err why) means = rogue_alone m1 m1 p1 p2 d d g (Take q) _ rogue
         (keeps_part m1 m1 p1 p2 d d (driver_same d d refl) means.1 refl (λ page. refl)) refl
         (λ page. refl) (ap (λ (p : Part). p.target) means.1)
         (refused_otherwise (take_tests q p1.status p1.features
         (length (queue_part q p1).taken)) why refl means.0)
-        (λ page offset bytes e. cc)
+        (λ page offset bytes e. cc) refl
+        (left_same m1 p1 p2 d d g (Take q) why (take_tests q p1.status p1.features
+        (length (queue_part q p1).taken)) rogue refl means.1 (sym means.0) refl refl)
 
 -- ---- pages lose their frames
 
@@ -296,6 +305,11 @@ none_of : (b : Bool) (x : Option ℕ) (frame : ℕ) → (if b then None else x) 
 none_of true x frame e = absurd cc
 none_of false x frame e = e
 
+-- a reply that is no refusal is none for want of something
+done_wants : (reply : Reply) → is_refused reply ≡ false → wants reply ≡ false
+done_wants (Refused why) e = absurd cc
+done_wants _ e = refl
+
 -- pages that aren't reserved lose their frames, which are loose then
 pub rogue_freed : (m1 m2 : Pages) (p1 p2 : Part) (d : DriverState) (g : Guest) (call : Call)
     (reply : Reply) (r : Request) → IsOwnRequest (length m1) r
@@ -303,9 +317,11 @@ pub rogue_freed : (m1 m2 : Pages) (p1 p2 : Part) (d : DriverState) (g : Guest) (
     → length m2 ≡ length m1
     → ((page : ℕ) → frame_at m2 page ≡ frame_at (discarded r.pages m1) page)
     → SameFrames p2.loose (frames_behind m1 (each_once r.pages))
-    → target_after call p1.target ≡ p1.target → wants reply ≡ false → IsOther call
-    → Rogue m1 p1 d g → StepsFreeing (Rogue m2 (handed_back p2) d) p2.loose g call reply
-rogue_freed m1 m2 p1 p2 d g call reply r own changes ok count same loose still answer other rogue =
+    → target_after call p1.target ≡ p1.target → is_refused reply ≡ false → IsOther call
+    → pages_to_back call g ≡ [] → Rogue m1 p1 d g
+    → StepsFreeing (Rogue m2 (handed_back p2) d) p2.loose g call reply
+rogue_freed m1 m2 p1 p2 d g call reply r own changes ok count same loose still answer other none
+    rogue =
     let once = each_once r.pages in
     let frames = with_entry once None g.frames in
     let at : (page : ℕ) → frame_at (discarded r.pages m1) page
@@ -351,7 +367,8 @@ rogue_freed m1 m2 p1 p2 d g call reply r own changes ok count same loose still a
       step = rogue_step m1 m2 p1 (handed_back p2) d d g frames call reply rogue stands
           (changes.target ∙ sym still)
           (λ page frame e. none_of (is_in page once) (frame_of g.frames page) frame
-          (sym (get page) ∙ e)) answer other;
+          (sym (get page) ∙ e)) (done_wants reply answer) other none
+          (λ why e. no_refusal reply why answer e);
       freed = λ k. omega (
         arith,
         loose k,
@@ -363,16 +380,17 @@ rogue_freed m1 m2 p1 p2 d g call reply r own changes ok count same loose still a
 -- no page does
 pub none_freed : (m1 m2 : Pages) (p1 p2 : Part) (d : DriverState) (g : Guest) (call : Call)
     (reply : Reply) → m2 ≡ m1 → p2 ≡ p1 → target_after call p1.target ≡ p1.target
-    → wants reply ≡ false → IsOther call → Rogue m1 p1 d g
+    → wants reply ≡ false → IsOther call → pages_to_back call g ≡ []
+    → IsLeft call reply [] g (rogue_after g g.frames p2 d) → Rogue m1 p1 d g
     → StepsFreeing (Rogue m2 (handed_back p2) d) p2.loose g call reply
-none_freed m1 m2 p1 p2 d g call reply memory part still answer other rogue =
+none_freed m1 m2 p1 p2 d g call reply memory part still answer other none_needed left rogue =
     let same : (page : ℕ) → frame_at m2 page ≡ frame_at m1 page =
     λ page. ap (λ (m : Pages). frame_at m page) memory in
     let count : length m2 ≡ length m1 = ap (λ (m : Pages). length m) memory in
     let none : p2.loose ≡ [] = ap (λ (p : Part). p.loose) part ∙ rogue.loose in
     let step = rogue_alone m1 m2 p1 p2 d d g call reply rogue
     (keeps_part m1 m2 p1 p2 d d (driver_same d d refl) part count same) count same
-    (ap (λ (p : Part). p.target) part ∙ sym still) answer other in
+    (ap (λ (p : Part). p.target) part ∙ sym still) answer other none_needed left in
     record {
       new = step.new;
       stands = subst (λ (p : Part). Rogue m2 p d step.new) (sym (loose_none p2 none)) step.stands;
@@ -419,7 +437,7 @@ visits_rogue m1 m2 p1 p2 d g q page result did own ok rogue =
     (λ r own. record { above = own.above; below = own.below }) (queue_part q p1).taken all))
     did.part) ok (ap (λ (m : Pages). length m) did.memory ∙ length-discarded (page ∷ []) m1)
     (λ p. ap (λ (m : Pages). frame_at m p) did.memory) did.loose refl refl
-    (λ page offset bytes e. cc) rogue)
+    (λ page offset bytes e. cc) refl rogue)
 
 pub work_rogue : (m1 m2 : Pages) (p1 p2 : Part) (d : DriverState) (g : Guest)
     (result : Result (Option Worked) Refusal) → WorksBy m1 m2 p1 p2 result → Rogue m1 p1 d g
@@ -438,7 +456,7 @@ work_rogue m1 m2 p1 p2 d g result did rogue = by (work_refusal p1) refl
     later e first None second =
         let (answer, part, memory) = did.idle e first second in
         subst Done (sym answer) (none_freed m1 m2 p1 p2 d g Work _ memory part refl refl
-        (λ page offset bytes x. cc) rogue)
+        (λ page offset bytes x. cc) refl (λ why e. no_refusal _ why refl e) rogue)
     later e first (Some page) second =
         visits_rogue m1 m2 p1 p2 d g REPORT_QUEUE page result (did.report page e first second)
         (next_own (length m1) p1.paced p1.report.taken page (rogue.up (ready e)).reports second)
@@ -457,7 +475,9 @@ work_rogue m1 m2 p1 p2 d g result did rogue = by (work_refusal p1) refl
         let (answer, part, memory) = did.refused why e in
         subst Done (sym answer) (none_freed m1 m2 p1 p2 d g Work _ memory part refl
         (refused_otherwise (work_tests p1.status) why refl e)
-        (λ page offset bytes x. cc) rogue)
+        (λ page offset bytes x. cc) refl
+        (left_same m1 p1 p2 d d g Work why (work_tests p1.status) rogue refl part (sym e) refl refl)
+        rogue)
     by None e = visits e (next_visit INFLATE_QUEUE p1) refl
 
 -- ---- sweep
@@ -505,7 +525,10 @@ sweep_rogue m1 m2 p1 p2 d g page result did rogue = by (sweep_refusal page p1) r
         let (answer, part, memory) = did.refused why e in
         subst Done (sym answer) (none_freed m1 m2 p1 p2 d g (Sweep page) _ memory part refl
         (refused_otherwise (sweep_tests p1.status (is_ballooned p1.ballooned page)) why refl e)
-        (λ page offset bytes x. cc) rogue)
+        (λ page offset bytes x. cc) refl
+        (left_same m1 p1 p2 d d g (Sweep page) why
+        (sweep_tests p1.status (is_ballooned p1.ballooned page)) rogue refl part (sym e) refl refl)
+        rogue)
     by None e =
         let (up, flag) = sweeps_up (is_not_ready p1.status) (has_fault p1.status)
         (is_ballooned p1.ballooned page) e in
@@ -523,7 +546,7 @@ sweep_rogue m1 m2 p1 p2 d g page result did rogue = by (sweep_refusal page p1) r
         (ok_of (contains p1.status driver_ok) (contains p1.status failed) up)
         (ap (λ (m : Pages). length m) (did.memory e) ∙ length-discarded (page ∷ []) m1)
         (λ p. ap (λ (m : Pages). frame_at m p) (did.memory e)) (did.loose e) refl refl
-        (λ page offset bytes x. cc) rogue)
+        (λ page offset bytes x. cc) refl rogue)
 
 -- ---- finish
 
@@ -667,7 +690,7 @@ finish_rogue m1 m2 p1 p2 d g q i result did rogue = by (finish_refusal q i p1) r
         (settled_changes n q r.pages (using q i p1) high)) uses.part) ok
         (uses.memory.puts.rest.count ∙ count)
         (λ page. uses.memory.puts.rest.backing page ∙ same page)
-        (λ k. uses.loose k ∙ ap (times k) loose) refl refl (λ page offset bytes x. cc) rogue)
+        (λ k. uses.loose k ∙ ap (times k) loose) refl refl (λ page offset bytes x. cc) refl rogue)
 
     uses_request : (r : Request) → finish_refusal q i p1 ≡ None → taken_at q i p1 ≡ Some r
         → (b : Bool) → (q == DEFLATE_QUEUE) ≡ b → Uses q i r m1 m2 p1 p2 result → Done result
@@ -707,7 +730,10 @@ finish_rogue m1 m2 p1 p2 d g q i result did rogue = by (finish_refusal q i p1) r
         let (answer, part, memory) = did.refused why e in
         subst Done (sym answer) (none_freed m1 m2 p1 p2 d g (Finish q i) _ memory part refl
         (refused_otherwise (finish_tests q p1.status p1.paced (taken_at q i p1)) why refl e)
-        (λ page offset bytes x. cc) rogue)
+        (λ page offset bytes x. cc) refl
+        (left_same m1 p1 p2 d d g (Finish q i) why
+        (finish_tests q p1.status p1.paced (taken_at q i p1)) rogue refl part (sym e) refl refl)
+        rogue)
     by None e =
         let (r, at) = taken_request (is_queue_of_requests q) (is_not_ready p1.status)
         (has_fault p1.status) unworked (taken_at q i p1) e in
@@ -727,7 +753,7 @@ taken_buffer false true o e = absurd cc
 taken_buffer false false None e = absurd cc
 taken_buffer false false (Some r) e = (r, refl)
 
-asked_not : {T : Type 0} (r : Result T Refusal) → IsOk r → wants (asked_reply r) ≡ false
+asked_not : {T : Type 0} (r : Result T Refusal) → IsOk r → is_refused (asked_reply r) ≡ false
 asked_not (Ok x) ok = refl
 asked_not (Err why) ok = absurd cc
 
@@ -750,7 +776,9 @@ ask_rogue m1 m2 p1 p2 d g result did rogue = by (ask_refusal p1) refl
         (ap (λ (p : Part). p.target) part)
         (refused_otherwise (ask_tests p1.status
         (is_some (taken_at STATISTICS_QUEUE 0 p1))) why refl e)
-        (λ page offset bytes x. cc))
+        (λ page offset bytes x. cc) refl
+        (left_same m1 p1 p2 d d g Ask why (ask_tests p1.status
+        (is_some (taken_at STATISTICS_QUEUE 0 p1))) rogue refl part (sym e) refl refl))
     by None e =
         let part = did.part e in
         let ready = ok_of (contains p1.status driver_ok) (contains p1.status failed)
@@ -768,7 +796,8 @@ ask_rogue m1 m2 p1 p2 d g result did rogue = by (ask_refusal p1) refl
               (ap (λ (p : Part). p.inflate.taken) part)
               (ap (λ (p : Part). p.report.taken) part) (was ready);
         }) adds.puts.rest.count adds.puts.rest.backing (ap (λ (p : Part). p.target) part)
-        (asked_not result (did.answers e)) (λ page offset bytes x. cc)
+        (done_wants _ (asked_not result (did.answers e))) (λ page offset bytes x. cc) refl
+        (λ why x. no_refusal _ why (asked_not result (did.answers e)) x)
 
 pub target_rogue : (m1 m2 : Pages) (p1 p2 : Part) (d : DriverState) (g : Guest) (n : ℕ)
     → m2 ≡ m1 → p2 ≡ record p1 { target = n } → Rogue m1 p1 d g
@@ -784,4 +813,5 @@ target_rogue m1 m2 p1 p2 d g n memory part rogue =
       up = λ was ok. up_kept m1 m2 p1 p2 count (λ page low. same page)
           (ap (λ (p : Part). p.inflate.taken) part) (ap (λ (p : Part). p.report.taken) part)
           (was (ap (λ (p : Part). contains p.status driver_ok) (sym part) ∙ ok));
-    }) count same (ap (λ (p : Part). p.target) part) refl (λ page offset bytes e. cc)
+    }) count same (ap (λ (p : Part). p.target) part) refl (λ page offset bytes e. cc) refl
+    (λ why e. no_refusal _ why refl e)

@@ -1,6 +1,7 @@
 -- What a driver does for a guest that wrote past it.
 use Rattle.std.specs.Prelude.{◌≡◌, ℕ, ◌==◌, Bool, true, false, not, ◌&&◌, List, [], ◌∷◌, length}
-use Rattle.std.specs.Prelude.{Option, Some, None, Result, Ok, Err, refl, if◌then◌else◌}
+use Rattle.std.specs.Prelude.{Option, Some, None, Result, Ok, Err, refl, if◌then◌else◌, bit_or}
+use Rattle.std.specs.List.{list_all}
 use Rattle.std.proofs.Common.{sym, ◌∙◌, ap, subst}
 use Rattle.std.proofs.lemmas.List.{length-map, length-replicate}
 use Rattle.vb_model.specs.declared.calls.Call.{Call}
@@ -10,17 +11,17 @@ use Rattle.vb_model.specs.declared.layout.TheConstants.{INFLATE_QUEUE, DEFLATE_Q
 use Rattle.vb_model.specs.declared.places.Place.{Place}
 use Rattle.vb_model.specs.declared.replies.Refusal.{Refusal}
 use Rattle.vb_model.specs.declared.replies.Refusal.TheVariants.{NoQueue, NotReady, NoFeature}
-use Rattle.vb_model.specs.declared.replies.Refusal.TheVariants.{RingBroken, Nothing}
+use Rattle.vb_model.specs.declared.replies.Refusal.TheVariants.{RingBroken, Nothing, Broken}
 use Rattle.vb_model.specs.declared.replies.Reply.{Reply}
 use Rattle.vb_model.specs.declared.replies.Reply.TheVariants.{Refused, Done}
 use Rattle.vb_model.specs.FirstRefusal.{Test, ◌⇒◌, first_refusal}
 use Rattle.vb_model.specs.Guest.{Guest, is_ballooned, stats_vq}
 use Rattle.vb_model.specs.Life.{place_after_reset}
 use Rattle.vb_model.specs.Pages.{placed}
-use Rattle.vb_model.specs.Rogue.{target_after}
-use Rattle.vb_model.specs.Status.{contains, driver_ok, is_broken}
+use Rattle.vb_model.specs.Rogue.{target_after, pages_to_back, after_refused, with_fault}
+use Rattle.vb_model.specs.Status.{contains, driver_ok, failed, is_broken}
 use Rattle.vb_model.specs.Tables.{is_queue_of_requests, lacks_feature}
-use Rattle.vb_model.proofs.Wanting.{wants, none_wants, refused_otherwise}
+use Rattle.vb_model.proofs.Wanting.{wants, none_wants, refused_otherwise, refused_passes}
 use Rattle.vb_ram.specs.Pages.{Pages, frame_at}
 use Rattle.vb_ram.specs.Part.{Part}
 use Rattle.vb_ring.specs.Ends.{after_take}
@@ -40,7 +41,9 @@ use Rattle.vb_guest.specs.Replies.{page_reply, done_reply, posted_reply, reaped_
 use Rattle.vb_guest.proofs.Fresh.{everywhere}
 use Rattle.vb_guest.proofs.Rogues.{DriverSame, Keeps, driver_same, rogue_alone, IsOther}
 use Rattle.vb_guest.proofs.Rogues.{keeps_part, up_kept}
-use Rattle.vb_guest.proofs.Rogues.{device_alike, kept_of_rogue}
+use Rattle.vb_guest.proofs.Rogues.{device_alike, kept_of_rogue, rogue_after, rogue_same}
+use Rattle.vb_guest.proofs.Rogues.{rogue_unchanged, IsLeft, left_by, no_refusal, keeps_status}
+use Rattle.vb_guest.proofs.Rogues.{is_of_driver, without_fault, said}
 
 -- the refusal is one of these tests, none of which is for want of frames or of memory
 not_for_want : (why : Refusal) (tests : List Test) → Some why ≡ first_refusal tests
@@ -54,23 +57,38 @@ part_alone : (m1 m2 : Pages) (p1 p2 : Part) (d1 d2 : DriverState) (g : Guest) (c
     (reply : Reply) → DriverSame d1 d2 → p2 ≡ p1 → length m2 ≡ length m1
     → ((page : ℕ) → frame_at m2 page ≡ frame_at m1 page)
     → target_after call p1.target ≡ p1.target → wants reply ≡ false → IsOther call
+    → pages_to_back call g ≡ [] → IsLeft call reply [] g (rogue_after g g.frames p2 d2)
     → Rogue m1 p1 d1 g → StepsAlone (Rogue m2 p2 d2) g call reply
-part_alone m1 m2 p1 p2 d1 d2 g call reply driver part count same still answer other rogue =
+part_alone m1 m2 p1 p2 d1 d2 g call reply driver part count same still answer other none left rogue =
     rogue_alone m1 m2 p1 p2 d1 d2 g call reply rogue
     (keeps_part m1 m2 p1 p2 d1 d2 driver part count same) count same
-    (ap (λ (p : Part). p.target) part ∙ sym still) answer other
+    (ap (λ (p : Part). p.target) part ∙ sym still) answer other none left
+
+-- a refusal leaves the guest as it was
+pub left_same : (m : Pages) (p1 p2 : Part) (d1 d2 : DriverState) (g : Guest) (call : Call)
+    (why : Refusal) (tests : List Test) → Rogue m p1 d1 g → d2.places ≡ d1.places → p2 ≡ p1
+    → Some why ≡ first_refusal tests → list_all (λ t. keeps_status t.refusal) tests ≡ true
+    → after_refused call why [] g ≡ with_fault why g
+    → IsLeft call (Refused why) [] g (rogue_after g g.frames p2 d2)
+left_same m p1 p2 d1 d2 g call why tests rogue places part is keep plain =
+    left_by call why [] g (rogue_after g g.frames p2 d2)
+    (rogue_unchanged m p1 p2 d1 d2 g rogue places part
+    ∙ sym (plain ∙ without_fault why g (refused_passes keeps_status tests why keep (sym is))))
 
 -- one that changes nothing
 unchanged_alone : (m1 m2 : Pages) (p1 p2 : Part) (d1 d2 : DriverState) (g : Guest) (call : Call)
     (why : Refusal) (tests : List Test) → Unchanged m1 m2 p1 p2 d1 d2
     → target_after call p1.target ≡ p1.target → Some why ≡ first_refusal tests
-    → none_wants tests ≡ true → IsOther call → Rogue m1 p1 d1 g
-    → StepsAlone (Rogue m2 p2 d2) g call (Refused why)
-unchanged_alone m1 m2 p1 p2 d1 d2 g call why tests same still is none other rogue =
+    → none_wants tests ≡ true → list_all (λ t. keeps_status t.refusal) tests ≡ true
+    → after_refused call why [] g ≡ with_fault why g → pages_to_back call g ≡ [] → IsOther call
+    → Rogue m1 p1 d1 g → StepsAlone (Rogue m2 p2 d2) g call (Refused why)
+unchanged_alone m1 m2 p1 p2 d1 d2 g call why tests same still is wanted keep plain none other rogue =
     part_alone m1 m2 p1 p2 d1 d2 g call (Refused why) (driver_same d1 d2 same.driver) same.part
     (ap (λ (m : Pages). length m) same.mem)
     (λ page. ap (λ (m : Pages). frame_at m page) same.mem) still
-    (not_for_want why tests is none) other rogue
+    (not_for_want why tests is wanted) other none
+    (left_same m1 p1 p2 d1 d2 g call why tests rogue
+    (ap (λ (d : DriverState). d.places) same.driver) same.part is keep plain) rogue
 
 -- pages have changed their places
 moved : (d1 d2 : DriverState) (pages : List ℕ) (place : Place)
@@ -92,7 +110,7 @@ alloc_rogue m p d1 d2 g cpu order (Ok start) did rogue =
     (ap (λ (d : DriverState). d.queue_size) did.state)
     (ap (λ (d : DriverState). d.processors) did.state)
     (ap (λ (d : DriverState). d.places) did.state)) refl refl (λ page. refl) refl refl
-    (λ page offset bytes e. cc) rogue
+    (λ page offset bytes e. cc) refl (λ why e. no_refusal _ why refl e) rogue
 alloc_rogue m p d1 d2 g cpu order (Err why) did rogue =
     part_alone m m p p d1 d2 g (Alloc cpu order) (Refused why)
     (record {
@@ -101,8 +119,9 @@ alloc_rogue m p d1 d2 g cpu order (Err why) did rogue =
       processors = ap (λ (d : DriverState). d.processors) did.refused;
       table = ap (λ (d : DriverState). length d.places) did.refused;
     }) refl refl (λ page. refl) refl
-    (not_for_want why (alloc_tests d1 cpu order) did.refusal
-    refl) (λ page offset bytes e. cc) rogue
+    (not_for_want why (alloc_tests d1 cpu order) did.refusal refl) (λ page offset bytes e. cc) refl
+    (left_same m p p d1 d2 g (Alloc cpu order) why (alloc_tests d1 cpu order) rogue
+    (ap (λ (d : DriverState). d.places) did.refused) refl did.refusal refl refl) rogue
 
 pub free_rogue : {T : Type 0} (m : Pages) (p : Part) (d1 d2 : DriverState) (g : Guest)
     (cpu start order : ℕ) (result : Result T Refusal) → FreesBy d1 d2 cpu start order result
@@ -113,12 +132,14 @@ free_rogue m p d1 d2 g cpu start order (Ok x) did rogue =
     (ap (λ (d : DriverState). d.queue_size) did.state)
     (ap (λ (d : DriverState). d.processors) did.state)
     (ap (λ (d : DriverState). d.places) did.state)) refl refl (λ page. refl) refl refl
-    (λ page offset bytes e. cc) rogue
+    (λ page offset bytes e. cc) refl (λ why e. no_refusal _ why refl e) rogue
 free_rogue m p d1 d2 g cpu start order (Err why) did rogue =
     part_alone m m p p d1 d2 g (Free cpu start order) (Refused why)
     (driver_same d1 d2 did.refused) refl refl (λ page. refl) refl
-    (not_for_want why (free_tests d1 cpu start order) did.refusal
-    refl) (λ page offset bytes e. cc) rogue
+    (not_for_want why (free_tests d1 cpu start order) did.refusal refl)
+    (λ page offset bytes e. cc) refl
+    (left_same m p p d1 d2 g (Free cpu start order) why (free_tests d1 cpu start order) rogue
+    (ap (λ (d : DriverState). d.places) did.refused) refl did.refusal refl refl) rogue
 
 -- ---- requests
 
@@ -132,47 +153,52 @@ inflate_rogue m1 m2 p1 p2 d1 d2 g n (Ok posted) did rogue =
     (ap (λ (d : DriverState). d.queue_size) offers.state)
     (ap (λ (d : DriverState). d.processors) offers.state)
     (ap (λ (d : DriverState). d.places) offers.state)) offers.part offers.posts.rest.count
-    offers.posts.rest.backing refl refl (λ page offset bytes e. cc) rogue
+    offers.posts.rest.backing refl refl (λ page offset bytes e. cc)
+    refl (λ why e. no_refusal _ why refl e) rogue
 inflate_rogue m1 m2 p1 p2 d1 d2 g n (Err why) did rogue =
     unchanged_alone m1 m2 p1 p2 d1 d2 g (Inflate n) why (inflate_tests d1 p1 n) did.refused refl
-    did.refusal refl (λ page offset bytes e. cc) rogue
+    did.refusal refl refl refl refl (λ page offset bytes e. cc) rogue
 
 asks_rogue : (m1 m2 : Pages) (p1 p2 : Part) (d1 d2 : DriverState) (g : Guest) (call : Call)
     (count : ℕ) (posted : Posted) → AsksBack m1 m2 p1 p2 d1 d2 count posted
-    → target_after call p1.target ≡ p1.target → IsOther call → Rogue m1 p1 d1 g
-    → StepsAlone (Rogue m2 p2 d2) g call (posted_reply (Ok posted))
-asks_rogue m1 m2 p1 p2 d1 d2 g call count posted asks still other rogue =
+    → target_after call p1.target ≡ p1.target → IsOther call → pages_to_back call g ≡ []
+    → Rogue m1 p1 d1 g → StepsAlone (Rogue m2 p2 d2) g call (posted_reply (Ok posted))
+asks_rogue m1 m2 p1 p2 d1 d2 g call count posted asks still other none rogue =
     part_alone m1 m2 p1 p2 d1 d2 g call _
     (moved d1 d2 _ _ (ap (λ (d : DriverState). d.pages) asks.state)
     (ap (λ (d : DriverState). d.queue_size) asks.state)
     (ap (λ (d : DriverState). d.processors) asks.state)
     (ap (λ (d : DriverState). d.places) asks.state)) asks.part asks.posts.rest.count
-    asks.posts.rest.backing still refl other rogue
+    asks.posts.rest.backing still refl other none (λ why e. no_refusal _ why refl e) rogue
 
 pub deflate_rogue : (m1 m2 : Pages) (p1 p2 : Part) (d1 d2 : DriverState) (g : Guest) (n : ℕ)
     (result : Result Posted Refusal) → DeflatesBy m1 m2 p1 p2 d1 d2 n result → Rogue m1 p1 d1 g
     → StepsAlone (Rogue m2 p2 d2) g (Deflate n) (posted_reply result)
 deflate_rogue m1 m2 p1 p2 d1 d2 g n (Ok posted) did rogue =
     asks_rogue m1 m2 p1 p2 d1 d2 g (Deflate n) _ posted did.asks refl
-    (λ page offset bytes e. cc) rogue
+    (λ page offset bytes e. cc) refl rogue
 deflate_rogue m1 m2 p1 p2 d1 d2 g n (Err why) did rogue =
     unchanged_alone m1 m2 p1 p2 d1 d2 g (Deflate n) why (deflate_tests d1 p1 n) did.refused refl
-    did.refusal refl (λ page offset bytes e. cc) rogue
+    did.refusal refl refl refl refl (λ page offset bytes e. cc) rogue
 
 pub oom_rogue : (m1 m2 : Pages) (p1 p2 : Part) (d1 d2 : DriverState) (g : Guest) (n : ℕ)
     (result : Result Posted Refusal) → DeflatesOnOomBy m1 m2 p1 p2 d1 d2 n result
     → Rogue m1 p1 d1 g → StepsAlone (Rogue m2 p2 d2) g (Oom n) (posted_reply result)
 oom_rogue m1 m2 p1 p2 d1 d2 g n (Ok posted) did rogue =
     asks_rogue m1 m2 p1 p2 d1 d2 g (Oom n) _ posted did.asks refl (λ page offset bytes e. cc)
-    rogue
+    refl rogue
 oom_rogue m1 m2 p1 p2 d1 d2 g n (Err why) did rogue =
     unchanged_alone m1 m2 p1 p2 d1 d2 g (Oom n) why (oom_tests d1 p1 n) did.refused refl
-    did.refusal refl (λ page offset bytes e. cc) rogue
+    did.refusal refl refl refl refl (λ page offset bytes e. cc) rogue
 
 unreported_same : (why : Refusal) (d : DriverState) → DriverSame d (unreported why d)
 unreported_same Nothing d =
     record { pages = refl; queue_size = refl; processors = refl; table = refl }
 unreported_same _ d = driver_same d d refl
+
+unreported_places : (why : Refusal) (d : DriverState) → (unreported why d).places ≡ d.places
+unreported_places Nothing d = refl
+unreported_places _ d = refl
 
 same_driver : (d1 d2 d3 : DriverState) → DriverSame d1 d2 → d3 ≡ d2 → DriverSame d1 d3
 same_driver d1 d2 d3 same e = subst (DriverSame d1) (sym e) same
@@ -187,15 +213,18 @@ report_rogue m1 m2 p1 p2 d1 d2 g from (Ok posted) did rogue =
     (ap (λ (d : DriverState). d.queue_size) reports.state)
     (ap (λ (d : DriverState). d.processors) reports.state)
     (ap (λ (d : DriverState). d.places) reports.state)) reports.part reports.posts.rest.count
-    reports.posts.rest.backing refl refl (λ page offset bytes e. cc) rogue
+    reports.posts.rest.backing refl refl (λ page offset bytes e. cc)
+    refl (λ why e. no_refusal _ why refl e) rogue
 report_rogue m1 m2 p1 p2 d1 d2 g from (Err why) did rogue =
     let same = did.refused in
     part_alone m1 m2 p1 p2 d1 d2 g (Report from) (Refused why)
     (same_driver d1 (unreported why d1) d2 (unreported_same why d1) same.driver) same.part
     (ap (λ (m : Pages). length m) same.mem)
     (λ page. ap (λ (m : Pages). frame_at m page) same.mem) refl
-    (not_for_want why (report_tests d1 p1 from) did.refusal
-    refl) (λ page offset bytes e. cc) rogue
+    (not_for_want why (report_tests d1 p1 from) did.refusal refl) (λ page offset bytes e. cc) refl
+    (left_same m1 p1 p2 d1 d2 g (Report from) why (report_tests d1 p1 from) rogue
+    (ap (λ (d : DriverState). d.places) same.driver ∙ unreported_places why d1) same.part did.refusal
+    refl refl) rogue
 
 -- ---- used requests
 
@@ -217,19 +246,34 @@ failed_target : (why : Refusal) (p : Part) → (after_refusal why p).target ≡ 
 failed_target RingBroken p = refl
 failed_target _ p = refl
 
+-- and its status says so
+failed_left : (why : Refusal) (m : Pages) (p1 p2 : Part) (d : DriverState) (g : Guest)
+    → Rogue m p1 d g → p2 ≡ after_refusal why p1 → is_of_driver why ≡ true
+    → rogue_after g g.frames p2 d ≡ with_fault why g
+failed_left (Broken fault) m p1 p2 d g rogue is told = absurd cc
+failed_left RingBroken m p1 p2 d g rogue is told =
+    rogue_same m p1 p2 d d g g.frames rogue refl (ap said is)
+    ∙ ap (λ (n : ℕ). record g { status = n })
+    (ap (λ (p : Part). p.status) is ∙ ap (λ (n : ℕ). bit_or n failed) rogue.status)
+failed_left _ m p1 p2 d g rogue is told = rogue_unchanged m p1 p2 d d g rogue refl is
+
 failed_alone : (m1 m2 : Pages) (p1 p2 : Part) (d1 d2 : DriverState) (g : Guest) (call : Call)
     (why : Refusal) (tests : List Test) → Unchanged m1 m2 (after_refusal why p1) p2 d1 d2
     → (why ≡ RingBroken → contains p1.status driver_ok ≡ true)
     → target_after call p1.target ≡ p1.target → Some why ≡ first_refusal tests
-    → none_wants tests ≡ true → IsOther call → Rogue m1 p1 d1 g
-    → StepsAlone (Rogue m2 p2 d2) g call (Refused why)
-failed_alone m1 m2 p1 p2 d1 d2 g call why tests same up still is none other rogue =
+    → none_wants tests ≡ true → list_all (λ t. is_of_driver t.refusal) tests ≡ true
+    → after_refused call why [] g ≡ with_fault why g → pages_to_back call g ≡ [] → IsOther call
+    → Rogue m1 p1 d1 g → StepsAlone (Rogue m2 p2 d2) g call (Refused why)
+failed_alone m1 m2 p1 p2 d1 d2 g call why tests same up still is wanted told plain none other rogue =
     subst (λ (m : Pages). StepsAlone (Rogue m p2 d2) g call (Refused why)) (sym same.mem)
     (subst (λ (d : DriverState). StepsAlone (Rogue m1 p2 d) g call (Refused why)) (sym same.driver)
     (rogue_alone m1 m1 p1 p2 d1 d1 g call (Refused why) rogue
     (failed_keeps why m1 p1 p2 d1 same.part up) refl (λ page. refl)
     (ap (λ (p : Part). p.target) same.part ∙ failed_target why p1 ∙ sym still)
-    (not_for_want why tests is none) other))
+    (not_for_want why tests is wanted) other none
+    (left_by call why [] g (rogue_after g g.frames p2 d1)
+    (failed_left why m1 p1 p2 d1 g rogue same.part
+    (refused_passes is_of_driver tests why told (sym is)) ∙ sym plain))))
 
 reap_up : (queue up sound lacks broken : Bool) (why : Refusal)
     → Some why ≡ first_refusal ((not queue ⇒ NoQueue) ∷ (not (up && sound) ⇒ NotReady)
@@ -275,7 +319,7 @@ pub reap_rogue : (m1 m2 : Pages) (p1 p2 : Part) (d1 d2 : DriverState) (g : Guest
 reap_rogue m1 m2 p1 p2 d1 d2 g q (Ok None) did rogue =
     part_alone m1 m2 p1 p2 d1 d2 g (Reap q) _ (driver_same d1 d2 did.reaps.1) did.reaps.0
     (ap (λ (m : Pages). length m) did.mem) (λ page. ap (λ (m : Pages). frame_at m page) did.mem)
-    refl refl (λ page offset bytes e. cc) rogue
+    refl refl (λ page offset bytes e. cc) refl (λ why e. no_refusal _ why refl e) rogue
 reap_rogue m1 m2 p1 p2 d1 d2 g q (Ok (Some reaped)) did rogue =
     let part = did.reaps.part in
     let same : (page : ℕ) → frame_at m2 page ≡ frame_at m1 page =
@@ -288,13 +332,14 @@ reap_rogue m1 m2 p1 p2 d1 d2 g q (Ok (Some reaped)) did rogue =
       up = λ was ok. up_kept m1 m2 p1 p2 count (λ page low. same page)
           (ap (λ (p : Part). p.inflate.taken) part) (ap (λ (p : Part). p.report.taken) part)
           (was (ap (λ (p : Part). contains p.status driver_ok) (sym part) ∙ ok));
-    }) count same (ap (λ (p : Part). p.target) part) refl (λ page offset bytes e. cc)
+    }) count same (ap (λ (p : Part). p.target) part) refl (λ page offset bytes e. cc) refl
+    (λ why e. no_refusal _ why refl e)
 reap_rogue m1 m2 p1 p2 d1 d2 g q (Err why) did rogue =
     failed_alone m1 m2 p1 p2 d1 d2 g (Reap q) why (reap_tests m1 p1 d1 (ring_of q d1) q)
     (record { mem = did.mem; part = did.failed; driver = did.refused })
     (reap_up (is_queue_of_requests q) (contains p1.status driver_ok) (not (is_broken p1.status))
     (lacks_feature d1.features q) (is_ring_broken m1 (ring_of q d1)) why did.refusal) refl
-    did.refusal refl
+    did.refusal refl refl refl refl
     (λ page offset bytes e. cc) rogue
 
 pub stats_rogue : (m1 m2 : Pages) (p1 p2 : Part) (d1 d2 : DriverState) (g : Guest)
@@ -309,18 +354,18 @@ stats_rogue m1 m2 p1 p2 d1 d2 g (Ok true) did rogue =
       processors = ap (λ (d : DriverState). d.processors) fills.state;
       table = ap (λ (d : DriverState). length d.places) fills.state;
     }) fills.part fills.posts.rest.count fills.posts.rest.backing refl refl
-    (λ page offset bytes e. cc) rogue
+    (λ page offset bytes e. cc) refl (λ why e. no_refusal _ why refl e) rogue
 stats_rogue m1 m2 p1 p2 d1 d2 g (Ok false) did rogue =
     let same = did.fills.unchanged in
     part_alone m1 m2 p1 p2 d1 d2 g Stats _ (driver_same d1 d2 same.driver) same.part
     (ap (λ (m : Pages). length m) same.mem)
     (λ page. ap (λ (m : Pages). frame_at m page) same.mem) refl refl
-    (λ page offset bytes e. cc) rogue
+    (λ page offset bytes e. cc) refl (λ why e. no_refusal _ why refl e) rogue
 stats_rogue m1 m2 p1 p2 d1 d2 g (Err why) did rogue =
     failed_alone m1 m2 p1 p2 d1 d2 g Stats why (stats_tests m1 p1 d1) did.refused
     (stats_up (contains p1.status driver_ok) (not (is_broken p1.status)) (stats_vq d1.features)
     (is_ring_broken m1 d1.statistics) why did.refusal) refl did.refusal
-    refl (λ page offset bytes e. cc) rogue
+    refl refl refl refl (λ page offset bytes e. cc) rogue
 
 -- ---- a reset
 
@@ -353,4 +398,4 @@ reset_rogue m1 m2 p1 p2 d1 d2 g did rogue =
           cc);
     }) (ap (λ (m : Pages). length m) did.mem)
     (λ page. ap (λ (m : Pages). frame_at m page) did.mem) (ap (λ (p : Part). p.target) part)
-    refl (λ page offset bytes e. cc)
+    refl (λ page offset bytes e. cc) refl (λ why e. no_refusal _ why refl e)

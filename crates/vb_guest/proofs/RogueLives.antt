@@ -1,8 +1,9 @@
 -- A guest that wrote past its driver is initialised; an honest guest becomes one.
 use Rattle.std.specs.Prelude.{◌≡◌, ℕ, ◌<◌, Bool, true, false, List, [], length, All, Option}
 use Rattle.std.specs.Prelude.{Some, Result, Ok, Err, IsSome, MatchOption, is_none}
-use Rattle.std.specs.Prelude.{refl, ◌≤◌, is_some}
-use Rattle.std.proofs.Common.{sym, ◌∙◌, ap, subst, arith, inr}
+use Rattle.std.specs.Prelude.{refl, ◌≤◌, is_some, ◌≢◌, not, ◌==◌, ◌∷◌, None, replicate, count_by}
+use Rattle.std.proofs.Common.{sym, ◌∙◌, ap, subst, arith}
+use Rattle.std.proofs.lemmas.Bool.{ne_eqb}
 use Rattle.std.proofs.lemmas.List.{length-replicate}
 use Rattle.std.proofs.lemmas.List.Elements.{All-nil}
 use Rattle.vb_model.specs.declared.calls.Call.TheVariants.{Init}
@@ -10,14 +11,21 @@ use Rattle.vb_model.specs.declared.calls.Claim.{Claim}
 use Rattle.vb_model.specs.declared.replies.Refusal.{Refusal}
 use Rattle.vb_model.specs.declared.replies.Refusal.TheVariants.{AlreadyUp, NoFrame, NoMemory}
 use Rattle.vb_model.specs.declared.replies.Reply.TheVariants.{Refused}
-use Rattle.vb_model.specs.Driver.{AllDistinct, given, AreClaimsFor}
-use Rattle.vb_model.specs.Guest.{Guest, all_backed, stats_vq, is_ballooned}
+use Rattle.vb_model.specs.declared.places.Place.{Place}
+use Rattle.vb_model.specs.Driver.{AllDistinct, given, AreClaimsFor, claim_refusal}
+use Rattle.vb_model.specs.FirstRefusal.{◌⇒◌, first_refusal}
+use Rattle.vb_model.specs.Guest.{Guest, LastStatistics, all_backed, stats_vq, is_ballooned}
+use Rattle.vb_model.specs.Guest.{no_statistics}
+use Rattle.vb_model.specs.Pages.{is_lent_or_taking}
+use Rattle.vb_model.specs.Refusals.{refusal_of}
 use Rattle.vb_model.specs.Life.{lacking, feature_tests, feature_refusal, accepted_before}
 use Rattle.vb_model.specs.Orderly.{times}
-use Rattle.vb_model.specs.Rogue.{LosesFrames}
+use Rattle.vb_model.specs.Rogue.{LosesFrames, pages_to_back, unless_refused, after_refused}
+use Rattle.vb_model.specs.Rogue.{if_negotiated, given_up}
 use Rattle.vb_model.specs.Status.{contains, driver_ok}
 use Rattle.vb_model.specs.Tests.{is_in}
-use Rattle.vb_model.proofs.Wanting.{wants, no_want, refused_otherwise}
+use Rattle.vb_model.proofs.Wanting.{wants, no_want, refused_otherwise, not_refused_pages}
+use Rattle.vb_model.proofs.Wanting.{refused_backs, unsupplied}
 use Rattle.vb_ram.specs.Pages.{Pages, frame_at}
 use Rattle.vb_ram.specs.Part.{Part}
 use Rattle.vb_ram.proofs.Limits.{config_limits}
@@ -31,37 +39,60 @@ use Rattle.vb_guest.specs.Stands.{IsOwnRequest, Rogue}
 use Rattle.vb_guest.specs.Steps.{backing_count, StepsAlone, StepsOver}
 use Rattle.vb_guest.specs.Supply.{Supply, supply_of, Moves, nothing}
 use Rattle.vb_guest.proofs.Fresh.{everywhere}
-use Rattle.vb_guest.proofs.InitStep.{bare_is, now_backed, has_all, given_up, driver_tests}
+use Rattle.vb_guest.proofs.InitStep.{bare_is, now_backed, has_all, driver_tests}
+use Rattle.vb_guest.proofs.InitStep.{given_up as stopped}
 use Rattle.vb_guest.proofs.Moving.{moves_as}
 use Rattle.vb_guest.proofs.Rogues.{Keeps, DeviceSame, driver_same, rogue_after, rogue_stands}
 use Rattle.vb_guest.proofs.Rogues.{rogue_alone, rogue_steps, rogue_unclaimed, keeps_part}
-use Rattle.vb_guest.proofs.Rogues.{device_alike, kept_of_rogue}
+use Rattle.vb_guest.proofs.Rogues.{device_alike, kept_of_rogue, rogue_unchanged, left_by}
+use Rattle.vb_guest.proofs.Rogues.{no_refusal}
 use Rattle.vb_guest.proofs.Supplying.{all_distinct, bounded, frames_given, frames_filled}
 use Rattle.vb_guest.proofs.Supplying.{supplied_count}
 use Rattle.vb_guest.proofs.Writing.{HasFrames}
 
 pub init_up_rogue : (m : Pages) (p : Part) (d : DriverState) (g : Guest) (wanted : ℕ)
-    → Rogue m p d g → StepsAlone (Rogue m p d) g (Init wanted) (Refused AlreadyUp)
-init_up_rogue m p d g wanted rogue =
+    → p.status ≢ 0 → Rogue m p d g
+    → StepsAlone (Rogue m p d) g (Init wanted) (Refused AlreadyUp)
+init_up_rogue m p d g wanted up rogue =
     rogue_alone m m p p d d g (Init wanted) _ rogue
     (keeps_part m m p p d d (driver_same d d refl) refl refl (λ page. refl)) refl (λ page. refl)
-    refl refl (λ page offset bytes e. cc)
+    refl refl (λ page offset bytes e. cc) (refused_backs (Init wanted) g AlreadyUp refused)
+    (left_by (Init wanted) AlreadyUp [] g (rogue_after g g.frames p d)
+    (rogue_unchanged m p p d d g rogue refl refl
+    ∙ ap (λ (b : Bool). if_negotiated (not b) None g
+    (given_up AlreadyUp wanted (all_backed (lacking g) [] g.frames) g)) (sym started)))
+  where
+    started : (g.status == 0) ≡ false
+    started = ne_eqb g.status 0 (λ e. up (rogue.status ∙ e))
+
+    refused : refusal_of g (Init wanted) ≡ Some AlreadyUp
+    refused = ap (λ (b : Bool). first_refusal ((not b ⇒ AlreadyUp) ∷ [])) started
+
+-- a device that isn't started
+none_refuses : (p : Part) (m : Pages) (d : DriverState) (g : Guest) (wanted : ℕ) → p.status ≡ 0
+    → Rogue m p d g → refusal_of g (Init wanted) ≡ None
+none_refuses p m d g wanted new rogue =
+    ap (λ (n : ℕ). first_refusal ((not (n == 0) ⇒ AlreadyUp) ∷ [])) (sym rogue.status ∙ new)
 
 pub init_unsupplied_rogue : (Answers : List Bool → Claim → Type 0) (out1 out2 : List Bool)
     (l : List Claim) (m1 m2 : Pages) (p1 p2 : Part) (d : DriverState) (g : Guest) (wanted : ℕ)
     (why : WhyRefused) (refusal : Refusal)
-    → why_unsupplied {T = Unit {0}} (Err why) ≡ Some refusal
+    → why_unsupplied {T = Unit {0}} (Err why) ≡ Some refusal → p1.status ≡ 0
     → SuppliesBy {T = Unit {0}} Answers (supply_of p1 out1) (supply_of p2 out2) [] l (bare_from m1 0)
     m1 m2 (Err why) → p2 ≡ record p1 { own = p2.own } → Rogue m1 p1 d g
     → StepsOver (Rogue m2 p2 d) Answers (supply_of p1 out1) (supply_of p2 out2) l g (Init wanted)
     (Refused refusal)
-init_unsupplied_rogue Answers out1 out2 l m1 m2 p1 p2 d g wanted why refusal is did part rogue =
+init_unsupplied_rogue Answers out1 out2 l m1 m2 p1 p2 d g wanted why refusal is new did part rogue =
     subst (λ (c : List Claim). StepsOver (Rogue m2 p2 d) Answers (supply_of p1 out1)
     (supply_of p2 out2) c g (Init wanted) (Refused refusal)) (sym did.noted)
     (rogue_unclaimed Answers out1 out2 m1 m2 p1 p2 d g (Init wanted) did.claims refusal rogue
     did.refused.0 part
-    (subst (λ (l : List ℕ). AreClaimsFor l did.claims) (bare_is m1 g rogue.behind) did.made)
-    (did.answer ∙ is) refl (λ page offset bytes e. absurd cc) did.answered did.refused.1)
+    (not_refused_pages (refusal_of g (Init wanted)) (lacking g) did.claims
+    (none_refuses p1 m1 d g wanted new rogue)
+    (subst (λ (l : List ℕ). AreClaimsFor l did.claims) (bare_is m1 g rogue.behind) did.made))
+    (did.answer ∙ is) refl
+    (unsupplied (not (g.status == 0)) (claim_refusal did.claims) refusal g _ (did.answer ∙ is))
+    (λ page offset bytes e. absurd cc) did.answered did.refused.1)
 
 -- ---- with frames
 
@@ -73,6 +104,42 @@ record Leaves (m2 m3 : Pages) (p2 p3 : Part) (d1 d2 : DriverState) : Type 0 wher
   target : p3.target ≡ p2.target
   flag : p3.keeps ≡ p2.keeps
   numbers : p3.own ≡ p2.own
+
+-- what the device says of a rogue guest
+record Said : Type 0 where
+  status : ℕ
+  features : ℕ
+  target : ℕ
+  last : LastStatistics
+  flags : List Bool
+
+abbrev part_said : Part → Said
+part_said p = record {
+  status = p.status;
+  features = p.features;
+  target = p.target;
+  last = p.last;
+  flags = p.ballooned;
+}
+
+abbrev said_guest : Guest → List (Option ℕ) → Said → DriverState → Guest
+said_guest g frames x d =
+    record g {
+      places = d.places;
+      actual = count_by is_lent_or_taking d.places;
+      status = x.status;
+      features = x.features;
+      target = x.target;
+      last = x.last;
+      ballooned = x.flags;
+      frames = frames;
+    }
+
+-- the driver gave up
+abbrev GaveUp : Part → Part → DriverState → DriverState → ℕ → Refusal → Type 0
+GaveUp p2 p3 d1 d2 wanted why =
+    (d2.places ≡ d1.places)
+    × (p3 ≡ record (part_after_reset p2) { status = 131; features = accepted_before why wanted })
 
 -- the part after a reset, with another status
 reset_device : (p p2 : Part) (state features : ℕ)
@@ -157,15 +224,59 @@ inits_leave : (m2 m3 : Pages) (p2 p3 : Part) (d1 d2 : DriverState) (wanted : ℕ
     → ((page : ℕ) → page < 13 → IsSome (frame_at m2 page))
     → InitsBy m2 m3 p2 p3 d1 d2 wanted result
     → Leaves m2 m3 p2 p3 d1 d2 × (wants (ready_reply result) ≡ false)
-inits_leave m2 m3 p2 p3 d1 d2 wanted (Ok x) new backed did =
-    (started_leaves m2 m3 p2 p3 d1 d2 wanted backed did.starts, refl)
+    × ((why : Refusal) → ready_reply result ≡ Refused why → GaveUp p2 p3 d1 d2 wanted why)
+inits_leave m2 m3 p2 p3 d1 d2 wanted (Ok x) new backed did = (
+  started_leaves m2 m3 p2 p3 d1 d2 wanted backed did.starts,
+  refl,
+  λ why e. no_refusal _ why refl e,
+)
 inits_leave m2 m3 p2 p3 d1 d2 wanted (Err why) new backed did =
     let is : Some why ≡ feature_refusal wanted =
-    did.refusal ∙ driver_tests m2 p2 wanted new (has_all m2 backed) in (
-      stopped_leaves m2 m3 p2 p3 d1 d2 (accepted_before why wanted)
-          (given_up m2 m3 p2 p3 d1 d2 wanted why (sym is) did.refused),
+    did.refusal ∙ driver_tests m2 p2 wanted new (has_all m2 backed) in
+    let stops = stopped m2 m3 p2 p3 d1 d2 wanted why (sym is) did.refused in (
+      stopped_leaves m2 m3 p2 p3 d1 d2 (accepted_before why wanted) stops,
       refused_otherwise (feature_tests wanted) why refl (sym is),
+      λ other e. (
+        ap (λ (d : DriverState). d.places) stops.driver,
+        stops.part ∙ ap (λ (w : Refusal). record (part_after_reset p2)
+            { status = 131; features = accepted_before w wanted })
+            (let same : why ≡ other = cc in same),
+      ),
     )
+
+-- what a refusal of the features leaves
+gives_up : (m : Pages) (p1 p2 p3 : Part) (d1 d2 : DriverState) (g : Guest) (wanted : ℕ)
+    (claims : List Claim) (why : Refusal) → Rogue m p1 d1 g → p1.status ≡ 0
+    → claim_refusal claims ≡ None → p2 ≡ record p1 { own = p2.own }
+    → GaveUp p2 p3 d1 d2 wanted why
+    → rogue_after g (all_backed (lacking g) (given claims) g.frames) p3 d2
+    ≡ after_refused (Init wanted) why claims g
+gives_up m p1 p2 p3 d1 d2 g wanted claims why rogue status all part gave =
+    let frames = all_backed (lacking g) (given claims) g.frames in
+    let left : Part =
+    record p1 {
+      status = 131;
+      features = accepted_before why wanted;
+      ballooned = replicate g.config.pages false;
+      last = no_statistics;
+    } in
+    let flags : replicate (length p1.ballooned) false ≡ replicate g.config.pages false =
+    ap (λ (n : ℕ). replicate n false) (ap length rogue.ballooned ∙ rogue.flagged) in
+    let told : part_said p3 ≡ part_said left =
+    ap part_said gave.1
+    ∙ ap (λ (p : Part). part_said (record (part_after_reset p)
+    { status = 131; features = accepted_before why wanted })) part
+    ∙ ap (λ (l : List Bool). part_said (record left { ballooned = l })) flags in
+    let places : d2.places ≡ g.places = gave.0 ∙ rogue.places in
+    ap (λ (x : Said). said_guest g frames x d2) told
+    ∙ ap (λ (l : List Place). record (said_guest g frames (part_said left) d2)
+    { places = l; actual = count_by is_lent_or_taking l }) places
+    ∙ ap (λ (n : ℕ). record (given_up why wanted frames g) { actual = n; target = p1.target })
+    (sym rogue.actual)
+    ∙ ap (λ (n : ℕ). record (given_up why wanted frames g) { target = n }) rogue.target
+    ∙ sym (ap (λ (n : ℕ). if_negotiated (not (n == 0)) (claim_refusal claims) g
+    (given_up why wanted frames g)) (sym rogue.status ∙ status)
+    ∙ ap (λ (o : Option Refusal). if_negotiated false o g (given_up why wanted frames g)) all)
 
 pub init_supplied_rogue : (Answers : List Bool → Claim → Type 0) (out1 out2 : List Bool)
     (l : List Claim) (m1 m2 m3 : Pages) (p1 p2 p3 : Part) (d1 d2 : DriverState) (g : Guest)
@@ -205,7 +316,10 @@ init_supplied_rogue Answers out1 out2 l m1 m2 m3 p1 p2 p3 d1 d2 g wanted feature
     let new : p2.status ≡ 0 = ap (λ (p : Part). p.status) part ∙ status in
     let same : InitsBy m2 m3 p2 p3 d1 d2 wanted result =
     subst (λ (f : ℕ). InitsBy m2 m3 p2 p3 d1 d2 f result) named inits in
-    let (left, answer) = inits_leave m2 m3 p2 p3 d1 d2 wanted result new backed same in
+    let (left, answer, gave_up) = inits_leave m2 m3 p2 p3 d1 d2 wanted result new backed same in
+    let none_before = none_refuses p1 m1 d1 g wanted status rogue in
+    let needs : pages_to_back (Init wanted) g ≡ pages =
+    ap (λ (o : Option Refusal). unless_refused o pages) none_before in
     let given_frames : Rogue m2 p2 d1 (rogue_after g frames p2 d1) =
     rogue_stands m1 m2 p1 p2 d1 d1 g frames rogue
     (record {
@@ -224,10 +338,16 @@ init_supplied_rogue Answers out1 out2 l m1 m2 m3 p1 p2 p3 d1 d2 g wanted feature
     let P : Option Refusal → Type 0 =
     λ o. MatchOption o (LosesFrames frames frames)
     (λ refusal. (ready_reply result ≡ Refused refusal) × (frames ≡ g.frames)) in
-    let step = rogue_steps m1 m3 p1 p3 d1 d2 g after (Init wanted) claims (ready_reply result) pages
-    rogue stands refl (left.target ∙ ap (λ (p : Part). p.target) part) (inr refl) made
-    (subst P (sym did.answer) (λ page frame e. e)) (no_want _ NoFrame answer refl)
-    (no_want _ NoMemory answer refl) (λ page offset bytes e. absurd cc) in
+    let step = rogue_steps m1 m3 p1 p3 d1 d2 g after (Init wanted) claims (ready_reply result)
+    rogue stands refl (left.target ∙ ap (λ (p : Part). p.target) part)
+    (subst (λ (l : List ℕ). AreClaimsFor l claims) (sym needs) made)
+    (subst (λ (l : List ℕ). MatchOption (claim_refusal claims)
+    (LosesFrames (all_backed l (given claims) g.frames) frames)
+    (λ refusal. (ready_reply result ≡ Refused refusal) × (frames ≡ g.frames))) (sym needs)
+    (subst P (sym did.answer) (λ page frame e. e))) (no_want _ NoFrame answer refl)
+    (no_want _ NoMemory answer refl)
+    (λ why e. gives_up m1 p1 p2 p3 d1 d2 g wanted claims why rogue status
+    did.answer part (gave_up why e)) (λ page offset bytes e. absurd cc) in
     let same_supply : supply_of p3 out2 ≡ supply_of p2 out2 =
     ap (λ (k : Bool). record { keeps = k; own = p3.own; out = out2 }) left.flag
     ∙ ap (λ (o : List ℕ). record { keeps = p2.keeps; own = o; out = out2 }) left.numbers in

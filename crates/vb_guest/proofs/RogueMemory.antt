@@ -1,14 +1,15 @@
 -- Bytes of a guest's pages that are written past its driver, and those that a rogue guest writes.
 use Rattle.std.specs.Prelude.{◌≡◌, ◌≢◌, ℕ, ◌<◌, Bool, true, false, List, [], ◌∷◌, length, Option}
 use Rattle.std.specs.Prelude.{Some, None, All, MatchOption, is_some, is_none, count_by, ◌≤◌, refl}
-use Rattle.std.specs.Prelude.{if◌then◌else◌}
+use Rattle.std.specs.Prelude.{if◌then◌else◌, not}
 use Rattle.std.proofs.Common.{sym, ◌∙◌, ap, subst, arith, inl, inr}
-use Rattle.std.proofs.lemmas.Bool.{cases_eq}
+use Rattle.std.proofs.lemmas.Bool.{cases_eq, true_from_ne_false}
 use Rattle.vb_model.specs.declared.calls.Call.TheVariants.{Read, Write, Scribble}
 use Rattle.vb_model.specs.declared.calls.Claim.{Claim}
 use Rattle.vb_model.specs.declared.calls.Claim.TheVariants.{Gave, GaveNoFrame, GaveNoMemory}
 use Rattle.vb_model.specs.declared.replies.Refusal.{Refusal}
-use Rattle.vb_model.specs.declared.replies.Refusal.TheVariants.{OutOfRam}
+use Rattle.vb_model.specs.declared.places.Place.{Place}
+use Rattle.vb_model.specs.declared.replies.Refusal.TheVariants.{OutOfRam, NotHeld}
 use Rattle.vb_model.specs.declared.replies.Refusal.TheVariants.{NoFrame as NoFrameLeft}
 use Rattle.vb_model.specs.declared.replies.Reply.{Reply}
 use Rattle.vb_model.specs.declared.replies.Reply.TheVariants.{Done, Refused}
@@ -20,10 +21,11 @@ use Rattle.vb_model.specs.Orderly.{times}
 use Rattle.vb_model.specs.Refusals.{refusal_of, is_outside}
 use Rattle.vb_model.specs.Requests.{Request}
 use Rattle.vb_model.specs.Rogue.{ScribbleStep, Scribbles, Scribbled, IsRogueAfter}
-use Rattle.vb_model.specs.Rogue.{LosesFrames}
+use Rattle.vb_model.specs.Rogue.{LosesFrames, pages_to_back, unless_refused, with_fault}
+use Rattle.vb_model.specs.Pages.{place_of, is_used}
 use Rattle.vb_model.specs.Status.{contains, driver_ok}
 use Rattle.vb_model.specs.Step.{GuestStep}
-use Rattle.vb_model.proofs.Wanting.{wants}
+use Rattle.vb_model.proofs.Wanting.{wants, not_refused_pages, refused_backs}
 use Rattle.vb_ram.specs.Pages.{Pages, frame_at, number_of, Covers, Wrote, Supplied}
 use Rattle.vb_ram.specs.Part.{Part}
 use Rattle.vb_frames.specs.declared.keeper.Refused.{Refused as KeeperRefused}
@@ -38,7 +40,8 @@ use Rattle.vb_guest.proofs.Moving.{moves_as, times_one}
 use Rattle.vb_guest.proofs.Offered.{high_page}
 use Rattle.vb_guest.proofs.OwnBlocks.{own_pages}
 use Rattle.vb_guest.proofs.Rogues.{driver_same, device_alike, keeps_part, rogue_after}
-use Rattle.vb_guest.proofs.Rogues.{kept_of_rogue}
+use Rattle.vb_guest.proofs.Rogues.{kept_of_rogue, rogue_same, rogue_unchanged, said, left_by}
+use Rattle.vb_guest.proofs.Rogues.{no_refusal, keeps_status, without_fault}
 use Rattle.vb_guest.proofs.Rogues.{rogue_stands, rogue_alone, rogue_steps, rogue_unclaimed}
 use Rattle.vb_guest.proofs.Standing.{by_guest, rogue_is, stands_with, stands_of, own_moved}
 use Rattle.vb_guest.proofs.Standing.{alone_stands, over_stands}
@@ -101,6 +104,7 @@ as_rogue keeps m p d g stands = by_guest keeps m p d g stands
       size = parts.device.size;
       paced = parts.device.paced;
       status = parts.device.status;
+      features = parts.device.features;
       target = parts.device.target;
       last = parts.device.last;
       ballooned = parts.device.ballooned;
@@ -127,6 +131,7 @@ as_rogue keeps m p d g stands = by_guest keeps m p d g stands
       size = rogue.size;
       paced = rogue.paced;
       status = rogue.status;
+      features = rogue.features;
       target = rogue.target;
       last = rogue.last;
       ballooned = rogue.ballooned;
@@ -142,28 +147,107 @@ as_rogue keeps m p d g stands = by_guest keeps m p d g stands
 
 -- ---- a rogue guest reads and writes
 
+-- a page that has a frame, or no bytes, needs none
+needs_nothing : (m : Pages) (g : Guest) (page : ℕ) (bs : List ℕ)
+    → ((q : ℕ) → frame_at m q ≡ frame_of g.frames q)
+    → (0 < length bs → frame_at m page ≡ None → ⊥) → pages_needed page bs g ≡ []
+needs_nothing m g page [] behind never = refl
+needs_nothing m g page (b ∷ bs) behind never = by (frame_of g.frames page) refl
+  where
+    by : (o : Option ℕ) → frame_of g.frames page ≡ o → pages_needed page (b ∷ bs) g ≡ []
+    by None e = absurd (never (omega arith) (behind page ∙ e))
+    by (Some frame) e = ap (λ (x : Option ℕ). if is_none x then page ∷ [] else []) e
+
+-- the reply is no refusal that changes the status
+abbrev pub keeps_reply : Reply → Bool
+keeps_reply (Refused why) = keeps_status why
+keeps_reply _ = true
+
+plainly_left : (reply : Reply) (why : Refusal) (g : Guest) → keeps_reply reply ≡ true
+    → reply ≡ Refused why → with_fault why g ≡ g
+plainly_left reply why g plain e = without_fault why g (sym (ap keeps_reply e) ∙ plain)
+
 pub read_rogue : (m : Pages) (p : Part) (d : DriverState) (g : Guest) (page off len : ℕ)
-    (reply : Reply) → reply ≢ Refused NoFrameLeft → Rogue m p d g
+    (reply : Reply) → reply ≢ Refused NoFrameLeft → keeps_reply reply ≡ true → Rogue m p d g
     → StepsAlone (Rogue m p d) g (Read page off len) reply
-read_rogue m p d g page off len reply answer rogue = record {
+read_rogue m p d g page off len reply answer plain rogue = record {
   new = g;
   stands = rogue;
-  step = rogue_steps m m p p d d g g (Read page off len) [] reply [] rogue rogue refl refl
-      (inl refl) tt (λ page frame e. e) (λ e. absurd (answer e)) (λ e. (inr refl, refl))
-      (λ page offset bytes e. absurd cc);
+  step = rogue_steps m m p p d d g g (Read page off len) [] reply rogue rogue refl refl tt
+      (λ page frame e. e) (λ e. absurd (answer e)) (λ e. inr refl)
+      (λ why e. sym (plainly_left reply why g plain e)) (λ page offset bytes e. absurd cc);
   frames = refl;
 }
 
--- frames are as they were
-pub write_rogue : (m1 m2 : Pages) (p1 p2 : Part) (d : DriverState) (g : Guest) (page off : ℕ)
+-- frames are as they were, and none is claimed
+write_rogue : (m1 m2 : Pages) (p1 p2 : Part) (d : DriverState) (g : Guest) (page off : ℕ)
     (bs : List ℕ) (reply : Reply) → length m2 ≡ length m1
     → ((page : ℕ) → frame_at m2 page ≡ frame_at m1 page) → p2 ≡ p1
-    → wants reply ≡ false → Rogue m1 p1 d g
-    → StepsAlone (Rogue m2 p2 d) g (Write page off bs) reply
-write_rogue m1 m2 p1 p2 d g page off bs reply count same part answer rogue =
+    → wants reply ≡ false → keeps_reply reply ≡ true → pages_to_back (Write page off bs) g ≡ []
+    → Rogue m1 p1 d g → StepsAlone (Rogue m2 p2 d) g (Write page off bs) reply
+write_rogue m1 m2 p1 p2 d g page off bs reply count same part answer plain none rogue =
     rogue_alone m1 m2 p1 p2 d d g (Write page off bs) reply rogue
     (keeps_part m1 m2 p1 p2 d d (driver_same d d refl) part count same) count same
-    (ap (λ (p : Part). p.target) part) answer (λ page offset bytes e. cc)
+    (ap (λ (p : Part). p.target) part) answer (λ page offset bytes e. cc) none
+    (λ why e. rogue_unchanged m1 p1 p2 d d g rogue refl part
+    ∙ sym (plainly_left reply why g plain e))
+
+-- what is tested of a write
+abbrev write_test : Bool → Bool → Option Refusal
+write_test used outside = first_refusal ((not used ⇒ NotHeld) ∷ (outside ⇒ OutOfRam) ∷ [])
+
+write_tested : (d : DriverState) (g : Guest) (page off : ℕ) (bs : List ℕ) (used outside : Bool)
+    → d.places ≡ g.places → is_used (place_of d.places page) ≡ used
+    → is_outside g page off (length bs) ≡ outside
+    → refusal_of g (Write page off bs) ≡ write_test used outside
+write_tested d g page off bs used outside places u o =
+    ap (λ (b : Bool). write_test b (is_outside g page off (length bs)))
+    (ap (λ (l : List Place). is_used (place_of l page)) (sym places) ∙ u)
+    ∙ ap (λ (b : Bool). write_test used b) o
+
+-- the page isn't used
+pub write_unheld_rogue : (m : Pages) (p : Part) (d : DriverState) (g : Guest) (page off : ℕ)
+    (bs : List ℕ) → is_used (place_of d.places page) ≡ false → Rogue m p d g
+    → StepsAlone (Rogue m p d) g (Write page off bs) (Refused NotHeld)
+write_unheld_rogue m p d g page off bs unused rogue =
+    write_rogue m m p p d g page off bs (Refused NotHeld) refl (λ page. refl) refl refl refl
+    (refused_backs (Write page off bs) g NotHeld
+    (write_tested d g page off bs false _ rogue.places unused refl)) rogue
+
+-- the bytes don't lie in a page
+pub write_outside_rogue : (m1 m2 : Pages) (p1 p2 : Part) (d : DriverState) (g : Guest)
+    (page off : ℕ) (bs : List ℕ) → is_used (place_of d.places page) ≡ true → m2 ≡ m1 → p2 ≡ p1
+    → (Covers m1 page off (length bs) → ⊥) → Rogue m1 p1 d g
+    → StepsAlone (Rogue m2 p2 d) g (Write page off bs) (Refused OutOfRam)
+write_outside_rogue m1 m2 p1 p2 d g page off bs used m part out rogue =
+    write_rogue m1 m2 p1 p2 d g page off bs (Refused OutOfRam) (ap (λ (m : Pages). length m) m)
+    (λ page. ap (λ (m : Pages). frame_at m page) m) part refl refl
+    (refused_backs (Write page off bs) g OutOfRam
+    (write_tested d g page off bs true true rogue.places used
+    (true_from_ne_false (is_outside g page off (length bs))
+    (λ inside. out (outside_is g m1 page off (length bs) rogue.length_is inside))))) rogue
+
+-- no frame is wanting
+pub write_done_rogue : (m1 m2 : Pages) (p1 p2 : Part) (d : DriverState) (g : Guest) (page off : ℕ)
+    (bs : List ℕ) → (0 < length bs → frame_at m1 page ≡ None → ⊥) → Wrote m1 m2 page off bs
+    → p2 ≡ p1 → Rogue m1 p1 d g → StepsAlone (Rogue m2 p2 d) g (Write page off bs) Done
+write_done_rogue m1 m2 p1 p2 d g page off bs never wrote part rogue =
+    write_rogue m1 m2 p1 p2 d g page off bs Done wrote.rest.count wrote.rest.backing part refl refl
+    (ap (λ (l : List ℕ). unless_refused (refusal_of g (Write page off bs)) l)
+    (needs_nothing m1 g page bs rogue.behind never)
+    ∙ unless_none (refusal_of g (Write page off bs))) rogue
+  where
+    unless_none : (o : Option Refusal) → unless_refused o [] ≡ []
+    unless_none None = refl
+    unless_none (Some why) = refl
+
+-- a page that is used, and bytes that lie in it
+write_fits : (m : Pages) (p : Part) (d : DriverState) (g : Guest) (page off : ℕ) (bs : List ℕ)
+    → Rogue m p d g → is_used (place_of d.places page) ≡ true → Covers m page off (length bs)
+    → refusal_of g (Write page off bs) ≡ None
+write_fits m p d g page off bs rogue used covers =
+    write_tested d g page off bs true false rogue.places used
+    (inside_is g m page off (length bs) rogue.length_is covers)
 
 -- ---- a page got a frame first
 
@@ -229,26 +313,31 @@ pub write_supplied_rogue : (Answers : List Bool → Claim → Type 0) (out1 out2
     (m1 m2 m3 m4 : Pages) (p1 p2 p3 p4 : Part) (d : DriverState) (g : Guest)
     (page off frame : ℕ) (bs : List ℕ)
     → IsClaimed Answers (supply_of p1 out1) (supply_of p2 out2) (Gave frame)
+    → is_used (place_of d.places page) ≡ true
     → Rogue m1 p1 d g → Covers m1 page off (length bs) → 0 < length bs
     → frame_at m1 page ≡ None → m2 ≡ m1
     → Supplied m2 m3 page frame → Wrote m3 m4 page off bs → p2 ≡ record p1 { own = p2.own }
     → p3 ≡ p2 → p4 ≡ p3
     → StepsOver (Rogue m4 p4 d) Answers (supply_of p1 out1) (supply_of p4 out2) (Gave frame ∷ []) g
     (Write page off bs) Done
-write_supplied_rogue Answers out1 out2 m1 m2 m3 m4 p1 p2 p3 p4 d g page off frame bs answer rogue
-    covers some bare same now wrote pa pb pc =
+write_supplied_rogue Answers out1 out2 m1 m2 m3 m4 p1 p2 p3 p4 d g page off frame bs answer used
+    rogue covers some bare same now wrote pa pb pc =
     let bare_too : frame_of g.frames page ≡ None = sym (rogue.behind page) ∙ bare in
-    let needs : pages_needed page bs g ≡ page ∷ [] = needs_one g page bs some bare_too in
+    let needs : pages_to_back (Write page off bs) g ≡ page ∷ [] =
+    ap (λ (o : Option Refusal). unless_refused o (pages_needed page bs g))
+    (write_fits m1 p1 d g page off bs rogue used covers) ∙ needs_one g page bs some bare_too in
     let new : Guest = rogue_after g (backed page frame g.frames) p4 d in
     let stands = supplied_rogue m1 m2 m3 m4 p1 p2 p3 p4 d g page off frame bs covers same now wrote
     pa pb pc rogue in
     record {
       new = new;
       stands = stands;
-      step = rogue_steps m1 m4 p1 p4 d d g new (Write page off bs) (Gave frame ∷ []) Done
-          (page ∷ []) rogue stands refl (ap (λ (p : Part). p.target) (pc ∙ pb ∙ pa))
-          (inr (sym needs)) tt (λ page frame e. e) (λ e. absurd cc) (λ e. absurd cc)
-          (λ page offset bytes e. absurd cc);
+      step = rogue_steps m1 m4 p1 p4 d d g new (Write page off bs) (Gave frame ∷ []) Done rogue
+          stands refl (ap (λ (p : Part). p.target) (pc ∙ pb ∙ pa))
+          (subst (λ (l : List ℕ). AreClaimsFor l (Gave frame ∷ [])) (sym needs) tt)
+          (subst (λ (l : List ℕ). LosesFrames (all_backed l (frame ∷ []) g.frames) new.frames)
+          (sym needs) (λ page frame e. e)) (λ e. absurd cc) (λ e. absurd cc)
+          (λ why e. no_refusal Done why refl e) (λ page offset bytes e. absurd cc);
       answered = (supply_of p2 out2, answer, tt);
       moves = supplied_moves Answers out1 out2 m1 p1 p2 p4 g new page frame answer (pc ∙ pb)
           (omega (arith, covers.page, rogue.length_is, rogue.framed)) bare_too refl;
@@ -265,6 +354,11 @@ refused_for : (why : KeeperRefused) (page : ℕ)
 refused_for NoFrame page = (refl, refl)
 refused_for Memory page = (refl, refl)
 
+-- it leaves the status alone
+claim_fault : (why : KeeperRefused) (g : Guest) → with_fault (refusal_of_claim why) g ≡ g
+claim_fault NoFrame g = refl
+claim_fault Memory g = refl
+
 refused_claimed : (Answers : List Bool → Claim → Type 0) (out1 out2 : List Bool) (p1 p2 : Part)
     (why : KeeperRefused)
     → IsClaimed Answers (supply_of p1 out1) (supply_of p2 out2) (claim_of why)
@@ -276,20 +370,23 @@ refused_claimed Answers out1 out2 p1 p2 Memory a = ((supply_of p2 out2, a, refl)
 pub write_unsupplied_rogue : (Answers : List Bool → Claim → Type 0) (out1 out2 : List Bool)
     (m1 m2 : Pages) (p1 p2 : Part) (d : DriverState) (g : Guest) (page off : ℕ) (bs : List ℕ)
     (why : KeeperRefused)
-    → IsClaimed Answers (supply_of p1 out1) (supply_of p2 out2) (claim_of why) → Rogue m1 p1 d g
+    → IsClaimed Answers (supply_of p1 out1) (supply_of p2 out2) (claim_of why)
+    → is_used (place_of d.places page) ≡ true → Rogue m1 p1 d g → Covers m1 page off (length bs)
     → 0 < length bs → frame_at m1 page ≡ None → m2 ≡ m1 → p2 ≡ record p1 { own = p2.own }
     → StepsOver (Rogue m2 p2 d) Answers (supply_of p1 out1) (supply_of p2 out2)
     (claim_of why ∷ []) g (Write page off bs) (Refused (refusal_of_claim why))
-write_unsupplied_rogue Answers out1 out2 m1 m2 p1 p2 d g page off bs why answer rogue some bare m
-    p =
-    let needs : pages_needed page bs g ≡ page ∷ [] =
-    needs_one g page bs some (sym (rogue.behind page) ∙ bare) in
+write_unsupplied_rogue Answers out1 out2 m1 m2 p1 p2 d g page off bs why answer used rogue covers
+    some bare m p =
+    let needs : pages_to_back (Write page off bs) g ≡ page ∷ [] =
+    ap (λ (o : Option Refusal). unless_refused o (pages_needed page bs g))
+    (write_fits m1 p1 d g page off bs rogue used covers)
+    ∙ needs_one g page bs some (sym (rogue.behind page) ∙ bare) in
     let refused = refused_for why page in
     let claimed = refused_claimed Answers out1 out2 p1 p2 why answer in
     rogue_unclaimed Answers out1 out2 m1 m2 p1 p2 d g (Write page off bs) (claim_of why ∷ [])
     (refusal_of_claim why) rogue m p
     (subst (λ (l : List ℕ). AreClaimsFor l (claim_of why ∷ [])) (sym needs) refused.0) refused.1
-    refl (λ page offset bytes e. absurd cc) claimed.0 claimed.1
+    refl (claim_fault why g) (λ page offset bytes e. absurd cc) claimed.0 claimed.1
 
 -- ---- a scribble
 
@@ -316,16 +413,21 @@ same_scribble page off bs q o b g claims reply new e step =
 -- the step is one of an honest guest, and of a rogue one as well
 scribble_step : (m1 m2 : Pages) (p1 p2 : Part) (d : DriverState) (g new : Guest)
     (page off : ℕ) (bs : List ℕ) (claims : List Claim) (keeps : Bool)
-    → Stands keeps m1 p1 d g → Rogue m2 p2 d new → new.config ≡ g.config
-    → p2.target ≡ p1.target → AreClaimsFor (pages_needed page bs g) claims
+    → Stands keeps m1 p1 d g → Rogue m2 p2 d new → AreClaimsFor (pages_needed page bs g) claims
     → claim_refusal claims ≡ None
-    → new.frames ≡ all_backed (pages_needed page bs g) (given claims) g.frames
+    → new ≡ record g {
+      frames = all_backed (pages_needed page bs g) (given claims) g.frames;
+      contents = new.contents;
+      rogue = true;
+    }
     → refusal_of g (Scribble page off bs) ≡ None
     → GuestStep g (Scribble page off bs) claims Done new
-scribble_step m1 m2 p1 p2 d g new page off bs claims keeps stands rogue config target made all
-    frames free =
+scribble_step m1 m2 p1 p2 d g new page off bs claims keeps stands rogue made all left free =
     let old = as_rogue keeps m1 p1 d g stands in
     let filled : List (Option ℕ) = all_backed (pages_needed page bs g) (given claims) g.frames in
+    let config : new.config ≡ g.config = ap (λ (x : Guest). x.config) left in
+    let frames : new.frames ≡ filled = ap (λ (x : Guest). x.frames) left in
+    let target : new.target ≡ g.target = ap (λ (x : Guest). x.target) left in
     let after : IsRogueAfter (record g { frames = filled }) new = record {
       still = rogue.rogue;
       config = config;
@@ -337,12 +439,8 @@ scribble_step m1 m2 p1 p2 d g new page off bs claims keeps stands rogue config t
         filled = rogue.filled;
       };
     } in
-    let done : Scribbled (record g { frames = filled }) Done new = record {
-      answered = refl;
-      state = after;
-      target = sym rogue.target ∙ target ∙ old.target;
-      frames = frames;
-    } in
+    let done : Scribbled (record g { frames = filled }) Done new =
+    record { answered = refl; state = after; memory = left } in
     let M : Option Refusal → Type 0 =
     λ o. MatchOption o (Scribbled (record g { frames = filled }) Done new)
     (λ refusal. (Done ≡ Refused refusal) × (new ≡ g)) in
@@ -351,28 +449,31 @@ scribble_step m1 m2 p1 p2 d g new page off bs claims keeps stands rogue config t
     λ o. MatchOption o (Scribbles page bs g claims Done new)
     (λ refusal. (claims ≡ []) × (Done ≡ Refused refusal) × (new ≡ g)) in
     let step : ScribbleStep page off bs g claims Done new = subst S (sym free) scribbles in
+    let needs : pages_to_back (Scribble page off bs) g ≡ pages_needed page bs g =
+    ap (λ (o : Option Refusal). unless_refused o (pages_needed page bs g)) free in
     by_guest keeps m1 p1 d g stands
     (λ honest. guest_step g (Scribble page off bs) claims Done new
     honest.ties.parts.guest.honest step)
     (λ was. rogue_steps m1 m2 p1 p2 d d g new (Scribble page off bs) claims Done
-    (pages_needed page bs g) was rogue config target (inr refl) made
-    (let F : Option Refusal → Type 0 =
-    λ o. MatchOption o (LosesFrames filled new.frames)
+    was rogue config (rogue.target ∙ target ∙ sym was.target)
+    (subst (λ (l : List ℕ). AreClaimsFor l claims) (sym needs) made)
+    (let F : Option Refusal → List ℕ → Type 0 =
+    λ o l. MatchOption o (LosesFrames (all_backed l (given claims) g.frames) new.frames)
     (λ refusal. (Done ≡ Refused refusal) × (new.frames ≡ g.frames)) in
-    subst F (sym all) (λ q frame e. ap (λ (l : List (Option ℕ)). frame_of l q) (sym frames) ∙ e))
-    (λ e. absurd cc) (λ e. absurd cc)
+    subst (λ (l : List ℕ). F (claim_refusal claims) l) (sym needs)
+    (subst (λ (o : Option Refusal). F o (pages_needed page bs g)) (sym all)
+    (λ q frame e. ap (λ (l : List (Option ℕ)). frame_of l q) (sym frames) ∙ e)))
+    (λ e. absurd cc) (λ e. absurd cc) (λ why e. no_refusal Done why refl e)
     (λ q o b e. same_scribble page off bs q o b g claims Done new e step))
 
--- a page that has a frame, or no bytes, needs none
-needs_nothing : (m : Pages) (g : Guest) (page : ℕ) (bs : List ℕ)
-    → ((q : ℕ) → frame_at m q ≡ frame_of g.frames q)
-    → (0 < length bs → frame_at m page ≡ None → ⊥) → pages_needed page bs g ≡ []
-needs_nothing m g page [] behind never = refl
-needs_nothing m g page (b ∷ bs) behind never = by (frame_of g.frames page) refl
-  where
-    by : (o : Option ℕ) → frame_of g.frames page ≡ o → pages_needed page (b ∷ bs) g ≡ []
-    by None e = absurd (never (omega arith) (behind page ∙ e))
-    by (Some frame) e = ap (λ (x : Option ℕ). if is_none x then page ∷ [] else []) e
+-- where driver and device are as they were, but for the device's own frames
+marked_after : (m : Pages) (p1 p2 : Part) (d : DriverState) (g : Guest)
+    (frames : List (Option ℕ)) → Rogue m p1 d (marked g) → p2 ≡ record p1 { own = p2.own }
+    → rogue_after (marked g) frames p2 d ≡ record g { frames = frames; rogue = true }
+marked_after m p1 p2 d g frames rogue part =
+    rogue_same m p1 p2 d d (marked g) frames rogue refl (ap said part)
+    ∙ ap (λ (n : ℕ). record g { frames = frames; rogue = true; status = n })
+    (ap (λ (p : Part). p.status) part ∙ rogue.status)
 
 -- no frame was wanting
 pub scribble_alone : (keeps : Bool) (m1 m2 : Pages) (p1 p2 : Part) (d : DriverState) (g : Guest)
@@ -391,11 +492,12 @@ scribble_alone keeps m1 m2 p1 p2 d g page off bs stands covers never wrote part 
       new = new;
       stands = stands_with keeps m1 m2 p1 p2 d d g new stands (ap (λ (p : Part). p.keeps) part)
           (ap (λ (p : Part). p.own) part) refl (rogue_is m2 p2 d new rogue);
-      step = scribble_step m1 m2 p1 p2 d g new page off bs [] keeps stands rogue refl
-          (ap (λ (p : Part). p.target) part)
+      step = scribble_step m1 m2 p1 p2 d g new page off bs [] keeps stands rogue
           (subst (λ (l : List ℕ). AreClaimsFor l []) (sym needs) tt) refl
-          (ap (λ (l : List ℕ). all_backed l [] g.frames) (sym needs))
-          (scribble_fits m1 g page off bs old.length_is covers);
+          (marked_after m1 p1 p2 d g g.frames old
+          (part ∙ ap (λ (l : List ℕ). record p1 { own = l }) (sym (ap (λ (p : Part). p.own) part)))
+          ∙ ap (λ (l : List ℕ). record g { frames = all_backed l [] g.frames; rogue = true })
+          (sym needs)) (scribble_fits m1 g page off bs old.length_is covers);
       frames = refl;
     }
 
@@ -415,9 +517,13 @@ scribble_outside keeps m1 m2 p1 p2 d g page off bs stands m p out =
     record {
       new = g;
       stands = same;
-      step = rogue_steps m1 m2 p1 p2 d d g g (Scribble page off bs) [] (Refused OutOfRam) [] rogue
-          same refl (ap (λ (x : Part). x.target) p) (inl refl) tt (λ q frame e. e) (λ e. absurd cc)
-          (λ e. absurd cc) (λ q o b e. same_scribble page off bs q o b g [] (Refused OutOfRam) g e step);
+      step = rogue_steps m1 m2 p1 p2 d d g g (Scribble page off bs) [] (Refused OutOfRam) rogue
+          same refl (ap (λ (x : Part). x.target) p)
+          (subst (λ (l : List ℕ). AreClaimsFor l []) (sym none) tt)
+          (subst (λ (l : List ℕ). LosesFrames (all_backed l [] g.frames) g.frames) (sym none)
+          (λ q frame e. e)) (λ e. absurd cc) (λ e. absurd cc)
+          (left_by (Scribble page off bs) OutOfRam [] g g refl)
+          (λ q o b e. same_scribble page off bs q o b g [] (Refused OutOfRam) g e step);
       frames = refl;
     }))
   where
@@ -432,6 +538,9 @@ scribble_outside keeps m1 m2 p1 p2 d g page off bs stands m p out =
     refused : refusal_of g (Scribble page off bs) ≡ Some OutOfRam
     refused = ap (λ (b : Bool). first_refusal ((b ⇒ OutOfRam) ∷ []))
         (outside (is_outside g page off (length bs)) refl)
+
+    none : pages_to_back (Scribble page off bs) g ≡ []
+    none = refused_backs (Scribble page off bs) g OutOfRam refused
 
     step : ScribbleStep page off bs g [] (Refused OutOfRam) g
     step =
@@ -464,8 +573,10 @@ scribble_unsupplied keeps Answers out1 out2 m1 m2 p1 p2 d g page off bs why answ
           (λ n. backing_count n g) (λ n. backing_count n g) claimed.1 (λ n. omega arith);
     })
     (λ rogue. rogue_unclaimed Answers out1 out2 m1 m2 p1 p2 d g (Scribble page off bs)
-    (claim_of why ∷ []) (refusal_of_claim why) rogue m p made (refused_for why page).1 refl
-    (λ q o b e. same_scribble page off bs q o b g (claim_of why ∷ [])
+    (claim_of why ∷ []) (refusal_of_claim why) rogue m p
+    (not_refused_pages (refusal_of g (Scribble page off bs)) (pages_needed page bs g)
+    (claim_of why ∷ []) (scribble_fits m1 g page off bs old.length_is covers) made)
+    (refused_for why page).1 refl (claim_fault why g) (λ q o b e. same_scribble page off bs q o b g (claim_of why ∷ [])
     (Refused (refusal_of_claim why)) g e step) claimed.0 claimed.1)
   where
     old : Rogue m1 p1 d (marked g)
@@ -522,10 +633,13 @@ scribble_supplied keeps Answers out1 out2 m1 m2 m3 m4 p1 p2 p3 p4 d g page off f
       new = new;
       stands = stands_of keeps m4 p4 d new (rogue_is m4 p4 d new rogue)
           (own_moved keeps p1 p4 out1 out2 g new moves stands.own);
-      step = scribble_step m1 m4 p1 p4 d g new page off bs (Gave frame ∷ []) keeps stands rogue refl
-          (ap (λ (p : Part). p.target) (pc ∙ pb ∙ pa))
+      step = scribble_step m1 m4 p1 p4 d g new page off bs (Gave frame ∷ []) keeps stands rogue
           (subst (λ (l : List ℕ). AreClaimsFor l (Gave frame ∷ [])) (sym needs) tt) refl
-          (ap (λ (l : List ℕ). all_backed l (frame ∷ []) g.frames) (sym needs))
+          (marked_after m1 p1 p4 d g (backed page frame g.frames) old
+          (pc ∙ pb ∙ pa ∙ ap (λ (l : List ℕ). record p1 { own = l })
+          (sym (ap (λ (p : Part). p.own) (pc ∙ pb))))
+          ∙ ap (λ (l : List ℕ). record g
+          { frames = all_backed l (frame ∷ []) g.frames; rogue = true }) (sym needs))
           (scribble_fits m1 g page off bs old.length_is covers);
       answered = (supply_of p2 out2, answer, tt);
       moves = moves;

@@ -6,19 +6,22 @@ use Rattle.std.proofs.Common.{sym, ◌∙◌, ap, subst, inl, inr, arith}
 use Rattle.vb_model.specs.declared.calls.Call.{Call}
 use Rattle.vb_model.specs.declared.calls.Call.TheVariants.{Scribble}
 use Rattle.vb_model.specs.declared.calls.Claim.{Claim}
+use Rattle.vb_model.specs.declared.places.Place.{Place}
 use Rattle.vb_model.specs.declared.replies.Refusal.{Refusal}
-use Rattle.vb_model.specs.declared.replies.Refusal.TheVariants.{NoFrame, NoMemory}
+use Rattle.vb_model.specs.declared.replies.Refusal.TheVariants.{NoFrame, NoMemory, Broken}
+use Rattle.vb_model.specs.declared.replies.Refusal.TheVariants.{RingBroken}
 use Rattle.vb_model.specs.declared.replies.Reply.{Reply}
 use Rattle.vb_model.specs.declared.replies.Reply.TheVariants.{Refused}
 use Rattle.vb_model.specs.Limits.{reserved_pages}
 use Rattle.vb_model.specs.Pages.{is_lent_or_taking}
 use Rattle.vb_model.specs.Status.{contains, driver_ok}
-use Rattle.vb_model.specs.Guest.{Guest, frame_of, is_ballooned, all_backed}
+use Rattle.vb_model.specs.Guest.{Guest, LastStatistics, frame_of, is_ballooned, all_backed}
 use Rattle.vb_model.specs.Driver.{given, claim_refusal, AreClaimsFor}
-use Rattle.vb_model.specs.Rogue.{RogueStep, ScribbleStep, LosesFrames, may_need, target_after}
-use Rattle.vb_model.specs.Rogue.{is_read}
+use Rattle.vb_model.specs.Rogue.{RogueStep, ScribbleStep, LosesFrames, pages_to_back, is_read}
+use Rattle.vb_model.specs.Rogue.{target_after, after_refused, with_fault}
 use Rattle.vb_model.specs.Step.{HonestStep, GuestStep}
 use Rattle.vb_model.proofs.Wanting.{wants, no_want}
+use Rattle.vb_model.proofs.Refusing.{is_refused, not_this}
 use Rattle.vb_ram.specs.Pages.{Pages, frame_at}
 use Rattle.vb_ram.specs.Part.{Part, no_part}
 use Rattle.vb_driver.specs.State.{DriverState}
@@ -88,6 +91,7 @@ rogue_after g frames part d =
       places = d.places;
       actual = count_by is_lent_or_taking d.places;
       status = part.status;
+      features = part.features;
       target = part.target;
       last = part.last;
       ballooned = part.ballooned;
@@ -111,6 +115,7 @@ rogue_stands m1 m2 p1 p2 d1 d2 g frames rogue keeps count framed behind = record
   size = keeps.device.size ∙ rogue.size;
   paced = keeps.device.paced ∙ rogue.paced;
   status = refl;
+  features = refl;
   target = refl;
   last = refl;
   ballooned = refl;
@@ -126,28 +131,119 @@ rogue_stands m1 m2 p1 p2 d1 d2 g frames rogue keeps count framed behind = record
   up = keeps.up rogue.up;
 }
 
+-- what a device says of its guest where that is rogue, but its status
+abbrev pub said : Part → Part
+said p =
+    record no_part {
+      features = p.features;
+      target = p.target;
+      last = p.last;
+      ballooned = p.ballooned;
+    }
+
+-- where driver and device say what they said, the guest has other frames and another status at most
+pub rogue_same : (m : Pages) (p1 p2 : Part) (d1 d2 : DriverState) (g : Guest)
+    (frames : List (Option ℕ)) → Rogue m p1 d1 g → d2.places ≡ d1.places → said p2 ≡ said p1
+    → rogue_after g frames p2 d2 ≡ record g { frames = frames; status = p2.status }
+rogue_same m p1 p2 d1 d2 g frames rogue places same =
+    let a : d2.places ≡ g.places = places ∙ rogue.places in
+    let b : count_by is_lent_or_taking d2.places ≡ g.actual =
+    ap (λ (l : List Place). count_by is_lent_or_taking l) a ∙ sym rogue.actual in
+    let c : p2.features ≡ g.features = ap (λ (p : Part). p.features) same ∙ rogue.features in
+    let d : p2.target ≡ g.target = ap (λ (p : Part). p.target) same ∙ rogue.target in
+    let e : p2.last ≡ g.last = ap (λ (p : Part). p.last) same ∙ rogue.last in
+    let f : p2.ballooned ≡ g.ballooned = ap (λ (p : Part). p.ballooned) same ∙ rogue.ballooned in
+    ap (λ (x : List Place). record (rogue_after g frames p2 d2) { places = x }) a
+    ∙ ap (λ (x : ℕ). record (rogue_after g frames p2 d2) { places = g.places; actual = x }) b
+    ∙ ap (λ (x : ℕ). record g {
+      status = p2.status;
+      features = x;
+      target = p2.target;
+      last = p2.last;
+      ballooned = p2.ballooned;
+      frames = frames;
+    }) c
+    ∙ ap (λ (x : ℕ). record g {
+      status = p2.status;
+      target = x;
+      last = p2.last;
+      ballooned = p2.ballooned;
+      frames = frames;
+    }) d
+    ∙ ap (λ (x : LastStatistics). record g {
+      status = p2.status;
+      last = x;
+      ballooned = p2.ballooned;
+      frames = frames;
+    }) e
+    ∙ ap (λ (x : List Bool). record g {
+      status = p2.status;
+      ballooned = x;
+      frames = frames;
+    }) f
+
+-- the device is as it was
+pub rogue_unchanged : (m : Pages) (p1 p2 : Part) (d1 d2 : DriverState) (g : Guest)
+    → Rogue m p1 d1 g → d2.places ≡ d1.places → p2 ≡ p1 → rogue_after g g.frames p2 d2 ≡ g
+rogue_unchanged m p1 p2 d1 d2 g rogue places part =
+    rogue_same m p1 p2 d1 d2 g g.frames rogue places (ap said part)
+    ∙ ap (λ (n : ℕ). record g { status = n }) (ap (λ (p : Part). p.status) part ∙ rogue.status)
+
 -- ---- its step
 
 -- it is no scribble
 abbrev pub IsOther : Call → Type 0
 IsOther call = (page offset : ℕ) (bytes : List ℕ) → call ≢ Scribble page offset bytes
 
+-- the guest is as a refusal leaves it, where the reply is one
+abbrev pub IsLeft : Call → Reply → List Claim → Guest → Guest → Type 0
+IsLeft call reply claims g new = (why : Refusal) → reply ≡ Refused why
+    → new ≡ after_refused call why claims g
+
+-- this refusal
+pub left_by : (call : Call) (why : Refusal) (claims : List Claim) (g new : Guest)
+    → new ≡ after_refused call why claims g → IsLeft call (Refused why) claims g new
+left_by call why claims g new left other e =
+    subst (λ (w : Refusal). new ≡ after_refused call w claims g) (let same : why ≡ other = cc in same)
+    left
+
+-- none
+pub no_refusal : {A : Type 0} (reply : Reply) (why : Refusal) → is_refused reply ≡ false
+    → reply ≡ Refused why → A
+no_refusal reply why none e = not_this why reply (sym e) none
+
+-- a refusal that leaves the status alone, and one that isn't of a broken rule
+abbrev pub keeps_status : Refusal → Bool
+keeps_status (Broken fault) = false
+keeps_status RingBroken = false
+keeps_status _ = true
+
+abbrev pub is_of_driver : Refusal → Bool
+is_of_driver (Broken fault) = false
+is_of_driver _ = true
+
+pub without_fault : (why : Refusal) (g : Guest) → keeps_status why ≡ true → with_fault why g ≡ g
+without_fault (Broken fault) g e = absurd cc
+without_fault RingBroken g e = absurd cc
+without_fault _ g e = refl
+
 -- the guest afterwards is bound by what the call claimed
 pub rogue_steps : (m1 m2 : Pages) (p1 p2 : Part) (d1 d2 : DriverState) (g new : Guest)
-    (call : Call) (claims : List Claim) (reply : Reply) (pages : List ℕ) → Rogue m1 p1 d1 g
+    (call : Call) (claims : List Claim) (reply : Reply) → Rogue m1 p1 d1 g
     → Rogue m2 p2 d2 new → new.config ≡ g.config → p2.target ≡ target_after call p1.target
-    → (pages ≡ []) ⊎ (pages ≡ may_need call g) → AreClaimsFor pages claims
+    → AreClaimsFor (pages_to_back call g) claims
     → MatchOption (claim_refusal claims)
-    (LosesFrames (all_backed pages (given claims) g.frames) new.frames)
+    (LosesFrames (all_backed (pages_to_back call g) (given claims) g.frames) new.frames)
     (λ refusal. (reply ≡ Refused refusal) × (new.frames ≡ g.frames))
     → (reply ≡ Refused NoFrame → claim_refusal claims ≡ Some NoFrame)
     → (reply ≡ Refused NoMemory
-    → ((claim_refusal claims ≡ Some NoMemory) ⊎ (is_read call ≡ true)) × (new ≡ g))
+    → (claim_refusal claims ≡ Some NoMemory) ⊎ (is_read call ≡ true))
+    → IsLeft call reply claims g new
     → ((page offset : ℕ) (bytes : List ℕ) → call ≡ Scribble page offset bytes
     → ScribbleStep page offset bytes g claims reply new)
     → GuestStep g call claims reply new
-rogue_steps m1 m2 p1 p2 d1 d2 g new call claims reply pages old after config target needed claimed
-    frames no_frame no_memory scribble =
+rogue_steps m1 m2 p1 p2 d1 d2 g new call claims reply old after config target claimed frames
+    no_frame no_memory left scribble =
     let step : RogueStep g call claims reply new = record {
       stays = record {
         still = after.rogue;
@@ -161,12 +257,11 @@ rogue_steps m1 m2 p1 p2 d1 d2 g new call claims reply pages old after config tar
         };
       };
       target = sym after.target ∙ target ∙ ap (target_after call) old.target;
-      pages = pages;
-      needed = needed;
       claimed = claimed;
       frames = frames;
       no_frame = no_frame;
       no_memory = no_memory;
+      refused = left;
       scribble = scribble;
     } in
     let P : Bool → Type 0 =
@@ -177,27 +272,31 @@ rogue_steps m1 m2 p1 p2 d1 d2 g new call claims reply pages old after config tar
 pub rogue_step : (m1 m2 : Pages) (p1 p2 : Part) (d1 d2 : DriverState) (g : Guest)
     (frames : List (Option ℕ)) (call : Call) (reply : Reply) → Rogue m1 p1 d1 g
     → Rogue m2 p2 d2 (rogue_after g frames p2 d2) → p2.target ≡ target_after call p1.target
-    → LosesFrames g.frames frames → wants reply ≡ false → IsOther call
+    → LosesFrames g.frames frames → wants reply ≡ false → IsOther call → pages_to_back call g ≡ []
+    → IsLeft call reply [] g (rogue_after g frames p2 d2)
     → GuestStep g call [] reply (rogue_after g frames p2 d2)
-rogue_step m1 m2 p1 p2 d1 d2 g frames call reply old new target loses answer other =
-    rogue_steps m1 m2 p1 p2 d1 d2 g (rogue_after g frames p2 d2) call [] reply [] old new refl
-    target (inl refl) tt loses (no_want reply NoFrame answer refl)
-    (no_want reply NoMemory answer refl) (λ page offset bytes e. absurd (other page offset bytes e))
+rogue_step m1 m2 p1 p2 d1 d2 g frames call reply old new target loses answer other none left =
+    rogue_steps m1 m2 p1 p2 d1 d2 g (rogue_after g frames p2 d2) call [] reply old new refl target
+    (subst (λ (l : List ℕ). AreClaimsFor l []) (sym none) tt)
+    (subst (λ (l : List ℕ). LosesFrames (all_backed l [] g.frames) frames) (sym none) loses)
+    (no_want reply NoFrame answer refl) (no_want reply NoMemory answer refl) left
+    (λ page offset bytes e. absurd (other page offset bytes e))
 
 -- and no page changes its frame
 pub rogue_alone : (m1 m2 : Pages) (p1 p2 : Part) (d1 d2 : DriverState) (g : Guest) (call : Call)
     (reply : Reply) → Rogue m1 p1 d1 g → Keeps m1 m2 p1 p2 d1 d2 → length m2 ≡ length m1
     → ((page : ℕ) → frame_at m2 page ≡ frame_at m1 page)
     → p2.target ≡ target_after call p1.target → wants reply ≡ false → IsOther call
+    → pages_to_back call g ≡ [] → IsLeft call reply [] g (rogue_after g g.frames p2 d2)
     → StepsAlone (Rogue m2 p2 d2) g call reply
-rogue_alone m1 m2 p1 p2 d1 d2 g call reply rogue keeps count same target answer other =
+rogue_alone m1 m2 p1 p2 d1 d2 g call reply rogue keeps count same target answer other none left =
     let stands = rogue_stands m1 m2 p1 p2 d1 d2 g g.frames rogue keeps count refl
     (λ page. same page ∙ rogue.behind page) in
     record {
       new = rogue_after g g.frames p2 d2;
       stands = stands;
       step = rogue_step m1 m2 p1 p2 d1 d2 g g.frames call reply rogue stands target
-          (λ page frame e. e) answer other;
+          (λ page frame e. e) answer other none left;
       frames = refl;
     }
 
@@ -247,6 +346,7 @@ rogue_changed m1 m2 p1 p2 d g n own memory part rogue =
       size = rogue.size;
       paced = rogue.paced;
       status = rogue.status;
+      features = rogue.features;
       target = refl;
       last = rogue.last;
       ballooned = rogue.ballooned;
@@ -274,8 +374,9 @@ rogue_own m1 m2 p1 p2 d g memory part rogue =
 pub rogue_unclaimed : (Answers : List Bool → Claim → Type 0) (out1 out2 : List Bool)
     (m1 m2 : Pages) (p1 p2 : Part) (d : DriverState) (g : Guest) (call : Call)
     (claims : List Claim) (why : Refusal) → Rogue m1 p1 d g → m2 ≡ m1
-    → p2 ≡ record p1 { own = p2.own } → AreClaimsFor (may_need call g) claims
+    → p2 ≡ record p1 { own = p2.own } → AreClaimsFor (pages_to_back call g) claims
     → claim_refusal claims ≡ Some why → target_after call p1.target ≡ p1.target
+    → after_refused call why claims g ≡ g
     → ((page offset : ℕ) (bytes : List ℕ) → call ≡ Scribble page offset bytes
     → ScribbleStep page offset bytes g claims (Refused why) g)
     → AreClaimed Answers (supply_of p1 out1) claims
@@ -283,23 +384,22 @@ pub rogue_unclaimed : (Answers : List Bool → Claim → Type 0) (out1 out2 : Li
     → StepsOver (Rogue m2 p2 d) Answers (supply_of p1 out1) (supply_of p2 out2) claims g call
     (Refused why)
 rogue_unclaimed Answers out1 out2 m1 m2 p1 p2 d g call claims why rogue memory part made refused
-    still scribble answered moves =
+    still left scribble answered moves =
     let stands = rogue_own m1 m2 p1 p2 d g memory part rogue in
     let P : Option Refusal → Type 0 =
-    λ o. MatchOption o (LosesFrames (all_backed (may_need call g) (given claims) g.frames) g.frames)
+    λ o. MatchOption o
+    (LosesFrames (all_backed (pages_to_back call g) (given claims) g.frames) g.frames)
     (λ refusal. (Refused why ≡ Refused refusal) × (g.frames ≡ g.frames)) in
     record {
       new = g;
       stands = stands;
-      step = rogue_steps m1 m2 p1 p2 d d g g call claims (Refused why) (may_need call g) rogue
-          stands refl (ap (λ (p : Part). p.target) part ∙ sym still) (inr refl) made
+      step = rogue_steps m1 m2 p1 p2 d d g g call claims (Refused why) rogue stands refl
+          (ap (λ (p : Part). p.target) part ∙ sym still) made
           (subst P (sym refused) (refl, refl))
           (λ e. refused ∙ ap (λ (r : Refusal). Some r) (let same : why ≡ NoFrame = cc in same))
-          (λ e. (
-            inl (refused
-                ∙ ap (λ (r : Refusal). Some r) (let same : why ≡ NoMemory = cc in same)),
-            refl,
-          )) scribble;
+          (λ e. inl (refused
+          ∙ ap (λ (r : Refusal). Some r) (let same : why ≡ NoMemory = cc in same)))
+          (left_by call why claims g g (sym left)) scribble;
       answered = answered;
       moves = moves_as (supply_of p1 out1) (supply_of p2 out2) nothing nothing
           (λ n. backing_count n g) (λ n. backing_count n g) moves (λ n. omega arith);

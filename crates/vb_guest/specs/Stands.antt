@@ -177,6 +177,7 @@ pub record Rogue (mem : Pages) (part : Part) (d : DriverState) (g : Guest) : Typ
   pub size : part.queue_size ≡ g.config.queue_size
   pub paced : part.paced ≡ g.config.paced
   pub status : part.status ≡ g.status
+  pub features : part.features ≡ g.features
   pub target : part.target ≡ g.target
   pub last : part.last ≡ g.last
   pub ballooned : part.ballooned ≡ g.ballooned

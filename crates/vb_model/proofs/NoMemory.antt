@@ -20,7 +20,7 @@ use Rattle.vb_model.specs.FirstRefusal.{first_refusal}
 use Rattle.vb_model.specs.Guest.{Guest}
 use Rattle.vb_model.specs.Driver.{AreClaimsFor, claim_refusal}
 use Rattle.vb_model.specs.Life.{after_restart}
-use Rattle.vb_model.specs.Rogue.{may_need, is_read}
+use Rattle.vb_model.specs.Rogue.{pages_to_back, is_read}
 use Rattle.vb_model.specs.Balance.{AreTargets, shortage}
 use Rattle.vb_model.specs.World.{World, Happens, Calls, Answers, PlugsIn, guest_at}
 use Rattle.vb_model.specs.World.{with_guest, put_guest, with_targets, world_tests, needs}
@@ -69,17 +69,12 @@ calls_want n call g w v here s =
           (with_guest-again n g w.guests here),
     )
   where
-    claimed : (s.0 ≡ []) ⊎ AreClaimsFor (may_need call g) s.0
-        → claim_refusal s.0 ≡ Some NoMemory → not (is_none_of (may_need call g)) ≡ true
-    claimed (inl none) e =
-        absurd (let no : claim_refusal s.0 ≡ None = ap claim_refusal none in cc)
-    claimed (inr made) e = some_needed (may_need call g) s.0 made e
-
     may : (claim_refusal s.0 ≡ Some NoMemory) ⊎ (is_read call ≡ true)
-        → (is_read call || not (is_none_of (may_need call g))) ≡ true
-    may (inl e) = or_second (is_read call) (not (is_none_of (may_need call g)))
-        (claimed (claims_needed g call s.0 (Refused NoMemory) s.1 s.3) e)
-    may (inr read) = or_first (is_read call) (not (is_none_of (may_need call g))) read
+        → (is_read call || not (is_none_of (pages_to_back call g))) ≡ true
+    may (inl e) = or_second (is_read call) (not (is_none_of (pages_to_back call g)))
+        (some_needed (pages_to_back call g) s.0
+        (claims_needed g call s.0 (Refused NoMemory) s.1 s.3) e)
+    may (inr read) = or_first (is_read call) (not (is_none_of (pages_to_back call g))) read
 
 -- ---- a question
 

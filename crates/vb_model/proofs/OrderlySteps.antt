@@ -1,12 +1,14 @@
 -- A call that an honest guest answers leaves it in order.
 use Rattle.std.proofs.Common.{◌≡◌, ℕ, ◌<◌, Bool, true, false, cond, List, [], ◌∷◌, ◌++◌, length}
-use Rattle.std.proofs.Common.{refl, sym, ap, subst, ◌∙◌, inl, inr, arith, ◌≢◌}
+use Rattle.std.proofs.Common.{refl, sym, ap, subst, ◌∙◌, ◌⊎◌, inl, inr, arith, ◌≢◌, ◌≤◌, ◌+◌, ◌-◌}
 use Rattle.std.specs.Prelude.{◌&&◌, nat_lt, nat_le, Option, Some, None, slice_get, map}
 use Rattle.std.specs.Prelude.{if◌then◌else◌}
 use Rattle.std.specs.List.{range_with_len}
-use Rattle.std.proofs.lemmas.List.{length-map}
+use Rattle.std.proofs.lemmas.List.{length-map, get_or_past}
 use Rattle.std.proofs.lemmas.List.FromFn.{length-range_with_len, get_or-map-range_with_len}
-use Rattle.std.proofs.lemmas.Bool.{leb-false, not-false}
+use Rattle.std.proofs.lemmas.Bool.{leb-false, ltb-false, not-false, and_parts, cases_lt}
+use Rattle.std.proofs.lemmas.Bool.{true_from_ne_false}
+use Rattle.std.proofs.lemmas.Nat.{pow_pos}
 use Rattle.vb_model.specs.declared.places.Place.{Place}
 use Rattle.vb_model.specs.declared.places.Place.TheVariants.{Reserved, Free as FreePlace, Used}
 use Rattle.vb_model.specs.declared.places.Place.TheVariants.{Giving, Lent, Taking, Stranded}
@@ -21,10 +23,11 @@ use Rattle.vb_model.specs.declared.calls.Event.{Event}
 use Rattle.vb_model.specs.declared.replies.Refusal.{Refusal}
 use Rattle.vb_model.specs.declared.replies.Reply.{Reply}
 use Rattle.vb_model.specs.declared.replies.Reply.TheVariants.{Refused}
-use Rattle.vb_model.specs.Limits.{reserved_pages, min_reported_order}
+use Rattle.vb_model.specs.Limits.{reserved_pages, min_reported_order, max_order}
 use Rattle.vb_model.specs.Tests.{is_in}
 use Rattle.vb_model.specs.Pages.{Block, pages_of, pages_of_all, is_free, is_used, is_giving}
-use Rattle.vb_model.specs.Pages.{is_lent, is_taking, is_reporting, place_of, placed}
+use Rattle.vb_model.specs.Pages.{is_lent, is_taking, is_reporting, place_of, placed, size}
+use Rattle.vb_model.specs.Pages.{is_aligned, is_wholly_free, is_same_block}
 use Rattle.vb_model.specs.Requests.{Request, Requests, no_requests, outstanding, Kind, Inflating}
 use Rattle.vb_model.specs.Requests.{Deflating, Reporting_free, kind_of_queue, place_after, Buffer}
 use Rattle.vb_model.specs.Requests.{NoBuffer, BufferPosted, BufferTaken, BufferDone}
@@ -32,17 +35,18 @@ use Rattle.vb_model.specs.Guest.{Guest, Config, fresh, requests, with_requests}
 use Rattle.vb_model.specs.Refusals.{refusal_of, tests, room, deflate_count, oom_count}
 use Rattle.vb_model.specs.Refusals.{reported_blocks}
 use Rattle.vb_model.specs.Driver.{Reaps, Fills, Written, pages_needed, stranded_first, lowest_lent}
-use Rattle.vb_model.specs.Driver.{reaped}
+use Rattle.vb_model.specs.Driver.{reaped, with_block, without_block}
 use Rattle.vb_model.specs.Device.{Takes, TakesBuffer, Finishes, Asks, settled, used, visited}
 use Rattle.vb_model.specs.Life.{feature_refusal, Negotiates, lacking, place_after_reset}
-use Rattle.vb_model.specs.Life.{after_reset}
+use Rattle.vb_model.specs.Life.{after_reset, feature_tests}
 use Rattle.vb_model.specs.Rogue.{Scribbled}
 use Rattle.vb_model.specs.Step.{Performs, HonestStep}
 use Rattle.vb_model.specs.Consistent.{IsConsistent}
-use Rattle.vb_model.specs.Orderly.{AreOrderly, IsOrderly, is_reserved}
+use Rattle.vb_model.specs.Orderly.{AreOrderly, IsOrderly, is_reserved, IsBlock, AreBlocks}
+use Rattle.vb_model.specs.Orderly.{AreAgreed}
 use Rattle.vb_model.specs.World.{World, WorldStep, guest_at}
 use Rattle.vb_model.proofs.Tables.{length-each_from}
-use Rattle.vb_model.proofs.PageSteps.{can_be_given, after_take, after_reap}
+use Rattle.vb_model.proofs.PageSteps.{can_be_given, after_take, after_reap, outside-range}
 use Rattle.vb_model.proofs.GuestSteps.{placed-get, not_reserved, held_used, inflate_giving}
 use Rattle.vb_model.proofs.GuestSteps.{deflate_taking, report_reporting, place_of-reset}
 use Rattle.vb_model.proofs.GuestSteps.{first_place}
@@ -100,6 +104,57 @@ reset_reserved Taking = refl
 reset_reserved Stranded = refl
 reset_reserved Reporting = refl
 
+-- ---- held blocks
+
+-- a block whose pages are all free
+free_block : (pages : ℕ) (places : List Place) (b : Block) → length places ≡ pages
+    → b.order ≤ max_order → is_wholly_free places b ≡ true → IsBlock pages b
+free_block pages places b sized small whole =
+    record {
+      order = small;
+      aligned = (and_parts (is_aligned b) _ whole).0;
+      inside = inside (cases_lt pages (b.start + size b));
+    }
+  where
+    positive : 0 < size b
+    positive = pow_pos b.order
+
+    last : ℕ
+    last = b.start + size b - 1
+
+    past : pages < b.start + size b → ⊥
+    past lt = not_reserved (place_of places last) is_free refl
+        (wholly_free_pages places b last whole
+        (true_from_ne_false (is_in last (pages_of b)) (λ out. outside-range last b.start (size b) out
+        (omega (arith, positive)) (omega (arith, positive)))))
+        (get_or_past places last Reserved (omega (arith, lt, positive, sized)))
+
+    inside : (pages < b.start + size b) ⊎ (b.start + size b ≤ pages) → b.start + size b ≤ pages
+    inside (inl lt) = absurd (past lt)
+    inside (inr le) = le
+
+blocks_with : (pages : ℕ) (b : Block) (held : List Block) → IsBlock pages b → AreBlocks pages held
+    → AreBlocks pages (with_block b held)
+blocks_with pages b [] is are = (is, tt)
+blocks_with pages b (x ∷ held) is are =
+    step (nat_lt b.start x.start) (blocks_with pages b held is are.1)
+  where
+    step : (v : Bool) → AreBlocks pages (with_block b held)
+        → AreBlocks pages (cond v (b ∷ x ∷ held) (x ∷ with_block b held))
+    step true later = (is, are)
+    step false later = (are.0, later)
+
+blocks_without : (pages : ℕ) (b : Block) (held : List Block) → AreBlocks pages held
+    → AreBlocks pages (without_block b held)
+blocks_without pages b [] are = tt
+blocks_without pages b (x ∷ held) are =
+    step (is_same_block x b) (blocks_without pages b held are.1)
+  where
+    step : (v : Bool) → AreBlocks pages (without_block b held)
+        → AreBlocks pages (cond v held (x ∷ without_block b held))
+    step true later = are.1
+    step false later = (are.0, later)
+
 -- ---- a new request
 
 with_inflate : (g : Guest) (rs : Requests) (places : List Place) → IsOrderly g
@@ -113,6 +168,8 @@ with_inflate g rs places h o l u =
       state = h.state;
       tabled = l;
       unreserved = u;
+      blocks = h.blocks;
+      agreed = h.agreed;
     }
 
 with_deflate : (g : Guest) (rs : Requests) (places : List Place) → IsOrderly g
@@ -126,6 +183,8 @@ with_deflate g rs places h o l u =
       state = h.state;
       tabled = l;
       unreserved = u;
+      blocks = h.blocks;
+      agreed = h.agreed;
     }
 
 with_report : (g : Guest) (rs : Requests) (places : List Place) → IsOrderly g → AreOrderly 1 rs
@@ -139,6 +198,8 @@ with_report g rs places h o l u =
       state = h.state;
       tabled = l;
       unreserved = u;
+      blocks = h.blocks;
+      agreed = h.agreed;
     }
 
 has_room : (most now : ℕ) → nat_le most now ≡ false → now < most
@@ -157,6 +218,8 @@ kept_take Inflating g r rest h e =
       state = h.state;
       tabled = h.tabled;
       unreserved = h.unreserved;
+      blocks = h.blocks;
+      agreed = h.agreed;
     }
 kept_take Deflating g r rest h e =
     record {
@@ -166,6 +229,8 @@ kept_take Deflating g r rest h e =
       state = h.state;
       tabled = h.tabled;
       unreserved = h.unreserved;
+      blocks = h.blocks;
+      agreed = h.agreed;
     }
 kept_take Reporting_free g r rest h e =
     record {
@@ -176,6 +241,8 @@ kept_take Reporting_free g r rest h e =
       tabled =
           h.tabled;
       unreserved = h.unreserved;
+      blocks = h.blocks;
+      agreed = h.agreed;
     }
 
 kept_work : (kind : Kind) (page : ℕ) (g : Guest) → IsOrderly g → IsOrderly (visited kind page g)
@@ -187,6 +254,8 @@ kept_work Inflating page g h =
       state = h.state;
       tabled = h.tabled;
       unreserved = h.unreserved;
+      blocks = h.blocks;
+      agreed = h.agreed;
     }
 kept_work Deflating page g h =
     record {
@@ -196,6 +265,8 @@ kept_work Deflating page g h =
       state = h.state;
       tabled = h.tabled;
       unreserved = h.unreserved;
+      blocks = h.blocks;
+      agreed = h.agreed;
     }
 kept_work Reporting_free page g h =
     record {
@@ -206,6 +277,8 @@ kept_work Reporting_free page g h =
       tabled =
           h.tabled;
       unreserved = h.unreserved;
+      blocks = h.blocks;
+      agreed = h.agreed;
     }
 
 kept_finish : (kind : Kind) (i : ℕ) (r : Request) (g : Guest) → IsOrderly g
@@ -219,6 +292,8 @@ kept_finish Inflating i r g h e =
       state = h.state;
       tabled = h.tabled;
       unreserved = h.unreserved;
+      blocks = h.blocks;
+      agreed = h.agreed;
     }
 kept_finish Deflating i r g h e =
     record {
@@ -228,6 +303,8 @@ kept_finish Deflating i r g h e =
       state = h.state;
       tabled = h.tabled;
       unreserved = h.unreserved;
+      blocks = h.blocks;
+      agreed = h.agreed;
     }
 kept_finish Reporting_free i r g h e =
     record {
@@ -238,6 +315,8 @@ kept_finish Reporting_free i r g h e =
       tabled =
           h.tabled;
       unreserved = h.unreserved;
+      blocks = h.blocks;
+      agreed = h.agreed;
     }
 
 kept_reap : (kind : Kind) (g : Guest) (r : Request) (rest : List Request) → IsConsistent g
@@ -271,6 +350,8 @@ kept_reset g h =
       tabled = length-map g.places place_after_reset ∙ h.tabled;
       unreserved = λ page l. ap is_reserved (place_of-reset g.places page)
           ∙ (reset_reserved (place_of g.places page) ∙ h.unreserved page l);
+      blocks = h.blocks;
+      agreed = λ e. absurd (let wrong : 0 ≡ 15 = e in omega arith);
     }
 
 -- ---- by cases on lists, buffers and options
@@ -310,9 +391,19 @@ asks_order (BufferPosted f) g reply new h s = absurd s
 asks_order (BufferTaken f) g reply new h s = subst IsOrderly (sym s.1) h
 asks_order (BufferDone f) g reply new h s = absurd s
 
+-- features that aren't refused
+accepted : (wanted : ℕ) → feature_refusal wanted ≡ None → AreAgreed wanted
+accepted wanted e =
+    let n = not_refused (feature_tests wanted) e in
+    record {
+      offered = not-false _ n.1.0;
+      told = not-false _ n.1.1.1.1.0;
+      version = not-false _ n.1.1.1.1.1.0;
+    }
+
 negotiates_order : (o : Option Refusal) (wanted : ℕ) (g : Guest) (reply : Reply) (new : Guest)
-    → IsOrderly g → Negotiates o wanted g reply new → IsOrderly new
-negotiates_order None wanted g reply new h s =
+    → feature_refusal wanted ≡ o → IsOrderly g → Negotiates o wanted g reply new → IsOrderly new
+negotiates_order None wanted g reply new e h s =
     subst IsOrderly (sym s.1)
     (record {
       inflating = h.inflating;
@@ -321,8 +412,10 @@ negotiates_order None wanted g reply new h s =
       state = inr (inl refl);
       tabled = h.tabled;
       unreserved = h.unreserved;
+      blocks = h.blocks;
+      agreed = λ ready. accepted wanted e;
     })
-negotiates_order (Some refusal) wanted g reply new h s =
+negotiates_order (Some refusal) wanted g reply new e h s =
     subst IsOrderly (sym s.1)
     (record {
       inflating = h.inflating;
@@ -331,6 +424,8 @@ negotiates_order (Some refusal) wanted g reply new h s =
       state = inr (inr refl);
       tabled = h.tabled;
       unreserved = h.unreserved;
+      blocks = h.blocks;
+      agreed = λ ready. absurd (let wrong : 131 ≡ 15 = ready in omega arith);
     })
 
 -- ---- a call that isn't refused
@@ -365,6 +460,10 @@ performs_order (Alloc cpu order) g claims reply new c h e s honest =
       tabled = length-placed (pages_of b) Used g.places ∙ h.tabled;
       unreserved = moved g.config.pages (pages_of b) Used g.places h.unreserved refl
           (λ page k. not_reserved _ is_free refl (wholly_free_pages g.places b page s.1.1 k));
+      blocks = blocks_with g.config.pages b g.held
+          (free_block g.config.pages g.places b h.tabled
+          (ltb-false _ _ (not_refused (tests g (Alloc cpu order)) e).0) s.1.1) h.blocks;
+      agreed = h.agreed;
     })
 performs_order (Free cpu start order) g claims reply new c h e s honest =
     let b : Block = record { start = start; order = order } in
@@ -378,6 +477,8 @@ performs_order (Free cpu start order) g claims reply new c h e s honest =
       tabled = length-placed (pages_of b) FreePlace g.places ∙ h.tabled;
       unreserved = moved g.config.pages (pages_of b) FreePlace g.places h.unreserved refl
           (λ page k. not_reserved _ is_used refl (held_used g b page c (not-false _ n.1.1.0) k));
+      blocks = blocks_without g.config.pages b g.held h.blocks;
+      agreed = h.agreed;
     })
 performs_order (Inflate n) g claims reply new c h e s honest =
     let t = not_refused (tests g (Inflate n)) e in
@@ -444,7 +545,7 @@ performs_order (Init wanted) g claims reply new c h e s honest =
     (λ supplied. Negotiates (feature_refusal wanted) wanted supplied reply new) s) [
       | inr r ↦ subst IsOrderly (sym r.2) h
       | inl m ↦ negotiates_order (feature_refusal wanted) wanted (supplied (lacking g) claims g)
-          reply new h m
+          reply new refl h m
     ]
 performs_order (Write page offset bytes) g claims reply new c h e s honest =
     elim (supplying_cases (pages_needed page bytes g) g claims reply new
@@ -478,7 +579,7 @@ first_reserved page = step (nat_lt page reserved_pages)
     step true = refl
     step false = refl
 
-fresh_order : (config : Config) (target : ℕ) → IsOrderly (fresh config target)
+pub fresh_order : (config : Config) (target : ℕ) → IsOrderly (fresh config target)
 fresh_order config target =
     record {
       inflating = no_requests_orderly _;
@@ -488,6 +589,8 @@ fresh_order config target =
       tabled = length-map (range_with_len 0 config.pages) first_place
           ∙ length-range_with_len 0 config.pages;
       unreserved = λ page l. ap is_reserved (at page l) ∙ first_reserved page;
+      blocks = tt;
+      agreed = λ e. absurd (let wrong : 0 ≡ 15 = e in omega arith);
     }
   where
     at : (page : ℕ) → page < config.pages

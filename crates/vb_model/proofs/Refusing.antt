@@ -32,11 +32,11 @@ use Rattle.vb_model.specs.StepLaws.{IsUnchanged, RefusalsChangeNothing, RefusedE
 use Rattle.vb_model.proofs.CallSteps.{match_cases, supplying_cases, works_cases}
 
 -- a reply that is no refusal
-abbrev is_refused : Reply → Bool
+abbrev pub is_refused : Reply → Bool
 is_refused (Refused refusal) = true
 is_refused _ = false
 
-not_this : {A : Type 0} (refusal : Refusal) (reply : Reply) → Refused refusal ≡ reply
+pub not_this : {A : Type 0} (refusal : Refusal) (reply : Reply) → Refused refusal ≡ reply
     → is_refused reply ≡ false → A
 not_this refusal reply e f =
     absurd (let t : is_refused (Refused refusal) ≡ false = ap is_refused e ∙ f in cc)

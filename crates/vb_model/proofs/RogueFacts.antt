@@ -15,13 +15,13 @@ use Rattle.vb_model.specs.declared.calls.Claim.TheVariants.{Gave, GaveNoFrame, G
 use Rattle.vb_model.specs.declared.replies.Refusal.TheVariants.{OutOfRam, NoFrame, NoMemory}
 use Rattle.vb_model.specs.declared.replies.Reply.{Reply}
 use Rattle.vb_model.specs.declared.replies.Reply.TheVariants.{Done, Idle, Refused}
-use Rattle.vb_model.specs.declared.places.Place.TheVariants.{Lent}
+use Rattle.vb_model.specs.declared.places.Place.TheVariants.{Lent, Used}
 use Rattle.vb_model.specs.Guest.{Guest, Config, is_ballooned, frame_of}
 use Rattle.vb_model.specs.Refusals.{refusal_of}
 use Rattle.vb_model.specs.Rogue.{LosesFrames, HasAllPages, IsRogueAfter, ScribbleStep}
-use Rattle.vb_model.specs.Rogue.{RogueStep, may_need}
+use Rattle.vb_model.specs.Rogue.{RogueStep, pages_to_back}
 use Rattle.vb_model.specs.Step.{HonestStep}
-use Rattle.vb_model.proofs.Samples.{config, ready, down}
+use Rattle.vb_model.proofs.Samples.{ready, down}
 
 -- ---- a scribble is refused outside memory or past the end of its page, whatever place the page is
 -- at
@@ -49,12 +49,50 @@ backed of_16_and_17 =
 abbrev before : Guest
 before = backed (Some 13 ∷ None ∷ [])
 
-frames_needed : may_need (Scribble 17 0 (1 ∷ 2 ∷ [])) before
-    ∷ may_need (Scribble 16 0 (1 ∷ [])) before ∷ may_need (Scribble 17 0 []) before ∷ [] ≡ (17 ∷ [])
+frames_needed : pages_to_back (Scribble 17 0 (1 ∷ 2 ∷ [])) before
+    ∷ pages_to_back (Scribble 16 0 (1 ∷ [])) before ∷ pages_to_back (Scribble 17 0 []) before ∷ [] ≡ (17 ∷ [])
     ∷ [] ∷ [] ∷ []
 frames_needed = refl
 
--- what is left is rogue, with the frame; its configuration and target stay
+-- what is left is rogue, with the frame; all but its contents is as it was
+abbrev marked : Guest
+marked = record (backed (Some 13 ∷ Some 20 ∷ [])) { rogue = true }
+
+no_flag : (page : ℕ) → page < 16 → is_ballooned marked.ballooned page ≡ false
+no_flag page l = get_or-replicate 64 page false false (omega (arith, l))
+
+scribbled : HonestStep before (Scribble 17 0 (1 ∷ [])) (Gave 20 ∷ []) Done marked
+scribbled = (
+  tt,
+  record {
+    answered = refl;
+    state = record {
+      still = refl;
+      config = refl;
+      unreserved = no_flag;
+      sizes = record { placed = refl; flagged = refl; framed = refl; filled = refl };
+    };
+    memory = refl;
+  },
+)
+
+all_that_is_said : (reply : Reply) (new : Guest)
+    → HonestStep before (Scribble 17 0 (1 ∷ [])) (Gave 20 ∷ []) reply new
+    → (reply ≡ Done) × (new ≡ record marked { contents = new.contents })
+all_that_is_said reply new s = (s.1.answered, s.1.memory)
+
+-- a claim that is refused is the answer, and the guest stays honest
+no_frame_for_a_scribble : HonestStep before (Scribble 17 0 (1 ∷ [])) (GaveNoFrame ∷ [])
+    (Refused NoFrame) before
+no_frame_for_a_scribble = (refl, (refl, refl))
+
+no_memory_for_a_scribble : HonestStep before (Scribble 17 0 (1 ∷ [])) (GaveNoMemory ∷ [])
+    (Refused NoMemory) before
+no_memory_for_a_scribble = (refl, (refl, refl))
+
+-- ---- what a rogue guest claims frames for: the same pages as an honest one
+
+-- a rogue guest in some state
 abbrev after : Guest
 after = record (backed (Some 13 ∷ Some 20 ∷ [])) {
   rogue = true;
@@ -69,48 +107,20 @@ no_reserved_flag page l =
     get_or-append (replicate 16 false) (true ∷ replicate 47 false) false page l
     ∙ get_or-replicate 16 page false false l
 
-whole : HasAllPages after
-whole = record { placed = refl; flagged = refl; framed = refl; filled = refl }
-
-scribbled : HonestStep before (Scribble 17 0 (1 ∷ [])) (Gave 20 ∷ []) Done after
-scribbled = (
-  tt,
-  record {
-    answered = refl;
-    state = record
-        { still = refl; config = refl; unreserved = no_reserved_flag; sizes = whole };
-    target =
-        refl;
-    frames = refl;
-  },
-)
-
-all_that_is_said : (reply : Reply) (new : Guest)
-    → HonestStep before (Scribble 17 0 (1 ∷ [])) (Gave 20 ∷ []) reply new
-    → (reply ≡ Done) × (new.rogue ≡ true) × (new.config ≡ config) × (new.target ≡ 7)
-    × (new.frames ≡ (backed (Some 13 ∷ Some 20 ∷ [])).frames)
-all_that_is_said reply new s =
-    (s.1.answered, s.1.state.still, s.1.state.config, s.1.target, s.1.frames)
-
--- a claim that is refused is the answer, and the guest stays honest
-no_frame_for_a_scribble : HonestStep before (Scribble 17 0 (1 ∷ [])) (GaveNoFrame ∷ [])
-    (Refused NoFrame) before
-no_frame_for_a_scribble = (refl, (refl, refl))
-
-no_memory_for_a_scribble : HonestStep before (Scribble 17 0 (1 ∷ [])) (GaveNoMemory ∷ [])
-    (Refused NoMemory) before
-no_memory_for_a_scribble = (refl, (refl, refl))
-
--- ---- what a rogue guest may claim frames for: the same pages as an honest one
-
-frames_of_a_write : may_need (Write 17 0 (1 ∷ [])) after ∷ may_need (Write 18 0 (1 ∷ [])) after
-    ∷ [] ≡ [] ∷ (18 ∷ []) ∷ []
+frames_of_a_write : map (λ page. pages_to_back (Write page 0 (1 ∷ []))
+    (record after { places = replicate 64 Used })) (17 ∷ 18 ∷ 64 ∷ []) ≡ [] ∷ (18 ∷ []) ∷ [] ∷ []
 frames_of_a_write = refl
 
-frames_of_an_initialisation : may_need (Init 0x100000027) after ≡ range_with_len 0 13
+refused_before_it_claims : pages_to_back (Write 18 0 (1 ∷ [])) after
+    ∷ pages_to_back (Init 0x100000027) after ∷ pages_to_back (Scribble 18 4096 (1 ∷ [])) after
+    ∷ [] ≡ [] ∷ [] ∷ [] ∷ []
+refused_before_it_claims = refl
+
+frames_of_an_initialisation : pages_to_back (Init 0x100000027) (record after { status = 0 })
+    ≡ range_with_len 0 13
 frames_of_an_initialisation = refl
 
-no_other_call_claims : map (λ call. may_need call after)
+no_other_call_claims : map (λ call. pages_to_back call after)
     (Reset ∷ Alloc 0 0 ∷ Free 0 18 0 ∷ Read 18 0 1 ∷ Inflate 1 ∷ Deflate 1 ∷ Oom 1 ∷ Report 0
     ∷ Stats ∷ Reap 0 ∷ Take 0 ∷ Work ∷ Finish 0 0 ∷ Sweep 18 ∷ Ask ∷ SetTarget 1 ∷ [])
     ≡ replicate 16 []
@@ -144,12 +154,11 @@ frames_may_go = record {
     sizes = record { placed = refl; flagged = refl; framed = refl; filled = refl };
   };
   target = refl;
-  pages = [];
-  needed = inl refl;
   claimed = tt;
   frames = none_gained;
   no_frame = λ e. cc;
   no_memory = λ e. absurd cc;
+  refused = λ refusal e. absurd cc;
   scribble = λ page offset bytes e. cc;
 }
 
@@ -235,17 +244,17 @@ no_frame_without_a_claim new s = let e : None ≡ Some NoFrame = s.no_frame refl
 -- one for want of memory too, or a read, and it changes nothing
 no_memory_without_a_claim : (new : Guest)
     → RogueStep after (Write 18 0 (1 ∷ [])) [] (Refused NoMemory) new → ⊥
-no_memory_without_a_claim new s = elim (s.no_memory refl).0 [
+no_memory_without_a_claim new s = elim (s.no_memory refl) [
   | inl claimed ↦ (let e : None ≡ Some NoMemory = claimed in cc)
   | inr read ↦ cc
 ]
 
 no_memory_for_a_take : (new : Guest) → RogueStep after (Take 0) [] (Refused NoMemory) new → ⊥
-no_memory_for_a_take new s = elim (s.no_memory refl).0 [
+no_memory_for_a_take new s = elim (s.no_memory refl) [
   | inl claimed ↦ (let e : None ≡ Some NoMemory = claimed in cc)
   | inr read ↦ cc
 ]
 
 no_memory_keeps_all : (new : Guest)
     → RogueStep after (Read 17 0 1) [] (Refused NoMemory) new → new ≡ after
-no_memory_keeps_all new s = (s.no_memory refl).1
+no_memory_keeps_all new s = s.refused NoMemory refl

@@ -133,8 +133,8 @@ two_calls : GuestRun ready
     (record ready { target = 3 })
 two_calls = (
   record ready { target = 3 },
-  (refl, refl, refl),
-  (record ready { target = 3 }, (refl, (refl, refl)), refl),
+  (refl, (refl, refl, refl)),
+  (record ready { target = 3 }, (refl, (refl, (refl, refl))), refl),
 )
 
 -- a guest's own calls are its entries, each with what the host gave its claims; those of others are
@@ -147,7 +147,7 @@ own_call : AreEntriesOf 1 (at ready) (OnGuest 1 Work ∷ OnGuest 0 Work ∷ []) 
 own_call = (
   two_calls_made,
   [],
-  (Processor 1 0, [], refl, tt, refl),
+  (Processor 1 0, [], tt, refl),
   ([], [], refl, refl, refl),
   refl,
 )
@@ -155,7 +155,7 @@ own_call = (
 own_call_left_out : AreEntriesOf 1 (at ready) (OnGuest 1 Work ∷ []) (Idle ∷ []) (at ready ∷ []) []
     → ⊥
 own_call_left_out (own, later, is, later_is, e) =
-    let made : Called is.0 Work is.1 Idle ∷ [] ≡ own = sym is.4 in
+    let made : Called is.0 Work is.1 Idle ∷ [] ≡ own = sym is.3 in
     let all : [] ≡ (Called is.0 Work is.1 Idle ∷ []) ++ later =
     e ∙ ap (λ (l : List Entry). l ++ later) (sym made) in
     cc
@@ -167,20 +167,20 @@ claim_past_the_last : (own : List Entry)
 claim_past_the_last own is e =
     let same : Called is.0 (Write 20 0 (7 ∷ [])) is.1 Done
     ∷ [] ≡ Called (Processor 1 0) (Write 20 0 (7 ∷ [])) (Gave 64 ∷ []) Done ∷ [] =
-    sym is.4 ∙ e in
+    sym is.3 ∙ e in
     let claims : is.1 ≡ Gave 64 ∷ [] = cc in
     let gives : Gives 64 (IsOut (at ready)) (Gave 64 ∷ []) =
-    subst (λ (l : List Claim). Gives 64 (IsOut (at ready)) l) claims is.3 in
+    subst (λ (l : List Claim). Gives 64 (IsOut (at ready)) l) claims is.2 in
     omega (arith, gives.0)
 
--- a scribble that is done is no entry
-scribble_done : (own : List Entry)
-    → AreOwnEntries 1 (at ready) (OnGuest 1 (Scribble 20 0 [])) Done (at ready) own → ⊥
-scribble_done own is = let wrong : true ≡ false = is.2 in cc
+-- a scribble that is done is no step of an honest guest's run
+scribble_done : (claims : List Claim) (new : Guest)
+    → EntryStep ready (Called (Processor 1 0) (Scribble 20 0 []) claims Done) new → ⊥
+scribble_done claims new s = let wrong : true ≡ false = s.0 in cc
 
 scribble_refused : AreOwnEntries 1 (at ready) (OnGuest 1 (Scribble 99 0 [])) (Refused OutOfRam)
     (at ready) (Called (Processor 1 0) (Scribble 99 0 []) [] (Refused OutOfRam) ∷ [])
-scribble_refused = (Processor 1 0, [], refl, tt, refl)
+scribble_refused = (Processor 1 0, [], tt, refl)
 
 -- a balance that set targets is one entry, with this guest's new target and not another's
 abbrev aimed : World

@@ -177,7 +177,7 @@ performs_keep (Write page offset bytes) g claims reply new s =
 performs_keep (Scribble page offset bytes) g claims reply new s =
     supplies_keep (pages_needed page bytes g) g claims reply new (λ m. Scribbled m reply new) s
     (λ m r. record {
-      aimed = r.target;
+      aimed = ap (λ (x : Guest). x.target) r.memory;
       config = r.state.config;
       rogue = inr ((page, offset, bytes, refl), r.state);
     })

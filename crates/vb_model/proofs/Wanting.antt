@@ -25,7 +25,8 @@ use Rattle.vb_model.specs.Driver.{given, claim_refusal, AreClaimsFor, Supplying,
 use Rattle.vb_model.specs.Driver.{Written, pages_needed}
 use Rattle.vb_model.specs.Device.{Takes, TakesBuffer, Finishes, Asks, next_page}
 use Rattle.vb_model.specs.Life.{feature_tests, feature_refusal, Negotiates, lacking}
-use Rattle.vb_model.specs.Rogue.{LosesFrames, RogueStep, Scribbled, may_need, is_read}
+use Rattle.vb_model.specs.Rogue.{LosesFrames, RogueStep, Scribbled, unless_refused, pages_to_back}
+use Rattle.vb_model.specs.Rogue.{is_read, if_negotiated, after_refused}
 use Rattle.vb_model.specs.Step.{Performs, HonestStep, GuestStep}
 use Rattle.vb_model.specs.World.{Happens, Calls, Gives, IsOut, guest_at, world_tests}
 use Rattle.vb_model.specs.StepLaws.{ClaimsAreNeeded, FramesEnterByClaims, RefusedClaimsAreAnswered}
@@ -46,50 +47,87 @@ or_later false b e = e
 
 -- ---- claims
 
-no_claims : (pages : List ℕ) (claims : List Claim) → pages ≡ [] → AreClaimsFor pages claims
-    → claims ≡ []
-no_claims [] [] e a = refl
-no_claims [] (claim ∷ claims) e a = absurd a
-no_claims (page ∷ pages) claims e a = absurd cc
+-- the pages of a call that isn't refused
+pub not_refused_pages : (o : Option Refusal) (pages : List ℕ) (claims : List Claim) → o ≡ None
+    → AreClaimsFor pages claims → AreClaimsFor (unless_refused o pages) claims
+not_refused_pages None pages claims e a = a
+not_refused_pages (Some refusal) pages claims e a = absurd cc
+
+none_made : (claims : List Claim) → claims ≡ [] → AreClaimsFor [] claims
+none_made [] e = tt
+none_made (claim ∷ claims) e = absurd cc
 
 performs_claims : (call : Call) (g : Guest) (claims : List Claim) (reply : Reply) (new : Guest)
-    → Performs call g claims reply new → (claims ≡ []) ⊎ AreClaimsFor (may_need call g) claims
-performs_claims (Init wanted) g claims reply new s = inr s.0
-performs_claims (Write page offset bytes) g claims reply new s = inr s.0
-performs_claims (Scribble page offset bytes) g claims reply new s = inr s.0
-performs_claims (SetTarget n) g claims reply new s = inl s.0
-performs_claims Reset g claims reply new s = inl s.0
-performs_claims (Alloc cpu order) g claims reply new s = inl s.0
-performs_claims (Free cpu start order) g claims reply new s = inl s.0
-performs_claims (Read page offset len) g claims reply new s = inl s.0
-performs_claims (Inflate n) g claims reply new s = inl s.0
-performs_claims (Deflate n) g claims reply new s = inl s.0
-performs_claims (Oom n) g claims reply new s = inl s.0
-performs_claims (Report from) g claims reply new s = inl s.0
-performs_claims Stats g claims reply new s = inl s.0
-performs_claims (Reap q) g claims reply new s = inl s.0
-performs_claims (Take q) g claims reply new s = inl s.0
-performs_claims Work g claims reply new s = inl s.0
-performs_claims (Finish q i) g claims reply new s = inl s.0
-performs_claims (Sweep page) g claims reply new s = inl s.0
-performs_claims Ask g claims reply new s = inl s.0
+    → refusal_of g call ≡ None → Performs call g claims reply new
+    → AreClaimsFor (pages_to_back call g) claims
+performs_claims (Init wanted) g claims reply new e s =
+    not_refused_pages (refusal_of g (Init wanted)) (lacking g) claims e s.0
+performs_claims (Write page offset bytes) g claims reply new e s =
+    not_refused_pages (refusal_of g (Write page offset bytes)) (pages_needed page bytes g) claims e
+    s.0
+performs_claims (Scribble page offset bytes) g claims reply new e s =
+    not_refused_pages (refusal_of g (Scribble page offset bytes)) (pages_needed page bytes g) claims
+    e s.0
+performs_claims (SetTarget n) g claims reply new e s = none_made claims s.0
+performs_claims Reset g claims reply new e s = none_made claims s.0
+performs_claims (Alloc cpu order) g claims reply new e s = none_made claims s.0
+performs_claims (Free cpu start order) g claims reply new e s = none_made claims s.0
+performs_claims (Read page offset len) g claims reply new e s = none_made claims s.0
+performs_claims (Inflate n) g claims reply new e s = none_made claims s.0
+performs_claims (Deflate n) g claims reply new e s = none_made claims s.0
+performs_claims (Oom n) g claims reply new e s = none_made claims s.0
+performs_claims (Report from) g claims reply new e s = none_made claims s.0
+performs_claims Stats g claims reply new e s = none_made claims s.0
+performs_claims (Reap q) g claims reply new e s = none_made claims s.0
+performs_claims (Take q) g claims reply new e s = none_made claims s.0
+performs_claims Work g claims reply new e s = none_made claims s.0
+performs_claims (Finish q i) g claims reply new e s = none_made claims s.0
+performs_claims (Sweep page) g claims reply new e s = none_made claims s.0
+performs_claims Ask g claims reply new e s = none_made claims s.0
+
+-- the pages of a call that is refused
+refused_pages : (o : Option Refusal) (refusal : Refusal) (pages : List ℕ) → o ≡ Some refusal
+    → unless_refused o pages ≡ []
+refused_pages None refusal pages e = absurd cc
+refused_pages (Some other) refusal pages e = refl
+
+pub refused_backs : (call : Call) (g : Guest) (refusal : Refusal) → refusal_of g call ≡ Some refusal
+    → pages_to_back call g ≡ []
+refused_backs (Init wanted) g refusal e =
+    refused_pages (refusal_of g (Init wanted)) refusal (lacking g) e
+refused_backs (Write page offset bytes) g refusal e =
+    refused_pages (refusal_of g (Write page offset bytes)) refusal (pages_needed page bytes g) e
+refused_backs (Scribble page offset bytes) g refusal e =
+    refused_pages (refusal_of g (Scribble page offset bytes)) refusal (pages_needed page bytes g) e
+refused_backs (SetTarget n) g refusal e = refl
+refused_backs Reset g refusal e = refl
+refused_backs (Alloc cpu order) g refusal e = refl
+refused_backs (Free cpu start order) g refusal e = refl
+refused_backs (Read page offset len) g refusal e = refl
+refused_backs (Inflate n) g refusal e = refl
+refused_backs (Deflate n) g refusal e = refl
+refused_backs (Oom n) g refusal e = refl
+refused_backs (Report from) g refusal e = refl
+refused_backs Stats g refusal e = refl
+refused_backs (Reap q) g refusal e = refl
+refused_backs (Take q) g refusal e = refl
+refused_backs Work g refusal e = refl
+refused_backs (Finish q i) g refusal e = refl
+refused_backs (Sweep page) g refusal e = refl
+refused_backs Ask g refusal e = refl
 
 pub claims_needed : ClaimsAreNeeded
 claims_needed g call claims reply new s = cases g.rogue s
   where
-    rogue : (pages : List ℕ) → (pages ≡ []) ⊎ (pages ≡ may_need call g) → AreClaimsFor pages claims
-        → (claims ≡ []) ⊎ AreClaimsFor (may_need call g) claims
-    rogue pages (inl e) a = inl (no_claims pages claims e a)
-    rogue pages (inr e) a = inr (subst (λ (ps : List ℕ). AreClaimsFor ps claims) e a)
-
     cases : (b : Bool) → MatchBool b (RogueStep g call claims reply new)
-        (HonestStep g call claims reply new) → (claims ≡ []) ⊎ AreClaimsFor (may_need call g) claims
-    cases true r = rogue r.pages r.needed r.claimed
+        (HonestStep g call claims reply new) → AreClaimsFor (pages_to_back call g) claims
+    cases true r = r.claimed
     cases false p =
         elim (match_cases (refusal_of g call) (Performs call g claims reply new)
         (λ refusal. (claims ≡ []) × (reply ≡ Refused refusal) × (new ≡ g)) p) [
-          | inl d ↦ performs_claims call g claims reply new d.1
-          | inr r ↦ inl r.2.0
+          | inl d ↦ performs_claims call g claims reply new d.0 d.1
+          | inr r ↦ subst (λ (pages : List ℕ). AreClaimsFor pages claims)
+              (sym (refused_backs call g r.0 r.1)) (none_made claims r.2.0)
         ]
 
 -- ---- frames enter by claims
@@ -192,7 +230,7 @@ refused_claims g call claims reply new refusal s r = cases g.rogue s
         (HonestStep g call claims reply new) → (reply ≡ Refused refusal) × (new.frames ≡ g.frames)
     cases true k =
         elim (match_cases (claim_refusal claims)
-        (LosesFrames (all_backed k.pages (given claims) g.frames) new.frames)
+        (LosesFrames (all_backed (pages_to_back call g) (given claims) g.frames) new.frames)
         (λ refusal. (reply ≡ Refused refusal) × (new.frames ≡ g.frames)) k.frames) [
           | inl m ↦ absurd (let none : claim_refusal claims ≡ None = m.0 in cc)
           | inr m ↦ answered m.0 (let same : m.0 ≡ refusal = cc in same) m.2
@@ -232,10 +270,20 @@ needed_bare p page (b ∷ bytes) g k = step (is_none (frame_of g.frames p)) refl
           | inr f ↦ absurd cc
         ]
 
+unrefused_page : (o : Option Refusal) (pages : List ℕ) (page : ℕ)
+    → is_in page (unless_refused o pages) ≡ true → is_in page pages ≡ true
+unrefused_page None pages page k = k
+unrefused_page (Some refusal) pages page k = absurd cc
+
 pub needed_pages_bare : NeededPagesAreBare
-needed_pages_bare g (Init wanted) page k = lacking_bare g page k
-needed_pages_bare g (Write p offset bytes) page k = needed_bare p page bytes g k
-needed_pages_bare g (Scribble p offset bytes) page k = needed_bare p page bytes g k
+needed_pages_bare g (Init wanted) page k =
+    lacking_bare g page (unrefused_page (refusal_of g (Init wanted)) (lacking g) page k)
+needed_pages_bare g (Write p offset bytes) page k =
+    needed_bare p page bytes g
+    (unrefused_page (refusal_of g (Write p offset bytes)) (pages_needed p bytes g) page k)
+needed_pages_bare g (Scribble p offset bytes) page k =
+    needed_bare p page bytes g
+    (unrefused_page (refusal_of g (Scribble p offset bytes)) (pages_needed p bytes g) page k)
 needed_pages_bare g (SetTarget n) page k = absurd cc
 needed_pages_bare g Reset page k = absurd cc
 needed_pages_bare g (Alloc cpu order) page k = absurd cc
@@ -290,19 +338,26 @@ wants _ = false
 abbrev pub none_wants : List Test → Bool
 none_wants ts = list_all (λ t. not (is_want t.refusal)) ts
 
+-- a refusal of these tests passes what all of theirs pass
+pub refused_passes : (passes : Refusal → Bool) (ts : List Test) (refusal : Refusal)
+    → list_all (λ t. passes t.refusal) ts ≡ true → first_refusal ts ≡ Some refusal
+    → passes refusal ≡ true
+refused_passes passes [] refusal h e = absurd cc
+refused_passes passes (t ∷ ts) refusal h e = step t.holds e (refused_passes passes ts refusal)
+  where
+    both : (passes t.refusal ≡ true) × (list_all (λ t. passes t.refusal) ts ≡ true)
+    both = and_parts (passes t.refusal) (list_all (λ t. passes t.refusal) ts) h
+
+    step : (v : Bool) → cond v (Some t.refusal) (first_refusal ts) ≡ Some refusal
+        → (list_all (λ t. passes t.refusal) ts ≡ true → first_refusal ts ≡ Some refusal
+        → passes refusal ≡ true) → passes refusal ≡ true
+    step true e ih = let same : t.refusal ≡ refusal = cc in ap passes (sym same) ∙ both.0
+    step false e ih = ih both.1 e
+
 pub refused_otherwise : (ts : List Test) (refusal : Refusal) → none_wants ts ≡ true
     → first_refusal ts ≡ Some refusal → is_want refusal ≡ false
-refused_otherwise [] refusal h e = absurd cc
-refused_otherwise (t ∷ ts) refusal h e = step t.holds e (refused_otherwise ts refusal)
-  where
-    step : (v : Bool) → cond v (Some t.refusal) (first_refusal ts) ≡ Some refusal
-        → (none_wants ts ≡ true → first_refusal ts ≡ Some refusal → is_want refusal ≡ false)
-        → is_want refusal ≡ false
-    step true e ih =
-        let same : t.refusal ≡ refusal = cc in
-        ap is_want (sym same)
-        ∙ not-true _ (and_parts (not (is_want t.refusal)) (none_wants ts) h).0
-    step false e ih = ih (and_parts (not (is_want t.refusal)) (none_wants ts) h).1 e
+refused_otherwise ts refusal h e =
+    not-true _ (refused_passes (λ r. not (is_want r)) ts refusal h e)
 
 tests_otherwise : (g : Guest) (call : Call) → none_wants (tests g call) ≡ true
 tests_otherwise g (Init wanted) = refl
@@ -362,21 +417,20 @@ negotiates_otherwise wanted None g reply new e s = ap wants s.0
 negotiates_otherwise wanted (Some refusal) g reply new e s =
     ap wants s.0 ∙ refused_otherwise (feature_tests wanted) refusal refl e
 
--- the claims that a call for these pages made ended so, and nothing is changed
-abbrev Lacks : Refusal → List ℕ → Guest → List Claim → Guest → Type 0
-Lacks why pages g claims new =
-    AreClaimsFor pages claims × (claim_refusal claims ≡ Some why) × (new ≡ g)
+-- the call's claims ended so, and nothing is changed
+abbrev Lacks : Refusal → Guest → List Claim → Guest → Type 0
+Lacks why g claims new = (claim_refusal claims ≡ Some why) × (new ≡ g)
 
 -- or the bytes of its answer found no memory
 abbrev Fails : Refusal → Call → Guest → List Claim → Guest → Type 0
 Fails why call g claims new =
-    Lacks why (may_need call g) g claims new
+    Lacks why g claims new
     ⊎ ((is_read call ≡ true) × (why ≡ NoMemory) × (new ≡ g))
 
 supplies_lack : (pages : List ℕ) (g : Guest) (claims : List Claim) (reply : Reply) (new : Guest)
     (why : Refusal) (Rest : Guest → Type 0) → Supplying pages g claims reply new Rest
     → ((m : Guest) → Rest m → wants reply ≡ false) → is_want why ≡ true → reply ≡ Refused why
-    → Lacks why pages g claims new
+    → Lacks why g claims new
 supplies_lack pages g claims reply new why Rest s rest w e =
     elim (match_cases (claim_refusal claims) (Rest (supplied pages claims g))
     (λ refusal. (reply ≡ Refused refusal) × (new ≡ g)) s.1) [
@@ -385,7 +439,7 @@ supplies_lack pages g claims reply new why Rest s rest w e =
       | inr r ↦
           let told : Refused r.0 ≡ Refused why = sym r.2.0 ∙ e in
           let same : r.0 ≡ why = cc in
-          (s.0, r.1 ∙ ap (λ (x : Refusal). some_refusal x) same, r.2.1)
+          (r.1 ∙ ap (λ (x : Refusal). some_refusal x) same, r.2.1)
     ]
   where
     some_refusal : Refusal → Option Refusal
@@ -461,30 +515,20 @@ performs_lack (Finish q i) g claims reply new why s w e =
       | inr k ↦ no_want reply why (ap wants k.2.2) w e
     ]
 
--- the claims that a call for these pages made ended without a frame
-abbrev NoneLeft : List ℕ → List Claim → Type 0
-NoneLeft pages claims = AreClaimsFor pages claims × (claim_refusal claims ≡ Some NoFrame)
-
+-- the call's claims ended without a frame
 step_lacks : (g : Guest) (call : Call) (claims : List Claim) (new : Guest)
-    → GuestStep g call claims (Refused NoFrame) new → NoneLeft (may_need call g) claims
+    → GuestStep g call claims (Refused NoFrame) new → claim_refusal claims ≡ Some NoFrame
 step_lacks g call claims new s = cases g.rogue s
   where
-    rogue : (pages : List ℕ) → (pages ≡ []) ⊎ (pages ≡ may_need call g) → AreClaimsFor pages claims
-        → claim_refusal claims ≡ Some NoFrame → NoneLeft (may_need call g) claims
-    rogue pages (inl e) a r =
-        absurd (let none : claim_refusal claims
-        ≡ None = ap claim_refusal (no_claims pages claims e a) in cc)
-    rogue pages (inr e) a r = (subst (λ (ps : List ℕ). AreClaimsFor ps claims) e a, r)
-
     cases : (b : Bool) → MatchBool b (RogueStep g call claims (Refused NoFrame) new)
-        (HonestStep g call claims (Refused NoFrame) new) → NoneLeft (may_need call g) claims
-    cases true r = rogue r.pages r.needed r.claimed (r.no_frame refl)
+        (HonestStep g call claims (Refused NoFrame) new) → claim_refusal claims ≡ Some NoFrame
+    cases true r = r.no_frame refl
     cases false p =
         elim (match_cases (refusal_of g call) (Performs call g claims (Refused NoFrame) new)
         (λ refusal. (claims ≡ []) × (Refused NoFrame ≡ Refused refusal) × (new ≡ g)) p) [
           | inl d ↦
               elim (performs_lack call g claims (Refused NoFrame) new NoFrame d.1 refl refl) [
-                | inl lacks ↦ (lacks.0, lacks.1)
+                | inl lacks ↦ lacks.0
                 | inr read ↦ absurd (let e : NoFrame ≡ NoMemory = read.1 in cc)
               ]
           | inr r ↦ absurd (let told : Refused NoFrame ≡ Refused r.0 = r.2.1 in
@@ -509,27 +553,59 @@ no_frame_exact w v n call g here s =
             | inr k ↦
                 let same : k.0 ≡ g = same_some k.0 g (sym k.1 ∙ here) in
                 let l = step_lacks k.0 call k.2.0 k.2.1 k.2.3 in
-                let wanted = want w.frames (IsOut w) (may_need call k.0) k.2.0 k.2.2 l.0 l.1 in
-                subst (λ (x : Guest). WantOfFrames w (may_need call x)) same
+                let made = claims_needed k.0 call k.2.0 (Refused NoFrame) k.2.1 k.2.3 in
+                let wanted = want w.frames (IsOut w) (pages_to_back call k.0) k.2.0 k.2.2 made l in
+                subst (λ (x : Guest). WantOfFrames w (pages_to_back call x)) same
                 (record { claimed = wanted.0; fewer = wanted.1; all_out = wanted.2 })
           ]
     ]
 
 -- ---- no memory is left
 
+pub unsupplied : (started : Bool) (o : Option Refusal) (why : Refusal) (old new : Guest)
+    → o ≡ Some why → if_negotiated started o old new ≡ old
+unsupplied true o why old new e = refl
+unsupplied false (Some refusal) why old new e = refl
+unsupplied false None why old new e = absurd cc
+
 pub no_memory_exact : NoMemoryIsExact
 no_memory_exact g call claims new s = cases g.rogue s
   where
+    left : (c : Call) → (claim_refusal claims ≡ Some NoMemory) ⊎ (is_read c ≡ true)
+        → after_refused c NoMemory claims g ≡ g
+    left (Init wanted) (inl e) =
+        unsupplied (not (g.status == 0)) (claim_refusal claims) NoMemory g _ e
+    left (Init wanted) (inr e) = absurd cc
+    left (Write page offset bytes) e = refl
+    left (Scribble page offset bytes) e = refl
+    left (SetTarget n) e = refl
+    left Reset e = refl
+    left (Alloc cpu order) e = refl
+    left (Free cpu start order) e = refl
+    left (Read page offset len) e = refl
+    left (Inflate n) e = refl
+    left (Deflate n) e = refl
+    left (Oom n) e = refl
+    left (Report from) e = refl
+    left Stats e = refl
+    left (Reap q) e = refl
+    left (Take q) e = refl
+    left Work e = refl
+    left (Finish q i) e = refl
+    left (Sweep page) e = refl
+    left Ask e = refl
+
     cases : (b : Bool) → MatchBool b (RogueStep g call claims (Refused NoMemory) new)
         (HonestStep g call claims (Refused NoMemory) new)
         → ((claim_refusal claims ≡ Some NoMemory) ⊎ (is_read call ≡ true)) × (new ≡ g)
-    cases true r = r.no_memory refl
+    cases true r =
+        (r.no_memory refl, r.refused NoMemory refl ∙ left call (r.no_memory refl))
     cases false p =
         elim (match_cases (refusal_of g call) (Performs call g claims (Refused NoMemory) new)
         (λ refusal. (claims ≡ []) × (Refused NoMemory ≡ Refused refusal) × (new ≡ g)) p) [
           | inl d ↦
               elim (performs_lack call g claims (Refused NoMemory) new NoMemory d.1 refl refl) [
-                | inl lacks ↦ (inl lacks.1, lacks.2)
+                | inl lacks ↦ (inl lacks.0, lacks.1)
                 | inr read ↦ (inr read.0, read.2)
               ]
           | inr r ↦ absurd (let told : Refused NoMemory ≡ Refused r.0 = r.2.1 in

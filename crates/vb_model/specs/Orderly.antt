@@ -1,14 +1,15 @@
--- What else holds of an honest guest: its requests are in order, its pages lie where they may, its
--- status is one of three.
-use Rattle.std.specs.Prelude.{◌≡◌, ℕ, ◌<◌, ◌≤◌, Bool, true, false, List, [], ◌∷◌, length, nat_lt}
-use Rattle.std.specs.Prelude.{min, ⊤, ◌⊎◌}
+-- What else holds of an honest guest: its requests are in order, its pages and blocks lie where they
+-- may, its status is one of three, and it is ready with features that it has agreed on.
+use Rattle.std.specs.Prelude.{◌≡◌, ℕ, ◌+◌, ◌<◌, ◌≤◌, Bool, true, false, List, [], ◌∷◌, length}
+use Rattle.std.specs.Prelude.{nat_lt, min, ⊤, ◌⊎◌, IsTrue}
 use Rattle.vb_model.specs.declared.places.Place.{Place}
 use Rattle.vb_model.specs.declared.places.Place.TheVariants.{Reserved}
-use Rattle.vb_model.specs.Limits.{reserved_pages, max_outstanding}
+use Rattle.vb_model.specs.Limits.{reserved_pages, max_outstanding, max_order}
 pub use Rattle.vb_model.specs.Tests.{times}
-use Rattle.vb_model.specs.Pages.{place_of}
+use Rattle.vb_model.specs.Pages.{Block, size, is_aligned, place_of}
 use Rattle.vb_model.specs.Requests.{Request, Requests, all_requests, headed, outstanding}
-use Rattle.vb_model.specs.Guest.{Guest}
+use Rattle.vb_model.specs.Guest.{Guest, offered_features, must_tell_host, version_1}
+use Rattle.vb_model.specs.Status.{contains}
 
 -- its pages are distinct, and no more were visited than there are
 pub record IsRequestSound (r : Request) : Type 0 where
@@ -31,8 +32,25 @@ abbrev pub is_reserved : Place → Bool
 is_reserved Reserved = true
 is_reserved _ = false
 
-pub record IsInOrder (pages queue_size : ℕ) (places : List Place)
-    (inflate deflate report : Requests) (status : ℕ) : Type 0 where
+-- a block of an order that there is, at a multiple of its size, within so many pages
+pub record IsBlock (pages : ℕ) (b : Block) : Type 0 where
+  pub order : b.order ≤ max_order
+  pub aligned : IsTrue (is_aligned b)
+  pub inside : b.start + size b ≤ pages
+
+abbrev pub AreBlocks : ℕ → List Block → Type 0
+AreBlocks pages [] = ⊤
+AreBlocks pages (b ∷ held) = IsBlock pages b × AreBlocks pages held
+
+-- features that a device accepts: it offers all of them, and MUST_TELL_HOST and VERSION_1 are among
+-- them
+pub record AreAgreed (features : ℕ) : Type 0 where
+  pub offered : IsTrue (contains offered_features features)
+  pub told : IsTrue (must_tell_host features)
+  pub version : IsTrue (version_1 features)
+
+pub record IsInOrder (pages queue_size : ℕ) (places : List Place) (held : List Block)
+    (inflate deflate report : Requests) (status features : ℕ) : Type 0 where
   pub inflating : AreOrderly (min queue_size max_outstanding) inflate
   pub deflating : AreOrderly (min queue_size max_outstanding) deflate
   pub reporting : AreOrderly 1 report
@@ -42,7 +60,9 @@ pub record IsInOrder (pages queue_size : ℕ) (places : List Place)
   pub tabled : length places ≡ pages
   pub unreserved : (page : ℕ) → page < pages
       → is_reserved (place_of places page) ≡ nat_lt page reserved_pages
+  pub blocks : AreBlocks pages held
+  pub agreed : status ≡ 15 → AreAgreed features
 
 abbrev pub IsOrderly : Guest → Type 0
-IsOrderly g = IsInOrder g.config.pages g.config.queue_size g.places g.inflate g.deflate g.report
-    g.status
+IsOrderly g = IsInOrder g.config.pages g.config.queue_size g.places g.held g.inflate g.deflate
+    g.report g.status g.features

@@ -19,7 +19,7 @@ use Rattle.vb_model.specs.Tests.{is_in}
 use Rattle.vb_model.specs.Guest.{Guest, frame_of, is_ballooned}
 use Rattle.vb_model.specs.Driver.{given, claim_refusal, AreClaimsFor}
 use Rattle.vb_model.specs.Life.{feature_refusal}
-use Rattle.vb_model.specs.Rogue.{may_need, is_read}
+use Rattle.vb_model.specs.Rogue.{pages_to_back, is_read}
 use Rattle.vb_model.specs.Step.{HonestStep, GuestStep}
 use Rattle.vb_model.specs.World.{World, WorldStep, Backs, IsOut, guest_at}
 
@@ -110,14 +110,14 @@ RefusedClaimsAreAnswered =
     (refusal : Refusal) → GuestStep g call claims reply new
     → claim_refusal claims ≡ Some refusal → (reply ≡ Refused refusal) × (new.frames ≡ g.frames)
 
--- a call claims no frame, or one for each page that it may need; none of these has a frame
+-- a call claims a frame for each page that it needs, and for no other; none of these has a frame
 abbrev pub ClaimsAreNeeded : Type 0
 ClaimsAreNeeded = (g : Guest) (call : Call) (claims : List Claim) (reply : Reply) (new : Guest)
-    → GuestStep g call claims reply new → (claims ≡ []) ⊎ AreClaimsFor (may_need call g) claims
+    → GuestStep g call claims reply new → AreClaimsFor (pages_to_back call g) claims
 
 abbrev pub NeededPagesAreBare : Type 0
-NeededPagesAreBare = (g : Guest) (call : Call) (page : ℕ) → IsTrue (is_in page (may_need call g))
-    → frame_of g.frames page ≡ None
+NeededPagesAreBare = (g : Guest) (call : Call) (page : ℕ)
+    → IsTrue (is_in page (pages_to_back call g)) → frame_of g.frames page ≡ None
 
 -- fewer frames are not out than are needed: those that are not went to earlier claims of the same
 -- call
@@ -129,7 +129,7 @@ pub record WantOfFrames (w : World) (pages : List ℕ) : Type 0 where
 abbrev pub NoFrameIsExact : Type 0
 NoFrameIsExact =
     (w v : World) (n : ℕ) (call : Call) (g : Guest) → guest_at w.guests n ≡ Some g
-    → WorldStep w (OnGuest n call) (Refused NoFrame) v → WantOfFrames w (may_need call g)
+    → WorldStep w (OnGuest n call) (Refused NoFrame) v → WantOfFrames w (pages_to_back call g)
 
 -- ---- want of memory
 
@@ -148,7 +148,7 @@ is_none_of _ = false
 -- a call may find no memory where it needs a frame, or is answered with bytes
 abbrev pub call_may_want : Option Guest → Call → Bool
 call_may_want None call = false
-call_may_want (Some g) call = is_read call || not (is_none_of (may_need call g))
+call_may_want (Some g) call = is_read call || not (is_none_of (pages_to_back call g))
 
 -- the question is answered with a list
 abbrev pub is_list : Query → Bool

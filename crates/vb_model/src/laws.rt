@@ -40,7 +40,9 @@ pub fn honest_guests_are_consistent()
 
 /// In every state of a run an honest guest is in order: requests of one kind have different heads
 /// and distinct pages, no more pages are visited than named, no more requests are outstanding than
-/// may be, just the first pages are reserved, and the status is 0, 15 or 131.
+/// may be, just the first pages are reserved, each held block is aligned, of order 9 at most and
+/// inside, the status is 0, 15 or 131, and at 15 the accepted features are among those that the
+/// device offers, with MUST_TELL_HOST and VERSION_1.
 pub fn honest_guests_are_in_order()
     ensures orderly { (frames : ℕ) (spares : List Bool) (h : History) → Run frames spares h
         → (n i : ℕ) (g : Guest) → IsHonest h n i g → IsOrderly g }
@@ -96,8 +98,9 @@ pub fn frames_enter_by_claims()
     ensures refused { RefusedClaimsAreAnswered }
 {}
 
-/// A call of a guest, honest or rogue, claims no frame, or one for each page that an initialisation
-/// or a write needs and that has none.
+/// A call of a guest, honest or rogue, claims a frame for each page that it needs and that has none:
+/// the pages of rings and buffers of an initialisation, the page of a write or a scribble, where the
+/// call isn't refused before. It claims no other.
 pub fn claims_are_needed()
     ensures needed { ClaimsAreNeeded }
     ensures bare { NeededPagesAreBare }

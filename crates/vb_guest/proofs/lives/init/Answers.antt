@@ -23,7 +23,8 @@ returns-then-bits-ne0 g c = record {
       (alone_stands keeps _ _ _ _ _ _ guest _ _ stands refl refl
       (λ honest. init_up _ _ _ guest c.args.wanted
       (λ e. c.if-bits-ne0.true (c.bits.ensures tt ∙ c.status.ensures ∙ e)) honest)
-      (λ rogue. init_up_rogue _ _ _ guest c.args.wanted rogue)));
+      (λ rogue. init_up_rogue _ _ _ guest c.args.wanted
+      (λ e. c.if-bits-ne0.true (c.bits.ensures tt ∙ c.status.ensures ∙ e)) rogue)));
 }
 
 pub supply_from-requires : goal.supply_from-requires
@@ -79,7 +80,7 @@ returns-in-Err-NoFrame g c =
           (first_noted g.K.FrameKeeper.answers _ _ _ _ _ _ _ _ c.clear.ensures did)
           c.supply_from.ensures.part honest)
           (λ rogue. init_unsupplied_rogue g.K.FrameKeeper.answers _ _ _ _ _ _ _ _ guest c.args.wanted
-          NoFrame NoFrameLeft refl (first_noted g.K.FrameKeeper.answers _ _ _ _ _ _ _ _ c.clear.ensures did)
+          NoFrame NoFrameLeft refl new (first_noted g.K.FrameKeeper.answers _ _ _ _ _ _ _ _ c.clear.ensures did)
           c.supply_from.ensures.part rogue);
     }
 
@@ -99,6 +100,6 @@ returns-in-Err-Memory g c =
           (first_noted g.K.FrameKeeper.answers _ _ _ _ _ _ _ _ c.clear.ensures did)
           c.supply_from.ensures.part honest)
           (λ rogue. init_unsupplied_rogue g.K.FrameKeeper.answers _ _ _ _ _ _ _ _ guest c.args.wanted
-          Memory NoMemory refl (first_noted g.K.FrameKeeper.answers _ _ _ _ _ _ _ _ c.clear.ensures did)
+          Memory NoMemory refl new (first_noted g.K.FrameKeeper.answers _ _ _ _ _ _ _ _ c.clear.ensures did)
           c.supply_from.ensures.part rogue);
     }

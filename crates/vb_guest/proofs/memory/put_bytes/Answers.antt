@@ -7,7 +7,8 @@ use Rattle.vb_ram.specs.Part.{Part}
 use Rattle.vb_guest.specs.Supply.{supply_of}
 use Rattle.vb_guest.proofs.Exactly.{puts_outside, puts_there, puts_bare}
 use Rattle.vb_guest.proofs.Kept.{as_it_was}
-use Rattle.vb_guest.proofs.RogueMemory.{write_rogue, scribble_alone, scribble_outside}
+use Rattle.vb_guest.proofs.RogueMemory.{write_done_rogue, write_outside_rogue, scribble_alone}
+use Rattle.vb_guest.proofs.RogueMemory.{scribble_outside}
 use Rattle.vb_guest.proofs.Standing.{alone_stands, steps_quiet, stands_as}
 use Rattle.vb_guest.proofs.WriteStep.{write_backed, write_outside, needs_frame, not_covered}
 use Rattle.vb_guest.proofs.memory.put_bytes.Goals as goal
@@ -23,8 +24,9 @@ returns-in-Ok g c =
           (λ honest. write_backed _ _ _ _ d guest _ _ _ used honest did.covers
           (λ some bare. (let wrong = did.needs_frame did.covers some bare in cc)) did.bytes
           did.part)
-          (λ rogue. write_rogue _ _ _ _ d guest _ _ _ Done did.bytes.rest.count
-          did.bytes.rest.backing did.part refl rogue)));
+          (λ rogue. write_done_rogue _ _ _ _ d guest _ _ _
+          (λ some bare. (let wrong = did.needs_frame did.covers some bare in cc)) did.bytes did.part
+          rogue)));
       scribbles = λ keeps d guest stands. rw (c.requires.none, ← c.as_slice.ensures)
           (steps_quiet keeps _ _ _ _ _ _ guest g.K.FrameKeeper.answers _ _ _ stands
           (scribble_alone keeps _ _ _ _ d guest _ _ _ stands did.covers
@@ -84,9 +86,8 @@ returns-in-Err-OutOfRam g c =
           (steps_quiet keeps _ _ _ _ _ _ guest g.K.FrameKeeper.answers _ _ _ stands
           (alone_stands keeps _ _ _ _ d d guest _ _ stands same.flag same.numbers
           (λ honest. write_outside _ _ _ _ d guest _ _ _ used honest here.unwritten did.part outside)
-          (λ rogue. write_rogue _ _ _ _ d guest _ _ _ (Refused Outside)
-          (ap (λ (m : Pages). length m) here.unwritten)
-          (λ page. ap (λ (m : Pages). frame_at m page) here.unwritten) did.part refl rogue)));
+          (λ rogue. write_outside_rogue _ _ _ _ d guest _ _ _ used here.unwritten did.part outside
+          rogue)));
       scribbles = λ keeps d guest stands. rw (c.requires.none, ← c.as_slice.ensures)
           (steps_quiet keeps _ _ _ _ _ _ guest g.K.FrameKeeper.answers _ _ _ stands
           (scribble_outside keeps _ _ _ _ d guest _ _ _ stands here.unwritten did.part outside));

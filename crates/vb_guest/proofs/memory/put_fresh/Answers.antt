@@ -27,7 +27,7 @@ returns-in-Err-NoFrame g c =
           (λ honest. write_unsupplied g.K.FrameKeeper.answers _ _ _ _ _ _ d guest _ _ _ NoFrame
           answer used honest c.requires.covers c.requires.some c.requires.bare did.mem did.part)
           (λ rogue. write_unsupplied_rogue g.K.FrameKeeper.answers _ _ _ _ _ _ d guest _ _ _
-          NoFrame answer rogue c.requires.some c.requires.bare did.mem did.part));
+          NoFrame answer used rogue c.requires.covers c.requires.some c.requires.bare did.mem did.part));
       scribbles = λ keeps d guest stands.
           rw (noted_alone _ _ _ _ is c.requires.none did.noted)
           (scribble_unsupplied keeps g.K.FrameKeeper.answers _ _ _ _ _ _ d guest _ _ _ NoFrame
@@ -53,7 +53,7 @@ returns-in-Err-Memory g c =
           (λ honest. write_unsupplied g.K.FrameKeeper.answers _ _ _ _ _ _ d guest _ _ _ Memory
           answer used honest c.requires.covers c.requires.some c.requires.bare did.mem did.part)
           (λ rogue. write_unsupplied_rogue g.K.FrameKeeper.answers _ _ _ _ _ _ d guest _ _ _
-          Memory answer rogue c.requires.some c.requires.bare did.mem did.part));
+          Memory answer used rogue c.requires.covers c.requires.some c.requires.bare did.mem did.part));
       scribbles = λ keeps d guest stands.
           rw (noted_alone _ _ _ _ is c.requires.none did.noted)
           (scribble_unsupplied keeps g.K.FrameKeeper.answers _ _ _ _ _ _ d guest _ _ _ Memory
@@ -80,7 +80,7 @@ returns g c =
           c.supply.ensures.supplied c.overwrite.ensures.wrote did.part c.supply.ensures.part
           c.overwrite.ensures.part)
           (λ rogue. write_supplied_rogue g.K.FrameKeeper.answers _ _ _ _ _ _ _ _ _ _ d guest _ _ _
-          _ answer rogue c.requires.covers c.requires.some c.requires.bare did.mem
+          _ answer used rogue c.requires.covers c.requires.some c.requires.bare did.mem
           c.supply.ensures.supplied c.overwrite.ensures.wrote did.part c.supply.ensures.part
           c.overwrite.ensures.part));
       scribbles = λ keeps d guest stands.

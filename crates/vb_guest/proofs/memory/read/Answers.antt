@@ -14,7 +14,7 @@ returns-then-not-held g c = record {
   step = λ keeps guest stands.
       alone_stands keeps _ _ _ _ _ _ guest _ _ stands refl refl
       (λ honest. read_not_held _ _ _ guest _ _ _ (sym c.if-not-held.ensures) honest)
-      (λ rogue. read_rogue _ _ _ guest _ _ _ _ (λ e. cc) rogue);
+      (λ rogue. read_rogue _ _ _ guest _ _ _ _ (λ e. cc) refl rogue);
 }
 
 pub returns-then-not-covers : goal.returns-then-not-covers
@@ -28,7 +28,7 @@ returns-then-not-covers g c = record {
       alone_stands keeps _ _ _ _ _ _ guest _ _ stands refl refl
       (λ honest. read_outside _ _ _ guest _ _ _ (sym c.if-not-held.ensures) honest
       (c.if-not-covers.ensures.outside refl))
-      (λ rogue. read_rogue _ _ _ guest _ _ _ _ (λ e. cc) rogue);
+      (λ rogue. read_rogue _ _ _ guest _ _ _ _ (λ e. cc) refl rogue);
 }
 
 pub read_bytes-requires : goal.read_bytes-requires
@@ -45,7 +45,7 @@ returns-in-Ok g c = record {
       alone_stands keeps _ _ _ _ _ _ guest _ _ stands refl refl
       (λ honest. read_done _ _ _ guest _ _ _ _ (sym c.if-not-held.ensures) honest
       (c.if-not-covers.ensures.inside refl) c.in-Ok.ensures)
-      (λ rogue. read_rogue _ _ _ guest _ _ _ _ (λ e. cc) rogue);
+      (λ rogue. read_rogue _ _ _ guest _ _ _ _ (λ e. cc) refl rogue);
 }
 
 pub returns-in-Err : goal.returns-in-Err
@@ -59,5 +59,5 @@ returns-in-Err g c = record {
       alone_stands keeps _ _ _ _ _ _ guest _ _ stands refl refl
       (λ honest. read_no_memory _ _ _ guest _ _ _ (sym c.if-not-held.ensures) honest
       (c.if-not-covers.ensures.inside refl))
-      (λ rogue. read_rogue _ _ _ guest _ _ _ _ (λ e. cc) rogue);
+      (λ rogue. read_rogue _ _ _ guest _ _ _ _ (λ e. cc) refl rogue);
 }

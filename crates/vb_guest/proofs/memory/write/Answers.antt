@@ -1,5 +1,5 @@
 use Rattle.std.proofs.Common.{sym, refl}
-use Rattle.vb_guest.proofs.RogueMemory.{write_rogue}
+use Rattle.vb_guest.proofs.RogueMemory.{write_unheld_rogue}
 use Rattle.vb_guest.proofs.Standing.{alone_stands, steps_quiet}
 use Rattle.vb_guest.proofs.WriteStep.{write_not_held}
 use Rattle.vb_guest.proofs.memory.write.Goals as goal
@@ -10,7 +10,7 @@ returns-then-not-held g c = record {
       (steps_quiet keeps _ _ _ _ _ _ guest g.K.FrameKeeper.answers _ _ _ stands
       (alone_stands keeps _ _ _ _ _ _ guest _ _ stands refl refl
       (λ honest. write_not_held _ _ _ guest _ _ _ (sym c.if-not-held.ensures) honest)
-      (λ rogue. write_rogue _ _ _ _ _ guest _ _ _ _ refl (λ page. refl) refl refl rogue)));
+      (λ rogue. write_unheld_rogue _ _ _ guest _ _ _ (sym c.if-not-held.ensures) rogue)));
   refused = λ _. (refl, record { mem = refl; part = refl; supply = refl; none = c.clear.ensures });
   exact = λ used. (let unused = sym c.if-not-held.ensures in cc);
 }
