@@ -119,10 +119,10 @@ not_its_own s =
     let own = a.are.2 in
     let later : a.are.1 ≡ [] = a.are.3 in
     let is : a.entries ≡ Called own.0 Work own.1 Done ∷ [] =
-    a.are.4 ∙ (ap (λ (l : List Entry). l ++ a.are.1) own.4
+    a.are.4 ∙ (ap (λ (l : List Entry). l ++ a.are.1) own.3
     ∙ ap (λ (l : List Entry). (Called own.0 Work own.1 Done ∷ []) ++ l) later) in
     let run = subst (λ (l : List Entry). GuestRun down l down) is a.run in
-    let wrong : Done ≡ Refused NotReady = run.1.1 in
+    let wrong : Done ≡ Refused NotReady = run.1.1.1 in
     cc
 
 -- ---- a page is offered and handed out again: a deflate request that names it came back before the

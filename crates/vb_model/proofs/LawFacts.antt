@@ -4,7 +4,7 @@ use Rattle.std.proofs.Common.{refl, ap, ◌∙◌, ◌⊎◌, inl, inr, length, 
 use Rattle.std.specs.Prelude.{Some, None, IsTrue}
 use Rattle.std.proofs.Math.ListN.{get_or-append}
 use Rattle.std.proofs.lemmas.List.{get_or-replicate}
-use Rattle.vb_model.specs.declared.places.Place.TheVariants.{Lent}
+use Rattle.vb_model.specs.declared.places.Place.TheVariants.{Reserved, Used, Lent}
 use Rattle.vb_model.specs.declared.calls.Call.TheVariants.{Init, Reset, Read, Write, Scribble, Work}
 use Rattle.vb_model.specs.declared.calls.Call.TheVariants.{Inflate, Take}
 use Rattle.vb_model.specs.declared.calls.Event.TheVariants.{Plug, Unplug, Restart}
@@ -18,7 +18,7 @@ use Rattle.vb_model.specs.Guest.{Guest}
 use Rattle.vb_model.specs.Life.{feature_refusal}
 use Rattle.vb_model.specs.World.{World, IsOut}
 use Rattle.vb_model.specs.StepLaws.{IsOfOthers, HasNoFrame, WantOfFrames, may_want_memory}
-use Rattle.vb_model.specs.StepLaws.{HasNoReservedBallooned, IsUnchanged}
+use Rattle.vb_model.specs.StepLaws.{HasNoReservedBallooned, IsUnchanged, call_may_want}
 use Rattle.vb_model.proofs.Samples.{ready, down}
 
 abbrev Same : ℕ → ℕ → Type 0
@@ -130,11 +130,21 @@ wants_of_questions : map (λ query. may_want_memory world (Asking 1 query))
     ∷ true ∷ false ∷ false ∷ false ∷ []
 wants_of_questions = refl
 
+-- page 17 isn't used, and the guest is up
 wants_of_calls : map (λ call. may_want_memory world (OnGuest 1 call))
     (Read 16 0 1 ∷ Write 16 0 (1 ∷ []) ∷ Write 17 0 (1 ∷ []) ∷ Write 17 0 []
-    ∷ Scribble 17 0 (1 ∷ []) ∷ Init 0 ∷ Reset ∷ Inflate 1 ∷ Take 0 ∷ Work ∷ []) ≡ true ∷ false
-    ∷ true ∷ false ∷ true ∷ true ∷ false ∷ false ∷ false ∷ false ∷ []
+    ∷ Scribble 17 0 (1 ∷ []) ∷ Scribble 17 4096 (1 ∷ []) ∷ Init 0 ∷ Reset ∷ Inflate 1 ∷ Take 0
+    ∷ Work ∷ []) ≡ true ∷ false ∷ false ∷ false ∷ true ∷ false ∷ false ∷ false ∷ false ∷ false
+    ∷ false ∷ []
 wants_of_calls = refl
+
+-- here it is used, and the guest is down
+abbrev before_its_start : Guest
+before_its_start = record backed { places = replicate 17 Reserved ++ (Used ∷ []); status = 0 }
+
+wants_of_a_start : map (λ call. call_may_want (Some before_its_start) call)
+    (Write 17 0 (1 ∷ []) ∷ Write 17 0 [] ∷ Init 0 ∷ []) ≡ true ∷ false ∷ true ∷ []
+wants_of_a_start = refl
 
 no_guest_wants_none : map (λ call. may_want_memory world (OnGuest 0 call))
     (Read 16 0 1 ∷ Init 0 ∷ []) ≡ false ∷ false ∷ []

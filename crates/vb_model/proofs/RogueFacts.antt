@@ -21,7 +21,7 @@ use Rattle.vb_model.specs.Refusals.{refusal_of}
 use Rattle.vb_model.specs.Rogue.{LosesFrames, HasAllPages, IsRogueAfter, ScribbleStep}
 use Rattle.vb_model.specs.Rogue.{RogueStep, pages_to_back}
 use Rattle.vb_model.specs.Step.{HonestStep}
-use Rattle.vb_model.proofs.Samples.{ready, down}
+use Rattle.vb_model.proofs.Samples.{config, ready, down}
 
 -- ---- a scribble is refused outside memory or past the end of its page, whatever place the page is
 -- at

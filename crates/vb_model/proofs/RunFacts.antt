@@ -113,13 +113,13 @@ no_entries new run = run
 
 an_end_elsewhere : GuestRun ready (Called Balancer (SetTarget 3) [] Done ∷ []) ready → ⊥
 an_end_elsewhere (mid, step, end) =
-    let e : Same 0 3 = ap (λ (g : Guest). g.target) (end ∙ step.2) in omega arith
+    let e : Same 0 3 = ap (λ (g : Guest). g.target) (end ∙ step.1.2) in omega arith
 
 a_start_elsewhere : (floor spare : ℕ) (new : Guest)
     → GuestRun ready (Called Balancer (SetTarget 3) [] Done ∷ Looked floor spare ∷ []) new
     → new.target ≡ 3
 a_start_elsewhere floor spare new (mid, step, (next, look, end)) =
-    ap (λ (g : Guest). g.target) (end ∙ (look.1 ∙ step.2))
+    ap (λ (g : Guest). g.target) (end ∙ (look.1 ∙ step.1.2))
 
 -- a history begins with a guest as it is plugged in, with the target kept
 empty_history : IsHistory config 0 [] down
