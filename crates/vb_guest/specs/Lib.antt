@@ -8,3 +8,4 @@ pub mod Steps
 pub mod Replies
 pub mod Lives
 pub mod Exact
+pub mod Dispatch

@@ -3,6 +3,7 @@
 ghost use Rattle.std.specs.Prelude.{◌≡◌, Bool, false};
 ghost use Rattle.vb_model.specs.Guest.{Guest};
 ghost use Rattle.vb_model.specs.World.{Answers};
+ghost use Rattle.vb_guest.specs.Dispatch.{CallsBy};
 ghost use Rattle.vb_guest.specs.Stands.{Stands};
 ghost use Rattle.vb_guest.specs.Steps.{AreOut, StepsOver};
 ghost use Rattle.vb_guest.specs.Supply.{supply_of};
@@ -43,6 +44,19 @@ pub fn call<D: Device, K: FrameKeeper>(
         → StepsOver (Stands keeps (D.mem device.new) (D.part device.new) driver.new) K.answers
         (supply_of (D.part device.old) (K.out keeper.old))
         (supply_of (D.part device.new) (K.out keeper.new)) claims.new.items g call.now result }
+    ensures exact { CallsBy K.answers
+        (record {
+          mem = D.mem device.old;
+          part = D.part device.old;
+          driver = driver.old;
+          supply = supply_of (D.part device.old) (K.out keeper.old);
+        })
+        (record {
+          mem = D.mem device.new;
+          part = D.part device.new;
+          driver = driver.new;
+          supply = supply_of (D.part device.new) (K.out keeper.new);
+        }) claims.new.items call.now result }
 {
     claims.clear();
     match call {

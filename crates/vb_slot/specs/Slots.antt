@@ -8,6 +8,7 @@ use Rattle.vb_ram.specs.Pages.{Pages}
 use Rattle.vb_ram.specs.Part.{Part}
 use Rattle.vb_driver.specs.State.{DriverState}
 use Rattle.vb_slot.specs.declared.slot.Slot.{Slot}
+use Rattle.vb_guest.specs.Dispatch.{Moment}
 use Rattle.vb_guest.specs.Stands.{Stands}
 use Rattle.vb_guest.specs.Steps.{IsBare}
 use Rattle.vb_guest.specs.Supply.{Supply, supply_of}
@@ -39,6 +40,17 @@ stands_for keeps mem part s g = Stands keeps (memory_of mem s) (part_of part s) 
 abbrev pub supply_from : {X : Type 0} {F : X → Type 0} → (DynBox X Global F → Part) → Slot X F
     → List Bool → Supply
 supply_from part s out = supply_of (part_of part s) out
+
+-- Memory, the device's part, the driver, and the frames of the device and of a keeper.
+abbrev pub moment_of : {X : Type 0} {F : X → Type 0} → (DynBox X Global F → Pages)
+    → (DynBox X Global F → Part) → Slot X F → List Bool → Moment
+moment_of mem part s out =
+    record {
+      mem = memory_of mem s;
+      part = part_of part s;
+      driver = driver_of s;
+      supply = supply_from part s out;
+    }
 
 -- What the claims of the last call were answered, in order.
 abbrev pub claims_of : {X : Type 0} {F : X → Type 0} → Slot X F → List Claim

@@ -3,7 +3,8 @@
 ghost use Rattle.std.specs.Prelude.{◌≡◌, ℕ, Bool, true, false, []};
 ghost use Rattle.vb_model.specs.Guest.{Guest};
 ghost use Rattle.vb_model.specs.World.{Answers};
-ghost use Rattle.vb_slot.specs.Slots.{stands_for, supply_from, claims_of};
+ghost use Rattle.vb_guest.specs.Dispatch.{CallsBy};
+ghost use Rattle.vb_slot.specs.Slots.{stands_for, supply_from, claims_of, moment_of};
 ghost use Rattle.vb_guest.specs.Steps.{AreOut, StepsOver};
 
 use crate::boxed::BoxedDevice;
@@ -44,6 +45,8 @@ impl Slot {
             → StepsOver (stands_for keeps mem part self.new) K.answers
             (supply_from part self.old (K.out keeper.old))
             (supply_from part self.new (K.out keeper.new)) (claims_of self.new) g call.now result }
+        ensures exact { CallsBy K.answers (moment_of mem part self.old (K.out keeper.old))
+            (moment_of mem part self.new (K.out keeper.new)) (claims_of self.new) call.now result }
     {
         vb_guest::call(
             alloc,

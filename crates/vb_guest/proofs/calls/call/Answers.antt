@@ -1,3 +1,4 @@
+use Rattle.std.proofs.Common.{refl}
 use Rattle.vb_guest.proofs.Standing.{steps_quiet}
 use Rattle.vb_guest.proofs.calls.call.Goals as goal
 
@@ -6,6 +7,7 @@ returns-in-Init g c =
     record {
       step = λ keeps guest stands. rw (c.in-Init.is, c.ready_reply.ensures)
           (c.init.ensures.step keeps guest stands);
+      exact = rw (c.in-Init.is) (c.init.result, c.ready_reply.ensures, c.init.ensures.exact);
     }
 
 pub returns-in-Alloc : goal.returns-in-Alloc
@@ -14,6 +16,7 @@ returns-in-Alloc g c =
       step = λ keeps guest stands. rw (c.clear.ensures, c.in-Alloc.is, c.page_reply.ensures)
           (steps_quiet keeps _ _ _ _ _ _ guest g.K.FrameKeeper.answers _ _ _ stands
           (c.alloc.ensures.step keeps _ _ guest stands));
+      exact = rw (c.in-Alloc.is) (c.alloc.result, c.page_reply.ensures, c.alloc.ensures.exact, (refl, refl));
     }
 
 pub returns-in-Free : goal.returns-in-Free
@@ -22,6 +25,7 @@ returns-in-Free g c =
       step = λ keeps guest stands. rw (c.clear.ensures, c.in-Free.is, c.done_reply.ensures)
           (steps_quiet keeps _ _ _ _ _ _ guest g.K.FrameKeeper.answers _ _ _ stands
           (c.free.ensures.step keeps _ _ guest stands));
+      exact = rw (c.in-Free.is) (c.free.result, c.done_reply.ensures, c.free.ensures.exact, (refl, refl));
     }
 
 pub returns-in-Read : goal.returns-in-Read
@@ -30,6 +34,7 @@ returns-in-Read g c =
       step = λ keeps guest stands. rw (c.clear.ensures, c.in-Read.is, c.bytes_reply.ensures)
           (steps_quiet keeps _ _ _ _ _ _ guest g.K.FrameKeeper.answers _ _ _ stands
           (c.read.ensures.step keeps guest stands));
+      exact = rw (c.in-Read.is) (c.read.result, c.bytes_reply.ensures, c.read.ensures.exact, refl);
     }
 
 pub returns-in-Write : goal.returns-in-Write
@@ -37,6 +42,7 @@ returns-in-Write g c =
     record {
       step = λ keeps guest stands. rw (c.in-Write.is, c.done_reply-in-Write.ensures)
           (c.write.ensures.step keeps guest stands);
+      exact = rw (c.in-Write.is) (c.write.result, c.done_reply-in-Write.ensures, record { refused = c.write.ensures.refused; exact = c.write.ensures.exact }, refl);
     }
 
 pub returns-in-Inflate : goal.returns-in-Inflate
@@ -45,6 +51,7 @@ returns-in-Inflate g c =
       step = λ keeps guest stands. rw (c.clear.ensures, c.in-Inflate.is, c.posted_reply.ensures)
           (steps_quiet keeps _ _ _ _ _ _ guest g.K.FrameKeeper.answers _ _ _ stands
           (c.inflate.ensures.step keeps guest stands));
+      exact = rw (c.in-Inflate.is) (c.inflate.result, c.posted_reply.ensures, c.inflate.ensures.exact);
     }
 
 pub returns-in-Deflate : goal.returns-in-Deflate
@@ -54,6 +61,7 @@ returns-in-Deflate g c =
           rw (c.clear.ensures, c.in-Deflate.is, c.posted_reply-in-Deflate.ensures)
           (steps_quiet keeps _ _ _ _ _ _ guest g.K.FrameKeeper.answers _ _ _ stands
           (c.deflate.ensures.step keeps guest stands));
+      exact = rw (c.in-Deflate.is) (c.deflate.result, c.posted_reply-in-Deflate.ensures, c.deflate.ensures.exact);
     }
 
 pub returns-in-Oom : goal.returns-in-Oom
@@ -61,6 +69,7 @@ returns-in-Oom g c = record {
   step = λ keeps guest stands. rw (c.clear.ensures, c.in-Oom.is, c.posted_reply-in-Oom.ensures)
       (steps_quiet keeps _ _ _ _ _ _ guest g.K.FrameKeeper.answers _ _ _ stands
       (c.oom.ensures.step keeps guest stands));
+  exact = rw (c.in-Oom.is) (c.oom.result, c.posted_reply-in-Oom.ensures, c.oom.ensures.exact);
 }
 
 pub returns-in-Reap : goal.returns-in-Reap
@@ -69,6 +78,7 @@ returns-in-Reap g c =
       step = λ keeps guest stands. rw (c.clear.ensures, c.in-Reap.is, c.reaped_reply.ensures)
           (steps_quiet keeps _ _ _ _ _ _ guest g.K.FrameKeeper.answers _ _ _ stands
           (c.reap.ensures.step keeps guest stands));
+      exact = rw (c.in-Reap.is) (c.reap.result, c.reaped_reply.ensures, c.reap.ensures.exact);
     }
 
 pub returns-in-Take : goal.returns-in-Take
@@ -77,6 +87,7 @@ returns-in-Take g c =
       step = λ keeps guest stands. rw (c.clear.ensures, c.in-Take.is, c.taken_reply.ensures)
           (steps_quiet keeps _ _ _ _ _ _ guest g.K.FrameKeeper.answers _ _ _ stands
           (c.take.ensures.step keeps _ guest stands));
+      exact = rw (c.in-Take.is) (c.take.result, c.taken_reply.ensures, c.take.ensures.exact, refl);
     }
 
 pub returns-in-Work : goal.returns-in-Work
@@ -84,6 +95,7 @@ returns-in-Work g c =
     record {
       step = λ keeps guest stands. rw (c.clear.ensures, c.in-Work.is, c.worked_reply.ensures)
           (c.work.ensures.step keeps _ guest stands);
+      exact = rw (c.in-Work.is) (c.work.result, c.worked_reply.ensures, c.work.ensures.exact, refl);
     }
 
 pub returns-in-Finish : goal.returns-in-Finish
@@ -91,6 +103,7 @@ returns-in-Finish g c =
     record {
       step = λ keeps guest stands. rw (c.clear.ensures, c.in-Finish.is, c.finished_reply.ensures)
           (c.finish.ensures.step keeps _ guest stands);
+      exact = rw (c.in-Finish.is) (c.finish.result, c.finished_reply.ensures, c.finish.ensures.exact, refl);
     }
 
 pub returns-in-Sweep : goal.returns-in-Sweep
@@ -98,6 +111,7 @@ returns-in-Sweep g c =
     record {
       step = λ keeps guest stands. rw (c.clear.ensures, c.in-Sweep.is, c.swept_reply.ensures)
           (c.sweep.ensures.step keeps _ guest stands);
+      exact = rw (c.in-Sweep.is) (c.sweep.result, c.swept_reply.ensures, c.sweep.ensures.exact, refl);
     }
 
 pub returns-in-SetTarget : goal.returns-in-SetTarget
@@ -106,6 +120,7 @@ returns-in-SetTarget g c =
       step = λ keeps guest stands. rw (c.clear.ensures, c.in-SetTarget.is)
           (steps_quiet keeps _ _ _ _ _ _ guest g.K.FrameKeeper.answers _ _ _ stands
           (c.set_target.ensures.step keeps _ guest stands));
+      exact = rw (c.in-SetTarget.is) (refl, c.set_target.ensures.mem, c.set_target.ensures.part, refl);
     }
 
 pub returns-in-Reset : goal.returns-in-Reset
@@ -114,6 +129,7 @@ returns-in-Reset g c =
       step = λ keeps guest stands. rw (c.clear.ensures, c.in-Reset.is)
           (steps_quiet keeps _ _ _ _ _ _ guest g.K.FrameKeeper.answers _ _ _ stands
           (c.reset.ensures.step keeps guest stands));
+      exact = rw (c.in-Reset.is) (refl, c.reset.ensures.exact);
     }
 
 pub returns-in-Report : goal.returns-in-Report
@@ -123,6 +139,7 @@ returns-in-Report g c =
           rw (c.clear.ensures, c.in-Report.is, c.posted_reply-in-Report.ensures)
           (steps_quiet keeps _ _ _ _ _ _ guest g.K.FrameKeeper.answers _ _ _ stands
           (c.report.ensures.step keeps guest stands));
+      exact = rw (c.in-Report.is) (c.report.result, c.posted_reply-in-Report.ensures, c.report.ensures.exact);
     }
 
 pub returns-in-Stats : goal.returns-in-Stats
@@ -131,6 +148,7 @@ returns-in-Stats g c =
       step = λ keeps guest stands. rw (c.clear.ensures, c.in-Stats.is, c.filled_reply.ensures)
           (steps_quiet keeps _ _ _ _ _ _ guest g.K.FrameKeeper.answers _ _ _ stands
           (c.stats.ensures.step keeps guest stands));
+      exact = rw (c.in-Stats.is) (c.stats.result, c.filled_reply.ensures, c.stats.ensures.exact);
     }
 
 pub returns-in-Ask : goal.returns-in-Ask
@@ -139,4 +157,5 @@ returns-in-Ask g c =
       step = λ keeps guest stands. rw (c.clear.ensures, c.in-Ask.is, c.asked_reply.ensures)
           (steps_quiet keeps _ _ _ _ _ _ guest g.K.FrameKeeper.answers _ _ _ stands
           (c.ask.ensures.step keeps _ guest stands));
+      exact = rw (c.in-Ask.is) (c.ask.result, c.asked_reply.ensures, c.ask.ensures.exact, refl);
     }
