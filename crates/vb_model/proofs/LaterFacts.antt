@@ -1,4 +1,5 @@
--- Histories that are safe at first and go wrong behind another event: of guest 1, whose status is 0.
+-- Histories that are safe at first and go wrong behind another event: of guest 1, which is at
+-- status 0.
 use Rattle.std.proofs.Common.{◌≡◌, ℕ, zero, suc, ◌<◌, ◌≤◌, true, false, List, [], ◌∷◌, ◌++◌}
 use Rattle.std.proofs.Common.{replicate, refl, ap, subst, ◌∙◌, inl, arith}
 use Rattle.std.specs.Prelude.{Option, Some, None, slice_get}
