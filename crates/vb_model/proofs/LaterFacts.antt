@@ -1,11 +1,12 @@
--- Histories that are safe at first and go wrong behind another event: of guest 1, whose status is 0.
+-- Histories that are safe at first and go wrong behind another event: of guest 1, which is at
+-- status 0.
 use Rattle.std.proofs.Common.{◌≡◌, ℕ, zero, suc, ◌<◌, ◌≤◌, true, false, List, [], ◌∷◌, ◌++◌}
 use Rattle.std.proofs.Common.{replicate, refl, ap, subst, ◌∙◌, inl, arith}
 use Rattle.std.specs.Prelude.{Option, Some, None, slice_get}
 use Rattle.vb_model.specs.declared.places.Place.TheVariants.{Free as FreePlace, Used}
 use Rattle.vb_model.specs.declared.places.Place.TheVariants.{Giving, Lent, Taking}
 use Rattle.vb_model.specs.declared.calls.Call.TheVariants.{Alloc, Write, Inflate, Reap, Take, Work}
-use Rattle.vb_model.specs.declared.calls.Call.TheVariants.{Sweep}
+use Rattle.vb_model.specs.declared.calls.Call.TheVariants.{Stats, Sweep}
 use Rattle.vb_model.specs.declared.calls.Event.{Event}
 use Rattle.vb_model.specs.declared.calls.Event.TheVariants.{Guest as OnGuest, Restart}
 use Rattle.vb_model.specs.declared.calls.Event.TheVariants.{Frames as CountFrames}
@@ -68,8 +69,12 @@ quiet_but_different s = let e : Used ≡ Lent =
 abbrev Same : ℕ → ℕ → Type 0
 Same a b = a ≡ b
 
+-- while a request is out
 abbrev counted : Guest
-counted = record (page_16_at Giving down) { actual = 1 }
+counted = record (page_16_at Giving down) {
+  inflate = record { posted = request 0 (16 ∷ []) 0 ∷ []; taken = []; done = [] };
+  actual = 1;
+}
 
 actual_too_high : Safe (becomes counted) → ⊥
 actual_too_high s = let e : Same 1 0 = s.actual 1 1 counted (refl, refl) in omega arith
@@ -105,11 +110,12 @@ bytes_changed s =
     ≡ Some (OnGuest 1 (Write 16 own.0 own.1)) = own.2 in cc) in
     cc
 
-broken_chain : Safe (goes CountFrames down (OnGuest 1 (Take 0)) (Refused (Broken 3)) down) → ⊥
-broken_chain s = (s.not_broken 1 1 down (Take 0) 3 (refl, refl) refl).0 refl
+-- no call is answered so, of no queue
+broken_chain : Safe (goes CountFrames down (OnGuest 1 (Take 4)) (Refused (Broken 9)) down) → ⊥
+broken_chain s = (s.not_broken 1 1 down (Take 4) 9 (refl, refl) refl).0 refl
 
-broken_ring : Safe (goes CountFrames down (OnGuest 1 (Reap 0)) (Refused RingBroken) down) → ⊥
-broken_ring s = (s.not_broken 1 1 down (Reap 0) 0 (refl, refl) refl).1 refl
+broken_ring : Safe (goes CountFrames down (OnGuest 1 Stats) (Refused RingBroken) down) → ⊥
+broken_ring s = (s.not_broken 1 1 down Stats 0 (refl, refl) refl).1 refl
 
 -- behind a restart of the guest itself: its new life is a run of its own too
 not_its_own : Safe (goes (Restart 1) down (OnGuest 1 Work) Done down) → ⊥

@@ -1,7 +1,7 @@
 -- Worked facts of the words in which the laws over single steps are stated.
 use Rattle.std.proofs.Common.{◌≡◌, ℕ, ◌<◌, List, [], ◌∷◌, ◌++◌, true, false, map, replicate}
 use Rattle.std.proofs.Common.{refl, ap, ◌∙◌, ◌⊎◌, inl, inr, length, arith}
-use Rattle.std.specs.Prelude.{Some, None, IsTrue}
+use Rattle.std.specs.Prelude.{Bool, Option, Some, None, unwrap_or, IsTrue}
 use Rattle.std.proofs.Math.ListN.{get_or-append}
 use Rattle.std.proofs.lemmas.List.{get_or-replicate}
 use Rattle.vb_model.specs.declared.places.Place.TheVariants.{Reserved, Used, Lent}
@@ -12,11 +12,15 @@ use Rattle.vb_model.specs.declared.calls.Event.TheVariants.{Guest as OnGuest, Qu
 use Rattle.vb_model.specs.declared.calls.Event.TheVariants.{Balance, Frames as CountFrames}
 use Rattle.vb_model.specs.declared.calls.Query.TheVariants.{Places, PagesAt, PagesBallooned}
 use Rattle.vb_model.specs.declared.calls.Query.TheVariants.{Balloon, Memory, Backing}
+use Rattle.vb_model.specs.declared.calls.Event.{Event}
 use Rattle.vb_model.specs.declared.replies.Refusal.TheVariants.{NotHeld, MustTellMissing, NoFrame}
+use Rattle.vb_model.specs.declared.replies.Refusal.TheVariants.{NoDevice}
+use Rattle.vb_model.specs.declared.replies.Reply.TheVariants.{Plugged, Done, Frames, Refused}
 use Rattle.vb_model.specs.Tests.{is_in}
 use Rattle.vb_model.specs.Guest.{Guest}
 use Rattle.vb_model.specs.Life.{feature_refusal}
 use Rattle.vb_model.specs.World.{World, IsOut}
+use Rattle.vb_model.specs.HostLaws.{WorldsAgree}
 use Rattle.vb_model.specs.StepLaws.{IsOfOthers, HasNoFrame, WantOfFrames, may_want_memory}
 use Rattle.vb_model.specs.StepLaws.{HasNoReservedBallooned, IsUnchanged, call_may_want}
 use Rattle.vb_model.proofs.Samples.{ready, down}
@@ -78,6 +82,49 @@ frame_0_is_free want = by want.claimed want.fewer want.all_out
 
 no_page_wants_one : WantOfFrames world [] → ⊥
 no_page_wants_one want = let l : length want.claimed < 0 = want.fewer in absurd (omega (arith, l))
+
+-- ---- two answers of the host
+
+other_world : world ≡ empty → ⊥
+other_world e = let guests : Same 2 0 = ap (λ (w : World). length w.guests) e in omega arith
+
+abbrev AreDetermined : Event → Type 0
+AreDetermined event =
+    (WorldsAgree event world Done world (Frames 0 6) world → ⊥)
+    × (WorldsAgree event world Done world Done empty → ⊥)
+
+determined_events : AreDetermined (Unplug 1) × AreDetermined (Restart 1)
+    × AreDetermined (Asking 1 Places) × AreDetermined (Balance 0) × AreDetermined CountFrames
+determined_events = (
+  ((λ a. cc), (λ a. other_world a.1)),
+  ((λ a. cc), (λ a. other_world a.1)),
+  ((λ a. cc), (λ a. other_world a.1)),
+  ((λ a. cc), (λ a. other_world a.1)),
+  ((λ a. cc), (λ a. other_world a.1)),
+)
+
+-- with one number one world, with a number given up one number, and refused or not
+one_number_two_worlds : WorldsAgree (Plug 64 8 1) world (Plugged 0) world (Plugged 0) empty → ⊥
+one_number_two_worlds a = other_world (a.0 refl)
+
+two_numbers : WorldsAgree (Plug 64 8 1) (record world { given_up = Some 0 }) (Plugged 0) world
+    (Plugged 2) world → ⊥
+two_numbers a = let e : Plugged 0 ≡ Plugged 2 = a.1 0 refl in cc
+
+plugged_or_not : WorldsAgree (Plug 64 8 1) world (Refused NoDevice) world (Plugged 0) world → ⊥
+plugged_or_not a = let e : Refused NoDevice ≡ Plugged 0 = a.2 NoDevice refl in cc
+
+-- whatever a guest's call leaves open
+other_frames : WorldsAgree (OnGuest 1 Work) world Done world Done (record world { frames = 7 }) → ⊥
+other_frames a = let e : Same 6 7 = a.0 in omega arith
+
+other_spares : WorldsAgree (OnGuest 1 Work) world Done world Done
+    (record world { spares = true ∷ [] }) → ⊥
+other_spares a = let e : Same 0 1 = ap (λ (spares : List Bool). length spares) a.1 in omega arith
+
+other_number : WorldsAgree (OnGuest 1 Work) world Done world Done
+    (record world { given_up = Some 3 }) → ⊥
+other_number a = let e : Same 4 3 = ap (λ (n : Option ℕ). unwrap_or n 4) a.2 in omega arith
 
 -- ---- reserved pages
 

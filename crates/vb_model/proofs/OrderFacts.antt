@@ -1,7 +1,7 @@
 -- Guests that are not in order, one for each thing that order promises; and answers that don't
 -- agree.
-use Rattle.std.proofs.Common.{◌≡◌, ℕ, ◌≤◌, List, [], ◌∷◌, ◌++◌, true, false, map, replicate, refl, ap}
-use Rattle.std.proofs.Common.{◌⊎◌, inl, inr, arith}
+use Rattle.std.proofs.Common.{◌≡◌, ℕ, ◌≤◌, List, [], ◌∷◌, ◌++◌, true, false, map, replicate, refl}
+use Rattle.std.proofs.Common.{ap, ◌⊎◌, inl, inr, arith}
 use Rattle.std.specs.List.{range_with_len}
 use Rattle.vb_model.specs.declared.places.Place.TheVariants.{Reserved, Free as FreePlace}
 use Rattle.vb_model.specs.declared.calls.Call.{Call}
@@ -9,7 +9,8 @@ use Rattle.vb_model.specs.declared.calls.Call.TheVariants.{Init, Reset, Alloc, F
 use Rattle.vb_model.specs.declared.calls.Call.TheVariants.{Scribble, Inflate, Deflate, Oom, Report}
 use Rattle.vb_model.specs.declared.calls.Call.TheVariants.{Stats, Reap, Take, Work, Finish, Sweep}
 use Rattle.vb_model.specs.declared.calls.Call.TheVariants.{Ask, SetTarget}
-use Rattle.vb_model.specs.declared.replies.Refusal.TheVariants.{NoPages, OutOfRam, NoMemory, NotHeld}
+use Rattle.vb_model.specs.declared.replies.Refusal.TheVariants.{NoPages, OutOfRam, NoMemory}
+use Rattle.vb_model.specs.declared.replies.Refusal.TheVariants.{NotHeld}
 use Rattle.vb_model.specs.declared.replies.Reply.TheVariants.{Done, Idle, Page, Posted}
 use Rattle.vb_model.specs.declared.replies.Reply.TheVariants.{Refused}
 use Rattle.vb_model.specs.Requests.{Request, Requests}

@@ -79,8 +79,8 @@ another_end s =
     let e : Same 63 64 = ap (λ (w : World). w.frames) ends in
     omega arith
 
--- ---- it is safe: a used page that a used inflate request names, ballooned as such a page is, loses
--- its frame by a sweep; nothing but safety forbids that
+-- ---- it is safe: a used page that a used inflate request names, ballooned as such a page is,
+-- loses its frame by a sweep; nothing but safety forbids that
 
 abbrev at : Guest → World
 at g = record { frames = 64; guests = Some g ∷ []; spares = []; given_up = None }
