@@ -14,6 +14,7 @@ ghost use Rattle.vb_model.specs.StepLaws.{ClaimsAreNeeded, NeededPagesAreBare, N
 ghost use Rattle.vb_model.specs.StepLaws.{HasNoReservedBallooned, RefusalsChangeNothing};
 ghost use Rattle.vb_model.specs.StepLaws.{RefusedEventsChangeNothing, NoMemoryIsExact};
 ghost use Rattle.vb_model.specs.StepLaws.{WantsChangeNothing};
+ghost use Rattle.vb_model.specs.LastWrites.{ReadsGiveLastWrites};
 ghost use Rattle.vb_model.specs.Determined.{HonestStepsAgree};
 ghost use Rattle.vb_model.specs.GuestRun.{InOneLife, Alone};
 ghost use Rattle.vb_model.specs.declared.calls.Event.{Event};
@@ -140,6 +141,13 @@ pub fn a_guest_runs_alone()
         → Steps w events replies after → InOneLife n events → guest_at w.guests n ≡ Some g
         → guest_at (last_world w after).guests n ≡ Some new → new.rogue ≡ false
         → Alone n w events replies after g new }
+{}
+
+/// Where an allocation of an honest guest holds a page from one state of a run on, a read of the
+/// page gives, byte by byte, what the guest's last write to the byte since then put there, else the
+/// byte that the page had in that state: zero, where it had no frame.
+pub fn reads_give_last_writes()
+    ensures reads { ReadsGiveLastWrites }
 {}
 
 /// A run that is one, so that what is promised of runs is promised of something: a guest is plugged
