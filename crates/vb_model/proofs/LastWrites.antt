@@ -30,13 +30,13 @@ use Rattle.vb_model.specs.World.{World, WorldStep, guest_at}
 use Rattle.vb_model.specs.Run.{History, Run, states, guest_in}
 use Rattle.vb_model.specs.Safe.{IsHonest, IsAt, IsWriteTo}
 use Rattle.vb_model.specs.LastWrites.{byte_of, byte_written, byte_after, last_written, HoldsPage}
-use Rattle.vb_model.specs.LastWrites.{ReadsGiveLastWrites}
+use Rattle.vb_model.specs.LastWrites.{ReadsGiveLastWrites, ContentsStay}
 use Rattle.vb_model.proofs.Tables.{each_page-get}
 use Rattle.vb_model.proofs.CallSteps.{match_cases, supplying_cases, not_refused, supplied}
 use Rattle.vb_model.proofs.Changes.{was_honest, same_some}
 use Rattle.vb_model.proofs.Alone.{Own, Nothing_happens, Own_call, New_target, Next, next}
 use Rattle.vb_model.proofs.Runs.{Positions, positions, StepAt, GuestAt, guest_there}
-use Rattle.vb_model.proofs.Runs.{keeps_contents, run_is_blank}
+use Rattle.vb_model.proofs.Runs.{keeps_contents, contents_stay, run_is_blank}
 
 -- ---- the call of a guest that stays there
 
@@ -325,6 +325,9 @@ read_done w v n page offset len bytes g here honest s = own m.own
         (RogueStep g (Read page offset len) claims (ReadBytes bytes) m.new)
         (HonestStep g (Read page offset len) claims (ReadBytes bytes) m.new)) honest did)
     own (New_target floor targets is answered q) = absurd cc
+
+pub contents_are_kept : ContentsStay
+contents_are_kept frames spares h r = contents_stay h (positions frames spares h r)
 
 pub reads_give : ReadsGiveLastWrites
 reads_give frames spares h r n page i k offset len bytes g holds here event reply =

@@ -1,17 +1,32 @@
--- What the pages of an allocation read as: byte by byte, what the last write put there.
+-- What pages hold, and what those of an allocation read as: byte by byte, what the last write put
+-- there.
 use Rattle.std.specs.Prelude.{◌≡◌, ℕ, zero, suc, ◌+◌, ◌-◌, ◌<◌, ◌≤◌, Bool, ◌==◌, ◌&&◌, nat_le}
 use Rattle.std.specs.Prelude.{nat_lt, List, length, Option, Some, slice_get, slice_index_or}
-use Rattle.std.specs.Prelude.{if◌then◌else◌}
+use Rattle.std.specs.Prelude.{if◌then◌else◌, None, IsSome, ◌⊎◌}
 use Rattle.vb_model.specs.declared.places.Place.TheVariants.{Used}
 use Rattle.vb_model.specs.declared.calls.Call.TheVariants.{Read, Write}
 use Rattle.vb_model.specs.declared.calls.Event.{Event}
 use Rattle.vb_model.specs.declared.calls.Event.TheVariants.{Guest as OnGuest}
 use Rattle.vb_model.specs.declared.replies.Reply.{Reply}
 use Rattle.vb_model.specs.declared.replies.Reply.TheVariants.{Done, ReadBytes}
-use Rattle.vb_model.specs.Guest.{Guest}
+use Rattle.vb_model.specs.Guest.{Guest, frame_of}
 use Rattle.vb_model.specs.Driver.{contents_of}
 use Rattle.vb_model.specs.Run.{History, Run, guest_in}
-use Rattle.vb_model.specs.Safe.{IsHonest, IsAt}
+use Rattle.vb_model.specs.Safe.{IsHonest, IsAt, IsWriteTo}
+
+-- the page reads as it did, or it has lost its frame
+abbrev pub StaysOrLoses : ℕ → Guest → Guest → Type 0
+StaysOrLoses page g new =
+    (contents_of new page ≡ contents_of g page)
+    ⊎ (IsSome (frame_of g.frames page) × (frame_of new.frames page ≡ None))
+
+-- What a page of an honest guest holds stays, whatever place it is at, until a write of the guest's
+-- own to it or until it loses its frame.
+abbrev pub ContentsStay : Type 0
+ContentsStay =
+    (frames : ℕ) (spares : List Bool) (h : History) → Run frames spares h
+    → (n i page : ℕ) (g new : Guest) → IsHonest h n i g → IsHonest h n (i + 1) new
+    → ¬ IsWriteTo h n page i → StaysOrLoses page g new
 
 -- a byte of a page
 abbrev pub byte_of : Guest → ℕ → ℕ → ℕ

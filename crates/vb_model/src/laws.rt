@@ -14,7 +14,7 @@ ghost use Rattle.vb_model.specs.StepLaws.{ClaimsAreNeeded, NeededPagesAreBare, N
 ghost use Rattle.vb_model.specs.StepLaws.{HasNoReservedBallooned, RefusalsChangeNothing};
 ghost use Rattle.vb_model.specs.StepLaws.{RefusedEventsChangeNothing, NoMemoryIsExact};
 ghost use Rattle.vb_model.specs.StepLaws.{WantsChangeNothing};
-ghost use Rattle.vb_model.specs.LastWrites.{ReadsGiveLastWrites};
+ghost use Rattle.vb_model.specs.LastWrites.{ContentsStay, ReadsGiveLastWrites};
 ghost use Rattle.vb_model.specs.Determined.{HonestStepsAgree};
 ghost use Rattle.vb_model.specs.GuestRun.{InOneLife, Alone};
 ghost use Rattle.vb_model.specs.declared.calls.Event.{Event};
@@ -141,6 +141,12 @@ pub fn a_guest_runs_alone()
         → Steps w events replies after → InOneLife n events → guest_at w.guests n ≡ Some g
         → guest_at (last_world w after).guests n ≡ Some new → new.rogue ≡ false
         → Alone n w events replies after g new }
+{}
+
+/// In a run a page of an honest guest, at whatever place it is, reads as it did until a write of the
+/// guest's own to it or until it loses its frame; then it reads as zeros.
+pub fn contents_stay()
+    ensures stay { ContentsStay }
 {}
 
 /// Where an allocation of an honest guest holds a page from one state of a run on, a read of the
