@@ -1,7 +1,7 @@
 -- A read gives what the last writes put there.
-use Rattle.std.proofs.Common.{◌≡◌, ◌≢◌, ℕ, zero, suc, ◌+◌, ◌-◌, ◌<◌, ◌≤◌, Bool, true, false, List}
-use Rattle.std.proofs.Common.{◌∷◌, [], ◌++◌, length, get_or, take, drop, refl, sym, ap, subst, ◌∙◌}
-use Rattle.std.proofs.Common.{◌⊎◌, inl, inr, arith, cond}
+use Rattle.std.proofs.Common.{◌≡◌, ℕ, zero, suc, ◌+◌, ◌-◌, ◌<◌, ◌≤◌, Bool, true, false, List}
+use Rattle.std.proofs.Common.{[], ◌++◌, length, get_or, take, drop, refl, sym, ap, subst, ◌∙◌}
+use Rattle.std.proofs.Common.{inl, inr, arith, cond}
 use Rattle.std.specs.Prelude.{◌==◌, ◌&&◌, ◌||◌, nat_le, nat_lt, Option, Some, slice_get, IsFalse}
 use Rattle.std.specs.Prelude.{MatchBool}
 use Rattle.std.proofs.lemmas.List.{get_or-take, get_or-drop, get_or_append_left, length-take-le}
@@ -14,25 +14,23 @@ use Rattle.vb_model.specs.declared.calls.Call.TheVariants.{Read, Write}
 use Rattle.vb_model.specs.declared.calls.Claim.{Claim}
 use Rattle.vb_model.specs.declared.calls.Event.{Event}
 use Rattle.vb_model.specs.declared.calls.Event.TheVariants.{Guest as OnGuest}
-use Rattle.vb_model.specs.declared.replies.Refusal.{Refusal}
 use Rattle.vb_model.specs.declared.replies.Refusal.TheVariants.{NoMemory}
 use Rattle.vb_model.specs.declared.replies.Reply.{Reply}
 use Rattle.vb_model.specs.declared.replies.Reply.TheVariants.{Done, ReadBytes, Refused}
-use Rattle.vb_model.specs.Tests.{each_page}
 use Rattle.vb_model.specs.Limits.{page_size}
 use Rattle.vb_model.specs.Guest.{Guest}
 use Rattle.vb_model.specs.Refusals.{refusal_of, tests}
-use Rattle.vb_model.specs.Driver.{contents_of, overwritten, pages_needed, Written, Reads}
+use Rattle.vb_model.specs.Driver.{contents_of, overwritten, pages_needed, Written}
 use Rattle.vb_model.specs.Rogue.{RogueStep}
 use Rattle.vb_model.specs.Step.{Performs, HonestStep, GuestStep}
 use Rattle.vb_model.specs.Blank.{IsBlank}
 use Rattle.vb_model.specs.World.{World, WorldStep, guest_at}
-use Rattle.vb_model.specs.Run.{History, Run, states, guest_in}
+use Rattle.vb_model.specs.Run.{History, Run, guest_in}
 use Rattle.vb_model.specs.Safe.{IsHonest, IsAt, IsWriteTo}
 use Rattle.vb_model.specs.LastWrites.{byte_of, byte_written, byte_after, last_written, HoldsPage}
 use Rattle.vb_model.specs.LastWrites.{ReadsGiveLastWrites, ContentsStay}
 use Rattle.vb_model.proofs.Tables.{each_page-get}
-use Rattle.vb_model.proofs.CallSteps.{match_cases, supplying_cases, not_refused, supplied}
+use Rattle.vb_model.proofs.CallSteps.{match_cases, supplying_cases, not_refused}
 use Rattle.vb_model.proofs.Changes.{was_honest, same_some}
 use Rattle.vb_model.proofs.Alone.{Own, Nothing_happens, Own_call, New_target, Next, next}
 use Rattle.vb_model.proofs.Runs.{Positions, positions, StepAt, GuestAt, guest_there}

@@ -17,7 +17,7 @@ use Rattle.vb_model.specs.declared.replies.Reply.TheVariants.{Done, Idle, Refuse
 use Rattle.vb_model.specs.declared.places.Place.TheVariants.{Lent, Used}
 use Rattle.vb_model.specs.Guest.{Guest, is_ballooned, frame_of}
 use Rattle.vb_model.specs.Refusals.{refusal_of}
-use Rattle.vb_model.specs.Rogue.{LosesFrames, HasAllPages, RogueStep, pages_to_back}
+use Rattle.vb_model.specs.Rogue.{LosesFrames, RogueStep, pages_to_back}
 use Rattle.vb_model.specs.Step.{HonestStep}
 use Rattle.vb_model.proofs.Samples.{ready, down}
 

@@ -1,17 +1,15 @@
 -- Worked facts of the statistics buffer.
 use Rattle.std.proofs.Common.{◌≡◌, [], refl}
-use Rattle.std.specs.Prelude.{ℕ, Some, None, Option, if◌then◌else◌, drop}
+use Rattle.std.specs.Prelude.{ℕ, Some, None}
 use Rattle.vb_model.specs.declared.calls.Call.TheVariants.{Reset, Stats, Take, Reap, Finish, Ask}
-use Rattle.vb_model.specs.declared.replies.Refusal.{Refusal}
 use Rattle.vb_model.specs.declared.replies.Refusal.TheVariants.{NotReady, NoFeature, NoQueue, Busy}
 use Rattle.vb_model.specs.declared.replies.Refusal.TheVariants.{NotTaken}
 use Rattle.vb_model.specs.declared.replies.Reply.TheVariants.{Ready, Done, Filled, NotUsed, Taken}
 use Rattle.vb_model.specs.declared.replies.Reply.TheVariants.{Empty, Asked}
-use Rattle.vb_model.specs.declared.layout.TheConstants.{STATISTICS_QUEUE}
 use Rattle.vb_model.specs.Requests.{Figures, Buffer, NoBuffer, BufferPosted, BufferTaken}
 use Rattle.vb_model.specs.Requests.{BufferDone}
 use Rattle.vb_model.specs.Guest.{Guest, LastStatistics}
-use Rattle.vb_model.specs.Refusals.{refusal_of, first_refusal, tests}
+use Rattle.vb_model.specs.Refusals.{refusal_of}
 use Rattle.vb_model.specs.Driver.{figures}
 use Rattle.vb_model.specs.Life.{Negotiates}
 use Rattle.vb_model.specs.Step.{Performs, HonestStep}

@@ -2,8 +2,7 @@
 -- test goes first.
 -- 79 is a ready device that needs a reset, 143 one whose driver gave up, 207 both.
 use Rattle.std.proofs.Common.{◌≡◌, true, false, [], ◌∷◌, map, refl}
-use Rattle.std.specs.Prelude.{Option, Some, None}
-use Rattle.vb_model.specs.declared.replies.Refusal.{Refusal}
+use Rattle.std.specs.Prelude.{Some, None}
 use Rattle.vb_model.specs.declared.replies.Refusal.TheVariants.{NotReady, NeedsReset, QueueFull}
 use Rattle.vb_model.specs.declared.replies.Refusal.TheVariants.{Nothing, NoFeature, NoQueue, Busy}
 use Rattle.vb_model.specs.declared.replies.Refusal.TheVariants.{NotTaken, NotWorked, NotBallooned}
