@@ -15,6 +15,7 @@ ghost use Rattle.vb_model.specs.StepLaws.{HasNoReservedBallooned, RefusalsChange
 ghost use Rattle.vb_model.specs.StepLaws.{RefusedEventsChangeNothing, NoMemoryIsExact};
 ghost use Rattle.vb_model.specs.StepLaws.{WantsChangeNothing};
 ghost use Rattle.vb_model.specs.LastWrites.{ContentsStay, ReadsGiveLastWrites};
+ghost use Rattle.vb_model.specs.HonestRuns.{HonestStay};
 ghost use Rattle.vb_model.specs.Determined.{HonestStepsAgree};
 ghost use Rattle.vb_model.specs.GuestRun.{InOneLife, Alone};
 ghost use Rattle.vb_model.specs.declared.calls.Event.{Event};
@@ -154,6 +155,11 @@ pub fn contents_stay()
 /// byte that the page had in that state: zero, where it had no frame.
 pub fn reads_give_last_writes()
     ensures reads { ReadsGiveLastWrites }
+{}
+
+/// In a run a guest that is honest stays so until it makes a scribble.
+pub fn honest_guests_stay_honest()
+    ensures stay { HonestStay }
 {}
 
 /// A run that is one, so that what is promised of runs is promised of something: a guest is plugged
