@@ -15,7 +15,7 @@ ghost use Rattle.vb_model.specs.StepLaws.{HasNoReservedBallooned, RefusalsChange
 ghost use Rattle.vb_model.specs.StepLaws.{RefusedEventsChangeNothing, NoMemoryIsExact};
 ghost use Rattle.vb_model.specs.StepLaws.{WantsChangeNothing};
 ghost use Rattle.vb_model.specs.LastWrites.{ContentsStay, ReadsGiveLastWrites};
-ghost use Rattle.vb_model.specs.HonestRuns.{HonestStay};
+ghost use Rattle.vb_model.specs.HonestRuns.{HonestStay, HonestAreIdleUnlessReady};
 ghost use Rattle.vb_model.specs.Determined.{HonestStepsAgree};
 ghost use Rattle.vb_model.specs.GuestRun.{InOneLife, Alone};
 ghost use Rattle.vb_model.specs.declared.calls.Event.{Event};
@@ -160,6 +160,12 @@ pub fn reads_give_last_writes()
 /// In a run a guest that is honest stays so until it makes a scribble.
 pub fn honest_guests_stay_honest()
     ensures stay { HonestStay }
+{}
+
+/// In every state of a run nothing is outstanding of an honest guest whose status isn't 15, and it
+/// has a statistics buffer just where its status is 15 and STATS_VQ was accepted.
+pub fn honest_guests_are_idle_unless_ready()
+    ensures idle { HonestAreIdleUnlessReady }
 {}
 
 /// A run that is one, so that what is promised of runs is promised of something: a guest is plugged
