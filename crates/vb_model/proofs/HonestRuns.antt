@@ -1,10 +1,10 @@
 -- A guest stays honest until it scribbles.
-use Rattle.std.proofs.Common.{◌≡◌, ℕ, zero, suc, ◌+◌, ◌<◌, ◌≤◌, Bool, false, List, sym, ap, subst}
+use Rattle.std.proofs.Common.{◌≡◌, ℕ, zero, suc, ◌+◌, sym, ap, subst}
 use Rattle.std.proofs.Common.{◌∙◌, arith}
 use Rattle.std.specs.Prelude.{Option, Some, IsFalse}
 use Rattle.vb_model.specs.declared.calls.Event.{Event}
 use Rattle.vb_model.specs.Guest.{Guest}
-use Rattle.vb_model.specs.Run.{History, Run, guest_in}
+use Rattle.vb_model.specs.Run.{History, guest_in}
 use Rattle.vb_model.specs.Safe.{IsHonest}
 use Rattle.vb_model.specs.HonestRuns.{IsThere, MakesNoScribble, HonestStay}
 use Rattle.vb_model.proofs.Changes.{same_some}
