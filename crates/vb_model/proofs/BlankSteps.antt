@@ -41,9 +41,6 @@ use Rattle.vb_model.proofs.Changes.{was_honest}
 abbrev frames_of : Guest → List (Option ℕ)
 frames_of g = g.frames
 
-abbrev contents_in : Guest → List (List ℕ)
-contents_in g = g.contents
-
 abbrev size_of : Guest → ℕ
 size_of g = g.config.pages
 

@@ -1,5 +1,5 @@
 -- What one event does to a guest: others, targets, configurations, frames that go back.
-use Rattle.std.proofs.Common.{◌≡◌, ◌≢◌, ℕ, Bool, true, false, cond, List, [], refl, sym, ap, subst}
+use Rattle.std.proofs.Common.{◌≡◌, ◌≢◌, ℕ, Bool, true, false, cond, List, refl, sym, ap, subst}
 use Rattle.std.proofs.Common.{◌∙◌, ◌⊎◌, inl, inr}
 use Rattle.std.specs.Prelude.{Option, Some, None, MatchBool, is_none}
 use Rattle.std.proofs.lemmas.Bool.{cases_eq}
@@ -18,17 +18,16 @@ use Rattle.vb_model.specs.declared.replies.Refusal.TheVariants.{NoGuest}
 use Rattle.vb_model.specs.declared.replies.Reply.{Reply}
 use Rattle.vb_model.specs.declared.replies.Reply.TheVariants.{Done, Refused}
 use Rattle.vb_model.specs.Guest.{Guest, frame_of}
-use Rattle.vb_model.specs.Refusals.{refusal_of, first_refusal}
-use Rattle.vb_model.specs.Driver.{claim_refusal, pages_needed}
+use Rattle.vb_model.specs.Refusals.{first_refusal}
 use Rattle.vb_model.specs.Life.{after_restart}
-use Rattle.vb_model.specs.Rogue.{IsRogueAfter, RogueStep, Scribbled, target_after}
-use Rattle.vb_model.specs.Step.{Performs, HonestStep, GuestStep}
+use Rattle.vb_model.specs.Rogue.{IsRogueAfter, RogueStep, target_after}
+use Rattle.vb_model.specs.Step.{HonestStep, GuestStep}
 use Rattle.vb_model.specs.World.{World, WorldStep, Happens, guest_at, with_guest, put_guest}
 use Rattle.vb_model.specs.World.{world_tests}
 use Rattle.vb_model.specs.StepLaws.{OthersAreUntouched, TargetsAreKept, TargetsAreSet}
 use Rattle.vb_model.specs.StepLaws.{ConfigurationsAreKept, FramesGoBack, RestartedAreHonest}
 use Rattle.vb_model.specs.StepLaws.{RoguesAreMade, RoguesStay, ScribblesMakeRogues}
-use Rattle.vb_model.proofs.CallSteps.{match_cases, supplied}
+use Rattle.vb_model.proofs.CallSteps.{match_cases}
 use Rattle.vb_model.proofs.Changes.{with_guest-same, same_some, no_frames}
 use Rattle.vb_model.proofs.Alone.{Own, Nothing_happens, Own_call, New_target, next, scribbled_rogue}
 use Rattle.vb_model.proofs.Unchanged.{IsScribble, MayBeRogue, step_keeps}

@@ -1,7 +1,7 @@
 -- Which events may find no memory, and that nothing is changed then.
 use Rattle.std.proofs.Common.{sym, ◌≡◌, ℕ, zero, suc, Bool, true, false, List, [], ◌∷◌, refl, ap}
 use Rattle.std.proofs.Common.{◌∙◌, ◌⊎◌, inl, inr}
-use Rattle.std.specs.Prelude.{◌==◌, ◌||◌, not, Option, Some, None, MatchBool}
+use Rattle.std.specs.Prelude.{◌==◌, ◌||◌, not, Option, Some, MatchBool}
 use Rattle.vb_model.specs.declared.calls.Call.{Call}
 use Rattle.vb_model.specs.declared.calls.Claim.{Claim}
 use Rattle.vb_model.specs.declared.calls.Event.{Event}

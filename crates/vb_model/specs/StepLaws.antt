@@ -1,6 +1,6 @@
 -- What one event may change: targets, configurations, other guests, frames; and who claims frames.
-use Rattle.std.specs.Prelude.{◌≡◌, ◌≢◌, ℕ, ◌<◌, Bool, true, false, not, ◌||◌, List, [], Option, Some}
-use Rattle.std.specs.Prelude.{None, length, IsTrue, ◌⊎◌}
+use Rattle.std.specs.Prelude.{◌≡◌, ◌≢◌, ℕ, ◌<◌, Bool, true, false, not, ◌||◌, List, [], Option}
+use Rattle.std.specs.Prelude.{Some, None, length, IsTrue, ◌⊎◌}
 use Rattle.vb_model.specs.declared.calls.Call.{Call}
 use Rattle.vb_model.specs.declared.calls.Call.TheVariants.{Init, Scribble, SetTarget}
 use Rattle.vb_model.specs.declared.calls.Claim.{Claim}

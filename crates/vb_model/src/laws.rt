@@ -14,6 +14,8 @@ ghost use Rattle.vb_model.specs.StepLaws.{ClaimsAreNeeded, NeededPagesAreBare, N
 ghost use Rattle.vb_model.specs.StepLaws.{HasNoReservedBallooned, RefusalsChangeNothing};
 ghost use Rattle.vb_model.specs.StepLaws.{RefusedEventsChangeNothing, NoMemoryIsExact};
 ghost use Rattle.vb_model.specs.StepLaws.{WantsChangeNothing};
+ghost use Rattle.vb_model.specs.LastWrites.{ContentsStay, ReadsGiveLastWrites};
+ghost use Rattle.vb_model.specs.HonestRuns.{HonestStay, HonestAreIdleUnlessReady};
 ghost use Rattle.vb_model.specs.Determined.{HonestStepsAgree};
 ghost use Rattle.vb_model.specs.GuestRun.{InOneLife, Alone};
 ghost use Rattle.vb_model.specs.HostLaws.{HostStepsAgree, CallsLeaveTheHost};
@@ -30,9 +32,9 @@ pub fn every_run_is_safe()
     ensures safe { (frames : ℕ) (spares : List Bool) (h : History) → Run frames spares h → Safe h }
 {}
 
-/// In every state of a run an honest guest's parts agree: each used page lies in one held block, and
-/// each giving, taking or reporting page is named by one request of the kind, and no other page is;
-/// a page is ballooned where it is lent, or named by a used inflate or by a deflate on its way.
+/// In every state of a run an honest guest's parts agree: each used page lies in one held block,
+/// and each giving, taking or reporting page is named by one request of the kind, and no other page
+/// is; a page is ballooned where it is lent, or named by a used inflate or by a deflate on its way.
 pub fn honest_guests_are_consistent()
     ensures consistent { (frames : ℕ) (spares : List Bool) (h : History) → Run frames spares h
         → (n i : ℕ) (g : Guest) → IsHonest h n i g → IsConsistent g }
@@ -61,8 +63,8 @@ pub fn reserved_pages_are_never_ballooned()
         → (n i : ℕ) (g : Guest) → guest_in h n i ≡ Some g → HasNoReservedBallooned g }
 {}
 
-/// The target of a guest, honest or rogue, changes by `target` and by a balance alone, in a new life
-/// neither; `target` sets it.
+/// The target of a guest, honest or rogue, changes by `target` and by a balance alone, in a new
+/// life neither; `target` sets it.
 pub fn targets_are_kept()
     ensures kept { TargetsAreKept }
     ensures set { TargetsAreSet }
@@ -91,16 +93,16 @@ pub fn rogues_are_made_by_scribbles()
     ensures stay { RoguesStay }
 {}
 
-/// A frame enters a guest, honest or rogue, by a claim of its call alone; and a claim that is refused
-/// is the reply, with which no frame enters or leaves.
+/// A frame enters a guest, honest or rogue, by a claim of its call alone; and a claim that is
+/// refused is the reply, with which no frame enters or leaves.
 pub fn frames_enter_by_claims()
     ensures enter { FramesEnterByClaims }
     ensures refused { RefusedClaimsAreAnswered }
 {}
 
-/// A call of a guest, honest or rogue, claims a frame for each page that it needs and that has none:
-/// the pages of rings and buffers of an initialisation, the page of a write or a scribble, where the
-/// call isn't refused before. It claims no other.
+/// A call of a guest, honest or rogue, claims a frame for each page that it needs and that has
+/// none: the pages of rings and buffers of an initialisation, the page of a write or a scribble,
+/// where the call isn't refused before. It claims no other.
 pub fn claims_are_needed()
     ensures needed { ClaimsAreNeeded }
     ensures bare { NeededPagesAreBare }
@@ -112,22 +114,22 @@ pub fn no_frame_is_exact()
     ensures exact { NoFrameIsExact }
 {}
 
-/// Want of memory is answered by a plug; by a call of a guest, honest or rogue, that claimed a frame
-/// and was refused for it; by a read; and by a question for a list of pages: by no other event. It
-/// changes nothing.
+/// Want of memory is answered by a plug; by a call of a guest, honest or rogue, that claimed a
+/// frame and was refused for it; by a read; and by a question for a list of pages: by no other
+/// event. It changes nothing.
 pub fn want_of_memory_changes_nothing()
     ensures calls { NoMemoryIsExact }
     ensures events { WantsChangeNothing }
 {}
 
-/// A step of an honest guest is determined by its state, the call and what its claims were given, but
-/// for the block of an allocation, the free pages of an inflate, and want of memory for bytes.
+/// A step of an honest guest is determined by its state, the call and what its claims were given,
+/// but for the block of an allocation, the free pages of an inflate, and want of memory for bytes.
 pub fn honest_steps_agree()
     ensures agree { HonestStepsAgree }
 {}
 
-/// A refusal leaves an honest guest as it was, but for an initialisation whose features are refused,
-/// which leaves the status at 131; a refused event of the host leaves the world as it was.
+/// A refusal leaves an honest guest as it was, but for an initialisation whose features are
+/// refused, which leaves the status at 131; a refused event of the host leaves the world as it was.
 pub fn refusals_change_nothing()
     ensures calls { RefusalsChangeNothing }
     ensures events { RefusedEventsChangeNothing }
@@ -141,6 +143,30 @@ pub fn a_guest_runs_alone()
         → Steps w events replies after → InOneLife n events → guest_at w.guests n ≡ Some g
         → guest_at (last_world w after).guests n ≡ Some new → new.rogue ≡ false
         → Alone n w events replies after g new }
+{}
+
+/// In a run a page of an honest guest, at whatever place it is, reads as it did until a write of
+/// the guest's own to it or until it loses its frame; then it reads as zeros.
+pub fn contents_stay()
+    ensures stay { ContentsStay }
+{}
+
+/// Where an allocation of an honest guest holds a page from one state of a run on, a read of the
+/// page gives, byte by byte, what the guest's last write to the byte since then put there, else the
+/// byte that the page had in that state: zero, where it had no frame.
+pub fn reads_give_last_writes()
+    ensures reads { ReadsGiveLastWrites }
+{}
+
+/// In a run a guest that is honest stays so until it makes a scribble.
+pub fn honest_guests_stay_honest()
+    ensures stay { HonestStay }
+{}
+
+/// In every state of a run nothing is outstanding of an honest guest whose status isn't 15, and it
+/// has a statistics buffer just where its status is 15 and STATS_VQ was accepted.
+pub fn honest_guests_are_idle_unless_ready()
+    ensures idle { HonestAreIdleUnlessReady }
 {}
 
 /// A run that is one, so that what is promised of runs is promised of something: a guest is plugged
