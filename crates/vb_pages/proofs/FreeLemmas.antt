@@ -74,9 +74,6 @@ list-empty (x ∷ xs) (suc i) = list-empty xs i
 
 -- ---- sound
 
-pub list_once : (f : FreePages) (cpu : ℕ) → IsSoundFree f → Once f.areas (list_of f cpu)
-list_once f cpu sound p = omega (arith, sound.once p, times_part p f.lists cpu)
-
 -- where no page is free more often than before
 pub sound_from : (f g : FreePages) → IsSoundFree f → length g.areas ≡ length f.areas
     → length g.lists ≡ length f.lists → ((p : ℕ) → times_free g p ≤ times_free f p)
@@ -696,17 +693,6 @@ takes_any_sound f new k None sound t =
     subst (λ (x : List Bool). IsSoundFree (free_of x f.lists)) (sym t.1) sound
 takes_any_sound f new k (Some s) sound t = takes_sound f new k s sound t
 
-pub tries_block : (f : FreePages) (cpu k : ℕ) (got : Option ℕ) (new : List Bool) → 0 < k
-    → TakesBlock f.areas k got new → Tries f cpu k got (free_of new f.lists)
-tries_block f cpu zero got new h t = absurd (omega arith)
-tries_block f cpu (suc k) got new h t = (t, refl)
-
-pub tries_page : (f : FreePages) (cpu k : ℕ) (got : Option ℕ) (new : List Bool) (rest : List ℕ)
-    → k ≤ 0 → TakesSingle f.areas (list_of f cpu) got new rest
-    → Tries f cpu k got (free_of new (set f.lists cpu rest))
-tries_page f cpu zero got new rest h t = (rest, t, refl)
-tries_page f cpu (suc k) got new rest h t = absurd (omega arith)
-
 -- a second try, after the first gave nothing
 pub serves_later : (f mid new : FreePages) (cpu order : ℕ) (got : Option ℕ)
     → Tries f cpu order None mid → Tries (drained mid) cpu order got new
@@ -723,16 +709,8 @@ serves_later f mid new cpu order got first second =
         (a, subst (λ (x : FreePages). Tries (drained f) cpu order None x) e b, e)
     step (Some s) a b = inr (a, b)
 
-pub give_large : (f : FreePages) (cpu s k : ℕ) → 0 < k
-    → free_of (with_pages (pages_of (block_at s k)) f.areas) f.lists ≡ given_back cpu s k f
-give_large f cpu s zero h = absurd (omega arith)
-give_large f cpu s (suc k) h = refl
-
 pub room_zero : (f : FreePages) (s k : ℕ) → k ≤ 0 → HasRoomFor f s k → HasRoomFor f s 0
 room_zero f s k h room = let e : k ≡ 0 = omega arith in subst (λ (n : ℕ). HasRoomFor f s n) e room
-
-pub given_zero : (f : FreePages) (cpu s k : ℕ) → k ≤ 0 → given_back cpu s 0 f ≡ given_back cpu s k f
-given_zero f cpu s k h = let e : 0 ≡ k = omega arith in ap (λ (n : ℕ). given_back cpu s n f) e
 
 -- ---- a whole row of lists
 

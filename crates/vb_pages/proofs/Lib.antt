@@ -7,3 +7,4 @@ pub mod ListsLemmas
 pub mod FreeLemmas
 pub mod HeldLemmas
 pub mod PagesLemmas
+mod NumberFacts

@@ -1,9 +1,8 @@
 //! The buddy areas: a set of pages, kept as its maximal blocks.
 
-ghost use Rattle.std.specs.Prelude.{◌≡◌, ℕ, ◌+◌, ◌%◌, ◌^◌, ◌<◌, ◌≤◌, ◌↔◌, List, length, false};
-ghost use Rattle.std.specs.Prelude.{IsTrue, IfOk, MatchOption, count_by, Some, None};
+ghost use Rattle.std.specs.Prelude.{◌≡◌, ℕ, ◌+◌, ◌%◌, ◌^◌, ◌<◌, ◌≤◌, List, length, false};
+ghost use Rattle.std.specs.Prelude.{IfOk, MatchOption, count_by, Some, None};
 ghost use Rattle.vb_model.specs.Pages.{pages_of};
-ghost use Rattle.vb_pages.specs.Table.{order_at};
 ghost use Rattle.vb_pages.specs.Areas.{has, with_pages, without_pages, unreserved, block_at};
 ghost use Rattle.vb_pages.specs.Areas.{IsBlock, IsMaximal, LiesOutside, TakesBlock, IsLowestFrom};
 ghost use Rattle.vb_pages.specs.Areas.{AreBlockBits};

@@ -1,15 +1,15 @@
 //! Free pages: the areas, and a list for each processor.
 
-ghost use Rattle.std.specs.Prelude.{◌≡◌, ℕ, ◌+◌, ◌^◌, ◌<◌, ◌≤◌, List, Bool, [], ◌∷◌, ◌++◌, length};
-ghost use Rattle.std.specs.Prelude.{map, ◌==◌, replicate, MatchOption, IfOk, IfSome, OnSome};
-ghost use Rattle.std.specs.Prelude.{count_by, nat_lt, false};
+ghost use Rattle.std.specs.Prelude.{◌≡◌, ℕ, ◌+◌, ◌<◌, ◌≤◌, [], length};
+ghost use Rattle.std.specs.Prelude.{map, ◌==◌, replicate, MatchOption, IfOk};
+ghost use Rattle.std.specs.Prelude.{count_by, nat_lt};
 ghost use Rattle.std.specs.List.{flat_map};
 ghost use Rattle.vb_model.specs.Tests.{one_if};
 ghost use Rattle.vb_model.specs.Pages.{pages_of};
 ghost use Rattle.vb_pages.specs.Areas.{has, with_pages, without_pages, unreserved, block_at};
-ghost use Rattle.vb_pages.specs.Areas.{IsBlock, IsMaximal, IsLowestFrom, HasNoBlock};
+ghost use Rattle.vb_pages.specs.Areas.{IsMaximal, IsLowestFrom};
 ghost use Rattle.vb_pages.specs.Areas.{AreBlockBits};
-ghost use Rattle.vb_pages.specs.FreePages.{FreePages as Free, times_free, free_count, drained};
+ghost use Rattle.vb_pages.specs.FreePages.{FreePages as Free, free_count, drained};
 ghost use Rattle.vb_pages.specs.FreePages.{TakesPages, Tries, Serves, given_back, IsSoundFree};
 ghost use Rattle.vb_pages.specs.FreePages.{HasRoomFor};
 

@@ -1,6 +1,6 @@
 //! A processor's list of single pages.
 
-ghost use Rattle.std.specs.Prelude.{◌≡◌, ℕ, ◌+◌, ◌<◌, ◌≤◌, ◌==◌, List, Bool, [], ◌∷◌, ◌++◌, length};
+ghost use Rattle.std.specs.Prelude.{◌≡◌, ℕ, ◌+◌, ◌<◌, ◌≤◌, ◌==◌, List, [], ◌∷◌, ◌++◌, length};
 ghost use Rattle.std.specs.Prelude.{take, drop, MatchOption, count_by, nat_lt};
 ghost use Rattle.vb_model.specs.Tests.{one_if};
 ghost use Rattle.vb_pages.specs.Areas.{has, with_pages};

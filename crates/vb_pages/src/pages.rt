@@ -1,15 +1,15 @@
 //! The calls of the page allocator.
 
-ghost use Rattle.std.specs.Prelude.{◌≡◌, ℕ, ◌+◌, ◌^◌, ◌<◌, ◌≤◌, ◌↔◌, ◌⊎◌, ◌==◌, ◌&&◌, ◌||◌, not};
-ghost use Rattle.std.specs.Prelude.{Bool, List, [], length, map, Ok, Err, IfOk, OnOk, OnErr};
-ghost use Rattle.std.specs.Prelude.{IfSome, IsTrue, count_by, false, true};
+ghost use Rattle.std.specs.Prelude.{◌≡◌, ℕ, ◌+◌, ◌<◌, ◌≤◌, ◌↔◌, ◌⊎◌, ◌==◌, ◌&&◌, ◌||◌, not};
+ghost use Rattle.std.specs.Prelude.{[], length, map, Ok, Err, IfOk, OnOk, OnErr};
+ghost use Rattle.std.specs.Prelude.{IfSome, IsTrue, count_by, false};
 ghost use Rattle.vb_model.specs.Tests.{is_in, one_if};
 ghost use Rattle.vb_model.specs.Pages.{covers};
-ghost use Rattle.vb_model.specs.Driver.{with_block, without_block};
+ghost use Rattle.vb_model.specs.Driver.{with_block};
 ghost use Rattle.vb_pages.specs.Areas.{block_at, IsBlock, AreBlockBits};
 ghost use Rattle.vb_pages.specs.FreePages.{free_count, drained};
 ghost use Rattle.vb_pages.specs.PageState.{PageState, page_count, cpu_count, is_free_page};
-ghost use Rattle.vb_pages.specs.PageState.{is_held_page, is_held_block, is_unreserved};
+ghost use Rattle.vb_pages.specs.PageState.{is_held_page, is_held_block};
 ghost use Rattle.vb_pages.specs.PageState.{new_page_state, IsWhollyFree, AllocatesBlock, freed};
 ghost use Rattle.vb_pages.specs.PageState.{TakesFree, with_free_block, Isolates, IsApart};
 ghost use Rattle.vb_pages.specs.PageState.{IsGuestSize, HasRoomIn};

@@ -1,12 +1,10 @@
 //! What the worked examples say, and a walk against a plain model of sets and lists.
 
-ghost use Rattle.std.specs.Prelude.{◌≡◌, ◌≤◌, ◌<◌, length};
-ghost use Rattle.vb_pages.specs.FreePages.{free_count};
 ghost use Rattle.vb_pages.specs.PageState.{IsGuestSize};
 
 mod walk;
 
-use crate::{PageFault, Pages};
+use crate::{FreeBlock, PageFault, Pages};
 use Answer::{Block, Count, Done, Is, NoBlock, Page, Refused, Three, Words};
 use PageFault::{BadCpu, BadOrder, NoPages, NotHeld};
 use Step::{Alloc, Bits, Free, FreeCount, Held, Isolate, Renew, TakeThree};
@@ -119,7 +117,35 @@ fn first_wrong(
     Ok(first_wrong_line(&mut pages, lines))
 }
 
-static TWO_PROCESSORS: [(Step, Answer); 10] = [
+static FAULT_NUMBERS: [(PageFault, u8); 4] = [
+    (BadOrder, 1),
+    (BadCpu, 2),
+    (NoPages, 3),
+    (NotHeld, 4),
+];
+
+/// Each has its number, and the first one equals itself alone.
+#[test]
+fn faults_have_their_numbers(rt: HostRuntime) {
+    for (fault, number) in &FAULT_NUMBERS {
+        assert!(rt; *fault as u8 == *number, "{number}");
+        assert!(rt; (*fault == BadOrder) == (*number == 1), "{number}");
+    }
+}
+
+fn block(start: u32, order: u32) -> FreeBlock {
+    FreeBlock { start, order }
+}
+
+/// Blocks that differ are told apart; the default one is page 0.
+#[test]
+fn differing_blocks_are_told_apart(rt: HostRuntime) {
+    assert!(rt; block(0, 0) == FreeBlock::default() && block(0, 0) != block(1, 0));
+    assert!(rt; block(0, 0) != block(0, 1));
+}
+
+/// Two processors, one call after the other.
+const TWO_PROCESSORS: [(Step, Answer); 10] = [
     (Alloc(0, 0), Page(16)),
     (Alloc(1, 0), Page(24)),
     (Free(1, 16, 0), Done),
@@ -132,14 +158,8 @@ static TWO_PROCESSORS: [(Step, Answer); 10] = [
     (Free(0, 17, 1), Refused(NotHeld)),
 ];
 
-/// Two processors, one call after the other.
-#[test]
-fn two_processors(rt: HostRuntime) -> Result<(), Fail> {
-    assert_eq!(rt; first_wrong(rt.alloc(), 64, 2, &TWO_PROCESSORS)?, None);
-    Ok(())
-}
-
-static SIXTEEN_FREES: [(Step, Answer); 34] = [
+/// Sixteen frees send the eight that came first back to the areas, where they merge.
+const SIXTEEN_FREES: [(Step, Answer); 34] = [
     (Alloc(0, 0), Page(16)),
     (Alloc(0, 0), Page(17)),
     (Alloc(0, 0), Page(18)),
@@ -176,14 +196,8 @@ static SIXTEEN_FREES: [(Step, Answer); 34] = [
     (Alloc(0, 0), Page(31)),
 ];
 
-/// Sixteen frees send the eight that came first back to the areas, where they merge.
-#[test]
-fn sixteen_frees(rt: HostRuntime) -> Result<(), Fail> {
-    assert_eq!(rt; first_wrong(rt.alloc(), 64, 1, &SIXTEEN_FREES)?, None);
-    Ok(())
-}
-
-static LARGE_ORDERS: [(Step, Answer); 12] = [
+/// Large orders, and each refusal.
+const LARGE_ORDERS: [(Step, Answer); 12] = [
     (Alloc(0, 5), Page(32)),
     (Alloc(0, 5), Refused(NoPages)),
     (Alloc(0, 9), Refused(NoPages)),
@@ -198,14 +212,8 @@ static LARGE_ORDERS: [(Step, Answer); 12] = [
     (Held(32), Is(false)),
 ];
 
-/// Large orders, and each refusal.
-#[test]
-fn large_orders(rt: HostRuntime) -> Result<(), Fail> {
-    assert_eq!(rt; first_wrong(rt.alloc(), 64, 1, &LARGE_ORDERS)?, None);
-    Ok(())
-}
-
-static LARGEST_GUEST: [(Step, Answer); 7] = [
+/// The largest guest.
+const LARGEST_GUEST: [(Step, Answer); 7] = [
     (FreeCount, Count(16_368)),
     (Alloc(3, 9), Page(512)),
     (Alloc(3, 0), Page(16)),
@@ -215,14 +223,8 @@ static LARGEST_GUEST: [(Step, Answer); 7] = [
     (FreeCount, Count(16_368 - 512 - 2 - 32 - 128)),
 ];
 
-/// The largest guest.
-#[test]
-fn largest_guest(rt: HostRuntime) -> Result<(), Fail> {
-    assert_eq!(rt; first_wrong(rt.alloc(), 16_384, 4, &LARGEST_GUEST)?, None);
-    Ok(())
-}
-
-static TAKEN_PAGES: [(Step, Answer); 9] = [
+/// What the balloon driver takes, until all pages are free again.
+const TAKEN_PAGES: [(Step, Answer); 9] = [
     (TakeThree, Three([16, 17, 18])),
     (Isolate(4, 0), Block(32, 5)),
     (Isolate(4, 0), NoBlock),
@@ -234,14 +236,8 @@ static TAKEN_PAGES: [(Step, Answer); 9] = [
     (Alloc(0, 4), Page(16)),
 ];
 
-/// What the balloon driver takes, until all pages are free again.
-#[test]
-fn taken_pages(rt: HostRuntime) -> Result<(), Fail> {
-    assert_eq!(rt; first_wrong(rt.alloc(), 64, 1, &TAKEN_PAGES)?, None);
-    Ok(())
-}
-
-static SMALLEST_GUEST: [(Step, Answer); 21] = [
+/// The smallest guest has no room for a block of order 7 or more.
+const SMALLEST_GUEST: [(Step, Answer); 21] = [
     (Bits(9), Words(1, 0, 0)),
     (Bits(8), Words(1, 0, 0)),
     (Bits(6), Words(1, 0, 0)),
@@ -265,14 +261,8 @@ static SMALLEST_GUEST: [(Step, Answer); 21] = [
     (Bits(0), Words(1, 0, 0)),
 ];
 
-/// The smallest guest has no room for a block of order 7 or more.
-#[test]
-fn smallest_guest(rt: HostRuntime) -> Result<(), Fail> {
-    assert_eq!(rt; first_wrong(rt.alloc(), 64, 1, &SMALLEST_GUEST)?, None);
-    Ok(())
-}
-
-static ODD_GUEST: [(Step, Answer); 17] = [
+/// The pages are no power of two, and the last block ends with them.
+const ODD_GUEST: [(Step, Answer); 17] = [
     (FreeCount, Count(984)),
     (Bits(9), Words(1, 0, 0)),
     (Bits(8), Words(1, 1 << 1 | 1 << 2, 1 << 1 | 1 << 2)),
@@ -292,14 +282,8 @@ static ODD_GUEST: [(Step, Answer); 17] = [
     (Bits(3), Words(2, 1 << 3, 1 << 60)),
 ];
 
-/// The pages are no power of two, and the last block ends with them.
-#[test]
-fn odd_guest(rt: HostRuntime) -> Result<(), Fail> {
-    assert_eq!(rt; first_wrong(rt.alloc(), 1_000, 1, &ODD_GUEST)?, None);
-    Ok(())
-}
-
-static BOTH_WORDS: [(Step, Answer); 32] = [
+/// Blocks 63, 64 and 65 of order 4 stand at the end of one word and at the start of the next.
+const BOTH_WORDS: [(Step, Answer); 32] = [
     (Alloc(0, 9), Page(512)),
     (Alloc(0, 9), Page(1024)),
     (Alloc(0, 9), Page(1536)),
@@ -334,9 +318,73 @@ static BOTH_WORDS: [(Step, Answer); 32] = [
     (Bits(6), Words(1, 1 << 17, 1 << 17)),
 ];
 
-/// Blocks 63, 64 and 65 of order 4 stand at the end of one word and at the start of the next.
+/// Calls on a new guest of so many pages and processors.
+struct Example {
+    name: &'static str,
+    pages: u32,
+    processors: u32,
+    lines: &'static [(Step, Answer)],
+}
+
+static EXAMPLES: [Example; 8] = [
+    Example {
+        name: "two processors",
+        pages: 64,
+        processors: 2,
+        lines: &TWO_PROCESSORS,
+    },
+    Example {
+        name: "sixteen frees",
+        pages: 64,
+        processors: 1,
+        lines: &SIXTEEN_FREES,
+    },
+    Example {
+        name: "large orders",
+        pages: 64,
+        processors: 1,
+        lines: &LARGE_ORDERS,
+    },
+    Example {
+        name: "largest guest",
+        pages: 16_384,
+        processors: 4,
+        lines: &LARGEST_GUEST,
+    },
+    Example {
+        name: "taken pages",
+        pages: 64,
+        processors: 1,
+        lines: &TAKEN_PAGES,
+    },
+    Example {
+        name: "smallest guest",
+        pages: 64,
+        processors: 1,
+        lines: &SMALLEST_GUEST,
+    },
+    Example {
+        name: "odd guest",
+        pages: 1_000,
+        processors: 1,
+        lines: &ODD_GUEST,
+    },
+    Example {
+        name: "both words",
+        pages: 2_048,
+        processors: 1,
+        lines: &BOTH_WORDS,
+    },
+];
+
+/// Each line of each example is answered as it says.
 #[test]
-fn both_words(rt: HostRuntime) -> Result<(), Fail> {
-    assert_eq!(rt; first_wrong(rt.alloc(), 2_048, 1, &BOTH_WORDS)?, None);
+fn worked_examples(rt: HostRuntime) -> Result<(), Fail> {
+    for example in &EXAMPLES {
+        let (pages, processors) = (example.pages, example.processors);
+        assert!(rt; 64 <= pages && pages <= 16_384 && 1 <= processors && processors <= 4);
+        let wrong = first_wrong(rt.alloc(), pages, processors, example.lines)?;
+        assert!(rt; wrong.is_none(), "{}", example.name);
+    }
     Ok(())
 }

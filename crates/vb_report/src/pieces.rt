@@ -25,8 +25,8 @@ fn piece_of(block: &FreeBlock) -> Piece
     }
 }
 
-/// The pieces of a report of at most 16 blocks of orders 0 to 9: one for each block, in their order,
-/// from its first byte to its last, for the device to write.
+/// The pieces of a report of at most 16 blocks of orders 0 to 9: one for each block, in their
+/// order, from its first byte to its last, for the device to write.
 pub fn encode(blocks: &[FreeBlock]) -> Pieces
     requires count { length blocks.now ≤ max_outstanding }
     requires orders { All HasOrder blocks.now }

@@ -1,6 +1,5 @@
 //! What the worked examples say.
 
-ghost use Rattle.std.specs.Prelude.{◌≡◌, ◌≤◌};
 ghost use Rattle.vb_pages.specs.PageState.{IsGuestSize};
 
 use crate::{Blocks, Pieces, choose, encode, give_all};
@@ -95,7 +94,8 @@ fn first_wrong(
     Ok(first_wrong_line(&mut pages, lines))
 }
 
-static FRESH_GUEST: [(Step, Answer); 15] = [
+/// A fresh guest has a block of order 4 and one of order 5; what is reported isn't handed out.
+const FRESH_GUEST: [(Step, Answer); 15] = [
     (ReportAndReap(0, 8), Named(&[(16, 4), (32, 5)])),
     (Count, Free(48)),
     (ReportAndReap(16, 8), Named(&[(16, 4), (32, 5)])),
@@ -113,14 +113,8 @@ static FRESH_GUEST: [(Step, Answer); 15] = [
     (Report(0, 8), Named(&[])),
 ];
 
-/// A fresh guest has a block of order 4 and one of order 5; what is reported isn't handed out.
-#[test]
-fn fresh_guest(rt: HostRuntime) -> Result<(), Fail> {
-    assert_eq!(rt; first_wrong(rt.alloc(), 64, &FRESH_GUEST)?, None);
-    Ok(())
-}
-
-static THREE_BLOCKS: [(Step, Answer); 5] = [
+/// Room for two of three blocks.
+const THREE_BLOCKS: [(Step, Answer); 5] = [
     (ReportAndReap(0, 16), Named(&[(16, 4), (32, 5), (64, 6)])),
     (Report(0, 2), Named(&[(16, 4), (32, 5)])),
     (Count, Free(64)),
@@ -128,14 +122,8 @@ static THREE_BLOCKS: [(Step, Answer); 5] = [
     (Count, Free(0)),
 ];
 
-/// Room for two of three blocks.
-#[test]
-fn three_blocks(rt: HostRuntime) -> Result<(), Fail> {
-    assert_eq!(rt; first_wrong(rt.alloc(), 128, &THREE_BLOCKS)?, None);
-    Ok(())
-}
-
-static SMALL_BLOCKS: [(Step, Answer); 6] = [
+/// Blocks of order 3 or less stay.
+const SMALL_BLOCKS: [(Step, Answer); 6] = [
     (Alloc(3), Page(16)),
     (ReportAndReap(0, 8), Named(&[(32, 5)])),
     (Alloc(4), Page(32)),
@@ -144,14 +132,8 @@ static SMALL_BLOCKS: [(Step, Answer); 6] = [
     (Alloc(3), Page(24)),
 ];
 
-/// Blocks of order 3 or less stay.
-#[test]
-fn small_blocks(rt: HostRuntime) -> Result<(), Fail> {
-    assert_eq!(rt; first_wrong(rt.alloc(), 64, &SMALL_BLOCKS)?, None);
-    Ok(())
-}
-
-static LISTS: [(Step, Answer); 6] = [
+/// Pages in a processor's list go back to the areas first, and merge.
+const LISTS: [(Step, Answer); 6] = [
     (Alloc(0), Page(16)),
     (ReportAndReap(0, 8), Named(&[(32, 5)])),
     (Count, Free(47)),
@@ -160,14 +142,8 @@ static LISTS: [(Step, Answer); 6] = [
     (Count, Free(0)),
 ];
 
-/// Pages in a processor's list go back to the areas first, and merge.
-#[test]
-fn lists(rt: HostRuntime) -> Result<(), Fail> {
-    assert_eq!(rt; first_wrong(rt.alloc(), 64, &LISTS)?, None);
-    Ok(())
-}
-
-static LARGEST_GUEST: [(Step, Answer); 4] = [
+/// The first sixteen blocks of the largest guest.
+const LARGEST_GUEST: [(Step, Answer); 4] = [
     (
         ReportAndReap(0, 16),
         Named(&[
@@ -194,10 +170,49 @@ static LARGEST_GUEST: [(Step, Answer); 4] = [
     (Count, Free(16_368 - 1024)),
 ];
 
-/// The first sixteen blocks of the largest guest.
+/// Calls on a new guest of so many pages.
+struct Example {
+    name: &'static str,
+    pages: u32,
+    lines: &'static [(Step, Answer)],
+}
+
+static EXAMPLES: [Example; 5] = [
+    Example {
+        name: "fresh guest",
+        pages: 64,
+        lines: &FRESH_GUEST,
+    },
+    Example {
+        name: "three blocks",
+        pages: 128,
+        lines: &THREE_BLOCKS,
+    },
+    Example {
+        name: "small blocks",
+        pages: 64,
+        lines: &SMALL_BLOCKS,
+    },
+    Example {
+        name: "lists",
+        pages: 64,
+        lines: &LISTS,
+    },
+    Example {
+        name: "largest guest",
+        pages: 16_384,
+        lines: &LARGEST_GUEST,
+    },
+];
+
+/// Each line of each example is answered as it says.
 #[test]
-fn largest_guest(rt: HostRuntime) -> Result<(), Fail> {
-    assert_eq!(rt; first_wrong(rt.alloc(), 16_384, &LARGEST_GUEST)?, None);
+fn worked_examples(rt: HostRuntime) -> Result<(), Fail> {
+    for example in &EXAMPLES {
+        assert!(rt; 64 <= example.pages && example.pages <= 16_384);
+        let wrong = first_wrong(rt.alloc(), example.pages, example.lines)?;
+        assert!(rt; wrong.is_none(), "{}", example.name);
+    }
     Ok(())
 }
 

@@ -1,6 +1,5 @@
 //! Pseudo-random calls against a plain model of sets and lists, and many calls in a row.
 
-ghost use Rattle.std.specs.Prelude.{◌≤◌};
 ghost use Rattle.vb_pages.specs.PageState.{IsGuestSize};
 
 use crate::{PageFault, Pages};
@@ -9,6 +8,7 @@ use rand_core::Rng;
 use rand_pcg::Pcg32;
 use std::alloc::{AllocError, Global};
 use std::collections::BTreeSet;
+use std::process::Abort;
 use std::test::Fail;
 
 /// A number below this one, or 0.
@@ -75,7 +75,7 @@ impl Plain {
         self.put(start, 9);
     }
 
-    /// The block of the smallest order that is wide enough, and of these the one that begins lowest.
+    /// The block of the smallest order that is wide enough, and of these the lowest.
     fn first(&self, order: u32) -> Option<(u32, u32)> {
         self.areas.range((order, 0)..).next().copied()
     }
@@ -200,7 +200,8 @@ impl Plain {
         count
     }
 
-    /// Whether bit b of word w is 1 exactly where a block of the order begins at (64 w + b) 2^order.
+    /// Whether bit b of word w is 1 exactly where a block of the order begins at page
+    /// (64 w + b) 2^order.
     fn are_bits(&self, order: u32, words: &[u64]) -> bool {
         let mut start: u32 = 0;
         for word in words {
@@ -236,8 +237,8 @@ impl Pair {
         })
     }
 
-    /// One pseudo-random call, on both, of a processor or of one that isn't there; whether they answer
-    /// alike.
+    /// One pseudo-random call, on both, of a processor or of one that isn't there; whether they
+    /// answer alike.
     fn call(&mut self) -> bool {
         let cpu = below(&mut self.numbers, self.plain.processors.saturating_add(1));
         if below(&mut self.numbers, 5) < 3 {
@@ -295,27 +296,43 @@ fn first_apart(
     Ok(pair.first_apart(100_000))
 }
 
-/// Calls on the smallest guest, of one processor and of four.
-#[test]
-fn calls_agree_with_a_plain_allocator(rt: HostRuntime) -> Result<(), Fail> {
-    assert_eq!(rt; first_apart(rt.alloc(), 64, 1, 1)?, None);
-    assert_eq!(rt; first_apart(rt.alloc(), 64, 4, 2)?, None);
+/// Guests of these pages and processors, with what chooses the calls, answer as the plain
+/// allocator.
+fn expect_alike(
+    rt: &impl Abort,
+    alloc: Global,
+    guests: &[(u32, u32, u64)],
+) -> Result<(), AllocError> {
+    for (pages, processors, seed) in guests {
+        assert!(rt; 64 <= *pages && *pages <= 16_384 && 1 <= *processors && *processors <= 4);
+        let apart = first_apart(alloc, *pages, *processors, *seed)?;
+        assert!(rt; apart.is_none(), "{seed}");
+    }
     Ok(())
 }
+
+static SMALLEST: [(u32, u32, u64); 2] = [(64, 1, 1), (64, 4, 2)];
+
+/// Calls on the smallest guest, of one processor and of four.
+#[test]
+fn calls_agree_with_a_plain_allocator(rt: HostRuntime) -> Result<(), AllocError> {
+    expect_alike(&rt, rt.alloc(), &SMALLEST)
+}
+
+static ODD: [(u32, u32, u64); 1] = [(1_000, 3, 3)];
 
 /// The same on pages that are no power of two.
 #[test]
-fn calls_agree_on_an_odd_guest(rt: HostRuntime) -> Result<(), Fail> {
-    assert_eq!(rt; first_apart(rt.alloc(), 1_000, 3, 3)?, None);
-    Ok(())
+fn calls_agree_on_an_odd_guest(rt: HostRuntime) -> Result<(), AllocError> {
+    expect_alike(&rt, rt.alloc(), &ODD)
 }
+
+static LARGEST: [(u32, u32, u64); 2] = [(16_384, 1, 4), (16_384, 4, 5)];
 
 /// The same on the largest guest.
 #[test]
-fn calls_agree_on_the_largest_guest(rt: HostRuntime) -> Result<(), Fail> {
-    assert_eq!(rt; first_apart(rt.alloc(), 16_384, 1, 4)?, None);
-    assert_eq!(rt; first_apart(rt.alloc(), 16_384, 4, 5)?, None);
-    Ok(())
+fn calls_agree_on_the_largest_guest(rt: HostRuntime) -> Result<(), AllocError> {
+    expect_alike(&rt, rt.alloc(), &LARGEST)
 }
 
 /// In each round a block is freed, where there is one, and another is allocated in its place; the

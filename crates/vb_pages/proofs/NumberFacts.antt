@@ -1,0 +1,13 @@
+-- The numbers of the allocator, as plain numbers.
+use Rattle.std.proofs.Common.{◌≡◌, [], ◌∷◌, refl}
+use Rattle.vb_model.specs.declared.limits.TheConstants.{MAX_ORDER, RESERVED_PAGES}
+use Rattle.vb_pages.specs.declared.lists.TheConstants.{LIST_SIZE, BATCH}
+use Rattle.vb_pages.specs.declared.free.TheConstants.{REQUEST_PAGES}
+
+-- a processor's list when it is full, and the pages that go into one or come out of it at once
+lists_are : LIST_SIZE ∷ BATCH ∷ [] ≡ 16 ∷ 8 ∷ []
+lists_are = refl
+
+-- the largest order, the pages that are never free, and the pages of a request
+pages_are : MAX_ORDER ∷ RESERVED_PAGES ∷ REQUEST_PAGES ∷ [] ≡ 9 ∷ 16 ∷ 256 ∷ []
+pages_are = refl
