@@ -1,7 +1,7 @@
 use Rattle.std.proofs.Common.{◌≡◌, ◌≤◌, take, vec_len}
 use Rattle.std.specs.Prelude.{vec_capacity}
 use Rattle.vb_model.specs.Tests.{pages_where}
-use Rattle.vb_world.proofs.tests.listed.PageList.make_anew.Given as goal
+use Rattle.vb_sim.proofs.tests.listed.PageList.make_anew.Given as goal
 
 abbrev pub invariant-loop-page : goal.invariant-loop-page
 invariant-loop-page l =

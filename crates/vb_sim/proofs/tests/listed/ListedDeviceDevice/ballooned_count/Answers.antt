@@ -2,9 +2,9 @@ use Rattle.std.proofs.Common.{◌≡◌, ◌∙◌, ◌≤◌, List, ℕ, Bool, 
 use Rattle.std.specs.Prelude.{vec_capacity, count_by}
 use Rattle.vb_model.specs.Tests.{pages_where}
 use Rattle.vb_device.specs.State.{DeviceState}
-use Rattle.vb_world.specs.declared.tests.listed.PageList.{PageList}
-use Rattle.vb_world.proofs.Listing.{told, listed_count, listed_fits}
-use Rattle.vb_world.proofs.tests.listed.ListedDeviceDevice.ballooned_count.Goals as goal
+use Rattle.vb_sim.specs.declared.tests.listed.PageList.{PageList}
+use Rattle.vb_sim.proofs.Listing.{told, listed_count, listed_fits}
+use Rattle.vb_sim.proofs.tests.listed.ListedDeviceDevice.ballooned_count.Goals as goal
 
 pub count-requires : goal.count-requires
 count-requires c =

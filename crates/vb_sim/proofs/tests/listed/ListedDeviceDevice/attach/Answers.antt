@@ -1,5 +1,5 @@
-use Rattle.vb_world.proofs.Listing.{attached_list}
-use Rattle.vb_world.proofs.tests.listed.ListedDeviceDevice.attach.Goals as goal
+use Rattle.vb_sim.proofs.Listing.{attached_list}
+use Rattle.vb_sim.proofs.tests.listed.ListedDeviceDevice.attach.Goals as goal
 
 pub invariant_of-self-2 : goal.invariant_of-self-2
 invariant_of-self-2 c =

@@ -1,6 +1,6 @@
 use Rattle.std.proofs.Common.{arith}
-use Rattle.vb_world.proofs.Listing.{listed_more}
-use Rattle.vb_world.proofs.tests.listed.PageList.make_anew.Goals as goal
+use Rattle.vb_sim.proofs.Listing.{listed_more}
+use Rattle.vb_sim.proofs.tests.listed.PageList.make_anew.Goals as goal
 
 pub loop-page-preserved : goal.loop-page-preserved
 loop-page-preserved c = record {

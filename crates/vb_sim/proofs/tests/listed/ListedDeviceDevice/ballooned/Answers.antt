@@ -3,9 +3,9 @@ use Rattle.std.specs.Prelude.{vec_capacity}
 use Rattle.vb_model.specs.Guest.{is_ballooned}
 use Rattle.vb_model.specs.Tests.{is_in, pages_where}
 use Rattle.vb_device.specs.State.{DeviceState}
-use Rattle.vb_world.specs.declared.tests.listed.PageList.{PageList}
-use Rattle.vb_world.proofs.Listing.{told, listed_is}
-use Rattle.vb_world.proofs.tests.listed.ListedDeviceDevice.ballooned.Goals as goal
+use Rattle.vb_sim.specs.declared.tests.listed.PageList.{PageList}
+use Rattle.vb_sim.proofs.Listing.{told, listed_is}
+use Rattle.vb_sim.proofs.tests.listed.ListedDeviceDevice.ballooned.Goals as goal
 
 pub returns-in-Some : goal.returns-in-Some
 returns-in-Some c =

@@ -1,4 +1,4 @@
-//! A paced device that keeps its ballooned pages as a list of its own, and counts its calls.
+//! A paced device that keeps its ballooned pages as a list of its own, and may find no memory.
 
 ghost use Rattle.std.specs.Prelude.{◌≡◌, ◌≤◌, ◌<◌, ◌+◌, ◌++◌, ◌∷◌, [], ⊤, MatchOption, IfOk};
 ghost use Rattle.std.specs.Prelude.{length, vec_len, vec_capacity, true, false, if◌then◌else◌};
@@ -99,11 +99,6 @@ fn make_anew(listed: &mut Option<PageList>, device: &PacedDevice)
     }
 }
 
-/// One call more.
-fn count(calls: &mut u32) {
-    *calls = calls.saturating_add(1);
-}
-
 /// Want of memory, as often as this number says.
 fn refuse(refusals: &mut u32) -> Result<(), AllocError> {
     if *refusals == 0 {
@@ -113,13 +108,11 @@ fn refuse(refusals: &mut u32) -> Result<(), AllocError> {
     Err(AllocError)
 }
 
-/// A paced device in another's hands: what is ballooned is answered from a list of its own, and the
-/// calls by which a host changes the device are counted.
+/// A paced device in another's hands: what is ballooned is answered from a list of its own.
 #[derive(Drop)]
 pub(super) struct ListedDevice {
     inner: PacedDevice,
     listed: Option<PageList>,
-    calls: u32,
     /// How often it will find no memory for a guest.
     refusals: u32,
 }
@@ -140,17 +133,7 @@ impl Model for ListedDevice {
 }
 
 impl ListedDevice {
-    /// A device that no guest has yet.
-    pub(super) fn new(alloc: Global) -> ListedDevice
-        ensures unused { IsUnused result.mem result.part }
-        ensures paced { result.part.paced ≡ true }
-        ensures keeps { result.part.keeps ≡ false }
-        ensures own { result.part.own ≡ [] }
-    {
-        ListedDevice::refusing(alloc, 0)
-    }
-
-    /// One that finds no memory for its guest so many times.
+    /// A device that no guest has yet, which finds no memory for one so many times.
     pub(super) fn refusing(alloc: Global, refusals: u32) -> ListedDevice
         ensures unused { IsUnused result.mem result.part }
         ensures paced { result.part.paced ≡ true }
@@ -160,14 +143,8 @@ impl ListedDevice {
         ListedDevice {
             inner: PacedDevice::new(alloc),
             listed: None,
-            calls: 0,
             refusals,
         }
-    }
-
-    /// How often a host changed the device.
-    pub(super) fn calls(&self) -> u32 {
-        self.calls
     }
 }
 
@@ -215,7 +192,6 @@ impl Port for ListedDevice {
 
 impl Device for ListedDevice {
     fn attach(&mut self, alloc: Global, config: Config) -> Result<(), AllocError> {
-        count(&mut self.calls);
         refuse(&mut self.refusals)?;
         let list = PageList::new(alloc, config.pages)?;
         self.inner.attach(alloc, config)?;
@@ -240,34 +216,28 @@ impl Device for ListedDevice {
     }
 
     fn set_target(&mut self, pages: u32) {
-        count(&mut self.calls);
         self.inner.set_target(pages);
     }
 
     fn take(&mut self, queue: u32) -> Result<Option<u16>, Refusal> {
-        count(&mut self.calls);
         self.inner.take(queue)
     }
 
     fn work(&mut self) -> Result<Option<Worked>, Refusal> {
-        count(&mut self.calls);
         self.inner.work()
     }
 
     fn finish(&mut self, queue: u32, index: u32) -> Result<u16, Refusal> {
-        count(&mut self.calls);
         let answer = self.inner.finish(queue, index);
         make_anew(&mut self.listed, &self.inner);
         answer
     }
 
     fn sweep(&mut self, page: u32) -> Result<bool, Refusal> {
-        count(&mut self.calls);
         self.inner.sweep(page)
     }
 
     fn ask_stats(&mut self) -> Result<(), Refusal> {
-        count(&mut self.calls);
         self.inner.ask_stats()
     }
 
@@ -290,7 +260,6 @@ impl Device for ListedDevice {
     }
 
     fn detach(&mut self) {
-        count(&mut self.calls);
         self.inner.detach();
         make_anew(&mut self.listed, &self.inner);
     }

@@ -1,9 +1,9 @@
 use Rattle.std.proofs.Common.{◌≡◌}
 use Rattle.std.specs.Prelude.{vec_capacity, length}
 use Rattle.vb_model.specs.Tests.{pages_where}
-use Rattle.vb_world.specs.declared.tests.listed.PageList.{PageList}
-use Rattle.vb_world.proofs.Listing.{finish_keeps, still_fits}
-use Rattle.vb_world.proofs.tests.listed.ListedDeviceDevice.finish.Goals as goal
+use Rattle.vb_sim.specs.declared.tests.listed.PageList.{PageList}
+use Rattle.vb_sim.proofs.Listing.{finish_keeps, still_fits}
+use Rattle.vb_sim.proofs.tests.listed.ListedDeviceDevice.finish.Goals as goal
 
 pub make_anew-requires : goal.make_anew-requires
 make_anew-requires c =
