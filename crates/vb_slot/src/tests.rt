@@ -9,14 +9,11 @@ mod wanting;
 
 use crate::Slot;
 use keeping::KeepingDevice;
-use std::alloc::{AllocError, Global};
+use std::alloc::Global;
 use std::process::Abort;
-use std::test::Fail;
-use vb_device::{Claimed, Device, Worked};
-use vb_driver::{Posted, Reaped};
+use vb_device::{Claimed, Device};
 use vb_frames::{FrameKeeper, Refused};
-use vb_model::limits::PAGE_SIZE;
-use vb_model::{Bytes, Claim, Refusal};
+use vb_model::{Bytes, Call, Claim, Query, Refusal, Reply};
 use vb_ram::{Config, Frame};
 
 /// All features that the device offers.
@@ -51,40 +48,76 @@ fn no_frames() -> NoFrames {
     NoFrames { out: true }
 }
 
-/// A call or a question, of processor 0 and request 0 where such are meant.
-enum Line {
+/// What is done with a guest, of processor 0 and request 0 where such are meant.
+#[derive(Clone, Copy)]
+enum Step {
+    /// The driver starts with all features.
     Init,
-    Alloc,
-    Free { page: u32 },
-    Write { page: u32 },
-    Read { page: u32 },
-    Backing { page: u32 },
-    SetTarget { pages: u32 },
-    Inflate { pages: u32 },
-    Deflate { pages: u32 },
-    Oom { pages: u32 },
-    Report { from: u32 },
-    Stats,
-    Take { queue: u32 },
-    Work,
-    Finish { queue: u32 },
-    Reap { queue: u32 },
-    Sweep { page: u32 },
-    Ask,
-    Reset,
+    /// Two bytes are written to the beginning of a page.
+    Write(u32),
+    /// Four bytes are read from there.
+    Read(u32),
+    /// Another call.
+    Do(Plain),
     Restart,
-    Balloon,
-    Places,
-    Memory,
+    Ask(Query),
+    /// How many pages the guest has.
     Pages,
-    Spare { floor: u32 },
+    /// How many it can spare above a floor.
+    Spare(u32),
 }
 
-/// A letter for the kind of an answer, and its numbers.
-type Answer = (char, u32, u32);
+/// A call without bytes or features.
+#[derive(Clone, Copy)]
+enum Plain {
+    /// One page.
+    Alloc,
+    Free(u32),
+    Inflate(u32),
+    Deflate(u32),
+    Oom(u32),
+    Report(u32),
+    Stats,
+    Reap(u32),
+    Take(u32),
+    Work,
+    Finish(u32),
+    Sweep(u32),
+    Ask,
+    Reset,
+    SetTarget(u32),
+}
 
-/// A line, its answer, and what its claims are answered.
-type Row = (Line, Answer, &'static [Claim]);
+/// What is answered: a reply as far as the tables look at it.
+#[derive(Clone, Copy, PartialEq)]
+enum Answer {
+    Done,
+    Ready,
+    Page(u32),
+    Bytes([u8; 4]),
+    Posted(u32, u32),
+    Filled,
+    NotUsed,
+    Reaped(u32, u32),
+    Taken(u32),
+    Idle,
+    Finished(u32),
+    Swept(bool),
+    Asked,
+    /// How many pages are free and how many used.
+    Places(u32, u32),
+    /// How many are ballooned, and what the device was told.
+    Balloon(u32, u32),
+    /// Free and all memory.
+    Statistics(Option<u64>, Option<u64>),
+    Frame(Option<u32>),
+    Count(u32),
+    Refused(Refusal),
+    Other,
+}
+
+/// A step, its answer, and what its claims are answered.
+type Row = (Step, Answer, &'static [Claim]);
 
 /// The first thirteen frames.
 const THIRTEEN: [Claim; 13] = [
@@ -122,292 +155,315 @@ const TWELVE: [Claim; 13] = [
 
 /// A device of sixteen frames.
 static SIXTEEN_FRAMES: [Row; 34] = [
-    (Line::Init, ('y', 0, 0), &THIRTEEN),
-    (Line::Alloc, ('p', 16, 0), &[]),
-    (Line::Write { page: 16 }, ('d', 0, 0), &[Claim::Gave(13)]),
-    (Line::Backing { page: 16 }, ('k', 13, 0), &[Claim::Gave(13)]),
-    (Line::Read { page: 16 }, ('b', 0xabcd_0000, 0), &[]),
-    (Line::Free { page: 16 }, ('d', 0, 0), &[]),
-    (Line::SetTarget { pages: 4 }, ('d', 0, 0), &[]),
-    (Line::Inflate { pages: 4 }, ('o', 0, 4), &[]),
-    (Line::Take { queue: 0 }, ('t', 0, 0), &[]),
-    (Line::Finish { queue: 0 }, ('f', 0, 0), &[]),
-    (Line::Backing { page: 16 }, ('k', 99, 0), &[]),
-    (Line::Reap { queue: 0 }, ('r', 0, 4), &[]),
-    (Line::Alloc, ('p', 20, 0), &[]),
-    (Line::Alloc, ('p', 21, 0), &[]),
-    (Line::Alloc, ('p', 22, 0), &[]),
-    (Line::Alloc, ('p', 23, 0), &[]),
-    (Line::Write { page: 20 }, ('d', 0, 0), &[Claim::Gave(13)]),
-    (Line::Write { page: 21 }, ('d', 0, 0), &[Claim::Gave(14)]),
-    (Line::Write { page: 22 }, ('d', 0, 0), &[Claim::Gave(15)]),
-    (Line::Write { page: 23 }, ('n', 1, 0), &[Claim::GaveNoFrame]),
+    (Step::Init, Answer::Ready, &THIRTEEN),
+    (Step::Do(Plain::Alloc), Answer::Page(16), &[]),
+    (Step::Write(16), Answer::Done, &[Claim::Gave(13)]),
     (
-        Line::Backing { page: 20 },
-        ('k', 13, 0),
+        Step::Ask(Query::Backing { page: 16 }),
+        Answer::Frame(Some(13)),
+        &[Claim::Gave(13)],
+    ),
+    (Step::Read(16), Answer::Bytes([0xab, 0xcd, 0, 0]), &[]),
+    (Step::Do(Plain::Free(16)), Answer::Done, &[]),
+    (Step::Do(Plain::SetTarget(4)), Answer::Done, &[]),
+    (Step::Do(Plain::Inflate(4)), Answer::Posted(0, 4), &[]),
+    (Step::Do(Plain::Take(0)), Answer::Taken(0), &[]),
+    (Step::Do(Plain::Finish(0)), Answer::Finished(0), &[]),
+    (
+        Step::Ask(Query::Backing { page: 16 }),
+        Answer::Frame(None),
+        &[],
+    ),
+    (Step::Do(Plain::Reap(0)), Answer::Reaped(0, 4), &[]),
+    (Step::Do(Plain::Alloc), Answer::Page(20), &[]),
+    (Step::Do(Plain::Alloc), Answer::Page(21), &[]),
+    (Step::Do(Plain::Alloc), Answer::Page(22), &[]),
+    (Step::Do(Plain::Alloc), Answer::Page(23), &[]),
+    (Step::Write(20), Answer::Done, &[Claim::Gave(13)]),
+    (Step::Write(21), Answer::Done, &[Claim::Gave(14)]),
+    (Step::Write(22), Answer::Done, &[Claim::Gave(15)]),
+    (
+        Step::Write(23),
+        Answer::Refused(Refusal::NoFrame),
         &[Claim::GaveNoFrame],
     ),
     (
-        Line::Backing { page: 23 },
-        ('k', 99, 0),
+        Step::Ask(Query::Backing { page: 20 }),
+        Answer::Frame(Some(13)),
         &[Claim::GaveNoFrame],
     ),
-    (Line::Sweep { page: 16 }, ('w', 0, 0), &[]),
-    (Line::Sweep { page: 20 }, ('n', 2, 0), &[]),
-    (Line::Balloon, ('l', 4, 4), &[]),
-    (Line::Work, ('i', 0, 0), &[]),
-    (Line::SetTarget { pages: 0 }, ('d', 0, 0), &[]),
-    (Line::Deflate { pages: 1 }, ('o', 0, 1), &[]),
-    (Line::Oom { pages: 1 }, ('o', 1, 1), &[]),
-    (Line::Places, ('c', 40, 4), &[]),
-    (Line::Reset, ('d', 0, 0), &[]),
-    (Line::Balloon, ('l', 0, 0), &[]),
-    (Line::Backing { page: 0 }, ('k', 0, 0), &[]),
-    (Line::Init, ('y', 0, 0), &[]),
+    (
+        Step::Ask(Query::Backing { page: 23 }),
+        Answer::Frame(None),
+        &[Claim::GaveNoFrame],
+    ),
+    (Step::Do(Plain::Sweep(16)), Answer::Swept(false), &[]),
+    (
+        Step::Do(Plain::Sweep(20)),
+        Answer::Refused(Refusal::NotBallooned),
+        &[],
+    ),
+    (Step::Ask(Query::Balloon), Answer::Balloon(4, 4), &[]),
+    (Step::Do(Plain::Work), Answer::Idle, &[]),
+    (Step::Do(Plain::SetTarget(0)), Answer::Done, &[]),
+    (Step::Do(Plain::Deflate(1)), Answer::Posted(0, 1), &[]),
+    (Step::Do(Plain::Oom(1)), Answer::Posted(1, 1), &[]),
+    (Step::Ask(Query::Places), Answer::Places(40, 4), &[]),
+    (Step::Do(Plain::Reset), Answer::Done, &[]),
+    (Step::Ask(Query::Balloon), Answer::Balloon(0, 0), &[]),
+    (
+        Step::Ask(Query::Backing { page: 0 }),
+        Answer::Frame(Some(0)),
+        &[],
+    ),
+    (Step::Init, Answer::Ready, &[]),
 ];
 
 /// A device of fourteen frames: what its guest says of its memory, and a report, which gives the last
 /// frame back.
 static FOURTEEN_FRAMES: [Row; 24] = [
-    (Line::Stats, ('n', 0, 0), &[]),
-    (Line::Init, ('y', 0, 0), &THIRTEEN),
-    (Line::Memory, ('m', 99, 99), &THIRTEEN),
-    (Line::Ask, ('n', 3, 0), &[]),
-    (Line::Take { queue: 2 }, ('t', 0, 0), &[]),
-    (Line::Memory, ('m', 48, 64), &[]),
-    (Line::Take { queue: 2 }, ('n', 4, 0), &[]),
-    (Line::Stats, ('s', 0, 0), &[]),
-    (Line::Alloc, ('p', 16, 0), &[]),
-    (Line::Write { page: 16 }, ('d', 0, 0), &[Claim::Gave(13)]),
-    (Line::Ask, ('a', 0, 0), &[]),
-    (Line::Stats, ('s', 1, 0), &[]),
-    (Line::Take { queue: 2 }, ('t', 0, 0), &[]),
-    (Line::Memory, ('m', 47, 64), &[]),
-    (Line::Free { page: 16 }, ('d', 0, 0), &[]),
-    (Line::Report { from: 0 }, ('o', 0, 48), &[]),
-    (Line::Report { from: 0 }, ('n', 5, 0), &[]),
-    (Line::Take { queue: 4 }, ('t', 0, 0), &[]),
-    (Line::Backing { page: 16 }, ('k', 13, 0), &[]),
-    (Line::Finish { queue: 4 }, ('f', 0, 0), &[]),
-    (Line::Backing { page: 16 }, ('k', 99, 0), &[]),
-    (Line::Reap { queue: 4 }, ('r', 0, 48), &[]),
-    (Line::Alloc, ('p', 16, 0), &[]),
-    (Line::Write { page: 16 }, ('d', 0, 0), &[Claim::Gave(13)]),
+    (
+        Step::Do(Plain::Stats),
+        Answer::Refused(Refusal::NotReady),
+        &[],
+    ),
+    (Step::Init, Answer::Ready, &THIRTEEN),
+    (
+        Step::Ask(Query::Memory),
+        Answer::Statistics(None, None),
+        &THIRTEEN,
+    ),
+    (
+        Step::Do(Plain::Ask),
+        Answer::Refused(Refusal::NotTaken),
+        &[],
+    ),
+    (Step::Do(Plain::Take(2)), Answer::Taken(0), &[]),
+    (
+        Step::Ask(Query::Memory),
+        Answer::Statistics(Some(196_608), Some(262_144)),
+        &[],
+    ),
+    (
+        Step::Do(Plain::Take(2)),
+        Answer::Refused(Refusal::Busy),
+        &[],
+    ),
+    (Step::Do(Plain::Stats), Answer::NotUsed, &[]),
+    (Step::Do(Plain::Alloc), Answer::Page(16), &[]),
+    (Step::Write(16), Answer::Done, &[Claim::Gave(13)]),
+    (Step::Do(Plain::Ask), Answer::Asked, &[]),
+    (Step::Do(Plain::Stats), Answer::Filled, &[]),
+    (Step::Do(Plain::Take(2)), Answer::Taken(0), &[]),
+    (
+        Step::Ask(Query::Memory),
+        Answer::Statistics(Some(192_512), Some(262_144)),
+        &[],
+    ),
+    (Step::Do(Plain::Free(16)), Answer::Done, &[]),
+    (Step::Do(Plain::Report(0)), Answer::Posted(0, 48), &[]),
+    (
+        Step::Do(Plain::Report(0)),
+        Answer::Refused(Refusal::QueueFull),
+        &[],
+    ),
+    (Step::Do(Plain::Take(4)), Answer::Taken(0), &[]),
+    (
+        Step::Ask(Query::Backing { page: 16 }),
+        Answer::Frame(Some(13)),
+        &[],
+    ),
+    (Step::Do(Plain::Finish(4)), Answer::Finished(0), &[]),
+    (
+        Step::Ask(Query::Backing { page: 16 }),
+        Answer::Frame(None),
+        &[],
+    ),
+    (Step::Do(Plain::Reap(4)), Answer::Reaped(0, 48), &[]),
+    (Step::Do(Plain::Alloc), Answer::Page(16), &[]),
+    (Step::Write(16), Answer::Done, &[Claim::Gave(13)]),
 ];
 
 /// A device of twelve frames, of which none is out after a start that is refused.
 static TWELVE_FRAMES: [Row; 2] = [
-    (Line::Init, ('n', 1, 0), &TWELVE),
-    (Line::Init, ('n', 1, 0), &TWELVE),
+    (Step::Init, Answer::Refused(Refusal::NoFrame), &TWELVE),
+    (Step::Init, Answer::Refused(Refusal::NoFrame), &TWELVE),
 ];
 
 /// A device of sixteen frames, whose guest begins a new life: what it told of its memory, the page that
 /// it lent and its request are forgotten, and its frames are claimed anew, the first one first.
 static NEW_LIFE: [Row; 30] = [
-    (Line::Pages, ('z', 64, 0), &[]),
-    (Line::Spare { floor: 0 }, ('e', 0, 0), &[]),
-    (Line::Init, ('y', 0, 0), &THIRTEEN),
-    (Line::Take { queue: 2 }, ('t', 0, 0), &[]),
-    (Line::Spare { floor: 8 }, ('e', 40, 0), &[]),
-    (Line::Alloc, ('p', 16, 0), &[]),
-    (Line::Write { page: 16 }, ('d', 0, 0), &[Claim::Gave(13)]),
-    (Line::SetTarget { pages: 6 }, ('d', 0, 0), &[]),
-    (Line::Inflate { pages: 4 }, ('o', 0, 4), &[]),
-    (Line::Take { queue: 0 }, ('t', 0, 0), &[]),
-    (Line::Finish { queue: 0 }, ('f', 0, 0), &[]),
-    (Line::Spare { floor: 8 }, ('e', 44, 0), &[]),
-    (Line::Spare { floor: 0 }, ('e', 48, 0), &[]),
-    (Line::Spare { floor: 49 }, ('e', 4, 0), &[]),
-    (Line::Inflate { pages: 4 }, ('o', 1, 2), &[]),
-    (Line::Take { queue: 0 }, ('t', 1, 0), &[]),
-    (Line::Write { page: 16 }, ('d', 0, 0), &[]),
-    (Line::Restart, ('d', 0, 0), &[]),
-    (Line::Pages, ('z', 64, 0), &[]),
-    (Line::Places, ('c', 48, 0), &[]),
-    (Line::Balloon, ('l', 0, 0), &[]),
-    (Line::Memory, ('m', 99, 99), &[]),
-    (Line::Spare { floor: 0 }, ('e', 0, 0), &[]),
-    (Line::Backing { page: 16 }, ('k', 99, 0), &[]),
-    (Line::Backing { page: 0 }, ('k', 99, 0), &[]),
-    (Line::Init, ('y', 0, 0), &THIRTEEN),
-    (Line::Finish { queue: 0 }, ('n', 3, 0), &[]),
-    (Line::Inflate { pages: 8 }, ('o', 0, 6), &[]),
-    (Line::Alloc, ('p', 22, 0), &[]),
-    (Line::Write { page: 22 }, ('d', 0, 0), &[Claim::Gave(13)]),
+    (Step::Pages, Answer::Count(64), &[]),
+    (Step::Spare(0), Answer::Count(0), &[]),
+    (Step::Init, Answer::Ready, &THIRTEEN),
+    (Step::Do(Plain::Take(2)), Answer::Taken(0), &[]),
+    (Step::Spare(8), Answer::Count(40), &[]),
+    (Step::Do(Plain::Alloc), Answer::Page(16), &[]),
+    (Step::Write(16), Answer::Done, &[Claim::Gave(13)]),
+    (Step::Do(Plain::SetTarget(6)), Answer::Done, &[]),
+    (Step::Do(Plain::Inflate(4)), Answer::Posted(0, 4), &[]),
+    (Step::Do(Plain::Take(0)), Answer::Taken(0), &[]),
+    (Step::Do(Plain::Finish(0)), Answer::Finished(0), &[]),
+    (Step::Spare(8), Answer::Count(44), &[]),
+    (Step::Spare(0), Answer::Count(48), &[]),
+    (Step::Spare(49), Answer::Count(4), &[]),
+    (Step::Do(Plain::Inflate(4)), Answer::Posted(1, 2), &[]),
+    (Step::Do(Plain::Take(0)), Answer::Taken(1), &[]),
+    (Step::Write(16), Answer::Done, &[]),
+    (Step::Restart, Answer::Done, &[]),
+    (Step::Pages, Answer::Count(64), &[]),
+    (Step::Ask(Query::Places), Answer::Places(48, 0), &[]),
+    (Step::Ask(Query::Balloon), Answer::Balloon(0, 0), &[]),
+    (
+        Step::Ask(Query::Memory),
+        Answer::Statistics(None, None),
+        &[],
+    ),
+    (Step::Spare(0), Answer::Count(0), &[]),
+    (
+        Step::Ask(Query::Backing { page: 16 }),
+        Answer::Frame(None),
+        &[],
+    ),
+    (
+        Step::Ask(Query::Backing { page: 0 }),
+        Answer::Frame(None),
+        &[],
+    ),
+    (Step::Init, Answer::Ready, &THIRTEEN),
+    (
+        Step::Do(Plain::Finish(0)),
+        Answer::Refused(Refusal::NotTaken),
+        &[],
+    ),
+    (Step::Do(Plain::Inflate(8)), Answer::Posted(0, 6), &[]),
+    (Step::Do(Plain::Alloc), Answer::Page(22), &[]),
+    (Step::Write(22), Answer::Done, &[Claim::Gave(13)]),
 ];
 
-fn refused(refusal: Refusal) -> Answer {
-    let number = match refusal {
-        Refusal::NoFrame => 1,
-        Refusal::NotBallooned => 2,
-        Refusal::NotTaken => 3,
-        Refusal::Busy => 4,
-        Refusal::QueueFull => 5,
-        _ => 0,
-    };
-    ('n', number, 0)
-}
-
-fn done(letter: char, answer: Result<(), Refusal>) -> Answer {
-    match answer {
-        Ok(()) => (letter, 0, 0),
-        Err(refusal) => refused(refusal),
+fn call_of(plain: Plain) -> Call {
+    match plain {
+        Plain::Alloc => Call::Alloc { cpu: 0, order: 0 },
+        Plain::Free(start) => Call::Free {
+            cpu: 0,
+            start,
+            order: 0,
+        },
+        Plain::Inflate(pages) => Call::Inflate { pages },
+        Plain::Deflate(pages) => Call::Deflate { pages },
+        Plain::Oom(pages) => Call::Oom { pages },
+        Plain::Report(from) => Call::Report { from },
+        Plain::Stats => Call::Stats,
+        Plain::Reap(queue) => Call::Reap { queue },
+        Plain::Take(queue) => Call::Take { queue },
+        Plain::Work => Call::Work,
+        Plain::Finish(queue) => Call::Finish { queue, index: 0 },
+        Plain::Sweep(page) => Call::Sweep { page },
+        Plain::Ask => Call::Ask,
+        Plain::Reset => Call::Reset,
+        Plain::SetTarget(pages) => Call::SetTarget { pages },
     }
 }
 
-fn number(letter: char, answer: Result<u32, Refusal>) -> Answer {
-    match answer {
-        Ok(number) => (letter, number, 0),
-        Err(refusal) => refused(refusal),
+/// What a question is answered.
+fn answer_in(reply: &Reply) -> Answer {
+    match reply {
+        Reply::Places { counts } => Answer::Places(counts.free, counts.used),
+        Reply::Balloon {
+            ballooned,
+            actual,
+            ..
+        } => Answer::Balloon(*ballooned, *actual),
+        Reply::Statistics { free, total } => Answer::Statistics(*free, *total),
+        Reply::Backing { frame } => Answer::Frame(*frame),
+        Reply::Refused(refusal) => Answer::Refused(*refusal),
+        _ => Answer::Other,
     }
 }
 
-/// The four bytes that were read, as one number.
+/// What a call is answered.
+fn answer_of(reply: &Reply) -> Answer {
+    match reply {
+        Reply::Done => Answer::Done,
+        Reply::Page { start } => Answer::Page(*start),
+        Reply::Posted { head, pages } => Answer::Posted(*head, *pages),
+        Reply::Filled => Answer::Filled,
+        Reply::NotUsed => Answer::NotUsed,
+        Reply::Reaped { head, pages } => Answer::Reaped(*head, *pages),
+        Reply::Taken { head } => Answer::Taken(*head),
+        Reply::Idle => Answer::Idle,
+        Reply::Finished { head } => Answer::Finished(*head),
+        Reply::Swept { freed } => Answer::Swept(*freed),
+        Reply::Asked => Answer::Asked,
+        _ => answer_in(reply),
+    }
+}
+
+fn done(answer: Result<(), Refusal>, done: Answer) -> Answer {
+    match answer {
+        Ok(()) => done,
+        Err(refusal) => Answer::Refused(refusal),
+    }
+}
+
+/// The four bytes that were read.
 fn bytes(answer: Result<Bytes, Refusal>) -> Answer {
     match answer {
         Ok(bytes) => match bytes.as_slice() {
-            [a, b, c, d] => ('b', u32::from_be_bytes([*a, *b, *c, *d]), 0),
-            _ => ('b', 0, 0),
+            [a, b, c, d] => Answer::Bytes([*a, *b, *c, *d]),
+            _ => Answer::Other,
         },
-        Err(refusal) => refused(refusal),
+        Err(refusal) => Answer::Refused(refusal),
     }
 }
 
-fn posted(answer: Result<Posted, Refusal>) -> Answer {
-    match answer {
-        Ok(posted) => ('o', u32::from(posted.head), posted.pages),
-        Err(refusal) => refused(refusal),
-    }
+fn two_bytes(rt: &impl Abort, alloc: Global) -> Bytes {
+    let Ok(bytes) = Vec::from_slice(alloc, &[0xab, 0xcd]) else {
+        rt.abort()
+    };
+    Bytes::new(bytes)
 }
 
-fn reaped(answer: Result<Option<Reaped>, Refusal>) -> Answer {
-    match answer {
-        Ok(Some(reaped)) => ('r', u32::from(reaped.head), reaped.pages),
-        Ok(None) => ('r', 99, 0),
-        Err(refusal) => refused(refusal),
-    }
-}
-
-fn taken(answer: Result<Option<u16>, Refusal>) -> Answer {
-    match answer {
-        Ok(Some(head)) => ('t', u32::from(head), 0),
-        Ok(None) => ('t', 99, 0),
-        Err(refusal) => refused(refusal),
-    }
-}
-
-fn worked(answer: Result<Option<Worked>, Refusal>) -> Answer {
-    match answer {
-        Ok(Some(worked)) => ('v', worked.page, u32::from(worked.freed)),
-        Ok(None) => ('i', 0, 0),
-        Err(refusal) => refused(refusal),
-    }
-}
-
-/// How many pages a figure of statistics is; 99 where it isn't known.
-fn pages_of(figure: Option<u64>) -> u32 {
-    match figure {
-        Some(bytes) => u32::try_from(bytes / u64::from(PAGE_SIZE)).unwrap_or(u32::MAX),
-        None => 99,
-    }
-}
-
-/// Two bytes for a page, which are written to its beginning.
-fn write(alloc: Global, slot: &mut Slot, page: u32) -> Result<Answer, AllocError>
+/// What a step is answered.
+fn play_step(rt: &impl Abort, alloc: Global, slot: &mut Slot, step: Step) -> Answer
     requires { (g : Guest) × stands_for true mem part slot.old g }
     ensures { (g : Guest) × stands_for true mem part slot.new g }
 {
-    let bytes = Bytes::new(vec![in alloc; 0xab, 0xcd]?);
-    Ok(done('d', slot.write(&mut no_frames(), page, 0, &bytes)))
-}
-
-/// What the host asks.
-fn answer_of_question(slot: &Slot, line: &Line) -> Answer {
-    match line {
-        Line::Backing { page } => ('k', slot.backing(*page).unwrap_or(99), 0),
-        Line::Balloon => {
-            let state = slot.balloon();
-            ('l', state.ballooned, state.actual)
+    match step {
+        Step::Init => done(slot.init(&mut no_frames(), FEATURES), Answer::Ready),
+        Step::Write(page) => {
+            let bytes = two_bytes(rt, alloc);
+            done(slot.write(&mut no_frames(), page, 0, &bytes), Answer::Done)
         }
-        Line::Places => {
-            let counts = slot.places();
-            ('c', counts.free, counts.used)
-        }
-        Line::Memory => {
-            let said = slot.memory();
-            ('m', pages_of(said.free), pages_of(said.total))
-        }
-        Line::Pages => ('z', slot.pages(), 0),
-        _ => ('?', 0, 0),
-    }
-}
-
-/// What the guest's processor and its driver do, and else what the host asks.
-fn answer_of_driver(alloc: Global, slot: &mut Slot, line: &Line) -> Result<Answer, AllocError>
-    requires { (g : Guest) × stands_for true mem part slot.old g }
-    ensures { (g : Guest) × stands_for true mem part slot.new g }
-{
-    Ok(match line {
-        Line::Init => done('y', slot.init(&mut no_frames(), FEATURES)),
-        Line::Alloc => number('p', slot.alloc(0, 0)),
-        Line::Free { page } => done('d', slot.free(0, *page, 0)),
-        Line::Write { page } => write(alloc, slot, *page)?,
-        Line::Read { page } => bytes(slot.read(alloc, *page, 0, 4)),
-        Line::Inflate { pages } => posted(slot.inflate(*pages)),
-        Line::Deflate { pages } => posted(slot.deflate(*pages)),
-        Line::Oom { pages } => posted(slot.oom(*pages)),
-        Line::Report { from } => posted(slot.report(*from)),
-        Line::Stats => number('s', slot.stats().map(u32::from)),
-        Line::Reap { queue } => reaped(slot.reap(*queue)),
-        Line::Spare { floor } => ('e', slot.spare(*floor), 0),
-        _ => answer_of_question(slot, line),
-    })
-}
-
-/// What the host does and what else the device does, and else what the guest does.
-fn answer_of(alloc: Global, slot: &mut Slot, line: &Line) -> Result<Answer, AllocError>
-    requires { (g : Guest) × stands_for true mem part slot.old g }
-    ensures { (g : Guest) × stands_for true mem part slot.new g }
-{
-    Ok(match line {
-        Line::SetTarget { pages } => {
-            slot.set_target(*pages);
-            ('d', 0, 0)
-        }
-        Line::Reset => {
-            slot.reset();
-            ('d', 0, 0)
-        }
-        Line::Restart => {
+        Step::Read(page) => bytes(slot.read(alloc, page, 0, 4)),
+        Step::Do(plain) => answer_of(&slot.call(alloc, &mut no_frames(), &call_of(plain))),
+        Step::Restart => {
             slot.restart(&mut no_frames());
-            ('d', 0, 0)
+            Answer::Done
         }
-        Line::Take { queue } => taken(slot.take(*queue)),
-        Line::Work => worked(slot.work(&mut no_frames())),
-        Line::Finish { queue } => {
-            number('f', slot.finish(&mut no_frames(), *queue, 0).map(u32::from))
-        }
-        Line::Sweep { page } => number('w', slot.sweep(&mut no_frames(), *page).map(u32::from)),
-        Line::Ask => done('a', slot.ask()),
-        _ => answer_of_driver(alloc, slot, line)?,
-    })
+        Step::Ask(query) => answer_in(&slot.query(alloc, &query)),
+        Step::Pages => Answer::Count(slot.pages()),
+        Step::Spare(floor) => Answer::Count(slot.spare(floor)),
+    }
 }
 
 fn are(claimed: &[Claim], claims: &[Claim]) -> bool {
     claimed == claims
 }
 
-/// Makes the calls of a table.
-fn play_on(rt: &impl Abort, alloc: Global, slot: &mut Slot, table: &[Row]) -> Result<(), AllocError>
+/// The number of the first row whose step is answered otherwise, or has other claims.
+fn first_wrong(rt: &impl Abort, alloc: Global, slot: &mut Slot, table: &[Row]) -> Option<usize>
     requires { (g : Guest) × stands_for true mem part slot.old g }
     ensures { (g : Guest) × stands_for true mem part slot.new g }
 {
-    for (line, answer, claims) in table {
-        let answered = answer_of(alloc, slot, line)?;
-        assert!(rt; answered == *answer);
-        assert!(rt; are(slot.claimed(), claims));
+    for at in 0..table.len() {
+        let (step, expected, claims) = table[at];
+        let answered = play_step(rt, alloc, slot, step);
+        if answered != expected || !are(slot.claimed(), claims) {
+            return Some(at);
+        }
     }
-    Ok(())
+    None
 }
 
 /// How many frames the device of a slot has to give, up to a hundred.
@@ -421,46 +477,44 @@ fn count_frames(slot: &mut Slot) -> u32 {
     given
 }
 
-/// Makes the calls of a table on a guest whose device has so many frames. Once the guest is gone, the
-/// device has them all.
-fn play(rt: &impl Abort, alloc: Global, frames: u32, table: &[Row]) -> Result<(), AllocError> {
-    let device = Box::new(alloc, KeepingDevice::new(alloc, frames)?)?;
+/// Expects that a guest whose device has so many frames answers each row so, and that the device has
+/// them all once the guest is gone.
+fn expect(rt: &impl Abort, alloc: Global, frames: u32, table: &[Row]) {
+    let Ok(device) = KeepingDevice::new(alloc, frames) else {
+        rt.abort()
+    };
+    let Ok(device) = Box::new(alloc, device) else {
+        rt.abort()
+    };
     let config = Config {
         pages: 64,
         queue_size: 8,
         processors: 1,
     };
-    match Slot::new(alloc, device, config) {
-        Ok(mut slot) => {
-            play_on(rt, alloc, &mut slot, table)?;
-            slot.empty(&mut no_frames());
-            assert!(rt; count_frames(&mut slot) == frames);
-            Ok(())
-        }
-        Err(_) => Err(AllocError),
-    }
+    let Ok(mut slot) = Slot::new(alloc, device, config) else {
+        rt.abort()
+    };
+    assert_eq!(rt; first_wrong(rt, alloc, &mut slot, table), None);
+    slot.empty(&mut no_frames());
+    assert!(rt; count_frames(&mut slot) == frames);
 }
 
 #[test]
-fn frames_come_from_the_device_and_go_back_to_it(rt: HostRuntime) -> Result<(), Fail> {
-    play(&rt, rt.alloc(), 16, &SIXTEEN_FRAMES)?;
-    Ok(())
+fn frames_come_from_the_device_and_go_back_to_it(rt: HostRuntime) {
+    expect(&rt, rt.alloc(), 16, &SIXTEEN_FRAMES);
 }
 
 #[test]
-fn statistics_and_a_report(rt: HostRuntime) -> Result<(), Fail> {
-    play(&rt, rt.alloc(), 14, &FOURTEEN_FRAMES)?;
-    Ok(())
+fn statistics_and_a_report(rt: HostRuntime) {
+    expect(&rt, rt.alloc(), 14, &FOURTEEN_FRAMES);
 }
 
 #[test]
-fn a_new_life_on_the_same_device(rt: HostRuntime) -> Result<(), Fail> {
-    play(&rt, rt.alloc(), 16, &NEW_LIFE)?;
-    Ok(())
+fn a_new_life_on_the_same_device(rt: HostRuntime) {
+    expect(&rt, rt.alloc(), 16, &NEW_LIFE);
 }
 
 #[test]
-fn a_device_with_a_frame_too_few(rt: HostRuntime) -> Result<(), Fail> {
-    play(&rt, rt.alloc(), 12, &TWELVE_FRAMES)?;
-    Ok(())
+fn a_device_with_a_frame_too_few(rt: HostRuntime) {
+    expect(&rt, rt.alloc(), 12, &TWELVE_FRAMES);
 }

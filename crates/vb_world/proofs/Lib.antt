@@ -3,7 +3,6 @@ pub mod Frames
 pub mod Calls
 pub mod Plugs
 pub mod Runs
-pub mod Listing
 pub mod Lives
 pub mod Aiming
 pub mod Balancing

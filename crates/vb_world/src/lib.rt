@@ -1,8 +1,6 @@
 //! All guests of a host, and what happens to them.
 #![tactic(auto)]
 
-#[cfg(test)]
-mod tests;
 mod world;
 
 pub use world::{World, add_spare};

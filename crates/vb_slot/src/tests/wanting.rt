@@ -5,11 +5,10 @@ ghost use Rattle.std.specs.Prelude.{Bool};
 ghost use Rattle.vb_model.specs.Guest.{Guest};
 ghost use Rattle.vb_slot.specs.Slots.{stands_for};
 
-use super::{FEATURES, THIRTEEN};
+use super::{FEATURES, THIRTEEN, two_bytes};
 use crate::Slot;
-use std::alloc::{AllocError, Global};
+use std::alloc::Global;
 use std::process::Abort;
-use std::test::Fail;
 use vb_device::ImmediateDevice;
 use vb_frames::{FrameKeeper, FrameTable, Refused};
 use vb_model::{Bytes, Claim, Refusal};
@@ -27,12 +26,15 @@ struct Wanting {
 
 impl Wanting {
     /// Sixty-four frames.
-    fn new(alloc: Global, refused: usize) -> Result<Wanting, AllocError> {
-        Ok(Wanting {
-            table: FrameTable::new(alloc, 64)?,
+    fn new(rt: &impl Abort, alloc: Global, refused: usize) -> Wanting {
+        let Ok(table) = FrameTable::new(alloc, 64) else {
+            rt.abort()
+        };
+        Wanting {
+            table,
             claims: 0,
             refused,
-        })
+        }
     }
 }
 
@@ -115,16 +117,10 @@ fn start_twice(rt: &impl Abort, slot: &mut Slot, keeper: &mut Wanting, refused: 
 }
 
 /// Bytes that find no memory for the frame of their page, and the same bytes again.
-fn put_twice(
-    rt: &impl Abort,
-    alloc: Global,
-    slot: &mut Slot,
-    keeper: &mut Wanting,
-    held: bool,
-) -> Result<(), AllocError>
+fn put_twice(rt: &impl Abort, alloc: Global, slot: &mut Slot, keeper: &mut Wanting, held: bool)
     requires { (keeps : Bool) × (g : Guest) × stands_for keeps mem part slot.old g }
 {
-    let bytes = Bytes::new(vec![in alloc; 0xab, 0xcd]?);
+    let bytes = two_bytes(rt, alloc);
     assert!(rt; alloc_page(slot) == Ok(16));
     let answer = put(slot, keeper, held, &bytes);
     assert!(rt;
@@ -134,7 +130,6 @@ fn put_twice(
     let answer = put(slot, keeper, held, &bytes);
     assert!(rt; answer == Ok(()) && slot.claimed() == [Claim::Gave(0)].as_slice());
     assert!(rt; slot.backing(16) == Some(0) && keeper.table.used() == 1);
-    Ok(())
 }
 
 /// What is done twice, of which the first time finds no memory.
@@ -149,42 +144,39 @@ enum Twice {
 }
 
 /// A guest of 64 pages does something twice.
-fn play(rt: &impl Abort, alloc: Global, what: Twice) -> Result<(), AllocError> {
+fn play(rt: &impl Abort, alloc: Global, what: Twice) {
     let refused = match what {
         Twice::Start(refused) => refused,
         Twice::Write | Twice::Scribble => 0,
     };
-    let mut keeper = Wanting::new(alloc, refused)?;
-    let device = Box::new(alloc, ImmediateDevice::new(alloc))?;
+    let mut keeper = Wanting::new(rt, alloc, refused);
+    let Ok(device) = Box::new(alloc, ImmediateDevice::new(alloc)) else {
+        rt.abort()
+    };
     let config = Config {
         pages: 64,
         queue_size: 8,
         processors: 1,
     };
-    match Slot::new(alloc, device, config) {
-        Ok(mut slot) => match what {
-            Twice::Start(_) => {
-                start_twice(rt, &mut slot, &mut keeper, refused);
-                Ok(())
-            }
-            Twice::Write => put_twice(rt, alloc, &mut slot, &mut keeper, true),
-            Twice::Scribble => put_twice(rt, alloc, &mut slot, &mut keeper, false),
-        },
-        Err(_) => Err(AllocError),
+    let Ok(mut slot) = Slot::new(alloc, device, config) else {
+        rt.abort()
+    };
+    match what {
+        Twice::Start(_) => start_twice(rt, &mut slot, &mut keeper, refused),
+        Twice::Write => put_twice(rt, alloc, &mut slot, &mut keeper, true),
+        Twice::Scribble => put_twice(rt, alloc, &mut slot, &mut keeper, false),
     }
 }
 
 #[test]
-fn a_start_that_finds_no_memory_keeps_no_frame(rt: HostRuntime) -> Result<(), Fail> {
+fn a_start_that_finds_no_memory_keeps_no_frame(rt: HostRuntime) {
     for refused in 0..13 {
-        play(&rt, rt.alloc(), Twice::Start(refused))?;
+        play(&rt, rt.alloc(), Twice::Start(refused));
     }
-    Ok(())
 }
 
 #[test]
-fn bytes_that_find_no_memory_leave_their_page_bare(rt: HostRuntime) -> Result<(), Fail> {
-    play(&rt, rt.alloc(), Twice::Write)?;
-    play(&rt, rt.alloc(), Twice::Scribble)?;
-    Ok(())
+fn bytes_that_find_no_memory_leave_their_page_bare(rt: HostRuntime) {
+    play(&rt, rt.alloc(), Twice::Write);
+    play(&rt, rt.alloc(), Twice::Scribble);
 }
