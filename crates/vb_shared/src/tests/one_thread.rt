@@ -118,3 +118,32 @@ fn passes_that_meet_keep_what_they_hold(rt: HostRuntime) -> Result<(), Fail> {
     assert!(rt; one.put_back(0) && other.put_back(1));
     Ok(())
 }
+
+/// Claims a frame, and once more where there was no memory for its bytes; then as many frames were held
+/// as before.
+fn claim_at_last(host: &mut Host) -> Option<u32> {
+    let held = host.frames.census();
+    match host.device.as_mut()?.claim() {
+        Claimed::NoMemory if host.frames.census() == held => host.step(Step::DeviceClaims),
+        claimed => number_of(claimed),
+    }
+}
+
+/// Whichever request for memory is refused (`rt try --test --fail-alloc N`), nothing is lost by it.
+#[test]
+fn want_of_memory_loses_no_frame(rt: HostRuntime) {
+    let Ok((frames, mut passes)) = SharedFrames::open(rt.alloc(), 3, 2) else {
+        return;
+    };
+    let (Some(pass), Some(first)) = (passes.pop(), passes.pop()) else {
+        panic!(rt; "there are two passes")
+    };
+    let device = Some(Leased::new(ImmediateDevice::new(rt.alloc()), first));
+    let mut host = Host {
+        frames,
+        device,
+        pass,
+    };
+    let claimed = (claim_at_last(&mut host), claim_at_last(&mut host));
+    assert!(rt; claimed == (Some(0), Some(1)) && host.frames.census() == 2);
+}
