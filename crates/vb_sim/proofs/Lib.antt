@@ -1,1 +1,3 @@
 pub mod Paces
+pub mod Reading
+pub mod Speaking
