@@ -1,6 +1,7 @@
 //! The text of a script, read line by line.
 
-ghost use Rattle.std.specs.Prelude.{◌≡◌, ◌≤◌, ◌/◌, ◌+◌, true, IfErr, IfOk, IsSome, OnErr, OnOk, vec_capacity};
+ghost use Rattle.std.specs.Prelude.{◌≡◌, ◌≤◌, ◌/◌, ◌+◌, true, vec_capacity};
+ghost use Rattle.std.specs.Prelude.{IfErr, IfOk, IsSome, OnErr, OnOk};
 ghost use Rattle.std.specs.Option.{option_map};
 ghost use Rattle.vb_script.specs.Scripts.{IfBadLine, fault_at, lines_left, said_by};
 ghost use Rattle.vb_script.specs.Texts.{begins_with_host, host_said, script_of};

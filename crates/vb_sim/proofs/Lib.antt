@@ -1,2 +1,4 @@
 pub mod Paces
 pub mod Listing
+pub mod Reading
+pub mod Speaking

@@ -1,2 +1,5 @@
+pub mod Arguments
+pub mod Commands
+pub mod Ends
 pub mod Faults
 pub mod Plays

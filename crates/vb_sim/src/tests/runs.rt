@@ -53,6 +53,8 @@ struct Faults {
     most: usize,
     /// Whether a stream that has failed works again from then on.
     heals: bool,
+    /// Whether what was written can't be flushed.
+    holds: bool,
 }
 
 /// Nothing goes wrong.
@@ -62,6 +64,7 @@ const NONE: Faults = Faults {
     call: 0,
     most: usize::MAX,
     heals: false,
+    holds: false,
 };
 
 /// A reader of these bytes, a byte at a time, which may fail behind them.
@@ -108,6 +111,9 @@ impl Write for Flaky<'_> {
     }
 
     fn flush(&mut self) -> io::Result<()> {
+        if self.faults.holds {
+            return Err(io::Error::from(ErrorKind::BrokenPipe));
+        }
         Ok(())
     }
 }
@@ -119,19 +125,19 @@ fn run<P: Play>(alloc: Global, host: &mut P, text: &[u8], faults: Faults) -> Out
         rest: text,
         fails: faults.reading,
     };
-    let out = Flaky {
+    let mut out = Flaky {
         text: &mut output,
         calls: 0,
         room: faults.room,
         faults,
     };
-    let err = Flaky {
+    let mut err = Flaky {
         text: &mut errors,
         calls: 0,
         room: faults.room,
         faults,
     };
-    let status = run_script_on(alloc, host, input, out, err);
+    let status = run_script_on(alloc, host, input, &mut out, &mut err);
     Outcome {
         output,
         errors,
@@ -234,8 +240,8 @@ fn nothing_is_written_where_reading_fails_at_any_byte(rt: HostRuntime) {
     }
 }
 
-/// Whether a run on a stream with room for so many bytes fails, and has written so much of its replies,
-/// or of these and what comes behind them.
+/// Whether a run on a stream with room for so many bytes fails, and has written so much of its
+/// replies, or of these and what comes behind them.
 fn fails_at(alloc: Global, room: usize, heals: bool) -> bool {
     let (script, replies) = (SPOKEN.0, SPOKEN.1);
     let faults = Faults {
@@ -257,6 +263,16 @@ fn what_is_written_where_writing_fails_at_any_byte_is_true(rt: HostRuntime) {
         assert!(rt; fails_at(rt.alloc(), room, false), "at byte {room}");
         assert!(rt; fails_at(rt.alloc(), room, true), "at byte {room}");
     }
+}
+
+#[test]
+fn what_cant_be_flushed_is_status_4(rt: HostRuntime) {
+    let faults = Faults {
+        holds: true,
+        ..NONE
+    };
+    let outcome = run(rt.alloc(), &mut Host, SPOKEN.0, faults);
+    assert!(rt; outcome.shows(SPOKEN.1, b"", 4));
 }
 
 /// A script with a bad line, and what is said of it.

@@ -1,5 +1,6 @@
 use Rattle.std.proofs.Common.{◌*◌, ◌<◌, ◌≤◌, length, rules, tests, arith, refl}
-use Rattle.vb_script.proofs.Hex.{IsByteWord-decodes, not_byte_word, decoded, decoded_ok, decoded_err}
+use Rattle.vb_script.proofs.Hex.{IsByteWord-decodes, decoded, decoded_err, decoded_ok}
+use Rattle.vb_script.proofs.Hex.{not_byte_word}
 use Rattle.vb_script.proofs.WordLemmas.{bytes_read, no_bytes, bytes_out_of_range}
 use Rattle.vb_script.proofs.values.bytes.Goals as goal
 

@@ -1,0 +1,81 @@
+//! What a command line asks for, from its words to the exit status.
+
+ghost use Rattle.std.specs.Prelude.{◌≡◌, map, string_bytes, true, IsOkAnd, OnOk};
+ghost use Rattle.std.specs.Io.KnownBytes.{Appends};
+ghost use Rattle.vb_sim.specs.Arguments.{asks_for_run, refusal_line, refusal_status};
+ghost use Rattle.vb_sim.specs.Ends.{Says};
+ghost use Rattle.vb_sim.specs.Commands.{CommandEnds};
+
+use crate::arguments::{ArgumentsFault, read_arguments};
+use crate::run::{BAD_ARGUMENTS, BROKEN_STREAM, NO_MEMORY, run_script};
+use std::alloc::Global;
+use std::io;
+use std::io::{Read, Write};
+
+/// Does what the words of a command line ask for, the program's name first. Answers the exit
+/// status: that of a run, or where none is asked for 2 or 3, and `errors` has a line that says why.
+pub fn run_command<R, O, E>(
+    alloc: Global,
+    words: Result<Vec<String>, ArgumentsFault>,
+    input: R,
+    output: &mut O,
+    errors: &mut E,
+) -> u8
+where
+    R: Read + Drop,
+    O: Write,
+    E: Write,
+    ensures { CommandEnds
+        (IsOkAnd words (λ words. asks_for_run (map string_bytes words.items) ≡ true))
+        (R.remaining input) (O.contents output.old) (O.contents output.new)
+        (E.contents errors.old) (E.contents errors.new) result }
+{
+    match ask(alloc, words) {
+        Ok(()) => run_script(alloc, input, output, errors),
+        Err(fault) => refuse(fault, errors),
+    }
+}
+
+/// Whether the words, if they could be had, ask for a run.
+fn ask(alloc: Global, words: Result<Vec<String>, ArgumentsFault>) -> Result<(), ArgumentsFault>
+    ensures { OnOk result
+        (IsOkAnd words (λ words. asks_for_run (map string_bytes words.items) ≡ true)) }
+{
+    let words = words?;
+    read_arguments(alloc, words.as_slice())
+}
+
+/// Writes why a command line asks for no run, and answers its exit status, or where that can't be
+/// written the one of a broken stream.
+pub fn refuse<E: Write>(fault: ArgumentsFault, errors: &mut E) -> u8
+    ensures { Says (refusal_line fault) (refusal_status fault) (E.contents errors.old)
+        (E.contents errors.new) result }
+{
+    match write_refusal(fault, errors) {
+        Ok(()) => fault.status(),
+        Err(_fault) => BROKEN_STREAM,
+    }
+}
+
+impl ArgumentsFault {
+    /// The exit status.
+    fn status(self) -> u8
+        ensures { result ≡ refusal_status self }
+    {
+        match self {
+            ArgumentsFault::Refused => BAD_ARGUMENTS,
+            ArgumentsFault::Memory => NO_MEMORY,
+        }
+    }
+}
+
+/// Writes a line that says why a command line asks for no run.
+fn write_refusal<E: Write>(fault: ArgumentsFault, errors: &mut E) -> io::Result<()>
+    ensures { OnOk result
+        (Appends (E.contents errors.old) (E.contents errors.new) (refusal_line fault)) }
+{
+    match fault {
+        ArgumentsFault::Refused => writeln!(errors, "usage: vb_sim run | threads [--bells MODE]"),
+        ArgumentsFault::Memory => writeln!(errors, "run: memory"),
+    }
+}
