@@ -214,6 +214,8 @@ impl Port for ListedDevice {
 }
 
 impl Device for ListedDevice {
+    ghost answers = { λ _ _. false };
+
     fn attach(&mut self, alloc: Global, config: Config) -> Result<(), AllocError> {
         count(&mut self.calls);
         refuse(&mut self.refusals)?;
