@@ -1,4 +1,4 @@
--- The slot's ask is a step of the guest.
+-- A guest's ask is a step of the definitions.
 use Rattle.std.specs.Prelude.{◌≡◌, ◌≢◌, ℕ, Bool, false, List, []}
 use Rattle.std.specs.Prelude.{Result, Ok, Err, IsOk, Some, None, is_some, slice_get}
 use Rattle.std.specs.Prelude.{refl}

@@ -1,4 +1,4 @@
--- From what a call ties and the model's step to what the slot's clauses say.
+-- From what a call ties and the model's step to what the guest's clauses say.
 use Rattle.std.specs.Prelude.{◌≡◌, ℕ, Bool, true, false, List, [], ◌∷◌, Option, Some, None}
 use Rattle.std.specs.Prelude.{MatchOption, MatchBool, if◌then◌else◌, refl}
 use Rattle.std.proofs.Common.{sym, ap, subst, inl, inr}

@@ -1,4 +1,4 @@
--- The slot's two deflates are steps of the guest.
+-- A guest's two deflates are steps of the definitions.
 use Rattle.std.specs.Prelude.{◌≡◌, ℕ, zero, suc, ◌+◌, ◌<◌, ◌≤◌, ◌==◌, Bool, true, false, not}
 use Rattle.std.specs.Prelude.{nat_le, if◌then◌else◌, List, [], ◌∷◌, length, take, Result, Ok, Err}
 use Rattle.std.specs.Prelude.{OnErr, IfOk, Option, Some, None, is_some, count_by, refl, ◌⊎◌}

@@ -1,4 +1,4 @@
--- The slot's finish of a report is a step of the guest.
+-- A guest's finish of a report is a step of the definitions.
 use Rattle.std.specs.Prelude.{◌≡◌, ◌≢◌, ℕ, zero, suc, ◌<◌, ◌≤◌, List, [], ◌∷◌}
 use Rattle.std.specs.Prelude.{All, Result, Option, Some, None, is_some, slice_get, refl}
 use Rattle.std.specs.Option.{option_to_list}

@@ -1,4 +1,4 @@
--- The slot's finish is a step of the guest.
+-- A guest's finish is a step of the definitions.
 use Rattle.std.specs.Prelude.{◌≡◌, ◌≢◌, ℕ, ◌+◌, ◌%◌, ◌<◌, Bool, true, false, List}
 use Rattle.std.specs.Prelude.{[], All, remove, Result, Option, Some, None, is_some}
 use Rattle.std.specs.Prelude.{slice_get, refl, ◌⊎◌}

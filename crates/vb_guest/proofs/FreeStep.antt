@@ -1,4 +1,4 @@
--- The slot's giving back of a block is a step of the guest.
+-- A guest's giving back of a block is a step of the definitions.
 use Rattle.std.specs.Prelude.{ℕ, [], Result, Ok, Err, refl}
 use Rattle.std.proofs.Common.{sym, subst, inl, inr}
 use Rattle.vb_model.specs.declared.calls.Call.TheVariants.{Free}

@@ -1,4 +1,4 @@
--- The slot's inflate is a step of the guest.
+-- A guest's inflate is a step of the definitions.
 use Rattle.std.specs.Prelude.{◌≡◌, ◌≢◌, ℕ, ◌+◌, ◌<◌, ◌≤◌, ◌==◌, true, false, nat_le, [], ◌∷◌, ◌++◌}
 use Rattle.std.specs.Prelude.{length, Result, Ok, Err, Option, Some, None, IsSome, is_some, refl}
 use Rattle.std.specs.Prelude.{◌⊎◌}

@@ -1,4 +1,4 @@
--- The slot's initialisation is a step of the guest.
+-- A guest's initialisation is a step of the definitions.
 use Rattle.std.specs.Prelude.{◌≡◌, ◌≢◌, ℕ, zero, suc, ◌+◌, ◌<◌, ◌≤◌, ◌==◌, Bool, true, false, not}
 use Rattle.std.specs.Prelude.{◌&&◌, if◌then◌else◌, cond, List, [], ◌∷◌, length, Option, Some, None}
 use Rattle.std.specs.Prelude.{IsSome, is_some, is_none, MatchOption, Result, Ok, Err, filter}

@@ -1,4 +1,4 @@
--- The slot's read is a step of the guest.
+-- A guest's read is a step of the definitions.
 use Rattle.std.specs.Prelude.{◌≡◌, ℕ, ◌+◌, ◌<◌, Bool, true, false, not, List, [], ◌∷◌, length, take}
 use Rattle.std.specs.Prelude.{drop, None, slice_index, refl, ◌⊎◌}
 use Rattle.std.proofs.Common.{sym, ◌∙◌, ap, arith, inl, inr}

@@ -1,4 +1,4 @@
--- The slot's reap of a report is a step of the guest.
+-- A guest's reap of a report is a step of the definitions.
 use Rattle.std.specs.Prelude.{◌≡◌, ℕ, List, [], ◌∷◌, length, Result, Ok}
 use Rattle.std.specs.Prelude.{Option, Some, None, slice_get, count_by, refl}
 use Rattle.std.proofs.Common.{sym, ◌∙◌, ap, subst, arith, inr}

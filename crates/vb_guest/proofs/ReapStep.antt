@@ -1,4 +1,4 @@
--- The slot's reap is a step of the guest.
+-- A guest's reap is a step of the definitions.
 use Rattle.std.specs.Prelude.{◌≡◌, ℕ}
 use Rattle.std.specs.Prelude.{List, [], ◌∷◌, length, Result, Ok, Option, Some, None}
 use Rattle.std.specs.Prelude.{count_by, refl}

@@ -1,4 +1,4 @@
--- The slot's report is a step of the guest.
+-- A guest's report is a step of the definitions.
 use Rattle.std.specs.Prelude.{◌≡◌, ℕ, ◌<◌, ◌==◌, Bool, true, false, not, nat_le, List}
 use Rattle.std.specs.Prelude.{[], ◌∷◌, length, Result, Ok, Err, Option, Some, None, is_some, refl}
 use Rattle.std.proofs.Common.{sym, ◌∙◌, ap, subst, arith, inl, inr}

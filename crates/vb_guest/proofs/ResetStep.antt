@@ -1,4 +1,4 @@
--- The slot's reset is a step of the guest.
+-- A guest's reset is a step of the definitions.
 use Rattle.std.specs.Prelude.{◌≡◌, ℕ, Bool, false, List, [], length, map, replicate, refl}
 use Rattle.std.proofs.Common.{◌∙◌, ap, inl}
 use Rattle.vb_model.specs.declared.calls.Call.TheVariants.{Reset}

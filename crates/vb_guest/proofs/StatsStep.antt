@@ -1,4 +1,4 @@
--- The slot's new fill of the statistics buffer is a step of the guest.
+-- A guest's new fill of the statistics buffer is a step of the definitions.
 use Rattle.std.specs.Prelude.{◌≡◌, ℕ, ◌*◌, Bool, true, false, not, List, []}
 use Rattle.std.specs.Prelude.{Result, Ok, Err, Option, Some, None, is_some, is_err, slice_get}
 use Rattle.std.specs.Prelude.{count_by, refl}

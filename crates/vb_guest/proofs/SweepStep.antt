@@ -1,4 +1,4 @@
--- The slot's sweep is a step of the guest.
+-- A guest's sweep is a step of the definitions.
 use Rattle.std.specs.Prelude.{◌≡◌, ℕ, zero, suc, ◌<◌, ◌≤◌, Bool, true, false, not, List, [], ◌∷◌}
 use Rattle.std.specs.Prelude.{All, length, Result, Option, Some, None, is_some, refl, ◌⊎◌}
 use Rattle.std.specs.Option.{option_to_list}

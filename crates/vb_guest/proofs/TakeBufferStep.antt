@@ -1,4 +1,4 @@
--- The slot's take of the statistics buffer is a step of the guest.
+-- A guest's take of the statistics buffer is a step of the definitions.
 use Rattle.std.specs.Prelude.{◌≡◌, ℕ, ◌*◌, List, [], length, Result, Ok, Option, Some}
 use Rattle.std.specs.Prelude.{None, slice_get, refl}
 use Rattle.std.proofs.Common.{sym, ◌∙◌, ap, subst, arith, inl, inr}

@@ -1,4 +1,4 @@
--- The slot's new target is a step of the guest.
+-- A guest's new target is a step of the definitions.
 use Rattle.std.specs.Prelude.{◌≡◌, ℕ, [], refl}
 use Rattle.std.proofs.Common.{inl, inr}
 use Rattle.vb_model.specs.declared.calls.Call.TheVariants.{SetTarget}

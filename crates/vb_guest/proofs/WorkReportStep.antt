@@ -1,4 +1,4 @@
--- The visit of a report's page is a step of the guest.
+-- The visit of a report's page is a step of the definitions.
 use Rattle.std.specs.Prelude.{◌≡◌, ℕ, ◌<◌, ◌≤◌, Bool, true, false, cond, List, [], ◌∷◌}
 use Rattle.std.specs.Prelude.{All, length, if◌then◌else◌, Result, Option, Some, None}
 use Rattle.std.specs.Prelude.{MatchOption, is_some}

@@ -1,4 +1,4 @@
--- The device's work is a step of the guest.
+-- The device's work is a step of the definitions.
 use Rattle.std.specs.Prelude.{◌≡◌, ℕ, ◌<◌, ◌≤◌, Bool, true, false, List}
 use Rattle.std.specs.Prelude.{[], ◌∷◌, All, length, Result, Option, Some, None, is_some}
 use Rattle.std.specs.Prelude.{refl, ◌⊎◌}

@@ -1,4 +1,4 @@
--- The slot's write is a step of the guest.
+-- A guest's write is a step of the definitions.
 use Rattle.std.specs.Prelude.{◌≡◌, ℕ, ◌+◌, ◌<◌, ◌≤◌, Bool, true, false, not, if◌then◌else◌, List}
 use Rattle.std.specs.Prelude.{[], ◌∷◌, length, Option, Some, None, IsSome, is_none, Result, Err}
 use Rattle.std.specs.Prelude.{IsOk, refl, ◌⊎◌}

@@ -1,6 +1,6 @@
 -- How pages get frames before an initialisation (VIRTIO 1.1, 3.1.1).
-use Rattle.std.specs.Prelude.{◌≡◌, ℕ, ◌-◌, Bool, List, [], ◌∷◌, ◌++◌, Option, Some, None, is_none, Result}
-use Rattle.std.specs.Prelude.{Ok, Err, OnOk, OnErr, filter}
+use Rattle.std.specs.Prelude.{◌≡◌, ℕ, ◌-◌, Bool, List, [], ◌∷◌, ◌++◌, Option, Some, None, is_none}
+use Rattle.std.specs.Prelude.{Result, Ok, Err, OnOk, OnErr, filter}
 use Rattle.std.specs.List.{range_with_len}
 use Rattle.vb_model.specs.declared.calls.Claim.{Claim}
 use Rattle.vb_model.specs.declared.replies.Refusal.{Refusal}

@@ -154,15 +154,15 @@ pub record IsOwnRequest (count : ℕ) (r : Request) : Type 0 where
   pub above : All (λ page. reserved_pages ≤ page) r.pages
   pub below : All (λ page. page < count) r.pages
 
--- Whatever its rings say, the pages of rings and buffers have frames, and what the device took names
--- pages that it may take frames from.
+-- Whatever its rings say, the pages of rings and buffers have frames, and what the device took
+-- names pages that it may take frames from.
 pub record IsRogueUp (mem : Pages) (part : Part) : Type 0 where
   pub backed : (page : ℕ) → page < ring_and_buffer_pages → IsSome (frame_at mem page)
   pub inflates : All (IsOwnRequest (length mem)) part.inflate.taken
   pub reports : All (IsOwnRequest (length mem)) part.report.taken
 
--- How large the guest is, what its driver and its device keep and are asked for, and the frames behind
--- its pages: nothing of its rings, of its requests, and of what its pages hold.
+-- How large the guest is, what its driver and its device keep and are asked for, and the frames
+-- behind its pages: nothing of its rings, of its requests, and of what its pages hold.
 pub record Rogue (mem : Pages) (part : Part) (d : DriverState) (g : Guest) : Type 0 where
   pub rogue : g.rogue ≡ true
   pub config : is_config g.config.pages g.config.queue_size g.config.processors ≡ true
@@ -196,8 +196,8 @@ abbrev pub StandsBy : Bool → Pages → Part → DriverState → Guest → Type
 StandsBy false mem part d g = Honest mem part d g
 StandsBy true mem part d g = Rogue mem part d g
 
--- The driver, the device and its memory are those of this guest, and the device does, or doesn't, keep
--- frames of its own.
+-- The driver, the device and its memory are those of this guest, and the device does, or doesn't,
+-- keep frames of its own.
 pub record Stands (keeps : Bool) (mem : Pages) (part : Part) (d : DriverState) (g : Guest) :
     Type 0 where
   pub guest : StandsBy g.rogue mem part d g

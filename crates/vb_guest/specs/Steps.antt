@@ -1,4 +1,4 @@
--- What a call on a slot does, in the model's words.
+-- What a call on a guest does, in the model's words.
 use Rattle.std.specs.Prelude.{◌≡◌, ℕ, ◌+◌, ◌≤◌, ◌==◌, Bool, false, List, [], length, Option, Some}
 use Rattle.std.specs.Prelude.{None, count_by}
 use Rattle.vb_model.specs.declared.calls.Call.{Call}
@@ -26,9 +26,9 @@ backing_count n g = count_by (is_frame n) g.frames
 abbrev pub AreOut : Guest → List Bool → Type 0
 AreOut g out = (n : ℕ) → backing_count n g ≤ one_if (is_out out n)
 
--- A step of a guest whose device keeps no frames: what the call's claims were answered, and the guest
--- afterwards, for which New holds. Frames that its pages gain are out then, and those that they lose aren't. The keeper
--- has as many frames as before.
+-- A step of a guest whose device keeps no frames: what the call's claims were answered, and the
+-- guest afterwards, for which New holds. Frames that its pages gain are out then, and those that
+-- they lose aren't. The keeper has as many frames as before.
 pub record Steps (New : Guest → Type 0) (Answers : List Bool → Claim → Type 0)
     (old_out new_out : List Bool) (g : Guest) (call : Call) (reply : Reply) : Type 0 where
   pub claims : List Claim
@@ -42,8 +42,8 @@ pub record Steps (New : Guest → Type 0) (Answers : List Bool → Claim → Typ
   pub count : length new_out ≡ length old_out
 
 -- A step of the guest over its supply of frames: what the call's claims were answered, and the
--- guest afterwards, for which New holds. Frames that its pages gain are out then, and those that they
--- lose aren't.
+-- guest afterwards, for which New holds. Frames that its pages gain are out then, and those that
+-- they lose aren't.
 pub record StepsOver (New : Guest → Type 0) (Answers : List Bool → Claim → Type 0)
     (old_supply new_supply : Supply) (claims : List Claim) (g : Guest) (call : Call)
     (reply : Reply) : Type 0 where
@@ -78,8 +78,8 @@ pub record IsBare (mem : Pages) (part : Part) : Type 0 where
   pub frames : (page : ℕ) → frame_at mem page ≡ None
   pub loose : part.loose ≡ []
 
--- A new life of the guest, for which New holds: as it was plugged in, with its target, and with none
--- of the frames that it had.
+-- A new life of the guest, for which New holds: as it was plugged in, with its target, and with
+-- none of the frames that it had.
 pub record Restarts (New : Guest → Type 0) (old_supply new_supply : Supply) (g : Guest) :
     Type 0 where
   pub stands : New (after_restart g)

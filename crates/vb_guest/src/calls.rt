@@ -26,8 +26,9 @@ use vb_frames::FrameKeeper;
 use vb_model::{Call, Query, Reply};
 
 /// Answers a call on the guest that the driver and the device stand for, which is a step of that
-/// guest. Frames that its pages gain are claimed from the device, where it keeps frames of its own, else
-/// from the keeper, and those that they lose go back there. Notes what the claims were answered.
+/// guest. Frames that its pages gain are claimed from the device, where it keeps frames of its own,
+/// else from the keeper, and those that they lose go back there. Notes what the claims were
+/// answered.
 pub fn call<D: Device, K: FrameKeeper>(
     alloc: Global,
     driver: &mut Driver,

@@ -17,9 +17,11 @@ use vb_device::{Device, Worked};
 use vb_frames::FrameKeeper;
 use vb_model::{Call, Refusal};
 
-/// The device takes the next chain of a queue (VIRTIO 1.1, 2.6); answers its head, or none where
-/// no chain is available. Of a statistics buffer it reads what it says. Refused with `NoQueue`,
-/// `NotReady`, `NoQueue` where the queue's feature wasn't accepted, and `Busy`, tested in this order.
+/// The device takes the next chain of a queue (VIRTIO 1.1, 2.6); answers its head, or none where no
+/// chain is available. Of a statistics buffer it reads what it says. Refused with `NoQueue`,
+/// `NotReady`, `NeedsReset`, `NoQueue` where the queue's feature wasn't accepted, and `Busy`,
+/// tested in this order; then with `Broken` where the bytes that a rogue guest wrote break a rule:
+/// the device needs a reset then.
 pub fn take<D: Device>(device: &mut D, queue: u32) -> Result<Option<u16>, Refusal>
     ensures step { (keeps : Bool) (d : DriverState) (g : Guest)
         → Stands keeps (D.mem device.old) (D.part device.old) d g
@@ -32,9 +34,9 @@ pub fn take<D: Device>(device: &mut D, queue: u32) -> Result<Option<u16>, Refusa
 }
 
 /// A paced device visits one more page of the requests that it took, the oldest first, and takes
-/// the page's frame away, if it has one; the frame goes back to where it came from. Answers the page and
-/// whether it had a frame; none where no page is left, and always where the device is immediate.
-/// Refused with `NotReady` alone.
+/// the page's frame away, if it has one; the frame goes back to where it came from. Answers the
+/// page and whether it had a frame; none where no page is left, and always where the device is
+/// immediate. Refused with `NotReady` and `NeedsReset`, tested in this order.
 pub fn work<D: Device, K: FrameKeeper>(
     device: &mut D,
     keeper: &mut K,
@@ -56,8 +58,9 @@ pub fn work<D: Device, K: FrameKeeper>(
 }
 
 /// The device uses the taken chain of this number, from 0, on a queue; answers its head. Frames
-/// that its pages lose go back to the keeper. Refused with `NoQueue`, `NotReady`, `NotTaken` and,
-/// where a paced device hasn't visited all pages, `NotWorked`, tested in this order.
+/// that its pages lose go back to where they came from. Refused with `NoQueue`, `NotReady`,
+/// `NeedsReset`, `NotTaken` and, where a paced device hasn't visited all pages, `NotWorked`, tested
+/// in this order.
 pub fn finish<D: Device, K: FrameKeeper>(
     device: &mut D,
     keeper: &mut K,
@@ -73,7 +76,8 @@ pub fn finish<D: Device, K: FrameKeeper>(
         (supply_of (D.part device.old) (K.out keeper.old))
         (supply_of (D.part device.new) (K.out keeper.new)) [] g
         (Call.Finish queue index) (finished_reply result) }
-    ensures exact { IsHandedBack (λ part. FinishesBy queue index (D.mem device.old) (D.mem device.new)
+    ensures exact { IsHandedBack
+        (λ part. FinishesBy queue index (D.mem device.old) (D.mem device.new)
         (D.part device.old) part result) (D.part device.new) }
 {
     let answer = device.finish(queue, index);
@@ -82,7 +86,8 @@ pub fn finish<D: Device, K: FrameKeeper>(
 }
 
 /// The host discards what it still has of a ballooned page; answers whether it had a frame, which
-/// goes back to where it came from. Refused with `NotReady` and `NotBallooned`, tested in this order.
+/// goes back to where it came from. Refused with `NotReady`, `NeedsReset` and `NotBallooned`,
+/// tested in this order.
 pub fn sweep<D: Device, K: FrameKeeper>(
     device: &mut D,
     keeper: &mut K,
@@ -106,7 +111,8 @@ pub fn sweep<D: Device, K: FrameKeeper>(
 }
 
 /// The device gives the statistics buffer that it took back to the driver, which is to fill it anew
-/// (VIRTIO 1.1, 5.5.6.3). Refused with `NotReady` and `NotTaken`, tested in this order.
+/// (VIRTIO 1.1, 5.5.6.3). Refused with `NotReady`, `NeedsReset` and `NotTaken`, tested in this
+/// order.
 pub fn ask<D: Device>(device: &mut D) -> Result<(), Refusal>
     requires { (keeps : Bool) × (d : DriverState) × (g : Guest)
         × Stands keeps (D.mem device.old) (D.part device.old) d g }
@@ -127,7 +133,8 @@ pub fn set_target<D: Device>(device: &mut D, pages: u32)
         → Stands keeps (D.mem device.new) (D.part device.new) d (record g { target = pages }) }
     ensures step { (keeps : Bool) (d : DriverState) (g : Guest)
         → Stands keeps (D.mem device.old) (D.part device.old) d g
-        → StepsAlone (Stands keeps (D.mem device.new) (D.part device.new) d) g (Call.SetTarget pages) Done }
+        → StepsAlone (Stands keeps (D.mem device.new) (D.part device.new) d) g
+        (Call.SetTarget pages) Done }
     ensures part { D.part device.new ≡ record (D.part device.old) { target = pages } }
     ensures mem { D.mem device.new ≡ D.mem device.old }
 {

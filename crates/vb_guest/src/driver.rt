@@ -4,8 +4,8 @@ ghost use Rattle.std.specs.Prelude.{◌≡◌, Bool, ◌≤◌, ℕ, length};
 ghost use Rattle.vb_model.specs.Guest.{Guest};
 ghost use Rattle.vb_ram.specs.Pages.{Pages};
 ghost use Rattle.vb_ram.specs.Part.{Part};
-ghost use Rattle.vb_driver.specs.Calls.{AllocatesBy, FreesBy, InflatesBy, DeflatesBy, DeflatesOnOomBy};
-ghost use Rattle.vb_driver.specs.Calls.{ReportsBy, FillsBy, ReapsBy};
+ghost use Rattle.vb_driver.specs.Calls.{AllocatesBy, FreesBy, InflatesBy, DeflatesBy};
+ghost use Rattle.vb_driver.specs.Calls.{DeflatesOnOomBy, ReportsBy, FillsBy, ReapsBy};
 ghost use Rattle.vb_guest.specs.Replies.{done_reply, page_reply, posted_reply, reaped_reply};
 ghost use Rattle.vb_guest.specs.Replies.{filled_reply};
 ghost use Rattle.vb_guest.specs.Stands.{Stands};
@@ -15,12 +15,14 @@ use vb_device::Device;
 use vb_driver::{Driver, Posted, Reaped};
 use vb_model::{Call, Refusal};
 
-/// A processor asks for a block of 2^order pages (Gorman, chapter 6); answers its first page.
-/// Refused with `BadOrder`, `BadCpu` and `NoPages`, tested in this order.
+/// A processor asks for a block of 2^order pages (Gorman, chapter 6); answers its first page, which
+/// is the one that the processor's list or the page areas give by their rule. Refused with
+/// `BadOrder`, `BadCpu` and `NoPages`, tested in this order.
 pub fn alloc(driver: &mut Driver, cpu: u32, order: u32) -> Result<u32, Refusal>
     ensures step { (keeps : Bool) (mem : Pages) (part : Part) (g : Guest)
         → Stands keeps mem part driver.old g
-        → StepsAlone (Stands keeps mem part driver.new) g (Call.Alloc cpu order) (page_reply result) }
+        → StepsAlone (Stands keeps mem part driver.new) g (Call.Alloc cpu order)
+        (page_reply result) }
     ensures exact { AllocatesBy driver.old driver.new cpu order result }
 {
     driver.alloc(cpu, order)
@@ -31,7 +33,8 @@ pub fn alloc(driver: &mut Driver, cpu: u32, order: u32) -> Result<u32, Refusal>
 pub fn free(driver: &mut Driver, cpu: u32, start: u32, order: u32) -> Result<(), Refusal>
     ensures step { (keeps : Bool) (mem : Pages) (part : Part) (g : Guest)
         → Stands keeps mem part driver.old g
-        → StepsAlone (Stands keeps mem part driver.new) g (Call.Free cpu start order) (done_reply result) }
+        → StepsAlone (Stands keeps mem part driver.new) g (Call.Free cpu start order)
+        (done_reply result) }
     ensures exact { FreesBy driver.old driver.new cpu start order result }
 {
     driver.free(cpu, start, order)
@@ -83,8 +86,8 @@ pub fn oom<D: Device>(driver: &mut Driver, device: &mut D, pages: u32) -> Result
         × Stands keeps (D.mem device.old) (D.part device.old) driver.old g }
     ensures step { (keeps : Bool) (g : Guest)
         → Stands keeps (D.mem device.old) (D.part device.old) driver.old g
-        → StepsAlone (Stands keeps (D.mem device.new) (D.part device.new) driver.new) g (Call.Oom pages)
-        (posted_reply result) }
+        → StepsAlone (Stands keeps (D.mem device.new) (D.part device.new) driver.new) g
+        (Call.Oom pages) (posted_reply result) }
     ensures exact { DeflatesOnOomBy (D.mem device.old) (D.mem device.new)
         (D.part device.old) (D.part device.new) driver.old driver.new pages result }
 {
@@ -92,7 +95,8 @@ pub fn oom<D: Device>(driver: &mut Driver, device: &mut D, pages: u32) -> Result
 }
 
 /// The driver reports its first free blocks of order 4 or more, from this page on, to the host
-/// (profile). Refused with `NotReady`, `NoFeature`, `QueueFull` and `Nothing`, tested in this order.
+/// (profile). Refused with `NotReady`, `NoFeature`, `QueueFull` and `Nothing`, tested in this
+/// order.
 pub fn report<D: Device>(driver: &mut Driver, device: &mut D, from: u32) -> Result<Posted, Refusal>
     requires { (keeps : Bool) × (g : Guest)
         × Stands keeps (D.mem device.old) (D.part device.old) driver.old g }
@@ -107,7 +111,9 @@ pub fn report<D: Device>(driver: &mut Driver, device: &mut D, from: u32) -> Resu
 }
 
 /// The driver fills the statistics buffer anew where the device has used it, and answers whether it
-/// has (VIRTIO 1.1, 5.5.6.3). Refused with `NotReady` and `NoFeature`, tested in this order.
+/// has (VIRTIO 1.1, 5.5.6.3). Refused with `NotReady` and `NoFeature`, then with `RingBroken` where
+/// the used ring of a rogue guest says what no device says: the driver gives up then, by FAILED in
+/// the status. Tested in this order.
 pub fn stats<D: Device>(driver: &mut Driver, device: &mut D) -> Result<bool, Refusal>
     requires { (keeps : Bool) × (g : Guest)
         × Stands keeps (D.mem device.old) (D.part device.old) driver.old g }
@@ -122,8 +128,9 @@ pub fn stats<D: Device>(driver: &mut Driver, device: &mut D) -> Result<bool, Ref
 }
 
 /// The driver takes the next used request of a queue (VIRTIO 1.1, 2.6.14); answers none where none
-/// is new. Refused with `NoQueue`, `NotReady` and, on the queue of reports, `NoFeature`, tested in
-/// this order.
+/// is new. Refused with `NoQueue`, `NotReady` and, on the queue of reports, `NoFeature`, then with
+/// `RingBroken` where the used ring of a rogue guest says what no device says: the driver gives up
+/// then, by FAILED in the status. Tested in this order.
 pub fn reap<D: Device>(
     driver: &mut Driver,
     device: &mut D,
@@ -133,8 +140,8 @@ pub fn reap<D: Device>(
         × Stands keeps (D.mem device.old) (D.part device.old) driver.old g }
     ensures step { (keeps : Bool) (g : Guest)
         → Stands keeps (D.mem device.old) (D.part device.old) driver.old g
-        → StepsAlone (Stands keeps (D.mem device.new) (D.part device.new) driver.new) g (Call.Reap queue)
-        (reaped_reply result) }
+        → StepsAlone (Stands keeps (D.mem device.new) (D.part device.new) driver.new) g
+        (Call.Reap queue) (reaped_reply result) }
     ensures exact { ReapsBy (D.mem device.old) (D.mem device.new)
         (D.part device.old) (D.part device.new) driver.old driver.new queue result }
 {

@@ -13,8 +13,9 @@ use vb_frames::{FrameKeeper, Refused};
 use vb_model::Claim;
 use vb_ram::Frame;
 
-/// So many claims there may be in a call.
-pub const MAX_CLAIMS: usize = 17;
+/// So many claims there may be in a call: an initialisation makes one for each page of rings and
+/// buffers that has no frame, and no other call more than one.
+pub const MAX_CLAIMS: usize = 13;
 
 /// What the claims of a call were answered, in order.
 pub type Claims = ArrayVec<Claim, { MAX_CLAIMS }>;
@@ -37,6 +38,8 @@ fn claim_from<D: Device, K: FrameKeeper>(device: &mut D, keeper: &mut K) -> Resu
         record (D.part device.old) { own = (D.part device.new).own } }
     ensures claimed { IsClaimed K.answers (supply_of (D.part device.old) (K.out keeper.old))
         (supply_of (D.part device.new) (K.out keeper.new)) (claim_in result) }
+    ensures answered { (D.part device.old).keeps ≡ true
+        → D.answers device.old (claim_in result) ≡ true }
     ensures zeros { IfOk result (λ frame. frame.bytes ≡ zero_page) }
 {
     match device.claim() {
@@ -60,6 +63,8 @@ pub(crate) fn claim_frame<D: Device, K: FrameKeeper>(
     ensures claimed { IsClaimed K.answers (supply_of (D.part device.old) (K.out keeper.old))
         (supply_of (D.part device.new) (K.out keeper.new)) (claim_in result) }
     ensures noted { claims.new.items ≡ claims.old.items ++ (claim_in result ∷ []) }
+    ensures answered { (D.part device.old).keeps ≡ true
+        → D.answers device.old (claim_in result) ≡ true }
     ensures zeros { IfOk result (λ frame. frame.bytes ≡ zero_page) }
 {
     let answer = claim_from(device, keeper);

@@ -63,8 +63,8 @@ fn supply_from<D: Device, K: FrameKeeper>(
 
 /// The driver initialises the device with these features, once the pages of its rings and buffers
 /// have frames; they keep them where the features are refused. Notes what the claims were answered.
-/// Refused with `AlreadyUp`, then `NoFrame` or `NoMemory` where a frame is wanting, in which case no
-/// page keeps one, then `FeatureNotOffered`, `MustTellMissing` and `VersionMissing`.
+/// Refused with `AlreadyUp`, then `NoFrame` or `NoMemory` where a frame is wanting, in which case
+/// no page keeps one, then `FeatureNotOffered`, `MustTellMissing` and `VersionMissing`.
 pub fn init<D: Device, K: FrameKeeper>(
     driver: &mut Driver,
     device: &mut D,
@@ -99,7 +99,8 @@ pub fn init<D: Device, K: FrameKeeper>(
 pub fn reset<D: Device>(driver: &mut Driver, device: &mut D)
     ensures step { (keeps : Bool) (g : Guest)
         → Stands keeps (D.mem device.old) (D.part device.old) driver.old g
-        → StepsAlone (Stands keeps (D.mem device.new) (D.part device.new) driver.new) g Call.Reset Done }
+        → StepsAlone (Stands keeps (D.mem device.new) (D.part device.new) driver.new) g
+        Call.Reset Done }
     ensures exact { ResetsBy (D.mem device.old) (D.mem device.new)
         (D.part device.old) (D.part device.new) driver.old driver.new }
 {
@@ -144,7 +145,8 @@ pub fn restart<D: Device, K: FrameKeeper>(driver: &mut Driver, device: &mut D, k
     take_all_back(device, keeper);
 }
 
-/// The guest's life ends: the device is reset, and every frame goes back to where it came from.
+/// The guest's life ends: the device is reset, its target kept, and every frame goes back to where
+/// it came from.
 pub fn empty<D: Device, K: FrameKeeper>(device: &mut D, keeper: &mut K)
     requires { (keeps : Bool) × (d : DriverState) × (g : Guest)
         × Stands keeps (D.mem device.old) (D.part device.old) d g

@@ -1,7 +1,7 @@
 //! Bytes of a guest's pages.
 
-ghost use Rattle.std.specs.Prelude.{◌≡◌, Bool, ℕ, ◌<◌, ◌≤◌, ◌+◌, None, true, false, [], length, take, drop};
-ghost use Rattle.std.specs.Prelude.{IfOk, IsSome};
+ghost use Rattle.std.specs.Prelude.{◌≡◌, Bool, ℕ, ◌<◌, ◌≤◌, ◌+◌, None, true, false, []};
+ghost use Rattle.std.specs.Prelude.{IfOk, IsSome, length, take, drop};
 ghost use Rattle.vb_model.specs.Guest.{Guest};
 ghost use Rattle.vb_model.specs.Pages.{place_of, is_used};
 ghost use Rattle.vb_ram.specs.Pages.{frame_at, contents_at, Covers, Wrote, Supplied};
@@ -88,8 +88,8 @@ fn put_fresh<D: Device, K: FrameKeeper>(
     Ok(())
 }
 
-/// Writes bytes of a page, which gets a frame if it has none. Refused with `OutOfRam` where the bytes
-/// don't lie in a page, and with `NoFrame` or `NoMemory` where a frame is wanting.
+/// Writes bytes of a page, which gets a frame if it has none. Refused with `OutOfRam` where the
+/// bytes don't lie in a page, and with `NoFrame` or `NoMemory` where a frame is wanting.
 fn put_bytes<D: Device, K: FrameKeeper>(
     device: &mut D,
     keeper: &mut K,
@@ -127,10 +127,10 @@ fn put_bytes<D: Device, K: FrameKeeper>(
     }
 }
 
-/// Writes bytes of a page that an allocation holds, which gets a frame if it has none, and notes what
-/// the claim of it was answered. Refused with `NotHeld` where the page isn't used, with `OutOfRam`
-/// where the bytes don't lie in a page, and with `NoFrame` or `NoMemory` where a frame is wanting,
-/// tested in this order; a refusal changes nothing.
+/// Writes bytes of a page that an allocation holds, which gets a frame if it has none, and notes
+/// what the claim of it was answered. Refused with `NotHeld` where the page isn't used, with
+/// `OutOfRam` where the bytes don't lie in a page, and with `NoFrame` or `NoMemory` where a frame
+/// is wanting, tested in this order; a refusal changes nothing.
 pub fn write<D: Device, K: FrameKeeper>(
     driver: &Driver,
     device: &mut D,
@@ -148,7 +148,8 @@ pub fn write<D: Device, K: FrameKeeper>(
         (supply_of (D.part device.old) (K.out keeper.old))
         (supply_of (D.part device.new) (K.out keeper.new)) claims.new.items g
         (Call.Write page offset bytes.now) (done_reply result) }
-    ensures refused { is_used (place_of driver.now.places page) ≡ false → (result ≡ Err Refusal.NotHeld)
+    ensures refused { is_used (place_of driver.now.places page) ≡ false
+        → (result ≡ Err Refusal.NotHeld)
         × IsQuiet (supply_of (D.part device.old) (K.out keeper.old))
         (supply_of (D.part device.new) (K.out keeper.new)) (D.mem device.old) (D.mem device.new)
         (D.part device.old) (D.part device.new) claims.new.items }
@@ -164,10 +165,11 @@ pub fn write<D: Device, K: FrameKeeper>(
     put_bytes(device, keeper, claims, page, offset, bytes)
 }
 
-/// Writes bytes of any page past the driver (profile), which gets a frame if it has none, and notes what
-/// the claim of it was answered. From then on nothing is said any more of what the guest's rings,
-/// requests and pages hold. Refused with `OutOfRam` where the bytes don't lie in a page, and with
-/// `NoFrame` or `NoMemory` where a frame is wanting, tested in this order; a refusal changes nothing.
+/// Writes bytes of any page past the driver (profile), which gets a frame if it has none, and notes
+/// what the claim of it was answered. From then on nothing is said any more of what the guest's
+/// rings, requests and pages hold. Refused with `OutOfRam` where the bytes don't lie in a page, and
+/// with `NoFrame` or `NoMemory` where a frame is wanting, tested in this order; a refusal changes
+/// nothing.
 pub fn scribble<D: Device, K: FrameKeeper>(
     device: &mut D,
     keeper: &mut K,

@@ -14,7 +14,8 @@ use Rattle.vb_guest.specs.Steps.{IsBare}
 use Rattle.vb_guest.specs.Supply.{Supply, supply_of}
 
 -- The memory of the slot's device, and what the device keeps beside it.
-abbrev pub memory_of : {X : Type 0} {F : X → Type 0} → (DynBox X Global F → Pages) → Slot X F → Pages
+abbrev pub memory_of : {X : Type 0} {F : X → Type 0} → (DynBox X Global F → Pages) → Slot X F
+    → Pages
 memory_of mem s = mem s.device.device
 
 abbrev pub part_of : {X : Type 0} {F : X → Type 0} → (DynBox X Global F → Part) → Slot X F → Part
@@ -30,8 +31,8 @@ abbrev pub IsUntouched : {X : Type 0} {F : X → Type 0} → (DynBox X Global F 
 IsUntouched mem part old new =
     (memory_of mem new ≡ memory_of mem old) × (part_of part new ≡ part_of part old)
 
--- The driver, and the boxed device with its memory, are those of this guest, and the device does, or
--- doesn't, keep frames of its own.
+-- The driver, and the boxed device with its memory, are those of this guest, and the device does,
+-- or doesn't, keep frames of its own.
 abbrev pub stands_for : {X : Type 0} {F : X → Type 0} → Bool → (DynBox X Global F → Pages)
     → (DynBox X Global F → Part) → Slot X F → Guest → Type 0
 stands_for keeps mem part s g = Stands keeps (memory_of mem s) (part_of part s) (driver_of s) g

@@ -55,6 +55,8 @@ impl Port for BoxedDevice {
 }
 
 impl Device for BoxedDevice {
+    ghost answers = { λ w. (Device-box w.device).Device.answers w.device.value };
+
     fn attach(&mut self, alloc: Global, config: Config) -> Result<(), AllocError> {
         self.device.attach(alloc, config)
     }

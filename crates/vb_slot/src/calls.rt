@@ -7,10 +7,11 @@ ghost use Rattle.vb_model.specs.Guest.{Guest};
 ghost use Rattle.vb_model.specs.Pages.{place_of, is_used};
 ghost use Rattle.vb_model.specs.World.{Answers};
 ghost use Rattle.vb_device.specs.Calls.{TakesBy, WorksBy, FinishesBy, SweepsBy, AsksBy};
-ghost use Rattle.vb_driver.specs.Calls.{AllocatesBy, FreesBy, InflatesBy, DeflatesBy, DeflatesOnOomBy};
-ghost use Rattle.vb_driver.specs.Calls.{ReportsBy, FillsBy, ReapsBy, ResetsBy};
+ghost use Rattle.vb_driver.specs.Calls.{AllocatesBy, FreesBy, InflatesBy, DeflatesBy};
+ghost use Rattle.vb_driver.specs.Calls.{DeflatesOnOomBy, ReportsBy, FillsBy, ReapsBy, ResetsBy};
 ghost use Rattle.vb_driver.specs.State.{fresh_driver};
-ghost use Rattle.vb_guest.specs.Exact.{InitialisesBy, IsHandedBack, IsQuiet, IsReset, PutsBy, ReadsBy};
+ghost use Rattle.vb_guest.specs.Exact.{InitialisesBy, IsHandedBack, IsQuiet, IsReset, PutsBy};
+ghost use Rattle.vb_guest.specs.Exact.{ReadsBy};
 ghost use Rattle.vb_guest.specs.Replies.{ready_reply, page_reply, done_reply, bytes_reply};
 ghost use Rattle.vb_guest.specs.Replies.{posted_reply, reaped_reply, taken_reply, finished_reply};
 ghost use Rattle.vb_guest.specs.Replies.{worked_reply, swept_reply, runs_reply, balloon_reply};
@@ -28,8 +29,9 @@ use vb_guest::{BalloonState, MAX_CLAIMS};
 use vb_model::{Bytes, Call, Claim, PageRuns, Place, PlaceCounts, Query, Refusal};
 
 impl Slot {
-    /// A processor asks for a block of 2^order pages (Gorman, chapter 6); answers its first page.
-    /// Refused with `BadOrder`, `BadCpu` and `NoPages`, tested in this order.
+    /// A processor asks for a block of 2^order pages (Gorman, chapter 6); answers its first page,
+    /// which is the one that the processor's list or the page areas give by their rule. Refused
+    /// with `BadOrder`, `BadCpu` and `NoPages`, tested in this order.
     pub fn alloc(&mut self, cpu: u32, order: u32) -> Result<u32, Refusal>
         ensures step { (keeps : Bool) (g : Guest) → stands_for keeps mem part self.old g
             → StepsAlone (stands_for keeps mem part self.new) g (Call.Alloc cpu order)
@@ -56,8 +58,8 @@ impl Slot {
         vb_guest::free(&mut self.driver, cpu, start, order)
     }
 
-    /// Bytes of a page that an allocation holds. Refused with `NotHeld`, `OutOfRam` where they don't
-    /// lie in a page, and `NoMemory` where there is none for them, tested in this order.
+    /// Bytes of a page that an allocation holds. Refused with `NotHeld`, `OutOfRam` where they
+    /// don't lie in a page, and `NoMemory` where there is none for them, tested in this order.
     pub fn read(
         &mut self,
         alloc: Global,
@@ -70,7 +72,8 @@ impl Slot {
             → StepsAlone (stands_for keeps mem part self.new) g (Call.Read page offset len)
             (bytes_reply result) }
         ensures claimed { claims_of self.new ≡ [] }
-        ensures exact { ReadsBy (memory_of mem self.old) (driver_of self.old).places page offset len result }
+        ensures exact { ReadsBy (memory_of mem self.old) (driver_of self.old).places
+            page offset len result }
         ensures driver { driver_of self.new ≡ driver_of self.old }
         ensures device { IsUntouched mem part self.old self.new }
     {
@@ -95,7 +98,8 @@ impl Slot {
             (supply_from part self.new (K.out keeper.new)) (claims_of self.new) g
             (Call.Write page offset bytes.now) (done_reply result) }
         ensures refused { is_used (place_of (driver_of self.old).places page) ≡ false
-            → (result ≡ Err Refusal.NotHeld) × IsQuiet (supply_from part self.old (K.out keeper.old))
+            → (result ≡ Err Refusal.NotHeld)
+            × IsQuiet (supply_from part self.old (K.out keeper.old))
             (supply_from part self.new (K.out keeper.new))
             (memory_of mem self.old) (memory_of mem self.new)
             (part_of part self.old) (part_of part self.new) (claims_of self.new) }
@@ -103,7 +107,8 @@ impl Slot {
             → PutsBy K.answers (supply_from part self.old (K.out keeper.old))
             (supply_from part self.new (K.out keeper.new))
             (memory_of mem self.old) (memory_of mem self.new)
-            (part_of part self.old) (part_of part self.new) (claims_of self.new) page offset bytes.now result }
+            (part_of part self.old) (part_of part self.new) (claims_of self.new)
+            page offset bytes.now result }
         ensures driver { driver_of self.new ≡ driver_of self.old }
     {
         vb_guest::write(
@@ -117,9 +122,10 @@ impl Slot {
         )
     }
 
-    /// Writes bytes of any page past the driver (profile), which gets a frame if it has none. From then on,
-    /// up to its next life, nothing is said of what the guest's rings, requests and pages hold. Refused
-    /// with `OutOfRam`, and `NoFrame` or `NoMemory` where a frame is wanting, tested in this order.
+    /// Writes bytes of any page past the driver (profile), which gets a frame if it has none. From
+    /// then on, up to its next life, nothing is said of what the guest's rings, requests and pages
+    /// hold. Refused with `OutOfRam`, and `NoFrame` or `NoMemory` where a frame is wanting, tested
+    /// in this order.
     pub fn scribble<K: FrameKeeper>(
         &mut self,
         keeper: &mut K,
@@ -136,7 +142,8 @@ impl Slot {
         ensures exact { PutsBy K.answers (supply_from part self.old (K.out keeper.old))
             (supply_from part self.new (K.out keeper.new))
             (memory_of mem self.old) (memory_of mem self.new)
-            (part_of part self.old) (part_of part self.new) (claims_of self.new) page offset bytes.now result }
+            (part_of part self.old) (part_of part self.new) (claims_of self.new)
+            page offset bytes.now result }
         ensures driver { driver_of self.new ≡ driver_of self.old }
     {
         vb_guest::scribble(
@@ -161,7 +168,8 @@ impl Slot {
             (Call.Init wanted) (ready_reply result) }
         ensures exact { InitialisesBy K.answers (supply_from part self.old (K.out keeper.old))
             (K.out keeper.new) (memory_of mem self.old) (memory_of mem self.new)
-            (part_of part self.old) (part_of part self.new) (driver_of self.old) (driver_of self.new)
+            (part_of part self.old) (part_of part self.new)
+            (driver_of self.old) (driver_of self.new)
             (claims_of self.new) wanted result }
     {
         vb_guest::init(
@@ -179,7 +187,8 @@ impl Slot {
             → StepsAlone (stands_for keeps mem part self.new) g (Call.Reset) Done }
         ensures claimed { claims_of self.new ≡ [] }
         ensures exact { ResetsBy (memory_of mem self.old) (memory_of mem self.new)
-            (part_of part self.old) (part_of part self.new) (driver_of self.old) (driver_of self.new) }
+            (part_of part self.old) (part_of part self.new)
+            (driver_of self.old) (driver_of self.new) }
     {
         forget(&mut self.claims);
         vb_guest::reset(&mut self.driver, &mut self.device);
@@ -194,7 +203,8 @@ impl Slot {
             (posted_reply result) }
         ensures claimed { claims_of self.new ≡ [] }
         ensures exact { InflatesBy (memory_of mem self.old) (memory_of mem self.new)
-            (part_of part self.old) (part_of part self.new) (driver_of self.old) (driver_of self.new) pages result }
+            (part_of part self.old) (part_of part self.new)
+            (driver_of self.old) (driver_of self.new) pages result }
     {
         forget(&mut self.claims);
         vb_guest::inflate(&mut self.driver, &mut self.device, pages)
@@ -209,7 +219,8 @@ impl Slot {
             (posted_reply result) }
         ensures claimed { claims_of self.new ≡ [] }
         ensures exact { DeflatesBy (memory_of mem self.old) (memory_of mem self.new)
-            (part_of part self.old) (part_of part self.new) (driver_of self.old) (driver_of self.new) pages result }
+            (part_of part self.old) (part_of part self.new)
+            (driver_of self.old) (driver_of self.new) pages result }
     {
         forget(&mut self.claims);
         vb_guest::deflate(&mut self.driver, &mut self.device, pages)
@@ -225,16 +236,17 @@ impl Slot {
             (posted_reply result) }
         ensures claimed { claims_of self.new ≡ [] }
         ensures exact { DeflatesOnOomBy (memory_of mem self.old) (memory_of mem self.new)
-            (part_of part self.old) (part_of part self.new) (driver_of self.old) (driver_of self.new) pages result }
+            (part_of part self.old) (part_of part self.new)
+            (driver_of self.old) (driver_of self.new) pages result }
     {
         forget(&mut self.claims);
         vb_guest::oom(&mut self.driver, &mut self.device, pages)
     }
 
-    /// The driver offers the first free blocks of order 4 or more that start at or after this page, at
-    /// most min(Q, 16), in one report of a queue of its own (profile). Refused with `NotReady`,
-    /// `NoFeature` without REPORTING, `QueueFull` while a report is out, and `Nothing`, tested in this
-    /// order.
+    /// The driver offers the first free blocks of order 4 or more that start at or after this page,
+    /// at most min(Q, 16), in one report of a queue of its own (profile). Refused with `NotReady`,
+    /// `NoFeature` without REPORTING, `QueueFull` while a report is out, and `Nothing`, tested in
+    /// this order.
     pub fn report(&mut self, from: u32) -> Result<Posted, Refusal>
         requires { (keeps : Bool) × (g : Guest) × stands_for keeps mem part self.old g }
         ensures step { (keeps : Bool) (g : Guest) → stands_for keeps mem part self.old g
@@ -242,15 +254,17 @@ impl Slot {
             (posted_reply result) }
         ensures claimed { claims_of self.new ≡ [] }
         ensures exact { ReportsBy (memory_of mem self.old) (memory_of mem self.new)
-            (part_of part self.old) (part_of part self.new) (driver_of self.old) (driver_of self.new) from result }
+            (part_of part self.old) (part_of part self.new)
+            (driver_of self.old) (driver_of self.new) from result }
     {
         forget(&mut self.claims);
         vb_guest::report(&mut self.driver, &mut self.device, from)
     }
 
-    /// The driver fills the statistics buffer anew and makes it available, where the device has used
-    /// it (VIRTIO 1.1, 5.5.6.3); answers whether it did. Refused with `NotReady` and, without STATS_VQ,
-    /// `NoFeature`, tested in this order.
+    /// The driver fills the statistics buffer anew and makes it available, where the device has
+    /// used it (VIRTIO 1.1, 5.5.6.3); answers whether it did. Refused with `NotReady`, without
+    /// STATS_VQ `NoFeature`, and `RingBroken` where the used ring of a rogue guest says what no
+    /// device says, tested in this order: the driver gives up then, by FAILED in the status.
     pub fn stats(&mut self) -> Result<bool, Refusal>
         requires { (keeps : Bool) × (g : Guest) × stands_for keeps mem part self.old g }
         ensures step { (keeps : Bool) (g : Guest) → stands_for keeps mem part self.old g
@@ -258,15 +272,18 @@ impl Slot {
             (filled_reply result) }
         ensures claimed { claims_of self.new ≡ [] }
         ensures exact { FillsBy (memory_of mem self.old) (memory_of mem self.new)
-            (part_of part self.old) (part_of part self.new) (driver_of self.old) (driver_of self.new) result }
+            (part_of part self.old) (part_of part self.new)
+            (driver_of self.old) (driver_of self.new) result }
     {
         forget(&mut self.claims);
         vb_guest::stats(&mut self.driver, &mut self.device)
     }
 
     /// The driver takes the next used request of a queue (VIRTIO 1.1, 2.6.14), 0 and 1, or 4 for a
-    /// report; answers none where none is new. Refused with `NoQueue`, `NotReady` and, of queue 4
-    /// without REPORTING, `NoFeature`, tested in this order.
+    /// report; answers none where none is new. Refused with `NoQueue`, `NotReady`, of queue 4
+    /// without REPORTING `NoFeature`, and `RingBroken` where the used ring of a rogue guest says
+    /// what no device says, tested in this order: the driver gives up then, by FAILED in the
+    /// status.
     pub fn reap(&mut self, queue: u32) -> Result<Option<Reaped>, Refusal>
         requires { (keeps : Bool) × (g : Guest) × stands_for keeps mem part self.old g }
         ensures step { (keeps : Bool) (g : Guest) → stands_for keeps mem part self.old g
@@ -274,17 +291,19 @@ impl Slot {
             (reaped_reply result) }
         ensures claimed { claims_of self.new ≡ [] }
         ensures exact { ReapsBy (memory_of mem self.old) (memory_of mem self.new)
-            (part_of part self.old) (part_of part self.new) (driver_of self.old) (driver_of self.new) queue result }
+            (part_of part self.old) (part_of part self.new)
+            (driver_of self.old) (driver_of self.new) queue result }
     {
         forget(&mut self.claims);
         vb_guest::reap(&mut self.driver, &mut self.device, queue)
     }
 
-    /// The device takes the next chain of a queue (VIRTIO 1.1, 2.6): a request (0 and 1), the buffer of
-    /// statistics (2), which it reads, or a report (4). Answers its head, or none where no chain is
-    /// available. Refused with `NoQueue`, `NotReady`, `NoQueue` where the queue's feature wasn't
-    /// accepted, and `Busy` where 16 chains of the queue, or one of queue 2, are taken, tested in this
-    /// order.
+    /// The device takes the next chain of a queue (VIRTIO 1.1, 2.6): a request (0 and 1), the
+    /// buffer of statistics (2), which it reads, or a report (4). Answers its head, or none where
+    /// no chain is available. Refused with `NoQueue`, `NotReady`, `NeedsReset`, `NoQueue` where the
+    /// queue's feature wasn't accepted, and `Busy` where 16 chains of the queue, or one of queue 2,
+    /// are taken, tested in this order; then with `Broken` where the bytes that a rogue guest wrote
+    /// break a rule: the device needs a reset then.
     pub fn take(&mut self, queue: u32) -> Result<Option<u16>, Refusal>
         ensures step { (keeps : Bool) (g : Guest) → stands_for keeps mem part self.old g
             → StepsAlone (stands_for keeps mem part self.new) g (Call.Take queue)
@@ -298,10 +317,10 @@ impl Slot {
         vb_guest::take(&mut self.device, queue)
     }
 
-    /// A paced device visits one more page of the requests that it took, the oldest inflate first and
-    /// reports after the inflates, and takes its frame away, if it has one. Answers the page and
-    /// whether it had a frame; none where no page is left to visit, and always where the device is
-    /// immediate. Refused with `NotReady` alone.
+    /// A paced device visits one more page of the requests that it took, the oldest inflate first
+    /// and reports after the inflates, and takes its frame away, if it has one. Answers the page
+    /// and whether it had a frame; none where no page is left to visit, and always where the device
+    /// is immediate. Refused with `NotReady` and `NeedsReset`, tested in this order.
     pub fn work<K: FrameKeeper>(&mut self, keeper: &mut K) -> Result<Option<Worked>, Refusal>
         requires { (keeps : Bool) × (g : Guest) × stands_for keeps mem part self.old g
             × (keeps ≡ false → AreOut g (K.out keeper.old)) }
@@ -310,7 +329,8 @@ impl Slot {
             (supply_from part self.old (K.out keeper.old))
             (supply_from part self.new (K.out keeper.new)) (claims_of self.new) g
             (Call.Work) (worked_reply result) }
-        ensures exact { IsHandedBack (λ after. WorksBy (memory_of mem self.old) (memory_of mem self.new)
+        ensures exact { IsHandedBack
+            (λ after. WorksBy (memory_of mem self.old) (memory_of mem self.new)
             (part_of part self.old) after result) (part_of part self.new) }
         ensures driver { driver_of self.new ≡ driver_of self.old }
     {
@@ -318,9 +338,9 @@ impl Slot {
         vb_guest::work(&mut self.device, keeper)
     }
 
-    /// The device uses the taken chain of this number, from 0, of requests (queue 0 or 1) or reports
-    /// (4); answers its head. Refused with `NoQueue`, `NotReady`, `NotTaken` and `NotWorked`, tested in
-    /// this order.
+    /// The device uses the taken chain of this number, from 0, of requests (queue 0 or 1) or
+    /// reports (4); answers its head. Refused with `NoQueue`, `NotReady`, `NeedsReset`, `NotTaken`
+    /// and `NotWorked`, tested in this order.
     pub fn finish<K: FrameKeeper>(
         &mut self,
         keeper: &mut K,
@@ -334,7 +354,8 @@ impl Slot {
             (supply_from part self.old (K.out keeper.old))
             (supply_from part self.new (K.out keeper.new)) (claims_of self.new) g
             (Call.Finish queue index) (finished_reply result) }
-        ensures exact { IsHandedBack (λ after. FinishesBy queue index (memory_of mem self.old) (memory_of mem self.new)
+        ensures exact { IsHandedBack
+            (λ after. FinishesBy queue index (memory_of mem self.old) (memory_of mem self.new)
             (part_of part self.old) after result) (part_of part self.new) }
         ensures driver { driver_of self.new ≡ driver_of self.old }
     {
@@ -343,7 +364,7 @@ impl Slot {
     }
 
     /// The host discards what it still has of a ballooned page; answers whether it had a frame.
-    /// Refused with `NotReady` and `NotBallooned`, tested in this order.
+    /// Refused with `NotReady`, `NeedsReset` and `NotBallooned`, tested in this order.
     pub fn sweep<K: FrameKeeper>(&mut self, keeper: &mut K, page: u32) -> Result<bool, Refusal>
         requires { (keeps : Bool) × (g : Guest) × stands_for keeps mem part self.old g
             × (keeps ≡ false → AreOut g (K.out keeper.old)) }
@@ -352,7 +373,8 @@ impl Slot {
             (supply_from part self.old (K.out keeper.old))
             (supply_from part self.new (K.out keeper.new)) (claims_of self.new) g
             (Call.Sweep page) (swept_reply result) }
-        ensures exact { IsHandedBack (λ after. SweepsBy page (memory_of mem self.old) (memory_of mem self.new)
+        ensures exact { IsHandedBack
+            (λ after. SweepsBy page (memory_of mem self.old) (memory_of mem self.new)
             (part_of part self.old) after result) (part_of part self.new) }
         ensures driver { driver_of self.new ≡ driver_of self.old }
     {
@@ -361,8 +383,8 @@ impl Slot {
     }
 
     /// The device asks for statistics: it uses the buffer of them that it took, so that the driver
-    /// fills it anew (VIRTIO 1.1, 5.5.6.3). Refused with `NotReady`, and `NotTaken` where none is taken,
-    /// tested in this order.
+    /// fills it anew (VIRTIO 1.1, 5.5.6.3). Refused with `NotReady`, `NeedsReset`, and `NotTaken`
+    /// where none is taken, tested in this order.
     pub fn ask(&mut self) -> Result<(), Refusal>
         requires { (keeps : Bool) × (g : Guest) × stands_for keeps mem part self.old g }
         ensures step { (keeps : Bool) (g : Guest) → stands_for keeps mem part self.old g
@@ -392,8 +414,8 @@ impl Slot {
         vb_guest::set_target(&mut self.device, pages);
     }
 
-    /// A new life of the guest begins (profile): the device is reset, every frame of the guest goes back
-    /// to where it came from, and all unreserved pages are free. The target stays.
+    /// A new life of the guest begins (profile): the device is reset, every frame of the guest goes
+    /// back to where it came from, and all unreserved pages are free. The target stays.
     pub fn restart<K: FrameKeeper>(&mut self, keeper: &mut K)
         requires { (keeps : Bool) × (g : Guest) × stands_for keeps mem part self.old g
             × (keeps ≡ false → AreOut g (K.out keeper.old)) }
@@ -412,9 +434,10 @@ impl Slot {
         vb_guest::restart(&mut self.driver, &mut self.device, keeper);
     }
 
-    /// The guest's life ends: the device is reset, and every frame of the guest goes back to where it
-    /// came from, in whatever order. A slot is emptied before it is dropped: a frame that a dropped
-    /// slot still has never comes back.
+    /// The guest's life ends, as it is unplugged: the device is reset, its target kept, and every
+    /// frame of the guest goes back to where it came from, in whatever order. A slot is emptied
+    /// before it is dropped: a frame of the keeper's that a dropped slot still has never comes
+    /// back, and the device, with the frames of its own, goes with the slot.
     pub fn empty<K: FrameKeeper>(&mut self, keeper: &mut K)
         requires { (keeps : Bool) × (g : Guest) × stands_for keeps mem part self.old g
             × (keeps ≡ false → AreOut g (K.out keeper.old)) }
@@ -439,8 +462,8 @@ impl Slot {
         vb_guest::pages(&self.device)
     }
 
-    /// How many pages the guest can spare (profile): those that are ballooned, and those that its last
-    /// statistics call free above the floor, in pages; at most all unreserved ones.
+    /// How many pages the guest can spare (profile): those that are ballooned, and those that its
+    /// last statistics call free above the floor, in pages; at most all unreserved ones.
     pub fn spare(&self, floor: u32) -> u32
         requires { (keeps : Bool) × (g : Guest) × stands_for keeps mem part self.now g }
         ensures { (keeps : Bool) (g : Guest) → stands_for keeps mem part self.now g
@@ -493,7 +516,8 @@ impl Slot {
         vb_guest::balloon(&self.driver, &self.device)
     }
 
-    /// What the last buffer of statistics that the device read said, in bytes (VIRTIO 1.1, 5.5.6.4).
+    /// What the last buffer of statistics that the device read said, in bytes (VIRTIO 1.1,
+    /// 5.5.6.4).
     pub fn memory(&self) -> Statistics
         ensures answer { (keeps : Bool) (g : Guest) → stands_for keeps mem part self.now g
             → Answers (Query.Memory) g (memory_reply result) }

@@ -75,8 +75,8 @@ impl Slot {
     ghost use Rattle.vb_device.specs.Calls.{IsUnused};
     ghost use Rattle.vb_slot.specs.Slots.{claims_of};
 
-    /// A guest of this size as it is plugged in, on a device that no guest has yet, and of whose own
-    /// frames, if it keeps such, none is out. Refused for want of memory alone.
+    /// A guest of this size as it is plugged in, on a device that no guest has yet, and of whose
+    /// own frames, if it keeps such, none is out. Refused for want of memory alone.
     pub fn new(
         alloc: Global,
         device: Box<dyn Device + Send>,

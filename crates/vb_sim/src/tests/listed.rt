@@ -191,6 +191,8 @@ impl Port for ListedDevice {
 }
 
 impl Device for ListedDevice {
+    ghost answers = { λ _ _. false };
+
     fn attach(&mut self, alloc: Global, config: Config) -> Result<(), AllocError> {
         refuse(&mut self.refusals)?;
         let list = PageList::new(alloc, config.pages)?;
