@@ -78,6 +78,8 @@ impl<D: Device> Port for Leased<D> {
 }
 
 impl<D: Device> Device for Leased<D> {
+    ghost answers = { λ _ _. true };
+
     fn attach(&mut self, alloc: Global, config: Config) -> Result<(), AllocError> {
         self.device.attach(alloc, config)
     }
