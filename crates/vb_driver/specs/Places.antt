@@ -1,6 +1,7 @@
 -- A table of places, and how many pages it has at each.
 use Rattle.std.specs.Prelude.{true, false, ◌≡◌, ℕ, nat_lt, if◌then◌else◌}
-use Rattle.std.specs.Prelude.{Bool, List, length, ◌+◌, ◌*◌, ◌<◌, ◌≤◌, slice_index, count_by, map, max}
+use Rattle.std.specs.Prelude.{Bool, List, length, ◌+◌, ◌*◌, ◌<◌, ◌≤◌, slice_index, count_by, map}
+use Rattle.std.specs.Prelude.{max}
 use Rattle.std.specs.Int.{div_ceil}
 pub use Rattle.vb_model.specs.Tests.{marked}
 use Rattle.vb_model.specs.Limits.{reserved_pages}

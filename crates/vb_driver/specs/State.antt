@@ -1,5 +1,6 @@
 -- What a balloon driver keeps.
-use Rattle.std.specs.Prelude.{map, ◌≡◌, ℕ, ◌*◌, ◌<◌, ◌≤◌, nat_lt, true, false, List, [], All, IsTrue}
+use Rattle.std.specs.Prelude.{map, ◌≡◌, ℕ, ◌*◌, ◌<◌, ◌≤◌, nat_lt, true, false, List, [], All}
+use Rattle.std.specs.Prelude.{IsTrue}
 use Rattle.std.specs.Prelude.{length, min, sum_by, count_by, replicate, slice_index_or, Some, None}
 use Rattle.std.specs.Prelude.{if◌then◌else◌}
 use Rattle.vb_model.specs.declared.places.Place.{Place}
@@ -26,15 +27,15 @@ pub record Side : Type 0 where
   pub ring : DriverEnd
   pub sent : List (List ℕ)
 
--- Of the queue of reports: the driver's end of its ring, and the blocks of the report that is out, by
--- rising start, none where no report is.
+-- Of the queue of reports: the driver's end of its ring, and the blocks of the report that is out,
+-- by rising start, none where no report is.
 pub record ReportSide : Type 0 where
   pub ring : DriverEnd
   pub blocks : List Block
 
 -- A driver: how large its guest is, where each page is, the blocks that allocations hold, by rising
--- start, the page areas with each processor's list, its two queues of requests, its end of the queue
--- of statistics, its queue of reports, and the features that were accepted last.
+-- start, the page areas with each processor's list, its two queues of requests, its end of the
+-- queue of statistics, its queue of reports, and the features that were accepted last.
 pub record DriverState : Type 0 where
   pub pages : ℕ
   pub queue_size : ℕ
@@ -150,8 +151,8 @@ pub record IsAreaBlock (b : Block) : Type 0 where
   pub order : b.order ≤ max_order
   pub aligned : IsTrue (is_aligned b)
 
--- The one report has the first descriptors, one for each of its blocks, and head 0; the ring lies in
--- its page.
+-- The one report has the first descriptors, one for each of its blocks, and head 0; the ring lies
+-- in its page.
 pub record IsReportQueue (side : ReportSide) (descriptors : ℕ) : Type 0 where
   pub owned : (i : ℕ) → slice_index_or side.ring.owner i None
       ≡ (if nat_lt i (length side.blocks) then Some 0 else None)

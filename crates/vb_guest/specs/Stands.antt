@@ -20,8 +20,8 @@ use Rattle.vb_guest.specs.Reported.{ReportLine}
 use Rattle.vb_guest.specs.Buffer.{BufferLine}
 use Rattle.vb_guest.specs.Steps.{backing_count}
 
--- ---- beside the queues: each record takes the guest's values one by one, so that it stays as it is
--- where none of these is changed
+-- ---- beside the queues: each record takes the guest's values one by one, so that it stays as it
+-- is where none of these is changed
 
 -- The guest never scribbled, and is as large as a guest may be.
 pub record IsPlainGuest (rogue : Bool) (c : Config) : Type 0 where

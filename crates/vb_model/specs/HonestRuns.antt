@@ -29,8 +29,8 @@ abbrev pub has_buffer : Buffer → Bool
 has_buffer NoBuffer = false
 has_buffer _ = true
 
--- Nothing is outstanding of a guest that isn't ready, and it has a statistics buffer just where it is
--- ready and accepted STATS_VQ.
+-- Nothing is outstanding of a guest that isn't ready, and it has a statistics buffer just where it
+-- is ready and accepted STATS_VQ.
 pub record IsIdleUnlessReady (status features : ℕ) (inflate deflate report : Requests)
     (buffer : Buffer) : Type 0 where
   pub inflating : status ≢ 15 → inflate ≡ no_requests

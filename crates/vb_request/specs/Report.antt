@@ -1,7 +1,7 @@
--- The pages that a chain of queue 4 names: whole pages in a row, by pieces that the device may write
--- (profile).
-use Rattle.std.specs.Prelude.{◌≡◌, ℕ, ◌+◌, ◌^◌, ◌<◌, ◌≤◌, ◌/◌, ◌%◌, ◌==◌, ◌||◌, Bool, not, nat_lt, List}
-use Rattle.std.specs.Prelude.{[], ◌∷◌, length, slice_get}
+-- The pages that a chain of queue 4 names: whole pages in a row, by pieces that the device may
+-- write (profile).
+use Rattle.std.specs.Prelude.{◌≡◌, ℕ, ◌+◌, ◌^◌, ◌<◌, ◌≤◌, ◌/◌, ◌%◌, ◌==◌, ◌||◌, Bool, not, nat_lt}
+use Rattle.std.specs.Prelude.{List, [], ◌∷◌, length, slice_get}
 use Rattle.std.specs.Prelude.{if◌then◌else◌, Option, Some, None, Result, Err, MatchOption}
 use Rattle.std.specs.List.{list_any, flat_map, range_with_len}
 use Rattle.vb_model.specs.declared.limits.TheConstants.{MAX_REPORT_PIECES}

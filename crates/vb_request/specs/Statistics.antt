@@ -1,8 +1,8 @@
 -- What a chain of queue 2 says: statistics in a row, each a tag of 16 bits and a value of 64 bits,
 -- packed and little-endian (VIRTIO 1.1, 5.5.6.3); which chains are refused is the profile's.
 use Rattle.std.specs.Prelude.{ℕ, ◌+◌, ◌*◌, ◌/◌, ◌%◌, ◌==◌, ◌&&◌, Bool, not, nat_le, List, [], ◌∷◌}
-use Rattle.std.specs.Prelude.{length, map, take, drop, if◌then◌else◌, Option, Some, None, Result, Ok}
-use Rattle.std.specs.Prelude.{Err}
+use Rattle.std.specs.Prelude.{length, map, take, drop, if◌then◌else◌, Option, Some, None, Result}
+use Rattle.std.specs.Prelude.{Ok, Err}
 use Rattle.std.specs.List.{list_any, range_with_len}
 use Rattle.std.specs.Int.{w16, w64, from_le_bytes}
 use Rattle.vb_model.specs.declared.layout.TheConstants.{FREE_MEMORY_TAG, TOTAL_MEMORY_TAG}

@@ -16,7 +16,8 @@ use vb_ram::GuestBytes;
 /// Bytes of a page.
 const PAGE_BYTES: u64 = PAGE_SIZE as u64;
 
-/// Bytes of a chain that is read, at most: a buffer of statistics has fewer than a request may have.
+/// Bytes of a chain that is read, at most: a buffer of statistics has fewer than a request may
+/// have.
 const BUFFER_BYTES: usize = REQUEST_BUFFER_SIZE as usize;
 
 /// The bytes of a chain, all its pieces in a row.

@@ -1,10 +1,10 @@
-//! What a device makes of a chain, by its pieces and the guest's bytes (VIRTIO 1.1, 5.5.6): the pages
-//! of a request, those of a report, or the figures of a buffer of statistics; and else the first rule
-//! that the chain breaks.
+//! What a device makes of a chain, by its pieces and the guest's bytes (VIRTIO 1.1, 5.5.6): the
+//! pages of a request, those of a report, or the figures of a buffer of statistics; and else the
+//! first rule that the chain breaks.
 //!
 //! Chains of the queues of inflates and deflates are for `read_request`, those of the queue of
-//! statistics for `read_statistics`, and those of the queue of reports for `read_report`. Each answers
-//! a function of the guest's bytes, whatever these are, and keeps nothing.
+//! statistics for `read_statistics`, and those of the queue of reports for `read_report`. Each
+//! answers a function of the guest's bytes, whatever these are, and keeps nothing.
 #![tactic(auto)]
 
 mod buffer;

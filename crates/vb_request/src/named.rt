@@ -67,8 +67,8 @@ pub(crate) enum Kept {
 
 /// The pages that a chain names, in order; none of them is reserved.
 ///
-/// A request lists them, each once, at most 256. Of a report the pieces are kept, at most 32, and no
-/// list of pages, which a guest could make 500,000 long; a page may stand in several pieces.
+/// A request lists them, each once, at most 256. Of a report the pieces are kept, at most 32, and
+/// no list of pages, which a guest could make 500,000 long; a page may stand in several pieces.
 #[derive(Drop)]
 pub struct NamedPages {
     /// One or the other.

@@ -31,8 +31,8 @@ pub(crate) fn count_pages(pieces: &[Piece]) -> u32
     count
 }
 
-/// A run of the pages of all pieces, which begins with page number `k`, from 0; none where they have
-/// no more than `k`.
+/// A run of the pages of all pieces, which begins with page number `k`, from 0; none where they
+/// have no more than `k`.
 pub(crate) fn run_at(pieces: &[Piece], k: u32) -> Option<NamedRun>
     requires { All (λ piece. piece.addr + piece.len ≤ page_size * 2 ^ 32) pieces.now }
     ensures { RunsFrom (pages_of_pieces pieces.now) k result }

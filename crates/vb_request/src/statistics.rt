@@ -86,8 +86,8 @@ fn statistics_of(bytes: &[u8]) -> Statistics
     said
 }
 
-/// What a buffer of statistics of these pieces says: the last statistic of each tag counts, a figure
-/// that isn't there is none, and other tags are skipped. An empty buffer has no figure.
+/// What a buffer of statistics of these pieces says: the last statistic of each tag counts, a
+/// figure that isn't there is none, and other tags are skipped. An empty buffer has no figure.
 ///
 /// The pieces lie in the guest's memory and are no more than a queue has descriptors, as those of a
 /// chain do that `vb_chain::walk` gives. Refused, tested in this order:

@@ -40,8 +40,8 @@ const LARGE_TOTAL: [u8; 20] = [
     5, 0, 255, 255, 255, 255, 255, 255, 255, 255, 4, 1, 1, 0, 0, 0, 0, 0, 0, 0,
 ];
 
-/// What stands in memory: a page, an offset and the bytes there. Page 30 stands at a page's end, and
-/// page 31 at the start of the next one. All else is 0.
+/// What stands in memory: a page, an offset and the bytes there. Page 30 stands at a page's end,
+/// and page 31 at the start of the next one. All else is 0.
 static WRITTEN: [(u32, usize, &'static [u8]); 6] = [
     (4, 0, &NUMBERS),
     (4, 4092, &[30, 0, 0, 0]),

@@ -219,8 +219,8 @@ static SIXTEEN_FRAMES: [Row; 34] = [
     (Step::Init, Answer::Ready, &[]),
 ];
 
-/// A device of fourteen frames: what its guest says of its memory, and a report, which gives the last
-/// frame back.
+/// A device of fourteen frames: what its guest says of its memory, and a report, which gives the
+/// last frame back.
 static FOURTEEN_FRAMES: [Row; 24] = [
     (
         Step::Do(Plain::Stats),
@@ -290,8 +290,9 @@ static TWELVE_FRAMES: [Row; 2] = [
     (Step::Init, Answer::Refused(Refusal::NoFrame), &TWELVE),
 ];
 
-/// A device of sixteen frames, whose guest begins a new life: what it told of its memory, the page that
-/// it lent and its request are forgotten, and its frames are claimed anew, the first one first.
+/// A device of sixteen frames, whose guest begins a new life: what it told of its memory, the page
+/// that it lent and its request are forgotten, and its frames are claimed anew, the first one
+/// first.
 static NEW_LIFE: [Row; 30] = [
     (Step::Pages, Answer::Count(64), &[]),
     (Step::Spare(0), Answer::Count(0), &[]),
@@ -477,8 +478,8 @@ fn count_frames(slot: &mut Slot) -> u32 {
     given
 }
 
-/// Expects that a guest whose device has so many frames answers each row so, and that the device has
-/// them all once the guest is gone.
+/// Expects that a guest whose device has so many frames answers each row so, and that the device
+/// has them all once the guest is gone.
 fn expect(rt: &impl Abort, alloc: Global, frames: u32, table: &[Row]) {
     let Ok(device) = KeepingDevice::new(alloc, frames) else {
         rt.abort()

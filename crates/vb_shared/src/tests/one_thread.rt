@@ -52,7 +52,8 @@ static STEPS: [(Step, Option<u32>); 19] = [
     (Step::Claim, Some(0)),
 ];
 
-/// The frame's number, or none where no frame was free; a number past all frames for another answer.
+/// The frame's number, or none where no frame was free; a number past all frames for another
+/// answer.
 fn number_of(claimed: Claimed) -> Option<u32> {
     match claimed {
         Claimed::Gave(frame) => Some(frame.number()),
@@ -119,8 +120,8 @@ fn passes_that_meet_keep_what_they_hold(rt: HostRuntime) -> Result<(), Fail> {
     Ok(())
 }
 
-/// Claims a frame, and once more where there was no memory for its bytes; then as many frames were held
-/// as before.
+/// Claims a frame, and once more where there was no memory for its bytes; then as many frames were
+/// held as before.
 fn claim_at_last(host: &mut Host) -> Option<u32> {
     let held = host.frames.census();
     match host.device.as_mut()?.claim() {

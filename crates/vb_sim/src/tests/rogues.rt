@@ -19,8 +19,8 @@ guest 0
 ready
 ";
 
-/// What the scripts go on with: a guest writes to its rings and buffers, and its device or its driver
-/// finds what it wrote.
+/// What the scripts go on with: a guest writes to its rings and buffers, and its device or its
+/// driver finds what it wrote.
 static WRITTEN: [Example; 25] = [
     Example {
         name: "a request that the guest writes by hand is taken from its bytes",

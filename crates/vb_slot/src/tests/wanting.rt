@@ -1,5 +1,5 @@
-//! Claims that find no memory: the call is refused, nothing is kept of it, and it is done when it is
-//! made again.
+//! Claims that find no memory: the call is refused, nothing is kept of it, and it is done when it
+//! is made again.
 
 ghost use Rattle.std.specs.Prelude.{Bool};
 ghost use Rattle.vb_model.specs.Guest.{Guest};
