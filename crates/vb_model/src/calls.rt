@@ -1,8 +1,9 @@
 //! What may be asked of a guest and of the world.
 
-ghost use Rattle.std.specs.Prelude.{◌≡◌};
+ghost use Rattle.std.specs.Prelude.{◌≡◌, IfOk};
 
 use crate::places::Place;
+use std::alloc::{AllocError, Global};
 use std::marker::Model;
 
 /// Bytes that a call writes or a reply brings. A contract sees the list.
@@ -32,6 +33,15 @@ impl Bytes {
         ensures { result.now ≡ self.now }
     {
         &self.items
+    }
+
+    /// The same bytes once more. Refused for want of memory alone.
+    pub fn copy(&self, alloc: Global) -> Result<Bytes, AllocError>
+        ensures { IfOk result (λ copy. copy ≡ self.now) }
+    {
+        let mut items = Vec::new(alloc);
+        items.extend_from_slice(&self.items)?;
+        Ok(Bytes { items })
     }
 }
 
@@ -117,6 +127,67 @@ pub enum Call {
     SetTarget {
         pages: u32,
     },
+}
+
+impl Call {
+    /// The same call once more. Refused for want of memory alone.
+    pub fn copy(&self, alloc: Global) -> Result<Call, AllocError>
+        ensures { IfOk result (λ copy. copy ≡ self.now) }
+    {
+        Ok(match self {
+            Call::Init { features } => Call::Init {
+                features: *features,
+            },
+            Call::Reset => Call::Reset,
+            Call::Alloc { cpu, order } => Call::Alloc {
+                cpu: *cpu,
+                order: *order,
+            },
+            Call::Free { cpu, start, order } => Call::Free {
+                cpu: *cpu,
+                start: *start,
+                order: *order,
+            },
+            Call::Read { page, offset, len } => Call::Read {
+                page: *page,
+                offset: *offset,
+                len: *len,
+            },
+            Call::Write {
+                page,
+                offset,
+                bytes,
+            } => Call::Write {
+                page: *page,
+                offset: *offset,
+                bytes: bytes.copy(alloc)?,
+            },
+            Call::Scribble {
+                page,
+                offset,
+                bytes,
+            } => Call::Scribble {
+                page: *page,
+                offset: *offset,
+                bytes: bytes.copy(alloc)?,
+            },
+            Call::Inflate { pages } => Call::Inflate { pages: *pages },
+            Call::Deflate { pages } => Call::Deflate { pages: *pages },
+            Call::Oom { pages } => Call::Oom { pages: *pages },
+            Call::Report { from } => Call::Report { from: *from },
+            Call::Stats => Call::Stats,
+            Call::Reap { queue } => Call::Reap { queue: *queue },
+            Call::Take { queue } => Call::Take { queue: *queue },
+            Call::Work => Call::Work,
+            Call::Finish { queue, index } => Call::Finish {
+                queue: *queue,
+                index: *index,
+            },
+            Call::Sweep { page } => Call::Sweep { page: *page },
+            Call::Ask => Call::Ask,
+            Call::SetTarget { pages } => Call::SetTarget { pages: *pages },
+        })
+    }
 }
 
 /// A question about one guest, which changes nothing.

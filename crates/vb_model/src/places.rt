@@ -1,7 +1,8 @@
 //! Where the pages of a guest are.
 
-ghost use Rattle.std.specs.Prelude.{◌≡◌};
+ghost use Rattle.std.specs.Prelude.{◌≡◌, IfOk};
 
+use std::alloc::{AllocError, Global};
 use std::marker::Model;
 
 /// Where a page of a guest is (profile). Each page has one place.
@@ -72,5 +73,13 @@ impl PageRuns {
         ensures { result.now ≡ self.now }
     {
         &self.items
+    }
+    /// The same list once more. Refused for want of memory alone.
+    pub fn copy(&self, alloc: Global) -> Result<PageRuns, AllocError>
+        ensures { IfOk result (λ copy. copy ≡ self.now) }
+    {
+        let mut items = Vec::new(alloc);
+        items.extend_from_slice(&self.items)?;
+        Ok(PageRuns { items })
     }
 }

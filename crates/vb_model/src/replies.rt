@@ -1,11 +1,12 @@
 //! What events are answered.
 
-ghost use Rattle.std.specs.Prelude.{◌≡◌};
+ghost use Rattle.std.specs.Prelude.{◌≡◌, IfOk};
 
 use crate::calls::Bytes;
 use crate::limits::MAX_GUESTS;
 use crate::places::{PageRuns, PlaceCounts};
 use arrayvec::ArrayVec;
+use std::alloc::{AllocError, Global};
 use std::marker::Model;
 
 /// As many numbers as there may be guests.
@@ -105,6 +106,15 @@ impl Numbers {
     {
         &self.items
     }
+
+    /// The same numbers once more. Refused for want of memory alone.
+    pub fn copy(&self) -> Result<Numbers, AllocError>
+        ensures { IfOk result (λ copy. copy ≡ self.now) }
+    {
+        Ok(Numbers {
+            items: self.items.clone()?,
+        })
+    }
 }
 
 /// What an event is answered.
@@ -198,4 +208,69 @@ pub enum Reply {
     },
     /// It was refused.
     Refused(Refusal),
+}
+
+impl Reply {
+    /// The same reply once more. Refused for want of memory alone.
+    pub fn copy(&self, alloc: Global) -> Result<Reply, AllocError>
+        ensures { IfOk result (λ copy. copy ≡ self.now) }
+    {
+        Ok(match self {
+            Reply::Plugged { guest } => Reply::Plugged { guest: *guest },
+            Reply::Done => Reply::Done,
+            Reply::Ready => Reply::Ready,
+            Reply::Page { start } => Reply::Page { start: *start },
+            Reply::ReadBytes { bytes } => Reply::ReadBytes {
+                bytes: bytes.copy(alloc)?,
+            },
+            Reply::Posted { head, pages } => Reply::Posted {
+                head: *head,
+                pages: *pages,
+            },
+            Reply::Filled => Reply::Filled,
+            Reply::NotUsed => Reply::NotUsed,
+            Reply::Reaped { head, pages } => Reply::Reaped {
+                head: *head,
+                pages: *pages,
+            },
+            Reply::Taken { head } => Reply::Taken { head: *head },
+            Reply::Empty => Reply::Empty,
+            Reply::Worked { page, freed } => Reply::Worked {
+                page: *page,
+                freed: *freed,
+            },
+            Reply::Idle => Reply::Idle,
+            Reply::Finished { head } => Reply::Finished { head: *head },
+            Reply::Swept { freed } => Reply::Swept { freed: *freed },
+            Reply::Asked => Reply::Asked,
+            Reply::Targets { pages } => Reply::Targets {
+                pages: pages.copy()?,
+            },
+            Reply::Places { counts } => Reply::Places { counts: *counts },
+            Reply::Pages { runs } => Reply::Pages {
+                runs: runs.copy(alloc)?,
+            },
+            Reply::Balloon {
+                ballooned,
+                actual,
+                target,
+                status,
+            } => Reply::Balloon {
+                ballooned: *ballooned,
+                actual: *actual,
+                target: *target,
+                status: *status,
+            },
+            Reply::Statistics { free, total } => Reply::Statistics {
+                free: *free,
+                total: *total,
+            },
+            Reply::Backing { frame } => Reply::Backing { frame: *frame },
+            Reply::Frames { used, free } => Reply::Frames {
+                used: *used,
+                free: *free,
+            },
+            Reply::Refused(refusal) => Reply::Refused(*refusal),
+        })
+    }
 }
