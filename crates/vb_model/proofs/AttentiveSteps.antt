@@ -224,7 +224,7 @@ performs_attentive (Scribble page offset bytes) g claims reply new o h e s hones
       | inr r ↦ subst IsAttentive (sym r.2) h
     ]
 
-honest_attentive : (g : Guest) (call : Call) (claims : List Claim) (reply : Reply) (new : Guest)
+pub honest_attentive : (g : Guest) (call : Call) (claims : List Claim) (reply : Reply) (new : Guest)
     → IsOrderly g → IsAttentive g → HonestStep g call claims reply new → new.rogue ≡ false
     → IsAttentive new
 honest_attentive g call claims reply new o h s honest =
