@@ -1,0 +1,23 @@
+//! Guests on threads: a lock, a doorbell and a worker for each guest, and one balancer for all.
+#![tactic(auto)]
+
+mod apart;
+mod audit;
+mod bell;
+mod entry;
+mod gate;
+mod guest_slot;
+mod kept;
+mod plan;
+mod report;
+mod round;
+mod script;
+mod served;
+mod threads;
+
+pub use entry::{Entry, Step};
+pub use gate::{Gate, OpenGate};
+pub use guest_slot::GuestSlot;
+pub use plan::{Bells, GuestPlan, MAX_SCRIPT_CALLS, Plan};
+pub use report::{GuestReport, Report, RunFault};
+pub use round::Round;
