@@ -4,8 +4,6 @@ use Rattle.std.proofs.Common.{false, List, [], ◌∷◌, ◌++◌, length, Some
 use Rattle.std.proofs.Common.{All, ◌≢◌, ◌⊎◌, inl, inr, arith}
 use Rattle.std.proofs.Common.{take}
 use Rattle.std.specs.Prelude.{slice_index_or, ⊤}
-use Rattle.std.specs.List.{list_all}
-use Rattle.std.proofs.lemmas.Bool.{and_parts}
 use Rattle.std.proofs.lemmas.List.Elements.{All-push}
 use Rattle.vb_model.specs.declared.calls.Actor.{Actor}
 use Rattle.vb_model.specs.declared.calls.Actor.TheVariants.{Starter, Processor, Worker, Balancer}
@@ -25,6 +23,7 @@ use Rattle.vb_run.specs.Plans.{config_of, is_plain, may_stand}
 use Rattle.vb_run.specs.Services.{IsTended, IsQuiet, services, found_nothing, default_features}
 use Rattle.vb_run.specs.Past.{Past, Progress, IsKept, IsOwn, IsAside, IsScript, AreBegun}
 use Rattle.vb_run.proofs.Tended.{plain_entry, service_plain, is_quiet, started, stands_plain}
+use Rattle.vb_run.proofs.Lists.{passes_at, some_same}
 use Rattle.vb_run.proofs.Histories.{kept_aside, kept_next}
 
 -- nothing is known of the worker's calls
@@ -42,18 +41,6 @@ not_known (suc (suc (suc (suc (suc (suc zero)))))) h = cc
 not_known (suc (suc (suc (suc (suc (suc (suc zero))))))) h = cc
 not_known (suc (suc (suc (suc (suc (suc (suc (suc zero)))))))) h = cc
 not_known (suc (suc (suc (suc (suc (suc (suc (suc (suc n))))))))) h = cc
-
-some_same : {X : Type 0} (x y : X) → Some x ≡ Some y → x ≡ y
-some_same x y e = cc
-
-passes_at : {X : Type 0} (test : X → Bool) (xs : List X) (n : ℕ) (x : X)
-    → slice_get xs n ≡ Some x → list_all test xs ≡ true → test x ≡ true
-passes_at test [] n x e h = cc
-passes_at test (y ∷ ys) zero x e h =
-    let same : y ≡ x = some_same y x e in
-    subst (λ (z : _). test z ≡ true) same (and_parts (test y) (list_all test ys) h).0
-passes_at test (y ∷ ys) (suc n) x e h =
-    passes_at test ys n x e (and_parts (test y) (list_all test ys) h).1
 
 pub call_aside : (Is Is' : Guest → Type 0) (own own' : List ℕ) (p : Past) (actor : Actor)
     (call : Call) (claims : List Claim) (reply : Reply) (k : IsKept Is own p) → IsAside actor

@@ -5,3 +5,4 @@ pub mod Keeping
 pub mod Gathered
 pub mod Distinct
 pub mod Closing
+pub mod Starting

@@ -1,7 +1,9 @@
 -- Lists of one element more, and lists that are changed at a place.
 use Rattle.std.proofs.Common.{◌≡◌, refl, ap, ◌∙◌, subst, ℕ, zero, suc, ◌+◌, ◌<◌, ◌≤◌, List, [], ◌∷◌}
 use Rattle.std.proofs.Common.{◌++◌, length, Some, None, slice_get, slice_set, ◌⊎◌, inl, inr, ⊎_elim}
-use Rattle.std.proofs.Common.{arith, take, All, add-one, take-suc, take_all, get_or, ◌≢◌}
+use Rattle.std.proofs.Common.{arith, take, All, add-one, take-suc, take_all, get_or, ◌≢◌, true, Bool}
+use Rattle.std.specs.List.{list_all}
+use Rattle.std.proofs.lemmas.Bool.{and_parts}
 use Rattle.std.proofs.Math.Seq.{take-length}
 use Rattle.std.proofs.lemmas.Option.{slice_get_within, get_or_from_slice_get}
 use Rattle.std.proofs.lemmas.List.Elements.{All-push}
@@ -58,3 +60,16 @@ all_next P xs i x h all here =
 pub all_whole : {X : Type 0} (P : X → Type 0) (xs : List X) (i : ℕ) → length xs ≤ i
     → All P (take i xs) → All P xs
 all_whole P xs i h all = subst (All P) (take_all i xs h) all
+
+pub some_same : {X : Type 0} (x y : X) → Some x ≡ Some y → x ≡ y
+some_same x y e = cc
+
+-- what stands in a list passes the test that all of it does
+pub passes_at : {X : Type 0} (test : X → Bool) (xs : List X) (n : ℕ) (x : X)
+    → slice_get xs n ≡ Some x → list_all test xs ≡ true → test x ≡ true
+passes_at test [] n x e h = cc
+passes_at test (y ∷ ys) zero x e h =
+    let same : y ≡ x = some_same y x e in
+    subst (λ (z : _). test z ≡ true) same (and_parts (test y) (list_all test ys) h).0
+passes_at test (y ∷ ys) (suc n) x e h =
+    passes_at test ys n x e (and_parts (test y) (list_all test ys) h).1

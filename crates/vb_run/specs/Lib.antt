@@ -6,3 +6,4 @@ pub mod Past
 pub mod Rounds
 pub mod Reports
 pub mod Rising
+pub mod Starts

@@ -22,6 +22,8 @@ use vb_model::{Actor, Reply};
 pub(crate) struct Seat<S: GuestSlot> {
     /// The guest's number.
     pub guest: u32,
+    /// How many processors it has.
+    pub processors: u32,
     pub lock: Mutex<Kept<S>>,
     pub bell: Bell,
 }
@@ -43,21 +45,30 @@ fn ring<R: Wait>(rt: &R, bell: &Bell, bells: Bells, is_first: bool) {
     }
 }
 
+/// How many calls the processor's script has.
+fn calls_of(plan: &Plan, guest: u32, cpu: u32) -> u64 {
+    let script = plan
+        .guests
+        .get(guest as usize)
+        .and_then(|own| own.scripts.get(cpu as usize));
+    script.map_or(0, |calls| calls.len() as u64)
+}
+
 /// The calls of one processor, in order.
 fn run_processor<S: GuestSlot, G: Gate, R: Wait>(
     rt: &R,
     alloc: Global,
     seat: &Seat<S>,
-    bells: Bells,
+    plan: &Plan,
     gate: &G,
     cpu: u32,
-    calls: usize,
 ) {
+    let calls = calls_of(plan, seat.guest, cpu);
     let actor = Actor::Processor {
         guest: seat.guest,
         cpu,
     };
-    for number in 0..calls as u64 {
+    for number in 0..calls {
         gate.before(actor, number);
         let mut kept = seat.lock.lock(rt);
         gate.inside(seat.guest, cpu, number);
@@ -68,9 +79,9 @@ fn run_processor<S: GuestSlot, G: Gate, R: Wait>(
             break;
         };
         gate.after(actor, &reply);
-        ring(rt, &seat.bell, bells, number == 0);
+        ring(rt, &seat.bell, plan.bells, number == 0);
     }
-    if bells == Bells::Late && calls > 0 {
+    if plan.bells == Bells::Late && calls > 0 {
         seat.bell.ring(rt);
     }
     seat.bell.sign_off(rt);
@@ -213,17 +224,13 @@ pub(crate) fn run_all<S: GuestSlot + Send, G: Gate, R: Threads + Wait + Sync>(
 ) -> Ended {
     let rounds = Mutex::new(Vec::new(alloc));
     let noted = &rounds;
-    let bells = plan.bells;
     let all_made = thread::scope(thread::scope_env(), rt, |scope| {
         let mut all_made = true;
-        for (seat, own) in seats.iter().zip(plan.guests.iter()) {
+        for seat in seats {
             let spawned = scope.spawn(move || run_worker(rt, alloc, seat, gate));
             all_made = all_made && spawned.is_ok();
-            for (cpu, script) in own.scripts.iter().enumerate() {
-                let calls = script.len();
-                let spawned = scope.spawn(move || run_processor(
-                    rt, alloc, seat, bells, gate, cpu as u32, calls,
-                ));
+            for cpu in 0..seat.processors {
+                let spawned = scope.spawn(move || run_processor(rt, alloc, seat, plan, gate, cpu));
                 if spawned.is_err() {
                     seat.bell.sign_off(rt);
                     all_made = false;
