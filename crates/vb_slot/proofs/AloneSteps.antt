@@ -1,10 +1,11 @@
 -- A guest whose frames come from its device alone: what it is plugged in with, and what a call does.
 use Rattle.std.specs.Prelude.{◌≡◌, ℕ, ◌≤◌, Bool, true, false, List, [], ◌∷◌, refl}
-use Rattle.std.specs.Prelude.{if◌then◌else◌}
-use Rattle.std.proofs.Common.{sym, ◌∙◌, ap, arith}
+use Rattle.std.specs.Prelude.{if◌then◌else◌, Option, None}
+use Rattle.std.proofs.Common.{sym, ◌∙◌, ap, arith, suc, zero}
 use Rattle.vb_model.specs.declared.calls.Call.{Call}
 use Rattle.vb_model.specs.declared.calls.Claim.{Claim}
 use Rattle.vb_model.specs.declared.replies.Reply.{Reply}
+use Rattle.vb_model.specs.declared.replies.Reply.TheVariants.{Backing}
 use Rattle.vb_model.specs.Guest.{Guest, Config, fresh}
 use Rattle.vb_model.specs.Tests.{one_if}
 use Rattle.vb_frames.specs.Out.{is_out}
@@ -51,21 +52,22 @@ from_keeper p out n e =
 
 -- the frames of the device are those behind the pages afterwards too
 stays_behind : (keeps : Bool) (Answers : List Bool → Claim → Type 0) (m1 m2 : Pages) (p1 p2 : Part)
-    (d1 d2 : DriverState) (left : Bool) (claims : List Claim) (g : Guest) (call : Call)
-    (reply : Reply) → Stands keeps m1 p1 d1 g → AreBehind p1.own g
-    → (over : StepsOver (Stands keeps m2 p2 d2) Answers (supply_of p1 (true ∷ []))
+    (d1 d2 : DriverState) (was left : Bool) (claims : List Claim) (g : Guest) (call : Call)
+    (reply : Reply) → was ≡ true → Stands keeps m1 p1 d1 g → AreBehind p1.own g
+    → (over : StepsOver (Stands keeps m2 p2 d2) Answers (supply_of p1 (was ∷ []))
     (supply_of p2 (left ∷ [])) claims g call reply)
     → AreBehind p2.own over.new
-stays_behind true Answers m1 m2 p1 p2 d1 d2 left claims g call reply s behind over =
+stays_behind true Answers m1 m2 p1 p2 d1 d2 was left claims g call reply out s behind over =
     over.stands.own.each refl
-stays_behind false Answers m1 m2 p1 p2 d1 d2 left claims g call reply s behind over = λ n.
+stays_behind false Answers m1 m2 p1 p2 d1 d2 was left claims g call reply out s behind over = λ n.
     let before : one_if (has p1.own n) ≡ 0 = none_out p1 n (s.own.none refl) in
     let after : one_if (has p2.own n) ≡ 0 = none_out p2 n (over.stands.own.none refl) in
     let bare : backing_count n g ≡ 0 = behind n ∙ before in
     omega (
       arith,
       over.moves.balance n,
-      from_keeper p1 (true ∷ []) n s.own.flag,
+      from_keeper p1 (was ∷ []) n s.own.flag,
+      ap (λ (b : Bool). one_if (is_out (b ∷ []) n)) out,
       from_keeper p2 (left ∷ []) n over.stands.own.flag,
       no_more_out left n,
       bare,
@@ -73,18 +75,27 @@ stays_behind false Answers m1 m2 p1 p2 d1 d2 left claims g call reply s behind o
     )
 
 pub alone_steps : (keeps : Bool) (Answers : List Bool → Claim → Type 0) (m1 m2 : Pages)
-    (p1 p2 : Part) (d1 d2 : DriverState) (left : Bool) (claims : List Claim) (g : Guest)
-    (call : Call) (reply : Reply) → Stands keeps m1 p1 d1 g → AreBehind p1.own g
-    → StepsOver (Stands keeps m2 p2 d2) Answers (supply_of p1 (true ∷ []))
+    (p1 p2 : Part) (d1 d2 : DriverState) (was left : Bool) (claims : List Claim) (g : Guest)
+    (call : Call) (reply : Reply) → was ≡ true → Stands keeps m1 p1 d1 g → AreBehind p1.own g
+    → StepsOver (Stands keeps m2 p2 d2) Answers (supply_of p1 (was ∷ []))
     (supply_of p2 (left ∷ [])) claims g call reply
     → StepsTo (IsAlone m2 p2 d2) claims g call reply
-alone_steps keeps Answers m1 m2 p1 p2 d1 d2 left claims g call reply s behind over =
+alone_steps keeps Answers m1 m2 p1 p2 d1 d2 was left claims g call reply out s behind over =
     record {
       new = over.new;
       stands = (
         keeps,
         over.stands,
-        stays_behind keeps Answers m1 m2 p1 p2 d1 d2 left claims g call reply s behind over,
+        stays_behind keeps Answers m1 m2 p1 p2 d1 d2 was left claims g call reply out s behind over,
       );
       step = over.step;
     }
+
+-- what a question for a frame is answered says which
+frame_in : Reply → Option ℕ
+frame_in (Backing frame) = frame
+frame_in reply = None
+
+pub same_frame : (frame other : Option ℕ) → Backing frame ≡ Backing other → frame ≡ other
+unfolding frame_in
+same_frame frame other e = ap frame_in e

@@ -1,6 +1,6 @@
 //! A guest by itself: its frames come from its device alone.
 
-ghost use Rattle.std.specs.Prelude.{◌≡◌, Bool, IfOk, IfErr};
+ghost use Rattle.std.specs.Prelude.{◌≡◌, IfOk, IfErr, true};
 ghost use Rattle.vb_model.specs.Guest.{Guest, fresh};
 ghost use Rattle.vb_model.specs.Limits.{is_config};
 ghost use Rattle.vb_model.specs.World.{Answers};
