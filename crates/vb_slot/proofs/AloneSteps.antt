@@ -15,7 +15,7 @@ use Rattle.vb_device.specs.Own.{has}
 use Rattle.vb_driver.specs.State.{DriverState}
 use Rattle.vb_guest.specs.Stands.{Stands}
 use Rattle.vb_guest.specs.Steps.{AreOut, StepsOver, backing_count}
-use Rattle.vb_guest.specs.Supply.{Supply, supply_of, is_used}
+use Rattle.vb_guest.specs.Supply.{supply_of, is_used}
 use Rattle.vb_guest.proofs.Fresh.{backs_none}
 use Rattle.vb_slot.specs.Alone.{AreBehind, IsAlone, StepsTo}
 

@@ -101,6 +101,17 @@ fn ask(alloc: Global, slot: &LoneSlot, step: Step) -> Answer
     }
 }
 
+/// What a step is answered.
+fn play_step(rt: &impl Abort, alloc: Global, slot: &mut LoneSlot, step: Step) -> Answer
+    requires { (g : Guest) × ⟦<LoneSlot as GuestSlot>⟧.stands slot.old g }
+    ensures { (g : Guest) × ⟦<LoneSlot as GuestSlot>⟧.stands slot.new g }
+{
+    match call_at(rt, alloc, step) {
+        Some(call) => answer_of(&slot.call(alloc, &call)),
+        None => ask(alloc, slot, step),
+    }
+}
+
 /// The number of the first row whose step is answered otherwise, or has other claims.
 fn first_wrong(rt: &impl Abort, alloc: Global, slot: &mut LoneSlot, table: &[Row]) -> Option<usize>
     requires { (g : Guest) × ⟦<LoneSlot as GuestSlot>⟧.stands slot.old g }
@@ -108,10 +119,7 @@ fn first_wrong(rt: &impl Abort, alloc: Global, slot: &mut LoneSlot, table: &[Row
 {
     for at in 0..table.len() {
         let (step, expected, claims) = table[at];
-        let answered = match call_at(rt, alloc, step) {
-            Some(call) => answer_of(&slot.call(alloc, &call)),
-            None => ask(alloc, slot, step),
-        };
+        let answered = play_step(rt, alloc, slot, step);
         if answered != expected || !are(slot.claims(), claims) {
             return Some(at);
         }
