@@ -4,3 +4,4 @@ pub use Rattle.vb_guest.specs.Steps
 pub use Rattle.vb_guest.specs.Replies
 pub mod Slots
 pub mod Spare
+pub mod Alone

@@ -9,3 +9,7 @@ pub record IsSpare (mem : Pages) (part : Part) : Type 0 where
   pub unused : IsUnused mem part
   pub keeps : part.keeps ≡ false
   pub own : part.own ≡ []
+
+-- No guest has the device yet, and of its own frames, if it keeps such, none is out.
+abbrev pub IsNew : Pages → Part → Type 0
+IsNew mem part = IsUnused mem part × (part.own ≡ [])

@@ -3,10 +3,14 @@
 
 mod boxed;
 mod calls;
+mod guest_slot;
+mod lone;
 mod new;
 mod slot;
 #[cfg(test)]
 mod tests;
 
+pub use guest_slot::GuestSlot;
+pub use lone::LoneSlot;
 pub use new::NoSlot;
 pub use slot::Slot;

@@ -5,48 +5,20 @@ ghost use Rattle.vb_model.specs.Guest.{Guest};
 ghost use Rattle.vb_slot.specs.Slots.{stands_for};
 
 mod keeping;
+mod lone;
 mod wanting;
 
 use crate::Slot;
+use crate::lone::NoFrames;
 use keeping::KeepingDevice;
 use std::alloc::Global;
 use std::process::Abort;
 use vb_device::{Claimed, Device};
-use vb_frames::{FrameKeeper, Refused};
 use vb_model::{Bytes, Call, Claim, Query, Refusal, Reply};
-use vb_ram::{Config, Frame};
+use vb_ram::Config;
 
 /// All features that the device offers.
 const FEATURES: u64 = 0x1_0000_0027;
-
-/// A keeper that has no frame to give: its only one is out, and nobody here has it.
-#[derive(Drop)]
-struct NoFrames {
-    /// Whether it is out still.
-    out: bool,
-}
-
-impl FrameKeeper for NoFrames {
-    ghost use Rattle.std.specs.Prelude.{◌≡◌, ◌∷◌, []};
-    ghost use Rattle.vb_model.specs.declared.calls.Claim.TheVariants.{GaveNoFrame};
-
-    ghost out = { λ k. k.out ∷ [] };
-
-    ghost answers = { λ _ claim. claim ≡ GaveNoFrame };
-
-    fn claim(&mut self) -> Result<Frame, Refused> {
-        Err(Refused::NoFrame)
-    }
-
-    fn put_back(&mut self, _frame: Frame) {
-        self.out = false;
-    }
-}
-
-/// Such a keeper.
-fn no_frames() -> NoFrames {
-    NoFrames { out: true }
-}
 
 /// What is done with a guest, of processor 0 and request 0 where such are meant.
 #[derive(Clone, Copy)]
@@ -386,6 +358,8 @@ fn answer_in(reply: &Reply) -> Answer {
 fn answer_of(reply: &Reply) -> Answer {
     match reply {
         Reply::Done => Answer::Done,
+        Reply::Ready => Answer::Ready,
+        Reply::ReadBytes { bytes } => four_bytes(bytes),
         Reply::Page { start } => Answer::Page(*start),
         Reply::Posted { head, pages } => Answer::Posted(*head, *pages),
         Reply::Filled => Answer::Filled,
@@ -408,12 +382,16 @@ fn done(answer: Result<(), Refusal>, done: Answer) -> Answer {
 }
 
 /// The four bytes that were read.
+fn four_bytes(bytes: &Bytes) -> Answer {
+    match bytes.as_slice() {
+        [a, b, c, d] => Answer::Bytes([*a, *b, *c, *d]),
+        _ => Answer::Other,
+    }
+}
+
 fn bytes(answer: Result<Bytes, Refusal>) -> Answer {
     match answer {
-        Ok(bytes) => match bytes.as_slice() {
-            [a, b, c, d] => Answer::Bytes([*a, *b, *c, *d]),
-            _ => Answer::Other,
-        },
+        Ok(bytes) => four_bytes(&bytes),
         Err(refusal) => Answer::Refused(refusal),
     }
 }
@@ -431,15 +409,18 @@ fn play_step(rt: &impl Abort, alloc: Global, slot: &mut Slot, step: Step) -> Ans
     ensures { (g : Guest) × stands_for true mem part slot.new g }
 {
     match step {
-        Step::Init => done(slot.init(&mut no_frames(), FEATURES), Answer::Ready),
+        Step::Init => done(slot.init(&mut NoFrames::new(), FEATURES), Answer::Ready),
         Step::Write(page) => {
             let bytes = two_bytes(rt, alloc);
-            done(slot.write(&mut no_frames(), page, 0, &bytes), Answer::Done)
+            done(
+                slot.write(&mut NoFrames::new(), page, 0, &bytes),
+                Answer::Done,
+            )
         }
         Step::Read(page) => bytes(slot.read(alloc, page, 0, 4)),
-        Step::Do(plain) => answer_of(&slot.call(alloc, &mut no_frames(), &call_of(plain))),
+        Step::Do(plain) => answer_of(&slot.call(alloc, &mut NoFrames::new(), &call_of(plain))),
         Step::Restart => {
-            slot.restart(&mut no_frames());
+            slot.restart(&mut NoFrames::new());
             Answer::Done
         }
         Step::Ask(query) => answer_in(&slot.query(alloc, &query)),
@@ -496,7 +477,7 @@ fn expect(rt: &impl Abort, alloc: Global, frames: u32, table: &[Row]) {
         rt.abort()
     };
     assert_eq!(rt; first_wrong(rt, alloc, &mut slot, table), None);
-    slot.empty(&mut no_frames());
+    slot.empty(&mut NoFrames::new());
     assert!(rt; count_frames(&mut slot) == frames);
 }
 
