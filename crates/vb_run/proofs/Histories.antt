@@ -14,7 +14,7 @@ use Rattle.vb_model.specs.declared.calls.Claim.{Claim}
 use Rattle.vb_model.specs.declared.replies.Reply.{Reply}
 use Rattle.vb_model.specs.Guest.{Guest, fresh}
 use Rattle.vb_model.specs.GuestRun.{Entry, Called, Looked, EntryStep, GuestRun}
-use Rattle.vb_run.specs.Alone.{AreBehind}
+use Rattle.vb_slot.specs.Alone.{AreBehind}
 use Rattle.vb_run.specs.Entries.{is_same, actor_of, call_of, entries_by, calls_by}
 use Rattle.vb_run.specs.Plans.{config_of}
 use Rattle.vb_run.specs.Services.{IsTended, IsQuiet, services}

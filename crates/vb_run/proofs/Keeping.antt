@@ -17,7 +17,7 @@ use Rattle.vb_model.specs.Balance.{spare}
 use Rattle.vb_model.specs.Step.{HonestStep}
 use Rattle.vb_model.specs.GuestRun.{Entry, Called, Looked, EntryStep, GuestRun}
 use Rattle.vb_ram.specs.declared.config.Config.{Config as Sizes}
-use Rattle.vb_run.specs.Alone.{AreBehind, StepsTo}
+use Rattle.vb_slot.specs.Alone.{AreBehind, StepsTo}
 use Rattle.vb_run.specs.Entries.{is_same, actor_of, calls_by}
 use Rattle.vb_run.specs.Plans.{config_of, is_plain, may_stand}
 use Rattle.vb_run.specs.Services.{IsTended, IsQuiet, services, found_nothing, default_features}

@@ -1,4 +1,3 @@
-pub mod Alone
 pub mod Entries
 pub mod Plans
 pub mod Services

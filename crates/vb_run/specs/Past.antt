@@ -12,7 +12,7 @@ use Rattle.vb_model.specs.declared.calls.Claim.{Claim}
 use Rattle.vb_model.specs.declared.replies.Reply.{Reply}
 use Rattle.vb_model.specs.Guest.{Guest}
 use Rattle.vb_model.specs.GuestRun.{Entry, Called, IsHistory}
-use Rattle.vb_run.specs.Alone.{AreBehind}
+use Rattle.vb_slot.specs.Alone.{AreBehind}
 use Rattle.vb_run.specs.Entries.{actor_of, calls_by}
 use Rattle.vb_ram.specs.declared.config.Config.{Config as Sizes}
 use Rattle.vb_run.specs.Plans.{may_stand, config_of}

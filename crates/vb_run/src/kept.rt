@@ -10,7 +10,8 @@ ghost use Rattle.vb_run.specs.Reports.{IsGuestReport, frames_behind};
 
 use crate::audit::{all_replies, expected_of, has_made};
 use crate::entry::{Entry, Step};
-use crate::guest_slot::{GuestSlot, MAX_CLAIMS};
+use vb_guest::MAX_CLAIMS;
+use vb_slot::GuestSlot;
 use crate::plan::GuestPlan;
 use crate::report::{GuestReport, Stop};
 use crate::round::Round;

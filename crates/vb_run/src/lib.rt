@@ -6,7 +6,6 @@ mod audit;
 mod bell;
 mod entry;
 mod gate;
-mod guest_slot;
 mod kept;
 mod plan;
 mod report;
@@ -18,7 +17,7 @@ mod threads;
 
 pub use entry::{Entry, Step};
 pub use gate::{Gate, OpenGate};
-pub use guest_slot::GuestSlot;
+pub use vb_slot::GuestSlot;
 pub use plan::{Bells, GuestPlan, MAX_SCRIPT_CALLS, Plan};
 pub use report::{GuestReport, Report, RunFault};
 pub use round::Round;

@@ -11,7 +11,7 @@ use crate::apart::are_apart;
 use crate::audit::are_rounds;
 use crate::bell::Bell;
 use crate::gate::Gate;
-use crate::guest_slot::GuestSlot;
+use vb_slot::GuestSlot;
 use crate::kept::Kept;
 use crate::plan::{GuestPlan, Plan, is_plan};
 use crate::report::{GuestReport, Report, RunFault, Stop};

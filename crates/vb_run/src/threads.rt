@@ -4,7 +4,7 @@ ghost use Rattle.std.specs.Prelude.{◌≡◌, ◌≤◌, length, IfSome};
 
 use crate::bell::Bell;
 use crate::gate::Gate;
-use crate::guest_slot::GuestSlot;
+use vb_slot::GuestSlot;
 use crate::kept::Kept;
 use crate::plan::{Bells, Plan};
 use crate::round::Round;

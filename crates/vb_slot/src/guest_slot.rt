@@ -1,11 +1,12 @@
 //! What whoever runs guests needs of one.
 
-ghost use Rattle.std.specs.Prelude.{◌≡◌};
+ghost use Rattle.std.specs.Prelude.{◌≡◌, ◌≤◌, length};
 ghost use Rattle.vb_model.specs.Balance.{spare};
 ghost use Rattle.vb_model.specs.Guest.{frame_of};
 ghost use Rattle.vb_slot.specs.Alone.{StepsTo, AreBehind};
 
 use std::alloc::Global;
+use vb_guest::MAX_CLAIMS;
 use vb_model::{Call, Claim, Reply};
 
 /// A guest by itself, with the frames of its own device: what whoever runs guests on threads of
@@ -31,13 +32,16 @@ pub trait GuestSlot: Drop {
             → StepsTo (stands self.new) (claimed self.new) g call.now result }
         ensures frames { (g : Guest) → stands self.new g → AreBehind (own self.new) g };
 
-    /// What the claims of the last call were answered, in order; none where it made none.
+    /// What the claims of the last call were answered, in order; none where it made none. A call
+    /// makes `MAX_CLAIMS` at the most.
     fn claims(&self) -> &[Claim]
-        ensures { result.now ≡ claimed self.now };
+        ensures claims { result.now ≡ claimed self.now }
+        ensures few { length result.now ≤ MAX_CLAIMS };
 
     /// How many pages the guest has.
     fn pages(&self) -> u32
-        ensures { (g : Guest) → stands self.now g → result ≡ g.config.pages };
+        ensures pages { (g : Guest) → stands self.now g → result ≡ g.config.pages }
+        ensures frames { (g : Guest) → stands self.now g → length g.frames ≡ result };
 
     /// How many pages the guest can spare (profile): those that are ballooned, and those that its
     /// last statistics call free above the floor, in pages; at most all unreserved ones.
