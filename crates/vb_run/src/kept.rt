@@ -10,8 +10,6 @@ ghost use Rattle.vb_run.specs.Reports.{IsGuestReport, frames_behind};
 
 use crate::audit::{all_replies, expected_of, has_made};
 use crate::entry::{Entry, Step};
-use vb_guest::MAX_CLAIMS;
-use vb_slot::GuestSlot;
 use crate::plan::GuestPlan;
 use crate::report::{GuestReport, Stop};
 use crate::round::Round;
@@ -21,8 +19,10 @@ use std::alloc::{AllocError, Global};
 use std::marker::Model;
 use std::sync::Wait;
 use vb_balance::GuestNeed;
+use vb_guest::MAX_CLAIMS;
 use vb_model::{Actor, Call, Claim, Reply};
 use vb_ram::Config;
+use vb_slot::GuestSlot;
 
 /// A guest with its history, and the scripts of its processors.
 #[derive(Drop)]

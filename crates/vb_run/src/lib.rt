@@ -17,8 +17,8 @@ mod threads;
 
 pub use entry::{Entry, Step};
 pub use gate::{Gate, OpenGate};
-pub use vb_slot::GuestSlot;
 pub use plan::{Bells, GuestPlan, MAX_SCRIPT_CALLS, Plan};
 pub use report::{GuestReport, Report, RunFault};
 pub use round::Round;
 pub use run::run_slots;
+pub use vb_slot::GuestSlot;

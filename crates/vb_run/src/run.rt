@@ -11,7 +11,6 @@ use crate::apart::are_apart;
 use crate::audit::are_rounds;
 use crate::bell::Bell;
 use crate::gate::Gate;
-use vb_slot::GuestSlot;
 use crate::kept::Kept;
 use crate::plan::{GuestPlan, Plan, is_plan};
 use crate::report::{GuestReport, Report, RunFault, Stop};
@@ -22,6 +21,7 @@ use std::alloc::{AllocError, Global};
 use std::sync::{Mutex, Wait};
 use std::thread::Threads;
 use vb_model::Call;
+use vb_slot::GuestSlot;
 
 /// The scripts of a guest's processors, of which no call was made.
 fn scripts_of(alloc: Global, calls: &[Vec<Call>]) -> Result<Vec<Script>, AllocError>

@@ -4,7 +4,6 @@ ghost use Rattle.std.specs.Prelude.{◌≡◌, ◌≤◌, length, IfSome};
 
 use crate::bell::Bell;
 use crate::gate::Gate;
-use vb_slot::GuestSlot;
 use crate::kept::Kept;
 use crate::plan::{Bells, Plan};
 use crate::round::Round;
@@ -16,6 +15,7 @@ use std::thread::Threads;
 use vb_balance::GuestNeed;
 use vb_model::limits::MAX_GUESTS;
 use vb_model::{Actor, Reply};
+use vb_slot::GuestSlot;
 
 /// A guest behind its lock, with its doorbell.
 #[derive(Drop)]
