@@ -14,6 +14,7 @@ use crate::lines::LineFault;
 use crate::names::{
     FORMS, Form, FourNumbers, OneNumber, PLACES, ThreeNumbers, TwoNumbers, WithBytes, find,
 };
+use crate::reading::Item;
 use crate::values::{bytes, features, number, positive};
 use crate::words::Words;
 use std::alloc::Global;
@@ -22,6 +23,21 @@ use vb_model::{Bytes, Call, Event, Query};
 /// The features that a driver asks for where a line `init` names none, a bit each (VIRTIO 1.1,
 /// 5.5.3 and 6): MUST_TELL_HOST, STATS_VQ, DEFLATE_ON_OOM, page reporting (profile) and VERSION_1.
 pub const DEFAULT_FEATURES: u64 = 0x1_0000_0027;
+
+impl Item for Event {
+    ghost use Rattle.vb_script.specs.Texts.{events};
+
+    ghost language = { events };
+
+    fn read(
+        alloc: Global,
+        _earlier: &[Event],
+        word: &[u8],
+        words: &mut Words<'_>,
+    ) -> Result<Event, LineFault> {
+        event(alloc, word, words)
+    }
+}
 
 /// The event that a line's first word and those behind it name. Words that name none make a bad
 /// line.

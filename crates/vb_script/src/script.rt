@@ -20,3 +20,18 @@ pub struct Script {
     pub ghost spares_in_bound: { vec_len spares ≤ 64 },
     pub ghost room_for_spares: { 64 ≤ vec_capacity spares },
 }
+
+/// What a text says, as far as it was read.
+#[derive(Drop)]
+pub struct Reading<T> {
+    /// Frames of the host, from 1 to 65,536.
+    pub frames: u32,
+    /// The spare devices, at most 64, in order.
+    pub spares: Vec<Pace>,
+    /// What the lines behind them say, in order.
+    pub items: Vec<T>,
+    pub ghost some_frames: { 1 ≤ frames },
+    pub ghost frames_in_bound: { frames ≤ 65_536 },
+    pub ghost spares_in_bound: { vec_len spares ≤ 64 },
+    pub ghost room_for_spares: { 64 ≤ vec_capacity spares },
+}
