@@ -1,9 +1,9 @@
 //! The event that a line's words name.
 
-ghost use Rattle.std.specs.Prelude.{◌≡◌, ◌∷◌, IfOk, IsSome, MatchOption};
+ghost use Rattle.std.specs.Prelude.{◌≡◌, ◌∷◌, IfOk, MatchOption, true};
 ghost use Rattle.vb_model.specs.declared.calls.Event.TheVariants.{Guest as OnGuest};
 ghost use Rattle.vb_model.specs.declared.calls.Event.TheVariants.{Query as Asking};
-ghost use Rattle.vb_script.specs.Events.{bytes_event, event_of, four_number, init_event};
+ghost use Rattle.vb_script.specs.Events.{bytes_event, event_of, four_number, init_event, is_call};
 ghost use Rattle.vb_script.specs.Events.{one_number, pages_event, said, three_number, two_number};
 ghost use Rattle.vb_script.specs.Events.{with_bytes};
 ghost use Rattle.vb_script.specs.Names.{form_of, pages_query_of};
@@ -47,7 +47,7 @@ pub fn event(alloc: Global, word: &[u8], words: &mut Words<'_>) -> Result<Event,
     ensures bad { result ≡ Err LineFault.Bad
         → event_of (word.now ∷ words_left words.old.rest) ≡ None }
     ensures memory { result ≡ Err LineFault.Memory
-        → IsSome (event_of (word.now ∷ words_left words.old.rest)) }
+        → is_call (event_of (word.now ∷ words_left words.old.rest)) ≡ true }
 {
     let form = form_of(word).ok_or(LineFault::Bad)?;
     match form {
@@ -242,7 +242,7 @@ fn with_bytes(alloc: Global, name: WithBytes, words: &mut Words<'_>) -> Result<E
     ensures ok { IfOk result (λ event. bytes_event name (words_left words.old.rest) ≡ Some event) }
     ensures bad { result ≡ Err LineFault.Bad → bytes_event name (words_left words.old.rest) ≡ None }
     ensures memory { result ≡ Err LineFault.Memory
-        → IsSome (bytes_event name (words_left words.old.rest)) }
+        → is_call (bytes_event name (words_left words.old.rest)) ≡ true }
 {
     let (guest, page, offset, word) = three_and_a_word(words).ok_or(LineFault::Bad)?;
     let bytes = bytes(alloc, word)?;

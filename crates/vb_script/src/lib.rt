@@ -8,15 +8,17 @@
 mod events;
 mod lines;
 mod names;
+mod plans;
 mod reading;
 mod script;
 #[cfg(test)]
 mod tests;
 mod texts;
+mod threads;
 mod values;
 mod words;
 
 pub use events::DEFAULT_FEATURES;
 pub use lines::Pace;
-pub use reading::{ScriptFault, parse};
-pub use script::Script;
+pub use reading::{ScriptFault, parse, parse_threads};
+pub use script::{Script, ThreadsGuest, ThreadsScript};

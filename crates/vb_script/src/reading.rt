@@ -3,14 +3,17 @@
 ghost use Rattle.std.specs.Prelude.{◌≡◌, ◌≤◌, ◌/◌, ◌+◌, ◌∷◌, true, vec_capacity};
 ghost use Rattle.std.specs.Prelude.{IfErr, IfOk, IsSome, OnErr, OnOk};
 ghost use Rattle.std.specs.Option.{option_map};
+ghost use Rattle.vb_script.specs.Plans.{planned_by, threads_script_of};
 ghost use Rattle.vb_script.specs.Scripts.{IfBadLine, fault_at, lines_left, said_by, told_by};
 ghost use Rattle.vb_script.specs.Texts.{Language, begins_with_host, host_told, script_of, told_in};
 ghost use Rattle.vb_script.specs.Texts.{with_line, with_lines, with_spare};
 ghost use Rattle.vb_script.specs.Words.{words_left};
 
 use crate::lines::{LineFault, Pace, host, spare};
-use crate::script::{Reading, Script};
+use crate::plans::plan;
+use crate::script::{Reading, Script, ThreadsScript};
 use crate::texts::{Line, Lines};
+use crate::threads::ThreadsLine;
 use crate::words::Words;
 use std::alloc::{AllocError, Global};
 use vb_model::Event;
@@ -72,6 +75,28 @@ pub fn parse(alloc: Global, text: &[u8]) -> Result<Option<Script>, ScriptFault>
             spares: read.spares,
             events: read.items,
         })),
+    }
+}
+
+/// Reads a script for guests on threads from its whole text, whatever bytes that has. Its lines are
+/// `host FRAMES`, up to 64 spare devices, then `plug`s, at most once `rounds FLOOR COUNT`, and then
+/// `cpu C` and calls (alloc, free, read, write, inflate, deflate, oom, report, stats, reap) in any
+/// order. Refused are a bad line, and a script that there is no memory for; none is wanted for the
+/// first line.
+///
+/// Without a fault there may be no plan: there is no plug (as in a text without any lines), a plug
+/// finds no spare device left or brings more than 4 processors, or a call is for a guest or behind
+/// a `cpu` for a processor that isn't there.
+pub fn parse_threads(alloc: Global, text: &[u8]) -> Result<Option<ThreadsScript>, ScriptFault>
+    ensures script { IfOk result
+        (λ script. threads_script_of text.now ≡ Ok (option_map planned_by script)) }
+    ensures bad { IfErr result
+        (λ fault. IfBadLine fault (λ number. threads_script_of text.now ≡ Err number)) }
+    ensures memory { result ≡ Err ScriptFault.Memory → begins_with_host text.now ≡ true }
+{
+    match read::<ThreadsLine>(alloc, text)? {
+        None => Ok(None),
+        Some(read) => Ok(plan(alloc, &read)?),
     }
 }
 
