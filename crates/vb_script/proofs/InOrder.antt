@@ -19,7 +19,7 @@ use Rattle.vb_script.specs.Lines.{host_of, spare_of}
 use Rattle.vb_script.specs.Names.{threads_form_of}
 use Rattle.vb_script.specs.Texts.{Told, behind_host, host_told, lines_of, numbered, or_bad}
 use Rattle.vb_script.specs.Texts.{script_with, told_in, whole, with_event, with_line, with_lines}
-use Rattle.vb_script.specs.Texts.{with_spare, with_words}
+use Rattle.vb_script.specs.Texts.{with_words}
 use Rattle.vb_script.specs.Threads.{are_plugs, event_line, formed, is_plug, is_plug_or_none}
 use Rattle.vb_script.specs.Threads.{threads}
 use Rattle.vb_script.specs.Words.{only_number, words_of}
@@ -179,7 +179,7 @@ lines_keep (line ∷ lines) from told e order =
     at : (next : Option (Told ThreadsLine)) → with_line threads line.1 from ≡ next
         → or_bad line.0 next (λ next. with_lines threads lines next) ≡ Ok told
         → ((next : Told ThreadsLine) → with_lines threads lines next ≡ Ok told
-            → in_order next.events ≡ true → in_order told.events ≡ true)
+        → in_order next.events ≡ true → in_order told.events ≡ true)
         → in_order told.events ≡ true
     at None is e again = cc
     at (Some next) is e again =

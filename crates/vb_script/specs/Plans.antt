@@ -2,7 +2,7 @@
 use Rattle.std.specs.Prelude.{ℕ, ◌+◌, ◌==◌, ◌&&◌, nat_lt, nat_le, Bool, false, map}
 use Rattle.std.specs.Prelude.{if◌then◌else◌, List, [], ◌∷◌, length, slice_get, Option, Some, None}
 use Rattle.std.specs.Prelude.{Result, Ok, Err}
-use Rattle.std.specs.List.{filter, list_all, range_with_len}
+use Rattle.std.specs.List.{filter, filter_map, list_all, range_with_len}
 use Rattle.vb_model.specs.declared.calls.Call.{Call as OnGuest}
 use Rattle.vb_script.specs.declared.lines.Pace.{Pace}
 use Rattle.vb_script.specs.declared.plans.Plugged.{Plugged}
@@ -46,14 +46,17 @@ planned_by script =
       rounds = script.rounds;
     }
 
+-- the guest that a line plugs in, if it does
+abbrev pub plug_in : ThreadsLine → Option Plugged
+plug_in (Plug pages queue_size processors) =
+    Some (record { pages = pages; queue_size = queue_size; processors = processors })
+plug_in (Rounds floor count) = None
+plug_in (Cpu cpu) = None
+plug_in (Call guest call) = None
+
 -- the guests that are plugged in, in order
 abbrev pub plugs_in : List ThreadsLine → List Plugged
-plugs_in [] = []
-plugs_in (Plug pages queue_size processors ∷ lines) =
-    record { pages = pages; queue_size = queue_size; processors = processors } ∷ plugs_in lines
-plugs_in (Rounds floor count ∷ lines) = plugs_in lines
-plugs_in (Cpu cpu ∷ lines) = plugs_in lines
-plugs_in (Call guest call ∷ lines) = plugs_in lines
+plugs_in lines = filter_map plug_in lines
 
 -- the floor of the rounds, and how many there are: none where no line tells of them
 abbrev pub rounds_in : List ThreadsLine → ℕ × ℕ

@@ -2,10 +2,11 @@
 
 ghost use Rattle.std.specs.Option.{option_map};
 ghost use Rattle.std.specs.List.{list_all, range_with_len};
-ghost use Rattle.std.specs.Prelude.{◌≡◌, ◌≤◌, IfOk, IsTrue, length, map, slice_get, vec_len};
+ghost use Rattle.std.specs.Prelude.{◌≡◌, ◌≤◌, ◌∷◌, ◌++◌, [], IfOk, IsTrue, OnOk, length, map};
+ghost use Rattle.std.specs.Prelude.{slice_get, vec_len};
 ghost use Rattle.vb_script.specs.Plans.{calls_in, guest_plan, guest_with, guests_with};
 ghost use Rattle.vb_script.specs.Plans.{has_few, has_cpu, is_plan, is_there, plan_of, planned_by};
-ghost use Rattle.vb_script.specs.Plans.{plugs_in, rounds_in, script_by};
+ghost use Rattle.vb_script.specs.Plans.{plug_in, plugs_in, rounds_in, script_by};
 ghost use Rattle.vb_script.specs.Scripts.{told_by};
 
 use crate::lines::Pace;
@@ -50,20 +51,29 @@ fn plugs_in(alloc: Global, lines: &[ThreadsLine]) -> Result<Vec<Plugged>, AllocE
 {
     let mut plugs = Vec::new(alloc);
     for line in lines {
-        if let ThreadsLine::Plug {
-            pages,
-            queue_size,
-            processors,
-        } = line
-        {
-            plugs.push(Plugged {
-                pages: *pages,
-                queue_size: *queue_size,
-                processors: *processors,
-            })?;
+        if let Some(plug) = plug_in(line) {
+            plugs.push(plug)?;
         }
     }
     Ok(plugs)
+}
+
+/// The guest that a line plugs in, if it does.
+fn plug_in(line: &ThreadsLine) -> Option<Plugged>
+    ensures { result ≡ plug_in line.now }
+{
+    match line {
+        ThreadsLine::Plug {
+            pages,
+            queue_size,
+            processors,
+        } => Some(Plugged {
+            pages: *pages,
+            queue_size: *queue_size,
+            processors: *processors,
+        }),
+        _ => None,
+    }
 }
 
 /// Whether there is a guest, a spare device for each, and a processor of its guest's for each call.
@@ -201,11 +211,19 @@ fn script_by(
             ThreadsLine::Cpu(next) => chosen = *next,
             ThreadsLine::Call { guest: on, call } => {
                 if *on as usize == guest && chosen == cpu {
-                    script.push(call.copy(alloc)?)?;
+                    add_copy(alloc, &mut script, call)?;
                 }
             }
             _ => {}
         }
     }
     Ok(script)
+}
+
+/// Adds a call to a script.
+fn add_copy(alloc: Global, script: &mut Vec<Call>, call: &Call) -> Result<(), AllocError>
+    ensures { OnOk result (script.new.items ≡ script.old.items ++ call.now ∷ []) }
+{
+    script.push(call.copy(alloc)?)?;
+    Ok(())
 }
