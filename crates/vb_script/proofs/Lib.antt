@@ -1,6 +1,10 @@
 pub mod Cuts
 pub mod Digits
 pub mod Hex
+pub mod InOrder
 pub mod Numbered
 pub mod Pushed
+pub mod Ranged
+pub mod Speaking
+pub mod ThreadsFacts
 pub mod WordLemmas

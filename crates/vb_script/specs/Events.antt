@@ -1,5 +1,5 @@
 -- The event that a line of words names.
-use Rattle.std.specs.Prelude.{ℕ, List, [], ◌∷◌, Option, Some, None}
+use Rattle.std.specs.Prelude.{ℕ, List, [], ◌∷◌, Option, Some, None, Bool, true, false}
 use Rattle.std.specs.Option.{option_map, option_and_then}
 use Rattle.vb_model.specs.declared.calls.Call.TheVariants.{Init as CallInit, Reset as CallReset}
 use Rattle.vb_model.specs.declared.calls.Call.TheVariants.{Alloc as CallAlloc, Free as CallFree}
@@ -133,3 +133,9 @@ said (Bytes name) words = bytes_event name words
 abbrev pub event_of : List (List ℕ) → Option Event
 event_of [] = None
 event_of (word ∷ words) = option_and_then (λ form. said form words) (form_of word)
+
+-- whether it is a call on a guest
+abbrev pub is_call : Option Event → Bool
+is_call None = false
+is_call (Some (OnGuest guest call)) = true
+is_call (Some _) = false

@@ -2,7 +2,9 @@ pub mod Events
 pub mod Lines
 pub mod Names
 pub mod Numbers
+pub mod Plans
 pub mod Scripts
 pub mod Texts
+pub mod Threads
 pub mod Values
 pub mod Words

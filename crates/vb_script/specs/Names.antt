@@ -19,6 +19,8 @@ use Rattle.vb_script.specs.declared.names.TwoNumbers.TheVariants.{Backing}
 use Rattle.vb_script.specs.declared.names.ThreeNumbers.TheVariants.{Plug, Alloc, Finish}
 use Rattle.vb_script.specs.declared.names.FourNumbers.TheVariants.{Free, Read}
 use Rattle.vb_script.specs.declared.names.WithBytes.TheVariants.{Write, Scribble}
+use Rattle.vb_script.specs.declared.names.ThreadsForm.{ThreadsForm}
+use Rattle.vb_script.specs.declared.names.ThreadsForm.TheVariants.{Rounds, Cpu, Event}
 use denote.Ref.{Bor}
 
 -- what the first entry with this word says
@@ -69,6 +71,27 @@ forms =
 -- which words stand behind an event's
 unfoldable pub form_of : List ℕ → Option Form
 form_of word = meaning_of forms word
+
+-- the lines of a script for guests on threads: plugs, rounds, processors, and what these call
+unfoldable pub threads_form_of : List ℕ → Option ThreadsForm
+threads_form_of word = meaning_of lines word
+  where
+    lines : List (List ℕ × ThreadsForm)
+    lines =
+        (codes "plug", Event)
+        ∷ (codes "rounds", Rounds)
+        ∷ (codes "cpu", Cpu)
+        ∷ (codes "alloc", Event)
+        ∷ (codes "free", Event)
+        ∷ (codes "read", Event)
+        ∷ (codes "write", Event)
+        ∷ (codes "inflate", Event)
+        ∷ (codes "deflate", Event)
+        ∷ (codes "oom", Event)
+        ∷ (codes "report", Event)
+        ∷ (codes "stats", Event)
+        ∷ (codes "reap", Event)
+        ∷ []
 
 -- the places that `pages G PLACE` names
 unfoldable pub pages_query_of : List ℕ → Option Query

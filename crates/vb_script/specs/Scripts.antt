@@ -6,11 +6,20 @@ use Rattle.vb_script.specs.declared.texts.Lines.{Lines}
 use Rattle.vb_script.specs.declared.reading.ScriptFault.{ScriptFault}
 use Rattle.vb_script.specs.declared.reading.ScriptFault.TheVariants.{BadLine, Memory}
 use Rattle.vb_script.specs.declared.script.Script.{Script}
-use Rattle.vb_script.specs.Texts.{Said, lines_of, numbered}
+use Rattle.vb_script.specs.declared.script.Reading.{Reading}
+use Rattle.vb_script.specs.Texts.{Said, Told, lines_of, numbered}
 
 abbrev pub said_by : Script → Said
 said_by script =
     record { frames = script.frames; spares = script.spares.items; events = script.events.items }
+
+abbrev pub told_by : {Item : Type 0} → Reading Item → Told Item
+told_by reading =
+    record {
+      frames = reading.frames;
+      spares = reading.spares.items;
+      events = reading.items.items;
+    }
 
 -- the lines that are left
 abbrev pub lines_left : Lines → List (ℕ × List ℕ)

@@ -30,30 +30,37 @@ abbrev pub is_skipped : List ℕ → Bool
 is_skipped [] = true
 is_skipped (byte ∷ bytes) = byte == 35
 
+-- what a line behind the spare devices says, by what the lines before it said there, and its words
+abbrev pub Language : Type 0 → Type 0
+Language Item = List Item → List (List ℕ) → Option Item
+
 -- what the lines so far say behind the first one: the spare devices, and what happens
-pub record Said : Type 0 where
+pub record Told (Item : Type 0) : Type 0 where
   pub frames : ℕ
   pub spares : List Pace
-  pub events : List Event
+  pub events : List Item
 
--- a spare device is told before each event, and there are at most 64
-abbrev pub with_spare : Pace → Said → Option Said
-with_spare pace said =
-    if is_none (slice_get said.events 0) && nat_lt (length said.spares) 64
-    then Some (record said { spares = said.spares ++ pace ∷ [] })
+-- a spare device is told before all else, and there are at most 64
+abbrev pub with_spare : {Item : Type 0} → Pace → Told Item → Option (Told Item)
+with_spare pace told =
+    if is_none (slice_get told.events 0) && nat_lt (length told.spares) 64
+    then Some (record told { spares = told.spares ++ pace ∷ [] })
     else None
 
-abbrev pub with_event : Said → Event → Said
-with_event said event = record said { events = said.events ++ event ∷ [] }
+abbrev pub with_event : {Item : Type 0} → Told Item → Item → Told Item
+with_event told event = record told { events = told.events ++ event ∷ [] }
 
-abbrev pub with_words : Result (Option Pace) LineFault → List (List ℕ) → Said → Option Said
-with_words (Err fault) words said = None
-with_words (Ok (Some pace)) words said = with_spare pace said
-with_words (Ok None) words said = option_map (with_event said) (event_of words)
+abbrev pub with_words : {Item : Type 0} → Language Item → Result (Option Pace) LineFault
+    → List (List ℕ) → Told Item → Option (Told Item)
+with_words language (Err fault) words told = None
+with_words language (Ok (Some pace)) words told = with_spare pace told
+with_words language (Ok None) words told =
+    option_map (with_event told) (language told.events words)
 
--- a line behind the first one tells of a spare device, or of an event
-abbrev pub with_line : List ℕ → Said → Option Said
-with_line line said = with_words (spare_of (words_of line)) (words_of line) said
+-- a line behind the first one tells of a spare device, or what the language has
+abbrev pub with_line : {Item : Type 0} → Language Item → List ℕ → Told Item → Option (Told Item)
+with_line language line told =
+    with_words language (spare_of (words_of line)) (words_of line) told
 
 -- the lines that aren't skipped, each with its number among all, of which so many were passed
 abbrev pub numbered : ℕ → List (List ℕ) → List (ℕ × List ℕ)
@@ -62,34 +69,50 @@ numbered passed (line ∷ lines) =
     if is_skipped line then numbered (passed + 1) lines
     else (passed + 1, line) ∷ numbered (passed + 1) lines
 
-abbrev pub or_bad : ℕ → Option Said → (Said → Result Said ℕ) → Result Said ℕ
+abbrev pub or_bad : {T : Type 0} → ℕ → Option T → (T → Result T ℕ) → Result T ℕ
 or_bad number None go = Err number
-or_bad number (Some said) go = go said
+or_bad number (Some told) go = go told
 
 -- what all of these lines say, or the number of the first that says nothing there
-abbrev pub with_lines : List (ℕ × List ℕ) → Said → Result Said ℕ
-with_lines [] said = Ok said
-with_lines (line ∷ lines) said =
-    or_bad line.0 (with_line line.1 said) (λ said. with_lines lines said)
+abbrev pub with_lines : {Item : Type 0} → Language Item → List (ℕ × List ℕ) → Told Item
+    → Result (Told Item) ℕ
+with_lines language [] told = Ok told
+with_lines language (line ∷ lines) told =
+    or_bad line.0 (with_line language line.1 told) (λ told. with_lines language lines told)
 
-abbrev pub host_said : ℕ → Said
-host_said frames = record { frames = frames; spares = []; events = [] }
+abbrev pub host_told : {Item : Type 0} → ℕ → Told Item
+host_told frames = record { frames = frames; spares = []; events = [] }
 
-abbrev pub whole : Result Said ℕ → Result (Option Said) ℕ
+abbrev pub whole : {T : Type 0} → Result T ℕ → Result (Option T) ℕ
 whole (Err number) = Err number
-whole (Ok said) = Ok (Some said)
+whole (Ok told) = Ok (Some told)
 
-abbrev pub behind_host : ℕ → Option ℕ → List (ℕ × List ℕ) → Result (Option Said) ℕ
-behind_host number None lines = Err number
-behind_host number (Some frames) lines = whole (with_lines lines (host_said frames))
+abbrev pub behind_host : {Item : Type 0} → Language Item → ℕ → Option ℕ → List (ℕ × List ℕ)
+    → Result (Option (Told Item)) ℕ
+behind_host language number None lines = Err number
+behind_host language number (Some frames) lines =
+    whole (with_lines language lines (host_told frames))
 
-abbrev pub script_with : List (ℕ × List ℕ) → Result (Option Said) ℕ
-script_with [] = Ok None
-script_with (line ∷ lines) = behind_host line.0 (host_of (words_of line.1)) lines
+abbrev pub script_with : {Item : Type 0} → Language Item → List (ℕ × List ℕ)
+    → Result (Option (Told Item)) ℕ
+script_with language [] = Ok None
+script_with language (line ∷ lines) =
+    behind_host language line.0 (host_of (words_of line.1)) lines
 
 -- what a text says: the first of its lines the host's frames; a text without any says nothing
+unfoldable pub told_in : {Item : Type 0} → Language Item → List ℕ → Result (Option (Told Item)) ℕ
+told_in language text = script_with language (numbered 0 (lines_of text))
+
+-- what a script of events says
+abbrev pub Said : Type 0
+Said = Told Event
+
+-- an event may stand behind any others
+abbrev pub events : Language Event
+events earlier words = event_of words
+
 unfoldable pub script_of : List ℕ → Result (Option Said) ℕ
-script_of text = script_with (numbered 0 (lines_of text))
+script_of text = told_in events text
 
 abbrev pub is_host_first : List (ℕ × List ℕ) → Bool
 is_host_first [] = false

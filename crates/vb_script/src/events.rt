@@ -1,9 +1,9 @@
 //! The event that a line's words name.
 
-ghost use Rattle.std.specs.Prelude.{◌≡◌, ◌∷◌, IfOk, IsSome, MatchOption};
+ghost use Rattle.std.specs.Prelude.{◌≡◌, ◌∷◌, IfOk, MatchOption, true};
 ghost use Rattle.vb_model.specs.declared.calls.Event.TheVariants.{Guest as OnGuest};
 ghost use Rattle.vb_model.specs.declared.calls.Event.TheVariants.{Query as Asking};
-ghost use Rattle.vb_script.specs.Events.{bytes_event, event_of, four_number, init_event};
+ghost use Rattle.vb_script.specs.Events.{bytes_event, event_of, four_number, init_event, is_call};
 ghost use Rattle.vb_script.specs.Events.{one_number, pages_event, said, three_number, two_number};
 ghost use Rattle.vb_script.specs.Events.{with_bytes};
 ghost use Rattle.vb_script.specs.Names.{form_of, pages_query_of};
@@ -14,6 +14,7 @@ use crate::lines::LineFault;
 use crate::names::{
     FORMS, Form, FourNumbers, OneNumber, PLACES, ThreeNumbers, TwoNumbers, WithBytes, find,
 };
+use crate::reading::Item;
 use crate::values::{bytes, features, number, positive};
 use crate::words::Words;
 use std::alloc::Global;
@@ -23,6 +24,21 @@ use vb_model::{Bytes, Call, Event, Query};
 /// 5.5.3 and 6): MUST_TELL_HOST, STATS_VQ, DEFLATE_ON_OOM, page reporting (profile) and VERSION_1.
 pub const DEFAULT_FEATURES: u64 = 0x1_0000_0027;
 
+impl Item for Event {
+    ghost use Rattle.vb_script.specs.Texts.{events};
+
+    ghost language = { events };
+
+    fn read(
+        alloc: Global,
+        _earlier: &[Event],
+        word: &[u8],
+        words: &mut Words<'_>,
+    ) -> Result<Event, LineFault> {
+        event(alloc, word, words)
+    }
+}
+
 /// The event that a line's first word and those behind it name. Words that name none make a bad
 /// line.
 pub fn event(alloc: Global, word: &[u8], words: &mut Words<'_>) -> Result<Event, LineFault>
@@ -31,7 +47,7 @@ pub fn event(alloc: Global, word: &[u8], words: &mut Words<'_>) -> Result<Event,
     ensures bad { result ≡ Err LineFault.Bad
         → event_of (word.now ∷ words_left words.old.rest) ≡ None }
     ensures memory { result ≡ Err LineFault.Memory
-        → IsSome (event_of (word.now ∷ words_left words.old.rest)) }
+        → is_call (event_of (word.now ∷ words_left words.old.rest)) ≡ true }
 {
     let form = form_of(word).ok_or(LineFault::Bad)?;
     match form {
@@ -226,7 +242,7 @@ fn with_bytes(alloc: Global, name: WithBytes, words: &mut Words<'_>) -> Result<E
     ensures ok { IfOk result (λ event. bytes_event name (words_left words.old.rest) ≡ Some event) }
     ensures bad { result ≡ Err LineFault.Bad → bytes_event name (words_left words.old.rest) ≡ None }
     ensures memory { result ≡ Err LineFault.Memory
-        → IsSome (bytes_event name (words_left words.old.rest)) }
+        → is_call (bytes_event name (words_left words.old.rest)) ≡ true }
 {
     let (guest, page, offset, word) = three_and_a_word(words).ok_or(LineFault::Bad)?;
     let bytes = bytes(alloc, word)?;

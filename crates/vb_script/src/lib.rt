@@ -1,6 +1,8 @@
 //! The language of scripts: what happens on a host as lines of text.
 //!
 //! `parse` reads a text to a `Script`: a host's frames, its spare devices, and events in order.
+//! `parse_threads` reads one to a `ThreadsScript`: a host's frames, and guests whose processors
+//! have a list of calls each.
 //! `docs/RULES.md`, "Scripts", has the rules of the format; `vb_reply` writes the lines that the
 //! events are answered with. Who answers them is no matter here.
 #![tactic(auto)]
@@ -8,15 +10,17 @@
 mod events;
 mod lines;
 mod names;
+mod plans;
 mod reading;
 mod script;
 #[cfg(test)]
 mod tests;
 mod texts;
+mod threads;
 mod values;
 mod words;
 
 pub use events::DEFAULT_FEATURES;
 pub use lines::Pace;
-pub use reading::{ScriptFault, parse};
-pub use script::Script;
+pub use reading::{ScriptFault, parse, parse_threads};
+pub use script::{Script, ThreadsGuest, ThreadsScript};

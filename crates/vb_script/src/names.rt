@@ -107,6 +107,34 @@ pub static FORMS: [(&[u8], Form); 29] = [
     (b"frames", Form::Frames),
 ];
 
+/// A line of a script for guests on threads.
+#[derive(Clone, Copy)]
+pub enum ThreadsForm {
+    /// How often all targets are set, and above which floor.
+    Rounds,
+    /// The processor that makes the calls behind it.
+    Cpu,
+    /// A line that scripts of events have too.
+    Event,
+}
+
+/// The lines of a script for guests on threads, each with its word.
+pub static THREADS_FORMS: [(&[u8], ThreadsForm); 13] = [
+    (b"plug", ThreadsForm::Event),
+    (b"rounds", ThreadsForm::Rounds),
+    (b"cpu", ThreadsForm::Cpu),
+    (b"alloc", ThreadsForm::Event),
+    (b"free", ThreadsForm::Event),
+    (b"read", ThreadsForm::Event),
+    (b"write", ThreadsForm::Event),
+    (b"inflate", ThreadsForm::Event),
+    (b"deflate", ThreadsForm::Event),
+    (b"oom", ThreadsForm::Event),
+    (b"report", ThreadsForm::Event),
+    (b"stats", ThreadsForm::Event),
+    (b"reap", ThreadsForm::Event),
+];
+
 /// Which pages `pages G PLACE` asks for.
 pub static PLACES: [(&[u8], Query); 8] = [
     (b"free", Query::PagesAt(Place::Free)),

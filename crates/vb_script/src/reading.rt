@@ -1,24 +1,29 @@
 //! The text of a script, read line by line.
 
-ghost use Rattle.std.specs.Prelude.{◌≡◌, ◌≤◌, ◌/◌, ◌+◌, true, vec_capacity};
+ghost use Rattle.std.specs.Prelude.{◌≡◌, ◌≤◌, ◌/◌, ◌+◌, ◌∷◌, true, vec_capacity};
 ghost use Rattle.std.specs.Prelude.{IfErr, IfOk, IsSome, OnErr, OnOk};
 ghost use Rattle.std.specs.Option.{option_map};
-ghost use Rattle.vb_script.specs.Scripts.{IfBadLine, fault_at, lines_left, said_by};
-ghost use Rattle.vb_script.specs.Texts.{begins_with_host, host_said, script_of};
+ghost use Rattle.vb_script.specs.Plans.{planned_by, threads_script_of};
+ghost use Rattle.vb_script.specs.Scripts.{IfBadLine, fault_at, lines_left, said_by, told_by};
+ghost use Rattle.vb_script.specs.Texts.{Language, begins_with_host, host_told, script_of, told_in};
 ghost use Rattle.vb_script.specs.Texts.{with_line, with_lines, with_spare};
+ghost use Rattle.vb_script.specs.Words.{words_left};
 
-use crate::events::event;
 use crate::lines::{LineFault, Pace, host, spare};
-use crate::script::Script;
+use crate::plans::plan;
+use crate::script::{Reading, Script, ThreadsScript};
 use crate::texts::{Line, Lines};
+use crate::threads::ThreadsLine;
 use crate::words::Words;
 use std::alloc::{AllocError, Global};
+use vb_model::Event;
 
 /// Spare devices that a script may bring.
 const MAX_SPARES: usize = 64;
 
-/// Bytes of the shortest line of an event, as `ask 0`, with its line feed: no event takes fewer.
-const SHORTEST_EVENT: usize = 6;
+/// Bytes of the shortest line behind the spare devices, as `ask 0`, with its line feed: none takes
+/// fewer.
+const SHORTEST_LINE: usize = 6;
 
 /// Why a text gives no script.
 #[derive(Clone, Copy, Debug, PartialEq, Eq)]
@@ -63,55 +68,121 @@ pub fn parse(alloc: Global, text: &[u8]) -> Result<Option<Script>, ScriptFault>
         (λ fault. IfBadLine fault (λ number. script_of text.now ≡ Err number)) }
     ensures memory { result ≡ Err ScriptFault.Memory → begins_with_host text.now ≡ true }
 {
+    match read::<Event>(alloc, text)? {
+        None => Ok(None),
+        Some(read) => Ok(Some(Script {
+            frames: read.frames,
+            spares: read.spares,
+            events: read.items,
+        })),
+    }
+}
+
+/// Reads a script for guests on threads from its whole text, whatever bytes that has. Its lines are
+/// `host FRAMES`, up to 64 spare devices, then `plug`s, at most once `rounds FLOOR COUNT`, and then
+/// `cpu C` and calls (alloc, free, read, write, inflate, deflate, oom, report, stats, reap) in any
+/// order. Refused are a bad line, and a script that there is no memory for; none is wanted for the
+/// first line.
+///
+/// Without a fault there may be no plan: there is no plug (as in a text without any lines), a plug
+/// finds no spare device left or brings more than 4 processors, or a call is for a guest or behind
+/// a `cpu` for a processor that isn't there.
+pub fn parse_threads(alloc: Global, text: &[u8]) -> Result<Option<ThreadsScript>, ScriptFault>
+    ensures script { IfOk result
+        (λ script. threads_script_of text.now ≡ Ok (option_map planned_by script)) }
+    ensures bad { IfErr result
+        (λ fault. IfBadLine fault (λ number. threads_script_of text.now ≡ Err number)) }
+    ensures memory { result ≡ Err ScriptFault.Memory → begins_with_host text.now ≡ true }
+{
+    match read::<ThreadsLine>(alloc, text)? {
+        None => Ok(None),
+        Some(read) => Ok(plan(alloc, &read)?),
+    }
+}
+
+/// What a line behind the spare devices says, in one of the languages of scripts.
+pub trait Item: Drop {
+    /// What it says, by what the lines before it said there, and its words.
+    ghost language: { Language Self };
+
+    /// Reads a line, by its first word and those behind it. Words that say nothing there make a bad
+    /// line.
+    fn read(
+        alloc: Global,
+        earlier: &[Self],
+        word: &[u8],
+        words: &mut Words<'_>,
+    ) -> Result<Self, LineFault>
+        ensures ok { IfOk result
+            (λ item. language earlier.now (word.now ∷ words_left words.old.rest) ≡ Some item) }
+        ensures bad { result ≡ Err LineFault.Bad
+            → language earlier.now (word.now ∷ words_left words.old.rest) ≡ None }
+        ensures memory { result ≡ Err LineFault.Memory
+            → IsSome (language earlier.now (word.now ∷ words_left words.old.rest)) };
+}
+
+/// Reads a whole text of one of the languages of scripts.
+pub fn read<T: Item>(alloc: Global, text: &[u8]) -> Result<Option<Reading<T>>, ScriptFault>
+    ensures ok { IfOk result (λ read. told_in T.language text.now ≡ Ok (option_map told_by read)) }
+    ensures bad { IfErr result
+        (λ fault. IfBadLine fault (λ number. told_in T.language text.now ≡ Err number)) }
+    ensures memory { result ≡ Err ScriptFault.Memory → begins_with_host text.now ≡ true }
+{
     let mut lines = Lines::of(text);
     let Some(first) = lines.next() else {
         return Ok(None);
     };
     let frames = host(first.text).ok_or(ScriptFault::BadLine(first.number))?;
-    let script = parse_rest(alloc, frames, lines)?;
-    Ok(Some(script))
+    let read = read_rest(alloc, frames, lines)?;
+    Ok(Some(read))
 }
 
 /// Reads what stands behind the first line of a script whose host has so many frames.
-fn parse_rest(alloc: Global, frames: u32, mut lines: Lines<'_>) -> Result<Script, ScriptFault>
+fn read_rest<T: Item>(
+    alloc: Global,
+    frames: u32,
+    mut lines: Lines<'_>,
+) -> Result<Reading<T>, ScriptFault>
     requires some { 1 ≤ frames }
     requires bound { frames ≤ 65_536 }
-    ensures ok { IfOk result
-        (λ script. with_lines (lines_left lines.entry) (host_said frames) ≡ Ok (said_by script)) }
-    ensures bad { IfErr result (λ fault. IfBadLine fault
-        (λ number. with_lines (lines_left lines.entry) (host_said frames) ≡ Err number)) }
+    ensures ok { IfOk result (λ read.
+        with_lines T.language (lines_left lines.entry) (host_told frames) ≡ Ok (told_by read)) }
+    ensures bad { IfErr result (λ fault. IfBadLine fault (λ number.
+        with_lines T.language (lines_left lines.entry) (host_told frames) ≡ Err number)) }
 {
-    let mut script = Script::of_host(alloc, frames, lines.rest.len())?;
+    let mut reading = Reading::of_host(alloc, frames, lines.rest.len())?;
     while let Some(line) = lines.next() {
-        if let Err(fault) = script.add(alloc, line.text) {
+        if let Err(fault) = reading.add(alloc, line.text) {
             return Err(line.fault(fault));
         }
     }
-    Ok(script)
+    Ok(reading)
 }
 
-impl Script {
-    /// What the first line says, with room for as many events as may stand in so many bytes.
-    fn of_host(alloc: Global, frames: u32, bytes: usize) -> Result<Script, AllocError>
+impl<T: Item> Reading<T> {
+    /// What the first line says, with room for as many lines as may stand in so many bytes.
+    fn of_host(alloc: Global, frames: u32, bytes: usize) -> Result<Reading<T>, AllocError>
         requires some { 1 ≤ frames }
         requires bound { frames ≤ 65_536 }
-        ensures said { IfOk result (λ script. said_by script ≡ host_said frames) }
-        ensures room { IfOk result (λ script. vec_capacity script.events ≡ bytes / 6 + 1) }
+        ensures told { IfOk result (λ reading. told_by reading ≡ host_told frames) }
+        ensures room { IfOk result (λ reading. vec_capacity reading.items ≡ bytes / 6 + 1) }
     {
-        Ok(Script {
+        Ok(Reading {
             frames,
             spares: Vec::with_capacity(alloc, MAX_SPARES)?,
-            events: Vec::with_capacity(alloc, bytes / SHORTEST_EVENT + 1)?,
+            items: Vec::with_capacity(alloc, bytes / SHORTEST_LINE + 1)?,
         })
     }
 
-    /// Adds what a line behind the first one says: a spare device, or an event.
+    /// Adds what a line behind the first one says: a spare device, or what the language has.
     fn add(&mut self, alloc: Global, line: &[u8]) -> Result<(), LineFault>
-        ensures ok { OnOk result (with_line line.now (said_by self.old) ≡ Some (said_by self.new)) }
-        ensures bad { result ≡ Err LineFault.Bad → with_line line.now (said_by self.old) ≡ None }
+        ensures ok { OnOk result
+            (with_line T.language line.now (told_by self.old) ≡ Some (told_by self.new)) }
+        ensures bad { result ≡ Err LineFault.Bad
+            → with_line T.language line.now (told_by self.old) ≡ None }
         ensures memory { result ≡ Err LineFault.Memory
-            → IsSome (with_line line.now (said_by self.old)) }
-        ensures err { OnErr result (said_by self.new ≡ said_by self.old) }
+            → IsSome (with_line T.language line.now (told_by self.old)) }
+        ensures err { OnErr result (told_by self.new ≡ told_by self.old) }
     {
         let mut words = Words::of(line);
         let word = words.next().ok_or(LineFault::Bad)?;
@@ -119,20 +190,20 @@ impl Script {
             let pace = spare(&mut words).ok_or(LineFault::Bad)?;
             return self.add_spare(pace);
         }
-        let event = event(alloc, word, &mut words)?;
-        self.events.push(event).map_err(AllocError::from)?;
+        let item = T::read(alloc, self.items.as_slice(), word, &mut words)?;
+        self.items.push(item).map_err(AllocError::from)?;
         Ok(())
     }
 
-    /// Adds a spare device. There may be no event before it, and not too many beside it; no memory
-    /// is wanted.
+    /// Adds a spare device. There may be no other line before it, and not too many beside it; no
+    /// memory is wanted.
     fn add_spare(&mut self, pace: Pace) -> Result<(), LineFault>
-        ensures ok { OnOk result (with_spare pace (said_by self.old) ≡ Some (said_by self.new)) }
+        ensures ok { OnOk result (with_spare pace (told_by self.old) ≡ Some (told_by self.new)) }
         ensures bad { IfErr result (λ fault. (fault ≡ LineFault.Bad)
-            × (with_spare pace (said_by self.old) ≡ None)) }
-        ensures err { OnErr result (said_by self.new ≡ said_by self.old) }
+            × (with_spare pace (told_by self.old) ≡ None)) }
+        ensures err { OnErr result (told_by self.new ≡ told_by self.old) }
     {
-        if !self.events.is_empty() || self.spares.len() >= MAX_SPARES {
+        if !self.items.is_empty() || self.spares.len() >= MAX_SPARES {
             return Err(LineFault::Bad);
         }
         match self.spares.push(pace) {

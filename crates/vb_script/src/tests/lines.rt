@@ -35,8 +35,11 @@ static EVENTS: [(&str, [u32; 4], &[u8]); 24] = [
     ("scribble 7 0 130 0900", [7, 0, 130, 0], &[9, 0]),
 ];
 
-/// An event's name, its numbers in the order of its line, and its bytes.
-fn shown(event: &Event) -> (&'static str, [u32; 4], &[u8]) {
+/// A line's name, its numbers in order, and its bytes. Numbers that it lacks are 0.
+pub type Shown<'a> = (&'static str, [u32; 4], &'a [u8]);
+
+/// What the line of an event shows.
+fn shown(event: &Event) -> Shown<'_> {
     match event {
         Event::Plug {
             pages,
@@ -47,25 +50,30 @@ fn shown(event: &Event) -> (&'static str, [u32; 4], &[u8]) {
         Event::Restart { guest } => ("restart", [*guest, 0, 0, 0], &[]),
         Event::Balance { floor } => ("balance", [*floor, 0, 0, 0], &[]),
         Event::Frames => ("frames", [0; 4], &[]),
-        Event::Guest { guest, call } => match call {
-            Call::Write {
-                page,
-                offset,
-                bytes,
-            } => ("write", [*guest, *page, *offset, 0], bytes.as_slice()),
-            Call::Scribble {
-                page,
-                offset,
-                bytes,
-            } => ("scribble", [*guest, *page, *offset, 0], bytes.as_slice()),
-            _ => shown_call(*guest, call),
-        },
+        Event::Guest { guest, call } => shown_on(*guest, call),
         Event::Query { .. } => ("?", [0; 4], &[]),
     }
 }
 
+/// What the line of a call on a guest shows.
+pub fn shown_on(guest: u32, call: &Call) -> Shown<'_> {
+    match call {
+        Call::Write {
+            page,
+            offset,
+            bytes,
+        } => ("write", [guest, *page, *offset, 0], bytes.as_slice()),
+        Call::Scribble {
+            page,
+            offset,
+            bytes,
+        } => ("scribble", [guest, *page, *offset, 0], bytes.as_slice()),
+        _ => shown_call(guest, call),
+    }
+}
+
 /// The name of a call without bytes, and the numbers of its line.
-fn shown_call(guest: u32, call: &Call) -> (&'static str, [u32; 4], &'static [u8]) {
+fn shown_call(guest: u32, call: &Call) -> Shown<'static> {
     match call {
         Call::Finish { queue, index } => ("finish", [guest, *queue, *index, 0], &[]),
         Call::Alloc { cpu, order } => ("alloc", [guest, *cpu, *order, 0], &[]),
