@@ -1,8 +1,9 @@
 //! A guest whose device leases its frames from a table that guests may share: all calls on it are
 //! answered as on a host that has its frames by itself.
 
-ghost use Rattle.std.specs.Prelude.{◌≡◌, ⊤, IfOk, MatchOption, length, vec_len};
+ghost use Rattle.std.specs.Prelude.{◌≡◌, ⊤, true, IfOk, IfSome, MatchOption, length, vec_len};
 ghost use Rattle.vb_model.specs.Guest.{Guest};
+ghost use Rattle.vb_model.specs.Limits.{is_config};
 ghost use Rattle.vb_slot.specs.Spare.{IsNew};
 
 use super::{Outcome, repeated, run};
@@ -92,7 +93,10 @@ impl Table {
 }
 
 /// The sizes that the first event plugs a guest in with.
-fn sizes_of(events: &[Event]) -> Option<Config> {
+fn sizes_of(events: &[Event]) -> Option<Config>
+    ensures { IfSome result
+        (λ sizes. is_config sizes.pages sizes.queue_size sizes.processors ≡ true) }
+{
     match events.first() {
         Some(
             Event::Plug {
@@ -100,7 +104,10 @@ fn sizes_of(events: &[Event]) -> Option<Config> {
                 queue_size,
                 processors,
             },
-        ) => Config::new(*pages, *queue_size, *processors),
+        ) => {
+            let sizes = Config::new(*pages, *queue_size, *processors)?;
+            Some(sizes)
+        }
         _ => None,
     }
 }
