@@ -1,8 +1,9 @@
 //! A guest whose device leases its frames from a table that guests may share: all calls on it are
 //! answered as on a host that has its frames by itself.
 
-ghost use Rattle.std.specs.Prelude.{◌≡◌, ⊤, IfOk, MatchOption, length, vec_len};
+ghost use Rattle.std.specs.Prelude.{◌≡◌, ⊤, true, IfOk, IfSome, MatchOption, length, vec_len};
 ghost use Rattle.vb_model.specs.Guest.{Guest};
+ghost use Rattle.vb_model.specs.Limits.{is_config};
 ghost use Rattle.vb_slot.specs.Spare.{IsNew};
 
 use super::{Outcome, repeated, run};
@@ -92,7 +93,10 @@ impl Table {
 }
 
 /// The sizes that the first event plugs a guest in with.
-fn sizes_of(events: &[Event]) -> Option<Config> {
+fn sizes_of(events: &[Event]) -> Option<Config>
+    ensures { IfSome result
+        (λ sizes. is_config sizes.pages sizes.queue_size sizes.processors ≡ true) }
+{
     match events.first() {
         Some(
             Event::Plug {
@@ -100,7 +104,10 @@ fn sizes_of(events: &[Event]) -> Option<Config> {
                 queue_size,
                 processors,
             },
-        ) => Config::new(*pages, *queue_size, *processors),
+        ) => {
+            let sizes = Config::new(*pages, *queue_size, *processors)?;
+            Some(sizes)
+        }
         _ => None,
     }
 }
@@ -758,19 +765,9 @@ frames used 13 free 51
 plug 64 8 1
 init 0
 oom 0 1
-target 0 20
-inflate 0 20
+target 0 9
+inflate 0 9
 take 0 0
-work 0
-work 0
-work 0
-work 0
-work 0
-work 0
-work 0
-work 0
-work 0
-work 0
 work 0
 work 0
 work 0
@@ -785,10 +782,10 @@ finish 0 0 0
 reap 0 0
 deflate 0 1
 oom 0 1
-target 0 10
-deflate 0 2
+target 0 0
 deflate 0 1
 oom 0 1
+deflate 0 1
 deflate 0 1
 deflate 0 1
 deflate 0 1
@@ -811,7 +808,7 @@ guest 0
 ready
 nothing
 ok
-posted 0 20
+posted 0 9
 taken 0
 idle
 idle
@@ -823,22 +820,12 @@ idle
 idle
 idle
 idle
-idle
-idle
-idle
-idle
-idle
-idle
-idle
-idle
-idle
-idle
 finished 0
-reaped 0 20
+reaped 0 9
 nothing
 posted 0 1
 ok
-posted 1 2
+posted 1 1
 posted 2 1
 posted 3 1
 posted 4 1
@@ -853,17 +840,17 @@ not taken
 finished 0
 reaped 0 1
 none
-ballooned 19 actual 19 target 10 status 15
-pages 17-35
+ballooned 8 actual 8 target 0 status 15
 pages 17-24
-pages 25-35
+pages 17-23
+pages 24
 ",
         paced: "\
 guest 0
 ready
 nothing
 ok
-posted 0 20
+posted 0 9
 taken 0
 worked 16 bare
 worked 17 bare
@@ -874,23 +861,13 @@ worked 21 bare
 worked 22 bare
 worked 23 bare
 worked 24 bare
-worked 25 bare
-worked 26 bare
-worked 27 bare
-worked 28 bare
-worked 29 bare
-worked 30 bare
-worked 31 bare
-worked 32 bare
-worked 33 bare
-worked 34 bare
-worked 35 bare
+idle
 finished 0
-reaped 0 20
+reaped 0 9
 nothing
 posted 0 1
 ok
-posted 1 2
+posted 1 1
 posted 2 1
 posted 3 1
 posted 4 1
@@ -905,10 +882,10 @@ not taken
 finished 0
 reaped 0 1
 none
-ballooned 19 actual 19 target 10 status 15
-pages 17-35
+ballooned 8 actual 8 target 0 status 15
 pages 17-24
-pages 25-35
+pages 17-23
+pages 24
 ",
     },
     Rows {
