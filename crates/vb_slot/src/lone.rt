@@ -4,6 +4,7 @@ ghost use Rattle.std.specs.Prelude.{◌≡◌, IfOk, IfErr, true};
 ghost use Rattle.vb_model.specs.Guest.{Guest, fresh};
 ghost use Rattle.vb_model.specs.Limits.{is_config};
 ghost use Rattle.vb_model.specs.World.{Answers};
+ghost use Rattle.vb_slot.specs.Alone.{AreBehind};
 ghost use Rattle.vb_slot.specs.Spare.{IsNew};
 
 use crate::guest_slot::GuestSlot;
@@ -68,6 +69,14 @@ impl LoneSlot {
         requires config { is_config config.pages config.queue_size config.processors ≡ true }
         ensures made { IfOk result
             (λ slot. ⟦<LoneSlot as GuestSlot>⟧.stands slot
+            (fresh (record {
+              pages = config.pages;
+              queue_size = config.queue_size;
+              processors = config.processors;
+              paced = (part device).paced;
+            }) 0)) }
+        ensures frames { IfOk result
+            (λ slot. AreBehind (⟦<LoneSlot as GuestSlot>⟧.own slot)
             (fresh (record {
               pages = config.pages;
               queue_size = config.queue_size;
