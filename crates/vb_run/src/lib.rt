@@ -13,6 +13,8 @@ mod round;
 mod run;
 mod script;
 mod served;
+#[cfg(test)]
+mod tests;
 mod threads;
 
 pub use entry::{Entry, Step};
