@@ -6,6 +6,7 @@ ghost use Rattle.vb_model.specs.Limits.{is_config};
 ghost use Rattle.vb_model.specs.World.{Answers};
 ghost use Rattle.vb_slot.specs.Alone.{AreBehind};
 ghost use Rattle.vb_slot.specs.Spare.{IsNew};
+ghost use Rattle.vb_slot.specs.Alone.{StepsTo, AreBehind};
 
 use crate::guest_slot::GuestSlot;
 use crate::new::NoSlot;
@@ -92,6 +93,18 @@ impl LoneSlot {
         }
     }
 
+    /// Answers a call on the guest.
+    pub fn answer(&mut self, alloc: Global, call: &Call) -> Reply
+        requires { (g : Guest) × ⟦<LoneSlot as GuestSlot>⟧.stands self.old g }
+        ensures step { (g : Guest) → ⟦<LoneSlot as GuestSlot>⟧.stands self.old g
+            → StepsTo (⟦<LoneSlot as GuestSlot>⟧.stands self.new)
+            (⟦<LoneSlot as GuestSlot>⟧.claimed self.new) g call.now result }
+        ensures frames { (g : Guest) → ⟦<LoneSlot as GuestSlot>⟧.stands self.new g
+            → AreBehind (⟦<LoneSlot as GuestSlot>⟧.own self.new) g }
+    {
+        self.slot.call(alloc, &mut NoFrames::new(), call)
+    }
+
     /// Answers a question about the guest.
     pub fn query(&self, alloc: Global, query: &Query) -> Reply
         requires { (g : Guest) × ⟦<LoneSlot as GuestSlot>⟧.stands self.now g }
@@ -116,7 +129,7 @@ impl GuestSlot for LoneSlot {
     ghost claimed = { λ l. l.slot.claims.items };
 
     fn call(&mut self, alloc: Global, call: &Call) -> Reply {
-        self.slot.call(alloc, &mut NoFrames::new(), call)
+        self.answer(alloc, call)
     }
 
     fn claims(&self) -> &[Claim] {

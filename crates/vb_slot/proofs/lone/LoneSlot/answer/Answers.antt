@@ -1,11 +1,11 @@
 use Rattle.std.proofs.Common.{[], ◌∷◌}
 use Rattle.vb_slot.proofs.AloneSteps.{are_out, alone_steps}
-use Rattle.vb_slot.proofs.lone.LoneSlotGuestSlot.call.Goals as goal
+use Rattle.vb_slot.proofs.lone.LoneSlot.answer.Goals as goal
 
 pub call-requires : goal.call-requires
 call-requires g c =
-    let guest = c.requires.stands.0 in
-    let alone = c.requires.stands.1 in
+    let guest = c.requires.0 in
+    let alone = c.requires.1 in
     record {
       stands = (
         alone.0,
