@@ -10,6 +10,8 @@ use Rattle.vb_model.specs.declared.calls.Call.{Call}
 use Rattle.vb_model.specs.Limits.{is_config}
 use Rattle.vb_run.specs.declared.plan.GuestPlan.{GuestPlan}
 use Rattle.vb_run.specs.declared.plan.TheConstants.{MAX_SCRIPT_CALLS}
+use Rattle.vb_model.specs.Guest.{Guest}
+use Rattle.vb_run.specs.Starts.{AreFresh, IsFresh}
 use Rattle.vb_run.specs.Plans.{are_scripts, is_script, is_guest_plan, may_stand}
 use Rattle.vb_run.specs.declared.report.GuestReport.{GuestReport}
 use Rattle.vb_run.specs.Past.{Progress, AreBegun, IsScript}
@@ -85,3 +87,16 @@ swapped floor plans rounds reports report each here g r p at planned =
     each_push (λ n x. (q : GuestPlan) → slice_get plans n ≡ Some q
     → IsGuestReport floor n q rounds x) reports report
     (λ n x there q own. each n x q there own) here g r at p planned
+
+-- the guest at the next place of the plan
+pub fresh_push : {S : Type 0} (Is : S → Guest → Type 0) (plans : List GuestPlan) (slots : List S)
+    (s : S) (p : GuestPlan) → AreFresh Is plans slots → slice_get plans (length slots) ≡ Some p
+    → IsFresh (Is s) p → AreFresh Is plans (slots ++ s ∷ [])
+fresh_push Is plans slots s p fresh at own g t q there planned =
+    each_push (λ n x. (r : GuestPlan) → slice_get plans n ≡ Some r → IsFresh (Is x) r) slots s
+    (λ n x here r is. fresh n x r here is)
+    (λ r is. subst (IsFresh (Is s)) (some_same p r (sym at ∙ is)) own) g t there q planned
+
+pub fresh_none : {S : Type 0} (Is : S → Guest → Type 0) (plans : List GuestPlan)
+    → AreFresh Is plans []
+fresh_none Is plans g s p at planned = cc

@@ -1,19 +1,15 @@
 //! Guests on leased frames, run on threads.
 
-ghost use Rattle.std.specs.Prelude.{◌≡◌, true, IfOk};
-ghost use Rattle.vb_slot.specs.Spare.{IsNew};
-
-use crate::{Bells, GuestPlan, OpenGate, Plan, RunFault, run_slots};
+use crate::{Bells, GuestPlan, OpenGate, Plan, Report, plug_in, run_slots};
 use std::alloc::{AllocError, Global};
 use std::process::Abort;
 use std::sync::Wait;
 use std::test::Fail;
 use std::thread::Threads;
-use vb_device::{Device, PacedDevice};
+use vb_device::{ImmediateDevice, PacedDevice};
 use vb_model::{Bytes, Call, Reply};
 use vb_ram::Config;
-use vb_shared::{FramePass, Leased, SharedFrames};
-use vb_slot::LoneSlot;
+use vb_shared::{Leased, SharedFrames};
 
 const ROUNDS: usize = 25;
 
@@ -68,15 +64,7 @@ fn plan(alloc: Global, guests: usize, bells: Bells) -> Result<Plan, AllocError> 
     })
 }
 
-/// A guest whose device leases its frames by this pass.
-fn slot(alloc: Global, pass: FramePass) -> Result<LoneSlot, AllocError> {
-    let device = Box::new(alloc, Leased::new(PacedDevice::new(alloc), pass))?;
-    match LoneSlot::new(alloc, device, SMALL) {
-        Ok(slot) => Ok(slot),
-        Err(_) => Err(AllocError),
-    }
-}
-
+#[tactic(auto, using(crate::proofs::Starting::fresh_none))]
 /// Runs two guests with these bells: each has all its replies, in each of them what it wrote, and the
 /// frames of rings, buffers and one page at the end, which nobody else has.
 fn check_two<R: Threads + Wait + Sync + Abort>(
@@ -84,33 +72,46 @@ fn check_two<R: Threads + Wait + Sync + Abort>(
     alloc: Global,
     bells: Bells,
 ) -> Result<(), AllocError> {
-    let (frames, passes) = SharedFrames::open(alloc, 64, 2)?;
+    let (frames, mut passes) = SharedFrames::open(alloc, 64, 2)?;
     let plan = plan(alloc, 2, bells)?;
-    let mut slots = Vec::new(alloc);
-    for pass in passes {
-        slots.push(slot(alloc, pass)?)?;
-    }
-    let Ok(report) = run_slots(rt, alloc, &plan, slots, &OpenGate) else {
+    let (Some(second), Some(first)) = (passes.pop(), passes.pop()) else {
         return Err(AllocError);
     };
+    let mut ports = Vec::new(alloc);
+    let device = Leased::new(PacedDevice::new(alloc), first);
+    plug_in(alloc, &plan, &mut ports, Box::new(alloc, device)?)?;
+    let device = Leased::new(ImmediateDevice::new(alloc), second);
+    plug_in(alloc, &plan, &mut ports, Box::new(alloc, device)?)?;
+    let Ok(report) = run_slots(rt, alloc, &plan, ports, &OpenGate) else {
+        return Err(AllocError);
+    };
+    check_report(rt, &report);
+    assert!(rt; frames.census() == 0, "all frames came back");
+    Ok(())
+}
+
+/// Checks the report of a run of two such guests.
+fn check_report<R: Abort>(rt: &R, report: &Report) {
     assert!(rt; report.rounds.len() == 2, "two rounds");
     for guest in report.guests.iter() {
         assert!(rt; guest.frames.len() == 14, "14 frames");
         assert!(rt; guest.history.len() >= 105, "all entries");
-        let replies = guest.replies[0].as_slice();
-        assert!(rt; replies.len() == 100, "all replies");
+        let Some(replies) = guest.replies.first() else {
+            panic!(rt; "a script's replies")
+        };
+        assert!(rt; replies.len() == 4 * ROUNDS, "all replies");
         for turn in 0..ROUNDS {
-            match &replies[4 * turn + 2] {
-                Reply::ReadBytes { bytes } => assert!(rt;
-                    bytes.as_slice() == [0xaa].as_slice(),
-                    "what was written"
-                ),
-                _ => assert!(rt; false, "a read is answered"),
-            }
+            assert!(rt; reads_aa(replies.get(4 * turn + 2)), "what was written");
         }
     }
-    assert!(rt; frames.census() == 0, "all frames came back");
-    Ok(())
+}
+
+/// Whether the reply brings the byte that the scripts write.
+fn reads_aa(reply: Option<&Reply>) -> bool {
+    match reply {
+        Some(Reply::ReadBytes { bytes }) => bytes.as_slice() == [0xaa].as_slice(),
+        _ => false,
+    }
 }
 
 #[test]
