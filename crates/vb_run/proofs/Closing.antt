@@ -1,0 +1,90 @@
+-- From what the locks kept to the report.
+use Rattle.std.proofs.Common.{◌≡◌, refl, sym, ◌∙◌, ap, subst, ℕ, zero, suc, ◌<◌, Bool, true, false}
+use Rattle.std.proofs.Common.{List, [], ◌∷◌, length, Some, None, slice_get, arith, All}
+use Rattle.std.specs.Prelude.{slice_index_or}
+use Rattle.std.specs.declared.vec.Vec.{Vec}
+use Rattle.std.specs.declared.alloc.Global.{Global}
+use Rattle.std.proofs.lemmas.Option.{slice_get_within}
+use Rattle.vb_model.specs.declared.calls.Actor.TheVariants.{Processor, Balancer}
+use Rattle.vb_model.specs.declared.calls.Call.{Call}
+use Rattle.vb_model.specs.declared.replies.Reply.{Reply}
+use Rattle.vb_model.specs.Guest.{Guest, fresh}
+use Rattle.vb_model.specs.GuestRun.{Entry, IsHistory}
+use Rattle.vb_ram.specs.declared.config.Config.{Config as Sizes}
+use Rattle.vb_run.specs.declared.plan.Plan.{Plan}
+use Rattle.vb_run.specs.declared.plan.GuestPlan.{GuestPlan}
+use Rattle.vb_run.specs.declared.report.GuestReport.{GuestReport}
+use Rattle.vb_run.specs.declared.report.Report.{Report}
+use Rattle.vb_run.specs.Entries.{actor_of, calls_by, replies_by, entries_by}
+use Rattle.vb_run.specs.Plans.{config_of}
+use Rattle.vb_run.specs.Services.{services, IsQuiet}
+use Rattle.vb_run.specs.Past.{Past, IsKept, IsOwn, AreScripts, AllEnded}
+use Rattle.vb_run.specs.Rounds.{Rounded, round_entries}
+use Rattle.vb_run.specs.Reports.{IsGuestReport, IsReport, IsRound, AreApart, frames_behind}
+use Rattle.vb_run.proofs.Lists.{take_whole}
+use Rattle.vb_run.proofs.Tended.{served}
+
+none_some : {Y : Type 0} (y : Y) → None ≡ Some y → ⊥
+none_some y h = cc
+
+there : {X Y : Type 0} (xs : List X) (ys : List Y) (i : ℕ) (y : Y) → length xs ≡ length ys
+    → slice_get ys i ≡ Some y → (x : X) × (slice_get xs i ≡ Some x)
+there [] [] i y l h = absurd (none_some y h)
+there [] (b ∷ ys) i y l h = absurd (omega (arith, l))
+there (a ∷ xs) [] i y l h = absurd (omega (arith, l))
+there (a ∷ xs) (b ∷ ys) zero y l h = (a, refl)
+there (a ∷ xs) (b ∷ ys) (suc i) y l h = there xs ys i y (omega (arith, l)) h
+
+few_services : (n : ℕ) (call : Call) → slice_get services n ≡ Some call → n < 9
+few_services n call at = slice_get_within services n call at
+
+pub closes : (Is : Guest → Type 0) (own : List ℕ) (p : Past) (floor guest : ℕ) (plan : GuestPlan)
+    (rounds : List Rounded) (report : GuestReport) (k : IsKept Is own p) → p.guest ≡ guest
+    → p.sizes ≡ plan.config
+    → ((n : ℕ) → n < 9 → slice_index_or p.quiet n false ≡ true)
+    → AreScripts p.scripts plan.scripts.items → AllEnded p.scripts
+    → entries_by Balancer p.history ≡ round_entries floor guest rounds
+    → report.history.items ≡ p.history
+    → length report.replies.items ≡ length plan.scripts.items
+    → ((cpu : ℕ) (replies : Vec Reply Global) → slice_get report.replies.items cpu ≡ Some replies
+    → replies.items ≡ replies_by (Processor guest cpu) p.history)
+    → ((g : Guest) → Is g → report.frames.items ≡ frames_behind g)
+    → IsGuestReport floor guest plan rounds report
+closes Is own p floor guest plan rounds report k is sizes quiet scripts ended balanced history
+    count replies frames = record {
+      paced = k.paced;
+      last = k.now;
+      run = rw history (subst (λ (s : Sizes). IsHistory (config_of s k.paced) 0 p.history k.now) sizes
+          k.run);
+      begins = rw history k.begins;
+      scripts = count;
+      plays = λ cpu calls got here answers.
+          let s = there p.scripts plan.scripts.items cpu calls scripts.0 here in (
+            ap (calls_by (Processor guest cpu)) history
+                ∙ ap (λ (g : ℕ). calls_by (Processor g cpu) p.history) (sym is)
+                ∙ k.follows cpu s.0 s.1
+                ∙ take_whole s.0.calls s.0.place (ended cpu s.0 s.1)
+                ∙ scripts.1 cpu s.0 calls s.1 here,
+            ap (replies_by (Processor guest cpu)) history ∙ sym (replies cpu got answers),
+          );
+      owned = rw (history, sym is, sym scripts.0) k.owned;
+      balanced = rw history balanced;
+      served = served k.now k.tended
+          (λ n call at. k.hushed n call (quiet n (few_services n call at)) at);
+      frames = frames k.now k.stands;
+    }
+
+pub reported : (plan : Plan) (report : Report) (gs : List GuestPlan) (rs ms : List Rounded)
+    → gs ≡ plan.guests.items → rs ≡ report.rounds.items → ms ≡ report.rounds.items
+    → length report.guests.items ≡ length gs
+    → ((g : ℕ) (r : GuestReport) (p : GuestPlan) → slice_get report.guests.items g ≡ Some r
+    → slice_get gs g ≡ Some p → IsGuestReport plan.floor g p rs r)
+    → AreApart report.guests.items → length report.rounds.items ≡ plan.rounds
+    → All (IsRound plan) ms → IsReport plan report
+reported plan report gs rs ms e f h len each apart count all = record {
+  guests = len ∙ ap length e;
+  each = rw (sym e, sym f) each;
+  apart = apart;
+  rounds = count;
+  answers = rw (sym h) all;
+}

@@ -1,0 +1,74 @@
+-- Numbers that rise stand once each, in whatever order.
+use Rattle.std.proofs.Common.{◌≡◌, refl, sym, ◌∙◌, ap, subst, ℕ, zero, suc, ◌+◌, ◌<◌, ◌≤◌, Bool, true}
+use Rattle.std.proofs.Common.{false, List, [], ◌∷◌, ◌++◌, length, take, arith, add-one, take-suc, get_or}
+use Rattle.std.specs.Prelude.{slice_index_or, count_by, ◌==◌, sum_by}
+use Rattle.std.proofs.lemmas.Bool.Decides.{nat_tests}
+use Rattle.std.specs.List.Sorted.{IsPermutation}
+use Rattle.std.proofs.lemmas.List.Sorted.{sum_by-IsPermutation}
+use Rattle.std.proofs.lemmas.List.Sums.{sum_by_push, sum_by-cons}
+use Rattle.vb_model.specs.Tests.{times, one_if}
+use Rattle.vb_model.proofs.Tables.{count_by-cons, count_by-append}
+use Rattle.vb_run.specs.declared.report.GuestReport.{GuestReport}
+use Rattle.vb_run.specs.Reports.{AreApart}
+use Rattle.vb_run.specs.Rising.{IsRising}
+
+rising_tail : (x : ℕ) (xs : List ℕ) → IsRising (x ∷ xs) → IsRising xs
+rising_tail x xs r i within = r (suc i) (omega (arith, within))
+
+-- all that follow are above the first
+above : (x : ℕ) (xs : List ℕ) → IsRising (x ∷ xs) → (n : ℕ) → n ≤ x → times n xs ≡ 0
+above x [] r n le = refl
+above x (y ∷ ys) r n le =
+    let more : x < y = r 0 (omega arith) in
+    let other : (y == n) ≡ false = grind (arith, nat_tests, more, le) in
+    rw other (above y ys (rising_tail x (y ∷ ys) r) n (omega (arith, more, le)))
+
+pub rising_once : (xs : List ℕ) → IsRising xs → (n : ℕ) → times n xs ≤ 1
+rising_once [] r n = omega arith
+rising_once (x ∷ xs) r n = cases (x == n) refl (rising_once xs (rising_tail x xs r) n)
+  where
+    split : times n (x ∷ xs) ≡ one_if (x == n) + times n xs
+    split = count_by-cons (λ m. m == n) x xs
+
+    cases : (b : Bool) → (x == n) ≡ b → times n xs ≤ 1 → times n (x ∷ xs) ≤ 1
+    cases true e less =
+        let same : x ≡ n = grind (arith, nat_tests, e) in
+        let none : times n xs ≡ 0 = above x xs r n (omega (arith, same)) in
+        let one : one_if (x == n) ≡ 1 = ap one_if e in
+        omega (arith, split, none, one)
+    cases false e less =
+        let zero_of : one_if (x == n) ≡ 0 = ap one_if e in
+        omega (arith, split, less, zero_of)
+
+times_sum : (n : ℕ) (xs : List ℕ) → times n xs ≡ sum_by (λ m. one_if (m == n)) xs
+times_sum n [] = refl
+times_sum n (x ∷ xs) =
+    count_by-cons (λ m. m == n) x xs ∙ ap (λ (k : ℕ). one_if (x == n) + k) (times_sum n xs)
+    ∙ sym (sum_by-cons (λ m. one_if (m == n)) x xs)
+
+-- the order doesn't matter
+pub times_permuted : (n : ℕ) (xs ys : List ℕ) → IsPermutation xs ys → times n ys ≡ times n xs
+times_permuted n xs ys p =
+    times_sum n ys ∙ sum_by-IsPermutation (λ m. one_if (m == n)) xs ys p ∙ sym (times_sum n xs)
+
+pub times_append : (n : ℕ) (xs ys : List ℕ) → times n (xs ++ ys) ≡ times n xs + times n ys
+times_append n xs ys = count_by-append (λ m. m == n) xs ys
+
+-- the frames of one guest more
+pub frames_next : (frame : ℕ) (rs : List GuestReport) (i : ℕ) (d : GuestReport) (all : List ℕ)
+    → i < length rs → times frame all ≡ sum_by (λ r. times frame r.frames.items) (take i rs)
+    → times frame (all ++ (get_or rs i d).frames.items)
+    ≡ sum_by (λ r. times frame r.frames.items) (take (i + 1) rs)
+frames_next frame rs i d all within so_far =
+    times_append frame all (get_or rs i d).frames.items
+    ∙ ap (λ k. k + times frame (get_or rs i d).frames.items) so_far
+    ∙ sym (sum_by_push (λ r. times frame r.frames.items) (take i rs) (get_or rs i d))
+    ∙ sym (ap (sum_by (λ r. times frame r.frames.items))
+    (ap (λ k. take k rs) (add-one i) ∙ take-suc rs i d within))
+
+pub apart : (reports : List GuestReport) (all sorted : List ℕ)
+    → ((frame : ℕ) → times frame all ≡ sum_by (λ r. times frame r.frames.items) reports)
+    → IsPermutation all sorted → IsRising sorted → AreApart reports
+apart reports all sorted gathered p rising frame =
+    rw (sym (gathered frame), sym (times_permuted frame all sorted p))
+    (rising_once sorted rising frame)

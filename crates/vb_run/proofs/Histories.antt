@@ -1,0 +1,147 @@
+-- One entry more in a guest's history.
+use Rattle.std.proofs.Common.{◌≡◌, refl, sym, ◌∙◌, ap, subst, ℕ, ◌+◌, Bool, true, false, List, []}
+use Rattle.std.proofs.Common.{◌∷◌, ◌++◌, length, take, Some, slice_get, slice_set, arith, ◌≢◌, ⊎_elim}
+use Rattle.std.proofs.Common.{All}
+use Rattle.std.specs.Prelude.{slice_index_or, filter, filter_map, ⊤}
+use Rattle.std.proofs.lemmas.Option.{slice_get_within}
+use Rattle.std.proofs.lemmas.Bool.Decides.{nat_tests}
+use Rattle.std.proofs.lemmas.List.{append-nil}
+use Rattle.std.proofs.lemmas.List.Elements.{All-push, filter-append, filter_map-append}
+use Rattle.vb_model.specs.declared.calls.Actor.{Actor}
+use Rattle.vb_model.specs.declared.calls.Actor.TheVariants.{Starter, Processor, Worker, Balancer}
+use Rattle.vb_model.specs.declared.calls.Call.{Call}
+use Rattle.vb_model.specs.declared.calls.Claim.{Claim}
+use Rattle.vb_model.specs.declared.replies.Reply.{Reply}
+use Rattle.vb_model.specs.Guest.{Guest, fresh}
+use Rattle.vb_model.specs.GuestRun.{Entry, Called, Looked, EntryStep, GuestRun}
+use Rattle.vb_slot.specs.Alone.{AreBehind}
+use Rattle.vb_run.specs.Entries.{is_same, actor_of, call_of, entries_by, calls_by}
+use Rattle.vb_run.specs.Plans.{config_of}
+use Rattle.vb_run.specs.Services.{IsTended, IsQuiet, services}
+use Rattle.vb_run.specs.Past.{Past, Progress, IsKept, Begins, Follows, IsOwn, IsAside, IsScript}
+use Rattle.vb_run.proofs.Lists.{get_set, length_set, take_next}
+
+pub run_push : (a b c : Guest) (entries : List Entry) (e : Entry) → GuestRun a entries b
+    → EntryStep b e c → GuestRun a (entries ++ e ∷ []) c
+run_push a b c [] e r s = (c, subst (λ (g : Guest). EntryStep g e c) r s, refl)
+run_push a b c (x ∷ entries) e r s = (r.0, r.1, run_push r.0 b c entries e r.2 s)
+
+-- an entry of somebody else is none of the actor's
+pub entries_other : (a : Actor) (entries : List Entry) (e : Entry)
+    → is_same a (actor_of e) ≡ false → entries_by a (entries ++ e ∷ []) ≡ entries_by a entries
+entries_other a entries e h =
+    filter-append (λ x. is_same a (actor_of x)) entries (e ∷ [])
+    ∙ (rw h (append-nil (entries_by a entries)))
+
+pub entries_own : (a : Actor) (entries : List Entry) (e : Entry)
+    → is_same a (actor_of e) ≡ true
+    → entries_by a (entries ++ e ∷ []) ≡ entries_by a entries ++ e ∷ []
+entries_own a entries e h =
+    filter-append (λ x. is_same a (actor_of x)) entries (e ∷ []) ∙ (rw h refl)
+
+pub calls_other : (a : Actor) (entries : List Entry) (e : Entry)
+    → is_same a (actor_of e) ≡ false → calls_by a (entries ++ e ∷ []) ≡ calls_by a entries
+calls_other a entries e h = ap (filter_map call_of) (entries_other a entries e h)
+
+pub calls_own : (a : Actor) (entries : List Entry) (call : Call) (claims : List Claim)
+    (reply : Reply) (b : Actor) → is_same a b ≡ true
+    → calls_by a (entries ++ Called b call claims reply ∷ []) ≡ calls_by a entries ++ call ∷ []
+calls_own a entries call claims reply b h =
+    ap (filter_map call_of) (entries_own a entries (Called b call claims reply) h)
+    ∙ filter_map-append call_of (entries_by a entries) (Called b call claims reply ∷ [])
+
+pub begins_push : (entries : List Entry) (e : Entry) → Begins entries → Begins (entries ++ e ∷ [])
+begins_push entries e (claims, reply, rest, h) =
+    (claims, reply, rest ++ e ∷ [], ap (λ l. l ++ e ∷ []) h)
+
+pub aside_other : (a : Actor) (guest cpu : ℕ) → IsAside a → is_same (Processor guest cpu) a ≡ false
+aside_other Starter guest cpu h = refl
+aside_other (Processor g c) guest cpu h = absurd h
+aside_other (Worker g) guest cpu h = refl
+aside_other Balancer guest cpu h = refl
+
+-- an entry of none of the processors
+pub kept_aside : (Is Is' : Guest → Type 0) (own own' : List ℕ) (p : Past) (e : Entry) (new : Guest)
+    (quiet : List Bool) (k : IsKept Is own p) → IsAside (actor_of e)
+    → IsOwn p.guest (length p.scripts) (actor_of e) → Is' new → AreBehind own' new
+    → EntryStep k.now e new → IsTended new
+    → ((n : ℕ) (call : Call) → slice_index_or quiet n false ≡ true
+    → slice_get services n ≡ Some call → IsQuiet new call)
+    → IsKept Is' own' (record p { history = p.history ++ e ∷ []; quiet = quiet })
+kept_aside Is Is' own own' p e new quiet k aside mine stands behind step tended hushed = record {
+  paced = k.paced;
+  now = new;
+  stands = stands;
+  run = run_push (fresh (config_of p.sizes k.paced) 0) k.now new p.history e k.run step;
+  tended = tended;
+  behind = behind;
+  begins = begins_push p.history e k.begins;
+  follows = λ cpu s at.
+      calls_other (Processor p.guest cpu) p.history e (aside_other (actor_of e) p.guest cpu aside)
+      ∙ k.follows cpu s at;
+  owned = All-push (λ x. IsOwn p.guest (length p.scripts) (actor_of x)) p.history e k.owned mine;
+  hushed = hushed;
+  scripted = k.scripted;
+}
+
+is_own : (g c : ℕ) → is_same (Processor g c) (Processor g c) ≡ true
+is_own g c = grind (arith, nat_tests)
+
+is_not : (g c d : ℕ) → c ≢ d → is_same (Processor g c) (Processor g d) ≡ false
+is_not g c d h = grind (arith, nat_tests)
+
+-- the next call of a processor
+pub kept_next : (Is Is' : Guest → Type 0) (own own' : List ℕ) (p : Past) (cpu : ℕ) (s : Progress)
+    (call : Call) (claims : List Claim) (reply : Reply) (new : Guest)
+    (quiet : List Bool) (k : IsKept Is own p) → slice_get p.scripts cpu ≡ Some s
+    → slice_get s.calls s.place ≡ Some call → Is' new → AreBehind own' new
+    → EntryStep k.now (Called (Processor p.guest cpu) call claims reply) new → IsTended new
+    → ((n : ℕ) (call : Call) → slice_index_or quiet n false ≡ true
+    → slice_get services n ≡ Some call → IsQuiet new call)
+    → IsKept Is' own' (record p {
+      history = p.history ++ Called (Processor p.guest cpu) call claims reply ∷ [];
+      scripts = slice_set p.scripts cpu (record s { place = s.place + 1 });
+      quiet = quiet;
+    })
+kept_next Is Is' own own' p cpu s call claims reply new quiet k here next stands behind step
+    tended hushed = record {
+      paced = k.paced;
+      now = new;
+      stands = stands;
+      run = run_push (fresh (config_of p.sizes k.paced) 0) k.now new p.history e k.run step;
+      tended = tended;
+      behind = behind;
+      begins = begins_push p.history e k.begins;
+      follows = λ cpu' s' at. ⊎_elim (λ same. own_follows cpu' s' same.0 same.1)
+          (λ other.
+          calls_other (Processor p.guest cpu') p.history e (is_not p.guest cpu' cpu other.0)
+          ∙ k.follows cpu' s' other.1)
+          (get_set p.scripts cpu cpu' after s' at);
+      owned = subst (λ (n : ℕ). All (λ x. IsOwn p.guest n (actor_of x)) (p.history ++ e ∷ []))
+          (sym (length_set p.scripts cpu after))
+          (All-push (λ x. IsOwn p.guest (length p.scripts) (actor_of x)) p.history e k.owned
+          (refl, slice_get_within p.scripts cpu s here));
+      hushed = hushed;
+      scripted = λ cpu' s' at. ⊎_elim (λ same. own_scripted cpu' s' same.0 same.1)
+          (λ other. k.scripted cpu' s' other.1)
+          (get_set p.scripts cpu cpu' after s' at);
+    }
+  where
+    e : Entry
+    e = Called (Processor p.guest cpu) call claims reply
+
+    after : Progress
+    after = record s { place = s.place + 1 }
+
+    own_follows : (cpu' : ℕ) (s' : Progress) → cpu' ≡ cpu → s' ≡ after
+        → calls_by (Processor p.guest cpu') (p.history ++ e ∷ []) ≡ take s'.place s'.calls
+    own_follows cpu' s' same is =
+        ap (λ (c : ℕ). calls_by (Processor p.guest c) (p.history ++ e ∷ [])) same
+        ∙ calls_own (Processor p.guest cpu) p.history call claims reply (Processor p.guest cpu)
+        (is_own p.guest cpu)
+        ∙ ap (λ l. l ++ call ∷ []) (k.follows cpu s here)
+        ∙ sym (take_next s.calls s.place call next)
+        ∙ ap (λ (t : Progress). take t.place t.calls) (sym is)
+
+    own_scripted : (cpu' : ℕ) (s' : Progress) → cpu' ≡ cpu → s' ≡ after → IsScript cpu' s'.calls
+    own_scripted cpu' s' same is = rw (same, is) (k.scripted cpu s here)

@@ -1,0 +1,148 @@
+-- What a call or a look leaves behind a guest's lock.
+use Rattle.std.proofs.Common.{◌≡◌, refl, sym, ◌∙◌, ap, subst, ℕ, zero, suc, ◌+◌, ◌<◌, Bool, true}
+use Rattle.std.proofs.Common.{false, List, [], ◌∷◌, ◌++◌, length, Some, slice_get, slice_set, ⊎_elim}
+use Rattle.std.proofs.Common.{All, ◌≢◌, ◌⊎◌, inl, inr, arith}
+use Rattle.std.proofs.Common.{take}
+use Rattle.std.specs.Prelude.{slice_index_or, ⊤}
+use Rattle.std.proofs.lemmas.List.Elements.{All-push}
+use Rattle.vb_model.specs.declared.calls.Actor.{Actor}
+use Rattle.vb_model.specs.declared.calls.Actor.TheVariants.{Starter, Processor, Worker, Balancer}
+use Rattle.vb_model.specs.declared.calls.Call.{Call}
+use Rattle.vb_model.specs.declared.calls.Call.TheVariants.{Init}
+use Rattle.vb_model.specs.declared.calls.Claim.{Claim}
+use Rattle.vb_model.specs.declared.replies.Reply.{Reply}
+use Rattle.vb_model.specs.Limits.{is_config}
+use Rattle.vb_model.specs.Guest.{Guest, fresh}
+use Rattle.vb_model.specs.Balance.{spare}
+use Rattle.vb_model.specs.Step.{HonestStep}
+use Rattle.vb_model.specs.GuestRun.{Entry, Called, Looked, EntryStep, GuestRun}
+use Rattle.vb_ram.specs.declared.config.Config.{Config as Sizes}
+use Rattle.vb_slot.specs.Alone.{AreBehind, StepsTo}
+use Rattle.vb_run.specs.Entries.{is_same, actor_of, calls_by}
+use Rattle.vb_run.specs.Plans.{config_of, is_plain, may_stand}
+use Rattle.vb_run.specs.Services.{IsTended, IsQuiet, services, found_nothing, default_features}
+use Rattle.vb_run.specs.Past.{Past, Progress, IsKept, IsOwn, IsAside, IsScript, AreBegun}
+use Rattle.vb_run.proofs.Tended.{plain_entry, service_plain, is_quiet, started, stands_plain}
+use Rattle.vb_run.proofs.Lists.{passes_at, some_same}
+use Rattle.vb_run.proofs.Histories.{kept_aside, kept_next}
+
+-- nothing is known of the worker's calls
+abbrev pub unknown : List Bool
+unknown = false ∷ false ∷ false ∷ false ∷ false ∷ false ∷ false ∷ false ∷ false ∷ []
+
+not_known : (n : ℕ) → slice_index_or unknown n false ≡ true → ⊥
+not_known zero h = cc
+not_known (suc zero) h = cc
+not_known (suc (suc zero)) h = cc
+not_known (suc (suc (suc zero))) h = cc
+not_known (suc (suc (suc (suc zero)))) h = cc
+not_known (suc (suc (suc (suc (suc zero))))) h = cc
+not_known (suc (suc (suc (suc (suc (suc zero)))))) h = cc
+not_known (suc (suc (suc (suc (suc (suc (suc zero))))))) h = cc
+not_known (suc (suc (suc (suc (suc (suc (suc (suc zero)))))))) h = cc
+not_known (suc (suc (suc (suc (suc (suc (suc (suc (suc n))))))))) h = cc
+
+pub call_aside : (Is Is' : Guest → Type 0) (own own' : List ℕ) (p : Past) (actor : Actor)
+    (call : Call) (claims : List Claim) (reply : Reply) (k : IsKept Is own p) → IsAside actor
+    → IsOwn p.guest (length p.scripts) actor → is_plain call ≡ true
+    → StepsTo Is' claims k.now call reply → ((g : Guest) → Is' g → AreBehind own' g)
+    → IsKept Is' own' (record p {
+      history = p.history ++ Called actor call claims reply ∷ [];
+      quiet = unknown;
+    })
+call_aside Is Is' own own' p actor call claims reply k aside mine plain s behind =
+    let (step, tended, honest) = plain_entry k.now actor call claims reply s.new k.tended plain s.step in
+    kept_aside Is Is' own own' p (Called actor call claims reply) s.new unknown k aside mine
+    s.stands (behind s.new s.stands) step tended (λ n c known at. absurd (not_known n known))
+
+pub call_next : (Is Is' : Guest → Type 0) (own own' : List ℕ) (p : Past) (cpu : ℕ) (t : Progress)
+    (call : Call) (claims : List Claim) (reply : Reply) (k : IsKept Is own p)
+    → slice_get p.scripts cpu ≡ Some t → slice_get t.calls t.place ≡ Some call
+    → StepsTo Is' claims k.now call reply → ((g : Guest) → Is' g → AreBehind own' g)
+    → IsKept Is' own' (record p {
+      history = p.history ++ Called (Processor p.guest cpu) call claims reply ∷ [];
+      scripts = slice_set p.scripts cpu (record t { place = t.place + 1 });
+      quiet = unknown;
+    })
+call_next Is Is' own own' p cpu t call claims reply k here next s behind =
+    let plain = stands_plain cpu call
+    (passes_at (may_stand cpu) t.calls t.place call next (k.scripted cpu t here)) in
+    let (step, tended, honest) = plain_entry k.now (Processor p.guest cpu) call claims reply s.new
+    k.tended plain s.step in
+    kept_next Is Is' own own' p cpu t call claims reply s.new unknown k here next s.stands
+    (behind s.new s.stands) step tended (λ n c known at. absurd (not_known n known))
+
+pub look_aside : (Is : Guest → Type 0) (own : List ℕ) (p : Past) (floor seen : ℕ)
+    (k : IsKept Is own p) → seen ≡ spare floor k.now
+    → IsKept Is own (record p { history = p.history ++ Looked floor seen ∷ [] })
+look_aside Is own p floor seen k is =
+    kept_aside Is Is own own p (Looked floor seen) k.now p.quiet k tt tt k.stands k.behind
+    (is, refl) k.tended k.hushed
+
+set_at : (xs : List Bool) (i j : ℕ) → slice_index_or (slice_set xs i true) j false ≡ true
+    → (j ≡ i) ⊎ (slice_index_or xs j false ≡ true)
+set_at [] i j h = inr h
+set_at (x ∷ xs) zero zero h = inl refl
+set_at (x ∷ xs) zero (suc j) h = inr h
+set_at (x ∷ xs) (suc i) zero h = inr h
+set_at (x ∷ xs) (suc i) (suc j) h =
+    ⊎_elim (λ e. inl (ap suc e)) (λ e. inr e) (set_at xs i j h)
+
+-- a call of the worker that found nothing to do
+pub served_quiet : (Is Is' : Guest → Type 0) (own own' : List ℕ) (p : Past) (n : ℕ)
+    (call : Call) (claims : List Claim) (reply : Reply) (k : IsKept Is own p)
+    → slice_get services n ≡ Some call → found_nothing reply ≡ true
+    → StepsTo Is' claims k.now call reply → ((g : Guest) → Is' g → AreBehind own' g)
+    → IsKept Is' own' (record p { quiet = slice_set p.quiet n true })
+served_quiet Is Is' own own' p n call claims reply k at nothing s behind =
+    let (step, tended, honest) = plain_entry k.now Balancer call claims reply s.new k.tended
+    (service_plain n call at) s.step in
+    let (quiet, same) = is_quiet k.now n call claims reply s.new at honest nothing in
+    let stands : Is' k.now = subst Is' same s.stands in
+    record {
+      paced = k.paced;
+      now = k.now;
+      stands = stands;
+      run = k.run;
+      tended = k.tended;
+      behind = behind k.now stands;
+      begins = k.begins;
+      follows = k.follows;
+      owned = k.owned;
+      hushed = λ m c known there. ⊎_elim
+          (λ e. subst (IsQuiet k.now)
+          (some_same call c (sym at ∙ ap (slice_get services) (sym e) ∙ there)) quiet)
+          (λ was. k.hushed m c was there) (set_at p.quiet n m known);
+      scripted = k.scripted;
+    }
+
+-- a guest that was just started
+pub kept_start : (Is' : Guest → Type 0) (own' : List ℕ) (guest : ℕ) (sizes : Sizes)
+    (paced : Bool) (scripts : List Progress) (claims : List Claim) (reply : Reply)
+    → is_config sizes.pages sizes.queue_size sizes.processors ≡ true → AreBegun scripts
+    → StepsTo Is' claims (fresh (config_of sizes paced) 0) (Init default_features) reply
+    → ((g : Guest) → Is' g → AreBehind own' g)
+    → IsKept Is' own' (record {
+      guest = guest;
+      sizes = sizes;
+      history = Called Starter (Init default_features) claims reply ∷ [];
+      scripts = scripts;
+      quiet = unknown;
+      short = false;
+    })
+kept_start Is' own' guest sizes paced scripts claims reply fits begun s behind =
+    let (step, tended) = started (config_of sizes paced) claims reply s.new fits s.step in
+    record {
+      paced = paced;
+      now = s.new;
+      stands = s.stands;
+      run = (s.new, step, refl);
+      tended = tended;
+      behind = behind s.new s.stands;
+      begins = (claims, reply, [], refl);
+      follows = λ cpu t at. ap (λ n. take n t.calls) (sym (begun cpu t at).0);
+      owned = All-push (λ e. IsOwn guest (length scripts) (actor_of e)) []
+          (Called Starter (Init default_features) claims reply) (λ k d l. absurd (omega (arith, l))) tt;
+      hushed = λ n c known at. absurd (not_known n known);
+      scripted = λ cpu t at. (begun cpu t at).1;
+    }

@@ -1,0 +1,8 @@
+pub mod Lists
+pub mod Tended
+pub mod Histories
+pub mod Keeping
+pub mod Gathered
+pub mod Distinct
+pub mod Closing
+pub mod Starting

@@ -1,0 +1,7 @@
+use Rattle.std.proofs.Common.{◌≡◌, ◌≤◌, length, take}
+use Rattle.std.specs.Prelude.{vec_capacity, vec_len}
+use Rattle.vb_run.proofs.kept.claims_in.Given as goal
+
+abbrev pub invariant-loop-claim : goal.invariant-loop-claim
+invariant-loop-claim g l =
+    (l.room.items ≡ take l.claim-index l.claims) × (13 ≤ vec_capacity l.room)

@@ -1,0 +1,8 @@
+pub mod Entries
+pub mod Plans
+pub mod Services
+pub mod Past
+pub mod Rounds
+pub mod Reports
+pub mod Rising
+pub mod Starts

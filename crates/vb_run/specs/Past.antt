@@ -1,0 +1,105 @@
+-- What a guest's lock keeps.
+use Rattle.std.specs.Prelude.{◌≡◌, ℕ, ◌<◌, ◌≤◌, Bool, true, false, List, ◌∷◌, length, take, Some}
+use Rattle.std.specs.Prelude.{slice_get, slice_index_or, ⊤, All}
+use Rattle.std.specs.List.{list_all}
+use Rattle.std.specs.declared.vec.Vec.{Vec}
+use Rattle.std.specs.declared.alloc.Global.{Global}
+use Rattle.vb_model.specs.declared.calls.Actor.{Actor}
+use Rattle.vb_model.specs.declared.calls.Actor.TheVariants.{Starter, Processor, Worker, Balancer}
+use Rattle.vb_model.specs.declared.calls.Call.{Call}
+use Rattle.vb_model.specs.declared.calls.Call.TheVariants.{Init}
+use Rattle.vb_model.specs.declared.calls.Claim.{Claim}
+use Rattle.vb_model.specs.declared.replies.Reply.{Reply}
+use Rattle.vb_model.specs.Guest.{Guest}
+use Rattle.vb_model.specs.GuestRun.{Entry, Called, IsHistory}
+use Rattle.vb_slot.specs.Alone.{AreBehind}
+use Rattle.vb_run.specs.Entries.{actor_of, calls_by}
+use Rattle.vb_ram.specs.declared.config.Config.{Config as Sizes}
+use Rattle.vb_run.specs.Plans.{may_stand, config_of}
+use Rattle.vb_run.specs.Services.{IsTended, IsQuiet, services, default_features}
+
+-- a processor's script, and how many of its calls were made
+pub record Progress : Type 0 where
+  pub calls : List Call
+  pub place : ℕ
+
+pub record Past : Type 0 where
+  -- the guest's number, and how large it was plugged in
+  pub guest : ℕ
+  pub sizes : Sizes
+  pub history : List Entry
+  -- the script of each processor
+  pub scripts : List Progress
+  -- of each call of the worker, whether it is known to find nothing to do
+  pub quiet : List Bool
+  -- some growth was refused
+  pub short : Bool
+
+-- the first entry is the starter's initialisation, with the features that a driver wants by itself
+abbrev pub Begins : List Entry → Type 0
+Begins entries =
+    (claims : List Claim) × (reply : Reply) × (rest : List Entry)
+    × (entries ≡ Called Starter (Init default_features) claims reply ∷ rest)
+
+-- what each processor called is its script up to its place
+abbrev pub Follows : Past → Type 0
+Follows p =
+    (cpu : ℕ) (s : Progress) → slice_get p.scripts cpu ≡ Some s
+    → calls_by (Processor p.guest cpu) p.history ≡ take s.place s.calls
+
+-- an actor of this guest
+abbrev pub IsOwn : ℕ → ℕ → Actor → Type 0
+IsOwn guest processors Starter = ⊤
+IsOwn guest processors (Processor g cpu) = (g ≡ guest) × (cpu < processors)
+IsOwn guest processors (Worker g) = g ≡ guest
+IsOwn guest processors Balancer = ⊤
+
+-- the processor's script has only calls that may stand there
+abbrev pub IsScript : ℕ → List Call → Type 0
+IsScript cpu calls = list_all (may_stand cpu) calls ≡ true
+
+-- The history is a run from plug on that ends in the guest that is there, each processor called its
+-- script up to its place, and the frames behind the guest's pages are just its device's own.
+pub record IsKept (Is : Guest → Type 0) (own : List ℕ) (p : Past) : Type 0 where
+  pub paced : Bool
+  pub now : Guest
+  pub stands : Is now
+  pub run : IsHistory (config_of p.sizes paced) 0 p.history now
+  pub tended : IsTended now
+  pub behind : AreBehind own now
+  pub begins : Begins p.history
+  pub follows : Follows p
+  pub owned : All (λ e. IsOwn p.guest (length p.scripts) (actor_of e)) p.history
+  pub hushed : (n : ℕ) (call : Call) → slice_index_or p.quiet n false ≡ true → slice_get services n ≡ Some call
+      → IsQuiet now call
+  pub scripted : (cpu : ℕ) (s : Progress) → slice_get p.scripts cpu ≡ Some s → IsScript cpu s.calls
+
+-- not a processor
+abbrev pub IsAside : Actor → Type 0
+IsAside Starter = ⊤
+IsAside (Processor guest cpu) = ⊥
+IsAside (Worker guest) = ⊤
+IsAside Balancer = ⊤
+
+-- the same guest with the same scripts
+pub record IsSame (old new : Past) : Type 0 where
+  pub guest : new.guest ≡ old.guest
+  pub sizes : new.sizes ≡ old.sizes
+  pub scripts : new.scripts ≡ old.scripts
+
+abbrev pub AllEnded : List Progress → Type 0
+AllEnded scripts =
+    (cpu : ℕ) (s : Progress) → slice_get scripts cpu ≡ Some s → s.place ≡ length s.calls
+
+-- scripts of processors of which no call was made
+abbrev pub AreBegun : List Progress → Type 0
+AreBegun scripts =
+    (cpu : ℕ) (s : Progress) → slice_get scripts cpu ≡ Some s
+    → (s.place ≡ 0) × IsScript cpu s.calls
+
+-- the scripts' calls are these
+abbrev pub AreScripts : List Progress → List (Vec Call Global) → Type 0
+AreScripts scripts calls =
+    (length scripts ≡ length calls)
+    × ((cpu : ℕ) (s : Progress) (own : Vec Call Global) → slice_get scripts cpu ≡ Some s
+    → slice_get calls cpu ≡ Some own → s.calls ≡ own.items)

@@ -1,0 +1,60 @@
+-- What a run answers.
+use Rattle.std.specs.Prelude.{◌≡◌, ◌≢◌, ℕ, ◌≤◌, Bool, true, false, List, [], length, Some, slice_get, map}
+use Rattle.std.specs.Prelude.{filter_map, All, sum_by}
+use Rattle.vb_model.specs.declared.calls.Actor.TheVariants.{Processor, Balancer}
+use Rattle.vb_model.specs.Guest.{Guest}
+use Rattle.vb_model.specs.Tests.{times}
+use Rattle.vb_model.specs.GuestRun.{Entry, IsHistory}
+use Rattle.vb_run.specs.declared.plan.Plan.{Plan}
+use Rattle.vb_run.specs.declared.plan.GuestPlan.{GuestPlan}
+use Rattle.vb_run.specs.declared.report.GuestReport.{GuestReport}
+use Rattle.vb_run.specs.declared.report.Report.{Report}
+use Rattle.vb_run.specs.Plans.{config_of}
+use Rattle.vb_run.specs.Entries.{actor_of, calls_by, replies_by, entries_by}
+use Rattle.vb_run.specs.Past.{Begins, IsOwn}
+use Rattle.vb_run.specs.Services.{IsServed}
+use Rattle.vb_run.specs.Rounds.{Rounded, IsAnswer, round_entries}
+
+-- the frames behind the guest's pages, by rising page
+abbrev pub frames_behind : Guest → List ℕ
+frames_behind g = filter_map (λ frame. frame) g.frames
+
+-- a processor's entries are its script, whole and in order, with these replies
+abbrev pub Plays : ℕ → GuestPlan → GuestReport → Type 0
+Plays guest plan report =
+    (cpu : ℕ) (calls : _) (replies : _) → slice_get plan.scripts.items cpu ≡ Some calls
+    → slice_get report.replies.items cpu ≡ Some replies
+    → (calls_by (Processor guest cpu) report.history.items ≡ calls.items)
+    × (replies_by (Processor guest cpu) report.history.items ≡ replies.items)
+
+pub record IsGuestReport (floor guest : ℕ) (plan : GuestPlan) (rounds : List Rounded)
+    (report : GuestReport) : Type 0 where
+  pub paced : Bool
+  pub last : Guest
+  pub run : IsHistory (config_of plan.config paced) 0 report.history.items last
+  pub begins : Begins report.history.items
+  pub scripts : length report.replies.items ≡ length plan.scripts.items
+  pub plays : Plays guest plan report
+  pub owned : All (λ e. IsOwn guest (length plan.scripts.items) (actor_of e)) report.history.items
+  pub balanced : entries_by Balancer report.history.items ≡ round_entries floor guest rounds
+  pub served : IsServed last
+  pub frames : report.frames.items ≡ frames_behind last
+
+-- a round over all guests of the plan
+pub record IsRound (plan : Plan) (r : Rounded) : Type 0 where
+  pub sizes : map (λ n. n.pages) r.needs ≡ map (λ g. g.config.pages) plan.guests.items
+  pub frames : r.frames ≡ plan.frames
+  pub answer : IsAnswer plan.frames r.needs r.answer
+
+-- no frame stands twice among those of all guests
+abbrev pub AreApart : List GuestReport → Type 0
+AreApart reports = (frame : ℕ) → sum_by (λ r. times frame r.frames.items) reports ≤ 1
+
+pub record IsReport (plan : Plan) (report : Report) : Type 0 where
+  pub guests : length report.guests.items ≡ length plan.guests.items
+  pub each : (g : ℕ) (r : GuestReport) (p : GuestPlan) → slice_get report.guests.items g ≡ Some r
+      → slice_get plan.guests.items g ≡ Some p
+      → IsGuestReport plan.floor g p report.rounds.items r
+  pub apart : AreApart report.guests.items
+  pub rounds : length report.rounds.items ≡ plan.rounds
+  pub answers : All (IsRound plan) report.rounds.items

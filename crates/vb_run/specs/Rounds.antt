@@ -1,0 +1,40 @@
+-- A round of the balancer.
+use Rattle.std.specs.Prelude.{◌≡◌, ℕ, ◌==◌, Bool, List, [], ◌∷◌, ◌++◌, MatchBool, slice_index_or, map}
+use Rattle.vb_model.specs.declared.calls.Actor.TheVariants.{Balancer}
+use Rattle.vb_model.specs.declared.calls.Call.TheVariants.{SetTarget}
+use Rattle.vb_model.specs.declared.replies.Refusal.TheVariants.{Short}
+use Rattle.vb_model.specs.declared.replies.Reply.{Reply}
+use Rattle.vb_model.specs.declared.replies.Reply.TheVariants.{Done, Targets, Refused}
+use Rattle.vb_model.specs.Balance.{Need, AreTargets, shortage, spare_at}
+use Rattle.vb_model.specs.GuestRun.{Entry, Called, Looked}
+
+pub record Rounded : Type 0 where
+  -- the host's frames
+  pub frames : ℕ
+  -- what each guest has, and what was seen of it
+  pub needs : List Need
+  -- the guests' targets, or what stays missing
+  pub answer : Reply
+
+-- what a balance of so many frames answers for these needs
+abbrev pub IsAnswer : ℕ → List Need → Reply → Type 0
+IsAnswer frames needs answer =
+    MatchBool (shortage needs frames == 0)
+    ((targets : List ℕ) × AreTargets needs frames targets × (answer ≡ Targets targets))
+    (answer ≡ Refused (Short (shortage needs frames)))
+
+-- the target that an answer sets for the guest, if it sets any
+abbrev pub target_entries : ℕ → Reply → List Entry
+target_entries guest (Targets targets) =
+    Called Balancer (SetTarget (slice_index_or targets guest 0)) [] Done ∷ []
+target_entries guest answer = []
+
+-- the balancer's entries at a guest in one round
+abbrev pub entries_of_round : ℕ → ℕ → Rounded → List Entry
+entries_of_round floor guest r =
+    Looked floor (spare_at r.needs guest) ∷ target_entries guest r.answer
+
+abbrev pub round_entries : ℕ → ℕ → List Rounded → List Entry
+round_entries floor guest [] = []
+round_entries floor guest (r ∷ rs) =
+    entries_of_round floor guest r ++ round_entries floor guest rs

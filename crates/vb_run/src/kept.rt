@@ -1,0 +1,304 @@
+//! What a guest's lock keeps.
+
+ghost use Rattle.std.specs.Prelude.{◌≡◌, ◌≤◌, ◌<◌, ℕ, Bool, true, false, [], length, slice_get};
+ghost use Rattle.std.specs.Prelude.{slice_index_or, IfOk, OnOk, Some, IfSome, IfNone, vec_capacity};
+ghost use Rattle.vb_model.specs.Guest.{Guest, fresh};
+ghost use Rattle.vb_model.specs.Limits.{is_config};
+ghost use Rattle.vb_run.specs.Past.{Past, IsKept, IsSame, AreBegun};
+ghost use Rattle.vb_run.specs.Plans.{config_of};
+ghost use Rattle.vb_run.specs.Reports.{IsGuestReport, frames_behind};
+
+use crate::audit::{all_replies, expected_of, has_made};
+use crate::entry::{Entry, Step};
+use crate::plan::GuestPlan;
+use crate::report::{GuestReport, Stop};
+use crate::round::Round;
+use crate::script::{Script, all_ended, are_of};
+use crate::served::{DEFAULT_FEATURES, SERVICES, found_nothing, service};
+use std::alloc::{AllocError, Global};
+use std::marker::Model;
+use std::sync::Wait;
+use vb_balance::GuestNeed;
+use vb_guest::MAX_CLAIMS;
+use vb_model::{Actor, Call, Claim, Reply};
+use vb_ram::Config;
+use vb_slot::GuestSlot;
+
+/// A guest with its history, and the scripts of its processors.
+#[derive(Drop)]
+pub(crate) struct Kept<S: GuestSlot> {
+    guest: u32,
+    sizes: Config,
+    slot: S,
+    history: Vec<Entry>,
+    scripts: Vec<Script>,
+    quiet: [bool; SERVICES],
+    short: bool,
+}
+
+impl<S: GuestSlot> Model for Kept<S> {
+    ghost use Rattle.vb_run.specs.Past.{Past, IsKept};
+
+    ghost Value = { Past };
+
+    ghost view = { λ k. record {
+      guest = k.guest;
+      sizes = k.sizes;
+      history = k.history.items;
+      scripts = k.scripts.items;
+      quiet = k.quiet;
+      short = k.short;
+    } };
+
+    ghost invariant = { λ k. IsKept (S.stands k.slot) (S.own k.slot) (record {
+      guest = k.guest;
+      sizes = k.sizes;
+      history = k.history.items;
+      scripts = k.scripts.items;
+      quiet = k.quiet;
+      short = k.short;
+    }) };
+}
+
+/// What the slot's last call was answered for its claims, in this room, or in none if there were none.
+fn claims_in<S: GuestSlot>(alloc: Global, slot: &S, room: Vec<Claim>) -> Vec<Claim>
+    requires empty { room.items ≡ [] }
+    requires room { MAX_CLAIMS ≤ vec_capacity room }
+    ensures { result.items ≡ S.claimed slot.now }
+{
+    let claims = slot.claims();
+    if claims.is_empty() {
+        return Vec::new(alloc);
+    }
+    let mut room = room;
+    for claim in claims {
+        room.push_reserved(*claim);
+    }
+    room
+}
+
+impl<S: GuestSlot> Kept<S> {
+    /// Starts a guest that was just plugged in.
+    pub fn start(
+        alloc: Global,
+        guest: u32,
+        sizes: Config,
+        slot: S,
+        scripts: Vec<Script>,
+    ) -> Result<Kept<S>, AllocError>
+        requires config { is_config sizes.pages sizes.queue_size sizes.processors ≡ true }
+        requires fresh { (paced : Bool) × S.stands slot (fresh (config_of sizes paced) 0) }
+        requires begun { AreBegun scripts.items }
+    {
+        let mut slot = slot;
+        let mut history = Vec::new(alloc);
+        history.reserve(1)?;
+        let room = Vec::with_capacity(alloc, MAX_CLAIMS)?;
+        let call = Call::Init {
+            features: DEFAULT_FEATURES,
+        };
+        let reply = slot.call(alloc, &call);
+        let claims = claims_in(alloc, &slot, room);
+        history.push_reserved(Entry::new(Step::Called {
+            actor: Actor::Starter,
+            call,
+            claims,
+            reply,
+        }));
+        Ok(Kept {
+            guest,
+            sizes,
+            slot,
+            history,
+            scripts,
+            quiet: [false; SERVICES],
+            short: false,
+        })
+    }
+
+    /// Some growth was refused.
+    pub fn mark_short(&mut self)
+        ensures { self.new ≡ record self.old { short = true } }
+    {
+        self.short = true;
+    }
+
+    /// Makes the next call of a processor's script. Refused for want of memory alone: then either
+    /// nothing was done, or the call was made and noted and only its reply isn't given here.
+    pub fn next(&mut self, alloc: Global, cpu: u32) -> Result<Option<Reply>, AllocError> {
+        let Some(script) = self.scripts.get(cpu as usize) else {
+            return Ok(None);
+        };
+        let Some(call) = script.next() else {
+            return Ok(None);
+        };
+        let call = call.copy(alloc)?;
+        self.history.reserve(1)?;
+        let room = Vec::with_capacity(alloc, MAX_CLAIMS)?;
+        let reply = self.slot.call(alloc, &call);
+        let claims = claims_in(alloc, &self.slot, room);
+        let answer = reply.copy(alloc);
+        let actor = Actor::Processor {
+            guest: self.guest,
+            cpu,
+        };
+        self.history.push_reserved(Entry::new(Step::Called {
+            actor,
+            call,
+            claims,
+            reply,
+        }));
+        self.quiet = [false; SERVICES];
+        self.scripts[cpu as usize].advance();
+        answer.map(Some)
+    }
+
+    /// Sets the guest's target, as the balancer.
+    pub fn set_target(&mut self, alloc: Global, pages: u32) -> Result<(), AllocError>
+        ensures same { IsSame self.old self.new }
+    {
+        self.history.reserve(1)?;
+        let room = Vec::with_capacity(alloc, MAX_CLAIMS)?;
+        let call = Call::SetTarget { pages };
+        let reply = self.slot.call(alloc, &call);
+        let claims = claims_in(alloc, &self.slot, room);
+        let actor = Actor::Balancer;
+        self.history.push_reserved(Entry::new(Step::Called {
+            actor,
+            call,
+            claims,
+            reply,
+        }));
+        self.quiet = [false; SERVICES];
+        Ok(())
+    }
+
+    /// Sees how many pages the guest can spare above the floor, as the balancer.
+    pub fn look(&mut self, floor: u32) -> Result<GuestNeed, AllocError>
+        ensures same { IsSame self.old self.new }
+    {
+        self.history.reserve(1)?;
+        let spare = self.slot.spare(floor);
+        self.history
+            .push_reserved(Entry::new(Step::Looked { floor, spare }));
+        Ok(GuestNeed {
+            pages: self.sizes.pages,
+            spare,
+        })
+    }
+
+    /// Makes the worker's call of this number. Where it finds nothing to do, no entry is kept.
+    pub fn serve(&mut self, alloc: Global, number: usize) -> Result<Reply, AllocError>
+        requires { number < SERVICES }
+        ensures same { IsSame self.old self.new }
+    {
+        self.history.reserve(1)?;
+        let room = Vec::with_capacity(alloc, MAX_CLAIMS)?;
+        let call = service(number);
+        let reply = self.slot.call(alloc, &call);
+        if found_nothing(&reply) {
+            self.quiet[number] = true;
+            return Ok(reply);
+        }
+        let claims = claims_in(alloc, &self.slot, room);
+        let answer = reply.copy(alloc);
+        let actor = Actor::Worker { guest: self.guest };
+        self.history.push_reserved(Entry::new(Step::Called {
+            actor,
+            call,
+            claims,
+            reply,
+        }));
+        self.quiet = [false; SERVICES];
+        answer
+    }
+
+    /// A call of the worker that may find something to do.
+    fn next_service(&self) -> Option<usize>
+        ensures some { IfSome result (λ n. n < SERVICES) }
+        ensures none { IfNone result ((n : ℕ) → n < SERVICES → slice_index_or self.now.quiet n false ≡ true) }
+    {
+        for number in 0..SERVICES {
+            if !self.quiet[number] {
+                return Some(number);
+            }
+        }
+        None
+    }
+
+    /// Whether none of the worker's calls finds anything to do.
+    fn is_quiet(&self) -> bool
+        ensures { result ≡ true → (n : ℕ) → n < SERVICES
+            → slice_index_or self.now.quiet n false ≡ true }
+    {
+        self.next_service().is_none()
+    }
+
+    /// Makes the worker's calls until none of them finds anything to do.
+    fn drain<R: Wait>(&mut self, rt: &R, alloc: Global) -> Result<(), AllocError>
+        ensures same { IsSame self.old self.new }
+    {
+        for _ in rt.forever() {
+            let Some(number) = self.next_service() else {
+                break;
+            };
+            self.serve(alloc, number)?;
+        }
+        Ok(())
+    }
+
+    /// Ends the run of a guest: its report, if what its lock kept is the plan's and the rounds'.
+    pub fn close<R: Wait>(
+        self,
+        rt: &R,
+        alloc: Global,
+        guest: u32,
+        plan: &GuestPlan,
+        floor: u32,
+        rounds: &[Round],
+    ) -> Result<GuestReport, Stop>
+        ensures { IfOk result (IsGuestReport floor guest plan.now rounds.now) }
+    {
+        let mut kept = self;
+        kept.drain(rt, alloc)?;
+        if kept.guest != guest || kept.sizes != plan.config || !kept.is_quiet() {
+            return Err(Stop::Audit);
+        }
+        if !are_of(kept.scripts.as_slice(), plan.scripts.as_slice()) {
+            return Err(Stop::Audit);
+        }
+        if kept.short || !all_ended(kept.scripts.as_slice()) {
+            return Err(Stop::Memory);
+        }
+        let expected = expected_of(alloc, floor, guest, rounds)?;
+        if !has_made(kept.history.as_slice(), expected.as_slice()) {
+            return Err(Stop::Audit);
+        }
+        let Ok(count) = u32::try_from(plan.scripts.len()) else {
+            return Err(Stop::Audit);
+        };
+        let replies = all_replies(alloc, kept.history.as_slice(), guest, count)?;
+        let frames = frames_of(alloc, &kept.slot)?;
+        let Kept { history, .. } = kept;
+        Ok(GuestReport {
+            history,
+            replies,
+            frames,
+        })
+    }
+}
+
+/// The numbers of the frames behind the slot's pages, by rising page.
+#[tactic(auto, using(crate::proofs::Gathered::frames_some, crate::proofs::Gathered::frames_none))]
+fn frames_of<S: GuestSlot>(alloc: Global, slot: &S) -> Result<Vec<u32>, AllocError>
+    ensures { IfOk result (λ frames. (g : Guest) → S.stands slot.now g
+        → frames.items ≡ frames_behind g) }
+{
+    let mut frames = Vec::new(alloc);
+    for page in 0..slot.pages() {
+        if let Some(frame) = slot.backing(page) {
+            frames.push(frame)?;
+        }
+    }
+    Ok(frames)
+}

@@ -1,0 +1,28 @@
+//! Guests on threads: a lock, a doorbell and a worker for each guest, and one balancer for all.
+#![tactic(auto)]
+
+mod apart;
+mod audit;
+mod bell;
+mod entry;
+mod gate;
+mod kept;
+mod plan;
+mod ports;
+mod report;
+mod round;
+mod run;
+mod script;
+mod served;
+#[cfg(test)]
+mod tests;
+mod threads;
+
+pub use entry::{Entry, Step};
+pub use gate::{Gate, OpenGate};
+pub use plan::{Bells, GuestPlan, MAX_SCRIPT_CALLS, Plan};
+pub use ports::plug_in;
+pub use report::{GuestReport, Report, RunFault};
+pub use round::Round;
+pub use run::run_threads;
+pub use vb_slot::GuestSlot;

@@ -1,0 +1,167 @@
+//! A processor's script, and its place in it.
+
+ghost use Rattle.std.specs.Prelude.{◌≡◌, ◌+◌, ◌≤◌, ◌<◌, length, slice_get, true, Some, IfSome};
+ghost use Rattle.std.specs.Prelude.{IfNone, IfOk, All};
+ghost use Rattle.vb_run.specs.Past.{Progress, AllEnded, AreScripts};
+
+use std::alloc::{AllocError, Global};
+use std::marker::Model;
+use vb_model::Call;
+
+/// The calls of a processor, and how many of them were made.
+#[derive(Drop)]
+pub(crate) struct Script {
+    calls: Vec<Call>,
+    place: usize,
+}
+
+impl Model for Script {
+    ghost use Rattle.std.specs.Prelude.{◌≤◌, length};
+    ghost use Rattle.vb_run.specs.Past.{Progress};
+
+    ghost Value = { Progress };
+
+    ghost view = { λ s. record { calls = s.calls.items; place = s.place } };
+
+    ghost invariant = { λ s. s.place ≤ length s.calls.items };
+}
+
+impl Script {
+    /// A copy of these calls, of which none was made.
+    pub fn new(alloc: Global, calls: &[Call]) -> Result<Script, AllocError>
+        ensures { IfOk result (λ s. s ≡ record { calls = calls.now; place = 0 }) }
+    {
+        let mut copied = Vec::new(alloc);
+        for call in calls {
+            copied.push(call.copy(alloc)?)?;
+        }
+        Ok(Script {
+            calls: copied,
+            place: 0,
+        })
+    }
+
+    /// The call that is next.
+    pub fn next(&self) -> Option<&Call>
+        ensures some { IfSome result (λ call. (self.now.place < length self.now.calls)
+            × (slice_get self.now.calls self.now.place ≡ Some call.now)) }
+        ensures none { IfNone result (self.now.place ≡ length self.now.calls) }
+    {
+        self.calls.get(self.place)
+    }
+
+    /// The next call was made.
+    pub fn advance(&mut self)
+        requires { self.old.place < length self.old.calls }
+        ensures { self.new ≡ record self.old { place = self.old.place + 1 } }
+    {
+        self.place += 1;
+    }
+
+    /// Whether these are its calls.
+    fn is_of(&self, calls: &[Call]) -> bool
+        ensures { result ≡ true → self.now.calls ≡ calls.now }
+    {
+        are_same(self.calls.as_slice(), calls)
+    }
+
+    /// Whether all calls were made.
+    pub fn is_ended(&self) -> bool
+        ensures { result ≡ true → self.now.place ≡ length self.now.calls }
+    {
+        self.place == self.calls.len()
+    }
+}
+
+/// Whether all calls of all scripts were made.
+pub(crate) fn all_ended(scripts: &[Script]) -> bool
+    ensures { result ≡ true → AllEnded scripts.now }
+{
+    for script in scripts {
+        if !script.is_ended() {
+            return false;
+        }
+    }
+    true
+}
+
+/// Whether the calls of each script are those at its place.
+pub(crate) fn are_of(scripts: &[Script], calls: &[Vec<Call>]) -> bool
+    ensures { result ≡ true → AreScripts scripts.now calls.now }
+{
+    if scripts.len() != calls.len() {
+        return false;
+    }
+    for cpu in 0..scripts.len() {
+        if !scripts[cpu].is_of(calls[cpu].as_slice()) {
+            return false;
+        }
+    }
+    true
+}
+
+fn are_same(calls: &[Call], others: &[Call]) -> bool
+    ensures { result ≡ true → calls.now ≡ others.now }
+{
+    if calls.len() != others.len() {
+        return false;
+    }
+    for place in 0..calls.len() {
+        if !is_same(&calls[place], &others[place]) {
+            return false;
+        }
+    }
+    true
+}
+
+/// Whether the two are one call; where they are of a kind that stands in no script, they aren't.
+fn is_same(call: &Call, other: &Call) -> bool
+    ensures { result ≡ true → call.now ≡ other.now }
+{
+    match (call, other) {
+        (Call::Alloc { cpu: a, order: b }, Call::Alloc { cpu: c, order: d }) => a == c && b == d,
+        (
+            Call::Free {
+                cpu: a,
+                start: b,
+                order: c,
+            },
+            Call::Free {
+                cpu: d,
+                start: e,
+                order: f,
+            },
+        ) => a == d && b == e && c == f,
+        (
+            Call::Read {
+                page: a,
+                offset: b,
+                len: c,
+            },
+            Call::Read {
+                page: d,
+                offset: e,
+                len: f,
+            },
+        ) => a == d && b == e && c == f,
+        (
+            Call::Write {
+                page: a,
+                offset: b,
+                bytes: c,
+            },
+            Call::Write {
+                page: d,
+                offset: e,
+                bytes: f,
+            },
+        ) => a == d && b == e && c.as_slice() == f.as_slice(),
+        (Call::Inflate { pages: a }, Call::Inflate { pages: b }) => a == b,
+        (Call::Deflate { pages: a }, Call::Deflate { pages: b }) => a == b,
+        (Call::Oom { pages: a }, Call::Oom { pages: b }) => a == b,
+        (Call::Report { from: a }, Call::Report { from: b }) => a == b,
+        (Call::Stats, Call::Stats) => true,
+        (Call::Reap { queue: a }, Call::Reap { queue: b }) => a == b,
+        _ => false,
+    }
+}
