@@ -5,6 +5,7 @@ mod gates;
 mod holds;
 mod leased;
 mod plans;
+mod random;
 mod reading;
 mod refused;
 mod rows;
