@@ -73,3 +73,12 @@ passes_at test (y ∷ ys) zero x e h =
     subst (λ (z : _). test z ≡ true) same (and_parts (test y) (list_all test ys) h).0
 passes_at test (y ∷ ys) (suc n) x e h =
     passes_at test ys n x e (and_parts (test y) (list_all test ys) h).1
+
+-- what holds of all of a list holds of its first element, and of all behind it
+pub first_of : {X : Type 0} (P : X → Type 0) (xs : List X) (x : X) (rest : List X)
+    → xs ≡ x ∷ rest → All P xs → P x
+first_of P xs x rest e all = (subst (All P) e all) 0 x (omega arith)
+
+pub rest_of : {X : Type 0} (P : X → Type 0) (xs : List X) (x : X) (rest : List X)
+    → xs ≡ x ∷ rest → All P xs → All P rest
+rest_of P xs x rest e all = λ k d within. (subst (All P) e all) (suc k) d (omega (arith, within))

@@ -21,7 +21,7 @@ mod threads;
 pub use entry::{Entry, Step};
 pub use gate::{Gate, OpenGate};
 pub use plan::{Bells, GuestPlan, MAX_SCRIPT_CALLS, Plan};
-pub use ports::plug_in;
+pub use ports::{add_port, plug_in};
 pub use report::{GuestReport, Report, RunFault};
 pub use round::Round;
 pub use run::run_threads;

@@ -42,10 +42,9 @@ pub(super) struct Hold {
     pub until: Place,
 }
 
-/// A thread was held up: by which hold, and whether it went on before the turns were up.
-#[derive(Clone, Copy, Drop)]
+/// A thread was held up: whether some thread came where it waited for one before the turns were up.
+#[derive(Clone, Copy)]
 struct Note {
-    hold: usize,
     is_met: bool,
 }
 
@@ -59,7 +58,7 @@ pub(super) struct Holding<'a, R> {
     noted: Receiver<Note, Global>,
 }
 
-impl<'a, R: Wait + Sync> Holding<'a, R> {
+impl<'a, R: Wait> Holding<'a, R> {
     pub(super) fn new(
         rt: &'a R,
         alloc: Global,
@@ -69,7 +68,11 @@ impl<'a, R: Wait + Sync> Holding<'a, R> {
         Ok(Holding {
             rt,
             holds,
-            have_come: [const { AtomicBool::new(false) }; MAX_HOLDS],
+            have_come: [
+                AtomicBool::new(false),
+                AtomicBool::new(false),
+                AtomicBool::new(false),
+            ],
             notes,
             noted,
         })
@@ -89,13 +92,7 @@ impl<'a, R: Wait + Sync> Holding<'a, R> {
         for (number, hold) in self.holds.iter().enumerate() {
             if hold.at == place {
                 let is_met = self.wait_for(number);
-                let _ = self.notes.send(
-                    self.rt,
-                    Note {
-                        hold: number,
-                        is_met,
-                    },
-                );
+                let _ = self.notes.send(self.rt, Note { is_met });
             }
         }
     }
@@ -117,14 +114,12 @@ impl<'a, R: Wait + Sync> Holding<'a, R> {
     /// Whether each hold has held one thread up, and none was let go for want of turns. To be asked
     /// once the threads have ended.
     pub(super) fn all_met(&self) -> bool {
-        let mut met = 0;
-        for hold in 0..self.holds.len() {
-            match self.noted.try_recv(self.rt) {
-                Ok(note) if note.is_met => met += 1,
-                _ => {}
-            }
+        let mut all_met = true;
+        for _ in 0..self.holds.len() {
+            let is_met = self.noted.try_recv(self.rt).is_ok_and(|note| note.is_met);
+            all_met = all_met && is_met;
         }
-        met == self.holds.len()
+        all_met
     }
 }
 

@@ -1,15 +1,11 @@
 //! Runs of plans on leased frames.
 
-ghost use Rattle.std.specs.Prelude.{◌≡◌, OnOk};
-ghost use Rattle.vb_run.specs.Starts.{AreFresh};
-
-use crate::{Gate, GuestSlot, Plan, Report, RunFault, plug_in, run_threads};
+use crate::{Gate, Plan, Report, RunFault, add_port, plug_in, run_threads};
 use std::alloc::{AllocError, Global};
 use std::sync::Wait;
 use std::thread::Threads;
-use vb_device::{ImmediateDevice, PacedDevice};
+use vb_device::{Device, ImmediateDevice, PacedDevice};
 use vb_shared::{FramePass, Leased, SharedFrames};
-use vb_slot::LoneSlot;
 
 /// How a guest's device serves requests.
 #[derive(Clone, Copy, PartialEq, Eq)]
@@ -43,33 +39,6 @@ pub(super) struct Ended {
     pub result: Result<Report, RunFault>,
     /// Frames that are out afterwards, over all tables.
     pub out: u32,
-}
-
-/// Plugs the plan's next guest in, on a device with this pass.
-fn plug(
-    alloc: Global,
-    plan: &Plan,
-    ports: &mut Vec<LoneSlot>,
-    pace: Pace,
-    pass: FramePass,
-) -> Result<(), AllocError>
-    requires fresh { AreFresh (⟦<LoneSlot as GuestSlot>⟧.stands) plan.now.guests.items
-        ports.old.items }
-    ensures fresh { OnOk result (AreFresh (⟦<LoneSlot as GuestSlot>⟧.stands) plan.now.guests.items
-        ports.new.items) }
-{
-    match pace {
-        Pace::Immediate => {
-            let device = Leased::new(ImmediateDevice::new(alloc), pass);
-            let device = Box::new(alloc, device)?;
-            plug_in(alloc, plan, ports, device)
-        }
-        Pace::Paced => {
-            let device = Leased::new(PacedDevice::new(alloc), pass);
-            let device = Box::new(alloc, device)?;
-            plug_in(alloc, plan, ports, device)
-        }
-    }
 }
 
 /// A table with a pass for each of so many guests.
@@ -107,7 +76,7 @@ impl Ports {
     }
 }
 
-/// Runs a plan at these ports; beyond those of the plan's guests none is plugged in.
+/// Runs a plan at these ports.
 pub(super) fn run_leased<G: Gate, R: Threads + Wait + Sync>(
     rt: &R,
     alloc: Global,
@@ -115,11 +84,24 @@ pub(super) fn run_leased<G: Gate, R: Threads + Wait + Sync>(
     ports: Ports,
     gate: &G,
 ) -> Result<Ended, AllocError> {
-    let (tables, passes) = ports.open(alloc)?;
-    let mut slots = Vec::new(alloc);
-    for pass in passes {
-        plug(alloc, plan, &mut slots, ports.pace, pass)?;
+    let (tables, mut passes) = ports.open(alloc)?;
+    passes.reverse();
+    let mut devices: Vec<Box<dyn Device + Send>> = Vec::new(alloc);
+    while let Some(pass) = passes.pop() {
+        match ports.pace {
+            Pace::Immediate => {
+                let device = Leased::new(ImmediateDevice::new(alloc), pass);
+                let device = Box::new(alloc, device)?;
+                add_port(&mut devices, device)?;
+            }
+            Pace::Paced => {
+                let device = Leased::new(PacedDevice::new(alloc), pass);
+                let device = Box::new(alloc, device)?;
+                add_port(&mut devices, device)?;
+            }
+        }
     }
+    let slots = plug_in(alloc, plan, devices)?;
     let result = run_threads(rt, alloc, plan, slots, gate);
     let out = tables
         .iter()

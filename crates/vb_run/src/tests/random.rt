@@ -21,9 +21,19 @@ const MAX_CALLS: u32 = 24;
 
 const SEED: u64 = 1;
 
-/// A number below this one.
+/// A number below this one, or 0.
 fn below(numbers: &mut Pcg32, end: u32) -> u32 {
-    numbers.next_u32() % end.max(1)
+    numbers.next_u32().checked_rem(end).unwrap_or(0)
+}
+
+/// One of these.
+fn one_of<T: Copy + Default>(numbers: &mut Pcg32, choices: &[T]) -> T {
+    let place = below(numbers, number(choices.len()));
+    choices.get(place as usize).copied().unwrap_or_default()
+}
+
+fn number(count: usize) -> u32 {
+    u32::try_from(count).unwrap_or(u32::MAX)
 }
 
 /// One of the pages that a call may get hold of, mostly; else any number up to the guest's end.
@@ -39,7 +49,7 @@ fn call(alloc: Global, numbers: &mut Pcg32, cpu: u32, pages: u32) -> Result<Call
     let order = below(numbers, 3);
     let page = page(numbers, pages);
     let offset = below(numbers, 4_100);
-    let count = below(numbers, 9);
+    let count = one_of(numbers, &[1, 2, 3, 4, 8, 9]);
     Ok(match below(numbers, 14) {
         0 | 1 | 2 => Call::Alloc { cpu, order },
         3 => Call::Free {
@@ -50,12 +60,12 @@ fn call(alloc: Global, numbers: &mut Pcg32, cpu: u32, pages: u32) -> Result<Call
         4 | 5 => Call::Write {
             page,
             offset,
-            bytes: Bytes::new(vec![in alloc; count as u8; 1 + count as usize]?),
+            bytes: Bytes::new(vec![in alloc; 0xaa; count as usize]?),
         },
         6 => Call::Read {
             page,
             offset,
-            len: 1 + count,
+            len: count,
         },
         7 | 8 => Call::Inflate { pages: count },
         9 => Call::Deflate { pages: count },
@@ -71,9 +81,9 @@ fn call(alloc: Global, numbers: &mut Pcg32, cpu: u32, pages: u32) -> Result<Call
 /// A guest of random size with random scripts.
 fn guest(alloc: Global, numbers: &mut Pcg32) -> Result<GuestPlan, AllocError> {
     let config = Config {
-        pages: 64 << below(numbers, 2),
-        queue_size: 2 << below(numbers, 4),
-        processors: 1 + below(numbers, 4),
+        pages: one_of(numbers, &[64, 128]),
+        queue_size: one_of(numbers, &[2, 4, 8, 16]),
+        processors: one_of(numbers, &[1, 2, 3, 4]),
     };
     let mut scripts = Vec::new(alloc);
     for cpu in 0..config.processors {
@@ -102,11 +112,10 @@ fn plan(alloc: Global, numbers: &mut Pcg32) -> Result<Plan, AllocError> {
     for _ in 0..=below(numbers, MAX_GUESTS) {
         guests.push(guest(alloc, numbers)?)?;
     }
-    let count = guests.len() as u32;
-    let needed = count.saturating_mul(48);
+    let needed = number(guests.len()).saturating_mul(48);
     Ok(Plan {
         guests,
-        frames: 1 + below(numbers, needed),
+        frames: below(numbers, needed).max(1),
         bells: bells(numbers),
         floor: below(numbers, 32),
         rounds: below(numbers, 6),
@@ -121,7 +130,7 @@ fn run<R: Threads + Wait + Sync>(
     pace: Pace,
 ) -> Result<Ended, AllocError> {
     let ports = Ports {
-        count: plan.guests.len() as u32,
+        count: number(plan.guests.len()),
         pace,
         tables: Tables::Shared,
         frames: plan.frames,
@@ -133,7 +142,7 @@ fn run<R: Threads + Wait + Sync>(
 fn random_plans_replay(rt: HostRuntime) -> Result<(), Fail> {
     let alloc = rt.alloc();
     let mut numbers = Pcg32::new(SEED, 0);
-    for number in 0..PLANS {
+    for turn in 0..PLANS {
         let plan = plan(alloc, &mut numbers)?;
         let pace = if below(&mut numbers, 2) == 0 {
             Pace::Immediate
@@ -143,7 +152,7 @@ fn random_plans_replay(rt: HostRuntime) -> Result<(), Fail> {
         let ended = run(&rt, alloc, &plan, pace)?;
         assert!(rt;
             ended.result.is_ok() && ended.out == 0,
-            "plan {number} is run"
+            "plan {turn} is run"
         );
     }
     Ok(())

@@ -13,22 +13,21 @@ pub(super) fn first_look(report: &Report) -> Option<u32> {
     None
 }
 
-/// How often a target was set at the first guest.
-pub(super) fn targets_set(report: &Report) -> usize {
+/// Whether some target was set at the first guest.
+pub(super) fn sets_a_target(report: &Report) -> bool {
     let Some(guest) = report.guests.first() else {
-        return 0;
+        return false;
     };
-    let mut count = 0;
     for entry in &guest.history {
         if let Step::Called {
             call: Call::SetTarget { .. },
             ..
         } = entry.step()
         {
-            count += 1;
+            return true;
         }
     }
-    count
+    false
 }
 
 /// What the first round answered.

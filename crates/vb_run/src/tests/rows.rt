@@ -2,7 +2,7 @@
 
 use crate::tests::leased::{Ended, Pace, Ports, Tables, run_leased};
 use crate::tests::plans::{Answer, Balances, Guests, Line, SMALL, are};
-use crate::tests::reading::{Balanced, first_look, first_round, targets_set};
+use crate::tests::reading::{Balanced, first_look, first_round, sets_a_target};
 use crate::{Bells, GuestReport, OpenGate, Step};
 use std::alloc::{AllocError, Global};
 use std::sync::Wait;
@@ -186,7 +186,7 @@ fn a_short_round_sets_no_target(rt: HostRuntime) -> Result<(), Fail> {
     let Ok(report) = &ended.result else {
         panic!(rt; "it ends so")
     };
-    assert!(rt; first_look(report) == Some(0) && targets_set(report) == 0);
+    assert!(rt; first_look(report) == Some(0) && !sets_a_target(report));
     assert!(rt; first_round(report) == Some(Balanced::Short(51)));
     Ok(())
 }

@@ -1,0 +1,9 @@
+use Rattle.std.proofs.Common.{All, length}
+use Rattle.vb_slot.specs.Spare.{IsNew}
+use Rattle.vb_run.proofs.tests.leased.run_leased.OwnLists.{own-1}
+use Rattle.vb_run.proofs.tests.leased.run_leased.Given as goal
+
+abbrev pub invariant-loop : goal.invariant-loop
+invariant-loop g l =
+    All (λ d. IsNew ((own-1.entry d.vtable).1.GuestBytes.mem d.value)
+    ((own-1.entry d.vtable).1.GuestBytes.part d.value)) l.devices.items
