@@ -87,7 +87,9 @@ pub(super) fn run_leased<G: Gate, R: Threads + Wait + Sync>(
     let (tables, mut passes) = ports.open(alloc)?;
     passes.reverse();
     let mut devices: Vec<Box<dyn Device + Send>> = Vec::new(alloc);
-    while let Some(pass) = passes.pop() {
+    while let Some(mut pass) = passes.pop() {
+        // A new pass holds nothing; with this call that is known here.
+        pass.give_back_all();
         match ports.pace {
             Pace::Immediate => {
                 let device = Leased::new(ImmediateDevice::new(alloc), pass);

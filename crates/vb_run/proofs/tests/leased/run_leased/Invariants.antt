@@ -3,7 +3,10 @@ use Rattle.vb_slot.specs.Spare.{IsNew}
 use Rattle.vb_run.proofs.tests.leased.run_leased.OwnLists.{own-1}
 use Rattle.vb_run.proofs.tests.leased.run_leased.Given as goal
 
-abbrev pub invariant-loop : goal.invariant-loop
-invariant-loop g l =
+abbrev pub invariant-loop-pass : goal.invariant-loop-pass
+invariant-loop-pass g l =
     All (λ d. IsNew ((own-1.entry d.vtable).1.GuestBytes.mem d.value)
     ((own-1.entry d.vtable).1.GuestBytes.part d.value)) l.devices.items
+
+abbrev pub decreases-loop-pass : goal.decreases-loop-pass
+decreases-loop-pass g l = length l.passes.items
