@@ -1,5 +1,8 @@
 //! Guests on leased frames, run on threads.
 
+mod plain;
+mod replay;
+
 use crate::{Bells, GuestPlan, OpenGate, Plan, Report, plug_in, run_threads};
 use std::alloc::{AllocError, Global};
 use std::process::Abort;
