@@ -3,42 +3,32 @@
 
 mod pages;
 mod requests;
-mod same;
+mod rows;
 
-use crate::{Entry, Step};
-use pages::{PlainBlock, PlainPages};
-use requests::{PlainRequests, Stage};
+use crate::Entry;
+use pages::{Block, Pages};
+use requests::{Requests, Stage};
 use std::alloc::{AllocError, Global};
 use vb_model::layout::{DEFLATE_QUEUE, INFLATE_QUEUE, REPORT_QUEUE, STATISTICS_QUEUE};
 use vb_model::limits::{
     MAX_ORDER, MAX_OUTSTANDING, MAX_REQUEST_PAGES, PAGE_SIZE, RESERVED_PAGES,
     RING_AND_BUFFER_PAGES,
 };
-use vb_model::{Bytes, Call, Claim, Place, Refusal, Reply};
+use vb_model::{Claim, Place, Refusal};
 use vb_ram::Config;
 
-pub(crate) use same::{is_same_call, is_same_reply};
+pub(crate) use rows::{Act, Row, Said, rows_of};
 
 /// The features that a driver accepts by itself.
-pub(crate) const ALL_FEATURES: u64 = 0x1_0000_0027;
+const ALL_FEATURES: u64 = 0x1_0000_0027;
 
 /// The statistics buffer, with how many pages were free as it was filled.
-#[derive(Clone, Copy, PartialEq, Eq)]
+#[derive(Clone, Copy)]
 enum Buffer {
     Missing,
     Posted(u32),
     Taken(u32),
     Used(u32),
-}
-
-/// What the claims of a call come to.
-#[derive(Clone, Copy, PartialEq, Eq)]
-enum Supply {
-    /// Each page that needed a frame has one.
-    Given,
-    Refused(Refusal),
-    /// These aren't the claims of the call.
-    Wrong,
 }
 
 /// A guest of threads: nothing resets it, so no page of it is ever stranded.
@@ -47,18 +37,36 @@ pub(crate) struct PlainGuest {
     config: Config,
     is_paced: bool,
     is_ready: bool,
-    pages: PlainPages,
-    held: Vec<PlainBlock>,
-    requests: PlainRequests,
+    pages: Pages,
+    held: Vec<Block>,
+    requests: Requests,
     buffer: Buffer,
     /// How many pages were free by the last statistics.
     last_free: u32,
     target: u32,
 }
 
-/// Whether a device with so many taken chains of a queue takes no more.
-fn is_most(taken: usize) -> bool {
-    taken >= MAX_OUTSTANDING as usize
+/// Whether requests are made on the queue.
+fn has_requests(queue: u32) -> bool {
+    queue == INFLATE_QUEUE || queue == DEFLATE_QUEUE || queue == REPORT_QUEUE
+}
+
+/// Whether the queue that the call names, if it names one, is there for it.
+fn has_queue(act: Act<'_>) -> bool {
+    match act {
+        Act::Reap(queue) | Act::Finish(queue) => has_requests(queue),
+        Act::Take(queue) => queue == STATISTICS_QUEUE || has_requests(queue),
+        _ => true,
+    }
+}
+
+/// Whether the call is one of the balloon driver or of the device.
+fn is_of_balloon(act: Act<'_>) -> bool {
+    match act {
+        Act::Inflate(_) | Act::Deflate(_) | Act::Oom(_) | Act::Report(_) | Act::Stats => true,
+        Act::Reap(_) | Act::Take(_) | Act::Work | Act::Finish(_) | Act::Ask => true,
+        _ => false,
+    }
 }
 
 /// Where pages are while a request of the queue names them.
@@ -72,19 +80,13 @@ fn place_during(queue: u32) -> Place {
 
 /// Where they go when it is reaped.
 fn place_after(queue: u32) -> Place {
-    if queue == INFLATE_QUEUE {
-        Place::Lent
-    } else {
-        Place::Free
+    match queue {
+        INFLATE_QUEUE => Place::Lent,
+        _ => Place::Free,
     }
 }
 
-/// Whether requests are made on the queue.
-fn has_requests(queue: u32) -> bool {
-    queue == INFLATE_QUEUE || queue == DEFLATE_QUEUE || queue == REPORT_QUEUE
-}
-
-/// What these claims were refused for, if one was: it is the last one then.
+/// What the claims were refused for, if one was: then it is the last one.
 fn refusal_in(claims: &[Claim]) -> Option<Refusal> {
     match claims.last() {
         Some(Claim::GaveNoFrame) => Some(Refusal::NoFrame),
@@ -93,10 +95,8 @@ fn refusal_in(claims: &[Claim]) -> Option<Refusal> {
     }
 }
 
-/// How many of these claims were given a frame.
-fn given_in(claims: &[Claim]) -> usize {
-    let given = claims.iter().filter(|own| matches!(own, Claim::Gave(_)));
-    given.count()
+fn has_frame(claim: Claim) -> bool {
+    matches!(claim, Claim::Gave(_))
 }
 
 impl PlainGuest {
@@ -106,44 +106,25 @@ impl PlainGuest {
             config,
             is_paced,
             is_ready: false,
-            pages: PlainPages::new(alloc, config.pages)?,
+            pages: Pages::new(alloc, config.pages)?,
             held: Vec::new(alloc),
-            requests: PlainRequests::new(alloc),
+            requests: Requests::new(alloc),
             buffer: Buffer::Missing,
             last_free: 0,
             target: 0,
         })
     }
 
-    /// Whether the entry may come next. If so, it has happened.
-    pub fn permits(&mut self, alloc: Global, entry: &Entry) -> Result<bool, AllocError> {
-        match entry.step() {
-            Step::Looked { floor, spare } => Ok(*spare == self.spare(*floor)),
-            Step::Called {
-                call,
-                claims,
-                reply,
-                ..
-            } => self.permits_call(alloc, call, claims.as_slice(), reply),
+    /// Whether the row may come next. If so, it has happened.
+    pub fn permits(&mut self, alloc: Global, row: &Row<'_>) -> Result<bool, AllocError> {
+        let needed = self.needed(alloc, row.act)?;
+        if let Some(refusal) = refusal_in(row.claims) {
+            // None of the frames stays, and nothing has changed.
+            let is_one = row.claims.iter().filter(|claim| !has_frame(**claim)).count() == 1;
+            let are_few = row.claims.len() <= needed.len();
+            return Ok(is_one && are_few && row.said == Said::Refused(refusal));
         }
-    }
-
-    fn permits_call(
-        &mut self,
-        alloc: Global,
-        call: &Call,
-        claims: &[Claim],
-        reply: &Reply,
-    ) -> Result<bool, AllocError> {
-        let needed = self.needed(alloc, call)?;
-        match self.supply(needed.as_slice(), claims) {
-            Supply::Wrong => Ok(false),
-            Supply::Refused(refusal) => Ok(is_same_reply(reply, &Reply::Refused(refusal))),
-            Supply::Given => {
-                let answer = self.answer(alloc, call, reply)?;
-                Ok(answer.is_some_and(|answer| is_same_reply(reply, &answer)))
-            }
-        }
+        Ok(self.supply(needed.as_slice(), row.claims) && self.answer(alloc, row)? == row.said)
     }
 
     /// Whether no request and no statistics buffer waits for the device.
@@ -157,167 +138,129 @@ impl PlainGuest {
         self.pages.frames(alloc)
     }
 
-    /// How many pages it can spare above a floor of free ones.
-    fn spare(&self, floor: u32) -> u32 {
-        let above = self.last_free.saturating_sub(floor);
-        let spare = self.pages.count_ballooned().saturating_add(above);
-        spare.min(self.config.pages.saturating_sub(RESERVED_PAGES))
-    }
-
     // ---- frames
 
     /// The pages for which the call claims frames.
-    fn needed(&self, alloc: Global, call: &Call) -> Result<Vec<u32>, AllocError> {
-        match call {
-            Call::Init { .. } if !self.is_ready => {
-                self.pages.lacking(alloc, 0, RING_AND_BUFFER_PAGES)
+    fn needed(&self, alloc: Global, act: Act<'_>) -> Result<Vec<u32>, AllocError> {
+        let (first, end) = match act {
+            Act::Init(_) if !self.is_ready => (0, RING_AND_BUFFER_PAGES),
+            Act::Write(page, offset, bytes)
+                if !bytes.is_empty() && self.access_refusal(page, offset, bytes.len()).is_none() =>
+            {
+                (page, page.saturating_add(1))
             }
-            Call::Write {
-                page,
-                offset,
-                bytes,
-            } => {
-                let len = bytes.as_slice().len();
-                if len == 0 || self.access_refusal(*page, *offset, len).is_some() {
-                    return Ok(Vec::new(alloc));
-                }
-                self.pages.lacking(alloc, *page, page.saturating_add(1))
-            }
-            _ => Ok(Vec::new(alloc)),
-        }
+            _ => (0, 0),
+        };
+        self.pages.lacking(alloc, first, end)
     }
 
-    /// Gives the pages their frames: one claim for each, in order, up to the first that is refused, and
-    /// then none has changed.
-    fn supply(&mut self, needed: &[u32], claims: &[Claim]) -> Supply {
-        if let Some(refusal) = refusal_in(claims) {
-            let is_first = given_in(claims).saturating_add(1) == claims.len();
-            return if is_first && claims.len() <= needed.len() {
-                Supply::Refused(refusal)
-            } else {
-                Supply::Wrong
-            };
-        }
-        if claims.len() != needed.len() {
-            return Supply::Wrong;
-        }
+    /// Gives each of the pages its frame: whether there was a claim for each.
+    fn supply(&mut self, needed: &[u32], claims: &[Claim]) -> bool {
         for (page, claim) in needed.iter().zip(claims.iter()) {
             if !self.pages.back(*page, *claim) {
-                return Supply::Wrong;
+                return false;
             }
         }
-        Supply::Given
+        claims.len() == needed.len()
     }
 
     // ---- calls
 
-    /// What the call is answered, once it has its frames; none for one that no thread makes.
-    fn answer(
-        &mut self,
-        alloc: Global,
-        call: &Call,
-        reply: &Reply,
-    ) -> Result<Option<Reply>, AllocError> {
-        Ok(Some(match call {
-            Call::Init {
-                features: ALL_FEATURES,
-            } => self.init(),
-            Call::Alloc { cpu, order } => self.alloc(*cpu, *order, reply)?,
-            Call::Free { cpu, start, order } => self.free(*cpu, *start, *order),
-            Call::Read { page, offset, len } => self.read(alloc, *page, *offset, *len, reply)?,
-            Call::Write {
-                page,
-                offset,
-                bytes,
-            } => self.write(*page, *offset, bytes.as_slice())?,
-            Call::Inflate { pages } => self.inflate(alloc, *pages)?,
-            Call::Deflate { pages } => self.deflate(alloc, *pages)?,
-            Call::Oom { pages } => self.oom(alloc, *pages)?,
-            Call::Report { from } => self.report(alloc, *from)?,
-            Call::Stats => self.stats(),
-            Call::Reap { queue } => self.reap(*queue),
-            Call::Take { queue } => self.take(*queue)?,
-            Call::Work => self.work(),
-            Call::Finish { queue, index: 0 } => self.finish(*queue)?,
-            Call::Ask => self.ask(),
-            Call::SetTarget { pages } => self.set_target(*pages),
-            _ => return Ok(None),
-        }))
+    /// Why a call is refused whatever else there is: no block is so wide, there is no such processor or
+    /// queue, or the driver isn't initialised.
+    fn early_refusal(&self, act: Act<'_>) -> Option<Refusal> {
+        match act {
+            Act::Alloc(_, order) | Act::Free(_, _, order) if order > MAX_ORDER => {
+                Some(Refusal::BadOrder)
+            }
+            Act::Alloc(cpu, _) | Act::Free(cpu, _, _) if cpu >= self.config.processors => {
+                Some(Refusal::BadCpu)
+            }
+            _ if !has_queue(act) => Some(Refusal::NoQueue),
+            _ if is_of_balloon(act) && !self.is_ready => Some(Refusal::NotReady),
+            _ => None,
+        }
     }
 
-    fn init(&mut self) -> Reply {
+    /// What the row's call is answered, once it has its frames.
+    fn answer<'a>(&mut self, alloc: Global, row: &Row<'a>) -> Result<Said<'a>, AllocError> {
+        if let Some(refusal) = self.early_refusal(row.act) {
+            return Ok(Said::Refused(refusal));
+        }
+        Ok(match row.act {
+            Act::Init(ALL_FEATURES) => self.init(),
+            Act::Alloc(_, order) => self.alloc(order, row.said)?,
+            Act::Free(_, start, order) => self.free(Block { start, order }),
+            Act::Read(page, offset, len) => self.read(page, offset, len, row.said),
+            Act::Write(page, offset, bytes) => self.write(page, offset, bytes)?,
+            Act::Inflate(pages) => self.inflate(alloc, pages)?,
+            Act::Deflate(pages) => self.deflate(alloc, pages)?,
+            Act::Oom(pages) => self.oom(alloc, pages)?,
+            Act::Report(from) => self.report(alloc, from)?,
+            Act::Stats => self.stats(),
+            Act::Reap(queue) => self.reap(queue),
+            Act::Take(STATISTICS_QUEUE) => self.take_buffer(),
+            Act::Take(queue) => self.take(queue)?,
+            Act::Work => self.work(),
+            Act::Finish(queue) => self.finish(queue)?,
+            Act::Ask => self.ask(),
+            Act::SetTarget(pages) => self.set_target(pages),
+            Act::Look(floor) => self.spare(floor),
+            _ => Said::Other,
+        })
+    }
+
+    fn init(&mut self) -> Said<'static> {
         if self.is_ready {
-            return Reply::Refused(Refusal::AlreadyUp);
+            return Said::Refused(Refusal::AlreadyUp);
         }
         self.is_ready = true;
         self.buffer = Buffer::Posted(self.pages.count_at(Place::Free));
-        Reply::Ready
+        Said::Ready
     }
 
-    fn set_target(&mut self, pages: u32) -> Reply {
+    fn set_target(&mut self, pages: u32) -> Said<'static> {
         self.target = pages;
-        Reply::Done
+        Said::Done
+    }
+
+    /// How many pages it can spare above a floor of free ones.
+    fn spare(&self, floor: u32) -> Said<'static> {
+        let above = self.last_free.saturating_sub(floor);
+        let spare = self.pages.count_ballooned().saturating_add(above);
+        Said::Spare(spare.min(self.config.pages.saturating_sub(RESERVED_PAGES)))
     }
 
     // ---- what runs in the guest
 
-    /// Why the processor gets no block, or has none to give back.
-    fn block_refusal(&self, cpu: u32, order: u32) -> Option<Refusal> {
-        if order > MAX_ORDER {
-            Some(Refusal::BadOrder)
-        } else if cpu >= self.config.processors {
-            Some(Refusal::BadCpu)
-        } else {
-            None
-        }
-    }
-
     /// Any block of free pages, which the entry names.
-    fn alloc(&mut self, cpu: u32, order: u32, reply: &Reply) -> Result<Reply, AllocError> {
-        if let Some(refusal) = self.block_refusal(cpu, order) {
-            return Ok(Reply::Refused(refusal));
-        }
-        let Reply::Page { start } = reply else {
-            return Ok(self.no_block(order));
+    fn alloc(&mut self, order: u32, said: Said<'_>) -> Result<Said<'static>, AllocError> {
+        let Said::Page(start) = said else {
+            let has_block = self.pages.has_free_block(order);
+            return Ok(if has_block { Said::Other } else { Said::Refused(Refusal::NoPages) });
         };
-        let block = PlainBlock {
-            start: *start,
-            order,
-        };
+        let block = Block { start, order };
         if !self.pages.is_wholly_free(block) {
-            return Ok(self.no_block(order));
+            return Ok(Said::Other);
         }
-        self.pages.put_block(block, Place::Used);
         self.held.push(block)?;
-        Ok(Reply::Page { start: *start })
+        self.pages.put_block(block, Place::Used);
+        Ok(Said::Page(start))
     }
 
-    /// The answer where the entry names no free block: a block was to be had, or none was.
-    fn no_block(&self, order: u32) -> Reply {
-        if self.pages.has_free_block(order) {
-            Reply::Done
-        } else {
-            Reply::Refused(Refusal::NoPages)
-        }
-    }
-
-    fn free(&mut self, cpu: u32, start: u32, order: u32) -> Reply {
-        if let Some(refusal) = self.block_refusal(cpu, order) {
-            return Reply::Refused(refusal);
-        }
-        let block = PlainBlock { start, order };
+    fn free(&mut self, block: Block) -> Said<'static> {
         if !self.held.contains(&block) {
-            return Reply::Refused(Refusal::NotHeld);
+            return Said::Refused(Refusal::NotHeld);
         }
         self.held.retain(|own| *own != block);
         self.pages.put_block(block, Place::Free);
-        Reply::Done
+        Said::Done
     }
 
     fn access_refusal(&self, page: u32, offset: u32, len: usize) -> Option<Refusal> {
         if !self.pages.is_at(page, Place::Used) {
             Some(Refusal::NotHeld)
-        } else if (offset as usize).saturating_add(len) > PAGE_SIZE as usize {
+        } else if len.saturating_add(offset as usize) > PAGE_SIZE as usize {
             Some(Refusal::OutOfRam)
         } else {
             None
@@ -325,34 +268,30 @@ impl PlainGuest {
     }
 
     /// A read may find no memory for its reply.
-    fn read(
-        &self,
-        alloc: Global,
-        page: u32,
-        offset: u32,
-        len: u32,
-        reply: &Reply,
-    ) -> Result<Reply, AllocError> {
+    fn read<'a>(&self, page: u32, offset: u32, len: u32, said: Said<'a>) -> Said<'a> {
         if let Some(refusal) = self.access_refusal(page, offset, len as usize) {
-            return Ok(Reply::Refused(refusal));
+            return Said::Refused(refusal);
         }
-        if matches!(reply, Reply::Refused(Refusal::NoMemory)) {
-            return Ok(Reply::Refused(Refusal::NoMemory));
-        }
-        let bytes = self.pages.read(alloc, page, offset, len)?;
-        Ok(Reply::ReadBytes {
-            bytes: Bytes::new(bytes),
-        })
+        let is_right = match said {
+            Said::Bytes(bytes) => {
+                bytes.len() == len as usize && self.pages.reads(page, offset, bytes)
+            }
+            _ => said == Said::Refused(Refusal::NoMemory),
+        };
+        if is_right { said } else { Said::Other }
     }
 
-    fn write(&mut self, page: u32, offset: u32, bytes: &[u8]) -> Result<Reply, AllocError> {
+    fn write(
+        &mut self,
+        page: u32,
+        offset: u32,
+        bytes: &[u8],
+    ) -> Result<Said<'static>, AllocError> {
         if let Some(refusal) = self.access_refusal(page, offset, bytes.len()) {
-            return Ok(Reply::Refused(refusal));
+            return Ok(Said::Refused(refusal));
         }
-        if !bytes.is_empty() {
-            self.pages.write(page, offset, bytes)?;
-        }
-        Ok(Reply::Done)
+        self.pages.write(page, offset, bytes)?;
+        Ok(Said::Done)
     }
 
     // ---- the driver
@@ -363,212 +302,172 @@ impl PlainGuest {
         lent.saturating_add(self.pages.count_at(Place::Giving))
     }
 
-    /// How many requests of the queue may be out.
-    fn room(&self, queue: u32) -> usize {
-        if queue == REPORT_QUEUE {
-            return 1;
-        }
-        let size = u32::from(self.config.queue_size);
-        size.min(MAX_OUTSTANDING) as usize
+    /// How many requests of queue 0 or 1, or blocks of a report, there may be.
+    fn room(&self) -> u32 {
+        u32::from(self.config.queue_size).min(MAX_OUTSTANDING)
     }
 
     /// Free pages up to the target. Which ones is open, and no entry tells: these are the driver's.
-    fn inflate(&mut self, alloc: Global, pages: u32) -> Result<Reply, AllocError> {
+    fn inflate(&mut self, alloc: Global, pages: u32) -> Result<Said<'static>, AllocError> {
         let missing = self.target.saturating_sub(self.given());
-        let most = missing.min(self.pages.count_at(Place::Free));
-        let count = pages.min(MAX_REQUEST_PAGES).min(most);
+        let count = pages.min(MAX_REQUEST_PAGES).min(missing);
         let named = self.pages.chosen(alloc, count)?;
-        self.post(INFLATE_QUEUE, named)
+        self.post(INFLATE_QUEUE, self.room(), named)
     }
 
     /// The lowest lent pages, as many as are above the target.
-    fn deflate(&mut self, alloc: Global, pages: u32) -> Result<Reply, AllocError> {
-        let above = self.given().saturating_sub(self.target);
-        let count = pages.min(MAX_REQUEST_PAGES).min(above);
-        let named = self.pages.lowest(alloc, Place::Lent, count)?;
-        self.post(DEFLATE_QUEUE, named)
+    fn deflate(&mut self, alloc: Global, pages: u32) -> Result<Said<'static>, AllocError> {
+        self.oom(alloc, pages.min(self.given().saturating_sub(self.target)))
     }
 
     /// The lowest lent pages, whatever the target.
-    fn oom(&mut self, alloc: Global, pages: u32) -> Result<Reply, AllocError> {
+    fn oom(&mut self, alloc: Global, pages: u32) -> Result<Said<'static>, AllocError> {
         let count = pages.min(MAX_REQUEST_PAGES);
         let named = self.pages.lowest(alloc, Place::Lent, count)?;
-        self.post(DEFLATE_QUEUE, named)
+        self.post(DEFLATE_QUEUE, self.room(), named)
     }
 
-    fn report(&mut self, alloc: Global, from: u32) -> Result<Reply, AllocError> {
-        let size = u32::from(self.config.queue_size);
-        let named = self
-            .pages
-            .reported(alloc, from, size.min(MAX_OUTSTANDING))?;
-        self.post(REPORT_QUEUE, named)
+    fn report(&mut self, alloc: Global, from: u32) -> Result<Said<'static>, AllocError> {
+        let named = self.pages.reported(alloc, from, self.room())?;
+        self.post(REPORT_QUEUE, 1, named)
     }
 
-    /// A request for these pages.
-    fn post(&mut self, queue: u32, named: Vec<u32>) -> Result<Reply, AllocError> {
-        if !self.is_ready {
-            return Ok(Reply::Refused(Refusal::NotReady));
+    /// A request for these pages, where so many may be out.
+    fn post(
+        &mut self,
+        queue: u32,
+        most: u32,
+        named: Vec<u32>,
+    ) -> Result<Said<'static>, AllocError> {
+        if self.requests.outstanding(queue) >= most as usize {
+            return Ok(Said::Refused(Refusal::QueueFull));
         }
-        if self.requests.outstanding(queue) >= self.room(queue) {
-            return Ok(Reply::Refused(Refusal::QueueFull));
+        let Ok(count) = u32::try_from(named.len()) else {
+            return Ok(Said::Other);
+        };
+        if count == 0 {
+            return Ok(Said::Refused(Refusal::Nothing));
         }
-        if named.is_empty() {
-            return Ok(Reply::Refused(Refusal::Nothing));
-        }
-        let pages = u32::try_from(named.len()).unwrap_or(0);
         self.pages.put(named.as_slice(), place_during(queue));
         let head = self.requests.post(queue, named)?;
-        Ok(Reply::Posted { head, pages })
+        Ok(Said::Posted(head, count))
     }
 
-    fn reap(&mut self, queue: u32) -> Reply {
-        if !has_requests(queue) {
-            return Reply::Refused(Refusal::NoQueue);
-        }
-        if !self.is_ready {
-            return Reply::Refused(Refusal::NotReady);
-        }
+    fn reap(&mut self, queue: u32) -> Said<'static> {
         let Some(request) = self.requests.pop(queue, Stage::Used) else {
-            return Reply::NotUsed;
+            return Said::NotUsed;
         };
         self.pages.put(request.pages.as_slice(), place_after(queue));
-        Reply::Reaped {
-            head: request.head,
-            pages: request.count(),
-        }
+        Said::Reaped(request.head, request.count())
     }
 
-    fn stats(&mut self) -> Reply {
-        if !self.is_ready {
-            return Reply::Refused(Refusal::NotReady);
-        }
+    fn stats(&mut self) -> Said<'static> {
         let Buffer::Used(_) = self.buffer else {
-            return Reply::NotUsed;
+            return Said::NotUsed;
         };
         self.buffer = Buffer::Posted(self.pages.count_at(Place::Free));
-        Reply::Filled
+        Said::Filled
     }
 
     // ---- the device
 
-    fn take(&mut self, queue: u32) -> Result<Reply, AllocError> {
-        if !has_requests(queue) && queue != STATISTICS_QUEUE {
-            return Ok(Reply::Refused(Refusal::NoQueue));
-        }
-        if !self.is_ready {
-            return Ok(Reply::Refused(Refusal::NotReady));
-        }
-        if queue == STATISTICS_QUEUE {
-            return Ok(self.take_buffer());
-        }
-        if is_most(self.requests.taken(queue)) {
-            return Ok(Reply::Refused(Refusal::Busy));
+    fn take(&mut self, queue: u32) -> Result<Said<'static>, AllocError> {
+        if self.requests.taken(queue) >= MAX_OUTSTANDING as usize {
+            return Ok(Said::Refused(Refusal::Busy));
         }
         let Some(request) = self.requests.pop(queue, Stage::Posted) else {
-            return Ok(Reply::Empty);
+            return Ok(Said::Empty);
         };
         let head = request.head;
         self.requests.push(request, Stage::Taken)?;
-        Ok(Reply::Taken { head })
+        Ok(Said::Taken(head))
     }
 
-    fn take_buffer(&mut self) -> Reply {
+    fn take_buffer(&mut self) -> Said<'static> {
         match self.buffer {
-            Buffer::Taken(_) => Reply::Refused(Refusal::Busy),
+            Buffer::Taken(_) => Said::Refused(Refusal::Busy),
             Buffer::Posted(free) => {
                 self.last_free = free;
                 self.buffer = Buffer::Taken(free);
-                Reply::Taken { head: 0 }
+                Said::Taken(0)
             }
-            _ => Reply::Empty,
+            _ => Said::Empty,
         }
     }
 
     /// A paced device visits one page: of an inflate before any of a report.
-    fn work(&mut self) -> Reply {
-        if !self.is_ready {
-            return Reply::Refused(Refusal::NotReady);
-        }
+    fn work(&mut self) -> Said<'static> {
         if !self.is_paced {
-            return Reply::Idle;
+            return Said::Idle;
         }
         let inflated = self.requests.visit(INFLATE_QUEUE);
         let Some(page) = inflated.or_else(|| self.requests.visit(REPORT_QUEUE)) else {
-            return Reply::Idle;
+            return Said::Idle;
         };
         let freed = self.pages.has_frame(page);
         self.pages.strip(&[page]);
-        Reply::Worked { page, freed }
+        Said::Worked(page, freed)
     }
 
-    /// Uses the oldest taken request.
-    fn finish(&mut self, queue: u32) -> Result<Reply, AllocError> {
-        if !has_requests(queue) {
-            return Ok(Reply::Refused(Refusal::NoQueue));
+    /// The oldest taken request is used. A paced device has visited each of its pages, but of a
+    /// deflate.
+    fn finish(&mut self, queue: u32) -> Result<Said<'static>, AllocError> {
+        if self.is_paced && queue != DEFLATE_QUEUE && self.requests.is_unvisited(queue) {
+            return Ok(Said::Refused(Refusal::NotWorked));
         }
-        if !self.is_ready {
-            return Ok(Reply::Refused(Refusal::NotReady));
-        }
-        let Some(oldest) = self.requests.first(queue, Stage::Taken) else {
-            return Ok(Reply::Refused(Refusal::NotTaken));
-        };
-        if self.is_paced && queue != DEFLATE_QUEUE && oldest.next_page().is_some() {
-            return Ok(Reply::Refused(Refusal::NotWorked));
-        }
-        self.settle(queue)
-    }
-
-    /// Its pages lose their frames, or a deflate's are ballooned no more.
-    fn settle(&mut self, queue: u32) -> Result<Reply, AllocError> {
         let Some(request) = self.requests.pop(queue, Stage::Taken) else {
-            return Ok(Reply::Refused(Refusal::NotTaken));
+            return Ok(Said::Refused(Refusal::NotTaken));
         };
-        let named = request.pages.as_slice();
+        self.settle(queue, request.pages.as_slice());
+        let head = request.head;
+        self.requests.push(request, Stage::Used)?;
+        Ok(Said::Finished(head))
+    }
+
+    /// The pages of an inflate or a report lose their frames; those of an inflate are ballooned from now
+    /// on, and those of a deflate aren't.
+    fn settle(&mut self, queue: u32, named: &[u32]) {
         if queue != DEFLATE_QUEUE {
             self.pages.strip(named);
         }
         if queue != REPORT_QUEUE {
             self.pages.balloon(named, queue == INFLATE_QUEUE);
         }
-        let head = request.head;
-        self.requests.push(request, Stage::Used)?;
-        Ok(Reply::Finished { head })
     }
 
-    fn ask(&mut self) -> Reply {
-        if !self.is_ready {
-            return Reply::Refused(Refusal::NotReady);
-        }
+    fn ask(&mut self) -> Said<'static> {
         let Buffer::Taken(free) = self.buffer else {
-            return Reply::Refused(Refusal::NotTaken);
+            return Said::Refused(Refusal::NotTaken);
         };
         self.buffer = Buffer::Used(free);
-        Reply::Asked
+        Said::Asked
     }
 }
 
-/// The guest after these entries, if each of them may come next.
+/// The guest after these rows, if each of them may come next.
 pub(crate) fn played(
     alloc: Global,
-    history: &[&Entry],
+    rows: &[Row<'_>],
     config: Config,
     is_paced: bool,
 ) -> Result<Option<PlainGuest>, AllocError> {
     let mut guest = PlainGuest::new(alloc, config, is_paced)?;
-    for entry in history {
-        if !guest.permits(alloc, entry)? {
+    for row in rows {
+        if !guest.permits(alloc, row)? {
             return Ok(None);
         }
     }
     Ok(Some(guest))
 }
 
-/// Whether each of these entries may come next, from plug on.
+/// Whether each entry of the history may come next, from plug on.
+#[allow(dead_code)]
 pub(crate) fn accepts(
     alloc: Global,
-    history: &[&Entry],
+    history: &[Entry],
     config: Config,
     is_paced: bool,
 ) -> Result<bool, AllocError> {
-    Ok(played(alloc, history, config, is_paced)?.is_some())
+    let rows = rows_of(alloc, history)?;
+    Ok(played(alloc, rows.as_slice(), config, is_paced)?.is_some())
 }

@@ -9,27 +9,24 @@ static SIZES: [u32; 10] = [1, 2, 4, 8, 16, 32, 64, 128, 256, 512];
 
 /// A block of pages.
 #[derive(Clone, Copy, PartialEq, Eq)]
-pub(crate) struct PlainBlock {
+pub(crate) struct Block {
     pub start: u32,
     pub order: u32,
 }
 
-impl PlainBlock {
-    /// The page behind its last one.
-    pub fn end(&self) -> u32 {
-        let size = SIZES.get(self.order as usize).copied().unwrap_or(0);
-        self.start.saturating_add(size)
+impl Block {
+    fn size(&self) -> u32 {
+        SIZES.get(self.order as usize).copied().unwrap_or(0)
     }
 
-    /// Whether it starts at a multiple of its size.
-    fn is_aligned(&self) -> bool {
-        let size = SIZES.get(self.order as usize).copied().unwrap_or(0);
-        self.start.checked_rem(size) == Some(0)
+    /// The page behind its last one.
+    pub fn end(&self) -> u32 {
+        self.start.saturating_add(self.size())
     }
 }
 
 #[derive(Drop)]
-struct PlainPage {
+struct Page {
     place: Place,
     is_ballooned: bool,
     frame: Option<u32>,
@@ -39,86 +36,69 @@ struct PlainPage {
 
 /// All pages.
 #[derive(Drop)]
-pub(crate) struct PlainPages {
-    pages: Vec<PlainPage>,
+pub(crate) struct Pages {
+    all: Vec<Page>,
     count: u32,
 }
 
-impl PlainPages {
+impl Pages {
     /// The pages of a guest as it is plugged in.
-    pub fn new(alloc: Global, count: u32) -> Result<PlainPages, AllocError> {
-        let mut pages = Vec::new(alloc);
+    pub fn new(alloc: Global, count: u32) -> Result<Pages, AllocError> {
+        let mut all = Vec::new(alloc);
         for page in 0..count {
             let is_reserved = page < RESERVED_PAGES;
-            pages.push(PlainPage {
-                place: if is_reserved {
-                    Place::Reserved
-                } else {
-                    Place::Free
-                },
+            all.push(Page {
+                place: if is_reserved { Place::Reserved } else { Place::Free },
                 is_ballooned: false,
                 frame: None,
                 bytes: Vec::new(alloc),
             })?;
         }
-        Ok(PlainPages { pages, count })
-    }
-
-    fn get(&self, page: u32) -> Option<&PlainPage> {
-        self.pages.get(page as usize)
+        Ok(Pages { all, count })
     }
 
     /// Whether the page is there.
     pub fn is_at(&self, page: u32, place: Place) -> bool {
-        self.get(page).is_some_and(|own| own.place == place)
+        self.all.get(page as usize).is_some_and(|own| own.place == place)
     }
 
     /// How many pages are there.
     pub fn count_at(&self, place: Place) -> u32 {
-        let mut count = 0u32;
-        for own in &self.pages {
-            if own.place == place {
-                count = count.saturating_add(1);
-            }
-        }
-        count
+        let count = self.all.iter().filter(|own| own.place == place).count();
+        u32::try_from(count).unwrap_or(u32::MAX)
     }
 
     /// How many pages the device holds to be ballooned.
     pub fn count_ballooned(&self) -> u32 {
-        let mut count = 0u32;
-        for own in &self.pages {
-            if own.is_ballooned {
-                count = count.saturating_add(1);
-            }
-        }
-        count
+        let count = self.all.iter().filter(|own| own.is_ballooned).count();
+        u32::try_from(count).unwrap_or(u32::MAX)
     }
 
     /// The lowest pages that are there, so many.
     pub fn lowest(&self, alloc: Global, place: Place, count: u32) -> Result<Vec<u32>, AllocError> {
-        let mut found = Vec::new(alloc);
+        let mut pages = Vec::new(alloc);
         for page in 0..self.count {
-            if found.len() < count as usize && self.is_at(page, place) {
-                found.push(page)?;
+            if self.is_at(page, place) {
+                pages.push(page)?;
             }
         }
-        Ok(found)
+        pages.truncate(count as usize);
+        Ok(pages)
     }
 
     /// The pages are there from now on.
     pub fn put(&mut self, pages: &[u32], place: Place) {
         for page in pages {
-            if let Some(own) = self.pages.get_mut(*page as usize) {
+            if let Some(own) = self.all.get_mut(*page as usize) {
                 own.place = place;
             }
         }
     }
 
     /// The block's pages are there from now on.
-    pub fn put_block(&mut self, block: PlainBlock, place: Place) {
+    pub fn put_block(&mut self, block: Block, place: Place) {
         for page in block.start..block.end() {
-            if let Some(own) = self.pages.get_mut(page as usize) {
+            if let Some(own) = self.all.get_mut(page as usize) {
                 own.place = place;
             }
         }
@@ -126,31 +106,32 @@ impl PlainPages {
 
     // ---- free blocks
 
-    /// Whether this is a block of free pages.
-    pub fn is_wholly_free(&self, block: PlainBlock) -> bool {
-        block.is_aligned()
+    /// Whether this is a block, at a multiple of its size, of free pages.
+    pub fn is_wholly_free(&self, block: Block) -> bool {
+        block.start.checked_rem(block.size()) == Some(0)
             && (block.start..block.end()).all(|page| self.is_at(page, Place::Free))
     }
 
     /// Whether some block of the order is wholly free.
     pub fn has_free_block(&self, order: u32) -> bool {
-        (0..self.count).any(|start| self.is_wholly_free(PlainBlock { start, order }))
+        (0..self.count).any(|start| self.is_wholly_free(Block { start, order }))
     }
 
     /// The largest free block that starts here.
-    fn free_block_at(&self, start: u32) -> Option<PlainBlock> {
+    fn free_block_at(&self, start: u32) -> Option<Block> {
         let mut largest = None;
         for order in 0..=MAX_ORDER {
-            let block = PlainBlock { start, order };
-            if self.is_wholly_free(block) {
-                largest = Some(block);
+            let block = Block { start, order };
+            if !self.is_wholly_free(block) {
+                break;
             }
+            largest = Some(block);
         }
         largest
     }
 
     /// The free blocks that lie in no larger one, by rising start.
-    fn free_blocks(&self, alloc: Global) -> Result<Vec<PlainBlock>, AllocError> {
+    fn free_blocks(&self, alloc: Global) -> Result<Vec<Block>, AllocError> {
         let mut blocks = Vec::new(alloc);
         let mut end = 0;
         for start in 0..self.count {
@@ -158,8 +139,8 @@ impl PlainPages {
                 continue;
             }
             if let Some(block) = self.free_block_at(start) {
-                blocks.push(block)?;
                 end = block.end();
+                blocks.push(block)?;
             }
         }
         Ok(blocks)
@@ -167,10 +148,14 @@ impl PlainPages {
 
     /// So many free pages, as the driver chooses them: those of smaller blocks first.
     pub fn chosen(&self, alloc: Global, count: u32) -> Result<Vec<u32>, AllocError> {
-        let blocks = self.free_blocks(alloc)?;
         let mut pages = Vec::new(alloc);
+        if count == 0 {
+            return Ok(pages);
+        }
+        let blocks = self.free_blocks(alloc)?;
         for order in 0..=MAX_ORDER {
-            push_order(&mut pages, blocks.as_slice(), order)?;
+            let own = blocks.iter().filter(|block| block.order == order);
+            pages.extend(own.flat_map(|block| block.start..block.end()))?;
         }
         pages.truncate(count as usize);
         Ok(pages)
@@ -178,44 +163,29 @@ impl PlainPages {
 
     /// The pages of the first so many free blocks from this page on that are wide enough for a report.
     pub fn reported(&self, alloc: Global, from: u32, room: u32) -> Result<Vec<u32>, AllocError> {
-        let mut left = room;
-        let mut pages = Vec::new(alloc);
-        for block in self.free_blocks(alloc)? {
-            if left > 0 && block.order >= MIN_REPORTED_ORDER && block.start >= from {
-                push_block(&mut pages, block)?;
-                left = left.saturating_sub(1);
-            }
-        }
-        Ok(pages)
+        let blocks = self.free_blocks(alloc)?;
+        let wide = blocks
+            .iter()
+            .filter(|block| block.order >= MIN_REPORTED_ORDER && block.start >= from);
+        let first = wide.take(room as usize);
+        first.flat_map(|block| block.start..block.end()).collect(alloc)
     }
 
     // ---- frames and bytes
 
     /// Whether the page has a frame.
     pub fn has_frame(&self, page: u32) -> bool {
-        self.get(page).is_some_and(|own| own.frame.is_some())
+        self.all.get(page as usize).is_some_and(|own| own.frame.is_some())
     }
 
     /// Those of the pages from the first up to the end that have no frame.
     pub fn lacking(&self, alloc: Global, first: u32, end: u32) -> Result<Vec<u32>, AllocError> {
-        let mut pages = Vec::new(alloc);
-        for page in first..end {
-            if !self.has_frame(page) {
-                pages.push(page)?;
-            }
-        }
-        Ok(pages)
+        (first..end).filter(|page| !self.has_frame(*page)).collect(alloc)
     }
 
     /// The numbers of all frames, by rising page.
     pub fn frames(&self, alloc: Global) -> Result<Vec<u32>, AllocError> {
-        let mut frames = Vec::new(alloc);
-        for own in &self.pages {
-            if let Some(frame) = own.frame {
-                frames.push(frame)?;
-            }
-        }
-        Ok(frames)
+        self.all.iter().filter_map(|own| own.frame).collect(alloc)
     }
 
     /// The page gets the frame that was given: whether one was, and no page has it yet.
@@ -223,20 +193,19 @@ impl PlainPages {
         let Claim::Gave(frame) = claim else {
             return false;
         };
-        if self.pages.iter().any(|own| own.frame == Some(frame)) {
+        if self.all.iter().any(|own| own.frame == Some(frame)) {
             return false;
         }
-        let Some(own) = self.pages.get_mut(page as usize) else {
-            return false;
-        };
-        own.frame = Some(frame);
+        if let Some(own) = self.all.get_mut(page as usize) {
+            own.frame = Some(frame);
+        }
         true
     }
 
     /// The pages lose their frames, and with them their bytes.
     pub fn strip(&mut self, pages: &[u32]) {
         for page in pages {
-            if let Some(own) = self.pages.get_mut(*page as usize) {
+            if let Some(own) = self.all.get_mut(*page as usize) {
                 own.frame = None;
                 own.bytes.clear();
             }
@@ -246,36 +215,28 @@ impl PlainPages {
     /// The pages are ballooned from now on, or aren't.
     pub fn balloon(&mut self, pages: &[u32], is_ballooned: bool) {
         for page in pages {
-            if let Some(own) = self.pages.get_mut(*page as usize) {
+            if let Some(own) = self.all.get_mut(*page as usize) {
                 own.is_ballooned = is_ballooned;
             }
         }
     }
 
-    /// A byte of a page.
-    fn byte(&self, page: u32, offset: u32) -> u8 {
-        let byte = self.get(page).and_then(|own| own.bytes.get(offset as usize));
-        byte.copied().unwrap_or(0)
+    fn byte(&self, page: u32, offset: usize) -> u8 {
+        let own = self.all.get(page as usize);
+        own.and_then(|own| own.bytes.get(offset).copied()).unwrap_or(0)
     }
 
-    /// So many bytes of a page from the offset on.
-    pub fn read(
-        &self,
-        alloc: Global,
-        page: u32,
-        offset: u32,
-        len: u32,
-    ) -> Result<Vec<u8>, AllocError> {
-        let mut bytes = Vec::new(alloc);
-        for place in 0..len {
-            bytes.push(self.byte(page, offset.saturating_add(place)))?;
-        }
-        Ok(bytes)
+    /// Whether the page has these bytes from the offset on.
+    pub fn reads(&self, page: u32, offset: u32, bytes: &[u8]) -> bool {
+        let mut places = bytes.iter().enumerate();
+        places.all(|(place, byte)| {
+            self.byte(page, place.saturating_add(offset as usize)) == *byte
+        })
     }
 
     /// Writes bytes to a page from the offset on.
     pub fn write(&mut self, page: u32, offset: u32, bytes: &[u8]) -> Result<(), AllocError> {
-        let Some(own) = self.pages.get_mut(page as usize) else {
+        let Some(own) = self.all.get_mut(page as usize) else {
             return Ok(());
         };
         own.bytes.resize(PAGE_SIZE as usize, 0)?;
@@ -285,25 +246,4 @@ impl PlainPages {
         }
         Ok(())
     }
-}
-
-fn push_block(pages: &mut Vec<u32>, block: PlainBlock) -> Result<(), AllocError> {
-    for page in block.start..block.end() {
-        pages.push(page)?;
-    }
-    Ok(())
-}
-
-/// The pages of those blocks that have the order.
-fn push_order(
-    pages: &mut Vec<u32>,
-    blocks: &[PlainBlock],
-    order: u32,
-) -> Result<(), AllocError> {
-    for block in blocks {
-        if block.order == order {
-            push_block(pages, *block)?;
-        }
-    }
-    Ok(())
 }

@@ -16,7 +16,7 @@ pub(crate) enum Stage {
 }
 
 #[derive(Drop)]
-pub(crate) struct PlainRequest {
+pub(crate) struct Request {
     queue: u32,
     stage: Stage,
     pub head: u32,
@@ -25,7 +25,7 @@ pub(crate) struct PlainRequest {
     visited: usize,
 }
 
-impl PlainRequest {
+impl Request {
     fn is_at(&self, queue: u32, stage: Stage) -> bool {
         self.queue == queue && self.stage == stage
     }
@@ -43,13 +43,13 @@ impl PlainRequest {
 
 /// All requests.
 #[derive(Drop)]
-pub(crate) struct PlainRequests {
-    all: Vec<PlainRequest>,
+pub(crate) struct Requests {
+    all: Vec<Request>,
 }
 
-impl PlainRequests {
-    pub fn new(alloc: Global) -> PlainRequests {
-        PlainRequests {
+impl Requests {
+    pub fn new(alloc: Global) -> Requests {
+        Requests {
             all: Vec::new(alloc),
         }
     }
@@ -82,7 +82,7 @@ impl PlainRequests {
     /// A new request for these pages: its head.
     pub fn post(&mut self, queue: u32, pages: Vec<u32>) -> Result<u32, AllocError> {
         let head = self.least_head(queue);
-        self.all.push(PlainRequest {
+        self.all.push(Request {
             queue,
             stage: Stage::Posted,
             head,
@@ -92,13 +92,14 @@ impl PlainRequests {
         Ok(head)
     }
 
-    /// The first request of the queue that is there.
-    pub fn first(&self, queue: u32, stage: Stage) -> Option<&PlainRequest> {
-        self.all.iter().find(|own| own.is_at(queue, stage))
+    /// Whether the oldest taken request of the queue has a page to visit.
+    pub fn is_unvisited(&self, queue: u32) -> bool {
+        let oldest = self.all.iter().find(|own| own.is_at(queue, Stage::Taken));
+        oldest.is_some_and(|own| own.next_page().is_some())
     }
 
-    /// Takes that one off the list.
-    pub fn pop(&mut self, queue: u32, stage: Stage) -> Option<PlainRequest> {
+    /// Takes the first request of the queue that is there off the list.
+    pub fn pop(&mut self, queue: u32, stage: Stage) -> Option<Request> {
         let place = self.all.iter().position(|own| own.is_at(queue, stage))?;
         if place < self.all.len() {
             Some(self.all.remove(place))
@@ -108,7 +109,7 @@ impl PlainRequests {
     }
 
     /// Puts it back as the last, where it is now.
-    pub fn push(&mut self, request: PlainRequest, stage: Stage) -> Result<(), AllocError> {
+    pub fn push(&mut self, request: Request, stage: Stage) -> Result<(), AllocError> {
         let mut request = request;
         request.stage = stage;
         self.all.push(request)?;

@@ -1,12 +1,12 @@
-//! Changed histories: at each place the entry is dropped, doubled, exchanged with the one behind it,
-//! or has another reply, and where such a change must be refused it is.
+//! Changed histories: at each place the row is dropped, doubled, exchanged with the one behind it, or
+//! has another reply, and where such a change must be refused it is.
 
-use super::{Case, actor_of, is_replay};
-use crate::tests::plain::{accepts, is_same_call, is_same_reply};
-use crate::{Entry, GuestReport, Step};
+use super::{Case, is_replay};
+use crate::GuestReport;
+use crate::tests::plain::{Act, Row, Said, played, rows_of};
 use std::alloc::{AllocError, Global};
 use vb_model::layout::{DEFLATE_QUEUE, INFLATE_QUEUE, REPORT_QUEUE, STATISTICS_QUEUE};
-use vb_model::{Actor, Bytes, Call, Refusal, Reply};
+use vb_model::{Actor, Refusal};
 
 /// What is done to a history at a place.
 #[derive(Clone, Copy, Debug, PartialEq, Eq)]
@@ -14,16 +14,26 @@ pub(crate) enum Change {
     Dropped,
     Doubled,
     Exchanged,
-    /// One of two wrong replies.
-    Answered(u32),
+    /// Another number, other bytes or another word is replied.
+    Renumbered,
+    /// Another count or flag is, or a refusal in place of what was done, and the other way round.
+    Turned,
 }
 
+static CHANGES: [Change; 5] = [
+    Change::Dropped,
+    Change::Doubled,
+    Change::Exchanged,
+    Change::Renumbered,
+    Change::Turned,
+];
+
 /// What has to refuse a changed history.
-#[derive(Clone, Copy, Debug, PartialEq, Eq)]
+#[derive(Clone, Copy, PartialEq, Eq)]
 enum Judge {
-    /// The plain guest alone: some entry can't come next.
+    /// The plain guest alone: some row can't come next.
     Guest,
-    /// The replay of the whole report, which has the scripts and the rounds too.
+    /// The replay of the whole report, which has the scripts, the rounds and the end too.
     Report,
     /// Nothing: the changed history may be one of another run.
     Nobody,
@@ -36,45 +46,32 @@ pub(crate) struct Miss {
     pub change: Change,
 }
 
-// ---- what an entry needs
+// ---- what a row needs
 
-/// Where a request, or the statistics buffer, goes by an entry: its queue and head, and the two ends of
-/// its way round: 0 in the driver's hands, 1 posted, 2 taken, 3 used.
+/// What a row moves: a request or the statistics buffer, by its queue and head, from one point of its
+/// way round to the next: 0 in the driver's hands, 1 posted, 2 taken, 3 used.
 #[derive(Clone, Copy, PartialEq, Eq)]
-struct Way {
+struct Move {
     queue: u32,
     head: u32,
     from: u32,
     to: u32,
 }
 
-/// The queue of a call that moves requests.
-fn queue_of(call: &Call) -> u32 {
-    match call {
-        Call::Inflate { .. } => INFLATE_QUEUE,
-        Call::Deflate { .. } | Call::Oom { .. } => DEFLATE_QUEUE,
-        Call::Report { .. } => REPORT_QUEUE,
-        Call::Reap { queue } | Call::Take { queue } | Call::Finish { queue, .. } => *queue,
-        _ => STATISTICS_QUEUE,
-    }
-}
-
-/// The request that the entry moves, if it moves one. A buffer that was used is filled at once.
-fn way_of(entry: &Entry) -> Option<Way> {
-    let Step::Called { call, reply, .. } = entry.step() else {
-        return None;
-    };
-    let (head, from, to) = match reply {
-        Reply::Posted { head, .. } => (*head, 0, 1),
-        Reply::Filled => (0, 3, 1),
-        Reply::Taken { head } => (*head, 1, 2),
-        Reply::Finished { head } => (*head, 2, 3),
-        Reply::Asked => (0, 2, 3),
-        Reply::Reaped { head, .. } => (*head, 3, 0),
+/// The move of the row, if it makes one. A buffer that was used is filled and posted at once.
+fn move_of(row: &Row<'_>) -> Option<Move> {
+    let (queue, head, from, to) = match (row.act, row.said) {
+        (Act::Inflate(_), Said::Posted(head, _)) => (INFLATE_QUEUE, head, 0, 1),
+        (Act::Deflate(_) | Act::Oom(_), Said::Posted(head, _)) => (DEFLATE_QUEUE, head, 0, 1),
+        (Act::Report(_), Said::Posted(head, _)) => (REPORT_QUEUE, head, 0, 1),
+        (Act::Take(queue), Said::Taken(head)) => (queue, head, 1, 2),
+        (Act::Finish(queue), Said::Finished(head)) => (queue, head, 2, 3),
+        (Act::Reap(queue), Said::Reaped(head, _)) => (queue, head, 3, 0),
+        (Act::Stats, Said::Filled) => (STATISTICS_QUEUE, 0, 3, 1),
+        (Act::Ask, Said::Asked) => (STATISTICS_QUEUE, 0, 2, 3),
         _ => return None,
     };
-    let queue = queue_of(call);
-    Some(Way {
+    Some(Move {
         queue,
         head,
         from,
@@ -82,328 +79,180 @@ fn way_of(entry: &Entry) -> Option<Way> {
     })
 }
 
-/// What an entry does with pages that processors hold.
+/// What a row does with the pages of a block, from the first up to the end.
 #[derive(Clone, Copy, PartialEq, Eq)]
-enum Use {
-    Gets,
-    Has,
-    Gives,
+struct Use {
+    /// Whether a processor gets the block or gives it back, and doesn't just read or write a page.
+    moves: bool,
+    start: u32,
+    end: u32,
 }
 
-/// The pages that the entry gets, reads, writes or gives back, as the first one and the end.
-fn use_of(entry: &Entry) -> Option<(Use, u32, u32)> {
-    let Step::Called { call, reply, .. } = entry.step() else {
-        return None;
+fn use_of(row: &Row<'_>) -> Option<Use> {
+    let (moves, start, order) = match (row.act, row.said) {
+        (Act::Alloc(_, order), Said::Page(start)) => (true, start, order),
+        (Act::Free(_, start, order), Said::Done) => (true, start, order),
+        (Act::Read(page, _, _), Said::Bytes(_)) => (false, page, 0),
+        (Act::Write(page, _, _), Said::Done) => (false, page, 0),
+        _ => return None,
     };
-    match (call, reply) {
-        (Call::Alloc { order, .. }, Reply::Page { start }) => {
-            Some((Use::Gets, *start, end_of(*start, *order)))
-        }
-        (Call::Free { start, order, .. }, Reply::Done) => {
-            Some((Use::Gives, *start, end_of(*start, *order)))
-        }
-        (Call::Read { page, .. }, Reply::ReadBytes { .. })
-        | (Call::Write { page, .. }, Reply::Done) => {
-            Some((Use::Has, *page, page.saturating_add(1)))
-        }
-        _ => None,
-    }
+    let end = start.saturating_add(1u32.checked_shl(order).unwrap_or(0));
+    Some(Use { moves, start, end })
 }
 
-fn end_of(start: u32, order: u32) -> u32 {
-    start.saturating_add(1u32.checked_shl(order).unwrap_or(0))
-}
-
-/// Whether the second entry, which follows the first, can't come before it: they move one request, or
-/// are the same move of two requests of one queue; or they visit two pages; or one gets or gives back a
-/// page that the other gets, uses or gives back.
-fn needs_order(first: &Entry, second: &Entry) -> bool {
-    if let (Some(one), Some(other)) = (way_of(first), way_of(second)) {
+/// Whether the second row, which follows the first, can't come before it: they move one request, or
+/// make one move of two requests of a queue; or they visit two pages; or one moves a block with a page
+/// that the other moves or uses.
+fn needs_order(first: &Row<'_>, second: &Row<'_>) -> bool {
+    if let (Some(one), Some(other)) = (move_of(first), move_of(second)) {
         let is_one = one.head == other.head && one.to == other.from;
-        let is_move = one.from == other.from && one.to == other.to;
-        return one.queue == other.queue && (is_one || is_move);
+        let is_alike = one.from == other.from && one.to == other.to;
+        return one.queue == other.queue && (is_one || is_alike);
     }
-    if has_worked(first) && has_worked(second) {
-        return true;
+    if let (Some(one), Some(other)) = (use_of(first), use_of(second)) {
+        return (one.moves || other.moves) && one.start < other.end && other.start < one.end;
     }
-    let (Some((one, start, end)), Some((other, begin, stop))) = (use_of(first), use_of(second))
-    else {
-        return false;
-    };
-    let is_apart = end <= begin || stop <= start;
-    !is_apart && !(one == Use::Has && other == Use::Has)
+    first.act == Act::Work && second.act == Act::Work
 }
 
-fn has_worked(entry: &Entry) -> bool {
-    matches!(
-        entry.step(),
-        Step::Called {
-            reply: Reply::Worked { .. },
-            ..
-        }
-    )
+/// Whether the row can't come twice in a row.
+fn is_once(row: &Row<'_>) -> bool {
+    let is_moved = use_of(row).map_or(move_of(row).is_some(), |own| own.moves);
+    is_moved || row.act == Act::Work || row.said == Said::Ready
 }
 
-/// Whether the entry can't come twice in a row.
-fn is_once(entry: &Entry) -> bool {
-    let is_moved = match use_of(entry) {
-        Some((part, _, _)) => part != Use::Has,
-        None => way_of(entry).is_some(),
-    };
-    is_moved || has_worked(entry) || is_ready(entry)
-}
-
-fn is_ready(entry: &Entry) -> bool {
-    matches!(
-        entry.step(),
-        Step::Called {
-            reply: Reply::Ready,
-            ..
-        }
-    )
-}
-
-/// Whether the two entries have the same call and reply, or the same look.
-fn are_alike(first: &Entry, second: &Entry) -> bool {
-    match (first.step(), second.step()) {
-        (
-            Step::Called {
-                call: call_a,
-                reply: reply_a,
-                ..
-            },
-            Step::Called {
-                call: call_b,
-                reply: reply_b,
-                ..
-            },
-        ) => is_same_call(call_a, call_b) && is_same_reply(reply_a, reply_b),
-        (Step::Looked { spare: a, .. }, Step::Looked { spare: b, .. }) => a == b,
-        _ => false,
-    }
-}
-
-/// Whether the order of the actor's entries stands in a list of its own: its script, or the rounds.
-fn is_listed(actor: Actor) -> bool {
-    matches!(actor, Actor::Processor { .. } | Actor::Balancer)
-}
-
-/// What has to refuse it that two neighbours are exchanged. Those of one actor with a list aren't to be
-/// exchanged if they differ; all others only where the second needs the first.
-fn judge_of_exchange(first: &Entry, second: &Entry) -> Judge {
-    let (one, other) = (actor_of(first), actor_of(second));
+/// What has to refuse it that two neighbours are exchanged. A script and the rounds have an order: rows
+/// of one processor, or of the balancer, that differ aren't exchanged. The start is the first.
+fn judge_of_exchange(first: &Row<'_>, second: &Row<'_>) -> Judge {
+    let is_listed = !matches!(first.actor, Actor::Worker { .. }) && first.actor == second.actor;
+    let is_alike = first.act == second.act && first.said == second.said;
     if needs_order(first, second) {
         Judge::Guest
-    } else if one == Actor::Starter || one == other && is_listed(one) && !are_alike(first, second) {
+    } else if is_listed && !is_alike || first.actor == Actor::Starter {
         Judge::Report
     } else {
         Judge::Nobody
     }
 }
 
-/// What has to refuse a change at this entry, with the one behind it. Without an entry, or with it
-/// twice, a list isn't whole or is too long, and a worker's next call, or the end, doesn't fit; a wrong
-/// reply is never permitted.
-fn judge_of(change: Change, entry: &Entry, next: Option<&Entry>) -> Judge {
+/// What has to refuse a change at this row, with the one behind it. Without a row, or with it twice, a
+/// script or the rounds aren't whole or are too long, and a worker's next call, or the end, doesn't
+/// fit; a wrong reply is never permitted.
+fn judge_of(change: Change, row: &Row<'_>, next: Option<&Row<'_>>) -> Judge {
     match change {
         Change::Dropped => Judge::Report,
-        Change::Doubled if is_once(entry) => Judge::Guest,
+        Change::Doubled if is_once(row) => Judge::Guest,
         Change::Doubled => Judge::Report,
-        Change::Exchanged => next.map_or(Judge::Nobody, |next| judge_of_exchange(entry, next)),
-        Change::Answered(_) => Judge::Guest,
+        Change::Exchanged => next.map_or(Judge::Nobody, |next| judge_of_exchange(row, next)),
+        Change::Renumbered | Change::Turned => Judge::Guest,
     }
-}
-
-// ---- wrong replies
-
-/// Bytes of which the first is another, or one byte where there are none.
-fn other_bytes(alloc: Global, bytes: &Bytes) -> Result<Bytes, AllocError> {
-    let mut items = Vec::new(alloc);
-    let first = bytes.as_slice().first().copied().unwrap_or(0);
-    items.push(first ^ 1)?;
-    for byte in bytes.as_slice().iter().skip(1) {
-        items.push(*byte)?;
-    }
-    Ok(Bytes::new(items))
-}
-
-/// The refusal that isn't meant.
-fn other_refusal(refusal: Refusal) -> Refusal {
-    if refusal == Refusal::NotHeld {
-        Refusal::OutOfRam
-    } else {
-        Refusal::NotHeld
-    }
-}
-
-/// The same reply with another number, other bytes, another refusal, or another word.
-fn with_other_number(alloc: Global, reply: &Reply) -> Result<Reply, AllocError> {
-    Ok(match reply {
-        Reply::Page { .. } => Reply::Page { start: 0 },
-        Reply::ReadBytes { bytes } => Reply::ReadBytes {
-            bytes: other_bytes(alloc, bytes)?,
-        },
-        Reply::Posted { head, pages } => Reply::Posted {
-            head: head.saturating_add(1),
-            pages: *pages,
-        },
-        Reply::Reaped { head, pages } => Reply::Reaped {
-            head: head.saturating_add(1),
-            pages: *pages,
-        },
-        Reply::Taken { head } => Reply::Taken {
-            head: head.saturating_add(1),
-        },
-        Reply::Finished { head } => Reply::Finished {
-            head: head.saturating_add(1),
-        },
-        Reply::Worked { page, freed } => Reply::Worked {
-            page: page.saturating_add(1),
-            freed: *freed,
-        },
-        Reply::Refused(refusal) => Reply::Refused(other_refusal(*refusal)),
-        Reply::Filled => Reply::NotUsed,
-        _ => Reply::Filled,
-    })
-}
-
-/// The same reply with another count or flag, or a refusal in place of what was done and the other way
-/// round.
-fn with_other_end(reply: &Reply) -> Reply {
-    match reply {
-        Reply::Posted { head, pages } => Reply::Posted {
-            head: *head,
-            pages: pages.saturating_add(1),
-        },
-        Reply::Reaped { head, pages } => Reply::Reaped {
-            head: *head,
-            pages: pages.saturating_add(1),
-        },
-        Reply::Worked { page, freed } => Reply::Worked {
-            page: *page,
-            freed: !*freed,
-        },
-        Reply::Refused(_) => Reply::Done,
-        _ => Reply::Refused(Refusal::NotHeld),
-    }
-}
-
-/// The entry with one of two wrong replies.
-fn answered(alloc: Global, entry: &Entry, which: u32) -> Result<Entry, AllocError> {
-    Ok(Entry::new(match entry.step() {
-        Step::Looked { floor, spare } => Step::Looked {
-            floor: *floor,
-            spare: spare.saturating_add(which).saturating_add(1),
-        },
-        Step::Called {
-            actor,
-            call,
-            claims,
-            reply,
-        } => {
-            let mut same = Vec::new(alloc);
-            same.extend_from_slice(claims.as_slice())?;
-            Step::Called {
-                actor: *actor,
-                call: call.copy(alloc)?,
-                claims: same,
-                reply: if which == 0 {
-                    with_other_number(alloc, reply)?
-                } else {
-                    with_other_end(reply)
-                },
-            }
-        }
-    }))
 }
 
 // ---- changed histories
 
-/// The history with these entries in place of so many from a place on.
-fn edited<'a>(
-    alloc: Global,
-    history: &[&'a Entry],
-    place: usize,
-    gone: usize,
-    entries: &[&'a Entry],
-) -> Result<Vec<&'a Entry>, AllocError> {
-    let mut all = Vec::new(alloc);
-    for entry in history.iter().take(place) {
-        all.push(*entry)?;
+/// A refusal that isn't this one, and that no call without it has.
+fn other_refusal(refusal: Refusal) -> Refusal {
+    match refusal {
+        Refusal::NotHeld => Refusal::OutOfRam,
+        _ => Refusal::NotHeld,
     }
-    for entry in entries {
-        all.push(*entry)?;
-    }
-    for entry in history.iter().skip(place.saturating_add(gone)) {
-        all.push(*entry)?;
-    }
-    Ok(all)
 }
 
-/// Whether the judge accepts the history.
-fn is_accepted(
+fn renumbered(said: Said<'_>) -> Said<'_> {
+    match said {
+        Said::Page(_) => Said::Page(0),
+        Said::Bytes(bytes) => Said::Bytes(bytes.get(1..).unwrap_or(&[0])),
+        Said::Posted(head, pages) => Said::Posted(head.saturating_add(1), pages),
+        Said::Reaped(head, pages) => Said::Reaped(head.saturating_add(1), pages),
+        Said::Taken(head) => Said::Taken(head.saturating_add(1)),
+        Said::Worked(page, freed) => Said::Worked(page.saturating_add(1), freed),
+        Said::Finished(head) => Said::Finished(head.saturating_add(1)),
+        Said::Spare(pages) => Said::Spare(pages.saturating_add(1)),
+        Said::Refused(refusal) => Said::Refused(other_refusal(refusal)),
+        Said::Filled => Said::NotUsed,
+        _ => Said::Filled,
+    }
+}
+
+fn turned(said: Said<'_>) -> Said<'_> {
+    match said {
+        Said::Posted(head, pages) => Said::Posted(head, pages.saturating_add(1)),
+        Said::Reaped(head, pages) => Said::Reaped(head, pages.saturating_add(1)),
+        Said::Worked(page, freed) => Said::Worked(page, !freed),
+        Said::Spare(pages) => Said::Spare(pages.checked_sub(1).unwrap_or(1)),
+        Said::Refused(_) => Said::Done,
+        _ => Said::Refused(Refusal::NotHeld),
+    }
+}
+
+/// The rows with these in place of so many from a place on.
+fn edited<'a>(
     alloc: Global,
-    judge: Judge,
-    history: &[&Entry],
-    report: &GuestReport,
-    case: &Case<'_>,
-) -> Result<bool, AllocError> {
-    match judge {
-        Judge::Guest => accepts(alloc, history, case.plan.config, case.is_paced),
-        Judge::Report => is_replay(alloc, history, report, case),
-        Judge::Nobody => Ok(false),
+    rows: &[Row<'a>],
+    place: usize,
+    gone: usize,
+    new: &[Row<'a>],
+) -> Result<Vec<Row<'a>>, AllocError> {
+    let before = rows.iter().take(place);
+    let after = rows.iter().skip(place.saturating_add(gone));
+    before.chain(new.iter()).chain(after).copied().collect(alloc)
+}
+
+/// The rows with a change at the place of this row, which the next one follows.
+fn changed<'a>(
+    alloc: Global,
+    rows: &[Row<'a>],
+    place: usize,
+    change: Change,
+    row: Row<'a>,
+    next: Option<Row<'a>>,
+) -> Result<Vec<Row<'a>>, AllocError> {
+    let with = |said| Row { said, ..row };
+    match change {
+        Change::Dropped => edited(alloc, rows, place, 1, &[]),
+        Change::Doubled => edited(alloc, rows, place, 1, &[row, row]),
+        Change::Exchanged => edited(alloc, rows, place, 2, &[next.unwrap_or(row), row]),
+        Change::Renumbered => edited(alloc, rows, place, 1, &[with(renumbered(row.said))]),
+        Change::Turned => edited(alloc, rows, place, 1, &[with(turned(row.said))]),
     }
 }
 
 /// Whether a change at a place of the history is accepted and shouldn't be.
 fn is_missed(
     alloc: Global,
-    history: &[&Entry],
+    rows: &[Row<'_>],
     place: usize,
     change: Change,
     report: &GuestReport,
     case: &Case<'_>,
 ) -> Result<bool, AllocError> {
-    let Some(entry) = history.get(place).copied() else {
+    let Some(row) = rows.get(place).copied() else {
         return Ok(false);
     };
-    let next = history.get(place.saturating_add(1)).copied();
-    let judge = judge_of(change, entry, next);
-    if judge == Judge::Nobody {
-        return Ok(false);
+    let next = rows.get(place.saturating_add(1)).copied();
+    let judge = judge_of(change, &row, next.as_ref());
+    let other = changed(alloc, rows, place, change, row, next)?;
+    match judge {
+        Judge::Guest => {
+            Ok(played(alloc, other.as_slice(), case.plan.config, case.is_paced)?.is_some())
+        }
+        Judge::Report => is_replay(alloc, other.as_slice(), report, case),
+        Judge::Nobody => Ok(false),
     }
-    let wrong = answered(alloc, entry, u32::from(change == Change::Answered(1)))?;
-    let changed = match change {
-        Change::Dropped => edited(alloc, history, place, 1, &[])?,
-        Change::Doubled => edited(alloc, history, place, 1, &[entry, entry])?,
-        Change::Exchanged => edited(alloc, history, place, 2, &[next.unwrap_or(entry), entry])?,
-        Change::Answered(_) => edited(alloc, history, place, 1, &[&wrong])?,
-    };
-    is_accepted(alloc, judge, changed.as_slice(), report, case)
 }
-
-static CHANGES: [Change; 5] = [
-    Change::Dropped,
-    Change::Doubled,
-    Change::Exchanged,
-    Change::Answered(0),
-    Change::Answered(1),
-];
 
 /// The first change at a place of the history that is accepted and shouldn't be.
 fn missed_at(
     alloc: Global,
-    history: &[&Entry],
+    rows: &[Row<'_>],
     place: usize,
     report: &GuestReport,
     case: &Case<'_>,
 ) -> Result<Option<Miss>, AllocError> {
     for change in &CHANGES {
-        if is_missed(alloc, history, place, *change, report, case)? {
-            return Ok(Some(Miss {
-                place,
-                change: *change,
-            }));
+        let change = *change;
+        if is_missed(alloc, rows, place, change, report, case)? {
+            return Ok(Some(Miss { place, change }));
         }
     }
     Ok(None)
@@ -415,12 +264,9 @@ pub(crate) fn first_missed(
     report: &GuestReport,
     case: &Case<'_>,
 ) -> Result<Option<Miss>, AllocError> {
-    let mut history = Vec::new(alloc);
-    for entry in report.history.iter() {
-        history.push(entry)?;
-    }
-    for place in 0..history.len() {
-        if let Some(miss) = missed_at(alloc, history.as_slice(), place, report, case)? {
+    let rows = rows_of(alloc, report.history.as_slice())?;
+    for place in 0..rows.len() {
+        if let Some(miss) = missed_at(alloc, rows.as_slice(), place, report, case)? {
             return Ok(Some(miss));
         }
     }

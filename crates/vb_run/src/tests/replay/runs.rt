@@ -19,7 +19,7 @@ const SMALL: Config = Config {
     processors: 2,
 };
 
-const ROUNDS: u32 = 6;
+const ROUNDS: u32 = 2;
 
 /// The calls of a processor: of its own pages it writes one, and it drives the balloon.
 fn call_of(alloc: Global, cpu: u32, number: u32) -> Result<Call, AllocError> {
