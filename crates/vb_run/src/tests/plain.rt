@@ -1,6 +1,7 @@
 //! A guest in plain words: lists and numbers, no rings, no bits and no boxes. It answers the calls
 //! that threads make, as the rules say, and takes from an entry what they leave open.
 
+mod examples;
 mod pages;
 mod requests;
 mod rows;
@@ -461,7 +462,6 @@ pub(crate) fn played(
 }
 
 /// Whether each entry of the history may come next, from plug on.
-#[allow(dead_code)]
 pub(crate) fn accepts(
     alloc: Global,
     history: &[Entry],

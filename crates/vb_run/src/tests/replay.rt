@@ -6,6 +6,8 @@
 mod changes;
 mod runs;
 
+pub(crate) use changes::first_missed;
+
 use super::plain::{Act, Row, Said, played, rows_of};
 use crate::{GuestPlan, GuestReport, Round};
 use std::alloc::{AllocError, Global};

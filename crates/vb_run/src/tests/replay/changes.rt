@@ -3,7 +3,7 @@
 
 use super::{Case, is_replay};
 use crate::GuestReport;
-use crate::tests::plain::{Act, Row, Said, played, rows_of};
+use crate::tests::plain::{Act, Row, Said, played};
 use std::alloc::{AllocError, Global};
 use vb_model::layout::{DEFLATE_QUEUE, INFLATE_QUEUE, REPORT_QUEUE, STATISTICS_QUEUE};
 use vb_model::{Actor, Refusal};
@@ -112,13 +112,17 @@ fn needs_order(first: &Row<'_>, second: &Row<'_>) -> bool {
     if let (Some(one), Some(other)) = (use_of(first), use_of(second)) {
         return (one.moves || other.moves) && one.start < other.end && other.start < one.end;
     }
-    first.act == Act::Work && second.act == Act::Work
+    has_worked(first) && has_worked(second)
+}
+
+fn has_worked(row: &Row<'_>) -> bool {
+    matches!(row.said, Said::Worked(_, _))
 }
 
 /// Whether the row can't come twice in a row.
 fn is_once(row: &Row<'_>) -> bool {
     let is_moved = use_of(row).map_or(move_of(row).is_some(), |own| own.moves);
-    is_moved || row.act == Act::Work || row.said == Said::Ready
+    is_moved || has_worked(row) || row.said == Said::Ready
 }
 
 /// What has to refuse it that two neighbours are exchanged. A script and the rounds have an order: rows
@@ -158,10 +162,25 @@ fn other_refusal(refusal: Refusal) -> Refusal {
     }
 }
 
+static ZEROS: [u8; 8] = [0; 8];
+
+static ONES: [u8; 8] = [1; 8];
+
+/// Other bytes, as many as these if they are few.
+fn other_bytes(bytes: &[u8]) -> &[u8] {
+    let (zeros, ones) = (ZEROS.get(..bytes.len()), ONES.get(..bytes.len()));
+    match (zeros, ones) {
+        (Some(zeros), Some(ones)) if !bytes.is_empty() => {
+            if bytes == zeros { ones } else { zeros }
+        }
+        _ => bytes.get(1..).unwrap_or(&ONES),
+    }
+}
+
 fn renumbered(said: Said<'_>) -> Said<'_> {
     match said {
         Said::Page(_) => Said::Page(0),
-        Said::Bytes(bytes) => Said::Bytes(bytes.get(1..).unwrap_or(&[0])),
+        Said::Bytes(bytes) => Said::Bytes(other_bytes(bytes)),
         Said::Posted(head, pages) => Said::Posted(head.saturating_add(1), pages),
         Said::Reaped(head, pages) => Said::Reaped(head.saturating_add(1), pages),
         Said::Taken(head) => Said::Taken(head.saturating_add(1)),
@@ -198,15 +217,17 @@ fn edited<'a>(
     before.chain(new.iter()).chain(after).copied().collect(alloc)
 }
 
-/// The rows with a change at the place of this row, which the next one follows.
+/// The rows with a change at a place.
 fn changed<'a>(
     alloc: Global,
     rows: &[Row<'a>],
     place: usize,
     change: Change,
-    row: Row<'a>,
-    next: Option<Row<'a>>,
 ) -> Result<Vec<Row<'a>>, AllocError> {
+    let Some(row) = rows.get(place).copied() else {
+        return Ok(Vec::new(alloc));
+    };
+    let next = rows.get(place.saturating_add(1)).copied();
     let with = |said| Row { said, ..row };
     match change {
         Change::Dropped => edited(alloc, rows, place, 1, &[]),
@@ -217,27 +238,27 @@ fn changed<'a>(
     }
 }
 
-/// Whether a change at a place of the history is accepted and shouldn't be.
+/// Whether a change at a place is accepted and shouldn't be. Without a report only those count that the
+/// plain guest has to refuse.
 fn is_missed(
     alloc: Global,
     rows: &[Row<'_>],
     place: usize,
     change: Change,
-    report: &GuestReport,
     case: &Case<'_>,
+    report: Option<&GuestReport>,
 ) -> Result<bool, AllocError> {
-    let Some(row) = rows.get(place).copied() else {
+    let Some(row) = rows.get(place) else {
         return Ok(false);
     };
-    let next = rows.get(place.saturating_add(1)).copied();
-    let judge = judge_of(change, &row, next.as_ref());
-    let other = changed(alloc, rows, place, change, row, next)?;
-    match judge {
-        Judge::Guest => {
+    let judge = judge_of(change, row, rows.get(place.saturating_add(1)));
+    let other = changed(alloc, rows, place, change)?;
+    match (judge, report) {
+        (Judge::Guest, _) => {
             Ok(played(alloc, other.as_slice(), case.plan.config, case.is_paced)?.is_some())
         }
-        Judge::Report => is_replay(alloc, other.as_slice(), report, case),
-        Judge::Nobody => Ok(false),
+        (Judge::Report, Some(report)) => is_replay(alloc, other.as_slice(), report, case),
+        _ => Ok(false),
     }
 }
 
@@ -246,27 +267,27 @@ fn missed_at(
     alloc: Global,
     rows: &[Row<'_>],
     place: usize,
-    report: &GuestReport,
     case: &Case<'_>,
+    report: Option<&GuestReport>,
 ) -> Result<Option<Miss>, AllocError> {
     for change in &CHANGES {
         let change = *change;
-        if is_missed(alloc, rows, place, change, report, case)? {
+        if is_missed(alloc, rows, place, change, case, report)? {
             return Ok(Some(Miss { place, change }));
         }
     }
     Ok(None)
 }
 
-/// The first changed history of the report that is accepted and shouldn't be.
+/// The first change of the history that is accepted and shouldn't be.
 pub(crate) fn first_missed(
     alloc: Global,
-    report: &GuestReport,
+    rows: &[Row<'_>],
     case: &Case<'_>,
+    report: Option<&GuestReport>,
 ) -> Result<Option<Miss>, AllocError> {
-    let rows = rows_of(alloc, report.history.as_slice())?;
     for place in 0..rows.len() {
-        if let Some(miss) = missed_at(alloc, rows.as_slice(), place, report, case)? {
+        if let Some(miss) = missed_at(alloc, rows, place, case, report)? {
             return Ok(Some(miss));
         }
     }

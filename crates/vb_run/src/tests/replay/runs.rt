@@ -1,7 +1,7 @@
 //! Runs whose reports are replayed, and whose changed histories are refused.
 
-use super::changes::first_missed;
-use super::{Case, replays};
+use super::{Case, first_missed, replays};
+use crate::tests::plain::{accepts, rows_of};
 use crate::{Bells, GuestPlan, OpenGate, Plan, Report, plug_in, run_threads};
 use std::alloc::{AllocError, Global};
 use std::process::Abort;
@@ -120,8 +120,12 @@ fn check_report<R: Abort>(
             rounds: report.rounds.as_slice(),
             is_paced: number == 0,
         };
-        assert!(rt; replays(alloc, guest, &case)?, "guest {number}");
-        let missed = first_missed(alloc, guest, &case)?;
+        let history = guest.history.as_slice();
+        let is_accepted = accepts(alloc, history, own.config, case.is_paced)?;
+        assert!(rt; is_accepted, "history of guest {number}");
+        assert!(rt; replays(alloc, guest, &case)?, "report of guest {number}");
+        let rows = rows_of(alloc, history)?;
+        let missed = first_missed(alloc, rows.as_slice(), &case, Some(guest))?;
         assert!(rt; missed.is_none(), "guest {number}: {missed:?}");
         number = number.saturating_add(1);
     }
