@@ -6,7 +6,7 @@ use vb_model::{Actor, Call, Claim, Refusal, Reply};
 
 /// A call that threads make, or the balancer's look. Where it names a queue, a block or bytes, so does
 /// this; a worker's `Finish` is that of request 0.
-#[derive(Clone, Copy, Debug, PartialEq, Eq)]
+#[derive(Clone, Copy, PartialEq, Eq)]
 pub(crate) enum Act<'a> {
     Init(u64),
     Alloc(u32, u32),
@@ -54,7 +54,7 @@ impl<'a> Act<'a> {
 }
 
 /// What is answered.
-#[derive(Clone, Copy, Debug, PartialEq, Eq)]
+#[derive(Clone, Copy, PartialEq, Eq)]
 pub(crate) enum Said<'a> {
     Done,
     Ready,
@@ -101,7 +101,7 @@ impl<'a> Said<'a> {
 }
 
 /// An entry: looks are the balancer's.
-#[derive(Clone, Copy, Debug, PartialEq, Eq)]
+#[derive(Clone, Copy)]
 pub(crate) struct Row<'a> {
     pub actor: Actor,
     pub act: Act<'a>,
