@@ -1,9 +1,10 @@
 //! What a guest's lock keeps.
 
-ghost use Rattle.std.specs.Prelude.{◌≡◌, ◌≤◌, ◌<◌, ℕ, Bool, true, false, [], length, slice_get};
+ghost use Rattle.std.specs.Prelude.{◌≡◌, ◌≤◌, ◌<◌, ℕ, Bool, true, false, [], ◌∷◌, ◌++◌, length, slice_get};
 ghost use Rattle.std.specs.Prelude.{slice_index_or, IfOk, OnOk, Some, IfSome, IfNone, vec_capacity};
 ghost use Rattle.vb_model.specs.Guest.{Guest, fresh};
 ghost use Rattle.vb_model.specs.Limits.{is_config};
+ghost use Rattle.vb_model.specs.GuestRun.{Looked};
 ghost use Rattle.vb_run.specs.Past.{Past, IsKept, IsSame, AreBegun};
 ghost use Rattle.vb_run.specs.Plans.{config_of};
 ghost use Rattle.vb_run.specs.Reports.{IsGuestReport, frames_behind};
@@ -176,6 +177,8 @@ impl<S: GuestSlot> Kept<S> {
     /// Sees how many pages the guest can spare above the floor, as the balancer.
     pub fn look(&mut self, floor: u32) -> Result<GuestNeed, AllocError>
         ensures same { IsSame self.old self.new }
+        ensures noted { IfOk result (λ need.
+            self.new.history ≡ self.old.history ++ Looked floor need.spare ∷ []) }
     {
         self.history.reserve(1)?;
         let spare = self.slot.spare(floor);

@@ -2,16 +2,15 @@
 
 use super::{Case, first_missed, replays};
 use crate::tests::plain::{accepts, rows_of};
-use crate::{Bells, GuestPlan, OpenGate, Plan, Report, plug_in, run_threads};
+use crate::tests::leased::{Pace, Ports, Tables, run_leased};
+use crate::{Bells, GuestPlan, GuestReport, OpenGate, Plan};
 use std::alloc::{AllocError, Global};
 use std::process::Abort;
 use std::sync::Wait;
 use std::test::Fail;
 use std::thread::Threads;
-use vb_device::{ImmediateDevice, PacedDevice};
 use vb_model::{Bytes, Call};
 use vb_ram::Config;
-use vb_shared::{Leased, SharedFrames};
 
 const SMALL: Config = Config {
     pages: 64,
@@ -83,50 +82,52 @@ fn plan(alloc: Global, bells: Bells) -> Result<Plan, AllocError> {
     })
 }
 
-/// Runs two guests, the first on a paced device.
-fn run_two<R: Threads + Wait + Sync>(
-    rt: &R,
+/// Checks that a guest's report is replayed, and its changed histories refused.
+fn check_guest(
+    rt: &impl Abort,
     alloc: Global,
-    plan: &Plan,
-) -> Result<Report, AllocError> {
-    let (_frames, mut passes) = SharedFrames::open(alloc, 100, 2)?;
-    let (Some(second), Some(first)) = (passes.pop(), passes.pop()) else {
-        return Err(AllocError);
-    };
-    let mut ports = Vec::new(alloc);
-    let device = Leased::new(PacedDevice::new(alloc), first);
-    plug_in(alloc, plan, &mut ports, Box::new(alloc, device)?)?;
-    let device = Leased::new(ImmediateDevice::new(alloc), second);
-    plug_in(alloc, plan, &mut ports, Box::new(alloc, device)?)?;
-    let Ok(report) = run_threads(rt, alloc, plan, ports, &OpenGate) else {
-        return Err(AllocError);
-    };
-    Ok(report)
+    report: &GuestReport,
+    case: &Case<'_>,
+) -> Result<(), AllocError> {
+    let guest = case.guest;
+    let history = report.history.as_slice();
+    let is_accepted = accepts(alloc, history, case.plan.config, case.is_paced)?;
+    assert!(rt; is_accepted, "history of guest {guest}");
+    assert!(rt; replays(alloc, report, case)?, "report of guest {guest}");
+    let rows = rows_of(alloc, history)?;
+    let missed = first_missed(alloc, rows.as_slice(), case, Some(report))?;
+    assert!(rt; missed.is_none(), "guest {guest}: {missed:?}");
+    Ok(())
 }
 
-/// Checks that the guests' reports are replayed, and their changed histories refused.
-fn check_report<R: Abort>(
+/// Runs a plan of two guests on devices of one pace, and checks their reports.
+fn check_pace<R: Threads + Wait + Sync + Abort>(
     rt: &R,
     alloc: Global,
-    plan: &Plan,
-    report: &Report,
+    pace: Pace,
+    bells: Bells,
 ) -> Result<(), AllocError> {
+    let plan = plan(alloc, bells)?;
+    let ports = Ports {
+        count: 2,
+        pace,
+        tables: Tables::Shared,
+        frames: plan.frames,
+    };
+    let ended = run_leased(rt, alloc, &plan, ports, &OpenGate)?;
+    let Ok(report) = ended.result else {
+        return Err(AllocError);
+    };
     let mut number = 0u32;
-    for (guest, own) in report.guests.iter().zip(plan.guests.iter()) {
+    for (own, guest) in report.guests.iter().zip(plan.guests.iter()) {
         let case = Case {
             guest: number,
-            plan: own,
+            plan: guest,
             floor: plan.floor,
             rounds: report.rounds.as_slice(),
-            is_paced: number == 0,
+            is_paced: pace == Pace::Paced,
         };
-        let history = guest.history.as_slice();
-        let is_accepted = accepts(alloc, history, own.config, case.is_paced)?;
-        assert!(rt; is_accepted, "history of guest {number}");
-        assert!(rt; replays(alloc, guest, &case)?, "report of guest {number}");
-        let rows = rows_of(alloc, history)?;
-        let missed = first_missed(alloc, rows.as_slice(), &case, Some(guest))?;
-        assert!(rt; missed.is_none(), "guest {number}: {missed:?}");
+        check_guest(rt, alloc, own, &case)?;
         number = number.saturating_add(1);
     }
     Ok(())
@@ -134,10 +135,7 @@ fn check_report<R: Abort>(
 
 #[test]
 fn reports_are_replayed(rt: HostRuntime) -> Result<(), Fail> {
-    for bells in [Bells::Plain, Bells::Late] {
-        let plan = plan(rt.alloc(), bells)?;
-        let report = run_two(&rt, rt.alloc(), &plan)?;
-        check_report(&rt, rt.alloc(), &plan, &report)?;
-    }
+    check_pace(&rt, rt.alloc(), Pace::Paced, Bells::Late)?;
+    check_pace(&rt, rt.alloc(), Pace::Immediate, Bells::Plain)?;
     Ok(())
 }

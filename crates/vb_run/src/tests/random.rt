@@ -1,0 +1,150 @@
+//! Random plans: each that is run gives a report in which every history replays.
+
+use crate::tests::leased::{Ended, Pace, Ports, Tables, run_leased};
+use crate::{Bells, GuestPlan, OpenGate, Plan};
+use rand_core::Rng;
+use rand_pcg::Pcg32;
+use std::alloc::{AllocError, Global};
+use std::sync::Wait;
+use std::test::Fail;
+use std::thread::Threads;
+use vb_model::{Bytes, Call};
+use vb_ram::Config;
+
+// How much is tried here. `tools/soak-threads` tries more of larger plans, with other numbers in
+// these four lines.
+const PLANS: u32 = 6;
+
+const MAX_GUESTS: u32 = 2;
+
+const MAX_CALLS: u32 = 24;
+
+const SEED: u64 = 1;
+
+/// A number below this one.
+fn below(numbers: &mut Pcg32, end: u32) -> u32 {
+    numbers.next_u32() % end.max(1)
+}
+
+/// One of the pages that a call may get hold of, mostly; else any number up to the guest's end.
+fn page(numbers: &mut Pcg32, pages: u32) -> u32 {
+    match below(numbers, 4) {
+        0 => below(numbers, pages.saturating_add(2)),
+        _ => 16u32.saturating_add(below(numbers, 12)),
+    }
+}
+
+/// A call of a guest's processor.
+fn call(alloc: Global, numbers: &mut Pcg32, cpu: u32, pages: u32) -> Result<Call, AllocError> {
+    let order = below(numbers, 3);
+    let page = page(numbers, pages);
+    let offset = below(numbers, 4_100);
+    let count = below(numbers, 9);
+    Ok(match below(numbers, 14) {
+        0 | 1 | 2 => Call::Alloc { cpu, order },
+        3 => Call::Free {
+            cpu,
+            start: page,
+            order,
+        },
+        4 | 5 => Call::Write {
+            page,
+            offset,
+            bytes: Bytes::new(vec![in alloc; count as u8; 1 + count as usize]?),
+        },
+        6 => Call::Read {
+            page,
+            offset,
+            len: 1 + count,
+        },
+        7 | 8 => Call::Inflate { pages: count },
+        9 => Call::Deflate { pages: count },
+        10 => Call::Oom { pages: count },
+        11 => Call::Report { from: page },
+        12 => Call::Stats,
+        _ => Call::Reap {
+            queue: below(numbers, 5),
+        },
+    })
+}
+
+/// A guest of random size with random scripts.
+fn guest(alloc: Global, numbers: &mut Pcg32) -> Result<GuestPlan, AllocError> {
+    let config = Config {
+        pages: 64 << below(numbers, 2),
+        queue_size: 2 << below(numbers, 4),
+        processors: 1 + below(numbers, 4),
+    };
+    let mut scripts = Vec::new(alloc);
+    for cpu in 0..config.processors {
+        let mut script = Vec::new(alloc);
+        for _ in 0..below(numbers, MAX_CALLS) {
+            script.push(call(alloc, numbers, cpu, config.pages)?)?;
+        }
+        scripts.push(script)?;
+    }
+    Ok(GuestPlan { config, scripts })
+}
+
+/// How a guest's doorbell is rung.
+fn bells(numbers: &mut Pcg32) -> Bells {
+    match below(numbers, 4) {
+        0 => Bells::Plain,
+        1 => Bells::Drop,
+        2 => Bells::Double,
+        _ => Bells::Late,
+    }
+}
+
+/// A plan of random guests, on a host that may want frames.
+fn plan(alloc: Global, numbers: &mut Pcg32) -> Result<Plan, AllocError> {
+    let mut guests = Vec::new(alloc);
+    for _ in 0..=below(numbers, MAX_GUESTS) {
+        guests.push(guest(alloc, numbers)?)?;
+    }
+    let count = guests.len() as u32;
+    let needed = count.saturating_mul(48);
+    Ok(Plan {
+        guests,
+        frames: 1 + below(numbers, needed),
+        bells: bells(numbers),
+        floor: below(numbers, 32),
+        rounds: below(numbers, 6),
+    })
+}
+
+/// Runs a plan on one table of frames, whose devices are of this pace.
+fn run<R: Threads + Wait + Sync>(
+    rt: &R,
+    alloc: Global,
+    plan: &Plan,
+    pace: Pace,
+) -> Result<Ended, AllocError> {
+    let ports = Ports {
+        count: plan.guests.len() as u32,
+        pace,
+        tables: Tables::Shared,
+        frames: plan.frames,
+    };
+    run_leased(rt, alloc, plan, ports, &OpenGate)
+}
+
+#[test]
+fn random_plans_replay(rt: HostRuntime) -> Result<(), Fail> {
+    let alloc = rt.alloc();
+    let mut numbers = Pcg32::new(SEED, 0);
+    for number in 0..PLANS {
+        let plan = plan(alloc, &mut numbers)?;
+        let pace = if below(&mut numbers, 2) == 0 {
+            Pace::Immediate
+        } else {
+            Pace::Paced
+        };
+        let ended = run(&rt, alloc, &plan, pace)?;
+        assert!(rt;
+            ended.result.is_ok() && ended.out == 0,
+            "plan {number} is run"
+        );
+    }
+    Ok(())
+}
