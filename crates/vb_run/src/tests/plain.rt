@@ -1,6 +1,8 @@
 //! A guest in plain words: lists and numbers, no rings, no bits and no boxes. It answers the calls
 //! that threads make, as the rules say, and takes from an entry what they leave open.
 
+mod device;
+mod driver;
 mod examples;
 mod pages;
 mod requests;
@@ -8,17 +10,13 @@ mod rows;
 
 use crate::Entry;
 use pages::{Block, Pages};
-use requests::{Requests, Stage};
+use requests::Requests;
+pub(crate) use rows::{Act, Row, Said, rows_of};
 use std::alloc::{AllocError, Global};
 use vb_model::layout::{DEFLATE_QUEUE, INFLATE_QUEUE, REPORT_QUEUE, STATISTICS_QUEUE};
-use vb_model::limits::{
-    MAX_ORDER, MAX_OUTSTANDING, MAX_REQUEST_PAGES, PAGE_SIZE, RESERVED_PAGES,
-    RING_AND_BUFFER_PAGES,
-};
+use vb_model::limits::{MAX_ORDER, PAGE_SIZE, RESERVED_PAGES, RING_AND_BUFFER_PAGES};
 use vb_model::{Claim, Place, Refusal};
 use vb_ram::Config;
-
-pub(crate) use rows::{Act, Row, Said, rows_of};
 
 /// The features that a driver accepts by itself.
 const ALL_FEATURES: u64 = 0x1_0000_0027;
@@ -70,23 +68,6 @@ fn is_of_balloon(act: Act<'_>) -> bool {
     }
 }
 
-/// Where pages are while a request of the queue names them.
-fn place_during(queue: u32) -> Place {
-    match queue {
-        INFLATE_QUEUE => Place::Giving,
-        DEFLATE_QUEUE => Place::Taking,
-        _ => Place::Reporting,
-    }
-}
-
-/// Where they go when it is reaped.
-fn place_after(queue: u32) -> Place {
-    match queue {
-        INFLATE_QUEUE => Place::Lent,
-        _ => Place::Free,
-    }
-}
-
 /// What the claims were refused for, if one was: then it is the last one.
 fn refusal_in(claims: &[Claim]) -> Option<Refusal> {
     match claims.last() {
@@ -121,9 +102,10 @@ impl PlainGuest {
         let needed = self.needed(alloc, row.act)?;
         if let Some(refusal) = refusal_in(row.claims) {
             // None of the frames stays, and nothing has changed.
-            let is_one = row.claims.iter().filter(|claim| !has_frame(**claim)).count() == 1;
+            let given = row.claims.iter().filter(|claim| has_frame(**claim));
+            let is_last = given.count().saturating_add(1) == row.claims.len();
             let are_few = row.claims.len() <= needed.len();
-            return Ok(is_one && are_few && row.said == Said::Refused(refusal));
+            return Ok(is_last && are_few && row.said == Said::Refused(refusal));
         }
         Ok(self.supply(needed.as_slice(), row.claims) && self.answer(alloc, row)? == row.said)
     }
@@ -145,10 +127,10 @@ impl PlainGuest {
     fn needed(&self, alloc: Global, act: Act<'_>) -> Result<Vec<u32>, AllocError> {
         let (first, end) = match act {
             Act::Init(_) if !self.is_ready => (0, RING_AND_BUFFER_PAGES),
-            Act::Write(page, offset, bytes)
-                if !bytes.is_empty() && self.access_refusal(page, offset, bytes.len()).is_none() =>
-            {
-                (page, page.saturating_add(1))
+            Act::Write(page, offset, bytes) => {
+                let refusal = self.access_refusal(page, offset, bytes.len());
+                let is_done = refusal.is_none() && !bytes.is_empty();
+                (page, page.saturating_add(u32::from(is_done)))
             }
             _ => (0, 0),
         };
@@ -167,8 +149,8 @@ impl PlainGuest {
 
     // ---- calls
 
-    /// Why a call is refused whatever else there is: no block is so wide, there is no such processor or
-    /// queue, or the driver isn't initialised.
+    /// Why a call is refused whatever else there is: no block is so wide, there is no such
+    /// processor or queue, or the driver isn't initialised.
     fn early_refusal(&self, act: Act<'_>) -> Option<Refusal> {
         match act {
             Act::Alloc(_, order) | Act::Free(_, _, order) if order > MAX_ORDER => {
@@ -238,7 +220,11 @@ impl PlainGuest {
     fn alloc(&mut self, order: u32, said: Said<'_>) -> Result<Said<'static>, AllocError> {
         let Said::Page(start) = said else {
             let has_block = self.pages.has_free_block(order);
-            return Ok(if has_block { Said::Other } else { Said::Refused(Refusal::NoPages) });
+            return Ok(if has_block {
+                Said::Other
+            } else {
+                Said::Refused(Refusal::NoPages)
+            });
         };
         let block = Block { start, order };
         if !self.pages.is_wholly_free(block) {
@@ -282,166 +268,12 @@ impl PlainGuest {
         if is_right { said } else { Said::Other }
     }
 
-    fn write(
-        &mut self,
-        page: u32,
-        offset: u32,
-        bytes: &[u8],
-    ) -> Result<Said<'static>, AllocError> {
+    fn write(&mut self, page: u32, offset: u32, bytes: &[u8]) -> Result<Said<'static>, AllocError> {
         if let Some(refusal) = self.access_refusal(page, offset, bytes.len()) {
             return Ok(Said::Refused(refusal));
         }
         self.pages.write(page, offset, bytes)?;
         Ok(Said::Done)
-    }
-
-    // ---- the driver
-
-    /// How many pages the guest has given or is giving.
-    fn given(&self) -> u32 {
-        let lent = self.pages.count_at(Place::Lent);
-        lent.saturating_add(self.pages.count_at(Place::Giving))
-    }
-
-    /// How many requests of queue 0 or 1, or blocks of a report, there may be.
-    fn room(&self) -> u32 {
-        u32::from(self.config.queue_size).min(MAX_OUTSTANDING)
-    }
-
-    /// Free pages up to the target. Which ones is open, and no entry tells: these are the driver's.
-    fn inflate(&mut self, alloc: Global, pages: u32) -> Result<Said<'static>, AllocError> {
-        let missing = self.target.saturating_sub(self.given());
-        let count = pages.min(MAX_REQUEST_PAGES).min(missing);
-        let named = self.pages.chosen(alloc, count)?;
-        self.post(INFLATE_QUEUE, self.room(), named)
-    }
-
-    /// The lowest lent pages, as many as are above the target.
-    fn deflate(&mut self, alloc: Global, pages: u32) -> Result<Said<'static>, AllocError> {
-        self.oom(alloc, pages.min(self.given().saturating_sub(self.target)))
-    }
-
-    /// The lowest lent pages, whatever the target.
-    fn oom(&mut self, alloc: Global, pages: u32) -> Result<Said<'static>, AllocError> {
-        let count = pages.min(MAX_REQUEST_PAGES);
-        let named = self.pages.lowest(alloc, Place::Lent, count)?;
-        self.post(DEFLATE_QUEUE, self.room(), named)
-    }
-
-    fn report(&mut self, alloc: Global, from: u32) -> Result<Said<'static>, AllocError> {
-        let named = self.pages.reported(alloc, from, self.room())?;
-        self.post(REPORT_QUEUE, 1, named)
-    }
-
-    /// A request for these pages, where so many may be out.
-    fn post(
-        &mut self,
-        queue: u32,
-        most: u32,
-        named: Vec<u32>,
-    ) -> Result<Said<'static>, AllocError> {
-        if self.requests.outstanding(queue) >= most as usize {
-            return Ok(Said::Refused(Refusal::QueueFull));
-        }
-        let Ok(count) = u32::try_from(named.len()) else {
-            return Ok(Said::Other);
-        };
-        if count == 0 {
-            return Ok(Said::Refused(Refusal::Nothing));
-        }
-        self.pages.put(named.as_slice(), place_during(queue));
-        let head = self.requests.post(queue, named)?;
-        Ok(Said::Posted(head, count))
-    }
-
-    fn reap(&mut self, queue: u32) -> Said<'static> {
-        let Some(request) = self.requests.pop(queue, Stage::Used) else {
-            return Said::NotUsed;
-        };
-        self.pages.put(request.pages.as_slice(), place_after(queue));
-        Said::Reaped(request.head, request.count())
-    }
-
-    fn stats(&mut self) -> Said<'static> {
-        let Buffer::Used(_) = self.buffer else {
-            return Said::NotUsed;
-        };
-        self.buffer = Buffer::Posted(self.pages.count_at(Place::Free));
-        Said::Filled
-    }
-
-    // ---- the device
-
-    fn take(&mut self, queue: u32) -> Result<Said<'static>, AllocError> {
-        if self.requests.taken(queue) >= MAX_OUTSTANDING as usize {
-            return Ok(Said::Refused(Refusal::Busy));
-        }
-        let Some(request) = self.requests.pop(queue, Stage::Posted) else {
-            return Ok(Said::Empty);
-        };
-        let head = request.head;
-        self.requests.push(request, Stage::Taken)?;
-        Ok(Said::Taken(head))
-    }
-
-    fn take_buffer(&mut self) -> Said<'static> {
-        match self.buffer {
-            Buffer::Taken(_) => Said::Refused(Refusal::Busy),
-            Buffer::Posted(free) => {
-                self.last_free = free;
-                self.buffer = Buffer::Taken(free);
-                Said::Taken(0)
-            }
-            _ => Said::Empty,
-        }
-    }
-
-    /// A paced device visits one page: of an inflate before any of a report.
-    fn work(&mut self) -> Said<'static> {
-        if !self.is_paced {
-            return Said::Idle;
-        }
-        let inflated = self.requests.visit(INFLATE_QUEUE);
-        let Some(page) = inflated.or_else(|| self.requests.visit(REPORT_QUEUE)) else {
-            return Said::Idle;
-        };
-        let freed = self.pages.has_frame(page);
-        self.pages.strip(&[page]);
-        Said::Worked(page, freed)
-    }
-
-    /// The oldest taken request is used. A paced device has visited each of its pages, but of a
-    /// deflate.
-    fn finish(&mut self, queue: u32) -> Result<Said<'static>, AllocError> {
-        if self.is_paced && queue != DEFLATE_QUEUE && self.requests.is_unvisited(queue) {
-            return Ok(Said::Refused(Refusal::NotWorked));
-        }
-        let Some(request) = self.requests.pop(queue, Stage::Taken) else {
-            return Ok(Said::Refused(Refusal::NotTaken));
-        };
-        self.settle(queue, request.pages.as_slice());
-        let head = request.head;
-        self.requests.push(request, Stage::Used)?;
-        Ok(Said::Finished(head))
-    }
-
-    /// The pages of an inflate or a report lose their frames; those of an inflate are ballooned from now
-    /// on, and those of a deflate aren't.
-    fn settle(&mut self, queue: u32, named: &[u32]) {
-        if queue != DEFLATE_QUEUE {
-            self.pages.strip(named);
-        }
-        if queue != REPORT_QUEUE {
-            self.pages.balloon(named, queue == INFLATE_QUEUE);
-        }
-    }
-
-    fn ask(&mut self) -> Said<'static> {
-        let Buffer::Taken(free) = self.buffer else {
-            return Said::Refused(Refusal::NotTaken);
-        };
-        self.buffer = Buffer::Used(free);
-        Said::Asked
     }
 }
 

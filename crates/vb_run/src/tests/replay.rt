@@ -1,15 +1,14 @@
 //! A guest's report, replayed in a plain guest: its history is permitted entry by entry, each
 //! processor's entries are its script with the reported replies, the balancer's are those of its
-//! rounds, each of the worker's changed something, nothing waits at the end, and the frames are those
-//! that are reported.
+//! rounds, each of the worker's changed something, nothing waits at the end, and the frames are
+//! those that are reported.
 
 mod changes;
 mod runs;
 
-pub(crate) use changes::first_missed;
-
 use super::plain::{Act, Row, Said, played, rows_of};
-use crate::{GuestPlan, GuestReport, Round};
+use crate::{GuestPlan, GuestReport, Plan, Report, Round};
+pub(crate) use changes::first_missed;
 use std::alloc::{AllocError, Global};
 use vb_model::{Actor, Call, Reply};
 
@@ -24,6 +23,43 @@ pub(crate) struct Case<'a> {
     pub rounds: &'a [Round],
     /// Whether the guest is on a paced device.
     pub is_paced: bool,
+}
+
+/// The case of the guest of this number, on a device of this pace.
+pub(crate) fn case_of<'a>(
+    plan: &'a Plan,
+    report: &'a Report,
+    guest: u32,
+    is_paced: bool,
+) -> Option<Case<'a>> {
+    let own = plan.guests.get(guest as usize)?;
+    Some(Case {
+        guest,
+        plan: own,
+        floor: plan.floor,
+        rounds: report.rounds.as_slice(),
+        is_paced,
+    })
+}
+
+/// Whether each guest's report is that of a run of the plan on devices of this pace.
+pub(crate) fn all_replay(
+    alloc: Global,
+    plan: &Plan,
+    report: &Report,
+    is_paced: bool,
+) -> Result<bool, AllocError> {
+    let mut guest = 0u32;
+    for own in &report.guests {
+        let Some(case) = case_of(plan, report, guest, is_paced) else {
+            return Ok(false);
+        };
+        if !replays(alloc, own, &case)? {
+            return Ok(false);
+        }
+        guest = guest.saturating_add(1);
+    }
+    Ok(report.guests.len() == plan.guests.len())
 }
 
 /// Whether the report is that of a run.
@@ -43,10 +79,12 @@ fn is_replay(
     report: &GuestReport,
     case: &Case<'_>,
 ) -> Result<bool, AllocError> {
-    Ok(are_fit(rows, case)
-        && are_scripts(alloc, rows, report, case)?
-        && is_balanced(alloc, rows, case)?
-        && ends(alloc, rows, report, case)?)
+    Ok(
+        are_fit(rows, case)
+            && are_scripts(alloc, rows, report, case)?
+            && is_balanced(alloc, rows, case)?
+            && ends(alloc, rows, report, case)?,
+    )
 }
 
 /// Whether nothing waits at the end of the history, and the frames are those of the report.
@@ -76,8 +114,8 @@ fn has_served(row: &Row<'_>) -> bool {
     }
 }
 
-/// Whether a row that isn't the first may be its actor's. Those of processors and of the balancer are
-/// compared with lists of their own.
+/// Whether a row that isn't the first may be its actor's. Those of processors and of the balancer
+/// are compared with lists of their own.
 fn is_fit(row: &Row<'_>, case: &Case<'_>) -> bool {
     match row.actor {
         Actor::Starter => false,
@@ -152,10 +190,16 @@ fn pairs_in<'a>(alloc: Global, case: &Case<'a>) -> Result<Vec<Pair<'a>>, AllocEr
     let place = case.guest as usize;
     for round in case.rounds {
         let need = round.needs().get(place);
-        pairs.push((Act::Look(case.floor), need.map_or(Said::Other, |own| Said::Spare(own.spare))))?;
+        pairs.push((
+            Act::Look(case.floor),
+            need.map_or(Said::Other, |own| Said::Spare(own.spare)),
+        ))?;
         if let Reply::Targets { pages } = round.answer() {
             let target = pages.as_slice().get(place);
-            pairs.push((target.map_or(Act::Other, |own| Act::SetTarget(*own)), Said::Done))?;
+            pairs.push((
+                target.map_or(Act::Other, |own| Act::SetTarget(*own)),
+                Said::Done,
+            ))?;
         }
     }
     Ok(pairs)

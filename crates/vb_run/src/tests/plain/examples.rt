@@ -1,5 +1,5 @@
-//! Written out histories, each line with what it is answered by the rules, and changed ones, which the
-//! plain guest refuses.
+//! Written out histories, each line with what it is answered by the rules, and changed ones, which
+//! the plain guest refuses.
 
 use super::{Act, Row, Said, played};
 use crate::GuestPlan;
@@ -33,11 +33,19 @@ static PACED: [Line; 50] = [
     (Act::Inflate(1), &[], Said::Refused(Refusal::NotReady)),
     (Act::Init(0x1_0000_0027), &THIRTEEN, Said::Ready),
     (Act::Alloc(0, 1), &[], Said::Page(16)),
-    (Act::Write(17, 4094, &[1, 2]), &[Claim::Gave(13)], Said::Done),
+    (
+        Act::Write(17, 4094, &[1, 2]),
+        &[Claim::Gave(13)],
+        Said::Done,
+    ),
     (Act::Write(17, 0, &[0xff]), &[], Said::Done),
     (Act::Read(17, 4093, 3), &[], Said::Bytes(&[0, 1, 2])),
     (Act::Read(18, 0, 1), &[], Said::Refused(Refusal::NotHeld)),
-    (Act::Write(16, 4096, &[1]), &[], Said::Refused(Refusal::OutOfRam)),
+    (
+        Act::Write(16, 4096, &[1]),
+        &[],
+        Said::Refused(Refusal::OutOfRam),
+    ),
     (Act::Free(0, 16, 0), &[], Said::Refused(Refusal::NotHeld)),
     (Act::Free(0, 16, 1), &[], Said::Done),
     (Act::Inflate(2), &[], Said::Refused(Refusal::Nothing)),
@@ -85,11 +93,19 @@ static PACED: [Line; 50] = [
 /// A guest with queues of 2 and two processors, on an immediate device that has 14 frames.
 static IMMEDIATE: [Line; 27] = [
     (Act::Init(0x1_0000_0027), &THIRTEEN, Said::Ready),
-    (Act::Init(0x1_0000_0027), &[], Said::Refused(Refusal::AlreadyUp)),
+    (
+        Act::Init(0x1_0000_0027),
+        &[],
+        Said::Refused(Refusal::AlreadyUp),
+    ),
     (Act::Alloc(1, 0), &[], Said::Page(16)),
     (Act::Write(16, 0, &[7]), &[Claim::Gave(13)], Said::Done),
     (Act::Alloc(0, 0), &[], Said::Page(24)),
-    (Act::Write(17, 0, &[5]), &[], Said::Refused(Refusal::NotHeld)),
+    (
+        Act::Write(17, 0, &[5]),
+        &[],
+        Said::Refused(Refusal::NotHeld),
+    ),
     (
         Act::Write(24, 0, &[5]),
         &[Claim::GaveNoFrame],

@@ -48,7 +48,11 @@ impl Pages {
         for page in 0..count {
             let is_reserved = page < RESERVED_PAGES;
             all.push(Page {
-                place: if is_reserved { Place::Reserved } else { Place::Free },
+                place: if is_reserved {
+                    Place::Reserved
+                } else {
+                    Place::Free
+                },
                 is_ballooned: false,
                 frame: None,
                 bytes: Vec::new(alloc),
@@ -59,7 +63,9 @@ impl Pages {
 
     /// Whether the page is there.
     pub fn is_at(&self, page: u32, place: Place) -> bool {
-        self.all.get(page as usize).is_some_and(|own| own.place == place)
+        self.all
+            .get(page as usize)
+            .is_some_and(|own| own.place == place)
     }
 
     /// How many pages are there.
@@ -161,26 +167,32 @@ impl Pages {
         Ok(pages)
     }
 
-    /// The pages of the first so many free blocks from this page on that are wide enough for a report.
+    /// The pages of the first so many free blocks from this page on that are wide enough for a
+    /// report.
     pub fn reported(&self, alloc: Global, from: u32, room: u32) -> Result<Vec<u32>, AllocError> {
         let blocks = self.free_blocks(alloc)?;
-        let wide = blocks
-            .iter()
-            .filter(|block| block.order >= MIN_REPORTED_ORDER && block.start >= from);
+        let wide = blocks.iter().filter(|block| block.order >= MIN_REPORTED_ORDER
+            && block.start >= from);
         let first = wide.take(room as usize);
-        first.flat_map(|block| block.start..block.end()).collect(alloc)
+        first
+            .flat_map(|block| block.start..block.end())
+            .collect(alloc)
     }
 
     // ---- frames and bytes
 
     /// Whether the page has a frame.
     pub fn has_frame(&self, page: u32) -> bool {
-        self.all.get(page as usize).is_some_and(|own| own.frame.is_some())
+        self.all
+            .get(page as usize)
+            .is_some_and(|own| own.frame.is_some())
     }
 
     /// Those of the pages from the first up to the end that have no frame.
     pub fn lacking(&self, alloc: Global, first: u32, end: u32) -> Result<Vec<u32>, AllocError> {
-        (first..end).filter(|page| !self.has_frame(*page)).collect(alloc)
+        (first..end)
+            .filter(|page| !self.has_frame(*page))
+            .collect(alloc)
     }
 
     /// The numbers of all frames, by rising page.
@@ -223,7 +235,8 @@ impl Pages {
 
     fn byte(&self, page: u32, offset: usize) -> u8 {
         let own = self.all.get(page as usize);
-        own.and_then(|own| own.bytes.get(offset).copied()).unwrap_or(0)
+        own.and_then(|own| own.bytes.get(offset).copied())
+            .unwrap_or(0)
     }
 
     /// Whether the page has these bytes from the offset on.

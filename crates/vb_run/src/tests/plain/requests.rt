@@ -76,7 +76,9 @@ impl Requests {
             let mut all = self.all.iter();
             all.any(|own| own.queue == queue && own.head == head)
         };
-        (0..MAX_OUTSTANDING).find(|head| !is_out(*head)).unwrap_or(0)
+        (0..MAX_OUTSTANDING)
+            .find(|head| !is_out(*head))
+            .unwrap_or(0)
     }
 
     /// A new request for these pages: its head.

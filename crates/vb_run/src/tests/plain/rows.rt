@@ -4,8 +4,8 @@ use crate::{Entry, Step};
 use std::alloc::{AllocError, Global};
 use vb_model::{Actor, Call, Claim, Refusal, Reply};
 
-/// A call that threads make, or the balancer's look. Where it names a queue, a block or bytes, so does
-/// this; a worker's `Finish` is that of request 0.
+/// A call that threads make, or the balancer's look. Where it names a queue, a block or bytes, so
+/// does this; a worker's `Finish` is that of request 0.
 #[derive(Clone, Copy, PartialEq, Eq)]
 pub(crate) enum Act<'a> {
     Init(u64),
@@ -36,7 +36,11 @@ impl<'a> Act<'a> {
             Call::Alloc { cpu, order } => Act::Alloc(*cpu, *order),
             Call::Free { cpu, start, order } => Act::Free(*cpu, *start, *order),
             Call::Read { page, offset, len } => Act::Read(*page, *offset, *len),
-            Call::Write { page, offset, bytes } => Act::Write(*page, *offset, bytes.as_slice()),
+            Call::Write {
+                page,
+                offset,
+                bytes,
+            } => Act::Write(*page, *offset, bytes.as_slice()),
             Call::Inflate { pages } => Act::Inflate(*pages),
             Call::Deflate { pages } => Act::Deflate(*pages),
             Call::Oom { pages } => Act::Oom(*pages),
@@ -134,9 +138,6 @@ impl<'a> Row<'a> {
 }
 
 /// A history's rows.
-pub(crate) fn rows_of<'a>(
-    alloc: Global,
-    history: &'a [Entry],
-) -> Result<Vec<Row<'a>>, AllocError> {
+pub(crate) fn rows_of<'a>(alloc: Global, history: &'a [Entry]) -> Result<Vec<Row<'a>>, AllocError> {
     history.iter().map(|entry| Row::of(entry)).collect(alloc)
 }

@@ -1,5 +1,5 @@
-//! Changed histories: at each place the row is dropped, doubled, exchanged with the one behind it, or
-//! has another reply, and where such a change must be refused it is.
+//! Changed histories: at each place the row is dropped, doubled, exchanged with the one behind it,
+//! or has another reply, and where such a change must be refused it is.
 
 use super::{Case, is_replay};
 use crate::GuestReport;
@@ -48,8 +48,8 @@ pub(crate) struct Miss {
 
 // ---- what a row needs
 
-/// What a row moves: a request or the statistics buffer, by its queue and head, from one point of its
-/// way round to the next: 0 in the driver's hands, 1 posted, 2 taken, 3 used.
+/// What a row moves: a request or the statistics buffer, by its queue and head, from one point of
+/// its way round to the next: 0 in the driver's hands, 1 posted, 2 taken, 3 used.
 #[derive(Clone, Copy, PartialEq, Eq)]
 struct Move {
     queue: u32,
@@ -101,8 +101,8 @@ fn use_of(row: &Row<'_>) -> Option<Use> {
 }
 
 /// Whether the second row, which follows the first, can't come before it: they move one request, or
-/// make one move of two requests of a queue; or they visit two pages; or one moves a block with a page
-/// that the other moves or uses.
+/// make one move of two requests of a queue; or they visit two pages; or one moves a block with a
+/// page that the other moves or uses.
 fn needs_order(first: &Row<'_>, second: &Row<'_>) -> bool {
     if let (Some(one), Some(other)) = (move_of(first), move_of(second)) {
         let is_one = one.head == other.head && one.to == other.from;
@@ -125,8 +125,8 @@ fn is_once(row: &Row<'_>) -> bool {
     is_moved || has_worked(row) || row.said == Said::Ready
 }
 
-/// What has to refuse it that two neighbours are exchanged. A script and the rounds have an order: rows
-/// of one processor, or of the balancer, that differ aren't exchanged. The start is the first.
+/// What has to refuse it that two neighbours are exchanged. A script and the rounds have an order:
+/// rows of one processor, or of the balancer, that differ aren't exchanged. The start is the first.
 fn judge_of_exchange(first: &Row<'_>, second: &Row<'_>) -> Judge {
     let is_listed = !matches!(first.actor, Actor::Worker { .. }) && first.actor == second.actor;
     let is_alike = first.act == second.act && first.said == second.said;
@@ -139,9 +139,9 @@ fn judge_of_exchange(first: &Row<'_>, second: &Row<'_>) -> Judge {
     }
 }
 
-/// What has to refuse a change at this row, with the one behind it. Without a row, or with it twice, a
-/// script or the rounds aren't whole or are too long, and a worker's next call, or the end, doesn't
-/// fit; a wrong reply is never permitted.
+/// What has to refuse a change at this row, with the one behind it. Without a row, or with it
+/// twice, a script or the rounds aren't whole or are too long, and a worker's next call, or the
+/// end, doesn't fit; a wrong reply is never permitted.
 fn judge_of(change: Change, row: &Row<'_>, next: Option<&Row<'_>>) -> Judge {
     match change {
         Change::Dropped => Judge::Report,
@@ -214,7 +214,11 @@ fn edited<'a>(
 ) -> Result<Vec<Row<'a>>, AllocError> {
     let before = rows.iter().take(place);
     let after = rows.iter().skip(place.saturating_add(gone));
-    before.chain(new.iter()).chain(after).copied().collect(alloc)
+    before
+        .chain(new.iter())
+        .chain(after)
+        .copied()
+        .collect(alloc)
 }
 
 /// The rows with a change at a place.
@@ -238,8 +242,8 @@ fn changed<'a>(
     }
 }
 
-/// Whether a change at a place is accepted and shouldn't be. Without a report only those count that the
-/// plain guest has to refuse.
+/// Whether a change at a place is accepted and shouldn't be. Without a report only those count that
+/// the plain guest has to refuse.
 fn is_missed(
     alloc: Global,
     rows: &[Row<'_>],

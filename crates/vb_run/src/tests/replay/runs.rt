@@ -1,9 +1,9 @@
 //! Runs whose reports are replayed, and whose changed histories are refused.
 
-use super::{Case, first_missed, replays};
-use crate::tests::plain::{accepts, rows_of};
+use super::{all_replay, case_of, first_missed};
 use crate::tests::leased::{Pace, Ports, Tables, run_leased};
-use crate::{Bells, GuestPlan, GuestReport, OpenGate, Plan};
+use crate::tests::plain::rows_of;
+use crate::{Bells, GuestPlan, OpenGate, Plan, Report};
 use std::alloc::{AllocError, Global};
 use std::process::Abort;
 use std::sync::Wait;
@@ -82,21 +82,25 @@ fn plan(alloc: Global, bells: Bells) -> Result<Plan, AllocError> {
     })
 }
 
-/// Checks that a guest's report is replayed, and its changed histories refused.
-fn check_guest(
+/// Checks that changed histories of a guest are refused.
+fn check_changes(
     rt: &impl Abort,
     alloc: Global,
-    report: &GuestReport,
-    case: &Case<'_>,
+    plan: &Plan,
+    report: &Report,
+    guest: u32,
+    is_paced: bool,
 ) -> Result<(), AllocError> {
-    let guest = case.guest;
-    let history = report.history.as_slice();
-    let is_accepted = accepts(alloc, history, case.plan.config, case.is_paced)?;
-    assert!(rt; is_accepted, "history of guest {guest}");
-    assert!(rt; replays(alloc, report, case)?, "report of guest {guest}");
-    let rows = rows_of(alloc, history)?;
-    let missed = first_missed(alloc, rows.as_slice(), case, Some(report))?;
-    assert!(rt; missed.is_none(), "guest {guest}: {missed:?}");
+    let own = report.guests.get(guest as usize);
+    let (Some(own), Some(case)) = (own, case_of(plan, report, guest, is_paced)) else {
+        return Ok(());
+    };
+    let rows = rows_of(alloc, own.history.as_slice())?;
+    let missed = first_missed(alloc, rows.as_slice(), &case, Some(own))?;
+    assert!(rt;
+        missed.is_none(),
+        "guest {guest}, paced: {is_paced}, {missed:?}"
+    );
     Ok(())
 }
 
@@ -118,17 +122,11 @@ fn check_pace<R: Threads + Wait + Sync + Abort>(
     let Ok(report) = ended.result else {
         return Err(AllocError);
     };
-    let mut number = 0u32;
-    for (own, guest) in report.guests.iter().zip(plan.guests.iter()) {
-        let case = Case {
-            guest: number,
-            plan: guest,
-            floor: plan.floor,
-            rounds: report.rounds.as_slice(),
-            is_paced: pace == Pace::Paced,
-        };
-        check_guest(rt, alloc, own, &case)?;
-        number = number.saturating_add(1);
+    let is_paced = pace == Pace::Paced;
+    let is_whole = all_replay(alloc, &plan, &report, is_paced)?;
+    assert!(rt; is_whole, "paced: {is_paced}");
+    for guest in 0..2 {
+        check_changes(rt, alloc, &plan, &report, guest, is_paced)?;
     }
     Ok(())
 }
