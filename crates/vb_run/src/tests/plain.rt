@@ -99,7 +99,8 @@ impl PlainGuest {
 
     /// Whether the row may come next. If so, it has happened.
     pub fn permits(&mut self, alloc: Global, row: &Row<'_>) -> Result<bool, AllocError> {
-        let needed = self.needed(alloc, row.act)?;
+        let (first, end) = self.needed(row.act);
+        let needed = self.pages.lacking(alloc, first, end)?;
         if let Some(refusal) = refusal_in(row.claims) {
             // None of the frames stays, and nothing has changed.
             let given = row.claims.iter().filter(|claim| has_frame(**claim));
@@ -123,18 +124,22 @@ impl PlainGuest {
 
     // ---- frames
 
-    /// The pages for which the call claims frames.
-    fn needed(&self, alloc: Global, act: Act<'_>) -> Result<Vec<u32>, AllocError> {
-        let (first, end) = match act {
+    /// The pages that need a frame for the call: those from the first up to the end.
+    fn needed(&self, act: Act<'_>) -> (u32, u32) {
+        match act {
             Act::Init(_) if !self.is_ready => (0, RING_AND_BUFFER_PAGES),
-            Act::Write(page, offset, bytes) => {
-                let refusal = self.access_refusal(page, offset, bytes.len());
-                let is_done = refusal.is_none() && !bytes.is_empty();
-                (page, page.saturating_add(u32::from(is_done)))
-            }
+            Act::Write(page, offset, bytes) => (page, self.written(page, offset, bytes)),
             _ => (0, 0),
-        };
-        self.pages.lacking(alloc, first, end)
+        }
+    }
+
+    /// The end of the pages that a write of these bytes changes.
+    fn written(&self, page: u32, offset: u32, bytes: &[u8]) -> u32 {
+        if bytes.is_empty() || self.access_refusal(page, offset, bytes.len()).is_some() {
+            page
+        } else {
+            page.saturating_add(1)
+        }
     }
 
     /// Gives each of the pages its frame: whether there was a claim for each.
@@ -293,6 +298,16 @@ pub(crate) fn played(
     Ok(Some(guest))
 }
 
+/// Whether each of these rows may come next, from plug on.
+pub(crate) fn are_permitted(
+    alloc: Global,
+    rows: &[Row<'_>],
+    config: Config,
+    is_paced: bool,
+) -> Result<bool, AllocError> {
+    Ok(played(alloc, rows, config, is_paced)?.is_some())
+}
+
 /// Whether each entry of the history may come next, from plug on.
 pub(crate) fn accepts(
     alloc: Global,
@@ -301,5 +316,5 @@ pub(crate) fn accepts(
     is_paced: bool,
 ) -> Result<bool, AllocError> {
     let rows = rows_of(alloc, history)?;
-    Ok(played(alloc, rows.as_slice(), config, is_paced)?.is_some())
+    are_permitted(alloc, rows.as_slice(), config, is_paced)
 }

@@ -1,7 +1,7 @@
 //! Written out histories, each line with what it is answered by the rules, and changed ones, which
 //! the plain guest refuses.
 
-use super::{Act, Row, Said, played};
+use super::{Act, Row, Said, are_permitted};
 use crate::GuestPlan;
 use crate::tests::replay::{Case, first_missed};
 use std::alloc::{AllocError, Global};
@@ -165,8 +165,8 @@ fn check_lines(
         is_paced,
     };
     let rows = rows_in(alloc, lines)?;
-    let last = played(alloc, rows.as_slice(), config, is_paced)?;
-    assert!(rt; last.is_some(), "paced: {is_paced}");
+    let is_right = are_permitted(alloc, rows.as_slice(), config, is_paced)?;
+    assert!(rt; is_right, "paced: {is_paced}");
     let missed = first_missed(alloc, rows.as_slice(), &case, None)?;
     assert!(rt; missed.is_none(), "paced: {is_paced}, {missed:?}");
     Ok(())

@@ -3,7 +3,7 @@
 
 use super::{Case, is_replay};
 use crate::GuestReport;
-use crate::tests::plain::{Act, Row, Said, played};
+use crate::tests::plain::{Act, Row, Said, are_permitted};
 use std::alloc::{AllocError, Global};
 use vb_model::layout::{DEFLATE_QUEUE, INFLATE_QUEUE, REPORT_QUEUE, STATISTICS_QUEUE};
 use vb_model::{Actor, Refusal};
@@ -242,8 +242,24 @@ fn changed<'a>(
     }
 }
 
-/// Whether a change at a place is accepted and shouldn't be. Without a report only those count that
-/// the plain guest has to refuse.
+/// Whether the judge accepts these rows. Without a report there is just the plain guest to judge.
+fn is_accepted(
+    alloc: Global,
+    judge: Judge,
+    rows: &[Row<'_>],
+    case: &Case<'_>,
+    report: Option<&GuestReport>,
+) -> Result<bool, AllocError> {
+    if judge == Judge::Guest {
+        return are_permitted(alloc, rows, case.plan.config, case.is_paced);
+    }
+    match report {
+        Some(report) if judge == Judge::Report => is_replay(alloc, rows, report, case),
+        _ => Ok(false),
+    }
+}
+
+/// Whether a change at a place is accepted and shouldn't be.
 fn is_missed(
     alloc: Global,
     rows: &[Row<'_>],
@@ -257,13 +273,7 @@ fn is_missed(
     };
     let judge = judge_of(change, row, rows.get(place.saturating_add(1)));
     let other = changed(alloc, rows, place, change)?;
-    match (judge, report) {
-        (Judge::Guest, _) => {
-            Ok(played(alloc, other.as_slice(), case.plan.config, case.is_paced)?.is_some())
-        }
-        (Judge::Report, Some(report)) => is_replay(alloc, other.as_slice(), report, case),
-        _ => Ok(false),
-    }
+    is_accepted(alloc, judge, other.as_slice(), case, report)
 }
 
 /// The first change at a place of the history that is accepted and shouldn't be.

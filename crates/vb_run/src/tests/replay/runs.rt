@@ -3,84 +3,55 @@
 use super::{all_replay, case_of, first_missed};
 use crate::tests::leased::{Pace, Ports, Tables, run_leased};
 use crate::tests::plain::rows_of;
-use crate::{Bells, GuestPlan, OpenGate, Plan, Report};
+use crate::tests::plans::{Balances, Guests, Line};
+use crate::{Bells, OpenGate, Plan, Report};
 use std::alloc::{AllocError, Global};
 use std::process::Abort;
 use std::sync::Wait;
 use std::test::Fail;
 use std::thread::Threads;
-use vb_model::{Bytes, Call};
 use vb_ram::Config;
 
-const SMALL: Config = Config {
-    pages: 64,
-    queue_size: 8,
-    processors: 2,
+/// Two guests, whose processors use a page and drive the balloon at the same time.
+static GUESTS: Guests = Guests {
+    count: 2,
+    config: Config {
+        pages: 64,
+        queue_size: 8,
+        processors: 2,
+    },
+    scripts: &[
+        &[
+            Line::Alloc(0),
+            Line::Write(16),
+            Line::Inflate(5),
+            Line::Read(16),
+            Line::Report,
+            Line::Reap(0),
+            Line::Deflate(2),
+            Line::Free(16),
+            Line::Reap(4),
+        ],
+        &[
+            Line::Stats,
+            Line::Inflate(3),
+            Line::Reap(0),
+            Line::Alloc(1),
+            Line::Deflate(1),
+            Line::Reap(1),
+            Line::Write(24),
+        ],
+    ],
+    rounds: 4,
 };
 
-const ROUNDS: u32 = 2;
+/// A host that wants pages of its guests.
+const FRAMES: u32 = 100;
 
-/// The calls of a processor: of its own pages it writes one, and it drives the balloon.
-fn call_of(alloc: Global, cpu: u32, number: u32) -> Result<Call, AllocError> {
-    let page = 16 + 8 * cpu;
-    let mut bytes = Vec::new(alloc);
-    bytes.push(0xaa)?;
-    let bytes = Bytes::new(bytes);
-    Ok(match number {
-        0 => Call::Alloc { cpu, order: 0 },
-        1 => Call::Write {
-            page,
-            offset: 4095,
-            bytes,
-        },
-        2 => Call::Inflate { pages: 5 },
-        3 => Call::Read {
-            page,
-            offset: 4094,
-            len: 2,
-        },
-        4 => Call::Report { from: 0 },
-        5 => Call::Stats,
-        6 => Call::Reap { queue: 0 },
-        7 => Call::Deflate { pages: 2 },
-        8 => Call::Free {
-            cpu,
-            start: page,
-            order: 0,
-        },
-        9 => Call::Oom { pages: 1 },
-        10 => Call::Reap { queue: 4 },
-        _ => Call::Reap { queue: 1 },
-    })
-}
-
-fn script(alloc: Global, cpu: u32) -> Result<Vec<Call>, AllocError> {
-    let mut calls = Vec::new(alloc);
-    for number in 0..12 * ROUNDS {
-        calls.push(call_of(alloc, cpu, number % 12)?)?;
-    }
-    Ok(calls)
-}
-
-fn plan(alloc: Global, bells: Bells) -> Result<Plan, AllocError> {
-    let mut guests = Vec::new(alloc);
-    for _ in 0..2 {
-        let mut scripts = Vec::new(alloc);
-        scripts.push(script(alloc, 0)?)?;
-        scripts.push(script(alloc, 1)?)?;
-        guests.push(GuestPlan {
-            config: SMALL,
-            scripts,
-        })?;
-    }
-    Ok(Plan {
-        guests,
-        frames: 100,
-        bells,
-        floor: 16,
-        rounds: 8,
-    })
-}
+const BALANCES: Balances = Balances {
+    floor: 16,
+    count: 8,
+};
 
 /// Checks that changed histories of a guest are refused.
 fn check_changes(
@@ -111,12 +82,12 @@ fn check_pace<R: Threads + Wait + Sync + Abort>(
     pace: Pace,
     bells: Bells,
 ) -> Result<(), AllocError> {
-    let plan = plan(alloc, bells)?;
+    let plan = GUESTS.plan(alloc, FRAMES, bells, BALANCES)?;
     let ports = Ports {
         count: 2,
         pace,
         tables: Tables::Shared,
-        frames: plan.frames,
+        frames: FRAMES,
     };
     let ended = run_leased(rt, alloc, &plan, ports, &OpenGate)?;
     let Ok(report) = ended.result else {
