@@ -147,8 +147,13 @@ fn pairs_by<'a>(
     rows: &[Row<'a>],
     actor: Actor,
 ) -> Result<Vec<Pair<'a>>, AllocError> {
-    let own = rows.iter().filter(|row| row.actor == actor);
-    own.map(|row| (row.act, row.said)).collect(alloc)
+    let mut pairs = Vec::new(alloc);
+    for row in rows {
+        if row.actor == actor {
+            pairs.push((row.act, row.said))?;
+        }
+    }
+    Ok(pairs)
 }
 
 /// The calls of a script with their replies.
@@ -157,10 +162,11 @@ fn pairs_of<'a>(
     calls: &'a [Call],
     replies: &'a [Reply],
 ) -> Result<Vec<Pair<'a>>, AllocError> {
-    let pairs = calls.iter().zip(replies.iter());
-    pairs
-        .map(|(call, reply)| (Act::of(call), Said::of(reply)))
-        .collect(alloc)
+    let mut pairs = Vec::new(alloc);
+    for (call, reply) in calls.iter().zip(replies.iter()) {
+        pairs.push((Act::of(call), Said::of(reply)))?;
+    }
+    Ok(pairs)
 }
 
 /// Whether what each processor called and was replied is its script with the reported replies.

@@ -135,13 +135,16 @@ static IMMEDIATE: [Line; 27] = [
 
 /// The lines as a history. Who makes a call is nothing to the plain guest.
 fn rows_in(alloc: Global, lines: &'static [Line]) -> Result<Vec<Row<'static>>, AllocError> {
-    let rows = lines.iter().map(|line| Row {
-        actor: Actor::Balancer,
-        act: line.0,
-        claims: line.1,
-        said: line.2,
-    });
-    rows.collect(alloc)
+    let mut rows = Vec::new(alloc);
+    for (act, claims, said) in lines {
+        rows.push(Row {
+            actor: Actor::Balancer,
+            act: *act,
+            claims: *claims,
+            said: *said,
+        })?;
+    }
+    Ok(rows)
 }
 
 /// Checks that the lines are permitted, and that changed ones are not where the plain guest has to

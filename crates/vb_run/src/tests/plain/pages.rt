@@ -63,21 +63,30 @@ impl Pages {
 
     /// Whether the page is there.
     pub fn is_at(&self, page: u32, place: Place) -> bool {
-        self.all
-            .get(page as usize)
-            .is_some_and(|own| own.place == place)
+        match self.all.get(page as usize) {
+            Some(own) => own.place == place,
+            None => false,
+        }
     }
 
     /// How many pages are there.
     pub fn count_at(&self, place: Place) -> u32 {
-        let count = self.all.iter().filter(|own| own.place == place).count();
-        u32::try_from(count).unwrap_or(u32::MAX)
+        let mut count = 0u32;
+        for own in &self.all {
+            if own.place == place {
+                count = count.saturating_add(1);
+            }
+        }
+        count
     }
 
     /// How many pages the device holds to be ballooned.
     pub fn count_ballooned(&self) -> u32 {
-        let count = self.all.iter().filter(|own| own.is_ballooned).count();
-        u32::try_from(count).unwrap_or(u32::MAX)
+        let mut count = 0u32;
+        for own in &self.all {
+            count = count.saturating_add(u32::from(own.is_ballooned));
+        }
+        count
     }
 
     /// The lowest pages that are there, so many.
@@ -114,13 +123,22 @@ impl Pages {
 
     /// Whether this is a block, at a multiple of its size, of free pages.
     pub fn is_wholly_free(&self, block: Block) -> bool {
+        for page in block.start..block.end() {
+            if !self.is_at(page, Place::Free) {
+                return false;
+            }
+        }
         block.start.checked_rem(block.size()) == Some(0)
-            && (block.start..block.end()).all(|page| self.is_at(page, Place::Free))
     }
 
     /// Whether some block of the order is wholly free.
     pub fn has_free_block(&self, order: u32) -> bool {
-        (0..self.count).any(|start| self.is_wholly_free(Block { start, order }))
+        for start in 0..self.count {
+            if self.is_wholly_free(Block { start, order }) {
+                return true;
+            }
+        }
+        false
     }
 
     /// The largest free block that starts here.
@@ -160,8 +178,7 @@ impl Pages {
         }
         let blocks = self.free_blocks(alloc)?;
         for order in 0..=MAX_ORDER {
-            let own = blocks.iter().filter(|block| block.order == order);
-            pages.extend(own.flat_map(|block| block.start..block.end()))?;
+            push_blocks(&mut pages, blocks.as_slice(), order)?;
         }
         pages.truncate(count as usize);
         Ok(pages)
@@ -170,34 +187,57 @@ impl Pages {
     /// The pages of the first so many free blocks from this page on that are wide enough for a
     /// report.
     pub fn reported(&self, alloc: Global, from: u32, room: u32) -> Result<Vec<u32>, AllocError> {
-        let blocks = self.free_blocks(alloc)?;
-        let wide = blocks.iter().filter(|block| block.order >= MIN_REPORTED_ORDER
-            && block.start >= from);
-        let first = wide.take(room as usize);
-        first
-            .flat_map(|block| block.start..block.end())
-            .collect(alloc)
+        let mut left = room;
+        let mut pages = Vec::new(alloc);
+        for block in self.free_blocks(alloc)? {
+            if left > 0 && block.order >= MIN_REPORTED_ORDER && block.start >= from {
+                push_block(&mut pages, block)?;
+                left = left.saturating_sub(1);
+            }
+        }
+        Ok(pages)
     }
 
     // ---- frames and bytes
 
     /// Whether the page has a frame.
     pub fn has_frame(&self, page: u32) -> bool {
-        self.all
-            .get(page as usize)
-            .is_some_and(|own| own.frame.is_some())
+        match self.all.get(page as usize) {
+            Some(own) => own.frame.is_some(),
+            None => false,
+        }
     }
 
     /// Those of the pages from the first up to the end that have no frame.
     pub fn lacking(&self, alloc: Global, first: u32, end: u32) -> Result<Vec<u32>, AllocError> {
-        (first..end)
-            .filter(|page| !self.has_frame(*page))
-            .collect(alloc)
+        let mut pages = Vec::new(alloc);
+        for page in first..end {
+            if !self.has_frame(page) {
+                pages.push(page)?;
+            }
+        }
+        Ok(pages)
     }
 
     /// The numbers of all frames, by rising page.
     pub fn frames(&self, alloc: Global) -> Result<Vec<u32>, AllocError> {
-        self.all.iter().filter_map(|own| own.frame).collect(alloc)
+        let mut frames = Vec::new(alloc);
+        for own in &self.all {
+            if let Some(frame) = own.frame {
+                frames.push(frame)?;
+            }
+        }
+        Ok(frames)
+    }
+
+    /// Whether some page has the frame.
+    fn holds(&self, frame: u32) -> bool {
+        for own in &self.all {
+            if own.frame == Some(frame) {
+                return true;
+            }
+        }
+        false
     }
 
     /// The page gets the frame that was given: whether one was, and no page has it yet.
@@ -205,7 +245,7 @@ impl Pages {
         let Claim::Gave(frame) = claim else {
             return false;
         };
-        if self.all.iter().any(|own| own.frame == Some(frame)) {
+        if self.holds(frame) {
             return false;
         }
         if let Some(own) = self.all.get_mut(page as usize) {
@@ -234,17 +274,20 @@ impl Pages {
     }
 
     fn byte(&self, page: u32, offset: usize) -> u8 {
-        let own = self.all.get(page as usize);
-        own.and_then(|own| own.bytes.get(offset).copied())
-            .unwrap_or(0)
+        match self.all.get(page as usize) {
+            Some(own) => own.bytes.get(offset).copied().unwrap_or(0),
+            None => 0,
+        }
     }
 
     /// Whether the page has these bytes from the offset on.
     pub fn reads(&self, page: u32, offset: u32, bytes: &[u8]) -> bool {
-        let mut places = bytes.iter().enumerate();
-        places.all(|(place, byte)| {
-            self.byte(page, place.saturating_add(offset as usize)) == *byte
-        })
+        for (place, byte) in bytes.iter().enumerate() {
+            if self.byte(page, place.saturating_add(offset as usize)) != *byte {
+                return false;
+            }
+        }
+        true
     }
 
     /// Writes bytes to a page from the offset on.
@@ -259,4 +302,22 @@ impl Pages {
         }
         Ok(())
     }
+}
+
+/// The pages of a block.
+fn push_block(pages: &mut Vec<u32>, block: Block) -> Result<(), AllocError> {
+    for page in block.start..block.end() {
+        pages.push(page)?;
+    }
+    Ok(())
+}
+
+/// The pages of those blocks that have the order.
+fn push_blocks(pages: &mut Vec<u32>, blocks: &[Block], order: u32) -> Result<(), AllocError> {
+    for block in blocks {
+        if block.order == order {
+            push_block(pages, *block)?;
+        }
+    }
+    Ok(())
 }

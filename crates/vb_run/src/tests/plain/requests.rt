@@ -56,29 +56,53 @@ impl Requests {
 
     /// How many requests of the queue are out.
     pub fn outstanding(&self, queue: u32) -> usize {
-        self.all.iter().filter(|own| own.queue == queue).count()
+        let mut count = 0usize;
+        for own in &self.all {
+            if own.queue == queue {
+                count = count.saturating_add(1);
+            }
+        }
+        count
     }
 
     /// How many requests of the queue the device has.
     pub fn taken(&self, queue: u32) -> usize {
-        let taken = self.all.iter().filter(|own| own.is_at(queue, Stage::Taken));
-        taken.count()
+        let mut count = 0usize;
+        for own in &self.all {
+            if own.is_at(queue, Stage::Taken) {
+                count = count.saturating_add(1);
+            }
+        }
+        count
     }
 
     /// Whether some request waits for the device.
     pub fn is_waiting(&self) -> bool {
-        self.all.iter().any(|own| own.stage != Stage::Used)
+        for own in &self.all {
+            if own.stage != Stage::Used {
+                return true;
+            }
+        }
+        false
+    }
+
+    fn has_head(&self, queue: u32, head: u32) -> bool {
+        for own in &self.all {
+            if own.queue == queue && own.head == head {
+                return true;
+            }
+        }
+        false
     }
 
     /// The least head that no request of the queue has.
     fn least_head(&self, queue: u32) -> u32 {
-        let is_out = |head: u32| {
-            let mut all = self.all.iter();
-            all.any(|own| own.queue == queue && own.head == head)
-        };
-        (0..MAX_OUTSTANDING)
-            .find(|head| !is_out(*head))
-            .unwrap_or(0)
+        for head in 0..MAX_OUTSTANDING {
+            if !self.has_head(queue, head) {
+                return head;
+            }
+        }
+        0
     }
 
     /// A new request for these pages: its head.
@@ -94,15 +118,30 @@ impl Requests {
         Ok(head)
     }
 
+    /// The place of the first request of the queue that is there.
+    fn place_of(&self, queue: u32, stage: Stage) -> Option<usize> {
+        for (place, own) in self.all.iter().enumerate() {
+            if own.is_at(queue, stage) {
+                return Some(place);
+            }
+        }
+        None
+    }
+
     /// Whether the oldest taken request of the queue has a page to visit.
     pub fn is_unvisited(&self, queue: u32) -> bool {
-        let oldest = self.all.iter().find(|own| own.is_at(queue, Stage::Taken));
-        oldest.is_some_and(|own| own.next_page().is_some())
+        let Some(place) = self.place_of(queue, Stage::Taken) else {
+            return false;
+        };
+        match self.all.get(place) {
+            Some(oldest) => oldest.next_page().is_some(),
+            None => false,
+        }
     }
 
     /// Takes the first request of the queue that is there off the list.
     pub fn pop(&mut self, queue: u32, stage: Stage) -> Option<Request> {
-        let place = self.all.iter().position(|own| own.is_at(queue, stage))?;
+        let place = self.place_of(queue, stage)?;
         if place < self.all.len() {
             Some(self.all.remove(place))
         } else {

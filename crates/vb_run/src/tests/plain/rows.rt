@@ -139,5 +139,9 @@ impl<'a> Row<'a> {
 
 /// A history's rows.
 pub(crate) fn rows_of<'a>(alloc: Global, history: &'a [Entry]) -> Result<Vec<Row<'a>>, AllocError> {
-    history.iter().map(|entry| Row::of(entry)).collect(alloc)
+    let mut rows = Vec::new(alloc);
+    for entry in history {
+        rows.push(Row::of(entry))?;
+    }
+    Ok(rows)
 }

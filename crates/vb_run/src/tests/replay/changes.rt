@@ -9,7 +9,7 @@ use vb_model::layout::{DEFLATE_QUEUE, INFLATE_QUEUE, REPORT_QUEUE, STATISTICS_QU
 use vb_model::{Actor, Refusal};
 
 /// What is done to a history at a place.
-#[derive(Clone, Copy, Debug, PartialEq, Eq)]
+#[derive(Clone, Copy, Debug)]
 pub(crate) enum Change {
     Dropped,
     Doubled,
@@ -40,7 +40,7 @@ enum Judge {
 }
 
 /// A changed history that was accepted, and shouldn't have been.
-#[derive(Clone, Copy, Debug, PartialEq, Eq)]
+#[derive(Clone, Copy, Debug)]
 pub(crate) struct Miss {
     pub place: usize,
     pub change: Change,
@@ -50,7 +50,7 @@ pub(crate) struct Miss {
 
 /// What a row moves: a request or the statistics buffer, by its queue and head, from one point of
 /// its way round to the next: 0 in the driver's hands, 1 posted, 2 taken, 3 used.
-#[derive(Clone, Copy, PartialEq, Eq)]
+#[derive(Clone, Copy)]
 struct Move {
     queue: u32,
     head: u32,
@@ -80,7 +80,7 @@ fn move_of(row: &Row<'_>) -> Option<Move> {
 }
 
 /// What a row does with the pages of a block, from the first up to the end.
-#[derive(Clone, Copy, PartialEq, Eq)]
+#[derive(Clone, Copy)]
 struct Use {
     /// Whether a processor gets the block or gives it back, and doesn't just read or write a page.
     moves: bool,
