@@ -150,7 +150,10 @@ fn what_cannot_be_run_is_refused_and_leaves_no_frame_out(rt: HostRuntime) -> Res
     for row in &ROWS {
         let ended = row.run(&rt, rt.alloc())?;
         let name = row.name;
-        assert!(rt; ended.result.err() == row.fault && ended.out == 0, "{name}");
+        assert!(rt;
+            ended.is_clean() && ended.result.err() == row.fault,
+            "{name}"
+        );
     }
     Ok(())
 }

@@ -198,7 +198,7 @@ fn offers_four_pages(report: &Report) -> bool {
 fn each_guest_and_processor_and_worker_has_its_thread(rt: HostRuntime) -> Result<(), Fail> {
     for row in [&GUESTS_APART, &FIRST_AFTER_SECOND, &SECOND_AFTER_FIRST] {
         let ended = row.run(&rt, rt.alloc())?;
-        assert!(rt; ended.is_some_and(|ended| ended.result.is_ok() && ended.out == 0));
+        assert!(rt; ended.is_some_and(|ended| ended.result.is_ok() && ended.is_clean()));
     }
     Ok(())
 }

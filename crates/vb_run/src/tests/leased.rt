@@ -1,5 +1,6 @@
 //! Runs of plans on leased frames.
 
+use crate::tests::replay::all_replay;
 use crate::{Gate, Plan, Report, RunFault, add_port, plug_in, run_threads};
 use std::alloc::{AllocError, Global};
 use std::sync::Wait;
@@ -38,7 +39,16 @@ pub(super) struct Ports {
 pub(super) struct Ended {
     pub result: Result<Report, RunFault>,
     /// Frames that are out afterwards, over all tables.
-    pub out: u32,
+    out: u32,
+    /// Whether all histories of the report, if there is one, replay in a plain guest.
+    replays: bool,
+}
+
+impl Ended {
+    /// Whether all frames came back, and all histories replay.
+    pub(super) fn is_clean(&self) -> bool {
+        self.out == 0 && self.replays
+    }
 }
 
 /// A table with a pass for each of so many guests.
@@ -109,5 +119,13 @@ pub(super) fn run_leased<G: Gate, R: Threads + Wait + Sync>(
         .iter()
         .map(SharedFrames::census)
         .fold(0, u32::saturating_add);
-    Ok(Ended { result, out })
+    let replays = match &result {
+        Ok(report) => all_replay(alloc, plan, report, ports.pace == Pace::Paced)?,
+        Err(_fault) => true,
+    };
+    Ok(Ended {
+        result,
+        out,
+        replays,
+    })
 }

@@ -151,7 +151,7 @@ fn random_plans_replay(rt: HostRuntime) -> Result<(), Fail> {
         };
         let ended = run(&rt, alloc, &plan, pace)?;
         assert!(rt;
-            ended.result.is_ok() && ended.out == 0,
+            ended.result.is_ok() && ended.is_clean(),
             "plan {turn} is run"
         );
     }

@@ -10,7 +10,7 @@ fn want_of_memory_leaves_no_report_or_a_whole_one(rt: HostRuntime) {
     let Ok(ended) = TWO_GUESTS.run(&rt, rt.alloc(), Bells::Plain) else {
         return;
     };
-    assert!(rt; ended.out == 0);
+    assert!(rt; ended.is_clean());
     match &ended.result {
         Ok(report) => assert!(rt; report.guests.len() == 2),
         Err(fault) => assert!(rt; *fault == RunFault::Memory),

@@ -142,7 +142,7 @@ impl Row {
         }
         report.guests.len() == self.guests.count as usize
             && report.rounds.len() == self.balances.count as usize
-            && ended.out == 0
+            && ended.is_clean()
     }
 }
 
