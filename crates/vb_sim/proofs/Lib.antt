@@ -1,4 +1,7 @@
-pub mod Paces
 pub mod Listing
+pub mod Paces
+pub mod Passes
+pub mod Planning
 pub mod Reading
+pub mod Reporting
 pub mod Speaking

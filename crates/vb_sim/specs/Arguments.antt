@@ -1,21 +1,69 @@
--- Which command lines ask for a run, and what is said of the others.
-use Rattle.std.specs.Prelude.{◌≡◌, ◌≢◌, ℕ, Bool, true, false, List, [], ◌∷◌, ◌++◌, codes}
+-- What command lines ask for, and what is said of those that ask for nothing.
+use Rattle.std.specs.Prelude.{◌≡◌, ◌≢◌, ℕ, List, [], ◌∷◌, ◌++◌, Option, Some, None, codes}
+use Rattle.std.specs.Prelude.{Result, Ok, Err, if◌then◌else◌, map, string_bytes}
+use Rattle.std.specs.Option.{option_map}
 use Rattle.std.specs.IoError.{error_kind}
 use Rattle.std.specs.Str.{bytes_eq}
+use Rattle.std.specs.declared.alloc.Global.{Global}
 use Rattle.std.specs.declared.io.Error.{Error}
 use Rattle.std.specs.declared.io.ErrorKind.TheVariants.{OutOfMemory}
+use Rattle.std.specs.declared.string.String.{String}
+use Rattle.std.specs.declared.vec.Vec.{Vec}
 use Rattle.clap.specs.Values.{kind_of}
 use Rattle.clap.specs.declared.error.Error.{Error as ClapError}
 use Rattle.clap.specs.declared.error.kind.ErrorKind.TheVariants.{OutOfMemory as NoRoom}
+use Rattle.vb_run.specs.declared.plan.Bells.{Bells}
+use Rattle.vb_run.specs.declared.plan.Bells.TheVariants.{Plain, Drop, Double, Late}
 use Rattle.vb_sim.specs.declared.arguments.ArgumentsFault.{ArgumentsFault}
 use Rattle.vb_sim.specs.declared.arguments.ArgumentsFault.TheVariants.{Refused, Memory}
+use Rattle.vb_sim.specs.declared.arguments.Asked.{Asked}
+use Rattle.vb_sim.specs.declared.arguments.Asked.TheVariants.{Run, Threads}
 
--- the program's name, and no word behind it but `run`
-abbrev pub asks_for_run : List (List ℕ) → Bool
-asks_for_run [] = true
-asks_for_run (name ∷ []) = true
-asks_for_run (name ∷ word ∷ []) = bytes_eq word (codes "run")
-asks_for_run (name ∷ word ∷ more ∷ words) = false
+-- how doorbells are rung, by the word for it
+abbrev pub bells_named : List ℕ → Option Bells
+bells_named mode =
+    if bytes_eq mode (codes "plain") then Some Plain
+    else (if bytes_eq mode (codes "drop") then Some Drop
+    else (if bytes_eq mode (codes "double") then Some Double
+    else (if bytes_eq mode (codes "late") then Some Late else None)))
+
+-- the same behind `--bells=`
+abbrev pub bells_joined : List ℕ → Option Bells
+bells_joined option =
+    if bytes_eq option (codes "--bells=plain") then Some Plain
+    else (if bytes_eq option (codes "--bells=drop") then Some Drop
+    else (if bytes_eq option (codes "--bells=double") then Some Double
+    else (if bytes_eq option (codes "--bells=late") then Some Late else None)))
+
+-- the words behind `run`: none
+abbrev pub run_with : List (List ℕ) → Option Asked
+run_with [] = Some Run
+run_with (word ∷ words) = None
+
+-- the words behind `threads`: none, `--bells=MODE`, or `--bells MODE`
+abbrev pub threads_with : List (List ℕ) → Option Asked
+threads_with [] = Some (Threads Plain)
+threads_with (option ∷ []) = option_map Threads (bells_joined option)
+threads_with (option ∷ mode ∷ []) =
+    if bytes_eq option (codes "--bells") then option_map Threads (bells_named mode) else None
+threads_with (option ∷ mode ∷ more ∷ words) = None
+
+-- what a word asks for with these words behind it
+abbrev pub command_of : List ℕ → List (List ℕ) → Option Asked
+command_of word words =
+    if bytes_eq word (codes "run") then run_with words
+    else (if bytes_eq word (codes "threads") then threads_with words else None)
+
+-- what the words of a command line ask for, the program's name first; with no other word for a run
+abbrev pub asked_of : List (List ℕ) → Option Asked
+asked_of [] = Some Run
+asked_of (name ∷ []) = Some Run
+asked_of (name ∷ word ∷ words) = command_of word words
+
+-- the same, if the words could be had
+abbrev pub asked_by : Result (Vec (String Global) Global) ArgumentsFault → Option Asked
+asked_by (Err fault) = None
+asked_by (Ok words) = asked_of (map string_bytes words.items)
 
 abbrev pub IsFaultOf : Error → ArgumentsFault → Type 0
 IsFaultOf fault Memory = error_kind fault ≡ OutOfMemory

@@ -1,15 +1,27 @@
 -- How a command ends.
-use Rattle.std.specs.Prelude.{◌⊎◌, ℕ, List, Option}
+use Rattle.std.specs.Prelude.{◌⊎◌, ℕ, List, Option, Some, None}
 use Rattle.std.specs.Io.KnownBytes.{Keeps}
 use Rattle.vb_sim.specs.Arguments.{refusal_line, refusal_status}
 use Rattle.vb_sim.specs.Ends.{Ends, Says}
 use Rattle.vb_sim.specs.Plays.{RunsSafely}
+use Rattle.vb_sim.specs.Threads.{ThreadsEnds}
 use Rattle.vb_sim.specs.declared.arguments.ArgumentsFault.{ArgumentsFault}
+use Rattle.vb_sim.specs.declared.arguments.Asked.{Asked}
+use Rattle.vb_sim.specs.declared.arguments.Asked.TheVariants.{Run, Threads}
 
--- by a run, if it asks for one; or nothing is printed, and a line says why
-abbrev pub CommandEnds : Type 0 → Option (List ℕ) → Option (List ℕ) → Option (List ℕ)
+-- as what was asked for ends
+abbrev pub EndsAs : Option Asked → Option (List ℕ) → Option (List ℕ) → Option (List ℕ)
     → Option (List ℕ) → Option (List ℕ) → ℕ → Type 0
-CommandEnds Asks input output written errors said status =
-    (Asks × Ends RunsSafely input output written errors said status)
+EndsAs None input output written errors said status = ⊥
+EndsAs (Some Run) input output written errors said status =
+    Ends RunsSafely input output written errors said status
+EndsAs (Some (Threads bells)) input output written errors said status =
+    ThreadsEnds bells input output written errors said status
+
+-- as what it asks for ends; or nothing is printed, and a line says why
+abbrev pub CommandEnds : Option Asked → Option (List ℕ) → Option (List ℕ) → Option (List ℕ)
+    → Option (List ℕ) → Option (List ℕ) → ℕ → Type 0
+CommandEnds asked input output written errors said status =
+    EndsAs asked input output written errors said status
     ⊎ ((fault : ArgumentsFault) × Keeps output written
     × Says (refusal_line fault) (refusal_status fault) errors said status)

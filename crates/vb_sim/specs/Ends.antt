@@ -6,14 +6,17 @@ use Rattle.vb_model.specs.declared.replies.Reply.{Reply}
 use Rattle.vb_script.specs.Texts.{Said, script_of}
 use Rattle.vb_sim.specs.Faults.{IfBadLine, UnlessStream, status_of}
 use Rattle.vb_sim.specs.Plays.{Prints}
-use Rattle.vb_sim.specs.declared.run.RunFault.{RunFault}
-use Rattle.vb_sim.specs.declared.run.RunFault.TheVariants.{BadLine, Memory, Stream}
+use Rattle.vb_sim.specs.declared.fault.ProgramFault.{ProgramFault}
+use Rattle.vb_sim.specs.declared.fault.ProgramFault.TheVariants.{BadLine, BadPlan, Memory, Audit}
+use Rattle.vb_sim.specs.declared.fault.ProgramFault.TheVariants.{Stream}
 
 -- what standard error says of a fault
-abbrev pub fault_line : RunFault → List ℕ
+abbrev pub fault_line : ProgramFault → List ℕ
 fault_line (BadLine number) =
     codes "script: line " ++ (decimal number ++ (codes ": bad line" ++ 10 ∷ []))
+fault_line BadPlan = codes "run: bad plan" ++ 10 ∷ []
 fault_line Memory = codes "run: memory" ++ 10 ∷ []
+fault_line Audit = codes "run: audit" ++ 10 ∷ []
 fault_line Stream = []
 
 -- the line is written and the status is this one, or the line can't be written
@@ -27,7 +30,7 @@ abbrev pub Ends : (Said → List Reply → Type 0) → Option (List ℕ) → Opt
 Ends Played input output written errors said status =
     ((status ≡ 0) × IfSome input (λ text. Prints Played (script_of text) output written)
     × Keeps errors said)
-    ⊎ ((fault : RunFault)
+    ⊎ ((fault : ProgramFault)
     × IfBadLine fault (λ number. IfSome input (λ text. script_of text ≡ Err number))
     × UnlessStream fault (Keeps output written)
     × Says (fault_line fault) (status_of fault) errors said status)

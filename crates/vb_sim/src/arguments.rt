@@ -1,12 +1,23 @@
 //! The command line.
 
-ghost use Rattle.std.specs.Prelude.{◌≡◌, ◌≢◌, map, string_bytes, true, OnOk};
-ghost use Rattle.vb_sim.specs.Arguments.{asks_for_run};
+ghost use Rattle.std.specs.Prelude.{◌≡◌, ◌≢◌, drop, map, string_bytes, IfOk, Some};
+ghost use Rattle.vb_sim.specs.Arguments.{asked_of, bells_joined, bells_named, command_of};
+ghost use Rattle.vb_sim.specs.Arguments.{run_with, threads_with};
 
 use clap::error::ErrorKind;
-use clap::{Command, Error};
+use clap::{Arg, ArgAction, Command, Error};
 use std::alloc::{AllocError, Global};
 use std::io;
+use vb_run::Bells;
+
+/// What a command line asks for.
+#[derive(Clone, Copy, Debug, PartialEq, Eq)]
+pub enum Asked {
+    /// To run a script of events.
+    Run,
+    /// To run a script for guests on threads, with doorbells rung like this.
+    Threads(Bells),
+}
 
 /// Why a command line asks for nothing.
 #[derive(Clone, Copy, Debug, PartialEq, Eq)]
@@ -53,26 +64,84 @@ impl From<Error> for ArgumentsFault {
     }
 }
 
-/// Whether the words of a command line, the program's name first, ask for a run: `run`, or no
-/// word at all.
-pub fn read_arguments(alloc: Global, words: &[String]) -> Result<(), ArgumentsFault>
-    ensures { OnOk result (asks_for_run (map string_bytes words.now) ≡ true) }
+/// What the words of a command line, the program's name first, ask for: `run`, or no word at all;
+/// or `threads`, with `--bells MODE` or without.
+pub fn read_arguments(alloc: Global, words: &[String]) -> Result<Asked, ArgumentsFault>
+    ensures { IfOk result (λ asked. asked_of (map string_bytes words.now) ≡ Some asked) }
 {
     command(alloc)?.try_get_matches_from(words)?;
-    if !asks_for_run(words) {
-        return Err(ArgumentsFault::Refused);
-    }
-    Ok(())
+    asked_of(words).ok_or(ArgumentsFault::Refused)
 }
 
-/// Whether these are the words of a run. `--` alone, behind which all words are plain values, is
-/// understood too, but none of a run's.
-fn asks_for_run(words: &[String]) -> bool
-    ensures { result ≡ asks_for_run (map string_bytes words.now) }
+/// What these words ask for. `--` alone, behind which all words are plain values, is understood too,
+/// but asks for nothing.
+fn asked_of(words: &[String]) -> Option<Asked>
+    ensures { result ≡ asked_of (map string_bytes words.now) }
 {
     match words.get(1) {
-        None => true,
-        Some(word) => words.len() == 2 && word.as_str() == "run",
+        None => Some(Asked::Run),
+        Some(word) => command_of(word.as_str(), &words[2..]),
+    }
+}
+
+/// What this word asks for with these words behind it.
+fn command_of(word: &str, words: &[String]) -> Option<Asked>
+    ensures { result ≡ command_of word.now (map string_bytes words.now) }
+{
+    match word {
+        "run" => run_with(words),
+        "threads" => threads_with(words),
+        _ => None,
+    }
+}
+
+/// What `run` asks for with these words behind it.
+fn run_with(words: &[String]) -> Option<Asked>
+    ensures { result ≡ run_with (map string_bytes words.now) }
+{
+    if words.is_empty() {
+        Some(Asked::Run)
+    } else {
+        None
+    }
+}
+
+/// What `threads` asks for with these words behind it.
+fn threads_with(words: &[String]) -> Option<Asked>
+    ensures { result ≡ threads_with (map string_bytes words.now) }
+{
+    let bells = match words {
+        [] => Some(Bells::Plain),
+        [option] => bells_joined(option.as_str()),
+        [option, mode] if option.as_str() == "--bells" => bells_named(mode.as_str()),
+        _ => None,
+    };
+    bells.map(Asked::Threads)
+}
+
+/// How doorbells are rung, by the word for it.
+fn bells_named(mode: &str) -> Option<Bells>
+    ensures { result ≡ bells_named mode.now }
+{
+    match mode {
+        "plain" => Some(Bells::Plain),
+        "drop" => Some(Bells::Drop),
+        "double" => Some(Bells::Double),
+        "late" => Some(Bells::Late),
+        _ => None,
+    }
+}
+
+/// The same behind `--bells=`.
+fn bells_joined(option: &str) -> Option<Bells>
+    ensures { result ≡ bells_joined option.now }
+{
+    match option {
+        "--bells=plain" => Some(Bells::Plain),
+        "--bells=drop" => Some(Bells::Drop),
+        "--bells=double" => Some(Bells::Double),
+        "--bells=late" => Some(Bells::Late),
+        _ => None,
     }
 }
 
@@ -83,5 +152,16 @@ fn command<'a>(alloc: Global) -> Result<Command<'a>, AllocError> {
         .disable_help_flag(true)
         .disable_version_flag(true)
         .disable_help_subcommand(true)
-        .subcommand(run)
+        .subcommand(run)?
+        .subcommand(threads_command(alloc)?)
+}
+
+/// The command that runs guests on threads.
+fn threads_command<'a>(alloc: Global) -> Result<Command<'a>, AllocError> {
+    let bells = Arg::new(alloc, "bells")
+        .long("bells")
+        .action(ArgAction::Set);
+    Command::new(alloc, "threads")
+        .disable_help_flag(true)
+        .arg(bells)
 }

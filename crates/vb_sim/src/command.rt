@@ -1,20 +1,26 @@
 //! What a command line asks for, from its words to the exit status.
 
-ghost use Rattle.std.specs.Prelude.{◌≡◌, map, string_bytes, true, IsOkAnd, OnOk};
+ghost use Rattle.std.specs.Prelude.{◌≡◌, IfOk, OnOk, Some};
 ghost use Rattle.std.specs.Io.KnownBytes.{Appends};
-ghost use Rattle.vb_sim.specs.Arguments.{asks_for_run, refusal_line, refusal_status};
+ghost use Rattle.vb_sim.specs.Arguments.{asked_by, refusal_line, refusal_status};
 ghost use Rattle.vb_sim.specs.Ends.{Says};
 ghost use Rattle.vb_sim.specs.Commands.{CommandEnds};
 
-use crate::arguments::{ArgumentsFault, read_arguments};
-use crate::run::{BAD_ARGUMENTS, BROKEN_STREAM, NO_MEMORY, run_script};
+use crate::arguments::{ArgumentsFault, Asked, read_arguments};
+use crate::fault::{BAD_ARGUMENTS, BROKEN_STREAM, NO_MEMORY};
+use crate::run::run_script;
+use crate::threads::threads_script;
 use std::alloc::Global;
 use std::io;
 use std::io::{Read, Write};
+use std::sync::Wait;
+use std::thread::Threads;
 
 /// Does what the words of a command line ask for, the program's name first. Answers the exit
-/// status: that of a run, or where none is asked for 2 or 3, and `errors` has a line that says why.
-pub fn run_command<R, O, E>(
+/// status: that of what was run, or where nothing is asked for 2 or 3, and `errors` has a line that
+/// says why.
+pub fn run_command<T, R, O, E>(
+    rt: &T,
     alloc: Global,
     words: Result<Vec<String>, ArgumentsFault>,
     input: R,
@@ -22,30 +28,30 @@ pub fn run_command<R, O, E>(
     errors: &mut E,
 ) -> u8
 where
+    T: Threads + Wait + Sync,
     R: Read + Drop,
     O: Write,
     E: Write,
-    ensures { CommandEnds
-        (IsOkAnd words (λ words. asks_for_run (map string_bytes words.items) ≡ true))
+    ensures { CommandEnds (asked_by words)
         (R.remaining input) (O.contents output.old) (O.contents output.new)
         (E.contents errors.old) (E.contents errors.new) result }
 {
     match ask(alloc, words) {
-        Ok(()) => run_script(alloc, input, output, errors),
+        Ok(Asked::Run) => run_script(alloc, input, output, errors),
+        Ok(Asked::Threads(bells)) => threads_script(rt, alloc, bells, input, output, errors),
         Err(fault) => refuse(fault, errors),
     }
 }
 
-/// Whether the words, if they could be had, ask for a run.
-fn ask(alloc: Global, words: Result<Vec<String>, ArgumentsFault>) -> Result<(), ArgumentsFault>
-    ensures { OnOk result
-        (IsOkAnd words (λ words. asks_for_run (map string_bytes words.items) ≡ true)) }
+/// What the words ask for, if they could be had.
+fn ask(alloc: Global, words: Result<Vec<String>, ArgumentsFault>) -> Result<Asked, ArgumentsFault>
+    ensures { IfOk result (λ asked. asked_by words ≡ Some asked) }
 {
     let words = words?;
     read_arguments(alloc, words.as_slice())
 }
 
-/// Writes why a command line asks for no run, and answers its exit status, or where that can't be
+/// Writes why a command line asks for nothing, and answers its exit status, or where that can't be
 /// written the one of a broken stream.
 pub fn refuse<E: Write>(fault: ArgumentsFault, errors: &mut E) -> u8
     ensures { Says (refusal_line fault) (refusal_status fault) (E.contents errors.old)
@@ -69,7 +75,7 @@ impl ArgumentsFault {
     }
 }
 
-/// Writes a line that says why a command line asks for no run.
+/// Writes a line that says why a command line asks for nothing.
 fn write_refusal<E: Write>(fault: ArgumentsFault, errors: &mut E) -> io::Result<()>
     ensures { OnOk result
         (Appends (E.contents errors.old) (E.contents errors.new) (refusal_line fault)) }

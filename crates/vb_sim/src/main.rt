@@ -1,13 +1,19 @@
-//! Runs a script of events on a host and its guests.
+//! Runs a script: events on a host and its guests, or guests on threads.
 #![tactic(auto)]
 
 mod arguments;
 mod command;
+mod fault;
 mod host;
+mod input;
+mod lines;
+mod plans;
 mod play;
+mod ports;
 mod run;
 #[cfg(test)]
 mod tests;
+mod threads;
 
 use arguments::ArgumentsFault;
 use command::run_command;
@@ -18,7 +24,14 @@ use std::rt::Env;
 fn main(rt: HostRuntime) -> ExitCode {
     let words = command_line(&rt);
     let input = rt.reader();
-    let status = run_command(rt.alloc(), words, input, &mut rt.stdout(), &mut rt.stderr());
+    let status = run_command(
+        &rt,
+        rt.alloc(),
+        words,
+        input,
+        &mut rt.stdout(),
+        &mut rt.stderr(),
+    );
     ExitCode::from(status)
 }
 

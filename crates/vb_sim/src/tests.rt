@@ -18,8 +18,10 @@ mod rows;
 mod runs;
 mod sizes;
 mod statistics;
+mod threads;
 
-use crate::run::{SUCCESS, run_script};
+use crate::fault::SUCCESS;
+use crate::run::run_script;
 use std::alloc::{AllocError, Global};
 use std::process::Abort;
 

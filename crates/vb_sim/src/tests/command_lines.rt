@@ -1,11 +1,14 @@
-//! Command lines: which ask for a run, what is written, and the exit status.
+//! Command lines: what they ask for, what is written, and the exit status.
 
 use super::Outcome;
-use crate::arguments::{ArgumentsFault, read_arguments};
+use crate::arguments::{ArgumentsFault, Asked, read_arguments};
 use crate::command::{refuse, run_command};
 use std::alloc::{AllocError, Global};
 use std::io;
 use std::io::{ErrorKind, Write};
+use std::sync::Wait;
+use std::thread::Threads;
+use vb_run::Bells;
 
 /// The words of a command line, the program's name first.
 fn command_line(alloc: Global, words: &[&str]) -> Result<Vec<String>, ArgumentsFault> {
@@ -20,65 +23,106 @@ fn command_line(alloc: Global, words: &[&str]) -> Result<Vec<String>, ArgumentsF
 }
 
 /// What the words behind the program's name ask for.
-fn arguments(alloc: Global, words: &[&str]) -> Result<(), ArgumentsFault> {
+fn arguments(alloc: Global, words: &[&str]) -> Result<Asked, ArgumentsFault> {
     let all = command_line(alloc, words)?;
     read_arguments(alloc, all.as_slice())
 }
 
-/// Words behind the program's name, and whether they ask for a run. Each that is refused alone is
-/// refused behind `run` too.
-static COMMAND_LINES: [(&[&str], bool); 30] = [
-    (&[], true),
-    (&["run"], true),
-    (&[""], false),
-    (&["run", ""], false),
-    (&["--"], false),
-    (&["run", "--"], false),
-    (&["--", "run"], false),
-    (&["run", "run"], false),
-    (&["run", "--", "--"], false),
-    (&["run", "a", "b", "c"], false),
-    (&["a", "b", "c", "d", "e"], false),
-    (&["", "", "", "", "", "", "", ""], false),
-    (&["help"], false),
-    (&["run", "help"], false),
-    (&["--help"], false),
-    (&["run", "--help"], false),
-    (&["-h"], false),
-    (&["run", "-h"], false),
-    (&["-V"], false),
-    (&["run", "-V"], false),
-    (&["--version"], false),
-    (&["run", "--version"], false),
-    (&["threads"], false),
-    (&["run", "threads"], false),
-    (&["ru"], false),
-    (&["run", "ru"], false),
-    (&["RUN"], false),
-    (&["run", "RUN"], false),
-    (&["--bells"], false),
-    (&["run", "--bells"], false),
+/// Words behind the program's name, and what they ask for, if for anything.
+static COMMAND_LINES: [(&[&str], Option<Asked>); 57] = [
+    (&[], Some(Asked::Run)),
+    (&["run"], Some(Asked::Run)),
+    (&["threads"], Some(Asked::Threads(Bells::Plain))),
+    (
+        &["threads", "--bells", "plain"],
+        Some(Asked::Threads(Bells::Plain)),
+    ),
+    (
+        &["threads", "--bells", "drop"],
+        Some(Asked::Threads(Bells::Drop)),
+    ),
+    (
+        &["threads", "--bells", "double"],
+        Some(Asked::Threads(Bells::Double)),
+    ),
+    (
+        &["threads", "--bells", "late"],
+        Some(Asked::Threads(Bells::Late)),
+    ),
+    (
+        &["threads", "--bells=plain"],
+        Some(Asked::Threads(Bells::Plain)),
+    ),
+    (
+        &["threads", "--bells=drop"],
+        Some(Asked::Threads(Bells::Drop)),
+    ),
+    (
+        &["threads", "--bells=double"],
+        Some(Asked::Threads(Bells::Double)),
+    ),
+    (
+        &["threads", "--bells=late"],
+        Some(Asked::Threads(Bells::Late)),
+    ),
+    (&["threads", "--bells"], None),
+    (&["threads", "--bells", ""], None),
+    (&["threads", "--bells="], None),
+    (&["threads", "--bells", "loud"], None),
+    (&["threads", "--bells=loud"], None),
+    (&["threads", "--bells", "Late"], None),
+    (&["threads", "--bells", "late", "late"], None),
+    (&["threads", "--bells=late", "late"], None),
+    (&["threads", "--bells", "late", "--bells", "late"], None),
+    (&["threads", "--bell", "late"], None),
+    (&["threads", "-b", "late"], None),
+    (&["threads", "late"], None),
+    (&["threads", "--"], None),
+    (&["threads", "--help"], None),
+    (&["threads", "threads"], None),
+    (&["--bells", "late"], None),
+    (&["--bells=late", "threads"], None),
+    (&["run", "--bells", "late"], None),
+    (&["run", "threads"], None),
+    (&["threads", "run"], None),
+    (&[""], None),
+    (&["run", ""], None),
+    (&["--"], None),
+    (&["run", "--"], None),
+    (&["--", "run"], None),
+    (&["run", "run"], None),
+    (&["run", "--", "--"], None),
+    (&["run", "a", "b", "c"], None),
+    (&["a", "b", "c", "d", "e"], None),
+    (&["", "", "", "", "", "", "", ""], None),
+    (&["help"], None),
+    (&["run", "help"], None),
+    (&["--help"], None),
+    (&["run", "--help"], None),
+    (&["-h"], None),
+    (&["run", "-h"], None),
+    (&["-V"], None),
+    (&["run", "-V"], None),
+    (&["--version"], None),
+    (&["run", "--version"], None),
+    (&["ru"], None),
+    (&["run", "ru"], None),
+    (&["RUN"], None),
+    (&["run", "RUN"], None),
+    (&["THREADS"], None),
+    (&["--bells"], None),
 ];
-
-/// What a command line is answered that asks for a run, or doesn't.
-fn answer_of(asks: bool) -> Result<(), ArgumentsFault> {
-    if asks {
-        Ok(())
-    } else {
-        Err(ArgumentsFault::Refused)
-    }
-}
 
 #[test]
 fn command_lines(rt: HostRuntime) {
-    for (words, asks) in &COMMAND_LINES {
-        assert!(rt; arguments(rt.alloc(), words) == answer_of(*asks));
+    for (words, asked) in &COMMAND_LINES {
+        assert!(rt; arguments(rt.alloc(), words) == asked.ok_or(ArgumentsFault::Refused));
     }
 }
 
 /// Words behind the program's name, a script, what is written to the output and to the errors, and
 /// the exit status.
-static COMMANDS: [(&[&str], &str, &str, &str, u8); 7] = [
+static COMMANDS: [(&[&str], &str, &str, &str, u8); 11] = [
     (&[], "host 3\nframes\n", "frames used 0 free 3\n", "", 0),
     (
         &["run"],
@@ -116,12 +160,46 @@ static COMMANDS: [(&[&str], &str, &str, &str, u8); 7] = [
         "usage: vb_sim run | threads [--bells MODE]\n",
         2,
     ),
+    (
+        &["threads"],
+        "host 13\nspare paced\nplug 64 8 1\n",
+        "guest 0 calls 0 frames 13\ndisjoint\n",
+        "",
+        0,
+    ),
+    (
+        &["threads", "--bells", "late"],
+        "host 13\nspare paced\nplug 64 8 1\n",
+        "guest 0 calls 0 frames 13\ndisjoint\n",
+        "",
+        0,
+    ),
+    (
+        &["threads", "--bells", "drop"],
+        "host 3\nframes\n",
+        "",
+        "script: line 2: bad line\n",
+        1,
+    ),
+    (
+        &["threads", "--bells", "loud"],
+        "host 13\nspare paced\nplug 64 8 1\n",
+        "",
+        "usage: vb_sim run | threads [--bells MODE]\n",
+        2,
+    ),
 ];
 
 /// What a command writes, and its exit status.
-fn command(alloc: Global, words: Result<Vec<String>, ArgumentsFault>, script: &str) -> Outcome {
+fn command<R: Threads + Wait + Sync>(
+    rt: &R,
+    alloc: Global,
+    words: Result<Vec<String>, ArgumentsFault>,
+    script: &str,
+) -> Outcome {
     let (mut output, mut errors) = (Vec::new(alloc), Vec::new(alloc));
-    let status = run_command(alloc, words, script.as_bytes(), &mut output, &mut errors);
+    let script = script.as_bytes();
+    let status = run_command(rt, alloc, words, script, &mut output, &mut errors);
     Outcome {
         output,
         errors,
@@ -133,14 +211,19 @@ fn command(alloc: Global, words: Result<Vec<String>, ArgumentsFault>, script: &s
 fn commands(rt: HostRuntime) {
     for (words, script, output, errors, status) in &COMMANDS {
         let words = command_line(rt.alloc(), words);
-        let outcome = command(rt.alloc(), words, script);
+        let outcome = command(&rt, rt.alloc(), words, script);
         assert!(rt; outcome.shows(output.as_bytes(), errors.as_bytes(), *status));
     }
 }
 
 #[test]
 fn words_that_there_is_no_memory_for(rt: HostRuntime) {
-    let outcome = command(rt.alloc(), Err(ArgumentsFault::Memory), "host 3\nframes\n");
+    let outcome = command(
+        &rt,
+        rt.alloc(),
+        Err(ArgumentsFault::Memory),
+        "host 3\nframes\n",
+    );
     assert!(rt; outcome.shows(b"", b"run: memory\n", 3));
 }
 
@@ -165,7 +248,7 @@ impl Write for Narrow {
     }
 }
 
-/// Why a command line asks for no run, how many bytes are said of it, and the exit status where
+/// Why a command line asks for nothing, how many bytes are said of it, and the exit status where
 /// they can be written.
 static FAULTS: [(ArgumentsFault, usize, u8); 2] = [
     (ArgumentsFault::Refused, 43, 2),

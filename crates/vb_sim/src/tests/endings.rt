@@ -1,7 +1,7 @@
 //! A guest's life that is ended after each of its events.
 
 use super::run;
-use crate::run::SUCCESS;
+use crate::fault::SUCCESS;
 use std::alloc::{AllocError, Global};
 
 /// A guest with a paced device starts: the script, and its replies.

@@ -7,8 +7,9 @@ ghost use Rattle.vb_model.specs.Limits.{is_config};
 ghost use Rattle.vb_slot.specs.Spare.{IsNew};
 
 use super::{Outcome, repeated, run};
+use crate::fault::SUCCESS;
 use crate::play::Play;
-use crate::run::{SUCCESS, run_script_on};
+use crate::run::run_script_on;
 use std::alloc::{AllocError, Global};
 use std::process::Abort;
 use vb_device::{Device, ImmediateDevice, PacedDevice};

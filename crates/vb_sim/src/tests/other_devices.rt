@@ -4,8 +4,9 @@ ghost use Rattle.std.specs.Prelude.{⊤};
 
 use super::listed::ListedDevice;
 use super::{Example, Outcome, check_all};
+use crate::fault::SUCCESS;
 use crate::play::Play;
-use crate::run::{SUCCESS, run_script_on};
+use crate::run::run_script_on;
 use std::alloc::{AllocError, Global};
 use std::process::Abort;
 use vb_device::Device;

@@ -1,7 +1,7 @@
 //! Whole scripts in which guests report free blocks to their hosts, and what they write.
 
 use super::{Example, check_all, run};
-use crate::run::SUCCESS;
+use crate::fault::SUCCESS;
 use std::alloc::{AllocError, Global};
 use std::io;
 use std::io::Write;

@@ -1,7 +1,7 @@
 //! Whole scripts of guests that write past their drivers, and what they write.
 
 use super::{Example, check_all, repeated, run};
-use crate::run::SUCCESS;
+use crate::fault::SUCCESS;
 use std::alloc::{AllocError, Global};
 use std::process::Abort;
 

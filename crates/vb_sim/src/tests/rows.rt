@@ -1,7 +1,7 @@
 //! Whole scripts on a host with guests, and what they write.
 
 use super::{Example, check_all, repeated, run};
-use crate::run::{BAD_SCRIPT, SUCCESS};
+use crate::fault::{BAD_SCRIPT, SUCCESS};
 use std::alloc::AllocError;
 
 /// Scripts that run to their end.

@@ -1,7 +1,7 @@
 //! Hosts and guests of other sizes than the rows', and what they write.
 
 use super::{Example, check_all, repeated, run};
-use crate::run::SUCCESS;
+use crate::fault::SUCCESS;
 use std::alloc::Global;
 use std::io;
 use std::io::Write;

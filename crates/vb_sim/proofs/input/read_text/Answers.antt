@@ -1,5 +1,5 @@
 use Rattle.vb_sim.proofs.Reading.{kept_text}
-use Rattle.vb_sim.proofs.run.read_text.Goals as goal
+use Rattle.vb_sim.proofs.input.read_text.Goals as goal
 
 pub returns-clause-ok : goal.returns-clause-ok
 returns-clause-ok g c =

@@ -1,0 +1,83 @@
+use Rattle.std.proofs.Common.{rules, ◌≡◌, ◌∷◌, [], refl, List, arith, ap, ◌∙◌, length}
+use denote.Param.Object.{read_made}
+use Rattle.vb_ram.specs.Pages.{Pages}
+use Rattle.vb_ram.specs.Part.{Part}
+use Rattle.vb_sim.proofs.Passes.{leased_unused, new_unheld, next_unheld, one_more_port}
+use Rattle.vb_sim.proofs.ports.run_plan.OwnLists.{own-1, at-1-1, at-1-2}
+use Rattle.vb_sim.proofs.ports.run_plan.Goals as goal
+use Rattle.vb_sim.proofs.ports.run_plan.Goals.{in-Immediate+in-Ok+in_ok-add_port-in-Immediate}
+use Rattle.vb_sim.proofs.ports.run_plan.Goals.{in-Paced+in-Ok-new+in_ok-add_port-in-Paced}
+
+pub loop-pace-init : goal.loop-pace-init
+loop-pace-init g c = record {
+  passes = rw (c.into_iter-passes.ensures.rest, c.in_ok-_frames.ensures.passes)
+      (new_unheld _ 0 _);
+  ports = rw c.new-ports.ensures.items (λ k d lt. absurd (omega (arith, lt)));
+  count = ap (λ (l : List _). length l) c.new-ports.ensures.items;
+}
+
+pub add_port-requires-clause-device : goal.add_port-requires-clause-device
+add_port-requires-clause-device g c =
+    let head : c.loop-pace.passes.rest.items ≡ c.in-Some.pass ∷ c.next.new.self.rest.items =
+    search rules in
+    let held = (next_unheld _ _ _ head c.loop-pace.invariant.passes).0 in
+    let device = c.in-Ok.device.value in
+    let box = c.into_dyn_box in
+    let part : (own-1.entry box.result.vtable).1.GuestBytes.part box.result.value
+    ≡ (own-1.entry at-1-1).1.GuestBytes.part device
+    = read_made own-1 (own-1.entry at-1-1) at-1-1 refl Part
+    (λ entry made. entry.1.GuestBytes.part made) box.result.vtable box.result.value device
+    box.ensures.1 in
+    let mem : (own-1.entry box.result.vtable).1.GuestBytes.mem box.result.value
+    ≡ (own-1.entry at-1-1).1.GuestBytes.mem device
+    = read_made own-1 (own-1.entry at-1-1) at-1-1 refl Pages
+    (λ entry made. entry.1.GuestBytes.mem made) box.result.vtable box.result.value device
+    box.ensures.1 in
+    rw (part, mem, c.in-Ok.ensures.ok, c.new-device.ensures.mem, c.new-device.ensures.part) (
+      leased_unused c.new.result.mem c.new.result.part c.in-Some.pass.held
+          c.new.ensures.unused,
+      ap (λ (p : Part). p.own) c.new-device.ensures.part ∙ held,
+    )
+
+pub add_port-requires-in-Paced-clause-device : goal.add_port-requires-in-Paced-clause-device
+add_port-requires-in-Paced-clause-device g c =
+    let head : c.loop-pace.passes.rest.items ≡ c.in-Some.pass ∷ c.next.new.self.rest.items =
+    search rules in
+    let held = (next_unheld _ _ _ head c.loop-pace.invariant.passes).0 in
+    let device = c.in-Ok-new.device.value in
+    let box = c.into_dyn_box-in-Paced in
+    let part : (own-1.entry box.result.vtable).1.GuestBytes.part box.result.value
+    ≡ (own-1.entry at-1-2).1.GuestBytes.part device
+    = read_made own-1 (own-1.entry at-1-2) at-1-2 refl Part
+    (λ entry made. entry.1.GuestBytes.part made) box.result.vtable box.result.value device
+    box.ensures.1 in
+    let mem : (own-1.entry box.result.vtable).1.GuestBytes.mem box.result.value
+    ≡ (own-1.entry at-1-2).1.GuestBytes.mem device
+    = read_made own-1 (own-1.entry at-1-2) at-1-2 refl Pages
+    (λ entry made. entry.1.GuestBytes.mem made) box.result.vtable box.result.value device
+    box.ensures.1 in
+    rw (part, mem, c.in-Ok-new.ensures.ok, c.new-device-in-Paced.ensures.mem, c.new-device-in-Paced.ensures.part) (
+      leased_unused c.new-in-Paced.result.mem c.new-in-Paced.result.part c.in-Some.pass.held
+          c.new-in-Paced.ensures.unused,
+      ap (λ (p : Part). p.own) c.new-device-in-Paced.ensures.part ∙ held,
+    )
+
+pub loop-pace-preserved : goal.loop-pace-preserved
+loop-pace-preserved g c =
+    let head : c.loop-pace.passes.rest.items ≡ c.in-Some.pass ∷ c.next.new.self.rest.items =
+    search rules in
+    let left = (next_unheld _ _ _ head c.loop-pace.invariant.passes).1 in
+    elim c.match-pace.branch [
+      | in-Immediate+in-Ok+in_ok-add_port-in-Immediate w ↦ rw w.ports-is (record {
+        passes = left;
+        ports = w.add_port.ensures.ports;
+        count = one_more_port _ _ _ _ w.in_ok-add_port-in-Immediate.ensures.added
+            c.loop-pace.invariant.count;
+      })
+      | in-Paced+in-Ok-new+in_ok-add_port-in-Paced w ↦ rw w.ports-is (record {
+        passes = left;
+        ports = w.add_port-in-Paced.ensures.ports;
+        count = one_more_port _ _ _ _ w.in_ok-add_port-in-Paced.ensures.added
+            c.loop-pace.invariant.count;
+      })
+    ]

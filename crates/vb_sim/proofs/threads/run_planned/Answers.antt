@@ -1,0 +1,23 @@
+use Rattle.std.proofs.Common.{rules, ◌≡◌, Err, ◌∙◌, sym, Result, MatchResult, subst}
+use Rattle.vb_script.specs.Plans.{planned_by}
+use Rattle.vb_sim.proofs.Planning.{fault_of_plan, plans_alike}
+use Rattle.vb_sim.proofs.threads.run_planned.Goals as goal
+
+pub returns-in_err-report : goal.returns-in_err-report
+returns-in_err-report g c =
+    let is = rw c.in-Some.is at c.in_ok-plan.ensures in
+    let fault = fault_of_plan (planned_by c.args.script) c.args.bells c.in-Some.plan is
+    c.in_err-report.field-0.0 c.in_err-report.ensures in
+    let passed : c.from_residual-in_err-report.result ≡ Err c.in_err-report.field-0.0 =
+    search rules in
+    rw passed fault
+
+pub returns : goal.returns
+returns g c =
+    let is = rw c.in-Some.is at c.in_ok-plan.ensures in
+    record {
+      runs = sym (plans_alike (planned_by c.args.script) c.args.bells c.in-Some.plan is)
+          ∙ c.in_ok-report.ensures.0;
+      plan_is = is;
+      report_is = c.in_ok-report.ensures.1;
+    }

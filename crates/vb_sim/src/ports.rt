@@ -1,0 +1,60 @@
+//! A run of guests on threads, each on a device of its own that leases its frames from one table.
+
+ghost use Rattle.std.specs.Prelude.{◌≡◌, ◌≤◌, true, length, MatchResult};
+ghost use Rattle.vb_run.specs.Plans.{is_plan};
+ghost use Rattle.vb_run.specs.Reports.{IsReport};
+ghost use Rattle.vb_sim.specs.Threads.{IsPlanFault};
+
+use crate::fault::ProgramFault;
+use std::alloc::Global;
+use std::sync::Wait;
+use std::thread::Threads;
+use vb_device::{Device, ImmediateDevice, PacedDevice};
+use vb_run::{OpenGate, Plan, Report, add_port, plug_in, run_threads};
+use vb_script::Pace;
+use vb_shared::{Leased, SharedFrames};
+
+/// Runs a plan, each guest on a device of its pace in this list.
+pub fn run_plan<T: Threads + Wait + Sync>(
+    rt: &T,
+    alloc: Global,
+    plan: &Plan,
+    paces: &[Pace],
+) -> Result<Report, ProgramFault>
+    requires some_frames { 1 ≤ plan.now.frames }
+    requires few_frames { plan.now.frames ≤ 65_536 }
+    requires some_guests { 1 ≤ length paces.now }
+    requires few_guests { length paces.now ≤ 8 }
+    requires paces { length paces.now ≡ length plan.now.guests.items }
+    ensures { MatchResult result
+        (λ report. (is_plan plan.now (length plan.now.guests.items) ≡ true)
+        × IsReport plan.now report)
+        (λ fault. IsPlanFault (is_plan plan.now (length plan.now.guests.items)) fault) }
+{
+    let (_frames, passes) = SharedFrames::open(alloc, plan.frames, paces.len() as u32)?;
+    let mut passes = passes.into_iter();
+    let mut ports: Vec<Box<dyn Device + Send>> = Vec::new(alloc);
+    for pace in paces {
+        let Some(pass) = passes.next() else {
+            return Err(ProgramFault::Memory);
+        };
+        match pace {
+            Pace::Immediate => {
+                let device = Leased::new(ImmediateDevice::new(alloc), pass);
+                let Ok(device) = Box::new(alloc, device) else {
+                    return Err(ProgramFault::Memory);
+                };
+                add_port(&mut ports, device)?;
+            }
+            Pace::Paced => {
+                let device = Leased::new(PacedDevice::new(alloc), pass);
+                let Ok(device) = Box::new(alloc, device) else {
+                    return Err(ProgramFault::Memory);
+                };
+                add_port(&mut ports, device)?;
+            }
+        }
+    }
+    let slots = plug_in(alloc, plan, ports)?;
+    Ok(run_threads(rt, alloc, plan, slots, &OpenGate)?)
+}
