@@ -6,7 +6,7 @@ use Rattle.std.specs.Prelude.{◌==◌, ◌||◌, count_by, slice_get, Some, rem
 use Rattle.std.proofs.lemmas.Bool.{eqb-true, eqb-false, eq-eqb, ne_eqb, not-true}
 use Rattle.vb_model.specs.declared.places.Place.{Place}
 use Rattle.vb_model.specs.declared.places.Place.TheVariants.{Reserved}
-use Rattle.vb_model.specs.Tests.{is_in, one_if, each_from}
+use Rattle.vb_model.specs.Tests.{is_in, one_if, each_from, pages_from, pages_where}
 use Rattle.vb_model.specs.Pages.{place_of, placed}
 use Rattle.vb_model.specs.Requests.{Request, Requests, all_requests, names, naming, posting}
 use Rattle.vb_model.specs.Requests.{outstanding, pages_named}
@@ -234,3 +234,21 @@ named_by_none page rs few = none rs.posted rs.taken rs.done few
     none [] [] (r ∷ rs) l = absurd (omega arith)
     none [] (r ∷ rs) done l = absurd (omega arith)
     none (r ∷ rs) taken done l = absurd (omega arith)
+
+-- ---- the pages that pass a test
+
+length-pages_from : (first : ℕ) (test : Place → Bool) (xs : List Place)
+    → length (pages_from first test xs) ≡ count_by test xs
+length-pages_from first test [] = refl
+length-pages_from first test (x ∷ xs) =
+    at (test x) (length-pages_from (suc first) test xs) ∙ sym (count_by-cons test x xs)
+  where
+    at : (b : Bool) → length (pages_from (suc first) test xs) ≡ count_by test xs
+        → length (cond b (first ∷ pages_from (suc first) test xs)
+        (pages_from (suc first) test xs)) ≡ one_if b + count_by test xs
+    at true ih = omega arith
+    at false ih = omega arith
+
+pub length-pages_where : (test : Place → Bool) (xs : List Place)
+    → length (pages_where test xs) ≡ count_by test xs
+length-pages_where test xs = length-pages_from 0 test xs
