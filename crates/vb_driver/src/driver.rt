@@ -1,12 +1,11 @@
 //! The balloon driver, and the pages of the guest's own.
 
-ghost use Rattle.std.specs.Prelude.{◌≡◌, ◌<◌, ◌≤◌, true, length, IfOk, count_by};
+ghost use Rattle.std.specs.Prelude.{◌≡◌, ◌<◌, ◌≤◌, ◌+◌, true, length, IfOk, count_by};
 ghost use Rattle.vb_model.specs.declared.limits.TheConstants.{MAX_GUEST_PAGES};
 ghost use Rattle.vb_model.specs.Limits.{is_config};
-ghost use Rattle.vb_model.specs.Pages.{place_of, is_used};
-ghost use Rattle.vb_model.specs.Pages.{is_lent_or_taking};
+ghost use Rattle.vb_model.specs.Pages.{place_of, is_used, is_lent};
 ghost use Rattle.vb_driver.specs.Places.{AreLentBits};
-ghost use Rattle.vb_driver.specs.State.{IsDriver, fresh_driver};
+ghost use Rattle.vb_driver.specs.State.{IsDriver, fresh_driver, given_away, pages_named};
 ghost use Rattle.vb_driver.specs.Calls.{AllocatesBy, FreesBy, AreCountsOf};
 
 use crate::areas::Areas;
@@ -78,6 +77,13 @@ impl Model for Driver {
     }) };
 }
 
+/// How many pages count as given to the host: those lent, and those that requests ask back.
+pub(crate) fn in_balloon(places: &PlaceTable, deflate: &RequestQueue) -> u32
+    ensures { result ≡ count_by is_lent places.now + pages_named deflate.now }
+{
+    places.count(Place::Lent) + deflate.pages_named()
+}
+
 impl Driver {
     /// The driver of a guest as it is plugged in: all unreserved pages are free, nothing is out.
     /// All memory that a driver needs is taken here; no other call takes any.
@@ -132,9 +138,9 @@ impl Driver {
     /// How many pages the driver has in the balloon: the lent ones, and those that it asks back
     /// (`actual`, VIRTIO 1.1, 5.5.4).
     pub fn actual(&self) -> u32
-        ensures { result ≡ count_by is_lent_or_taking self.now.places }
+        ensures { result ≡ given_away self.now }
     {
-        self.places.in_balloon()
+        in_balloon(&self.places, &self.deflate)
     }
 
     /// The lent pages as bits: bit b of word w is 1 exactly if page 64 w + b is lent. The words are

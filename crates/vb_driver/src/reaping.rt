@@ -1,10 +1,9 @@
 //! Used requests are taken back (VIRTIO 1.1, 5.5.6).
 
-ghost use Rattle.std.specs.Prelude.{◌≡◌, ◌<◌, ◌∷◌, [], ℕ, true, not, length, bit_or, count_by};
+ghost use Rattle.std.specs.Prelude.{◌≡◌, ◌<◌, ◌+◌, ◌∷◌, [], not, length, bit_or, count_by};
 ghost use Rattle.std.specs.Prelude.{Ok, Err, None, Some, IfOk, IfErr, OnOk, OnErr, MatchOption};
 ghost use Rattle.vb_model.specs.Limits.{max_outstanding};
-ghost use Rattle.vb_model.specs.Tests.{is_in};
-ghost use Rattle.vb_model.specs.Pages.{placed, is_lent_or_taking};
+ghost use Rattle.vb_model.specs.Pages.{is_lent};
 ghost use Rattle.vb_model.specs.Status.{failed};
 ghost use Rattle.vb_model.specs.Refusals.{◌⇒◌, first_refusal};
 ghost use Rattle.vb_model.specs.declared.replies.Refusal.TheVariants.{NotReady, NoFeature};
@@ -13,10 +12,11 @@ ghost use Rattle.vb_ring.specs.Layout.{IsInside};
 ghost use Rattle.vb_ring.specs.Ends.{after_take, used_answer};
 ghost use Rattle.vb_ring.specs.Calls.{TakesUsedBy};
 ghost use Rattle.vb_report.specs.Blocks.{blocks_of};
-ghost use Rattle.vb_driver.specs.State.{IsReportQueue, sent_by};
+ghost use Rattle.vb_driver.specs.State.{IsReportQueue, sent_by, pages_named};
 ghost use Rattle.vb_driver.specs.Answers.{IsLargeEnough, is_up, is_ring_broken, refusal_in};
 ghost use Rattle.vb_driver.specs.Calls.{ReapsBy, after_refusal, after_reap};
 
+use crate::driver::in_balloon;
 use crate::places::{PlaceTable, count_pages};
 use crate::queue::{RequestPages, RequestQueue};
 use crate::reports::ReportQueue;
@@ -119,24 +119,21 @@ fn take_report_back<P: Port>(
     }
 }
 
-/// Moves the pages of a used request to a place, and tells the device how many are lent or asked
-/// back then.
+/// Tells the device how many pages are lent or asked back once a request came back, and says which
+/// one did.
 fn settle<P: Port>(
-    places: &mut PlaceTable,
+    places: &PlaceTable,
+    deflate: &RequestQueue,
     port: &mut P,
     used: &(u16, RequestPages),
-    place: Place,
 ) -> Reaped
-    requires { (page : ℕ) → is_in page used.now.1.items ≡ true → page < length places.old }
-    ensures places { places.new ≡ placed used.now.1.items place places.old }
-    ensures part { P.part port.new
-        ≡ record (P.part port.old) { actual = count_by is_lent_or_taking places.new } }
+    ensures part { P.part port.new ≡ record (P.part port.old)
+        { actual = count_by is_lent places.now + pages_named deflate.now } }
     ensures mem { P.mem port.new ≡ P.mem port.old }
     ensures head { result.head ≡ used.now.0 }
     ensures pages { result.pages ≡ length used.now.1.items }
 {
-    places.set_all(&used.1, place);
-    port.set_actual(places.in_balloon());
+    port.set_actual(in_balloon(places, deflate));
     Reaped {
         head: used.0,
         pages: used.1.len() as u32,
@@ -157,10 +154,12 @@ impl Driver {
             Ok(None) => return Ok(None),
             Err(refusal) => return Err(refusal),
         };
-        Ok(Some(settle(places, port, &used, Place::Lent)))
+        places.set_all(&used.1, Place::Lent);
+        Ok(Some(settle(places, &self.deflate, port, &used)))
     }
 
-    /// Takes back the next deflate request that the device used: its pages are free from now on.
+    /// Takes back the next deflate request that the device used: its pages are free from now on,
+    /// or were so since it was posted.
     fn reap_freed<P: Port>(&mut self, port: &mut P) -> Result<Option<Reaped>, Refusal>
         requires { IsLargeEnough (P.mem port.old) }
         ensures { ReapsBy (P.mem port.old) (P.mem port.new) (P.part port.old) (P.part port.new)
@@ -173,8 +172,12 @@ impl Driver {
             Ok(None) => return Ok(None),
             Err(refusal) => return Err(refusal),
         };
+        if !self.features.must_tell_host() {
+            return Ok(Some(settle(places, &self.deflate, port, &used)));
+        }
         self.areas.give_all(&used.1);
-        Ok(Some(settle(places, port, &used, Place::Free)))
+        places.set_all(&used.1, Place::Free);
+        Ok(Some(settle(places, &self.deflate, port, &used)))
     }
 
     /// Takes back the report if the device used it: its pages are free from now on.
@@ -193,7 +196,7 @@ impl Driver {
         };
         self.areas.give_blocks(&used.1);
         places.set_blocks(&used.1, Place::Free);
-        port.set_actual(places.in_balloon());
+        port.set_actual(in_balloon(places, &self.deflate));
         Ok(Some(Reaped {
             head: used.0,
             pages: count_pages(&used.1),
@@ -201,8 +204,9 @@ impl Driver {
     }
 
     /// Takes back the next request of a queue that the device used, if there is one: the pages of
-    /// an inflate request are lent from now on, those of a deflate request or of a report free.
-    /// Then the device is told how many pages are lent or asked back.
+    /// an inflate request are lent from now on, those of a deflate request or of a report free;
+    /// where MUST_TELL_HOST wasn't accepted, those of a deflate request stay where they are. Then
+    /// the device is told how many pages are lent or asked back.
     ///
     /// Refused for `NoQueue` (not 0, 1 or 4), `NotReady`, `NoFeature` (queue 4, but REPORTING
     /// wasn't accepted), `RingBroken` (the used ring says what no device may say: the driver gives
