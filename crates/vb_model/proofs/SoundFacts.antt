@@ -28,7 +28,7 @@ giving_but_not_named : IsConsistent (only Giving) → ⊥
 giving_but_not_named c = let e : Same 0 1 = (c.pages 16).inflating in omega arith
 
 taking_but_not_named : IsConsistent (only Taking) → ⊥
-taking_but_not_named c = let e : Same 0 1 = (c.pages 16).deflating in omega arith
+taking_but_not_named c = let e : Same 1 0 = (c.pages 16).taking in omega arith
 
 reporting_but_not_named : IsConsistent (only Reporting) → ⊥
 reporting_but_not_named c = let e : Same 0 1 = (c.pages 16).reporting in omega arith
@@ -52,7 +52,7 @@ named_by_an_inflate : IsConsistent (record ready { inflate = naming_16 }) → �
 named_by_an_inflate c = let e : Same 1 0 = (c.pages 16).inflating in omega arith
 
 named_by_a_deflate : IsConsistent (record ready { deflate = naming_16 }) → ⊥
-named_by_a_deflate c = let e : Same 1 0 = (c.pages 16).deflating in omega arith
+named_by_a_deflate c = let e : Same 0 1 = (c.pages 16).taking in omega arith
 
 named_by_a_report : IsConsistent (record ready { report = naming_16 }) → ⊥
 named_by_a_report c = let e : Same 1 0 = (c.pages 16).reporting in omega arith
