@@ -251,8 +251,8 @@ rooms : map (λ queue_size. room
     (2 ∷ 8 ∷ 16 ∷ 32 ∷ 128 ∷ []) ≡ 2 ∷ 8 ∷ 16 ∷ 16 ∷ 16 ∷ []
 rooms = refl
 
--- ---- reap: the first used request; its pages move on, and `actual` counts lent pages and those that
--- deflates name
+-- ---- reap: the first used request; its pages move on, and `actual` counts lent pages and those
+-- that deflates name
 
 abbrev two_used : List ℕ → List ℕ → Requests
 two_used first second =
@@ -283,7 +283,8 @@ reaping places next_two actual =
 
 -- deflates name pages 20 and 21, which are taking
 abbrev deflates : Requests
-deflates = record { posted = []; taken = request 1 (21 ∷ []) 0 ∷ []; done = request 0 (20 ∷ []) 0 ∷ [] }
+deflates =
+    record { posted = []; taken = request 1 (21 ∷ []) 0 ∷ []; done = request 0 (20 ∷ []) 0 ∷ [] }
 
 reaped_inflate : HonestStep
     (record (reaping (Giving ∷ Giving ∷ Giving ∷ Lent ∷ Taking ∷ Taking ∷ Free ∷ Stranded ∷ [])

@@ -151,7 +151,7 @@ offering g events replies guests =
       after = map at guests;
     }
 
-abbrev request_16 : Request
+abbrev pub request_16 : Request
 request_16 = request 0 (16 ∷ []) 0
 
 abbrev posted : Request → Requests
@@ -162,22 +162,22 @@ used r = record { posted = []; taken = []; done = r ∷ [] }
 
 -- it is offered, and the request is used already; it is lent; it is asked back, and then that
 -- request is used; it can be handed out; it is handed out
-abbrev giving : Guest → Guest
+abbrev pub giving : Guest → Guest
 giving g = record (page_16_at Giving g) { inflate = used request_16 }
 
-abbrev lent : Guest → Guest
+abbrev pub lent : Guest → Guest
 lent g = page_16_at Lent g
 
-abbrev asked : Place → Guest → Guest
+abbrev pub asked : Place → Guest → Guest
 asked place g = record (page_16_at place g) { deflate = posted request_16 }
 
-abbrev coming_back : Place → Guest → Guest
+abbrev pub coming_back : Place → Guest → Guest
 coming_back place g = record (page_16_at place g) { deflate = used request_16 }
 
-abbrev back : Guest → Guest
+abbrev pub back : Guest → Guest
 back g = page_16_at FreePlace g
 
-abbrev handed_out : Guest → Guest
+abbrev pub handed_out : Guest → Guest
 handed_out g = page_16_at Used g
 
 -- where the guest tells the host: lent, asked back, reaped, handed out
@@ -271,15 +271,16 @@ untold_and_asked_back call is_asking =
       later = omega arith;
       before = omega arith;
       inflate = lends (at_once untold FreePlace call) untold refl refl refl;
-      deflate = asks (at_once untold FreePlace call) untold FreePlace call is_asking refl refl refl refl refl;
+      deflate = asks (at_once untold FreePlace call) untold FreePlace call is_asking refl refl refl
+          refl refl;
       told = λ tells. absurd (let e : false ≡ true = tells in cc);
     }
 
 by_two_calls : IsTrue (asks_back (Deflate 1)) × IsTrue (asks_back (Oom 1))
 by_two_calls = (refl, refl)
 
-by_no_other_call : map asks_back (Inflate 1 ∷ Reap 1 ∷ Alloc 0 0 ∷ Work ∷ Finish 1 0 ∷ Report 0 ∷ [])
-    ≡ replicate 6 false
+by_no_other_call : map asks_back
+    (Inflate 1 ∷ Reap 1 ∷ Alloc 0 0 ∷ Work ∷ Finish 1 0 ∷ Report 0 ∷ []) ≡ replicate 6 false
 by_no_other_call = refl
 
 -- ---- how a page is not asked back
@@ -496,7 +497,7 @@ posted_before_the_reap g = not_by_three (asked_too_early g) 0 0
     (not_lending (asked_too_early g) 0 4 1 2 refl) (not_lending (asked_too_early g) 0 4 1 3 refl)
     (not_asking (asked_too_early g) 0 4 2 3 refl)
 
--- or by these two events, each a bit off: an inflate of some pages comes back, and a deflate of some
+-- or by these two events, each a bit off: an inflate of some pages comes back, and then a deflate
 -- is posted
 abbrev by : Event → Reply → List ℕ → Event → Reply → Requests → Requests → History
 by reap reaped pages post answer before after =
@@ -513,15 +514,18 @@ abbrev by_post : Event → Reply → Requests → Requests → History
 by_post post answer before after =
     by (OnGuest 0 (Reap 0)) (Reaped 0 1) (16 ∷ []) post answer before after
 
-by_these_two : AskedBack (by_reap (OnGuest 0 (Reap 0)) (Reaped 0 1) (16 ∷ [])) 0 16 0 3
+abbrev just_these : History
+just_these = by_reap (OnGuest 0 (Reap 0)) (Reaped 0 1) (16 ∷ [])
+
+by_these_two : AskedBack just_these 0 16 0 3
 by_these_two = record {
   lent = 1;
   asked = 2;
   since = omega arith;
   later = omega arith;
   before = omega arith;
-  inflate = lends (by_reap (OnGuest 0 (Reap 0)) (Reaped 0 1) (16 ∷ [])) untold refl refl refl;
-  deflate = asks (by_reap (OnGuest 0 (Reap 0)) (Reaped 0 1) (16 ∷ [])) untold FreePlace (Deflate 1) refl refl refl refl refl refl;
+  inflate = lends just_these untold refl refl refl;
+  deflate = asks just_these untold FreePlace (Deflate 1) refl refl refl refl refl refl;
   told = λ tells. absurd (let e : false ≡ true = tells in cc);
 }
 
@@ -529,73 +533,73 @@ by_these_two = record {
 abbrev NotByReap : Event → Reply → List ℕ → Type 0
 NotByReap reap reaped pages = AskedBack (by_reap reap reaped pages) 0 16 0 3 → ⊥
 
-anothers_inflate : NotByReap (OnGuest 1 (Reap 0)) (Reaped 0 1) (16 ∷ [])
-anothers_inflate = not_by_two (by_reap (OnGuest 1 (Reap 0)) (Reaped 0 1) (16 ∷ [])) 0 0
-    (λ r p told. let e : Some (OnGuest 1 (Reap 0)) ≡ Some (OnGuest 0 (Reap 0)) = r.event in cc)
+not_reaped : (reap : Event) (reaped : Reply) (pages : List ℕ)
+    → (ReapsUsed Inflating (by_reap reap reaped pages) 0 16 1 → ⊥) → NotByReap reap reaped pages
+not_reaped reap reaped pages none =
+    not_by_two (by_reap reap reaped pages) 0 0 (λ r p told. none r)
 
-no_inflate_queue : NotByReap (OnGuest 0 (Reap 1)) (Reaped 0 1) (16 ∷ [])
-    × NotByReap (OnGuest 0 (Reap 4)) (Reaped 0 1) (16 ∷ [])
-no_inflate_queue = (
-  not_by_two (by_reap (OnGuest 0 (Reap 1)) (Reaped 0 1) (16 ∷ [])) 0 0
-      (not_lending (by_reap (OnGuest 0 (Reap 1)) (Reaped 0 1) (16 ∷ [])) 0 3 1 2 refl),
-  not_by_two (by_reap (OnGuest 0 (Reap 4)) (Reaped 0 1) (16 ∷ [])) 0 0
-      (not_lending (by_reap (OnGuest 0 (Reap 4)) (Reaped 0 1) (16 ∷ [])) 0 3 1 2 refl),
-)
+anothers_inflate : NotByReap (OnGuest 1 (Reap 0)) (Reaped 0 1) (16 ∷ [])
+anothers_inflate = not_reaped _ _ _
+    (λ r. let e : Some (OnGuest 1 (Reap 0)) ≡ Some (OnGuest 0 (Reap 0)) = r.event in cc)
+
+a_deflate_reaped : NotByReap (OnGuest 0 (Reap 1)) (Reaped 0 1) (16 ∷ [])
+a_deflate_reaped = not_reaped _ _ _
+    (λ r. let e : Some (OnGuest 0 (Reap 1)) ≡ Some (OnGuest 0 (Reap 0)) = r.event in cc)
+
+a_report_reaped : NotByReap (OnGuest 0 (Reap 4)) (Reaped 0 1) (16 ∷ [])
+a_report_reaped = not_reaped _ _ _
+    (λ r. let e : Some (OnGuest 0 (Reap 4)) ≡ Some (OnGuest 0 (Reap 0)) = r.event in cc)
 
 no_inflate_used : NotByReap (OnGuest 0 (Reap 0)) NotUsed (16 ∷ [])
-no_inflate_used = not_by_two (by_reap (OnGuest 0 (Reap 0)) NotUsed (16 ∷ [])) 0 0
-    (λ r p told.
-    let e : Some NotUsed ≡ Some (Reaped r.request.head (length r.request.pages)) = r.reply in cc)
+no_inflate_used = not_reaped _ _ _
+    (λ r. let e : Some NotUsed ≡ Some (Reaped r.request.head (length r.request.pages)) = r.reply in
+    cc)
 
 abbrev inflates : Option Guest → Requests
 inflates None = no_requests
 inflates (Some g) = g.inflate
 
-inflate_of_page_17 : NotByReap (OnGuest 0 (Reap 0)) (Reaped 0 1) (17 ∷ [])
-inflate_of_page_17 = not_by_two (by_reap (OnGuest 0 (Reap 0)) (Reaped 0 1) (17 ∷ [])) 0 0
-    (λ r p told.
-    let done : request 0 (17 ∷ []) 0 ∷ [] ≡ r.request ∷ r.others =
-    ap (λ (g : Option Guest). (inflates g).done) r.is_there ∙ r.done in
-    let same : request 0 (17 ∷ []) 0 ≡ r.request =
-    first_is (request 0 (17 ∷ []) 0) [] r.request r.others done in
-    let named : false ≡ true = ap (names 16) same ∙ r.named in
-    cc)
-
--- no deflate was posted: another guest's was, it was refused, or it names another page, with or
--- without an older one that names this one
-abbrev NotByPost : Event → Reply → Requests → Requests → Type 0
-NotByPost post answer before after = AskedBack (by_post post answer before after) 0 16 0 3 → ⊥
-
-anothers_deflate : NotByPost (OnGuest 1 (Deflate 1)) (Posted 0 1) no_requests (posted request_16)
-anothers_deflate = not_by_two
-    (by_post (OnGuest 1 (Deflate 1)) (Posted 0 1) no_requests (posted request_16)) 0 0
-    (λ r p told. let e : Some (OnGuest 1 (Deflate 1)) ≡ Some (OnGuest 0 p.call) = p.event in cc)
-
-an_inflate_posted : NotByPost (OnGuest 0 (Inflate 1)) (Posted 0 1) no_requests (posted request_16)
-an_inflate_posted = not_by_two
-    (by_post (OnGuest 0 (Inflate 1)) (Posted 0 1) no_requests (posted request_16)) 0 0
-    (not_asking (by_post (OnGuest 0 (Inflate 1)) (Posted 0 1) no_requests (posted request_16))
-    0 3 1 2 refl)
-
-deflate_refused : NotByPost (OnGuest 0 (Deflate 1)) (Refused QueueFull) no_requests
-    (posted request_16)
-deflate_refused = not_by_two
-    (by_post (OnGuest 0 (Deflate 1)) (Refused QueueFull) no_requests (posted request_16)) 0 0
-    (λ r p told.
-    let e : Some (Refused QueueFull) ≡ Some (Posted p.request.head (length p.request.pages)) =
-    p.reply in
-    cc)
-
 abbrev request_17 : Request
 request_17 = request 0 (17 ∷ []) 0
 
+inflate_of_page_17 : NotByReap (OnGuest 0 (Reap 0)) (Reaped 0 1) (17 ∷ [])
+inflate_of_page_17 = not_reaped _ _ _
+    (λ r. let done : request_17 ∷ [] ≡ r.request ∷ r.others =
+    ap (λ (g : Option Guest). (inflates g).done) r.is_there ∙ r.done in
+    let same : request_17 ≡ r.request = first_is request_17 [] r.request r.others done in
+    let named : false ≡ true = ap (names 16) same ∙ r.named in
+    cc)
+
+-- no deflate was posted: another guest's was, an inflate was, it was refused, or it names another
+-- page, with or without an older one that names this one
+abbrev NotByPost : Event → Reply → Requests → Requests → Type 0
+NotByPost post answer before after = AskedBack (by_post post answer before after) 0 16 0 3 → ⊥
+
+not_posted : (post : Event) (answer : Reply) (before after : Requests)
+    → (PostsDeflate (by_post post answer before after) 0 16 2 → ⊥)
+    → NotByPost post answer before after
+not_posted post answer before after none =
+    not_by_two (by_post post answer before after) 0 0 (λ r p told. none p)
+
+anothers_deflate : NotByPost (OnGuest 1 (Deflate 1)) (Posted 0 1) no_requests (posted request_16)
+anothers_deflate = not_posted _ _ _ _
+    (λ p. let e : Some (OnGuest 1 (Deflate 1)) ≡ Some (OnGuest 0 p.call) = p.event in cc)
+
+an_inflate_posted : NotByPost (OnGuest 0 (Inflate 1)) (Posted 0 1) no_requests (posted request_16)
+an_inflate_posted = not_posted _ _ _ _
+    (λ p. let e : false ≡ true = ap is_asking p.event ∙ p.asks in cc)
+
+deflate_refused : NotByPost (OnGuest 0 (Deflate 1)) (Refused QueueFull) no_requests
+    (posted request_16)
+deflate_refused = not_posted _ _ _ _
+    (λ p. let e : Some (Refused QueueFull)
+    ≡ Some (Posted p.request.head (length p.request.pages)) = p.reply in
+    cc)
+
 deflate_of_page_17 : NotByPost (OnGuest 0 (Deflate 1)) (Posted 0 1) no_requests (posted request_17)
-deflate_of_page_17 = not_by_two
-    (by_post (OnGuest 0 (Deflate 1)) (Posted 0 1) no_requests (posted request_17)) 0 0
-    (λ r p told.
-    let same : request_17 ≡ p.request = first_is request_17 [] p.request []
-    (posted_is (by_post (OnGuest 0 (Deflate 1)) (Posted 0 1) no_requests (posted request_17))
-    0 2 p) in
+deflate_of_page_17 = not_posted _ _ _ _
+    (λ p. let same : request_17 ≡ p.request =
+    first_is request_17 [] p.request [] (posted_is _ 0 2 p) in
     let named : false ≡ true = ap (names 16) same ∙ p.named in
     cc)
 
@@ -604,12 +608,9 @@ behind_an_older =
     record { posted = request_16 ∷ request 1 (17 ∷ []) 0 ∷ []; taken = []; done = [] }
 
 older_deflate : NotByPost (OnGuest 0 (Deflate 1)) (Posted 1 1) (posted request_16) behind_an_older
-older_deflate = not_by_two
-    (by_post (OnGuest 0 (Deflate 1)) (Posted 1 1) (posted request_16) behind_an_older) 0 0
-    (λ r p told.
-    let two : request_16 ∷ request 1 (17 ∷ []) 0 ∷ [] ≡ request_16 ∷ p.request ∷ [] =
-    posted_is (by_post (OnGuest 0 (Deflate 1)) (Posted 1 1) (posted request_16) behind_an_older)
-    0 2 p in
+older_deflate = not_posted _ _ _ _
+    (λ p. let two : request_16 ∷ request 1 (17 ∷ []) 0 ∷ [] ≡ request_16 ∷ p.request ∷ [] =
+    posted_is _ 0 2 p in
     let same : request 1 (17 ∷ []) 0 ≡ p.request =
     first_is (request 1 (17 ∷ []) 0) [] p.request [] (ap (drop 1) two) in
     let named : false ≡ true = ap (names 16) same ∙ p.named in

@@ -65,7 +65,8 @@ ballooned_but_free c = let e : Same 1 0 = (c.pages 16).ballooning in omega arith
 -- guest tells the host and where it doesn't
 
 abbrev Named : Bool → Place → Requests → Requests → Bool → Type 0
-Named told place inflate deflate flag = IsPageSound 16 told place [] inflate deflate no_requests flag
+Named told place inflate deflate flag =
+    IsPageSound 16 told place [] inflate deflate no_requests flag
 
 -- the page is taking until the deflate is reaped, and a page of a guest that doesn't tell is free
 taking_and_named : Named true Taking no_requests naming_16 false
