@@ -188,7 +188,8 @@ in_use flag rs = record (three_lent untold) {
   deflate = rs;
 }
 
-handed_out : HonestStep (asked FreePlace untold) (Alloc 0 0) [] (Page 16) (in_use true (posted both))
+handed_out : HonestStep (asked FreePlace untold) (Alloc 0 0) [] (Page 16)
+    (in_use true (posted both))
 handed_out = (refl, (16, refl, refl, refl))
 
 both_handed_out : HonestStep (asked FreePlace untold) (Alloc 0 1) [] (Page 16)
@@ -257,7 +258,8 @@ nothing_where_it_tells = refl
 abbrev stranded : Requests → Guest
 stranded rs = record untold { places = places Stranded Stranded Lent; deflate = rs }
 
-stranded_too : map (λ rs. refusal_of (stranded rs) (Inflate 1)) each_stage ≡ Some DeflatePending ∷ Some DeflatePending ∷ Some DeflatePending ∷ None ∷ []
+stranded_too : map (λ rs. refusal_of (stranded rs) (Inflate 1)) each_stage
+    ≡ Some DeflatePending ∷ Some DeflatePending ∷ Some DeflatePending ∷ None ∷ []
 stranded_too = refl
 
 -- at queue size 2 one or two inflates are out
@@ -372,7 +374,8 @@ framed flag rs = record (in_use flag rs) {
   contents = replicate 16 zero_page ++ ((7 ∷ []) ∷ (8 ∷ []) ∷ replicate 46 zero_page);
 }
 
-taken_first : HonestStep (framed true (posted both)) (Take 1) [] (Taken 0) (framed true (taken both))
+taken_first : HonestStep (framed true (posted both)) (Take 1) [] (Taken 0)
+    (framed true (taken both))
 taken_first = (refl, (refl, refl))
 
 finished : HonestStep (framed true (taken both)) (Finish 1 0) [] (Finished 0)
