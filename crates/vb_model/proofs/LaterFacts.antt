@@ -1,6 +1,6 @@
 -- Histories that are safe at first and go wrong behind another event: of guest 1, which is at
 -- status 0 but where it asks pages back.
-use Rattle.std.proofs.Common.{◌≡◌, ℕ, zero, suc, ◌<◌, ◌≤◌, true, false, List, [], ◌∷◌, ◌++◌}
+use Rattle.std.proofs.Common.{◌≡◌, ℕ, zero, suc, ◌≤◌, true, false, List, [], ◌∷◌, ◌++◌}
 use Rattle.std.proofs.Common.{map, replicate, refl, ap, subst, ◌∙◌, inl, arith}
 use Rattle.std.specs.Prelude.{Option, Some, None, slice_get}
 use Rattle.vb_model.specs.declared.places.Place.TheVariants.{Free as FreePlace, Used}

@@ -1,38 +1,36 @@
 -- Worked facts of guests that haven't agreed to tell the host, beside those of guests that have.
-use Rattle.std.proofs.Common.{◌≡◌, ℕ, ◌<◌, true, false, List, [], ◌∷◌, ◌++◌, map, replicate, refl}
-use Rattle.std.proofs.Common.{sym, ap, subst, ◌∙◌, inl, arith}
+use Rattle.std.proofs.Common.{◌≡◌, ℕ, true, false, List, [], ◌∷◌, ◌++◌, map, replicate, refl}
+use Rattle.std.proofs.Common.{sym, ap, subst, ◌∙◌, arith}
 use Rattle.std.specs.Prelude.{Bool, Option, Some, None, IsTrue, drop}
 use Rattle.std.specs.List.{range_with_len}
 use Rattle.vb_model.specs.declared.places.Place.{Place}
 use Rattle.vb_model.specs.declared.places.Place.TheVariants.{Reserved, Free as FreePlace, Used}
 use Rattle.vb_model.specs.declared.places.Place.TheVariants.{Giving, Lent, Taking, Stranded}
 use Rattle.vb_model.specs.declared.places.Place.TheVariants.{Reporting}
+use Rattle.vb_model.specs.declared.calls.Actor.TheVariants.{Processor, Worker}
 use Rattle.vb_model.specs.declared.calls.Call.{Call}
 use Rattle.vb_model.specs.declared.calls.Call.TheVariants.{Init, Reset, Alloc, Write, Inflate}
 use Rattle.vb_model.specs.declared.calls.Call.TheVariants.{Deflate, Oom, Report, Reap, Take, Work}
 use Rattle.vb_model.specs.declared.calls.Call.TheVariants.{Finish, Sweep}
-use Rattle.vb_model.specs.declared.calls.Claim.{Claim}
 use Rattle.vb_model.specs.declared.calls.Claim.TheVariants.{Gave}
-use Rattle.vb_model.specs.declared.replies.Refusal.{Refusal}
 use Rattle.vb_model.specs.declared.replies.Refusal.TheVariants.{NotReady, NeedsReset, QueueFull}
 use Rattle.vb_model.specs.declared.replies.Refusal.TheVariants.{DeflatePending, Nothing, NoPages}
 use Rattle.vb_model.specs.declared.replies.Refusal.TheVariants.{NoFeature, NotBallooned}
 use Rattle.vb_model.specs.declared.replies.Refusal.TheVariants.{VersionMissing}
 use Rattle.vb_model.specs.declared.replies.Reply.TheVariants.{Done, Ready, Page, Posted, Reaped}
 use Rattle.vb_model.specs.declared.replies.Reply.TheVariants.{Taken, Finished, Swept, Refused}
-use Rattle.vb_model.specs.Pages.{Block, block_at, is_wholly_free, place_of}
+use Rattle.vb_model.specs.Pages.{block_at, is_wholly_free, place_of}
 use Rattle.vb_model.specs.Requests.{Request, Requests, no_requests, IsLeastHead, given_away}
-use Rattle.vb_model.specs.Guest.{Guest, zero_page, no_statistics, is_ready, tells_host, frame_of}
-use Rattle.vb_model.specs.Guest.{is_ballooned}
+use Rattle.vb_model.specs.Requests.{BufferPosted}
+use Rattle.vb_model.specs.Guest.{Guest, zero_page, is_ready, tells_host, frame_of, is_ballooned}
 use Rattle.vb_model.specs.Status.{status_refusal}
-use Rattle.vb_model.specs.FirstRefusal.{Test, ◌⇒◌}
+use Rattle.vb_model.specs.FirstRefusal.{◌⇒◌}
 use Rattle.vb_model.specs.Tests.{flagged}
 use Rattle.vb_model.specs.Tables.{inflate_tests, deflate_tests, sweep_tests}
 use Rattle.vb_model.specs.Refusals.{refusal_of}
 use Rattle.vb_model.specs.Driver.{contents_of}
 use Rattle.vb_model.specs.Life.{feature_refusal, after_reset}
 use Rattle.vb_model.specs.Step.{Performs, HonestStep}
-use Rattle.vb_model.specs.declared.calls.Actor.TheVariants.{Processor, Worker}
 use Rattle.vb_model.specs.GuestRun.{Called, GuestRun}
 use Rattle.vb_model.proofs.Samples.{config, ready, untold, down, mixed_places, request}
 
@@ -51,6 +49,21 @@ status_accepted = refl
 no_version_and_untold : feature_refusal 0x26 ∷ status_refusal 3 0x26 11 ∷ [] ≡ Some VersionMissing
     ∷ Some VersionMissing ∷ []
 no_version_and_untold = refl
+
+-- started so, where pages 0 to 12 have frames
+abbrev with_frames : Guest
+with_frames = record down { frames = map Some (range_with_len 20 13) ++ replicate 51 None }
+
+started : HonestStep with_frames (Init 0x100000026) [] Ready (record with_frames {
+  status = 15;
+  features = 0x100000026;
+  buffer = BufferPosted (record { free = 196608; total = 262144 });
+})
+started = (tt, (refl, refl))
+
+refused_at_the_start : (new : Guest)
+    → HonestStep with_frames (Init 0x100000026) [] (Refused VersionMissing) new → ⊥
+refused_at_the_start new s = let e : Refused VersionMissing ≡ Ready = s.1.0 in cc
 
 ready_and_untold : is_ready untold ∷ tells_host untold ∷ [] ≡ true ∷ false ∷ []
 ready_and_untold = refl
