@@ -595,6 +595,7 @@ pub reset_kept : (d : DriverState) (areas2 : FreePages) (features : ℕ) → IsD
       report = fresh_report d.queue_size;
       features =
           features;
+      actual = 0;
     })
 reset_kept d areas2 features kept given processors =
     record {

@@ -309,13 +309,17 @@ moved_on queue pages d =
       areas = areas_reaped queue pages d;
     }
 
+-- The driver has told how many pages are given away now.
+abbrev pub with_actual : DriverState → DriverState
+with_actual d = record d { actual = given_away d }
+
 -- The used request's pages move on, and then `actual` is told.
 pub record Reaps (p1 p2 : Part) (d1 d2 : DriverState) (queue : ℕ) (reaped : Reaped) : Type 0 where
   pub small : reaped.head < max_outstanding
   pub pages : reaped.pages ≡ length (pages_sent queue reaped.head d1)
-  pub state : d2
-      ≡ without_request queue reaped.head (moved_on queue (pages_sent queue reaped.head d1) d1)
-  pub part : p2 ≡ record p1 { actual = given_away d2 }
+  pub state : d2 ≡ with_actual
+      (without_request queue reaped.head (moved_on queue (pages_sent queue reaped.head d1) d1))
+  pub part : p2 ≡ record p1 { actual = d2.actual }
 
 -- What the answer says of the used request that stands next.
 abbrev pub next_of : Option Reaped → Option ℕ
@@ -469,4 +473,5 @@ pub record ResetsBy (m1 m2 : Pages) (p1 p2 : Part) (d1 d2 : DriverState) : Type 
     statistics = fresh_statistics d1.queue_size;
     report = fresh_report d1.queue_size;
     features = 0;
+    actual = 0;
   }

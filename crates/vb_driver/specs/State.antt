@@ -37,7 +37,8 @@ pub record ReportSide : Type 0 where
 
 -- A driver: how large its guest is, where each page is, the blocks that allocations hold, by rising
 -- start, the page areas with each processor's list, its two queues of requests, its end of the
--- queue of statistics, its queue of reports, and the features that were accepted last.
+-- queue of statistics, its queue of reports, the features that were accepted last, and how many
+-- pages it told the device last that it has given away.
 pub record DriverState : Type 0 where
   pub pages : ℕ
   pub queue_size : ℕ
@@ -50,6 +51,7 @@ pub record DriverState : Type 0 where
   pub statistics : DriverEnd
   pub report : ReportSide
   pub features : ℕ
+  pub actual : ℕ
 
 -- ---- what is read off a driver
 
@@ -137,6 +139,7 @@ fresh_driver pages queue_size processors =
       statistics = fresh_statistics queue_size;
       report = fresh_report queue_size;
       features = 0;
+      actual = 0;
     }
 
 -- ---- what holds of each driver

@@ -146,6 +146,7 @@ impl Driver {
         self.statistics.renew(self.config.queue_size);
         self.report.renew(self.config.queue_size);
         self.features = Features::empty();
+        self.actual = 0;
     }
 
     /// Begins a new life (profile): resets the device, and all is as when the guest was plugged in.
