@@ -85,3 +85,40 @@ named_sent sent (r ∷ rest) once none kept =
           (not_again (slice_index_or rest k d).head r rest
           (once (slice_index_or rest k d).head) (sym e))) ∙ one.remembered;
     }
+
+all_both : {A : Type 0} (P : A → Type 0) (xs ys : List A) → All P xs → All P ys → All P (xs ++ ys)
+all_both P [] ys a b k d lt = b k d lt
+all_both P (x ∷ xs) ys a b zero d lt = a zero x (omega arith)
+all_both P (x ∷ xs) ys a b (suc k) d lt =
+    all_both P xs ys (λ i e l. a (suc i) e (omega (arith, l))) b k d (omega (arith, lt))
+
+out_as_often : (b : Bool) → one_if b ≡ 0 → b ≡ false
+out_as_often true e = absurd (omega arith)
+out_as_often false e = refl
+
+at_most_one : (b : Bool) → one_if b ≤ 1
+at_most_one true = omega arith
+at_most_one false = omega arith
+
+pub line_named : (mem : Pages) (q n : ℕ) (side : Side) (part : QueuePart) (rs : Requests)
+    → Line mem q n side part rs → AreRequests side
+    → pages_sent side ≡ pages_named (all_requests rs)
+line_named mem q n side part rs line out =
+    named_sent side.sent (all_requests rs)
+    (λ h. omega (
+      arith,
+      headed_once mem q side.ring part rs h line.ring,
+      at_most_one (is_head side.ring.owner h),
+    ))
+    (λ h none. out.unsent h (out_as_often (is_head side.ring.owner h)
+    (sym (headed_once mem q side.ring part rs h line.ring) ∙ none)))
+    (all_both (IsKept side.sent) rs.posted (rs.taken ++ rs.done) (kept rs.posted line.posted)
+    (all_both (IsKept side.sent) rs.taken rs.done (kept rs.taken line.taken)
+    (kept rs.done line.done)))
+  where
+    kept : (xs : List Request) → All (IsRequest side.ring.size n side.sent) xs
+        → All (IsKept side.sent) xs
+    kept xs all k d lt = record {
+      few = omega (arith, (all k d lt).few, line.buffers);
+      remembered = (all k d lt).remembered;
+    }
