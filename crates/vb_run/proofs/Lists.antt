@@ -7,6 +7,7 @@ use Rattle.std.proofs.lemmas.Bool.{and_parts}
 use Rattle.std.proofs.Math.Seq.{take-length}
 use Rattle.std.proofs.lemmas.Option.{slice_get_within, get_or_from_slice_get}
 use Rattle.std.proofs.lemmas.List.Elements.{All-push}
+pub use Rattle.std.proofs.lemmas.List.Folds.{list_all_more, list_all_at}
 
 -- what stands at a place of a list that one element was pushed to
 pub get_push : {X : Type 0} (xs : List X) (y : X) (i : ℕ) (z : X)

@@ -70,8 +70,8 @@ pub record IsKept (Is : Guest → Type 0) (own : List ℕ) (p : Past) : Type 0 w
   pub begins : Begins p.history
   pub follows : Follows p
   pub owned : All (λ e. IsOwn p.guest (length p.scripts) (actor_of e)) p.history
-  pub hushed : (n : ℕ) (call : Call) → slice_index_or p.quiet n false ≡ true → slice_get services n ≡ Some call
-      → IsQuiet now call
+  pub hushed : (n : ℕ) (call : Call) → slice_index_or p.quiet n false ≡ true
+      → slice_get services n ≡ Some call → IsQuiet now call
   pub scripted : (cpu : ℕ) (s : Progress) → slice_get p.scripts cpu ≡ Some s → IsScript cpu s.calls
 
 -- not a processor

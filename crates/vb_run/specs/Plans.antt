@@ -1,11 +1,13 @@
 -- Which plans can be run (profile).
-use Rattle.std.specs.Prelude.{◌≡◌, ℕ, suc, ◌==◌, ◌&&◌, Bool, true, false, not, nat_le, List, [], ◌∷◌, length}
+use Rattle.std.specs.Prelude.{◌≡◌, ℕ, suc, ◌==◌, ◌&&◌, Bool, true, false, not, nat_le}
+use Rattle.std.specs.Prelude.{List, [], ◌∷◌, length}
 use Rattle.std.specs.List.{list_all}
 use Rattle.std.specs.declared.vec.Vec.{Vec}
 use Rattle.std.specs.declared.alloc.Global.{Global}
 use Rattle.vb_model.specs.declared.calls.Call.{Call}
-use Rattle.vb_model.specs.declared.calls.Call.TheVariants.{Alloc, Free, Read, Write, Inflate, Deflate}
-use Rattle.vb_model.specs.declared.calls.Call.TheVariants.{Oom, Report, Stats, Reap, Init, Reset, Scribble, Sweep}
+use Rattle.vb_model.specs.declared.calls.Call.TheVariants.{Alloc, Free, Read, Write, Inflate}
+use Rattle.vb_model.specs.declared.calls.Call.TheVariants.{Deflate, Oom, Report, Stats, Reap}
+use Rattle.vb_model.specs.declared.calls.Call.TheVariants.{Init, Reset, Scribble, Sweep}
 use Rattle.vb_model.specs.Limits.{is_config, max_guests}
 use Rattle.vb_model.specs.Guest.{Config}
 use Rattle.vb_ram.specs.declared.config.Config.{Config as Sizes}

@@ -1,5 +1,6 @@
 -- What a run answers.
-use Rattle.std.specs.Prelude.{◌≡◌, ◌≢◌, ℕ, ◌≤◌, Bool, true, false, List, [], length, Some, slice_get, map}
+use Rattle.std.specs.Prelude.{◌≡◌, ◌≢◌, ℕ, ◌≤◌, Bool, true, false, List, [], length, Some}
+use Rattle.std.specs.Prelude.{slice_get, map}
 use Rattle.std.specs.Prelude.{filter_map, All, sum_by}
 use Rattle.vb_model.specs.declared.calls.Actor.TheVariants.{Processor, Balancer}
 use Rattle.vb_model.specs.Guest.{Guest}

@@ -1,5 +1,6 @@
 -- A round of the balancer.
-use Rattle.std.specs.Prelude.{◌≡◌, ℕ, ◌==◌, Bool, List, [], ◌∷◌, ◌++◌, MatchBool, slice_index_or, map}
+use Rattle.std.specs.Prelude.{◌≡◌, ℕ, ◌==◌, Bool, List, [], ◌∷◌, ◌++◌, MatchBool, slice_index_or}
+use Rattle.std.specs.Prelude.{map}
 use Rattle.vb_model.specs.declared.calls.Actor.TheVariants.{Balancer}
 use Rattle.vb_model.specs.declared.calls.Call.TheVariants.{SetTarget}
 use Rattle.vb_model.specs.declared.replies.Refusal.TheVariants.{Short}

@@ -18,7 +18,8 @@ default_features = 0x100000027
 
 -- a worker's calls
 abbrev pub services : List Call
-services = Take 0 ∷ Take 1 ∷ Take 2 ∷ Take 4 ∷ Work ∷ Finish 0 0 ∷ Finish 1 0 ∷ Finish 4 0 ∷ Ask ∷ []
+services =
+    Take 0 ∷ Take 1 ∷ Take 2 ∷ Take 4 ∷ Work ∷ Finish 0 0 ∷ Finish 1 0 ∷ Finish 4 0 ∷ Ask ∷ []
 
 -- the reply of a call of a worker that changed nothing
 abbrev pub found_nothing : Reply → Bool

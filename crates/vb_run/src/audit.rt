@@ -1,10 +1,12 @@
 //! What is compared and gathered once all threads of a run have ended.
 
-ghost use Rattle.std.specs.Prelude.{◌≡◌, ◌≤◌, ◌<◌, ℕ, Bool, true, length, IfOk, OnOk, Some, slice_get, map, All, ◌++◌};
+ghost use Rattle.std.specs.Prelude.{◌≡◌, ◌≤◌, ◌<◌, ℕ, Bool, true, length, IfOk, OnOk};
+ghost use Rattle.std.specs.Prelude.{Some, slice_get, map, All, ◌++◌};
 ghost use Rattle.std.specs.Prelude.{slice_index_or, drop};
 ghost use Rattle.vb_model.specs.declared.calls.Actor.TheVariants.{Processor, Balancer};
 ghost use Rattle.vb_model.specs.Balance.{spare_at};
-ghost use Rattle.vb_run.specs.Entries.{entry_of, is_same, entries_by, replies_by, actor_of, reply_to};
+ghost use Rattle.vb_run.specs.Entries.{entry_of, is_same, entries_by, replies_by, actor_of};
+ghost use Rattle.vb_run.specs.Entries.{reply_to};
 ghost use Rattle.vb_run.specs.Reports.{IsRound};
 ghost use Rattle.vb_run.specs.Rounds.{round_entries, target_entries};
 
@@ -102,7 +104,8 @@ fn push_target(
     guest: u32,
     answer: &Reply,
 ) -> Result<(), AllocError>
-    ensures { OnOk result (entries.new.items ≡ entries.old.items ++ target_entries guest answer.now) }
+    ensures { OnOk result
+        (entries.new.items ≡ entries.old.items ++ target_entries guest answer.now) }
 {
     if let Reply::Targets { pages } = answer {
         entries.push(Entry::new(Step::Called {

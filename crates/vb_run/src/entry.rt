@@ -10,8 +10,8 @@ use vb_model::{Actor, Call, Claim, Reply};
 /// What was done to a guest under its lock.
 #[derive(Drop)]
 pub enum Step {
-    /// An actor's call, what the guest's claims of frames were answered by its device, in order, and
-    /// the reply.
+    /// An actor's call, what the guest's claims of frames were answered by its device, in order,
+    /// and the reply.
     Called {
         actor: Actor,
         call: Call,

@@ -1,7 +1,8 @@
 //! What a guest's lock keeps.
 
-ghost use Rattle.std.specs.Prelude.{◌≡◌, ◌≤◌, ◌<◌, ℕ, Bool, true, false, [], ◌∷◌, ◌++◌, length, slice_get};
-ghost use Rattle.std.specs.Prelude.{slice_index_or, IfOk, OnOk, Some, IfSome, IfNone, vec_capacity};
+ghost use Rattle.std.specs.Prelude.{◌≡◌, ◌≤◌, ◌<◌, ℕ, Bool, true, false, [], ◌∷◌, ◌++◌, length};
+ghost use Rattle.std.specs.Prelude.{slice_get, slice_index_or, IfOk, OnOk, Some, IfSome, IfNone};
+ghost use Rattle.std.specs.Prelude.{vec_capacity};
 ghost use Rattle.vb_model.specs.Guest.{Guest, fresh};
 ghost use Rattle.vb_model.specs.Limits.{is_config};
 ghost use Rattle.vb_model.specs.GuestRun.{Looked};
@@ -18,6 +19,7 @@ use crate::script::{Script, all_ended, are_of};
 use crate::served::{DEFAULT_FEATURES, SERVICES, found_nothing, service};
 use std::alloc::{AllocError, Global};
 use std::marker::Model;
+use std::mem;
 use std::sync::Wait;
 use vb_balance::GuestNeed;
 use vb_guest::MAX_CLAIMS;
@@ -32,6 +34,8 @@ pub(crate) struct Kept<S: GuestSlot> {
     sizes: Config,
     slot: S,
     history: Vec<Entry>,
+    /// Where the claims of the next call are noted.
+    room: Vec<Claim>,
     scripts: Vec<Script>,
     quiet: [bool; SERVICES],
     short: bool,
@@ -61,21 +65,39 @@ impl<S: GuestSlot> Model for Kept<S> {
     }) };
 }
 
-/// What the slot's last call was answered for its claims, in this room, or in none if there were none.
-fn claims_in<S: GuestSlot>(alloc: Global, slot: &S, room: Vec<Claim>) -> Vec<Claim>
-    requires empty { room.items ≡ [] }
-    requires room { MAX_CLAIMS ≤ vec_capacity room }
+/// Makes an empty room for the claims of a call.
+fn make_room(room: &mut Vec<Claim>) -> Result<(), AllocError>
+    ensures empty { OnOk result (room.new.items ≡ []) }
+    ensures room { OnOk result (MAX_CLAIMS ≤ vec_capacity room.new) }
+{
+    room.clear();
+    room.reserve(MAX_CLAIMS)
+}
+
+/// What the slot's last call was answered for its claims. These take the room, if there are any.
+fn claims_in<S: GuestSlot>(alloc: Global, slot: &S, room: &mut Vec<Claim>) -> Vec<Claim>
+    requires empty { room.old.items ≡ [] }
+    requires room { MAX_CLAIMS ≤ vec_capacity room.old }
     ensures { result.items ≡ S.claimed slot.now }
 {
     let claims = slot.claims();
     if claims.is_empty() {
         return Vec::new(alloc);
     }
-    let mut room = room;
+    let mut taken = mem::replace(room, Vec::new(alloc));
     for claim in claims {
-        room.push_reserved(*claim);
+        taken.push_reserved(*claim);
     }
-    room
+    taken
+}
+
+/// How many calls the scripts have.
+fn count_calls(scripts: &[Script]) -> usize {
+    let mut count: usize = 0;
+    for script in scripts {
+        count = count.saturating_add(script.len());
+    }
+    count
 }
 
 impl<S: GuestSlot> Kept<S> {
@@ -93,13 +115,14 @@ impl<S: GuestSlot> Kept<S> {
     {
         let mut slot = slot;
         let mut history = Vec::new(alloc);
-        history.reserve(1)?;
-        let room = Vec::with_capacity(alloc, MAX_CLAIMS)?;
+        history.reserve(count_calls(scripts.as_slice()).saturating_add(1))?;
+        let mut room = Vec::new(alloc);
+        make_room(&mut room)?;
         let call = Call::Init {
             features: DEFAULT_FEATURES,
         };
         let reply = slot.call(alloc, &call);
-        let claims = claims_in(alloc, &slot, room);
+        let claims = claims_in(alloc, &slot, &mut room);
         history.push_reserved(Entry::new(Step::Called {
             actor: Actor::Starter,
             call,
@@ -111,6 +134,7 @@ impl<S: GuestSlot> Kept<S> {
             sizes,
             slot,
             history,
+            room,
             scripts,
             quiet: [false; SERVICES],
             short: false,
@@ -135,9 +159,9 @@ impl<S: GuestSlot> Kept<S> {
         };
         let call = call.copy(alloc)?;
         self.history.reserve(1)?;
-        let room = Vec::with_capacity(alloc, MAX_CLAIMS)?;
+        make_room(&mut self.room)?;
         let reply = self.slot.call(alloc, &call);
-        let claims = claims_in(alloc, &self.slot, room);
+        let claims = claims_in(alloc, &self.slot, &mut self.room);
         let answer = reply.copy(alloc);
         let actor = Actor::Processor {
             guest: self.guest,
@@ -159,10 +183,10 @@ impl<S: GuestSlot> Kept<S> {
         ensures same { IsSame self.old self.new }
     {
         self.history.reserve(1)?;
-        let room = Vec::with_capacity(alloc, MAX_CLAIMS)?;
+        make_room(&mut self.room)?;
         let call = Call::SetTarget { pages };
         let reply = self.slot.call(alloc, &call);
-        let claims = claims_in(alloc, &self.slot, room);
+        let claims = claims_in(alloc, &self.slot, &mut self.room);
         let actor = Actor::Balancer;
         self.history.push_reserved(Entry::new(Step::Called {
             actor,
@@ -196,14 +220,14 @@ impl<S: GuestSlot> Kept<S> {
         ensures same { IsSame self.old self.new }
     {
         self.history.reserve(1)?;
-        let room = Vec::with_capacity(alloc, MAX_CLAIMS)?;
+        make_room(&mut self.room)?;
         let call = service(number);
         let reply = self.slot.call(alloc, &call);
         if found_nothing(&reply) {
             self.quiet[number] = true;
             return Ok(reply);
         }
-        let claims = claims_in(alloc, &self.slot, room);
+        let claims = claims_in(alloc, &self.slot, &mut self.room);
         let answer = reply.copy(alloc);
         let actor = Actor::Worker { guest: self.guest };
         self.history.push_reserved(Entry::new(Step::Called {
@@ -219,7 +243,8 @@ impl<S: GuestSlot> Kept<S> {
     /// A call of the worker that may find something to do.
     fn next_service(&self) -> Option<usize>
         ensures some { IfSome result (λ n. n < SERVICES) }
-        ensures none { IfNone result ((n : ℕ) → n < SERVICES → slice_index_or self.now.quiet n false ≡ true) }
+        ensures none { IfNone result ((n : ℕ) → n < SERVICES
+            → slice_index_or self.now.quiet n false ≡ true) }
     {
         for number in 0..SERVICES {
             if !self.quiet[number] {

@@ -75,7 +75,7 @@ fn is_script(cpu: usize, calls: &[Call]) -> bool
 }
 
 /// Whether all of the calls may stand in this processor's script.
-#[tactic(auto, using(std::proofs::lemmas::List::Folds::list_all_more, std::proofs::lemmas::List::Folds::list_all_at))]
+#[tactic(auto, using(crate::proofs::Lists::list_all_more, crate::proofs::Lists::list_all_at))]
 fn all_may_stand(cpu: usize, calls: &[Call]) -> bool
     ensures { result ≡ list_all (may_stand cpu) calls.now }
 {
@@ -120,7 +120,7 @@ pub(crate) fn is_plan(plan: &Plan, ports: usize) -> bool
 }
 
 /// Whether each of the guests can be run.
-#[tactic(auto, using(std::proofs::lemmas::List::Folds::list_all_more, std::proofs::lemmas::List::Folds::list_all_at))]
+#[tactic(auto, using(crate::proofs::Lists::list_all_more, crate::proofs::Lists::list_all_at))]
 fn are_guest_plans(guests: &[GuestPlan]) -> bool
     ensures { result ≡ list_all is_guest_plan guests.now }
 {

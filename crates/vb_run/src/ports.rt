@@ -67,9 +67,9 @@ fn slots_of(
     Ok(slots)
 }
 
-/// Plugs the guests of a plan in by themselves, each on the device of its place. Where the plan can't
-/// be run on these devices none is plugged in, and it can't be run then either. Refused for want of
-/// memory alone; the devices are gone then.
+/// Plugs the guests of a plan in by themselves, each on the device of its place. Where the plan
+/// can't be run on these devices none is plugged in, and it can't be run then either. Refused for
+/// want of memory alone; the devices are gone then.
 pub fn plug_in(
     alloc: Global,
     plan: &Plan,

@@ -37,8 +37,8 @@ pub enum RunFault {
     /// over `MAX_SCRIPT_CALLS` calls, or has a call that may not stand there.
     #[error("bad plan")]
     BadPlan,
-    /// Two guests have one frame, which ports of two tables of frames bring about; or what the locks
-    /// kept isn't the plan's or the rounds', which no run meets.
+    /// Two guests have one frame, which ports of two tables of frames bring about; or what the
+    /// locks kept isn't the plan's or the rounds', which no run meets.
     #[error("audit")]
     Audit,
 }

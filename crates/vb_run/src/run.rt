@@ -1,6 +1,7 @@
 //! Runs a plan.
 
-ghost use Rattle.std.specs.Prelude.{◌≡◌, ◌↔◌, ℕ, Bool, true, false, length, IfOk, Err, Some, slice_get};
+ghost use Rattle.std.specs.Prelude.{◌≡◌, ◌↔◌, ℕ, Bool, true, false, length, IfOk, Err, Some};
+ghost use Rattle.std.specs.Prelude.{slice_get};
 ghost use Rattle.std.specs.List.{list_all};
 ghost use Rattle.vb_run.specs.Past.{AreBegun};
 ghost use Rattle.vb_run.specs.Plans.{are_scripts, is_guest_plan, is_plan};
@@ -161,8 +162,8 @@ fn run_plan<S: GuestSlot + Send, G: Gate, R: Threads + Wait + Sync>(
     Ok(Report { guests, rounds })
 }
 
-/// Runs each guest of the plan at the slot of its place, on threads: one for each of its processors,
-/// a worker for each guest, and one balancer for all.
+/// Runs each guest of the plan at the slot of its place, on threads: one for each of its
+/// processors, a worker for each guest, and one balancer for all.
 pub fn run_threads<S: GuestSlot + Send, G: Gate, R: Threads + Wait + Sync>(
     rt: &R,
     alloc: Global,

@@ -65,6 +65,11 @@ impl Script {
         are_same(self.calls.as_slice(), calls)
     }
 
+    /// How many calls it has.
+    pub fn len(&self) -> usize {
+        self.calls.len()
+    }
+
     /// Whether all calls were made.
     pub fn is_ended(&self) -> bool
         ensures { result ≡ true → self.now.place ≡ length self.now.calls }

@@ -1,6 +1,7 @@
 //! The calls of a guest's worker, by which it serves as its device.
 
-ghost use Rattle.std.specs.Prelude.{◌≡◌, ◌<◌, ℕ, Some, slice_get, length, IfSome, IfNone, true, false};
+ghost use Rattle.std.specs.Prelude.{◌≡◌, ◌<◌, ℕ, Some, slice_get, length, IfSome, IfNone, true};
+ghost use Rattle.std.specs.Prelude.{false};
 ghost use Rattle.std.specs.Prelude.{slice_index_or};
 ghost use Rattle.vb_run.specs.Services.{services, found_nothing};
 

@@ -5,7 +5,8 @@ use Rattle.std.specs.declared.io.Error.{Error}
 use Rattle.std.specs.declared.io.ErrorKind.TheVariants.{OutOfMemory}
 use Rattle.vb_run.specs.declared.report.RunFault.{RunFault}
 use Rattle.vb_run.specs.declared.report.RunFault.TheVariants.{Memory as RunMemory}
-use Rattle.vb_run.specs.declared.report.RunFault.TheVariants.{BadPlan as RunBadPlan, Audit as RunAudit}
+use Rattle.vb_run.specs.declared.report.RunFault.TheVariants.{BadPlan as RunBadPlan}
+use Rattle.vb_run.specs.declared.report.RunFault.TheVariants.{Audit as RunAudit}
 use Rattle.vb_script.specs.declared.reading.ScriptFault.{ScriptFault}
 use Rattle.vb_script.specs.declared.reading.ScriptFault.TheVariants.{BadLine, Memory}
 use Rattle.vb_sim.specs.declared.fault.ProgramFault.{ProgramFault}

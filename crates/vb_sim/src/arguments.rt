@@ -73,8 +73,8 @@ pub fn read_arguments(alloc: Global, words: &[String]) -> Result<Asked, Argument
     asked_of(words).ok_or(ArgumentsFault::Refused)
 }
 
-/// What these words ask for. `--` alone, behind which all words are plain values, is understood too,
-/// but asks for nothing.
+/// What these words ask for. `--` alone, behind which all words are plain values, is understood
+/// too, but asks for nothing.
 fn asked_of(words: &[String]) -> Option<Asked>
     ensures { result ≡ asked_of (map string_bytes words.now) }
 {

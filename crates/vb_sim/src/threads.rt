@@ -67,8 +67,8 @@ fn answer<T: Threads + Wait + Sync, R: Read + Drop, O: Write>(
     run_into(rt, alloc, bells, text, output)
 }
 
-/// Runs the guests of a script and writes their lines to `out`. Nothing is written where there is no
-/// report.
+/// Runs the guests of a script and writes their lines to `out`. Nothing is written where there is
+/// no report.
 fn run_into<T: Threads + Wait + Sync, W: Write>(
     rt: &T,
     alloc: Global,

@@ -112,8 +112,8 @@ static SECOND_AFTER_FIRST: Row = Row {
     ],
 };
 
-/// The balancer waits until the worker took a request, the first call until a round is over, and the
-/// second one until the worker finished a request: device and balancer work while scripts run.
+/// The balancer waits until the worker took a request, the first call until a round is over, and
+/// the second one until the worker finished a request: device and balancer work while scripts run.
 static WORK_BESIDE_SCRIPTS: Row = Row {
     guests: Guests {
         count: 1,
@@ -161,8 +161,8 @@ static WORK_BESIDE_SCRIPTS: Row = Row {
 };
 
 impl Row {
-    /// Runs the guests on one table of frames, with the holds of this row: how the run ended, if each
-    /// hold was met.
+    /// Runs the guests on one table of frames, with the holds of this row: how the run ended, if
+    /// each hold was met.
     fn run<R: Threads + Wait + Sync>(
         &self,
         rt: &R,

@@ -97,7 +97,8 @@ impl<'a, R: Wait> Holding<'a, R> {
         }
     }
 
-    /// Waits until some thread has come where the hold of this number waits for one. Whether it did.
+    /// Waits until some thread has come where the hold of this number waits for one. Whether it
+    /// did.
     fn wait_for(&self, number: usize) -> bool {
         let Some(has_come) = self.have_come.get(number) else {
             return false;

@@ -12,7 +12,7 @@ use vb_model::{Bytes, Call};
 use vb_ram::Config;
 
 // How much is tried here. `tools/soak-threads` tries more of larger plans, with other numbers in
-// these four lines.
+// these five lines.
 const PLANS: u32 = 6;
 
 const MAX_GUESTS: u32 = 2;
@@ -20,6 +20,10 @@ const MAX_GUESTS: u32 = 2;
 const MAX_CALLS: u32 = 24;
 
 const SEED: u64 = 1;
+
+// Fewer calls than this show nothing. The tool wants more than there are: so it is told how many
+// were made.
+const LEAST_CALLS: u64 = 100;
 
 /// A number below this one, or 0.
 fn below(numbers: &mut Pcg32, end: u32) -> u32 {
@@ -122,6 +126,17 @@ fn plan(alloc: Global, numbers: &mut Pcg32) -> Result<Plan, AllocError> {
     })
 }
 
+/// How many calls the scripts of a plan have.
+fn calls_in(plan: &Plan) -> u64 {
+    let mut calls: u64 = 0;
+    for guest in &plan.guests {
+        for script in &guest.scripts {
+            calls = calls.saturating_add(script.len() as u64);
+        }
+    }
+    calls
+}
+
 /// Runs a plan on one table of frames, whose devices are of this pace.
 fn run<R: Threads + Wait + Sync>(
     rt: &R,
@@ -142,6 +157,7 @@ fn run<R: Threads + Wait + Sync>(
 fn random_plans_replay(rt: HostRuntime) -> Result<(), Fail> {
     let alloc = rt.alloc();
     let mut numbers = Pcg32::new(SEED, 0);
+    let mut calls: u64 = 0;
     for turn in 0..PLANS {
         let plan = plan(alloc, &mut numbers)?;
         let pace = if below(&mut numbers, 2) == 0 {
@@ -154,6 +170,8 @@ fn random_plans_replay(rt: HostRuntime) -> Result<(), Fail> {
             ended.result.is_ok() && ended.is_clean(),
             "plan {turn} is run"
         );
+        calls = calls.saturating_add(calls_in(&plan));
     }
+    assert!(rt; calls >= LEAST_CALLS, "{calls} calls were made");
     Ok(())
 }

@@ -134,9 +134,9 @@ frames used 28 free 7
     Example {
         name: "examples/paced-balance.script",
         script: "\
-# Two guests share a host that has too few frames for all their pages. A balance says how many each is
-# to give, and their devices visit those pages one by one. Then the need moves from one guest to the
-# other, and a second balance moves the balloons after it.
+# Two guests share a host that has too few frames for all their pages. A balance says how many each
+# is to give, and their devices visit those pages one by one. Then the need moves from one guest to
+# the other, and a second balance moves the balloons after it.
 
 # A host with 96 frames, and two paced devices.
 host 96
@@ -177,8 +177,8 @@ take 1 2
 memory 0
 memory 1
 
-# Each guest shall keep 24 of its free pages. So guest 0 can spare 24 and guest 1 eight, which is just
-# what is missing.
+# Each guest shall keep 24 of its free pages. So guest 0 can spare 24 and guest 1 eight, which is
+# just what is missing.
 balance 24
 
 # Both drivers offer what is asked for, and the devices take the requests. A visit gives back the
@@ -245,7 +245,7 @@ take 1 2
 memory 0
 memory 1
 
-# Each shall keep 20 now. Guest 0 can spare no more than the 24 pages of its balloon, guest 1 has eight
+# Each shall keep 20 now. Guest 0 can spare no more than the 24 pages of its balloon, guest 1 has 8
 # there and can spare 20 more. It is the first to give, and guest 0 gives the four that still miss.
 balance 20
 

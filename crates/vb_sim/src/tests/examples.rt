@@ -285,8 +285,8 @@ free 47 used 0 giving 0 lent 1 taking 0 stranded 0 reporting 0
     Example {
         name: "examples/reporting.script",
         script: "\
-# A guest reports its free pages to its host, which takes their frames back, and tells it how much of
-# its memory is free.
+# A guest reports its free pages to its host, which takes their frames back, and tells it how much
+# of its memory is free.
 
 # A host with 64 frames, and one device for a guest.
 host 64
@@ -304,8 +304,8 @@ write 0 17 0 beef
 free 0 0 16 4
 frames
 
-# The driver reports its free blocks of 16 pages or more. Until the report is back, no processor gets
-# a page of them.
+# The driver reports its free blocks of 16 pages or more. Until the report is back, no processor
+# gets a page of them.
 report 0 0
 pages 0 reporting
 alloc 0 0 0
@@ -371,8 +371,8 @@ memory 131072 262144
     Example {
         name: "examples/rogue.script",
         script: "\
-# Guest 0 writes past its driver into the rings that it shares with its device. Each fault has a name, the
-# device gives up until it is reset, and guest 1 beside it never notices.
+# Guest 0 writes past its driver into the rings that it shares with its device. Each fault has a
+# name, the device gives up until it is reset, and guest 1 beside it never notices.
 host 40
 spare immediate
 spare immediate
