@@ -104,10 +104,10 @@ count-moved test pages place first (x ∷ xs) out ok =
       arith,
       here (is_in first pages) refl,
       count_by-cons test (cond (is_in first pages) place x)
-      (each_from (suc first) (λ p old. cond (is_in p pages) place old) xs),
+          (each_from (suc first) (λ p old. cond (is_in p pages) place old) xs),
       count_by-cons test x xs,
       count-moved test pages place (suc first) xs out (λ i l k.
-      ok (suc i) (omega arith) (same i k)),
+          ok (suc i) (omega arith) (same i k)),
     )
   where
     same : (i : ℕ) → is_in (suc first + i) pages ≡ true → is_in (first + suc i) pages ≡ true
@@ -142,7 +142,7 @@ moved_out test pages place places out distinct below ok =
     omega (
       arith,
       count-moved test pages place 0 places out (λ i l k.
-      ok i (let e : i ≡ 0 + i = omega arith in ap (λ (p : ℕ). is_in p pages) e ∙ k)),
+          ok i (let e : i ≡ 0 + i = omega arith in ap (λ (p : ℕ). is_in p pages) e ∙ k)),
       inside-all (length places) pages distinct below,
     )
 

@@ -332,7 +332,7 @@ kept_finish Reporting_free i r g h e =
       agreed = h.agreed;
     }
 
-kept_reap : (kind : Kind) (g : Guest) (r : Request) (rest : List Request) → IsConsistent g
+pub kept_reap : (kind : Kind) (g : Guest) (r : Request) (rest : List Request) → IsConsistent g
     → IsOrderly g → (requests kind g).done ≡ r ∷ rest → IsOrderly (reaped kind r rest g)
 kept_reap Inflating g r rest c h e =
     with_inflate g (after_reap rest g.inflate) (placed r.pages Lent g.places) h
