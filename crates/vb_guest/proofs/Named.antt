@@ -64,8 +64,8 @@ named_sent sent (r ∷ rest) once none kept =
           ∙ get_or-set_same sent r.head [] [] first.few
       | inr other ↦ get_or-set_other sent r.head h [] [] other
           ∙ none h (let no : one_if (r.head == h) ≡ 0 =
-              ap one_if (ne_eqb r.head h (λ e. other (sym e))) in
-              omega (arith, no, out, headed-cons h r rest))
+          ap one_if (ne_eqb r.head h (λ e. other (sym e))) in
+          omega (arith, no, out, headed-cons h r rest))
     ])
     (λ k d lt. still_kept k d lt (kept (suc k) d (omega (arith, lt)))) in
     omega (

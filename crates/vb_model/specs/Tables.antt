@@ -123,8 +123,8 @@ request_tests outstanding most count =
     ∷ ((count == 0) ⇒ Nothing)
     ∷ []
 
--- inflate, where no page may be offered while an older request may still take it out of the balloon
--- (so many deflates are pending): with MUST_TELL_HOST none can be among the pages to offer
+-- inflate: where the guest doesn't tell the host first, pages to offer may be among those that a
+-- pending deflate names, which would take them out of the balloon later
 abbrev pub inflate_tests : ℕ → ℕ → ℕ → ℕ → ℕ → ℕ → List Test
 inflate_tests status features pending outstanding most count =
     (not (is_up status) ⇒ NotReady)
