@@ -501,8 +501,8 @@ pages 0 taking
 alloc 0 0 0
 write 0 16 0 aa
 
-# Nothing is lent before that request is reaped. The device could finish a new inflate first, and the
-# old request would then take its pages out of the balloon.
+# Nothing is lent before that request is reaped. The device could finish a new inflate first, and
+# the old request would then take its pages out of the balloon.
 inflate 0 1
 take 0 1
 finish 0 1 0
