@@ -66,7 +66,9 @@ impl Script {
     }
 
     /// How many calls it has.
-    pub fn len(&self) -> usize {
+    pub fn len(&self) -> usize
+        ensures { result ≡ length self.now.calls }
+    {
         self.calls.len()
     }
 
