@@ -32,4 +32,4 @@ ask_refusal part =
 
 abbrev pub sweep_refusal : ℕ → Part → Option Refusal
 sweep_refusal page part =
-    first_refusal (sweep_tests part.status (is_ballooned part.ballooned page))
+    first_refusal (sweep_tests part.status part.features (is_ballooned part.ballooned page))

@@ -499,8 +499,8 @@ impl DeviceBase {
         Some(Worked { page, freed })
     }
 
-    /// Takes the frame of a page away, if it has one, where these flags have the page; says whether
-    /// it had.
+    /// Takes the frame of a page away, if it has one, where the driver has agreed to tell the host
+    /// and these flags have the page; says whether it had.
     pub(crate) fn sweep(&mut self, page: u32, ballooned: &PageFlags) -> Result<bool, Refusal>
         requires flags { length ballooned.now ≡ length self.old.mem }
         requires none { self.old.part.loose ≡ [] }
@@ -511,6 +511,9 @@ impl DeviceBase {
     {
         if let Some(why) = self.readiness_refusal() {
             return Err(why);
+        }
+        if !self.features.must_tell_host() {
+            return Err(Refusal::NoFeature);
         }
         if !ballooned.get(page) {
             return Err(Refusal::NotBallooned);

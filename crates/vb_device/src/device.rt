@@ -115,9 +115,11 @@ pub trait Device: Port + Drop {
         ensures { FinishesBy queue index (Self.mem self.old) (Self.mem self.new)
             (Self.part self.old) (Self.part self.new) result };
 
-    /// Takes the frame of a ballooned page away; answers whether it had one. Refused with
-    /// `NotReady`, `NeedsReset` and `NotBallooned`, tested in this order; a refusal changes
-    /// nothing.
+    /// Takes the frame of a ballooned page away; answers whether it had one.
+    ///
+    /// Refused with `NotReady`, `NeedsReset`, `NoFeature` where MUST_TELL_HOST wasn't negotiated (a
+    /// driver may use a page again then before the device knows), and `NotBallooned`, tested in
+    /// this order; a refusal changes nothing.
     fn sweep(&mut self, page: u32) -> Result<bool, Refusal>
         requires { (Self.part self.old).loose ≡ [] }
         ensures { SweepsBy page (Self.mem self.old) (Self.mem self.new)

@@ -9,6 +9,7 @@ mod random_rings;
 mod requests;
 mod second_reading;
 mod statistics_and_reports;
+mod untold;
 
 use crate::{BalloonDevice, Claimed, Device, Pace, Statistics, Worked};
 use bitflags::Flags;

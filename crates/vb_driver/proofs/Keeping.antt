@@ -12,7 +12,7 @@ use Rattle.vb_model.specs.declared.places.Place.TheVariants.{Reserved, Used}
 use Rattle.vb_model.proofs.Tables.{each_page-get, length-each_from}
 use Rattle.vb_pages.specs.FreePages.{FreePages}
 use Rattle.vb_driver.specs.Places.{is_at}
-use Rattle.vb_driver.specs.State.{Side, ReportSide, DriverState, IsQueue, IsReportQueue, naming}
+use Rattle.vb_driver.specs.State.{Side, ReportSide, DriverState, IsQueue, IsReportQueue, naming, tells_host}
 use Rattle.vb_driver.specs.State.{IsDriver}
 use Rattle.vb_driver.specs.Areas.{flags_of, is_covered}
 use Rattle.vb_driver.specs.Places.{marked}
@@ -82,7 +82,7 @@ pub record Changes (d : DriverState) (areas2 : FreePages) (pages : List ℕ) (to
   pub deflate : IsQueue e2 1 d.queue_size
   pub giving : (p : ℕ) → naming p i2.sent ≤ one_if
       (is_giving (cond (is_in p pages) to (place_of d.places p)))
-  pub taking : (p : ℕ) → naming p e2.sent ≤ one_if
+  pub taking : tells_host d ≡ true → (p : ℕ) → naming p e2.sent ≤ one_if
       (is_taking (cond (is_in p pages) to (place_of d.places p)))
   pub report : IsReportQueue r2 d.queue_size
   pub reporting : (p : ℕ) → times p (pages_of_all r2.blocks) ≤ one_if
@@ -117,7 +117,7 @@ kept_changed d areas2 pages to held2 i2 e2 r2 m =
       statistics = m.kept.statistics;
       report = m.report;
       giving = λ p. omega (arith, m.giving p, ap (λ (v : Place). one_if (is_giving v)) (place p));
-      taking = λ p. omega (arith, m.taking p, ap (λ (v : Place). one_if (is_taking v)) (place p));
+      taking = λ told p. omega (arith, m.taking told p, ap (λ (v : Place). one_if (is_taking v)) (place p));
       reporting = λ p. omega
           (arith, m.reporting p, ap (λ (v : Place). one_if (is_reporting v)) (place p));
       free = m.free;
@@ -143,7 +143,7 @@ pub record Moves (d : DriverState) (areas2 : FreePages) (pages : List ℕ) (to :
   pub deflate : IsQueue e2 1 d.queue_size
   pub giving : (p : ℕ) → naming p i2.sent ≤ one_if
       (is_giving (cond (is_in p pages) to (place_of d.places p)))
-  pub taking : (p : ℕ) → naming p e2.sent ≤ one_if
+  pub taking : tells_host d ≡ true → (p : ℕ) → naming p e2.sent ≤ one_if
       (is_taking (cond (is_in p pages) to (place_of d.places p)))
   pub report : IsReportQueue r2 d.queue_size
   pub reporting : (p : ℕ) → times p (pages_of_all r2.blocks) ≤ one_if

@@ -2,17 +2,17 @@
 use Rattle.std.proofs.Common.{◌≡◌, ◌∙◌, sym, ap, subst, arith, refl, ℕ, zero, suc, replicate, ◌+◌}
 use Rattle.std.proofs.Common.{◌-◌, ◌<◌, ◌≤◌, Bool, true, false, cond, eqb, ◌||◌, ◌&&◌, List, []}
 use Rattle.std.proofs.Common.{◌∷◌, ◌++◌, length, take, set, get_or, map, count_by, inl, inr}
-use Rattle.std.proofs.Common.{is_none}
+use Rattle.std.proofs.Common.{is_none, slice_index_or}
 use Rattle.std.proofs.lemmas.Bool.{cases_lt, lt-ltb, eq-eqb, ne_eqb, false_from_ne_true}
 use Rattle.std.proofs.lemmas.Bool.{both_ways}
 use Rattle.std.proofs.lemmas.List.{length-replicate, length-take, length-map, get_or-map}
-use Rattle.std.proofs.lemmas.List.{get_or_past, same_lists}
+use Rattle.std.proofs.lemmas.List.{get_or_past, get_or-replicate, same_lists}
 use Rattle.std.specs.List.{list_all}
 use Rattle.std.proofs.lemmas.List.Sums.{sum_by-cons}
 use Rattle.std.proofs.lemmas.List.Folds.{list_any-append}
 use Rattle.vb_model.specs.Tests.{is_in, one_if, pages_from, pages_where}
 use Rattle.vb_model.specs.Pages.{place_of, placed, is_free, is_used, is_giving, is_lent, is_taking}
-use Rattle.vb_model.specs.Pages.{is_stranded, is_reporting, is_lent_or_taking, all_free}
+use Rattle.vb_model.specs.Pages.{is_stranded, is_reporting, all_free}
 use Rattle.vb_model.specs.Pages.{pages_of_all}
 use Rattle.vb_model.specs.declared.places.Place.{Place}
 use Rattle.vb_model.specs.declared.places.Place.TheVariants.{Reserved, Free, Used, Giving, Lent}
@@ -27,7 +27,8 @@ use Rattle.vb_pages.specs.FreePages.{FreePages}
 use Rattle.vb_driver.specs.Places.{is_at}
 use Rattle.vb_driver.specs.State.{Side, DriverState, IsQueue, naming, sent_by, fresh_side}
 use Rattle.vb_driver.specs.State.{fresh_driver, IsDriver, IsStatisticsQueue, fresh_statistics}
-use Rattle.vb_driver.specs.State.{fresh_report}
+use Rattle.vb_driver.specs.State.{fresh_report, tells_host}
+use Rattle.vb_model.proofs.Counts.{length-pages_where}
 use Rattle.vb_driver.specs.Areas.{flags_of, is_free_at, is_covered}
 use Rattle.vb_driver.specs.Places.{marked, first_place}
 use Rattle.vb_driver.specs.Calls.{Posts, lowest_lent, stranded_first, after_reap}
@@ -47,30 +48,6 @@ use Rattle.vb_ring.specs.Ends.{DriverEnd}
 use Rattle.vb_driver.proofs.RequestTables.{requests_taken, requests_fresh}
 
 -- ---- tests of places
-
-pub in_balloon_is : (x : Place)
-    → (cond (is_at Lent x) 1 0 + cond (is_at Taking x) 1 0) ≡ cond (is_lent_or_taking x) 1 0
-in_balloon_is Reserved = refl
-in_balloon_is Free = refl
-in_balloon_is Used = refl
-in_balloon_is Giving = refl
-in_balloon_is Lent = refl
-in_balloon_is Taking = refl
-in_balloon_is Stranded = refl
-in_balloon_is Reporting = refl
-
-pub count_in_balloon : (xs : List Place)
-    → count_by (is_at Lent) xs + count_by (is_at Taking) xs ≡ count_by is_lent_or_taking xs
-count_in_balloon [] = refl
-count_in_balloon (x ∷ xs) =
-    omega (
-      arith,
-      in_balloon_is x,
-      count_in_balloon xs,
-      sum_by-cons (λ y. cond (is_at Lent y) 1 0) x xs,
-      sum_by-cons (λ y. cond (is_at Taking y) 1 0) x xs,
-      sum_by-cons (λ y. cond (is_lent_or_taking y) 1 0) x xs,
-    )
 
 pub lowest_is : (places : List Place) (n : ℕ) (test : Place → Bool) (p : ℕ)
     → is_in p (take n (pages_where test places)) ≡ true → test (place_of places p) ≡ true
@@ -117,10 +94,10 @@ asked_kept m1 m2 d e2 base count head kept posts =
       deflate = posted_queue m1 m2 d.deflate e2 base 1 d.queue_size head pages kept.deflate posts;
       giving = λ p. naming_same p (naming p d.inflate.sent) pages is_giving Taking (place_of d.places p)
           (kept.giving p) (λ here. ap is_giving (lent p here));
-      taking = λ p. subst (λ (l : List (List ℕ)). naming p l ≤ one_if
+      taking = λ told p. subst (λ (l : List (List ℕ)). naming p l ≤ one_if
           (is_taking (cond (is_in p pages) Taking (place_of d.places p)))) (sym sent)
           (naming_more p head pages d.deflate.sent is_taking Taking (place_of d.places p) small
-          (kept.taking p) (λ here. ap is_taking (lent p here))
+          (kept.taking told p) (λ here. ap is_taking (lent p here))
           (once_lowest p count is_lent d.places) refl);
       report = kept.report;
       reporting = λ p. naming_same p (times p (pages_of_all d.report.blocks)) pages is_reporting Taking
@@ -137,6 +114,66 @@ asked_kept m1 m2 d e2 base count head kept posts =
     same_free p place is true e lent =
         ap is_free (is ∙ lent p e) ∙ sym (ap (λ v. is_free (cond v Taking place)) e)
     same_free p place is false e lent = sym (ap (λ v. is_free (cond v Taking place)) e)
+
+-- where the host isn't told first they are free at once
+pub asked_freed : (m1 m2 : Pages) (d : DriverState) (areas2 : FreePages) (e2 : Side)
+    (base count head : ℕ) → IsDriver d → tells_host d ≡ false
+    → flags_of areas2 ≡ marked (lowest_lent d count) true (flags_of d.areas)
+    → length areas2.lists ≡ length d.areas.lists
+    → Posts m1 m2 d.deflate e2 base (lowest_lent d count) head
+    → IsDriver (record d {
+      places = placed (lowest_lent d count) Free d.places;
+      areas = areas2;
+      deflate = e2;
+    })
+asked_freed m1 m2 d areas2 e2 base count head kept untold given processors posts =
+    let pages = lowest_lent d count in
+    let lent : (p : ℕ) → is_in p pages ≡ true
+    → place_of d.places p ≡ Lent =
+    λ p here. at_is Lent (place_of d.places p) (lowest_is d.places count is_lent p here) in
+    kept_moved d areas2 pages Free d.inflate e2 d.report (record {
+      kept = kept;
+      there = λ p here. there_by d.places p is_lent refl (lowest_is d.places count is_lent p here);
+      unreserved = λ p here. ap (is_at Reserved) (lent p here);
+      unused = λ p here. ap is_used (lent p here);
+      inflate = kept.inflate;
+      deflate = posted_queue m1 m2 d.deflate e2 base 1 d.queue_size head pages kept.deflate posts;
+      giving = λ p. naming_same p (naming p d.inflate.sent) pages is_giving Free (place_of d.places p)
+          (kept.giving p) (λ here. ap is_giving (lent p here));
+      taking = λ told p. absurd (let wrong : true ≡ false = sym told ∙ untold in cc);
+      report = kept.report;
+      reporting = λ p. naming_same p (times p (pages_of_all d.report.blocks)) pages is_reporting Free
+          (place_of d.places p) (kept.reporting p) (λ here. ap is_reporting (lent p here));
+      free = given ∙ (ap (marked pages true) kept.free
+          ∙ free_marked d.places pages pages Free true (λ p place is. agree place (is_in p pages)));
+      processors = processors;
+    })
+  where
+    agree : (place : Place) (b : Bool) → cond b true (is_free place) ≡ is_free (cond b Free place)
+    agree place true = refl
+    agree place false = refl
+
+-- a deflate whose pages stay where they are is reaped
+pub forgotten_kept : (d : DriverState) (head : ℕ) → head < 16 → IsDriver d → tells_host d ≡ false
+    → IsDriver (record d { deflate = after_reap d.deflate head })
+forgotten_kept d head lt kept untold =
+    record {
+      table = kept.table;
+      least = kept.least;
+      most = kept.most;
+      size = kept.size;
+      inflate = kept.inflate;
+      deflate = reaped_queue d.deflate 1 d.queue_size head kept.deflate;
+      statistics = kept.statistics;
+      report = kept.report;
+      giving = kept.giving;
+      taking = λ told p. absurd (let wrong : true ≡ false = sym told ∙ untold in cc);
+      reporting = kept.reporting;
+      free = kept.free;
+      processors = kept.processors;
+      used = kept.used;
+      reserved = kept.reserved;
+    }
 
 -- ---- stranded and free pages are offered
 
@@ -209,8 +246,8 @@ offered_kept m1 m2 d areas2 i2 base count head others kept free once taken proce
           (naming_more p head pages d.inflate.sent is_giving Giving (place_of d.places p) small
           (kept.giving p) (λ here. idle_test (place_of d.places p) is_giving false refl refl
           (idle p here)) (once_all p) refl);
-      taking = λ p. naming_same p (naming p d.deflate.sent) pages is_taking Giving (place_of d.places p)
-          (kept.taking p) (λ here. idle_test (place_of d.places p) is_taking false refl refl
+      taking = λ told p. naming_same p (naming p d.deflate.sent) pages is_taking Giving (place_of d.places p)
+          (kept.taking told p) (λ here. idle_test (place_of d.places p) is_taking false refl refl
           (idle p here));
       report = kept.report;
       reporting = λ p. naming_same p (times p (pages_of_all d.report.blocks)) pages is_reporting Giving
@@ -270,8 +307,8 @@ lent_kept d head lt kept =
       deflate = kept.deflate;
       giving = λ p. naming_less p head d.inflate.sent is_giving Lent (place_of d.places p) small
           (kept.giving p);
-      taking = λ p. naming_same p (naming p d.deflate.sent) pages is_taking Lent (place_of d.places p)
-          (kept.taking p) (λ here. ap is_taking
+      taking = λ told p. naming_same p (naming p d.deflate.sent) pages is_taking Lent (place_of d.places p)
+          (kept.taking told p) (λ here. ap is_taking
           (at_is Giving (place_of d.places p) (giving p here)));
       report = kept.report;
       reporting = λ p. naming_same p (times p (pages_of_all d.report.blocks)) pages is_reporting Lent
@@ -293,6 +330,7 @@ lent_kept d head lt kept =
     same_free p place is false e giving = sym (ap (λ v. is_free (cond v Lent place)) e)
 
 pub freed_kept : (d : DriverState) (areas2 : FreePages) (head : ℕ) → head < 16 → IsDriver d
+    → tells_host d ≡ true
     → flags_of areas2 ≡ marked (sent_by d.deflate head) true (flags_of d.areas)
     → length areas2.lists ≡ length d.areas.lists
     → IsDriver (record d {
@@ -300,13 +338,13 @@ pub freed_kept : (d : DriverState) (areas2 : FreePages) (head : ℕ) → head < 
       deflate = after_reap d.deflate head;
       areas = areas2;
     })
-freed_kept d areas2 head lt kept given processors =
+freed_kept d areas2 head lt kept tells given processors =
     let pages = sent_by d.deflate head in
     let small : head < length d.deflate.sent = omega (arith, kept.deflate.requests.buffers) in
     let taking : (p : ℕ) → is_in p pages ≡ true
     → is_taking (place_of d.places p) ≡ true =
     λ p here. named_place p head d.deflate.sent is_taking (place_of d.places p) small
-    (kept.taking p) here in
+    (kept.taking tells p) here in
     kept_moved d areas2 pages Free d.inflate (after_reap d.deflate head) d.report (record {
       kept = kept;
       there = λ p here. there_by d.places p is_taking refl (taking p here);
@@ -318,8 +356,8 @@ freed_kept d areas2 head lt kept given processors =
       giving = λ p. naming_same p (naming p d.inflate.sent) pages is_giving Free (place_of d.places p)
           (kept.giving p) (λ here. ap is_giving
           (at_is Taking (place_of d.places p) (taking p here)));
-      taking = λ p. naming_less p head d.deflate.sent is_taking Free (place_of d.places p) small
-          (kept.taking p);
+      taking = λ told p. naming_less p head d.deflate.sent is_taking Free (place_of d.places p) small
+          (kept.taking told p);
       report = kept.report;
       reporting = λ p. naming_same p (times p (pages_of_all d.report.blocks)) pages is_reporting Free
           (place_of d.places p) (kept.reporting p) (λ here. ap is_reporting
@@ -334,18 +372,6 @@ freed_kept d areas2 head lt kept given processors =
     agree place false = refl
 
 -- ---- counts of what is moved
-
-pub length_pages : (k : ℕ) (test : Place → Bool) (xs : List Place)
-    → length (pages_from k test xs) ≡ count_by test xs
-length_pages k test [] = refl
-length_pages k test (x ∷ xs) =
-    at (test x) (length_pages (suc k) test xs) ∙ sym (count_by-cons test x xs)
-  where
-    at : (b : Bool) → length (pages_from (suc k) test xs) ≡ count_by test xs
-        → length (cond b (k ∷ pages_from (suc k) test xs) (pages_from (suc k) test xs))
-        ≡ one_if b + count_by test xs
-    at true ih = omega arith
-    at false ih = omega arith
 
 pub count_map : (test : Place → Bool) (xs : List Place)
     → count_by (λ f. f) (map test xs) ≡ count_by test xs
@@ -363,7 +389,7 @@ others_there d count len free is len_is there =
     let all : count_by (λ f. f) free ≡ count_by is_free d.places =
     ap (count_by (λ f. f)) is ∙ count_map is_free d.places in
     let many : length (pages_where is_stranded d.places) ≡ count_by is_stranded d.places =
-    length_pages 0 is_stranded d.places in
+    length-pages_where is_stranded d.places in
     omega (arith, length-take count (pages_where is_stranded d.places))
 
 pub first_few : (d : DriverState) (count : ℕ) → length (stranded_first d count) ≤ count
@@ -410,17 +436,19 @@ lent_inside d head p lt kept here =
     (omega (arith, kept.inflate.requests.buffers)) (kept.giving p) here)
 
 pub freed_taking : (d : DriverState) (head p : ℕ) → head < 16 → IsDriver d
+    → tells_host d ≡ true
     → is_in p (sent_by d.deflate head) ≡ true → place_of d.places p ≡ Taking
-freed_taking d head p lt kept here =
+freed_taking d head p lt kept told here =
     at_is Taking (place_of d.places p)
     (named_place p head d.deflate.sent is_taking (place_of d.places p)
-    (omega (arith, kept.deflate.requests.buffers)) (kept.taking p) here)
+    (omega (arith, kept.deflate.requests.buffers)) (kept.taking told p) here)
 
 pub freed_once : (d : DriverState) (head p : ℕ) → head < 16 → IsDriver d
+    → tells_host d ≡ true
     → times p (sent_by d.deflate head) ≤ 1
-freed_once d head p lt kept =
+freed_once d head p lt kept told =
     named_once p head d.deflate.sent is_taking (place_of d.places p)
-    (omega (arith, kept.deflate.requests.buffers)) (kept.taking p)
+    (omega (arith, kept.deflate.requests.buffers)) (kept.taking told p)
 
 -- ---- a page that isn't used, free or reserved
 
@@ -533,9 +561,15 @@ naming_none p zero = refl
 naming_none p (suc n) = let ih : naming p (replicate {A = List ℕ} n []) ≡ 0 = naming_none p n in
     omega (arith, ih)
 
+none_sent : (i : ℕ) → slice_index_or (replicate {A = List ℕ} 16 []) i [] ≡ []
+none_sent i = elim (cases_lt i 16) [
+  | inl lt ↦ get_or-replicate 16 i [] [] lt
+  | inr past ↦ get_or_past (replicate {A = List ℕ} 16 []) i [] past
+]
+
 fresh_queue : (queue size : ℕ) → IsQueue (fresh_side queue size) queue size
 fresh_queue queue size = record {
-  requests = requests_fresh (ring_page queue) size (replicate {A = List ℕ} 16 []) refl;
+  requests = requests_fresh (ring_page queue) size (replicate {A = List ℕ} 16 []) refl none_sent;
   layout = refl;
   size = refl;
 }
@@ -561,6 +595,7 @@ pub reset_kept : (d : DriverState) (areas2 : FreePages) (features : ℕ) → IsD
       report = fresh_report d.queue_size;
       features =
           features;
+      actual = 0;
     })
 reset_kept d areas2 features kept given processors =
     record {
@@ -573,7 +608,7 @@ reset_kept d areas2 features kept given processors =
       statistics = fresh_statistics_queue d.queue_size;
       report = fresh_report_queue d.queue_size;
       giving = λ p. omega (arith, naming_none p 16);
-      taking = λ p. omega (arith, naming_none p 16);
+      taking = λ told p. omega (arith, naming_none p 16);
       reporting = λ p. omega arith;
       free = given ∙ (ap (marked (pages_where is_reporting d.places) true) kept.free
           ∙ free_all_after d.places);
@@ -603,7 +638,7 @@ renewed_kept d statistics2 kept statistics =
       statistics = statistics;
       report = fresh_report_queue d.queue_size;
       giving = λ p. omega (arith, naming_none p 16);
-      taking = λ p. omega (arith, naming_none p 16);
+      taking = λ told p. omega (arith, naming_none p 16);
       reporting = λ p. omega arith;
       free = kept.free;
       used = kept.used;
@@ -632,7 +667,7 @@ fresh_kept pages size processors f least most sized =
       inflate = fresh_queue 0 size;
       deflate = fresh_queue 1 size;
       giving = λ p. omega (arith, naming_none p 16);
-      taking = λ p. omega (arith, naming_none p 16);
+      taking = λ told p. omega (arith, naming_none p 16);
       statistics = fresh_statistics_queue size;
       report = fresh_report_queue size;
       reporting = λ p. omega arith;

@@ -167,8 +167,8 @@ allocated_kept d areas2 b kept whole taken processors =
       deflate = kept.deflate;
       giving = λ p. naming_same p (naming p d.inflate.sent) pages is_giving Used (place_of d.places p)
           (kept.giving p) (λ here. ap is_giving (free p here));
-      taking = λ p. naming_same p (naming p d.deflate.sent) pages is_taking Used (place_of d.places p)
-          (kept.taking p) (λ here. ap is_taking (free p here));
+      taking = λ told p. naming_same p (naming p d.deflate.sent) pages is_taking Used (place_of d.places p)
+          (kept.taking told p) (λ here. ap is_taking (free p here));
       report = kept.report;
       reporting = λ p. naming_same p (times p (pages_of_all d.report.blocks)) pages is_reporting Used
           (place_of d.places p) (kept.reporting p) (λ here. ap is_reporting (free p here));
@@ -268,8 +268,8 @@ block_freed_kept d new b kept held given rest processors apart =
       deflate = kept.deflate;
       giving = λ p. naming_same p (naming p d.inflate.sent) pages is_giving Free (place_of d.places p)
           (kept.giving p) (λ here. ap is_giving (used p here));
-      taking = λ p. naming_same p (naming p d.deflate.sent) pages is_taking Free (place_of d.places p)
-          (kept.taking p) (λ here. ap is_taking (used p here));
+      taking = λ told p. naming_same p (naming p d.deflate.sent) pages is_taking Free (place_of d.places p)
+          (kept.taking told p) (λ here. ap is_taking (used p here));
       report = kept.report;
       reporting = λ p. naming_same p (times p (pages_of_all d.report.blocks)) pages is_reporting Free
           (place_of d.places p) (kept.reporting p) (λ here. ap is_reporting (used p here));

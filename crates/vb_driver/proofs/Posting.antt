@@ -124,8 +124,8 @@ posts_at m1 m2 m3 r r2 sent base h a l pages s adds =
       };
       outside = outside_both m1 m2 m3 (buffer_page base h) (buffer_offset h)
           (buffer_offset h + 4 * length pages) (written_of r) s.wrote adds.publishes.rest;
-      requests = requests_added_at r r2 sent h h pages s.requests s.is_end s.next small adds.state
-          refl;
+      requests = requests_added_at r r2 sent h h pages s.requests s.is_end s.next small s.few
+          adds.state refl;
     }
 
 -- the head that was added is the one that was told

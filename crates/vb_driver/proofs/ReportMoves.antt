@@ -51,8 +51,8 @@ reported_kept d areas2 r2 kept chosen distinct taken processors queue =
       deflate = kept.deflate;
       giving = λ p. naming_same p (naming p d.inflate.sent) pages is_giving Reporting
           (place_of d.places p) (kept.giving p) (λ here. ap is_giving (free p here));
-      taking = λ p. naming_same p (naming p d.deflate.sent) pages is_taking Reporting
-          (place_of d.places p) (kept.taking p) (λ here. ap is_taking (free p here));
+      taking = λ told p. naming_same p (naming p d.deflate.sent) pages is_taking Reporting
+          (place_of d.places p) (kept.taking told p) (λ here. ap is_taking (free p here));
       report = queue;
       reporting = λ p. named p (is_in p pages) refl;
       free = taken ∙ (ap (marked pages false) kept.free
@@ -115,8 +115,8 @@ returned_kept d areas2 r2 kept given processors queue none =
       deflate = kept.deflate;
       giving = λ p. naming_same p (naming p d.inflate.sent) pages is_giving Free
           (place_of d.places p) (kept.giving p) (λ here. ap is_giving (was p here));
-      taking = λ p. naming_same p (naming p d.deflate.sent) pages is_taking Free
-          (place_of d.places p) (kept.taking p) (λ here. ap is_taking (was p here));
+      taking = λ told p. naming_same p (naming p d.deflate.sent) pages is_taking Free
+          (place_of d.places p) (kept.taking told p) (λ here. ap is_taking (was p here));
       report = queue;
       reporting = λ p. omega
           (arith, ap (λ (bs : List Block). times p (pages_of_all bs)) none);

@@ -4,9 +4,10 @@ use Rattle.std.proofs.Common.{◌≤◌, Bool, true, false, cond, eqb, List, [],
 use Rattle.std.proofs.Common.{slice_get, slice_index, slice_index_or, inl, inr, ◌⊎◌, eq-eqb, Option}
 use Rattle.std.proofs.Common.{Some, None, Result, Ok, Err, is_none, nat_lt, set, min}
 use Rattle.std.proofs.Common.{◌%◌}
-use Rattle.std.proofs.lemmas.Bool.{cases_eq, cases_lt, cases_Bool, ne_eqb}
+use Rattle.std.proofs.lemmas.Bool.{cases_eq, cases_lt, cases_Bool, ne_eqb, eqb-true}
 use Rattle.std.proofs.lemmas.Bool.Decides.{nat_tests}
-use Rattle.std.proofs.lemmas.List.{length-set}
+use Rattle.std.proofs.lemmas.List.{length-set, get_or-set_other, get_or_past}
+use Rattle.std.proofs.lemmas.Grind.{get_or-set_at}
 use Rattle.vb_ring.specs.Layout.{layout_of}
 use Rattle.vb_ring.specs.Entries.{is_own, is_head}
 use Rattle.vb_ring.proofs.Numbers.{numbers_pass, numbers_rise, numbers_has, length_all}
@@ -135,10 +136,43 @@ claimed_other h i owner lt ne =
     ∙ ap (λ b. cond b (Some h) (slice_index_or owner i None))
     (or_false (eqb h i) ∙ ne_eqb h i (λ e. ne (sym e)))
 
+-- what one request names, after it is set
+set_at : (sent : List (List ℕ)) (h i : ℕ) (pages : List ℕ) → i ≢ h
+    → slice_index_or (set sent h pages) i [] ≡ slice_index_or sent i []
+set_at sent h i pages ne = get_or-set_other sent h i pages [] ne
+
+set_short : (sent : List (List ℕ)) (h i : ℕ) (pages : List ℕ) → length pages ≤ 256
+    → ((k : ℕ) → length (slice_index_or sent k []) ≤ 256)
+    → length (slice_index_or (set sent h pages) i []) ≤ 256
+set_short sent h i pages few short = elim (cases_eq i h) [
+  | inl same ↦ elim (cases_lt i (length sent)) [
+    | inl lt ↦ subst (λ (l : List ℕ). length l ≤ 256)
+        (sym (get_or-set_at sent h i pages [] same (omega (arith, same, lt)))) few
+    | inr past ↦ subst (λ (l : List ℕ). length l ≤ 256)
+        (sym (get_or_past (set sent h pages) i [] (omega (arith, past, length-set sent h pages))))
+        (omega arith)
+  ]
+  | inr ne ↦ subst (λ (l : List ℕ). length l ≤ 256) (sym (set_at sent h i pages ne)) (short i)
+]
+
+-- nothing is named where nothing was set
+set_none : (sent : List (List ℕ)) (h i : ℕ) → i ≡ h → slice_index_or (set sent h []) i [] ≡ []
+set_none sent h i same = elim (cases_lt i (length sent)) [
+  | inl lt ↦ get_or-set_at sent h i [] [] same (omega (arith, same, lt))
+  | inr past ↦ get_or_past (set sent h []) i [] (omega (arith, past, length-set sent h []))
+]
+
+own_other : (h i : ℕ) (o : Option ℕ) → i ≢ h → is_own h o ≡ true → is_own i o ≡ false
+own_other h i None ne own = cc
+own_other h i (Some k) ne own =
+    let same : k ≡ h = eqb-true k h own in
+    ne_eqb k i (λ e. ne (sym e ∙ same))
+
 pub requests_added : (r : DriverEnd) (sent : List (List ℕ)) (h : ℕ) (pages : List ℕ)
     → AreRequests (record { ring = r; sent = sent }) → IsDriverEnd r → next_head r ≡ Some h → h < 16
+    → length pages ≤ 256
     → AreRequests (record { ring = after_add r 1 (Ok h); sent = set sent h pages })
-requests_added r sent h pages all end e small =
+requests_added r sent h pages all end e small few_pages =
     let low = head_low r h all.single e in
     let path : next_path r 1 ≡ h ∷ [] = next_path_is r h e in
     let owner = claimed (h ∷ []) h r.owner in
@@ -159,6 +193,15 @@ requests_added r sent h pages all end e small =
         | inr ne ↦ all.few i (sym (ap (is_own i) (claimed_other h i r.owner inside ne)) ∙ head)
       ];
       buffers = length-set sent h pages ∙ all.buffers;
+      unsent = λ i head. elim (cases_eq i h) [
+        | inl same ↦ absurd (let is : is_own i (slice_index_or owner i None) ≡ true =
+            ap (λ n. is_own n (slice_index_or owner n None)) same
+            ∙ (ap (is_own h) (claimed_same h r.owner inside) ∙ eq-eqb h h refl) in
+            let wrong : true ≡ false = sym is ∙ head in cc)
+        | inr ne ↦ set_at sent h i pages ne
+            ∙ all.unsent i (sym (ap (is_own i) (claimed_other h i r.owner inside ne)) ∙ head)
+      ];
+      short = λ i. set_short sent h i pages few_pages all.short;
     } in
     subst (λ (p : List ℕ). AreRequests
     (record {
@@ -176,6 +219,8 @@ requests_taken r sent h all =
       single = λ i used. at i (is_own h (slice_index_or r.owner i None)) refl used;
       few = λ i head. at_few i (is_own h (slice_index_or r.owner i None)) refl head;
       buffers = length-set sent h [] ∙ all.buffers;
+      unsent = λ i head. at_unsent i (is_own h (slice_index_or r.owner i None)) refl head;
+      short = λ i. set_short sent h i [] (omega arith) all.short;
     }
   where
     kept : (i : ℕ) (b : Bool) → is_own h (slice_index_or r.owner i None) ≡ b
@@ -188,6 +233,19 @@ requests_taken r sent h all =
     at i false e used = ap (is_own i) (kept i false e)
         ∙ all.single i (sym (ap is_none (kept i false e)) ∙ used)
 
+    at_unsent : (i : ℕ) (b : Bool) → is_own h (slice_index_or r.owner i None) ≡ b
+        → is_head (released h r.owner) i ≡ false → slice_index_or (set sent h []) i [] ≡ []
+    at_unsent i true e head = elim (cases_eq i h) [
+      | inl same ↦ set_none sent h i same
+      | inr ne ↦ set_at sent h i [] ne
+          ∙ all.unsent i (own_other h i (slice_index_or r.owner i None) ne e)
+    ]
+    at_unsent i false e head = elim (cases_eq i h) [
+      | inl same ↦ set_none sent h i same
+      | inr ne ↦ set_at sent h i [] ne
+          ∙ all.unsent i (sym (ap (is_own i) (kept i false e)) ∙ head)
+    ]
+
     at_few : (i : ℕ) (b : Bool) → is_own h (slice_index_or r.owner i None) ≡ b
         → is_head (released h r.owner) i ≡ true → i < 16
     at_few i true e head =
@@ -195,12 +253,15 @@ requests_taken r sent h all =
     at_few i false e head = all.few i (sym (ap (is_own i) (kept i false e)) ∙ head)
 
 pub requests_fresh : (page size : ℕ) (sent : List (List ℕ)) → length sent ≡ 16
+    → ((i : ℕ) → slice_index_or sent i [] ≡ [])
     → AreRequests (record { ring = fresh_end (layout_of page size) size; sent = sent })
-requests_fresh page size sent len =
+requests_fresh page size sent len none =
     record {
       single = λ i used. (let gone : true ≡ false = sym (ap is_none (none_owned size i)) ∙ used in cc);
       few = λ i head. (let gone : false ≡ true = sym (ap (is_own i) (none_owned size i)) ∙ head in cc);
       buffers = len;
+      unsent = λ i head. none i;
+      short = λ i. omega (arith, ap (λ (l : List ℕ). length l) (none i));
     }
 
 pub requests_taken_at : (r r2 : DriverEnd) (sent : List (List ℕ)) (h i : ℕ) (blank : List ℕ)
@@ -218,14 +279,14 @@ requests_taken_at r r2 sent h i blank all state at none =
 
 pub requests_added_at : (r r2 : DriverEnd) (sent : List (List ℕ)) (h i : ℕ) (pages : List ℕ)
     → AreRequests (record { ring = r; sent = sent }) → IsDriverEnd r → next_head r ≡ Some h → h < 16
-    → r2 ≡ after_add r 1 (Ok h) → i ≡ h
+    → length pages ≤ 256 → r2 ≡ after_add r 1 (Ok h) → i ≡ h
     → AreRequests (record { ring = r2; sent = set sent i pages })
-requests_added_at r r2 sent h i pages all end e small state at =
+requests_added_at r r2 sent h i pages all end e small few state at =
     subst (λ (v : DriverEnd). AreRequests (record { ring = v; sent = set sent i pages }))
     (sym state)
     (subst (λ (n : ℕ). AreRequests
     (record { ring = after_add r 1 (Ok h); sent = set sent n pages })) (sym at)
-    (requests_added r sent h pages all end e small))
+    (requests_added r sent h pages all end e small few))
 
 -- the facts of a queue that has room, from what is seen of it
 pub room_inside : (r : DriverEnd) (sent : List (List ℕ)) (now : Side)

@@ -21,6 +21,7 @@ after_reset d = record d {
   statistics = fresh_statistics d.queue_size;
   report = fresh_report d.queue_size;
   features = 0;
+  actual = 0;
 }
 
 -- all pages are free after a reset

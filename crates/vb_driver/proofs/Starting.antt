@@ -3,8 +3,8 @@ use Rattle.std.proofs.Common.{◌≡◌, ◌≢◌, ◌∙◌, sym, subst, ap, r
 use Rattle.std.proofs.Common.{false, not, [], ◌∷◌, None, Some, Result, Ok, Err, is_err, OnOk}
 use Rattle.vb_model.specs.declared.replies.Refusal.{Refusal}
 use Rattle.vb_model.specs.declared.replies.Refusal.TheVariants.{OutOfOrder, FeatureNotOffered}
-use Rattle.vb_model.specs.declared.replies.Refusal.TheVariants.{MustTellMissing, VersionMissing}
-use Rattle.vb_model.specs.Guest.{offered_features, must_tell_host, version_1}
+use Rattle.vb_model.specs.declared.replies.Refusal.TheVariants.{VersionMissing}
+use Rattle.vb_model.specs.Guest.{offered_features, version_1}
 use Rattle.vb_model.specs.Refusals.{◌⇒◌, first_refusal}
 use Rattle.vb_model.specs.Status.{contains, negotiate_refusal, status_refusal, status_tests}
 use Rattle.vb_model.specs.Life.{feature_refusal, accepted_before}
@@ -15,9 +15,9 @@ use Rattle.vb_ring.proofs.MeaningLaws.{fresh_shows, fresh_tracks}
 use Rattle.vb_status.specs.Answers.{answered_refusal}
 use Rattle.vb_status.specs.declared.bits.StatusFault.{StatusFault}
 use Rattle.vb_ring.specs.Ends.{DriverEnd, fresh_end}
-use Rattle.vb_driver.specs.State.{DriverState, fresh_side, fresh_statistics, fresh_report}
+use Rattle.vb_driver.specs.State.{DriverState}
 use Rattle.vb_driver.specs.Coding.{SameButPages}
-use Rattle.vb_driver.specs.Calls.{IsNewRing}
+use Rattle.vb_driver.specs.Calls.{IsNewRing, with_nothing_out}
 
 -- features that are offered are refused for what FEATURES_OK needs alone
 pub offered_then : (wanted : ℕ) → negotiate_refusal 3 wanted ≡ None
@@ -34,18 +34,15 @@ offered_then wanted h = at (contains offered_features wanted) h
 -- and were accepted then
 pub accepted_then : (wanted : ℕ) (refusal : Refusal) → Some refusal ≡ status_refusal 3 wanted 11
     → accepted_before refusal wanted ≡ wanted
-accepted_then wanted refusal e = at (must_tell_host wanted) (version_1 wanted) e
+accepted_then wanted refusal e = at (version_1 wanted) e
   where
     same : (r : Refusal) → Some refusal ≡ Some r → refusal ≡ r
     same r h = cc
 
-    at : (must version : Bool)
-        → Some refusal ≡ first_refusal
-        ((not must ⇒ MustTellMissing) ∷ (not version ⇒ VersionMissing) ∷ [])
+    at : (version : Bool) → Some refusal ≡ first_refusal ((not version ⇒ VersionMissing) ∷ [])
         → accepted_before refusal wanted ≡ wanted
-    at false version h = ap (λ (r : Refusal). accepted_before r wanted) (same MustTellMissing h)
-    at true false h = ap (λ (r : Refusal). accepted_before r wanted) (same VersionMissing h)
-    at true true h = cc
+    at false h = ap (λ (r : Refusal). accepted_before r wanted) (same VersionMissing h)
+    at true h = cc
 
 pub fits_at : (page q : ℕ) → IsSize q → Fits (layout_of page q) q
 fits_at page q size = record {
@@ -83,13 +80,8 @@ pub record OthersFresh (d : DriverState) (q : ℕ) : Type 0 where
   pub deflate : d.deflate.ring ≡ fresh_end (layout_of 1 q) q
   pub report : d.report.ring ≡ fresh_end (layout_of 3 q) q
 
-pub others_fresh : (d1 d2 d3 : DriverState)
-    → d2 ≡ record d1 {
-      inflate = fresh_side 0 d1.queue_size;
-      deflate = fresh_side 1 d1.queue_size;
-      statistics = fresh_statistics d1.queue_size;
-      report = fresh_report d1.queue_size;
-    } → d3 ≡ record d2 { statistics = d3.statistics } → OthersFresh d3 d1.queue_size
+pub others_fresh : (d1 d2 d3 : DriverState) → d2 ≡ with_nothing_out d1
+    → d3 ≡ record d2 { statistics = d3.statistics } → OthersFresh d3 d1.queue_size
 others_fresh d1 d2 d3 e f = record {
   inflate = ap (λ (d : DriverState). d.inflate.ring) f ∙ ap (λ (d : DriverState). d.inflate.ring) e;
   deflate = ap (λ (d : DriverState). d.deflate.ring) f ∙ ap (λ (d : DriverState). d.deflate.ring) e;

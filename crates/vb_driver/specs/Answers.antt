@@ -13,7 +13,9 @@ pub use Rattle.vb_model.specs.FirstRefusal.{refusal_in}
 use Rattle.vb_model.specs.FirstRefusal.{Test, ◌⇒◌}
 pub use Rattle.vb_model.specs.Tables.{is_up}
 use Rattle.vb_model.specs.Tables.{pages_to_offer, pages_to_ask, pages_when_short}
-use Rattle.vb_model.specs.Tables.{asking_tests, featured_tests, reap_tests as tests_of_reap}
+use Rattle.vb_model.specs.Tables.{inflate_tests as tests_of_inflate}
+use Rattle.vb_model.specs.Tables.{deflate_tests as tests_of_deflate}
+use Rattle.vb_model.specs.Tables.{featured_tests, reap_tests as tests_of_reap}
 use Rattle.vb_model.specs.Tables.{alloc_tests as tests_of_alloc, free_tests as tests_of_free}
 use Rattle.vb_model.specs.Tables.{request_tests as tests_of_request, stats_tests as tests_of_stats}
 use Rattle.vb_model.specs.Life.{feature_tests}
@@ -47,12 +49,12 @@ request_tests d side count = tests_of_request (outstanding side.ring) (room d) c
 
 abbrev pub inflate_tests : DriverState → Part → ℕ → List Test
 inflate_tests d part n =
-    asking_tests part.status (outstanding d.inflate.ring) (room d)
-    (inflate_count d part.target n)
+    tests_of_inflate part.status d.features (outstanding d.deflate.ring)
+    (outstanding d.inflate.ring) (room d) (inflate_count d part.target n)
 
 abbrev pub deflate_tests : DriverState → Part → ℕ → List Test
 deflate_tests d part n =
-    asking_tests part.status (outstanding d.deflate.ring) (room d)
+    tests_of_deflate part.status (outstanding d.deflate.ring) (room d)
     (deflate_count d part.target n)
 
 abbrev pub oom_tests : DriverState → Part → ℕ → List Test

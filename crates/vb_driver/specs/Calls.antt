@@ -8,7 +8,7 @@ use Rattle.std.specs.Prelude.{slice_set, bit_or}
 use Rattle.std.specs.List.{list_all}
 use Rattle.vb_model.specs.declared.places.Place.{Place}
 use Rattle.vb_model.specs.declared.places.PlaceCounts.{PlaceCounts}
-use Rattle.vb_model.specs.declared.places.Place.TheVariants.{Free, Used, Giving, Lent, Taking}
+use Rattle.vb_model.specs.declared.places.Place.TheVariants.{Free, Used, Giving}
 use Rattle.vb_model.specs.declared.places.Place.TheVariants.{Reporting}
 use Rattle.vb_model.specs.declared.layout.TheConstants.{INFLATE_QUEUE, DEFLATE_QUEUE}
 use Rattle.vb_model.specs.declared.layout.TheConstants.{STATISTICS_PAGE, STATISTIC_SIZE}
@@ -17,9 +17,10 @@ use Rattle.vb_model.specs.declared.replies.Refusal.TheVariants.{RingBroken, Alre
 use Rattle.vb_model.specs.declared.replies.Refusal.TheVariants.{Nothing}
 use Rattle.vb_model.specs.Tests.{pages_where}
 use Rattle.vb_model.specs.Pages.{Block, is_free, is_used, is_giving, is_lent, is_taking}
-use Rattle.vb_model.specs.Pages.{is_stranded, is_reporting, is_lent_or_taking, place_of, placed}
+use Rattle.vb_model.specs.Pages.{is_stranded, is_reporting, place_of, placed}
 use Rattle.vb_model.specs.Pages.{pages_of, pages_of_all, is_wholly_free}
-use Rattle.vb_model.specs.Requests.{Figures}
+use Rattle.vb_model.specs.Requests.{Figures, Inflating, Deflating, Reporting_free, place_posted}
+use Rattle.vb_model.specs.Requests.{places_reaped}
 use Rattle.vb_model.specs.Guest.{stats_vq}
 use Rattle.vb_model.specs.Driver.{AllDistinct, with_block, without_block}
 use Rattle.vb_model.specs.Life.{place_after_reset, feature_refusal, accepted_before}
@@ -43,6 +44,7 @@ use Rattle.vb_driver.specs.Coding.{IsCoded, SameButBuffer, AreFigures, AreReport
 use Rattle.vb_driver.specs.Coding.{AreZeroed, ring_pages}
 use Rattle.vb_driver.specs.State.{Side, ReportSide, DriverState, AreRequests, IsDriver, fresh_side}
 use Rattle.vb_driver.specs.State.{fresh_statistics, fresh_report, sent_by, page_state, figures_of}
+use Rattle.vb_driver.specs.State.{tells_host, given_away}
 use Rattle.vb_driver.specs.State.{index_values}
 use Rattle.vb_driver.specs.Areas.{Allots, all_given, areas_with, areas_without}
 use Rattle.vb_driver.specs.Answers.{refusal_in, inflate_count, deflate_count, oom_count, block_at}
@@ -188,6 +190,11 @@ pub record InflatesBy (m1 m2 : Pages) (p1 p2 : Part) (d1 d2 : DriverState) (n : 
 abbrev pub lowest_lent : DriverState → ℕ → List ℕ
 lowest_lent d count = take count (pages_where is_lent d.places)
 
+-- The page areas, once these pages are asked back: where the host isn't told first they have them
+-- at once, one by one.
+abbrev pub areas_asked : List ℕ → DriverState → FreePages
+areas_asked pages d = if tells_host d then d.areas else (all_given pages (page_state d)).free
+
 -- The lowest lent pages are asked back from the host.
 pub record AsksBack (m1 m2 : Pages) (p1 p2 : Part) (d1 d2 : DriverState) (count : ℕ)
     (posted : Posted) : Type 0 where
@@ -195,7 +202,8 @@ pub record AsksBack (m1 m2 : Pages) (p1 p2 : Part) (d1 d2 : DriverState) (count 
   pub pages : posted.pages ≡ count
   pub part : p2 ≡ p1
   pub state : d2 ≡ record d1 {
-    places = placed (lowest_lent d1 count) Taking d1.places;
+    places = placed (lowest_lent d1 count) (place_posted (tells_host d1) Deflating) d1.places;
+    areas = areas_asked (lowest_lent d1 count) d1;
     deflate = d2.deflate;
   }
 
@@ -277,33 +285,41 @@ without_request queue head d =
       report = record { ring = after_take d.report.ring (Ok (Some head)); blocks = [] };
     })
 
--- Where the pages of a used request go.
-abbrev pub place_reaped : ℕ → Place
-place_reaped queue = if queue == INFLATE_QUEUE then Lent else Free
+-- Where pages are, once those of a used request have moved on.
+abbrev pub places_after : ℕ → List ℕ → DriverState → List Place
+places_after queue pages d =
+    if queue == INFLATE_QUEUE then places_reaped (tells_host d) Inflating pages d.places
+    else (if queue == DEFLATE_QUEUE then places_reaped (tells_host d) Deflating pages d.places
+    else places_reaped (tells_host d) Reporting_free pages d.places)
 
--- The page areas, once these pages of a used request have moved on: those of a deflate come back
--- one by one, those of a report in their blocks.
+-- And the page areas: where the host is told first, those of a deflate come back one by one; those
+-- of a report come back in their blocks.
 abbrev pub areas_reaped : ℕ → List ℕ → DriverState → FreePages
 areas_reaped queue pages d =
     if queue == INFLATE_QUEUE then d.areas
-    else (if queue == DEFLATE_QUEUE then (all_given pages (page_state d)).free
+    else (if queue == DEFLATE_QUEUE
+    then (if tells_host d then (all_given pages (page_state d)).free else d.areas)
     else areas_with pages d.areas)
 
 -- These pages of a used request are where they go.
 abbrev pub moved_on : ℕ → List ℕ → DriverState → DriverState
 moved_on queue pages d =
     record d {
-      places = placed pages (place_reaped queue) d.places;
+      places = places_after queue pages d;
       areas = areas_reaped queue pages d;
     }
+
+-- The driver has told how many pages are given away now.
+abbrev pub with_actual : DriverState → DriverState
+with_actual d = record d { actual = given_away d }
 
 -- The used request's pages move on, and then `actual` is told.
 pub record Reaps (p1 p2 : Part) (d1 d2 : DriverState) (queue : ℕ) (reaped : Reaped) : Type 0 where
   pub small : reaped.head < max_outstanding
   pub pages : reaped.pages ≡ length (pages_sent queue reaped.head d1)
-  pub state : d2
-      ≡ without_request queue reaped.head (moved_on queue (pages_sent queue reaped.head d1) d1)
-  pub part : p2 ≡ record p1 { actual = count_by is_lent_or_taking d2.places }
+  pub state : d2 ≡ with_actual
+      (without_request queue reaped.head (moved_on queue (pages_sent queue reaped.head d1) d1))
+  pub part : p2 ≡ record p1 { actual = d2.actual }
 
 -- What the answer says of the used request that stands next.
 abbrev pub next_of : Option Reaped → Option ℕ
@@ -400,18 +416,27 @@ pub record Starts (m1 m2 : Pages) (p1 p2 : Part) (d1 d2 : DriverState) (wanted :
   pub statistics : IsNewRing zeroed (fresh_statistics d1.queue_size)
   pub buffer : FirstBuffer (stats_vq wanted) zeroed m2 d1 d2
 
+-- The device is reset, so no request is out any more.
+abbrev pub with_nothing_out : DriverState → DriverState
+with_nothing_out d = record d {
+  inflate = fresh_side 0 d.queue_size;
+  deflate = fresh_side 1 d.queue_size;
+  statistics = fresh_statistics d.queue_size;
+  report = fresh_report d.queue_size;
+}
+
 -- The device and its driver agree on the features (1 + 2 + 8).
 pub record Agrees (m1 m2 : Pages) (p1 p2 : Part) (d1 d2 : DriverState) (wanted : ℕ) : Type 0 where
   pub mem : m2 ≡ m1
   pub part : p2 ≡ record (part_after_reset p1) { status = 11; features = wanted }
-  pub driver : d2 ≡ record d1 { features = wanted }
+  pub driver : d2 ≡ record (with_nothing_out d1) { features = wanted }
 
 -- The driver gives up, where the device was asked for features that it refused (128 + 2 + 1).
 pub record GivesUp (m1 m2 : Pages) (p1 p2 : Part) (d1 d2 : DriverState)
     (features : ℕ) : Type 0 where
   pub mem : m2 ≡ m1
   pub part : p2 ≡ record (part_after_reset p1) { status = 131; features = features }
-  pub driver : d2 ≡ record d1 { features = features }
+  pub driver : d2 ≡ record (with_nothing_out d1) { features = features }
 
 abbrev pub InitRefused : Refusal → Pages → Pages → Part → Part → DriverState → DriverState → ℕ
     → Type 0
@@ -448,4 +473,5 @@ pub record ResetsBy (m1 m2 : Pages) (p1 p2 : Part) (d1 d2 : DriverState) : Type 
     statistics = fresh_statistics d1.queue_size;
     report = fresh_report d1.queue_size;
     features = 0;
+    actual = 0;
   }

@@ -1,16 +1,18 @@
 -- What a balloon driver keeps.
-use Rattle.std.specs.Prelude.{map, ◌≡◌, ℕ, ◌*◌, ◌<◌, ◌≤◌, nat_lt, true, false, List, [], All}
-use Rattle.std.specs.Prelude.{IsTrue}
+use Rattle.std.specs.Prelude.{map, ◌≡◌, ℕ, ◌+◌, ◌*◌, ◌<◌, ◌≤◌, nat_lt, Bool, true, false, List, []}
+use Rattle.std.specs.Prelude.{All, IsTrue}
 use Rattle.std.specs.Prelude.{length, min, sum_by, count_by, replicate, slice_index_or, Some, None}
 use Rattle.std.specs.Prelude.{if◌then◌else◌}
 use Rattle.vb_model.specs.declared.places.Place.{Place}
 use Rattle.vb_model.specs.declared.places.Place.TheVariants.{Reserved, Used}
 use Rattle.vb_model.specs.declared.layout.TheConstants.{STATISTICS_QUEUE, REPORT_QUEUE}
-use Rattle.vb_model.specs.Limits.{max_outstanding, max_order, page_size, reserved_pages}
+use Rattle.vb_model.specs.Limits.{max_outstanding, max_request_pages, max_order, page_size}
+use Rattle.vb_model.specs.Limits.{reserved_pages}
 use Rattle.vb_model.specs.declared.limits.TheConstants.{MIN_GUEST_PAGES, MAX_GUEST_PAGES}
 use Rattle.vb_model.specs.Pages.{Block, place_of, all_free, is_free, is_giving, is_lent, is_taking}
 use Rattle.vb_model.specs.Pages.{is_stranded, is_reporting, is_aligned, pages_of_all}
 use Rattle.vb_model.specs.Requests.{Figures}
+use Rattle.vb_model.specs.Guest.{must_tell_host}
 use Rattle.vb_model.specs.Layout.{ring_page}
 use Rattle.vb_model.specs.Tests.{one_if}
 use Rattle.vb_model.specs.Orderly.{times}
@@ -35,7 +37,8 @@ pub record ReportSide : Type 0 where
 
 -- A driver: how large its guest is, where each page is, the blocks that allocations hold, by rising
 -- start, the page areas with each processor's list, its two queues of requests, its end of the
--- queue of statistics, its queue of reports, and the features that were accepted last.
+-- queue of statistics, its queue of reports, the features that were accepted last, and how many
+-- pages it told the device last that it has given away.
 pub record DriverState : Type 0 where
   pub pages : ℕ
   pub queue_size : ℕ
@@ -48,6 +51,7 @@ pub record DriverState : Type 0 where
   pub statistics : DriverEnd
   pub report : ReportSide
   pub features : ℕ
+  pub actual : ℕ
 
 -- ---- what is read off a driver
 
@@ -64,6 +68,10 @@ giving_count d = count_by is_giving d.places
 abbrev pub lent_count : DriverState → ℕ
 lent_count d = count_by is_lent d.places
 
+-- it has agreed to tell the host before it uses a page again (VIRTIO 1.1, 5.5.3)
+abbrev pub tells_host : DriverState → Bool
+tells_host d = must_tell_host d.features
+
 abbrev pub stranded_count : DriverState → ℕ
 stranded_count d = count_by is_stranded d.places
 
@@ -74,6 +82,14 @@ room d = min d.queue_size max_outstanding
 -- the pages of the request with this head
 abbrev pub sent_by : Side → ℕ → List ℕ
 sent_by side head = slice_index_or side.sent head []
+
+-- how many pages the requests name
+abbrev pub pages_named : Side → ℕ
+pages_named side = sum_by (λ pages. length pages) side.sent
+
+-- how many pages count as given to the host: those lent, and those that are asked back
+abbrev pub given_away : DriverState → ℕ
+given_away d = lent_count d + pages_named d.deflate
 
 -- the figures of a statistics buffer, in bytes (VIRTIO 1.1, 5.5.6.3)
 abbrev pub figures_of : DriverState → Figures
@@ -123,6 +139,7 @@ fresh_driver pages queue_size processors =
       statistics = fresh_statistics queue_size;
       report = fresh_report queue_size;
       features = 0;
+      actual = 0;
     }
 
 -- ---- what holds of each driver
@@ -132,6 +149,9 @@ pub record AreRequests (side : Side) : Type 0 where
   pub single : (i : ℕ) → is_unused side.ring.owner i ≡ false → is_head side.ring.owner i ≡ true
   pub few : (i : ℕ) → is_head side.ring.owner i ≡ true → i < max_outstanding
   pub buffers : length side.sent ≡ max_outstanding
+  -- what isn't out names nothing, and no request names too many
+  pub unsent : (i : ℕ) → is_head side.ring.owner i ≡ false → sent_by side i ≡ []
+  pub short : (i : ℕ) → length (sent_by side i) ≤ max_request_pages
 
 -- The queue's ring lies in its page.
 pub record IsQueue (side : Side) (queue descriptors : ℕ) : Type 0 where
@@ -161,7 +181,7 @@ pub record IsReportQueue (side : ReportSide) (descriptors : ℕ) : Type 0 where
   pub layout : side.ring.layout ≡ layout_of (ring_page REPORT_QUEUE) descriptors
   pub size : side.ring.size ≡ descriptors
 
--- A page that a request names is giving, taking or reporting, and no other names it.
+-- A page that an inflate or a report names is giving or reporting, and no other names it.
 pub record IsDriver (d : DriverState) : Type 0 where
   pub table : length d.places ≡ d.pages
   pub least : MIN_GUEST_PAGES ≤ d.pages
@@ -172,7 +192,9 @@ pub record IsDriver (d : DriverState) : Type 0 where
   pub statistics : IsStatisticsQueue d.statistics d.queue_size
   pub report : IsReportQueue d.report d.queue_size
   pub giving : (page : ℕ) → naming page d.inflate.sent ≤ one_if (is_giving (place_of d.places page))
-  pub taking : (page : ℕ) → naming page d.deflate.sent ≤ one_if (is_taking (place_of d.places page))
+  -- where the host is told first; else pages that are asked back are free at once
+  pub taking : tells_host d ≡ true → (page : ℕ) → naming page d.deflate.sent ≤ one_if
+      (is_taking (place_of d.places page))
   pub reporting : (page : ℕ)
       → times page (pages_of_all d.report.blocks) ≤ one_if (is_reporting (place_of d.places page))
   -- the areas and the lists have just the free pages, for as many processors

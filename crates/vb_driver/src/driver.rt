@@ -1,12 +1,11 @@
 //! The balloon driver, and the pages of the guest's own.
 
-ghost use Rattle.std.specs.Prelude.{◌≡◌, ◌<◌, ◌≤◌, true, length, IfOk, count_by};
+ghost use Rattle.std.specs.Prelude.{◌≡◌, ◌<◌, ◌≤◌, true, length, IfOk};
 ghost use Rattle.vb_model.specs.declared.limits.TheConstants.{MAX_GUEST_PAGES};
 ghost use Rattle.vb_model.specs.Limits.{is_config};
 ghost use Rattle.vb_model.specs.Pages.{place_of, is_used};
-ghost use Rattle.vb_model.specs.Pages.{is_lent_or_taking};
 ghost use Rattle.vb_driver.specs.Places.{AreLentBits};
-ghost use Rattle.vb_driver.specs.State.{IsDriver, fresh_driver};
+ghost use Rattle.vb_driver.specs.State.{IsDriver, fresh_driver, given_away};
 ghost use Rattle.vb_driver.specs.Calls.{AllocatesBy, FreesBy, AreCountsOf};
 
 use crate::areas::Areas;
@@ -41,6 +40,8 @@ pub struct Driver {
     pub(crate) report: ReportQueue,
     /// The features that were accepted last.
     pub(crate) features: Features,
+    /// How many pages the device was told last.
+    pub(crate) actual: u32,
 }
 
 impl Model for Driver {
@@ -61,6 +62,7 @@ impl Model for Driver {
       statistics = d.statistics;
       report = d.report;
       features = feature_bits d.features;
+      actual = d.actual;
     } };
 
     ghost invariant = { λ d. IsDriver (record {
@@ -75,6 +77,7 @@ impl Model for Driver {
       statistics = d.statistics;
       report = d.report;
       features = feature_bits d.features;
+      actual = d.actual;
     }) };
 }
 
@@ -95,6 +98,7 @@ impl Driver {
             statistics: StatisticsQueue::new(config.queue_size),
             report: ReportQueue::new(config.queue_size),
             features: Features::empty(),
+            actual: 0,
         })
     }
 
@@ -129,12 +133,13 @@ impl Driver {
         }
     }
 
-    /// How many pages the driver has in the balloon: the lent ones, and those that it asks back
-    /// (`actual`, VIRTIO 1.1, 5.5.4).
+    /// How many pages the driver told the device last: the lent ones, and those that requests ask
+    /// back (`actual`, VIRTIO 1.1, 5.5.4); none before the first request came back. While requests
+    /// come and go it is their number at any time.
     pub fn actual(&self) -> u32
-        ensures { result ≡ count_by is_lent_or_taking self.now.places }
+        ensures { result ≡ self.now.actual }
     {
-        self.places.in_balloon()
+        self.actual
     }
 
     /// The lent pages as bits: bit b of word w is 1 exactly if page 64 w + b is lent. The words are
@@ -144,6 +149,13 @@ impl Driver {
         ensures { AreLentBits self.now.places result.now }
     {
         self.places.lent_bits()
+    }
+
+    /// How many pages count as given to the host: those lent, and those that requests ask back.
+    pub(crate) fn given_away(&self) -> u32
+        ensures { result ≡ given_away self.now }
+    {
+        self.places.count(Place::Lent) + self.deflate.pages_named()
     }
 
     /// Whether an allocation holds the page.

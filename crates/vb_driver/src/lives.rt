@@ -8,10 +8,10 @@ ghost use Rattle.vb_status.specs.After.{part_after_reset, with_new_queues};
 ghost use Rattle.vb_status.specs.Answers.{refusal_of_fault};
 ghost use Rattle.vb_status.specs.Bits.{feature_bits};
 ghost use Rattle.vb_driver.specs.Answers.{IsBacked, IsLargeEnough};
-ghost use Rattle.vb_driver.specs.State.{IsDriver, fresh_driver, fresh_side, fresh_statistics};
-ghost use Rattle.vb_driver.specs.State.{fresh_report};
+ghost use Rattle.vb_driver.specs.State.{IsDriver, fresh_driver, fresh_statistics};
 ghost use Rattle.vb_driver.specs.Coding.{ring_pages};
 ghost use Rattle.vb_driver.specs.Calls.{IsNewRing, FirstBuffer, InitsBy, NegotiatesBy, ResetsBy};
+ghost use Rattle.vb_driver.specs.Calls.{with_nothing_out};
 
 use crate::Driver;
 use crate::memory::{all_backed, zero_rings};
@@ -29,7 +29,6 @@ fn refusal_of(fault: StatusFault) -> Refusal
         StatusFault::ClearsBit => Refusal::ClearsBit,
         StatusFault::OutOfOrder => Refusal::OutOfOrder,
         StatusFault::FeatureNotOffered => Refusal::FeatureNotOffered,
-        StatusFault::MustTellMissing => Refusal::MustTellMissing,
         StatusFault::VersionMissing => Refusal::VersionMissing,
     }
 }
@@ -45,12 +44,13 @@ fn begin<P: Port>(port: &mut P)
 }
 
 impl Driver {
-    /// Resets the device and agrees with it on the features, or gives up.
+    /// Resets the device, so that nothing is out, and agrees with it on the features, or gives up.
     fn negotiate<P: Port>(&mut self, port: &mut P, wanted: Features) -> Result<(), Refusal>
         ensures { NegotiatesBy (P.mem port.old) (P.mem port.new) (P.part port.old) (P.part port.new)
             self.old self.new (feature_bits wanted) result }
     {
         begin(port);
+        self.renew();
         self.features = Features::empty();
         if port.negotiate(wanted).is_err() {
             give_up(port);
@@ -68,12 +68,7 @@ impl Driver {
     /// Begins all queues anew, with nothing out.
     fn renew(&mut self)
         ensures driver { IsDriver self.old }
-        ensures state { self.new ≡ record self.old {
-          inflate = fresh_side 0 self.old.queue_size;
-          deflate = fresh_side 1 self.old.queue_size;
-          statistics = fresh_statistics self.old.queue_size;
-          report = fresh_report self.old.queue_size;
-        } }
+        ensures state { self.new ≡ with_nothing_out self.old }
     {
         self.inflate
             .renew(INFLATE_RING_PAGE, self.config.queue_size);
@@ -83,22 +78,18 @@ impl Driver {
         self.report.renew(self.config.queue_size);
     }
 
-    /// Begins the queues anew in pages of zeros, posts the first statistics buffer, and tells the
-    /// device that the queues are ready.
+    /// Posts the first statistics buffer, where the rings lie in pages of zeros and nothing is out,
+    /// and tells the device that the queues are ready.
     fn start<P: Port>(&mut self, port: &mut P)
         requires status { (P.part port.old).status ≡ 11 }
         requires memory { IsLargeEnough (P.mem port.old) }
         requires backed { IsBacked (P.mem port.old) }
+        requires new { self.old ≡ with_nothing_out self.old }
         requires zeros { (page offset : ℕ) → page < ring_pages → offset < page_size
             → byte_at (P.mem port.old) page offset ≡ 0 }
         ensures part { P.part port.new
             ≡ record (with_new_queues (P.part port.old)) { status = 15 } }
-        ensures driver { self.new ≡ record self.old {
-          inflate = fresh_side 0 self.old.queue_size;
-          deflate = fresh_side 1 self.old.queue_size;
-          statistics = self.new.statistics;
-          report = fresh_report self.old.queue_size;
-        } }
+        ensures driver { self.new ≡ record self.old { statistics = self.new.statistics } }
         ensures inflate { IsNewRing (P.mem port.new) self.new.inflate.ring }
         ensures deflate { IsNewRing (P.mem port.new) self.new.deflate.ring }
         ensures report { IsNewRing (P.mem port.new) self.new.report.ring }
@@ -106,7 +97,6 @@ impl Driver {
         ensures buffer { FirstBuffer (stats_vq self.old.features)
             (P.mem port.old) (P.mem port.new) self.old self.new }
     {
-        self.renew();
         self.fill_first(port);
         let ready = port.status().union(Status::DRIVER_OK);
         let _ = port.write_status(ready);
@@ -117,9 +107,9 @@ impl Driver {
     /// among them. The driver can be initialised again only once the device was reset.
     ///
     /// Refused for `AlreadyUp` (the status isn't 0), `NoFrame` (one of the pages of the rings and
-    /// buffers, 0 to 12, has no frame); then nothing is changed. Refused for `FeatureNotOffered`,
-    /// `MustTellMissing` and `VersionMissing` (these two features are needed): the driver gives
-    /// up then, by FAILED in the status.
+    /// buffers, 0 to 12, has no frame); then nothing is changed. Refused for `FeatureNotOffered`
+    /// and `VersionMissing` (VERSION_1 is needed): the driver gives up then, by FAILED in the
+    /// status, and nothing is out any more.
     pub fn init<P: Port>(&mut self, port: &mut P, wanted: Features) -> Result<(), Refusal>
         requires memory { IsLargeEnough (P.mem port.old) }
         ensures { InitsBy (P.mem port.old) (P.mem port.new) (P.part port.old) (P.part port.new)
@@ -156,6 +146,7 @@ impl Driver {
         self.statistics.renew(self.config.queue_size);
         self.report.renew(self.config.queue_size);
         self.features = Features::empty();
+        self.actual = 0;
     }
 
     /// Begins a new life (profile): resets the device, and all is as when the guest was plugged in.

@@ -6,7 +6,7 @@ ghost use Rattle.std.specs.List.{range_with_len};
 ghost use Rattle.std.specs.Prelude.{count_by, IfOk, All};
 ghost use Rattle.vb_bits.specs.Sets.{has};
 ghost use Rattle.vb_model.specs.Tests.{is_in, pages_where};
-ghost use Rattle.vb_model.specs.Pages.{all_free, placed, place_of, pages_of, is_lent_or_taking};
+ghost use Rattle.vb_model.specs.Pages.{all_free, placed, place_of, pages_of};
 ghost use Rattle.vb_model.specs.Pages.{pages_of_all, is_lent, is_stranded, is_reporting};
 ghost use Rattle.vb_model.specs.Limits.{max_order, max_outstanding, max_request_pages};
 ghost use Rattle.vb_model.specs.Limits.{reserved_pages};
@@ -324,13 +324,6 @@ impl PlaceTable {
         }
     }
 
-    /// How many pages are lent or asked back.
-    pub(crate) fn in_balloon(&self) -> u32
-        ensures { result ≡ count_by is_lent_or_taking self.now }
-    {
-        self.counts[number_of(Place::Lent)] + self.counts[number_of(Place::Taking)]
-    }
-
     /// The lowest lent pages, so many at most.
     pub(crate) fn lowest_lent(&self, most: u32) -> RequestPages
         requires { most ≤ max_request_pages }
@@ -368,7 +361,8 @@ impl PlaceTable {
 
     /// How many pages have a place.
     pub(crate) fn count(&self, place: Place) -> u32
-        ensures { result ≡ count_by (is_at place) self.now }
+        ensures value { result ≡ count_by (is_at place) self.now }
+        ensures few { result ≤ MAX_GUEST_PAGES }
     {
         self.counts[number_of(place)]
     }

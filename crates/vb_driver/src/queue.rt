@@ -2,15 +2,15 @@
 
 ghost use Rattle.std.specs.Prelude.{◌≡◌, ◌<◌, ◌≤◌, ℕ, [], Ok, Err, None, Some, IfOk, IfErr};
 ghost use Rattle.std.specs.Prelude.{MatchOption, OnErr, length, min};
-ghost use Rattle.std.specs.Prelude.{replicate};
-ghost use Rattle.vb_model.specs.Limits.{max_outstanding};
+ghost use Rattle.std.specs.Prelude.{replicate, sum_by, slice_index_or, ◌*◌};
+ghost use Rattle.vb_model.specs.Limits.{max_outstanding, max_request_pages};
 ghost use Rattle.vb_model.specs.Layout.{buffers_page};
 ghost use Rattle.vb_ring.specs.Layout.{IsSize, IsInside, layout_of};
 ghost use Rattle.vb_ring.specs.Ends.{outstanding, used_answer};
 ghost use Rattle.vb_ring.specs.Calls.{TakesUsedBy};
 ghost use Rattle.vb_driver.specs.Coding.{ring_pages};
 ghost use Rattle.vb_driver.specs.Answers.{IsBacked, IsLargeEnough};
-ghost use Rattle.vb_driver.specs.State.{AreRequests, fresh_at, sent_by};
+ghost use Rattle.vb_driver.specs.State.{AreRequests, fresh_at, sent_by, pages_named};
 ghost use Rattle.vb_driver.specs.Calls.{Posts, after_reap};
 
 use crate::memory::write_numbers;
@@ -73,6 +73,20 @@ impl Model for RequestQueue {
     ghost invariant = { λ q. AreRequests (record { ring = q.ring; sent = q.sent.items }) };
 }
 
+/// How many pages these requests name.
+fn count_named(sent: &[Sent]) -> u32
+    requires few { length sent.now ≤ max_outstanding }
+    requires short { (i : ℕ) → length (slice_index_or sent.now i []) ≤ max_request_pages }
+    ensures value { result ≡ sum_by (λ pages. length pages) sent.now }
+    ensures few { result ≤ max_request_pages * length sent.now }
+{
+    let mut count = 0;
+    for request in sent {
+        count += request.pages.len() as u32;
+    }
+    count
+}
+
 /// Forgets all requests.
 fn forget_all(sent: &mut [Sent])
     ensures { sent.new ≡ replicate (length sent.old) [] }
@@ -113,6 +127,14 @@ impl RequestQueue {
         ensures value { result ≡ outstanding self.now.ring }
     {
         self.ring.outstanding()
+    }
+
+    /// How many pages the requests that are out name.
+    pub(crate) fn pages_named(&self) -> u32
+        ensures value { result ≡ pages_named self.now }
+        ensures few { result ≤ max_outstanding * max_request_pages }
+    {
+        count_named(&self.sent)
     }
 
     /// Posts a request for these pages, whose buffer is one of those that begin at page `base`.

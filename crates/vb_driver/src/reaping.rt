@@ -1,10 +1,8 @@
 //! Used requests are taken back (VIRTIO 1.1, 5.5.6).
 
-ghost use Rattle.std.specs.Prelude.{◌≡◌, ◌<◌, ◌∷◌, [], ℕ, true, not, length, bit_or, count_by};
+ghost use Rattle.std.specs.Prelude.{◌≡◌, ◌<◌, ◌∷◌, [], not, length, bit_or};
 ghost use Rattle.std.specs.Prelude.{Ok, Err, None, Some, IfOk, IfErr, OnOk, OnErr, MatchOption};
 ghost use Rattle.vb_model.specs.Limits.{max_outstanding};
-ghost use Rattle.vb_model.specs.Tests.{is_in};
-ghost use Rattle.vb_model.specs.Pages.{placed, is_lent_or_taking};
 ghost use Rattle.vb_model.specs.Status.{failed};
 ghost use Rattle.vb_model.specs.Refusals.{◌⇒◌, first_refusal};
 ghost use Rattle.vb_model.specs.declared.replies.Refusal.TheVariants.{NotReady, NoFeature};
@@ -13,11 +11,11 @@ ghost use Rattle.vb_ring.specs.Layout.{IsInside};
 ghost use Rattle.vb_ring.specs.Ends.{after_take, used_answer};
 ghost use Rattle.vb_ring.specs.Calls.{TakesUsedBy};
 ghost use Rattle.vb_report.specs.Blocks.{blocks_of};
-ghost use Rattle.vb_driver.specs.State.{IsReportQueue, sent_by};
+ghost use Rattle.vb_driver.specs.State.{IsReportQueue, sent_by, given_away};
 ghost use Rattle.vb_driver.specs.Answers.{IsLargeEnough, is_up, is_ring_broken, refusal_in};
-ghost use Rattle.vb_driver.specs.Calls.{ReapsBy, after_refusal, after_reap};
+ghost use Rattle.vb_driver.specs.Calls.{ReapsBy, after_refusal, after_reap, with_actual};
 
-use crate::places::{PlaceTable, count_pages};
+use crate::places::count_pages;
 use crate::queue::{RequestPages, RequestQueue};
 use crate::reports::ReportQueue;
 use crate::requests::is_up;
@@ -119,31 +117,35 @@ fn take_report_back<P: Port>(
     }
 }
 
-/// Moves the pages of a used request to a place, and tells the device how many are lent or asked
-/// back then.
-fn settle<P: Port>(
-    places: &mut PlaceTable,
-    port: &mut P,
-    used: &(u16, RequestPages),
-    place: Place,
-) -> Reaped
-    requires { (page : ℕ) → is_in page used.now.1.items ≡ true → page < length places.old }
-    ensures places { places.new ≡ placed used.now.1.items place places.old }
-    ensures part { P.part port.new
-        ≡ record (P.part port.old) { actual = count_by is_lent_or_taking places.new } }
-    ensures mem { P.mem port.new ≡ P.mem port.old }
-    ensures head { result.head ≡ used.now.0 }
-    ensures pages { result.pages ≡ length used.now.1.items }
-{
-    places.set_all(&used.1, place);
-    port.set_actual(places.in_balloon());
-    Reaped {
-        head: used.0,
-        pages: used.1.len() as u32,
-    }
-}
-
 impl Driver {
+    /// Tells the device how many pages are lent or asked back.
+    fn tell_actual<P: Port>(&mut self, port: &mut P)
+        ensures state { self.new ≡ with_actual self.old }
+        ensures part { P.part port.new
+            ≡ record (P.part port.old) { actual = given_away self.old } }
+        ensures mem { P.mem port.new ≡ P.mem port.old }
+    {
+        self.actual = self.given_away();
+        port.set_actual(self.actual);
+    }
+
+    /// Tells the device how many pages are lent or asked back once a request came back, and says
+    /// which one did.
+    fn settle<P: Port>(&mut self, port: &mut P, used: &(u16, RequestPages)) -> Reaped
+        ensures state { self.new ≡ with_actual self.old }
+        ensures part { P.part port.new
+            ≡ record (P.part port.old) { actual = given_away self.old } }
+        ensures mem { P.mem port.new ≡ P.mem port.old }
+        ensures head { result.head ≡ used.now.0 }
+        ensures pages { result.pages ≡ length used.now.1.items }
+    {
+        self.tell_actual(port);
+        Reaped {
+            head: used.0,
+            pages: used.1.len() as u32,
+        }
+    }
+
     /// Takes back the next inflate request that the device used: its pages are lent from now on.
     fn reap_lent<P: Port>(&mut self, port: &mut P) -> Result<Option<Reaped>, Refusal>
         requires { IsLargeEnough (P.mem port.old) }
@@ -157,10 +159,12 @@ impl Driver {
             Ok(None) => return Ok(None),
             Err(refusal) => return Err(refusal),
         };
-        Ok(Some(settle(places, port, &used, Place::Lent)))
+        places.set_all(&used.1, Place::Lent);
+        Ok(Some(self.settle(port, &used)))
     }
 
-    /// Takes back the next deflate request that the device used: its pages are free from now on.
+    /// Takes back the next deflate request that the device used: its pages are free from now on,
+    /// or were so since it was posted.
     fn reap_freed<P: Port>(&mut self, port: &mut P) -> Result<Option<Reaped>, Refusal>
         requires { IsLargeEnough (P.mem port.old) }
         ensures { ReapsBy (P.mem port.old) (P.mem port.new) (P.part port.old) (P.part port.new)
@@ -173,8 +177,12 @@ impl Driver {
             Ok(None) => return Ok(None),
             Err(refusal) => return Err(refusal),
         };
+        if !self.features.must_tell_host() {
+            return Ok(Some(self.settle(port, &used)));
+        }
         self.areas.give_all(&used.1);
-        Ok(Some(settle(places, port, &used, Place::Free)))
+        places.set_all(&used.1, Place::Free);
+        Ok(Some(self.settle(port, &used)))
     }
 
     /// Takes back the report if the device used it: its pages are free from now on.
@@ -193,7 +201,7 @@ impl Driver {
         };
         self.areas.give_blocks(&used.1);
         places.set_blocks(&used.1, Place::Free);
-        port.set_actual(places.in_balloon());
+        self.tell_actual(port);
         Ok(Some(Reaped {
             head: used.0,
             pages: count_pages(&used.1),
@@ -201,8 +209,9 @@ impl Driver {
     }
 
     /// Takes back the next request of a queue that the device used, if there is one: the pages of
-    /// an inflate request are lent from now on, those of a deflate request or of a report free.
-    /// Then the device is told how many pages are lent or asked back.
+    /// an inflate request are lent from now on, those of a deflate request or of a report free;
+    /// where MUST_TELL_HOST wasn't accepted, those of a deflate request stay where they are. Then
+    /// the device is told how many pages are lent or asked back.
     ///
     /// Refused for `NoQueue` (not 0, 1 or 4), `NotReady`, `NoFeature` (queue 4, but REPORTING
     /// wasn't accepted), `RingBroken` (the used ring says what no device may say: the driver gives

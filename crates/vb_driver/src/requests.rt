@@ -1,15 +1,18 @@
 //! Pages are offered to the host, and asked back (VIRTIO 1.1, 5.5.6).
 
-ghost use Rattle.std.specs.Prelude.{◌≡◌, ◌<◌, ◌≤◌, ◌+◌, ◌==◌, ◌++◌, ◌∷◌, nat_le, not, true, Ok};
+ghost use Rattle.std.specs.Prelude.{◌≡◌, ◌<◌, ◌≤◌, ◌+◌, ◌==◌, ◌&&◌, ◌++◌, ◌∷◌, [], nat_le, nat_lt};
+ghost use Rattle.std.specs.Prelude.{not, true, false, Ok};
 ghost use Rattle.std.specs.Prelude.{Err, OnOk};
 ghost use Rattle.std.specs.Prelude.{length, min};
 ghost use Rattle.vb_model.specs.Limits.{max_request_pages};
 ghost use Rattle.vb_ring.specs.Ends.{outstanding};
-ghost use Rattle.vb_driver.specs.State.{room, stranded_count, free_count, lent_count};
+ghost use Rattle.vb_driver.specs.State.{room, stranded_count, free_count, lent_count, tells_host};
 ghost use Rattle.vb_model.specs.Refusals.{◌⇒◌, first_refusal};
 ghost use Rattle.vb_model.specs.declared.replies.Refusal.TheVariants.{NotReady, NoFeature};
+ghost use Rattle.vb_model.specs.declared.replies.Refusal.TheVariants.{QueueFull, DeflatePending};
+ghost use Rattle.vb_model.specs.declared.replies.Refusal.TheVariants.{Nothing};
 ghost use Rattle.vb_driver.specs.Answers.{IsBacked, IsLargeEnough, is_up, inflate_count};
-ghost use Rattle.vb_driver.specs.Answers.{deflate_count, oom_count, refusal_in, request_tests};
+ghost use Rattle.vb_driver.specs.Answers.{deflate_count, oom_count, refusal_in};
 ghost use Rattle.vb_driver.specs.Calls.{Offers, AsksBack, InflatesBy, DeflatesBy, DeflatesOnOomBy};
 
 use crate::queue::{RequestPages, RequestQueue};
@@ -27,6 +30,23 @@ pub(crate) fn is_up<P: Port>(port: &P) -> bool
     let status = port.status();
     status.contains(Status::DRIVER_OK)
         && !(status.contains(Status::DEVICE_NEEDS_RESET) || status.contains(Status::FAILED))
+}
+
+/// What a request needs beside a device that is up, room in its queue and a page to name.
+#[derive(Clone, Copy)]
+struct Needs {
+    /// What the request stands or falls with was accepted.
+    accepted: bool,
+    /// A request is out that this one must not overtake.
+    pending: bool,
+}
+
+impl Needs {
+    /// No feature, and nothing stands in the way.
+    const NOTHING: Needs = Needs {
+        accepted: true,
+        pending: false,
+    };
 }
 
 /// Puts more page numbers behind the first ones.
@@ -93,8 +113,9 @@ impl Driver {
         Posted { head, pages: count }
     }
 
-    /// Asks for so many of the lowest lent pages back.
-    fn ask_back<P: Port>(&mut self, port: &mut P, count: u32) -> Posted
+    /// Asks for so many of the lowest lent pages back; they are free once the request comes back.
+    fn ask_and_wait<P: Port>(&mut self, port: &mut P, count: u32) -> Posted
+        requires told { tells_host self.old ≡ true }
         requires room { outstanding self.old.deflate.ring < room self.old }
         requires few { count ≤ max_request_pages }
         requires there { count ≤ lent_count self.old }
@@ -109,31 +130,82 @@ impl Driver {
         Posted { head, pages: count }
     }
 
+    /// Asks for so many of the lowest lent pages back; they are free at once.
+    fn ask_and_free<P: Port>(&mut self, port: &mut P, count: u32) -> Posted
+        requires untold { tells_host self.old ≡ false }
+        requires room { outstanding self.old.deflate.ring < room self.old }
+        requires few { count ≤ max_request_pages }
+        requires there { count ≤ lent_count self.old }
+        requires memory { IsLargeEnough (P.mem port.old) }
+        requires backed { IsBacked (P.mem port.old) }
+        ensures { AsksBack (P.mem port.old) (P.mem port.new) (P.part port.old) (P.part port.new)
+            self.old self.new count result }
+    {
+        let pages = self.places.lowest_lent(count);
+        self.areas.give_all(&pages);
+        self.places.set_all(&pages, Place::Free);
+        let head = self.deflate.post(port, DEFLATE_BUFFERS_PAGE, pages);
+        Posted { head, pages: count }
+    }
+
+    /// Asks for so many of the lowest lent pages back. They can be used once the host was told,
+    /// where that was agreed on.
+    fn ask_back<P: Port>(&mut self, port: &mut P, count: u32) -> Posted
+        requires room { outstanding self.old.deflate.ring < room self.old }
+        requires few { count ≤ max_request_pages }
+        requires there { count ≤ lent_count self.old }
+        requires memory { IsLargeEnough (P.mem port.old) }
+        requires backed { IsBacked (P.mem port.old) }
+        ensures { AsksBack (P.mem port.old) (P.mem port.new) (P.part port.old) (P.part port.new)
+            self.old self.new count result }
+    {
+        if self.features.must_tell_host() {
+            self.ask_and_wait(port, count)
+        } else {
+            self.ask_and_free(port, count)
+        }
+    }
+
+    /// Whether a deflate request is out that the host may serve after an inflate that names the
+    /// same page again: where the host is told first there is none.
+    fn has_deflate_pending(&self) -> bool
+        ensures { result
+            ≡ (not (tells_host self.now) && nat_lt 0 (outstanding self.now.deflate.ring)) }
+    {
+        !self.features.must_tell_host() && self.deflate.outstanding() > 0
+    }
+
     /// Whether a request for so many pages may be posted: the device must be initialised, what the
-    /// request needs must have been accepted, the queue must have room, and there must be a page
-    /// to name.
+    /// request needs must have been accepted, the queue must have room, no request must stand in
+    /// the way, and there must be a page to name.
     fn admit<P: Port>(
         &self,
         port: &P,
-        accepted: bool,
+        needs: Needs,
         queue: &RequestQueue,
         count: u32,
     ) -> Result<(), Refusal>
         ensures refusal { refusal_in result ≡ first_refusal (
             (not (is_up (P.part port.now).status) ⇒ NotReady)
-            ∷ (not accepted ⇒ NoFeature)
-            ∷ request_tests self.now queue.now count) }
+            ∷ (not needs.accepted ⇒ NoFeature)
+            ∷ (nat_le (room self.now) (outstanding queue.now.ring) ⇒ QueueFull)
+            ∷ (needs.pending ⇒ DeflatePending)
+            ∷ ((count == 0) ⇒ Nothing)
+            ∷ []) }
         ensures ready { OnOk result (is_up (P.part port.now).status ≡ true) }
         ensures room { OnOk result (outstanding queue.now.ring < room self.now) }
     {
         if !is_up(port) {
             return Err(Refusal::NotReady);
         }
-        if !accepted {
+        if !needs.accepted {
             return Err(Refusal::NoFeature);
         }
         if self.is_full(queue) {
             return Err(Refusal::QueueFull);
+        }
+        if needs.pending {
+            return Err(Refusal::DeflatePending);
         }
         if count == 0 {
             return Err(Refusal::Nothing);
@@ -146,8 +218,9 @@ impl Driver {
     /// first, lowest first.
     ///
     /// Refused for `NotReady` (the device isn't initialised, or has failed), `QueueFull` (16
-    /// requests of the queue are out, or as many as it has descriptors), `Nothing` (the number is
-    /// 0); then nothing is changed.
+    /// requests of the queue are out, or as many as it has descriptors), `DeflatePending` (a
+    /// deflate request is out, and MUST_TELL_HOST wasn't accepted, so its pages may be among the
+    /// free ones), `Nothing` (the number is 0); then nothing is changed.
     pub fn inflate<P: Port>(&mut self, port: &mut P, n: u32) -> Result<Posted, Refusal>
         requires memory { IsLargeEnough (P.mem port.old) }
         requires backed { is_up (P.part port.old).status ≡ true → IsBacked (P.mem port.old) }
@@ -155,12 +228,17 @@ impl Driver {
             self.old self.new n result }
     {
         let count = self.inflate_count(port.target(), n);
-        self.admit(port, true, &self.inflate, count)?;
+        let needs = Needs {
+            accepted: true,
+            pending: self.has_deflate_pending(),
+        };
+        self.admit(port, needs, &self.inflate, count)?;
         Ok(self.offer(port, count))
     }
 
     /// Asks for the lowest lent pages back: at most n and 256, and no more than are above the
-    /// host's target, those on their way to it counted.
+    /// host's target, those on their way to it counted. Where MUST_TELL_HOST was accepted they can
+    /// be used once the request came back, else at once.
     ///
     /// Refused for `NotReady`, `QueueFull`, `Nothing`; then nothing is changed.
     pub fn deflate<P: Port>(&mut self, port: &mut P, n: u32) -> Result<Posted, Refusal>
@@ -170,7 +248,7 @@ impl Driver {
             self.old self.new n result }
     {
         let count = self.deflate_count(port.target(), n);
-        self.admit(port, true, &self.deflate, count)?;
+        self.admit(port, Needs::NOTHING, &self.deflate, count)?;
         Ok(self.ask_back(port, count))
     }
 
@@ -187,8 +265,11 @@ impl Driver {
             self.old self.new n result }
     {
         let count = self.oom_count(n);
-        let accepted = self.features.deflate_on_oom();
-        self.admit(port, accepted, &self.deflate, count)?;
+        let needs = Needs {
+            accepted: self.features.deflate_on_oom(),
+            pending: false,
+        };
+        self.admit(port, needs, &self.deflate, count)?;
         Ok(self.ask_back(port, count))
     }
 }

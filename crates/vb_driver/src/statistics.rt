@@ -14,7 +14,7 @@ ghost use Rattle.vb_ring.specs.Ends.{outstanding, used_answer};
 ghost use Rattle.vb_ring.specs.Calls.{TakesUsedBy};
 ghost use Rattle.vb_driver.specs.Coding.{IsStatistic, SameButPages};
 ghost use Rattle.vb_driver.specs.Answers.{IsBacked, IsLargeEnough, is_up};
-ghost use Rattle.vb_driver.specs.State.{IsStatisticsQueue, fresh_statistics, figures_of};
+ghost use Rattle.vb_driver.specs.State.{IsDriver, IsStatisticsQueue, fresh_statistics, figures_of};
 ghost use Rattle.vb_driver.specs.Calls.{PostsBuffer, FirstBuffer, FillsBy, emptied};
 
 use crate::Driver;
@@ -174,6 +174,7 @@ impl Driver {
         requires fresh { self.old.statistics ≡ fresh_statistics self.old.queue_size }
         requires memory { IsLargeEnough (P.mem port.old) }
         requires backed { IsBacked (P.mem port.old) }
+        ensures driver { IsDriver self.old }
         ensures buffer { FirstBuffer (stats_vq self.old.features)
             (P.mem port.old) (P.mem port.new) self.old self.new }
         ensures state { self.new ≡ record self.old { statistics = self.new.statistics } }

@@ -12,6 +12,7 @@ mod random_rings;
 mod reports;
 mod requests;
 mod statistics;
+mod untold;
 
 use crate::memory::all_backed;
 use crate::requests::is_up;

@@ -1,12 +1,13 @@
 -- From what a call ties and the model's step to what the guest's clauses say.
 use Rattle.std.specs.Prelude.{◌≡◌, ℕ, Bool, true, false, List, [], ◌∷◌, Option, Some, None}
-use Rattle.std.specs.Prelude.{MatchOption, MatchBool, if◌then◌else◌, refl}
-use Rattle.std.proofs.Common.{sym, ap, subst, inl, inr}
+use Rattle.std.specs.Prelude.{MatchOption, MatchBool, if◌then◌else◌, refl, ◌⊎◌}
+use Rattle.std.proofs.Common.{sym, ◌∙◌, ap, subst, inl, inr, arith}
 use Rattle.vb_model.specs.declared.calls.Call.{Call}
 use Rattle.vb_model.specs.declared.calls.Claim.{Claim}
 use Rattle.vb_model.specs.declared.replies.Refusal.{Refusal}
 use Rattle.vb_model.specs.declared.replies.Reply.{Reply}
 use Rattle.vb_model.specs.declared.replies.Reply.TheVariants.{Refused}
+use Rattle.vb_model.specs.Requests.{no_requests}
 use Rattle.vb_model.specs.Guest.{Guest}
 use Rattle.vb_model.specs.Refusals.{Test, ◌⇒◌, first_refusal, refusal_of}
 use Rattle.vb_model.specs.Rogue.{RogueStep}
@@ -16,7 +17,7 @@ use Rattle.vb_model.proofs.OrderlySteps.{honest_order}
 use Rattle.vb_ram.specs.Pages.{Pages}
 use Rattle.vb_ram.specs.Part.{Part}
 use Rattle.vb_driver.specs.State.{FreePages, DriverState}
-use Rattle.vb_guest.specs.Stands.{Honest, Ties}
+use Rattle.vb_guest.specs.Stands.{Honest, Ties, IsIdle, IsRunning}
 use Rattle.vb_guest.specs.Steps.{StepsAlone}
 
 pub first_holds : (b : Bool) (why : Refusal) (rest : List Test) → b ≡ true
@@ -48,13 +49,21 @@ guest_step g call claims reply new honest step =
     λ b. MatchBool b (RogueStep g call claims reply new) (HonestStep g call claims reply new) in
     subst P (sym honest) step
 
+-- a guest that isn't initialised asks nothing back
+nothing_asked : (mem : Pages) (part : Part) (d : DriverState) (g : Guest)
+    → IsIdle g ⊎ IsRunning mem part d g → g.status ≡ 0 → g.deflate ≡ no_requests
+nothing_asked mem part d g (inl idle) down = idle.deflate
+nothing_asked mem part d g (inr run) down =
+    absurd (let e : 0 ≡ 15 = sym down ∙ run.state in omega (arith, e))
+
 pub still_stands : (m1 m2 : Pages) (p1 p2 : Part) (d1 d2 : DriverState) (g : Guest) (call : Call)
     (claims : List Claim) (reply : Reply) (new : Guest)
     → Honest m1 p1 d1 g → HonestStep g call claims reply new → Ties m2 p2 d2 new
     → Honest m2 p2 d2 new
 still_stands m1 m2 p1 p2 d1 d2 g call claims reply new stands step ties = record {
   ties = ties;
-  consistent = honest_keeps g call claims reply new stands.consistent step ties.parts.guest.honest;
+  consistent = honest_keeps g call claims reply new stands.consistent
+      (λ down. nothing_asked m1 p1 d1 g stands.ties.queues down) step ties.parts.guest.honest;
   orderly = honest_order g call claims reply new stands.consistent stands.orderly step
       ties.parts.guest.honest;
 }

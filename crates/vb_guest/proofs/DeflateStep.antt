@@ -28,7 +28,7 @@ use Rattle.vb_driver.specs.Coding.{SameButBuffer}
 use Rattle.vb_driver.specs.State.{FreePages, DriverState, IsDriver}
 use Rattle.vb_driver.specs.Answers.{refusal_in, deflate_tests, oom_tests}
 use Rattle.vb_driver.specs.Answers.{deflate_count as driver_count}
-use Rattle.vb_driver.specs.Calls.{Unchanged, AsksBack, DeflatesBy, DeflatesOnOomBy}
+use Rattle.vb_driver.specs.Calls.{Unchanged, AsksBack, DeflatesBy, DeflatesOnOomBy, areas_asked}
 use Rattle.vb_guest.specs.Stands.{Honest, Ties, IsRunning}
 use Rattle.vb_guest.specs.Steps.{StepsAlone}
 use Rattle.vb_guest.specs.Replies.{posted_reply}
@@ -113,7 +113,8 @@ asked_back m1 m2 p1 p2 g areas sides d2 call count posted asks driver did stands
     let rest : B 1 = subst B table did.posts.rest in
     let apart = post_apart m1 m2 1 8 posted.head 0 (omega arith) (omega arith)
     (λ p from to. (omega arith, omega (arith, did.posts.small))) rest in
-    let after : DriverState = driver_of new areas (record sides { deflate = d2.deflate }) in
+    let after : DriverState = driver_of new (areas_asked pages (driver_of g areas sides))
+    (record sides { deflate = d2.deflate }) in
     let there : Ties m2 p1 after new = record {
       parts = record {
         guest = ties.parts.guest;

@@ -10,7 +10,8 @@ use Rattle.vb_model.specs.declared.places.Place.TheVariants.{Reserved, Free}
 use Rattle.vb_model.specs.Limits.{is_config, reserved_pages}
 use Rattle.vb_model.specs.Requests.{no_requests}
 use Rattle.vb_model.specs.Guest.{Config, fresh, no_statistics, zero_page}
-use Rattle.vb_model.specs.Orderly.{IsOrderly, AreOrderly, is_reserved}
+use Rattle.vb_model.specs.Orderly.{IsOrderly, AreOrderly}
+use Rattle.vb_model.specs.Pages.{is_reserved}
 use Rattle.vb_model.proofs.GuestSteps.{fresh_consistent}
 use Rattle.vb_model.proofs.OrderlySteps.{fresh_order}
 use Rattle.vb_model.proofs.Tables.{count_by-cons}
@@ -67,6 +68,7 @@ fresh_honest c wanted part fits device = record {
         places = refl;
         held = refl;
         accepted = refl;
+        told = refl;
       };
       device = record {
         size = device.size;

@@ -1,6 +1,6 @@
 -- A guest's inflate is a step of the definitions.
-use Rattle.std.specs.Prelude.{◌≡◌, ◌≢◌, ℕ, ◌+◌, ◌<◌, ◌≤◌, ◌==◌, true, false, nat_le, [], ◌∷◌, ◌++◌}
-use Rattle.std.specs.Prelude.{length, Result, Ok, Err, Option, Some, None, IsSome, is_some, refl}
+use Rattle.std.specs.Prelude.{◌≡◌, ◌≢◌, ℕ, ◌+◌, ◌<◌, ◌≤◌, ◌==◌, ◌&&◌, Bool, true, false, not, nat_le}
+use Rattle.std.specs.Prelude.{nat_lt, [], ◌∷◌, ◌++◌, length, Result, Ok, Err, Option, Some, None, IsSome, is_some, refl}
 use Rattle.std.specs.Prelude.{◌⊎◌}
 use Rattle.std.proofs.Common.{sym, ◌∙◌, ap, subst, arith, inl, inr}
 use Rattle.std.proofs.lemmas.Bool.Decides.{nat_tests}
@@ -8,10 +8,11 @@ use Rattle.std.proofs.lemmas.List.{length-append}
 use Rattle.vb_model.specs.declared.calls.Call.TheVariants.{Inflate}
 use Rattle.vb_model.specs.declared.replies.Refusal.{Refusal}
 use Rattle.vb_model.specs.declared.replies.Refusal.TheVariants.{NotReady, QueueFull, Nothing}
+use Rattle.vb_model.specs.declared.replies.Refusal.TheVariants.{DeflatePending}
 use Rattle.vb_model.specs.declared.replies.Reply.TheVariants.{Posted}
 use Rattle.vb_model.specs.Layout.{ring_page, buffers_page, buffer_page}
 use Rattle.vb_model.specs.Requests.{outstanding, Inflating}
-use Rattle.vb_model.specs.Guest.{Guest}
+use Rattle.vb_model.specs.Guest.{Guest, tells_host}
 use Rattle.vb_model.specs.Driver.{stranded_first, asking}
 use Rattle.vb_model.specs.Refusals.{◌⇒◌, first_refusal, refusal_of, inflate_count, room}
 use Rattle.vb_model.proofs.OrderlySteps.{honest_order}
@@ -40,6 +41,12 @@ abbrev pub request_refusal : ℕ → ℕ → ℕ → Option Refusal
 request_refusal most out count =
     first_refusal ((nat_le most out ⇒ QueueFull) ∷ ((count == 0) ⇒ Nothing) ∷ [])
 
+-- an offer for a deflate that is on its way, too
+abbrev offer_refusal : Bool → ℕ → ℕ → ℕ → ℕ → Option Refusal
+offer_refusal told pending most out count =
+    first_refusal ((nat_le most out ⇒ QueueFull)
+    ∷ ((not told && nat_lt 0 pending) ⇒ DeflatePending) ∷ ((count == 0) ⇒ Nothing) ∷ [])
+
 -- what a post leaves of memory
 pub posted_same : (m1 m2 : Pages) (ring base head : ℕ) → ring < 16 → base ≤ 8 → head < 16
     → SameButBuffer m1 m2 ring base head → SamePages m1 m2
@@ -65,21 +72,25 @@ idle_tests d p n down =
 
 running_refusal : (g : Guest) (n : ℕ) → g.status ≡ 15
     → refusal_of g (Inflate n)
-    ≡ request_refusal (room g) (outstanding g.inflate) (inflate_count g n)
+    ≡ offer_refusal (tells_host g) (outstanding g.deflate) (room g) (outstanding g.inflate)
+    (inflate_count g n)
 running_refusal g n e =
     let P : ℕ → Type 0 = λ s. refusal_of (record g { status = s }) (Inflate n)
-    ≡ request_refusal (room g) (outstanding g.inflate) (inflate_count g n) in
+    ≡ offer_refusal (tells_host g) (outstanding g.deflate) (room g) (outstanding g.inflate)
+    (inflate_count g n) in
     subst P (sym e) refl
 
 running_tests : (g : Guest) (areas : FreePages) (sides : Sides) (p : Part) (n : ℕ) → p.status ≡ 15
     → p.target ≡ g.target
     → first_refusal (inflate_tests (driver_of g areas sides) p n)
-    ≡ request_refusal (room g) (outstanding_in sides.inflate.ring) (inflate_count g n)
+    ≡ offer_refusal (tells_host g) (outstanding_in sides.deflate.ring) (room g)
+    (outstanding_in sides.inflate.ring) (inflate_count g n)
 running_tests g areas sides p n e t =
     let P : ℕ → ℕ → Type 0 =
     λ s target. first_refusal
     (inflate_tests (driver_of g areas sides) (record p { status = s; target = target }) n)
-    ≡ request_refusal (room g) (outstanding_in sides.inflate.ring) (inflate_count g n) in
+    ≡ offer_refusal (tells_host g) (outstanding_in sides.deflate.ring) (room g)
+    (outstanding_in sides.inflate.ring) (inflate_count g n) in
     subst (λ s. P s p.target) (sym e) (subst (λ x. P 15 x) (sym t) refl)
 
 -- the queue on the other side of a post is as before
@@ -158,9 +169,25 @@ inflate_offered m1 m2 p1 p2 g areas sides d2 n posted driver did stands run free
     (subst (λ d. Ties m2 p2 d new) (sym did.state)
     (subst (λ p. Ties m2 p after new) (sym did.part) there)) refl
 
-none_room : (most out count : ℕ) → request_refusal most out count ≡ None
-    → (out < most) × (0 < count)
-none_room most out count e = (grind (arith, nat_tests), grind (arith, nat_tests))
+none_room : (told : Bool) (pending most out count : ℕ)
+    → offer_refusal told pending most out count ≡ None → (out < most) × (0 < count)
+none_room told pending most out count e =
+    let parts = by (nat_le most out) (not told && nat_lt 0 pending) (count == 0) e in
+    (room_left parts.0, some_left parts.1)
+  where
+    by : (full waits none : Bool)
+        → first_refusal ((full ⇒ QueueFull) ∷ (waits ⇒ DeflatePending) ∷ (none ⇒ Nothing) ∷ [])
+        ≡ None → (full ≡ false) × (none ≡ false)
+    by false false false e = (refl, refl)
+    by true waits none e = absurd cc
+    by false true none e = absurd cc
+    by false false true e = absurd cc
+
+    room_left : nat_le most out ≡ false → out < most
+    room_left e = grind (arith, nat_tests)
+
+    some_left : (count == 0) ≡ false → 0 < count
+    some_left e = grind (arith, nat_tests)
 
 by_result : (m1 m2 : Pages) (p1 p2 : Part) (g : Guest) (areas : FreePages) (sides : Sides)
     (d2 : DriverState) (n : ℕ) (result : Result PostedRequest Refusal)
@@ -176,7 +203,8 @@ by_result m1 m2 p1 p2 g areas sides d2 n (Ok posted) did stands same =
     elim stands.ties.queues [
       | inl idle ↦ absurd (let down = idle_refused g n idle.state in cc)
       | inr run ↦
-          let room_left = none_room (room g) (outstanding g.inflate) (inflate_count g n)
+          let room_left = none_room (tells_host g) (outstanding g.deflate) (room g)
+          (outstanding g.inflate) (inflate_count g n)
           (sym (running_refusal g n run.state) ∙ free) in
           let O : ℕ → Type 0 = λ t. Offers m1 m2 p1 p2 (driver_of g areas sides) d2
           (driver_count (driver_of g areas sides) t n) posted in
@@ -204,8 +232,12 @@ inflate_step m1 m2 p1 p2 d1 d2 g n result did stands =
       | inr run ↦
           running_tests g areas sides p1 n (here.ties.parts.device.status ∙ run.state)
           here.ties.parts.device.target
-          ∙ ap (λ (k : ℕ). request_refusal (room g) k (inflate_count g n))
+          ∙ ap (λ (k : ℕ). offer_refusal (tells_host g) (outstanding_in sides.deflate.ring)
+          (room g) k (inflate_count g n))
           (outstanding_are m1 0 sides.inflate.ring p1.inflate g.inflate run.inflate.ring)
+          ∙ ap (λ (k : ℕ). offer_refusal (tells_host g) k (room g) (outstanding g.inflate)
+          (inflate_count g n))
+          (outstanding_are m1 1 sides.deflate.ring p1.deflate g.deflate run.deflate.ring)
           ∙ sym (running_refusal g n run.state)
     ] in
     by_result m1 m2 p1 p2 g areas sides d2 n result

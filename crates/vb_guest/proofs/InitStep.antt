@@ -10,12 +10,12 @@ use Rattle.vb_model.specs.declared.calls.Call.TheVariants.{Init}
 use Rattle.vb_model.specs.declared.calls.Claim.{Claim}
 use Rattle.vb_model.specs.declared.replies.Refusal.{Refusal}
 use Rattle.vb_model.specs.declared.replies.Refusal.TheVariants.{AlreadyUp, NoFrame}
-use Rattle.vb_model.specs.declared.replies.Refusal.TheVariants.{FeatureNotOffered, MustTellMissing}
+use Rattle.vb_model.specs.declared.replies.Refusal.TheVariants.{FeatureNotOffered}
 use Rattle.vb_model.specs.declared.replies.Refusal.TheVariants.{VersionMissing}
 use Rattle.vb_model.specs.declared.replies.Reply.{Reply}
 use Rattle.vb_model.specs.declared.replies.Reply.TheVariants.{Ready, Refused}
 use Rattle.vb_model.specs.Tests.{is_in}
-use Rattle.vb_model.specs.Guest.{Guest, frame_of, all_backed, must_tell_host, version_1}
+use Rattle.vb_model.specs.Guest.{Guest, frame_of, all_backed, version_1}
 use Rattle.vb_model.specs.Guest.{offered_features, stats_vq}
 use Rattle.vb_model.specs.Status.{contains}
 use Rattle.vb_model.specs.Refusals.{◌⇒◌, first_refusal, refusal_of}
@@ -167,19 +167,16 @@ init_unsupplied Answers out1 out2 l m1 m2 p1 p2 d g wanted why refusal is new di
 
 -- these features are refused for themselves
 refused_feature : (wanted : ℕ) (why : Refusal) → feature_refusal wanted ≡ Some why
-    → (why ≡ FeatureNotOffered) ⊎ ((why ≡ MustTellMissing) ⊎ (why ≡ VersionMissing))
+    → (why ≡ FeatureNotOffered) ⊎ (why ≡ VersionMissing)
 refused_feature wanted why e =
-    step (not (contains offered_features wanted)) (not (must_tell_host wanted))
-    (not (version_1 wanted)) e
+    step (not (contains offered_features wanted)) (not (version_1 wanted)) e
   where
-    step : (a b c : Bool)
-        → (if a then Some FeatureNotOffered
-        else (if b then Some MustTellMissing else (if c then Some VersionMissing else None)))
-        ≡ Some why → (why ≡ FeatureNotOffered) ⊎ ((why ≡ MustTellMissing) ⊎ (why ≡ VersionMissing))
-    step true b c k = inl cc
-    step false true c k = inr (inl cc)
-    step false false true k = inr (inr cc)
-    step false false false k = absurd cc
+    step : (a b : Bool)
+        → (if a then Some FeatureNotOffered else (if b then Some VersionMissing else None))
+        ≡ Some why → (why ≡ FeatureNotOffered) ⊎ (why ≡ VersionMissing)
+    step true b k = inl cc
+    step false true k = inr cc
+    step false false k = absurd cc
 
 pub given_up : (m1 m2 : Pages) (p1 p2 : Part) (d1 d2 : DriverState) (wanted : ℕ) (why : Refusal)
     → feature_refusal wanted ≡ Some why → InitRefused why m1 m2 p1 p2 d1 d2 wanted
@@ -189,10 +186,7 @@ given_up m1 m2 p1 p2 d1 d2 wanted why e did =
     → GivesUp m1 m2 p1 p2 d1 d2 (accepted_before r wanted) in
     elim (refused_feature wanted why e) [
       | inl is ↦ subst P (sym is) (λ h. h) did
-      | inr other ↦ elim other [
-        | inl is ↦ subst P (sym is) (λ h. h) did
-        | inr is ↦ subst P (sym is) (λ h. h) did
-      ]
+      | inr is ↦ subst P (sym is) (λ h. h) did
     ]
 
 pub driver_tests : (m : Pages) (p : Part) (wanted : ℕ) → p.status ≡ 0 → has_frames m ≡ true

@@ -28,6 +28,7 @@ pub mod SweepStep
 pub mod WorkStep
 pub mod Claimed
 pub mod ReadStep
+pub mod Named
 pub mod Normal
 pub mod AllocStep
 pub mod FreeStep

@@ -39,6 +39,7 @@ driver_of g areas sides =
       statistics = sides.statistics;
       report = sides.report;
       features = g.features;
+      actual = g.actual;
     }
 
 pub driver_is : (p : Part) (d : DriverState) (g : Guest)
@@ -72,12 +73,21 @@ driver_is p d g has =
       places = g.places;
       held = g.held;
       features = x;
+    }) has.driver.accepted
+    ∙ ap (λ x. record d {
+      pages = g.config.pages;
+      queue_size = g.config.queue_size;
+      processors = g.config.processors;
+      places = g.places;
+      held = g.held;
+      features = g.features;
+      actual = x;
     })
-    has.driver.accepted
+    has.driver.told
 
 -- such a driver keeps what is the guest's
 pub keeps_own : (g : Guest) (areas : FreePages) (sides : Sides)
-    → DriverKeeps (driver_of g areas sides) g.config g.places g.held g.features
+    → DriverKeeps (driver_of g areas sides) g.config g.places g.held g.features g.actual
 keeps_own g areas sides = record {
   pages = refl;
   queue_size = refl;
@@ -85,4 +95,5 @@ keeps_own g areas sides = record {
   places = refl;
   held = refl;
   accepted = refl;
+  told = refl;
 }

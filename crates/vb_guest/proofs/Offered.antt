@@ -18,7 +18,8 @@ use Rattle.vb_model.specs.Driver.{AllFreePages, stranded_first, lowest_lent}
 use Rattle.vb_model.proofs.PageSteps.{can_be_given}
 use Rattle.vb_model.proofs.CallSteps.{inflated_pages, lent_pages}
 use Rattle.vb_model.proofs.Distinct.{distinct_once}
-use Rattle.vb_model.specs.Orderly.{IsOrderly, is_reserved, times, IsRequestSound, AllRequestsSound}
+use Rattle.vb_model.specs.Orderly.{IsOrderly, times, IsRequestSound, AllRequestsSound}
+use Rattle.vb_model.specs.Pages.{is_reserved}
 use Rattle.vb_guest.specs.Line.{AreRequested}
 
 -- a page that isn't at a reserved place is there, and above the reserved ones

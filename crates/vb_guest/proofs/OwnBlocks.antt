@@ -19,7 +19,8 @@ use Rattle.vb_model.specs.Pages.{is_maximal, blocks_at, blocks_below, maximal_bl
 use Rattle.vb_model.specs.Pages.{maximal_free_blocks}
 use Rattle.vb_model.specs.Guest.{Guest}
 use Rattle.vb_model.specs.Refusals.{reported_blocks, room}
-use Rattle.vb_model.specs.Orderly.{IsOrderly, is_reserved}
+use Rattle.vb_model.specs.Orderly.{IsOrderly}
+use Rattle.vb_model.specs.Pages.{is_reserved}
 use Rattle.vb_model.proofs.CallSteps.{reported_pages}
 use Rattle.vb_driver.proofs.Runs.{in_range}
 use Rattle.vb_guest.specs.Reported.{IsOwnBlock}

@@ -1,5 +1,5 @@
 -- A guest's reap of a report is a step of the definitions.
-use Rattle.std.specs.Prelude.{◌≡◌, ℕ, List, [], ◌∷◌, length, Result, Ok}
+use Rattle.std.specs.Prelude.{◌≡◌, ℕ, ◌+◌, List, [], ◌∷◌, length, Result, Ok}
 use Rattle.std.specs.Prelude.{Option, Some, None, slice_get, count_by, refl}
 use Rattle.std.proofs.Common.{sym, ◌∙◌, ap, subst, arith, inr}
 use Rattle.vb_model.specs.declared.calls.Call.TheVariants.{Reap}
@@ -7,8 +7,8 @@ use Rattle.vb_model.specs.declared.places.Place.{Place}
 use Rattle.vb_model.specs.declared.places.Place.TheVariants.{Free}
 use Rattle.vb_model.specs.declared.replies.Refusal.{Refusal}
 use Rattle.vb_model.specs.declared.replies.Reply.TheVariants.{NotUsed, Reaped}
-use Rattle.vb_model.specs.Pages.{placed, pages_of_all, is_lent_or_taking}
-use Rattle.vb_model.specs.Requests.{Request, Reporting_free}
+use Rattle.vb_model.specs.Pages.{placed, pages_of_all, is_lent}
+use Rattle.vb_model.specs.Requests.{Request, all_requests, pages_named, Reporting_free}
 use Rattle.vb_model.specs.Guest.{Guest}
 use Rattle.vb_model.specs.Driver.{reaped, Reaps}
 use Rattle.vb_model.specs.Refusals.{refusal_of}
@@ -17,15 +17,16 @@ use Rattle.vb_ram.specs.Part.{Part}
 use Rattle.vb_ring.specs.Ends.{used_answer, after_take}
 use Rattle.vb_ring.specs.Calls.{TakesUsedBy}
 use Rattle.vb_driver.specs.declared.answers.Reaped.{Reaped as ReapedRequest}
-use Rattle.vb_driver.specs.State.{DriverState}
+use Rattle.vb_driver.specs.State.{DriverState, pages_named as pages_sent}
 use Rattle.vb_driver.specs.Areas.{areas_with}
-use Rattle.vb_driver.specs.Calls.{ReapsBy, next_of}
+use Rattle.vb_driver.specs.Calls.{ReapsBy, next_of, with_actual}
 use Rattle.vb_guest.specs.Line.{heads_of}
 use Rattle.vb_guest.specs.Reported.{ReportLine, IsReport}
 use Rattle.vb_guest.specs.Stands.{Honest, Ties, IsRunning}
 use Rattle.vb_guest.specs.Steps.{StepsAlone}
 use Rattle.vb_guest.specs.Replies.{reaped_reply}
 use Rattle.vb_guest.proofs.ReportLines.{report_reaped}
+use Rattle.vb_guest.proofs.Named.{line_named}
 use Rattle.vb_guest.proofs.Reaping.{used_line}
 use Rattle.vb_guest.proofs.ReapRefusing.{reap_by}
 use Rattle.vb_guest.proofs.Closing.{honest_performed, steps_alone, ties_same}
@@ -67,15 +68,19 @@ report_reap m1 m2 p1 p2 d1 d2 g (r ∷ rest) (Some x) is next did answer stands 
       areas = areas_with (pages_of_all blocks) d1.areas;
       report = record { ring = after_take d1.report.ring (Ok (Some h)); blocks = [] };
     } in
-    let after : DriverState = left r.head in
-    let state : d2 ≡ after = did.reaps.state ∙ ap left same in
+    let after : DriverState = with_actual (left r.head) in
+    let state : d2 ≡ after = did.reaps.state ∙ ap (λ (h : ℕ). with_actual (left h)) same in
+    let named : pages_sent d1.deflate ≡ pages_named (all_requests g.deflate) =
+    line_named m1 1 n d1.deflate p1.deflate g.deflate run.deflate did.driver.deflate.requests in
     let places : after.places ≡ new.places =
     ap (placed (pages_of_all blocks) Free) ties.parts.driver.places
     ∙ ap (λ (l : List ℕ). placed l Free g.places) (sym request.names) in
+    let told : after.actual ≡ new.actual =
+    ap (λ (l : List Place). count_by is_lent l + pages_sent d1.deflate) places
+    ∙ ap (λ (k : ℕ). count_by is_lent new.places + k) named in
     let part : p2 ≡ record p1 { actual = new.actual } =
-    did.reaps.part ∙ ap (λ (d : DriverState). record p1
-    { actual = count_by is_lent_or_taking d.places }) state
-    ∙ ap (λ (l : List Place). record p1 { actual = count_by is_lent_or_taking l }) places in
+    did.reaps.part ∙ ap (λ (d : DriverState). record p1 { actual = d.actual }) state
+    ∙ ap (λ (k : ℕ). record p1 { actual = k }) told in
     let K : DriverState → Type 0 =
     λ d. TakesUsedBy m1 d1.report.ring d.report.ring (used_answer m1 d1.report.ring) in
     let taken : TakesUsedBy m1 d1.report.ring after.report.ring (Ok (Some r.head)) =
@@ -92,6 +97,7 @@ report_reap m1 m2 p1 p2 d1 d2 g (r ∷ rest) (Some x) is next did answer stands 
           places = places;
           held = ties.parts.driver.held;
           accepted = ties.parts.driver.accepted;
+          told = told;
         };
         device = record {
           size = ties.parts.device.size;

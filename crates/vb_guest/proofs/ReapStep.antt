@@ -1,15 +1,17 @@
 -- A guest's reap is a step of the definitions.
 use Rattle.std.specs.Prelude.{◌≡◌, ℕ}
 use Rattle.std.specs.Prelude.{List, [], ◌∷◌, length, Result, Ok, Option, Some, None}
-use Rattle.std.specs.Prelude.{count_by, refl}
+use Rattle.std.specs.Prelude.{◌+◌, count_by, if◌then◌else◌, refl}
 use Rattle.std.proofs.Common.{sym, ◌∙◌, ap, subst, arith, inl, inr}
 use Rattle.vb_model.specs.declared.calls.Call.TheVariants.{Reap}
-use Rattle.vb_model.specs.declared.places.Place.TheVariants.{Lent, Free}
+use Rattle.vb_model.specs.declared.places.Place.TheVariants.{Lent}
 use Rattle.vb_model.specs.declared.replies.Refusal.{Refusal}
 use Rattle.vb_model.specs.declared.replies.Reply.TheVariants.{NotUsed, Reaped}
-use Rattle.vb_model.specs.Pages.{placed, is_lent_or_taking}
-use Rattle.vb_model.specs.Requests.{Request, Inflating, Deflating}
-use Rattle.vb_model.specs.Guest.{Guest}
+use Rattle.vb_model.specs.declared.places.Place.{Place}
+use Rattle.vb_model.specs.Pages.{placed, is_lent}
+use Rattle.vb_model.specs.Requests.{Request, all_requests, pages_named, Inflating, Deflating}
+use Rattle.vb_model.specs.Requests.{places_reaped}
+use Rattle.vb_model.specs.Guest.{Guest, tells_host}
 use Rattle.vb_model.specs.Driver.{reaped, Reaps}
 use Rattle.vb_model.specs.Refusals.{refusal_of}
 use Rattle.vb_ram.specs.Pages.{Pages}
@@ -17,9 +19,11 @@ use Rattle.vb_ram.specs.Part.{Part}
 use Rattle.vb_ring.specs.Ends.{used_answer}
 use Rattle.vb_ring.specs.Calls.{TakesUsedBy}
 use Rattle.vb_driver.specs.declared.answers.Reaped.{Reaped as ReapedRequest}
-use Rattle.vb_driver.specs.State.{FreePages, DriverState, sent_by, page_state}
+use Rattle.vb_driver.specs.State.{FreePages, Side, DriverState, sent_by, page_state}
+use Rattle.vb_driver.specs.State.{pages_named as pages_sent}
 use Rattle.vb_driver.specs.Areas.{all_given}
-use Rattle.vb_driver.specs.Calls.{ReapsBy, after_reap, next_of}
+use Rattle.vb_driver.specs.Calls.{ReapsBy, after_reap, next_of, with_actual}
+use Rattle.vb_driver.proofs.RequestTables.{requests_taken}
 use Rattle.vb_guest.specs.Line.{Line, IsRequest}
 use Rattle.vb_guest.specs.Stands.{Honest, Ties, IsRunning}
 use Rattle.vb_guest.specs.Steps.{StepsAlone}
@@ -30,6 +34,7 @@ use Rattle.vb_guest.proofs.ReapReportStep.{reap_report}
 use Rattle.vb_model.proofs.Queues.{queue_cases, no_requests_at}
 use Rattle.vb_guest.proofs.Closing.{honest_performed, steps_alone}
 use Rattle.vb_guest.proofs.Closing.{ties_same}
+use Rattle.vb_guest.proofs.Named.{line_named}
 use Rattle.vb_guest.proofs.Normal.{Sides, sides_of, driver_of, driver_is, keeps_own}
 
 -- ---- queue 0
@@ -72,15 +77,19 @@ inflate_reaped m1 m2 p1 p2 g areas sides d2 (r ∷ rest) (Some x) is next did an
     (refl, subst T (sym is) (reply, refl)) in
     let after : DriverState =
     driver_of new areas (record sides { inflate = after_reap sides.inflate r.head }) in
+    let named : pages_sent sides.deflate ≡ pages_named (all_requests g.deflate) =
+    line_named m1 1 n sides.deflate p1.deflate g.deflate run.deflate did.driver.deflate.requests in
     let state : d2 ≡ after =
-    did.reaps.state ∙ ap (λ (h : ℕ). driver_of
+    did.reaps.state ∙ ap (λ (h : ℕ). with_actual (driver_of
     (record g { places = placed (sent_by sides.inflate h) Lent g.places }) areas
-    (record sides { inflate = after_reap sides.inflate h })) same
-    ∙ ap (λ (l : List ℕ). driver_of (record g { places = placed l Lent g.places }) areas
-    (record sides { inflate = after_reap sides.inflate r.head })) request.remembered in
+    (record sides { inflate = after_reap sides.inflate h }))) same
+    ∙ ap (λ (l : List ℕ). with_actual (driver_of (record g { places = placed l Lent g.places }) areas
+    (record sides { inflate = after_reap sides.inflate r.head }))) request.remembered
+    ∙ ap (λ (k : ℕ). driver_of (record new
+    { actual = count_by is_lent (placed r.pages Lent g.places) + k }) areas
+    (record sides { inflate = after_reap sides.inflate r.head })) named in
     let part : p2 ≡ record p1 { actual = new.actual } =
-    did.reaps.part ∙ ap (λ (d : DriverState). record p1
-    { actual = count_by is_lent_or_taking d.places }) state in
+    did.reaps.part ∙ ap (λ (d : DriverState). record p1 { actual = d.actual }) state in
     let K : DriverState → Type 0 =
     λ d. TakesUsedBy m1 sides.inflate.ring d.inflate.ring (used_answer m1 sides.inflate.ring) in
     let taken : TakesUsedBy m1 sides.inflate.ring (after_reap sides.inflate r.head).ring
@@ -174,26 +183,31 @@ deflate_reaped m1 m2 p1 p2 g areas sides d2 (r ∷ rest) (Some x) is next did an
     let step = honest_performed g (Reap 1) [] (Reaped x.head x.pages) new free
     (refl, subst T (sym is) (reply, refl)) in
     let given : List ℕ → FreePages =
-    λ l. (all_given l (page_state (driver_of g areas sides))).free in
-    let after : DriverState = driver_of new (given r.pages)
-    (record sides { deflate = after_reap sides.deflate r.head }) in
-    let state : d2 ≡ after =
-    did.reaps.state ∙ ap (λ (h : ℕ). driver_of
-    (record g { places = placed (sent_by sides.deflate h) Free g.places })
-    (given (sent_by sides.deflate h)) (record sides { deflate = after_reap sides.deflate h })) same
-    ∙ ap (λ (l : List ℕ). driver_of (record g { places = placed l Free g.places }) (given l)
-    (record sides { deflate = after_reap sides.deflate r.head })) request.remembered in
-    let part : p2 ≡ record p1 { actual = new.actual } =
-    did.reaps.part ∙ ap (λ (d : DriverState). record p1
-    { actual = count_by is_lent_or_taking d.places }) state in
-    let K : DriverState → Type 0 =
-    λ d. TakesUsedBy m1 sides.deflate.ring d.deflate.ring (used_answer m1 sides.deflate.ring) in
-    let taken : TakesUsedBy m1 sides.deflate.ring (after_reap sides.deflate r.head).ring
-    (Ok (Some r.head)) =
-    subst (λ a. TakesUsedBy m1 sides.deflate.ring (after_reap sides.deflate r.head).ring a) answer
-    (subst K state did.ring) in
+    λ l. if tells_host g then (all_given l (page_state (driver_of g areas sides))).free else areas in
+    let moved : List ℕ → List Place = λ l. places_reaped (tells_host g) Deflating l g.places in
+    let side : Side = after_reap sides.deflate r.head in
+    let after : DriverState = driver_of new (given r.pages) (record sides { deflate = side }) in
+    let K : Side → Type 0 =
+    λ e. TakesUsedBy m1 sides.deflate.ring e.ring (used_answer m1 sides.deflate.ring) in
+    let at : ℕ → DriverState = λ h. driver_of (record g { places = moved (sent_by sides.deflate h) })
+    (given (sent_by sides.deflate h)) (record sides { deflate = after_reap sides.deflate h }) in
+    let first : d2 ≡ with_actual (at r.head) =
+    did.reaps.state ∙ ap (λ (h : ℕ). with_actual (at h)) same in
+    let taken : TakesUsedBy m1 sides.deflate.ring side.ring (Ok (Some r.head)) =
+    subst (λ a. TakesUsedBy m1 sides.deflate.ring side.ring a) answer
+    (subst K (ap (λ (d : DriverState). d.deflate) first) did.ring) in
     let reap = line_reaped m1 1 n sides.deflate p1.deflate g.deflate.posted g.deflate.taken r rest
     line taken in
+    let named : pages_sent side ≡ pages_named (all_requests new.deflate) =
+    line_named m1 1 n side p1.deflate new.deflate reap
+    (requests_taken sides.deflate.ring sides.deflate.sent r.head did.driver.deflate.requests) in
+    let state : d2 ≡ after =
+    first ∙ ap (λ (l : List ℕ). with_actual (driver_of (record g { places = moved l }) (given l)
+    (record sides { deflate = side }))) request.remembered
+    ∙ ap (λ (k : ℕ). driver_of (record new { actual = count_by is_lent (moved r.pages) + k })
+    (given r.pages) (record sides { deflate = side })) named in
+    let part : p2 ≡ record p1 { actual = new.actual } =
+    did.reaps.part ∙ ap (λ (d : DriverState). record p1 { actual = d.actual }) state in
     let there : Ties m1 (record p1 { actual = new.actual }) after new = record {
       parts = record {
         guest = ties.parts.guest;

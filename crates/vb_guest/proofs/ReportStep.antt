@@ -187,6 +187,7 @@ report_out m1 m2 p1 p2 d1 d2 g from posted did stands run free none some =
           places = ap (placed pages Reporting) ties.parts.driver.places;
           held = ties.parts.driver.held;
           accepted = ties.parts.driver.accepted;
+          told = ties.parts.driver.told;
         };
         device = ties.parts.device;
       };

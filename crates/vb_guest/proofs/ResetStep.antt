@@ -33,6 +33,7 @@ reset_step m1 m2 p1 p2 d1 d2 g did stands =
       statistics = fresh_statistics d1.queue_size;
       report = fresh_report d1.queue_size;
       features = 0;
+      actual = 0;
     } in
     let size : length p1.ballooned ≡ g.config.pages =
     ap (λ (l : List Bool). length l) parts.device.ballooned ∙ stands.consistent.flagged in
@@ -49,6 +50,7 @@ reset_step m1 m2 p1 p2 d1 d2 g did stands =
           places = ap (λ (l : List Place). map place_after_reset l) parts.driver.places;
           held = parts.driver.held;
           accepted = refl;
+          told = refl;
         };
         device = record {
           size = parts.device.size;

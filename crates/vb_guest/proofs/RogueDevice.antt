@@ -16,14 +16,14 @@ use Rattle.vb_model.specs.declared.layout.TheConstants.{STATISTICS_QUEUE, REPORT
 use Rattle.vb_model.specs.declared.replies.Refusal.{Refusal}
 use Rattle.vb_model.specs.declared.replies.Refusal.TheVariants.{NoQueue, NotReady, NeedsReset}
 use Rattle.vb_model.specs.declared.replies.Refusal.TheVariants.{Broken, Busy, NotTaken, NotWorked}
-use Rattle.vb_model.specs.declared.replies.Refusal.TheVariants.{NotBallooned}
+use Rattle.vb_model.specs.declared.replies.Refusal.TheVariants.{NoFeature, NotBallooned}
 use Rattle.vb_model.specs.declared.replies.Reply.{Reply}
 use Rattle.vb_model.specs.declared.replies.Reply.TheVariants.{Refused, Done}
 use Rattle.vb_model.specs.FirstRefusal.{◌⇒◌, first_refusal}
 use Rattle.vb_model.specs.Limits.{page_size, reserved_pages}
 use Rattle.vb_model.specs.Layout.{ring_page}
 use Rattle.vb_model.specs.Requests.{Request}
-use Rattle.vb_model.specs.Guest.{Guest, is_ballooned, frame_of}
+use Rattle.vb_model.specs.Guest.{Guest, is_ballooned, frame_of, must_tell_host}
 use Rattle.vb_model.specs.Device.{next_page, visiting}
 use Rattle.vb_model.specs.Orderly.{times}
 use Rattle.vb_model.specs.Status.{contains, driver_ok, failed, needs_reset}
@@ -234,7 +234,7 @@ take_rogue m1 m2 p1 p2 d g q result did rogue =
         }) refl (λ page. refl) (ap (λ (p : Part). p.target) part) refl
         (λ page offset bytes e. cc) refl
         (left_by (Take q) (Broken rule) [] g (rogue_after g g.frames p2 d)
-        (rogue_same m1 p1 p2 d d g g.frames rogue refl (ap said part)
+        (rogue_same m1 p1 p2 d d g g.frames rogue refl refl (ap said part)
         ∙ ap (λ (n : ℕ). record g { status = n })
         (ap (λ (p : Part). p.status) part ∙ ap (λ (n : ℕ). bit_or n needs_reset) rogue.status)))
     by (Err why) means = rogue_alone m1 m1 p1 p2 d d g (Take q) _ rogue
@@ -244,7 +244,7 @@ take_rogue m1 m2 p1 p2 d g q result did rogue =
         (length (queue_part q p1).taken)) why refl means.0)
         (λ page offset bytes e. cc) refl
         (left_same m1 p1 p2 d d g (Take q) why (take_tests q p1.status p1.features
-        (length (queue_part q p1).taken)) rogue refl means.1 (sym means.0) refl refl)
+        (length (queue_part q p1).taken)) rogue refl refl means.1 (sym means.0) refl refl)
 
 -- ---- pages lose their frames
 
@@ -476,19 +476,21 @@ work_rogue m1 m2 p1 p2 d g result did rogue = by (work_refusal p1) refl
         subst Done (sym answer) (none_freed m1 m2 p1 p2 d g Work _ memory part refl
         (refused_otherwise (work_tests p1.status) why refl e)
         (λ page offset bytes x. cc) refl
-        (left_same m1 p1 p2 d d g Work why (work_tests p1.status) rogue refl part (sym e) refl refl)
+        (left_same m1 p1 p2 d d g Work why (work_tests p1.status) rogue refl refl part (sym e) refl refl)
         rogue)
     by None e = visits e (next_visit INFLATE_QUEUE p1) refl
 
 -- ---- sweep
 
-sweeps_up : (a b c : Bool)
-    → first_refusal ((a ⇒ NotReady) ∷ (b ⇒ NeedsReset) ∷ (not c ⇒ NotBallooned) ∷ []) ≡ None
+sweeps_up : (a b told c : Bool)
+    → first_refusal ((a ⇒ NotReady) ∷ (b ⇒ NeedsReset) ∷ (not told ⇒ NoFeature)
+    ∷ (not c ⇒ NotBallooned) ∷ []) ≡ None
     → (a ≡ false) × (c ≡ true)
-sweeps_up true b c e = absurd cc
-sweeps_up false true c e = absurd cc
-sweeps_up false false true e = (refl, refl)
-sweeps_up false false false e = absurd cc
+sweeps_up true b told c e = absurd cc
+sweeps_up false true told c e = absurd cc
+sweeps_up false false false c e = absurd cc
+sweeps_up false false true true e = (refl, refl)
+sweeps_up false false true false e = absurd cc
 
 -- a ballooned page is one of the guest's, and not reserved
 ballooned_own : (m : Pages) (p : Part) (d : DriverState) (g : Guest) (page : ℕ) → Rogue m p d g
@@ -524,14 +526,14 @@ sweep_rogue m1 m2 p1 p2 d g page result did rogue = by (sweep_refusal page p1) r
     by (Some why) e =
         let (answer, part, memory) = did.refused why e in
         subst Done (sym answer) (none_freed m1 m2 p1 p2 d g (Sweep page) _ memory part refl
-        (refused_otherwise (sweep_tests p1.status (is_ballooned p1.ballooned page)) why refl e)
+        (refused_otherwise (sweep_tests p1.status p1.features (is_ballooned p1.ballooned page)) why refl e)
         (λ page offset bytes x. cc) refl
         (left_same m1 p1 p2 d d g (Sweep page) why
-        (sweep_tests p1.status (is_ballooned p1.ballooned page)) rogue refl part (sym e) refl refl)
+        (sweep_tests p1.status p1.features (is_ballooned p1.ballooned page)) rogue refl refl part (sym e) refl refl)
         rogue)
     by None e =
         let (up, flag) = sweeps_up (is_not_ready p1.status) (has_fault p1.status)
-        (is_ballooned p1.ballooned page) e in
+        (must_tell_host p1.features) (is_ballooned p1.ballooned page) e in
         let one : Request = record { head = 0; pages = page ∷ []; visited = 0 } in
         let same : PartChanges (length m1) p1 p1 = record {
           device = device_alike p1 p1 refl;
@@ -732,7 +734,7 @@ finish_rogue m1 m2 p1 p2 d g q i result did rogue = by (finish_refusal q i p1) r
         (refused_otherwise (finish_tests q p1.status p1.paced (taken_at q i p1)) why refl e)
         (λ page offset bytes x. cc) refl
         (left_same m1 p1 p2 d d g (Finish q i) why
-        (finish_tests q p1.status p1.paced (taken_at q i p1)) rogue refl part (sym e) refl refl)
+        (finish_tests q p1.status p1.paced (taken_at q i p1)) rogue refl refl part (sym e) refl refl)
         rogue)
     by None e =
         let (r, at) = taken_request (is_queue_of_requests q) (is_not_ready p1.status)
@@ -778,7 +780,7 @@ ask_rogue m1 m2 p1 p2 d g result did rogue = by (ask_refusal p1) refl
         (is_some (taken_at STATISTICS_QUEUE 0 p1))) why refl e)
         (λ page offset bytes x. cc) refl
         (left_same m1 p1 p2 d d g Ask why (ask_tests p1.status
-        (is_some (taken_at STATISTICS_QUEUE 0 p1))) rogue refl part (sym e) refl refl))
+        (is_some (taken_at STATISTICS_QUEUE 0 p1))) rogue refl refl part (sym e) refl refl))
     by None e =
         let part = did.part e in
         let ready = ok_of (contains p1.status driver_ok) (contains p1.status failed)

@@ -25,7 +25,7 @@ use Rattle.vb_model.proofs.Wanting.{wants, none_wants, refused_otherwise, refuse
 use Rattle.vb_ram.specs.Pages.{Pages, frame_at}
 use Rattle.vb_ram.specs.Part.{Part}
 use Rattle.vb_ring.specs.Ends.{after_take}
-use Rattle.vb_driver.specs.State.{DriverState}
+use Rattle.vb_driver.specs.State.{DriverState, tells_host}
 use Rattle.vb_driver.specs.declared.answers.Posted.{Posted}
 use Rattle.vb_driver.specs.declared.answers.Reaped.{Reaped}
 use Rattle.vb_driver.specs.Answers.{alloc_tests, free_tests, inflate_tests, deflate_tests, oom_tests}
@@ -33,7 +33,9 @@ use Rattle.vb_driver.specs.Answers.{report_tests, reap_tests, stats_tests, is_ri
 use Rattle.vb_driver.specs.Calls.{AllocatesBy, FreesBy, InflatesBy, DeflatesBy, DeflatesOnOomBy}
 use Rattle.vb_driver.specs.Calls.{ReportsBy, FillsBy, ReapsBy, ResetsBy, Unchanged, AsksBack}
 use Rattle.vb_driver.specs.Calls.{after_refusal, after_reap, unreported, without_request, moved_on}
-use Rattle.vb_driver.specs.Calls.{place_reaped, ring_of}
+use Rattle.vb_driver.specs.Calls.{with_actual, ring_of}
+use Rattle.vb_model.specs.Requests.{Inflating, Deflating, Reporting_free, places_reaped}
+use Rattle.vb_model.proofs.GuestSteps.{length-reaped}
 use Rattle.vb_driver.proofs.Placing.{length-marked}
 use Rattle.vb_guest.specs.Stands.{Rogue}
 use Rattle.vb_guest.specs.Steps.{StepsAlone}
@@ -66,13 +68,13 @@ part_alone m1 m2 p1 p2 d1 d2 g call reply driver part count same still answer ot
 
 -- a refusal leaves the guest as it was
 pub left_same : (m : Pages) (p1 p2 : Part) (d1 d2 : DriverState) (g : Guest) (call : Call)
-    (why : Refusal) (tests : List Test) → Rogue m p1 d1 g → d2.places ≡ d1.places → p2 ≡ p1
-    → Some why ≡ first_refusal tests → list_all (λ t. keeps_status t.refusal) tests ≡ true
+    (why : Refusal) (tests : List Test) → Rogue m p1 d1 g → d2.places ≡ d1.places
+    → d2.actual ≡ d1.actual → p2 ≡ p1 → Some why ≡ first_refusal tests → list_all (λ t. keeps_status t.refusal) tests ≡ true
     → after_refused call why [] g ≡ with_fault why g
     → IsLeft call (Refused why) [] g (rogue_after g g.frames p2 d2)
-left_same m p1 p2 d1 d2 g call why tests rogue places part is keep plain =
+left_same m p1 p2 d1 d2 g call why tests rogue places told part is keep plain =
     left_by call why [] g (rogue_after g g.frames p2 d2)
-    (rogue_unchanged m p1 p2 d1 d2 g rogue places part
+    (rogue_unchanged m p1 p2 d1 d2 g rogue places told part
     ∙ sym (plain ∙ without_fault why g (refused_passes keeps_status tests why keep (sym is))))
 
 -- one that changes nothing
@@ -88,7 +90,8 @@ unchanged_alone m1 m2 p1 p2 d1 d2 g call why tests same still is wanted keep pla
     (λ page. ap (λ (m : Pages). frame_at m page) same.mem) still
     (not_for_want why tests is wanted) other none
     (left_same m1 p1 p2 d1 d2 g call why tests rogue
-    (ap (λ (d : DriverState). d.places) same.driver) same.part is keep plain) rogue
+    (ap (λ (d : DriverState). d.places) same.driver)
+    (ap (λ (d : DriverState). d.actual) same.driver) same.part is keep plain) rogue
 
 -- pages have changed their places
 moved : (d1 d2 : DriverState) (pages : List ℕ) (place : Place)
@@ -121,7 +124,8 @@ alloc_rogue m p d1 d2 g cpu order (Err why) did rogue =
     }) refl refl (λ page. refl) refl
     (not_for_want why (alloc_tests d1 cpu order) did.refusal refl) (λ page offset bytes e. cc) refl
     (left_same m p p d1 d2 g (Alloc cpu order) why (alloc_tests d1 cpu order) rogue
-    (ap (λ (d : DriverState). d.places) did.refused) refl did.refusal refl refl) rogue
+    (ap (λ (d : DriverState). d.places) did.refused)
+    (ap (λ (d : DriverState). d.actual) did.refused) refl did.refusal refl refl) rogue
 
 pub free_rogue : {T : Type 0} (m : Pages) (p : Part) (d1 d2 : DriverState) (g : Guest)
     (cpu start order : ℕ) (result : Result T Refusal) → FreesBy d1 d2 cpu start order result
@@ -139,7 +143,8 @@ free_rogue m p d1 d2 g cpu start order (Err why) did rogue =
     (not_for_want why (free_tests d1 cpu start order) did.refusal refl)
     (λ page offset bytes e. cc) refl
     (left_same m p p d1 d2 g (Free cpu start order) why (free_tests d1 cpu start order) rogue
-    (ap (λ (d : DriverState). d.places) did.refused) refl did.refusal refl refl) rogue
+    (ap (λ (d : DriverState). d.places) did.refused)
+    (ap (λ (d : DriverState). d.actual) did.refused) refl did.refusal refl refl) rogue
 
 -- ---- requests
 
@@ -200,6 +205,10 @@ unreported_places : (why : Refusal) (d : DriverState) → (unreported why d).pla
 unreported_places Nothing d = refl
 unreported_places _ d = refl
 
+unreported_actual : (why : Refusal) (d : DriverState) → (unreported why d).actual ≡ d.actual
+unreported_actual Nothing d = refl
+unreported_actual _ d = refl
+
 same_driver : (d1 d2 d3 : DriverState) → DriverSame d1 d2 → d3 ≡ d2 → DriverSame d1 d3
 same_driver d1 d2 d3 same e = subst (DriverSame d1) (sym e) same
 
@@ -223,7 +232,8 @@ report_rogue m1 m2 p1 p2 d1 d2 g from (Err why) did rogue =
     (λ page. ap (λ (m : Pages). frame_at m page) same.mem) refl
     (not_for_want why (report_tests d1 p1 from) did.refusal refl) (λ page offset bytes e. cc) refl
     (left_same m1 p1 p2 d1 d2 g (Report from) why (report_tests d1 p1 from) rogue
-    (ap (λ (d : DriverState). d.places) same.driver ∙ unreported_places why d1) same.part did.refusal
+    (ap (λ (d : DriverState). d.places) same.driver ∙ unreported_places why d1)
+    (ap (λ (d : DriverState). d.actual) same.driver ∙ unreported_actual why d1) same.part did.refusal
     refl refl) rogue
 
 -- ---- used requests
@@ -252,10 +262,10 @@ failed_left : (why : Refusal) (m : Pages) (p1 p2 : Part) (d : DriverState) (g : 
     → rogue_after g g.frames p2 d ≡ with_fault why g
 failed_left (Broken fault) m p1 p2 d g rogue is told = absurd cc
 failed_left RingBroken m p1 p2 d g rogue is told =
-    rogue_same m p1 p2 d d g g.frames rogue refl (ap said is)
+    rogue_same m p1 p2 d d g g.frames rogue refl refl (ap said is)
     ∙ ap (λ (n : ℕ). record g { status = n })
     (ap (λ (p : Part). p.status) is ∙ ap (λ (n : ℕ). bit_or n failed) rogue.status)
-failed_left _ m p1 p2 d g rogue is told = rogue_unchanged m p1 p2 d d g rogue refl is
+failed_left _ m p1 p2 d g rogue is told = rogue_unchanged m p1 p2 d d g rogue refl refl is
 
 failed_alone : (m1 m2 : Pages) (p1 p2 : Part) (d1 d2 : DriverState) (g : Guest) (call : Call)
     (why : Refusal) (tests : List Test) → Unchanged m1 m2 (after_refusal why p1) p2 d1 d2
@@ -302,16 +312,24 @@ without_same q head d = by (q == INFLATE_QUEUE) (q == DEFLATE_QUEUE)
     by false false = record { pages = refl; queue_size = refl; processors = refl; table = refl }
 
 reaped_same : (q head : ℕ) (pages : List ℕ) (d1 d2 : DriverState)
-    → d2 ≡ without_request q head (moved_on q pages d1) → DriverSame d1 d2
+    → d2 ≡ with_actual (without_request q head (moved_on q pages d1)) → DriverSame d1 d2
 reaped_same q head pages d1 d2 is =
     let first = without_same q head (moved_on q pages d1) in
-    same_driver d1 (without_request q head (moved_on q pages d1)) d2
+    same_driver d1 (with_actual (without_request q head (moved_on q pages d1))) d2
     (record {
       pages = first.pages;
       queue_size = first.queue_size;
       processors = first.processors;
-      table = first.table ∙ length-marked pages (place_reaped q) d1.places;
+      table = first.table ∙ length_after (q == INFLATE_QUEUE) (q == DEFLATE_QUEUE);
     }) is
+  where
+    length_after : (a b : Bool)
+        → length (if a then places_reaped (tells_host d1) Inflating pages d1.places
+        else (if b then places_reaped (tells_host d1) Deflating pages d1.places
+        else places_reaped (tells_host d1) Reporting_free pages d1.places)) ≡ length d1.places
+    length_after true b = length-reaped (tells_host d1) Inflating pages d1.places
+    length_after false true = length-reaped (tells_host d1) Deflating pages d1.places
+    length_after false false = length-reaped (tells_host d1) Reporting_free pages d1.places
 
 pub reap_rogue : (m1 m2 : Pages) (p1 p2 : Part) (d1 d2 : DriverState) (g : Guest) (q : ℕ)
     (result : Result (Option Reaped) Refusal) → ReapsBy m1 m2 p1 p2 d1 d2 q result

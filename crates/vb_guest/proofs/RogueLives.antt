@@ -16,7 +16,6 @@ use Rattle.vb_model.specs.Driver.{AllDistinct, given, AreClaimsFor, claim_refusa
 use Rattle.vb_model.specs.FirstRefusal.{◌⇒◌, first_refusal}
 use Rattle.vb_model.specs.Guest.{Guest, LastStatistics, all_backed, stats_vq, is_ballooned}
 use Rattle.vb_model.specs.Guest.{no_statistics}
-use Rattle.vb_model.specs.Pages.{is_lent_or_taking}
 use Rattle.vb_model.specs.Refusals.{refusal_of}
 use Rattle.vb_model.specs.Life.{lacking, feature_tests, feature_refusal, accepted_before}
 use Rattle.vb_model.specs.Orderly.{times}
@@ -58,7 +57,7 @@ init_up_rogue m p d g wanted up rogue =
     (keeps_part m m p p d d (driver_same d d refl) refl refl (λ page. refl)) refl (λ page. refl)
     refl refl (λ page offset bytes e. cc) (refused_backs (Init wanted) g AlreadyUp refused)
     (left_by (Init wanted) AlreadyUp [] g (rogue_after g g.frames p d)
-    (rogue_unchanged m p p d d g rogue refl refl
+    (rogue_unchanged m p p d d g rogue refl refl refl
     ∙ ap (λ (b : Bool). if_negotiated (not b) None g
     (given_up AlreadyUp wanted (all_backed (lacking g) [] g.frames) g)) (sym started)))
   where
@@ -126,7 +125,7 @@ abbrev said_guest : Guest → List (Option ℕ) → Said → DriverState → Gue
 said_guest g frames x d =
     record g {
       places = d.places;
-      actual = count_by is_lent_or_taking d.places;
+      actual = d.actual;
       status = x.status;
       features = x.features;
       target = x.target;
@@ -138,7 +137,7 @@ said_guest g frames x d =
 -- the driver gave up
 abbrev GaveUp : Part → Part → DriverState → DriverState → ℕ → Refusal → Type 0
 GaveUp p2 p3 d1 d2 wanted why =
-    (d2.places ≡ d1.places)
+    (d2.places ≡ d1.places) × (d2.actual ≡ d1.actual)
     × (p3 ≡ record (part_after_reset p2) { status = 131; features = accepted_before why wanted })
 
 -- the part after a reset, with another status
@@ -238,6 +237,7 @@ inits_leave m2 m3 p2 p3 d1 d2 wanted (Err why) new backed did =
       refused_otherwise (feature_tests wanted) why refl (sym is),
       λ other e. (
         ap (λ (d : DriverState). d.places) stops.driver,
+        ap (λ (d : DriverState). d.actual) stops.driver,
         stops.part ∙ ap (λ (w : Refusal). record (part_after_reset p2)
             { status = 131; features = accepted_before w wanted })
             (let same : why ≡ other = cc in same),
@@ -263,16 +263,16 @@ gives_up m p1 p2 p3 d1 d2 g wanted claims why rogue status all part gave =
     let flags : replicate (length p1.ballooned) false ≡ replicate g.config.pages false =
     ap (λ (n : ℕ). replicate n false) (ap length rogue.ballooned ∙ rogue.flagged) in
     let told : part_said p3 ≡ part_said left =
-    ap part_said gave.1
+    ap part_said gave.2
     ∙ ap (λ (p : Part). part_said (record (part_after_reset p)
     { status = 131; features = accepted_before why wanted })) part
     ∙ ap (λ (l : List Bool). part_said (record left { ballooned = l })) flags in
     let places : d2.places ≡ g.places = gave.0 ∙ rogue.places in
     ap (λ (x : Said). said_guest g frames x d2) told
-    ∙ ap (λ (l : List Place). record (said_guest g frames (part_said left) d2)
-    { places = l; actual = count_by is_lent_or_taking l }) places
+    ∙ ap (λ (l : List Place). record (said_guest g frames (part_said left) d2) { places = l })
+    places
     ∙ ap (λ (n : ℕ). record (given_up why wanted frames g) { actual = n; target = p1.target })
-    (sym rogue.actual)
+    (gave.1 ∙ rogue.actual)
     ∙ ap (λ (n : ℕ). record (given_up why wanted frames g) { target = n }) rogue.target
     ∙ sym (ap (λ (n : ℕ). if_negotiated (not (n == 0)) (claim_refusal claims) g
     (given_up why wanted frames g)) (sym rogue.status ∙ status)

@@ -100,7 +100,7 @@ as_rogue keeps m p d g stands = by_guest keeps m p d g stands
       processors = parts.driver.processors;
       places = parts.driver.places;
       placed = honest.consistent.sized;
-      actual = honest.consistent.counted;
+      actual = parts.driver.told;
       size = parts.device.size;
       paced = parts.device.paced;
       status = parts.device.status;
@@ -189,7 +189,7 @@ write_rogue m1 m2 p1 p2 d g page off bs reply count same part answer plain none 
     rogue_alone m1 m2 p1 p2 d d g (Write page off bs) reply rogue
     (keeps_part m1 m2 p1 p2 d d (driver_same d d refl) part count same) count same
     (ap (λ (p : Part). p.target) part) answer (λ page offset bytes e. cc) none
-    (λ why e. rogue_unchanged m1 p1 p2 d d g rogue refl part
+    (λ why e. rogue_unchanged m1 p1 p2 d d g rogue refl refl part
     ∙ sym (plainly_left reply why g plain e))
 
 -- what is tested of a write
@@ -471,7 +471,7 @@ marked_after : (m : Pages) (p1 p2 : Part) (d : DriverState) (g : Guest)
     (frames : List (Option ℕ)) → Rogue m p1 d (marked g) → p2 ≡ record p1 { own = p2.own }
     → rogue_after (marked g) frames p2 d ≡ record g { frames = frames; rogue = true }
 marked_after m p1 p2 d g frames rogue part =
-    rogue_same m p1 p2 d d (marked g) frames rogue refl (ap said part)
+    rogue_same m p1 p2 d d (marked g) frames rogue refl refl (ap said part)
     ∙ ap (λ (n : ℕ). record g { frames = frames; rogue = true; status = n })
     (ap (λ (p : Part). p.status) part ∙ rogue.status)
 

@@ -13,7 +13,6 @@ use Rattle.vb_model.specs.declared.replies.Refusal.TheVariants.{RingBroken}
 use Rattle.vb_model.specs.declared.replies.Reply.{Reply}
 use Rattle.vb_model.specs.declared.replies.Reply.TheVariants.{Refused}
 use Rattle.vb_model.specs.Limits.{reserved_pages}
-use Rattle.vb_model.specs.Pages.{is_lent_or_taking}
 use Rattle.vb_model.specs.Status.{contains, driver_ok}
 use Rattle.vb_model.specs.Guest.{Guest, LastStatistics, frame_of, is_ballooned, all_backed}
 use Rattle.vb_model.specs.Driver.{given, claim_refusal, AreClaimsFor}
@@ -89,7 +88,7 @@ abbrev pub rogue_after : Guest → List (Option ℕ) → Part → DriverState �
 rogue_after g frames part d =
     record g {
       places = d.places;
-      actual = count_by is_lent_or_taking d.places;
+      actual = d.actual;
       status = part.status;
       features = part.features;
       target = part.target;
@@ -143,12 +142,12 @@ said p =
 
 -- where driver and device say what they said, the guest has other frames and another status at most
 pub rogue_same : (m : Pages) (p1 p2 : Part) (d1 d2 : DriverState) (g : Guest)
-    (frames : List (Option ℕ)) → Rogue m p1 d1 g → d2.places ≡ d1.places → said p2 ≡ said p1
+    (frames : List (Option ℕ)) → Rogue m p1 d1 g → d2.places ≡ d1.places → d2.actual ≡ d1.actual
+    → said p2 ≡ said p1
     → rogue_after g frames p2 d2 ≡ record g { frames = frames; status = p2.status }
-rogue_same m p1 p2 d1 d2 g frames rogue places same =
+rogue_same m p1 p2 d1 d2 g frames rogue places told same =
     let a : d2.places ≡ g.places = places ∙ rogue.places in
-    let b : count_by is_lent_or_taking d2.places ≡ g.actual =
-    ap (λ (l : List Place). count_by is_lent_or_taking l) a ∙ sym rogue.actual in
+    let b : d2.actual ≡ g.actual = told ∙ rogue.actual in
     let c : p2.features ≡ g.features = ap (λ (p : Part). p.features) same ∙ rogue.features in
     let d : p2.target ≡ g.target = ap (λ (p : Part). p.target) same ∙ rogue.target in
     let e : p2.last ≡ g.last = ap (λ (p : Part). p.last) same ∙ rogue.last in
@@ -184,9 +183,10 @@ rogue_same m p1 p2 d1 d2 g frames rogue places same =
 
 -- the device is as it was
 pub rogue_unchanged : (m : Pages) (p1 p2 : Part) (d1 d2 : DriverState) (g : Guest)
-    → Rogue m p1 d1 g → d2.places ≡ d1.places → p2 ≡ p1 → rogue_after g g.frames p2 d2 ≡ g
-rogue_unchanged m p1 p2 d1 d2 g rogue places part =
-    rogue_same m p1 p2 d1 d2 g g.frames rogue places (ap said part)
+    → Rogue m p1 d1 g → d2.places ≡ d1.places → d2.actual ≡ d1.actual → p2 ≡ p1
+    → rogue_after g g.frames p2 d2 ≡ g
+rogue_unchanged m p1 p2 d1 d2 g rogue places told part =
+    rogue_same m p1 p2 d1 d2 g g.frames rogue places told (ap said part)
     ∙ ap (λ (n : ℕ). record g { status = n }) (ap (λ (p : Part). p.status) part ∙ rogue.status)
 
 -- ---- its step

@@ -19,7 +19,7 @@ use Rattle.vb_ring.specs.Ends.{DriverEnd}
 use Rattle.vb_driver.specs.Coding.{AreZeroed, ring_pages}
 use Rattle.vb_driver.specs.State.{DriverState, IsDriver, fresh_side, fresh_statistics, fresh_report}
 use Rattle.vb_driver.specs.State.{figures_of}
-use Rattle.vb_driver.specs.Calls.{Starts, GivesUp, IsNewRing, FirstBuffer}
+use Rattle.vb_driver.specs.Calls.{Starts, GivesUp, IsNewRing, FirstBuffer, with_nothing_out}
 use Rattle.vb_guest.specs.Line.{Line}
 use Rattle.vb_guest.specs.Reported.{ReportLine}
 use Rattle.vb_guest.specs.Buffer.{BufferLine}
@@ -168,6 +168,7 @@ started m2 m3 p1 p3 d1 d2 g frames wanted has backed idle driver parts did =
           places = parts.driver.places;
           held = parts.driver.held;
           accepted = refl;
+          told = parts.driver.told;
         };
         device = record {
           size = parts.device.size;
@@ -216,7 +217,7 @@ pub stopped : (m2 m3 : Pages) (p1 p3 : Part) (d1 d2 : DriverState) (g : Guest)
 stopped m2 m3 p1 p3 d1 d2 g frames accepted has idle parts did =
     let new : Guest = record g { frames = frames; status = 131; features = accepted } in
     let part : Part = record (part_after_reset p1) { status = 131; features = accepted } in
-    let state : DriverState = record d1 { features = accepted } in
+    let state : DriverState = record (with_nothing_out d1) { features = accepted } in
     let there : Ties m2 part state new = record {
       parts = record {
         guest = parts.guest;
@@ -227,6 +228,7 @@ stopped m2 m3 p1 p3 d1 d2 g frames accepted has idle parts did =
           places = parts.driver.places;
           held = parts.driver.held;
           accepted = refl;
+          told = parts.driver.told;
         };
         device = record {
           size = parts.device.size;

@@ -6,17 +6,18 @@ use Rattle.std.specs.List.{flat_map}
 use Rattle.std.proofs.Common.{sym, ◌∙◌, ap, subst, arith, inl, inr}
 use Rattle.vb_model.specs.declared.calls.Call.TheVariants.{Sweep}
 use Rattle.vb_model.specs.declared.places.Place.{Place}
-use Rattle.vb_model.specs.declared.places.Place.TheVariants.{Reserved, Free, Used, Giving, Lent}
-use Rattle.vb_model.specs.declared.places.Place.TheVariants.{Taking, Stranded, Reporting}
+use Rattle.vb_model.specs.declared.places.Place.TheVariants.{Reserved}
 use Rattle.vb_model.specs.declared.replies.Refusal.{Refusal}
-use Rattle.vb_model.specs.declared.replies.Refusal.TheVariants.{NotReady, NotBallooned}
+use Rattle.vb_model.specs.declared.replies.Refusal.TheVariants.{NotReady, NoFeature}
+use Rattle.vb_model.specs.declared.replies.Refusal.TheVariants.{NotBallooned}
 use Rattle.vb_model.specs.declared.replies.Reply.{Reply}
 use Rattle.vb_model.specs.declared.replies.Reply.TheVariants.{Swept, Refused}
 use Rattle.vb_model.specs.Tests.{one_if}
-use Rattle.vb_model.specs.Pages.{place_of, is_giving, is_lent, is_taking}
-use Rattle.vb_model.specs.Guest.{Guest, frame_of, is_ballooned, unbacked}
+use Rattle.vb_model.specs.Pages.{place_of, is_giving, is_lent, is_reserved}
+use Rattle.vb_model.specs.Guest.{Guest, frame_of, is_ballooned, unbacked, must_tell_host}
+use Rattle.vb_model.specs.Guest.{tells_host}
 use Rattle.vb_model.specs.Consistent.{IsConsistent}
-use Rattle.vb_model.specs.Orderly.{is_reserved, times}
+use Rattle.vb_model.specs.Orderly.{times}
 use Rattle.vb_model.specs.Refusals.{◌⇒◌, first_refusal, refusal_of}
 use Rattle.vb_model.proofs.PageSteps.{naming-all}
 use Rattle.vb_ram.specs.Pages.{Pages, page_at, frame_at, number_of}
@@ -49,21 +50,22 @@ all_one P x h (suc k) d lt = absurd (omega arith)
 -- ---- refusals
 
 -- what is tested once the device is initialised
-abbrev pub sweep_test : Bool → Option Refusal
-sweep_test ballooned = first_refusal ((not ballooned ⇒ NotBallooned) ∷ [])
+abbrev sweep_test : Bool → Bool → Option Refusal
+sweep_test told ballooned =
+    first_refusal ((not told ⇒ NoFeature) ∷ (not ballooned ⇒ NotBallooned) ∷ [])
 
 running_part : (part : Part) (page : ℕ) → part.status ≡ 15
-    → sweep_refusal page part ≡ sweep_test (is_ballooned part.ballooned page)
+    → sweep_refusal page part ≡ sweep_test (must_tell_host part.features) (is_ballooned part.ballooned page)
 running_part part page e =
     let P : ℕ → Type 0 = λ s. sweep_refusal page (record part { status = s })
-    ≡ sweep_test (is_ballooned part.ballooned page) in
+    ≡ sweep_test (must_tell_host part.features) (is_ballooned part.ballooned page) in
     subst P (sym e) refl
 
 running : (g : Guest) (page : ℕ) → g.status ≡ 15
-    → refusal_of g (Sweep page) ≡ sweep_test (is_ballooned g.ballooned page)
+    → refusal_of g (Sweep page) ≡ sweep_test (tells_host g) (is_ballooned g.ballooned page)
 running g page e =
     let P : ℕ → Type 0 = λ s. refusal_of (record g { status = s }) (Sweep page)
-    ≡ sweep_test (is_ballooned g.ballooned page) in
+    ≡ sweep_test (tells_host g) (is_ballooned g.ballooned page) in
     subst P (sym e) refl
 
 idle_part : (part : Part) (page : ℕ) → (part.status ≡ 0) ⊎ (part.status ≡ 131)
@@ -100,15 +102,9 @@ sweep_refused m1 m2 p1 p2 d g page why result did stands by_part by_model =
 -- ---- a ballooned page
 
 reserved_alone : (place : Place) → is_reserved place ≡ true
-    → (is_giving place ≡ false) × (is_lent place ≡ false) × (is_taking place ≡ false)
-reserved_alone Reserved e = (refl, refl, refl)
-reserved_alone Free e = absurd cc
-reserved_alone Used e = absurd cc
-reserved_alone Giving e = absurd cc
-reserved_alone Lent e = absurd cc
-reserved_alone Taking e = absurd cc
-reserved_alone Stranded e = absurd cc
-reserved_alone Reporting e = absurd cc
+    → (is_giving place ≡ false) × (is_lent place ≡ false)
+reserved_alone Reserved e = (refl, refl)
+reserved_alone _ e = absurd cc
 
 -- no reserved page is ballooned
 pub ballooned_free : (g : Guest) (page : ℕ) → IsConsistent g → is_ballooned g.ballooned page ≡ true
@@ -116,7 +112,7 @@ pub ballooned_free : (g : Guest) (page : ℕ) → IsConsistent g → is_balloone
 ballooned_free g page sound flag = elim (either (is_reserved (place_of g.places page))) [
   | inr free ↦ free
   | inl reserved ↦
-      let (giving, lent, taking) = reserved_alone (place_of g.places page) reserved in
+      let (giving, lent) = reserved_alone (place_of g.places page) reserved in
       let here = sound.pages page in
       absurd (omega (
         arith,
@@ -126,7 +122,7 @@ ballooned_free g page sound flag = elim (either (is_reserved (place_of g.places 
         ap one_if flag,
         ap one_if giving,
         ap one_if lent,
-        ap one_if taking,
+        ap one_if reserved,
         naming-all page g.inflate,
         naming-all page g.deflate,
       ))
@@ -208,14 +204,25 @@ sweep_step m1 m2 p1 p2 d g page result did stands =
           (idle_guest g page idle.state)
       | inr run ↦
           let model = running g page run.state in
-          let device : sweep_refusal page p1 ≡ sweep_test (is_ballooned g.ballooned page) =
+          let device : sweep_refusal page p1
+          ≡ sweep_test (tells_host g) (is_ballooned g.ballooned page) =
           running_part p1 page (stands.ties.parts.device.status ∙ run.state)
-          ∙ ap (λ (l : List Bool). sweep_test (is_ballooned l page))
+          ∙ ap (λ (n : ℕ). sweep_test (must_tell_host n) (is_ballooned p1.ballooned page))
+          stands.ties.parts.device.features
+          ∙ ap (λ (l : List Bool). sweep_test (tells_host g) (is_ballooned l page))
           stands.ties.parts.device.ballooned in
-          elim (either (is_ballooned g.ballooned page)) [
-            | inl flag ↦ sweep_done m1 m2 p1 p2 d g page result did stands run
-                (device ∙ ap sweep_test flag) (model ∙ ap sweep_test flag) flag
-            | inr not_there ↦ sweep_refused m1 m2 p1 p2 d g page NotBallooned result did stands
-                (device ∙ ap sweep_test not_there) (model ∙ ap sweep_test not_there)
-          ]
+          by (tells_host g) (is_ballooned g.ballooned page) refl run device model
     ]
+  where
+    by : (told flag : Bool) → is_ballooned g.ballooned page ≡ flag
+        → IsRunning m1 p1 d g → sweep_refusal page p1 ≡ sweep_test told (is_ballooned g.ballooned page)
+        → refusal_of g (Sweep page) ≡ sweep_test told (is_ballooned g.ballooned page)
+        → StepsFreeing (Honest m2 (handed_back p2) d) p2.loose g (Sweep page) (swept_reply result)
+    by true true flag run device model =
+        sweep_done m1 m2 p1 p2 d g page result did stands run (device ∙ ap (sweep_test true) flag)
+        (model ∙ ap (sweep_test true) flag) flag
+    by true false flag run device model =
+        sweep_refused m1 m2 p1 p2 d g page NotBallooned result did stands
+        (device ∙ ap (sweep_test true) flag) (model ∙ ap (sweep_test true) flag)
+    by false b flag run device model =
+        sweep_refused m1 m2 p1 p2 d g page NoFeature result did stands device model

@@ -16,7 +16,8 @@ use Rattle.vb_model.specs.Pages.{place_of, is_used}
 use Rattle.vb_model.specs.Requests.{Requests, Buffer}
 use Rattle.vb_model.specs.Guest.{Guest, zero_page, frame_of, backed}
 use Rattle.vb_model.specs.Driver.{overwritten}
-use Rattle.vb_model.specs.Orderly.{IsOrderly, is_reserved}
+use Rattle.vb_model.specs.Orderly.{IsOrderly}
+use Rattle.vb_model.specs.Pages.{is_reserved}
 use Rattle.vb_model.proofs.Tables.{length-each_from, each_page-get}
 use Rattle.vb_ram.specs.Pages.{Pages, page_at, frame_at, contents_at, contents_of, number_of, Wrote}
 use Rattle.vb_ram.specs.Pages.{Supplied}

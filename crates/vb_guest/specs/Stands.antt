@@ -1,10 +1,10 @@
 -- What ties a driver, a device's part and guest memory to a guest of the model.
 use Rattle.std.specs.Prelude.{◌≡◌, ℕ, ◌<◌, ◌≤◌, Bool, false, true, List, Option, [], length}
-use Rattle.std.specs.Prelude.{replicate, slice_index_or, IsSome, ◌⊎◌, All, count_by}
+use Rattle.std.specs.Prelude.{replicate, slice_index_or, IsSome, ◌⊎◌, All}
 use Rattle.vb_model.specs.Limits.{is_config, page_size, reserved_pages, ring_and_buffer_pages}
 use Rattle.vb_model.specs.declared.places.Place.{Place}
 use Rattle.vb_model.specs.Tests.{one_if}
-use Rattle.vb_model.specs.Pages.{Block, is_lent_or_taking}
+use Rattle.vb_model.specs.Pages.{Block}
 use Rattle.vb_model.specs.Status.{contains, driver_ok}
 use Rattle.vb_model.specs.Requests.{Request, no_requests, NoBuffer}
 use Rattle.vb_model.specs.Guest.{Guest, Config, LastStatistics, no_statistics, frame_of}
@@ -30,13 +30,14 @@ pub record IsPlainGuest (rogue : Bool) (c : Config) : Type 0 where
 
 -- What the driver keeps is the guest's.
 pub record DriverKeeps (d : DriverState) (c : Config) (at : List Place) (blocks : List Block)
-    (bits : ℕ) : Type 0 where
+    (bits given : ℕ) : Type 0 where
   pub pages : d.pages ≡ c.pages
   pub queue_size : d.queue_size ≡ c.queue_size
   pub processors : d.processors ≡ c.processors
   pub places : d.places ≡ at
   pub held : d.held ≡ blocks
   pub accepted : d.features ≡ bits
+  pub told : d.actual ≡ given
 
 -- What the device keeps is the guest's, and no frame is loose.
 pub record DeviceKeeps (part : Part) (c : Config) (state bits wanted given : ℕ) (flags : List Bool)
@@ -53,7 +54,7 @@ pub record DeviceKeeps (part : Part) (c : Config) (state bits wanted given : ℕ
 
 pub record HasParts (part : Part) (d : DriverState) (g : Guest) : Type 0 where
   pub guest : IsPlainGuest g.rogue g.config
-  pub driver : DriverKeeps d g.config g.places g.held g.features
+  pub driver : DriverKeeps d g.config g.places g.held g.features g.actual
   pub device : DeviceKeeps part g.config g.status g.features g.target g.actual g.ballooned g.last
 
 -- Of a device, what isn't in its queues and not among its own frames.
@@ -172,7 +173,7 @@ pub record Rogue (mem : Pages) (part : Part) (d : DriverState) (g : Guest) : Typ
   pub processors : d.processors ≡ g.config.processors
   pub places : d.places ≡ g.places
   pub placed : length g.places ≡ g.config.pages
-  pub actual : g.actual ≡ count_by is_lent_or_taking g.places
+  pub actual : d.actual ≡ g.actual
   -- the device
   pub size : part.queue_size ≡ g.config.queue_size
   pub paced : part.paced ≡ g.config.paced

@@ -64,7 +64,7 @@ fn supply_from<D: Device, K: FrameKeeper>(
 /// The driver initialises the device with these features, once the pages of its rings and buffers
 /// have frames; they keep them where the features are refused. Notes what the claims were answered.
 /// Refused with `AlreadyUp`, then `NoFrame` or `NoMemory` where a frame is wanting, in which case
-/// no page keeps one, then `FeatureNotOffered`, `MustTellMissing` and `VersionMissing`.
+/// no page keeps one, then `FeatureNotOffered` and `VersionMissing`.
 pub fn init<D: Device, K: FrameKeeper>(
     driver: &mut Driver,
     device: &mut D,

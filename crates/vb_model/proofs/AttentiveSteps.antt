@@ -35,7 +35,7 @@ use Rattle.vb_model.proofs.OrderlySteps.{AllOrderly}
 
 -- ---- a ready guest
 
-not_down : (n : ℕ) → n ≡ 0 → n ≢ 15
+pub not_down : (n : ℕ) → n ≡ 0 → n ≢ 15
 not_down n z e = absurd (omega (arith, z, e))
 
 ready : (status : ℕ) (test : ℕ → Bool) → (status ≡ 0) ⊎ (status ≡ 15) ⊎ (status ≡ 131)

@@ -251,45 +251,64 @@ rooms : map (λ queue_size. room
     (2 ∷ 8 ∷ 16 ∷ 32 ∷ 128 ∷ []) ≡ 2 ∷ 8 ∷ 16 ∷ 16 ∷ 16 ∷ []
 rooms = refl
 
--- ---- reap: the first used request; its pages move on, and `actual` counts lent and taking pages
+-- ---- reap: the first used request; its pages move on, and `actual` counts lent pages and those
+-- that deflates name
 
 abbrev two_used : List ℕ → List ℕ → Requests
 two_used first second =
     record {
-      posted = request 3 (30 ∷ []) 0 ∷ [];
-      taken = request 4 (31 ∷ []) 0
+      posted = request 3 (24 ∷ []) 0 ∷ [];
+      taken = request 4 (25 ∷ []) 0
           ∷ [];
       done = request 2 first 1 ∷ request 0 second 0 ∷ [];
     }
 
 abbrev one_used : List ℕ → Requests
 one_used second = record {
-  posted = request 3 (30 ∷ []) 0 ∷ [];
-  taken = request 4 (31 ∷ []) 0
+  posted = request 3 (24 ∷ []) 0 ∷ [];
+  taken = request 4 (25 ∷ []) 0
       ∷ [];
   done = request 0 second 0 ∷ [];
 }
 
-abbrev reaping : List Place → ℕ → Guest
-reaping places actual = record (at_places places) { actual = actual }
+-- eight pages, pages 24 and 25 at one place, and then free ones
+abbrev reaping : List Place → Place → ℕ → Guest
+reaping places next_two actual =
+    record ready {
+      places = replicate 16 Reserved
+          ++ (places ++ (next_two ∷ next_two ∷ replicate 38 Free));
+      target = 4;
+      actual = actual;
+    }
+
+-- deflates name pages 20 and 21, which are taking
+abbrev deflates : Requests
+deflates =
+    record { posted = []; taken = request 1 (21 ∷ []) 0 ∷ []; done = request 0 (20 ∷ []) 0 ∷ [] }
 
 reaped_inflate : HonestStep
-    (record (reaping (Giving ∷ Giving ∷ Giving ∷ Lent ∷ Taking ∷ Taking ∷ Free ∷ Stranded ∷ []) 3)
-    { inflate = two_used (16 ∷ 18 ∷ []) (17 ∷ []) }) (Reap 0) [] (Reaped 2 2)
-    (record (reaping (Lent ∷ Giving ∷ Lent ∷ Lent ∷ Taking ∷ Taking ∷ Free ∷ Stranded ∷ []) 5)
-    { inflate = one_used (17 ∷ []) })
+    (record (reaping (Giving ∷ Giving ∷ Giving ∷ Lent ∷ Taking ∷ Taking ∷ Free ∷ Stranded ∷ [])
+    Giving 3) { inflate = two_used (16 ∷ 18 ∷ []) (17 ∷ []); deflate = deflates }) (Reap 0) []
+    (Reaped 2 2)
+    (record (reaping (Lent ∷ Giving ∷ Lent ∷ Lent ∷ Taking ∷ Taking ∷ Free ∷ Stranded ∷ [])
+    Giving 5) { inflate = one_used (17 ∷ []); deflate = deflates })
 reaped_inflate = (refl, (refl, refl))
 
+-- inflates name pages 16 to 18, which are giving
+abbrev inflates : Requests
+inflates = record { posted = request 0 (16 ∷ 17 ∷ 18 ∷ []) 0 ∷ []; taken = []; done = [] }
+
 reaped_deflate : HonestStep
-    (record (reaping (Giving ∷ Giving ∷ Giving ∷ Lent ∷ Taking ∷ Taking ∷ Free ∷ Stranded ∷ []) 3)
-    { deflate = two_used (20 ∷ []) (21 ∷ []) }) (Reap 1) [] (Reaped 2 1)
-    (record (reaping (Giving ∷ Giving ∷ Giving ∷ Lent ∷ Free ∷ Taking ∷ Free ∷ Stranded ∷ []) 2)
-    { deflate = one_used (21 ∷ []) })
+    (record (reaping (Giving ∷ Giving ∷ Giving ∷ Lent ∷ Taking ∷ Taking ∷ Free ∷ Stranded ∷ [])
+    Taking 5) { inflate = inflates; deflate = two_used (20 ∷ []) (21 ∷ []) }) (Reap 1) []
+    (Reaped 2 1)
+    (record (reaping (Giving ∷ Giving ∷ Giving ∷ Lent ∷ Free ∷ Taking ∷ Free ∷ Stranded ∷ [])
+    Taking 4) { inflate = inflates; deflate = one_used (21 ∷ []) })
 reaped_deflate = (refl, (refl, refl))
 
 -- nothing is used: nothing changes
 not_used : HonestStep
-    (record (reaping (Giving ∷ Lent ∷ []) 7) {
+    (record (reaping (Taking ∷ Taking ∷ Lent ∷ replicate 5 Free) Free 7) {
       inflate = heads 0 2 1;
       deflate = record {
         posted = request 0 (16 ∷ []) 0 ∷ [];
@@ -298,7 +317,7 @@ not_used : HonestStep
         done = [];
       };
     }) (Reap 1) [] NotUsed
-    (record (reaping (Giving ∷ Lent ∷ []) 7) {
+    (record (reaping (Taking ∷ Taking ∷ Lent ∷ replicate 5 Free) Free 7) {
       inflate = heads 0 2 1;
       deflate = record {
         posted = request 0 (16 ∷ []) 0 ∷ [];

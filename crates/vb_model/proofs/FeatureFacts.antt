@@ -2,8 +2,7 @@
 use Rattle.std.proofs.Common.{◌≡◌, ℕ, true, false, List, [], ◌∷◌, map, refl}
 use Rattle.std.specs.Prelude.{Bool, Some, None}
 use Rattle.vb_model.specs.declared.replies.Refusal.TheVariants.{ClearsBit, OutOfOrder}
-use Rattle.vb_model.specs.declared.replies.Refusal.TheVariants.{FeatureNotOffered, MustTellMissing}
-use Rattle.vb_model.specs.declared.replies.Refusal.TheVariants.{VersionMissing}
+use Rattle.vb_model.specs.declared.replies.Refusal.TheVariants.{FeatureNotOffered, VersionMissing}
 use Rattle.vb_model.specs.Tests.{has_bit}
 use Rattle.vb_model.specs.Guest.{offered_features, must_tell_host, stats_vq, deflate_on_oom}
 use Rattle.vb_model.specs.Guest.{reporting, version_1, is_ready}
@@ -61,23 +60,26 @@ just_what_is_offered = refl
 order_before_offer : negotiate_refusal 1 8 ≡ Some OutOfOrder
 order_before_offer = refl
 
--- ---- an initialisation: what isn't offered, then MUST_TELL_HOST, then VERSION_1; the other three
--- are free
+-- ---- an initialisation: what isn't offered, then VERSION_1; the other four are free
 
-offer_before_must_tell : feature_refusal 0x40 ≡ Some FeatureNotOffered
-offer_before_must_tell = refl
+offer_before_version : map feature_refusal (0x40 ∷ 0x41 ∷ []) ≡ Some FeatureNotOffered
+    ∷ Some FeatureNotOffered ∷ []
+offer_before_version = refl
 
-must_tell_before_version : map feature_refusal (0 ∷ 0x26 ∷ 0x100000000 ∷ 0x100000026 ∷ [])
-    ≡ Some MustTellMissing ∷ Some MustTellMissing ∷ Some MustTellMissing ∷ Some MustTellMissing ∷ []
-must_tell_before_version = refl
+-- MUST_TELL_HOST doesn't make up for it
+version_missing : map feature_refusal (0 ∷ 1 ∷ 0x26 ∷ 0x27 ∷ []) ≡ Some VersionMissing
+    ∷ Some VersionMissing ∷ Some VersionMissing ∷ Some VersionMissing ∷ []
+version_missing = refl
 
-version_last : map feature_refusal (1 ∷ 0x27 ∷ []) ≡ Some VersionMissing ∷ Some VersionMissing ∷ []
-version_last = refl
+version_is_enough : map feature_refusal
+    (0x100000000 ∷ 0x100000001 ∷ 0x100000002 ∷ 0x100000004 ∷ 0x100000020 ∷ 0x100000026
+    ∷ 0x100000027 ∷ []) ≡ None ∷ None ∷ None ∷ None ∷ None ∷ None ∷ None ∷ []
+version_is_enough = refl
 
-the_two_are_enough : map feature_refusal
-    (0x100000001 ∷ 0x100000003 ∷ 0x100000005 ∷ 0x100000021 ∷ 0x100000027 ∷ []) ≡ None ∷ None ∷ None
-    ∷ None ∷ None ∷ []
-the_two_are_enough = refl
+-- and makes up for nothing that isn't offered
+version_with_others : map feature_refusal (0x100000008 ∷ 0x300000000 ∷ [])
+    ≡ Some FeatureNotOffered ∷ Some FeatureNotOffered ∷ []
+version_with_others = refl
 
 -- ---- writes of the status, where no features are negotiated
 
@@ -126,10 +128,10 @@ clears_before_order = refl
 order_before_features : status_refusal 1 0 9 ≡ Some OutOfOrder
 order_before_features = refl
 
--- features are looked at where FEATURES_OK is added, MUST_TELL_HOST first
+-- features are looked at where FEATURES_OK is added: VERSION_1 alone
 features_looked_at : status_refusal 3 0 11 ∷ status_refusal 3 0x100000000 11 ∷ status_refusal 3 1 11
-    ∷ status_refusal 3 0x100000001 11 ∷ [] ≡ Some MustTellMissing ∷ Some MustTellMissing
-    ∷ Some VersionMissing ∷ None ∷ []
+    ∷ status_refusal 3 0x100000001 11 ∷ [] ≡ Some VersionMissing ∷ None ∷ Some VersionMissing
+    ∷ None ∷ []
 features_looked_at = refl
 
 features_not_looked_at : status_refusal 3 0 3 ∷ status_refusal 11 0 11 ∷ status_refusal 15 0 15

@@ -1,25 +1,31 @@
 -- Histories that are safe at first and go wrong behind another event: of guest 1, which is at
--- status 0.
-use Rattle.std.proofs.Common.{◌≡◌, ℕ, zero, suc, ◌<◌, ◌≤◌, true, false, List, [], ◌∷◌, ◌++◌}
-use Rattle.std.proofs.Common.{replicate, refl, ap, subst, ◌∙◌, inl, arith}
+-- status 0 but where it asks pages back.
+use Rattle.std.proofs.Common.{◌≡◌, ℕ, zero, suc, ◌≤◌, true, false, List, [], ◌∷◌, ◌++◌}
+use Rattle.std.proofs.Common.{map, replicate, refl, ap, subst, ◌∙◌, inl, arith}
 use Rattle.std.specs.Prelude.{Option, Some, None, slice_get}
 use Rattle.vb_model.specs.declared.places.Place.TheVariants.{Free as FreePlace, Used}
 use Rattle.vb_model.specs.declared.places.Place.TheVariants.{Giving, Lent, Taking}
-use Rattle.vb_model.specs.declared.calls.Call.TheVariants.{Alloc, Write, Inflate, Reap, Take, Work}
-use Rattle.vb_model.specs.declared.calls.Call.TheVariants.{Stats, Sweep}
+use Rattle.vb_model.specs.declared.calls.Call.{Call}
+use Rattle.vb_model.specs.declared.calls.Call.TheVariants.{Alloc, Write, Inflate, Deflate, Reap}
+use Rattle.vb_model.specs.declared.calls.Call.TheVariants.{Take, Work, Stats, Sweep}
 use Rattle.vb_model.specs.declared.calls.Event.{Event}
 use Rattle.vb_model.specs.declared.calls.Event.TheVariants.{Guest as OnGuest, Restart}
 use Rattle.vb_model.specs.declared.calls.Event.TheVariants.{Frames as CountFrames}
 use Rattle.vb_model.specs.declared.replies.Refusal.TheVariants.{RingBroken, Broken, NotReady}
 use Rattle.vb_model.specs.declared.replies.Reply.{Reply}
 use Rattle.vb_model.specs.declared.replies.Reply.TheVariants.{Done, Page, Posted, Reaped, Swept}
-use Rattle.vb_model.specs.declared.replies.Reply.TheVariants.{Frames, Refused}
+use Rattle.vb_model.specs.declared.replies.Reply.TheVariants.{Idle, Frames, Refused}
+use Rattle.vb_model.specs.Requests.{Inflating, Deflating}
 use Rattle.vb_model.specs.Guest.{Guest}
 use Rattle.vb_model.specs.World.{World}
 use Rattle.vb_model.specs.Run.{History}
 use Rattle.vb_model.specs.GuestRun.{Entry, Called, GuestRun}
-use Rattle.vb_model.specs.Safe.{Safe, IsHonest, IsOneLife, Brings, ReapsDeflate}
-use Rattle.vb_model.proofs.Samples.{ready, down, page_16_at, request}
+use Rattle.vb_model.specs.Safe.{Safe, IsHonest, IsOneLife, Brings, ReapsUsed, PostsDeflate}
+use Rattle.vb_model.specs.Safe.{AskedBack}
+use Rattle.vb_model.proofs.Samples.{ready, untold, down, page_16_at, request}
+use Rattle.vb_model.proofs.SafeFacts.{request_16, giving, lent, asked, coming_back, back}
+use Rattle.vb_model.proofs.SafeFacts.{handed_out, not_by_two, not_by_three, not_lending}
+use Rattle.vb_model.proofs.SafeFacts.{not_asking, no_reap}
 
 abbrev at : Guest → World
 at g = record { frames = 64; guests = Some ready ∷ Some g ∷ []; spares = []; given_up = None }
@@ -131,29 +137,32 @@ not_its_own s =
     let wrong : Done ≡ Refused NotReady = run.1.1.1 in
     cc
 
--- ---- a page is offered and handed out again: a deflate request that names it came back before the
--- offer, none after it; in between another guest is restarted, which is still one life of this one
+-- ---- a page is offered by event 1 and handed out again: something that it would have to be asked
+-- back by came before that, and not after it; in between another guest is restarted, which is still
+-- one life of this one
 
-abbrev coming_back : Guest
-coming_back = record (page_16_at Taking down)
-    { deflate = record { posted = []; taken = []; done = request 0 (16 ∷ []) 0 ∷ [] } }
+-- the guest is ready here, and the same but for the page and the requests
+abbrev offering : Call → Reply → List Event → List Reply → Guest → List Guest → History
+offering earlier answer events replies first guests =
+    record {
+      first = at first;
+      events = OnGuest 1 earlier ∷ OnGuest 1 (Inflate 1) ∷ Restart 0 ∷ events;
+      replies = answer ∷ Posted 0 1 ∷ Done ∷ replies;
+      after = map at guests;
+    }
 
-abbrev offered_again : History
-offered_again = record {
-  first = at coming_back;
-  events =
-      OnGuest 1 (Reap 1) ∷ OnGuest 1 (Inflate 1) ∷ Restart 0 ∷ OnGuest 1 (Reap 1)
-      ∷ OnGuest 1 (Alloc 0 0) ∷ [];
-  replies = Reaped 0 1 ∷ Posted 0 1 ∷ Done ∷ Reaped 0 1 ∷ Page 16 ∷ [];
-  after =
-      at (page_16_at FreePlace down) ∷ at (page_16_at Giving down) ∷ at (page_16_at Giving down)
-      ∷ at (page_16_at FreePlace down) ∷ at (page_16_at Used down) ∷ [];
-}
+-- a deflate that names it came back before, and the one that is posted later doesn't
+abbrev reaped_early : History
+reaped_early = offering (Reap 1) (Reaped 0 1)
+    (OnGuest 1 (Reap 0) ∷ OnGuest 1 (Deflate 1) ∷ OnGuest 1 (Alloc 0 0) ∷ [])
+    (Reaped 0 1 ∷ Posted 0 1 ∷ Page 16 ∷ []) (coming_back Taking ready)
+    (back ready ∷ giving ready ∷ giving ready ∷ lent ready ∷ asked Taking ready ∷ handed_out ready
+    ∷ [])
 
-reaped_before : ReapsDeflate offered_again 1 16 0
+reaped_before : ReapsUsed Deflating reaped_early 1 16 0
 reaped_before = record {
-  guest = coming_back;
-  request = request 0 (16 ∷ []) 0;
+  guest = coming_back Taking ready;
+  request = request_16;
   others = [];
   event = refl;
   is_there = refl;
@@ -162,45 +171,119 @@ reaped_before = record {
   reply = refl;
 }
 
-one_life : IsOneLife offered_again 1 1 4
+none_reaped_since : AskedBack reaped_early 1 16 1 5 → ⊥
+none_reaped_since = not_by_three reaped_early 1 1 (not_lending reaped_early 1 5 2 3 refl)
+    (not_lending reaped_early 1 5 2 4 refl)
+    (λ r p told. no_reap reaped_early 1 4 p told refl)
+
+one_life : IsOneLife reaped_early 1 1 5
 one_life = record { honest = honest; no_restart = no_restart }
   where
-    honest : (j : ℕ) → 1 ≤ j → j ≤ 5 → (g : Guest) × IsHonest offered_again 1 j g
+    honest : (j : ℕ) → 1 ≤ j → j ≤ 6 → (g : Guest) × IsHonest reaped_early 1 j g
     honest zero a b = absurd (omega arith)
-    honest (suc zero) a b = (page_16_at FreePlace down, (refl, refl))
-    honest (suc (suc zero)) a b = (page_16_at Giving down, (refl, refl))
-    honest (suc (suc (suc zero))) a b = (page_16_at Giving down, (refl, refl))
-    honest (suc (suc (suc (suc zero)))) a b = (page_16_at FreePlace down, (refl, refl))
-    honest (suc (suc (suc (suc (suc zero))))) a b = (page_16_at Used down, (refl, refl))
-    honest (suc (suc (suc (suc (suc (suc j)))))) a b = absurd (omega arith)
+    honest (suc zero) a b = (back ready, (refl, refl))
+    honest (suc (suc zero)) a b = (giving ready, (refl, refl))
+    honest (suc (suc (suc zero))) a b = (giving ready, (refl, refl))
+    honest (suc (suc (suc (suc zero)))) a b = (lent ready, (refl, refl))
+    honest (suc (suc (suc (suc (suc zero))))) a b = (asked Taking ready, (refl, refl))
+    honest (suc (suc (suc (suc (suc (suc zero)))))) a b = (handed_out ready, (refl, refl))
+    honest (suc (suc (suc (suc (suc (suc (suc j))))))) a b = absurd (omega arith)
 
-    no_restart : (j : ℕ) → 1 ≤ j → j ≤ 4 → slice_get offered_again.events j ≡ Some (Restart 1) → ⊥
+    no_restart : (j : ℕ) → 1 ≤ j → j ≤ 5 → slice_get reaped_early.events j ≡ Some (Restart 1) → ⊥
     no_restart zero a b e = cc
     no_restart (suc zero) a b e = cc
     no_restart (suc (suc zero)) a b e = cc
     no_restart (suc (suc (suc zero))) a b e = cc
     no_restart (suc (suc (suc (suc zero)))) a b e = cc
-    no_restart (suc (suc (suc (suc (suc j))))) a b e = absurd (omega arith)
+    no_restart (suc (suc (suc (suc (suc zero))))) a b e = cc
+    no_restart (suc (suc (suc (suc (suc (suc j)))))) a b e = absurd (omega arith)
 
-brought_to_giving : Brings offered_again 1 16 Giving 1
-brought_to_giving =
-    (page_16_at FreePlace down, page_16_at Giving down, refl, refl, (λ e. cc), refl)
+brought_to_giving : Brings reaped_early 1 16 Giving 1
+brought_to_giving = (back ready, giving ready, refl, refl, (λ e. cc), refl)
 
-brought_to_used : Brings offered_again 1 16 Used 4
-brought_to_used = (page_16_at FreePlace down, page_16_at Used down, refl, refl, (λ e. cc), refl)
+brought_to_used : Brings reaped_early 1 16 Used 5
+brought_to_used = (asked Taking ready, handed_out ready, refl, refl, (λ e. cc), refl)
 
-none_reaped_since : (j : ℕ) → 1 < j → j < 4 → ReapsDeflate offered_again 1 16 j → ⊥
-none_reaped_since zero a b r = absurd (omega arith)
-none_reaped_since (suc zero) a b r = absurd (omega arith)
-none_reaped_since (suc (suc zero)) a b r =
-    let e : Some (Restart 0) ≡ Some (OnGuest 1 (Reap 1)) = r.event in cc
-none_reaped_since (suc (suc (suc zero))) a b r =
-    let same : page_16_at Giving down ≡ r.guest = cc in
-    let none : [] ≡ r.request ∷ r.others = ap (λ (g : Guest). g.deflate.done) same ∙ r.done in
-    cc
-none_reaped_since (suc (suc (suc (suc j)))) a b r = absurd (omega arith)
+reaped_too_early : Safe reaped_early → ⊥
+reaped_too_early s = none_reaped_since
+    (s.told_first 1 16 1 5 (omega arith) one_life brought_to_giving brought_to_used)
 
-reaped_too_early : Safe offered_again → ⊥
-reaped_too_early s =
-    let r = s.told_first 1 16 1 4 (omega arith) one_life brought_to_giving brought_to_used in
-    none_reaped_since r.0 r.1 r.2 r.3
+-- a guest that doesn't tell the host asked it back before, and it was free when it was offered
+abbrev posted_early : History
+posted_early = offering (Deflate 1) (Posted 0 1)
+    (OnGuest 1 (Reap 0) ∷ OnGuest 1 Work ∷ OnGuest 1 (Alloc 0 0) ∷ [])
+    (Reaped 0 1 ∷ Idle ∷ Page 16 ∷ []) (lent untold)
+    (asked FreePlace untold ∷ giving untold ∷ giving untold ∷ lent untold ∷ back untold
+    ∷ handed_out untold ∷ [])
+
+posted_before : PostsDeflate posted_early 1 16 0
+posted_before = record {
+  before = lent untold;
+  after = asked FreePlace untold;
+  call = Deflate 1;
+  request = request_16;
+  event = refl;
+  asks = refl;
+  is_there = refl;
+  follows = refl;
+  posted = refl;
+  named = refl;
+  reply = refl;
+}
+
+none_posted_since : AskedBack posted_early 1 16 1 5 → ⊥
+none_posted_since = not_by_three posted_early 1 1 (not_lending posted_early 1 5 2 3 refl)
+    (not_lending posted_early 1 5 2 4 refl) (not_asking posted_early 1 5 3 4 refl)
+
+one_life_untold : IsOneLife posted_early 1 1 5
+one_life_untold = record { honest = honest; no_restart = no_restart }
+  where
+    honest : (j : ℕ) → 1 ≤ j → j ≤ 6 → (g : Guest) × IsHonest posted_early 1 j g
+    honest zero a b = absurd (omega arith)
+    honest (suc zero) a b = (asked FreePlace untold, (refl, refl))
+    honest (suc (suc zero)) a b = (giving untold, (refl, refl))
+    honest (suc (suc (suc zero))) a b = (giving untold, (refl, refl))
+    honest (suc (suc (suc (suc zero)))) a b = (lent untold, (refl, refl))
+    honest (suc (suc (suc (suc (suc zero))))) a b = (back untold, (refl, refl))
+    honest (suc (suc (suc (suc (suc (suc zero)))))) a b = (handed_out untold, (refl, refl))
+    honest (suc (suc (suc (suc (suc (suc (suc j))))))) a b = absurd (omega arith)
+
+    no_restart : (j : ℕ) → 1 ≤ j → j ≤ 5 → slice_get posted_early.events j ≡ Some (Restart 1) → ⊥
+    no_restart zero a b e = cc
+    no_restart (suc zero) a b e = cc
+    no_restart (suc (suc zero)) a b e = cc
+    no_restart (suc (suc (suc zero))) a b e = cc
+    no_restart (suc (suc (suc (suc zero)))) a b e = cc
+    no_restart (suc (suc (suc (suc (suc zero))))) a b e = cc
+    no_restart (suc (suc (suc (suc (suc (suc j)))))) a b e = absurd (omega arith)
+
+posted_to_giving : Brings posted_early 1 16 Giving 1
+posted_to_giving = (asked FreePlace untold, giving untold, refl, refl, (λ e. cc), refl)
+
+posted_to_used : Brings posted_early 1 16 Used 5
+posted_to_used = (back untold, handed_out untold, refl, refl, (λ e. cc), refl)
+
+posted_too_early : Safe posted_early → ⊥
+posted_too_early s = none_posted_since
+    (s.told_first 1 16 1 5 (omega arith) one_life_untold posted_to_giving posted_to_used)
+
+-- an inflate that names it came back before, and no other does before the deflate is posted
+abbrev lent_early : History
+lent_early = offering (Reap 0) (Reaped 0 1) (OnGuest 1 (Deflate 1) ∷ OnGuest 1 (Alloc 0 0) ∷ [])
+    (Posted 0 1 ∷ Page 16 ∷ []) (giving untold)
+    (back untold ∷ giving untold ∷ lent untold ∷ asked FreePlace untold ∷ handed_out untold ∷ [])
+
+lent_before : ReapsUsed Inflating lent_early 1 16 0
+lent_before = record {
+  guest = giving untold;
+  request = request_16;
+  others = [];
+  event = refl;
+  is_there = refl;
+  done = refl;
+  named = refl;
+  reply = refl;
+}
+
+none_lent_since : AskedBack lent_early 1 16 1 4 → ⊥
+none_lent_since = not_by_two lent_early 1 1 (not_lending lent_early 1 4 2 3 refl)

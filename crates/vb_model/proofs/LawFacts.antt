@@ -13,7 +13,7 @@ use Rattle.vb_model.specs.declared.calls.Event.TheVariants.{Balance, Frames as C
 use Rattle.vb_model.specs.declared.calls.Query.TheVariants.{Places, PagesAt, PagesBallooned}
 use Rattle.vb_model.specs.declared.calls.Query.TheVariants.{Balloon, Memory, Backing}
 use Rattle.vb_model.specs.declared.calls.Event.{Event}
-use Rattle.vb_model.specs.declared.replies.Refusal.TheVariants.{NotHeld, MustTellMissing, NoFrame}
+use Rattle.vb_model.specs.declared.replies.Refusal.TheVariants.{NotHeld, VersionMissing, NoFrame}
 use Rattle.vb_model.specs.declared.replies.Refusal.TheVariants.{NoDevice}
 use Rattle.vb_model.specs.declared.replies.Reply.TheVariants.{Plugged, Done, Frames, Refused}
 use Rattle.vb_model.specs.Tests.{is_in}
@@ -148,8 +148,17 @@ changed_by_a_reset (inl same) =
     let e : Same 131 0 = ap (λ (g : Guest). g.status) same in omega arith
 changed_by_a_reset (inr (wanted, call, refused, status)) = cc
 
-failed_for_features : IsUnchanged (Init 0x100000026) MustTellMissing down failed
-failed_for_features = inr (0x100000026, refl, refl, refl)
+failed_for_features : IsUnchanged (Init 0x26) VersionMissing down failed
+failed_for_features = inr (0x26, refl, refl, refl)
+
+-- these features aren't refused
+failed_for_no_feature : IsUnchanged (Init 0x100000026) VersionMissing down failed → ⊥
+failed_for_no_feature (inl same) =
+    let e : Same 131 0 = ap (λ (g : Guest). g.status) same in omega arith
+failed_for_no_feature (inr (wanted, call, refused, status)) =
+    let same : 0x100000026 ≡ wanted = cc in
+    let e : None ≡ Some VersionMissing = ap feature_refusal same ∙ refused in
+    cc
 
 failed_for_want_of_frames : IsUnchanged (Init 0x100000027) NoFrame down failed → ⊥
 failed_for_want_of_frames (inl same) =
@@ -159,7 +168,7 @@ failed_for_want_of_frames (inr (wanted, call, refused, status)) =
     let e : None ≡ Some NoFrame = ap feature_refusal same ∙ refused in
     cc
 
-initialised_but_refused : IsUnchanged (Init 0x100000026) MustTellMissing down ready → ⊥
+initialised_but_refused : IsUnchanged (Init 0x26) VersionMissing down ready → ⊥
 initialised_but_refused (inl same) =
     let e : Same 15 0 = ap (λ (g : Guest). g.status) same in omega arith
 initialised_but_refused (inr (wanted, call, refused, status)) =

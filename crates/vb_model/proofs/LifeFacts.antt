@@ -9,10 +9,9 @@ use Rattle.vb_model.specs.declared.calls.Claim.{Claim}
 use Rattle.vb_model.specs.declared.calls.Claim.TheVariants.{Gave, GaveNoFrame, GaveNoMemory}
 use Rattle.vb_model.specs.declared.calls.Event.TheVariants.{Unplug, Restart}
 use Rattle.vb_model.specs.declared.replies.Refusal.TheVariants.{AlreadyUp, NoFrame, NoMemory}
-use Rattle.vb_model.specs.declared.replies.Refusal.TheVariants.{FeatureNotOffered, MustTellMissing}
-use Rattle.vb_model.specs.declared.replies.Refusal.TheVariants.{VersionMissing}
+use Rattle.vb_model.specs.declared.replies.Refusal.TheVariants.{FeatureNotOffered, VersionMissing}
 use Rattle.vb_model.specs.declared.replies.Reply.TheVariants.{Ready, Done, Refused}
-use Rattle.vb_model.specs.Requests.{Requests, no_requests, NoBuffer, BufferTaken}
+use Rattle.vb_model.specs.Requests.{Requests, no_requests, NoBuffer, BufferPosted, BufferTaken}
 use Rattle.vb_model.specs.Guest.{Guest, zero_page, no_statistics}
 use Rattle.vb_model.specs.Refusals.{refusal_of}
 use Rattle.vb_model.specs.Driver.{AreClaimsFor}
@@ -174,6 +173,23 @@ initialised : HonestStep down (Init 0x100000025) thirteen Ready
     (record down { status = 15; features = 0x100000025; frames = thirteen_frames })
 initialised = (tt, (refl, refl))
 
+-- a guest needn't agree to tell the host
+initialised_untold : HonestStep down (Init 0x100000026) thirteen Ready (record down {
+  status = 15;
+  features = 0x100000026;
+  buffer = BufferPosted (record { free = 196608; total = 262144 });
+  frames = thirteen_frames;
+})
+initialised_untold = (tt, (refl, refl))
+
+with_version_alone : HonestStep down (Init 0x100000000) thirteen Ready
+    (record down { status = 15; features = 0x100000000; frames = thirteen_frames })
+with_version_alone = (tt, (refl, refl))
+
+untold_but_refused : (new : Guest)
+    → HonestStep down (Init 0x100000026) thirteen (Refused VersionMissing) new → ⊥
+untold_but_refused new s = let e : Refused VersionMissing ≡ Ready = s.1.0 in cc
+
 -- one claim for each of the pages, no more and no less, and none after one that is refused
 one_claim_too_few : AreClaimsFor (0 ∷ 1 ∷ []) (Gave 5 ∷ []) → ⊥
 one_claim_too_few a = a
@@ -198,13 +214,13 @@ no_memory_left = (refl, (refl, refl))
 
 -- features that are refused leave the status at 131 and what was accepted in the negotiation; the
 -- frames stay
-must_tell_missing : HonestStep down (Init 0x100000026) thirteen (Refused MustTellMissing)
-    (record down { status = 131; features = 0x100000026; frames = thirteen_frames })
-must_tell_missing = (tt, (refl, refl))
-
 version_missing : HonestStep down (Init 0x27) thirteen (Refused VersionMissing)
     (record down { status = 131; features = 0x27; frames = thirteen_frames })
 version_missing = (tt, (refl, refl))
+
+no_features : HonestStep down (Init 0) thirteen (Refused VersionMissing)
+    (record down { status = 131; features = 0; frames = thirteen_frames })
+no_features = (tt, (refl, refl))
 
 -- none were accepted that aren't offered
 not_offered : HonestStep down (Init 0x100000067) thirteen (Refused FeatureNotOffered)

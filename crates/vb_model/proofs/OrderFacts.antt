@@ -15,7 +15,7 @@ use Rattle.vb_model.specs.declared.replies.Reply.TheVariants.{Done, Idle, Page, 
 use Rattle.vb_model.specs.declared.replies.Reply.TheVariants.{Refused}
 use Rattle.vb_model.specs.Requests.{Request, Requests}
 use Rattle.vb_model.specs.Guest.{Guest}
-use Rattle.vb_model.specs.Orderly.{IsOrderly, IsRequestSound}
+use Rattle.vb_model.specs.Orderly.{IsOrderly, IsRequestSound, AreAgreed}
 use Rattle.vb_model.specs.Determined.{Agree}
 use Rattle.vb_model.proofs.Samples.{ready, down, request}
 
@@ -100,6 +100,22 @@ page_15_not_reserved o = let e : false ≡ true = o.unreserved 15 (omega arith) 
 page_16_reserved : IsOrderly
     (record ready { places = replicate 17 Reserved ++ replicate 47 FreePlace }) → ⊥
 page_16_reserved o = let e : true ≡ false = o.unreserved 16 (omega arith) in cc
+
+-- ---- the features of a guest that is ready: VERSION_1, and none that isn't offered
+
+ready_without_version : IsOrderly (record ready { features = 0x27 }) → ⊥
+ready_without_version o = let e : false ≡ true = (o.agreed refl).version in cc
+
+ready_with_bit_3 : IsOrderly (record ready { features = 0x10000002f }) → ⊥
+ready_with_bit_3 o = let e : false ≡ true = (o.agreed refl).offered in cc
+
+-- MUST_TELL_HOST may be among them or not
+agreed : AreAgreed 0x100000027 × AreAgreed 0x100000026 × AreAgreed 0x100000000
+agreed = (
+  record { offered = refl; version = refl },
+  record { offered = refl; version = refl },
+  record { offered = refl; version = refl },
+)
 
 -- ---- two answers to one call
 

@@ -26,12 +26,13 @@ use Rattle.vb_model.specs.declared.replies.Reply.TheVariants.{Refused}
 use Rattle.vb_model.specs.Limits.{reserved_pages, min_reported_order, max_order}
 use Rattle.vb_model.specs.Tests.{is_in}
 use Rattle.vb_model.specs.Pages.{Block, pages_of, pages_of_all, is_free, is_used, is_giving}
-use Rattle.vb_model.specs.Pages.{is_lent, is_taking, is_reporting, place_of, placed, size}
+use Rattle.vb_model.specs.Pages.{is_lent, is_reporting, is_reserved, place_of, placed, size}
 use Rattle.vb_model.specs.Pages.{is_aligned, is_wholly_free, is_same_block}
 use Rattle.vb_model.specs.Requests.{Request, Requests, no_requests, outstanding, Kind, Inflating}
-use Rattle.vb_model.specs.Requests.{Deflating, Reporting_free, kind_of_queue, place_after, Buffer}
+use Rattle.vb_model.specs.Requests.{Deflating, Reporting_free, kind_of_queue, place_posted}
+use Rattle.vb_model.specs.Requests.{places_reaped, Buffer}
 use Rattle.vb_model.specs.Requests.{NoBuffer, BufferPosted, BufferTaken, BufferDone}
-use Rattle.vb_model.specs.Guest.{Guest, Config, fresh, requests, with_requests}
+use Rattle.vb_model.specs.Guest.{Guest, Config, fresh, requests, with_requests, tells_host}
 use Rattle.vb_model.specs.Refusals.{refusal_of, tests, room, deflate_count, oom_count}
 use Rattle.vb_model.specs.Refusals.{reported_blocks}
 use Rattle.vb_model.specs.Driver.{Reaps, Fills, Written, pages_needed, stranded_first, lowest_lent}
@@ -42,13 +43,14 @@ use Rattle.vb_model.specs.Life.{after_reset, feature_tests}
 use Rattle.vb_model.specs.Rogue.{Scribbled}
 use Rattle.vb_model.specs.Step.{Performs, HonestStep}
 use Rattle.vb_model.specs.Consistent.{IsConsistent}
-use Rattle.vb_model.specs.Orderly.{AreOrderly, IsOrderly, is_reserved, IsBlock, AreBlocks}
+use Rattle.vb_model.specs.Orderly.{AreOrderly, IsOrderly, IsBlock, AreBlocks}
 use Rattle.vb_model.specs.Orderly.{AreAgreed}
 use Rattle.vb_model.specs.World.{World, WorldStep, guest_at}
 use Rattle.vb_model.proofs.Tables.{length-each_from}
 use Rattle.vb_model.proofs.PageSteps.{can_be_given, after_take, after_reap, outside-range}
 use Rattle.vb_model.proofs.GuestSteps.{placed-get, not_reserved, held_used, inflate_giving}
-use Rattle.vb_model.proofs.GuestSteps.{deflate_taking, report_reporting, place_of-reset}
+use Rattle.vb_model.proofs.GuestSteps.{deflate_there, length-reaped, report_reporting}
+use Rattle.vb_model.proofs.GuestSteps.{place_of-reset}
 use Rattle.vb_model.proofs.GuestSteps.{first_place}
 use Rattle.vb_model.proofs.CallSteps.{match_cases, supplying_cases, works_cases, not_refused}
 use Rattle.vb_model.proofs.CallSteps.{supplied, inflated_pages, lent_pages, wholly_free_pages}
@@ -89,6 +91,17 @@ moved n pages place places h free ok page l =
         → is_reserved (cond v place (place_of places page)) ≡ is_reserved (place_of places page)
     step true e = free ∙ sym (is_not_reserved (place_of places page) (ok page e))
     step false e = refl
+
+-- the pages of a deflate that was reaped
+moved_back : (told : Bool) (n : ℕ) (pages : List ℕ) (places : List Place) → Unreserved n places
+    → ((page : ℕ) → is_in page pages ≡ true → place_of places page ≢ Reserved)
+    → Unreserved n (places_reaped told Deflating pages places)
+moved_back true n pages places h ok = moved n pages FreePlace places h refl ok
+moved_back false n pages places h ok = h
+
+posted_unreserved : (told : Bool) → is_reserved (place_posted told Deflating) ≡ false
+posted_unreserved true = refl
+posted_unreserved false = refl
 
 length-placed : (pages : List ℕ) (place : Place) (places : List Place)
     → length (placed pages place places) ≡ length places
@@ -319,7 +332,7 @@ kept_finish Reporting_free i r g h e =
       agreed = h.agreed;
     }
 
-kept_reap : (kind : Kind) (g : Guest) (r : Request) (rest : List Request) → IsConsistent g
+pub kept_reap : (kind : Kind) (g : Guest) (r : Request) (rest : List Request) → IsConsistent g
     → IsOrderly g → (requests kind g).done ≡ r ∷ rest → IsOrderly (reaped kind r rest g)
 kept_reap Inflating g r rest c h e =
     with_inflate g (after_reap rest g.inflate) (placed r.pages Lent g.places) h
@@ -328,11 +341,12 @@ kept_reap Inflating g r rest c h e =
     (moved g.config.pages r.pages Lent g.places h.unreserved refl
     (λ page k. not_reserved _ is_giving refl (inflate_giving g page r rest c e k)))
 kept_reap Deflating g r rest c h e =
-    with_deflate g (after_reap rest g.deflate) (placed r.pages FreePlace g.places) h
+    with_deflate g (after_reap rest g.deflate)
+    (places_reaped (tells_host g) Deflating r.pages g.places) h
     (orderly_reap _ r rest g.deflate e h.deflating)
-    (length-placed r.pages FreePlace g.places ∙ h.tabled)
-    (moved g.config.pages r.pages FreePlace g.places h.unreserved refl
-    (λ page k. not_reserved _ is_taking refl (deflate_taking g page r rest c e k)))
+    (length-reaped (tells_host g) Deflating r.pages g.places ∙ h.tabled)
+    (moved_back (tells_host g) g.config.pages r.pages g.places h.unreserved
+    (λ page k. deflate_there g page r rest c e k))
 kept_reap Reporting_free g r rest c h e =
     with_report g (after_reap rest g.report) (placed r.pages FreePlace g.places) h
     (orderly_reap _ r rest g.report e h.reporting)
@@ -397,8 +411,7 @@ accepted wanted e =
     let n = not_refused (feature_tests wanted) e in
     record {
       offered = not-false _ n.1.0;
-      told = not-false _ n.1.1.1.1.0;
-      version = not-false _ n.1.1.1.1.1.0;
+      version = not-false _ n.1.1.1.1.0;
     }
 
 negotiates_order : (o : Option Refusal) (wanted : ℕ) (g : Guest) (reply : Reply) (new : Guest)
@@ -434,11 +447,12 @@ deflates_order : (g : Guest) (count head : ℕ) → IsOrderly g
     → Rattle.vb_model.specs.Requests.IsLeastHead g.deflate head → outstanding g.deflate < room g
     → IsOrderly (Rattle.vb_model.specs.Driver.asking Deflating head (lowest_lent count g) g)
 deflates_order g count head h least now =
-    with_deflate g _ (placed (lowest_lent count g) Taking g.places) h
+    with_deflate g _ (placed (lowest_lent count g) (place_posted (tells_host g) Deflating) g.places) h
     (orderly_posting (room g) g.deflate head (lowest_lent count g) h.deflating least now
     (λ page. distinct_where is_lent g.places count page))
-    (length-placed (lowest_lent count g) Taking g.places ∙ h.tabled)
-    (moved g.config.pages (lowest_lent count g) Taking g.places h.unreserved refl
+    (length-placed (lowest_lent count g) (place_posted (tells_host g) Deflating) g.places ∙ h.tabled)
+    (moved g.config.pages (lowest_lent count g) (place_posted (tells_host g) Deflating) g.places h.unreserved
+    (posted_unreserved (tells_host g))
     (λ page k. not_reserved _ is_lent refl (lent_pages g count page k)))
 
 performs_order : (call : Call) (g : Guest) (claims : List Claim) (reply : Reply) (new : Guest)

@@ -9,12 +9,12 @@ use Rattle.vb_model.specs.declared.places.Place.TheVariants.{Reserved}
 use Rattle.vb_model.specs.declared.calls.Event.{Event}
 use Rattle.vb_model.specs.declared.replies.Reply.{Reply}
 use Rattle.vb_model.specs.Tests.{one_if}
-use Rattle.vb_model.specs.Pages.{is_giving, is_lent, is_taking, place_of}
+use Rattle.vb_model.specs.Pages.{is_giving, is_lent, is_reserved, place_of}
 use Rattle.vb_model.specs.Guest.{Guest, is_ballooned}
 use Rattle.vb_model.specs.Rogue.{RogueStep}
 use Rattle.vb_model.specs.Step.{HonestStep}
 use Rattle.vb_model.specs.Consistent.{IsConsistent}
-use Rattle.vb_model.specs.Orderly.{IsOrderly, is_reserved}
+use Rattle.vb_model.specs.Orderly.{IsOrderly}
 use Rattle.vb_model.specs.StepLaws.{HasNoReservedBallooned}
 use Rattle.vb_model.specs.World.{World, WorldStep, guest_at}
 use Rattle.vb_model.proofs.PageSteps.{naming-all}
@@ -48,8 +48,8 @@ honest_unreserved g c o page l = at_reserved place
         ap (λ (x : Place). one_if (is_lent x)) e in
         let giving : one_if (is_giving (place_of g.places page)) ≡ 0 =
         ap (λ (x : Place). one_if (is_giving x)) e in
-        let taking : one_if (is_taking (place_of g.places page)) ≡ 0 =
-        ap (λ (x : Place). one_if (is_taking x)) e in
+        let reserved : one_if (is_reserved (place_of g.places page)) ≡ 1 =
+        ap (λ (x : Place). one_if (is_reserved x)) e in
         flag_off _ (omega (
           arith,
           p.ballooning,

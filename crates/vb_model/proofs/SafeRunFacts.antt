@@ -90,6 +90,7 @@ named = record (page_16_at Used down) {
   inflate = record { posted = []; taken = []; done = request 0 (16 ∷ []) 0 ∷ [] };
   ballooned = replicate 16 false ++ (true ∷ []);
   status = 15;
+  features = 0x100000027;
   frames = replicate 16 None ++ (Some 5 ∷ []);
 }
 

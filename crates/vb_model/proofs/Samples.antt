@@ -18,6 +18,10 @@ ready = record (fresh config 0) { status = 15; features = 0x100000027 }
 abbrev pub down : Guest
 down = fresh config 0
 
+-- it hasn't agreed to tell the host: all features but MUST_TELL_HOST
+abbrev pub untold : Guest
+untold = record ready { features = 0x100000026 }
+
 -- the features but the one of this bit
 abbrev pub without_stats_vq : Guest
 without_stats_vq = record ready { features = 0x100000025 }

@@ -1,17 +1,17 @@
 -- Guests whose parts don't agree, and pages that aren't blank, one for each thing that is promised.
-use Rattle.std.proofs.Common.{◌≡◌, ℕ, List, [], ◌∷◌, ◌++◌, true, false, replicate, ap, arith}
+use Rattle.std.proofs.Common.{◌≡◌, ℕ, ◌≤◌, List, [], ◌∷◌, ◌++◌, true, false, replicate, ap, arith}
 use Rattle.std.proofs.Common.{◌∙◌, length, refl}
-use Rattle.std.specs.Prelude.{None}
+use Rattle.std.specs.Prelude.{Bool, None}
 use Rattle.vb_model.specs.declared.places.Place.{Place}
 use Rattle.vb_model.specs.declared.places.Place.TheVariants.{Free, Used, Giving, Lent, Taking}
-use Rattle.vb_model.specs.declared.places.Place.TheVariants.{Reporting}
+use Rattle.vb_model.specs.declared.places.Place.TheVariants.{Reserved, Reporting}
 use Rattle.vb_model.specs.Pages.{Block}
-use Rattle.vb_model.specs.Requests.{Requests}
+use Rattle.vb_model.specs.Requests.{Requests, no_requests}
 use Rattle.vb_model.specs.Guest.{Guest, zero_page}
-use Rattle.vb_model.specs.Consistent.{IsConsistent}
+use Rattle.vb_model.specs.Consistent.{IsConsistent, IsPageSound}
 use Rattle.vb_model.specs.Blank.{IsBlank}
 use Rattle.vb_model.proofs.BlankSteps.{length-zero_page}
-use Rattle.vb_model.proofs.Samples.{ready, page_16_at, request}
+use Rattle.vb_model.proofs.Samples.{ready, untold, page_16_at, request}
 
 abbrev Same : ℕ → ℕ → Type 0
 Same a b = a ≡ b
@@ -28,7 +28,7 @@ giving_but_not_named : IsConsistent (only Giving) → ⊥
 giving_but_not_named c = let e : Same 0 1 = (c.pages 16).inflating in omega arith
 
 taking_but_not_named : IsConsistent (only Taking) → ⊥
-taking_but_not_named c = let e : Same 0 1 = (c.pages 16).deflating in omega arith
+taking_but_not_named c = let e : Same 1 0 = (c.pages 16).taking in omega arith
 
 reporting_but_not_named : IsConsistent (only Reporting) → ⊥
 reporting_but_not_named c = let e : Same 0 1 = (c.pages 16).reporting in omega arith
@@ -52,7 +52,7 @@ named_by_an_inflate : IsConsistent (record ready { inflate = naming_16 }) → �
 named_by_an_inflate c = let e : Same 1 0 = (c.pages 16).inflating in omega arith
 
 named_by_a_deflate : IsConsistent (record ready { deflate = naming_16 }) → ⊥
-named_by_a_deflate c = let e : Same 1 0 = (c.pages 16).deflating in omega arith
+named_by_a_deflate c = let e : Same 0 1 = (c.pages 16).taking in omega arith
 
 named_by_a_report : IsConsistent (record ready { report = naming_16 }) → ⊥
 named_by_a_report c = let e : Same 1 0 = (c.pages 16).reporting in omega arith
@@ -60,6 +60,98 @@ named_by_a_report c = let e : Same 1 0 = (c.pages 16).reporting in omega arith
 ballooned_but_free : IsConsistent
     (record ready { ballooned = replicate 16 false ++ (true ∷ replicate 47 false) }) → ⊥
 ballooned_but_free c = let e : Same 1 0 = (c.pages 16).ballooning in omega arith
+
+-- ---- page 16 and a deflate that names it, with or without an inflate that names it too, where the
+-- guest tells the host and where it doesn't
+
+abbrev Named : Bool → Place → Requests → Requests → Bool → Type 0
+Named told place inflate deflate flag =
+    IsPageSound 16 told place [] inflate deflate no_requests flag
+
+-- the page is taking until the deflate is reaped, and a page of a guest that doesn't tell is free
+taking_and_named : Named true Taking no_requests naming_16 false
+taking_and_named = record {
+  holding = refl;
+  inflating = refl;
+  deflating = omega arith;
+  taking = refl;
+  reporting = refl;
+  ballooning = refl;
+}
+
+free_and_named : Named false Free no_requests naming_16 false
+free_and_named = record {
+  holding = refl;
+  inflating = refl;
+  deflating = omega arith;
+  taking = refl;
+  reporting = refl;
+  ballooning = refl;
+}
+
+-- it is ballooned until the deflate is used
+abbrev asking_16 : Requests
+asking_16 = record { posted = []; taken = request 0 (16 ∷ []) 0 ∷ []; done = [] }
+
+free_and_ballooned : Named false Free no_requests asking_16 true
+free_and_ballooned = record {
+  holding = refl;
+  inflating = refl;
+  deflating = omega arith;
+  taking = refl;
+  reporting = refl;
+  ballooning = refl;
+}
+
+free_too_early : Named false Free no_requests asking_16 false → ⊥
+free_too_early s = let e : Same 0 1 = s.ballooning in omega arith
+
+ballooned_too_long : Named false Free no_requests naming_16 true → ⊥
+ballooned_too_long s = let e : Same 1 0 = s.ballooning in omega arith
+
+-- no page is taking in a guest that doesn't tell, and no other one in a guest that does
+taking_untold : Named false Taking no_requests naming_16 false → ⊥
+taking_untold s = let e : Same 1 0 = s.taking in omega arith
+
+free_while_it_tells : Named true Free no_requests naming_16 false → ⊥
+free_while_it_tells s = let e : Same 0 1 = s.taking in omega arith
+
+-- whether it tells or not, the page is neither lent nor offered, nor reserved, nor asked back twice
+abbrev Neither : Place → Requests → Requests → Bool → Type 0
+Neither place inflate deflate flag =
+    (Named true place inflate deflate flag → ⊥) × (Named false place inflate deflate flag → ⊥)
+
+lent_and_named : Neither Lent no_requests naming_16 true
+lent_and_named = (
+  (λ s. let l : 2 ≤ 1 = s.deflating in omega (arith, l)),
+  (λ s. let l : 2 ≤ 1 = s.deflating in omega (arith, l)),
+)
+
+offered_and_named : Neither Giving naming_16 naming_16 true
+offered_and_named = (
+  (λ s. let l : 2 ≤ 1 = s.deflating in omega (arith, l)),
+  (λ s. let l : 2 ≤ 1 = s.deflating in omega (arith, l)),
+)
+
+reserved_and_named : Neither Reserved no_requests naming_16 false
+reserved_and_named = (
+  (λ s. let l : 2 ≤ 1 = s.deflating in omega (arith, l)),
+  (λ s. let l : 2 ≤ 1 = s.deflating in omega (arith, l)),
+)
+
+abbrev twice : Requests
+twice = record {
+  posted = request 1 (16 ∷ []) 0 ∷ [];
+  taken = [];
+  done = request 0 (16 ∷ []) 0 ∷ [];
+}
+
+asked_back_twice : (Named true Taking no_requests twice true → ⊥)
+    × (Named false Free no_requests twice true → ⊥)
+asked_back_twice = (
+  (λ s. let l : 2 ≤ 1 = s.deflating in omega (arith, l)),
+  (λ s. let l : 2 ≤ 1 = s.deflating in omega (arith, l)),
+)
 
 -- ---- a page of two blocks, or of two requests
 
@@ -80,6 +172,10 @@ named_twice c = let e : Same 2 1 = (c.pages 16).inflating in omega arith
 
 actual_too_high : IsConsistent (record ready { actual = 1 }) → ⊥
 actual_too_high c = let e : Same 1 0 = c.counted in omega arith
+
+-- it counts the pages that a deflate names, wherever they are
+actual_too_low : IsConsistent (record untold { deflate = naming_16 }) → ⊥
+actual_too_low c = let e : Same 0 1 = c.counted in omega arith
 
 a_place_more : IsConsistent (record ready { places = ready.places ++ (Free ∷ []) }) → ⊥
 a_place_more c = let e : Same 65 64 = c.sized in omega arith

@@ -4,11 +4,13 @@
 use Rattle.std.proofs.Common.{◌≡◌, true, false, [], ◌∷◌, map, refl}
 use Rattle.std.specs.Prelude.{Some, None}
 use Rattle.vb_model.specs.declared.replies.Refusal.TheVariants.{NotReady, NeedsReset, QueueFull}
-use Rattle.vb_model.specs.declared.replies.Refusal.TheVariants.{Nothing, NoFeature, NoQueue, Busy}
+use Rattle.vb_model.specs.declared.replies.Refusal.TheVariants.{DeflatePending, Nothing, NoFeature}
+use Rattle.vb_model.specs.declared.replies.Refusal.TheVariants.{NoQueue, Busy}
 use Rattle.vb_model.specs.declared.replies.Refusal.TheVariants.{NotTaken, NotWorked, NotBallooned}
 use Rattle.vb_model.specs.Requests.{Request}
 use Rattle.vb_model.specs.FirstRefusal.{first_refusal}
-use Rattle.vb_model.specs.Tables.{is_up, is_not_ready, has_fault, most_requests, asking_tests}
+use Rattle.vb_model.specs.Tables.{is_up, is_not_ready, has_fault, most_requests, inflate_tests}
+use Rattle.vb_model.specs.Tables.{deflate_tests}
 use Rattle.vb_model.specs.Tables.{featured_tests, reap_tests, stats_tests, take_tests, work_tests}
 use Rattle.vb_model.specs.Tables.{finish_tests, sweep_tests, ask_tests}
 
@@ -28,13 +30,35 @@ device_has_fault = refl
 
 -- ---- the driver's calls: whatever failed, it isn't ready
 
-requests_of_a_failed_device : map (λ status. first_refusal (asking_tests status 16 16 0))
+inflates_of_a_failed_device : map (λ status. first_refusal (inflate_tests status 0 1 16 16 0))
     (15 ∷ 79 ∷ 143 ∷ 207 ∷ []) ≡ Some QueueFull ∷ Some NotReady ∷ Some NotReady ∷ Some NotReady ∷ []
-requests_of_a_failed_device = refl
+inflates_of_a_failed_device = refl
 
-requests_in_order : map (λ count. first_refusal (asking_tests 15 15 16 count)) (0 ∷ 1 ∷ [])
+deflates_of_a_failed_device : map (λ status. first_refusal (deflate_tests status 16 16 0))
+    (15 ∷ 79 ∷ 143 ∷ 207 ∷ []) ≡ Some QueueFull ∷ Some NotReady ∷ Some NotReady ∷ Some NotReady ∷ []
+deflates_of_a_failed_device = refl
+
+-- with MUST_TELL_HOST, which is bit 0, pending deflates are no matter
+inflates_in_order : map (λ count. first_refusal (inflate_tests 15 1 16 15 16 count)) (0 ∷ 1 ∷ [])
     ≡ Some Nothing ∷ None ∷ []
-requests_in_order = refl
+inflates_in_order = refl
+
+-- without it they come behind a full queue and before a count of 0
+inflates_behind_a_deflate : first_refusal (inflate_tests 15 0 1 16 16 0)
+    ∷ first_refusal (inflate_tests 15 0 1 15 16 0) ∷ first_refusal (inflate_tests 15 0 1 15 16 1)
+    ∷ first_refusal (inflate_tests 15 0 0 15 16 0) ∷ first_refusal (inflate_tests 15 0 0 15 16 1)
+    ∷ [] ≡ Some QueueFull ∷ Some DeflatePending ∷ Some DeflatePending ∷ Some Nothing ∷ None ∷ []
+inflates_behind_a_deflate = refl
+
+-- just that bit counts
+inflates_by_feature : map (λ features. first_refusal (inflate_tests 15 features 16 0 16 1))
+    (0 ∷ 1 ∷ 4294967334 ∷ 4294967335 ∷ []) ≡ Some DeflatePending ∷ None ∷ Some DeflatePending ∷ None
+    ∷ []
+inflates_by_feature = refl
+
+deflates_in_order : map (λ count. first_refusal (deflate_tests 15 15 16 count)) (0 ∷ 1 ∷ [])
+    ≡ Some Nothing ∷ None ∷ []
+deflates_in_order = refl
 
 requests_with_a_feature : map (λ status. first_refusal (featured_tests status false 16 16 0))
     (15 ∷ 79 ∷ 143 ∷ []) ≡ Some NoFeature ∷ Some NotReady ∷ Some NotReady ∷ []
@@ -112,13 +136,24 @@ finishes_half_visited : first_refusal (finish_tests 0 15 true (Some half_visited
     ∷ Some NeedsReset ∷ []
 finishes_half_visited = refl
 
-sweeps : map (λ status. first_refusal (sweep_tests status false)) (11 ∷ 15 ∷ 79 ∷ 143 ∷ 207 ∷ [])
-    ≡ Some NotReady ∷ Some NotBallooned ∷ Some NeedsReset ∷ Some NotReady ∷ Some NotReady ∷ []
+sweeps : map (λ status. first_refusal (sweep_tests status 1 false))
+    (11 ∷ 15 ∷ 79 ∷ 143 ∷ 207 ∷ []) ≡ Some NotReady ∷ Some NotBallooned ∷ Some NeedsReset
+    ∷ Some NotReady ∷ Some NotReady ∷ []
 sweeps = refl
 
-sweeps_a_ballooned_page : map (λ status. first_refusal (sweep_tests status true))
+sweeps_a_ballooned_page : map (λ status. first_refusal (sweep_tests status 1 true))
     (15 ∷ 79 ∷ 143 ∷ []) ≡ None ∷ Some NeedsReset ∷ Some NotReady ∷ []
 sweeps_a_ballooned_page = refl
+
+-- without MUST_TELL_HOST no page is swept, ballooned or not; the status goes first
+sweeps_without_the_feature : map (λ status. first_refusal (sweep_tests status 0 false))
+    (11 ∷ 15 ∷ 79 ∷ 143 ∷ 207 ∷ []) ≡ Some NotReady ∷ Some NoFeature ∷ Some NeedsReset
+    ∷ Some NotReady ∷ Some NotReady ∷ []
+sweeps_without_the_feature = refl
+
+sweeps_by_feature : map (λ features. first_refusal (sweep_tests 15 features true))
+    (0 ∷ 1 ∷ 4294967334 ∷ 4294967335 ∷ []) ≡ Some NoFeature ∷ None ∷ Some NoFeature ∷ None ∷ []
+sweeps_by_feature = refl
 
 asks : map (λ status. first_refusal (ask_tests status false)) (11 ∷ 15 ∷ 79 ∷ 143 ∷ 207 ∷ [])
     ≡ Some NotReady ∷ Some NotTaken ∷ Some NeedsReset ∷ Some NotReady ∷ Some NotReady ∷ []

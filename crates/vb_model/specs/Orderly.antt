@@ -3,12 +3,11 @@
 use Rattle.std.specs.Prelude.{◌≡◌, ℕ, ◌+◌, ◌<◌, ◌≤◌, Bool, true, false, List, [], ◌∷◌, length}
 use Rattle.std.specs.Prelude.{nat_lt, min, ⊤, ◌⊎◌, IsTrue}
 use Rattle.vb_model.specs.declared.places.Place.{Place}
-use Rattle.vb_model.specs.declared.places.Place.TheVariants.{Reserved}
 use Rattle.vb_model.specs.Limits.{reserved_pages, max_outstanding, max_order}
 pub use Rattle.vb_model.specs.Tests.{times}
-use Rattle.vb_model.specs.Pages.{Block, size, is_aligned, place_of}
+use Rattle.vb_model.specs.Pages.{Block, size, is_aligned, place_of, is_reserved}
 use Rattle.vb_model.specs.Requests.{Request, Requests, all_requests, headed, outstanding}
-use Rattle.vb_model.specs.Guest.{Guest, offered_features, must_tell_host, version_1}
+use Rattle.vb_model.specs.Guest.{Guest, offered_features, version_1}
 use Rattle.vb_model.specs.Status.{contains}
 
 -- its pages are distinct, and no more were visited than there are
@@ -28,10 +27,6 @@ pub record AreOrderly (most : ℕ) (rs : Requests) : Type 0 where
   pub taken : AllRequestsSound rs.taken
   pub done : AllRequestsSound rs.done
 
-abbrev pub is_reserved : Place → Bool
-is_reserved Reserved = true
-is_reserved _ = false
-
 -- a block of an order that there is, at a multiple of its size, within so many pages
 pub record IsBlock (pages : ℕ) (b : Block) : Type 0 where
   pub order : b.order ≤ max_order
@@ -42,11 +37,9 @@ abbrev pub AreBlocks : ℕ → List Block → Type 0
 AreBlocks pages [] = ⊤
 AreBlocks pages (b ∷ held) = IsBlock pages b × AreBlocks pages held
 
--- features that a device accepts: it offers all of them, and MUST_TELL_HOST and VERSION_1 are among
--- them
+-- features that a device accepts: it offers all of them, and VERSION_1 is among them
 pub record AreAgreed (features : ℕ) : Type 0 where
   pub offered : IsTrue (contains offered_features features)
-  pub told : IsTrue (must_tell_host features)
   pub version : IsTrue (version_1 features)
 
 pub record IsInOrder (pages queue_size : ℕ) (places : List Place) (held : List Block)

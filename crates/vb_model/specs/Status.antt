@@ -5,10 +5,9 @@ use Rattle.std.specs.Prelude.{Option, None, count_by, bit_and}
 use Rattle.std.specs.List.{list_any}
 use Rattle.vb_model.specs.declared.replies.Refusal.{Refusal}
 use Rattle.vb_model.specs.declared.replies.Refusal.TheVariants.{ClearsBit, OutOfOrder}
-use Rattle.vb_model.specs.declared.replies.Refusal.TheVariants.{FeatureNotOffered, MustTellMissing}
-use Rattle.vb_model.specs.declared.replies.Refusal.TheVariants.{VersionMissing}
+use Rattle.vb_model.specs.declared.replies.Refusal.TheVariants.{FeatureNotOffered, VersionMissing}
 use Rattle.vb_model.specs.FirstRefusal.{Test, ◌⇒◌, first_refusal}
-use Rattle.vb_model.specs.Guest.{offered_features, must_tell_host, version_1}
+use Rattle.vb_model.specs.Guest.{offered_features, version_1}
 
 -- ---- the bits of the status, which has eight
 
@@ -76,13 +75,9 @@ is_out_of_order status write =
 
 -- ---- the rules
 
--- the features that FEATURES_OK asks for (VIRTIO 1.1, 2.2 and 6): MUST_TELL_HOST is the profile's
--- demand, VERSION_1 that of VIRTIO 1.1, 6.1
+-- the feature that FEATURES_OK asks for: VERSION_1 (VIRTIO 1.1, 2.2 and 6.1)
 abbrev pub needed_tests : ℕ → List Test
-needed_tests negotiated =
-    (not (must_tell_host negotiated) ⇒ MustTellMissing)
-    ∷ (not (version_1 negotiated) ⇒ VersionMissing)
-    ∷ []
+needed_tests negotiated = (not (version_1 negotiated) ⇒ VersionMissing) ∷ []
 
 abbrev pub status_tests : ℕ → ℕ → ℕ → List Test
 status_tests status negotiated write =

@@ -10,6 +10,7 @@ use Rattle.vb_model.specs.declared.layout.TheConstants.{REPORT_QUEUE}
 use Rattle.vb_model.specs.declared.places.Place.{Place}
 use Rattle.vb_model.specs.declared.replies.Refusal.TheVariants.{BadOrder, BadCpu, NoPages, NotHeld}
 use Rattle.vb_model.specs.declared.replies.Refusal.TheVariants.{NotReady, NeedsReset, QueueFull}
+use Rattle.vb_model.specs.declared.replies.Refusal.TheVariants.{DeflatePending}
 use Rattle.vb_model.specs.declared.replies.Refusal.TheVariants.{Nothing, NoFeature, NoQueue, Busy}
 use Rattle.vb_model.specs.declared.replies.Refusal.TheVariants.{NotTaken, NotWorked, NotBallooned}
 use Rattle.vb_model.specs.Limits.{max_order, max_outstanding, max_request_pages}
@@ -17,7 +18,7 @@ use Rattle.vb_model.specs.Tests.{pages_where}
 use Rattle.vb_model.specs.Pages.{Block, block_at, is_free, is_giving, is_lent, is_stranded}
 use Rattle.vb_model.specs.Pages.{is_wholly_free, is_same_block}
 use Rattle.vb_model.specs.Requests.{Request, kind_of_queue}
-use Rattle.vb_model.specs.Guest.{stats_vq, reporting}
+use Rattle.vb_model.specs.Guest.{must_tell_host, stats_vq, reporting}
 use Rattle.vb_model.specs.FirstRefusal.{Test, ◌⇒◌}
 use Rattle.vb_model.specs.Status.{contains, driver_ok, needs_reset, failed, is_broken}
 
@@ -122,9 +123,18 @@ request_tests outstanding most count =
     ∷ ((count == 0) ⇒ Nothing)
     ∷ []
 
--- inflate and deflate
-abbrev pub asking_tests : ℕ → ℕ → ℕ → ℕ → List Test
-asking_tests status outstanding most count =
+-- inflate: where the guest doesn't tell the host first, pages to offer may be among those that a
+-- pending deflate names, which would take them out of the balloon later
+abbrev pub inflate_tests : ℕ → ℕ → ℕ → ℕ → ℕ → ℕ → List Test
+inflate_tests status features pending outstanding most count =
+    (not (is_up status) ⇒ NotReady)
+    ∷ (nat_le most outstanding ⇒ QueueFull)
+    ∷ ((not (must_tell_host features) && nat_lt 0 pending) ⇒ DeflatePending)
+    ∷ ((count == 0) ⇒ Nothing)
+    ∷ []
+
+abbrev pub deflate_tests : ℕ → ℕ → ℕ → ℕ → List Test
+deflate_tests status outstanding most count =
     (not (is_up status) ⇒ NotReady) ∷ request_tests outstanding most count
 
 -- oom and report, which stand or fall with a feature
@@ -177,10 +187,12 @@ finish_tests q status paced taken =
     ∷ ((paced && not (q == DEFLATE_QUEUE) && has_unvisited taken) ⇒ NotWorked)
     ∷ []
 
-abbrev pub sweep_tests : ℕ → Bool → List Test
-sweep_tests status ballooned =
+-- of a sweep: without MUST_TELL_HOST a guest may use a ballooned page that it has asked back
+abbrev pub sweep_tests : ℕ → ℕ → Bool → List Test
+sweep_tests status features ballooned =
     (is_not_ready status ⇒ NotReady)
     ∷ (has_fault status ⇒ NeedsReset)
+    ∷ (not (must_tell_host features) ⇒ NoFeature)
     ∷ (not ballooned ⇒ NotBallooned)
     ∷ []
 

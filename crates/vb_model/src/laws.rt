@@ -19,6 +19,7 @@ ghost use Rattle.vb_model.specs.HonestRuns.{HonestStay, HonestAreIdleUnlessReady
 ghost use Rattle.vb_model.specs.Determined.{HonestStepsAgree};
 ghost use Rattle.vb_model.specs.GuestRun.{InOneLife, Alone};
 ghost use Rattle.vb_model.specs.HostLaws.{HostStepsAgree, CallsLeaveTheHost};
+ghost use Rattle.vb_model.specs.Telling.{ToldStepsAgree};
 ghost use Rattle.vb_model.specs.declared.calls.Event.{Event};
 ghost use Rattle.vb_model.specs.declared.replies.Reply.{Reply};
 ghost use Rattle.vb_model.specs.declared.replies.Reply.TheVariants.{Plugged, Ready, Page, Done};
@@ -188,4 +189,11 @@ pub fn host_steps_agree()
 /// A run of no events that is promised to be safe ends where it began.
 pub fn no_events_change_nothing()
     ensures empty { (w v : World) → IsSafeRun w [] [] v → v ≡ w }
+{}
+
+/// An honest guest that has agreed to tell the host takes just the steps that there are where no
+/// guest hasn't: pages that it asks back are taking until the request comes back, `actual` is the
+/// number of lent and taking pages, and no refusal speaks of a deflate that is pending.
+pub fn guests_that_tell_are_as_ever()
+    ensures agree { ToldStepsAgree }
 {}

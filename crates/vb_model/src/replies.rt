@@ -35,6 +35,8 @@ pub enum Refusal {
     NotReady,
     /// As many requests are outstanding as may be.
     QueueFull,
+    /// A deflate request is outstanding, and MUST_TELL_HOST wasn't negotiated.
+    DeflatePending,
     /// There is no page to move.
     Nothing,
     /// The used ring holds what no device would write.
@@ -45,8 +47,6 @@ pub enum Refusal {
     AlreadyUp,
     /// A feature is wanted that the device doesn't offer.
     FeatureNotOffered,
-    /// MUST_TELL_HOST isn't among the negotiated features.
-    MustTellMissing,
     /// VERSION_1 isn't among the negotiated features.
     VersionMissing,
     /// A status bit that is set is missing from the write.

@@ -10,9 +10,10 @@ use Rattle.vb_model.specs.declared.replies.Refusal.{Refusal}
 use Rattle.vb_model.specs.declared.replies.Refusal.TheVariants.{NoGuest, BadConfig, TooMany}
 use Rattle.vb_model.specs.declared.replies.Refusal.TheVariants.{NoDevice, BadOrder, BadCpu, NoPages}
 use Rattle.vb_model.specs.declared.replies.Refusal.TheVariants.{NotHeld, NotReady, QueueFull}
+use Rattle.vb_model.specs.declared.replies.Refusal.TheVariants.{DeflatePending}
 use Rattle.vb_model.specs.declared.replies.Refusal.TheVariants.{Nothing, RingBroken, NoFeature}
 use Rattle.vb_model.specs.declared.replies.Refusal.TheVariants.{AlreadyUp, FeatureNotOffered}
-use Rattle.vb_model.specs.declared.replies.Refusal.TheVariants.{MustTellMissing, VersionMissing}
+use Rattle.vb_model.specs.declared.replies.Refusal.TheVariants.{VersionMissing}
 use Rattle.vb_model.specs.declared.replies.Refusal.TheVariants.{ClearsBit, OutOfOrder, NoQueue}
 use Rattle.vb_model.specs.declared.replies.Refusal.TheVariants.{NeedsReset, Busy, Broken, NotTaken}
 use Rattle.vb_model.specs.declared.replies.Refusal.TheVariants.{NotWorked, NotBallooned, OutOfRam}
@@ -36,12 +37,12 @@ refusal_text NoPages = codes "no pages"
 refusal_text NotHeld = codes "not held"
 refusal_text NotReady = codes "not ready"
 refusal_text QueueFull = codes "queue full"
+refusal_text DeflatePending = codes "deflate pending"
 refusal_text Nothing = codes "nothing"
 refusal_text RingBroken = codes "ring broken"
 refusal_text NoFeature = codes "no feature"
 refusal_text AlreadyUp = codes "already up"
 refusal_text FeatureNotOffered = codes "feature not offered"
-refusal_text MustTellMissing = codes "must tell missing"
 refusal_text VersionMissing = codes "version missing"
 refusal_text ClearsBit = codes "clears bit"
 refusal_text OutOfOrder = codes "out of order"

@@ -42,7 +42,7 @@ use Rattle.vb_model.proofs.CallSteps.{match_cases, supplying_cases, works_cases,
 use Rattle.vb_model.proofs.CallSteps.{Idles, Visits}
 use Rattle.vb_model.proofs.GuestSteps.{fresh_consistent}
 use Rattle.vb_model.proofs.OrderlySteps.{honest_order, fresh_order}
-use Rattle.vb_model.proofs.AttentiveSteps.{honest_attentive}
+use Rattle.vb_model.proofs.AttentiveSteps.{honest_attentive, not_down}
 use Rattle.vb_model.proofs.Unchanged.{step_keeps, MayBeRogue, IsScribble}
 use Rattle.vb_run.specs.Plans.{may_stand, is_plain}
 use Rattle.vb_run.specs.Services.{services, found_nothing, default_features}
@@ -301,7 +301,8 @@ tended_after : (g : Guest) (call : Call) (claims : List Claim) (reply : Reply) (
 tended_after g call claims reply new c o a s honest f =
     record {
       honest = honest;
-      consistent = honest_keeps g call claims reply new c s honest;
+      consistent = honest_keeps g call claims reply new c
+          (λ down. a.deflating (not_down g.status down)) s honest;
       orderly = honest_order g call claims reply new c o s honest;
       attentive = honest_attentive g call claims reply new o a s honest;
       features = f;

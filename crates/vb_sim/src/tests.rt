@@ -19,6 +19,7 @@ mod runs;
 mod sizes;
 mod statistics;
 mod threads;
+mod untold;
 
 use crate::fault::SUCCESS;
 use crate::run::run_script;

@@ -158,7 +158,7 @@ impl Slot {
 
     /// The driver initialises the device with these features (VIRTIO 1.1, 3.1.1). Refused with
     /// `AlreadyUp`, `NoFrame` or `NoMemory` where a page of rings and buffers gets no frame, then
-    /// `FeatureNotOffered`, `MustTellMissing` and `VersionMissing`.
+    /// `FeatureNotOffered` and `VersionMissing`.
     pub fn init<K: FrameKeeper>(&mut self, keeper: &mut K, wanted: u64) -> Result<(), Refusal>
         requires { (keeps : Bool) × (g : Guest) × stands_for keeps mem part self.old g }
         ensures step { (keeps : Bool) (g : Guest) → stands_for keeps mem part self.old g

@@ -2,43 +2,36 @@
 use Rattle.std.proofs.Common.{◌≡◌, ℕ, Bool, true, false, not, eqb, ◌&&◌, List, [], ◌∷◌, None, cond}
 use Rattle.std.proofs.Common.{refl, subst, IsTrue, ◌⊎◌, inl, inr}
 use Rattle.std.proofs.lemmas.Bool.{false≢true, eqb-true}
-use Rattle.vb_model.specs.Guest.{must_tell_host, version_1, offered_features}
+use Rattle.vb_model.specs.Guest.{version_1, offered_features}
 use Rattle.vb_model.specs.declared.replies.Refusal.TheVariants.{ClearsBit, OutOfOrder}
-use Rattle.vb_model.specs.declared.replies.Refusal.TheVariants.{FeatureNotOffered, MustTellMissing}
-use Rattle.vb_model.specs.declared.replies.Refusal.TheVariants.{VersionMissing}
+use Rattle.vb_model.specs.declared.replies.Refusal.TheVariants.{FeatureNotOffered, VersionMissing}
 use Rattle.vb_model.specs.Refusals.{◌⇒◌, first_refusal}
 use Rattle.vb_model.specs.Status.{contains, adds, is_out_of_order, status_tests}
 use Rattle.vb_model.specs.Status.{features_ok}
 use Rattle.vb_status.specs.Agreement.{StatusRequest, Write, Negotiate, Agreement}
 use Rattle.vb_status.specs.Agreement.{refusal_of_request, after_request, Leads, unplugged}
 
--- the status has FEATURES_OK only with the two features
+-- the status has FEATURES_OK only with the feature that it asks for
 abbrev pub HasFeatures : Agreement → Type 0
-HasFeatures a = contains a.status features_ok ≡ true
-    → IsTrue (must_tell_host a.features) × IsTrue (version_1 a.features)
+HasFeatures a = contains a.status features_ok ≡ true → IsTrue (version_1 a.features)
 
 -- a write whose tests all fail
-accepted : (clears out_of_order adding must_tell version : Bool)
+accepted : (clears out_of_order adding version : Bool)
     → first_refusal ((clears ⇒ ClearsBit) ∷ (out_of_order ⇒ OutOfOrder)
-    ∷ (cond adding ((not must_tell ⇒ MustTellMissing) ∷ (not version ⇒ VersionMissing) ∷ [])
-    [])) ≡ None
-    → (clears ≡ false) × (out_of_order ≡ false)
-    × (adding ≡ true → (must_tell ≡ true) × (version ≡ true))
-accepted true o a m v h = absurd (cc h)
-accepted false true a m v h = absurd (cc h)
-accepted false false false m v h = (refl, refl, λ e. absurd (false≢true e))
-accepted false false true false v h = absurd (cc h)
-accepted false false true true false h = absurd (cc h)
-accepted false false true true true h = (refl, refl, λ e. (refl, refl))
+    ∷ (cond adding ((not version ⇒ VersionMissing) ∷ []) [])) ≡ None
+    → (clears ≡ false) × (out_of_order ≡ false) × (adding ≡ true → version ≡ true)
+accepted true o a v h = absurd (cc h)
+accepted false true a v h = absurd (cc h)
+accepted false false false v h = (refl, refl, λ e. absurd (false≢true e))
+accepted false false true false h = absurd (cc h)
+accepted false false true true h = (refl, refl, λ e. refl)
 
 pub accepted_write : (status negotiated write : ℕ)
     → first_refusal (status_tests status negotiated write) ≡ None
     → (not (contains write status) ≡ false) × (is_out_of_order status write ≡ false)
-    × (adds status write features_ok ≡ true
-    → (must_tell_host negotiated ≡ true) × (version_1 negotiated ≡ true))
+    × (adds status write features_ok ≡ true → version_1 negotiated ≡ true)
 accepted_write s f w h =
-    accepted (not (contains w s)) (is_out_of_order s w) (adds s w features_ok) (must_tell_host f)
-    (version_1 f) h
+    accepted (not (contains w s)) (is_out_of_order s w) (adds s w features_ok) (version_1 f) h
 
 accepted_negotiation : (at_place offered : Bool)
     → first_refusal ((not at_place ⇒ OutOfOrder) ∷ (not offered ⇒ FeatureNotOffered) ∷ []) ≡ None
@@ -57,7 +50,7 @@ write_keeps a w true h s = λ e. absurd (false≢true e)
 write_keeps a w false h s = λ e.
     elim (added_or_there (contains a.status features_ok) (contains w features_ok) e) [
       | inl there ↦ s there
-      | inr added ↦ let both = (accepted_write a.status a.features w h).2 added in (both.0, both.1)
+      | inr added ↦ (accepted_write a.status a.features w h).2 added
     ]
 
 request_keeps : (a : Agreement) (request : StatusRequest) → refusal_of_request a request ≡ None

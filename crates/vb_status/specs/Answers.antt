@@ -2,20 +2,17 @@
 use Rattle.std.specs.Prelude.{Option, Some, None, Result, Ok, Err}
 use Rattle.vb_model.specs.declared.replies.Refusal.{Refusal}
 use Rattle.vb_model.specs.declared.replies.Refusal.TheVariants.{ClearsBit, OutOfOrder}
-use Rattle.vb_model.specs.declared.replies.Refusal.TheVariants.{FeatureNotOffered, MustTellMissing}
-use Rattle.vb_model.specs.declared.replies.Refusal.TheVariants.{VersionMissing}
+use Rattle.vb_model.specs.declared.replies.Refusal.TheVariants.{FeatureNotOffered, VersionMissing}
 use Rattle.vb_status.specs.declared.bits.StatusFault.{StatusFault}
 use Rattle.vb_status.specs.declared.bits.StatusFault.TheVariants.{ClearsBit as ClearsOne}
 use Rattle.vb_status.specs.declared.bits.StatusFault.TheVariants.{OutOfOrder as BreaksOrder}
 use Rattle.vb_status.specs.declared.bits.StatusFault.TheVariants.{FeatureNotOffered as OffersNot}
-use Rattle.vb_status.specs.declared.bits.StatusFault.TheVariants.{MustTellMissing as LacksMustTell}
 use Rattle.vb_status.specs.declared.bits.StatusFault.TheVariants.{VersionMissing as LacksVersion}
 
 abbrev pub refusal_of_fault : StatusFault → Refusal
 refusal_of_fault ClearsOne = ClearsBit
 refusal_of_fault BreaksOrder = OutOfOrder
 refusal_of_fault OffersNot = FeatureNotOffered
-refusal_of_fault LacksMustTell = MustTellMissing
 refusal_of_fault LacksVersion = VersionMissing
 
 -- why the call was refused, where it was

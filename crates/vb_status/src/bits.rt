@@ -135,7 +135,8 @@ impl Flags for Features {
     }
 }
 
-/// Why a write of the status, or a set of features, is refused. Nothing is changed then.
+/// Why a write of the status, or a set of features, is refused. Nothing is changed then. No fault
+/// has the number 4: it was that of a write without MUST_TELL_HOST, which is accepted.
 #[derive(Clone, Copy, Debug, PartialEq, Eq, Error)]
 pub enum StatusFault {
     /// A bit that is set is missing in the write.
@@ -148,9 +149,6 @@ pub enum StatusFault {
     /// A feature is wanted that the device doesn't offer.
     #[error("feature not offered")]
     FeatureNotOffered = 3,
-    /// FEATURES_OK is written, but MUST_TELL_HOST wasn't negotiated (profile).
-    #[error("must tell missing")]
-    MustTellMissing = 4,
     /// FEATURES_OK is written, but VERSION_1 wasn't negotiated (VIRTIO 1.1, 6.1).
     #[error("version missing")]
     VersionMissing = 5,

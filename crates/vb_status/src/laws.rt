@@ -1,25 +1,25 @@
 //! What the rules of status and features come to.
 
 ghost use Rattle.std.specs.Prelude.{◌≡◌, ℕ, true, None, [], ◌∷◌, List, IsTrue};
-ghost use Rattle.vb_model.specs.Guest.{must_tell_host, version_1};
+ghost use Rattle.vb_model.specs.Guest.{version_1};
 ghost use Rattle.vb_model.specs.Status.{status_refusal, contains, features_ok};
 ghost use Rattle.vb_status.specs.Agreement.{StatusRequest, Agreement, Leads, AreSteps, unplugged};
 ghost use Rattle.vb_status.specs.Agreement.{changes, outcome, initialisation, initialised};
 
 /// An initialisation by ACKNOWLEDGE, DRIVER, the features, FEATURES_OK and DRIVER_OK makes any
-/// device ready with these features, or meets the first refusal of FeatureNotOffered,
-/// MustTellMissing and VersionMissing that holds for them; FAILED may be added then.
+/// device ready with these features, or meets the first refusal of FeatureNotOffered and
+/// VersionMissing that holds for them; FAILED may be added then.
 pub fn an_initialisation_is_refused_for_its_features_alone()
     ensures answer { (start : Agreement) (wanted : ℕ) →
         outcome start (initialisation wanted) ≡ initialised wanted }
     ensures failing { (features : ℕ) → status_refusal 3 features 131 ≡ None }
 {}
 
-/// FEATURES_OK is never set without MUST_TELL_HOST and VERSION_1.
-pub fn features_ok_has_its_features()
-    ensures both { (requests : List StatusRequest) (last : Agreement)
+/// FEATURES_OK is never set without VERSION_1.
+pub fn features_ok_has_its_feature()
+    ensures version { (requests : List StatusRequest) (last : Agreement)
         → Leads unplugged requests last → contains last.status features_ok ≡ true
-        → IsTrue (must_tell_host last.features) × IsTrue (version_1 last.features) }
+        → IsTrue (version_1 last.features) }
 {}
 
 /// From a reset on, only ACKNOWLEDGE, DRIVER, FEATURES_OK and DRIVER_OK in this order lead to a

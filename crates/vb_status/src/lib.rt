@@ -12,7 +12,7 @@ mod tests;
 
 pub use bits::{Features, Status, StatusFault};
 pub use laws::{
-    an_initialisation_is_refused_for_its_features_alone, features_ok_has_its_features,
+    an_initialisation_is_refused_for_its_features_alone, features_ok_has_its_feature,
     one_way_leads_to_ready,
 };
 pub use memory::MemoryPort;

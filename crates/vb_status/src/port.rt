@@ -17,7 +17,7 @@ pub trait Port: GuestBytes {
         ensures { status_bits result ≡ (Self.part self.now).status };
 
     /// Writes the status. A write of 0 resets the device, one that adds DRIVER_OK makes its queues
-    /// ready at index 0; refused for ClearsBit, OutOfOrder, MustTellMissing, VersionMissing.
+    /// ready at index 0; refused for ClearsBit, OutOfOrder, VersionMissing.
     fn write_status(&mut self, write: Status) -> Result<(), StatusFault>
         ensures answer { answered_refusal result ≡
             status_refusal (Self.part self.old).status (Self.part self.old).features

@@ -1,7 +1,7 @@
 //! Which writes of the status and which features are accepted.
 
 ghost use Rattle.std.specs.Prelude.{◌≡◌, IfOk};
-ghost use Rattle.vb_model.specs.Guest.{must_tell_host, version_1};
+ghost use Rattle.vb_model.specs.Guest.{version_1};
 ghost use Rattle.vb_model.specs.Refusals.{first_refusal};
 ghost use Rattle.vb_model.specs.Status.{status_refusal, negotiate_refusal, needed_tests, adds};
 ghost use Rattle.vb_model.specs.Status.{adds_any, adds_more, skips, is_broken, is_out_of_order};
@@ -74,7 +74,7 @@ fn is_out_of_order(status: Status, write: Status) -> bool
 }
 
 /// The status after a write that is accepted, where these features were negotiated: 1 ClearsBit,
-/// 2 OutOfOrder, 4 MustTellMissing, 5 VersionMissing, tested in this order.
+/// 2 OutOfOrder, 5 VersionMissing, tested in this order.
 pub fn write_status(
     status: Status,
     negotiated: Features,
@@ -99,13 +99,10 @@ pub fn write_status(
     Ok(write)
 }
 
-/// Tests the two features that FEATURES_OK asks for.
+/// Tests the feature that FEATURES_OK asks for.
 fn check_features(negotiated: Features) -> Result<(), StatusFault>
     ensures { answered_refusal result ≡ first_refusal (needed_tests (feature_bits negotiated)) }
 {
-    if !negotiated.must_tell_host() {
-        return Err(StatusFault::MustTellMissing);
-    }
     if !negotiated.version_1() {
         return Err(StatusFault::VersionMissing);
     }

@@ -32,6 +32,7 @@ fn accepts_the_steps_in_their_order(rt: HostRuntime) {
     expect_write(&rt, 1, ALL, 3, Ok(status(3)));
     expect_write(&rt, 3, ALL, 11, Ok(status(11)));
     expect_write(&rt, 11, ALL, 15, Ok(status(15)));
+    expect_write(&rt, 3, 0x1_0000_0026, 11, Ok(status(11)));
     expect_write(&rt, 1, 0, 129, Ok(status(129)));
     expect_write(&rt, 143, ALL, 143, Ok(status(143)));
     expect_write(&rt, 143, ALL, 0, Ok(status(0)));
@@ -43,9 +44,9 @@ fn refuses_other_writes(rt: HostRuntime) {
     expect_write(&rt, 1, 0, 11, Err(StatusFault::OutOfOrder));
     expect_write(&rt, 3, ALL, 7, Err(StatusFault::OutOfOrder));
     expect_write(&rt, 3, ALL, 1, Err(StatusFault::ClearsBit));
-    expect_write(&rt, 3, 0x1_0000_0026, 11, Err(StatusFault::MustTellMissing));
+    expect_write(&rt, 3, 0x26, 11, Err(StatusFault::VersionMissing));
     expect_write(&rt, 3, 0x27, 11, Err(StatusFault::VersionMissing));
-    expect_write(&rt, 3, 0, 11, Err(StatusFault::MustTellMissing));
+    expect_write(&rt, 3, 0, 11, Err(StatusFault::VersionMissing));
     expect_write(&rt, 131, ALL, 139, Err(StatusFault::OutOfOrder));
     expect_write(&rt, 15, ALL, 79, Err(StatusFault::OutOfOrder));
     expect_write(&rt, 79, ALL, 15, Err(StatusFault::ClearsBit));
@@ -73,11 +74,10 @@ fn negotiates_what_is_offered(rt: HostRuntime) {
     assert!(rt; Features::all() == Features::OFFERED);
 }
 
-static FAULT_NUMBERS: [(StatusFault, u8); 5] = [
+static FAULT_NUMBERS: [(StatusFault, u8); 4] = [
     (StatusFault::ClearsBit, 1),
     (StatusFault::OutOfOrder, 2),
     (StatusFault::FeatureNotOffered, 3),
-    (StatusFault::MustTellMissing, 4),
     (StatusFault::VersionMissing, 5),
 ];
 

@@ -8,7 +8,7 @@ static LIVES: [Line; 22] = [
     (Step::Reset, DONE),
     (Step::See(Sight::Counts(40, 8)), YES),
     (Step::See(Sight::Status), Ok(Answer::Number(0))),
-    (Step::Init(0x1_0000_0026), Err(Refusal::MustTellMissing)),
+    (Step::Init(0x26), Err(Refusal::VersionMissing)),
     (Step::See(Sight::Status), Ok(Answer::Number(131))),
     (Step::Reset, DONE),
     (Step::Init(0x1_0000_0067), Err(Refusal::FeatureNotOffered)),

@@ -3,7 +3,7 @@
 use super::{Example, check_all};
 
 /// The text of each file, and that of the file beside it.
-static EXAMPLES: [Example; 5] = [
+static EXAMPLES: [Example; 6] = [
     Example {
         name: "examples/first-path.script",
         script: "\
@@ -466,6 +466,75 @@ taken 0
 finished 0
 reaped 0 16
 bytes c0ffee00
+",
+    },
+    Example {
+        name: "examples/untold.script",
+        script: "\
+# A guest whose driver doesn't promise to tell its host before it uses a page again. Pages that it
+# asks back are free at once, and it lends nothing until its request is back.
+
+# A host with 64 frames, and one device for a guest.
+host 64
+spare immediate
+
+# A guest with 64 pages. Its driver asks for all features but MUST_TELL_HOST, which is bit 0.
+plug 64 8 1
+init 0 0000000100000026
+
+# The driver lends two pages.
+target 0 2
+inflate 0 2
+take 0 0
+finish 0 0 0
+reap 0 0
+
+# The host may not look for frames behind them: such a page may be in use again by now.
+sweep 0 16
+
+# The host wants none any more. The driver asks both pages back, and may use them before the device
+# has even taken the request. Until that is reaped the driver counts them as in the balloon.
+target 0 0
+deflate 0 2
+balloon 0
+pages 0 taking
+alloc 0 0 0
+write 0 16 0 aa
+
+# Nothing is lent before that request is reaped. The device could finish a new inflate first, and
+# the old request would then take its pages out of the balloon.
+inflate 0 1
+take 0 1
+finish 0 1 0
+reap 0 1
+
+# What was written stays, whatever the device did in between.
+read 0 16 0 1
+balloon 0
+inflate 0 1
+",
+        replies: "\
+guest 0
+ready
+ok
+posted 0 2
+taken 0
+finished 0
+reaped 0 2
+no feature
+ok
+posted 0 2
+ballooned 2 actual 2 target 0 status 15
+pages
+page 16
+ok
+deflate pending
+taken 0
+finished 0
+reaped 0 2
+bytes aa
+ballooned 0 actual 0 target 0 status 15
+nothing
 ",
     },
 ];

@@ -203,7 +203,7 @@ fn check_both(
 
 /// Each of a guest's calls, each of its refusals but want of memory, and the questions, on a guest
 /// with frames enough or too few.
-static ROWS: [Rows; 15] = [
+static ROWS: [Rows; 16] = [
     Rows {
         name: "a page is written, and asked after",
         host: "host 64\n",
@@ -399,7 +399,7 @@ init 0 0000000100000067
 balloon 0
 init 0
 reset 0
-init 0 0000000100000026
+init 0 0000000000000026
 reset 0
 init 0 0000000000000027
 frames
@@ -414,7 +414,7 @@ feature not offered
 ballooned 0 actual 0 target 0 status 131
 already up
 ok
-must tell missing
+version missing
 ok
 version missing
 frames used 13 free 51
@@ -429,7 +429,7 @@ feature not offered
 ballooned 0 actual 0 target 0 status 131
 already up
 ok
-must tell missing
+version missing
 ok
 version missing
 frames used 13 free 51
@@ -440,7 +440,7 @@ already up
 ",
     },
     Rows {
-        name: "a device of the needed features alone",
+        name: "a device of two features alone",
         host: "host 64\n",
         script: "\
 plug 64 8 1
@@ -477,6 +477,139 @@ no queue
 no queue
 not taken
 nothing
+",
+    },
+    Rows {
+        name: "a driver that does not tell the host",
+        host: "host 64\n",
+        script: "\
+plug 64 8 1
+init 0 0000000100000026
+alloc 0 0 1
+write 0 16 0 aa
+free 0 0 16 1
+target 0 4
+inflate 0 4
+take 0 0
+work 0
+work 0
+work 0
+work 0
+finish 0 0 0
+reap 0 0
+sweep 0 16
+frames
+target 0 0
+deflate 0 3
+pages 0 taking
+alloc 0 0 1
+write 0 16 0 bb
+backing 0 16
+pages 0 ballooned
+sweep 0 16
+inflate 0 1
+balloon 0
+take 0 1
+work 0
+finish 0 1 0
+pages 0 ballooned
+reap 0 1
+balloon 0
+read 0 16 0 1
+oom 0 1
+reset 0
+places 0
+frames
+init 0 0000000100000026
+inflate 0 1
+unplug 0
+frames
+",
+        immediate: "\
+guest 0
+ready
+page 16
+ok
+ok
+ok
+posted 0 4
+taken 0
+idle
+idle
+idle
+idle
+finished 0
+reaped 0 4
+no feature
+frames used 13 free 51
+ok
+posted 0 3
+pages
+page 16
+ok
+frame 13
+pages 16-19
+no feature
+deflate pending
+ballooned 4 actual 4 target 0 status 15
+taken 0
+idle
+finished 0
+pages 19
+reaped 0 3
+ballooned 1 actual 1 target 0 status 15
+bytes bb
+posted 0 1
+ok
+free 46 used 2 giving 0 lent 0 taking 0 stranded 0 reporting 0
+frames used 14 free 50
+ready
+nothing
+ok
+frames used 0 free 64
+",
+        paced: "\
+guest 0
+ready
+page 16
+ok
+ok
+ok
+posted 0 4
+taken 0
+worked 16 freed
+worked 17 bare
+worked 18 bare
+worked 19 bare
+finished 0
+reaped 0 4
+no feature
+frames used 13 free 51
+ok
+posted 0 3
+pages
+page 16
+ok
+frame 13
+pages 16-19
+no feature
+deflate pending
+ballooned 4 actual 4 target 0 status 15
+taken 0
+idle
+finished 0
+pages 19
+reaped 0 3
+ballooned 1 actual 1 target 0 status 15
+bytes bb
+posted 0 1
+ok
+free 46 used 2 giving 0 lent 0 taking 0 stranded 0 reporting 0
+frames used 14 free 50
+ready
+nothing
+ok
+frames used 0 free 64
 ",
     },
     Rows {

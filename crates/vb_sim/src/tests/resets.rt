@@ -3,7 +3,7 @@
 use super::{Example, check_all};
 
 /// Scripts that run to their end.
-static RESETS: [Example; 4] = [
+static RESETS: [Example; 5] = [
     Example {
         name: "what was lent is stranded by a reset, and offered again",
         script: "\
@@ -61,6 +61,31 @@ pages 16-19
 host 64
 spare paced
 plug 64 8 1
+init 0 0000000100000067
+balloon 0
+init 0
+reset 0
+init 0 0000000000000027
+reset 0
+init 0
+",
+        replies: "\
+guest 0
+feature not offered
+ballooned 0 actual 0 target 0 status 131
+already up
+ok
+version missing
+ok
+ready
+",
+    },
+    Example {
+        name: "a driver that does not tell the host starts over with other features",
+        script: "\
+host 64
+spare paced
+plug 64 8 1
 init 0 0000000100000026
 balloon 0
 init 0
@@ -71,8 +96,8 @@ init 0
 ",
         replies: "\
 guest 0
-must tell missing
-ballooned 0 actual 0 target 0 status 131
+ready
+ballooned 0 actual 0 target 0 status 15
 already up
 ok
 version missing

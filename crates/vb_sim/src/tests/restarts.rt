@@ -175,7 +175,7 @@ finished 0
 host 64
 spare paced
 plug 64 8 1
-init 0 0000000100000026
+init 0 0000000000000027
 balloon 0
 frames
 restart 0
@@ -185,7 +185,7 @@ init 0
 ",
         replies: "\
 guest 0
-must tell missing
+version missing
 ballooned 0 actual 0 target 0 status 131
 frames used 13 free 51
 ok

@@ -149,7 +149,7 @@ frames used 13 free 51
 ",
     },
     Example {
-        name: "a driver without must tell host is refused",
+        name: "a driver without must tell host starts its device",
         script: "\
 host 64
 spare immediate
@@ -161,8 +161,8 @@ frames
 ",
         replies: "\
 guest 0
-must tell missing
-ballooned 0 actual 0 target 0 status 131
+ready
+ballooned 0 actual 0 target 0 status 15
 already up
 frames used 13 free 51
 ",

@@ -17,7 +17,7 @@ pub returns-then-count-eq0-clause-state : goal.returns-then-count-eq0-clause-sta
 returns-then-count-eq0-clause-state c =
     let free = flags_of c.args.self.now.free in
     let none : pages_where is_reporting c.args.places.now ≡ [] =
-    none_where is_reporting 0 c.args.places.now (sym c.count.ensures ∙ c.if-count-eq0.true) in
+    none_where is_reporting 0 c.args.places.now (sym c.count.ensures.value ∙ c.if-count-eq0.true) in
     record {
       free = sym (ap (λ (l : List ℕ). marked l true free) none ∙ marked_none true free);
       held = refl;
@@ -28,7 +28,7 @@ pub returns-then-count-eq0-clause-areas : goal.returns-then-count-eq0-clause-are
 returns-then-count-eq0-clause-areas c =
     let old = c.args.self.now in
     let none : pages_where is_reporting c.args.places.now ≡ [] =
-    none_where is_reporting 0 c.args.places.now (sym c.count.ensures ∙ c.if-count-eq0.true) in
+    none_where is_reporting 0 c.args.places.now (sym c.count.ensures.value ∙ c.if-count-eq0.true) in
     sym (ap (λ (l : List ℕ). record old { free = areas_with l old.free }) none
     ∙ ap (λ (set : List Bool). record old { free = record old.free { areas = set } })
     (with_none old.free.areas))

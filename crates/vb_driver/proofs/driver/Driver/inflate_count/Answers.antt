@@ -10,10 +10,10 @@ pub returns : goal.returns
 returns c =
     let d = the_view c.self.inside in
     let stranded : c.count-stranded.result ≡ count_by is_stranded d.places =
-    c.count-stranded.ensures in
-    let lent : c.count.result ≡ count_by is_lent d.places = c.count.ensures in
-    let giving : c.count-2.result ≡ count_by is_giving d.places = c.count-2.ensures in
-    let free : c.count-3.result ≡ count_by is_free d.places = c.count-3.ensures in
+    c.count-stranded.ensures.value in
+    let lent : c.count.result ≡ count_by is_lent d.places = c.count.ensures.value in
+    let giving : c.count-2.result ≡ count_by is_giving d.places = c.count-2.ensures.value in
+    let free : c.count-3.result ≡ count_by is_free d.places = c.count-3.ensures.value in
     subst (λ (v : DriverState). c.min-3.result ≡ inflate_count v c.args.target c.args.n)
     c.self.view_is (omega (
       arith,

@@ -18,11 +18,11 @@ returns-clause-counts c =
       reporting =
           c.count-7.result;
     }) v.places) c.self.view_is (record {
-      free = c.count.ensures;
-      used = c.count-2.ensures;
-      giving = c.count-3.ensures;
-      lent = c.count-4.ensures;
-      taking = c.count-5.ensures;
-      stranded = c.count-6.ensures;
-      reporting = c.count-7.ensures;
+      free = c.count.ensures.value;
+      used = c.count-2.ensures.value;
+      giving = c.count-3.ensures.value;
+      lent = c.count-4.ensures.value;
+      taking = c.count-5.ensures.value;
+      stranded = c.count-6.ensures.value;
+      reporting = c.count-7.ensures.value;
     })

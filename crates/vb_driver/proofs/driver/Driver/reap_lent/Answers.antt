@@ -8,20 +8,22 @@ use Rattle.vb_driver.specs.contracts.driver.Driver.{the_view}
 use Rattle.vb_driver.proofs.Moving.{lent_inside, lent_kept}
 use Rattle.vb_driver.proofs.driver.Driver.reap_lent.Goals as goal
 
-pub settle-requires : goal.settle-requires
-settle-requires g c p here =
+pub set_all-requires : goal.set_all-requires
+set_all-requires g c p here =
     let d = the_view c.self.inside in
     let head = c.in-Ok-Some.used.0 in
     let next = rw c.in-Ok-Some.field-0-is at c.in-Ok-Some.ensures.next in
-    lent_inside d head p next.1 c.self.invariant (ap (is_in p) (sym next.2) ∙ here)
+    let items : c.deref.result.now ≡ sent_by d.inflate head = c.deref.ensures.0 ∙ next.2 in
+    lent_inside d head p next.1 c.self.invariant (ap (is_in p) (sym items) ∙ here)
 
 pub invariant_of-self-2 : goal.invariant_of-self-2
 invariant_of-self-2 g c =
     let d = the_view c.self.inside in
     let head = c.in-Ok-Some.used.0 in
     let next = rw c.in-Ok-Some.field-0-is at c.in-Ok-Some.ensures.next in
-    let moved : c.settle.new.places ≡ placed (sent_by d.inflate head) Lent d.places =
-    c.settle.ensures.places ∙ ap (λ (l : List ℕ). placed l Lent d.places) next.2 in
+    let items : c.deref.result.now ≡ sent_by d.inflate head = c.deref.ensures.0 ∙ next.2 in
+    let moved : c.set_all.new.self ≡ placed (sent_by d.inflate head) Lent d.places =
+    c.set_all.ensures ∙ ap (λ (l : List ℕ). placed l Lent d.places) items in
     subst (λ (v : List Place). IsDriver (record d { places = v; inflate = c.take_back.new.queue }))
     (sym moved)
     (subst (λ (v : Side). IsDriver

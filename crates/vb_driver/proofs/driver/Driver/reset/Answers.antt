@@ -48,6 +48,7 @@ invariant_of-self g c =
       statistics = c.renew-3.new.self;
       report = c.renew-4.new.self;
       features = f;
+      actual = 0;
     })) (sym c.strand.ensures)
     (subst (λ (v : List Block). IsDriver
     (record d {
@@ -59,6 +60,7 @@ invariant_of-self g c =
       statistics = c.renew-3.new.self;
       report = c.renew-4.new.self;
       features = f;
+      actual = 0;
     })) (sym c.give_reported.ensures.state.held)
     (subst (λ (v : Side). IsDriver
     (record d {
@@ -69,6 +71,7 @@ invariant_of-self g c =
       statistics = c.renew-3.new.self;
       report = c.renew-4.new.self;
       features = f;
+      actual = 0;
     })) (sym c.renew.ensures)
     (subst (λ (v : Side). IsDriver
     (record d {
@@ -79,6 +82,7 @@ invariant_of-self g c =
       statistics = c.renew-3.new.self;
       report = c.renew-4.new.self;
       features = f;
+      actual = 0;
     })) (sym c.renew-2.ensures)
     (subst (λ (v : DriverEnd). IsDriver
     (record d {
@@ -89,6 +93,7 @@ invariant_of-self g c =
       statistics = v;
       report = c.renew-4.new.self;
       features = f;
+      actual = 0;
     })) (sym c.renew-3.ensures)
     (subst (λ (v : ReportSide). IsDriver
     (record d {
@@ -99,6 +104,7 @@ invariant_of-self g c =
       statistics = fresh_statistics d.queue_size;
       report = v;
       features = f;
+      actual = 0;
     })) (sym c.renew-4.ensures)
     (reset_kept d areas2.free f c.self.invariant c.give_reported.ensures.state.free
     c.give_reported.ensures.state.processors))))))

@@ -1,5 +1,5 @@
 use Rattle.std.proofs.Common.{◌≡◌, ◌∙◌, ◌<◌, ◌+◌, ◌*◌, sym, ap, subst, arith, refl, ℕ, set, Some}
-use Rattle.std.proofs.Common.{Ok, length}
+use Rattle.std.proofs.Common.{Ok, List, length}
 use Rattle.std.proofs.Math.Nat.{div-add-mod}
 use Rattle.vb_model.specs.Layout.{buffer_page, buffer_offset}
 use Rattle.vb_ram.specs.Pages.{SameBut}
@@ -70,7 +70,9 @@ invariant_of-self g c =
     let state : c.add.new.self ≡ after_add r 1 (Ok h) =
     c.in-Ok.ensures.adds.state ∙ ap (λ (n : ℕ). after_add r 1 (Ok n)) (sym same) in
     requests_added_at r c.add.new.self sent h c.from-3.result c.args.pages.items c.self.invariant
-    c.next_head.ensures.is_end next small state (c.from-3.ensures ∙ sym same)
+    c.next_head.ensures.is_end next small
+    (omega (arith, ap (λ (l : List ℕ). length l) c.deref.ensures.0, c.deref.ensures.1)) state
+    (c.from-3.ensures ∙ sym same)
 
 pub returns-clause-posts : goal.returns-clause-posts
 returns-clause-posts g c =

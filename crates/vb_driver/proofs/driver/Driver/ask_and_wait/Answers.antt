@@ -1,14 +1,32 @@
-use Rattle.std.proofs.Common.{◌≡◌, ◌∙◌, sym, ap, subst, refl, ℕ, List, true}
+use Rattle.std.proofs.Common.{◌≡◌, ◌∙◌, sym, ap, subst, refl, ℕ, Bool, List, true}
+use Rattle.std.specs.Prelude.{if◌then◌else◌}
 use Rattle.vb_model.specs.Tests.{is_in}
 use Rattle.vb_model.specs.Pages.{placed, is_lent}
 use Rattle.vb_model.specs.declared.places.Place.{Place}
 use Rattle.vb_model.specs.declared.places.Place.TheVariants.{Taking}
-use Rattle.vb_driver.specs.State.{DriverState, IsDriver}
-use Rattle.vb_driver.specs.Calls.{Posts, AsksBack, lowest_lent}
+use Rattle.vb_model.specs.Requests.{Deflating, place_posted}
+use Rattle.vb_driver.specs.State.{Side, DriverState, IsDriver, page_state, tells_host}
+use Rattle.vb_driver.specs.Areas.{all_given}
+use Rattle.vb_driver.specs.Calls.{Posts, AsksBack, lowest_lent, areas_asked}
 use Rattle.vb_driver.specs.contracts.driver.Driver.{the_view}
 use Rattle.vb_driver.proofs.Moving.{lowest_is, asked_kept}
 use Rattle.vb_driver.proofs.Keeping.{there_by}
-use Rattle.vb_driver.proofs.driver.Driver.ask_back.Goals as goal
+use Rattle.vb_driver.proofs.driver.Driver.ask_and_wait.Goals as goal
+
+-- where the host is told first, the pages are taking, and no area changes
+waits : (d : DriverState) (e2 : Side) (pages : List ℕ) → tells_host d ≡ true
+    → (let new : DriverState = record d { places = placed pages Taking d.places; deflate = e2 } in new)
+    ≡ record d {
+      places = placed pages (place_posted (tells_host d) Deflating) d.places;
+      areas = areas_asked pages d;
+      deflate = e2;
+    }
+waits d e2 pages told =
+    ap (λ (b : Bool). record d {
+      places = placed pages (place_posted b Deflating) d.places;
+      areas = if b then d.areas else (all_given pages (page_state d)).free;
+      deflate = e2;
+    }) (sym told)
 
 pub set_all-requires : goal.set_all-requires
 set_all-requires g c p here =
@@ -40,6 +58,7 @@ invariant_of-self g c =
 pub returns : goal.returns
 returns g c =
     let d = the_view c.self.inside in
+    let told : tells_host d ≡ true = ap tells_host c.self.view_is ∙ c.requires.told in
     let m1 = g.P.GuestBytes.mem c.args.port.now in
     let m2 = g.P.GuestBytes.mem c.post-head.new.ram in
     let lowest : c.lowest_lent-pages.result.items ≡ lowest_lent d c.args.count =
@@ -60,7 +79,8 @@ returns g c =
       pages = refl;
       part = c.post-head.ensures.part;
       state = ap (λ (ps : List Place). record d { places = ps; deflate = c.post-head.new.self })
-          placed_is;
+          placed_is
+          ∙ waits d c.post-head.new.self (lowest_lent d c.args.count) told;
     } in
     subst (λ (v : DriverState). AsksBack m1 m2 (g.P.GuestBytes.part c.args.port.now)
     (g.P.GuestBytes.part c.post-head.new.ram) v new c.args.count
