@@ -18,7 +18,7 @@ returns-in-Ok g c =
     let did = c.in-Ok.ensures in
     let same = as_it_was _ _ did.part in
     record {
-      writes = λ keeps d guest used stands. rw (c.requires.none, ← c.as_slice.ensures)
+      writes = λ d used keeps guest stands. rw (c.requires.none, ← c.as_slice.ensures)
           (steps_quiet keeps _ _ _ _ _ _ guest g.K.FrameKeeper.answers _ _ _ stands
           (alone_stands keeps _ _ _ _ d d guest _ _ stands same.flag same.numbers
           (λ honest. write_backed _ _ _ _ d guest _ _ _ used honest did.covers
@@ -27,7 +27,7 @@ returns-in-Ok g c =
           (λ rogue. write_done_rogue _ _ _ _ d guest _ _ _
           (λ some bare. (let wrong = did.needs_frame did.covers some bare in cc)) did.bytes did.part
           rogue)));
-      scribbles = λ keeps d guest stands. rw (c.requires.none, ← c.as_slice.ensures)
+      scribbles = λ d keeps guest stands. rw (c.requires.none, ← c.as_slice.ensures)
           (steps_quiet keeps _ _ _ _ _ _ guest g.K.FrameKeeper.answers _ _ _ stands
           (scribble_alone keeps _ _ _ _ d guest _ _ _ stands did.covers
           (λ some bare. (let wrong = did.needs_frame did.covers some bare in cc)) did.bytes
@@ -46,9 +46,9 @@ put_fresh-requires g c =
     let here = c.in-Err-NeedsFrame.ensures in
     let found = needs_frame _ _ _ _ c.write.result did.answers did.out_of_ram did.empty
     (c.in-Err-NeedsFrame.is ∙ ap Err c.in-Err-NeedsFrame.field-0-is) in
-    let (keeps, d, guest, stands) = c.requires.stands in
+    let (d, (keeps, guest, stands)) = c.requires.stands in
     record {
-      stands = (keeps, d, guest, stands_as keeps _ _ _ _ d guest here.unwritten did.part stands);
+      stands = (d, (keeps, guest, stands_as keeps _ _ _ _ d guest here.unwritten did.part stands));
       covers = rw (here.unwritten, ← c.as_slice.ensures) found.0;
       some = rw (← c.as_slice.ensures) found.1;
       bare = rw here.unwritten found.2;
@@ -61,12 +61,12 @@ returns-in-Err-NeedsFrame g c =
     let found = needs_frame _ _ _ _ c.write.result did.answers did.out_of_ram did.empty
     (c.in-Err-NeedsFrame.is ∙ ap Err c.in-Err-NeedsFrame.field-0-is) in
     record {
-      writes = λ keeps d guest used stands. rw (← c.write.ensures.part)
-          (c.put_fresh.ensures.writes keeps d guest used
+      writes = λ d used keeps guest stands. rw (← c.write.ensures.part)
+          (c.put_fresh.ensures.writes d used keeps guest
           (stands_as keeps _ _ _ _ d guest c.in-Err-NeedsFrame.ensures.unwritten c.write.ensures.part
           stands));
-      scribbles = λ keeps d guest stands. rw (← c.write.ensures.part)
-          (c.put_fresh.ensures.scribbles keeps d guest
+      scribbles = λ d keeps guest stands. rw (← c.write.ensures.part)
+          (c.put_fresh.ensures.scribbles d keeps guest
           (stands_as keeps _ _ _ _ d guest c.in-Err-NeedsFrame.ensures.unwritten c.write.ensures.part
           stands));
       exact = puts_bare g.K.FrameKeeper.answers _ _ _ _ _ _ _ _ _ _ _ _ _
@@ -82,13 +82,13 @@ returns-in-Err-OutOfRam g c =
     let outside = not_covered _ _ _ _ c.write.result OutOfRam did.answers did.needs_frame did.empty
     (c.in-Err-OutOfRam.is ∙ ap Err c.in-Err-OutOfRam.field-0-is) (λ e. cc) in
     record {
-      writes = λ keeps d guest used stands. rw (c.requires.none, ← c.as_slice.ensures)
+      writes = λ d used keeps guest stands. rw (c.requires.none, ← c.as_slice.ensures)
           (steps_quiet keeps _ _ _ _ _ _ guest g.K.FrameKeeper.answers _ _ _ stands
           (alone_stands keeps _ _ _ _ d d guest _ _ stands same.flag same.numbers
           (λ honest. write_outside _ _ _ _ d guest _ _ _ used honest here.unwritten did.part outside)
           (λ rogue. write_outside_rogue _ _ _ _ d guest _ _ _ used here.unwritten did.part outside
           rogue)));
-      scribbles = λ keeps d guest stands. rw (c.requires.none, ← c.as_slice.ensures)
+      scribbles = λ d keeps guest stands. rw (c.requires.none, ← c.as_slice.ensures)
           (steps_quiet keeps _ _ _ _ _ _ guest g.K.FrameKeeper.answers _ _ _ stands
           (scribble_outside keeps _ _ _ _ d guest _ _ _ stands here.unwritten did.part outside));
       exact = rw (← c.as_slice.ensures)

@@ -21,14 +21,14 @@ returns-in-Err-NoFrame g c =
     let is = c.in-Err-NoFrame.is ∙ ap Err c.in-Err-NoFrame.field-0-is in
     let answer = claim_answered g.K.FrameKeeper.answers _ _ _ _ is did.claimed in
     record {
-      writes = λ keeps d guest used stands.
+      writes = λ d used keeps guest stands.
           rw (noted_alone _ _ _ _ is c.requires.none did.noted)
           (over_stands keeps _ _ _ _ _ _ guest _ _ _ _ _ _ stands
           (λ honest. write_unsupplied g.K.FrameKeeper.answers _ _ _ _ _ _ d guest _ _ _ NoFrame
           answer used honest c.requires.covers c.requires.some c.requires.bare did.mem did.part)
           (λ rogue. write_unsupplied_rogue g.K.FrameKeeper.answers _ _ _ _ _ _ d guest _ _ _
           NoFrame answer used rogue c.requires.covers c.requires.some c.requires.bare did.mem did.part));
-      scribbles = λ keeps d guest stands.
+      scribbles = λ d keeps guest stands.
           rw (noted_alone _ _ _ _ is c.requires.none did.noted)
           (scribble_unsupplied keeps g.K.FrameKeeper.answers _ _ _ _ _ _ d guest _ _ _ NoFrame
           answer stands c.requires.covers c.requires.some c.requires.bare did.mem did.part);
@@ -47,14 +47,14 @@ returns-in-Err-Memory g c =
     let is = c.in-Err-Memory.is ∙ ap Err c.in-Err-Memory.field-0-is in
     let answer = claim_answered g.K.FrameKeeper.answers _ _ _ _ is did.claimed in
     record {
-      writes = λ keeps d guest used stands.
+      writes = λ d used keeps guest stands.
           rw (noted_alone _ _ _ _ is c.requires.none did.noted)
           (over_stands keeps _ _ _ _ _ _ guest _ _ _ _ _ _ stands
           (λ honest. write_unsupplied g.K.FrameKeeper.answers _ _ _ _ _ _ d guest _ _ _ Memory
           answer used honest c.requires.covers c.requires.some c.requires.bare did.mem did.part)
           (λ rogue. write_unsupplied_rogue g.K.FrameKeeper.answers _ _ _ _ _ _ d guest _ _ _
           Memory answer used rogue c.requires.covers c.requires.some c.requires.bare did.mem did.part));
-      scribbles = λ keeps d guest stands.
+      scribbles = λ d keeps guest stands.
           rw (noted_alone _ _ _ _ is c.requires.none did.noted)
           (scribble_unsupplied keeps g.K.FrameKeeper.answers _ _ _ _ _ _ d guest _ _ _ Memory
           answer stands c.requires.covers c.requires.some c.requires.bare did.mem did.part);
@@ -72,7 +72,7 @@ returns g c =
     let did = c.claim_frame.ensures in
     let answer = claim_answered g.K.FrameKeeper.answers _ _ _ _ c.in-Ok.is did.claimed in
     record {
-      writes = λ keeps d guest used stands.
+      writes = λ d used keeps guest stands.
           rw (noted_alone _ _ _ _ c.in-Ok.is c.requires.none did.noted)
           (over_stands keeps _ _ _ _ _ _ guest _ _ _ _ _ _ stands
           (λ honest. write_supplied g.K.FrameKeeper.answers _ _ _ _ _ _ _ _ _ _ d guest _ _ _ _
@@ -83,7 +83,7 @@ returns g c =
           _ answer used rogue c.requires.covers c.requires.some c.requires.bare did.mem
           c.supply.ensures.supplied c.overwrite.ensures.wrote did.part c.supply.ensures.part
           c.overwrite.ensures.part));
-      scribbles = λ keeps d guest stands.
+      scribbles = λ d keeps guest stands.
           rw (noted_alone _ _ _ _ c.in-Ok.is c.requires.none did.noted)
           (scribble_supplied keeps g.K.FrameKeeper.answers _ _ _ _ _ _ _ _ _ _ d guest _ _ _ _
           answer stands c.requires.covers c.requires.some c.requires.bare did.mem
