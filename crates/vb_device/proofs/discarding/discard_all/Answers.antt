@@ -6,7 +6,7 @@ use Rattle.vb_device.specs.Base.{numbers_of_frames}
 use Rattle.vb_request.specs.Request.{each_once}
 use Rattle.vb_device.specs.Discards.{discarded, frames_behind}
 use Rattle.vb_device.proofs.Discards.{discard_more, loose_more, discarded_none}
-use Rattle.vb_device.proofs.base.discard_all.Goals as goal
+use Rattle.vb_device.proofs.discarding.discard_all.Goals as goal
 
 pub loop-k-init : goal.loop-k-init
 loop-k-init c = record {

@@ -29,7 +29,7 @@ use Rattle.vb_model.specs.Tables.{has_chains, is_queue_of_requests}
 use Rattle.vb_device.specs.Conditions.{finish_refusal, taken_at}
 use Rattle.vb_device.specs.BaseCalls.{visited_queue, page_to_visit, with_visit, flags_after}
 use Rattle.vb_model.specs.Device.{visiting}
-use Rattle.vb_device.proofs.Four.{at_each, at_requests}
+use Rattle.vb_device.proofs.FourQueues.{at_each, at_requests}
 
 -- the part with these flags, of this pace
 abbrev pub over : Bool → List Bool → Part → Part

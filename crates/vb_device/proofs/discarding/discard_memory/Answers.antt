@@ -8,7 +8,7 @@ use Rattle.vb_request.specs.Request.{each_once}
 use Rattle.vb_device.specs.Discards.{discarded, frames_behind}
 use Rattle.vb_device.proofs.Discards.{discard_more, loose_more, discarded_none}
 use Rattle.vb_device.proofs.Discards.{all_once, all_discarded}
-use Rattle.vb_device.proofs.base.discard_memory.Goals as goal
+use Rattle.vb_device.proofs.discarding.discard_memory.Goals as goal
 
 pub loop-page-init : goal.loop-page-init
 loop-page-init c = record {

@@ -1,6 +1,6 @@
 use Rattle.std.proofs.Common.{arith}
 use Rattle.vb_device.proofs.Discards.{loses_found}
-use Rattle.vb_device.proofs.base.discard_page.Goals as goal
+use Rattle.vb_device.proofs.discarding.discard_page.Goals as goal
 
 pub put_loose-requires : goal.put_loose-requires
 put_loose-requires c =

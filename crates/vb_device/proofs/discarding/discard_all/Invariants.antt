@@ -5,7 +5,7 @@ use Rattle.vb_request.specs.Request.{each_once}
 use Rattle.vb_request.specs.Report.{IsRun}
 use Rattle.vb_device.specs.Discards.{discarded, frames_behind}
 use Rattle.vb_device.proofs.Discards.{frame_count}
-use Rattle.vb_device.proofs.base.discard_all.Given as goal
+use Rattle.vb_device.proofs.discarding.discard_all.Given as goal
 
 abbrev pub invariant-loop-k : goal.invariant-loop-k
 invariant-loop-k l =

@@ -5,7 +5,7 @@ use Rattle.vb_device.specs.Base.{numbers_of_frames}
 use Rattle.vb_request.specs.Request.{each_once}
 use Rattle.vb_device.specs.Discards.{discarded, frames_behind}
 use Rattle.vb_device.proofs.Discards.{frame_count}
-use Rattle.vb_device.proofs.base.discard_memory.Given as goal
+use Rattle.vb_device.proofs.discarding.discard_memory.Given as goal
 
 abbrev pub invariant-loop-page : goal.invariant-loop-page
 invariant-loop-page l =

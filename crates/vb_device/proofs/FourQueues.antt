@@ -12,7 +12,7 @@ use Rattle.vb_ring.specs.declared.layout.Layout.{Layout}
 use Rattle.vb_ring.specs.Layout.{layout_of}
 use Rattle.vb_device.specs.Queues.{queue_part, with_queue}
 use Rattle.vb_device.specs.QueueState.{QueueState, part_of, started, restarted}
-use Rattle.vb_device.specs.Base.{place_of, queue_at, base_part, IsDeviceQueue, IsBase}
+use Rattle.vb_device.specs.Base.{index_of, queue_at, base_part, IsDeviceQueue, IsBase}
 
 true_false : (b : Bool) → b ≡ true → b ≡ false → ⊥
 true_false b e f = cc
@@ -64,10 +64,10 @@ of_four P each (a ∷ b ∷ c ∷ d ∷ x ∷ xs) e = absurd (omega (arith, e))
 
 -- an entry, whatever stands for one that isn't there
 pub entry_is : (q : ℕ) (qs : List QueueState) (x : QueueState) → length qs ≡ 4 →
-    has_chains q ≡ true → get_or qs (place_of q) x ≡ queue_at q qs
+    has_chains q ≡ true → get_or qs (index_of q) x ≡ queue_at q qs
 entry_is q qs x four known =
-    of_four (λ l. get_or l (place_of q) x ≡ queue_at q l)
-    (λ a b c d. at_each (λ n. get_or (a ∷ b ∷ c ∷ d ∷ []) (place_of n) x ≡
+    of_four (λ l. get_or l (index_of q) x ≡ queue_at q l)
+    (λ a b c d. at_each (λ n. get_or (a ∷ b ∷ c ∷ d ∷ []) (index_of n) x ≡
     queue_at n (a ∷ b ∷ c ∷ d ∷ [])) refl refl refl refl q known) qs four
 
 -- the last queue where the first was changed
@@ -78,18 +78,18 @@ last_entry qs x r four =
 
 -- the queue that was put there
 pub set_here : (q : ℕ) (qs : List QueueState) (x : QueueState) → length qs ≡ 4 →
-    has_chains q ≡ true → queue_at q (set qs (place_of q) x) ≡ x
+    has_chains q ≡ true → queue_at q (set qs (index_of q) x) ≡ x
 set_here q qs x four known =
-    of_four (λ l. queue_at q (set l (place_of q) x) ≡ x)
-    (λ a b c d. at_each (λ n. queue_at n (set (a ∷ b ∷ c ∷ d ∷ []) (place_of n) x) ≡ x)
+    of_four (λ l. queue_at q (set l (index_of q) x) ≡ x)
+    (λ a b c d. at_each (λ n. queue_at n (set (a ∷ b ∷ c ∷ d ∷ []) (index_of n) x) ≡ x)
     refl refl refl refl q known) qs four
 
 -- a queue that is put back as it was
 pub set_same : (q : ℕ) (qs : List QueueState) → length qs ≡ 4 → has_chains q ≡ true →
-    set qs (place_of q) (queue_at q qs) ≡ qs
+    set qs (index_of q) (queue_at q qs) ≡ qs
 set_same q qs four known =
-    of_four (λ l. set l (place_of q) (queue_at q l) ≡ l)
-    (λ a b c d. at_each (λ n. set (a ∷ b ∷ c ∷ d ∷ []) (place_of n)
+    of_four (λ l. set l (index_of q) (queue_at q l) ≡ l)
+    (λ a b c d. at_each (λ n. set (a ∷ b ∷ c ∷ d ∷ []) (index_of n)
     (queue_at n (a ∷ b ∷ c ∷ d ∷ [])) ≡ a ∷ b ∷ c ∷ d ∷ []) refl refl refl refl q known) qs four
 
 pub set_four : (qs : List QueueState) (i : ℕ) (x : QueueState) → length qs ≡ 4 →
@@ -107,13 +107,13 @@ part_get q s f t a n qs last loose known =
 -- the part after one queue is changed
 pub part_set : (q s f t a n : ℕ) (qs : List QueueState) (x : QueueState) (last : LastStatistics)
     (loose : List Page) → length qs ≡ 4 → has_chains q ≡ true →
-    base_part s f t a n (set qs (place_of q) x) last loose ≡
+    base_part s f t a n (set qs (index_of q) x) last loose ≡
     with_queue q (part_of x) (base_part s f t a n qs last loose)
 part_set q s f t a n qs x last loose four known =
-    of_four (λ l. base_part s f t a n (set l (place_of q) x) last loose ≡
+    of_four (λ l. base_part s f t a n (set l (index_of q) x) last loose ≡
     with_queue q (part_of x) (base_part s f t a n l last loose))
     (λ u v w z. at_each (λ k.
-    base_part s f t a n (set (u ∷ v ∷ w ∷ z ∷ []) (place_of k) x) last loose ≡
+    base_part s f t a n (set (u ∷ v ∷ w ∷ z ∷ []) (index_of k) x) last loose ≡
     with_queue k (part_of x) (base_part s f t a n (u ∷ v ∷ w ∷ z ∷ []) last loose))
     refl refl refl refl q known) qs four
 
@@ -123,12 +123,12 @@ part_set q s f t a n qs x last loose four known =
 each_set : (P : ℕ → QueueState → Type 0) (q : ℕ) (qs : List QueueState) (x : QueueState) →
     length qs ≡ 4 → has_chains q ≡ true → P q x →
     ((n : ℕ) → has_chains n ≡ true → P n (queue_at n qs)) →
-    (n : ℕ) → has_chains n ≡ true → P n (queue_at n (set qs (place_of q) x))
+    (n : ℕ) → has_chains n ≡ true → P n (queue_at n (set qs (index_of q) x))
 each_set P q qs x four known here each =
     of_four (λ l. ((n : ℕ) → has_chains n ≡ true → P n (queue_at n l)) →
-    (n : ℕ) → has_chains n ≡ true → P n (queue_at n (set l (place_of q) x)))
+    (n : ℕ) → has_chains n ≡ true → P n (queue_at n (set l (index_of q) x)))
     (λ a b c d. λ all. at_each (λ k. P k x → (n : ℕ) → has_chains n ≡ true →
-    P n (queue_at n (set (a ∷ b ∷ c ∷ d ∷ []) (place_of k) x)))
+    P n (queue_at n (set (a ∷ b ∷ c ∷ d ∷ []) (index_of k) x)))
     (λ p. at_each (λ n. P n (queue_at n (x ∷ b ∷ c ∷ d ∷ [])))
     p (all 1 refl) (all 2 refl) (all 4 refl))
     (λ p. at_each (λ n. P n (queue_at n (a ∷ x ∷ c ∷ d ∷ [])))
@@ -144,9 +144,9 @@ pub base_set : (q : ℕ) (m1 m2 : Pages) (s1 s2 n c1 c2 : ℕ) (qs : List QueueS
     ((k : ℕ) (x : QueueState) → IsDeviceQueue m1 s1 n k x → IsDeviceQueue m2 s2 n k x) →
     (IsDeviceQueue m1 s1 n q (queue_at q qs) → IsDeviceQueue m2 s2 n q x2) →
     (0 < length m2 → 64 ≤ length m2) → length m2 ≤ c2 →
-    IsBase m2 s2 n (set qs (place_of q) x2) c2
+    IsBase m2 s2 n (set qs (index_of q) x2) c2
 base_set q m1 m2 s1 s2 n c1 c2 qs x2 b known other one large room = record {
-  four = set_four qs (place_of q) x2 b.four;
+  four = set_four qs (index_of q) x2 b.four;
   each = each_set (λ k x. IsDeviceQueue m2 s2 n k x) q qs x2 b.four known (one (b.each q known))
       (λ k is. other k (queue_at k qs) (b.each k is));
   large = large;
