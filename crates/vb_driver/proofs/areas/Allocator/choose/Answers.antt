@@ -8,7 +8,7 @@ use Rattle.vb_driver.specs.Areas.{Becomes, flags_of, is_free_at}
 use Rattle.vb_driver.specs.Places.{marked}
 use Rattle.vb_driver.proofs.Flags.{free_flag}
 use Rattle.vb_driver.proofs.ReportAreas.{chosen_places, chosen_blocks, chosen_state}
-use Rattle.vb_driver.proofs.areas.Areas.choose.Goals as goal
+use Rattle.vb_driver.proofs.areas.Allocator.choose.Goals as goal
 
 pub returns-clause-chosen : goal.returns-clause-chosen
 returns-clause-chosen c =

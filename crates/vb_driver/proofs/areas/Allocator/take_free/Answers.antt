@@ -7,7 +7,7 @@ use Rattle.vb_driver.specs.Places.{marked}
 use Rattle.vb_model.specs.Orderly.{times}
 use Rattle.vb_driver.proofs.Allocating.{count_flags, taken_state, taken_free, taken_once}
 use Rattle.vb_model.proofs.Distinct.{distinct_once}
-use Rattle.vb_driver.proofs.areas.Areas.take_free.Goals as goal
+use Rattle.vb_driver.proofs.areas.Allocator.take_free.Goals as goal
 
 pub take_free-requires-clause-enough : goal.take_free-requires-clause-enough
 take_free-requires-clause-enough c =

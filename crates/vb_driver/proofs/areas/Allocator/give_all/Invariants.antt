@@ -1,7 +1,7 @@
 use Rattle.std.proofs.Common.{◌≡◌, true, take}
 use Rattle.vb_driver.specs.Areas.{Becomes, flags_of, all_given}
 use Rattle.vb_driver.specs.Places.{marked}
-use Rattle.vb_driver.proofs.areas.Areas.give_all.Given as goal
+use Rattle.vb_driver.proofs.areas.Allocator.give_all.Given as goal
 
 abbrev pub invariant-loop-page : goal.invariant-loop-page
 invariant-loop-page l =

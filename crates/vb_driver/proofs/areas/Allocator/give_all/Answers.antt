@@ -8,7 +8,7 @@ use Rattle.vb_driver.specs.Areas.{flags_of, is_free_at, is_covered, all_given}
 use Rattle.vb_driver.specs.Places.{marked}
 use Rattle.vb_driver.proofs.Placing.{is_in-at, length-marked, marked-get, marked_more, marked_none}
 use Rattle.vb_driver.proofs.Flags.{not_before, given_more}
-use Rattle.vb_driver.proofs.areas.Areas.give_all.Goals as goal
+use Rattle.vb_driver.proofs.areas.Allocator.give_all.Goals as goal
 
 pub loop-page-init : goal.loop-page-init
 loop-page-init c = (

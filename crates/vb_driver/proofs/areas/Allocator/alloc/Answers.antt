@@ -11,8 +11,8 @@ use Rattle.vb_driver.specs.Areas.{Becomes, Allots, flags_of, has_block, is_free_
 use Rattle.vb_driver.specs.Places.{marked}
 use Rattle.vb_driver.proofs.Allocating.{answered, IsServed, alloc_refusal, alloc_refused}
 use Rattle.vb_driver.proofs.Allocating.{alloc_free, alloc_state, alloc_allots}
-use Rattle.vb_driver.proofs.areas.Areas.alloc.Goals.{in-Ok, in-Err}
-use Rattle.vb_driver.proofs.areas.Areas.alloc.Goals as goal
+use Rattle.vb_driver.proofs.areas.Allocator.alloc.Goals.{in-Ok, in-Err}
+use Rattle.vb_driver.proofs.areas.Allocator.alloc.Goals as goal
 
 pub returns : goal.returns
 returns c =

@@ -6,7 +6,7 @@ use Rattle.vb_report.specs.Blocks.{blocks_of}
 use Rattle.vb_driver.specs.Areas.{Becomes, flags_of, is_free_at, is_covered}
 use Rattle.vb_driver.specs.Places.{marked}
 use Rattle.vb_driver.proofs.ReportAreas.{have_room, given_blocks}
-use Rattle.vb_driver.proofs.areas.Areas.give_blocks.Goals as goal
+use Rattle.vb_driver.proofs.areas.Allocator.give_blocks.Goals as goal
 
 pub give_all-requires : goal.give_all-requires
 give_all-requires c =

@@ -3,7 +3,7 @@ use Rattle.vb_model.specs.Tests.{pages_where}
 use Rattle.vb_model.specs.Pages.{is_reporting}
 use Rattle.vb_driver.specs.Areas.{Becomes, flags_of, areas_with}
 use Rattle.vb_driver.specs.Places.{marked}
-use Rattle.vb_driver.proofs.areas.Areas.give_reported.Given as goal
+use Rattle.vb_driver.proofs.areas.Allocator.give_reported.Given as goal
 
 abbrev pub invariant-loop-page : goal.invariant-loop-page
 invariant-loop-page l =

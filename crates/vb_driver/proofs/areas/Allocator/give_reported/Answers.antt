@@ -11,7 +11,7 @@ use Rattle.vb_driver.specs.Areas.{flags_of, is_free_at, is_covered, areas_with}
 use Rattle.vb_driver.specs.Places.{marked}
 use Rattle.vb_driver.proofs.Placing.{length-marked, marked-get, marked_none, marked_append}
 use Rattle.vb_driver.proofs.Placing.{pages_more, not_in_first, none_where}
-use Rattle.vb_driver.proofs.areas.Areas.give_reported.Goals as goal
+use Rattle.vb_driver.proofs.areas.Allocator.give_reported.Goals as goal
 
 pub returns-then-count-eq0-clause-state : goal.returns-then-count-eq0-clause-state
 returns-then-count-eq0-clause-state c =

@@ -2,7 +2,7 @@ use Rattle.std.proofs.Common.{◌≡◌, ◌<◌, sym, subst, true, false, lengt
 use Rattle.vb_pages.specs.PageState.{PageState}
 use Rattle.vb_driver.specs.Areas.{Becomes, flags_of, is_free_at, is_covered}
 use Rattle.vb_driver.proofs.Allocating.{given_room, given_state}
-use Rattle.vb_driver.proofs.areas.Areas.give_free.Goals as goal
+use Rattle.vb_driver.proofs.areas.Allocator.give_free.Goals as goal
 
 pub give_free-requires : goal.give_free-requires
 give_free-requires c =

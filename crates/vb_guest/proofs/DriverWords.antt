@@ -4,14 +4,14 @@ use Rattle.std.proofs.Common.{◌∙◌, ap}
 use Rattle.vb_model.specs.Guest.{Guest}
 use Rattle.vb_ram.specs.Part.{Part}
 use Rattle.vb_ring.specs.Ends.{DriverEnd}
-use Rattle.vb_driver.specs.State.{FreePages, Side, ReportSide, DriverState}
+use Rattle.vb_driver.specs.State.{FreePages, RequestSide, ReportSide, DriverState}
 use Rattle.vb_guest.specs.Stands.{DriverKeeps, HasParts, beside_queues, beside_sides}
 use Rattle.vb_guest.specs.Stands.{beside_requests}
 
 -- what a driver keeps of its four queues
 pub record Sides : Type 0 where
-  pub inflate : Side
-  pub deflate : Side
+  pub inflate : RequestSide
+  pub deflate : RequestSide
   pub statistics : DriverEnd
   pub report : ReportSide
 

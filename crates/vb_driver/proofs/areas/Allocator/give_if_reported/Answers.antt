@@ -3,7 +3,7 @@ use Rattle.vb_pages.proofs.ListsLemmas.{with_none}
 use Rattle.vb_driver.specs.Areas.{Becomes, flags_of, areas_with}
 use Rattle.vb_driver.specs.Places.{marked}
 use Rattle.vb_driver.proofs.Placing.{marked_one, marked_none}
-use Rattle.vb_driver.proofs.areas.Areas.give_if_reported.Goals as goal
+use Rattle.vb_driver.proofs.areas.Allocator.give_if_reported.Goals as goal
 
 pub returns-then-is_reporting-clause-state : goal.returns-then-is_reporting-clause-state
 returns-then-is_reporting-clause-state c =

@@ -7,8 +7,8 @@ use Rattle.vb_driver.specs.Answers.{block_at}
 use Rattle.vb_driver.specs.Areas.{Becomes, flags_of}
 use Rattle.vb_driver.specs.Places.{marked}
 use Rattle.vb_driver.proofs.Allocating.{answered, free_state, areas_apart}
-use Rattle.vb_driver.proofs.areas.Areas.free.Goals.{in-Ok, in-Err}
-use Rattle.vb_driver.proofs.areas.Areas.free.Goals as goal
+use Rattle.vb_driver.proofs.areas.Allocator.free.Goals.{in-Ok, in-Err}
+use Rattle.vb_driver.proofs.areas.Allocator.free.Goals as goal
 
 pub returns-clause-state : goal.returns-clause-state
 returns-clause-state c =
