@@ -69,3 +69,4 @@ pub mod Asked
 pub mod RogueLives
 pub mod RogueMemory
 pub mod Exactly
+pub mod Filling

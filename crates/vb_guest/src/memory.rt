@@ -44,7 +44,7 @@ fn overwrite<D: Device>(device: &mut D, page: u32, offset: u32, bytes: &Bytes)
     }
 }
 
-/// Writes bytes of a page that gets a frame first.
+/// Puts a frame behind a page that has none, and then writes bytes of it.
 fn put_fresh<D: Device, K: FrameKeeper>(
     device: &mut D,
     keeper: &mut K,
@@ -53,19 +53,10 @@ fn put_fresh<D: Device, K: FrameKeeper>(
     offset: u32,
     bytes: &Bytes,
 ) -> Result<(), Refusal>
-    requires stands { (d : DriverState) × SomeGuest (D.mem device.old) (D.part device.old) d }
     requires covers { Covers (D.mem device.old) page offset (length bytes.now) }
     requires some { 0 < length bytes.now }
     requires bare { frame_at (D.mem device.old) page ≡ None }
     requires none { claims.old.items ≡ [] }
-    ensures writes { (d : DriverState) → is_used (place_of d.places page) ≡ true → EachSteps
-        K.answers (moment (D.mem device.old) (D.part device.old) d (K.out keeper.old))
-        (moment (D.mem device.new) (D.part device.new) d (K.out keeper.new)) claims.new.items
-        (Call.Write page offset bytes.now) (done_reply result) }
-    ensures scribbles { (d : DriverState) → EachSteps K.answers
-        (moment (D.mem device.old) (D.part device.old) d (K.out keeper.old))
-        (moment (D.mem device.new) (D.part device.new) d (K.out keeper.new)) claims.new.items
-        (Call.Scribble page offset bytes.now) (done_reply result) }
     ensures exact { FillsBare K.answers (supply_of (D.part device.old) (K.out keeper.old))
         (supply_of (D.part device.new) (K.out keeper.new)) (D.mem device.old) (D.mem device.new)
         (D.part device.old) (D.part device.new) claims.new.items page offset bytes.now result }
@@ -194,7 +185,7 @@ fn read_bytes<D: Device>(
     ensures { IfOk result
         (λ bytes. bytes ≡ take len (drop offset (contents_at (D.mem device.now) page))) }
 {
-    // That each page has as many bytes as a page has is known from here on.
+    // Asked for the proof: that each page has `PAGE_SIZE` bytes is a clause of this call alone.
     let _frame = device.backing(page);
     let mut bytes = vec![in alloc; 0; len as usize]?;
     match device.read(page, offset as usize, &mut bytes) {
