@@ -21,12 +21,12 @@ use Rattle.vb_device.specs.Queues.{queue_end, with_queue}
 use Rattle.vb_model.specs.Guest.{LastStatistics}
 use Rattle.vb_device.specs.QueueState.{QueueState, part_of, taken_refusal}
 use Rattle.vb_device.specs.Discards.{discarded}
-use Rattle.vb_device.specs.Base.{place_of, queue_at, base_part, numbers_of_frames, IsDeviceQueue, IsBase}
+use Rattle.vb_device.specs.Base.{index_of, queue_at, base_part, numbers_of_frames, IsDeviceQueue, IsBase}
 use Rattle.vb_device.specs.Base.{with_pace}
 use Rattle.vb_device.specs.BaseCalls.{queue_refusal, with_lost, taken_out, TakesOut, UsesChain}
 use Rattle.vb_device.specs.BaseCalls.{CanUse, readiness_refusal}
 use Rattle.vb_device.specs.Calls.{without_frames}
-use Rattle.vb_device.proofs.Four.{at_each, part_get, part_set, set_here, base_set}
+use Rattle.vb_device.proofs.FourQueues.{at_each, part_get, part_set, set_here, base_set}
 use Rattle.vb_device.proofs.TakesBy.{finish_open, queue_known, status_ok}
 use Rattle.vb_model.specs.Status.{contains, driver_ok}
 use Rattle.vb_model.specs.Layout.{ring_page}
@@ -95,7 +95,7 @@ finish_left q index paced s f t a n qs l loose ok =
 taken_part : (q index : ℕ) (pages : List ℕ) (mem : Pages) (s f t a n : ℕ) (qs : List QueueState)
     (l : LastStatistics) (loose loose2 : List Page) → length qs ≡ 4 → has_chains q ≡ true →
     numbers_of_frames loose2 ≡ with_lost q mem pages (numbers_of_frames loose) →
-    base_part s f t a n (set qs (place_of q) (without_taken (queue_at q qs) index)) l loose2 ≡
+    base_part s f t a n (set qs (index_of q) (without_taken (queue_at q qs) index)) l loose2 ≡
     taken_out q index pages mem (base_part s f t a n qs l loose)
 taken_part q index pages mem s f t a n qs l loose loose2 four known numbers =
     let x : QueueState = queue_at q qs in
@@ -115,12 +115,12 @@ pub out_at : (q index : ℕ) (paced : Bool) (m1 m2 : Pages) (s f t a n c : ℕ)
     numbers_of_frames loose2 ≡ with_lost q m1 r.pages (numbers_of_frames loose)
     → TakesOut q index m1 m2 (with_pace paced (base_part s f t a n qs l loose))
     (with_pace paced (base_part s f t a n
-    (set qs (place_of q) (without_taken (queue_at q qs) index)) l loose2)) (Ok r)
+    (set qs (index_of q) (without_taken (queue_at q qs) index)) l loose2)) (Ok r)
 out_at q index paced m1 m2 s f t a n c qs l loose loose2 r is ok left at mem numbers =
     let known : has_chains q ≡ true = queue_known q s ok in
     taken_out_of q index m1 m2 (with_pace paced (base_part s f t a n qs l loose))
     (with_pace paced (base_part s f t a n
-    (set qs (place_of q) (without_taken (queue_at q qs) index)) l loose2)) r (Ok r) refl
+    (set qs (index_of q) (without_taken (queue_at q qs) index)) l loose2)) r (Ok r) refl
     (finish_left q index paced s f t a n qs l loose ok ∙ left)
     (taken_paced q index paced (base_part s f t a n qs l loose) known ∙
     (ap (λ (k : QueuePart). slice_get k.taken index) (part_get q s f t a n qs l loose known) ∙ at))
@@ -185,7 +185,7 @@ pub used_at : (q h : ℕ) (m1 m2 : Pages) (s f t a n c : ℕ) (qs : List QueueSt
     has_chains q ≡ true → contains s driver_ok ≡ true
     → AddsUsedBy m1 m2 (queue_at q qs).ring x2.ring h 0 → x2.taken ≡ (queue_at q qs).taken →
     UsesChain q h m1 m2 (base_part s f t a n qs l loose)
-    (base_part s f t a n (set qs (place_of q) x2) l loose)
+    (base_part s f t a n (set qs (index_of q) x2) l loose)
 used_at q h m1 m2 s f t a n c qs x2 l loose is known ok adds left =
     let x : QueueState = queue_at q qs in
     let now : IsDeviceQueue m1 s n q x = is.each q known in
@@ -197,9 +197,9 @@ used_at q h m1 m2 s f t a n c qs x2 l loose is known ok adds left =
           ∙ ap (λ (k : QueuePart). with_queue q (record k { next_used = (k.next_used + 1) % 65536 })
           (base_part s f t a n qs l loose)) (sym (part_get q s f t a n qs l loose known)));
       memory = ends_so m1 m2 x.ring x2.ring (queue_end q (base_part s f t a n qs l loose))
-          (queue_end q (base_part s f t a n (set qs (place_of q) x2) l loose)) h
+          (queue_end q (base_part s f t a n (set qs (index_of q) x2) l loose)) h
           (end_of_queue q m1 s f t a n qs l loose x known refl now.ring now.size (now.ready ok))
-          (end_of_queue q m1 s f t a n (set qs (place_of q) x2) l loose x2 known
+          (end_of_queue q m1 s f t a n (set qs (index_of q) x2) l loose x2 known
           (set_here q qs x2 is.four known)
           (ap (λ (e : DeviceEnd). e.layout) adds.state ∙ now.ring)
           (ap (λ (e : DeviceEnd). e.size) adds.state ∙ now.size)
@@ -227,7 +227,7 @@ has_pages mem ts index r none at = elim (cases_eq (length mem) 0) [
 pub base_used : (q : ℕ) (m1 m2 : Pages) (s n c1 c2 : ℕ) (qs : List QueueState) (x2 : QueueState) →
     IsBase m1 s n qs c1 → has_chains q ≡ true → length m2 ≡ length m1 → c2 ≡ c1 → 0 < length m1
     → x2.ring.layout ≡ (queue_at q qs).ring.layout → x2.ring.size ≡ (queue_at q qs).ring.size →
-    x2.ring.ready ≡ (queue_at q qs).ring.ready → IsBase m2 s n (set qs (place_of q) x2) c2
+    x2.ring.ready ≡ (queue_at q qs).ring.ready → IsBase m2 s n (set qs (index_of q) x2) c2
 base_used q m1 m2 s n c1 c2 qs x2 b known len same pos layout size ready =
     let large : 64 ≤ length m1 = b.large pos in
     let fits : length m1 ≤ c1 = b.room in
@@ -300,7 +300,7 @@ pub can_use : (q h : ℕ) (pages : List ℕ) (m1 m2 : Pages) (s f t a n c : ℕ)
     h < (queue_at q qs).ring.size
     → All (λ page. 16 ≤ page) pages → m2 ≡ without_frames q pages m1 →
     IsSome (frame_at m1 (ring_page q)) →
-    CanUse q h m2 (base_part s f t a n (set qs (place_of q) x2) l loose)
+    CanUse q h m2 (base_part s f t a n (set qs (index_of q) x2) l loose)
 can_use q h pages m1 m2 s f t a n c qs x2 l loose is known ok lt above mem backed =
     record {
       known = known;

@@ -1,6 +1,6 @@
 pub mod Chains
 pub mod Takes
-pub mod Four
+pub mod FourQueues
 pub mod TakesBy
 pub mod Finishes
 pub mod FromNext
@@ -8,5 +8,5 @@ pub mod Discards
 pub mod Sizes
 pub mod Marks
 pub mod LooseFrames
-pub mod Over
+pub mod Ballooning
 pub mod Visits

@@ -27,10 +27,10 @@ use Rattle.vb_device.specs.Faults.{Breaks, rule_of, needing_reset}
 use Rattle.vb_device.specs.QueueState.{QueueState, part_of, with_request, next_of, IsChainOf}
 use Rattle.vb_device.specs.QueueState.{IsFaultOf, is_full, NextMeans, Leaves, TakesNext}
 use Rattle.vb_device.specs.QueueState.{status_after}
-use Rattle.vb_device.specs.Base.{place_of, queue_at, base_part, IsDeviceQueue, IsBase}
+use Rattle.vb_device.specs.Base.{index_of, queue_at, base_part, IsDeviceQueue, IsBase}
 use Rattle.vb_device.specs.BaseCalls.{readiness_refusal, queue_refusal, take_refusal_by}
 use Rattle.vb_device.specs.Calls.{HasChain, HasFault, taking, noted, noting, TakeMeans, TakesBy}
-use Rattle.vb_device.proofs.Four.{at_each, part_get, part_set, set_here, set_same, base_set}
+use Rattle.vb_device.proofs.FourQueues.{at_each, part_get, part_set, set_here, set_same, base_set}
 use Rattle.vb_device.proofs.FromNext.{KeepsRing}
 
 -- ---- refusals
@@ -313,14 +313,14 @@ takes_by q mem P x1 x2 s l1 l2 result sits t =
 
 abbrev with_at : ℕ → ℕ → ℕ → ℕ → ℕ → List QueueState → List Page → QueueState → ℕ →
     LastStatistics → Part
-with_at q f t a n qs loose x s l = base_part s f t a n (set qs (place_of q) x) l loose
+with_at q f t a n qs loose x s l = base_part s f t a n (set qs (index_of q) x) l loose
 
 -- the part of the queue that was put there
 pub part_here : (q s f t a n : ℕ) (qs : List QueueState) (x : QueueState) (l : LastStatistics)
     (loose : List Page) → length qs ≡ 4 → has_chains q ≡ true →
-    queue_part q (base_part s f t a n (set qs (place_of q) x) l loose) ≡ part_of x
+    queue_part q (base_part s f t a n (set qs (index_of q) x) l loose) ≡ part_of x
 part_here q s f t a n qs x l loose four known =
-    part_get q s f t a n (set qs (place_of q) x) l loose known ∙
+    part_get q s f t a n (set qs (index_of q) x) l loose known ∙
     ap part_of (set_here q qs x four known)
 
 taking_two : (q h : ℕ) (pages : List ℕ) (k : QueuePart) (p : Part) → has_chains q ≡ true →
@@ -386,10 +386,10 @@ pub takes_at : (q : ℕ) (mem : Pages) (s f t a n c : ℕ) (qs : List QueueState
     IsBase mem s n qs c → take_refusal_by q s f ≡ None →
     TakesNext q mem (queue_at q qs) x2 l1 l2 result →
     TakesBy q mem mem (base_part s f t a n qs l1 loose)
-    (base_part (status_after result s) f t a n (set qs (place_of q) x2) l2 loose) result
+    (base_part (status_after result s) f t a n (set qs (index_of q) x2) l2 loose) result
 takes_at q mem s f t a n c qs x2 l1 l2 loose result b ok takes =
     subst (λ (ys : List QueueState). TakesBy q mem mem (base_part s f t a n ys l1 loose)
-    (base_part (status_after result s) f t a n (set qs (place_of q) x2) l2 loose) result)
+    (base_part (status_after result s) f t a n (set qs (index_of q) x2) l2 loose) result)
     (set_same q qs b.four (take_known q s f ok))
     (takes_by q mem (with_at q f t a n qs loose) (queue_at q qs) x2 s l1 l2 result
     (sits_at q mem s f t a n c qs loose l1 b ok) takes)
@@ -409,7 +409,7 @@ status_ok s e = ok_of (contains s driver_ok) (contains s failed) (has_fault s) e
 pub base_kept : (q : ℕ) (mem : Pages) (s1 s2 n c : ℕ) (qs : List QueueState)
     (x2 : QueueState) → IsBase mem s1 n qs c → has_chains q ≡ true →
     contains s1 driver_ok ≡ true → KeepsRing mem (queue_at q qs) x2 →
-    IsBase mem s2 n (set qs (place_of q) x2) c
+    IsBase mem s2 n (set qs (index_of q) x2) c
 base_kept q mem s1 s2 n c qs x2 b known driver k =
     base_set q mem mem s1 s2 n c c qs x2 b known
     (λ i x is. record {

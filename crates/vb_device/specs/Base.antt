@@ -17,12 +17,12 @@ abbrev pub numbers_of_frames : List Page → List ℕ
 numbers_of_frames frames = map (λ frame. frame.number) frames
 
 -- Where the queue of this number stands among a device's four.
-abbrev pub place_of : ℕ → ℕ
-place_of q = if q == REPORT_QUEUE then 3 else q
+abbrev pub index_of : ℕ → ℕ
+index_of q = if q == REPORT_QUEUE then 3 else q
 
 -- The queue of this number.
 abbrev pub queue_at : ℕ → List QueueState → QueueState
-queue_at q queues = slice_index_or queues (place_of q) no_ring
+queue_at q queues = slice_index_or queues (index_of q) no_ring
 
 -- The part of a device of these fields that has ballooned nothing.
 abbrev pub base_part : ℕ → ℕ → ℕ → ℕ → ℕ → List QueueState → LastStatistics → List Page → Part

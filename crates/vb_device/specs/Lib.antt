@@ -4,6 +4,12 @@ pub mod Conditions
 pub mod Faults
 pub mod Own
 pub mod Discards
+pub mod Loose
+pub mod Attaches
+pub mod Takes
+pub mod Visits
+pub mod Finishes
+pub mod OwnFrames
 pub mod Calls
 pub mod QueueState
 pub mod Base

@@ -169,7 +169,7 @@ impl<P: Pace> Device for BalloonDevice<P> {
     }
 
     fn paced(&self) -> bool {
-        // What the device shows of its fields is known from here on.
+        // Read for the proof: what the device shows is said of its fields by reading one.
         let _ = &self.base;
         P::IS_PACED
     }

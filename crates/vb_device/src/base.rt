@@ -1,38 +1,31 @@
 //! What devices of every kind keep: memory, status, queues and loose frames.
 
-ghost use Rattle.std.specs.Prelude.{◌≡◌, ◌==◌, ◌&&◌, not, ◌<◌, ◌≤◌, ◌+◌, ℕ, [], ◌∷◌, ◌++◌, Err};
+ghost use Rattle.std.specs.Prelude.{◌≡◌, ◌==◌, ◌&&◌, not, ◌<◌, ◌≤◌, ◌+◌, [], ◌∷◌, ◌++◌, Err};
 ghost use Rattle.std.specs.Prelude.{is_some, true, false, None, Some, IsSome, IsOk, IfNone, IfOk};
 ghost use Rattle.std.specs.Prelude.{OnOk, OnSome, OnErr, length};
 ghost use Rattle.std.specs.Prelude.{replicate, vec_capacity};
-ghost use Rattle.std.specs.Option.{option_to_list};
-ghost use Rattle.std.specs.List.{range_with_len};
-ghost use Rattle.std.specs.Prelude.{count_by, map, IsTrue};
-ghost use Rattle.std.specs.Int.{is_power_of_two};
 ghost use Rattle.vb_model.specs.declared.layout.TheConstants.{DEFLATE_QUEUE, STATISTICS_QUEUE};
-ghost use Rattle.vb_model.specs.declared.limits.TheConstants.{MIN_QUEUE_SIZE, MAX_QUEUE_SIZE};
-ghost use Rattle.vb_model.specs.Tables.{has_chains, lacks_feature};
-ghost use Rattle.vb_model.specs.Tests.{one_if};
+ghost use Rattle.vb_model.specs.declared.limits.TheConstants.{MAX_QUEUE_SIZE};
+ghost use Rattle.vb_model.specs.Tables.{lacks_feature};
 ghost use Rattle.vb_model.specs.Layout.{ring_page};
 ghost use Rattle.vb_model.specs.Limits.{is_config};
 ghost use Rattle.vb_model.specs.Status.{contains, driver_ok};
-ghost use Rattle.vb_ram.specs.Pages.{frame_at, number_of, Discarded, Supplied, IsWhole};
-ghost use Rattle.vb_ring.specs.Layout.{IsInside};
+ghost use Rattle.vb_ram.specs.Pages.{frame_at, Supplied, IsWhole};
 ghost use Rattle.vb_status.specs.After.{part_after_reset};
 ghost use Rattle.vb_status.specs.Bits.{status_bits};
-ghost use Rattle.vb_device.specs.Base.{numbers_of_frames, IsPlain, with_pace};
+ghost use Rattle.vb_device.specs.Base.{IsPlain, with_pace};
 ghost use Rattle.vb_device.specs.BaseCalls.{TakesOut, UsesChain, CanUse, readiness_refusal};
-ghost use Rattle.vb_device.specs.BaseCalls.{queue_refusal, with_lost, SweepsPage, GivesLast};
+ghost use Rattle.vb_device.specs.BaseCalls.{queue_refusal, SweepsPage, GivesLast};
 ghost use Rattle.vb_device.specs.BaseCalls.{with_visit, VisitsNext, take_refusal_by, TakesBuffer};
 ghost use Rattle.vb_device.specs.BaseCalls.{visited_queue, page_to_visit};
-ghost use Rattle.vb_device.specs.Base.{place_of};
 ghost use Rattle.vb_device.specs.Calls.{IsUnused, attached, TakesBy, AsksBy, DetachesBy};
-ghost use Rattle.vb_request.specs.Request.{each_once};
-ghost use Rattle.vb_device.specs.Calls.{without_frames};
 ghost use Rattle.vb_device.specs.Discards.{discarded, frames_behind};
-ghost use Rattle.vb_device.specs.QueueState.{status_after, started, restarted};
+ghost use Rattle.vb_device.specs.QueueState.{status_after};
 
+use crate::discarding::{discard_memory, discard_page, discard_request};
 use crate::flags::PageFlags;
 use crate::queue::DeviceQueue;
+use crate::queues::{index_of, set_all_ready, set_sizes};
 use crate::taken::TakenRequest;
 use crate::{Statistics, Worked};
 use bitflags::Flags;
@@ -45,7 +38,6 @@ use vb_model::layout::{
 };
 use vb_model::{Refusal, limits};
 use vb_ram::{Config, Frame, GuestBytes, Ram, RamFault, SupplyRefused};
-use vb_request::NamedRun;
 use vb_status::{Features, Port, Status, StatusFault, negotiate, write_status};
 
 /// A device but for the set of its ballooned pages.
@@ -101,122 +93,11 @@ fn note_fault(status: &mut Status, taken: &Result<Option<u16>, Refusal>)
     }
 }
 
-/// Puts a frame, if there is one, behind the loose ones.
-fn put_loose(loose: &mut Vec<Frame>, frame: Option<Frame>)
-    requires { length loose.old.items + one_if (is_some frame) ≤ vec_capacity loose.old }
-    ensures numbers { numbers_of_frames loose.new.items ≡ numbers_of_frames loose.old.items ++
-        option_to_list (number_of frame) }
-    ensures count { length loose.new.items ≡ length loose.old.items + one_if (is_some frame) }
-    ensures capacity { vec_capacity loose.new ≡ vec_capacity loose.old }
-{
-    let _loose = loose.as_slice();
-    match frame {
-        Some(frame) => loose.push_reserved(frame),
-        None => {}
-    }
-}
-
-/// Takes the frame of a page away, which is loose now; says whether there was one.
-fn discard_page(ram: &mut Ram, loose: &mut Vec<Frame>, page: u32) -> bool
-    requires room { length loose.old.items + count_by is_some ram.old ≤ vec_capacity loose.old }
-    ensures had { result ≡ is_some (frame_at ram.old page) }
-    ensures after { Discarded ram.old ram.new page }
-    ensures numbers { numbers_of_frames loose.new.items ≡ numbers_of_frames loose.old.items ++
-        option_to_list (frame_at ram.old page) }
-    ensures sum { length loose.new.items + count_by is_some ram.new ≡
-        length loose.old.items + count_by is_some ram.old }
-    ensures capacity { vec_capacity loose.new ≡ vec_capacity loose.old }
-{
-    // A page without a frame is left alone: a report names thousands of them.
-    if ram.backing(page).is_none() {
-        return false;
-    }
-    let frame = ram.discard(page);
-    let had = frame.is_some();
-    put_loose(loose, frame);
-    had
-}
-
-/// Takes the frames of a request's pages away; those that there were are loose now, in the pages'
-/// order.
-fn discard_all(ram: &mut Ram, loose: &mut Vec<Frame>, request: &TakenRequest)
-    requires room { length loose.old.items + count_by is_some ram.old ≤ vec_capacity loose.old }
-    ensures mem { ram.new ≡ discarded request.now.pages ram.old }
-    ensures loose { numbers_of_frames loose.new.items ≡ numbers_of_frames loose.old.items ++
-        frames_behind ram.old (each_once request.now.pages) }
-    ensures capacity { vec_capacity loose.new ≡ vec_capacity loose.old }
-{
-    let mut run = NamedRun::NONE;
-    for k in 0..request.count() {
-        discard_page(ram, loose, request.page_in(k, &mut run));
-    }
-}
-
-/// Takes the frames of all pages away; those that there were are loose now, in the pages' order.
-fn discard_memory(ram: &mut Ram, loose: &mut Vec<Frame>)
-    requires room { length loose.old.items + count_by is_some ram.old ≤ vec_capacity loose.old }
-    ensures mem { ram.new ≡ replicate (length ram.old) None }
-    ensures loose { numbers_of_frames loose.new.items ≡ numbers_of_frames loose.old.items ++
-        frames_behind ram.old (range_with_len 0 (length ram.old)) }
-    ensures capacity { vec_capacity loose.new ≡ vec_capacity loose.old }
-{
-    for page in 0..ram.pages() {
-        discard_page(ram, loose, page);
-    }
-}
-
 /// Whether a device visits the pages of this queue's requests before it finishes them.
 fn visits_first(paced: bool, queue: u32) -> bool
     ensures { result ≡ (paced && not (queue == DEFLATE_QUEUE)) }
 {
     paced && queue != DEFLATE_QUEUE
-}
-
-/// Takes the frames of a request's pages away, where the queue is one whose pages lose them.
-fn discard_request(ram: &mut Ram, loose: &mut Vec<Frame>, queue: u32, request: &TakenRequest)
-    requires room { length loose.old.items + count_by is_some ram.old ≤ vec_capacity loose.old }
-    ensures mem { ram.new ≡ without_frames queue request.now.pages ram.old }
-    ensures loose { numbers_of_frames loose.new.items ≡
-        with_lost queue ram.old request.now.pages (numbers_of_frames loose.old.items) }
-    ensures capacity { vec_capacity loose.new ≡ vec_capacity loose.old }
-{
-    if queue != DEFLATE_QUEUE {
-        discard_all(ram, loose, request);
-    }
-}
-
-/// Where the queue of this number stands among a device's four.
-fn place_of(queue: u32) -> usize
-    requires { has_chains queue ≡ true }
-    ensures place { result ≡ place_of queue }
-    ensures small { result < 4 }
-{
-    if queue == REPORT_QUEUE {
-        3
-    } else {
-        queue as usize
-    }
-}
-
-/// Gives each queue so many descriptors; nothing is taken, and none is ready.
-fn set_sizes(queues: &mut [DeviceQueue; 4], size: u16)
-    requires { IsTrue (is_power_of_two size) × (MIN_QUEUE_SIZE ≤ size) × (size ≤ MAX_QUEUE_SIZE) }
-    ensures { queues.new ≡ map (λ q. started false size q.ring) queues.old }
-{
-    queues[0].set_size(size);
-    queues[1].set_size(size);
-    queues[2].set_size(size);
-    queues[3].set_size(size);
-}
-
-/// Starts or stops each queue; nothing is taken.
-fn set_all_ready(queues: &mut [DeviceQueue; 4], ready: bool)
-    ensures { queues.new ≡ map (restarted ready) queues.old }
-{
-    queues[0].set_ready(ready);
-    queues[1].set_ready(ready);
-    queues[2].set_ready(ready);
-    queues[3].set_ready(ready);
 }
 
 impl DeviceBase {
@@ -344,7 +225,7 @@ impl DeviceBase {
         if let Some(why) = self.take_refusal(queue) {
             return Err(why);
         }
-        let place = place_of(queue);
+        let place = index_of(queue);
         let taken = self.queues[place].take(queue, &self.ram, &mut self.chain, &mut self.last);
         note_fault(&mut self.status, &taken);
         taken
@@ -372,7 +253,7 @@ impl DeviceBase {
             return Err(why);
         }
         let visits = visits_first(paced, queue);
-        let place = place_of(queue);
+        let place = index_of(queue);
         match self.queues[place].remove(index, visits) {
             Err(why) => Err(why),
             Ok(request) => {
@@ -387,7 +268,7 @@ impl DeviceBase {
         requires { CanUse queue head self.old.mem self.old.part }
         ensures { UsesChain queue head self.old.mem self.new.mem self.old.part self.new.part }
     {
-        let place = place_of(queue);
+        let place = index_of(queue);
         self.queues[place].add_used(&mut self.ram, head);
     }
 

@@ -6,9 +6,11 @@ mod balloon;
 mod base;
 mod claimed;
 mod device;
+mod discarding;
 mod flags;
 mod pace;
 mod queue;
+mod queues;
 mod taken;
 #[cfg(test)]
 mod tests;

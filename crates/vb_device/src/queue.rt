@@ -209,7 +209,7 @@ impl DeviceQueue {
             return Err(Refusal::NotWorked);
         }
         let request = self.taken.remove(at);
-        // What is always true of its pages is known from here on.
+        // Asked for the proof, which has what holds of each request from then on.
         let _count = request.count();
         Ok(request)
     }

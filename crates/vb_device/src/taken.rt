@@ -136,7 +136,7 @@ pub(crate) fn read_chain<G: GuestBytes>(
         (record { free = last.old.free; total = last.old.total })).total)) }
     ensures err { OnErr result (last.new ≡ last.old) }
 {
-    // That memory has fewer than 2^32 pages is known from here on.
+    // Asked for the proof: that memory has fewer than 2^32 pages is a clause of this call alone.
     let _few = ram.pages();
     match queue {
         STATISTICS_QUEUE => {

@@ -12,7 +12,7 @@ use Rattle.vb_model.specs.declared.places.Place.TheVariants.{Reserved, Used}
 use Rattle.vb_model.proofs.Tables.{each_page-get, length-each_from}
 use Rattle.vb_pages.specs.FreePages.{FreePages}
 use Rattle.vb_driver.specs.Places.{is_at}
-use Rattle.vb_driver.specs.State.{Side, ReportSide, DriverState, IsQueue, IsReportQueue, naming, tells_host}
+use Rattle.vb_driver.specs.State.{RequestSide, ReportSide, DriverState, IsQueue, IsReportQueue, naming, tells_host}
 use Rattle.vb_driver.specs.State.{IsDriver}
 use Rattle.vb_driver.specs.Areas.{flags_of, is_covered}
 use Rattle.vb_driver.specs.Places.{marked}
@@ -74,7 +74,7 @@ free_same places pages to agree =
 
 -- pages that move to a place, as blocks come to be held, or no more
 pub record Changes (d : DriverState) (areas2 : FreePages) (pages : List ℕ) (to : Place)
-    (held2 : List Block) (i2 e2 : Side) (r2 : ReportSide) : Type 0 where
+    (held2 : List Block) (i2 e2 : RequestSide) (r2 : ReportSide) : Type 0 where
   pub kept : IsDriver d
   pub there : (p : ℕ) → is_in p pages ≡ true → p < length d.places
   pub unreserved : (p : ℕ) → is_in p pages ≡ true → is_at Reserved (place_of d.places p) ≡ false
@@ -93,7 +93,7 @@ pub record Changes (d : DriverState) (areas2 : FreePages) (pages : List ℕ) (to
       → cond (is_in p pages) to (place_of d.places p) ≡ Used
 
 pub kept_changed : (d : DriverState) (areas2 : FreePages) (pages : List ℕ) (to : Place)
-    (held2 : List Block) (i2 e2 : Side) (r2 : ReportSide)
+    (held2 : List Block) (i2 e2 : RequestSide) (r2 : ReportSide)
     → Changes d areas2 pages to held2 i2 e2 r2
     → IsDriver (record d {
       places = placed pages to d.places;
@@ -133,7 +133,7 @@ kept_changed d areas2 pages to held2 i2 e2 r2 m =
     reserved_at p false e is = ap (λ v. cond v to (place_of d.places p)) e ∙ is
 
 -- pages that are in no held block, and move
-pub record Moves (d : DriverState) (areas2 : FreePages) (pages : List ℕ) (to : Place) (i2 e2 : Side)
+pub record Moves (d : DriverState) (areas2 : FreePages) (pages : List ℕ) (to : Place) (i2 e2 : RequestSide)
     (r2 : ReportSide) : Type 0 where
   pub kept : IsDriver d
   pub there : (p : ℕ) → is_in p pages ≡ true → p < length d.places
@@ -151,7 +151,7 @@ pub record Moves (d : DriverState) (areas2 : FreePages) (pages : List ℕ) (to :
   pub free : flags_of areas2 ≡ map is_free (placed pages to d.places)
   pub processors : length areas2.lists ≡ length d.areas.lists
 
-pub kept_moved : (d : DriverState) (areas2 : FreePages) (pages : List ℕ) (to : Place) (i2 e2 : Side)
+pub kept_moved : (d : DriverState) (areas2 : FreePages) (pages : List ℕ) (to : Place) (i2 e2 : RequestSide)
     (r2 : ReportSide) → Moves d areas2 pages to i2 e2 r2
     → IsDriver (record d {
       places = placed pages to d.places;

@@ -25,7 +25,7 @@ use Rattle.vb_model.proofs.GuestSteps.{place_of-reset}
 use Rattle.vb_ram.specs.Pages.{Pages}
 use Rattle.vb_pages.specs.FreePages.{FreePages}
 use Rattle.vb_driver.specs.Places.{is_at}
-use Rattle.vb_driver.specs.State.{Side, DriverState, IsQueue, naming, sent_by, fresh_side}
+use Rattle.vb_driver.specs.State.{RequestSide, DriverState, IsQueue, naming, sent_by, fresh_side}
 use Rattle.vb_driver.specs.State.{fresh_driver, IsDriver, IsStatisticsQueue, fresh_statistics}
 use Rattle.vb_driver.specs.State.{fresh_report, tells_host}
 use Rattle.vb_model.proofs.Counts.{length-pages_where}
@@ -56,15 +56,15 @@ lowest_is places n test p h =
 
 -- ---- a queue after a post, and after a reap
 
-pub posted_queue : (m1 m2 : Pages) (s1 s2 : Side) (base queue size head : ℕ) (pages : List ℕ)
+pub posted_queue : (m1 m2 : Pages) (s1 s2 : RequestSide) (base queue size head : ℕ) (pages : List ℕ)
     → IsQueue s1 queue size → Posts m1 m2 s1 s2 base pages head → IsQueue s2 queue size
 posted_queue m1 m2 s1 s2 base queue size head pages q p = record {
   requests = p.requests;
-  layout = ap (λ (s : Side). s.ring.layout) p.state ∙ q.layout;
-  size = ap (λ (s : Side). s.ring.size) p.state ∙ q.size;
+  layout = ap (λ (s : RequestSide). s.ring.layout) p.state ∙ q.layout;
+  size = ap (λ (s : RequestSide). s.ring.size) p.state ∙ q.size;
 }
 
-pub reaped_queue : (s1 : Side) (queue size head : ℕ) → IsQueue s1 queue size
+pub reaped_queue : (s1 : RequestSide) (queue size head : ℕ) → IsQueue s1 queue size
     → IsQueue (after_reap s1 head) queue size
 reaped_queue s1 queue size head q = record {
   requests = requests_taken s1.ring s1.sent head q.requests;
@@ -74,7 +74,7 @@ reaped_queue s1 queue size head q = record {
 
 -- ---- lent pages are asked back
 
-pub asked_kept : (m1 m2 : Pages) (d : DriverState) (e2 : Side) (base count head : ℕ) → IsDriver d
+pub asked_kept : (m1 m2 : Pages) (d : DriverState) (e2 : RequestSide) (base count head : ℕ) → IsDriver d
     → Posts m1 m2 d.deflate e2 base (lowest_lent d count) head
     → IsDriver (record d { places = placed (lowest_lent d count) Taking d.places; deflate = e2 })
 asked_kept m1 m2 d e2 base count head kept posts =
@@ -84,7 +84,7 @@ asked_kept m1 m2 d e2 base count head kept posts =
     λ p here. at_is Lent (place_of d.places p) (lowest_is d.places count is_lent p here) in
     let small : head < length d.deflate.sent =
     omega (arith, posts.small, kept.deflate.requests.buffers) in
-    let sent : e2.sent ≡ set d.deflate.sent head pages = ap (λ (s : Side). s.sent) posts.state in
+    let sent : e2.sent ≡ set d.deflate.sent head pages = ap (λ (s : RequestSide). s.sent) posts.state in
     kept_moved d d.areas pages Taking d.inflate e2 d.report (record {
       kept = kept;
       there = λ p here. there_by d.places p is_lent refl (lowest_is d.places count is_lent p here);
@@ -116,7 +116,7 @@ asked_kept m1 m2 d e2 base count head kept posts =
     same_free p place is false e lent = sym (ap (λ v. is_free (cond v Taking place)) e)
 
 -- where the host isn't told first they are free at once
-pub asked_freed : (m1 m2 : Pages) (d : DriverState) (areas2 : FreePages) (e2 : Side)
+pub asked_freed : (m1 m2 : Pages) (d : DriverState) (areas2 : FreePages) (e2 : RequestSide)
     (base count head : ℕ) → IsDriver d → tells_host d ≡ false
     → flags_of areas2 ≡ marked (lowest_lent d count) true (flags_of d.areas)
     → length areas2.lists ≡ length d.areas.lists
@@ -203,7 +203,7 @@ idle_test : (place : Place) (test : Place → Bool) (b : Bool) → test Stranded
 idle_test place test b s f (idle_stranded e) = ap test e ∙ s
 idle_test place test b s f (idle_free e) = ap test e ∙ f
 
-pub offered_kept : (m1 m2 : Pages) (d : DriverState) (areas2 : FreePages) (i2 : Side)
+pub offered_kept : (m1 m2 : Pages) (d : DriverState) (areas2 : FreePages) (i2 : RequestSide)
     (base count head : ℕ) (others : List ℕ) → IsDriver d
     → list_all (λ page. is_free (place_of d.places page)) others ≡ true
     → ((p : ℕ) → times p others ≤ 1) → flags_of areas2 ≡ marked others false (flags_of d.areas)
@@ -226,7 +226,7 @@ offered_kept m1 m2 d areas2 i2 base count head others kept free once taken proce
     ] in
     let small : head < length d.inflate.sent =
     omega (arith, posts.small, kept.inflate.requests.buffers) in
-    let sent : i2.sent ≡ set d.inflate.sent head pages = ap (λ (s : Side). s.sent) posts.state in
+    let sent : i2.sent ≡ set d.inflate.sent head pages = ap (λ (s : RequestSide). s.sent) posts.state in
     let once_all : (p : ℕ)
     → times p pages ≤ 1 =
     λ p. once_append p first others (once_lowest p count is_stranded d.places) (once p)

@@ -17,7 +17,7 @@ use Rattle.vb_ring.specs.Ends.{released, fresh_end}
 use Rattle.vb_ring.proofs.OwnerLaws.{claimed-at, released-at}
 use Rattle.vb_ring.specs.declared.driver.Full.{Full}
 use Rattle.vb_ring.specs.declared.driver.Full.TheVariants.{TooFewFree}
-use Rattle.vb_driver.specs.State.{Side, AreRequests}
+use Rattle.vb_driver.specs.State.{RequestSide, AreRequests}
 use Rattle.vb_driver.proofs.Placing.{or_false}
 use Rattle.vb_driver.proofs.ReportTables.{none_owned}
 
@@ -289,11 +289,11 @@ requests_added_at r r2 sent h i pages all end e small few state at =
     (requests_added r sent h pages all end e small few))
 
 -- the facts of a queue that has room, from what is seen of it
-pub room_inside : (r : DriverEnd) (sent : List (List ℕ)) (now : Side)
-    → (let side : Side = record { ring = r; sent = sent } in side) ≡ now
+pub room_inside : (r : DriverEnd) (sent : List (List ℕ)) (now : RequestSide)
+    → (let side : RequestSide = record { ring = r; sent = sent } in side) ≡ now
     → outstanding now.ring < min now.ring.size 16 → outstanding r < min r.size 16
 room_inside r sent now same room =
-    subst (λ (s : Side). outstanding s.ring < min s.ring.size 16) (sym same) room
+    subst (λ (s : RequestSide). outstanding s.ring < min s.ring.size 16) (sym same) room
 
 pub head_small : (r : DriverEnd) (h : ℕ)
     → ((k : ℕ) → is_unused r.owner k ≡ false → is_head r.owner k ≡ true) → next_head r ≡ Some h

@@ -22,7 +22,7 @@ use Rattle.vb_model.specs.Life.{feature_tests}
 use Rattle.vb_ram.specs.Pages.{Pages, frame_at}
 use Rattle.vb_ram.specs.Part.{Part}
 use Rattle.vb_ring.specs.Ends.{DriverEnd, outstanding, used_answer}
-use Rattle.vb_driver.specs.State.{Side, DriverState, room}
+use Rattle.vb_driver.specs.State.{RequestSide, DriverState, room}
 
 -- ---- the numbers of pages that a call moves
 
@@ -44,7 +44,7 @@ abbrev pub free_tests : DriverState → ℕ → ℕ → ℕ → List Test
 free_tests d cpu start order = tests_of_free d.held d.processors cpu (block_at start order)
 
 -- a new request of a queue, for this many pages
-abbrev pub request_tests : DriverState → Side → ℕ → List Test
+abbrev pub request_tests : DriverState → RequestSide → ℕ → List Test
 request_tests d side count = tests_of_request (outstanding side.ring) (room d) count
 
 abbrev pub inflate_tests : DriverState → Part → ℕ → List Test
@@ -90,8 +90,8 @@ abbrev pub IsLargeEnough : Pages → Type 0
 IsLargeEnough mem = MIN_GUEST_PAGES ≤ length mem
 
 -- each page of the rings and buffers has a frame
-abbrev pub IsBacked : Pages → Type 0
-IsBacked mem = (page : ℕ) → page < ring_and_buffer_pages → IsSome (frame_at mem page)
+abbrev pub HaveRingFrames : Pages → Type 0
+HaveRingFrames mem = (page : ℕ) → page < ring_and_buffer_pages → IsSome (frame_at mem page)
 
 -- the test for it
 abbrev pub has_frames : Pages → Bool

@@ -3,4 +3,10 @@ pub mod Coding
 pub mod Areas
 pub mod State
 pub mod Answers
+pub mod Unchanged
+pub mod OwnPages
+pub mod Requests
+pub mod Reaps
+pub mod Statistics
+pub mod Lives
 pub mod Calls

@@ -1,7 +1,7 @@
 -- What a balloon driver keeps.
 use Rattle.std.specs.Prelude.{map, ◌≡◌, ℕ, ◌+◌, ◌*◌, ◌<◌, ◌≤◌, nat_lt, Bool, true, false, List, []}
 use Rattle.std.specs.Prelude.{All, IsTrue}
-use Rattle.std.specs.Prelude.{length, min, sum_by, count_by, replicate, slice_index_or, Some, None}
+use Rattle.std.specs.Prelude.{length, sum_by, count_by, replicate, slice_index_or, Some, None}
 use Rattle.std.specs.Prelude.{if◌then◌else◌}
 use Rattle.vb_model.specs.declared.places.Place.{Place}
 use Rattle.vb_model.specs.declared.places.Place.TheVariants.{Reserved, Used}
@@ -12,6 +12,7 @@ use Rattle.vb_model.specs.declared.limits.TheConstants.{MIN_GUEST_PAGES, MAX_GUE
 use Rattle.vb_model.specs.Pages.{Block, place_of, all_free, is_free, is_giving, is_lent, is_taking}
 use Rattle.vb_model.specs.Pages.{is_stranded, is_reporting, is_aligned, pages_of_all}
 use Rattle.vb_model.specs.Requests.{Figures}
+use Rattle.vb_model.specs.Tables.{most_requests}
 use Rattle.vb_model.specs.Guest.{must_tell_host}
 use Rattle.vb_model.specs.Layout.{ring_page}
 use Rattle.vb_model.specs.Tests.{one_if}
@@ -25,7 +26,7 @@ use Rattle.vb_driver.specs.Areas.{flags_of, is_covered}
 
 -- Of a queue of requests: the driver's end of its ring, and by head the pages of each request that
 -- is out, none where no request has the head.
-pub record Side : Type 0 where
+pub record RequestSide : Type 0 where
   pub ring : DriverEnd
   pub sent : List (List ℕ)
 
@@ -46,8 +47,8 @@ pub record DriverState : Type 0 where
   pub places : List Place
   pub held : List Block
   pub areas : FreePages
-  pub inflate : Side
-  pub deflate : Side
+  pub inflate : RequestSide
+  pub deflate : RequestSide
   pub statistics : DriverEnd
   pub report : ReportSide
   pub features : ℕ
@@ -77,14 +78,14 @@ stranded_count d = count_by is_stranded d.places
 
 -- how many requests of a queue there may be
 abbrev pub room : DriverState → ℕ
-room d = min d.queue_size max_outstanding
+room d = most_requests d.queue_size
 
 -- the pages of the request with this head
-abbrev pub sent_by : Side → ℕ → List ℕ
+abbrev pub sent_by : RequestSide → ℕ → List ℕ
 sent_by side head = slice_index_or side.sent head []
 
 -- how many pages the requests name
-abbrev pub pages_named : Side → ℕ
+abbrev pub pages_named : RequestSide → ℕ
 pages_named side = sum_by (λ pages. length pages) side.sent
 
 -- how many pages count as given to the host: those lent, and those that are asked back
@@ -108,14 +109,14 @@ index_values = 65536
 abbrev pub fresh_ring : ℕ → ℕ → DriverEnd
 fresh_ring queue size = fresh_end (layout_of (ring_page queue) size) size
 
-abbrev pub fresh_at : ℕ → ℕ → Side
+abbrev pub fresh_at : ℕ → ℕ → RequestSide
 fresh_at page size =
     record {
       ring = fresh_end (layout_of page size) size;
       sent = replicate max_outstanding [];
     }
 
-abbrev pub fresh_side : ℕ → ℕ → Side
+abbrev pub fresh_side : ℕ → ℕ → RequestSide
 fresh_side queue size = fresh_at (ring_page queue) size
 
 abbrev pub fresh_statistics : ℕ → DriverEnd
@@ -145,7 +146,7 @@ fresh_driver pages queue_size processors =
 -- ---- what holds of each driver
 
 -- Each descriptor that is in use is a request of its own, and one of the first `max_outstanding`.
-pub record AreRequests (side : Side) : Type 0 where
+pub record AreRequests (side : RequestSide) : Type 0 where
   pub single : (i : ℕ) → is_unused side.ring.owner i ≡ false → is_head side.ring.owner i ≡ true
   pub few : (i : ℕ) → is_head side.ring.owner i ≡ true → i < max_outstanding
   pub buffers : length side.sent ≡ max_outstanding
@@ -154,7 +155,7 @@ pub record AreRequests (side : Side) : Type 0 where
   pub short : (i : ℕ) → length (sent_by side i) ≤ max_request_pages
 
 -- The queue's ring lies in its page.
-pub record IsQueue (side : Side) (queue descriptors : ℕ) : Type 0 where
+pub record IsQueue (side : RequestSide) (queue descriptors : ℕ) : Type 0 where
   pub requests : AreRequests side
   pub layout : side.ring.layout ≡ layout_of (ring_page queue) descriptors
   pub size : side.ring.size ≡ descriptors

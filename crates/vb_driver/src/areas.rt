@@ -36,15 +36,15 @@ use vb_model::{Place, Refusal};
 use vb_pages::{FreeBlock, PageFault, Pages};
 use vb_report::{Blocks, reports_name_free_places};
 
-/// The areas of a guest, with the lists of the processors and the held blocks. What the driver
-/// needs beside them is which pages are free, wherever they stand.
+/// The page areas of a guest, with the lists of the processors and the blocks that allocations
+/// hold. What the driver needs beside them is which pages are free, wherever they stand.
 #[derive(Drop)]
-pub(crate) struct Areas {
+pub(crate) struct Allocator {
     /// The allocator.
     pages: Pages,
 }
 
-impl Model for Areas {
+impl Model for Allocator {
     ghost use Rattle.vb_pages.specs.PageState.{PageState};
 
     ghost Value = { PageState };
@@ -64,13 +64,13 @@ fn refusal_of(fault: PageFault) -> Refusal
     }
 }
 
-impl Areas {
+impl Allocator {
     /// The areas of a guest as it is plugged in.
     pub(crate) fn new(alloc: Global, pages: u32, processors: u32) -> Result<Self, AllocError>
         requires { IsGuestSize pages processors }
         ensures { IfOk result (λ areas. areas ≡ new_page_state pages processors) }
     {
-        Ok(Areas {
+        Ok(Allocator {
             pages: Pages::new(alloc, pages, processors)?,
         })
     }

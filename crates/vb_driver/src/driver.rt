@@ -8,7 +8,7 @@ ghost use Rattle.vb_driver.specs.Places.{AreLentBits};
 ghost use Rattle.vb_driver.specs.State.{IsDriver, fresh_driver, given_away};
 ghost use Rattle.vb_driver.specs.Calls.{AllocatesBy, FreesBy, AreCountsOf};
 
-use crate::areas::Areas;
+use crate::areas::Allocator;
 use crate::places::PlaceTable;
 use crate::queue::RequestQueue;
 use crate::reports::ReportQueue;
@@ -29,7 +29,7 @@ pub struct Driver {
     /// Where each page is.
     pub(crate) places: PlaceTable,
     /// The free pages and the held blocks.
-    pub(crate) areas: Areas,
+    pub(crate) areas: Allocator,
     /// The inflate requests that are out.
     pub(crate) inflate: RequestQueue,
     /// The deflate requests that are out.
@@ -92,7 +92,7 @@ impl Driver {
         Ok(Driver {
             config,
             places: PlaceTable::new(alloc, config.pages)?,
-            areas: Areas::new(alloc, config.pages, config.processors)?,
+            areas: Allocator::new(alloc, config.pages, config.processors)?,
             inflate: RequestQueue::new(alloc, INFLATE_RING_PAGE, config.queue_size)?,
             deflate: RequestQueue::new(alloc, DEFLATE_RING_PAGE, config.queue_size)?,
             statistics: StatisticsQueue::new(config.queue_size),

@@ -7,7 +7,7 @@ ghost use Rattle.vb_ram.specs.Pages.{byte_at};
 ghost use Rattle.vb_status.specs.After.{part_after_reset, with_new_queues};
 ghost use Rattle.vb_status.specs.Answers.{refusal_of_fault};
 ghost use Rattle.vb_status.specs.Bits.{feature_bits};
-ghost use Rattle.vb_driver.specs.Answers.{IsBacked, IsLargeEnough};
+ghost use Rattle.vb_driver.specs.Answers.{HaveRingFrames, IsLargeEnough};
 ghost use Rattle.vb_driver.specs.State.{IsDriver, fresh_driver, fresh_statistics};
 ghost use Rattle.vb_driver.specs.Coding.{ring_pages};
 ghost use Rattle.vb_driver.specs.Calls.{IsNewRing, FirstBuffer, InitsBy, NegotiatesBy, ResetsBy};
@@ -83,7 +83,7 @@ impl Driver {
     fn start<P: Port>(&mut self, port: &mut P)
         requires status { (P.part port.old).status ≡ 11 }
         requires memory { IsLargeEnough (P.mem port.old) }
-        requires backed { IsBacked (P.mem port.old) }
+        requires backed { HaveRingFrames (P.mem port.old) }
         requires new { self.old ≡ with_nothing_out self.old }
         requires zeros { (page offset : ℕ) → page < ring_pages → offset < page_size
             → byte_at (P.mem port.old) page offset ≡ 0 }
@@ -115,7 +115,7 @@ impl Driver {
         ensures { InitsBy (P.mem port.old) (P.mem port.new) (P.part port.old) (P.part port.new)
             self.old self.new (feature_bits wanted) result }
     {
-        // What holds of each driver is known from here on, where the call is refused too.
+        // Read for the proof, which has what holds of each driver where the call is refused, too.
         let _places = &self.places;
         if !port.status().is_empty() {
             return Err(Refusal::AlreadyUp);

@@ -4,7 +4,7 @@ ghost use Rattle.std.specs.Prelude.{◌≡◌, ℕ, ◌+◌, ◌*◌, ◌<◌, I
 ghost use Rattle.vb_model.specs.Limits.{page_size};
 ghost use Rattle.vb_ram.specs.Pages.{byte_at, frame_at, Covers, SameBut};
 ghost use Rattle.vb_driver.specs.Coding.{Names, AreZeroed, ring_pages};
-ghost use Rattle.vb_driver.specs.Answers.{has_frames, IsBacked, IsLargeEnough};
+ghost use Rattle.vb_driver.specs.Answers.{has_frames, HaveRingFrames, IsLargeEnough};
 
 use vb_model::layout::{INFLATE_BUFFERS_PAGE, INFLATE_RING_PAGE};
 use vb_model::limits::RING_AND_BUFFER_PAGES;
@@ -73,7 +73,7 @@ fn zero_page<G: GuestBytes>(ram: &mut G, page: u32)
 /// Makes all bytes of the rings' pages zeros.
 pub(crate) fn zero_rings<G: GuestBytes>(ram: &mut G)
     requires memory { IsLargeEnough (G.mem ram.old) }
-    requires backed { IsBacked (G.mem ram.old) }
+    requires backed { HaveRingFrames (G.mem ram.old) }
     ensures zeroed { AreZeroed (G.mem ram.old) (G.mem ram.new) ring_pages }
     ensures part { G.part ram.new ≡ G.part ram.old }
 {

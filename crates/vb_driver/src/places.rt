@@ -307,7 +307,7 @@ impl PlaceTable {
         requires inside { start + 2 ^ order ≤ length self.old }
         ensures { self.new ≡ placed (pages_of (block_at start order)) place self.old }
     {
-        // What holds of each table, as how many pages it has, is known from here on.
+        // Read for the proof, which has what holds of each table, as how many pages it has.
         let _places = &self.places;
         self.set_range(start, start + size_of(order), place);
     }

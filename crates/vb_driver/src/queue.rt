@@ -9,7 +9,7 @@ ghost use Rattle.vb_ring.specs.Layout.{IsSize, IsInside, layout_of};
 ghost use Rattle.vb_ring.specs.Ends.{outstanding, used_answer};
 ghost use Rattle.vb_ring.specs.Calls.{TakesUsedBy};
 ghost use Rattle.vb_driver.specs.Coding.{ring_pages};
-ghost use Rattle.vb_driver.specs.Answers.{IsBacked, IsLargeEnough};
+ghost use Rattle.vb_driver.specs.Answers.{HaveRingFrames, IsLargeEnough};
 ghost use Rattle.vb_driver.specs.State.{AreRequests, fresh_at, sent_by, pages_named};
 ghost use Rattle.vb_driver.specs.Calls.{Posts, after_reap};
 
@@ -64,9 +64,9 @@ pub(crate) struct RequestQueue {
 }
 
 impl Model for RequestQueue {
-    ghost use Rattle.vb_driver.specs.State.{Side, AreRequests};
+    ghost use Rattle.vb_driver.specs.State.{RequestSide, AreRequests};
 
-    ghost Value = { Side };
+    ghost Value = { RequestSide };
 
     ghost view = { λ q. record { ring = q.ring; sent = q.sent.items } };
 
@@ -146,7 +146,7 @@ impl RequestQueue {
         requires base_low { ring_pages ≤ base }
         requires base_high { base ≤ buffers_page 1 }
         requires memory { IsLargeEnough (G.mem ram.old) }
-        requires backed { IsBacked (G.mem ram.old) }
+        requires backed { HaveRingFrames (G.mem ram.old) }
         ensures posts { Posts (G.mem ram.old) (G.mem ram.new)
             self.old self.new base pages.items result }
         ensures part { G.part ram.new ≡ G.part ram.old }

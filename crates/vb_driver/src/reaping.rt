@@ -131,7 +131,7 @@ impl Driver {
 
     /// Tells the device how many pages are lent or asked back once a request came back, and says
     /// which one did.
-    fn settle<P: Port>(&mut self, port: &mut P, used: &(u16, RequestPages)) -> Reaped
+    fn tell_reaped<P: Port>(&mut self, port: &mut P, used: &(u16, RequestPages)) -> Reaped
         ensures state { self.new ≡ with_actual self.old }
         ensures part { P.part port.new
             ≡ record (P.part port.old) { actual = given_away self.old } }
@@ -152,7 +152,7 @@ impl Driver {
         ensures { ReapsBy (P.mem port.old) (P.mem port.new) (P.part port.old) (P.part port.new)
             self.old self.new 0 result }
     {
-        // What holds of each driver is known from here on, where the call is refused too.
+        // Borrowed first: so the proof has what holds of each driver where the call is refused too.
         let places = &mut self.places;
         let used = match take_back(&mut self.inflate, port) {
             Ok(Some(used)) => used,
@@ -160,7 +160,7 @@ impl Driver {
             Err(refusal) => return Err(refusal),
         };
         places.set_all(&used.1, Place::Lent);
-        Ok(Some(self.settle(port, &used)))
+        Ok(Some(self.tell_reaped(port, &used)))
     }
 
     /// Takes back the next deflate request that the device used: its pages are free from now on,
@@ -170,7 +170,7 @@ impl Driver {
         ensures { ReapsBy (P.mem port.old) (P.mem port.new) (P.part port.old) (P.part port.new)
             self.old self.new 1 result }
     {
-        // What holds of each driver is known from here on, where the call is refused too.
+        // Borrowed first: so the proof has what holds of each driver where the call is refused too.
         let places = &mut self.places;
         let used = match take_back(&mut self.deflate, port) {
             Ok(Some(used)) => used,
@@ -178,11 +178,11 @@ impl Driver {
             Err(refusal) => return Err(refusal),
         };
         if !self.features.must_tell_host() {
-            return Ok(Some(self.settle(port, &used)));
+            return Ok(Some(self.tell_reaped(port, &used)));
         }
         self.areas.give_all(&used.1);
         places.set_all(&used.1, Place::Free);
-        Ok(Some(self.settle(port, &used)))
+        Ok(Some(self.tell_reaped(port, &used)))
     }
 
     /// Takes back the report if the device used it: its pages are free from now on.
@@ -191,7 +191,7 @@ impl Driver {
         ensures { ReapsBy (P.mem port.old) (P.mem port.new) (P.part port.old) (P.part port.new)
             self.old self.new 4 result }
     {
-        // What holds of each driver is known from here on, where the call is refused too.
+        // Borrowed first: so the proof has what holds of each driver where the call is refused too.
         let places = &mut self.places;
         let accepted = self.features.reporting();
         let used = match take_report_back(&mut self.report, port, accepted) {
@@ -221,7 +221,7 @@ impl Driver {
         ensures { ReapsBy (P.mem port.old) (P.mem port.new) (P.part port.old) (P.part port.new)
             self.old self.new queue result }
     {
-        // What holds of each driver is known from here on, where the call is refused too.
+        // Read for the proof, which has what holds of each driver where the call is refused, too.
         let _places = &self.places;
         if queue == INFLATE_QUEUE {
             self.reap_lent(port)

@@ -6,7 +6,7 @@ ghost use Rattle.vb_model.specs.declared.replies.Refusal.TheVariants.{Nothing};
 ghost use Rattle.vb_pages.specs.FreePages.{drained};
 ghost use Rattle.vb_ring.specs.Ends.{outstanding};
 ghost use Rattle.vb_driver.specs.State.{IsDriver};
-ghost use Rattle.vb_driver.specs.Answers.{IsBacked, IsLargeEnough, blocks_to_report, is_up};
+ghost use Rattle.vb_driver.specs.Answers.{HaveRingFrames, IsLargeEnough, blocks_to_report, is_up};
 ghost use Rattle.vb_driver.specs.Answers.{refusal_in};
 ghost use Rattle.vb_driver.specs.Calls.{Reports, ReportsBy, Unchanged};
 
@@ -21,7 +21,7 @@ impl Driver {
     /// Reports free blocks from a page on, where no report is out.
     fn report_blocks<P: Port>(&mut self, port: &mut P, from: u32) -> Result<Posted, Refusal>
         requires none_out { outstanding self.old.report.ring ≡ 0 }
-        requires backed { IsBacked (P.mem port.old) }
+        requires backed { HaveRingFrames (P.mem port.old) }
         ensures driver { IsDriver self.old }
         ensures refusal { refusal_in result ≡ first_refusal
             (((length (blocks_to_report self.old from) == 0) ⇒ Nothing) ∷ []) }
@@ -53,11 +53,11 @@ impl Driver {
     /// lists are drained, and no page changes its place.
     pub fn report<P: Port>(&mut self, port: &mut P, from: u32) -> Result<Posted, Refusal>
         requires memory { IsLargeEnough (P.mem port.old) }
-        requires backed { is_up (P.part port.old).status ≡ true → IsBacked (P.mem port.old) }
+        requires backed { is_up (P.part port.old).status ≡ true → HaveRingFrames (P.mem port.old) }
         ensures { ReportsBy (P.mem port.old) (P.mem port.new) (P.part port.old) (P.part port.new)
             self.old self.new from result }
     {
-        // What holds of each driver is known from here on, where the call is refused too.
+        // Borrowed first: so the proof has what holds of each driver where the call is refused too.
         let report = &self.report;
         if !is_up(port) {
             return Err(Refusal::NotReady);

@@ -7,7 +7,7 @@ ghost use Rattle.vb_ring.specs.Layout.{IsSize, IsInside};
 ghost use Rattle.vb_ring.specs.Ends.{after_take, outstanding, used_answer};
 ghost use Rattle.vb_ring.specs.Calls.{TakesUsedBy};
 ghost use Rattle.vb_report.specs.Blocks.{blocks_of};
-ghost use Rattle.vb_driver.specs.Answers.{IsBacked};
+ghost use Rattle.vb_driver.specs.Answers.{HaveRingFrames};
 ghost use Rattle.vb_driver.specs.State.{IsAreaBlock, IsReportQueue, fresh_report};
 ghost use Rattle.vb_driver.specs.Calls.{PostsReport};
 
@@ -71,7 +71,7 @@ impl ReportQueue {
         requires room { length blocks.items ≤ self.old.ring.size }
         requires few { length blocks.items ≤ max_outstanding }
         requires blocks { All IsAreaBlock (blocks_of blocks.items) }
-        requires backed { IsBacked (G.mem ram.old) }
+        requires backed { HaveRingFrames (G.mem ram.old) }
         ensures posts { PostsReport (G.mem ram.old) (G.mem ram.new)
             self.old self.new (blocks_of blocks.items) }
         ensures queue { IsReportQueue self.new self.old.ring.size }

@@ -11,7 +11,7 @@ ghost use Rattle.vb_model.specs.Refusals.{◌⇒◌, first_refusal};
 ghost use Rattle.vb_model.specs.declared.replies.Refusal.TheVariants.{NotReady, NoFeature};
 ghost use Rattle.vb_model.specs.declared.replies.Refusal.TheVariants.{QueueFull, DeflatePending};
 ghost use Rattle.vb_model.specs.declared.replies.Refusal.TheVariants.{Nothing};
-ghost use Rattle.vb_driver.specs.Answers.{IsBacked, IsLargeEnough, is_up, inflate_count};
+ghost use Rattle.vb_driver.specs.Answers.{HaveRingFrames, IsLargeEnough, is_up, inflate_count};
 ghost use Rattle.vb_driver.specs.Answers.{deflate_count, oom_count, refusal_in};
 ghost use Rattle.vb_driver.specs.Calls.{Offers, AsksBack, InflatesBy, DeflatesBy, DeflatesOnOomBy};
 
@@ -101,7 +101,7 @@ impl Driver {
         requires few { count ≤ max_request_pages }
         requires there { count ≤ stranded_count self.old + free_count self.old }
         requires memory { IsLargeEnough (P.mem port.old) }
-        requires backed { IsBacked (P.mem port.old) }
+        requires backed { HaveRingFrames (P.mem port.old) }
         ensures { Offers (P.mem port.old) (P.mem port.new) (P.part port.old) (P.part port.new)
             self.old self.new count result }
     {
@@ -120,7 +120,7 @@ impl Driver {
         requires few { count ≤ max_request_pages }
         requires there { count ≤ lent_count self.old }
         requires memory { IsLargeEnough (P.mem port.old) }
-        requires backed { IsBacked (P.mem port.old) }
+        requires backed { HaveRingFrames (P.mem port.old) }
         ensures { AsksBack (P.mem port.old) (P.mem port.new) (P.part port.old) (P.part port.new)
             self.old self.new count result }
     {
@@ -137,7 +137,7 @@ impl Driver {
         requires few { count ≤ max_request_pages }
         requires there { count ≤ lent_count self.old }
         requires memory { IsLargeEnough (P.mem port.old) }
-        requires backed { IsBacked (P.mem port.old) }
+        requires backed { HaveRingFrames (P.mem port.old) }
         ensures { AsksBack (P.mem port.old) (P.mem port.new) (P.part port.old) (P.part port.new)
             self.old self.new count result }
     {
@@ -155,7 +155,7 @@ impl Driver {
         requires few { count ≤ max_request_pages }
         requires there { count ≤ lent_count self.old }
         requires memory { IsLargeEnough (P.mem port.old) }
-        requires backed { IsBacked (P.mem port.old) }
+        requires backed { HaveRingFrames (P.mem port.old) }
         ensures { AsksBack (P.mem port.old) (P.mem port.new) (P.part port.old) (P.part port.new)
             self.old self.new count result }
     {
@@ -223,7 +223,7 @@ impl Driver {
     /// free ones), `Nothing` (the number is 0); then nothing is changed.
     pub fn inflate<P: Port>(&mut self, port: &mut P, n: u32) -> Result<Posted, Refusal>
         requires memory { IsLargeEnough (P.mem port.old) }
-        requires backed { is_up (P.part port.old).status ≡ true → IsBacked (P.mem port.old) }
+        requires backed { is_up (P.part port.old).status ≡ true → HaveRingFrames (P.mem port.old) }
         ensures { InflatesBy (P.mem port.old) (P.mem port.new) (P.part port.old) (P.part port.new)
             self.old self.new n result }
     {
@@ -243,7 +243,7 @@ impl Driver {
     /// Refused for `NotReady`, `QueueFull`, `Nothing`; then nothing is changed.
     pub fn deflate<P: Port>(&mut self, port: &mut P, n: u32) -> Result<Posted, Refusal>
         requires memory { IsLargeEnough (P.mem port.old) }
-        requires backed { is_up (P.part port.old).status ≡ true → IsBacked (P.mem port.old) }
+        requires backed { is_up (P.part port.old).status ≡ true → HaveRingFrames (P.mem port.old) }
         ensures { DeflatesBy (P.mem port.old) (P.mem port.new) (P.part port.old) (P.part port.new)
             self.old self.new n result }
     {
@@ -259,7 +259,7 @@ impl Driver {
     /// `Nothing`; then nothing is changed.
     pub fn oom<P: Port>(&mut self, port: &mut P, n: u32) -> Result<Posted, Refusal>
         requires memory { IsLargeEnough (P.mem port.old) }
-        requires backed { is_up (P.part port.old).status ≡ true → IsBacked (P.mem port.old) }
+        requires backed { is_up (P.part port.old).status ≡ true → HaveRingFrames (P.mem port.old) }
         ensures { DeflatesOnOomBy
             (P.mem port.old) (P.mem port.new) (P.part port.old) (P.part port.new)
             self.old self.new n result }

@@ -13,7 +13,7 @@ ghost use Rattle.vb_ring.specs.Layout.{IsSize};
 ghost use Rattle.vb_ring.specs.Ends.{outstanding, used_answer};
 ghost use Rattle.vb_ring.specs.Calls.{TakesUsedBy};
 ghost use Rattle.vb_driver.specs.Coding.{IsStatistic, SameButPages};
-ghost use Rattle.vb_driver.specs.Answers.{IsBacked, IsLargeEnough, is_up};
+ghost use Rattle.vb_driver.specs.Answers.{HaveRingFrames, IsLargeEnough, is_up};
 ghost use Rattle.vb_driver.specs.State.{IsDriver, IsStatisticsQueue, fresh_statistics, figures_of};
 ghost use Rattle.vb_driver.specs.Calls.{PostsBuffer, FirstBuffer, FillsBy, emptied};
 
@@ -118,7 +118,7 @@ impl StatisticsQueue {
         requires queue { IsStatisticsQueue self.old self.old.size }
         requires none { outstanding self.old ≡ 0 }
         requires memory { IsLargeEnough (G.mem ram.old) }
-        requires backed { IsBacked (G.mem ram.old) }
+        requires backed { HaveRingFrames (G.mem ram.old) }
         ensures posts { PostsBuffer (G.mem ram.old) (G.mem ram.new)
             self.old self.new (record { free = free; total = total }) }
         ensures queue { IsStatisticsQueue self.new self.old.size }
@@ -158,7 +158,7 @@ impl Driver {
     pub(crate) fn fill<P: Port>(&mut self, port: &mut P)
         requires none { outstanding self.old.statistics ≡ 0 }
         requires memory { IsLargeEnough (P.mem port.old) }
-        requires backed { IsBacked (P.mem port.old) }
+        requires backed { HaveRingFrames (P.mem port.old) }
         ensures posts { PostsBuffer (P.mem port.old) (P.mem port.new)
             self.old.statistics self.new.statistics (figures_of self.old) }
         ensures state { self.new ≡ record self.old { statistics = self.new.statistics } }
@@ -173,7 +173,7 @@ impl Driver {
     pub(crate) fn fill_first<P: Port>(&mut self, port: &mut P)
         requires fresh { self.old.statistics ≡ fresh_statistics self.old.queue_size }
         requires memory { IsLargeEnough (P.mem port.old) }
-        requires backed { IsBacked (P.mem port.old) }
+        requires backed { HaveRingFrames (P.mem port.old) }
         ensures driver { IsDriver self.old }
         ensures buffer { FirstBuffer (stats_vq self.old.features)
             (P.mem port.old) (P.mem port.new) self.old self.new }
@@ -196,11 +196,11 @@ impl Driver {
     /// changed then.
     pub fn stats<P: Port>(&mut self, port: &mut P) -> Result<bool, Refusal>
         requires memory { IsLargeEnough (P.mem port.old) }
-        requires backed { is_up (P.part port.old).status ≡ true → IsBacked (P.mem port.old) }
+        requires backed { is_up (P.part port.old).status ≡ true → HaveRingFrames (P.mem port.old) }
         ensures { FillsBy (P.mem port.old) (P.mem port.new) (P.part port.old) (P.part port.new)
             self.old self.new result }
     {
-        // What holds of each driver is known from here on, where the call is refused too.
+        // Read for the proof, which has what holds of each driver where the call is refused, too.
         let _places = &self.places;
         if !is_up(port) {
             return Err(Refusal::NotReady);

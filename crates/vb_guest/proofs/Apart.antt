@@ -10,7 +10,7 @@ use Rattle.vb_chain.specs.Table.{descriptor_at}
 use Rattle.vb_chain.proofs.TableLaws.{descriptor_apart}
 use Rattle.vb_ring.specs.Ends.{DriverEnd}
 use Rattle.vb_driver.specs.Coding.{Names, IsCoded}
-use Rattle.vb_driver.specs.State.{Side}
+use Rattle.vb_driver.specs.State.{RequestSide}
 use Rattle.vb_guest.specs.Line.{Line, IsRequest, RingOf, heads_of}
 use Rattle.vb_guest.proofs.RingApart.{ring_apart}
 
@@ -51,7 +51,7 @@ requests_apart old new q ring part rs same stands =
     ring_apart old new q ring part.next_avail part.next_used (heads_of rs.posted)
     (heads_of rs.taken) (heads_of rs.done) same stands
 
-pub line_apart : (old new : Pages) (q n : ℕ) (side : Side) (part : QueuePart) (rs : Requests)
+pub line_apart : (old new : Pages) (q n : ℕ) (side : RequestSide) (part : QueuePart) (rs : Requests)
     → SameLine old new q → Line old q n side part rs → Line new q n side part rs
 line_apart old new q n side part rs same line = record {
   ring = requests_apart old new q side.ring part rs same.ring line.ring;

@@ -40,7 +40,7 @@ use Rattle.vb_guest.proofs.PagesKept.{pages_same}
 use Rattle.vb_guest.proofs.Closing.{honest_performed, steps_alone, refused_alone}
 use Rattle.vb_guest.proofs.Offered.{last_sound, deflate_requested}
 use Rattle.vb_guest.proofs.InflateStep.{request_refusal, posted_same, post_apart}
-use Rattle.vb_guest.proofs.Normal.{Sides, sides_of, driver_of, driver_is, keeps_own}
+use Rattle.vb_guest.proofs.DriverWords.{Sides, sides_of, driver_of, driver_is, keeps_own}
 
 -- ---- the lowest lent pages are as many as were asked for
 

@@ -11,7 +11,7 @@ use Rattle.vb_ram.specs.Part.{QueuePart}
 use Rattle.vb_chain.specs.Table.{descriptor_at}
 use Rattle.vb_ring.specs.Ends.{DriverEnd, DeviceEnd}
 use Rattle.vb_ring.specs.Calls.{AddsUsedBy}
-use Rattle.vb_driver.specs.State.{Side}
+use Rattle.vb_driver.specs.State.{RequestSide}
 use Rattle.vb_guest.specs.Line.{Line, IsRequest, RingOf, heads_of}
 use Rattle.vb_guest.specs.Ring.{RingStands}
 use Rattle.vb_guest.proofs.Heads.{heads-push, heads-remove, heads-get, all_remove}
@@ -45,7 +45,7 @@ requests_used m1 m2 q ring part rs i r after stands is adds =
     (heads_of rs.taken) (heads_of rs.done) i r.head after stands (heads-get rs.taken i r is)
     adds))
 
-pub line_finished : (m1 m2 : Pages) (q n : ℕ) (side : Side) (part : QueuePart) (rs : Requests)
+pub line_finished : (m1 m2 : Pages) (q n : ℕ) (side : RequestSide) (part : QueuePart) (rs : Requests)
     (i : ℕ) (r : Request) (after : DeviceEnd)
     → ring_page q < buffers_page q → Line m1 q n side part rs → slice_get rs.taken i ≡ Some r
     → AddsUsedBy m1 m2 (end_of side.ring part) after r.head 0

@@ -34,7 +34,7 @@ use Rattle.vb_guest.proofs.Posting.{line_posted, least_head, outstanding_are}
 use Rattle.vb_guest.proofs.PagesKept.{SamePages, pages_same}
 use Rattle.vb_guest.proofs.Closing.{honest_performed, steps_alone, refused_alone}
 use Rattle.vb_guest.proofs.Offered.{last_sound, inflate_requested}
-use Rattle.vb_guest.proofs.Normal.{Sides, sides_of, driver_of, driver_is, keeps_own}
+use Rattle.vb_guest.proofs.DriverWords.{Sides, sides_of, driver_of, driver_is, keeps_own}
 
 -- a new request of a queue is refused for want of room, or of pages
 abbrev pub request_refusal : ℕ → ℕ → ℕ → Option Refusal

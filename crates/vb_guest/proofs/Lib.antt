@@ -29,7 +29,7 @@ pub mod WorkStep
 pub mod Claimed
 pub mod ReadStep
 pub mod Named
-pub mod Normal
+pub mod DriverWords
 pub mod AllocStep
 pub mod FreeStep
 pub mod Offered
@@ -69,3 +69,4 @@ pub mod Asked
 pub mod RogueLives
 pub mod RogueMemory
 pub mod Exactly
+pub mod Filling

@@ -10,7 +10,7 @@ use Rattle.vb_model.specs.Requests.{Request, Requests, all_requests, headed, pag
 use Rattle.vb_ram.specs.Pages.{Pages}
 use Rattle.vb_ram.specs.Part.{QueuePart}
 use Rattle.vb_ring.specs.Entries.{is_head}
-use Rattle.vb_driver.specs.State.{Side, AreRequests, sent_by, pages_named as pages_sent}
+use Rattle.vb_driver.specs.State.{RequestSide, AreRequests, sent_by, pages_named as pages_sent}
 use Rattle.vb_guest.specs.Line.{Line, IsRequest}
 use Rattle.vb_guest.proofs.Heads.{headed-cons}
 use Rattle.vb_guest.proofs.Posting.{headed_once}
@@ -100,7 +100,7 @@ at_most_one : (b : Bool) → one_if b ≤ 1
 at_most_one true = omega arith
 at_most_one false = omega arith
 
-pub line_named : (mem : Pages) (q n : ℕ) (side : Side) (part : QueuePart) (rs : Requests)
+pub line_named : (mem : Pages) (q n : ℕ) (side : RequestSide) (part : QueuePart) (rs : Requests)
     → Line mem q n side part rs → AreRequests side
     → pages_sent side ≡ pages_named (all_requests rs)
 line_named mem q n side part rs line out =

@@ -21,7 +21,7 @@ use Rattle.vb_ring.specs.Entries.{is_own, is_head}
 use Rattle.vb_ring.specs.Ends.{DriverEnd, is_unused, free_descriptors, next_head, after_add}
 use Rattle.vb_ring.specs.Ends.{outstanding as outstanding_in}
 use Rattle.vb_driver.specs.Coding.{IsCoded}
-use Rattle.vb_driver.specs.State.{Side, AreRequests}
+use Rattle.vb_driver.specs.State.{RequestSide, AreRequests}
 use Rattle.vb_driver.specs.Calls.{Announces, Posts}
 use Rattle.vb_guest.specs.Ring.{RingStands}
 use Rattle.vb_guest.specs.Line.{AreRequested, Line, IsRequest, RingOf, heads_of}
@@ -101,7 +101,7 @@ lowest_is r h is =
     }
 
 -- the new head is the least that no request has
-pub least_head : (mem : Pages) (q : ℕ) (side : Side) (part : QueuePart) (rs : Requests) (h : ℕ)
+pub least_head : (mem : Pages) (q : ℕ) (side : RequestSide) (part : QueuePart) (rs : Requests) (h : ℕ)
     → RingOf mem q side.ring part rs → AreRequests side → next_head side.ring ≡ Some h
     → IsLeastHead rs h
 least_head mem q side part rs h stands single is =
@@ -156,22 +156,22 @@ requests_posted m1 m2 q ring after part rs n head pages stands state did =
     (heads_of rs.taken) (heads_of rs.done) n head stands state did)
 
 -- the queue's side once the request is out
-abbrev pub posted_side : Side → ℕ → List ℕ → Side
+abbrev pub posted_side : RequestSide → ℕ → List ℕ → RequestSide
 posted_side s head pages =
     record { ring = after_add s.ring 1 (Ok head); sent = slice_set s.sent head pages }
 
-pub line_posted : (m1 m2 : Pages) (q n : ℕ) (side after : Side) (part : QueuePart) (rs : Requests)
+pub line_posted : (m1 m2 : Pages) (q n : ℕ) (side after : RequestSide) (part : QueuePart) (rs : Requests)
     (head : ℕ) (pages : List ℕ)
     → ring_page q < buffers_page q → AreRequests side → AreRequested n pages
     → Line m1 q n side part rs → Posts m1 m2 side after (buffers_page q) pages head
     → Line m2 q n after part (posting head pages rs)
 line_posted m1 m2 q n side after part rs head pages low single fine line did =
-    let L : Side → Type 0 = λ s. Line m2 q n s part (posting head pages rs) in
+    let L : RequestSide → Type 0 = λ s. Line m2 q n s part (posting head pages rs) in
     subst L (sym did.state)
     (line_posted_at m1 m2 q n side part rs head pages low single fine line
     (subst (λ s. Posts m1 m2 side s (buffers_page q) pages head) did.state did))
   where
-    line_posted_at : (m1 m2 : Pages) (q n : ℕ) (side : Side) (part : QueuePart) (rs : Requests)
+    line_posted_at : (m1 m2 : Pages) (q n : ℕ) (side : RequestSide) (part : QueuePart) (rs : Requests)
         (head : ℕ) (pages : List ℕ)
         → ring_page q < buffers_page q → AreRequests side → AreRequested n pages
         → Line m1 q n side part rs

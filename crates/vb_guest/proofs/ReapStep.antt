@@ -19,7 +19,7 @@ use Rattle.vb_ram.specs.Part.{Part}
 use Rattle.vb_ring.specs.Ends.{used_answer}
 use Rattle.vb_ring.specs.Calls.{TakesUsedBy}
 use Rattle.vb_driver.specs.declared.answers.Reaped.{Reaped as ReapedRequest}
-use Rattle.vb_driver.specs.State.{FreePages, Side, DriverState, sent_by, page_state}
+use Rattle.vb_driver.specs.State.{FreePages, RequestSide, DriverState, sent_by, page_state}
 use Rattle.vb_driver.specs.State.{pages_named as pages_sent}
 use Rattle.vb_driver.specs.Areas.{all_given}
 use Rattle.vb_driver.specs.Calls.{ReapsBy, after_reap, next_of, with_actual}
@@ -35,7 +35,7 @@ use Rattle.vb_model.proofs.Queues.{queue_cases, no_requests_at}
 use Rattle.vb_guest.proofs.Closing.{honest_performed, steps_alone}
 use Rattle.vb_guest.proofs.Closing.{ties_same}
 use Rattle.vb_guest.proofs.Named.{line_named}
-use Rattle.vb_guest.proofs.Normal.{Sides, sides_of, driver_of, driver_is, keeps_own}
+use Rattle.vb_guest.proofs.DriverWords.{Sides, sides_of, driver_of, driver_is, keeps_own}
 
 -- ---- queue 0
 
@@ -185,9 +185,9 @@ deflate_reaped m1 m2 p1 p2 g areas sides d2 (r ∷ rest) (Some x) is next did an
     let given : List ℕ → FreePages =
     λ l. if tells_host g then (all_given l (page_state (driver_of g areas sides))).free else areas in
     let moved : List ℕ → List Place = λ l. places_reaped (tells_host g) Deflating l g.places in
-    let side : Side = after_reap sides.deflate r.head in
+    let side : RequestSide = after_reap sides.deflate r.head in
     let after : DriverState = driver_of new (given r.pages) (record sides { deflate = side }) in
-    let K : Side → Type 0 =
+    let K : RequestSide → Type 0 =
     λ e. TakesUsedBy m1 sides.deflate.ring e.ring (used_answer m1 sides.deflate.ring) in
     let at : ℕ → DriverState = λ h. driver_of (record g { places = moved (sent_by sides.deflate h) })
     (given (sent_by sides.deflate h)) (record sides { deflate = after_reap sides.deflate h }) in

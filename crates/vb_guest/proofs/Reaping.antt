@@ -10,7 +10,7 @@ use Rattle.vb_ram.specs.Part.{QueuePart}
 use Rattle.vb_ring.specs.Entries.{is_head}
 use Rattle.vb_ring.specs.Ends.{DriverEnd, used_answer}
 use Rattle.vb_ring.specs.Calls.{TakesUsedBy}
-use Rattle.vb_driver.specs.State.{Side}
+use Rattle.vb_driver.specs.State.{RequestSide}
 use Rattle.vb_driver.specs.Calls.{after_reap}
 use Rattle.vb_guest.specs.Line.{Line, IsRequest, RingOf, heads_of}
 use Rattle.vb_guest.proofs.RingHeads.{one_is, at_most_one}
@@ -38,7 +38,7 @@ requests_reaped mem q ring after part posted taken r rest stands did =
     ring_reaped mem q ring after part.next_avail part.next_used (heads_of posted) (heads_of taken)
     r.head (heads_of rest) stands did
 
-pub line_reaped : (mem : Pages) (q n : ℕ) (side : Side) (part : QueuePart)
+pub line_reaped : (mem : Pages) (q n : ℕ) (side : RequestSide) (part : QueuePart)
     (posted taken : List Request) (r : Request) (rest : List Request)
     → Line mem q n side part (record { posted = posted; taken = taken; done = r ∷ rest })
     → TakesUsedBy mem side.ring (after_reap side r.head).ring (Ok (Some r.head))

@@ -19,7 +19,7 @@ use Rattle.vb_chain.specs.declared.pieces.Piece.{Piece}
 use Rattle.vb_chain.specs.Rules.{piece_of}
 use Rattle.vb_chain.specs.Chain.{ChainGives}
 use Rattle.vb_driver.specs.Coding.{buffer_of}
-use Rattle.vb_driver.specs.State.{Side, DriverState}
+use Rattle.vb_driver.specs.State.{RequestSide, DriverState}
 use Rattle.vb_device.specs.Conditions.{take_refusal}
 use Rattle.vb_device.specs.Queues.{queue_part}
 use Rattle.vb_request.specs.Request.{page_request}
@@ -43,7 +43,7 @@ either true = inl refl
 either false = inr refl
 
 -- what the device says of a queue with no posted request, and of one with some
-pub take_empty : (q n : ℕ) (m1 m2 : Pages) (p1 p2 : Part) (side : Side) (taken done : List Request)
+pub take_empty : (q n : ℕ) (m1 m2 : Pages) (p1 p2 : Part) (side : RequestSide) (taken done : List Request)
     (result : Result (Option ℕ) Refusal)
     → TakesBy q m1 m2 p1 p2 result → take_refusal q p1 ≡ None → p1.queue_size ≡ side.ring.size
     → Line m1 q n side (queue_part q p1) (record { posted = []; taken = taken; done = done })
@@ -59,7 +59,7 @@ pub record IsPlain (q : ℕ) (mem : Pages) (part : Part) (pieces : List Piece) :
   pub request : request_of q mem pieces ≡ page_request mem pieces
   pub quiet : noting q mem pieces part ≡ part
 
-pub take_next : (q n : ℕ) (m1 m2 : Pages) (p1 p2 : Part) (side : Side) (r : Request)
+pub take_next : (q n : ℕ) (m1 m2 : Pages) (p1 p2 : Part) (side : RequestSide) (r : Request)
     (rest taken done : List Request) (result : Result (Option ℕ) Refusal)
     → buffers_page q ≤ 8 → 64 ≤ n → length m1 ≡ n
     → IsPlain q m1 p1 (piece_of (buffer_of (buffers_page q) r.head (length r.pages)) ∷ [])

@@ -9,7 +9,7 @@ use Rattle.vb_ram.specs.Part.{QueuePart}
 use Rattle.vb_ring.specs.Entries.{next_entry}
 use Rattle.vb_ring.specs.Ends.{DriverEnd}
 use Rattle.vb_driver.specs.Coding.{IsCoded}
-use Rattle.vb_driver.specs.State.{Side}
+use Rattle.vb_driver.specs.State.{RequestSide}
 use Rattle.vb_guest.specs.Line.{Line, IsRequest, RingOf, heads_of}
 use Rattle.vb_guest.specs.Ring.{RingStands}
 use Rattle.vb_guest.proofs.Heads.{heads-push}
@@ -38,7 +38,7 @@ requests_taken mem q ring part r rest taken done last stands =
     (heads_of done) stands)
 
 -- the taken request goes from the posted to the taken ones
-pub line_taken : (mem : Pages) (q n : ℕ) (side : Side) (part : QueuePart) (r : Request)
+pub line_taken : (mem : Pages) (q n : ℕ) (side : RequestSide) (part : QueuePart) (r : Request)
     (rest taken done : List Request)
     → Line mem q n side part (record { posted = r ∷ rest; taken = taken; done = done })
     → Line mem q n side (record part {

@@ -18,7 +18,7 @@ use Rattle.vb_model.specs.Orderly.{times}
 use Rattle.vb_model.specs.Refusals.{refusal_of}
 use Rattle.vb_ram.specs.Pages.{Pages, page_at, frame_at, number_of}
 use Rattle.vb_ram.specs.Part.{Part, QueuePart}
-use Rattle.vb_driver.specs.State.{Side, DriverState}
+use Rattle.vb_driver.specs.State.{RequestSide, DriverState}
 use Rattle.vb_device.specs.declared.worked.Worked.{Worked as WorkedPage}
 use Rattle.vb_device.specs.Conditions.{work_refusal}
 use Rattle.vb_device.specs.Discards.{discarded, frames_behind}
@@ -113,7 +113,7 @@ work_idle m1 m2 p1 p2 d g result did stands by_part by_model here later there af
 -- ---- a visit
 
 -- a visit changes a request's count alone
-line_visited : (mem : Pages) (q n : ℕ) (side : Side) (part : QueuePart) (rs : Requests)
+line_visited : (mem : Pages) (q n : ℕ) (side : RequestSide) (part : QueuePart) (rs : Requests)
     → Line mem q n side part rs
     → Line mem q n side (record part { taken = visiting part.taken })
     (record rs { taken = visiting rs.taken })

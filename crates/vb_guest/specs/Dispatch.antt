@@ -10,29 +10,19 @@ use Rattle.vb_model.specs.declared.calls.Claim.{Claim}
 use Rattle.vb_model.specs.declared.replies.Refusal.{Refusal}
 use Rattle.vb_model.specs.declared.replies.Refusal.TheVariants.{NotHeld}
 use Rattle.vb_model.specs.declared.replies.Reply.{Reply}
-use Rattle.vb_model.specs.declared.replies.Reply.TheVariants.{Done, Refused}
+use Rattle.vb_model.specs.declared.replies.Reply.TheVariants.{Done}
 use Rattle.vb_model.specs.Pages.{place_of, is_used}
-use Rattle.vb_ram.specs.Pages.{Pages}
-use Rattle.vb_ram.specs.Part.{Part}
 use Rattle.vb_device.specs.Calls.{TakesBy, WorksBy, FinishesBy, SweepsBy, AsksBy}
 use Rattle.vb_device.specs.declared.worked.Worked.{Worked}
 use Rattle.vb_driver.specs.Calls.{AllocatesBy, FreesBy, InflatesBy, DeflatesBy, DeflatesOnOomBy}
 use Rattle.vb_driver.specs.Calls.{ReportsBy, FillsBy, ReapsBy, ResetsBy}
-use Rattle.vb_driver.specs.State.{DriverState}
 use Rattle.vb_driver.specs.declared.answers.Posted.{Posted}
 use Rattle.vb_driver.specs.declared.answers.Reaped.{Reaped}
 use Rattle.vb_guest.specs.Exact.{InitialisesBy, IsHandedBack, IsQuiet, PutsBy, ReadsBy}
+use Rattle.vb_guest.specs.Promises.{Moment}
 use Rattle.vb_guest.specs.Replies.{ready_reply, page_reply, done_reply, bytes_reply}
 use Rattle.vb_guest.specs.Replies.{posted_reply, reaped_reply, taken_reply, finished_reply}
 use Rattle.vb_guest.specs.Replies.{worked_reply, swept_reply, filled_reply, asked_reply}
-use Rattle.vb_guest.specs.Supply.{Supply}
-
--- Memory, the device's part, the driver and the frames' supply at one moment.
-pub record Moment : Type 0 where
-  pub mem : Pages
-  pub part : Part
-  pub driver : DriverState
-  pub supply : Supply
 
 -- The device is as it was.
 abbrev pub DeviceStays : Moment → Moment → Type 0

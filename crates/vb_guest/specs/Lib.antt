@@ -5,6 +5,7 @@ pub mod Buffer
 pub mod Stands
 pub mod Supply
 pub mod Steps
+pub mod Promises
 pub mod Replies
 pub mod Lives
 pub mod Exact

@@ -8,7 +8,7 @@ use Rattle.vb_ram.specs.Pages.{Pages}
 use Rattle.vb_ram.specs.Part.{QueuePart}
 use Rattle.vb_ring.specs.Ends.{DriverEnd}
 use Rattle.vb_driver.specs.Coding.{IsCoded}
-use Rattle.vb_driver.specs.State.{Side}
+use Rattle.vb_driver.specs.State.{RequestSide}
 use Rattle.vb_guest.specs.Ring.{RingStands}
 
 abbrev pub heads_of : List Request → List ℕ
@@ -36,8 +36,8 @@ pub record IsRequest (size count : ℕ) (sent : List (List ℕ)) (r : Request) :
   pub remembered : slice_index_or sent r.head [] ≡ r.pages
   pub pages : AreRequested count r.pages
 
-pub record Line (mem : Pages) (queue count : ℕ) (side : Side) (part : QueuePart) (rs : Requests) :
-    Type 0 where
+pub record Line (mem : Pages) (queue count : ℕ) (side : RequestSide) (part : QueuePart)
+    (rs : Requests) : Type 0 where
   pub ring : RingOf mem queue side.ring part rs
   pub buffers : length side.sent ≡ max_outstanding
   pub posted : All (IsRequest side.ring.size count side.sent) rs.posted

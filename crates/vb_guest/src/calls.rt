@@ -1,12 +1,7 @@
 //! Calls on a guest and questions about it, told apart by their names.
 
-ghost use Rattle.std.specs.Prelude.{◌≡◌, Bool, false};
-ghost use Rattle.vb_model.specs.Guest.{Guest};
-ghost use Rattle.vb_model.specs.World.{Answers};
 ghost use Rattle.vb_guest.specs.Dispatch.{CallsBy};
-ghost use Rattle.vb_guest.specs.Stands.{Stands};
-ghost use Rattle.vb_guest.specs.Steps.{AreOut, StepsOver};
-ghost use Rattle.vb_guest.specs.Supply.{supply_of};
+ghost use Rattle.vb_guest.specs.Promises.{EachAnswers, EachSteps, SomeGuest, SomeGuestOut, moment};
 
 use crate::device::{ask, finish, set_target, sweep, take, work};
 use crate::driver::{deflate, free, inflate, oom, reap, report, stats};
@@ -37,27 +32,16 @@ pub fn call<D: Device, K: FrameKeeper>(
     claims: &mut Claims,
     call: &Call,
 ) -> Reply
-    requires stands { (keeps : Bool) × (g : Guest)
-        × Stands keeps (D.mem device.old) (D.part device.old) driver.old g
-        × (keeps ≡ false → AreOut g (K.out keeper.old)) }
-    ensures step { (keeps : Bool) (g : Guest)
-        → Stands keeps (D.mem device.old) (D.part device.old) driver.old g
-        → StepsOver (Stands keeps (D.mem device.new) (D.part device.new) driver.new) K.answers
-        (supply_of (D.part device.old) (K.out keeper.old))
-        (supply_of (D.part device.new) (K.out keeper.new)) claims.new.items g call.now result }
+    requires stands { SomeGuestOut (D.mem device.old) (D.part device.old) driver.old
+        (K.out keeper.old) }
+    ensures step { EachSteps K.answers
+        (moment (D.mem device.old) (D.part device.old) driver.old (K.out keeper.old))
+        (moment (D.mem device.new) (D.part device.new) driver.new (K.out keeper.new))
+        claims.new.items call.now result }
     ensures exact { CallsBy K.answers
-        (record {
-          mem = D.mem device.old;
-          part = D.part device.old;
-          driver = driver.old;
-          supply = supply_of (D.part device.old) (K.out keeper.old);
-        })
-        (record {
-          mem = D.mem device.new;
-          part = D.part device.new;
-          driver = driver.new;
-          supply = supply_of (D.part device.new) (K.out keeper.new);
-        }) claims.new.items call.now result }
+        (moment (D.mem device.old) (D.part device.old) driver.old (K.out keeper.old))
+        (moment (D.mem device.new) (D.part device.new) driver.new (K.out keeper.new))
+        claims.new.items call.now result }
 {
     claims.clear();
     match call {
@@ -101,11 +85,9 @@ pub fn call<D: Device, K: FrameKeeper>(
 
 /// Answers a question about the guest that the driver and the device stand for.
 pub fn query<D: Device>(alloc: Global, driver: &Driver, device: &D, query: &Query) -> Reply
-    requires stands { (keeps : Bool) × (g : Guest)
-        × Stands keeps (D.mem device.now) (D.part device.now) driver.now g }
-    ensures answer { (keeps : Bool) (g : Guest)
-        → Stands keeps (D.mem device.now) (D.part device.now) driver.now g
-        → Answers query.now g result }
+    requires stands { SomeGuest (D.mem device.now) (D.part device.now) driver.now }
+    ensures answer { EachAnswers (D.mem device.now) (D.part device.now) driver.now query.now
+        result }
 {
     match query {
         Query::Places => Reply::Places {

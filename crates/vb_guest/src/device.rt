@@ -1,16 +1,16 @@
 //! What the host does to a guest's device.
 
-ghost use Rattle.std.specs.Prelude.{◌≡◌, Bool, ℕ, [], false};
+ghost use Rattle.std.specs.Prelude.{◌≡◌, Bool, []};
 ghost use Rattle.vb_model.specs.declared.replies.Reply.TheVariants.{Done};
 ghost use Rattle.vb_model.specs.Guest.{Guest};
 ghost use Rattle.vb_driver.specs.State.{DriverState};
 ghost use Rattle.vb_device.specs.Calls.{TakesBy, WorksBy, FinishesBy, SweepsBy, AsksBy};
 ghost use Rattle.vb_guest.specs.Exact.{IsHandedBack};
+ghost use Rattle.vb_guest.specs.Promises.{EachSteps, EachStepsAlone, SomeGuest, SomeGuestOut};
+ghost use Rattle.vb_guest.specs.Promises.{moment};
 ghost use Rattle.vb_guest.specs.Replies.{taken_reply, worked_reply, finished_reply, swept_reply};
 ghost use Rattle.vb_guest.specs.Replies.{asked_reply};
 ghost use Rattle.vb_guest.specs.Stands.{Stands};
-ghost use Rattle.vb_guest.specs.Steps.{AreOut, StepsAlone, StepsOver};
-ghost use Rattle.vb_guest.specs.Supply.{supply_of};
 
 use crate::frames::return_loose;
 use vb_device::{Device, Worked};
@@ -23,9 +23,8 @@ use vb_model::{Call, Refusal};
 /// tested in this order; then with `Broken` where the bytes that a rogue guest wrote break a rule:
 /// the device needs a reset then.
 pub fn take<D: Device>(device: &mut D, queue: u32) -> Result<Option<u16>, Refusal>
-    ensures step { (keeps : Bool) (d : DriverState) (g : Guest)
-        → Stands keeps (D.mem device.old) (D.part device.old) d g
-        → StepsAlone (Stands keeps (D.mem device.new) (D.part device.new) d) g (Call.Take queue)
+    ensures step { (d : DriverState) → EachStepsAlone (D.mem device.old) (D.mem device.new)
+        (D.part device.old) (D.part device.new) d d (Call.Take queue)
         (taken_reply result) }
     ensures exact { TakesBy queue (D.mem device.old) (D.mem device.new)
         (D.part device.old) (D.part device.new) result }
@@ -41,14 +40,12 @@ pub fn work<D: Device, K: FrameKeeper>(
     device: &mut D,
     keeper: &mut K,
 ) -> Result<Option<Worked>, Refusal>
-    requires { (keeps : Bool) × (d : DriverState) × (g : Guest)
-        × Stands keeps (D.mem device.old) (D.part device.old) d g
-        × (keeps ≡ false → AreOut g (K.out keeper.old)) }
-    ensures step { (keeps : Bool) (d : DriverState) (g : Guest)
-        → Stands keeps (D.mem device.old) (D.part device.old) d g
-        → StepsOver (Stands keeps (D.mem device.new) (D.part device.new) d) K.answers
-        (supply_of (D.part device.old) (K.out keeper.old))
-        (supply_of (D.part device.new) (K.out keeper.new)) [] g Call.Work (worked_reply result) }
+    requires { (d : DriverState) × SomeGuestOut (D.mem device.old) (D.part device.old) d
+        (K.out keeper.old) }
+    ensures step { (d : DriverState) → EachSteps K.answers
+        (moment (D.mem device.old) (D.part device.old) d (K.out keeper.old))
+        (moment (D.mem device.new) (D.part device.new) d (K.out keeper.new)) [] Call.Work
+        (worked_reply result) }
     ensures exact { IsHandedBack (λ part. WorksBy (D.mem device.old) (D.mem device.new)
         (D.part device.old) part result) (D.part device.new) }
 {
@@ -67,14 +64,11 @@ pub fn finish<D: Device, K: FrameKeeper>(
     queue: u32,
     index: u32,
 ) -> Result<u16, Refusal>
-    requires { (keeps : Bool) × (d : DriverState) × (g : Guest)
-        × Stands keeps (D.mem device.old) (D.part device.old) d g
-        × (keeps ≡ false → AreOut g (K.out keeper.old)) }
-    ensures step { (keeps : Bool) (d : DriverState) (g : Guest)
-        → Stands keeps (D.mem device.old) (D.part device.old) d g
-        → StepsOver (Stands keeps (D.mem device.new) (D.part device.new) d) K.answers
-        (supply_of (D.part device.old) (K.out keeper.old))
-        (supply_of (D.part device.new) (K.out keeper.new)) [] g
+    requires { (d : DriverState) × SomeGuestOut (D.mem device.old) (D.part device.old) d
+        (K.out keeper.old) }
+    ensures step { (d : DriverState) → EachSteps K.answers
+        (moment (D.mem device.old) (D.part device.old) d (K.out keeper.old))
+        (moment (D.mem device.new) (D.part device.new) d (K.out keeper.new)) []
         (Call.Finish queue index) (finished_reply result) }
     ensures exact { IsHandedBack
         (λ part. FinishesBy queue index (D.mem device.old) (D.mem device.new)
@@ -93,15 +87,12 @@ pub fn sweep<D: Device, K: FrameKeeper>(
     keeper: &mut K,
     page: u32,
 ) -> Result<bool, Refusal>
-    requires { (keeps : Bool) × (d : DriverState) × (g : Guest)
-        × Stands keeps (D.mem device.old) (D.part device.old) d g
-        × (keeps ≡ false → AreOut g (K.out keeper.old)) }
-    ensures step { (keeps : Bool) (d : DriverState) (g : Guest)
-        → Stands keeps (D.mem device.old) (D.part device.old) d g
-        → StepsOver (Stands keeps (D.mem device.new) (D.part device.new) d) K.answers
-        (supply_of (D.part device.old) (K.out keeper.old))
-        (supply_of (D.part device.new) (K.out keeper.new)) [] g
-        (Call.Sweep page) (swept_reply result) }
+    requires { (d : DriverState) × SomeGuestOut (D.mem device.old) (D.part device.old) d
+        (K.out keeper.old) }
+    ensures step { (d : DriverState) → EachSteps K.answers
+        (moment (D.mem device.old) (D.part device.old) d (K.out keeper.old))
+        (moment (D.mem device.new) (D.part device.new) d (K.out keeper.new)) [] (Call.Sweep page)
+        (swept_reply result) }
     ensures exact { IsHandedBack (λ part. SweepsBy page (D.mem device.old) (D.mem device.new)
         (D.part device.old) part result) (D.part device.new) }
 {
@@ -114,11 +105,9 @@ pub fn sweep<D: Device, K: FrameKeeper>(
 /// (VIRTIO 1.1, 5.5.6.3). Refused with `NotReady`, `NeedsReset` and `NotTaken`, tested in this
 /// order.
 pub fn ask<D: Device>(device: &mut D) -> Result<(), Refusal>
-    requires { (keeps : Bool) × (d : DriverState) × (g : Guest)
-        × Stands keeps (D.mem device.old) (D.part device.old) d g }
-    ensures step { (keeps : Bool) (d : DriverState) (g : Guest)
-        → Stands keeps (D.mem device.old) (D.part device.old) d g
-        → StepsAlone (Stands keeps (D.mem device.new) (D.part device.new) d) g Call.Ask
+    requires { (d : DriverState) × SomeGuest (D.mem device.old) (D.part device.old) d }
+    ensures step { (d : DriverState) → EachStepsAlone (D.mem device.old) (D.mem device.new)
+        (D.part device.old) (D.part device.new) d d Call.Ask
         (asked_reply result) }
     ensures exact { AsksBy (D.mem device.old) (D.mem device.new)
         (D.part device.old) (D.part device.new) result }
@@ -131,10 +120,8 @@ pub fn set_target<D: Device>(device: &mut D, pages: u32)
     ensures aims { (keeps : Bool) (d : DriverState) (g : Guest)
         → Stands keeps (D.mem device.old) (D.part device.old) d g
         → Stands keeps (D.mem device.new) (D.part device.new) d (record g { target = pages }) }
-    ensures step { (keeps : Bool) (d : DriverState) (g : Guest)
-        → Stands keeps (D.mem device.old) (D.part device.old) d g
-        → StepsAlone (Stands keeps (D.mem device.new) (D.part device.new) d) g
-        (Call.SetTarget pages) Done }
+    ensures step { (d : DriverState) → EachStepsAlone (D.mem device.old) (D.mem device.new)
+        (D.part device.old) (D.part device.new) d d (Call.SetTarget pages) Done }
     ensures part { D.part device.new ≡ record (D.part device.old) { target = pages } }
     ensures mem { D.mem device.new ≡ D.mem device.old }
 {

@@ -1,15 +1,12 @@
 //! What a guest's balloon driver does with its pages and with its device.
 
-ghost use Rattle.std.specs.Prelude.{◌≡◌, Bool, ◌≤◌, ℕ, length};
-ghost use Rattle.vb_model.specs.Guest.{Guest};
 ghost use Rattle.vb_ram.specs.Pages.{Pages};
 ghost use Rattle.vb_ram.specs.Part.{Part};
 ghost use Rattle.vb_driver.specs.Calls.{AllocatesBy, FreesBy, InflatesBy, DeflatesBy};
 ghost use Rattle.vb_driver.specs.Calls.{DeflatesOnOomBy, ReportsBy, FillsBy, ReapsBy};
+ghost use Rattle.vb_guest.specs.Promises.{EachStepsAlone, SomeGuest};
 ghost use Rattle.vb_guest.specs.Replies.{done_reply, page_reply, posted_reply, reaped_reply};
 ghost use Rattle.vb_guest.specs.Replies.{filled_reply};
-ghost use Rattle.vb_guest.specs.Stands.{Stands};
-ghost use Rattle.vb_guest.specs.Steps.{StepsAlone};
 
 use vb_device::Device;
 use vb_driver::{Driver, Posted, Reaped};
@@ -19,9 +16,8 @@ use vb_model::{Call, Refusal};
 /// is the one that the processor's list or the page areas give by their rule. Refused with
 /// `BadOrder`, `BadCpu` and `NoPages`, tested in this order.
 pub fn alloc(driver: &mut Driver, cpu: u32, order: u32) -> Result<u32, Refusal>
-    ensures step { (keeps : Bool) (mem : Pages) (part : Part) (g : Guest)
-        → Stands keeps mem part driver.old g
-        → StepsAlone (Stands keeps mem part driver.new) g (Call.Alloc cpu order)
+    ensures step { (mem : Pages) (part : Part) → EachStepsAlone mem mem part part driver.old
+        driver.new (Call.Alloc cpu order)
         (page_reply result) }
     ensures exact { AllocatesBy driver.old driver.new cpu order result }
 {
@@ -31,9 +27,8 @@ pub fn alloc(driver: &mut Driver, cpu: u32, order: u32) -> Result<u32, Refusal>
 /// A processor gives a block back that an allocation answered (Gorman, chapter 6). Refused with
 /// `BadOrder`, `BadCpu` and `NotHeld`, tested in this order.
 pub fn free(driver: &mut Driver, cpu: u32, start: u32, order: u32) -> Result<(), Refusal>
-    ensures step { (keeps : Bool) (mem : Pages) (part : Part) (g : Guest)
-        → Stands keeps mem part driver.old g
-        → StepsAlone (Stands keeps mem part driver.new) g (Call.Free cpu start order)
+    ensures step { (mem : Pages) (part : Part) → EachStepsAlone mem mem part part driver.old
+        driver.new (Call.Free cpu start order)
         (done_reply result) }
     ensures exact { FreesBy driver.old driver.new cpu start order result }
 {
@@ -47,12 +42,9 @@ pub fn inflate<D: Device>(
     device: &mut D,
     pages: u32,
 ) -> Result<Posted, Refusal>
-    requires { (keeps : Bool) × (g : Guest)
-        × Stands keeps (D.mem device.old) (D.part device.old) driver.old g }
-    ensures step { (keeps : Bool) (g : Guest)
-        → Stands keeps (D.mem device.old) (D.part device.old) driver.old g
-        → StepsAlone (Stands keeps (D.mem device.new) (D.part device.new) driver.new) g
-        (Call.Inflate pages) (posted_reply result) }
+    requires { SomeGuest (D.mem device.old) (D.part device.old) driver.old }
+    ensures step { EachStepsAlone (D.mem device.old) (D.mem device.new) (D.part device.old)
+        (D.part device.new) driver.old driver.new (Call.Inflate pages) (posted_reply result) }
     ensures exact { InflatesBy (D.mem device.old) (D.mem device.new)
         (D.part device.old) (D.part device.new) driver.old driver.new pages result }
 {
@@ -66,12 +58,9 @@ pub fn deflate<D: Device>(
     device: &mut D,
     pages: u32,
 ) -> Result<Posted, Refusal>
-    requires { (keeps : Bool) × (g : Guest)
-        × Stands keeps (D.mem device.old) (D.part device.old) driver.old g }
-    ensures step { (keeps : Bool) (g : Guest)
-        → Stands keeps (D.mem device.old) (D.part device.old) driver.old g
-        → StepsAlone (Stands keeps (D.mem device.new) (D.part device.new) driver.new) g
-        (Call.Deflate pages) (posted_reply result) }
+    requires { SomeGuest (D.mem device.old) (D.part device.old) driver.old }
+    ensures step { EachStepsAlone (D.mem device.old) (D.mem device.new) (D.part device.old)
+        (D.part device.new) driver.old driver.new (Call.Deflate pages) (posted_reply result) }
     ensures exact { DeflatesBy (D.mem device.old) (D.mem device.new)
         (D.part device.old) (D.part device.new) driver.old driver.new pages result }
 {
@@ -82,12 +71,9 @@ pub fn deflate<D: Device>(
 /// DEFLATE_ON_OOM). Refused with `NotReady`, `NoFeature`, `QueueFull` and `Nothing`, tested in this
 /// order.
 pub fn oom<D: Device>(driver: &mut Driver, device: &mut D, pages: u32) -> Result<Posted, Refusal>
-    requires { (keeps : Bool) × (g : Guest)
-        × Stands keeps (D.mem device.old) (D.part device.old) driver.old g }
-    ensures step { (keeps : Bool) (g : Guest)
-        → Stands keeps (D.mem device.old) (D.part device.old) driver.old g
-        → StepsAlone (Stands keeps (D.mem device.new) (D.part device.new) driver.new) g
-        (Call.Oom pages) (posted_reply result) }
+    requires { SomeGuest (D.mem device.old) (D.part device.old) driver.old }
+    ensures step { EachStepsAlone (D.mem device.old) (D.mem device.new) (D.part device.old)
+        (D.part device.new) driver.old driver.new (Call.Oom pages) (posted_reply result) }
     ensures exact { DeflatesOnOomBy (D.mem device.old) (D.mem device.new)
         (D.part device.old) (D.part device.new) driver.old driver.new pages result }
 {
@@ -98,12 +84,9 @@ pub fn oom<D: Device>(driver: &mut Driver, device: &mut D, pages: u32) -> Result
 /// (profile). Refused with `NotReady`, `NoFeature`, `QueueFull` and `Nothing`, tested in this
 /// order.
 pub fn report<D: Device>(driver: &mut Driver, device: &mut D, from: u32) -> Result<Posted, Refusal>
-    requires { (keeps : Bool) × (g : Guest)
-        × Stands keeps (D.mem device.old) (D.part device.old) driver.old g }
-    ensures step { (keeps : Bool) (g : Guest)
-        → Stands keeps (D.mem device.old) (D.part device.old) driver.old g
-        → StepsAlone (Stands keeps (D.mem device.new) (D.part device.new) driver.new) g
-        (Call.Report from) (posted_reply result) }
+    requires { SomeGuest (D.mem device.old) (D.part device.old) driver.old }
+    ensures step { EachStepsAlone (D.mem device.old) (D.mem device.new) (D.part device.old)
+        (D.part device.new) driver.old driver.new (Call.Report from) (posted_reply result) }
     ensures exact { ReportsBy (D.mem device.old) (D.mem device.new)
         (D.part device.old) (D.part device.new) driver.old driver.new from result }
 {
@@ -115,11 +98,9 @@ pub fn report<D: Device>(driver: &mut Driver, device: &mut D, from: u32) -> Resu
 /// the used ring of a rogue guest says what no device says: the driver gives up then, by FAILED in
 /// the status. Tested in this order.
 pub fn stats<D: Device>(driver: &mut Driver, device: &mut D) -> Result<bool, Refusal>
-    requires { (keeps : Bool) × (g : Guest)
-        × Stands keeps (D.mem device.old) (D.part device.old) driver.old g }
-    ensures step { (keeps : Bool) (g : Guest)
-        → Stands keeps (D.mem device.old) (D.part device.old) driver.old g
-        → StepsAlone (Stands keeps (D.mem device.new) (D.part device.new) driver.new) g Call.Stats
+    requires { SomeGuest (D.mem device.old) (D.part device.old) driver.old }
+    ensures step { EachStepsAlone (D.mem device.old) (D.mem device.new) (D.part device.old)
+        (D.part device.new) driver.old driver.new Call.Stats
         (filled_reply result) }
     ensures exact { FillsBy (D.mem device.old) (D.mem device.new)
         (D.part device.old) (D.part device.new) driver.old driver.new result }
@@ -136,12 +117,9 @@ pub fn reap<D: Device>(
     device: &mut D,
     queue: u32,
 ) -> Result<Option<Reaped>, Refusal>
-    requires { (keeps : Bool) × (g : Guest)
-        × Stands keeps (D.mem device.old) (D.part device.old) driver.old g }
-    ensures step { (keeps : Bool) (g : Guest)
-        → Stands keeps (D.mem device.old) (D.part device.old) driver.old g
-        → StepsAlone (Stands keeps (D.mem device.new) (D.part device.new) driver.new) g
-        (Call.Reap queue) (reaped_reply result) }
+    requires { SomeGuest (D.mem device.old) (D.part device.old) driver.old }
+    ensures step { EachStepsAlone (D.mem device.old) (D.mem device.new) (D.part device.old)
+        (D.part device.new) driver.old driver.new (Call.Reap queue) (reaped_reply result) }
     ensures exact { ReapsBy (D.mem device.old) (D.mem device.new)
         (D.part device.old) (D.part device.new) driver.old driver.new queue result }
 {

@@ -1,8 +1,7 @@
 //! A guest's device starts, and starts over (VIRTIO 1.1, 2.1 and 3.1.1).
 
-ghost use Rattle.std.specs.Prelude.{◌≡◌, Bool, ◌≤◌, ℕ, [], length, false, None, replicate};
+ghost use Rattle.std.specs.Prelude.{◌≡◌, ◌≤◌, [], length, false, None, replicate};
 ghost use Rattle.std.specs.List.{range_with_len};
-ghost use Rattle.vb_model.specs.Guest.{Guest};
 ghost use Rattle.vb_model.specs.declared.replies.Reply.TheVariants.{Done};
 ghost use Rattle.vb_model.specs.Orderly.{times};
 ghost use Rattle.vb_driver.specs.Calls.{ResetsBy};
@@ -10,9 +9,10 @@ ghost use Rattle.vb_driver.specs.State.{DriverState, fresh_driver};
 ghost use Rattle.vb_device.specs.Discards.{frames_behind};
 ghost use Rattle.vb_guest.specs.Exact.{InitialisesBy, IsReset};
 ghost use Rattle.vb_guest.specs.Lives.{bare_from, SuppliesBy};
+ghost use Rattle.vb_guest.specs.Promises.{EachRestarts, EachSteps, EachStepsAlone, OfEach};
+ghost use Rattle.vb_guest.specs.Promises.{SomeGuest, SomeGuestOut, moment};
 ghost use Rattle.vb_guest.specs.Replies.{ready_reply};
-ghost use Rattle.vb_guest.specs.Stands.{Stands};
-ghost use Rattle.vb_guest.specs.Steps.{AreOut, StepsAlone, StepsOver, AllReturn, IsBare, Restarts};
+ghost use Rattle.vb_guest.specs.Steps.{AllReturn, IsBare};
 ghost use Rattle.vb_guest.specs.Supply.{supply_of, AreLoose, Moves, nothing};
 
 use crate::frames::{Claims, claim_frame, return_frame, return_loose};
@@ -72,14 +72,11 @@ pub fn init<D: Device, K: FrameKeeper>(
     claims: &mut Claims,
     wanted: u64,
 ) -> Result<(), Refusal>
-    requires { (keeps : Bool) × (g : Guest)
-        × Stands keeps (D.mem device.old) (D.part device.old) driver.old g }
-    ensures step { (keeps : Bool) (g : Guest)
-        → Stands keeps (D.mem device.old) (D.part device.old) driver.old g
-        → StepsOver (Stands keeps (D.mem device.new) (D.part device.new) driver.new) K.answers
-        (supply_of (D.part device.old) (K.out keeper.old))
-        (supply_of (D.part device.new) (K.out keeper.new)) claims.new.items g
-        (Call.Init wanted) (ready_reply result) }
+    requires { SomeGuest (D.mem device.old) (D.part device.old) driver.old }
+    ensures step { EachSteps K.answers
+        (moment (D.mem device.old) (D.part device.old) driver.old (K.out keeper.old))
+        (moment (D.mem device.new) (D.part device.new) driver.new (K.out keeper.new))
+        claims.new.items (Call.Init wanted) (ready_reply result) }
     ensures exact { InitialisesBy K.answers (supply_of (D.part device.old) (K.out keeper.old))
         (K.out keeper.new) (D.mem device.old) (D.mem device.new) (D.part device.old)
         (D.part device.new) driver.old driver.new claims.new.items wanted result }
@@ -97,10 +94,8 @@ pub fn init<D: Device, K: FrameKeeper>(
 
 /// The driver resets the device (VIRTIO 1.1, 2.1).
 pub fn reset<D: Device>(driver: &mut Driver, device: &mut D)
-    ensures step { (keeps : Bool) (g : Guest)
-        → Stands keeps (D.mem device.old) (D.part device.old) driver.old g
-        → StepsAlone (Stands keeps (D.mem device.new) (D.part device.new) driver.new) g
-        Call.Reset Done }
+    ensures step { EachStepsAlone (D.mem device.old) (D.mem device.new) (D.part device.old)
+        (D.part device.new) driver.old driver.new Call.Reset Done }
     ensures exact { ResetsBy (D.mem device.old) (D.mem device.new)
         (D.part device.old) (D.part device.new) driver.old driver.new }
 {
@@ -128,14 +123,10 @@ fn take_all_back<D: Device, K: FrameKeeper>(device: &mut D, keeper: &mut K)
 /// A new life of the guest begins (profile): the device is reset, every frame goes back to where it
 /// came from, and all unreserved pages are free. The target stays.
 pub fn restart<D: Device, K: FrameKeeper>(driver: &mut Driver, device: &mut D, keeper: &mut K)
-    requires { (keeps : Bool) × (g : Guest)
-        × Stands keeps (D.mem device.old) (D.part device.old) driver.old g
-        × (keeps ≡ false → AreOut g (K.out keeper.old)) }
-    ensures life { (keeps : Bool) (g : Guest)
-        → Stands keeps (D.mem device.old) (D.part device.old) driver.old g
-        → Restarts (Stands keeps (D.mem device.new) (D.part device.new) driver.new)
-        (supply_of (D.part device.old) (K.out keeper.old))
-        (supply_of (D.part device.new) (K.out keeper.new)) g }
+    requires { SomeGuestOut (D.mem device.old) (D.part device.old) driver.old (K.out keeper.old) }
+    ensures life { EachRestarts
+        (moment (D.mem device.old) (D.part device.old) driver.old (K.out keeper.old))
+        (moment (D.mem device.new) (D.part device.new) driver.new (K.out keeper.new)) }
     ensures mem { D.mem device.new ≡ replicate (length (D.mem device.old)) None }
     ensures part { IsReset (D.part device.old) (D.part device.new) }
     ensures driver { driver.new
@@ -148,16 +139,14 @@ pub fn restart<D: Device, K: FrameKeeper>(driver: &mut Driver, device: &mut D, k
 /// The guest's life ends: the device is reset, its target kept, and every frame goes back to where
 /// it came from.
 pub fn empty<D: Device, K: FrameKeeper>(device: &mut D, keeper: &mut K)
-    requires { (keeps : Bool) × (d : DriverState) × (g : Guest)
-        × Stands keeps (D.mem device.old) (D.part device.old) d g
-        × (keeps ≡ false → AreOut g (K.out keeper.old)) }
+    requires { (d : DriverState) × SomeGuestOut (D.mem device.old) (D.part device.old) d
+        (K.out keeper.old) }
     ensures bare { IsBare (D.mem device.new) (D.part device.new) }
     ensures mem { D.mem device.new ≡ replicate (length (D.mem device.old)) None }
     ensures part { IsReset (D.part device.old) (D.part device.new) }
-    ensures returned { (keeps : Bool) (d : DriverState) (g : Guest)
-        → Stands keeps (D.mem device.old) (D.part device.old) d g
-        → AllReturn (supply_of (D.part device.old) (K.out keeper.old))
-        (supply_of (D.part device.new) (K.out keeper.new)) g }
+    ensures returned { (d : DriverState) → OfEach (D.mem device.old) (D.part device.old) d
+        (λ g. AllReturn (supply_of (D.part device.old) (K.out keeper.old))
+        (supply_of (D.part device.new) (K.out keeper.new)) g) }
 {
     take_all_back(device, keeper);
 }

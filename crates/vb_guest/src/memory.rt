@@ -1,15 +1,13 @@
 //! Bytes of a guest's pages.
 
-ghost use Rattle.std.specs.Prelude.{◌≡◌, Bool, ℕ, ◌<◌, ◌≤◌, ◌+◌, None, true, false, []};
+ghost use Rattle.std.specs.Prelude.{◌≡◌, ◌<◌, ◌+◌, None, true, false, []};
 ghost use Rattle.std.specs.Prelude.{IfOk, IsSome, length, take, drop};
-ghost use Rattle.vb_model.specs.Guest.{Guest};
 ghost use Rattle.vb_model.specs.Pages.{place_of, is_used};
 ghost use Rattle.vb_ram.specs.Pages.{frame_at, contents_at, Covers, Wrote, Supplied};
 ghost use Rattle.vb_driver.specs.State.{DriverState};
 ghost use Rattle.vb_guest.specs.Exact.{FillsBare, IsQuiet, PutsBy, ReadsBy};
+ghost use Rattle.vb_guest.specs.Promises.{EachSteps, EachStepsAlone, SomeGuest, moment};
 ghost use Rattle.vb_guest.specs.Replies.{bytes_reply, done_reply};
-ghost use Rattle.vb_guest.specs.Stands.{Stands};
-ghost use Rattle.vb_guest.specs.Steps.{StepsAlone, StepsOver};
 ghost use Rattle.vb_guest.specs.Supply.{supply_of};
 
 use crate::frames::{Claims, claim_frame};
@@ -46,7 +44,7 @@ fn overwrite<D: Device>(device: &mut D, page: u32, offset: u32, bytes: &Bytes)
     }
 }
 
-/// Writes bytes of a page that gets a frame first.
+/// Puts a frame behind a page that has none, and then writes bytes of it.
 fn put_fresh<D: Device, K: FrameKeeper>(
     device: &mut D,
     keeper: &mut K,
@@ -55,25 +53,10 @@ fn put_fresh<D: Device, K: FrameKeeper>(
     offset: u32,
     bytes: &Bytes,
 ) -> Result<(), Refusal>
-    requires stands { (keeps : Bool) × (d : DriverState) × (g : Guest)
-        × Stands keeps (D.mem device.old) (D.part device.old) d g }
     requires covers { Covers (D.mem device.old) page offset (length bytes.now) }
     requires some { 0 < length bytes.now }
     requires bare { frame_at (D.mem device.old) page ≡ None }
     requires none { claims.old.items ≡ [] }
-    ensures writes { (keeps : Bool) (d : DriverState) (g : Guest)
-        → is_used (place_of d.places page) ≡ true
-        → Stands keeps (D.mem device.old) (D.part device.old) d g
-        → StepsOver (Stands keeps (D.mem device.new) (D.part device.new) d) K.answers
-        (supply_of (D.part device.old) (K.out keeper.old))
-        (supply_of (D.part device.new) (K.out keeper.new)) claims.new.items g
-        (Call.Write page offset bytes.now) (done_reply result) }
-    ensures scribbles { (keeps : Bool) (d : DriverState) (g : Guest)
-        → Stands keeps (D.mem device.old) (D.part device.old) d g
-        → StepsOver (Stands keeps (D.mem device.new) (D.part device.new) d) K.answers
-        (supply_of (D.part device.old) (K.out keeper.old))
-        (supply_of (D.part device.new) (K.out keeper.new)) claims.new.items g
-        (Call.Scribble page offset bytes.now) (done_reply result) }
     ensures exact { FillsBare K.answers (supply_of (D.part device.old) (K.out keeper.old))
         (supply_of (D.part device.new) (K.out keeper.new)) (D.mem device.old) (D.mem device.new)
         (D.part device.old) (D.part device.new) claims.new.items page offset bytes.now result }
@@ -98,21 +81,15 @@ fn put_bytes<D: Device, K: FrameKeeper>(
     offset: u32,
     bytes: &Bytes,
 ) -> Result<(), Refusal>
-    requires stands { (keeps : Bool) × (d : DriverState) × (g : Guest)
-        × Stands keeps (D.mem device.old) (D.part device.old) d g }
+    requires stands { (d : DriverState) × SomeGuest (D.mem device.old) (D.part device.old) d }
     requires none { claims.old.items ≡ [] }
-    ensures writes { (keeps : Bool) (d : DriverState) (g : Guest)
-        → is_used (place_of d.places page) ≡ true
-        → Stands keeps (D.mem device.old) (D.part device.old) d g
-        → StepsOver (Stands keeps (D.mem device.new) (D.part device.new) d) K.answers
-        (supply_of (D.part device.old) (K.out keeper.old))
-        (supply_of (D.part device.new) (K.out keeper.new)) claims.new.items g
+    ensures writes { (d : DriverState) → is_used (place_of d.places page) ≡ true → EachSteps
+        K.answers (moment (D.mem device.old) (D.part device.old) d (K.out keeper.old))
+        (moment (D.mem device.new) (D.part device.new) d (K.out keeper.new)) claims.new.items
         (Call.Write page offset bytes.now) (done_reply result) }
-    ensures scribbles { (keeps : Bool) (d : DriverState) (g : Guest)
-        → Stands keeps (D.mem device.old) (D.part device.old) d g
-        → StepsOver (Stands keeps (D.mem device.new) (D.part device.new) d) K.answers
-        (supply_of (D.part device.old) (K.out keeper.old))
-        (supply_of (D.part device.new) (K.out keeper.new)) claims.new.items g
+    ensures scribbles { (d : DriverState) → EachSteps K.answers
+        (moment (D.mem device.old) (D.part device.old) d (K.out keeper.old))
+        (moment (D.mem device.new) (D.part device.new) d (K.out keeper.new)) claims.new.items
         (Call.Scribble page offset bytes.now) (done_reply result) }
     ensures exact { PutsBy K.answers (supply_of (D.part device.old) (K.out keeper.old))
         (supply_of (D.part device.new) (K.out keeper.new)) (D.mem device.old) (D.mem device.new)
@@ -140,14 +117,11 @@ pub fn write<D: Device, K: FrameKeeper>(
     offset: u32,
     bytes: &Bytes,
 ) -> Result<(), Refusal>
-    requires { (keeps : Bool) × (g : Guest)
-        × Stands keeps (D.mem device.old) (D.part device.old) driver.now g }
-    ensures step { (keeps : Bool) (g : Guest)
-        → Stands keeps (D.mem device.old) (D.part device.old) driver.now g
-        → StepsOver (Stands keeps (D.mem device.new) (D.part device.new) driver.now) K.answers
-        (supply_of (D.part device.old) (K.out keeper.old))
-        (supply_of (D.part device.new) (K.out keeper.new)) claims.new.items g
-        (Call.Write page offset bytes.now) (done_reply result) }
+    requires { SomeGuest (D.mem device.old) (D.part device.old) driver.now }
+    ensures step { EachSteps K.answers
+        (moment (D.mem device.old) (D.part device.old) driver.now (K.out keeper.old))
+        (moment (D.mem device.new) (D.part device.new) driver.now (K.out keeper.new))
+        claims.new.items (Call.Write page offset bytes.now) (done_reply result) }
     ensures refused { is_used (place_of driver.now.places page) ≡ false
         → (result ≡ Err Refusal.NotHeld)
         × IsQuiet (supply_of (D.part device.old) (K.out keeper.old))
@@ -178,13 +152,10 @@ pub fn scribble<D: Device, K: FrameKeeper>(
     offset: u32,
     bytes: &Bytes,
 ) -> Result<(), Refusal>
-    requires { (keeps : Bool) × (d : DriverState) × (g : Guest)
-        × Stands keeps (D.mem device.old) (D.part device.old) d g }
-    ensures step { (keeps : Bool) (d : DriverState) (g : Guest)
-        → Stands keeps (D.mem device.old) (D.part device.old) d g
-        → StepsOver (Stands keeps (D.mem device.new) (D.part device.new) d) K.answers
-        (supply_of (D.part device.old) (K.out keeper.old))
-        (supply_of (D.part device.new) (K.out keeper.new)) claims.new.items g
+    requires { (d : DriverState) × SomeGuest (D.mem device.old) (D.part device.old) d }
+    ensures step { (d : DriverState) → EachSteps K.answers
+        (moment (D.mem device.old) (D.part device.old) d (K.out keeper.old))
+        (moment (D.mem device.new) (D.part device.new) d (K.out keeper.new)) claims.new.items
         (Call.Scribble page offset bytes.now) (done_reply result) }
     ensures exact { PutsBy K.answers (supply_of (D.part device.old) (K.out keeper.old))
         (supply_of (D.part device.new) (K.out keeper.new)) (D.mem device.old) (D.mem device.new)
@@ -214,7 +185,7 @@ fn read_bytes<D: Device>(
     ensures { IfOk result
         (λ bytes. bytes ≡ take len (drop offset (contents_at (D.mem device.now) page))) }
 {
-    // That each page has as many bytes as a page has is known from here on.
+    // Asked for the proof: that each page has `PAGE_SIZE` bytes is a clause of this call alone.
     let _frame = device.backing(page);
     let mut bytes = vec![in alloc; 0; len as usize]?;
     match device.read(page, offset as usize, &mut bytes) {
@@ -234,12 +205,9 @@ pub fn read<D: Device>(
     offset: u32,
     len: u32,
 ) -> Result<Bytes, Refusal>
-    requires { (keeps : Bool) × (g : Guest)
-        × Stands keeps (D.mem device.now) (D.part device.now) driver.now g }
-    ensures step { (keeps : Bool) (g : Guest)
-        → Stands keeps (D.mem device.now) (D.part device.now) driver.now g
-        → StepsAlone (Stands keeps (D.mem device.now) (D.part device.now) driver.now) g
-        (Call.Read page offset len) (bytes_reply result) }
+    requires { SomeGuest (D.mem device.now) (D.part device.now) driver.now }
+    ensures step { EachStepsAlone (D.mem device.now) (D.mem device.now) (D.part device.now)
+        (D.part device.now) driver.now driver.now (Call.Read page offset len) (bytes_reply result) }
     ensures exact { ReadsBy (D.mem device.now) driver.now.places page offset len result }
 {
     if !driver.held(page) {

@@ -1,17 +1,16 @@
 //! Questions about a guest.
 
-ghost use Rattle.std.specs.Prelude.{◌≡◌, ◌≤◌, Bool, ℕ, List, [], ◌∷◌, ◌++◌, length, IfOk, OnOk};
-ghost use Rattle.vb_model.specs.Guest.{Guest};
+ghost use Rattle.std.specs.Prelude.{◌≡◌, ◌≤◌, ℕ, List, [], ◌∷◌, ◌++◌, length, IfOk, OnOk};
 ghost use Rattle.vb_model.specs.Balance.{spare};
 ghost use Rattle.vb_model.specs.Tests.{pages_where};
-ghost use Rattle.vb_model.specs.World.{Answers, is_place, runs};
+ghost use Rattle.vb_model.specs.World.{is_place, runs};
 ghost use Rattle.vb_model.specs.declared.limits.TheConstants.{MAX_GUEST_PAGES};
 ghost use Rattle.vb_model.specs.declared.replies.Reply.TheVariants.{Places};
 ghost use Rattle.vb_ram.specs.Pages.{Pages};
 ghost use Rattle.vb_ram.specs.Part.{Part};
 ghost use Rattle.vb_driver.specs.State.{DriverState};
+ghost use Rattle.vb_guest.specs.Promises.{EachAnswers, OfEach, SomeGuest};
 ghost use Rattle.vb_guest.specs.Replies.{runs_reply, balloon_reply, memory_reply};
-ghost use Rattle.vb_guest.specs.Stands.{Stands};
 
 use bitflags::Flags;
 use std::alloc::{AllocError, Global};
@@ -35,18 +34,16 @@ pub struct BalloonState {
 
 /// How many pages each place has.
 pub fn places(driver: &Driver) -> PlaceCounts
-    ensures { (keeps : Bool) (mem : Pages) (part : Part) (g : Guest)
-        → Stands keeps mem part driver.now g
-        → Answers Query.Places g (Places result) }
+    ensures { (mem : Pages) (part : Part) → EachAnswers mem part driver.now Query.Places
+        (Places result) }
 {
     driver.places()
 }
 
 /// The count of ballooned pages, the configuration's two numbers and the status.
 pub fn balloon<D: Device>(driver: &Driver, device: &D) -> BalloonState
-    ensures { (keeps : Bool) (g : Guest)
-        → Stands keeps (D.mem device.now) (D.part device.now) driver.now g
-        → Answers Query.Balloon g (balloon_reply result) }
+    ensures { EachAnswers (D.mem device.now) (D.part device.now) driver.now Query.Balloon
+        (balloon_reply result) }
 {
     BalloonState {
         ballooned: device.ballooned_count(),
@@ -59,17 +56,16 @@ pub fn balloon<D: Device>(driver: &Driver, device: &D) -> BalloonState
 /// What the last statistics buffer that the device took says of the guest's memory, in bytes
 /// (VIRTIO 1.1, 5.5.6.4).
 pub fn statistics<D: Device>(device: &D) -> Statistics
-    ensures { (keeps : Bool) (d : DriverState) (g : Guest)
-        → Stands keeps (D.mem device.now) (D.part device.now) d g
-        → Answers Query.Memory g (memory_reply result) }
+    ensures { (d : DriverState) → EachAnswers (D.mem device.now) (D.part device.now) d Query.Memory
+        (memory_reply result) }
 {
     device.stats()
 }
 
 /// How many pages the guest has.
 pub fn pages<D: Device>(device: &D) -> u32
-    ensures { (keeps : Bool) (d : DriverState) (g : Guest)
-        → Stands keeps (D.mem device.now) (D.part device.now) d g → result ≡ g.config.pages }
+    ensures { (d : DriverState) → OfEach (D.mem device.now) (D.part device.now) d
+        (λ g. result ≡ g.config.pages) }
 {
     device.pages()
 }
@@ -77,10 +73,9 @@ pub fn pages<D: Device>(device: &D) -> u32
 /// How many pages the guest can spare (profile): those that are ballooned, and those that its last
 /// statistics call free above the floor, in pages; at most all unreserved ones.
 pub fn spare<D: Device>(device: &D, floor: u32) -> u32
-    requires { (keeps : Bool) × (d : DriverState) × (g : Guest)
-        × Stands keeps (D.mem device.now) (D.part device.now) d g }
-    ensures { (keeps : Bool) (d : DriverState) (g : Guest)
-        → Stands keeps (D.mem device.now) (D.part device.now) d g → result ≡ spare floor g }
+    requires { (d : DriverState) × SomeGuest (D.mem device.now) (D.part device.now) d }
+    ensures { (d : DriverState) → OfEach (D.mem device.now) (D.part device.now) d
+        (λ g. result ≡ spare floor g) }
 {
     let free = device.stats().free.unwrap_or(0) / u64::from(PAGE_SIZE);
     let above = free.saturating_sub(u64::from(floor));
@@ -146,9 +141,8 @@ fn ballooned_runs<D: Device>(alloc: Global, device: &D, count: u32) -> Result<Pa
 
 /// Which pages are at a place, as runs by rising page. Want of memory is the only refusal.
 pub fn pages_at(alloc: Global, driver: &Driver, place: Place) -> Result<PageRuns, AllocError>
-    ensures { (keeps : Bool) (mem : Pages) (part : Part) (g : Guest)
-        → Stands keeps mem part driver.now g
-        → Answers (Query.PagesAt place) g (runs_reply result) }
+    ensures { (mem : Pages) (part : Part) → EachAnswers mem part driver.now (Query.PagesAt place)
+        (runs_reply result) }
 {
     runs_at(alloc, driver.places_by_page(), place)
 }
@@ -156,11 +150,9 @@ pub fn pages_at(alloc: Global, driver: &Driver, place: Place) -> Result<PageRuns
 /// Which pages the device holds to be ballooned, as runs by rising page. Want of memory is the only
 /// refusal.
 pub fn pages_ballooned<D: Device>(alloc: Global, device: &D) -> Result<PageRuns, AllocError>
-    requires { (keeps : Bool) × (d : DriverState) × (g : Guest)
-        × Stands keeps (D.mem device.now) (D.part device.now) d g }
-    ensures { (keeps : Bool) (d : DriverState) (g : Guest)
-        → Stands keeps (D.mem device.now) (D.part device.now) d g
-        → Answers Query.PagesBallooned g (runs_reply result) }
+    requires { (d : DriverState) × SomeGuest (D.mem device.now) (D.part device.now) d }
+    ensures { (d : DriverState) → EachAnswers (D.mem device.now) (D.part device.now) d
+        Query.PagesBallooned (runs_reply result) }
 {
     ballooned_runs(alloc, device, device.pages())
 }

@@ -105,7 +105,7 @@ pub fn read_statistics<G: GuestBytes>(ram: &G, pieces: &[Piece]) -> Result<Stati
     ensures total { IfOk result
         (λ said. said.total ≡ (statistics_in (G.mem ram.now) pieces.now).total) }
 {
-    // That memory has fewer than 2^32 pages is known from here on.
+    // Asked for the proof: that memory has fewer than 2^32 pages is a clause of this call alone.
     let _few = ram.pages();
     if has_writable(pieces) {
         return Err(ChainFault::WrongDirection);

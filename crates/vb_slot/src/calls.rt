@@ -1,24 +1,26 @@
 //! The calls on a guest and the questions about it, each with an answer of its own type.
 
-ghost use Rattle.std.specs.Prelude.{◌≡◌, ◌≤◌, ℕ, Bool, None, [], false, length, replicate, true};
+ghost use Rattle.std.specs.Prelude.{◌≡◌, ◌≤◌, Bool, None, [], false, length, replicate, true};
 ghost use Rattle.vb_model.specs.declared.replies.Reply.TheVariants.{Done, Places, Backing};
 ghost use Rattle.vb_model.specs.Balance.{spare};
 ghost use Rattle.vb_model.specs.Guest.{Guest};
 ghost use Rattle.vb_model.specs.Pages.{place_of, is_used};
-ghost use Rattle.vb_model.specs.World.{Answers};
 ghost use Rattle.vb_device.specs.Calls.{TakesBy, WorksBy, FinishesBy, SweepsBy, AsksBy};
 ghost use Rattle.vb_driver.specs.Calls.{AllocatesBy, FreesBy, InflatesBy, DeflatesBy};
 ghost use Rattle.vb_driver.specs.Calls.{DeflatesOnOomBy, ReportsBy, FillsBy, ReapsBy, ResetsBy};
 ghost use Rattle.vb_driver.specs.State.{fresh_driver};
 ghost use Rattle.vb_guest.specs.Exact.{InitialisesBy, IsHandedBack, IsQuiet, IsReset, PutsBy};
 ghost use Rattle.vb_guest.specs.Exact.{ReadsBy};
+ghost use Rattle.vb_guest.specs.Promises.{EachRestarts};
 ghost use Rattle.vb_guest.specs.Replies.{ready_reply, page_reply, done_reply, bytes_reply};
 ghost use Rattle.vb_guest.specs.Replies.{posted_reply, reaped_reply, taken_reply, finished_reply};
 ghost use Rattle.vb_guest.specs.Replies.{worked_reply, swept_reply, runs_reply, balloon_reply};
 ghost use Rattle.vb_guest.specs.Replies.{filled_reply, asked_reply, memory_reply};
-ghost use Rattle.vb_guest.specs.Steps.{AllReturn, AreOut, Restarts, StepsAlone, StepsOver};
-ghost use Rattle.vb_slot.specs.Slots.{stands_for, supply_from, claims_of, is_empty};
+ghost use Rattle.vb_guest.specs.Steps.{AllReturn};
+ghost use Rattle.vb_slot.specs.Slots.{stands_for, supply_from, claims_of, is_empty, moment_of};
 ghost use Rattle.vb_slot.specs.Slots.{memory_of, part_of, driver_of, IsUntouched};
+ghost use Rattle.vb_slot.specs.Slots.{HasGuest, HasGuestOut, OfItsGuest, SlotAnswers, SlotSteps};
+ghost use Rattle.vb_slot.specs.Slots.{SlotStepsAlone};
 
 use crate::slot::{Slot, forget};
 use std::alloc::{AllocError, Global};
@@ -33,8 +35,7 @@ impl Slot {
     /// which is the one that the processor's list or the page areas give by their rule. Refused
     /// with `BadOrder`, `BadCpu` and `NoPages`, tested in this order.
     pub fn alloc(&mut self, cpu: u32, order: u32) -> Result<u32, Refusal>
-        ensures step { (keeps : Bool) (g : Guest) → stands_for keeps mem part self.old g
-            → StepsAlone (stands_for keeps mem part self.new) g (Call.Alloc cpu order)
+        ensures step { SlotStepsAlone mem part self.old self.new (Call.Alloc cpu order)
             (page_reply result) }
         ensures claimed { claims_of self.new ≡ [] }
         ensures exact { AllocatesBy (driver_of self.old) (driver_of self.new) cpu order result }
@@ -47,8 +48,7 @@ impl Slot {
     /// A processor gives a block back that an allocation answered (Gorman, chapter 6). Refused with
     /// `BadOrder`, `BadCpu` and `NotHeld`, tested in this order.
     pub fn free(&mut self, cpu: u32, start: u32, order: u32) -> Result<(), Refusal>
-        ensures step { (keeps : Bool) (g : Guest) → stands_for keeps mem part self.old g
-            → StepsAlone (stands_for keeps mem part self.new) g (Call.Free cpu start order)
+        ensures step { SlotStepsAlone mem part self.old self.new (Call.Free cpu start order)
             (done_reply result) }
         ensures claimed { claims_of self.new ≡ [] }
         ensures exact { FreesBy (driver_of self.old) (driver_of self.new) cpu start order result }
@@ -67,9 +67,8 @@ impl Slot {
         offset: u32,
         len: u32,
     ) -> Result<Bytes, Refusal>
-        requires { (keeps : Bool) × (g : Guest) × stands_for keeps mem part self.old g }
-        ensures step { (keeps : Bool) (g : Guest) → stands_for keeps mem part self.old g
-            → StepsAlone (stands_for keeps mem part self.new) g (Call.Read page offset len)
+        requires { HasGuest mem part self.old }
+        ensures step { SlotStepsAlone mem part self.old self.new (Call.Read page offset len)
             (bytes_reply result) }
         ensures claimed { claims_of self.new ≡ [] }
         ensures exact { ReadsBy (memory_of mem self.old) (driver_of self.old).places
@@ -91,12 +90,9 @@ impl Slot {
         offset: u32,
         bytes: &Bytes,
     ) -> Result<(), Refusal>
-        requires { (keeps : Bool) × (g : Guest) × stands_for keeps mem part self.old g }
-        ensures step { (keeps : Bool) (g : Guest) → stands_for keeps mem part self.old g
-            → StepsOver (stands_for keeps mem part self.new) K.answers
-            (supply_from part self.old (K.out keeper.old))
-            (supply_from part self.new (K.out keeper.new)) (claims_of self.new) g
-            (Call.Write page offset bytes.now) (done_reply result) }
+        requires { HasGuest mem part self.old }
+        ensures step { SlotSteps K.answers mem part self.old (K.out keeper.old) self.new
+            (K.out keeper.new) (Call.Write page offset bytes.now) (done_reply result) }
         ensures refused { is_used (place_of (driver_of self.old).places page) ≡ false
             → (result ≡ Err Refusal.NotHeld)
             × IsQuiet (supply_from part self.old (K.out keeper.old))
@@ -133,12 +129,9 @@ impl Slot {
         offset: u32,
         bytes: &Bytes,
     ) -> Result<(), Refusal>
-        requires { (keeps : Bool) × (g : Guest) × stands_for keeps mem part self.old g }
-        ensures step { (keeps : Bool) (g : Guest) → stands_for keeps mem part self.old g
-            → StepsOver (stands_for keeps mem part self.new) K.answers
-            (supply_from part self.old (K.out keeper.old))
-            (supply_from part self.new (K.out keeper.new)) (claims_of self.new) g
-            (Call.Scribble page offset bytes.now) (done_reply result) }
+        requires { HasGuest mem part self.old }
+        ensures step { SlotSteps K.answers mem part self.old (K.out keeper.old) self.new
+            (K.out keeper.new) (Call.Scribble page offset bytes.now) (done_reply result) }
         ensures exact { PutsBy K.answers (supply_from part self.old (K.out keeper.old))
             (supply_from part self.new (K.out keeper.new))
             (memory_of mem self.old) (memory_of mem self.new)
@@ -160,12 +153,9 @@ impl Slot {
     /// `AlreadyUp`, `NoFrame` or `NoMemory` where a page of rings and buffers gets no frame, then
     /// `FeatureNotOffered` and `VersionMissing`.
     pub fn init<K: FrameKeeper>(&mut self, keeper: &mut K, wanted: u64) -> Result<(), Refusal>
-        requires { (keeps : Bool) × (g : Guest) × stands_for keeps mem part self.old g }
-        ensures step { (keeps : Bool) (g : Guest) → stands_for keeps mem part self.old g
-            → StepsOver (stands_for keeps mem part self.new) K.answers
-            (supply_from part self.old (K.out keeper.old))
-            (supply_from part self.new (K.out keeper.new)) (claims_of self.new) g
-            (Call.Init wanted) (ready_reply result) }
+        requires { HasGuest mem part self.old }
+        ensures step { SlotSteps K.answers mem part self.old (K.out keeper.old) self.new
+            (K.out keeper.new) (Call.Init wanted) (ready_reply result) }
         ensures exact { InitialisesBy K.answers (supply_from part self.old (K.out keeper.old))
             (K.out keeper.new) (memory_of mem self.old) (memory_of mem self.new)
             (part_of part self.old) (part_of part self.new)
@@ -183,8 +173,7 @@ impl Slot {
 
     /// The driver resets the device (VIRTIO 1.1, 2.1).
     pub fn reset(&mut self)
-        ensures step { (keeps : Bool) (g : Guest) → stands_for keeps mem part self.old g
-            → StepsAlone (stands_for keeps mem part self.new) g (Call.Reset) Done }
+        ensures step { SlotStepsAlone mem part self.old self.new (Call.Reset) Done }
         ensures claimed { claims_of self.new ≡ [] }
         ensures exact { ResetsBy (memory_of mem self.old) (memory_of mem self.new)
             (part_of part self.old) (part_of part self.new)
@@ -197,9 +186,8 @@ impl Slot {
     /// The driver offers up to this many pages to the host (VIRTIO 1.1, 5.5.6). Refused with
     /// `NotReady`, `QueueFull` and `Nothing`, tested in this order.
     pub fn inflate(&mut self, pages: u32) -> Result<Posted, Refusal>
-        requires { (keeps : Bool) × (g : Guest) × stands_for keeps mem part self.old g }
-        ensures step { (keeps : Bool) (g : Guest) → stands_for keeps mem part self.old g
-            → StepsAlone (stands_for keeps mem part self.new) g (Call.Inflate pages)
+        requires { HasGuest mem part self.old }
+        ensures step { SlotStepsAlone mem part self.old self.new (Call.Inflate pages)
             (posted_reply result) }
         ensures claimed { claims_of self.new ≡ [] }
         ensures exact { InflatesBy (memory_of mem self.old) (memory_of mem self.new)
@@ -213,9 +201,8 @@ impl Slot {
     /// The driver asks for up to this many pages back, as far as the target allows (VIRTIO 1.1,
     /// 5.5.6). Refused with `NotReady`, `QueueFull` and `Nothing`, tested in this order.
     pub fn deflate(&mut self, pages: u32) -> Result<Posted, Refusal>
-        requires { (keeps : Bool) × (g : Guest) × stands_for keeps mem part self.old g }
-        ensures step { (keeps : Bool) (g : Guest) → stands_for keeps mem part self.old g
-            → StepsAlone (stands_for keeps mem part self.new) g (Call.Deflate pages)
+        requires { HasGuest mem part self.old }
+        ensures step { SlotStepsAlone mem part self.old self.new (Call.Deflate pages)
             (posted_reply result) }
         ensures claimed { claims_of self.new ≡ [] }
         ensures exact { DeflatesBy (memory_of mem self.old) (memory_of mem self.new)
@@ -230,9 +217,8 @@ impl Slot {
     /// DEFLATE_ON_OOM). Refused with `NotReady`, `NoFeature`, `QueueFull` and `Nothing`, tested in
     /// this order.
     pub fn oom(&mut self, pages: u32) -> Result<Posted, Refusal>
-        requires { (keeps : Bool) × (g : Guest) × stands_for keeps mem part self.old g }
-        ensures step { (keeps : Bool) (g : Guest) → stands_for keeps mem part self.old g
-            → StepsAlone (stands_for keeps mem part self.new) g (Call.Oom pages)
+        requires { HasGuest mem part self.old }
+        ensures step { SlotStepsAlone mem part self.old self.new (Call.Oom pages)
             (posted_reply result) }
         ensures claimed { claims_of self.new ≡ [] }
         ensures exact { DeflatesOnOomBy (memory_of mem self.old) (memory_of mem self.new)
@@ -248,9 +234,8 @@ impl Slot {
     /// `NoFeature` without REPORTING, `QueueFull` while a report is out, and `Nothing`, tested in
     /// this order.
     pub fn report(&mut self, from: u32) -> Result<Posted, Refusal>
-        requires { (keeps : Bool) × (g : Guest) × stands_for keeps mem part self.old g }
-        ensures step { (keeps : Bool) (g : Guest) → stands_for keeps mem part self.old g
-            → StepsAlone (stands_for keeps mem part self.new) g (Call.Report from)
+        requires { HasGuest mem part self.old }
+        ensures step { SlotStepsAlone mem part self.old self.new (Call.Report from)
             (posted_reply result) }
         ensures claimed { claims_of self.new ≡ [] }
         ensures exact { ReportsBy (memory_of mem self.old) (memory_of mem self.new)
@@ -266,9 +251,8 @@ impl Slot {
     /// STATS_VQ `NoFeature`, and `RingBroken` where the used ring of a rogue guest says what no
     /// device says, tested in this order: the driver gives up then, by FAILED in the status.
     pub fn stats(&mut self) -> Result<bool, Refusal>
-        requires { (keeps : Bool) × (g : Guest) × stands_for keeps mem part self.old g }
-        ensures step { (keeps : Bool) (g : Guest) → stands_for keeps mem part self.old g
-            → StepsAlone (stands_for keeps mem part self.new) g (Call.Stats)
+        requires { HasGuest mem part self.old }
+        ensures step { SlotStepsAlone mem part self.old self.new (Call.Stats)
             (filled_reply result) }
         ensures claimed { claims_of self.new ≡ [] }
         ensures exact { FillsBy (memory_of mem self.old) (memory_of mem self.new)
@@ -285,9 +269,8 @@ impl Slot {
     /// what no device says, tested in this order: the driver gives up then, by FAILED in the
     /// status.
     pub fn reap(&mut self, queue: u32) -> Result<Option<Reaped>, Refusal>
-        requires { (keeps : Bool) × (g : Guest) × stands_for keeps mem part self.old g }
-        ensures step { (keeps : Bool) (g : Guest) → stands_for keeps mem part self.old g
-            → StepsAlone (stands_for keeps mem part self.new) g (Call.Reap queue)
+        requires { HasGuest mem part self.old }
+        ensures step { SlotStepsAlone mem part self.old self.new (Call.Reap queue)
             (reaped_reply result) }
         ensures claimed { claims_of self.new ≡ [] }
         ensures exact { ReapsBy (memory_of mem self.old) (memory_of mem self.new)
@@ -305,8 +288,7 @@ impl Slot {
     /// are taken, tested in this order; then with `Broken` where the bytes that a rogue guest wrote
     /// break a rule: the device needs a reset then.
     pub fn take(&mut self, queue: u32) -> Result<Option<u16>, Refusal>
-        ensures step { (keeps : Bool) (g : Guest) → stands_for keeps mem part self.old g
-            → StepsAlone (stands_for keeps mem part self.new) g (Call.Take queue)
+        ensures step { SlotStepsAlone mem part self.old self.new (Call.Take queue)
             (taken_reply result) }
         ensures claimed { claims_of self.new ≡ [] }
         ensures exact { TakesBy queue (memory_of mem self.old) (memory_of mem self.new)
@@ -322,13 +304,9 @@ impl Slot {
     /// and whether it had a frame; none where no page is left to visit, and always where the device
     /// is immediate. Refused with `NotReady` and `NeedsReset`, tested in this order.
     pub fn work<K: FrameKeeper>(&mut self, keeper: &mut K) -> Result<Option<Worked>, Refusal>
-        requires { (keeps : Bool) × (g : Guest) × stands_for keeps mem part self.old g
-            × (keeps ≡ false → AreOut g (K.out keeper.old)) }
-        ensures step { (keeps : Bool) (g : Guest) → stands_for keeps mem part self.old g
-            → StepsOver (stands_for keeps mem part self.new) K.answers
-            (supply_from part self.old (K.out keeper.old))
-            (supply_from part self.new (K.out keeper.new)) (claims_of self.new) g
-            (Call.Work) (worked_reply result) }
+        requires { HasGuestOut mem part self.old (K.out keeper.old) }
+        ensures step { SlotSteps K.answers mem part self.old (K.out keeper.old) self.new
+            (K.out keeper.new) (Call.Work) (worked_reply result) }
         ensures exact { IsHandedBack
             (λ after. WorksBy (memory_of mem self.old) (memory_of mem self.new)
             (part_of part self.old) after result) (part_of part self.new) }
@@ -347,13 +325,9 @@ impl Slot {
         queue: u32,
         index: u32,
     ) -> Result<u16, Refusal>
-        requires { (keeps : Bool) × (g : Guest) × stands_for keeps mem part self.old g
-            × (keeps ≡ false → AreOut g (K.out keeper.old)) }
-        ensures step { (keeps : Bool) (g : Guest) → stands_for keeps mem part self.old g
-            → StepsOver (stands_for keeps mem part self.new) K.answers
-            (supply_from part self.old (K.out keeper.old))
-            (supply_from part self.new (K.out keeper.new)) (claims_of self.new) g
-            (Call.Finish queue index) (finished_reply result) }
+        requires { HasGuestOut mem part self.old (K.out keeper.old) }
+        ensures step { SlotSteps K.answers mem part self.old (K.out keeper.old) self.new
+            (K.out keeper.new) (Call.Finish queue index) (finished_reply result) }
         ensures exact { IsHandedBack
             (λ after. FinishesBy queue index (memory_of mem self.old) (memory_of mem self.new)
             (part_of part self.old) after result) (part_of part self.new) }
@@ -366,13 +340,9 @@ impl Slot {
     /// The host discards what it still has of a ballooned page; answers whether it had a frame.
     /// Refused with `NotReady`, `NeedsReset` and `NotBallooned`, tested in this order.
     pub fn sweep<K: FrameKeeper>(&mut self, keeper: &mut K, page: u32) -> Result<bool, Refusal>
-        requires { (keeps : Bool) × (g : Guest) × stands_for keeps mem part self.old g
-            × (keeps ≡ false → AreOut g (K.out keeper.old)) }
-        ensures step { (keeps : Bool) (g : Guest) → stands_for keeps mem part self.old g
-            → StepsOver (stands_for keeps mem part self.new) K.answers
-            (supply_from part self.old (K.out keeper.old))
-            (supply_from part self.new (K.out keeper.new)) (claims_of self.new) g
-            (Call.Sweep page) (swept_reply result) }
+        requires { HasGuestOut mem part self.old (K.out keeper.old) }
+        ensures step { SlotSteps K.answers mem part self.old (K.out keeper.old) self.new
+            (K.out keeper.new) (Call.Sweep page) (swept_reply result) }
         ensures exact { IsHandedBack
             (λ after. SweepsBy page (memory_of mem self.old) (memory_of mem self.new)
             (part_of part self.old) after result) (part_of part self.new) }
@@ -386,10 +356,8 @@ impl Slot {
     /// fills it anew (VIRTIO 1.1, 5.5.6.3). Refused with `NotReady`, `NeedsReset`, and `NotTaken`
     /// where none is taken, tested in this order.
     pub fn ask(&mut self) -> Result<(), Refusal>
-        requires { (keeps : Bool) × (g : Guest) × stands_for keeps mem part self.old g }
-        ensures step { (keeps : Bool) (g : Guest) → stands_for keeps mem part self.old g
-            → StepsAlone (stands_for keeps mem part self.new) g (Call.Ask)
-            (asked_reply result) }
+        requires { HasGuest mem part self.old }
+        ensures step { SlotStepsAlone mem part self.old self.new (Call.Ask) (asked_reply result) }
         ensures claimed { claims_of self.new ≡ [] }
         ensures exact { AsksBy (memory_of mem self.old) (memory_of mem self.new)
             (part_of part self.old) (part_of part self.new) result }
@@ -403,8 +371,7 @@ impl Slot {
     pub fn set_target(&mut self, pages: u32)
         ensures aims { (keeps : Bool) (g : Guest) → stands_for keeps mem part self.old g
             → stands_for keeps mem part self.new (record g { target = pages }) }
-        ensures step { (keeps : Bool) (g : Guest) → stands_for keeps mem part self.old g
-            → StepsAlone (stands_for keeps mem part self.new) g (Call.SetTarget pages) Done }
+        ensures step { SlotStepsAlone mem part self.old self.new (Call.SetTarget pages) Done }
         ensures claimed { claims_of self.new ≡ [] }
         ensures part { part_of part self.new ≡ record (part_of part self.old) { target = pages } }
         ensures mem { memory_of mem self.new ≡ memory_of mem self.old }
@@ -417,12 +384,9 @@ impl Slot {
     /// A new life of the guest begins (profile): the device is reset, every frame of the guest goes
     /// back to where it came from, and all unreserved pages are free. The target stays.
     pub fn restart<K: FrameKeeper>(&mut self, keeper: &mut K)
-        requires { (keeps : Bool) × (g : Guest) × stands_for keeps mem part self.old g
-            × (keeps ≡ false → AreOut g (K.out keeper.old)) }
-        ensures life { (keeps : Bool) (g : Guest) → stands_for keeps mem part self.old g
-            → Restarts (stands_for keeps mem part self.new)
-            (supply_from part self.old (K.out keeper.old))
-            (supply_from part self.new (K.out keeper.new)) g }
+        requires { HasGuestOut mem part self.old (K.out keeper.old) }
+        ensures life { EachRestarts (moment_of mem part self.old (K.out keeper.old))
+            (moment_of mem part self.new (K.out keeper.new)) }
         ensures claimed { claims_of self.new ≡ [] }
         ensures mem { memory_of mem self.new
             ≡ replicate (length (memory_of mem self.old)) None }
@@ -439,12 +403,11 @@ impl Slot {
     /// before it is dropped: a frame of the keeper's that a dropped slot still has never comes
     /// back, and the device, with the frames of its own, goes with the slot.
     pub fn empty<K: FrameKeeper>(&mut self, keeper: &mut K)
-        requires { (keeps : Bool) × (g : Guest) × stands_for keeps mem part self.old g
-            × (keeps ≡ false → AreOut g (K.out keeper.old)) }
+        requires { HasGuestOut mem part self.old (K.out keeper.old) }
         ensures empty { is_empty mem part self.new }
-        ensures returned { (keeps : Bool) (g : Guest) → stands_for keeps mem part self.old g
-            → AllReturn (supply_from part self.old (K.out keeper.old))
-            (supply_from part self.new (K.out keeper.new)) g }
+        ensures returned { OfItsGuest mem part self.old
+            (λ g. AllReturn (supply_from part self.old (K.out keeper.old))
+            (supply_from part self.new (K.out keeper.new)) g) }
         ensures claimed { claims_of self.new ≡ [] }
         ensures mem { memory_of mem self.new
             ≡ replicate (length (memory_of mem self.old)) None }
@@ -456,8 +419,7 @@ impl Slot {
 
     /// How many pages the guest has.
     pub fn pages(&self) -> u32
-        ensures { (keeps : Bool) (g : Guest) → stands_for keeps mem part self.now g
-            → result ≡ g.config.pages }
+        ensures { OfItsGuest mem part self.now (λ g. result ≡ g.config.pages) }
     {
         vb_guest::pages(&self.device)
     }
@@ -465,9 +427,8 @@ impl Slot {
     /// How many pages the guest can spare (profile): those that are ballooned, and those that its
     /// last statistics call free above the floor, in pages; at most all unreserved ones.
     pub fn spare(&self, floor: u32) -> u32
-        requires { (keeps : Bool) × (g : Guest) × stands_for keeps mem part self.now g }
-        ensures { (keeps : Bool) (g : Guest) → stands_for keeps mem part self.now g
-            → result ≡ spare floor g }
+        requires { HasGuest mem part self.now }
+        ensures { OfItsGuest mem part self.now (λ g. result ≡ spare floor g) }
     {
         vb_guest::spare(&self.device, floor)
     }
@@ -483,16 +444,14 @@ impl Slot {
 
     /// How many pages each place has.
     pub fn places(&self) -> PlaceCounts
-        ensures answer { (keeps : Bool) (g : Guest) → stands_for keeps mem part self.now g
-            → Answers (Query.Places) g (Places result) }
+        ensures answer { SlotAnswers mem part self.now (Query.Places) (Places result) }
     {
         vb_guest::places(&self.driver)
     }
 
     /// Which pages are at a place, as runs by rising page. Want of memory is the only refusal.
     pub fn pages_at(&self, alloc: Global, place: Place) -> Result<PageRuns, AllocError>
-        ensures answer { (keeps : Bool) (g : Guest) → stands_for keeps mem part self.now g
-            → Answers (Query.PagesAt place) g (runs_reply result) }
+        ensures answer { SlotAnswers mem part self.now (Query.PagesAt place) (runs_reply result) }
     {
         vb_guest::pages_at(alloc, &self.driver, place)
     }
@@ -500,9 +459,8 @@ impl Slot {
     /// Which pages the device holds to be ballooned, as runs by rising page. Want of memory is the
     /// only refusal.
     pub fn pages_ballooned(&self, alloc: Global) -> Result<PageRuns, AllocError>
-        requires { (keeps : Bool) × (g : Guest) × stands_for keeps mem part self.now g }
-        ensures answer { (keeps : Bool) (g : Guest) → stands_for keeps mem part self.now g
-            → Answers (Query.PagesBallooned) g (runs_reply result) }
+        requires { HasGuest mem part self.now }
+        ensures answer { SlotAnswers mem part self.now (Query.PagesBallooned) (runs_reply result) }
     {
         vb_guest::pages_ballooned(alloc, &self.device)
     }
@@ -510,8 +468,7 @@ impl Slot {
     /// The count of ballooned pages, the configuration's two numbers (VIRTIO 1.1, 5.5.4) and the
     /// status.
     pub fn balloon(&self) -> BalloonState
-        ensures answer { (keeps : Bool) (g : Guest) → stands_for keeps mem part self.now g
-            → Answers (Query.Balloon) g (balloon_reply result) }
+        ensures answer { SlotAnswers mem part self.now (Query.Balloon) (balloon_reply result) }
     {
         vb_guest::balloon(&self.driver, &self.device)
     }
@@ -519,16 +476,14 @@ impl Slot {
     /// What the last buffer of statistics that the device read said, in bytes (VIRTIO 1.1,
     /// 5.5.6.4).
     pub fn memory(&self) -> Statistics
-        ensures answer { (keeps : Bool) (g : Guest) → stands_for keeps mem part self.now g
-            → Answers (Query.Memory) g (memory_reply result) }
+        ensures answer { SlotAnswers mem part self.now (Query.Memory) (memory_reply result) }
     {
         vb_guest::statistics(&self.device)
     }
 
     /// The number of the frame behind a page; none where it has none, or isn't there.
     pub fn backing(&self, page: u32) -> Option<u32>
-        ensures answer { (keeps : Bool) (g : Guest) → stands_for keeps mem part self.now g
-            → Answers (Query.Backing page) g (Backing result) }
+        ensures answer { SlotAnswers mem part self.now (Query.Backing page) (Backing result) }
     {
         self.device.backing(page)
     }

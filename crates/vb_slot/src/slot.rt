@@ -1,11 +1,9 @@
 //! A guest behind one type: how it is made, and its calls and questions told apart by their names.
 
-ghost use Rattle.std.specs.Prelude.{◌≡◌, ℕ, Bool, true, false, []};
-ghost use Rattle.vb_model.specs.Guest.{Guest};
-ghost use Rattle.vb_model.specs.World.{Answers};
+ghost use Rattle.std.specs.Prelude.{◌≡◌, true, []};
 ghost use Rattle.vb_guest.specs.Dispatch.{CallsBy};
-ghost use Rattle.vb_slot.specs.Slots.{stands_for, supply_from, claims_of, moment_of};
-ghost use Rattle.vb_guest.specs.Steps.{AreOut, StepsOver};
+ghost use Rattle.vb_slot.specs.Slots.{stands_for, claims_of, moment_of, HasGuest, HasGuestOut};
+ghost use Rattle.vb_slot.specs.Slots.{SlotAnswers, SlotSteps};
 
 use crate::boxed::BoxedDevice;
 use crate::new::NoSlot;
@@ -39,12 +37,9 @@ impl Slot {
     /// Answers a call on the guest. Frames that its pages gain are claimed from its device, where
     /// that keeps frames of its own, else from the keeper, and those that they lose go back there.
     pub fn call<K: FrameKeeper>(&mut self, alloc: Global, keeper: &mut K, call: &Call) -> Reply
-        requires stands { (keeps : Bool) × (g : Guest) × stands_for keeps mem part self.old g
-            × (keeps ≡ false → AreOut g (K.out keeper.old)) }
-        ensures step { (keeps : Bool) (g : Guest) → stands_for keeps mem part self.old g
-            → StepsOver (stands_for keeps mem part self.new) K.answers
-            (supply_from part self.old (K.out keeper.old))
-            (supply_from part self.new (K.out keeper.new)) (claims_of self.new) g call.now result }
+        requires stands { HasGuestOut mem part self.old (K.out keeper.old) }
+        ensures step { SlotSteps K.answers mem part self.old (K.out keeper.old) self.new
+            (K.out keeper.new) call.now result }
         ensures exact { CallsBy K.answers (moment_of mem part self.old (K.out keeper.old))
             (moment_of mem part self.new (K.out keeper.new)) (claims_of self.new) call.now result }
     {
@@ -60,9 +55,8 @@ impl Slot {
 
     /// Answers a question about the guest.
     pub fn query(&self, alloc: Global, query: &Query) -> Reply
-        requires stands { (keeps : Bool) × (g : Guest) × stands_for keeps mem part self.now g }
-        ensures answer { (keeps : Bool) (g : Guest) → stands_for keeps mem part self.now g
-            → Answers query.now g result }
+        requires stands { HasGuest mem part self.now }
+        ensures answer { SlotAnswers mem part self.now query.now result }
     {
         vb_guest::query(alloc, &self.driver, &self.device, query)
     }

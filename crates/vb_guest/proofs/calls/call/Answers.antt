@@ -15,7 +15,7 @@ returns-in-Alloc g c =
     record {
       step = λ keeps guest stands. rw (c.clear.ensures, c.in-Alloc.is, c.page_reply.ensures)
           (steps_quiet keeps _ _ _ _ _ _ guest g.K.FrameKeeper.answers _ _ _ stands
-          (c.alloc.ensures.step keeps _ _ guest stands));
+          (c.alloc.ensures.step _ _ keeps guest stands));
       exact = rw (c.in-Alloc.is) (c.alloc.result, c.page_reply.ensures, c.alloc.ensures.exact, (refl, refl));
     }
 
@@ -24,7 +24,7 @@ returns-in-Free g c =
     record {
       step = λ keeps guest stands. rw (c.clear.ensures, c.in-Free.is, c.done_reply.ensures)
           (steps_quiet keeps _ _ _ _ _ _ guest g.K.FrameKeeper.answers _ _ _ stands
-          (c.free.ensures.step keeps _ _ guest stands));
+          (c.free.ensures.step _ _ keeps guest stands));
       exact = rw (c.in-Free.is) (c.free.result, c.done_reply.ensures, c.free.ensures.exact, (refl, refl));
     }
 
@@ -86,7 +86,7 @@ returns-in-Take g c =
     record {
       step = λ keeps guest stands. rw (c.clear.ensures, c.in-Take.is, c.taken_reply.ensures)
           (steps_quiet keeps _ _ _ _ _ _ guest g.K.FrameKeeper.answers _ _ _ stands
-          (c.take.ensures.step keeps _ guest stands));
+          (c.take.ensures.step _ keeps guest stands));
       exact = rw (c.in-Take.is) (c.take.result, c.taken_reply.ensures, c.take.ensures.exact, refl);
     }
 
@@ -94,7 +94,7 @@ pub returns-in-Work : goal.returns-in-Work
 returns-in-Work g c =
     record {
       step = λ keeps guest stands. rw (c.clear.ensures, c.in-Work.is, c.worked_reply.ensures)
-          (c.work.ensures.step keeps _ guest stands);
+          (c.work.ensures.step _ keeps guest stands);
       exact = rw (c.in-Work.is) (c.work.result, c.worked_reply.ensures, c.work.ensures.exact, refl);
     }
 
@@ -102,7 +102,7 @@ pub returns-in-Finish : goal.returns-in-Finish
 returns-in-Finish g c =
     record {
       step = λ keeps guest stands. rw (c.clear.ensures, c.in-Finish.is, c.finished_reply.ensures)
-          (c.finish.ensures.step keeps _ guest stands);
+          (c.finish.ensures.step _ keeps guest stands);
       exact = rw (c.in-Finish.is) (c.finish.result, c.finished_reply.ensures, c.finish.ensures.exact, refl);
     }
 
@@ -110,7 +110,7 @@ pub returns-in-Sweep : goal.returns-in-Sweep
 returns-in-Sweep g c =
     record {
       step = λ keeps guest stands. rw (c.clear.ensures, c.in-Sweep.is, c.swept_reply.ensures)
-          (c.sweep.ensures.step keeps _ guest stands);
+          (c.sweep.ensures.step _ keeps guest stands);
       exact = rw (c.in-Sweep.is) (c.sweep.result, c.swept_reply.ensures, c.sweep.ensures.exact, refl);
     }
 
@@ -119,7 +119,7 @@ returns-in-SetTarget g c =
     record {
       step = λ keeps guest stands. rw (c.clear.ensures, c.in-SetTarget.is)
           (steps_quiet keeps _ _ _ _ _ _ guest g.K.FrameKeeper.answers _ _ _ stands
-          (c.set_target.ensures.step keeps _ guest stands));
+          (c.set_target.ensures.step _ keeps guest stands));
       exact = rw (c.in-SetTarget.is) (refl, c.set_target.ensures.mem, c.set_target.ensures.part, refl);
     }
 
@@ -156,6 +156,6 @@ returns-in-Ask g c =
     record {
       step = λ keeps guest stands. rw (c.clear.ensures, c.in-Ask.is, c.asked_reply.ensures)
           (steps_quiet keeps _ _ _ _ _ _ guest g.K.FrameKeeper.answers _ _ _ stands
-          (c.ask.ensures.step keeps _ guest stands));
+          (c.ask.ensures.step _ keeps guest stands));
       exact = rw (c.in-Ask.is) (c.ask.result, c.asked_reply.ensures, c.ask.ensures.exact, refl);
     }

@@ -2,18 +2,18 @@ use Rattle.vb_guest.proofs.calls.query.Goals as goal
 
 pub returns-in-Places : goal.returns-in-Places
 returns-in-Places g c =
-    record { answer = λ keeps guest stands. rw c.in-Places.is (c.places.ensures keeps _ _ guest stands) }
+    record { answer = λ keeps guest stands. rw c.in-Places.is (c.places.ensures _ _ keeps guest stands) }
 
 pub returns-in-PagesBallooned : goal.returns-in-PagesBallooned
 returns-in-PagesBallooned g c = record {
   answer = λ keeps guest stands. rw (c.in-PagesBallooned.is, c.runs_reply-in-PagesBallooned.ensures)
-      (c.pages_ballooned.ensures keeps _ guest stands);
+      (c.pages_ballooned.ensures _ keeps guest stands);
 }
 
 pub returns-in-PagesAt : goal.returns-in-PagesAt
 returns-in-PagesAt g c = record {
   answer = λ keeps guest stands. rw (c.in-PagesAt.is, c.runs_reply.ensures)
-      (c.pages_at.ensures keeps _ _ guest stands);
+      (c.pages_at.ensures _ _ keeps guest stands);
 }
 
 pub returns-in-Balloon : goal.returns-in-Balloon
@@ -25,5 +25,5 @@ returns-in-Balloon g c = record {
 pub returns-in-Memory : goal.returns-in-Memory
 returns-in-Memory g c = record {
   answer = λ keeps guest stands. rw (c.in-Memory.is, c.memory_reply.ensures)
-      (c.statistics.ensures keeps _ guest stands);
+      (c.statistics.ensures _ keeps guest stands);
 }

@@ -9,7 +9,7 @@ use Rattle.vb_guest.proofs.device.finish.Goals as goal
 
 pub finish-answer-requires : goal.finish-answer-requires
 finish-answer-requires g c =
-    let (keeps, d, guest, stands, held) = c.requires in
+    let (d, (keeps, guest, stands, held)) = c.requires in
     record {
       backed = has_ring keeps _ _ d guest c.args.queue stands;
       none = none_loose keeps _ _ d guest stands;
@@ -17,7 +17,7 @@ finish-answer-requires g c =
 
 pub return_loose-requires : goal.return_loose-requires
 return_loose-requires g c =
-    let (keeps, d, guest, stands, held) = c.requires in
+    let (d, (keeps, guest, stands, held)) = c.requires in
     let did = c.finish-answer.ensures in
     let same = finish_kept _ _ _ _ _ _ _ did in
     record {
@@ -29,7 +29,7 @@ return_loose-requires g c =
     }
 
 pub returns-clause-step : goal.returns-clause-step
-returns-clause-step g c = λ keeps d guest stands.
+returns-clause-step g c = λ d keeps guest stands.
     let did = c.finish-answer.ensures in
     let same = finish_kept _ _ _ _ _ _ _ did in
     let back = c.return_loose.ensures in

@@ -18,7 +18,7 @@ returns g c =
           (by_guest keeps _ _ d guest stands
           (λ honest. honest_is _ _ d _ (target_stands _ _ _ _ d guest _ memory part honest))
           (λ rogue. rogue_is _ _ d _ (rogue_changed _ _ _ _ d guest _ _ memory part rogue)));
-      step = λ keeps d guest stands.
+      step = λ d keeps guest stands.
           alone_stands keeps _ _ _ _ d d guest _ _ stands flag numbers
           (λ honest. target_step _ _ _ _ d guest _ memory part honest)
           (λ rogue. target_rogue _ _ _ _ d guest _ memory part rogue);

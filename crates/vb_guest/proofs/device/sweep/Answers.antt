@@ -8,12 +8,12 @@ use Rattle.vb_guest.proofs.device.sweep.Goals as goal
 
 pub sweep-answer-requires : goal.sweep-answer-requires
 sweep-answer-requires g c =
-    let (keeps, d, guest, stands, held) = c.requires in
+    let (d, (keeps, guest, stands, held)) = c.requires in
     none_loose keeps _ _ d guest stands
 
 pub return_loose-requires : goal.return_loose-requires
 return_loose-requires g c =
-    let (keeps, d, guest, stands, held) = c.requires in
+    let (d, (keeps, guest, stands, held)) = c.requires in
     let did = c.sweep-answer.ensures in
     let same = sweep_kept _ _ _ _ _ _ did in
     record {
@@ -25,7 +25,7 @@ return_loose-requires g c =
     }
 
 pub returns-clause-step : goal.returns-clause-step
-returns-clause-step g c = λ keeps d guest stands.
+returns-clause-step g c = λ d keeps guest stands.
     let did = c.sweep-answer.ensures in
     let same = sweep_kept _ _ _ _ _ _ did in
     let back = c.return_loose.ensures in

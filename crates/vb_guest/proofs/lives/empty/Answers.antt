@@ -5,7 +5,7 @@ use Rattle.vb_guest.proofs.lives.empty.Goals as goal
 
 pub take_all_back-requires-clause-out : goal.take_all_back-requires-clause-out
 take_all_back-requires-clause-out g c =
-    let (keeps, d, guest, stands, held) = c.requires in
+    let (d, (keeps, guest, stands, held)) = c.requires in
     all_loose keeps _ _ d guest _ stands held
 
 pub returns-clause-bare : goal.returns-clause-bare
@@ -14,5 +14,5 @@ returns-clause-bare g c =
     (ap (λ (p : Part). p.loose) c.take_all_back.ensures.part)
 
 pub returns-clause-returned : goal.returns-clause-returned
-returns-clause-returned g c = λ keeps d guest stands.
+returns-clause-returned g c = λ d keeps guest stands.
     all_returned keeps _ _ d guest _ _ stands c.take_all_back.ensures.moves

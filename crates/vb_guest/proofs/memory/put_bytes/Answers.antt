@@ -1,11 +1,13 @@
+use Rattle.std.specs.Prelude.{◌≡◌, ◌<◌, None}
 use Rattle.std.proofs.Common.{◌∙◌, ap, length, Ok, Err, refl}
 use Rattle.vb_model.specs.declared.replies.Refusal.TheVariants.{OutOfRam as Outside}
 use Rattle.vb_model.specs.declared.replies.Reply.TheVariants.{Done, Refused}
-use Rattle.vb_ram.specs.Pages.{Pages, frame_at}
+use Rattle.vb_ram.specs.Pages.{Pages, frame_at, Covers}
 use Rattle.vb_ram.specs.declared.fault.RamFault.TheVariants.{OutOfRam}
 use Rattle.vb_ram.specs.Part.{Part}
 use Rattle.vb_guest.specs.Supply.{supply_of}
 use Rattle.vb_guest.proofs.Exactly.{puts_outside, puts_there, puts_bare}
+use Rattle.vb_guest.proofs.Filling.{bare_written, bare_scribbled}
 use Rattle.vb_guest.proofs.Kept.{as_it_was}
 use Rattle.vb_guest.proofs.RogueMemory.{write_done_rogue, write_outside_rogue, scribble_alone}
 use Rattle.vb_guest.proofs.RogueMemory.{scribble_outside}
@@ -18,7 +20,7 @@ returns-in-Ok g c =
     let did = c.in-Ok.ensures in
     let same = as_it_was _ _ did.part in
     record {
-      writes = λ keeps d guest used stands. rw (c.requires.none, ← c.as_slice.ensures)
+      writes = λ d used keeps guest stands. rw (c.requires.none, ← c.as_slice.ensures)
           (steps_quiet keeps _ _ _ _ _ _ guest g.K.FrameKeeper.answers _ _ _ stands
           (alone_stands keeps _ _ _ _ d d guest _ _ stands same.flag same.numbers
           (λ honest. write_backed _ _ _ _ d guest _ _ _ used honest did.covers
@@ -27,7 +29,7 @@ returns-in-Ok g c =
           (λ rogue. write_done_rogue _ _ _ _ d guest _ _ _
           (λ some bare. (let wrong = did.needs_frame did.covers some bare in cc)) did.bytes did.part
           rogue)));
-      scribbles = λ keeps d guest stands. rw (c.requires.none, ← c.as_slice.ensures)
+      scribbles = λ d keeps guest stands. rw (c.requires.none, ← c.as_slice.ensures)
           (steps_quiet keeps _ _ _ _ _ _ guest g.K.FrameKeeper.answers _ _ _ stands
           (scribble_alone keeps _ _ _ _ d guest _ _ _ stands did.covers
           (λ some bare. (let wrong = did.needs_frame did.covers some bare in cc)) did.bytes
@@ -46,9 +48,7 @@ put_fresh-requires g c =
     let here = c.in-Err-NeedsFrame.ensures in
     let found = needs_frame _ _ _ _ c.write.result did.answers did.out_of_ram did.empty
     (c.in-Err-NeedsFrame.is ∙ ap Err c.in-Err-NeedsFrame.field-0-is) in
-    let (keeps, d, guest, stands) = c.requires.stands in
     record {
-      stands = (keeps, d, guest, stands_as keeps _ _ _ _ d guest here.unwritten did.part stands);
       covers = rw (here.unwritten, ← c.as_slice.ensures) found.0;
       some = rw (← c.as_slice.ensures) found.1;
       bare = rw here.unwritten found.2;
@@ -60,15 +60,21 @@ returns-in-Err-NeedsFrame g c =
     let did = c.write.ensures in
     let found = needs_frame _ _ _ _ c.write.result did.answers did.out_of_ram did.empty
     (c.in-Err-NeedsFrame.is ∙ ap Err c.in-Err-NeedsFrame.field-0-is) in
+    let memory = c.in-Err-NeedsFrame.ensures.unwritten in
+    let covers : Covers (g.D.GuestBytes.mem c.write.new.self) c.args.page c.args.offset
+    (length c.args.bytes.now) = rw (memory, ← c.as_slice.ensures) found.0 in
+    let some : 0 < length c.args.bytes.now = rw (← c.as_slice.ensures) found.1 in
+    let bare : frame_at (g.D.GuestBytes.mem c.write.new.self) c.args.page ≡ None =
+    rw memory found.2 in
     record {
-      writes = λ keeps d guest used stands. rw (← c.write.ensures.part)
-          (c.put_fresh.ensures.writes keeps d guest used
-          (stands_as keeps _ _ _ _ d guest c.in-Err-NeedsFrame.ensures.unwritten c.write.ensures.part
-          stands));
-      scribbles = λ keeps d guest stands. rw (← c.write.ensures.part)
-          (c.put_fresh.ensures.scribbles keeps d guest
-          (stands_as keeps _ _ _ _ d guest c.in-Err-NeedsFrame.ensures.unwritten c.write.ensures.part
-          stands));
+      writes = λ d used keeps guest stands. rw (← c.write.ensures.part)
+          (bare_written keeps g.K.FrameKeeper.answers _ _ _ _ _ _ d guest _ _ _ _ _ used
+          (stands_as keeps _ _ _ _ d guest memory c.write.ensures.part stands) covers some bare
+          c.put_fresh.ensures.exact);
+      scribbles = λ d keeps guest stands. rw (← c.write.ensures.part)
+          (bare_scribbled keeps g.K.FrameKeeper.answers _ _ _ _ _ _ d guest _ _ _ _ _
+          (stands_as keeps _ _ _ _ d guest memory c.write.ensures.part stands) covers some bare
+          c.put_fresh.ensures.exact);
       exact = puts_bare g.K.FrameKeeper.answers _ _ _ _ _ _ _ _ _ _ _ _ _
           (rw (← c.as_slice.ensures) found.0) (rw (← c.as_slice.ensures) found.1) found.2
           c.in-Err-NeedsFrame.ensures.unwritten did.part c.put_fresh.ensures.exact;
@@ -82,13 +88,13 @@ returns-in-Err-OutOfRam g c =
     let outside = not_covered _ _ _ _ c.write.result OutOfRam did.answers did.needs_frame did.empty
     (c.in-Err-OutOfRam.is ∙ ap Err c.in-Err-OutOfRam.field-0-is) (λ e. cc) in
     record {
-      writes = λ keeps d guest used stands. rw (c.requires.none, ← c.as_slice.ensures)
+      writes = λ d used keeps guest stands. rw (c.requires.none, ← c.as_slice.ensures)
           (steps_quiet keeps _ _ _ _ _ _ guest g.K.FrameKeeper.answers _ _ _ stands
           (alone_stands keeps _ _ _ _ d d guest _ _ stands same.flag same.numbers
           (λ honest. write_outside _ _ _ _ d guest _ _ _ used honest here.unwritten did.part outside)
           (λ rogue. write_outside_rogue _ _ _ _ d guest _ _ _ used here.unwritten did.part outside
           rogue)));
-      scribbles = λ keeps d guest stands. rw (c.requires.none, ← c.as_slice.ensures)
+      scribbles = λ d keeps guest stands. rw (c.requires.none, ← c.as_slice.ensures)
           (steps_quiet keeps _ _ _ _ _ _ guest g.K.FrameKeeper.answers _ _ _ stands
           (scribble_outside keeps _ _ _ _ d guest _ _ _ stands here.unwritten did.part outside));
       exact = rw (← c.as_slice.ensures)

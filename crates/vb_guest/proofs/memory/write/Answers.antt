@@ -17,12 +17,11 @@ returns-then-not-held g c = record {
 
 pub put_bytes-requires-clause-stands : goal.put_bytes-requires-clause-stands
 put_bytes-requires-clause-stands g c =
-    let (keeps, guest, stands) = c.requires in (keeps, _, guest, stands)
+    (_, c.requires)
 
 pub returns : goal.returns
 returns g c = record {
-  step = λ keeps guest stands.
-      c.put_bytes.ensures.writes keeps _ guest (sym c.if-not-held.ensures) stands;
+  step = c.put_bytes.ensures.writes _ (sym c.if-not-held.ensures);
   refused = λ unused. (let used = sym c.if-not-held.ensures in cc);
   exact = λ _. c.put_bytes.ensures.exact;
 }

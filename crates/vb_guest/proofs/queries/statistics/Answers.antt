@@ -3,7 +3,7 @@ use Rattle.vb_guest.proofs.Standing.{by_guest}
 use Rattle.vb_guest.proofs.queries.statistics.Goals as goal
 
 pub returns : goal.returns
-returns g c = λ keeps d guest stands.
+returns g c = λ d keeps guest stands.
     let last = by_guest keeps _ _ d guest stands (λ honest. honest.ties.parts.device.last)
     (λ rogue. rogue.last) in
     rw (c.stats.ensures.free, c.stats.ensures.total, last) refl

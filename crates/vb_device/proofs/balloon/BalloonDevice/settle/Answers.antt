@@ -4,7 +4,7 @@ use Rattle.vb_device.specs.State.{DeviceState}
 use Rattle.vb_device.specs.Base.{with_pace}
 use Rattle.vb_device.specs.BaseCalls.{TakesOut, SettlesBy}
 use Rattle.vb_device.proofs.Marks.{after-length}
-use Rattle.vb_device.proofs.Over.{over, settles_err, settles_ok}
+use Rattle.vb_device.proofs.Ballooning.{over, settles_err, settles_ok}
 use Rattle.vb_device.proofs.balloon.BalloonDevice.settle.Goals as goal
 
 pub invariant_of-self : goal.invariant_of-self

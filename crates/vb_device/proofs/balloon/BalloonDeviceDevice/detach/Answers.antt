@@ -1,7 +1,7 @@
 use Rattle.std.proofs.Common.{subst}
 use Rattle.vb_device.specs.State.{DeviceState}
 use Rattle.vb_device.specs.Calls.{DetachesBy}
-use Rattle.vb_device.proofs.Over.{over, detaches_over}
+use Rattle.vb_device.proofs.Ballooning.{over, detaches_over}
 use Rattle.vb_device.proofs.balloon.BalloonDeviceDevice.detach.Goals as goal
 
 pub returns : goal.returns

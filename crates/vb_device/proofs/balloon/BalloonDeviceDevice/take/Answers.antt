@@ -1,7 +1,7 @@
 use Rattle.std.proofs.Common.{subst}
 use Rattle.vb_device.specs.State.{DeviceState}
 use Rattle.vb_device.specs.Calls.{TakesBy}
-use Rattle.vb_device.proofs.Over.{over, takes_over}
+use Rattle.vb_device.proofs.Ballooning.{over, takes_over}
 use Rattle.vb_device.proofs.balloon.BalloonDeviceDevice.take.Goals as goal
 
 pub returns : goal.returns

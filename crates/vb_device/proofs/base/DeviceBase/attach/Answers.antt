@@ -7,7 +7,7 @@ use Rattle.vb_device.specs.State.{DeviceState}
 use Rattle.std.specs.Prelude.{length}
 use Rattle.vb_ram.proofs.Limits.{config_limits}
 use Rattle.vb_status.specs.Bits.{status_bits}
-use Rattle.vb_device.proofs.Four.{base_started}
+use Rattle.vb_device.proofs.FourQueues.{base_started}
 use Rattle.vb_device.proofs.Sizes.{size_is_power}
 use Rattle.vb_device.proofs.base.DeviceBase.attach.Goals as goal
 

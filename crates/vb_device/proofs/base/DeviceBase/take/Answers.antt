@@ -7,10 +7,10 @@ use Rattle.vb_status.specs.Bits.{status_bits, feature_bits}
 use Rattle.vb_request.specs.declared.statistics.Statistics.{Statistics}
 use Rattle.vb_device.specs.State.{DeviceState}
 use Rattle.vb_device.specs.QueueState.{QueueState, TakesNext}
-use Rattle.vb_device.specs.Base.{queue_at, place_of, base_part, IsBase}
+use Rattle.vb_device.specs.Base.{queue_at, index_of, base_part, IsBase}
 use Rattle.vb_device.specs.BaseCalls.{take_refusal_by}
 use Rattle.vb_device.specs.Calls.{TakesBy}
-use Rattle.vb_device.proofs.Four.{entry_is}
+use Rattle.vb_device.proofs.FourQueues.{entry_is}
 use Rattle.vb_device.proofs.FromNext.{keeps_ring}
 use Rattle.vb_device.proofs.TakesBy.{takes_refused, takes_at, base_kept, take_known, take_ready}
 use Rattle.vb_device.proofs.TakesBy.{status_ok}
@@ -31,10 +31,10 @@ invariant_of-self c =
     let known : has_chains c.args.queue ≡ true =
     take_known c.args.queue (status_bits c.self.inside.status) (feature_bits c.self.inside.features)
     open_tests in
-    let entry : get_or c.self.inside.queues c.place_of-place.result c.index-self-place.result ≡
+    let entry : get_or c.self.inside.queues c.index_of-place.result c.index-self-place.result ≡
     queue_at c.args.queue c.self.inside.queues =
     ap (λ (i : ℕ). get_or c.self.inside.queues i c.index-self-place.result)
-    c.place_of-place.ensures.place ∙
+    c.index_of-place.ensures.place ∙
     entry_is c.args.queue c.self.inside.queues c.index-self-place.result c.self.invariant.four known
     in
     let takes : TakesNext c.args.queue c.self.inside.ram
@@ -46,7 +46,7 @@ invariant_of-self c =
     subst (λ (i : ℕ). IsBase c.self.inside.ram (status_bits c.note_fault.new.status)
     c.self.inside.queue_size (set c.self.inside.queues i c.take-taken.new.self)
     (vec_capacity c.self.inside.loose))
-    (sym c.place_of-place.ensures.place)
+    (sym c.index_of-place.ensures.place)
     (base_kept c.args.queue c.self.inside.ram (status_bits c.self.inside.status)
     (status_bits c.note_fault.new.status) c.self.inside.queue_size _ c.self.inside.queues
     c.take-taken.new.self c.self.invariant known
@@ -64,10 +64,10 @@ returns c =
     let known : has_chains c.args.queue ≡ true =
     take_known c.args.queue (status_bits c.self.inside.status) (feature_bits c.self.inside.features)
     open_tests in
-    let entry : get_or c.self.inside.queues c.place_of-place.result c.index-self-place.result ≡
+    let entry : get_or c.self.inside.queues c.index_of-place.result c.index-self-place.result ≡
     queue_at c.args.queue c.self.inside.queues =
     ap (λ (i : ℕ). get_or c.self.inside.queues i c.index-self-place.result)
-    c.place_of-place.ensures.place ∙
+    c.index_of-place.ensures.place ∙
     entry_is c.args.queue c.self.inside.queues c.index-self-place.result c.self.invariant.four known
     in
     let takes : TakesNext c.args.queue c.self.inside.ram
@@ -79,7 +79,7 @@ returns c =
     subst (λ (v : DeviceState). TakesBy c.args.queue v.mem c.self.inside.ram v.part
     (base_part (status_bits c.note_fault.new.status) (feature_bits c.self.inside.features)
     c.self.inside.target c.self.inside.actual c.self.inside.queue_size
-    (set c.self.inside.queues c.place_of-place.result c.take-taken.new.self)
+    (set c.self.inside.queues c.index_of-place.result c.take-taken.new.self)
     (was c.take-taken.new.last) c.self.inside.loose.items) c.take-taken.result) c.self.view_is
     (subst (λ (i : ℕ). TakesBy c.args.queue c.self.inside.ram c.self.inside.ram
     (base_part (status_bits c.self.inside.status) (feature_bits c.self.inside.features)
@@ -89,14 +89,14 @@ returns c =
     c.self.inside.target c.self.inside.actual c.self.inside.queue_size
     (set c.self.inside.queues i c.take-taken.new.self)
     (was c.take-taken.new.last) c.self.inside.loose.items) c.take-taken.result)
-    (sym c.place_of-place.ensures.place)
+    (sym c.index_of-place.ensures.place)
     (subst (λ (s : ℕ). TakesBy c.args.queue c.self.inside.ram c.self.inside.ram
     (base_part (status_bits c.self.inside.status) (feature_bits c.self.inside.features)
     c.self.inside.target c.self.inside.actual c.self.inside.queue_size c.self.inside.queues
     (was c.self.inside.last) c.self.inside.loose.items)
     (base_part s (feature_bits c.self.inside.features)
     c.self.inside.target c.self.inside.actual c.self.inside.queue_size
-    (set c.self.inside.queues (place_of c.args.queue) c.take-taken.new.self)
+    (set c.self.inside.queues (index_of c.args.queue) c.take-taken.new.self)
     (was c.take-taken.new.last) c.self.inside.loose.items) c.take-taken.result)
     (sym c.note_fault.ensures)
     (takes_at c.args.queue c.self.inside.ram (status_bits c.self.inside.status)

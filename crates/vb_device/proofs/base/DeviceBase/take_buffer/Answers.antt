@@ -11,7 +11,7 @@ use Rattle.vb_device.specs.QueueState.{QueueState}
 use Rattle.vb_device.specs.Base.{queue_at, base_part}
 use Rattle.vb_device.specs.BaseCalls.{readiness_refusal, CanUse}
 use Rattle.vb_device.proofs.Discards.{discarded_none}
-use Rattle.vb_device.proofs.Four.{entry_is}
+use Rattle.vb_device.proofs.FourQueues.{entry_is}
 use Rattle.vb_device.proofs.TakesBy.{status_ok}
 use Rattle.vb_device.proofs.Finishes.{can_use}
 use Rattle.vb_device.proofs.base.DeviceBase.take_buffer.Goals as goal

@@ -12,9 +12,9 @@ use Rattle.vb_ram.specs.Pages.{Pages, frame_at}
 use Rattle.vb_status.specs.Bits.{status_bits, feature_bits}
 use Rattle.vb_device.specs.State.{DeviceState}
 use Rattle.vb_device.specs.QueueState.{QueueState, taken_refusal}
-use Rattle.vb_device.specs.Base.{place_of, queue_at, base_part, numbers_of_frames, with_pace, IsBase}
+use Rattle.vb_device.specs.Base.{index_of, queue_at, base_part, numbers_of_frames, with_pace, IsBase}
 use Rattle.vb_device.specs.BaseCalls.{queue_refusal, TakesOut, CanUse}
-use Rattle.vb_device.proofs.Four.{entry_is, set_same}
+use Rattle.vb_device.proofs.FourQueues.{entry_is, set_same}
 use Rattle.vb_device.proofs.TakesBy.{queue_known, queue_status, queue_finish, status_ok}
 use Rattle.vb_device.proofs.Finishes.{finish_left, out_at, out_refused, without_taken, base_used}
 use Rattle.vb_device.proofs.Finishes.{has_pages, can_use, kept_length}
@@ -33,10 +33,10 @@ returns-in-Err-clause-by c =
     search rules in
     let known : has_chains c.args.queue ≡ true =
     queue_known c.args.queue (status_bits c.self.inside.status) open_status in
-    let was : get_or c.self.inside.queues c.place_of-place.result c.index-self-place.result ≡
+    let was : get_or c.self.inside.queues c.index_of-place.result c.index-self-place.result ≡
     queue_at c.args.queue c.self.inside.queues =
     ap (λ (i : ℕ). get_or c.self.inside.queues i c.index-self-place.result)
-    c.place_of-place.ensures.place ∙
+    c.index_of-place.ensures.place ∙
     entry_is c.args.queue c.self.inside.queues c.index-self-place.result c.self.invariant.four known
     in
     let same : c.remove.new.self ≡ queue_at c.args.queue c.self.inside.queues =
@@ -55,7 +55,7 @@ returns-in-Err-clause-by c =
     (with_pace c.args.paced v.part) (with_pace c.args.paced
     (base_part (status_bits c.self.inside.status) (feature_bits c.self.inside.features)
     c.self.inside.target c.self.inside.actual c.self.inside.queue_size
-    (set c.self.inside.queues c.place_of-place.result c.remove.new.self) last
+    (set c.self.inside.queues c.index_of-place.result c.remove.new.self) last
     c.self.inside.loose.items)) (Err c.in-Err.why)) c.self.view_is
     (subst (λ (ys : List QueueState). TakesOut c.args.queue c.args.index c.self.inside.ram
     c.self.inside.ram (with_pace c.args.paced
@@ -66,8 +66,8 @@ returns-in-Err-clause-by c =
     c.self.inside.target c.self.inside.actual c.self.inside.queue_size ys last
     c.self.inside.loose.items)) (Err c.in-Err.why))
     (sym (ap (λ (i : ℕ). set c.self.inside.queues i c.remove.new.self)
-    c.place_of-place.ensures.place
-    ∙ (ap (λ (x : QueueState). set c.self.inside.queues (place_of c.args.queue) x) same
+    c.index_of-place.ensures.place
+    ∙ (ap (λ (x : QueueState). set c.self.inside.queues (index_of c.args.queue) x) same
     ∙ set_same c.args.queue c.self.inside.queues c.self.invariant.four known)))
     (out_refused c.args.queue c.args.index c.self.inside.ram (with_pace c.args.paced
     (base_part (status_bits c.self.inside.status) (feature_bits c.self.inside.features)
@@ -84,10 +84,10 @@ invariant_of-self-in-Ok c =
     search rules in
     let known : has_chains c.args.queue ≡ true =
     queue_known c.args.queue (status_bits c.self.inside.status) open_status in
-    let was : get_or c.self.inside.queues c.place_of-place.result c.index-self-place.result ≡
+    let was : get_or c.self.inside.queues c.index_of-place.result c.index-self-place.result ≡
     queue_at c.args.queue c.self.inside.queues =
     ap (λ (i : ℕ). get_or c.self.inside.queues i c.index-self-place.result)
-    c.place_of-place.ensures.place ∙
+    c.index_of-place.ensures.place ∙
     entry_is c.args.queue c.self.inside.queues c.index-self-place.result c.self.invariant.four known
     in
     let left : c.remove.new.self ≡
@@ -99,7 +99,7 @@ invariant_of-self-in-Ok c =
     c.in-Ok.ensures.value in
     subst (λ (i : ℕ). IsBase c.discard_request.new.ram (status_bits c.self.inside.status)
     c.self.inside.queue_size (set c.self.inside.queues i c.remove.new.self)
-    (vec_capacity c.discard_request.new.loose)) (sym c.place_of-place.ensures.place)
+    (vec_capacity c.discard_request.new.loose)) (sym c.index_of-place.ensures.place)
     (base_used c.args.queue c.self.inside.ram c.discard_request.new.ram
     (status_bits c.self.inside.status) c.self.inside.queue_size _ _ c.self.inside.queues
     c.remove.new.self c.self.invariant known
@@ -126,10 +126,10 @@ returns-in-Ok-clause-by c =
     search rules in
     let known : has_chains c.args.queue ≡ true =
     queue_known c.args.queue (status_bits c.self.inside.status) open_status in
-    let was : get_or c.self.inside.queues c.place_of-place.result c.index-self-place.result ≡
+    let was : get_or c.self.inside.queues c.index_of-place.result c.index-self-place.result ≡
     queue_at c.args.queue c.self.inside.queues =
     ap (λ (i : ℕ). get_or c.self.inside.queues i c.index-self-place.result)
-    c.place_of-place.ensures.place ∙
+    c.index_of-place.ensures.place ∙
     entry_is c.args.queue c.self.inside.queues c.index-self-place.result c.self.invariant.four known
     in
     let left : c.remove.new.self ≡
@@ -152,7 +152,7 @@ returns-in-Ok-clause-by c =
     (with_pace c.args.paced v.part) (with_pace c.args.paced
     (base_part (status_bits c.self.inside.status) (feature_bits c.self.inside.features)
     c.self.inside.target c.self.inside.actual c.self.inside.queue_size
-    (set c.self.inside.queues c.place_of-place.result c.remove.new.self) last
+    (set c.self.inside.queues c.index_of-place.result c.remove.new.self) last
     c.discard_request.new.loose.items)) (Ok c.in-Ok.request)) c.self.view_is
     (subst (λ (i : ℕ). TakesOut c.args.queue c.args.index c.self.inside.ram
     c.discard_request.new.ram (with_pace c.args.paced
@@ -162,7 +162,7 @@ returns-in-Ok-clause-by c =
     (base_part (status_bits c.self.inside.status) (feature_bits c.self.inside.features)
     c.self.inside.target c.self.inside.actual c.self.inside.queue_size
     (set c.self.inside.queues i c.remove.new.self) last c.discard_request.new.loose.items))
-    (Ok c.in-Ok.request)) (sym c.place_of-place.ensures.place)
+    (Ok c.in-Ok.request)) (sym c.index_of-place.ensures.place)
     (subst (λ (x : QueueState). TakesOut c.args.queue c.args.index c.self.inside.ram
     c.discard_request.new.ram (with_pace c.args.paced
     (base_part (status_bits c.self.inside.status) (feature_bits c.self.inside.features)
@@ -170,7 +170,7 @@ returns-in-Ok-clause-by c =
     c.self.inside.loose.items)) (with_pace c.args.paced
     (base_part (status_bits c.self.inside.status) (feature_bits c.self.inside.features)
     c.self.inside.target c.self.inside.actual c.self.inside.queue_size
-    (set c.self.inside.queues (place_of c.args.queue) x) last c.discard_request.new.loose.items))
+    (set c.self.inside.queues (index_of c.args.queue) x) last c.discard_request.new.loose.items))
     (Ok c.in-Ok.request)) (sym left)
     (out_at c.args.queue c.args.index c.args.paced c.self.inside.ram c.discard_request.new.ram
     (status_bits c.self.inside.status) (feature_bits c.self.inside.features)
@@ -184,10 +184,10 @@ returns-in-Ok-clause-ready c =
     search rules in
     let known : has_chains c.args.queue ≡ true =
     queue_known c.args.queue (status_bits c.self.inside.status) open_status in
-    let was : get_or c.self.inside.queues c.place_of-place.result c.index-self-place.result ≡
+    let was : get_or c.self.inside.queues c.index_of-place.result c.index-self-place.result ≡
     queue_at c.args.queue c.self.inside.queues =
     ap (λ (i : ℕ). get_or c.self.inside.queues i c.index-self-place.result)
-    c.place_of-place.ensures.place ∙
+    c.index_of-place.ensures.place ∙
     entry_is c.args.queue c.self.inside.queues c.index-self-place.result c.self.invariant.four known
     in
     let left : c.remove.new.self ≡
@@ -210,7 +210,7 @@ returns-in-Ok-clause-ready c =
     (base_part (status_bits c.self.inside.status) (feature_bits c.self.inside.features)
     c.self.inside.target c.self.inside.actual c.self.inside.queue_size
     (set c.self.inside.queues i c.remove.new.self) last c.discard_request.new.loose.items))
-    (sym c.place_of-place.ensures.place)
+    (sym c.index_of-place.ensures.place)
     (can_use c.args.queue c.in-Ok.request.head c.in-Ok.request.pages c.self.inside.ram
     c.discard_request.new.ram (status_bits c.self.inside.status)
     (feature_bits c.self.inside.features) c.self.inside.target c.self.inside.actual

@@ -8,16 +8,16 @@ use Rattle.vb_device.specs.State.{DeviceState}
 use Rattle.vb_device.specs.QueueState.{QueueState}
 use Rattle.vb_device.specs.Base.{queue_at, base_part}
 use Rattle.vb_device.specs.BaseCalls.{UsesChain}
-use Rattle.vb_device.proofs.Four.{entry_is}
+use Rattle.vb_device.proofs.FourQueues.{entry_is}
 use Rattle.vb_device.proofs.Finishes.{used_at}
 use Rattle.vb_device.proofs.base.DeviceBase.use_chain.Goals as goal
 
 pub returns : goal.returns
 returns c =
-    let was : get_or c.self.inside.queues c.place_of-place.result c.index-self-place.result ≡
+    let was : get_or c.self.inside.queues c.index_of-place.result c.index-self-place.result ≡
     queue_at c.args.queue c.self.inside.queues =
     ap (λ (i : ℕ). get_or c.self.inside.queues i c.index-self-place.result)
-    c.place_of-place.ensures.place ∙
+    c.index_of-place.ensures.place ∙
     entry_is c.args.queue c.self.inside.queues c.index-self-place.result c.self.invariant.four
     c.requires.known in
     let adds : AddsUsedBy c.self.inside.ram c.add_used.new.ram
@@ -32,7 +32,7 @@ returns c =
     subst (λ (v : DeviceState). UsesChain c.args.queue c.args.head v.mem c.add_used.new.ram v.part
     (base_part (status_bits c.self.inside.status) (feature_bits c.self.inside.features)
     c.self.inside.target c.self.inside.actual c.self.inside.queue_size
-    (set c.self.inside.queues c.place_of-place.result c.add_used.new.self) last
+    (set c.self.inside.queues c.index_of-place.result c.add_used.new.self) last
     c.self.inside.loose.items))
     c.self.view_is
     (subst (λ (i : ℕ). UsesChain c.args.queue c.args.head c.self.inside.ram c.add_used.new.ram
@@ -42,7 +42,7 @@ returns c =
     (base_part (status_bits c.self.inside.status) (feature_bits c.self.inside.features)
     c.self.inside.target c.self.inside.actual c.self.inside.queue_size
     (set c.self.inside.queues i c.add_used.new.self) last c.self.inside.loose.items))
-    (sym c.place_of-place.ensures.place)
+    (sym c.index_of-place.ensures.place)
     (used_at c.args.queue c.args.head c.self.inside.ram c.add_used.new.ram
     (status_bits c.self.inside.status) (feature_bits c.self.inside.features)
     c.self.inside.target c.self.inside.actual c.self.inside.queue_size _ c.self.inside.queues

@@ -6,7 +6,7 @@ use Rattle.vb_model.specs.Pages.{placed, is_lent, place_of, Block}
 use Rattle.vb_model.specs.declared.places.Place.{Place}
 use Rattle.vb_model.specs.declared.places.Place.TheVariants.{Free, Lent}
 use Rattle.vb_model.specs.Requests.{Deflating, place_posted}
-use Rattle.vb_driver.specs.State.{Side, DriverState, IsDriver, tells_host, page_state}
+use Rattle.vb_driver.specs.State.{RequestSide, DriverState, IsDriver, tells_host, page_state}
 use Rattle.vb_pages.specs.FreePages.{FreePages}
 use Rattle.vb_driver.specs.Areas.{flags_of, all_given}
 use Rattle.vb_driver.specs.Places.{marked}

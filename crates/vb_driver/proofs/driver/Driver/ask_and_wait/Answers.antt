@@ -5,7 +5,7 @@ use Rattle.vb_model.specs.Pages.{placed, is_lent}
 use Rattle.vb_model.specs.declared.places.Place.{Place}
 use Rattle.vb_model.specs.declared.places.Place.TheVariants.{Taking}
 use Rattle.vb_model.specs.Requests.{Deflating, place_posted}
-use Rattle.vb_driver.specs.State.{Side, DriverState, IsDriver, page_state, tells_host}
+use Rattle.vb_driver.specs.State.{RequestSide, DriverState, IsDriver, page_state, tells_host}
 use Rattle.vb_driver.specs.Areas.{all_given}
 use Rattle.vb_driver.specs.Calls.{Posts, AsksBack, lowest_lent, areas_asked}
 use Rattle.vb_driver.specs.contracts.driver.Driver.{the_view}
@@ -14,7 +14,7 @@ use Rattle.vb_driver.proofs.Keeping.{there_by}
 use Rattle.vb_driver.proofs.driver.Driver.ask_and_wait.Goals as goal
 
 -- where the host is told first, the pages are taking, and no area changes
-waits : (d : DriverState) (e2 : Side) (pages : List ℕ) → tells_host d ≡ true
+waits : (d : DriverState) (e2 : RequestSide) (pages : List ℕ) → tells_host d ≡ true
     → (let new : DriverState = record d { places = placed pages Taking d.places; deflate = e2 } in new)
     ≡ record d {
       places = placed pages (place_posted (tells_host d) Deflating) d.places;

@@ -5,7 +5,7 @@ use Rattle.vb_ram.specs.Limits.{AreWithinLimits}
 use Rattle.vb_ram.proofs.Limits.{config_limits}
 use Rattle.vb_status.specs.Bits.{feature_bits}
 use Rattle.vb_ring.specs.Ends.{DriverEnd}
-use Rattle.vb_driver.specs.State.{Side, ReportSide, DriverState, fresh_driver, IsDriver}
+use Rattle.vb_driver.specs.State.{RequestSide, ReportSide, DriverState, fresh_driver, IsDriver}
 use Rattle.vb_driver.proofs.Moving.{fresh_kept}
 use Rattle.vb_driver.proofs.Sizes.{size_of_config}
 use Rattle.vb_driver.proofs.driver.Driver.new.Goals as goal
@@ -54,14 +54,14 @@ invariant_of-result c =
       statistics = c.new-5.result;
       report = c.new-6.result;
     })) (sym c.in_ok-new-2.ensures)
-    (subst (λ (v : Side). IsDriver
+    (subst (λ (v : RequestSide). IsDriver
     (record d {
       inflate = v;
       deflate = c.in_ok-new-4.field-0;
       statistics = c.new-5.result;
       report = c.new-6.result;
     })) (sym c.in_ok-new-3.ensures)
-    (subst (λ (v : Side). IsDriver
+    (subst (λ (v : RequestSide). IsDriver
     (record d { deflate = v; statistics = c.new-5.result; report = c.new-6.result }))
     (sym c.in_ok-new-4.ensures)
     (subst (λ (v : DriverEnd). IsDriver (record d { statistics = v; report = c.new-6.result }))

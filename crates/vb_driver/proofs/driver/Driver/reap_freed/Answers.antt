@@ -3,7 +3,7 @@ use Rattle.vb_model.specs.Tests.{is_in}
 use Rattle.vb_model.specs.Pages.{placed, Block}
 use Rattle.vb_model.specs.declared.places.Place.{Place}
 use Rattle.vb_model.specs.declared.places.Place.TheVariants.{Free, Taking}
-use Rattle.vb_driver.specs.State.{Side, sent_by, IsDriver, tells_host}
+use Rattle.vb_driver.specs.State.{RequestSide, sent_by, IsDriver, tells_host}
 use Rattle.vb_driver.specs.Areas.{flags_of}
 use Rattle.vb_driver.specs.Places.{marked}
 use Rattle.vb_driver.specs.contracts.driver.Driver.{the_view}
@@ -106,7 +106,7 @@ invariant_of-self-2 g c =
       areas = areas2.free;
       deflate = c.take_back.new.queue;
     })) (sym c.give_all.ensures.state.held)
-    (subst (λ (v : Side). IsDriver
+    (subst (λ (v : RequestSide). IsDriver
     (record d {
       places = placed (sent_by d.deflate head) Free d.places;
       areas = areas2.free;
@@ -123,5 +123,5 @@ invariant_of-self-then-not-must_tell_host g c =
     let next = rw c.in-Ok-Some.field-0-is at c.in-Ok-Some.ensures.next in
     let untold : tells_host d ≡ false =
     sym c.must_tell_host.ensures ∙ c.if-not-must_tell_host.true in
-    subst (λ (v : Side). IsDriver (record d { deflate = v })) (sym next.3)
+    subst (λ (v : RequestSide). IsDriver (record d { deflate = v })) (sym next.3)
     (forgotten_kept d head next.1 c.self.invariant untold)

@@ -3,7 +3,7 @@ use Rattle.vb_model.specs.Tests.{is_in}
 use Rattle.vb_model.specs.Pages.{placed}
 use Rattle.vb_model.specs.declared.places.Place.{Place}
 use Rattle.vb_model.specs.declared.places.Place.TheVariants.{Lent}
-use Rattle.vb_driver.specs.State.{Side, sent_by, IsDriver}
+use Rattle.vb_driver.specs.State.{RequestSide, sent_by, IsDriver}
 use Rattle.vb_driver.specs.contracts.driver.Driver.{the_view}
 use Rattle.vb_driver.proofs.Moving.{lent_inside, lent_kept}
 use Rattle.vb_driver.proofs.driver.Driver.reap_lent.Goals as goal
@@ -26,7 +26,7 @@ invariant_of-self-2 g c =
     c.set_all.ensures ∙ ap (λ (l : List ℕ). placed l Lent d.places) items in
     subst (λ (v : List Place). IsDriver (record d { places = v; inflate = c.take_back.new.queue }))
     (sym moved)
-    (subst (λ (v : Side). IsDriver
+    (subst (λ (v : RequestSide). IsDriver
     (record d { places = placed (sent_by d.inflate head) Lent d.places; inflate = v }))
     (sym next.3)
     (lent_kept d head next.1 c.self.invariant))

@@ -6,7 +6,7 @@ use Rattle.vb_model.specs.declared.places.Place.{Place}
 use Rattle.vb_model.specs.declared.places.Place.TheVariants.{Reporting}
 use Rattle.vb_status.specs.Bits.{feature_bits}
 use Rattle.vb_ring.specs.Ends.{DriverEnd}
-use Rattle.vb_driver.specs.State.{Side, ReportSide, IsDriver, fresh_side}
+use Rattle.vb_driver.specs.State.{RequestSide, ReportSide, IsDriver, fresh_side}
 use Rattle.vb_driver.specs.State.{fresh_statistics}
 use Rattle.vb_driver.specs.contracts.driver.Driver.{the_view}
 use Rattle.vb_driver.proofs.Counting.{at_is}
@@ -62,7 +62,7 @@ invariant_of-self g c =
       features = f;
       actual = 0;
     })) (sym c.give_reported.ensures.state.held)
-    (subst (λ (v : Side). IsDriver
+    (subst (λ (v : RequestSide). IsDriver
     (record d {
       places = map place_after_reset d.places;
       areas = areas2.free;
@@ -73,7 +73,7 @@ invariant_of-self g c =
       features = f;
       actual = 0;
     })) (sym c.renew.ensures)
-    (subst (λ (v : Side). IsDriver
+    (subst (λ (v : RequestSide). IsDriver
     (record d {
       places = map place_after_reset d.places;
       areas = areas2.free;

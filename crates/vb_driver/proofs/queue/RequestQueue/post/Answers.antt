@@ -4,7 +4,7 @@ use Rattle.std.proofs.Math.Nat.{div-add-mod}
 use Rattle.vb_model.specs.Layout.{buffer_page, buffer_offset}
 use Rattle.vb_ram.specs.Pages.{SameBut}
 use Rattle.vb_ring.specs.Ends.{DriverEnd, after_add, next_head}
-use Rattle.vb_driver.specs.State.{Side}
+use Rattle.vb_driver.specs.State.{RequestSide}
 use Rattle.vb_driver.specs.Calls.{Posts}
 use Rattle.vb_driver.proofs.Buffers.{names_at}
 use Rattle.vb_driver.proofs.RequestTables.{head_there, head_small, requests_added_at, room_inside}
@@ -100,7 +100,7 @@ returns-clause-posts g c =
     (subst (λ (n : ℕ). SameBut m1 m2 n (1024 * c.from-offset.result)
     (1024 * c.from-offset.result + 4 * length c.deref.result.now)) at_page
     c.write_numbers.ensures.rest)) in
-    let ring_now : r ≡ c.args.self.now.ring = ap (λ (s : Side). s.ring) c.self.view_is in
+    let ring_now : r ≡ c.args.self.now.ring = ap (λ (s : RequestSide). s.ring) c.self.view_is in
     let sending : Sending m1 m2 m3 r c.add.new.self sent c.args.base h c.from-2.result
     (4 * c.len.result) pages = record {
       requests = c.self.invariant;
@@ -122,7 +122,7 @@ returns-clause-posts g c =
       addr = omega (arith, at_page, at_offset, c.from-2.ensures);
       len = omega (arith, c.len.ensures.value);
     } in
-    subst (λ (s : Side). Posts m1 m3 s
+    subst (λ (s : RequestSide). Posts m1 m3 s
     (record { ring = c.add.new.self; sent = set sent c.from-3.result pages }) c.args.base pages
     c.in-Ok.head) c.self.view_is
     (subst (λ (n : ℕ). Posts m1 m3 (record { ring = r; sent = sent })

@@ -4,4 +4,4 @@ pub returns-clause-empty : goal.returns-clause-empty
 returns-clause-empty g c = c.empty.ensures.bare
 
 pub returns-clause-returned : goal.returns-clause-returned
-returns-clause-returned g c = λ keeps guest stands. c.empty.ensures.returned keeps _ guest stands
+returns-clause-returned g c = c.empty.ensures.returned _

@@ -1,4 +1,4 @@
 use Rattle.vb_slot.proofs.slot.Slot.memory.Goals as goal
 
 pub returns : goal.returns
-returns g c = record { answer = λ keeps guest stands. c.statistics.ensures keeps _ guest stands }
+returns g c = record { answer = c.statistics.ensures _ }

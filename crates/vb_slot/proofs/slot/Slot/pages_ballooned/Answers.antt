@@ -1,4 +1,4 @@
 use Rattle.vb_slot.proofs.slot.Slot.pages_ballooned.Goals as goal
 
 pub returns : goal.returns
-returns g c = record { answer = λ keeps guest stands. c.pages_ballooned.ensures keeps _ guest stands }
+returns g c = record { answer = c.pages_ballooned.ensures _ }

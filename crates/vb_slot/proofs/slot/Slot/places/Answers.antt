@@ -1,4 +1,4 @@
 use Rattle.vb_slot.proofs.slot.Slot.places.Goals as goal
 
 pub returns : goal.returns
-returns g c = record { answer = λ keeps guest stands. c.places.ensures keeps _ _ guest stands }
+returns g c = record { answer = c.places.ensures _ _ }

@@ -1,0 +1,406 @@
+-- A device that keeps ballooned pages, from one that has ballooned nothing.
+use Rattle.std.specs.Prelude.{◌≡◌, ℕ, ◌+◌, ◌%◌, ◌==◌, Bool, true, false, List, []}
+use Rattle.std.specs.Prelude.{◌∷◌, length, replicate}
+use Rattle.std.specs.Prelude.{Option, Some, None, Result, Ok, Err, if◌then◌else◌, ◌++◌, not, is_some, refl}
+use Rattle.std.proofs.Common.{sym, ◌∙◌, ap, subst}
+use Rattle.vb_model.specs.declared.replies.Refusal.{Refusal}
+use Rattle.vb_model.specs.declared.replies.Refusal.TheVariants.{Broken, NoQueue}
+use Rattle.vb_model.specs.Requests.{Request}
+use Rattle.vb_ram.specs.Pages.{Pages}
+use Rattle.vb_ram.specs.Part.{Part, QueuePart}
+use Rattle.vb_chain.specs.declared.fault.ChainFault.{ChainFault}
+use Rattle.vb_device.specs.Faults.{Breaks}
+use Rattle.vb_device.specs.Discards.{frames_behind}
+use Rattle.vb_device.specs.declared.worked.Worked.{Worked}
+use Rattle.vb_device.specs.Base.{with_pace}
+use Rattle.vb_device.specs.BaseCalls.{readiness_refusal, VisitsNext, SettlesBy, taken_out}
+use Rattle.vb_device.specs.BaseCalls.{TakesOut, UsesChain}
+use Rattle.vb_device.specs.Conditions.{work_refusal}
+use Rattle.vb_device.specs.Queues.{queue_part, with_queue, queue_end}
+use Rattle.vb_ring.specs.Ends.{DeviceEnd}
+use Rattle.vb_ring.specs.Calls.{AddsUsedBy}
+use Rattle.vb_device.proofs.LooseFrames.{all_but_loose, lost_alone}
+use Rattle.vb_model.specs.Device.{next_page}
+use Rattle.vb_device.specs.Calls.{lost_frames, next_visit, Visits, WorksBy}
+use Rattle.vb_device.specs.Calls.{taking, noting, without_frames, settled, using, TakeMeans, TakesBy}
+use Rattle.vb_device.specs.Calls.{FinishesBy, Uses, DetachesBy}
+use Rattle.vb_status.specs.After.{part_after_reset}
+use Rattle.vb_model.specs.Tables.{has_chains, is_queue_of_requests}
+use Rattle.vb_device.specs.Conditions.{finish_refusal, taken_at}
+use Rattle.vb_device.specs.BaseCalls.{visited_queue, page_to_visit, with_visit, flags_after}
+use Rattle.vb_model.specs.Device.{visiting}
+use Rattle.vb_device.proofs.FourQueues.{at_each, at_requests}
+
+-- the part with these flags, of this pace
+abbrev pub over : Bool → List Bool → Part → Part
+over paced flags part = record part { ballooned = flags; paced = paced }
+
+with_over : (paced a b c : Bool) (flags : List Bool) (x : QueuePart) (p : Part)
+    → over paced flags (if a then record p
+    { inflate = x } else (if b then record p
+    { deflate = x } else (if c then record p { statistics = x } else record p { report = x })))
+    ≡ (if a then record (over paced flags p)
+    { inflate = x } else (if b then record (over paced flags p)
+    { deflate = x } else (if c then record (over paced flags p)
+    { statistics = x } else record (over paced flags p) { report = x })))
+with_over paced true b c flags x p = refl
+with_over paced false true c flags x p = refl
+with_over paced false false true flags x p = refl
+with_over paced false false false flags x p = refl
+
+taking_over : (q h : ℕ) (pages : List ℕ) (paced : Bool) (flags : List Bool) (p : Part) →
+    over paced flags (taking q h pages p) ≡ taking q h pages (over paced flags p)
+taking_over q h pages paced flags p = with_over paced (q == 0) (q == 1) (q == 2) flags _ p
+
+breaks_over : (fault : ChainFault) (paced : Bool) (flags : List Bool) (p1 p2 : Part)
+    (result : Result (Option ℕ) Refusal) → Breaks fault p1 p2 result →
+    Breaks fault (over paced flags p1) (over paced flags p2) result
+breaks_over fault paced flags p1 p2 result b =
+    record { answer = b.answer; part = ap (over paced flags) b.part }
+
+means_over : (q : ℕ) (mem : Pages) (paced : Bool) (flags : List Bool) (p1 p2 : Part)
+    (result : Result (Option ℕ) Refusal) → TakeMeans q mem p1 p2 result →
+    TakeMeans q mem (over paced flags p1) (over paced flags p2) result
+means_over q mem paced flags p1 p2 (Ok None) m = (m.0, ap (over paced flags) m.1)
+means_over q mem paced flags p1 p2 (Ok (Some h)) m = (
+  m.0,
+  (
+    m.1.0,
+    record {
+      next = m.1.1.next;
+      pieces = m.1.1.pieces;
+      chain = m.1.1.chain;
+      request = m.1.1.request;
+    },
+    ap (over paced flags) m.1.2 ∙
+        taking_over q h m.1.0 paced flags (noting q mem m.1.1.pieces p1),
+  ),
+)
+means_over q mem paced flags p1 p2 (Err (Broken rule)) m = (m.0, ap (over paced flags) m.1)
+means_over q mem paced flags p1 p2 (Err why) m = (m.0, ap (over paced flags) m.1)
+
+pub takes_over : (q : ℕ) (m1 m2 : Pages) (paced : Bool) (flags : List Bool) (p1 p2 : Part)
+    (result : Result (Option ℕ) Refusal) → TakesBy q m1 m2 p1 p2 result →
+    TakesBy q m1 m2 (over paced flags p1) (over paced flags p2) result
+takes_over q m1 m2 paced flags p1 p2 result t = record {
+  memory = t.memory;
+  refused = λ why e. ((t.refused why e).0, ap (over paced flags) (t.refused why e).1);
+  empty = λ e n. ((t.empty e n).0, ap (over paced flags) (t.empty e n).1);
+  jump = λ f e n. breaks_over f paced flags p1 p2 result (t.jump f e n);
+  fault = λ h f e n g. breaks_over f paced flags p1 p2 result (t.fault h f e n g);
+  wrong = λ h pieces f e n g r. breaks_over f paced flags p1 p2 result (t.wrong h pieces f e n g r);
+  takes = λ h pieces pages e n g r. (
+    (t.takes h pieces pages e n g r).0,
+    ap (over paced flags) (t.takes h pieces pages e n g r).1 ∙
+        taking_over q h pages paced flags (noting q m1 pieces p1),
+  );
+  means = means_over q m1 paced flags p1 p2 result t.means;
+}
+
+-- ---- work
+
+no_refusal : (o : Option Refusal) (why : Refusal) → o ≡ None → o ≡ Some why → ⊥
+no_refusal o why a b = cc
+
+same_refusal : (o : Option Refusal) (x y : Refusal) → o ≡ Some x → o ≡ Some y → x ≡ y
+same_refusal o x y a b = cc
+
+no_page : (o : Option ℕ) (page : ℕ) → o ≡ None → o ≡ Some page → ⊥
+no_page o page a b = cc
+
+same_page : (o : Option ℕ) (x y : ℕ) → o ≡ Some x → o ≡ Some y → x ≡ y
+same_page o x y a b = cc
+
+pub works_refused : (mem : Pages) (part : Part) (why : Refusal) →
+    readiness_refusal part.status ≡ Some why → WorksBy mem mem part part (Err why)
+works_refused mem part why is = record {
+  refused = λ w e. (ap Err (same_refusal (work_refusal part) why w is e), refl, refl);
+  idle = λ e n r. absurd (no_refusal (work_refusal part) why e is);
+  inflate = λ page e n. absurd (no_refusal (work_refusal part) why e is);
+  report = λ page e n r. absurd (no_refusal (work_refusal part) why e is);
+}
+
+-- a device that isn't paced has nothing to do
+pub works_idle : (mem : Pages) (part : Part) → part.paced ≡ false →
+    readiness_refusal part.status ≡ None → WorksBy mem mem part part (Ok None)
+works_idle mem part paced ok =
+    let none : (q : ℕ) → next_visit q part ≡ None =
+    λ q. ap (λ b. if b then next_page (queue_part q part).taken else None) paced in
+    record {
+      refused = λ w e. absurd (no_refusal (work_refusal part) w ok e);
+      idle = λ e n r. (refl, refl, refl);
+      inflate = λ page e n. absurd (no_page (next_visit 0 part) page (none 0) n);
+      report = λ page e n r. absurd (no_page (next_visit 4 part) page (none 4) r);
+    }
+
+-- what a paced one visits next on a queue
+paced_next : (q : ℕ) (paced : Bool) (flags : List Bool) (p : Part) → has_chains q ≡ true →
+    paced ≡ true → next_visit q (over paced flags p) ≡ next_page (queue_part q p).taken
+paced_next q paced flags p known is =
+    ap (λ b. if b then next_page (queue_part q (over paced flags p)).taken else None) is ∙
+    at_each (λ n. next_page (queue_part n (over paced flags p)).taken ≡
+    next_page (queue_part n p).taken) refl refl refl refl q known
+
+-- inflates come first, and reports where there is none
+first_queue : (p : Part) (page : ℕ) → next_page p.inflate.taken ≡ Some page → visited_queue p ≡ 0
+first_queue p page e = ap (λ o. if is_some o then 0 else 4) e
+
+last_queue : (p : Part) → next_page p.inflate.taken ≡ None → visited_queue p ≡ 4
+last_queue p e = ap (λ o. if is_some o then 0 else 4) e
+
+on_queue : (q : ℕ) (p : Part) → visited_queue p ≡ q →
+    page_to_visit p ≡ next_page (queue_part q p).taken
+on_queue q p e = ap (λ k. next_page (queue_part k p).taken) e
+
+visit_over : (q : ℕ) (paced : Bool) (flags : List Bool) (p : Part) (loose : List ℕ) →
+    has_chains q ≡ true →
+    over paced flags (record (with_visit q p) { loose = loose }) ≡
+    record (with_queue q (record (queue_part q (over paced flags p)) {
+      taken = visiting (queue_part q (over paced flags p)).taken;
+    }) (over paced flags p)) { loose = loose }
+visit_over q paced flags p loose known =
+    at_each (λ n. over paced flags (record (with_visit n p) { loose = loose }) ≡
+    record (with_queue n (record (queue_part n (over paced flags p)) {
+      taken = visiting (queue_part n (over paced flags p)).taken;
+    }) (over paced flags p)) { loose = loose }) refl refl refl refl q known
+
+visits_on : (q page : ℕ) (paced : Bool) (m1 m2 : Pages) (flags : List Bool) (p1 p2 : Part)
+    (worked : Worked) → has_chains q ≡ true → visited_queue p1 ≡ q → p1.loose ≡ [] →
+    next_page (queue_part q p1).taken ≡ Some page → VisitsNext m1 m2 p1 p2 (Some worked) →
+    Visits q page m1 m2 (over paced flags p1) (over paced flags p2) (Ok (Some worked))
+visits_on q page paced m1 m2 flags p1 p2 worked known at none next v =
+    let left = ap (over paced flags) (v.3 ∙ ap (λ (k : ℕ). record (with_visit k p1) {
+      loose = p1.loose ++ frames_behind m1 (worked.page ∷ []);
+    }) at) ∙ visit_over q paced flags p1 (p1.loose ++ frames_behind m1 (worked.page ∷ [])) known in
+    subst (λ (x : ℕ). Visits q x m1 m2 (over paced flags p1) (over paced flags p2)
+    (Ok (Some worked)))
+    (same_page (page_to_visit p1) worked.page page v.0 (on_queue q p1 at ∙ next))
+    (record {
+      answer = ap (λ (b : Bool). Ok (Some (record { page = worked.page; freed = b }))) v.1;
+      memory = v.2;
+      part = all_but_loose _ _ left;
+      loose = lost_alone p1.loose p2.loose (frames_behind m1 (worked.page ∷ [])) none
+          (ap (λ (x : Part). x.loose) left);
+    })
+
+-- a paced one visits the oldest page, if there is one
+pub works_paced : (paced : Bool) (m1 m2 : Pages) (flags : List Bool) (p1 p2 : Part)
+    (found : Option Worked) → paced ≡ true → readiness_refusal p1.status ≡ None → p1.loose ≡ []
+    → VisitsNext m1 m2 p1 p2 found →
+    WorksBy m1 m2 (over paced flags p1) (over paced flags p2) (Ok found)
+works_paced paced m1 m2 flags p1 p2 None is ok none v =
+    let inflate = paced_next 0 paced flags p1 refl is in
+    let report = paced_next 4 paced flags p1 refl is in
+    record {
+      refused = λ w e. absurd (no_refusal (work_refusal p1) w ok e);
+      idle = λ e n r. (refl, ap (over paced flags) v.1, v.2);
+      inflate = λ page e n.
+          let next : next_page p1.inflate.taken ≡ Some page = sym inflate ∙ n in
+          absurd (no_page (page_to_visit p1) page v.0
+          (on_queue 0 p1 (first_queue p1 page next) ∙ next));
+      report = λ page e n r.
+          let next : next_page p1.report.taken ≡ Some page = sym report ∙ r in
+          absurd (no_page (page_to_visit p1) page v.0
+          (on_queue 4 p1 (last_queue p1 (sym inflate ∙ n)) ∙ next));
+    }
+works_paced paced m1 m2 flags p1 p2 (Some worked) is ok none v =
+    let inflate = paced_next 0 paced flags p1 refl is in
+    let report = paced_next 4 paced flags p1 refl is in
+    record {
+      refused = λ w e. absurd (no_refusal (work_refusal p1) w ok e);
+      idle = λ e n r. absurd (no_page (page_to_visit p1) worked.page
+          (on_queue 4 p1 (last_queue p1 (sym inflate ∙ n)) ∙ (sym report ∙ r)) v.0);
+      inflate = λ page e n.
+          let next : next_page p1.inflate.taken ≡ Some page = sym inflate ∙ n in
+          visits_on 0 page paced m1 m2 flags p1 p2 worked refl (first_queue p1 page next) none next
+          v;
+      report = λ page e n r.
+          visits_on 4 page paced m1 m2 flags p1 p2 worked refl
+          (last_queue p1 (sym inflate ∙ n)) none (sym report ∙ r) v;
+    }
+
+-- ---- detach
+
+-- a reset device has ballooned nothing
+pub detaches_over : (m1 m2 : Pages) (paced : Bool) (flags marks : List Bool) (p1 p2 : Part) →
+    marks ≡ replicate (length flags) false → DetachesBy m1 m2 p1 p2 →
+    DetachesBy m1 m2 (over paced flags p1) (over paced marks p2)
+detaches_over m1 m2 paced flags marks p1 p2 none d = record {
+  memory = d.memory;
+  part = ap (over paced marks) d.part ∙
+      ap (λ (fs : List Bool). over paced fs (record (part_after_reset p1) { loose = p2.loose })) none;
+  loose = d.loose;
+}
+
+-- ---- finish
+
+ok_err : (r : Request) (why : Refusal) → Ok r ≡ Err why → ⊥
+ok_err r why e = cc
+
+same_ok : (o : Result Request Refusal) (x y : Request) → o ≡ Ok x → o ≡ Ok y → x ≡ y
+same_ok o x y a b = cc
+
+same_err : (o : Result Request Refusal) (x y : Refusal) → o ≡ Err x → o ≡ Err y → x ≡ y
+same_err o x y a b = cc
+
+-- the flags and the pace are no part of what a finish is refused for
+taken_over : (q index : ℕ) (paced : Bool) (flags : List Bool) (p : Part) {r : Request} →
+    is_queue_of_requests q ≡ true → taken_at q index (over paced flags p) ≡ Some r →
+    taken_at q index (with_pace paced p) ≡ Some r
+taken_over q index paced flags p {r} known =
+    at_requests (λ n. taken_at n index (over paced flags p) ≡ Some r →
+    taken_at n index (with_pace paced p) ≡ Some r) (λ e. e) (λ e. e) (λ e. e) q known
+
+refusal_over : (q index : ℕ) (paced : Bool) (flags : List Bool) (p : Part) →
+    is_queue_of_requests q ≡ true →
+    finish_refusal q index (with_pace paced p) ≡ finish_refusal q index (over paced flags p)
+refusal_over q index paced flags p known =
+    at_requests (λ n. finish_refusal n index (with_pace paced p) ≡
+    finish_refusal n index (over paced flags p)) refl refl refl q known
+
+pub settles_err : (q index : ℕ) (paced : Bool) (m1 m2 : Pages) (flags : List Bool) (p1 p2 : Part)
+    (why : Refusal) (result : Result ℕ Refusal) → result ≡ Err why →
+    TakesOut q index m1 m2 (with_pace paced p1) (with_pace paced p2) (Err why)
+    → SettlesBy q index m1 m2 (over paced flags p1) (over paced flags p2) result
+settles_err q index paced m1 m2 flags p1 p2 why result is b = record {
+  refused =
+      λ w e. (
+        is ∙ ap Err (same_err (Err why) why w refl (b.refused w e).0),
+        ap (over paced flags) (b.refused w e).1,
+        (b.refused w e).2,
+      );
+  settled = λ x e at. absurd (ok_err x why (sym (b.out x e at).0));
+}
+
+-- a request taken out, with flags for those that there were
+marked_out : (q index : ℕ) (pages : List ℕ) (mem : Pages) (paced : Bool) (flags marks : List Bool)
+    (p : Part) → is_queue_of_requests q ≡ true → marks ≡ flags_after q pages flags →
+    over paced marks (taken_out q index pages mem (with_pace paced p)) ≡
+    settled q pages (taken_out q index pages mem (over paced flags p))
+marked_out q index pages mem paced flags marks p known is =
+    at_requests (λ n. marks ≡ flags_after n pages flags →
+    over paced marks (taken_out n index pages mem (with_pace paced p)) ≡
+    settled n pages (taken_out n index pages mem (over paced flags p)))
+    (λ e. ap (λ fs. over paced fs (taken_out 0 index pages mem (with_pace paced p))) e)
+    (λ e. ap (λ fs. over paced fs (taken_out 1 index pages mem (with_pace paced p))) e)
+    (λ e. ap (λ fs. over paced fs (taken_out 4 index pages mem (with_pace paced p))) e)
+    q known is
+
+kind_of_finish : (a : Bool) (rest : Option Refusal) → (if not a then Some NoQueue else rest) ≡ None →
+    a ≡ true
+kind_of_finish true rest e = refl
+kind_of_finish false rest e = absurd cc
+
+pub settles_ok : (q index : ℕ) (paced : Bool) (m1 m2 : Pages) (flags marks : List Bool)
+    (p1 p2 : Part) (r : Request) (result : Result ℕ Refusal) → result ≡ Ok r.head →
+    marks ≡ flags_after q r.pages flags
+    → TakesOut q index m1 m2 (with_pace paced p1) (with_pace paced p2) (Ok r) →
+    SettlesBy q index m1 m2 (over paced flags p1) (over paced marks p2) result
+settles_ok q index paced m1 m2 flags marks p1 p2 r result is marked b = record {
+  refused = λ w e. absurd (ok_err r w (b.refused w e).0);
+  settled = λ x e at.
+      let known : is_queue_of_requests q ≡ true =
+      kind_of_finish (is_queue_of_requests q) _ e in
+      let at_base = taken_over q index paced flags p1 known at in
+      let got = b.out x (refusal_over q index paced flags p1 known ∙ e) at_base in
+      let same : r ≡ x = same_ok (Ok r) r x refl got.0 in (
+        is ∙ ap (λ (y : Request). Ok y.head) same,
+        got.1,
+        ap (over paced marks) got.2 ∙ marked_out q index x.pages m1 paced flags marks p1 known
+            (marked ∙ ap (λ (y : Request). flags_after q y.pages flags) same),
+      );
+}
+
+-- what the used entry adds
+abbrev bumped : QueuePart → QueuePart
+bumped k = record k { next_used = (k.next_used + 1) % 65536 }
+
+bump_over : (q : ℕ) (paced : Bool) (marks : List Bool) (p : Part) → has_chains q ≡ true →
+    over paced marks (with_queue q (bumped (queue_part q p)) p) ≡
+    with_queue q (bumped (queue_part q (over paced marks p))) (over paced marks p)
+bump_over q paced marks p known =
+    at_each (λ n. over paced marks (with_queue n (bumped (queue_part n p)) p) ≡
+    with_queue n (bumped (queue_part n (over paced marks p))) (over paced marks p))
+    refl refl refl refl q known
+
+end_over : (q : ℕ) (paced : Bool) (marks : List Bool) (p : Part) → has_chains q ≡ true →
+    queue_end q (over paced marks p) ≡ queue_end q p
+end_over q paced marks p known =
+    at_each (λ n. queue_end n (over paced marks p) ≡ queue_end n p) refl refl refl refl q known
+
+used_is : (q index : ℕ) (pages : List ℕ) (mem : Pages) (p : Part) → is_queue_of_requests q ≡ true →
+    with_queue q (bumped (queue_part q (settled q pages (taken_out q index pages mem p))))
+    (settled q pages (taken_out q index pages mem p)) ≡
+    record (settled q pages (using q index p)) { loose = p.loose ++ lost_frames q pages mem }
+used_is q index pages mem p known =
+    at_requests (λ n.
+    with_queue n (bumped (queue_part n (settled n pages (taken_out n index pages mem p))))
+    (settled n pages (taken_out n index pages mem p)) ≡
+    record (settled n pages (using n index p)) { loose = p.loose ++ lost_frames n pages mem })
+    refl refl refl q known
+
+end_settled : (q index : ℕ) (pages : List ℕ) (mem : Pages) (p : Part) →
+    is_queue_of_requests q ≡ true →
+    queue_end q (settled q pages (taken_out q index pages mem p)) ≡ queue_end q p
+end_settled q index pages mem p known =
+    at_requests (λ n. queue_end n (settled n pages (taken_out n index pages mem p)) ≡ queue_end n p)
+    refl refl refl q known
+
+settles : (q index : ℕ) (r : Request) (m1 m2 m3 : Pages) (paced : Bool) (marks : List Bool)
+    (p1 p2 b2 b3 : Part) → has_chains q ≡ true → is_queue_of_requests q ≡ true → p1.loose ≡ [] →
+    m2 ≡ without_frames q r.pages m1
+    → p2 ≡ settled q r.pages (taken_out q index r.pages m1 p1)
+    → over paced marks b2 ≡ p2 → UsesChain q r.head m2 m3 b2 b3 →
+    Uses q index r m1 m3 p1 (over paced marks b3) (Ok r.head)
+settles q index r m1 m2 m3 paced marks p1 p2 b2 b3 known kind none mem part view used =
+    let left =
+    ap (over paced marks) used.part ∙
+    (bump_over q paced marks b2 known ∙
+    (ap (λ (p : Part). with_queue q (bumped (queue_part q p)) p) (view ∙ part) ∙
+    used_is q index r.pages m1 p1 kind)) in
+    let end : queue_end q b2 ≡ queue_end q p1 =
+    sym (end_over q paced marks b2 known) ∙
+    (ap (queue_end q) (view ∙ part) ∙ end_settled q index r.pages m1 p1 kind) in
+    record {
+      answer = refl;
+      part = all_but_loose _ _ left;
+      loose = lost_alone p1.loose b3.loose (lost_frames q r.pages m1) none
+          (ap (λ (x : Part). x.loose) left);
+      memory = subst (λ (m : Pages). AddsUsedBy m m3 (queue_end q p1)
+          (queue_end q (over paced marks b3)) r.head 0) mem
+          (subst (λ (e : DeviceEnd). AddsUsedBy m2 m3 e (queue_end q (over paced marks b3)) r.head 0)
+          end
+          (subst (λ (e : DeviceEnd). AddsUsedBy m2 m3 (queue_end q b2) e r.head 0)
+          (sym (end_over q paced marks b3 known)) used.memory));
+    }
+
+num_err : (h : ℕ) (why : Refusal) → Ok h ≡ Err why → ⊥
+num_err h why e = cc
+
+err_num : (h : ℕ) (why : Refusal) → Err why ≡ Ok h → ⊥
+err_num h why e = cc
+
+same_head : (o : Result ℕ Refusal) (x y : ℕ) → o ≡ Ok x → o ≡ Ok y → x ≡ y
+same_head o x y a b = cc
+
+pub finishes_err : (q index : ℕ) (m1 m2 : Pages) (p1 p2 : Part) (why : Refusal) →
+    SettlesBy q index m1 m2 p1 p2 (Err why) → FinishesBy q index m1 m2 p1 p2 (Err why)
+finishes_err q index m1 m2 p1 p2 why b = record {
+  refused = b.refused;
+  finished = λ x e at. absurd (err_num x.head why (b.settled x e at).0);
+}
+
+pub finishes_ok : (q index h : ℕ) (m1 m2 m3 : Pages) (paced : Bool) (marks : List Bool)
+    (p1 p2 b2 b3 : Part) → has_chains q ≡ true → p1.loose ≡ [] → over paced marks b2 ≡ p2
+    → SettlesBy q index m1 m2 p1 p2 (Ok h) → UsesChain q h m2 m3 b2 b3 →
+    FinishesBy q index m1 m3 p1 (over paced marks b3) (Ok h)
+finishes_ok q index h m1 m2 m3 paced marks p1 p2 b2 b3 known none view b used = record {
+  refused = λ w e. absurd (num_err h w (b.refused w e).0);
+  finished = λ x e at.
+      let got = b.settled x e at in
+      let head : x.head ≡ h = same_head (Ok h) x.head h got.0 refl in
+      subst (λ (n : ℕ). Uses q index x m1 m3 p1 (over paced marks b3) (Ok n)) head
+      (settles q index x m1 m2 m3 paced marks p1 p2 b2 b3 known
+      (kind_of_finish (is_queue_of_requests q) _ e) none got.1 got.2 view
+      (subst (λ (n : ℕ). UsesChain q n m2 m3 b2 b3) (sym head) used));
+}

@@ -1,0 +1,99 @@
+-- The driver in the words of its guest.
+use Rattle.std.specs.Prelude.{◌≡◌, refl}
+use Rattle.std.proofs.Common.{◌∙◌, ap}
+use Rattle.vb_model.specs.Guest.{Guest}
+use Rattle.vb_ram.specs.Part.{Part}
+use Rattle.vb_ring.specs.Ends.{DriverEnd}
+use Rattle.vb_driver.specs.State.{FreePages, RequestSide, ReportSide, DriverState}
+use Rattle.vb_guest.specs.Stands.{DriverKeeps, HasParts, beside_queues, beside_sides}
+use Rattle.vb_guest.specs.Stands.{beside_requests}
+
+-- what a driver keeps of its four queues
+pub record Sides : Type 0 where
+  pub inflate : RequestSide
+  pub deflate : RequestSide
+  pub statistics : DriverEnd
+  pub report : ReportSide
+
+abbrev pub sides_of : DriverState → Sides
+sides_of d =
+    record {
+      inflate = d.inflate;
+      deflate = d.deflate;
+      statistics = d.statistics;
+      report = d.report;
+    }
+
+-- the guest's driver, with these page areas and queues
+abbrev pub driver_of : Guest → FreePages → Sides → DriverState
+driver_of g areas sides =
+    record {
+      pages = g.config.pages;
+      queue_size = g.config.queue_size;
+      processors = g.config.processors;
+      places = g.places;
+      held = g.held;
+      areas = areas;
+      inflate = sides.inflate;
+      deflate = sides.deflate;
+      statistics = sides.statistics;
+      report = sides.report;
+      features = g.features;
+      actual = g.actual;
+    }
+
+pub driver_is : (p : Part) (d : DriverState) (g : Guest)
+    → HasParts (beside_queues p) (beside_sides d) (beside_requests g)
+    → d ≡ driver_of g d.areas (sides_of d)
+driver_is p d g has =
+    ap (λ x. record d { pages = x }) has.driver.pages
+    ∙ ap (λ x. record d { pages = g.config.pages; queue_size = x }) has.driver.queue_size
+    ∙ ap (λ x. record d {
+      pages = g.config.pages;
+      queue_size = g.config.queue_size;
+      processors = x;
+    }) has.driver.processors
+    ∙ ap (λ x. record d {
+      pages = g.config.pages;
+      queue_size = g.config.queue_size;
+      processors = g.config.processors;
+      places = x;
+    }) has.driver.places
+    ∙ ap (λ x. record d {
+      pages = g.config.pages;
+      queue_size = g.config.queue_size;
+      processors = g.config.processors;
+      places = g.places;
+      held = x;
+    }) has.driver.held
+    ∙ ap (λ x. record d {
+      pages = g.config.pages;
+      queue_size = g.config.queue_size;
+      processors = g.config.processors;
+      places = g.places;
+      held = g.held;
+      features = x;
+    }) has.driver.accepted
+    ∙ ap (λ x. record d {
+      pages = g.config.pages;
+      queue_size = g.config.queue_size;
+      processors = g.config.processors;
+      places = g.places;
+      held = g.held;
+      features = g.features;
+      actual = x;
+    })
+    has.driver.told
+
+-- such a driver keeps what is the guest's
+pub keeps_own : (g : Guest) (areas : FreePages) (sides : Sides)
+    → DriverKeeps (driver_of g areas sides) g.config g.places g.held g.features g.actual
+keeps_own g areas sides = record {
+  pages = refl;
+  queue_size = refl;
+  processors = refl;
+  places = refl;
+  held = refl;
+  accepted = refl;
+  told = refl;
+}
