@@ -1,6 +1,6 @@
 -- The contracts of the ring's calls, put together from what their parts give.
-use Rattle.std.specs.Prelude.{◌≡◌, ◌≢◌, ℕ, ◌+◌, ◌*◌, ◌%◌, ◌<◌, ◌≤◌, nat_lt, Bool, true, false, List}
-use Rattle.std.specs.Prelude.{[], ◌∷◌, ◌++◌, Option, Some, None, Result, Ok, Err, if◌then◌else◌}
+use Rattle.std.specs.Prelude.{◌≡◌, ◌≢◌, ℕ, ◌+◌, ◌-◌, ◌*◌, ◌%◌, ◌<◌, ◌≤◌, nat_lt, Bool, true, false}
+use Rattle.std.specs.Prelude.{List, [], ◌∷◌, ◌++◌, Option, Some, None, Result, Ok, Err, if◌then◌else◌}
 use Rattle.std.specs.Prelude.{length, slice_get, slice_index, slice_index_or, refl}
 use Rattle.std.proofs.Common.{sym, ◌∙◌, ap, subst, arith, inl, inr}
 use Rattle.std.proofs.lemmas.Bool.{cases_eq, le-ltb}
@@ -9,6 +9,7 @@ use Rattle.std.proofs.lemmas.List.{get_or_past}
 use Rattle.vb_ring.proofs.Numbers.{length-numbers}
 use Rattle.vb_ring.proofs.Puts.{publishes}
 use Rattle.std.proofs.lemmas.Option.{slice_get-get_or, slice_get_past}
+use Rattle.vb_model.specs.Tests.{is_in}
 use Rattle.vb_ram.specs.Pages.{Pages, SameBut}
 use Rattle.vb_chain.specs.declared.pieces.Piece.{Piece}
 use Rattle.vb_chain.specs.Table.{descriptor_at}
@@ -30,7 +31,7 @@ use Rattle.vb_ring.proofs.FrameLaws.{outside_in}
 use Rattle.vb_ring.proofs.EntryLaws.{publishes_entries, puts_entries, puts_descriptors, id_shown}
 use Rattle.vb_ring.proofs.MeaningLaws.{times-push, fewer_used, added_tracks, tracks_shows}
 use Rattle.vb_ring.proofs.MeaningLaws.{next_used_out, taken_tracks, used_shows, next_path-free}
-use Rattle.vb_ring.proofs.MeaningLaws.{next_path-rise}
+use Rattle.vb_ring.proofs.MeaningLaws.{next_path-rise, next_path-lowest}
 use Rattle.vb_ring.specs.Calls.{PutsAvail, Publishes, Links, AddsBy, TakesUsedBy, PutsUsed}
 use Rattle.vb_ring.specs.Calls.{AddsUsedBy}
 
@@ -100,6 +101,9 @@ next_chain r n path is_end some along count = record {
   inside = λ k l. omega (arith, same k, (next_path-free r n k (here k l)).0, is_end.table);
   free = λ k l. ap (λ i. slice_index_or r.owner i None) (same k) ∙ (next_path-free r n k (here k l)).1;
   rise = λ j k l h. omega (arith, same j, same k, next_path-rise r n j k l (here k h));
+  lowest = λ i free l.
+      subst (λ (xs : List ℕ). i < slice_index xs (length xs - 1) → 0 < length xs → is_in i xs ≡ true)
+      (sym along) (λ low more. next_path-lowest r n i free more low) l (omega (arith, some, count));
 }
   where
     same : (k : ℕ) → slice_index path k ≡ slice_index (next_path r n) k

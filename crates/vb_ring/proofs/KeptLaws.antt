@@ -1,6 +1,7 @@
 -- What the driver's table keeps, after each change of the owners.
 use Rattle.std.specs.Prelude.{◌≡◌, ◌≢◌, ℕ, ◌+◌, ◌-◌, ◌<◌, ◌≤◌, Bool, true, false, List, Option, Some, None}
 use Rattle.std.specs.Prelude.{◌++◌, if◌then◌else◌, replicate, take, length, slice_index, slice_index_or, refl}
+use Rattle.std.specs.Prelude.{is_none}
 use Rattle.std.proofs.Common.{sym, ◌∙◌, ap, subst, arith, inl, inr, set}
 use Rattle.std.proofs.lemmas.Bool.{cases_eq}
 use Rattle.std.proofs.lemmas.List.{length-map, get_or-set_same, get_or-set_other}
@@ -9,11 +10,12 @@ use Rattle.vb_model.specs.Tests.{is_in}
 use Rattle.vb_model.proofs.Tables.{length-each_from}
 use Rattle.vb_ring.specs.Entries.{is_own, is_head}
 use Rattle.vb_ring.specs.Numbers.{numbers}
-use Rattle.vb_ring.specs.Ends.{claimed, released}
+use Rattle.vb_ring.specs.Ends.{is_unused, claimed, released}
 use Rattle.vb_ring.specs.Kept.{LiesBetween, AreKept, IsFreeChain}
 use Rattle.vb_ring.proofs.Numbers.{numbers_none, numbers_has}
 use Rattle.vb_ring.proofs.OwnerLaws.{Claims, claims, Releases, releases, is_in-some, some_same}
-use Rattle.vb_ring.proofs.OwnerLaws.{none_some, head_inside, fresh_free}
+use Rattle.vb_ring.proofs.OwnerLaws.{is_in-at, own_some}
+use Rattle.vb_ring.proofs.OwnerLaws.{none_some, head_inside, fresh_free, claimed-at, released-at}
 
 -- How many heads a table has, by its length.
 heads_of : (owner : List (Option ℕ)) (n m : ℕ) → n ≡ m
@@ -22,7 +24,7 @@ heads_of owner n m e = ap (λ k. length (numbers (is_head owner) k)) e
 
 -- A table of which nothing is out.
 pub fresh_kept : (owner : List (Option ℕ)) (count : ℕ) (last : List ℕ) → count ≤ 128
-    → owner ≡ replicate count None → AreKept owner count 0 last
+    → owner ≡ replicate count None → AreKept owner count 0 last 0
 fresh_kept owner count last few fresh =
     let free : (i : ℕ) → slice_index_or owner i None ≡ None =
     λ i. ap (λ (xs : List (Option ℕ)). slice_index_or xs i None) fresh ∙ fresh_free count i in
@@ -33,21 +35,23 @@ fresh_kept owner count last few fresh =
       heads = sym (ap length (numbers_none (is_head owner) (length owner) (λ i l. none i)));
       within = λ i h own. absurd (none_some h _ (free i) own);
       ends = λ h out. (let wrong : true ≡ false = sym out ∙ none h in cc);
+      begin = omega arith;
+      taken = λ i l. absurd (omega (arith, l));
     }
 
 -- A chain is out: some are.
-pub some_out : (owner : List (Option ℕ)) (count out h : ℕ) (last : List ℕ)
-    → AreKept owner count out last → is_head owner h ≡ true → 0 < out
-some_out owner count out h last kept is =
+pub some_out : (owner : List (Option ℕ)) (count out h from : ℕ) (last : List ℕ)
+    → AreKept owner count out last from → is_head owner h ≡ true → 0 < out
+some_out owner count out h from last kept is =
     let found = numbers_has (is_head owner) (length owner) h (head_inside owner h is) is in
     omega (arith, kept.heads, found.1)
 
 -- A chain more is out.
-pub claim_keeps : (owner : List (Option ℕ)) (count out : ℕ) (last path : List ℕ) (h e : ℕ)
-    → AreKept owner count out last → length last ≡ 128
+pub claim_keeps : (owner : List (Option ℕ)) (count out from : ℕ) (last path : List ℕ) (h e : ℕ)
+    → AreKept owner count out last from → length last ≡ 128
     → IsFreeChain owner path → slice_index path 0 ≡ h → slice_index path (length path - 1) ≡ e
-    → AreKept (claimed path h owner) count (out + 1) (set last h e)
-claim_keeps owner count out last path h e kept room chain first end =
+    → AreKept (claimed path h owner) count (out + 1) (set last h e) (e + 1)
+claim_keeps owner count out from last path h e kept room chain first end =
     let new : List (Option ℕ) = claimed path h owner in
     let some : 0 < length path = chain.some in
     let begin : h < length owner = omega (arith, chain.inside 0 some, first) in
@@ -82,8 +86,33 @@ claim_keeps owner count out last path h e kept room chain first end =
           kept.ends j (claim.same j ne ∙ is),
         )
       ];
+      begin = omega (arith, end, chain.inside (length path - 1) (omega arith), kept.size);
+      taken = λ i l. taken_by i l (is_in i path) refl (is_unused owner i) refl;
     }
   where
+    at_path : (i : ℕ) → slice_index_or (claimed path h owner) i None
+        ≡ (if is_in i path then Some h else slice_index_or owner i None)
+    at_path i = claimed-at path h owner i chain.inside
+
+    -- what is free below the path's end is on the path
+    taken_by : (i : ℕ) → i < e + 1 → (b : Bool) → is_in i path ≡ b
+        → (f : Bool) → is_unused owner i ≡ f → is_unused (claimed path h owner) i ≡ false
+    taken_by i l true on f free =
+        ap is_none (at_path i ∙ ap (λ (b : Bool). if b then Some h else slice_index_or owner i None) on)
+    taken_by i l false on false free =
+        ap is_none (at_path i ∙ ap (λ (b : Bool). if b then Some h else slice_index_or owner i None) on)
+        ∙ free
+    taken_by i l false on true free = elim (cases_eq i e) [
+      | inl same ↦
+          let there : is_in i path ≡ true =
+          ap (λ n. is_in n path) (same ∙ sym end)
+          ∙ is_in-at path (length path - 1) (omega (arith, chain.some)) in
+          (let wrong : true ≡ false = sym there ∙ on in cc)
+      | inr ne ↦
+          let there : is_in i path ≡ true = chain.lowest i free (omega (arith, l, ne, end)) in
+          (let wrong : true ≡ false = sym there ∙ on in cc)
+    ]
+
     -- a place of the path lies between its ends
     from_first : (k : ℕ) → k < length path → h ≤ slice_index path k
     from_first k l = elim (cases_eq k 0) [
@@ -131,10 +160,10 @@ claim_keeps owner count out last path h e kept room chain first end =
         }
 
 -- A chain less is out.
-pub release_keeps : (owner : List (Option ℕ)) (count out : ℕ) (last : List ℕ) (h : ℕ)
-    → AreKept owner count out last → is_head owner h ≡ true
-    → AreKept (released h owner) count (out - 1) last
-release_keeps owner count out last h kept is =
+pub release_keeps : (owner : List (Option ℕ)) (count out from to : ℕ) (last : List ℕ) (h : ℕ)
+    → AreKept owner count out last from → is_head owner h ≡ true → to ≤ from → to ≤ h
+    → AreKept (released h owner) count (out - 1) last to
+release_keeps owner count out from to last h kept is below low =
     let new : List (Option ℕ) = released h owner in
     let release : Releases owner new h = releases owner h is in
     let len : length new ≡ length owner =
@@ -157,30 +186,43 @@ release_keeps owner count out last h kept is =
             (let wrong : true ≡ false = sym out ∙ ap (is_head new) same ∙ release.gone in cc)
         | inr ne ↦ sym (release.same j ne) ∙ out
       ]);
+      begin = omega (arith, kept.begin, below);
+      taken = λ i l. taken_by i (omega (arith, l, low)) (kept.taken i (omega (arith, l, below)))
+          (is_own h (slice_index_or owner i None)) refl;
     }
+  where
+    -- what is taken below the head belongs to another chain
+    taken_by : (i : ℕ) → i < h → is_unused owner i ≡ false
+        → (b : Bool) → is_own h (slice_index_or owner i None) ≡ b
+        → is_unused (released h owner) i ≡ false
+    taken_by i l held true own =
+        absurd (omega (arith, l, (kept.within i h (own_some h _ own)).from))
+    taken_by i l held false own =
+        ap is_none (released-at h owner i
+        ∙ ap (λ (b : Bool). if b then None else slice_index_or owner i None) own) ∙ held
 
 -- ---- where the table is the first part of a longer one
 
-pub claim_after : (owner new more : List (Option ℕ)) (count out : ℕ) (last path : List ℕ)
-    (at h e : ℕ) → AreKept owner count out last → length last ≡ 128
+pub claim_after : (owner new more : List (Option ℕ)) (count out from : ℕ) (last path : List ℕ)
+    (at h e : ℕ) → AreKept owner count out last from → length last ≡ 128
     → IsFreeChain owner path → slice_index path 0 ≡ h → slice_index path (length path - 1) ≡ e
     → at ≡ h → new ≡ claimed path h owner
-    → AreKept (take count (new ++ more)) count (out + 1) (set last at e)
-claim_after owner new more count out last path at h e kept room chain first end place is =
-    let after : AreKept (claimed path h owner) count (out + 1) (set last h e) =
-    claim_keeps owner count out last path h e kept room chain first end in
+    → AreKept (take count (new ++ more)) count (out + 1) (set last at e) (e + 1)
+claim_after owner new more count out from last path at h e kept room chain first end place is =
+    let after : AreKept (claimed path h owner) count (out + 1) (set last h e) (e + 1) =
+    claim_keeps owner count out from last path h e kept room chain first end in
     let whole : take count (new ++ more) ≡ claimed path h owner =
     take_at new more count (ap length is ∙ after.size) ∙ is in
-    subst (λ (xs : List (Option ℕ)). AreKept xs count (out + 1) (set last at e)) (sym whole)
-    (subst (λ (n : ℕ). AreKept (claimed path h owner) count (out + 1) (set last n e)) (sym place)
-    after)
+    subst (λ (xs : List (Option ℕ)). AreKept xs count (out + 1) (set last at e) (e + 1)) (sym whole)
+    (subst (λ (n : ℕ). AreKept (claimed path h owner) count (out + 1) (set last n e) (e + 1))
+    (sym place) after)
 
-pub release_after : (owner new more : List (Option ℕ)) (count out : ℕ) (last : List ℕ) (h : ℕ)
-    → AreKept owner count out last → is_head owner h ≡ true → new ≡ released h owner
-    → AreKept (take count (new ++ more)) count (out - 1) last
-release_after owner new more count out last h kept head is =
-    let after : AreKept (released h owner) count (out - 1) last =
-    release_keeps owner count out last h kept head in
+pub release_after : (owner new more : List (Option ℕ)) (count out from to : ℕ) (last : List ℕ)
+    (h : ℕ) → AreKept owner count out last from → is_head owner h ≡ true → to ≤ from → to ≤ h
+    → new ≡ released h owner → AreKept (take count (new ++ more)) count (out - 1) last to
+release_after owner new more count out from to last h kept head below low is =
+    let after : AreKept (released h owner) count (out - 1) last to =
+    release_keeps owner count out from to last h kept head below low in
     let whole : take count (new ++ more) ≡ released h owner =
     take_at new more count (ap length is ∙ after.size) ∙ is in
-    subst (λ (xs : List (Option ℕ)). AreKept xs count (out - 1) last) (sym whole) after
+    subst (λ (xs : List (Option ℕ)). AreKept xs count (out - 1) last to) (sym whole) after

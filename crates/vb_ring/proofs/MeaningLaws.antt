@@ -1,10 +1,10 @@
 -- Laws of what the bytes of a ring mean.
-use Rattle.std.specs.Prelude.{◌≡◌, ◌≢◌, ℕ, zero, suc, ◌+◌, ◌<◌, ◌≤◌, ◌==◌, nat_lt, Bool, true}
+use Rattle.std.specs.Prelude.{◌≡◌, ◌≢◌, ℕ, zero, suc, ◌+◌, ◌-◌, ◌<◌, ◌≤◌, ◌==◌, nat_lt, Bool, true}
 use Rattle.std.specs.Prelude.{false, List, [], ◌∷◌, ◌++◌, Option, Some, None, Ok, is_none}
 use Rattle.std.specs.Prelude.{length, take, replicate, slice_index, slice_index_or}
 use Rattle.std.specs.Prelude.{refl}
 use Rattle.std.proofs.Common.{sym, ◌∙◌, ap, subst, arith, inl, inr, eq-eqb, add-one, add-zero}
-use Rattle.std.proofs.lemmas.Bool.{cases_eq, eqb-true, ltb-true}
+use Rattle.std.proofs.lemmas.Bool.{cases_eq, cases_lt, eqb-true, ltb-true}
 use Rattle.std.proofs.lemmas.List.{length_push, length-map, get_or-take}
 use Rattle.std.proofs.lemmas.List.{length-take-le, take-append-le}
 use Rattle.vb_model.specs.Tests.{is_in, one_if}
@@ -21,11 +21,11 @@ use Rattle.vb_ring.specs.declared.layout.Layout.{Layout}
 use Rattle.vb_ring.specs.Layout.{IsSize, Fits}
 use Rattle.vb_ring.specs.Entries.{avail_index, used_index, is_own, is_head}
 use Rattle.vb_ring.specs.Numbers.{numbers}
-use Rattle.vb_ring.proofs.Numbers.{numbers_pass, numbers_rise, numbers_none}
+use Rattle.vb_ring.proofs.Numbers.{numbers_pass, numbers_rise, numbers_none, numbers_has}
 use Rattle.vb_ring.proofs.Numbers.{length_two}
 use Rattle.vb_ring.specs.Ends.{DriverEnd, IsDriverEnd, is_unused, free_descriptors, outstanding}
 use Rattle.vb_ring.specs.Ends.{next_path, claimed, released, after_add, after_take, fresh_end}
-use Rattle.vb_ring.proofs.OwnerLaws.{nowhere_in, take_inside, free_none}
+use Rattle.vb_ring.proofs.OwnerLaws.{is_in-at, nowhere_in, take_inside, free_none}
 use Rattle.vb_ring.proofs.OwnerLaws.{some_same, none_some, head_inside}
 use Rattle.vb_ring.proofs.OwnerLaws.{Claims, claims, Releases, releases, fresh_free}
 use Rattle.vb_ring.specs.Meaning.{UsedElem, no_elem, ids, times, IsOutstanding, IsTablePath}
@@ -291,6 +291,29 @@ next_path-rise r n j k l h =
     let here = take_inside (free_descriptors r) n k h in
     let before = take_inside (free_descriptors r) n j (omega arith) in
     omega (arith, here.2, before.2, numbers_rise (is_unused r.owner) r.size j k l here.0)
+
+-- Each free descriptor below its last one stands on it.
+pub next_path-lowest : (r : DriverEnd) (n i : ℕ) → is_unused r.owner i ≡ true
+    → 0 < length (next_path r n)
+    → i < slice_index (next_path r n) (length (next_path r n) - 1) → is_in i (next_path r n) ≡ true
+next_path-lowest r n i free some low =
+    let path : List ℕ = next_path r n in
+    let m : ℕ = length path - 1 in
+    let last = take_inside (free_descriptors r) n m (omega (arith, some)) in
+    let inside : i < r.size = omega (arith, low, (next_path-free r n m (omega (arith, some))).0) in
+    let found = numbers_has (is_unused r.owner) r.size i inside free in
+    elim (cases_lt found.0 (length path)) [
+      | inl l ↦
+          let here = take_inside (free_descriptors r) n found.0 l in
+          ap (λ k. is_in k path) (sym (here.2 ∙ found.2)) ∙ is_in-at path found.0 l
+      | inr past ↦ absurd (omega (
+        arith,
+        low,
+        last.2,
+        found.2,
+        numbers_rise (is_unused r.owner) r.size m found.0 (omega (arith, some, past)) found.1,
+      ))
+    ]
 
 -- The driver's end after an add tracks the ring with the one head more.
 pub added_tracks : (m1 m3 : Pages) (r : DriverEnd) (pieces : List Piece) (h : ℕ) (heads : List ℕ)

@@ -47,8 +47,9 @@ fn release(owner: &mut [Option<u16>], head: u16, last: u16)
     }
 }
 
-/// The driver's table. Beside the owners it keeps how many chains are out, and where each of them
-/// ends, so that no call has to go through the whole table to know it.
+/// The driver's table. Beside the owners it keeps how many chains are out, where each of them ends,
+/// and a number below which no descriptor is free, so that no call has to go through the whole table
+/// to know it.
 #[derive(Drop)]
 pub struct Owners {
     /// For each descriptor the head of the chain that it belongs to, or none; past `count` unused.
@@ -57,6 +58,8 @@ pub struct Owners {
     count: u16,
     /// How many chains are out.
     out: u16,
+    /// No descriptor below it is free.
+    from: u16,
     /// For each head of a chain that is out the last descriptor of the chain.
     last: [u16; MAX_DESCRIPTORS],
 }
@@ -69,7 +72,7 @@ impl Model for Owners {
 
     ghost view = { λ t. take t.count t.owner };
 
-    ghost invariant = { λ t. AreKept (take t.count t.owner) t.count t.out t.last };
+    ghost invariant = { λ t. AreKept (take t.count t.owner) t.count t.out t.last t.from };
 }
 
 impl Owners {
@@ -82,6 +85,7 @@ impl Owners {
             owner: [None; MAX_DESCRIPTORS],
             count,
             out: 0,
+            from: 0,
             last: [0; MAX_DESCRIPTORS],
         }
     }
@@ -112,7 +116,7 @@ impl Owners {
     pub fn lowest_free(&self) -> Option<u16>
         ensures { result ≡ slice_get (numbers (is_unused self.now) (length self.now)) 0 }
     {
-        for i in 0..self.count {
+        for i in self.from..self.count {
             if self.is_free(i) {
                 return Some(i);
             }
@@ -130,7 +134,7 @@ impl Owners {
         ensures few { result ≡ false →
             length (numbers (is_unused self.now) (length self.now)) < count }
     {
-        for i in 0..self.count {
+        for i in self.from..self.count {
             if self.is_free(i) {
                 path.push(i);
                 if path.len() == count {
@@ -148,7 +152,9 @@ impl Owners {
     {
         let head = path[0];
         claim(&mut self.owner[..usize::from(self.count)], path, head);
-        self.last[usize::from(head)] = path[path.len() - 1];
+        let last = path[path.len() - 1];
+        self.last[usize::from(head)] = last;
+        self.from = last + 1;
         self.out += 1;
     }
 
@@ -159,6 +165,7 @@ impl Owners {
     {
         let last = self.last[usize::from(head)];
         release(&mut self.owner[..usize::from(self.count)], head, last);
+        self.from = self.from.min(head);
         self.out -= 1;
     }
 }

@@ -3,7 +3,7 @@ use Rattle.std.proofs.Common.{sym, ap, arith}
 use Rattle.std.proofs.lemmas.List.{length_push}
 use Rattle.vb_ring.specs.Ends.{is_unused}
 use Rattle.vb_ring.specs.Numbers.{numbers}
-use Rattle.vb_ring.proofs.Numbers.{numbers_zero, numbers_yes, numbers_no, numbers_prefix}
+use Rattle.vb_ring.proofs.Numbers.{numbers_none, numbers_yes, numbers_no, numbers_prefix}
 use Rattle.vb_ring.proofs.Numbers.{length-numbers}
 use Rattle.vb_ring.proofs.owners.Owners.find_free.Goals as goal
 use Rattle.vb_ring.proofs.owners.Owners.find_free.Goals.{then-is_free+else-len-count, else-is_free}
@@ -22,7 +22,8 @@ is_free-requires c = omega (arith, ap length c.self.view_is, c.self.invariant.si
 
 pub loop-i-init : goal.loop-i-init
 loop-i-init c = (
-  c.requires.empty ∙ sym (numbers_zero (is_unused c.args.self.now)),
+  c.requires.empty ∙ sym (numbers_none (is_unused c.args.self.now) c.self.inside.from
+      (λ i l. ap (λ xs. is_unused xs i) (sym c.self.view_is) ∙ c.self.invariant.taken i l)),
   omega (arith, c.requires.some, ap length c.requires.empty),
 )
 

@@ -1,4 +1,4 @@
-use Rattle.std.proofs.Common.{◌≡◌, ◌∙◌, true, take, ap}
+use Rattle.std.proofs.Common.{◌≡◌, ◌∙◌, true, take, ap, arith}
 use Rattle.vb_ring.specs.Ends.{released}
 use Rattle.vb_ring.specs.Entries.{is_head}
 use Rattle.vb_ring.proofs.KeptLaws.{some_out, release_after}
@@ -9,8 +9,8 @@ overflow_sub-self c =
     let owner = take c.self.inside.count c.self.inside.owner in
     let head : is_head owner c.args.head ≡ true =
     ap (λ xs. is_head xs c.args.head) c.self.view_is ∙ c.requires in
-    some_out owner c.self.inside.count c.self.inside.out c.args.head c.self.inside.last
-    c.self.invariant head
+    some_out owner c.self.inside.count c.self.inside.out c.args.head c.self.inside.from
+    c.self.inside.last c.self.invariant head
 
 pub invariant_of-self : goal.invariant_of-self
 invariant_of-self c =
@@ -18,5 +18,6 @@ invariant_of-self c =
     let head : is_head owner c.args.head ≡ true =
     ap (λ xs. is_head xs c.args.head) c.self.view_is ∙ c.requires in
     release_after owner c.release.new.owner _ c.self.inside.count c.self.inside.out
-    c.self.inside.last c.args.head c.self.invariant head
+    c.self.inside.from c.min-self-inside.result c.self.inside.last c.args.head c.self.invariant head
+    (omega (arith, c.min-self-inside.ensures)) (omega (arith, c.min-self-inside.ensures))
     (c.release.ensures ∙ ap (λ k. released c.args.head (take k c.self.inside.owner)) c.from-2.ensures)
