@@ -6,7 +6,7 @@ use Rattle.std.proofs.lemmas.Bool.Decides.{eqb_tells}
 use Rattle.std.proofs.lemmas.List.{length-set, get_or-set_same, get_or-set_other}
 use Rattle.vb_model.specs.declared.calls.Claim.{Claim}
 use Rattle.vb_model.specs.declared.calls.Claim.TheVariants.{Gave, GaveNoFrame, GaveNoMemory}
-use Rattle.vb_model.specs.World.{Gives}
+use Rattle.vb_model.specs.HostFrames.{Gives}
 use Rattle.vb_frames.proofs.Returns.{same_gives}
 use Rattle.vb_frames.specs.Out.{is_out, AllAnswered, TableAnswers}
 

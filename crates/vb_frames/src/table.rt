@@ -3,7 +3,7 @@
 ghost use Rattle.std.specs.Prelude.{◌≡◌, ◌<◌, ◌≤◌, true, false, List, Bool};
 ghost use Rattle.std.specs.Prelude.{length, replicate, IfOk, count_by};
 ghost use Rattle.vb_model.specs.declared.calls.Claim.{Claim};
-ghost use Rattle.vb_model.specs.World.{Gives};
+ghost use Rattle.vb_model.specs.HostFrames.{Gives};
 ghost use Rattle.vb_frames.specs.Out.{AllAnswered, TableAnswers, is_out};
 
 use crate::{FrameKeeper, Refused};

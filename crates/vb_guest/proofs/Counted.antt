@@ -10,7 +10,7 @@ use Rattle.vb_model.specs.Tests.{one_if}
 use Rattle.vb_model.specs.Pages.{is_free, is_used, is_giving, is_lent, is_taking, is_stranded}
 use Rattle.vb_model.specs.Pages.{is_reporting}
 use Rattle.vb_model.specs.Guest.{Guest}
-use Rattle.vb_model.specs.World.{is_place, place_counts, count_at}
+use Rattle.vb_model.specs.Queries.{is_place, place_counts, count_at}
 use Rattle.vb_model.proofs.Tables.{count_by-cons}
 use Rattle.vb_ram.specs.Pages.{Pages}
 use Rattle.vb_ram.specs.Part.{Part}

@@ -4,7 +4,7 @@ use Rattle.std.specs.Prelude.{List, [], ◌∷◌, ◌++◌, length, take, slice
 use Rattle.std.proofs.Common.{sym, ◌∙◌, ap, arith, eq-eqb}
 use Rattle.vb_model.specs.declared.places.PageRun.{PageRun}
 use Rattle.vb_model.specs.Tests.{pages_from, pages_where}
-use Rattle.vb_model.specs.World.{runs, runs_with}
+use Rattle.vb_model.specs.Queries.{runs, runs_with}
 use Rattle.vb_guest.proofs.Discarding.{other_not}
 
 abbrev pub single : ℕ → PageRun

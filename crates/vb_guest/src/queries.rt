@@ -3,7 +3,7 @@
 ghost use Rattle.std.specs.Prelude.{◌≡◌, ◌≤◌, ℕ, List, [], ◌∷◌, ◌++◌, length, IfOk, OnOk};
 ghost use Rattle.vb_model.specs.Balance.{spare};
 ghost use Rattle.vb_model.specs.Tests.{pages_where};
-ghost use Rattle.vb_model.specs.World.{is_place, runs};
+ghost use Rattle.vb_model.specs.Queries.{is_place, runs};
 ghost use Rattle.vb_model.specs.declared.limits.TheConstants.{MAX_GUEST_PAGES};
 ghost use Rattle.vb_model.specs.declared.replies.Reply.TheVariants.{Places};
 ghost use Rattle.vb_ram.specs.Pages.{Pages};

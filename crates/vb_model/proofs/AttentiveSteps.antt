@@ -25,7 +25,8 @@ use Rattle.vb_model.specs.Life.{feature_refusal, Negotiates, lacking}
 use Rattle.vb_model.specs.Rogue.{Scribbled}
 use Rattle.vb_model.specs.Step.{Performs, HonestStep}
 use Rattle.vb_model.specs.Orderly.{IsOrderly}
-use Rattle.vb_model.specs.World.{World, WorldStep, guest_at}
+use Rattle.vb_model.specs.World.{World, guest_at}
+use Rattle.vb_model.specs.HostEvents.{WorldStep}
 use Rattle.vb_model.specs.HonestRuns.{has_buffer, IsAttentive}
 use Rattle.vb_model.proofs.CallSteps.{match_cases, supplying_cases, works_cases, not_refused, Idles}
 use Rattle.vb_model.proofs.CallSteps.{Visits, supplied}

@@ -8,7 +8,8 @@ use Rattle.vb_model.specs.declared.replies.Reply.TheVariants.{Targets, Refused}
 use Rattle.vb_model.specs.Guest.{Guest}
 use Rattle.vb_model.specs.Balance.{Need, AreTargets, GivesBefore, spare, need, spare_at, missing}
 use Rattle.vb_model.specs.Balance.{shortage}
-use Rattle.vb_model.specs.World.{World, WorldStep, needs}
+use Rattle.vb_model.specs.World.{World}
+use Rattle.vb_model.specs.HostEvents.{WorldStep, needs}
 use Rattle.vb_model.proofs.Samples.{config, ready}
 
 -- ---- what a guest of 64 pages can spare: min(48, ballooned + (free - floor))

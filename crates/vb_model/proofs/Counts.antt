@@ -8,7 +8,7 @@ use Rattle.vb_model.specs.declared.places.Place.{Place}
 use Rattle.vb_model.specs.declared.places.Place.TheVariants.{Reserved}
 use Rattle.vb_model.specs.Tests.{is_in, one_if, each_from, pages_from, pages_where}
 use Rattle.vb_model.specs.Pages.{place_of, placed}
-use Rattle.vb_model.specs.Requests.{Request, Requests, all_requests, names, naming, posting}
+use Rattle.vb_model.specs.Requests.{Request, Requests, all_requests, naming, posting}
 use Rattle.vb_model.specs.Requests.{outstanding, pages_named}
 use Rattle.vb_model.specs.Driver.{AllDistinct}
 use Rattle.vb_model.specs.Device.{visiting, is_unvisited}

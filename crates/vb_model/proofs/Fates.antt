@@ -22,8 +22,9 @@ use Rattle.vb_model.specs.Refusals.{first_refusal}
 use Rattle.vb_model.specs.Life.{after_restart}
 use Rattle.vb_model.specs.Rogue.{IsRogueAfter, RogueStep, target_after}
 use Rattle.vb_model.specs.Step.{HonestStep, GuestStep}
-use Rattle.vb_model.specs.World.{World, WorldStep, Happens, guest_at, with_guest, put_guest}
-use Rattle.vb_model.specs.World.{world_tests}
+use Rattle.vb_model.specs.World.{World, guest_at, with_guest, put_guest}
+use Rattle.vb_model.specs.HostEvents.{WorldStep, Happens}
+use Rattle.vb_model.specs.HostRefusals.{world_tests}
 use Rattle.vb_model.specs.StepLaws.{OthersAreUntouched, TargetsAreKept, TargetsAreSet}
 use Rattle.vb_model.specs.StepLaws.{ConfigurationsAreKept, FramesGoBack, RestartedAreHonest}
 use Rattle.vb_model.specs.StepLaws.{RoguesAreMade, RoguesStay, ScribblesMakeRogues}

@@ -18,8 +18,12 @@ use Rattle.vb_model.specs.FirstRefusal.{first_refusal}
 use Rattle.vb_model.specs.Guest.{Guest, Config, fresh}
 use Rattle.vb_model.specs.Life.{after_restart}
 use Rattle.vb_model.specs.Balance.{AreTargets, shortage}
-use Rattle.vb_model.specs.World.{World, Happens, Plugs, PlugsIn, Calls, Answers, Balances}
-use Rattle.vb_model.specs.World.{world_tests, guest_at, with_guest, put_guest, needs, with_targets}
+use Rattle.vb_model.specs.World.{World}
+use Rattle.vb_model.specs.HostEvents.{Happens, Plugs, PlugsIn, Calls, Balances}
+use Rattle.vb_model.specs.Queries.{Answers}
+use Rattle.vb_model.specs.HostRefusals.{world_tests}
+use Rattle.vb_model.specs.World.{guest_at, with_guest, put_guest}
+use Rattle.vb_model.specs.HostEvents.{needs, with_targets}
 use Rattle.vb_model.specs.HostLaws.{HostStepsAgree, CallsLeaveTheHost}
 use Rattle.vb_model.proofs.Unique.{unique}
 

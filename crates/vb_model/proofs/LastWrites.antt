@@ -24,7 +24,8 @@ use Rattle.vb_model.specs.Driver.{contents_of, overwritten, pages_needed, Writte
 use Rattle.vb_model.specs.Rogue.{RogueStep}
 use Rattle.vb_model.specs.Step.{Performs, HonestStep, GuestStep}
 use Rattle.vb_model.specs.Blank.{IsBlank}
-use Rattle.vb_model.specs.World.{World, WorldStep, guest_at}
+use Rattle.vb_model.specs.World.{World, guest_at}
+use Rattle.vb_model.specs.HostEvents.{WorldStep}
 use Rattle.vb_model.specs.Run.{History, Run, guest_in}
 use Rattle.vb_model.specs.Safe.{IsHonest, IsAt, IsWriteTo}
 use Rattle.vb_model.specs.LastWrites.{byte_of, byte_written, byte_after, last_written, HoldsPage}

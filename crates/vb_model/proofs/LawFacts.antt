@@ -19,7 +19,8 @@ use Rattle.vb_model.specs.declared.replies.Reply.TheVariants.{Plugged, Done, Fra
 use Rattle.vb_model.specs.Tests.{is_in}
 use Rattle.vb_model.specs.Guest.{Guest}
 use Rattle.vb_model.specs.Life.{feature_refusal}
-use Rattle.vb_model.specs.World.{World, IsOut}
+use Rattle.vb_model.specs.World.{World}
+use Rattle.vb_model.specs.HostFrames.{IsOut}
 use Rattle.vb_model.specs.HostLaws.{WorldsAgree}
 use Rattle.vb_model.specs.StepLaws.{IsOfOthers, HasNoFrame, WantOfFrames, may_want_memory}
 use Rattle.vb_model.specs.StepLaws.{HasNoReservedBallooned, IsUnchanged, call_may_want}

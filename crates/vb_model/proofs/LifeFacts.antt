@@ -17,7 +17,9 @@ use Rattle.vb_model.specs.Refusals.{refusal_of}
 use Rattle.vb_model.specs.Driver.{AreClaimsFor}
 use Rattle.vb_model.specs.Life.{after_reset, after_restart, lacking}
 use Rattle.vb_model.specs.Step.{HonestStep}
-use Rattle.vb_model.specs.World.{World, WorldStep, used_frames}
+use Rattle.vb_model.specs.World.{World}
+use Rattle.vb_model.specs.HostEvents.{WorldStep}
+use Rattle.vb_model.specs.HostFrames.{used_frames}
 use Rattle.vb_model.proofs.Samples.{config, ready, down, mixed_places, request}
 
 -- ---- a guest with something in every field

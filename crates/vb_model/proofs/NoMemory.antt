@@ -22,8 +22,12 @@ use Rattle.vb_model.specs.Driver.{AreClaimsFor, claim_refusal}
 use Rattle.vb_model.specs.Life.{after_restart}
 use Rattle.vb_model.specs.Rogue.{pages_to_back, is_read}
 use Rattle.vb_model.specs.Balance.{AreTargets, shortage}
-use Rattle.vb_model.specs.World.{World, Happens, Calls, Answers, PlugsIn, guest_at}
-use Rattle.vb_model.specs.World.{with_guest, put_guest, with_targets, world_tests, needs}
+use Rattle.vb_model.specs.World.{World, guest_at}
+use Rattle.vb_model.specs.HostEvents.{Happens, Calls, PlugsIn}
+use Rattle.vb_model.specs.Queries.{Answers}
+use Rattle.vb_model.specs.World.{with_guest, put_guest}
+use Rattle.vb_model.specs.HostEvents.{with_targets, needs}
+use Rattle.vb_model.specs.HostRefusals.{world_tests}
 use Rattle.vb_model.specs.StepLaws.{WantsChangeNothing, may_want_memory, call_may_want, is_none_of}
 use Rattle.vb_model.specs.StepLaws.{is_list}
 use Rattle.vb_model.proofs.CallSteps.{match_cases}

@@ -45,7 +45,8 @@ use Rattle.vb_model.specs.Step.{Performs, HonestStep}
 use Rattle.vb_model.specs.Consistent.{IsConsistent}
 use Rattle.vb_model.specs.Orderly.{AreOrderly, IsOrderly, IsBlock, AreBlocks}
 use Rattle.vb_model.specs.Orderly.{AreAgreed}
-use Rattle.vb_model.specs.World.{World, WorldStep, guest_at}
+use Rattle.vb_model.specs.World.{World, guest_at}
+use Rattle.vb_model.specs.HostEvents.{WorldStep}
 use Rattle.vb_model.proofs.Tables.{length-each_from}
 use Rattle.vb_model.proofs.PageSteps.{can_be_given, after_take, after_reap, outside-range}
 use Rattle.vb_model.proofs.GuestSteps.{placed-get, not_reserved, held_used, inflate_giving}

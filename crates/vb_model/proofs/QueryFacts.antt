@@ -15,7 +15,9 @@ use Rattle.vb_model.specs.declared.replies.Reply.{Reply}
 use Rattle.vb_model.specs.declared.replies.Reply.TheVariants.{Places, Pages, Balloon, Statistics}
 use Rattle.vb_model.specs.declared.replies.Reply.TheVariants.{Backing, Refused}
 use Rattle.vb_model.specs.Guest.{Guest}
-use Rattle.vb_model.specs.World.{World, WorldStep, Answers, runs}
+use Rattle.vb_model.specs.World.{World}
+use Rattle.vb_model.specs.HostEvents.{WorldStep}
+use Rattle.vb_model.specs.Queries.{Answers, runs}
 use Rattle.vb_model.proofs.Samples.{ready, mixed}
 
 abbrev run : ℕ → ℕ → PageRun

@@ -26,8 +26,10 @@ use Rattle.vb_model.specs.Life.{feature_refusal, Negotiates, lacking, after_rest
 use Rattle.vb_model.specs.Rogue.{Scribbled}
 use Rattle.vb_model.specs.Step.{Performs}
 use Rattle.vb_model.specs.Balance.{AreTargets, shortage}
-use Rattle.vb_model.specs.World.{World, Happens, PlugsIn, put_guest, guest_at, with_targets}
-use Rattle.vb_model.specs.World.{world_tests, needs}
+use Rattle.vb_model.specs.World.{World, put_guest, guest_at}
+use Rattle.vb_model.specs.HostEvents.{Happens, PlugsIn, with_targets}
+use Rattle.vb_model.specs.HostRefusals.{world_tests}
+use Rattle.vb_model.specs.HostEvents.{needs}
 use Rattle.vb_model.specs.StepLaws.{IsUnchanged, RefusalsChangeNothing, RefusedEventsChangeNothing}
 use Rattle.vb_model.proofs.CallSteps.{match_cases, supplying_cases, works_cases}
 

@@ -16,7 +16,8 @@ use Rattle.vb_model.specs.Step.{HonestStep}
 use Rattle.vb_model.specs.Consistent.{IsConsistent}
 use Rattle.vb_model.specs.Orderly.{IsOrderly}
 use Rattle.vb_model.specs.StepLaws.{HasNoReservedBallooned}
-use Rattle.vb_model.specs.World.{World, WorldStep, guest_at}
+use Rattle.vb_model.specs.World.{World, guest_at}
+use Rattle.vb_model.specs.HostEvents.{WorldStep}
 use Rattle.vb_model.proofs.PageSteps.{naming-all}
 use Rattle.vb_model.proofs.Changes.{Change, Untouched, Retargeted, Stepped, Restarted, New, changes}
 use Rattle.vb_model.proofs.Unchanged.{step_keeps}

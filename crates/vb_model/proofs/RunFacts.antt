@@ -12,7 +12,8 @@ use Rattle.vb_model.specs.declared.replies.Reply.{Reply}
 use Rattle.vb_model.specs.declared.replies.Reply.TheVariants.{Done, Idle, Frames, Targets, Refused}
 use Rattle.vb_model.specs.declared.replies.Refusal.TheVariants.{OutOfRam, Short}
 use Rattle.vb_model.specs.Guest.{Guest}
-use Rattle.vb_model.specs.World.{World, made, Gives, IsOut}
+use Rattle.vb_model.specs.World.{World, made}
+use Rattle.vb_model.specs.HostFrames.{Gives, IsOut}
 use Rattle.vb_model.specs.Run.{History, Run, Steps, guest_in, last_world}
 use Rattle.vb_model.specs.GuestRun.{Entry, Called, Looked, EntryStep, GuestRun, IsHistory}
 use Rattle.vb_model.specs.GuestRun.{AreOwnEntries, AreEntriesOf, InOneLife}

@@ -2,7 +2,8 @@
 use Rattle.std.specs.Prelude.{◌≡◌, List, [], ◌∷◌, ◌++◌, refl}
 use Rattle.vb_model.specs.declared.calls.Event.{Event}
 use Rattle.vb_model.specs.declared.replies.Reply.{Reply}
-use Rattle.vb_model.specs.World.{World, WorldStep}
+use Rattle.vb_model.specs.World.{World}
+use Rattle.vb_model.specs.HostEvents.{WorldStep}
 use Rattle.vb_model.specs.Run.{Steps, last_world}
 
 pub steps-push : (w : World) (events : List Event) (replies : List Reply) (after : List World)

@@ -10,7 +10,8 @@ use Rattle.vb_model.specs.declared.calls.Event.TheVariants.{Frames as CountFrame
 use Rattle.vb_model.specs.declared.replies.Reply.{Reply}
 use Rattle.vb_model.specs.declared.replies.Reply.TheVariants.{Frames, Swept}
 use Rattle.vb_model.specs.Guest.{Guest, unbacked}
-use Rattle.vb_model.specs.World.{World, WorldStep, made}
+use Rattle.vb_model.specs.World.{World, made}
+use Rattle.vb_model.specs.HostEvents.{WorldStep}
 use Rattle.vb_model.specs.Run.{Steps, last_world}
 use Rattle.vb_model.specs.Safe.{Safe, IsSafeRun}
 use Rattle.vb_model.proofs.Samples.{down, page_16_at, request}

@@ -1,5 +1,5 @@
 -- A guest that tells the host takes the steps of the rules that speak of no other.
-use Rattle.std.proofs.Common.{◌≡◌, ℕ, zero, suc, ◌+◌, ◌<◌, ◌≤◌, Bool, true, false, cond, List, []}
+use Rattle.std.proofs.Common.{◌≡◌, ℕ, suc, ◌+◌, ◌<◌, Bool, true, List, []}
 use Rattle.std.proofs.Common.{◌∷◌, ◌++◌, length, get_or, refl, sym, ap, subst, ◌∙◌, arith}
 use Rattle.std.specs.Prelude.{◌==◌, ◌||◌, not, ◌&&◌, nat_le, nat_lt, count_by, Option, MatchOption}
 use Rattle.std.specs.Prelude.{◌↔◌}
@@ -18,25 +18,25 @@ use Rattle.vb_model.specs.declared.replies.Refusal.TheVariants.{NotReady, NeedsR
 use Rattle.vb_model.specs.declared.replies.Refusal.TheVariants.{DeflatePending, NoFeature}
 use Rattle.vb_model.specs.declared.replies.Refusal.TheVariants.{Nothing, NotBallooned}
 use Rattle.vb_model.specs.declared.replies.Reply.{Reply}
-use Rattle.vb_model.specs.declared.replies.Reply.TheVariants.{Posted, Refused}
-use Rattle.vb_model.specs.Tests.{is_in, one_if}
+use Rattle.vb_model.specs.declared.replies.Reply.TheVariants.{Refused}
+use Rattle.vb_model.specs.Tests.{one_if}
 use Rattle.vb_model.specs.Pages.{is_lent, is_taking, place_of, placed}
-use Rattle.vb_model.specs.Requests.{Request, Requests, all_requests, outstanding, names, naming}
+use Rattle.vb_model.specs.Requests.{Request, all_requests, outstanding, names, naming}
 use Rattle.vb_model.specs.Requests.{pages_named, posting, Kind, Inflating, Deflating}
 use Rattle.vb_model.specs.Requests.{Reporting_free, kind_of_queue, place_posted, places_reaped}
 use Rattle.vb_model.specs.Requests.{given_away}
 use Rattle.vb_model.specs.Guest.{Guest, requests, with_requests, is_ballooned, tells_host}
 use Rattle.vb_model.specs.Tables.{is_up, is_not_ready, has_fault}
-use Rattle.vb_model.specs.Refusals.{◌⇒◌, first_refusal, refusal_of, tests, room, inflate_count}
+use Rattle.vb_model.specs.Refusals.{◌⇒◌, first_refusal, tests, room, inflate_count}
 use Rattle.vb_model.specs.Refusals.{deflate_count, oom_count}
-use Rattle.vb_model.specs.Driver.{AllDistinct, lowest_lent, asking, reaped, Reaps, Deflates}
+use Rattle.vb_model.specs.Driver.{lowest_lent, asking, reaped, Reaps, Deflates}
 use Rattle.vb_model.specs.Step.{Performs, HonestStep}
 use Rattle.vb_model.specs.Consistent.{IsConsistent}
-use Rattle.vb_model.specs.Orderly.{IsOrderly, AllRequestsSound, IsRequestSound}
-use Rattle.vb_model.specs.Telling.{told_tests, told_place, told_reaped, Takes, ToldReaps}
+use Rattle.vb_model.specs.Orderly.{IsOrderly, AllRequestsSound}
+use Rattle.vb_model.specs.Telling.{told_tests, told_reaped, Takes, ToldReaps}
 use Rattle.vb_model.specs.Telling.{ToldPerforms, ToldStep, is_lent_or_taking}
 use Rattle.vb_model.proofs.Tables.{count_by-cons}
-use Rattle.vb_model.proofs.PageSteps.{naming-cons, one_if-le, one_if-true, taking_named}
+use Rattle.vb_model.proofs.PageSteps.{naming-cons, taking_named}
 use Rattle.vb_model.proofs.GuestSteps.{below_end, kept_by_reap}
 use Rattle.vb_model.proofs.OrderlySteps.{kept_reap}
 use Rattle.vb_model.proofs.Distinct.{distinct_once}

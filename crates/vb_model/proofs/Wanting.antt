@@ -28,7 +28,10 @@ use Rattle.vb_model.specs.Life.{feature_tests, feature_refusal, Negotiates, lack
 use Rattle.vb_model.specs.Rogue.{LosesFrames, RogueStep, Scribbled, unless_refused, pages_to_back}
 use Rattle.vb_model.specs.Rogue.{is_read, if_negotiated, after_refused}
 use Rattle.vb_model.specs.Step.{Performs, HonestStep, GuestStep}
-use Rattle.vb_model.specs.World.{Happens, Calls, Gives, IsOut, guest_at, world_tests}
+use Rattle.vb_model.specs.HostEvents.{Happens, Calls}
+use Rattle.vb_model.specs.HostFrames.{Gives, IsOut}
+use Rattle.vb_model.specs.World.{guest_at}
+use Rattle.vb_model.specs.HostRefusals.{world_tests}
 use Rattle.vb_model.specs.StepLaws.{ClaimsAreNeeded, FramesEnterByClaims, RefusedClaimsAreAnswered}
 use Rattle.vb_model.specs.StepLaws.{NeededPagesAreBare, NoFrameIsExact, WantOfFrames}
 use Rattle.vb_model.specs.StepLaws.{NoMemoryIsExact}

@@ -11,7 +11,9 @@ use Rattle.vb_model.specs.declared.replies.Refusal.TheVariants.{NoGuest, BadConf
 use Rattle.vb_model.specs.declared.replies.Refusal.TheVariants.{NoDevice, NoMemory}
 use Rattle.vb_model.specs.declared.replies.Reply.TheVariants.{Plugged, Done, Frames, Refused}
 use Rattle.vb_model.specs.Guest.{Guest, Config, fresh}
-use Rattle.vb_model.specs.World.{World, WorldStep, Gives, made, with_targets, guest_at}
+use Rattle.vb_model.specs.World.{World, made, guest_at}
+use Rattle.vb_model.specs.HostEvents.{WorldStep, with_targets}
+use Rattle.vb_model.specs.HostFrames.{Gives}
 use Rattle.vb_model.proofs.Samples.{ready, down}
 
 abbrev world : List (Option Guest) → World

@@ -7,7 +7,8 @@ use Rattle.vb_model.specs.declared.replies.Refusal.{Refusal}
 use Rattle.vb_model.specs.declared.replies.Refusal.TheVariants.{NoMemory}
 use Rattle.vb_model.specs.declared.replies.Reply.{Reply}
 use Rattle.vb_model.specs.declared.replies.Reply.TheVariants.{Refused}
-use Rattle.vb_model.specs.World.{World, WorldStep}
+use Rattle.vb_model.specs.World.{World}
+use Rattle.vb_model.specs.HostEvents.{WorldStep}
 
 -- two answers to one event, with the worlds that they leave
 abbrev pub WorldsAgree : Event → World → Reply → World → Reply → World → Type 0

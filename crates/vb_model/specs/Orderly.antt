@@ -1,6 +1,6 @@
 -- What else holds of an honest guest: its requests are in order, its pages and blocks lie where
 -- they may, its status is one of three, and it is ready with features that it has agreed on.
-use Rattle.std.specs.Prelude.{◌≡◌, ℕ, ◌+◌, ◌<◌, ◌≤◌, Bool, true, false, List, [], ◌∷◌, length}
+use Rattle.std.specs.Prelude.{◌≡◌, ℕ, ◌+◌, ◌<◌, ◌≤◌, List, [], ◌∷◌, length}
 use Rattle.std.specs.Prelude.{nat_lt, min, ⊤, ◌⊎◌, IsTrue}
 use Rattle.vb_model.specs.declared.places.Place.{Place}
 use Rattle.vb_model.specs.Limits.{reserved_pages, max_outstanding, max_order}

@@ -21,7 +21,9 @@ use Rattle.vb_model.specs.Driver.{given, claim_refusal, AreClaimsFor}
 use Rattle.vb_model.specs.Life.{feature_refusal}
 use Rattle.vb_model.specs.Rogue.{pages_to_back, is_read}
 use Rattle.vb_model.specs.Step.{HonestStep, GuestStep}
-use Rattle.vb_model.specs.World.{World, WorldStep, Backs, IsOut, guest_at}
+use Rattle.vb_model.specs.World.{World, guest_at}
+use Rattle.vb_model.specs.HostEvents.{WorldStep}
+use Rattle.vb_model.specs.HostFrames.{Backs, IsOut}
 
 -- guest n is there before the event and after it
 pub record Follows (w : World) (event : Event) (reply : Reply) (v : World) (n : ℕ) (old new : Guest)

@@ -1,13 +1,12 @@
 -- What a guest does that has agreed to tell the host (MUST_TELL_HOST, VIRTIO 1.1, 5.5.3), in rules
 -- that don't speak of guests that haven't.
-use Rattle.std.specs.Prelude.{◌≡◌, ℕ, not, ◌==◌, ◌||◌, nat_le, List, [], ◌∷◌, length, Option, Some}
-use Rattle.std.specs.Prelude.{None, count_by, MatchOption, IsTrue, ◌↔◌, Bool}
+use Rattle.std.specs.Prelude.{◌≡◌, ℕ, not, ◌==◌, ◌||◌, nat_le, List, [], ◌∷◌, length}
+use Rattle.std.specs.Prelude.{count_by, MatchOption, IsTrue, ◌↔◌, Bool}
 use Rattle.vb_model.specs.declared.places.Place.{Place}
 use Rattle.vb_model.specs.declared.places.Place.TheVariants.{Free, Lent, Taking}
 use Rattle.vb_model.specs.declared.calls.Call.{Call}
 use Rattle.vb_model.specs.declared.calls.Call.TheVariants.{Inflate, Deflate, Oom, Reap, Sweep}
 use Rattle.vb_model.specs.declared.calls.Claim.{Claim}
-use Rattle.vb_model.specs.declared.replies.Refusal.{Refusal}
 use Rattle.vb_model.specs.declared.replies.Refusal.TheVariants.{NotReady, NeedsReset, QueueFull}
 use Rattle.vb_model.specs.declared.replies.Refusal.TheVariants.{Nothing, NotBallooned}
 use Rattle.vb_model.specs.declared.replies.Reply.{Reply}
@@ -17,7 +16,7 @@ use Rattle.vb_model.specs.Requests.{Request, posting, outstanding, IsLeastHead, 
 use Rattle.vb_model.specs.Requests.{Deflating, Reporting_free, kind_of_queue}
 use Rattle.vb_model.specs.Guest.{Guest, requests, with_requests, is_ballooned, tells_host}
 use Rattle.vb_model.specs.Tables.{is_up, is_not_ready, has_fault}
-use Rattle.vb_model.specs.Refusals.{Test, ◌⇒◌, first_refusal, refusal_of, tests, room}
+use Rattle.vb_model.specs.Refusals.{Test, ◌⇒◌, first_refusal, tests, room}
 use Rattle.vb_model.specs.Refusals.{inflate_count, deflate_count, oom_count}
 use Rattle.vb_model.specs.Driver.{lowest_lent}
 use Rattle.vb_model.specs.Step.{Performs, HonestStep}

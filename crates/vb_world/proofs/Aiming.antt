@@ -7,7 +7,8 @@ use Rattle.std.proofs.lemmas.List.{append-nil, append_assoc}
 use Rattle.std.proofs.lemmas.List.Sums.{sum_by-cons}
 use Rattle.vb_model.specs.Balance.{Need, need}
 use Rattle.vb_model.specs.Guest.{Guest}
-use Rattle.vb_model.specs.World.{World, guest_at, with_guest, with_targets, needs}
+use Rattle.vb_model.specs.World.{World, guest_at, with_guest}
+use Rattle.vb_model.specs.HostEvents.{with_targets, needs}
 use Rattle.vb_model.proofs.Tables.{count_by-cons}
 use Rattle.vb_world.specs.Hosts.{backing_at, backing_of}
 

@@ -13,8 +13,9 @@ use Rattle.vb_model.specs.declared.replies.Refusal.TheVariants.{Short}
 use Rattle.vb_model.specs.Limits.{max_guests}
 use Rattle.vb_model.specs.Balance.{Need, need, AreTargets, shortage}
 use Rattle.vb_model.specs.Guest.{Guest}
-use Rattle.vb_model.specs.World.{World, WorldStep, guest_at, with_guest, with_targets, needs}
-use Rattle.vb_model.specs.World.{plugged_count}
+use Rattle.vb_model.specs.World.{World, guest_at, with_guest}
+use Rattle.vb_model.specs.HostEvents.{WorldStep, with_targets, needs}
+use Rattle.vb_model.specs.HostRefusals.{plugged_count}
 use Rattle.vb_model.proofs.Tables.{count_by-cons}
 use Rattle.vb_slot.proofs.Standing.{KeeperMoves}
 use Rattle.vb_world.specs.Hosts.{IsHost}

@@ -15,8 +15,12 @@ use Rattle.vb_model.specs.declared.replies.Reply.{Reply}
 use Rattle.vb_model.specs.declared.replies.Reply.TheVariants.{Frames, Refused}
 use Rattle.vb_model.specs.declared.replies.Refusal.TheVariants.{NoGuest}
 use Rattle.vb_model.specs.Guest.{Guest}
-use Rattle.vb_model.specs.World.{World, WorldStep, guest_at, with_guest, put_guest, used_frames}
-use Rattle.vb_model.specs.World.{Gives, IsOut, Answers, plugged_count}
+use Rattle.vb_model.specs.World.{World, guest_at, with_guest, put_guest}
+use Rattle.vb_model.specs.HostEvents.{WorldStep}
+use Rattle.vb_model.specs.HostFrames.{used_frames}
+use Rattle.vb_model.specs.HostFrames.{Gives, IsOut}
+use Rattle.vb_model.specs.Queries.{Answers}
+use Rattle.vb_model.specs.HostRefusals.{plugged_count}
 use Rattle.vb_model.proofs.Changes.{with_guest-same, with_guest-other}
 use Rattle.vb_frames.specs.Out.{is_out, TableAnswers}
 use Rattle.vb_frames.proofs.Returns.{same_gives}

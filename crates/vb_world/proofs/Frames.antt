@@ -8,7 +8,8 @@ use Rattle.std.proofs.lemmas.Bool.{false≢true}
 use Rattle.std.proofs.lemmas.Bool.Decides.{eqb_tells}
 use Rattle.vb_model.specs.Tests.{one_if}
 use Rattle.vb_model.specs.Guest.{Guest, backed_count}
-use Rattle.vb_model.specs.World.{World, guest_at, used_frames}
+use Rattle.vb_model.specs.World.{World, guest_at}
+use Rattle.vb_model.specs.HostFrames.{used_frames}
 use Rattle.vb_model.proofs.Tables.{count_by-cons}
 use Rattle.vb_slot.specs.Steps.{is_frame}
 use Rattle.vb_frames.specs.Out.{is_out}

@@ -8,7 +8,8 @@ use Rattle.std.proofs.lemmas.Bool.{cases_lt}
 use Rattle.std.proofs.lemmas.Bool.Decides.{eqb_tells}
 use Rattle.vb_model.specs.Tests.{one_if}
 use Rattle.vb_model.specs.Guest.{Guest}
-use Rattle.vb_model.specs.World.{World, guest_at, with_guest, IsOut}
+use Rattle.vb_model.specs.World.{World, guest_at, with_guest}
+use Rattle.vb_model.specs.HostFrames.{IsOut}
 use Rattle.vb_model.proofs.Tables.{count_by-cons}
 use Rattle.vb_slot.specs.Steps.{is_frame, backing_count}
 use Rattle.vb_frames.specs.Out.{is_out}

@@ -7,7 +7,9 @@ use Rattle.vb_model.specs.declared.replies.Reply.TheVariants.{Done, Refused}
 use Rattle.vb_model.specs.declared.replies.Refusal.TheVariants.{NoGuest}
 use Rattle.vb_model.specs.Guest.{Guest}
 use Rattle.vb_model.specs.Life.{after_restart}
-use Rattle.vb_model.specs.World.{World, WorldStep, guest_at, put_guest, plugged_count}
+use Rattle.vb_model.specs.World.{World, guest_at, put_guest}
+use Rattle.vb_model.specs.HostEvents.{WorldStep}
+use Rattle.vb_model.specs.HostRefusals.{plugged_count}
 use Rattle.vb_slot.specs.Steps.{AllReturn, Restarts, backing_count}
 use Rattle.vb_slot.specs.Supply.{Supply, nothing}
 use Rattle.vb_slot.proofs.Standing.{KeeperMoves, moves_asked}

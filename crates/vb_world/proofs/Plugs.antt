@@ -15,8 +15,9 @@ use Rattle.vb_model.specs.declared.replies.Refusal.TheVariants.{NoMemory, BadCon
 use Rattle.vb_model.specs.declared.replies.Refusal.TheVariants.{NoDevice}
 use Rattle.vb_model.specs.Limits.{max_guests, is_config}
 use Rattle.vb_model.specs.Guest.{Guest, Config, fresh}
-use Rattle.vb_model.specs.World.{World, guest_at, with_guest, made, Plugs, PlugsIn, WorldStep}
-use Rattle.vb_model.specs.World.{plugged_count, has_no_spare}
+use Rattle.vb_model.specs.World.{World, guest_at, with_guest, made}
+use Rattle.vb_model.specs.HostEvents.{Plugs, PlugsIn, WorldStep}
+use Rattle.vb_model.specs.HostRefusals.{plugged_count, has_no_spare}
 use Rattle.vb_model.proofs.Changes.{with_guest-same, with_guest-other}
 use Rattle.vb_frames.specs.Out.{is_out}
 use Rattle.vb_ram.specs.Pages.{Pages}

@@ -3,7 +3,8 @@ use Rattle.std.proofs.Common.{◌≡◌, ℕ, zero, suc, ◌≤◌, Bool, List, 
 use Rattle.std.proofs.Common.{sym, ap, subst, arith}
 use Rattle.vb_model.specs.declared.calls.Event.{Event}
 use Rattle.vb_model.specs.declared.replies.Reply.{Reply}
-use Rattle.vb_model.specs.World.{World, WorldStep, made}
+use Rattle.vb_model.specs.World.{World, made}
+use Rattle.vb_model.specs.HostEvents.{WorldStep}
 use Rattle.vb_model.specs.Run.{Steps, last_world}
 use Rattle.vb_model.proofs.RunLaws.{steps-push, last_world-push}
 use Rattle.vb_model.specs.Safe.{IsSafeRun}

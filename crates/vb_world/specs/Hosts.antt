@@ -7,7 +7,8 @@ use Rattle.slab.specs.Slab.{Slab, get, slab_len}
 use Rattle.vb_model.specs.Limits.{max_guests}
 use Rattle.vb_model.specs.Tests.{one_if}
 use Rattle.vb_model.specs.Guest.{Guest}
-use Rattle.vb_model.specs.World.{World as Model, guest_at, plugged_count}
+use Rattle.vb_model.specs.World.{World as Model, guest_at}
+use Rattle.vb_model.specs.HostRefusals.{plugged_count}
 use Rattle.vb_ram.specs.Pages.{Pages}
 use Rattle.vb_ram.specs.Part.{Part}
 use Rattle.vb_frames.specs.Out.{is_out}

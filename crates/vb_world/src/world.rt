@@ -4,8 +4,9 @@ ghost use Rattle.std.specs.Prelude.{◌≡◌, ◌<◌, ◌≤◌, ◌^◌, ℕ,
 ghost use Rattle.std.specs.Prelude.{map, ◌++◌, [], vec_len, vec_capacity, ◌∷◌, List, Bool, IsTrue};
 ghost use Rattle.std.specs.Prelude.{length, IsOk};
 ghost use Rattle.vb_model.specs.Safe.{IsSafeRun};
-ghost use Rattle.vb_model.specs.World.{World as Model, WorldStep, PlugsIn, made};
-ghost use Rattle.vb_model.specs.World.{needs, with_targets};
+ghost use Rattle.vb_model.specs.World.{World as Model, made};
+ghost use Rattle.vb_model.specs.HostEvents.{WorldStep, PlugsIn};
+ghost use Rattle.vb_model.specs.HostEvents.{needs, with_targets};
 ghost use Rattle.vb_model.specs.declared.calls.Event.TheVariants.{Plug, Guest as OnGuest};
 ghost use Rattle.vb_model.specs.declared.calls.Event.TheVariants.{Unplug, Restart, Balance};
 ghost use Rattle.vb_model.specs.declared.calls.Event.TheVariants.{Query as Asking};

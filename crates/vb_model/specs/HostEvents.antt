@@ -1,0 +1,104 @@
+-- What an event of the host does, its guests' calls among them (profile).
+use Rattle.std.specs.Prelude.{◌≡◌, ℕ, ◌-◌, Bool, ◌==◌}
+use Rattle.std.specs.Prelude.{List, [], ◌∷◌, Option, Some, None}
+use Rattle.std.specs.Prelude.{MatchOption, MatchBool, ◌⊎◌, filter_map, ⊤}
+use Rattle.vb_model.specs.declared.calls.Event.{Event}
+use Rattle.vb_model.specs.declared.calls.Event.TheVariants.{Plug, Unplug, Restart, Guest as OnGuest}
+use Rattle.vb_model.specs.declared.calls.Event.TheVariants.{Query as Asking, Balance}
+use Rattle.vb_model.specs.declared.calls.Event.TheVariants.{Frames as CountFrames}
+use Rattle.vb_model.specs.declared.replies.Refusal.TheVariants.{NoMemory, Short}
+use Rattle.vb_model.specs.declared.replies.Reply.{Reply}
+use Rattle.vb_model.specs.declared.replies.Reply.TheVariants.{Plugged, Done, Targets}
+use Rattle.vb_model.specs.declared.replies.Reply.TheVariants.{Frames}
+use Rattle.vb_model.specs.declared.replies.Reply.TheVariants.{Refused}
+use Rattle.vb_model.specs.Guest.{Guest, Config, fresh}
+use Rattle.vb_model.specs.FirstRefusal.{first_refusal}
+use Rattle.vb_model.specs.declared.calls.Claim.{Claim}
+use Rattle.vb_model.specs.Life.{after_restart}
+use Rattle.vb_model.specs.Step.{GuestStep}
+use Rattle.vb_model.specs.Balance.{Need, need, AreTargets, shortage}
+use Rattle.vb_model.specs.HostFrames.{IsOut, Gives, used_frames}
+use Rattle.vb_model.specs.HostRefusals.{world_tests}
+use Rattle.vb_model.specs.Queries.{Answers}
+use Rattle.vb_model.specs.World.{World, guest_at, with_guest, put_guest}
+
+-- the first spare becomes the new guest's device; the number is the one last given up, or any that
+-- no guest has
+abbrev pub Plugs : Config → List Bool → World → Reply → World → Type 0
+Plugs config rest w reply new =
+    (n : ℕ)
+    × (guest_at w.guests n ≡ None)
+    × MatchOption w.given_up ⊤ (λ last. n ≡ last)
+    × (reply ≡ Plugged n)
+    × (new ≡ record {
+      frames = w.frames;
+      guests = with_guest n (Some (fresh config 0)) w.guests;
+      spares = rest;
+      given_up = None;
+    })
+
+-- or there is no memory for it, and nothing is changed
+abbrev pub PlugsIn : ℕ → ℕ → ℕ → List Bool → World → Reply → World → Type 0
+PlugsIn pages queue_size processors [] w reply new = ⊥
+PlugsIn pages queue_size processors (paced ∷ rest) w reply new =
+    ((reply ≡ Refused NoMemory) × (new ≡ w))
+    ⊎ Plugs (record {
+      pages = pages;
+      queue_size = queue_size;
+      processors = processors;
+      paced = paced;
+    }) rest w reply new
+
+-- a guest's own step; what its claims get is the host's
+abbrev pub Calls : ℕ → Guest → World → Event → Reply → World → Type 0
+Calls n g w (OnGuest m call) reply new =
+    (claims : List Claim) × (after : Guest)
+    × Gives w.frames (IsOut w) claims
+    × GuestStep g call claims reply after
+    × (new ≡ put_guest n (Some after) w)
+Calls n g w _ reply new = ⊥
+
+-- the guests' targets, in rising number
+abbrev pub with_targets : List ℕ → List (Option Guest) → List (Option Guest)
+with_targets ts [] = []
+with_targets ts (None ∷ xs) = None ∷ with_targets ts xs
+with_targets [] (Some g ∷ xs) = Some g ∷ with_targets [] xs
+with_targets (t ∷ ts) (Some g ∷ xs) = Some (record g { target = t }) ∷ with_targets ts xs
+
+abbrev pub needs : ℕ → World → List Need
+needs floor w = filter_map (λ x. x) (needs_of w.guests)
+  where
+    needs_of : List (Option Guest) → List (Option Need)
+    needs_of [] = []
+    needs_of (None ∷ xs) = None ∷ needs_of xs
+    needs_of (Some g ∷ xs) = Some (need floor g) ∷ needs_of xs
+
+abbrev pub Balances : ℕ → World → Reply → World → Type 0
+Balances floor w reply new =
+    MatchBool (shortage (needs floor w) w.frames == 0)
+    ((targets : List ℕ) × AreTargets (needs floor w) w.frames targets × (reply ≡ Targets targets)
+    × (new ≡ record w { guests = with_targets targets w.guests }))
+    ((reply ≡ Refused (Short (shortage (needs floor w) w.frames))) × (new ≡ w))
+
+-- an event that isn't refused; one of a guest gets that guest
+abbrev pub Happens : Event → World → Reply → World → Type 0
+Happens (Plug pages queue_size processors) w reply new =
+    PlugsIn pages queue_size processors w.spares w reply new
+Happens (Unplug n) w reply new =
+    (reply ≡ Done) × (new ≡ record (put_guest n None w) { given_up = Some n })
+Happens (Restart n) w reply new =
+    MatchOption (guest_at w.guests n) ⊥
+    (λ g. (reply ≡ Done) × (new ≡ put_guest n (Some (after_restart g)) w))
+Happens (OnGuest n call) w reply new =
+    MatchOption (guest_at w.guests n) ⊥ (λ g. Calls n g w (OnGuest n call) reply new)
+Happens (Asking n query) w reply new =
+    MatchOption (guest_at w.guests n) ⊥ (λ g. Answers query g reply) × (new ≡ w)
+Happens (Balance floor) w reply new = Balances floor w reply new
+Happens CountFrames w reply new =
+    (reply ≡ Frames (used_frames w) (w.frames - used_frames w)) × (new ≡ w)
+
+abbrev pub WorldStep : World → Event → Reply → World → Type 0
+WorldStep w event reply new =
+    MatchOption (first_refusal (world_tests w event))
+    (Happens event w reply new)
+    (λ refusal. (reply ≡ Refused refusal) × (new ≡ w))

@@ -1,0 +1,69 @@
+-- What a question is answered: the state's values (profile).
+use Rattle.std.specs.Prelude.{◌≡◌, ℕ, suc, Bool, true, false, ◌==◌}
+use Rattle.std.specs.Prelude.{List, [], ◌∷◌, if◌then◌else◌}
+use Rattle.std.specs.Prelude.{◌⊎◌, count_by}
+use Rattle.vb_model.specs.declared.places.Place.{Place}
+use Rattle.vb_model.specs.declared.places.Place.TheVariants.{Reserved, Free, Used, Giving, Lent}
+use Rattle.vb_model.specs.declared.places.Place.TheVariants.{Taking, Stranded, Reporting}
+use Rattle.vb_model.specs.declared.calls.Query.{Query}
+use Rattle.vb_model.specs.declared.calls.Query.TheVariants.{Places as AskPlaces, PagesAt}
+use Rattle.vb_model.specs.declared.calls.Query.TheVariants.{PagesBallooned, Balloon as AskBalloon}
+use Rattle.vb_model.specs.declared.calls.Query.TheVariants.{Memory as AskMemory}
+use Rattle.vb_model.specs.declared.calls.Query.TheVariants.{Backing as AskBacking}
+use Rattle.vb_model.specs.declared.replies.Refusal.TheVariants.{NoMemory}
+use Rattle.vb_model.specs.declared.replies.Reply.{Reply}
+use Rattle.vb_model.specs.declared.replies.Reply.TheVariants.{Places, Pages}
+use Rattle.vb_model.specs.declared.replies.Reply.TheVariants.{Balloon, Statistics, Backing}
+use Rattle.vb_model.specs.declared.replies.Reply.TheVariants.{Refused}
+use Rattle.vb_model.specs.declared.places.PageRun.{PageRun}
+use Rattle.vb_model.specs.declared.places.PlaceCounts.{PlaceCounts}
+use Rattle.vb_model.specs.Tests.{pages_where}
+use Rattle.vb_model.specs.Guest.{Guest, frame_of, ballooned_count}
+
+-- the maximal runs of these rising pages
+abbrev pub runs_with : ℕ → List PageRun → List PageRun
+runs_with page [] = record { first = page; last = page } ∷ []
+runs_with page (r ∷ rs) =
+    if suc page == r.first then record { first = page; last = r.last } ∷ rs
+    else record { first = page; last = page } ∷ r ∷ rs
+
+abbrev pub runs : List ℕ → List PageRun
+runs [] = []
+runs (page ∷ pages) = runs_with page (runs pages)
+
+abbrev pub is_place : Place → Place → Bool
+is_place Reserved Reserved = true
+is_place Free Free = true
+is_place Used Used = true
+is_place Giving Giving = true
+is_place Lent Lent = true
+is_place Taking Taking = true
+is_place Stranded Stranded = true
+is_place Reporting Reporting = true
+is_place _ _ = false
+
+abbrev pub count_at : Place → Guest → ℕ
+count_at place g = count_by (is_place place) g.places
+
+abbrev pub place_counts : Guest → PlaceCounts
+place_counts g =
+    record {
+      free = count_at Free g;
+      used = count_at Used g;
+      giving = count_at Giving g;
+      lent = count_at Lent g;
+      taking = count_at Taking g;
+      stranded = count_at Stranded g;
+      reporting = count_at Reporting g;
+    }
+
+-- the state's values; a list of runs may find no memory
+abbrev pub Answers : Query → Guest → Reply → Type 0
+Answers AskPlaces g reply = reply ≡ Places (place_counts g)
+Answers (PagesAt place) g reply =
+    (reply ≡ Pages (runs (pages_where (is_place place) g.places))) ⊎ (reply ≡ Refused NoMemory)
+Answers PagesBallooned g reply =
+    (reply ≡ Pages (runs (pages_where (λ b. b) g.ballooned))) ⊎ (reply ≡ Refused NoMemory)
+Answers AskBalloon g reply = reply ≡ Balloon (ballooned_count g) g.actual g.target g.status
+Answers AskMemory g reply = reply ≡ Statistics g.last.free g.last.total
+Answers (AskBacking page) g reply = reply ≡ Backing (frame_of g.frames page)
