@@ -137,14 +137,9 @@ impl Driver {
             self.old self.new }
     {
         let _ = port.write_status(Status::empty());
+        self.renew();
         self.areas.give_reported(&self.places);
         self.places.strand();
-        self.inflate
-            .renew(INFLATE_RING_PAGE, self.config.queue_size);
-        self.deflate
-            .renew(DEFLATE_RING_PAGE, self.config.queue_size);
-        self.statistics.renew(self.config.queue_size);
-        self.report.renew(self.config.queue_size);
         self.features = Features::empty();
         self.actual = 0;
     }

@@ -75,5 +75,5 @@ runs_reply (Err e) = Refused NoMemory
 abbrev pub balloon_reply : BalloonState → Reply
 balloon_reply state = Balloon state.ballooned state.actual state.target state.status
 
-abbrev pub memory_reply : Statistics → Reply
-memory_reply said = Memory said.free said.total
+abbrev pub statistics_reply : Statistics → Reply
+statistics_reply said = Memory said.free said.total

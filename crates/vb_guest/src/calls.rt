@@ -10,8 +10,8 @@ use crate::lives::{init, reset};
 use crate::memory::{read, scribble, write};
 use crate::queries::{balloon, pages_at, pages_ballooned, places, statistics};
 use crate::replies::{
-    asked_reply, balloon_reply, bytes_reply, done_reply, filled_reply, finished_reply,
-    memory_reply, page_reply, posted_reply, ready_reply, reaped_reply, runs_reply, swept_reply,
+    asked_reply, balloon_reply, bytes_reply, done_reply, filled_reply, finished_reply, page_reply,
+    posted_reply, ready_reply, reaped_reply, runs_reply, statistics_reply, swept_reply,
     taken_reply, worked_reply,
 };
 use std::alloc::Global;
@@ -96,7 +96,7 @@ pub fn query<D: Device>(alloc: Global, driver: &Driver, device: &D, query: &Quer
         Query::PagesAt(place) => runs_reply(pages_at(alloc, driver, *place)),
         Query::PagesBallooned => runs_reply(pages_ballooned(alloc, device)),
         Query::Balloon => balloon_reply(balloon(driver, device)),
-        Query::Memory => memory_reply(statistics(device)),
+        Query::Memory => statistics_reply(statistics(device)),
         Query::Backing { page } => Reply::Backing {
             frame: device.backing(*page),
         },

@@ -10,7 +10,7 @@ ghost use Rattle.vb_ram.specs.Pages.{Pages};
 ghost use Rattle.vb_ram.specs.Part.{Part};
 ghost use Rattle.vb_driver.specs.State.{DriverState};
 ghost use Rattle.vb_guest.specs.Promises.{EachAnswers, OfEach, SomeGuest};
-ghost use Rattle.vb_guest.specs.Replies.{runs_reply, balloon_reply, memory_reply};
+ghost use Rattle.vb_guest.specs.Replies.{runs_reply, balloon_reply, statistics_reply};
 
 use bitflags::Flags;
 use std::alloc::{AllocError, Global};
@@ -57,7 +57,7 @@ pub fn balloon<D: Device>(driver: &Driver, device: &D) -> BalloonState
 /// (VIRTIO 1.1, 5.5.6.4).
 pub fn statistics<D: Device>(device: &D) -> Statistics
     ensures { (d : DriverState) → EachAnswers (D.mem device.now) (D.part device.now) d Query.Memory
-        (memory_reply result) }
+        (statistics_reply result) }
 {
     device.stats()
 }

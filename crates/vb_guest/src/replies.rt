@@ -4,7 +4,7 @@ ghost use Rattle.std.specs.Prelude.{◌≡◌};
 ghost use Rattle.vb_guest.specs.Replies.{ready_reply, page_reply, done_reply, bytes_reply};
 ghost use Rattle.vb_guest.specs.Replies.{posted_reply, reaped_reply, taken_reply, finished_reply};
 ghost use Rattle.vb_guest.specs.Replies.{swept_reply, worked_reply, runs_reply, balloon_reply};
-ghost use Rattle.vb_guest.specs.Replies.{filled_reply, asked_reply, memory_reply};
+ghost use Rattle.vb_guest.specs.Replies.{filled_reply, asked_reply, statistics_reply};
 
 use crate::queries::BalloonState;
 use std::alloc::AllocError;
@@ -157,8 +157,8 @@ pub(crate) fn balloon_reply(state: BalloonState) -> Reply
     }
 }
 
-pub(crate) fn memory_reply(last: Statistics) -> Reply
-    ensures { result ≡ memory_reply last }
+pub(crate) fn statistics_reply(last: Statistics) -> Reply
+    ensures { result ≡ statistics_reply last }
 {
     Reply::Statistics {
         free: last.free,

@@ -42,9 +42,9 @@ abbrev pub stands_for : {X : Type 0} {F : X → Type 0} → Bool → (DynBox X G
 stands_for keeps mem part s g = Stands keeps (memory_of mem s) (part_of part s) (driver_of s) g
 
 -- The frames of the slot's device, and those of a keeper.
-abbrev pub supply_from : {X : Type 0} {F : X → Type 0} → (DynBox X Global F → Part) → Slot X F
+abbrev pub supply_at : {X : Type 0} {F : X → Type 0} → (DynBox X Global F → Part) → Slot X F
     → List Bool → Supply
-supply_from part s out = supply_of (part_of part s) out
+supply_at part s out = supply_of (part_of part s) out
 
 -- Memory, the device's part, the driver, and the frames of the device and of a keeper.
 abbrev pub moment_of : {X : Type 0} {F : X → Type 0} → (DynBox X Global F → Pages)

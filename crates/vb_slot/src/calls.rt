@@ -15,9 +15,9 @@ ghost use Rattle.vb_guest.specs.Promises.{EachRestarts};
 ghost use Rattle.vb_guest.specs.Replies.{ready_reply, page_reply, done_reply, bytes_reply};
 ghost use Rattle.vb_guest.specs.Replies.{posted_reply, reaped_reply, taken_reply, finished_reply};
 ghost use Rattle.vb_guest.specs.Replies.{worked_reply, swept_reply, runs_reply, balloon_reply};
-ghost use Rattle.vb_guest.specs.Replies.{filled_reply, asked_reply, memory_reply};
+ghost use Rattle.vb_guest.specs.Replies.{filled_reply, asked_reply, statistics_reply};
 ghost use Rattle.vb_guest.specs.Steps.{AllReturn};
-ghost use Rattle.vb_slot.specs.Slots.{stands_for, supply_from, claims_of, is_empty, moment_of};
+ghost use Rattle.vb_slot.specs.Slots.{stands_for, supply_at, claims_of, is_empty, moment_of};
 ghost use Rattle.vb_slot.specs.Slots.{memory_of, part_of, driver_of, IsUntouched};
 ghost use Rattle.vb_slot.specs.Slots.{HasGuest, HasGuestOut, OfItsGuest, SlotAnswers, SlotSteps};
 ghost use Rattle.vb_slot.specs.Slots.{SlotStepsAlone};
@@ -95,13 +95,13 @@ impl Slot {
             (K.out keeper.new) (Call.Write page offset bytes.now) (done_reply result) }
         ensures refused { is_used (place_of (driver_of self.old).places page) ≡ false
             → (result ≡ Err Refusal.NotHeld)
-            × IsQuiet (supply_from part self.old (K.out keeper.old))
-            (supply_from part self.new (K.out keeper.new))
+            × IsQuiet (supply_at part self.old (K.out keeper.old))
+            (supply_at part self.new (K.out keeper.new))
             (memory_of mem self.old) (memory_of mem self.new)
             (part_of part self.old) (part_of part self.new) (claims_of self.new) }
         ensures exact { is_used (place_of (driver_of self.old).places page) ≡ true
-            → PutsBy K.answers (supply_from part self.old (K.out keeper.old))
-            (supply_from part self.new (K.out keeper.new))
+            → PutsBy K.answers (supply_at part self.old (K.out keeper.old))
+            (supply_at part self.new (K.out keeper.new))
             (memory_of mem self.old) (memory_of mem self.new)
             (part_of part self.old) (part_of part self.new) (claims_of self.new)
             page offset bytes.now result }
@@ -132,8 +132,8 @@ impl Slot {
         requires { HasGuest mem part self.old }
         ensures step { SlotSteps K.answers mem part self.old (K.out keeper.old) self.new
             (K.out keeper.new) (Call.Scribble page offset bytes.now) (done_reply result) }
-        ensures exact { PutsBy K.answers (supply_from part self.old (K.out keeper.old))
-            (supply_from part self.new (K.out keeper.new))
+        ensures exact { PutsBy K.answers (supply_at part self.old (K.out keeper.old))
+            (supply_at part self.new (K.out keeper.new))
             (memory_of mem self.old) (memory_of mem self.new)
             (part_of part self.old) (part_of part self.new) (claims_of self.new)
             page offset bytes.now result }
@@ -156,7 +156,7 @@ impl Slot {
         requires { HasGuest mem part self.old }
         ensures step { SlotSteps K.answers mem part self.old (K.out keeper.old) self.new
             (K.out keeper.new) (Call.Init wanted) (ready_reply result) }
-        ensures exact { InitialisesBy K.answers (supply_from part self.old (K.out keeper.old))
+        ensures exact { InitialisesBy K.answers (supply_at part self.old (K.out keeper.old))
             (K.out keeper.new) (memory_of mem self.old) (memory_of mem self.new)
             (part_of part self.old) (part_of part self.new)
             (driver_of self.old) (driver_of self.new)
@@ -406,8 +406,8 @@ impl Slot {
         requires { HasGuestOut mem part self.old (K.out keeper.old) }
         ensures empty { is_empty mem part self.new }
         ensures returned { OfItsGuest mem part self.old
-            (λ g. AllReturn (supply_from part self.old (K.out keeper.old))
-            (supply_from part self.new (K.out keeper.new)) g) }
+            (λ g. AllReturn (supply_at part self.old (K.out keeper.old))
+            (supply_at part self.new (K.out keeper.new)) g) }
         ensures claimed { claims_of self.new ≡ [] }
         ensures mem { memory_of mem self.new
             ≡ replicate (length (memory_of mem self.old)) None }
@@ -475,8 +475,8 @@ impl Slot {
 
     /// What the last buffer of statistics that the device read said, in bytes (VIRTIO 1.1,
     /// 5.5.6.4).
-    pub fn memory(&self) -> Statistics
-        ensures answer { SlotAnswers mem part self.now (Query.Memory) (memory_reply result) }
+    pub fn statistics(&self) -> Statistics
+        ensures answer { SlotAnswers mem part self.now (Query.Memory) (statistics_reply result) }
     {
         vb_guest::statistics(&self.device)
     }

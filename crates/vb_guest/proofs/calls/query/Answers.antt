@@ -24,6 +24,6 @@ returns-in-Balloon g c = record {
 
 pub returns-in-Memory : goal.returns-in-Memory
 returns-in-Memory g c = record {
-  answer = λ keeps guest stands. rw (c.in-Memory.is, c.memory_reply.ensures)
+  answer = λ keeps guest stands. rw (c.in-Memory.is, c.statistics_reply.ensures)
       (c.statistics.ensures _ keeps guest stands);
 }

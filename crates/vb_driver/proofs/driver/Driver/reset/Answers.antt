@@ -1,13 +1,16 @@
+use Rattle.std.specs.Prelude.{◌≡◌, true}
 use Rattle.std.proofs.Common.{◌∙◌, sym, ap, subst, refl, List, map, length}
 use Rattle.std.proofs.lemmas.List.{length-map}
-use Rattle.vb_model.specs.Pages.{Block, place_of, is_free}
+use Rattle.vb_model.specs.Tests.{pages_where}
+use Rattle.vb_model.specs.Pages.{Block, place_of, is_free, is_reporting}
 use Rattle.vb_model.specs.Life.{place_after_reset}
 use Rattle.vb_model.specs.declared.places.Place.{Place}
 use Rattle.vb_model.specs.declared.places.Place.TheVariants.{Reporting}
 use Rattle.vb_status.specs.Bits.{feature_bits}
-use Rattle.vb_ring.specs.Ends.{DriverEnd}
-use Rattle.vb_driver.specs.State.{RequestSide, ReportSide, IsDriver, fresh_side}
-use Rattle.vb_driver.specs.State.{fresh_statistics}
+use Rattle.vb_driver.specs.Areas.{flags_of}
+use Rattle.vb_driver.specs.Calls.{with_nothing_out}
+use Rattle.vb_driver.specs.Places.{marked}
+use Rattle.vb_driver.specs.State.{DriverState, IsDriver}
 use Rattle.vb_driver.specs.contracts.driver.Driver.{the_view}
 use Rattle.vb_driver.proofs.Counting.{at_is}
 use Rattle.vb_driver.proofs.Moving.{reset_kept, place_uncovered, place_unfree, place_unreserved}
@@ -38,15 +41,14 @@ invariant_of-self g c =
     let d = the_view c.self.inside in
     let areas2 = c.give_reported.new.self in
     let f = feature_bits c.empty-self-inside.result in
+    let given = c.give_reported.ensures.state in
+    let renewed : d ≡ with_nothing_out c.args.self.now =
+    c.self.view_is ∙ c.renew.ensures.state in
     subst (λ (v : List Place). IsDriver
     (record d {
       places = v;
       held = areas2.held;
       areas = areas2.free;
-      inflate = c.renew.new.self;
-      deflate = c.renew-2.new.self;
-      statistics = c.renew-3.new.self;
-      report = c.renew-4.new.self;
       features = f;
       actual = 0;
     })) (sym c.strand.ensures)
@@ -55,56 +57,18 @@ invariant_of-self g c =
       places = map place_after_reset d.places;
       held = v;
       areas = areas2.free;
-      inflate = c.renew.new.self;
-      deflate = c.renew-2.new.self;
-      statistics = c.renew-3.new.self;
-      report = c.renew-4.new.self;
       features = f;
       actual = 0;
-    })) (sym c.give_reported.ensures.state.held)
-    (subst (λ (v : RequestSide). IsDriver
-    (record d {
-      places = map place_after_reset d.places;
+    })) (sym given.held)
+    (subst (λ (v : DriverState). IsDriver
+    (record v {
+      places = map place_after_reset v.places;
       areas = areas2.free;
-      inflate = v;
-      deflate = c.renew-2.new.self;
-      statistics = c.renew-3.new.self;
-      report = c.renew-4.new.self;
       features = f;
       actual = 0;
-    })) (sym c.renew.ensures)
-    (subst (λ (v : RequestSide). IsDriver
-    (record d {
-      places = map place_after_reset d.places;
-      areas = areas2.free;
-      inflate = fresh_side 0 d.queue_size;
-      deflate = v;
-      statistics = c.renew-3.new.self;
-      report = c.renew-4.new.self;
-      features = f;
-      actual = 0;
-    })) (sym c.renew-2.ensures)
-    (subst (λ (v : DriverEnd). IsDriver
-    (record d {
-      places = map place_after_reset d.places;
-      areas = areas2.free;
-      inflate = fresh_side 0 d.queue_size;
-      deflate = fresh_side 1 d.queue_size;
-      statistics = v;
-      report = c.renew-4.new.self;
-      features = f;
-      actual = 0;
-    })) (sym c.renew-3.ensures)
-    (subst (λ (v : ReportSide). IsDriver
-    (record d {
-      places = map place_after_reset d.places;
-      areas = areas2.free;
-      inflate = fresh_side 0 d.queue_size;
-      deflate = fresh_side 1 d.queue_size;
-      statistics = fresh_statistics d.queue_size;
-      report = v;
-      features = f;
-      actual = 0;
-    })) (sym c.renew-4.ensures)
-    (reset_kept d areas2.free f c.self.invariant c.give_reported.ensures.state.free
-    c.give_reported.ensures.state.processors))))))
+    })) (sym renewed)
+    (reset_kept c.args.self.now areas2.free f c.renew.ensures.driver
+    (subst (λ (v : DriverState). flags_of areas2.free
+    ≡ marked (pages_where is_reporting v.places) true (flags_of v.areas)) renewed given.free)
+    (subst (λ (v : DriverState). length areas2.free.lists ≡ length v.areas.lists) renewed
+    given.processors))))

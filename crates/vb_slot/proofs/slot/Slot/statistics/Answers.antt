@@ -1,4 +1,4 @@
-use Rattle.vb_slot.proofs.slot.Slot.memory.Goals as goal
+use Rattle.vb_slot.proofs.slot.Slot.statistics.Goals as goal
 
 pub returns : goal.returns
 returns g c = record { answer = c.statistics.ensures _ }
