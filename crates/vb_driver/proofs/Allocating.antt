@@ -28,7 +28,7 @@ use Rattle.vb_pages.specs.Areas.{has, IsBlock}
 use Rattle.vb_pages.specs.FreePages.{FreePages, in_lists, drained, free_count}
 use Rattle.vb_pages.specs.PageState.{PageState, page_count, cpu_count, is_free_page, is_held_page}
 use Rattle.vb_pages.specs.PageState.{IsApart, IsWhollyFree, AllocatesBlock, TakesFree, freed}
-use Rattle.vb_pages.specs.PageState.{with_free_block, HasRoomIn}
+use Rattle.vb_pages.specs.PageState.{reserved_count, with_free_block, HasRoomIn}
 use Rattle.vb_pages.proofs.Sets.{length-with_pages, in_block}
 use Rattle.vb_pages.proofs.ListsLemmas.{page_block}
 use Rattle.vb_pages.proofs.FreeLemmas.{serves_length, length-takes_pages}
@@ -386,7 +386,7 @@ pub taken_once : (new old : Bool) (n : ℕ) → one_if new + n ≡ one_if old �
 taken_once new true n h = omega arith
 taken_once new false n h = omega arith
 
-pub given_room : (s : PageState) (page : ℕ) → 16 ≤ page → page < length (flags_of s.free)
+pub given_room : (s : PageState) (page : ℕ) → reserved_count s ≤ page → page < length (flags_of s.free)
     → is_free_at (flags_of s.free) page ≡ false → is_covered page s.held ≡ false
     → HasRoomIn s (block_at page 0)
 given_room s page unreserved inside taken uncovered =

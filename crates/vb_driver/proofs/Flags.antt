@@ -19,7 +19,7 @@ use Rattle.vb_pages.specs.Areas.{has, with_pages, unreserved}
 use Rattle.vb_pages.specs.FreePages.{FreePages, in_lists, drained, times_free, list_of, with_list}
 use Rattle.vb_pages.specs.FreePages.{given_back, Tries, Serves}
 use Rattle.vb_pages.specs.PageState.{PageState, page_count, is_free_page, is_unreserved, IsApart}
-use Rattle.vb_pages.specs.PageState.{new_page_state, with_free_block}
+use Rattle.vb_pages.specs.PageState.{reserved_count, new_page_state, with_free_block}
 use Rattle.vb_pages.proofs.Sets.{length-with_pages}
 use Rattle.vb_pages.proofs.AreasLemmas.{length-unreserved, has-unreserved}
 use Rattle.vb_pages.proofs.ListsLemmas.{one_if_true, one_if_le}
@@ -68,7 +68,7 @@ pub free_inside : (s : PageState) (p : ℕ) → IsApart s → is_free_page s p �
 free_inside s p apart h =
     let some : 1 ≤ one_if (is_unreserved s p) = omega (arith, apart p, some_times s p h) in
     ltb-true p (page_count s)
-    (and_parts (nat_le 16 p) (nat_lt p (page_count s)) (one_if_true (is_unreserved s p) some)).1
+    (and_parts (nat_le (reserved_count s) p) (nat_lt p (page_count s)) (one_if_true (is_unreserved s p) some)).1
 
 pub free_flag : (s : PageState) (p : ℕ) → IsApart s → is_free_page s p ≡ true
     → is_free_at (flags_of s.free) p ≡ true
@@ -199,7 +199,7 @@ given_sizes f cpu start zero =
   where
     at : (v : Bool) (g : FreePages) → g.areas ≡ f.areas → length g.lists ≡ length f.lists
         → SameSizes f (cond v
-        (record {
+        (record g {
           areas = with_pages (take 8 (list_of g cpu)) g.areas;
           lists = set g.lists cpu (drop 8 (list_of g cpu));
         }) g)
@@ -216,17 +216,17 @@ turned true k e = lt-leb 16 k (ltb-true k 16 e)
 turned false k e = le-leb 16 k (ltb-false k 16 e)
 
 free_first : (pages cpus k : ℕ) → k < pages
-    → is_free_page (new_page_state pages cpus) k ≡ is_free (first_place k)
+    → is_free_page (new_page_state pages cpus 16) k ≡ is_free (first_place k)
 free_first pages cpus k lt =
-    ap (λ (l : List ℕ). has (unreserved pages) k || is_in k l) (flat-replicate cpus)
-    ∙ (or_false (has (unreserved pages) k)
-    ∙ (has-unreserved pages k lt ∙ turned (nat_lt k 16) k refl))
+    ap (λ (l : List ℕ). has (unreserved pages 16) k || is_in k l) (flat-replicate cpus)
+    ∙ (or_false (has (unreserved pages 16) k)
+    ∙ (has-unreserved pages 16 k lt ∙ turned (nat_lt k 16) k refl))
 
 pub fresh_flags : (pages cpus : ℕ)
-    → flags_of (new_page_state pages cpus).free ≡ map is_free (all_free pages)
+    → flags_of (new_page_state pages cpus 16).free ≡ map is_free (all_free pages)
 fresh_flags pages cpus =
-    let s = new_page_state pages cpus in
-    let size : page_count s ≡ pages = length-unreserved pages in
+    let s = new_page_state pages cpus 16 in
+    let size : page_count s ≡ pages = length-unreserved pages 16 in
     let all : length (all_free pages) ≡ pages = length-map-range_with_len first_place 0 pages in
     same_lists (flags_of s.free) (map is_free (all_free pages))
     (length_flags s ∙ (size ∙ sym (length-map (all_free pages) is_free ∙ all))) (λ k d near.

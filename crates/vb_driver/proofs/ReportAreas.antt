@@ -15,7 +15,8 @@ use Rattle.vb_model.specs.declared.places.Place.{Place}
 use Rattle.vb_model.proofs.Distinct.{distinct_once}
 use Rattle.vb_pages.specs.declared.block.FreeBlock.{FreeBlock}
 use Rattle.vb_pages.specs.FreePages.{drained}
-use Rattle.vb_pages.specs.PageState.{PageState, page_count, is_free_page, IsApart}
+use Rattle.vb_pages.specs.PageState.{PageState, page_count, reserved_count, is_free_page}
+use Rattle.vb_pages.specs.PageState.{IsApart}
 use Rattle.vb_pages.specs.Areas.{without_pages}
 use Rattle.vb_pages.proofs.Sets.{same_bool, in_block, length-with_pages, length-without_pages}
 use Rattle.vb_pages.proofs.Sets.{same_sets, without_parts, without_old}
@@ -114,7 +115,7 @@ only_drained s new blocks none is =
 
 pub have_room : (s : PageState) (blocks : List FreeBlock) → IsApart s
     → All IsAreaBlock (blocks_of blocks)
-    → ((p : ℕ) → is_in p (pages_of_all (blocks_of blocks)) ≡ true → 16 ≤ p)
+    → ((p : ℕ) → is_in p (pages_of_all (blocks_of blocks)) ≡ true → reserved_count s ≤ p)
     → ((p : ℕ) → is_in p (pages_of_all (blocks_of blocks)) ≡ true → p < length (flags_of s.free))
     → ((p : ℕ) → is_in p (pages_of_all (blocks_of blocks)) ≡ true
     → is_free_at (flags_of s.free) p ≡ false)

@@ -27,7 +27,7 @@ after_reset d = record d {
 -- all pages are free after a reset
 pub restarted : (d v : DriverState) (at : List Place) (s : PageState) → IsDriver v → v ≡ after_reset d
     → at ≡ all_free (length v.places)
-    → s ≡ new_page_state (page_count (page_state v)) (cpu_count (page_state v))
+    → s ≡ new_page_state (page_count (page_state v)) (cpu_count (page_state v)) 16
     → record v { places = at; held = s.held; areas = s.free }
     ≡ fresh_driver d.pages d.queue_size d.processors
 restarted d v at s kept is free areas =
@@ -38,9 +38,9 @@ restarted d v at s kept is free areas =
     let lists : cpu_count (page_state v) ≡ d.processors =
     kept.processors ∙ ap (λ (x : DriverState). x.processors) is in
     let at_first : at ≡ all_free d.pages = free ∙ ap all_free table in
-    let new : s ≡ new_page_state d.pages d.processors =
-    areas ∙ (ap (λ n. new_page_state n (cpu_count (page_state v))) count
-    ∙ ap (λ n. new_page_state d.pages n) lists) in
+    let new : s ≡ new_page_state d.pages d.processors 16 =
+    areas ∙ (ap (λ n. new_page_state n (cpu_count (page_state v)) 16) count
+    ∙ ap (λ n. new_page_state d.pages n 16) lists) in
     let fresh : DriverState = fresh_driver d.pages d.queue_size d.processors in
     ap (λ (x : DriverState). record x { places = at; held = s.held; areas = s.free }) is
     ∙ (ap (λ (l : List Place). record fresh { places = l; held = s.held; areas = s.free }) at_first

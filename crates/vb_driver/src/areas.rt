@@ -32,6 +32,7 @@ use crate::queue::RequestPages;
 use arrayvec::ArrayVec;
 use std::alloc::{AllocError, Global};
 use std::marker::Model;
+use vb_model::limits::RESERVED_PAGES;
 use vb_model::{Place, Refusal};
 use vb_pages::{FreeBlock, PageFault, Pages};
 use vb_report::{Blocks, reports_name_free_places};
@@ -45,11 +46,15 @@ pub(crate) struct Allocator {
 }
 
 impl Model for Allocator {
-    ghost use Rattle.vb_pages.specs.PageState.{PageState};
+    ghost use Rattle.std.specs.Prelude.{◌≡◌};
+    ghost use Rattle.vb_model.specs.Limits.{reserved_pages};
+    ghost use Rattle.vb_pages.specs.PageState.{PageState, reserved_count};
 
     ghost Value = { PageState };
 
     ghost view = { λ a. a.pages };
+
+    ghost invariant = { λ a. reserved_count a.pages ≡ reserved_pages };
 }
 
 /// How the driver refuses what the allocator refuses.
@@ -68,16 +73,17 @@ impl Allocator {
     /// The areas of a guest as it is plugged in.
     pub(crate) fn new(alloc: Global, pages: u32, processors: u32) -> Result<Self, AllocError>
         requires { IsGuestSize pages processors }
-        ensures { IfOk result (λ areas. areas ≡ new_page_state pages processors) }
+        ensures { IfOk result (λ areas. areas ≡ new_page_state pages processors reserved_pages) }
     {
         Ok(Allocator {
-            pages: Pages::new(alloc, pages, processors)?,
+            pages: Pages::new(alloc, pages, processors, RESERVED_PAGES)?,
         })
     }
 
     /// All pages are free again but the reserved ones, and no block is held.
     pub(crate) fn renew(&mut self)
-        ensures { self.new ≡ new_page_state (page_count self.old) (cpu_count self.old) }
+        ensures { self.new ≡
+            new_page_state (page_count self.old) (cpu_count self.old) reserved_pages }
     {
         self.pages.renew();
     }

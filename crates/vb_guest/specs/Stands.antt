@@ -72,7 +72,7 @@ beside_queues part =
 -- Of a driver, what isn't in its page areas and in its queues.
 abbrev pub beside_sides : DriverState → DriverState
 beside_sides d = record d {
-  areas = record { areas = []; lists = [] };
+  areas = record { areas = []; lists = []; reserved = 0 };
   inflate = fresh_side 0 2;
   deflate = fresh_side 0 2;
   statistics = fresh_statistics 2;

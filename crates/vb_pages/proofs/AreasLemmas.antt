@@ -9,6 +9,7 @@ use Rattle.std.proofs.Math.Pow.{pow_mono}
 use Rattle.vb_model.specs.Tests.{one_if}
 use Rattle.vb_model.specs.Pages.{pages_of}
 use Rattle.vb_model.proofs.Tables.{count_by-cons}
+use Rattle.vb_pages.specs.declared.table.TheConstants.{MAX_PAGES}
 use Rattle.vb_pages.specs.declared.block.FreeBlock.{FreeBlock}
 use Rattle.vb_pages.specs.Areas.{has, with_pages, without_pages, unreserved, block_at, LiesIn}
 use Rattle.vb_pages.specs.Areas.{LiesOutside, IsMaximal, IsChosen, IsLowestFrom}
@@ -39,7 +40,7 @@ count_zero (x ∷ xs) h =
     count_by-cons (λ f. f) x xs
     ∙ (let e : one_if x ≡ 0 = ap one_if (h 0) in omega (arith, e, count_zero xs (λ p. h (suc p))))
 
-pub count_none : (n : ℕ) → n ≤ 16384 → count_by (λ f. f) (set_of (replicate n None)) ≡ 0
+pub count_none : (n : ℕ) → n ≤ MAX_PAGES → count_by (λ f. f) (set_of (replicate n None)) ≡ 0
 count_none n h = count_zero (set_of (replicate n None)) (λ p. none_set n p h)
 
 pub length-none_set : (n : ℕ) → length (set_of (replicate n None)) ≡ n
@@ -66,21 +67,21 @@ lowest_none t order from tiled h s k o f m =
 
 -- ---- all pages but the reserved ones
 
-pub length-unreserved : (n : ℕ) → length (unreserved n) ≡ n
+pub length-unreserved : (n r : ℕ) → length (unreserved n r) ≡ n
 unfolding unreserved
-length-unreserved n = length-map-range_with_len (λ page. nat_le 16 page) 0 n
+length-unreserved n r = length-map-range_with_len (λ page. nat_le r page) 0 n
 
-pub has-unreserved : (n p : ℕ) → p < n → has (unreserved n) p ≡ nat_le 16 p
+pub has-unreserved : (n r p : ℕ) → p < n → has (unreserved n r) p ≡ nat_le r p
 unfolding unreserved
-has-unreserved n p h =
-    get_or-map-range_with_len (λ page. nat_le 16 page) 0 n p p false h (omega arith)
+has-unreserved n r p h =
+    get_or-map-range_with_len (λ page. nat_le r page) 0 n p p false h (omega arith)
 
-pub unreserved_is : (set : List Bool) (n : ℕ) → length set ≡ n
-    → ((p : ℕ) → has set p ≡ true → 16 ≤ p) → ((p : ℕ) → 16 ≤ p → p < n → has set p ≡ true)
-    → set ≡ unreserved n
-unreserved_is set n l to from =
-    same_sets set (unreserved n) (l ∙ sym (length-unreserved n))
-    (λ p h. has-unreserved n p (omega (arith, is_inside set p h, l)) ∙ le-leb 16 p (to p h))
+pub unreserved_is : (set : List Bool) (n r : ℕ) → length set ≡ n
+    → ((p : ℕ) → has set p ≡ true → r ≤ p) → ((p : ℕ) → r ≤ p → p < n → has set p ≡ true)
+    → set ≡ unreserved n r
+unreserved_is set n r l to from =
+    same_sets set (unreserved n r) (l ∙ sym (length-unreserved n r))
+    (λ p h. has-unreserved n r p (omega (arith, is_inside set p h, l)) ∙ le-leb r p (to p h))
     (λ p h.
-    let b : p < n = omega (arith, is_inside (unreserved n) p h, length-unreserved n) in
-    from p (leb-true 16 p (sym (has-unreserved n p b) ∙ h)) b)
+    let b : p < n = omega (arith, is_inside (unreserved n r) p h, length-unreserved n r) in
+    from p (leb-true r p (sym (has-unreserved n r p b) ∙ h)) b)

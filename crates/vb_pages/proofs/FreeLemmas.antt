@@ -18,6 +18,7 @@ use Rattle.std.specs.Prelude.{sum_by}
 use Rattle.vb_model.specs.Tests.{is_in, one_if}
 use Rattle.vb_model.specs.Pages.{pages_of, covers}
 use Rattle.vb_model.proofs.PageSteps.{covers_is}
+use Rattle.vb_pages.specs.declared.table.TheConstants.{MAX_PAGES}
 use Rattle.vb_pages.specs.Areas.{has, with_pages, without_pages, unreserved, block_at, IsBlock}
 use Rattle.vb_pages.specs.Areas.{HasNoBlock, IsChosen, TakesBlock, IsMaximal, IsLowestFrom}
 use Rattle.vb_pages.specs.declared.block.FreeBlock.{FreeBlock}
@@ -290,9 +291,9 @@ single_none set new (x ∷ xs) rest h =
 -- a page that the processor's list and the areas give
 pub single_sound : (f : FreePages) (cpu : ℕ) (new : List Bool) (rest : List ℕ) (got : Option ℕ)
     → IsSoundFree f → cpu < length f.lists → TakesSingle f.areas (list_of f cpu) got new rest
-    → IsSoundFree (record { areas = new; lists = set f.lists cpu rest })
+    → IsSoundFree (record f { areas = new; lists = set f.lists cpu rest })
 single_sound f cpu new rest got sound l h =
-    sound_from f (record { areas = new; lists = set f.lists cpu rest }) sound
+    sound_from f (record f { areas = new; lists = set f.lists cpu rest }) sound
     (single_areas f.areas new (list_of f cpu) rest got h) (length-set f.lists cpu rest)
     (λ p. omega (
       arith,
@@ -317,12 +318,14 @@ single_sound f cpu new rest got sound l h =
       )
     ])
 
-abbrev pub free_of : List Bool → List (List ℕ) → FreePages
-free_of areas lists = record { areas = areas; lists = lists }
+abbrev pub free_of : List Bool → List (List ℕ) → ℕ → FreePages
+free_of areas lists reserved = record { areas = areas; lists = lists; reserved = reserved }
 
-pub same_free : (a b : FreePages) → a.areas ≡ b.areas → a.lists ≡ b.lists → a ≡ b
-same_free a b e l = ap (λ (x : List Bool). free_of x a.lists) e
-    ∙ ap (λ (xs : List (List ℕ)). free_of b.areas xs) l
+pub same_free : (a b : FreePages) → a.areas ≡ b.areas → a.lists ≡ b.lists
+    → a.reserved ≡ b.reserved → a ≡ b
+same_free a b e l r = ap (λ (x : List Bool). free_of x a.lists a.reserved) e
+    ∙ (ap (λ (xs : List (List ℕ)). free_of b.areas xs a.reserved) l
+    ∙ ap (λ (n : ℕ). free_of b.areas b.lists n) r)
 
 -- a try that gives nothing changes nothing, and there was no block
 pub tries_none : (f new : FreePages) (cpu order : ℕ) → Tries f cpu order None new
@@ -332,9 +335,9 @@ tries_none f new cpu zero h =
     let lists : new.lists ≡ f.lists =
     h.2 ∙ (ap (λ (l : List ℕ). set f.lists cpu l) (q.1 ∙ sym q.0)
     ∙ set-get_or f.lists cpu nothing) in
-    (same_free new f q.2 lists, q.3)
+    (same_free new f q.2 lists h.3, q.3)
 tries_none f new cpu (suc order) h =
-    (same_free new f h.0.1 h.1, h.0.0)
+    (same_free new f h.0.1 h.1 h.2, h.0.0)
 
 -- a try that gives a block takes just its pages
 pub tries_times : (f new : FreePages) (cpu order start : ℕ) → cpu < length f.lists
@@ -509,18 +512,18 @@ taken_all set mid i n out h none l enough =
 -- ---- the areas that another call leaves
 
 pub areas_sound : (f : FreePages) (new : List Bool) → IsSoundFree f → length new ≡ length f.areas
-    → ((p : ℕ) → one_if (has new p) ≤ one_if (has f.areas p)) → IsSoundFree (free_of new f.lists)
+    → ((p : ℕ) → one_if (has new p) ≤ one_if (has f.areas p)) → IsSoundFree (free_of new f.lists f.reserved)
 areas_sound f new sound l less =
-    sound_from f (free_of new f.lists) sound l refl (λ p. omega (arith, less p)) sound.short
+    sound_from f (free_of new f.lists f.reserved) sound l refl (λ p. omega (arith, less p)) sound.short
 
 pub takes_pages_sound : (f : FreePages) (new : List Bool) (pages : List ℕ) → IsSoundFree f
-    → TakesPages f.areas pages new → IsSoundFree (free_of new f.lists)
+    → TakesPages f.areas pages new → IsSoundFree (free_of new f.lists f.reserved)
 takes_pages_sound f new pages sound t =
     areas_sound f new sound (length-takes_pages f.areas new pages t)
     (λ p. omega (arith, takes_pages_times f.areas new pages t p))
 
 pub without_sound : (f : FreePages) (pages : List ℕ) → IsSoundFree f
-    → IsSoundFree (free_of (without_pages pages f.areas) f.lists)
+    → IsSoundFree (free_of (without_pages pages f.areas) f.lists f.reserved)
 without_sound f pages sound =
     areas_sound f (without_pages pages f.areas) sound (length-without_pages pages f.areas) (λ p.
     elim (cases_Bool (has (without_pages pages f.areas) p)) [
@@ -532,21 +535,22 @@ without_sound f pages sound =
     ])
 
 -- all pages are free
-pub fresh_sound : (n : ℕ) (lists : List (List ℕ)) → n ≤ 16384 → length lists ≤ 4 → flat lists ≡ []
-    → ((i : ℕ) → get_or lists i nothing ≡ nothing) → IsSoundFree (free_of (unreserved n) lists)
-fresh_sound n lists small few none empty = record {
+pub fresh_sound : (n r : ℕ) (lists : List (List ℕ)) → n ≤ MAX_PAGES → length lists ≤ 4
+    → flat lists ≡ [] → ((i : ℕ) → get_or lists i nothing ≡ nothing)
+    → IsSoundFree (free_of (unreserved n r) lists r)
+fresh_sound n r lists small few none empty = record {
   once = λ p.
       let e : times p (flat lists) ≡ 0 = ap (times p) none in
-      elim (cases_Bool (has (unreserved n) p)) [
+      elim (cases_Bool (has (unreserved n r) p)) [
         | inl t ↦
-            let l : one_if (nat_lt p (length (unreserved n))) ≡ 1 =
-            ap one_if (lt-ltb p (length (unreserved n)) (is_inside (unreserved n) p t)) in
-            omega (arith, e, l, one_if_le (has (unreserved n) p))
-        | inr f ↦ let z : one_if (has (unreserved n) p) ≡ 0 = ap one_if f in omega (arith, e, z)
+            let l : one_if (nat_lt p (length (unreserved n r))) ≡ 1 =
+            ap one_if (lt-ltb p (length (unreserved n r)) (is_inside (unreserved n r) p t)) in
+            omega (arith, e, l, one_if_le (has (unreserved n r) p))
+        | inr f ↦ let z : one_if (has (unreserved n r) p) ≡ 0 = ap one_if f in omega (arith, e, z)
       ];
   short = λ cpu. omega (arith, ap length (empty cpu));
   few = few;
-  small = omega (arith, length-unreserved n, small);
+  small = omega (arith, length-unreserved n r, small);
 }
 
 pub flat-replicate : (n : ℕ) → flat (replicate n nothing) ≡ []
@@ -582,7 +586,7 @@ module _ (f : FreePages) (cpu s : ℕ) (sound : IsSoundFree f) (l : cpu < length
       )
 
   -- where the list has room
-  pub pushed_sound : length longer < 16 → IsSoundFree (free_of f.areas (set f.lists cpu longer))
+  pub pushed_sound : length longer < 16 → IsSoundFree (free_of f.areas (set f.lists cpu longer) f.reserved)
   pushed_sound short = record {
     once = longer_times;
     short = λ i.
@@ -618,7 +622,7 @@ module _ (f : FreePages) (cpu s : ℕ) (sound : IsSoundFree f) (l : cpu < length
       omega (arith, longer_times p, front_times p, times_part p (set f.lists cpu longer) cpu, part)
 
   pub spilled_sound : IsSoundFree
-      (free_of (with_pages (take 8 longer) f.areas) (set f.lists cpu (drop 8 longer)))
+      (free_of (with_pages (take 8 longer) f.areas) (set f.lists cpu (drop 8 longer)) f.reserved)
   spilled_sound = record {
     once = λ p.
         let e : one_if (nat_lt p (length (with_pages (take 8 longer) f.areas)))
@@ -655,7 +659,7 @@ module _ (f : FreePages) (cpu s : ℕ) (sound : IsSoundFree f) (l : cpu < length
 
   -- what comes back, by how long the list is
   pub given_full : length longer ≡ 16
-      → free_of (with_pages (take 8 longer) f.areas) (set f.lists cpu (drop 8 longer))
+      → free_of (with_pages (take 8 longer) f.areas) (set f.lists cpu (drop 8 longer)) f.reserved
       ≡ given_back cpu s 0 f
   given_full full =
       let same : list_of (with_list cpu longer f) cpu ≡ longer =
@@ -665,15 +669,15 @@ module _ (f : FreePages) (cpu s : ℕ) (sound : IsSoundFree f) (l : cpu < length
       sym (cond-true (length (list_of (with_list cpu longer f) cpu) == 16)
       (spill_of (list_of (with_list cpu longer f) cpu)) (with_list cpu longer f) t
       ∙ (ap spill_of same ∙ ap
-      (λ (xs : List (List ℕ)). free_of (with_pages (take 8 longer) f.areas) xs)
+      (λ (xs : List (List ℕ)). free_of (with_pages (take 8 longer) f.areas) xs f.reserved)
       (set-set f.lists cpu longer (drop 8 longer))))
     where
       spill_of : List ℕ → FreePages
       spill_of list = free_of (with_pages (take 8 list) f.areas)
-          (set (set f.lists cpu longer) cpu (drop 8 list))
+          (set (set f.lists cpu longer) cpu (drop 8 list)) f.reserved
 
   pub given_short : (length longer ≡ 16 → ⊥)
-      → free_of f.areas (set f.lists cpu longer) ≡ given_back cpu s 0 f
+      → free_of f.areas (set f.lists cpu longer) f.reserved ≡ given_back cpu s 0 f
   given_short short =
       let same : list_of (with_list cpu longer f) cpu ≡ longer =
       get_or-set_same f.lists cpu longer nothing l in
@@ -682,15 +686,16 @@ module _ (f : FreePages) (cpu s : ℕ) (sound : IsSoundFree f) (l : cpu < length
       (λ e. short (sym (ap length same) ∙ e)) in
       sym (cond-false (length (list_of (with_list cpu longer f) cpu) == 16)
       (free_of (with_pages (take 8 (list_of (with_list cpu longer f) cpu)) f.areas)
-      (set (set f.lists cpu longer) cpu (drop 8 (list_of (with_list cpu longer f) cpu))))
+      (set (set f.lists cpu longer) cpu (drop 8 (list_of (with_list cpu longer f) cpu)))
+      f.reserved)
       (with_list cpu longer f) n)
 
 -- ---- a try, in its two forms
 
 pub takes_any_sound : (f : FreePages) (new : List Bool) (k : ℕ) (got : Option ℕ) → IsSoundFree f
-    → TakesBlock f.areas k got new → IsSoundFree (free_of new f.lists)
+    → TakesBlock f.areas k got new → IsSoundFree (free_of new f.lists f.reserved)
 takes_any_sound f new k None sound t =
-    subst (λ (x : List Bool). IsSoundFree (free_of x f.lists)) (sym t.1) sound
+    subst (λ (x : List Bool). IsSoundFree (free_of x f.lists f.reserved)) (sym t.1) sound
 takes_any_sound f new k (Some s) sound t = takes_sound f new k s sound t
 
 -- a second try, after the first gave nothing
@@ -739,16 +744,17 @@ pub isolated_sound : (f : FreePages) (new : List Bool) (order from : ℕ) (got :
     → ⊥) × (new ≡ f.areas))
     (λ b. IsLowestFrom f.areas order from (block_at b.start b.order)
     × (new ≡ without_pages (pages_of (block_at b.start b.order)) f.areas))
-    → IsSoundFree (free_of new f.lists)
+    → IsSoundFree (free_of new f.lists f.reserved)
 isolated_sound f new order from None sound h =
-    subst (λ (x : List Bool). IsSoundFree (free_of x f.lists)) (sym h.1) sound
+    subst (λ (x : List Bool). IsSoundFree (free_of x f.lists f.reserved)) (sym h.1) sound
 isolated_sound f new order from (Some b) sound h =
-    subst (λ (x : List Bool). IsSoundFree (free_of x f.lists)) (sym h.1)
+    subst (λ (x : List Bool). IsSoundFree (free_of x f.lists f.reserved)) (sym h.1)
     (without_sound f (pages_of (block_at b.start b.order)) sound)
 
-pub sound_at : (x y : List Bool) (xs ys : List (List ℕ)) → x ≡ y → xs ≡ ys
-    → IsSoundFree (free_of y ys) → IsSoundFree (free_of x xs)
-sound_at x y xs ys e l s = subst IsSoundFree (sym (same_free (free_of x xs) (free_of y ys) e l)) s
+pub sound_at : (x y : List Bool) (xs ys : List (List ℕ)) (r : ℕ) → x ≡ y → xs ≡ ys
+    → IsSoundFree (free_of y ys r) → IsSoundFree (free_of x xs r)
+sound_at x y xs ys r e l s =
+    subst IsSoundFree (sym (same_free (free_of x xs r) (free_of y ys r) e l refl)) s
 
 -- what comes back is free once more
 pub given_times : (f : FreePages) (cpu s k : ℕ) → IsSoundFree f → cpu < length f.lists
@@ -764,7 +770,7 @@ given_times f cpu s zero sound l room p =
       | inl full ↦
           let e : times_free (given_back cpu s 0 f) p
           ≡ times_free (free_of (with_pages (take 8 long) f.areas)
-          (set f.lists cpu (drop 8 long))) p = ap (λ (x : FreePages). times_free x p)
+          (set f.lists cpu (drop 8 long)) f.reserved) p = ap (λ (x : FreePages). times_free x p)
           (sym (given_full f cpu s sound l room full)) in
           omega (
             arith,
@@ -777,7 +783,7 @@ given_times f cpu s zero sound l room p =
           )
       | inr short ↦
           let e : times_free (given_back cpu s 0 f) p
-          ≡ times_free (free_of f.areas (set f.lists cpu long)) p =
+          ≡ times_free (free_of f.areas (set f.lists cpu long) f.reserved) p =
           ap (λ (x : FreePages). times_free x p)
           (sym (given_short f cpu s sound l room short)) in
           omega (arith, e, times-set p f.lists cpu long l, more, covers_one s p)
@@ -796,6 +802,21 @@ given_length f cpu s zero sound l room =
           (sym (given_short f cpu s sound l room short))
     ]
 
+pub given_reserved : (f : FreePages) (cpu s k : ℕ) → (given_back cpu s k f).reserved ≡ f.reserved
+given_reserved f cpu s (suc k) = refl
+given_reserved f cpu s zero = at (length (list_of more cpu) == 16)
+  where
+    more : FreePages
+    more = with_list cpu (list_of f cpu ++ s ∷ []) f
+
+    at : (v : Bool) → (cond v
+        (record more {
+          areas = with_pages (take 8 (list_of more cpu)) more.areas;
+          lists = set more.lists cpu (drop 8 (list_of more cpu));
+        }) more).reserved ≡ f.reserved
+    at true = refl
+    at false = refl
+
 tries_length : (f new : FreePages) (cpu order : ℕ) (got : Option ℕ) → Tries f cpu order got new
     → length new.areas ≡ length f.areas
 tries_length f new cpu zero got h = single_areas f.areas new.areas (list_of f cpu) h.0 got h.1
@@ -810,6 +831,19 @@ serves_length f new cpu order start h =
       | inl now ↦ tries_length f new cpu order (Some start) now
       | inr later ↦ tries_length (drained f) new cpu order (Some start) later.1
           ∙ length-with_pages (in_lists f) f.areas
+    ]
+
+tries_reserved : (f new : FreePages) (cpu order : ℕ) (got : Option ℕ) → Tries f cpu order got new
+    → new.reserved ≡ f.reserved
+tries_reserved f new cpu zero got h = h.3
+tries_reserved f new cpu (suc order) got h = h.2
+
+pub serves_reserved : (f new : FreePages) (cpu order start : ℕ)
+    → Serves f cpu order (Some start) new → new.reserved ≡ f.reserved
+serves_reserved f new cpu order start h =
+    elim h [
+      | inl now ↦ tries_reserved f new cpu order (Some start) now
+      | inr later ↦ tries_reserved (drained f) new cpu order (Some start) later.1
     ]
 
 tries_is_block : (f new : FreePages) (cpu order start : ℕ) → Tries f cpu order (Some start) new

@@ -1,6 +1,7 @@
 -- The numbers of the allocator, as plain numbers.
 use Rattle.std.proofs.Common.{◌≡◌, [], ◌∷◌, refl}
-use Rattle.vb_model.specs.declared.limits.TheConstants.{MAX_ORDER, RESERVED_PAGES}
+use Rattle.vb_model.specs.declared.limits.TheConstants.{MAX_ORDER}
+use Rattle.vb_pages.specs.declared.table.TheConstants.{MAX_PAGES}
 use Rattle.vb_pages.specs.declared.lists.TheConstants.{LIST_SIZE, BATCH}
 use Rattle.vb_pages.specs.declared.free.TheConstants.{REQUEST_PAGES}
 
@@ -8,6 +9,6 @@ use Rattle.vb_pages.specs.declared.free.TheConstants.{REQUEST_PAGES}
 lists_are : LIST_SIZE ∷ BATCH ∷ [] ≡ 16 ∷ 8 ∷ []
 lists_are = refl
 
--- the largest order, the pages that are never free, and the pages of a request
-pages_are : MAX_ORDER ∷ RESERVED_PAGES ∷ REQUEST_PAGES ∷ [] ≡ 9 ∷ 16 ∷ 256 ∷ []
+-- the largest order, the most pages that there may be, and the pages of a request
+pages_are : MAX_ORDER ∷ MAX_PAGES ∷ REQUEST_PAGES ∷ [] ≡ 9 ∷ 262144 ∷ 256 ∷ []
 pages_are = refl

@@ -27,6 +27,7 @@ use Rattle.vb_pages.proofs.ListsLemmas.{times, times_in, times_out, one_if_le, o
 use Rattle.vb_pages.proofs.ListsLemmas.{takes_pages_times, page_block}
 use Rattle.vb_pages.proofs.FreeLemmas.{free_of, flat, flat-empty, nothing, drained_times}
 use Rattle.vb_pages.proofs.FreeLemmas.{serves_times, serves_length, tries_none, given_times}
+use Rattle.vb_pages.proofs.FreeLemmas.{serves_reserved, given_reserved}
 use Rattle.vb_pages.proofs.FreeLemmas.{given_length, block_times, length-takes_pages}
 use Rattle.vb_pages.proofs.HeldLemmas.{held_of}
 
@@ -142,29 +143,32 @@ free_gained f g p b e =
 
 unreserved_below : (f : FreePages) (bs : List Block) (p : ℕ)
     → 1 ≤ one_if (is_unreserved (record { free = f; held = bs }) p)
-    → (16 ≤ p) × (p < length f.areas)
+    → (f.reserved ≤ p) × (p < length f.areas)
 unreserved_below f bs p h =
     let t = one_if_true (is_unreserved (record { free = f; held = bs }) p) h in
-    let q = and_parts (nat_le 16 p) (nat_lt p (length f.areas)) t in
-    (leb-true 16 p q.0, ltb-true p (length f.areas) q.1)
+    let q = and_parts (nat_le f.reserved p) (nat_lt p (length f.areas)) t in
+    (leb-true f.reserved p q.0, ltb-true p (length f.areas) q.1)
 
 same_room : (f g : FreePages) (xs ys : List Block) (p : ℕ) → length g.areas ≡ length f.areas
+    → g.reserved ≡ f.reserved
     → one_if (is_unreserved (record { free = g; held = ys }) p)
     ≡ one_if (is_unreserved (record { free = f; held = xs }) p)
-same_room f g xs ys p e = ap (λ (n : ℕ). one_if (nat_le 16 p && nat_lt p n)) e
+same_room f g xs ys p e r =
+    ap (λ (n : ℕ). one_if (nat_le g.reserved p && nat_lt p n)) e
+    ∙ ap (λ (n : ℕ). one_if (nat_le n p && nat_lt p (length f.areas))) r
 
 pub kept_times : (f g : FreePages) (h : HeldBlocks) (blocks : List Block) → IsKept f h
-    → length g.areas ≡ length f.areas
+    → length g.areas ≡ length f.areas → g.reserved ≡ f.reserved
     → ((p : ℕ) → times_free g p + count_by (covers p) blocks ≤ times_free f p + count_by (covers p)
     h.blocks) → IsKept g (held_of h.pages blocks)
-kept_times f g h blocks kept l less = record {
-  apart = λ p. omega (arith, kept.apart p, less p, same_room f g h.blocks blocks p l);
+kept_times f g h blocks kept l r less = record {
+  apart = λ p. omega (arith, kept.apart p, less p, same_room f g h.blocks blocks p l r);
   pages = kept.pages ∙ sym l;
 }
 
 pub kept_less : (f g : FreePages) (h : HeldBlocks) → IsKept f h → length g.areas ≡ length f.areas
-    → ((p : ℕ) → times_free g p ≤ times_free f p) → IsKept g h
-kept_less f g h kept l less = kept_times f g h h.blocks kept l (λ p. omega (arith, less p))
+    → g.reserved ≡ f.reserved → ((p : ℕ) → times_free g p ≤ times_free f p) → IsKept g h
+kept_less f g h kept l r less = kept_times f g h h.blocks kept l r (λ p. omega (arith, less p))
 
 pub times_once : (f : FreePages) (h : HeldBlocks) (p : ℕ) → IsKept f h → times_free f p ≤ 1
 times_once f h p kept =
@@ -173,7 +177,7 @@ times_once f h p kept =
 pub drained_kept : (f : FreePages) (h : HeldBlocks) → IsSoundFree f → IsKept f h
     → IsKept (drained f) h
 drained_kept f h sound kept =
-    kept_less f (drained f) h kept (length-with_pages (in_lists f) f.areas)
+    kept_less f (drained f) h kept (length-with_pages (in_lists f) f.areas) refl
     (λ p. omega (arith, drained_times f sound p))
 
 -- a block is handed out
@@ -184,7 +188,7 @@ module _ (f g : FreePages) (h : HeldBlocks) (cpu order s : ℕ) (sound : IsSound
 
   pub out_kept : IsKept g (held_of h.pages (with_block (block_at s order) h.blocks))
   out_kept = kept_times f g h (with_block (block_at s order) h.blocks) kept
-      (serves_length f g cpu order s served)
+      (serves_length f g cpu order s served) (serves_reserved f g cpu order s served)
       (λ p. omega (arith, out_times p, count-with_block p (block_at s order) h.blocks))
 
   pub out_free : (p : ℕ) → covers p (block_at s order) ≡ true → is_free_in f p ≡ true
@@ -260,7 +264,7 @@ module _ (f : FreePages) (h : HeldBlocks) (s k : ℕ) (kept : IsKept f h)
       → IsKept (given_back cpu s k f) (held_of h.pages (without_block (block_at s k) h.blocks))
   back_kept cpu sound l =
       kept_times f (given_back cpu s k f) h (without_block (block_at s k) h.blocks) kept
-      (given_length f cpu s k sound l back_room)
+      (given_length f cpu s k sound l back_room) (given_reserved f cpu s k)
       (λ p. omega (arith, given_times f cpu s k sound l back_room p, held_count p))
 
 -- a block that was taken comes back
@@ -270,11 +274,11 @@ room_for f h s k room = (room.0, room.2, λ p a e. (room.3 p a e).0)
 
 pub given_kept : (f : FreePages) (h : HeldBlocks) (s k : ℕ) → IsSoundFree f → IsKept f h
     → HasRoomIn (record { free = f; held = h.blocks }) (block_at s k)
-    → IsKept (free_of (with_pages (pages_of (block_at s k)) f.areas) f.lists) h
+    → IsKept (free_of (with_pages (pages_of (block_at s k)) f.areas) f.lists f.reserved) h
 given_kept f h s k sound kept room = record {
   apart = λ p.
-      let r = same_room f (free_of (with_pages (pages_of (block_at s k)) f.areas) f.lists) h.blocks
-      h.blocks p (length-with_pages (pages_of (block_at s k)) f.areas) in
+      let r = same_room f (free_of (with_pages (pages_of (block_at s k)) f.areas) f.lists f.reserved)
+      h.blocks h.blocks p (length-with_pages (pages_of (block_at s k)) f.areas) refl in
       let t = block_times f s k sound (room_for f h s k room) p in
       elim (cases_Bool (covers p (block_at s k))) [
         | inl c ↦
@@ -289,8 +293,8 @@ given_kept f h s k sound kept room = record {
             let held : count_by (covers p) h.blocks ≡ 0 =
             none_count (covers p) h.blocks (room.3 p b.0 b.1).1 in
             let u : one_if (is_unreserved (record { free = f; held = h.blocks }) p) ≡ 1 =
-            ap one_if (and_from (nat_le 16 p) (nat_lt p (length f.areas))
-            (le-leb 16 p (omega (arith, room.1, b.0)))
+            ap one_if (and_from (nat_le f.reserved p) (nat_lt p (length f.areas))
+            (le-leb f.reserved p (omega (arith, room.1, b.0)))
             (lt-ltb p (length f.areas) (omega (arith, room.2, b.1)))) in
             omega (arith, r, t, o, free, held, u)
         | inr n ↦
@@ -301,22 +305,22 @@ given_kept f h s k sound kept room = record {
 }
 
 -- all pages are free
-pub fresh_kept : (n : ℕ) (lists : List (List ℕ)) → flat lists ≡ []
-    → IsKept (free_of (unreserved n) lists) (held_of n [])
-fresh_kept n lists none = record {
+pub fresh_kept : (n r : ℕ) (lists : List (List ℕ)) → flat lists ≡ []
+    → IsKept (free_of (unreserved n r) lists r) (held_of n [])
+fresh_kept n r lists none = record {
   apart = λ p.
       let e : times p (flat lists) ≡ 0 = ap (times p) none in
-      elim (cases_Bool (has (unreserved n) p)) [
+      elim (cases_Bool (has (unreserved n r) p)) [
         | inl t ↦
-            let l : p < n = omega (arith, is_inside (unreserved n) p t, length-unreserved n) in
-            let a : nat_le 16 p ≡ true = sym (has-unreserved n p l) ∙ t in
-            let u : one_if (nat_le 16 p && nat_lt p (length (unreserved n))) ≡ 1 =
-            ap one_if (and_from (nat_le 16 p) (nat_lt p (length (unreserved n))) a
-            (lt-ltb p (length (unreserved n)) (is_inside (unreserved n) p t))) in
-            omega (arith, e, u, one_if_le (has (unreserved n) p))
-        | inr f ↦ let z : one_if (has (unreserved n) p) ≡ 0 = ap one_if f in omega (arith, e, z)
+            let l : p < n = omega (arith, is_inside (unreserved n r) p t, length-unreserved n r) in
+            let a : nat_le r p ≡ true = sym (has-unreserved n r p l) ∙ t in
+            let u : one_if (nat_le r p && nat_lt p (length (unreserved n r))) ≡ 1 =
+            ap one_if (and_from (nat_le r p) (nat_lt p (length (unreserved n r))) a
+            (lt-ltb p (length (unreserved n r)) (is_inside (unreserved n r) p t))) in
+            omega (arith, e, u, one_if_le (has (unreserved n r) p))
+        | inr f ↦ let z : one_if (has (unreserved n r) p) ≡ 0 = ap one_if f in omega (arith, e, z)
       ];
-  pages = sym (length-unreserved n);
+  pages = sym (length-unreserved n r);
 }
 
 pub kept_at : (f g : FreePages) (h i : HeldBlocks) → f ≡ g → h ≡ i → IsKept g i → IsKept f h
@@ -400,6 +404,7 @@ isolated_kept f new h order from (Some b) sound kept i =
     (ap (λ (x : FreePages). length x.areas) i.1
     ∙ (length-without_pages (pages_of (block_at b.start b.order)) (drained f).areas
     ∙ length-with_pages (in_lists f) f.areas))
+    (ap (λ (x : FreePages). x.reserved) i.1)
     (λ p. omega (arith, isolated_times f new order from b sound i p))
 
 pub isolated_left : (f new : FreePages) (h : HeldBlocks) (order from : ℕ) (got : Option FreeBlock)
@@ -428,11 +433,11 @@ singles_times f new pages sound t l p =
 
 pub singles_kept : (f new : FreePages) (h : HeldBlocks) (pages : List ℕ) → IsSoundFree f
     → IsKept f h → TakesPages (drained f).areas pages new.areas → new.lists ≡ (drained f).lists
-    → IsKept new h
-singles_kept f new h pages sound kept t l =
+    → new.reserved ≡ f.reserved → IsKept new h
+singles_kept f new h pages sound kept t l r =
     kept_less f new h kept
     (length-takes_pages (drained f).areas new.areas pages t
-    ∙ length-with_pages (in_lists f) f.areas)
+    ∙ length-with_pages (in_lists f) f.areas) r
     (λ p. omega (arith, singles_times f new pages sound t l p))
 
 pub singles_left : (f new : FreePages) (h : HeldBlocks) (pages : List ℕ) → IsSoundFree f
@@ -449,10 +454,11 @@ singles_left f new h pages sound kept t l p =
 
 pub given_gained : (f : FreePages) (h : HeldBlocks) (s k : ℕ) → IsSoundFree f
     → HasRoomIn (record { free = f; held = h.blocks }) (block_at s k) → (p : ℕ)
-    → is_free_in (free_of (with_pages (pages_of (block_at s k)) f.areas) f.lists) p
+    → is_free_in (free_of (with_pages (pages_of (block_at s k)) f.areas) f.lists f.reserved) p
     ≡ (is_free_in f p || covers p (block_at s k))
 given_gained f h s k sound room p =
-    free_gained f (free_of (with_pages (pages_of (block_at s k)) f.areas) f.lists) p (block_at s k)
+    free_gained f (free_of (with_pages (pages_of (block_at s k)) f.areas) f.lists f.reserved) p
+    (block_at s k)
     (omega (arith, block_times f s k sound (room_for f h s k room) p))
 
 pub map_nothing : (xs : List (List ℕ))
@@ -471,10 +477,10 @@ same_state f g xs ys e l =
 -- ---- what left may come back
 
 room_of : (f new : FreePages) (h : HeldBlocks) (s k : ℕ) → IsKept f h
-    → length new.areas ≡ length f.areas → IsBlock (block_at s k)
+    → length new.areas ≡ length f.areas → new.reserved ≡ f.reserved → IsBlock (block_at s k)
     → ((p : ℕ) → s ≤ p → p < s + 2 ^ k → times_free new p + 1 ≤ times_free f p)
     → HasRoomIn (state_of new h.blocks) (block_at s k)
-room_of f new h s k kept l block less =
+room_of f new h s k kept l r block less =
     let pos : 0 < 2 ^ k = pow_pos k in
     let first = unreserved_below f h.blocks s
     (omega (arith, kept.apart s, less s (omega arith) (omega arith))) in
@@ -485,7 +491,7 @@ room_of f new h s k kept l block less =
       less (s + 2 ^ k - 1) (omega arith) (omega arith),
     )) in (
       block,
-      first.0,
+      omega (arith, first.0, r),
       omega (arith, last.1, l),
       λ p a e.
           let most = one_if_le (is_unreserved (record { free = f; held = h.blocks }) p) in (
@@ -503,6 +509,7 @@ isolated_room f new h order from (Some b) sound kept i =
     (ap (λ (x : FreePages). length x.areas) i.1
     ∙ (length-without_pages (pages_of (block_at b.start b.order)) (drained f).areas
     ∙ length-with_pages (in_lists f) f.areas))
+    (ap (λ (x : FreePages). x.reserved) i.1)
     i.0.maximal.is_block
     (λ p a e.
     let o : one_if (covers p (block_at b.start b.order)) ≡ 1 =
@@ -511,11 +518,12 @@ isolated_room f new h order from (Some b) sound kept i =
 
 pub singles_room : (f new : FreePages) (h : HeldBlocks) (pages : List ℕ) → IsSoundFree f
     → IsKept f h → TakesPages (drained f).areas pages new.areas → new.lists ≡ (drained f).lists
-    → (p : ℕ) → is_in p pages ≡ true → HasRoomIn (state_of new h.blocks) (block_at p 0)
-singles_room f new h pages sound kept t l p i =
+    → new.reserved ≡ f.reserved → (p : ℕ) → is_in p pages ≡ true
+    → HasRoomIn (state_of new h.blocks) (block_at p 0)
+singles_room f new h pages sound kept t l r p i =
     room_of f new h p 0 kept
     (length-takes_pages (drained f).areas new.areas pages t
-    ∙ length-with_pages (in_lists f) f.areas) (page_block p) (λ q a e.
+    ∙ length-with_pages (in_lists f) f.areas) r (page_block p) (λ q a e.
     let same : q ≡ p = omega arith in
     let some : 1 ≤ times q pages = times_in q pages (ap (λ (n : ℕ). is_in n pages) same ∙ i) in
     omega (arith, some, singles_times f new pages sound t l q))

@@ -10,6 +10,7 @@ use Rattle.std.proofs.lemmas.Bool.{cases_lt, cases_eq, eqb-true, eq-eqb, ne_eqb,
 use Rattle.std.proofs.lemmas.Bool.{cond-true, cond-false, and_parts, and_from}
 use Rattle.std.proofs.lemmas.Nat.{pow_pos, mul-le}
 use Rattle.vb_bits.specs.Sets.{has, HasNoneFrom, IsLeastFrom}
+use Rattle.vb_pages.specs.declared.table.TheConstants.{MAX_PAGES}
 use Rattle.vb_pages.specs.Table.{order_at, is_order, AreBlocks, room_of, set_of_order, sets_of}
 use Rattle.vb_pages.specs.Table.{is_in_sets, first_of, table_of, AreSetsOf, IsLowestStart}
 use Rattle.vb_pages.proofs.Aligned.{multiple_of, times_div, block_fits, div_ceil_le}
@@ -180,7 +181,7 @@ pub record StandFor (pages : ℕ) (sets : List (List Bool)) (t : List (Option �
   pub table : table_of pages sets ≡ t
   pub kept : AreSetsOf pages sets
 
-pub stand_for : (pages : ℕ) (sets : List (List Bool)) (t : List (Option ℕ)) → pages ≤ 16384
+pub stand_for : (pages : ℕ) (sets : List (List Bool)) (t : List (Option ℕ)) → pages ≤ MAX_PAGES
     → pages ≡ length t → sets ≡ sets_of t → AreBlocks t → StandFor pages sets t
 stand_for pages sets t small l e blocks =
     let same : table_of pages sets ≡ t =
@@ -420,7 +421,7 @@ module _ (pages : ℕ) (sets : List (List Bool)) (s : AreSetsOf pages sets) wher
       (with_block_removed table start there s.blocks)
 
 -- sets without a member
-pub none : (pages : ℕ) (sets : List (List Bool)) → pages ≤ 16384 → length sets ≡ 10
+pub none : (pages : ℕ) (sets : List (List Bool)) → pages ≤ MAX_PAGES → length sets ≡ 10
     → ((k : ℕ) (d : List Bool) → k < 10 → get_or sets k d ≡ replicate (room_of k pages) false)
     → StandFor pages sets (replicate pages None)
 none pages sets small ten h =

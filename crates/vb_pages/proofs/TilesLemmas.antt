@@ -11,6 +11,7 @@ use Rattle.std.proofs.lemmas.Bool.{cases_lt, cases_eq, cases_Bool, both_ways, or
 use Rattle.std.proofs.lemmas.Bool.{or_right, eq-eqb, eqb-true, false_from_ne_true, and_right}
 use Rattle.std.proofs.lemmas.Bool.{not_from_true}
 use Rattle.vb_model.specs.Pages.{Block, pages_of}
+use Rattle.vb_pages.specs.declared.table.TheConstants.{MAX_PAGES}
 use Rattle.vb_pages.specs.declared.block.FreeBlock.{FreeBlock}
 use Rattle.vb_pages.specs.Table.{order_at, is_order, IsLowestStart}
 use Rattle.vb_model.specs.Tests.{is_in}
@@ -696,14 +697,14 @@ added_tiled t s k tiled room alone =
     }
 
 -- no blocks make up no pages
-pub none_tiled : (n : ℕ) → n ≤ 16384 → IsTiled (replicate n None)
+pub none_tiled : (n : ℕ) → n ≤ MAX_PAGES → IsTiled (replicate n None)
 none_tiled n h = record {
   placed = record { blocks = no_blocks n; apart = λ s k r j e a b f. none_entry n s k e };
   merged = λ s k e f a b. none_entry n s k e;
   small = omega (arith, length-replicate {A = Option ℕ} n None);
 }
 
-pub none_set : (n p : ℕ) → n ≤ 16384 → has (set_of (replicate n None)) p ≡ false
+pub none_set : (n p : ℕ) → n ≤ MAX_PAGES → has (set_of (replicate n None)) p ≡ false
 none_set n p h =
     false_from_ne_true (has (set_of (replicate n None)) p) (λ e.
     let c = in_set (replicate n None) p e in none_entry n c.start c.order c.listed)

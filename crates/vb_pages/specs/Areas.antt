@@ -7,7 +7,7 @@ use Rattle.std.specs.Prelude.{None, IsTrue}
 use Rattle.std.specs.Int.{div_ceil}
 use Rattle.std.specs.List.{range_with_len}
 use Rattle.vb_model.specs.Tests.{is_in, each_page, has_bit}
-use Rattle.vb_model.specs.Limits.{max_order, reserved_pages}
+use Rattle.vb_model.specs.Limits.{max_order}
 pub use Rattle.vb_model.specs.Pages.{block_at}
 -- a set of pages is a flag a page; a page that isn't there isn't in it
 pub use Rattle.vb_bits.specs.Sets.{has}
@@ -22,9 +22,9 @@ with_pages pages set = each_page (λ page old. old || is_in page pages) set
 unfoldable pub without_pages : List ℕ → List Bool → List Bool
 without_pages pages set = each_page (λ page old. old && not (is_in page pages)) set
 
--- all of n pages but the reserved ones
-unfoldable pub unreserved : ℕ → List Bool
-unreserved n = map (λ page. nat_le reserved_pages page) (range_with_len 0 n)
+-- all of n pages but the reserved ones, which are the first ones
+unfoldable pub unreserved : ℕ → ℕ → List Bool
+unreserved n reserved = map (λ page. nat_le reserved page) (range_with_len 0 n)
 
 -- an aligned block of order 0 to 9
 abbrev pub IsBlock : Block → Type 0

@@ -8,13 +8,16 @@ use Rattle.std.specs.List.{flat_map}
 use Rattle.std.specs.List.Sorted.{IsSorted}
 use Rattle.vb_model.specs.Tests.{is_in, one_if}
 use Rattle.vb_model.specs.Pages.{pages_of}
-use Rattle.vb_model.specs.declared.limits.TheConstants.{MAX_GUEST_PAGES, MAX_PROCESSORS}
+use Rattle.vb_model.specs.declared.limits.TheConstants.{MAX_PROCESSORS}
+use Rattle.vb_pages.specs.declared.table.TheConstants.{MAX_PAGES}
 use Rattle.vb_pages.specs.declared.lists.TheConstants.{LIST_SIZE, BATCH}
 use Rattle.vb_pages.specs.Areas.{has, with_pages, block_at, IsBlock, HasNoBlock, TakesBlock}
 
 pub record FreePages : Type 0 where
   pub areas : List Bool
   pub lists : List (List ℕ)
+  -- how many of the first pages are never free
+  pub reserved : ℕ
 
 -- the pages of all lists
 abbrev pub in_lists : FreePages → List ℕ
@@ -41,7 +44,8 @@ with_list cpu list f = record f { lists = slice_set f.lists cpu list }
 
 -- all lists go back to the areas
 abbrev pub drained : FreePages → FreePages
-drained f = record { areas = with_pages (in_lists f) f.areas; lists = map (λ list. []) f.lists }
+drained f =
+    record f { areas = with_pages (in_lists f) f.areas; lists = map (λ list. []) f.lists }
 
 -- these single pages are taken from the areas, one after the other
 abbrev pub TakesPages : List Bool → List ℕ → List Bool → Type 0
@@ -78,9 +82,9 @@ TakesSingle set (page ∷ pages) got new rest = (new ≡ set) × Pops (page ∷ 
 abbrev pub Tries : FreePages → ℕ → ℕ → Option ℕ → FreePages → Type 0
 Tries f cpu zero got new =
     (rest : List ℕ) × TakesSingle f.areas (list_of f cpu) got new.areas rest ×
-    (new.lists ≡ slice_set f.lists cpu rest)
+    (new.lists ≡ slice_set f.lists cpu rest) × (new.reserved ≡ f.reserved)
 Tries f cpu (suc order) got new = TakesBlock f.areas (suc order) got new.areas ×
-    (new.lists ≡ f.lists)
+    (new.lists ≡ f.lists) × (new.reserved ≡ f.reserved)
 
 -- where the areas have nothing, all lists are drained, and it is tried once more
 abbrev pub Serves : FreePages → ℕ → ℕ → Option ℕ → FreePages → Type 0
@@ -94,7 +98,7 @@ Serves f cpu order (Some start) new =
 abbrev pub spilled : ℕ → FreePages → FreePages
 spilled cpu f =
     if length (list_of f cpu) == LIST_SIZE
-    then record {
+    then record f {
       areas = with_pages (take BATCH (list_of f cpu)) f.areas;
       lists = slice_set f.lists cpu (drop BATCH (list_of f cpu));
     }
@@ -111,7 +115,7 @@ pub record IsSoundFree (f : FreePages) : Type 0 where
   pub once : (page : ℕ) → times_free f page ≤ one_if (nat_lt page (length f.areas))
   pub short : (cpu : ℕ) → length (list_of f cpu) < LIST_SIZE
   pub few : length f.lists ≤ MAX_PROCESSORS
-  pub small : length f.areas ≤ MAX_GUEST_PAGES
+  pub small : length f.areas ≤ MAX_PAGES
 
 -- the block is there, and none of its pages is free
 abbrev pub HasRoomFor : FreePages → ℕ → ℕ → Type 0

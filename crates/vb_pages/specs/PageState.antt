@@ -5,11 +5,10 @@ use Rattle.std.specs.Prelude.{length, replicate, Option, Some, None, Result, Ok,
 use Rattle.std.specs.Prelude.{IsTrue}
 use Rattle.std.specs.List.{list_any}
 use Rattle.vb_model.specs.Tests.{one_if}
-use Rattle.vb_model.specs.declared.limits.TheConstants.{MIN_GUEST_PAGES, MAX_GUEST_PAGES}
 use Rattle.vb_model.specs.declared.limits.TheConstants.{MAX_PROCESSORS}
-use Rattle.vb_model.specs.Limits.{reserved_pages}
 use Rattle.vb_model.specs.Pages.{Block, pages_of, size, covers, is_same_block}
 use Rattle.vb_model.specs.Driver.{with_block, without_block}
+use Rattle.vb_pages.specs.declared.table.TheConstants.{MAX_PAGES}
 use Rattle.vb_pages.specs.declared.block.FreeBlock.{FreeBlock}
 use Rattle.vb_pages.specs.declared.fault.PageFault.{PageFault}
 use Rattle.vb_pages.specs.declared.fault.PageFault.TheVariants.{NoPages}
@@ -32,6 +31,10 @@ page_count s = length s.free.areas
 abbrev pub cpu_count : PageState → ℕ
 cpu_count s = length s.free.lists
 
+-- how many pages are reserved, which are the first ones
+abbrev pub reserved_count : PageState → ℕ
+reserved_count s = s.free.reserved
+
 -- in the areas or in a processor's list
 abbrev pub is_free_page : PageState → ℕ → Bool
 is_free_page s page = is_free_in s.free page
@@ -46,12 +49,19 @@ is_held_block s b = list_any (λ h. is_same_block h b) s.held
 
 -- a page that isn't reserved
 abbrev pub is_unreserved : PageState → ℕ → Bool
-is_unreserved s page = nat_le reserved_pages page && nat_lt page (page_count s)
+is_unreserved s page = nat_le (reserved_count s) page && nat_lt page (page_count s)
 
--- all pages but the reserved ones are free, in the areas
-abbrev pub new_page_state : ℕ → ℕ → PageState
-new_page_state pages cpus =
-    record { free = record { areas = unreserved pages; lists = replicate cpus [] }; held = [] }
+-- all of so many pages but the reserved ones are free, in the areas
+abbrev pub new_page_state : ℕ → ℕ → ℕ → PageState
+new_page_state pages cpus reserved =
+    record {
+      free = record {
+        areas = unreserved pages reserved;
+        lists = replicate cpus [];
+        reserved = reserved;
+      };
+      held = [];
+    }
 
 -- each page of the block is free
 abbrev pub IsWhollyFree : PageState → Block → Type 0
@@ -74,7 +84,8 @@ freed cpu b s =
 abbrev pub TakesFree : PageState → List ℕ → PageState → Type 0
 TakesFree s pages new =
     TakesPages (drained s.free).areas pages new.free.areas ×
-    (new.free.lists ≡ (drained s.free).lists) × (new.held ≡ s.held)
+    (new.free.lists ≡ (drained s.free).lists) × (new.held ≡ s.held) ×
+    (reserved_count new ≡ reserved_count s)
 
 -- the block goes into the areas
 abbrev pub with_free_block : Block → PageState → PageState
@@ -105,14 +116,13 @@ pub record IsKept (free : FreePages) (held : HeldBlocks) : Type 0 where
   pub apart : IsApart (record { free = free; held = held.blocks })
   pub pages : held.pages ≡ length free.areas
 
--- how many pages and processors a guest may have
+-- how many pages and processors there may be
 abbrev pub IsGuestSize : ℕ → ℕ → Type 0
-IsGuestSize pages cpus = (MIN_GUEST_PAGES ≤ pages) × (pages ≤ MAX_GUEST_PAGES) × (1 ≤ cpus) ×
-    (cpus ≤ MAX_PROCESSORS)
+IsGuestSize pages cpus = (pages ≤ MAX_PAGES) × (cpus ≤ MAX_PROCESSORS)
 
 -- the block is there, and each of its pages was taken: it is neither reserved nor free nor held
 abbrev pub HasRoomIn : PageState → Block → Type 0
 HasRoomIn s b =
-    IsBlock b × (reserved_pages ≤ b.start) × (b.start + size b ≤ page_count s)
+    IsBlock b × (reserved_count s ≤ b.start) × (b.start + size b ≤ page_count s)
     × ((page : ℕ) → b.start ≤ page → page < b.start + size b →
     (is_free_page s page ≡ false) × (is_held_page s page ≡ false))

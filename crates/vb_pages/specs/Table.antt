@@ -5,7 +5,7 @@ use Rattle.std.specs.Prelude.{◌&&◌, List, [], length, map, max, Option, Some
 use Rattle.std.specs.Prelude.{if◌then◌else◌, slice_index_or}
 use Rattle.std.specs.List.{range_with_len}
 use Rattle.vb_model.specs.Limits.{max_order}
-use Rattle.vb_model.specs.declared.limits.TheConstants.{MAX_GUEST_PAGES}
+use Rattle.vb_pages.specs.declared.table.TheConstants.{MAX_PAGES}
 use Rattle.vb_bits.specs.Sets.{has}
 
 -- the order of the block that starts at the page, if one does
@@ -55,7 +55,7 @@ table_of pages sets =
 
 -- the sets are just those of the table that they stand for
 pub record AreSetsOf (pages : ℕ) (sets : List (List Bool)) : Type 0 where
-  pub small : pages ≤ MAX_GUEST_PAGES
+  pub small : pages ≤ MAX_PAGES
   pub same : sets ≡ sets_of (table_of pages sets)
   pub blocks : AreBlocks (table_of pages sets)
 

@@ -3,7 +3,7 @@ use Rattle.std.specs.Prelude.{◌≡◌, ℕ, suc, ◌+◌, ◌-◌, ◌%◌, �
 use Rattle.std.specs.Prelude.{Option, Some, None, ◌⊎◌}
 use Rattle.std.specs.List.{list_any, range_with_len}
 use Rattle.vb_model.specs.Limits.{max_order}
-use Rattle.vb_model.specs.declared.limits.TheConstants.{MAX_GUEST_PAGES}
+use Rattle.vb_pages.specs.declared.table.TheConstants.{MAX_PAGES}
 use Rattle.vb_pages.specs.Table.{order_at, is_order, AreBlocks}
 use Rattle.vb_pages.specs.declared.block.FreeBlock.{FreeBlock}
 use Rattle.vb_pages.specs.Areas.{LiesOutside, block_at}
@@ -48,7 +48,7 @@ pub record HasRoom (table : List (Option ℕ)) (start order : ℕ) : Type 0 wher
 pub record IsTiled (table : List (Option ℕ)) : Type 0 where
   pub placed : IsPlaced table
   pub merged : IsMerged table
-  pub small : length table ≤ MAX_GUEST_PAGES
+  pub small : length table ≤ MAX_PAGES
 
 -- of the listed blocks of at least this order that start at or after a page, the lowest
 abbrev pub IsLowestListed : List (Option ℕ) → ℕ → ℕ → Option FreeBlock → Type 0

@@ -9,16 +9,16 @@ ghost use Rattle.vb_pages.specs.Areas.{AreBlockBits};
 ghost use Rattle.vb_pages.specs.Tiles.{IsBuddy, HasRoom, IsTiled, set_of, IsLowestListed};
 
 use crate::block::{FreeBlock, size_of};
-use crate::table::Table;
+use crate::table::{MAX_PAGES, Table};
 use std::alloc::{AllocError, Global};
 use std::marker::Model;
-use vb_model::limits::{MAX_GUEST_PAGES, MAX_ORDER, RESERVED_PAGES};
+use vb_model::limits::MAX_ORDER;
 
 /// Where the other half of the next larger block starts.
 fn buddy_of(start: u32, order: u32) -> u32
     requires order { order ≤ MAX_ORDER }
     requires aligned { start % 2 ^ order ≡ 0 }
-    requires small { start ≤ MAX_GUEST_PAGES }
+    requires small { start ≤ MAX_PAGES }
     ensures { IsBuddy start order result }
 {
     let size = size_of(order);
@@ -141,27 +141,27 @@ impl Model for Areas {
 }
 
 impl Areas {
-    /// All of so many pages but the reserved ones.
-    pub fn new(alloc: Global, pages: u32) -> Result<Self, AllocError>
-        requires { pages ≤ MAX_GUEST_PAGES }
-        ensures { IfOk result (λ a. a ≡ unreserved pages) }
+    /// All of so many pages but the reserved ones, which are the first ones.
+    pub fn new(alloc: Global, pages: u32, reserved: u32) -> Result<Self, AllocError>
+        requires { pages ≤ MAX_PAGES }
+        ensures { IfOk result (λ a. a ≡ unreserved pages reserved) }
     {
         let mut areas = Areas {
             table: Table::new(alloc, pages)?,
             count: 0,
         };
-        areas.fill(pages);
+        areas.fill(pages, reserved);
         Ok(areas)
     }
 
     /// Puts all pages in but the reserved ones, as the largest blocks.
-    fn fill(&mut self, pages: u32)
+    fn fill(&mut self, pages: u32, reserved: u32)
         requires pages { pages ≡ length self.old }
-        requires small { pages ≤ MAX_GUEST_PAGES }
+        requires small { pages ≤ MAX_PAGES }
         requires empty { (page : ℕ) → has self.old page ≡ false }
-        ensures { self.new ≡ unreserved pages }
+        ensures { self.new ≡ unreserved pages reserved }
     {
-        let mut page = RESERVED_PAGES;
+        let mut page = reserved;
         while page < pages {
             let order = largest_order(page, pages);
             self.give(page, order);
@@ -220,13 +220,13 @@ impl Areas {
     }
 
     /// Puts all pages back in but the reserved ones.
-    pub fn renew(&mut self)
-        requires { length self.old ≤ MAX_GUEST_PAGES }
-        ensures { self.new ≡ unreserved (length self.old) }
+    pub fn renew(&mut self, reserved: u32)
+        requires { length self.old ≤ MAX_PAGES }
+        ensures { self.new ≡ unreserved (length self.old) reserved }
     {
         self.table.clear();
         self.count = 0;
         let pages = self.table.pages();
-        self.fill(pages);
+        self.fill(pages, reserved);
     }
 }

@@ -16,10 +16,11 @@ ghost use Rattle.vb_pages.specs.FreePages.{HasRoomFor};
 use crate::FreeBlock;
 use crate::areas::Areas;
 use crate::lists::PageList;
+use crate::table::MAX_PAGES;
 use arrayvec::ArrayVec;
 use std::alloc::{AllocError, Global};
 use std::marker::Model;
-use vb_model::limits::{MAX_GUEST_PAGES, MAX_ORDER, MAX_PROCESSORS, MAX_REQUEST_PAGES};
+use vb_model::limits::{MAX_ORDER, MAX_PROCESSORS, MAX_REQUEST_PAGES};
 
 /// Pages that one request names, as a capacity.
 pub(crate) const REQUEST_PAGES: usize = MAX_REQUEST_PAGES as usize;
@@ -62,6 +63,8 @@ pub struct FreePages {
     areas: Areas,
     /// The list of each processor.
     lists: Vec<PageList>,
+    /// How many of the first pages are never free.
+    reserved: u32,
 }
 
 impl Model for FreePages {
@@ -69,25 +72,40 @@ impl Model for FreePages {
 
     ghost Value = { Free };
 
-    ghost view = { λ f. record { areas = f.areas; lists = f.lists.items } };
+    ghost view = { λ f. record {
+      areas = f.areas;
+      lists = f.lists.items;
+      reserved = f.reserved;
+    } };
 
-    ghost invariant = { λ f. IsSoundFree (record { areas = f.areas; lists = f.lists.items }) };
+    ghost invariant = { λ f. IsSoundFree (record {
+      areas = f.areas;
+      lists = f.lists.items;
+      reserved = f.reserved;
+    }) };
 }
 
 impl FreePages {
     /// All of so many pages but the reserved ones, with an empty list for each processor.
-    pub fn new(alloc: Global, pages: u32, cpus: u32) -> Result<Self, AllocError>
-        requires pages { pages ≤ MAX_GUEST_PAGES }
+    pub fn new(alloc: Global, pages: u32, cpus: u32, reserved: u32) -> Result<Self, AllocError>
+        requires pages { pages ≤ MAX_PAGES }
         requires cpus { cpus ≤ MAX_PROCESSORS }
-        ensures { IfOk result (λ f. f ≡
-            record { areas = unreserved pages; lists = replicate cpus [] }) }
+        ensures { IfOk result (λ f. f ≡ record {
+          areas = unreserved pages reserved;
+          lists = replicate cpus [];
+          reserved = reserved;
+        }) }
     {
-        let areas = Areas::new(alloc, pages)?;
+        let areas = Areas::new(alloc, pages, reserved)?;
         let mut lists = Vec::with_capacity(alloc, cpus as usize)?;
         for _cpu in 0..cpus {
             lists.push(PageList::new())?;
         }
-        Ok(FreePages { areas, lists })
+        Ok(FreePages {
+            areas,
+            lists,
+            reserved,
+        })
     }
 
     /// How many processors there are.
@@ -179,6 +197,7 @@ impl FreePages {
         ensures taken { TakesPages (drained self.old).areas out.new.items self.new.areas }
         ensures count { length out.new.items ≡ count }
         ensures lists { self.new.lists ≡ (drained self.old).lists }
+        ensures reserved { self.new.reserved ≡ self.old.reserved }
     {
         self.drain();
         take_singles(&mut self.areas, count, out);
@@ -214,12 +233,12 @@ impl FreePages {
 
     /// Puts all pages back but the reserved ones.
     pub fn renew(&mut self)
-        ensures { self.new ≡ record {
-          areas = unreserved (length self.old.areas);
+        ensures { self.new ≡ record self.old {
+          areas = unreserved (length self.old.areas) self.old.reserved;
           lists = map (λ list. []) self.old.lists;
         } }
     {
-        self.areas.renew();
+        self.areas.renew(self.reserved);
         for list in self.lists.iter_mut() {
             list.clear();
         }

@@ -7,10 +7,10 @@ ghost use Rattle.vb_model.specs.Driver.{with_block, without_block};
 ghost use Rattle.vb_pages.specs.Areas.{block_at, IsBlock};
 
 use crate::block::size_of;
-use crate::table::Table;
+use crate::table::{MAX_PAGES, Table};
 use std::alloc::{AllocError, Global};
 use std::marker::Model;
-use vb_model::limits::{MAX_GUEST_PAGES, MAX_ORDER};
+use vb_model::limits::MAX_ORDER;
 
 /// The held blocks.
 #[derive(Drop)]
@@ -34,7 +34,7 @@ impl Model for Held {
 impl Held {
     /// No held blocks among so many pages.
     pub fn new(alloc: Global, pages: u32) -> Result<Self, AllocError>
-        requires { pages ≤ MAX_GUEST_PAGES }
+        requires { pages ≤ MAX_PAGES }
         ensures { IfOk result (λ h. h ≡ record { pages = pages; blocks = [] }) }
     {
         Ok(Held {

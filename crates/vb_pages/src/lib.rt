@@ -19,3 +19,4 @@ mod tests;
 pub use block::FreeBlock;
 pub use fault::PageFault;
 pub use pages::Pages;
+pub use table::MAX_PAGES;

@@ -9,6 +9,7 @@ ghost use Rattle.vb_model.specs.Driver.{with_block};
 ghost use Rattle.vb_pages.specs.Areas.{block_at, IsBlock, AreBlockBits};
 ghost use Rattle.vb_pages.specs.FreePages.{free_count, drained};
 ghost use Rattle.vb_pages.specs.PageState.{PageState, page_count, cpu_count, is_free_page};
+ghost use Rattle.vb_pages.specs.PageState.{reserved_count};
 ghost use Rattle.vb_pages.specs.PageState.{is_held_page, is_held_block};
 ghost use Rattle.vb_pages.specs.PageState.{new_page_state, IsWhollyFree, AllocatesBlock, freed};
 ghost use Rattle.vb_pages.specs.PageState.{TakesFree, with_free_block, Isolates, IsApart};
@@ -16,11 +17,11 @@ ghost use Rattle.vb_pages.specs.PageState.{IsGuestSize, HasRoomIn};
 
 use crate::free::{FreePages, REQUEST_PAGES};
 use crate::held::Held;
-use crate::{FreeBlock, PageFault};
+use crate::{FreeBlock, MAX_PAGES, PageFault};
 use arrayvec::ArrayVec;
 use std::alloc::{AllocError, Global};
 use std::marker::Model;
-use vb_model::limits::{MAX_GUEST_PAGES, MAX_ORDER, MAX_REQUEST_PAGES};
+use vb_model::limits::{MAX_ORDER, MAX_REQUEST_PAGES};
 
 /// The pages of a guest: free ones in the buddy areas and in a list for each processor, and held
 /// blocks.
@@ -43,13 +44,15 @@ impl Model for Pages {
 }
 
 impl Pages {
-    /// All pages but the reserved ones are free. All memory is reserved here.
-    pub fn new(alloc: Global, pages: u32, cpus: u32) -> Result<Self, AllocError>
+    /// Pages for a guest of so many, at most 262,144, and of so many processors, at most 4. The
+    /// first `reserved` ones are never free; all others are. All memory is taken here, and want of
+    /// it is the only refusal.
+    pub fn new(alloc: Global, pages: u32, cpus: u32, reserved: u32) -> Result<Self, AllocError>
         requires { IsGuestSize pages cpus }
-        ensures { IfOk result (λ p. p ≡ new_page_state pages cpus) }
+        ensures { IfOk result (λ p. p ≡ new_page_state pages cpus reserved) }
     {
         Ok(Pages {
-            free: FreePages::new(alloc, pages, cpus)?,
+            free: FreePages::new(alloc, pages, cpus, reserved)?,
             held: Held::new(alloc, pages)?,
         })
     }
@@ -179,7 +182,7 @@ impl Pages {
     pub fn drain(&mut self)
         ensures drained { self.new ≡ record self.old { free = drained self.old.free } }
         ensures same { (page : ℕ) → is_free_page self.new page ≡ is_free_page self.old page }
-        ensures small { page_count self.old ≤ MAX_GUEST_PAGES }
+        ensures small { page_count self.old ≤ MAX_PAGES }
     {
         self.free.drain();
     }
@@ -215,7 +218,8 @@ impl Pages {
 
     /// Makes all pages free again but the reserved ones.
     pub fn renew(&mut self)
-        ensures { self.new ≡ new_page_state (page_count self.old) (cpu_count self.old) }
+        ensures { self.new ≡
+            new_page_state (page_count self.old) (cpu_count self.old) (reserved_count self.old) }
     {
         self.free.renew();
         self.held.clear();

@@ -10,8 +10,11 @@ ghost use Rattle.vb_pages.specs.Table.{order_at, set_of_order, AreBlocks, IsLowe
 use crate::block::size_of;
 use std::alloc::{AllocError, Global};
 use std::marker::Model;
-use vb_bits::{BitSet, WORD_BITS};
-use vb_model::limits::{MAX_GUEST_PAGES, MAX_ORDER};
+use vb_bits::{BitSet, MAX_BOUND, WORD_BITS};
+use vb_model::limits::MAX_ORDER;
+
+/// The most pages that there may be: as many as a set has room for.
+pub const MAX_PAGES: u32 = MAX_BOUND;
 
 /// Blocks by the page where they start.
 #[derive(Drop)]
@@ -36,7 +39,7 @@ impl Model for Table {
 impl Table {
     /// A table of so many pages, without a block.
     pub fn new(alloc: Global, pages: u32) -> Result<Self, AllocError>
-        requires { pages ≤ MAX_GUEST_PAGES }
+        requires { pages ≤ MAX_PAGES }
         ensures { IfOk result (λ t. t ≡ replicate pages None) }
     {
         let mut blocks = Vec::with_capacity(alloc, MAX_ORDER as usize + 1)?;
@@ -59,7 +62,7 @@ impl Table {
         requires { order ≤ MAX_ORDER }
         ensures set { result.now ≡ set_of_order order self.now }
         ensures blocks { AreBlocks self.now }
-        ensures small { length self.now ≤ MAX_GUEST_PAGES }
+        ensures small { length self.now ≤ MAX_PAGES }
     {
         &self.blocks[order as usize]
     }

@@ -2,6 +2,7 @@
 
 ghost use Rattle.vb_pages.specs.PageState.{IsGuestSize};
 
+mod sizes;
 mod walk;
 
 use crate::{FreeBlock, PageFault, Pages};
@@ -104,7 +105,7 @@ fn first_wrong_line(pages: &mut Pages, lines: &[(Step, Answer)]) -> Option<usize
 }
 
 /// The first line whose call isn't answered so, when they are made one after the other on a new
-/// guest of so many pages and processors.
+/// guest of so many pages and processors, of which 16 pages are reserved.
 fn first_wrong(
     alloc: Global,
     size: u32,
@@ -113,7 +114,7 @@ fn first_wrong(
 ) -> Result<Option<usize>, AllocError>
     requires { IsGuestSize size cpus }
 {
-    let mut pages = Pages::new(alloc, size, cpus)?;
+    let mut pages = Pages::new(alloc, size, cpus, 16)?;
     Ok(first_wrong_line(&mut pages, lines))
 }
 

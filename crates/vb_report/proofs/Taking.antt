@@ -23,7 +23,7 @@ use Rattle.vb_pages.specs.Areas.{has, with_pages, without_pages, IsBlock, LiesIn
 use Rattle.vb_pages.specs.Areas.{LiesWithin, IsMaximal, IsLowestFrom}
 use Rattle.vb_pages.specs.FreePages.{FreePages, in_lists, drained, is_free_in}
 use Rattle.vb_pages.specs.PageState.{PageState, page_count, is_free_page, HasRoomIn}
-use Rattle.vb_pages.specs.PageState.{Isolates}
+use Rattle.vb_pages.specs.PageState.{reserved_count, Isolates}
 use Rattle.vb_pages.proofs.Sets.{is_inside, without_parts, without_old, same_sets}
 use Rattle.vb_pages.proofs.Sets.{length-without_pages, length-with_pages, has-without_pages}
 use Rattle.vb_pages.proofs.ListsLemmas.{with_none}
@@ -136,26 +136,27 @@ empty_twice : (lists : List (List ℕ)) → map (λ (l : List ℕ). nothing) (ma
 empty_twice [] = refl
 empty_twice (x ∷ xs) = ap (λ (ys : List (List ℕ)). nothing ∷ ys) (empty_twice xs)
 
-abbrev with_lists : List Bool → List (List ℕ) → FreePages
-with_lists set lists = record { areas = set; lists = lists }
+abbrev with_lists : List Bool → List (List ℕ) → ℕ → FreePages
+with_lists set lists reserved = record { areas = set; lists = lists; reserved = reserved }
 
-drained_again : (set : List Bool) (lists : List (List ℕ))
-    → drained (with_lists set (map (λ (l : List ℕ). nothing) lists))
-    ≡ with_lists set (map (λ (l : List ℕ). nothing) lists)
-drained_again set lists =
+drained_again : (set : List Bool) (lists : List (List ℕ)) (reserved : ℕ)
+    → drained (with_lists set (map (λ (l : List ℕ). nothing) lists) reserved)
+    ≡ with_lists set (map (λ (l : List ℕ). nothing) lists) reserved
+drained_again set lists reserved =
     ap (λ (ps : List ℕ). with_lists (with_pages ps set)
-    (map (λ (l : List ℕ). nothing) (map (λ (l : List ℕ). nothing) lists))) (flat-empty lists)
+    (map (λ (l : List ℕ). nothing) (map (λ (l : List ℕ). nothing) lists)) reserved)
+    (flat-empty lists)
     ∙ (ap (λ (s : List Bool). with_lists s
-    (map (λ (l : List ℕ). nothing) (map (λ (l : List ℕ). nothing) lists))) (with_none set)
-    ∙ ap (with_lists set) (empty_twice lists))
+    (map (λ (l : List ℕ). nothing) (map (λ (l : List ℕ). nothing) lists)) reserved) (with_none set)
+    ∙ ap (λ (ls : List (List ℕ)). with_lists set ls reserved) (empty_twice lists))
 
 pub drained_twice : (f : FreePages) → drained (drained f) ≡ drained f
-drained_twice f = drained_again (with_pages (in_lists f) f.areas) f.lists
+drained_twice f = drained_again (with_pages (in_lists f) f.areas) f.lists f.reserved
 
 -- once the lists are drained, what is free is in the areas
-pub free_is_area : (set : List Bool) (lists : List (List ℕ)) (p : ℕ)
-    → is_free_in (with_lists set (map (λ (l : List ℕ). nothing) lists)) p ≡ has set p
-free_is_area set lists p =
+pub free_is_area : (set : List Bool) (lists : List (List ℕ)) (reserved p : ℕ)
+    → is_free_in (with_lists set (map (λ (l : List ℕ). nothing) lists) reserved) p ≡ has set p
+free_is_area set lists reserved p =
     ap (λ (ps : List ℕ). has set p || is_in p ps) (flat-empty lists) ∙ none (has set p)
   where
     none : (b : Bool) → (b || false) ≡ b
@@ -200,11 +201,11 @@ block_more bs b set =
 
 -- a block still has room where fewer pages are free
 room_less : (s now : PageState) (b : Block) → HasRoomIn s b → page_count now ≡ page_count s
-    → now.held ≡ s.held → ((p : ℕ) → is_free_page now p ≡ true → is_free_page s p ≡ true)
-    → HasRoomIn now b
-room_less s now b room pages held less = (
+    → reserved_count now ≡ reserved_count s → now.held ≡ s.held
+    → ((p : ℕ) → is_free_page now p ≡ true → is_free_page s p ≡ true) → HasRoomIn now b
+room_less s now b room pages reserved held less = (
   room.0,
-  room.1,
+  omega (arith, room.1, reserved),
   (let inside : b.start + size b ≤ page_count s = room.2 in omega (arith, pages)),
   λ p l u. (
     false_from_ne_true (is_free_page now p)
@@ -234,7 +235,7 @@ lists_of s = map (λ (l : List ℕ). nothing) s.free.lists
 pub taking_none : (old : PageState) (from room : ℕ) → drained old.free ≡ old.free
     → IsTaking old old from room from 0 []
 taking_none old from room d = record {
-  state = sym (ap (λ (set : List Bool). with_free old (with_lists set (lists_of old)))
+  state = sym (ap (λ (set : List Bool). with_free old (with_lists set (lists_of old) old.free.reserved))
       (without_none (areas_of old)) ∙ ap (with_free old) d);
   before = All-nil (is_before (areas_of old) from);
   fits = All-nil (λ b. HasRoomIn old (block_of b));
@@ -248,6 +249,7 @@ settled : (old : PageState) (bs : List FreeBlock)
     → drained (without_blocks bs old).free ≡ (without_blocks bs old).free
 settled old bs =
     drained_again (without_pages (pages_of_all (blocks_of bs)) (areas_of old)) old.free.lists
+    old.free.reserved
 
 pub taking_more : (old now next : PageState) (from room page count : ℕ) (bs : List FreeBlock)
     (b : FreeBlock) → IsTaking old now from room page count bs → count < room
@@ -263,7 +265,7 @@ taking_more old now next from room page count bs b t l isolates fits left = reco
       (low.maximal, omega arith);
   fits = All-push (λ x. HasRoomIn next (block_of x)) bs b
       (All-weaker (λ x. HasRoomIn now (block_of x)) (λ x. HasRoomIn next (block_of x))
-      (λ x h. room_less now next (block_of x) h pages held
+      (λ x h. room_less now next (block_of x) h pages reserved held
       (λ p f. (and_parts (is_free_page now p) (not (covers p (block_of b)))
       (sym (left p) ∙ f)).0)) bs t.fits) fits;
   long = length-append bs (b ∷ []) ∙ omega (arith, t.long);
@@ -281,8 +283,8 @@ taking_more old now next from room page count bs b t l isolates fits left = reco
     is : next ≡ without_blocks (bs ++ b ∷ []) old
     is = got.1
         ∙ (ap (λ (f : FreePages). with_free old
-        (with_lists (without_pages (pages_of (block_of b)) f.areas) f.lists)) (settled old bs)
-        ∙ ap (λ (set : List Bool). with_free old (with_lists set (lists_of old)))
+        (with_lists (without_pages (pages_of (block_of b)) f.areas) f.lists f.reserved)) (settled old bs)
+        ∙ ap (λ (set : List Bool). with_free old (with_lists set (lists_of old) old.free.reserved))
         (block_more bs b (areas_of old)))
 
     pages : page_count next ≡ page_count now
@@ -290,6 +292,9 @@ taking_more old now next from room page count bs b t l isolates fits left = reco
         ∙ (length-without_pages (pages_of_all (blocks_of (bs ++ b ∷ []))) (areas_of old)
         ∙ (sym (length-without_pages (pages_of_all (blocks_of bs)) (areas_of old))
         ∙ sym (ap page_count t.state)))
+
+    reserved : reserved_count next ≡ reserved_count now
+    reserved = ap reserved_count is ∙ sym (ap reserved_count t.state)
 
     held : next.held ≡ now.held
     held = ap (λ (s : PageState). s.held) is ∙ sym (ap (λ (s : PageState). s.held) t.state)
@@ -378,23 +383,23 @@ taking_pages old now from room page count bs t =
 pub free_is_drained : (s : PageState) (p : ℕ) → drained s.free ≡ s.free
     → is_free_page s p ≡ has (areas_of s) p
 free_is_drained s p d =
-    ap (λ (f : FreePages). is_free_in f p) (sym d) ∙ free_is_area (areas_of s) s.free.lists p
+    ap (λ (f : FreePages). is_free_in f p) (sym d) ∙ free_is_area (areas_of s) s.free.lists s.free.reserved p
 
 pub free_without_blocks : (s : PageState) (bs : List FreeBlock) (p : ℕ)
     → is_free_page (without_blocks bs s) p ≡ (has (areas_of s) p && not (is_covered p bs))
 free_without_blocks s bs p =
-    free_is_area (without_pages (pages_of_all (blocks_of bs)) (areas_of s)) s.free.lists p
+    free_is_area (without_pages (pages_of_all (blocks_of bs)) (areas_of s)) s.free.lists s.free.reserved p
     ∙ (has-without_pages (pages_of_all (blocks_of bs)) (areas_of s) p
     ∙ ap (λ (v : Bool). has (areas_of s) p && not v) (in_covered p bs))
 
 -- each page of blocks that have room is unreserved, and there
 pub pages_inside : (s : PageState) (bs : List FreeBlock) (p : ℕ)
     → All (λ b. HasRoomIn s (block_of b)) bs → is_in p (pages_of_all (blocks_of bs)) ≡ true
-    → (16 ≤ p) × (p < page_count s)
+    → (reserved_count s ≤ p) × (p < page_count s)
 pages_inside s bs p all h =
     let x = covering (λ b. HasRoomIn s (block_of b)) p bs all (sym (in_covered p bs) ∙ h) in
     let q = covers_bounds p x.0.start x.0.order x.2 in
-    let low : 16 ≤ x.0.start = x.1.1 in
+    let low : reserved_count s ≤ x.0.start = x.1.1 in
     let high : x.0.start + size (block_of x.0) ≤ page_count s = x.1.2 in
     let first : x.0.start ≤ p = q.0 in
     let last : p < x.0.start + 2 ^ x.0.order = q.1 in
@@ -417,7 +422,7 @@ pub record Chooses (old new : PageState) (from room : ℕ) (bs : List FreeBlock)
   pub left : (p : ℕ) → is_free_page new p ≡ (is_free_page old p && not (is_covered p bs))
   pub distinct : AllDistinct (pages_of_all (blocks_of bs))
   pub pages : (p : ℕ) → is_in p (pages_of_all (blocks_of bs)) ≡ true
-      → (is_free_page old p ≡ true) × (16 ≤ p) × (p < page_count old)
+      → (is_free_page old p ≡ true) × (reserved_count old ≤ p) × (p < page_count old)
 
 pub chooses : (old mid new : PageState) (from room : ℕ) (bs : List FreeBlock)
     → mid ≡ record old { free = drained old.free }
@@ -455,7 +460,7 @@ chooses old mid new from room bs drains same reports takes fits = record {
       ∙ length-with_pages (in_lists old.free) old.free.areas) in (
         reported_pass (is_free_page old) (page_count old) room from p
             (ap (λ (xs : List Block). is_in p (pages_of_all xs)) (sym chosen) ∙ h),
-        inside.0,
+        omega (arith, inside.0, ap reserved_count taken),
         omega (arith, few, inside.1),
       );
 }
@@ -469,10 +474,10 @@ chooses old mid new from room bs drains same reports takes fits = record {
     taken = takes
         ∙ (ap (without_blocks bs) drains
         ∙ ap (λ (f : FreePages). with_free old
-        (with_lists (without_pages (pages_of_all (blocks_of bs)) f.areas) f.lists))
+        (with_lists (without_pages (pages_of_all (blocks_of bs)) f.areas) f.lists f.reserved))
         (drained_twice old.free))
 
     free : (p : ℕ) → is_free_page mid p ≡ has (areas_of old) p
     free p =
         ap (λ (s : PageState). is_free_page s p) drains
-        ∙ free_is_area (areas_of old) old.free.lists p
+        ∙ free_is_area (areas_of old) old.free.lists old.free.reserved p

@@ -2,13 +2,14 @@
 
 ghost use Rattle.std.specs.Prelude.{◌≡◌, ℕ, ◌<◌, ◌≤◌, ◌&&◌, ◌||◌, not, Bool, [], length, map};
 ghost use Rattle.std.specs.Prelude.{IsTrue, All};
-ghost use Rattle.vb_model.specs.Limits.{max_outstanding, reserved_pages};
-ghost use Rattle.vb_model.specs.declared.limits.TheConstants.{MAX_GUEST_PAGES};
+ghost use Rattle.vb_model.specs.Limits.{max_outstanding};
 ghost use Rattle.vb_model.specs.Tests.{is_in};
 ghost use Rattle.vb_model.specs.Pages.{pages_of_all, reported, maximal_blocks};
 ghost use Rattle.vb_model.specs.Driver.{AllDistinct};
+ghost use Rattle.vb_pages.specs.declared.table.TheConstants.{MAX_PAGES};
 ghost use Rattle.vb_pages.specs.FreePages.{drained};
-ghost use Rattle.vb_pages.specs.PageState.{page_count, is_free_page, HasRoomIn};
+ghost use Rattle.vb_pages.specs.PageState.{page_count, reserved_count, is_free_page};
+ghost use Rattle.vb_pages.specs.PageState.{HasRoomIn};
 ghost use Rattle.vb_report.specs.Blocks.{block_of, blocks_of, is_covered, blocks_to_report};
 ghost use Rattle.vb_report.specs.Blocks.{without_blocks, with_blocks, HasOrder, HaveRoom};
 
@@ -27,7 +28,7 @@ pub type Blocks = ArrayVec<FreeBlock, MAX_BLOCKS>;
 fn take_blocks(pages: &mut Pages, from: u32, room: u32) -> Blocks
     requires room { room ≤ max_outstanding }
     requires drained { drained pages.old.free ≡ pages.old.free }
-    requires small { page_count pages.old ≤ MAX_GUEST_PAGES }
+    requires small { page_count pages.old ≤ MAX_PAGES }
     ensures chosen { (test : ℕ → Bool) → ((page : ℕ) → test page ≡ is_free_page pages.old page) →
         blocks_of result.items ≡ reported room from (maximal_blocks (page_count pages.old) test) }
     ensures taken { pages.new ≡ without_blocks result.items pages.old }
@@ -67,7 +68,7 @@ pub fn choose(pages: &mut Pages, from: u32, room: u32) -> Blocks
     // Each of their pages is named once, and was free: it is there and isn't reserved.
     ensures distinct { AllDistinct (pages_of_all (blocks_of result.items)) }
     ensures pages { (page : ℕ) → IsTrue (is_in page (pages_of_all (blocks_of result.items))) →
-        IsTrue (is_free_page pages.old page) × (reserved_pages ≤ page) ×
+        IsTrue (is_free_page pages.old page) × (reserved_count pages.old ≤ page) ×
         (page < page_count pages.old) }
 
     // They may be encoded, and be given back.

@@ -90,7 +90,7 @@ fn first_wrong(
 ) -> Result<Option<usize>, AllocError>
     requires { IsGuestSize size 1 }
 {
-    let mut pages = Pages::new(alloc, size, 1)?;
+    let mut pages = Pages::new(alloc, size, 1, 16)?;
     Ok(first_wrong_line(&mut pages, lines))
 }
 

@@ -36,8 +36,8 @@ struct Plain {
 }
 
 impl Plain {
-    /// A guest of so many pages, of which the first 16 are reserved.
-    fn new(alloc: Global, pages: u32, processors: u32) -> Plain {
+    /// A guest of so many pages, of which the first ones are reserved.
+    fn new(alloc: Global, pages: u32, processors: u32, reserved: u32) -> Plain {
         let mut plain = Plain {
             processors,
             areas: BTreeSet::new(alloc),
@@ -50,7 +50,7 @@ impl Plain {
             held: ArrayVec::new(),
             count: 0,
         };
-        for page in 16..pages {
+        for page in reserved..pages {
             plain.give(page, 0);
         }
         plain
@@ -226,13 +226,19 @@ struct Pair {
 }
 
 impl Pair {
-    /// A guest of so many pages and processors.
-    fn new(alloc: Global, pages: u32, processors: u32, seed: u64) -> Result<Pair, AllocError>
+    /// A guest of so many pages and processors, of which so many pages are reserved.
+    fn new(
+        alloc: Global,
+        pages: u32,
+        processors: u32,
+        reserved: u32,
+        seed: u64,
+    ) -> Result<Pair, AllocError>
         requires { IsGuestSize pages processors }
     {
         Ok(Pair {
-            pages: Pages::new(alloc, pages, processors)?,
-            plain: Plain::new(alloc, pages, processors),
+            pages: Pages::new(alloc, pages, processors, reserved)?,
+            plain: Plain::new(alloc, pages, processors, reserved),
             numbers: Pcg32::new(seed, 0),
         })
     }
@@ -288,30 +294,31 @@ fn first_apart(
     alloc: Global,
     pages: u32,
     processors: u32,
+    reserved: u32,
     seed: u64,
 ) -> Result<Option<u32>, AllocError>
     requires { IsGuestSize pages processors }
 {
-    let mut pair = Pair::new(alloc, pages, processors, seed)?;
+    let mut pair = Pair::new(alloc, pages, processors, reserved, seed)?;
     Ok(pair.first_apart(100_000))
 }
 
-/// Guests of these pages and processors, with what chooses the calls, answer as the plain
-/// allocator.
+/// Guests of these pages, processors and reserved pages, with what chooses the calls, answer as the
+/// plain allocator.
 fn expect_alike(
     rt: &impl Abort,
     alloc: Global,
-    guests: &[(u32, u32, u64)],
+    guests: &[(u32, u32, u32, u64)],
 ) -> Result<(), AllocError> {
-    for (pages, processors, seed) in guests {
-        assert!(rt; 64 <= *pages && *pages <= 16_384 && 1 <= *processors && *processors <= 4);
-        let apart = first_apart(alloc, *pages, *processors, *seed)?;
+    for (pages, processors, reserved, seed) in guests {
+        assert!(rt; *pages <= 65_536 && *processors <= 4);
+        let apart = first_apart(alloc, *pages, *processors, *reserved, *seed)?;
         assert!(rt; apart.is_none(), "{seed}");
     }
     Ok(())
 }
 
-static SMALLEST: [(u32, u32, u64); 2] = [(64, 1, 1), (64, 4, 2)];
+static SMALLEST: [(u32, u32, u32, u64); 2] = [(64, 1, 16, 1), (64, 4, 16, 2)];
 
 /// Calls on the smallest guest, of one processor and of four.
 #[test]
@@ -319,7 +326,7 @@ fn calls_agree_with_a_plain_allocator(rt: HostRuntime) -> Result<(), AllocError>
     expect_alike(&rt, rt.alloc(), &SMALLEST)
 }
 
-static ODD: [(u32, u32, u64); 1] = [(1_000, 3, 3)];
+static ODD: [(u32, u32, u32, u64); 1] = [(1_000, 3, 16, 3)];
 
 /// The same on pages that are no power of two.
 #[test]
@@ -327,12 +334,25 @@ fn calls_agree_on_an_odd_guest(rt: HostRuntime) -> Result<(), AllocError> {
     expect_alike(&rt, rt.alloc(), &ODD)
 }
 
-static LARGEST: [(u32, u32, u64); 2] = [(16_384, 1, 4), (16_384, 4, 5)];
+static LARGEST: [(u32, u32, u32, u64); 2] = [(16_384, 1, 16, 4), (16_384, 4, 16, 5)];
 
-/// The same on the largest guest.
+/// The same on 16,384 pages.
 #[test]
 fn calls_agree_on_the_largest_guest(rt: HostRuntime) -> Result<(), AllocError> {
     expect_alike(&rt, rt.alloc(), &LARGEST)
+}
+
+static OF_MORE_SIZES: [(u32, u32, u32, u64); 4] = [
+    (80, 1, 16, 6),
+    (80, 4, 32, 7),
+    (1_008, 2, 16, 8),
+    (65_536, 4, 32, 9),
+];
+
+/// The same on pages that are no power of two, on more pages, and where 32 are reserved.
+#[test]
+fn calls_agree_on_guests_of_more_sizes(rt: HostRuntime) -> Result<(), AllocError> {
+    expect_alike(&rt, rt.alloc(), &OF_MORE_SIZES)
 }
 
 /// In each round a block is freed, where there is one, and another is allocated in its place; the
@@ -354,10 +374,10 @@ fn first_not_freed(pages: &mut Pages, rounds: u32) -> Option<u32> {
     None
 }
 
-/// 1,000,000 calls on the largest guest, of pages and small blocks.
+/// 1,000,000 calls on 16,384 pages, for pages and small blocks.
 #[test]
 fn a_million_calls(rt: HostRuntime) -> Result<(), Fail> {
-    let mut pages = Pages::new(rt.alloc(), 16_384, 4)?;
+    let mut pages = Pages::new(rt.alloc(), 16_384, 4, 16)?;
     assert_eq!(rt; first_not_freed(&mut pages, 500_000), None);
     Ok(())
 }

@@ -1,5 +1,6 @@
 use Rattle.std.proofs.Common.{◌≡◌, ℕ, ◌+◌, ◌*◌, ◌%◌, ◌^◌, ◌≤◌, List, sym, ◌∙◌, subst, arith, []}
 use Rattle.std.proofs.Common.{◌++◌, ◌∷◌}
+use Rattle.vb_pages.specs.declared.table.TheConstants.{MAX_PAGES}
 use Rattle.vb_pages.specs.declared.block.FreeBlock.{FreeBlock}
 use Rattle.vb_pages.specs.PageState.{page_count}
 use Rattle.vb_pages.proofs.Aligned.{pow_small}
@@ -25,7 +26,7 @@ overflow_add-next c =
     let pages : page_count c.isolate.new.self ≡ page_count c.args.pages.now =
     taking_pages c.args.pages.now c.isolate.new.self c.args.from c.args.room
     (b.start + 2 ^ b.order) (c.loop-count._count + 1) (c.loop-count.blocks.items ++ b ∷ []) more in
-    let few : page_count c.args.pages.now ≤ 16384 = c.requires.small in
+    let few : page_count c.args.pages.now ≤ MAX_PAGES = c.requires.small in
     omega arith
 
 pub loop-count-preserved : goal.loop-count-preserved

@@ -1,4 +1,4 @@
-use Rattle.std.proofs.Common.{◌≡◌, ◌<◌, sym, subst, ℕ, true, false, length}
+use Rattle.std.proofs.Common.{arith, ◌≡◌, ◌<◌, sym, subst, ℕ, true, false, length}
 use Rattle.vb_model.specs.Tests.{is_in}
 use Rattle.vb_model.specs.Pages.{pages_of_all}
 use Rattle.vb_pages.specs.PageState.{PageState}
@@ -13,7 +13,8 @@ give_all-requires c =
     let s : PageState = c.self.inside.pages in
     let blocks = c.args.blocks.now in
     let pages = pages_of_all (blocks_of blocks) in
-    have_room s blocks c.pages_are_apart.ensures c.requires.blocks c.requires.unreserved
+    have_room s blocks c.pages_are_apart.ensures c.requires.blocks
+    (λ p here. omega (arith, c.requires.unreserved p here, c.self.invariant))
     (subst (λ (v : PageState). (page : ℕ) → is_in page pages ≡ true
     → page < length (flags_of v.free)) (sym c.self.view_is) c.requires.inside)
     (subst (λ (v : PageState). (page : ℕ) → is_in page pages ≡ true

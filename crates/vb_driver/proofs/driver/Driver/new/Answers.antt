@@ -1,4 +1,4 @@
-use Rattle.std.proofs.Common.{sym, subst, List}
+use Rattle.std.proofs.Common.{arith, sym, subst, List}
 use Rattle.vb_model.specs.declared.places.Place.{Place}
 use Rattle.vb_pages.specs.PageState.{PageState}
 use Rattle.vb_ram.specs.Limits.{AreWithinLimits}
@@ -16,7 +16,7 @@ new-requires-2 c =
     c.args.config.processors =
     config_limits c.args.config.pages c.args.config.queue_size c.args.config.processors
     c.requires in
-    (limits.pages_least, limits.pages_most, limits.processors_least, limits.processors_most)
+    (omega (arith, limits.pages_most), limits.processors_most)
 
 pub new-requires-3 : goal.new-requires-3
 new-requires-3 c = size_of_config c.args.config.pages c.args.config.queue_size

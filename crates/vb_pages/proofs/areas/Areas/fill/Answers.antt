@@ -10,7 +10,7 @@ use Rattle.vb_pages.proofs.areas.Areas.fill.Goals as goal
 pub returns : goal.returns
 returns c =
     let inv = c.loop-page.invariant in
-    unreserved_is c.loop-page.self c.args.pages inv.0 (λ p h. (inv.2 p h).0)
+    unreserved_is c.loop-page.self c.args.pages c.args.reserved inv.0 (λ p h. (inv.2 p h).0)
     (λ p a l. inv.3 p a (omega arith) l)
 
 pub loop-page-preserved : goal.loop-page-preserved

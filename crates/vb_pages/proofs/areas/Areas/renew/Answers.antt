@@ -1,6 +1,7 @@
 use Rattle.std.proofs.Common.{◌≡◌, ◌≤◌, ℕ, List, Option, None, length, ap, subst, ◌∙◌, sym}
 use Rattle.std.specs.Prelude.{count_by}
 use Rattle.std.proofs.lemmas.List.{length-replicate}
+use Rattle.vb_pages.specs.declared.table.TheConstants.{MAX_PAGES}
 use Rattle.vb_pages.specs.Areas.{has, unreserved}
 use Rattle.vb_pages.specs.Tiles.{set_of, IsTiled}
 use Rattle.vb_pages.proofs.TilesLemmas.{none_tiled, none_set, length-set_of}
@@ -10,7 +11,7 @@ use Rattle.vb_pages.proofs.areas.Areas.renew.Goals as goal
 pub invariant_of-self : goal.invariant_of-self
 invariant_of-self c =
     let n = length c.self.inside.table in
-    let small : n ≤ 16384 = c.self.invariant.0.small in (
+    let small : n ≤ MAX_PAGES = c.self.invariant.0.small in (
       subst IsTiled (sym c.clear.ensures) (none_tiled n small),
       sym (ap (λ (t : List (Option ℕ)). count_by (λ f. f) (set_of t)) c.clear.ensures
           ∙ count_none n small),
@@ -32,4 +33,4 @@ returns c =
     ∙ (ap length c.clear.ensures
     ∙ (length-replicate {A = Option ℕ} (length c.self.inside.table) None
     ∙ (sym (length-set_of c.self.inside.table) ∙ ap length v))) in
-    c.fill.ensures ∙ ap unreserved n
+    c.fill.ensures ∙ ap (λ (i : ℕ). unreserved i c.args.reserved) n

@@ -13,15 +13,15 @@ use Rattle.vb_pages.proofs.free.FreePages.give.Goals.{After-push}
 
 pub invariant_of-self : goal.invariant_of-self
 invariant_of-self c =
-    let f = free_of c.self.inside.areas c.self.inside.lists.items in
+    let f = free_of c.self.inside.areas c.self.inside.lists.items c.self.inside.reserved in
     let v : f ≡ c.args.self.now = c.self.view_is in
-    subst (λ (x : List Bool). IsSoundFree (free_of x c.self.inside.lists.items))
+    subst (λ (x : List Bool). IsSoundFree (free_of x c.self.inside.lists.items c.self.inside.reserved))
     (sym c.give.ensures) (block_sound f c.args.start c.args.order c.self.invariant
     (subst (λ (x : FreePages). HasRoomFor x c.args.start c.args.order) (sym v) c.requires.room))
 
 module _ (c : After-push) (low : c.args.order ≤ 0) where
   abbrev f : FreePages
-  f = free_of c.self.inside.areas c.self.inside.lists.items
+  f = free_of c.self.inside.areas c.self.inside.lists.items c.self.inside.reserved
 
   view : f ≡ c.args.self.now
   view = c.self.view_is
@@ -64,11 +64,11 @@ invariant_of-self-then-is_full c =
     (there d low) (room d low))) c.self.inside.areas = c.drain.ensures.areas
     ∙ ap (λ (xs : List ℕ). with_pages xs c.self.inside.areas) front in
     subst (λ (x : List Bool). IsSoundFree
-    (free_of x (set c.self.inside.lists.items c.args.cpu c.split_front.new.self))) (sym areas)
+    (free_of x (set c.self.inside.lists.items c.args.cpu c.split_front.new.self) c.self.inside.reserved)) (sym areas)
     (subst (λ (xs : List ℕ). IsSoundFree
     (free_of (with_pages (take 8
     (longer (f d low) c.args.cpu c.args.start c.self.invariant (there d low) (room d low)))
-    c.self.inside.areas) (set c.self.inside.lists.items c.args.cpu xs))) (sym rest)
+    c.self.inside.areas) (set c.self.inside.lists.items c.args.cpu xs) c.self.inside.reserved)) (sym rest)
     (spilled_sound (f d low) c.args.cpu c.args.start c.self.invariant (there d low) (room d low)))
 
 pub invariant_of-self-else-is_full : goal.invariant_of-self-else-is_full
@@ -87,6 +87,6 @@ invariant_of-self-else-is_full c =
     (room d low)) < 16 = omega
     (arith, most, c.self.invariant.short c.args.cpu, ap length e, differs) in
     subst (λ (xs : List ℕ). IsSoundFree
-    (free_of c.self.inside.areas (set c.self.inside.lists.items c.args.cpu xs))) (sym e)
+    (free_of c.self.inside.areas (set c.self.inside.lists.items c.args.cpu xs) c.self.inside.reserved)) (sym e)
     (pushed_sound (f d low) c.args.cpu c.args.start c.self.invariant (there d low) (room d low)
     short)

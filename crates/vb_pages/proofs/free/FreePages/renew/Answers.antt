@@ -23,19 +23,20 @@ pub invariant_of-self : goal.invariant_of-self
 invariant_of-self c =
     let xs = c.self.inside.lists.items in
     let n = length c.self.inside.areas in
-    let s = fresh_sound n (map (λ (l : List ℕ). nothing) xs) c.self.invariant.small
+    let s = fresh_sound n c.self.inside.reserved (map (λ (l : List ℕ). nothing) xs) c.self.invariant.small
     (omega (arith, c.self.invariant.few, length-map xs (λ (l : List ℕ). nothing)))
     (flat-empty xs) (list-empty xs) in
-    sound_at c.renew.new.self (unreserved n)
+    sound_at c.renew.new.self (unreserved n c.self.inside.reserved)
     (take c.self.inside.lists.len
     (c.loop-list.list-items ++ drop (length c.loop-list.list-items) xs))
-    (map (λ (l : List ℕ). nothing) xs) c.renew.ensures
+    (map (λ (l : List ℕ). nothing) xs) c.self.inside.reserved c.renew.ensures
     (rows (goal.at.invariant_of-self c).After-loop-list) s
 
 pub returns : goal.returns
 returns c =
-    let v : free_of c.self.inside.areas c.self.inside.lists.items ≡ c.args.self.now =
+    let v : free_of c.self.inside.areas c.self.inside.lists.items c.self.inside.reserved ≡ c.args.self.now =
     c.self.view_is in
-    same_free _ _ (c.renew.ensures ∙ ap (λ (x : FreePages). unreserved (length x.areas)) v)
+    same_free _ _ (c.renew.ensures ∙ ap (λ (x : FreePages). unreserved (length x.areas) x.reserved) v)
     (rows (goal.at.returns c).After-loop-list
     ∙ ap (λ (x : FreePages). map (λ (l : List ℕ). nothing) x.lists) v)
+    (ap (λ (x : FreePages). x.reserved) v)

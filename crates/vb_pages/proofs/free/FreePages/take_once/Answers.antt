@@ -6,12 +6,12 @@ use Rattle.vb_pages.proofs.free.FreePages.take_once.Goals as goal
 
 pub invariant_of-self : goal.invariant_of-self
 invariant_of-self c =
-    takes_any_sound (free_of c.self.inside.areas c.self.inside.lists.items) c.take.new.self
+    takes_any_sound (free_of c.self.inside.areas c.self.inside.lists.items c.self.inside.reserved) c.take.new.self
     c.args.order c.take.result c.self.invariant c.take.ensures
 
 pub invariant_of-self-2 : goal.invariant_of-self-2
 invariant_of-self-2 c =
-    let f = free_of c.self.inside.areas c.self.inside.lists.items in
+    let f = free_of c.self.inside.areas c.self.inside.lists.items c.self.inside.reserved in
     let v : f ≡ c.args.self.now = c.self.view_is in
     let l : c.args.cpu < length f.lists =
     subst (λ (x : FreePages). c.args.cpu < length x.lists) (sym v) c.requires.cpu in

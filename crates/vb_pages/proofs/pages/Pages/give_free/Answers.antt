@@ -13,7 +13,7 @@ invariant_of-self c =
     let f = c.self.inside.free in
     let v : state_of f c.self.inside.held.blocks ≡ c.args.self.now = c.self.view_is in
     kept_at c.give_block.new.self
-    (free_of (with_pages (pages_of (block_at c.args.page 0)) f.areas) f.lists)
+    (free_of (with_pages (pages_of (block_at c.args.page 0)) f.areas) f.lists f.reserved)
     c.self.inside.held c.self.inside.held c.give_block.ensures.given refl
     (given_kept f c.self.inside.held c.args.page 0 c.give_block.ensures.sound c.self.invariant
     (subst (λ (x : PageState). HasRoomIn x (block_at c.args.page 0)) (sym v) c.requires))

@@ -13,21 +13,24 @@ invariant_of-self c =
     let n : held_of c.self.inside.held.pages [] ≡ held_of (length f.areas) [] =
     ap (λ (i : ℕ). held_of i []) c.self.invariant.pages in
     kept_at c.renew.new.self
-    (free_of (unreserved (length f.areas)) (map (λ (l : List ℕ). nothing) f.lists))
+    (free_of (unreserved (length f.areas) f.reserved) (map (λ (l : List ℕ). nothing) f.lists)
+    f.reserved)
     c.clear.new.self (held_of (length f.areas) []) c.renew.ensures (c.clear.ensures ∙ n)
-    (fresh_kept (length f.areas) (map (λ (l : List ℕ). nothing) f.lists) (flat-empty f.lists))
+    (fresh_kept (length f.areas) f.reserved (map (λ (l : List ℕ). nothing) f.lists) (flat-empty f.lists))
 
 pub returns : goal.returns
 returns c =
     let f = c.self.inside.free in
     let v : state_of f c.self.inside.held.blocks ≡ c.args.self.now = c.self.view_is in
     let free : c.renew.new.self
-    ≡ free_of (unreserved (length f.areas)) (replicate (length f.lists) nothing) =
-    c.renew.ensures ∙ ap (λ (xs : List (List ℕ)). free_of (unreserved (length f.areas)) xs)
+    ≡ free_of (unreserved (length f.areas) f.reserved) (replicate (length f.lists) nothing)
+    f.reserved = c.renew.ensures
+    ∙ ap (λ (xs : List (List ℕ)). free_of (unreserved (length f.areas) f.reserved) xs f.reserved)
     (map_nothing f.lists) in
     same_state c.renew.new.self
-    (free_of (unreserved (length c.args.self.now.free.areas))
-    (replicate (length c.args.self.now.free.lists) nothing)) c.clear.new.self.blocks []
-    (free ∙ ap (λ (x : PageState). free_of (unreserved (length x.free.areas))
-    (replicate (length x.free.lists) nothing)) v)
+    (free_of (unreserved (length c.args.self.now.free.areas) c.args.self.now.free.reserved)
+    (replicate (length c.args.self.now.free.lists) nothing) c.args.self.now.free.reserved)
+    c.clear.new.self.blocks []
+    (free ∙ ap (λ (x : PageState). free_of (unreserved (length x.free.areas) x.free.reserved)
+    (replicate (length x.free.lists) nothing) x.free.reserved) v)
     (ap (λ (x : HeldBlocks). x.blocks) c.clear.ensures)

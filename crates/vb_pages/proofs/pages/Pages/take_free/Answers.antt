@@ -8,7 +8,7 @@ pub invariant_of-self : goal.invariant_of-self
 invariant_of-self c =
     singles_kept c.self.inside.free c.take_pages.new.self c.self.inside.held
     c.take_pages.new.out.items c.take_pages.ensures.sound c.self.invariant
-    c.take_pages.ensures.taken c.take_pages.ensures.lists
+    c.take_pages.ensures.taken c.take_pages.ensures.lists c.take_pages.ensures.reserved
 
 pub returns-clause-left : goal.returns-clause-left
 returns-clause-left c p =
@@ -23,4 +23,4 @@ pub returns-clause-room : goal.returns-clause-room
 returns-clause-room c p i =
     singles_room c.self.inside.free c.take_pages.new.self c.self.inside.held
     c.take_pages.new.out.items c.take_pages.ensures.sound c.self.invariant
-    c.take_pages.ensures.taken c.take_pages.ensures.lists p i
+    c.take_pages.ensures.taken c.take_pages.ensures.lists c.take_pages.ensures.reserved p i

@@ -1,4 +1,5 @@
 use Rattle.std.proofs.Common.{◌<◌, ◌≤◌, Option, List, ℕ, length, subst, ◌∙◌, ap, arith}
+use Rattle.vb_pages.specs.declared.table.TheConstants.{MAX_PAGES}
 use Rattle.vb_pages.specs.Table.{set_of_order, AreBlocks}
 use Rattle.vb_pages.proofs.TableLemmas.{ten_sets, set_now, length-table_of}
 use Rattle.vb_pages.proofs.table.Table.of_order.Goals as goal
@@ -23,7 +24,7 @@ returns-clause-blocks c = subst AreBlocks c.self.view_is c.self.invariant.blocks
 
 pub returns-clause-small : goal.returns-clause-small
 returns-clause-small c =
-    subst (λ (t : List (Option ℕ)). length t ≤ 16384) c.self.view_is
+    subst (λ (t : List (Option ℕ)). length t ≤ MAX_PAGES) c.self.view_is
     (omega (
       arith,
       c.self.invariant.small,
