@@ -338,7 +338,8 @@ impl PlaceTable {
     pub(crate) fn take_lowest_lent(&mut self, most: u32) -> RequestPages
         requires { most ≤ max_request_pages }
         ensures pages { result.items ≡ take most (pages_where is_lent self.old) }
-        ensures moved { self.new ≡ placed (take most (pages_where is_lent self.old)) Taking self.old }
+        ensures moved { self.new
+            ≡ placed (take most (pages_where is_lent self.old)) Taking self.old }
     {
         let pages = self.lowest_lent(most);
         self.set_all(&pages, Place::Taking);

@@ -190,7 +190,8 @@ impl Played<'_> {
     }
 }
 
-/// The number of the first of 5,000 used rings of a queue that the guest's driver answers otherwise.
+/// The number of the first of 5,000 used rings of a queue that the guest's driver answers
+/// otherwise.
 pub(super) fn first_wrong(guest: &mut Guest, queue: u32) -> Option<usize> {
     let mut numbers = Pcg32::new(1, u64::from(queue));
     let mut played = Played {
