@@ -1,6 +1,8 @@
 //! Requests on devices of both paces: the tests write what a driver would, and call what a host
 //! does.
 
+ghost use Rattle.vb_device.specs.Calls.{IsUnused};
+
 mod attaching;
 mod bytes;
 mod faults;
@@ -110,24 +112,43 @@ struct Host<P: Pace> {
     device: BalloonDevice<P>,
 }
 
-impl<P: Pace> Host<P> {
-    /// Its device has a guest of so many pages, whose rings and buffers have frames 0 to 12.
-    fn new(rt: &impl Abort, alloc: Global, pages: u32, queue_size: u16) -> Self {
-        let mut device = BalloonDevice::<P>::of_pace(alloc);
-        let config = Config {
-            pages,
-            queue_size,
-            processors: 1,
-        };
-        assert!(rt; config.is_within_limits());
-        assert!(rt; device.attach(alloc, config).is_ok());
-        let mut host = Host { device };
-        for page in 0..13 {
-            let _ = host.supply(alloc, page, page);
-        }
-        host
-    }
+/// Gives a device a guest of so many pages, whose rings and buffers have frames 0 to 12; says
+/// whether it has them.
+fn attach<P: Pace>(
+    device: &mut BalloonDevice<P>,
+    alloc: Global,
+    pages: u32,
+    queue_size: u16,
+) -> bool
+    requires { IsUnused device.old.mem device.old.part }
+{
+    let config = Config {
+        pages,
+        queue_size,
+        processors: 1,
+    };
+    config.is_within_limits() && device.attach(alloc, config).is_ok() && supply_first(device, alloc)
+}
 
+/// Puts frames 0 to 12 behind the first pages.
+fn supply_first<P: Pace>(device: &mut BalloonDevice<P>, alloc: Global) -> bool {
+    for page in 0..13 {
+        if !supply(device, alloc, page, page) {
+            return false;
+        }
+    }
+    true
+}
+
+/// Puts a frame behind a page.
+fn supply<P: Pace>(device: &mut BalloonDevice<P>, alloc: Global, page: u32, number: u32) -> bool {
+    match Frame::fresh(alloc, number) {
+        Ok(frame) => device.supply(page, frame).is_ok(),
+        Err(_) => false,
+    }
+}
+
+impl<P: Pace> Host<P> {
     fn read(&self, page: u32, offset: usize) -> [u8; 12] {
         let mut bytes = [9; 12];
         let _ = self.device.read(page, offset, &mut bytes);
@@ -257,13 +278,6 @@ impl<P: Pace> Host<P> {
         true
     }
 
-    fn supply(&mut self, alloc: Global, page: u32, number: u32) -> bool {
-        match Frame::fresh(alloc, number) {
-            Ok(frame) => self.device.supply(page, frame).is_ok(),
-            Err(_) => false,
-        }
-    }
-
     fn write_status(&mut self, bits: u8) -> bool {
         self.device
             .write_status(Status::from_bits_retain(bits))
@@ -324,7 +338,7 @@ impl<P: Pace> Host<P> {
             Step::WorkBare(first, end) => done(self.work_bare(*first, *end)),
             Step::Settle => self.settle(),
             Step::Finish(queue, index) => self.finish(*queue, *index),
-            Step::Supply(page, number) => done(self.supply(alloc, *page, *number)),
+            Step::Supply(page, number) => done(supply(&mut self.device, alloc, *page, *number)),
             Step::HandBack => self.hand_back(),
             Step::Sweep(page) => self.sweep(*page),
             Step::Claim => self.claim(),
@@ -343,19 +357,45 @@ impl<P: Pace> Host<P> {
         }
         None
     }
+
+    /// The number of the first table with a line that the device answers otherwise, and of that
+    /// line; the first line where the device has no guest.
+    fn first_wrong_table(
+        &mut self,
+        alloc: Global,
+        is_attached: bool,
+        tables: &[&'static [(Step, Answer)]],
+    ) -> Option<(usize, usize)> {
+        if !is_attached {
+            return Some((0, 0));
+        }
+        for (table, lines) in tables.iter().enumerate() {
+            if let Some(at) = self.first_wrong(alloc, lines) {
+                return Some((table, at));
+            }
+        }
+        None
+    }
 }
 
 /// What is shown, how many pages a guest has and how many descriptors each queue, and what its
 /// device answers to each line of each table.
 type Scenario = (&'static str, u32, u16, &'static [&'static [(Step, Answer)]]);
 
+/// The first table and line of a scenario that a new device answers otherwise. It alone owns a
+/// device: that is dear to prove.
+fn first_wrong<P: Pace>(alloc: Global, scenario: &Scenario) -> Option<(usize, usize)> {
+    let (_, pages, queue_size, tables) = scenario;
+    let mut device = BalloonDevice::<P>::of_pace(alloc);
+    let is_attached = attach(&mut device, alloc, *pages, *queue_size);
+    let mut host = Host { device };
+    host.first_wrong_table(alloc, is_attached, tables)
+}
+
 /// A device of this pace answers as the scenario has it.
 fn expect<P: Pace>(rt: &impl Abort, alloc: Global, scenario: &Scenario) {
-    let (name, pages, queue_size, tables) = scenario;
-    let mut host = Host::<P>::new(rt, alloc, *pages, *queue_size);
-    for lines in *tables {
-        if let Some(at) = host.first_wrong(alloc, lines) {
-            assert!(rt; false, "{name}: line {at}");
-        }
+    if let Some((table, at)) = first_wrong::<P>(alloc, scenario) {
+        let name = scenario.0;
+        assert!(rt; false, "{name}: line {at} of table {table}");
     }
 }

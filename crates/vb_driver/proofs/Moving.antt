@@ -8,7 +8,6 @@ use Rattle.std.proofs.lemmas.Bool.{both_ways}
 use Rattle.std.proofs.lemmas.List.{length-replicate, length-take, length-map, get_or-map}
 use Rattle.std.proofs.lemmas.List.{get_or_past, get_or-replicate, same_lists}
 use Rattle.std.specs.List.{list_all}
-use Rattle.std.proofs.lemmas.List.Sums.{sum_by-cons}
 use Rattle.std.proofs.lemmas.List.Folds.{list_any-append}
 use Rattle.vb_model.specs.Tests.{is_in, one_if, pages_from, pages_where}
 use Rattle.vb_model.specs.Pages.{place_of, placed, is_free, is_used, is_giving, is_lent, is_taking}

@@ -2,10 +2,12 @@
 
 ghost use Rattle.std.specs.Prelude.{◌≡◌, ◌<◌, ◌≤◌, true, length, IfOk};
 ghost use Rattle.vb_model.specs.declared.limits.TheConstants.{MAX_GUEST_PAGES};
-ghost use Rattle.vb_model.specs.Limits.{is_config};
-ghost use Rattle.vb_model.specs.Pages.{place_of, is_used};
+ghost use Rattle.vb_model.specs.Limits.{is_config, reserved_pages};
+ghost use Rattle.vb_model.specs.Pages.{all_free, place_of, is_used};
+ghost use Rattle.vb_pages.specs.PageState.{IsGuestSize, new_page_state};
+ghost use Rattle.vb_ring.specs.Layout.{IsSize};
 ghost use Rattle.vb_driver.specs.Places.{AreLentBits};
-ghost use Rattle.vb_driver.specs.State.{IsDriver, fresh_driver, given_away};
+ghost use Rattle.vb_driver.specs.State.{IsDriver, fresh_driver, fresh_side, given_away};
 ghost use Rattle.vb_driver.specs.Calls.{AllocatesBy, FreesBy, AreCountsOf};
 
 use crate::areas::Allocator;
@@ -81,6 +83,28 @@ impl Model for Driver {
     }) };
 }
 
+/// Where the pages of a guest are as it is plugged in, and its page areas.
+fn new_pages(alloc: Global, pages: u32, processors: u32) -> Result<(PlaceTable, Allocator), AllocError>
+    requires { IsGuestSize pages processors }
+    ensures places { IfOk result (λ new. new.0 ≡ all_free pages) }
+    ensures areas { IfOk result (λ new. new.1 ≡ new_page_state pages processors reserved_pages) }
+{
+    let places = PlaceTable::new(alloc, pages)?;
+    let areas = Allocator::new(alloc, pages, processors)?;
+    Ok((places, areas))
+}
+
+/// The queues of inflates and deflates, of which nothing is out, each with a ring of its own.
+fn new_queues(alloc: Global, size: u16) -> Result<(RequestQueue, RequestQueue), AllocError>
+    requires { IsSize size }
+    ensures inflate { IfOk result (λ new. new.0 ≡ fresh_side 0 size) }
+    ensures deflate { IfOk result (λ new. new.1 ≡ fresh_side 1 size) }
+{
+    let inflate = RequestQueue::new(alloc, INFLATE_RING_PAGE, size)?;
+    let deflate = RequestQueue::new(alloc, DEFLATE_RING_PAGE, size)?;
+    Ok((inflate, deflate))
+}
+
 impl Driver {
     /// The driver of a guest as it is plugged in: all unreserved pages are free, nothing is out.
     /// All memory that a driver needs is taken here; no other call takes any.
@@ -89,12 +113,14 @@ impl Driver {
         ensures { IfOk result (λ driver.
             driver ≡ fresh_driver config.pages config.queue_size config.processors) }
     {
+        let (places, areas) = new_pages(alloc, config.pages, config.processors)?;
+        let (inflate, deflate) = new_queues(alloc, config.queue_size)?;
         Ok(Driver {
             config,
-            places: PlaceTable::new(alloc, config.pages)?,
-            areas: Allocator::new(alloc, config.pages, config.processors)?,
-            inflate: RequestQueue::new(alloc, INFLATE_RING_PAGE, config.queue_size)?,
-            deflate: RequestQueue::new(alloc, DEFLATE_RING_PAGE, config.queue_size)?,
+            places,
+            areas,
+            inflate,
+            deflate,
             statistics: StatisticsQueue::new(config.queue_size),
             report: ReportQueue::new(config.queue_size),
             features: Features::empty(),

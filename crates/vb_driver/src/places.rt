@@ -7,6 +7,7 @@ ghost use Rattle.std.specs.Prelude.{count_by, IfOk, All};
 ghost use Rattle.vb_bits.specs.Sets.{has};
 ghost use Rattle.vb_model.specs.Tests.{is_in, pages_where};
 ghost use Rattle.vb_model.specs.Pages.{all_free, placed, place_of, pages_of};
+ghost use Rattle.vb_model.specs.declared.places.Place.TheVariants.{Taking};
 ghost use Rattle.vb_model.specs.Pages.{pages_of_all, is_lent, is_stranded, is_reporting};
 ghost use Rattle.vb_model.specs.Limits.{max_order, max_outstanding, max_request_pages};
 ghost use Rattle.vb_model.specs.Limits.{reserved_pages};
@@ -330,6 +331,19 @@ impl PlaceTable {
         ensures { result.items ≡ take most (pages_where is_lent self.now) }
     {
         lowest_in(&self.lent, most)
+    }
+
+    /// Moves so many of the lowest lent pages to where pages are that were asked back, and gives
+    /// them.
+    pub(crate) fn take_lowest_lent(&mut self, most: u32) -> RequestPages
+        requires { most ≤ max_request_pages }
+        ensures pages { result.items ≡ take most (pages_where is_lent self.old) }
+        ensures moved { self.new
+            ≡ placed (take most (pages_where is_lent self.old)) Taking self.old }
+    {
+        let pages = self.lowest_lent(most);
+        self.set_all(&pages, Place::Taking);
+        pages
     }
 
     /// The lowest stranded pages, so many at most.

@@ -124,8 +124,7 @@ impl Driver {
         ensures { AsksBack (P.mem port.old) (P.mem port.new) (P.part port.old) (P.part port.new)
             self.old self.new count result }
     {
-        let pages = self.places.lowest_lent(count);
-        self.places.set_all(&pages, Place::Taking);
+        let pages = self.places.take_lowest_lent(count);
         let head = self.deflate.post(port, DEFLATE_BUFFERS_PAGE, pages);
         Posted { head, pages: count }
     }

@@ -15,6 +15,8 @@ ghost use Rattle.vb_ring.specs.Calls.{TakesUsedBy};
 ghost use Rattle.vb_driver.specs.Coding.{IsStatistic, SameButPages};
 ghost use Rattle.vb_driver.specs.Answers.{HaveRingFrames, IsLargeEnough, is_up};
 ghost use Rattle.vb_driver.specs.State.{IsDriver, IsStatisticsQueue, fresh_statistics, figures_of};
+ghost use Rattle.vb_driver.specs.State.{free_count};
+ghost use Rattle.vb_model.specs.declared.limits.TheConstants.{MAX_GUEST_PAGES};
 ghost use Rattle.vb_driver.specs.Calls.{PostsBuffer, FirstBuffer, FillsBy, emptied};
 
 use crate::Driver;
@@ -154,6 +156,14 @@ impl StatisticsQueue {
 }
 
 impl Driver {
+    /// How many pages are free.
+    fn free_pages(&self) -> u32
+        ensures value { result ≡ free_count self.now }
+        ensures few { result ≤ MAX_GUEST_PAGES }
+    {
+        self.places.count(Place::Free)
+    }
+
     /// Fills the statistics buffer with the figures of now, and posts it.
     pub(crate) fn fill<P: Port>(&mut self, port: &mut P)
         requires none { outstanding self.old.statistics ≡ 0 }
@@ -164,7 +174,7 @@ impl Driver {
         ensures state { self.new ≡ record self.old { statistics = self.new.statistics } }
         ensures part { P.part port.new ≡ P.part port.old }
     {
-        let free = self.places.count(Place::Free);
+        let free = self.free_pages();
         let total = self.config.pages;
         self.statistics.post(port, bytes_of(free), bytes_of(total));
     }

@@ -18,6 +18,7 @@ use crate::memory::all_backed;
 use crate::requests::is_up;
 use crate::{Driver, Posted, Reaped};
 use bitflags::Flags;
+use order_of_writes::{Awaited, Deed, Recorder};
 use std::alloc::Global;
 use std::process::Abort;
 use vb_model::{Place, PlaceCounts, Refusal};
@@ -48,6 +49,8 @@ enum Step {
     SetTarget(u32),
     /// The device has used a request of a queue: its head, and how many it has used by then.
     Use(u32, u8, u8),
+    /// From here on these deeds are waited for.
+    Await(&'static [Deed]),
     See(Sight),
 }
 
@@ -68,6 +71,8 @@ enum Sight {
     Features,
     /// Whether a page has these bytes from an offset on.
     Shows(u32, usize, [u8; 16]),
+    /// Whether the deeds that are waited for were the last ones.
+    Deeds,
 }
 
 /// What a step is answered.
@@ -145,7 +150,17 @@ enum Request {
 #[derive(Drop)]
 struct Guest {
     driver: Driver,
-    port: MemoryPort,
+    port: Recorder,
+}
+
+/// What a new guest goes through.
+#[derive(Clone, Copy)]
+enum Table {
+    Lines(&'static [Line]),
+    /// How many words the lent pages have, and what is done with the guest.
+    Lent(usize, &'static [lent::Line]),
+    /// Used rings of random bytes of this queue.
+    Rings(u32),
 }
 
 impl Guest {
@@ -153,10 +168,9 @@ impl Guest {
     fn new(rt: &impl Abort, alloc: Global, pages: u32, backed: u32) -> Guest
         requires { is_config pages 8 1 ≡ true }
     {
-        Guest {
-            driver: driver_of(rt, alloc, pages),
-            port: port_of(rt, alloc, pages, backed),
-        }
+        let driver = driver_of(rt, alloc, pages);
+        let port = Recorder::new(port_of(rt, alloc, pages, backed));
+        Guest { driver, port }
     }
 
     fn are_counts(&self, free: u32, used: u32) -> bool {
@@ -192,10 +206,11 @@ impl Guest {
             Sight::At(place, first, end) => Answer::Is(self.are_at(place, first, end)),
             Sight::Held(page) => Answer::Is(self.driver.held(page)),
             Sight::Actual => Answer::Number(u64::from(self.driver.actual())),
-            Sight::Told => Answer::Number(u64::from(self.port.actual())),
+            Sight::Told => Answer::Number(u64::from(self.port.port.actual())),
             Sight::Status => Answer::Number(u64::from(self.port.status().bits())),
-            Sight::Features => Answer::Number(self.port.features().bits()),
+            Sight::Features => Answer::Number(self.port.port.features().bits()),
             Sight::Shows(page, offset, bytes) => Answer::Is(self.shows(page, offset, bytes)),
+            Sight::Deeds => Answer::Is(self.port.awaited.are_met()),
         }
     }
 
@@ -261,15 +276,16 @@ impl Guest {
             Step::Report(from) => return self.post(Request::Report, from),
             Step::Reap(queue) => return self.reap(queue),
             Step::Stats => return self.stats(),
-            Step::SetTarget(pages) => self.port.set_target(pages),
+            Step::SetTarget(pages) => self.port.port.set_target(pages),
             Step::Use(queue, head, used) => self.use_request(queue, head, used),
+            Step::Await(deeds) => self.port.awaited = Awaited::for_deeds(deeds),
             Step::See(sight) => return Ok(self.see(sight)),
         }
         Ok(Answer::Done)
     }
 
     /// The number of the first line that is answered otherwise.
-    fn first_wrong(&mut self, lines: &[Line]) -> Option<usize> {
+    fn first_wrong_line(&mut self, lines: &[Line]) -> Option<usize> {
         for at in 0..lines.len() {
             if self.answer(lines[at].0) != lines[at].1 {
                 return Some(at);
@@ -277,11 +293,34 @@ impl Guest {
         }
         None
     }
+
+    fn first_wrong(&mut self, table: Table) -> Option<usize> {
+        match table {
+            Table::Lines(lines) => self.first_wrong_line(lines),
+            Table::Lent(words, lines) => lent::first_wrong(self, words, lines),
+            Table::Rings(queue) => random_rings::first_wrong(self, queue),
+        }
+    }
+}
+
+/// The number of the first line of a table that a new guest of so many pages, of which the first
+/// `backed` have frames, answers otherwise. It alone owns a guest: that is dear to prove.
+fn first_wrong(
+    rt: &impl Abort,
+    alloc: Global,
+    pages: u32,
+    backed: u32,
+    table: Table,
+) -> Option<usize>
+    requires { is_config pages 8 1 ≡ true }
+{
+    let mut guest = Guest::new(rt, alloc, pages, backed);
+    guest.first_wrong(table)
 }
 
 /// Expects that a new guest of 64 pages, of which the first so many have frames, answers each line
 /// so.
-fn expect(rt: &impl Abort, alloc: Global, backed: u32, lines: &[Line]) {
-    let mut guest = Guest::new(rt, alloc, 64, backed);
-    assert_eq!(rt; guest.first_wrong(lines), None);
+fn expect(rt: &impl Abort, alloc: Global, backed: u32, lines: &'static [Line]) {
+    let wrong = first_wrong(rt, alloc, 64, backed, Table::Lines(lines));
+    assert_eq!(rt; wrong, None);
 }

@@ -1,8 +1,8 @@
 //! Rings of random bytes: a device answers as a second reading of the same bytes has it.
 
 use super::second_reading::answer_of;
-use super::{Answer, Host};
-use crate::{Immediate, Pace, Paced};
+use super::{Answer, Host, attach};
+use crate::{BalloonDevice, Immediate, Pace, Paced};
 use byteorder::{ByteOrder, LittleEndian};
 use rand_core::Rng;
 use rand_pcg::Pcg32;
@@ -163,13 +163,6 @@ struct Guest<P: Pace> {
 }
 
 impl<P: Pace> Guest<P> {
-    fn new(rt: &impl Abort, alloc: Global) -> Result<Self, AllocError> {
-        Ok(Guest {
-            host: Host::new(rt, alloc, 64, 8),
-            bytes: vec![in alloc; 0; 64 * 4096]?,
-        })
-    }
-
     /// Puts bytes at the start of a page.
     fn write(&mut self, page: u32, bytes: &[u8]) {
         let _ = self.host.device.write(page, 0, bytes);
@@ -209,6 +202,17 @@ impl<P: Pace> Guest<P> {
     }
 
     /// Of 5,000 rings of a queue, the number of the first ten of which the device answers one
+    /// otherwise; the first where it has no guest.
+    fn first_wrong(&mut self, queue: u32, is_attached: bool) -> Option<u32> {
+        let mut numbers = Pcg32::new(1, u64::from(queue));
+        if is_attached {
+            self.first_wrong_ten(&mut numbers, queue)
+        } else {
+            Some(0)
+        }
+    }
+
+    /// Of 5,000 rings of a queue, the number of the first ten of which the device answers one
     /// otherwise. The buffer pages change in turn.
     fn first_wrong_ten(&mut self, numbers: &mut Pcg32, queue: u32) -> Option<u32> {
         for ten in 0..500 {
@@ -221,11 +225,20 @@ impl<P: Pace> Guest<P> {
     }
 }
 
+/// The number of the first ten rings of a queue of which a new device answers one otherwise.
+fn first_wrong_ten<P: Pace>(alloc: Global, queue: u32) -> Result<Option<u32>, AllocError> {
+    let bytes = vec![in alloc; 0; 64 * 4096]?;
+    let mut device = BalloonDevice::<P>::of_pace(alloc);
+    let is_attached = attach(&mut device, alloc, 64, 8);
+    let host = Host { device };
+    let mut guest = Guest { host, bytes };
+    Ok(guest.first_wrong(queue, is_attached))
+}
+
 /// Expects that a device of this pace answers each ring of a queue as the second reading has it.
 fn expect_as_read<P: Pace>(rt: &impl Abort, alloc: Global, queue: u32) -> Result<(), Fail> {
-    let mut numbers = Pcg32::new(1, u64::from(queue));
-    let mut guest = Guest::<P>::new(rt, alloc)?;
-    assert_eq!(rt; guest.first_wrong_ten(&mut numbers, queue), None);
+    let wrong = first_wrong_ten::<P>(alloc, queue)?;
+    assert_eq!(rt; wrong, None);
     Ok(())
 }
 

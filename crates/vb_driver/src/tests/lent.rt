@@ -4,7 +4,7 @@
 ghost use Rattle.std.specs.Prelude.{◌≡◌, true};
 ghost use Rattle.vb_model.specs.Limits.{is_config};
 
-use super::{ALL, Answer, Guest, Request};
+use super::{ALL, Answer, Guest, Request, Table};
 use crate::Driver;
 use crate::places::PlaceTable;
 use std::alloc::Global;
@@ -15,7 +15,7 @@ use vb_status::Port;
 
 /// What is done with a guest.
 #[derive(Clone, Copy)]
-enum Step {
+pub(super) enum Step {
     /// The driver starts, and the host sets its target.
     Init(u32),
     SetTarget(u32),
@@ -31,7 +31,7 @@ enum Step {
 }
 
 /// A call, and the words of lent pages that aren't 0 after it.
-type Line = (Step, &'static [(usize, u64)]);
+pub(super) type Line = (Step, &'static [(usize, u64)]);
 
 const ALL_ONES: u64 = 0xffff_ffff_ffff_ffff;
 
@@ -109,10 +109,10 @@ fn hold(driver: &mut Driver, order: u32, blocks: u32) -> Result<(), Refusal> {
 fn call(guest: &mut Guest, step: Step) -> Result<(), Refusal> {
     match step {
         Step::Init(target) => {
-            guest.port.set_target(target);
+            guest.port.port.set_target(target);
             guest.init(ALL)?;
         }
-        Step::SetTarget(target) => guest.port.set_target(target),
+        Step::SetTarget(target) => guest.port.port.set_target(target),
         Step::Inflate(pages) => {
             let _posted = guest.post(Request::Inflate, pages)?;
         }
@@ -129,8 +129,12 @@ fn call(guest: &mut Guest, step: Step) -> Result<(), Refusal> {
     Ok(())
 }
 
-/// The number of the first line that is refused, or after which other pages are lent.
-fn first_wrong(guest: &mut Guest, lines: &[Line]) -> Option<usize> {
+/// The number of the first line that is refused, or after which other pages are lent; 0 where the
+/// lent pages have another number of words.
+pub(super) fn first_wrong(guest: &mut Guest, words: usize, lines: &[Line]) -> Option<usize> {
+    if guest.driver.lent_bits().len() != words {
+        return Some(0);
+    }
     for at in 0..lines.len() {
         if call(guest, lines[at].0).is_err() || !shows(&guest.driver, lines[at].1) {
             return Some(at);
@@ -140,12 +144,11 @@ fn first_wrong(guest: &mut Guest, lines: &[Line]) -> Option<usize> {
 }
 
 /// Expects that a guest of so many pages has so many words, and after each line those that it says.
-fn expect(rt: &impl Abort, alloc: Global, pages: u32, words: usize, lines: &[Line])
+fn expect(rt: &impl Abort, alloc: Global, pages: u32, words: usize, lines: &'static [Line])
     requires { is_config pages 8 1 ≡ true }
 {
-    let mut guest = Guest::new(rt, alloc, pages, 16);
-    assert!(rt; guest.driver.lent_bits().len() == words);
-    assert_eq!(rt; first_wrong(&mut guest, lines), None);
+    let wrong = super::first_wrong(rt, alloc, pages, 16, Table::Lent(words, lines));
+    assert_eq!(rt; wrong, None);
 }
 
 static ONE_WORD: [Line; 24] = [

@@ -1,16 +1,13 @@
 //! In what order a driver writes to its device and to memory.
 
-use super::Guest;
-use crate::Driver;
-use crate::memory::all_backed;
+use super::{ALL, Answer, DONE, Line, Sight, Step, YES, expect};
 use bitflags::Flags;
-use std::process::Abort;
 use vb_ram::{GuestBytes, RamFault};
 use vb_status::{Features, MemoryPort, Port, Status, StatusFault};
 
 /// What a driver does to its port.
 #[derive(Clone, Copy, PartialEq)]
-enum Deed {
+pub(super) enum Deed {
     /// It writes the status.
     Status(u8),
     /// It writes to a part of a page.
@@ -19,7 +16,7 @@ enum Deed {
 
 /// A part of a page with a ring of 8 descriptors, or with buffers.
 #[derive(Clone, Copy, PartialEq)]
-enum Part {
+pub(super) enum Part {
     Descriptors,
     /// The available ring's flags or entries.
     Available,
@@ -42,13 +39,21 @@ fn part_of(page: u32, offset: usize) -> Part {
 
 /// Deeds that are waited for, in order; the same one may come several times in a row.
 #[derive(Drop)]
-struct Awaited {
+pub(super) struct Awaited {
     deeds: &'static [Deed],
     /// How many of them were the last ones done.
     met: usize,
 }
 
 impl Awaited {
+    pub(super) fn for_deeds(deeds: &'static [Deed]) -> Awaited {
+        Awaited { deeds, met: 0 }
+    }
+
+    pub(super) fn are_met(&self) -> bool {
+        self.met == self.deeds.len()
+    }
+
     fn note(&mut self, deed: Deed) {
         let met = self.met;
         if met < self.deeds.len() && self.deeds[met] == deed {
@@ -61,9 +66,17 @@ impl Awaited {
 
 /// A port in memory, and what is waited for there.
 #[derive(Drop)]
-struct Recorder {
-    port: MemoryPort,
-    awaited: Awaited,
+pub(super) struct Recorder {
+    pub(super) port: MemoryPort,
+    pub(super) awaited: Awaited,
+}
+
+impl Recorder {
+    /// Nothing is waited for.
+    pub(super) fn new(port: MemoryPort) -> Recorder {
+        let awaited = Awaited::for_deeds(&[]);
+        Recorder { port, awaited }
+    }
 }
 
 impl GuestBytes for Recorder {
@@ -108,44 +121,9 @@ impl Port for Recorder {
     }
 }
 
-/// A driver, and the port where its deeds are waited for.
-#[derive(Drop)]
-struct Watched {
-    driver: Driver,
-    port: Recorder,
-}
-
-impl Watched {
-    /// Whether an initialisation ends with these deeds.
-    fn inits_by(&mut self, deeds: &'static [Deed]) -> bool {
-        self.port.awaited = Awaited { deeds, met: 0 };
-        self.port.pages() >= 64
-            && self.driver.init(&mut self.port, Features::OFFERED).is_ok()
-            && self.port.awaited.met == deeds.len()
-    }
-
-    /// Whether an inflate ends with these deeds.
-    fn inflates_by(&mut self, deeds: &'static [Deed]) -> bool {
-        self.port.awaited = Awaited { deeds, met: 0 };
-        self.port.pages() >= 64
-            && all_backed(&mut self.port)
-            && self.driver.inflate(&mut self.port, 4).is_ok()
-            && self.port.awaited.met == deeds.len()
-    }
-
-    /// Whether a report ends with these deeds.
-    fn reports_by(&mut self, deeds: &'static [Deed]) -> bool {
-        self.port.awaited = Awaited { deeds, met: 0 };
-        self.port.pages() >= 64
-            && all_backed(&mut self.port)
-            && self.driver.report(&mut self.port, 0).is_ok()
-            && self.port.awaited.met == deeds.len()
-    }
-}
-
 /// The four rings' pages are zeroed after the features are agreed on, and the statistics buffer is
 /// filled and posted, before DRIVER_OK (VIRTIO 1.1, 3.1.1 and 5.5.6.3).
-static INIT_DEEDS: [Deed; 14] = [
+const INIT_DEEDS: &'static [Deed] = &[
     Deed::Status(11),
     Deed::Write(0, Part::Descriptors),
     Deed::Write(0, Part::Available),
@@ -164,7 +142,7 @@ static INIT_DEEDS: [Deed; 14] = [
 
 /// A buffer is filled, its descriptor is written, its head is put into the available ring, and the
 /// index is written last (VIRTIO 1.1, 2.6.13).
-static INFLATE_DEEDS: [Deed; 4] = [
+const INFLATE_DEEDS: &'static [Deed] = &[
     Deed::Write(4, Part::Buffers),
     Deed::Write(0, Part::Descriptors),
     Deed::Write(0, Part::Available),
@@ -172,25 +150,26 @@ static INFLATE_DEEDS: [Deed; 4] = [
 ];
 
 /// The same of a report, which has no buffer of its own.
-static REPORT_DEEDS: [Deed; 3] = [
+const REPORT_DEEDS: &'static [Deed] = &[
     Deed::Write(3, Part::Descriptors),
     Deed::Write(3, Part::Available),
     Deed::Write(3, Part::AvailableIndex),
 ];
 
-fn are_in_order(guest: Guest) -> bool {
-    let Guest { driver, mut port } = guest;
-    port.set_target(4);
-    let awaited = Awaited { deeds: &[], met: 0 };
-    let port = Recorder { port, awaited };
-    let mut watched = Watched { driver, port };
-    watched.inits_by(&INIT_DEEDS)
-        && watched.inflates_by(&INFLATE_DEEDS)
-        && watched.reports_by(&REPORT_DEEDS)
-}
+static ORDER: [Line; 10] = [
+    (Step::SetTarget(4), DONE),
+    (Step::Await(INIT_DEEDS), DONE),
+    (Step::Init(ALL), DONE),
+    (Step::See(Sight::Deeds), YES),
+    (Step::Await(INFLATE_DEEDS), DONE),
+    (Step::Inflate(4), Ok(Answer::Posted(0, 4))),
+    (Step::See(Sight::Deeds), YES),
+    (Step::Await(REPORT_DEEDS), DONE),
+    (Step::Report(0), Ok(Answer::Posted(0, 32))),
+    (Step::See(Sight::Deeds), YES),
+];
 
 #[test]
 fn writes_in_the_standards_order(rt: HostRuntime) {
-    let guest = Guest::new(&rt, rt.alloc(), 64, 13);
-    assert!(rt; are_in_order(guest));
+    expect(&rt, rt.alloc(), 13, &ORDER);
 }

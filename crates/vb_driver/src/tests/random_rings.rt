@@ -1,12 +1,13 @@
 //! Used rings of random bytes: a driver answers as a second reading of the same bytes has it, which
 //! is written from the rules alone.
 
-use super::{ALL, Answer, Guest, Step};
+use super::{ALL, Answer, Guest, Step, Table};
 use crate::requests::is_up;
 use bitflags::Flags;
 use byteorder::{ByteOrder, LittleEndian};
 use rand_core::Rng;
 use rand_pcg::Pcg32;
+use std::alloc::Global;
 use std::process::Abort;
 use vb_model::Refusal;
 use vb_ram::GuestBytes;
@@ -100,13 +101,13 @@ impl Outstanding {
 
 /// A guest whose requests of one queue are remembered.
 #[derive(Drop)]
-struct Played {
-    guest: Guest,
+struct Played<'a> {
+    guest: &'a mut Guest,
     queue: u32,
     outstanding: Outstanding,
 }
 
-impl Played {
+impl Played<'_> {
     /// Begins anew with nothing out but the statistics buffer, and with pages to ask back for a
     /// queue of deflates.
     fn begin(&mut self) {
@@ -172,7 +173,7 @@ impl Played {
     }
 
     /// The number of the first of 5,000 used rings that is answered otherwise.
-    fn first_wrong_ring(&mut self, numbers: &mut Pcg32) -> Option<u32> {
+    fn first_wrong_ring(&mut self, numbers: &mut Pcg32) -> Option<usize> {
         let page = if self.queue == 4 { 3 } else { self.queue };
         for at in 0..5_000 {
             if !is_up(&self.guest.port) {
@@ -189,27 +190,34 @@ impl Played {
     }
 }
 
-/// Expects that a new guest's driver answers each used ring as the second reading has it.
-fn expect_as_read(rt: &impl Abort, guest: Guest, queue: u32) {
+/// The number of the first of 5,000 used rings of a queue that the guest's driver answers
+/// otherwise.
+pub(super) fn first_wrong(guest: &mut Guest, queue: u32) -> Option<usize> {
     let mut numbers = Pcg32::new(1, u64::from(queue));
     let mut played = Played {
         guest,
         queue,
         outstanding: Outstanding::none(),
     };
-    assert_eq!(rt; played.first_wrong_ring(&mut numbers), None);
+    played.first_wrong_ring(&mut numbers)
+}
+
+/// Expects that a new guest's driver answers each used ring as the second reading has it.
+fn expect_as_read(rt: &impl Abort, alloc: Global, queue: u32) {
+    let wrong = super::first_wrong(rt, alloc, 64, 13, Table::Rings(queue));
+    assert_eq!(rt; wrong, None);
 }
 
 #[test]
 fn random_rings_of_requests_are_answered_as_read(rt: HostRuntime) {
     for queue in [0, 1] {
-        expect_as_read(&rt, Guest::new(&rt, rt.alloc(), 64, 13), queue);
+        expect_as_read(&rt, rt.alloc(), queue);
     }
 }
 
 #[test]
 fn random_rings_of_statistics_and_reports_are_answered_as_read(rt: HostRuntime) {
     for queue in [2, 4] {
-        expect_as_read(&rt, Guest::new(&rt, rt.alloc(), 64, 13), queue);
+        expect_as_read(&rt, rt.alloc(), queue);
     }
 }

@@ -1,7 +1,7 @@
 use Rattle.std.proofs.Common.{◌∙◌, ap, ℕ}
 use Rattle.vb_pages.specs.PageState.{PageState, page_count, cpu_count, reserved_count}
 use Rattle.vb_pages.specs.PageState.{new_page_state}
-use Rattle.vb_driver.proofs.areas.Areas.renew.Goals as goal
+use Rattle.vb_driver.proofs.areas.Allocator.renew.Goals as goal
 
 pub invariant_of-self : goal.invariant_of-self
 invariant_of-self c = ap reserved_count c.renew.ensures ∙ c.self.invariant

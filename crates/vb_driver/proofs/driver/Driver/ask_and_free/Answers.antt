@@ -1,5 +1,4 @@
-use Rattle.std.proofs.Common.{◌≡◌, ◌≤◌, ◌∙◌, sym, ap, subst, refl, ℕ, Bool, List, true, false}
-use Rattle.std.specs.Prelude.{if◌then◌else◌}
+use Rattle.std.proofs.Common.{◌≡◌, ◌≤◌, ◌∙◌, sym, ap, subst, refl, ℕ, List, true, false}
 use Rattle.vb_model.specs.Tests.{is_in}
 use Rattle.vb_model.specs.Orderly.{times}
 use Rattle.vb_model.specs.Pages.{placed, is_lent, place_of, Block}
@@ -10,7 +9,7 @@ use Rattle.vb_driver.specs.State.{RequestSide, DriverState, IsDriver, tells_host
 use Rattle.vb_pages.specs.FreePages.{FreePages}
 use Rattle.vb_driver.specs.Areas.{flags_of, all_given}
 use Rattle.vb_driver.specs.Places.{marked}
-use Rattle.vb_driver.specs.Calls.{Posts, AsksBack, lowest_lent, areas_asked}
+use Rattle.vb_driver.specs.Calls.{Posts, lowest_lent}
 use Rattle.vb_driver.specs.contracts.driver.Driver.{the_view}
 use Rattle.vb_driver.proofs.Counting.{at_is}
 use Rattle.vb_driver.proofs.Naming.{once_lowest}

@@ -1,7 +1,6 @@
 use Rattle.std.proofs.Common.{◌≡◌, ◌∙◌, sym, ap, subst, refl, ℕ, Bool, List, true}
 use Rattle.std.specs.Prelude.{if◌then◌else◌}
-use Rattle.vb_model.specs.Tests.{is_in}
-use Rattle.vb_model.specs.Pages.{placed, is_lent}
+use Rattle.vb_model.specs.Pages.{placed}
 use Rattle.vb_model.specs.declared.places.Place.{Place}
 use Rattle.vb_model.specs.declared.places.Place.TheVariants.{Taking}
 use Rattle.vb_model.specs.Requests.{Deflating, place_posted}
@@ -9,8 +8,7 @@ use Rattle.vb_driver.specs.State.{RequestSide, DriverState, IsDriver, page_state
 use Rattle.vb_driver.specs.Areas.{all_given}
 use Rattle.vb_driver.specs.Calls.{Posts, AsksBack, lowest_lent, areas_asked}
 use Rattle.vb_driver.specs.contracts.driver.Driver.{the_view}
-use Rattle.vb_driver.proofs.Moving.{lowest_is, asked_kept}
-use Rattle.vb_driver.proofs.Keeping.{there_by}
+use Rattle.vb_driver.proofs.Moving.{asked_kept}
 use Rattle.vb_driver.proofs.driver.Driver.ask_and_wait.Goals as goal
 
 -- where the host is told first, the pages are taking, and no area changes
@@ -28,24 +26,15 @@ waits d e2 pages told =
       deflate = e2;
     }) (sym told)
 
-pub set_all-requires : goal.set_all-requires
-set_all-requires g c p here =
-    let d = the_view c.self.inside in
-    let items : c.deref.result.now ≡ lowest_lent d c.args.count =
-    c.deref.ensures.0 ∙ c.lowest_lent-pages.ensures in
-    let there : is_in p (lowest_lent d c.args.count) ≡ true = ap (is_in p) (sym items) ∙ here in
-    there_by d.places p is_lent refl (lowest_is d.places c.args.count is_lent p there)
-
 pub invariant_of-self : goal.invariant_of-self
 invariant_of-self g c =
     let d = the_view c.self.inside in
     let m1 = g.P.GuestBytes.mem c.args.port.now in
     let m2 = g.P.GuestBytes.mem c.post-head.new.ram in
-    let lowest : c.lowest_lent-pages.result.items ≡ lowest_lent d c.args.count =
-    c.lowest_lent-pages.ensures in
-    let placed_is : c.set_all.new.self ≡ placed (lowest_lent d c.args.count) Taking d.places =
-    c.set_all.ensures ∙ ap (λ (l : List ℕ). placed l Taking d.places)
-    (c.deref.ensures.0 ∙ lowest) in
+    let lowest : c.take_lowest_lent-pages.result.items ≡ lowest_lent d c.args.count =
+    c.take_lowest_lent-pages.ensures.pages in
+    let placed_is : c.take_lowest_lent-pages.new.self
+    ≡ placed (lowest_lent d c.args.count) Taking d.places = c.take_lowest_lent-pages.ensures.moved in
     let posts : Posts m1 m2 d.deflate c.post-head.new.self 8 (lowest_lent d c.args.count)
     c.post-head.result = subst
     (λ (l : List ℕ). Posts m1 m2 d.deflate c.post-head.new.self 8 l c.post-head.result) lowest
@@ -61,17 +50,16 @@ returns g c =
     let told : tells_host d ≡ true = ap tells_host c.self.view_is ∙ c.requires.told in
     let m1 = g.P.GuestBytes.mem c.args.port.now in
     let m2 = g.P.GuestBytes.mem c.post-head.new.ram in
-    let lowest : c.lowest_lent-pages.result.items ≡ lowest_lent d c.args.count =
-    c.lowest_lent-pages.ensures in
-    let placed_is : c.set_all.new.self ≡ placed (lowest_lent d c.args.count) Taking d.places =
-    c.set_all.ensures ∙ ap (λ (l : List ℕ). placed l Taking d.places)
-    (c.deref.ensures.0 ∙ lowest) in
+    let lowest : c.take_lowest_lent-pages.result.items ≡ lowest_lent d c.args.count =
+    c.take_lowest_lent-pages.ensures.pages in
+    let placed_is : c.take_lowest_lent-pages.new.self
+    ≡ placed (lowest_lent d c.args.count) Taking d.places = c.take_lowest_lent-pages.ensures.moved in
     let posts : Posts m1 m2 d.deflate c.post-head.new.self 8 (lowest_lent d c.args.count)
     c.post-head.result = subst
     (λ (l : List ℕ). Posts m1 m2 d.deflate c.post-head.new.self 8 l c.post-head.result) lowest
     c.post-head.ensures.posts in
     let new : DriverState =
-    record d { places = c.set_all.new.self; deflate = c.post-head.new.self } in
+    record d { places = c.take_lowest_lent-pages.new.self; deflate = c.post-head.new.self } in
     let asks : AsksBack m1 m2 (g.P.GuestBytes.part c.args.port.now)
     (g.P.GuestBytes.part c.post-head.new.ram) d new c.args.count
     (record { head = c.post-head.result; pages = c.args.count }) = record {

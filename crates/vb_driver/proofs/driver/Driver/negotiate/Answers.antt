@@ -1,4 +1,4 @@
-use Rattle.std.proofs.Common.{◌≡◌, ◌∙◌, sym, ap, subst, refl, ℕ, bit_or, false, None, Some, is_err}
+use Rattle.std.proofs.Common.{◌≡◌, ◌∙◌, sym, ap, subst, ℕ, bit_or, false, None, Some, is_err}
 use Rattle.vb_model.specs.declared.replies.Refusal.{Refusal}
 use Rattle.vb_model.specs.Status.{negotiate_refusal, status_refusal}
 use Rattle.vb_model.specs.Life.{accepted_before}
