@@ -47,9 +47,9 @@ fn release(owner: &mut [Option<u16>], head: u16, last: u16)
     }
 }
 
-/// The driver's table. Beside the owners it keeps how many chains are out, where each of them ends,
-/// and a number below which no descriptor is free, so that no call has to go through the whole table
-/// to know it.
+/// The driver's table. Beside the owners it keeps how many chains are out, where each of them
+/// ends, and a number below which no descriptor is free, so that no call has to go through the
+/// whole table to know it.
 #[derive(Drop)]
 pub struct Owners {
     /// For each descriptor the head of the chain that it belongs to, or none; past `count` unused.
