@@ -51,6 +51,10 @@ fn fault_of(
 /// `WrongDirection` where it is to be read and one before it is to be written; and where NEXT is
 /// set, `BadNext` where `next` is `size` or more, and `TooLong` where it is number `size` of the
 /// chain. Other flag bits are ignored, and a length of 0 is accepted (profile).
+///
+/// Each call makes a `Chain` of 2 KiB, zeroes it and moves it to the caller, which takes several
+/// times as long as the walk along a short chain: whoever reads many chains keeps one, and calls
+/// `walk_into`.
 pub fn walk<G: GuestBytes>(ram: &G, table: u32, head: u16, size: u16) -> Result<Chain, ChainFault>
     requires table { table < length (G.mem ram.now) }
     requires size { size ≤ MAX_DESCRIPTORS }

@@ -132,6 +132,10 @@ impl Queue {
     }
 
     /// Takes the next chain that the driver has published.
+    ///
+    /// Each call makes a `Chain` of 2 KiB, zeroes it and moves it to the caller, which takes
+    /// several times as long as the pop of a short chain: whoever pops many chains keeps one, and
+    /// calls `pop_descriptor_chain_into`.
     pub fn pop_descriptor_chain<G: GuestBytes>(
         &mut self,
         ram: &G,

@@ -1,6 +1,7 @@
 //! The driver's end.
 
-ghost use Rattle.std.specs.Prelude.{◌≡◌, ◌<◌, length};
+ghost use Rattle.std.specs.Prelude.{◌≡◌, ◌<◌, ◌≤◌, length, min};
+ghost use Rattle.vb_chain.specs.declared.pieces.TheConstants.{MAX_DESCRIPTORS};
 ghost use Rattle.vb_ring.specs.Layout.{layout_of, IsSize, IsInside, IsBacked};
 ghost use Rattle.vb_ring.specs.Ends.{IsDriverEnd, next_head, outstanding, fresh_end};
 ghost use Rattle.vb_ring.specs.Calls.{AddsBy, TakesUsedBy};
@@ -10,8 +11,11 @@ use crate::entries::{next_used, put_avail};
 use crate::owners::Owners;
 use arrayvec::ArrayVec;
 use std::marker::Model;
-use vb_chain::{Piece, write_chain};
+use vb_chain::{MAX_DESCRIPTORS, Piece, write_chain};
 use vb_ram::GuestBytes;
+
+/// A chain of so few pieces is added without an array of all descriptors.
+const FEW_PIECES: usize = 8;
 
 /// Why `add` refuses.
 #[derive(Clone, Copy, Debug, PartialEq, Eq)]
@@ -116,7 +120,28 @@ impl DriverRing {
         ensures adds { AddsBy (G.mem ram.old) (G.mem ram.new) self.old self.new pieces.now result }
         ensures part { G.part ram.new ≡ G.part ram.old }
     {
-        let mut path = ArrayVec::new();
+        if pieces.len() <= FEW_PIECES {
+            self.add_along::<G, FEW_PIECES>(ram, pieces)
+        } else {
+            self.add_along::<G, MAX_DESCRIPTORS>(ram, pieces)
+        }
+    }
+
+    /// Publishes a chain whose path has room in an array of N: the larger that is, the longer it
+    /// takes to be made.
+    fn add_along<G: GuestBytes, const N: usize>(
+        &mut self,
+        ram: &mut G,
+        pieces: &[Piece],
+    ) -> Result<u16, Full>
+        requires backed { IsBacked (G.mem ram.old) self.old.layout }
+        requires some { 0 < length pieces.now }
+        requires room { min (length pieces.now) MAX_DESCRIPTORS ≤ N }
+        requires few { N ≤ MAX_DESCRIPTORS }
+        ensures adds { AddsBy (G.mem ram.old) (G.mem ram.new) self.old self.new pieces.now result }
+        ensures part { G.part ram.new ≡ G.part ram.old }
+    {
+        let mut path = ArrayVec::<u16, N>::new();
         if !self.owners.find_free(pieces.len(), &mut path) {
             return Err(Full::TooFewFree);
         }

@@ -1,6 +1,6 @@
 //! The driver's table: for each descriptor the head of the chain that it belongs to.
 
-ghost use Rattle.std.specs.Prelude.{◌≡◌, ℕ, ◌+◌, ◌<◌, ◌≤◌, true, None, length, replicate};
+ghost use Rattle.std.specs.Prelude.{◌≡◌, ℕ, ◌+◌, ◌<◌, ◌≤◌, true, None, length, min, replicate};
 ghost use Rattle.std.specs.Prelude.{false, [], take, slice_get, slice_index, slice_index_or};
 ghost use Rattle.vb_chain.specs.declared.pieces.TheConstants.{MAX_DESCRIPTORS};
 ghost use Rattle.vb_ring.specs.Entries.{is_own, is_head};
@@ -47,9 +47,9 @@ fn release(owner: &mut [Option<u16>], head: u16, last: u16)
     }
 }
 
-/// The driver's table. Beside the owners it keeps how many chains are out, where each of them ends,
-/// and a number below which no descriptor is free, so that no call has to go through the whole table
-/// to know it.
+/// The driver's table. Beside the owners it keeps how many chains are out, where each of them
+/// ends, and a number below which no descriptor is free, so that no call has to go through the
+/// whole table to know it.
 #[derive(Drop)]
 pub struct Owners {
     /// For each descriptor the head of the chain that it belongs to, or none; past `count` unused.
@@ -125,8 +125,9 @@ impl Owners {
     }
 
     /// Puts the lowest free descriptors into a path, so many of them; false where fewer are free.
-    pub fn find_free(&self, count: usize, path: &mut ArrayVec<u16, MAX_DESCRIPTORS>) -> bool
+    pub fn find_free<const N: usize>(&self, count: usize, path: &mut ArrayVec<u16, N>) -> bool
         requires some { 0 < count }
+        requires room { min count MAX_DESCRIPTORS ≤ N }
         requires empty { path.old.items ≡ [] }
         ensures found { result ≡ true →
             path.new.items ≡ take count (numbers (is_unused self.now) (length self.now)) }

@@ -18,23 +18,23 @@ first_ones p n i count xs ys below pass grown len lt =
     ∙ numbers_prefix p (i + 1) n (omega (arith, lt)))
 
 pub is_free-requires : goal.is_free-requires
-is_free-requires c = omega (arith, ap length c.self.view_is, c.self.invariant.size)
+is_free-requires g c = omega (arith, ap length c.self.view_is, c.self.invariant.size)
 
 pub loop-i-init : goal.loop-i-init
-loop-i-init c = (
+loop-i-init g c = (
   c.requires.empty ∙ sym (numbers_none (is_unused c.args.self.now) c.self.inside.from
       (λ i l. ap (λ xs. is_unused xs i) (sym c.self.view_is) ∙ c.self.invariant.taken i l)),
   omega (arith, c.requires.some, ap length c.requires.empty),
 )
 
 pub push-requires : goal.push-requires
-push-requires c =
+push-requires g c =
     let few = length-numbers (is_unused c.args.self.now) c.loop-i.i in
     let len = ap length c.loop-i.invariant.0 in
-    (omega arith, omega (arith, few, len, c.self.invariant.few))
+    (omega arith, omega (arith, few, len, c.self.invariant.few, c.loop-i.invariant.1, c.requires.room))
 
 pub loop-i-preserved : goal.loop-i-preserved
-loop-i-preserved c =
+loop-i-preserved g c =
     let p : ℕ → Bool = is_unused c.args.self.now in
     elim c.if-is_free.branch [
       | then-is_free+else-len-count w ↦
@@ -61,7 +61,7 @@ loop-i-preserved c =
     ]
 
 pub returns-then-len-count-clause-found : goal.returns-then-len-count-clause-found
-returns-then-len-count-clause-found c _ =
+returns-then-len-count-clause-found g c _ =
     first_ones (is_unused c.args.self.now) (length c.args.self.now) c.loop-i.i c.args.count
     c.loop-i.path.items c.push.new.self.items c.loop-i.invariant.0
     (sym c.is_free.ensures ∙ c.if-is_free.true) c.push.ensures.items
@@ -69,7 +69,7 @@ returns-then-len-count-clause-found c _ =
     (omega (arith, ap length c.self.view_is, c.self.invariant.size))
 
 pub returns-clause-few : goal.returns-clause-few
-returns-clause-few c _ =
+returns-clause-few g c _ =
     let all : c.loop-i.i ≡ length c.args.self.now =
     omega (arith, ap length c.self.view_is, c.self.invariant.size) in
     omega (

@@ -8,7 +8,7 @@ use Rattle.vb_ring.specs.Numbers.{numbers}
 use Rattle.vb_ring.specs.Ends.{DriverEnd, is_unused, next_path}
 use Rattle.vb_ring.specs.Calls.{AddsBy}
 use Rattle.vb_ring.proofs.Assemble.{adds_along, next_route, next_chain}
-use Rattle.vb_ring.proofs.driver.DriverRing.add.Goals as goal
+use Rattle.vb_ring.proofs.driver.DriverRing.add_along.Goals as goal
 
 pub write_chain-requires-clause-route : goal.write_chain-requires-clause-route
 write_chain-requires-clause-route g c =
@@ -82,3 +82,15 @@ returns-clause-adds g c =
     c.claim.new.self along c.self.invariant c.requires.some count c.write_chain.ensures.put
     c.write_chain.ensures.others c.write_chain.ensures.rest c.put_avail.ensures.puts
     c.claim.ensures)
+
+pub new-path-requires : goal.new-path-requires
+new-path-requires g c = omega (arith, c.requires.few)
+
+pub find_free-requires : goal.find_free-requires
+find_free-requires g c = (
+  omega (arith, c.requires.few),
+  (c.requires.some, (c.requires.room, c.new-path.ensures)),
+)
+
+pub deref-path-requires : goal.deref-path-requires
+deref-path-requires g c = omega (arith, c.requires.few)
