@@ -14,8 +14,6 @@ mod round;
 mod run;
 mod script;
 mod served;
-#[cfg(test)]
-mod tests;
 mod threads;
 
 pub use entry::{Entry, Step};

@@ -3,12 +3,12 @@
 use crate::tests::leased::{Ended, Pace, Ports, Tables, run_leased};
 use crate::tests::plans::{Answer, Balances, Guests, Line, SMALL, are};
 use crate::tests::reading::{Balanced, first_look, first_round, sets_a_target};
-use crate::{Bells, GuestReport, OpenGate, Step};
 use std::alloc::{AllocError, Global};
 use std::sync::Wait;
 use std::test::Fail;
 use std::thread::Threads;
 use vb_model::{Actor, Call, Refusal, Reply};
+use vb_run::{Bells, GuestReport, OpenGate, Step};
 
 /// A run of one plan, and what it leaves at each guest.
 pub(super) struct Row {

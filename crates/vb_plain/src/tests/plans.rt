@@ -1,9 +1,9 @@
 //! Plans of tests.
 
-use crate::{Bells, GuestPlan, Plan};
 use std::alloc::{AllocError, Global};
 use vb_model::{Bytes, Call, Refusal, Reply};
 use vb_ram::Config;
+use vb_run::{Bells, GuestPlan, Plan};
 
 /// A guest of 64 pages with one processor.
 pub(super) const SMALL: Config = Config {
@@ -92,15 +92,25 @@ impl Answer {
     }
 }
 
+/// Whether this is the answer at a place of a script that goes over its lines again and again.
+fn is_at(answers: &[Answer], place: usize, reply: &Reply) -> bool {
+    let Some(line) = place.checked_rem(answers.len()) else {
+        return false;
+    };
+    match answers.get(line) {
+        Some(answer) => answer.is(reply),
+        None => false,
+    }
+}
+
 /// Whether these are the replies of a script whose lines are answered so in each of its rounds.
 pub(super) fn are(replies: &[Reply], answers: &[Answer], rounds: usize) -> bool {
     if replies.len() != rounds.saturating_mul(answers.len()) {
         return false;
     }
     for (place, reply) in replies.iter().enumerate() {
-        match answers.get(place % answers.len()) {
-            Some(answer) if answer.is(reply) => {}
-            _ => return false,
+        if !is_at(answers, place, reply) {
+            return false;
         }
     }
     true

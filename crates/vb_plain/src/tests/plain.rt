@@ -8,7 +8,6 @@ mod pages;
 mod requests;
 mod rows;
 
-use crate::Entry;
 use pages::{Block, Pages};
 use requests::Requests;
 pub(crate) use rows::{Act, Row, Said, rows_of};
@@ -17,6 +16,7 @@ use vb_model::layout::{DEFLATE_QUEUE, INFLATE_QUEUE, REPORT_QUEUE, STATISTICS_QU
 use vb_model::limits::{MAX_ORDER, PAGE_SIZE, RESERVED_PAGES, RING_AND_BUFFER_PAGES};
 use vb_model::{Claim, Place, Refusal};
 use vb_ram::Config;
+use vb_run::Entry;
 
 /// The features that a driver accepts by itself.
 const ALL_FEATURES: u64 = 0x1_0000_0027;
@@ -81,6 +81,14 @@ fn has_frame(claim: Claim) -> bool {
     matches!(claim, Claim::Gave(_))
 }
 
+/// Whether the row is refused so at the last claim, of which at most so many are made: none of the
+/// frames stays, and nothing has changed.
+fn is_refused(row: &Row<'_>, refusal: Refusal, most: usize) -> bool {
+    let given = row.claims.iter().filter(|claim| has_frame(**claim));
+    let is_last = given.count().saturating_add(1) == row.claims.len();
+    is_last && row.claims.len() <= most && row.said == Said::Refused(refusal)
+}
+
 impl PlainGuest {
     /// A guest as it is plugged in.
     pub fn new(alloc: Global, config: Config, is_paced: bool) -> Result<PlainGuest, AllocError> {
@@ -102,13 +110,19 @@ impl PlainGuest {
         let (first, end) = self.needed(row.act);
         let needed = self.pages.lacking(alloc, first, end)?;
         if let Some(refusal) = refusal_in(row.claims) {
-            // None of the frames stays, and nothing has changed.
-            let given = row.claims.iter().filter(|claim| has_frame(**claim));
-            let is_last = given.count().saturating_add(1) == row.claims.len();
-            let are_few = row.claims.len() <= needed.len();
-            return Ok(is_last && are_few && row.said == Said::Refused(refusal));
+            return Ok(is_refused(row, refusal, needed.len()));
         }
         Ok(self.supply(needed.as_slice(), row.claims) && self.answer(alloc, row)? == row.said)
+    }
+
+    /// Whether these rows may come next, one after another. If so, they have happened.
+    fn permits_all(&mut self, alloc: Global, rows: &[Row<'_>]) -> Result<bool, AllocError> {
+        for row in rows {
+            if !self.permits(alloc, row)? {
+                return Ok(false);
+            }
+        }
+        Ok(true)
     }
 
     /// Whether no request and no statistics buffer waits for the device.
@@ -175,27 +189,41 @@ impl PlainGuest {
         if let Some(refusal) = self.early_refusal(row.act) {
             return Ok(Said::Refused(refusal));
         }
-        Ok(match row.act {
-            Act::Init(ALL_FEATURES) => self.init(),
-            Act::Alloc(_, order) => self.alloc(order, row.said)?,
-            Act::Free(_, start, order) => self.free(Block { start, order }),
-            Act::Read(page, offset, len) => self.read(page, offset, len, row.said),
-            Act::Write(page, offset, bytes) => self.write(page, offset, bytes)?,
-            Act::Inflate(pages) => self.inflate(alloc, pages)?,
-            Act::Deflate(pages) => self.deflate(alloc, pages)?,
-            Act::Oom(pages) => self.oom(alloc, pages)?,
-            Act::Report(from) => self.report(alloc, from)?,
-            Act::Stats => self.stats(),
-            Act::Reap(queue) => self.reap(queue),
-            Act::Take(STATISTICS_QUEUE) => self.take_buffer(),
-            Act::Take(queue) => self.take(queue)?,
-            Act::Work => self.work(),
-            Act::Finish(queue) => self.finish(queue)?,
-            Act::Ask => self.ask(),
-            Act::SetTarget(pages) => self.set_target(pages),
-            Act::Look(floor) => self.spare(floor),
-            _ => Said::Other,
-        })
+        match row.act {
+            Act::Init(ALL_FEATURES) => Ok(self.init()),
+            Act::Alloc(_, order) => self.alloc(order, row.said),
+            Act::Free(_, start, order) => Ok(self.free(Block { start, order })),
+            Act::Read(page, offset, len) => Ok(self.read(page, offset, len, row.said)),
+            Act::Write(page, offset, bytes) => self.write(page, offset, bytes),
+            act => self.answer_balloon(alloc, act),
+        }
+    }
+
+    /// What a call of the balloon driver is answered, or another one's.
+    fn answer_balloon(&mut self, alloc: Global, act: Act<'_>) -> Result<Said<'static>, AllocError> {
+        match act {
+            Act::Inflate(pages) => self.inflate(alloc, pages),
+            Act::Deflate(pages) => self.deflate(alloc, pages),
+            Act::Oom(pages) => self.oom(alloc, pages),
+            Act::Report(from) => self.report(alloc, from),
+            Act::Stats => Ok(self.stats()),
+            Act::Reap(queue) => Ok(self.reap(queue)),
+            act => self.answer_host(act),
+        }
+    }
+
+    /// What a call of the device or the balancer is answered.
+    fn answer_host(&mut self, act: Act<'_>) -> Result<Said<'static>, AllocError> {
+        match act {
+            Act::Take(STATISTICS_QUEUE) => Ok(self.take_buffer()),
+            Act::Take(queue) => self.take(queue),
+            Act::Work => Ok(self.work()),
+            Act::Finish(queue) => self.finish(queue),
+            Act::Ask => Ok(self.ask()),
+            Act::SetTarget(pages) => Ok(self.set_target(pages)),
+            Act::Look(floor) => Ok(self.spare(floor)),
+            _ => Ok(Said::Other),
+        }
     }
 
     fn init(&mut self) -> Said<'static> {
@@ -290,12 +318,11 @@ pub(crate) fn played(
     is_paced: bool,
 ) -> Result<Option<PlainGuest>, AllocError> {
     let mut guest = PlainGuest::new(alloc, config, is_paced)?;
-    for row in rows {
-        if !guest.permits(alloc, row)? {
-            return Ok(None);
-        }
+    match guest.permits_all(alloc, rows) {
+        Ok(true) => Ok(Some(guest)),
+        Ok(false) => Ok(None),
+        Err(refused) => Err(refused),
     }
-    Ok(Some(guest))
 }
 
 /// Whether each of these rows may come next, from plug on.

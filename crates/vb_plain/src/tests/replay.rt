@@ -7,10 +7,10 @@ mod changes;
 mod runs;
 
 use super::plain::{Act, Row, Said, played, rows_of};
-use crate::{GuestPlan, GuestReport, Plan, Report, Round};
 pub(crate) use changes::first_missed;
 use std::alloc::{AllocError, Global};
 use vb_model::{Actor, Call, Reply};
+use vb_run::{GuestPlan, GuestReport, Plan, Report, Round};
 
 /// What a guest's report is compared with.
 #[derive(Clone, Copy)]
@@ -156,6 +156,10 @@ fn pairs_by<'a>(
     Ok(pairs)
 }
 
+fn pair_of<'a>(call: &'a Call, reply: &'a Reply) -> Pair<'a> {
+    (Act::of(call), Said::of(reply))
+}
+
 /// The calls of a script with their replies.
 fn pairs_of<'a>(
     alloc: Global,
@@ -164,9 +168,22 @@ fn pairs_of<'a>(
 ) -> Result<Vec<Pair<'a>>, AllocError> {
     let mut pairs = Vec::new(alloc);
     for (call, reply) in calls.iter().zip(replies.iter()) {
-        pairs.push((Act::of(call), Said::of(reply)))?;
+        pairs.push(pair_of(call, reply))?;
     }
     Ok(pairs)
+}
+
+/// Whether what a processor called and was replied is its script with these replies.
+fn is_script(
+    alloc: Global,
+    rows: &[Row<'_>],
+    actor: Actor,
+    calls: &[Call],
+    replies: &[Reply],
+) -> Result<bool, AllocError> {
+    let made = pairs_by(alloc, rows, actor)?;
+    let said = pairs_of(alloc, calls, replies)?;
+    Ok(made.as_slice() == said.as_slice() && calls.len() == replies.len())
 }
 
 /// Whether what each processor called and was replied is its script with the reported replies.
@@ -180,9 +197,8 @@ fn are_scripts(
     let scripts = case.plan.scripts.as_slice();
     let mut cpu = 0u32;
     for (calls, replies) in scripts.iter().zip(report.replies.iter()) {
-        let made = pairs_by(alloc, rows, Actor::Processor { guest, cpu })?;
-        let said = pairs_of(alloc, calls.as_slice(), replies.as_slice())?;
-        if made.as_slice() != said.as_slice() || calls.len() != replies.len() {
+        let actor = Actor::Processor { guest, cpu };
+        if !is_script(alloc, rows, actor, calls.as_slice(), replies.as_slice())? {
             return Ok(false);
         }
         cpu = cpu.saturating_add(1);

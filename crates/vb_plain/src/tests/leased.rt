@@ -1,11 +1,11 @@
 //! Runs of plans on leased frames.
 
 use crate::tests::replay::all_replay;
-use crate::{Gate, Plan, Report, RunFault, add_port, plug_in, run_threads};
 use std::alloc::{AllocError, Global};
 use std::sync::Wait;
 use std::thread::Threads;
 use vb_device::{Device, ImmediateDevice, PacedDevice};
+use vb_run::{Gate, Plan, Report, RunFault, add_port, plug_in, run_threads};
 use vb_shared::{FramePass, Leased, SharedFrames};
 
 /// How a guest's device serves requests.
@@ -72,18 +72,49 @@ fn open(
 
 impl Ports {
     /// The tables of these ports, and a pass for each.
-    fn open(self, alloc: Global) -> Result<(Vec<SharedFrames>, Vec<FramePass>), AllocError> {
-        let mut tables = Vec::new(alloc);
-        let mut passes = Vec::new(alloc);
+    fn open(
+        self,
+        alloc: Global,
+        tables: &mut Vec<SharedFrames>,
+        passes: &mut Vec<FramePass>,
+    ) -> Result<(), AllocError> {
         let (count, guests) = match self.tables {
             Tables::Shared => (self.count.min(1), self.count),
             Tables::Own => (self.count, 1),
         };
         for _ in 0..count {
-            open(alloc, self.frames, guests, &mut tables, &mut passes)?;
+            open(alloc, self.frames, guests, tables, passes)?;
         }
-        Ok((tables, passes))
+        Ok(())
     }
+}
+
+/// How many frames are out.
+fn count_out(tables: &[SharedFrames]) -> u32 {
+    let mut out: u32 = 0;
+    for table in tables {
+        out = out.saturating_add(table.census());
+    }
+    out
+}
+
+/// How a run ended with this answer, after which so many frames are out.
+fn end_of_run(
+    alloc: Global,
+    plan: &Plan,
+    pace: Pace,
+    out: u32,
+    answer: Result<Report, RunFault>,
+) -> Result<Ended, AllocError> {
+    let replays = match &answer {
+        Ok(report) => all_replay(alloc, plan, report, pace == Pace::Paced)?,
+        Err(_fault) => true,
+    };
+    Ok(Ended {
+        result: answer,
+        out,
+        replays,
+    })
 }
 
 /// Runs a plan at these ports.
@@ -94,7 +125,9 @@ pub(super) fn run_leased<G: Gate, R: Threads + Wait + Sync>(
     ports: Ports,
     gate: &G,
 ) -> Result<Ended, AllocError> {
-    let (tables, mut passes) = ports.open(alloc)?;
+    let mut tables = Vec::new(alloc);
+    let mut passes = Vec::new(alloc);
+    ports.open(alloc, &mut tables, &mut passes)?;
     passes.reverse();
     let mut devices: Vec<Box<dyn Device + Send>> = Vec::new(alloc);
     while let Some(mut pass) = passes.pop() {
@@ -115,17 +148,6 @@ pub(super) fn run_leased<G: Gate, R: Threads + Wait + Sync>(
     }
     let slots = plug_in(alloc, plan, devices)?;
     let result = run_threads(rt, alloc, plan, slots, gate);
-    let out = tables
-        .iter()
-        .map(SharedFrames::census)
-        .fold(0, u32::saturating_add);
-    let replays = match &result {
-        Ok(report) => all_replay(alloc, plan, report, ports.pace == Pace::Paced)?,
-        Err(_fault) => true,
-    };
-    Ok(Ended {
-        result,
-        out,
-        replays,
-    })
+    let out = count_out(tables.as_slice());
+    end_of_run(alloc, plan, ports.pace, out, result)
 }

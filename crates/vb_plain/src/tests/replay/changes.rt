@@ -2,11 +2,11 @@
 //! or has another reply, and where such a change must be refused it is.
 
 use super::{Case, is_replay};
-use crate::GuestReport;
 use crate::tests::plain::{Act, Row, Said, are_permitted};
 use std::alloc::{AllocError, Global};
 use vb_model::layout::{DEFLATE_QUEUE, INFLATE_QUEUE, REPORT_QUEUE, STATISTICS_QUEUE};
 use vb_model::{Actor, Refusal};
+use vb_run::GuestReport;
 
 /// What is done to a history at a place.
 #[derive(Clone, Copy, Debug)]
@@ -181,14 +181,21 @@ fn renumbered(said: Said<'_>) -> Said<'_> {
     match said {
         Said::Page(_) => Said::Page(0),
         Said::Bytes(bytes) => Said::Bytes(other_bytes(bytes)),
+        Said::Spare(pages) => Said::Spare(pages.saturating_add(1)),
+        Said::Refused(refusal) => Said::Refused(other_refusal(refusal)),
+        Said::Filled => Said::NotUsed,
+        _ => with_next_head(said),
+    }
+}
+
+/// Another head or page, if there is one in the reply.
+fn with_next_head(said: Said<'_>) -> Said<'static> {
+    match said {
         Said::Posted(head, pages) => Said::Posted(head.saturating_add(1), pages),
         Said::Reaped(head, pages) => Said::Reaped(head.saturating_add(1), pages),
         Said::Taken(head) => Said::Taken(head.saturating_add(1)),
         Said::Worked(page, freed) => Said::Worked(page.saturating_add(1), freed),
         Said::Finished(head) => Said::Finished(head.saturating_add(1)),
-        Said::Spare(pages) => Said::Spare(pages.saturating_add(1)),
-        Said::Refused(refusal) => Said::Refused(other_refusal(refusal)),
-        Said::Filled => Said::NotUsed,
         _ => Said::Filled,
     }
 }
@@ -204,6 +211,14 @@ fn turned(said: Said<'_>) -> Said<'_> {
     }
 }
 
+/// Puts these rows behind the others.
+fn push_all<'a>(rows: &mut Vec<Row<'a>>, more: &[Row<'a>]) -> Result<(), AllocError> {
+    for row in more {
+        rows.push(*row)?;
+    }
+    Ok(())
+}
+
 /// The rows with these in place of so many from a place on.
 fn edited<'a>(
     alloc: Global,
@@ -212,13 +227,14 @@ fn edited<'a>(
     gone: usize,
     new: &[Row<'a>],
 ) -> Result<Vec<Row<'a>>, AllocError> {
-    let before = rows.iter().take(place);
-    let after = rows.iter().skip(place.saturating_add(gone));
-    before
-        .chain(new.iter())
-        .chain(after)
-        .copied()
-        .collect(alloc)
+    let mut all = Vec::new(alloc);
+    push_all(&mut all, rows.get(..place).unwrap_or(rows))?;
+    push_all(&mut all, new)?;
+    push_all(
+        &mut all,
+        rows.get(place.saturating_add(gone)..).unwrap_or(&[]),
+    )?;
+    Ok(all)
 }
 
 /// The rows with a change at a place.

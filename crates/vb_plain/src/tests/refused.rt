@@ -1,7 +1,7 @@
 //! Want of memory, wherever it meets a run.
 
 use crate::tests::rows::TWO_GUESTS;
-use crate::{Bells, RunFault};
+use vb_run::{Bells, RunFault};
 
 /// Whichever request for memory is refused (`rt try --test --fail-alloc N`), there is no report and
 /// no frame is out, or a whole one.

@@ -1,12 +1,12 @@
 //! A gate that holds threads up, each until another one has come somewhere.
 
-use crate::Gate;
 use crossbeam_channel::{Receiver, Sender, unbounded};
 use std::alloc::{AllocError, Global};
 use std::sync::Wait;
 use std::sync::atomic::{AtomicBool, Ordering};
 use std::thread;
 use vb_model::{Actor, Reply};
+use vb_run::Gate;
 
 /// Turns for which a thread is held up at most.
 const MAX_TURNS: u32 = 100_000_000;
@@ -80,10 +80,17 @@ impl<'a, R: Wait> Holding<'a, R> {
 
     /// Some thread has come here.
     fn come(&self, place: Place) {
-        for (hold, has_come) in self.holds.iter().zip(self.have_come.iter()) {
+        for (number, hold) in self.holds.iter().enumerate() {
             if hold.until == place {
-                has_come.store(true, Ordering::SeqCst);
+                self.note_come(number);
             }
+        }
+    }
+
+    /// Some thread has come where the hold of this number waits for one.
+    fn note_come(&self, number: usize) {
+        if let Some(has_come) = self.have_come.get(number) {
+            has_come.store(true, Ordering::SeqCst);
         }
     }
 
@@ -112,15 +119,23 @@ impl<'a, R: Wait> Holding<'a, R> {
         false
     }
 
+    /// Whether the next thread that noted what it was held up by wasn't let go for want of turns.
+    fn is_next_met(&self) -> bool {
+        match self.noted.try_recv(self.rt) {
+            Ok(note) => note.is_met,
+            Err(_nothing) => false,
+        }
+    }
+
     /// Whether each hold has held one thread up, and none was let go for want of turns. To be asked
     /// once the threads have ended.
     pub(super) fn all_met(&self) -> bool {
-        let mut all_met = true;
         for _ in 0..self.holds.len() {
-            let is_met = self.noted.try_recv(self.rt).is_ok_and(|note| note.is_met);
-            all_met = all_met && is_met;
+            if !self.is_next_met() {
+                return false;
+            }
         }
-        all_met
+        true
     }
 }
 

@@ -5,13 +5,13 @@ use crate::tests::holds::{Answer, Hold, Holding, Place};
 use crate::tests::leased::{Ended, Pace, Ports, Tables, run_leased};
 use crate::tests::plans::{Answer as Reads, Balances, Guests, Line, SMALL, are};
 use crate::tests::reading::{Balanced, first_look, first_round};
-use crate::{Bells, Report};
 use std::alloc::{AllocError, Global};
 use std::sync::Wait;
 use std::test::Fail;
 use std::thread::Threads;
 use vb_model::Actor;
 use vb_ram::Config;
+use vb_run::{Bells, Report};
 
 /// Guests whose threads are held up.
 struct Row {
@@ -181,6 +181,15 @@ impl Row {
         let ended = run_leased(rt, alloc, &plan, ports, &gate)?;
         Ok(if gate.all_met() { Some(ended) } else { None })
     }
+
+    /// Whether each hold is met, and there is a report.
+    fn is_run<R: Threads + Wait + Sync>(&self, rt: &R, alloc: Global) -> Result<bool, AllocError> {
+        let ended = self.run(rt, alloc)?;
+        match &ended {
+            Some(ended) => Ok(ended.result.is_ok() && ended.is_clean()),
+            None => Ok(false),
+        }
+    }
 }
 
 /// Whether the pages are offered, and reaped, by the calls of the script.
@@ -196,10 +205,9 @@ fn offers_four_pages(report: &Report) -> bool {
 
 #[test]
 fn each_guest_and_processor_and_worker_has_its_thread(rt: HostRuntime) -> Result<(), Fail> {
-    for row in [&GUESTS_APART, &FIRST_AFTER_SECOND, &SECOND_AFTER_FIRST] {
-        let ended = row.run(&rt, rt.alloc())?;
-        assert!(rt; ended.is_some_and(|ended| ended.result.is_ok() && ended.is_clean()));
-    }
+    assert!(rt; GUESTS_APART.is_run(&rt, rt.alloc())?);
+    assert!(rt; FIRST_AFTER_SECOND.is_run(&rt, rt.alloc())?);
+    assert!(rt; SECOND_AFTER_FIRST.is_run(&rt, rt.alloc())?);
     Ok(())
 }
 

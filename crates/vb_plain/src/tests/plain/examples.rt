@@ -2,13 +2,13 @@
 //! the plain guest refuses.
 
 use super::{Act, Row, Said, are_permitted};
-use crate::GuestPlan;
 use crate::tests::replay::{Case, first_missed};
 use std::alloc::{AllocError, Global};
 use std::process::Abort;
 use std::test::Fail;
 use vb_model::{Actor, Claim, Refusal};
 use vb_ram::Config;
+use vb_run::GuestPlan;
 
 type Line = (Act<'static>, &'static [Claim], Said<'static>);
 

@@ -2,12 +2,12 @@
 
 use crate::tests::leased::{Ended, Pace, Ports, Tables, run_leased};
 use crate::tests::plans::{Balances, Guests, Line, SMALL};
-use crate::{Bells, MAX_SCRIPT_CALLS, OpenGate, RunFault};
 use std::alloc::{AllocError, Global};
 use std::sync::Wait;
 use std::test::Fail;
 use std::thread::Threads;
 use vb_ram::Config;
+use vb_run::{Bells, MAX_SCRIPT_CALLS, OpenGate, RunFault};
 
 /// Guests and ports, and why there is no report.
 struct Row {

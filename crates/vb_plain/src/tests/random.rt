@@ -1,7 +1,6 @@
 //! Random plans: each that is run gives a report in which every history replays.
 
 use crate::tests::leased::{Ended, Pace, Ports, Tables, run_leased};
-use crate::{Bells, GuestPlan, OpenGate, Plan};
 use rand_core::Rng;
 use rand_pcg::Pcg32;
 use std::alloc::{AllocError, Global};
@@ -10,6 +9,7 @@ use std::test::Fail;
 use std::thread::Threads;
 use vb_model::{Bytes, Call};
 use vb_ram::Config;
+use vb_run::{Bells, GuestPlan, OpenGate, Plan};
 
 // How much is tried here. `tools/soak-threads` tries more of larger plans, with other numbers in
 // these five lines.

@@ -1,7 +1,7 @@
 //! What the tests read in a report.
 
-use crate::{Report, Step};
 use vb_model::{Call, Refusal, Reply};
+use vb_run::{Report, Step};
 
 /// How many pages the first guest could spare when the balancer looked first.
 pub(super) fn first_look(report: &Report) -> Option<u32> {

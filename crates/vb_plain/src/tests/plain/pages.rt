@@ -296,9 +296,10 @@ impl Pages {
             return Ok(());
         };
         own.bytes.resize(PAGE_SIZE as usize, 0)?;
-        let places = own.bytes.iter_mut().skip(offset as usize);
-        for (place, byte) in places.zip(bytes.iter()) {
-            *place = *byte;
+        for (at, byte) in bytes.iter().enumerate() {
+            if let Some(place) = own.bytes.get_mut(at.saturating_add(offset as usize)) {
+                *place = *byte;
+            }
         }
         Ok(())
     }

@@ -4,13 +4,13 @@ use super::{case_of, first_missed};
 use crate::tests::leased::{Pace, Ports, Tables, run_leased};
 use crate::tests::plain::rows_of;
 use crate::tests::plans::{Balances, Guests, Line};
-use crate::{Bells, OpenGate, Plan, Report};
 use std::alloc::{AllocError, Global};
 use std::process::Abort;
 use std::sync::Wait;
 use std::test::Fail;
 use std::thread::Threads;
 use vb_ram::Config;
+use vb_run::{Bells, OpenGate, Plan, Report};
 
 /// Two guests, whose processors use a page and drive the balloon at the same time.
 static GUESTS: Guests = Guests {
