@@ -84,7 +84,11 @@ impl Model for Driver {
 }
 
 /// Where the pages of a guest are as it is plugged in, and its page areas.
-fn new_pages(alloc: Global, pages: u32, processors: u32) -> Result<(PlaceTable, Allocator), AllocError>
+fn new_pages(
+    alloc: Global,
+    pages: u32,
+    processors: u32,
+) -> Result<(PlaceTable, Allocator), AllocError>
     requires { IsGuestSize pages processors }
     ensures places { IfOk result (λ new. new.0 ≡ all_free pages) }
     ensures areas { IfOk result (λ new. new.1 ≡ new_page_state pages processors reserved_pages) }
