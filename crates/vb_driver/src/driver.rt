@@ -89,7 +89,9 @@ fn new_pages(
     pages: u32,
     processors: u32,
 ) -> Result<(PlaceTable, Allocator), AllocError>
-    requires { IsGuestSize pages processors }
+    requires size { IsGuestSize pages processors }
+    requires some { 0 < pages }
+    requires most { pages ≤ MAX_GUEST_PAGES }
     ensures places { IfOk result (λ new. new.0 ≡ all_free pages) }
     ensures areas { IfOk result (λ new. new.1 ≡ new_page_state pages processors reserved_pages) }
 {

@@ -10,13 +10,26 @@ use Rattle.vb_driver.proofs.Moving.{fresh_kept}
 use Rattle.vb_driver.proofs.Sizes.{size_of_config}
 use Rattle.vb_driver.proofs.driver.Driver.new.Goals as goal
 
-pub new_pages-requires : goal.new_pages-requires
-new_pages-requires c =
-    let limits : AreWithinLimits c.args.config.pages c.args.config.queue_size
-    c.args.config.processors =
-    config_limits c.args.config.pages c.args.config.queue_size c.args.config.processors
+pub new_pages-requires-clause-size : goal.new_pages-requires-clause-size
+new_pages-requires-clause-size c =
+    let limits = config_limits c.args.config.pages c.args.config.queue_size
+    c.args.config.processors
     c.requires in
     (omega (arith, limits.pages_most), limits.processors_most)
+
+pub new_pages-requires-clause-some : goal.new_pages-requires-clause-some
+new_pages-requires-clause-some c =
+    let limits = config_limits c.args.config.pages c.args.config.queue_size
+    c.args.config.processors
+    c.requires in
+    omega (arith, limits.pages_least)
+
+pub new_pages-requires-clause-most : goal.new_pages-requires-clause-most
+new_pages-requires-clause-most c =
+    let limits = config_limits c.args.config.pages c.args.config.queue_size
+    c.args.config.processors
+    c.requires in
+    limits.pages_most
 
 pub new_queues-requires : goal.new_queues-requires
 new_queues-requires c = size_of_config c.args.config.pages c.args.config.queue_size
