@@ -8,7 +8,7 @@ use Step::{Alloc, Count, FreePage, Report, ReportAndReap};
 use std::alloc::{AllocError, Global};
 use std::test::Fail;
 use vb_chain::Piece;
-use vb_model::limits::MAX_OUTSTANDING;
+use vb_model::limits::{MAX_OUTSTANDING, RESERVED_PAGES};
 use vb_pages::{FreeBlock, PageFault, Pages};
 
 /// One call of an example.
@@ -90,7 +90,7 @@ fn first_wrong(
 ) -> Result<Option<usize>, AllocError>
     requires { IsGuestSize size 1 }
 {
-    let mut pages = Pages::new(alloc, size, 1, 16)?;
+    let mut pages = Pages::new(alloc, size, 1, RESERVED_PAGES)?;
     Ok(first_wrong_line(&mut pages, lines))
 }
 
@@ -218,7 +218,7 @@ fn worked_examples(rt: HostRuntime) -> Result<(), Fail> {
 
 /// The pieces of a report of a fresh guest of 64 pages.
 fn pieces_of_fresh_guest(alloc: Global) -> Result<Pieces, AllocError> {
-    let mut pages = Pages::new(alloc, 64, 1)?;
+    let mut pages = Pages::new(alloc, 64, 1, RESERVED_PAGES)?;
     Ok(encode(&choose(&mut pages, 0, 8)))
 }
 
