@@ -13,7 +13,7 @@ flags_are : VIRTQ_DESC_F_NEXT ∷ VIRTQ_DESC_F_WRITE ∷ VIRTQ_DESC_F_INDIRECT �
 flags_are = refl
 
 -- bytes of a descriptor, and how many a page and a queue have room for
-sizes_are : DESCRIPTOR_SIZE ∷ DESCRIPTORS_IN_A_PAGE ∷ MAX_DESCRIPTORS ∷ [] ≡ 16 ∷ 256 ∷ 128 ∷ []
+sizes_are : DESCRIPTOR_SIZE ∷ DESCRIPTORS_IN_A_PAGE ∷ MAX_DESCRIPTORS ∷ [] ≡ 16 ∷ 256 ∷ 256 ∷ []
 sizes_are = refl
 
 -- whether a descriptor of these flags goes on, is writable, and is a table of descriptors

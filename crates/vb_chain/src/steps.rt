@@ -52,7 +52,7 @@ fn fault_of(
 /// set, `BadNext` where `next` is `size` or more, and `TooLong` where it is number `size` of the
 /// chain. Other flag bits are ignored, and a length of 0 is accepted (profile).
 ///
-/// Each call makes a `Chain` of 2 KiB, zeroes it and moves it to the caller, which takes several
+/// Each call makes a `Chain` of 4 KiB, zeroes it and moves it to the caller, which takes several
 /// times as long as the walk along a short chain: whoever reads many chains keeps one, and calls
 /// `walk_into`.
 pub fn walk<G: GuestBytes>(ram: &G, table: u32, head: u16, size: u16) -> Result<Chain, ChainFault>

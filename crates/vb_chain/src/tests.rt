@@ -6,10 +6,12 @@ use std::process::Abort;
 use std::test::Fail;
 use vb_ram::{Frame, GuestBytes, Ram, RamFault};
 
-/// A call on memory of 64 pages, with a table of 8 descriptors in page 0.
+/// A call on memory of 64 pages, with a table of 8 descriptors in page 0, or of 256.
 enum Step {
     /// The descriptor of this number gets an address, a length, flags and a next one.
     Put(u16, u64, u32, u16, u16),
+    /// Each of 256 descriptors goes on to the one behind it; the last gets flags and a next one.
+    PutRow(u16, u16),
     /// A chain of two pieces is written on descriptors 0 and 1.
     PutChain(Piece, Piece),
     /// 16 bytes of page 0 are read.
@@ -17,6 +19,8 @@ enum Step {
     Read(u16),
     /// The walk from a head.
     Walk(u16),
+    /// The walk from a head in the table of 256.
+    WalkAll(u16),
     /// The walk from descriptor 3, which gets an address, a length, flags and a next one.
     Lone(u64, u32, u16, u16),
 }
@@ -42,11 +46,18 @@ fn memory(alloc: Global) -> Result<Ram, RamFault> {
 }
 
 fn put(ram: &mut Ram, index: u16, descriptor: Descriptor) -> Answer {
-    if ram.pages() != 64 || ram.backing(0).is_none() || index >= 8 {
+    if ram.pages() != 64 || ram.backing(0).is_none() || index >= 256 {
         return Answer::Nothing;
     }
     write_descriptor(ram, 0, index, descriptor);
     Answer::Done
+}
+
+fn put_row(ram: &mut Ram, flags: u16, next: u16) -> Answer {
+    for index in 0..255 {
+        let _ = put(ram, index, descriptor_of(0x4000, 16, 1, index + 1));
+    }
+    put(ram, 255, descriptor_of(0x4000, 16, flags, next))
 }
 
 fn put_chain(ram: &mut Ram, pieces: &[Piece; 2]) -> Answer {
@@ -70,11 +81,12 @@ fn read(ram: &Ram, index: u16) -> Answer {
     Answer::Descriptor(read_descriptor(ram, 0, index))
 }
 
-fn walk_from(ram: &Ram, head: u16) -> Answer {
-    if ram.pages() != 64 {
+/// The walk from a head, in a table of at most 256 descriptors.
+fn walk_from(ram: &Ram, head: u16, size: u16) -> Answer {
+    if ram.pages() != 64 || size > 256 {
         return Answer::Nothing;
     }
-    match walk(ram, 0, head, 8) {
+    match walk(ram, 0, head, size) {
         Ok(chain) => {
             let pieces = chain.pieces();
             Answer::Chain(
@@ -89,7 +101,7 @@ fn walk_from(ram: &Ram, head: u16) -> Answer {
 
 fn walk_alone(ram: &mut Ram, descriptor: Descriptor) -> Answer {
     let _ = put(ram, 3, descriptor);
-    match walk_from(ram, 3) {
+    match walk_from(ram, 3, 8) {
         Answer::Chain(1, _, _) => Answer::Done,
         other => other,
     }
@@ -112,10 +124,12 @@ fn answer_of(ram: &mut Ram, step: &Step) -> Answer {
         Step::Lone(addr, len, flags, next) => {
             walk_alone(ram, descriptor_of(*addr, *len, *flags, *next))
         }
+        Step::PutRow(flags, next) => put_row(ram, *flags, *next),
         Step::PutChain(first, second) => put_chain(ram, &[*first, *second]),
         Step::Bytes(offset) => bytes(ram, *offset),
         Step::Read(index) => read(ram, *index),
-        Step::Walk(head) => walk_from(ram, *head),
+        Step::Walk(head) => walk_from(ram, *head, 8),
+        Step::WalkAll(head) => walk_from(ram, *head, 256),
     }
 }
 
@@ -252,6 +266,29 @@ static LONG_CHAINS: [(Step, Answer); 13] = [
 #[test]
 fn eight_descriptors_are_a_chain_and_nine_are_not(rt: HostRuntime) -> Result<(), Fail> {
     expect(&rt, rt.alloc(), &LONG_CHAINS)
+}
+
+static WHOLE_TABLE: [(Step, Answer); 9] = [
+    (Step::PutRow(0, 0), Answer::Done),
+    (
+        Step::WalkAll(0),
+        Answer::Chain(256, Some(BUFFER), Some(BUFFER)),
+    ),
+    (
+        Step::WalkAll(255),
+        Answer::Chain(1, Some(BUFFER), Some(BUFFER)),
+    ),
+    (Step::WalkAll(256), Answer::Fault(ChainFault::BadHead)),
+    (Step::Walk(0), Answer::Fault(ChainFault::BadNext)),
+    (Step::PutRow(1, 0), Answer::Done),
+    (Step::WalkAll(0), Answer::Fault(ChainFault::TooLong)),
+    (Step::PutRow(1, 256), Answer::Done),
+    (Step::WalkAll(0), Answer::Fault(ChainFault::BadNext)),
+];
+
+#[test]
+fn a_whole_page_of_descriptors_is_a_chain(rt: HostRuntime) -> Result<(), Fail> {
+    expect(&rt, rt.alloc(), &WHOLE_TABLE)
 }
 
 static FAULTS: [(Step, Answer); 15] = [

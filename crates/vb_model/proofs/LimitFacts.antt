@@ -1,8 +1,7 @@
 -- All limits, and where rings and buffers stand, as plain numbers.
-use Rattle.std.proofs.Common.{◌≡◌, true, false, [], ◌∷◌, map, refl}
+use Rattle.std.proofs.Common.{◌≡◌, true, false, [], ◌∷◌, ◌++◌, map, filter, refl}
 use Rattle.std.specs.List.{range_with_len}
-use Rattle.vb_model.specs.declared.limits.TheConstants.{PAGE_SIZE, RESERVED_PAGES}
-use Rattle.vb_model.specs.declared.limits.TheConstants.{RING_AND_BUFFER_PAGES, MAX_ORDER}
+use Rattle.vb_model.specs.declared.limits.TheConstants.{PAGE_SIZE, GUEST_PAGES_STEP, MAX_ORDER}
 use Rattle.vb_model.specs.declared.limits.TheConstants.{MIN_REPORTED_ORDER, MAX_OUTSTANDING}
 use Rattle.vb_model.specs.declared.limits.TheConstants.{MAX_REQUEST_PAGES, MAX_GUESTS}
 use Rattle.vb_model.specs.declared.limits.TheConstants.{MIN_GUEST_PAGES, MAX_GUEST_PAGES}
@@ -13,18 +12,21 @@ use Rattle.vb_model.specs.declared.layout.TheConstants.{STATISTIC_SIZE, MAX_STAT
 use Rattle.vb_model.specs.declared.layout.TheConstants.{FREE_MEMORY_TAG, TOTAL_MEMORY_TAG}
 use Rattle.vb_model.specs.declared.layout.TheConstants.{INFLATE_QUEUE, DEFLATE_QUEUE}
 use Rattle.vb_model.specs.declared.layout.TheConstants.{STATISTICS_QUEUE, REPORT_QUEUE}
-use Rattle.vb_model.specs.declared.layout.TheConstants.{INFLATE_RING_PAGE, DEFLATE_RING_PAGE}
-use Rattle.vb_model.specs.declared.layout.TheConstants.{STATISTICS_RING_PAGE, REPORT_RING_PAGE}
+use Rattle.vb_model.specs.declared.layout.TheConstants.{MAX_QUEUE_SIZE_OF_A_PAGE}
+use Rattle.vb_model.specs.declared.layout.TheConstants.{FIRST_RING_PAGE, FIRST_RING_PAGE_OF_TWO}
+use Rattle.vb_model.specs.declared.layout.TheConstants.{RESERVED_PAGES, RESERVED_PAGES_OF_TWO}
 use Rattle.vb_model.specs.declared.layout.TheConstants.{REQUEST_BUFFER_SIZE, INFLATE_BUFFERS_PAGE}
 use Rattle.vb_model.specs.declared.layout.TheConstants.{DEFLATE_BUFFERS_PAGE, STATISTICS_PAGE}
-use Rattle.vb_model.specs.Limits.{page_size, reserved_pages, ring_and_buffer_pages, max_order}
+use Rattle.vb_model.specs.Limits.{page_size, max_order}
 use Rattle.vb_model.specs.Limits.{min_reported_order, max_outstanding, max_request_pages}
 use Rattle.vb_model.specs.Limits.{max_guests, max_frames, is_power_of_two, is_config}
 use Rattle.vb_model.specs.Status.{acknowledge, driver, features_ok, driver_ok, needs_reset, failed}
-use Rattle.vb_model.specs.Layout.{ring_page, buffers_page, buffer_page, buffer_offset}
+use Rattle.vb_model.specs.Layout.{takes_two_pages, reserved_pages, ring_number, ring_page}
+use Rattle.vb_model.specs.Layout.{is_ring_page, is_start_page, start_pages}
+use Rattle.vb_model.specs.Layout.{buffers_page, buffer_page, buffer_offset}
 
--- bytes of a page; reserved pages, and those of rings and buffers
-pages_are : PAGE_SIZE ∷ RESERVED_PAGES ∷ RING_AND_BUFFER_PAGES ∷ [] ≡ 4096 ∷ 16 ∷ 13 ∷ []
+-- bytes of a page; the pages of a guest are so many or a multiple of them
+pages_are : PAGE_SIZE ∷ GUEST_PAGES_STEP ∷ [] ≡ 4096 ∷ 16 ∷ []
 pages_are = refl
 
 -- the largest order of a block, and the least that is reported
@@ -51,13 +53,12 @@ status_bits_are = refl
 
 -- guests at a time, frames, and the sizes of a guest
 guests_are : MAX_GUESTS ∷ MAX_FRAMES ∷ MIN_GUEST_PAGES ∷ MAX_GUEST_PAGES ∷ MIN_QUEUE_SIZE
-    ∷ MAX_QUEUE_SIZE ∷ MAX_PROCESSORS ∷ [] ≡ 8 ∷ 65536 ∷ 64 ∷ 16384 ∷ 2 ∷ 128 ∷ 4 ∷ []
+    ∷ MAX_QUEUE_SIZE ∷ MAX_PROCESSORS ∷ [] ≡ 8 ∷ 65536 ∷ 64 ∷ 65536 ∷ 2 ∷ 256 ∷ 4 ∷ []
 guests_are = refl
 
 -- the definitions' own names for them
-by_their_names : page_size ∷ reserved_pages ∷ ring_and_buffer_pages ∷ max_order ∷ min_reported_order
-    ∷ max_outstanding ∷ max_request_pages ∷ max_guests ∷ max_frames ∷ [] ≡ 4096 ∷ 16 ∷ 13 ∷ 9 ∷ 4
-    ∷ 16 ∷ 256 ∷ 8 ∷ 65536 ∷ []
+by_their_names : page_size ∷ max_order ∷ min_reported_order ∷ max_outstanding ∷ max_request_pages
+    ∷ max_guests ∷ max_frames ∷ [] ≡ 4096 ∷ 9 ∷ 4 ∷ 16 ∷ 256 ∷ 8 ∷ 65536 ∷ []
 by_their_names = refl
 
 -- the queues, and the pages of their rings
@@ -65,12 +66,46 @@ queues_are : INFLATE_QUEUE ∷ DEFLATE_QUEUE ∷ STATISTICS_QUEUE ∷ REPORT_QUE
     ∷ []
 queues_are = refl
 
-rings_are : INFLATE_RING_PAGE ∷ DEFLATE_RING_PAGE ∷ STATISTICS_RING_PAGE ∷ REPORT_RING_PAGE ∷ [] ≡ 0
-    ∷ 1 ∷ 2 ∷ 3 ∷ []
+rings_are : MAX_QUEUE_SIZE_OF_A_PAGE ∷ FIRST_RING_PAGE ∷ FIRST_RING_PAGE_OF_TWO ∷ RESERVED_PAGES
+    ∷ RESERVED_PAGES_OF_TWO ∷ [] ≡ 128 ∷ 0 ∷ 16 ∷ 16 ∷ 32 ∷ []
 rings_are = refl
 
-rings_of_queues : ring_page 0 ∷ ring_page 1 ∷ ring_page 2 ∷ ring_page 4 ∷ [] ≡ 0 ∷ 1 ∷ 2 ∷ 3 ∷ []
+-- a ring of up to 128 descriptors takes a page, and a larger one two
+pages_of_a_ring : map takes_two_pages (2 ∷ 64 ∷ 128 ∷ 129 ∷ 256 ∷ []) ≡ false ∷ false ∷ false ∷ true
+    ∷ true ∷ []
+pages_of_a_ring = refl
+
+reserved_of_sizes : map reserved_pages (2 ∷ 64 ∷ 128 ∷ 256 ∷ []) ≡ 16 ∷ 16 ∷ 16 ∷ 32 ∷ []
+reserved_of_sizes = refl
+
+order_of_rings : map ring_number (0 ∷ 1 ∷ 2 ∷ 4 ∷ []) ≡ 0 ∷ 1 ∷ 2 ∷ 3 ∷ []
+order_of_rings = refl
+
+rings_of_queues : map (ring_page 128) (0 ∷ 1 ∷ 2 ∷ 4 ∷ []) ≡ 0 ∷ 1 ∷ 2 ∷ 3 ∷ []
 rings_of_queues = refl
+
+rings_of_large_queues : map (ring_page 256) (0 ∷ 1 ∷ 2 ∷ 4 ∷ []) ≡ 16 ∷ 18 ∷ 20 ∷ 22 ∷ []
+rings_of_large_queues = refl
+
+-- which pages those of rings are, and which a start needs: those of the buffers too
+pages_of_rings : filter (is_ring_page 128) (range_with_len 0 64) ≡ 0 ∷ 1 ∷ 2 ∷ 3 ∷ []
+pages_of_rings = refl
+
+pages_of_large_rings : filter (is_ring_page 256) (range_with_len 0 64) ≡ 16 ∷ 17 ∷ 18 ∷ 19 ∷ 20 ∷ 21
+    ∷ 22 ∷ 23 ∷ []
+pages_of_large_rings = refl
+
+pages_of_a_start : start_pages 128 ≡ range_with_len 0 13
+pages_of_a_start = refl
+
+pages_of_a_large_start : start_pages 256 ≡ 4 ∷ 5 ∷ 6 ∷ 7 ∷ 8 ∷ 9 ∷ 10 ∷ 11 ∷ 12 ∷ 16 ∷ 17 ∷ 18 ∷ 19
+    ∷ 20 ∷ 21 ∷ 22 ∷ 23 ∷ []
+pages_of_a_large_start = refl
+
+-- none of them is past the reserved ones
+no_others_for_a_start : filter (is_start_page 128) (range_with_len 13 100)
+    ++ filter (is_start_page 256) (range_with_len 24 100) ≡ []
+no_others_for_a_start = refl
 
 -- the buffers: 1024 bytes each, from page 4 on for inflates, from page 8 on for deflates, page 12
 -- for statistics
@@ -95,16 +130,17 @@ powers_of_two : map is_power_of_two (0 ∷ 1 ∷ 2 ∷ 3 ∷ 4 ∷ 6 ∷ 8 ∷ 1
     ≡ false ∷ true ∷ true ∷ false ∷ true ∷ false ∷ true ∷ false ∷ true ∷ true ∷ []
 powers_of_two = refl
 
--- 64 to 16,384 pages
+-- 64 to 65,536 pages, in steps of 16
 pages_of_a_guest : map (λ pages. is_config pages 8 1)
-    (0 ∷ 32 ∷ 63 ∷ 64 ∷ 65 ∷ 96 ∷ 128 ∷ 16384 ∷ 32768 ∷ []) ≡ false ∷ false ∷ false ∷ true ∷ false
-    ∷ false ∷ true ∷ true ∷ false ∷ []
+    (0 ∷ 32 ∷ 48 ∷ 63 ∷ 64 ∷ 65 ∷ 72 ∷ 80 ∷ 96 ∷ 128 ∷ 1008 ∷ 16384 ∷ 65520 ∷ 65535 ∷ 65536 ∷ 65552
+    ∷ 131072 ∷ []) ≡ false ∷ false ∷ false ∷ false ∷ true ∷ false ∷ false ∷ true ∷ true ∷ true ∷ true
+    ∷ true ∷ true ∷ false ∷ true ∷ false ∷ false ∷ []
 pages_of_a_guest = refl
 
--- queues of 2 to 128 descriptors
+-- queues of 2 to 256 descriptors, a power of two
 queues_of_a_guest : map (λ queue_size. is_config 64 queue_size 1)
-    (0 ∷ 1 ∷ 2 ∷ 3 ∷ 4 ∷ 96 ∷ 128 ∷ 256 ∷ []) ≡ false ∷ false ∷ true ∷ false ∷ true ∷ false ∷ true
-    ∷ false ∷ []
+    (0 ∷ 1 ∷ 2 ∷ 3 ∷ 4 ∷ 96 ∷ 128 ∷ 144 ∷ 256 ∷ 512 ∷ []) ≡ false ∷ false ∷ true ∷ false ∷ true
+    ∷ false ∷ true ∷ false ∷ true ∷ false ∷ []
 queues_of_a_guest = refl
 
 -- 1 to 4 processors

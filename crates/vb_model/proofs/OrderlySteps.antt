@@ -23,7 +23,8 @@ use Rattle.vb_model.specs.declared.calls.Event.{Event}
 use Rattle.vb_model.specs.declared.replies.Refusal.{Refusal}
 use Rattle.vb_model.specs.declared.replies.Reply.{Reply}
 use Rattle.vb_model.specs.declared.replies.Reply.TheVariants.{Refused}
-use Rattle.vb_model.specs.Limits.{reserved_pages, min_reported_order, max_order}
+use Rattle.vb_model.specs.Limits.{min_reported_order, max_order}
+use Rattle.vb_model.specs.Layout.{reserved_pages}
 use Rattle.vb_model.specs.Tests.{is_in}
 use Rattle.vb_model.specs.Pages.{Block, pages_of, pages_of_all, is_free, is_used, is_giving}
 use Rattle.vb_model.specs.Pages.{is_lent, is_reporting, is_reserved, place_of, placed, size}
@@ -65,9 +66,9 @@ use Rattle.vb_model.proofs.Changes.{was_honest, AllConsistent}
 
 -- ---- places
 
-abbrev Unreserved : ℕ → List Place → Type 0
-Unreserved pages places = (page : ℕ) → page < pages
-    → is_reserved (place_of places page) ≡ nat_lt page reserved_pages
+abbrev Unreserved : ℕ → ℕ → List Place → Type 0
+Unreserved size pages places = (page : ℕ) → page < pages
+    → is_reserved (place_of places page) ≡ nat_lt page (reserved_pages size)
 
 is_not_reserved : (place : Place) → place ≢ Reserved → is_reserved place ≡ false
 is_not_reserved Reserved h = absurd (h refl)
@@ -80,11 +81,12 @@ is_not_reserved Stranded h = refl
 is_not_reserved Reporting h = refl
 
 -- pages that aren't reserved went to a place that isn't
-moved : (n : ℕ) (pages : List ℕ) (place : Place) (places : List Place) → Unreserved n places
+moved : (size n : ℕ) (pages : List ℕ) (place : Place) (places : List Place)
+    → Unreserved size n places
     → is_reserved place ≡ false
     → ((page : ℕ) → is_in page pages ≡ true → place_of places page ≢ Reserved)
-    → Unreserved n (placed pages place places)
-moved n pages place places h free ok page l =
+    → Unreserved size n (placed pages place places)
+moved size n pages place places h free ok page l =
     ap is_reserved (placed-get pages place places page (ok page))
     ∙ (step (is_in page pages) refl ∙ h page l)
   where
@@ -94,11 +96,12 @@ moved n pages place places h free ok page l =
     step false e = refl
 
 -- the pages of a deflate that was reaped
-moved_back : (told : Bool) (n : ℕ) (pages : List ℕ) (places : List Place) → Unreserved n places
+moved_back : (told : Bool) (size n : ℕ) (pages : List ℕ) (places : List Place)
+    → Unreserved size n places
     → ((page : ℕ) → is_in page pages ≡ true → place_of places page ≢ Reserved)
-    → Unreserved n (places_reaped told Deflating pages places)
-moved_back true n pages places h ok = moved n pages FreePlace places h refl ok
-moved_back false n pages places h ok = h
+    → Unreserved size n (places_reaped told Deflating pages places)
+moved_back true size n pages places h ok = moved size n pages FreePlace places h refl ok
+moved_back false size n pages places h ok = h
 
 posted_unreserved : (told : Bool) → is_reserved (place_posted told Deflating) ≡ false
 posted_unreserved true = refl
@@ -172,7 +175,7 @@ blocks_without pages b (x ∷ held) are =
 -- ---- a new request
 
 with_inflate : (g : Guest) (rs : Requests) (places : List Place) → IsOrderly g
-    → AreOrderly (room g) rs → length places ≡ g.config.pages → Unreserved g.config.pages places
+    → AreOrderly (room g) rs → length places ≡ g.config.pages → Unreserved g.config.queue_size g.config.pages places
     → IsOrderly (record g { inflate = rs; places = places })
 with_inflate g rs places h o l u =
     record {
@@ -187,7 +190,7 @@ with_inflate g rs places h o l u =
     }
 
 with_deflate : (g : Guest) (rs : Requests) (places : List Place) → IsOrderly g
-    → AreOrderly (room g) rs → length places ≡ g.config.pages → Unreserved g.config.pages places
+    → AreOrderly (room g) rs → length places ≡ g.config.pages → Unreserved g.config.queue_size g.config.pages places
     → IsOrderly (record g { deflate = rs; places = places })
 with_deflate g rs places h o l u =
     record {
@@ -202,7 +205,7 @@ with_deflate g rs places h o l u =
     }
 
 with_report : (g : Guest) (rs : Requests) (places : List Place) → IsOrderly g → AreOrderly 1 rs
-    → length places ≡ g.config.pages → Unreserved g.config.pages places
+    → length places ≡ g.config.pages → Unreserved g.config.queue_size g.config.pages places
     → IsOrderly (record g { report = rs; places = places })
 with_report g rs places h o l u =
     record {
@@ -339,20 +342,20 @@ kept_reap Inflating g r rest c h e =
     with_inflate g (after_reap rest g.inflate) (placed r.pages Lent g.places) h
     (orderly_reap _ r rest g.inflate e h.inflating)
     (length-placed r.pages Lent g.places ∙ h.tabled)
-    (moved g.config.pages r.pages Lent g.places h.unreserved refl
+    (moved g.config.queue_size g.config.pages r.pages Lent g.places h.unreserved refl
     (λ page k. not_reserved _ is_giving refl (inflate_giving g page r rest c e k)))
 kept_reap Deflating g r rest c h e =
     with_deflate g (after_reap rest g.deflate)
     (places_reaped (tells_host g) Deflating r.pages g.places) h
     (orderly_reap _ r rest g.deflate e h.deflating)
     (length-reaped (tells_host g) Deflating r.pages g.places ∙ h.tabled)
-    (moved_back (tells_host g) g.config.pages r.pages g.places h.unreserved
+    (moved_back (tells_host g) g.config.queue_size g.config.pages r.pages g.places h.unreserved
     (λ page k. deflate_there g page r rest c e k))
 kept_reap Reporting_free g r rest c h e =
     with_report g (after_reap rest g.report) (placed r.pages FreePlace g.places) h
     (orderly_reap _ r rest g.report e h.reporting)
     (length-placed r.pages FreePlace g.places ∙ h.tabled)
-    (moved g.config.pages r.pages FreePlace g.places h.unreserved refl
+    (moved g.config.queue_size g.config.pages r.pages FreePlace g.places h.unreserved refl
     (λ page k. not_reserved _ is_reporting refl (report_reporting g page r rest c e k)))
 
 kept_reset : (g : Guest) → IsOrderly g → IsOrderly (after_reset g)
@@ -452,7 +455,7 @@ deflates_order g count head h least now =
     (orderly_posting (room g) g.deflate head (lowest_lent count g) h.deflating least now
     (λ page. distinct_where is_lent g.places count page))
     (length-placed (lowest_lent count g) (place_posted (tells_host g) Deflating) g.places ∙ h.tabled)
-    (moved g.config.pages (lowest_lent count g) (place_posted (tells_host g) Deflating) g.places h.unreserved
+    (moved g.config.queue_size g.config.pages (lowest_lent count g) (place_posted (tells_host g) Deflating) g.places h.unreserved
     (posted_unreserved (tells_host g))
     (λ page k. not_reserved _ is_lent refl (lent_pages g count page k)))
 
@@ -473,7 +476,7 @@ performs_order (Alloc cpu order) g claims reply new c h e s honest =
       reporting = h.reporting;
       state = h.state;
       tabled = length-placed (pages_of b) Used g.places ∙ h.tabled;
-      unreserved = moved g.config.pages (pages_of b) Used g.places h.unreserved refl
+      unreserved = moved g.config.queue_size g.config.pages (pages_of b) Used g.places h.unreserved refl
           (λ page k. not_reserved _ is_free refl (wholly_free_pages g.places b page s.1.1 k));
       blocks = blocks_with g.config.pages b g.held
           (free_block g.config.pages g.places b h.tabled
@@ -490,7 +493,7 @@ performs_order (Free cpu start order) g claims reply new c h e s honest =
       reporting = h.reporting;
       state = h.state;
       tabled = length-placed (pages_of b) FreePlace g.places ∙ h.tabled;
-      unreserved = moved g.config.pages (pages_of b) FreePlace g.places h.unreserved refl
+      unreserved = moved g.config.queue_size g.config.pages (pages_of b) FreePlace g.places h.unreserved refl
           (λ page k. not_reserved _ is_used refl (held_used g b page c (not-false _ n.1.1.0) k));
       blocks = blocks_without g.config.pages b g.held h.blocks;
       agreed = h.agreed;
@@ -504,7 +507,7 @@ performs_order (Inflate n) g claims reply new c h e s honest =
     (has_room (room g) (outstanding g.inflate) t.1.0)
     (λ page. inflated_distinct g n s.1.1 page s.1.3 s.1.4))
     (length-placed pages Giving g.places ∙ h.tabled)
-    (moved g.config.pages pages Giving g.places h.unreserved refl
+    (moved g.config.queue_size g.config.pages pages Giving g.places h.unreserved refl
     (λ page k. not_reserved _ can_be_given refl (inflated_pages g n s.1.1 page s.1.3 k))))
 performs_order (Deflate n) g claims reply new c h e s honest =
     let t = not_refused (tests g (Deflate n)) e in
@@ -527,7 +530,7 @@ performs_order (Report from) g claims reply new c h e s honest =
     (λ b. nat_le min_reported_order b.order && nat_le from b.start) (length g.places) (room g)
     page))
     (length-placed pages Reporting g.places ∙ h.tabled)
-    (moved g.config.pages pages Reporting g.places h.unreserved refl
+    (moved g.config.queue_size g.config.pages pages Reporting g.places h.unreserved refl
     (λ page k. not_reserved _ is_free refl (reported_pages g from page k))))
 performs_order Stats g claims reply new c h e s honest = fills_order g.buffer g reply new h s.1
 performs_order (Reap q) g claims reply new c h e s honest =
@@ -587,8 +590,9 @@ honest_order g call claims reply new c h s honest =
 
 -- ---- a new guest
 
-first_reserved : (page : ℕ) → is_reserved (first_place page) ≡ nat_lt page reserved_pages
-first_reserved page = step (nat_lt page reserved_pages)
+first_reserved : (reserved page : ℕ)
+    → is_reserved (first_place reserved page) ≡ nat_lt page reserved
+first_reserved reserved page = step (nat_lt page reserved)
   where
     step : (v : Bool) → is_reserved (cond v Reserved FreePlace) ≡ v
     step true = refl
@@ -601,17 +605,20 @@ fresh_order config target =
       deflating = no_requests_orderly _;
       reporting = no_requests_orderly 1;
       state = inl refl;
-      tabled = length-map (range_with_len 0 config.pages) first_place
+      tabled = length-map (range_with_len 0 config.pages)
+          (first_place (reserved_pages config.queue_size))
           ∙ length-range_with_len 0 config.pages;
-      unreserved = λ page l. ap is_reserved (at page l) ∙ first_reserved page;
+      unreserved = λ page l.
+          ap is_reserved (at page l) ∙ first_reserved (reserved_pages config.queue_size) page;
       blocks = tt;
       agreed = λ e. absurd (let wrong : 0 ≡ 15 = e in omega arith);
     }
   where
     at : (page : ℕ) → page < config.pages
-        → place_of (map first_place (range_with_len 0 config.pages)) page ≡ first_place page
-    at page l = get_or-map-range_with_len first_place 0 config.pages page page Reserved l
-        (omega arith)
+        → place_of (map (first_place (reserved_pages config.queue_size))
+        (range_with_len 0 config.pages)) page ≡ first_place (reserved_pages config.queue_size) page
+    at page l = get_or-map-range_with_len (first_place (reserved_pages config.queue_size)) 0
+        config.pages page page Reserved l (omega arith)
 
 -- ---- every state
 

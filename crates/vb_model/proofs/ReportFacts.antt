@@ -25,10 +25,10 @@ block start order = record { start = start; order = order }
 
 -- ---- maximal free blocks: aligned, of order at most 9, wholly free, in no larger such block
 
-free_at_first : maximal_free_blocks (all_free 64) ≡ block 16 4 ∷ block 32 5 ∷ []
+free_at_first : maximal_free_blocks (all_free 16 64) ≡ block 16 4 ∷ block 32 5 ∷ []
 free_at_first = refl
 
-three_blocks : maximal_free_blocks (all_free 128) ≡ block 16 4 ∷ block 32 5 ∷ block 64 6 ∷ []
+three_blocks : maximal_free_blocks (all_free 16 128) ≡ block 16 4 ∷ block 32 5 ∷ block 64 6 ∷ []
 three_blocks = refl
 
 -- a hole at page 21: the blocks round it, each at a multiple of its size
@@ -62,21 +62,21 @@ two_pages_from_0_on = refl
 orders : map (λ b. b.order) (blocks_at 7) ≡ 0 ∷ 1 ∷ 2 ∷ 3 ∷ 4 ∷ 5 ∷ 6 ∷ 7 ∷ 8 ∷ 9 ∷ []
 orders = refl
 
-largest_blocks : maximal_free_blocks (all_free 1024) ≡ block 16 4 ∷ block 32 5 ∷ block 64 6
+largest_blocks : maximal_free_blocks (all_free 16 1024) ≡ block 16 4 ∷ block 32 5 ∷ block 64 6
     ∷ block 128 7 ∷ block 256 8 ∷ block 512 9 ∷ []
 largest_blocks = refl
 
-beside_another : is_maximal_free (all_free 2048) (block 1024 9) ≡ true
+beside_another : is_maximal_free (all_free 16 2048) (block 1024 9) ≡ true
 beside_another = refl
 
-no_larger_block : is_maximal_free (all_free 1024) (block 512 8) ≡ false
+no_larger_block : is_maximal_free (all_free 16 1024) (block 512 8) ≡ false
 no_larger_block = refl
 
-below_the_largest : is_maximal_free (all_free 1024) (block 256 8) ≡ true
+below_the_largest : is_maximal_free (all_free 16 1024) (block 256 8) ≡ true
 below_the_largest = refl
 
 -- a block past the last page isn't free
-past_the_last_page : is_wholly_free (all_free 64) (block 64 0) ≡ false
+past_the_last_page : is_wholly_free (all_free 16 64) (block 64 0) ≡ false
 past_the_last_page = refl
 
 -- ---- allocations

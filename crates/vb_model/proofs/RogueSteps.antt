@@ -9,6 +9,7 @@ use Rattle.vb_model.specs.declared.places.Place.TheVariants.{Reserved}
 use Rattle.vb_model.specs.declared.calls.Event.{Event}
 use Rattle.vb_model.specs.declared.replies.Reply.{Reply}
 use Rattle.vb_model.specs.Tests.{one_if}
+use Rattle.vb_model.specs.Layout.{reserved_pages}
 use Rattle.vb_model.specs.Pages.{is_giving, is_lent, is_reserved, place_of}
 use Rattle.vb_model.specs.Guest.{Guest, is_ballooned}
 use Rattle.vb_model.specs.Rogue.{RogueStep}
@@ -37,7 +38,7 @@ honest_unreserved g c o page l = at_reserved place
     place =
         elim (cases_lt page g.config.pages) [
           | inl there ↦ reserved_is (place_of g.places page)
-              (o.unreserved page there ∙ lt-ltb page 16 l)
+              (o.unreserved page there ∙ lt-ltb page (reserved_pages g.config.queue_size) l)
           | inr past ↦ get_or_past g.places page Reserved
               (let e : length g.places ≡ g.config.pages = o.tabled in omega arith)
         ]

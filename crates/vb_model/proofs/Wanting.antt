@@ -2,8 +2,9 @@
 use Rattle.std.proofs.Common.{◌≡◌, ℕ, ◌<◌, Bool, true, false, cond, List, [], ◌∷◌, length, refl}
 use Rattle.std.proofs.Common.{sym, ap, subst, ◌∙◌, ◌⊎◌, inl, inr, arith}
 use Rattle.std.specs.Prelude.{◌==◌, ◌||◌, not, Option, Some, None, MatchBool, is_none}
-use Rattle.std.specs.List.{list_all, range_with_len}
+use Rattle.std.specs.List.{list_all}
 use Rattle.std.proofs.lemmas.Bool.{eq-eqb, and_parts, not-true, eqb-true, or_cases}
+use Rattle.vb_model.specs.Layout.{start_pages}
 use Rattle.vb_model.specs.declared.calls.Call.{Call}
 use Rattle.vb_model.specs.declared.calls.Call.TheVariants.{Init, Reset, Alloc, Free, Read, Write}
 use Rattle.vb_model.specs.declared.calls.Call.TheVariants.{Scribble, Inflate, Deflate, Oom, Report}
@@ -256,7 +257,7 @@ lacking_bare : (g : Guest) (page : ℕ) → is_in page (lacking g) ≡ true
 lacking_bare g page k =
     bare_page (frame_of g.frames page)
     (list_all-at (λ p. is_none (frame_of g.frames p)) (lacking g) page
-    (all_filtered (λ p. is_none (frame_of g.frames p)) (range_with_len 0 13)) k)
+    (all_filtered (λ p. is_none (frame_of g.frames p)) (start_pages g.config.queue_size)) k)
 
 needed_bare : (p page : ℕ) (bytes : List ℕ) (g : Guest) → is_in page (pages_needed p bytes g) ≡ true
     → frame_of g.frames page ≡ None

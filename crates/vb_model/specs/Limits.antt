@@ -1,23 +1,16 @@
 -- The bounds of src/limits.rt in the words of the definitions (profile).
-use Rattle.std.specs.Prelude.{ℕ, ◌^◌, Bool, ◌==◌, ◌&&◌, nat_le}
+use Rattle.std.specs.Prelude.{ℕ, ◌%◌, ◌^◌, Bool, ◌==◌, ◌&&◌, nat_le}
 use Rattle.std.specs.List.{list_any, range_with_len}
-use Rattle.vb_model.specs.declared.limits.TheConstants.{PAGE_SIZE, RESERVED_PAGES}
-use Rattle.vb_model.specs.declared.limits.TheConstants.{RING_AND_BUFFER_PAGES, MAX_ORDER}
+use Rattle.vb_model.specs.declared.limits.TheConstants.{PAGE_SIZE, MAX_ORDER}
 use Rattle.vb_model.specs.declared.limits.TheConstants.{MIN_REPORTED_ORDER, MAX_OUTSTANDING}
 use Rattle.vb_model.specs.declared.limits.TheConstants.{MAX_REQUEST_PAGES, MAX_GUESTS}
 use Rattle.vb_model.specs.declared.limits.TheConstants.{MIN_GUEST_PAGES, MAX_GUEST_PAGES}
+use Rattle.vb_model.specs.declared.limits.TheConstants.{GUEST_PAGES_STEP}
 use Rattle.vb_model.specs.declared.limits.TheConstants.{MIN_QUEUE_SIZE, MAX_QUEUE_SIZE}
 use Rattle.vb_model.specs.declared.limits.TheConstants.{MAX_PROCESSORS, MAX_FRAMES}
 
 abbrev pub page_size : ℕ
 page_size = PAGE_SIZE
-
-abbrev pub reserved_pages : ℕ
-reserved_pages = RESERVED_PAGES
-
--- the reserved pages that hold rings and buffers are the first ones
-abbrev pub ring_and_buffer_pages : ℕ
-ring_and_buffer_pages = RING_AND_BUFFER_PAGES
 
 abbrev pub max_order : ℕ
 max_order = MAX_ORDER
@@ -46,6 +39,6 @@ is_between least most n = nat_le least n && nat_le n most
 -- what a guest may have: pages, descriptors of each queue, processors
 abbrev pub is_config : ℕ → ℕ → ℕ → Bool
 is_config pages queue_size processors =
-    (is_between MIN_GUEST_PAGES MAX_GUEST_PAGES pages && is_power_of_two pages)
+    (is_between MIN_GUEST_PAGES MAX_GUEST_PAGES pages && (pages % GUEST_PAGES_STEP == 0))
     && ((is_between MIN_QUEUE_SIZE MAX_QUEUE_SIZE queue_size && is_power_of_two queue_size)
     && is_between 1 MAX_PROCESSORS processors)

@@ -3,7 +3,8 @@
 use Rattle.std.specs.Prelude.{◌≡◌, ℕ, ◌+◌, ◌<◌, ◌≤◌, List, [], ◌∷◌, length}
 use Rattle.std.specs.Prelude.{nat_lt, min, ⊤, ◌⊎◌, IsTrue}
 use Rattle.vb_model.specs.declared.places.Place.{Place}
-use Rattle.vb_model.specs.Limits.{reserved_pages, max_outstanding, max_order}
+use Rattle.vb_model.specs.Limits.{max_outstanding, max_order}
+use Rattle.vb_model.specs.Layout.{reserved_pages}
 pub use Rattle.vb_model.specs.Tests.{times}
 use Rattle.vb_model.specs.Pages.{Block, size, is_aligned, place_of, is_reserved}
 use Rattle.vb_model.specs.Requests.{Request, Requests, all_requests, headed, outstanding}
@@ -52,7 +53,7 @@ pub record IsInOrder (pages queue_size : ℕ) (places : List Place) (held : List
   -- each page has a place of its own, and just the first ones are reserved
   pub tabled : length places ≡ pages
   pub unreserved : (page : ℕ) → page < pages
-      → is_reserved (place_of places page) ≡ nat_lt page reserved_pages
+      → is_reserved (place_of places page) ≡ nat_lt page (reserved_pages queue_size)
   pub blocks : AreBlocks pages held
   pub agreed : status ≡ 15 → AreAgreed features
 

@@ -14,7 +14,7 @@ use Rattle.vb_model.specs.declared.replies.Refusal.{Refusal}
 use Rattle.vb_model.specs.declared.replies.Refusal.TheVariants.{NoFrame, NoMemory}
 use Rattle.vb_model.specs.declared.replies.Reply.{Reply}
 use Rattle.vb_model.specs.declared.replies.Reply.TheVariants.{Done, Refused}
-use Rattle.vb_model.specs.Limits.{reserved_pages}
+use Rattle.vb_model.specs.Layout.{reserved_pages}
 use Rattle.vb_model.specs.Tests.{is_in}
 use Rattle.vb_model.specs.Guest.{Guest, frame_of, is_ballooned}
 use Rattle.vb_model.specs.Driver.{given, claim_refusal, AreClaimsFor}
@@ -172,7 +172,7 @@ WantsChangeNothing = (w : World) (event : Event) (v : World)
 
 -- no reserved page is ballooned
 abbrev pub HasNoReservedBallooned : Guest → Type 0
-HasNoReservedBallooned g = (page : ℕ) → page < reserved_pages
+HasNoReservedBallooned g = (page : ℕ) → page < reserved_pages g.config.queue_size
     → is_ballooned g.ballooned page ≡ false
 
 -- a refusal leaves an honest guest as it was, or its driver has given up since the features were

@@ -1,6 +1,6 @@
 //! Laws about the definitions. Each is the contract of a function that does nothing.
 
-ghost use Rattle.std.specs.Prelude.{ℕ, Bool, List, [], ◌∷◌, ◌≡◌, Some, false};
+ghost use Rattle.std.specs.Prelude.{ℕ, ◌≤◌, Bool, List, [], ◌∷◌, ◌≡◌, Some, false};
 ghost use Rattle.vb_model.specs.Run.{History, Run, Steps, last_world, guest_in};
 ghost use Rattle.vb_model.specs.Safe.{Safe, IsHonest, IsSafeRun};
 ghost use Rattle.vb_model.specs.Consistent.{IsConsistent};
@@ -20,6 +20,7 @@ ghost use Rattle.vb_model.specs.Determined.{HonestStepsAgree};
 ghost use Rattle.vb_model.specs.GuestRun.{InOneLife, Alone};
 ghost use Rattle.vb_model.specs.HostLaws.{HostStepsAgree, CallsLeaveTheHost};
 ghost use Rattle.vb_model.specs.Telling.{ToldStepsAgree};
+ghost use Rattle.vb_model.specs.Sizes.{HasSmallShape, SmallConfigsAreConfigs};
 ghost use Rattle.vb_model.specs.declared.calls.Event.{Event};
 ghost use Rattle.vb_model.specs.declared.replies.Reply.{Reply};
 ghost use Rattle.vb_model.specs.declared.replies.Reply.TheVariants.{Plugged, Ready, Page, Done};
@@ -196,4 +197,13 @@ pub fn no_events_change_nothing()
 /// number of lent and taking pages, and no refusal speaks of a deflate that is pending.
 pub fn guests_that_tell_are_as_ever()
     ensures agree { ToldStepsAgree }
+{}
+
+/// A guest whose queues have up to 128 descriptors has 16 reserved pages and its rings in pages 0
+/// to 3, and the first 13 pages are all that it needs for a start; of such guests those with a
+/// power of two of pages, up to 16,384, may have just what they might if there were no larger ones.
+/// No other definition asks for these sizes.
+pub fn small_guests_are_as_ever()
+    ensures shape { (size : ℕ) → size ≤ 128 → HasSmallShape size }
+    ensures configs { SmallConfigsAreConfigs }
 {}

@@ -13,14 +13,21 @@ pub const STATISTICS_QUEUE: u32 = 2;
 /// The queue of page reports.
 pub const REPORT_QUEUE: u32 = 4;
 
-/// The pages in which the rings of these four queues stand.
-pub const INFLATE_RING_PAGE: u32 = 0;
+/// A queue of at most so many descriptors has a ring of one page. The ring of a larger one takes
+/// two: the descriptors fill the first, and the available and the used ring stand in the second.
+pub const MAX_QUEUE_SIZE_OF_A_PAGE: u32 = 128;
 
-pub const DEFLATE_RING_PAGE: u32 = 1;
+/// The first of the pages that hold the rings of these four queues, one behind the other, where
+/// each takes one page, and where each takes two.
+pub const FIRST_RING_PAGE: u32 = 0;
 
-pub const STATISTICS_RING_PAGE: u32 = 2;
+pub const FIRST_RING_PAGE_OF_TWO: u32 = 16;
 
-pub const REPORT_RING_PAGE: u32 = 3;
+/// Pages at the start of a guest's memory that hold its rings and buffers and are never free, where
+/// each ring takes one page, and where each takes two.
+pub const RESERVED_PAGES: u32 = 16;
+
+pub const RESERVED_PAGES_OF_TWO: u32 = 32;
 
 /// Bytes of the buffer of one inflate or deflate request: as many little-endian 32-bit page
 /// numbers as a request may name.

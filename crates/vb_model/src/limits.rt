@@ -3,12 +3,6 @@
 /// Bytes of a page and of a frame.
 pub const PAGE_SIZE: u32 = 4096;
 
-/// Pages at the start of a guest's memory that hold its rings and buffers and are never free.
-pub const RESERVED_PAGES: u32 = 16;
-
-/// Of these, the first ones, which a guest needs before its driver can start.
-pub const RING_AND_BUFFER_PAGES: u32 = 13;
-
 /// The largest order of a block: it has 512 pages (Gorman, chapter 6).
 pub const MAX_ORDER: u32 = 9;
 
@@ -28,15 +22,17 @@ pub const MAX_REQUEST_PAGES: u32 = 256;
 /// Guests that are plugged in at a time.
 pub const MAX_GUESTS: u32 = 8;
 
-/// Pages of a guest: a power of two in this range.
+/// Pages of a guest: a multiple of `GUEST_PAGES_STEP` in this range.
 pub const MIN_GUEST_PAGES: u32 = 64;
 
-pub const MAX_GUEST_PAGES: u32 = 16_384;
+pub const MAX_GUEST_PAGES: u32 = 65_536;
+
+pub const GUEST_PAGES_STEP: u32 = 16;
 
 /// Descriptors of each of a guest's queues: a power of two in this range.
 pub const MIN_QUEUE_SIZE: u32 = 2;
 
-pub const MAX_QUEUE_SIZE: u32 = 128;
+pub const MAX_QUEUE_SIZE: u32 = 256;
 
 /// Processors of a guest, at least one.
 pub const MAX_PROCESSORS: u32 = 4;

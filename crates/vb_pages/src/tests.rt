@@ -213,8 +213,8 @@ const LARGE_ORDERS: [(Step, Answer); 12] = [
     (Held(32), Is(false)),
 ];
 
-/// The largest guest.
-const LARGEST_GUEST: [(Step, Answer); 7] = [
+/// The large guest.
+const LARGE_GUEST: [(Step, Answer); 7] = [
     (FreeCount, Count(16_368)),
     (Alloc(3, 9), Page(512)),
     (Alloc(3, 0), Page(16)),
@@ -347,10 +347,10 @@ static EXAMPLES: [Example; 8] = [
         lines: &LARGE_ORDERS,
     },
     Example {
-        name: "largest guest",
+        name: "large guest",
         pages: 16_384,
         processors: 4,
-        lines: &LARGEST_GUEST,
+        lines: &LARGE_GUEST,
     },
     Example {
         name: "taken pages",

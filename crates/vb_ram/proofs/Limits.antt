@@ -1,5 +1,5 @@
 -- What a guest within the limits has, for the crates above.
-use Rattle.std.specs.Prelude.{◌≡◌, ℕ, ◌≤◌, true, ◌&&◌}
+use Rattle.std.specs.Prelude.{◌≡◌, ℕ, ◌%◌, ◌≤◌, true, ◌==◌, ◌&&◌}
 use Rattle.std.proofs.Common.{arith}
 use Rattle.std.proofs.lemmas.Bool.Decides.{nat_tests}
 use Rattle.std.proofs.lemmas.Bool.{and_parts}
@@ -13,15 +13,15 @@ between least most n h = (grind (arith, nat_tests), grind (arith, nat_tests))
 pub config_limits : (pages queue_size processors : ℕ) → is_config pages queue_size processors ≡ true
     → AreWithinLimits pages queue_size processors
 config_limits pages queue_size processors h =
-    let all = and_parts (is_between 64 16384 pages && is_power_of_two pages)
-    ((is_between 2 128 queue_size && is_power_of_two queue_size) && is_between 1 4 processors)
+    let all = and_parts (is_between 64 65536 pages && (pages % 16 == 0))
+    ((is_between 2 256 queue_size && is_power_of_two queue_size) && is_between 1 4 processors)
     h in
-    let rest = and_parts (is_between 2 128 queue_size && is_power_of_two queue_size)
+    let rest = and_parts (is_between 2 256 queue_size && is_power_of_two queue_size)
     (is_between 1 4 processors) all.1 in
-    let of_pages = between 64 16384 pages
-    (and_parts (is_between 64 16384 pages) (is_power_of_two pages) all.0).0 in
-    let of_queue = between 2 128 queue_size
-    (and_parts (is_between 2 128 queue_size) (is_power_of_two queue_size) rest.0).0 in
+    let of_pages = between 64 65536 pages
+    (and_parts (is_between 64 65536 pages) (pages % 16 == 0) all.0).0 in
+    let of_queue = between 2 256 queue_size
+    (and_parts (is_between 2 256 queue_size) (is_power_of_two queue_size) rest.0).0 in
     let of_processors = between 1 4 processors rest.1 in
     record {
       pages_least = of_pages.0;

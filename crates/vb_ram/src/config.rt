@@ -1,10 +1,15 @@
 //! How large a guest is.
 
-ghost use Rattle.std.specs.Prelude.{◌≡◌, Option, Some, None, if◌then◌else◌, ◌&&◌};
+ghost use Rattle.std.specs.Prelude.{◌≡◌, ◌%◌, Option, Some, None, if◌then◌else◌, ◌==◌, ◌&&◌};
+ghost use Rattle.vb_model.specs.declared.limits.TheConstants.{MIN_GUEST_PAGES, MAX_GUEST_PAGES};
+ghost use Rattle.vb_model.specs.declared.limits.TheConstants.{MIN_QUEUE_SIZE, MAX_QUEUE_SIZE};
+ghost use Rattle.vb_model.specs.declared.limits.TheConstants.{GUEST_PAGES_STEP};
 ghost use Rattle.vb_model.specs.Limits.{is_config, is_between, is_power_of_two};
 
+use crate::Shape;
 use vb_model::limits::{
-    MAX_GUEST_PAGES, MAX_PROCESSORS, MAX_QUEUE_SIZE, MIN_GUEST_PAGES, MIN_QUEUE_SIZE,
+    GUEST_PAGES_STEP, MAX_GUEST_PAGES, MAX_PROCESSORS, MAX_QUEUE_SIZE, MIN_GUEST_PAGES,
+    MIN_QUEUE_SIZE,
 };
 
 /// How large a guest is: plain data, which may be beyond the limits.
@@ -35,8 +40,17 @@ impl Config {
         })
     }
 
-    /// Whether each size is one that a guest may have: pages and descriptors a power of two, and
-    /// all three within their bounds (profile).
+    /// Where rings and buffers stand in the guest's memory.
+    pub fn shape(&self) -> Shape
+        ensures { result ≡ record { queue_size = self.now.queue_size } }
+    {
+        Shape {
+            queue_size: self.queue_size,
+        }
+    }
+
+    /// Whether each size is one that a guest may have: pages a multiple of 16, descriptors a power
+    /// of two, and all three within their bounds (profile).
     pub fn is_within_limits(&self) -> bool
         ensures { result ≡ is_config self.now.pages self.now.queue_size self.now.processors }
     {
@@ -47,16 +61,23 @@ impl Config {
 fn are_within_limits(pages: u32, queue_size: u32, processors: u32) -> bool
     ensures { result ≡ is_config pages queue_size processors }
 {
-    let pages_fit = is_power_between(pages, MIN_GUEST_PAGES, MAX_GUEST_PAGES);
-    let queue_fits = is_power_between(queue_size, MIN_QUEUE_SIZE, MAX_QUEUE_SIZE);
+    let pages_fit = are_guest_pages(pages);
+    let queue_fits = is_queue_size(queue_size);
     let processors_fit = is_between(processors, 1, MAX_PROCESSORS);
     pages_fit & (queue_fits & processors_fit)
 }
 
-fn is_power_between(number: u32, least: u32, most: u32) -> bool
-    ensures { result ≡ (is_between least most number && is_power_of_two number) }
+fn are_guest_pages(number: u32) -> bool
+    ensures { result ≡ (is_between MIN_GUEST_PAGES MAX_GUEST_PAGES number
+        && (number % GUEST_PAGES_STEP == 0)) }
 {
-    is_between(number, least, most) & is_power_of_two(number)
+    is_between(number, MIN_GUEST_PAGES, MAX_GUEST_PAGES) & (number % GUEST_PAGES_STEP == 0)
+}
+
+fn is_queue_size(number: u32) -> bool
+    ensures { result ≡ (is_between MIN_QUEUE_SIZE MAX_QUEUE_SIZE number && is_power_of_two number) }
+{
+    is_between(number, MIN_QUEUE_SIZE, MAX_QUEUE_SIZE) & is_power_of_two(number)
 }
 
 fn is_between(number: u32, least: u32, most: u32) -> bool

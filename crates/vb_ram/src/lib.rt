@@ -13,6 +13,7 @@ mod fields;
 mod frame;
 mod laws;
 mod memory;
+mod shape;
 #[cfg(test)]
 mod tests;
 
@@ -25,3 +26,4 @@ pub use laws::{
     a_page_is_its_frame_and_bytes, a_read_gives_bytes, a_write_replaces_bytes, memory_stays_whole,
 };
 pub use memory::{Ram, SupplyRefused};
+pub use shape::Shape;

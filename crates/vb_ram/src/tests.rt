@@ -1,8 +1,8 @@
 //! Values from the formats, and each call with ample memory.
 
 use crate::{
-    Config, Frame, GuestBytes, Ram, RamFault, read_u16, read_u32, read_u64, write_u16, write_u32,
-    write_u64,
+    Config, Frame, GuestBytes, Ram, RamFault, Shape, read_u16, read_u32, read_u64, write_u16,
+    write_u32, write_u64,
 };
 use std::alloc::Global;
 use std::process::Abort;
@@ -257,21 +257,53 @@ fn sizes_that_differ_are_told_apart(rt: HostRuntime) {
 }
 
 /// Pages, queue size and processors of guests, and whether there are such guests.
-static SIZES: [(u32, u32, u32, bool); 13] = [
+static SIZES: [(u32, u32, u32, bool); 19] = [
     (64, 8, 1, true),
     (16_384, 128, 4, true),
     (1024, 2, 2, true),
-    (32, 8, 1, false),
-    (96, 8, 1, false),
-    (32_768, 8, 1, false),
+    (80, 256, 1, true),
+    (65_536, 128, 4, true),
+    (65_520, 256, 2, true),
+    (48, 8, 1, false),
+    (72, 8, 1, false),
+    (65, 8, 1, false),
+    (65_552, 8, 1, false),
+    (131_072, 8, 1, false),
     (64, 1, 1, false),
     (64, 12, 1, false),
-    (64, 256, 1, false),
+    (64, 192, 1, false),
+    (64, 512, 1, false),
     (64, 65_544, 1, false),
     (64, 8, 0, false),
     (64, 8, 5, false),
     (0, 0, 0, false),
 ];
+
+/// Of a queue size: how many pages are reserved, the pages of the four rings, and how many pages a
+/// start needs.
+static SHAPES: [(u16, u32, [u16; 4], u32); 4] = [
+    (2, 16, [0, 1, 2, 3], 13),
+    (8, 16, [0, 1, 2, 3], 13),
+    (128, 16, [0, 1, 2, 3], 13),
+    (256, 32, [16, 18, 20, 22], 17),
+];
+
+/// The queues that have rings.
+static QUEUES: [u32; 4] = [0, 1, 2, 4];
+
+#[test]
+fn rings_and_buffers_have_their_pages(rt: HostRuntime) {
+    for (queue_size, reserved, rings, needed) in &SHAPES {
+        let shape = Shape {
+            queue_size: *queue_size,
+        };
+        let pages = QUEUES.map(|queue| shape.ring_page(queue));
+        let start = (0..100).filter(|page| shape.is_start_page(*page)).count();
+        let of_rings = (0..100).filter(|page| shape.is_ring_page(*page)).count();
+        assert!(rt; shape.reserved_pages() == *reserved && pages == *rings);
+        assert!(rt; start == *needed as usize && of_rings + 9 == start);
+    }
+}
 
 #[test]
 fn guests_have_their_sizes(rt: HostRuntime) {

@@ -8,7 +8,8 @@ use Step::{Alloc, Count, FreePage, Report, ReportAndReap};
 use std::alloc::{AllocError, Global};
 use std::test::Fail;
 use vb_chain::Piece;
-use vb_model::limits::{MAX_OUTSTANDING, RESERVED_PAGES};
+use vb_model::layout::{RESERVED_PAGES, RESERVED_PAGES_OF_TWO};
+use vb_model::limits::MAX_OUTSTANDING;
 use vb_pages::{FreeBlock, PageFault, Pages};
 
 /// One call of an example.
@@ -82,15 +83,16 @@ fn first_wrong_line(pages: &mut Pages, lines: &[(Step, Answer)]) -> Option<usize
 }
 
 /// The first line whose call isn't answered so, when they are made one after the other on a new
-/// guest of so many pages and one processor.
+/// guest of so many pages, of which so many are reserved, and one processor.
 fn first_wrong(
     alloc: Global,
     size: u32,
+    reserved: u32,
     lines: &[(Step, Answer)],
 ) -> Result<Option<usize>, AllocError>
     requires { IsGuestSize size 1 }
 {
-    let mut pages = Pages::new(alloc, size, 1, RESERVED_PAGES)?;
+    let mut pages = Pages::new(alloc, size, 1, reserved)?;
     Ok(first_wrong_line(&mut pages, lines))
 }
 
@@ -143,7 +145,7 @@ const LISTS: [(Step, Answer); 6] = [
 ];
 
 /// The first sixteen blocks of the largest guest.
-const LARGEST_GUEST: [(Step, Answer); 4] = [
+const LARGEST_GUEST: [(Step, Answer); 6] = [
     (
         ReportAndReap(0, 16),
         Named(&[
@@ -165,43 +167,66 @@ const LARGEST_GUEST: [(Step, Answer); 4] = [
             (5632, 9),
         ]),
     ),
-    (Count, Free(16_368)),
+    (Count, Free(65_520)),
     (Report(6000, 2), Named(&[(6144, 9), (6656, 9)])),
-    (Count, Free(16_368 - 1024)),
+    (Count, Free(65_520 - 1024)),
+    (Report(65_000, 16), Named(&[(65_024, 9)])),
+    (Count, Free(65_520 - 1536)),
 ];
 
-/// Calls on a new guest of so many pages.
+/// Pages that are no power of two, of which 32 are reserved: no block goes past the last one.
+const EIGHTY_PAGES: [(Step, Answer); 5] = [
+    (ReportAndReap(0, 16), Named(&[(32, 5), (64, 4)])),
+    (Report(33, 16), Named(&[(64, 4)])),
+    (Report(0, 16), Named(&[(32, 5)])),
+    (Report(0, 16), Named(&[])),
+    (Count, Free(0)),
+];
+
+/// Calls on a new guest of so many pages, of which so many are reserved.
 struct Example {
     name: &'static str,
     pages: u32,
+    reserved: u32,
     lines: &'static [(Step, Answer)],
 }
 
-static EXAMPLES: [Example; 5] = [
+static EXAMPLES: [Example; 6] = [
     Example {
         name: "fresh guest",
         pages: 64,
+        reserved: RESERVED_PAGES,
         lines: &FRESH_GUEST,
     },
     Example {
         name: "three blocks",
         pages: 128,
+        reserved: RESERVED_PAGES,
         lines: &THREE_BLOCKS,
     },
     Example {
         name: "small blocks",
         pages: 64,
+        reserved: RESERVED_PAGES,
         lines: &SMALL_BLOCKS,
     },
     Example {
         name: "lists",
         pages: 64,
+        reserved: RESERVED_PAGES,
         lines: &LISTS,
     },
     Example {
         name: "largest guest",
-        pages: 16_384,
+        pages: 65_536,
+        reserved: RESERVED_PAGES,
         lines: &LARGEST_GUEST,
+    },
+    Example {
+        name: "eighty pages",
+        pages: 80,
+        reserved: RESERVED_PAGES_OF_TWO,
+        lines: &EIGHTY_PAGES,
     },
 ];
 
@@ -209,8 +234,8 @@ static EXAMPLES: [Example; 5] = [
 #[test]
 fn worked_examples(rt: HostRuntime) -> Result<(), Fail> {
     for example in &EXAMPLES {
-        assert!(rt; 64 <= example.pages && example.pages <= 16_384);
-        let wrong = first_wrong(rt.alloc(), example.pages, example.lines)?;
+        assert!(rt; 64 <= example.pages && example.pages <= 65_536);
+        let wrong = first_wrong(rt.alloc(), example.pages, example.reserved, example.lines)?;
         assert!(rt; wrong.is_none(), "{}", example.name);
     }
     Ok(())

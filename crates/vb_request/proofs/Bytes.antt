@@ -1,6 +1,6 @@
 -- Bytes of guest memory in a row.
 use Rattle.std.specs.Prelude.{◌≡◌, ℕ, ◌+◌, ◌-◌, ◌/◌, ◌%◌, ◌<◌, ◌≤◌, ◌⊎◌, true, false, List, [], ◌∷◌}
-use Rattle.std.specs.Prelude.{◌++◌, length, slice_index, Err, refl}
+use Rattle.std.specs.Prelude.{◌++◌, length, slice_index, Result, Ok, Err, refl, Bool, not, if◌then◌else◌}
 use Rattle.std.specs.List.{list_any}
 use Rattle.std.proofs.Common.{sym, ◌∙◌, ap, arith, get_or, take, inl, inr, length-append}
 use Rattle.std.proofs.lemmas.Bool.{cases_lt}
@@ -11,9 +11,11 @@ use Rattle.std.proofs.lemmas.List.FromFn.{get_or-map-range_with_len, length-map-
 use Rattle.std.proofs.lemmas.List.Sums.{sum_by_more}
 use Rattle.vb_ram.specs.Pages.{Pages, byte_at}
 use Rattle.vb_chain.specs.declared.pieces.Piece.{Piece}
+use Rattle.vb_chain.specs.declared.fault.ChainFault.{ChainFault}
 use Rattle.vb_chain.specs.declared.fault.ChainFault.TheVariants.{WrongDirection, BadLength}
 use Rattle.vb_request.specs.Request.{byte_of_address, bytes_from, bytes_of, total_length}
-use Rattle.vb_request.specs.Request.{is_request_length, numbers_of, pages_of_numbers, page_request}
+use Rattle.vb_request.specs.Request.{is_request_length, numbers_of, pages_of_numbers}
+use Rattle.vb_request.specs.Request.{request_length, page_request}
 
 pub bytes_from-length : (mem : Pages) (addr len : ℕ) → length (bytes_from mem addr len) ≡ len
 bytes_from-length mem addr len = length-map-range_with_len (byte_of_address mem) addr len
@@ -98,20 +100,43 @@ pieces_count mem pieces i d so_far new lt e f =
 
 -- ---- the three answers to a chain
 
-pub wrong_way : (mem : Pages) (pieces : List Piece) →
-    list_any (λ piece. piece.writable) pieces ≡ true → page_request mem pieces ≡ Err WrongDirection
-unfolding page_request
-wrong_way mem pieces e = rw e refl
+refused_before : (writes wrong : Bool) (n : ℕ) (named : Result (List ℕ) ChainFault)
+    (fault : ChainFault)
+    → (if writes then Err WrongDirection else (if wrong then Err BadLength else Ok n)) ≡ Err fault
+    → (if writes then Err WrongDirection else (if wrong then Err BadLength else named)) ≡ Err fault
+refused_before true wrong n named fault e = cc
+refused_before false true n named fault e = cc
+refused_before false false n named fault e = absurd cc
 
-pub bad_length : (mem : Pages) (pieces : List Piece) →
-    list_any (λ piece. piece.writable) pieces ≡ false →
-    is_request_length (total_length pieces) ≡ false → page_request mem pieces ≡ Err BadLength
-unfolding page_request
-bad_length mem pieces e f = rw (e, f) refl
+read_behind : (writes wrong : Bool) (n m : ℕ) (named : Result (List ℕ) ChainFault)
+    → (if writes then Err WrongDirection else (if wrong then Err BadLength else Ok n)) ≡ Ok m
+    → (if writes then Err WrongDirection else (if wrong then Err BadLength else named)) ≡ named
+read_behind true wrong n m named e = absurd cc
+read_behind false true n m named e = absurd cc
+read_behind false false n m named e = refl
 
-pub by_numbers : (mem : Pages) (pieces : List Piece) →
-    list_any (λ piece. piece.writable) pieces ≡ false →
-    is_request_length (total_length pieces) ≡ true
-    → page_request mem pieces ≡ pages_of_numbers (length mem) (numbers_of (bytes_of mem pieces))
+pub refused_request : (mem : Pages) (pieces : List Piece) (reserved : ℕ) (fault : ChainFault)
+    → request_length pieces ≡ Err fault → page_request mem pieces reserved ≡ Err fault
 unfolding page_request
-by_numbers mem pieces e f = rw (e, f) refl
+refused_request mem pieces reserved fault e =
+    refused_before (list_any (λ piece. piece.writable) pieces)
+    (not (is_request_length (total_length pieces))) (total_length pieces)
+    (pages_of_numbers reserved (length mem) (numbers_of (bytes_of mem pieces))) fault e
+
+pub read_numbers : (mem : Pages) (pieces : List Piece) (reserved total : ℕ)
+    → request_length pieces ≡ Ok total
+    → page_request mem pieces reserved
+    ≡ pages_of_numbers reserved (length mem) (numbers_of (bytes_of mem pieces))
+unfolding page_request
+read_numbers mem pieces reserved total e =
+    read_behind (list_any (λ piece. piece.writable) pieces)
+    (not (is_request_length (total_length pieces))) (total_length pieces) total
+    (pages_of_numbers reserved (length mem) (numbers_of (bytes_of mem pieces))) e
+
+pub by_numbers : (mem : Pages) (pieces : List Piece) (reserved : ℕ)
+    → list_any (λ piece. piece.writable) pieces ≡ false
+    → is_request_length (total_length pieces) ≡ true
+    → page_request mem pieces reserved
+    ≡ pages_of_numbers reserved (length mem) (numbers_of (bytes_of mem pieces))
+unfolding page_request
+by_numbers mem pieces reserved e f = rw (e, f) refl

@@ -93,13 +93,14 @@ each_once_push (m ∷ ms) n = push_step m n ms (is_in n ms) (m == n) refl refl (
 
 -- ---- faults
 
-pub first_fault-append : (count : ℕ) (xs ys : List ℕ) →
-    first_number_fault count (xs ++ ys) ≡
-    first_of_both (first_number_fault count xs) (first_number_fault count ys)
-first_fault-append count [] ys = refl
-first_fault-append count (x ∷ xs) ys =
-    ap (first_of_both (number_fault count x)) (first_fault-append count xs ys) ∙
-    assoc (number_fault count x) (first_number_fault count xs) (first_number_fault count ys)
+pub first_fault-append : (reserved count : ℕ) (xs ys : List ℕ) →
+    first_number_fault reserved count (xs ++ ys) ≡
+    first_of_both (first_number_fault reserved count xs) (first_number_fault reserved count ys)
+first_fault-append reserved count [] ys = refl
+first_fault-append reserved count (x ∷ xs) ys =
+    ap (first_of_both (number_fault reserved count x)) (first_fault-append reserved count xs ys) ∙
+    assoc (number_fault reserved count x) (first_number_fault reserved count xs)
+    (first_number_fault reserved count ys)
   where
     assoc : (a b c : Option ChainFault) →
         first_of_both a (first_of_both b c) ≡ first_of_both (first_of_both a b) c
@@ -114,26 +115,28 @@ split_at ns k lt =
     (drop-cons ns k 0 lt ∙ ap (λ j. get_or ns k 0 ∷ drop j ns) (sym (add-one k)))
 
 -- the first wrong number
-pub fault_here : (count : ℕ) (ns : List ℕ) (k number : ℕ) (fault : ChainFault) → k < length ns →
-    get_or ns k 0 ≡ number → first_number_fault count (take k ns) ≡ None →
-    number_fault count number ≡ Some fault
-    → first_number_fault count ns ≡ Some fault
-fault_here count ns k number fault lt at before here =
-    ap (first_number_fault count) (split_at ns k lt)
-    ∙ (first_fault-append count (take k ns) (get_or ns k 0 ∷ drop (k + 1) ns)
-    ∙ (ap (λ o. first_of_both o (first_number_fault count (get_or ns k 0 ∷ drop (k + 1) ns))) before
-    ∙ ap (λ o. first_of_both o (first_number_fault count (drop (k + 1) ns)))
-    (ap (number_fault count) at ∙ here)))
+pub fault_here : (reserved count : ℕ) (ns : List ℕ) (k number : ℕ) (fault : ChainFault) →
+    k < length ns → get_or ns k 0 ≡ number → first_number_fault reserved count (take k ns) ≡ None →
+    number_fault reserved count number ≡ Some fault
+    → first_number_fault reserved count ns ≡ Some fault
+fault_here reserved count ns k number fault lt at before here =
+    let rest : List ℕ = drop (k + 1) ns in
+    ap (first_number_fault reserved count) (split_at ns k lt)
+    ∙ (first_fault-append reserved count (take k ns) (get_or ns k 0 ∷ rest)
+    ∙ (ap (λ o. first_of_both o (first_number_fault reserved count (get_or ns k 0 ∷ rest))) before
+    ∙ ap (λ o. first_of_both o (first_number_fault reserved count rest))
+    (ap (number_fault reserved count) at ∙ here)))
 
 -- one more number that is right
-pub sound_more : (count : ℕ) (ns : List ℕ) (k number : ℕ) → k < length ns → get_or ns k 0 ≡ number →
-    first_number_fault count (take k ns) ≡ None → number_fault count number ≡ None
-    → first_number_fault count (take (k + 1) ns) ≡ None
-sound_more count ns k number lt at before here =
-    ap (first_number_fault count) (take_more ns k 0 lt)
-    ∙ (first_fault-append count (take k ns) (get_or ns k 0 ∷ [])
-    ∙ (ap (λ o. first_of_both o (first_number_fault count (get_or ns k 0 ∷ []))) before
-    ∙ ap (λ o. first_of_both o None) (ap (number_fault count) at ∙ here)))
+pub sound_more : (reserved count : ℕ) (ns : List ℕ) (k number : ℕ) → k < length ns →
+    get_or ns k 0 ≡ number →
+    first_number_fault reserved count (take k ns) ≡ None → number_fault reserved count number ≡ None
+    → first_number_fault reserved count (take (k + 1) ns) ≡ None
+sound_more reserved count ns k number lt at before here =
+    ap (first_number_fault reserved count) (take_more ns k 0 lt)
+    ∙ (first_fault-append reserved count (take k ns) (get_or ns k 0 ∷ [])
+    ∙ (ap (λ o. first_of_both o (first_number_fault reserved count (get_or ns k 0 ∷ []))) before
+    ∙ ap (λ o. first_of_both o None) (ap (number_fault reserved count) at ∙ here)))
 
 -- one more number, put behind the others where it is new
 pub once_more : (ns pages new : List ℕ) (k number : ℕ) → k < length ns → get_or ns k 0 ≡ number →

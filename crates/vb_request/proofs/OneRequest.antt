@@ -75,17 +75,17 @@ no_fault true c e f = absurd cc
 no_fault false true e f = absurd cc
 no_fault false false e f = refl
 
-right : (count n : ℕ) → n < count → 16 ≤ n → number_fault count n ≡ None
-right count n lt above =
-    no_fault (nat_le count n) (nat_lt n 16) (lt-leb count n lt) (le-ltb n 16 above)
+right : (reserved count n : ℕ) → n < count → reserved ≤ n → number_fault reserved count n ≡ None
+right reserved count n lt above =
+    no_fault (nat_le count n) (nat_lt n reserved) (lt-leb count n lt) (le-ltb n reserved above)
 
-all_right : (count : ℕ) (ns : List ℕ) → All (λ n. n < count) ns → All (λ n. 16 ≤ n) ns →
-    first_number_fault count ns ≡ None
-all_right count [] below above = refl
-all_right count (n ∷ ns) below above =
-    ap (λ o. first_of_both o (first_number_fault count ns))
-    (right count n (below 0 n (omega arith)) (above 0 n (omega arith)))
-    ∙ all_right count ns (λ k d l. below (suc k) d (omega arith))
+all_right : (reserved count : ℕ) (ns : List ℕ) → All (λ n. n < count) ns
+    → All (λ n. reserved ≤ n) ns → first_number_fault reserved count ns ≡ None
+all_right reserved count [] below above = refl
+all_right reserved count (n ∷ ns) below above =
+    ap (λ o. first_of_both o (first_number_fault reserved count ns))
+    (right reserved count n (below 0 n (omega arith)) (above 0 n (omega arith)))
+    ∙ all_right reserved count ns (λ k d l. below (suc k) d (omega arith))
     (λ k d l. above (suc k) d (omega arith))
 
 true_false : true ≡ false → ⊥
@@ -108,7 +108,7 @@ without_apart : (n : ℕ) (xs : List ℕ) → is_in n xs ≡ false → filter (�
 without_apart n [] e = refl
 without_apart n (x ∷ xs) e = apart_step x n xs (x == n) refl e (without_apart n xs)
 
-once_distinct : (ns : List ℕ) → AllDistinct ns → each_once ns ≡ ns
+pub once_distinct : (ns : List ℕ) → AllDistinct ns → each_once ns ≡ ns
 once_distinct [] d = refl
 once_distinct (n ∷ ns) d =
     ap (λ xs. n ∷ filter (λ m. not (m == n)) xs) (once_distinct ns d.1) ∙
@@ -126,17 +126,17 @@ length_right n some few =
 
 -- A readable piece whose numbers are distinct unreserved pages of the guest is a request for these
 -- pages.
-pub one_request : (mem : Pages) (piece : Piece) (p o : ℕ) (pages : List ℕ) →
-    IsRequestPiece mem piece p o pages → ArePages (length mem) pages →
-    page_request mem (piece ∷ []) ≡ Ok pages
-one_request mem piece p o pages r fine =
+pub one_request : (mem : Pages) (piece : Piece) (p o reserved : ℕ) (pages : List ℕ) →
+    IsRequestPiece mem piece p o pages → ArePages reserved (length mem) pages →
+    page_request mem (piece ∷ []) reserved ≡ Ok pages
+one_request mem piece p o reserved pages r fine =
     let total : total_length (piece ∷ []) ≡ 4 * length pages =
     omega (arith, r.len, total_is piece) in
-    by_numbers mem (piece ∷ []) (ap (λ b. b || false) r.readable)
+    by_numbers mem (piece ∷ []) reserved (ap (λ b. b || false) r.readable)
     (ap is_request_length total ∙ length_right (length pages) r.some r.few)
-    ∙ (ap (pages_of_numbers (length mem)) (numbers_are mem piece p o pages r)
+    ∙ (ap (pages_of_numbers reserved (length mem)) (numbers_are mem piece p o pages r)
     ∙ (ap (λ (f : Option ChainFault). unless_fault f (each_once pages))
-    (all_right (length mem) pages fine.below fine.above)
+    (all_right reserved (length mem) pages fine.below fine.above)
     ∙ ap (λ (ns : List ℕ). Ok ns) (once_distinct pages fine.distinct)))
   where
     total_is : (piece : Piece) → total_length (piece ∷ []) ≡ piece.len

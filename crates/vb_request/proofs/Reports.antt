@@ -81,12 +81,13 @@ page_here pieces i k rest d lt at inside =
 
 -- ---- faults
 
-pub first_fault-append : (xs ys : List Piece) →
-    first_piece_fault (xs ++ ys) ≡ first_of_both (first_piece_fault xs) (first_piece_fault ys)
-first_fault-append [] ys = refl
-first_fault-append (x ∷ xs) ys =
-    ap (first_of_both (piece_fault x)) (first_fault-append xs ys) ∙
-    assoc (piece_fault x) (first_piece_fault xs) (first_piece_fault ys)
+pub first_fault-append : (reserved : ℕ) (xs ys : List Piece)
+    → first_piece_fault reserved (xs ++ ys)
+    ≡ first_of_both (first_piece_fault reserved xs) (first_piece_fault reserved ys)
+first_fault-append reserved [] ys = refl
+first_fault-append reserved (x ∷ xs) ys =
+    ap (first_of_both (piece_fault reserved x)) (first_fault-append reserved xs ys)
+    ∙ assoc (piece_fault reserved x) (first_piece_fault reserved xs) (first_piece_fault reserved ys)
   where
     assoc : (a b c : Option ChainFault) →
         first_of_both a (first_of_both b c) ≡ first_of_both (first_of_both a b) c
@@ -94,41 +95,47 @@ first_fault-append (x ∷ xs) ys =
     assoc (Some f) b c = refl
 
 -- the first wrong piece
-pub fault_here : (pieces : List Piece) (i : ℕ) (d : Piece) (fault : ChainFault) → i < length pieces →
-    first_piece_fault (take i pieces) ≡ None → piece_fault (get_or pieces i d) ≡ Some fault →
-    first_piece_fault pieces ≡ Some fault
-fault_here pieces i d fault lt before here =
-    ap first_piece_fault (split_at pieces i d lt)
-    ∙ (first_fault-append (take i pieces) (get_or pieces i d ∷ drop (i + 1) pieces)
-    ∙ (ap (λ o. first_of_both o (first_piece_fault (get_or pieces i d ∷ drop (i + 1) pieces))) before
-    ∙ ap (λ o. first_of_both o (first_piece_fault (drop (i + 1) pieces))) here))
+pub fault_here : (reserved : ℕ) (pieces : List Piece) (i : ℕ) (d : Piece) (fault : ChainFault)
+    → i < length pieces → first_piece_fault reserved (take i pieces) ≡ None
+    → piece_fault reserved (get_or pieces i d) ≡ Some fault
+    → first_piece_fault reserved pieces ≡ Some fault
+fault_here reserved pieces i d fault lt before here =
+    let rest : List Piece = drop (i + 1) pieces in
+    ap (first_piece_fault reserved) (split_at pieces i d lt)
+    ∙ (first_fault-append reserved (take i pieces) (get_or pieces i d ∷ rest)
+    ∙ (ap (λ o. first_of_both o (first_piece_fault reserved (get_or pieces i d ∷ rest))) before
+    ∙ ap (λ o. first_of_both o (first_piece_fault reserved rest)) here))
 
 -- one more piece that is right
-pub sound_more : (pieces : List Piece) (i : ℕ) (d : Piece) → i < length pieces →
-    first_piece_fault (take i pieces) ≡ None → piece_fault (get_or pieces i d) ≡ None →
-    first_piece_fault (take (i + 1) pieces) ≡ None
-sound_more pieces i d lt before here =
-    ap first_piece_fault (take_more pieces i d lt)
-    ∙ (first_fault-append (take i pieces) (get_or pieces i d ∷ [])
-    ∙ (ap (λ o. first_of_both o (first_piece_fault (get_or pieces i d ∷ []))) before
+pub sound_more : (reserved : ℕ) (pieces : List Piece) (i : ℕ) (d : Piece) → i < length pieces
+    → first_piece_fault reserved (take i pieces) ≡ None
+    → piece_fault reserved (get_or pieces i d) ≡ None
+    → first_piece_fault reserved (take (i + 1) pieces) ≡ None
+sound_more reserved pieces i d lt before here =
+    ap (first_piece_fault reserved) (take_more pieces i d lt)
+    ∙ (first_fault-append reserved (take i pieces) (get_or pieces i d ∷ [])
+    ∙ (ap (λ o. first_of_both o (first_piece_fault reserved (get_or pieces i d ∷ []))) before
     ∙ ap (λ o. first_of_both o None) here))
 
 -- ---- the answers to a chain
 
-pub wrong_way : (pieces : List Piece) → list_any (λ piece. not piece.writable) pieces ≡ true →
-    report_request pieces ≡ Err WrongDirection
-wrong_way pieces e = rw e refl
+pub wrong_way : (reserved : ℕ) (pieces : List Piece)
+    → list_any (λ piece. not piece.writable) pieces ≡ true
+    → report_request pieces reserved ≡ Err WrongDirection
+wrong_way reserved pieces e = rw e refl
 
-pub wrong_length : (pieces : List Piece) (bad : Bool) →
-    list_any (λ piece. not piece.writable) pieces ≡ false →
-    (nat_lt 32 (length pieces) || list_any has_bad_length pieces) ≡ true →
-    report_request pieces ≡ Err BadLength
-wrong_length pieces bad e f = rw (e, f) refl
+pub wrong_length : (reserved : ℕ) (pieces : List Piece) (bad : Bool)
+    → list_any (λ piece. not piece.writable) pieces ≡ false
+    → (nat_lt 32 (length pieces) || list_any has_bad_length pieces) ≡ true
+    → report_request pieces reserved ≡ Err BadLength
+wrong_length reserved pieces bad e f = rw (e, f) refl
 
-pub by_pieces : (pieces : List Piece) → list_any (λ piece. not piece.writable) pieces ≡ false →
-    (nat_lt 32 (length pieces) || list_any has_bad_length pieces) ≡ false →
-    report_request pieces ≡ unless_fault (first_piece_fault pieces) (pages_of_pieces pieces)
-by_pieces pieces e f = rw (e, f) refl
+pub by_pieces : (reserved : ℕ) (pieces : List Piece)
+    → list_any (λ piece. not piece.writable) pieces ≡ false
+    → (nat_lt 32 (length pieces) || list_any has_bad_length pieces) ≡ false
+    → report_request pieces reserved
+    ≡ unless_fault (first_piece_fault reserved pieces) (pages_of_pieces pieces)
+by_pieces reserved pieces e f = rw (e, f) refl
 
 -- ---- reserved pages
 
@@ -142,23 +149,24 @@ second_no true b e = absurd cc
 second_no false true e = absurd cc
 second_no false false e = refl
 
-from_on : (first n : ℕ) → 16 ≤ first → (k d : ℕ) → k < length (range_with_len first n) →
-    16 ≤ slice_index_or (range_with_len first n) k d
-from_on first n le k d lt =
+from_on : (reserved first n : ℕ) → reserved ≤ first → (k d : ℕ)
+    → k < length (range_with_len first n) → reserved ≤ slice_index_or (range_with_len first n) k d
+from_on reserved first n le k d lt =
     let at : get_or (range_with_len first n) k d ≡ first + k =
     get_or-range_with_len first n k d (omega (arith, lt, length-range_with_len first n)) in
     omega (arith, at, le)
 
-pub above_reserved : (pieces : List Piece) → first_piece_fault pieces ≡ None →
-    All (λ page. 16 ≤ page) (pages_of_pieces pieces)
-above_reserved [] e = λ k d lt. absurd (omega (arith, lt))
-above_reserved (x ∷ xs) e =
-    let both = none_of_both (piece_fault x) (first_piece_fault xs) e in
-    let le : 16 ≤ x.addr / 4096 =
-    ltb-false (x.addr / 4096) 16
-    (second_no (not (x.addr % 4096 == 0)) (nat_lt (x.addr / 4096) 16) both.0) in
-    All-append (λ page. 16 ≤ page) (pages_of_piece x) (pages_of_pieces xs)
-    (from_on (x.addr / 4096) (x.len / 4096) le) (above_reserved xs both.1)
+pub above_reserved : (reserved : ℕ) (pieces : List Piece)
+    → first_piece_fault reserved pieces ≡ None
+    → All (λ page. reserved ≤ page) (pages_of_pieces pieces)
+above_reserved reserved [] e = λ k d lt. absurd (omega (arith, lt))
+above_reserved reserved (x ∷ xs) e =
+    let both = none_of_both (piece_fault reserved x) (first_piece_fault reserved xs) e in
+    let le : reserved ≤ x.addr / 4096 =
+    ltb-false (x.addr / 4096) reserved
+    (second_no (not (x.addr % 4096 == 0)) (nat_lt (x.addr / 4096) reserved) both.0) in
+    All-append (λ page. reserved ≤ page) (pages_of_piece x) (pages_of_pieces xs)
+    (from_on reserved (x.addr / 4096) (x.len / 4096) le) (above_reserved reserved xs both.1)
 
 -- ---- pages of the guest
 
@@ -185,24 +193,25 @@ ok_of : (o : Option ChainFault) (ns pages : List ℕ) → unless_fault o ns ≡ 
 ok_of None ns pages e = (refl, cc)
 ok_of (Some f) ns pages e = absurd cc
 
-by_tests : (pieces : List Piece) (a b : Bool) (pages : List ℕ) →
-    (if a then Err WrongDirection else (if b then Err BadLength
-    else unless_fault (first_piece_fault pieces) (pages_of_pieces pieces))) ≡ Ok pages →
-    (first_piece_fault pieces ≡ None) × (pages_of_pieces pieces ≡ pages)
-by_tests pieces true b pages e = absurd cc
-by_tests pieces false true pages e = absurd cc
-by_tests pieces false false pages e =
-    ok_of (first_piece_fault pieces) (pages_of_pieces pieces) pages e
+by_tests : (reserved : ℕ) (pieces : List Piece) (a b : Bool) (pages : List ℕ)
+    → (if a then Err WrongDirection else (if b then Err BadLength
+    else unless_fault (first_piece_fault reserved pieces) (pages_of_pieces pieces))) ≡ Ok pages
+    → (first_piece_fault reserved pieces ≡ None) × (pages_of_pieces pieces ≡ pages)
+by_tests reserved pieces true b pages e = absurd cc
+by_tests reserved pieces false true pages e = absurd cc
+by_tests reserved pieces false false pages e =
+    ok_of (first_piece_fault reserved pieces) (pages_of_pieces pieces) pages e
 
 -- What a report names.
-pub report_pages : (count : ℕ) (pieces : List Piece) (pages : List ℕ) →
-    All (λ piece. piece.addr + piece.len ≤ 4096 * count) pieces →
-    report_request pieces ≡ Ok pages
-    → All (λ page. 16 ≤ page) pages × All (λ page. page < count) pages
-report_pages count pieces pages inside e =
-    let both = by_tests pieces (list_any (λ piece. not piece.writable) pieces)
+pub report_pages : (count : ℕ) (pieces : List Piece) (reserved : ℕ) (pages : List ℕ)
+    → All (λ piece. piece.addr + piece.len ≤ 4096 * count) pieces
+    → report_request pieces reserved ≡ Ok pages
+    → All (λ page. reserved ≤ page) pages × All (λ page. page < count) pages
+report_pages count pieces reserved pages inside e =
+    let both = by_tests reserved pieces (list_any (λ piece. not piece.writable) pieces)
     (nat_lt 32 (length pieces) || list_any has_bad_length pieces) pages e in (
-      subst (λ (xs : List ℕ). All (λ page. 16 ≤ page) xs) both.1 (above_reserved pieces both.0),
+      subst (λ (xs : List ℕ). All (λ page. reserved ≤ page) xs) both.1
+          (above_reserved reserved pieces both.0),
       subst (λ (xs : List ℕ). All (λ page. page < count) xs) both.1
           (pages_below count pieces inside),
     )

@@ -40,18 +40,22 @@ all_cons : (P : ℕ → Type 0) (x : ℕ) (xs : List ℕ) → P x → All P xs �
 all_cons P x xs here rest zero d lt = here
 all_cons P x xs here rest (suc k) d lt = rest k d (omega arith)
 
-right_above : (count n : ℕ) → number_fault count n ≡ None → 16 ≤ n
-right_above count n e = ltb-false n 16 (neither (nat_le count n) (nat_lt n 16) e).1
+right_above : (reserved count n : ℕ) → number_fault reserved count n ≡ None → reserved ≤ n
+right_above reserved count n e =
+    ltb-false n reserved (neither (nat_le count n) (nat_lt n reserved) e).1
 
-right_below : (count n : ℕ) → number_fault count n ≡ None → n < count
-right_below count n e = leb-false count n (neither (nat_le count n) (nat_lt n 16) e).0
+right_below : (reserved count n : ℕ) → number_fault reserved count n ≡ None → n < count
+right_below reserved count n e =
+    leb-false count n (neither (nat_le count n) (nat_lt n reserved) e).0
 
-each_right : (count : ℕ) (ns : List ℕ) → first_number_fault count ns ≡ None →
-    All (λ n. number_fault count n ≡ None) ns
-each_right count [] e = λ k d lt. absurd (omega arith)
-each_right count (n ∷ ns) e =
-    let both = none_of_both (number_fault count n) (first_number_fault count ns) e in
-    all_cons (λ m. number_fault count m ≡ None) n ns both.0 (each_right count ns both.1)
+each_right : (reserved count : ℕ) (ns : List ℕ) → first_number_fault reserved count ns ≡ None
+    → All (λ n. number_fault reserved count n ≡ None) ns
+each_right reserved count [] e = λ k d lt. absurd (omega arith)
+each_right reserved count (n ∷ ns) e =
+    let both =
+    none_of_both (number_fault reserved count n) (first_number_fault reserved count ns) e in
+    all_cons (λ m. number_fault reserved count m ≡ None) n ns both.0
+    (each_right reserved count ns both.1)
 
 pub once_all : (P : ℕ → Type 0) (ns : List ℕ) → All P ns → All P (each_once ns)
 once_all P [] all = λ k d lt. absurd (omega arith)
@@ -117,33 +121,34 @@ once_distinct (n ∷ ns) = (
 )
 
 -- What the numbers of a request are.
-pub numbers_are_pages : (count : ℕ) (ns pages : List ℕ) → pages_of_numbers count ns ≡ Ok pages →
-    ArePages count pages
-numbers_are_pages count ns pages e =
-    let both = unless_ok (first_number_fault count ns) (each_once ns) pages e in
+pub numbers_are_pages : (reserved count : ℕ) (ns pages : List ℕ)
+    → pages_of_numbers reserved count ns ≡ Ok pages → ArePages reserved count pages
+numbers_are_pages reserved count ns pages e =
+    let both = unless_ok (first_number_fault reserved count ns) (each_once ns) pages e in
     record {
-      above = subst (λ (xs : List ℕ). All (λ page. 16 ≤ page) xs) both.1
-          (once_all (λ page. 16 ≤ page) ns
-          (λ k d lt. right_above count (slice_index_or ns k d)
-          (each_right count ns both.0 k d lt)));
+      above = subst (λ (xs : List ℕ). All (λ page. reserved ≤ page) xs) both.1
+          (once_all (λ page. reserved ≤ page) ns
+          (λ k d lt. right_above reserved count (slice_index_or ns k d)
+          (each_right reserved count ns both.0 k d lt)));
       below = subst (λ (xs : List ℕ). All (λ page. page < count) xs) both.1
           (once_all (λ page. page < count) ns
-          (λ k d lt. right_below count (slice_index_or ns k d)
-          (each_right count ns both.0 k d lt)));
+          (λ k d lt. right_below reserved count (slice_index_or ns k d)
+          (each_right reserved count ns both.0 k d lt)));
       distinct = subst AllDistinct both.1 (once_distinct ns);
     }
 
-pages_step : (count : ℕ) (ns pages : List ℕ) (b c : Bool) →
-    (if b then Err WrongDirection else (if c then Err BadLength else pages_of_numbers count ns)) ≡
-    Ok pages → ArePages count pages
-pages_step count ns pages true c e = absurd cc
-pages_step count ns pages false true e = absurd cc
-pages_step count ns pages false false e = numbers_are_pages count ns pages e
+pages_step : (reserved count : ℕ) (ns pages : List ℕ) (b c : Bool)
+    → (if b then Err WrongDirection
+    else (if c then Err BadLength else pages_of_numbers reserved count ns)) ≡ Ok pages
+    → ArePages reserved count pages
+pages_step reserved count ns pages true c e = absurd cc
+pages_step reserved count ns pages false true e = absurd cc
+pages_step reserved count ns pages false false e = numbers_are_pages reserved count ns pages e
 
 -- A request names pages of the guest that aren't reserved, each once, whatever the bytes are.
-pub request_pages : (mem : Pages) (pieces : List Piece) (pages : List ℕ) →
-    page_request mem pieces ≡ Ok pages → ArePages (length mem) pages
+pub request_pages : (mem : Pages) (pieces : List Piece) (reserved : ℕ) (pages : List ℕ)
+    → page_request mem pieces reserved ≡ Ok pages → ArePages reserved (length mem) pages
 unfolding page_request
-request_pages mem pieces pages e =
-    pages_step (length mem) (numbers_of (bytes_of mem pieces)) pages
+request_pages mem pieces reserved pages e =
+    pages_step reserved (length mem) (numbers_of (bytes_of mem pieces)) pages
     (list_any (λ piece. piece.writable) pieces) (not (is_request_length (total_length pieces))) e

@@ -5,7 +5,7 @@ use Rattle.std.specs.Prelude.{List, [], ◌∷◌, length, slice_get}
 use Rattle.std.specs.Prelude.{if◌then◌else◌, Option, Some, None, Result, Err, MatchOption}
 use Rattle.std.specs.List.{list_any, flat_map, range_with_len}
 use Rattle.vb_model.specs.declared.limits.TheConstants.{MAX_REPORT_PIECES}
-use Rattle.vb_model.specs.Limits.{page_size, reserved_pages}
+use Rattle.vb_model.specs.Limits.{page_size}
 use Rattle.vb_chain.specs.declared.pieces.Piece.{Piece}
 use Rattle.vb_chain.specs.declared.fault.ChainFault.{ChainFault}
 use Rattle.vb_chain.specs.declared.fault.ChainFault.TheVariants.{WrongDirection, BadLength, BadPage}
@@ -25,24 +25,26 @@ pages_of_pieces pieces = flat_map pages_of_piece pieces
 abbrev pub has_bad_length : Piece → Bool
 has_bad_length piece = (piece.len == 0) || not (piece.len % page_size == 0)
 
--- What is wrong with where a piece begins.
-abbrev pub piece_fault : Piece → Option ChainFault
-piece_fault piece =
+-- What is wrong with where a piece begins, where so many pages are reserved.
+abbrev pub piece_fault : ℕ → Piece → Option ChainFault
+piece_fault reserved piece =
     if not (piece.addr % page_size == 0) then Some BadPage
-    else (if nat_lt (piece.addr / page_size) reserved_pages then Some ReservedPage else None)
+    else (if nat_lt (piece.addr / page_size) reserved then Some ReservedPage else None)
 
 -- What is wrong with the first wrong piece.
-abbrev pub first_piece_fault : List Piece → Option ChainFault
-first_piece_fault [] = None
-first_piece_fault (piece ∷ pieces) = first_of_both (piece_fault piece) (first_piece_fault pieces)
+abbrev pub first_piece_fault : ℕ → List Piece → Option ChainFault
+first_piece_fault reserved [] = None
+first_piece_fault reserved (piece ∷ pieces) =
+    first_of_both (piece_fault reserved piece) (first_piece_fault reserved pieces)
 
--- The pages that a chain of these pieces names, or what is wrong with it.
-abbrev pub report_request : List Piece → Result (List ℕ) ChainFault
-report_request pieces =
+-- The pages that a chain of these pieces names, or what is wrong with it, where so many pages are
+-- reserved.
+abbrev pub report_request : List Piece → ℕ → Result (List ℕ) ChainFault
+report_request pieces reserved =
     if list_any (λ piece. not piece.writable) pieces then Err WrongDirection
     else (if nat_lt MAX_REPORT_PIECES (length pieces) || list_any has_bad_length pieces
     then Err BadLength
-    else unless_fault (first_piece_fault pieces) (pages_of_pieces pieces))
+    else unless_fault (first_piece_fault reserved pieces) (pages_of_pieces pieces))
 
 -- These pages have the run's numbers from its place on.
 pub record IsRun (pages : List ℕ) (run : NamedRun) : Type 0 where

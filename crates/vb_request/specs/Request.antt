@@ -7,7 +7,7 @@ use Rattle.std.specs.List.{list_any, flat_map, range_with_len, sum_by}
 use Rattle.std.specs.Int.{w32, from_le_bytes}
 use Rattle.vb_model.specs.declared.layout.TheConstants.{REQUEST_BUFFER_SIZE}
 use Rattle.vb_model.specs.Driver.{AllDistinct}
-use Rattle.vb_model.specs.Limits.{page_size, reserved_pages, max_request_pages}
+use Rattle.vb_model.specs.Limits.{page_size, max_request_pages}
 use Rattle.vb_ram.specs.Pages.{Pages, byte_at, field}
 use Rattle.vb_chain.specs.declared.pieces.Piece.{Piece}
 use Rattle.vb_chain.specs.declared.fault.ChainFault.{ChainFault}
@@ -51,11 +51,19 @@ each_once (n ∷ ns) = n ∷ filter (λ m. not (m == n)) (each_once ns)
 abbrev pub is_request_length : ℕ → Bool
 is_request_length len = nat_lt 0 len && (nat_le len REQUEST_BUFFER_SIZE && (len % 4 == 0))
 
--- What is wrong with a page number, where memory has so many pages.
-abbrev pub number_fault : ℕ → ℕ → Option ChainFault
-number_fault count number =
+-- How many bytes a request of these pieces has, or what is wrong with them.
+abbrev pub request_length : List Piece → Result ℕ ChainFault
+request_length pieces =
+    if list_any (λ piece. piece.writable) pieces then Err WrongDirection
+    else (if not (is_request_length (total_length pieces)) then Err BadLength
+    else Ok (total_length pieces))
+
+-- What is wrong with a page number, where memory has so many pages, of which the first ones are
+-- reserved.
+abbrev pub number_fault : ℕ → ℕ → ℕ → Option ChainFault
+number_fault reserved count number =
     if nat_le count number then Some BadPage
-    else (if nat_lt number reserved_pages then Some ReservedPage else None)
+    else (if nat_lt number reserved then Some ReservedPage else None)
 
 -- One fault before another.
 abbrev pub first_of_both : Option ChainFault → Option ChainFault → Option ChainFault
@@ -63,10 +71,10 @@ first_of_both None second = second
 first_of_both (Some fault) second = Some fault
 
 -- What is wrong with the first wrong number.
-abbrev pub first_number_fault : ℕ → List ℕ → Option ChainFault
-first_number_fault count [] = None
-first_number_fault count (n ∷ ns) =
-    first_of_both (number_fault count n) (first_number_fault count ns)
+abbrev pub first_number_fault : ℕ → ℕ → List ℕ → Option ChainFault
+first_number_fault reserved count [] = None
+first_number_fault reserved count (n ∷ ns) =
+    first_of_both (number_fault reserved count n) (first_number_fault reserved count ns)
 
 -- ---- the request
 
@@ -75,21 +83,23 @@ abbrev pub unless_fault : Option ChainFault → List ℕ → Result (List ℕ) C
 unless_fault None pages = Ok pages
 unless_fault (Some fault) pages = Err fault
 
-abbrev pub pages_of_numbers : ℕ → List ℕ → Result (List ℕ) ChainFault
-pages_of_numbers count numbers = unless_fault (first_number_fault count numbers) (each_once numbers)
+abbrev pub pages_of_numbers : ℕ → ℕ → List ℕ → Result (List ℕ) ChainFault
+pages_of_numbers reserved count numbers =
+    unless_fault (first_number_fault reserved count numbers) (each_once numbers)
 
--- The pages that a chain of these pieces names, or what is wrong with it.
-unfoldable pub page_request : Pages → List Piece → Result (List ℕ) ChainFault
-page_request mem pieces =
+-- The pages that a chain of these pieces names, or what is wrong with it, where so many pages are
+-- reserved.
+unfoldable pub page_request : Pages → List Piece → ℕ → Result (List ℕ) ChainFault
+page_request mem pieces reserved =
     if list_any (λ piece. piece.writable) pieces then Err WrongDirection
     else (if not (is_request_length (total_length pieces)) then Err BadLength
-    else pages_of_numbers (length mem) (numbers_of (bytes_of mem pieces)))
+    else pages_of_numbers reserved (length mem) (numbers_of (bytes_of mem pieces)))
 
 -- ---- what a request names, and as a driver writes one
 
--- Pages that a request of a guest of so many pages may name.
-pub record ArePages (count : ℕ) (pages : List ℕ) : Type 0 where
-  pub above : All (λ page. reserved_pages ≤ page) pages
+-- Pages that a request of a guest of so many pages may name, of which the first ones are reserved.
+pub record ArePages (reserved count : ℕ) (pages : List ℕ) : Type 0 where
+  pub above : All (λ page. reserved ≤ page) pages
   pub below : All (λ page. page < count) pages
   pub distinct : AllDistinct pages
 

@@ -48,6 +48,13 @@ statistics_in mem pieces = record {
 abbrev pub is_statistics_length : ℕ → Bool
 is_statistics_length len = nat_le len MAX_STATISTICS_LENGTH && (len % STATISTIC_SIZE == 0)
 
+-- How many bytes a buffer of statistics of these pieces has, or what is wrong with them.
+abbrev pub statistics_length : List Piece → Result ℕ ChainFault
+statistics_length pieces =
+    if list_any (λ piece. piece.writable) pieces then Err WrongDirection
+    else (if not (is_statistics_length (total_length pieces)) then Err BadLength
+    else Ok (total_length pieces))
+
 -- A buffer of statistics names no pages; or what is wrong with it.
 abbrev pub statistics_request : List Piece → Result (List ℕ) ChainFault
 statistics_request pieces =

@@ -1,7 +1,7 @@
 //! The pages that a chain names.
 
 ghost use Rattle.std.specs.Prelude.{◌≡◌, ◌≤◌, ◌+◌, ◌*◌, ◌^◌, [], All, length, slice_get};
-ghost use Rattle.vb_model.specs.Limits.{page_size, reserved_pages};
+ghost use Rattle.vb_model.specs.Limits.{page_size};
 ghost use Rattle.vb_request.specs.Report.{pages_of_pieces, RunsFrom};
 
 use crate::report::{count_pages, run_at};
@@ -65,10 +65,10 @@ pub(crate) enum Kept {
     Pieces(ReportPieces),
 }
 
-/// The pages that a chain names, in order; none of them is reserved.
+/// The pages that a chain names, in order.
 ///
 /// A request lists them, each once, at most 256. Of a report the pieces are kept, at most 32, and
-/// no list of pages, which a guest could make 500,000 long; a page may stand in several pieces.
+/// no list of pages, which a guest could make 2,000,000 long; a page may stand in several pieces.
 #[derive(Drop)]
 pub struct NamedPages {
     /// One or the other.
@@ -77,7 +77,7 @@ pub struct NamedPages {
 
 impl Model for NamedPages {
     ghost use Rattle.std.specs.Prelude.{◌+◌, ◌*◌, ◌^◌, ◌≤◌, ℕ, List, All};
-    ghost use Rattle.vb_model.specs.Limits.{page_size, reserved_pages};
+    ghost use Rattle.vb_model.specs.Limits.{page_size};
     ghost use Rattle.vb_request.specs.Kept.{kept_pages, kept_pieces};
 
     ghost Value = { List ℕ };
@@ -85,7 +85,6 @@ impl Model for NamedPages {
     ghost view = { λ s. kept_pages s.kept };
 
     ghost invariant = { λ s.
-        All (λ page. reserved_pages ≤ page) (kept_pages s.kept) ×
         All (λ piece. piece.addr + piece.len ≤ page_size * 2 ^ 32) (kept_pieces s.kept) };
 }
 
@@ -101,7 +100,6 @@ impl NamedPages {
 
     /// These pages.
     pub(crate) fn of_list(listed: RequestPages) -> NamedPages
-        requires { All (λ page. reserved_pages ≤ page) listed.items }
         ensures { result ≡ listed.items }
     {
         NamedPages {
@@ -111,9 +109,7 @@ impl NamedPages {
 
     /// The pages of these pieces.
     pub(crate) fn of_pieces(pieces: ReportPieces) -> NamedPages
-        requires above { All (λ page. reserved_pages ≤ page) (pages_of_pieces pieces.items) }
-        requires inside { All
-            (λ piece. piece.addr + piece.len ≤ page_size * 2 ^ 32) pieces.items }
+        requires { All (λ piece. piece.addr + piece.len ≤ page_size * 2 ^ 32) pieces.items }
         ensures { result ≡ pages_of_pieces pieces.items }
     {
         NamedPages {
@@ -123,8 +119,7 @@ impl NamedPages {
 
     /// How many there are; a page that a report names again counts again.
     pub fn count(&self) -> u32
-        ensures count { result ≡ length self.now }
-        ensures above { All (λ page. reserved_pages ≤ page) self.now }
+        ensures { result ≡ length self.now }
     {
         match &self.kept {
             Kept::Listed(listed) => listed.len() as u32,

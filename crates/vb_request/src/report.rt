@@ -1,7 +1,7 @@
 //! The pages of a report: a chain of the queue of reports (profile).
 
 ghost use Rattle.std.specs.Prelude.{◌≡◌, ◌+◌, ◌*◌, ◌<◌, ◌≤◌, ◌^◌, not, All, MatchResult, Ok, Err};
-ghost use Rattle.std.specs.Prelude.{length};
+ghost use Rattle.std.specs.Prelude.{IfOk, OnOk, length};
 ghost use Rattle.std.specs.List.{list_any};
 ghost use Rattle.vb_model.specs.declared.limits.TheConstants.{MAX_REPORT_PIECES};
 ghost use Rattle.vb_model.specs.Limits.{page_size};
@@ -13,13 +13,13 @@ use crate::NamedPages;
 use crate::named::{MAX_PIECES, NamedRun, ReportPieces};
 use arrayvec::ArrayVec;
 use vb_chain::{ChainFault, Piece};
-use vb_model::limits::{PAGE_SIZE, RESERVED_PAGES};
+use vb_model::limits::PAGE_SIZE;
 
 /// Bytes of a page.
 const PAGE_BYTES: u64 = PAGE_SIZE as u64;
 
-/// How many pages the pieces have together; a page that is named again counts again.
-pub(crate) fn count_pages(pieces: &[Piece]) -> u32
+/// How many pages the pieces of a report have together; a page that is named again counts again.
+pub fn count_pages(pieces: &[Piece]) -> u32
     requires { length pieces.now ≤ MAX_REPORT_PIECES }
     ensures value { result ≡ length (pages_of_pieces pieces.now) }
     ensures few { result ≤ MAX_REPORT_PIECES * 1048576 }
@@ -68,13 +68,13 @@ fn has_wrong_length(pieces: &[Piece]) -> bool
         .any(|piece| piece.len == 0 || piece.len % PAGE_SIZE != 0)
 }
 
-/// What is wrong with where a piece begins.
-fn fault_of_piece(piece: &Piece) -> Option<ChainFault>
-    ensures { result ≡ piece_fault piece.now }
+/// What is wrong with where a piece begins, where the first `reserved` pages are reserved.
+fn fault_of_piece(piece: &Piece, reserved: u32) -> Option<ChainFault>
+    ensures { result ≡ piece_fault reserved piece.now }
 {
     if piece.addr % PAGE_BYTES != 0 {
         Some(ChainFault::BadPage)
-    } else if piece.addr / PAGE_BYTES < u64::from(RESERVED_PAGES) {
+    } else if piece.addr / PAGE_BYTES < u64::from(reserved) {
         Some(ChainFault::ReservedPage)
     } else {
         None
@@ -82,31 +82,30 @@ fn fault_of_piece(piece: &Piece) -> Option<ChainFault>
 }
 
 /// What is wrong with the first wrong piece.
-fn fault_of_first(pieces: &[Piece]) -> Option<ChainFault>
-    ensures { result ≡ first_piece_fault pieces.now }
+fn fault_of_first(pieces: &[Piece], reserved: u32) -> Option<ChainFault>
+    ensures { result ≡ first_piece_fault reserved pieces.now }
 {
     for piece in pieces {
-        if let Some(fault) = fault_of_piece(piece) {
+        if let Some(fault) = fault_of_piece(piece, reserved) {
             return Some(fault);
         }
     }
     None
 }
 
-/// The pages that a chain of these pieces names on the queue of reports: those of each piece in
-/// turn, rising; a page that is named again stands there again.
-///
-/// The pieces lie in a guest's memory, as those of a chain do that `vb_chain::walk` gives: no page
-/// has a number of 2^32 or more. Refused, tested in this order:
+/// Tests a chain of these pieces on the queue of reports, where the first `reserved` pages are
+/// reserved. Refused, tested in this order:
 ///
 /// - `WrongDirection` where a piece is the device's to read;
 /// - `BadLength` where there are more than 32 pieces, or one isn't some whole pages long;
 /// - for the first piece that is wrong, `BadPage` where it doesn't begin where a page does, and
 ///   `ReservedPage` where it begins with a reserved page.
-pub fn read_report(pieces: &[Piece]) -> Result<NamedPages, ChainFault>
-    requires inside { All (λ piece. piece.addr + piece.len ≤ page_size * 2 ^ 32) pieces.now }
-    ensures { MatchResult result (λ pages. report_request pieces.now ≡ Ok pages)
-        (λ fault. report_request pieces.now ≡ Err fault) }
+pub fn check_report(pieces: &[Piece], reserved: u32) -> Result<(), ChainFault>
+    ensures answer { MatchResult result
+        (λ _. report_request pieces.now reserved ≡ Ok (pages_of_pieces pieces.now))
+        (λ fault. report_request pieces.now reserved ≡ Err fault) }
+    ensures above { OnOk result (All (λ page. reserved ≤ page) (pages_of_pieces pieces.now)) }
+    ensures few { OnOk result (length pieces.now ≤ MAX_REPORT_PIECES) }
 {
     if has_readable(pieces) {
         return Err(ChainFault::WrongDirection);
@@ -114,9 +113,25 @@ pub fn read_report(pieces: &[Piece]) -> Result<NamedPages, ChainFault>
     if pieces.len() > MAX_PIECES || has_wrong_length(pieces) {
         return Err(ChainFault::BadLength);
     }
-    if let Some(fault) = fault_of_first(pieces) {
-        return Err(fault);
+    match fault_of_first(pieces, reserved) {
+        Some(fault) => Err(fault),
+        None => Ok(()),
     }
+}
+
+/// The pages that a chain of these pieces names on the queue of reports: those of each piece in
+/// turn, rising; a page that is named again stands there again. The guest's first `reserved` pages
+/// are reserved.
+///
+/// The pieces lie in a guest's memory, as those of a chain do that `vb_chain::walk` gives: no page
+/// has a number of 2^32 or more. Refused as by `check_report`.
+pub fn read_report(pieces: &[Piece], reserved: u32) -> Result<NamedPages, ChainFault>
+    requires inside { All (λ piece. piece.addr + piece.len ≤ page_size * 2 ^ 32) pieces.now }
+    ensures pages { MatchResult result (λ pages. report_request pieces.now reserved ≡ Ok pages)
+        (λ fault. report_request pieces.now reserved ≡ Err fault) }
+    ensures above { IfOk result (λ pages. All (λ page. reserved ≤ page) pages) }
+{
+    check_report(pieces, reserved)?;
     let mut named: ReportPieces = ArrayVec::new();
     let _fits = named.try_extend_from_slice(pieces);
     Ok(NamedPages::of_pieces(named))

@@ -1,13 +1,13 @@
 //! The pages of a request: a chain of the queue of inflates or of deflates.
 
 ghost use Rattle.std.specs.Prelude.{◌≡◌, ◌+◌, ◌*◌, ◌<◌, ◌≤◌, ◌++◌, ◌∷◌, []};
-ghost use Rattle.std.specs.Prelude.{if◌then◌else◌, Ok, Err, All, MatchResult, length};
+ghost use Rattle.std.specs.Prelude.{if◌then◌else◌, Ok, Err, All, IfOk, MatchResult, length};
 ghost use Rattle.vb_model.specs.declared.layout.TheConstants.{REQUEST_BUFFER_SIZE};
 ghost use Rattle.vb_model.specs.declared.limits.TheConstants.{MAX_QUEUE_SIZE};
 ghost use Rattle.vb_model.specs.Limits.{page_size, max_request_pages};
 ghost use Rattle.vb_model.specs.Tests.{is_in};
 ghost use Rattle.vb_request.specs.Request.{number_at, numbers_of, number_fault, pages_of_numbers};
-ghost use Rattle.vb_request.specs.Request.{is_request_length, page_request};
+ghost use Rattle.vb_request.specs.Request.{is_request_length, request_length, page_request};
 
 use crate::NamedPages;
 use crate::buffer::{gather, has_writable, total_length};
@@ -15,18 +15,38 @@ use crate::named::RequestPages;
 use arrayvec::ArrayVec;
 use vb_chain::{ChainFault, Piece};
 use vb_model::layout::REQUEST_BUFFER_SIZE;
-use vb_model::limits::RESERVED_PAGES;
 use vb_ram::GuestBytes;
 
-/// Whether a request may have so many bytes.
-fn is_request_length(total: u64) -> bool
+/// Whether a request may have so many bytes: some, at most 1024, and a multiple of 4.
+pub fn is_request_length(total: u64) -> bool
     ensures { result ≡ is_request_length total }
 {
     total > 0 && total <= u64::from(REQUEST_BUFFER_SIZE) && total % 4 == 0
 }
 
-/// Number `k` of these bytes, four bytes each.
-fn number_at(bytes: &[u8], k: usize) -> u32
+/// How many bytes a chain of these pieces has together on the queue of inflates or of deflates
+/// (VIRTIO 1.1, 5.5.6): from 4 to 1024.
+///
+/// Refused, tested in this order:
+///
+/// - `WrongDirection` where a piece is the device's to write;
+/// - `BadLength` where the pieces have no byte together, more than 1024, or no multiple of 4.
+pub fn request_length(pieces: &[Piece]) -> Result<u32, ChainFault>
+    requires { length pieces.now ≤ MAX_QUEUE_SIZE }
+    ensures { result ≡ request_length pieces.now }
+{
+    if has_writable(pieces) {
+        return Err(ChainFault::WrongDirection);
+    }
+    let total = total_length(pieces);
+    if !is_request_length(total) {
+        return Err(ChainFault::BadLength);
+    }
+    Ok(total as u32)
+}
+
+/// Number `k` of these bytes, from 0: four bytes each, little-endian (VIRTIO 1.1, 5.5.6).
+pub fn number_at(bytes: &[u8], k: usize) -> u32
     requires { 4 * k + 4 ≤ length bytes.now }
     ensures { result ≡ number_at bytes.now k }
 {
@@ -35,13 +55,14 @@ fn number_at(bytes: &[u8], k: usize) -> u32
     u32::from_le_bytes(word)
 }
 
-/// What is wrong with a page number, where memory has `count` pages.
-fn number_fault(count: u32, number: u32) -> Option<ChainFault>
-    ensures { result ≡ number_fault count number }
+/// What is wrong with a page number, where memory has `count` pages, of which the first `reserved`
+/// are reserved: `BadPage` where there is no such page, and then `ReservedPage`.
+pub fn number_fault(reserved: u32, count: u32, number: u32) -> Option<ChainFault>
+    ensures { result ≡ number_fault reserved count number }
 {
     if number >= count {
         Some(ChainFault::BadPage)
-    } else if number < RESERVED_PAGES {
+    } else if number < reserved {
         Some(ChainFault::ReservedPage)
     } else {
         None
@@ -68,15 +89,16 @@ fn add_once(pages: &mut RequestPages, number: u32)
 
 /// The pages that the numbers in these bytes are, each once, or what is wrong with the first wrong
 /// one.
-fn pages_of(count: u32, bytes: &[u8]) -> Result<RequestPages, ChainFault>
+fn pages_of(reserved: u32, count: u32, bytes: &[u8]) -> Result<RequestPages, ChainFault>
     requires { length bytes.now ≤ REQUEST_BUFFER_SIZE }
-    ensures { MatchResult result (λ pages. pages_of_numbers count (numbers_of bytes.now) ≡
-        Ok pages.items) (λ fault. pages_of_numbers count (numbers_of bytes.now) ≡ Err fault) }
+    ensures { MatchResult result
+        (λ pages. pages_of_numbers reserved count (numbers_of bytes.now) ≡ Ok pages.items)
+        (λ fault. pages_of_numbers reserved count (numbers_of bytes.now) ≡ Err fault) }
 {
     let mut pages: RequestPages = ArrayVec::new();
     for k in 0..bytes.len() / 4 {
         let number = number_at(bytes, k);
-        if let Some(fault) = number_fault(count, number) {
+        if let Some(fault) = number_fault(reserved, count, number) {
             return Err(fault);
         }
         add_once(&mut pages, number);
@@ -85,28 +107,28 @@ fn pages_of(count: u32, bytes: &[u8]) -> Result<RequestPages, ChainFault>
 }
 
 /// The numbers that a chain of these pieces lists, each once, or what is wrong with it.
-fn page_request<G: GuestBytes>(ram: &G, pieces: &[Piece]) -> Result<RequestPages, ChainFault>
+fn page_request<G: GuestBytes>(
+    ram: &G,
+    pieces: &[Piece],
+    reserved: u32,
+) -> Result<RequestPages, ChainFault>
     requires inside { All
         (λ piece. piece.addr + piece.len ≤ page_size * length (G.mem ram.now)) pieces.now }
     requires few { length pieces.now ≤ MAX_QUEUE_SIZE }
-    ensures { MatchResult result (λ pages. page_request (G.mem ram.now) pieces.now ≡
-        Ok pages.items) (λ fault. page_request (G.mem ram.now) pieces.now ≡ Err fault) }
+    ensures { MatchResult result
+        (λ pages. page_request (G.mem ram.now) pieces.now reserved ≡ Ok pages.items)
+        (λ fault. page_request (G.mem ram.now) pieces.now reserved ≡ Err fault) }
 {
     let count = ram.pages();
-    if has_writable(pieces) {
-        return Err(ChainFault::WrongDirection);
+    match request_length(pieces) {
+        Err(fault) => Err(fault),
+        Ok(_) => pages_of(reserved, count, &gather(ram, pieces)),
     }
-    let total = total_length(pieces);
-    if !is_request_length(total) {
-        return Err(ChainFault::BadLength);
-    }
-    let bytes = gather(ram, pieces);
-    pages_of(count, &bytes)
 }
 
 /// The pages that a chain of these pieces names on the queue of inflates or of deflates, each once,
 /// in the order in which they first stand there: little-endian numbers of 32 bits (VIRTIO 1.1,
-/// 5.5.6), at most 256.
+/// 5.5.6), at most 256. The guest's first `reserved` pages are reserved.
 ///
 /// The pieces lie in the guest's memory and are no more than a queue has descriptors, as those of a
 /// chain do that `vb_chain::walk` gives. Refused, tested in this order:
@@ -115,15 +137,20 @@ fn page_request<G: GuestBytes>(ram: &G, pieces: &[Piece]) -> Result<RequestPages
 /// - `BadLength` where the pieces have no byte together, more than 1024, or no multiple of 4;
 /// - for the first number that is wrong, `BadPage` where the guest has no such page, and
 ///   `ReservedPage` where the page is reserved.
-pub fn read_request<G: GuestBytes>(ram: &G, pieces: &[Piece]) -> Result<NamedPages, ChainFault>
+pub fn read_request<G: GuestBytes>(
+    ram: &G,
+    pieces: &[Piece],
+    reserved: u32,
+) -> Result<NamedPages, ChainFault>
     requires inside { All
         (λ piece. piece.addr + piece.len ≤ page_size * length (G.mem ram.now)) pieces.now }
     requires few { length pieces.now ≤ MAX_QUEUE_SIZE }
-    ensures { MatchResult result
-        (λ pages. page_request (G.mem ram.now) pieces.now ≡ Ok pages)
-        (λ fault. page_request (G.mem ram.now) pieces.now ≡ Err fault) }
+    ensures pages { MatchResult result
+        (λ pages. page_request (G.mem ram.now) pieces.now reserved ≡ Ok pages)
+        (λ fault. page_request (G.mem ram.now) pieces.now reserved ≡ Err fault) }
+    ensures above { IfOk result (λ pages. All (λ page. reserved ≤ page) pages) }
 {
-    match page_request(ram, pieces) {
+    match page_request(ram, pieces, reserved) {
         Ok(listed) => Ok(NamedPages::of_list(listed)),
         Err(fault) => Err(fault),
     }

@@ -7,8 +7,8 @@ ghost use Rattle.vb_model.specs.declared.limits.TheConstants.{MAX_QUEUE_SIZE};
 ghost use Rattle.vb_model.specs.declared.layout.TheConstants.{MAX_STATISTICS_LENGTH};
 ghost use Rattle.vb_model.specs.declared.layout.TheConstants.{FREE_MEMORY_TAG, TOTAL_MEMORY_TAG};
 ghost use Rattle.vb_request.specs.Statistics.{statistic_at, statistics_of, last_of};
-ghost use Rattle.vb_request.specs.Statistics.{is_statistics_length, statistics_request};
-ghost use Rattle.vb_request.specs.Statistics.{statistics_in};
+ghost use Rattle.vb_request.specs.Statistics.{is_statistics_length, statistics_length};
+ghost use Rattle.vb_request.specs.Statistics.{statistics_request, statistics_in};
 
 use crate::buffer::{gather, has_writable, total_length};
 use byteorder::{ByteOrder, LittleEndian};
@@ -51,23 +51,44 @@ impl Statistics {
     }
 }
 
-/// Whether a buffer of statistics may have so many bytes.
-fn is_statistics_length(total: u64) -> bool
+/// Whether a buffer of statistics may have so many bytes: at most 1020, and a multiple of 10.
+pub fn is_statistics_length(total: u64) -> bool
     ensures { result ≡ is_statistics_length total }
 {
     total <= u64::from(MAX_STATISTICS_LENGTH) && total % u64::from(STATISTIC_SIZE) == 0
 }
 
-/// The tag of statistic `k` of these bytes.
-fn tag_at(bytes: &[u8], k: usize) -> u16
+/// How many bytes a chain of these pieces has together on the queue of statistics (VIRTIO 1.1,
+/// 5.5.6.3): from none to 1020.
+///
+/// Refused, tested in this order:
+///
+/// - `WrongDirection` where a piece is the device's to write;
+/// - `BadLength` where the pieces have more than 1020 bytes together, or no multiple of 10.
+pub fn statistics_length(pieces: &[Piece]) -> Result<u32, ChainFault>
+    requires { length pieces.now ≤ MAX_QUEUE_SIZE }
+    ensures { result ≡ statistics_length pieces.now }
+{
+    if has_writable(pieces) {
+        return Err(ChainFault::WrongDirection);
+    }
+    let total = total_length(pieces);
+    if !is_statistics_length(total) {
+        return Err(ChainFault::BadLength);
+    }
+    Ok(total as u32)
+}
+
+/// The tag of statistic `k` of these bytes, from 0: 10 bytes each, little-endian.
+pub fn tag_at(bytes: &[u8], k: usize) -> u16
     requires { 10 * k + 10 ≤ length bytes.now }
     ensures { result ≡ (statistic_at bytes.now k).tag }
 {
     LittleEndian::read_u16(&bytes[ENTRY_BYTES * k..])
 }
 
-/// The value of statistic `k` of these bytes.
-fn value_at(bytes: &[u8], k: usize) -> u64
+/// The value of statistic `k` of these bytes, from 0: 10 bytes each, little-endian.
+pub fn value_at(bytes: &[u8], k: usize) -> u64
     requires { 10 * k + 10 ≤ length bytes.now }
     ensures { result ≡ (statistic_at bytes.now k).value }
 {
@@ -107,12 +128,8 @@ pub fn read_statistics<G: GuestBytes>(ram: &G, pieces: &[Piece]) -> Result<Stati
 {
     // Asked for the proof: that memory has fewer than 2^32 pages is a clause of this call alone.
     let _few = ram.pages();
-    if has_writable(pieces) {
-        return Err(ChainFault::WrongDirection);
+    match statistics_length(pieces) {
+        Err(fault) => Err(fault),
+        Ok(_) => Ok(statistics_of(&gather(ram, pieces))),
     }
-    if !is_statistics_length(total_length(pieces)) {
-        return Err(ChainFault::BadLength);
-    }
-    let bytes = gather(ram, pieces);
-    Ok(statistics_of(&bytes))
 }

@@ -41,11 +41,11 @@ const LARGE_TOTAL: [u8; 20] = [
 ];
 
 /// What stands in memory: a page, an offset and the bytes there. Page 30 stands at a page's end,
-/// and page 31 at the start of the next one. All else is 0.
+/// and pages 31 and 32 at the start of the next one. All else is 0.
 static WRITTEN: [(u32, usize, &'static [u8]); 6] = [
     (4, 0, &NUMBERS),
     (4, 4092, &[30, 0, 0, 0]),
-    (5, 0, &[31, 0, 0, 0]),
+    (5, 0, &[31, 0, 0, 0, 32, 0, 0, 0]),
     (12, 0, &FREE_AND_TOTAL),
     (12, 100, &FREE_TWICE),
     (12, 200, &LARGE_TOTAL),
@@ -72,7 +72,7 @@ fn memory(rt: &impl Abort, alloc: Global) -> Ram {
     ram
 }
 
-fn pieces_of(parts: &[Part]) -> ArrayVec<Piece, 128> {
+fn pieces_of(parts: &[Part]) -> ArrayVec<Piece, 256> {
     let mut pieces = ArrayVec::new();
     for part in parts {
         let (addr, len, writable) = match part {
@@ -117,70 +117,89 @@ fn lists(pages: &NamedPages, wanted: &[u32]) -> bool {
     count as usize == wanted.len() && pages.get(count).is_none()
 }
 
-fn asks(ram: &Ram, parts: &[Part], wanted: &Result<&'static [u32], ChainFault>) -> bool {
+/// Whether a request of these parts, to a guest with so many reserved pages, is answered so.
+fn asks(
+    ram: &Ram,
+    reserved: u32,
+    parts: &[Part],
+    wanted: &Result<&'static [u32], ChainFault>,
+) -> bool {
     let pieces = pieces_of(parts);
     if !are_inside(ram, &pieces) {
         return false;
     }
-    match (read_request(ram, &pieces), wanted) {
+    match (read_request(ram, &pieces, reserved), wanted) {
         (Ok(pages), Ok(wanted)) => lists(&pages, wanted),
         (Err(fault), Err(wanted)) => fault == *wanted,
         _ => false,
     }
 }
 
-static REQUESTS: [(&'static [Part], Result<&'static [u32], ChainFault>); 26] = [
-    (&[Read(0x4000, 4)], Ok(&[17])),
+/// Reserved pages, a request's parts, and the answer.
+static REQUESTS: [(u32, &'static [Part], Result<&'static [u32], ChainFault>); 33] = [
+    (16, &[Read(0x4000, 4)], Ok(&[17])),
     // A page that is named twice counts once.
-    (&[Read(0x4000, 16)], Ok(&[17, 20, 63])),
-    (&[Read(0x4004, 8)], Ok(&[20, 17])),
+    (16, &[Read(0x4000, 16)], Ok(&[17, 20, 63])),
+    (16, &[Read(0x4004, 8)], Ok(&[20, 17])),
     // Numbers that are cut by pieces, pieces of no bytes, and a piece over a page's end.
-    (&[Read(0x4000, 3), Read(0x4003, 5)], Ok(&[17, 20])),
+    (16, &[Read(0x4000, 3), Read(0x4003, 5)], Ok(&[17, 20])),
     (
+        16,
         &[Read(0x4000, 0), Read(0x4004, 4), Read(0x9000, 0)],
         Ok(&[20]),
     ),
-    (&[Read(0x4ffc, 8)], Ok(&[30, 31])),
-    (&[Read(0x400c, 4), Read(0x4ffc, 8)], Ok(&[63, 30, 31])),
+    (16, &[Read(0x4ffc, 8)], Ok(&[30, 31])),
+    (16, &[Read(0x400c, 4), Read(0x4ffc, 8)], Ok(&[63, 30, 31])),
     // The first number that is wrong.
-    (&[Read(0x4010, 4)], Err(ChainFault::ReservedPage)),
-    (&[Read(0x4014, 4)], Err(ChainFault::BadPage)),
-    (&[Read(0x4010, 8)], Err(ChainFault::ReservedPage)),
-    (&[Read(0x4014, 8)], Err(ChainFault::BadPage)),
-    (&[Read(0x400c, 8)], Err(ChainFault::ReservedPage)),
-    (&[Read(0x401c, 4)], Err(ChainFault::BadPage)),
+    (16, &[Read(0x4010, 4)], Err(ChainFault::ReservedPage)),
+    (16, &[Read(0x4014, 4)], Err(ChainFault::BadPage)),
+    (16, &[Read(0x4010, 8)], Err(ChainFault::ReservedPage)),
+    (16, &[Read(0x4014, 8)], Err(ChainFault::BadPage)),
+    (16, &[Read(0x400c, 8)], Err(ChainFault::ReservedPage)),
+    (16, &[Read(0x401c, 4)], Err(ChainFault::BadPage)),
     // An unbacked page reads as zeros.
-    (&[Read(0x6000, 4)], Err(ChainFault::ReservedPage)),
-    (&[Read(0x6000, 1024)], Err(ChainFault::ReservedPage)),
+    (16, &[Read(0x6000, 4)], Err(ChainFault::ReservedPage)),
+    (16, &[Read(0x6000, 1024)], Err(ChainFault::ReservedPage)),
     // Lengths.
-    (&[Read(0x6000, 1028)], Err(ChainFault::BadLength)),
+    (16, &[Read(0x6000, 1028)], Err(ChainFault::BadLength)),
     (
+        16,
         &[Read(0x4000, 1020), Read(0x4000, 8)],
         Err(ChainFault::BadLength),
     ),
     (
+        16,
         &[Read(0, 0x4_0000), Read(0, 0x4_0000)],
         Err(ChainFault::BadLength),
     ),
-    (&[Read(0x4000, 0)], Err(ChainFault::BadLength)),
-    (&[Read(0x4000, 6)], Err(ChainFault::BadLength)),
-    (&[Read(0x4000, 1)], Err(ChainFault::BadLength)),
-    (&[], Err(ChainFault::BadLength)),
+    (16, &[Read(0x4000, 0)], Err(ChainFault::BadLength)),
+    (16, &[Read(0x4000, 6)], Err(ChainFault::BadLength)),
+    (16, &[Read(0x4000, 1)], Err(ChainFault::BadLength)),
+    (16, &[], Err(ChainFault::BadLength)),
     // Directions come before lengths, and these before numbers.
-    (&[Write(0x4000, 4)], Err(ChainFault::WrongDirection)),
-    (&[Write(0x4000, 6)], Err(ChainFault::WrongDirection)),
+    (16, &[Write(0x4000, 4)], Err(ChainFault::WrongDirection)),
+    (16, &[Write(0x4000, 6)], Err(ChainFault::WrongDirection)),
     (
+        16,
         &[Read(0x4000, 4), Write(0x9000, 0)],
         Err(ChainFault::WrongDirection),
     ),
-    (&[Read(0x4010, 6)], Err(ChainFault::BadLength)),
+    (16, &[Read(0x4010, 6)], Err(ChainFault::BadLength)),
+    // With 32 reserved pages: page 17, 31, 63, 31 before 32, and page 64 that isn't there.
+    (32, &[Read(0x4000, 4)], Err(ChainFault::ReservedPage)),
+    (32, &[Read(0x5000, 4)], Err(ChainFault::ReservedPage)),
+    (16, &[Read(0x5000, 4)], Ok(&[31])),
+    (32, &[Read(0x400c, 4)], Ok(&[63])),
+    (32, &[Read(0x5004, 4)], Ok(&[32])),
+    (32, &[Read(0x5000, 8)], Err(ChainFault::ReservedPage)),
+    (32, &[Read(0x4014, 4)], Err(ChainFault::BadPage)),
 ];
 
 #[test]
 fn requests_name_pages(rt: HostRuntime) {
     let ram = memory(&rt, rt.alloc());
-    for (at, (parts, wanted)) in REQUESTS.iter().enumerate() {
-        assert!(rt; asks(&ram, parts, wanted), "line {at}");
+    for (at, (reserved, parts, wanted)) in REQUESTS.iter().enumerate() {
+        assert!(rt; asks(&ram, *reserved, parts, wanted), "line {at}");
     }
 }
 
@@ -192,7 +211,7 @@ fn lengths_are_added_up_beyond_32_bits(rt: HostRuntime) {
     let Ok(ram) = Ram::new(rt.alloc(), 16_384) else {
         rt.abort()
     };
-    assert!(rt; asks(&ram, &OVER_32_BITS, &Err(ChainFault::BadLength)));
+    assert!(rt; asks(&ram, 16, &OVER_32_BITS, &Err(ChainFault::BadLength)));
 }
 
 fn says(ram: &Ram, parts: &[Part], wanted: &Result<Statistics, ChainFault>) -> bool {
@@ -253,73 +272,113 @@ fn wrong_buffers_are_refused(rt: HostRuntime) {
     }
 }
 
-fn offers(ram: &Ram, parts: &[Part], wanted: &Result<&'static [u32], ChainFault>) -> bool {
+/// The same of a report.
+fn offers(
+    ram: &Ram,
+    reserved: u32,
+    parts: &[Part],
+    wanted: &Result<&'static [u32], ChainFault>,
+) -> bool {
     let pieces = pieces_of(parts);
     if !are_inside(ram, &pieces) {
         return false;
     }
-    match (read_report(&pieces), wanted) {
+    match (read_report(&pieces, reserved), wanted) {
         (Ok(pages), Ok(wanted)) => lists(&pages, wanted),
         (Err(fault), Err(wanted)) => fault == *wanted,
         _ => false,
     }
 }
 
-static REPORTS: [(&'static [Part], Result<&'static [u32], ChainFault>); 21] = [
-    (&[Write(0x1_0000, 0x1000)], Ok(&[16])),
+/// Reserved pages, a report's parts, and the answer.
+static REPORTS: [(u32, &'static [Part], Result<&'static [u32], ChainFault>); 25] = [
+    (16, &[Write(0x1_0000, 0x1000)], Ok(&[16])),
     (
+        16,
         &[Write(0x1_0000, 0x2000), Write(0x2_0000, 0x3000)],
         Ok(&[16, 17, 32, 33, 34]),
     ),
     (
+        16,
         &[Write(0x3_f000, 0x1000), Write(0x1_0000, 0x1000)],
         Ok(&[63, 16]),
     ),
     // A page that is named again is offered again.
     (
+        16,
         &[Write(0x1_0000, 0x2000), Write(0x1_1000, 0x1000)],
         Ok(&[16, 17, 17]),
     ),
-    (&[Write(0x1_0000, 0x1000); 32], Ok(&[16; 32])),
-    (&[Write(0x1_0000, 0x1000); 33], Err(ChainFault::BadLength)),
-    (&[Write(0x1_0000, 0)], Err(ChainFault::BadLength)),
-    (&[Write(0x1_0000, 1)], Err(ChainFault::BadLength)),
-    (&[Write(0x1_0000, 0x1001)], Err(ChainFault::BadLength)),
+    (16, &[Write(0x1_0000, 0x1000); 32], Ok(&[16; 32])),
     (
+        16,
+        &[Write(0x1_0000, 0x1000); 33],
+        Err(ChainFault::BadLength),
+    ),
+    (16, &[Write(0x1_0000, 0)], Err(ChainFault::BadLength)),
+    (16, &[Write(0x1_0000, 1)], Err(ChainFault::BadLength)),
+    (16, &[Write(0x1_0000, 0x1001)], Err(ChainFault::BadLength)),
+    (
+        16,
         &[Write(0x1_0000, 0x1000), Write(0x1_2000, 0x800)],
         Err(ChainFault::BadLength),
     ),
     // The first piece that is wrong.
-    (&[Write(0x1_0800, 0x1000)], Err(ChainFault::BadPage)),
-    (&[Write(0x1_0001, 0x1000)], Err(ChainFault::BadPage)),
-    (&[Write(0xf000, 0x1000)], Err(ChainFault::ReservedPage)),
-    (&[Write(0xf000, 0x2000)], Err(ChainFault::ReservedPage)),
-    (&[Write(0xf800, 0x1000)], Err(ChainFault::BadPage)),
+    (16, &[Write(0x1_0800, 0x1000)], Err(ChainFault::BadPage)),
+    (16, &[Write(0x1_0001, 0x1000)], Err(ChainFault::BadPage)),
+    (16, &[Write(0xf000, 0x1000)], Err(ChainFault::ReservedPage)),
+    (16, &[Write(0xf000, 0x2000)], Err(ChainFault::ReservedPage)),
+    (16, &[Write(0xf800, 0x1000)], Err(ChainFault::BadPage)),
     (
+        16,
         &[Write(0xf000, 0x1000), Write(0x1_0800, 0x1000)],
         Err(ChainFault::ReservedPage),
     ),
     (
+        16,
         &[Write(0x1_0000, 0x1000), Write(0x1_0800, 0x1000)],
         Err(ChainFault::BadPage),
     ),
     // Directions come before lengths, and these before pages.
-    (&[Read(0x1_0000, 0x1000)], Err(ChainFault::WrongDirection)),
     (
+        16,
+        &[Read(0x1_0000, 0x1000)],
+        Err(ChainFault::WrongDirection),
+    ),
+    (
+        16,
         &[Write(0x1_0000, 0x1000), Read(0x1_1000, 0x1000)],
         Err(ChainFault::WrongDirection),
     ),
-    (&[Read(0x1_0000, 0); 33], Err(ChainFault::WrongDirection)),
     (
+        16,
+        &[Read(0x1_0000, 0); 33],
+        Err(ChainFault::WrongDirection),
+    ),
+    (
+        16,
         &[Write(0xf000, 0x1000), Write(0x1_0000, 5)],
         Err(ChainFault::BadLength),
+    ),
+    // With 32 reserved pages.
+    (
+        32,
+        &[Write(0x1_f000, 0x1000)],
+        Err(ChainFault::ReservedPage),
+    ),
+    (16, &[Write(0x1_f000, 0x1000)], Ok(&[31])),
+    (32, &[Write(0x2_0000, 0x1000)], Ok(&[32])),
+    (
+        32,
+        &[Write(0x2_0000, 0x1000), Write(0x1_0000, 0x1000)],
+        Err(ChainFault::ReservedPage),
     ),
 ];
 
 #[test]
 fn reports_name_pages(rt: HostRuntime) {
     let ram = memory(&rt, rt.alloc());
-    for (at, (parts, wanted)) in REPORTS.iter().enumerate() {
-        assert!(rt; offers(&ram, parts, wanted), "line {at}");
+    for (at, (reserved, parts, wanted)) in REPORTS.iter().enumerate() {
+        assert!(rt; offers(&ram, *reserved, parts, wanted), "line {at}");
     }
 }

@@ -23,7 +23,7 @@ heads_of : (owner : List (Option ℕ)) (n m : ℕ) → n ≡ m
 heads_of owner n m e = ap (λ k. length (numbers (is_head owner) k)) e
 
 -- A table of which nothing is out.
-pub fresh_kept : (owner : List (Option ℕ)) (count : ℕ) (last : List ℕ) → count ≤ 128
+pub fresh_kept : (owner : List (Option ℕ)) (count : ℕ) (last : List ℕ) → count ≤ 256
     → owner ≡ replicate count None → AreKept owner count 0 last 0
 fresh_kept owner count last few fresh =
     let free : (i : ℕ) → slice_index_or owner i None ≡ None =
@@ -48,7 +48,7 @@ some_out owner count out h from last kept is =
 
 -- A chain more is out.
 pub claim_keeps : (owner : List (Option ℕ)) (count out from : ℕ) (last path : List ℕ) (h e : ℕ)
-    → AreKept owner count out last from → length last ≡ 128
+    → AreKept owner count out last from → length last ≡ 256
     → IsFreeChain owner path → slice_index path 0 ≡ h → slice_index path (length path - 1) ≡ e
     → AreKept (claimed path h owner) count (out + 1) (set last h e) (e + 1)
 claim_keeps owner count out from last path h e kept room chain first end =
@@ -204,7 +204,7 @@ release_keeps owner count out from to last h kept is below low =
 -- ---- where the table is the first part of a longer one
 
 pub claim_after : (owner new more : List (Option ℕ)) (count out from : ℕ) (last path : List ℕ)
-    (at h e : ℕ) → AreKept owner count out last from → length last ≡ 128
+    (at h e : ℕ) → AreKept owner count out last from → length last ≡ 256
     → IsFreeChain owner path → slice_index path 0 ≡ h → slice_index path (length path - 1) ≡ e
     → at ≡ h → new ≡ claimed path h owner
     → AreKept (take count (new ++ more)) count (out + 1) (set last at e) (e + 1)

@@ -40,6 +40,7 @@ pub record DeviceEnd : Type 0 where
 -- What holds of each device's end.
 pub record IsDeviceEnd (q : DeviceEnd) : Type 0 where
   pub fits : Fits q.layout q.size
+  pub page : q.layout.table < 65536
   pub next_avail : q.next_avail < 65536
   pub next_used : q.next_used < 65536
 

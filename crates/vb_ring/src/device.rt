@@ -4,7 +4,7 @@ ghost use Rattle.std.specs.Prelude.{◌≡◌, ◌+◌, ◌%◌, ◌<◌, ◌≤
 ghost use Rattle.std.specs.Prelude.{if◌then◌else◌, [], Ok, None, OnErr};
 ghost use Rattle.std.specs.Int.{is_power_of_two};
 ghost use Rattle.vb_model.specs.declared.limits.TheConstants.{MIN_QUEUE_SIZE, MAX_QUEUE_SIZE};
-ghost use Rattle.vb_ring.specs.Layout.{layout_of, IsInside, IsBacked};
+ghost use Rattle.vb_ring.specs.Layout.{layout_of, Fits, IsInside, IsBacked};
 ghost use Rattle.vb_ring.specs.Ends.{IsDeviceEnd};
 ghost use Rattle.vb_ring.specs.Calls.{PopsBy, popped, AddsUsedBy};
 
@@ -62,7 +62,7 @@ impl Model for Queue {
 
 impl Queue {
     /// A queue from page `page` on that isn't ready, of the greatest size.
-    pub fn new(page: u32) -> Queue
+    pub fn new(page: u16) -> Queue
         ensures is_end { IsDeviceEnd result }
         ensures value { result ≡ record {
           layout = layout_of page MAX_QUEUE_SIZE;
@@ -78,6 +78,28 @@ impl Queue {
             ready: false,
             next_avail: 0,
             next_used: 0,
+        }
+    }
+
+    /// A queue of so many descriptors that goes on from these counts, its ring lying so: the
+    /// device's end as its owner kept it elsewhere.
+    pub fn resume(layout: Layout, size: u16, ready: bool, next_avail: u16, next_used: u16) -> Queue
+        requires fits { Fits layout size }
+        requires page { layout.table < 65536 }
+        ensures { result ≡ record {
+          layout = layout;
+          size = size;
+          ready = ready;
+          next_avail = next_avail;
+          next_used = next_used;
+        } }
+    {
+        Queue {
+            layout,
+            size,
+            ready,
+            next_avail,
+            next_used,
         }
     }
 
@@ -115,7 +137,7 @@ impl Queue {
     {
         let fits = size.is_power_of_two() && size >= MIN_QUEUE_SIZE && size <= MAX_QUEUE_SIZE;
         if fits {
-            self.layout = Layout::at(self.layout.table, size);
+            self.layout = Layout::at(self.layout.table as u16, size);
             self.size = size;
         }
         fits
@@ -133,7 +155,7 @@ impl Queue {
 
     /// Takes the next chain that the driver has published.
     ///
-    /// Each call makes a `Chain` of 2 KiB, zeroes it and moves it to the caller, which takes
+    /// Each call makes a `Chain` of 4 KiB, zeroes it and moves it to the caller, which takes
     /// several times as long as the pop of a short chain: whoever pops many chains keeps one, and
     /// calls `pop_descriptor_chain_into`.
     pub fn pop_descriptor_chain<G: GuestBytes>(

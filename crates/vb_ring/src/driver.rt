@@ -74,7 +74,7 @@ impl Model for DriverRing {
 impl DriverRing {
     /// A ring of `size` descriptors from page `page` on, of which nothing is out. Its pages are to
     /// be zeroed before the first `add`.
-    pub fn new(page: u32, size: u16) -> DriverRing
+    pub fn new(page: u16, size: u16) -> DriverRing
         requires { IsSize size }
         ensures is_end { IsDriverEnd result }
         ensures value { result ≡ fresh_end (layout_of page size) size }

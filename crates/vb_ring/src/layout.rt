@@ -1,10 +1,11 @@
 //! Where the parts of a split virtqueue lie (VIRTIO 1.1, 2.6).
 
 ghost use Rattle.std.specs.Prelude.{◌≡◌};
-ghost use Rattle.vb_ring.specs.Layout.{layout_of, IsSize, Fits};
+ghost use Rattle.vb_ring.specs.Layout.{area_at, layout_of, IsSize, Fits};
 
 use vb_chain::DESCRIPTOR_SIZE;
 use vb_model::limits;
+use vb_ram::PAGE_SIZE;
 
 /// The fewest descriptors that a queue may have (profile).
 pub const MIN_QUEUE_SIZE: u16 = limits::MIN_QUEUE_SIZE as u16;
@@ -32,9 +33,21 @@ pub struct Layout {
     pub used: RingArea,
 }
 
+/// Where byte `byte` of a ring stands that begins with page `page`.
+fn area_at(page: u16, byte: u16) -> RingArea
+    ensures { result ≡ area_at page byte }
+{
+    let size = PAGE_SIZE as u16;
+    RingArea {
+        page: u32::from(page) + u32::from(byte / size),
+        offset: byte % size,
+    }
+}
+
 impl Layout {
-    /// The layout of a queue of `size` descriptors in page 0: the available ring follows the
-    /// descriptors (16 bytes each), and the used ring stands at the next multiple of 4 after it.
+    /// The layout of a queue of `size` descriptors from page 0 on: the available ring follows the
+    /// descriptors (16 bytes each), and the used ring stands at the next multiple of 4 after it. A
+    /// queue of 256 descriptors takes two pages, and any other lies in one.
     pub fn of(size: u16) -> Layout
         requires { IsSize size }
         ensures value { result ≡ layout_of 0 size }
@@ -43,8 +56,8 @@ impl Layout {
         Layout::at(0, size)
     }
 
-    /// The same in another page.
-    pub fn at(page: u32, size: u16) -> Layout
+    /// The same from another page on.
+    pub fn at(page: u16, size: u16) -> Layout
         requires { IsSize size }
         ensures value { result ≡ layout_of page size }
         ensures fits { Fits result size }
@@ -52,12 +65,9 @@ impl Layout {
         let avail = DESCRIPTOR_SIZE as u16 * size;
         let used = (avail + (6 + 2 * size)).next_multiple_of(4);
         Layout {
-            table: page,
-            avail: RingArea {
-                page,
-                offset: avail,
-            },
-            used: RingArea { page, offset: used },
+            table: u32::from(page),
+            avail: area_at(page, avail),
+            used: area_at(page, used),
         }
     }
 }

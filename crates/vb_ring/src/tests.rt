@@ -4,7 +4,7 @@
 mod order;
 mod random_rings;
 
-use crate::{DriverRing, Full, Layout, Queue, RingBroken, Taken};
+use crate::{DriverRing, Full, Layout, Queue, RingArea, RingBroken, Taken};
 use std::alloc::Global;
 use std::process::Abort;
 use vb_chain::{ChainFault, Piece};
@@ -74,9 +74,11 @@ enum Step {
     Outstanding,
     TakeUsed,
     Pop,
+    /// The same, answered by how many pieces the chain has.
+    PopPieces,
     AddUsed(u16),
-    /// 16 bytes of the ring's page are read.
-    Bytes(usize),
+    /// 16 bytes of the ring are read, from this one on.
+    Bytes(u16),
 }
 
 /// What a call answers.
@@ -101,7 +103,7 @@ fn memory(alloc: Global) -> Result<Ram, RamFault> {
     Ok(ram)
 }
 
-fn ready_queue(page: u32, size: u16) -> Queue {
+fn ready_queue(page: u16, size: u16) -> Queue {
     let mut queue = Queue::new(page);
     let _sized = queue.set_size(size);
     queue.set_ready(true);
@@ -152,6 +154,14 @@ impl Ends {
         }
     }
 
+    fn pop_pieces(&mut self) -> Answer {
+        match pop(&mut self.queue, &self.ram) {
+            Ok(Some(taken)) => Answer::Count(taken.chain.pieces().len() as u16),
+            Ok(None) => Answer::Nothing,
+            Err(fault) => Answer::Fault(fault),
+        }
+    }
+
     fn add_used(&mut self, head: u16) -> Answer {
         let layout = self.queue.layout();
         let is_backed = self.ram.backing(layout.table).is_some()
@@ -164,9 +174,14 @@ impl Ends {
         Answer::Done
     }
 
-    fn bytes(&self, offset: usize) -> Answer {
+    fn bytes(&self, from: u16) -> Answer {
+        let page = self
+            .ring
+            .layout()
+            .table
+            .wrapping_add(u32::from(from / 4096));
         let mut bytes = [9; 16];
-        let _ = self.ram.read(self.ring.layout().table, offset, &mut bytes);
+        let _ = self.ram.read(page, usize::from(from % 4096), &mut bytes);
         Answer::Bytes(bytes)
     }
 
@@ -180,8 +195,9 @@ impl Ends {
             Step::Outstanding => Answer::Count(self.ring.outstanding()),
             Step::TakeUsed => self.take_used(),
             Step::Pop => self.pop(),
+            Step::PopPieces => self.pop_pieces(),
             Step::AddUsed(head) => self.add_used(*head),
-            Step::Bytes(offset) => self.bytes(*offset),
+            Step::Bytes(from) => self.bytes(*from),
         }
     }
 
@@ -193,9 +209,9 @@ impl Ends {
     }
 }
 
-/// The ends of a ring of so many descriptors, which lies in this page.
-fn both_ends(rt: &impl Abort, alloc: Global, page: u32, size: u16) -> Ends {
-    assert!(rt; 2 <= size && size <= 128 && 65_536 % u32::from(size) == 0);
+/// The ends of a ring of so many descriptors, which begins with this page.
+fn both_ends(rt: &impl Abort, alloc: Global, page: u16, size: u16) -> Ends {
+    assert!(rt; 2 <= size && size <= 256 && 65_536 % u32::from(size) == 0);
     Ends {
         ram: memory(alloc).expect(rt, "no memory"),
         ring: DriverRing::new(page, size),
@@ -204,8 +220,13 @@ fn both_ends(rt: &impl Abort, alloc: Global, page: u32, size: u16) -> Ends {
 }
 
 /// The ends of a ring of 8 descriptors in this page answer each of these lines.
-fn expect_of_eight(rt: &impl Abort, alloc: Global, page: u32, lines: &[(Step, Answer)]) {
+fn expect_of_eight(rt: &impl Abort, alloc: Global, page: u16, lines: &[(Step, Answer)]) {
     both_ends(rt, alloc, page, 8).expect(rt, lines);
+}
+
+/// The ends of a ring of 256 descriptors in pages 0 and 1 answer each of these lines.
+fn expect_of_256(rt: &impl Abort, alloc: Global, lines: &[(Step, Answer)]) {
+    both_ends(rt, alloc, 0, 256).expect(rt, lines);
 }
 
 /// The next chain that the device pops; none where the ring isn't inside memory.
@@ -218,23 +239,34 @@ fn pop(queue: &mut Queue, ram: &Ram) -> Result<Option<Taken>, ChainFault> {
     queue.pop_descriptor_chain(ram)
 }
 
-/// Sizes of queues: where their rings lie, and where the used ring ends.
-static LAYOUTS: [(u16, u16, u16, u64); 4] = [
+/// Sizes of queues: at which bytes of the ring the available and the used ring begin, and where the
+/// used ring ends.
+static LAYOUTS: [(u16, u64, u64, u64); 5] = [
     (2, 32, 44, 66),
     (8, 128, 152, 222),
     (16, 256, 296, 430),
     (128, 2048, 2312, 3342),
+    (256, 4096, 4616, 6670),
 ];
+
+/// At which byte of a ring from page 0 on a part of it begins.
+fn byte_of(area: &RingArea) -> u64 {
+    4096 * u64::from(area.page) + u64::from(area.offset)
+}
 
 /// Where the rings of a queue of this size lie, and where the used ring ends; none where no queue
 /// has this size.
-fn offsets(size: u16) -> Option<(u16, u16, u64)> {
-    if size < 2 || size > 128 || 65_536 % u32::from(size) != 0 {
+fn offsets(size: u16) -> Option<(u64, u64, u64)> {
+    if size < 2 || size > 256 || 65_536 % u32::from(size) != 0 {
         return None;
     }
     let layout = Layout::of(size);
-    let end = u64::from(layout.used.offset) + 6 + 8 * u64::from(size);
-    Some((layout.avail.offset, layout.used.offset, end))
+    let used = byte_of(&layout.used);
+    Some((
+        byte_of(&layout.avail),
+        used,
+        used.wrapping_add(6 + 8 * u64::from(size)),
+    ))
 }
 
 #[test]
@@ -242,7 +274,36 @@ fn layouts(rt: HostRuntime) {
     for (size, avail, used, end) in &LAYOUTS {
         assert!(rt; offsets(*size) == Some((*avail, *used, *end)), "{size}");
     }
-    assert!(rt; Layout::at(3, 8).used.page == 3);
+}
+
+/// First pages of rings and their sizes: page and offset of the available and of the used ring.
+static PLACES: [(u16, u16, (u32, u16), (u32, u16)); 6] = [
+    (3, 8, (3, 128), (3, 152)),
+    (3, 128, (3, 2048), (3, 2312)),
+    (0, 256, (1, 0), (1, 520)),
+    (16, 256, (17, 0), (17, 520)),
+    (22, 256, (23, 0), (23, 520)),
+    (65_534, 256, (65_535, 0), (65_535, 520)),
+];
+
+/// Where the rings of a queue of this size lie that begins with this page; none where no queue has
+/// this size.
+fn places_of(page: u16, size: u16) -> Option<((u32, u16), (u32, u16))> {
+    if size < 2 || size > 256 || 65_536 % u32::from(size) != 0 {
+        return None;
+    }
+    let Layout { avail, used, .. } = Layout::at(page, size);
+    Some(((avail.page, avail.offset), (used.page, used.offset)))
+}
+
+#[test]
+fn places(rt: HostRuntime) {
+    for (page, size, avail, used) in &PLACES {
+        assert!(rt;
+            places_of(*page, *size) == Some((*avail, *used)),
+            "{page} {size}"
+        );
+    }
 }
 
 #[test]
@@ -252,8 +313,10 @@ fn rings_and_faults_that_differ_are_told_apart(rt: HostRuntime) {
     assert!(rt; RingBroken::IndexAhead != RingBroken::NotOutstanding);
 }
 
-/// Numbers of descriptors, whether a queue may have so many, and how many it has then.
-static SIZES: [(u16, bool, u16); 15] = [
+/// Numbers of descriptors, whether a queue may have so many, and how many it has then. It begins
+/// with 256.
+static SIZES: [(u16, bool, u16); 19] = [
+    (0, false, 256),
     (2, true, 2),
     (4, true, 4),
     (8, true, 8),
@@ -261,14 +324,17 @@ static SIZES: [(u16, bool, u16); 15] = [
     (32, true, 32),
     (64, true, 64),
     (128, true, 128),
-    (0, false, 128),
-    (1, false, 128),
-    (3, false, 128),
-    (6, false, 128),
-    (100, false, 128),
-    (256, false, 128),
-    (32_768, false, 128),
-    (65_535, false, 128),
+    (256, true, 256),
+    (0, false, 256),
+    (1, false, 256),
+    (3, false, 256),
+    (6, false, 256),
+    (100, false, 256),
+    (255, false, 256),
+    (257, false, 256),
+    (512, false, 256),
+    (32_768, false, 256),
+    (65_535, false, 256),
 ];
 
 #[test]
@@ -299,6 +365,25 @@ static INFLATE: [(Step, Answer); 6] = [
     ),
 ];
 
+/// The same with 256 descriptors: both rings stand in the second page.
+static INFLATE_OF_256: [(Step, Answer); 6] = [
+    (Step::Add(&[REQUEST]), Answer::Head(0)),
+    (
+        Step::Bytes(0),
+        Answer::Bytes([0, 0x40, 0, 0, 0, 0, 0, 0, 0x10, 0, 0, 0, 0, 0, 0, 0]),
+    ),
+    (
+        Step::Bytes(4096),
+        Answer::Bytes([0, 0, 1, 0, 0, 0, 0, 0, 0, 0, 0, 0, 0, 0, 0, 0]),
+    ),
+    (Step::Pop, Answer::Head(0)),
+    (Step::AddUsed(0), Answer::Done),
+    (
+        Step::Bytes(4616),
+        Answer::Bytes([0, 0, 1, 0, 0, 0, 0, 0, 0, 0, 0, 0, 0, 0, 0, 0]),
+    ),
+];
+
 /// The first statistics buffer.
 static BUFFER: [(Step, Answer); 2] = [
     (Step::Add(&[STATISTICS]), Answer::Head(0)),
@@ -324,6 +409,7 @@ static REPORT: [(Step, Answer); 3] = [
 #[test]
 fn bytes_of_a_ring(rt: HostRuntime) {
     expect_of_eight(&rt, rt.alloc(), 0, &INFLATE);
+    expect_of_256(&rt, rt.alloc(), &INFLATE_OF_256);
     expect_of_eight(&rt, rt.alloc(), 2, &BUFFER);
     expect_of_eight(&rt, rt.alloc(), 3, &REPORT);
 }
@@ -367,6 +453,36 @@ fn several_descriptors_in_any_order(rt: HostRuntime) {
     expect_of_eight(&rt, rt.alloc(), 1, &IN_ANY_ORDER);
 }
 
+/// A chain of more pieces than the largest ring has descriptors is refused, and one of as many goes
+/// out and comes back.
+static WHOLE_RING: [(Step, Answer); 14] = [
+    (Step::Add(&[TWO; 257]), Answer::Full(Full::TooFewFree)),
+    (Step::Outstanding, Answer::Count(0)),
+    (Step::Add(&[TWO; 256]), Answer::Head(0)),
+    (Step::NextHead, Answer::Nothing),
+    (Step::Add(&[ONE]), Answer::Full(Full::TooFewFree)),
+    (Step::Outstanding, Answer::Count(1)),
+    (
+        Step::Bytes(0),
+        Answer::Bytes([0, 0x50, 0, 0, 0, 0, 0, 0, 2, 0, 0, 0, 1, 0, 1, 0]),
+    ),
+    (
+        Step::Bytes(4080),
+        Answer::Bytes([0, 0x50, 0, 0, 0, 0, 0, 0, 2, 0, 0, 0, 0, 0, 0, 0]),
+    ),
+    (Step::PopPieces, Answer::Count(256)),
+    (Step::PopPieces, Answer::Nothing),
+    (Step::AddUsed(0), Answer::Done),
+    (Step::TakeUsed, Answer::Head(0)),
+    (Step::Outstanding, Answer::Count(0)),
+    (Step::NextHead, Answer::Head(0)),
+];
+
+#[test]
+fn all_descriptors_are_one_chain(rt: HostRuntime) {
+    expect_of_256(&rt, rt.alloc(), &WHOLE_RING);
+}
+
 static ROUND: [(Step, Answer); 4] = [
     (Step::Add(&[ONE_NUMBER]), Answer::Head(0)),
     (Step::Pop, Answer::Head(0)),
@@ -374,17 +490,35 @@ static ROUND: [(Step, Answer); 4] = [
     (Step::TakeUsed, Answer::Head(0)),
 ];
 
-/// The available ring and the used ring after 65,540 rounds.
+/// The available ring and the used ring of two descriptors after 65,540 rounds.
 static BOTH_INDICES: [(Step, Answer); 1] = [(
     Step::Bytes(34),
     Answer::Bytes([4, 0, 0, 0, 0, 0, 0, 0, 0, 0, 0, 0, 4, 0, 0, 0]),
 )];
 
+/// Those of 256 descriptors.
+static BOTH_INDICES_OF_256: [(Step, Answer); 2] = [
+    (
+        Step::Bytes(4096),
+        Answer::Bytes([0, 0, 4, 0, 0, 0, 0, 0, 0, 0, 0, 0, 0, 0, 0, 0]),
+    ),
+    (
+        Step::Bytes(4616),
+        Answer::Bytes([0, 0, 4, 0, 0, 0, 0, 0, 0, 0, 0, 0, 0, 0, 0, 0]),
+    ),
+];
+
+/// The ends of a ring of so many descriptors answer these lines after 65,540 rounds.
+fn expect_after_rounds(rt: &impl Abort, alloc: Global, size: u16, lines: &[(Step, Answer)]) {
+    let mut ends = both_ends(rt, alloc, 0, size);
+    for _round in 0..65_540 {
+        ends.expect(rt, &ROUND);
+    }
+    ends.expect(rt, lines);
+}
+
 #[test]
 fn indices_wrap(rt: HostRuntime) {
-    let mut ends = both_ends(&rt, rt.alloc(), 0, 2);
-    for _round in 0..65_540 {
-        ends.expect(&rt, &ROUND);
-    }
-    ends.expect(&rt, &BOTH_INDICES);
+    expect_after_rounds(&rt, rt.alloc(), 2, &BOTH_INDICES);
+    expect_after_rounds(&rt, rt.alloc(), 256, &BOTH_INDICES_OF_256);
 }

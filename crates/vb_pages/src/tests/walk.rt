@@ -334,12 +334,12 @@ fn calls_agree_on_an_odd_guest(rt: HostRuntime) -> Result<(), AllocError> {
     expect_alike(&rt, rt.alloc(), &ODD)
 }
 
-static LARGEST: [(u32, u32, u32, u64); 2] = [(16_384, 1, 16, 4), (16_384, 4, 16, 5)];
+static LARGE: [(u32, u32, u32, u64); 2] = [(16_384, 1, 16, 4), (16_384, 4, 16, 5)];
 
 /// The same on 16,384 pages.
 #[test]
-fn calls_agree_on_the_largest_guest(rt: HostRuntime) -> Result<(), AllocError> {
-    expect_alike(&rt, rt.alloc(), &LARGEST)
+fn calls_agree_on_a_large_guest(rt: HostRuntime) -> Result<(), AllocError> {
+    expect_alike(&rt, rt.alloc(), &LARGE)
 }
 
 static OF_MORE_SIZES: [(u32, u32, u32, u64); 4] = [

@@ -1,11 +1,14 @@
 //! Rings of random bytes: each chain is popped as a second reading of the same bytes has it, which
 //! is written from the rules alone.
 
+ghost use Rattle.std.specs.Prelude.{◌<◌, ◌≤◌};
+
 use super::{Ends, both_ends, pop};
 use crate::Taken;
 use byteorder::{ByteOrder, LittleEndian};
 use rand_core::Rng;
 use rand_pcg::Pcg32;
+use std::alloc::Global;
 use std::process::Abort;
 use vb_chain::{ChainFault, Piece};
 use vb_ram::GuestBytes;
@@ -20,35 +23,80 @@ fn below_16(numbers: &mut Pcg32, end: u32) -> u16 {
     (below(numbers, end) % 65_536) as u16
 }
 
-/// A page with a ring of 8 descriptors.
-type Ring = [u8; 222];
+/// The bytes of a ring of at most 256 descriptors: its table, its available ring, and what follows.
+type Ring = [u8; 4614];
 
 /// Writes a descriptor, mostly of a small address, length and number.
-fn put_descriptor(numbers: &mut Pcg32, bytes: &mut Ring, index: u16) {
-    let at = 16 * usize::from(index % 8);
+fn put_descriptor(numbers: &mut Pcg32, bytes: &mut Ring, size: u16, index: u16) {
+    let at = 16 * usize::from(index % 256);
     let flags = if below(numbers, 12) > 0 { 4 } else { 65_536 };
-    let next = if below(numbers, 12) > 0 { 8 } else { 10 };
+    let more = if below(numbers, 12) > 0 { 0 } else { 2 };
     LittleEndian::write_u64(&mut bytes[at..], u64::from(below(numbers, 270_000)));
     LittleEndian::write_u32(&mut bytes[at + 8..], below(numbers, 5000));
     LittleEndian::write_u16(&mut bytes[at + 12..], below_16(numbers, flags));
-    LittleEndian::write_u16(&mut bytes[at + 14..], below_16(numbers, next));
+    LittleEndian::write_u16(
+        &mut bytes[at + 14..],
+        below_16(numbers, u32::from(size) + more),
+    );
 }
 
-/// A ring mostly with small indices and numbers, so that chains come about.
-fn random_ring(numbers: &mut Pcg32) -> Ring {
-    let mut bytes = [0; 222];
-    numbers.fill_bytes(&mut bytes);
-    if below(numbers, 8) > 0 {
-        LittleEndian::write_u16(&mut bytes[130..], below_16(numbers, 11));
+/// Writes a descriptor that mostly goes on to the one behind it, so that long chains come about.
+fn put_link(numbers: &mut Pcg32, bytes: &mut Ring, size: u16, index: u16) {
+    let at = 16 * usize::from(index % 256);
+    let is_jump = below(numbers, 64) == 0;
+    let next = if is_jump {
+        below_16(numbers, u32::from(size))
+    } else {
+        index.saturating_add(1)
+    };
+    let is_end = below(numbers, 64) == 0;
+    LittleEndian::write_u64(&mut bytes[at..], u64::from(below(numbers, 250_000)));
+    LittleEndian::write_u32(&mut bytes[at + 8..], below(numbers, 5000));
+    LittleEndian::write_u16(&mut bytes[at + 12..], u16::from(!is_end));
+    LittleEndian::write_u16(&mut bytes[at + 14..], next);
+}
+
+/// Writes a number of 16 bits at this byte of the available ring.
+fn put_available(bytes: &mut Ring, size: u16, offset: usize, number: u16)
+    requires size { size ≤ 256 }
+    requires offset { offset ≤ 514 }
+{
+    LittleEndian::write_u16(&mut bytes[16 * usize::from(size) + offset..], number);
+}
+
+/// Writes a place of the available ring and a descriptor anew, of a ring with long chains or not.
+fn put_place(numbers: &mut Pcg32, bytes: &mut Ring, size: u16, index: u16, is_long: bool)
+    requires size { size ≤ 256 }
+    requires index { index < size }
+{
+    let head = below_16(numbers, u32::from(size) + 1);
+    put_available(bytes, size, 4 + 2 * usize::from(index), head);
+    if is_long {
+        put_link(numbers, bytes, size, index);
+    } else if below(numbers, 8) > 0 {
+        put_descriptor(numbers, bytes, size, index);
+    } else {
+        numbers.fill_bytes(&mut bytes[16 * usize::from(index)..16 * usize::from(index) + 16]);
     }
-    for index in 0..8 {
-        let entry = 132 + 2 * usize::from(index);
-        LittleEndian::write_u16(&mut bytes[entry..], below_16(numbers, 9));
-        if below(numbers, 8) > 0 {
-            put_descriptor(numbers, &mut bytes, index);
-        }
+}
+
+/// Writes the index and 8 places of a ring anew: all of a ring of 8, and of a larger one those that
+/// are next. Numbers are mostly small, so that chains come about; for 64 of 256 rounds these are
+/// long.
+fn put_some(numbers: &mut Pcg32, bytes: &mut Ring, size: u16, round: u16)
+    requires some { 0 < size }
+    requires size { size ≤ 256 }
+{
+    let jump = if below(numbers, 8) > 0 {
+        u32::from(size) + 3
+    } else {
+        65_536
+    };
+    put_available(bytes, size, 2, below_16(numbers, jump));
+    for k in 0..8 {
+        let index = (8 * (round % 32) + k) % size;
+        put_place(numbers, bytes, size, index, round / 64 % 4 == 0);
     }
-    bytes
 }
 
 /// A descriptor as the second reading sees it.
@@ -62,7 +110,7 @@ struct Link {
 
 impl Link {
     fn at(bytes: &Ring, index: u16) -> Link {
-        let bytes = &bytes[16 * usize::from(index % 8)..];
+        let bytes = &bytes[16 * usize::from(index % 256)..];
         Link {
             addr: LittleEndian::read_u64(bytes),
             len: LittleEndian::read_u32(&bytes[8..]),
@@ -79,9 +127,9 @@ impl Link {
         piece.addr == self.addr && piece.len == self.len && piece.writable == self.has(2)
     }
 
-    /// The first rule that the descriptor breaks, as number `at` of its chain, after writable ones
-    /// or after none.
-    fn broken(&self, at: u32, is_after_writable: bool) -> Option<ChainFault> {
+    /// The first rule that the descriptor breaks in a ring of so many, as number `at` of its chain,
+    /// after writable ones or after none.
+    fn broken(&self, size: u16, at: u16, is_after_writable: bool) -> Option<ChainFault> {
         let end = self.addr.saturating_add(u64::from(self.len));
         if self.has(4) {
             Some(ChainFault::Indirect)
@@ -89,9 +137,9 @@ impl Link {
             Some(ChainFault::OutOfRam)
         } else if is_after_writable && !self.has(2) {
             Some(ChainFault::WrongDirection)
-        } else if self.has(1) && self.next >= 8 {
+        } else if self.has(1) && self.next >= size {
             Some(ChainFault::BadNext)
-        } else if self.has(1) && at >= 7 {
+        } else if self.has(1) && at.saturating_add(1) >= size {
             Some(ChainFault::TooLong)
         } else {
             None
@@ -100,15 +148,15 @@ impl Link {
 }
 
 /// The first fault on the way from a head.
-fn first_fault(bytes: &Ring, head: u16) -> Option<ChainFault> {
-    if head >= 8 {
+fn first_fault(bytes: &Ring, size: u16, head: u16) -> Option<ChainFault> {
+    if head >= size {
         return Some(ChainFault::BadHead);
     }
     let mut index = head;
     let mut is_after_writable = false;
-    for at in 0..8 {
+    for at in 0..size {
         let link = Link::at(bytes, index);
-        let broken = link.broken(at, is_after_writable);
+        let broken = link.broken(size, at, is_after_writable);
         if broken.is_some() || !link.has(1) {
             return broken;
         }
@@ -133,18 +181,29 @@ fn are_chain(bytes: &Ring, head: u16, pieces: &[Piece]) -> bool {
     !goes_on
 }
 
+/// A number of 16 bits that stands at this byte of the available ring.
+fn available(bytes: &Ring, size: u16, offset: usize) -> u16
+    requires size { size ≤ 256 }
+    requires offset { offset ≤ 516 }
+{
+    LittleEndian::read_u16(&bytes[16 * usize::from(size) + offset..])
+}
+
 /// Whether a second reading of the rules gives the same next chain, or the same fault.
-fn agrees(bytes: &Ring, taken: u16, got: &Result<Option<Taken>, ChainFault>) -> bool {
-    let ahead = LittleEndian::read_u16(&bytes[130..]).wrapping_sub(taken);
-    let head = LittleEndian::read_u16(&bytes[132 + 2 * usize::from(taken % 8)..]);
+fn agrees(bytes: &Ring, size: u16, taken: u16, got: &Result<Option<Taken>, ChainFault>) -> bool
+    requires size { size ≤ 256 }
+    requires taken { taken ≤ size }
+{
+    let ahead = available(bytes, size, 2).wrapping_sub(taken);
+    let head = available(bytes, size, 4 + 2 * usize::from(taken));
     match got {
         Ok(None) => ahead == 0,
-        Err(ChainFault::IndexJump) => ahead > 8,
-        Err(fault) => 0 < ahead && ahead <= 8 && first_fault(bytes, head) == Some(*fault),
+        Err(ChainFault::IndexJump) => ahead > size,
+        Err(fault) => 0 < ahead && ahead <= size && first_fault(bytes, size, head) == Some(*fault),
         Ok(Some(taken)) => {
             0 < ahead
-                && ahead <= 8
-                && first_fault(bytes, head).is_none()
+                && ahead <= size
+                && first_fault(bytes, size, head).is_none()
                 && taken.head == head
                 && are_chain(bytes, head, taken.chain.pieces())
         }
@@ -153,33 +212,52 @@ fn agrees(bytes: &Ring, taken: u16, got: &Result<Option<Taken>, ChainFault>) -> 
 
 impl Ends {
     /// Whether a chain is popped, as a second reading has it.
-    fn pop_next(&mut self, rt: &impl Abort, bytes: &Ring, taken: u16) -> bool {
+    fn pop_next(&mut self, rt: &impl Abort, bytes: &Ring, size: u16, taken: u16) -> bool
+        requires size { size ≤ 256 }
+        requires taken { taken ≤ size }
+    {
         let got = pop(&mut self.queue, &self.ram);
-        assert!(rt; agrees(bytes, taken, &got), "{taken}");
+        assert!(rt; agrees(bytes, size, taken, &got), "{taken}");
         matches!(got, Ok(Some(_)))
     }
 
     /// Pops all chains of a ring, and answers how many came.
-    fn pop_all(&mut self, rt: &impl Abort, bytes: &Ring) -> u32 {
-        assert!(rt; self.ram.write(0, 0, bytes).is_ok());
+    fn pop_all(&mut self, rt: &impl Abort, bytes: &Ring, size: u16) -> u32
+        requires { size ≤ 256 }
+    {
+        assert!(rt; self.ram.write(0, 0, &bytes[..4096]).is_ok());
+        assert!(rt; self.ram.write(1, 0, &bytes[4096..]).is_ok());
         self.queue.set_ready(true);
-        for taken in 0..9 {
-            if !self.pop_next(rt, bytes, taken) {
+        for taken in 0..size + 1 {
+            if !self.pop_next(rt, bytes, size, taken) {
                 return u32::from(taken);
             }
         }
-        9
+        u32::from(size) + 1
     }
+}
+
+/// How many chains come out of 20,000 rings of so many descriptors.
+fn chains_of(rt: &impl Abort, alloc: Global, size: u16) -> u32
+    requires some { 0 < size }
+    requires size { size ≤ 256 }
+{
+    let mut ends = both_ends(rt, alloc, 0, size);
+    let mut numbers = Pcg32::new(1, 0);
+    let mut bytes = [0; 4614];
+    numbers.fill_bytes(&mut bytes);
+    let mut chains: u32 = 0;
+    for round in 0..20_000 {
+        put_some(&mut numbers, &mut bytes, size, round);
+        chains = chains.wrapping_add(ends.pop_all(rt, &bytes, size));
+    }
+    chains
 }
 
 #[test]
 fn rings_of_any_bytes(rt: HostRuntime) {
-    let mut ends = both_ends(&rt, rt.alloc(), 0, 8);
-    let mut numbers = Pcg32::new(1, 0);
-    let mut chains: u32 = 0;
-    for _round in 0..20_000 {
-        let bytes = random_ring(&mut numbers);
-        chains = chains.wrapping_add(ends.pop_all(&rt, &bytes));
-    }
-    assert!(rt; chains > 10_000, "{chains}");
+    let of_eight = chains_of(&rt, rt.alloc(), 8);
+    assert!(rt; of_eight > 5_000, "{of_eight}");
+    let of_256 = chains_of(&rt, rt.alloc(), 256);
+    assert!(rt; of_256 > 20_000, "{of_256}");
 }

@@ -16,11 +16,12 @@ returns-in-Some c =
     omega (arith, inside, numbers_of-length c.args.bytes.now) in
     let at : get_or (numbers_of c.args.bytes.now) c.loop-k.k 0 ≡ c.number_at-number.result =
     numbers_of-at c.args.bytes.now c.loop-k.k inside ∙ sym c.number_at-number.ensures in
-    let wrong : number_fault c.args.count c.number_at-number.result ≡ Some c.in-Some.fault =
+    let wrong : number_fault c.args.reserved c.args.count c.number_at-number.result ≡
+    Some c.in-Some.fault =
     sym c.in-Some.ensures in
     ap (λ (o : Option ChainFault). unless_fault o (each_once (numbers_of c.args.bytes.now)))
-    (fault_here c.args.count (numbers_of c.args.bytes.now) c.loop-k.k c.number_at-number.result
-    c.in-Some.fault lt at c.loop-k.invariant.sound wrong)
+    (fault_here c.args.reserved c.args.count (numbers_of c.args.bytes.now) c.loop-k.k
+    c.number_at-number.result c.in-Some.fault lt at c.loop-k.invariant.sound wrong)
 
 pub loop-k-preserved : goal.loop-k-preserved
 loop-k-preserved c =
@@ -29,12 +30,13 @@ loop-k-preserved c =
     omega (arith, inside, numbers_of-length c.args.bytes.now) in
     let at : get_or (numbers_of c.args.bytes.now) c.loop-k.k 0 ≡ c.number_at-number.result =
     numbers_of-at c.args.bytes.now c.loop-k.k inside ∙ sym c.number_at-number.ensures in
-    let right : number_fault c.args.count c.number_at-number.result ≡ None = search rules in
+    let right : number_fault c.args.reserved c.args.count c.number_at-number.result ≡ None =
+    search rules in
     record {
       pages = once_more (numbers_of c.args.bytes.now) c.loop-k.pages.items
           c.add_once.new.pages.items c.loop-k.k c.number_at-number.result lt at
           c.loop-k.invariant.pages c.add_once.ensures;
-      sound = sound_more c.args.count (numbers_of c.args.bytes.now) c.loop-k.k
+      sound = sound_more c.args.reserved c.args.count (numbers_of c.args.bytes.now) c.loop-k.k
           c.number_at-number.result lt at c.loop-k.invariant.sound right;
       few = omega (
         arith,
@@ -51,5 +53,5 @@ returns c =
     take_all c.loop-k.k (numbers_of c.args.bytes.now)
     (omega (arith, numbers_of-length c.args.bytes.now, c.loop-k-test.false)) in
     ap (λ (o : Option ChainFault). unless_fault o (each_once (numbers_of c.args.bytes.now)))
-    (ap (first_number_fault c.args.count) (sym whole) ∙ c.loop-k.invariant.sound)
+    (ap (first_number_fault c.args.reserved c.args.count) (sym whole) ∙ c.loop-k.invariant.sound)
     ∙ ap (λ (ns : List ℕ). Ok ns) (ap each_once (sym whole) ∙ sym c.loop-k.invariant.pages)

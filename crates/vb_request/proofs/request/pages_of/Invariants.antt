@@ -6,6 +6,6 @@ abbrev pub invariant-loop-k : goal.invariant-loop-k
 invariant-loop-k l =
     record {
       pages : l.pages.items ≡ each_once (take l.k (numbers_of l.bytes));
-      sound : first_number_fault l.count (take l.k (numbers_of l.bytes)) ≡ None;
+      sound : first_number_fault l.reserved l.count (take l.k (numbers_of l.bytes)) ≡ None;
       few : length l.pages.items ≤ l.k;
     }

@@ -5,7 +5,7 @@ use Rattle.vb_ring.proofs.owners.Owners.new.Goals as goal
 
 pub invariant_of-result : goal.invariant_of-result
 invariant_of-result c =
-    fresh_kept _ c.args.count _ (omega arith) (take-replicate c.args.count 128 None (omega arith))
+    fresh_kept _ c.args.count _ (omega arith) (take-replicate c.args.count 256 None (omega arith))
 
 pub returns : goal.returns
-returns c = take-replicate c.args.count 128 None (omega arith)
+returns c = take-replicate c.args.count 256 None (omega arith)

@@ -1,9 +1,8 @@
 use Rattle.std.proofs.Common.{◌∙◌, ap, Bool, ◌&&◌}
 use Rattle.vb_model.specs.Limits.{is_between}
-use Rattle.vb_ram.proofs.config.is_power_between.Goals as goal
+use Rattle.vb_ram.proofs.config.is_queue_size.Goals as goal
 
 pub returns : goal.returns
 returns c =
     ap (λ (b : Bool). b && c.is_power_of_two.result) c.is_between.ensures
-    ∙ ap (λ (b : Bool). is_between c.args.least c.args.most c.args.number && b)
-    c.is_power_of_two.ensures
+    ∙ ap (λ (b : Bool). is_between 2 256 c.args.number && b) c.is_power_of_two.ensures

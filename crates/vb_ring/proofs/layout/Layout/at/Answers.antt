@@ -1,0 +1,16 @@
+use Rattle.std.proofs.Common.{◌≡◌, rules, subst, sym}
+use Rattle.vb_ring.specs.declared.layout.Layout.{Layout}
+use Rattle.vb_ring.specs.Layout.{Fits, layout_of}
+use Rattle.vb_ring.proofs.Shapes.{fits_at}
+use Rattle.vb_ring.proofs.layout.Layout.at.Goals as goal
+
+pub returns-clause-fits : goal.returns-clause-fits
+returns-clause-fits c =
+    let made : Layout = record {
+      table = c.from.result;
+      avail = c.area_at.result;
+      used = c.area_at-2.result;
+    } in
+    let same : made ≡ layout_of c.args.page c.args.size = search rules in
+    subst (λ (l : Layout). Fits l c.args.size) (sym same)
+    (fits_at c.args.page c.args.size c.requires)
