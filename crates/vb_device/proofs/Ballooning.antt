@@ -13,7 +13,8 @@ use Rattle.vb_device.specs.Faults.{Breaks}
 use Rattle.vb_device.specs.Discards.{frames_behind}
 use Rattle.vb_device.specs.declared.worked.Worked.{Worked}
 use Rattle.vb_device.specs.Base.{with_pace}
-use Rattle.vb_device.specs.BaseCalls.{readiness_refusal, VisitsNext, SettlesBy, taken_out}
+use Rattle.vb_device.specs.BaseCalls.{VisitsNext, SettlesBy, taken_out}
+use Rattle.vb_core.specs.Refusals.{readiness_refusal}
 use Rattle.vb_device.specs.BaseCalls.{TakesOut, UsesChain}
 use Rattle.vb_device.specs.Conditions.{work_refusal}
 use Rattle.vb_device.specs.Queues.{queue_part, with_queue, queue_end}

@@ -257,20 +257,22 @@ all_discarded mem =
 low_step : (a b : Bool) → a ≡ false → b ≡ false → (a || b) ≡ false
 low_step a b e f = ap (λ v. v || b) e ∙ f
 
-away : (x p : ℕ) → 16 ≤ x → p < 16 → p ≡ x → ⊥
-away x p h l e = absurd (omega arith)
+away : (reserved x p : ℕ) → reserved ≤ x → p < reserved → p ≡ x → ⊥
+away reserved x p h l e = absurd (omega arith)
 
-pub low_not_in : (p : ℕ) (pages : List ℕ) → p < 16 → All (λ page. 16 ≤ page) pages →
-    is_in p pages ≡ false
-low_not_in p [] l above = refl
-low_not_in p (x ∷ xs) l above =
+pub low_not_in : (reserved p : ℕ) (pages : List ℕ) → p < reserved
+    → All (λ page. reserved ≤ page) pages → is_in p pages ≡ false
+low_not_in reserved p [] l above = refl
+low_not_in reserved p (x ∷ xs) l above =
     low_step (x == p) (is_in p xs)
-    (not_equal x p (x == p) refl (λ e. away x p (above 0 x (omega arith)) l e))
-    (low_not_in p xs l (λ k d lt. above (suc k) d (omega arith)))
+    (not_equal x p (x == p) refl (λ e. away reserved x p (above 0 x (omega arith)) l e))
+    (low_not_in reserved p xs l (λ k d lt. above (suc k) d (omega arith)))
 
-pub backed_still : (p : ℕ) (pages : List ℕ) (mem new : Pages) → p < 16 →
-    All (λ page. 16 ≤ page) pages → new ≡ discarded pages mem → page_at new p ≡ page_at mem p
-backed_still p pages mem new l above e =
+-- a reserved page stays as it is
+pub reserved_still : (reserved p : ℕ) (pages : List ℕ) (mem new : Pages) → p < reserved
+    → All (λ page. reserved ≤ page) pages → new ≡ discarded pages mem
+    → page_at new p ≡ page_at mem p
+reserved_still reserved p pages mem new l above e =
     ap (λ (m : Pages). page_at m p) e ∙
     (discarded-at pages mem p ∙
-    ap (λ b. cond b None (page_at mem p)) (low_not_in p pages l above))
+    ap (λ b. cond b None (page_at mem p)) (low_not_in reserved p pages l above))

@@ -1,7 +1,7 @@
 -- A finish by a device, from the end of its queue.
 use Rattle.std.specs.Prelude.{◌≡◌, ℕ, ◌+◌, ◌%◌, ◌<◌, ◌≤◌, Bool, true, false, not}
 use Rattle.std.specs.Prelude.{◌==◌, ◌&&◌, List}
-use Rattle.std.specs.Prelude.{[], length, remove, Option, Some, None, IsSome, OnSome, Result}
+use Rattle.std.specs.Prelude.{[], length, remove, Option, Some, None, OnSome, Result}
 use Rattle.std.specs.Prelude.{is_none, Ok, Err, if◌then◌else◌, slice_get, All, refl}
 use Rattle.std.proofs.Common.{sym, ◌∙◌, ap, subst, arith, inl, inr, rules}
 use Rattle.vb_model.specs.Device.{next_page}
@@ -24,13 +24,15 @@ use Rattle.vb_device.specs.Discards.{discarded}
 use Rattle.vb_device.specs.Base.{index_of, queue_at, base_part, numbers_of_frames, IsDeviceQueue, IsBase}
 use Rattle.vb_device.specs.Base.{with_pace}
 use Rattle.vb_device.specs.BaseCalls.{queue_refusal, with_lost, taken_out, TakesOut, UsesChain}
-use Rattle.vb_device.specs.BaseCalls.{CanUse, readiness_refusal}
+use Rattle.vb_device.specs.BaseCalls.{CanUse}
+use Rattle.vb_core.specs.Refusals.{readiness_refusal}
 use Rattle.vb_device.specs.Calls.{without_frames}
 use Rattle.vb_device.proofs.FourQueues.{at_each, part_get, part_set, set_here, base_set}
 use Rattle.vb_device.proofs.TakesBy.{finish_open, queue_known, status_ok}
 use Rattle.vb_model.specs.Status.{contains, driver_ok}
-use Rattle.vb_model.specs.Layout.{ring_page}
-use Rattle.vb_device.proofs.Discards.{discarded-length, backed_still}
+use Rattle.vb_model.specs.Layout.{reserved_pages, ring_page}
+use Rattle.vb_device.proofs.Discards.{discarded-length, reserved_still}
+use Rattle.vb_device.proofs.Rings.{backed_still}
 use Rattle.std.proofs.Math.ListN.{set}
 
 none_some : (o : Option Refusal) (x : Refusal) → o ≡ None → o ≡ Some x → ⊥
@@ -167,12 +169,12 @@ queue_is x ring taken e f =
 -- the device's end of a queue
 end_of_queue : (q : ℕ) (mem : Pages) (s f t a n : ℕ) (qs : List QueueState) (l : LastStatistics)
     (loose : List Page) (x : QueueState) → has_chains q ≡ true →
-    queue_at q qs ≡ x → x.ring.layout ≡ layout_of (ring_page q) n → x.ring.size ≡ n →
+    queue_at q qs ≡ x → x.ring.layout ≡ layout_of (ring_page n q) n → x.ring.size ≡ n →
     x.ring.ready ≡ true → x.ring ≡ queue_end q (base_part s f t a n qs l loose)
 end_of_queue q mem s f t a n qs l loose x known at ring size ready =
-    end_is x.ring (layout_of (ring_page q) n) n ring size ready ∙
+    end_is x.ring (layout_of (ring_page n q) n) n ring size ready ∙
     ap (λ (k : QueuePart). record {
-      layout = layout_of (ring_page q) n;
+      layout = layout_of (ring_page n q) n;
       size = n;
       ready = true;
       next_avail = k.next_avail;
@@ -256,6 +258,7 @@ base_same m1 m2 s n c1 c2 qs b len same pos =
     let fits : length m1 ≤ c1 = b.room in
     record {
       four = b.four;
+      size = b.size;
       each = λ q known. (let is = b.each q
           known in record {
             ring = is.ring;
@@ -268,16 +271,7 @@ base_same m1 m2 s n c1 c2 qs b len same pos =
       room = omega (arith, len, same, fits);
     }
 
-pub backed_ring : (mem : Pages) (l : Layout) (page n : ℕ) → l ≡ layout_of page n →
-    IsSome (frame_at mem page) → IsBacked mem l
-backed_ring mem l page n e b =
-    subst (λ (x : Layout). IsBacked mem x) (sym e) (record { table = b; avail = b; used = b })
-
 -- what can be used after a request was taken out
-ring_low : (q : ℕ) → has_chains q ≡ true → ring_page q < 16
-ring_low q known =
-    at_each (λ n. ring_page n < 16) (omega arith) (omega arith) (omega arith) (omega arith) q known
-
 pub kept_length : (q : ℕ) (pages : List ℕ) (mem : Pages) →
     length (without_frames q pages mem) ≡ length mem
 kept_length q pages mem = by_queue (q == 1)
@@ -286,29 +280,32 @@ kept_length q pages mem = by_queue (q == 1)
     by_queue true = refl
     by_queue false = discarded-length pages mem
 
-kept_page : (q p : ℕ) (pages : List ℕ) (mem : Pages) → p < 16 → All (λ page. 16 ≤ page) pages →
-    page_at (without_frames q pages mem) p ≡ page_at mem p
-kept_page q p pages mem low above = by_queue (q == 1)
+kept_page : (reserved q p : ℕ) (pages : List ℕ) (mem : Pages) → p < reserved
+    → All (λ page. reserved ≤ page) pages
+    → page_at (without_frames q pages mem) p ≡ page_at mem p
+kept_page reserved q p pages mem low above = by_queue (q == 1)
   where
     by_queue : (b : Bool) → page_at (if b then mem else discarded pages mem) p ≡ page_at mem p
     by_queue true = refl
-    by_queue false = backed_still p pages mem (discarded pages mem) low above refl
+    by_queue false = reserved_still reserved p pages mem (discarded pages mem) low above refl
 
 pub can_use : (q h : ℕ) (pages : List ℕ) (m1 m2 : Pages) (s f t a n c : ℕ)
     (qs : List QueueState) (x2 : QueueState) (l : LastStatistics) (loose : List Page) →
     IsBase m1 s n qs c → has_chains q ≡ true → readiness_refusal s ≡ None →
     h < (queue_at q qs).ring.size
-    → All (λ page. 16 ≤ page) pages → m2 ≡ without_frames q pages m1 →
-    IsSome (frame_at m1 (ring_page q)) →
+    → All (λ page. reserved_pages (queue_at q qs).ring.size ≤ page) pages
+    → m2 ≡ without_frames q pages m1 → IsBacked m1 (layout_of (ring_page n q) n) →
     CanUse q h m2 (base_part s f t a n (set qs (index_of q) x2) l loose)
 can_use q h pages m1 m2 s f t a n c qs x2 l loose is known ok lt above mem backed =
     record {
       known = known;
       ready = status_ok s ok;
       head = subst (λ (k : ℕ). h < k) (is.each q known).size lt;
-      backed = subst (λ (o : Option Page). IsSome (number_of o))
-          (sym (ap (λ (m : Pages). page_at m (ring_page q)) mem ∙
-          kept_page q (ring_page q) pages m1 (ring_low q known) above)) backed;
+      backed = backed_still m1 m2 n q is.size
+          (λ p low. ap (λ (m : Pages). frame_at m p) mem ∙
+          ap (λ (o : Option Page). number_of o) (kept_page (reserved_pages n) q p pages m1 low
+          (subst (λ (k : ℕ). All (λ page. reserved_pages k ≤ page) pages) (is.each q known).size
+          above))) backed;
     }
 
 -- a request whose next page is visited stands in memory that has pages

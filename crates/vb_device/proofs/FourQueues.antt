@@ -8,11 +8,11 @@ use Rattle.vb_model.specs.Guest.{LastStatistics}
 use Rattle.vb_model.specs.Status.{contains, driver_ok}
 use Rattle.vb_model.specs.Tables.{has_chains, is_queue_of_requests}
 use Rattle.vb_model.proofs.Queues.{queue_cases, no_chains_at, no_requests_at}
-use Rattle.vb_ring.specs.declared.layout.Layout.{Layout}
-use Rattle.vb_ring.specs.Layout.{layout_of}
+use Rattle.vb_model.specs.Layout.{ring_page}
+use Rattle.vb_ring.specs.Layout.{IsSize}
 use Rattle.vb_device.specs.Queues.{queue_part, with_queue}
-use Rattle.vb_device.specs.QueueState.{QueueState, part_of, started, restarted}
-use Rattle.vb_device.specs.Base.{index_of, queue_at, base_part, IsDeviceQueue, IsBase}
+use Rattle.vb_device.specs.QueueState.{QueueState, part_of, new_queue, restarted}
+use Rattle.vb_device.specs.Base.{index_of, queue_at, new_queues, base_part, IsDeviceQueue, IsBase}
 
 true_false : (b : Bool) → b ≡ true → b ≡ false → ⊥
 true_false b e f = cc
@@ -147,6 +147,7 @@ pub base_set : (q : ℕ) (m1 m2 : Pages) (s1 s2 n c1 c2 : ℕ) (qs : List QueueS
     IsBase m2 s2 n (set qs (index_of q) x2) c2
 base_set q m1 m2 s1 s2 n c1 c2 qs x2 b known other one large room = record {
   four = set_four qs (index_of q) x2 b.four;
+  size = b.size;
   each = each_set (λ k x. IsDeviceQueue m2 s2 n k x) q qs x2 b.four known (one (b.each q known))
       (λ k is. other k (queue_at k qs) (b.each k is));
   large = large;
@@ -161,31 +162,21 @@ map_four f qs four q known =
     (λ a b c d. at_each (λ n. queue_at n (map f (a ∷ b ∷ c ∷ d ∷ [])) ≡
     f (queue_at n (a ∷ b ∷ c ∷ d ∷ []))) refl refl refl refl q known) qs four
 
-base_map : (f : QueueState → QueueState) (m1 m2 : Pages) (s1 s2 n k c1 c2 : ℕ)
+base_map : (f : QueueState → QueueState) (m1 m2 : Pages) (s1 s2 n c1 c2 : ℕ)
     (qs new : List QueueState) → IsBase m1 s1 n qs c1 → new ≡ map f qs →
-    ((q : ℕ) (x : QueueState) → IsDeviceQueue m1 s1 n q x → IsDeviceQueue m2 s2 k q (f x)) →
-    (0 < length m2 → 64 ≤ length m2) → length m2 ≤ c2 → IsBase m2 s2 k new c2
-base_map f m1 m2 s1 s2 n k c1 c2 qs new b e one large room =
-    subst (λ (l : List QueueState). IsBase m2 s2 k l c2) (sym e) (record {
+    ((q : ℕ) (x : QueueState) → IsDeviceQueue m1 s1 n q x → IsDeviceQueue m2 s2 n q (f x)) →
+    (0 < length m2 → 64 ≤ length m2) → length m2 ≤ c2 → IsBase m2 s2 n new c2
+base_map f m1 m2 s1 s2 n c1 c2 qs new b e one large room =
+    subst (λ (l : List QueueState). IsBase m2 s2 n l c2) (sym e) (record {
       four = length-map qs f ∙ b.four;
-      each = λ q known. subst (λ (x : QueueState). IsDeviceQueue m2 s2 k q x)
+      size = b.size;
+      each = λ q known. subst (λ (x : QueueState). IsDeviceQueue m2 s2 n q x)
           (sym (map_four f qs b.four q known)) (one q (queue_at q qs) (b.each q known));
       large = large;
       room = room;
     })
 
--- a queue that begins anew, with a size or with the one that it had
-started_is : (m1 m2 : Pages) (s1 s2 n k q : ℕ) (x : QueueState) → IsDeviceQueue m1 s1 n q x →
-    (contains s2 driver_ok ≡ true → false ≡ true) →
-    IsDeviceQueue m2 s2 k q (started false k x.ring)
-started_is m1 m2 s1 s2 n k q x is stopped = record {
-  ring = ap (λ (l : Layout). layout_of l.table k) is.ring;
-  size = refl;
-  ready = λ h. stopped h;
-  idle = λ z. refl;
-  none = λ z. refl;
-}
-
+-- a queue that begins anew
 restarted_is : (mem : Pages) (s1 s2 n q : ℕ) (ready : Bool) (x : QueueState) →
     IsDeviceQueue mem s1 n q x → (contains s2 driver_ok ≡ true → ready ≡ true) →
     IsDeviceQueue mem s2 n q (restarted ready x)
@@ -197,17 +188,34 @@ restarted_is mem s1 s2 n q ready x is goes = record {
   none = λ z. refl;
 }
 
-pub base_started : (m1 m2 : Pages) (s1 s2 n k c1 c2 : ℕ) (qs new : List QueueState) →
-    IsBase m1 s1 n qs c1 → new ≡ map (λ q. started false k q.ring) qs →
-    (contains s2 driver_ok ≡ true → false ≡ true) → (0 < length m2 → 64 ≤ length m2) →
-    length m2 ≤ c2 → IsBase m2 s2 k new c2
-base_started m1 m2 s1 s2 n k c1 c2 qs new b e stopped large room =
-    base_map (λ q. started false k q.ring) m1 m2 s1 s2 n k c1 c2 qs new b e
-    (λ q x is. started_is m1 m2 s1 s2 n k q x is stopped) large room
+-- the queues of a device that nobody started
+new_is : (mem : Pages) (s n q : ℕ) → (contains s driver_ok ≡ true → false ≡ true)
+    → IsDeviceQueue mem s n q (new_queue (ring_page n q) n)
+new_is mem s n q stopped = record {
+  ring = refl;
+  size = refl;
+  ready = λ h. stopped h;
+  idle = λ z. refl;
+  none = λ z. refl;
+}
+
+pub base_new : (mem : Pages) (s n c : ℕ) (qs : List QueueState) → qs ≡ new_queues n → IsSize n
+    → (contains s driver_ok ≡ true → false ≡ true) → (0 < length mem → 64 ≤ length mem)
+    → length mem ≤ c → IsBase mem s n qs c
+base_new mem s n c qs e is stopped large room =
+    subst (λ (l : List QueueState). IsBase mem s n l c) (sym e) (record {
+      four = refl;
+      size = is;
+      each = at_each (λ q. IsDeviceQueue mem s n q (queue_at q (new_queues n)))
+          (new_is mem s n 0 stopped) (new_is mem s n 1 stopped) (new_is mem s n 2 stopped)
+          (new_is mem s n 4 stopped);
+      large = large;
+      room = room;
+    })
 
 pub base_restarted : (mem : Pages) (s1 s2 n c : ℕ) (ready : Bool) (qs new : List QueueState) →
     IsBase mem s1 n qs c → new ≡ map (restarted ready) qs →
     (contains s2 driver_ok ≡ true → ready ≡ true) → IsBase mem s2 n new c
 base_restarted mem s1 s2 n c ready qs new b e goes =
-    base_map (restarted ready) mem mem s1 s2 n n c c qs new b e
+    base_map (restarted ready) mem mem s1 s2 n c c qs new b e
     (λ q x is. restarted_is mem s1 s2 n q ready x is goes) b.large b.room

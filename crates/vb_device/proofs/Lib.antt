@@ -1,10 +1,10 @@
-pub mod Chains
 pub mod Takes
 pub mod FourQueues
 pub mod TakesBy
 pub mod Finishes
 pub mod FromNext
 pub mod Discards
+pub mod Rings
 pub mod Sizes
 pub mod Marks
 pub mod LooseFrames

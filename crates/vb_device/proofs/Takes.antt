@@ -12,8 +12,8 @@ use Rattle.vb_ring.specs.declared.device.Taken.{Taken}
 use Rattle.vb_ring.specs.Ends.{DeviceEnd}
 use Rattle.vb_ring.specs.Calls.{PopsBy}
 use Rattle.vb_model.specs.Guest.{LastStatistics}
-use Rattle.vb_device.specs.Calls.{request_of, noted}
-use Rattle.vb_device.specs.Faults.{rule_of}
+use Rattle.vb_core.specs.Asked.{request_of, noted}
+use Rattle.vb_core.specs.Refusals.{rule_of}
 use Rattle.vb_device.specs.QueueState.{QueueState, with_request, is_full, TakesNext}
 
 abbrev at : DeviceEnd → List Request → QueueState
@@ -92,7 +92,7 @@ back r1 r2 r3 small e f =
 pub next_wrong : (q : ℕ) (mem : Pages) (r1 r2 r3 : DeviceEnd) (taken : List Request)
     (l : LastStatistics) (t : Taken)
     (f : ChainFault) → is_full q (at r1 taken) ≡ false → r1.ready ≡ true →
-    PopsBy mem r1 r2 (Ok (Some t)) → request_of q mem t.chain ≡ Err f
+    PopsBy mem r1 r2 (Ok (Some t)) → request_of q r1.size mem t.chain ≡ Err f
     → r3 ≡ record r2 { next_avail = (r2.next_avail + 65535) % 65536 } →
     TakesNext q mem (at r1 taken) (at r3 taken) l l (Err (Broken (rule_of f)))
 next_wrong q mem r1 r2 r3 taken l t f free ready pops is undone =
@@ -105,21 +105,21 @@ next_wrong q mem r1 r2 r3 taken l t f free ready pops is undone =
       fault = λ h g k e gives. absurd (ok_err (Some t) g (pops.fault h g ready e gives));
       wrong = λ h pieces g k e gives bad. (
         ap broken
-            (same_fault (request_of q mem t.chain) f g is
-            (ap (request_of q mem) (pops.chain h pieces ready e gives).1 ∙ bad)),
+            (same_fault (request_of q r1.size mem t.chain) f g is
+            (ap (request_of q r1.size mem) (pops.chain h pieces ready e gives).1 ∙ bad)),
         same,
         refl,
       );
       takes = λ h pieces pages k e gives good. absurd
           (err_ok pages f (sym is ∙
-          (ap (request_of q mem) (pops.chain h pieces ready e gives).1 ∙ good)));
+          (ap (request_of q r1.size mem) (pops.chain h pieces ready e gives).1 ∙ good)));
       means = (free, same, refl);
     }
 
 pub next_right : (q : ℕ) (mem : Pages) (r1 r2 : DeviceEnd) (taken : List Request)
     (l1 l2 : LastStatistics) (t : Taken)
     (pages : List ℕ) → is_full q (at r1 taken) ≡ false → r1.ready ≡ true →
-    PopsBy mem r1 r2 (Ok (Some t)) → request_of q mem t.chain ≡ Ok pages
+    PopsBy mem r1 r2 (Ok (Some t)) → request_of q r1.size mem t.chain ≡ Ok pages
     → l2 ≡ noted q mem t.chain l1 → TakesNext q mem (at r1 taken)
     (at r2 (taken ++ record { head = t.head; pages = pages; visited = 0 } ∷ [])) l1 l2
     (Ok (Some t.head))
@@ -135,14 +135,14 @@ next_right q mem r1 r2 taken l1 l2 t pages free ready pops is said =
       fault = λ h g k e gives. absurd (ok_err (Some t) g (pops.fault h g ready e gives));
       wrong = λ h pieces g k e gives bad. absurd
           (ok_err pages g (sym is ∙
-          (ap (request_of q mem) (pops.chain h pieces ready e gives).1 ∙ bad)));
+          (ap (request_of q r1.size mem) (pops.chain h pieces ready e gives).1 ∙ bad)));
       takes = λ h pieces ps k e gives good.
           let chain = pops.chain h pieces ready e gives in (
             ap (λ n. Ok (Some n)) chain.0,
             after ∙ (ap (λ n. with_request n pages (at r1 taken)) chain.0 ∙
                 ap (λ xs. with_request h xs (at r1 taken))
-                (same_pages (request_of q mem t.chain) pages ps is
-                (ap (request_of q mem) chain.1 ∙ good))),
+                (same_pages (request_of q r1.size mem t.chain) pages ps is
+                (ap (request_of q r1.size mem) chain.1 ∙ good))),
             said ∙ ap (λ xs. noted q mem xs l1) chain.1,
           );
       means = (free, (pages, t.chain, pops.found.1, pops.found.2, is, after, said));

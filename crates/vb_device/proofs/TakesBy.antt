@@ -23,13 +23,17 @@ use Rattle.vb_ring.specs.Layout.{layout_of}
 use Rattle.vb_ring.specs.Entries.{next_entry}
 use Rattle.vb_device.specs.Queues.{queue_part, with_queue, next_available}
 use Rattle.vb_device.specs.Conditions.{take_refusal, finish_refusal}
-use Rattle.vb_device.specs.Faults.{Breaks, rule_of, needing_reset}
+use Rattle.vb_device.specs.Faults.{Breaks, needing_reset}
+use Rattle.vb_core.specs.Refusals.{rule_of}
 use Rattle.vb_device.specs.QueueState.{QueueState, part_of, with_request, next_of, IsChainOf}
 use Rattle.vb_device.specs.QueueState.{IsFaultOf, is_full, NextMeans, Leaves, TakesNext}
 use Rattle.vb_device.specs.QueueState.{status_after}
 use Rattle.vb_device.specs.Base.{index_of, queue_at, base_part, IsDeviceQueue, IsBase}
-use Rattle.vb_device.specs.BaseCalls.{readiness_refusal, queue_refusal, take_refusal_by}
-use Rattle.vb_device.specs.Calls.{HasChain, HasFault, taking, noted, noting, TakeMeans, TakesBy}
+use Rattle.vb_device.specs.BaseCalls.{queue_refusal}
+use Rattle.vb_core.specs.Refusals.{readiness_refusal, take_refusal_by}
+use Rattle.vb_device.specs.Calls.{HasChain, HasFault, taking, noting, TakeMeans}
+use Rattle.vb_core.specs.Asked.{request_of, noted}
+use Rattle.vb_device.specs.Calls.{TakesBy}
 use Rattle.vb_device.proofs.FourQueues.{at_each, part_get, part_set, set_here, set_same, base_set}
 use Rattle.vb_device.proofs.FromNext.{KeepsRing}
 
@@ -198,6 +202,7 @@ takes_refused q mem part why e =
 pub record Sits (q : ℕ) (mem : Pages) (P : QueueState → ℕ → LastStatistics → Part)
     (x : QueueState) (s : ℕ) (l : LastStatistics) : Type 0 where
   pub refusal : take_refusal q (P x s l) ≡ (if is_full q x then Some Busy else None)
+  pub size : (P x s l).queue_size ≡ x.ring.size
   pub next : next_available q mem (P x s l) ≡ next_of mem x
   pub chain : (h : ℕ) (pieces : List Piece) → HasChain q mem (P x s l) h pieces →
       IsChainOf mem x h pieces
@@ -238,7 +243,7 @@ means_of q mem P x1 x2 s l1 l2 (Ok (Some h)) sits free busy m = (
       next = sits.next ∙ m.1.2;
       pieces = m.1.1;
       chain = sits.chain_back h m.1.1 m.1.3;
-      request = m.1.4;
+      request = ap (λ (n : ℕ). request_of q n mem m.1.1) sits.size ∙ m.1.4;
     },
     same_part P (with_request h m.1.0 x1) x2 s (noted q mem m.1.1 l1) l2 m.1.5 m.1.6 ∙
         sym (sits.takes h m.1.0 m.1.1),
@@ -297,10 +302,12 @@ takes_by q mem P x1 x2 s l1 l2 result sits t =
       fault = λ h f e n gives. breaks P x1 x2 s l1 l2 f result sits.resets
           (t.fault h f (room e) (sym sits.next ∙ n) (sits.fault h f gives));
       wrong = λ h pieces f e n gives bad. breaks P x1 x2 s l1 l2 f result sits.resets
-          (t.wrong h pieces f (room e) (sym sits.next ∙ n) (sits.chain h pieces gives) bad);
+          (t.wrong h pieces f (room e) (sym sits.next ∙ n) (sits.chain h pieces gives)
+          (ap (λ (k : ℕ). request_of q k mem pieces) (sym sits.size) ∙ bad));
       takes = λ h pieces pages e n gives good.
           let got =
-          t.takes h pieces pages (room e) (sym sits.next ∙ n) (sits.chain h pieces gives) good
+          t.takes h pieces pages (room e) (sym sits.next ∙ n) (sits.chain h pieces gives)
+          (ap (λ (k : ℕ). request_of q k mem pieces) (sym sits.size) ∙ good)
           in (
             got.0,
             after_is P (with_request h pages x1) x2 s (noted q mem pieces l1) l2 result
@@ -358,7 +365,8 @@ sits_at q mem s f t a n c qs loose l b ok =
       refusal = take_open q (with_at q f t a n qs loose x s l) ok ∙
           ap (λ (p : QueuePart). if nat_le (most_taken q) (length p.taken) then Some Busy else None)
           here;
-      next = ap (λ (p : QueuePart). next_entry mem (layout_of (ring_page q) n) n p.next_avail) here ∙
+      size = sym is.size;
+      next = ap (λ (p : QueuePart). next_entry mem (layout_of (ring_page n q) n) n p.next_avail) here ∙
           (ap (λ (y : Layout). next_entry mem y n x.ring.next_avail) (sym is.ring) ∙
           ap (λ (k : ℕ). next_entry mem x.ring.layout k x.ring.next_avail) (sym is.size));
       chain = λ h pieces g. subst

@@ -11,6 +11,7 @@ use Rattle.std.proofs.lemmas.List.Quantifiers.{position-Some}
 use Rattle.std.proofs.lemmas.List.Elements.{All-set}
 use Rattle.std.proofs.lemmas.List.Sums.{fails_before_first}
 use Rattle.vb_model.specs.Requests.{Request}
+use Rattle.vb_device.specs.QueueState.{IsTaken}
 use Rattle.vb_model.specs.Device.{is_unvisited, visiting, next_page}
 
 abbrev pub once_more : Request → Request
@@ -74,14 +75,14 @@ refill_set xs ys i y e =
     (take_all (length xs) (set ys i y) (omega (arith, len)) ∙
     ap (λ (zs : List Request). set zs i y) e))
 
-pub heads_below : (n : ℕ) (xs ys : List Request) (i : ℕ) (y d : Request) → ys ≡ xs →
-    i < length xs → y ≡ once_more (get_or ys i d) → All (λ (r : Request). r.head < n) xs →
-    All (λ (r : Request). r.head < n) (refill (length xs) xs (set ys i y))
-heads_below n xs ys i y d e lt is all =
-    let low : y.head < n =
-    subst (λ (h : ℕ). h < n)
-    (sym (ap (λ (r : Request). r.head) is ∙
-    ap (λ (zs : List Request). (get_or zs i d).head) e)) (all i d lt) in
-    subst (λ (zs : List Request). All (λ (r : Request). r.head < n) zs)
-    (sym (refill_set xs ys i y e))
-    (All-set (λ (r : Request). r.head < n) xs i y low all)
+pub taken_still : (n : ℕ) (xs ys : List Request) (i : ℕ) (y d : Request) → ys ≡ xs →
+    i < length xs → y ≡ once_more (get_or ys i d) → All (IsTaken n) xs →
+    All (IsTaken n) (refill (length xs) xs (set ys i y))
+taken_still n xs ys i y d e lt is all =
+    let was : IsTaken n (get_or xs i d) = all i d lt in
+    let here : IsTaken n (once_more (get_or xs i d)) =
+    record { head = was.head; above = was.above } in
+    subst (λ (zs : List Request). All (IsTaken n) zs) (sym (refill_set xs ys i y e))
+    (All-set (IsTaken n) xs i y
+    (subst (IsTaken n)
+    (sym (is ∙ ap (λ (zs : List Request). once_more (get_or zs i d)) e)) here) all)

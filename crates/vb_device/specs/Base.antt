@@ -1,5 +1,5 @@
 -- What devices of every kind keep, but for the set of ballooned pages.
-use Rattle.std.specs.Prelude.{◌≡◌, ℕ, ◌<◌, ◌≤◌, Bool, true, false, List, [], map, length}
+use Rattle.std.specs.Prelude.{◌≡◌, ℕ, ◌<◌, ◌≤◌, Bool, true, false, List, [], ◌∷◌, map, length}
 use Rattle.std.specs.Prelude.{slice_index_or, if◌then◌else◌, ◌==◌}
 use Rattle.vb_model.specs.declared.layout.TheConstants.{INFLATE_QUEUE, DEFLATE_QUEUE}
 use Rattle.vb_model.specs.declared.layout.TheConstants.{STATISTICS_QUEUE, REPORT_QUEUE}
@@ -10,8 +10,8 @@ use Rattle.vb_model.specs.Tables.{has_chains}
 use Rattle.vb_model.specs.Status.{contains, driver_ok}
 use Rattle.vb_ram.specs.Pages.{Page, Pages}
 use Rattle.vb_ram.specs.Part.{Part, no_part}
-use Rattle.vb_ring.specs.Layout.{layout_of}
-use Rattle.vb_device.specs.QueueState.{QueueState, part_of, no_ring}
+use Rattle.vb_ring.specs.Layout.{IsSize, layout_of}
+use Rattle.vb_device.specs.QueueState.{QueueState, part_of, new_queue, no_ring}
 
 abbrev pub numbers_of_frames : List Page → List ℕ
 numbers_of_frames frames = map (λ frame. frame.number) frames
@@ -19,6 +19,12 @@ numbers_of_frames frames = map (λ frame. frame.number) frames
 -- Where the queue of this number stands among a device's four.
 abbrev pub index_of : ℕ → ℕ
 index_of q = if q == REPORT_QUEUE then 3 else q
+
+-- The four queues of so many descriptors, each at the ring page of its number.
+abbrev pub new_queues : ℕ → List QueueState
+new_queues size =
+    map (λ q. new_queue (ring_page size q) size)
+    (INFLATE_QUEUE ∷ DEFLATE_QUEUE ∷ STATISTICS_QUEUE ∷ REPORT_QUEUE ∷ [])
 
 -- The queue of this number.
 abbrev pub queue_at : ℕ → List QueueState → QueueState
@@ -41,11 +47,11 @@ base_part status features target actual queue_size queues last loose =
       loose = numbers_of_frames loose;
     }
 
--- What is always true of one queue: its ring is in its page, a driver that is ready finds it ready,
--- and where no device is attached nothing was taken from it.
+-- What is always true of one queue: its ring is in its pages, a driver that is ready finds it
+-- ready, and where no device is attached nothing was taken from it.
 pub record IsDeviceQueue (mem : Pages) (status descriptors q : ℕ)
     (queue : QueueState) : Type 0 where
-  pub ring : queue.ring.layout ≡ layout_of (ring_page q) descriptors
+  pub ring : queue.ring.layout ≡ layout_of (ring_page descriptors q) descriptors
   pub size : queue.ring.size ≡ descriptors
   pub ready : contains status driver_ok ≡ true → queue.ring.ready ≡ true
   pub idle : length mem ≡ 0 → queue.ring.next_avail ≡ 0
@@ -56,6 +62,7 @@ pub record IsDeviceQueue (mem : Pages) (status descriptors q : ℕ)
 pub record IsBase (mem : Pages) (status queue_size : ℕ) (queues : List QueueState)
     (capacity : ℕ) : Type 0 where
   pub four : length queues ≡ 4
+  pub size : IsSize queue_size
   pub each : (q : ℕ) → has_chains q ≡ true →
       IsDeviceQueue mem status queue_size q (queue_at q queues)
   pub large : 0 < length mem → MIN_GUEST_PAGES ≤ length mem

@@ -5,34 +5,23 @@ use Rattle.std.specs.Prelude.{Result, Ok, Err}
 use Rattle.vb_model.specs.declared.layout.TheConstants.{INFLATE_QUEUE, STATISTICS_QUEUE}
 use Rattle.vb_model.specs.declared.layout.TheConstants.{REPORT_QUEUE}
 use Rattle.vb_model.specs.declared.replies.Refusal.{Refusal}
-use Rattle.vb_model.specs.declared.replies.Refusal.TheVariants.{NoQueue, NotReady, NeedsReset}
-use Rattle.vb_model.specs.Layout.{ring_page}
+use Rattle.vb_model.specs.declared.replies.Refusal.TheVariants.{NoQueue}
 use Rattle.vb_model.specs.Status.{contains, driver_ok}
 use Rattle.vb_model.specs.Requests.{Request}
 use Rattle.vb_model.specs.Device.{visiting, next_page}
 use Rattle.vb_device.specs.declared.worked.Worked.{Worked}
 pub use Rattle.vb_model.specs.FirstRefusal.{refusal_in}
 use Rattle.vb_model.specs.FirstRefusal.{◌⇒◌, first_refusal}
-use Rattle.vb_model.specs.Tables.{has_chains, is_queue_of_requests, is_not_ready, has_fault}
-use Rattle.vb_model.specs.Tables.{lacks_feature, work_tests}
+use Rattle.vb_model.specs.Tables.{has_chains, is_queue_of_requests}
+use Rattle.vb_model.specs.Tables.{work_tests}
 use Rattle.vb_ram.specs.Pages.{Page, Pages, frame_at}
 use Rattle.vb_ram.specs.Part.{Part}
+use Rattle.vb_ring.specs.Layout.{IsBacked}
 use Rattle.vb_ring.specs.Calls.{AddsUsedBy}
-use Rattle.vb_device.specs.Queues.{queue_part, with_queue, queue_end}
+use Rattle.vb_device.specs.Queues.{queue_part, with_queue, queue_layout, queue_end}
 use Rattle.vb_device.specs.Conditions.{finish_refusal, sweep_refusal, ask_refusal, taken_at}
 use Rattle.vb_device.specs.Discards.{discarded, frames_behind, flagged}
 use Rattle.vb_device.specs.Calls.{without_frames, lost_frames, settled}
-
--- Why the status alone refuses a call, where it does.
-abbrev pub readiness_refusal : ℕ → Option Refusal
-readiness_refusal status = first_refusal (work_tests status)
-
--- Why a queue's number, the status and the features refuse a take, where they do.
-abbrev pub take_refusal_by : ℕ → ℕ → ℕ → Option Refusal
-take_refusal_by q status features =
-    first_refusal
-    ((not (has_chains q) ⇒ NoQueue) ∷ (is_not_ready status ⇒ NotReady)
-    ∷ (has_fault status ⇒ NeedsReset) ∷ (lacks_feature features q ⇒ NoQueue) ∷ [])
 
 -- Why a queue's number and the status refuse a finish, where they do.
 abbrev pub queue_refusal : ℕ → ℕ → Option Refusal
@@ -123,13 +112,13 @@ pub record SettlesBy (q index : ℕ) (m1 m2 : Pages) (p1 p2 : Part)
       (result ≡ Ok r.head) × (m2 ≡ without_frames q r.pages m1) ×
       (p2 ≡ settled q r.pages (taken_out q index r.pages m1 p1))
 
--- A chain from this head of the queue can be told as used: the driver is ready, and the ring's page
--- has a frame.
+-- A chain from this head of the queue can be told as used: the driver is ready, and the ring's
+-- pages have frames.
 pub record CanUse (q h : ℕ) (mem : Pages) (part : Part) : Type 0 where
   pub known : has_chains q ≡ true
   pub ready : contains part.status driver_ok ≡ true
   pub head : h < part.queue_size
-  pub backed : IsSome (frame_at mem (ring_page q))
+  pub backed : IsBacked mem (queue_layout q part)
 
 -- One more used entry of the queue is written: this head, with length 0.
 pub record UsesChain (q h : ℕ) (m1 m2 : Pages) (p1 p2 : Part) : Type 0 where

@@ -1,6 +1,6 @@
 -- One queue as a device has it.
-use Rattle.std.specs.Prelude.{◌≡◌, ℕ, ◌+◌, ◌*◌, ◌%◌, Bool, true, false, nat_le, List, [], ◌∷◌}
-use Rattle.std.specs.Prelude.{◌++◌, length, Option, Some, None, Result, Ok, Err, bit_or}
+use Rattle.std.specs.Prelude.{◌≡◌, ℕ, ◌+◌, ◌*◌, ◌%◌, ◌<◌, ◌≤◌, Bool, true, false, nat_le, List, []}
+use Rattle.std.specs.Prelude.{◌∷◌, ◌++◌, All, length, Option, Some, None, Result, Ok, Err, bit_or}
 use Rattle.std.specs.Prelude.{is_none, ◌&&◌}
 use Rattle.vb_model.specs.declared.replies.Refusal.{Refusal}
 use Rattle.vb_model.specs.declared.replies.Refusal.TheVariants.{Busy, Broken}
@@ -11,6 +11,7 @@ use Rattle.vb_model.specs.Status.{needs_reset}
 use Rattle.vb_model.specs.Requests.{Request}
 use Rattle.vb_model.specs.Guest.{LastStatistics}
 use Rattle.vb_model.specs.Limits.{page_size}
+use Rattle.vb_model.specs.Layout.{reserved_pages}
 use Rattle.vb_ram.specs.Pages.{Pages}
 use Rattle.vb_ram.specs.Part.{QueuePart}
 use Rattle.vb_chain.specs.declared.fault.ChainFault.{ChainFault}
@@ -20,8 +21,8 @@ use Rattle.vb_chain.specs.Chain.{ChainGives, FaultGives}
 use Rattle.vb_ring.specs.Layout.{layout_of}
 use Rattle.vb_ring.specs.Ends.{DeviceEnd}
 use Rattle.vb_ring.specs.Entries.{next_entry}
-use Rattle.vb_device.specs.Faults.{rule_of}
-use Rattle.vb_device.specs.Calls.{request_of, noted}
+use Rattle.vb_core.specs.Refusals.{rule_of}
+use Rattle.vb_core.specs.Asked.{request_of, noted}
 
 -- The device's end of the ring, and the chains that are taken, oldest first.
 pub record QueueState : Type 0 where
@@ -31,14 +32,14 @@ pub record QueueState : Type 0 where
 abbrev pub part_of : QueueState → QueuePart
 part_of q = record { next_avail = q.ring.next_avail; next_used = q.ring.next_used; taken = q.taken }
 
--- A queue that begins with so many descriptors, in the ring's page.
-abbrev pub started : Bool → ℕ → DeviceEnd → QueueState
-started ready size ring =
+-- A queue of so many descriptors whose ring begins with this page, and which isn't ready.
+abbrev pub new_queue : ℕ → ℕ → QueueState
+new_queue page size =
     record {
       ring = record {
-        layout = layout_of ring.layout.table size;
+        layout = layout_of page size;
         size = size;
-        ready = ready;
+        ready = false;
         next_avail = 0;
         next_used = 0;
       };
@@ -47,14 +48,13 @@ started ready size ring =
 
 -- A queue that stands for one that isn't there.
 abbrev pub no_ring : QueueState
-no_ring =
-    started false 0 (record {
-      layout = layout_of 0 0;
-      size = 0;
-      ready = false;
-      next_avail = 0;
-      next_used = 0;
-    })
+no_ring = new_queue 0 0
+
+-- What is true of each taken chain of a queue of so many descriptors: it begins with one of them,
+-- and names no reserved page.
+pub record IsTaken (size : ℕ) (r : Request) : Type 0 where
+  pub head : r.head < size
+  pub above : All (λ page. reserved_pages size ≤ page) r.pages
 
 -- The same queue that begins anew, ready or not.
 abbrev pub restarted : Bool → QueueState → QueueState
@@ -99,7 +99,7 @@ NextMeans q mem x1 x2 l1 l2 (Ok (Some h)) =
     (is_full q x1 ≡ false) ×
     ((pages : List ℕ) × (pieces : List Piece) ×
     (next_of mem x1 ≡ Ok (Some h)) × IsChainOf mem x1 h pieces ×
-    (request_of q mem pieces ≡ Ok pages) × (x2 ≡ with_request h pages x1) ×
+    (request_of q x1.ring.size mem pieces ≡ Ok pages) × (x2 ≡ with_request h pages x1) ×
     (l2 ≡ noted q mem pieces l1))
 NextMeans q mem x1 x2 l1 l2 (Err (Broken rule)) =
     (is_full q x1 ≡ false) × (x2 ≡ x1) × (l2 ≡ l1)
@@ -124,11 +124,11 @@ pub record TakesNext (q : ℕ) (mem : Pages) (x1 x2 : QueueState) (l1 l2 : LastS
       Leaves x1 x2 l1 l2 result (Err (Broken (rule_of fault)))
   pub wrong : (h : ℕ) (pieces : List Piece) (fault : ChainFault) → is_full q x1 ≡ false →
       next_of mem x1 ≡ Ok (Some h) → IsChainOf mem x1 h pieces →
-      request_of q mem pieces ≡ Err fault →
+      request_of q x1.ring.size mem pieces ≡ Err fault →
       Leaves x1 x2 l1 l2 result (Err (Broken (rule_of fault)))
   pub takes : (h : ℕ) (pieces : List Piece) (pages : List ℕ) → is_full q x1 ≡ false →
       next_of mem x1 ≡ Ok (Some h) → IsChainOf mem x1 h pieces →
-      request_of q mem pieces ≡ Ok pages →
+      request_of q x1.ring.size mem pieces ≡ Ok pages →
       (result ≡ Ok (Some h)) × (x2 ≡ with_request h pages x1) × (l2 ≡ noted q mem pieces l1)
   pub means : NextMeans q mem x1 x2 l1 l2 result
 

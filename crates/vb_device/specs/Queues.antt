@@ -30,7 +30,7 @@ with_queue q queue part =
 
 -- Where a queue's ring stands.
 abbrev pub queue_layout : ℕ → Part → Layout
-queue_layout q part = layout_of (ring_page q) part.queue_size
+queue_layout q part = layout_of (ring_page part.queue_size q) part.queue_size
 
 -- The device's end of a queue whose driver is ready.
 abbrev pub queue_end : ℕ → Part → DeviceEnd

@@ -1,12 +1,10 @@
 -- A device takes the next chain of a queue (VIRTIO 1.1, 2.6 and 5.5.6).
-use Rattle.std.specs.Prelude.{◌≡◌, ℕ, ◌+◌, ◌*◌, ◌%◌, ◌==◌, List, [], ◌∷◌, ◌++◌, length}
-use Rattle.std.specs.Prelude.{if◌then◌else◌, Option, Some, None, Result, Ok, Err}
-use Rattle.vb_model.specs.declared.layout.TheConstants.{STATISTICS_QUEUE, REPORT_QUEUE}
+use Rattle.std.specs.Prelude.{◌≡◌, ℕ, ◌+◌, ◌*◌, ◌%◌, List, [], ◌∷◌, ◌++◌, length}
+use Rattle.std.specs.Prelude.{Option, Some, None, Result, Ok, Err}
 use Rattle.vb_model.specs.declared.replies.Refusal.{Refusal}
 use Rattle.vb_model.specs.declared.replies.Refusal.TheVariants.{Broken}
 use Rattle.vb_model.specs.Layout.{ring_page}
 use Rattle.vb_model.specs.Limits.{page_size}
-use Rattle.vb_model.specs.Guest.{LastStatistics}
 use Rattle.vb_ram.specs.Pages.{Pages}
 use Rattle.vb_ram.specs.Part.{Part}
 use Rattle.vb_chain.specs.declared.fault.ChainFault.{ChainFault}
@@ -16,19 +14,19 @@ use Rattle.vb_chain.specs.Chain.{ChainGives, FaultGives}
 use Rattle.vb_device.specs.Queues.{queue_part, with_queue, next_available}
 use Rattle.vb_device.specs.Conditions.{take_refusal}
 use Rattle.vb_device.specs.Faults.{Breaks, needing_reset}
-use Rattle.vb_request.specs.Request.{page_request}
-use Rattle.vb_request.specs.Statistics.{statistics_request, statistics_in}
-use Rattle.vb_request.specs.Report.{report_request}
+use Rattle.vb_core.specs.Asked.{request_of, noted}
 
 -- The chain from a head of the queue has these pieces.
 abbrev pub HasChain : ℕ → Pages → Part → ℕ → List Piece → Type 0
 HasChain q mem part h pieces =
-    ChainGives (descriptor_at mem (ring_page q)) part.queue_size (page_size * length mem) h pieces
+    ChainGives (descriptor_at mem (ring_page part.queue_size q)) part.queue_size
+    (page_size * length mem) h pieces
 
 -- This is the first fault on the way from a head of the queue.
 abbrev pub HasFault : ℕ → Pages → Part → ℕ → ChainFault → Type 0
 HasFault q mem part h fault =
-    FaultGives (descriptor_at mem (ring_page q)) part.queue_size (page_size * length mem) h fault
+    FaultGives (descriptor_at mem (ring_page part.queue_size q)) part.queue_size
+    (page_size * length mem) h fault
 
 -- A request from this head, for these pages, is the last taken one of the queue.
 abbrev pub taking : ℕ → ℕ → List ℕ → Part → Part
@@ -40,17 +38,7 @@ taking q h pages part =
     })
     part
 
--- The pages that a chain of these pieces names on a queue, or what is wrong with it there: a buffer
--- of statistics names none.
-abbrev pub request_of : ℕ → Pages → List Piece → Result (List ℕ) ChainFault
-request_of q mem pieces =
-    if q == STATISTICS_QUEUE then statistics_request pieces
-    else (if q == REPORT_QUEUE then report_request pieces else page_request mem pieces)
-
 -- A buffer of statistics replaces what the device knew of its guest's memory.
-abbrev pub noted : ℕ → Pages → List Piece → LastStatistics → LastStatistics
-noted q mem pieces last = if q == STATISTICS_QUEUE then statistics_in mem pieces else last
-
 abbrev pub noting : ℕ → Pages → List Piece → Part → Part
 noting q mem pieces part = record part { last = noted q mem pieces part.last }
 
@@ -59,7 +47,7 @@ pub record IsNextRequest (q : ℕ) (mem : Pages) (part : Part) (h : ℕ) (pages 
   pub next : next_available q mem part ≡ Ok (Some h)
   pub pieces : List Piece
   pub chain : HasChain q mem part h pieces
-  pub request : request_of q mem pieces ≡ Ok pages
+  pub request : request_of q part.queue_size mem pieces ≡ Ok pages
 
 -- What each answer of a take says, whatever the guest's bytes are.
 abbrev pub TakeMeans : ℕ → Pages → Part → Part → Result (Option ℕ) Refusal → Type 0
@@ -85,9 +73,9 @@ pub record TakesBy (q : ℕ) (m1 m2 : Pages) (p1 p2 : Part)
       next_available q m1 p1 ≡ Ok (Some h) → HasFault q m1 p1 h fault → Breaks fault p1 p2 result
   pub wrong : (h : ℕ) (pieces : List Piece) (fault : ChainFault) → take_refusal q p1 ≡ None →
       next_available q m1 p1 ≡ Ok (Some h) → HasChain q m1 p1 h pieces →
-      request_of q m1 pieces ≡ Err fault → Breaks fault p1 p2 result
+      request_of q p1.queue_size m1 pieces ≡ Err fault → Breaks fault p1 p2 result
   pub takes : (h : ℕ) (pieces : List Piece) (pages : List ℕ) → take_refusal q p1 ≡ None →
       next_available q m1 p1 ≡ Ok (Some h) → HasChain q m1 p1 h pieces →
-      request_of q m1 pieces ≡ Ok pages →
+      request_of q p1.queue_size m1 pieces ≡ Ok pages →
       (result ≡ Ok (Some h)) × (p2 ≡ taking q h pages (noting q m1 pieces p1))
   pub means : TakeMeans q m1 p1 p2 result

@@ -1,9 +1,9 @@
 //! Balloon devices of both paces (profile).
 
-ghost use Rattle.std.specs.Prelude.{◌≡◌, [], true, false, IsSome, IfOk, length};
-ghost use Rattle.vb_model.specs.Layout.{ring_page};
+ghost use Rattle.std.specs.Prelude.{◌≡◌, [], true, false, IfOk, length};
 ghost use Rattle.vb_model.specs.Status.{contains, driver_ok};
-ghost use Rattle.vb_ram.specs.Pages.{frame_at};
+ghost use Rattle.vb_ring.specs.Layout.{IsBacked};
+ghost use Rattle.vb_device.specs.Queues.{queue_layout};
 ghost use Rattle.vb_device.specs.BaseCalls.{SettlesBy, CanUse};
 ghost use Rattle.vb_device.specs.Calls.{IsUnused};
 
@@ -66,11 +66,19 @@ impl<P: Pace> BalloonDevice<P> {
         }
     }
 
+    /// Whether the pages of a queue's ring have frames, as a finish wants it: for the tests.
+    #[cfg(test)]
+    pub(crate) fn has_ring(&self, queue: u32) -> bool
+        ensures { result ≡ true → IsBacked self.now.mem (queue_layout queue self.now.part) }
+    {
+        self.base.has_ring(queue)
+    }
+
     /// All of `finish` but for the used entry: takes the request out and its pages' frames away,
     /// and then marks the pages. Nothing is written.
     pub(crate) fn settle(&mut self, queue: u32, index: u32) -> Result<u16, Refusal>
         requires backed { contains self.old.part.status driver_ok ≡ true →
-            IsSome (frame_at self.old.mem (ring_page queue)) }
+            IsBacked self.old.mem (queue_layout queue self.old.part) }
         requires none { self.old.part.loose ≡ [] }
         ensures by { SettlesBy queue index self.old.mem self.new.mem
             self.old.part self.new.part result }

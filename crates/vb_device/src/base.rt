@@ -6,17 +6,18 @@ ghost use Rattle.std.specs.Prelude.{OnOk, OnSome, OnErr, length};
 ghost use Rattle.std.specs.Prelude.{replicate, vec_capacity};
 ghost use Rattle.vb_model.specs.declared.layout.TheConstants.{DEFLATE_QUEUE, STATISTICS_QUEUE};
 ghost use Rattle.vb_model.specs.declared.limits.TheConstants.{MAX_QUEUE_SIZE};
-ghost use Rattle.vb_model.specs.Tables.{lacks_feature};
-ghost use Rattle.vb_model.specs.Layout.{ring_page};
 ghost use Rattle.vb_model.specs.Limits.{is_config};
 ghost use Rattle.vb_model.specs.Status.{contains, driver_ok};
 ghost use Rattle.vb_ram.specs.Pages.{frame_at, Supplied, IsWhole};
 ghost use Rattle.vb_status.specs.After.{part_after_reset};
 ghost use Rattle.vb_status.specs.Bits.{status_bits};
+ghost use Rattle.vb_ring.specs.Layout.{IsBacked};
+ghost use Rattle.vb_device.specs.Queues.{queue_layout};
 ghost use Rattle.vb_device.specs.Base.{IsPlain, with_pace};
-ghost use Rattle.vb_device.specs.BaseCalls.{TakesOut, UsesChain, CanUse, readiness_refusal};
+ghost use Rattle.vb_device.specs.BaseCalls.{TakesOut, UsesChain, CanUse};
+ghost use Rattle.vb_core.specs.Refusals.{readiness_refusal, take_refusal_by};
 ghost use Rattle.vb_device.specs.BaseCalls.{queue_refusal, SweepsPage, GivesLast};
-ghost use Rattle.vb_device.specs.BaseCalls.{with_visit, VisitsNext, take_refusal_by, TakesBuffer};
+ghost use Rattle.vb_device.specs.BaseCalls.{with_visit, VisitsNext, TakesBuffer};
 ghost use Rattle.vb_device.specs.BaseCalls.{visited_queue, page_to_visit};
 ghost use Rattle.vb_device.specs.Calls.{IsUnused, attached, TakesBy, AsksBy, DetachesBy};
 ghost use Rattle.vb_device.specs.Discards.{discarded, frames_behind};
@@ -25,17 +26,14 @@ ghost use Rattle.vb_device.specs.QueueState.{status_after};
 use crate::discarding::{discard_memory, discard_page, discard_request};
 use crate::flags::PageFlags;
 use crate::queue::DeviceQueue;
-use crate::queues::{index_of, set_all_ready, set_sizes};
+use crate::queues::{index_of, new_queues, place_queues, set_all_ready};
 use crate::taken::TakenRequest;
 use crate::{Statistics, Worked};
 use bitflags::Flags;
 use std::alloc::{AllocError, Global};
 use std::marker::Model;
 use vb_chain::Chain;
-use vb_model::layout::{
-    DEFLATE_QUEUE, DEFLATE_RING_PAGE, INFLATE_QUEUE, INFLATE_RING_PAGE, REPORT_QUEUE,
-    REPORT_RING_PAGE, STATISTICS_QUEUE, STATISTICS_RING_PAGE,
-};
+use vb_model::layout::{DEFLATE_QUEUE, INFLATE_QUEUE, REPORT_QUEUE, STATISTICS_QUEUE};
 use vb_model::{Refusal, limits};
 use vb_ram::{Config, Frame, GuestBytes, Ram, RamFault, SupplyRefused};
 use vb_status::{Features, Port, Status, StatusFault, negotiate, write_status};
@@ -114,12 +112,7 @@ impl DeviceBase {
             target: 0,
             actual: 0,
             queue_size: limits::MAX_QUEUE_SIZE as u16,
-            queues: [
-                DeviceQueue::new(INFLATE_RING_PAGE),
-                DeviceQueue::new(DEFLATE_RING_PAGE),
-                DeviceQueue::new(STATISTICS_RING_PAGE),
-                DeviceQueue::new(REPORT_RING_PAGE),
-            ],
+            queues: new_queues(),
             last: Statistics::NONE,
             loose: Vec::new(alloc),
             chain: Chain::new(),
@@ -152,7 +145,7 @@ impl DeviceBase {
         self.loose = loose;
         self.target = 0;
         self.queue_size = config.queue_size;
-        set_sizes(&mut self.queues, config.queue_size);
+        place_queues(&mut self.queues, config.shape());
         Ok(())
     }
 
@@ -173,13 +166,7 @@ impl DeviceBase {
     pub(crate) fn readiness_refusal(&self) -> Option<Refusal>
         ensures { result ≡ readiness_refusal self.now.part.status }
     {
-        if !self.status.contains(Status::DRIVER_OK) || self.status.contains(Status::FAILED) {
-            Some(Refusal::NotReady)
-        } else if self.status.contains(Status::DEVICE_NEEDS_RESET) {
-            Some(Refusal::NeedsReset)
-        } else {
-            None
-        }
+        vb_core::readiness_refusal(self.status)
     }
 
     /// `NoQueue` where no chain is finished on a queue of this number, or what the status alone
@@ -193,29 +180,12 @@ impl DeviceBase {
         self.readiness_refusal()
     }
 
-    /// Whether the queue stands or falls with a feature that the driver didn't accept.
-    fn lacks_feature(&self, queue: u32) -> bool
-        ensures { result ≡ lacks_feature self.now.part.features queue }
-    {
-        queue == STATISTICS_QUEUE && !self.features.stats_vq()
-            || queue == REPORT_QUEUE && !self.features.reporting()
-    }
-
     /// What a take is refused for by the queue's number, the status and the features.
     fn take_refusal(&self, queue: u32) -> Option<Refusal>
         ensures { result ≡
             take_refusal_by queue self.now.part.status self.now.part.features }
     {
-        if queue > STATISTICS_QUEUE && queue != REPORT_QUEUE {
-            return Some(Refusal::NoQueue);
-        }
-        if let Some(why) = self.readiness_refusal() {
-            return Some(why);
-        }
-        if self.lacks_feature(queue) {
-            return Some(Refusal::NoQueue);
-        }
-        None
+        vb_core::take_refusal(queue, self.status, self.features)
     }
 
     /// Takes the next chain of a queue.
@@ -241,7 +211,7 @@ impl DeviceBase {
         paced: bool,
     ) -> Result<TakenRequest, Refusal>
         requires backed { contains self.old.part.status driver_ok ≡ true →
-            IsSome (frame_at self.old.mem (ring_page queue)) }
+            IsBacked self.old.mem (queue_layout queue self.old.part) }
         requires none { self.old.part.loose ≡ [] }
         ensures by { TakesOut queue index self.old.mem self.new.mem
             (with_pace paced self.old.part) (with_pace paced self.new.part) result }
@@ -263,6 +233,20 @@ impl DeviceBase {
         }
     }
 
+    /// Whether the pages of a queue's ring have frames, as a finish wants it: for the tests.
+    #[cfg(test)]
+    pub(crate) fn has_ring(&self, queue: u32) -> bool
+        ensures { result ≡ true → IsBacked self.now.mem (queue_layout queue self.now.part) }
+    {
+        if queue > STATISTICS_QUEUE && queue != REPORT_QUEUE {
+            return false;
+        }
+        let layout = self.queues[index_of(queue)].layout();
+        self.ram.backing(layout.table).is_some()
+            && self.ram.backing(layout.avail.page).is_some()
+            && self.ram.backing(layout.used.page).is_some()
+    }
+
     /// Tells the driver that the chain from this head was used.
     pub(crate) fn use_chain(&mut self, queue: u32, head: u16)
         requires { CanUse queue head self.old.mem self.old.part }
@@ -275,7 +259,7 @@ impl DeviceBase {
     /// Takes the statistics buffer out, if it is taken; answers its head.
     fn take_buffer(&mut self) -> Result<u16, Refusal>
         requires backed { contains self.old.part.status driver_ok ≡ true →
-            IsSome (frame_at self.old.mem (ring_page STATISTICS_QUEUE)) }
+            IsBacked self.old.mem (queue_layout STATISTICS_QUEUE self.old.part) }
         ensures by { TakesBuffer self.old.mem self.new.mem self.old.part self.new.part result }
         ensures ready { IfOk result
             (λ head. CanUse STATISTICS_QUEUE head self.new.mem self.new.part) }
@@ -290,7 +274,7 @@ impl DeviceBase {
     /// Uses the statistics buffer that was taken.
     pub(crate) fn ask_stats(&mut self) -> Result<(), Refusal>
         requires backed { contains self.old.part.status driver_ok ≡ true →
-            IsSome (frame_at self.old.mem (ring_page STATISTICS_QUEUE)) }
+            IsBacked self.old.mem (queue_layout STATISTICS_QUEUE self.old.part) }
         ensures { AsksBy self.old.mem self.new.mem self.old.part self.new.part result }
     {
         let head = self.take_buffer()?;

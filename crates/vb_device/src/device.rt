@@ -5,10 +5,11 @@ ghost use Rattle.std.specs.Prelude.{OnOk, OnErr, length, replicate, count_by};
 ghost use Rattle.vb_model.specs.declared.calls.Claim.{Claim};
 ghost use Rattle.vb_model.specs.declared.layout.TheConstants.{STATISTICS_QUEUE};
 ghost use Rattle.vb_model.specs.Guest.{is_ballooned};
-ghost use Rattle.vb_model.specs.Layout.{ring_page};
 ghost use Rattle.vb_model.specs.Limits.{is_config};
 ghost use Rattle.vb_model.specs.Status.{contains, driver_ok};
 ghost use Rattle.vb_ram.specs.Pages.{frame_at, Supplied, IsWhole};
+ghost use Rattle.vb_ring.specs.Layout.{IsBacked};
+ghost use Rattle.vb_device.specs.Queues.{queue_layout};
 ghost use Rattle.vb_device.specs.Calls.{IsUnused, attached, TakesBy, WorksBy, FinishesBy};
 ghost use Rattle.vb_device.specs.Calls.{AsksBy, SweepsBy, DetachesBy, HandsBack, Claims};
 ghost use Rattle.vb_device.specs.Calls.{IsAnswered, PutsBack};
@@ -110,7 +111,7 @@ pub trait Device: Port + Drop {
     /// refusal changes nothing.
     fn finish(&mut self, queue: u32, index: u32) -> Result<u16, Refusal>
         requires backed { contains (Self.part self.old).status driver_ok ≡ true →
-            IsSome (frame_at (Self.mem self.old) (ring_page queue)) }
+            IsBacked (Self.mem self.old) (queue_layout queue (Self.part self.old)) }
         requires none { (Self.part self.old).loose ≡ [] }
         ensures { FinishesBy queue index (Self.mem self.old) (Self.mem self.new)
             (Self.part self.old) (Self.part self.new) result };
@@ -130,7 +131,7 @@ pub trait Device: Port + Drop {
     /// in this order; a refusal changes nothing.
     fn ask_stats(&mut self) -> Result<(), Refusal>
         requires backed { contains (Self.part self.old).status driver_ok ≡ true →
-            IsSome (frame_at (Self.mem self.old) (ring_page STATISTICS_QUEUE)) }
+            IsBacked (Self.mem self.old) (queue_layout STATISTICS_QUEUE (Self.part self.old)) }
         ensures { AsksBy (Self.mem self.old) (Self.mem self.new)
             (Self.part self.old) (Self.part self.new) result };
 

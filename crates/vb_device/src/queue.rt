@@ -6,57 +6,32 @@ ghost use Rattle.std.specs.Prelude.{remove};
 ghost use Rattle.std.specs.Int.{is_power_of_two};
 ghost use Rattle.std.specs.List.{position};
 ghost use Rattle.vb_model.specs.declared.limits.TheConstants.{MIN_QUEUE_SIZE, MAX_QUEUE_SIZE};
-ghost use Rattle.vb_model.specs.declared.replies.Refusal.TheVariants.{Broken};
-ghost use Rattle.vb_model.specs.Limits.{max_outstanding, reserved_pages};
+ghost use Rattle.vb_model.specs.Limits.{max_outstanding};
+ghost use Rattle.vb_model.specs.Layout.{reserved_pages};
 ghost use Rattle.vb_model.specs.Device.{is_unvisited, next_page, visiting};
 ghost use Rattle.vb_model.specs.FirstRefusal.{refusal_in};
 ghost use Rattle.vb_ring.specs.Layout.{layout_of, IsInside, IsBacked};
 ghost use Rattle.vb_ring.specs.Ends.{IsDeviceEnd};
 ghost use Rattle.vb_ring.specs.Calls.{AddsUsedBy};
-ghost use Rattle.vb_device.specs.Faults.{rule_of};
-ghost use Rattle.vb_device.specs.QueueState.{started, restarted, is_full, TakesNext};
+ghost use Rattle.vb_device.specs.QueueState.{new_queue, restarted, is_full, TakesNext};
 ghost use Rattle.vb_device.specs.QueueState.{taken_refusal};
 
 use crate::Statistics;
-use crate::taken::{TakenRequest, read_chain};
+use crate::taken::TakenRequest;
 use arrayvec::ArrayVec;
 use std::marker::Model;
-use vb_chain::{Chain, ChainFault};
+use vb_chain::Chain;
+use vb_core::{broken, read_chain};
 use vb_model::Refusal;
 use vb_model::layout::STATISTICS_QUEUE;
 use vb_model::limits::MAX_OUTSTANDING;
-use vb_ram::GuestBytes;
+use vb_ram::{GuestBytes, Shape};
+#[cfg(test)]
+use vb_ring::Layout;
 use vb_ring::Queue;
 
 /// Chains of a queue that may be taken at a time.
 const MAX_TAKEN: usize = MAX_OUTSTANDING as usize;
-
-/// The number of the rule that a fault breaks.
-fn rule_of(fault: ChainFault) -> u32
-    ensures { result ≡ rule_of fault }
-{
-    match fault {
-        ChainFault::BadHead => 1,
-        ChainFault::BadNext => 2,
-        ChainFault::TooLong => 3,
-        ChainFault::Indirect => 4,
-        ChainFault::WrongDirection => 5,
-        ChainFault::OutOfRam => 6,
-        ChainFault::IndexJump => 7,
-        ChainFault::BadLength => 8,
-        ChainFault::BadPage => 9,
-        ChainFault::ReservedPage => 10,
-    }
-}
-
-/// The answer to a chain with a fault.
-fn broken(fault: ChainFault) -> Refusal
-    ensures { result ≡ Broken (rule_of fault) }
-{
-    Refusal::Broken {
-        rule: rule_of(fault),
-    }
-}
 
 /// The device's end of a queue.
 #[derive(Drop)]
@@ -68,28 +43,20 @@ pub(crate) struct DeviceQueue {
 }
 
 impl Model for DeviceQueue {
-    ghost use Rattle.std.specs.Prelude.{◌<◌, All};
-    ghost use Rattle.vb_device.specs.QueueState.{QueueState};
+    ghost use Rattle.std.specs.Prelude.{All};
+    ghost use Rattle.vb_device.specs.QueueState.{QueueState, IsTaken};
 
     ghost Value = { QueueState };
 
     ghost view = { λ q. record { ring = q.queue; taken = q.taken.items } };
 
-    ghost invariant = { λ q. All (λ r. r.head < q.queue.size) q.taken.items };
+    ghost invariant = { λ q. All (IsTaken q.queue.size) q.taken.items };
 }
 
 impl DeviceQueue {
-    /// A queue whose ring is in this page, and which isn't ready.
-    pub(crate) fn new(page: u32) -> DeviceQueue
-        ensures { result ≡
-            started false MAX_QUEUE_SIZE
-            (record {
-              layout = layout_of page MAX_QUEUE_SIZE;
-              size = MAX_QUEUE_SIZE;
-              ready = false;
-              next_avail = 0;
-              next_used = 0;
-            }) }
+    /// A queue of the greatest size whose ring begins with this page, and which isn't ready.
+    pub(crate) fn new(page: u16) -> DeviceQueue
+        ensures { result ≡ new_queue page MAX_QUEUE_SIZE }
     {
         DeviceQueue {
             queue: Queue::new(page),
@@ -97,14 +64,24 @@ impl DeviceQueue {
         }
     }
 
-    /// Gives the queue so many descriptors; nothing is taken, and it isn't ready.
-    pub(crate) fn set_size(&mut self, size: u16)
+    /// Gives the queue so many descriptors, in a ring that begins with this page; nothing is taken,
+    /// and it isn't ready.
+    pub(crate) fn place(&mut self, page: u16, size: u16)
         requires { IsTrue (is_power_of_two size) × (MIN_QUEUE_SIZE ≤ size) ×
             (size ≤ MAX_QUEUE_SIZE) }
-        ensures { self.new ≡ started false size self.old.ring }
+        ensures { self.new ≡ new_queue page size }
     {
         self.set_ready(false);
+        self.queue = Queue::new(page);
         let _sized = self.queue.set_size(size);
+    }
+
+    /// Where its ring lies: for the tests.
+    #[cfg(test)]
+    pub(crate) fn layout(&self) -> Layout
+        ensures { result ≡ self.now.ring.layout }
+    {
+        self.queue.layout()
     }
 
     /// Starts or stops the queue; nothing is taken.
@@ -152,11 +129,14 @@ impl DeviceQueue {
         if ram.pages() == 0 {
             return Ok(None);
         }
+        let shape = Shape {
+            queue_size: self.queue.size(),
+        };
         match self.queue.pop_descriptor_chain_into(ram, chain) {
             Err(fault) => Err(broken(fault)),
             Ok(found) => match found {
                 None => Ok(None),
-                Some(head) => match read_chain(queue, ram, chain.pieces(), last) {
+                Some(head) => match read_chain(queue, shape, ram, chain.pieces(), last) {
                     Ok(pages) => {
                         self.taken.push(TakenRequest::new(head, pages));
                         Ok(Some(head))
@@ -196,7 +176,8 @@ impl DeviceQueue {
             taken_refusal visits (slice_get self.old.taken index) }
         ensures value { IfOk result (λ r. slice_get self.old.taken index ≡ Some r) }
         ensures head { IfOk result (λ r. r.head < self.old.ring.size) }
-        ensures above { IfOk result (λ r. All (λ page. reserved_pages ≤ page) r.pages) }
+        ensures above { IfOk result
+            (λ r. All (λ page. reserved_pages self.old.ring.size ≤ page) r.pages) }
         ensures err { OnErr result (self.new ≡ self.old) }
         ensures rest { OnOk result (self.new ≡
             record self.old { taken = remove self.old.taken index }) }
@@ -208,10 +189,7 @@ impl DeviceQueue {
         if visits && self.taken[at].is_unvisited() {
             return Err(Refusal::NotWorked);
         }
-        let request = self.taken.remove(at);
-        // Asked for the proof, which has what holds of each request from then on.
-        let _count = request.count();
-        Ok(request)
+        Ok(self.taken.remove(at))
     }
 
     /// Adds a chain to the used ring, with length 0.

@@ -4,11 +4,13 @@ ghost use Rattle.std.specs.Prelude.{◌≡◌, ◌==◌, ◌<◌, ◌≤◌, tru
 ghost use Rattle.std.specs.Int.{is_power_of_two};
 ghost use Rattle.vb_model.specs.declared.limits.TheConstants.{MIN_QUEUE_SIZE, MAX_QUEUE_SIZE};
 ghost use Rattle.vb_model.specs.Tables.{has_chains};
-ghost use Rattle.vb_device.specs.Base.{index_of};
-ghost use Rattle.vb_device.specs.QueueState.{started, restarted};
+ghost use Rattle.vb_device.specs.Base.{index_of, new_queues};
+ghost use Rattle.vb_device.specs.QueueState.{restarted};
 
 use crate::queue::DeviceQueue;
-use vb_model::layout::REPORT_QUEUE;
+use vb_model::layout::{DEFLATE_QUEUE, INFLATE_QUEUE, REPORT_QUEUE, STATISTICS_QUEUE};
+use vb_model::limits;
+use vb_ram::Shape;
 
 /// Where the queue of this number stands among a device's four.
 pub(crate) fn index_of(queue: u32) -> usize
@@ -23,15 +25,32 @@ pub(crate) fn index_of(queue: u32) -> usize
     }
 }
 
-/// Gives each queue so many descriptors; nothing is taken, and none is ready.
-pub(crate) fn set_sizes(queues: &mut [DeviceQueue; 4], size: u16)
-    requires { IsTrue (is_power_of_two size) × (MIN_QUEUE_SIZE ≤ size) × (size ≤ MAX_QUEUE_SIZE) }
-    ensures { queues.new ≡ map (λ q. started false size q.ring) queues.old }
+/// The queues of a device that no guest has yet, of the greatest size; none is ready.
+pub(crate) fn new_queues() -> [DeviceQueue; 4]
+    ensures { result ≡ new_queues MAX_QUEUE_SIZE }
 {
-    queues[0].set_size(size);
-    queues[1].set_size(size);
-    queues[2].set_size(size);
-    queues[3].set_size(size);
+    let shape = Shape {
+        queue_size: limits::MAX_QUEUE_SIZE as u16,
+    };
+    [
+        DeviceQueue::new(shape.ring_page(INFLATE_QUEUE)),
+        DeviceQueue::new(shape.ring_page(DEFLATE_QUEUE)),
+        DeviceQueue::new(shape.ring_page(STATISTICS_QUEUE)),
+        DeviceQueue::new(shape.ring_page(REPORT_QUEUE)),
+    ]
+}
+
+/// Gives each queue the descriptors and the ring pages of this shape; nothing is taken, and none is
+/// ready.
+pub(crate) fn place_queues(queues: &mut [DeviceQueue; 4], shape: Shape)
+    requires { IsTrue (is_power_of_two shape.queue_size) × (MIN_QUEUE_SIZE ≤ shape.queue_size) ×
+        (shape.queue_size ≤ MAX_QUEUE_SIZE) }
+    ensures { queues.new ≡ new_queues shape.queue_size }
+{
+    queues[0].place(shape.ring_page(INFLATE_QUEUE), shape.queue_size);
+    queues[1].place(shape.ring_page(DEFLATE_QUEUE), shape.queue_size);
+    queues[2].place(shape.ring_page(STATISTICS_QUEUE), shape.queue_size);
+    queues[3].place(shape.ring_page(REPORT_QUEUE), shape.queue_size);
 }
 
 /// Starts or stops each queue; nothing is taken.

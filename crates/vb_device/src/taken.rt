@@ -1,19 +1,11 @@
 //! A chain that a device has taken.
 
-ghost use Rattle.std.specs.Prelude.{◌≡◌, ◌<◌, ◌≤◌, ◌+◌, ◌*◌, ◌^◌, All, MatchResult};
-ghost use Rattle.std.specs.Prelude.{true, OnOk, OnErr, Ok, Err, Some, length, slice_get};
-ghost use Rattle.vb_model.specs.declared.limits.TheConstants.{MAX_QUEUE_SIZE};
-ghost use Rattle.vb_model.specs.Limits.{page_size, reserved_pages};
+ghost use Rattle.std.specs.Prelude.{◌≡◌, ◌<◌, ◌≤◌, ◌+◌, ◌^◌, true, Some, length, slice_get};
 ghost use Rattle.vb_model.specs.Device.{is_unvisited};
 ghost use Rattle.vb_request.specs.Report.{IsRun};
-ghost use Rattle.vb_device.specs.Calls.{request_of, noted};
 
-use crate::Statistics;
 use std::marker::Model;
-use vb_chain::{ChainFault, Piece};
-use vb_model::layout::{REPORT_QUEUE, STATISTICS_QUEUE};
-use vb_ram::GuestBytes;
-use vb_request::{NamedPages, NamedRun, read_report, read_request, read_statistics};
+use vb_request::{NamedPages, NamedRun};
 
 /// A chain that was taken and isn't used yet.
 #[derive(Drop)]
@@ -65,8 +57,7 @@ impl TakenRequest {
 
     /// How many pages it names; one that a report names again counts again.
     pub(crate) fn count(&self) -> u32
-        ensures count { result ≡ length self.now.pages }
-        ensures above { All (λ page. reserved_pages ≤ page) self.now.pages }
+        ensures { result ≡ length self.now.pages }
     {
         self.pages.count()
     }
@@ -113,37 +104,5 @@ impl TakenRequest {
         let page = self.page(self.visited);
         self.visited += 1;
         page
-    }
-}
-
-/// The pages that a chain of these pieces names on a queue, or the first rule that it breaks there.
-/// What a buffer of statistics says replaces `last`.
-pub(crate) fn read_chain<G: GuestBytes>(
-    queue: u32,
-    ram: &G,
-    pieces: &[Piece],
-    last: &mut Statistics,
-) -> Result<NamedPages, ChainFault>
-    requires inside { All
-        (λ piece. piece.addr + piece.len ≤ page_size * length (G.mem ram.now)) pieces.now }
-    requires few { length pieces.now ≤ MAX_QUEUE_SIZE }
-    ensures pages { MatchResult result
-        (λ pages. request_of queue (G.mem ram.now) pieces.now ≡ Ok pages)
-        (λ fault. request_of queue (G.mem ram.now) pieces.now ≡ Err fault) }
-    ensures said { OnOk result ((last.new.free ≡ (noted queue (G.mem ram.now) pieces.now
-        (record { free = last.old.free; total = last.old.total })).free) ×
-        (last.new.total ≡ (noted queue (G.mem ram.now) pieces.now
-        (record { free = last.old.free; total = last.old.total })).total)) }
-    ensures err { OnErr result (last.new ≡ last.old) }
-{
-    // Asked for the proof: that memory has fewer than 2^32 pages is a clause of this call alone.
-    let _few = ram.pages();
-    match queue {
-        STATISTICS_QUEUE => {
-            *last = read_statistics(ram, pieces)?;
-            Ok(NamedPages::none())
-        }
-        REPORT_QUEUE => read_report(pieces),
-        _ => read_request(ram, pieces),
     }
 }

@@ -18,7 +18,7 @@ use bitflags::Flags;
 use std::alloc::Global;
 use std::process::Abort;
 use vb_model::Refusal;
-use vb_ram::{Config, Frame, GuestBytes};
+use vb_ram::{Config, Frame, GuestBytes, Shape};
 use vb_status::{Features, Port, Status};
 
 /// What a host and a driver do with a device.
@@ -32,8 +32,8 @@ enum Step {
     WriteStatus(u8),
     /// Bytes are written to a page, from an offset on.
     Write(u32, usize, &'static [u8]),
-    /// In a new life the driver writes descriptors and an available ring for queues of 8, and the
-    /// first chain of a queue is taken.
+    /// In a new life the driver writes descriptors and an available ring of a queue, and the
+    /// queue's first chain is taken.
     TakeChain(u32, &'static [u8], [u8; 6]),
     Take(u32),
     /// The statistics buffer is given back.
@@ -110,10 +110,12 @@ fn done(is_done: bool) -> Answer {
 #[derive(Drop)]
 struct Host<P: Pace> {
     device: BalloonDevice<P>,
+    /// Where the driver's rings stand.
+    shape: Shape,
 }
 
-/// Gives a device a guest of so many pages, whose rings and buffers have frames 0 to 12; says
-/// whether it has them.
+/// Gives a device a guest of so many pages, whose rings and buffers have the frames of their pages'
+/// numbers; says whether it has them.
 fn attach<P: Pace>(
     device: &mut BalloonDevice<P>,
     alloc: Global,
@@ -127,13 +129,15 @@ fn attach<P: Pace>(
         queue_size,
         processors: 1,
     };
-    config.is_within_limits() && device.attach(alloc, config).is_ok() && supply_first(device, alloc)
+    config.is_within_limits()
+        && device.attach(alloc, config).is_ok()
+        && supply_first(device, alloc, config.shape())
 }
 
-/// Puts frames 0 to 12 behind the first pages.
-fn supply_first<P: Pace>(device: &mut BalloonDevice<P>, alloc: Global) -> bool {
-    for page in 0..13 {
-        if !supply(device, alloc, page, page) {
+/// Puts a frame of its number behind each page of rings and buffers.
+fn supply_first<P: Pace>(device: &mut BalloonDevice<P>, alloc: Global, shape: Shape) -> bool {
+    for page in 0..32 {
+        if shape.is_start_page(page) && !supply(device, alloc, page, page) {
             return false;
         }
     }
@@ -175,7 +179,7 @@ impl<P: Pace> Host<P> {
     }
 
     fn settle(&mut self) -> Answer {
-        if self.device.hand_back().is_some() || self.device.backing(0).is_none() {
+        if self.device.hand_back().is_some() || !self.device.has_ring(0) {
             return Answer::Is(false);
         }
         match self.device.settle(0, 0) {
@@ -185,12 +189,7 @@ impl<P: Pace> Host<P> {
     }
 
     fn finish(&mut self, queue: u32, index: u32) -> Answer {
-        if self.device.hand_back().is_some()
-            || self.device.backing(0).is_none()
-            || self.device.backing(1).is_none()
-            || self.device.backing(2).is_none()
-            || self.device.backing(3).is_none()
-        {
+        if self.device.hand_back().is_some() || !self.device.has_ring(queue) {
             return Answer::Is(false);
         }
         match self.device.finish(queue, index) {
@@ -200,7 +199,7 @@ impl<P: Pace> Host<P> {
     }
 
     fn ask(&mut self) -> Answer {
-        if self.device.backing(2).is_none() {
+        if !self.device.has_ring(2) {
             return Answer::Is(false);
         }
         match self.device.ask_stats() {
@@ -301,10 +300,13 @@ impl<P: Pace> Host<P> {
     }
 
     fn take_chain(&mut self, queue: u32, descriptors: &[u8], available: &[u8; 6]) -> Answer {
-        let ring_page = if queue == 4 { 3 } else { queue };
+        let page = u32::from(self.shape.ring_page(queue));
+        let table = 16 * u32::from(self.shape.queue_size);
         let _ = self.start();
-        let _ = self.device.write(ring_page, 0, descriptors);
-        let _ = self.device.write(ring_page, 128, available);
+        let _ = self.device.write(page, 0, descriptors);
+        let _ = self
+            .device
+            .write(page + table / 4096, (table % 4096) as usize, available);
         self.take(queue)
     }
 
@@ -388,7 +390,10 @@ fn first_wrong<P: Pace>(alloc: Global, scenario: &Scenario) -> Option<(usize, us
     let (_, pages, queue_size, tables) = scenario;
     let mut device = BalloonDevice::<P>::of_pace(alloc);
     let is_attached = attach(&mut device, alloc, *pages, *queue_size);
-    let mut host = Host { device };
+    let shape = Shape {
+        queue_size: *queue_size,
+    };
+    let mut host = Host { device, shape };
     host.first_wrong_table(alloc, is_attached, tables)
 }
 

@@ -4,6 +4,7 @@ use super::requests::INFLATE;
 use super::{Answer, Host, Scenario, Sight, Step, expect};
 use crate::{BalloonDevice, Immediate};
 use vb_model::Refusal;
+use vb_ram::Shape;
 
 const NOT_ATTACHED: &'static [(Step, Answer)] = &[
     (Step::Take(0), Answer::Refused(Refusal::NotReady)),
@@ -16,6 +17,7 @@ const NOT_ATTACHED: &'static [(Step, Answer)] = &[
 fn a_device_that_is_not_attached(rt: HostRuntime) {
     let mut host = Host::<Immediate> {
         device: BalloonDevice::of_pace(rt.alloc()),
+        shape: Shape { queue_size: 256 },
     };
     assert!(rt; host.first_wrong(rt.alloc(), NOT_ATTACHED).is_none());
 }

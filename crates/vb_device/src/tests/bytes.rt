@@ -3,6 +3,9 @@
 /// A request for pages 17 to 20.
 pub(super) const NUMBERS: [u8; 16] = [17, 0, 0, 0, 18, 0, 0, 0, 19, 0, 0, 0, 20, 0, 0, 0];
 
+/// A request for pages 32 to 35.
+pub(super) const NUMBERS_FROM_32: [u8; 16] = [32, 0, 0, 0, 33, 0, 0, 0, 34, 0, 0, 0, 35, 0, 0, 0];
+
 /// An available ring with one entry, for head 0.
 pub(super) const AVAILABLE: [u8; 6] = [0, 0, 1, 0, 0, 0];
 

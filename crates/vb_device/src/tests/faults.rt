@@ -158,8 +158,115 @@ const FEATURES_MISSING: &'static [(Step, Answer)] = &[
     (Step::Take(3), Answer::Refused(Refusal::NoQueue)),
 ];
 
+/// Numbers 31, 16, 32, 79 and 80.
+const BOUNDS: [u8; 20] = [
+    31, 0, 0, 0, 16, 0, 0, 0, 32, 0, 0, 0, 79, 0, 0, 0, 80, 0, 0, 0,
+];
+
+/// Descriptors of each of them.
+const THIRD_NUMBER: [u8; 16] = [8, 0x40, 0, 0, 0, 0, 0, 0, 4, 0, 0, 0, 0, 0, 0, 0];
+
+const SECOND_NUMBER: [u8; 16] = [4, 0x40, 0, 0, 0, 0, 0, 0, 4, 0, 0, 0, 0, 0, 0, 0];
+
+const FOURTH_NUMBER: [u8; 16] = [12, 0x40, 0, 0, 0, 0, 0, 0, 4, 0, 0, 0, 0, 0, 0, 0];
+
+const FIFTH_NUMBER: [u8; 16] = [16, 0x40, 0, 0, 0, 0, 0, 0, 4, 0, 0, 0, 0, 0, 0, 0];
+
+/// Reports of pages 16, 31 and 32, of the last page of 80, and of that one with the next.
+const REPORT_OF_PAGE_16: [u8; 16] = [0, 0, 1, 0, 0, 0, 0, 0, 0, 16, 0, 0, 2, 0, 0, 0];
+
+const REPORT_OF_PAGE_31: [u8; 16] = [0, 0xf0, 1, 0, 0, 0, 0, 0, 0, 16, 0, 0, 2, 0, 0, 0];
+
+const REPORT_OF_PAGE_32: [u8; 16] = [0, 0, 2, 0, 0, 0, 0, 0, 0, 16, 0, 0, 2, 0, 0, 0];
+
+const REPORT_OF_PAGE_79: [u8; 16] = [0, 0xf0, 4, 0, 0, 0, 0, 0, 0, 16, 0, 0, 2, 0, 0, 0];
+
+const REPORT_PAST_PAGE_79: [u8; 16] = [0, 0xf0, 4, 0, 0, 0, 0, 0, 0, 32, 0, 0, 2, 0, 0, 0];
+
+/// The bounds of a guest of 80 pages, of which 32 are reserved.
+const OF_32_RESERVED: &'static [(Step, Answer)] = &[
+    (Step::Write(4, 0, &BOUNDS), Answer::Done),
+    (
+        Step::TakeChain(0, &FOUR_BYTES, AVAILABLE),
+        Answer::Broken(10),
+    ),
+    (
+        Step::TakeChain(0, &SECOND_NUMBER, AVAILABLE),
+        Answer::Broken(10),
+    ),
+    (
+        Step::TakeChain(0, &THIRD_NUMBER, AVAILABLE),
+        Answer::Head(Some(0)),
+    ),
+    (
+        Step::TakeChain(1, &FOURTH_NUMBER, AVAILABLE),
+        Answer::Head(Some(0)),
+    ),
+    (
+        Step::TakeChain(1, &FIFTH_NUMBER, AVAILABLE),
+        Answer::Broken(9),
+    ),
+    (
+        Step::TakeChain(4, &REPORT_OF_PAGE_16, AVAILABLE),
+        Answer::Broken(10),
+    ),
+    (
+        Step::TakeChain(4, &REPORT_OF_PAGE_31, AVAILABLE),
+        Answer::Broken(10),
+    ),
+    (
+        Step::TakeChain(4, &REPORT_OF_PAGE_32, AVAILABLE),
+        Answer::Head(Some(0)),
+    ),
+    (
+        Step::TakeChain(4, &REPORT_OF_PAGE_79, AVAILABLE),
+        Answer::Head(Some(0)),
+    ),
+    (
+        Step::TakeChain(4, &REPORT_PAST_PAGE_79, AVAILABLE),
+        Answer::Broken(6),
+    ),
+    (
+        Step::TakeChain(0, &EMPTY, [0, 0, 1, 0, 0, 1]),
+        Answer::Broken(1),
+    ),
+    (
+        Step::TakeChain(0, &EMPTY, [0, 0, 1, 1, 0, 0]),
+        Answer::Broken(7),
+    ),
+];
+
+/// Those of one of which 16 are.
+const OF_16_RESERVED: &'static [(Step, Answer)] = &[
+    (Step::Write(4, 0, &BOUNDS), Answer::Done),
+    (
+        Step::TakeChain(0, &FOUR_BYTES, AVAILABLE),
+        Answer::Head(Some(0)),
+    ),
+    (
+        Step::TakeChain(0, &SECOND_NUMBER, AVAILABLE),
+        Answer::Head(Some(0)),
+    ),
+    (
+        Step::TakeChain(1, &FOURTH_NUMBER, AVAILABLE),
+        Answer::Head(Some(0)),
+    ),
+    (
+        Step::TakeChain(1, &FIFTH_NUMBER, AVAILABLE),
+        Answer::Broken(9),
+    ),
+    (
+        Step::TakeChain(4, &REPORT_OF_PAGE_15, AVAILABLE),
+        Answer::Broken(10),
+    ),
+    (
+        Step::TakeChain(4, &REPORT_OF_PAGE_16, AVAILABLE),
+        Answer::Head(Some(0)),
+    ),
+];
+
 /// What they refuse.
-static FAULTS: [Scenario; 5] = [
+static FAULTS: [Scenario; 7] = [
     ("the broken rule is told", 64, 8, &[BROKEN]),
     ("a fault needs a reset", 64, 8, &[FAULT, INFLATE]),
     (
@@ -175,6 +282,8 @@ static FAULTS: [Scenario; 5] = [
         &[OTHER_QUEUES_BROKEN],
     ),
     ("a queue needs its feature", 64, 8, &[FEATURES_MISSING]),
+    ("32 pages of 80 are reserved", 80, 256, &[OF_32_RESERVED]),
+    ("16 pages of 80 are reserved", 80, 128, &[OF_16_RESERVED]),
 ];
 
 #[test]

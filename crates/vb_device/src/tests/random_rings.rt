@@ -1,6 +1,6 @@
 //! Rings of random bytes: a device answers as a second reading of the same bytes has it.
 
-use super::second_reading::answer_of;
+use super::second_reading::{Sizes, answer_of};
 use super::{Answer, Host, attach};
 use crate::{BalloonDevice, Immediate, Pace, Paced};
 use byteorder::{ByteOrder, LittleEndian};
@@ -9,7 +9,24 @@ use rand_pcg::Pcg32;
 use std::alloc::{AllocError, Global};
 use std::process::Abort;
 use std::test::Fail;
-use vb_ram::GuestBytes;
+use vb_ram::{GuestBytes, Shape};
+
+/// A guest whose rings take one page each, and one whose rings take two.
+static SMALL: Sizes = Sizes {
+    queue: 8,
+    pages: 64,
+    reserved: 16,
+    ring_pages: 1,
+    first_ring: 0,
+};
+
+static LARGE: Sizes = Sizes {
+    queue: 256,
+    pages: 80,
+    reserved: 32,
+    ring_pages: 2,
+    first_ring: 16,
+};
 
 /// A number below this one, or 0.
 fn below(numbers: &mut Pcg32, end: u32) -> u32 {
@@ -45,19 +62,21 @@ const OF_STATISTICS: Habit = Habit {
     flags: 0,
 };
 
-/// Of reports, which name whole pages.
-const OF_REPORTS: Habit = Habit {
-    first_page: 14,
-    pages: 49,
-    step: 4096,
-    unit: 4096,
-    flags: 2,
-};
+/// Of reports, which name whole pages, from the last two reserved ones on.
+fn of_reports(sizes: &Sizes) -> Habit {
+    Habit {
+        first_page: sizes.reserved.wrapping_sub(2),
+        pages: 49,
+        step: 4096,
+        unit: 4096,
+        flags: 2,
+    }
+}
 
-fn habit_of(queue: u32) -> Habit {
+fn habit_of(sizes: &Sizes, queue: u32) -> Habit {
     match queue {
         2 => OF_STATISTICS,
-        4 => OF_REPORTS,
+        4 => of_reports(sizes),
         _ => OF_REQUESTS,
     }
 }
@@ -65,13 +84,13 @@ fn habit_of(queue: u32) -> Habit {
 impl Habit {
     /// Where a descriptor begins: at times in a ring, near the end of memory, near the end of a
     /// page, or near the last address of 64 bits.
-    fn address(&self, numbers: &mut Pcg32) -> u64 {
+    fn address(&self, numbers: &mut Pcg32, sizes: &Sizes) -> u64 {
         let page = self.first_page.wrapping_add(below(numbers, self.pages));
         let start = u64::from(page) * 4096;
         let little = u64::from(below(numbers, 20));
         match below(numbers, 40) {
             0 => u64::from(below(numbers, 16_384)),
-            1 => 262_144_u64.wrapping_sub(little),
+            1 => (u64::from(sizes.pages) * 4096).wrapping_sub(little),
             2 => start.wrapping_sub(little),
             3 => 0_u64.wrapping_sub(little),
             _ => start.wrapping_add(self.offset(numbers)),
@@ -106,29 +125,44 @@ impl Habit {
 }
 
 /// A number of a descriptor, at times one that the queue doesn't have.
-fn random_index(numbers: &mut Pcg32) -> u16 {
+fn random_index(numbers: &mut Pcg32, sizes: &Sizes) -> u16 {
     let end = match below(numbers, 60) {
         0 => 65_536,
-        1 => 10,
-        _ => 8,
+        1 => u32::from(sizes.queue) + 2,
+        _ => u32::from(sizes.queue),
     };
     (below(numbers, end) % 65_536) as u16
 }
 
-/// The descriptors and the available ring of a queue of 8.
-fn random_ring(numbers: &mut Pcg32, queue: u32) -> [u8; 150] {
-    let habit = habit_of(queue);
-    let is_long = below(numbers, 4) == 0;
-    let mut bytes = [0; 150];
-    for k in 0..8 {
-        LittleEndian::write_u64(&mut bytes[16 * k..], habit.address(numbers));
-        LittleEndian::write_u32(&mut bytes[16 * k + 8..], habit.length(numbers));
-        LittleEndian::write_u16(&mut bytes[16 * k + 12..], habit.flags(numbers, is_long));
-        LittleEndian::write_u16(&mut bytes[16 * k + 14..], random_index(numbers));
-        LittleEndian::write_u16(&mut bytes[132 + 2 * k..], random_index(numbers));
-    }
-    LittleEndian::write_u16(&mut bytes[130..], random_ahead(numbers));
+/// A descriptor.
+fn random_descriptor(numbers: &mut Pcg32, sizes: &Sizes, habit: &Habit, is_long: bool) -> [u8; 16] {
+    let mut bytes = [0; 16];
+    LittleEndian::write_u64(&mut bytes, habit.address(numbers, sizes));
+    LittleEndian::write_u32(&mut bytes[8..], habit.length(numbers));
+    LittleEndian::write_u16(&mut bytes[12..], habit.flags(numbers, is_long));
+    LittleEndian::write_u16(&mut bytes[14..], random_index(numbers, sizes));
     bytes
+}
+
+/// The descriptors and the available ring of a queue.
+fn random_ring(
+    alloc: Global,
+    numbers: &mut Pcg32,
+    sizes: &Sizes,
+    queue: u32,
+) -> Result<Vec<u8>, AllocError> {
+    let habit = habit_of(sizes, queue);
+    let is_long = below(numbers, 4) == 0;
+    let mut bytes = Vec::new(alloc);
+    for _descriptor in 0..sizes.queue {
+        bytes.extend_from_slice(&random_descriptor(numbers, sizes, &habit, is_long))?;
+    }
+    bytes.extend_from_slice(&[0; 2])?;
+    bytes.extend_from_slice(&random_ahead(numbers).to_le_bytes())?;
+    for _entry in 0..sizes.queue {
+        bytes.extend_from_slice(&random_index(numbers, sizes).to_le_bytes())?;
+    }
+    Ok(bytes)
 }
 
 /// How far the available ring is ahead, mostly not too far.
@@ -138,19 +172,20 @@ fn random_ahead(numbers: &mut Pcg32) -> u16 {
 }
 
 /// A number, mostly that of a page that a request may name.
-fn random_page(numbers: &mut Pcg32) -> u32 {
+fn random_page(numbers: &mut Pcg32, sizes: &Sizes) -> u32 {
+    let others = sizes.pages.wrapping_sub(sizes.reserved);
     match below(numbers, 128) {
         0 => below(numbers, 128),
         1 => numbers.next_u32(),
-        _ => 16_u32.wrapping_add(below(numbers, 48)),
+        _ => sizes.reserved.wrapping_add(below(numbers, others)),
     }
 }
 
 /// A buffer page of such numbers.
-fn random_buffer(numbers: &mut Pcg32) -> [u8; 4096] {
+fn random_buffer(numbers: &mut Pcg32, sizes: &Sizes) -> [u8; 4096] {
     let mut bytes = [0; 4096];
     for k in 0..1024 {
-        LittleEndian::write_u32(&mut bytes[4 * k..], random_page(numbers));
+        LittleEndian::write_u32(&mut bytes[4 * k..], random_page(numbers, sizes));
     }
     bytes
 }
@@ -160,6 +195,7 @@ fn random_buffer(numbers: &mut Pcg32) -> [u8; 4096] {
 struct Guest<P: Pace> {
     host: Host<P>,
     bytes: Vec<u8>,
+    sizes: Sizes,
 }
 
 impl<P: Pace> Guest<P> {
@@ -174,11 +210,23 @@ impl<P: Pace> Guest<P> {
         }
     }
 
+    /// Puts a ring in the pages from this one on.
+    fn write_ring(&mut self, page: u32, ring: &[u8]) {
+        match (ring.get(..4096), ring.get(4096..)) {
+            (Some(first), Some(second)) => {
+                self.write(page, first);
+                self.write(page.wrapping_add(1), second);
+            }
+            _ => self.write(page, ring),
+        }
+    }
+
     /// Whether the device takes chains of the queue as the second reading has it, until there is no
     /// further one.
     fn takes_as_read(&mut self, queue: u32) -> bool {
-        for taken in 0..9 {
-            let expected = answer_of(&self.bytes, queue, taken);
+        let sizes = self.sizes;
+        for taken in 0..17 {
+            let expected = answer_of(&self.bytes, &sizes, queue, taken);
             if self.host.take(queue) != expected {
                 return false;
             }
@@ -190,68 +238,96 @@ impl<P: Pace> Guest<P> {
     }
 
     /// Whether the device answers ten new rings of the queue as the second reading does.
-    fn takes_ten_as_read(&mut self, numbers: &mut Pcg32, queue: u32) -> bool {
-        let ring_page = if queue == 4 { 3 } else { queue };
+    fn takes_ten_as_read(
+        &mut self,
+        alloc: Global,
+        numbers: &mut Pcg32,
+        queue: u32,
+    ) -> Result<bool, AllocError> {
+        let sizes = self.sizes;
         for _ring in 0..10 {
-            self.write(ring_page, &random_ring(numbers, queue));
+            let ring = random_ring(alloc, numbers, &sizes, queue)?;
+            self.write_ring(sizes.ring_page(queue), &ring);
             if !self.host.start() || !self.takes_as_read(queue) {
-                return false;
+                return Ok(false);
             }
         }
-        true
+        Ok(true)
     }
 
-    /// Of 5,000 rings of a queue, the number of the first ten of which the device answers one
-    /// otherwise; the first where it has no guest.
-    fn first_wrong(&mut self, queue: u32, is_attached: bool) -> Option<u32> {
+    /// Of this many tens of rings of a queue, the number of the first ten of which the device
+    /// answers one otherwise. The buffer pages change in turn.
+    fn first_wrong_ten(
+        &mut self,
+        alloc: Global,
+        queue: u32,
+        tens: u32,
+    ) -> Result<Option<u32>, AllocError> {
+        let sizes = self.sizes;
         let mut numbers = Pcg32::new(1, u64::from(queue));
-        if is_attached {
-            self.first_wrong_ten(&mut numbers, queue)
-        } else {
-            Some(0)
-        }
-    }
-
-    /// Of 5,000 rings of a queue, the number of the first ten of which the device answers one
-    /// otherwise. The buffer pages change in turn.
-    fn first_wrong_ten(&mut self, numbers: &mut Pcg32, queue: u32) -> Option<u32> {
-        for ten in 0..500 {
-            self.write(4 + ten % 9, &random_buffer(numbers));
-            if !self.takes_ten_as_read(numbers, queue) {
-                return Some(ten);
+        for ten in 0..tens {
+            self.write(4 + ten % 9, &random_buffer(&mut numbers, &sizes));
+            if !self.takes_ten_as_read(alloc, &mut numbers, queue)? {
+                return Ok(Some(ten));
             }
         }
-        None
+        Ok(None)
     }
 }
 
-/// The number of the first ten rings of a queue of which a new device answers one otherwise.
-fn first_wrong_ten<P: Pace>(alloc: Global, queue: u32) -> Result<Option<u32>, AllocError> {
-    let bytes = vec![in alloc; 0; 64 * 4096]?;
+/// Of this many tens of rings of a queue, the number of the first ten of which a new device answers
+/// one otherwise; the first where it has no guest.
+fn first_wrong_ten<P: Pace>(
+    alloc: Global,
+    sizes: &Sizes,
+    queue: u32,
+    tens: u32,
+) -> Result<Option<u32>, AllocError> {
+    let bytes = vec![in alloc; 0; sizes.pages as usize * 4096]?;
     let mut device = BalloonDevice::<P>::of_pace(alloc);
-    let is_attached = attach(&mut device, alloc, 64, 8);
-    let host = Host { device };
-    let mut guest = Guest { host, bytes };
-    Ok(guest.first_wrong(queue, is_attached))
+    if !attach(&mut device, alloc, sizes.pages, sizes.queue) {
+        return Ok(Some(0));
+    }
+    let shape = Shape {
+        queue_size: sizes.queue,
+    };
+    let host = Host { device, shape };
+    let mut guest = Guest {
+        host,
+        bytes,
+        sizes: *sizes,
+    };
+    guest.first_wrong_ten(alloc, queue, tens)
 }
 
-/// Expects that a device of this pace answers each ring of a queue as the second reading has it.
-fn expect_as_read<P: Pace>(rt: &impl Abort, alloc: Global, queue: u32) -> Result<(), Fail> {
-    let wrong = first_wrong_ten::<P>(alloc, queue)?;
+/// Expects that a device of this pace answers each of these rings of a queue as the second reading
+/// has it.
+fn expect_as_read<P: Pace>(
+    rt: &impl Abort,
+    alloc: Global,
+    sizes: &Sizes,
+    queue: u32,
+    tens: u32,
+) -> Result<(), Fail> {
+    let wrong = first_wrong_ten::<P>(alloc, sizes, queue, tens)?;
     assert_eq!(rt; wrong, None);
     Ok(())
 }
 
 #[test]
 fn random_rings_of_requests_are_answered_as_read(rt: HostRuntime) -> Result<(), Fail> {
-    expect_as_read::<Immediate>(&rt, rt.alloc(), 0)?;
-    expect_as_read::<Paced>(&rt, rt.alloc(), 1)
+    expect_as_read::<Immediate>(&rt, rt.alloc(), &SMALL, 0, 500)?;
+    expect_as_read::<Paced>(&rt, rt.alloc(), &SMALL, 1, 500)?;
+    expect_as_read::<Immediate>(&rt, rt.alloc(), &LARGE, 1, 20)?;
+    expect_as_read::<Paced>(&rt, rt.alloc(), &LARGE, 0, 20)
 }
 
 #[test]
 fn random_rings_of_statistics_and_reports_are_answered_as_read(
     rt: HostRuntime,
 ) -> Result<(), Fail> {
-    expect_as_read::<Immediate>(&rt, rt.alloc(), 2)?;
-    expect_as_read::<Paced>(&rt, rt.alloc(), 4)
+    expect_as_read::<Immediate>(&rt, rt.alloc(), &SMALL, 2, 500)?;
+    expect_as_read::<Paced>(&rt, rt.alloc(), &SMALL, 4, 500)?;
+    expect_as_read::<Immediate>(&rt, rt.alloc(), &LARGE, 4, 20)?;
+    expect_as_read::<Paced>(&rt, rt.alloc(), &LARGE, 2, 20)
 }

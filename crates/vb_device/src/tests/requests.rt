@@ -1,6 +1,8 @@
 //! Inflates and deflates on immediate devices.
 
-use super::bytes::{AVAILABLE, EIGHT_BYTES, NUMBERS, SIXTEEN_BYTES, TWO_REQUESTS, USED};
+use super::bytes::{
+    AVAILABLE, EIGHT_BYTES, NUMBERS, NUMBERS_FROM_32, SIXTEEN_BYTES, TWO_REQUESTS, USED,
+};
 use super::{Answer, Scenario, Sight, Step, expect};
 use crate::Immediate;
 use vb_model::Refusal;
@@ -123,8 +125,84 @@ const SETTLED: &'static [(Step, Answer)] = &[
     (Step::See(Sight::AreBallooned(17, 20)), Answer::Done),
 ];
 
+/// In rings of two pages, with available and used ring in the second, pages 32 to 35 go into the
+/// balloon, and pages 32 and 33 come back.
+const TWO_PAGES: &'static [(Step, Answer)] = &[
+    (Step::Start, Answer::Done),
+    (Step::Supply(33, 40), Answer::Done),
+    (Step::Write(4, 0, &NUMBERS_FROM_32), Answer::Done),
+    (Step::Write(16, 0, &SIXTEEN_BYTES), Answer::Done),
+    (Step::Write(17, 0, &AVAILABLE), Answer::Done),
+    (Step::Take(0), Answer::Head(Some(0))),
+    (Step::See(Sight::Bytes(17, 520)), Answer::Bytes([0; 12])),
+    (Step::Finish(0, 0), Answer::Head(Some(0))),
+    (Step::See(Sight::Bytes(17, 520)), Answer::Bytes(USED)),
+    (Step::See(Sight::AreBallooned(32, 35)), Answer::Done),
+    (Step::See(Sight::Backing(33)), Answer::Frame(None)),
+    (Step::HandBack, Answer::Frame(Some(40))),
+    (Step::HandBack, Answer::Frame(None)),
+    (Step::See(Sight::Backing(16)), Answer::Frame(Some(16))),
+    (Step::See(Sight::Backing(17)), Answer::Frame(Some(17))),
+    (Step::Take(0), Answer::Head(None)),
+    (Step::Write(18, 0, &EIGHT_BYTES), Answer::Done),
+    (Step::Write(19, 0, &AVAILABLE), Answer::Done),
+    (Step::Take(1), Answer::Head(Some(0))),
+    (Step::Finish(1, 0), Answer::Head(Some(0))),
+    (Step::See(Sight::Bytes(19, 520)), Answer::Bytes(USED)),
+    (Step::See(Sight::AreBallooned(34, 35)), Answer::Done),
+];
+
+/// The used ring, with the element of head 255.
+const USED_255: [u8; 12] = [0, 0, 1, 0, 255, 0, 0, 0, 0, 0, 0, 0];
+
+/// A chain from the last descriptor, which ends with its page.
+const LAST_DESCRIPTOR: &'static [(Step, Answer)] = &[
+    (Step::Start, Answer::Done),
+    (Step::Write(4, 0, &NUMBERS_FROM_32), Answer::Done),
+    (Step::Write(16, 4080, &SIXTEEN_BYTES), Answer::Done),
+    (Step::Write(17, 0, &[0, 0, 1, 0, 255, 0]), Answer::Done),
+    (Step::Take(0), Answer::Head(Some(255))),
+    (Step::Finish(0, 0), Answer::Head(Some(255))),
+    (Step::See(Sight::Bytes(17, 520)), Answer::Bytes(USED_255)),
+];
+
+/// The statistics buffer and the ring of reports there.
+const OTHER_RINGS: &'static [(Step, Answer)] = &[
+    (Step::Start, Answer::Done),
+    (Step::Write(20, 0, &NO_STATISTICS), Answer::Done),
+    (Step::Write(21, 0, &AVAILABLE), Answer::Done),
+    (Step::Take(2), Answer::Head(Some(0))),
+    (Step::Ask, Answer::Done),
+    (Step::See(Sight::Bytes(21, 520)), Answer::Bytes(USED)),
+    (Step::Supply(32, 40), Answer::Done),
+    (Step::Write(22, 0, &PAGES_FROM_32), Answer::Done),
+    (Step::Write(23, 0, &AVAILABLE), Answer::Done),
+    (Step::Take(4), Answer::Head(Some(0))),
+    (Step::Finish(4, 0), Answer::Head(Some(0))),
+    (Step::See(Sight::Bytes(23, 520)), Answer::Bytes(USED)),
+    (Step::See(Sight::Backing(32)), Answer::Frame(None)),
+    (Step::HandBack, Answer::Frame(Some(40))),
+];
+
+/// No bytes at address 0xc000, and the last 48 pages of a guest of 80.
+const NO_STATISTICS: [u8; 16] = [0, 0xc0, 0, 0, 0, 0, 0, 0, 0, 0, 0, 0, 0, 0, 0, 0];
+
+const PAGES_FROM_32: [u8; 16] = [0, 0, 2, 0, 0, 0, 0, 0, 0, 0, 3, 0, 2, 0, 0, 0];
+
+/// A queue of 128 has its rings in one page: its used ring behind the available ring's 262 bytes.
+const ONE_PAGE: &'static [(Step, Answer)] = &[
+    (Step::Start, Answer::Done),
+    (Step::Write(4, 0, &NUMBERS), Answer::Done),
+    (Step::Write(0, 0, &SIXTEEN_BYTES), Answer::Done),
+    (Step::Write(0, 2048, &AVAILABLE), Answer::Done),
+    (Step::Take(0), Answer::Head(Some(0))),
+    (Step::Finish(0, 0), Answer::Head(Some(0))),
+    (Step::See(Sight::Bytes(0, 2312)), Answer::Bytes(USED)),
+    (Step::See(Sight::AreBallooned(17, 20)), Answer::Done),
+];
+
 /// What immediate devices make of inflates and deflates.
-static INFLATES: [Scenario; 8] = [
+static INFLATES: [Scenario; 11] = [
     (
         "a request is taken and finished",
         64,
@@ -158,6 +236,19 @@ static INFLATES: [Scenario; 8] = [
         8,
         &[TAKEN, SETTLED],
     ),
+    (
+        "requests in rings of two pages",
+        80,
+        256,
+        &[TWO_PAGES, LAST_DESCRIPTOR],
+    ),
+    (
+        "statistics and a report in rings of two pages",
+        80,
+        256,
+        &[OTHER_RINGS],
+    ),
+    ("a ring of 128 takes one page", 80, 128, &[ONE_PAGE]),
 ];
 
 #[test]

@@ -5,7 +5,40 @@ use arrayvec::ArrayVec;
 use byteorder::{ByteOrder, LittleEndian};
 use vb_model::Refusal;
 
-/// A descriptor of a queue of 8.
+/// How large a guest is, and where its rings stand.
+#[derive(Clone, Copy)]
+pub(super) struct Sizes {
+    /// Descriptors of each queue.
+    pub(super) queue: u16,
+    pub(super) pages: u32,
+    /// Pages at the start of memory that no request may name.
+    pub(super) reserved: u32,
+    /// Pages of each ring, one ring behind the other from this page on.
+    pub(super) ring_pages: u32,
+    pub(super) first_ring: u32,
+}
+
+impl Sizes {
+    /// The first page of a queue's ring.
+    pub(super) fn ring_page(&self, queue: u32) -> u32 {
+        let place = if queue == 4 { 3 } else { queue };
+        self.ring_pages
+            .wrapping_mul(place)
+            .wrapping_add(self.first_ring)
+    }
+
+    /// Bytes of memory.
+    fn bytes(&self) -> u64 {
+        u64::from(self.pages) * 4096
+    }
+
+    /// Where the available ring begins, from the start of a ring.
+    fn available(&self) -> usize {
+        16 * usize::from(self.queue)
+    }
+}
+
+/// A descriptor of a queue.
 #[derive(Clone, Copy, Default)]
 struct Link {
     addr: u64,
@@ -34,17 +67,17 @@ impl Link {
     }
 
     /// The first rule that it breaks as number `at` of its chain, after a writable one or none.
-    fn broken_rule(&self, at: u32, is_after_writable: bool) -> Option<u32> {
+    fn broken_rule(&self, sizes: &Sizes, at: u16, is_after_writable: bool) -> Option<u32> {
         let end = self.addr.saturating_add(u64::from(self.len));
         if self.has(4) {
             Some(4)
-        } else if end > 64 * 4096 {
+        } else if end > sizes.bytes() {
             Some(6)
         } else if is_after_writable && !self.has(2) {
             Some(5)
-        } else if self.has(1) && self.next >= 8 {
+        } else if self.has(1) && self.next >= sizes.queue {
             Some(2)
-        } else if self.has(1) && at == 7 {
+        } else if self.has(1) && at.wrapping_add(1) == sizes.queue {
             Some(3)
         } else {
             None
@@ -52,10 +85,10 @@ impl Link {
     }
 
     /// The rule that it breaks as the first one of a report that does.
-    fn broken_rule_of_report(&self) -> Option<u32> {
+    fn broken_rule_of_report(&self, sizes: &Sizes) -> Option<u32> {
         if self.addr % 4096 > 0 {
             Some(9)
-        } else if self.addr / 4096 < 16 {
+        } else if self.addr / 4096 < u64::from(sizes.reserved) {
             Some(10)
         } else {
             None
@@ -63,19 +96,19 @@ impl Link {
     }
 }
 
-type Links = ArrayVec<Link, 8>;
+type Links = ArrayVec<Link, 256>;
 
 /// The chain from a head, or the first rule that it breaks.
-fn chain_from(bytes: &[u8], ring: usize, head: u16) -> Result<Links, u32> {
+fn chain_from(bytes: &[u8], sizes: &Sizes, ring: usize, head: u16) -> Result<Links, u32> {
     let mut links = ArrayVec::new();
     let mut index = head;
     let mut is_after_writable = false;
-    if head >= 8 {
+    if head >= sizes.queue {
         return Err(1);
     }
-    for at in 0..8 {
+    for at in 0..sizes.queue {
         let link = Link::at(bytes, ring, index);
-        if let Some(rule) = link.broken_rule(at, is_after_writable) {
+        if let Some(rule) = link.broken_rule(sizes, at, is_after_writable) {
             return Err(rule);
         }
         let _ = links.try_push(link);
@@ -111,6 +144,7 @@ fn total_length(links: &Links) -> u64 {
 struct Reader {
     last_four: [u8; 4],
     count: usize,
+    sizes: Sizes,
 }
 
 impl Reader {
@@ -121,9 +155,9 @@ impl Reader {
         let page = LittleEndian::read_u32(&self.last_four);
         if self.count % 4 > 0 {
             None
-        } else if page >= 64 {
+        } else if page >= self.sizes.pages {
             Some(9)
-        } else if page < 16 {
+        } else if page < self.sizes.reserved {
             Some(10)
         } else {
             None
@@ -142,10 +176,11 @@ impl Reader {
     }
 }
 
-fn broken_by_numbers(bytes: &[u8], links: &Links) -> Option<u32> {
+fn broken_by_numbers(bytes: &[u8], sizes: &Sizes, links: &Links) -> Option<u32> {
     let mut reader = Reader {
         last_four: [0; 4],
         count: 0,
+        sizes: *sizes,
     };
     for link in links.as_slice() {
         if let Some(rule) = reader.read_link(bytes, link) {
@@ -155,14 +190,14 @@ fn broken_by_numbers(bytes: &[u8], links: &Links) -> Option<u32> {
     None
 }
 
-fn broken_by_request(bytes: &[u8], links: &Links) -> Option<u32> {
+fn broken_by_request(bytes: &[u8], sizes: &Sizes, links: &Links) -> Option<u32> {
     let total = total_length(links);
     if has_direction(links, true) {
         Some(5)
     } else if total < 4 || total > 1024 || total % 4 > 0 {
         Some(8)
     } else {
-        broken_by_numbers(bytes, links)
+        broken_by_numbers(bytes, sizes, links)
     }
 }
 
@@ -186,15 +221,15 @@ fn has_part_of_a_page(links: &Links) -> bool {
     false
 }
 
-fn broken_by_report(links: &Links) -> Option<u32> {
+fn broken_by_report(sizes: &Sizes, links: &Links) -> Option<u32> {
     if has_direction(links, false) {
         return Some(5);
     }
-    if has_part_of_a_page(links) {
+    if links.len() > 32 || has_part_of_a_page(links) {
         return Some(8);
     }
     for link in links.as_slice() {
-        if let Some(rule) = link.broken_rule_of_report() {
+        if let Some(rule) = link.broken_rule_of_report(sizes) {
             return Some(rule);
         }
     }
@@ -210,13 +245,22 @@ fn number(bytes: &[u8], at: usize) -> u16 {
 }
 
 /// The head that stands at a place of the available ring, or the first rule that its chain breaks.
-fn taken_head(bytes: &[u8], queue: u32, ring: usize, entry: u16) -> Result<u16, u32> {
-    let head = number(bytes, ring.wrapping_add(132 + 2 * usize::from(entry % 8)));
-    let links = chain_from(bytes, ring, head)?;
+fn taken_head(
+    bytes: &[u8],
+    sizes: &Sizes,
+    queue: u32,
+    ring: usize,
+    entry: u16,
+) -> Result<u16, u32> {
+    let entry = entry.checked_rem(sizes.queue).unwrap_or(0);
+    let place = usize::from(entry);
+    let at = sizes.available().wrapping_add(4 + 2 * place);
+    let head = number(bytes, ring.wrapping_add(at));
+    let links = chain_from(bytes, sizes, ring, head)?;
     let broken = match queue {
         2 => broken_by_statistics(&links),
-        4 => broken_by_report(&links),
-        _ => broken_by_request(bytes, &links),
+        4 => broken_by_report(sizes, &links),
+        _ => broken_by_request(bytes, sizes, &links),
     };
     match broken {
         Some(rule) => Err(rule),
@@ -225,24 +269,21 @@ fn taken_head(bytes: &[u8], queue: u32, ring: usize, entry: u16) -> Result<u16, 
 }
 
 /// What a take of a queue answers after so many others.
-pub(super) fn answer_of(bytes: &[u8], queue: u32, taken: u16) -> Answer {
-    let ring = match queue {
-        1 => 4096,
-        2 => 2 * 4096,
-        4 => 3 * 4096,
-        _ => 0,
-    };
-    let ahead = number(bytes, ring + 130).wrapping_sub(taken);
-    if queue == 2 && taken > 0 {
+pub(super) fn answer_of(bytes: &[u8], sizes: &Sizes, queue: u32, taken: u16) -> Answer {
+    let ring = (sizes.ring_page(queue) as usize).wrapping_mul(4096);
+    let index = ring.wrapping_add(sizes.available().wrapping_add(2));
+    let ahead = number(bytes, index).wrapping_sub(taken);
+    let most = if queue == 2 { 1 } else { 16 };
+    if taken >= most {
         return Answer::Refused(Refusal::Busy);
     }
     if ahead == 0 {
         return Answer::Head(None);
     }
-    if ahead > 8 {
+    if ahead > sizes.queue {
         return Answer::Broken(7);
     }
-    match taken_head(bytes, queue, ring, taken) {
+    match taken_head(bytes, sizes, queue, ring, taken) {
         Ok(head) => Answer::Head(Some(head)),
         Err(rule) => Answer::Broken(rule),
     }

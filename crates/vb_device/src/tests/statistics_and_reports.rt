@@ -86,21 +86,21 @@ const FINISHED_ONCE: &'static [(Step, Answer)] = &[
     (Step::See(Sight::Backing(16)), Answer::Frame(None)),
 ];
 
-/// All pages from page 16 on of a guest of 16,384 pages, in one piece.
-const ALL_PAGES: [u8; 16] = [0, 0, 1, 0, 0, 0, 0, 0, 0, 0, 0xff, 3, 2, 0, 0, 0];
+/// All pages from page 32 on of a guest of 65,536 pages, in one piece.
+const ALL_PAGES: [u8; 16] = [0, 0, 2, 0, 0, 0, 0, 0, 0, 0, 0xfe, 0xf, 2, 0, 0, 0];
 
 const REPORT_OF_ALL: &'static [(Step, Answer)] = &[
     (
         Step::TakeChain(4, &ALL_PAGES, AVAILABLE),
         Answer::Head(Some(0)),
     ),
-    (Step::Supply(16, 40), Answer::Done),
-    (Step::Supply(16_383, 41), Answer::Done),
+    (Step::Supply(32, 40), Answer::Done),
+    (Step::Supply(65_535, 41), Answer::Done),
     (Step::Finish(4, 0), Answer::Head(Some(0))),
     (Step::HandBack, Answer::Frame(Some(41))),
     (Step::HandBack, Answer::Frame(Some(40))),
     (Step::HandBack, Answer::Frame(None)),
-    (Step::See(Sight::Backing(16_383)), Answer::Frame(None)),
+    (Step::See(Sight::Backing(65_535)), Answer::Frame(None)),
 ];
 
 /// What they make of statistics and reports.
@@ -119,8 +119,8 @@ static OTHERS: [Scenario; 3] = [
     ),
     (
         "a large guest reports all pages",
-        16_384,
-        8,
+        65_536,
+        256,
         &[REPORT_OF_ALL],
     ),
 ];

@@ -26,7 +26,7 @@ discard_page-requires c = omega (arith, c.loop-k.invariant.room, c.loop-k.invari
 pub loop-k-preserved : goal.loop-k-preserved
 loop-k-preserved c =
     let lt : c.loop-k.k < length c.args.request.now.pages =
-    omega (arith, c.loop-k-test.true, c.count-k-end.ensures.count) in
+    omega (arith, c.loop-k-test.true, c.count-k-end.ensures) in
     let at : get_or c.args.request.now.pages c.loop-k.k 0 ≡ c.page_in.result =
     get_or_from_slice_get c.args.request.now.pages c.loop-k.k c.page_in.result 0 c.page_in.ensures.page in
     record {
@@ -47,13 +47,13 @@ pub returns-clause-mem : goal.returns-clause-mem
 returns-clause-mem c =
     let whole : take c.loop-k.k c.args.request.now.pages ≡ c.args.request.now.pages =
     take_all c.loop-k.k c.args.request.now.pages
-    (omega (arith, c.loop-k-test.false, c.count-k-end.ensures.count)) in
+    (omega (arith, c.loop-k-test.false, c.count-k-end.ensures)) in
     c.loop-k.invariant.mem ∙ ap (λ (ps : List ℕ). discarded ps c.args.ram.now) whole
 
 pub returns-clause-loose : goal.returns-clause-loose
 returns-clause-loose c =
     let whole : take c.loop-k.k c.args.request.now.pages ≡ c.args.request.now.pages =
     take_all c.loop-k.k c.args.request.now.pages
-    (omega (arith, c.loop-k-test.false, c.count-k-end.ensures.count)) in
+    (omega (arith, c.loop-k-test.false, c.count-k-end.ensures)) in
     c.loop-k.invariant.loose ∙ ap (λ (ps : List ℕ). numbers_of_frames c.args.loose.now.items ++
     frames_behind c.args.ram.now (each_once ps)) whole

@@ -1,15 +1,17 @@
 use Rattle.std.proofs.Common.{ℕ, ◌≡◌, ◌<◌, ◌∙◌, [], None, true, get_or, ap, sym, subst, refl, arith}
 use Rattle.std.proofs.Common.{rules}
-use Rattle.std.specs.Prelude.{IsSome}
 use Rattle.std.proofs.Math.ListN.{set}
 use Rattle.vb_model.specs.Guest.{LastStatistics}
 use Rattle.vb_model.specs.Status.{contains, driver_ok}
-use Rattle.vb_ram.specs.Pages.{frame_at}
+use Rattle.vb_model.specs.Layout.{ring_page}
+use Rattle.vb_ring.specs.Layout.{IsBacked, layout_of}
+use Rattle.vb_device.specs.Queues.{queue_layout}
 use Rattle.vb_status.specs.Bits.{status_bits, feature_bits}
 use Rattle.vb_device.specs.State.{DeviceState}
 use Rattle.vb_device.specs.QueueState.{QueueState}
 use Rattle.vb_device.specs.Base.{queue_at, base_part}
-use Rattle.vb_device.specs.BaseCalls.{readiness_refusal, CanUse}
+use Rattle.vb_device.specs.BaseCalls.{CanUse}
+use Rattle.vb_core.specs.Refusals.{readiness_refusal}
 use Rattle.vb_device.proofs.Discards.{discarded_none}
 use Rattle.vb_device.proofs.FourQueues.{entry_is}
 use Rattle.vb_device.proofs.TakesBy.{status_ok}
@@ -27,8 +29,9 @@ returns-clause-ready c =
     let driver : contains c.args.self.now.part.status driver_ok ≡ true =
     ap (λ (v : DeviceState). contains v.part.status driver_ok) (sym c.self.view_is) ∙
     status_ok (status_bits c.self.inside.status) ok in
-    let backed : IsSome (frame_at c.self.inside.ram 2) =
-    subst (λ (v : DeviceState). IsSome (frame_at v.mem 2)) (sym c.self.view_is)
+    let backed : IsBacked c.self.inside.ram
+    (layout_of (ring_page c.self.inside.queue_size 2) c.self.inside.queue_size) =
+    subst (λ (v : DeviceState). IsBacked v.mem (queue_layout 2 v.part)) (sym c.self.view_is)
     (c.requires.backed driver) in
     let low : c.in_ok-buffer.buffer.head < (queue_at 2 c.self.inside.queues).ring.size =
     subst (λ (x : QueueState). c.in_ok-buffer.buffer.head < x.ring.size) was

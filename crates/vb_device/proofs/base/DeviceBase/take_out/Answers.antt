@@ -1,14 +1,17 @@
 use Rattle.std.proofs.Common.{◌≡◌, ◌∙◌, ◌<◌, ℕ, List, None, Some, Ok, Err, get_or, true, sym}
-use Rattle.std.proofs.Common.{ap, subst, rules, []}
-use Rattle.std.specs.Prelude.{length, slice_get, IsSome, Bool, not, ◌&&◌, ◌==◌}
+use Rattle.std.proofs.Common.{ap, subst, rules, [], ◌≤◌}
+use Rattle.std.specs.Prelude.{All}
+use Rattle.std.specs.Prelude.{length, slice_get, Bool, not, ◌&&◌, ◌==◌}
 use Rattle.std.proofs.Math.ListN.{set}
-use Rattle.vb_model.specs.Layout.{ring_page}
+use Rattle.vb_model.specs.Layout.{reserved_pages, ring_page}
 use Rattle.vb_model.specs.Status.{contains, driver_ok}
 use Rattle.std.specs.Prelude.{vec_capacity}
 use Rattle.vb_model.specs.Guest.{LastStatistics}
 use Rattle.vb_model.specs.Tables.{has_chains}
 use Rattle.vb_device.proofs.Discards.{room_for_all}
-use Rattle.vb_ram.specs.Pages.{Pages, frame_at}
+use Rattle.vb_ram.specs.Pages.{Pages}
+use Rattle.vb_ring.specs.Layout.{IsBacked, layout_of}
+use Rattle.vb_device.specs.Queues.{queue_layout}
 use Rattle.vb_status.specs.Bits.{status_bits, feature_bits}
 use Rattle.vb_device.specs.State.{DeviceState}
 use Rattle.vb_device.specs.QueueState.{QueueState, taken_refusal}
@@ -197,8 +200,9 @@ returns-in-Ok-clause-ready c =
     ap (λ (v : DeviceState). contains v.part.status driver_ok) (sym c.self.view_is) ∙
     status_ok (status_bits c.self.inside.status)
     (queue_status c.args.queue (status_bits c.self.inside.status) open_status) in
-    let backed : IsSome (frame_at c.self.inside.ram (ring_page c.args.queue)) =
-    subst (λ (v : DeviceState). IsSome (frame_at v.mem (ring_page c.args.queue)))
+    let backed : IsBacked c.self.inside.ram
+    (layout_of (ring_page c.self.inside.queue_size c.args.queue) c.self.inside.queue_size) =
+    subst (λ (v : DeviceState). IsBacked v.mem (queue_layout c.args.queue v.part))
     (sym c.self.view_is) (c.requires.backed driver) in
     let low : c.in-Ok.request.head < (queue_at c.args.queue
     c.self.inside.queues).ring.size =
@@ -217,7 +221,8 @@ returns-in-Ok-clause-ready c =
     c.self.inside.queue_size _ c.self.inside.queues c.remove.new.self last
     c.discard_request.new.loose.items c.self.invariant known
     (queue_status c.args.queue (status_bits c.self.inside.status) open_status) low
-    c.in-Ok.ensures.above
+    (subst (λ (x : QueueState). All (λ page. reserved_pages x.ring.size ≤ page)
+    c.in-Ok.request.pages) was c.in-Ok.ensures.above)
     c.discard_request.ensures.mem backed)
 
 pub returns-in-Ok-clause-count : goal.returns-in-Ok-clause-count

@@ -1,20 +1,23 @@
-use Rattle.std.proofs.Common.{◌≡◌, ◌++◌, true, false, rules, ◌∙◌, ◌+◌, ◌*◌, ◌≤◌, ◌<◌, ℕ, List, ◌∷◌, []}
-use Rattle.std.proofs.Common.{Option, Some, None, Ok, Err, sym, ap, subst}
+use Rattle.std.proofs.Common.{◌≡◌, ◌++◌, true, false, rules, ◌∙◌, ◌+◌, ◌*◌, ◌≤◌, ℕ, List, ◌∷◌, []}
+use Rattle.std.proofs.Common.{Option, Some, None, Result, Ok, Err, sym, ap, subst}
 use Rattle.std.specs.Prelude.{All, length}
 use Rattle.std.proofs.lemmas.List.Elements.{All-append}
 use Rattle.vb_model.specs.Requests.{Request}
+use Rattle.vb_ram.specs.Pages.{Pages}
+use Rattle.vb_chain.specs.declared.fault.ChainFault.{ChainFault}
 use Rattle.vb_chain.specs.declared.pieces.Piece.{Piece}
 use Rattle.vb_chain.specs.Table.{descriptor_at}
 use Rattle.vb_ring.specs.declared.device.Taken.{Taken}
 use Rattle.vb_ring.specs.Calls.{PopsBy, popped}
-use Rattle.vb_device.specs.Calls.{request_of, noted}
+use Rattle.vb_core.specs.Asked.{request_of, noted}
 use Rattle.vb_model.specs.Guest.{LastStatistics}
-use Rattle.vb_device.specs.QueueState.{QueueState, is_full, TakesNext}
+use Rattle.vb_device.specs.QueueState.{QueueState, IsTaken, is_full, TakesNext}
+use Rattle.vb_model.specs.Layout.{reserved_pages}
 use Rattle.vb_device.proofs.FromNext.{next_busy, next_idle}
 use Rattle.vb_model.specs.declared.replies.Refusal.{Refusal}
 use Rattle.vb_model.specs.declared.replies.Refusal.TheVariants.{Broken}
-use Rattle.vb_device.specs.Faults.{rule_of}
-use Rattle.vb_device.proofs.Chains.{chain_fits}
+use Rattle.vb_core.specs.Refusals.{rule_of}
+use Rattle.vb_core.proofs.Chains.{chain_fits}
 use Rattle.vb_device.proofs.Takes.{next_none, next_err, next_wrong, next_right, one_all}
 use Rattle.vb_ring.specs.Ends.{DeviceEnd}
 use Rattle.vb_request.specs.declared.statistics.Statistics.{Statistics}
@@ -29,6 +32,14 @@ last_is : (last : Statistics) (said : LastStatistics) →
 last_is last said e =
     ap (λ (f : Option ℕ). record { free = f; total = last.total }) e.0 ∙
     ap (λ (t : Option ℕ). record { free = said.free; total = t }) e.1
+
+-- the queue's size and the chain's pieces in the place of what was read
+read_so : (q n size : ℕ) (mem : Pages) (read pieces : List Piece)
+    (answer : Result (List ℕ) ChainFault) → n ≡ size → read ≡ pieces
+    → request_of q n mem read ≡ answer → request_of q size mem pieces ≡ answer
+read_so q n size mem read pieces answer e f h =
+    ap (λ (k : ℕ). request_of q k mem pieces) (sym e)
+    ∙ (ap (request_of q n mem) (sym f) ∙ h)
 
 pub returns-then-is_full : goal.returns-then-is_full
 returns-then-is_full g c =
@@ -110,13 +121,17 @@ invariant_of-self-in-Ok-read_chain g c =
       pages = c.in-Ok-read_chain.pages;
       visited = 0;
     } in
-    subst (λ (n : ℕ). All (λ (r : Request). r.head < n) c.push.new.self.items) (sym size)
-    (subst (λ (xs : List Request). All (λ (r : Request). r.head < c.self.inside.queue.size) xs)
+    let is : IsTaken c.self.inside.queue.size new = record {
+      head = pops.found.2.chain.inside;
+      above = subst (λ (n : ℕ). All (λ page. reserved_pages n ≤ page) c.in-Ok-read_chain.pages)
+          c.size.ensures c.in-Ok-read_chain.ensures.above;
+    } in
+    subst (λ (n : ℕ). All (IsTaken n) c.push.new.self.items) (sym size)
+    (subst (λ (xs : List Request). All (IsTaken c.self.inside.queue.size) xs)
     (sym (c.push.ensures.items ∙ ap (λ (r : Request). c.self.inside.taken.items ++ r ∷ [])
     c.new.ensures))
-    (All-append (λ (r : Request). r.head < c.self.inside.queue.size) c.self.inside.taken.items
-    (new ∷ []) c.self.invariant
-    (one_all (λ (r : Request). r.head < c.self.inside.queue.size) new pops.found.2.chain.inside)))
+    (All-append (IsTaken c.self.inside.queue.size) c.self.inside.taken.items (new ∷ [])
+    c.self.invariant (one_all (IsTaken c.self.inside.queue.size) new is)))
 
 pub returns-in-Ok-read_chain : goal.returns-in-Ok-read_chain
 returns-in-Ok-read_chain g c =
@@ -131,9 +146,10 @@ returns-in-Ok-read_chain g c =
     subst (λ (o : Option ℕ). PopsBy (g.G.GuestBytes.mem c.args.ram.now) c.self.inside.queue
     c.pop_descriptor_chain_into.new.self (popped (Ok o) c.pop_descriptor_chain_into.new.chain))
     c.in-Some.is c.in-Ok.ensures.pops in
-    let good : request_of c.args.queue (g.G.GuestBytes.mem c.args.ram.now) taken.chain ≡
+    let good : request_of c.args.queue c.self.inside.queue.size (g.G.GuestBytes.mem c.args.ram.now) taken.chain ≡
     Ok c.in-Ok-read_chain.pages =
-    ap (request_of c.args.queue (g.G.GuestBytes.mem c.args.ram.now)) (sym c.pieces.ensures) ∙
+    read_so c.args.queue c.size.result c.self.inside.queue.size (g.G.GuestBytes.mem c.args.ram.now)
+    c.pieces.result.now taken.chain (Ok c.in-Ok-read_chain.pages) c.size.ensures c.pieces.ensures
     c.in-Ok-read_chain.ensures.pages in
     let said : was c.read_chain.new.last ≡
     noted c.args.queue (g.G.GuestBytes.mem c.args.ram.now) taken.chain
@@ -167,9 +183,10 @@ returns-in-Err-read_chain g c =
     subst (λ (o : Option ℕ). PopsBy (g.G.GuestBytes.mem c.args.ram.now) c.self.inside.queue
     c.pop_descriptor_chain_into.new.self (popped (Ok o) c.pop_descriptor_chain_into.new.chain))
     c.in-Some.is c.in-Ok.ensures.pops in
-    let bad : request_of c.args.queue (g.G.GuestBytes.mem c.args.ram.now) taken.chain ≡
+    let bad : request_of c.args.queue c.self.inside.queue.size (g.G.GuestBytes.mem c.args.ram.now) taken.chain ≡
     Err c.in-Err-read_chain.wrong =
-    ap (request_of c.args.queue (g.G.GuestBytes.mem c.args.ram.now)) (sym c.pieces.ensures) ∙
+    read_so c.args.queue c.size.result c.self.inside.queue.size (g.G.GuestBytes.mem c.args.ram.now)
+    c.pieces.result.now taken.chain (Err c.in-Err-read_chain.wrong) c.size.ensures c.pieces.ensures
     c.in-Err-read_chain.ensures.pages in
     subst (λ (q : QueueState). TakesNext c.args.queue (g.G.GuestBytes.mem c.args.ram.now) q
     (record { ring = c.go_to_previous_position.new.self; taken = c.self.inside.taken.items })

@@ -5,7 +5,7 @@ use Rattle.std.specs.Prelude.{slice_get}
 use Rattle.vb_model.specs.Requests.{Request}
 use Rattle.vb_model.specs.Device.{is_unvisited, visiting, next_page}
 use Rattle.vb_device.specs.QueueState.{QueueState}
-use Rattle.vb_device.proofs.Visits.{once_more, visits_at, visits_none, refill_set, heads_below}
+use Rattle.vb_device.proofs.Visits.{once_more, visits_at, visits_none, refill_set, taken_still}
 use Rattle.vb_device.proofs.queue.DeviceQueue.visit_next.Goals as goal
 
 pub returns-in_err-oldest-clause-page : goal.returns-in_err-oldest-clause-page
@@ -37,7 +37,7 @@ invariant_of-self c =
     sym c.in_ok-oldest.ensures in
     let found =
     visits_at c.self.inside.taken.items c.in_ok-oldest.oldest c.index-deref_mut-oldest.result at in
-    heads_below c.self.inside.queue.size c.self.inside.taken.items c.deref_mut.result.now
+    taken_still c.self.inside.queue.size c.self.inside.taken.items c.deref_mut.result.now
     c.in_ok-oldest.oldest c.visit.new.self c.index-deref_mut-oldest.result
     c.deref_mut.ensures.value found.0 c.visit.ensures.visited c.self.invariant
 

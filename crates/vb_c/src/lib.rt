@@ -1,0 +1,7 @@
+//! `vb_core` for C: `vb.h` says what each call is for. Each export takes any argument, and answers
+//! by a code; the device is one plain struct in the caller's memory, and nothing is allocated.
+#![tactic(auto)]
+
+mod answers;
+mod chains;
+mod registers;

@@ -1,0 +1,110 @@
+/* Bigvasta: what a traditional memory balloon device (VIRTIO 1.1, 5.5) decides, proved for any bytes.
+ *
+ * The library keeps nothing: a device is one plain struct in the caller's memory, so that copying the
+ * struct saves and restores it. It allocates nothing, touches no guest memory and discards nothing: it
+ * reads private copies that the caller makes, and answers what is to be done. Any argument gets an answer
+ * or a named refusal, but that a pointer with a length must point to that many elements (or the length is
+ * 0), and that one call at a time works on a device.
+ *
+ * Numbers of pages count pages of 4096 bytes from the start of guest memory.
+ */
+#ifndef VB_H
+#define VB_H
+#include <stddef.h>
+#include <stdint.h>
+
+enum {                          /* answers: `code` */
+    VB_OK = 0,
+    VB_NOTHING = 1,             /* no chain is available */
+    VB_BROKEN = 2,              /* the guest's bytes break a rule (`rule`); DEVICE_NEEDS_RESET is set now */
+    VB_NOT_READY = 3,           /* DRIVER_OK isn't set, or FAILED is */
+    VB_NEEDS_RESET = 4,         /* a rule was broken before */
+    VB_NO_QUEUE = 5,            /* no queue of that kind, or not with the negotiated features */
+    VB_MISPLACED = 6,           /* the queue has no place, or copies don't have its size */
+    VB_BAD_ARGUMENT = 7,        /* too little room, a head that is no descriptor, settings out of range */
+};
+enum {                          /* kinds of queues, whatever their numbers are */
+    VB_INFLATE = 0, VB_DEFLATE = 1, VB_STATISTICS = 2, VB_REPORT = 3, VB_NO_KIND = 4,
+};
+/* Rules (of VB_BROKEN): 1 bad head, 2 bad next, 3 chain too long, 4 indirect, 5 wrong direction,
+ * 6 out of memory, 7 available index jumps, 8 bad length, 9 bad page, 10 reserved page. */
+
+enum { VB_MAX_QUEUE_SIZE = 256, VB_MAX_PIECES = 256, VB_MAX_RUNS = 256, VB_MAX_BYTES = 1024 };
+
+typedef struct {
+    uint64_t memory_end;        /* bytes: where guest memory ends, from 8192 on and below 2^44; the last part of a page
+                                   doesn't count. Holes below it are the caller's. */
+    uint64_t offered;           /* features: of bits 0, 1, 2, 5 and 32; bit 32 (VERSION_1) is among them */
+    uint32_t reserved_pages;    /* pages at the start that no request may name; none: 0 */
+    uint8_t needs_must_tell;    /* unless 0: FEATURES_OK is refused without MUST_TELL_HOST */
+    uint8_t skips_bad_pages;    /* unless 0: a page number past the end, or of a reserved page, is skipped and counted;
+                                   0: it breaks rule 9 or 10, and then a Linux driver waits for ever */
+} VbSettings;
+
+typedef struct {
+    uint64_t table, avail, used;             /* guest addresses of its parts */
+    uint16_t size, next_avail, next_used;    /* size 0: it has no place */
+} VbQueue;
+
+typedef struct {
+    VbSettings settings;
+    uint64_t features;          /* what the driver negotiated */
+    uint32_t target, actual;    /* num_pages and actual of the configuration space */
+    VbQueue inflate, deflate, statistics, report;
+    uint8_t status;
+} VbDevice;
+
+typedef struct { uint64_t address; uint32_t length; uint8_t writable; } VbPiece;
+typedef struct { uint32_t first, count; } VbRun;                  /* pages first .. first + count - 1 */
+typedef struct { uint16_t tag; uint64_t value; } VbStatistic;
+
+typedef struct { uint32_t code, rule, head, pieces, bytes; } VbChain;
+typedef struct { uint32_t code, rule, head, runs, pages, skipped; } VbNamed;
+typedef struct { uint32_t code, rule, count; } VbFigures;
+typedef struct { uint32_t code; uint64_t element_at, index_at; uint32_t id, length; uint16_t index; } VbUsed;
+
+/* Makes a device that waits for its driver. VB_OK or VB_BAD_ARGUMENT. */
+uint32_t vb_new(VbDevice *device, VbSettings settings);
+/* The host wants so many pages in the balloon: tell the driver of the change of configuration. */
+void vb_set_target(VbDevice *device, uint32_t pages);
+/* The driver writes the status register: 0 accepted (a write of 0 resets: features, actual and all places
+ * are gone), or, tested in this order, 1 clears a bit, 2 out of order, 5 VERSION_1 missing, 4 MUST_TELL_HOST missing;
+ * then nothing is changed. At DRIVER_OK look at each queue once: Linux tells its first statistics buffer before. */
+uint32_t vb_write_status(VbDevice *device, uint8_t status);
+/* The driver writes its features (again: the last write counts): 0 accepted, 2 not at status 3, 3 not offered. */
+uint32_t vb_negotiate(VbDevice *device, uint64_t features);
+/* The kind of the queue of this number: they are numbered without gaps, by the negotiated features. */
+uint32_t vb_kind(const VbDevice *device, uint32_t number);
+/* Gives a queue its place, behind vb_negotiate: VB_OK; VB_NO_QUEUE for no kind; VB_BAD_ARGUMENT once DRIVER_OK is set;
+ * VB_NO_QUEUE where the negotiated features leave it out; VB_MISPLACED where size is no power of two from 2 to 256, or a
+ * part isn't aligned (16, 2, 4) or doesn't end within memory. */
+uint32_t vb_place(VbDevice *device, uint32_t kind, uint64_t table, uint64_t avail, uint64_t used, uint16_t size);
+/* Reads or writes bytes of the configuration space (num_pages, actual: little-endian). Bytes behind it read as 0;
+ * only a write of the 4 bytes at 4 changes anything: VB_OK, else VB_BAD_ARGUMENT. */
+void vb_read_config(const VbDevice *device, uint32_t offset, uint8_t *out, size_t length);
+uint32_t vb_write_config(VbDevice *device, uint32_t offset, const uint8_t *bytes, size_t length);
+
+/* The chain that stands next on the queue of inflates, deflates or statistics, with its pieces in order.
+ * avail: a copy of the available ring, 4 + 2 size bytes: index first, then an acquire fence, then the rest.
+ * table: a copy of the 16 size bytes of the table, made after it. Nothing moves; VB_BROKEN sets the status.
+ * room at least size. A chain of wrong direction or length is broken here. */
+VbChain vb_next(VbDevice *device, uint32_t kind, const uint8_t *avail, size_t avail_length, const uint8_t *table,
+                size_t table_length, VbPiece *pieces, size_t room);
+/* Takes the chain that stood next on the queue of inflates or deflates: `bytes` is a private copy of all its pieces'
+ * bytes in a row, each copied once. The pages it names, as runs: a number that follows the last run or stands right
+ * before it joins it. room at least length / 4; a length that vb_next doesn't answer is VB_BAD_ARGUMENT. head is 0. */
+VbNamed vb_name(VbDevice *device, uint32_t kind, const uint8_t *bytes, size_t length, VbRun *runs, size_t room);
+/* Takes the chain that stands next on the queue of reports: its pages are free in the guest. A run for each
+ * piece, in order. A piece that isn't whole pages of memory breaks a rule, whatever is skipped else. room at least 32. */
+VbNamed vb_report(VbDevice *device, const uint8_t *avail, size_t avail_length, const uint8_t *table,
+                  size_t table_length, VbRun *runs, size_t room);
+/* Takes the statistics buffer that stood next: what it says, in order, any tags. Keep its head, and vb_use it to ask for
+ * new ones. room at least length / 10; a length that vb_next doesn't answer is VB_BAD_ARGUMENT. */
+VbFigures vb_statistics(VbDevice *device, const uint8_t *bytes, size_t length, VbStatistic *figures, size_t room);
+/* Gives a taken chain back: write id and length (little-endian, 8 bytes) at element_at, then a release fence, then index
+ * at index_at, then interrupt. An inflate's pages are discarded before. VB_OK, or why not, and then nothing moves: a head
+ * that is no descriptor of the queue, which has none without a place, is VB_BAD_ARGUMENT. */
+VbUsed vb_use(VbDevice *device, uint32_t kind, uint32_t head);
+/* Refusals are tested in this order: VB_NO_QUEUE for a kind that the call isn't for, VB_BAD_ARGUMENT, VB_NOT_READY,
+ * VB_NEEDS_RESET, VB_NO_QUEUE for a feature, VB_MISPLACED; then VB_BROKEN, VB_NOTHING or VB_OK. */
+#endif

@@ -1,0 +1,155 @@
+-- Two tables that agree give the same chains and the same faults.
+use Rattle.std.proofs.Common.{◌≡◌, ◌∙◌, ℕ, zero, suc, ◌+◌, ◌<◌, Bool, true, false, List, []}
+use Rattle.std.proofs.Common.{◌∷◌, None, refl, length, get_or, take, map, sym, ap}
+use Rattle.std.proofs.Common.{arith, inl, inr}
+use Rattle.std.specs.Prelude.{not, ◌&&◌, ◌||◌, nat_lt, nat_le}
+use Rattle.std.specs.List.{list_any}
+use Rattle.std.proofs.lemmas.Bool.{leb-false}
+use Rattle.std.proofs.lemmas.List.{get_or-take, length-take}
+use Rattle.vb_chain.specs.declared.descriptor.Descriptor.{Descriptor}
+use Rattle.vb_chain.specs.declared.pieces.Piece.{Piece}
+use Rattle.vb_chain.specs.declared.fault.ChainFault.{ChainFault}
+use Rattle.vb_chain.specs.declared.fault.ChainFault.TheVariants.{BadNext, TooLong, Indirect}
+use Rattle.vb_chain.specs.declared.fault.ChainFault.TheVariants.{WrongDirection, OutOfRam}
+use Rattle.vb_chain.specs.Rules.{has_next, is_writable, is_indirect, piece_of, first_broken}
+use Rattle.vb_chain.specs.Rules.{first_fault}
+use Rattle.vb_chain.specs.Chain.{IsPath, fault_at, ChainGives, FaultGives}
+
+-- The two give the same descriptors of a table of so many.
+abbrev pub Agree : ℕ → (ℕ → Descriptor) → (ℕ → Descriptor) → Type 0
+Agree q d e = (i : ℕ) → i < q → d i ≡ e i
+
+pub agree_back : (q : ℕ) (d e : ℕ → Descriptor) → Agree q d e → Agree q e d
+agree_back q d e same i lt = sym (same i lt)
+
+-- ---- lists
+
+any_same : (f g : ℕ → Bool) (xs : List ℕ) →
+    ((j : ℕ) → j < length xs → f (get_or xs j 0) ≡ g (get_or xs j 0)) →
+    list_any f xs ≡ list_any g xs
+any_same f g [] same = refl
+any_same f g (x ∷ xs) same =
+    ap (λ (b : Bool). b || list_any f xs) (same 0 (omega arith))
+    ∙ ap (λ (b : Bool). g x || b) (any_same f g xs (λ j lt. same (suc j) (omega arith)))
+
+map_same : (f g : ℕ → Piece) (xs : List ℕ) →
+    ((j : ℕ) → j < length xs → f (get_or xs j 0) ≡ g (get_or xs j 0)) → map f xs ≡ map g xs
+map_same f g [] same = refl
+map_same f g (x ∷ xs) same =
+    ap (λ (p : Piece). p ∷ map f xs) (same 0 (omega arith))
+    ∙ ap (λ (ps : List Piece). g x ∷ ps)
+    (map_same f g xs (λ j lt. same (suc j) (omega arith)))
+
+-- ---- the numbers of a path
+
+fourth_holds : (a b c h i : Bool) (f1 f2 f3 f4 f5 : ChainFault) →
+    first_broken ((a, f1) ∷ (b, f2) ∷ (c, f3) ∷ (h, f4) ∷ (i, f5) ∷ []) ≡ None → h ≡ false
+fourth_holds true b c h i f1 f2 f3 f4 f5 e = absurd cc
+fourth_holds false true c h i f1 f2 f3 f4 f5 e = absurd cc
+fourth_holds false false true h i f1 f2 f3 f4 f5 e = absurd cc
+fourth_holds false false false true i f1 f2 f3 f4 f5 e = absurd cc
+fourth_holds false false false false i f1 f2 f3 f4 f5 e = refl
+
+goes_on : (a b : Bool) → (a && b) ≡ false → a ≡ true → b ≡ false
+goes_on true b e h = e
+goes_on false b e h = absurd cc
+
+-- a descriptor that breaks no rule and goes on names one of the table
+next_below : (q end : ℕ) (writing : Bool) (k : ℕ) (x : Descriptor) →
+    first_fault q end writing k x ≡ None → has_next x ≡ true → x.next < q
+next_below q end writing k x e more =
+    leb-false q x.next (goes_on (has_next x) (nat_le q x.next)
+    (fourth_holds (is_indirect x) (nat_lt end (x.addr + x.len)) (writing && not (is_writable x))
+    (has_next x && nat_le q x.next) (has_next x && nat_le q (k + 1)) Indirect OutOfRam
+    WrongDirection BadNext TooLong e) more)
+
+path_below : (d : ℕ → Descriptor) (q end head : ℕ) (path : List ℕ) → head < q →
+    IsPath d head path →
+    ((k : ℕ) → k + 1 < length path → fault_at d q end path k ≡ None) →
+    (k : ℕ) → k < length path → get_or path k 0 < q
+path_below d q end head path inside is sound zero lt = omega (arith, is.begins, inside)
+path_below d q end head path inside is sound (suc k) lt =
+    let short : k + 1 < length path = omega (arith, lt) in
+    let place : get_or path (suc k) 0 ≡ get_or path (k + 1) 0 =
+    ap (λ (n : ℕ). get_or path n 0) (one k) in
+    let below : (d (get_or path k 0)).next < q =
+    next_below q end (list_any (λ i. is_writable (d i)) (take k path)) k (d (get_or path k 0))
+    (sound k short) (is.onward k short) in
+    omega (arith, below, is.linked k short, place)
+  where
+    one : (n : ℕ) → suc n ≡ n + 1
+    one n = omega arith
+
+-- ---- what is said of a path
+
+same_fault : (d e : ℕ → Descriptor) (q end : ℕ) (path : List ℕ) →
+    ((k : ℕ) → k < length path → d (get_or path k 0) ≡ e (get_or path k 0)) →
+    (k : ℕ) → k < length path → fault_at d q end path k ≡ fault_at e q end path k
+same_fault d e q end path same k lt =
+    let writing : list_any (λ i. is_writable (d i)) (take k path) ≡
+    list_any (λ i. is_writable (e i)) (take k path) =
+    any_same (λ i. is_writable (d i)) (λ i. is_writable (e i)) (take k path) (λ j l.
+    let early : j < k = omega (arith, l, length-take k path) in
+    let at : get_or (take k path) j 0 ≡ get_or path j 0 = get_or-take k path j 0 early in
+    ap (λ (n : ℕ). is_writable (d n)) at
+    ∙ (ap is_writable (same j (omega (arith, early, lt)))
+    ∙ ap (λ (n : ℕ). is_writable (e n)) (sym at))) in
+    ap (λ (b : Bool). first_fault q end b k (d (get_or path k 0))) writing
+    ∙ ap (first_fault q end (list_any (λ i. is_writable (e i)) (take k path)) k) (same k lt)
+
+same_path : (d e : ℕ → Descriptor) (head : ℕ) (path : List ℕ) →
+    ((k : ℕ) → k < length path → d (get_or path k 0) ≡ e (get_or path k 0)) →
+    IsPath d head path → IsPath e head path
+same_path d e head path same is = record {
+  some = is.some;
+  begins = is.begins;
+  onward = λ k lt. ap has_next (sym (same k (omega (arith, lt)))) ∙ is.onward k lt;
+  linked = λ k lt.
+      ap (λ (x : Descriptor). x.next) (sym (same k (omega (arith, lt)))) ∙ is.linked k lt;
+}
+
+pub same_chain : (d e : ℕ → Descriptor) (q end h : ℕ) (pieces : List Piece) → Agree q d e →
+    ChainGives d q end h pieces → ChainGives e q end h pieces
+same_chain d e q end h pieces agree gives =
+    let chain = gives.chain in
+    let path : List ℕ = gives.path in
+    let below : (k : ℕ) → k < length path → get_or path k 0 < q =
+    path_below d q end h path chain.inside chain.is_path
+    (λ k lt. chain.sound k (omega (arith, lt))) in
+    let same : (k : ℕ) → k < length path → d (get_or path k 0) ≡ e (get_or path k 0) =
+    λ k lt. agree (get_or path k 0) (below k lt) in
+    record {
+      path = path;
+      chain = record {
+        inside = chain.inside;
+        is_path = same_path d e h path same chain.is_path;
+        short = chain.short;
+        sound = λ k lt. sym (same_fault d e q end path same k lt) ∙ chain.sound k lt;
+        ends = λ k last.
+            ap has_next (sym (same k (omega (arith, last)))) ∙ chain.ends k last;
+      };
+      pieces_are =
+          gives.pieces_are
+          ∙ map_same (λ i. piece_of (d i)) (λ i. piece_of (e i)) path
+          (λ j lt. ap piece_of (same j lt));
+    }
+
+pub same_break : (d e : ℕ → Descriptor) (q end h : ℕ) (fault : ChainFault) → Agree q d e →
+    FaultGives d q end h fault → FaultGives e q end h fault
+same_break d e q end h fault agree (inl none) = inl none
+same_break d e q end h fault agree (inr (path, breaks)) =
+    let below : (k : ℕ) → k < length path → get_or path k 0 < q =
+    path_below d q end h path breaks.inside breaks.is_path breaks.sound in
+    let same : (k : ℕ) → k < length path → d (get_or path k 0) ≡ e (get_or path k 0) =
+    λ k lt. agree (get_or path k 0) (below k lt) in
+    inr (
+      path,
+      record {
+        inside = breaks.inside;
+        is_path = same_path d e h path same breaks.is_path;
+        sound = λ k lt.
+            sym (same_fault d e q end path same k (omega (arith, lt))) ∙ breaks.sound k lt;
+        breaks = λ k last.
+            sym (same_fault d e q end path same k (omega (arith, last))) ∙ breaks.breaks k last;
+      },
+    )

@@ -1,0 +1,50 @@
+-- What a call that isn't refused has passed.
+use Rattle.std.proofs.Common.{◌≡◌, Bool, true, false, Option, Some, None, refl}
+use Rattle.std.specs.Prelude.{not, ◌||◌, if◌then◌else◌}
+use Rattle.vb_model.specs.Tables.{is_not_ready, has_fault, lacks_feature}
+use Rattle.vb_core.specs.declared.kinds.Kind.{Kind}
+use Rattle.vb_core.specs.declared.device.Denial.{Denial}
+use Rattle.vb_core.specs.declared.device.Denial.TheVariants.{NoQueue, BadArgument, NotReady}
+use Rattle.vb_core.specs.declared.device.Denial.TheVariants.{NeedsReset, Misplaced}
+use Rattle.vb_core.specs.declared.device.Device.{Device}
+use Rattle.vb_core.specs.Settings.{are_settings}
+use Rattle.vb_core.specs.Rings.{has_place}
+use Rattle.vb_core.specs.Kinds.{queue_of}
+use Rattle.vb_core.specs.Devices.{ring_of, call_denial}
+
+-- The arguments fit, and the queue has its place.
+pub record IsOpen (kind : Kind) (fits copied : Bool) (d : Device) : Type 0 where
+  pub fits_so : fits ≡ true
+  pub settings : are_settings d.settings ≡ true
+  pub copied_so : copied ≡ true
+  pub place : has_place d.settings.memory_end (ring_of kind d) ≡ true
+
+abbrev six_tests : Bool → Bool → Bool → Bool → Bool → Bool → Option Denial
+six_tests a b c d e f =
+    if a then Some NoQueue else (if b then Some BadArgument else (if c then Some NotReady
+    else (if d then Some NeedsReset else (if e then Some NoQueue else (if f then Some Misplaced
+    else None)))))
+
+passes : (a b c d e f : Bool) → six_tests a b c d e f ≡ None → (b ≡ false) × (f ≡ false)
+passes true b c d e f h = absurd cc
+passes false true c d e f h = absurd cc
+passes false false true d e f h = absurd cc
+passes false false false true e f h = absurd cc
+passes false false false false true f h = absurd cc
+passes false false false false false true h = absurd cc
+passes false false false false false false h = (refl, refl)
+
+neither : (a b : Bool) → (not a || not b) ≡ false → (a ≡ true) × (b ≡ true)
+neither true true h = (refl, refl)
+neither true false h = absurd cc
+neither false b h = absurd cc
+
+pub open_call : (kind : Kind) (known fits copied : Bool) (d : Device) →
+    call_denial kind known fits copied d ≡ None → IsOpen kind fits copied d
+open_call kind known fits copied d h =
+    let passed = passes (not known) (not fits || not (are_settings d.settings))
+    (is_not_ready d.status) (has_fault d.status) (lacks_feature d.features (queue_of kind))
+    (not copied || not (has_place d.settings.memory_end (ring_of kind d))) h in
+    let first = neither fits (are_settings d.settings) passed.0 in
+    let last = neither copied (has_place d.settings.memory_end (ring_of kind d)) passed.1 in
+    record { fits_so = first.0; settings = first.1; copied_so = last.0; place = last.1 }

@@ -1,0 +1,10 @@
+pub mod CopyLemmas
+pub mod RingLemmas
+pub mod DenialLemmas
+pub mod NextLemmas
+pub mod RunLemmas
+pub mod NameLemmas
+pub mod Chains
+pub mod NamedLaws
+pub mod ChainAgreement
+pub mod CopyLaws

@@ -1,0 +1,122 @@
+-- What runs say of the pages that the definitions give.
+use Rattle.std.proofs.Common.{◌≡◌, ◌∙◌, ℕ, Bool, true, false, List, [], ◌∷◌, Option, Some, None}
+use Rattle.std.proofs.Common.{Result, Ok, Err, refl, length, take, sym, ap, arith, subst}
+use Rattle.std.specs.Prelude.{cond, is_none, IsOkAnd}
+use Rattle.vb_model.specs.Tests.{is_in}
+use Rattle.vb_model.specs.Orderly.{times}
+use Rattle.vb_model.specs.Driver.{AllDistinct}
+use Rattle.vb_model.proofs.Distinct.{times-none, times-some}
+use Rattle.vb_ram.specs.Pages.{Pages}
+use Rattle.vb_chain.specs.declared.pieces.Piece.{Piece}
+use Rattle.vb_chain.specs.declared.fault.ChainFault.{ChainFault}
+use Rattle.vb_request.specs.Request.{number_fault, first_of_both, first_number_fault, each_once}
+use Rattle.vb_request.specs.Request.{unless_fault, numbers_of, bytes_of, request_length, page_request}
+use Rattle.vb_request.proofs.Bytes.{read_numbers}
+use Rattle.vb_request.proofs.Once.{is_in-each_once}
+use Rattle.vb_request.proofs.OneRequest.{once_distinct}
+use Rattle.vb_core.specs.declared.runs.Run.{Run}
+use Rattle.vb_core.specs.declared.name.Named.{Named}
+use Rattle.vb_core.specs.Runs.{pages_of_runs, Tell}
+use Rattle.vb_core.proofs.RunLemmas.{tell_times}
+use Rattle.vb_core.specs.Name.{right_numbers, NamesRuns, AreNamed}
+
+unless_ok : (fault : Option ChainFault) (ns pages : List ℕ) → unless_fault fault ns ≡ Ok pages →
+    (fault ≡ None) × (ns ≡ pages)
+unless_ok None ns pages e = (refl, cc)
+unless_ok (Some f) ns pages e = absurd cc
+
+unless_err : (fault : Option ChainFault) (ns : List ℕ) (f : ChainFault) →
+    unless_fault fault ns ≡ Err f → fault ≡ Some f
+unless_err None ns f e = absurd cc
+unless_err (Some g) ns f e = cc
+
+none_of_both : (a b : Option ChainFault) → first_of_both a b ≡ None → (a ≡ None) × (b ≡ None)
+none_of_both None b e = (refl, e)
+none_of_both (Some f) b e = absurd cc
+
+-- where no number is wrong, all are right
+all_right : (reserved count : ℕ) (ns : List ℕ) → first_number_fault reserved count ns ≡ None →
+    right_numbers reserved count ns ≡ ns
+all_right reserved count [] e = refl
+all_right reserved count (n ∷ ns) e =
+    let both =
+    none_of_both (number_fault reserved count n) (first_number_fault reserved count ns) e in
+    ap (λ (o : Option ChainFault). cond (is_none o) (n ∷ right_numbers reserved count ns)
+    (right_numbers reserved count ns)) both.0
+    ∙ ap (λ (xs : List ℕ). n ∷ xs) (all_right reserved count ns both.1)
+
+-- what stands as often in two lists is in both or in neither
+in_both : (p : ℕ) (xs ys : List ℕ) (a b : Bool) → is_in p xs ≡ a → is_in p ys ≡ b →
+    times p xs ≡ times p ys → a ≡ b
+in_both p xs ys true true e f same = refl
+in_both p xs ys true false e f same =
+    absurd (omega (arith, same, times-some p xs e, times-none p ys f))
+in_both p xs ys false true e f same =
+    absurd (omega (arith, same, times-none p xs e, times-some p ys f))
+in_both p xs ys false false e f same = refl
+
+weaker : {A : Type 0} {E : Type 0} (result : Result A E) (P Q : A → Type 0) →
+    ((x : A) → P x → Q x) → IsOkAnd result P → IsOkAnd result Q
+weaker (Ok x) P Q leads holds = leads x holds
+weaker (Err e) P Q leads holds = holds
+
+-- the runs where the definitions give pages
+named_right : (mem : Pages) (pieces : List Piece) (reserved total : ℕ) (runs : List Run)
+    (result : Result Named ChainFault) (pages : List ℕ) → request_length pieces ≡ Ok total →
+    NamesRuns false reserved (length mem) (numbers_of (bytes_of mem pieces)) runs result →
+    page_request mem pieces reserved ≡ Ok pages →
+    (each_once (numbers_of (bytes_of mem pieces)) ≡ pages)
+    × IsOkAnd result (λ named. Tell (take named.runs runs) (numbers_of (bytes_of mem pieces)))
+named_right mem pieces reserved total runs result pages e names is =
+    let ns : List ℕ = numbers_of (bytes_of mem pieces) in
+    let parts = unless_ok (first_number_fault reserved (length mem) ns) (each_once ns) pages
+    (sym (read_numbers mem pieces reserved total e) ∙ is) in
+    let right : right_numbers reserved (length mem) ns ≡ ns =
+    all_right reserved (length mem) ns parts.0 in (
+      parts.1,
+      weaker result (AreNamed (right_numbers reserved (length mem) ns) (length ns) runs)
+          (λ named. Tell (take named.runs runs) ns)
+          (λ named are. subst (λ (xs : List ℕ). Tell (take named.runs runs) xs) right
+          are.told_so) (names.named parts.0),
+    )
+
+pub named_fault : (mem : Pages) (pieces : List Piece) (reserved total : ℕ) (runs : List Run)
+    (result : Result Named ChainFault) (fault : ChainFault) → request_length pieces ≡ Ok total →
+    NamesRuns false reserved (length mem) (numbers_of (bytes_of mem pieces)) runs result →
+    page_request mem pieces reserved ≡ Err fault → result ≡ Err fault
+named_fault mem pieces reserved total runs result fault e names is =
+    names.fault fault (unless_err
+    (first_number_fault reserved (length mem) (numbers_of (bytes_of mem pieces)))
+    (each_once (numbers_of (bytes_of mem pieces))) fault
+    (sym (read_numbers mem pieces reserved total e) ∙ is))
+
+pub named_members : (mem : Pages) (pieces : List Piece) (reserved total : ℕ) (runs : List Run)
+    (result : Result Named ChainFault) (pages : List ℕ) → request_length pieces ≡ Ok total →
+    NamesRuns false reserved (length mem) (numbers_of (bytes_of mem pieces)) runs result →
+    page_request mem pieces reserved ≡ Ok pages →
+    IsOkAnd result (λ named. (p : ℕ) →
+    is_in p (pages_of_runs (take named.runs runs)) ≡ is_in p pages)
+named_members mem pieces reserved total runs result pages e names is =
+    let ns : List ℕ = numbers_of (bytes_of mem pieces) in
+    let found = named_right mem pieces reserved total runs result pages e names is in
+    weaker result (λ named. Tell (take named.runs runs) ns)
+    (λ named. (p : ℕ) → is_in p (pages_of_runs (take named.runs runs)) ≡ is_in p pages)
+    (λ named are p.
+    in_both p (pages_of_runs (take named.runs runs)) ns
+    (is_in p (pages_of_runs (take named.runs runs))) (is_in p ns) refl refl
+    (tell_times (take named.runs runs) ns are p)
+    ∙ (sym (is_in-each_once p ns) ∙ ap (is_in p) found.0)) found.1
+
+pub named_once : (mem : Pages) (pieces : List Piece) (reserved total : ℕ) (runs : List Run)
+    (result : Result Named ChainFault) (pages : List ℕ) → request_length pieces ≡ Ok total →
+    NamesRuns false reserved (length mem) (numbers_of (bytes_of mem pieces)) runs result →
+    page_request mem pieces reserved ≡ Ok pages →
+    AllDistinct (numbers_of (bytes_of mem pieces)) →
+    IsOkAnd result (λ named. Tell (take named.runs runs) pages)
+named_once mem pieces reserved total runs result pages e names is apart =
+    let ns : List ℕ = numbers_of (bytes_of mem pieces) in
+    let found = named_right mem pieces reserved total runs result pages e names is in
+    let same : ns ≡ pages = sym (once_distinct ns apart) ∙ found.0 in
+    weaker result (λ named. Tell (take named.runs runs) ns)
+    (λ named. Tell (take named.runs runs) pages)
+    (λ named are. subst (λ (xs : List ℕ). Tell (take named.runs runs) xs) same are) found.1

@@ -1,0 +1,15 @@
+pub mod Refusals
+pub mod Asked
+pub mod Copies
+pub mod Settings
+pub mod Rings
+pub mod Kinds
+pub mod Devices
+pub mod Next
+pub mod Using
+pub mod Statuses
+pub mod Config
+pub mod Runs
+pub mod Name
+pub mod Report
+pub mod Statistics

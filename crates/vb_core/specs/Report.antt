@@ -1,0 +1,64 @@
+-- Reports, in copies of their ring.
+use Rattle.std.specs.Prelude.{◌≡◌, ℕ, ◌/◌, true, nat_le, List, length, map, take, Option, Some}
+use Rattle.std.specs.Prelude.{None, Result, Ok, Err, IsOk}
+use Rattle.vb_model.specs.declared.limits.TheConstants.{MAX_REPORT_PIECES}
+use Rattle.vb_model.specs.Limits.{page_size}
+use Rattle.vb_chain.specs.declared.pieces.Piece.{Piece}
+use Rattle.vb_chain.specs.declared.fault.ChainFault.{ChainFault}
+use Rattle.vb_ring.specs.declared.device.Taken.{Taken}
+use Rattle.vb_request.specs.Report.{report_request}
+use Rattle.vb_core.specs.declared.ring.Ring.{Ring}
+use Rattle.vb_core.specs.declared.runs.Run.{Run}
+use Rattle.vb_core.specs.declared.report.Reported.{Reported}
+use Rattle.vb_core.specs.declared.kinds.Kind.TheVariants.{Report}
+use Rattle.vb_core.specs.declared.device.Denial.{Denial}
+use Rattle.vb_core.specs.declared.device.Device.{Device}
+use Rattle.vb_core.specs.Settings.{memory_pages}
+use Rattle.vb_core.specs.Devices.{ring_of, with_one_taken, needing_reset, call_denial}
+use Rattle.vb_core.specs.Next.{PopsCopies, are_copies, told}
+
+-- The pages of a piece of whole pages.
+abbrev pub run_of : Piece → Run
+run_of piece = record { first = piece.addr / page_size; count = piece.len / page_size }
+
+abbrev pub answer_with : Taken → Result (List ℕ) ChainFault → Result (Option Reported) ChainFault
+answer_with taken (Err fault) = Err fault
+answer_with taken (Ok pages) =
+    Ok (Some (record { head = taken.head; runs = length taken.chain; pages = length pages }))
+
+-- The report that was found, where it is one.
+abbrev pub report_of : ℕ → Result (Option Taken) ChainFault → Result (Option Reported) ChainFault
+report_of reserved (Err fault) = Err fault
+report_of reserved (Ok None) = Ok None
+report_of reserved (Ok (Some taken)) = answer_with taken (report_request taken.chain reserved)
+
+-- What stands next in copies of a ring, and its pages in the front of a list, one run for a piece.
+pub record ReadsReport (reserved count : ℕ) (r : Ring) (avail table : List ℕ)
+    (runs : List Run) (result : Result (Option Reported) ChainFault) : Type 0 where
+  pub found : Result (Option Taken) ChainFault
+  pub pops : PopsCopies count r avail table found
+  pub answer : result ≡ report_of reserved found
+  pub runs_are : (taken : Taken) → found ≡ Ok (Some taken) → IsOk result →
+      take (length taken.chain) runs ≡ map run_of taken.chain
+
+-- What a call for the next report is refused for, with so much room and so many bytes of copies.
+abbrev pub report_denial : ℕ → ℕ → ℕ → Device → Option Denial
+report_denial avail table room d =
+    call_denial Report true (nat_le MAX_REPORT_PIECES room)
+    (are_copies (ring_of Report d).size avail table) d
+
+-- The device after a report: taken, broken, or none there.
+abbrev pub after_report : Result (Option Reported) ChainFault → Device → Device
+after_report (Ok None) d = d
+after_report (Ok (Some taken)) d = with_one_taken Report d
+after_report (Err fault) d = needing_reset d
+
+-- The next report, on any bytes of the copies.
+pub record ReportsBy (avail table : List ℕ) (room : ℕ) (runs : List Run) (d1 d2 : Device)
+    (result : Result (Option Reported) Denial) : Type 0 where
+  pub denied : (why : Denial) → report_denial (length avail) (length table) room d1 ≡ Some why →
+      (result ≡ Err why) × (d2 ≡ d1)
+  pub reads : report_denial (length avail) (length table) room d1 ≡ None →
+      (answer : Result (Option Reported) ChainFault) ×
+      ReadsReport d1.settings.reserved_pages (memory_pages d1.settings) (ring_of Report d1) avail
+      table runs answer × (result ≡ told answer) × (d2 ≡ after_report answer d1)

@@ -1,0 +1,53 @@
+-- Writes of the status register and of the features (VIRTIO 1.1, 2.1, 2.2 and 3.1.1): the rules of
+-- the definitions, and beside them what the settings ask for.
+use Rattle.std.specs.Prelude.{ℕ, Bool, not, ◌&&◌, ◌==◌, if◌then◌else◌, Option, Some, None}
+use Rattle.vb_model.specs.declared.replies.Refusal.{Refusal}
+use Rattle.vb_model.specs.declared.replies.Refusal.TheVariants.{ClearsBit as ClearsOne}
+use Rattle.vb_model.specs.declared.replies.Refusal.TheVariants.{OutOfOrder as BreaksOrder}
+use Rattle.vb_model.specs.declared.replies.Refusal.TheVariants.{FeatureNotOffered as OffersNot}
+use Rattle.vb_model.specs.Status.{status_refusal, negotiate_refusal, adds, features_ok, contains}
+use Rattle.vb_model.specs.Guest.{must_tell_host}
+use Rattle.vb_core.specs.declared.status.StatusDenial.{StatusDenial}
+use Rattle.vb_core.specs.declared.status.StatusDenial.TheVariants.{ClearsBit, OutOfOrder}
+use Rattle.vb_core.specs.declared.status.StatusDenial.TheVariants.{FeatureNotOffered}
+use Rattle.vb_core.specs.declared.status.StatusDenial.TheVariants.{MustTellHostMissing}
+use Rattle.vb_core.specs.declared.status.StatusDenial.TheVariants.{VersionMissing}
+use Rattle.vb_core.specs.declared.device.Device.{Device}
+use Rattle.vb_core.specs.Settings.{needs_must_tell}
+use Rattle.vb_core.specs.Devices.{new_device}
+
+-- A refusal of the definitions: no write meets another one than these.
+abbrev pub denial_by : Refusal → StatusDenial
+denial_by ClearsOne = ClearsBit
+denial_by BreaksOrder = OutOfOrder
+denial_by OffersNot = FeatureNotOffered
+denial_by _ = VersionMissing
+
+-- The refusal of the definitions, or else this one.
+abbrev pub denied_or : Option StatusDenial → Option Refusal → Option StatusDenial
+denied_or other None = other
+denied_or other (Some refusal) = Some (denial_by refusal)
+
+-- A write adds FEATURES_OK without the MUST_TELL_HOST that the settings ask for.
+abbrev pub lacks_must_tell : ℕ → Device → Bool
+lacks_must_tell write d =
+    needs_must_tell d.settings && adds d.status write features_ok
+    && not (must_tell_host d.features)
+
+-- What a write of the status is refused for.
+abbrev pub status_denial : ℕ → Device → Option StatusDenial
+status_denial write d =
+    denied_or (if lacks_must_tell write d then Some MustTellHostMissing else None)
+    (status_refusal d.status d.features write)
+
+-- The device after a write that is accepted: one of 0 resets.
+abbrev pub after_write : ℕ → Device → Device
+after_write write d =
+    if write == 0 then record (new_device d.settings) { target = d.target }
+    else record d { status = write }
+
+-- What a set of features is refused for.
+abbrev pub negotiate_denial : ℕ → Device → Option StatusDenial
+negotiate_denial wanted d =
+    denied_or (if contains d.settings.offered wanted then None else Some FeatureNotOffered)
+    (negotiate_refusal d.status wanted)

@@ -1,0 +1,45 @@
+//! What a balloon device decides (VIRTIO 1.1, 5.5), apart from memory's ownership: which calls its
+//! status and features refuse, what a chain of each queue asks, and which rule a broken one breaks.
+//! It allocates nothing.
+//!
+//! `Device` is a whole device for a guest whose memory is elsewhere, as in a monitor: it reads
+//! private copies that the monitor makes, touches no guest memory, and answers what is to be done.
+#![tactic(auto)]
+
+mod asked;
+mod config;
+mod copies;
+mod device;
+mod kinds;
+mod laws;
+mod name;
+mod next;
+mod refusals;
+mod report;
+mod ring;
+mod runs;
+mod settings;
+mod statistics;
+mod status;
+#[cfg(test)]
+mod tests;
+mod using;
+
+pub use asked::read_chain;
+pub use device::{Denial, Device};
+pub use kinds::Kind;
+pub use laws::{
+    a_used_entry_is_the_rings_next, copies_say_what_memory_says, runs_are_the_pages_of_the_report,
+    runs_are_the_pages_of_the_request,
+};
+pub use name::Named;
+pub use next::{Buffer, NextChain};
+pub use refusals::{
+    broken, has_fault, is_not_ready, lacks_feature, readiness_refusal, rule_of, take_refusal,
+};
+pub use report::{MAX_REPORT_RUNS, Reported};
+pub use ring::{Ring, UsedEntry};
+pub use runs::Run;
+pub use settings::{LEAST_MEMORY, MEMORY_LIMIT, Settings};
+pub use statistics::Statistic;
+pub use status::StatusDenial;

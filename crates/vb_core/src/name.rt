@@ -1,0 +1,111 @@
+//! The pages that a request names, in a private copy of its bytes.
+
+ghost use Rattle.std.specs.Prelude.{◌≡◌, ◌≤◌, ◌<◌, ◌/◌, ◌^◌, length};
+ghost use Rattle.vb_model.specs.declared.layout.TheConstants.{REQUEST_BUFFER_SIZE};
+ghost use Rattle.vb_request.specs.Request.{numbers_of};
+ghost use Rattle.vb_core.specs.Name.{is_request, NamesRuns, NamesBy};
+
+use crate::runs::add_page;
+use crate::{Denial, Device, Kind, Run};
+use vb_chain::ChainFault;
+use vb_request::{is_request_length, number_at, number_fault};
+
+/// What a request names: so many runs of pages.
+#[derive(Clone, Copy, Debug)]
+pub struct Named {
+    /// How many runs there are.
+    pub runs: u32,
+    /// How many pages they have together; one that is named again counts again.
+    pub pages: u32,
+    /// How many numbers were skipped.
+    pub skipped: u32,
+}
+
+/// Which numbers a request may name.
+#[derive(Clone, Copy, Debug)]
+struct Limits {
+    /// Those of the first pages are reserved, so many.
+    reserved: u32,
+    /// There are so many pages.
+    count: u32,
+    /// Others are skipped.
+    skips: bool,
+}
+
+/// The pages that the numbers in these bytes are, as runs in the front of a slice, or what is wrong
+/// with the first wrong number where none is skipped.
+fn name_runs(limits: Limits, bytes: &[u8], runs: &mut [Run]) -> Result<Named, ChainFault>
+    requires few { length bytes.now ≤ REQUEST_BUFFER_SIZE }
+    requires room { length bytes.now / 4 ≤ length runs.old }
+    ensures { NamesRuns limits.skips limits.reserved limits.count (numbers_of bytes.now)
+        runs.new result }
+{
+    let total = bytes.len() / 4;
+    let mut used = 0;
+    let mut skipped = 0;
+    for k in 0..total {
+        let number = number_at(bytes, k);
+        match number_fault(limits.reserved, limits.count, number) {
+            None => used = add_page(runs, used, number),
+            Some(fault) => {
+                if !limits.skips {
+                    return Err(fault);
+                }
+                skipped += 1;
+            }
+        }
+    }
+    Ok(Named {
+        runs: used as u32,
+        pages: total as u32 - skipped,
+        skipped,
+    })
+}
+
+impl Kind {
+    /// Whether its chains are requests, which name pages by numbers.
+    pub fn is_request(self) -> bool
+        ensures { result ≡ is_request self }
+    {
+        match self {
+            Kind::Inflate | Kind::Deflate => true,
+            Kind::Statistics | Kind::Report => false,
+        }
+    }
+}
+
+impl Device {
+    /// Takes the chain that stood next on the queue of inflates or deflates, whose pieces' bytes
+    /// are these, in a row: the pages that it names, as runs in the front of `runs` (VIRTIO 1.1,
+    /// 5.5.6). A number that follows the last run, or stands right before it, joins it. A page that
+    /// is named again stands there again.
+    ///
+    /// Refused, tested in this order: `NoQueue` for a kind that the call isn't for; `BadArgument`
+    /// where a request has no such length, or `runs` has less room than a quarter of it;
+    /// `NotReady`; `NeedsReset`; `Misplaced`. Then `Broken` where a number is no page of memory or
+    /// a reserved one, unless the settings skip such numbers: the chain isn't taken, and
+    /// DEVICE_NEEDS_RESET is set.
+    pub fn name(&mut self, kind: Kind, bytes: &[u8], runs: &mut [Run]) -> Result<Named, Denial>
+        ensures { NamesBy kind bytes.now (length runs.old) runs.new self.old self.new result }
+    {
+        let fits = is_request_length(bytes.len() as u64) && runs.len() >= bytes.len() / 4;
+        if let Some(why) = self.call_denial(kind, kind.is_request(), fits, true) {
+            return Err(why);
+        }
+        let limits = Limits {
+            reserved: self.settings.reserved_pages,
+            count: self.settings.pages(),
+            skips: self.settings.skips_bad_pages(),
+        };
+        match name_runs(limits, bytes, runs) {
+            Ok(named) => {
+                self.count_taken(kind);
+                Ok(named)
+            }
+            Err(fault) => {
+                self.note_fault();
+                Err(Denial::Broken(fault))
+            }
+        }
+    }
+}

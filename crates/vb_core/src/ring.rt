@@ -1,0 +1,99 @@
+//! Where a queue's ring lies in guest memory, and how far the device is in it.
+
+ghost use Rattle.std.specs.Prelude.{◌≡◌, ◌+◌, ◌*◌, ◌%◌, ◌<◌, ◌≤◌, true};
+ghost use Rattle.vb_core.specs.Rings.{no_ring, is_size, is_part, has_place, used_entry, with_used};
+
+use vb_ring::{MAX_QUEUE_SIZE, MIN_QUEUE_SIZE};
+
+/// A queue's ring as the device has it: where its parts lie, by addresses of guest memory, and how
+/// far the device is (VIRTIO 1.1, 2.6).
+#[repr(C)]
+#[derive(Clone, Copy, Debug)]
+pub struct Ring {
+    /// Where the descriptor table begins.
+    pub table: u64,
+    /// Where the available ring begins.
+    pub avail: u64,
+    /// Where the used ring begins.
+    pub used: u64,
+    /// How many descriptors there are; 0 where the queue has no place.
+    pub size: u16,
+    /// How many available entries were taken, modulo 65,536.
+    pub next_avail: u16,
+    /// How many used entries were told, modulo 65,536.
+    pub next_used: u16,
+}
+
+/// What is to be written for a chain that is used (VIRTIO 1.1, 2.6.8): the id and the length, as
+/// little-endian numbers of 32 bits, at one address, and then the index, of 16 bits, at the other.
+#[derive(Clone, Copy, Debug)]
+pub struct UsedEntry {
+    /// Where the element goes.
+    pub element_at: u64,
+    /// Where the index goes.
+    pub index_at: u64,
+    /// The head of the chain.
+    pub id: u32,
+    /// How many bytes the device wrote into its pieces: none.
+    pub length: u32,
+    /// The index.
+    pub index: u16,
+}
+
+/// Whether a queue may have so many descriptors: a power of two from 2 to 256.
+fn is_size(size: u16) -> bool
+    ensures { result ≡ is_size size }
+{
+    size.is_power_of_two() && size >= MIN_QUEUE_SIZE && size <= MAX_QUEUE_SIZE
+}
+
+/// Whether so many bytes from an address on are aligned so, and lie in memory that ends there.
+fn is_part(end: u64, at: u64, align: u64, len: u64) -> bool
+    requires { 0 < align }
+    ensures { result ≡ is_part end at align len }
+{
+    at % align == 0 && at <= end && len <= end - at
+}
+
+impl Ring {
+    /// The ring of a queue that has no place.
+    pub const NONE: Ring = Ring {
+        table: 0,
+        avail: 0,
+        used: 0,
+        size: 0,
+        next_avail: 0,
+        next_used: 0,
+    };
+
+    /// Whether its parts have a place in memory that ends at this address: a power of two of
+    /// descriptors from 2 to 256; the table aligned to 16 bytes, the available ring to 2 and the
+    /// used ring to 4 (VIRTIO 1.1, 2.6); and each part within memory.
+    pub fn has_place(&self, end: u64) -> bool
+        ensures { result ≡ has_place end self.now }
+    {
+        let size = u64::from(self.size);
+        is_size(self.size)
+            && is_part(end, self.table, 16, 16 * size)
+            && is_part(end, self.avail, 2, 6 + 2 * size)
+            && is_part(end, self.used, 4, 6 + 8 * size)
+    }
+
+    /// Counts one more used entry: what is to be written for a chain of this head, with length 0,
+    /// in a ring that has its place.
+    pub(crate) fn add_used(&mut self, end: u64, head: u32) -> UsedEntry
+        requires { has_place end self.old ≡ true }
+        ensures entry { result ≡ used_entry self.old head }
+        ensures ring { self.new ≡ with_used self.old }
+    {
+        let place = self.next_used % self.size;
+        self.next_used = self.next_used.wrapping_add(1);
+        UsedEntry {
+            element_at: self.used + 4 + 8 * u64::from(place),
+            index_at: self.used + 2,
+            id: head,
+            length: 0,
+            index: self.next_used,
+        }
+    }
+}

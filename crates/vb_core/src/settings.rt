@@ -1,0 +1,71 @@
+//! What a monitor settles for a device.
+
+ghost use Rattle.std.specs.Prelude.{◌≡◌, ◌<◌, ◌≤◌, ◌^◌, ◌==◌, not, true};
+ghost use Rattle.vb_core.specs.Settings.{are_settings, memory_pages, needs_must_tell, skips};
+
+use bitflags::Flags;
+use vb_model::limits::PAGE_SIZE;
+use vb_status::Features;
+
+/// Guest memory ends before this address, so that 32 bits number its pages.
+pub const MEMORY_LIMIT: u64 = 1 << 44;
+
+/// Guest memory ends at this address at least: it has two pages.
+pub const LEAST_MEMORY: u64 = 8192;
+
+/// What a monitor settles for a device, once.
+#[repr(C)]
+#[derive(Clone, Copy, Debug)]
+pub struct Settings {
+    /// Where guest memory ends, in bytes. The last part of a page doesn't count; holes below it are
+    /// the monitor's.
+    pub memory_end: u64,
+    /// The features that the device offers: some of those that it knows, VERSION_1 among them
+    /// (VIRTIO 1.1, 5.5.3 and 6).
+    pub offered: u64,
+    /// How many pages at the start of memory no request may name.
+    pub reserved_pages: u32,
+    /// Unless 0, FEATURES_OK is refused without MUST_TELL_HOST.
+    pub needs_must_tell: u8,
+    /// Unless 0, a number that is no page, or a reserved one, is skipped and counted, and breaks no
+    /// rule.
+    pub skips_bad_pages: u8,
+}
+
+impl Settings {
+    /// Whether a device may have these settings: memory ends from 8192 on and below 2^44, and each
+    /// feature that is offered is known, VERSION_1 among them.
+    pub fn are_possible(&self) -> bool
+        ensures value { result ≡ are_settings self.now }
+        ensures bounds { result ≡ true →
+            (2 ≤ memory_pages self.now) × (memory_pages self.now < 2 ^ 32) }
+    {
+        let offered = Features::from_bits_retain(self.offered);
+        self.memory_end >= LEAST_MEMORY
+            && self.memory_end < MEMORY_LIMIT
+            && Features::OFFERED.contains(offered)
+            && offered.version_1()
+    }
+
+    /// How many pages of 4096 bytes memory has.
+    pub fn pages(&self) -> u32
+        requires { memory_pages self.now < 2 ^ 32 }
+        ensures { result ≡ memory_pages self.now }
+    {
+        (self.memory_end / u64::from(PAGE_SIZE)) as u32
+    }
+
+    /// Whether FEATURES_OK asks for MUST_TELL_HOST.
+    pub fn needs_must_tell(&self) -> bool
+        ensures { result ≡ needs_must_tell self.now }
+    {
+        self.needs_must_tell != 0
+    }
+
+    /// Whether a number that may not be named is skipped.
+    pub fn skips_bad_pages(&self) -> bool
+        ensures { result ≡ skips self.now }
+    {
+        self.skips_bad_pages != 0
+    }
+}

@@ -1,0 +1,135 @@
+//! The status register and the negotiation of features (VIRTIO 1.1, 2.1, 2.2 and 3.1.1).
+
+ghost use Rattle.std.specs.Prelude.{◌≡◌, Some, None, Ok, Err};
+ghost use Rattle.vb_status.specs.Answers.{refusal_of_fault};
+ghost use Rattle.vb_core.specs.declared.status.StatusDenial.{StatusDenial};
+ghost use Rattle.vb_core.specs.Statuses.{denial_by, lacks_must_tell, status_denial, after_write};
+ghost use Rattle.vb_core.specs.Statuses.{negotiate_denial};
+
+use crate::Device;
+use bitflags::Flags;
+use vb_status::{Features, Status, StatusFault, negotiate, write_status};
+
+/// Why a write of the status, or a set of features, is refused.
+#[derive(Clone, Copy, Debug, PartialEq, Eq)]
+pub enum StatusDenial {
+    /// A bit that is set is missing in the write.
+    ClearsBit = 1,
+    /// A step is skipped, or two are taken at once.
+    OutOfOrder = 2,
+    /// A feature is wanted that the device doesn't offer.
+    FeatureNotOffered = 3,
+    /// FEATURES_OK is written, but MUST_TELL_HOST wasn't negotiated, which the settings ask for.
+    MustTellHostMissing = 4,
+    /// FEATURES_OK is written, but VERSION_1 wasn't negotiated.
+    VersionMissing = 5,
+}
+
+/// The denial that a fault is.
+fn denial_by(fault: StatusFault) -> StatusDenial
+    ensures { result ≡ denial_by (refusal_of_fault fault) }
+{
+    match fault {
+        StatusFault::ClearsBit => StatusDenial::ClearsBit,
+        StatusFault::OutOfOrder => StatusDenial::OutOfOrder,
+        StatusFault::FeatureNotOffered => StatusDenial::FeatureNotOffered,
+        StatusFault::VersionMissing => StatusDenial::VersionMissing,
+    }
+}
+
+impl Device {
+    /// Whether a write adds FEATURES_OK without the MUST_TELL_HOST that the settings ask for.
+    fn lacks_must_tell(&self, write: u8) -> bool
+        ensures { result ≡ lacks_must_tell write self.now }
+    {
+        let written = Status::from_bits_retain(write);
+        let status = Status::from_bits_retain(self.status);
+        let adds = written.contains(Status::FEATURES_OK) && !status.contains(Status::FEATURES_OK);
+        let tells = Features::from_bits_retain(self.features).must_tell_host();
+        self.settings.needs_must_tell() && adds && !tells
+    }
+
+    /// What a write of the status is refused for.
+    fn status_denial(&self, write: u8) -> Option<StatusDenial>
+        ensures { result ≡ status_denial write self.now }
+    {
+        let status = Status::from_bits_retain(self.status);
+        let features = Features::from_bits_retain(self.features);
+        match write_status(status, features, Status::from_bits_retain(write)) {
+            Err(fault) => Some(denial_by(fault)),
+            Ok(_) => {
+                if self.lacks_must_tell(write) {
+                    Some(StatusDenial::MustTellHostMissing)
+                } else {
+                    None
+                }
+            }
+        }
+    }
+
+    /// Forgets what the driver did and said (VIRTIO 1.1, 2.1): settings and target stay.
+    fn reset(&mut self)
+        ensures { self.new ≡ after_write 0 self.old }
+    {
+        let target = self.target;
+        *self = Device::new(self.settings);
+        self.target = target;
+    }
+
+    /// The driver writes the status register. A write of 0 resets: features, `actual` and all
+    /// places are gone.
+    ///
+    /// Refused, tested in this order, and then nothing is changed: `ClearsBit`; `OutOfOrder`;
+    /// where FEATURES_OK is added, `VersionMissing`, and then `MustTellHostMissing` where the
+    /// settings ask for it.
+    pub fn write_status(&mut self, write: u8) -> Result<(), StatusDenial>
+        ensures denied { (why : StatusDenial) → status_denial write self.old ≡ Some why →
+            (result ≡ Err why) × (self.new ≡ self.old) }
+        ensures accepted { status_denial write self.old ≡ None →
+            (result ≡ Ok tt) × (self.new ≡ after_write write self.old) }
+    {
+        if let Some(why) = self.status_denial(write) {
+            return Err(why);
+        }
+        if write == 0 {
+            self.reset();
+        } else {
+            self.status = write;
+        }
+        Ok(())
+    }
+
+    /// What these features are refused for.
+    fn negotiate_denial(&self, wanted: u64) -> Option<StatusDenial>
+        ensures { result ≡ negotiate_denial wanted self.now }
+    {
+        let features = Features::from_bits_retain(wanted);
+        match negotiate(Status::from_bits_retain(self.status), features) {
+            Err(fault) => Some(denial_by(fault)),
+            Ok(_) => {
+                if Features::from_bits_retain(self.settings.offered).contains(features) {
+                    None
+                } else {
+                    Some(StatusDenial::FeatureNotOffered)
+                }
+            }
+        }
+    }
+
+    /// The driver writes its features, once or more often: the last write counts.
+    ///
+    /// Refused, and then nothing is changed: `OutOfOrder` unless ACKNOWLEDGE and DRIVER alone are
+    /// set, and then `FeatureNotOffered` where the settings don't offer one of them.
+    pub fn negotiate(&mut self, wanted: u64) -> Result<(), StatusDenial>
+        ensures denied { (why : StatusDenial) → negotiate_denial wanted self.old ≡ Some why →
+            (result ≡ Err why) × (self.new ≡ self.old) }
+        ensures accepted { negotiate_denial wanted self.old ≡ None →
+            (result ≡ Ok tt) × (self.new ≡ record self.old { features = wanted }) }
+    {
+        if let Some(why) = self.negotiate_denial(wanted) {
+            return Err(why);
+        }
+        self.features = wanted;
+        Ok(())
+    }
+}

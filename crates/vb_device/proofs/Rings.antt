@@ -1,0 +1,51 @@
+-- The pages of a queue's ring, whatever its size.
+use Rattle.std.specs.Prelude.{◌≡◌, ℕ, ◌<◌, ◌≤◌, Option, IsSome, length}
+use Rattle.std.proofs.Common.{sym, subst, arith}
+use Rattle.vb_model.specs.Layout.{reserved_pages, ring_page}
+use Rattle.vb_model.proofs.Shapes.{InRing, in_ring_page, ring_reserved, reserved_most}
+use Rattle.vb_ram.specs.Pages.{Pages, frame_at}
+use Rattle.vb_ring.specs.Layout.{IsSize, IsInside, IsBacked, layout_of}
+use Rattle.vb_ring.proofs.Shapes.{parts_in_ring}
+
+pub ring_below : (size q page : ℕ) → InRing size q page → page < reserved_pages size
+ring_below size q page at = ring_reserved size page (in_ring_page size q page at)
+
+-- they lie in memory
+pub ring_inside : (mem : Pages) (size q : ℕ) → IsSize size → 32 ≤ length mem
+    → IsInside mem (layout_of (ring_page size q) size)
+ring_inside mem size q is large =
+    let parts = parts_in_ring size q is in record {
+      table = low (layout_of (ring_page size q) size).table parts.table;
+      avail = low (layout_of (ring_page size q) size).avail.page parts.avail;
+      used = low (layout_of (ring_page size q) size).used.page parts.used;
+    }
+  where
+    low : (page : ℕ) → InRing size q page → page < length mem
+    low page at = omega (arith, ring_below size q page at, reserved_most size, large)
+
+-- each of them has a frame
+pub ring_backed : (mem : Pages) (size q : ℕ) → IsSize size
+    → ((page : ℕ) → InRing size q page → IsSome (frame_at mem page))
+    → IsBacked mem (layout_of (ring_page size q) size)
+ring_backed mem size q is each =
+    let parts = parts_in_ring size q is in record {
+      table = each (layout_of (ring_page size q) size).table parts.table;
+      avail = each (layout_of (ring_page size q) size).avail.page parts.avail;
+      used = each (layout_of (ring_page size q) size).used.page parts.used;
+    }
+
+-- and has it still where the reserved pages have theirs
+pub backed_still : (m1 m2 : Pages) (size q : ℕ) → IsSize size
+    → ((page : ℕ) → page < reserved_pages size → frame_at m2 page ≡ frame_at m1 page)
+    → IsBacked m1 (layout_of (ring_page size q) size)
+    → IsBacked m2 (layout_of (ring_page size q) size)
+backed_still m1 m2 size q is same backed =
+    let parts = parts_in_ring size q is in record {
+      table = has (layout_of (ring_page size q) size).table parts.table backed.table;
+      avail = has (layout_of (ring_page size q) size).avail.page parts.avail backed.avail;
+      used = has (layout_of (ring_page size q) size).used.page parts.used backed.used;
+    }
+  where
+    has : (page : ℕ) → InRing size q page → IsSome (frame_at m1 page) → IsSome (frame_at m2 page)
+    has page at some =
+        subst (λ (o : Option ℕ). IsSome o) (sym (same page (ring_below size q page at))) some
