@@ -25,7 +25,7 @@ use Rattle.vb_pages.specs.declared.fault.PageFault.TheVariants.{BadCpu as NoSuch
 use Rattle.vb_pages.specs.declared.fault.PageFault.TheVariants.{NoPages as NoFreeBlock}
 use Rattle.vb_pages.specs.declared.fault.PageFault.TheVariants.{NotHeld as NoSuchBlock}
 use Rattle.vb_pages.specs.Areas.{has, IsBlock}
-use Rattle.vb_pages.specs.FreePages.{FreePages, in_lists, drained, free_count}
+use Rattle.vb_pages.specs.FreePages.{FreePages, in_lists, drained, free_count, given_back}
 use Rattle.vb_pages.specs.PageState.{PageState, page_count, cpu_count, is_free_page, is_held_page}
 use Rattle.vb_pages.specs.PageState.{IsApart, IsWhollyFree, AllocatesBlock, TakesFree, freed}
 use Rattle.vb_pages.specs.PageState.{reserved_count, with_free_block, HasRoomIn}
@@ -41,7 +41,8 @@ use Rattle.vb_pages.proofs.ListsLemmas.{times_in}
 use Rattle.vb_driver.proofs.Placing.{marked_one}
 use Rattle.vb_driver.proofs.Flags.{length_flags, flag_at, flag_free, free_flag, free_inside}
 use Rattle.vb_driver.proofs.Flags.{held_unfree, flags_moved, flags_same, left_by, gained_by}
-use Rattle.vb_driver.proofs.Flags.{taken_by, serves_cpus, drained_sizes, given_sizes}
+use Rattle.vb_driver.proofs.Flags.{taken_by, for_itself, for_these, serves_for, drained_sizes}
+use Rattle.vb_driver.proofs.Flags.{given_sizes}
 
 -- the driver's answer, by the allocator's
 abbrev pub answered : {T : Type 0} → Result T PageFault → Result T Refusal
@@ -188,7 +189,7 @@ stays : (s new : PageState) → new ≡ s → Becomes s new (flags_of s.free) s.
 stays s new is = record {
   free = ap (λ (v : PageState). flags_of v.free) is;
   held = ap (λ (v : PageState). v.held) is;
-  processors = ap cpu_count is;
+  same = for_these s.free s.free new.free (ap (λ (v : PageState). v.free) is) (for_itself s.free);
 }
 
 pub alloc_refused : (s new : PageState) (cpu order : ℕ) (r : Result ℕ PageFault)
@@ -208,7 +209,7 @@ alloc_refused s new cpu order (Err NoFreeBlock) served =
     record {
       free = flags_same s new (ap (λ (f : FreePages). length f.areas) is ∙ sizes.pages) same.0;
       held = same.1;
-      processors = ap (λ (f : FreePages). length f.lists) is ∙ sizes.cpus;
+      same = for_these s.free (drained s.free) new.free is sizes.same;
     }
 alloc_refused s new cpu order (Err NoSuchBlock) served = absurd (served.never refl)
 
@@ -246,14 +247,13 @@ alloc_state s new cpu order (Ok start) served =
     let got = served.allocates small cpu_there in
     let pages : page_count new ≡ page_count s =
     ap page_count got.2 ∙ serves_length s.free got.0 cpu order start got.1 in
-    let cpus : cpu_count new ≡ cpu_count s =
-    ap cpu_count got.2 ∙ serves_cpus s.free got.0 cpu order start got.1 in
     let b = block_at start order in
     record {
       free = flags_moved s new (pages_of b) false pages
           (λ p. served.left p ∙ left_by p b (is_free_page s p));
       held = served.held;
-      processors = cpus;
+      same = for_these s.free got.0 new.free (ap (λ (v : PageState). v.free) got.2)
+          (serves_for s.free got.0 cpu order start got.1);
     }
 alloc_state s new cpu order (Err fault) served = tt
 
@@ -273,7 +273,8 @@ free_state s new cpu start order (Ok x) is gained =
       free = flags_moved s new (pages_of b) true (ap page_count is ∙ sizes.pages)
           (λ p. gained p ∙ gained_by p b (is_free_page s p));
       held = ap (λ (v : PageState). v.held) is;
-      processors = ap cpu_count is ∙ sizes.cpus;
+      same = for_these s.free (given_back cpu start order s.free) new.free
+          (ap (λ (v : PageState). v.free) is) sizes.same;
     }
 free_state s new cpu start order (Err fault) is gained = tt
 
@@ -367,7 +368,10 @@ taken_state s new pages takes left =
           (length-takes_pages (drained s.free).areas new.free.areas pages takes.0 ∙ sizes.pages)
           (λ p. taken_by p pages (is_free_page new p) (is_free_page s p) (left p));
       held = takes.2;
-      processors = ap length takes.1 ∙ sizes.cpus;
+      same = record {
+        processors = ap length takes.1 ∙ sizes.same.processors;
+        reserved = takes.3;
+      };
     }
 
 pub taken_free : (s new : PageState) (pages : List ℕ) → IsApart s
@@ -413,5 +417,5 @@ given_state s new page is gained there =
           (λ p. gained p ∙ gained_by p b (is_free_page s p))
           ∙ marked_one page true (flags_of s.free) there;
       held = ap (λ (v : PageState). v.held) is;
-      processors = ap cpu_count is;
+      same = record { processors = ap cpu_count is; reserved = ap reserved_count is };
     }

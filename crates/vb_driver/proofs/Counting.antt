@@ -205,7 +205,7 @@ count_replicate test x (suc n) =
 pub reserved_table : (counts : List ℕ) (lent stranded : List Bool) (places : List Place) (pages : ℕ)
     → counts ≡ pages ∷ 0 ∷ 0 ∷ 0 ∷ 0 ∷ 0 ∷ 0 ∷ 0 ∷ [] → lent ≡ replicate pages false
     → stranded ≡ replicate pages false → places ≡ replicate pages Reserved
-    → pages ≤ 16384 → IsTable counts lent stranded places
+    → pages ≤ 65536 → IsTable counts lent stranded places
 reserved_table counts lent stranded places pages counted lents strandeds is most = record {
   kinds = ap (λ (l : List ℕ). length l) counted;
   are_counts = record {

@@ -7,7 +7,7 @@ use Rattle.vb_chain.specs.declared.pieces.Piece.{Piece}
 use Rattle.vb_chain.proofs.TableLaws.{same_parts}
 use Rattle.vb_ring.specs.declared.driver.Full.{Full}
 use Rattle.vb_ring.specs.declared.layout.Layout.{Layout}
-use Rattle.vb_ring.specs.Layout.{layout_of}
+use Rattle.vb_ring.specs.Layout.{IsSize}
 use Rattle.vb_ring.specs.Ends.{DriverEnd, IsDriverEnd, outstanding, next_head}
 use Rattle.vb_ring.specs.Ends.{add_answer, after_add}
 use Rattle.vb_ring.specs.Calls.{AddsBy}
@@ -17,6 +17,7 @@ use Rattle.vb_driver.specs.Calls.{PostsBuffer, written_of}
 use Rattle.vb_driver.proofs.Buffers.{outside_both}
 use Rattle.vb_driver.proofs.RequestTables.{add_gives}
 use Rattle.vb_driver.proofs.Posting.{OnePiece, one_piece, added_head}
+use Rattle.vb_driver.proofs.Shapes.{IsBeside, beside_buffers, keeps_ring}
 use Rattle.vb_driver.proofs.OneBuffer.{none_used, first_head, queue_added}
 
 -- what was written and added, by plain names
@@ -51,14 +52,14 @@ fills_at : (m1 m2 m3 : Pages) (r r2 : DriverEnd) (n a free total : ℕ)
     → AddsBy m2 m3 r r2 (record { addr = a; len = 20; writable = false } ∷ []) (Ok 0)
     → PostsBuffer m1 m3 r r2 (record { free = free; total = total })
 fills_at m1 m2 m3 r r2 n a free total s adds =
-    let T = r.layout.table in
-    let at : T ≡ 2 = ap (λ (x : Layout). x.table) s.queue.layout in
-    let layout : r.layout ≡ layout_of T r.size =
-    s.queue.layout ∙ sym (ap (λ (p : ℕ). layout_of p r.size) at ∙ ap (layout_of 2) s.queue.size) in
+    let sized : IsSize n = subst IsSize s.queue.size s.is_end.fits.size in
+    let beside : IsBeside r.layout 12 =
+    subst (λ (l : Layout). IsBeside l 12) (sym s.queue.layout)
+    (beside_buffers n 2 12 sized (omega arith) (omega arith)) in
     let one : OnePiece m1 m2 m3 r r2 0 a 20 =
-    one_piece m1 m2 m3 r r2 0 a 20 s.is_end (next_is_first r n s.queue s.is_end s.none) layout
-    (s.wrote.others T (omega (arith, at))) adds in
-    let buffer : page_at m3 12 ≡ page_at m2 12 = one.others 12 (omega (arith, at)) in
+    one_piece m1 m2 m3 r r2 0 a 20 s.is_end (next_is_first r n s.queue s.is_end s.none)
+    (keeps_ring m1 m2 r.layout 12 0 20 beside s.wrote) adds in
+    let buffer : page_at m3 12 ≡ page_at m2 12 = one.others 12 beside.table beside.avail in
     record {
       state = adds.state;
       coded = record {
@@ -72,7 +73,7 @@ fills_at m1 m2 m3 r r2 n a free total s adds =
       descriptors = one.descriptors;
       announces = one.announces;
       rest = record {
-        others = λ p ne1 ne2. one.others p ne1 ∙ s.wrote.others p ne2;
+        others = λ p table avail other. one.others p table avail ∙ s.wrote.others p other;
         backing = λ p. adds.publishes.rest.backing p ∙ s.wrote.backing p;
         count = adds.publishes.rest.count ∙ s.wrote.count;
       };

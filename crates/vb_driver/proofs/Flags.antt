@@ -1,4 +1,5 @@
 -- Which pages the allocator has free, as a flag a page.
+use Rattle.std.proofs.Common.{subst}
 use Rattle.std.proofs.Common.{◌≡◌, ◌∙◌, sym, ap, arith, refl, ℕ, zero, suc, ◌+◌, ◌<◌, ◌≤◌, Bool}
 use Rattle.std.proofs.Common.{true, false, cond, eqb, not, ◌||◌, ◌&&◌, List, [], ◌∷◌, ◌++◌, length}
 use Rattle.std.proofs.Common.{take, drop, get_or, set, map, count_by, inl, inr, Option, Some}
@@ -25,7 +26,7 @@ use Rattle.vb_pages.proofs.AreasLemmas.{length-unreserved, has-unreserved}
 use Rattle.vb_pages.proofs.ListsLemmas.{one_if_true, one_if_le}
 use Rattle.vb_pages.proofs.FreeLemmas.{flat-replicate}
 use Rattle.vb_driver.specs.Answers.{block_at}
-use Rattle.vb_driver.specs.Areas.{flags_of, is_free_at, all_given}
+use Rattle.vb_driver.specs.Areas.{AreFor, flags_of, is_free_at, all_given}
 use Rattle.vb_driver.specs.Places.{marked, first_place}
 use Rattle.vb_model.specs.Orderly.{times}
 use Rattle.vb_pages.proofs.ListsLemmas.{times_in, times_out}
@@ -163,41 +164,63 @@ taken_by p pages new old sum = at (is_in p pages) refl new old sum
 
 -- ---- as many processors, and pages, as before
 
-drained_cpus : (f : FreePages) → length (drained f).lists ≡ length f.lists
-drained_cpus f = length-map f.lists (λ (list : List ℕ). [])
+pub for_itself : (f : FreePages) → AreFor f f
+for_itself f = record { processors = refl; reserved = refl }
 
-tries_cpus : (f new : FreePages) (cpu order : ℕ) (got : Option ℕ) → Tries f cpu order got new
-    → length new.lists ≡ length f.lists
-tries_cpus f new cpu zero got h = ap length h.2 ∙ length-set f.lists cpu h.0
-tries_cpus f new cpu (suc order) got h = ap length h.1
+-- the same of areas that are these
+pub for_these : (f g new : FreePages) → new ≡ g → AreFor f g → AreFor f new
+for_these f g new is same = subst (AreFor f) (sym is) same
 
-pub serves_cpus : (f new : FreePages) (cpu order start : ℕ) → Serves f cpu order (Some start) new
-    → length new.lists ≡ length f.lists
-serves_cpus f new cpu order start h =
+pub for_both : (f g h : FreePages) → AreFor f g → AreFor g h → AreFor f h
+for_both f g h first next = record {
+  processors = next.processors ∙ first.processors;
+  reserved = next.reserved ∙ first.reserved;
+}
+
+drained_for : (f : FreePages) → AreFor f (drained f)
+drained_for f = record {
+  processors = length-map f.lists (λ (list : List ℕ). []);
+  reserved = refl;
+}
+
+tries_for : (f new : FreePages) (cpu order : ℕ) (got : Option ℕ) → Tries f cpu order got new
+    → AreFor f new
+tries_for f new cpu zero got h = record {
+  processors = ap length h.2 ∙ length-set f.lists cpu h.0;
+  reserved = h.3;
+}
+tries_for f new cpu (suc order) got h = record { processors = ap length h.1; reserved = h.2 }
+
+pub serves_for : (f new : FreePages) (cpu order start : ℕ) → Serves f cpu order (Some start) new
+    → AreFor f new
+serves_for f new cpu order start h =
     elim h [
-      | inl now ↦ tries_cpus f new cpu order (Some start) now
-      | inr later ↦ tries_cpus (drained f) new cpu order (Some start) later.1 ∙ drained_cpus f
+      | inl now ↦ tries_for f new cpu order (Some start) now
+      | inr later ↦ for_both f (drained f) new (drained_for f)
+          (tries_for (drained f) new cpu order (Some start) later.1)
     ]
 
 pub record SameSizes (f new : FreePages) : Type 0 where
   pub pages : length new.areas ≡ length f.areas
-  pub cpus : length new.lists ≡ length f.lists
+  pub same : AreFor f new
 
 pub drained_sizes : (f : FreePages) → SameSizes f (drained f)
-drained_sizes f = record { pages = length-with_pages (in_lists f) f.areas; cpus = drained_cpus f }
+drained_sizes f = record { pages = length-with_pages (in_lists f) f.areas; same = drained_for f }
 
 pub given_sizes : (f : FreePages) (cpu start order : ℕ) → SameSizes f (given_back cpu start order f)
 given_sizes f cpu start (suc order) =
     record {
       pages = length-with_pages (pages_of (block_at start (suc order))) f.areas;
-      cpus = refl;
+      same = record { processors = refl; reserved = refl };
     }
 given_sizes f cpu start zero =
     let longer = with_list cpu (list_of f cpu ++ start ∷ []) f in
-    at (eqb (length (list_of longer cpu)) 16) longer refl
-    (length-set f.lists cpu (list_of f cpu ++ start ∷ []))
+    at (eqb (length (list_of longer cpu)) 16) longer refl (record {
+      processors = length-set f.lists cpu (list_of f cpu ++ start ∷ []);
+      reserved = refl;
+    })
   where
-    at : (v : Bool) (g : FreePages) → g.areas ≡ f.areas → length g.lists ≡ length f.lists
+    at : (v : Bool) (g : FreePages) → g.areas ≡ f.areas → AreFor f g
         → SameSizes f (cond v
         (record g {
           areas = with_pages (take 8 (list_of g cpu)) g.areas;
@@ -205,36 +228,41 @@ given_sizes f cpu start zero =
         }) g)
     at true g areas lists = record {
       pages = length-with_pages (take 8 (list_of g cpu)) g.areas ∙ ap length areas;
-      cpus = length-set g.lists cpu (drop 8 (list_of g cpu)) ∙ lists;
+      same = record {
+        processors = length-set g.lists cpu (drop 8 (list_of g cpu)) ∙ lists.processors;
+        reserved = lists.reserved;
+      };
     }
-    at false g areas lists = record { pages = ap length areas; cpus = lists }
+    at false g areas lists = record { pages = ap length areas; same = lists }
 
 -- ---- a guest as it is plugged in
 
-turned : (v : Bool) (k : ℕ) → nat_lt k 16 ≡ v → nat_le 16 k ≡ is_free (cond v Reserved Free)
-turned true k e = lt-leb 16 k (ltb-true k 16 e)
-turned false k e = le-leb 16 k (ltb-false k 16 e)
+turned : (v : Bool) (reserved k : ℕ) → nat_lt k reserved ≡ v
+    → nat_le reserved k ≡ is_free (cond v Reserved Free)
+turned true reserved k e = lt-leb reserved k (ltb-true k reserved e)
+turned false reserved k e = le-leb reserved k (ltb-false k reserved e)
 
-free_first : (pages cpus k : ℕ) → k < pages
-    → is_free_page (new_page_state pages cpus 16) k ≡ is_free (first_place k)
-free_first pages cpus k lt =
-    ap (λ (l : List ℕ). has (unreserved pages 16) k || is_in k l) (flat-replicate cpus)
-    ∙ (or_false (has (unreserved pages 16) k)
-    ∙ (has-unreserved pages 16 k lt ∙ turned (nat_lt k 16) k refl))
+free_first : (pages cpus reserved k : ℕ) → k < pages
+    → is_free_page (new_page_state pages cpus reserved) k ≡ is_free (first_place reserved k)
+free_first pages cpus reserved k lt =
+    ap (λ (l : List ℕ). has (unreserved pages reserved) k || is_in k l) (flat-replicate cpus)
+    ∙ (or_false (has (unreserved pages reserved) k)
+    ∙ (has-unreserved pages reserved k lt ∙ turned (nat_lt k reserved) reserved k refl))
 
-pub fresh_flags : (pages cpus : ℕ)
-    → flags_of (new_page_state pages cpus 16).free ≡ map is_free (all_free pages)
-fresh_flags pages cpus =
-    let s = new_page_state pages cpus 16 in
-    let size : page_count s ≡ pages = length-unreserved pages 16 in
-    let all : length (all_free pages) ≡ pages = length-map-range_with_len first_place 0 pages in
-    same_lists (flags_of s.free) (map is_free (all_free pages))
-    (length_flags s ∙ (size ∙ sym (length-map (all_free pages) is_free ∙ all))) (λ k d near.
+pub fresh_flags : (pages cpus reserved : ℕ)
+    → flags_of (new_page_state pages cpus reserved).free ≡ map is_free (all_free reserved pages)
+fresh_flags pages cpus reserved =
+    let s = new_page_state pages cpus reserved in
+    let places = all_free reserved pages in
+    let size : page_count s ≡ pages = length-unreserved pages reserved in
+    let all : length places ≡ pages = length-map-range_with_len (first_place reserved) 0 pages in
+    same_lists (flags_of s.free) (map is_free places)
+    (length_flags s ∙ (size ∙ sym (length-map places is_free ∙ all))) (λ k d near.
     let here : k < pages = omega (arith, length_flags s) in
     flag_at s k d (omega arith)
-    ∙ (free_first pages cpus k here
-    ∙ sym (get_or-map is_free (all_free pages) k Reserved d (omega arith)
-    ∙ ap is_free (get_or-map-range_with_len first_place 0 pages k k Reserved here
+    ∙ (free_first pages cpus reserved k here
+    ∙ sym (get_or-map is_free places k Reserved d (omega arith)
+    ∙ ap is_free (get_or-map-range_with_len (first_place reserved) 0 pages k k Reserved here
     (omega arith)))))
 
 -- ---- pages that come back one by one

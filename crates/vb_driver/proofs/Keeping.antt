@@ -14,7 +14,7 @@ use Rattle.vb_pages.specs.FreePages.{FreePages}
 use Rattle.vb_driver.specs.Places.{is_at}
 use Rattle.vb_driver.specs.State.{RequestSide, ReportSide, DriverState, IsQueue, IsReportQueue, naming, tells_host}
 use Rattle.vb_driver.specs.State.{IsDriver}
-use Rattle.vb_driver.specs.Areas.{flags_of, is_covered}
+use Rattle.vb_driver.specs.Areas.{AreFor, flags_of, is_covered}
 use Rattle.vb_driver.specs.Places.{marked}
 use Rattle.vb_driver.proofs.Placing.{length-marked, marked-get, marked_none}
 
@@ -88,7 +88,7 @@ pub record Changes (d : DriverState) (areas2 : FreePages) (pages : List ℕ) (to
   pub reporting : (p : ℕ) → times p (pages_of_all r2.blocks) ≤ one_if
       (is_reporting (cond (is_in p pages) to (place_of d.places p)))
   pub free : flags_of areas2 ≡ map is_free (placed pages to d.places)
-  pub processors : length areas2.lists ≡ length d.areas.lists
+  pub same : AreFor d.areas areas2
   pub used : (p : ℕ) → is_covered p held2 ≡ true
       → cond (is_in p pages) to (place_of d.places p) ≡ Used
 
@@ -123,7 +123,8 @@ kept_changed d areas2 pages to held2 i2 e2 r2 m =
       free = m.free;
       used = λ p covered. place p ∙ m.used p covered;
       reserved = λ p low. place p ∙ reserved_at p (is_in p pages) refl (m.kept.reserved p low);
-      processors = m.processors ∙ m.kept.processors;
+      processors = m.same.processors ∙ m.kept.processors;
+      set_aside = m.same.reserved ∙ m.kept.set_aside;
     }
   where
     reserved_at : (p : ℕ) (b : Bool) → is_in p pages ≡ b → place_of d.places p ≡ Reserved
@@ -149,7 +150,7 @@ pub record Moves (d : DriverState) (areas2 : FreePages) (pages : List ℕ) (to :
   pub reporting : (p : ℕ) → times p (pages_of_all r2.blocks) ≤ one_if
       (is_reporting (cond (is_in p pages) to (place_of d.places p)))
   pub free : flags_of areas2 ≡ map is_free (placed pages to d.places)
-  pub processors : length areas2.lists ≡ length d.areas.lists
+  pub same : AreFor d.areas areas2
 
 pub kept_moved : (d : DriverState) (areas2 : FreePages) (pages : List ℕ) (to : Place) (i2 e2 : RequestSide)
     (r2 : ReportSide) → Moves d areas2 pages to i2 e2 r2
@@ -172,7 +173,7 @@ kept_moved d areas2 pages to i2 e2 r2 m =
       report = m.report;
       reporting = m.reporting;
       free = m.free;
-      processors = m.processors;
+      same = m.same;
       used = λ p covered. used_at p (is_in p pages) refl (m.kept.used p covered);
     })
   where

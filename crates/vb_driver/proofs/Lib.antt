@@ -5,6 +5,7 @@ pub mod Marking
 pub mod Buffers
 pub mod RequestTables
 pub mod ReportTables
+pub mod Shapes
 pub mod Posting
 pub mod Naming
 pub mod Keeping

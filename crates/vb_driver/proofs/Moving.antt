@@ -19,7 +19,7 @@ use Rattle.vb_model.specs.declared.places.Place.TheVariants.{Taking, Stranded, R
 use Rattle.vb_model.proofs.Tables.{pages_where-passes, is_in-take, is_in-append, list_all-at}
 use Rattle.vb_model.proofs.Tables.{count_by-cons}
 use Rattle.vb_model.specs.Life.{place_after_reset}
-use Rattle.vb_model.specs.Layout.{ring_page}
+use Rattle.vb_model.specs.Layout.{reserved_pages, ring_page}
 use Rattle.vb_model.proofs.GuestSteps.{place_of-reset}
 use Rattle.vb_ram.specs.Pages.{Pages}
 use Rattle.vb_pages.specs.FreePages.{FreePages}
@@ -28,14 +28,14 @@ use Rattle.vb_driver.specs.State.{RequestSide, DriverState, IsQueue, naming, sen
 use Rattle.vb_driver.specs.State.{fresh_driver, IsDriver, IsStatisticsQueue, fresh_statistics}
 use Rattle.vb_driver.specs.State.{fresh_report, tells_host}
 use Rattle.vb_model.proofs.Counts.{length-pages_where}
-use Rattle.vb_driver.specs.Areas.{flags_of, is_free_at, is_covered}
+use Rattle.vb_driver.specs.Areas.{AreFor, flags_of, is_free_at, is_covered}
 use Rattle.vb_driver.specs.Places.{marked, first_place}
 use Rattle.vb_driver.specs.Calls.{Posts, lowest_lent, stranded_first, after_reap}
 use Rattle.vb_model.specs.Orderly.{times}
 use Rattle.vb_driver.proofs.Naming.{naming_more, naming_same, naming_less, named_place, named_once}
 use Rattle.vb_driver.proofs.Naming.{once_lowest, once_append, later_none}
 use Rattle.vb_pages.proofs.ListsLemmas.{times_in}
-use Rattle.vb_driver.proofs.Flags.{fresh_flags}
+use Rattle.vb_driver.proofs.Flags.{fresh_flags, for_itself}
 use Rattle.vb_driver.proofs.Counting.{at_is}
 use Rattle.vb_driver.proofs.Keeping.{kept_moved, there_by, free_same, free_marked}
 use Rattle.std.proofs.lemmas.List.FromFn.{get_or-map-range_with_len, length-map-range_with_len}
@@ -103,7 +103,7 @@ asked_kept m1 m2 d e2 base count head kept posts =
           (place_of d.places p) (kept.reporting p) (λ here. ap is_reporting (lent p here));
       free = kept.free ∙ free_same d.places pages Taking
           (λ p place is. same_free p place is (is_in p pages) refl lent);
-      processors = refl;
+      same = for_itself d.areas;
     })
   where
     same_free : (p : ℕ) (place : Place) → place ≡ place_of d.places p → (b : Bool)
@@ -118,14 +118,14 @@ asked_kept m1 m2 d e2 base count head kept posts =
 pub asked_freed : (m1 m2 : Pages) (d : DriverState) (areas2 : FreePages) (e2 : RequestSide)
     (base count head : ℕ) → IsDriver d → tells_host d ≡ false
     → flags_of areas2 ≡ marked (lowest_lent d count) true (flags_of d.areas)
-    → length areas2.lists ≡ length d.areas.lists
+    → AreFor d.areas areas2
     → Posts m1 m2 d.deflate e2 base (lowest_lent d count) head
     → IsDriver (record d {
       places = placed (lowest_lent d count) Free d.places;
       areas = areas2;
       deflate = e2;
     })
-asked_freed m1 m2 d areas2 e2 base count head kept untold given processors posts =
+asked_freed m1 m2 d areas2 e2 base count head kept untold given same posts =
     let pages = lowest_lent d count in
     let lent : (p : ℕ) → is_in p pages ≡ true
     → place_of d.places p ≡ Lent =
@@ -145,7 +145,7 @@ asked_freed m1 m2 d areas2 e2 base count head kept untold given processors posts
           (place_of d.places p) (kept.reporting p) (λ here. ap is_reporting (lent p here));
       free = given ∙ (ap (marked pages true) kept.free
           ∙ free_marked d.places pages pages Free true (λ p place is. agree place (is_in p pages)));
-      processors = processors;
+      same = same;
     })
   where
     agree : (place : Place) (b : Bool) → cond b true (is_free place) ≡ is_free (cond b Free place)
@@ -170,6 +170,7 @@ forgotten_kept d head lt kept untold =
       reporting = kept.reporting;
       free = kept.free;
       processors = kept.processors;
+      set_aside = kept.set_aside;
       used = kept.used;
       reserved = kept.reserved;
     }
@@ -206,14 +207,14 @@ pub offered_kept : (m1 m2 : Pages) (d : DriverState) (areas2 : FreePages) (i2 : 
     (base count head : ℕ) (others : List ℕ) → IsDriver d
     → list_all (λ page. is_free (place_of d.places page)) others ≡ true
     → ((p : ℕ) → times p others ≤ 1) → flags_of areas2 ≡ marked others false (flags_of d.areas)
-    → length areas2.lists ≡ length d.areas.lists
+    → AreFor d.areas areas2
     → Posts m1 m2 d.inflate i2 base (stranded_first d count ++ others) head
     → IsDriver (record d {
       places = placed (stranded_first d count ++ others) Giving d.places;
       inflate = i2;
       areas = areas2;
     })
-offered_kept m1 m2 d areas2 i2 base count head others kept free once taken processors posts =
+offered_kept m1 m2 d areas2 i2 base count head others kept free once taken same posts =
     let first = stranded_first d count in
     let pages = first ++ others in
     let idle : (p : ℕ) → is_in p pages ≡ true
@@ -255,7 +256,7 @@ offered_kept m1 m2 d areas2 i2 base count head others kept free once taken proce
       free = taken ∙ (ap (marked others false) kept.free
           ∙ free_marked d.places pages others Giving false
           (λ p place is. agree p place is (is_in p others) (is_in p first) refl refl));
-      processors = processors;
+      same = same;
     })
   where
     in_pages : (p : ℕ) → is_in p (stranded_first d count ++ others)
@@ -315,7 +316,7 @@ lent_kept d head lt kept =
           (at_is Giving (place_of d.places p) (giving p here)));
       free = kept.free ∙ free_same d.places pages Lent
           (λ p place is. same_free p place is (is_in p pages) refl giving);
-      processors = refl;
+      same = for_itself d.areas;
     })
   where
     same_free : (p : ℕ) (place : Place) → place ≡ place_of d.places p → (b : Bool)
@@ -331,13 +332,13 @@ lent_kept d head lt kept =
 pub freed_kept : (d : DriverState) (areas2 : FreePages) (head : ℕ) → head < 16 → IsDriver d
     → tells_host d ≡ true
     → flags_of areas2 ≡ marked (sent_by d.deflate head) true (flags_of d.areas)
-    → length areas2.lists ≡ length d.areas.lists
+    → AreFor d.areas areas2
     → IsDriver (record d {
       places = placed (sent_by d.deflate head) Free d.places;
       deflate = after_reap d.deflate head;
       areas = areas2;
     })
-freed_kept d areas2 head lt kept tells given processors =
+freed_kept d areas2 head lt kept tells given same =
     let pages = sent_by d.deflate head in
     let small : head < length d.deflate.sent = omega (arith, kept.deflate.requests.buffers) in
     let taking : (p : ℕ) → is_in p pages ≡ true
@@ -363,7 +364,7 @@ freed_kept d areas2 head lt kept tells given processors =
           (at_is Taking (place_of d.places p) (taking p here)));
       free = given ∙ (ap (marked pages true) kept.free
           ∙ free_marked d.places pages pages Free true (λ p place is. agree place (is_in p pages)));
-      processors = processors;
+      same = same;
     })
   where
     agree : (place : Place) (b : Bool) → cond b true (is_free place) ≡ is_free (cond b Free place)
@@ -476,11 +477,12 @@ place_inside d p place kept unreserved is =
     (omega (arith, ap length kept.free, length-map d.places is_free), inside)
 
 pub place_unreserved : (d : DriverState) (p : ℕ) (place : Place) → IsDriver d
-    → is_at Reserved place ≡ false → place_of d.places p ≡ place → 16 ≤ p
-place_unreserved d p place kept unreserved is = elim (cases_lt p 16) [
+    → is_at Reserved place ≡ false → place_of d.places p ≡ place
+    → d.areas.reserved ≤ p
+place_unreserved d p place kept unreserved is = elim (cases_lt p (reserved_pages d.queue_size)) [
   | inl low ↦ absurd (both_ways (is_at Reserved (place_of d.places p))
       (ap (is_at Reserved) is ∙ unreserved) (ap (is_at Reserved) (kept.reserved p low)))
-  | inr far ↦ far
+  | inr far ↦ omega (arith, kept.set_aside)
 ]
 
 -- ---- a reset
@@ -568,7 +570,7 @@ none_sent i = elim (cases_lt i 16) [
 
 fresh_queue : (queue size : ℕ) → IsQueue (fresh_side queue size) queue size
 fresh_queue queue size = record {
-  requests = requests_fresh (ring_page queue) size (replicate {A = List ℕ} 16 []) refl none_sent;
+  requests = requests_fresh (ring_page size queue) size (replicate {A = List ℕ} 16 []) refl none_sent;
   layout = refl;
   size = refl;
 }
@@ -584,7 +586,7 @@ fresh_statistics_queue size = record {
 
 pub reset_kept : (d : DriverState) (areas2 : FreePages) (features : ℕ) → IsDriver d
     → flags_of areas2 ≡ marked (pages_where is_reporting d.places) true (flags_of d.areas)
-    → length areas2.lists ≡ length d.areas.lists
+    → AreFor d.areas areas2
     → IsDriver (record d {
       places = map place_after_reset d.places;
       areas = areas2;
@@ -596,7 +598,7 @@ pub reset_kept : (d : DriverState) (areas2 : FreePages) (features : ℕ) → IsD
           features;
       actual = 0;
     })
-reset_kept d areas2 features kept given processors =
+reset_kept d areas2 features kept given same =
     record {
       table = length-map d.places place_after_reset ∙ kept.table;
       least = kept.least;
@@ -613,7 +615,8 @@ reset_kept d areas2 features kept given processors =
           ∙ free_all_after d.places);
       used = λ p covered. place_of-reset d.places p ∙ ap place_after_reset (kept.used p covered);
       reserved = λ p low. place_of-reset d.places p ∙ ap place_after_reset (kept.reserved p low);
-      processors = processors ∙ kept.processors;
+      processors = same.processors ∙ kept.processors;
+      set_aside = same.reserved ∙ kept.set_aside;
     }
 
 -- ---- the queues begin anew
@@ -643,23 +646,25 @@ renewed_kept d statistics2 kept statistics =
       used = kept.used;
       reserved = kept.reserved;
       processors = kept.processors;
+      set_aside = kept.set_aside;
     }
 
 -- ---- a driver as it is made
 
-reserved_first : (n p : ℕ) → p < 16 → place_of (all_free n) p ≡ Reserved
-reserved_first n p low = elim (cases_lt p n) [
-  | inl lt ↦ get_or-map-range_with_len first_place 0 n p p Reserved lt (omega arith)
-      ∙ ap (λ (b : Bool). cond b Reserved Free) (lt-ltb p 16 low)
-  | inr past ↦ get_or_past (all_free n) p Reserved
-      (omega (arith, length-map-range_with_len first_place 0 n))
+reserved_first : (reserved n p : ℕ) → p < reserved
+    → place_of (all_free reserved n) p ≡ Reserved
+reserved_first reserved n p low = elim (cases_lt p n) [
+  | inl lt ↦ get_or-map-range_with_len (first_place reserved) 0 n p p Reserved lt (omega arith)
+      ∙ ap (λ (b : Bool). cond b Reserved Free) (lt-ltb p reserved low)
+  | inr past ↦ get_or_past (all_free reserved n) p Reserved
+      (omega (arith, length-map-range_with_len (first_place reserved) 0 n))
 ]
 
-pub fresh_kept : (pages size processors f : ℕ) → 64 ≤ pages → pages ≤ 16384 → IsSize size
+pub fresh_kept : (pages size processors f : ℕ) → 64 ≤ pages → pages ≤ 65536 → IsSize size
     → IsDriver (record (fresh_driver pages size processors) { features = f })
 fresh_kept pages size processors f least most sized =
     record {
-      table = length-map-range_with_len first_place 0 pages;
+      table = length-map-range_with_len (first_place (reserved_pages size)) 0 pages;
       least = least;
       most = most;
       size = sized;
@@ -670,8 +675,9 @@ fresh_kept pages size processors f least most sized =
       statistics = fresh_statistics_queue size;
       report = fresh_report_queue size;
       reporting = λ p. omega arith;
-      free = fresh_flags pages processors;
+      free = fresh_flags pages processors (reserved_pages size);
       used = λ p covered. (let wrong : false ≡ true = covered in cc);
-      reserved = reserved_first pages;
+      reserved = reserved_first (reserved_pages size) pages;
       processors = length-replicate {A = List ℕ} processors [];
+      set_aside = refl;
     }

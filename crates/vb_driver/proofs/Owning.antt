@@ -22,7 +22,7 @@ use Rattle.vb_pages.specs.PageState.{PageState}
 use Rattle.vb_driver.specs.Places.{is_at}
 use Rattle.vb_driver.specs.State.{DriverState, page_state, naming, IsDriver}
 use Rattle.vb_driver.specs.Answers.{block_at, alloc_tests}
-use Rattle.vb_driver.specs.Areas.{flags_of, AreApart, Becomes, is_free_at, is_covered}
+use Rattle.vb_driver.specs.Areas.{flags_of, AreApart, AreFor, Becomes, is_free_at, is_covered}
 use Rattle.vb_driver.specs.Areas.{is_free_block}
 use Rattle.vb_driver.specs.Places.{marked}
 use Rattle.vb_driver.proofs.Naming.{naming_same}
@@ -148,13 +148,13 @@ free_block_inside d b kept whole =
 pub allocated_kept : (d : DriverState) (areas2 : FreePages) (b : Block) → IsDriver d
     → is_free_block (flags_of d.areas) b ≡ true
     → flags_of areas2 ≡ marked (pages_of b) false (flags_of d.areas)
-    → length areas2.lists ≡ length d.areas.lists
+    → AreFor d.areas areas2
     → IsDriver (record d {
       places = placed (pages_of b) Used d.places;
       held = with_block b d.held;
       areas = areas2;
     })
-allocated_kept d areas2 b kept whole taken processors =
+allocated_kept d areas2 b kept whole taken same =
     let pages = pages_of b in
     let free : (p : ℕ) → is_in p pages ≡ true
     → place_of d.places p ≡ Free = λ p here. block_free d b p kept whole here in
@@ -175,7 +175,7 @@ allocated_kept d areas2 b kept whole taken processors =
       free = taken ∙ (ap (marked pages false) kept.free
           ∙ free_marked d.places pages pages Used false
           (λ p place is. agree place (is_in p pages)));
-      processors = processors;
+      same = same;
       used = λ p covered. used_at p (is_in p pages) refl (sym (covered_with p b d.held) ∙ covered);
     })
   where
@@ -211,7 +211,8 @@ unallocated_kept d new kept becomes = record {
   free = becomes.free ∙ kept.free;
   used = λ p covered. kept.used p (ap (is_covered p) (sym becomes.held) ∙ covered);
   reserved = kept.reserved;
-  processors = becomes.processors ∙ kept.processors;
+  processors = becomes.same.processors ∙ kept.processors;
+  set_aside = becomes.same.reserved ∙ kept.set_aside;
 }
 
 -- ---- a block is freed
@@ -248,14 +249,14 @@ freed_was_held held b processors cpu e =
 pub block_freed_kept : (d : DriverState) (new : PageState) (b : Block) → IsDriver d
     → list_any (λ h. is_same_block h b) d.held ≡ true
     → flags_of new.free ≡ marked (pages_of b) true (flags_of d.areas)
-    → new.held ≡ without_block b d.held → length new.free.lists ≡ length d.areas.lists
+    → new.held ≡ without_block b d.held → AreFor d.areas new.free
     → AreApart new
     → IsDriver (record d {
       places = placed (pages_of b) Free d.places;
       held = without_block b d.held;
       areas = new.free;
     })
-block_freed_kept d new b kept held given rest processors apart =
+block_freed_kept d new b kept held given rest same apart =
     let pages = pages_of b in
     let used : (p : ℕ) → is_in p pages ≡ true
     → place_of d.places p ≡ Used = λ p here. block_used d b p kept held here in
@@ -275,7 +276,7 @@ block_freed_kept d new b kept held given rest processors apart =
           (place_of d.places p) (kept.reporting p) (λ here. ap is_reporting (used p here));
       free = given ∙ (ap (marked pages true) kept.free
           ∙ free_marked d.places pages pages Free true (λ p place is. agree place (is_in p pages)));
-      processors = processors;
+      same = same;
       used = λ p covered. used_at p (is_in p pages) refl covered (used p);
     })
   where

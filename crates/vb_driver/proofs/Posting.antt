@@ -12,8 +12,6 @@ use Rattle.vb_chain.specs.Written.{linked}
 use Rattle.vb_chain.specs.Table.{descriptor_at}
 use Rattle.vb_chain.proofs.TableLaws.{descriptor_apart, same_parts}
 use Rattle.vb_ring.specs.declared.driver.Full.{Full}
-use Rattle.vb_ring.specs.declared.layout.Layout.{Layout}
-use Rattle.vb_ring.specs.Layout.{layout_of}
 use Rattle.vb_ring.specs.Ends.{DriverEnd, IsDriverEnd, outstanding, next_head, next_path}
 use Rattle.vb_ring.specs.Ends.{add_answer}
 use Rattle.vb_ring.specs.Calls.{AddsBy}
@@ -25,6 +23,7 @@ use Rattle.vb_driver.specs.Calls.{Posts, Announces, written_of}
 use Rattle.vb_driver.proofs.Buffers.{buffer_apart, names_kept, outside_both}
 use Rattle.vb_driver.proofs.RequestTables.{add_gives, next_path_is, head_low, requests_added_at}
 use Rattle.vb_driver.proofs.Placing.{or_false}
+use Rattle.vb_driver.proofs.Shapes.{IsBeside, KeepsRing, keeps_ring}
 
 -- a chain of one readable piece that was published after a write to other pages
 pub record OnePiece (m1 m2 m3 : Pages) (r r2 : DriverEnd) (h a l : ℕ) : Type 0 where
@@ -32,23 +31,17 @@ pub record OnePiece (m1 m2 m3 : Pages) (r r2 : DriverEnd) (h a l : ℕ) : Type 0
       ≡ record { addr = a; len = l; flags = 0; next = 0 }
   pub descriptors : (i : ℕ) → i < r.size → i ≢ h
       → descriptor_at m3 r.layout.table i ≡ descriptor_at m1 r.layout.table i
-  pub others : (p : ℕ) → p ≢ r.layout.table → page_at m3 p ≡ page_at m2 p
+  pub others : (p : ℕ) → p ≢ r.layout.table → p ≢ r.layout.avail.page
+      → page_at m3 p ≡ page_at m2 p
   pub announces : Announces m1 m3 r r2 h
 
 pub one_piece : (m1 m2 m3 : Pages) (r r2 : DriverEnd) (h a l : ℕ) → IsDriverEnd r
-    → next_head r ≡ Some h → r.layout ≡ layout_of r.layout.table r.size
-    → page_at m2 r.layout.table ≡ page_at m1 r.layout.table
+    → next_head r ≡ Some h → KeepsRing m1 m2 r.layout
     → AddsBy m2 m3 r r2 (record { addr = a; len = l; writable = false } ∷ []) (Ok h)
     → OnePiece m1 m2 m3 r r2 h a l
-one_piece m1 m2 m3 r r2 h a l end next layout first adds =
+one_piece m1 m2 m3 r r2 h a l end next keeps adds =
     let T = r.layout.table in
-    let avail : r.layout.avail.page ≡ T = ap (λ (x : Layout). x.avail.page) layout in
-    let used : r.layout.used.page ≡ T = ap (λ (x : Layout). x.used.page) layout in
     let path : next_path r 1 ≡ h ∷ [] = next_path_is r h next in
-    let first_avail : page_at m2 r.layout.avail.page ≡ page_at m1 r.layout.avail.page =
-    subst (λ (p : ℕ). page_at m2 p ≡ page_at m1 p) (sym avail) first in
-    let first_used : page_at m2 r.layout.used.page ≡ page_at m1 r.layout.used.page =
-    subst (λ (p : ℕ). page_at m2 p ≡ page_at m1 p) (sym used) first in
     record {
       put = subst (λ (p : List ℕ). descriptor_at m3 T (slice_index p 0)
           ≡ linked p (record { addr = a; len = l; writable = false } ∷ []) 0) path
@@ -56,17 +49,16 @@ one_piece m1 m2 m3 r r2 h a l end next layout first adds =
       descriptors = λ i lt ne.
           let out : is_in i (next_path r 1) ≡ false =
           ap (is_in i) path ∙ (or_false (eqb h i) ∙ ne_eqb h i (λ e. ne (sym e))) in
-          adds.links.others i lt out ∙ descriptor_apart m1 m2 T i first;
-      others = λ p ne. adds.publishes.rest.others p
-          (ne, ((λ e. ne (e ∙ avail)), ((λ e. ne (e ∙ avail)), tt)));
+          adds.links.others i lt out ∙ descriptor_apart m1 m2 T i keeps.table;
+      others = λ p table avail. adds.publishes.rest.others p (table, (avail, (avail, tt)));
       announces = record {
         entries = λ heads elems counted shows. adds.entries heads elems counted
-            (entries_apart m1 m2 r.layout r.size heads elems end.fits.size first_avail first_used
+            (entries_apart m1 m2 r.layout r.size heads elems end.fits.size keeps.avail keeps.used
             shows);
         shown = λ heads elems n tracks shows. adds.shown heads elems n
-            (tracks_apart m1 m2 r heads elems n first tracks)
-            (ring_apart m1 m2 r.layout r.size heads elems end.fits.size first first_avail
-            first_used shows);
+            (tracks_apart m1 m2 r heads elems n keeps.table tracks)
+            (ring_apart m1 m2 r.layout r.size heads elems end.fits.size keeps.table keeps.avail
+            keeps.used shows);
       };
     }
 
@@ -77,8 +69,7 @@ pub record Sending (m1 m2 m3 : Pages) (r r2 : DriverEnd) (sent : List (List ℕ)
   pub is_end : IsDriverEnd r
   pub next : next_head r ≡ Some h
   pub room : outstanding r < min r.size 16
-  pub layout : r.layout ≡ layout_of r.layout.table r.size
-  pub low : r.layout.table < base
+  pub beside : (k : ℕ) → k < 16 → IsBeside r.layout (buffer_page base k)
   pub few : length pages ≤ 256
   pub names : Names m2 (buffer_page base h) (buffer_offset h) pages
   pub wrote : SameBut m1 m2 (buffer_page base h) (buffer_offset h)
@@ -92,13 +83,14 @@ pub posts_at : (m1 m2 m3 : Pages) (r r2 : DriverEnd) (sent : List (List ℕ)) (b
     → Posts m1 m3 (record { ring = r; sent = sent }) (record { ring = r2; sent = set sent h pages })
     base pages h
 posts_at m1 m2 m3 r r2 sent base h a l pages s adds =
-    let T = r.layout.table in
     let low = head_low r h s.requests.single s.next in
     let small : h < 16 = omega (arith, low.1, s.room) in
     let one : OnePiece m1 m2 m3 r r2 h a l =
-    one_piece m1 m2 m3 r r2 h a l s.is_end s.next s.layout (s.wrote.others T (omega (arith, s.low)))
-    adds in
-    let above : (k : ℕ) → buffer_page base k ≢ T = λ k. omega (arith, s.low) in
+    one_piece m1 m2 m3 r r2 h a l s.is_end s.next
+    (keeps_ring m1 m2 r.layout (buffer_page base h) _ _ (s.beside h small) s.wrote) adds in
+    let kept : (k : ℕ) → k < 16
+    → page_at m3 (buffer_page base k) ≡ page_at m2 (buffer_page base k) =
+    λ k few. one.others (buffer_page base k) (s.beside k few).table (s.beside k few).avail in
     record {
       lowest = s.next;
       small = small;
@@ -108,17 +100,17 @@ posts_at m1 m2 m3 r r2 sent base h a l pages s adds =
         names = names_kept m2 m3 (buffer_page base h) (buffer_offset h) pages
             (buffer_offset h + 1024)
             (same_page m2 m3 (buffer_page base h) (buffer_offset h) (buffer_offset h + 1024)
-            (one.others (buffer_page base h) (above h))) (omega (arith, s.few)) s.names;
+            (kept h small)) (omega (arith, s.few)) s.names;
       };
       descriptors = one.descriptors;
       announces = one.announces;
       rest = record {
-        others = λ p ne1 ne2. one.others p ne1 ∙ s.wrote.others p ne2;
-        buffers = λ k ne. same_trans m1 m2 m3 (buffer_page base k) (buffer_offset k)
+        others = λ p table avail buffer. one.others p table avail ∙ s.wrote.others p buffer;
+        buffers = λ k few ne. same_trans m1 m2 m3 (buffer_page base k) (buffer_offset k)
             (buffer_offset k + 1024)
             (buffer_apart m1 m2 base h k (4 * length pages) (omega (arith, s.few)) s.wrote ne)
             (same_page m2 m3 (buffer_page base k) (buffer_offset k) (buffer_offset k + 1024)
-            (one.others (buffer_page base k) (above k)));
+            (kept k few));
         backing = λ p. adds.publishes.rest.backing p ∙ s.wrote.backing p;
         count = adds.publishes.rest.count ∙ s.wrote.count;
       };

@@ -27,7 +27,7 @@ use Rattle.vb_driver.specs.Areas.{Becomes, flags_of, is_free_at}
 use Rattle.vb_driver.specs.Areas.{is_covered as is_in_block}
 use Rattle.vb_driver.specs.Places.{marked}
 use Rattle.vb_driver.specs.State.{IsAreaBlock}
-use Rattle.vb_driver.proofs.Flags.{length_flags, flag_free, free_flag, flags_moved, drained_sizes}
+use Rattle.vb_driver.proofs.Flags.{for_these, length_flags, flag_free, free_flag, flags_moved, drained_sizes}
 use Rattle.vb_driver.proofs.Moving.{free_is_place}
 use Rattle.vb_driver.proofs.Placing.{marked_none}
 use Rattle.vb_driver.proofs.ReportTables.{in_all, block_inside_all}
@@ -71,7 +71,10 @@ chosen_state s new blocks is left =
           (λ p. left p ∙ (ap (λ (v : Bool). is_free_page s p && not v) (sym (in_covered p blocks))
           ∙ gone (is_free_page s p) (is_in p pages)));
       held = ap (λ (v : PageState). v.held) is;
-      processors = ap (λ (v : PageState). length v.free.lists) is ∙ sizes.cpus;
+      same = for_these s.free
+          (record (drained s.free) { areas = without_pages pages (drained s.free).areas }) new.free
+          (ap (λ (v : PageState). v.free) is)
+          (record { processors = sizes.same.processors; reserved = refl });
     }
   where
     gone : (old v : Bool) → (old && not v) ≡ cond v false old
@@ -96,7 +99,7 @@ none_chosen s new blocks none becomes = record {
       ∙ (ap (λ (l : List FreeBlock). marked (pages_of_all (blocks_of l)) false (flags_of s.free))
       none ∙ marked_none false (flags_of s.free));
   held = becomes.held;
-  processors = becomes.processors;
+  same = becomes.same;
 }
 
 without_none : (set : List Bool) → without_pages [] set ≡ set
@@ -154,7 +157,10 @@ given_blocks s new blocks is gained =
           (λ p. gained p ∙ (ap (λ (v : Bool). is_free_page s p || v) (sym (in_covered p blocks))
           ∙ came (is_free_page s p) (is_in p pages)));
       held = ap (λ (v : PageState). v.held) is;
-      processors = ap (λ (v : PageState). length v.free.lists) is;
+      same = record {
+        processors = ap (λ (v : PageState). length v.free.lists) is;
+        reserved = ap (λ (v : PageState). v.free.reserved) is;
+      };
     }
   where
     came : (old v : Bool) → (old || v) ≡ cond v true old

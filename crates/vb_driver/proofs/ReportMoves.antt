@@ -1,6 +1,6 @@
 -- The driver as a report goes out, and as it comes back.
 use Rattle.std.proofs.Common.{◌≡◌, ◌∙◌, sym, ap, arith, refl, ℕ, ◌≤◌, Bool, true, false, cond}
-use Rattle.std.proofs.Common.{List, [], length}
+use Rattle.std.proofs.Common.{List, []}
 use Rattle.vb_model.specs.Tests.{is_in, one_if}
 use Rattle.vb_model.specs.Orderly.{times}
 use Rattle.vb_model.specs.Driver.{AllDistinct}
@@ -12,7 +12,7 @@ use Rattle.vb_model.proofs.Distinct.{distinct_list}
 use Rattle.vb_pages.specs.FreePages.{FreePages}
 use Rattle.vb_pages.proofs.ListsLemmas.{times_in, times_out, one_if_true}
 use Rattle.vb_driver.specs.Places.{is_at, marked}
-use Rattle.vb_driver.specs.Areas.{flags_of, is_free_at}
+use Rattle.vb_driver.specs.Areas.{AreFor, flags_of, is_free_at}
 use Rattle.vb_driver.specs.State.{ReportSide, DriverState, IsReportQueue, IsDriver, naming}
 use Rattle.vb_driver.proofs.Counting.{at_is}
 use Rattle.vb_driver.proofs.Naming.{naming_same}
@@ -32,13 +32,13 @@ pub reported_kept : (d : DriverState) (areas2 : FreePages) (r2 : ReportSide) →
     → ((p : ℕ) → is_in p (pages_of_all r2.blocks) ≡ true → is_free_at (flags_of d.areas) p ≡ true)
     → AllDistinct (pages_of_all r2.blocks)
     → flags_of areas2 ≡ marked (pages_of_all r2.blocks) false (flags_of d.areas)
-    → length areas2.lists ≡ length d.areas.lists → IsReportQueue r2 d.queue_size
+    → AreFor d.areas areas2 → IsReportQueue r2 d.queue_size
     → IsDriver (record d {
       places = placed (pages_of_all r2.blocks) Reporting d.places;
       areas = areas2;
       report = r2;
     })
-reported_kept d areas2 r2 kept chosen distinct taken processors queue =
+reported_kept d areas2 r2 kept chosen distinct taken same queue =
     let pages = pages_of_all r2.blocks in
     let free : (p : ℕ) → is_in p pages ≡ true
     → place_of d.places p ≡ Free = λ p here. free_place d p kept (chosen p here) in
@@ -58,7 +58,7 @@ reported_kept d areas2 r2 kept chosen distinct taken processors queue =
       free = taken ∙ (ap (marked pages false) kept.free
           ∙ free_marked d.places pages pages Reporting false
           (λ p place is. agree place (is_in p pages)));
-      processors = processors;
+      same = same;
     })
   where
     agree : (place : Place) (b : Bool)
@@ -96,13 +96,13 @@ reported_once d p kept = at (is_reporting (place_of d.places p)) (kept.reporting
 
 pub returned_kept : (d : DriverState) (areas2 : FreePages) (r2 : ReportSide) → IsDriver d
     → flags_of areas2 ≡ marked (pages_of_all d.report.blocks) true (flags_of d.areas)
-    → length areas2.lists ≡ length d.areas.lists → IsReportQueue r2 d.queue_size → r2.blocks ≡ []
+    → AreFor d.areas areas2 → IsReportQueue r2 d.queue_size → r2.blocks ≡ []
     → IsDriver (record d {
       places = placed (pages_of_all d.report.blocks) Free d.places;
       areas = areas2;
       report = r2;
     })
-returned_kept d areas2 r2 kept given processors queue none =
+returned_kept d areas2 r2 kept given same queue none =
     let pages = pages_of_all d.report.blocks in
     let was : (p : ℕ) → is_in p pages ≡ true
     → place_of d.places p ≡ Reporting = λ p here. reported_place d p kept here in
@@ -122,7 +122,7 @@ returned_kept d areas2 r2 kept given processors queue none =
           (arith, ap (λ (bs : List Block). times p (pages_of_all bs)) none);
       free = given ∙ (ap (marked pages true) kept.free
           ∙ free_marked d.places pages pages Free true (λ p place is. agree place (is_in p pages)));
-      processors = processors;
+      same = same;
     })
   where
     agree : (place : Place) (b : Bool) → cond b true (is_free place) ≡ is_free (cond b Free place)

@@ -11,7 +11,6 @@ use Rattle.vb_chain.specs.Table.{descriptor_at}
 use Rattle.vb_chain.specs.declared.pieces.Piece.{Piece}
 use Rattle.vb_chain.specs.Written.{linked}
 use Rattle.vb_ring.specs.declared.driver.Full.{Full}
-use Rattle.vb_ring.specs.declared.layout.Layout.{Layout}
 use Rattle.vb_ring.specs.Ends.{DriverEnd, outstanding, next_path, add_answer, after_add}
 use Rattle.vb_ring.specs.Calls.{AddsBy}
 use Rattle.vb_pages.specs.declared.block.FreeBlock.{FreeBlock}
@@ -86,9 +85,6 @@ module _ (m1 m2 : Pages) (side : ReportSide) (r2 : DriverEnd) (pieces : List Pie
   pub posts_report : PostsReport m1 m2 side (record { ring = r2; blocks = blocks }) blocks
   posts_report =
       let T = side.ring.layout.table in
-      let avail : side.ring.layout.avail.page ≡ T =
-      ap (λ (x : Layout). x.avail.page) s.queue.layout
-      ∙ sym (ap (λ (x : Layout). x.table) s.queue.layout) in
       record {
         state = ap (λ (v : DriverEnd). record { ring = v; blocks = blocks }) ring_is;
         coded = record {
@@ -106,8 +102,8 @@ module _ (m1 m2 : Pages) (side : ReportSide) (r2 : DriverEnd) (pieces : List Pie
             (ap (is_in i) path_is ∙ not_first i (length blocks) past);
         announces = record { entries = added.entries; shown = added.shown };
         rest = record {
-          others = λ p ne1 ne2. added.publishes.rest.others p
-              (ne1, ((λ e. ne1 (e ∙ avail)), ((λ e. ne1 (e ∙ avail)), tt)));
+          others = λ p table avail same. added.publishes.rest.others p
+              (table, (avail, (avail, tt)));
           backing = added.publishes.rest.backing;
           count = added.publishes.rest.count;
         };

@@ -1,12 +1,14 @@
 -- A driver that begins a new life is as a new one.
-use Rattle.std.proofs.Common.{◌≡◌, ◌∙◌, sym, ap, List, length, map}
+use Rattle.std.proofs.Common.{◌≡◌, ◌∙◌, sym, ap, ℕ, List, length, map}
 use Rattle.std.proofs.lemmas.List.{length-map}
 use Rattle.vb_model.specs.declared.places.Place.{Place}
 use Rattle.vb_model.specs.Pages.{all_free, is_free}
 use Rattle.vb_model.specs.Life.{place_after_reset}
 use Rattle.vb_model.specs.Tests.{pages_where}
 use Rattle.vb_model.specs.Pages.{is_reporting}
-use Rattle.vb_pages.specs.PageState.{PageState, page_count, cpu_count, new_page_state}
+use Rattle.vb_model.specs.Layout.{reserved_pages}
+use Rattle.vb_pages.specs.PageState.{PageState, page_count, cpu_count, reserved_count}
+use Rattle.vb_pages.specs.PageState.{new_page_state}
 use Rattle.vb_driver.specs.Areas.{areas_with}
 use Rattle.vb_driver.specs.State.{DriverState, IsDriver, page_state, fresh_driver, fresh_side}
 use Rattle.vb_driver.specs.State.{fresh_statistics, fresh_report}
@@ -25,22 +27,32 @@ after_reset d = record d {
 }
 
 -- all pages are free after a reset
-pub restarted : (d v : DriverState) (at : List Place) (s : PageState) → IsDriver v → v ≡ after_reset d
-    → at ≡ all_free (length v.places)
-    → s ≡ new_page_state (page_count (page_state v)) (cpu_count (page_state v)) 16
+pub restarted : (d v : DriverState) (at : List Place) (reserved : ℕ) (s : PageState) → IsDriver v
+    → v ≡ after_reset d → reserved ≡ reserved_pages v.queue_size
+    → at ≡ all_free reserved (length v.places)
+    → s ≡ new_page_state (page_count (page_state v)) (cpu_count (page_state v))
+    (reserved_count (page_state v))
     → record v { places = at; held = s.held; areas = s.free }
     ≡ fresh_driver d.pages d.queue_size d.processors
-restarted d v at s kept is free areas =
+restarted d v at reserved s kept is few free areas =
     let pages : v.pages ≡ d.pages = ap (λ (x : DriverState). x.pages) is in
     let table : length v.places ≡ d.pages = kept.table ∙ pages in
     let count : page_count (page_state v) ≡ d.pages =
     sym (length_flags (page_state v)) ∙ (ap length kept.free ∙ (length-map v.places is_free ∙ table)) in
     let lists : cpu_count (page_state v) ≡ d.processors =
     kept.processors ∙ ap (λ (x : DriverState). x.processors) is in
-    let at_first : at ≡ all_free d.pages = free ∙ ap all_free table in
-    let new : s ≡ new_page_state d.pages d.processors 16 =
-    areas ∙ (ap (λ n. new_page_state n (cpu_count (page_state v)) 16) count
-    ∙ ap (λ n. new_page_state d.pages n 16) lists) in
+    let size : reserved_pages v.queue_size ≡ reserved_pages d.queue_size =
+    ap (λ (x : DriverState). reserved_pages x.queue_size) is in
+    let set_aside : reserved_count (page_state v) ≡ reserved_pages d.queue_size =
+    kept.set_aside ∙ size in
+    let at_first : at ≡ all_free (reserved_pages d.queue_size) d.pages =
+    free ∙ (ap (λ (n : ℕ). all_free n (length v.places)) (few ∙ size)
+    ∙ ap (all_free (reserved_pages d.queue_size)) table) in
+    let new : s ≡ new_page_state d.pages d.processors (reserved_pages d.queue_size) =
+    areas ∙ (ap (λ n. new_page_state n (cpu_count (page_state v)) (reserved_count (page_state v)))
+    count
+    ∙ (ap (λ n. new_page_state d.pages n (reserved_count (page_state v))) lists
+    ∙ ap (new_page_state d.pages d.processors) set_aside)) in
     let fresh : DriverState = fresh_driver d.pages d.queue_size d.processors in
     ap (λ (x : DriverState). record x { places = at; held = s.held; areas = s.free }) is
     ∙ (ap (λ (l : List Place). record fresh { places = l; held = s.held; areas = s.free }) at_first

@@ -11,7 +11,6 @@ use Rattle.std.specs.List.{range_with_len}
 use Rattle.vb_model.specs.declared.places.Place.{Place}
 use Rattle.vb_model.specs.declared.places.Place.TheVariants.{Reserved, Free, Used, Giving, Lent}
 use Rattle.vb_model.specs.declared.places.Place.TheVariants.{Taking, Stranded, Reporting}
-use Rattle.vb_model.specs.Limits.{reserved_pages}
 use Rattle.vb_model.specs.Tests.{is_in}
 use Rattle.vb_model.specs.Pages.{all_free, placed, place_of, is_lent, is_stranded}
 use Rattle.vb_model.proofs.PageSteps.{is_in-range, outside-range}
@@ -192,26 +191,27 @@ run_table counts lent stranded places start n o k new old table are was is unlen
 -- ---- a table as the guest is plugged in
 
 -- the first pages reserved and the others free
-pub first_table : (places : List Place) (reserved : ℕ) → reserved ≡ min reserved_pages (length places)
+pub first_table : (places : List Place) (count reserved : ℕ) → reserved ≡ min count (length places)
     → placed (range_with_len reserved (length places - reserved)) Free
-    (placed (range_with_len 0 reserved) Reserved places) ≡ all_free (length places)
-first_table places reserved is =
+    (placed (range_with_len 0 reserved) Reserved places) ≡ all_free count (length places)
+first_table places count reserved is =
     let n : ℕ = length places in
     let low = placed (range_with_len 0 reserved) Reserved places in
     let all = placed (range_with_len reserved (n - reserved)) Free low in
     let n1 : length low ≡ n = length-marked (range_with_len 0 reserved) Reserved places in
     let n2 : length all ≡ length low =
     length-marked (range_with_len reserved (n - reserved)) Free low in
-    same_lists all (all_free n)
-    (omega (arith, length-map (range_with_len 0 n) first_place, length-range_with_len 0 n))
+    same_lists all (all_free count n)
+    (omega (arith, length-map (range_with_len 0 n) (first_place count), length-range_with_len 0 n))
     (λ k d near.
     let inside : k < n = omega arith in
     marked-get (range_with_len reserved (n - reserved)) Free low k d (omega arith)
-    ∙ (at k d inside ∙ sym (get_or-map-range_with_len first_place 0 n k k d inside (omega arith))))
+    ∙ (at k d inside
+    ∙ sym (get_or-map-range_with_len (first_place count) 0 n k k d inside (omega arith))))
   where
     at : (k : ℕ) (d : Place) → k < length places
         → cond (is_in k (range_with_len reserved (length places - reserved))) Free
-        (get_or (placed (range_with_len 0 reserved) Reserved places) k d) ≡ first_place k
+        (get_or (placed (range_with_len 0 reserved) Reserved places) k d) ≡ first_place count k
     at k d inside = elim (cases_lt k reserved) [
       | inl low ↦
           ap (λ (b : Bool). cond b Free
@@ -222,11 +222,11 @@ first_table places reserved is =
           ∙ (ap (λ (b : Bool). cond b Reserved (get_or places k d))
           (in_range k 0 reserved (omega arith) (omega (arith, low)))
           ∙ sym (ap (λ (b : Bool). if b then Reserved else Free)
-          (lt-ltb k 16 (omega (arith, low, is))))))
+          (lt-ltb k count (omega (arith, low, is))))))
       | inr high ↦
           ap (λ (b : Bool). cond b Free
           (get_or (placed (range_with_len 0 reserved) Reserved places) k d))
           (in_range k reserved (length places - reserved) high (omega (arith, high, is)))
           ∙ sym (ap (λ (b : Bool). if b then Reserved else Free)
-          (le-ltb k 16 (omega (arith, high, is, inside))))
+          (le-ltb k count (omega (arith, high, is, inside))))
     ]

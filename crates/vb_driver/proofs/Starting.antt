@@ -1,4 +1,5 @@
 -- A device is asked for features, and its rings begin.
+use Rattle.std.proofs.Common.{inl, inr}
 use Rattle.std.proofs.Common.{◌≡◌, ◌≢◌, ◌∙◌, sym, subst, ap, refl, arith, ℕ, ◌<◌, Bool, true}
 use Rattle.std.proofs.Common.{false, not, [], ◌∷◌, None, Some, Result, Ok, Err, is_err, OnOk}
 use Rattle.vb_model.specs.declared.replies.Refusal.{Refusal}
@@ -10,12 +11,16 @@ use Rattle.vb_model.specs.Status.{contains, negotiate_refusal, status_refusal, s
 use Rattle.vb_model.specs.Life.{feature_refusal, accepted_before}
 use Rattle.vb_ram.specs.Pages.{Pages, byte_at, SameIn}
 use Rattle.vb_ram.proofs.FieldLaws.{same_page}
-use Rattle.vb_ring.specs.Layout.{IsSize, Fits, layout_of}
+use Rattle.vb_model.specs.Layout.{is_ring_page, ring_number, ring_page}
+use Rattle.vb_model.proofs.Shapes.{InRing, in_ring_page, ring_no_buffer}
+use Rattle.vb_ring.specs.Layout.{IsSize}
+use Rattle.vb_ring.proofs.Shapes.{parts_in_ring, fits_at}
 use Rattle.vb_ring.proofs.MeaningLaws.{fresh_shows, fresh_tracks}
 use Rattle.vb_status.specs.Answers.{answered_refusal}
 use Rattle.vb_status.specs.declared.bits.StatusFault.{StatusFault}
-use Rattle.vb_ring.specs.Ends.{DriverEnd, fresh_end}
-use Rattle.vb_driver.specs.State.{DriverState}
+use Rattle.vb_ring.specs.Ends.{DriverEnd}
+use Rattle.vb_driver.specs.State.{DriverState, fresh_ring, fresh_statistics}
+use Rattle.vb_driver.proofs.Shapes.{ring_layout, IsBeside, beside_rings}
 use Rattle.vb_driver.specs.Coding.{SameButPages}
 use Rattle.vb_driver.specs.Calls.{IsNewRing, with_nothing_out}
 
@@ -44,41 +49,58 @@ accepted_then wanted refusal e = at (version_1 wanted) e
     at false h = ap (λ (r : Refusal). accepted_before r wanted) (same VersionMissing h)
     at true h = cc
 
-pub fits_at : (page q : ℕ) → IsSize q → Fits (layout_of page q) q
-fits_at page q size = record {
-  size = size;
-  avail = omega (arith, size.most);
-  used = omega (arith, size.most);
-  table_avail = λ e. omega arith;
-  table_used = λ e. omega arith;
-  avail_used = λ e. omega arith;
-}
+-- the pages of all rings are zeros
+abbrev pub AreZeros : ℕ → Pages → Type 0
+AreZeros size mem = (page offset : ℕ) → is_ring_page size page ≡ true → offset < 4096
+    → byte_at mem page offset ≡ 0
 
--- a fresh queue's ring in a page of zeros
-pub new_ring : (mem : Pages) (page q : ℕ) → IsSize q
-    → ((o : ℕ) → o < 4096 → byte_at mem page o ≡ 0) → IsNewRing mem (fresh_end (layout_of page q) q)
-new_ring mem page q size zeros = record {
-  shows = fresh_shows mem (layout_of page q) q (fits_at page q size) zeros zeros;
-  tracks = fresh_tracks mem (layout_of page q) q;
-}
+-- a fresh queue's ring in pages of zeros
+zero_ring : (mem : Pages) (size q : ℕ) → IsSize size
+    → ((page o : ℕ) → InRing size q page → o < 4096 → byte_at mem page o ≡ 0)
+    → IsNewRing mem (fresh_ring q size)
+zero_ring mem size q sized zeros =
+    let l = ring_layout size q in
+    let parts = parts_in_ring size q sized in
+    record {
+      shows = fresh_shows mem l size (fits_at (ring_page size q) size sized)
+          (λ o lt. zeros l.avail.page o parts.avail lt) (λ o lt. zeros l.used.page o parts.used lt);
+      tracks = fresh_tracks mem l size;
+    }
+
+pub new_ring : (mem : Pages) (size q : ℕ) → IsSize size → AreZeros size mem
+    → IsNewRing mem (fresh_ring q size)
+new_ring mem size q sized zeros =
+    zero_ring mem size q sized (λ page o at lt. zeros page o (in_ring_page size q page at) lt)
 
 -- the same where the first statistics buffer went out meanwhile
-pub still_new : (m1 m2 m3 : Pages) (page q : ℕ) (ring : DriverEnd)
-    → ring ≡ fresh_end (layout_of page q) q → IsSize q → page ≢ 2 → page ≢ 12
-    → SameButPages m1 m2 2 12 → m3 ≡ m2 → ((o : ℕ) → o < 4096 → byte_at m1 page o ≡ 0)
+pub still_new : (m1 m2 m3 : Pages) (size q : ℕ) (ring : DriverEnd)
+    → ring ≡ fresh_ring q size → IsSize size → ring_number q ≢ ring_number 2
+    → SameButPages m1 m2 (fresh_statistics size).layout 12 → m3 ≡ m2 → AreZeros size m1
     → IsNewRing m3 ring
-still_new m1 m2 m3 page q ring fresh size apart beyond rest told zeros =
-    let same : SameIn m1 m2 page 0 4096 =
-    same_page m1 m2 page 0 4096 (rest.others page apart beyond) in
+still_new m1 m2 m3 size q ring fresh sized other rest told zeros =
     subst (λ (m : Pages). IsNewRing m ring) (sym told)
     (subst (λ (r : DriverEnd). IsNewRing m2 r) (sym fresh)
-    (new_ring m2 page q size (λ o lt. same.bytes o (omega arith) lt ∙ zeros o lt)))
+    (zero_ring m2 size q sized (λ page o at lt. (same page at).bytes o (omega arith) lt
+    ∙ zeros page o (in_ring_page size q page at) lt)))
+  where
+    no_buffer : (page : ℕ) → InRing size q page → page ≢ 12
+    no_buffer page at same = elim (ring_no_buffer size page (in_ring_page size q page at)) [
+      | inl low ↦ omega (arith, low, same)
+      | inr high ↦ omega (arith, high, same)
+    ]
+
+    same : (page : ℕ) → InRing size q page → SameIn m1 m2 page 0 4096
+    same page at =
+        let beside : IsBeside (ring_layout size 2) page =
+        beside_rings size 2 q page sized other at in
+        same_page m1 m2 page 0 4096
+        (rest.others page beside.table beside.avail (no_buffer page at))
 
 -- the other queues are fresh then
-pub record OthersFresh (d : DriverState) (q : ℕ) : Type 0 where
-  pub inflate : d.inflate.ring ≡ fresh_end (layout_of 0 q) q
-  pub deflate : d.deflate.ring ≡ fresh_end (layout_of 1 q) q
-  pub report : d.report.ring ≡ fresh_end (layout_of 3 q) q
+pub record OthersFresh (d : DriverState) (size : ℕ) : Type 0 where
+  pub inflate : d.inflate.ring ≡ fresh_ring 0 size
+  pub deflate : d.deflate.ring ≡ fresh_ring 1 size
+  pub report : d.report.ring ≡ fresh_ring 4 size
 
 pub others_fresh : (d1 d2 d3 : DriverState) → d2 ≡ with_nothing_out d1
     → d3 ≡ record d2 { statistics = d3.statistics } → OthersFresh d3 d1.queue_size

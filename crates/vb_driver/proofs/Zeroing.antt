@@ -1,7 +1,8 @@
 -- Zeros written to guest memory.
 use Rattle.std.proofs.Common.{◌≡◌, ◌∙◌, sym, ap, arith, ℕ, ◌+◌, ◌-◌, ◌<◌, ◌≤◌, replicate, length}
-use Rattle.std.proofs.Common.{inl, inr}
-use Rattle.std.proofs.lemmas.Bool.{cases_lt, cases_eq}
+use Rattle.std.proofs.Common.{◌≢◌, ◌⊎◌, ◌&&◌, nat_lt, refl, Bool, true, false, inl, inr}
+use Rattle.std.proofs.lemmas.Bool.{cases_lt, cases_eq, lt-ltb, le-ltb}
+use Rattle.std.proofs.lemmas.Bool.Decides.{nat_tests}
 use Rattle.std.proofs.lemmas.List.{length-replicate, get_or-replicate}
 use Rattle.vb_ram.specs.Pages.{Pages, byte_at, SameBut, Wrote}
 use Rattle.vb_ram.proofs.FieldLaws.{same_page, but_trans, but_wider}
@@ -28,17 +29,82 @@ zeros_inside m1 m2 m3 p off n fits before w =
     (but_wider m2 m3 p off (off + length (replicate {A = ℕ} n 0)) 0 4096 w.rest (omega arith)
     (omega (arith, length-replicate {A = ℕ} n 0)))
 
+-- the same where another test finds the same pages
+pub zeroed_as : (m1 m2 : Pages) (f g : ℕ → Bool) → ((p : ℕ) → g p ≡ f p) → AreZeroed m1 m2 f
+    → AreZeroed m1 m2 g
+zeroed_as m1 m2 f g same before = record {
+  zero = λ p o passes inside. before.zero p o (sym (same p) ∙ passes) inside;
+  others = λ p fails. before.others p (sym (same p) ∙ fails);
+  backing = before.backing;
+  sizes = before.sizes;
+  count = before.count;
+}
+
+-- the pages below n that pass
+abbrev pub passed : (ℕ → Bool) → ℕ → ℕ → Bool
+passed f n p = f p && nat_lt p n
+
+none_passed : (f : ℕ → Bool) (p : ℕ) → passed f 0 p ≡ false
+none_passed f p = grind (arith, nat_tests)
+
+pub zeroed_none : (m : Pages) (f : ℕ → Bool) → AreZeroed m m (passed f 0)
+zeroed_none m f = record {
+  zero = λ p o passes inside.
+      absurd (let wrong : false ≡ true = sym (none_passed f p) ∙ passes in cc);
+  others = λ p fails. refl;
+  backing = λ p. refl;
+  sizes = λ p. refl;
+  count = refl;
+}
+
+other_passed : (f : ℕ → Bool) (n p : ℕ) → p ≢ n → passed f (n + 1) p ≡ passed f n p
+other_passed f n p ne = ap (λ (b : Bool). f p && b) (same (cases_lt p n))
+  where
+    same : ((p < n) ⊎ (n ≤ p)) → nat_lt p (n + 1) ≡ nat_lt p n
+    same (inl lt) = lt-ltb p (n + 1) (omega arith) ∙ sym (lt-ltb p n lt)
+    same (inr le) = le-ltb p (n + 1) (omega (arith, ne)) ∙ sym (le-ltb p n le)
+
+-- a page that doesn't pass
+pub pages_past : (m1 m2 : Pages) (f : ℕ → Bool) (n : ℕ) → f n ≡ false
+    → AreZeroed m1 m2 (passed f n) → AreZeroed m1 m2 (passed f (n + 1))
+pages_past m1 m2 f n fails before =
+    zeroed_as m1 m2 (passed f n) (passed f (n + 1)) (λ p. elim (cases_eq p n) [
+      | inl is ↦ out (n + 1) p is ∙ sym (out n p is)
+      | inr ne ↦ other_passed f n p ne
+    ]) before
+  where
+    out : (k p : ℕ) → p ≡ n → passed f k p ≡ false
+    out k p is = ap (λ (b : Bool). b && nat_lt p k) (ap f is ∙ fails)
+
 -- one page of zeros more
-pub pages_more : (m1 m2 m3 : Pages) (n : ℕ) → AreZeroed m1 m2 n
-    → ((o : ℕ) → o < 4096 → byte_at m3 n o ≡ 0) → SameBut m2 m3 n 0 4096 → AreZeroed m1 m3 (n + 1)
-pages_more m1 m2 m3 n before zero rest = record {
-  zero = λ p o lt inside. elim (cases_eq p n) [
+pub pages_more : (m1 m2 m3 : Pages) (f : ℕ → Bool) (n : ℕ) → f n ≡ true
+    → AreZeroed m1 m2 (passed f n) → ((o : ℕ) → o < 4096 → byte_at m3 n o ≡ 0)
+    → SameBut m2 m3 n 0 4096 → AreZeroed m1 m3 (passed f (n + 1))
+pages_more m1 m2 m3 f n passes before zero rest = record {
+  zero = λ p o found inside. elim (cases_eq p n) [
     | inl is ↦ ap (λ k. byte_at m3 k o) is ∙ zero o inside
     | inr ne ↦ (same_page m2 m3 p 0 4096 (rest.others p ne)).bytes o (omega arith) inside
-        ∙ before.zero p o (omega (arith, ne)) inside
+        ∙ before.zero p o (sym (other_passed f n p ne) ∙ found) inside
   ];
-  others = λ p past. rest.others p (λ e. absurd (omega (arith, e))) ∙ before.others p (omega arith);
+  others = λ p fails. elim (cases_eq p n) [
+    | inl is ↦ absurd (let wrong : true ≡ false = sym (here p is) ∙ fails in cc)
+    | inr ne ↦ rest.others p ne ∙ before.others p (sym (other_passed f n p ne) ∙ fails)
+  ];
   backing = λ p. rest.backing p ∙ before.backing p;
   sizes = λ p. rest.sizes p ∙ before.sizes p;
   count = rest.count ∙ before.count;
 }
+  where
+    here : (p : ℕ) → p ≡ n → passed f (n + 1) p ≡ true
+    here p is =
+        ap (λ (b : Bool). b && nat_lt p (n + 1)) (ap f is ∙ passes)
+        ∙ lt-ltb p (n + 1) (omega (arith, is))
+
+-- once all pages that may pass were visited
+pub pages_all : (m1 m2 : Pages) (f : ℕ → Bool) (n : ℕ) → ((p : ℕ) → f p ≡ true → p < n)
+    → AreZeroed m1 m2 (passed f n) → AreZeroed m1 m2 f
+pages_all m1 m2 f n below before = zeroed_as m1 m2 (passed f n) f (λ p. at p (f p) refl) before
+  where
+    at : (p : ℕ) (b : Bool) → f p ≡ b → f p ≡ passed f n p
+    at p true e = e ∙ sym (ap (λ (b : Bool). b && nat_lt p n) e ∙ lt-ltb p n (below p e))
+    at p false e = e ∙ sym (ap (λ (b : Bool). b && nat_lt p n) e)

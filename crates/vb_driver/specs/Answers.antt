@@ -1,11 +1,11 @@
 -- How many pages a driver's calls move, and why one is refused: the formulas and tables of the
 -- definitions, with the driver's own values.
-use Rattle.std.specs.Prelude.{ℕ, ◌<◌, ◌≤◌, Bool, not, ◌==◌, List, [], ◌∷◌, ◌++◌, length, is_some}
-use Rattle.std.specs.Prelude.{is_err, IsSome}
-use Rattle.std.specs.List.{list_all, range_with_len}
+use Rattle.std.specs.Prelude.{◌≡◌, ℕ, ◌≤◌, Bool, true, not, ◌==◌, List, [], ◌∷◌, ◌++◌, length}
+use Rattle.std.specs.Prelude.{is_some, is_err, IsSome}
+use Rattle.std.specs.List.{list_all}
 use Rattle.vb_model.specs.declared.replies.Refusal.TheVariants.{RingBroken, AlreadyUp, NoFrame}
 use Rattle.vb_model.specs.declared.limits.TheConstants.{MIN_GUEST_PAGES}
-use Rattle.vb_model.specs.Limits.{ring_and_buffer_pages}
+use Rattle.vb_model.specs.Layout.{is_start_page, start_pages}
 pub use Rattle.vb_model.specs.Pages.{block_at}
 use Rattle.vb_model.specs.Pages.{Block, reported, maximal_free_blocks}
 use Rattle.vb_model.specs.Guest.{deflate_on_oom, reporting}
@@ -89,17 +89,17 @@ stats_tests mem part d =
 abbrev pub IsLargeEnough : Pages → Type 0
 IsLargeEnough mem = MIN_GUEST_PAGES ≤ length mem
 
--- each page of the rings and buffers has a frame
-abbrev pub HaveRingFrames : Pages → Type 0
-HaveRingFrames mem = (page : ℕ) → page < ring_and_buffer_pages → IsSome (frame_at mem page)
+-- each page of the rings and buffers has a frame, where the queues have this size
+abbrev pub HaveRingFrames : ℕ → Pages → Type 0
+HaveRingFrames size mem =
+    (page : ℕ) → is_start_page size page ≡ true → IsSome (frame_at mem page)
 
 -- the test for it
-abbrev pub has_frames : Pages → Bool
-has_frames mem =
-    list_all (λ page. is_some (frame_at mem page)) (range_with_len 0 ring_and_buffer_pages)
+abbrev pub has_frames : ℕ → Pages → Bool
+has_frames size mem = list_all (λ page. is_some (frame_at mem page)) (start_pages size)
 
-abbrev pub init_tests : Pages → Part → ℕ → List Test
-init_tests mem part wanted =
+abbrev pub init_tests : ℕ → Pages → Part → ℕ → List Test
+init_tests size mem part wanted =
     (not (part.status == 0) ⇒ AlreadyUp)
-    ∷ (not (has_frames mem) ⇒ NoFrame)
+    ∷ (not (has_frames size mem) ⇒ NoFrame)
     ∷ feature_tests wanted

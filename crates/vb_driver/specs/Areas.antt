@@ -11,7 +11,7 @@ use Rattle.vb_pages.specs.declared.fault.PageFault.TheVariants.{BadCpu as NoSuch
 use Rattle.vb_pages.specs.declared.fault.PageFault.TheVariants.{NoPages as NoFreeBlock}
 use Rattle.vb_pages.specs.declared.fault.PageFault.TheVariants.{NotHeld as NoSuchBlock}
 use Rattle.vb_pages.specs.FreePages.{FreePages, drained, is_free_in as is_free_page}
-use Rattle.vb_pages.specs.PageState.{PageState, cpu_count, AllocatesBlock, with_free_block}
+use Rattle.vb_pages.specs.PageState.{PageState, AllocatesBlock, with_free_block}
 use Rattle.vb_pages.specs.Areas.{block_at, with_pages, without_pages}
 
 -- whether each page is free
@@ -41,11 +41,16 @@ has_block s order =
     let flags = flags_of s.free in
     list_any (λ start. is_free_block flags (block_at start order)) (range_with_len 0 (length flags))
 
--- From now on these pages are free and these blocks held, on as many processors.
+-- The areas are for as many processors, and have as many reserved pages.
+pub record AreFor (old new : FreePages) : Type 0 where
+  pub processors : length new.lists ≡ length old.lists
+  pub reserved : new.reserved ≡ old.reserved
+
+-- From now on these pages are free and these blocks held, in the areas of the same guest.
 pub record Becomes (old new : PageState) (flags : List Bool) (blocks : List Block) : Type 0 where
   pub free : flags_of new.free ≡ flags
   pub held : new.held ≡ blocks
-  pub processors : cpu_count new ≡ cpu_count old
+  pub same : AreFor old.free new.free
 
 -- What an allocation does to the areas and the lists: it takes its block from them, or finds none,
 -- with all lists drained. An order or a processor that is refused leaves them as they are.

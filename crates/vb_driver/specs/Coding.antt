@@ -1,10 +1,11 @@
 -- How a request stands in guest memory: VIRTIO 1.1, 5.5.6; where the buffers stand is the
 -- profile's.
-use Rattle.std.specs.Prelude.{◌≡◌, ◌≢◌, ℕ, ◌+◌, ◌*◌, ◌<◌, ◌≤◌, List, length, slice_index}
+use Rattle.std.specs.Prelude.{◌≡◌, ◌≢◌, ℕ, ◌+◌, ◌*◌, ◌<◌, Bool, true, false, List, length}
+use Rattle.std.specs.Prelude.{slice_index}
 use Rattle.std.specs.List.{range_with_len}
-use Rattle.vb_model.specs.Limits.{page_size}
+use Rattle.vb_model.specs.Limits.{page_size, max_outstanding}
 use Rattle.vb_model.specs.Layout.{buffer_page, buffer_offset}
-use Rattle.vb_model.specs.declared.layout.TheConstants.{REQUEST_BUFFER_SIZE, INFLATE_BUFFERS_PAGE}
+use Rattle.vb_model.specs.declared.layout.TheConstants.{REQUEST_BUFFER_SIZE}
 use Rattle.vb_model.specs.declared.layout.TheConstants.{STATISTICS_PAGE, STATISTIC_SIZE}
 use Rattle.vb_model.specs.declared.layout.TheConstants.{FREE_MEMORY_TAG, TOTAL_MEMORY_TAG}
 use Rattle.vb_model.specs.Pages.{Block}
@@ -13,11 +14,8 @@ use Rattle.vb_ram.specs.Pages.{Pages, field, byte_at, page_at, frame_at, content
 use Rattle.vb_chain.specs.declared.descriptor.Descriptor.{Descriptor}
 use Rattle.vb_chain.specs.Table.{descriptor_at}
 use Rattle.vb_chain.specs.Written.{linked}
+use Rattle.vb_ring.specs.declared.layout.Layout.{Layout}
 use Rattle.vb_report.specs.Blocks.{pieces_of}
-
--- the rings stand in the first pages, and the buffers follow
-abbrev pub ring_pages : ℕ
-ring_pages = INFLATE_BUFFERS_PAGE
 
 -- the readable descriptor of n page numbers in buffer h, where the buffers begin at a page
 abbrev pub buffer_of : ℕ → ℕ → ℕ → Descriptor
@@ -61,25 +59,28 @@ pub record AreReported (mem : Pages) (table : ℕ) (blocks : List Block) : Type 
   pub chain : (k : ℕ) → k < length blocks → descriptor_at mem table k
       ≡ linked (range_with_len 0 (length blocks)) (pieces_of blocks) k
 
--- nothing but these two pages has changed
-pub record SameButPages (old new : Pages) (ring buffer : ℕ) : Type 0 where
-  pub others : (p : ℕ) → p ≢ ring → p ≢ buffer → page_at new p ≡ page_at old p
+-- nothing but the page of the buffer and those of the ring's table and available ring has changed
+pub record SameButPages (old new : Pages) (ring : Layout) (buffer : ℕ) : Type 0 where
+  pub others : (p : ℕ) → p ≢ ring.table → p ≢ ring.avail.page → p ≢ buffer
+      → page_at new p ≡ page_at old p
   pub backing : (p : ℕ) → frame_at new p ≡ frame_at old p
   pub count : length new ≡ length old
 
--- nothing but the ring's page and buffer h has changed
-pub record SameButBuffer (old new : Pages) (ring base h : ℕ) : Type 0 where
-  pub others : (p : ℕ) → p ≢ ring → p ≢ buffer_page base h → page_at new p ≡ page_at old p
-  pub buffers : (k : ℕ) → k ≢ h
+-- nothing but buffer h and the pages of the ring's table and available ring has changed
+pub record SameButBuffer (old new : Pages) (ring : Layout) (base h : ℕ) : Type 0 where
+  pub others : (p : ℕ) → p ≢ ring.table → p ≢ ring.avail.page → p ≢ buffer_page base h
+      → page_at new p ≡ page_at old p
+  pub buffers : (k : ℕ) → k < max_outstanding → k ≢ h
       → SameIn old new (buffer_page base k)
       (buffer_offset k) (buffer_offset k + REQUEST_BUFFER_SIZE)
   pub backing : (p : ℕ) → frame_at new p ≡ frame_at old p
   pub count : length new ≡ length old
 
--- the first n pages are zeros, all others as before
-pub record AreZeroed (old new : Pages) (n : ℕ) : Type 0 where
-  pub zero : (page offset : ℕ) → page < n → offset < page_size → byte_at new page offset ≡ 0
-  pub others : (page : ℕ) → n ≤ page → page_at new page ≡ page_at old page
+-- the pages that pass are zeros, all others as before
+pub record AreZeroed (old new : Pages) (passes : ℕ → Bool) : Type 0 where
+  pub zero : (page offset : ℕ) → passes page ≡ true → offset < page_size
+      → byte_at new page offset ≡ 0
+  pub others : (page : ℕ) → passes page ≡ false → page_at new page ≡ page_at old page
   pub backing : (page : ℕ) → frame_at new page ≡ frame_at old page
   pub sizes : (page : ℕ) → length (contents_at new page) ≡ length (contents_at old page)
   pub count : length new ≡ length old

@@ -13,7 +13,8 @@ use Rattle.vb_ram.specs.Part.{Part}
 use Rattle.vb_status.specs.After.{part_after_reset}
 use Rattle.vb_ring.specs.Ends.{DriverEnd}
 use Rattle.vb_ring.specs.Meaning.{Shows, Tracks}
-use Rattle.vb_driver.specs.Coding.{AreZeroed, ring_pages}
+use Rattle.vb_model.specs.Layout.{is_ring_page}
+use Rattle.vb_driver.specs.Coding.{AreZeroed}
 use Rattle.vb_driver.specs.State.{DriverState, IsDriver, fresh_side, fresh_statistics, fresh_report}
 use Rattle.vb_driver.specs.State.{figures_of}
 use Rattle.vb_driver.specs.Areas.{areas_with}
@@ -49,7 +50,7 @@ pub record Starts (m1 m2 : Pages) (p1 p2 : Part) (d1 d2 : DriverState) (wanted :
   pub deflate : IsNewRing m2 d2.deflate.ring
   pub report : IsNewRing m2 d2.report.ring
   pub zeroed : Pages
-  pub rings : AreZeroed m1 zeroed ring_pages
+  pub rings : AreZeroed m1 zeroed (is_ring_page d1.queue_size)
   pub statistics : IsNewRing zeroed (fresh_statistics d1.queue_size)
   pub buffer : FirstBuffer (stats_vq wanted) zeroed m2 d1 d2
 
@@ -92,7 +93,7 @@ pub record NegotiatesBy {T : Type 0} (m1 m2 : Pages) (p1 p2 : Part) (d1 d2 : Dri
 pub record InitsBy {T : Type 0} (m1 m2 : Pages) (p1 p2 : Part) (d1 d2 : DriverState) (wanted : ℕ)
     (result : Result T Refusal) : Type 0 where
   pub driver : IsDriver d1
-  pub refusal : refusal_in result ≡ first_refusal (init_tests m1 p1 wanted)
+  pub refusal : refusal_in result ≡ first_refusal (init_tests d1.queue_size m1 p1 wanted)
   pub refused : IfErr result (λ refusal. InitRefused refusal m1 m2 p1 p2 d1 d2 wanted)
   pub starts : OnOk result (Starts m1 m2 p1 p2 d1 d2 wanted)
 

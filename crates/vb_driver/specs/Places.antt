@@ -4,7 +4,6 @@ use Rattle.std.specs.Prelude.{Bool, List, length, ◌+◌, ◌*◌, ◌<◌, ◌
 use Rattle.std.specs.Prelude.{max}
 use Rattle.std.specs.Int.{div_ceil}
 pub use Rattle.vb_model.specs.Tests.{marked}
-use Rattle.vb_model.specs.Limits.{reserved_pages}
 use Rattle.vb_model.specs.Pages.{is_free, is_used, is_giving, is_lent, is_taking, is_stranded}
 use Rattle.vb_model.specs.Pages.{is_reporting, place_of}
 use Rattle.vb_model.specs.Tests.{has_bit}
@@ -40,9 +39,9 @@ is_at Taking = is_taking
 is_at Stranded = is_stranded
 is_at Reporting = is_reporting
 
--- where a page is as the guest is plugged in
-abbrev pub first_place : ℕ → Place
-first_place page = if nat_lt page reserved_pages then Reserved else Free
+-- where a page is as the guest is plugged in, of which so many are reserved
+abbrev pub first_place : ℕ → ℕ → Place
+first_place reserved page = if nat_lt page reserved then Reserved else Free
 
 -- the table of counts says of each place how many pages have it
 pub record AreCounts (counts : List ℕ) (places : List Place) : Type 0 where

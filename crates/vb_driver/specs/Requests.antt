@@ -79,7 +79,7 @@ pub record Posts (m1 m2 : Pages) (s1 s2 : RequestSide) (base : ℕ) (pages : Lis
   pub descriptors : (i : ℕ) → i < s1.ring.size → i ≢ head
       → descriptor_at m2 s1.ring.layout.table i ≡ descriptor_at m1 s1.ring.layout.table i
   pub announces : Announces m1 m2 s1.ring s2.ring head
-  pub rest : SameButBuffer m1 m2 s1.ring.layout.table base head
+  pub rest : SameButBuffer m1 m2 s1.ring.layout base head
   pub outside : SameOutside m1 m2 (numbers_extent base head (length pages) ∷ written_of s1.ring)
   pub requests : AreRequests s2
 
@@ -155,7 +155,7 @@ pub record PostsReport (m1 m2 : Pages) (s1 s2 : ReportSide) (blocks : List Block
   pub descriptors : (i : ℕ) → i < s1.ring.size → length blocks ≤ i
       → descriptor_at m2 s1.ring.layout.table i ≡ descriptor_at m1 s1.ring.layout.table i
   pub announces : Announces m1 m2 s1.ring s2.ring 0
-  pub rest : SameButPages m1 m2 s1.ring.layout.table s1.ring.layout.table
+  pub rest : SameButPages m1 m2 s1.ring.layout s1.ring.layout.table
   pub outside : SameOutside m1 m2 (written_of s1.ring)
 
 -- Free blocks are reported to the host; all processors' lists are drained before.

@@ -7,14 +7,13 @@ use Rattle.vb_model.specs.declared.places.Place.{Place}
 use Rattle.vb_model.specs.declared.places.Place.TheVariants.{Reserved, Used}
 use Rattle.vb_model.specs.declared.layout.TheConstants.{STATISTICS_QUEUE, REPORT_QUEUE}
 use Rattle.vb_model.specs.Limits.{max_outstanding, max_request_pages, max_order, page_size}
-use Rattle.vb_model.specs.Limits.{reserved_pages}
 use Rattle.vb_model.specs.declared.limits.TheConstants.{MIN_GUEST_PAGES, MAX_GUEST_PAGES}
 use Rattle.vb_model.specs.Pages.{Block, place_of, all_free, is_free, is_giving, is_lent, is_taking}
 use Rattle.vb_model.specs.Pages.{is_stranded, is_reporting, is_aligned, pages_of_all}
 use Rattle.vb_model.specs.Requests.{Figures}
 use Rattle.vb_model.specs.Tables.{most_requests}
 use Rattle.vb_model.specs.Guest.{must_tell_host}
-use Rattle.vb_model.specs.Layout.{ring_page}
+use Rattle.vb_model.specs.Layout.{reserved_pages, ring_page}
 use Rattle.vb_model.specs.Tests.{one_if}
 use Rattle.vb_model.specs.Orderly.{times}
 use Rattle.vb_ring.specs.Layout.{IsSize, layout_of}
@@ -107,17 +106,11 @@ index_values = 65536
 -- ---- a queue of which nothing is out
 
 abbrev pub fresh_ring : ℕ → ℕ → DriverEnd
-fresh_ring queue size = fresh_end (layout_of (ring_page queue) size) size
-
-abbrev pub fresh_at : ℕ → ℕ → RequestSide
-fresh_at page size =
-    record {
-      ring = fresh_end (layout_of page size) size;
-      sent = replicate max_outstanding [];
-    }
+fresh_ring queue size = fresh_end (layout_of (ring_page size queue) size) size
 
 abbrev pub fresh_side : ℕ → ℕ → RequestSide
-fresh_side queue size = fresh_at (ring_page queue) size
+fresh_side queue size =
+    record { ring = fresh_ring queue size; sent = replicate max_outstanding [] }
 
 abbrev pub fresh_statistics : ℕ → DriverEnd
 fresh_statistics size = fresh_ring STATISTICS_QUEUE size
@@ -132,9 +125,9 @@ fresh_driver pages queue_size processors =
       pages = pages;
       queue_size = queue_size;
       processors = processors;
-      places = all_free pages;
+      places = all_free (reserved_pages queue_size) pages;
       held = [];
-      areas = (new_page_state pages processors reserved_pages).free;
+      areas = (new_page_state pages processors (reserved_pages queue_size)).free;
       inflate = fresh_side 0 queue_size;
       deflate = fresh_side 1 queue_size;
       statistics = fresh_statistics queue_size;
@@ -154,17 +147,17 @@ pub record AreRequests (side : RequestSide) : Type 0 where
   pub unsent : (i : ℕ) → is_head side.ring.owner i ≡ false → sent_by side i ≡ []
   pub short : (i : ℕ) → length (sent_by side i) ≤ max_request_pages
 
--- The queue's ring lies in its page.
+-- The queue's ring lies in its pages.
 pub record IsQueue (side : RequestSide) (queue descriptors : ℕ) : Type 0 where
   pub requests : AreRequests side
-  pub layout : side.ring.layout ≡ layout_of (ring_page queue) descriptors
+  pub layout : side.ring.layout ≡ layout_of (ring_page descriptors queue) descriptors
   pub size : side.ring.size ≡ descriptors
 
--- The one statistics buffer stands at descriptor 0, and the ring in its page.
+-- The one statistics buffer stands at descriptor 0, and the ring in its pages.
 pub record IsStatisticsQueue (ring : DriverEnd) (descriptors : ℕ) : Type 0 where
   pub single : (i : ℕ) → is_unused ring.owner i ≡ false → is_head ring.owner i ≡ true
   pub first : (i : ℕ) → is_head ring.owner i ≡ true → i ≡ 0
-  pub layout : ring.layout ≡ layout_of (ring_page STATISTICS_QUEUE) descriptors
+  pub layout : ring.layout ≡ layout_of (ring_page descriptors STATISTICS_QUEUE) descriptors
   pub size : ring.size ≡ descriptors
 
 -- A block that can be given back to the page areas.
@@ -173,13 +166,13 @@ pub record IsAreaBlock (b : Block) : Type 0 where
   pub aligned : IsTrue (is_aligned b)
 
 -- The one report has the first descriptors, one for each of its blocks, and head 0; the ring lies
--- in its page.
+-- in its pages.
 pub record IsReportQueue (side : ReportSide) (descriptors : ℕ) : Type 0 where
   pub owned : (i : ℕ) → slice_index_or side.ring.owner i None
       ≡ (if nat_lt i (length side.blocks) then Some 0 else None)
   pub few : length side.blocks ≤ max_outstanding
   pub blocks : All IsAreaBlock side.blocks
-  pub layout : side.ring.layout ≡ layout_of (ring_page REPORT_QUEUE) descriptors
+  pub layout : side.ring.layout ≡ layout_of (ring_page descriptors REPORT_QUEUE) descriptors
   pub size : side.ring.size ≡ descriptors
 
 -- A page that an inflate or a report names is giving or reporting, and no other names it.
@@ -198,9 +191,12 @@ pub record IsDriver (d : DriverState) : Type 0 where
       (is_taking (place_of d.places page))
   pub reporting : (page : ℕ)
       → times page (pages_of_all d.report.blocks) ≤ one_if (is_reporting (place_of d.places page))
-  -- the areas and the lists have just the free pages, for as many processors
+  -- the areas and the lists have just the free pages, for as many processors, and never have a
+  -- reserved one
   pub free : flags_of d.areas ≡ map is_free d.places
   pub processors : length d.areas.lists ≡ d.processors
+  pub set_aside : d.areas.reserved ≡ reserved_pages d.queue_size
   -- allocations hold used pages alone
   pub used : (page : ℕ) → is_covered page d.held ≡ true → place_of d.places page ≡ Used
-  pub reserved : (page : ℕ) → page < reserved_pages → place_of d.places page ≡ Reserved
+  pub reserved : (page : ℕ) → page < reserved_pages d.queue_size
+      → place_of d.places page ≡ Reserved

@@ -28,7 +28,7 @@ pub record PostsBuffer (m1 m2 : Pages) (r1 r2 : DriverEnd) (figures : Figures) :
   pub descriptors : (i : ℕ) → i < r1.size → i ≢ 0
       → descriptor_at m2 r1.layout.table i ≡ descriptor_at m1 r1.layout.table i
   pub announces : Announces m1 m2 r1 r2 0
-  pub rest : SameButPages m1 m2 r1.layout.table STATISTICS_PAGE
+  pub rest : SameButPages m1 m2 r1.layout STATISTICS_PAGE
   pub outside : SameOutside m1 m2 (figures_extent ∷ written_of r1)
 
 -- The driver's end of the queue of statistics, once it has seen that the buffer was used.

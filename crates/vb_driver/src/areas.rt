@@ -10,13 +10,12 @@ ghost use Rattle.vb_model.specs.Pages.{pages_of, pages_of_all, place_of, is_free
 ghost use Rattle.vb_model.specs.Pages.{reported, maximal_free_blocks};
 ghost use Rattle.vb_model.specs.Driver.{AllDistinct, with_block, without_block};
 ghost use Rattle.vb_model.specs.Limits.{max_order, max_outstanding, max_request_pages};
-ghost use Rattle.vb_model.specs.Limits.{reserved_pages};
 ghost use Rattle.vb_model.specs.Orderly.{times};
 ghost use Rattle.vb_model.specs.Refusals.{◌⇒◌, first_refusal};
 ghost use Rattle.vb_model.specs.declared.replies.Refusal.TheVariants.{BadOrder, BadCpu, NoPages};
 ghost use Rattle.vb_model.specs.declared.replies.Refusal.TheVariants.{NotHeld};
 ghost use Rattle.vb_pages.specs.PageState.{IsGuestSize, cpu_count, page_count, is_held_block};
-ghost use Rattle.vb_pages.specs.PageState.{new_page_state};
+ghost use Rattle.vb_pages.specs.PageState.{new_page_state, reserved_count};
 ghost use Rattle.vb_pages.specs.PageState.{freed, with_free_block};
 ghost use Rattle.vb_pages.specs.PageState.{TakesFree};
 ghost use Rattle.vb_driver.specs.Answers.{refusal_in, block_at};
@@ -32,7 +31,6 @@ use crate::queue::RequestPages;
 use arrayvec::ArrayVec;
 use std::alloc::{AllocError, Global};
 use std::marker::Model;
-use vb_model::limits::RESERVED_PAGES;
 use vb_model::{Place, Refusal};
 use vb_pages::{FreeBlock, PageFault, Pages};
 use vb_report::{Blocks, reports_name_free_places};
@@ -46,15 +44,11 @@ pub(crate) struct Allocator {
 }
 
 impl Model for Allocator {
-    ghost use Rattle.std.specs.Prelude.{◌≡◌};
-    ghost use Rattle.vb_model.specs.Limits.{reserved_pages};
-    ghost use Rattle.vb_pages.specs.PageState.{PageState, reserved_count};
+    ghost use Rattle.vb_pages.specs.PageState.{PageState};
 
     ghost Value = { PageState };
 
     ghost view = { λ a. a.pages };
-
-    ghost invariant = { λ a. reserved_count a.pages ≡ reserved_pages };
 }
 
 /// How the driver refuses what the allocator refuses.
@@ -70,20 +64,25 @@ fn refusal_of(fault: PageFault) -> Refusal
 }
 
 impl Allocator {
-    /// The areas of a guest as it is plugged in.
-    pub(crate) fn new(alloc: Global, pages: u32, processors: u32) -> Result<Self, AllocError>
+    /// The areas of a guest as it is plugged in, of whose pages so many are reserved.
+    pub(crate) fn new(
+        alloc: Global,
+        pages: u32,
+        processors: u32,
+        reserved: u32,
+    ) -> Result<Self, AllocError>
         requires { IsGuestSize pages processors }
-        ensures { IfOk result (λ areas. areas ≡ new_page_state pages processors reserved_pages) }
+        ensures { IfOk result (λ areas. areas ≡ new_page_state pages processors reserved) }
     {
         Ok(Allocator {
-            pages: Pages::new(alloc, pages, processors, RESERVED_PAGES)?,
+            pages: Pages::new(alloc, pages, processors, reserved)?,
         })
     }
 
     /// All pages are free again but the reserved ones, and no block is held.
     pub(crate) fn renew(&mut self)
-        ensures { self.new ≡
-            new_page_state (page_count self.old) (cpu_count self.old) reserved_pages }
+        ensures { self.new ≡ new_page_state
+            (page_count self.old) (cpu_count self.old) (reserved_count self.old) }
     {
         self.pages.renew();
     }
@@ -155,7 +154,7 @@ impl Allocator {
 
     /// Gives a page back that was taken.
     fn give_free(&mut self, page: u32)
-        requires unreserved { reserved_pages ≤ page }
+        requires unreserved { reserved_count self.old ≤ page }
         requires inside { page < length (flags_of self.old.free) }
         requires taken { is_free_at (flags_of self.old.free) page ≡ false }
         requires uncovered { is_covered page self.old.held ≡ false }
@@ -168,7 +167,8 @@ impl Allocator {
 
     /// Gives these pages back, which were taken and of which none stands twice.
     pub(crate) fn give_all(&mut self, pages: &[u32])
-        requires unreserved { (page : ℕ) → is_in page pages.now ≡ true → reserved_pages ≤ page }
+        requires unreserved { (page : ℕ) → is_in page pages.now ≡ true
+            → reserved_count self.old ≤ page }
         requires inside { (page : ℕ) → is_in page pages.now ≡ true
             → page < length (flags_of self.old.free) }
         requires taken { (page : ℕ) → is_in page pages.now ≡ true
@@ -214,7 +214,7 @@ impl Allocator {
     pub(crate) fn give_blocks(&mut self, blocks: &[FreeBlock])
         requires blocks { All IsAreaBlock (blocks_of blocks.now) }
         requires unreserved { (page : ℕ) → is_in page (pages_of_all (blocks_of blocks.now)) ≡ true
-            → reserved_pages ≤ page }
+            → reserved_count self.old ≤ page }
         requires inside { (page : ℕ) → is_in page (pages_of_all (blocks_of blocks.now)) ≡ true
             → page < length (flags_of self.old.free) }
         requires taken { (page : ℕ) → is_in page (pages_of_all (blocks_of blocks.now)) ≡ true
@@ -236,7 +236,7 @@ impl Allocator {
 
     /// Gives a page back if it is reported to the host.
     fn give_if_reported(&mut self, page: u32, place: Place)
-        requires unreserved { is_reporting place ≡ true → reserved_pages ≤ page }
+        requires unreserved { is_reporting place ≡ true → reserved_count self.old ≤ page }
         requires inside { page < length (flags_of self.old.free) }
         requires taken { is_reporting place ≡ true
             → is_free_at (flags_of self.old.free) page ≡ false }
@@ -257,7 +257,7 @@ impl Allocator {
     pub(crate) fn give_reported(&mut self, places: &PlaceTable)
         requires table { length places.now ≡ length (flags_of self.old.free) }
         requires unreserved { (page : ℕ) → is_reporting (place_of places.now page) ≡ true
-            → reserved_pages ≤ page }
+            → reserved_count self.old ≤ page }
         requires taken { (page : ℕ) → is_reporting (place_of places.now page) ≡ true
             → is_free_at (flags_of self.old.free) page ≡ false }
         requires uncovered { (page : ℕ) → is_reporting (place_of places.now page) ≡ true

@@ -2,7 +2,7 @@
 
 ghost use Rattle.std.specs.Prelude.{◌≡◌, ◌<◌, ◌≤◌, true, length, IfOk};
 ghost use Rattle.vb_model.specs.declared.limits.TheConstants.{MAX_GUEST_PAGES};
-ghost use Rattle.vb_model.specs.Limits.{is_config, reserved_pages};
+ghost use Rattle.vb_model.specs.Limits.{is_config};
 ghost use Rattle.vb_model.specs.Pages.{all_free, place_of, is_used};
 ghost use Rattle.vb_pages.specs.PageState.{IsGuestSize, new_page_state};
 ghost use Rattle.vb_ring.specs.Layout.{IsSize};
@@ -18,9 +18,9 @@ use crate::statistics::StatisticsQueue;
 use bitflags::Flags;
 use std::alloc::{AllocError, Global};
 use std::marker::Model;
-use vb_model::layout::{DEFLATE_RING_PAGE, INFLATE_RING_PAGE};
+use vb_model::layout::{DEFLATE_QUEUE, INFLATE_QUEUE};
 use vb_model::{Place, PlaceCounts, Refusal};
-use vb_ram::Config;
+use vb_ram::{Config, Shape};
 use vb_status::Features;
 
 /// The balloon driver of a guest (VIRTIO 1.1, 5.5.6).
@@ -83,31 +83,33 @@ impl Model for Driver {
     }) };
 }
 
-/// Where the pages of a guest are as it is plugged in, and its page areas.
+/// Where the pages of a guest are as it is plugged in, and its page areas; so many pages are
+/// reserved.
 fn new_pages(
     alloc: Global,
     pages: u32,
     processors: u32,
+    reserved: u32,
 ) -> Result<(PlaceTable, Allocator), AllocError>
     requires size { IsGuestSize pages processors }
     requires some { 0 < pages }
     requires most { pages ≤ MAX_GUEST_PAGES }
-    ensures places { IfOk result (λ new. new.0 ≡ all_free pages) }
-    ensures areas { IfOk result (λ new. new.1 ≡ new_page_state pages processors reserved_pages) }
+    ensures places { IfOk result (λ new. new.0 ≡ all_free reserved pages) }
+    ensures areas { IfOk result (λ new. new.1 ≡ new_page_state pages processors reserved) }
 {
-    let places = PlaceTable::new(alloc, pages)?;
-    let areas = Allocator::new(alloc, pages, processors)?;
+    let places = PlaceTable::new(alloc, pages, reserved)?;
+    let areas = Allocator::new(alloc, pages, processors, reserved)?;
     Ok((places, areas))
 }
 
 /// The queues of inflates and deflates, of which nothing is out, each with a ring of its own.
-fn new_queues(alloc: Global, size: u16) -> Result<(RequestQueue, RequestQueue), AllocError>
-    requires { IsSize size }
-    ensures inflate { IfOk result (λ new. new.0 ≡ fresh_side 0 size) }
-    ensures deflate { IfOk result (λ new. new.1 ≡ fresh_side 1 size) }
+fn new_queues(alloc: Global, shape: Shape) -> Result<(RequestQueue, RequestQueue), AllocError>
+    requires { IsSize shape.queue_size }
+    ensures inflate { IfOk result (λ new. new.0 ≡ fresh_side 0 shape.queue_size) }
+    ensures deflate { IfOk result (λ new. new.1 ≡ fresh_side 1 shape.queue_size) }
 {
-    let inflate = RequestQueue::new(alloc, INFLATE_RING_PAGE, size)?;
-    let deflate = RequestQueue::new(alloc, DEFLATE_RING_PAGE, size)?;
+    let inflate = RequestQueue::new(alloc, INFLATE_QUEUE, shape)?;
+    let deflate = RequestQueue::new(alloc, DEFLATE_QUEUE, shape)?;
     Ok((inflate, deflate))
 }
 
@@ -119,19 +121,28 @@ impl Driver {
         ensures { IfOk result (λ driver.
             driver ≡ fresh_driver config.pages config.queue_size config.processors) }
     {
-        let (places, areas) = new_pages(alloc, config.pages, config.processors)?;
-        let (inflate, deflate) = new_queues(alloc, config.queue_size)?;
+        let shape = config.shape();
+        let reserved = shape.reserved_pages();
+        let (places, areas) = new_pages(alloc, config.pages, config.processors, reserved)?;
+        let (inflate, deflate) = new_queues(alloc, shape)?;
         Ok(Driver {
             config,
             places,
             areas,
             inflate,
             deflate,
-            statistics: StatisticsQueue::new(config.queue_size),
-            report: ReportQueue::new(config.queue_size),
+            statistics: StatisticsQueue::new(shape),
+            report: ReportQueue::new(shape),
             features: Features::empty(),
             actual: 0,
         })
+    }
+
+    /// Where the guest's rings and buffers stand.
+    pub fn shape(&self) -> Shape
+        ensures { result ≡ record { queue_size = self.now.queue_size } }
+    {
+        self.config.shape()
     }
 
     /// Where a page is; one past the end of memory counts as reserved.

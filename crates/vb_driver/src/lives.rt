@@ -1,7 +1,8 @@
 //! A guest's driver starts, and starts over (VIRTIO 1.1, 2.1 and 3.1.1).
 
-ghost use Rattle.std.specs.Prelude.{◌≡◌, ◌<◌, ℕ};
+ghost use Rattle.std.specs.Prelude.{◌≡◌, ◌<◌, ℕ, true};
 ghost use Rattle.vb_model.specs.Limits.{page_size};
+ghost use Rattle.vb_model.specs.Layout.{is_ring_page};
 ghost use Rattle.vb_model.specs.Guest.{stats_vq};
 ghost use Rattle.vb_ram.specs.Pages.{byte_at};
 ghost use Rattle.vb_status.specs.After.{part_after_reset, with_new_queues};
@@ -9,7 +10,6 @@ ghost use Rattle.vb_status.specs.Answers.{refusal_of_fault};
 ghost use Rattle.vb_status.specs.Bits.{feature_bits};
 ghost use Rattle.vb_driver.specs.Answers.{HaveRingFrames, IsLargeEnough};
 ghost use Rattle.vb_driver.specs.State.{IsDriver, fresh_driver, fresh_statistics};
-ghost use Rattle.vb_driver.specs.Coding.{ring_pages};
 ghost use Rattle.vb_driver.specs.Calls.{IsNewRing, FirstBuffer, InitsBy, NegotiatesBy, ResetsBy};
 ghost use Rattle.vb_driver.specs.Calls.{with_nothing_out};
 
@@ -18,7 +18,7 @@ use crate::memory::{all_backed, zero_rings};
 use crate::reaping::give_up;
 use bitflags::Flags;
 use vb_model::Refusal;
-use vb_model::layout::{DEFLATE_RING_PAGE, INFLATE_RING_PAGE};
+use vb_model::layout::{DEFLATE_QUEUE, INFLATE_QUEUE};
 use vb_status::{Features, Port, Status, StatusFault};
 
 /// A refusal in the words of the driver's calls.
@@ -70,12 +70,11 @@ impl Driver {
         ensures driver { IsDriver self.old }
         ensures state { self.new ≡ with_nothing_out self.old }
     {
-        self.inflate
-            .renew(INFLATE_RING_PAGE, self.config.queue_size);
-        self.deflate
-            .renew(DEFLATE_RING_PAGE, self.config.queue_size);
-        self.statistics.renew(self.config.queue_size);
-        self.report.renew(self.config.queue_size);
+        let shape = self.config.shape();
+        self.inflate.renew(INFLATE_QUEUE, shape);
+        self.deflate.renew(DEFLATE_QUEUE, shape);
+        self.statistics.renew(shape);
+        self.report.renew(shape);
     }
 
     /// Posts the first statistics buffer, where the rings lie in pages of zeros and nothing is out,
@@ -83,9 +82,10 @@ impl Driver {
     fn start<P: Port>(&mut self, port: &mut P)
         requires status { (P.part port.old).status ≡ 11 }
         requires memory { IsLargeEnough (P.mem port.old) }
-        requires backed { HaveRingFrames (P.mem port.old) }
+        requires backed { HaveRingFrames self.old.queue_size (P.mem port.old) }
         requires new { self.old ≡ with_nothing_out self.old }
-        requires zeros { (page offset : ℕ) → page < ring_pages → offset < page_size
+        requires zeros { (page offset : ℕ) → is_ring_page self.old.queue_size page ≡ true
+            → offset < page_size
             → byte_at (P.mem port.old) page offset ≡ 0 }
         ensures part { P.part port.new
             ≡ record (with_new_queues (P.part port.old)) { status = 15 } }
@@ -107,7 +107,7 @@ impl Driver {
     /// among them. The driver can be initialised again only once the device was reset.
     ///
     /// Refused for `AlreadyUp` (the status isn't 0), `NoFrame` (one of the pages of the rings and
-    /// buffers, 0 to 12, has no frame); then nothing is changed. Refused for `FeatureNotOffered`
+    /// buffers has no frame); then nothing is changed. Refused for `FeatureNotOffered`
     /// and `VersionMissing` (VERSION_1 is needed): the driver gives up then, by FAILED in the
     /// status, and nothing is out any more.
     pub fn init<P: Port>(&mut self, port: &mut P, wanted: Features) -> Result<(), Refusal>
@@ -120,11 +120,12 @@ impl Driver {
         if !port.status().is_empty() {
             return Err(Refusal::AlreadyUp);
         }
-        if !all_backed(port) {
+        let shape = self.config.shape();
+        if !all_backed(port, shape) {
             return Err(Refusal::NoFrame);
         }
         self.negotiate(port, wanted)?;
-        zero_rings(port);
+        zero_rings(port, shape);
         self.start(port);
         Ok(())
     }
@@ -153,7 +154,7 @@ impl Driver {
             ≡ fresh_driver self.old.pages self.old.queue_size self.old.processors }
     {
         self.reset(port);
-        self.places.renew();
+        self.places.renew(self.config.shape().reserved_pages());
         self.areas.renew();
     }
 }

@@ -1,14 +1,14 @@
 //! What the driver writes into guest memory beside its rings.
 
 ghost use Rattle.std.specs.Prelude.{◌≡◌, ℕ, ◌+◌, ◌*◌, ◌<◌, IsSome, is_some, length};
+ghost use Rattle.std.specs.Prelude.{true};
 ghost use Rattle.vb_model.specs.Limits.{page_size};
+ghost use Rattle.vb_model.specs.Layout.{is_ring_page};
 ghost use Rattle.vb_ram.specs.Pages.{byte_at, frame_at, Covers, SameBut};
-ghost use Rattle.vb_driver.specs.Coding.{Names, AreZeroed, ring_pages};
+ghost use Rattle.vb_driver.specs.Coding.{Names, AreZeroed};
 ghost use Rattle.vb_driver.specs.Answers.{has_frames, HaveRingFrames, IsLargeEnough};
 
-use vb_model::layout::{INFLATE_BUFFERS_PAGE, INFLATE_RING_PAGE};
-use vb_model::limits::RING_AND_BUFFER_PAGES;
-use vb_ram::{GuestBytes, PAGE_SIZE, write_u32};
+use vb_ram::{GuestBytes, PAGE_SIZE, Shape, write_u32};
 
 /// How many zeros are written at a time.
 const ZEROS: usize = 256;
@@ -42,14 +42,15 @@ pub(crate) fn has_frame<G: GuestBytes>(ram: &mut G, page: u32) -> bool
 }
 
 /// Whether all pages of rings and buffers have frames; nothing is changed.
-pub(crate) fn all_backed<G: GuestBytes>(ram: &mut G) -> bool
+pub(crate) fn all_backed<G: GuestBytes>(ram: &mut G, shape: Shape) -> bool
     requires { IsLargeEnough (G.mem ram.old) }
-    ensures value { result ≡ has_frames (G.mem ram.old) }
+    ensures value { result ≡ has_frames shape.queue_size (G.mem ram.old) }
+    ensures backed { result ≡ true → HaveRingFrames shape.queue_size (G.mem ram.old) }
     ensures mem { G.mem ram.new ≡ G.mem ram.old }
     ensures part { G.part ram.new ≡ G.part ram.old }
 {
-    for page in 0..RING_AND_BUFFER_PAGES {
-        if !has_frame(ram, page) {
+    for page in 0..shape.reserved_pages() {
+        if shape.is_start_page(page) && !has_frame(ram, page) {
             return false;
         }
     }
@@ -71,13 +72,15 @@ fn zero_page<G: GuestBytes>(ram: &mut G, page: u32)
 }
 
 /// Makes all bytes of the rings' pages zeros.
-pub(crate) fn zero_rings<G: GuestBytes>(ram: &mut G)
+pub(crate) fn zero_rings<G: GuestBytes>(ram: &mut G, shape: Shape)
     requires memory { IsLargeEnough (G.mem ram.old) }
-    requires backed { HaveRingFrames (G.mem ram.old) }
-    ensures zeroed { AreZeroed (G.mem ram.old) (G.mem ram.new) ring_pages }
+    requires backed { HaveRingFrames shape.queue_size (G.mem ram.old) }
+    ensures zeroed { AreZeroed (G.mem ram.old) (G.mem ram.new) (is_ring_page shape.queue_size) }
     ensures part { G.part ram.new ≡ G.part ram.old }
 {
-    for page in INFLATE_RING_PAGE..INFLATE_BUFFERS_PAGE {
-        zero_page(ram, page);
+    for page in 0..shape.reserved_pages() {
+        if shape.is_ring_page(page) {
+            zero_page(ram, page);
+        }
     }
 }

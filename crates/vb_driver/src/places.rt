@@ -10,7 +10,6 @@ ghost use Rattle.vb_model.specs.Pages.{all_free, placed, place_of, pages_of};
 ghost use Rattle.vb_model.specs.declared.places.Place.TheVariants.{Taking};
 ghost use Rattle.vb_model.specs.Pages.{pages_of_all, is_lent, is_stranded, is_reporting};
 ghost use Rattle.vb_model.specs.Limits.{max_order, max_outstanding, max_request_pages};
-ghost use Rattle.vb_model.specs.Limits.{reserved_pages};
 ghost use Rattle.vb_model.specs.declared.limits.TheConstants.{MAX_GUEST_PAGES};
 ghost use Rattle.vb_model.specs.Life.{place_after_reset};
 ghost use Rattle.vb_driver.specs.Answers.{block_at};
@@ -24,7 +23,6 @@ use std::alloc::{AllocError, Global};
 use std::marker::Model;
 use vb_bits::BitSet;
 use vb_model::Place;
-use vb_model::limits::RESERVED_PAGES;
 use vb_pages::FreeBlock;
 
 /// Where each page is. A contract sees the places, by page.
@@ -228,11 +226,12 @@ impl PlaceTable {
         );
     }
 
-    /// The table of a guest of so many pages as it is plugged in: all unreserved pages are free.
-    pub(crate) fn new(alloc: Global, pages: u32) -> Result<Self, AllocError>
+    /// The table of a guest of so many pages as it is plugged in: so many are reserved, and all
+    /// others are free.
+    pub(crate) fn new(alloc: Global, pages: u32, reserved: u32) -> Result<Self, AllocError>
         requires some { 0 < pages }
         requires most { pages ≤ MAX_GUEST_PAGES }
-        ensures { IfOk result (λ table. table ≡ all_free pages) }
+        ensures { IfOk result (λ table. table ≡ all_free reserved pages) }
     {
         let places = vec![in alloc; Place::Reserved; pages as usize]?;
         let mut counts = [0; 8];
@@ -243,16 +242,17 @@ impl PlaceTable {
             lent: BitSet::new(alloc, pages)?,
             stranded: BitSet::new(alloc, pages)?,
         };
-        table.renew();
+        table.renew(reserved);
         Ok(table)
     }
 
-    /// Moves each page to the place that it has where the guest is plugged in.
-    pub(crate) fn renew(&mut self)
-        ensures { self.new ≡ all_free (length self.old) }
+    /// Moves each page to the place that it has where the guest is plugged in, of whose pages so
+    /// many are reserved.
+    pub(crate) fn renew(&mut self, reserved: u32)
+        ensures { self.new ≡ all_free reserved (length self.old) }
     {
         let pages = self.pages();
-        let reserved = RESERVED_PAGES.min(pages);
+        let reserved = reserved.min(pages);
         self.set_range(0, reserved, Place::Reserved);
         self.set_range(reserved, pages, Place::Free);
     }

@@ -4,13 +4,12 @@ ghost use Rattle.std.specs.Prelude.{◌≡◌, ◌<◌, ◌≤◌, ℕ, [], Ok, 
 ghost use Rattle.std.specs.Prelude.{MatchOption, OnErr, length, min};
 ghost use Rattle.std.specs.Prelude.{replicate, sum_by, slice_index_or, ◌*◌};
 ghost use Rattle.vb_model.specs.Limits.{max_outstanding, max_request_pages};
-ghost use Rattle.vb_model.specs.Layout.{buffers_page};
+ghost use Rattle.vb_model.specs.Layout.{buffers_page, ring_page};
 ghost use Rattle.vb_ring.specs.Layout.{IsSize, IsInside, layout_of};
 ghost use Rattle.vb_ring.specs.Ends.{outstanding, used_answer};
 ghost use Rattle.vb_ring.specs.Calls.{TakesUsedBy};
-ghost use Rattle.vb_driver.specs.Coding.{ring_pages};
 ghost use Rattle.vb_driver.specs.Answers.{HaveRingFrames, IsLargeEnough};
-ghost use Rattle.vb_driver.specs.State.{AreRequests, fresh_at, sent_by, pages_named};
+ghost use Rattle.vb_driver.specs.State.{AreRequests, fresh_side, sent_by, pages_named};
 ghost use Rattle.vb_driver.specs.Calls.{Posts, after_reap};
 
 use crate::memory::write_numbers;
@@ -18,9 +17,11 @@ use arrayvec::ArrayVec;
 use std::alloc::{AllocError, Global};
 use std::marker::Model;
 use vb_chain::Piece;
-use vb_model::layout::REQUEST_BUFFER_SIZE;
+use vb_model::layout::{
+    DEFLATE_BUFFERS_PAGE, INFLATE_BUFFERS_PAGE, INFLATE_QUEUE, REQUEST_BUFFER_SIZE,
+};
 use vb_model::limits::{MAX_OUTSTANDING, MAX_REQUEST_PAGES, PAGE_SIZE};
-use vb_ram::GuestBytes;
+use vb_ram::{GuestBytes, Shape};
 use vb_ring::{DriverRing, RingBroken};
 
 /// How many pages a request names at most.
@@ -96,28 +97,38 @@ fn forget_all(sent: &mut [Sent])
     }
 }
 
+/// The first page of the buffers of inflate requests, and of deflate requests.
+fn buffers_page(queue: u32) -> u32
+    ensures { result ≡ buffers_page queue }
+{
+    match queue {
+        INFLATE_QUEUE => INFLATE_BUFFERS_PAGE,
+        _ => DEFLATE_BUFFERS_PAGE,
+    }
+}
+
 impl RequestQueue {
-    /// A queue of which nothing is out, whose ring of `size` descriptors lies in a page.
-    pub(crate) fn new(alloc: Global, page: u32, size: u16) -> Result<Self, AllocError>
-        requires { IsSize size }
-        ensures { IfOk result (λ queue. queue ≡ fresh_at page size) }
+    /// The queue of this number, of which nothing is out.
+    pub(crate) fn new(alloc: Global, queue: u32, shape: Shape) -> Result<Self, AllocError>
+        requires { IsSize shape.queue_size }
+        ensures { IfOk result (λ side. side ≡ fresh_side queue shape.queue_size) }
     {
         let mut sent = Vec::with_capacity(alloc, MAX_OUTSTANDING as usize)?;
         for _head in 0..MAX_OUTSTANDING {
             sent.push(Sent::none())?;
         }
         Ok(RequestQueue {
-            ring: DriverRing::new(page, size),
+            ring: DriverRing::new(shape.ring_page(queue), shape.queue_size),
             sent,
         })
     }
 
-    /// Begins anew in a page, with nothing out.
-    pub(crate) fn renew(&mut self, page: u32, size: u16)
-        requires { IsSize size }
-        ensures { self.new ≡ fresh_at page size }
+    /// Begins anew as the queue of this number, with nothing out.
+    pub(crate) fn renew(&mut self, queue: u32, shape: Shape)
+        requires { IsSize shape.queue_size }
+        ensures { self.new ≡ fresh_side queue shape.queue_size }
     {
-        self.ring = DriverRing::new(page, size);
+        self.ring = DriverRing::new(shape.ring_page(queue), shape.queue_size);
         forget_all(&mut self.sent);
     }
 
@@ -137,24 +148,26 @@ impl RequestQueue {
         count_named(&self.sent)
     }
 
-    /// Posts a request for these pages, whose buffer is one of those that begin at page `base`.
-    pub(crate) fn post<G: GuestBytes>(&mut self, ram: &mut G, base: u32, pages: RequestPages) -> u16
+    /// Posts a request for these pages on the queue of this number, in a buffer of the queue's own.
+    pub(crate) fn post<G: GuestBytes>(
+        &mut self,
+        ram: &mut G,
+        queue: u32,
+        pages: RequestPages,
+    ) -> u16
         requires room { outstanding self.old.ring < min self.old.ring.size max_outstanding }
         requires layout { self.old.ring.layout
-            ≡ layout_of self.old.ring.layout.table self.old.ring.size }
-        requires low { self.old.ring.layout.table < ring_pages }
-        requires base_low { ring_pages ≤ base }
-        requires base_high { base ≤ buffers_page 1 }
+            ≡ layout_of (ring_page self.old.ring.size queue) self.old.ring.size }
         requires memory { IsLargeEnough (G.mem ram.old) }
-        requires backed { HaveRingFrames (G.mem ram.old) }
+        requires backed { HaveRingFrames self.old.ring.size (G.mem ram.old) }
         ensures posts { Posts (G.mem ram.old) (G.mem ram.new)
-            self.old self.new base pages.items result }
+            self.old self.new (buffers_page queue) pages.items result }
         ensures part { G.part ram.new ≡ G.part ram.old }
     {
         let Some(head) = self.ring.next_head() else {
             unreachable!()
         };
-        let page = base + u32::from(head / 4);
+        let page = buffers_page(queue) + u32::from(head / 4);
         let offset = REQUEST_BUFFER_SIZE * u32::from(head % 4);
         write_numbers(ram, page, offset as usize, &pages);
         let piece = Piece {

@@ -21,7 +21,7 @@ impl Driver {
     /// Reports free blocks from a page on, where no report is out.
     fn report_blocks<P: Port>(&mut self, port: &mut P, from: u32) -> Result<Posted, Refusal>
         requires none_out { outstanding self.old.report.ring ≡ 0 }
-        requires backed { HaveRingFrames (P.mem port.old) }
+        requires backed { HaveRingFrames self.old.queue_size (P.mem port.old) }
         ensures driver { IsDriver self.old }
         ensures refusal { refusal_in result ≡ first_refusal
             (((length (blocks_to_report self.old from) == 0) ⇒ Nothing) ∷ []) }
@@ -53,7 +53,8 @@ impl Driver {
     /// lists are drained, and no page changes its place.
     pub fn report<P: Port>(&mut self, port: &mut P, from: u32) -> Result<Posted, Refusal>
         requires memory { IsLargeEnough (P.mem port.old) }
-        requires backed { is_up (P.part port.old).status ≡ true → HaveRingFrames (P.mem port.old) }
+        requires backed { is_up (P.part port.old).status ≡ true
+            → HaveRingFrames self.old.queue_size (P.mem port.old) }
         ensures { ReportsBy (P.mem port.old) (P.mem port.new) (P.part port.old) (P.part port.new)
             self.old self.new from result }
     {

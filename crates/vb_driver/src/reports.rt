@@ -12,8 +12,8 @@ ghost use Rattle.vb_driver.specs.State.{IsAreaBlock, IsReportQueue, fresh_report
 ghost use Rattle.vb_driver.specs.Calls.{PostsReport};
 
 use std::marker::Model;
-use vb_model::layout::REPORT_RING_PAGE;
-use vb_ram::GuestBytes;
+use vb_model::layout::REPORT_QUEUE;
+use vb_ram::{GuestBytes, Shape};
 use vb_report::{Blocks, encode};
 use vb_ring::{DriverRing, RingBroken};
 
@@ -36,23 +36,23 @@ impl Model for ReportQueue {
 }
 
 impl ReportQueue {
-    /// A queue of which nothing is out, with a ring of `size` descriptors.
-    pub(crate) fn new(size: u16) -> Self
-        requires { IsSize size }
-        ensures { result ≡ fresh_report size }
+    /// A queue of which nothing is out.
+    pub(crate) fn new(shape: Shape) -> Self
+        requires { IsSize shape.queue_size }
+        ensures { result ≡ fresh_report shape.queue_size }
     {
         ReportQueue {
-            ring: DriverRing::new(REPORT_RING_PAGE, size),
+            ring: DriverRing::new(shape.ring_page(REPORT_QUEUE), shape.queue_size),
             blocks: Blocks::new(),
         }
     }
 
     /// Begins anew, with nothing out.
-    pub(crate) fn renew(&mut self, size: u16)
-        requires { IsSize size }
-        ensures { self.new ≡ fresh_report size }
+    pub(crate) fn renew(&mut self, shape: Shape)
+        requires { IsSize shape.queue_size }
+        ensures { self.new ≡ fresh_report shape.queue_size }
     {
-        self.ring = DriverRing::new(REPORT_RING_PAGE, size);
+        self.ring = DriverRing::new(shape.ring_page(REPORT_QUEUE), shape.queue_size);
         self.blocks = Blocks::new();
     }
 
@@ -66,12 +66,13 @@ impl ReportQueue {
     /// Posts a report of these blocks, where none is out, and answers its head.
     pub(crate) fn post<G: GuestBytes>(&mut self, ram: &mut G, blocks: Blocks) -> u16
         requires queue { IsReportQueue self.old self.old.ring.size }
+        requires size { IsSize self.old.ring.size }
         requires none_out { outstanding self.old.ring ≡ 0 }
         requires some { 0 < length blocks.items }
         requires room { length blocks.items ≤ self.old.ring.size }
         requires few { length blocks.items ≤ max_outstanding }
         requires blocks { All IsAreaBlock (blocks_of blocks.items) }
-        requires backed { HaveRingFrames (G.mem ram.old) }
+        requires backed { HaveRingFrames self.old.ring.size (G.mem ram.old) }
         ensures posts { PostsReport (G.mem ram.old) (G.mem ram.new)
             self.old self.new (blocks_of blocks.items) }
         ensures queue { IsReportQueue self.new self.old.ring.size }

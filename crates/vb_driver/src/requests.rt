@@ -18,7 +18,7 @@ ghost use Rattle.vb_driver.specs.Calls.{Offers, AsksBack, InflatesBy, DeflatesBy
 use crate::queue::{RequestPages, RequestQueue};
 use crate::{Driver, Posted};
 use bitflags::Flags;
-use vb_model::layout::{DEFLATE_BUFFERS_PAGE, INFLATE_BUFFERS_PAGE};
+use vb_model::layout::{DEFLATE_QUEUE, INFLATE_QUEUE};
 use vb_model::limits::{MAX_OUTSTANDING, MAX_REQUEST_PAGES};
 use vb_model::{Place, Refusal};
 use vb_status::{Port, Status};
@@ -101,7 +101,7 @@ impl Driver {
         requires few { count ≤ max_request_pages }
         requires there { count ≤ stranded_count self.old + free_count self.old }
         requires memory { IsLargeEnough (P.mem port.old) }
-        requires backed { HaveRingFrames (P.mem port.old) }
+        requires backed { HaveRingFrames self.old.queue_size (P.mem port.old) }
         ensures { Offers (P.mem port.old) (P.mem port.new) (P.part port.old) (P.part port.new)
             self.old self.new count result }
     {
@@ -109,7 +109,7 @@ impl Driver {
         let others = self.areas.take_free(count - pages.len() as u32);
         append(&mut pages, &others);
         self.places.set_all(&pages, Place::Giving);
-        let head = self.inflate.post(port, INFLATE_BUFFERS_PAGE, pages);
+        let head = self.inflate.post(port, INFLATE_QUEUE, pages);
         Posted { head, pages: count }
     }
 
@@ -120,12 +120,12 @@ impl Driver {
         requires few { count ≤ max_request_pages }
         requires there { count ≤ lent_count self.old }
         requires memory { IsLargeEnough (P.mem port.old) }
-        requires backed { HaveRingFrames (P.mem port.old) }
+        requires backed { HaveRingFrames self.old.queue_size (P.mem port.old) }
         ensures { AsksBack (P.mem port.old) (P.mem port.new) (P.part port.old) (P.part port.new)
             self.old self.new count result }
     {
         let pages = self.places.take_lowest_lent(count);
-        let head = self.deflate.post(port, DEFLATE_BUFFERS_PAGE, pages);
+        let head = self.deflate.post(port, DEFLATE_QUEUE, pages);
         Posted { head, pages: count }
     }
 
@@ -136,14 +136,14 @@ impl Driver {
         requires few { count ≤ max_request_pages }
         requires there { count ≤ lent_count self.old }
         requires memory { IsLargeEnough (P.mem port.old) }
-        requires backed { HaveRingFrames (P.mem port.old) }
+        requires backed { HaveRingFrames self.old.queue_size (P.mem port.old) }
         ensures { AsksBack (P.mem port.old) (P.mem port.new) (P.part port.old) (P.part port.new)
             self.old self.new count result }
     {
         let pages = self.places.lowest_lent(count);
         self.areas.give_all(&pages);
         self.places.set_all(&pages, Place::Free);
-        let head = self.deflate.post(port, DEFLATE_BUFFERS_PAGE, pages);
+        let head = self.deflate.post(port, DEFLATE_QUEUE, pages);
         Posted { head, pages: count }
     }
 
@@ -154,7 +154,7 @@ impl Driver {
         requires few { count ≤ max_request_pages }
         requires there { count ≤ lent_count self.old }
         requires memory { IsLargeEnough (P.mem port.old) }
-        requires backed { HaveRingFrames (P.mem port.old) }
+        requires backed { HaveRingFrames self.old.queue_size (P.mem port.old) }
         ensures { AsksBack (P.mem port.old) (P.mem port.new) (P.part port.old) (P.part port.new)
             self.old self.new count result }
     {
@@ -222,7 +222,8 @@ impl Driver {
     /// free ones), `Nothing` (the number is 0); then nothing is changed.
     pub fn inflate<P: Port>(&mut self, port: &mut P, n: u32) -> Result<Posted, Refusal>
         requires memory { IsLargeEnough (P.mem port.old) }
-        requires backed { is_up (P.part port.old).status ≡ true → HaveRingFrames (P.mem port.old) }
+        requires backed { is_up (P.part port.old).status ≡ true
+            → HaveRingFrames self.old.queue_size (P.mem port.old) }
         ensures { InflatesBy (P.mem port.old) (P.mem port.new) (P.part port.old) (P.part port.new)
             self.old self.new n result }
     {
@@ -242,7 +243,8 @@ impl Driver {
     /// Refused for `NotReady`, `QueueFull`, `Nothing`; then nothing is changed.
     pub fn deflate<P: Port>(&mut self, port: &mut P, n: u32) -> Result<Posted, Refusal>
         requires memory { IsLargeEnough (P.mem port.old) }
-        requires backed { is_up (P.part port.old).status ≡ true → HaveRingFrames (P.mem port.old) }
+        requires backed { is_up (P.part port.old).status ≡ true
+            → HaveRingFrames self.old.queue_size (P.mem port.old) }
         ensures { DeflatesBy (P.mem port.old) (P.mem port.new) (P.part port.old) (P.part port.new)
             self.old self.new n result }
     {
@@ -258,7 +260,8 @@ impl Driver {
     /// `Nothing`; then nothing is changed.
     pub fn oom<P: Port>(&mut self, port: &mut P, n: u32) -> Result<Posted, Refusal>
         requires memory { IsLargeEnough (P.mem port.old) }
-        requires backed { is_up (P.part port.old).status ≡ true → HaveRingFrames (P.mem port.old) }
+        requires backed { is_up (P.part port.old).status ≡ true
+            → HaveRingFrames self.old.queue_size (P.mem port.old) }
         ensures { DeflatesOnOomBy
             (P.mem port.old) (P.mem port.new) (P.part port.old) (P.part port.new)
             self.old self.new n result }

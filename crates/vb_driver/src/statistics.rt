@@ -5,7 +5,6 @@ ghost use Rattle.std.specs.Prelude.{MatchBool, OnErr, true, IsSome, drop, length
 ghost use Rattle.byteorder.specs.Endian.{little_bytes};
 ghost use Rattle.vb_model.specs.Limits.{page_size};
 ghost use Rattle.vb_model.specs.declared.layout.TheConstants.{STATISTICS_PAGE, STATISTIC_SIZE};
-ghost use Rattle.vb_model.specs.declared.layout.TheConstants.{STATISTICS_RING_PAGE};
 ghost use Rattle.vb_model.specs.Guest.{stats_vq};
 ghost use Rattle.vb_model.specs.declared.layout.TheConstants.{FREE_MEMORY_TAG, TOTAL_MEMORY_TAG};
 ghost use Rattle.vb_ram.specs.Pages.{Covers, SameBut, frame_at};
@@ -26,11 +25,11 @@ use byteorder::{ByteOrder, LittleEndian};
 use std::marker::Model;
 use vb_chain::Piece;
 use vb_model::layout::{
-    FREE_MEMORY_TAG, STATISTIC_SIZE, STATISTICS_PAGE, STATISTICS_RING_PAGE, TOTAL_MEMORY_TAG,
+    FREE_MEMORY_TAG, STATISTIC_SIZE, STATISTICS_PAGE, STATISTICS_QUEUE, TOTAL_MEMORY_TAG,
 };
 use vb_model::limits::PAGE_SIZE;
 use vb_model::{Place, Refusal};
-use vb_ram::GuestBytes;
+use vb_ram::{GuestBytes, Shape};
 use vb_ring::{DriverRing, RingBroken};
 use vb_status::Port;
 
@@ -97,30 +96,31 @@ impl Model for StatisticsQueue {
 }
 
 impl StatisticsQueue {
-    /// A queue of which nothing is out, with `size` descriptors.
-    pub(crate) fn new(size: u16) -> Self
-        requires { IsSize size }
-        ensures { result ≡ fresh_statistics size }
+    /// A queue of which nothing is out.
+    pub(crate) fn new(shape: Shape) -> Self
+        requires { IsSize shape.queue_size }
+        ensures { result ≡ fresh_statistics shape.queue_size }
     {
         StatisticsQueue {
-            ring: DriverRing::new(STATISTICS_RING_PAGE, size),
+            ring: DriverRing::new(shape.ring_page(STATISTICS_QUEUE), shape.queue_size),
         }
     }
 
     /// Begins anew, with nothing out.
-    pub(crate) fn renew(&mut self, size: u16)
-        requires { IsSize size }
-        ensures { self.new ≡ fresh_statistics size }
+    pub(crate) fn renew(&mut self, shape: Shape)
+        requires { IsSize shape.queue_size }
+        ensures { self.new ≡ fresh_statistics shape.queue_size }
     {
-        self.ring = DriverRing::new(STATISTICS_RING_PAGE, size);
+        self.ring = DriverRing::new(shape.ring_page(STATISTICS_QUEUE), shape.queue_size);
     }
 
     /// Fills the buffer with these figures, in bytes, and posts it; it mustn't be out.
     pub(crate) fn post<G: GuestBytes>(&mut self, ram: &mut G, free: u64, total: u64)
         requires queue { IsStatisticsQueue self.old self.old.size }
+        requires size { IsSize self.old.size }
         requires none { outstanding self.old ≡ 0 }
         requires memory { IsLargeEnough (G.mem ram.old) }
-        requires backed { HaveRingFrames (G.mem ram.old) }
+        requires backed { HaveRingFrames self.old.size (G.mem ram.old) }
         ensures posts { PostsBuffer (G.mem ram.old) (G.mem ram.new)
             self.old self.new (record { free = free; total = total }) }
         ensures queue { IsStatisticsQueue self.new self.old.size }
@@ -140,6 +140,7 @@ impl StatisticsQueue {
     /// Takes the buffer back where the device has used it, and tells so.
     pub(crate) fn take_used<G: GuestBytes>(&mut self, ram: &G) -> Result<bool, RingBroken>
         requires queue { IsStatisticsQueue self.old self.old.size }
+        requires size { IsSize self.old.size }
         requires memory { IsLargeEnough (G.mem ram.now) }
         ensures refused { IfErr result (λ fault. used_answer (G.mem ram.now) self.old ≡ Err fault) }
         ensures kept { OnErr result (self.new ≡ self.old) }
@@ -168,7 +169,7 @@ impl Driver {
     pub(crate) fn fill<P: Port>(&mut self, port: &mut P)
         requires none { outstanding self.old.statistics ≡ 0 }
         requires memory { IsLargeEnough (P.mem port.old) }
-        requires backed { HaveRingFrames (P.mem port.old) }
+        requires backed { HaveRingFrames self.old.queue_size (P.mem port.old) }
         ensures posts { PostsBuffer (P.mem port.old) (P.mem port.new)
             self.old.statistics self.new.statistics (figures_of self.old) }
         ensures state { self.new ≡ record self.old { statistics = self.new.statistics } }
@@ -183,13 +184,13 @@ impl Driver {
     pub(crate) fn fill_first<P: Port>(&mut self, port: &mut P)
         requires fresh { self.old.statistics ≡ fresh_statistics self.old.queue_size }
         requires memory { IsLargeEnough (P.mem port.old) }
-        requires backed { HaveRingFrames (P.mem port.old) }
+        requires backed { HaveRingFrames self.old.queue_size (P.mem port.old) }
         ensures driver { IsDriver self.old }
         ensures buffer { FirstBuffer (stats_vq self.old.features)
             (P.mem port.old) (P.mem port.new) self.old self.new }
         ensures state { self.new ≡ record self.old { statistics = self.new.statistics } }
         ensures rest { SameButPages (P.mem port.old) (P.mem port.new)
-            STATISTICS_RING_PAGE STATISTICS_PAGE }
+            (fresh_statistics self.old.queue_size).layout STATISTICS_PAGE }
         ensures part { P.part port.new ≡ P.part port.old }
     {
         if self.features.stats_vq() {
@@ -206,7 +207,8 @@ impl Driver {
     /// changed then.
     pub fn stats<P: Port>(&mut self, port: &mut P) -> Result<bool, Refusal>
         requires memory { IsLargeEnough (P.mem port.old) }
-        requires backed { is_up (P.part port.old).status ≡ true → HaveRingFrames (P.mem port.old) }
+        requires backed { is_up (P.part port.old).status ≡ true
+            → HaveRingFrames self.old.queue_size (P.mem port.old) }
         ensures { FillsBy (P.mem port.old) (P.mem port.new) (P.part port.old) (P.part port.new)
             self.old self.new result }
     {

@@ -11,6 +11,7 @@ mod order_of_writes;
 mod random_rings;
 mod reports;
 mod requests;
+mod sizes;
 mod statistics;
 mod untold;
 
@@ -49,6 +50,8 @@ enum Step {
     SetTarget(u32),
     /// The device has used a request of a queue: its head, and how many it has used by then.
     Use(u32, u8, u8),
+    /// Bytes that aren't zeros are written at both ends of a page.
+    Soil(u32),
     /// From here on these deeds are waited for.
     Await(&'static [Deed]),
     See(Sight),
@@ -71,6 +74,8 @@ enum Sight {
     Features,
     /// Whether a page has these bytes from an offset on.
     Shows(u32, usize, [u8; 16]),
+    /// Whether a page has zeros at both ends.
+    Blank(u32),
     /// Whether the deeds that are waited for were the last ones.
     Deeds,
 }
@@ -103,6 +108,9 @@ const ALL: u64 = 0x1_0000_0027;
 /// An available ring with one entry, for head 0.
 const AVAILABLE: [u8; 16] = [0, 0, 1, 0, 0, 0, 0, 0, 0, 0, 0, 0, 0, 0, 0, 0];
 
+/// Where the last 16 bytes of a page begin.
+const LAST_BYTES: usize = 4080;
+
 /// Puts a frame behind a page.
 fn supply(rt: &impl Abort, alloc: Global, ram: &mut Ram, page: u32) {
     let Ok(frame) = Frame::fresh(alloc, page) else {
@@ -111,26 +119,42 @@ fn supply(rt: &impl Abort, alloc: Global, ram: &mut Ram, page: u32) {
     assert!(rt; ram.supply(page, frame).is_ok());
 }
 
-/// Guest memory of so many pages, of which the first `backed` have frames.
-fn port_of(rt: &impl Abort, alloc: Global, pages: u32, backed: u32) -> MemoryPort {
+/// Pages from the first on, up to the second, which have frames.
+type Run = (u32, u32);
+
+/// Puts frames behind pages.
+fn supply_run(rt: &impl Abort, alloc: Global, ram: &mut Ram, run: Run) {
+    for page in run.0..run.1 {
+        supply(rt, alloc, ram, page);
+    }
+}
+
+/// Guest memory of so many pages, of which these have frames.
+fn port_of(rt: &impl Abort, alloc: Global, pages: u32, backed: &[Run]) -> MemoryPort {
     let Ok(mut ram) = Ram::new(alloc, pages) else {
         rt.abort()
     };
-    for page in 0..backed {
-        supply(rt, alloc, &mut ram, page);
+    for run in backed {
+        supply_run(rt, alloc, &mut ram, *run);
     }
     MemoryPort::new(ram)
 }
 
-/// A driver of so many pages, with queues of 8 descriptors and one processor.
-fn driver_of(rt: &impl Abort, alloc: Global, pages: u32) -> Driver
-    requires { is_config pages 8 1 ≡ true }
+/// A guest of so many pages, with queues of 8 descriptors and one processor.
+fn small_queues(pages: u32) -> Config
+    ensures { result ≡ record { pages = pages; queue_size = 8; processors = 1 } }
 {
-    let config = Config {
+    Config {
         pages,
         queue_size: 8,
         processors: 1,
-    };
+    }
+}
+
+/// The driver of a guest of this size.
+fn driver_of(rt: &impl Abort, alloc: Global, config: Config) -> Driver
+    requires { is_config config.pages config.queue_size config.processors ≡ true }
+{
     let Ok(driver) = Driver::new(alloc, config) else {
         rt.abort()
     };
@@ -164,12 +188,12 @@ enum Table {
 }
 
 impl Guest {
-    /// A guest of so many pages, of which the first `backed` have frames.
-    fn new(rt: &impl Abort, alloc: Global, pages: u32, backed: u32) -> Guest
-        requires { is_config pages 8 1 ≡ true }
+    /// A guest of this size, of whose pages these have frames.
+    fn new(rt: &impl Abort, alloc: Global, config: Config, backed: &[Run]) -> Guest
+        requires { is_config config.pages config.queue_size config.processors ≡ true }
     {
-        let driver = driver_of(rt, alloc, pages);
-        let port = Recorder::new(port_of(rt, alloc, pages, backed));
+        let driver = driver_of(rt, alloc, config);
+        let port = Recorder::new(port_of(rt, alloc, config.pages, backed));
         Guest { driver, port }
     }
 
@@ -200,6 +224,15 @@ impl Guest {
         self.port.read(page, offset, &mut found).is_ok() && found == bytes
     }
 
+    fn is_blank(&self, page: u32) -> bool {
+        self.shows(page, 0, [0; 16]) && self.shows(page, LAST_BYTES, [0; 16])
+    }
+
+    fn soil(&mut self, page: u32) {
+        let _ = self.port.write(page, 0, &[0xff; 16]);
+        let _ = self.port.write(page, LAST_BYTES, &[0xff; 16]);
+    }
+
     fn see(&self, sight: Sight) -> Answer {
         match sight {
             Sight::Counts(free, used) => Answer::Is(self.are_counts(free, used)),
@@ -210,6 +243,7 @@ impl Guest {
             Sight::Status => Answer::Number(u64::from(self.port.status().bits())),
             Sight::Features => Answer::Number(self.port.port.features().bits()),
             Sight::Shows(page, offset, bytes) => Answer::Is(self.shows(page, offset, bytes)),
+            Sight::Blank(page) => Answer::Is(self.is_blank(page)),
             Sight::Deeds => Answer::Is(self.port.awaited.are_met()),
         }
     }
@@ -217,7 +251,8 @@ impl Guest {
     /// Posts a request for so many pages, or a report from a page on; a device that is up needs
     /// frames for its rings and buffers.
     fn post(&mut self, request: Request, pages: u32) -> Result<Answer, Refusal> {
-        if self.port.pages() < 64 || is_up(&self.port) && !all_backed(&mut self.port) {
+        let shape = self.driver.shape();
+        if self.port.pages() < 64 || is_up(&self.port) && !all_backed(&mut self.port, shape) {
             return Err(Refusal::OutOfRam);
         }
         let Posted { head, pages } = match request {
@@ -240,7 +275,8 @@ impl Guest {
     }
 
     fn stats(&mut self) -> Result<Answer, Refusal> {
-        if self.port.pages() < 64 || is_up(&self.port) && !all_backed(&mut self.port) {
+        let shape = self.driver.shape();
+        if self.port.pages() < 64 || is_up(&self.port) && !all_backed(&mut self.port, shape) {
             return Err(Refusal::OutOfRam);
         }
         Ok(Answer::Is(self.driver.stats(&mut self.port)?))
@@ -254,13 +290,23 @@ impl Guest {
             .init(&mut self.port, Features::from_bits_retain(features))
     }
 
-    /// Writes what a device would: the used ring of 8 descriptors has its index at byte 154 of its
-    /// page, and then an element of 8 bytes for each request, which begins with the head.
-    fn use_request(&mut self, queue: u32, head: u8, used: u8) {
-        let page = if queue == 4 { 3 } else { queue };
-        let element = 148 + 8 * usize::from(used);
+    /// Writes what a device would: the used ring has its index at its third byte, and then an
+    /// element of 8 bytes for each request, which begins with the head.
+    fn use_at(&mut self, page: u32, ring: u16, head: u8, used: u8) {
+        let ring = usize::from(ring);
+        let element = ring + 4 + 8 * usize::from(used.saturating_sub(1));
         let _ = self.port.write(page, element, &[head, 0, 0, 0, 0, 0, 0, 0]);
-        let _ = self.port.write(page, 154, &[used, 0]);
+        let _ = self.port.write(page, ring + 2, &[used, 0]);
+    }
+
+    /// The same of a queue that has 8 or 256 descriptors.
+    fn use_request(&mut self, queue: u32, head: u8, used: u8) {
+        let number = if queue == 4 { 3 } else { queue.min(2) };
+        if self.driver.shape().queue_size == 256 {
+            self.use_at(17 + 2 * number, 520, head, used);
+        } else {
+            self.use_at(number, 152, head, used);
+        }
     }
 
     fn answer(&mut self, step: Step) -> Result<Answer, Refusal> {
@@ -278,6 +324,7 @@ impl Guest {
             Step::Stats => return self.stats(),
             Step::SetTarget(pages) => self.port.port.set_target(pages),
             Step::Use(queue, head, used) => self.use_request(queue, head, used),
+            Step::Soil(page) => self.soil(page),
             Step::Await(deeds) => self.port.awaited = Awaited::for_deeds(deeds),
             Step::See(sight) => return Ok(self.see(sight)),
         }
@@ -303,24 +350,30 @@ impl Guest {
     }
 }
 
-/// The number of the first line of a table that a new guest of so many pages, of which the first
-/// `backed` have frames, answers otherwise. It alone owns a guest: that is dear to prove.
+/// The number of the first line of a table that a new guest of this size, of whose pages these have
+/// frames, answers otherwise. It alone owns a guest: that is dear to prove.
 fn first_wrong(
     rt: &impl Abort,
     alloc: Global,
-    pages: u32,
-    backed: u32,
+    config: Config,
+    backed: &[Run],
     table: Table,
 ) -> Option<usize>
-    requires { is_config pages 8 1 ≡ true }
+    requires { is_config config.pages config.queue_size config.processors ≡ true }
 {
-    let mut guest = Guest::new(rt, alloc, pages, backed);
+    let mut guest = Guest::new(rt, alloc, config, backed);
     guest.first_wrong(table)
 }
 
 /// Expects that a new guest of 64 pages, of which the first so many have frames, answers each line
 /// so.
 fn expect(rt: &impl Abort, alloc: Global, backed: u32, lines: &'static [Line]) {
-    let wrong = first_wrong(rt, alloc, 64, backed, Table::Lines(lines));
+    let wrong = first_wrong(
+        rt,
+        alloc,
+        small_queues(64),
+        &[(0, backed)],
+        Table::Lines(lines),
+    );
     assert_eq!(rt; wrong, None);
 }

@@ -1,7 +1,9 @@
 -- What leaves a queue alone.
-use Rattle.std.specs.Prelude.{◌≡◌, ℕ, ◌+◌, ◌*◌, ◌<◌, ◌≤◌, List, length, slice_index_or}
-use Rattle.std.proofs.Common.{◌∙◌, arith}
-use Rattle.vb_model.specs.Layout.{ring_page, buffers_page, buffer_page, buffer_offset}
+use Rattle.std.specs.Prelude.{◌≡◌, ◌≢◌, ◌==◌, Bool, true, false, if◌then◌else◌, ℕ, ◌+◌, ◌*◌, ◌<◌, ◌≤◌, List, length, slice_index_or}
+use Rattle.std.proofs.Common.{◌∙◌, arith, inl, inr, refl, subst}
+use Rattle.vb_model.specs.Layout.{reserved_pages, ring_number, ring_page, buffers_page}
+use Rattle.vb_model.specs.Layout.{buffer_page}
+use Rattle.vb_model.specs.Layout.{buffer_offset}
 use Rattle.vb_model.specs.Requests.{Request, Requests}
 use Rattle.vb_ram.specs.Pages.{Pages, page_at, SameIn}
 use Rattle.vb_ram.specs.Part.{QueuePart}
@@ -12,7 +14,9 @@ use Rattle.vb_ring.specs.Ends.{DriverEnd}
 use Rattle.vb_driver.specs.Coding.{Names, IsCoded}
 use Rattle.vb_driver.specs.State.{RequestSide}
 use Rattle.vb_guest.specs.Line.{Line, IsRequest, RingOf, heads_of}
-use Rattle.vb_guest.proofs.RingApart.{ring_apart}
+use Rattle.vb_model.proofs.Shapes.{InRing, in_ring_page, ring_reserved, ring_no_buffer}
+use Rattle.vb_model.proofs.Shapes.{reserved_least, rings_apart}
+use Rattle.vb_guest.proofs.RingApart.{SameRing, ring_apart}
 
 -- page numbers in a buffer that a write leaves
 pub names_kept : (old new : Pages) (p o : ℕ) (xs : List ℕ) (hi : ℕ) → SameIn old new p o hi
@@ -22,20 +26,20 @@ names_kept old new p o xs hi same fits n = record {
       ∙ n.each k lt;
 }
 
--- the page of a queue's ring, and the pages of its buffers, are as before
-pub record SameLine (old new : Pages) (q : ℕ) : Type 0 where
-  pub ring : page_at new (ring_page q) ≡ page_at old (ring_page q)
+-- the pages of a queue's ring, and those of its buffers, are as before
+pub record SameLine (old new : Pages) (size q : ℕ) : Type 0 where
+  pub ring : SameRing old new size q
   pub buffers : (p : ℕ) → buffers_page q ≤ p → p < buffers_page q + 4
       → page_at new p ≡ page_at old p
 
 -- a coded request whose descriptor and buffer are as before
 pub coded_kept : (old new : Pages) (q n size : ℕ) (sent : List (List ℕ)) (r : Request)
     → IsRequest size n sent r
-    → descriptor_at new (ring_page q) r.head ≡ descriptor_at old (ring_page q) r.head
+    → descriptor_at new (ring_page size q) r.head ≡ descriptor_at old (ring_page size q) r.head
     → page_at new (buffer_page (buffers_page q) r.head)
     ≡ page_at old (buffer_page (buffers_page q) r.head)
-    → IsCoded old (ring_page q) (buffers_page q) r.head r.pages
-    → IsCoded new (ring_page q) (buffers_page q) r.head r.pages
+    → IsCoded old (ring_page size q) (buffers_page q) r.head r.pages
+    → IsCoded new (ring_page size q) (buffers_page q) r.head r.pages
 coded_kept old new q n size sent r is descriptor page code = record {
   descriptor = descriptor ∙ code.descriptor;
   names = names_kept old new (buffer_page (buffers_page q) r.head) (buffer_offset r.head) r.pages
@@ -43,16 +47,16 @@ coded_kept old new q n size sent r is descriptor page code = record {
       code.names;
 }
 
--- the ring of a queue whose page is as before
+-- the ring of a queue whose pages are as before
 pub requests_apart : (old new : Pages) (q : ℕ) (ring : DriverEnd) (part : QueuePart)
-    (rs : Requests) → page_at new (ring_page q) ≡ page_at old (ring_page q)
+    (rs : Requests) → SameRing old new ring.size q
     → RingOf old q ring part rs → RingOf new q ring part rs
 requests_apart old new q ring part rs same stands =
     ring_apart old new q ring part.next_avail part.next_used (heads_of rs.posted)
     (heads_of rs.taken) (heads_of rs.done) same stands
 
 pub line_apart : (old new : Pages) (q n : ℕ) (side : RequestSide) (part : QueuePart) (rs : Requests)
-    → SameLine old new q → Line old q n side part rs → Line new q n side part rs
+    → SameLine old new side.ring.size q → Line old q n side part rs → Line new q n side part rs
 line_apart old new q n side part rs same line = record {
   ring = requests_apart old new q side.ring part rs same.ring line.ring;
   buffers = line.buffers;
@@ -63,15 +67,67 @@ line_apart old new q n side part rs same line = record {
       let x = slice_index_or rs.posted k d in
       let is = line.posted k d lt in
       coded_kept old new q n side.ring.size side.sent x is
-      (descriptor_apart old new (ring_page q) x.head same.ring)
+      (descriptor_apart old new (ring_page side.ring.size q) x.head
+      (same.ring (ring_page side.ring.size q) (inl refl)))
       (same.buffers _ (omega arith) (omega (arith, is.few))) (line.coded k d lt);
   remembers = line.remembers;
 }
 
+-- a page of a ring is none of a buffer, and no page of another ring
+pub buffers_between : (q : ℕ) → (4 ≤ buffers_page q) × (buffers_page q ≤ 8)
+buffers_between q = step (q == 0)
+  where
+    step : (b : Bool) → (4 ≤ (if b then 4 else 8)) × ((if b then 4 else 8) ≤ 8)
+    step true = (omega arith, omega arith)
+    step false = (omega arith, omega arith)
+
+pub no_buffer : (size q ring page : ℕ) → InRing size q ring → 4 ≤ page → page ≤ 12 → page ≢ ring
+no_buffer size q ring page at low high same =
+    elim (ring_no_buffer size ring (in_ring_page size q ring at)) [
+      | inl below ↦ absurd (omega (arith, below, low, same))
+      | inr above ↦ absurd (omega (arith, above, high, same))
+    ]
+
+pub buffer_apart_page : (size q other ring head : ℕ) → head < 16 → InRing size q ring
+    → buffer_page (buffers_page other) head ≢ ring
+buffer_apart_page size q other ring head few at =
+    let between = buffers_between other in
+    no_buffer size q ring (buffer_page (buffers_page other) head) at (omega (arith, between.0))
+    (omega (arith, between.1, few))
+
+-- only a page of one ring has changed: the rings of other queues are as before, and so are buffers
+abbrev pub SameBut : Pages → Pages → ℕ → Type 0
+SameBut old new ring = (p : ℕ) → p ≢ ring → page_at new p ≡ page_at old p
+
+pub other_ring : (old new : Pages) (size k q other ring : ℕ) → k ≡ size
+    → ring_number other ≢ ring_number q → InRing size q ring → SameBut old new ring
+    → SameRing old new k other
+other_ring old new size k q other ring same ne at rest page there =
+    rest page (rings_apart size other q page ring ne
+    (subst (λ (s : ℕ). InRing s other page) same there) at)
+
+pub other_line : (old new : Pages) (size k q other ring : ℕ) → k ≡ size
+    → ring_number other ≢ ring_number q → InRing size q ring → SameBut old new ring
+    → SameLine old new k other
+other_line old new size k q other ring same ne at rest = record {
+  ring = other_ring old new size k q other ring same ne at rest;
+  buffers = λ p from to.
+      let between = buffers_between other in
+      rest p (no_buffer size q ring p at (omega (arith, between.0)) (omega (arith, between.1)));
+}
+
+-- the reserved pages of a guest whose queues have this size are as before
+abbrev pub SameReserved : Pages → Pages → ℕ → Type 0
+SameReserved old new size = (p : ℕ) → p < reserved_pages size → page_at new p ≡ page_at old p
+
+-- then so is each ring
+pub ring_same : (old new : Pages) (size q : ℕ) → SameReserved old new size → SameRing old new size q
+ring_same old new size q same p at = same p (ring_reserved size p (in_ring_page size q p at))
+
 -- pages above those of rings and buffers are no queue's
-pub above_apart : (old new : Pages) (q : ℕ) → ring_page q < 16 → buffers_page q + 4 ≤ 16
-    → ((p : ℕ) → p < 16 → page_at new p ≡ page_at old p) → SameLine old new q
-above_apart old new q low few same = record {
-  ring = same (ring_page q) low;
-  buffers = λ p from to. same p (omega arith);
+pub above_apart : (old new : Pages) (size q : ℕ) → buffers_page q ≤ 8
+    → SameReserved old new size → SameLine old new size q
+above_apart old new size q few same = record {
+  ring = ring_same old new size q same;
+  buffers = λ p from to. same p (omega (arith, reserved_least size));
 }

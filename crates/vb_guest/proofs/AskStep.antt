@@ -1,5 +1,5 @@
 -- A guest's ask is a step of the definitions.
-use Rattle.std.specs.Prelude.{◌≡◌, ◌≢◌, ℕ, Bool, false, List, []}
+use Rattle.std.specs.Prelude.{◌≡◌, ℕ, Bool, false, List, []}
 use Rattle.std.specs.Prelude.{Result, Ok, Err, IsOk, Some, None, is_some, slice_get}
 use Rattle.std.specs.Prelude.{refl}
 use Rattle.std.proofs.Common.{sym, ◌∙◌, ap, subst, arith, inl, inr}
@@ -14,9 +14,8 @@ use Rattle.vb_model.specs.Device.{Asks}
 use Rattle.vb_model.specs.FirstRefusal.{first_refusal}
 use Rattle.vb_model.specs.Tables.{ask_tests}
 use Rattle.vb_model.specs.Refusals.{refusal_of, is_taken}
-use Rattle.vb_ram.specs.Pages.{Pages, page_at}
+use Rattle.vb_ram.specs.Pages.{Pages}
 use Rattle.vb_ram.specs.Part.{Part}
-use Rattle.vb_ring.specs.declared.layout.Layout.{Layout}
 use Rattle.vb_driver.specs.State.{DriverState}
 use Rattle.vb_device.specs.Conditions.{ask_refusal, taken_at}
 use Rattle.vb_device.specs.Calls.{AsksBy, using}
@@ -24,6 +23,9 @@ use Rattle.vb_guest.specs.Buffer.{BufferLine, taken_requests}
 use Rattle.vb_guest.specs.Stands.{Honest, Ties, IsRunning}
 use Rattle.vb_guest.specs.Steps.{StepsAlone}
 use Rattle.vb_guest.specs.Replies.{asked_reply}
+use Rattle.vb_model.specs.Layout.{reserved_pages}
+use Rattle.vb_guest.proofs.RingApart.{ring_parts}
+use Rattle.vb_guest.proofs.RunApart.{sizes_of, others_same, ring_low, ring_as}
 use Rattle.vb_guest.proofs.Apart.{line_apart}
 use Rattle.vb_guest.proofs.BufferLines.{buffer_used}
 use Rattle.vb_guest.proofs.ReportLines.{report_apart}
@@ -63,22 +65,23 @@ ask_done m1 m2 p1 p2 d g figures result is did stands run free_part free =
     let adds = same_end m1 m2 2 p1.queue_size p1.statistics.next_avail p1.statistics.next_used
     d.statistics _ 0 line.stands.layout (ties.parts.device.size ∙ sym run.statistics_size)
     (did.memory r free_part taken) in
-    let used_low : d.statistics.layout.used.page ≡ 2 =
-    ap (λ (l : Layout). l.used.page) line.stands.layout in
-    let apart : (p : ℕ) → p ≢ 2 → page_at m2 p ≡ page_at m1 p =
-    λ p ne. (let other : p ≢ d.statistics.layout.used.page =
-    λ e. ne (e ∙ used_low) in
-    adds.puts.rest.others p (other, (other, tt))) in
-    let same : SamePages m1 m2 = used_same m1 m2
+    let size = g.config.queue_size in
+    let used_page = d.statistics.layout.used.page in
+    let at = (ring_parts 2 d.statistics line.stands.sized line.stands.layout).used in
+    let same : SamePages (reserved_pages size) m1 m2 = used_same (reserved_pages size) m1 m2
     (end_by d.statistics.layout d.statistics.size p1.statistics.next_avail
-    p1.statistics.next_used) _ 0 0 (omega (arith, used_low)) adds in
+    p1.statistics.next_used) _ 0 0
+    (ring_low size d.statistics.size 2 used_page run.statistics_size at) adds in
+    let others = others_same m1 m2 d size 2 used_page (sizes_of m1 p1 d g run)
+    (ring_as size d.statistics.size 2 used_page run.statistics_size at)
+    (λ p ne. adds.puts.rest.others p (ne, (ne, tt))) in
     let new : Guest = record g { buffer = BufferDone figures } in
     let A : Buffer → Type 0 = λ b. Asks b g Asked new in
     let step = honest_performed g Ask [] Asked new free (refl, subst A (sym is) (refl, refl)) in
     let after : Part = using 2 0 p1 in
     let there : Ties m2 after d new = record {
       parts = ties.parts;
-      pages = pages_same m1 m2 n _ _ same ties.pages;
+      pages = pages_same m1 m2 g.config.queue_size n _ _ same ties.pages;
       queues = inr (record {
         state = run.state;
         backed = λ p lt. ap is_some (same.behind p) ∙ run.backed p lt;
@@ -86,16 +89,12 @@ ask_done m1 m2 p1 p2 d g figures result is did stands run free_part free =
         deflate_size = run.deflate_size;
         statistics_size = run.statistics_size;
         report_size = run.report_size;
-        inflate = line_apart m1 m2 0 n d.inflate p1.inflate g.inflate (record {
-          ring = apart 0 (omega arith);
-          buffers = λ p from to. apart p (omega arith);
-        }) run.inflate;
-        deflate = line_apart m1 m2 1 n d.deflate p1.deflate g.deflate (record {
-          ring = apart 1 (omega arith);
-          buffers = λ p from to. apart p (omega arith);
-        }) run.deflate;
+        inflate = line_apart m1 m2 0 n d.inflate p1.inflate g.inflate (others.inflate (omega arith))
+            run.inflate;
+        deflate = line_apart m1 m2 1 n d.deflate p1.deflate g.deflate (others.deflate (omega arith))
+            run.deflate;
         statistics = buffer_used m1 m2 d.statistics p1.statistics figures _ line adds;
-        report = report_apart m1 m2 n d.report p1.report g.report (apart 3 (omega arith))
+        report = report_apart m1 m2 n d.report p1.report g.report (others.report (omega arith))
             run.report;
       });
     } in

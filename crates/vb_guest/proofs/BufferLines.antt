@@ -1,7 +1,8 @@
 -- What calls make of the statistics buffer.
 use Rattle.std.specs.Prelude.{◌≡◌, ℕ, ◌+◌, ◌%◌, true, List, [], ◌∷◌, ◌++◌, remove, Some, Ok}
 use Rattle.std.specs.Prelude.{refl}
-use Rattle.std.proofs.Common.{◌∙◌, ap, subst, arith}
+use Rattle.std.proofs.Common.{◌∙◌, sym, ap, subst, arith, inl}
+use Rattle.vb_model.specs.Layout.{ring_page}
 use Rattle.vb_model.specs.Requests.{Request, Figures, Buffer, NoBuffer, BufferPosted, BufferTaken}
 use Rattle.vb_model.specs.Requests.{BufferDone}
 use Rattle.vb_ram.specs.Pages.{Pages, page_at}
@@ -14,7 +15,7 @@ use Rattle.vb_ring.specs.Calls.{AddsUsedBy, TakesUsedBy}
 use Rattle.vb_driver.specs.Coding.{AreFigures, IsStatistic}
 use Rattle.vb_driver.specs.Calls.{PostsBuffer, emptied}
 use Rattle.vb_guest.specs.Buffer.{BufferLine, HasFigures}
-use Rattle.vb_guest.proofs.RingApart.{ring_apart}
+use Rattle.vb_guest.proofs.RingApart.{SameRing, ring_apart}
 use Rattle.vb_guest.proofs.RingPosted.{ring_posted}
 use Rattle.vb_guest.proofs.RingTaken.{ring_taken}
 use Rattle.vb_guest.proofs.RingUsed.{ring_used}
@@ -31,17 +32,18 @@ statistic_kept old new offset tag value same is = record {
       (same_page old new 12 _ _ same) (omega arith) (omega arith) ∙ is.valued;
 }
 
-figures_kept : (old new : Pages) (figures : Figures) → page_at new 2 ≡ page_at old 2
-    → page_at new 12 ≡ page_at old 12 → AreFigures old 2 figures → AreFigures new 2 figures
-figures_kept old new figures ring buffer are = record {
-  descriptor = descriptor_apart old new 2 0 ring ∙ are.descriptor;
+figures_kept : (old new : Pages) (table : ℕ) (figures : Figures)
+    → page_at new table ≡ page_at old table → page_at new 12 ≡ page_at old 12
+    → AreFigures old table figures → AreFigures new table figures
+figures_kept old new table figures ring buffer are = record {
+  descriptor = descriptor_apart old new table 0 ring ∙ are.descriptor;
   free = statistic_kept old new 0 4 figures.free buffer are.free;
   total = statistic_kept old new 10 5 figures.total buffer are.total;
 }
 
 -- the pages of the ring and of the buffer are as before
 pub buffer_apart : (old new : Pages) (ring : DriverEnd) (part : QueuePart) (buffer : Buffer)
-    → page_at new 2 ≡ page_at old 2 → page_at new 12 ≡ page_at old 12
+    → SameRing old new ring.size 2 → page_at new 12 ≡ page_at old 12
     → BufferLine old ring part buffer → BufferLine new ring part buffer
 buffer_apart old new ring part buffer same_ring same_buffer line = record {
   stands = ring_apart old new 2 ring part.next_avail part.next_used _ _ _ same_ring line.stands;
@@ -49,8 +51,10 @@ buffer_apart old new ring part buffer same_ring same_buffer line = record {
   remembers = line.remembers;
 }
   where
-    by : (buffer : Buffer) → HasFigures old buffer → HasFigures new buffer
-    by (BufferPosted figures) has = figures_kept old new figures same_ring same_buffer has
+    by : (buffer : Buffer) → HasFigures ring.size old buffer → HasFigures ring.size new buffer
+    by (BufferPosted figures) has =
+        let table : ℕ = ring_page ring.size 2 in
+        figures_kept old new table figures (same_ring table (inl refl)) same_buffer has
     by NoBuffer has = tt
     by (BufferTaken figures) has = tt
     by (BufferDone figures) has = tt
@@ -98,11 +102,13 @@ pub buffer_posted : (m1 m2 : Pages) (r1 r2 : DriverEnd) (part : QueuePart) (figu
     → BufferLine m1 r1 part NoBuffer → PostsBuffer m1 m2 r1 r2 figures
     → BufferLine m2 r2 part (BufferPosted figures)
 buffer_posted m1 m2 r1 r2 part figures line posts =
-    let table : r1.layout.table ≡ 2 = ap (λ (l : Layout). l.table) line.stands.layout in
+    let table : r1.layout.table ≡ ring_page r1.size 2 =
+    ap (λ (l : Layout). l.table) line.stands.layout in
     record {
       stands = ring_posted m1 m2 2 r1 r2 part.next_avail part.next_used [] [] [] 1 0 line.stands
           posts.state posts.announces;
-      figures = subst (λ (t : ℕ). AreFigures m2 t figures) table posts.coded;
+      figures = subst (λ (t : ℕ). AreFigures m2 t figures)
+          (table ∙ ap (λ (r : DriverEnd). ring_page r.size 2) (sym posts.state)) posts.coded;
       remembers = line.remembers;
     }
 

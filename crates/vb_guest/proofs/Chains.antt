@@ -1,7 +1,7 @@
 -- A posted request, as its device finds it.
 use Rattle.std.specs.Prelude.{◌≡◌, ℕ, ◌*◌, ◌<◌, ◌≤◌, List, [], ◌∷◌, All, length, Ok, false, refl}
 use Rattle.std.proofs.Common.{sym, subst, arith}
-use Rattle.vb_model.specs.Layout.{ring_page, buffers_page, buffer_page, buffer_offset}
+use Rattle.vb_model.specs.Layout.{reserved_pages, ring_page, buffers_page, buffer_page, buffer_offset}
 use Rattle.vb_model.specs.Requests.{Request}
 use Rattle.vb_ram.specs.Pages.{Pages}
 use Rattle.vb_chain.specs.declared.descriptor.Descriptor.{Descriptor}
@@ -17,12 +17,12 @@ use Rattle.vb_guest.specs.Line.{IsRequest}
 -- its chain is one readable buffer
 pub coded_chain : (mem : Pages) (q size n : ℕ) (sent : List (List ℕ)) (r : Request)
     → buffers_page q ≤ 8 → 64 ≤ n → length mem ≡ n → IsRequest size n sent r
-    → IsCoded mem (ring_page q) (buffers_page q) r.head r.pages
-    → ChainGives (descriptor_at mem (ring_page q)) size (4096 * length mem) r.head
+    → IsCoded mem (ring_page size q) (buffers_page q) r.head r.pages
+    → ChainGives (descriptor_at mem (ring_page size q)) size (4096 * length mem) r.head
     (piece_of (buffer_of (buffers_page q) r.head (length r.pages)) ∷ [])
 coded_chain mem q size n sent r low large len is code =
     let d : Descriptor = buffer_of (buffers_page q) r.head (length r.pages) in
-    single_chain (descriptor_at mem (ring_page q)) size (4096 * length mem) r.head d is.inside
+    single_chain (descriptor_at mem (ring_page size q)) size (4096 * length mem) r.head d is.inside
     code.descriptor refl
     (no_fault size (4096 * length mem) false 0 d refl (omega (arith, is.few, is.pages.few))
     (λ e. cc) (λ e. cc))
@@ -30,12 +30,12 @@ coded_chain mem q size n sent r low large len is code =
 -- it is a request for the pages that it names
 pub coded_pages : (mem : Pages) (q size n : ℕ) (sent : List (List ℕ)) (r : Request) → length mem ≡ n
     → IsRequest size n sent r
-    → IsCoded mem (ring_page q) (buffers_page q) r.head r.pages
+    → IsCoded mem (ring_page size q) (buffers_page q) r.head r.pages
     → page_request mem (piece_of (buffer_of (buffers_page q) r.head (length r.pages)) ∷ [])
-    ≡ Ok r.pages
+    (reserved_pages size) ≡ Ok r.pages
 coded_pages mem q size n sent r len is code =
     one_request mem (piece_of (buffer_of (buffers_page q) r.head (length r.pages)))
-    (buffer_page (buffers_page q) r.head) (buffer_offset r.head) r.pages
+    (buffer_page (buffers_page q) r.head) (buffer_offset r.head) (reserved_pages size) r.pages
     (record {
       addr = refl;
       len = refl;

@@ -1,6 +1,6 @@
 -- What a call of `supply_from` makes of one page and of the rest.
-use Rattle.std.specs.Prelude.{◌≡◌, ℕ, suc, ◌+◌, ◌-◌, ◌<◌, ◌≤◌, Bool, true, false, not, cond, List}
-use Rattle.std.specs.Prelude.{[], ◌∷◌, length, Option, Some, None, is_some, is_none, filter, Result}
+use Rattle.std.specs.Prelude.{◌≡◌, ℕ, suc, ◌+◌, ◌-◌, ◌<◌, ◌≤◌, Bool, true, false, ◌&&◌, cond, List}
+use Rattle.std.specs.Prelude.{[], ◌∷◌, length, Option, Some, None, is_none, filter, Result}
 use Rattle.std.specs.Prelude.{Ok, Err, IsErrAnd, ◌++◌, refl}
 use Rattle.std.specs.List.{range_with_len}
 use Rattle.std.proofs.lemmas.List.{append-nil, append_assoc}
@@ -10,83 +10,83 @@ use Rattle.vb_model.specs.declared.calls.Claim.TheVariants.{Gave, GaveNoFrame, G
 use Rattle.vb_ram.specs.Pages.{Pages, frame_at, number_of, Supplied}
 use Rattle.vb_frames.specs.declared.keeper.Refused.{Refused}
 use Rattle.vb_frames.specs.declared.keeper.Refused.TheVariants.{NoFrame, Memory}
+use Rattle.vb_model.specs.Layout.{reserved_pages, is_start_page}
 use Rattle.vb_model.specs.Tests.{one_if}
 use Rattle.vb_model.specs.Driver.{given}
 use Rattle.vb_model.specs.Orderly.{times}
+use Rattle.vb_model.proofs.Shapes.{reserved_most}
 use Rattle.vb_frames.specs.Out.{claim_in}
 use Rattle.vb_guest.specs.Supply.{Supply, is_used, IsClaimed, Moves, nothing}
-use Rattle.vb_guest.specs.Lives.{bare_from, SuppliesBy}
+use Rattle.vb_guest.specs.Lives.{is_bare, bare_from, SuppliesBy}
 use Rattle.vb_guest.proofs.Supplying.{not_again, supplied_count, supplied_other}
 use Rattle.vb_guest.proofs.Moving.{is_one, times_first, times_one, moves_none, moves_then, moves_as}
 
 -- ---- the pages without frames
 
-abbrev bare_test : Pages → ℕ → Bool
-bare_test mem page = is_none (frame_at mem page)
+pub bare_past : (size : ℕ) (mem : Pages) (page : ℕ) → reserved_pages size ≤ page
+    → bare_from size mem page ≡ []
+bare_past size mem page past =
+    let none : reserved_pages size - page ≡ 0 = omega arith in
+    ap (λ (n : ℕ). filter (is_bare size mem) (range_with_len page n)) none
 
-pub bare_past : (mem : Pages) (page : ℕ) → 13 ≤ page → bare_from mem page ≡ []
-bare_past mem page past =
-    let none : 13 - page ≡ 0 = omega arith in
-    ap (λ (n : ℕ). filter (bare_test mem) (range_with_len page n)) none
+bare_first : (size : ℕ) (mem : Pages) (page : ℕ) → page < reserved_pages size
+    → bare_from size mem page ≡ cond (is_bare size mem page)
+    (page ∷ bare_from size mem (page + 1)) (bare_from size mem (page + 1))
+bare_first size mem page lt =
+    let one : reserved_pages size - page ≡ suc (reserved_pages size - (page + 1)) = omega arith in
+    ap (λ (n : ℕ). filter (is_bare size mem) (range_with_len page n)) one
 
-bare_first : (mem : Pages) (page : ℕ) → page < 13
-    → bare_from mem page ≡ cond (bare_test mem page) (page ∷ bare_from mem (page + 1))
-    (bare_from mem (page + 1))
-bare_first mem page lt =
-    let one : 13 - page ≡ suc (13 - (page + 1)) = omega arith in
-    ap (λ (n : ℕ). filter (bare_test mem) (range_with_len page n)) one
+pub bare_skips : (size : ℕ) (mem : Pages) (page : ℕ) → page < reserved_pages size
+    → is_bare size mem page ≡ false → bare_from size mem page ≡ bare_from size mem (page + 1)
+bare_skips size mem page lt passed =
+    bare_first size mem page lt
+    ∙ ap (λ (b : Bool). cond b (page ∷ bare_from size mem (page + 1))
+    (bare_from size mem (page + 1))) passed
 
-none_or_some : (o : Option ℕ) (b : Bool) → is_some o ≡ b → is_none o ≡ not b
-none_or_some None b e = ap not e
-none_or_some (Some x) b e = ap not e
+pub bare_takes : (size : ℕ) (mem : Pages) (page : ℕ) → page < reserved_pages size
+    → is_bare size mem page ≡ true
+    → bare_from size mem page ≡ page ∷ bare_from size mem (page + 1)
+bare_takes size mem page lt bare =
+    bare_first size mem page lt
+    ∙ ap (λ (b : Bool). cond b (page ∷ bare_from size mem (page + 1))
+    (bare_from size mem (page + 1))) bare
 
-pub bare_skips : (mem : Pages) (page : ℕ) → page < 13 → is_some (frame_at mem page) ≡ true
-    → bare_from mem page ≡ bare_from mem (page + 1)
-bare_skips mem page lt has =
-    bare_first mem page lt
-    ∙ ap (λ (b : Bool). cond b (page ∷ bare_from mem (page + 1)) (bare_from mem (page + 1)))
-    (none_or_some (frame_at mem page) true has)
-
-pub bare_takes : (mem : Pages) (page : ℕ) → page < 13 → is_some (frame_at mem page) ≡ false
-    → bare_from mem page ≡ page ∷ bare_from mem (page + 1)
-bare_takes mem page lt none =
-    bare_first mem page lt
-    ∙ ap (λ (b : Bool). cond b (page ∷ bare_from mem (page + 1)) (bare_from mem (page + 1)))
-    (none_or_some (frame_at mem page) false none)
-
-none_is : (o : Option ℕ) → is_some o ≡ false → o ≡ None
-none_is None e = refl
-none_is (Some x) e = absurd cc
+none_is : (start : Bool) (o : Option ℕ) → (start && is_none o) ≡ true → o ≡ None
+none_is start None e = refl
+none_is true (Some x) e = absurd cc
+none_is false (Some x) e = absurd cc
 
 -- after the rest got frames, the page is still there and has none
-pub still_inside : (Answers : List Bool → Claim → Type 0) (s1 s2 : Supply) (l1 l2 : List Claim)
-    (m m1 m2 : Pages) (page : ℕ) → page < 13 → 64 ≤ length m → m1 ≡ m
-    → SuppliesBy {T = Unit {0}} Answers s1 s2 l1 l2 (bare_from m1 (page + 1)) m1 m2 (Ok tt)
+pub still_inside : (Answers : List Bool → Claim → Type 0) (size : ℕ) (s1 s2 : Supply) (l1 l2 : List Claim)
+    (m m1 m2 : Pages) (page : ℕ) → page < reserved_pages size → 64 ≤ length m → m1 ≡ m
+    → SuppliesBy {T = Unit {0}} Answers s1 s2 l1 l2 (bare_from size m1 (page + 1)) m1 m2 (Ok tt)
     → page < length m2
-still_inside Answers s1 s2 l1 l2 m m1 m2 page lt large same did =
+still_inside Answers size s1 s2 l1 l2 m m1 m2 page lt large same did =
     omega (
       arith,
-      supplied_count (bare_from m1 (page + 1)) _ m1 m2 did.supplied.0,
+      reserved_most size,
+      supplied_count (bare_from size m1 (page + 1)) _ m1 m2 did.supplied.0,
       ap (λ (x : Pages). length x) same,
     )
 
-pub still_bare : (Answers : List Bool → Claim → Type 0) (s1 s2 : Supply) (l1 l2 : List Claim)
-    (m m1 m2 : Pages) (page : ℕ) → is_some (frame_at m page) ≡ false → m1 ≡ m
-    → SuppliesBy {T = Unit {0}} Answers s1 s2 l1 l2 (bare_from m1 (page + 1)) m1 m2 (Ok tt)
+pub still_bare : (Answers : List Bool → Claim → Type 0) (size : ℕ) (s1 s2 : Supply) (l1 l2 : List Claim)
+    (m m1 m2 : Pages) (page : ℕ) → is_bare size m page ≡ true → m1 ≡ m
+    → SuppliesBy {T = Unit {0}} Answers s1 s2 l1 l2 (bare_from size m1 (page + 1)) m1 m2 (Ok tt)
     → frame_at m2 page ≡ None
-still_bare Answers s1 s2 l1 l2 m m1 m2 page none same did =
-    ap number_of (supplied_other (bare_from m1 (page + 1)) _ m1 m2 page did.supplied.0
-    (not_again (bare_test m1) page (13 - (page + 1))))
-    ∙ ap (λ (x : Pages). frame_at x page) same ∙ none_is (frame_at m page) none
+still_bare Answers size s1 s2 l1 l2 m m1 m2 page none same did =
+    ap number_of (supplied_other (bare_from size m1 (page + 1)) _ m1 m2 page did.supplied.0
+    (not_again (is_bare size m1) page (reserved_pages size - (page + 1))))
+    ∙ ap (λ (x : Pages). frame_at x page) same
+    ∙ none_is (is_start_page size page) (frame_at m page) none
 
 -- ---- what is left
 
-pub supplies_none : (Answers : List Bool → Claim → Type 0) (s : Supply) (l : List Claim) (m : Pages)
-    (page : ℕ) → 13 ≤ page
-    → SuppliesBy {T = Unit {0}} Answers s s l l (bare_from m page) m m (Ok tt)
-supplies_none Answers s l m page past =
+pub supplies_none : (Answers : List Bool → Claim → Type 0) (size : ℕ) (s : Supply) (l : List Claim) (m : Pages)
+    (page : ℕ) → reserved_pages size ≤ page
+    → SuppliesBy {T = Unit {0}} Answers s s l l (bare_from size m page) m m (Ok tt)
+supplies_none Answers size s l m page past =
     subst (λ (pages : List ℕ). SuppliesBy {T = Unit {0}} Answers s s l l pages m m (Ok tt))
-    (sym (bare_past m page past))
+    (sym (bare_past size m page past))
     (record {
       claims = [];
       noted = sym (append-nil l);
@@ -97,27 +97,27 @@ supplies_none Answers s l m page past =
       refused = tt;
     })
 
-pub supplies_rest : (Answers : List Bool → Claim → Type 0) (s1 s2 : Supply) (l1 l2 : List Claim)
-    (m1 m2 : Pages) (page : ℕ) (result : Result (Unit {0}) Refused) → page < 13
-    → is_some (frame_at m1 page) ≡ true
-    → SuppliesBy Answers s1 s2 l1 l2 (bare_from m1 (page + 1)) m1 m2 result
-    → SuppliesBy Answers s1 s2 l1 l2 (bare_from m1 page) m1 m2 result
-supplies_rest Answers s1 s2 l1 l2 m1 m2 page result lt has did =
+pub supplies_rest : (Answers : List Bool → Claim → Type 0) (size : ℕ) (s1 s2 : Supply) (l1 l2 : List Claim)
+    (m1 m2 : Pages) (page : ℕ) (result : Result (Unit {0}) Refused) → page < reserved_pages size
+    → is_bare size m1 page ≡ false
+    → SuppliesBy Answers s1 s2 l1 l2 (bare_from size m1 (page + 1)) m1 m2 result
+    → SuppliesBy Answers s1 s2 l1 l2 (bare_from size m1 page) m1 m2 result
+supplies_rest Answers size s1 s2 l1 l2 m1 m2 page result lt has did =
     subst (λ (l : List ℕ). SuppliesBy Answers s1 s2 l1 l2 l m1 m2 result)
-    (sym (bare_skips m1 page lt has)) did
+    (sym (bare_skips size m1 page lt has)) did
 
 -- the page's claim is refused
-pub supplies_refused : (Answers : List Bool → Claim → Type 0) (s1 s2 : Supply) (l1 l2 : List Claim)
-    (m1 m2 : Pages) (page : ℕ) (why : Refused) → page < 13 → is_some (frame_at m1 page) ≡ false
+pub supplies_refused : (Answers : List Bool → Claim → Type 0) (size : ℕ) (s1 s2 : Supply) (l1 l2 : List Claim)
+    (m1 m2 : Pages) (page : ℕ) (why : Refused) → page < reserved_pages size → is_bare size m1 page ≡ true
     → IsClaimed Answers s1 s2 (claim_in (Err why)) → l2 ≡ l1 ++ (claim_in (Err why) ∷ [])
-    → m2 ≡ m1 → SuppliesBy {T = Unit {0}} Answers s1 s2 l1 l2 (bare_from m1 page) m1 m2 (Err why)
-supplies_refused Answers s1 s2 l1 l2 m1 m2 page why lt none answer noted m =
+    → m2 ≡ m1 → SuppliesBy {T = Unit {0}} Answers s1 s2 l1 l2 (bare_from size m1 page) m1 m2 (Err why)
+supplies_refused Answers size s1 s2 l1 l2 m1 m2 page why lt none answer noted m =
     subst (λ (l : List ℕ). SuppliesBy {T = Unit {0}} Answers s1 s2 l1 l2 l m1 m2 (Err why))
-    (sym (bare_takes m1 page lt none)) (by why answer noted)
+    (sym (bare_takes size m1 page lt none)) (by why answer noted)
   where
     by : (w : Refused) → IsClaimed Answers s1 s2 (claim_in (Err w))
         → l2 ≡ l1 ++ (claim_in (Err w) ∷ [])
-        → SuppliesBy {T = Unit {0}} Answers s1 s2 l1 l2 (page ∷ bare_from m1 (page + 1)) m1 m2
+        → SuppliesBy {T = Unit {0}} Answers s1 s2 l1 l2 (page ∷ bare_from size m1 (page + 1)) m1 m2
         (Err w)
     by NoFrame a n = record {
       claims = GaveNoFrame ∷ [];
@@ -151,20 +151,20 @@ noted_first l1 l2 l3 claims claim first rest =
     rest ∙ ap (λ (l : List Claim). l ++ claims) first ∙ append_assoc l1 (claim ∷ []) claims
 
 -- the page's claim was answered, and then the rest got frames, and the page the claimed one
-pub supplies_all : (Answers : List Bool → Claim → Type 0) (s1 s2 s3 : Supply)
-    (l1 l2 l3 : List Claim) (m1 m2 m3 m4 : Pages) (page n : ℕ) → page < 13
-    → is_some (frame_at m1 page) ≡ false
+pub supplies_all : (Answers : List Bool → Claim → Type 0) (size : ℕ) (s1 s2 s3 : Supply)
+    (l1 l2 l3 : List Claim) (m1 m2 m3 m4 : Pages) (page n : ℕ) → page < reserved_pages size
+    → is_bare size m1 page ≡ true
     → IsClaimed Answers s1 s2 (Gave n) → l2 ≡ l1 ++ (Gave n ∷ []) → m2 ≡ m1
-    → SuppliesBy {T = Unit {0}} Answers s2 s3 l2 l3 (bare_from m2 (page + 1)) m2 m3 (Ok tt)
+    → SuppliesBy {T = Unit {0}} Answers s2 s3 l2 l3 (bare_from size m2 (page + 1)) m2 m3 (Ok tt)
     → frame_at m3 page ≡ None → Supplied m3 m4 page n
-    → SuppliesBy {T = Unit {0}} Answers s1 s3 l1 l3 (bare_from m1 page) m1 m4 (Ok tt)
-supplies_all Answers s1 s2 s3 l1 l2 l3 m1 m2 m3 m4 page n lt none answer noted same rest bare did =
-    let here : SuppliesBy {T = Unit {0}} Answers s2 s3 l2 l3 (bare_from m1 (page + 1)) m1 m3 (Ok tt)
-    = subst (λ (m : Pages). SuppliesBy {T = Unit {0}} Answers s2 s3 l2 l3 (bare_from m (page + 1)) m
+    → SuppliesBy {T = Unit {0}} Answers s1 s3 l1 l3 (bare_from size m1 page) m1 m4 (Ok tt)
+supplies_all Answers size s1 s2 s3 l1 l2 l3 m1 m2 m3 m4 page n lt none answer noted same rest bare did =
+    let here : SuppliesBy {T = Unit {0}} Answers s2 s3 l2 l3 (bare_from size m1 (page + 1)) m1 m3 (Ok tt)
+    = subst (λ (m : Pages). SuppliesBy {T = Unit {0}} Answers s2 s3 l2 l3 (bare_from size m (page + 1)) m
     m3 (Ok tt)) same rest in
     let claims = here.claims in
     subst (λ (l : List ℕ). SuppliesBy {T = Unit {0}} Answers s1 s3 l1 l3 l m1 m4 (Ok tt))
-    (sym (bare_takes m1 page lt none)) (record {
+    (sym (bare_takes size m1 page lt none)) (record {
       claims = Gave n ∷ claims;
       noted = noted_first l1 l2 l3 claims (Gave n) noted here.noted;
       made = here.made;
@@ -182,24 +182,24 @@ supplies_all Answers s1 s2 s3 l1 l2 l3 m1 m2 m3 m4 page n lt none answer noted s
     })
 
 -- the page's claim was answered, but one of the rest was refused: the frame goes back
-pub supplies_back : (Answers : List Bool → Claim → Type 0) (s1 s2 s3 s4 : Supply)
-    (l1 l2 l3 : List Claim) (m1 m2 m3 m4 : Pages) (page n : ℕ) (why : Refused) → page < 13
-    → is_some (frame_at m1 page) ≡ false
+pub supplies_back : (Answers : List Bool → Claim → Type 0) (size : ℕ) (s1 s2 s3 s4 : Supply)
+    (l1 l2 l3 : List Claim) (m1 m2 m3 m4 : Pages) (page n : ℕ) (why : Refused) → page < reserved_pages size
+    → is_bare size m1 page ≡ true
     → IsClaimed Answers s1 s2 (Gave n) → l2 ≡ l1 ++ (Gave n ∷ []) → m2 ≡ m1
-    → SuppliesBy {T = Unit {0}} Answers s2 s3 l2 l3 (bare_from m2 (page + 1)) m2 m3 (Err why)
+    → SuppliesBy {T = Unit {0}} Answers s2 s3 l2 l3 (bare_from size m2 (page + 1)) m2 m3 (Err why)
     → m4 ≡ m3 → Moves s3 s4 nothing (λ x. times x (n ∷ []))
-    → SuppliesBy {T = Unit {0}} Answers s1 s4 l1 l3 (bare_from m1 page) m1 m4 (Err why)
-supplies_back Answers s1 s2 s3 s4 l1 l2 l3 m1 m2 m3 m4 page n why lt none answer noted same rest
+    → SuppliesBy {T = Unit {0}} Answers s1 s4 l1 l3 (bare_from size m1 page) m1 m4 (Err why)
+supplies_back Answers size s1 s2 s3 s4 l1 l2 l3 m1 m2 m3 m4 page n why lt none answer noted same rest
     left back =
-    let here : SuppliesBy {T = Unit {0}} Answers s2 s3 l2 l3 (bare_from m1 (page + 1)) m1 m3
+    let here : SuppliesBy {T = Unit {0}} Answers s2 s3 l2 l3 (bare_from size m1 (page + 1)) m1 m3
     (Err why)
-    = subst (λ (m : Pages). SuppliesBy {T = Unit {0}} Answers s2 s3 l2 l3 (bare_from m (page + 1)) m
+    = subst (λ (m : Pages). SuppliesBy {T = Unit {0}} Answers s2 s3 l2 l3 (bare_from size m (page + 1)) m
     m3 (Err why)) same rest in
     let claims = here.claims in
     let out = moves_then s1 s2 s3 (λ x. times x (n ∷ [])) nothing nothing nothing answer.moves
     here.refused.1 in
     subst (λ (l : List ℕ). SuppliesBy {T = Unit {0}} Answers s1 s4 l1 l3 l m1 m4 (Err why))
-    (sym (bare_takes m1 page lt none)) (record {
+    (sym (bare_takes size m1 page lt none)) (record {
       claims = Gave n ∷ claims;
       noted = noted_first l1 l2 l3 claims (Gave n) noted here.noted;
       made = here.made;

@@ -24,7 +24,6 @@ use Rattle.vb_ram.specs.Pages.{Pages}
 use Rattle.vb_ram.specs.Part.{Part}
 use Rattle.vb_ring.specs.Ends.{outstanding as outstanding_in}
 use Rattle.vb_driver.specs.declared.answers.Posted.{Posted as PostedRequest}
-use Rattle.vb_driver.specs.Coding.{SameButBuffer}
 use Rattle.vb_driver.specs.State.{FreePages, DriverState, IsDriver}
 use Rattle.vb_driver.specs.Answers.{refusal_in, deflate_tests, oom_tests}
 use Rattle.vb_driver.specs.Answers.{deflate_count as driver_count}
@@ -32,6 +31,10 @@ use Rattle.vb_driver.specs.Calls.{Unchanged, AsksBack, DeflatesBy, DeflatesOnOom
 use Rattle.vb_guest.specs.Stands.{Honest, Ties, IsRunning}
 use Rattle.vb_guest.specs.Steps.{StepsAlone}
 use Rattle.vb_guest.specs.Replies.{posted_reply}
+use Rattle.vb_model.specs.Layout.{buffer_page}
+use Rattle.vb_model.proofs.Shapes.{reserved_least}
+use Rattle.vb_guest.proofs.RunApart.{sizes_of, ring_of, buffer_clear, post_leaves, post_same}
+use Rattle.vb_guest.proofs.Offered.{asked_as}
 use Rattle.vb_guest.proofs.Apart.{line_apart}
 use Rattle.vb_guest.proofs.BufferLines.{buffer_apart}
 use Rattle.vb_guest.proofs.ReportLines.{report_apart}
@@ -39,7 +42,7 @@ use Rattle.vb_guest.proofs.Posting.{line_posted, least_head, outstanding_are}
 use Rattle.vb_guest.proofs.PagesKept.{pages_same}
 use Rattle.vb_guest.proofs.Closing.{honest_performed, steps_alone, refused_alone}
 use Rattle.vb_guest.proofs.Offered.{last_sound, deflate_requested}
-use Rattle.vb_guest.proofs.InflateStep.{request_refusal, posted_same, post_apart}
+use Rattle.vb_guest.proofs.InflateStep.{request_refusal}
 use Rattle.vb_guest.proofs.DriverWords.{Sides, sides_of, driver_of, driver_is, keeps_own}
 
 -- ---- the lowest lent pages are as many as were asked for
@@ -107,12 +110,17 @@ asked_back m1 m2 p1 p2 g areas sides d2 call count posted asks driver did stands
     let asked = deflate_requested g count stands.orderly once
     (omega (arith, length_is, asks.some free run.state)) (omega (arith, length_is, asks.few)) in
     let line = line_posted m1 m2 1 g.config.pages sides.deflate d2.deflate p1.deflate g.deflate
-    posted.head pages (omega arith) single asked run.deflate did.posts in
-    let table : sides.deflate.ring.layout.table ≡ 1 = ap (λ l. l.table) run.deflate.ring.layout in
-    let B : ℕ → Type 0 = λ r. SameButBuffer m1 m2 r 8 posted.head in
-    let rest : B 1 = subst B table did.posts.rest in
-    let apart = post_apart m1 m2 1 8 posted.head 0 (omega arith) (omega arith)
-    (λ p from to. (omega arith, omega (arith, did.posts.small))) rest in
+    posted.head pages single (asked_as sides.deflate.ring.size g pages run.deflate_size asked)
+    run.deflate did.posts in
+    let size = g.config.queue_size in
+    let rest = did.posts.rest in
+    let buffer : ℕ = buffer_page 8 posted.head in
+    let small : buffer < 12 = omega (arith, did.posts.small) in
+    let ring = ring_of size 1 sides.deflate.ring run.deflate.ring.sized run.deflate.ring.layout
+    run.deflate_size in
+    let leaves = post_leaves m1 m2 (driver_of g areas sides) size 1 buffer
+    sides.deflate.ring.layout (sizes_of m1 p1 (driver_of g areas sides) g run) ring
+    (buffer_clear size 1 buffer (omega arith) (omega (arith, small))) rest.others in
     let after : DriverState = driver_of new (areas_asked pages (driver_of g areas sides))
     (record sides { deflate = d2.deflate }) in
     let there : Ties m2 p1 after new = record {
@@ -121,8 +129,9 @@ asked_back m1 m2 p1 p2 g areas sides d2 call count posted asks driver did stands
         driver = keeps_own new _ _;
         device = ties.parts.device;
       };
-      pages = pages_same m1 m2 g.config.pages _ _
-          (posted_same m1 m2 1 8 posted.head (omega arith) (omega arith) did.posts.small rest)
+      pages = pages_same m1 m2 g.config.queue_size g.config.pages _ _
+          (post_same m1 m2 size 1 buffer sides.deflate.ring.layout ring
+          (omega (arith, small, reserved_least size)) rest.count rest.backing rest.others)
           ties.pages;
       queues = inr (record {
         state = run.state;
@@ -132,12 +141,12 @@ asked_back m1 m2 p1 p2 g areas sides d2 call count posted asks driver did stands
         statistics_size = run.statistics_size;
         report_size = run.report_size;
         statistics = buffer_apart m1 m2 sides.statistics p1.statistics g.buffer
-            (rest.others 2 (omega arith) (omega arith))
-            (rest.others 12 (omega arith) (omega (arith, did.posts.small))) run.statistics;
+            (leaves.statistics (omega arith)) (leaves.buffer (omega (arith, small)))
+            run.statistics;
         report = report_apart m1 m2 g.config.pages sides.report p1.report g.report
-            (rest.others 3 (omega arith) (omega arith)) run.report;
-        inflate = line_apart m1 m2 0 g.config.pages sides.inflate p1.inflate g.inflate apart
-            run.inflate;
+            (leaves.report (omega arith)) run.report;
+        inflate = line_apart m1 m2 0 g.config.pages sides.inflate p1.inflate g.inflate
+            (leaves.inflate (omega arith) (λ p from to. omega (arith, to))) run.inflate;
         deflate = line;
       });
     } in

@@ -94,7 +94,8 @@ pub begins : (Answers : List Bool → Claim → Type 0) (s1 : Supply) (out2 : Li
     (m1 mid m2 : Pages) (p1 part p2 : Part) (d1 d2 : DriverState) (claims : List Claim)
     (wanted : ℕ) (got : Result (Unit {0}) Refused) (r : Result (Unit {0}) Refusal)
     → p1.status ≡ 0 → part ≡ record p1 { own = part.own }
-    → SuppliesBy {T = Unit {0}} Answers s1 (supply_of part out2) [] claims (bare_from m1 0) m1 mid got
+    → SuppliesBy {T = Unit {0}} Answers s1 (supply_of part out2) [] claims
+    (bare_from d1.queue_size m1 0) m1 mid got
     → Continues got mid m2 part p2 d1 d2 wanted r
     → InitialisesBy Answers s1 out2 m1 m2 p1 p2 d1 d2 claims wanted r
 begins Answers s1 out2 m1 mid m2 p1 part p2 d1 d2 claims wanted got r new own supplies continues =

@@ -1,5 +1,5 @@
 -- A guest's finish of a report is a step of the definitions.
-use Rattle.std.specs.Prelude.{◌≡◌, ◌≢◌, ℕ, zero, suc, ◌<◌, ◌≤◌, List, [], ◌∷◌}
+use Rattle.std.specs.Prelude.{◌≡◌, ℕ, zero, suc, ◌<◌, ◌≤◌, List, [], ◌∷◌}
 use Rattle.std.specs.Prelude.{All, Result, Option, Some, None, is_some, slice_get, refl}
 use Rattle.std.specs.Option.{option_to_list}
 use Rattle.std.specs.List.{flat_map}
@@ -18,9 +18,8 @@ use Rattle.vb_model.specs.Tables.{finish_tests}
 use Rattle.vb_model.specs.Refusals.{refusal_of}
 use Rattle.vb_model.specs.Orderly.{times, IsRequestSound, AllRequestsSound}
 use Rattle.vb_model.proofs.Distinct.{distinct_once}
-use Rattle.vb_ram.specs.Pages.{Pages, page_at, number_of}
+use Rattle.vb_ram.specs.Pages.{Pages, number_of}
 use Rattle.vb_ram.specs.Part.{Part}
-use Rattle.vb_ring.specs.declared.layout.Layout.{Layout}
 use Rattle.vb_driver.specs.State.{DriverState}
 use Rattle.vb_device.specs.Conditions.{finish_refusal}
 use Rattle.vb_device.specs.Discards.{discarded, frames_behind}
@@ -30,6 +29,11 @@ use Rattle.vb_guest.specs.Reported.{IsReport}
 use Rattle.vb_guest.specs.Stands.{Honest, Ties, IsRunning}
 use Rattle.vb_guest.specs.Steps.{StepsFreeing}
 use Rattle.vb_guest.specs.Replies.{finished_reply}
+use Rattle.vb_model.specs.Layout.{reserved_pages}
+use Rattle.vb_model.proofs.Shapes.{start_reserved}
+use Rattle.vb_guest.proofs.Apart.{SameReserved}
+use Rattle.vb_guest.proofs.RingApart.{ring_parts}
+use Rattle.vb_guest.proofs.RunApart.{sizes_of, queues_same, others_same, ring_low, above_as, ring_as}
 use Rattle.vb_guest.proofs.Apart.{line_apart}
 use Rattle.vb_guest.proofs.BufferLines.{buffer_apart}
 use Rattle.vb_guest.proofs.ReportLines.{report_apart, report_used}
@@ -82,9 +86,12 @@ report_finished m1 m2 p1 p2 d g i r result is did stands run free =
     let P : Request → Type 0 = IsReport d.report.ring.size n d.report.blocks in
     let request : P r = subst P (get_or_from_slice_get g.report.taken i r r is)
     (run.report.taken i r (slice_get_within g.report.taken i r is)) in
-    let inside = own_pages n d.report.blocks request.blocks_are in
-    let above : All (λ page. 16 ≤ page) r.pages =
-    subst (All (λ page. 16 ≤ page)) (sym request.names) inside.0 in
+    let size = g.config.queue_size in
+    let own = d.report.ring.size in
+    let inside = own_pages own n d.report.blocks request.blocks_are in
+    let above : All (λ page. reserved_pages size ≤ page) r.pages =
+    above_as size own r.pages run.report_size
+    (subst (All (λ page. reserved_pages own ≤ page)) (sym request.names) inside.0) in
     let below : All (λ page. page < n) r.pages =
     subst (All (λ page. page < n)) (sym request.names) inside.1 in
     let distinct : AllDistinct r.pages =
@@ -93,18 +100,18 @@ report_finished m1 m2 p1 p2 d g i r result is did stands run free =
     let adds = same_end bare m2 4 p1.queue_size p1.report.next_avail p1.report.next_used
     d.report.ring _ r.head run.report.ring.layout
     (ties.parts.device.size ∙ sym run.report_size) did.memory in
-    let low : (p : ℕ) → p < 16
-    → page_at bare p ≡ page_at m1 p =
-    λ p lt. page_undiscarded r.pages m1 p (not_among r.pages p above lt) in
-    let used_low : d.report.ring.layout.used.page ≡ 3 =
-    ap (λ (l : Layout). l.used.page) run.report.ring.layout in
-    let same : SamePages bare m2 = used_same bare m2
-    (end_by d.report.ring.layout d.report.ring.size p1.report.next_avail p1.report.next_used) _
-    r.head 0 (omega (arith, used_low)) adds in
-    let apart : (p : ℕ) → p < 16 → p ≢ 3
-    → page_at m2 p ≡ page_at m1 p =
-    λ p lt ne. (let other : p ≢ d.report.ring.layout.used.page = λ e. ne (e ∙ used_low) in
-    adds.puts.rest.others p (other, (other, tt)) ∙ low p lt) in
+    let sized = sizes_of m1 p1 d g run in
+    let low : SameReserved m1 bare size =
+    λ p lt. page_undiscarded r.pages m1 p (not_among (reserved_pages size) r.pages p above lt) in
+    let used_page = d.report.ring.layout.used.page in
+    let at = (ring_parts 4 d.report.ring run.report.ring.sized run.report.ring.layout).used in
+    let same : SamePages (reserved_pages size) bare m2 = used_same (reserved_pages size) bare m2
+    (end_by d.report.ring.layout own p1.report.next_avail p1.report.next_used) _
+    r.head 0 (ring_low size own 4 used_page run.report_size at) adds in
+    let queues = queues_same m1 bare d size sized low in
+    let others = others_same bare m2 d size 4 used_page sized
+    (ring_as size own 4 used_page run.report_size at)
+    (λ p ne. adds.puts.rest.others p (ne, (ne, tt))) in
     let new : Guest = settled Reporting_free r.pages (used Reporting_free i r g) in
     let step = honest_performed g (Finish 4 i) [] (Finished r.head) new free
     (refl, (r, is, refl, refl)) in
@@ -126,30 +133,27 @@ report_finished m1 m2 p1 p2 d g i r result is did stands run free =
           loose = refl;
         };
       };
-      pages = pages_same bare m2 n _ _ same
-          (pages_discarded m1 n g.frames g.contents r.pages ties.pages);
+      pages = pages_same bare m2 g.config.queue_size n _ _ same
+          (pages_discarded m1 g.config.queue_size n g.frames g.contents r.pages ties.pages);
       queues = inr (record {
         state = run.state;
-        backed = λ p lt. ap is_some (same.behind p ∙ ap number_of (low p (omega arith)))
-            ∙ run.backed p lt;
+        backed = λ p start.
+            ap is_some (same.behind p ∙ ap number_of (low p (start_reserved size p start)))
+            ∙ run.backed p start;
         inflate_size = run.inflate_size;
         deflate_size = run.deflate_size;
         statistics_size = run.statistics_size;
         report_size = run.report_size;
-        inflate = line_apart m1 m2 0 n d.inflate p1.inflate g.inflate (record {
-          ring = apart 0 (omega arith) (omega arith);
-          buffers = λ p from to. apart p (omega arith) (omega arith);
-        }) run.inflate;
-        deflate = line_apart m1 m2 1 n d.deflate p1.deflate g.deflate (record {
-          ring = apart 1 (omega arith) (omega arith);
-          buffers = λ p from to. apart p (omega arith) (omega arith);
-        }) run.deflate;
-        statistics = buffer_apart m1 m2 d.statistics p1.statistics g.buffer
-            (apart 2 (omega arith) (omega arith)) (apart 12 (omega arith) (omega arith))
-            run.statistics;
+        inflate = line_apart bare m2 0 n d.inflate p1.inflate g.inflate (others.inflate (omega arith))
+            (line_apart m1 bare 0 n d.inflate p1.inflate g.inflate queues.inflate run.inflate);
+        deflate = line_apart bare m2 1 n d.deflate p1.deflate g.deflate (others.deflate (omega arith))
+            (line_apart m1 bare 1 n d.deflate p1.deflate g.deflate queues.deflate run.deflate);
+        statistics = buffer_apart bare m2 d.statistics p1.statistics g.buffer
+            (others.statistics (omega arith)) others.buffer
+            (buffer_apart m1 bare d.statistics p1.statistics g.buffer queues.statistics
+            queues.buffer run.statistics);
         report = report_used bare m2 n d.report p1.report g.report i r _
-            (report_apart m1 bare n d.report p1.report g.report (low 3 (omega arith)) run.report)
-            is adds;
+            (report_apart m1 bare n d.report p1.report g.report queues.report run.report) is adds;
       });
     } in
     let numbers : (k : ℕ)

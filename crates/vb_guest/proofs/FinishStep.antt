@@ -1,5 +1,5 @@
 -- A guest's finish is a step of the definitions.
-use Rattle.std.specs.Prelude.{◌≡◌, ◌≢◌, ℕ, ◌+◌, ◌%◌, ◌<◌, Bool, true, false, List}
+use Rattle.std.specs.Prelude.{◌≡◌, ℕ, ◌+◌, ◌%◌, ◌<◌, Bool, true, false, List}
 use Rattle.std.specs.Prelude.{[], All, remove, Result, Option, Some, None, is_some}
 use Rattle.std.specs.Prelude.{slice_get, refl, ◌⊎◌}
 use Rattle.std.proofs.Common.{sym, ◌∙◌, ap, subst, arith, inl, inr}
@@ -15,9 +15,8 @@ use Rattle.vb_model.specs.Guest.{Guest, frame_of}
 use Rattle.vb_model.specs.Device.{used, settled}
 use Rattle.vb_model.specs.Orderly.{times}
 use Rattle.vb_model.specs.Refusals.{refusal_of}
-use Rattle.vb_ram.specs.Pages.{Pages, page_at, number_of}
+use Rattle.vb_ram.specs.Pages.{Pages, number_of}
 use Rattle.vb_ram.specs.Part.{Part}
-use Rattle.vb_ring.specs.declared.layout.Layout.{Layout}
 use Rattle.vb_driver.specs.State.{DriverState}
 use Rattle.vb_device.specs.Conditions.{finish_refusal}
 use Rattle.vb_device.specs.Discards.{discarded, frames_behind, flagged}
@@ -26,7 +25,12 @@ use Rattle.vb_guest.specs.Line.{IsRequest}
 use Rattle.vb_guest.specs.Stands.{Honest, Ties, IsRunning}
 use Rattle.vb_guest.specs.Steps.{StepsFreeing}
 use Rattle.vb_guest.specs.Replies.{finished_reply}
-use Rattle.vb_guest.proofs.Apart.{line_apart, above_apart}
+use Rattle.vb_model.specs.Layout.{reserved_pages}
+use Rattle.vb_model.proofs.Shapes.{start_reserved}
+use Rattle.vb_guest.proofs.Apart.{SameReserved}
+use Rattle.vb_guest.proofs.RingApart.{ring_parts}
+use Rattle.vb_guest.proofs.RunApart.{sizes_of, queues_same, others_same, ring_low, above_as, ring_as}
+use Rattle.vb_guest.proofs.Apart.{line_apart}
 use Rattle.vb_guest.proofs.BufferLines.{buffer_apart}
 use Rattle.vb_guest.proofs.ReportLines.{report_apart}
 use Rattle.vb_guest.proofs.EachOnce.{distinct_each_once}
@@ -64,21 +68,19 @@ inflate_finished m1 m2 p1 p2 d g i r result is did stands run free =
     let adds = same_end bare m2 0 p1.queue_size p1.inflate.next_avail p1.inflate.next_used
     d.inflate.ring _ r.head run.inflate.ring.layout
     (ties.parts.device.size ∙ sym run.inflate_size) did.memory in
-    let low : (p : ℕ) → p < 16
-    → page_at bare p ≡ page_at m1 p =
-    λ p lt. page_undiscarded r.pages m1 p (not_among r.pages p request.pages.above lt) in
-    let used_low : d.inflate.ring.layout.used.page ≡ 0 =
-    ap (λ (l : Layout). l.used.page) run.inflate.ring.layout in
-    let same = used_same bare m2 (end_of d.inflate.ring p1.inflate) _ r.head 0
-    (omega (arith, used_low)) adds in
-    let mine = line_apart m1 bare 0 n d.inflate p1.inflate g.inflate
-    (above_apart m1 bare 0 (omega arith) (omega arith) low) run.inflate in
-    let other = line_apart m1 bare 1 n d.deflate p1.deflate g.deflate
-    (above_apart m1 bare 1 (omega arith) (omega arith) low) run.deflate in
-    let apart : (p : ℕ) → 0 < p
-    → page_at m2 p ≡ page_at bare p =
-    λ p lt. (let ne : p ≢ d.inflate.ring.layout.used.page = omega (arith, used_low) in
-    adds.puts.rest.others p (ne, (ne, tt))) in
+    let size = g.config.queue_size in
+    let sized = sizes_of m1 p1 d g run in
+    let low : SameReserved m1 bare size =
+    λ p lt. page_undiscarded r.pages m1 p (not_among (reserved_pages size) r.pages p
+    (above_as size d.inflate.ring.size r.pages run.inflate_size request.pages.above) lt) in
+    let used_page = d.inflate.ring.layout.used.page in
+    let at = (ring_parts 0 d.inflate.ring run.inflate.ring.sized run.inflate.ring.layout).used in
+    let same = used_same (reserved_pages size) bare m2 (end_of d.inflate.ring p1.inflate) _ r.head 0
+    (ring_low size d.inflate.ring.size 0 used_page run.inflate_size at) adds in
+    let queues = queues_same m1 bare d size sized low in
+    let others = others_same bare m2 d size 0 used_page sized
+    (ring_as size d.inflate.ring.size 0 used_page run.inflate_size at)
+    (λ p ne. adds.puts.rest.others p (ne, (ne, tt))) in
     let new : Guest = settled Inflating r.pages (used Inflating i r g) in
     let step = honest_performed g (Finish 0 i) [] (Finished r.head) new free
     (refl, (r, is, refl, refl)) in
@@ -105,27 +107,29 @@ inflate_finished m1 m2 p1 p2 d g i r result is did stands run free =
           loose = refl;
         };
       };
-      pages = pages_same bare m2 n _ _ same
-          (pages_discarded m1 n g.frames g.contents r.pages ties.pages);
+      pages = pages_same bare m2 g.config.queue_size n _ _ same
+          (pages_discarded m1 g.config.queue_size n g.frames g.contents r.pages ties.pages);
       queues = inr (record {
         state = run.state;
-        backed = λ p lt. ap is_some (same.behind p ∙ ap number_of (low p (omega arith)))
-            ∙ run.backed p lt;
+        backed = λ p start.
+            ap is_some (same.behind p ∙ ap number_of (low p (start_reserved size p start)))
+            ∙ run.backed p start;
         inflate_size = run.inflate_size;
         deflate_size = run.deflate_size;
         statistics_size = run.statistics_size;
         report_size = run.report_size;
         statistics = buffer_apart bare m2 d.statistics p1.statistics g.buffer
-            (apart 2 (omega arith)) (apart 12 (omega arith))
-            (buffer_apart m1 bare d.statistics p1.statistics g.buffer (low 2 (omega arith))
-            (low 12 (omega arith)) run.statistics);
-        report = report_apart bare m2 n d.report p1.report g.report (apart 3 (omega arith))
-            (report_apart m1 bare n d.report p1.report g.report (low 3 (omega arith)) run.report);
-        inflate = line_finished bare m2 0 n d.inflate p1.inflate g.inflate i r _ (omega arith) mine
+            (others.statistics (omega arith)) others.buffer
+            (buffer_apart m1 bare d.statistics p1.statistics g.buffer queues.statistics
+            queues.buffer run.statistics);
+        report = report_apart bare m2 n d.report p1.report g.report (others.report (omega arith))
+            (report_apart m1 bare n d.report p1.report g.report queues.report run.report);
+        inflate = line_finished bare m2 0 n d.inflate p1.inflate g.inflate i r _
+            (line_apart m1 bare 0 n d.inflate p1.inflate g.inflate queues.inflate run.inflate)
             is adds;
         deflate = line_apart bare m2 1 n d.deflate p1.deflate g.deflate
-            (record { ring = apart 1 (omega arith); buffers = λ p from to. apart p (omega arith) })
-            other;
+            (others.deflate (omega arith))
+            (line_apart m1 bare 1 n d.deflate p1.deflate g.deflate queues.deflate run.deflate);
       });
     } in
     let numbers : (k : ℕ)
@@ -202,14 +206,14 @@ deflate_finished m1 m2 p1 p2 d g i r result is did stands run free =
     let adds = same_end m1 m2 1 p1.queue_size p1.deflate.next_avail p1.deflate.next_used
     d.deflate.ring _ r.head run.deflate.ring.layout
     (ties.parts.device.size ∙ sym run.deflate_size) did.memory in
-    let used_low : d.deflate.ring.layout.used.page ≡ 1 =
-    ap (λ (l : Layout). l.used.page) run.deflate.ring.layout in
-    let same = used_same m1 m2 (end_of d.deflate.ring p1.deflate) _ r.head 0
-    (omega (arith, used_low)) adds in
-    let apart : (p : ℕ) → p ≢ 1
-    → page_at m2 p ≡ page_at m1 p =
-    λ p other. (let ne : p ≢ d.deflate.ring.layout.used.page = omega (arith, used_low, other) in
-    adds.puts.rest.others p (ne, (ne, tt))) in
+    let size = g.config.queue_size in
+    let used_page = d.deflate.ring.layout.used.page in
+    let at = (ring_parts 1 d.deflate.ring run.deflate.ring.sized run.deflate.ring.layout).used in
+    let same = used_same (reserved_pages size) m1 m2 (end_of d.deflate.ring p1.deflate) _ r.head 0
+    (ring_low size d.deflate.ring.size 1 used_page run.deflate_size at) adds in
+    let others = others_same m1 m2 d size 1 used_page (sizes_of m1 p1 d g run)
+    (ring_as size d.deflate.ring.size 1 used_page run.deflate_size at)
+    (λ p ne. adds.puts.rest.others p (ne, (ne, tt))) in
     let new : Guest = settled Deflating r.pages (used Deflating i r g) in
     let step = honest_performed g (Finish 1 i) [] (Finished r.head) new free
     (refl, (r, is, refl, refl)) in
@@ -236,7 +240,7 @@ deflate_finished m1 m2 p1 p2 d g i r result is did stands run free =
           loose = refl;
         };
       };
-      pages = pages_same m1 m2 n _ _ same ties.pages;
+      pages = pages_same m1 m2 g.config.queue_size n _ _ same ties.pages;
       queues = inr (record {
         state = run.state;
         backed = λ p lt. ap is_some (same.behind p) ∙ run.backed p lt;
@@ -244,15 +248,13 @@ deflate_finished m1 m2 p1 p2 d g i r result is did stands run free =
         deflate_size = run.deflate_size;
         statistics_size = run.statistics_size;
         report_size = run.report_size;
-        statistics = buffer_apart m1 m2 d.statistics p1.statistics g.buffer (apart 2 (omega arith))
-            (apart 12 (omega arith)) run.statistics;
-        report = report_apart m1 m2 n d.report p1.report g.report (apart 3 (omega arith))
+        statistics = buffer_apart m1 m2 d.statistics p1.statistics g.buffer
+            (others.statistics (omega arith)) others.buffer run.statistics;
+        report = report_apart m1 m2 n d.report p1.report g.report (others.report (omega arith))
             run.report;
-        inflate = line_apart m1 m2 0 n d.inflate p1.inflate g.inflate
-            (record { ring = apart 0 (omega arith); buffers = λ p from to. apart p (omega arith) })
+        inflate = line_apart m1 m2 0 n d.inflate p1.inflate g.inflate (others.inflate (omega arith))
             run.inflate;
-        deflate = line_finished m1 m2 1 n d.deflate p1.deflate g.deflate i r _ (omega arith)
-            run.deflate is adds;
+        deflate = line_finished m1 m2 1 n d.deflate p1.deflate g.deflate i r _ run.deflate is adds;
       });
     } in
     subst (λ x. StepsFreeing (Honest m2 (handed_back p2) d) p2.loose g (Finish 1 i)

@@ -1,7 +1,7 @@
 -- The device uses a taken request.
-use Rattle.std.specs.Prelude.{◌≡◌, ◌≢◌, ℕ, ◌+◌, ◌%◌, ◌<◌, true, List, [], ◌∷◌, ◌++◌}
+use Rattle.std.specs.Prelude.{◌≡◌, ◌≢◌, ℕ, ◌+◌, ◌%◌, true, List, [], ◌∷◌, ◌++◌}
 use Rattle.std.specs.Prelude.{remove, Some, slice_get, slice_index_or}
-use Rattle.std.proofs.Common.{sym, ◌∙◌, ap, subst, arith}
+use Rattle.std.proofs.Common.{sym, ◌∙◌, ap, subst}
 use Rattle.std.proofs.lemmas.List.Elements.{All-push}
 use Rattle.std.proofs.lemmas.Option.{get_or_from_slice_get, slice_get_within}
 use Rattle.vb_model.specs.Layout.{ring_page, buffers_page, buffer_page}
@@ -16,7 +16,8 @@ use Rattle.vb_guest.specs.Line.{Line, IsRequest, RingOf, heads_of}
 use Rattle.vb_guest.specs.Ring.{RingStands}
 use Rattle.vb_guest.proofs.Heads.{heads-push, heads-remove, heads-get, all_remove}
 use Rattle.vb_guest.proofs.RingUsed.{ring_used}
-use Rattle.vb_guest.proofs.Apart.{coded_kept}
+use Rattle.vb_guest.proofs.RingApart.{ring_parts}
+use Rattle.vb_guest.proofs.Apart.{buffer_apart_page, coded_kept}
 
 -- the device's end of a queue
 abbrev pub end_of : DriverEnd → QueuePart → DeviceEnd
@@ -47,18 +48,19 @@ requests_used m1 m2 q ring part rs i r after stands is adds =
 
 pub line_finished : (m1 m2 : Pages) (q n : ℕ) (side : RequestSide) (part : QueuePart) (rs : Requests)
     (i : ℕ) (r : Request) (after : DeviceEnd)
-    → ring_page q < buffers_page q → Line m1 q n side part rs → slice_get rs.taken i ≡ Some r
+    → Line m1 q n side part rs → slice_get rs.taken i ≡ Some r
     → AddsUsedBy m1 m2 (end_of side.ring part) after r.head 0
     → Line m2 q n side (record part
     { next_used = (part.next_used + 1) % 65536; taken = remove part.taken i })
     (record rs { taken = remove rs.taken i; done = rs.done ++ (r ∷ []) })
-line_finished m1 m2 q n side part rs i r after low line is adds =
+line_finished m1 m2 q n side part rs i r after line is adds =
     let l = side.ring.layout in
     let P : Request → Type 0 = IsRequest side.ring.size n side.sent in
     let request : P r = subst P (get_or_from_slice_get rs.taken i r r is)
     (line.taken i r (slice_get_within rs.taken i r is)) in
-    let table : l.table ≡ ring_page q = ap (λ x. x.table) line.ring.layout in
-    let used_page : l.used.page ≡ ring_page q = ap (λ x. x.used.page) line.ring.layout in
+    let size = side.ring.size in
+    let table : l.table ≡ ring_page size q = ap (λ x. x.table) line.ring.layout in
+    let used = (ring_parts q side.ring line.ring.sized line.ring.layout).used in
     record {
       ring = requests_used m1 m2 q side.ring part rs i r after line.ring is adds;
       buffers = line.buffers;
@@ -70,7 +72,7 @@ line_finished m1 m2 q n side part rs i r after low line is adds =
           let known = line.posted k d lt in
           let same = adds.descriptors x.head known.inside in
           let apart : buffer_page (buffers_page q) x.head ≢ l.used.page =
-          omega (arith, low, used_page) in
+          buffer_apart_page size q q l.used.page x.head known.few used in
           coded_kept m1 m2 q n side.ring.size side.sent x known
           (ap (λ (p : ℕ). descriptor_at m2 p x.head) (sym table) ∙ same
           ∙ ap (λ (p : ℕ). descriptor_at m1 p x.head) table)

@@ -1,10 +1,10 @@
 -- Frames that pages lost have gone back.
-use Rattle.std.specs.Prelude.{◌≡◌, ℕ, ◌<◌, ◌≤◌, ◌==◌, if◌then◌else◌, Bool}
+use Rattle.std.specs.Prelude.{◌≡◌, ℕ, ◌≤◌}
 use Rattle.std.specs.Prelude.{true, false, [], length, IsSome, ◌⊎◌}
 use Rattle.std.proofs.Common.{subst, arith, inl, inr}
 use Rattle.vb_model.specs.declared.calls.Call.{Call}
 use Rattle.vb_model.specs.declared.replies.Reply.{Reply}
-use Rattle.vb_model.specs.Layout.{ring_page}
+use Rattle.vb_model.specs.Layout.{is_start_page}
 use Rattle.vb_model.specs.Guest.{Guest}
 use Rattle.vb_model.specs.Status.{contains, driver_ok}
 use Rattle.vb_ram.specs.Pages.{Pages, frame_at}
@@ -42,27 +42,22 @@ freed_rogue m2 m3 p2 p3 d g call reply memory part step = record {
 
 -- ---- finish
 
-pub low_if : (a b c : Bool) → (if a then 0 else (if b then 1 else (if c then 2 else 3))) < 13
-low_if true b c = omega arith
-low_if false true c = omega arith
-low_if false false true = omega arith
-low_if false false false = omega arith
-
 pub down_not_ok : (status : ℕ) → (status ≡ 0) ⊎ (status ≡ 131) → contains status driver_ok ≡ true → ⊥
 down_not_ok status (inl e) ok = let P : ℕ
     → Type 0 = λ s. contains s driver_ok ≡ true in let wrong : false ≡ true = subst P e ok in cc
 down_not_ok status (inr e) ok = let P : ℕ
     → Type 0 = λ s. contains s driver_ok ≡ true in let wrong : false ≡ true = subst P e ok in cc
 
--- the ring's page has a frame where the device is initialised
-pub ring_backed : (m : Pages) (p : Part) (d : DriverState) (g : Guest) (q : ℕ) → Honest m p d g
-    → contains p.status driver_ok ≡ true → IsSome (frame_at m (ring_page q))
-ring_backed m p d g q stands ok =
+-- the pages of rings and buffers have frames where the device is initialised
+pub start_backed : (m : Pages) (p : Part) (d : DriverState) (g : Guest) (page : ℕ) → Honest m p d g
+    → contains p.status driver_ok ≡ true → is_start_page g.config.queue_size page ≡ true
+    → IsSome (frame_at m page)
+start_backed m p d g page stands ok start =
     elim stands.ties.queues [
       | inl idle ↦ (let P : ℕ
           → Type 0 = λ s. contains s driver_ok ≡ true in
           absurd (down_not_ok g.status idle.state (subst P stands.ties.parts.device.status ok)))
-      | inr run ↦ run.backed (ring_page q) (low_if (q == 0) (q == 1) (q == 2))
+      | inr run ↦ run.backed page start
     ]
 
 -- a guest has 64 pages at the least

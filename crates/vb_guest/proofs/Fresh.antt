@@ -1,17 +1,11 @@
 -- A guest as it is plugged in, or as a new life begins.
-use Rattle.std.specs.Prelude.{◌≡◌, ℕ, nat_lt, Bool, true, false, if◌then◌else◌, List, [], length}
+use Rattle.std.specs.Prelude.{◌≡◌, ℕ, true, false, List, [], length}
 use Rattle.std.specs.Prelude.{None, zero, suc, count_by, replicate, slice_index_or, refl}
-use Rattle.std.specs.List.{range_with_len}
 use Rattle.std.proofs.Common.{sym, ◌∙◌, ap, arith, inl, inr}
 use Rattle.std.proofs.lemmas.Bool.{cases_lt}
-use Rattle.std.proofs.lemmas.List.{length-replicate, length-map, get_or-replicate, get_or_past}
-use Rattle.std.proofs.lemmas.List.FromFn.{length-range_with_len, get_or-map-range_with_len}
-use Rattle.vb_model.specs.declared.places.Place.TheVariants.{Reserved, Free}
-use Rattle.vb_model.specs.Limits.{is_config, reserved_pages}
-use Rattle.vb_model.specs.Requests.{no_requests}
+use Rattle.std.proofs.lemmas.List.{length-replicate, get_or-replicate, get_or_past}
+use Rattle.vb_model.specs.Limits.{is_config}
 use Rattle.vb_model.specs.Guest.{Config, fresh, no_statistics, zero_page}
-use Rattle.vb_model.specs.Orderly.{IsOrderly, AreOrderly}
-use Rattle.vb_model.specs.Pages.{is_reserved}
 use Rattle.vb_model.proofs.GuestSteps.{fresh_consistent}
 use Rattle.vb_model.proofs.OrderlySteps.{fresh_order}
 use Rattle.vb_model.proofs.Tables.{count_by-cons}
@@ -30,8 +24,9 @@ everywhere {A} n x p = elim (cases_lt p n) [
 ]
 
 -- no page has a frame, and each holds zeros
-bare_pages : (n : ℕ) → HasPages (replicate n None) n (replicate n None) (replicate n zero_page)
-bare_pages n = record {
+bare_pages : (size n : ℕ)
+    → HasPages (replicate n None) size n (replicate n None) (replicate n zero_page)
+bare_pages size n = record {
   length_is = length-replicate n None;
   framed = length-replicate n None;
   filled = length-replicate n zero_page;
@@ -82,7 +77,7 @@ fresh_honest c wanted part fits device = record {
         loose = device.loose;
       };
     };
-    pages = bare_pages c.pages;
+    pages = bare_pages c.queue_size c.pages;
     queues = inl (record {
       state = inl refl;
       inflate = refl;

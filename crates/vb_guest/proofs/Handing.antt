@@ -30,27 +30,28 @@ either : (b : Bool) → (b ≡ true) ⊎ (b ≡ false)
 either true = inl refl
 either false = inr refl
 
-in_high : (pages : List ℕ) (p : ℕ) → All (λ page. 16 ≤ page) pages → is_in p pages ≡ true → 16 ≤ p
-in_high [] p above e = absurd cc
-in_high (x ∷ xs) p above e = elim (either (x == p)) [
-  | inl same ↦ (let is : x ≡ p = eqb-true x p same in let here : 16 ≤ x = above 0 x (omega arith) in
-      omega arith)
-  | inr other ↦ in_high xs p (All-tail (λ page. 16 ≤ page) x xs above)
+in_high : (least : ℕ) (pages : List ℕ) (p : ℕ) → All (λ page. least ≤ page) pages
+    → is_in p pages ≡ true → least ≤ p
+in_high least [] p above e = absurd cc
+in_high least (x ∷ xs) p above e = elim (either (x == p)) [
+  | inl same ↦ (let is : x ≡ p = eqb-true x p same in
+      let here : least ≤ x = above 0 x (omega arith) in omega arith)
+  | inr other ↦ in_high least xs p (All-tail (λ page. least ≤ page) x xs above)
       (ap (λ (b : Bool). b || is_in p xs) (sym other) ∙ e)
 ]
 
 -- a reserved page isn't among those of a request
-pub not_among : (pages : List ℕ) (p : ℕ) → All (λ page. 16 ≤ page) pages → p < 16
-    → is_in p pages ≡ false
-not_among pages p above low = elim (either (is_in p pages)) [
-  | inl e ↦ absurd (let high : 16 ≤ p = in_high pages p above e in omega arith)
+pub not_among : (least : ℕ) (pages : List ℕ) (p : ℕ) → All (λ page. least ≤ page) pages
+    → p < least → is_in p pages ≡ false
+not_among least pages p above low = elim (either (is_in p pages)) [
+  | inl e ↦ absurd (let high : least ≤ p = in_high least pages p above e in omega arith)
   | inr e ↦ e
 ]
 
 -- what is left of memory once a device has used a chain
-pub used_same : (m1 m2 : Pages) (e1 e2 : DeviceEnd) (head len : ℕ) → e1.layout.used.page < 16
-    → AddsUsedBy m1 m2 e1 e2 head len → SamePages m1 m2
-used_same m1 m2 e1 e2 head len low adds = record {
+pub used_same : (least : ℕ) (m1 m2 : Pages) (e1 e2 : DeviceEnd) (head len : ℕ)
+    → e1.layout.used.page < least → AddsUsedBy m1 m2 e1 e2 head len → SamePages least m1 m2
+used_same least m1 m2 e1 e2 head len low adds = record {
   count = adds.puts.rest.count;
   behind = adds.puts.rest.backing;
   holds = λ p high. let apart : p ≢ e1.layout.used.page = omega arith in
@@ -69,14 +70,14 @@ end_by layout size next_avail next_used = record {
 
 -- the device's end of the queue is the one whose ring the driver keeps
 pub same_end : (m1 m2 : Pages) (q size next_avail next_used : ℕ) (ring : DriverEnd)
-    (after : DeviceEnd) (head : ℕ) → ring.layout ≡ layout_of (ring_page q) ring.size
+    (after : DeviceEnd) (head : ℕ) → ring.layout ≡ layout_of (ring_page ring.size q) ring.size
     → size ≡ ring.size
-    → AddsUsedBy m1 m2 (end_by (layout_of (ring_page q) size) size next_avail next_used) after
+    → AddsUsedBy m1 m2 (end_by (layout_of (ring_page size q) size) size next_avail next_used) after
     head 0
     → AddsUsedBy m1 m2 (end_by ring.layout ring.size next_avail next_used) after head 0
 same_end m1 m2 q size next_avail next_used ring after head layout same adds =
     let S : ℕ → Type 0 =
-    λ s. AddsUsedBy m1 m2 (end_by (layout_of (ring_page q) s) s next_avail next_used) after
+    λ s. AddsUsedBy m1 m2 (end_by (layout_of (ring_page s q) s) s next_avail next_used) after
     head 0 in
     let L : Layout → Type 0 =
     λ l. AddsUsedBy m1 m2 (end_by l ring.size next_avail next_used) after head 0 in
@@ -84,11 +85,11 @@ same_end m1 m2 q size next_avail next_used ring after head layout same adds =
 
 -- the next entry of the queue is that of the ring which the driver keeps
 pub same_entry : (mem : Pages) (q size next : ℕ) (ring : DriverEnd)
-    → ring.layout ≡ layout_of (ring_page q) ring.size → size ≡ ring.size
-    → next_entry mem (layout_of (ring_page q) size) size next
+    → ring.layout ≡ layout_of (ring_page ring.size q) ring.size → size ≡ ring.size
+    → next_entry mem (layout_of (ring_page size q) size) size next
     ≡ next_entry mem ring.layout ring.size next
 same_entry mem q size next ring layout same =
-    ap (λ (s : ℕ). next_entry mem (layout_of (ring_page q) s) s next) same
+    ap (λ (s : ℕ). next_entry mem (layout_of (ring_page s q) s) s next) same
     ∙ ap (λ (l : Layout). next_entry mem l ring.size next) (sym layout)
 
 -- the frames behind pages are those of the guest's pages

@@ -1,5 +1,5 @@
 -- A guest's inflate is a step of the definitions.
-use Rattle.std.specs.Prelude.{◌≡◌, ◌≢◌, ℕ, ◌+◌, ◌<◌, ◌≤◌, ◌==◌, ◌&&◌, Bool, true, false, not, nat_le}
+use Rattle.std.specs.Prelude.{◌≡◌, ℕ, ◌<◌, ◌==◌, ◌&&◌, Bool, true, false, not, nat_le}
 use Rattle.std.specs.Prelude.{nat_lt, [], ◌∷◌, ◌++◌, length, Result, Ok, Err, Option, Some, None, IsSome, is_some, refl}
 use Rattle.std.specs.Prelude.{◌⊎◌}
 use Rattle.std.proofs.Common.{sym, ◌∙◌, ap, subst, arith, inl, inr}
@@ -10,28 +10,31 @@ use Rattle.vb_model.specs.declared.replies.Refusal.{Refusal}
 use Rattle.vb_model.specs.declared.replies.Refusal.TheVariants.{NotReady, QueueFull, Nothing}
 use Rattle.vb_model.specs.declared.replies.Refusal.TheVariants.{DeflatePending}
 use Rattle.vb_model.specs.declared.replies.Reply.TheVariants.{Posted}
-use Rattle.vb_model.specs.Layout.{ring_page, buffers_page, buffer_page}
+use Rattle.vb_model.specs.Layout.{buffer_page}
 use Rattle.vb_model.specs.Requests.{outstanding, Inflating}
 use Rattle.vb_model.specs.Guest.{Guest, tells_host}
 use Rattle.vb_model.specs.Driver.{stranded_first, asking}
 use Rattle.vb_model.specs.Refusals.{◌⇒◌, first_refusal, refusal_of, inflate_count, room}
 use Rattle.vb_model.proofs.OrderlySteps.{honest_order}
-use Rattle.vb_ram.specs.Pages.{Pages, frame_at, contents_of}
+use Rattle.vb_ram.specs.Pages.{Pages, frame_at}
 use Rattle.vb_ram.specs.Part.{Part}
 use Rattle.vb_ring.specs.Ends.{outstanding as outstanding_in}
 use Rattle.vb_driver.specs.declared.answers.Posted.{Posted as PostedRequest}
-use Rattle.vb_driver.specs.Coding.{SameButBuffer}
 use Rattle.vb_driver.specs.State.{FreePages, DriverState, IsDriver}
 use Rattle.vb_driver.specs.Answers.{is_up, inflate_tests, inflate_count as driver_count}
 use Rattle.vb_driver.specs.Calls.{Offers, InflatesBy}
 use Rattle.vb_guest.specs.Stands.{Honest, Ties, IsRunning}
 use Rattle.vb_guest.specs.Steps.{StepsAlone}
 use Rattle.vb_guest.specs.Replies.{posted_reply}
-use Rattle.vb_guest.proofs.Apart.{SameLine, line_apart}
+use Rattle.vb_model.specs.Layout.{is_start_page}
+use Rattle.vb_model.proofs.Shapes.{reserved_least}
+use Rattle.vb_guest.proofs.RunApart.{sizes_of, ring_of, buffer_clear, post_leaves, post_same}
+use Rattle.vb_guest.proofs.Offered.{asked_as}
+use Rattle.vb_guest.proofs.Apart.{line_apart}
 use Rattle.vb_guest.proofs.BufferLines.{buffer_apart}
 use Rattle.vb_guest.proofs.ReportLines.{report_apart}
 use Rattle.vb_guest.proofs.Posting.{line_posted, least_head, outstanding_are}
-use Rattle.vb_guest.proofs.PagesKept.{SamePages, pages_same}
+use Rattle.vb_guest.proofs.PagesKept.{pages_same}
 use Rattle.vb_guest.proofs.Closing.{honest_performed, steps_alone, refused_alone}
 use Rattle.vb_guest.proofs.Offered.{last_sound, inflate_requested}
 use Rattle.vb_guest.proofs.DriverWords.{Sides, sides_of, driver_of, driver_is, keeps_own}
@@ -46,15 +49,6 @@ abbrev offer_refusal : Bool → ℕ → ℕ → ℕ → ℕ → Option Refusal
 offer_refusal told pending most out count =
     first_refusal ((nat_le most out ⇒ QueueFull)
     ∷ ((not told && nat_lt 0 pending) ⇒ DeflatePending) ∷ ((count == 0) ⇒ Nothing) ∷ [])
-
--- what a post leaves of memory
-pub posted_same : (m1 m2 : Pages) (ring base head : ℕ) → ring < 16 → base ≤ 8 → head < 16
-    → SameButBuffer m1 m2 ring base head → SamePages m1 m2
-posted_same m1 m2 ring base head low few small same = record {
-  count = same.count;
-  behind = same.backing;
-  holds = λ p high. ap contents_of (same.others p (omega arith) (omega arith));
-}
 
 -- where the device isn't initialised
 idle_refused : (g : Guest) (n : ℕ) → (g.status ≡ 0) ⊎ (g.status ≡ 131)
@@ -93,17 +87,6 @@ running_tests g areas sides p n e t =
     (outstanding_in sides.inflate.ring) (inflate_count g n) in
     subst (λ s. P s p.target) (sym e) (subst (λ x. P 15 x) (sym t) refl)
 
--- the queue on the other side of a post is as before
-pub post_apart : (m1 m2 : Pages) (ring base head other : ℕ) → ring_page other ≢ ring
-    → ring_page other < base
-    → ((p : ℕ) → buffers_page other ≤ p → p < buffers_page other + 4
-    → (p ≢ ring) × (p ≢ buffer_page base head)) → SameButBuffer m1 m2 ring base head
-    → SameLine m1 m2 other
-post_apart m1 m2 ring base head other ne low far same = record {
-  ring = same.others (ring_page other) ne (omega arith);
-  buffers = λ p from to. let (a, b) = far p from to in same.others p a b;
-}
-
 inflate_offered : (m1 m2 : Pages) (p1 p2 : Part) (g : Guest) (areas : FreePages) (sides : Sides)
     (d2 : DriverState) (n : ℕ) (posted : PostedRequest)
     → IsDriver (driver_of g areas sides)
@@ -131,12 +114,17 @@ inflate_offered m1 m2 p1 p2 g areas sides d2 n posted driver did stands run free
     let asked = inflate_requested g n did.others stands.orderly did.free once
     (omega (arith, count, some)) (omega (arith, count)) in
     let line = line_posted m1 m2 0 g.config.pages sides.inflate d2.inflate p1.inflate g.inflate
-    posted.head pages (omega arith) single asked run.inflate did.posts in
-    let table : sides.inflate.ring.layout.table ≡ 0 = ap (λ l. l.table) run.inflate.ring.layout in
-    let B : ℕ → Type 0 = λ r. SameButBuffer m1 m2 r 4 posted.head in
-    let rest : B 0 = subst B table did.posts.rest in
-    let apart = post_apart m1 m2 0 4 posted.head 1 (omega arith) (omega arith)
-    (λ p from to. (omega arith, omega (arith, did.posts.small))) rest in
+    posted.head pages single (asked_as sides.inflate.ring.size g pages run.inflate_size asked)
+    run.inflate did.posts in
+    let size = g.config.queue_size in
+    let rest = did.posts.rest in
+    let buffer : ℕ = buffer_page 4 posted.head in
+    let small : buffer < 8 = omega (arith, did.posts.small) in
+    let ring = ring_of size 0 sides.inflate.ring run.inflate.ring.sized run.inflate.ring.layout
+    run.inflate_size in
+    let leaves = post_leaves m1 m2 (driver_of g areas sides) size 0 buffer
+    sides.inflate.ring.layout (sizes_of m1 p1 (driver_of g areas sides) g run) ring
+    (buffer_clear size 0 buffer (omega arith) (omega (arith, small))) rest.others in
     let after : DriverState = driver_of new d2.areas (record sides { inflate = d2.inflate }) in
     let there : Ties m2 p1 after new = record {
       parts = record {
@@ -144,8 +132,9 @@ inflate_offered m1 m2 p1 p2 g areas sides d2 n posted driver did stands run free
         driver = keeps_own new _ _;
         device = ties.parts.device;
       };
-      pages = pages_same m1 m2 g.config.pages _ _
-          (posted_same m1 m2 0 4 posted.head (omega arith) (omega arith) did.posts.small rest)
+      pages = pages_same m1 m2 g.config.queue_size g.config.pages _ _
+          (post_same m1 m2 size 0 buffer sides.inflate.ring.layout ring
+          (omega (arith, small, reserved_least size)) rest.count rest.backing rest.others)
           ties.pages;
       queues = inr (record {
         state = run.state;
@@ -155,13 +144,13 @@ inflate_offered m1 m2 p1 p2 g areas sides d2 n posted driver did stands run free
         statistics_size = run.statistics_size;
         report_size = run.report_size;
         statistics = buffer_apart m1 m2 sides.statistics p1.statistics g.buffer
-            (rest.others 2 (omega arith) (omega arith))
-            (rest.others 12 (omega arith) (omega (arith, did.posts.small))) run.statistics;
+            (leaves.statistics (omega arith)) (leaves.buffer (omega (arith, small)))
+            run.statistics;
         report = report_apart m1 m2 g.config.pages sides.report p1.report g.report
-            (rest.others 3 (omega arith) (omega arith)) run.report;
+            (leaves.report (omega arith)) run.report;
         inflate = line;
-        deflate = line_apart m1 m2 1 g.config.pages sides.deflate p1.deflate g.deflate apart
-            run.deflate;
+        deflate = line_apart m1 m2 1 g.config.pages sides.deflate p1.deflate g.deflate
+            (leaves.deflate (omega arith) (λ p from to. omega (arith, from, small))) run.deflate;
       });
     } in
     steps_alone m1 m2 p1 p2 (driver_of g areas sides) d2 g (Inflate n)
@@ -251,11 +240,12 @@ down_not_up status (inr e) up = let P : ℕ
 
 -- where the device is up, the pages of rings and buffers have frames
 pub up_backed : (m : Pages) (p : Part) (d : DriverState) (g : Guest) → Honest m p d g
-    → is_up p.status ≡ true → (page : ℕ) → page < 13 → IsSome (frame_at m page)
-up_backed m p d g stands up page lt =
+    → is_up p.status ≡ true → (page : ℕ) → is_start_page g.config.queue_size page ≡ true
+    → IsSome (frame_at m page)
+up_backed m p d g stands up page start =
     elim stands.ties.queues [
       | inl idle ↦ (let P : ℕ
           → Type 0 = λ s. is_up s ≡ true in
           absurd (down_not_up g.status idle.state (subst P stands.ties.parts.device.status up)))
-      | inr run ↦ run.backed page lt
+      | inr run ↦ run.backed page start
     ]

@@ -1,6 +1,6 @@
 -- A guest's initialisation is a step of the definitions.
-use Rattle.std.specs.Prelude.{◌≡◌, ◌≢◌, ℕ, zero, suc, ◌+◌, ◌<◌, ◌≤◌, ◌==◌, Bool, true, false, not}
-use Rattle.std.specs.Prelude.{◌&&◌, if◌then◌else◌, cond, List, [], ◌∷◌, length, Option, Some, None}
+use Rattle.std.specs.Prelude.{◌≡◌, ◌≢◌, ℕ, suc, ◌<◌, ◌≤◌, ◌==◌, Bool, true, false, not}
+use Rattle.std.specs.Prelude.{◌-◌, ◌||◌, ◌&&◌, if◌then◌else◌, cond, List, [], ◌∷◌, length, Option, Some, None}
 use Rattle.std.specs.Prelude.{IsSome, is_some, is_none, MatchOption, Result, Ok, Err, filter}
 use Rattle.std.specs.Prelude.{count_by, refl, ◌⊎◌}
 use Rattle.std.specs.List.{range_with_len, list_all}
@@ -15,6 +15,8 @@ use Rattle.vb_model.specs.declared.replies.Refusal.TheVariants.{VersionMissing}
 use Rattle.vb_model.specs.declared.replies.Reply.{Reply}
 use Rattle.vb_model.specs.declared.replies.Reply.TheVariants.{Ready, Refused}
 use Rattle.vb_model.specs.Tests.{is_in}
+use Rattle.vb_model.specs.Limits.{is_between}
+use Rattle.vb_model.specs.Layout.{takes_two_pages, reserved_pages, is_start_page, start_pages}
 use Rattle.vb_model.specs.Guest.{Guest, frame_of, all_backed, version_1}
 use Rattle.vb_model.specs.Guest.{offered_features, stats_vq}
 use Rattle.vb_model.specs.Status.{contains}
@@ -24,6 +26,8 @@ use Rattle.vb_model.specs.Life.{Negotiates}
 use Rattle.vb_model.specs.Driver.{given, claim_refusal, AreClaimsFor, Supplying, figures}
 use Rattle.vb_ram.specs.Pages.{Pages, frame_at, number_of}
 use Rattle.vb_ram.specs.Part.{Part}
+use Rattle.vb_ram.specs.declared.shape.Shape.{Shape}
+use Rattle.vb_model.proofs.Shapes.{reserved_most, start_reserved}
 use Rattle.vb_driver.specs.State.{DriverState}
 use Rattle.vb_driver.specs.Answers.{has_frames, init_tests}
 use Rattle.vb_driver.specs.Calls.{InitsBy, InitRefused, GivesUp}
@@ -34,7 +38,7 @@ use Rattle.vb_guest.specs.Stands.{beside_sides, beside_requests}
 use Rattle.vb_guest.specs.Steps.{is_frame, backing_count, StepsAlone, StepsOver}
 use Rattle.vb_guest.specs.Supply.{Supply, supply_of, Moves, nothing}
 use Rattle.vb_guest.specs.Replies.{ready_reply}
-use Rattle.vb_guest.specs.Lives.{bare_from, AllSupplied, why_unsupplied, SuppliesBy}
+use Rattle.vb_guest.specs.Lives.{is_bare, bare_from, AllSupplied, why_unsupplied, SuppliesBy}
 use Rattle.vb_guest.proofs.Closing.{first_holds, honest_performed, guest_step, still_stands}
 use Rattle.vb_guest.proofs.Closing.{refused_alone, honest_own}
 use Rattle.vb_guest.proofs.Freed.{large}
@@ -83,37 +87,96 @@ filter_same f h (x ∷ xs) same =
     ap (λ (b : Bool). cond b (x ∷ filter f xs) (filter f xs)) (same x)
     ∙ ap (λ (l : List ℕ). cond (h x) (x ∷ l) l) (filter_same f h xs same)
 
-pub bare_is : (m : Pages) (g : Guest) → ((p : ℕ) → frame_at m p ≡ frame_of g.frames p)
-    → bare_from m 0 ≡ lacking g
-bare_is m g behind = filter_same (λ page. is_none (frame_at m page))
-    (λ page. is_none (frame_of g.frames page)) (range_with_len 0 13) (λ x. ap is_none (behind x))
+filter_both : (f h : ℕ → Bool) (xs : List ℕ)
+    → filter f (filter h xs) ≡ filter (λ x. h x && f x) xs
+filter_both f h [] = refl
+filter_both f h (x ∷ xs) = step (h x) (filter_both f h xs)
+  where
+    step : (b : Bool) → filter f (filter h xs) ≡ filter (λ y. h y && f y) xs
+        → filter f (cond b (x ∷ filter h xs) (filter h xs))
+        ≡ cond (b && f x) (x ∷ filter (λ y. h y && f y) xs) (filter (λ y. h y && f y) xs)
+    step true later = ap (λ (l : List ℕ). cond (f x) (x ∷ l) l) later
+    step false later = later
+
+pub bare_is : (size : ℕ) (m : Pages) (g : Guest) → size ≡ g.config.queue_size
+    → ((p : ℕ) → frame_at m p ≡ frame_of g.frames p) → bare_from size m 0 ≡ lacking g
+bare_is size m g same behind =
+    let none : ℕ → Bool = λ page. is_none (frame_of g.frames page) in
+    let all : reserved_pages size - 0 ≡ reserved_pages size = omega arith in
+    filter_same (is_bare size m) (λ page. is_start_page size page && none page)
+    (range_with_len 0 (reserved_pages size - 0))
+    (λ x. ap (λ (b : Bool). is_start_page size x && b) (ap is_none (behind x)))
+    ∙ ap (λ (k : ℕ). filter (λ page. is_start_page size page && none page) (range_with_len 0 k)) all
+    ∙ sym (filter_both none (is_start_page size) (range_with_len 0 (reserved_pages size)))
+    ∙ ap (λ (k : ℕ). filter none (start_pages k)) same
 
 -- once they have frames, each page of rings and buffers has one
-pub now_backed : (m1 m2 : Pages) (numbers : List ℕ) (page : ℕ)
-    → AllSupplied (bare_from m1 0) numbers m1 m2 → page < 13 → IsSome (frame_at m2 page)
-now_backed m1 m2 numbers page supplied lt = elim (either (is_in page (bare_from m1 0))) [
-  | inl there ↦ supplied_backed (bare_from m1 0) numbers m1 m2 page supplied there
-  | inr out ↦ ap (λ o. is_some (number_of o))
-      (supplied_other (bare_from m1 0) numbers m1 m2 page supplied out)
-      ∙ was (frame_at m1 page) refl out
-]
+pub now_backed : (size : ℕ) (m1 m2 : Pages) (numbers : List ℕ) (page : ℕ)
+    → AllSupplied (bare_from size m1 0) numbers m1 m2 → is_start_page size page ≡ true
+    → IsSome (frame_at m2 page)
+now_backed size m1 m2 numbers page supplied start =
+    elim (either (is_in page (bare_from size m1 0))) [
+      | inl there ↦ supplied_backed (bare_from size m1 0) numbers m1 m2 page supplied there
+      | inr out ↦ ap (λ o. is_some (number_of o))
+          (supplied_other (bare_from size m1 0) numbers m1 m2 page supplied out)
+          ∙ was (frame_at m1 page) refl out
+    ]
   where
-    was : (o : Option ℕ) → frame_at m1 page ≡ o → is_in page (bare_from m1 0) ≡ false
+    was : (o : Option ℕ) → frame_at m1 page ≡ o → is_in page (bare_from size m1 0) ≡ false
         → is_some (frame_at m1 page) ≡ true
     was (Some x) e out = ap is_some e
-    was None e out = (let wrong = among (λ q. is_none (frame_at m1 q)) 0 13 page (omega arith)
-        (omega arith) (ap is_none e) in absurd cc)
+    was None e out = (let wrong = among (is_bare size m1) 0 (reserved_pages size - 0) page
+        (omega arith) (omega (arith, start_reserved size page start))
+        (ap (λ (b : Bool). b && is_none (frame_at m1 page)) start ∙ ap is_none e) in absurd cc)
 
-all_below : (test : ℕ → Bool) (a n : ℕ) → ((p : ℕ) → p < a + n → test p ≡ true)
-    → list_all test (range_with_len a n) ≡ true
-all_below test a zero holds = refl
-all_below test a (suc n) holds =
-    ap (λ (b : Bool). b && list_all test (range_with_len (a + 1) n)) (holds a (omega arith))
-    ∙ all_below test (a + 1) n (λ p lt. holds p (omega arith))
+-- there are at most 17 of them
+few_passing : (test : ℕ → Bool) (xs : List ℕ) → length (filter test xs) ≤ length xs
+few_passing test [] = omega arith
+few_passing test (x ∷ xs) = step (test x) (few_passing test xs)
+  where
+    step : (b : Bool) → length (filter test xs) ≤ length xs
+        → length (cond b (x ∷ filter test xs) (filter test xs)) ≤ suc (length xs)
+    step true few = omega (arith, few)
+    step false few = omega (arith, few)
 
-pub has_all : (m : Pages) → ((p : ℕ) → p < 13 → IsSome (frame_at m p)) → has_frames m ≡ true
-has_all m backed = all_below (λ page. is_some (frame_at m page)) 0 13
-    (λ p lt. backed p (omega arith))
+few_start : (size : ℕ) → length (start_pages size) ≤ 17
+few_start size = step (takes_two_pages size)
+  where
+    step : (two : Bool) → length (filter (λ page. (if two then is_between 16 23 page
+        else is_between 0 3 page) || is_between 4 12 page)
+        (range_with_len 0 (if two then 32 else 16))) ≤ 17
+    step true = omega arith
+    step false = omega arith
+
+pub few_bare : (size : ℕ) (m : Pages) → length (bare_from size m 0) ≤ 17
+few_bare size m =
+    let none : ℕ → Bool = λ page. is_none (frame_at m page) in
+    let all : reserved_pages size - 0 ≡ reserved_pages size = omega arith in
+    let same : bare_from size m 0 ≡ filter none (start_pages size) =
+    ap (λ (k : ℕ). filter (is_bare size m) (range_with_len 0 k)) all
+    ∙ sym (filter_both none (is_start_page size) (range_with_len 0 (reserved_pages size))) in
+    omega (
+      arith,
+      ap (λ (l : List ℕ). length l) same,
+      few_passing none (start_pages size),
+      few_start size,
+    )
+
+-- what holds of all that pass a test holds of those that were kept
+all_kept : (keep test : ℕ → Bool) (xs : List ℕ) → ((p : ℕ) → keep p ≡ true → test p ≡ true)
+    → list_all test (filter keep xs) ≡ true
+all_kept keep test [] holds = refl
+all_kept keep test (x ∷ xs) holds = step (keep x) refl (all_kept keep test xs holds)
+  where
+    step : (b : Bool) → keep x ≡ b → list_all test (filter keep xs) ≡ true
+        → list_all test (cond b (x ∷ filter keep xs) (filter keep xs)) ≡ true
+    step true is later = ap (λ (b : Bool). b && list_all test (filter keep xs)) (holds x is) ∙ later
+    step false is later = later
+
+pub has_all : (size : ℕ) (m : Pages)
+    → ((p : ℕ) → is_start_page size p ≡ true → IsSome (frame_at m p)) → has_frames size m ≡ true
+has_all size m backed = all_kept (is_start_page size) (λ page. is_some (frame_at m page))
+    (range_with_len 0 (reserved_pages size)) backed
 
 -- ---- no frames: nothing is changed
 
@@ -123,6 +186,16 @@ pub known_answer : (Answers : List Bool → Claim → Type 0) (s1 s2 : Supply) (
     → SuppliesBy Answers s1 s2 l1 l2 pages m1 m2 value
 known_answer Answers s1 s2 l1 l2 pages m1 m2 result value is did =
     subst (λ (r : Result (Unit {0}) WhyRefused). SuppliesBy Answers s1 s2 l1 l2 pages m1 m2 r) is did
+
+-- the pages by the driver's own shape
+pub by_size : (Answers : List Bool → Claim → Type 0) (s1 s2 : Supply) (l1 l2 : List Claim)
+    (m1 m2 : Pages) (shape : Shape) (size : ℕ) (result : Result (Unit {0}) WhyRefused)
+    → shape ≡ record { queue_size = size }
+    → SuppliesBy Answers s1 s2 l1 l2 (bare_from shape.queue_size m1 0) m1 m2 result
+    → SuppliesBy Answers s1 s2 l1 l2 (bare_from size m1 0) m1 m2 result
+by_size Answers s1 s2 l1 l2 m1 m2 shape size result same did =
+    subst (λ (x : Shape). SuppliesBy Answers s1 s2 l1 l2 (bare_from x.queue_size m1 0) m1 m2 result)
+    same did
 
 pub first_noted : (Answers : List Bool → Claim → Type 0) (s1 s2 : Supply) (l1 l2 : List Claim)
     (pages : List ℕ) (m1 m2 : Pages) (result : Result (Unit {0}) WhyRefused) → l1 ≡ []
@@ -135,8 +208,8 @@ pub init_unsupplied : (Answers : List Bool → Claim → Type 0) (out1 out2 : Li
     (l : List Claim) (m1 m2 : Pages) (p1 p2 : Part) (d : DriverState) (g : Guest) (wanted : ℕ)
     (why : WhyRefused) (refusal : Refusal)
     → why_unsupplied {T = Unit {0}} (Err why) ≡ Some refusal → p1.status ≡ 0
-    → SuppliesBy {T = Unit {0}} Answers (supply_of p1 out1) (supply_of p2 out2) [] l (bare_from m1 0)
-    m1 m2 (Err why) → p2 ≡ record p1 { own = p2.own } → Honest m1 p1 d g
+    → SuppliesBy {T = Unit {0}} Answers (supply_of p1 out1) (supply_of p2 out2) [] l
+    (bare_from d.queue_size m1 0) m1 m2 (Err why) → p2 ≡ record p1 { own = p2.own } → Honest m1 p1 d g
     → StepsOver (Honest m2 p2 d) Answers (supply_of p1 out1) (supply_of p2 out2) l g (Init wanted)
     (Refused refusal)
 init_unsupplied Answers out1 out2 l m1 m2 p1 p2 d g wanted why refusal is new did part stands =
@@ -149,7 +222,8 @@ init_unsupplied Answers out1 out2 l m1 m2 p1 p2 d g wanted why refusal is new di
     (Negotiates (feature_refusal wanted) wanted after (Refused refusal) g)
     (λ r. (Refused refusal ≡ Refused r) × (g ≡ g)) in
     let made : AreClaimsFor (lacking g) claims =
-    subst (λ (l : List ℕ). AreClaimsFor l claims) (bare_is m1 g ties.pages.behind) did.made in
+    subst (λ (l : List ℕ). AreClaimsFor l claims) (bare_is d.queue_size m1 g
+    ties.parts.driver.queue_size ties.pages.behind) did.made in
     let step = honest_performed g (Init wanted) claims (Refused refusal) g
     (new_test g wanted (sym ties.parts.device.status ∙ new))
     (made, subst P (sym refused) (refl, refl)) in
@@ -189,11 +263,12 @@ given_up m1 m2 p1 p2 d1 d2 wanted why e did =
       | inr is ↦ subst P (sym is) (λ h. h) did
     ]
 
-pub driver_tests : (m : Pages) (p : Part) (wanted : ℕ) → p.status ≡ 0 → has_frames m ≡ true
-    → first_refusal (init_tests m p wanted) ≡ feature_refusal wanted
-driver_tests m p wanted new backed =
+pub driver_tests : (size : ℕ) (m : Pages) (p : Part) (wanted : ℕ) → p.status ≡ 0
+    → has_frames size m ≡ true
+    → first_refusal (init_tests size m p wanted) ≡ feature_refusal wanted
+driver_tests size m p wanted new backed =
     ap (λ (s : ℕ). first_refusal
-    ((not (s == 0) ⇒ AlreadyUp) ∷ (not (has_frames m) ⇒ NoFrame) ∷ feature_tests wanted)) new
+    ((not (s == 0) ⇒ AlreadyUp) ∷ (not (has_frames size m) ⇒ NoFrame) ∷ feature_tests wanted)) new
     ∙ ap (λ (b : Bool). first_refusal ((not b ⇒ NoFrame) ∷ feature_tests wanted)) backed
 
 -- ---- the step
@@ -209,14 +284,17 @@ record Leaves (m : Pages) (p1 p : Part) (d : DriverState) (g : Guest) (frames : 
 
 initialised : (m2 m3 : Pages) (p1 p3 : Part) (d1 d2 : DriverState) (g : Guest)
     (frames : List (Option ℕ)) (wanted : ℕ) (result : Result (Unit {0}) Refusal)
-    → HasPages m2 g.config.pages frames g.contents
-    → ((p : ℕ) → p < 13 → IsSome (frame_at m2 p)) → p1.status ≡ 0 → IsIdle g
+    → HasPages m2 g.config.queue_size g.config.pages frames g.contents
+    → ((p : ℕ) → is_start_page g.config.queue_size p ≡ true → IsSome (frame_at m2 p))
+    → p1.status ≡ 0 → IsIdle g
     → HasParts (beside_queues p1) (beside_sides d1) (beside_requests g)
     → InitsBy m2 m3 p1 p3 d1 d2 wanted result
     → Leaves m3 p1 p3 d2 g frames wanted (ready_reply result)
 initialised m2 m3 p1 p3 d1 d2 g frames wanted (Ok x) has backed new idle parts did =
     let fine : None ≡ feature_refusal wanted =
-    did.refusal ∙ driver_tests m2 p1 wanted new (has_all m2 backed) in
+    did.refusal ∙ driver_tests d1.queue_size m2 p1 wanted new (has_all d1.queue_size m2
+    (λ p start. backed p
+    (subst (λ k. is_start_page k p ≡ true) parts.driver.queue_size start))) in
     let after : Guest =
     record g {
       frames = frames;
@@ -237,7 +315,9 @@ initialised m2 m3 p1 p3 d1 d2 g frames wanted (Ok x) has backed new idle parts d
     }
 initialised m2 m3 p1 p3 d1 d2 g frames wanted (Err why) has backed new idle parts did =
     let wrong : Some why ≡ feature_refusal wanted =
-    did.refusal ∙ driver_tests m2 p1 wanted new (has_all m2 backed) in
+    did.refusal ∙ driver_tests d1.queue_size m2 p1 wanted new (has_all d1.queue_size m2
+    (λ p start. backed p
+    (subst (λ k. is_start_page k p ≡ true) parts.driver.queue_size start))) in
     let accepted = accepted_before why wanted in
     let after : Guest = record g { frames = frames; status = 131; features = accepted } in
     let given : GivesUp m2 m3 p1 p3 d1 d2 accepted =
@@ -258,7 +338,8 @@ pub init_supplied : (Answers : List Bool → Claim → Type 0) (out1 out2 : List
     (m1 m2 m3 : Pages) (p1 p2 p3 : Part) (d1 d2 : DriverState) (g : Guest) (wanted features : ℕ)
     (result : Result (Unit {0}) Refusal) → features ≡ wanted
     → p1.status ≡ 0
-    → SuppliesBy {T = Unit {0}} Answers (supply_of p1 out1) (supply_of p2 out2) [] l (bare_from m1 0)
+    → SuppliesBy {T = Unit {0}} Answers (supply_of p1 out1) (supply_of p2 out2) [] l
+    (bare_from d1.queue_size m1 0)
     m1 m2 (Ok tt)
     → p2 ≡ record p1 { own = p2.own } → InitsBy m2 m3 p2 p3 d1 d2 features result → Honest m1 p1 d1 g
     → StepsOver (Honest m3 p3 d2) Answers (supply_of p1 out1) (supply_of p3 out2) l g (Init wanted)
@@ -267,19 +348,24 @@ init_supplied Answers out1 out2 l m1 m2 m3 p1 p2 p3 d1 d2 g wanted features resu
     part inits stands =
     let ties = stands.ties in
     let n = g.config.pages in
-    let pages = bare_from m1 0 in
+    let size = d1.queue_size in
+    let pages = bare_from size m1 0 in
     let claims = did.claims in
     let frames : List (Option ℕ) = all_backed pages (given claims) g.frames in
     let new_status : g.status ≡ 0 = sym ties.parts.device.status ∙ status in
     let idle = new_is_idle m1 p1 d1 g new_status stands in
-    let distinct = all_distinct (λ page. is_none (frame_at m1 page)) 0 13 in
+    let distinct = all_distinct (is_bare size m1) 0 (reserved_pages size - 0) in
     let below : (p : ℕ) → is_in p pages ≡ true
-    → p < n = λ p there. (let low = bounded (λ page. is_none (frame_at m1 page)) 0 13 p there in
-    let many = large m1 p1 d1 g stands in omega (arith, ties.pages.length_is)) in
-    let has = pages_filled n pages (given claims) m1 m2 g.frames g.contents distinct below
+    → p < n = λ p there. (
+    let low = bounded (is_bare size m1) 0 (reserved_pages size - 0) p there in
+    let many = large m1 p1 d1 g stands in
+    omega (arith, reserved_most size, ties.pages.length_is)) in
+    let has = pages_filled g.config.queue_size n pages (given claims) m1 m2 g.frames g.contents distinct below
     did.supplied.0 ties.pages in
-    let backed : (p : ℕ) → p < 13
-    → IsSome (frame_at m2 p) = λ p lt. now_backed m1 m2 (given claims) p did.supplied.0 lt in
+    let same_size : size ≡ g.config.queue_size = ties.parts.driver.queue_size in
+    let backed : (p : ℕ) → is_start_page g.config.queue_size p ≡ true → IsSome (frame_at m2 p) =
+    λ p start. now_backed size m1 m2 (given claims) p did.supplied.0
+    (subst (λ k. is_start_page k p ≡ true) (sym same_size) start) in
     let between : Part = record p1 { own = p2.own } in
     let same : InitsBy m2 m3 between p3 d1 d2 wanted result =
     subst (λ (f : ℕ). InitsBy m2 m3 between p3 d1 d2 f result) named
@@ -298,7 +384,7 @@ init_supplied Answers out1 out2 l m1 m2 m3 p1 p2 p3 d1 d2 g wanted features resu
     λ l. Supplying l g claims reply left.new
     (λ supplied. Negotiates (feature_refusal wanted) wanted supplied reply left.new) in
     let step = honest_performed g (Init wanted) claims reply left.new (new_test g wanted new_status)
-    (subst S (bare_is m1 g ties.pages.behind) does) in
+    (subst S (bare_is size m1 g same_size ties.pages.behind) does) in
     let after : supply_of p3 out2 ≡ supply_of p2 out2 =
     ap (λ (k : Bool). record { keeps = k; own = p3.own; out = out2 })
     (left.same.flag ∙ sym (ap (λ (p : Part). p.keeps) part))
@@ -317,7 +403,7 @@ init_supplied Answers out1 out2 l m1 m2 m3 p1 p2 p3 d1 d2 g wanted features resu
           (λ x. omega (
             arith,
             frames_filled x n pages claims m1 m2 g.frames did.answer did.made distinct below
-                did.supplied.0 (frames_of m1 n g.frames g.contents ties.pages),
+                did.supplied.0 (frames_of m1 g.config.queue_size n g.frames g.contents ties.pages),
             ap (λ (l : List (Option ℕ)). count_by (is_frame x) l) left.kept,
           )));
     })
@@ -325,11 +411,11 @@ init_supplied Answers out1 out2 l m1 m2 m3 p1 p2 p3 d1 d2 g wanted features resu
 -- memory is as large as it was
 pub still_large : (Answers : List Bool → Claim → Type 0) (s1 s2 : Supply) (l1 l2 : List Claim)
     (m1 m2 : Pages) (p : Part) (d : DriverState) (g : Guest) → Honest m1 p d g
-    → SuppliesBy {T = Unit {0}} Answers s1 s2 l1 l2 (bare_from m1 0) m1 m2 (Ok tt)
+    → SuppliesBy {T = Unit {0}} Answers s1 s2 l1 l2 (bare_from d.queue_size m1 0) m1 m2 (Ok tt)
     → 64 ≤ length m2
 still_large Answers s1 s2 l1 l2 m1 m2 p d g stands did =
     omega (
       arith,
       large m1 p d g stands,
-      supplied_count (bare_from m1 0) (given did.claims) m1 m2 did.supplied.0,
+      supplied_count (bare_from d.queue_size m1 0) (given did.claims) m1 m2 did.supplied.0,
     )

@@ -7,6 +7,7 @@ pub mod RingApart
 pub mod Heads
 pub mod Taking
 pub mod Apart
+mod RunApart
 pub mod Finishing
 pub mod Posting
 pub mod Reaping

@@ -3,7 +3,7 @@ use Rattle.std.specs.Prelude.{◌≡◌, ℕ, zero, suc, ◌<◌, ◌≤◌, ◌
 use Rattle.std.specs.Prelude.{nat_lt, List, [], ◌∷◌, ◌++◌, All, length, slice_index_or}
 use Rattle.std.specs.Prelude.{refl}
 use Rattle.std.specs.List.{list_any}
-use Rattle.std.proofs.Common.{sym, ◌∙◌, ap, arith, inl, inr, eq-eqb}
+use Rattle.std.proofs.Common.{sym, ◌∙◌, ap, subst, arith, inl, inr, eq-eqb}
 use Rattle.std.proofs.lemmas.Bool.{cases_lt}
 use Rattle.std.proofs.lemmas.Bool.Decides.{nat_tests}
 use Rattle.std.proofs.lemmas.List.{get_or_past}
@@ -11,6 +11,7 @@ use Rattle.vb_model.specs.declared.places.Place.{Place}
 use Rattle.vb_model.specs.declared.places.Place.TheVariants.{Reserved, Free, Used, Giving, Lent}
 use Rattle.vb_model.specs.declared.places.Place.TheVariants.{Taking, Stranded, Reporting}
 use Rattle.vb_model.specs.Tests.{is_in}
+use Rattle.vb_model.specs.Layout.{reserved_pages}
 use Rattle.vb_model.specs.Pages.{place_of, is_lent}
 use Rattle.vb_model.specs.Guest.{Guest}
 use Rattle.vb_model.specs.Requests.{Request}
@@ -24,10 +25,11 @@ use Rattle.vb_guest.specs.Line.{AreRequested}
 
 -- a page that isn't at a reserved place is there, and above the reserved ones
 pub high_page : (g : Guest) (page : ℕ) → IsOrderly g → is_reserved (place_of g.places page) ≡ false
-    → (16 ≤ page) × (page < g.config.pages)
+    → (reserved_pages g.config.queue_size ≤ page) × (page < g.config.pages)
 high_page g page orderly free = elim (cases_lt page g.config.pages) [
   | inl lt ↦ (
-    let e : nat_lt page 16 ≡ false = sym (orderly.unreserved page lt) ∙ free in
+    let e : nat_lt page (reserved_pages g.config.queue_size) ≡ false =
+        sym (orderly.unreserved page lt) ∙ free in
         grind (arith, nat_tests),
     lt,
   )
@@ -40,7 +42,8 @@ high_page g page orderly free = elim (cases_lt page g.config.pages) [
 -- pages none of which is at a reserved place are those of a request
 pub high_pages : (g : Guest) (pages : List ℕ) → IsOrderly g
     → ((page : ℕ) → is_in page pages ≡ true → is_reserved (place_of g.places page) ≡ false)
-    → All (λ page. 16 ≤ page) pages × All (λ page. page < g.config.pages) pages
+    → All (λ page. reserved_pages g.config.queue_size ≤ page) pages
+    × All (λ page. page < g.config.pages) pages
 high_pages g pages orderly out = (
   (λ k d lt. (high_page g (slice_index_or pages k d) orderly
       (out (slice_index_or pages k d) (at_in pages k d lt))).0),
@@ -86,11 +89,17 @@ pub last_sound : (rs : List Request) (r : Request) → AllRequestsSound (rs ++ r
 last_sound [] r all = all.0
 last_sound (x ∷ rs) r all = last_sound rs r all.1
 
+-- by the size of the queue's own ring
+pub asked_as : (k : ℕ) (g : Guest) (pages : List ℕ) → k ≡ g.config.queue_size
+    → AreRequested g.config.queue_size g.config.pages pages → AreRequested k g.config.pages pages
+asked_as k g pages same asked =
+    subst (λ (s : ℕ). AreRequested s g.config.pages pages) (sym same) asked
+
 -- the pages of an inflate, and those of a deflate
 pub inflate_requested : (g : Guest) (n : ℕ) (others : List ℕ) → IsOrderly g → AllFreePages g others
     → ((p : ℕ) → times p (stranded_first g n ++ others) ≤ 1)
     → 0 < length (stranded_first g n ++ others) → length (stranded_first g n ++ others) ≤ 256
-    → AreRequested g.config.pages (stranded_first g n ++ others)
+    → AreRequested g.config.queue_size g.config.pages (stranded_first g n ++ others)
 inflate_requested g n others orderly free once some few =
     let high = high_pages g (stranded_first g n ++ others) orderly
     (λ page e. given_high (place_of g.places page) (inflated_pages g n others page free e)) in
@@ -104,7 +113,7 @@ inflate_requested g n others orderly free once some few =
 
 pub deflate_requested : (g : Guest) (n : ℕ) → IsOrderly g
     → ((p : ℕ) → times p (lowest_lent n g) ≤ 1) → 0 < length (lowest_lent n g)
-    → length (lowest_lent n g) ≤ 256 → AreRequested g.config.pages (lowest_lent n g)
+    → length (lowest_lent n g) ≤ 256 → AreRequested g.config.queue_size g.config.pages (lowest_lent n g)
 deflate_requested g n orderly once some few =
     let high = high_pages g (lowest_lent n g) orderly
     (λ page e. lent_high (place_of g.places page) (lent_pages g n page e)) in

@@ -14,6 +14,7 @@ use Rattle.vb_model.specs.declared.places.Place.{Place}
 use Rattle.vb_model.specs.declared.places.Place.TheVariants.{Reserved, Free, Used, Giving, Lent}
 use Rattle.vb_model.specs.declared.places.Place.TheVariants.{Taking, Stranded, Reporting}
 use Rattle.vb_model.specs.Tests.{is_in}
+use Rattle.vb_model.specs.Layout.{reserved_pages}
 use Rattle.vb_model.specs.Pages.{Block, block_at, size, pages_of, pages_of_all, is_free, place_of}
 use Rattle.vb_model.specs.Pages.{is_maximal, blocks_at, blocks_below, maximal_blocks, reported}
 use Rattle.vb_model.specs.Pages.{maximal_free_blocks}
@@ -28,8 +29,9 @@ use Rattle.vb_guest.proofs.Offered.{high_page}
 
 -- ---- the pages in a guest's blocks
 
-pages_high : (n : ℕ) (b : Block) → IsOwnBlock n b → All (λ page. 16 ≤ page) (pages_of b)
-pages_high n b is k d lt =
+pages_high : (descriptors n : ℕ) (b : Block) → IsOwnBlock descriptors n b
+    → All (λ page. reserved_pages descriptors ≤ page) (pages_of b)
+pages_high descriptors n b is k d lt =
     omega (
       arith,
       is.above,
@@ -38,8 +40,8 @@ pages_high n b is k d lt =
           (omega (arith, lt, length-range_with_len b.start (size b))),
     )
 
-pages_low : (n : ℕ) (b : Block) → IsOwnBlock n b → All (λ page. page < n) (pages_of b)
-pages_low n b is k d lt =
+pages_low : (descriptors n : ℕ) (b : Block) → IsOwnBlock descriptors n b → All (λ page. page < n) (pages_of b)
+pages_low descriptors n b is k d lt =
     omega (
       arith,
       lt,
@@ -50,14 +52,16 @@ pages_low n b is k d lt =
     )
 
 -- they are unreserved pages of the guest
-pub own_pages : (n : ℕ) (blocks : List Block) → All (IsOwnBlock n) blocks
-    → All (λ page. 16 ≤ page) (pages_of_all blocks) × All (λ page. page < n) (pages_of_all blocks)
-own_pages n [] own = (All-nil (λ page. 16 ≤ page), All-nil (λ page. page < n))
-own_pages n (b ∷ bs) own =
-    let first : IsOwnBlock n b = own 0 b (omega arith) in
-    let rest = own_pages n bs (All-tail (IsOwnBlock n) b bs own) in (
-      All-append (λ page. 16 ≤ page) (pages_of b) (pages_of_all bs) (pages_high n b first) rest.0,
-      All-append (λ page. page < n) (pages_of b) (pages_of_all bs) (pages_low n b first) rest.1,
+pub own_pages : (size n : ℕ) (blocks : List Block) → All (IsOwnBlock size n) blocks
+    → All (λ page. reserved_pages size ≤ page) (pages_of_all blocks)
+    × All (λ page. page < n) (pages_of_all blocks)
+own_pages size n [] own = (All-nil (λ page. reserved_pages size ≤ page), All-nil (λ page. page < n))
+own_pages size n (b ∷ bs) own =
+    let first : IsOwnBlock size n b = own 0 b (omega arith) in
+    let rest = own_pages size n bs (All-tail (IsOwnBlock size n) b bs own) in (
+      All-append (λ page. reserved_pages size ≤ page) (pages_of b) (pages_of_all bs)
+          (pages_high size n b first) rest.0,
+      All-append (λ page. page < n) (pages_of b) (pages_of_all bs) (pages_low size n b first) rest.1,
     )
 
 -- ---- the blocks that a guest reports
@@ -84,23 +88,24 @@ abbrev IsSmall : Block → Type 0
 IsSmall b = b.order ≤ 9
 
 -- blocks all of whose pages are unreserved ones of the guest
-pages_own : (n : ℕ) (blocks : List Block) → All IsSmall blocks
-    → ((page : ℕ) → is_in page (pages_of_all blocks) ≡ true → (16 ≤ page) × (page < n))
-    → All (IsOwnBlock n) blocks
-pages_own n [] small high = All-nil (IsOwnBlock n)
-pages_own n (b ∷ bs) small high =
+pages_own : (descriptors n : ℕ) (blocks : List Block) → All IsSmall blocks
+    → ((page : ℕ) → is_in page (pages_of_all blocks) ≡ true
+    → (reserved_pages descriptors ≤ page) × (page < n))
+    → All (IsOwnBlock descriptors n) blocks
+pages_own descriptors n [] small high = All-nil (IsOwnBlock descriptors n)
+pages_own descriptors n (b ∷ bs) small high =
     let some : 0 < size b = pow_pos b.order in
     let last : ℕ = b.start + size b - 1 in
     let first = high b.start (in_front b.start (pages_of b) (pages_of_all bs)
     (in_range b.start b.start (size b) (omega arith) (omega arith))) in
     let end = high last (in_front last (pages_of b) (pages_of_all bs)
     (in_range last b.start (size b) (omega arith) (omega arith))) in
-    All-cons (IsOwnBlock n) b bs (record {
+    All-cons (IsOwnBlock descriptors n) b bs (record {
       order = small 0 b (omega arith);
       above = first.0;
       below = omega (arith, end.1, some);
     })
-    (pages_own n bs (All-tail IsSmall b bs small)
+    (pages_own descriptors n bs (All-tail IsSmall b bs small)
     (λ page e. high page (in_back page (pages_of b) (pages_of_all bs) e)))
 
 all_flat : (P : Block → Type 0) (f : ℕ → List Block) (ns : List ℕ) → ((n : ℕ) → All P (f n))
@@ -138,9 +143,9 @@ free_high Reporting e = absurd cc
 
 -- they are the guest's own
 pub reported_own : (g : Guest) (from : ℕ) → IsOrderly g
-    → All (IsOwnBlock g.config.pages) (reported_blocks g from)
+    → All (IsOwnBlock g.config.queue_size g.config.pages) (reported_blocks g from)
 reported_own g from orderly =
-    pages_own g.config.pages (reported_blocks g from)
+    pages_own g.config.queue_size g.config.pages (reported_blocks g from)
     (small_reported (length g.places) (room g) from (λ page. is_free (place_of g.places page)))
     (λ page e. high_page g page orderly
     (free_high (place_of g.places page) (reported_pages g from page e)))

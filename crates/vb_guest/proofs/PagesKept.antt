@@ -3,6 +3,7 @@ use Rattle.std.specs.Prelude.{◌≡◌, ℕ, ◌≤◌, Bool, true, false, if�
 use Rattle.std.specs.Prelude.{Option, None, slice_index_or, refl}
 use Rattle.std.proofs.Common.{sym, ◌∙◌, ap, arith}
 use Rattle.vb_model.specs.Tests.{is_in}
+use Rattle.vb_model.specs.Layout.{reserved_pages}
 use Rattle.vb_model.specs.Guest.{zero_page}
 use Rattle.vb_ram.specs.Pages.{Page, Pages, number_of, contents_of, page_at, frame_at, contents_at}
 use Rattle.vb_ram.proofs.Contents.{length-zero_page}
@@ -10,15 +11,16 @@ use Rattle.vb_device.specs.Discards.{discarded}
 use Rattle.vb_guest.specs.Stands.{HasPages}
 use Rattle.vb_guest.proofs.Discarding.{with_entry, length-with_entry, with_entry-get, with_none-get}
 
--- frames and the contents of unreserved pages are as before
-pub record SamePages (old new : Pages) : Type 0 where
+-- frames, and the contents of pages from this one on, are as before
+pub record SamePages (least : ℕ) (old new : Pages) : Type 0 where
   pub count : length new ≡ length old
   pub behind : (p : ℕ) → frame_at new p ≡ frame_at old p
-  pub holds : (p : ℕ) → 16 ≤ p → contents_at new p ≡ contents_at old p
+  pub holds : (p : ℕ) → least ≤ p → contents_at new p ≡ contents_at old p
 
-pub pages_same : (old new : Pages) (n : ℕ) (frames : List (Option ℕ)) (contents : List (List ℕ))
-    → SamePages old new → HasPages old n frames contents → HasPages new n frames contents
-pages_same old new n frames contents same has = record {
+pub pages_same : (old new : Pages) (size n : ℕ) (frames : List (Option ℕ))
+    (contents : List (List ℕ)) → SamePages (reserved_pages size) old new
+    → HasPages old size n frames contents → HasPages new size n frames contents
+pages_same old new size n frames contents same has = record {
   length_is = same.count ∙ has.length_is;
   framed = has.framed;
   filled = has.filled;
@@ -54,11 +56,11 @@ whole_if : (b : Bool) (xs : List ℕ) → length xs ≡ 4096 → length (if b th
 whole_if true xs len = length-zero_page
 whole_if false xs len = len
 
-pub pages_discarded : (old : Pages) (n : ℕ) (frames : List (Option ℕ)) (contents : List (List ℕ))
-    (pages : List ℕ) → HasPages old n frames contents
-    → HasPages (discarded pages old) n (with_entry pages None frames)
+pub pages_discarded : (old : Pages) (size n : ℕ) (frames : List (Option ℕ))
+    (contents : List (List ℕ)) (pages : List ℕ) → HasPages old size n frames contents
+    → HasPages (discarded pages old) size n (with_entry pages None frames)
     (with_entry pages zero_page contents)
-pages_discarded old n frames contents pages has = record {
+pages_discarded old size n frames contents pages has = record {
   length_is = length-discarded pages old ∙ has.length_is;
   framed = length-with_entry pages None frames ∙ has.framed;
   filled = length-with_entry pages zero_page contents ∙ has.filled;

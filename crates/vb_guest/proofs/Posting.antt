@@ -162,22 +162,22 @@ posted_side s head pages =
 
 pub line_posted : (m1 m2 : Pages) (q n : ℕ) (side after : RequestSide) (part : QueuePart) (rs : Requests)
     (head : ℕ) (pages : List ℕ)
-    → ring_page q < buffers_page q → AreRequests side → AreRequested n pages
+    → AreRequests side → AreRequested side.ring.size n pages
     → Line m1 q n side part rs → Posts m1 m2 side after (buffers_page q) pages head
     → Line m2 q n after part (posting head pages rs)
-line_posted m1 m2 q n side after part rs head pages low single fine line did =
+line_posted m1 m2 q n side after part rs head pages single fine line did =
     let L : RequestSide → Type 0 = λ s. Line m2 q n s part (posting head pages rs) in
     subst L (sym did.state)
-    (line_posted_at m1 m2 q n side part rs head pages low single fine line
+    (line_posted_at m1 m2 q n side part rs head pages single fine line
     (subst (λ s. Posts m1 m2 side s (buffers_page q) pages head) did.state did))
   where
     line_posted_at : (m1 m2 : Pages) (q n : ℕ) (side : RequestSide) (part : QueuePart) (rs : Requests)
         (head : ℕ) (pages : List ℕ)
-        → ring_page q < buffers_page q → AreRequests side → AreRequested n pages
+        → AreRequests side → AreRequested side.ring.size n pages
         → Line m1 q n side part rs
         → Posts m1 m2 side (posted_side side head pages) (buffers_page q) pages head
         → Line m2 q n (posted_side side head pages) part (posting head pages rs)
-    line_posted_at m1 m2 q n side part rs head pages low single fine line did =
+    line_posted_at m1 m2 q n side part rs head pages single fine line did =
         let r : Request = record { head = head; pages = pages; visited = 0 } in
         let l = side.ring.layout in
         let sent = slice_set side.sent head pages in
@@ -186,7 +186,7 @@ line_posted m1 m2 q n side after part rs head pages low single fine line did =
         let none : headed head (all_requests rs) ≡ 0 =
         (least_head m1 q side part rs head line.ring single did.lowest).new in
         let parts = headed-all head rs in
-        let table : l.table ≡ ring_page q = ap (λ x. x.table) line.ring.layout in
+        let table : l.table ≡ ring_page side.ring.size q = ap (λ x. x.table) line.ring.layout in
         let now : P r = record {
           inside = lowest.inside;
           few = did.small;
@@ -203,7 +203,7 @@ line_posted m1 m2 q n side after part rs head pages low single fine line did =
               (omega arith) line.posted) now;
           taken = still_out side.ring.size n side.sent head pages rs.taken (omega arith) line.taken;
           done = still_out side.ring.size n side.sent head pages rs.done (omega arith) line.done;
-          coded = All-push (λ (x : Request). IsCoded m2 (ring_page q) (buffers_page q) x.head
+          coded = All-push (λ (x : Request). IsCoded m2 (ring_page side.ring.size q) (buffers_page q) x.head
               x.pages) rs.posted r (λ k d lt.
               let x = slice_index_or rs.posted k d in
               let known = line.posted k d lt in
@@ -215,7 +215,7 @@ line_posted m1 m2 q n side after part rs head pages low single fine line did =
                     ∙ ap (λ (p : ℕ). descriptor_at m1 p x.head) table ∙ code.descriptor;
                 names = names_kept m1 m2 (buffer_page (buffers_page q) x.head)
                     (buffer_offset x.head) x.pages (buffer_offset x.head + 1024)
-                    (did.rest.buffers x.head apart) (omega (arith, known.pages.few)) code.names;
+                    (did.rest.buffers x.head known.few apart) (omega (arith, known.pages.few)) code.names;
               }) (subst C table did.coded);
           remembers = line.remembers;
         }

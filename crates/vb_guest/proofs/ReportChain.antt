@@ -10,6 +10,7 @@ use Rattle.std.proofs.lemmas.Nat.{pow_pos}
 use Rattle.std.proofs.lemmas.List.{length-map, get_or-map}
 use Rattle.std.proofs.lemmas.List.Elements.{All-tail}
 use Rattle.std.proofs.lemmas.List.FromFn.{length-range_with_len, get_or-range_with_len}
+use Rattle.vb_model.specs.Layout.{reserved_pages}
 use Rattle.vb_model.specs.Pages.{Block, size, pages_of, pages_of_all}
 use Rattle.vb_ram.specs.Pages.{Pages}
 use Rattle.vb_chain.specs.declared.pieces.Piece.{Piece}
@@ -42,14 +43,14 @@ abbrev no_block : Block
 no_block = record { start = 0; order = 0 }
 
 -- its blocks' bytes are pieces that a chain may have
-report_sound : (n : ℕ) (mem : Pages) (blocks : List Block) → length mem ≡ n → 0 < length blocks
-    → All (IsOwnBlock n) blocks → AreSound (4096 * length mem) (pieces_of blocks)
-report_sound n mem blocks len some own = record {
+report_sound : (descriptors n : ℕ) (mem : Pages) (blocks : List Block) → length mem ≡ n → 0 < length blocks
+    → All (IsOwnBlock descriptors n) blocks → AreSound (4096 * length mem) (pieces_of blocks)
+report_sound descriptors n mem blocks len some own = record {
   some = omega (arith, some, length-map blocks piece_of);
   fit = λ k lt.
       let at : k < length blocks = omega (arith, length-map blocks piece_of) in
       let b : Block = slice_index_or blocks k no_block in
-      let is : IsOwnBlock n b = own k no_block at in
+      let is : IsOwnBlock descriptors n b = own k no_block at in
       let here = piece_at blocks k no_block at in
       omega (arith, ap (λ (p : Piece). p.addr) here, ap (λ (p : Piece). p.len) here, is.below, len);
   ordered = λ j k before lt e.
@@ -59,7 +60,8 @@ report_sound n mem blocks len some own = record {
 
 -- its chain has the first descriptors, and a piece for each block
 pub report_chain : (mem : Pages) (table descriptors n : ℕ) (blocks : List Block) → length mem ≡ n
-    → 0 < length blocks → length blocks ≤ descriptors → All (IsOwnBlock n) blocks
+    → 0 < length blocks → length blocks ≤ descriptors
+    → All (IsOwnBlock descriptors n) blocks
     → AreReported mem table blocks
     → ChainGives (descriptor_at mem table) descriptors (4096 * length mem) 0 (pieces_of blocks)
 report_chain mem table descriptors n blocks len some inside own reported =
@@ -82,7 +84,7 @@ report_chain mem table descriptors n blocks len some inside own reported =
     subst G (at 0 some)
     (written_chain (descriptor_at mem table) descriptors (4096 * length mem) path
     (pieces_of blocks) route (long ∙ sym (length-map blocks piece_of))
-    (omega (arith, long, inside)) (report_sound n mem blocks len some own) put)
+    (omega (arith, long, inside)) (report_sound descriptors n mem blocks len some own) put)
 
 -- ---- the pages that it names
 
@@ -105,13 +107,14 @@ all_whole [] = refl
 all_whole (b ∷ bs) =
     ap (λ (v : Bool). v || list_any has_bad_length (pieces_of bs)) (whole_length b) ∙ all_whole bs
 
-right_start : (b : Block) → 16 ≤ b.start → piece_fault (piece_of b) ≡ None
-right_start b above =
+right_start : (reserved : ℕ) (b : Block) → reserved ≤ b.start
+    → piece_fault reserved (piece_of b) ≡ None
+right_start reserved b above =
     let even : ((b.start * 4096) % 4096 == 0) ≡ true =
     eq-eqb ((b.start * 4096) % 4096) 0 (omega arith) in
-    let high : nat_lt ((b.start * 4096) / 4096) 16 ≡ false =
-    le-ltb ((b.start * 4096) / 4096) 16 (omega arith) in
-    by (not ((b.start * 4096) % 4096 == 0)) (nat_lt ((b.start * 4096) / 4096) 16)
+    let high : nat_lt ((b.start * 4096) / 4096) reserved ≡ false =
+    le-ltb ((b.start * 4096) / 4096) reserved (omega arith) in
+    by (not ((b.start * 4096) % 4096 == 0)) (nat_lt ((b.start * 4096) / 4096) reserved)
     (ap (λ (v : Bool). not v) even) high
   where
     by : (a c : Bool) → a ≡ false → c ≡ false
@@ -121,13 +124,15 @@ right_start b above =
     by false true e f = absurd cc
     by true c e f = absurd cc
 
-all_right : (n : ℕ) (blocks : List Block) → All (IsOwnBlock n) blocks
-    → first_piece_fault (pieces_of blocks) ≡ None
-all_right n [] own = refl
-all_right n (b ∷ bs) own =
-    let first : IsOwnBlock n b = own 0 b (omega arith) in
-    ap (λ (o : Option ChainFault). first_of_both o (first_piece_fault (pieces_of bs)))
-    (right_start b first.above) ∙ all_right n bs (All-tail (IsOwnBlock n) b bs own)
+all_right : (size n : ℕ) (blocks : List Block) → All (IsOwnBlock size n) blocks
+    → first_piece_fault (reserved_pages size) (pieces_of blocks) ≡ None
+all_right size n [] own = refl
+all_right size n (b ∷ bs) own =
+    let reserved : ℕ = reserved_pages size in
+    let first : IsOwnBlock size n b = own 0 b (omega arith) in
+    ap (λ (o : Option ChainFault). first_of_both o (first_piece_fault reserved (pieces_of bs)))
+    (right_start reserved b first.above)
+    ∙ all_right size n bs (All-tail (IsOwnBlock size n) b bs own)
 
 piece_pages : (b : Block) → pages_of_piece (piece_of b) ≡ pages_of b
 piece_pages b =
@@ -143,13 +148,14 @@ pages_named (b ∷ bs) =
     ∙ ap (λ (l : List ℕ). pages_of b ++ l) (pages_named bs)
 
 -- it is a report of the pages of its blocks
-pub report_pages : (n : ℕ) (blocks : List Block) → length blocks ≤ 16 → All (IsOwnBlock n) blocks
-    → report_request (pieces_of blocks) ≡ Ok (pages_of_all blocks)
-report_pages n blocks few own =
+pub report_pages : (size n : ℕ) (blocks : List Block) → length blocks ≤ 16
+    → All (IsOwnBlock size n) blocks
+    → report_request (pieces_of blocks) (reserved_pages size) ≡ Ok (pages_of_all blocks)
+report_pages size n blocks few own =
     let short : nat_lt 32 (length (pieces_of blocks)) ≡ false =
     le-ltb 32 (length (pieces_of blocks)) (omega (arith, length-map blocks piece_of)) in
-    by_pieces (pieces_of blocks) (all_writable blocks)
+    by_pieces (reserved_pages size) (pieces_of blocks) (all_writable blocks)
     (ap (λ (v : Bool). v || list_any has_bad_length (pieces_of blocks)) short ∙ all_whole blocks)
     ∙ ap (λ (o : Option ChainFault). unless_fault o (pages_of_pieces (pieces_of blocks)))
-    (all_right n blocks own)
+    (all_right size n blocks own)
     ∙ ap (λ (l : List ℕ). Ok l) (pages_named blocks)

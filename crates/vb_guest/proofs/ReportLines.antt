@@ -1,9 +1,10 @@
 -- What calls make of the queue of reports.
 use Rattle.std.specs.Prelude.{◌≡◌, ℕ, ◌+◌, ◌%◌, ◌<◌, ◌≤◌, true, List, [], ◌∷◌, ◌++◌}
 use Rattle.std.specs.Prelude.{length, remove, Some, Ok, slice_get}
-use Rattle.std.proofs.Common.{sym, ◌∙◌, ap, subst, arith}
+use Rattle.std.proofs.Common.{sym, ◌∙◌, ap, subst, arith, inl, refl}
 use Rattle.std.proofs.lemmas.List.Elements.{All-nil, All-cons, All-push, All-tail}
 use Rattle.std.proofs.lemmas.Option.{get_or_from_slice_get, slice_get_within}
+use Rattle.vb_model.specs.Layout.{ring_page}
 use Rattle.vb_model.specs.Pages.{Block}
 use Rattle.vb_model.specs.Requests.{Request, Requests, no_requests, posting}
 use Rattle.vb_model.specs.Device.{visiting}
@@ -22,7 +23,7 @@ use Rattle.vb_guest.specs.Line.{heads_of}
 use Rattle.vb_guest.specs.Reported.{IsReport, ReportLine}
 use Rattle.vb_guest.proofs.Heads.{heads-push, heads-remove, heads-get, heads-visiting, all-visiting}
 use Rattle.vb_guest.proofs.Heads.{all_remove}
-use Rattle.vb_guest.proofs.RingApart.{ring_apart}
+use Rattle.vb_guest.proofs.RingApart.{SameRing, ring_apart}
 use Rattle.vb_guest.proofs.RingPosted.{ring_posted}
 use Rattle.vb_guest.proofs.RingTaken.{ring_taken}
 use Rattle.vb_guest.proofs.RingUsed.{ring_used}
@@ -30,22 +31,25 @@ use Rattle.vb_guest.proofs.RingReaped.{ring_reaped}
 
 -- ---- memory changes elsewhere
 
-reported_kept : (old new : Pages) (blocks : List Block) → page_at new 3 ≡ page_at old 3
-    → AreReported old 3 blocks → AreReported new 3 blocks
-reported_kept old new blocks same are = record {
-  chain = λ k lt. descriptor_apart old new 3 k same ∙ are.chain k lt;
+reported_kept : (old new : Pages) (table : ℕ) (blocks : List Block)
+    → page_at new table ≡ page_at old table
+    → AreReported old table blocks → AreReported new table blocks
+reported_kept old new table blocks same are = record {
+  chain = λ k lt. descriptor_apart old new table k same ∙ are.chain k lt;
 }
 
--- the ring's page is as before
+-- the ring's pages are as before
 pub report_apart : (old new : Pages) (n : ℕ) (side : ReportSide) (part : QueuePart) (rs : Requests)
-    → page_at new 3 ≡ page_at old 3 → ReportLine old n side part rs
+    → SameRing old new side.ring.size 4 → ReportLine old n side part rs
     → ReportLine new n side part rs
 report_apart old new n side part rs same line = record {
   ring = ring_apart old new 4 side.ring part.next_avail part.next_used _ _ _ same line.ring;
   posted = line.posted;
   taken = line.taken;
   done = line.done;
-  coded = λ k d lt. reported_kept old new side.blocks same (line.coded k d lt);
+  coded = λ k d lt.
+      let table : ℕ = ring_page side.ring.size 4 in
+      reported_kept old new table side.blocks (same table (inl refl)) (line.coded k d lt);
   remembers = line.remembers;
 }
 
@@ -59,11 +63,12 @@ pub report_posted : (m1 m2 : Pages) (n : ℕ) (s1 s2 : ReportSide) (part : Queue
     → ReportLine m2 n s2 part (posting 0 pages no_requests)
 report_posted m1 m2 n s1 s2 part blocks pages line posts is =
     let r : Request = record { head = 0; pages = pages; visited = 0 } in
-    let table : s1.ring.layout.table ≡ 3 = ap (λ (l : Layout). l.table) line.ring.layout in
+    let at : ℕ = ring_page s1.ring.size 4 in
+    let table : s1.ring.layout.table ≡ at = ap (λ (l : Layout). l.table) line.ring.layout in
     let R : ReportSide → Type 0 = λ s. IsReport s.ring.size n s.blocks r in
-    let C : ReportSide → Type 0 = λ s. AreReported m2 3 s.blocks in
+    let C : ReportSide → Type 0 = λ s. AreReported m2 (ring_page s.ring.size 4) s.blocks in
     let now : R s2 = subst R (sym posts.state) is in
-    let code : AreReported m2 3 blocks =
+    let code : AreReported m2 at blocks =
     subst (λ (t : ℕ). AreReported m2 t blocks) table posts.coded in
     let coded : C s2 = subst C (sym posts.state) code in
     record {
@@ -73,8 +78,8 @@ report_posted m1 m2 n s1 s2 part blocks pages line posts is =
           (All-nil (IsReport s2.ring.size n s2.blocks));
       taken = All-nil (IsReport s2.ring.size n s2.blocks);
       done = All-nil (IsReport s2.ring.size n s2.blocks);
-      coded = All-cons (λ x. AreReported m2 3 s2.blocks) r [] coded
-          (All-nil (λ x. AreReported m2 3 s2.blocks));
+      coded = All-cons (λ x. AreReported m2 (ring_page s2.ring.size 4) s2.blocks) r [] coded
+          (All-nil (λ x. AreReported m2 (ring_page s2.ring.size 4) s2.blocks));
       remembers = line.remembers;
     }
 
@@ -108,7 +113,7 @@ report_taken mem n side part r rest taken done line =
       posted = All-tail P r rest line.posted;
       taken = All-push P taken r' line.taken now;
       done = line.done;
-      coded = All-tail (λ (x : Request). AreReported mem 3 side.blocks) r rest line.coded;
+      coded = All-tail (λ (x : Request). AreReported mem (ring_page side.ring.size 4) side.blocks) r rest line.coded;
       remembers = ap (λ (l : List Request). l ++ (r' ∷ [])) line.remembers;
     }
 
@@ -154,7 +159,8 @@ report_used m1 m2 n side part rs i r after line is adds =
     let P : Request → Type 0 = IsReport side.ring.size n side.blocks in
     let request : P r = subst P (get_or_from_slice_get rs.taken i r r is)
     (line.taken i r (slice_get_within rs.taken i r is)) in
-    let table : side.ring.layout.table ≡ 3 = ap (λ (l : Layout). l.table) line.ring.layout in
+    let at : ℕ = ring_page side.ring.size 4 in
+    let table : side.ring.layout.table ≡ at = ap (λ (l : Layout). l.table) line.ring.layout in
     let S : List ℕ → List ℕ → Type 0 = λ taken done. RingStands m2 4 side.ring part.next_avail
     ((part.next_used + 1) % 65536) (heads_of rs.posted) taken done in
     let used = ring_used m1 m2 4 side.ring part.next_avail part.next_used (heads_of rs.posted)
@@ -162,7 +168,7 @@ report_used m1 m2 n side part rs i r after line is adds =
     (heads-get rs.taken i r is) adds in
     let A : ℕ → Type 0 = λ t. (k : ℕ) → k < side.ring.size
     → descriptor_at m2 t k ≡ descriptor_at m1 t k in
-    let same : A 3 = subst A table adds.descriptors in
+    let same : A at = subst A table adds.descriptors in
     record {
       ring = subst (λ (l : List ℕ). S l (heads_of (rs.done ++ r ∷ [])))
           (sym (heads-remove rs.taken i))
@@ -193,7 +199,7 @@ report_reaped mem n side after part [] [] r [] line few takes =
       posted = All-nil P;
       taken = All-nil P;
       done = All-nil P;
-      coded = All-nil (λ (x : Request). AreReported mem 3 []);
+      coded = All-nil (λ (x : Request). AreReported mem (ring_page after.size 4) []);
       remembers = line.remembers;
     }
 report_reaped mem n side after part [] [] r (x ∷ rest) line few takes = absurd (omega (arith, few))

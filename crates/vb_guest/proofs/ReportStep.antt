@@ -20,12 +20,10 @@ use Rattle.vb_model.specs.Driver.{asking}
 use Rattle.vb_model.specs.FirstRefusal.{◌⇒◌, first_refusal}
 use Rattle.vb_model.specs.Tables.{featured_tests, is_up, most_requests}
 use Rattle.vb_model.specs.Refusals.{refusal_of, reported_blocks}
-use Rattle.vb_ram.specs.Pages.{Pages, contents_of}
+use Rattle.vb_ram.specs.Pages.{Pages}
 use Rattle.vb_ram.specs.Part.{Part}
-use Rattle.vb_ring.specs.declared.layout.Layout.{Layout}
 use Rattle.vb_ring.specs.Ends.{outstanding as outstanding_in}
 use Rattle.vb_driver.specs.declared.answers.Posted.{Posted as PostedRequest}
-use Rattle.vb_driver.specs.Coding.{SameButPages}
 use Rattle.vb_driver.specs.State.{DriverState, ReportSide}
 use Rattle.vb_driver.specs.Areas.{areas_without}
 use Rattle.vb_driver.specs.Answers.{report_tests, blocks_to_report}
@@ -35,12 +33,16 @@ use Rattle.vb_guest.specs.Reported.{IsReport, ReportLine}
 use Rattle.vb_guest.specs.Stands.{Honest, Ties, IsRunning}
 use Rattle.vb_guest.specs.Steps.{StepsAlone}
 use Rattle.vb_guest.specs.Replies.{posted_reply}
+use Rattle.std.specs.Prelude.{All}
+use Rattle.vb_guest.specs.Reported.{IsOwnBlock}
+use Rattle.vb_guest.proofs.Apart.{no_buffer}
+use Rattle.vb_guest.proofs.RunApart.{sizes_of, ring_of, ring_low, table_clear, post_leaves, post_same}
 use Rattle.vb_guest.proofs.RingHeads.{ring_count}
 use Rattle.vb_guest.proofs.Apart.{line_apart}
 use Rattle.vb_guest.proofs.BufferLines.{buffer_apart}
 use Rattle.vb_guest.proofs.ReportLines.{report_posted}
 use Rattle.vb_guest.proofs.OwnBlocks.{reported_own, reported_few}
-use Rattle.vb_guest.proofs.PagesKept.{SamePages, pages_same}
+use Rattle.vb_guest.proofs.PagesKept.{pages_same}
 use Rattle.vb_guest.proofs.SameRefusals.{IsIdleStatus, at_both}
 use Rattle.vb_guest.proofs.Closing.{honest_performed, honest_refused, steps_alone, ties_same}
 use Rattle.vb_guest.proofs.Closing.{ties_areas}
@@ -148,15 +150,15 @@ report_out m1 m2 p1 p2 d1 d2 g from posted did stands run free none some =
     ap (λ (h : ℕ). Posted h posted.pages) did.head ∙ ap (Posted 0) did.pages in
     let step = honest_performed g (Report from) [] (Posted posted.head posted.pages) new free
     (refl, (0, first_head g.report gone, reply, refl)) in
-    let table : d1.report.ring.layout.table ≡ 3 =
-    ap (λ (l : Layout). l.table) run.report.ring.layout in
-    let rest : SameButPages m1 m2 3 3 =
-    subst (λ (t : ℕ). SameButPages m1 m2 t t) table did.posts.rest in
-    let same : SamePages m1 m2 = record {
-      count = rest.count;
-      behind = rest.backing;
-      holds = λ p high. ap contents_of (rest.others p (omega arith) (omega arith));
-    } in
+    let size = g.config.queue_size in
+    let rest = did.posts.rest in
+    let l = d1.report.ring.layout in
+    let ring = ring_of size 4 d1.report.ring run.report.ring.sized run.report.ring.layout
+    run.report_size in
+    let same = post_same m1 m2 size 4 l.table l ring (ring_low size size 4 l.table refl ring.table)
+    rest.count rest.backing rest.others in
+    let leaves = post_leaves m1 m2 d1 size 4 l.table l (sizes_of m1 p1 d1 g run) ring
+    (table_clear size 4 l.table ring.table) rest.others in
     let few = reported_few g from in
     let is : IsReport d1.report.ring.size n blocks
     (record { head = 0; pages = pages; visited = 0 }) = record {
@@ -165,7 +167,8 @@ report_out m1 m2 p1 p2 d1 d2 g from posted did stands run free none some =
       some = some;
       few = few.0;
       inside = omega (arith, few.1, run.report_size);
-      blocks_are = reported_own g from stands.orderly;
+      blocks_are = subst (λ (k : ℕ). All (IsOwnBlock k n) blocks) (sym run.report_size)
+          (reported_own g from stands.orderly);
     } in
     let L : Requests → Type 0 = λ rs. ReportLine m1 n d1.report p1.report rs in
     let M : Requests → Type 0 = λ rs. ReportLine m2 n d2.report p1.report (posting 0 pages rs) in
@@ -191,7 +194,7 @@ report_out m1 m2 p1 p2 d1 d2 g from posted did stands run free none some =
         };
         device = ties.parts.device;
       };
-      pages = pages_same m1 m2 n _ _ same ties.pages;
+      pages = pages_same m1 m2 g.config.queue_size n _ _ same ties.pages;
       queues = inr (record {
         state = run.state;
         backed = λ p lt. ap is_some (rest.backing p) ∙ run.backed p lt;
@@ -199,17 +202,17 @@ report_out m1 m2 p1 p2 d1 d2 g from posted did stands run free none some =
         deflate_size = run.deflate_size;
         statistics_size = run.statistics_size;
         report_size = ap (λ (s : ReportSide). s.ring.size) did.posts.state ∙ run.report_size;
-        inflate = line_apart m1 m2 0 n d1.inflate p1.inflate g.inflate (record {
-          ring = rest.others 0 (omega arith) (omega arith);
-          buffers = λ p from to. rest.others p (omega arith) (omega arith);
-        }) run.inflate;
-        deflate = line_apart m1 m2 1 n d1.deflate p1.deflate g.deflate (record {
-          ring = rest.others 1 (omega arith) (omega arith);
-          buffers = λ p from to. rest.others p (omega arith) (omega arith);
-        }) run.deflate;
+        inflate = line_apart m1 m2 0 n d1.inflate p1.inflate g.inflate
+            (leaves.inflate (omega arith)
+            (λ p from to. no_buffer size 4 l.table p ring.table from (omega (arith, to))))
+            run.inflate;
+        deflate = line_apart m1 m2 1 n d1.deflate p1.deflate g.deflate
+            (leaves.deflate (omega arith) (λ p from to.
+            no_buffer size 4 l.table p ring.table (omega (arith, from)) (omega (arith, to))))
+            run.deflate;
         statistics = buffer_apart m1 m2 d1.statistics p1.statistics g.buffer
-            (rest.others 2 (omega arith) (omega arith)) (rest.others 12 (omega arith) (omega arith))
-            run.statistics;
+            (leaves.statistics (omega arith)) (leaves.buffer
+            (no_buffer size 4 l.table 12 ring.table (omega arith) (omega arith))) run.statistics;
         report = line;
       });
     } in

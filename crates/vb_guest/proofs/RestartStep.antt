@@ -76,7 +76,7 @@ rooted keeps mem part d g stands = by_guest keeps mem part d g stands
       target = parts.device.target;
       flagged = ap (λ (l : List Bool). length l) parts.device.ballooned
           ∙ honest.consistent.flagged;
-      frames = frames_of mem g.config.pages g.frames g.contents honest.ties.pages;
+      frames = frames_of mem g.config.queue_size g.config.pages g.frames g.contents honest.ties.pages;
     })
     (λ rogue. record {
       config = rogue.config;

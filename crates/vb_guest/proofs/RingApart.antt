@@ -1,31 +1,40 @@
 -- What leaves a ring alone, and a ring of which nothing was published.
 use Rattle.std.specs.Prelude.{◌≡◌, ℕ, List, [], ◌++◌}
 use Rattle.std.specs.Prelude.{length, refl}
-use Rattle.std.proofs.Common.{sym, ◌∙◌, ap}
+use Rattle.std.proofs.Common.{sym, subst}
 use Rattle.vb_model.specs.Layout.{ring_page}
 use Rattle.vb_ram.specs.Pages.{Pages, page_at}
 use Rattle.vb_ring.specs.Layout.{IsSize, layout_of}
 use Rattle.vb_ring.specs.Ends.{DriverEnd}
+use Rattle.vb_model.proofs.Shapes.{InRing}
+use Rattle.vb_ring.proofs.Shapes.{AreInRing, parts_in_ring}
 use Rattle.vb_ring.proofs.MeaningLaws.{tracks_apart}
 use Rattle.vb_ring.proofs.MeaningLaws.{ring_apart as shows_apart}
 use Rattle.vb_driver.specs.Calls.{IsNewRing}
 use Rattle.vb_guest.specs.Ring.{RingStands, used_of}
 
-in_page : (q : ℕ) (page : ℕ) (old new : Pages) → page ≡ ring_page q
-    → page_at new (ring_page q) ≡ page_at old (ring_page q) → page_at new page ≡ page_at old page
-in_page q page old new e same =
-    ap (λ (p : ℕ). page_at new p) e ∙ same ∙ sym (ap (λ (p : ℕ). page_at old p) e)
+-- the pages of a queue's ring are as before
+abbrev pub SameRing : Pages → Pages → ℕ → ℕ → Type 0
+SameRing old new size q = (page : ℕ) → InRing size q page → page_at new page ≡ page_at old page
+
+-- the parts of a ring lie in its queue's pages
+pub ring_parts : (q : ℕ) (ring : DriverEnd) → IsSize ring.size
+    → ring.layout ≡ layout_of (ring_page ring.size q) ring.size
+    → AreInRing ring.size q ring.layout
+ring_parts q ring sized layout =
+    subst (AreInRing ring.size q) (sym layout) (parts_in_ring ring.size q sized)
 
 pub ring_apart : (old new : Pages) (q : ℕ) (ring : DriverEnd) (next_avail next_used : ℕ)
     (posted taken done : List ℕ)
-    → page_at new (ring_page q) ≡ page_at old (ring_page q)
+    → SameRing old new ring.size q
     → RingStands old q ring next_avail next_used posted taken done
     → RingStands new q ring next_avail next_used posted taken done
 ring_apart old new q ring next_avail next_used posted taken done same stands =
     let l = ring.layout in
-    let table = in_page q l.table old new (ap (λ x. x.table) stands.layout) same in
-    let avail = in_page q l.avail.page old new (ap (λ x. x.avail.page) stands.layout) same in
-    let used = in_page q l.used.page old new (ap (λ x. x.used.page) stands.layout) same in
+    let parts = ring_parts q ring stands.sized stands.layout in
+    let table = same l.table parts.table in
+    let avail = same l.avail.page parts.avail in
+    let used = same l.used.page parts.used in
     record {
       sized = stands.sized;
       layout = stands.layout;
@@ -44,7 +53,7 @@ ring_apart old new q ring next_avail next_used posted taken done same stands =
 -- ---- nothing was published yet
 
 pub ring_new : (mem : Pages) (q : ℕ) (ring : DriverEnd) → IsSize ring.size
-    → ring.layout ≡ layout_of (ring_page q) ring.size → IsNewRing mem ring
+    → ring.layout ≡ layout_of (ring_page ring.size q) ring.size → IsNewRing mem ring
     → RingStands mem q ring 0 0 [] [] []
 ring_new mem q ring sized layout new = record {
   sized = sized;

@@ -20,7 +20,9 @@ use Rattle.vb_model.specs.declared.replies.Refusal.TheVariants.{NoFeature, NotBa
 use Rattle.vb_model.specs.declared.replies.Reply.{Reply}
 use Rattle.vb_model.specs.declared.replies.Reply.TheVariants.{Refused, Done}
 use Rattle.vb_model.specs.FirstRefusal.{◌⇒◌, first_refusal}
-use Rattle.vb_model.specs.Limits.{page_size, reserved_pages}
+use Rattle.vb_model.specs.Limits.{page_size}
+use Rattle.vb_model.specs.Layout.{reserved_pages}
+use Rattle.vb_model.proofs.Shapes.{start_reserved}
 use Rattle.vb_model.specs.Layout.{ring_page}
 use Rattle.vb_model.specs.Requests.{Request}
 use Rattle.vb_model.specs.Guest.{Guest, is_ballooned, frame_of, must_tell_host}
@@ -45,7 +47,7 @@ use Rattle.vb_request.specs.Statistics.{statistics_request, is_statistics_length
 use Rattle.vb_request.proofs.RequestPages.{request_pages, once_distinct, once_all}
 use Rattle.vb_request.proofs.Reports.{report_pages}
 use Rattle.vb_request.proofs.Once.{is_in-each_once}
-use Rattle.vb_device.proofs.Chains.{chain_fits}
+use Rattle.vb_core.proofs.Chains.{chain_fits}
 use Rattle.vb_device.specs.declared.worked.Worked.{Worked}
 use Rattle.vb_device.specs.Discards.{discarded, frames_behind}
 use Rattle.vb_device.specs.Queues.{queue_part, with_queue}
@@ -74,20 +76,21 @@ use Rattle.vb_guest.proofs.RogueDriver.{left_same}
 -- ---- a queue of the device changes
 
 -- which of the queues it is
-pub with_same : (q : ℕ) (x : QueuePart) (p : Part) → DeviceSame p (with_queue q x p)
-with_same q x p = by (q == INFLATE_QUEUE) (q == DEFLATE_QUEUE) (q == STATISTICS_QUEUE)
+pub with_same : {size : ℕ} (q : ℕ) (x : QueuePart) (p : Part)
+    → DeviceSame size p (with_queue q x p)
+with_same {size} q x p = by (q == INFLATE_QUEUE) (q == DEFLATE_QUEUE) (q == STATISTICS_QUEUE)
   where
-    by : (a b c : Bool) → DeviceSame p
+    by : (a b c : Bool) → DeviceSame size p
         (if a then record p { inflate = x } else (if b then record p { deflate = x }
         else (if c then record p { statistics = x } else record p { report = x })))
     by true b c = record
-        { size = refl; paced = refl; loose = λ e. e; flagged = refl; unreserved = λ page low e. e }
+        { sized = refl; paced = refl; loose = λ e. e; flagged = refl; unreserved = λ page low e. e }
     by false true c = record
-        { size = refl; paced = refl; loose = λ e. e; flagged = refl; unreserved = λ page low e. e }
+        { sized = refl; paced = refl; loose = λ e. e; flagged = refl; unreserved = λ page low e. e }
     by false false true = record
-        { size = refl; paced = refl; loose = λ e. e; flagged = refl; unreserved = λ page low e. e }
+        { sized = refl; paced = refl; loose = λ e. e; flagged = refl; unreserved = λ page low e. e }
     by false false false = record
-        { size = refl; paced = refl; loose = λ e. e; flagged = refl; unreserved = λ page low e. e }
+        { sized = refl; paced = refl; loose = λ e. e; flagged = refl; unreserved = λ page low e. e }
 
 pub with_state : (q : ℕ) (x : QueuePart) (p : Part) → ((with_queue q x p).status ≡ p.status)
     × ((with_queue q x p).target ≡ p.target)
@@ -104,19 +107,19 @@ with_state q x p = by (q == INFLATE_QUEUE) (q == DEFLATE_QUEUE) (q == STATISTICS
     by false false false = (refl, refl)
 
 -- the requests that are taken are still the guest's own
-pub record AreOwn (n : ℕ) (p : Part) : Type 0 where
-  pub inflates : All (IsOwnRequest n) p.inflate.taken
-  pub reports : All (IsOwnRequest n) p.report.taken
+pub record AreOwn (size n : ℕ) (p : Part) : Type 0 where
+  pub inflates : All (IsOwnRequest size n) p.inflate.taken
+  pub reports : All (IsOwnRequest size n) p.report.taken
 
-pub with_own : (n q : ℕ) (x : QueuePart) (p : Part)
-    → (All (IsOwnRequest n) (queue_part q p).taken → All (IsOwnRequest n) x.taken) → AreOwn n p
-    → AreOwn n (with_queue q x p)
-with_own n q x p keeps own =
+pub with_own : {size : ℕ} (n q : ℕ) (x : QueuePart) (p : Part)
+    → (All (IsOwnRequest size n) (queue_part q p).taken → All (IsOwnRequest size n) x.taken) → AreOwn size n p
+    → AreOwn size n (with_queue q x p)
+with_own {size} n q x p keeps own =
     by (q == INFLATE_QUEUE) (q == DEFLATE_QUEUE) (q == STATISTICS_QUEUE) keeps
   where
-    by : (a b c : Bool) → (All (IsOwnRequest n) (if a then p.inflate else (if b then p.deflate
-        else (if c then p.statistics else p.report))).taken → All (IsOwnRequest n) x.taken)
-        → AreOwn n (if a then record p { inflate = x } else (if b then record p { deflate = x }
+    by : (a b c : Bool) → (All (IsOwnRequest size n) (if a then p.inflate else (if b then p.deflate
+        else (if c then p.statistics else p.report))).taken → All (IsOwnRequest size n) x.taken)
+        → AreOwn size n (if a then record p { inflate = x } else (if b then record p { deflate = x }
         else (if c then record p { statistics = x } else record p { report = x })))
     by true b c f = record { inflates = f own.inflates; reports = own.reports }
     by false true c f = record { inflates = own.inflates; reports = own.reports }
@@ -136,28 +139,32 @@ statistics_pages false false pages e = cc
 -- the request that a take remembers names the guest's own pages
 request_own : (q : ℕ) (mem : Pages) (part : Part) (h : ℕ) (pages : List ℕ)
     → IsNextRequest q mem part h pages
-    → IsOwnRequest (length mem) (record { head = h; pages = pages; visited = 0 })
+    → IsOwnRequest part.queue_size (length mem) (record { head = h; pages = pages; visited = 0 })
 request_own q mem part h pages next =
     by (q == STATISTICS_QUEUE) (q == REPORT_QUEUE) next.request
   where
+    reserved : ℕ
+    reserved = reserved_pages part.queue_size
+
     by : (a b : Bool) → (if a then statistics_request next.pieces
-        else (if b then report_request next.pieces else page_request mem next.pieces)) ≡ Ok pages
-        → IsOwnRequest (length mem) (record { head = h; pages = pages; visited = 0 })
+        else (if b then report_request next.pieces reserved
+        else page_request mem next.pieces reserved)) ≡ Ok pages
+        → IsOwnRequest part.queue_size (length mem) (record { head = h; pages = pages; visited = 0 })
     by true b e =
         let none : pages ≡ [] = statistics_pages (list_any (λ piece. piece.writable)
         next.pieces) (not (is_statistics_length (total_length next.pieces))) pages e in
         record {
-          above = subst (All (λ page. 16 ≤ page)) (sym none) (λ k d lt. absurd (omega (arith, lt)));
+          above = subst (All (λ page. reserved ≤ page)) (sym none) (λ k d lt. absurd (omega (arith, lt)));
           below = subst (All (λ page. page < length mem)) (sym none)
               (λ k d lt. absurd (omega (arith, lt)));
         }
     by false true e =
-        let fits = chain_fits (descriptor_at mem (ring_page q)) part.queue_size
+        let fits = chain_fits (descriptor_at mem (ring_page part.queue_size q)) part.queue_size
         (page_size * length mem) h next.pieces next.chain in
-        let own = report_pages (length mem) next.pieces pages fits e in
+        let own = report_pages (length mem) next.pieces reserved pages fits e in
         record { above = own.0; below = own.1 }
     by false false e =
-        let own = request_pages mem next.pieces pages e in
+        let own = request_pages mem next.pieces reserved pages e in
         record { above = own.above; below = own.below }
 
 takes_up : (a b c d f : Bool) → first_refusal ((a ⇒ NoQueue) ∷ (b ⇒ NotReady) ∷ (c ⇒ NeedsReset)
@@ -204,8 +211,8 @@ take_rogue m1 m2 p1 p2 d g q result did rogue =
         rogue_alone m1 m1 p1 p2 d d g (Take q) _ rogue
         (record {
           driver = driver_same d d refl;
-          device = subst (DeviceSame p1) (sym part) (record {
-            size = same.size;
+          device = subst (DeviceSame g.config.queue_size p1) (sym part) (record {
+            sized = same.sized;
             paced = same.paced;
             loose = same.loose;
             flagged = same.flagged;
@@ -214,10 +221,12 @@ take_rogue m1 m2 p1 p2 d g q result did rogue =
           up = λ was ok.
               let up = was (ap (λ (s : ℕ). contains s driver_ok)
               (sym (ap (λ (p : Part). p.status) part ∙ state.0)) ∙ ok) in
-              let own = subst (AreOwn (length m1)) (sym part) (with_own (length m1) q x noted
-              (λ all. All-push (IsOwnRequest (length m1)) (queue_part q noted).taken
-              (record { head = h; pages = pages; visited = 0 }) all
-              (request_own q m1 p1 h pages next))
+              let size = g.config.queue_size in
+              let r : Request = record { head = h; pages = pages; visited = 0 } in
+              let own = subst (AreOwn size (length m1)) (sym part) (with_own (length m1) q x noted
+              (λ all. All-push (IsOwnRequest size (length m1)) (queue_part q noted).taken r all
+              (subst (λ (k : ℕ). IsOwnRequest k (length m1) r) rogue.size
+              (request_own q m1 p1 h pages next)))
               (record { inflates = up.inflates; reports = up.reports })) in
               record { backed = up.backed; inflates = own.inflates; reports = own.reports };
         }) refl (λ page. refl) (ap (λ (p : Part). p.target) part ∙ state.1) refl
@@ -249,15 +258,15 @@ take_rogue m1 m2 p1 p2 d g q result did rogue =
 -- ---- pages lose their frames
 
 -- what a call leaves of the device's part, which may be up as before
-pub record PartChanges (n : ℕ) (p1 p2 : Part) : Type 0 where
-  pub device : DeviceSame p1 p2
+pub record PartChanges (size n : ℕ) (p1 p2 : Part) : Type 0 where
+  pub device : DeviceSame size p1 p2
   pub status : p2.status ≡ p1.status
   pub target : p2.target ≡ p1.target
-  pub own : AreOwn n p1 → AreOwn n p2
+  pub own : AreOwn size n p1 → AreOwn size n p2
 
-changes_with : (n q : ℕ) (x : QueuePart) (p : Part)
-    → (All (IsOwnRequest n) (queue_part q p).taken → All (IsOwnRequest n) x.taken)
-    → PartChanges n p (with_queue q x p)
+changes_with : {size : ℕ} (n q : ℕ) (x : QueuePart) (p : Part)
+    → (All (IsOwnRequest size n) (queue_part q p).taken → All (IsOwnRequest size n) x.taken)
+    → PartChanges size n p (with_queue q x p)
 changes_with n q x p keeps =
     let state = with_state q x p in
     record {
@@ -267,11 +276,11 @@ changes_with n q x p keeps =
       own = with_own n q x p keeps;
     }
 
-changes_then : (n : ℕ) (p1 p2 p3 : Part) → PartChanges n p1 p2 → PartChanges n p2 p3
-    → PartChanges n p1 p3
+changes_then : {size : ℕ} (n : ℕ) (p1 p2 p3 : Part) → PartChanges size n p1 p2 → PartChanges size n p2 p3
+    → PartChanges size n p1 p3
 changes_then n p1 p2 p3 first second = record {
   device = record {
-    size = second.device.size ∙ first.device.size;
+    sized = second.device.sized ∙ first.device.sized;
     paced = second.device.paced ∙ first.device.paced;
     loose = λ none. second.device.loose (first.device.loose none);
     flagged = second.device.flagged ∙ first.device.flagged;
@@ -284,11 +293,11 @@ changes_then n p1 p2 p3 first second = record {
 }
 
 -- once what is loose has been handed back
-changes_back : (n : ℕ) (p1 p p2 : Part) → PartChanges n p1 p
-    → p2 ≡ record p { loose = p2.loose } → PartChanges n p1 (handed_back p2)
-changes_back n p1 p p2 changes is = subst (PartChanges n p1) (sym (ap handed_back is)) (record {
+changes_back : {size : ℕ} (n : ℕ) (p1 p p2 : Part) → PartChanges size n p1 p
+    → p2 ≡ record p { loose = p2.loose } → PartChanges size n p1 (handed_back p2)
+changes_back {size} n p1 p p2 changes is = subst (PartChanges size n p1) (sym (ap handed_back is)) (record {
   device = record {
-    size = changes.device.size;
+    sized = changes.device.sized;
     paced = changes.device.paced;
     loose = λ none. refl;
     flagged = changes.device.flagged;
@@ -312,8 +321,8 @@ done_wants _ e = refl
 
 -- pages that aren't reserved lose their frames, which are loose then
 pub rogue_freed : (m1 m2 : Pages) (p1 p2 : Part) (d : DriverState) (g : Guest) (call : Call)
-    (reply : Reply) (r : Request) → IsOwnRequest (length m1) r
-    → PartChanges (length m1) p1 (handed_back p2) → contains p1.status driver_ok ≡ true
+    (reply : Reply) (r : Request) → IsOwnRequest g.config.queue_size (length m1) r
+    → PartChanges g.config.queue_size (length m1) p1 (handed_back p2) → contains p1.status driver_ok ≡ true
     → length m2 ≡ length m1
     → ((page : ℕ) → frame_at m2 page ≡ frame_at (discarded r.pages m1) page)
     → SameFrames p2.loose (frames_behind m1 (each_once r.pages))
@@ -336,11 +345,12 @@ rogue_freed m1 m2 p1 p2 d g call reply r own changes ok count same loose still a
     ∙ ap (λ (b : Bool). if b then None else frame_at m1 page) (sym (is_in-each_once page r.pages))
     ∙ ap (λ (o : Option ℕ). if is_in page once then None else o) (rogue.behind page)
     ∙ sym (get page) in
-    let low : (page : ℕ) → page < reserved_pages → frame_at m2 page ≡ frame_at m1 page =
+    let size = g.config.queue_size in
+    let low : (page : ℕ) → page < reserved_pages size → frame_at m2 page ≡ frame_at m1 page =
     λ page lt. same page ∙ at page
     ∙ ap (λ (b : Bool). if b then None else frame_at m1 page)
-    (not_among r.pages page own.above lt) in
-    let keeps : Keeps m1 m2 p1 (handed_back p2) d d = record {
+    (not_among (reserved_pages size) r.pages page own.above lt) in
+    let keeps : Keeps size m1 m2 p1 (handed_back p2) d d = record {
       driver = driver_same d d refl;
       device = changes.device;
       up = λ was up.
@@ -348,10 +358,11 @@ rogue_freed m1 m2 p1 p2 d g call reply r own changes ok count same loose still a
           let after = changes.own
           (record { inflates = before.inflates; reports = before.reports }) in
           record {
-            backed = λ page lt. ap is_some (low page (omega (arith, lt))) ∙ before.backed page lt;
-            inflates = subst (λ (n : ℕ). All (IsOwnRequest n) p2.inflate.taken) (sym count)
+            backed = λ page start. ap is_some (low page (start_reserved size page start))
+                ∙ before.backed page start;
+            inflates = subst (λ (n : ℕ). All (IsOwnRequest size n) p2.inflate.taken) (sym count)
                 after.inflates;
-            reports = subst (λ (n : ℕ). All (IsOwnRequest n) p2.report.taken) (sym count)
+            reports = subst (λ (n : ℕ). All (IsOwnRequest size n) p2.report.taken) (sym count)
                 after.reports;
           };
     } in
@@ -409,12 +420,14 @@ works_up true b e = absurd cc
 works_up false b e = refl
 
 -- the next page to visit is one of a taken request
-next_own : (n : ℕ) (paced : Bool) (taken : List Request) (page : ℕ) → All (IsOwnRequest n) taken
+next_own : {size : ℕ} (n : ℕ) (paced : Bool) (taken : List Request) (page : ℕ)
+    → All (IsOwnRequest size n) taken
     → (if paced then next_page taken else None) ≡ Some page
-    → IsOwnRequest n (record { head = 0; pages = page ∷ []; visited = 0 })
-next_own n true taken page all e = record {
-  above = All-cons (λ p. 16 ≤ p) page []
-      (next_taken (λ p. 16 ≤ p) taken page (λ k x lt. (all k x lt).above) e) (All-nil (λ p. 16 ≤ p));
+    → IsOwnRequest size n (record { head = 0; pages = page ∷ []; visited = 0 })
+next_own {size} n true taken page all e = record {
+  above = All-cons (λ p. reserved_pages size ≤ p) page []
+      (next_taken (λ p. reserved_pages size ≤ p) taken page (λ k x lt. (all k x lt).above) e)
+      (All-nil (λ p. reserved_pages size ≤ p));
   below = All-cons (λ p. p < n) page []
       (next_taken (λ p. p < n) taken page (λ k x lt. (all k x lt).below) e) (All-nil (λ p. p < n));
 }
@@ -422,7 +435,8 @@ next_own n false taken page all e = absurd cc
 
 visits_rogue : (m1 m2 : Pages) (p1 p2 : Part) (d : DriverState) (g : Guest) (q page : ℕ)
     (result : Result (Option Worked) Refusal) → Visits q page m1 m2 p1 p2 result
-    → IsOwnRequest (length m1) (record { head = 0; pages = page ∷ []; visited = 0 })
+    → IsOwnRequest g.config.queue_size (length m1)
+    (record { head = 0; pages = page ∷ []; visited = 0 })
     → contains p1.status driver_ok ≡ true → Rogue m1 p1 d g
     → StepsFreeing (Rogue m2 (handed_back p2) d) p2.loose g Work (worked_reply result)
 visits_rogue m1 m2 p1 p2 d g q page result did own ok rogue =
@@ -433,7 +447,7 @@ visits_rogue m1 m2 p1 p2 d g q page result did own ok rogue =
     StepsFreeing (Rogue m2 (handed_back p2) d) p2.loose g Work (worked_reply r)) (sym did.answer)
     (rogue_freed m1 m2 p1 p2 d g Work _ one own
     (changes_back (length m1) p1 (with_queue q x p1) p2
-    (changes_with (length m1) q x p1 (λ all. all-visiting (IsOwnRequest (length m1))
+    (changes_with (length m1) q x p1 (λ all. all-visiting (IsOwnRequest g.config.queue_size (length m1))
     (λ r own. record { above = own.above; below = own.below }) (queue_part q p1).taken all))
     did.part) ok (ap (λ (m : Pages). length m) did.memory ∙ length-discarded (page ∷ []) m1)
     (λ p. ap (λ (m : Pages). frame_at m p) did.memory) did.loose refl refl
@@ -495,11 +509,13 @@ sweeps_up false false true false e = absurd cc
 -- a ballooned page is one of the guest's, and not reserved
 ballooned_own : (m : Pages) (p : Part) (d : DriverState) (g : Guest) (page : ℕ) → Rogue m p d g
     → is_ballooned p.ballooned page ≡ true
-    → IsOwnRequest (length m) (record { head = 0; pages = page ∷ []; visited = 0 })
+    → IsOwnRequest g.config.queue_size (length m)
+    (record { head = 0; pages = page ∷ []; visited = 0 })
 ballooned_own m p d g page rogue flag =
     let at : is_ballooned g.ballooned page ≡ true =
     sym (ap (λ (l : List Bool). is_ballooned l page) rogue.ballooned) ∙ flag in
-    let high : 16 ≤ page = elim (cases_lt page 16) [
+    let least : ℕ = reserved_pages g.config.queue_size in
+    let high : least ≤ page = elim (cases_lt page least) [
       | inl low ↦ absurd (let wrong : true ≡ false = sym at ∙ rogue.unreserved page low in cc)
       | inr up ↦ up
     ] in
@@ -510,7 +526,7 @@ ballooned_own m p d g page rogue flag =
           (omega (arith, past, rogue.length_is, rogue.flagged)) in cc)
     ] in
     record {
-      above = All-cons (λ p. 16 ≤ p) page [] high (All-nil (λ p. 16 ≤ p));
+      above = All-cons (λ p. least ≤ p) page [] high (All-nil (λ p. least ≤ p));
       below = All-cons (λ p. p < length m) page [] inside (All-nil (λ p. p < length m));
     }
 
@@ -535,7 +551,7 @@ sweep_rogue m1 m2 p1 p2 d g page result did rogue = by (sweep_refusal page p1) r
         let (up, flag) = sweeps_up (is_not_ready p1.status) (has_fault p1.status)
         (must_tell_host p1.features) (is_ballooned p1.ballooned page) e in
         let one : Request = record { head = 0; pages = page ∷ []; visited = 0 } in
-        let same : PartChanges (length m1) p1 p1 = record {
+        let same : PartChanges g.config.queue_size (length m1) p1 p1 = record {
           device = device_alike p1 p1 refl;
           status = refl;
           target = refl;
@@ -553,13 +569,13 @@ sweep_rogue m1 m2 p1 p2 d g page result did rogue = by (sweep_refusal page p1) r
 -- ---- finish
 
 -- the flags of pages that aren't reserved change
-flagged_same : (pages : List ℕ) (value : Bool) (flags : List Bool) (page : ℕ)
-    → All (λ p. 16 ≤ p) pages → page < reserved_pages → is_ballooned flags page ≡ false
+flagged_same : (least : ℕ) (pages : List ℕ) (value : Bool) (flags : List Bool) (page : ℕ)
+    → All (λ p. least ≤ p) pages → page < least → is_ballooned flags page ≡ false
     → is_ballooned (flagged pages value flags) page ≡ false
-flagged_same pages value flags page above low none = elim (cases_lt page (length flags)) [
+flagged_same least pages value flags page above low none = elim (cases_lt page (length flags)) [
   | inl inside ↦ with_entry-get pages value flags page false inside
       ∙ ap (λ (b : Bool). if b then value else is_ballooned flags page)
-      (not_among pages page above low) ∙ none
+      (not_among least pages page above low) ∙ none
   | inr past ↦ get_or_past (flagged pages value flags) page false
       (omega (arith, past, length-with_entry pages value flags))
 ]
@@ -574,22 +590,23 @@ unflagged_same pages flags page none =
     either true = refl
     either false = none
 
-settled_changes : (n q : ℕ) (pages : List ℕ) (p : Part)
-    → ((q == INFLATE_QUEUE) ≡ true → All (λ p. 16 ≤ p) pages)
-    → PartChanges n p (settled q pages p)
-settled_changes n q pages p above = by (q == INFLATE_QUEUE) (q == DEFLATE_QUEUE) above
+settled_changes : {size : ℕ} (n q : ℕ) (pages : List ℕ) (p : Part)
+    → ((q == INFLATE_QUEUE) ≡ true → All (λ p. reserved_pages size ≤ p) pages)
+    → PartChanges size n p (settled q pages p)
+settled_changes {size} n q pages p above = by (q == INFLATE_QUEUE) (q == DEFLATE_QUEUE) above
   where
-    by : (a b : Bool) → (a ≡ true → All (λ p. 16 ≤ p) pages) → PartChanges n p
+    by : (a b : Bool) → (a ≡ true → All (λ p. reserved_pages size ≤ p) pages)
+        → PartChanges size n p
         (if a then record p { ballooned = flagged pages true p.ballooned }
         else (if b then record p { ballooned = flagged pages false p.ballooned } else p))
     by true b high = record {
       device = record {
-        size = refl;
+        sized = refl;
         paced = refl;
         loose = λ e. e;
         flagged = length-with_entry pages true p.ballooned;
         unreserved = λ page low none.
-            flagged_same pages true p.ballooned page (high refl) low none;
+            flagged_same (reserved_pages size) pages true p.ballooned page (high refl) low none;
       };
       status = refl;
       target = refl;
@@ -597,7 +614,7 @@ settled_changes n q pages p above = by (q == INFLATE_QUEUE) (q == DEFLATE_QUEUE)
     }
     by false true high = record {
       device = record {
-        size = refl;
+        sized = refl;
         paced = refl;
         loose = λ e. e;
         flagged = length-with_entry pages false p.ballooned;
@@ -617,9 +634,9 @@ finishes_up true false c d f e = (refl, refl)
 finishes_up false b c d f e = absurd cc
 
 -- what was taken on a queue of inflates or reports is the guest's own
-own_taken : (n q : ℕ) (p : Part) → is_queue_of_requests q ≡ true → (q == DEFLATE_QUEUE) ≡ false
-    → AreOwn n p → All (IsOwnRequest n) (queue_part q p).taken
-own_taken n q p is other own = elim (cases_eq q 2) [
+own_taken : {size : ℕ} (n q : ℕ) (p : Part) → is_queue_of_requests q ≡ true → (q == DEFLATE_QUEUE) ≡ false
+    → AreOwn size n p → All (IsOwnRequest size n) (queue_part q p).taken
+own_taken {size} n q p is other own = elim (cases_eq q 2) [
   | inl e ↦ absurd
       (let wrong : false ≡ true =
       subst (λ (k : ℕ). is_queue_of_requests k ≡ true) e is in
@@ -628,7 +645,7 @@ own_taken n q p is other own = elim (cases_eq q 2) [
       (ne_eqb q 2 ne)
 ]
   where
-    by : (a b c : Bool) → b ≡ false → c ≡ false → All (IsOwnRequest n) (if a then p.inflate
+    by : (a b c : Bool) → b ≡ false → c ≡ false → All (IsOwnRequest size n) (if a then p.inflate
         else (if b then p.deflate else (if c then p.statistics else p.report))).taken
     by true b c e f = own.inflates
     by false true c e f = absurd cc
@@ -655,8 +672,9 @@ not_both q one other =
 abbrev nothing_named : Request
 nothing_named = record { head = 0; pages = []; visited = 0 }
 
-names_nothing : (n : ℕ) → IsOwnRequest n nothing_named
-names_nothing n = record { above = All-nil (λ p. 16 ≤ p); below = All-nil (λ p. p < n) }
+names_nothing : {size : ℕ} (n : ℕ) → IsOwnRequest size n nothing_named
+names_nothing {size} n =
+    record { above = All-nil (λ p. reserved_pages size ≤ p); below = All-nil (λ p. p < n) }
 
 pub finish_rogue : (m1 m2 : Pages) (p1 p2 : Part) (d : DriverState) (g : Guest) (q i : ℕ)
     (result : Result ℕ Refusal) → FinishesBy q i m1 m2 p1 p2 result → Rogue m1 p1 d g
@@ -666,13 +684,16 @@ finish_rogue m1 m2 p1 p2 d g q i result did rogue = by (finish_refusal q i p1) r
     Done : Result ℕ Refusal → Type 0
     Done r = StepsFreeing (Rogue m2 (handed_back p2) d) p2.loose g (Finish q i) (finished_reply r)
 
+    size : ℕ
+    size = g.config.queue_size
+
     unworked : Bool
     unworked = p1.paced && not (q == DEFLATE_QUEUE) && has_unvisited (taken_at q i p1)
 
     -- the request's pages, or none, lose their frames
     settles : (r lost : Request) → Uses q i r m1 m2 p1 p2 result
-        → contains p1.status driver_ok ≡ true → IsOwnRequest (length m1) lost
-        → ((q == INFLATE_QUEUE) ≡ true → All (λ p. 16 ≤ p) r.pages)
+        → contains p1.status driver_ok ≡ true → IsOwnRequest size (length m1) lost
+        → ((q == INFLATE_QUEUE) ≡ true → All (λ p. reserved_pages size ≤ p) r.pages)
         → ((page : ℕ) → frame_at (without_frames q r.pages m1) page
         ≡ frame_at (discarded lost.pages m1) page)
         → length (without_frames q r.pages m1) ≡ length m1
@@ -688,7 +709,7 @@ finish_rogue m1 m2 p1 p2 d g q i result did rogue = by (finish_refusal q i p1) r
         (rogue_freed m1 m2 p1 p2 d g (Finish q i) _ lost own
         (changes_back n p1 after p2
         (changes_then n p1 (using q i p1) after
-        (changes_with n q x p1 (λ all. all_remove (IsOwnRequest n) (queue_part q p1).taken i all))
+        (changes_with n q x p1 (λ all. all_remove (IsOwnRequest size n) (queue_part q p1).taken i all))
         (settled_changes n q r.pages (using q i p1) high)) uses.part) ok
         (uses.memory.puts.rest.count ∙ count)
         (λ page. uses.memory.puts.rest.backing page ∙ same page)
@@ -701,7 +722,7 @@ finish_rogue m1 m2 p1 p2 d g q i result did rogue = by (finish_refusal q i p1) r
         (has_fault p1.status) (is_none (taken_at q i p1)) unworked e in
         let whole : without_frames q r.pages m1 ≡ m1 =
         ap (λ (b : Bool). if b then m1 else discarded r.pages m1) deflates in
-        let other : (q == INFLATE_QUEUE) ≡ true → All (λ p. 16 ≤ p) r.pages =
+        let other : (q == INFLATE_QUEUE) ≡ true → All (λ p. reserved_pages size ≤ p) r.pages =
         λ inflates. absurd (not_both q deflates inflates) in
         settles r nothing_named uses
         (ok_of (contains p1.status driver_ok) (contains p1.status failed) ready.1)
@@ -718,8 +739,8 @@ finish_rogue m1 m2 p1 p2 d g q i result did rogue = by (finish_refusal q i p1) r
         let all = own_taken (length m1) q p1 ready.0 other
         (record { inflates = up.inflates; reports = up.reports }) in
         let taken = (queue_part q p1).taken in
-        let own : IsOwnRequest (length m1) r =
-        subst (IsOwnRequest (length m1)) (get_or_from_slice_get taken i r r at)
+        let own : IsOwnRequest size (length m1) r =
+        subst (IsOwnRequest size (length m1)) (get_or_from_slice_get taken i r r at)
         (all i r (slice_get_within taken i r at)) in
         let bare : without_frames q r.pages m1 ≡ discarded r.pages m1 =
         ap (λ (b : Bool). if b then m1 else discarded r.pages m1) other in

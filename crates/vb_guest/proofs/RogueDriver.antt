@@ -239,9 +239,10 @@ report_rogue m1 m2 p1 p2 d1 d2 g from (Err why) did rogue =
 -- ---- used requests
 
 -- the driver gives up on a broken ring of a device that is up
-failed_keeps : (why : Refusal) (m : Pages) (p1 p2 : Part) (d : DriverState)
+failed_keeps : {size : ℕ} (why : Refusal) (m : Pages) (p1 p2 : Part) (d : DriverState)
     → p2 ≡ after_refusal why p1
-    → (why ≡ RingBroken → contains p1.status driver_ok ≡ true) → Keeps m m p1 p2 d d
+    → (why ≡ RingBroken → contains p1.status driver_ok ≡ true)
+    → Keeps size m m p1 p2 d d
 failed_keeps RingBroken m p1 p2 d is up = record {
   driver = driver_same d d refl;
   device = device_alike p1 p2 (ap kept_of_rogue is);
@@ -401,7 +402,7 @@ reset_rogue m1 m2 p1 p2 d1 d2 g did rogue =
             ∙ length-map d1.places place_after_reset;
       };
       device = record {
-        size = ap (λ (p : Part). p.queue_size) part;
+        sized = ap (λ (p : Part). p.queue_size) part;
         paced = ap (λ (p : Part). p.paced) part;
         loose = λ none. ap (λ (p : Part). p.loose) part ∙ none;
         flagged = ap (λ (p : Part). length p.ballooned) part

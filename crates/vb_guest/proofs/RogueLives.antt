@@ -1,11 +1,13 @@
 -- A guest that wrote past its driver is initialised; an honest guest becomes one.
-use Rattle.std.specs.Prelude.{◌≡◌, ℕ, ◌<◌, Bool, true, false, List, [], length, All, Option}
-use Rattle.std.specs.Prelude.{Some, Result, Ok, Err, IsSome, MatchOption, is_none}
-use Rattle.std.specs.Prelude.{refl, ◌≤◌, is_some, ◌≢◌, not, ◌==◌, ◌∷◌, None, replicate, count_by}
+use Rattle.std.specs.Prelude.{◌≡◌, ℕ, ◌-◌, ◌<◌, Bool, true, false, List, [], length, All, Option}
+use Rattle.std.specs.Prelude.{Some, Result, Ok, Err, IsSome, MatchOption}
+use Rattle.std.specs.Prelude.{refl, ◌≤◌, is_some, ◌≢◌, not, ◌==◌, ◌∷◌, None, replicate}
 use Rattle.std.proofs.Common.{sym, ◌∙◌, ap, subst, arith}
 use Rattle.std.proofs.lemmas.Bool.{ne_eqb}
 use Rattle.std.proofs.lemmas.List.{length-replicate}
 use Rattle.std.proofs.lemmas.List.Elements.{All-nil}
+use Rattle.vb_model.specs.Layout.{reserved_pages, is_start_page}
+use Rattle.vb_model.proofs.Shapes.{reserved_most}
 use Rattle.vb_model.specs.declared.calls.Call.TheVariants.{Init}
 use Rattle.vb_model.specs.declared.calls.Claim.{Claim}
 use Rattle.vb_model.specs.declared.replies.Refusal.{Refusal}
@@ -32,7 +34,7 @@ use Rattle.vb_frames.specs.declared.keeper.Refused.{Refused as WhyRefused}
 use Rattle.vb_status.specs.After.{part_after_reset}
 use Rattle.vb_driver.specs.State.{DriverState}
 use Rattle.vb_driver.specs.Calls.{InitsBy, Starts, FirstBuffer, GivesUp}
-use Rattle.vb_guest.specs.Lives.{bare_from, AllSupplied, why_unsupplied, SuppliesBy}
+use Rattle.vb_guest.specs.Lives.{is_bare, bare_from, AllSupplied, why_unsupplied, SuppliesBy}
 use Rattle.vb_guest.specs.Replies.{ready_reply}
 use Rattle.vb_guest.specs.Stands.{IsOwnRequest, Rogue}
 use Rattle.vb_guest.specs.Steps.{backing_count, StepsAlone, StepsOver}
@@ -77,8 +79,8 @@ pub init_unsupplied_rogue : (Answers : List Bool → Claim → Type 0) (out1 out
     (l : List Claim) (m1 m2 : Pages) (p1 p2 : Part) (d : DriverState) (g : Guest) (wanted : ℕ)
     (why : WhyRefused) (refusal : Refusal)
     → why_unsupplied {T = Unit {0}} (Err why) ≡ Some refusal → p1.status ≡ 0
-    → SuppliesBy {T = Unit {0}} Answers (supply_of p1 out1) (supply_of p2 out2) [] l (bare_from m1 0)
-    m1 m2 (Err why) → p2 ≡ record p1 { own = p2.own } → Rogue m1 p1 d g
+    → SuppliesBy {T = Unit {0}} Answers (supply_of p1 out1) (supply_of p2 out2) [] l
+    (bare_from d.queue_size m1 0) m1 m2 (Err why) → p2 ≡ record p1 { own = p2.own } → Rogue m1 p1 d g
     → StepsOver (Rogue m2 p2 d) Answers (supply_of p1 out1) (supply_of p2 out2) l g (Init wanted)
     (Refused refusal)
 init_unsupplied_rogue Answers out1 out2 l m1 m2 p1 p2 d g wanted why refusal is new did part rogue =
@@ -88,7 +90,8 @@ init_unsupplied_rogue Answers out1 out2 l m1 m2 p1 p2 d g wanted why refusal is 
     did.refused.0 part
     (not_refused_pages (refusal_of g (Init wanted)) (lacking g) did.claims
     (none_refuses p1 m1 d g wanted new rogue)
-    (subst (λ (l : List ℕ). AreClaimsFor l did.claims) (bare_is m1 g rogue.behind) did.made))
+    (subst (λ (l : List ℕ). AreClaimsFor l did.claims)
+    (bare_is d.queue_size m1 g rogue.queue_size rogue.behind) did.made))
     (did.answer ∙ is) refl
     (unsupplied (not (g.status == 0)) (claim_refusal did.claims) refusal g _ (did.answer ∙ is))
     (λ page offset bytes e. absurd cc) did.answered did.refused.1)
@@ -96,8 +99,8 @@ init_unsupplied_rogue Answers out1 out2 l m1 m2 p1 p2 d g wanted why refusal is 
 -- ---- with frames
 
 -- what an initialisation, or one whose features are refused, leaves
-record Leaves (m2 m3 : Pages) (p2 p3 : Part) (d1 d2 : DriverState) : Type 0 where
-  keeps : Keeps m2 m3 p2 p3 d1 d2
+record Leaves (size : ℕ) (m2 m3 : Pages) (p2 p3 : Part) (d1 d2 : DriverState) : Type 0 where
+  keeps : Keeps size m2 m3 p2 p3 d1 d2
   count : length m3 ≡ length m2
   same : (page : ℕ) → frame_at m3 page ≡ frame_at m2 page
   target : p3.target ≡ p2.target
@@ -141,10 +144,11 @@ GaveUp p2 p3 d1 d2 wanted why =
     × (p3 ≡ record (part_after_reset p2) { status = 131; features = accepted_before why wanted })
 
 -- the part after a reset, with another status
-reset_device : (p p2 : Part) (state features : ℕ)
-    → p2 ≡ record (part_after_reset p) { status = state; features = features } → DeviceSame p p2
+reset_device : {size : ℕ} (p p2 : Part) (state features : ℕ)
+    → p2 ≡ record (part_after_reset p) { status = state; features = features }
+    → DeviceSame size p p2
 reset_device p p2 state features is = record {
-  size = ap (λ (x : Part). x.queue_size) is;
+  sized = ap (λ (x : Part). x.queue_size) is;
   paced = ap (λ (x : Part). x.paced) is;
   loose = λ none. ap (λ (x : Part). x.loose) is ∙ none;
   flagged = ap (λ (x : Part). length x.ballooned) is ∙ length-replicate (length p.ballooned) false;
@@ -161,10 +165,11 @@ first_buffer_frames false m1 m2 d1 d2 first = (
   λ page. ap (λ (m : Pages). frame_at m page) first.0,
 )
 
-started_leaves : (m2 m3 : Pages) (p2 p3 : Part) (d1 d2 : DriverState) (wanted : ℕ)
-    → ((page : ℕ) → page < 13 → IsSome (frame_at m2 page)) → Starts m2 m3 p2 p3 d1 d2 wanted
-    → Leaves m2 m3 p2 p3 d1 d2
-started_leaves m2 m3 p2 p3 d1 d2 wanted backed starts =
+started_leaves : (size : ℕ) (m2 m3 : Pages) (p2 p3 : Part) (d1 d2 : DriverState) (wanted : ℕ)
+    → ((page : ℕ) → is_start_page size page ≡ true → IsSome (frame_at m2 page))
+    → Starts m2 m3 p2 p3 d1 d2 wanted
+    → Leaves size m2 m3 p2 p3 d1 d2
+started_leaves size m2 m3 p2 p3 d1 d2 wanted backed starts =
     let first = first_buffer_frames (stats_vq wanted) starts.zeroed m3 d1 d2 starts.buffer in
     let same : (page : ℕ) → frame_at m3 page ≡ frame_at m2 page =
     λ page. first.1 page ∙ starts.rings.backing page in
@@ -178,13 +183,13 @@ started_leaves m2 m3 p2 p3 d1 d2 wanted backed starts =
         };
         device = reset_device p2 p3 15 wanted starts.part;
         up = λ was ok. record {
-          backed = λ page lt. ap is_some (same page) ∙ backed page lt;
-          inflates = subst (All (IsOwnRequest (length m3)))
+          backed = λ page start. ap is_some (same page) ∙ backed page start;
+          inflates = subst (All (IsOwnRequest size (length m3)))
               (sym (ap (λ (p : Part). p.inflate.taken) starts.part))
-              (All-nil (IsOwnRequest (length m3)));
-          reports = subst (All (IsOwnRequest (length m3)))
+              (All-nil (IsOwnRequest size (length m3)));
+          reports = subst (All (IsOwnRequest size (length m3)))
               (sym (ap (λ (p : Part). p.report.taken) starts.part))
-              (All-nil (IsOwnRequest (length m3)));
+              (All-nil (IsOwnRequest size (length m3)));
         };
       };
       count = first.0 ∙ starts.rings.count;
@@ -194,8 +199,8 @@ started_leaves m2 m3 p2 p3 d1 d2 wanted backed starts =
       numbers = ap (λ (p : Part). p.own) starts.part;
     }
 
-stopped_leaves : (m2 m3 : Pages) (p2 p3 : Part) (d1 d2 : DriverState) (features : ℕ)
-    → GivesUp m2 m3 p2 p3 d1 d2 features → Leaves m2 m3 p2 p3 d1 d2
+stopped_leaves : {size : ℕ} (m2 m3 : Pages) (p2 p3 : Part) (d1 d2 : DriverState) (features : ℕ)
+    → GivesUp m2 m3 p2 p3 d1 d2 features → Leaves size m2 m3 p2 p3 d1 d2
 stopped_leaves m2 m3 p2 p3 d1 d2 features stops = record {
   keeps = record {
     driver = record {
@@ -218,20 +223,21 @@ stopped_leaves m2 m3 p2 p3 d1 d2 features stops = record {
   numbers = ap (λ (p : Part). p.own) stops.part;
 }
 
-inits_leave : (m2 m3 : Pages) (p2 p3 : Part) (d1 d2 : DriverState) (wanted : ℕ)
-    (result : Result (Unit {0}) Refusal) → p2.status ≡ 0
-    → ((page : ℕ) → page < 13 → IsSome (frame_at m2 page))
+inits_leave : (size : ℕ) (m2 m3 : Pages) (p2 p3 : Part) (d1 d2 : DriverState) (wanted : ℕ)
+    (result : Result (Unit {0}) Refusal) → d1.queue_size ≡ size → p2.status ≡ 0
+    → ((page : ℕ) → is_start_page size page ≡ true → IsSome (frame_at m2 page))
     → InitsBy m2 m3 p2 p3 d1 d2 wanted result
-    → Leaves m2 m3 p2 p3 d1 d2 × (wants (ready_reply result) ≡ false)
+    → Leaves size m2 m3 p2 p3 d1 d2 × (wants (ready_reply result) ≡ false)
     × ((why : Refusal) → ready_reply result ≡ Refused why → GaveUp p2 p3 d1 d2 wanted why)
-inits_leave m2 m3 p2 p3 d1 d2 wanted (Ok x) new backed did = (
-  started_leaves m2 m3 p2 p3 d1 d2 wanted backed did.starts,
+inits_leave size m2 m3 p2 p3 d1 d2 wanted (Ok x) same new backed did = (
+  started_leaves size m2 m3 p2 p3 d1 d2 wanted backed did.starts,
   refl,
   λ why e. no_refusal _ why refl e,
 )
-inits_leave m2 m3 p2 p3 d1 d2 wanted (Err why) new backed did =
+inits_leave size m2 m3 p2 p3 d1 d2 wanted (Err why) same new backed did =
     let is : Some why ≡ feature_refusal wanted =
-    did.refusal ∙ driver_tests m2 p2 wanted new (has_all m2 backed) in
+    did.refusal ∙ driver_tests d1.queue_size m2 p2 wanted new (has_all d1.queue_size m2
+    (λ p start. backed p (subst (λ k. is_start_page k p ≡ true) same start))) in
     let stops = stopped m2 m3 p2 p3 d1 d2 wanted why (sym is) did.refused in (
       stopped_leaves m2 m3 p2 p3 d1 d2 (accepted_before why wanted) stops,
       refused_otherwise (feature_tests wanted) why refl (sym is),
@@ -282,8 +288,8 @@ pub init_supplied_rogue : (Answers : List Bool → Claim → Type 0) (out1 out2 
     (l : List Claim) (m1 m2 m3 : Pages) (p1 p2 p3 : Part) (d1 d2 : DriverState) (g : Guest)
     (wanted features : ℕ) (result : Result (Unit {0}) Refusal) → features ≡ wanted
     → p1.status ≡ 0
-    → SuppliesBy {T = Unit {0}} Answers (supply_of p1 out1) (supply_of p2 out2) [] l (bare_from m1 0)
-    m1 m2 (Ok tt)
+    → SuppliesBy {T = Unit {0}} Answers (supply_of p1 out1) (supply_of p2 out2) [] l
+    (bare_from d1.queue_size m1 0) m1 m2 (Ok tt)
     → p2 ≡ record p1 { own = p2.own } → InitsBy m2 m3 p2 p3 d1 d2 features result → Rogue m1 p1 d1 g
     → StepsOver (Rogue m3 p3 d2) Answers (supply_of p1 out1) (supply_of p3 out2) l g (Init wanted)
     (ready_reply result)
@@ -292,31 +298,37 @@ init_supplied_rogue Answers out1 out2 l m1 m2 m3 p1 p2 p3 d1 d2 g wanted feature
     let n = g.config.pages in
     let pages = lacking g in
     let claims = did.claims in
-    let bare : bare_from m1 0 ≡ lacking g = bare_is m1 g rogue.behind in
+    let size = d1.queue_size in
+    let bare : bare_from size m1 0 ≡ lacking g =
+    bare_is size m1 g rogue.queue_size rogue.behind in
     let made : AreClaimsFor pages claims =
     subst (λ (x : List ℕ). AreClaimsFor x claims) bare did.made in
     let supplied : AllSupplied pages (given claims) m1 m2 =
     subst (λ (x : List ℕ). AllSupplied x (given claims) m1 m2) bare did.supplied.0 in
     let frames : List (Option ℕ) = all_backed pages (given claims) g.frames in
-    let distinct = subst AllDistinct bare (all_distinct (λ page. is_none (frame_at m1 page)) 0 13) in
+    let distinct = subst AllDistinct bare (all_distinct (is_bare size m1) 0
+    (reserved_pages size - 0)) in
     let below : (p : ℕ) → is_in p pages ≡ true → p < n =
-    λ p there. (let low = bounded (λ page. is_none (frame_at m1 page)) 0 13 p
+    λ p there. (let low = bounded (is_bare size m1) 0 (reserved_pages size - 0) p
     (ap (is_in p) bare ∙ there) in
     omega (
       arith,
       low,
+      reserved_most size,
       (config_limits g.config.pages g.config.queue_size g.config.processors
           rogue.config).pages_least,
     )) in
     let before : HasFrames m1 n g.frames =
     record { length_is = rogue.length_is; framed = rogue.framed; behind = rogue.behind } in
     let has = frames_given n pages (given claims) m1 m2 g.frames distinct below supplied before in
-    let backed : (p : ℕ) → p < 13 → IsSome (frame_at m2 p) =
-    λ p lt. now_backed m1 m2 (given claims) p did.supplied.0 lt in
+    let backed : (p : ℕ) → is_start_page g.config.queue_size p ≡ true → IsSome (frame_at m2 p) =
+    λ p start. now_backed size m1 m2 (given claims) p did.supplied.0
+    (subst (λ k. is_start_page k p ≡ true) (sym rogue.queue_size) start) in
     let new : p2.status ≡ 0 = ap (λ (p : Part). p.status) part ∙ status in
     let same : InitsBy m2 m3 p2 p3 d1 d2 wanted result =
     subst (λ (f : ℕ). InitsBy m2 m3 p2 p3 d1 d2 f result) named inits in
-    let (left, answer, gave_up) = inits_leave m2 m3 p2 p3 d1 d2 wanted result new backed same in
+    let (left, answer, gave_up) = inits_leave g.config.queue_size m2 m3 p2 p3 d1
+    d2 wanted result rogue.queue_size new backed same in
     let none_before = none_refuses p1 m1 d1 g wanted status rogue in
     let needs : pages_to_back (Init wanted) g ≡ pages =
     ap (λ (o : Option Refusal). unless_refused o pages) none_before in
@@ -371,7 +383,7 @@ init_supplied_rogue Answers out1 out2 l m1 m2 m3 p1 p2 p3 d1 d2 g wanted feature
 -- memory is as large as it was
 pub still_large_rogue : (Answers : List Bool → Claim → Type 0) (s1 s2 : Supply) (l1 l2 : List Claim)
     (m1 m2 : Pages) (p : Part) (d : DriverState) (g : Guest) → Rogue m1 p d g
-    → SuppliesBy {T = Unit {0}} Answers s1 s2 l1 l2 (bare_from m1 0) m1 m2 (Ok tt)
+    → SuppliesBy {T = Unit {0}} Answers s1 s2 l1 l2 (bare_from d.queue_size m1 0) m1 m2 (Ok tt)
     → 64 ≤ length m2
 still_large_rogue Answers s1 s2 l1 l2 m1 m2 p d g rogue did =
     omega (
@@ -379,5 +391,5 @@ still_large_rogue Answers s1 s2 l1 l2 m1 m2 p d g rogue did =
       (config_limits g.config.pages g.config.queue_size g.config.processors
           rogue.config).pages_least,
       rogue.length_is,
-      supplied_count (bare_from m1 0) (given did.claims) m1 m2 did.supplied.0,
+      supplied_count (bare_from d.queue_size m1 0) (given did.claims) m1 m2 did.supplied.0,
     )

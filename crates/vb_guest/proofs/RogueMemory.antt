@@ -16,7 +16,7 @@ use Rattle.vb_model.specs.declared.replies.Reply.TheVariants.{Done, Refused}
 use Rattle.vb_model.specs.Driver.{given, claim_refusal, AreClaimsFor, pages_needed}
 use Rattle.vb_model.specs.FirstRefusal.{◌⇒◌, first_refusal}
 use Rattle.vb_model.specs.Guest.{Guest, frame_of, backed, all_backed, is_ballooned}
-use Rattle.vb_model.specs.Limits.{reserved_pages}
+use Rattle.vb_model.specs.Layout.{reserved_pages}
 use Rattle.vb_model.specs.Orderly.{times}
 use Rattle.vb_model.specs.Refusals.{refusal_of, is_outside}
 use Rattle.vb_model.specs.Requests.{Request}
@@ -53,26 +53,31 @@ use Rattle.vb_guest.proofs.Writing.{frames_supplied, count_backed}
 
 -- an honest guest's requests name its own pages
 up_honest : (m : Pages) (p : Part) (d : DriverState) (g : Guest) → Honest m p d g
-    → contains p.status driver_ok ≡ true → IsRogueUp m p
+    → contains p.status driver_ok ≡ true → IsRogueUp g.config.queue_size m p
 up_honest m p d g honest ok = elim honest.ties.queues [
   | inl idle ↦
       (let P : ℕ → Type 0 = λ s. contains s driver_ok ≡ true in
       absurd (down_not_ok g.status idle.state (subst P honest.ties.parts.device.status ok)))
   | inr run ↦
       let n = g.config.pages in
-      let sized : (rs : List Request) → All (IsOwnRequest n) rs
-      → All (IsOwnRequest (length m)) rs =
-      λ rs all. subst (λ (k : ℕ). All (IsOwnRequest k) rs) (sym honest.ties.pages.length_is) all in
+      let size = g.config.queue_size in
+      let sized : (k : ℕ) (rs : List Request) → k ≡ size → All (IsOwnRequest k n) rs
+      → All (IsOwnRequest size (length m)) rs =
+      λ k rs same all. subst (λ (c : ℕ). All (IsOwnRequest size c) rs) (sym honest.ties.pages.length_is)
+      (subst (λ (s : ℕ). All (IsOwnRequest s n) rs) same all) in
       record {
         backed = run.backed;
-        inflates = sized p.inflate.taken (subst (All (IsOwnRequest n)) (sym run.inflate.remembers)
+        inflates = sized d.inflate.ring.size p.inflate.taken run.inflate_size
+            (subst (All (IsOwnRequest d.inflate.ring.size n)) (sym run.inflate.remembers)
             (λ k r lt. let is = run.inflate.taken k r lt in
             record { above = is.pages.above; below = is.pages.below }));
-        reports = sized p.report.taken (subst (All (IsOwnRequest n)) (sym run.report.remembers)
+        reports = sized d.report.ring.size p.report.taken run.report_size
+            (subst (All (IsOwnRequest d.report.ring.size n)) (sym run.report.remembers)
             (λ k r lt. let is = run.report.taken k r lt in
-            let own = own_pages n d.report.blocks is.blocks_are in
+            let own = own_pages d.report.ring.size n d.report.blocks is.blocks_are in
             record {
-              above = subst (All (λ page. 16 ≤ page)) (sym is.names) own.0;
+              above = subst (All (λ page. reserved_pages d.report.ring.size ≤ page)) (sym is.names)
+                  own.0;
               below = subst (All (λ page. page < n)) (sym is.names) own.1;
             }));
       }
@@ -80,7 +85,8 @@ up_honest m p d g honest ok = elim honest.ties.queues [
 
 -- and no reserved page is ballooned
 low_honest : (g : Guest) (page : ℕ) (flag : Bool) → is_ballooned g.ballooned page ≡ flag
-    → ((e : is_ballooned g.ballooned page ≡ true) → 16 ≤ page) → page < reserved_pages
+    → ((e : is_ballooned g.ballooned page ≡ true) → reserved_pages g.config.queue_size ≤ page)
+    → page < reserved_pages g.config.queue_size
     → is_ballooned g.ballooned page ≡ false
 low_honest g page true is high low = absurd (omega (arith, high is, low))
 low_honest g page false is high low = is
@@ -267,6 +273,7 @@ supplied_rogue m1 m2 m3 m4 p1 p2 p3 p4 d g page off frame bs covers same now wro
     let part : p4 ≡ record p1 { own = p4.own } =
     pc ∙ pb ∙ pa ∙ ap (λ (l : List ℕ). record p1 { own = l }) (sym own) in
     let count : length m4 ≡ length m1 = wrote.rest.count ∙ supplied.count in
+    let size = g.config.queue_size in
     let still : (q : ℕ) → is_some (frame_at m1 q) ≡ true → is_some (frame_at m4 q) ≡ true =
     λ q there. ap is_some (wrote.rest.backing q) ∙ elim (cases_eq q page) [
       | inl at ↦ ap (λ (k : ℕ). is_some (frame_at m3 k)) at ∙ ap is_some supplied.backed
@@ -280,11 +287,11 @@ supplied_rogue m1 m2 m3 m4 p1 p2 p3 p4 d g page off frame bs covers same now wro
           let up = was (ap (λ (p : Part). contains p.status driver_ok) (sym part) ∙ ok) in
           record {
             backed = λ q low. still q (up.backed q low);
-            inflates = subst (λ (n : ℕ). All (IsOwnRequest n) p4.inflate.taken) (sym count)
-                (subst (All (IsOwnRequest (length m1)))
+            inflates = subst (λ (n : ℕ). All (IsOwnRequest size n) p4.inflate.taken) (sym count)
+                (subst (All (IsOwnRequest size (length m1)))
                 (sym (ap (λ (p : Part). p.inflate.taken) part)) up.inflates);
-            reports = subst (λ (n : ℕ). All (IsOwnRequest n) p4.report.taken) (sym count)
-                (subst (All (IsOwnRequest (length m1)))
+            reports = subst (λ (n : ℕ). All (IsOwnRequest size n) p4.report.taken) (sym count)
+                (subst (All (IsOwnRequest size (length m1)))
                 (sym (ap (λ (p : Part). p.report.taken) part)) up.reports);
           };
     }) count (has.framed ∙ sym rogue.framed) (λ q. wrote.rest.backing q ∙ has.behind q)

@@ -1,8 +1,8 @@
 -- A call on a guest that wrote past its driver: what it keeps is enough.
 use Rattle.std.specs.Prelude.{◌≡◌, ◌≢◌, ℕ, ◌<◌, Bool, true, false, List, [], length}
-use Rattle.std.specs.Prelude.{All, Option, Some, MatchBool, count_by, refl}
+use Rattle.std.specs.Prelude.{All, Option, Some, MatchBool, refl}
 use Rattle.std.specs.Prelude.{is_some, ◌⊎◌, MatchOption}
-use Rattle.std.proofs.Common.{sym, ◌∙◌, ap, subst, inl, inr, arith}
+use Rattle.std.proofs.Common.{sym, ◌∙◌, ap, subst, inl, arith}
 use Rattle.vb_model.specs.declared.calls.Call.{Call}
 use Rattle.vb_model.specs.declared.calls.Call.TheVariants.{Scribble}
 use Rattle.vb_model.specs.declared.calls.Claim.{Claim}
@@ -12,7 +12,8 @@ use Rattle.vb_model.specs.declared.replies.Refusal.TheVariants.{NoFrame, NoMemor
 use Rattle.vb_model.specs.declared.replies.Refusal.TheVariants.{RingBroken}
 use Rattle.vb_model.specs.declared.replies.Reply.{Reply}
 use Rattle.vb_model.specs.declared.replies.Reply.TheVariants.{Refused}
-use Rattle.vb_model.specs.Limits.{reserved_pages}
+use Rattle.vb_model.specs.Layout.{reserved_pages}
+use Rattle.vb_model.proofs.Shapes.{start_reserved}
 use Rattle.vb_model.specs.Status.{contains, driver_ok}
 use Rattle.vb_model.specs.Guest.{Guest, LastStatistics, frame_of, is_ballooned, all_backed}
 use Rattle.vb_model.specs.Driver.{given, claim_refusal, AreClaimsFor}
@@ -39,19 +40,20 @@ pub record DriverSame (d1 d2 : DriverState) : Type 0 where
   pub table : length d2.places ≡ length d1.places
 
 -- the device is as large, and has no reserved page ballooned
-pub record DeviceSame (p1 p2 : Part) : Type 0 where
-  pub size : p2.queue_size ≡ p1.queue_size
+pub record DeviceSame (size : ℕ) (p1 p2 : Part) : Type 0 where
+  pub sized : p2.queue_size ≡ p1.queue_size
   pub paced : p2.paced ≡ p1.paced
   pub loose : p1.loose ≡ [] → p2.loose ≡ []
   pub flagged : length p2.ballooned ≡ length p1.ballooned
-  pub unreserved : (page : ℕ) → page < reserved_pages → is_ballooned p1.ballooned page ≡ false
+  pub unreserved : (page : ℕ) → page < reserved_pages size → is_ballooned p1.ballooned page ≡ false
       → is_ballooned p2.ballooned page ≡ false
 
-pub record Keeps (m1 m2 : Pages) (p1 p2 : Part) (d1 d2 : DriverState) : Type 0 where
+pub record Keeps (size : ℕ) (m1 m2 : Pages) (p1 p2 : Part) (d1 d2 : DriverState) :
+    Type 0 where
   pub driver : DriverSame d1 d2
-  pub device : DeviceSame p1 p2
-  pub up : (contains p1.status driver_ok ≡ true → IsRogueUp m1 p1)
-      → contains p2.status driver_ok ≡ true → IsRogueUp m2 p2
+  pub device : DeviceSame size p1 p2
+  pub up : (contains p1.status driver_ok ≡ true → IsRogueUp size m1 p1)
+      → contains p2.status driver_ok ≡ true → IsRogueUp size m2 p2
 
 pub driver_same : (d1 d2 : DriverState) → d2 ≡ d1 → DriverSame d1 d2
 driver_same d1 d2 e = record {
@@ -71,9 +73,10 @@ kept_of_rogue p =
       ballooned = p.ballooned;
     }
 
-pub device_alike : (p1 p2 : Part) → kept_of_rogue p2 ≡ kept_of_rogue p1 → DeviceSame p1 p2
+pub device_alike : {size : ℕ} (p1 p2 : Part) → kept_of_rogue p2 ≡ kept_of_rogue p1
+    → DeviceSame size p1 p2
 device_alike p1 p2 e = record {
-  size = ap (λ (p : Part). p.queue_size) e;
+  sized = ap (λ (p : Part). p.queue_size) e;
   paced = ap (λ (p : Part). p.paced) e;
   loose = λ none. ap (λ (p : Part). p.loose) e ∙ none;
   flagged = ap (λ (p : Part). length p.ballooned) e;
@@ -98,7 +101,8 @@ rogue_after g frames part d =
     }
 
 pub rogue_stands : (m1 m2 : Pages) (p1 p2 : Part) (d1 d2 : DriverState) (g : Guest)
-    (frames : List (Option ℕ)) → Rogue m1 p1 d1 g → Keeps m1 m2 p1 p2 d1 d2
+    (frames : List (Option ℕ)) → Rogue m1 p1 d1 g
+    → Keeps g.config.queue_size m1 m2 p1 p2 d1 d2
     → length m2 ≡ length m1 → length frames ≡ length g.frames
     → ((page : ℕ) → frame_at m2 page ≡ frame_of frames page)
     → Rogue m2 p2 d2 (rogue_after g frames p2 d2)
@@ -111,7 +115,7 @@ rogue_stands m1 m2 p1 p2 d1 d2 g frames rogue keeps count framed behind = record
   places = refl;
   placed = keeps.driver.table ∙ ap length rogue.places ∙ rogue.placed;
   actual = refl;
-  size = keeps.device.size ∙ rogue.size;
+  size = keeps.device.sized ∙ rogue.size;
   paced = keeps.device.paced ∙ rogue.paced;
   status = refl;
   features = refl;
@@ -284,7 +288,8 @@ rogue_step m1 m2 p1 p2 d1 d2 g frames call reply old new target loses answer oth
 
 -- and no page changes its frame
 pub rogue_alone : (m1 m2 : Pages) (p1 p2 : Part) (d1 d2 : DriverState) (g : Guest) (call : Call)
-    (reply : Reply) → Rogue m1 p1 d1 g → Keeps m1 m2 p1 p2 d1 d2 → length m2 ≡ length m1
+    (reply : Reply) → Rogue m1 p1 d1 g
+    → Keeps g.config.queue_size m1 m2 p1 p2 d1 d2 → length m2 ≡ length m1
     → ((page : ℕ) → frame_at m2 page ≡ frame_at m1 page)
     → p2.target ≡ target_after call p1.target → wants reply ≡ false → IsOther call
     → pages_to_back call g ≡ [] → IsLeft call reply [] g (rogue_after g g.frames p2 d2)
@@ -303,22 +308,23 @@ rogue_alone m1 m2 p1 p2 d1 d2 g call reply rogue keeps count same target answer 
 -- ---- pages that stay backed
 
 -- where the pages of rings and buffers keep their frames, and nothing is taken
-pub up_kept : (m1 m2 : Pages) (p1 p2 : Part) → length m2 ≡ length m1
-    → ((page : ℕ) → page < reserved_pages → frame_at m2 page ≡ frame_at m1 page)
+pub up_kept : {size : ℕ} (m1 m2 : Pages) (p1 p2 : Part) → length m2 ≡ length m1
+    → ((page : ℕ) → page < reserved_pages size → frame_at m2 page ≡ frame_at m1 page)
     → p2.inflate.taken ≡ p1.inflate.taken → p2.report.taken ≡ p1.report.taken
-    → IsRogueUp m1 p1 → IsRogueUp m2 p2
-up_kept m1 m2 p1 p2 count same inflates reports up = record {
-  backed = λ page low. ap is_some (same page (omega (arith, low))) ∙ up.backed page low;
-  inflates = subst (λ (n : ℕ). All (IsOwnRequest n) p2.inflate.taken) (sym count)
-      (subst (All (IsOwnRequest (length m1))) (sym inflates) up.inflates);
-  reports = subst (λ (n : ℕ). All (IsOwnRequest n) p2.report.taken) (sym count)
-      (subst (All (IsOwnRequest (length m1))) (sym reports) up.reports);
+    → IsRogueUp size m1 p1 → IsRogueUp size m2 p2
+up_kept {size} m1 m2 p1 p2 count same inflates reports up = record {
+  backed = λ page start.
+      ap is_some (same page (start_reserved size page start)) ∙ up.backed page start;
+  inflates = subst (λ (n : ℕ). All (IsOwnRequest size n) p2.inflate.taken) (sym count)
+      (subst (All (IsOwnRequest size (length m1))) (sym inflates) up.inflates);
+  reports = subst (λ (n : ℕ). All (IsOwnRequest size n) p2.report.taken) (sym count)
+      (subst (All (IsOwnRequest size (length m1))) (sym reports) up.reports);
 }
 
 -- the device's part is as it was
-pub keeps_part : (m1 m2 : Pages) (p1 p2 : Part) (d1 d2 : DriverState) → DriverSame d1 d2
+pub keeps_part : {size : ℕ} (m1 m2 : Pages) (p1 p2 : Part) (d1 d2 : DriverState) → DriverSame d1 d2
     → p2 ≡ p1 → length m2 ≡ length m1 → ((page : ℕ) → frame_at m2 page ≡ frame_at m1 page)
-    → Keeps m1 m2 p1 p2 d1 d2
+    → Keeps size m1 m2 p1 p2 d1 d2
 keeps_part m1 m2 p1 p2 d1 d2 driver part count same = record {
   driver = driver;
   device = device_alike p1 p2 (ap kept_of_rogue part);

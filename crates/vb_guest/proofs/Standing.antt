@@ -14,7 +14,7 @@ use Rattle.vb_ram.specs.Part.{Part}
 use Rattle.vb_driver.specs.State.{DriverState}
 use Rattle.vb_device.specs.Own.{has}
 use Rattle.vb_guest.specs.Stands.{Honest, Rogue, OwnFrames, Stands, StandsBy}
-use Rattle.vb_guest.specs.Steps.{is_frame, backing_count, AreOut, Steps, StepsAlone, StepsOver, StepsFreeing}
+use Rattle.vb_guest.specs.Steps.{is_frame, backing_count, AreOut, StepsWithKeeper, StepsAlone, StepsOver, StepsFreeing}
 use Rattle.vb_model.specs.declared.calls.Claim.TheVariants.{Gave, GaveNoFrame, GaveNoMemory}
 use Rattle.vb_frames.specs.Out.{is_out, AllAnswered}
 use Rattle.vb_guest.specs.Supply.{Supply, AreClaimed, supply_of, is_used, Moves, nothing, AreLoose}
@@ -283,7 +283,7 @@ moves_asked s1 s2 gained lost e moves = record {
 -- a step over the keeper's frames
 pub steps_asked : (New : Guest → Type 0) (Answers : List Bool → Claim → Type 0) (s1 s2 : Supply)
     (claims : List Claim) (g : Guest) (call : Call) (reply : Reply) → s1.keeps ≡ false
-    → StepsOver New Answers s1 s2 claims g call reply → Steps New Answers s1.out s2.out g call reply
+    → StepsOver New Answers s1 s2 claims g call reply → StepsWithKeeper New Answers s1.out s2.out g call reply
 steps_asked New Answers s1 s2 claims g call reply e step =
     let keeper = moves_asked s1 s2 (λ n. backing_count n step.new) (λ n. backing_count n g) e
     step.moves in

@@ -3,6 +3,7 @@ use Rattle.std.specs.Prelude.{◌≡◌, ℕ, ◌*◌, ◌<◌, ◌≤◌, Bool,
 use Rattle.std.specs.Prelude.{if◌then◌else◌, List, [], length, Option}
 use Rattle.std.specs.Prelude.{IsSome, is_some, All}
 use Rattle.std.specs.Prelude.{replicate, count_by, refl}
+use Rattle.std.proofs.lemmas.Bool.{false_from_ne_true}
 use Rattle.std.proofs.Common.{sym, ◌∙◌, ap, subst, arith, inl, inr}
 use Rattle.std.proofs.lemmas.List.{length-replicate}
 use Rattle.vb_model.specs.declared.places.Place.{Place}
@@ -16,7 +17,7 @@ use Rattle.vb_ram.specs.Part.{Part, no_queue}
 use Rattle.vb_status.specs.After.{part_after_reset}
 use Rattle.vb_ring.specs.Layout.{IsSize}
 use Rattle.vb_ring.specs.Ends.{DriverEnd}
-use Rattle.vb_driver.specs.Coding.{AreZeroed, ring_pages}
+use Rattle.vb_driver.specs.Coding.{AreZeroed, AreFigures}
 use Rattle.vb_driver.specs.State.{DriverState, IsDriver, fresh_side, fresh_statistics, fresh_report}
 use Rattle.vb_driver.specs.State.{figures_of}
 use Rattle.vb_driver.specs.Calls.{Starts, GivesUp, IsNewRing, FirstBuffer, with_nothing_out}
@@ -25,6 +26,9 @@ use Rattle.vb_guest.specs.Reported.{ReportLine}
 use Rattle.vb_guest.specs.Buffer.{BufferLine}
 use Rattle.vb_guest.specs.Stands.{Ties, HasParts, HasPages, IsIdle, beside_queues}
 use Rattle.vb_guest.specs.Stands.{beside_sides, beside_requests}
+use Rattle.vb_model.specs.Layout.{reserved_pages, ring_page, is_ring_page, is_start_page}
+use Rattle.vb_model.proofs.Shapes.{reserved_least, ring_reserved}
+use Rattle.vb_guest.proofs.RunApart.{ring_of, ring_low}
 use Rattle.vb_guest.proofs.Closing.{ties_same}
 use Rattle.vb_guest.proofs.PagesKept.{pages_same}
 use Rattle.vb_guest.proofs.RingPosted.{ring_posted}
@@ -78,7 +82,8 @@ first_line true zeroed m d1 d2 f sized is new did =
       stands = ring_posted zeroed m 2 (fresh_statistics d1.queue_size) d2.statistics 0 0 [] [] []
           1 0 (ring_new zeroed 2 (fresh_statistics d1.queue_size) sized refl new) did.state
           did.announces;
-      figures = did.coded;
+      figures = subst (λ (s : ℕ). AreFigures m (ring_page s 2) (figures_of d1))
+          (sym (ap (λ (r : DriverEnd). r.size) did.state)) did.coded;
       remembers = refl;
     })
 first_line false zeroed m d1 d2 f sized is new did =
@@ -96,22 +101,39 @@ first_size true zeroed m d1 d2 did = ap (λ (r : DriverEnd). r.size) did.state
 first_size false zeroed m d1 d2 did = ap (λ (r : DriverEnd). r.size) did.1
 
 -- what the start leaves of memory
-record KeepsPages (old new : Pages) : Type 0 where
+record KeepsPages (size : ℕ) (old new : Pages) : Type 0 where
   count : length new ≡ length old
   backing : (p : ℕ) → frame_at new p ≡ frame_at old p
-  high : (p : ℕ) → 16 ≤ p → page_at new p ≡ page_at old p
+  high : (p : ℕ) → reserved_pages size ≤ p → page_at new p ≡ page_at old p
+
+-- a page past the reserved ones is no ring's
+no_ring : (size p : ℕ) → reserved_pages size ≤ p → is_ring_page size p ≡ false
+no_ring size p high = false_from_ne_true (is_ring_page size p)
+    (λ ring. omega (arith, high, ring_reserved size p ring))
 
 start_keeps : (b : Bool) (m1 zeroed m : Pages) (d1 d2 : DriverState)
-    → AreZeroed m1 zeroed ring_pages → FirstBuffer b zeroed m d1 d2 → KeepsPages m1 m
-start_keeps true m1 zeroed m d1 d2 zeroes did = record {
-  count = did.rest.count ∙ zeroes.count;
-  backing = λ p. did.rest.backing p ∙ zeroes.backing p;
-  high = λ p at. did.rest.others p (omega arith) (omega arith) ∙ zeroes.others p (omega arith);
-}
-start_keeps false m1 zeroed m d1 d2 zeroes did = record {
+    → IsSize d1.queue_size → AreZeroed m1 zeroed (is_ring_page d1.queue_size)
+    → FirstBuffer b zeroed m d1 d2 → KeepsPages d1.queue_size m1 m
+start_keeps true m1 zeroed m d1 d2 sized zeroes did =
+    let size = d1.queue_size in
+    let ring = ring_of size 2 (fresh_statistics size) sized refl refl in
+    record {
+      count = did.rest.count ∙ zeroes.count;
+      backing = λ p. did.rest.backing p ∙ zeroes.backing p;
+      high = λ p at.
+          let l = (fresh_statistics size).layout in
+          let table : l.table < reserved_pages size =
+          ring_low size size 2 l.table refl ring.table in
+          let avail : l.avail.page < reserved_pages size =
+          ring_low size size 2 l.avail.page refl ring.avail in
+          did.rest.others p (omega (arith, table, at)) (omega (arith, avail, at))
+          (omega (arith, at, reserved_least size)) ∙ zeroes.others p (no_ring size p at);
+    }
+start_keeps false m1 zeroed m d1 d2 sized zeroes did = record {
   count = ap (λ (x : Pages). length x) did.0 ∙ zeroes.count;
   backing = λ p. ap (λ (x : Pages). frame_at x p) did.0 ∙ zeroes.backing p;
-  high = λ p at. ap (λ (x : Pages). page_at x p) did.0 ∙ zeroes.others p (omega arith);
+  high = λ p at. ap (λ (x : Pages). page_at x p) did.0
+      ∙ zeroes.others p (no_ring d1.queue_size p at);
 }
 
 figures_are : (d : DriverState) (g : Guest) → d.places ≡ g.places → d.pages ≡ g.config.pages
@@ -123,8 +145,8 @@ figures_are d g places pages =
 
 -- the guest whose pages have these frames, and whose device is initialised
 pub started : (m2 m3 : Pages) (p1 p3 : Part) (d1 d2 : DriverState) (g : Guest)
-    (frames : List (Option ℕ)) (wanted : ℕ) → HasPages m2 g.config.pages frames g.contents
-    → ((p : ℕ) → p < 13 → IsSome (frame_at m2 p))
+    (frames : List (Option ℕ)) (wanted : ℕ) → HasPages m2 g.config.queue_size g.config.pages frames g.contents
+    → ((p : ℕ) → is_start_page g.config.queue_size p ≡ true → IsSome (frame_at m2 p))
     → IsIdle g → IsDriver d1 → HasParts (beside_queues p1) (beside_sides d1) (beside_requests g)
     → Starts m2 m3 p1 p3 d1 d2 wanted
     → Ties m3 p3 d2 (record g {
@@ -157,7 +179,8 @@ started m2 m3 p1 p3 d1 d2 g frames wanted has backed idle driver parts did =
     (subst (λ (d : DriverState). IsNewRing m3 d.deflate.ring) did.driver did.deflate) in
     let report = fresh_report_line m3 n d1.queue_size driver.size
     (subst (λ (d : DriverState). IsNewRing m3 d.report.ring) did.driver did.report) in
-    let keeps = start_keeps (stats_vq wanted) m2 did.zeroed m3 d1 d2 did.rings did.buffer in
+    let keeps = start_keeps (stats_vq wanted) m2 did.zeroed m3 d1 d2 driver.size did.rings
+    did.buffer in
     let there : Ties m3 part state new = record {
       parts = record {
         guest = parts.guest;
@@ -182,11 +205,12 @@ started m2 m3 p1 p3 d1 d2 g frames wanted has backed idle driver parts did =
           loose = parts.device.loose;
         };
       };
-      pages = pages_same m2 m3 n frames g.contents
+      pages = pages_same m2 m3 g.config.queue_size n frames g.contents
           (record {
             count = keeps.count;
             behind = keeps.backing;
-            holds = λ p high. ap contents_of (keeps.high p high);
+            holds = λ p high. ap contents_of (keeps.high p
+                (subst (λ (k : ℕ). reserved_pages k ≤ p) (sym parts.driver.queue_size) high));
           }) has;
       queues = inr (record {
         state = refl;
@@ -210,7 +234,7 @@ started m2 m3 p1 p3 d1 d2 g frames wanted has backed idle driver parts did =
 
 -- the guest whose pages have these frames, and whose driver gave up
 pub stopped : (m2 m3 : Pages) (p1 p3 : Part) (d1 d2 : DriverState) (g : Guest)
-    (frames : List (Option ℕ)) (accepted : ℕ) → HasPages m2 g.config.pages frames g.contents
+    (frames : List (Option ℕ)) (accepted : ℕ) → HasPages m2 g.config.queue_size g.config.pages frames g.contents
     → IsIdle g → HasParts (beside_queues p1) (beside_sides d1) (beside_requests g)
     → GivesUp m2 m3 p1 p3 d1 d2 accepted
     → Ties m3 p3 d2 (record g { frames = frames; status = 131; features = accepted })

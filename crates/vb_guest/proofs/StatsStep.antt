@@ -16,24 +16,24 @@ use Rattle.vb_model.specs.Driver.{figures, Fills}
 use Rattle.vb_model.specs.FirstRefusal.{first_refusal}
 use Rattle.vb_model.specs.Tables.{stats_tests as tests_of_stats, is_up}
 use Rattle.vb_model.specs.Refusals.{refusal_of}
-use Rattle.vb_ram.specs.Pages.{Pages, contents_of}
+use Rattle.vb_ram.specs.Pages.{Pages}
 use Rattle.vb_ram.specs.Part.{Part}
-use Rattle.vb_ring.specs.declared.layout.Layout.{Layout}
 use Rattle.vb_ring.specs.declared.driver.RingBroken.{RingBroken as Broken}
 use Rattle.vb_ring.specs.Ends.{DriverEnd, used_answer}
 use Rattle.vb_driver.specs.State.{DriverState, figures_of}
-use Rattle.vb_driver.specs.Coding.{SameButPages}
 use Rattle.vb_driver.specs.Answers.{stats_tests, is_ring_broken}
 use Rattle.vb_driver.specs.Calls.{FillsBy, Refills, emptied}
 use Rattle.vb_guest.specs.Buffer.{BufferLine, used_heads}
 use Rattle.vb_guest.specs.Stands.{Honest, Ties, IsRunning}
 use Rattle.vb_guest.specs.Steps.{StepsAlone}
 use Rattle.vb_guest.specs.Replies.{filled_reply}
+use Rattle.vb_model.proofs.Shapes.{reserved_least}
+use Rattle.vb_guest.proofs.RunApart.{sizes_of, ring_of, buffer_clear, post_leaves, post_same}
 use Rattle.vb_guest.proofs.RingReaped.{ring_answer}
 use Rattle.vb_guest.proofs.Apart.{line_apart}
 use Rattle.vb_guest.proofs.BufferLines.{buffer_emptied, buffer_posted}
 use Rattle.vb_guest.proofs.ReportLines.{report_apart}
-use Rattle.vb_guest.proofs.PagesKept.{SamePages, pages_same}
+use Rattle.vb_guest.proofs.PagesKept.{pages_same}
 use Rattle.vb_guest.proofs.SameRefusals.{IsIdleStatus, at_both, last_test}
 use Rattle.vb_guest.proofs.ReapRefusing.{unfailed, never_broken}
 use Rattle.vb_guest.proofs.Closing.{honest_performed, steps_alone, refused_alone, ties_same}
@@ -110,15 +110,14 @@ refilled m1 m2 p1 p2 d1 d2 g old is did stands run free =
     let now : Figures = figures g in
     let L : Buffer → Type 0 = λ b. BufferLine m1 d1.statistics p1.statistics b in
     let line : L (BufferDone old) = subst L is run.statistics in
-    let table : d1.statistics.layout.table ≡ 2 =
-    ap (λ (l : Layout). l.table) line.stands.layout in
-    let rest : SameButPages m1 m2 2 12 =
-    subst (λ (t : ℕ). SameButPages m1 m2 t 12) table did.posts.rest in
-    let same : SamePages m1 m2 = record {
-      count = rest.count;
-      behind = rest.backing;
-      holds = λ p high. ap contents_of (rest.others p (omega arith) (omega arith));
-    } in
+    let size = g.config.queue_size in
+    let rest = did.posts.rest in
+    let ring = ring_of size 2 d1.statistics line.stands.sized line.stands.layout
+    run.statistics_size in
+    let same = post_same m1 m2 size 2 12 d1.statistics.layout ring
+    (omega (arith, reserved_least size)) rest.count rest.backing rest.others in
+    let leaves = post_leaves m1 m2 d1 size 2 12 d1.statistics.layout (sizes_of m1 p1 d1 g run) ring
+    (buffer_clear size 2 12 (omega arith) (omega arith)) rest.others in
     let new : Guest = record g { buffer = BufferPosted now } in
     let F : Buffer → Type 0 = λ b. Fills b g Filled new in
     let step = honest_performed g Stats [] Filled new free (refl, subst F (sym is) (refl, refl)) in
@@ -131,7 +130,7 @@ refilled m1 m2 p1 p2 d1 d2 g old is did stands run free =
     emptied_line did.posts) in
     let there : Ties m2 p1 after new = record {
       parts = ties.parts;
-      pages = pages_same m1 m2 n _ _ same ties.pages;
+      pages = pages_same m1 m2 g.config.queue_size n _ _ same ties.pages;
       queues = inr (record {
         state = run.state;
         backed = λ p lt. ap is_some (rest.backing p) ∙ run.backed p lt;
@@ -139,17 +138,13 @@ refilled m1 m2 p1 p2 d1 d2 g old is did stands run free =
         deflate_size = run.deflate_size;
         statistics_size = ap (λ (r : DriverEnd). r.size) did.posts.state ∙ run.statistics_size;
         report_size = run.report_size;
-        inflate = line_apart m1 m2 0 n d1.inflate p1.inflate g.inflate (record {
-          ring = rest.others 0 (omega arith) (omega arith);
-          buffers = λ p from to. rest.others p (omega arith) (omega arith);
-        }) run.inflate;
-        deflate = line_apart m1 m2 1 n d1.deflate p1.deflate g.deflate (record {
-          ring = rest.others 1 (omega arith) (omega arith);
-          buffers = λ p from to. rest.others p (omega arith) (omega arith);
-        }) run.deflate;
+        inflate = line_apart m1 m2 0 n d1.inflate p1.inflate g.inflate
+            (leaves.inflate (omega arith) (λ p from to. omega (arith, to))) run.inflate;
+        deflate = line_apart m1 m2 1 n d1.deflate p1.deflate g.deflate
+            (leaves.deflate (omega arith) (λ p from to. omega (arith, to))) run.deflate;
         statistics = posted;
         report = report_apart m1 m2 n d1.report p1.report g.report
-            (rest.others 3 (omega arith) (omega arith)) run.report;
+            (leaves.report (omega arith)) run.report;
       });
     } in
     steps_alone m1 m2 p1 p2 d1 d2 g Stats Filled new stands step

@@ -205,14 +205,14 @@ filled_by Has n (p ∷ ps) (k ∷ ks) m1 m2 frames one distinct below (mid, befo
     later true b e = refl
     later false b e = e
 
-pub pages_filled : (n : ℕ) (pages numbers : List ℕ) (m1 m2 : Pages) (frames : List (Option ℕ))
+pub pages_filled : (size n : ℕ) (pages numbers : List ℕ) (m1 m2 : Pages) (frames : List (Option ℕ))
     (contents : List (List ℕ)) → AllDistinct pages → ((p : ℕ) → is_in p pages ≡ true → p < n)
-    → AllSupplied pages numbers m1 m2 → HasPages m1 n frames contents
-    → HasPages m2 n (all_backed pages numbers frames) contents
-pages_filled n pages numbers m1 m2 frames contents distinct below supplied has =
-    filled_by (λ m l. HasPages m n l contents) n pages numbers m1 m2 frames
+    → AllSupplied pages numbers m1 m2 → HasPages m1 size n frames contents
+    → HasPages m2 size n (all_backed pages numbers frames) contents
+pages_filled size n pages numbers m1 m2 frames contents distinct below supplied has =
+    filled_by (λ m l. HasPages m size n l contents) n pages numbers m1 m2 frames
     (λ old new page frame before lt bare all did.
-    pages_supplied old new n page frame before contents lt bare all did) distinct below supplied has
+    pages_supplied old new size n page frame before contents lt bare all did) distinct below supplied has
 
 pub frames_given : (n : ℕ) (pages numbers : List ℕ) (m1 m2 : Pages) (frames : List (Option ℕ))
     → AllDistinct pages → ((p : ℕ) → is_in p pages ≡ true → p < n)

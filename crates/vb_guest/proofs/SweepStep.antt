@@ -20,7 +20,7 @@ use Rattle.vb_model.specs.Consistent.{IsConsistent}
 use Rattle.vb_model.specs.Orderly.{times}
 use Rattle.vb_model.specs.Refusals.{◌⇒◌, first_refusal, refusal_of}
 use Rattle.vb_model.proofs.PageSteps.{naming-all}
-use Rattle.vb_ram.specs.Pages.{Pages, page_at, frame_at, number_of}
+use Rattle.vb_ram.specs.Pages.{Pages, frame_at, number_of}
 use Rattle.vb_ram.specs.Part.{Part}
 use Rattle.vb_driver.specs.State.{DriverState}
 use Rattle.vb_device.specs.Conditions.{sweep_refusal}
@@ -29,7 +29,11 @@ use Rattle.vb_device.specs.Calls.{SweepsBy}
 use Rattle.vb_guest.specs.Stands.{Honest, Ties, IsRunning}
 use Rattle.vb_guest.specs.Steps.{StepsFreeing}
 use Rattle.vb_guest.specs.Replies.{swept_reply}
-use Rattle.vb_guest.proofs.Apart.{line_apart, above_apart}
+use Rattle.vb_model.specs.Layout.{reserved_pages}
+use Rattle.vb_model.proofs.Shapes.{start_reserved}
+use Rattle.vb_guest.proofs.Apart.{SameReserved}
+use Rattle.vb_guest.proofs.RunApart.{sizes_of, queues_same}
+use Rattle.vb_guest.proofs.Apart.{line_apart}
 use Rattle.vb_guest.proofs.BufferLines.{buffer_apart}
 use Rattle.vb_guest.proofs.ReportLines.{report_apart}
 use Rattle.vb_guest.proofs.Discarding.{frames_freed}
@@ -140,32 +144,35 @@ sweep_done m1 m2 p1 p2 d g page result did stands run by_part by_model flag =
     let one : List ℕ = page ∷ [] in
     let bare = discarded one m1 in
     let high = high_page g page stands.orderly (ballooned_free g page stands.consistent flag) in
-    let above : All (λ p. 16 ≤ p) one = all_one (λ p. 16 ≤ p) page high.0 in
-    let low : (p : ℕ) → p < 16
-    → page_at bare p ≡ page_at m1 p =
-    λ p lt. page_undiscarded one m1 p (not_among one p above lt) in
+    let size = g.config.queue_size in
+    let least = reserved_pages size in
+    let above : All (λ p. least ≤ p) one = all_one (λ p. least ≤ p) page high.0 in
+    let low : SameReserved m1 bare size =
+    λ p lt. page_undiscarded one m1 p (not_among least one p above lt) in
+    let queues = queues_same m1 bare d size (sizes_of m1 p1 d g run) low in
     let new : Guest = unbacked one g in
     let reply : Reply = Swept (is_some (frame_at m1 page)) in
     let step = honest_performed g (Sweep page) [] reply new by_model
     (refl, (ap (λ (o : Option ℕ). Swept (is_some o)) (ties.pages.behind page), refl)) in
     let there : Ties bare p1 d new = record {
       parts = ties.parts;
-      pages = pages_discarded m1 n g.frames g.contents one ties.pages;
+      pages = pages_discarded m1 g.config.queue_size n g.frames g.contents one ties.pages;
       queues = inr (record {
         state = run.state;
-        backed = λ p lt. ap is_some (ap number_of (low p (omega arith))) ∙ run.backed p lt;
+        backed = λ p start. ap is_some (ap number_of (low p (start_reserved size p start)))
+            ∙ run.backed p start;
         inflate_size = run.inflate_size;
         deflate_size = run.deflate_size;
         statistics_size = run.statistics_size;
         report_size = run.report_size;
-        statistics = buffer_apart m1 bare d.statistics p1.statistics g.buffer (low 2 (omega arith))
-            (low 12 (omega arith)) run.statistics;
-        report = report_apart m1 bare n d.report p1.report g.report (low 3 (omega arith))
+        statistics = buffer_apart m1 bare d.statistics p1.statistics g.buffer queues.statistics
+            queues.buffer run.statistics;
+        report = report_apart m1 bare n d.report p1.report g.report queues.report
             run.report;
         inflate = line_apart m1 bare 0 n d.inflate p1.inflate g.inflate
-            (above_apart m1 bare 0 (omega arith) (omega arith) low) run.inflate;
+            queues.inflate run.inflate;
         deflate = line_apart m1 bare 1 n d.deflate p1.deflate g.deflate
-            (above_apart m1 bare 1 (omega arith) (omega arith) low) run.deflate;
+            queues.deflate run.deflate;
       });
     } in
     let part = did.part by_part in

@@ -24,6 +24,8 @@ use Rattle.vb_guest.specs.Buffer.{BufferLine, posted_heads, taken_requests}
 use Rattle.vb_guest.specs.Stands.{Honest, Ties, IsRunning}
 use Rattle.vb_guest.specs.Steps.{StepsAlone}
 use Rattle.vb_guest.specs.Replies.{taken_reply}
+use Rattle.vb_model.specs.Layout.{ring_page}
+use Rattle.vb_driver.specs.Coding.{AreFigures}
 use Rattle.vb_guest.proofs.BufferChain.{buffer_pieces, buffer_chain, buffer_names, buffer_says}
 use Rattle.vb_guest.proofs.BufferLines.{buffer_taken}
 use Rattle.vb_guest.proofs.Handing.{same_entry}
@@ -82,10 +84,13 @@ take_posted m1 m2 p1 p2 d g figures result is did stands run free_part free =
     line.stands in
     let limits = config_limits g.config.pages g.config.queue_size g.config.processors
     ties.parts.guest.config in
-    let chain : ChainGives (descriptor_at m1 2) p1.queue_size (4096 * length m1) 0 buffer_pieces =
-    buffer_chain m1 2 p1.queue_size figures
+    let table : ℕ = ring_page p1.queue_size 2 in
+    let chain : ChainGives (descriptor_at m1 table) p1.queue_size (4096 * length m1) 0
+    buffer_pieces =
+    buffer_chain m1 table p1.queue_size figures
     (omega (arith, limits.pages_least, ties.pages.length_is))
-    (omega (arith, limits.queue_least, ties.parts.device.size)) line.figures in
+    (omega (arith, limits.queue_least, ties.parts.device.size))
+    (subst (λ (s : ℕ). AreFigures m1 (ring_page s 2) figures) (sym size) line.figures) in
     let (answer, part) = did.takes 0 buffer_pieces [] free_part next chain buffer_names in
     let new : Guest = record g { buffer = BufferTaken figures; last = said } in
     let T : Buffer → Type 0 = λ b. TakesBuffer b g (Taken 0) new in
@@ -94,7 +99,7 @@ take_posted m1 m2 p1 p2 d g figures result is did stands run free_part free =
     let after : Part = taking 2 0 [] (record p1 { last = said }) in
     let left : p2 ≡ after =
     part ∙ ap (λ (l : LastStatistics). taking 2 0 [] (record p1 { last = l }))
-    (buffer_says m1 2 figures line.figures) in
+    (buffer_says m1 (ring_page d.statistics.size 2) figures line.figures) in
     let there : Ties m1 after d new = record {
       parts = record {
         guest = ties.parts.guest;

@@ -21,6 +21,8 @@ use Rattle.vb_guest.specs.Reported.{ReportLine, IsReport}
 use Rattle.vb_guest.specs.Stands.{Honest, Ties, IsRunning}
 use Rattle.vb_guest.specs.Steps.{StepsAlone}
 use Rattle.vb_guest.specs.Replies.{taken_reply}
+use Rattle.vb_model.specs.Layout.{reserved_pages, ring_page}
+use Rattle.vb_request.specs.Report.{report_request}
 use Rattle.vb_guest.proofs.ReportChain.{pieces_of, report_chain, report_pages}
 use Rattle.vb_guest.proofs.ReportLines.{report_taken}
 use Rattle.vb_guest.proofs.Handing.{same_entry}
@@ -59,13 +61,18 @@ take_posted m1 m2 p1 p2 d g (r ∷ rest) result is did stands run free_part free
     same_entry m1 4 p1.queue_size p1.report.next_avail d.report.ring line.ring.layout size
     ∙ ring_next m1 4 d.report.ring p1.report.next_avail p1.report.next_used _ _ _ line.ring in
     let report : IsReport d.report.ring.size n blocks r = line.posted 0 r (omega arith) in
-    let chain = report_chain m1 3 p1.queue_size n blocks ties.pages.length_is report.some
-    (omega (arith, report.inside, size)) report.blocks_are (line.coded 0 r (omega arith)) in
-    let C : ℕ → Type 0 = λ h. ChainGives (descriptor_at m1 3) p1.queue_size (4096 * length m1) h
+    let own = d.report.ring.size in
+    let chain_of = report_chain m1 (ring_page own 4) own n blocks ties.pages.length_is report.some
+    report.inside report.blocks_are (line.coded 0 r (omega arith)) in
+    let S : ℕ → Type 0 = λ s. ChainGives (descriptor_at m1 (ring_page s 4)) s (4096 * length m1) 0
     (pieces_of blocks) in
+    let chain = subst S (sym size) chain_of in
+    let C : ℕ → Type 0 = λ h. ChainGives (descriptor_at m1 (ring_page p1.queue_size 4)) p1.queue_size
+    (4096 * length m1) h (pieces_of blocks) in
     let (answer, part) = did.takes r.head (pieces_of blocks) r.pages free_part next
     (subst C (sym report.head) chain)
-    (report_pages n blocks report.few report.blocks_are
+    (ap (λ (s : ℕ). report_request (pieces_of blocks) (reserved_pages s)) size
+    ∙ report_pages own n blocks report.few report.blocks_are
     ∙ ap (λ (l : List ℕ). Ok l) (sym report.names)) in
     let new : Guest = record g {
       report = record g.report

@@ -6,7 +6,7 @@ use Rattle.vb_model.specs.declared.calls.Call.TheVariants.{Take}
 use Rattle.vb_model.specs.declared.replies.Refusal.{Refusal}
 use Rattle.vb_model.specs.declared.replies.Refusal.TheVariants.{NoQueue, NotReady, Busy}
 use Rattle.vb_model.specs.declared.replies.Reply.TheVariants.{Taken, Empty}
-use Rattle.vb_model.specs.Layout.{ring_page, buffers_page}
+use Rattle.vb_model.specs.Layout.{reserved_pages, ring_page, buffers_page}
 use Rattle.vb_model.specs.Requests.{Request, Requests, Inflating, Deflating}
 use Rattle.vb_model.specs.Guest.{Guest}
 use Rattle.vb_model.specs.Device.{Takes}
@@ -56,7 +56,8 @@ take_empty q n m1 m2 p1 p2 side taken done result did free size line =
 
 -- a chain of these pieces is one of page numbers, and says nothing of statistics
 pub record IsPlain (q : ℕ) (mem : Pages) (part : Part) (pieces : List Piece) : Type 0 where
-  pub request : request_of q mem pieces ≡ page_request mem pieces
+  pub request : request_of q part.queue_size mem pieces
+      ≡ page_request mem pieces (reserved_pages part.queue_size)
   pub quiet : noting q mem pieces part ≡ part
 
 pub take_next : (q n : ℕ) (m1 m2 : Pages) (p1 p2 : Part) (side : RequestSide) (r : Request)
@@ -75,10 +76,11 @@ take_next q n m1 m2 p1 p2 side r rest taken done result low large len plain did 
     let code = line.coded 0 r (omega arith) in
     let chain = coded_chain m1 q side.ring.size n side.sent r low large len is code in
     let pieces = piece_of (buffer_of (buffers_page q) r.head (length r.pages)) ∷ [] in
-    let C : ℕ → Type 0 = λ s. ChainGives (descriptor_at m1 (ring_page q)) s (4096 * length m1)
+    let C : ℕ → Type 0 = λ s. ChainGives (descriptor_at m1 (ring_page s q)) s (4096 * length m1)
     r.head pieces in
     let (answer, part) = did.takes r.head pieces r.pages free next (subst C (sym size) chain)
-    (plain.request ∙ coded_pages m1 q side.ring.size n side.sent r len is code) in
+    (plain.request ∙ ap (λ (s : ℕ). page_request m1 pieces (reserved_pages s)) size
+    ∙ coded_pages m1 q side.ring.size n side.sent r len is code) in
     (answer, part ∙ ap (taking q r.head r.pages) plain.quiet)
 
 busy_is : (taken : List Request) → nat_le 16 (length taken) ≡ true → busy_test taken ≡ Some Busy

@@ -64,7 +64,8 @@ line_taken mem q n side part r rest taken done line =
       posted = All-tail P r rest line.posted;
       taken = All-push P taken r' line.taken now;
       done = line.done;
-      coded = All-tail (λ (x : Request). IsCoded mem (ring_page q) (buffers_page q) x.head x.pages)
+      coded = All-tail (λ (x : Request). IsCoded mem (ring_page side.ring.size q) (buffers_page q)
+          x.head x.pages)
           r rest line.coded;
       remembers = ap (λ (l : List Request). l ++ (r' ∷ [])) line.remembers;
     }

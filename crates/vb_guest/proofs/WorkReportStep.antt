@@ -19,7 +19,7 @@ use Rattle.vb_model.specs.Device.{is_unvisited, visiting, next_page, visited}
 use Rattle.vb_model.specs.Orderly.{times}
 use Rattle.vb_model.specs.Refusals.{refusal_of}
 use Rattle.vb_model.proofs.CallSteps.{Idles, Visits as VisitsOf}
-use Rattle.vb_ram.specs.Pages.{Pages, page_at, frame_at, number_of}
+use Rattle.vb_ram.specs.Pages.{Pages, frame_at, number_of}
 use Rattle.vb_ram.specs.Part.{Part}
 use Rattle.vb_driver.specs.State.{DriverState}
 use Rattle.vb_device.specs.declared.worked.Worked.{Worked as WorkedPage}
@@ -29,7 +29,11 @@ use Rattle.vb_guest.specs.Reported.{IsReport}
 use Rattle.vb_guest.specs.Stands.{Honest, Ties, IsRunning}
 use Rattle.vb_guest.specs.Steps.{StepsFreeing}
 use Rattle.vb_guest.specs.Replies.{worked_reply}
-use Rattle.vb_guest.proofs.Apart.{line_apart, above_apart}
+use Rattle.vb_model.specs.Layout.{reserved_pages}
+use Rattle.vb_model.proofs.Shapes.{start_reserved}
+use Rattle.vb_guest.proofs.Apart.{SameReserved}
+use Rattle.vb_guest.proofs.RunApart.{sizes_of, queues_same}
+use Rattle.vb_guest.proofs.Apart.{line_apart}
 use Rattle.vb_guest.proofs.BufferLines.{buffer_apart}
 use Rattle.vb_guest.proofs.ReportLines.{report_apart, report_visited}
 use Rattle.vb_guest.proofs.OwnBlocks.{own_pages}
@@ -66,14 +70,14 @@ next_taken P (r ∷ rs) page all e =
 -- the next page of a report is an unreserved one of the guest
 pub report_high : (paced : Bool) (descriptors n : ℕ) (blocks : List Block) (taken : List Request)
     (page : ℕ) → All (IsReport descriptors n blocks) taken → visit_of paced taken ≡ Some page
-    → (16 ≤ page) × (page < n)
+    → (reserved_pages descriptors ≤ page) × (page < n)
 report_high true descriptors n blocks taken page all e =
-    let H : ℕ → Type 0 = λ p. 16 ≤ p in
+    let H : ℕ → Type 0 = λ p. reserved_pages descriptors ≤ p in
     let L : ℕ → Type 0 = λ p. p < n in (
       next_taken H taken page (λ k d lt. let is = all k d lt in
-          subst (All H) (sym is.names) (own_pages n blocks is.blocks_are).0) e,
+          subst (All H) (sym is.names) (own_pages descriptors n blocks is.blocks_are).0) e,
       next_taken L taken page (λ k d lt. let is = all k d lt in
-          subst (All L) (sym is.names) (own_pages n blocks is.blocks_are).1) e,
+          subst (All L) (sym is.names) (own_pages descriptors n blocks is.blocks_are).1) e,
     )
 report_high false descriptors n blocks taken page all e = absurd cc
 
@@ -86,15 +90,18 @@ pub work_report : (m1 m2 : Pages) (p1 p2 : Part) (d : DriverState) (g : Guest) (
 work_report m1 m2 p1 p2 d g page result did stands run by_model none there =
     let ties = stands.ties in
     let n = g.config.pages in
-    let high = report_high g.config.paced d.report.ring.size n d.report.blocks g.report.taken page
-    run.report.taken there in
+    let high = report_high g.config.paced g.config.queue_size n d.report.blocks g.report.taken page
+    (subst (λ (k : ℕ). All (IsReport k n d.report.blocks) g.report.taken) run.report_size
+    run.report.taken) there in
     let one : List ℕ = page ∷ [] in
     let bare = discarded one m1 in
-    let above : All (λ p. 16 ≤ p) one =
-    All-cons (λ p. 16 ≤ p) page [] high.0 (All-nil (λ p. 16 ≤ p)) in
-    let low : (p : ℕ) → p < 16
-    → page_at bare p ≡ page_at m1 p =
-    λ p lt. page_undiscarded one m1 p (not_among one p above lt) in
+    let size = g.config.queue_size in
+    let least = reserved_pages size in
+    let above : All (λ p. least ≤ p) one =
+    All-cons (λ p. least ≤ p) page [] high.0 (All-nil (λ p. least ≤ p)) in
+    let low : SameReserved m1 bare size =
+    λ p lt. page_undiscarded one m1 p (not_among least one p above lt) in
+    let queues = queues_same m1 bare d size (sizes_of m1 p1 d g run) low in
     let new : Guest = visited Reporting_free page g in
     let reply : Reply = Worked page (is_some (frame_at m1 page)) in
     let W : Option ℕ → Type 0 =
@@ -125,22 +132,23 @@ work_report m1 m2 p1 p2 d g page result did stands run by_model none there =
           loose = refl;
         };
       };
-      pages = pages_discarded m1 n g.frames g.contents one ties.pages;
+      pages = pages_discarded m1 g.config.queue_size n g.frames g.contents one ties.pages;
       queues = inr (record {
         state = run.state;
-        backed = λ p lt. ap is_some (ap number_of (low p (omega arith))) ∙ run.backed p lt;
+        backed = λ p start. ap is_some (ap number_of (low p (start_reserved size p start)))
+            ∙ run.backed p start;
         inflate_size = run.inflate_size;
         deflate_size = run.deflate_size;
         statistics_size = run.statistics_size;
         report_size = run.report_size;
         inflate = line_apart m1 bare 0 n d.inflate p1.inflate g.inflate
-            (above_apart m1 bare 0 (omega arith) (omega arith) low) run.inflate;
+            queues.inflate run.inflate;
         deflate = line_apart m1 bare 1 n d.deflate p1.deflate g.deflate
-            (above_apart m1 bare 1 (omega arith) (omega arith) low) run.deflate;
-        statistics = buffer_apart m1 bare d.statistics p1.statistics g.buffer (low 2 (omega arith))
-            (low 12 (omega arith)) run.statistics;
+            queues.deflate run.deflate;
+        statistics = buffer_apart m1 bare d.statistics p1.statistics g.buffer queues.statistics
+            queues.buffer run.statistics;
         report = report_visited bare n d.report p1.report g.report
-            (report_apart m1 bare n d.report p1.report g.report (low 3 (omega arith)) run.report);
+            (report_apart m1 bare n d.report p1.report g.report queues.report run.report);
       });
     } in
     let numbers : (k : ℕ)

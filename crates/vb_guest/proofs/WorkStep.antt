@@ -16,7 +16,7 @@ use Rattle.vb_model.specs.Guest.{Guest, frame_of}
 use Rattle.vb_model.specs.Device.{visiting, visited}
 use Rattle.vb_model.specs.Orderly.{times}
 use Rattle.vb_model.specs.Refusals.{refusal_of}
-use Rattle.vb_ram.specs.Pages.{Pages, page_at, frame_at, number_of}
+use Rattle.vb_ram.specs.Pages.{Pages, frame_at, number_of}
 use Rattle.vb_ram.specs.Part.{Part, QueuePart}
 use Rattle.vb_driver.specs.State.{RequestSide, DriverState}
 use Rattle.vb_device.specs.declared.worked.Worked.{Worked as WorkedPage}
@@ -28,7 +28,11 @@ use Rattle.vb_guest.specs.Ring.{RingStands}
 use Rattle.vb_guest.specs.Stands.{Honest, Ties, IsRunning}
 use Rattle.vb_guest.specs.Steps.{StepsFreeing}
 use Rattle.vb_guest.specs.Replies.{worked_reply}
-use Rattle.vb_guest.proofs.Apart.{line_apart, above_apart}
+use Rattle.vb_model.specs.Layout.{reserved_pages}
+use Rattle.vb_model.proofs.Shapes.{start_reserved}
+use Rattle.vb_guest.proofs.Apart.{SameReserved}
+use Rattle.vb_guest.proofs.RunApart.{sizes_of, queues_same}
+use Rattle.vb_guest.proofs.Apart.{line_apart}
 use Rattle.vb_guest.proofs.BufferLines.{buffer_apart}
 use Rattle.vb_guest.proofs.ReportLines.{report_apart}
 use Rattle.vb_guest.proofs.Heads.{heads-visiting, all-visiting}
@@ -139,18 +143,20 @@ work_visits : (m1 m2 : Pages) (p1 p2 : Part) (d : DriverState) (g : Guest) (page
     (result : Result (Option WorkedPage) Refusal)
     → Visits 0 page m1 m2 p1 p2 result → Honest m1 p1 d g → IsRunning m1 p1 d g
     → refusal_of g Work ≡ None → visit_of g.config.paced g.inflate.taken ≡ Some page
-    → (16 ≤ page) × (page < g.config.pages)
+    → (reserved_pages g.config.queue_size ≤ page) × (page < g.config.pages)
     → StepsFreeing (Honest m2 (handed_back p2) d) p2.loose g Work (worked_reply result)
 work_visits m1 m2 p1 p2 d g page result did stands run by_model there high =
     let ties = stands.ties in
     let n = g.config.pages in
     let one : List ℕ = page ∷ [] in
     let bare = discarded one m1 in
-    let above : All (λ p. 16 ≤ p) one =
-    All-cons (λ p. 16 ≤ p) page [] high.0 (All-nil (λ p. 16 ≤ p)) in
-    let low : (p : ℕ) → p < 16
-    → page_at bare p ≡ page_at m1 p =
-    λ p lt. page_undiscarded one m1 p (not_among one p above lt) in
+    let size = g.config.queue_size in
+    let least = reserved_pages size in
+    let above : All (λ p. least ≤ p) one =
+    All-cons (λ p. least ≤ p) page [] high.0 (All-nil (λ p. least ≤ p)) in
+    let low : SameReserved m1 bare size =
+    λ p lt. page_undiscarded one m1 p (not_among least one p above lt) in
+    let queues = queues_same m1 bare d size (sizes_of m1 p1 d g run) low in
     let new : Guest = visited Inflating page g in
     let reply : Reply = Worked page (is_some (frame_at m1 page)) in
     let W : Option ℕ → Type 0 =
@@ -179,23 +185,24 @@ work_visits m1 m2 p1 p2 d g page result did stands run by_model there high =
           loose = refl;
         };
       };
-      pages = pages_discarded m1 n g.frames g.contents one ties.pages;
+      pages = pages_discarded m1 g.config.queue_size n g.frames g.contents one ties.pages;
       queues = inr (record {
         state = run.state;
-        backed = λ p lt. ap is_some (ap number_of (low p (omega arith))) ∙ run.backed p lt;
+        backed = λ p start. ap is_some (ap number_of (low p (start_reserved size p start)))
+            ∙ run.backed p start;
         inflate_size = run.inflate_size;
         deflate_size = run.deflate_size;
         statistics_size = run.statistics_size;
         report_size = run.report_size;
-        statistics = buffer_apart m1 bare d.statistics p1.statistics g.buffer (low 2 (omega arith))
-            (low 12 (omega arith)) run.statistics;
-        report = report_apart m1 bare n d.report p1.report g.report (low 3 (omega arith))
+        statistics = buffer_apart m1 bare d.statistics p1.statistics g.buffer queues.statistics
+            queues.buffer run.statistics;
+        report = report_apart m1 bare n d.report p1.report g.report queues.report
             run.report;
         inflate = line_visited bare 0 n d.inflate p1.inflate g.inflate
             (line_apart m1 bare 0 n d.inflate p1.inflate g.inflate
-            (above_apart m1 bare 0 (omega arith) (omega arith) low) run.inflate);
+            queues.inflate run.inflate);
         deflate = line_apart m1 bare 1 n d.deflate p1.deflate g.deflate
-            (above_apart m1 bare 1 (omega arith) (omega arith) low) run.deflate;
+            queues.deflate run.deflate;
       });
     } in
     let numbers : (k : ℕ)
@@ -223,9 +230,9 @@ work_visits m1 m2 p1 p2 d g page result did stands run by_model there high =
 -- a paced device's next page is one of a taken inflate's
 next_high : (paced : Bool) (size n : ℕ) (sent : List (List ℕ)) (taken : List Request) (page : ℕ)
     → All (IsRequest size n sent) taken → visit_of paced taken ≡ Some page
-    → (16 ≤ page) × (page < n)
+    → (reserved_pages size ≤ page) × (page < n)
 next_high true size n sent taken page all e = (
-  next_taken (λ p. 16 ≤ p) taken page (λ k d lt. (all k d lt).pages.above) e,
+  next_taken (λ p. reserved_pages size ≤ p) taken page (λ k d lt. (all k d lt).pages.above) e,
   next_taken (λ p. p < n) taken page (λ k d lt. (all k d lt).pages.below) e,
 )
 next_high false size n sent taken page all e = absurd cc
@@ -268,5 +275,6 @@ work_step m1 m2 p1 p2 d g result did stands =
     by_next (Some page) later run free is what first second =
         work_visits m1 m2 p1 p2 d g page result (did.inflate page free (first ∙ is)) stands run
         (running g run.state) is
+        (subst (λ (k : ℕ). (reserved_pages k ≤ page) × (page < g.config.pages)) run.inflate_size
         (next_high g.config.paced d.inflate.ring.size g.config.pages d.inflate.sent g.inflate.taken
-        page run.inflate.taken is)
+        page run.inflate.taken is))

@@ -5,6 +5,7 @@ use Rattle.std.specs.Prelude.{IsOk, refl, ◌⊎◌}
 use Rattle.std.proofs.Common.{sym, ◌∙◌, ap, subst, arith, inl, inr}
 use Rattle.std.proofs.lemmas.Bool.{cases_lt}
 use Rattle.std.proofs.lemmas.Bool.Decides.{nat_tests}
+use Rattle.vb_model.specs.Layout.{reserved_pages}
 use Rattle.vb_model.specs.declared.calls.Call.TheVariants.{Write}
 use Rattle.vb_model.specs.declared.calls.Claim.{Claim}
 use Rattle.vb_model.specs.declared.calls.Claim.TheVariants.{Gave, GaveNoFrame, GaveNoMemory}
@@ -107,18 +108,19 @@ needs_one g page (b ∷ bs) some is = ap (λ (o : Option ℕ). if is_none o then
 
 -- a write that was made leaves the guest that wrote
 written_ties : (m1 m2 : Pages) (p1 p2 : Part) (d : DriverState) (g : Guest) (page off : ℕ)
-    (bs : List ℕ) → 16 ≤ page → Covers m1 page off (length bs) → Ties m1 p1 d g
+    (bs : List ℕ) → reserved_pages g.config.queue_size ≤ page → Covers m1 page off (length bs) → Ties m1 p1 d g
     → Wrote m1 m2 page off bs → p2 ≡ p1
     → Ties m2 p2 d (record g { contents = at_page page (overwritten off bs) g.contents })
 written_ties m1 m2 p1 p2 d g page off bs high covers ties wrote part =
     let new : Guest = record g { contents = at_page page (overwritten off bs) g.contents } in
     let there : Ties m2 p1 d new = record {
       parts = ties.parts;
-      pages = pages_wrote m1 m2 g.config.pages page off bs g.frames g.contents high
+      pages = pages_wrote m1 m2 g.config.queue_size g.config.pages page off bs g.frames g.contents high
           (omega (arith, covers.page, ties.pages.length_is)) covers.bytes ties.pages wrote;
       queues = elim ties.queues [
         | inl idle ↦ inl (idle_still g new refl refl refl refl refl refl refl refl refl idle)
-        | inr run ↦ inr (running_apart m1 m2 p1 d g new (λ p lt. wrote.rest.others p (omega arith))
+        | inr run ↦ inr (running_apart m1 m2 p1 d g new
+            (λ p lt. wrote.rest.others p (omega (arith, lt, high)))
             refl refl refl refl refl refl run)
       ];
     } in
@@ -243,7 +245,7 @@ write_supplied Answers out1 out2 m1 m2 m3 m4 p1 p2 p3 p4 d g page off frame bs a
     let new : Guest = record after { contents = at_page page (overwritten off bs) g.contents } in
     let mid : Ties m3 p1 d after = record {
       parts = stands.ties.parts;
-      pages = pages_supplied m1 m3 g.config.pages page frame g.frames g.contents lt bare
+      pages = pages_supplied m1 m3 g.config.queue_size g.config.pages page frame g.frames g.contents lt bare
           stands.ties.pages supplied;
       queues = elim stands.ties.queues [
         | inl idle ↦ inl (idle_still g after refl refl refl refl refl refl refl refl refl idle)

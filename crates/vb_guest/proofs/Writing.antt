@@ -12,6 +12,7 @@ use Rattle.std.proofs.lemmas.List.Sums.{sum_by-set}
 use Rattle.vb_model.specs.declared.places.Place.{Place}
 use Rattle.vb_model.specs.declared.places.Place.TheVariants.{Used}
 use Rattle.vb_model.specs.Tests.{one_if, each_page}
+use Rattle.vb_model.specs.Layout.{reserved_pages, is_start_page}
 use Rattle.vb_model.specs.Pages.{place_of, is_used}
 use Rattle.vb_model.specs.Requests.{Requests, Buffer}
 use Rattle.vb_model.specs.Guest.{Guest, zero_page, frame_of, backed}
@@ -19,6 +20,7 @@ use Rattle.vb_model.specs.Driver.{overwritten}
 use Rattle.vb_model.specs.Orderly.{IsOrderly}
 use Rattle.vb_model.specs.Pages.{is_reserved}
 use Rattle.vb_model.proofs.Tables.{length-each_from, each_page-get}
+use Rattle.vb_model.proofs.Shapes.{reserved_least, start_reserved}
 use Rattle.vb_ram.specs.Pages.{Pages, page_at, frame_at, contents_at, contents_of, number_of, Wrote}
 use Rattle.vb_ram.specs.Pages.{Supplied}
 use Rattle.vb_ram.proofs.Contents.{contents_wrote}
@@ -30,7 +32,7 @@ use Rattle.vb_guest.specs.Reported.{ReportLine}
 use Rattle.vb_guest.specs.Buffer.{BufferLine}
 use Rattle.vb_guest.specs.Stands.{HasPages, IsIdle, IsRunning}
 use Rattle.vb_guest.specs.Steps.{is_frame}
-use Rattle.vb_guest.proofs.Apart.{line_apart, above_apart}
+use Rattle.vb_guest.proofs.Apart.{SameReserved, ring_same, line_apart, above_apart}
 use Rattle.vb_guest.proofs.RingHeads.{cond_one}
 use Rattle.vb_guest.proofs.BufferLines.{buffer_apart}
 use Rattle.vb_guest.proofs.ReportLines.{report_apart}
@@ -45,9 +47,9 @@ used_not_reserved _ e = absurd cc
 
 -- a used page isn't reserved
 pub used_high : (g : Guest) (page : ℕ) → IsOrderly g → is_used (place_of g.places page) ≡ true
-    → page < g.config.pages → 16 ≤ page
+    → page < g.config.pages → reserved_pages g.config.queue_size ≤ page
 used_high g page orderly used lt =
-    let e : nat_lt page 16 ≡ false =
+    let e : nat_lt page (reserved_pages g.config.queue_size) ≡ false =
     sym (orderly.unreserved page lt) ∙ used_not_reserved (place_of g.places page) used in
     grind (arith, nat_tests)
 
@@ -147,11 +149,11 @@ length-overwritten off bs old fits =
       length-drop (off + length bs) old,
     )
 
-pub pages_wrote : (m1 m2 : Pages) (n page off : ℕ) (bs : List ℕ) (frames : List (Option ℕ))
-    (contents : List (List ℕ)) → 16 ≤ page → page < n → off + length bs ≤ 4096
-    → HasPages m1 n frames contents → Wrote m1 m2 page off bs
-    → HasPages m2 n frames (at_page page (overwritten off bs) contents)
-pages_wrote m1 m2 n page off bs frames contents high lt fits has wrote =
+pub pages_wrote : (m1 m2 : Pages) (size n page off : ℕ) (bs : List ℕ) (frames : List (Option ℕ))
+    (contents : List (List ℕ)) → reserved_pages size ≤ page → page < n → off + length bs ≤ 4096
+    → HasPages m1 size n frames contents → Wrote m1 m2 page off bs
+    → HasPages m2 size n frames (at_page page (overwritten off bs) contents)
+pages_wrote m1 m2 size n page off bs frames contents high lt fits has wrote =
     let f : List ℕ → List ℕ = overwritten off bs in
     let room : off + length bs ≤ length (contents_at m1 page) =
     omega (
@@ -193,9 +195,10 @@ pub record HasFrames (mem : Pages) (count : ℕ) (frames : List (Option ℕ)) : 
   pub framed : length frames ≡ count
   pub behind : (page : ℕ) → frame_at mem page ≡ frame_of frames page
 
-pub frames_of : (mem : Pages) (count : ℕ) (frames : List (Option ℕ)) (contents : List (List ℕ))
-    → HasPages mem count frames contents → HasFrames mem count frames
-frames_of mem count frames contents has =
+pub frames_of : (mem : Pages) (size count : ℕ) (frames : List (Option ℕ))
+    (contents : List (List ℕ)) → HasPages mem size count frames contents
+    → HasFrames mem count frames
+frames_of mem size count frames contents has =
     record { length_is = has.length_is; framed = has.framed; behind = has.behind }
 
 -- a page has a frame more
@@ -226,12 +229,13 @@ frames_supplied m1 m2 n page frame frames lt has did = record {
         ∙ sym (Rattle.std.proofs.lemmas.List.get_or_past frames p None past)
 
 -- a page with no frame holds zeros, and so it does with a new one
-pub pages_supplied : (m1 m2 : Pages) (n page frame : ℕ) (frames : List (Option ℕ))
+pub pages_supplied : (m1 m2 : Pages) (size n page frame : ℕ) (frames : List (Option ℕ))
     (contents : List (List ℕ)) → page < n → frame_at m1 page ≡ None
-    → HasPages m1 n frames contents → Supplied m1 m2 page frame
-    → HasPages m2 n (backed page frame frames) contents
-pages_supplied m1 m2 n page frame frames contents lt bare has did =
-    let all = frames_supplied m1 m2 n page frame frames lt (frames_of m1 n frames contents has)
+    → HasPages m1 size n frames contents → Supplied m1 m2 page frame
+    → HasPages m2 size n (backed page frame frames) contents
+pages_supplied m1 m2 size n page frame frames contents lt bare has did =
+    let all = frames_supplied m1 m2 n page frame frames lt
+    (frames_of m1 size n frames contents has)
     did in
     record {
       length_is = all.length_is;
@@ -254,21 +258,26 @@ pages_supplied m1 m2 n page frame frames contents lt bare has did =
 
 -- pages above those of rings and buffers change: the queues are as before
 pub running_apart : (m1 m2 : Pages) (p : Part) (d : DriverState) (g new : Guest)
-    → ((page : ℕ) → page < 16 → page_at m2 page ≡ page_at m1 page)
-    → new.status ≡ g.status → new.config ≡ g.config → new.inflate ≡ g.inflate
+    → SameReserved m1 m2 g.config.queue_size → new.status ≡ g.status → new.config ≡ g.config → new.inflate ≡ g.inflate
     → new.deflate ≡ g.deflate → new.report ≡ g.report → new.buffer ≡ g.buffer
     → IsRunning m1 p d g → IsRunning m2 p d new
 running_apart m1 m2 p d g new same status config inflate deflate report buffer run =
     let n = g.config.pages in
     let pages : n ≡ new.config.pages = ap (λ c. c.pages) (sym config) in
     let size : g.config.queue_size ≡ new.config.queue_size = ap (λ c. c.queue_size) (sym config) in
+    let kept : (k : ℕ) → k ≡ g.config.queue_size → SameReserved m1 m2 k =
+    λ k e. subst (SameReserved m1 m2) (sym e) same in
     let I : ℕ → Requests → Type 0 = λ k rs. Line m2 0 k d.inflate p.inflate rs in
     let D : ℕ → Requests → Type 0 = λ k rs. Line m2 1 k d.deflate p.deflate rs in
     let R : ℕ → Requests → Type 0 = λ k rs. ReportLine m2 k d.report p.report rs in
     let B : Buffer → Type 0 = λ b. BufferLine m2 d.statistics p.statistics b in
     record {
       state = status ∙ run.state;
-      backed = λ page lt. ap is_some (ap number_of (same page (omega arith))) ∙ run.backed page lt;
+      backed = λ page start.
+          let was : is_start_page g.config.queue_size page ≡ true =
+          subst (λ k. is_start_page k page ≡ true) (sym size) start in
+          ap is_some (ap number_of (same page (start_reserved g.config.queue_size page was)))
+          ∙ run.backed page was;
       inflate_size = run.inflate_size ∙ size;
       deflate_size = run.deflate_size ∙ size;
       statistics_size = run.statistics_size ∙ size;
@@ -276,17 +285,21 @@ running_apart m1 m2 p d g new same status config inflate deflate report buffer r
       inflate = subst (λ rs. I new.config.pages rs) (sym inflate)
           (subst (λ k. I k g.inflate) pages
           (line_apart m1 m2 0 n d.inflate p.inflate g.inflate
-          (above_apart m1 m2 0 (omega arith) (omega arith) same) run.inflate));
+          (above_apart m1 m2 d.inflate.ring.size 0 (omega arith)
+          (kept d.inflate.ring.size run.inflate_size)) run.inflate));
       deflate = subst (λ rs. D new.config.pages rs) (sym deflate)
           (subst (λ k. D k g.deflate) pages
           (line_apart m1 m2 1 n d.deflate p.deflate g.deflate
-          (above_apart m1 m2 1 (omega arith) (omega arith) same) run.deflate));
+          (above_apart m1 m2 d.deflate.ring.size 1 (omega arith)
+          (kept d.deflate.ring.size run.deflate_size)) run.deflate));
       statistics = subst B (sym buffer)
-          (buffer_apart m1 m2 d.statistics p.statistics g.buffer (same 2 (omega arith))
-          (same 12 (omega arith)) run.statistics);
+          (buffer_apart m1 m2 d.statistics p.statistics g.buffer
+          (ring_same m1 m2 d.statistics.size 2 (kept d.statistics.size run.statistics_size))
+          (same 12 (omega (arith, reserved_least g.config.queue_size))) run.statistics);
       report = subst (λ rs. R new.config.pages rs) (sym report)
           (subst (λ k. R k g.report) pages
-          (report_apart m1 m2 n d.report p.report g.report (same 3 (omega arith)) run.report));
+          (report_apart m1 m2 n d.report p.report g.report
+          (ring_same m1 m2 d.report.ring.size 4 (kept d.report.ring.size run.report_size)) run.report));
     }
 
 pub idle_still : (g new : Guest) → new.status ≡ g.status → new.config ≡ g.config

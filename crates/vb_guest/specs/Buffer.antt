@@ -28,14 +28,15 @@ abbrev pub taken_requests : Buffer → List Request
 taken_requests (BufferTaken figures) = record { head = 0; pages = []; visited = 0 } ∷ []
 taken_requests _ = []
 
--- A posted buffer has its figures.
-abbrev pub HasFigures : Pages → Buffer → Type 0
-HasFigures mem (BufferPosted figures) = AreFigures mem (ring_page STATISTICS_QUEUE) figures
-HasFigures mem _ = ⊤
+-- A posted buffer of a ring of so many descriptors has its figures.
+abbrev pub HasFigures : ℕ → Pages → Buffer → Type 0
+HasFigures size mem (BufferPosted figures) =
+    AreFigures mem (ring_page size STATISTICS_QUEUE) figures
+HasFigures size mem _ = ⊤
 
 pub record BufferLine (mem : Pages) (ring : DriverEnd) (part : QueuePart) (buffer : Buffer) :
     Type 0 where
   pub stands : RingStands mem STATISTICS_QUEUE ring part.next_avail part.next_used
       (posted_heads buffer) (taken_heads buffer) (used_heads buffer)
-  pub figures : HasFigures mem buffer
+  pub figures : HasFigures ring.size mem buffer
   pub remembers : part.taken ≡ taken_requests buffer

@@ -101,8 +101,8 @@ pub record SuppliesFirst {T : Type 0} (Answers : List Bool → Claim → Type 0)
   pub part : Part
   pub got : Result (Unit {0}) Refused
   pub own : part ≡ record p1 { own = part.own }
-  pub supplies : SuppliesBy Answers s1 (supply_of part new_out) [] claims (bare_from m1 0)
-      m1 mem got
+  pub supplies : SuppliesBy Answers s1 (supply_of part new_out) [] claims
+      (bare_from d1.queue_size m1 0) m1 mem got
   pub continues : Continues got mem m2 part p2 d1 d2 wanted result
 
 -- An initialisation, of a device that isn't initialised.

@@ -1,7 +1,7 @@
 -- What the driver, the device and guest memory say together of a queue of requests.
 use Rattle.std.specs.Prelude.{◌≡◌, ℕ, ◌<◌, ◌≤◌, List, All, length, map, slice_index_or, []}
-use Rattle.vb_model.specs.Limits.{max_outstanding, max_request_pages, reserved_pages}
-use Rattle.vb_model.specs.Layout.{ring_page, buffers_page}
+use Rattle.vb_model.specs.Limits.{max_outstanding, max_request_pages}
+use Rattle.vb_model.specs.Layout.{reserved_pages, ring_page, buffers_page}
 use Rattle.vb_model.specs.Requests.{Request, Requests}
 use Rattle.vb_model.specs.Driver.{AllDistinct}
 use Rattle.vb_ram.specs.Pages.{Pages}
@@ -20,11 +20,11 @@ RingOf mem queue ring part rs =
     RingStands mem queue ring part.next_avail part.next_used
     (heads_of rs.posted) (heads_of rs.taken) (heads_of rs.done)
 
--- Pages that a guest of so many pages asks the device for.
-pub record AreRequested (count : ℕ) (pages : List ℕ) : Type 0 where
+-- Pages that a guest of so many pages, whose queues have this size, asks the device for.
+pub record AreRequested (size count : ℕ) (pages : List ℕ) : Type 0 where
   pub some : 0 < length pages
   pub few : length pages ≤ max_request_pages
-  pub above : All (λ page. reserved_pages ≤ page) pages
+  pub above : All (λ page. reserved_pages size ≤ page) pages
   pub below : All (λ page. page < count) pages
   pub distinct : AllDistinct pages
 
@@ -34,7 +34,7 @@ pub record IsRequest (size count : ℕ) (sent : List (List ℕ)) (r : Request) :
   pub inside : r.head < size
   pub few : r.head < max_outstanding
   pub remembered : slice_index_or sent r.head [] ≡ r.pages
-  pub pages : AreRequested count r.pages
+  pub pages : AreRequested size count r.pages
 
 pub record Line (mem : Pages) (queue count : ℕ) (side : RequestSide) (part : QueuePart)
     (rs : Requests) : Type 0 where
@@ -43,5 +43,6 @@ pub record Line (mem : Pages) (queue count : ℕ) (side : RequestSide) (part : Q
   pub posted : All (IsRequest side.ring.size count side.sent) rs.posted
   pub taken : All (IsRequest side.ring.size count side.sent) rs.taken
   pub done : All (IsRequest side.ring.size count side.sent) rs.done
-  pub coded : All (λ r. IsCoded mem (ring_page queue) (buffers_page queue) r.head r.pages) rs.posted
+  pub coded : All (λ r. IsCoded mem (ring_page side.ring.size queue) (buffers_page queue) r.head
+      r.pages) rs.posted
   pub remembers : part.taken ≡ rs.taken

@@ -1,11 +1,11 @@
 -- How pages get frames before an initialisation (VIRTIO 1.1, 3.1.1).
-use Rattle.std.specs.Prelude.{◌≡◌, ℕ, ◌-◌, Bool, List, [], ◌∷◌, ◌++◌, Option, Some, None, is_none}
-use Rattle.std.specs.Prelude.{Result, Ok, Err, OnOk, OnErr, filter}
+use Rattle.std.specs.Prelude.{◌≡◌, ℕ, ◌-◌, Bool, ◌&&◌, List, [], ◌∷◌, ◌++◌, Option, Some, None}
+use Rattle.std.specs.Prelude.{is_none, Result, Ok, Err, OnOk, OnErr, filter}
 use Rattle.std.specs.List.{range_with_len}
 use Rattle.vb_model.specs.declared.calls.Claim.{Claim}
 use Rattle.vb_model.specs.declared.replies.Refusal.{Refusal}
 use Rattle.vb_model.specs.declared.replies.Refusal.TheVariants.{NoFrame as NoFrameLeft, NoMemory}
-use Rattle.vb_model.specs.Limits.{ring_and_buffer_pages}
+use Rattle.vb_model.specs.Layout.{reserved_pages, is_start_page}
 use Rattle.vb_model.specs.Driver.{given, claim_refusal, AreClaimsFor}
 use Rattle.vb_ram.specs.Pages.{Pages, frame_at, Supplied}
 use Rattle.vb_frames.specs.declared.keeper.Refused.{Refused}
@@ -13,11 +13,14 @@ use Rattle.vb_frames.specs.declared.keeper.Refused.TheVariants.{NoFrame, Memory}
 use Rattle.vb_model.specs.Orderly.{times}
 use Rattle.vb_guest.specs.Supply.{Supply, AreClaimed, Moves, nothing}
 
--- The pages of rings and buffers from this one on that have no frame, in rising order.
-abbrev pub bare_from : Pages → ℕ → List ℕ
-bare_from mem first =
-    filter (λ page. is_none (frame_at mem page))
-    (range_with_len first (ring_and_buffer_pages - first))
+-- Whether a page is one of rings and buffers and has no frame.
+abbrev pub is_bare : ℕ → Pages → ℕ → Bool
+is_bare size mem page = is_start_page size page && is_none (frame_at mem page)
+
+-- Those of them from this one on, in rising order.
+abbrev pub bare_from : ℕ → Pages → ℕ → List ℕ
+bare_from size mem first =
+    filter (is_bare size mem) (range_with_len first (reserved_pages size - first))
 
 -- Each page, which had no frame, has the frame of the number beside it now. The last one got its
 -- frame first.

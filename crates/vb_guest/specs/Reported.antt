@@ -1,8 +1,8 @@
 -- What the driver, the device and guest memory say together of the queue of reports (profile).
 use Rattle.std.specs.Prelude.{◌≡◌, ℕ, ◌+◌, ◌<◌, ◌≤◌, List, All, length}
 use Rattle.vb_model.specs.declared.layout.TheConstants.{REPORT_QUEUE}
-use Rattle.vb_model.specs.Limits.{max_outstanding, max_order, reserved_pages}
-use Rattle.vb_model.specs.Layout.{ring_page}
+use Rattle.vb_model.specs.Limits.{max_outstanding, max_order}
+use Rattle.vb_model.specs.Layout.{reserved_pages, ring_page}
 use Rattle.vb_model.specs.Pages.{Block, size, pages_of_all}
 use Rattle.vb_model.specs.Requests.{Request, Requests}
 use Rattle.vb_ram.specs.Pages.{Pages}
@@ -11,10 +11,10 @@ use Rattle.vb_driver.specs.Coding.{AreReported}
 use Rattle.vb_driver.specs.State.{ReportSide}
 use Rattle.vb_guest.specs.Line.{RingOf}
 
--- A block of a guest of so many pages, above the reserved ones.
-pub record IsOwnBlock (count : ℕ) (b : Block) : Type 0 where
+-- A block of a guest of so many pages, whose queues have this size, above the reserved ones.
+pub record IsOwnBlock (queue_size count : ℕ) (b : Block) : Type 0 where
   pub order : b.order ≤ max_order
-  pub above : reserved_pages ≤ b.start
+  pub above : reserved_pages queue_size ≤ b.start
   pub below : b.start + size b ≤ count
 
 -- The request is the report of these blocks, for which a table of so many descriptors has room.
@@ -24,7 +24,7 @@ pub record IsReport (descriptors count : ℕ) (blocks : List Block) (r : Request
   pub some : 0 < length blocks
   pub few : length blocks ≤ max_outstanding
   pub inside : length blocks ≤ descriptors
-  pub blocks_are : All (IsOwnBlock count) blocks
+  pub blocks_are : All (IsOwnBlock descriptors count) blocks
 
 -- The report that is out, if one is, is that of the blocks which the driver remembers; while it is
 -- posted, the queue's table has its chain.
@@ -34,5 +34,6 @@ pub record ReportLine (mem : Pages) (count : ℕ) (side : ReportSide) (part : Qu
   pub posted : All (IsReport side.ring.size count side.blocks) rs.posted
   pub taken : All (IsReport side.ring.size count side.blocks) rs.taken
   pub done : All (IsReport side.ring.size count side.blocks) rs.done
-  pub coded : All (λ r. AreReported mem (ring_page REPORT_QUEUE) side.blocks) rs.posted
+  pub coded : All (λ r. AreReported mem (ring_page side.ring.size REPORT_QUEUE) side.blocks)
+      rs.posted
   pub remembers : part.taken ≡ rs.taken

@@ -17,7 +17,7 @@ used_of heads = map (λ h. record { id = h; len = 0 }) heads
 pub record RingStands (mem : Pages) (queue : ℕ) (ring : DriverEnd) (next_avail next_used : ℕ)
     (posted taken done : List ℕ) : Type 0 where
   pub sized : IsSize ring.size
-  pub layout : ring.layout ≡ layout_of (ring_page queue) ring.size
+  pub layout : ring.layout ≡ layout_of (ring_page ring.size queue) ring.size
   pub before : List ℕ
   pub gone : List UsedElem
   pub shows : Shows mem ring.layout ring.size (before ++ posted) (gone ++ used_of done)

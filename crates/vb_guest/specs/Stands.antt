@@ -1,7 +1,8 @@
 -- What ties a driver, a device's part and guest memory to a guest of the model.
 use Rattle.std.specs.Prelude.{◌≡◌, ℕ, ◌<◌, ◌≤◌, Bool, false, true, List, Option, [], length}
 use Rattle.std.specs.Prelude.{replicate, slice_index_or, IsSome, ◌⊎◌, All}
-use Rattle.vb_model.specs.Limits.{is_config, page_size, reserved_pages, ring_and_buffer_pages}
+use Rattle.vb_model.specs.Limits.{is_config, page_size}
+use Rattle.vb_model.specs.Layout.{reserved_pages, is_start_page}
 use Rattle.vb_model.specs.declared.places.Place.{Place}
 use Rattle.vb_model.specs.Tests.{one_if}
 use Rattle.vb_model.specs.Pages.{Block}
@@ -92,15 +93,15 @@ beside_requests g =
     }
 
 -- The pages of memory have these frames, and the unreserved ones these contents.
-pub record HasPages (mem : Pages) (count : ℕ) (frames : List (Option ℕ)) (contents : List (List ℕ))
-    : Type 0 where
+pub record HasPages (mem : Pages) (size count : ℕ) (frames : List (Option ℕ))
+    (contents : List (List ℕ)) : Type 0 where
   pub length_is : length mem ≡ count
   pub framed : length frames ≡ count
   pub filled : length contents ≡ count
   pub behind : (page : ℕ) → frame_at mem page ≡ frame_of frames page
-  pub holds : (page : ℕ) → reserved_pages ≤ page → page < count
+  pub holds : (page : ℕ) → reserved_pages size ≤ page → page < count
       → contents_at mem page ≡ slice_index_or contents page []
-  pub sizes : (page : ℕ) → reserved_pages ≤ page → page < count
+  pub sizes : (page : ℕ) → reserved_pages size ≤ page → page < count
       → length (slice_index_or contents page []) ≡ page_size
 
 -- Before an initialisation, or after one whose features were refused: nothing was asked of the
@@ -119,7 +120,8 @@ pub record IsIdle (g : Guest) : Type 0 where
 -- there.
 pub record IsRunning (mem : Pages) (part : Part) (d : DriverState) (g : Guest) : Type 0 where
   pub state : g.status ≡ 15
-  pub backed : (page : ℕ) → page < ring_and_buffer_pages → IsSome (frame_at mem page)
+  pub backed : (page : ℕ) → is_start_page g.config.queue_size page ≡ true
+      → IsSome (frame_at mem page)
   pub inflate_size : d.inflate.ring.size ≡ g.config.queue_size
   pub deflate_size : d.deflate.ring.size ≡ g.config.queue_size
   pub statistics_size : d.statistics.size ≡ g.config.queue_size
@@ -132,7 +134,7 @@ pub record IsRunning (mem : Pages) (part : Part) (d : DriverState) (g : Guest) :
 -- What the calls keep, the model's own laws aside.
 pub record Ties (mem : Pages) (part : Part) (d : DriverState) (g : Guest) : Type 0 where
   pub parts : HasParts (beside_queues part) (beside_sides d) (beside_requests g)
-  pub pages : HasPages mem g.config.pages g.frames g.contents
+  pub pages : HasPages mem g.config.queue_size g.config.pages g.frames g.contents
   pub queues : IsIdle g ⊎ IsRunning mem part d g
 
 -- The driver, the device and its memory are those of this honest guest.
@@ -150,17 +152,18 @@ pub record OwnFrames (keeps : Bool) (part : Part) (g : Guest) : Type 0 where
 
 -- ---- a guest that wrote past its driver
 
--- The request names pages of a guest of so many pages, none of them reserved.
-pub record IsOwnRequest (count : ℕ) (r : Request) : Type 0 where
-  pub above : All (λ page. reserved_pages ≤ page) r.pages
+-- The request names pages of a guest of so many pages, whose queues have this size: none of them is
+-- reserved.
+pub record IsOwnRequest (size count : ℕ) (r : Request) : Type 0 where
+  pub above : All (λ page. reserved_pages size ≤ page) r.pages
   pub below : All (λ page. page < count) r.pages
 
--- Whatever its rings say, the pages of rings and buffers have frames, and what the device took
--- names pages that it may take frames from.
-pub record IsRogueUp (mem : Pages) (part : Part) : Type 0 where
-  pub backed : (page : ℕ) → page < ring_and_buffer_pages → IsSome (frame_at mem page)
-  pub inflates : All (IsOwnRequest (length mem)) part.inflate.taken
-  pub reports : All (IsOwnRequest (length mem)) part.report.taken
+-- Whatever its rings say, the pages of rings and buffers have frames, by the size of its queues,
+-- and what the device took names pages that it may take frames from.
+pub record IsRogueUp (size : ℕ) (mem : Pages) (part : Part) : Type 0 where
+  pub backed : (page : ℕ) → is_start_page size page ≡ true → IsSome (frame_at mem page)
+  pub inflates : All (IsOwnRequest size (length mem)) part.inflate.taken
+  pub reports : All (IsOwnRequest size (length mem)) part.report.taken
 
 -- How large the guest is, what its driver and its device keep and are asked for, and the frames
 -- behind its pages: nothing of its rings, of its requests, and of what its pages hold.
@@ -183,14 +186,15 @@ pub record Rogue (mem : Pages) (part : Part) (d : DriverState) (g : Guest) : Typ
   pub last : part.last ≡ g.last
   pub ballooned : part.ballooned ≡ g.ballooned
   pub flagged : length g.ballooned ≡ g.config.pages
-  pub unreserved : (page : ℕ) → page < reserved_pages → is_ballooned g.ballooned page ≡ false
+  pub unreserved : (page : ℕ) → page < reserved_pages g.config.queue_size
+      → is_ballooned g.ballooned page ≡ false
   pub loose : part.loose ≡ []
   -- memory
   pub length_is : length mem ≡ g.config.pages
   pub framed : length g.frames ≡ g.config.pages
   pub filled : length g.contents ≡ g.config.pages
   pub behind : (page : ℕ) → frame_at mem page ≡ frame_of g.frames page
-  pub up : contains part.status driver_ok ≡ true → IsRogueUp mem part
+  pub up : contains part.status driver_ok ≡ true → IsRogueUp g.config.queue_size mem part
 
 -- By whether the guest wrote past its driver.
 abbrev pub StandsBy : Bool → Pages → Part → DriverState → Guest → Type 0

@@ -29,7 +29,7 @@ AreOut g out = (n : ℕ) → backing_count n g ≤ one_if (is_out out n)
 -- A step of a guest whose device keeps no frames: what the call's claims were answered, and the
 -- guest afterwards, for which New holds. Frames that its pages gain are out then, and those that
 -- they lose aren't. The keeper has as many frames as before.
-pub record Steps (New : Guest → Type 0) (Answers : List Bool → Claim → Type 0)
+pub record StepsWithKeeper (New : Guest → Type 0) (Answers : List Bool → Claim → Type 0)
     (old_out new_out : List Bool) (g : Guest) (call : Call) (reply : Reply) : Type 0 where
   pub claims : List Claim
   pub new : Guest

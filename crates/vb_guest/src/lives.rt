@@ -1,14 +1,15 @@
 //! A guest's device starts, and starts over (VIRTIO 1.1, 2.1 and 3.1.1).
 
-ghost use Rattle.std.specs.Prelude.{◌≡◌, ◌≤◌, [], length, false, None, replicate};
+ghost use Rattle.std.specs.Prelude.{◌≡◌, ◌+◌, ◌≤◌, [], length, false, None, replicate};
 ghost use Rattle.std.specs.List.{range_with_len};
 ghost use Rattle.vb_model.specs.declared.replies.Reply.TheVariants.{Done};
 ghost use Rattle.vb_model.specs.Orderly.{times};
 ghost use Rattle.vb_driver.specs.Calls.{ResetsBy};
 ghost use Rattle.vb_driver.specs.State.{DriverState, fresh_driver};
 ghost use Rattle.vb_device.specs.Discards.{frames_behind};
+ghost use Rattle.vb_guest.specs.declared.frames.TheConstants.{MAX_CLAIMS};
 ghost use Rattle.vb_guest.specs.Exact.{InitialisesBy, IsReset};
-ghost use Rattle.vb_guest.specs.Lives.{bare_from, SuppliesBy};
+ghost use Rattle.vb_guest.specs.Lives.{is_bare, bare_from, SuppliesBy};
 ghost use Rattle.vb_guest.specs.Promises.{EachRestarts, EachSteps, EachStepsAlone, OfEach};
 ghost use Rattle.vb_guest.specs.Promises.{SomeGuest, SomeGuestOut, moment};
 ghost use Rattle.vb_guest.specs.Replies.{ready_reply};
@@ -21,9 +22,16 @@ use bitflags::Flags;
 use vb_device::Device;
 use vb_driver::Driver;
 use vb_frames::{FrameKeeper, Refused};
-use vb_model::limits::RING_AND_BUFFER_PAGES;
 use vb_model::{Call, Refusal};
+use vb_ram::Shape;
 use vb_status::{Features, Port};
+
+/// Whether a page is one of rings and buffers, and has no frame.
+fn is_bare<D: Device>(device: &D, shape: Shape, page: u32) -> bool
+    ensures { result ≡ is_bare shape.queue_size (D.mem device.now) page }
+{
+    shape.is_start_page(page) && device.backing(page).is_none()
+}
 
 /// Puts new frames behind those pages of rings and buffers, from this one on, that have none. All
 /// are claimed first: where a claim is refused, those that were given go back, and no page has one.
@@ -31,25 +39,28 @@ fn supply_from<D: Device, K: FrameKeeper>(
     device: &mut D,
     keeper: &mut K,
     claims: &mut Claims,
+    shape: Shape,
     page: u32,
 ) -> Result<(), Refused>
     requires none { (D.part device.old).keeps ≡ false → (D.part device.old).own ≡ [] }
     requires memory { 64 ≤ length (D.mem device.old) }
-    requires room { length claims.old.items ≤ page }
+    requires room { length claims.old.items
+        + length (bare_from shape.queue_size (D.mem device.old) page) ≤ MAX_CLAIMS }
     ensures supplies { SuppliesBy K.answers (supply_of (D.part device.old) (K.out keeper.old))
         (supply_of (D.part device.new) (K.out keeper.new)) claims.old.items claims.new.items
-        (bare_from (D.mem device.old) page) (D.mem device.old) (D.mem device.new) result }
+        (bare_from shape.queue_size (D.mem device.old) page)
+        (D.mem device.old) (D.mem device.new) result }
     ensures part { D.part device.new ≡
         record (D.part device.old) { own = (D.part device.new).own } }
 {
-    if page >= RING_AND_BUFFER_PAGES {
+    if page >= shape.reserved_pages() {
         return Ok(());
     }
-    if device.backing(page).is_some() {
-        return supply_from(device, keeper, claims, page + 1);
+    if !is_bare(device, shape, page) {
+        return supply_from(device, keeper, claims, shape, page + 1);
     }
     let frame = claim_frame(device, keeper, claims)?;
-    match supply_from(device, keeper, claims, page + 1) {
+    match supply_from(device, keeper, claims, shape, page + 1) {
         Ok(()) => {
             supply(device, page, frame);
             Ok(())
@@ -85,7 +96,7 @@ pub fn init<D: Device, K: FrameKeeper>(
     if device.status().bits() != 0 {
         return Err(Refusal::AlreadyUp);
     }
-    match supply_from(device, keeper, claims, 0) {
+    match supply_from(device, keeper, claims, driver.shape(), 0) {
         Ok(()) => driver.init(device, Features::from_bits_retain(wanted)),
         Err(Refused::NoFrame) => Err(Refusal::NoFrame),
         Err(Refused::Memory) => Err(Refusal::NoMemory),

@@ -16,7 +16,7 @@ use bitflags::Flags;
 use std::alloc::{AllocError, Global};
 use vb_device::{Device, Statistics};
 use vb_driver::Driver;
-use vb_model::limits::{PAGE_SIZE, RESERVED_PAGES};
+use vb_model::limits::PAGE_SIZE;
 use vb_model::{PageRun, PageRuns, Place, PlaceCounts, Query};
 
 /// What a device and its driver say of the balloon.
@@ -72,14 +72,14 @@ pub fn pages<D: Device>(device: &D) -> u32
 
 /// How many pages the guest can spare (profile): those that are ballooned, and those that its last
 /// statistics call free above the floor, in pages; at most all unreserved ones.
-pub fn spare<D: Device>(device: &D, floor: u32) -> u32
-    requires { (d : DriverState) × SomeGuest (D.mem device.now) (D.part device.now) d }
-    ensures { (d : DriverState) → OfEach (D.mem device.now) (D.part device.now) d
+pub fn spare<D: Device>(driver: &Driver, device: &D, floor: u32) -> u32
+    requires { SomeGuest (D.mem device.now) (D.part device.now) driver.now }
+    ensures { OfEach (D.mem device.now) (D.part device.now) driver.now
         (λ g. result ≡ spare floor g) }
 {
     let free = device.stats().free.unwrap_or(0) / u64::from(PAGE_SIZE);
     let above = free.saturating_sub(u64::from(floor));
-    let most = u64::from(device.pages() - RESERVED_PAGES);
+    let most = u64::from(device.pages() - driver.shape().reserved_pages());
     most.min(u64::from(device.ballooned_count()) + above) as u32
 }
 

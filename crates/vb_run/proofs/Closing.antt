@@ -1,4 +1,6 @@
 -- From what the locks kept to the report.
+use Rattle.std.specs.Prelude.{not, ◌==◌, ◌&&◌}
+use Rattle.std.proofs.lemmas.Bool.{and_parts, eqb-true}
 use Rattle.std.proofs.Common.{◌≡◌, refl, sym, ◌∙◌, ap, subst, ℕ, zero, suc, ◌<◌, Bool, true, false}
 use Rattle.std.proofs.Common.{List, [], ◌∷◌, length, Some, None, slice_get, arith, All}
 use Rattle.std.specs.Prelude.{slice_index_or}
@@ -23,6 +25,27 @@ use Rattle.vb_run.specs.Rounds.{Rounded, round_entries}
 use Rattle.vb_run.specs.Reports.{IsGuestReport, IsReport, IsRound, AreApart, frames_behind}
 use Rattle.vb_run.proofs.Lists.{take_whole}
 use Rattle.vb_run.proofs.Tended.{served}
+
+-- configurations that aren't told apart are the same
+pub same_config : (a b : Sizes)
+    → not ((a.pages == b.pages) && ((a.queue_size == b.queue_size)
+    && (a.processors == b.processors))) ≡ false
+    → a ≡ b
+same_config a b e =
+    let all = and_parts (a.pages == b.pages)
+    ((a.queue_size == b.queue_size) && (a.processors == b.processors)) (is_true _ e) in
+    let rest = and_parts (a.queue_size == b.queue_size) (a.processors == b.processors) all.1 in
+    ap (λ (n : ℕ). by n a.queue_size a.processors) (eqb-true _ _ all.0)
+    ∙ ap (λ (n : ℕ). by b.pages n a.processors) (eqb-true _ _ rest.0)
+    ∙ ap (by b.pages b.queue_size) (eqb-true _ _ rest.1)
+  where
+    by : ℕ → ℕ → ℕ → Sizes
+    by pages queue_size processors =
+        record { pages = pages; queue_size = queue_size; processors = processors }
+
+    is_true : (b : Bool) → not b ≡ false → b ≡ true
+    is_true true h = refl
+    is_true false h = absurd cc
 
 none_some : {Y : Type 0} (y : Y) → None ≡ Some y → ⊥
 none_some y h = cc

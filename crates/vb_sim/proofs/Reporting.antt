@@ -11,9 +11,8 @@ use Rattle.std.proofs.lemmas.List.{append_assoc, append-nil, take-append-drop}
 use Rattle.std.proofs.lemmas.List.Folds.{list_all-append, list_all_more}
 use Rattle.std.proofs.lemmas.List.Sums.{sum_by-cons, sum_by-take-le, sum_by_more}
 use Rattle.vb_model.specs.declared.calls.Call.{Call}
-use Rattle.vb_model.specs.Limits.{is_between, is_config, is_power_of_two}
-use Rattle.vb_model.specs.declared.limits.TheConstants.{MIN_GUEST_PAGES, MAX_GUEST_PAGES}
-use Rattle.vb_model.specs.declared.limits.TheConstants.{MIN_QUEUE_SIZE, MAX_QUEUE_SIZE, MAX_PROCESSORS}
+use Rattle.vb_model.specs.Limits.{is_config}
+use Rattle.vb_ram.proofs.Limits.{config_limits}
 use Rattle.vb_run.specs.Plans.{are_scripts, is_guest_plan, is_script, may_stand}
 use Rattle.vb_run.specs.declared.plan.GuestPlan.{GuestPlan}
 use Rattle.vb_run.specs.declared.plan.TheConstants.{MAX_SCRIPT_CALLS}
@@ -46,13 +45,7 @@ calls_bounded plan h =
     ((length plan.scripts.items == c.processors) && are_scripts 0 plan.scripts.items) h in
     let inner = and_parts (length plan.scripts.items == c.processors)
     (are_scripts 0 plan.scripts.items) outer.1 in
-    let queue = is_between MIN_QUEUE_SIZE MAX_QUEUE_SIZE c.queue_size
-    && is_power_of_two c.queue_size in
-    let sizes = (and_parts queue (is_between 1 MAX_PROCESSORS c.processors)
-    (and_parts (is_between MIN_GUEST_PAGES MAX_GUEST_PAGES c.pages && is_power_of_two c.pages)
-    (queue && is_between 1 MAX_PROCESSORS c.processors) outer.0).1).1 in
-    let four : c.processors ≤ 4 = is_below _ _ (and_parts (nat_le 1 c.processors)
-    (nat_le c.processors 4) sizes).1 in
+    let four = (config_limits c.pages c.queue_size c.processors outer.0).processors_most in
     let count : length plan.scripts.items ≡ c.processors = is_equal _ _ inner.0 in
     let all = scripts_bounded 0 plan.scripts.items inner.1 in
     omega (arith, four, count, all)

@@ -4,4 +4,5 @@ pub mod Ends
 pub mod Faults
 pub mod Plans
 pub mod Plays
+pub mod Recorded
 pub mod Threads

@@ -20,7 +20,8 @@ pub const BAD_SCRIPT: u8 = 1;
 /// Exit status: the arguments aren't understood.
 pub const BAD_ARGUMENTS: u8 = 2;
 
-/// Exit status: there was no memory before anything could run, or guests on threads found none.
+/// Exit status: there was no memory before anything could run or for the lines of the replies, or
+/// guests on threads found none.
 pub const NO_MEMORY: u8 = 3;
 
 /// Exit status: reading or writing failed.
@@ -36,8 +37,8 @@ pub enum ProgramFault {
     BadLine(u64),
     /// The lines make no plan, or one that can't be run.
     BadPlan,
-    /// There was no memory before anything could run, or guests on threads found none, or no thread
-    /// could be made for one.
+    /// There was no memory before anything could run or for the lines of the replies, or guests on
+    /// threads found none, or no thread could be made for one.
     Memory,
     /// Guests on threads had a frame in common at their end, which no run meets.
     Audit,

@@ -10,6 +10,7 @@ mod lines;
 mod plans;
 mod play;
 mod ports;
+mod replies;
 mod run;
 #[cfg(test)]
 mod tests;

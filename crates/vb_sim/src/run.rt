@@ -1,8 +1,9 @@
 //! The run of a script, from its bytes to the exit status.
 
-ghost use Rattle.std.specs.Prelude.{◌≡◌, true, IfErr, IfOk, IfSome, OnOk};
+ghost use Rattle.std.specs.Prelude.{◌≡◌, true, IfErr, IfOk, IfSome, List, OnOk};
 ghost use Rattle.std.specs.Io.KnownBytes.{Appends, Keeps};
 ghost use Rattle.std.specs.List.{flat_map};
+ghost use Rattle.vb_model.specs.declared.replies.Reply.{Reply as AnyReply};
 ghost use Rattle.vb_reply.specs.Replies.{line_of};
 ghost use Rattle.std.specs.Option.{option_map};
 ghost use Rattle.vb_script.specs.Scripts.{IfBadLine as IfBadScript, said_by};
@@ -16,11 +17,10 @@ use crate::fault::{ProgramFault, SUCCESS, report};
 use crate::host::Host;
 use crate::input::read_text;
 use crate::play::Play;
+use crate::replies::ReplyLines;
 use std::alloc::{AllocError, Global};
 use std::io;
 use std::io::{Read, Write};
-use vb_model::Reply;
-use vb_reply::write_replies;
 use vb_script::{Script, ScriptFault, parse};
 
 /// Reads a script from `input`, makes its host and devices, lets its events happen, and writes a
@@ -92,26 +92,35 @@ fn play_into<P: Play, W: Write>(
     ensures nothing { IfErr result
         (λ fault. UnlessStream fault (Keeps (W.contents out.old) (W.contents out.new))) }
 {
-    let replies = replies_to(alloc, host, text)?;
-    write_lines(out, replies.as_slice())
+    let lines = lines_of(alloc, host, text)?;
+    write_lines(out, lines.as_slice())
 }
 
-/// What the events of a script are answered, in order. Nothing happens where one of its lines is
-/// bad, and nothing is answered where it has none.
-fn replies_to<P: Play>(
-    alloc: Global,
-    host: &mut P,
-    text: Vec<u8>,
-) -> Result<Vec<Reply>, ProgramFault>
-    ensures ok { IfOk result (λ replies. MayGet P.played (script_of text.items) replies.items) }
+/// The lines of what the events of a script are answered, in order. Nothing happens where one of
+/// its lines is bad, and nothing is answered where it has none.
+fn lines_of<P: Play>(alloc: Global, host: &mut P, text: Vec<u8>) -> Result<Vec<u8>, ProgramFault>
+    ensures ok { IfOk result (λ lines. (replies : List AnyReply)
+        × MayGet P.played (script_of text.items) replies
+        × (lines.items ≡ flat_map line_of replies)) }
     ensures bad { IfErr result
         (λ fault. IfBadLine fault (λ number. script_of text.items ≡ Err number)) }
     ensures memory { result ≡ Err NoMemory → begins_with_host text.items ≡ true }
 {
     match read_script(alloc, text)? {
         None => Ok(Vec::new(alloc)),
-        Some(script) => Ok(host.play(alloc, &script)?),
+        Some(script) => Ok(play_lines(alloc, host, &script)?),
     }
+}
+
+/// The lines of what a script's events are answered, in order. Want of memory is the only refusal.
+fn play_lines<P: Play>(alloc: Global, host: &mut P, script: &Script) -> Result<Vec<u8>, AllocError>
+    ensures { IfOk result (λ lines. (replies : List AnyReply)
+        × P.played (said_by script.now) replies
+        × (lines.items ≡ flat_map line_of replies)) }
+{
+    let mut lines = ReplyLines::new(alloc)?;
+    host.play(alloc, script, &mut lines)?;
+    lines.into_text()
 }
 
 /// Reads a script from its text, which is let go before anything runs.
@@ -124,23 +133,21 @@ fn read_script(alloc: Global, text: Vec<u8>) -> Result<Option<Script>, ScriptFau
     parse(alloc, text.as_slice())
 }
 
-/// Writes a line for each reply; a fault of the stream ends the run.
-fn write_lines<W: Write>(out: &mut W, replies: &[Reply]) -> Result<(), ProgramFault>
-    ensures ok { OnOk result
-        (Appends (W.contents out.old) (W.contents out.new) (flat_map line_of replies.now)) }
+/// Writes all lines; a fault of the stream ends the run.
+fn write_lines<W: Write>(out: &mut W, lines: &[u8]) -> Result<(), ProgramFault>
+    ensures ok { OnOk result (Appends (W.contents out.old) (W.contents out.new) lines.now) }
     ensures err { IfErr result (λ fault. fault ≡ Stream) }
 {
-    match write_all_lines(out, replies) {
+    match write_all_lines(out, lines) {
         Ok(()) => Ok(()),
         Err(_fault) => Err(ProgramFault::Stream),
     }
 }
 
-/// Writes a line for each reply.
-fn write_all_lines<W: Write>(out: &mut W, replies: &[Reply]) -> io::Result<()>
-    ensures { OnOk result
-        (Appends (W.contents out.old) (W.contents out.new) (flat_map line_of replies.now)) }
+/// Writes all lines.
+fn write_all_lines<W: Write>(out: &mut W, lines: &[u8]) -> io::Result<()>
+    ensures { OnOk result (Appends (W.contents out.old) (W.contents out.new) lines.now) }
 {
-    write_replies(out, replies)?;
+    out.write_all(lines)?;
     out.flush()
 }

@@ -5,6 +5,7 @@ mod balances;
 mod command_lines;
 mod endings;
 mod examples;
+mod large_queues;
 mod leased;
 mod listed;
 mod lives;

@@ -430,7 +430,7 @@ impl Slot {
         requires { HasGuest mem part self.now }
         ensures { OfItsGuest mem part self.now (λ g. result ≡ spare floor g) }
     {
-        vb_guest::spare(&self.device, floor)
+        vb_guest::spare(&self.driver, &self.device, floor)
     }
 
     /// What the claims of the last call were answered, in order; none where it made none. A call

@@ -26,7 +26,7 @@ use Rattle.vb_frames.specs.Out.{is_out, TableAnswers}
 use Rattle.vb_frames.proofs.Returns.{same_gives}
 use Rattle.vb_frames.proofs.Least.{table_gives}
 use Rattle.vb_model.specs.Limits.{max_guests}
-use Rattle.vb_slot.specs.Steps.{Steps, AreOut, backing_count}
+use Rattle.vb_slot.specs.Steps.{StepsWithKeeper, AreOut, backing_count}
 use Rattle.vb_slot.proofs.Standing.{KeeperMoves}
 use Rattle.vb_world.specs.Hosts.{IsHost, StandsAt, backing_at}
 use Rattle.vb_world.proofs.Guests.{backing-with, backing-part, count-with, backs_out, out_backs}
@@ -182,7 +182,7 @@ module _ {S D : Type 0} (Stand : S → Guest → Type 0) (Spare : D → Bool →
 
   pub guest_step : (n : ℕ) (s s' : S) (out' : List Bool) (call : Call) (reply : Reply)
       → IsHost Stand Spare slots out devices w → get slots n ≡ Some s
-      → ((g : Guest) → Stand s g → Steps (Stand s') TableAnswers out out' g call reply)
+      → ((g : Guest) → Stand s g → StepsWithKeeper (Stand s') TableAnswers out out' g call reply)
       → (new : World) × IsHost Stand Spare (with_value slots n s') out' devices new
       × WorldStep w (OnGuest n call) reply new
   guest_step n s s' out' call reply host e steps =

@@ -4,7 +4,7 @@
 ghost use Rattle.std.specs.Prelude.{◌≡◌, true};
 ghost use Rattle.vb_model.specs.Limits.{is_config};
 
-use super::{ALL, Answer, Guest, Request, Table};
+use super::{ALL, Answer, Guest, Request, Table, small_queues};
 use crate::Driver;
 use crate::places::PlaceTable;
 use std::alloc::Global;
@@ -147,7 +147,8 @@ pub(super) fn first_wrong(guest: &mut Guest, words: usize, lines: &[Line]) -> Op
 fn expect(rt: &impl Abort, alloc: Global, pages: u32, words: usize, lines: &'static [Line])
     requires { is_config pages 8 1 ≡ true }
 {
-    let wrong = super::first_wrong(rt, alloc, pages, 16, Table::Lent(words, lines));
+    let table = Table::Lent(words, lines);
+    let wrong = super::first_wrong(rt, alloc, small_queues(pages), &[(0, 16)], table);
     assert_eq!(rt; wrong, None);
 }
 
@@ -366,7 +367,7 @@ fn first_wrong_move(table: &mut PlaceTable, moves: &[Move]) -> Option<usize> {
 
 #[test]
 fn has_a_last_word_in_part(rt: HostRuntime) -> Result<(), Fail> {
-    let mut table = PlaceTable::new(rt.alloc(), 100)?;
+    let mut table = PlaceTable::new(rt.alloc(), 100, 16)?;
     assert_eq!(rt; first_wrong_move(&mut table, &MOVES), None);
     Ok(())
 }

@@ -1,7 +1,7 @@
 //! Used rings of random bytes: a driver answers as a second reading of the same bytes has it, which
 //! is written from the rules alone.
 
-use super::{ALL, Answer, Guest, Step, Table};
+use super::{ALL, Answer, Guest, Step, Table, small_queues};
 use crate::requests::is_up;
 use bitflags::Flags;
 use byteorder::{ByteOrder, LittleEndian};
@@ -204,7 +204,8 @@ pub(super) fn first_wrong(guest: &mut Guest, queue: u32) -> Option<usize> {
 
 /// Expects that a new guest's driver answers each used ring as the second reading has it.
 fn expect_as_read(rt: &impl Abort, alloc: Global, queue: u32) {
-    let wrong = super::first_wrong(rt, alloc, 64, 13, Table::Rings(queue));
+    let table = Table::Rings(queue);
+    let wrong = super::first_wrong(rt, alloc, small_queues(64), &[(0, 13)], table);
     assert_eq!(rt; wrong, None);
 }
 

@@ -13,13 +13,22 @@ use requests::Requests;
 pub(crate) use rows::{Act, Row, Said, rows_of};
 use std::alloc::{AllocError, Global};
 use vb_model::layout::{DEFLATE_QUEUE, INFLATE_QUEUE, REPORT_QUEUE, STATISTICS_QUEUE};
-use vb_model::limits::{MAX_ORDER, PAGE_SIZE, RESERVED_PAGES, RING_AND_BUFFER_PAGES};
+use vb_model::limits::{MAX_ORDER, PAGE_SIZE};
 use vb_model::{Claim, Place, Refusal};
 use vb_ram::Config;
 use vb_run::Entry;
 
 /// The features that a driver accepts by itself.
 const ALL_FEATURES: u64 = 0x1_0000_0027;
+
+/// How many pages a guest with queues of this size reserves.
+fn reserved_pages(queue_size: u16) -> u32 {
+    if queue_size == 256 { 32 } else { 16 }
+}
+
+/// The pages that a call needs: those from the first up to the end, and those from the second one
+/// up to the last.
+type Needed = [(u32, u32); 2];
 
 /// The statistics buffer, with how many pages were free as it was filled.
 #[derive(Clone, Copy)]
@@ -96,7 +105,7 @@ impl PlainGuest {
             config,
             is_paced,
             is_ready: false,
-            pages: Pages::new(alloc, config.pages)?,
+            pages: Pages::new(alloc, config.pages, reserved_pages(config.queue_size))?,
             held: Vec::new(alloc),
             requests: Requests::new(alloc),
             buffer: Buffer::Missing,
@@ -107,8 +116,7 @@ impl PlainGuest {
 
     /// Whether the row may come next. If so, it has happened.
     pub fn permits(&mut self, alloc: Global, row: &Row<'_>) -> Result<bool, AllocError> {
-        let (first, end) = self.needed(row.act);
-        let needed = self.pages.lacking(alloc, first, end)?;
+        let needed = self.pages.lacking(alloc, &self.needed(row.act))?;
         if let Some(refusal) = refusal_in(row.claims) {
             return Ok(is_refused(row, refusal, needed.len()));
         }
@@ -138,12 +146,17 @@ impl PlainGuest {
 
     // ---- frames
 
-    /// The pages that need a frame for the call: those from the first up to the end.
-    fn needed(&self, act: Act<'_>) -> (u32, u32) {
+    /// The pages that need a frame for the call: of a start those of buffers and rings.
+    fn needed(&self, act: Act<'_>) -> Needed {
         match act {
-            Act::Init(_) if !self.is_ready => (0, RING_AND_BUFFER_PAGES),
-            Act::Write(page, offset, bytes) => (page, self.written(page, offset, bytes)),
-            _ => (0, 0),
+            Act::Init(_) if !self.is_ready => match self.config.queue_size {
+                256 => [(4, 13), (16, 24)],
+                _ => [(0, 13), (13, 13)],
+            },
+            Act::Write(page, offset, bytes) => {
+                [(page, self.written(page, offset, bytes)), (0, 0)]
+            }
+            _ => [(0, 0), (0, 0)],
         }
     }
 
@@ -244,7 +257,8 @@ impl PlainGuest {
     fn spare(&self, floor: u32) -> Said<'static> {
         let above = self.last_free.saturating_sub(floor);
         let spare = self.pages.count_ballooned().saturating_add(above);
-        Said::Spare(spare.min(self.config.pages.saturating_sub(RESERVED_PAGES)))
+        let reserved = reserved_pages(self.config.queue_size);
+        Said::Spare(spare.min(self.config.pages.saturating_sub(reserved)))
     }
 
     // ---- what runs in the guest

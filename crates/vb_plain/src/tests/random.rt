@@ -85,8 +85,8 @@ fn call(alloc: Global, numbers: &mut Pcg32, cpu: u32, pages: u32) -> Result<Call
 /// A guest of random size with random scripts.
 fn guest(alloc: Global, numbers: &mut Pcg32) -> Result<GuestPlan, AllocError> {
     let config = Config {
-        pages: one_of(numbers, &[64, 128]),
-        queue_size: one_of(numbers, &[2, 4, 8, 16]),
+        pages: one_of(numbers, &[64, 80, 128]),
+        queue_size: one_of(numbers, &[2, 4, 8, 256]),
         processors: one_of(numbers, &[1, 2, 3, 4]),
     };
     let mut scripts = Vec::new(alloc);

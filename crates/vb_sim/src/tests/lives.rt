@@ -3,8 +3,7 @@
 
 ghost use Rattle.std.specs.Prelude.{◌≤◌};
 
-use crate::host::Host;
-use crate::play::Play;
+use crate::host::play_events;
 use rand_core::Rng;
 use rand_pcg::Pcg32;
 use std::alloc::{AllocError, Global};
@@ -409,7 +408,14 @@ fn live(rt: &impl Abort, alloc: Global, frames: u32, seed: u64) -> Result<(), Al
     };
     let mut script = host_of(alloc, frames)?;
     author.add_all(alloc, &mut script)?;
-    let replies = Host.play(alloc, &script)?;
+    let mut replies = Vec::new(alloc);
+    play_events(
+        alloc,
+        script.frames,
+        &script.spares,
+        &script.events,
+        &mut replies,
+    )?;
     assert!(rt; are_in_order(&replies), "on {frames} frames");
     Ok(())
 }

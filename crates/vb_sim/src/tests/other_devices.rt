@@ -1,11 +1,12 @@
 //! Any device serves a host: scripts on a host whose devices are the tests' own.
 
-ghost use Rattle.std.specs.Prelude.{⊤};
+ghost use Rattle.std.specs.Prelude.{◌≡◌, ⊤, IfOk, vec_len};
 
 use super::listed::ListedDevice;
 use super::{Example, Outcome, check_all};
 use crate::fault::SUCCESS;
 use crate::play::Play;
+use crate::replies::ReplyLines;
 use crate::run::run_script_on;
 use std::alloc::{AllocError, Global};
 use std::process::Abort;
@@ -24,7 +25,22 @@ struct Listing {
 impl Play for Listing {
     ghost played = { λ said replies. ⊤ };
 
-    fn play(&mut self, alloc: Global, script: &Script) -> Result<Vec<Reply>, AllocError> {
+    fn play(
+        &mut self,
+        alloc: Global,
+        script: &Script,
+        lines: &mut ReplyLines,
+    ) -> Result<(), AllocError> {
+        let replies = self.answer_all(alloc, script)?;
+        lines.record_all(&replies)
+    }
+}
+
+impl Listing {
+    /// What a script's events are answered.
+    fn answer_all(&self, alloc: Global, script: &Script) -> Result<Vec<Reply>, AllocError>
+        ensures { IfOk result (λ replies. vec_len replies ≡ vec_len script.now.events) }
+    {
         let mut spares: Vec<Box<dyn Device + Send>> = Vec::new(alloc);
         for at in 0..script.spares.len() {
             let refusals = self.refusals.get(at).copied().unwrap_or(0);

@@ -1,10 +1,11 @@
 //! Whole runs: what is written where, and the exit status, also where reading or writing fails.
 
-ghost use Rattle.std.specs.Prelude.{◌≡◌, length};
+ghost use Rattle.std.specs.Prelude.{◌≡◌, IfOk, length, vec_len};
 
 use super::{Outcome, repeated};
 use crate::host::Host;
 use crate::play::Play;
+use crate::replies::ReplyLines;
 use crate::run::run_script_on;
 use std::alloc::{AllocError, Global};
 use std::io;
@@ -19,13 +20,26 @@ struct Empty;
 impl Play for Empty {
     ghost played = { λ said replies. length replies ≡ length said.events };
 
-    fn play(&mut self, alloc: Global, script: &Script) -> Result<Vec<Reply>, AllocError> {
-        let mut replies = Vec::with_capacity(alloc, script.events.len())?;
-        for _event in &script.events {
-            replies.push(Reply::Refused(Refusal::NoGuest))?;
-        }
-        Ok(replies)
+    fn play(
+        &mut self,
+        alloc: Global,
+        script: &Script,
+        lines: &mut ReplyLines,
+    ) -> Result<(), AllocError> {
+        let replies = refuse_all(alloc, script)?;
+        lines.record_all(&replies)
     }
+}
+
+/// What a script's events are answered where no guest is there.
+fn refuse_all(alloc: Global, script: &Script) -> Result<Vec<Reply>, AllocError>
+    ensures { IfOk result (λ replies. vec_len replies ≡ vec_len script.now.events) }
+{
+    let mut replies = Vec::with_capacity(alloc, script.events.len())?;
+    for _event in &script.events {
+        replies.push(Reply::Refused(Refusal::NoGuest))?;
+    }
+    Ok(replies)
 }
 
 /// A host that finds no memory.
@@ -35,7 +49,12 @@ struct Starved;
 impl Play for Starved {
     ghost played = { λ said replies. ⊥ };
 
-    fn play(&mut self, _alloc: Global, _script: &Script) -> Result<Vec<Reply>, AllocError> {
+    fn play(
+        &mut self,
+        _alloc: Global,
+        _script: &Script,
+        _lines: &mut ReplyLines,
+    ) -> Result<(), AllocError> {
         Err(AllocError)
     }
 }
@@ -305,7 +324,7 @@ fn want_of_memory_is_status_3(rt: HostRuntime) {
     assert!(rt; outcome.shows(b"", b"run: memory\n", 3));
 }
 
-/// Calls of the writer of 18,000 bytes at which it fails, and the exit statuses.
+/// Calls of the writer of 18,000 bytes, up to 8,192 each, at which it fails, and the exit statuses.
 static FLAKY: [(usize, u8); 4] = [(1, 4), (2, 4), (3, 4), (100, 0)];
 
 #[test]
@@ -314,6 +333,7 @@ fn a_write_that_fails_once_is_status_4(rt: HostRuntime) -> Result<(), AllocError
     for (call, status) in &FLAKY {
         let faults = Faults {
             call: *call,
+            most: 8_192,
             ..NONE
         };
         let outcome = run(rt.alloc(), &mut Empty, script.as_slice(), faults);

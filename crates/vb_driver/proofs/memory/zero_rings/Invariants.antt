@@ -1,9 +1,12 @@
 use Rattle.std.proofs.Common.{◌≡◌}
+use Rattle.vb_model.specs.Layout.{is_ring_page}
 use Rattle.vb_driver.specs.Coding.{AreZeroed}
+use Rattle.vb_driver.proofs.Zeroing.{passed}
 use Rattle.vb_driver.proofs.memory.zero_rings.Given as goal
 
 abbrev pub invariant-loop-page : goal.invariant-loop-page
 invariant-loop-page g l = record {
-  zeroed : AreZeroed (g.G.GuestBytes.mem l.initial.ram) (g.G.GuestBytes.mem l.ram) l.page;
+  zeroed : AreZeroed (g.G.GuestBytes.mem l.initial.ram) (g.G.GuestBytes.mem l.ram)
+      (passed (is_ring_page l.shape.queue_size) l.page);
   part : g.G.GuestBytes.part l.ram ≡ g.G.GuestBytes.part l.initial.ram;
 }

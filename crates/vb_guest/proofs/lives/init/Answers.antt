@@ -3,7 +3,7 @@ use Rattle.vb_frames.specs.declared.keeper.Refused.TheVariants.{NoFrame, Memory}
 use Rattle.vb_model.specs.declared.calls.Claim.{Claim}
 use Rattle.vb_model.specs.declared.replies.Refusal.TheVariants.{NoFrame as NoFrameLeft, NoMemory}
 use Rattle.vb_guest.proofs.InitStep.{init_up, known_answer, init_unsupplied, still_large}
-use Rattle.vb_guest.proofs.InitStep.{init_supplied, first_noted}
+use Rattle.vb_guest.proofs.InitStep.{init_supplied, first_noted, by_size, few_bare}
 use Rattle.vb_guest.proofs.Exactly.{begins}
 use Rattle.vb_guest.proofs.Asked.{is_large}
 use Rattle.vb_guest.proofs.RogueLives.{init_up_rogue, init_unsupplied_rogue, init_supplied_rogue}
@@ -32,35 +32,41 @@ supply_from-requires g c = let (keeps, guest, stands) = c.requires in
     record {
       none = λ e. stands.own.none (sym stands.own.flag ∙ e);
       memory = is_large keeps _ _ _ guest stands;
-      room = (let none = ap (λ (l : List Claim). length l) c.clear.ensures in omega (arith, none));
+      room = omega (
+        arith,
+        ap (λ (l : List Claim). length l) c.clear.ensures,
+        few_bare c.shape.result.queue_size (g.D.GuestBytes.mem c.args.device.now),
+      );
     }
 
 pub init-requires : goal.init-requires
 init-requires g c = let (keeps, guest, stands) = c.requires in
+    let did = by_size g.K.FrameKeeper.answers _ _ _ _ _ _ c.shape.result _ _ c.shape.ensures
+    c.in-Ok.ensures.supplies in
     record {
       memory = by_guest keeps _ _ _ guest stands
-          (λ honest. still_large g.K.FrameKeeper.answers _ _ _ _ _ _ _ _ guest honest
-          c.in-Ok.ensures.supplies)
-          (λ rogue. still_large_rogue g.K.FrameKeeper.answers _ _ _ _ _ _ _ _ guest rogue
-          c.in-Ok.ensures.supplies);
+          (λ honest. still_large g.K.FrameKeeper.answers _ _ _ _ _ _ _ _ guest honest did)
+          (λ rogue. still_large_rogue g.K.FrameKeeper.answers _ _ _ _ _ _ _ _ guest rogue did);
     }
 
 pub returns-in-Ok : goal.returns-in-Ok
 returns-in-Ok g c =
     let new : (g.D.GuestBytes.part c.args.device.now).status ≡ 0 =
     sym c.status.ensures ∙ sym (c.bits.ensures tt) ∙ c.if-bits-ne0.false in
+    let did = by_size g.K.FrameKeeper.answers _ _ _ _ _ _ c.shape.result _ _ c.shape.ensures
+    c.in-Ok.ensures.supplies in
     record {
       exact = begins g.K.FrameKeeper.answers _ _ _ _ _ _ _ _ _ _ _ _ _ _ new c.in-Ok.ensures.part
-          (first_noted g.K.FrameKeeper.answers _ _ _ _ _ _ _ _ c.clear.ensures c.in-Ok.ensures.supplies)
+          (first_noted g.K.FrameKeeper.answers _ _ _ _ _ _ _ _ c.clear.ensures did)
           (rw (← c.from_bits_retain.ensures tt) c.init.ensures);
       step = λ keeps guest stands. over_stands keeps _ _ _ _ _ _ guest _ _ _ _ _ _ stands
           (λ honest. init_supplied g.K.FrameKeeper.answers _ _ _ _ _ _ _ _ _ _ _ guest c.args.wanted _ _
           (c.from_bits_retain.ensures tt) new
-          (first_noted g.K.FrameKeeper.answers _ _ _ _ _ _ _ _ c.clear.ensures c.in-Ok.ensures.supplies)
+          (first_noted g.K.FrameKeeper.answers _ _ _ _ _ _ _ _ c.clear.ensures did)
           c.in-Ok.ensures.part c.init.ensures honest)
           (λ rogue. init_supplied_rogue g.K.FrameKeeper.answers _ _ _ _ _ _ _ _ _ _ _ guest
           c.args.wanted _ _ (c.from_bits_retain.ensures tt) new
-          (first_noted g.K.FrameKeeper.answers _ _ _ _ _ _ _ _ c.clear.ensures c.in-Ok.ensures.supplies)
+          (first_noted g.K.FrameKeeper.answers _ _ _ _ _ _ _ _ c.clear.ensures did)
           c.in-Ok.ensures.part c.init.ensures rogue);
     }
 
@@ -69,7 +75,9 @@ returns-in-Err-NoFrame g c =
     let new : (g.D.GuestBytes.part c.args.device.now).status ≡ 0 =
     sym c.status.ensures ∙ sym (c.bits.ensures tt) ∙ c.if-bits-ne0.false in
     let did = known_answer g.K.FrameKeeper.answers _ _ _ _ _ _ _ c.supply_from.result (Err NoFrame)
-    (c.in-Err-NoFrame.is ∙ ap Err c.in-Err-NoFrame.field-0-is) c.supply_from.ensures.supplies in
+    (c.in-Err-NoFrame.is ∙ ap Err c.in-Err-NoFrame.field-0-is)
+    (by_size g.K.FrameKeeper.answers _ _ _ _ _ _ c.shape.result _ _ c.shape.ensures
+    c.supply_from.ensures.supplies) in
     record {
       exact = begins g.K.FrameKeeper.answers _ _ _ _ _ _ _ _ _ _ _ _ _ _ new c.supply_from.ensures.part
           (first_noted g.K.FrameKeeper.answers _ _ _ _ _ _ _ _ c.clear.ensures did)
@@ -89,7 +97,9 @@ returns-in-Err-Memory g c =
     let new : (g.D.GuestBytes.part c.args.device.now).status ≡ 0 =
     sym c.status.ensures ∙ sym (c.bits.ensures tt) ∙ c.if-bits-ne0.false in
     let did = known_answer g.K.FrameKeeper.answers _ _ _ _ _ _ _ c.supply_from.result (Err Memory)
-    (c.in-Err-Memory.is ∙ ap Err c.in-Err-Memory.field-0-is) c.supply_from.ensures.supplies in
+    (c.in-Err-Memory.is ∙ ap Err c.in-Err-Memory.field-0-is)
+    (by_size g.K.FrameKeeper.answers _ _ _ _ _ _ c.shape.result _ _ c.shape.ensures
+    c.supply_from.ensures.supplies) in
     record {
       exact = begins g.K.FrameKeeper.answers _ _ _ _ _ _ _ _ _ _ _ _ _ _ new c.supply_from.ensures.part
           (first_noted g.K.FrameKeeper.answers _ _ _ _ _ _ _ _ c.clear.ensures did)

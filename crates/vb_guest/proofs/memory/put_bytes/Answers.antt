@@ -1,8 +1,6 @@
 use Rattle.std.specs.Prelude.{◌≡◌, ◌<◌, None}
 use Rattle.std.proofs.Common.{◌∙◌, ap, length, Ok, Err, refl}
-use Rattle.vb_model.specs.declared.replies.Refusal.TheVariants.{OutOfRam as Outside}
-use Rattle.vb_model.specs.declared.replies.Reply.TheVariants.{Done, Refused}
-use Rattle.vb_ram.specs.Pages.{Pages, frame_at, Covers}
+use Rattle.vb_ram.specs.Pages.{frame_at, Covers}
 use Rattle.vb_ram.specs.declared.fault.RamFault.TheVariants.{OutOfRam}
 use Rattle.vb_ram.specs.Part.{Part}
 use Rattle.vb_guest.specs.Supply.{supply_of}

@@ -1,7 +1,6 @@
 use Rattle.std.proofs.Common.{◌∙◌, List, length, arith, ap, refl, Ok, Err}
 use Rattle.vb_model.specs.declared.calls.Claim.{Claim}
 use Rattle.vb_model.specs.declared.calls.Claim.TheVariants.{GaveNoFrame, GaveNoMemory}
-use Rattle.vb_frames.specs.declared.keeper.Refused.TheVariants.{NoFrame, Memory}
 use Rattle.vb_guest.proofs.Claimed.{claim_answered, noted_alone}
 use Rattle.vb_guest.proofs.Exactly.{fills_given}
 use Rattle.vb_guest.proofs.memory.put_fresh.Goals as goal

@@ -1,7 +1,8 @@
 //! The pages of a plain guest: a list by number of where each is, its frame and its bytes.
 
+use super::Needed;
 use std::alloc::{AllocError, Global};
-use vb_model::limits::{MAX_ORDER, MIN_REPORTED_ORDER, PAGE_SIZE, RESERVED_PAGES};
+use vb_model::limits::{MAX_ORDER, MIN_REPORTED_ORDER, PAGE_SIZE};
 use vb_model::{Claim, Place};
 
 /// How many pages a block has, by its order.
@@ -42,11 +43,11 @@ pub(crate) struct Pages {
 }
 
 impl Pages {
-    /// The pages of a guest as it is plugged in.
-    pub fn new(alloc: Global, count: u32) -> Result<Pages, AllocError> {
+    /// The pages of a guest as it is plugged in, of which the first ones are reserved.
+    pub fn new(alloc: Global, count: u32, reserved: u32) -> Result<Pages, AllocError> {
         let mut all = Vec::new(alloc);
         for page in 0..count {
-            let is_reserved = page < RESERVED_PAGES;
+            let is_reserved = page < reserved;
             all.push(Page {
                 place: if is_reserved {
                     Place::Reserved
@@ -208,10 +209,11 @@ impl Pages {
         }
     }
 
-    /// Those of the pages from the first up to the end that have no frame.
-    pub fn lacking(&self, alloc: Global, first: u32, end: u32) -> Result<Vec<u32>, AllocError> {
+    /// Those of the needed pages that have no frame.
+    pub fn lacking(&self, alloc: Global, needed: &Needed) -> Result<Vec<u32>, AllocError> {
         let mut pages = Vec::new(alloc);
-        for page in first..end {
+        let [(first, end), (second, last)] = *needed;
+        for page in (first..end).chain(second..last) {
             if !self.has_frame(page) {
                 pages.push(page)?;
             }

@@ -4,4 +4,4 @@ use Rattle.vb_run.proofs.kept.claims_in.Given as goal
 
 abbrev pub invariant-loop-claim : goal.invariant-loop-claim
 invariant-loop-claim g l =
-    (l.taken.items ≡ take l.claim-index l.claims) × (13 ≤ vec_capacity l.taken)
+    (l.taken.items ≡ take l.claim-index l.claims) × (17 ≤ vec_capacity l.taken)

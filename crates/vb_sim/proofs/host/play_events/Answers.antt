@@ -1,6 +1,6 @@
-use Rattle.std.proofs.Common.{◌≡◌, ◌≤◌, refl, List, Bool, map, length, ap, ◌∙◌, arith}
+use Rattle.std.proofs.Common.{◌≡◌, ◌≤◌, refl, List, Bool, map, length, ap, ◌∙◌}
 use Rattle.std.proofs.lemmas.List.{take_all}
-use Rattle.std.proofs.lemmas.Result.{IfOk-weaker}
+use Rattle.std.proofs.lemmas.Result.{on_ok_weaker}
 use Rattle.vb_world.proofs.Runs.{as_many}
 use Rattle.vb_script.specs.declared.lines.Pace.TheVariants.{Immediate, Paced}
 use Rattle.vb_script.specs.Lines.{is_paced}
@@ -12,7 +12,7 @@ use Rattle.vb_sim.proofs.host.play_events.Goals.{in-Immediate+in_ok-device-in-Im
 use Rattle.vb_sim.proofs.host.play_events.Goals.{in-Paced+in_ok-device-in-Paced+in_ok-add_spare-in-Paced}
 
 pub loop-pace-preserved : goal.loop-pace-preserved
-loop-pace-preserved c = elim c.match-pace.branch [
+loop-pace-preserved g c = elim c.match-pace.branch [
   | in-Immediate+in_ok-device-in-Immediate+in_ok-add_spare-in-Immediate w ↦
       let device = w.in_ok-device-in-Immediate.device.value in
       let box = w.into_dyn_box in
@@ -49,16 +49,12 @@ loop-pace-preserved c = elim c.match-pace.branch [
       })
 ]
 
-pub returns-clause-run : goal.returns-clause-run
-returns-clause-run c =
+pub returns : goal.returns
+returns g c =
     let whole : length c.args.paces.now ≤ c.loop-pace.pace-index = c.loop-pace-test.false in
     let paces = c.loop-pace.invariant.paces
     ∙ ap (λ (ps : List _). map is_paced ps)
     (take_all c.loop-pace.pace-index c.args.paces.now whole) in
-    rw (← paces) (IfOk-weaker c.run.result _ _ (λ replies r. (r.0, r.2))
-    (c.run.ensures.run _ _ c.in_ok-world.ensures))
-
-pub returns-clause-count : goal.returns-clause-count
-returns-clause-count c = IfOk-weaker c.run.result _ _
-    (λ replies r. omega (arith, as_many _ _ _ _ r.2.steps, replies.ok, replies.ok))
-    (c.run.ensures.run _ _ c.in_ok-world.ensures)
+    rw (← paces) (on_ok_weaker c.run_into.result
+    (λ r. (r.1, (r.0, r.3), as_many _ _ _ _ r.3.steps, r.4))
+    (c.run_into.ensures.run _ _ c.in_ok-world.ensures))

@@ -7,7 +7,7 @@ use Rattle.vb_pages.specs.PageState.{with_free_block}
 use Rattle.vb_driver.specs.Areas.{flags_of, is_free_at, is_covered, all_given}
 use Rattle.vb_driver.specs.Places.{marked}
 use Rattle.vb_driver.proofs.Placing.{is_in-at, length-marked, marked-get, marked_more, marked_none}
-use Rattle.vb_driver.proofs.Flags.{not_before, given_more}
+use Rattle.vb_driver.proofs.Flags.{for_itself, for_both, not_before, given_more}
 use Rattle.vb_driver.proofs.areas.Allocator.give_all.Goals as goal
 
 pub loop-page-init : goal.loop-page-init
@@ -15,15 +15,20 @@ loop-page-init c = (
   record {
     free = sym (marked_none true (flags_of c.args.self.now.free));
     held = refl;
-    processors = refl;
+    same = for_itself c.args.self.now.free;
   },
   refl,
 )
 
 pub give_free-requires-clause-unreserved : goal.give_free-requires-clause-unreserved
 give_free-requires-clause-unreserved c =
-    c.requires.unreserved (get_or c.args.pages.now c.loop-page.page-index 0)
-    (is_in-at c.args.pages.now c.loop-page.page-index c.loop-page-test.true)
+    let i = c.loop-page.page-index in
+    omega (
+      arith,
+      c.loop-page.invariant.0.same.reserved,
+      c.requires.unreserved (get_or c.args.pages.now i 0)
+          (is_in-at c.args.pages.now i c.loop-page-test.true),
+    )
 
 pub give_free-requires-clause-inside : goal.give_free-requires-clause-inside
 give_free-requires-clause-inside c =
@@ -72,7 +77,8 @@ loop-page-preserved c =
             (c.requires.inside x (is_in-at pages i c.loop-page-test.true)))
             ∙ ap (λ (l : List ℕ). marked l true (flags_of old.free)) (sym more)));
         held = c.give_free.ensures.state.held ∙ c.loop-page.invariant.0.held;
-        processors = c.give_free.ensures.state.processors ∙ c.loop-page.invariant.0.processors;
+        same = for_both old.free c.loop-page.self.free c.give_free.new.self.free
+            c.loop-page.invariant.0.same c.give_free.ensures.state.same;
       },
       c.give_free.ensures.areas
           ∙ (ap (with_free_block (block_at x 0)) c.loop-page.invariant.1

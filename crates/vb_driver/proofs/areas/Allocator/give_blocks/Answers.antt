@@ -1,7 +1,7 @@
-use Rattle.std.proofs.Common.{arith, ◌≡◌, ◌<◌, sym, subst, ℕ, true, false, length}
+use Rattle.std.proofs.Common.{◌≡◌, ◌<◌, ◌≤◌, sym, subst, ℕ, true, false, length}
 use Rattle.vb_model.specs.Tests.{is_in}
 use Rattle.vb_model.specs.Pages.{pages_of_all}
-use Rattle.vb_pages.specs.PageState.{PageState}
+use Rattle.vb_pages.specs.PageState.{PageState, reserved_count}
 use Rattle.vb_report.specs.Blocks.{blocks_of}
 use Rattle.vb_driver.specs.Areas.{Becomes, flags_of, is_free_at, is_covered}
 use Rattle.vb_driver.specs.Places.{marked}
@@ -14,7 +14,8 @@ give_all-requires c =
     let blocks = c.args.blocks.now in
     let pages = pages_of_all (blocks_of blocks) in
     have_room s blocks c.pages_are_apart.ensures c.requires.blocks
-    (λ p here. omega (arith, c.requires.unreserved p here, c.self.invariant))
+    (subst (λ (v : PageState). (page : ℕ) → is_in page pages ≡ true
+    → reserved_count v ≤ page) (sym c.self.view_is) c.requires.unreserved)
     (subst (λ (v : PageState). (page : ℕ) → is_in page pages ≡ true
     → page < length (flags_of v.free)) (sym c.self.view_is) c.requires.inside)
     (subst (λ (v : PageState). (page : ℕ) → is_in page pages ≡ true

@@ -1,5 +1,5 @@
-use Rattle.std.proofs.Common.{arith, ◌≡◌, ◌<◌, sym, subst, true, false, length, set}
-use Rattle.vb_pages.specs.PageState.{PageState}
+use Rattle.std.proofs.Common.{◌≡◌, ◌<◌, ◌≤◌, sym, subst, true, false, length, set}
+use Rattle.vb_pages.specs.PageState.{PageState, reserved_count}
 use Rattle.vb_driver.specs.Areas.{Becomes, flags_of, is_free_at, is_covered}
 use Rattle.vb_driver.proofs.Allocating.{given_room, given_state}
 use Rattle.vb_driver.proofs.areas.Allocator.give_free.Goals as goal
@@ -7,7 +7,8 @@ use Rattle.vb_driver.proofs.areas.Allocator.give_free.Goals as goal
 pub give_free-requires : goal.give_free-requires
 give_free-requires c =
     let s : PageState = c.self.inside.pages in
-    given_room s c.args.page (omega (arith, c.requires.unreserved, c.self.invariant))
+    given_room s c.args.page (subst (λ (v : PageState). reserved_count v ≤ c.args.page)
+    (sym c.self.view_is) c.requires.unreserved)
     (subst (λ (v : PageState). c.args.page < length (flags_of v.free)) (sym c.self.view_is)
     c.requires.inside)
     (subst (λ (v : PageState). is_free_at (flags_of v.free) c.args.page ≡ false)

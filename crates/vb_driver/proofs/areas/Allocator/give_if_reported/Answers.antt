@@ -3,6 +3,7 @@ use Rattle.vb_pages.proofs.ListsLemmas.{with_none}
 use Rattle.vb_driver.specs.Areas.{Becomes, flags_of, areas_with}
 use Rattle.vb_driver.specs.Places.{marked}
 use Rattle.vb_driver.proofs.Placing.{marked_one, marked_none}
+use Rattle.vb_driver.proofs.Flags.{for_itself}
 use Rattle.vb_driver.proofs.areas.Allocator.give_if_reported.Goals as goal
 
 pub returns-then-is_reporting-clause-state : goal.returns-then-is_reporting-clause-state
@@ -14,7 +15,7 @@ returns-then-is_reporting-clause-state c =
       free = c.give_free.ensures.state.free
           ∙ sym (marked_one page true (flags_of old.free) c.requires.inside);
       held = c.give_free.ensures.state.held;
-      processors = c.give_free.ensures.state.processors;
+      same = c.give_free.ensures.state.same;
     } in
     subst (λ (v : Bool). Becomes old c.give_free.new.self
     (marked (cond v (page ∷ []) []) true (flags_of old.free)) old.held)
@@ -26,7 +27,7 @@ returns-else-is_reporting-clause-state c =
     let kept : Becomes old old (marked [] true (flags_of old.free)) old.held = record {
       free = sym (marked_none true (flags_of old.free));
       held = refl;
-      processors = refl;
+      same = for_itself old.free;
     } in
     subst (λ (v : Bool). Becomes old old
     (marked (cond v (c.args.page ∷ []) []) true (flags_of old.free)) old.held)

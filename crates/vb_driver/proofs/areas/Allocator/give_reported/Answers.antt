@@ -11,6 +11,7 @@ use Rattle.vb_driver.specs.Areas.{flags_of, is_free_at, is_covered, areas_with}
 use Rattle.vb_driver.specs.Places.{marked}
 use Rattle.vb_driver.proofs.Placing.{length-marked, marked-get, marked_none, marked_append}
 use Rattle.vb_driver.proofs.Placing.{pages_more, not_in_first, none_where}
+use Rattle.vb_driver.proofs.Flags.{for_itself, for_both}
 use Rattle.vb_driver.proofs.areas.Allocator.give_reported.Goals as goal
 
 pub returns-then-count-eq0-clause-state : goal.returns-then-count-eq0-clause-state
@@ -21,7 +22,7 @@ returns-then-count-eq0-clause-state c =
     record {
       free = sym (ap (λ (l : List ℕ). marked l true free) none ∙ marked_none true free);
       held = refl;
-      processors = refl;
+      same = for_itself c.args.self.now.free;
     }
 
 pub returns-then-count-eq0-clause-areas : goal.returns-then-count-eq0-clause-areas
@@ -39,10 +40,20 @@ loop-page-init c =
       record {
         free = sym (marked_none true (flags_of old.free));
         held = refl;
-        processors = refl;
+        same = for_itself old.free;
       },
       ap (λ (set : List Bool). record old { free = record old.free { areas = set } })
           (sym (with_none old.free.areas)),
+    )
+
+pub give_if_reported-requires-clause-unreserved : goal.give_if_reported-requires-clause-unreserved
+give_if_reported-requires-clause-unreserved c reported =
+    let here : is_reporting (place_of c.args.places.now c.loop-page.page) ≡ true =
+    ap is_reporting (sym c.place.ensures) ∙ reported in
+    omega (
+      arith,
+      c.loop-page.invariant.0.same.reserved,
+      c.requires.unreserved c.loop-page.page here,
     )
 
 pub give_if_reported-requires-clause-inside : goal.give_if_reported-requires-clause-inside
@@ -97,8 +108,8 @@ loop-page-preserved c =
             ∙ (marked_append before one true (flags_of old.free)
             ∙ ap (λ (l : List ℕ). marked l true (flags_of old.free)) (sym more)));
         held = c.give_if_reported.ensures.state.held ∙ c.loop-page.invariant.0.held;
-        processors = c.give_if_reported.ensures.state.processors
-            ∙ c.loop-page.invariant.0.processors;
+        same = for_both old.free c.loop-page.self.free c.give_if_reported.new.self.free
+            c.loop-page.invariant.0.same c.give_if_reported.ensures.state.same;
       },
       c.give_if_reported.ensures.areas
           ∙ (ap (λ (s : PageState). record s { free = areas_with one s.free })

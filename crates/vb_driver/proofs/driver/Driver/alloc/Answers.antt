@@ -23,7 +23,7 @@ invariant_of-self c =
     let b = block_at c.in-Ok.start c.args.order in
     let becomes = c.in-Ok.ensures.state in
     let kept = allocated_kept d new.free b c.self.invariant c.in-Ok.ensures.free becomes.free
-    becomes.processors in
+    becomes.same in
     subst (λ (v : List Place). IsDriver
     (record d { places = v; held = new.held; areas = new.free })) (sym c.set_block.ensures)
     (subst (λ (v : List Block). IsDriver

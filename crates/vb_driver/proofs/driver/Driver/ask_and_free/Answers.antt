@@ -4,10 +4,8 @@ use Rattle.vb_model.specs.Orderly.{times}
 use Rattle.vb_model.specs.Pages.{placed, is_lent, place_of, Block}
 use Rattle.vb_model.specs.declared.places.Place.{Place}
 use Rattle.vb_model.specs.declared.places.Place.TheVariants.{Free, Lent}
-use Rattle.vb_model.specs.Requests.{Deflating, place_posted}
-use Rattle.vb_driver.specs.State.{RequestSide, DriverState, IsDriver, tells_host, page_state}
-use Rattle.vb_pages.specs.FreePages.{FreePages}
-use Rattle.vb_driver.specs.Areas.{flags_of, all_given}
+use Rattle.vb_driver.specs.State.{DriverState, IsDriver, tells_host}
+use Rattle.vb_driver.specs.Areas.{flags_of}
 use Rattle.vb_driver.specs.Places.{marked}
 use Rattle.vb_driver.specs.Calls.{Posts, lowest_lent}
 use Rattle.vb_driver.specs.contracts.driver.Driver.{the_view}
@@ -105,4 +103,4 @@ invariant_of-self g c =
       deflate = c.post-head.new.self;
     })) (sym c.give_all.ensures.state.held)
     (asked_freed m1 m2 d areas2.free c.post-head.new.self 8 c.args.count c.post-head.result
-    c.self.invariant untold free c.give_all.ensures.state.processors posts))
+    c.self.invariant untold free c.give_all.ensures.state.same posts))

@@ -23,7 +23,7 @@ invariant_of-self c =
     let becomes = c.in-Ok.ensures.state in
     let kept = block_freed_kept d new b c.self.invariant
     (freed_was_held d.held b (length d.areas.lists) _ c.in-Ok.ensures.refusal) becomes.free
-    becomes.held becomes.processors c.in-Ok.ensures.apart in
+    becomes.held becomes.same c.in-Ok.ensures.apart in
     subst (λ (v : List Place). IsDriver
     (record d { places = v; held = new.held; areas = new.free })) (sym c.set_block.ensures)
     (subst (λ (v : List Block). IsDriver

@@ -1,11 +1,17 @@
-use Rattle.std.proofs.Common.{arith, sym, subst, List}
+use Rattle.std.proofs.Common.{◌≡◌, ◌∙◌, arith, sym, ap, subst, ℕ, List}
 use Rattle.vb_model.specs.declared.places.Place.{Place}
 use Rattle.vb_pages.specs.PageState.{PageState}
+use Rattle.vb_ring.specs.Layout.{IsSize}
+use Rattle.vb_ram.specs.declared.shape.Shape.{Shape}
 use Rattle.vb_ram.specs.Limits.{AreWithinLimits}
 use Rattle.vb_ram.proofs.Limits.{config_limits}
 use Rattle.vb_status.specs.Bits.{feature_bits}
 use Rattle.vb_ring.specs.Ends.{DriverEnd}
+use Rattle.vb_model.specs.Layout.{reserved_pages}
+use Rattle.vb_model.specs.Pages.{all_free}
+use Rattle.vb_pages.specs.PageState.{new_page_state}
 use Rattle.vb_driver.specs.State.{RequestSide, ReportSide, DriverState, fresh_driver, IsDriver}
+use Rattle.vb_driver.specs.State.{fresh_side, fresh_statistics, fresh_report}
 use Rattle.vb_driver.proofs.Moving.{fresh_kept}
 use Rattle.vb_driver.proofs.Sizes.{size_of_config}
 use Rattle.vb_driver.proofs.driver.Driver.new.Goals as goal
@@ -32,8 +38,12 @@ new_pages-requires-clause-most c =
     limits.pages_most
 
 pub new_queues-requires : goal.new_queues-requires
-new_queues-requires c = size_of_config c.args.config.pages c.args.config.queue_size
-    c.args.config.processors c.requires
+new_queues-requires c =
+    let shape = c.shape-shape.result in
+    let same : c.args.config.queue_size ≡ shape.queue_size =
+    sym (ap (λ (s : Shape). s.queue_size) c.shape-shape.ensures) in
+    subst IsSize same (size_of_config c.args.config.pages c.args.config.queue_size
+    c.args.config.processors c.requires)
 
 pub invariant_of-result : goal.invariant_of-result
 invariant_of-result c =
@@ -45,6 +55,10 @@ invariant_of-result c =
     let deflate = c.in_ok-inflate.deflate in
     let f = feature_bits c.empty.result in
     let limits : AreWithinLimits pages size cpus = config_limits pages size cpus c.requires in
+    let same : c.shape-shape.result.queue_size ≡ size =
+    ap (λ (s : Shape). s.queue_size) c.shape-shape.ensures in
+    let few : c.reserved_pages-reserved.result ≡ reserved_pages size =
+    c.reserved_pages-reserved.ensures ∙ ap reserved_pages same in
     let d : DriverState = record (fresh_driver pages size cpus) { features = f } in
     let kept : IsDriver d =
     fresh_kept pages size cpus f limits.pages_least limits.pages_most
@@ -59,7 +73,7 @@ invariant_of-result c =
       statistics = c.new.result;
       report = c.new-2.result;
     }))
-    (sym c.in_ok-places.ensures.places)
+    (sym (c.in_ok-places.ensures.places ∙ ap (λ (n : ℕ). all_free n pages) few))
     (subst (λ (v : PageState). IsDriver
     (record d {
       held = v.held;
@@ -68,17 +82,19 @@ invariant_of-result c =
       deflate = deflate;
       statistics = c.new.result;
       report = c.new-2.result;
-    })) (sym c.in_ok-places.ensures.areas)
+    })) (sym (c.in_ok-places.ensures.areas
+    ∙ ap (new_page_state pages cpus) few))
     (subst (λ (v : RequestSide). IsDriver
     (record d {
       inflate = v;
       deflate = deflate;
       statistics = c.new.result;
       report = c.new-2.result;
-    })) (sym c.in_ok-inflate.ensures.inflate)
+    })) (sym (c.in_ok-inflate.ensures.inflate ∙ ap (fresh_side 0) same))
     (subst (λ (v : RequestSide). IsDriver
     (record d { deflate = v; statistics = c.new.result; report = c.new-2.result }))
-    (sym c.in_ok-inflate.ensures.deflate)
+    (sym (c.in_ok-inflate.ensures.deflate ∙ ap (fresh_side 1) same))
     (subst (λ (v : DriverEnd). IsDriver (record d { statistics = v; report = c.new-2.result }))
-    (sym c.new.ensures)
-    (subst (λ (v : ReportSide). IsDriver (record d { report = v })) (sym c.new-2.ensures) kept)))))
+    (sym (c.new.ensures ∙ ap fresh_statistics same))
+    (subst (λ (v : ReportSide). IsDriver (record d { report = v }))
+    (sym (c.new-2.ensures ∙ ap fresh_report same)) kept)))))

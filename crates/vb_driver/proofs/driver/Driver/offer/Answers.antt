@@ -65,7 +65,7 @@ invariant_of-self g c =
     let kept = offered_kept m1 m2 d c.take_free-others.new.self.free c.post-head.new.self 4
     c.args.count c.post-head.result others c.self.invariant free
     (λ p. once_distinct p others c.take_free-others.ensures.distinct)
-    c.take_free-others.ensures.state.free c.take_free-others.ensures.state.processors posts in
+    c.take_free-others.ensures.state.free c.take_free-others.ensures.state.same posts in
     let held : c.take_free-others.new.self.held ≡ d.held = c.take_free-others.ensures.state.held in
     subst (λ (ps : List Place). IsDriver
     (record d {

@@ -113,7 +113,7 @@ invariant_of-self-2 g c =
       deflate = v;
     })) (sym next.3)
     (freed_kept d areas2.free head next.1 c.self.invariant told free
-    c.give_all.ensures.state.processors)))
+    c.give_all.ensures.state.same)))
 
 -- where the host isn't told first, the pages stay where they are
 pub invariant_of-self-then-not-must_tell_host : goal.invariant_of-self-then-not-must_tell_host

@@ -103,5 +103,5 @@ invariant_of-self-2 g c =
       areas = areas2.free;
       report = r2;
     })) (sym c.give_blocks.ensures.state.held)
-    (returned_kept d areas2.free r2 c.self.invariant free c.give_blocks.ensures.state.processors
+    (returned_kept d areas2.free r2 c.self.invariant free c.give_blocks.ensures.state.same
     queue (ap (λ (s : ReportSide). s.blocks) next.3)))

@@ -78,4 +78,4 @@ invariant_of-self-2 g c =
       report = r2;
     })) (sym c.choose-blocks.ensures.state.held)
     (reported_kept d new.free r2 c.self.invariant free distinct taken
-    c.choose-blocks.ensures.state.processors queue))
+    c.choose-blocks.ensures.state.same queue))

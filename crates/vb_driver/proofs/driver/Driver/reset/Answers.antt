@@ -7,7 +7,7 @@ use Rattle.vb_model.specs.Life.{place_after_reset}
 use Rattle.vb_model.specs.declared.places.Place.{Place}
 use Rattle.vb_model.specs.declared.places.Place.TheVariants.{Reporting}
 use Rattle.vb_status.specs.Bits.{feature_bits}
-use Rattle.vb_driver.specs.Areas.{flags_of}
+use Rattle.vb_driver.specs.Areas.{AreFor, flags_of}
 use Rattle.vb_driver.specs.Calls.{with_nothing_out}
 use Rattle.vb_driver.specs.Places.{marked}
 use Rattle.vb_driver.specs.State.{DriverState, IsDriver}
@@ -70,5 +70,5 @@ invariant_of-self g c =
     (reset_kept c.args.self.now areas2.free f c.renew.ensures.driver
     (subst (λ (v : DriverState). flags_of areas2.free
     ≡ marked (pages_where is_reporting v.places) true (flags_of v.areas)) renewed given.free)
-    (subst (λ (v : DriverState). length areas2.free.lists ≡ length v.areas.lists) renewed
-    given.processors))))
+    (subst (λ (v : DriverState). AreFor v.areas areas2.free) renewed
+    given.same))))

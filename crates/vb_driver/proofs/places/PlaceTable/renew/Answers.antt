@@ -28,4 +28,5 @@ returns c =
     (c.set_range.ensures ∙ ap (λ (n : ℕ). placed (range_with_len 0 n) Reserved places) low)
     ∙ (ap (λ (n : ℕ). placed (range_with_len r (n - r)) Free
     (placed (range_with_len 0 r) Reserved places)) all
-    ∙ first_table places r (c.min-reserved.ensures ∙ ap (λ (n : ℕ). min 16 n) all)))
+    ∙ first_table places c.args.reserved r
+    (c.min-reserved.ensures ∙ ap (λ (n : ℕ). min c.args.reserved n) all)))

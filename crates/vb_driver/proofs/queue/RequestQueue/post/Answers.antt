@@ -1,14 +1,18 @@
 use Rattle.std.proofs.Common.{◌≡◌, ◌∙◌, ◌<◌, ◌+◌, ◌*◌, sym, ap, subst, arith, refl, ℕ, set, Some}
-use Rattle.std.proofs.Common.{Ok, List, length}
+use Rattle.std.proofs.Common.{Ok, List, length, is_some}
 use Rattle.std.proofs.Math.Nat.{div-add-mod}
-use Rattle.vb_model.specs.Layout.{buffer_page, buffer_offset}
+use Rattle.vb_model.specs.Layout.{buffers_page, buffer_page, buffer_offset}
+use Rattle.vb_model.proofs.Shapes.{start_of_buffer}
 use Rattle.vb_ram.specs.Pages.{SameBut}
+use Rattle.vb_ring.specs.declared.layout.Layout.{Layout}
+use Rattle.vb_ring.specs.Layout.{IsSize, IsBacked}
 use Rattle.vb_ring.specs.Ends.{DriverEnd, after_add, next_head}
 use Rattle.vb_driver.specs.State.{RequestSide}
 use Rattle.vb_driver.specs.Calls.{Posts}
 use Rattle.vb_driver.proofs.Buffers.{names_at}
 use Rattle.vb_driver.proofs.RequestTables.{head_there, head_small, requests_added_at, room_inside}
 use Rattle.vb_driver.proofs.Posting.{Sending, added_head, posts_by}
+use Rattle.vb_driver.proofs.Shapes.{IsBeside, ring_backed, buffers_between, buffers_beside}
 use Rattle.vb_driver.proofs.queue.RequestQueue.post.Goals as goal
 
 pub unreachable-requires : goal.unreachable-requires
@@ -28,8 +32,9 @@ write_numbers-requires-clause-covers g c =
     let small : h < 16 = head_small r h c.self.invariant.single
     (sym c.next_head.ensures.value ∙ c.in-Some.is) room in
     let parts = div-add-mod h 4 in
+    let base = buffers_between c.args.queue in
     record {
-      page = omega (arith, c.requires.memory, c.requires.base_high, c.from.ensures);
+      page = omega (arith, c.requires.memory, base.1, c.buffers_page.ensures, c.from.ensures);
       bytes = omega (arith, c.from-offset.ensures, c.deref.ensures.1);
     }
 
@@ -42,8 +47,25 @@ write_numbers-requires-clause-backed g c =
     let small : h < 16 = head_small r h c.self.invariant.single
     (sym c.next_head.ensures.value ∙ c.in-Some.is) room in
     let parts = div-add-mod h 4 in
-    c.requires.backed (c.args.base + c.from.result)
-    (omega (arith, c.requires.base_high, c.from.ensures))
+    let base = buffers_between c.args.queue in
+    let page : ℕ = c.buffers_page.result + c.from.result in
+    c.requires.backed page (start_of_buffer c.args.self.now.ring.size page
+    (omega (arith, base.0, c.buffers_page.ensures))
+    (omega (arith, base.1, c.buffers_page.ensures, c.from.ensures)))
+
+pub add-requires-clause-backed : goal.add-requires-clause-backed
+add-requires-clause-backed g c =
+    let r = c.self.inside.ring in
+    let n = c.args.self.now.ring.size in
+    let m1 = g.G.GuestBytes.mem c.args.ram.now in
+    let m2 = g.G.GuestBytes.mem c.write_numbers.new.ram in
+    let ring_now : r ≡ c.args.self.now.ring = ap (λ (s : RequestSide). s.ring) c.self.view_is in
+    let sized : IsSize n =
+    subst (λ (v : DriverEnd). IsSize v.size) ring_now c.next_head.ensures.is_end.fits.size in
+    subst (λ (l : Layout). IsBacked m2 l)
+    (sym (ap (λ (v : DriverEnd). v.layout) ring_now ∙ c.requires.layout))
+    (ring_backed n c.args.queue m2 sized (λ page start.
+    ap is_some (c.write_numbers.ensures.rest.backing page) ∙ c.requires.backed page start))
 
 pub index_mut-requires : goal.index_mut-requires
 index_mut-requires g c =
@@ -87,35 +109,33 @@ returns-clause-posts g c =
     let room = room_inside r sent c.args.self.now c.self.view_is c.requires.room in
     let slice : c.deref.result.now ≡ pages = c.deref.ensures.0 in
     let size : length c.deref.result.now ≡ length pages = ap length slice in
-    let at_page : c.args.base + c.from.result ≡ buffer_page c.args.base h =
-    ap (λ (n : ℕ). c.args.base + n) c.from.ensures in
+    let base : ℕ = buffers_page c.args.queue in
+    let at_page : c.buffers_page.result + c.from.result ≡ buffer_page base h =
+    omega (arith, c.buffers_page.ensures, c.from.ensures) in
     let at_offset : 1024 * c.from-offset.result ≡ buffer_offset h =
     ap (λ (n : ℕ). 1024 * n) c.from-offset.ensures in
-    let wrote : SameBut m1 m2 (buffer_page c.args.base h) (buffer_offset h)
+    let wrote : SameBut m1 m2 (buffer_page base h) (buffer_offset h)
     (buffer_offset h + 4 * length pages) =
-    subst (λ (n : ℕ). SameBut m1 m2 (buffer_page c.args.base h) (buffer_offset h)
+    subst (λ (n : ℕ). SameBut m1 m2 (buffer_page base h) (buffer_offset h)
     (buffer_offset h + 4 * n)) size
-    (subst (λ (n : ℕ). SameBut m1 m2 (buffer_page c.args.base h) n
+    (subst (λ (n : ℕ). SameBut m1 m2 (buffer_page base h) n
     (n + 4 * length c.deref.result.now)) at_offset
     (subst (λ (n : ℕ). SameBut m1 m2 n (1024 * c.from-offset.result)
     (1024 * c.from-offset.result + 4 * length c.deref.result.now)) at_page
     c.write_numbers.ensures.rest)) in
     let ring_now : r ≡ c.args.self.now.ring = ap (λ (s : RequestSide). s.ring) c.self.view_is in
-    let sending : Sending m1 m2 m3 r c.add.new.self sent c.args.base h c.from-2.result
+    let n = c.args.self.now.ring.size in
+    let sized : IsSize n =
+    subst (λ (v : DriverEnd). IsSize v.size) ring_now c.next_head.ensures.is_end.fits.size in
+    let sending : Sending m1 m2 m3 r c.add.new.self sent base h c.from-2.result
     (4 * c.len.result) pages = record {
       requests = c.self.invariant;
       is_end = c.next_head.ensures.is_end;
       next = next;
       room = room;
-      layout = subst (λ (v : DriverEnd). v.layout
-          ≡ Rattle.vb_ring.specs.Layout.layout_of v.layout.table v.size) (sym ring_now)
-          c.requires.layout;
-      low = omega (
-        arith,
-        ap (λ (v : DriverEnd). v.layout.table) ring_now,
-        c.requires.low,
-        c.requires.base_low,
-      );
+      beside = λ k few. subst (λ (l : Layout). IsBeside l (buffer_page base k))
+          (sym (ap (λ (v : DriverEnd). v.layout) ring_now ∙ c.requires.layout))
+          (buffers_beside n c.args.queue k sized few);
       few = omega (arith, size, c.deref.ensures.1);
       names = names_at m2 _ _ _ _ _ _ at_page at_offset slice c.write_numbers.ensures.names;
       wrote = wrote;
@@ -123,10 +143,10 @@ returns-clause-posts g c =
       len = omega (arith, c.len.ensures.value);
     } in
     subst (λ (s : RequestSide). Posts m1 m3 s
-    (record { ring = c.add.new.self; sent = set sent c.from-3.result pages }) c.args.base pages
+    (record { ring = c.add.new.self; sent = set sent c.from-3.result pages }) base pages
     c.in-Ok.head) c.self.view_is
     (subst (λ (n : ℕ). Posts m1 m3 (record { ring = r; sent = sent })
-    (record { ring = c.add.new.self; sent = set sent n pages }) c.args.base pages c.in-Ok.head)
+    (record { ring = c.add.new.self; sent = set sent n pages }) base pages c.in-Ok.head)
     (sym c.from-3.ensures)
-    (posts_by m1 m2 m3 r c.add.new.self sent c.args.base h c.in-Ok.head c.from-2.result
+    (posts_by m1 m2 m3 r c.add.new.self sent base h c.in-Ok.head c.from-2.result
     (4 * c.len.result) pages sending c.in-Ok.ensures.adds))

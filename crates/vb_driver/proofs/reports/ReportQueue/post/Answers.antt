@@ -1,10 +1,13 @@
 use Rattle.std.proofs.Common.{◌≡◌, ◌∙◌, sym, ap, subst, refl, arith, List, All, Ok}
 use Rattle.std.proofs.lemmas.List.{length-map}
+use Rattle.vb_ring.specs.declared.layout.Layout.{Layout}
+use Rattle.vb_ring.specs.Layout.{IsBacked}
 use Rattle.vb_pages.specs.declared.block.FreeBlock.{FreeBlock}
 use Rattle.vb_report.specs.Blocks.{block_of, blocks_of, pieces_of}
 use Rattle.vb_driver.specs.State.{ReportSide, IsAreaBlock}
 use Rattle.vb_driver.specs.Calls.{PostsReport}
 use Rattle.vb_driver.specs.contracts.reports.ReportQueue.{the_view}
+use Rattle.vb_driver.proofs.Shapes.{ring_backed}
 use Rattle.vb_driver.proofs.ReportTables.{orders_of, posted_report_queue}
 use Rattle.vb_driver.proofs.ReportPosting.{reporting, same_head, nothing, answer_is}
 use Rattle.vb_driver.proofs.ReportPosting.{ring_is, posts_report, not_full}
@@ -15,6 +18,14 @@ encode-pieces-requires-clause-orders g c =
     orders_of c.deref.result.now
     (subst (λ (l : List FreeBlock). All IsAreaBlock (blocks_of l)) (sym c.deref.ensures.0)
     c.requires.blocks)
+
+pub add-requires-clause-backed : goal.add-requires-clause-backed
+add-requires-clause-backed g c =
+    let n = c.args.self.now.ring.size in
+    let m1 = g.G.GuestBytes.mem c.args.ram.now in
+    subst (λ (l : Layout). IsBacked m1 l)
+    (sym (ap (λ (v : ReportSide). v.ring.layout) c.self.view_is ∙ c.requires.queue.layout))
+    (ring_backed n 4 m1 c.requires.size c.requires.backed)
 
 pub unreachable-requires : goal.unreachable-requires
 unreachable-requires g c =

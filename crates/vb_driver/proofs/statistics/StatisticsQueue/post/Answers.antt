@@ -1,9 +1,27 @@
-use Rattle.std.proofs.Common.{◌≡◌, sym, subst, refl}
+use Rattle.std.proofs.Common.{◌≡◌, ◌∙◌, sym, ap, subst, arith, refl, is_some}
+use Rattle.vb_model.proofs.Shapes.{start_of_buffer}
+use Rattle.vb_ring.specs.declared.layout.Layout.{Layout}
+use Rattle.vb_ring.specs.Layout.{IsBacked}
 use Rattle.vb_ring.specs.Ends.{DriverEnd, outstanding}
 use Rattle.vb_driver.specs.State.{IsStatisticsQueue}
 use Rattle.vb_driver.specs.Calls.{PostsBuffer}
+use Rattle.vb_driver.proofs.Shapes.{ring_backed}
 use Rattle.vb_driver.proofs.Filling.{Filling, fills_by, filled_queue, not_full}
 use Rattle.vb_driver.proofs.statistics.StatisticsQueue.post.Goals as goal
+
+pub write_figures-requires-clause-backed : goal.write_figures-requires-clause-backed
+write_figures-requires-clause-backed g c =
+    c.requires.backed 12
+    (start_of_buffer c.args.self.now.size 12 (omega arith) (omega arith))
+
+pub add-requires-clause-backed : goal.add-requires-clause-backed
+add-requires-clause-backed g c =
+    let n = c.args.self.now.size in
+    let m2 = g.G.GuestBytes.mem c.write_figures.new.ram in
+    subst (λ (l : Layout). IsBacked m2 l)
+    (sym (ap (λ (v : DriverEnd). v.layout) c.self.view_is ∙ c.requires.queue.layout))
+    (ring_backed n 2 m2 c.requires.size (λ page start.
+    ap is_some (c.write_figures.ensures.rest.backing page) ∙ c.requires.backed page start))
 
 pub unreachable-requires : goal.unreachable-requires
 unreachable-requires g c =

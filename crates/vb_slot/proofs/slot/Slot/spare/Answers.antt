@@ -1,4 +1,4 @@
 use Rattle.vb_slot.proofs.slot.Slot.spare.Goals as goal
 
 pub returns : goal.returns
-returns g c = c.spare.ensures _
+returns g c = c.spare.ensures

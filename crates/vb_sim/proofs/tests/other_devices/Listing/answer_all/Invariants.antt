@@ -1,7 +1,7 @@
 use Rattle.std.proofs.Common.{All}
 use Rattle.vb_slot.specs.Spare.{IsSpare}
-use Rattle.vb_sim.proofs.tests.other_devices.ListingPlay.play.OwnLists.{own-1}
-use Rattle.vb_sim.proofs.tests.other_devices.ListingPlay.play.Given as goal
+use Rattle.vb_sim.proofs.tests.other_devices.Listing.answer_all.OwnLists.{own-1}
+use Rattle.vb_sim.proofs.tests.other_devices.Listing.answer_all.Given as goal
 
 abbrev pub invariant-loop-at : goal.invariant-loop-at
 invariant-loop-at l =

@@ -1,0 +1,169 @@
+-- Where a driver's rings and buffers lie, and which pages have to have frames, whatever the size of
+-- the queues.
+use Rattle.std.proofs.Common.{◌≡◌, ◌≢◌, ◌∙◌, sym, ap, arith, refl, ℕ, zero, suc, ◌+◌, ◌<◌, ◌≤◌}
+use Rattle.std.proofs.Common.{Bool, true, false, cond, List, ◌∷◌, length, inl, inr, IsSome}
+use Rattle.std.proofs.Common.{is_some, ◌&&◌}
+use Rattle.std.specs.Prelude.{filter, ◌==◌, if◌then◌else◌}
+use Rattle.std.specs.List.{list_all, range_with_len}
+use Rattle.std.proofs.lemmas.Bool.{cases_eq, and_parts}
+use Rattle.vb_model.specs.Layout.{reserved_pages, ring_number, ring_page, is_start_page}
+use Rattle.vb_model.specs.Layout.{buffers_page, buffer_page}
+use Rattle.vb_model.proofs.Shapes.{InRing, in_ring_page, ring_reserved, ring_no_buffer, rings_apart}
+use Rattle.vb_model.proofs.Shapes.{start_of_ring, start_reserved, reserved_most}
+use Rattle.vb_ram.specs.Pages.{Pages, page_at, frame_at, SameBut}
+use Rattle.vb_ring.specs.declared.layout.Layout.{Layout}
+use Rattle.vb_ring.specs.Layout.{IsSize, IsInside, IsBacked, layout_of}
+use Rattle.vb_ring.proofs.Shapes.{parts_in_ring}
+use Rattle.vb_driver.specs.Answers.{HaveRingFrames, has_frames}
+
+-- ---- the pages of a ring
+
+-- the layout of a queue's ring
+abbrev pub ring_layout : ℕ → ℕ → Layout
+ring_layout size q = layout_of (ring_page size q) size
+
+-- none of a ring's parts lies in this page
+pub record IsBeside (l : Layout) (p : ℕ) : Type 0 where
+  pub table : p ≢ l.table
+  pub avail : p ≢ l.avail.page
+  pub used : p ≢ l.used.page
+
+-- a ring's pages hold no buffers
+pub beside_buffers : (size q p : ℕ) → IsSize size → 4 ≤ p → p < 16
+    → IsBeside (ring_layout size q) p
+beside_buffers size q p sized low high =
+    let parts = parts_in_ring size q sized in
+    record {
+      table = apart _ parts.table;
+      avail = apart _ parts.avail;
+      used = apart _ parts.used;
+    }
+  where
+    apart : (k : ℕ) → InRing size q k → p ≢ k
+    apart k at same = elim (ring_no_buffer size k (in_ring_page size q k at)) [
+      | inl below ↦ omega (arith, same, below)
+      | inr above ↦ omega (arith, same, above)
+    ]
+
+-- the buffers of a queue of requests begin at page 4 or 8
+pub buffers_between : (q : ℕ) → (4 ≤ buffers_page q) × (buffers_page q ≤ 8)
+buffers_between q = step (q == 0)
+  where
+    step : (b : Bool) → (4 ≤ (if b then 4 else 8)) × ((if b then 4 else 8) ≤ 8)
+    step true = (omega arith, omega arith)
+    step false = (omega arith, omega arith)
+
+pub buffers_beside : (size q k : ℕ) → IsSize size → k < 16
+    → IsBeside (ring_layout size q) (buffer_page (buffers_page q) k)
+buffers_beside size q k sized few =
+    let between = buffers_between q in
+    beside_buffers size q (buffer_page (buffers_page q) k) sized (omega (arith, between.0))
+    (omega (arith, between.1))
+
+-- and none of another ring
+pub beside_rings : (size a b p : ℕ) → IsSize size → ring_number b ≢ ring_number a → InRing size b p
+    → IsBeside (ring_layout size a) p
+beside_rings size a b p sized ne at =
+    let parts = parts_in_ring size a sized in
+    record {
+      table = rings_apart size b a p _ ne at parts.table;
+      avail = rings_apart size b a p _ ne at parts.avail;
+      used = rings_apart size b a p _ ne at parts.used;
+    }
+
+pub ring_inside : (size q : ℕ) (mem : Pages) → IsSize size → 64 ≤ length mem
+    → IsInside mem (ring_layout size q)
+ring_inside size q mem sized large =
+    let parts = parts_in_ring size q sized in
+    record {
+      table = inside _ parts.table;
+      avail = inside _ parts.avail;
+      used = inside _ parts.used;
+    }
+  where
+    inside : (k : ℕ) → InRing size q k → k < length mem
+    inside k at = omega (
+      arith,
+      ring_reserved size k (in_ring_page size q k at),
+      reserved_most size,
+      large,
+    )
+
+pub ring_backed : (size q : ℕ) (mem : Pages) → IsSize size → HaveRingFrames size mem
+    → IsBacked mem (ring_layout size q)
+ring_backed size q mem sized backed =
+    let parts = parts_in_ring size q sized in
+    record {
+      table = has _ parts.table;
+      avail = has _ parts.avail;
+      used = has _ parts.used;
+    }
+  where
+    has : (k : ℕ) → InRing size q k → IsSome (frame_at mem k)
+    has k at = backed k (start_of_ring size k (in_ring_page size q k at))
+
+-- ---- a ring whose pages are as before
+
+pub record KeepsRing (old new : Pages) (l : Layout) : Type 0 where
+  pub table : page_at new l.table ≡ page_at old l.table
+  pub avail : page_at new l.avail.page ≡ page_at old l.avail.page
+  pub used : page_at new l.used.page ≡ page_at old l.used.page
+
+-- where another page was written to
+pub keeps_ring : (old new : Pages) (l : Layout) (p lo hi : ℕ) → IsBeside l p
+    → SameBut old new p lo hi → KeepsRing old new l
+keeps_ring old new l p lo hi beside wrote = record {
+  table = wrote.others l.table (λ e. beside.table (sym e));
+  avail = wrote.others l.avail.page (λ e. beside.avail (sym e));
+  used = wrote.others l.used.page (λ e. beside.used (sym e));
+}
+
+-- ---- the frames that a start needs
+
+all_filtered : (test f : ℕ → Bool) (k n : ℕ)
+    → ((p : ℕ) → p < k + n → f p ≡ true → test p ≡ true)
+    → list_all test (filter f (range_with_len k n)) ≡ true
+all_filtered test f k zero holds = refl
+all_filtered test f k (suc n) holds =
+    step (f k) refl (all_filtered test f (k + 1) n (λ p lt e. holds p (omega arith) e))
+  where
+    step : (b : Bool) → f k ≡ b → list_all test (filter f (range_with_len (k + 1) n)) ≡ true
+        → list_all test (cond b (k ∷ filter f (range_with_len (k + 1) n))
+        (filter f (range_with_len (k + 1) n))) ≡ true
+    step true e rest =
+        ap (λ (b : Bool). b && list_all test (filter f (range_with_len (k + 1) n)))
+        (holds k (omega arith) e) ∙ rest
+    step false e rest = rest
+
+one_filtered : (test f : ℕ → Bool) (k n p : ℕ) → k ≤ p → p < k + n → f p ≡ true
+    → list_all test (filter f (range_with_len k n)) ≡ true → test p ≡ true
+one_filtered test f k zero p low high passes all = absurd (omega arith)
+one_filtered test f k (suc n) p low high passes all = elim (cases_eq p k) [
+  | inl same ↦ ap test same ∙ first (f k) (ap f (sym same) ∙ passes) all
+  | inr ne ↦ one_filtered test f (k + 1) n p (omega (arith, ne)) (omega arith) passes
+      (rest (f k) all)
+]
+  where
+    later : List ℕ
+    later = filter f (range_with_len (k + 1) n)
+
+    first : (b : Bool) → b ≡ true → list_all test (cond b (k ∷ later) later) ≡ true
+        → test k ≡ true
+    first true e h = (and_parts (test k) (list_all test later) h).0
+    first false e h = absurd cc
+
+    rest : (b : Bool) → list_all test (cond b (k ∷ later) later) ≡ true
+        → list_all test later ≡ true
+    rest true h = (and_parts (test k) (list_all test later) h).1
+    rest false h = h
+
+-- the test finds just the memories whose pages of rings and buffers all have frames
+pub all_frames : (size : ℕ) (mem : Pages) → HaveRingFrames size mem → has_frames size mem ≡ true
+all_frames size mem backed =
+    all_filtered (λ page. is_some (frame_at mem page)) (is_start_page size) 0 (reserved_pages size)
+    (λ p lt e. backed p e)
+
+pub frames_there : (size : ℕ) (mem : Pages) → has_frames size mem ≡ true → HaveRingFrames size mem
+frames_there size mem all page start =
+    one_filtered (λ page. is_some (frame_at mem page)) (is_start_page size) 0 (reserved_pages size)
+    page (omega arith) (omega (arith, start_reserved size page start)) start all
