@@ -1,0 +1,78 @@
+/* A process for one guest's balloon: what its parts share, whatever its client speaks. */
+#ifndef BACKEND_H
+#define BACKEND_H
+#include "guest_memory.h"
+
+enum { QUEUES = 4, MOST_TAGS = 16 };
+
+/* What the client said of a queue, before it is enabled; addresses are the client's. */
+struct told_queue {
+    uint64_t table, avail, used;
+    uint32_t size, base;
+    bool enabled;
+};
+
+struct counters {
+    uint64_t kicks, interrupts, told;           /* told: changes of the configuration */
+    uint64_t inflated, deflated, reported;      /* pages */
+    uint64_t reports, skipped, in_holes, kept;
+    uint64_t statistics;                        /* how often the guest told its own */
+};
+
+struct backend {
+    struct balloon balloon;
+    struct guest_memory memory;
+    struct told_queue queues[QUEUES];
+    struct counters counters;
+    VbStatistic figures[MOST_TAGS];
+    uint32_t figure_count;
+    uint32_t pending;           /* bit 1 << number: more stands on this queue */
+    uint32_t seen;              /* what `actual` was when it was last looked at */
+    int socket, channel;        /* the client's, and the one on which it is told things; -1: none */
+    /* Tells the driver of a used buffer on a queue, or of a change of the configuration (queue -1). */
+    bool (*tell)(struct backend *backend, int queue);
+    /* For a client that has to be poked now and then; or NULL. */
+    void (*idle)(struct backend *backend);
+    bool drops_nothing;
+    bool gone;                  /* the client doesn't take answers any longer */
+};
+
+struct options {
+    const char *client;         /* the client's socket: a name, or a number */
+    uint64_t features;
+    bool strict, keep;
+};
+
+/* Says on standard error why the guest isn't served any longer; returns false. */
+bool refuse(const char *format, ...) __attribute__((format(printf, 1, 2)));
+
+/* Reads the words that follow a program's name; false where it doesn't know one. */
+bool backend_options(struct options *options, int count, char **words);
+
+/* Makes the device for a client that hasn't said anything; false where it can't, which is said. */
+bool backend_start(struct backend *backend, const struct options *options);
+
+/* Serves until the client has gone, breaks a rule, or the control pipe says to quit; returns the program's status.
+ * `serve` serves one message of the client: 1; 0 where it has gone; -1 where it can't be served any longer. */
+int backend_run(struct backend *backend, int (*serve)(struct backend *backend));
+
+/* Serves the queue of this number. */
+bool backend_serve(struct backend *backend, unsigned number);
+
+/* Serves what is left on a queue that was served for long. */
+bool backend_serve_pending(struct backend *backend);
+
+/* Once a second: tells the driver of its target again, where it stays off it. */
+void backend_look(struct backend *backend);
+
+/* Tells the driver of a change of its configuration. */
+void backend_tell_change(struct backend *backend);
+
+/* Does what a result says: interrupts, and counts; false where the guest's bytes broke a rule. */
+bool backend_finish(struct backend *backend, const struct balloon_result *result);
+
+/* Obeys one line of the control pipe, with one line on standard output: 1; 0 where it says to quit; -1 where the client
+ * can't be served any longer. */
+int control_line(struct backend *backend, const char *line);
+
+#endif

@@ -1,0 +1,86 @@
+/* The control pipe: a line in, a line out. */
+#include "backend.h"
+#include "audit.h"
+
+#include <inttypes.h>
+#include <stdio.h>
+#include <stdlib.h>
+
+/* The names of the tags (VIRTIO 1.1, 5.5.6.3, and Linux). */
+static const char *tag_name(uint16_t tag)
+{
+    static const char *const names[] = {
+        "swap_in", "swap_out", "major_faults", "minor_faults", "free_memory", "total_memory",
+        "available_memory", "disk_caches", "hugetlb_allocations", "hugetlb_failures",
+    };
+    return tag < sizeof names / sizeof names[0] ? names[tag] : "other";
+}
+
+static void print_counters(const struct backend *backend)
+{
+    const VbDevice *device = &backend->balloon.state.device;
+    const struct counters *it = &backend->counters;
+    printf("target %" PRIu32 " actual %" PRIu32 " status %u held_kib %" PRIu64 " end %" PRIu64, device->target,
+           device->actual, device->status, memory_held(&backend->memory), device->settings.memory_end / BALLOON_PAGE);
+    printf(" kicks %" PRIu64 " interrupts %" PRIu64 " told %" PRIu64, it->kicks, it->interrupts, it->told);
+    printf(" inflated %" PRIu64 " deflated %" PRIu64 " reported %" PRIu64 " reports %" PRIu64, it->inflated,
+           it->deflated, it->reported, it->reports);
+    printf(" skipped %" PRIu64 " in_holes %" PRIu64 " kept %" PRIu64 "\n", it->skipped, it->in_holes, it->kept);
+}
+
+static void print_statistics(const struct backend *backend)
+{
+    printf("statistics %" PRIu64, backend->counters.statistics);
+    for (uint32_t i = 0; i < backend->figure_count; i++)
+        printf(" %s %" PRIu64, tag_name(backend->figures[i].tag), backend->figures[i].value);
+    putchar('\n');
+}
+
+/* Asks the guest for new statistics; `counters` and `statistics` say when they have come. */
+static bool ask(struct backend *backend)
+{
+    const VbDevice *device = &backend->balloon.state.device;
+    for (unsigned number = 0; number < QUEUES; number++) {
+        if (vb_kind(device, number) != VB_STATISTICS || !(device->status & BALLOON_DRIVER_OK))
+            continue;
+        audit_before(backend, number);
+        struct balloon_result result = balloon_ask_statistics(&backend->balloon);
+        audit_after(backend, number);
+        puts(result.code == VB_OK ? "asked" : "nothing");
+        return backend_finish(backend, &result);
+    }
+    puts("nothing");
+    return true;
+}
+
+static void set_target(struct backend *backend, const char *number)
+{
+    char *end;
+    unsigned long pages = strtoul(number, &end, 10);
+    if (end == number || *end || pages > UINT32_MAX) {
+        puts("error: target PAGES");
+        return;
+    }
+    balloon_set_target(&backend->balloon, (uint32_t)pages);
+    backend->seen = backend->balloon.state.device.actual;
+    backend_tell_change(backend);
+    puts("ok");
+}
+
+int control_line(struct backend *backend, const char *line)
+{
+    bool served = true;
+    if (!strcmp(line, "quit"))
+        return 0;
+    if (!strncmp(line, "target ", 7))
+        set_target(backend, line + 7);
+    else if (!strcmp(line, "counters"))
+        print_counters(backend);
+    else if (!strcmp(line, "statistics"))
+        print_statistics(backend);
+    else if (!strcmp(line, "ask"))
+        served = ask(backend);
+    else if (!audit_line(backend, line))
+        puts("error: target PAGES, counters, statistics, ask or quit");
+    return served ? 1 : -1;
+}

@@ -1,0 +1,31 @@
+/* A guest's memory, as a vhost-user client hands it over: regions of files, mapped here. */
+#ifndef GUEST_MEMORY_H
+#define GUEST_MEMORY_H
+#include "../balloon.h"
+
+enum { MOST_REGIONS = 8 };
+
+/* As a message has it: where a region stands in the guest, in the client, and in its file. */
+struct region_place {
+    uint64_t guest, size, user, offset;
+};
+
+struct guest_memory {
+    struct balloon_region regions[MOST_REGIONS];
+    uint64_t user[MOST_REGIONS];    /* where each stands in the client */
+    unsigned count;
+};
+
+/* Unmaps all regions and closes their files. */
+void memory_clear(struct guest_memory *memory);
+
+/* Maps these regions in place of those before. Takes the files; false where one can't be mapped. */
+bool memory_map(struct guest_memory *memory, const struct region_place *places, const int *files, unsigned count);
+
+/* The guest's address of an address in the client; false where it lies in no region. */
+bool memory_of_user(const struct guest_memory *memory, uint64_t user, uint64_t *address);
+
+/* What the files hold on the host, in KiB. */
+uint64_t memory_held(const struct guest_memory *memory);
+
+#endif

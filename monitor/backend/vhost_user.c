@@ -1,0 +1,64 @@
+#include "vhost_user.h"
+
+#include <string.h>
+#include <unistd.h>
+
+enum { HEADER = 12, VERSION = 1, IS_REPLY = 4, NEEDS_REPLY = 8 };
+
+bool message_wants_answer(const struct message *message)
+{
+    return message->flags & NEEDS_REPLY;
+}
+
+uint32_t message_u32(const struct message *message, unsigned at)
+{
+    uint32_t word = 0;
+    if (at + sizeof word <= message->size)
+        memcpy(&word, message->body + at, sizeof word);
+    return word;
+}
+
+uint64_t message_u64(const struct message *message, unsigned at)
+{
+    uint64_t word = 0;
+    if (at + sizeof word <= message->size)
+        memcpy(&word, message->body + at, sizeof word);
+    return word;
+}
+
+int message_receive(int socket, struct message *message)
+{
+    uint32_t head[HEADER / 4];
+    int got = stream_receive(socket, head, sizeof head, &message->files);
+    if (got <= 0)
+        return got;
+    message->request = head[0];
+    message->flags = head[1];
+    message->size = head[2];
+    return message->size <= MOST_BODY ? stream_read(socket, message->body, message->size) : -1;
+}
+
+/* Writes one message whole: both ends are blocking streams, and it is short. */
+static bool send_message(int to, uint32_t request, uint32_t flags, const void *body, size_t size)
+{
+    uint8_t bytes[HEADER + MOST_BODY];
+    uint32_t head[3] = {request, flags, (uint32_t)size};
+    if (size > MOST_BODY)
+        return false;
+    memcpy(bytes, head, sizeof head);
+    memcpy(bytes + sizeof head, body, size);
+    return write(to, bytes, sizeof head + size) == (ssize_t)(sizeof head + size);
+}
+
+bool message_answer(int socket, const struct message *message, const void *body, size_t size)
+{
+    return send_message(socket, message->request, VERSION | IS_REPLY, body, size);
+}
+
+bool message_tell(int channel, int queue)
+{
+    uint32_t words[2] = {(uint32_t)queue, 0};
+    if (queue < 0)
+        return send_message(channel, CONFIG_CHANGED, VERSION, words, 0);
+    return send_message(channel, VRING_CALL, VERSION, words, sizeof words);
+}

@@ -1,0 +1,17 @@
+/* Other names for the plain implementation, where it is linked beside the library. */
+#ifndef REFERENCE_NAMES_H
+#define REFERENCE_NAMES_H
+#define vb_new reference_new
+#define vb_set_target reference_set_target
+#define vb_write_status reference_write_status
+#define vb_negotiate reference_negotiate
+#define vb_kind reference_kind
+#define vb_place reference_place
+#define vb_read_config reference_read_config
+#define vb_write_config reference_write_config
+#define vb_next reference_next
+#define vb_name reference_name
+#define vb_report reference_report
+#define vb_statistics reference_statistics
+#define vb_use reference_use
+#endif

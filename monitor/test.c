@@ -1,0 +1,682 @@
+/* Tests of balloon.h over vb.h, with values from outside: VIRTIO 1.1, Linux 6.1's driver, and vb.h's own words. */
+#include "guest.h"
+
+/* What other languages declare of vb.h has to have these sizes (rust/src/raw.rs). */
+_Static_assert(sizeof(VbSettings) == 24 && sizeof(VbQueue) == 32 && sizeof(VbDevice) == 176, "a device's state");
+_Static_assert(sizeof(VbPiece) == 16 && sizeof(VbRun) == 8 && sizeof(VbStatistic) == 16, "lists");
+_Static_assert(sizeof(VbChain) == 20 && sizeof(VbNamed) == 24 && sizeof(VbFigures) == 12, "answers");
+_Static_assert(sizeof(VbUsed) == 40, "what is written");
+
+static const VbSettings REFUSES = { .offered = 1ull << 32 | 0x27 };
+static const VbSettings SKIPS = { .offered = 1ull << 32 | 0x27, .skips_bad_pages = 1 };
+
+static bool resident(const struct guest *guest, uint32_t page)
+{
+    unsigned char state = 0;
+    EXPECT(mincore(at(guest, page * 4096ull), 4096, &state) == 0);
+    return state & 1;
+}
+
+/* ---- the steps of a driver */
+
+static void settings_have_bounds(void)
+{
+    VbDevice device;
+    VbSettings good = { .memory_end = 8192, .offered = VERSION_1 };
+    EXPECT(vb_new(&device, good) == VB_OK);
+    EXPECT(device.status == 0 && device.target == 0 && device.actual == 0 && device.inflate.size == 0);
+    VbSettings it = good;
+    it.memory_end = (1ull << 44) - 4096;
+    EXPECT(vb_new(&device, it) == VB_OK);
+    it.memory_end = (1ull << 44) + 4096;
+    EXPECT(vb_new(&device, it) == VB_BAD_ARGUMENT);
+    it.memory_end = 8191;
+    EXPECT(vb_new(&device, it) == VB_BAD_ARGUMENT);
+    it = good;
+    it.offered = 0x27;          /* without VERSION_1 */
+    EXPECT(vb_new(&device, it) == VB_BAD_ARGUMENT);
+    const uint64_t never[] = { 1 << 3, 1 << 4, 1 << 6, 1ull << 28, 1ull << 29, 1ull << 33, 1ull << 63 };
+    for (size_t i = 0; i < sizeof never / sizeof never[0]; i++) {
+        it.offered = VERSION_1 | never[i];
+        EXPECT(vb_new(&device, it) == VB_BAD_ARGUMENT);
+    }
+}
+
+/* Linux on PCI: 0, 0, 1, 3, features, 11, four queues, 15; then it reads num_pages. Addresses as it chose them. */
+static void linux_starts_on_pci(void)
+{
+    VbDevice device;
+    const uint64_t rings[] = { 0x111a3000, 0x111a4000, 0x111a5000, 0x111a6000 };
+    const VbSettings settings = { .memory_end = 320ull * MIB, .offered = LINUX_FEATURES };
+    EXPECT(vb_new(&device, settings) == VB_OK);
+    vb_set_target(&device, 16384);
+    EXPECT(vb_write_status(&device, 0) == 0 && vb_write_status(&device, 0) == 0);
+    EXPECT(vb_write_status(&device, 1) == 0 && vb_write_status(&device, 3) == 0);
+    EXPECT(vb_negotiate(&device, LINUX_FEATURES) == 0 && vb_write_status(&device, 11) == 0);
+    for (uint32_t i = 0; i < 4; i++)
+        EXPECT(vb_kind(&device, i) == i
+               && vb_place(&device, i, rings[i], rings[i] + 0x800, rings[i] + 0x940, 128) == VB_OK);
+    EXPECT(vb_kind(&device, 4) == VB_NO_KIND && vb_write_status(&device, 15) == 0 && device.status == 15);
+    uint8_t word[4], told[4] = { 0, 1, 0, 0 };
+    vb_read_config(&device, 0, word, 4);
+    EXPECT(word[0] == 0 && word[1] == 0x40 && word[2] == 0 && word[3] == 0);
+    EXPECT(vb_write_config(&device, 4, told, 4) == VB_OK && device.actual == 256);
+    EXPECT(vb_write_status(&device, 0) == 0);   /* rmmod */
+    EXPECT(device.status == 0 && device.features == 0 && device.actual == 0 && device.target == 16384);
+    EXPECT(device.inflate.size == 0 && device.report.size == 0 && device.settings.offered == LINUX_FEATURES);
+}
+
+/* User Mode Linux: queues of 256, each part on a page of its own, memory that doesn't begin at 0. */
+static void linux_starts_on_uml(void)
+{
+    VbDevice device;
+    const VbSettings settings = { .memory_end = 256ull * MIB, .offered = LINUX_FEATURES };
+    EXPECT(vb_new(&device, settings) == VB_OK);
+    EXPECT(vb_write_status(&device, 1) == 0 && vb_write_status(&device, 3) == 0);
+    EXPECT(vb_negotiate(&device, 1ull << 32 | 0x23) == 0);
+    EXPECT(vb_negotiate(&device, LINUX_FEATURES) == 0);   /* written again: the last write counts */
+    EXPECT(device.features == LINUX_FEATURES && vb_write_status(&device, 11) == 0);
+    EXPECT(vb_place(&device, VB_INFLATE, 0x19f8000, 0x19f9000, 0x19fa000, 256) == VB_OK);
+    EXPECT(vb_place(&device, VB_REPORT, 0x1d18000, 0x1d19000, 0x1d1a000, 256) == VB_OK);
+    EXPECT(vb_write_status(&device, 15) == 0);
+    EXPECT(vb_write_status(&device, 139) == 1 && vb_write_status(&device, 143) == 0);  /* it gives up */
+}
+
+static void queues_are_numbered_without_gaps(void)
+{
+    const struct { uint64_t features; uint32_t kinds[5]; } rows[] = {
+        { 0, { VB_INFLATE, VB_DEFLATE, VB_NO_KIND, VB_NO_KIND, VB_NO_KIND } },
+        { STATS_VQ, { VB_INFLATE, VB_DEFLATE, VB_STATISTICS, VB_NO_KIND, VB_NO_KIND } },
+        { REPORTING, { VB_INFLATE, VB_DEFLATE, VB_REPORT, VB_NO_KIND, VB_NO_KIND } },
+        { STATS_VQ | REPORTING, { VB_INFLATE, VB_DEFLATE, VB_STATISTICS, VB_REPORT, VB_NO_KIND } },
+    };
+    for (size_t row = 0; row < 4; row++) {
+        VbDevice device;
+        const VbSettings settings = { .memory_end = MIB, .offered = LINUX_FEATURES };
+        EXPECT(vb_new(&device, settings) == VB_OK && vb_write_status(&device, 1) == 0);
+        EXPECT(vb_write_status(&device, 3) == 0 && vb_negotiate(&device, VERSION_1 | rows[row].features) == 0);
+        for (uint32_t number = 0; number < 5; number++)
+            EXPECT(vb_kind(&device, number) == rows[row].kinds[number]);
+        EXPECT(vb_kind(&device, UINT32_MAX) == VB_NO_KIND);
+    }
+}
+
+static void status_is_refused(void)
+{
+    VbDevice device;
+    VbSettings settings = { .memory_end = MIB, .offered = VERSION_1 | MUST_TELL_HOST, .needs_must_tell = 1 };
+    EXPECT(vb_new(&device, settings) == VB_OK);
+    EXPECT(vb_negotiate(&device, VERSION_1) == 2);
+    const uint8_t early[] = { 2, 4, 8, 3, 15, 16, 32, 64, 65, 129 };
+    for (size_t i = 0; i < sizeof early; i++)
+        EXPECT(vb_write_status(&device, early[i]) == 2 && device.status == 0);
+    EXPECT(vb_write_status(&device, 1) == 0 && vb_write_status(&device, 1) == 0);
+    EXPECT(vb_write_status(&device, 2) == 1 && vb_write_status(&device, 5) == 2 && vb_write_status(&device, 9) == 2);
+    EXPECT(vb_write_status(&device, 3) == 0 && vb_write_status(&device, 7) == 2);
+    EXPECT(vb_negotiate(&device, 1ull << 40) == 3 && vb_negotiate(&device, VERSION_1 | STATS_VQ) == 3);
+    EXPECT(vb_negotiate(&device, VERSION_1) == 0 && vb_write_status(&device, 11) == 4);
+    EXPECT(vb_negotiate(&device, MUST_TELL_HOST) == 0 && vb_write_status(&device, 11) == 5 && device.status == 3);
+    EXPECT(vb_negotiate(&device, VERSION_1 | MUST_TELL_HOST) == 0 && vb_write_status(&device, 11) == 0);
+    EXPECT(vb_negotiate(&device, VERSION_1) == 2 && device.features == (VERSION_1 | MUST_TELL_HOST));
+    EXPECT(vb_write_status(&device, 3) == 1 && vb_write_status(&device, 15) == 0);
+    EXPECT(vb_write_status(&device, 15 | 64) == 2 && vb_write_status(&device, 15 | 128) == 0);
+    EXPECT(vb_write_status(&device, 0) == 0 && vb_write_status(&device, 128) == 0);
+    EXPECT(vb_write_status(&device, 129) == 2 && device.status == 128);
+}
+
+static void configuration_is_little_endian(void)
+{
+    VbDevice device;
+    const VbSettings settings = { .memory_end = MIB, .offered = VERSION_1 };
+    const uint8_t actual[] = { 0x11, 0x22, 0x33, 0x44 }, all[] = { 1, 2, 3, 4, 0x11, 0x22, 0x33, 0x44, 0, 0, 0, 0 };
+    uint8_t out[12];
+    EXPECT(vb_new(&device, settings) == VB_OK);
+    vb_set_target(&device, 0x04030201);
+    EXPECT(vb_write_config(&device, 4, actual, 4) == VB_OK && device.actual == 0x44332211);
+    for (uint32_t offset = 0; offset < 12; offset++) {
+        memset(out, 0xee, sizeof out);
+        vb_read_config(&device, offset, out, 12 - offset);
+        EXPECT(memcmp(out, all + offset, 12 - offset) == 0);
+    }
+    memset(out, 0xee, sizeof out);
+    vb_read_config(&device, UINT32_MAX, out, 12);
+    for (int i = 0; i < 12; i++)
+        EXPECT(out[i] == 0);
+    vb_read_config(&device, 0, NULL, 0);
+    for (uint32_t offset = 0; offset < 9; offset++)
+        for (size_t length = 0; length < 12 - offset; length++)
+            if (offset != 4 || length != 4)
+                EXPECT(vb_write_config(&device, offset, all, length) == VB_BAD_ARGUMENT);
+    EXPECT(vb_write_config(&device, UINT32_MAX, all, 4) == VB_BAD_ARGUMENT && device.actual == 0x44332211);
+}
+
+static void places_are_refused(void)
+{
+    VbDevice device;
+    const VbSettings settings = { .memory_end = MIB, .offered = LINUX_FEATURES };
+    EXPECT(vb_new(&device, settings) == VB_OK && vb_write_status(&device, 1) == 0 && vb_write_status(&device, 3) == 0);
+    EXPECT(vb_negotiate(&device, VERSION_1) == 0 && vb_write_status(&device, 11) == 0);
+    EXPECT(vb_place(&device, VB_NO_KIND, 0, 0, 0, 0) == VB_NO_QUEUE);
+    EXPECT(vb_place(&device, VB_STATISTICS, 0x1000, 0x2000, 0x3000, 8) == VB_NO_QUEUE);
+    EXPECT(vb_place(&device, VB_REPORT, 0x1000, 0x2000, 0x3000, 8) == VB_NO_QUEUE);
+    const uint16_t sizes[] = { 0, 1, 3, 5, 6, 255, 257, 512, 32768, 65535 };
+    for (size_t i = 0; i < sizeof sizes / 2; i++)
+        EXPECT(vb_place(&device, VB_INFLATE, 0x1000, 0x2000, 0x3000, sizes[i]) == VB_MISPLACED);
+    EXPECT(vb_place(&device, VB_INFLATE, 0x1008, 0x2000, 0x3000, 8) == VB_MISPLACED);
+    EXPECT(vb_place(&device, VB_INFLATE, 0x1000, 0x2001, 0x3000, 8) == VB_MISPLACED);
+    EXPECT(vb_place(&device, VB_INFLATE, 0x1000, 0x2000, 0x3002, 8) == VB_MISPLACED);
+    EXPECT(vb_place(&device, VB_INFLATE, MIB - 112, 0x2000, 0x3000, 8) == VB_MISPLACED);
+    EXPECT(vb_place(&device, VB_INFLATE, 0x1000, MIB - 18, 0x3000, 8) == VB_MISPLACED);
+    EXPECT(vb_place(&device, VB_INFLATE, 0x1000, 0x2000, MIB - 64, 8) == VB_MISPLACED);
+    EXPECT(vb_place(&device, VB_INFLATE, UINT64_MAX - 15, 0x2000, 0x3000, 8) == VB_MISPLACED);
+    EXPECT(device.inflate.size == 0);
+    EXPECT(vb_place(&device, VB_INFLATE, MIB - 128, 0x2002, 0x3004, 8) == VB_OK);
+    EXPECT(device.inflate.table == MIB - 128 && device.inflate.avail == 0x2002 && device.inflate.used == 0x3004);
+    EXPECT(device.inflate.size == 8 && device.inflate.next_avail == 0 && device.inflate.next_used == 0);
+    EXPECT(vb_place(&device, VB_DEFLATE, 0x1010, 0x2000, 0x3000, 2) == VB_OK);
+    EXPECT(vb_write_status(&device, 15) == 0);
+    EXPECT(vb_place(&device, VB_INFLATE, 0x1000, 0x2000, 0x3000, 8) == VB_BAD_ARGUMENT && device.inflate.size == 8);
+}
+
+/* ---- requests */
+
+/* 256 pages go and come: those and no others are discarded, in memory of each sort. */
+static void pages_go_and_come(int low)
+{
+    static struct guest guest;
+    uint32_t pages[256];
+    start(&guest, low, REFUSES, LINUX_FEATURES, 128);
+    for (uint32_t i = 0; i < 256; i++)
+        pages[i] = 500 + 3 * i;
+    for (uint32_t page = 499; page < 500 + 3 * 256; page++)
+        memset(at(&guest, page * 4096ull), (int)(page % 251) + 1, 4096);
+    name_pages(&guest, VB_INFLATE, pages, 256);
+    struct balloon_result result = balloon_notify(&guest.balloon, VB_INFLATE);
+    EXPECT(result.code == VB_OK && result.chains == 1 && result.pages == 256 && result.discarded == 256);
+    EXPECT(result.interrupts == 1 << VB_INFLATE && !result.more && !result.configuration && result.kept == 0);
+    EXPECT(used_index(&guest, VB_INFLATE) == 1 && last_used(&guest, VB_INFLATE) == 0);
+    for (uint32_t page = 499; page < 500 + 3 * 256; page++)
+        EXPECT(resident(&guest, page) == (page % 3 != 2));
+    for (uint32_t page = 499; page < 500 + 3 * 256; page++) {
+        const uint8_t *bytes = at(&guest, page * 4096ull), byte = page % 3 != 2 ? page % 251 + 1 : 0;
+        for (int i = 0; i < 4096; i++)
+            EXPECT(bytes[i] == byte);
+    }
+    EXPECT(balloon_notify(&guest.balloon, VB_INFLATE).code == VB_NOTHING);
+    memset(at(&guest, 500 * 4096), 9, 4096);
+    name_pages(&guest, VB_DEFLATE, pages, 256);
+    result = balloon_notify(&guest.balloon, VB_DEFLATE);
+    EXPECT(result.code == VB_OK && result.pages == 256 && result.discarded == 0 && *at(&guest, 500 * 4096) == 9);
+    EXPECT(result.interrupts == 1 << VB_DEFLATE && used_index(&guest, VB_DEFLATE) == 1);
+    free_memory(&guest);
+}
+
+struct seen { uint32_t kind, runs, calls; VbRun run[VB_MAX_RUNS]; };
+
+static void see_pages(void *context, uint32_t kind, const VbRun *runs, uint32_t count)
+{
+    struct seen *seen = context;
+    seen->kind = kind;
+    seen->runs = count;
+    seen->calls++;
+    memcpy(seen->run, runs, count * sizeof *runs);
+}
+
+/* A number that follows the last run, or stands right before it, joins it. */
+static void neighbours_are_joined(void)
+{
+    static struct guest guest;
+    static struct seen seen;
+    const uint32_t pages[] = { 505, 506, 507, 503, 502, 501, 509, 510, 508, 600 };
+    const VbRun runs[] = { { 505, 3 }, { 501, 3 }, { 508, 3 }, { 600, 1 } };
+    uint32_t down[256];
+    start(&guest, 0, REFUSES, LINUX_FEATURES, 256);
+    guest.balloon.context = &seen;
+    guest.balloon.on_pages = see_pages;
+    name_pages(&guest, VB_INFLATE, pages, 10);
+    EXPECT(balloon_notify(&guest.balloon, VB_INFLATE).pages == 10);
+    EXPECT(seen.kind == VB_INFLATE && seen.runs == 4 && memcmp(seen.run, runs, sizeof runs) == 0);
+    for (uint32_t i = 0; i < 256; i++)
+        down[i] = 1000 - i;
+    name_pages(&guest, VB_DEFLATE, down, 256);
+    EXPECT(balloon_notify(&guest.balloon, VB_DEFLATE).pages == 256);
+    EXPECT(seen.kind == VB_DEFLATE && seen.runs == 1 && seen.run[0].first == 745 && seen.run[0].count == 256);
+    free_memory(&guest);
+}
+
+/* A request's bytes in pieces that cut its numbers, one of them empty. */
+static void requests_are_cut_anyhow(void)
+{
+    static struct guest guest;
+    static struct seen seen;
+    const uint64_t bytes = buffer_of(VB_INFLATE);
+    start(&guest, 0, REFUSES, LINUX_FEATURES, 8);
+    guest.balloon.context = &seen;
+    guest.balloon.on_pages = see_pages;
+    put(&guest, bytes, 0x1234567890abcdef, 8);
+    put(&guest, bytes, 700, 3);
+    put(&guest, 8 * MIB - 1, 0, 1);
+    put(&guest, 0x40000, 0x04d2, 4);
+    describe(&guest, VB_INFLATE, 5, bytes, 3, NEXT | 0xfff8, 2);
+    describe(&guest, VB_INFLATE, 2, 8 * MIB - 1, 1, NEXT, 7);
+    describe(&guest, VB_INFLATE, 7, 0x123, 0, NEXT, 0);
+    describe(&guest, VB_INFLATE, 0, 0x40000, 4, 0, 9);
+    publish(&guest, VB_INFLATE, 5);
+    struct balloon_result result = balloon_notify(&guest.balloon, VB_INFLATE);
+    EXPECT(result.code == VB_OK && result.pages == 2 && seen.runs == 2);
+    EXPECT(seen.run[0].first == 700 && seen.run[1].first == 1234);
+    EXPECT(get(&guest, used_of(VB_INFLATE) + 4, 4) == 5 && used_index(&guest, VB_INFLATE) == 1);
+    free_memory(&guest);
+}
+
+/* Indices wrap at 65,536, on the least queue; no interrupt is asked for. */
+static void indices_wrap(void)
+{
+    static struct guest guest;
+    const uint32_t page = 900;
+    start(&guest, 0, REFUSES, LINUX_FEATURES, 2);
+    put(&guest, avail_of(VB_DEFLATE), 1, 2);
+    for (uint32_t i = 1; i <= 70000; i++) {
+        name_pages(&guest, VB_DEFLATE, &page, 1);
+        struct balloon_result result = balloon_notify(&guest.balloon, VB_DEFLATE);
+        EXPECT(result.code == VB_OK && result.chains == 1 && result.interrupts == 0);
+        EXPECT(used_index(&guest, VB_DEFLATE) == (uint16_t)i);
+    }
+    free_memory(&guest);
+}
+
+/* A whole queue of requests is served by one notice, and no more than that. */
+static void a_notice_has_an_end(void)
+{
+    static struct guest guest;
+    const uint32_t page = 900;
+    start(&guest, 0, REFUSES, LINUX_FEATURES, 4);
+    for (int i = 0; i < 4; i++)
+        name_pages(&guest, VB_DEFLATE, &page, 1);
+    struct balloon_result result = balloon_notify(&guest.balloon, VB_DEFLATE);
+    EXPECT(result.code == VB_OK && result.chains == 4 && !result.more && used_index(&guest, VB_DEFLATE) == 4);
+    name_pages(&guest, VB_DEFLATE, &page, 1);
+    EXPECT(balloon_notify_number(&guest.balloon, 1).chains == 1);
+    EXPECT(balloon_notify_number(&guest.balloon, 4).code == VB_NO_QUEUE);
+    free_memory(&guest);
+}
+
+static void publish_again(void *context, uint32_t kind, const VbRun *runs, uint32_t count)
+{
+    (void)runs, (void)count;
+    publish(context, kind, 0);
+}
+
+/* A driver that never stops gets the monitor's time in parts. */
+static void a_driver_never_stops(void)
+{
+    static struct guest guest;
+    const uint32_t page = 900;
+    start(&guest, 0, REFUSES, LINUX_FEATURES, 4);
+    guest.balloon.context = &guest;
+    guest.balloon.on_pages = publish_again;
+    name_pages(&guest, VB_DEFLATE, &page, 1);
+    for (uint16_t i = 1; i <= 3; i++) {
+        struct balloon_result result = balloon_notify(&guest.balloon, VB_DEFLATE);
+        EXPECT(result.code == VB_OK && result.chains == 4 && result.more && used_index(&guest, VB_DEFLATE) == 4 * i);
+    }
+    free_memory(&guest);
+}
+
+static int fail_to_discard(void *context, const struct balloon_region *region, uint64_t from, uint64_t length)
+{
+    (void)context, (void)region, (void)from, (void)length;
+    return EIO;
+}
+
+/* Pages that the machine keeps are counted; the driver gets its chain back all the same. */
+static void pages_may_be_kept(void)
+{
+    static struct guest guest;
+    const uint32_t pages[] = { 700, 701, 800 };
+    start(&guest, 0, REFUSES, LINUX_FEATURES, 4);
+    memset(at(&guest, 700 * 4096), 1, 4096);
+    guest.balloon.discard = fail_to_discard;
+    name_pages(&guest, VB_INFLATE, pages, 3);
+    struct balloon_result result = balloon_notify(&guest.balloon, VB_INFLATE);
+    EXPECT(result.code == VB_OK && result.kept == 3 && result.error == EIO && result.discarded == 0);
+    EXPECT(used_index(&guest, VB_INFLATE) == 1 && *at(&guest, 700 * 4096) == 1 && result.in_holes == 0);
+    free_memory(&guest);
+}
+
+/* Two halves of a file that stand in memory in the other order: a run, a ring and a buffer over the boundary. */
+static void regions_may_touch(void)
+{
+    static struct guest guest;
+    struct balloon *balloon = &guest.balloon;
+    const uint32_t pages[] = { 512, 511, 510 };
+    const uint64_t half = 2 * MIB;
+    struct balloon_result result;
+    make_memory(&guest, 0);
+    struct balloon_region regions[] = { { half, half, guest.regions[0].host, guest.regions[0].fd, 0 },
+                                        { 0, half, guest.regions[0].host + half, guest.regions[0].fd, half } };
+    EXPECT(balloon_init(balloon, regions, 2, REFUSES) == VB_OK);
+    EXPECT(balloon->state.device.settings.memory_end == 2 * half);
+    start_features(&guest, VERSION_1, 256);
+    EXPECT(balloon_place(balloon, VB_INFLATE, half - 2048, avail_of(VB_INFLATE), used_of(VB_INFLATE), 256) == VB_OK);
+    EXPECT(balloon_write_status(balloon, 15, &result) == 0);
+    memset(guest.regions[0].host, 1, 2 * half);
+    memset(at(&guest, avail_of(VB_INFLATE)), 0, 4096);
+    for (uint32_t i = 0; i < 3; i++)
+        put(&guest, half + 3 * 4096 - 6 + 4 * i, pages[i], 4);
+    put(&guest, half - 3, pages[0], 3);
+    put(&guest, half, pages[0] >> 24, 1);
+    uint8_t *descriptor = at(&guest, half + 2048 - 16);     /* number 255, whose next is 0 */
+    memcpy(descriptor, (const uint64_t[]){ htole64(half - 3), htole64(4 | (uint64_t)NEXT << 32) }, 16);
+    memcpy(at(&guest, half - 2048), (const uint64_t[]){ htole64(half + 3 * 4096 - 2), htole64(8) }, 16);
+    publish(&guest, VB_INFLATE, 255);
+    memset(at(&guest, 510 * 4096), 1, 4096);
+    result = balloon_notify(balloon, VB_INFLATE);
+    EXPECT(result.code == VB_OK && result.pages == 3 && result.discarded == 3 && result.in_holes == 0);
+    EXPECT(resident(&guest, 509) && !resident(&guest, 510) && !resident(&guest, 511) && !resident(&guest, 512));
+    EXPECT(resident(&guest, 513) && get(&guest, used_of(VB_INFLATE) + 4 + 8 * 0, 2) == 255);
+    free_memory(&guest);
+}
+
+static void regions_have_bounds(void)
+{
+    static struct guest guest;
+    struct balloon *balloon = &guest.balloon;
+    start(&guest, 0, REFUSES, VERSION_1, 8);
+    const struct balloon_region wrong[] = {
+        { 1ull << 44, 4096, NULL, -1, 0 },
+        { (1ull << 44) - 4096, 8192, NULL, -1, 0 },
+        { UINT64_MAX - 4095, 4096, NULL, -1, 0 },
+        { 4096, UINT64_MAX, NULL, -1, 0 },
+    };
+    for (size_t i = 0; i < 4; i++)
+        EXPECT(balloon_set_regions(balloon, &wrong[i], 1) == VB_BAD_ARGUMENT && balloon->region_count == 2);
+    EXPECT(balloon_set_regions(balloon, guest.regions, 1) == VB_OK && balloon->region_count == 1);
+    EXPECT(balloon->state.device.settings.memory_end == 8 * MIB);
+    EXPECT(balloon_init(balloon, guest.regions, 0, REFUSES) == VB_BAD_ARGUMENT);
+    EXPECT(balloon_init(balloon, guest.regions, 2, (VbSettings){ .offered = 0x27 }) == VB_BAD_ARGUMENT);
+    free_memory(&guest);
+}
+
+/* A notice of a queue without a place, or without its feature, says so. */
+static void queues_may_be_missing(void)
+{
+    static struct guest guest;
+    struct balloon_result result;
+    start(&guest, 0, REFUSES, VERSION_1, 8);
+    EXPECT(balloon_notify(&guest.balloon, VB_STATISTICS).code == VB_NO_QUEUE);
+    EXPECT(balloon_notify(&guest.balloon, VB_REPORT).code == VB_NO_QUEUE);
+    EXPECT(balloon_notify(&guest.balloon, VB_NO_KIND).code == VB_NO_QUEUE);
+    EXPECT(balloon_write_status(&guest.balloon, 0, &result) == 0);
+    EXPECT(balloon_notify(&guest.balloon, VB_INFLATE).code == VB_NOT_READY);
+    EXPECT(balloon_write_status(&guest.balloon, 1, &result) == 0);
+    EXPECT(balloon_write_status(&guest.balloon, 3, &result) == 0);
+    EXPECT(balloon_negotiate(&guest.balloon, VERSION_1) == 0);
+    EXPECT(balloon_write_status(&guest.balloon, 11, &result) == 0);
+    EXPECT(balloon_write_status(&guest.balloon, 15, &result) == 0 && result.code == VB_NOTHING && result.chains == 0);
+    EXPECT(balloon_notify(&guest.balloon, VB_INFLATE).code == VB_MISPLACED);
+    free_memory(&guest);
+}
+
+/* ---- statistics */
+
+struct told { uint32_t count, calls; VbStatistic figure[102]; };
+
+static void hear(void *context, const VbStatistic *figures, uint32_t count)
+{
+    struct told *told = context;
+    told->count = count;
+    told->calls++;
+    memcpy(told->figure, figures, count * sizeof *figures);
+}
+
+static void fill_statistics(struct guest *guest, uint32_t count, uint64_t base)
+{
+    for (uint32_t i = 0; i < count; i++) {
+        put(guest, buffer_of(VB_STATISTICS) + 10 * i, (uint16_t)(i * 7), 2);
+        put(guest, buffer_of(VB_STATISTICS) + 10 * i + 2, base + i, 8);
+    }
+    describe(guest, VB_STATISTICS, 0, buffer_of(VB_STATISTICS), 10 * count, 0, 1);
+    publish(guest, VB_STATISTICS, 0);
+}
+
+/* The first buffer stands there before DRIVER_OK; it is asked for, filled again, and saved meanwhile. */
+static void statistics_come(void)
+{
+    static struct guest guest;
+    static struct told told;
+    struct balloon_result result;
+    make_memory(&guest, 0);
+    EXPECT(balloon_init(&guest.balloon, guest.regions, 2, REFUSES) == VB_OK);
+    guest.balloon.context = &told;
+    guest.balloon.on_statistics = hear;
+    start_features(&guest, LINUX_FEATURES, 128);
+    fill_statistics(&guest, 10, 0xfedcba9876543210);
+    EXPECT(balloon_notify(&guest.balloon, VB_STATISTICS).code == VB_NOT_READY && told.calls == 0);
+    EXPECT(balloon_write_status(&guest.balloon, 15, &result) == 0);
+    EXPECT(result.code == VB_OK && result.chains == 1 && result.interrupts == 0 && told.count == 10);
+    EXPECT(told.figure[9].tag == 63 && told.figure[9].value == 0xfedcba9876543219);
+    EXPECT(used_index(&guest, VB_STATISTICS) == 0 && balloon_notify(&guest.balloon, VB_STATISTICS).code == VB_NOTHING);
+    struct balloon_state saved = guest.balloon.state;
+    memset(&guest.balloon.state, 0xee, sizeof guest.balloon.state);
+    guest.balloon.state = saved;
+    result = balloon_ask_statistics(&guest.balloon);
+    EXPECT(result.code == VB_OK && result.interrupts == 1 << VB_STATISTICS && used_index(&guest, VB_STATISTICS) == 1);
+    EXPECT(balloon_ask_statistics(&guest.balloon).code == VB_NOTHING && last_used(&guest, VB_STATISTICS) == 0);
+    fill_statistics(&guest, 102, 5);
+    EXPECT(balloon_notify(&guest.balloon, VB_STATISTICS).code == VB_OK && told.calls == 2 && told.count == 102);
+    EXPECT(told.figure[101].tag == 707 && told.figure[101].value == 106);
+    EXPECT(balloon_ask_statistics(&guest.balloon).code == VB_OK);
+    fill_statistics(&guest, 0, 0);
+    EXPECT(balloon_notify(&guest.balloon, VB_STATISTICS).code == VB_OK && told.calls == 3 && told.count == 0);
+    free_memory(&guest);
+}
+
+/* The device keeps one buffer at a time, and none over a reset. */
+static void one_buffer_is_held(void)
+{
+    static struct guest guest;
+    static struct told told;
+    struct balloon_result result;
+    start(&guest, 0, REFUSES, LINUX_FEATURES, 8);
+    guest.balloon.context = &told;
+    guest.balloon.on_statistics = hear;
+    fill_statistics(&guest, 3, 7);
+    EXPECT(balloon_notify(&guest.balloon, VB_STATISTICS).chains == 1 && told.calls == 1);
+    describe(&guest, VB_STATISTICS, 5, buffer_of(VB_STATISTICS), 20, 0, 0);
+    publish(&guest, VB_STATISTICS, 5);
+    result = balloon_notify(&guest.balloon, VB_STATISTICS);
+    EXPECT(result.code == VB_NOTHING && !result.more && told.calls == 1);
+    EXPECT(balloon_ask_statistics(&guest.balloon).chains == 1 && last_used(&guest, VB_STATISTICS) == 0);
+    EXPECT(balloon_notify(&guest.balloon, VB_STATISTICS).chains == 1 && told.calls == 2 && told.count == 2);
+    EXPECT(balloon_ask_statistics(&guest.balloon).chains == 1 && last_used(&guest, VB_STATISTICS) == 5);
+    fill_statistics(&guest, 1, 7);
+    EXPECT(balloon_notify(&guest.balloon, VB_STATISTICS).chains == 1 && told.calls == 3);
+    start_features(&guest, LINUX_FEATURES, 8);
+    fill_statistics(&guest, 4, 7);
+    EXPECT(balloon_ask_statistics(&guest.balloon).code == VB_NOTHING);
+    EXPECT(balloon_write_status(&guest.balloon, 15, &result) == 0 && result.chains == 1 && told.count == 4);
+    free_memory(&guest);
+}
+
+/* ---- reports */
+
+/* 32 blocks, as many and as large as Linux reports, one of them over the last page before the hole. */
+static void reports_are_discarded(void)
+{
+    static struct guest guest;
+    static struct seen seen;
+    start(&guest, 0, REFUSES, LINUX_FEATURES, 32);
+    guest.balloon.context = &seen;
+    guest.balloon.on_pages = see_pages;
+    for (uint16_t i = 0; i < 32; i++)
+        describe(&guest, VB_REPORT, i, (i % 2 ? 0 : HIGH_ADDRESS) + (64 + 60ull * i) * 4096, (i + 1) * 4096u,
+                 WRITE | (i < 31 ? NEXT : 0), i + 1);
+    for (uint16_t i = 0; i < 32; i++)
+        memset(at(&guest, (i % 2 ? 0 : HIGH_ADDRESS) + (63 + 60ull * i) * 4096), 1, (i + 3) * 4096u);
+    publish(&guest, VB_REPORT, 0);
+    struct balloon_result result = balloon_notify_number(&guest.balloon, 3);
+    EXPECT(result.code == VB_OK && result.pages == 528 && result.discarded == 528 && seen.runs == 32);
+    EXPECT(result.interrupts == 1 << VB_REPORT && used_index(&guest, VB_REPORT) == 1);
+    for (uint32_t i = 0; i < 32; i++) {
+        uint32_t first = (i % 2 ? 0 : (uint32_t)(HIGH_ADDRESS / 4096)) + 64 + 60 * i;
+        EXPECT(resident(&guest, first - 1) && !resident(&guest, first) && !resident(&guest, first + i));
+        EXPECT(resident(&guest, first + i + 1));
+        EXPECT(seen.run[i].first == first && seen.run[i].count == i + 1);
+    }
+    free_memory(&guest);
+}
+
+/* ---- holes, and pages that aren't there */
+
+static void holes_are_skipped(void)
+{
+    static struct guest guest;
+    struct balloon *balloon = &guest.balloon;
+    const uint32_t last = 2047, hole = 2048, next = 4096, pages[] = { last, hole, hole + 1, 4095, next, 3000 };
+    struct balloon_result result;
+    start(&guest, BALLOON_SHARED, REFUSES, LINUX_FEATURES, 8);
+    memset(at(&guest, (last - 1) * 4096), 1, 2 * 4096);
+    memset(at(&guest, next * 4096), 1, 2 * 4096);
+    name_pages(&guest, VB_INFLATE, pages, 6);
+    result = balloon_notify(balloon, VB_INFLATE);
+    EXPECT(result.code == VB_OK && result.pages == 6 && result.discarded == 2 && result.in_holes == 4);
+    EXPECT(resident(&guest, last - 1) && !resident(&guest, last));
+    EXPECT(!resident(&guest, next) && resident(&guest, next + 1));
+    describe(&guest, VB_REPORT, 0, last * 4096, 2050 * 4096, WRITE, 0);    /* over the whole hole */
+    memset(at(&guest, last * 4096), 1, 4096);
+    memset(at(&guest, next * 4096), 1, 4096);
+    publish(&guest, VB_REPORT, 0);
+    result = balloon_notify(balloon, VB_REPORT);
+    EXPECT(result.pages == 2050 && result.discarded == 2 && result.in_holes == 2048);
+    EXPECT(!resident(&guest, last) && !resident(&guest, next) && resident(&guest, next + 1));
+    describe(&guest, VB_INFLATE, 0, 8 * MIB - 2, 4, 0, 0);                   /* a buffer half in the hole */
+    publish(&guest, VB_INFLATE, 0);
+    result = balloon_notify(balloon, VB_INFLATE);
+    EXPECT(result.code == VB_BROKEN && result.rule == 6 && result.configuration && result.chains == 0);
+    EXPECT(used_index(&guest, VB_INFLATE) == 1 && balloon_notify(balloon, VB_INFLATE).code == VB_NEEDS_RESET);
+    start_features(&guest, LINUX_FEATURES, 8);
+    EXPECT(balloon_place(balloon, VB_INFLATE, 9 * MIB, 0x11000, 0x12000, 8) == VB_MISPLACED);
+    EXPECT(balloon_place(balloon, VB_INFLATE, 0x10000, 8 * MIB - 20, 0x12000, 8) == VB_MISPLACED);
+    EXPECT(balloon_place(balloon, VB_INFLATE, 0x10000, 0x11000, 8 * MIB - 68, 8) == VB_MISPLACED);
+    EXPECT(balloon->state.device.inflate.table == table_of(VB_INFLATE));
+    free_memory(&guest);
+}
+
+static void wrong_pages_are_refused(uint32_t page, uint32_t rule)
+{
+    static struct guest guest;
+    const uint32_t pages[] = { 600, page, 601 };
+    VbSettings settings = REFUSES;
+    settings.reserved_pages = 16;
+    start(&guest, 0, settings, LINUX_FEATURES, 8);
+    memset(at(&guest, 600 * 4096), 1, 2 * 4096);
+    name_pages(&guest, VB_INFLATE, pages, 3);
+    struct balloon_result result = balloon_notify(&guest.balloon, VB_INFLATE);
+    EXPECT(result.code == VB_BROKEN && result.rule == rule && result.configuration && result.discarded == 0);
+    EXPECT(resident(&guest, 600) && resident(&guest, 601) && guest.balloon.state.device.status == (15 | 64));
+    EXPECT(used_index(&guest, VB_INFLATE) == 0 && guest.balloon.state.device.inflate.next_avail == 0);
+    result = balloon_notify(&guest.balloon, VB_INFLATE);
+    EXPECT(result.code == VB_NEEDS_RESET && !result.configuration);
+    start_features(&guest, LINUX_FEATURES, 8);
+    EXPECT(balloon_write_status(&guest.balloon, 15, &result) == 0);
+    name_pages(&guest, VB_INFLATE, pages, 1);
+    EXPECT(balloon_notify(&guest.balloon, VB_INFLATE).discarded == 1 && !resident(&guest, 600));
+    free_memory(&guest);
+}
+
+static void wrong_pages_are_skipped(void)
+{
+    static struct guest guest;
+    const uint32_t pages[] = { 600, 6144, 16, UINT32_MAX, 15, 601, 0, 6143 };
+    VbSettings settings = SKIPS;
+    settings.reserved_pages = 16;
+    settings.memory_end = 24ull * MIB + 4095;   /* the last part of a page doesn't count */
+    start(&guest, 0, settings, LINUX_FEATURES, 8);
+    memset(at(&guest, 600 * 4096), 1, 2 * 4096);
+    memset(at(&guest, 6143ull * 4096), 1, 4096);
+    name_pages(&guest, VB_INFLATE, pages, 8);
+    struct balloon_result result = balloon_notify(&guest.balloon, VB_INFLATE);
+    EXPECT(result.code == VB_OK && result.pages == 4 && result.skipped == 4 && result.discarded == 4);
+    EXPECT(!resident(&guest, 600) && !resident(&guest, 601) && !resident(&guest, 6143));
+    EXPECT(used_index(&guest, VB_INFLATE) == 1 && guest.balloon.state.device.status == 15);
+    free_memory(&guest);
+}
+
+/* ---- a device moves */
+
+/* The state goes to another balloon over a copy of the memory, and the driver goes on where it stood. */
+static void a_device_moves(void)
+{
+    static struct guest guest, other;
+    const uint32_t pages[] = { 700, 701 };
+    start(&guest, 0, REFUSES, LINUX_FEATURES, 4);
+    for (int i = 0; i < 3; i++) {
+        name_pages(&guest, VB_DEFLATE, pages, 2);
+        EXPECT(balloon_notify(&guest.balloon, VB_DEFLATE).chains == 1);
+    }
+    make_memory(&other, 0);
+    EXPECT(balloon_init(&other.balloon, other.regions, 2, REFUSES) == VB_OK);
+    memcpy(other.regions[0].host, guest.regions[0].host, LOW_MIB * MIB);
+    memcpy(&other.balloon.state, &guest.balloon.state, sizeof other.balloon.state);
+    other.size = guest.size;
+    memcpy(other.published, guest.published, sizeof other.published);
+    name_pages(&other, VB_DEFLATE, pages, 1);
+    struct balloon_result result = balloon_notify(&other.balloon, VB_DEFLATE);
+    EXPECT(result.chains == 1 && result.pages == 1 && used_index(&other, VB_DEFLATE) == 4);
+    EXPECT(used_index(&guest, VB_DEFLATE) == 3);
+    free_memory(&guest);
+    free_memory(&other);
+}
+
+static void the_target_is_told(void)
+{
+    static struct guest guest;
+    uint8_t words[8];
+    start(&guest, 0, REFUSES, LINUX_FEATURES, 8);
+    EXPECT(!balloon_is_off_target(&guest.balloon));
+    balloon_set_target(&guest.balloon, 513);
+    balloon_read_config(&guest.balloon, 0, words, 8);
+    EXPECT(words[0] == 1 && words[1] == 2 && words[4] == 0 && balloon_is_off_target(&guest.balloon));
+    EXPECT(balloon_write_config(&guest.balloon, 4, words, 4) == VB_OK && !balloon_is_off_target(&guest.balloon));
+    EXPECT(balloon_write_config(&guest.balloon, 0, words, 4) == VB_BAD_ARGUMENT);
+    free_memory(&guest);
+}
+
+#define RUN(test) (test, puts("ok  " #test))
+
+int main(void)
+{
+    alarm(60);
+    RUN(settings_have_bounds());
+    RUN(linux_starts_on_pci());
+    RUN(linux_starts_on_uml());
+    RUN(queues_are_numbered_without_gaps());
+    RUN(status_is_refused());
+    RUN(configuration_is_little_endian());
+    RUN(places_are_refused());
+    RUN(pages_go_and_come(0));
+    RUN(pages_go_and_come(BALLOON_SHARED));
+    RUN(pages_go_and_come(BALLOON_PRIVATE));
+    RUN(neighbours_are_joined());
+    RUN(requests_are_cut_anyhow());
+    RUN(indices_wrap());
+    RUN(a_notice_has_an_end());
+    RUN(a_driver_never_stops());
+    RUN(pages_may_be_kept());
+    RUN(regions_may_touch());
+    RUN(regions_have_bounds());
+    RUN(queues_may_be_missing());
+    RUN(statistics_come());
+    RUN(one_buffer_is_held());
+    RUN(reports_are_discarded());
+    RUN(holes_are_skipped());
+    RUN(wrong_pages_are_refused(6144, 9));
+    RUN(wrong_pages_are_refused(UINT32_MAX, 9));
+    RUN(wrong_pages_are_refused(15, 10));
+    RUN(wrong_pages_are_refused(0, 10));
+    RUN(wrong_pages_are_skipped());
+    RUN(a_device_moves());
+    RUN(the_target_is_told());
+    return 0;
+}
