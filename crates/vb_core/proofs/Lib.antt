@@ -8,3 +8,5 @@ pub mod Chains
 pub mod NamedLaws
 pub mod ChainAgreement
 pub mod CopyLaws
+pub mod CountLemmas
+pub mod MarkLemmas

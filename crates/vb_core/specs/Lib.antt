@@ -13,3 +13,4 @@ pub mod Runs
 pub mod Name
 pub mod Report
 pub mod Statistics
+pub mod Ballooned

@@ -7,6 +7,7 @@
 #![tactic(auto)]
 
 mod asked;
+mod ballooned;
 mod config;
 mod copies;
 mod device;
@@ -26,6 +27,7 @@ mod tests;
 mod using;
 
 pub use asked::read_chain;
+pub use ballooned::{count_ballooned, is_ballooned, mark};
 pub use device::{Denial, Device};
 pub use kinds::Kind;
 pub use laws::{

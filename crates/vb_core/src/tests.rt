@@ -1,5 +1,6 @@
 //! What no clause says: rings of real drivers, requests from outside, and each call once.
 
+mod ballooned;
 mod real_rings;
 
 use crate::{Buffer, Denial, Device, Kind, Ring, Run, Settings, Statistic};

@@ -1,0 +1,158 @@
+//! The set of the pages in the balloon, as bits of words that the caller keeps.
+
+ghost use Rattle.std.specs.Prelude.{◌≡◌, ℕ, ◌+◌, ◌*◌, ◌/◌, ◌%◌, ◌^◌, ◌-◌, ◌<◌, ◌≤◌, ◌&&◌, ◌==◌};
+ghost use Rattle.std.specs.Prelude.{Bool, false, not, nat_le, nat_lt, length, min, if◌then◌else◌};
+ghost use Rattle.std.specs.List.{list_any};
+ghost use Rattle.vb_model.specs.Tests.{has_bit, is_in};
+ghost use Rattle.vb_bits.specs.declared.word.TheConstants.{WORD_BITS};
+ghost use Rattle.vb_core.specs.Runs.{pages_of_run, pages_of_runs};
+ghost use Rattle.vb_core.specs.Ballooned.{is_ballooned, ballooned_count, Puts, MarksBy};
+
+use crate::{Denial, Kind, Run};
+use vb_bits::WORD_BITS;
+
+/// Pages of a word of the set.
+const PAGES: u64 = WORD_BITS as u64;
+
+/// A word whose lowest bits are 1: so many of them, or all where that is more than a word has.
+fn low_ones(count: u64) -> u64
+    ensures { (k : ℕ) → k < WORD_BITS → has_bit result k ≡ nat_lt k count }
+{
+    if count < PAGES {
+        (1 << count) - 1
+    } else {
+        u64::MAX
+    }
+}
+
+/// The bits of a run's pages in the word of this number.
+fn bits_of_run(run: Run, word: u64) -> u64
+    requires { WORD_BITS * word < 2 ^ 64 }
+    ensures { (b : ℕ) → b < WORD_BITS →
+        has_bit result b ≡ is_in (WORD_BITS * word + b) (pages_of_run run) }
+{
+    let start = word * PAGES;
+    let first = u64::from(run.first);
+    let end = first + u64::from(run.count);
+    low_ones(end.saturating_sub(start)) & !low_ones(first.saturating_sub(start))
+}
+
+/// The word with the bits of a mask made 1, or 0.
+fn with_bits(word: u64, mask: u64, ones: bool) -> u64
+    ensures { (b : ℕ) → b < WORD_BITS →
+        has_bit result b ≡ (if has_bit mask b then ones else has_bit word b) }
+{
+    if ones { word | mask } else { word & !mask }
+}
+
+/// Puts the pages of a word that a mask has into the set, or takes them out, and answers how many
+/// changed.
+fn mark_word(set: &mut [u64], place: usize, mask: u64, inside: bool) -> u32
+    requires { place < length set.old }
+    ensures { Puts (λ p. p / WORD_BITS == place && has_bit mask (p % WORD_BITS)) inside
+        set.old set.new result }
+{
+    let old = set[place];
+    let new = with_bits(old, mask, inside);
+    set[place] = new;
+    (old ^ new).count_ones()
+}
+
+/// Whether each page of a run has a bit in so many words.
+fn has_bits(run: Run, words: usize) -> bool
+    ensures { result ≡ not (list_any (λ p. nat_le (WORD_BITS * words) p) (pages_of_run run)) }
+{
+    if run.count == 0 {
+        return true;
+    }
+    let last = u64::from(run.first) + u64::from(run.count) - 1;
+    last / PAGES < words as u64
+}
+
+/// Whether each page of all runs has a bit in so many words.
+fn have_bits(runs: &[Run], words: usize) -> bool
+    ensures { result ≡
+        not (list_any (λ p. nat_le (WORD_BITS * words) p) (pages_of_runs runs.now)) }
+{
+    for run in runs {
+        if !has_bits(*run, words) {
+            return false;
+        }
+    }
+    true
+}
+
+/// Puts the pages of a run into the set, or takes them out, a word at a time, and answers how many
+/// changed.
+fn mark_run(set: &mut [u64], run: Run, inside: bool) -> u64
+    requires { list_any (λ p. nat_le (WORD_BITS * length set.old) p) (pages_of_run run) ≡ false }
+    ensures put { Puts (λ p. is_in p (pages_of_run run)) inside set.old set.new result }
+    ensures small { (p : ℕ) → 2 ^ 33 ≤ p → is_in p (pages_of_run run) ≡ false }
+{
+    if run.count == 0 {
+        return 0;
+    }
+    let first = u64::from(run.first);
+    let last = first + u64::from(run.count) - 1;
+    let mut changed = 0;
+    for word in first / PAGES..last / PAGES + 1 {
+        let mask = bits_of_run(run, word);
+        changed += u64::from(mark_word(set, word as usize, mask, inside));
+    }
+    changed
+}
+
+/// Puts the pages of all runs into the set, or takes them out, and answers how many changed.
+fn mark_runs(set: &mut [u64], runs: &[Run], inside: bool) -> u64
+    requires { list_any (λ p. nat_le (WORD_BITS * length set.old) p) (pages_of_runs runs.now)
+        ≡ false }
+    ensures { Puts (λ p. is_in p (pages_of_runs runs.now)) inside set.old set.new result }
+{
+    let mut changed = 0;
+    for run in runs {
+        changed += mark_run(set, *run, inside);
+    }
+    changed
+}
+
+/// Puts the pages of the runs that `Device::name` answered into the set, where they are an
+/// inflate's, or takes them out, where they are a deflate's (VIRTIO 1.1, 5.5.6), and answers how
+/// many pages that changed: one that is named twice, or was there already, counts no more than once.
+/// Page p is bit p % 64 of word p / 64. An empty set is zeros; so it is again where the driver
+/// resets the device.
+///
+/// Refused, tested in this order: `NoQueue` for another kind; `BadArgument` where a page of a run
+/// has no bit in so many words. Then nothing is changed.
+pub fn mark(kind: Kind, runs: &[Run], set: &mut [u64]) -> Result<u64, Denial>
+    ensures { MarksBy kind runs.now set.old set.new result }
+{
+    if !kind.is_request() {
+        return Err(Denial::NoQueue);
+    }
+    if !have_bits(runs, set.len()) {
+        return Err(Denial::BadArgument);
+    }
+    Ok(mark_runs(set, runs, kind == Kind::Inflate))
+}
+
+/// Whether a page is in the set; none behind the words is.
+pub fn is_ballooned(set: &[u64], page: u32) -> bool
+    ensures { result ≡ is_ballooned set.now page }
+{
+    match set.get((page / WORD_BITS) as usize) {
+        Some(word) => *word >> (page % WORD_BITS) & 1 == 1,
+        None => false,
+    }
+}
+
+/// How many pages are in the set, counted word by word. A number past 2^64 - 1, which no memory
+/// has room for, is answered as that.
+pub fn count_ballooned(set: &[u64]) -> u64
+    ensures { result ≡ min (ballooned_count set.now) (2 ^ 64 - 1) }
+{
+    let mut count: u64 = 0;
+    for word in set {
+        count = count.saturating_add(u64::from(word.count_ones()));
+    }
+    count
+}
