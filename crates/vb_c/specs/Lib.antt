@@ -1,4 +1,5 @@
 pub mod Codes
 pub mod Answers
 pub mod Chains
+pub mod Marks
 pub mod Registers

@@ -4,4 +4,5 @@
 
 mod answers;
 mod chains;
+mod marks;
 mod registers;

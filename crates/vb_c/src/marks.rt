@@ -1,0 +1,58 @@
+//! The set of the pages in the balloon, as words of the caller's.
+
+ghost use Rattle.std.specs.Prelude.{◌≡◌, ◌-◌, ◌^◌, min};
+ghost use Rattle.vb_model.specs.Tests.{one_if};
+ghost use Rattle.vb_core.specs.Ballooned.{is_ballooned, ballooned_count};
+ghost use Rattle.vb_c.specs.Codes.{kind_of_code};
+ghost use Rattle.vb_c.specs.Marks.{marked_of, MarksFor};
+
+use crate::answers::{OK, code_of, kind_of_code};
+use vb_core::{Denial, Run, count_ballooned, is_ballooned, mark};
+
+/// How many pages were put into the set, or taken out of it.
+#[repr(C)]
+#[derive(Clone, Copy, Debug)]
+pub struct VbMarked {
+    pub code: u32,
+    pub pages: u64,
+}
+
+/// The answer of a call that marks pages.
+fn marked_of(answer: Result<u64, Denial>) -> VbMarked
+    ensures { result ≡ marked_of answer }
+{
+    match answer {
+        Ok(pages) => VbMarked { code: OK, pages },
+        Err(why) => VbMarked {
+            code: code_of(why),
+            pages: 0,
+        },
+    }
+}
+
+/// Puts the pages of an inflate's runs into the set, or takes those of a deflate's out.
+#[unsafe(no_mangle)]
+pub extern "C" fn vb_mark(kind: u32, runs: &[Run], set: &mut [u64]) -> VbMarked
+    ensures { MarksFor (kind_of_code kind) runs.now set.old set.new result }
+{
+    match kind_of_code(kind) {
+        None => marked_of(Err(Denial::NoQueue)),
+        Some(kind) => marked_of(mark(kind, runs, set)),
+    }
+}
+
+/// 1 where the page is in the set, else 0.
+#[unsafe(no_mangle)]
+pub extern "C" fn vb_is_ballooned(set: &[u64], page: u32) -> u32
+    ensures { result ≡ one_if (is_ballooned set.now page) }
+{
+    u32::from(is_ballooned(set, page))
+}
+
+/// How many pages are in the set.
+#[unsafe(no_mangle)]
+pub extern "C" fn vb_count_ballooned(set: &[u64]) -> u64
+    ensures { result ≡ min (ballooned_count set.now) (2 ^ 64 - 1) }
+{
+    count_ballooned(set)
+}
