@@ -15,6 +15,9 @@ VbNamed reference_name(VbDevice *, uint32_t, const uint8_t *, size_t, VbRun *, s
 VbNamed reference_report(VbDevice *, const uint8_t *, size_t, const uint8_t *, size_t, VbRun *, size_t);
 VbFigures reference_statistics(VbDevice *, const uint8_t *, size_t, VbStatistic *, size_t);
 VbUsed reference_use(VbDevice *, uint32_t, uint32_t);
+VbMarked reference_mark(uint32_t, const VbRun *, size_t, uint64_t *, size_t);
+uint32_t reference_is_ballooned(const uint64_t *, size_t, uint32_t);
+uint64_t reference_count_ballooned(const uint64_t *, size_t);
 
 enum { CALLS = 1000000, ARENA = 16 * 4096 };
 
@@ -242,9 +245,43 @@ static void call_driver(void)
     EXPECT(device.target == kind && (device.target = twin.target, same(&device, &twin)));
 }
 
+/* A run of a set of so many words: mostly within it, at an end of a word as often as not. */
+static VbRun any_run(size_t words)
+{
+    VbRun run = { (uint32_t)(any() % (64 * words + 1)), (uint32_t)(once_in(2) ? any() % 300 : any() % 3) };
+    if (once_in(2))
+        run.first -= run.first % 64;
+    if (once_in(16))
+        run = (VbRun){ (uint32_t)any_number(), (uint32_t)any_number() };
+    return !once_in(16) && run.first + (uint64_t)run.count > 64 * words ? (VbRun){ run.first, 0 } : run;
+}
+
+static void call_mark(void)
+{
+    static uint64_t before[64], twin[64];
+    uint32_t kind = once_in(8) ? (uint32_t)any_number() : any() % 2;
+    size_t words = any() % 65, count = any() % 8;
+    VbRun *runs = list_of(0, count * sizeof *runs);
+    uint64_t *set = list_of(1, words * sizeof *set);
+    for (size_t i = 0; i < count; i++)
+        runs[i] = any_run(words);
+    for (size_t i = 0; i < words; i++)
+        set[i] = before[i] = twin[i] = once_in(4) ? 0 : once_in(4) ? UINT64_MAX : any();
+    VbMarked why = reference_mark(kind, runs, count, twin, words), marked = vb_mark(kind, runs, count, set, words);
+    EXPECT(marked.code == why.code && marked.pages == why.pages && memcmp(set, twin, words * sizeof *set) == 0);
+    EXPECT(marked.code == VB_OK || memcmp(set, before, words * sizeof *set) == 0);
+    uint64_t members = vb_count_ballooned(set, words), others = vb_count_ballooned(before, words);
+    EXPECT(members == reference_count_ballooned(set, words));
+    EXPECT(marked.code != VB_OK || members == (kind == VB_INFLATE ? others + marked.pages : others - marked.pages));
+    uint32_t page = (uint32_t)(once_in(4) ? any_number() : any() % (64 * words + 2));
+    EXPECT(vb_is_ballooned(set, words, page) == reference_is_ballooned(set, words, page));
+    answers[marked.code]++;
+}
+
 int main(int count, char **words)
 {
-    void (*const calls[])(void) = { call_next, call_name, call_report, call_statistics, call_use, call_driver };
+    void (*const calls[])(void) = { call_next, call_name, call_report, call_statistics, call_use, call_driver,
+                                    call_mark };
     unsigned long long most = count > 1 ? strtoull(words[1], NULL, 10) : CALLS;
     alarm(600);
     for (int i = 0; i < 3; i++) {
@@ -253,7 +290,7 @@ int main(int count, char **words)
         arena_ends[i] = all + ARENA;
     }
     for (unsigned long long i = 0; i < most; i++)
-        calls[i % 6]();
+        calls[i % 7]();
     printf("ok  %llu calls of any arguments; answers by code:", most);
     for (int code = VB_OK; code <= VB_BAD_ARGUMENT; code++) {
         printf(" %llu", (unsigned long long)answers[code]);

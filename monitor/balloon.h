@@ -62,6 +62,12 @@ struct balloon {
     /* Discards bytes of a region, whole pages, in place of balloon_discard_bytes; 0 or an errno. */
     int (*discard)(void *context, const struct balloon_region *region, uint64_t at, uint64_t length);
 
+    /* The set of the pages in the balloon, or NULL: words of the monitor's, zeros at first, page p bit p % 64 of word
+     * p / 64 (vb_is_ballooned, vb_count_ballooned). A page is put in before it is discarded, and taken out before its
+     * chain is given back; a reset empties the set. Save and restore it beside the state. */
+    uint64_t *ballooned;
+    size_t ballooned_words;     /* for all pages: memory_end / 4096 / 64, rounded up */
+
     /* The private copies, and what the core makes of them. */
     _Alignas(8) uint8_t avail[4 + 2 * VB_MAX_QUEUE_SIZE];
     _Alignas(8) uint8_t table[16 * VB_MAX_QUEUE_SIZE];
@@ -82,6 +88,8 @@ struct balloon_result {
     uint64_t pages;             /* named by inflates, deflates and reports */
     uint64_t discarded;         /* of these, discarded */
     uint64_t skipped;           /* numbers past the end or of reserved pages */
+    uint64_t marked;            /* pages put into the set of ballooned pages, or taken out of it */
+    uint64_t unmarked;          /* pages of requests that the set hasn't enough words for: it is as before them */
     uint64_t in_holes;          /* pages to discard that lie in no region */
     uint64_t kept;              /* pages that the machine failed to discard, for the reason `error` */
     int error;
@@ -287,6 +295,20 @@ static inline bool balloon_write_used(const struct balloon *balloon, const VbUse
     return true;
 }
 
+/* ---- the set of the pages in the balloon */
+
+/* Puts the pages of a request's runs in, or takes them out, where there is a set. */
+static inline void balloon_mark(const struct balloon *balloon, uint32_t kind, const VbNamed *named,
+                                struct balloon_result *result)
+{
+    if (!balloon->ballooned || kind == VB_REPORT)
+        return;
+    VbMarked marked = vb_mark(kind, balloon->runs, named->runs, balloon->ballooned, balloon->ballooned_words);
+    result->marked += marked.pages;
+    if (marked.code != VB_OK)
+        result->unmarked += named->pages;
+}
+
 /* ---- serving */
 
 /* Bytes that should be memory lie in a hole: the core sees one range without holes, so this is told here. */
@@ -320,6 +342,7 @@ static inline uint32_t balloon_finish(struct balloon *balloon, uint32_t kind, ui
     }
     result->pages += named->pages;
     result->skipped += named->skipped;
+    balloon_mark(balloon, kind, named, result);
     if (kind != VB_DEFLATE)
         balloon_discard_runs(balloon, named->runs, result);
     if (balloon->on_pages)
@@ -491,6 +514,8 @@ static inline void balloon_add_result(struct balloon_result *all, const struct b
     all->pages += one->pages;
     all->discarded += one->discarded;
     all->skipped += one->skipped;
+    all->marked += one->marked;
+    all->unmarked += one->unmarked;
     all->in_holes += one->in_holes;
     all->kept += one->kept;
     all->error = one->error ? one->error : all->error;
@@ -519,6 +544,8 @@ static inline uint32_t balloon_write_status(struct balloon *balloon, uint8_t sta
         return answer;
     if (status == 0)
         balloon->state.held = 0;
+    if (status == 0 && balloon->ballooned)
+        memset(balloon->ballooned, 0, balloon->ballooned_words * sizeof *balloon->ballooned);
     if ((device->status & BALLOON_DRIVER_OK) && !(before & BALLOON_DRIVER_OK))
         *result = balloon_notify_all(balloon);
     return 0;

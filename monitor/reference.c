@@ -428,3 +428,33 @@ VbUsed vb_use(VbDevice *device, uint32_t kind, uint32_t head)
     used.index = ++queue->next_used;
     return used;
 }
+
+/* ---- the set of the pages in the balloon */
+
+VbMarked vb_mark(uint32_t kind, const VbRun *runs, size_t count, uint64_t *set, size_t words)
+{
+    VbMarked marked = { .code = kind > VB_DEFLATE ? VB_NO_QUEUE : VB_OK };
+    for (size_t i = 0; i < count && marked.code == VB_OK; i++)
+        if (runs[i].count > 0 && ((uint64_t)runs[i].first + runs[i].count - 1) / 64 >= words)
+            marked.code = VB_BAD_ARGUMENT;
+    for (size_t i = 0; i < count && marked.code == VB_OK; i++)
+        for (uint64_t page = runs[i].first; page < (uint64_t)runs[i].first + runs[i].count; page++)
+            if ((set[page / 64] >> page % 64 & 1) != (kind == VB_INFLATE)) {
+                set[page / 64] ^= 1ull << page % 64;
+                marked.pages++;
+            }
+    return marked;
+}
+
+uint32_t vb_is_ballooned(const uint64_t *set, size_t words, uint32_t page)
+{
+    return page / 64 < words && (set[page / 64] >> page % 64 & 1);
+}
+
+uint64_t vb_count_ballooned(const uint64_t *set, size_t words)
+{
+    uint64_t count = 0;
+    for (size_t i = 0; i < words; i++)
+        count += (uint64_t)__builtin_popcountll(set[i]);
+    return count;
+}

@@ -14,4 +14,7 @@
 #define vb_report reference_report
 #define vb_statistics reference_statistics
 #define vb_use reference_use
+#define vb_mark reference_mark
+#define vb_is_ballooned reference_is_ballooned
+#define vb_count_ballooned reference_count_ballooned
 #endif

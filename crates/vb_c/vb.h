@@ -62,6 +62,7 @@ typedef struct { uint32_t code, rule, head, pieces, bytes; } VbChain;
 typedef struct { uint32_t code, rule, head, runs, pages, skipped; } VbNamed;
 typedef struct { uint32_t code, rule, count; } VbFigures;
 typedef struct { uint32_t code; uint64_t element_at, index_at; uint32_t id, length; uint16_t index; } VbUsed;
+typedef struct { uint32_t code; uint64_t pages; } VbMarked;
 
 /* Makes a device that waits for its driver. VB_OK or VB_BAD_ARGUMENT. */
 uint32_t vb_new(VbDevice *device, VbSettings settings);
@@ -105,6 +106,20 @@ VbFigures vb_statistics(VbDevice *device, const uint8_t *bytes, size_t length, V
  * at index_at, then interrupt. An inflate's pages are discarded before. VB_OK, or why not, and then nothing moves: a head
  * that is no descriptor of the queue, which has none without a place, is VB_BAD_ARGUMENT. */
 VbUsed vb_use(VbDevice *device, uint32_t kind, uint32_t head);
-/* Refusals are tested in this order: VB_NO_QUEUE for a kind that the call isn't for, VB_BAD_ARGUMENT, VB_NOT_READY,
- * VB_NEEDS_RESET, VB_NO_QUEUE for a feature, VB_MISPLACED; then VB_BROKEN, VB_NOTHING or VB_OK. */
+
+/* The set of the pages in the balloon, for a monitor that wants to know them: words of its own, where page p is bit
+ * p % 64 of word p / 64. Zeros are the empty set, and so it is again once the driver resets the device. */
+
+/* After vb_name answered VB_OK: puts the pages of its runs into the set (VB_INFLATE), or takes them out (VB_DEFLATE).
+ * `pages`: how many that changed; one that is named twice, or was so before, counts no more than once. VB_OK; VB_NO_QUEUE
+ * for another kind; VB_BAD_ARGUMENT where a page of any run is past the last word's, and then nothing is changed. */
+VbMarked vb_mark(uint32_t kind, const VbRun *runs, size_t count, uint64_t *set, size_t words);
+/* 1 where the page is in the set, else 0, as for each page past the last word's. */
+uint32_t vb_is_ballooned(const uint64_t *set, size_t words, uint32_t page);
+/* How many pages are in the set: all words are looked at. */
+uint64_t vb_count_ballooned(const uint64_t *set, size_t words);
+
+/* Refusals of the calls on a device are tested in this order: VB_NO_QUEUE for a kind that the call isn't for,
+ * VB_BAD_ARGUMENT, VB_NOT_READY, VB_NEEDS_RESET, VB_NO_QUEUE for a feature, VB_MISPLACED; then VB_BROKEN, VB_NOTHING or
+ * VB_OK. */
 #endif
