@@ -1,6 +1,7 @@
 //! A frame of the host.
 
-ghost use Rattle.std.specs.Prelude.{◌≡◌, ◌+◌, ◌≤◌, IfOk, IfErr, length};
+ghost use Rattle.std.specs.Prelude.{◌≡◌, ◌+◌, ◌≤◌, IfOk, IfErr, length, vec_capacity};
+ghost use Rattle.vb_ram.specs.Blank.{shown, HoldsPage};
 ghost use Rattle.vb_ram.specs.Put.{PutAt};
 ghost use Rattle.vb_model.specs.Guest.{zero_page};
 ghost use Rattle.vb_model.specs.declared.limits.TheConstants.{PAGE_SIZE};
@@ -13,26 +14,30 @@ use vb_model::limits;
 /// The bytes of a page, and of a frame.
 pub const PAGE_SIZE: usize = limits::PAGE_SIZE as usize;
 
+/// The bytes of a frame that nothing was written to.
+static ZEROS: [u8; PAGE_SIZE] = [0; PAGE_SIZE];
+
 /// A frame of the host: a number, and `PAGE_SIZE` bytes. It can't be cloned, so whoever has it is
 /// the only one; that no other frame has its number is for those who make frames to keep.
 #[derive(Drop)]
 pub struct Frame {
     /// Which of the host's frames it is.
     number: u32,
-    /// Its bytes, `PAGE_SIZE` of them.
+    /// Its bytes, `PAGE_SIZE` of them, or none while nothing was written to it and all of them are
+    /// zeros. There is room for them from the start.
     bytes: Vec<u8>,
 }
 
 impl Model for Frame {
-    ghost use Rattle.std.specs.Prelude.{◌≡◌, vec_len};
+    ghost use Rattle.std.specs.Prelude.{vec_capacity};
+    ghost use Rattle.vb_ram.specs.Blank.{shown, HoldsPage};
     ghost use Rattle.vb_ram.specs.Pages.{Page};
-    ghost use Rattle.vb_model.specs.declared.limits.TheConstants.{PAGE_SIZE};
 
     ghost Value = { Page };
 
-    ghost view = { λ f. record { number = f.number; bytes = f.bytes.items } };
+    ghost view = { λ f. record { number = f.number; bytes = shown f.bytes.items } };
 
-    ghost invariant = { λ f. vec_len f.bytes ≡ PAGE_SIZE };
+    ghost invariant = { λ f. HoldsPage f.bytes.items (vec_capacity f.bytes) };
 }
 
 impl Frame {
@@ -41,7 +46,7 @@ impl Frame {
         ensures ok { IfOk result (λ frame. frame ≡ record { number = number; bytes = zero_page }) }
         ensures err { IfErr result (λ fault. fault ≡ RamFault.Memory) }
     {
-        let bytes = vec![in alloc; 0; PAGE_SIZE]?;
+        let bytes = Vec::with_capacity(alloc, PAGE_SIZE)?;
         Ok(Frame { number, bytes })
     }
 
@@ -58,14 +63,17 @@ impl Frame {
         ensures bytes { result.now ≡ self.now.bytes }
         ensures whole { length result.now ≡ PAGE_SIZE }
     {
+        if self.bytes.is_empty() {
+            return &ZEROS;
+        }
         &self.bytes
     }
 
-    /// Makes all bytes zeros.
+    /// Makes all bytes zeros: they are forgotten.
     pub(crate) fn clear(&mut self)
         ensures { self.new ≡ record self.old { bytes = zero_page } }
     {
-        self.bytes.fill(0);
+        self.bytes.clear();
     }
 
     /// Writes bytes from an offset on.
@@ -76,7 +84,23 @@ impl Frame {
         ensures len { length self.new.bytes ≡ length self.old.bytes }
         ensures whole { length self.new.bytes ≡ PAGE_SIZE }
     {
+        hold_zeros(&mut self.bytes);
         put_bytes(&mut self.bytes, offset, bytes);
+    }
+}
+
+/// Writes the zeros of a frame that nothing was written to; any other stays as it is.
+#[inline]
+fn hold_zeros(bytes: &mut Vec<u8>)
+    requires { HoldsPage bytes.old.items (vec_capacity bytes.old) }
+    ensures shown { bytes.new.items ≡ shown bytes.old.items }
+    ensures room { vec_capacity bytes.old ≤ vec_capacity bytes.new }
+{
+    if bytes.is_empty() {
+        match bytes.resize(PAGE_SIZE, 0) {
+            Ok(()) => (),
+            Err(_) => unreachable!(),
+        }
     }
 }
 

@@ -8,7 +8,7 @@ ghost use Rattle.vb_reply.specs.Held.{Puts};
 
 use arrayvec::ArrayVec;
 use std::io;
-use std::io::Write;
+use std::io::{ErrorKind, Write};
 
 /// Bytes that are held back at most.
 const HELD: usize = 8192;
@@ -17,62 +17,127 @@ const HELD: usize = 8192;
 const CHUNK: usize = 256;
 
 /// What is held back.
-pub type Held = ArrayVec<u8, HELD>;
+#[derive(Drop)]
+pub struct Held {
+    pub text: ArrayVec<u8, HELD>,
+    /// Why a write to the writer failed, once one did.
+    pub fault: Option<io::Error>,
+}
+
+/// A write to the writer failed, and what is held for it knows why. An `io::Error` is large, and is
+/// carried through no call that puts a text.
+#[derive(Clone, Copy)]
+pub struct Failed;
+
+impl Held {
+    /// Nothing is held back yet.
+    pub fn new() -> Held
+        ensures { result.text.items ≡ [] }
+    {
+        Held {
+            text: ArrayVec::new(),
+            fault: None,
+        }
+    }
+
+    /// Why a write failed.
+    pub fn into_fault(self) -> io::Error {
+        match self.fault {
+            Some(fault) => fault,
+            None => io::Error::from(ErrorKind::Other),
+        }
+    }
+}
 
 /// Puts a text behind what a writer has and what is held for it.
-pub fn put<W: Write>(out: &mut W, held: &mut Held, text: &[u8]) -> io::Result<()>
+#[inline]
+pub fn put<W: Write>(out: &mut W, held: &mut Held, text: &[u8]) -> Result<(), Failed>
     ensures { OnOk result
-        (Puts (W.contents out.old) held.old.items (W.contents out.new) held.new.items text.now) }
+        (Puts (W.contents out.old) held.old.text.items (W.contents out.new)
+        held.new.text.items text.now) }
 {
-    match held.try_extend_from_slice(text) {
+    match held.text.try_extend_from_slice(text) {
         Ok(()) => Ok(()),
         Err(_full) => put_through(out, held, text),
     }
 }
 
 /// Writes what is held, and the text behind it.
-fn put_through<W: Write>(out: &mut W, held: &mut Held, text: &[u8]) -> io::Result<()>
+#[cold]
+fn put_through<W: Write>(out: &mut W, held: &mut Held, text: &[u8]) -> Result<(), Failed>
     ensures { OnOk result
-        (Puts (W.contents out.old) held.old.items (W.contents out.new) held.new.items text.now) }
+        (Puts (W.contents out.old) held.old.text.items (W.contents out.new)
+        held.new.text.items text.now) }
 {
     release(out, held)?;
-    out.write_all(text)?;
+    write(out, &mut held.fault, text)?;
     Ok(())
 }
 
-/// Writes what is held, and holds nothing then.
-pub fn release<W: Write>(out: &mut W, held: &mut Held) -> io::Result<()>
-    ensures written { OnOk result
-        (Appends (W.contents out.old) (W.contents out.new) held.old.items) }
-    ensures empty { OnOk result (held.new.items ≡ []) }
+/// Writes a text, and keeps why that failed.
+fn write<W: Write>(out: &mut W, fault: &mut Option<io::Error>, text: &[u8]) -> Result<(), Failed>
+    ensures { OnOk result (Appends (W.contents out.old) (W.contents out.new) text.now) }
 {
-    out.write_all(held.as_slice())?;
-    held.clear();
+    match out.write_all(text) {
+        Ok(()) => Ok(()),
+        Err(why) => {
+            *fault = Some(why);
+            Err(Failed)
+        }
+    }
+}
+
+/// Writes what is held, and holds nothing then.
+pub fn release<W: Write>(out: &mut W, held: &mut Held) -> Result<(), Failed>
+    ensures written { OnOk result
+        (Appends (W.contents out.old) (W.contents out.new) held.old.text.items) }
+    ensures empty { OnOk result (held.new.text.items ≡ []) }
+{
+    write(out, &mut held.fault, held.text.as_slice())?;
+    held.text.clear();
     Ok(())
 }
 
 /// Puts a number in decimal digits.
-pub fn put_number<W: Write>(out: &mut W, held: &mut Held, number: u64) -> io::Result<()>
-    ensures { OnOk result (Puts (W.contents out.old) held.old.items (W.contents out.new)
-        held.new.items (decimal number)) }
+#[inline]
+pub fn put_number<W: Write>(out: &mut W, held: &mut Held, number: u64) -> Result<(), Failed>
+    ensures { OnOk result (Puts (W.contents out.old) held.old.text.items (W.contents out.new)
+        held.new.text.items (decimal number)) }
+{
+    if number < 10 {
+        return put(out, held, &[b'0' + number as u8]);
+    }
+    put_digits_of(out, held, number)
+}
+
+/// The same, whatever the number.
+fn put_digits_of<W: Write>(out: &mut W, held: &mut Held, number: u64) -> Result<(), Failed>
+    ensures { OnOk result (Puts (W.contents out.old) held.old.text.items (W.contents out.new)
+        held.new.text.items (decimal number)) }
 {
     let mut digits = itoa::Buffer::new();
     put(out, held, digits.format(number).as_bytes())
 }
 
 /// Puts a number behind a text.
-pub fn put_with<W: Write>(out: &mut W, held: &mut Held, text: &[u8], number: u32) -> io::Result<()>
-    ensures { OnOk result (Puts (W.contents out.old) held.old.items (W.contents out.new)
-        held.new.items (text.now ++ decimal number)) }
+#[inline]
+pub fn put_with<W: Write>(
+    out: &mut W,
+    held: &mut Held,
+    text: &[u8],
+    number: u32,
+) -> Result<(), Failed>
+    ensures { OnOk result (Puts (W.contents out.old) held.old.text.items (W.contents out.new)
+        held.new.text.items (text.now ++ decimal number)) }
 {
     put(out, held, text)?;
     put_number(out, held, u64::from(number))
 }
 
 /// Puts bytes as hexadecimal digits of lower case, two a byte.
-pub fn put_digits<W: Write>(out: &mut W, held: &mut Held, bytes: &[u8]) -> io::Result<()>
-    ensures { OnOk result (Puts (W.contents out.old) held.old.items (W.contents out.new)
-        held.new.items (encode_lower bytes.now)) }
+pub fn put_digits<W: Write>(out: &mut W, held: &mut Held, bytes: &[u8]) -> Result<(), Failed>
+    ensures { OnOk result (Puts (W.contents out.old) held.old.text.items (W.contents out.new)
+        held.new.text.items (encode_lower bytes.now)) }
 {
     if bytes.len() <= CHUNK {
         return put_chunk(out, held, bytes);
@@ -84,10 +149,10 @@ pub fn put_digits<W: Write>(out: &mut W, held: &mut Held, bytes: &[u8]) -> io::R
 }
 
 /// The same of no more bytes than are made digits of at once.
-fn put_chunk<W: Write>(out: &mut W, held: &mut Held, bytes: &[u8]) -> io::Result<()>
+fn put_chunk<W: Write>(out: &mut W, held: &mut Held, bytes: &[u8]) -> Result<(), Failed>
     requires { length bytes.now ≤ 256 }
-    ensures { OnOk result (Puts (W.contents out.old) held.old.items (W.contents out.new)
-        held.new.items (encode_lower bytes.now)) }
+    ensures { OnOk result (Puts (W.contents out.old) held.old.text.items (W.contents out.new)
+        held.new.text.items (encode_lower bytes.now)) }
 {
     let mut digits = [0u8; 2 * CHUNK];
     let text = &mut digits[..2 * bytes.len()];

@@ -12,7 +12,7 @@ ghost use Rattle.vb_reply.specs.Replies.{bytes_text, counts_text, freed_text, li
 ghost use Rattle.vb_reply.specs.Replies.{refusal_text, reply_text, run_text, runs_text};
 ghost use Rattle.vb_reply.specs.Replies.{statistic_text, target_text, targets_text};
 
-use crate::held::{Held, put, put_digits, put_number, put_with, release};
+use crate::held::{Failed, Held, put, put_digits, put_number, put_with, release};
 use std::io;
 use std::io::Write;
 use vb_model::{PageRun, PlaceCounts, Refusal, Reply};
@@ -22,10 +22,11 @@ use vb_model::{PageRun, PlaceCounts, Refusal, Reply};
 pub fn write_reply<W: Write>(out: &mut W, reply: &Reply) -> io::Result<()>
     ensures { OnOk result (Appends (W.contents out.old) (W.contents out.new) (line_of reply.now)) }
 {
-    let mut line = Held::new();
-    put_line(out, &mut line, reply)?;
-    release(out, &mut line)?;
-    Ok(())
+    let mut held = Held::new();
+    match put_only(out, &mut held, reply) {
+        Ok(()) => Ok(()),
+        Err(Failed) => Err(held.into_fault()),
+    }
 }
 
 /// Writes what events were answered, a line each. Many lines go to `out` at once; no memory is
@@ -35,27 +36,49 @@ pub fn write_replies<W: Write>(out: &mut W, replies: &[Reply]) -> io::Result<()>
         (Appends (W.contents out.old) (W.contents out.new) (flat_map line_of replies.now)) }
 {
     let mut held = Held::new();
-    for reply in replies {
-        put_line(out, &mut held, reply)?;
+    match put_all(out, &mut held, replies) {
+        Ok(()) => Ok(()),
+        Err(Failed) => Err(held.into_fault()),
     }
-    release(out, &mut held)?;
+}
+
+/// Writes what an event was answered as one line, and holds nothing then.
+fn put_only<W: Write>(out: &mut W, line: &mut Held, reply: &Reply) -> Result<(), Failed>
+    requires { line.old.text.items ≡ [] }
+    ensures { OnOk result (Appends (W.contents out.old) (W.contents out.new) (line_of reply.now)) }
+{
+    put_line(out, line, reply)?;
+    release(out, line)?;
+    Ok(())
+}
+
+/// Writes what events were answered, a line each, and holds nothing then.
+fn put_all<W: Write>(out: &mut W, held: &mut Held, replies: &[Reply]) -> Result<(), Failed>
+    requires { held.old.text.items ≡ [] }
+    ensures { OnOk result
+        (Appends (W.contents out.old) (W.contents out.new) (flat_map line_of replies.now)) }
+{
+    for reply in replies {
+        put_line(out, held, reply)?;
+    }
+    release(out, held)?;
     Ok(())
 }
 
 /// Puts what an event was answered as one line.
-fn put_line<W: Write>(out: &mut W, held: &mut Held, reply: &Reply) -> io::Result<()>
-    ensures { OnOk result (Puts (W.contents out.old) held.old.items (W.contents out.new)
-        held.new.items (line_of reply.now)) }
+fn put_line<W: Write>(out: &mut W, held: &mut Held, reply: &Reply) -> Result<(), Failed>
+    ensures { OnOk result (Puts (W.contents out.old) held.old.text.items (W.contents out.new)
+        held.new.text.items (line_of reply.now)) }
 {
     put_text(out, held, reply)?;
     put(out, held, b"\n")
 }
 
 /// Puts what an event was answered.
-fn put_text<W: Write>(out: &mut W, held: &mut Held, reply: &Reply) -> io::Result<()>
+fn put_text<W: Write>(out: &mut W, held: &mut Held, reply: &Reply) -> Result<(), Failed>
     ensures { OnOk result
-        (Puts (W.contents out.old) held.old.items (W.contents out.new)
-        held.new.items (reply_text reply.now)) }
+        (Puts (W.contents out.old) held.old.text.items (W.contents out.new)
+        held.new.text.items (reply_text reply.now)) }
 {
     match reply {
         Reply::Done => put(out, held, b"ok"),
@@ -101,18 +124,18 @@ fn freed_word(freed: bool) -> &'static [u8]
 }
 
 /// Puts the number of a new guest.
-fn put_plugged<W: Write>(out: &mut W, held: &mut Held, guest: usize) -> io::Result<()>
-    ensures { OnOk result (Puts (W.contents out.old) held.old.items (W.contents out.new)
-        held.new.items (reply_text (Plugged guest))) }
+fn put_plugged<W: Write>(out: &mut W, held: &mut Held, guest: usize) -> Result<(), Failed>
+    ensures { OnOk result (Puts (W.contents out.old) held.old.text.items (W.contents out.new)
+        held.new.text.items (reply_text (Plugged guest))) }
 {
     put(out, held, b"guest ")?;
     put_number(out, held, guest as u64)
 }
 
 /// Puts the page that was visited, and whether it had a frame.
-fn put_worked<W: Write>(out: &mut W, held: &mut Held, page: u32, freed: bool) -> io::Result<()>
-    ensures { OnOk result (Puts (W.contents out.old) held.old.items (W.contents out.new)
-        held.new.items (reply_text (Worked page freed))) }
+fn put_worked<W: Write>(out: &mut W, held: &mut Held, page: u32, freed: bool) -> Result<(), Failed>
+    ensures { OnOk result (Puts (W.contents out.old) held.old.text.items (W.contents out.new)
+        held.new.text.items (reply_text (Worked page freed))) }
 {
     put_with(out, held, b"worked ", page)?;
     put(out, held, b" ")?;
@@ -120,9 +143,9 @@ fn put_worked<W: Write>(out: &mut W, held: &mut Held, page: u32, freed: bool) ->
 }
 
 /// Puts that a page was swept, and whether it had a frame.
-fn put_swept<W: Write>(out: &mut W, held: &mut Held, freed: bool) -> io::Result<()>
-    ensures { OnOk result (Puts (W.contents out.old) held.old.items (W.contents out.new)
-        held.new.items (reply_text (Swept freed))) }
+fn put_swept<W: Write>(out: &mut W, held: &mut Held, freed: bool) -> Result<(), Failed>
+    ensures { OnOk result (Puts (W.contents out.old) held.old.text.items (W.contents out.new)
+        held.new.text.items (reply_text (Swept freed))) }
 {
     put(out, held, b"swept ")?;
     put(out, held, freed_word(freed))
@@ -136,18 +159,18 @@ fn put_balloon<W: Write>(
     actual: u32,
     target: u32,
     status: u32,
-) -> io::Result<()>
-    ensures { OnOk result (Puts (W.contents out.old) held.old.items (W.contents out.new)
-        held.new.items (reply_text (Balloon ballooned actual target status))) }
+) -> Result<(), Failed>
+    ensures { OnOk result (Puts (W.contents out.old) held.old.text.items (W.contents out.new)
+        held.new.text.items (reply_text (Balloon ballooned actual target status))) }
 {
     put_two(out, held, b"ballooned ", ballooned, b" actual ", actual)?;
     put_two(out, held, b" target ", target, b" status ", status)
 }
 
 /// Puts bytes as hexadecimal digits of lower case.
-fn put_bytes<W: Write>(out: &mut W, held: &mut Held, bytes: &[u8]) -> io::Result<()>
-    ensures { OnOk result (Puts (W.contents out.old) held.old.items (W.contents out.new)
-        held.new.items (bytes_text bytes.now)) }
+fn put_bytes<W: Write>(out: &mut W, held: &mut Held, bytes: &[u8]) -> Result<(), Failed>
+    ensures { OnOk result (Puts (W.contents out.old) held.old.text.items (W.contents out.new)
+        held.new.text.items (bytes_text bytes.now)) }
 {
     put(out, held, b"bytes ")?;
     put_digits(out, held, bytes)
@@ -161,19 +184,19 @@ fn put_two<W: Write>(
     number: u32,
     second: &[u8],
     other: u32,
-) -> io::Result<()>
-    ensures { OnOk result (Puts (W.contents out.old) held.old.items (W.contents out.new)
-        held.new.items (first.now ++ (decimal number ++ (second.now ++ decimal other)))) }
+) -> Result<(), Failed>
+    ensures { OnOk result (Puts (W.contents out.old) held.old.text.items (W.contents out.new)
+        held.new.text.items (first.now ++ (decimal number ++ (second.now ++ decimal other)))) }
 {
     put_with(out, held, first, number)?;
     put_with(out, held, second, other)
 }
 
 /// Puts the guests' targets, by rising number of guest.
-fn put_targets<W: Write>(out: &mut W, held: &mut Held, targets: &[u32]) -> io::Result<()>
+fn put_targets<W: Write>(out: &mut W, held: &mut Held, targets: &[u32]) -> Result<(), Failed>
     ensures { OnOk result
-        (Puts (W.contents out.old) held.old.items (W.contents out.new)
-        held.new.items (targets_text targets.now)) }
+        (Puts (W.contents out.old) held.old.text.items (W.contents out.new)
+        held.new.text.items (targets_text targets.now)) }
 {
     put(out, held, b"targets")?;
     for target in targets {
@@ -183,19 +206,19 @@ fn put_targets<W: Write>(out: &mut W, held: &mut Held, targets: &[u32]) -> io::R
 }
 
 /// Puts a target behind a space.
-fn put_target<W: Write>(out: &mut W, held: &mut Held, target: u32) -> io::Result<()>
+fn put_target<W: Write>(out: &mut W, held: &mut Held, target: u32) -> Result<(), Failed>
     ensures { OnOk result
-        (Puts (W.contents out.old) held.old.items (W.contents out.new)
-        held.new.items (target_text target)) }
+        (Puts (W.contents out.old) held.old.text.items (W.contents out.new)
+        held.new.text.items (target_text target)) }
 {
     put_with(out, held, b" ", target)
 }
 
 /// Puts how many pages each place has.
-fn put_counts<W: Write>(out: &mut W, held: &mut Held, counts: PlaceCounts) -> io::Result<()>
+fn put_counts<W: Write>(out: &mut W, held: &mut Held, counts: PlaceCounts) -> Result<(), Failed>
     ensures { OnOk result
-        (Puts (W.contents out.old) held.old.items (W.contents out.new)
-        held.new.items (counts_text counts)) }
+        (Puts (W.contents out.old) held.old.text.items (W.contents out.new)
+        held.new.text.items (counts_text counts)) }
 {
     let PlaceCounts {
         free,
@@ -213,10 +236,10 @@ fn put_counts<W: Write>(out: &mut W, held: &mut Held, counts: PlaceCounts) -> io
 }
 
 /// Puts runs of pages, one page alone by its number.
-fn put_runs<W: Write>(out: &mut W, held: &mut Held, runs: &[PageRun]) -> io::Result<()>
+fn put_runs<W: Write>(out: &mut W, held: &mut Held, runs: &[PageRun]) -> Result<(), Failed>
     ensures { OnOk result
-        (Puts (W.contents out.old) held.old.items (W.contents out.new)
-        held.new.items (runs_text runs.now)) }
+        (Puts (W.contents out.old) held.old.text.items (W.contents out.new)
+        held.new.text.items (runs_text runs.now)) }
 {
     put(out, held, b"pages")?;
     for run in runs {
@@ -226,9 +249,9 @@ fn put_runs<W: Write>(out: &mut W, held: &mut Held, runs: &[PageRun]) -> io::Res
 }
 
 /// Puts a run of pages behind a space.
-fn put_run<W: Write>(out: &mut W, held: &mut Held, run: PageRun) -> io::Result<()>
-    ensures { OnOk result (Puts (W.contents out.old) held.old.items (W.contents out.new)
-        held.new.items (run_text run)) }
+fn put_run<W: Write>(out: &mut W, held: &mut Held, run: PageRun) -> Result<(), Failed>
+    ensures { OnOk result (Puts (W.contents out.old) held.old.text.items (W.contents out.new)
+        held.new.text.items (run_text run)) }
 {
     let PageRun { first, last } = run;
     if first == last {
@@ -244,9 +267,9 @@ fn put_statistics<W: Write>(
     held: &mut Held,
     free: Option<u64>,
     total: Option<u64>,
-) -> io::Result<()>
-    ensures { OnOk result (Puts (W.contents out.old) held.old.items (W.contents out.new)
-        held.new.items (codes "memory" ++ (statistic_text free ++ statistic_text total))) }
+) -> Result<(), Failed>
+    ensures { OnOk result (Puts (W.contents out.old) held.old.text.items (W.contents out.new)
+        held.new.text.items (codes "memory" ++ (statistic_text free ++ statistic_text total))) }
 {
     put(out, held, b"memory")?;
     put_statistic(out, held, free)?;
@@ -254,10 +277,10 @@ fn put_statistics<W: Write>(
 }
 
 /// Puts one statistic behind a space.
-fn put_statistic<W: Write>(out: &mut W, held: &mut Held, value: Option<u64>) -> io::Result<()>
+fn put_statistic<W: Write>(out: &mut W, held: &mut Held, value: Option<u64>) -> Result<(), Failed>
     ensures { OnOk result
-        (Puts (W.contents out.old) held.old.items (W.contents out.new)
-        held.new.items (statistic_text value)) }
+        (Puts (W.contents out.old) held.old.text.items (W.contents out.new)
+        held.new.text.items (statistic_text value)) }
 {
     match value {
         Some(value) => put_known(out, held, value),
@@ -266,10 +289,10 @@ fn put_statistic<W: Write>(out: &mut W, held: &mut Held, value: Option<u64>) -> 
 }
 
 /// Puts why an event was refused.
-fn put_refusal<W: Write>(out: &mut W, held: &mut Held, refusal: Refusal) -> io::Result<()>
+fn put_refusal<W: Write>(out: &mut W, held: &mut Held, refusal: Refusal) -> Result<(), Failed>
     ensures { OnOk result
-        (Puts (W.contents out.old) held.old.items (W.contents out.new)
-        held.new.items (refusal_text refusal)) }
+        (Puts (W.contents out.old) held.old.text.items (W.contents out.new)
+        held.new.text.items (refusal_text refusal)) }
 {
     match refusal {
         Refusal::NoGuest => put(out, held, b"no guest"),
@@ -306,18 +329,18 @@ fn put_refusal<W: Write>(out: &mut W, held: &mut Held, refusal: Refusal) -> io::
 }
 
 /// Puts a statistic that is known, behind a space.
-fn put_known<W: Write>(out: &mut W, held: &mut Held, value: u64) -> io::Result<()>
-    ensures { OnOk result (Puts (W.contents out.old) held.old.items (W.contents out.new)
-        held.new.items (statistic_text (Some value))) }
+fn put_known<W: Write>(out: &mut W, held: &mut Held, value: u64) -> Result<(), Failed>
+    ensures { OnOk result (Puts (W.contents out.old) held.old.text.items (W.contents out.new)
+        held.new.text.items (statistic_text (Some value))) }
 {
     put(out, held, b" ")?;
     put_number(out, held, value)
 }
 
 /// Puts how many pages stay missing.
-fn put_short<W: Write>(out: &mut W, held: &mut Held, missing: u64) -> io::Result<()>
-    ensures { OnOk result (Puts (W.contents out.old) held.old.items (W.contents out.new)
-        held.new.items (refusal_text (Short missing))) }
+fn put_short<W: Write>(out: &mut W, held: &mut Held, missing: u64) -> Result<(), Failed>
+    ensures { OnOk result (Puts (W.contents out.old) held.old.text.items (W.contents out.new)
+        held.new.text.items (refusal_text (Short missing))) }
 {
     put(out, held, b"short ")?;
     put_number(out, held, missing)

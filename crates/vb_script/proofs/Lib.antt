@@ -8,3 +8,4 @@ pub mod Ranged
 pub mod Speaking
 pub mod ThreadsFacts
 pub mod WordLemmas
+pub mod ByLength

@@ -12,7 +12,8 @@ ghost use Rattle.vb_script.specs.declared.names.Form.TheVariants.{Frames, One, T
 
 use crate::lines::LineFault;
 use crate::names::{
-    FORMS, Form, FourNumbers, OneNumber, PLACES, ThreeNumbers, TwoNumbers, WithBytes, find,
+    FORMS_OF_3, FORMS_OF_4, FORMS_OF_5, FORMS_OF_6, FORMS_OF_7, FORMS_OF_8, Form, FourNumbers,
+    OneNumber, PLACES, ThreeNumbers, TwoNumbers, WithBytes, find,
 };
 use crate::reading::Item;
 use crate::values::{bytes, features, number, positive};
@@ -66,7 +67,15 @@ pub fn event(alloc: Global, word: &[u8], words: &mut Words<'_>) -> Result<Event,
 fn form_of(word: &[u8]) -> Option<Form>
     ensures { result ≡ form_of word.now }
 {
-    find(&FORMS, word)
+    match word.len() {
+        3 => find(&FORMS_OF_3, word),
+        4 => find(&FORMS_OF_4, word),
+        5 => find(&FORMS_OF_5, word),
+        6 => find(&FORMS_OF_6, word),
+        7 => find(&FORMS_OF_7, word),
+        8 => find(&FORMS_OF_8, word),
+        _ => None,
+    }
 }
 
 /// `frames`.

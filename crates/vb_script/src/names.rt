@@ -74,38 +74,56 @@ pub enum Form {
     Bytes(WithBytes),
 }
 
-/// The events, each with its word.
-pub static FORMS: [(&[u8], Form); 29] = [
+/// The events whose words have three letters.
+pub static FORMS_OF_3: [(&[u8], Form); 2] = [
+    (b"oom", Form::Two(TwoNumbers::Oom)),
+    (b"ask", Form::One(OneNumber::Ask)),
+];
+
+/// The events whose words have four letters.
+pub static FORMS_OF_4: [(&[u8], Form); 7] = [
     (b"plug", Form::Three(ThreeNumbers::Plug)),
-    (b"unplug", Form::One(OneNumber::Unplug)),
-    (b"restart", Form::One(OneNumber::Restart)),
-    (b"reset", Form::One(OneNumber::Reset)),
     (b"init", Form::Init),
-    (b"alloc", Form::Three(ThreeNumbers::Alloc)),
     (b"free", Form::Four(FourNumbers::Free)),
     (b"read", Form::Four(FourNumbers::Read)),
-    (b"write", Form::Bytes(WithBytes::Write)),
-    (b"scribble", Form::Bytes(WithBytes::Scribble)),
-    (b"inflate", Form::Two(TwoNumbers::Inflate)),
-    (b"deflate", Form::Two(TwoNumbers::Deflate)),
-    (b"oom", Form::Two(TwoNumbers::Oom)),
-    (b"report", Form::Two(TwoNumbers::Report)),
-    (b"stats", Form::One(OneNumber::Stats)),
     (b"reap", Form::Two(TwoNumbers::Reap)),
     (b"take", Form::Two(TwoNumbers::Take)),
     (b"work", Form::One(OneNumber::Work)),
-    (b"finish", Form::Three(ThreeNumbers::Finish)),
+];
+
+/// The events whose words have five letters.
+pub static FORMS_OF_5: [(&[u8], Form); 6] = [
+    (b"reset", Form::One(OneNumber::Reset)),
+    (b"alloc", Form::Three(ThreeNumbers::Alloc)),
+    (b"write", Form::Bytes(WithBytes::Write)),
+    (b"stats", Form::One(OneNumber::Stats)),
     (b"sweep", Form::Two(TwoNumbers::Sweep)),
-    (b"ask", Form::One(OneNumber::Ask)),
-    (b"target", Form::Two(TwoNumbers::Target)),
-    (b"balance", Form::One(OneNumber::Balance)),
-    (b"places", Form::One(OneNumber::Places)),
     (b"pages", Form::Pages),
-    (b"balloon", Form::One(OneNumber::Balloon)),
+];
+
+/// The events whose words have six letters.
+pub static FORMS_OF_6: [(&[u8], Form); 7] = [
+    (b"unplug", Form::One(OneNumber::Unplug)),
+    (b"report", Form::Two(TwoNumbers::Report)),
+    (b"finish", Form::Three(ThreeNumbers::Finish)),
+    (b"target", Form::Two(TwoNumbers::Target)),
+    (b"places", Form::One(OneNumber::Places)),
     (b"memory", Form::One(OneNumber::Memory)),
-    (b"backing", Form::Two(TwoNumbers::Backing)),
     (b"frames", Form::Frames),
 ];
+
+/// The events whose words have seven letters.
+pub static FORMS_OF_7: [(&[u8], Form); 6] = [
+    (b"restart", Form::One(OneNumber::Restart)),
+    (b"inflate", Form::Two(TwoNumbers::Inflate)),
+    (b"deflate", Form::Two(TwoNumbers::Deflate)),
+    (b"balance", Form::One(OneNumber::Balance)),
+    (b"balloon", Form::One(OneNumber::Balloon)),
+    (b"backing", Form::Two(TwoNumbers::Backing)),
+];
+
+/// The events whose words have eight letters.
+pub static FORMS_OF_8: [(&[u8], Form); 1] = [(b"scribble", Form::Bytes(WithBytes::Scribble))];
 
 /// A line of a script for guests on threads.
 #[derive(Clone, Copy)]

@@ -1,15 +1,20 @@
-use Rattle.std.proofs.Common.{◌≡◌, ℕ, List, ◌∙◌, ap, vec_len}
+use Rattle.std.proofs.Common.{◌≡◌, ℕ, List, ◌∙◌, ap, arith, length}
 use Rattle.vb_model.specs.Guest.{zero_page}
+use Rattle.vb_ram.specs.Blank.{shown}
 use Rattle.vb_ram.specs.Pages.{Page}
-use Rattle.vb_ram.proofs.Contents.{zero_page_is}
+use Rattle.vb_ram.proofs.Contents.{length-zero_page}
 use Rattle.vb_ram.proofs.frame.Frame.clear.Goals as goal
 
 pub returns : goal.returns
 returns c =
-    let zeros : c.fill.new.self.items ≡ zero_page =
-    c.fill.ensures.items (λ y e. e)
-    ∙ zero_page_is (vec_len c.self.inside.bytes) c.self.invariant in
+    let zeros : shown c.clear.new.self.items ≡ zero_page = ap shown c.clear.ensures.items in
     let same : c.self.inside.number ≡ c.args.self.now.number =
     ap (λ (page : Page). page.number) c.self.view_is in
-    ap (λ (n : ℕ). record { number = n; bytes = c.fill.new.self.items }) same
+    ap (λ (n : ℕ). record { number = n; bytes = shown c.clear.new.self.items }) same
     ∙ ap (λ (bs : List ℕ). record { number = c.args.self.now.number; bytes = bs }) zeros
+
+pub invariant_of-self : goal.invariant_of-self
+invariant_of-self c = record {
+  whole = ap (λ (bs : List ℕ). length (shown bs)) c.clear.ensures.items ∙ length-zero_page;
+  room = omega (arith, c.clear.ensures.capacity, c.self.invariant.room);
+}

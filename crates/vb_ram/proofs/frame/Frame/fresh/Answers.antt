@@ -1,10 +1,15 @@
-use Rattle.std.proofs.Common.{◌≡◌, List, ℕ, ◌∙◌, ap, refl}
-use Rattle.vb_model.specs.Guest.{zero_page}
-use Rattle.vb_ram.proofs.Contents.{zero_page_is}
+use Rattle.std.proofs.Common.{ℕ, List, ◌∙◌, ap, arith, length}
+use Rattle.vb_ram.specs.Blank.{shown}
+use Rattle.vb_ram.proofs.Contents.{length-zero_page}
 use Rattle.vb_ram.proofs.frame.Frame.fresh.Goals as goal
 
 pub returns-clause-ok : goal.returns-clause-ok
 returns-clause-ok c =
-    let zeros : c.in_ok-bytes.bytes.items ≡ zero_page =
-    c.in_ok-bytes.ensures.items_if_clones_equal (λ y e. e) ∙ zero_page_is 4096 refl in
-    ap (λ (bs : List ℕ). record { number = c.args.number; bytes = bs }) zeros
+    ap (λ (bs : List ℕ). record { number = c.args.number; bytes = shown bs })
+    c.in_ok-bytes.ensures.items
+
+pub invariant_of-result : goal.invariant_of-result
+invariant_of-result c = record {
+  whole = ap (λ (bs : List ℕ). length (shown bs)) c.in_ok-bytes.ensures.items ∙ length-zero_page;
+  room = omega (arith, c.in_ok-bytes.ensures.capacity);
+}

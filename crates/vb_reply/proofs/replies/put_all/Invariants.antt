@@ -1,10 +1,10 @@
-use Rattle.std.proofs.Common.{[], take}
+use Rattle.std.proofs.Common.{take}
 use Rattle.std.specs.List.{flat_map}
 use Rattle.vb_reply.specs.Held.{Puts}
 use Rattle.vb_reply.specs.Replies.{line_of}
-use Rattle.vb_reply.proofs.replies.write_replies.Given as goal
+use Rattle.vb_reply.proofs.replies.put_all.Given as goal
 
 abbrev pub invariant-loop-reply : goal.invariant-loop-reply
 invariant-loop-reply g l =
-    Puts (g.W.Write.contents l.fn.out) [] (g.W.Write.contents l.out) l.held.items
+    Puts (g.W.Write.contents l.fn.out) l.fn.held.text.items (g.W.Write.contents l.out) l.held.text.items
     (flat_map line_of (take l.reply-index l.replies))
