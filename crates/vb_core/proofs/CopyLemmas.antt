@@ -1,26 +1,36 @@
 -- What a page of a memory of copies is.
-use Rattle.std.proofs.Common.{rules, Option, ◌≡◌, ◌⊎◌, ℕ, ◌+◌, ◌<◌, ◌≤◌, List, []}
+use Rattle.std.proofs.Common.{rules, Option, ◌≡◌, ℕ, ◌<◌, ◌≤◌, List, []}
 use Rattle.std.proofs.Common.{Some, None, length, get_or, refl, sym, ◌∙◌, ap, set, subst}
-use Rattle.std.proofs.Common.{arith, inl, inr, ◌++◌, ◌-◌, drop, replicate, length-append, length-drop}
+use Rattle.std.proofs.Common.{arith, inl, inr, ◌∷◌}
 use Rattle.std.specs.Prelude.{slice_index}
-use Rattle.std.proofs.lemmas.Bool.{cases_eq, cases_lt}
+use Rattle.std.proofs.lemmas.Bool.{cases_eq}
 use Rattle.std.proofs.lemmas.List.{get_or-set_same, get_or-set_other, length-set, ext_get_or}
-use Rattle.std.proofs.lemmas.List.{get_or_append_left, get_or-append_right, get_or-drop}
-use Rattle.std.proofs.lemmas.List.{get_or-replicate, get_or_past, length-replicate}
 use Rattle.std.proofs.lemmas.List.FromFn.{get_or-map-range_with_len, length-map-range_with_len}
 use Rattle.vb_ram.specs.Pages.{Page, Pages, byte_of, number_of, byte_at, page_at, frame_at, Wrote}
 use Rattle.vb_ram.specs.Put.{PutAt}
 use Rattle.vb_ring.specs.Layout.{IsInside}
 use Rattle.vb_ram.proofs.PageLemmas.{wrote}
-use Rattle.vb_core.specs.Copies.{lent, copy_number, copy_at, copied, padded, copied_layout}
+use Rattle.vb_core.specs.declared.copies.Kept.{Kept}
+use Rattle.vb_core.specs.Copies.{lent, copy_number, copy_at, copy_of, copied, padded, copied_layout}
+use Rattle.vb_core.specs.Copies.{kept_pages, PutsInto}
 
 pub copied_length : (count : ℕ) (cs : List (List ℕ)) → length (copied count cs) ≡ count
 copied_length count cs = length-map-range_with_len (λ p. copy_at cs (copy_number p)) 0 count
+
+-- copies by what they are made of
+pub copied_so : (n1 n2 : ℕ) (c1 c2 : List (List ℕ)) → n1 ≡ n2 → c1 ≡ c2 →
+    copied n1 c1 ≡ copied n2 c2
+copied_so n1 n2 c1 c2 e f = ap (λ (n : ℕ). copied n c1) e ∙ ap (copied n2) f
 
 pub copied_at : (count p : ℕ) (cs : List (List ℕ)) → p < count →
     page_at (copied count cs) p ≡ copy_at cs (copy_number p)
 copied_at count p cs h =
     get_or-map-range_with_len (λ q. copy_at cs (copy_number q)) 0 count p p None h (omega arith)
+
+pub copied_byte_of : (count p o : ℕ) (cs : List (List ℕ)) → p < count →
+    byte_at (copied count cs) p o ≡ byte_of (copy_of p cs) o
+unfolding byte_at
+copied_byte_of count p o cs h = ap (λ w. byte_of w o) (copied_at count p cs h)
 
 pub copied_here : (count p k : ℕ) (cs : List (List ℕ)) → p < count → copy_number p ≡ Some k →
     page_at (copied count cs) p ≡ lent (get_or cs k [])
@@ -30,11 +40,6 @@ pub copied_byte : (count p k o : ℕ) (cs : List (List ℕ)) → p < count → c
     byte_at (copied count cs) p o ≡ get_or (get_or cs k []) o 0
 unfolding byte_at
 copied_byte count p k o cs h e = ap (λ w. byte_of w o) (copied_here count p k cs h e)
-
-pub blank_byte : (count p o : ℕ) (cs : List (List ℕ)) → p < count → copy_number p ≡ None →
-    byte_at (copied count cs) p o ≡ 0
-unfolding byte_at
-blank_byte count p o cs h e = ap (λ w. byte_of w o) (copied_at count p cs h ∙ ap (copy_at cs) e)
 
 pub bare_page : (count p : ℕ) (cs : List (List ℕ)) → p < count → copy_number p ≡ None →
     frame_at (copied count cs) p ≡ None
@@ -93,6 +98,14 @@ copied_wrote count p k off cs bs new h l e len put =
     subst (λ (m : Pages). Wrote (copied count cs) m p off bs)
     (sym (copied_set count p k cs new h l e)) w
 
+pub put_wrote : (count p k off : ℕ) (old new : Kept) (bs : List ℕ) → p < count →
+    copy_number p ≡ Some k → PutsInto (kept_pages old) (kept_pages new) k off bs →
+    Wrote (copied count (kept_pages old)) (copied count (kept_pages new)) p off bs
+put_wrote count p k off old new bs h e puts =
+    subst (λ (cs : List (List ℕ)). Wrote (copied count (kept_pages old)) (copied count cs) p off bs)
+    (sym puts.others)
+    (copied_wrote count p k off (kept_pages old) bs puts.page h puts.there e puts.len puts.put)
+
 -- the ring's places lie there
 pub copied_inside : (count : ℕ) (cs : List (List ℕ)) → 2 ≤ count →
     IsInside (copied count cs) copied_layout
@@ -121,37 +134,20 @@ is_padded bytes page len at =
     ext_get_or 0 page (padded bytes) (len ∙ sym (padded_length bytes))
     (λ o u. at o (omega (arith, u, len)) ∙ sym (padded_at bytes o (omega (arith, u, len))))
 
-zero_at : (z m i : ℕ) → (i < m) ⊎ (m ≤ i) → get_or (replicate m z) i z ≡ z
-zero_at z m i (inl lt) = get_or-replicate m i z z lt
-zero_at z m i (inr past) =
-    get_or_past (replicate m z) i z (omega (arith, past, length-replicate m z))
+-- ---- copies that are lent
 
--- bytes that were put over the first ones of a page of zeros
-pub padded_from : (bytes new zeros : List ℕ) (m : ℕ) → m ≡ 4096 → zeros ≡ replicate m 0 →
-    length bytes ≤ 4096 → new ≡ bytes → new ++ drop (length bytes) zeros ≡ padded bytes
-padded_from bytes new zeros m e z few same =
-    let all : length zeros ≡ 4096 = ap (λ (xs : List ℕ). length xs) z ∙ length-replicate m 0 ∙ e in
-    let len : length (new ++ drop (length bytes) zeros) ≡ 4096 =
-    omega (
-      arith,
-      length-append new (drop (length bytes) zeros),
-      length-drop (length bytes) zeros,
-      all,
-      ap (λ (xs : List ℕ). length xs) same,
-    ) in
-    is_padded bytes (new ++ drop (length bytes) zeros) len (λ o u. at o (cases_lt o (length bytes)))
-  where
-    at : (o : ℕ) → (o < length bytes) ⊎ (length bytes ≤ o) →
-        get_or (new ++ drop (length bytes) zeros) o 0 ≡ get_or bytes o 0
-    at o (inl lt) =
-        get_or_append_left new (drop (length bytes) zeros) 0 o
-        (omega (arith, lt, ap (λ (xs : List ℕ). length xs) same))
-        ∙ ap (λ (xs : List ℕ). get_or xs o 0) same
-    at o (inr past) =
-        get_or-append_right new (drop (length bytes) zeros) (length bytes) o 0
-        (ap (λ (xs : List ℕ). length xs) same) past
-        ∙ (get_or-drop (length bytes) zeros (o - length bytes) 0
-        ∙ (ap (λ (xs : List ℕ). get_or xs (length bytes + (o - length bytes)) 0) z
-        ∙ (zero_at 0 m (length bytes + (o - length bytes))
-        (cases_lt (length bytes + (o - length bytes)) m)
-        ∙ sym (get_or_past bytes o 0 past))))
+pub lent_table : (table avail : List ℕ) (cs : List (List ℕ)) (p : ℕ) →
+    cs ≡ padded table ∷ padded avail ∷ [] → p ≡ 0 →
+    (o : ℕ) → o < 4096 → get_or table o 0 ≡ byte_of (copy_of p cs) o
+lent_table table avail cs p e first o h =
+    sym (ap (λ (w : List (List ℕ)). byte_of (copy_of p w) o) e
+    ∙ (ap (λ (n : ℕ). byte_of (copy_of n (padded table ∷ padded avail ∷ [])) o) first
+    ∙ padded_at table o h))
+
+pub lent_avail : (table avail : List ℕ) (cs : List (List ℕ)) (p : ℕ) →
+    cs ≡ padded table ∷ padded avail ∷ [] → p ≡ 1 →
+    (o : ℕ) → o < 4096 → get_or avail o 0 ≡ byte_of (copy_of p cs) o
+lent_avail table avail cs p e second o h =
+    sym (ap (λ (w : List (List ℕ)). byte_of (copy_of p w) o) e
+    ∙ (ap (λ (n : ℕ). byte_of (copy_of n (padded table ∷ padded avail ∷ [])) o) second
+    ∙ padded_at avail o h))

@@ -1,12 +1,15 @@
 -- Guest memory of which a ring's table and its available ring were copied: in pages 0 and 1, and
 -- all other pages have no frame here.
 use Rattle.std.specs.Prelude.{◌≡◌, ℕ, ◌+◌, ◌*◌, ◌<◌, List, [], ◌∷◌, Option, Some, None, nat_lt}
-use Rattle.std.specs.Prelude.{if◌then◌else◌, map}
+use Rattle.std.specs.Prelude.{if◌then◌else◌, map, set, length}
 use Rattle.std.specs.Prelude.{slice_index, slice_index_or}
 use Rattle.std.specs.List.{range_with_len}
 use Rattle.vb_model.specs.Limits.{page_size}
 use Rattle.vb_ram.specs.Pages.{Page, Pages, byte_at}
+use Rattle.vb_ram.specs.Put.{PutAt}
 use Rattle.vb_ring.specs.declared.layout.Layout.{Layout}
+use Rattle.vb_core.specs.declared.copies.Kept.{Kept}
+use Rattle.vb_core.specs.declared.copies.Kept.TheVariants.{Lent, Own}
 
 -- Which of the two copies is that of a page.
 abbrev pub copy_number : ℕ → Option ℕ
@@ -20,13 +23,30 @@ abbrev pub copy_at : List (List ℕ) → Option ℕ → Option Page
 copy_at copies None = None
 copy_at copies (Some k) = lent (slice_index_or copies k [])
 
--- So many pages, the first two of which are these.
-abbrev pub copied : ℕ → List (List ℕ) → Pages
-copied count copies = map (λ page. copy_at copies (copy_number page)) (range_with_len 0 count)
+-- What stands at a page of a memory of these copies.
+abbrev pub copy_of : ℕ → List (List ℕ) → Option Page
+copy_of page copies = copy_at copies (copy_number page)
 
 -- A page that begins with these bytes, and has zeros behind them.
 unfoldable pub padded : List ℕ → List ℕ
 padded bytes = map (slice_index bytes) (range_with_len 0 page_size)
+
+-- The two pages, wherever their bytes are.
+abbrev pub kept_pages : Kept → List (List ℕ)
+kept_pages (Lent table avail) = padded table.now ∷ padded avail.now ∷ []
+kept_pages (Own pages) = pages
+
+-- Bytes were put at an offset of one copy, and the others are as before.
+pub record PutsInto (old new : List (List ℕ)) (k off : ℕ) (bs : List ℕ) : Type 0 where
+  pub page : List ℕ
+  pub there : k < length old
+  pub others : new ≡ set old k page
+  pub len : length page ≡ length (slice_index_or old k [])
+  pub put : PutAt (slice_index_or old k []) page off bs
+
+-- So many pages, the first two of which are these.
+abbrev pub copied : ℕ → List (List ℕ) → Pages
+copied count copies = map (λ page. copy_at copies (copy_number page)) (range_with_len 0 count)
 
 -- So many pages: the copied table at the start of page 0, the copied available ring at that of
 -- page 1.
