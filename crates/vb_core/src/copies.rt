@@ -154,7 +154,7 @@ impl<'a> Copies<'a> {
     #[inline(always)]
     #[tactic(auto, using(crate::proofs::CopyLemmas::copied_length))]
     fn check(&self, page: u32, offset: usize, len: usize) -> Result<(), RamFault>
-        ensures answers { Covers (copied self.now.count (kept_pages self.now.kept)) page offset len →
+        ensures passes { Covers (copied self.now.count (kept_pages self.now.kept)) page offset len →
             IsOk result }
         ensures ok { OnOk result
             (Covers (copied self.now.count (kept_pages self.now.kept)) page offset len) }
