@@ -40,7 +40,7 @@ impl Held {
         }
     }
 
-    /// Why a write failed.
+    /// Why a write failed, which each call that answers `Failed` has kept here.
     pub fn into_fault(self) -> io::Error {
         match self.fault {
             Some(fault) => fault,
