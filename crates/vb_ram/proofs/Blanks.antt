@@ -1,6 +1,5 @@
 -- What a frame shows by the bytes that it holds.
-use Rattle.std.proofs.Common.{◌≡◌, ℕ, List, [], ◌∷◌, ◌++◌, length, take, replicate, refl, sym}
-use Rattle.std.proofs.Common.{ap, subst, arith}
+use Rattle.std.proofs.Common.{◌≡◌, ℕ, List, ◌++◌, length, take, replicate, sym, ap, subst}
 use Rattle.std.proofs.lemmas.List.{nil_from_length}
 use Rattle.vb_model.specs.Guest.{zero_page}
 use Rattle.vb_ram.specs.Blank.{shown}
@@ -9,11 +8,6 @@ use Rattle.vb_ram.proofs.Contents.{zero_page_is}
 -- zeros, where none are held
 pub shown-none : (bytes : List ℕ) → length bytes ≡ 0 → shown bytes ≡ zero_page
 shown-none bytes none = ap shown (nil_from_length bytes none)
-
--- what is held, where that is a page
-pub shown-whole : (bytes : List ℕ) → length bytes ≡ 4096 → shown bytes ≡ bytes
-shown-whole [] e = absurd (omega (arith, e))
-shown-whole (byte ∷ bytes) e = refl
 
 -- the zeros are written where none were held
 pub shown-filled : (bytes : List ℕ) (n : ℕ) → length bytes ≡ 0 → n ≡ 4096
