@@ -8,10 +8,7 @@ ghost use Rattle.vb_ram.specs.Pages.{byte_at, frame_at, Covers, SameBut};
 ghost use Rattle.vb_driver.specs.Coding.{Names, AreZeroed};
 ghost use Rattle.vb_driver.specs.Answers.{has_frames, HaveRingFrames, IsLargeEnough};
 
-use vb_ram::{GuestBytes, PAGE_SIZE, Shape, write_u32};
-
-/// How many zeros are written at a time.
-const ZEROS: usize = 256;
+use vb_ram::{GuestBytes, Shape, write_u32};
 
 /// Writes page numbers from an offset of a page on, as the buffer of a request has them
 /// (VIRTIO 1.1, 5.5.6).
@@ -65,10 +62,7 @@ fn zero_page<G: GuestBytes>(ram: &mut G, page: u32)
     ensures rest { SameBut (G.mem ram.old) (G.mem ram.new) page 0 page_size }
     ensures part { G.part ram.new ≡ G.part ram.old }
 {
-    let zeros = [0; ZEROS];
-    for k in 0..PAGE_SIZE / ZEROS {
-        let _ = ram.write(page, ZEROS * k, &zeros);
-    }
+    let _ = ram.clear_page(page);
 }
 
 /// Makes all bytes of the rings' pages zeros.

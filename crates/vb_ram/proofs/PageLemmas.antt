@@ -1,11 +1,12 @@
 -- What a memory is where one of its pages was exchanged.
 use Rattle.std.proofs.Common.{◌≡◌, ◌≢◌, ℕ, zero, suc, ◌+◌, ◌<◌, List, Option, Some, None, length}
-use Rattle.std.proofs.Common.{get_or, set, replicate, refl, sym, ◌∙◌, ap, inl, inr}
+use Rattle.std.proofs.Common.{slice_index, get_or, set, replicate, refl, sym, ◌∙◌, ap, inl, inr, subst, arith}
 use Rattle.std.proofs.lemmas.Bool.{cases_eq}
 use Rattle.std.proofs.lemmas.List.{get_or-set_same, get_or-set_other, get_or_default, length-set}
+use Rattle.std.proofs.lemmas.List.{get_or_past}
 use Rattle.vb_model.specs.Guest.{zero_page}
 use Rattle.vb_ram.specs.Pages.{Page, Pages, byte_of, byte_at, number_of, contents_of, page_at}
-use Rattle.vb_ram.specs.Pages.{frame_at, contents_at, IsWhole, Wrote, Supplied}
+use Rattle.vb_ram.specs.Pages.{frame_at, contents_at, IsWhole, Wrote, Supplied, Cleared, SameBut}
 use Rattle.vb_ram.proofs.Contents.{length-zero_page, zero_page-at}
 use Rattle.vb_ram.specs.Memory.{IsMemory}
 use Rattle.vb_ram.specs.Put.{PutAt}
@@ -90,3 +91,24 @@ bare_at (suc n) (suc q) = bare_at n q
 pub whole-bare : (n : ℕ) → IsWhole (replicate n None)
 whole-bare n = record
     { sizes = λ q. ap (λ w. length (contents_of w)) (bare_at n q) ∙ length-zero_page }
+
+-- a page of zeros was written over a page
+pub cleared : (old new : Pages) (p : ℕ) → Wrote old new p 0 zero_page → Cleared old new p
+cleared old new p put =
+    let from_start : (k : ℕ) → 0 + k ≡ k = λ k. omega arith in
+    record {
+      zero = λ o lt. ap (byte_at new p) (sym (from_start o))
+          ∙ put.written o (omega (arith, length-zero_page)) ∙ zero_page-at o;
+      rest = subst (λ (n : ℕ). SameBut old new p 0 n)
+          (from_start (length zero_page) ∙ length-zero_page) put.rest;
+    }
+
+-- the page of zeros stands where it was put
+pub put_zeros : (old : List ℕ) → length old ≡ 4096 → PutAt old zero_page 0 zero_page
+put_zeros old whole = record {
+  written = λ k lt. let from_start : 0 + k ≡ k = omega arith in ap (slice_index zero_page) from_start;
+  below = λ o lt. absurd (omega arith);
+  above = λ o past.
+      get_or_past zero_page o 0 (omega (arith, length-zero_page))
+      ∙ sym (get_or_past old o 0 (omega (arith, length-zero_page, whole)));
+}

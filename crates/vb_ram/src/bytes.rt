@@ -1,11 +1,12 @@
 //! What is seen of a guest's memory.
 
-ghost use Rattle.std.specs.Prelude.{◌≡◌, ℕ, ◌+◌, ◌<◌, None, IsSome, IsOk, OnOk};
+ghost use Rattle.std.specs.Prelude.{◌≡◌, ℕ, ◌+◌, ◌<◌, ◌≤◌, None, IsSome, IsOk, OnOk};
 ghost use Rattle.std.specs.Prelude.{OnErr, length, slice_index};
 ghost use Rattle.vb_ram.specs.Part.{Part};
-ghost use Rattle.vb_ram.specs.Pages.{Pages, byte_at, frame_at, Covers, Wrote};
+ghost use Rattle.vb_ram.specs.Pages.{Pages, byte_at, frame_at, Covers, Wrote, Cleared};
 
 use crate::RamFault;
+use crate::frame::ZEROS;
 
 /// What is seen of a guest's memory, whatever keeps it.
 pub trait GuestBytes {
@@ -53,4 +54,22 @@ pub trait GuestBytes {
         ensures part { part self.new ≡ part self.old }
         ensures unwritten { OnErr result (mem self.new ≡ mem self.old) }
         ensures none_written { length bytes.now ≡ 0 → mem self.new ≡ mem self.old };
+
+    /// Makes all bytes of a page zeros, and changes nothing else: as a write of so many zeros does,
+    /// which whoever keeps the memory may do for less.
+    ///
+    /// Refused with `OutOfRam` where there is no such page, then with `NeedsFrame` where the page
+    /// has no frame. A refused call changes nothing.
+    fn clear_page(&mut self, page: u32) -> Result<(), RamFault>
+        ensures answers { page < length (mem self.old) → IsSome (frame_at (mem self.old) page) →
+            IsOk result }
+        ensures out_of_ram { length (mem self.old) ≤ page → result ≡ Err RamFault.OutOfRam }
+        ensures needs_frame { page < length (mem self.old) → frame_at (mem self.old) page ≡ None →
+            result ≡ Err RamFault.NeedsFrame }
+        ensures cleared { OnOk result (Cleared (mem self.old) (mem self.new) page) }
+        ensures part { part self.new ≡ part self.old }
+        ensures kept { OnErr result (mem self.new ≡ mem self.old) }
+    {
+        self.write(page, 0, &ZEROS)
+    }
 }

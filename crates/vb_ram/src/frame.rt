@@ -15,7 +15,7 @@ use vb_model::limits;
 pub const PAGE_SIZE: usize = limits::PAGE_SIZE as usize;
 
 /// The bytes of a frame that nothing was written to.
-static ZEROS: [u8; PAGE_SIZE] = [0; PAGE_SIZE];
+pub(crate) static ZEROS: [u8; PAGE_SIZE] = [0; PAGE_SIZE];
 
 /// A frame of the host: a number, and `PAGE_SIZE` bytes. It can't be cloned, so whoever has it is
 /// the only one; that no other frame has its number is for those who make frames to keep.

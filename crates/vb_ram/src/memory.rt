@@ -153,4 +153,13 @@ impl GuestBytes for Ram {
         }
         Ok(())
     }
+
+    fn clear_page(&mut self, page: u32) -> Result<(), RamFault> {
+        self.check(page, 0, PAGE_SIZE)?;
+        match &mut self.pages[page as usize] {
+            Some(frame) => frame.clear(),
+            None => return Err(RamFault::NeedsFrame),
+        }
+        Ok(())
+    }
 }

@@ -18,6 +18,8 @@ enum Step {
     /// The frame behind a page is put behind another one.
     Move(u32, u32),
     Write(u32, usize, &'static [u8]),
+    /// All bytes of a page become zeros.
+    Clear(u32),
     /// Two bytes of a page are read over fives.
     Read(u32, usize),
     /// The first bytes of page 0 are read.
@@ -79,6 +81,13 @@ fn write(ram: &mut Ram, page: u32, offset: usize, bytes: &[u8]) -> Answer {
     }
 }
 
+fn clear(ram: &mut Ram, page: u32) -> Answer {
+    match ram.clear_page(page) {
+        Ok(()) => Answer::Done,
+        Err(fault) => Answer::Refused(fault),
+    }
+}
+
 fn put_number(ram: &mut Ram, offset: usize, width: u8, number: u64) -> Answer {
     if ram.pages() != 2 || ram.backing(0).is_none() || offset > 4088 {
         return Answer::Nothing;
@@ -130,6 +139,7 @@ fn answer_of(alloc: Global, ram: &mut Ram, step: &Step) -> Answer {
         Step::Discard(page) => discard(ram, *page),
         Step::Move(from, to) => move_frame(ram, *from, *to),
         Step::Write(page, offset, bytes) => write(ram, *page, *offset, bytes),
+        Step::Clear(page) => clear(ram, *page),
         Step::Read(page, offset) => read(ram, *page, *offset),
         Step::Start => start(ram),
         Step::PutNumber(offset, width, number) => put_number(ram, *offset, *width, *number),
@@ -207,6 +217,26 @@ static REFUSALS: [(Step, Answer); 10] = [
 #[test]
 fn reads_and_writes_are_refused_in_order(rt: HostRuntime) -> Result<(), Fail> {
     expect(&rt, rt.alloc(), &REFUSALS)
+}
+
+static CLEARED: [(Step, Answer); 12] = [
+    (Step::Supply(0, 7), Answer::Done),
+    (Step::Clear(1), Answer::Refused(RamFault::NeedsFrame)),
+    (Step::Clear(2), Answer::Refused(RamFault::OutOfRam)),
+    (Step::Clear(0), Answer::Done),
+    (Step::Read(0, 0), Answer::Read(None, [0, 0])),
+    (Step::Write(0, 0, b"ab"), Answer::Done),
+    (Step::Write(0, 4094, b"yz"), Answer::Done),
+    (Step::Clear(0), Answer::Done),
+    (Step::Read(0, 0), Answer::Read(None, [0, 0])),
+    (Step::Write(0, 2, b"c"), Answer::Done),
+    (Step::Read(0, 4094), Answer::Read(None, [0, 0])),
+    (Step::Backing(0), Answer::Frame(7)),
+];
+
+#[test]
+fn a_page_is_cleared(rt: HostRuntime) -> Result<(), Fail> {
+    expect(&rt, rt.alloc(), &CLEARED)
 }
 
 static NUMBERS: [(Step, Answer); 9] = [

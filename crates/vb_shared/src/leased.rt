@@ -53,6 +53,10 @@ impl<D: Device> GuestBytes for Leased<D> {
     fn write(&mut self, page: u32, offset: usize, bytes: &[u8]) -> Result<(), RamFault> {
         self.device.write(page, offset, bytes)
     }
+
+    fn clear_page(&mut self, page: u32) -> Result<(), RamFault> {
+        self.device.clear_page(page)
+    }
 }
 
 impl<D: Device> Port for Leased<D> {

@@ -30,6 +30,10 @@ impl GuestBytes for BoxedDevice {
     fn write(&mut self, page: u32, offset: usize, bytes: &[u8]) -> Result<(), RamFault> {
         self.device.write(page, offset, bytes)
     }
+
+    fn clear_page(&mut self, page: u32) -> Result<(), RamFault> {
+        self.device.clear_page(page)
+    }
 }
 
 impl Port for BoxedDevice {

@@ -88,6 +88,10 @@ impl GuestBytes for MemoryPort {
     fn write(&mut self, page: u32, offset: usize, bytes: &[u8]) -> Result<(), RamFault> {
         self.ram.write(page, offset, bytes)
     }
+
+    fn clear_page(&mut self, page: u32) -> Result<(), RamFault> {
+        self.ram.clear_page(page)
+    }
 }
 
 impl Port for MemoryPort {

@@ -10,6 +10,8 @@ use vb_status::{Features, MemoryPort, Port, Status, StatusFault};
 pub(super) enum Deed {
     /// It writes the status.
     Status(u8),
+    /// It makes a page zeros.
+    Clear(u32),
     /// It writes to a part of a page.
     Write(u32, Part),
 }
@@ -96,6 +98,11 @@ impl GuestBytes for Recorder {
         self.awaited.note(Deed::Write(page, part_of(page, offset)));
         self.port.write(page, offset, bytes)
     }
+
+    fn clear_page(&mut self, page: u32) -> Result<(), RamFault> {
+        self.awaited.note(Deed::Clear(page));
+        self.port.clear_page(page)
+    }
 }
 
 impl Port for Recorder {
@@ -125,14 +132,10 @@ impl Port for Recorder {
 /// filled and posted, before DRIVER_OK (VIRTIO 1.1, 3.1.1 and 5.5.6.3).
 const INIT_DEEDS: &'static [Deed] = &[
     Deed::Status(11),
-    Deed::Write(0, Part::Descriptors),
-    Deed::Write(0, Part::Available),
-    Deed::Write(1, Part::Descriptors),
-    Deed::Write(1, Part::Available),
-    Deed::Write(2, Part::Descriptors),
-    Deed::Write(2, Part::Available),
-    Deed::Write(3, Part::Descriptors),
-    Deed::Write(3, Part::Available),
+    Deed::Clear(0),
+    Deed::Clear(1),
+    Deed::Clear(2),
+    Deed::Clear(3),
     Deed::Write(12, Part::Buffers),
     Deed::Write(2, Part::Descriptors),
     Deed::Write(2, Part::Available),

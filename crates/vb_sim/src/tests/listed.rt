@@ -164,6 +164,10 @@ impl GuestBytes for ListedDevice {
     fn write(&mut self, page: u32, offset: usize, bytes: &[u8]) -> Result<(), RamFault> {
         self.inner.write(page, offset, bytes)
     }
+
+    fn clear_page(&mut self, page: u32) -> Result<(), RamFault> {
+        self.inner.clear_page(page)
+    }
 }
 
 impl Port for ListedDevice {

@@ -1,4 +1,4 @@
-use Rattle.std.proofs.Common.{ap, ℕ, ◌%◌, Bool, ◌==◌, ◌&&◌}
+use Rattle.std.proofs.Common.{ap, ◌%◌, Bool, ◌==◌, ◌&&◌}
 use Rattle.vb_ram.proofs.config.are_guest_pages.Goals as goal
 
 pub returns : goal.returns
