@@ -28,7 +28,6 @@ ghost use Rattle.vb_driver.specs.Places.{marked};
 
 use crate::places::{PlaceTable, is_reporting};
 use crate::queue::RequestPages;
-use arrayvec::ArrayVec;
 use std::alloc::{AllocError, Global};
 use std::marker::Model;
 use vb_model::{Place, Refusal};
@@ -134,22 +133,22 @@ impl Allocator {
         }
     }
 
-    /// Takes single free pages, so many; the lists of all processors are drained first.
-    pub(crate) fn take_free(&mut self, count: u32) -> RequestPages
+    /// Takes single free pages, so many, and puts them in place of those that `taken` has; the
+    /// lists of all processors are drained first.
+    pub(crate) fn take_free(&mut self, count: u32, taken: &mut RequestPages)
         requires few { count ≤ max_request_pages }
         requires free { count ≤ count_by (λ f. f) (flags_of self.old.free) }
-        ensures count { length result.items ≡ count }
-        ensures free { IsTrue (list_all (is_free_at (flags_of self.old.free)) result.items) }
-        ensures distinct { AllDistinct result.items }
+        ensures count { length taken.new.items ≡ count }
+        ensures free { IsTrue (list_all (is_free_at (flags_of self.old.free)) taken.new.items) }
+        ensures distinct { AllDistinct taken.new.items }
         ensures state { Becomes self.old self.new
-            (marked result.items false (flags_of self.old.free)) self.old.held }
-        ensures areas { TakesFree self.old result.items self.new }
+            (marked taken.new.items false (flags_of self.old.free)) self.old.held }
+        ensures areas { TakesFree self.old taken.new.items self.new }
     {
         // A free page is one of the guest's pages.
         self.pages.pages_are_apart();
-        let mut taken = ArrayVec::new();
-        self.pages.take_free(count, &mut taken);
-        taken
+        taken.clear();
+        self.pages.take_free(count, taken);
     }
 
     /// Gives a page back that was taken.

@@ -12,9 +12,10 @@ ghost use Rattle.vb_driver.specs.Calls.{AllocatesBy, FreesBy, AreCountsOf};
 
 use crate::areas::Allocator;
 use crate::places::PlaceTable;
-use crate::queue::RequestQueue;
+use crate::queue::{RequestPages, RequestQueue};
 use crate::reports::ReportQueue;
 use crate::statistics::StatisticsQueue;
+use arrayvec::ArrayVec;
 use bitflags::Flags;
 use std::alloc::{AllocError, Global};
 use std::marker::Model;
@@ -44,6 +45,10 @@ pub struct Driver {
     pub(crate) features: Features,
     /// How many pages the device was told last.
     pub(crate) actual: u32,
+    /// Room for the pages of the request that is posted or taken back.
+    pub(crate) named: RequestPages,
+    /// Room for the free pages that an inflate request names behind the stranded ones.
+    pub(crate) others: RequestPages,
 }
 
 impl Model for Driver {
@@ -135,6 +140,8 @@ impl Driver {
             report: ReportQueue::new(shape),
             features: Features::empty(),
             actual: 0,
+            named: ArrayVec::new(),
+            others: ArrayVec::new(),
         })
     }
 

@@ -18,7 +18,6 @@ ghost use Rattle.vb_driver.specs.State.{IsAreaBlock};
 ghost use Rattle.vb_driver.specs.Places.{number_of, is_at, AreLentBits};
 
 use crate::queue::RequestPages;
-use arrayvec::ArrayVec;
 use std::alloc::{AllocError, Global};
 use std::marker::Model;
 use vb_bits::BitSet;
@@ -159,13 +158,13 @@ fn put_all(places: &mut [Place], start: u32, end: u32, place: Place)
     }
 }
 
-/// The lowest pages of a set, so many at most.
-fn lowest_in(set: &BitSet, most: u32) -> RequestPages
+/// Puts the lowest pages of a set, so many at most, in place of those that `lowest` has.
+fn lowest_in(set: &BitSet, most: u32, lowest: &mut RequestPages)
     requires few { most ≤ max_request_pages }
     requires small { length set.now ≤ MAX_GUEST_PAGES }
-    ensures { result.items ≡ take most (pages_where (λ b. b) set.now) }
+    ensures { lowest.new.items ≡ take most (pages_where (λ b. b) set.now) }
 {
-    let mut lowest = ArrayVec::new();
+    lowest.clear();
     let mut from = 0;
     for _found in 0..most {
         match set.first_from(from) {
@@ -173,10 +172,9 @@ fn lowest_in(set: &BitSet, most: u32) -> RequestPages
                 lowest.push(page);
                 from = page + 1;
             }
-            None => return lowest,
+            None => return,
         }
     }
-    lowest
 }
 
 impl PlaceTable {
@@ -325,33 +323,32 @@ impl PlaceTable {
         }
     }
 
-    /// The lowest lent pages, so many at most.
-    pub(crate) fn lowest_lent(&self, most: u32) -> RequestPages
+    /// Puts the lowest lent pages, so many at most, in place of those that `pages` has.
+    pub(crate) fn lowest_lent(&self, most: u32, pages: &mut RequestPages)
         requires { most ≤ max_request_pages }
-        ensures { result.items ≡ take most (pages_where is_lent self.now) }
+        ensures { pages.new.items ≡ take most (pages_where is_lent self.now) }
     {
-        lowest_in(&self.lent, most)
+        lowest_in(&self.lent, most, pages);
     }
 
-    /// Moves so many of the lowest lent pages to where pages are that were asked back, and gives
-    /// them.
-    pub(crate) fn take_lowest_lent(&mut self, most: u32) -> RequestPages
+    /// Moves so many of the lowest lent pages to where pages are that were asked back, and puts
+    /// them in place of those that `pages` has.
+    pub(crate) fn take_lowest_lent(&mut self, most: u32, pages: &mut RequestPages)
         requires { most ≤ max_request_pages }
-        ensures pages { result.items ≡ take most (pages_where is_lent self.old) }
+        ensures pages { pages.new.items ≡ take most (pages_where is_lent self.old) }
         ensures moved { self.new
             ≡ placed (take most (pages_where is_lent self.old)) Taking self.old }
     {
-        let pages = self.lowest_lent(most);
-        self.set_all(&pages, Place::Taking);
-        pages
+        self.lowest_lent(most, pages);
+        self.set_all(pages, Place::Taking);
     }
 
-    /// The lowest stranded pages, so many at most.
-    pub(crate) fn lowest_stranded(&self, most: u32) -> RequestPages
+    /// Puts the lowest stranded pages, so many at most, in place of those that `pages` has.
+    pub(crate) fn lowest_stranded(&self, most: u32, pages: &mut RequestPages)
         requires { most ≤ max_request_pages }
-        ensures { result.items ≡ take most (pages_where is_stranded self.now) }
+        ensures { pages.new.items ≡ take most (pages_where is_stranded self.now) }
     {
-        lowest_in(&self.stranded, most)
+        lowest_in(&self.stranded, most, pages);
     }
 
     /// The lent pages as bits.

@@ -2,7 +2,7 @@
 
 ghost use Rattle.std.specs.Prelude.{◌≡◌, ◌<◌, ◌≤◌, ℕ, [], Ok, Err, None, Some, IfOk, IfErr};
 ghost use Rattle.std.specs.Prelude.{MatchOption, OnErr, length, min};
-ghost use Rattle.std.specs.Prelude.{replicate, sum_by, slice_index_or, ◌*◌};
+ghost use Rattle.std.specs.Prelude.{replicate, sum_by, slice_index_or, ◌*◌, ◌+◌, ◌++◌};
 ghost use Rattle.vb_model.specs.Limits.{max_outstanding, max_request_pages};
 ghost use Rattle.vb_model.specs.Layout.{buffers_page, ring_page};
 ghost use Rattle.vb_ring.specs.Layout.{IsSize, IsInside, layout_of};
@@ -45,13 +45,53 @@ impl Model for Sent {
     ghost view = { λ s. s.pages.items };
 }
 
+/// Puts more page numbers behind the first ones.
+pub(crate) fn append(pages: &mut RequestPages, more: &[u32])
+    requires { length pages.old.items + length more.now ≤ max_request_pages }
+    ensures { pages.new.items ≡ pages.old.items ++ more.now }
+{
+    let _fits = pages.try_extend_from_slice(more);
+}
+
+/// Puts the pages of `source` in place of those of `pages`. Only pages that are there are copied.
+fn copy_into(pages: &mut RequestPages, source: &RequestPages)
+    ensures { pages.new.items ≡ source.now.items }
+{
+    pages.clear();
+    append(pages, source);
+}
+
 impl Sent {
+    /// No request.
     fn none() -> Self
         ensures { result ≡ [] }
     {
         Sent {
             pages: ArrayVec::new(),
         }
+    }
+
+    /// Keeps the pages of a request that goes out.
+    fn keep(&mut self, pages: &RequestPages)
+        ensures { self.new ≡ pages.now.items }
+    {
+        copy_into(&mut self.pages, pages);
+    }
+
+    /// Forgets the request.
+    fn forget(&mut self)
+        ensures { self.new ≡ [] }
+    {
+        self.pages.clear();
+    }
+
+    /// Puts the pages of the request into `pages`, and forgets it.
+    fn hand_over(&mut self, pages: &mut RequestPages)
+        ensures pages { pages.new.items ≡ self.old }
+        ensures forgotten { self.new ≡ [] }
+    {
+        copy_into(pages, &self.pages);
+        self.forget();
     }
 }
 
@@ -93,7 +133,7 @@ fn forget_all(sent: &mut [Sent])
     ensures { sent.new ≡ replicate (length sent.old) [] }
 {
     for k in 0..sent.len() {
-        sent[k] = Sent::none();
+        sent[k].forget();
     }
 }
 
@@ -153,7 +193,7 @@ impl RequestQueue {
         &mut self,
         ram: &mut G,
         queue: u32,
-        pages: RequestPages,
+        pages: &RequestPages,
     ) -> u16
         requires room { outstanding self.old.ring < min self.old.ring.size max_outstanding }
         requires layout { self.old.ring.layout
@@ -161,7 +201,7 @@ impl RequestQueue {
         requires memory { IsLargeEnough (G.mem ram.old) }
         requires backed { HaveRingFrames self.old.ring.size (G.mem ram.old) }
         ensures posts { Posts (G.mem ram.old) (G.mem ram.new)
-            self.old self.new (buffers_page queue) pages.items result }
+            self.old self.new (buffers_page queue) pages.now.items result }
         ensures part { G.part ram.new ≡ G.part ram.old }
     {
         let Some(head) = self.ring.next_head() else {
@@ -169,7 +209,7 @@ impl RequestQueue {
         };
         let page = buffers_page(queue) + u32::from(head / 4);
         let offset = REQUEST_BUFFER_SIZE * u32::from(head % 4);
-        write_numbers(ram, page, offset as usize, &pages);
+        write_numbers(ram, page, offset as usize, pages);
         let piece = Piece {
             addr: u64::from(PAGE_SIZE * page + offset),
             len: 4 * pages.len() as u32,
@@ -178,15 +218,17 @@ impl RequestQueue {
         let Ok(head) = self.ring.add(ram, &[piece]) else {
             unreachable!()
         };
-        self.sent[usize::from(head)] = Sent { pages };
+        self.sent[usize::from(head)].keep(pages);
         head
     }
 
-    /// Takes the next request that the device has used, and gives its head and its pages.
+    /// Takes the next request that the device has used, gives its head, and puts its pages into
+    /// `pages`. What they are where no request came back is left open.
     pub(crate) fn take_used<G: GuestBytes>(
         &mut self,
         ram: &G,
-    ) -> Result<Option<(u16, RequestPages)>, RingBroken>
+        pages: &mut RequestPages,
+    ) -> Result<Option<u16>, RingBroken>
         requires { IsInside (G.mem ram.now) self.old.ring.layout }
         ensures requests { AreRequests self.old }
         ensures ring { TakesUsedBy (G.mem ram.now) self.old.ring self.new.ring
@@ -196,14 +238,14 @@ impl RequestQueue {
         ensures kept { OnErr result (self.new ≡ self.old) }
         ensures next { IfOk result (λ got. MatchOption got
             ((used_answer (G.mem ram.now) self.old.ring ≡ Ok None) × (self.new ≡ self.old))
-            (λ used. (used_answer (G.mem ram.now) self.old.ring ≡ Ok (Some used.0))
-            × (used.0 < max_outstanding)
-            × (used.1.items ≡ sent_by self.old used.0) × (self.new ≡ after_reap self.old used.0))) }
+            (λ head. (used_answer (G.mem ram.now) self.old.ring ≡ Ok (Some head))
+            × (head < max_outstanding)
+            × (pages.new.items ≡ sent_by self.old head) × (self.new ≡ after_reap self.old head))) }
     {
         let Some(head) = self.ring.take_used(ram)? else {
             return Ok(None);
         };
-        let Sent { pages } = std::mem::replace(&mut self.sent[usize::from(head)], Sent::none());
-        Ok(Some((head, pages)))
+        self.sent[usize::from(head)].hand_over(pages);
+        Ok(Some(head))
     }
 }

@@ -1,6 +1,6 @@
 //! Used requests are taken back (VIRTIO 1.1, 5.5.6).
 
-ghost use Rattle.std.specs.Prelude.{◌≡◌, ◌<◌, ◌∷◌, [], not, length, bit_or};
+ghost use Rattle.std.specs.Prelude.{◌≡◌, ◌<◌, ◌∷◌, [], not, bit_or};
 ghost use Rattle.std.specs.Prelude.{Ok, Err, None, Some, IfOk, IfErr, OnOk, OnErr, MatchOption};
 ghost use Rattle.vb_model.specs.Limits.{max_outstanding};
 ghost use Rattle.vb_model.specs.Status.{failed};
@@ -36,12 +36,14 @@ pub(crate) fn give_up<P: Port>(port: &mut P)
     let _ = port.write_status(failed);
 }
 
-/// Takes the next request of a queue that the device used, and gives its head and its pages. The
-/// driver gives up where the used ring says what no device may say.
+/// Takes the next request of a queue that the device used, gives its head, and puts its pages into
+/// `pages`; what they are where no request came back is left open. The driver gives up where the
+/// used ring says what no device may say.
 fn take_back<P: Port>(
     queue: &mut RequestQueue,
     port: &mut P,
-) -> Result<Option<(u16, RequestPages)>, Refusal>
+    pages: &mut RequestPages,
+) -> Result<Option<u16>, Refusal>
     requires { IsInside (P.mem port.old) queue.old.ring.layout }
     ensures refusal { refusal_in result ≡ first_refusal (
         (not (is_up (P.part port.old).status) ⇒ NotReady)
@@ -56,15 +58,15 @@ fn take_back<P: Port>(
         (used_answer (P.mem port.old) queue.old.ring)) }
     ensures next { IfOk result (λ got. MatchOption got
         ((used_answer (P.mem port.old) queue.old.ring ≡ Ok None) × (queue.new ≡ queue.old))
-        (λ used. (used_answer (P.mem port.old) queue.old.ring ≡ Ok (Some used.0))
-        × (used.0 < max_outstanding)
-        × (used.1.items ≡ sent_by queue.old used.0) × (queue.new ≡ after_reap queue.old used.0))) }
+        (λ head. (used_answer (P.mem port.old) queue.old.ring ≡ Ok (Some head))
+        × (head < max_outstanding)
+        × (pages.new.items ≡ sent_by queue.old head) × (queue.new ≡ after_reap queue.old head))) }
 {
     if !is_up(port) {
         return Err(Refusal::NotReady);
     }
-    match queue.take_used(port) {
-        Ok(used) => Ok(used),
+    match queue.take_used(port, pages) {
+        Ok(head) => Ok(head),
         Err(_) => {
             give_up(port);
             Err(Refusal::RingBroken)
@@ -129,21 +131,18 @@ impl Driver {
         port.set_actual(self.actual);
     }
 
-    /// Tells the device how many pages are lent or asked back once a request came back, and says
-    /// which one did.
-    fn tell_reaped<P: Port>(&mut self, port: &mut P, used: &(u16, RequestPages)) -> Reaped
+    /// Tells the device how many pages are lent or asked back once a request of this head came
+    /// back, which named so many pages.
+    fn tell_reaped<P: Port>(&mut self, port: &mut P, head: u16, pages: u32) -> Reaped
         ensures state { self.new ≡ with_actual self.old }
         ensures part { P.part port.new
             ≡ record (P.part port.old) { actual = given_away self.old } }
         ensures mem { P.mem port.new ≡ P.mem port.old }
-        ensures head { result.head ≡ used.now.0 }
-        ensures pages { result.pages ≡ length used.now.1.items }
+        ensures head { result.head ≡ head }
+        ensures pages { result.pages ≡ pages }
     {
         self.tell_actual(port);
-        Reaped {
-            head: used.0,
-            pages: used.1.len() as u32,
-        }
+        Reaped { head, pages }
     }
 
     /// Takes back the next inflate request that the device used: its pages are lent from now on.
@@ -154,13 +153,14 @@ impl Driver {
     {
         // Borrowed first: so the proof has what holds of each driver where the call is refused too.
         let places = &mut self.places;
-        let used = match take_back(&mut self.inflate, port) {
-            Ok(Some(used)) => used,
+        let head = match take_back(&mut self.inflate, port, &mut self.named) {
+            Ok(Some(head)) => head,
             Ok(None) => return Ok(None),
             Err(refusal) => return Err(refusal),
         };
-        places.set_all(&used.1, Place::Lent);
-        Ok(Some(self.tell_reaped(port, &used)))
+        places.set_all(&self.named, Place::Lent);
+        let pages = self.named.len() as u32;
+        Ok(Some(self.tell_reaped(port, head, pages)))
     }
 
     /// Takes back the next deflate request that the device used: its pages are free from now on,
@@ -172,17 +172,18 @@ impl Driver {
     {
         // Borrowed first: so the proof has what holds of each driver where the call is refused too.
         let places = &mut self.places;
-        let used = match take_back(&mut self.deflate, port) {
-            Ok(Some(used)) => used,
+        let head = match take_back(&mut self.deflate, port, &mut self.named) {
+            Ok(Some(head)) => head,
             Ok(None) => return Ok(None),
             Err(refusal) => return Err(refusal),
         };
+        let pages = self.named.len() as u32;
         if !self.features.must_tell_host() {
-            return Ok(Some(self.tell_reaped(port, &used)));
+            return Ok(Some(self.tell_reaped(port, head, pages)));
         }
-        self.areas.give_all(&used.1);
-        places.set_all(&used.1, Place::Free);
-        Ok(Some(self.tell_reaped(port, &used)))
+        self.areas.give_all(&self.named);
+        places.set_all(&self.named, Place::Free);
+        Ok(Some(self.tell_reaped(port, head, pages)))
     }
 
     /// Takes back the report if the device used it: its pages are free from now on.

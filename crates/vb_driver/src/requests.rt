@@ -1,9 +1,9 @@
 //! Pages are offered to the host, and asked back (VIRTIO 1.1, 5.5.6).
 
-ghost use Rattle.std.specs.Prelude.{◌≡◌, ◌<◌, ◌≤◌, ◌+◌, ◌==◌, ◌&&◌, ◌++◌, ◌∷◌, [], nat_le, nat_lt};
+ghost use Rattle.std.specs.Prelude.{◌≡◌, ◌<◌, ◌≤◌, ◌+◌, ◌==◌, ◌&&◌, ◌∷◌, [], nat_le, nat_lt};
 ghost use Rattle.std.specs.Prelude.{not, true, false, Ok};
 ghost use Rattle.std.specs.Prelude.{Err, OnOk};
-ghost use Rattle.std.specs.Prelude.{length, min};
+ghost use Rattle.std.specs.Prelude.{min};
 ghost use Rattle.vb_model.specs.Limits.{max_request_pages};
 ghost use Rattle.vb_ring.specs.Ends.{outstanding};
 ghost use Rattle.vb_driver.specs.State.{room, stranded_count, free_count, lent_count, tells_host};
@@ -15,7 +15,7 @@ ghost use Rattle.vb_driver.specs.Answers.{HaveRingFrames, IsLargeEnough, is_up, 
 ghost use Rattle.vb_driver.specs.Answers.{deflate_count, oom_count, refusal_in};
 ghost use Rattle.vb_driver.specs.Calls.{Offers, AsksBack, InflatesBy, DeflatesBy, DeflatesOnOomBy};
 
-use crate::queue::{RequestPages, RequestQueue};
+use crate::queue::{RequestQueue, append};
 use crate::{Driver, Posted};
 use bitflags::Flags;
 use vb_model::layout::{DEFLATE_QUEUE, INFLATE_QUEUE};
@@ -47,16 +47,6 @@ impl Needs {
         accepted: true,
         pending: false,
     };
-}
-
-/// Puts more page numbers behind the first ones.
-fn append(pages: &mut RequestPages, more: &[u32])
-    requires { length pages.old.items + length more.now ≤ max_request_pages }
-    ensures { pages.new.items ≡ pages.old.items ++ more.now }
-{
-    for page in more {
-        pages.push(*page);
-    }
 }
 
 impl Driver {
@@ -105,11 +95,12 @@ impl Driver {
         ensures { Offers (P.mem port.old) (P.mem port.new) (P.part port.old) (P.part port.new)
             self.old self.new count result }
     {
-        let mut pages = self.places.lowest_stranded(count);
-        let others = self.areas.take_free(count - pages.len() as u32);
-        append(&mut pages, &others);
-        self.places.set_all(&pages, Place::Giving);
-        let head = self.inflate.post(port, INFLATE_QUEUE, pages);
+        self.places.lowest_stranded(count, &mut self.named);
+        let missing = count - self.named.len() as u32;
+        self.areas.take_free(missing, &mut self.others);
+        append(&mut self.named, &self.others);
+        self.places.set_all(&self.named, Place::Giving);
+        let head = self.inflate.post(port, INFLATE_QUEUE, &self.named);
         Posted { head, pages: count }
     }
 
@@ -124,8 +115,8 @@ impl Driver {
         ensures { AsksBack (P.mem port.old) (P.mem port.new) (P.part port.old) (P.part port.new)
             self.old self.new count result }
     {
-        let pages = self.places.take_lowest_lent(count);
-        let head = self.deflate.post(port, DEFLATE_QUEUE, pages);
+        self.places.take_lowest_lent(count, &mut self.named);
+        let head = self.deflate.post(port, DEFLATE_QUEUE, &self.named);
         Posted { head, pages: count }
     }
 
@@ -140,10 +131,10 @@ impl Driver {
         ensures { AsksBack (P.mem port.old) (P.mem port.new) (P.part port.old) (P.part port.new)
             self.old self.new count result }
     {
-        let pages = self.places.lowest_lent(count);
-        self.areas.give_all(&pages);
-        self.places.set_all(&pages, Place::Free);
-        let head = self.deflate.post(port, DEFLATE_QUEUE, pages);
+        self.places.lowest_lent(count, &mut self.named);
+        self.areas.give_all(&self.named);
+        self.places.set_all(&self.named, Place::Free);
+        let head = self.deflate.post(port, DEFLATE_QUEUE, &self.named);
         Posted { head, pages: count }
     }
 

@@ -24,7 +24,7 @@ pub give_all-requires-clause-unreserved : goal.give_all-requires-clause-unreserv
 give_all-requires-clause-unreserved g c p here =
     let d = the_view c.self.inside in
     let items : c.deref.result.now ≡ lowest_lent d c.args.count =
-    c.deref.ensures.0 ∙ c.lowest_lent-pages.ensures in
+    c.deref.ensures.0 ∙ c.lowest_lent.ensures in
     place_unreserved d p Lent c.self.invariant refl
     (lent_place d c.args.count p (ap (is_in p) (sym items) ∙ here))
 
@@ -32,7 +32,7 @@ pub give_all-requires-clause-inside : goal.give_all-requires-clause-inside
 give_all-requires-clause-inside g c p here =
     let d = the_view c.self.inside in
     let items : c.deref.result.now ≡ lowest_lent d c.args.count =
-    c.deref.ensures.0 ∙ c.lowest_lent-pages.ensures in
+    c.deref.ensures.0 ∙ c.lowest_lent.ensures in
     (place_inside d p Lent c.self.invariant refl
     (lent_place d c.args.count p (ap (is_in p) (sym items) ∙ here))).0
 
@@ -40,7 +40,7 @@ pub give_all-requires-clause-taken : goal.give_all-requires-clause-taken
 give_all-requires-clause-taken g c p here =
     let d = the_view c.self.inside in
     let items : c.deref.result.now ≡ lowest_lent d c.args.count =
-    c.deref.ensures.0 ∙ c.lowest_lent-pages.ensures in
+    c.deref.ensures.0 ∙ c.lowest_lent.ensures in
     place_unfree d p Lent c.self.invariant refl
     (lent_place d c.args.count p (ap (is_in p) (sym items) ∙ here))
 
@@ -48,7 +48,7 @@ pub give_all-requires-clause-uncovered : goal.give_all-requires-clause-uncovered
 give_all-requires-clause-uncovered g c p here =
     let d = the_view c.self.inside in
     let items : c.deref.result.now ≡ lowest_lent d c.args.count =
-    c.deref.ensures.0 ∙ c.lowest_lent-pages.ensures in
+    c.deref.ensures.0 ∙ c.lowest_lent.ensures in
     place_uncovered d p Lent c.self.invariant refl
     (lent_place d c.args.count p (ap (is_in p) (sym items) ∙ here))
 
@@ -56,14 +56,14 @@ pub give_all-requires-clause-once : goal.give_all-requires-clause-once
 give_all-requires-clause-once g c p =
     let d = the_view c.self.inside in
     let items : c.deref.result.now ≡ lowest_lent d c.args.count =
-    c.deref.ensures.0 ∙ c.lowest_lent-pages.ensures in
+    c.deref.ensures.0 ∙ c.lowest_lent.ensures in
     subst (λ (l : List ℕ). times p l ≤ 1) (sym items) (once_lowest p c.args.count is_lent d.places)
 
 pub set_all-requires : goal.set_all-requires
 set_all-requires g c p here =
     let d = the_view c.self.inside in
     let items : c.deref-2.result.now ≡ lowest_lent d c.args.count =
-    c.deref-2.ensures.0 ∙ c.lowest_lent-pages.ensures in
+    c.deref-2.ensures.0 ∙ c.lowest_lent.ensures in
     (place_inside d p Lent c.self.invariant refl
     (lent_place d c.args.count p (ap (is_in p) (sym items) ∙ here))).1
 
@@ -74,8 +74,8 @@ invariant_of-self g c =
     let m2 = g.P.GuestBytes.mem c.post-head.new.ram in
     let areas2 = c.give_all.new.self in
     let untold : tells_host d ≡ false = ap tells_host c.self.view_is ∙ c.requires.untold in
-    let lowest : c.lowest_lent-pages.result.items ≡ lowest_lent d c.args.count =
-    c.lowest_lent-pages.ensures in
+    let lowest : c.lowest_lent.new.pages.items ≡ lowest_lent d c.args.count =
+    c.lowest_lent.ensures in
     let items : c.deref.result.now ≡ lowest_lent d c.args.count = c.deref.ensures.0 ∙ lowest in
     let placed_is : c.set_all.new.self ≡ placed (lowest_lent d c.args.count) Free d.places =
     c.set_all.ensures ∙ ap (λ (l : List ℕ). placed l Free d.places)

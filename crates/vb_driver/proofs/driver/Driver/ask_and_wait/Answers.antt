@@ -31,10 +31,10 @@ invariant_of-self g c =
     let d = the_view c.self.inside in
     let m1 = g.P.GuestBytes.mem c.args.port.now in
     let m2 = g.P.GuestBytes.mem c.post-head.new.ram in
-    let lowest : c.take_lowest_lent-pages.result.items ≡ lowest_lent d c.args.count =
-    c.take_lowest_lent-pages.ensures.pages in
-    let placed_is : c.take_lowest_lent-pages.new.self
-    ≡ placed (lowest_lent d c.args.count) Taking d.places = c.take_lowest_lent-pages.ensures.moved in
+    let lowest : c.take_lowest_lent.new.pages.items ≡ lowest_lent d c.args.count =
+    c.take_lowest_lent.ensures.pages in
+    let placed_is : c.take_lowest_lent.new.self
+    ≡ placed (lowest_lent d c.args.count) Taking d.places = c.take_lowest_lent.ensures.moved in
     let posts : Posts m1 m2 d.deflate c.post-head.new.self 8 (lowest_lent d c.args.count)
     c.post-head.result = subst
     (λ (l : List ℕ). Posts m1 m2 d.deflate c.post-head.new.self 8 l c.post-head.result) lowest
@@ -50,16 +50,16 @@ returns g c =
     let told : tells_host d ≡ true = ap tells_host c.self.view_is ∙ c.requires.told in
     let m1 = g.P.GuestBytes.mem c.args.port.now in
     let m2 = g.P.GuestBytes.mem c.post-head.new.ram in
-    let lowest : c.take_lowest_lent-pages.result.items ≡ lowest_lent d c.args.count =
-    c.take_lowest_lent-pages.ensures.pages in
-    let placed_is : c.take_lowest_lent-pages.new.self
-    ≡ placed (lowest_lent d c.args.count) Taking d.places = c.take_lowest_lent-pages.ensures.moved in
+    let lowest : c.take_lowest_lent.new.pages.items ≡ lowest_lent d c.args.count =
+    c.take_lowest_lent.ensures.pages in
+    let placed_is : c.take_lowest_lent.new.self
+    ≡ placed (lowest_lent d c.args.count) Taking d.places = c.take_lowest_lent.ensures.moved in
     let posts : Posts m1 m2 d.deflate c.post-head.new.self 8 (lowest_lent d c.args.count)
     c.post-head.result = subst
     (λ (l : List ℕ). Posts m1 m2 d.deflate c.post-head.new.self 8 l c.post-head.result) lowest
     c.post-head.ensures.posts in
     let new : DriverState =
-    record d { places = c.take_lowest_lent-pages.new.self; deflate = c.post-head.new.self } in
+    record d { places = c.take_lowest_lent.new.self; deflate = c.post-head.new.self } in
     let asks : AsksBack m1 m2 (g.P.GuestBytes.part c.args.port.now)
     (g.P.GuestBytes.part c.post-head.new.ram) d new c.args.count
     (record { head = c.post-head.result; pages = c.args.count }) = record {

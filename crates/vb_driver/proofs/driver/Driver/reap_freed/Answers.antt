@@ -15,7 +15,7 @@ use Rattle.vb_driver.proofs.driver.Driver.reap_freed.Goals as goal
 pub give_all-requires-clause-unreserved : goal.give_all-requires-clause-unreserved
 give_all-requires-clause-unreserved g c p here =
     let d = the_view c.self.inside in
-    let head = c.in-Ok-Some.used.0 in
+    let head = c.in-Ok-Some.head in
     let told : tells_host d ≡ true =
     sym c.must_tell_host.ensures ∙ c.if-not-must_tell_host.false in
     let next = rw c.in-Ok-Some.field-0-is at c.in-Ok-Some.ensures.next in
@@ -26,7 +26,7 @@ give_all-requires-clause-unreserved g c p here =
 pub give_all-requires-clause-inside : goal.give_all-requires-clause-inside
 give_all-requires-clause-inside g c p here =
     let d = the_view c.self.inside in
-    let head = c.in-Ok-Some.used.0 in
+    let head = c.in-Ok-Some.head in
     let told : tells_host d ≡ true =
     sym c.must_tell_host.ensures ∙ c.if-not-must_tell_host.false in
     let next = rw c.in-Ok-Some.field-0-is at c.in-Ok-Some.ensures.next in
@@ -37,7 +37,7 @@ give_all-requires-clause-inside g c p here =
 pub give_all-requires-clause-taken : goal.give_all-requires-clause-taken
 give_all-requires-clause-taken g c p here =
     let d = the_view c.self.inside in
-    let head = c.in-Ok-Some.used.0 in
+    let head = c.in-Ok-Some.head in
     let told : tells_host d ≡ true =
     sym c.must_tell_host.ensures ∙ c.if-not-must_tell_host.false in
     let next = rw c.in-Ok-Some.field-0-is at c.in-Ok-Some.ensures.next in
@@ -48,7 +48,7 @@ give_all-requires-clause-taken g c p here =
 pub give_all-requires-clause-uncovered : goal.give_all-requires-clause-uncovered
 give_all-requires-clause-uncovered g c p here =
     let d = the_view c.self.inside in
-    let head = c.in-Ok-Some.used.0 in
+    let head = c.in-Ok-Some.head in
     let told : tells_host d ≡ true =
     sym c.must_tell_host.ensures ∙ c.if-not-must_tell_host.false in
     let next = rw c.in-Ok-Some.field-0-is at c.in-Ok-Some.ensures.next in
@@ -59,7 +59,7 @@ give_all-requires-clause-uncovered g c p here =
 pub give_all-requires-clause-once : goal.give_all-requires-clause-once
 give_all-requires-clause-once g c p =
     let d = the_view c.self.inside in
-    let head = c.in-Ok-Some.used.0 in
+    let head = c.in-Ok-Some.head in
     let told : tells_host d ≡ true =
     sym c.must_tell_host.ensures ∙ c.if-not-must_tell_host.false in
     let next = rw c.in-Ok-Some.field-0-is at c.in-Ok-Some.ensures.next in
@@ -69,7 +69,7 @@ give_all-requires-clause-once g c p =
 pub set_all-requires : goal.set_all-requires
 set_all-requires g c p here =
     let d = the_view c.self.inside in
-    let head = c.in-Ok-Some.used.0 in
+    let head = c.in-Ok-Some.head in
     let told : tells_host d ≡ true =
     sym c.must_tell_host.ensures ∙ c.if-not-must_tell_host.false in
     let next = rw c.in-Ok-Some.field-0-is at c.in-Ok-Some.ensures.next in
@@ -81,7 +81,7 @@ pub invariant_of-self-2 : goal.invariant_of-self-2
 invariant_of-self-2 g c =
     let d = the_view c.self.inside in
     let areas2 = c.give_all.new.self in
-    let head = c.in-Ok-Some.used.0 in
+    let head = c.in-Ok-Some.head in
     let told : tells_host d ≡ true =
     sym c.must_tell_host.ensures ∙ c.if-not-must_tell_host.false in
     let next = rw c.in-Ok-Some.field-0-is at c.in-Ok-Some.ensures.next in
@@ -119,7 +119,7 @@ invariant_of-self-2 g c =
 pub invariant_of-self-then-not-must_tell_host : goal.invariant_of-self-then-not-must_tell_host
 invariant_of-self-then-not-must_tell_host g c =
     let d = the_view c.self.inside in
-    let head = c.in-Ok-Some.used.0 in
+    let head = c.in-Ok-Some.head in
     let next = rw c.in-Ok-Some.field-0-is at c.in-Ok-Some.ensures.next in
     let untold : tells_host d ≡ false =
     sym c.must_tell_host.ensures ∙ c.if-not-must_tell_host.true in

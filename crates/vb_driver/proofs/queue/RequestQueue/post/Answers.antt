@@ -7,7 +7,7 @@ use Rattle.vb_ram.specs.Pages.{SameBut}
 use Rattle.vb_ring.specs.declared.layout.Layout.{Layout}
 use Rattle.vb_ring.specs.Layout.{IsSize, IsBacked}
 use Rattle.vb_ring.specs.Ends.{DriverEnd, after_add, next_head}
-use Rattle.vb_driver.specs.State.{RequestSide}
+use Rattle.vb_driver.specs.State.{RequestSide, AreRequests}
 use Rattle.vb_driver.specs.Calls.{Posts}
 use Rattle.vb_driver.proofs.Buffers.{names_at}
 use Rattle.vb_driver.proofs.RequestTables.{head_there, head_small, requests_added_at, room_inside}
@@ -91,10 +91,12 @@ invariant_of-self g c =
     added_head _ _ r c.add.new.self h c.in-Ok.head _ refl next c.in-Ok.ensures.adds in
     let state : c.add.new.self ≡ after_add r 1 (Ok h) =
     c.in-Ok.ensures.adds.state ∙ ap (λ (n : ℕ). after_add r 1 (Ok n)) (sym same) in
-    requests_added_at r c.add.new.self sent h c.from-3.result c.args.pages.items c.self.invariant
-    c.next_head.ensures.is_end next small
+    subst (λ (l : List ℕ). AreRequests
+    (record { ring = c.add.new.self; sent = set sent c.from-3.result l })) (sym c.keep.ensures)
+    (requests_added_at r c.add.new.self sent h c.from-3.result c.args.pages.now.items
+    c.self.invariant c.next_head.ensures.is_end next small
     (omega (arith, ap (λ (l : List ℕ). length l) c.deref.ensures.0, c.deref.ensures.1)) state
-    (c.from-3.ensures ∙ sym same)
+    (c.from-3.ensures ∙ sym same))
 
 pub returns-clause-posts : goal.returns-clause-posts
 returns-clause-posts g c =
@@ -104,7 +106,7 @@ returns-clause-posts g c =
     let m1 = g.G.GuestBytes.mem c.args.ram.now in
     let m2 = g.G.GuestBytes.mem c.write_numbers.new.ram in
     let m3 = g.G.GuestBytes.mem c.add.new.ram in
-    let pages = c.args.pages.items in
+    let pages = c.args.pages.now.items in
     let next : next_head r ≡ Some h = sym c.next_head.ensures.value ∙ c.in-Some.is in
     let room = room_inside r sent c.args.self.now c.self.view_is c.requires.room in
     let slice : c.deref.result.now ≡ pages = c.deref.ensures.0 in
@@ -143,10 +145,13 @@ returns-clause-posts g c =
       len = omega (arith, c.len.ensures.value);
     } in
     subst (λ (s : RequestSide). Posts m1 m3 s
-    (record { ring = c.add.new.self; sent = set sent c.from-3.result pages }) base pages
+    (record { ring = c.add.new.self; sent = set sent c.from-3.result c.keep.new.self }) base pages
     c.in-Ok.head) c.self.view_is
+    (subst (λ (l : List ℕ). Posts m1 m3 (record { ring = r; sent = sent })
+    (record { ring = c.add.new.self; sent = set sent c.from-3.result l }) base pages c.in-Ok.head)
+    (sym c.keep.ensures)
     (subst (λ (n : ℕ). Posts m1 m3 (record { ring = r; sent = sent })
     (record { ring = c.add.new.self; sent = set sent n pages }) base pages c.in-Ok.head)
     (sym c.from-3.ensures)
     (posts_by m1 m2 m3 r c.add.new.self sent base h c.in-Ok.head c.from-2.result
-    (4 * c.len.result) pages sending c.in-Ok.ensures.adds))
+    (4 * c.len.result) pages sending c.in-Ok.ensures.adds)))

@@ -17,5 +17,5 @@ invariant_of-self-2 g c =
     c.take_used.ensures.state
     ∙ ap (after_take r) (was c.take_used.result c.in_ok-head.field-0 h c.in_ok-head.was
     c.in-Some.is) in
-    requests_taken_at r c.take_used.new.self sent h c.from.result c.replace.new.dest
-    c.self.invariant state c.from.ensures (c.replace.ensures.after ∙ c.none.ensures)
+    requests_taken_at r c.take_used.new.self sent h c.from.result c.hand_over.new.self
+    c.self.invariant state c.from.ensures c.hand_over.ensures.forgotten
