@@ -26,7 +26,7 @@ mod status;
 mod tests;
 mod using;
 
-pub use asked::read_chain;
+pub use asked::read_chain_into;
 pub use ballooned::{count_ballooned, is_ballooned, mark};
 pub use device::{Denial, Device};
 pub use kinds::Kind;

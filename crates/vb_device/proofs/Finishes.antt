@@ -28,7 +28,7 @@ use Rattle.vb_device.specs.BaseCalls.{CanUse}
 use Rattle.vb_core.specs.Refusals.{readiness_refusal}
 use Rattle.vb_device.specs.Calls.{without_frames}
 use Rattle.vb_device.proofs.FourQueues.{at_each, part_get, part_set, set_here, base_set}
-use Rattle.vb_device.proofs.TakesBy.{finish_open, queue_known, status_ok}
+use Rattle.vb_device.proofs.TakesBy.{finish_open, queue_finish, queue_known, status_ok}
 use Rattle.vb_model.specs.Status.{contains, driver_ok}
 use Rattle.vb_model.specs.Layout.{reserved_pages, ring_page}
 use Rattle.vb_device.proofs.Discards.{discarded-length, reserved_still}
@@ -323,3 +323,32 @@ pub visits_some : (mem : Pages) (ts : List Request) (found : Option ℕ) →
     (length mem ≡ 0 → ts ≡ []) → found ≡ next_page ts → OnSome found (0 < length mem)
 visits_some mem ts None none at = search rules
 visits_some mem ts (Some page) none at = visits_attached mem ts page none (sym at)
+
+-- what may be finished is on a queue of requests, of a device that is ready
+queue_open : (q index : ℕ) (part : Part) → finish_refusal q index part ≡ None
+    → queue_refusal q part.status ≡ None
+queue_open q index part free = at (queue_refusal q part.status) refl
+  where
+    at : (o : Option Refusal) → queue_refusal q part.status ≡ o
+        → queue_refusal q part.status ≡ None
+    at None e = e
+    at (Some why) e =
+        absurd (none_some (finish_refusal q index part) why free (queue_finish q index part why e))
+
+-- and is there
+taken_there : (visits : Bool) (taken : Option Request) → taken_refusal visits taken ≡ None
+    → (r : Request) × (taken ≡ Some r)
+taken_there visits None free = absurd cc
+taken_there visits (Some r) free = (r, refl)
+
+-- the request that may be finished, by the parts of a device
+pub request_there : (q index : ℕ) (paced : Bool) (s f t a n : ℕ) (qs : List QueueState)
+    (l : LastStatistics) (loose : List Page)
+    → finish_refusal q index (with_pace paced (base_part s f t a n qs l loose)) ≡ None
+    → (r : Request) × (queue_refusal q s ≡ None)
+    × (slice_get (queue_at q qs).taken index ≡ Some r)
+request_there q index paced s f t a n qs l loose free =
+    let ok : queue_refusal q s ≡ None =
+    queue_open q index (with_pace paced (base_part s f t a n qs l loose)) free in
+    let found = taken_there (paced && not (q == 1)) (slice_get (queue_at q qs).taken index)
+    (sym (finish_left q index paced s f t a n qs l loose ok) ∙ free) in (found.0, ok, found.1)

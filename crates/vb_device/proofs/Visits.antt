@@ -1,12 +1,11 @@
 -- The oldest page of the taken requests that isn't visited yet.
 use Rattle.std.specs.Prelude.{◌≡◌, ℕ, zero, suc, ◌+◌, ◌<◌, ◌≤◌, Bool, true, false, List, [], ◌∷◌}
-use Rattle.std.specs.Prelude.{◌++◌, Some, All, refl}
-use Rattle.std.specs.Prelude.{length, if◌then◌else◌, None, slice_get}
-use Rattle.std.specs.List.{position, position_or_len, refill}
-use Rattle.std.proofs.Common.{◌∙◌, sym, subst, ap, arith, get_or, take}
-use Rattle.std.proofs.Math.ListN.{set, drop_of_length-le}
+use Rattle.std.specs.Prelude.{Some, All, refl}
+use Rattle.std.specs.Prelude.{length, if◌then◌else◌, None, Option, slice_get}
+use Rattle.std.specs.List.{position, position_or_len}
+use Rattle.std.proofs.Common.{◌∙◌, sym, subst, ap, arith, get_or}
+use Rattle.std.proofs.Math.ListN.{set}
 use Rattle.std.proofs.lemmas.Grind.{common_steps}
-use Rattle.std.proofs.lemmas.List.{length-set, append-nil, take_all}
 use Rattle.std.proofs.lemmas.List.Quantifiers.{position-Some}
 use Rattle.std.proofs.lemmas.List.Elements.{All-set}
 use Rattle.std.proofs.lemmas.List.Sums.{fails_before_first}
@@ -63,26 +62,18 @@ visits_none rs e =
     let far : length rs ≤ position_or_len is_unvisited rs = grind (arith, common_steps) in
     all_visited rs d (λ k l. fails_before_first is_unvisited rs k d (omega (arith, l, far)))
 
--- an element that is written through a slice
-pub refill_set : (xs ys : List Request) (i : ℕ) (y : Request) → ys ≡ xs →
-    refill (length xs) xs (set ys i y) ≡ set xs i y
-refill_set xs ys i y e =
-    let len : length (set ys i y) ≡ length xs =
-    length-set ys i y ∙ ap (λ (zs : List Request). length zs) e in
-    ap (λ (zs : List Request). take (length xs) (set ys i y ++ zs))
-    (drop_of_length-le xs (omega (arith, len)))
-    ∙ (ap (take (length xs)) (append-nil (set ys i y)) ∙
-    (take_all (length xs) (set ys i y) (omega (arith, len)) ∙
-    ap (λ (zs : List Request). set zs i y) e))
-
-pub taken_still : (n : ℕ) (xs ys : List Request) (i : ℕ) (y d : Request) → ys ≡ xs →
-    i < length xs → y ≡ once_more (get_or ys i d) → All (IsTaken n) xs →
-    All (IsTaken n) (refill (length xs) xs (set ys i y))
-taken_still n xs ys i y d e lt is all =
-    let was : IsTaken n (get_or xs i d) = all i d lt in
-    let here : IsTaken n (once_more (get_or xs i d)) =
-    record { head = was.head; above = was.above } in
-    subst (λ (zs : List Request). All (IsTaken n) zs) (sym (refill_set xs ys i y e))
-    (All-set (IsTaken n) xs i y
-    (subst (IsTaken n)
-    (sym (is ∙ ap (λ (zs : List Request). once_more (get_or zs i d)) e)) here) all)
+-- a chain is one of the queue's still, once one more of its pages is visited
+pub visiting_still : (n : ℕ) (rs : List Request) → All (IsTaken n) rs
+    → All (IsTaken n) (visiting rs)
+visiting_still n rs all = by_place (position is_unvisited rs) refl
+  where
+    by_place : (place : Option ℕ) → position is_unvisited rs ≡ place
+        → All (IsTaken n) (visiting rs)
+    by_place None e = subst (λ (xs : List Request). All (IsTaken n) xs) (sym (visits_none rs e).0) all
+    by_place (Some i) e =
+        let d : Request = record { head = 0; pages = []; visited = 0 } in
+        let found = visits_at rs i d e in
+        let was : IsTaken n (get_or rs i d) = all i d found.0 in
+        subst (λ (xs : List Request). All (IsTaken n) xs) (sym found.2)
+        (All-set (IsTaken n) rs i (once_more (get_or rs i d))
+        (record { head = was.head; above = was.above }) all)

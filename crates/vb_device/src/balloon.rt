@@ -1,10 +1,13 @@
 //! Balloon devices of both paces (profile).
 
-ghost use Rattle.std.specs.Prelude.{◌≡◌, [], true, false, IfOk, length};
+ghost use Rattle.std.specs.Prelude.{◌≡◌, [], true, false, IfOk, OnOk, OnErr, IsSome, Some, length};
 ghost use Rattle.vb_model.specs.Status.{contains, driver_ok};
 ghost use Rattle.vb_ring.specs.Layout.{IsBacked};
 ghost use Rattle.vb_device.specs.Queues.{queue_layout};
-ghost use Rattle.vb_device.specs.BaseCalls.{SettlesBy, CanUse};
+ghost use Rattle.vb_model.specs.Requests.{Request};
+ghost use Rattle.vb_device.specs.Base.{with_pace};
+ghost use Rattle.vb_device.specs.BaseCalls.{SettlesBy, CanUse, flags_after, refusal_in};
+ghost use Rattle.vb_device.specs.Conditions.{finish_refusal, taken_at};
 ghost use Rattle.vb_device.specs.Calls.{IsUnused};
 
 use crate::base::DeviceBase;
@@ -51,6 +54,29 @@ impl<P: Pace> Model for BalloonDevice<P> {
     ghost invariant = { λ s. length s.ballooned ≡ length s.base.mem };
 }
 
+/// Marks the pages of a taken request that may be finished as ballooned, or takes the marks back;
+/// answers its head. Refused as a finish is; then nothing is changed.
+fn mark_taken(
+    base: &DeviceBase,
+    ballooned: &mut PageFlags,
+    queue: u32,
+    index: u32,
+    paced: bool,
+) -> Result<u16, Refusal>
+    ensures refused { refusal_in result ≡
+        finish_refusal queue index (with_pace paced base.now.part) }
+    ensures head { (r : Request) → taken_at queue index base.now.part ≡ Some r →
+        IfOk result (λ head. head ≡ r.head) }
+    ensures marked { (r : Request) → taken_at queue index base.now.part ≡ Some r →
+        OnOk result (ballooned.new ≡ flags_after queue r.pages ballooned.old) }
+    ensures there { OnOk result (IsSome (taken_at queue index base.now.part)) }
+    ensures kept { OnErr result (ballooned.new ≡ ballooned.old) }
+{
+    let request = base.taken(queue, index, paced)?;
+    ballooned.note_finish(queue, request);
+    Ok(request.head())
+}
+
 impl<P: Pace> BalloonDevice<P> {
     /// A device of this pace that no guest has yet.
     pub(crate) fn of_pace(alloc: Global) -> Self
@@ -74,8 +100,8 @@ impl<P: Pace> BalloonDevice<P> {
         self.base.has_ring(queue)
     }
 
-    /// All of `finish` but for the used entry: takes the request out and its pages' frames away,
-    /// and then marks the pages. Nothing is written.
+    /// All of `finish` but for the used entry: marks the pages of the request, takes it out, and
+    /// its pages' frames away. Nothing is written.
     pub(crate) fn settle(&mut self, queue: u32, index: u32) -> Result<u16, Refusal>
         requires backed { contains self.old.part.status driver_ok ≡ true →
             IsBacked self.old.mem (queue_layout queue self.old.part) }
@@ -84,9 +110,9 @@ impl<P: Pace> BalloonDevice<P> {
             self.old.part self.new.part result }
         ensures ready { IfOk result (λ head. CanUse queue head self.new.mem self.new.part) }
     {
-        let request = self.base.take_out(queue, index, P::IS_PACED)?;
-        self.ballooned.note_finish(queue, &request);
-        Ok(request.head())
+        let head = mark_taken(&self.base, &mut self.ballooned, queue, index, P::IS_PACED)?;
+        self.base.take_out(queue, index);
+        Ok(head)
     }
 }
 
@@ -129,6 +155,10 @@ impl<P: Pace> GuestBytes for BalloonDevice<P> {
 
     fn write(&mut self, page: u32, offset: usize, bytes: &[u8]) -> Result<(), RamFault> {
         self.base.write(page, offset, bytes)
+    }
+
+    fn clear_page(&mut self, page: u32) -> Result<(), RamFault> {
+        self.base.clear_page(page)
     }
 }
 

@@ -1,9 +1,9 @@
 //! What devices of every kind keep: memory, status, queues and loose frames.
 
-ghost use Rattle.std.specs.Prelude.{◌≡◌, ◌==◌, ◌&&◌, not, ◌<◌, ◌≤◌, ◌+◌, [], ◌∷◌, ◌++◌, Err};
+ghost use Rattle.std.specs.Prelude.{◌≡◌, ◌==◌, ◌&&◌, not, ◌<◌, ◌≤◌, ◌+◌, [], ◌∷◌, ◌++◌, Ok, Err};
 ghost use Rattle.std.specs.Prelude.{is_some, true, false, None, Some, IsSome, IsOk, IfNone, IfOk};
 ghost use Rattle.std.specs.Prelude.{OnOk, OnSome, OnErr, length};
-ghost use Rattle.std.specs.Prelude.{replicate, vec_capacity};
+ghost use Rattle.std.specs.Prelude.{replicate, vec_capacity, Bool};
 ghost use Rattle.vb_model.specs.declared.layout.TheConstants.{DEFLATE_QUEUE, STATISTICS_QUEUE};
 ghost use Rattle.vb_model.specs.declared.limits.TheConstants.{MAX_QUEUE_SIZE};
 ghost use Rattle.vb_model.specs.Limits.{is_config};
@@ -15,6 +15,9 @@ ghost use Rattle.vb_ring.specs.Layout.{IsBacked};
 ghost use Rattle.vb_device.specs.Queues.{queue_layout};
 ghost use Rattle.vb_device.specs.Base.{IsPlain, with_pace};
 ghost use Rattle.vb_device.specs.BaseCalls.{TakesOut, UsesChain, CanUse};
+ghost use Rattle.vb_device.specs.BaseCalls.{refusal_in};
+ghost use Rattle.vb_device.specs.Conditions.{finish_refusal, taken_at};
+ghost use Rattle.vb_model.specs.Requests.{Request};
 ghost use Rattle.vb_core.specs.Refusals.{readiness_refusal, take_refusal_by};
 ghost use Rattle.vb_device.specs.BaseCalls.{queue_refusal, SweepsPage, GivesLast};
 ghost use Rattle.vb_device.specs.BaseCalls.{with_visit, VisitsNext, TakesBuffer};
@@ -23,7 +26,7 @@ ghost use Rattle.vb_device.specs.Calls.{IsUnused, attached, TakesBy, AsksBy, Det
 ghost use Rattle.vb_device.specs.Discards.{discarded, frames_behind};
 ghost use Rattle.vb_device.specs.QueueState.{status_after};
 
-use crate::discarding::{discard_memory, discard_page, discard_request};
+use crate::discarding::{discard_memory, discard_page};
 use crate::flags::PageFlags;
 use crate::queue::DeviceQueue;
 use crate::queues::{index_of, new_queues, place_queues, set_all_ready};
@@ -201,36 +204,43 @@ impl DeviceBase {
         taken
     }
 
-    /// Takes a taken request out of queue 0, 1 or 4, with the frames behind an inflate's or a
-    /// report's pages. A paced device has visited all of them before. The driver isn't told before
-    /// `use_chain`.
-    pub(crate) fn take_out(
-        &mut self,
+    /// The taken request of this number on queue 0, 1 or 4, where it may be finished; a paced
+    /// device has visited all pages of an inflate or a report before.
+    pub(crate) fn taken(
+        &self,
         queue: u32,
         index: u32,
         paced: bool,
-    ) -> Result<TakenRequest, Refusal>
-        requires backed { contains self.old.part.status driver_ok ≡ true →
-            IsBacked self.old.mem (queue_layout queue self.old.part) }
-        requires none { self.old.part.loose ≡ [] }
-        ensures by { TakesOut queue index self.old.mem self.new.mem
-            (with_pace paced self.old.part) (with_pace paced self.new.part) result }
-        ensures count { length self.new.mem ≡ length self.old.mem }
-        ensures ready { IfOk result
-            (λ request. CanUse queue request.head self.new.mem self.new.part) }
+    ) -> Result<&TakenRequest, Refusal>
+        ensures refused { refusal_in result ≡
+            finish_refusal queue index (with_pace paced self.now.part) }
+        ensures request { IfOk result (λ r. taken_at queue index self.now.part ≡ Some r.now) }
     {
         if let Some(why) = self.queue_refusal(queue) {
             return Err(why);
         }
-        let visits = visits_first(paced, queue);
+        self.queues[index_of(queue)].taken(index, visits_first(paced, queue))
+    }
+
+    /// Takes a taken request that may be finished out, with the frames behind an inflate's or a
+    /// report's pages. The driver isn't told before `use_chain`.
+    pub(crate) fn take_out(&mut self, queue: u32, index: u32)
+        requires allowed { (paced : Bool) ×
+            (finish_refusal queue index (with_pace paced self.old.part) ≡ None) }
+        requires backed { contains self.old.part.status driver_ok ≡ true →
+            IsBacked self.old.mem (queue_layout queue self.old.part) }
+        requires none { self.old.part.loose ≡ [] }
+        ensures by { (paced : Bool) (r : Request) →
+            finish_refusal queue index (with_pace paced self.old.part) ≡ None →
+            taken_at queue index self.old.part ≡ Some r →
+            TakesOut queue index self.old.mem self.new.mem
+            (with_pace paced self.old.part) (with_pace paced self.new.part) (Ok r) }
+        ensures count { length self.new.mem ≡ length self.old.mem }
+        ensures ready { (r : Request) → taken_at queue index self.old.part ≡ Some r →
+            CanUse queue r.head self.new.mem self.new.part }
+    {
         let place = index_of(queue);
-        match self.queues[place].remove(index, visits) {
-            Err(why) => Err(why),
-            Ok(request) => {
-                discard_request(&mut self.ram, &mut self.loose, queue, &request);
-                Ok(request)
-            }
-        }
+        self.queues[place].take_out(&mut self.ram, &mut self.loose, queue, index);
     }
 
     /// Whether the pages of a queue's ring have frames, as a finish wants it: for the tests.
@@ -267,8 +277,10 @@ impl DeviceBase {
         if let Some(why) = self.readiness_refusal() {
             return Err(why);
         }
-        let buffer = self.queues[2].remove(0, false)?;
-        Ok(buffer.head())
+        let buffer = self.queues[2].taken(0, false)?;
+        let head = buffer.head();
+        self.queues[2].forget(0);
+        Ok(head)
     }
 
     /// Uses the statistics buffer that was taken.
@@ -419,6 +431,10 @@ impl GuestBytes for DeviceBase {
 
     fn write(&mut self, page: u32, offset: usize, bytes: &[u8]) -> Result<(), RamFault> {
         self.ram.write(page, offset, bytes)
+    }
+
+    fn clear_page(&mut self, page: u32) -> Result<(), RamFault> {
+        self.ram.clear_page(page)
     }
 }
 

@@ -12,6 +12,7 @@ mod pace;
 mod queue;
 mod queues;
 mod taken;
+mod taken_list;
 #[cfg(test)]
 mod tests;
 mod worked;

@@ -2,36 +2,36 @@
 
 ghost use Rattle.std.specs.Prelude.{◌≡◌, ◌<◌, ◌≤◌, ◌+◌, [], ◌++◌, ◌∷◌, All, IfNone, IfOk, OnOk};
 ghost use Rattle.std.specs.Prelude.{OnErr, Some, IsTrue, true, false, nat_le, length, slice_get};
-ghost use Rattle.std.specs.Prelude.{remove};
+ghost use Rattle.std.specs.Prelude.{remove, is_some, count_by, vec_capacity};
+ghost use Rattle.vb_model.specs.Requests.{Request};
+ghost use Rattle.vb_device.specs.Base.{numbers_of_frames};
+ghost use Rattle.vb_device.specs.BaseCalls.{with_lost};
+ghost use Rattle.vb_device.specs.Calls.{without_frames};
 ghost use Rattle.std.specs.Int.{is_power_of_two};
-ghost use Rattle.std.specs.List.{position};
 ghost use Rattle.vb_model.specs.declared.limits.TheConstants.{MIN_QUEUE_SIZE, MAX_QUEUE_SIZE};
 ghost use Rattle.vb_model.specs.Limits.{max_outstanding};
 ghost use Rattle.vb_model.specs.Layout.{reserved_pages};
-ghost use Rattle.vb_model.specs.Device.{is_unvisited, next_page, visiting};
+ghost use Rattle.vb_model.specs.Device.{next_page, visiting};
 ghost use Rattle.vb_model.specs.FirstRefusal.{refusal_in};
 ghost use Rattle.vb_ring.specs.Layout.{layout_of, IsInside, IsBacked};
 ghost use Rattle.vb_ring.specs.Ends.{IsDeviceEnd};
 ghost use Rattle.vb_ring.specs.Calls.{AddsUsedBy};
 ghost use Rattle.vb_device.specs.QueueState.{new_queue, restarted, is_full, TakesNext};
-ghost use Rattle.vb_device.specs.QueueState.{taken_refusal};
+ghost use Rattle.vb_device.specs.QueueState.{taken_refusal, IsTaken};
 
 use crate::Statistics;
+use crate::discarding::discard_request;
 use crate::taken::TakenRequest;
-use arrayvec::ArrayVec;
+use crate::taken_list::{MAX_TAKEN, TakenList};
 use std::marker::Model;
 use vb_chain::Chain;
-use vb_core::{broken, read_chain};
+use vb_core::broken;
 use vb_model::Refusal;
 use vb_model::layout::STATISTICS_QUEUE;
-use vb_model::limits::MAX_OUTSTANDING;
-use vb_ram::{GuestBytes, Shape};
+use vb_ram::{Frame, GuestBytes, Ram, Shape};
 #[cfg(test)]
 use vb_ring::Layout;
 use vb_ring::Queue;
-
-/// Chains of a queue that may be taken at a time.
-const MAX_TAKEN: usize = MAX_OUTSTANDING as usize;
 
 /// The device's end of a queue.
 #[derive(Drop)]
@@ -39,7 +39,7 @@ pub(crate) struct DeviceQueue {
     /// The device's end of the ring.
     queue: Queue,
     /// The chains that are taken, oldest first.
-    taken: ArrayVec<TakenRequest, MAX_TAKEN>,
+    taken: TakenList,
 }
 
 impl Model for DeviceQueue {
@@ -48,9 +48,9 @@ impl Model for DeviceQueue {
 
     ghost Value = { QueueState };
 
-    ghost view = { λ q. record { ring = q.queue; taken = q.taken.items } };
+    ghost view = { λ q. record { ring = q.queue; taken = q.taken } };
 
-    ghost invariant = { λ q. All (IsTaken q.queue.size) q.taken.items };
+    ghost invariant = { λ q. All (IsTaken q.queue.size) q.taken };
 }
 
 impl DeviceQueue {
@@ -60,7 +60,7 @@ impl DeviceQueue {
     {
         DeviceQueue {
             queue: Queue::new(page),
-            taken: ArrayVec::new(),
+            taken: TakenList::new(),
         }
     }
 
@@ -101,7 +101,7 @@ impl DeviceQueue {
         } else {
             MAX_TAKEN
         };
-        self.taken.len() >= most
+        self.taken.as_slice().len() >= most
     }
 
     /// Takes the next chain of this queue, which has this number: answers its head, or none where
@@ -136,11 +136,11 @@ impl DeviceQueue {
             Err(fault) => Err(broken(fault)),
             Ok(found) => match found {
                 None => Ok(None),
-                Some(head) => match read_chain(queue, shape, ram, chain.pieces(), last) {
-                    Ok(pages) => {
-                        self.taken.push(TakenRequest::new(head, pages));
-                        Ok(Some(head))
-                    }
+                Some(head) => match self
+                    .taken
+                    .take(head, queue, shape, ram, chain.pieces(), last)
+                {
+                    Ok(()) => Ok(Some(head)),
                     Err(wrong) => {
                         self.queue.go_to_previous_position();
                         Err(broken(wrong))
@@ -150,13 +150,6 @@ impl DeviceQueue {
         }
     }
 
-    /// The number of the oldest taken request with a page that isn't visited yet.
-    fn oldest_unvisited(&self) -> Option<usize>
-        ensures { result ≡ position is_unvisited self.now.taken }
-    {
-        self.taken.iter().position(|request| request.is_unvisited())
-    }
-
     /// Counts the oldest page that isn't visited yet as visited; answers the page, or none where
     /// every page of every taken request is visited.
     pub(crate) fn visit_next(&mut self) -> Option<u32>
@@ -164,32 +157,56 @@ impl DeviceQueue {
         ensures none { IfNone result (self.new ≡ self.old) }
         ensures taken { self.new ≡ record self.old { taken = visiting self.old.taken } }
     {
-        let oldest = self.oldest_unvisited()?;
-        Some(self.taken[oldest].visit())
+        self.taken.visit_next()
     }
 
-    /// Takes the request of this number out; those behind it close up. Refused with `NotTaken`
-    /// where there is none, and with `NotWorked` where its pages are to be visited first and one
-    /// isn't; then nothing is changed.
-    pub(crate) fn remove(&mut self, index: u32, visits: bool) -> Result<TakenRequest, Refusal>
+    /// The taken request of this number. Refused with `NotTaken` where there is none, and with
+    /// `NotWorked` where its pages are to be visited first and one isn't.
+    pub(crate) fn taken(&self, index: u32, visits: bool) -> Result<&TakenRequest, Refusal>
         ensures refused { refusal_in result ≡
-            taken_refusal visits (slice_get self.old.taken index) }
-        ensures value { IfOk result (λ r. slice_get self.old.taken index ≡ Some r) }
-        ensures head { IfOk result (λ r. r.head < self.old.ring.size) }
+            taken_refusal visits (slice_get self.now.taken index) }
+        ensures value { IfOk result (λ r. slice_get self.now.taken index ≡ Some r.now) }
+        ensures head { IfOk result (λ r. r.now.head < self.now.ring.size) }
         ensures above { IfOk result
-            (λ r. All (λ page. reserved_pages self.old.ring.size ≤ page) r.pages) }
-        ensures err { OnErr result (self.new ≡ self.old) }
-        ensures rest { OnOk result (self.new ≡
-            record self.old { taken = remove self.old.taken index }) }
+            (λ r. All (λ page. reserved_pages self.now.ring.size ≤ page) r.now.pages) }
     {
-        let at = index as usize;
-        if at >= self.taken.len() {
+        let Some(request) = self.taken.as_slice().get(index as usize) else {
             return Err(Refusal::NotTaken);
-        }
-        if visits && self.taken[at].is_unvisited() {
+        };
+        if visits && request.is_unvisited() {
             return Err(Refusal::NotWorked);
         }
-        Ok(self.taken.remove(at))
+        Ok(request)
+    }
+
+    /// Forgets the taken request of this number; those behind it close up.
+    pub(crate) fn forget(&mut self, index: u32)
+        requires { index < length self.old.taken }
+        ensures { self.new ≡ record self.old { taken = remove self.old.taken index } }
+    {
+        self.taken.forget(index as usize);
+    }
+
+    /// Takes the taken request of this number out, and the frames of its pages away where it is one
+    /// of inflates or reports; those behind it close up.
+    pub(crate) fn take_out(&mut self, ram: &mut Ram, loose: &mut Vec<Frame>, queue: u32, index: u32)
+        requires inside { index < length self.old.taken }
+        requires room { length loose.old.items + count_by is_some ram.old ≤ vec_capacity loose.old }
+        ensures taken { self.new ≡ record self.old { taken = remove self.old.taken index } }
+        ensures mem { (r : Request) → slice_get self.old.taken index ≡ Some r →
+            ram.new ≡ without_frames queue r.pages ram.old }
+        ensures loose { (r : Request) → slice_get self.old.taken index ≡ Some r →
+            numbers_of_frames loose.new.items ≡
+            with_lost queue ram.old r.pages (numbers_of_frames loose.old.items) }
+        ensures capacity { vec_capacity loose.new ≡ vec_capacity loose.old }
+        ensures was { (r : Request) → slice_get self.old.taken index ≡ Some r →
+            IsTaken self.old.ring.size r }
+    {
+        let Ok(request) = self.taken(index, false) else {
+            unreachable!()
+        };
+        discard_request(ram, loose, queue, request);
+        self.forget(index);
     }
 
     /// Adds a chain to the used ring, with length 0.

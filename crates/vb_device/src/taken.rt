@@ -1,11 +1,19 @@
 //! A chain that a device has taken.
 
-ghost use Rattle.std.specs.Prelude.{◌≡◌, ◌<◌, ◌≤◌, ◌+◌, ◌^◌, true, Some, length, slice_get};
+ghost use Rattle.std.specs.Prelude.{◌≡◌, ◌<◌, ◌≤◌, ◌+◌, ◌*◌, ◌^◌, true, Some, length, slice_get};
+ghost use Rattle.std.specs.Prelude.{All, IfErr, OnOk, OnErr, Ok, Err};
+ghost use Rattle.vb_model.specs.declared.limits.TheConstants.{MAX_QUEUE_SIZE};
+ghost use Rattle.vb_model.specs.Layout.{reserved_pages};
+ghost use Rattle.vb_model.specs.Limits.{page_size};
+ghost use Rattle.vb_core.specs.Asked.{request_of, noted};
 ghost use Rattle.vb_model.specs.Device.{is_unvisited};
 ghost use Rattle.vb_request.specs.Report.{IsRun};
 
 use std::marker::Model;
-use vb_request::{NamedPages, NamedRun};
+use vb_chain::{ChainFault, Piece};
+use vb_core::read_chain_into;
+use vb_ram::{GuestBytes, Shape};
+use vb_request::{NamedPages, NamedRun, Statistics};
 
 /// A chain that was taken and isn't used yet.
 #[derive(Drop)]
@@ -37,15 +45,38 @@ impl Default for TakenRequest {
 }
 
 impl TakenRequest {
-    /// A chain from this head, of whose pages none is visited.
-    pub(crate) fn new(head: u16, pages: NamedPages) -> TakenRequest
-        ensures { result ≡ record { head = head; pages = pages; visited = 0 } }
+    /// Becomes the chain of these pieces, from this head, on the queue of this number: reads which
+    /// pages it names, of which none is visited. What a buffer of statistics says replaces `last`.
+    /// Where the chain breaks a rule, the rule is the answer, and what the request is then is left
+    /// open.
+    pub(crate) fn read<G: GuestBytes>(
+        &mut self,
+        head: u16,
+        queue: u32,
+        shape: Shape,
+        ram: &G,
+        pieces: &[Piece],
+        last: &mut Statistics,
+    ) -> Result<(), ChainFault>
+        requires inside { All
+            (λ piece. piece.addr + piece.len ≤ page_size * length (G.mem ram.now)) pieces.now }
+        requires few { length pieces.now ≤ MAX_QUEUE_SIZE }
+        ensures pages { OnOk result
+            (request_of queue shape.queue_size (G.mem ram.now) pieces.now ≡ Ok self.new.pages) }
+        ensures fresh { OnOk result ((self.new.head ≡ head) × (self.new.visited ≡ 0)) }
+        ensures above { OnOk result
+            (All (λ page. reserved_pages shape.queue_size ≤ page) self.new.pages) }
+        ensures fault { IfErr result (λ fault.
+            request_of queue shape.queue_size (G.mem ram.now) pieces.now ≡ Err fault) }
+        ensures said { OnOk result ((last.new.free ≡ (noted queue (G.mem ram.now) pieces.now
+            (record { free = last.old.free; total = last.old.total })).free) ×
+            (last.new.total ≡ (noted queue (G.mem ram.now) pieces.now
+            (record { free = last.old.free; total = last.old.total })).total)) }
+        ensures err { OnErr result (last.new ≡ last.old) }
     {
-        TakenRequest {
-            head,
-            pages,
-            visited: 0,
-        }
+        self.head = head;
+        self.visited = 0;
+        read_chain_into(queue, shape, ram, pieces, last, &mut self.pages)
     }
 
     /// The head of its chain.

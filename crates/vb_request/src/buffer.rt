@@ -1,13 +1,13 @@
 //! The bytes of a chain that the device reads.
 
-ghost use Rattle.std.specs.Prelude.{◌≡◌, ◌+◌, ◌*◌, ◌/◌, ◌%◌, ◌^◌, ◌<◌, ◌≤◌, ◌++◌, All, length};
+ghost use Rattle.std.specs.Prelude.{◌≡◌, ◌+◌, ◌*◌, ◌/◌, ◌%◌, ◌^◌, ◌<◌, ◌≤◌, ◌++◌, [], All, length};
 ghost use Rattle.std.specs.List.{list_any};
 ghost use Rattle.vb_model.specs.declared.layout.TheConstants.{REQUEST_BUFFER_SIZE};
 ghost use Rattle.vb_model.specs.declared.limits.TheConstants.{MAX_QUEUE_SIZE};
 ghost use Rattle.vb_model.specs.Limits.{page_size};
 ghost use Rattle.vb_request.specs.Request.{bytes_from, bytes_of, total_length};
 
-use arrayvec::ArrayVec;
+use std::marker::Model;
 use vb_chain::Piece;
 use vb_model::layout::REQUEST_BUFFER_SIZE;
 use vb_model::limits::PAGE_SIZE;
@@ -21,7 +21,24 @@ const PAGE_BYTES: u64 = PAGE_SIZE as u64;
 const BUFFER_BYTES: usize = REQUEST_BUFFER_SIZE as usize;
 
 /// The bytes of a chain, all its pieces in a row.
-type ChainBytes = ArrayVec<u8, BUFFER_BYTES>;
+#[derive(Drop)]
+pub(crate) struct ChainBytes {
+    /// They, in order; past `len` unused.
+    bytes: [u8; BUFFER_BYTES],
+    /// How many there are.
+    len: usize,
+}
+
+impl Model for ChainBytes {
+    ghost use Rattle.std.specs.Prelude.{◌≤◌, ℕ, List, take};
+    ghost use Rattle.vb_model.specs.declared.layout.TheConstants.{REQUEST_BUFFER_SIZE};
+
+    ghost Value = { List ℕ };
+
+    ghost view = { λ c. take c.len c.bytes };
+
+    ghost invariant = { λ c. c.len ≤ REQUEST_BUFFER_SIZE };
+}
 
 /// Reads bytes of one page, from an address on.
 fn read_run<G: GuestBytes>(ram: &G, addr: u64, run: &mut [u8])
@@ -35,34 +52,54 @@ fn read_run<G: GuestBytes>(ram: &G, addr: u64, run: &mut [u8])
     let _ = ram.read(page, offset, run);
 }
 
-/// Reads bytes of one page and puts them behind the others.
-fn append_run<G: GuestBytes>(ram: &G, addr: u64, len: usize, bytes: &mut ChainBytes)
-    requires inside { addr + len ≤ page_size * length (G.mem ram.now) }
-    requires one_page { addr % page_size + len ≤ page_size }
-    requires few { length (G.mem ram.now) < 2 ^ 32 }
-    requires room { length bytes.old.items + len ≤ REQUEST_BUFFER_SIZE }
-    ensures { bytes.new.items ≡ bytes.old.items ++ bytes_from (G.mem ram.now) addr len }
-{
-    if len == 0 {
-        return;
+impl ChainBytes {
+    /// No bytes.
+    fn new() -> ChainBytes
+        ensures { result ≡ [] }
+    {
+        ChainBytes {
+            bytes: [0; BUFFER_BYTES],
+            len: 0,
+        }
     }
-    let mut run = [0; BUFFER_BYTES];
-    read_run(ram, addr, &mut run[..len]);
-    let _fits = bytes.try_extend_from_slice(&run[..len]);
-}
 
-/// Reads a piece's bytes and puts them behind the others: a piece of a chain that is read lies
-/// in one page or in two.
-fn append_bytes<G: GuestBytes>(ram: &G, addr: u64, len: u32, bytes: &mut ChainBytes)
-    requires inside { addr + len ≤ page_size * length (G.mem ram.now) }
-    requires few { length (G.mem ram.now) < 2 ^ 32 }
-    requires room { length bytes.old.items + len ≤ REQUEST_BUFFER_SIZE }
-    ensures { bytes.new.items ≡ bytes.old.items ++ bytes_from (G.mem ram.now) addr len }
-{
-    let to_page_end = (PAGE_BYTES - addr % PAGE_BYTES) as u32;
-    let first = len.min(to_page_end);
-    append_run(ram, addr, first as usize, bytes);
-    append_run(ram, addr + u64::from(first), (len - first) as usize, bytes);
+    /// The bytes, in order.
+    pub(crate) fn as_slice(&self) -> &[u8]
+        ensures bytes { result.now ≡ self.now }
+        ensures few { length result.now ≤ REQUEST_BUFFER_SIZE }
+    {
+        &self.bytes[..self.len]
+    }
+
+    /// Reads bytes of one page and puts them behind the others.
+    fn append_run<G: GuestBytes>(&mut self, ram: &G, addr: u64, len: usize)
+        requires inside { addr + len ≤ page_size * length (G.mem ram.now) }
+        requires one_page { addr % page_size + len ≤ page_size }
+        requires few { length (G.mem ram.now) < 2 ^ 32 }
+        requires room { length self.old + len ≤ REQUEST_BUFFER_SIZE }
+        ensures { self.new ≡ self.old ++ bytes_from (G.mem ram.now) addr len }
+    {
+        if len == 0 {
+            return;
+        }
+        let end = self.len + len;
+        read_run(ram, addr, &mut self.bytes[self.len..end]);
+        self.len = end;
+    }
+
+    /// Reads a piece's bytes and puts them behind the others: a piece of a chain that is read lies
+    /// in one page or in two.
+    fn append<G: GuestBytes>(&mut self, ram: &G, addr: u64, len: u32)
+        requires inside { addr + len ≤ page_size * length (G.mem ram.now) }
+        requires few { length (G.mem ram.now) < 2 ^ 32 }
+        requires room { length self.old + len ≤ REQUEST_BUFFER_SIZE }
+        ensures { self.new ≡ self.old ++ bytes_from (G.mem ram.now) addr len }
+    {
+        let to_page_end = (PAGE_BYTES - addr % PAGE_BYTES) as u32;
+        let first = len.min(to_page_end);
+        self.append_run(ram, addr, first as usize);
+        self.append_run(ram, addr + u64::from(first), (len - first) as usize);
+    }
 }
 
 /// The bytes of all pieces in a row.
@@ -71,11 +108,11 @@ pub(crate) fn gather<G: GuestBytes>(ram: &G, pieces: &[Piece]) -> ChainBytes
         (λ piece. piece.addr + piece.len ≤ page_size * length (G.mem ram.now)) pieces.now }
     requires few { length (G.mem ram.now) < 2 ^ 32 }
     requires fits { total_length pieces.now ≤ REQUEST_BUFFER_SIZE }
-    ensures { result.items ≡ bytes_of (G.mem ram.now) pieces.now }
+    ensures { result ≡ bytes_of (G.mem ram.now) pieces.now }
 {
-    let mut bytes: ChainBytes = ArrayVec::new();
+    let mut bytes = ChainBytes::new();
     for piece in pieces {
-        append_bytes(ram, piece.addr, piece.len, &mut bytes);
+        bytes.append(ram, piece.addr, piece.len);
     }
     bytes
 }

@@ -21,8 +21,10 @@ pub use laws::{
     a_written_request_is_read,
 };
 pub use named::{NamedPages, NamedRun};
-pub use report::{check_report, count_pages, read_report};
-pub use request::{is_request_length, number_at, number_fault, read_request, request_length};
+pub use report::{check_report, count_pages, read_report, read_report_into};
+pub use request::{
+    is_request_length, number_at, number_fault, read_request, read_request_into, request_length,
+};
 pub use statistics::{
     Statistics, is_statistics_length, read_statistics, statistics_length, tag_at, value_at,
 };

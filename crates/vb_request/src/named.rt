@@ -1,14 +1,19 @@
 //! The pages that a chain names.
 
 ghost use Rattle.std.specs.Prelude.{◌≡◌, ◌≤◌, ◌+◌, ◌*◌, ◌^◌, [], All, length, slice_get};
+ghost use Rattle.std.specs.Prelude.{Ok, Err, OnOk, IfErr};
+ghost use Rattle.vb_model.specs.declared.limits.TheConstants.{MAX_QUEUE_SIZE, MAX_REPORT_PIECES};
 ghost use Rattle.vb_model.specs.Limits.{page_size};
+ghost use Rattle.vb_request.specs.Request.{page_request};
 ghost use Rattle.vb_request.specs.Report.{pages_of_pieces, RunsFrom};
 
 use crate::report::{count_pages, run_at};
+use crate::request::page_request;
 use arrayvec::ArrayVec;
 use std::marker::Model;
-use vb_chain::Piece;
+use vb_chain::{ChainFault, Piece};
 use vb_model::limits::{MAX_REPORT_PIECES, MAX_REQUEST_PAGES};
+use vb_ram::GuestBytes;
 
 /// Pages of a request, at most.
 const MAX_PAGES: usize = MAX_REQUEST_PAGES as usize;
@@ -65,6 +70,15 @@ pub(crate) enum Kept {
     Pieces(ReportPieces),
 }
 
+/// Puts these pieces in the place of those that are kept.
+fn put_pieces(kept: &mut ReportPieces, pieces: &[Piece])
+    requires { length pieces.now ≤ MAX_REPORT_PIECES }
+    ensures { kept.new.items ≡ pieces.now }
+{
+    kept.clear();
+    let _fits = kept.try_extend_from_slice(pieces);
+}
+
 /// The pages that a chain names, in order.
 ///
 /// A request lists them, each once, at most 256. Of a report the pieces are kept, at most 32, and
@@ -98,23 +112,54 @@ impl NamedPages {
         }
     }
 
-    /// These pages.
-    pub(crate) fn of_list(listed: RequestPages) -> NamedPages
-        ensures { result ≡ listed.items }
+    /// No pages any more.
+    pub fn clear(&mut self)
+        ensures { self.new ≡ [] }
     {
-        NamedPages {
-            kept: Kept::Listed(listed),
+        match &mut self.kept {
+            Kept::Listed(listed) => listed.clear(),
+            Kept::Pieces(pieces) => pieces.clear(),
         }
     }
 
-    /// The pages of these pieces.
-    pub(crate) fn of_pieces(pieces: ReportPieces) -> NamedPages
-        requires { All (λ piece. piece.addr + piece.len ≤ page_size * 2 ^ 32) pieces.items }
-        ensures { result ≡ pages_of_pieces pieces.items }
+    /// Names the pages that a chain of these pieces lists, each once, or finds what is wrong with
+    /// it; then it is left open what is named.
+    pub(crate) fn list_request<G: GuestBytes>(
+        &mut self,
+        ram: &G,
+        pieces: &[Piece],
+        reserved: u32,
+    ) -> Result<(), ChainFault>
+        requires inside { All
+            (λ piece. piece.addr + piece.len ≤ page_size * length (G.mem ram.now)) pieces.now }
+        requires few { length pieces.now ≤ MAX_QUEUE_SIZE }
+        ensures pages { OnOk result
+            (page_request (G.mem ram.now) pieces.now reserved ≡ Ok self.new) }
+        ensures fault { IfErr result (λ fault.
+            page_request (G.mem ram.now) pieces.now reserved ≡ Err fault) }
     {
-        NamedPages {
-            kept: Kept::Pieces(pieces),
+        if let Kept::Listed(listed) = &mut self.kept {
+            return page_request(ram, pieces, reserved, listed);
         }
+        let mut listed = ArrayVec::new();
+        page_request(ram, pieces, reserved, &mut listed)?;
+        self.kept = Kept::Listed(listed);
+        Ok(())
+    }
+
+    /// Names the pages of these pieces.
+    pub(crate) fn keep_pieces(&mut self, pieces: &[Piece])
+        requires inside { All (λ piece. piece.addr + piece.len ≤ page_size * 2 ^ 32) pieces.now }
+        requires few { length pieces.now ≤ MAX_REPORT_PIECES }
+        ensures { self.new ≡ pages_of_pieces pieces.now }
+    {
+        if let Kept::Pieces(kept) = &mut self.kept {
+            put_pieces(kept, pieces);
+            return;
+        }
+        let mut kept = ArrayVec::new();
+        put_pieces(&mut kept, pieces);
+        self.kept = Kept::Pieces(kept);
     }
 
     /// How many there are; a page that a report names again counts again.

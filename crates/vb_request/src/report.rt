@@ -1,7 +1,7 @@
 //! The pages of a report: a chain of the queue of reports (profile).
 
 ghost use Rattle.std.specs.Prelude.{◌≡◌, ◌+◌, ◌*◌, ◌<◌, ◌≤◌, ◌^◌, not, All, MatchResult, Ok, Err};
-ghost use Rattle.std.specs.Prelude.{IfOk, OnOk, length};
+ghost use Rattle.std.specs.Prelude.{IfOk, IfErr, OnOk, OnErr, length};
 ghost use Rattle.std.specs.List.{list_any};
 ghost use Rattle.vb_model.specs.declared.limits.TheConstants.{MAX_REPORT_PIECES};
 ghost use Rattle.vb_model.specs.Limits.{page_size};
@@ -10,8 +10,7 @@ ghost use Rattle.vb_request.specs.Report.{pages_of_pieces, has_bad_length, piece
 ghost use Rattle.vb_request.specs.Report.{first_piece_fault, report_request};
 
 use crate::NamedPages;
-use crate::named::{MAX_PIECES, NamedRun, ReportPieces};
-use arrayvec::ArrayVec;
+use crate::named::{MAX_PIECES, NamedRun};
 use vb_chain::{ChainFault, Piece};
 use vb_model::limits::PAGE_SIZE;
 
@@ -131,8 +130,27 @@ pub fn read_report(pieces: &[Piece], reserved: u32) -> Result<NamedPages, ChainF
         (λ fault. report_request pieces.now reserved ≡ Err fault) }
     ensures above { IfOk result (λ pages. All (λ page. reserved ≤ page) pages) }
 {
+    let mut named = NamedPages::none();
+    match read_report_into(pieces, reserved, &mut named) {
+        Ok(()) => Ok(named),
+        Err(fault) => Err(fault),
+    }
+}
+
+/// The same, into room that the caller keeps. What it named before is gone, but where the report is
+/// refused: then it names what it did.
+pub fn read_report_into(
+    pieces: &[Piece],
+    reserved: u32,
+    named: &mut NamedPages,
+) -> Result<(), ChainFault>
+    requires inside { All (λ piece. piece.addr + piece.len ≤ page_size * 2 ^ 32) pieces.now }
+    ensures pages { OnOk result (report_request pieces.now reserved ≡ Ok named.new) }
+    ensures fault { IfErr result (λ fault. report_request pieces.now reserved ≡ Err fault) }
+    ensures above { OnOk result (All (λ page. reserved ≤ page) named.new) }
+    ensures kept { OnErr result (named.new ≡ named.old) }
+{
     check_report(pieces, reserved)?;
-    let mut named: ReportPieces = ArrayVec::new();
-    let _fits = named.try_extend_from_slice(pieces);
-    Ok(NamedPages::of_pieces(named))
+    named.keep_pieces(pieces);
+    Ok(())
 }

@@ -1,7 +1,8 @@
 //! The pages of a request: a chain of the queue of inflates or of deflates.
 
 ghost use Rattle.std.specs.Prelude.{◌≡◌, ◌+◌, ◌*◌, ◌<◌, ◌≤◌, ◌++◌, ◌∷◌, []};
-ghost use Rattle.std.specs.Prelude.{if◌then◌else◌, Ok, Err, All, IfOk, MatchResult, length};
+ghost use Rattle.std.specs.Prelude.{if◌then◌else◌, Ok, Err, All, IfOk, IfErr, OnOk, MatchResult};
+ghost use Rattle.std.specs.Prelude.{length};
 ghost use Rattle.vb_model.specs.declared.layout.TheConstants.{REQUEST_BUFFER_SIZE};
 ghost use Rattle.vb_model.specs.declared.limits.TheConstants.{MAX_QUEUE_SIZE};
 ghost use Rattle.vb_model.specs.Limits.{page_size, max_request_pages};
@@ -12,7 +13,6 @@ ghost use Rattle.vb_request.specs.Request.{is_request_length, request_length, pa
 use crate::NamedPages;
 use crate::buffer::{gather, has_writable, total_length};
 use crate::named::RequestPages;
-use arrayvec::ArrayVec;
 use vb_chain::{ChainFault, Piece};
 use vb_model::layout::REQUEST_BUFFER_SIZE;
 use vb_ram::GuestBytes;
@@ -87,42 +87,51 @@ fn add_once(pages: &mut RequestPages, number: u32)
     }
 }
 
-/// The pages that the numbers in these bytes are, each once, or what is wrong with the first wrong
-/// one.
-fn pages_of(reserved: u32, count: u32, bytes: &[u8]) -> Result<RequestPages, ChainFault>
+/// Puts the pages that the numbers in these bytes are, each once, into a list; or finds what is
+/// wrong with the first wrong one, and leaves open what the list has. What it held before is gone.
+fn list_pages(
+    reserved: u32,
+    count: u32,
+    bytes: &[u8],
+    pages: &mut RequestPages,
+) -> Result<(), ChainFault>
     requires { length bytes.now ≤ REQUEST_BUFFER_SIZE }
-    ensures { MatchResult result
-        (λ pages. pages_of_numbers reserved count (numbers_of bytes.now) ≡ Ok pages.items)
-        (λ fault. pages_of_numbers reserved count (numbers_of bytes.now) ≡ Err fault) }
+    ensures pages { OnOk result
+        (pages_of_numbers reserved count (numbers_of bytes.now) ≡ Ok pages.new.items) }
+    ensures fault { IfErr result (λ fault.
+        pages_of_numbers reserved count (numbers_of bytes.now) ≡ Err fault) }
 {
-    let mut pages: RequestPages = ArrayVec::new();
+    pages.clear();
     for k in 0..bytes.len() / 4 {
         let number = number_at(bytes, k);
         if let Some(fault) = number_fault(reserved, count, number) {
             return Err(fault);
         }
-        add_once(&mut pages, number);
+        add_once(pages, number);
     }
-    Ok(pages)
+    Ok(())
 }
 
-/// The numbers that a chain of these pieces lists, each once, or what is wrong with it.
-fn page_request<G: GuestBytes>(
+/// Puts the numbers that a chain of these pieces lists into a list, each once, or finds what is
+/// wrong with it, and leaves open what the list has. What it held before is gone.
+pub(crate) fn page_request<G: GuestBytes>(
     ram: &G,
     pieces: &[Piece],
     reserved: u32,
-) -> Result<RequestPages, ChainFault>
+    pages: &mut RequestPages,
+) -> Result<(), ChainFault>
     requires inside { All
         (λ piece. piece.addr + piece.len ≤ page_size * length (G.mem ram.now)) pieces.now }
     requires few { length pieces.now ≤ MAX_QUEUE_SIZE }
-    ensures { MatchResult result
-        (λ pages. page_request (G.mem ram.now) pieces.now reserved ≡ Ok pages.items)
-        (λ fault. page_request (G.mem ram.now) pieces.now reserved ≡ Err fault) }
+    ensures pages { OnOk result
+        (page_request (G.mem ram.now) pieces.now reserved ≡ Ok pages.new.items) }
+    ensures fault { IfErr result (λ fault.
+        page_request (G.mem ram.now) pieces.now reserved ≡ Err fault) }
 {
     let count = ram.pages();
     match request_length(pieces) {
         Err(fault) => Err(fault),
-        Ok(_) => pages_of(reserved, count, &gather(ram, pieces)),
+        Ok(_) => list_pages(reserved, count, gather(ram, pieces).as_slice(), pages),
     }
 }
 
@@ -137,6 +146,9 @@ fn page_request<G: GuestBytes>(
 /// - `BadLength` where the pieces have no byte together, more than 1024, or no multiple of 4;
 /// - for the first number that is wrong, `BadPage` where the guest has no such page, and
 ///   `ReservedPage` where the page is reserved.
+///
+/// What it answers is moved to the caller, some times 1 KiB: whoever reads many requests keeps
+/// room for their pages, and calls `read_request_into`.
 pub fn read_request<G: GuestBytes>(
     ram: &G,
     pieces: &[Piece],
@@ -150,8 +162,29 @@ pub fn read_request<G: GuestBytes>(
         (λ fault. page_request (G.mem ram.now) pieces.now reserved ≡ Err fault) }
     ensures above { IfOk result (λ pages. All (λ page. reserved ≤ page) pages) }
 {
-    match page_request(ram, pieces, reserved) {
-        Ok(listed) => Ok(NamedPages::of_list(listed)),
+    let mut named = NamedPages::none();
+    match read_request_into(ram, pieces, reserved, &mut named) {
+        Ok(()) => Ok(named),
         Err(fault) => Err(fault),
     }
+}
+
+/// The same, into room that the caller keeps. What it named before is gone; where the chain is
+/// refused, what it names is left open.
+pub fn read_request_into<G: GuestBytes>(
+    ram: &G,
+    pieces: &[Piece],
+    reserved: u32,
+    named: &mut NamedPages,
+) -> Result<(), ChainFault>
+    requires inside { All
+        (λ piece. piece.addr + piece.len ≤ page_size * length (G.mem ram.now)) pieces.now }
+    requires few { length pieces.now ≤ MAX_QUEUE_SIZE }
+    ensures pages { OnOk result
+        (page_request (G.mem ram.now) pieces.now reserved ≡ Ok named.new) }
+    ensures fault { IfErr result (λ fault.
+        page_request (G.mem ram.now) pieces.now reserved ≡ Err fault) }
+    ensures above { OnOk result (All (λ page. reserved ≤ page) named.new) }
+{
+    named.list_request(ram, pieces, reserved)
 }

@@ -130,6 +130,6 @@ pub fn read_statistics<G: GuestBytes>(ram: &G, pieces: &[Piece]) -> Result<Stati
     let _few = ram.pages();
     match statistics_length(pieces) {
         Err(fault) => Err(fault),
-        Ok(_) => Ok(statistics_of(&gather(ram, pieces))),
+        Ok(_) => Ok(statistics_of(gather(ram, pieces).as_slice())),
     }
 }

@@ -16,11 +16,11 @@ pub loop-piece-preserved : goal.loop-piece-preserved
 loop-piece-preserved g c =
     record {
       bytes = pieces_more (g.G.GuestBytes.mem c.args.ram.now) c.args.pieces.now
-          c.loop-piece.piece-index empty c.loop-piece.bytes.items c.append_bytes.new.bytes.items
+          c.loop-piece.piece-index empty c.loop-piece.bytes c.append.new.self
           (omega (arith, c.loop-piece-test.true)) c.loop-piece.invariant.bytes
-          c.append_bytes.ensures;
+          c.append.ensures;
       count = pieces_count (g.G.GuestBytes.mem c.args.ram.now) c.args.pieces.now
-          c.loop-piece.piece-index empty c.loop-piece.bytes.items c.append_bytes.new.bytes.items
+          c.loop-piece.piece-index empty c.loop-piece.bytes c.append.new.self
           (omega (arith, c.loop-piece-test.true)) c.loop-piece.invariant.count
-          c.append_bytes.ensures;
+          c.append.ensures;
     }

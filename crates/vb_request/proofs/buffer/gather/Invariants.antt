@@ -5,6 +5,6 @@ use Rattle.vb_request.proofs.buffer.gather.Given as goal
 abbrev pub invariant-loop-piece : goal.invariant-loop-piece
 invariant-loop-piece g l =
     record {
-      bytes : l.bytes.items ≡ bytes_of (g.G.GuestBytes.mem l.ram) (take l.piece-index l.pieces);
-      count : length l.bytes.items ≡ total_length (take l.piece-index l.pieces);
+      bytes : l.bytes ≡ bytes_of (g.G.GuestBytes.mem l.ram) (take l.piece-index l.pieces);
+      count : length l.bytes ≡ total_length (take l.piece-index l.pieces);
     }

@@ -33,16 +33,16 @@ returns-clause-ready c =
     (layout_of (ring_page c.self.inside.queue_size 2) c.self.inside.queue_size) =
     subst (λ (v : DeviceState). IsBacked v.mem (queue_layout 2 v.part)) (sym c.self.view_is)
     (c.requires.backed driver) in
-    let low : c.in_ok-buffer.buffer.head < (queue_at 2 c.self.inside.queues).ring.size =
-    subst (λ (x : QueueState). c.in_ok-buffer.buffer.head < x.ring.size) was
+    let low : c.in_ok-buffer.buffer.now.head < (queue_at 2 c.self.inside.queues).ring.size =
+    subst (λ (x : QueueState). c.in_ok-buffer.buffer.now.head < x.ring.size) was
     c.in_ok-buffer.ensures.head in
     subst (λ (h : ℕ). CanUse 2 h c.self.inside.ram
     (base_part (status_bits c.self.inside.status) (feature_bits c.self.inside.features)
     c.self.inside.target c.self.inside.actual c.self.inside.queue_size
-    (set c.self.inside.queues 2 c.remove.new.self) last c.self.inside.loose.items))
-    (sym c.head.ensures)
-    (can_use 2 c.in_ok-buffer.buffer.head [] c.self.inside.ram c.self.inside.ram
+    (set c.self.inside.queues 2 c.forget.new.self) last c.self.inside.loose.items))
+    (sym c.head-head.ensures)
+    (can_use 2 c.in_ok-buffer.buffer.now.head [] c.self.inside.ram c.self.inside.ram
     (status_bits c.self.inside.status) (feature_bits c.self.inside.features)
     c.self.inside.target c.self.inside.actual c.self.inside.queue_size _ c.self.inside.queues
-    c.remove.new.self last c.self.inside.loose.items c.self.invariant refl ok low
+    c.forget.new.self last c.self.inside.loose.items c.self.invariant refl ok low
     (λ k d lt. absurd (omega (arith, lt))) (discarded_none c.self.inside.ram) backed)

@@ -1,4 +1,4 @@
-use Rattle.std.proofs.Common.{◌≡◌, ◌++◌, true, false, rules, ◌∙◌, ◌+◌, ◌*◌, ◌≤◌, ℕ, List, ◌∷◌, []}
+use Rattle.std.proofs.Common.{◌≡◌, true, false, rules, ◌∙◌, ◌+◌, ◌*◌, ◌≤◌, ℕ, List, ◌∷◌, []}
 use Rattle.std.proofs.Common.{Option, Some, None, Result, Ok, Err, sym, ap, subst}
 use Rattle.std.specs.Prelude.{All, length}
 use Rattle.std.proofs.lemmas.List.Elements.{All-append}
@@ -55,25 +55,25 @@ returns-then-pages-eq0 g c =
 
 pub returns-in-Err : goal.returns-in-Err
 returns-in-Err g c =
-    let free : is_full c.args.queue (record { ring = c.self.inside.queue; taken = c.self.inside.taken.items }) ≡
+    let free : is_full c.args.queue (record { ring = c.self.inside.queue; taken = c.self.inside.taken }) ≡
     false = ap (is_full c.args.queue) c.self.view_is ∙ (sym c.is_full.ensures ∙ c.if-is_full.false) in
     let ready : c.self.inside.queue.ready ≡ true =
     ap (λ (q : QueueState). q.ring.ready) c.self.view_is ∙ c.requires.ready in
     subst (λ (q : QueueState). TakesNext c.args.queue (g.G.GuestBytes.mem c.args.ram.now) q
-    (record { ring = c.pop_descriptor_chain_into.new.self; taken = c.self.inside.taken.items })
+    (record { ring = c.pop_descriptor_chain_into.new.self; taken = c.self.inside.taken })
     (was c.args.last.now) (was c.args.last.now) (Err c.broken.result)) c.self.view_is
     (subst (λ (w : Refusal). TakesNext c.args.queue (g.G.GuestBytes.mem c.args.ram.now)
-    (record { ring = c.self.inside.queue; taken = c.self.inside.taken.items })
-    (record { ring = c.pop_descriptor_chain_into.new.self; taken = c.self.inside.taken.items })
+    (record { ring = c.self.inside.queue; taken = c.self.inside.taken })
+    (record { ring = c.pop_descriptor_chain_into.new.self; taken = c.self.inside.taken })
     (was c.args.last.now) (was c.args.last.now) (Err w)) (sym c.broken.ensures)
     (next_err c.args.queue (g.G.GuestBytes.mem c.args.ram.now) c.self.inside.queue
-    c.pop_descriptor_chain_into.new.self c.self.inside.taken.items
+    c.pop_descriptor_chain_into.new.self c.self.inside.taken
     (was c.args.last.now) c.in-Err.fault free ready
     c.in-Err.ensures.pops))
 
 pub returns-in-None : goal.returns-in-None
 returns-in-None g c =
-    let free : is_full c.args.queue (record { ring = c.self.inside.queue; taken = c.self.inside.taken.items }) ≡
+    let free : is_full c.args.queue (record { ring = c.self.inside.queue; taken = c.self.inside.taken }) ≡
     false = ap (is_full c.args.queue) c.self.view_is ∙ (sym c.is_full.ensures ∙ c.if-is_full.false) in
     let ready : c.self.inside.queue.ready ≡ true =
     ap (λ (q : QueueState). q.ring.ready) c.self.view_is ∙ c.requires.ready in
@@ -83,13 +83,13 @@ returns-in-None g c =
     c.pop_descriptor_chain_into.new.self (popped (Ok o) c.pop_descriptor_chain_into.new.chain))
     c.in-None.is c.in-Ok.ensures.pops in
     subst (λ (q : QueueState). TakesNext c.args.queue (g.G.GuestBytes.mem c.args.ram.now) q
-    (record { ring = c.pop_descriptor_chain_into.new.self; taken = c.self.inside.taken.items })
+    (record { ring = c.pop_descriptor_chain_into.new.self; taken = c.self.inside.taken })
     (was c.args.last.now) (was c.args.last.now) (Ok None)) c.self.view_is
     (next_none c.args.queue (g.G.GuestBytes.mem c.args.ram.now) c.self.inside.queue
-    c.pop_descriptor_chain_into.new.self c.self.inside.taken.items (was c.args.last.now) free ready pops)
+    c.pop_descriptor_chain_into.new.self c.self.inside.taken (was c.args.last.now) free ready pops)
 
-pub read_chain-requires-clause-inside : goal.read_chain-requires-clause-inside
-read_chain-requires-clause-inside g c =
+pub take-requires-clause-inside : goal.take-requires-clause-inside
+take-requires-clause-inside g c =
     let taken : Taken =
     record { head = c.in-Some.head; chain = c.pop_descriptor_chain_into.new.chain } in
     let pops : PopsBy (g.G.GuestBytes.mem c.args.ram.now) c.self.inside.queue
@@ -104,8 +104,8 @@ read_chain-requires-clause-inside g c =
     c.self.inside.queue.size (4096 * length (g.G.GuestBytes.mem c.args.ram.now))
     taken.head taken.chain pops.found.2)
 
-pub invariant_of-self-in-Ok-read_chain : goal.invariant_of-self-in-Ok-read_chain
-invariant_of-self-in-Ok-read_chain g c =
+pub invariant_of-self-in-Ok-take : goal.invariant_of-self-in-Ok-take
+invariant_of-self-in-Ok-take g c =
     let taken : Taken =
     record { head = c.in-Some.head; chain = c.pop_descriptor_chain_into.new.chain } in
     let pops : PopsBy (g.G.GuestBytes.mem c.args.ram.now) c.self.inside.queue
@@ -118,24 +118,23 @@ invariant_of-self-in-Ok-read_chain g c =
     let new : Request =
     record {
       head = taken.head;
-      pages = c.in-Ok-read_chain.pages;
+      pages = c.in-Ok-take.ensures.taken.0;
       visited = 0;
     } in
     let is : IsTaken c.self.inside.queue.size new = record {
       head = pops.found.2.chain.inside;
-      above = subst (λ (n : ℕ). All (λ page. reserved_pages n ≤ page) c.in-Ok-read_chain.pages)
-          c.size.ensures c.in-Ok-read_chain.ensures.above;
+      above = subst (λ (n : ℕ). All (λ page. reserved_pages n ≤ page) c.in-Ok-take.ensures.taken.0)
+          c.size.ensures c.in-Ok-take.ensures.taken.2;
     } in
-    subst (λ (n : ℕ). All (IsTaken n) c.push.new.self.items) (sym size)
+    subst (λ (n : ℕ). All (IsTaken n) c.take.new.self) (sym size)
     (subst (λ (xs : List Request). All (IsTaken c.self.inside.queue.size) xs)
-    (sym (c.push.ensures.items ∙ ap (λ (r : Request). c.self.inside.taken.items ++ r ∷ [])
-    c.new.ensures))
-    (All-append (IsTaken c.self.inside.queue.size) c.self.inside.taken.items (new ∷ [])
+    (sym c.in-Ok-take.ensures.taken.3)
+    (All-append (IsTaken c.self.inside.queue.size) c.self.inside.taken (new ∷ [])
     c.self.invariant (one_all (IsTaken c.self.inside.queue.size) new is)))
 
-pub returns-in-Ok-read_chain : goal.returns-in-Ok-read_chain
-returns-in-Ok-read_chain g c =
-    let free : is_full c.args.queue (record { ring = c.self.inside.queue; taken = c.self.inside.taken.items }) ≡
+pub returns-in-Ok-take : goal.returns-in-Ok-take
+returns-in-Ok-take g c =
+    let free : is_full c.args.queue (record { ring = c.self.inside.queue; taken = c.self.inside.taken }) ≡
     false = ap (is_full c.args.queue) c.self.view_is ∙ (sym c.is_full.ensures ∙ c.if-is_full.false) in
     let ready : c.self.inside.queue.ready ≡ true =
     ap (λ (q : QueueState). q.ring.ready) c.self.view_is ∙ c.requires.ready in
@@ -147,32 +146,31 @@ returns-in-Ok-read_chain g c =
     c.pop_descriptor_chain_into.new.self (popped (Ok o) c.pop_descriptor_chain_into.new.chain))
     c.in-Some.is c.in-Ok.ensures.pops in
     let good : request_of c.args.queue c.self.inside.queue.size (g.G.GuestBytes.mem c.args.ram.now) taken.chain ≡
-    Ok c.in-Ok-read_chain.pages =
+    Ok c.in-Ok-take.ensures.taken.0 =
     read_so c.args.queue c.size.result c.self.inside.queue.size (g.G.GuestBytes.mem c.args.ram.now)
-    c.pieces.result.now taken.chain (Ok c.in-Ok-read_chain.pages) c.size.ensures c.pieces.ensures
-    c.in-Ok-read_chain.ensures.pages in
-    let said : was c.read_chain.new.last ≡
+    c.pieces.result.now taken.chain (Ok c.in-Ok-take.ensures.taken.0) c.size.ensures c.pieces.ensures
+    c.in-Ok-take.ensures.taken.1 in
+    let said : was c.take.new.last ≡
     noted c.args.queue (g.G.GuestBytes.mem c.args.ram.now) taken.chain
     (was c.args.last.now) =
-    last_is c.read_chain.new.last (noted c.args.queue (g.G.GuestBytes.mem c.args.ram.now)
-    c.pieces.result.now (was c.args.last.now)) c.in-Ok-read_chain.ensures.said
+    last_is c.take.new.last (noted c.args.queue (g.G.GuestBytes.mem c.args.ram.now)
+    c.pieces.result.now (was c.args.last.now)) c.in-Ok-take.ensures.said
     ∙ ap (λ (xs : List Piece). noted c.args.queue (g.G.GuestBytes.mem c.args.ram.now) xs
     (was c.args.last.now)) c.pieces.ensures in
     subst (λ (q : QueueState). TakesNext c.args.queue (g.G.GuestBytes.mem c.args.ram.now) q
-    (record { ring = c.pop_descriptor_chain_into.new.self; taken = c.push.new.self.items })
-    (was c.args.last.now) (was c.read_chain.new.last) (Ok (Some taken.head))) c.self.view_is
+    (record { ring = c.pop_descriptor_chain_into.new.self; taken = c.take.new.self })
+    (was c.args.last.now) (was c.take.new.last) (Ok (Some taken.head))) c.self.view_is
     (subst (λ (xs : List Request). TakesNext c.args.queue (g.G.GuestBytes.mem c.args.ram.now)
-    (record { ring = c.self.inside.queue; taken = c.self.inside.taken.items })
+    (record { ring = c.self.inside.queue; taken = c.self.inside.taken })
     (record { ring = c.pop_descriptor_chain_into.new.self; taken = xs })
-    (was c.args.last.now) (was c.read_chain.new.last) (Ok (Some taken.head))) (sym (c.push.ensures.items ∙ ap (λ (r : Request). c.self.inside.taken.items ++ r ∷ [])
-    c.new.ensures))
+    (was c.args.last.now) (was c.take.new.last) (Ok (Some taken.head))) (sym c.in-Ok-take.ensures.taken.3)
     (next_right c.args.queue (g.G.GuestBytes.mem c.args.ram.now) c.self.inside.queue
-    c.pop_descriptor_chain_into.new.self c.self.inside.taken.items
-    (was c.args.last.now) (was c.read_chain.new.last) taken c.in-Ok-read_chain.pages free ready pops good said))
+    c.pop_descriptor_chain_into.new.self c.self.inside.taken
+    (was c.args.last.now) (was c.take.new.last) taken c.in-Ok-take.ensures.taken.0 free ready pops good said))
 
-pub returns-in-Err-read_chain : goal.returns-in-Err-read_chain
-returns-in-Err-read_chain g c =
-    let free : is_full c.args.queue (record { ring = c.self.inside.queue; taken = c.self.inside.taken.items }) ≡
+pub returns-in-Err-take : goal.returns-in-Err-take
+returns-in-Err-take g c =
+    let free : is_full c.args.queue (record { ring = c.self.inside.queue; taken = c.self.inside.taken }) ≡
     false = ap (is_full c.args.queue) c.self.view_is ∙ (sym c.is_full.ensures ∙ c.if-is_full.false) in
     let ready : c.self.inside.queue.ready ≡ true =
     ap (λ (q : QueueState). q.ring.ready) c.self.view_is ∙ c.requires.ready in
@@ -184,23 +182,28 @@ returns-in-Err-read_chain g c =
     c.pop_descriptor_chain_into.new.self (popped (Ok o) c.pop_descriptor_chain_into.new.chain))
     c.in-Some.is c.in-Ok.ensures.pops in
     let bad : request_of c.args.queue c.self.inside.queue.size (g.G.GuestBytes.mem c.args.ram.now) taken.chain ≡
-    Err c.in-Err-read_chain.wrong =
+    Err c.in-Err-take.wrong =
     read_so c.args.queue c.size.result c.self.inside.queue.size (g.G.GuestBytes.mem c.args.ram.now)
-    c.pieces.result.now taken.chain (Err c.in-Err-read_chain.wrong) c.size.ensures c.pieces.ensures
-    c.in-Err-read_chain.ensures.pages in
+    c.pieces.result.now taken.chain (Err c.in-Err-take.wrong) c.size.ensures c.pieces.ensures
+    c.in-Err-take.ensures.fault in
     subst (λ (q : QueueState). TakesNext c.args.queue (g.G.GuestBytes.mem c.args.ram.now) q
-    (record { ring = c.go_to_previous_position.new.self; taken = c.self.inside.taken.items })
-    (was c.args.last.now) (was c.read_chain.new.last) (Err c.broken-in-Err-read_chain.result)) c.self.view_is
+    (record { ring = c.go_to_previous_position.new.self; taken = c.take.new.self })
+    (was c.args.last.now) (was c.take.new.last) (Err c.broken-in-Err-take.result)) c.self.view_is
+    (subst (λ (xs : List Request). TakesNext c.args.queue (g.G.GuestBytes.mem c.args.ram.now)
+    (record { ring = c.self.inside.queue; taken = c.self.inside.taken })
+    (record { ring = c.go_to_previous_position.new.self; taken = xs })
+    (was c.args.last.now) (was c.take.new.last) (Err c.broken-in-Err-take.result))
+    (sym c.in-Err-take.ensures.kept)
     (subst (λ (w : Refusal). TakesNext c.args.queue (g.G.GuestBytes.mem c.args.ram.now)
-    (record { ring = c.self.inside.queue; taken = c.self.inside.taken.items })
-    (record { ring = c.go_to_previous_position.new.self; taken = c.self.inside.taken.items })
-    (was c.args.last.now) (was c.read_chain.new.last) (Err w)) (sym c.broken-in-Err-read_chain.ensures)
+    (record { ring = c.self.inside.queue; taken = c.self.inside.taken })
+    (record { ring = c.go_to_previous_position.new.self; taken = c.self.inside.taken })
+    (was c.args.last.now) (was c.take.new.last) (Err w)) (sym c.broken-in-Err-take.ensures)
     (subst (λ (l : Statistics). TakesNext c.args.queue (g.G.GuestBytes.mem c.args.ram.now)
-    (record { ring = c.self.inside.queue; taken = c.self.inside.taken.items })
-    (record { ring = c.go_to_previous_position.new.self; taken = c.self.inside.taken.items })
-    (was c.args.last.now) (was l) (Err (Broken (rule_of c.in-Err-read_chain.wrong))))
-    (sym c.in-Err-read_chain.ensures.err)
+    (record { ring = c.self.inside.queue; taken = c.self.inside.taken })
+    (record { ring = c.go_to_previous_position.new.self; taken = c.self.inside.taken })
+    (was c.args.last.now) (was l) (Err (Broken (rule_of c.in-Err-take.wrong))))
+    (sym c.in-Err-take.ensures.err)
     (next_wrong c.args.queue (g.G.GuestBytes.mem c.args.ram.now) c.self.inside.queue
-    c.pop_descriptor_chain_into.new.self c.go_to_previous_position.new.self c.self.inside.taken.items
-    (was c.args.last.now) taken c.in-Err-read_chain.wrong free ready pops bad
-    c.go_to_previous_position.ensures)))
+    c.pop_descriptor_chain_into.new.self c.go_to_previous_position.new.self c.self.inside.taken
+    (was c.args.last.now) taken c.in-Err-take.wrong free ready pops bad
+    c.go_to_previous_position.ensures))))

@@ -1,6 +1,6 @@
 use Rattle.std.proofs.Common.{◌≡◌, ◌≤◌, None, take, length}
 use Rattle.vb_request.specs.Request.{numbers_of, each_once, first_number_fault}
-use Rattle.vb_request.proofs.request.pages_of.Given as goal
+use Rattle.vb_request.proofs.request.list_pages.Given as goal
 
 abbrev pub invariant-loop-k : goal.invariant-loop-k
 invariant-loop-k l =

@@ -3,7 +3,7 @@ use Rattle.std.proofs.Common.{length-append}
 use Rattle.std.proofs.lemmas.List.{append_assoc}
 use Rattle.vb_request.specs.Request.{bytes_from}
 use Rattle.vb_request.proofs.Bytes.{bytes_from-length, bytes_from-append}
-use Rattle.vb_request.proofs.buffer.append_bytes.Goals as goal
+use Rattle.vb_request.proofs.buffer.ChainBytes.append.Goals as goal
 
 pub append_run-requires-2-clause-room : goal.append_run-requires-2-clause-room
 append_run-requires-2-clause-room g c =
@@ -11,7 +11,7 @@ append_run-requires-2-clause-room g c =
     omega (
       arith,
       ap (λ (bs : List ℕ). length bs) c.append_run.ensures,
-      length-append c.args.bytes.now.items
+      length-append c.args.self.now
           (bytes_from (g.G.GuestBytes.mem c.args.ram.now) c.args.addr c.min-first.result),
       bytes_from-length (g.G.GuestBytes.mem c.args.ram.now) c.args.addr c.min-first.result,
       least,
@@ -28,10 +28,10 @@ returns g c =
     ∙ (ap (λ (bs : List ℕ). bs ++
     bytes_from (g.G.GuestBytes.mem c.args.ram.now) (c.args.addr + c.from.result) rest)
     c.append_run.ensures
-    ∙ (append_assoc c.args.bytes.now.items
+    ∙ (append_assoc c.args.self.now
     (bytes_from (g.G.GuestBytes.mem c.args.ram.now) c.args.addr c.min-first.result)
     (bytes_from (g.G.GuestBytes.mem c.args.ram.now) (c.args.addr + c.from.result) rest)
-    ∙ ap (λ (bs : List ℕ). c.args.bytes.now.items ++ bs)
+    ∙ ap (λ (bs : List ℕ). c.args.self.now ++ bs)
     (ap (λ (n : ℕ). bytes_from (g.G.GuestBytes.mem c.args.ram.now) c.args.addr c.min-first.result ++
     bytes_from (g.G.GuestBytes.mem c.args.ram.now) (c.args.addr + n) rest) c.from.ensures
     ∙ (bytes_from-append (g.G.GuestBytes.mem c.args.ram.now) c.args.addr c.min-first.result rest ∙

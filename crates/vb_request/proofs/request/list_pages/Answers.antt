@@ -7,10 +7,10 @@ use Rattle.vb_request.specs.Request.{numbers_of, number_fault, each_once, first_
 use Rattle.vb_request.specs.Request.{unless_fault}
 use Rattle.vb_request.proofs.Once.{numbers_of-length, numbers_of-at, fault_here, sound_more}
 use Rattle.vb_request.proofs.Once.{once_more, once_few}
-use Rattle.vb_request.proofs.request.pages_of.Goals as goal
+use Rattle.vb_request.proofs.request.list_pages.Goals as goal
 
-pub returns-in-Some : goal.returns-in-Some
-returns-in-Some c =
+pub returns-in-Some-clause-fault : goal.returns-in-Some-clause-fault
+returns-in-Some-clause-fault c =
     let inside : c.loop-k.k < length c.args.bytes.now / 4 = omega (arith, c.loop-k-test.true) in
     let lt : c.loop-k.k < length (numbers_of c.args.bytes.now) =
     omega (arith, inside, numbers_of-length c.args.bytes.now) in
@@ -47,8 +47,8 @@ loop-k-preserved c =
       );
     }
 
-pub returns : goal.returns
-returns c =
+pub returns-clause-pages : goal.returns-clause-pages
+returns-clause-pages c =
     let whole : take c.loop-k.k (numbers_of c.args.bytes.now) ≡ numbers_of c.args.bytes.now =
     take_all c.loop-k.k (numbers_of c.args.bytes.now)
     (omega (arith, numbers_of-length c.args.bytes.now, c.loop-k-test.false)) in
