@@ -259,20 +259,6 @@ refusal_over q index paced flags p known =
     at_requests (λ n. finish_refusal n index (with_pace paced p) ≡
     finish_refusal n index (over paced flags p)) refl refl refl q known
 
-pub settles_err : (q index : ℕ) (paced : Bool) (m1 m2 : Pages) (flags : List Bool) (p1 p2 : Part)
-    (why : Refusal) (result : Result ℕ Refusal) → result ≡ Err why →
-    TakesOut q index m1 m2 (with_pace paced p1) (with_pace paced p2) (Err why)
-    → SettlesBy q index m1 m2 (over paced flags p1) (over paced flags p2) result
-settles_err q index paced m1 m2 flags p1 p2 why result is b = record {
-  refused =
-      λ w e. (
-        is ∙ ap Err (same_err (Err why) why w refl (b.refused w e).0),
-        ap (over paced flags) (b.refused w e).1,
-        (b.refused w e).2,
-      );
-  settled = λ x e at. absurd (ok_err x why (sym (b.out x e at).0));
-}
-
 -- a request taken out, with flags for those that there were
 marked_out : (q index : ℕ) (pages : List ℕ) (mem : Pages) (paced : Bool) (flags marks : List Bool)
     (p : Part) → is_queue_of_requests q ≡ true → marks ≡ flags_after q pages flags →

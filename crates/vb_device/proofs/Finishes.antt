@@ -131,15 +131,6 @@ out_at q index paced m1 m2 s f t a n c qs l loose loose2 r is ok left at mem num
     (taken_part q index r.pages m1 s f t a n qs l loose loose2 is.four known numbers) ∙
     out_paced q index r.pages m1 paced (base_part s f t a n qs l loose) known)
 
--- a call that is refused changes nothing
-pub out_refused : (q index : ℕ) (mem : Pages) (part : Part) (why : Refusal) →
-    finish_refusal q index part ≡ Some why → TakesOut q index mem mem part part (Err why)
-out_refused q index mem part why is = record {
-  refused =
-      λ other e. (ap Err (same_refusal (finish_refusal q index part) why other is e), refl, refl);
-  out = λ r e at. absurd (none_some (finish_refusal q index part) why e is);
-}
-
 -- an end whose queue is ready, by its parts
 end_is : (r : DeviceEnd) (l : Layout) (n : ℕ) → r.layout ≡ l → r.size ≡ n → r.ready ≡ true →
     r ≡ record {
