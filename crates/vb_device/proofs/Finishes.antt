@@ -60,25 +60,6 @@ taken_paced q index paced p known =
     at_each (λ n. taken_at n index (with_pace paced p) ≡ taken_at n index p)
     refl refl refl refl q known
 
-out_paced : (q index : ℕ) (pages : List ℕ) (mem : Pages) (paced : Bool) (p : Part) →
-    has_chains q ≡ true → with_pace paced (taken_out q index pages mem p) ≡
-    taken_out q index pages mem (with_pace paced p)
-out_paced q index pages mem paced p known =
-    at_each (λ n. with_pace paced (taken_out n index pages mem p) ≡
-    taken_out n index pages mem (with_pace paced p)) refl refl refl refl q known
-
-taken_out_of : (q index : ℕ) (m1 m2 : Pages) (p1 p2 : Part) (r : Request)
-    (result : Result Request Refusal) → result ≡ Ok r → finish_refusal q index p1 ≡ None →
-    taken_at q index p1 ≡ Some r → m2 ≡ without_frames q r.pages m1 →
-    p2 ≡ taken_out q index r.pages m1 p1 → TakesOut q index m1 m2 p1 p2 result
-taken_out_of q index m1 m2 p1 p2 r result answer free at mem part = record {
-  refused = λ why e. absurd (none_some (finish_refusal q index p1) why free e);
-  out = λ x e is. subst
-      (λ (y : Request). (result ≡ Ok y) × (m2 ≡ without_frames q y.pages m1) ×
-      (p2 ≡ taken_out q index y.pages m1 p1)) (same_request (taken_at q index p1) r x at is)
-      (answer, mem, part);
-}
-
 abbrev pub without_taken : QueueState → ℕ → QueueState
 without_taken x index = record x { taken = remove x.taken index }
 
@@ -92,44 +73,6 @@ finish_left q index paced s f t a n qs l loose ok =
     (ap (λ (k : QueuePart). taken_refusal_by (paced && not (q == 1)) (slice_get k.taken index))
     (part_get q s f t a n qs l loose (queue_known q s ok)) ∙
     by_and (paced && not (q == 1)) (slice_get (queue_at q qs).taken index))
-
--- one queue's last request is taken out
-taken_part : (q index : ℕ) (pages : List ℕ) (mem : Pages) (s f t a n : ℕ) (qs : List QueueState)
-    (l : LastStatistics) (loose loose2 : List Page) → length qs ≡ 4 → has_chains q ≡ true →
-    numbers_of_frames loose2 ≡ with_lost q mem pages (numbers_of_frames loose) →
-    base_part s f t a n (set qs (index_of q) (without_taken (queue_at q qs) index)) l loose2 ≡
-    taken_out q index pages mem (base_part s f t a n qs l loose)
-taken_part q index pages mem s f t a n qs l loose loose2 four known numbers =
-    let x : QueueState = queue_at q qs in
-    let base : List ℕ → Part = λ ns. record (base_part s f t a n qs l []) { loose = ns } in
-    part_set q s f t a n qs (without_taken x index) l loose2 four known
-    ∙ (ap (λ (ns : List ℕ). with_queue q (part_of (without_taken x index)) (base ns)) numbers
-    ∙ ap (λ (k : QueuePart). with_queue q (record k { taken = remove k.taken index })
-    (base (with_lost q mem pages (numbers_of_frames loose))))
-    (sym (part_get q s f t a n qs l loose known)))
-
-pub out_at : (q index : ℕ) (paced : Bool) (m1 m2 : Pages) (s f t a n c : ℕ)
-    (qs : List QueueState) (l : LastStatistics) (loose loose2 : List Page) (r : Request) →
-    IsBase m1 s n qs c → queue_refusal q s ≡ None
-    → taken_refusal (paced && not (q == 1)) (slice_get (queue_at q qs).taken index) ≡ None →
-    slice_get (queue_at q qs).taken index ≡ Some r
-    → m2 ≡ without_frames q r.pages m1 →
-    numbers_of_frames loose2 ≡ with_lost q m1 r.pages (numbers_of_frames loose)
-    → TakesOut q index m1 m2 (with_pace paced (base_part s f t a n qs l loose))
-    (with_pace paced (base_part s f t a n
-    (set qs (index_of q) (without_taken (queue_at q qs) index)) l loose2)) (Ok r)
-out_at q index paced m1 m2 s f t a n c qs l loose loose2 r is ok left at mem numbers =
-    let known : has_chains q ≡ true = queue_known q s ok in
-    taken_out_of q index m1 m2 (with_pace paced (base_part s f t a n qs l loose))
-    (with_pace paced (base_part s f t a n
-    (set qs (index_of q) (without_taken (queue_at q qs) index)) l loose2)) r (Ok r) refl
-    (finish_left q index paced s f t a n qs l loose ok ∙ left)
-    (taken_paced q index paced (base_part s f t a n qs l loose) known ∙
-    (ap (λ (k : QueuePart). slice_get k.taken index) (part_get q s f t a n qs l loose known) ∙ at))
-    mem
-    (ap (with_pace paced)
-    (taken_part q index r.pages m1 s f t a n qs l loose loose2 is.four known numbers) ∙
-    out_paced q index r.pages m1 paced (base_part s f t a n qs l loose) known)
 
 -- an end whose queue is ready, by its parts
 end_is : (r : DeviceEnd) (l : Layout) (n : ℕ) → r.layout ≡ l → r.size ≡ n → r.ready ≡ true →
