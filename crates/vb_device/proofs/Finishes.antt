@@ -41,9 +41,6 @@ none_some o x a b = cc
 same_refusal : (o : Option Refusal) (x y : Refusal) → o ≡ Some x → o ≡ Some y → x ≡ y
 same_refusal o x y a b = cc
 
-same_request : (o : Option Request) (x y : Request) → o ≡ Some x → o ≡ Some y → x ≡ y
-same_request o x y a b = cc
-
 -- the tests of a taken request, as those of a finish end
 abbrev taken_refusal_by : Bool → Option Request → Option Refusal
 taken_refusal_by visits taken =
@@ -53,12 +50,6 @@ taken_refusal_by visits taken =
 by_and : (visits : Bool) (taken : Option Request) →
     taken_refusal_by visits taken ≡ taken_refusal visits taken
 by_and visits taken = refl
-
-taken_paced : (q index : ℕ) (paced : Bool) (p : Part) → has_chains q ≡ true →
-    taken_at q index (with_pace paced p) ≡ taken_at q index p
-taken_paced q index paced p known =
-    at_each (λ n. taken_at n index (with_pace paced p) ≡ taken_at n index p)
-    refl refl refl refl q known
 
 abbrev pub without_taken : QueueState → ℕ → QueueState
 without_taken x index = record x { taken = remove x.taken index }
