@@ -3,7 +3,8 @@ use Rattle.std.proofs.Common.{◌≡◌, refl, sym, ◌∙◌, ap, subst, ℕ, z
 use Rattle.std.proofs.Common.{false, List, [], ◌∷◌, ◌++◌, length, Some, slice_get, slice_set, ⊎_elim}
 use Rattle.std.proofs.Common.{All, ◌≢◌, ◌⊎◌, inl, inr, arith}
 use Rattle.std.proofs.Common.{take}
-use Rattle.std.specs.Prelude.{slice_index_or, ⊤}
+use Rattle.std.specs.Prelude.{slice_index_or, ⊤, Result, Ok, Err, IfOk, MatchBool}
+use Rattle.std.specs.declared.alloc.AllocError.{AllocError}
 use Rattle.std.proofs.lemmas.List.Elements.{All-push}
 use Rattle.vb_model.specs.declared.calls.Actor.{Actor}
 use Rattle.vb_model.specs.declared.calls.Actor.TheVariants.{Starter, Processor, Worker, Balancer}
@@ -115,6 +116,15 @@ served_quiet Is Is' own own' p n call claims reply k at nothing s behind =
           (λ was. k.hushed m c was there) (set_at p.quiet n m known);
       scripted = k.scripted;
     }
+
+-- what holds of a reply that tells of something done, holds of its copy
+pub copied_noted : (copied : Result Reply AllocError) (reply : Reply) (A : Type 0) (P : Reply → Type 0)
+    → IfOk copied (λ copy. copy ≡ reply) → found_nothing reply ≡ false → P reply
+    → IfOk copied (λ copy. MatchBool (found_nothing copy) A (P copy))
+copied_noted (Err fault) reply A P same something holds = tt
+copied_noted (Ok copy) reply A P same something holds =
+    subst (λ (r : Reply). MatchBool (found_nothing r) A (P r)) (sym same)
+    (subst (λ (b : Bool). MatchBool b A (P reply)) (sym something) holds)
 
 -- a guest that was just started
 pub kept_start : (Is' : Guest → Type 0) (own' : List ℕ) (guest : ℕ) (sizes : Sizes)

@@ -1,5 +1,6 @@
 -- What a guest's lock keeps.
-use Rattle.std.specs.Prelude.{◌≡◌, ℕ, ◌<◌, ◌≤◌, Bool, true, false, List, ◌∷◌, length, take, Some}
+use Rattle.std.specs.Prelude.{◌≡◌, ℕ, ◌<◌, ◌≤◌, Bool, true, false, List, [], ◌∷◌, ◌++◌, length, take}
+use Rattle.std.specs.Prelude.{Some}
 use Rattle.std.specs.Prelude.{slice_get, slice_index_or, ⊤, All}
 use Rattle.std.specs.List.{list_all}
 use Rattle.std.specs.declared.vec.Vec.{Vec}
@@ -73,6 +74,18 @@ pub record IsKept (Is : Guest → Type 0) (own : List ℕ) (p : Past) : Type 0 w
   pub hushed : (n : ℕ) (call : Call) → slice_index_or p.quiet n false ≡ true
       → slice_get services n ≡ Some call → IsQuiet now call
   pub scripted : (cpu : ℕ) (s : Progress) → slice_get p.scripts cpu ≡ Some s → IsScript cpu s.calls
+
+-- what the actor called is the last entry, and the only new one
+abbrev pub Notes : Actor → Call → Past → Past → Type 0
+Notes actor call old new =
+    (claims : List Claim) × (reply : Reply)
+    × (new.history ≡ old.history ++ Called actor call claims reply ∷ [])
+
+-- the worker's call of this number is the last entry, with this reply, and the only new one
+abbrev pub NotesService : ℕ → Reply → Past → Past → Type 0
+NotesService number reply old new =
+    (call : Call) × (claims : List Claim) × (slice_get services number ≡ Some call)
+    × (new.history ≡ old.history ++ Called (Worker old.guest) call claims reply ∷ [])
 
 -- not a processor
 abbrev pub IsAside : Actor → Type 0

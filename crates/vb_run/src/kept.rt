@@ -2,13 +2,17 @@
 
 ghost use Rattle.std.specs.Prelude.{◌≡◌, ◌≤◌, ◌<◌, ℕ, Bool, true, false, [], ◌∷◌, ◌++◌, length};
 ghost use Rattle.std.specs.Prelude.{slice_get, slice_index_or, IfOk, OnOk, Some, IfSome, IfNone};
+ghost use Rattle.std.specs.Prelude.{MatchBool};
 ghost use Rattle.std.specs.Prelude.{vec_capacity};
+ghost use Rattle.vb_model.specs.declared.calls.Actor.TheVariants.{Balancer};
+ghost use Rattle.vb_model.specs.declared.calls.Call.TheVariants.{SetTarget};
 ghost use Rattle.vb_model.specs.Guest.{Guest, fresh};
 ghost use Rattle.vb_model.specs.Limits.{is_config};
 ghost use Rattle.vb_model.specs.GuestRun.{Looked};
-ghost use Rattle.vb_run.specs.Past.{Past, IsKept, IsSame, AreBegun};
+ghost use Rattle.vb_run.specs.Past.{Past, IsKept, IsSame, AreBegun, Notes, NotesService};
 ghost use Rattle.vb_run.specs.Plans.{config_of};
 ghost use Rattle.vb_run.specs.Reports.{IsGuestReport, frames_behind};
+ghost use Rattle.vb_run.specs.Services.{found_nothing, services};
 
 use crate::audit::{all_replies, expected_of, has_made};
 use crate::entry::{Entry, Step};
@@ -181,6 +185,7 @@ impl<S: GuestSlot> Kept<S> {
     /// Sets the guest's target, as the balancer.
     pub fn set_target(&mut self, alloc: Global, pages: u32) -> Result<(), AllocError>
         ensures same { IsSame self.old self.new }
+        ensures noted { OnOk result (Notes Balancer (SetTarget pages) self.old self.new) }
     {
         self.history.reserve(1)?;
         make_room(&mut self.room)?;
@@ -218,6 +223,9 @@ impl<S: GuestSlot> Kept<S> {
     pub fn serve(&mut self, alloc: Global, number: usize) -> Result<Reply, AllocError>
         requires { number < SERVICES }
         ensures same { IsSame self.old self.new }
+        ensures noted { IfOk result (λ reply. MatchBool (found_nothing reply)
+            (self.new.history ≡ self.old.history)
+            (NotesService number reply self.old self.new)) }
     {
         self.history.reserve(1)?;
         make_room(&mut self.room)?;

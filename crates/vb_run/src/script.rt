@@ -1,6 +1,6 @@
 //! A processor's script, and its place in it.
 
-ghost use Rattle.std.specs.Prelude.{◌≡◌, ◌+◌, ◌≤◌, ◌<◌, length, slice_get, true, Some, IfSome};
+ghost use Rattle.std.specs.Prelude.{◌≡◌, ◌==◌, ◌+◌, ◌≤◌, ◌<◌, length, slice_get, true, Some, IfSome};
 ghost use Rattle.std.specs.Prelude.{IfNone, IfOk, All};
 ghost use Rattle.vb_run.specs.Past.{Progress, AllEnded, AreScripts};
 
@@ -74,7 +74,7 @@ impl Script {
 
     /// Whether all calls were made.
     pub fn is_ended(&self) -> bool
-        ensures { result ≡ true → self.now.place ≡ length self.now.calls }
+        ensures { result ≡ (self.now.place == length self.now.calls) }
     {
         self.place == self.calls.len()
     }

@@ -1,6 +1,8 @@
 //! Guests on threads: what a whole run writes, and the exit statuses.
 
 use super::{Example, Outcome, repeated};
+use crate::fault::{ProgramFault, report};
+use crate::plans::plan_of;
 use crate::threads::threads_script;
 use std::alloc::{AllocError, Global};
 use std::io;
@@ -8,6 +10,7 @@ use std::io::{ErrorKind, Read, Write};
 use std::sync::Wait;
 use std::thread::Threads;
 use vb_run::Bells;
+use vb_script::parse_threads;
 
 /// The ways in which doorbells are rung.
 static BELLS: [Bells; 4] = [Bells::Plain, Bells::Drop, Bells::Double, Bells::Late];
@@ -207,6 +210,27 @@ fn guests_run_however_bells_ring(rt: HostRuntime) {
             assert!(rt; outcome.shows(replies.as_bytes(), b"", 0), "at {name}");
         }
     }
+}
+
+/// How bells ring in the plan of a guest, where it is asked for like this.
+fn planned_bells(alloc: Global, bells: Bells) -> Option<Bells> {
+    let script = parse_threads(alloc, b"host 64\nspare paced\nplug 64 8 1\n").ok()??;
+    let plan = plan_of(alloc, script, bells).ok()??;
+    Some(plan.bells)
+}
+
+#[test]
+fn a_plan_rings_bells_as_it_is_asked(rt: HostRuntime) {
+    for bells in &BELLS {
+        assert!(rt; planned_bells(rt.alloc(), *bells) == Some(*bells));
+    }
+}
+
+#[test]
+fn a_frame_in_common_is_status_5(rt: HostRuntime) {
+    let mut errors = Vec::new(rt.alloc());
+    assert!(rt; report(&ProgramFault::Audit, &mut errors) == 5);
+    assert!(rt; errors.as_slice() == b"run: audit\n".as_slice());
 }
 
 /// The text of `examples/threads.script`: what comes before the calls, what the first guest does

@@ -1,6 +1,6 @@
 use Rattle.std.proofs.Common.{rules, refl, sym, ◌∙◌}
 use Rattle.vb_model.specs.declared.calls.Actor.TheVariants.{Worker}
-use Rattle.vb_run.proofs.Keeping.{call_aside, served_quiet}
+use Rattle.vb_run.proofs.Keeping.{call_aside, copied_noted, served_quiet}
 use Rattle.vb_run.proofs.Tended.{service_plain}
 use Rattle.vb_run.proofs.kept.Kept.serve.Goals as goal
 
@@ -25,3 +25,12 @@ invariant_of-self-2 g c =
     c.service-call.ensures)
     (c.call-reply.ensures.step c.self.invariant.now c.self.invariant.stands)
     c.call-reply.ensures.frames)
+
+pub returns-clause-noted : goal.returns-clause-noted
+returns-clause-noted g c =
+    copied_noted _ _ _ _ c.copy-answer.ensures (sym c.found_nothing.ensures ∙ c.if-found_nothing.false) (
+      c.service-call.result,
+      c.claims_in-claims.result.items,
+      c.service-call.ensures,
+      search rules,
+    )
