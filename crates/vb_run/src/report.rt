@@ -51,6 +51,11 @@ pub(crate) enum Stop {
 }
 
 impl From<AllocError> for Stop {
+    ghost use Rattle.std.specs.Prelude.{◌≡◌};
+    ghost use Rattle.vb_run.specs.declared.report.Stop.TheVariants.{Memory};
+
+    ghost from_gives = { λ _ r. r ≡ Memory };
+
     fn from(_refused: AllocError) -> Stop {
         Stop::Memory
     }

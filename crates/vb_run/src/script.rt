@@ -1,7 +1,7 @@
 //! A processor's script, and its place in it.
 
-ghost use Rattle.std.specs.Prelude.{◌≡◌, ◌==◌, ◌+◌, ◌≤◌, ◌<◌, length, slice_get, true, Some, IfSome};
-ghost use Rattle.std.specs.Prelude.{IfNone, IfOk, All};
+ghost use Rattle.std.specs.Prelude.{◌≡◌, ◌==◌, ◌+◌, ◌≤◌, ◌<◌, length, slice_get, true, Some};
+ghost use Rattle.std.specs.Prelude.{IfSome, IfNone, IfOk, All};
 ghost use Rattle.vb_run.specs.Past.{Progress, AllEnded, AreScripts};
 
 use std::alloc::{AllocError, Global};
