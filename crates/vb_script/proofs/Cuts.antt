@@ -1,48 +1,96 @@
 -- A text, cut at the first place of a byte.
-use Rattle.std.proofs.Common.{◌≡◌, ℕ, ◌+◌, ◌-◌, ◌<◌, ◌==◌, Option, Some, None, IfNone, Bor, Bool}
+use Rattle.std.proofs.Common.{◌≡◌, ℕ, ◌+◌, ◌-◌, ◌<◌, ◌≤◌, ◌==◌, Option, Some, None, IfNone, Bor, Bool}
 use Rattle.std.proofs.Common.{true, false, cond, ltb, List, [], ◌∷◌, length, length-drop, take}
-use Rattle.std.proofs.Common.{drop, refl, arith}
+use Rattle.std.proofs.Common.{drop, refl, arith, sym}
 use Rattle.std.specs.List.{slice_split, onto_first, position_or_len}
-use Rattle.std.proofs.lemmas.List.{take_all}
+use Rattle.std.proofs.lemmas.List.{take_all, get_or-take, length-take-le}
 use Rattle.std.specs.Option.{option_map_or}
 use Rattle.vb_script.specs.Texts.{ended, last_line, lines_of}
 use Rattle.vb_script.specs.Words.{is_empty}
 use Rattle.std.proofs.lemmas.List.Splits.{slice_split_first, slice_split_none}
-use Rattle.std.proofs.lemmas.List.Sums.{fails_before_first}
+use Rattle.std.proofs.lemmas.List.Sums.{fails_before_first, passes_at_first, position_or_len_is}
+use Rattle.memchr.specs.Find.{IsFirstByte, is_byte}
 use Rattle.std.proofs.lemmas.Bool.Decides.{nat_tests}
 
+fails : (passes : Bool) → (passes ≡ true → ⊥) → passes ≡ false
+fails true never = absurd (never refl)
+fails false _ = refl
+
 -- where the byte is found the first part ends
-pub cut_found : (byte : ℕ) (text : List ℕ) (n : ℕ)
-    → Some n ≡ cond (ltb (position_or_len (λ x. x == byte) text) (length text))
-    (Some (position_or_len (λ x. x == byte) text)) None
+pub cut_found : (byte : ℕ) (text : List ℕ) (n : ℕ) → IsFirstByte (is_byte byte) text (Some n)
     → slice_split (λ x. x == byte) text ≡ take n text
     ∷ slice_split (λ x. x == byte) (take (length text - (n + 1)) (drop (n + 1) text))
-cut_found byte text n e = at (ltb (position_or_len (λ x. x == byte) text) (length text)) refl e
-  where
-    at : (b : Bool) → ltb (position_or_len (λ x. x == byte) text) (length text) ≡ b
-        → Some n ≡ cond b (Some (position_or_len (λ x. x == byte) text)) None
-        → slice_split (λ x. x == byte) text ≡ take n text
-        ∷ slice_split (λ x. x == byte) (take (length text - (n + 1)) (drop (n + 1) text))
-    at true t e =
-        let same : n ≡ position_or_len (λ x. x == byte) text = cc in
-        let whole : take (length text - (n + 1)) (drop (n + 1) text) ≡ drop (n + 1) text =
-        take_all _ _ (omega (arith, length-drop (n + 1) text)) in
-        rw (whole, same) (slice_split_first (λ x. x == byte) text 0 (grind (arith, nat_tests)))
-    at false t e = cc
+cut_found byte text n first =
+    let same : n ≡ position_or_len (λ x. x == byte) text =
+    sym (position_or_len_is (λ x. x == byte) text n 0 (omega (arith, first.0.high))
+    (λ k lt. fails _ (first.0.before k (omega arith) lt)) (λ _. first.1)) in
+    let whole : take (length text - (n + 1)) (drop (n + 1) text) ≡ drop (n + 1) text =
+    take_all _ _ (omega (arith, length-drop (n + 1) text)) in
+    rw (whole, same)
+    (slice_split_first (λ x. x == byte) text 0 (omega (arith, same, first.0.high)))
 
 -- where it isn't there is one part
-pub not_cut : (byte : ℕ) (text : List ℕ)
-    → None ≡ cond (ltb (position_or_len (λ x. x == byte) text) (length text))
-    (Some (position_or_len (λ x. x == byte) text)) None
+pub not_cut : (byte : ℕ) (text : List ℕ) → IsFirstByte (is_byte byte) text None
     → slice_split (λ x. x == byte) text ≡ text ∷ []
-not_cut byte text e = at (ltb (position_or_len (λ x. x == byte) text) (length text)) refl e
+not_cut byte text none =
+    let same : position_or_len (λ x. x == byte) text ≡ length text =
+    position_or_len_is (λ x. x == byte) text (length text) 0 (omega arith)
+    (λ k lt. fails _ (none k (omega arith) lt)) (λ lt. absurd (omega arith)) in
+    slice_split_none (λ x. x == byte) text
+    (λ k d lt. fails_before_first (λ x. x == byte) text k d (omega (arith, same, lt)))
+
+-- what `position` answers of a test for a byte
+abbrev Position : ℕ → List ℕ → Option ℕ → Type 0
+Position byte text found = found
+    ≡ cond (ltb (position_or_len (λ x. x == byte) text) (length text))
+    (Some (position_or_len (λ x. x == byte) text)) None
+
+-- the first place among a text's first bytes is its first place
+pub found_near : (byte near : ℕ) (text : List ℕ) (n : ℕ) → near ≤ length text
+    → Position byte (take near text) (Some n) → IsFirstByte (is_byte byte) text (Some n)
+found_near byte near text n within e =
+    at (ltb (position_or_len (λ x. x == byte) (take near text)) (length (take near text))) refl e
+  where
+    at : (b : Bool)
+        → ltb (position_or_len (λ x. x == byte) (take near text)) (length (take near text)) ≡ b
+        → Some n ≡ cond b (Some (position_or_len (λ x. x == byte) (take near text))) None
+        → IsFirstByte (is_byte byte) text (Some n)
+    at true t e =
+        let same : n ≡ position_or_len (λ x. x == byte) (take near text) = cc in
+        let count : length (take near text) ≡ near = length-take-le near text within in
+        let lt : position_or_len (λ x. x == byte) (take near text) < length (take near text) =
+        grind (arith, nat_tests) in (
+          record {
+            low = omega arith;
+            high = omega (arith, same, count, lt);
+            before = λ k _ below is.
+                let missed = fails_before_first (λ x. x == byte) (take near text) k 0
+                (omega (arith, same, below)) in
+                let read = get_or-take near text k 0 (omega (arith, same, count, lt, below)) in
+                grind (arith, missed, read, is);
+          },
+          rw same
+              (let yes = passes_at_first (λ x. x == byte) (take near text) 0 lt in
+              let read = get_or-take near text (position_or_len (λ x. x == byte) (take near text)) 0
+              (omega (arith, count, lt)) in
+              rw (sym read) yes),
+        )
+    at false t e = cc
+
+-- a byte that isn't among all bytes of a text isn't in it
+pub not_near : (byte near : ℕ) (text : List ℕ) → near ≡ length text
+    → Position byte (take near text) None → IsFirstByte (is_byte byte) text None
+not_near byte near text all e =
+    at (ltb (position_or_len (λ x. x == byte) text) (length text)) refl
+    (rw (sym (take_all near text (omega (arith, all)))) e)
   where
     at : (b : Bool) → ltb (position_or_len (λ x. x == byte) text) (length text) ≡ b
         → None ≡ cond b (Some (position_or_len (λ x. x == byte) text)) None
-        → slice_split (λ x. x == byte) text ≡ text ∷ []
+        → IsFirstByte (is_byte byte) text None
     at true t e = cc
-    at false t e = slice_split_none (λ x. x == byte) text
-        (λ k d lt. fails_before_first (λ x. x == byte) text k d (grind (arith, nat_tests)))
+    at false t e = λ k _ lt is.
+        let missed = fails_before_first (λ x. x == byte) text k 0 (grind (arith, nat_tests)) in
+        grind (arith, missed, is)
 
 -- there is always a part
 pub some_part : (p : ℕ → Bool) (text : List ℕ) → is_empty (slice_split p text) ≡ false

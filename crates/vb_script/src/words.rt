@@ -3,13 +3,19 @@
 ghost use Rattle.std.specs.Prelude.{◌≡◌, ◌∷◌, ◌<◌, ◌==◌, [], length, IfNone, IfSome, MatchOption};
 ghost use Rattle.std.specs.List.{slice_split};
 ghost use Rattle.std.specs.Option.{option_map_or, option_copied};
+ghost use Rattle.memchr.specs.Find.{IsFirstByte, is_byte};
 ghost use Rattle.vb_script.specs.Words.{is_empty, words_of, words_left, only_word, only_number};
 ghost use Rattle.vb_script.specs.Words.{two_numbers, three_numbers, four_numbers};
 
 use crate::values::number;
+use memchr::memchr;
 
 /// The bytes between words.
 const SPACE: u8 = b' ';
+
+/// Bytes at the front of a text that are looked at one by one: most words and lines end there, and
+/// `memchr` takes longer for so few.
+const NEAR: usize = 32;
 
 /// What is left of a line. Single spaces stand between its words, so a second space in a row, or
 /// one at either end, makes an empty word, which nothing accepts.
@@ -97,8 +103,28 @@ pub fn cut_at(text: &[u8], byte: u8) -> (&[u8], Option<&[u8]>)
     ensures whole { IfNone result.1 (result.0.now ≡ text.now) }
     ensures shorter { IfSome result.1 (λ rest. length rest.now < length text.now) }
 {
-    match text.iter().position(|other| *other == byte) {
+    match first_place(text, byte) {
         Some(end) => (&text[..end], Some(&text[end + 1..])),
         None => (text, None),
     }
+}
+
+/// The first place of a byte in a text.
+fn first_place(text: &[u8], byte: u8) -> Option<usize>
+    ensures { IsFirstByte (is_byte byte) text.now result }
+{
+    let near = text.len().min(NEAR);
+    match text[..near].iter().position(|other| *other == byte) {
+        Some(place) => Some(place),
+        None if near == text.len() => None,
+        None => first_far_place(text, byte),
+    }
+}
+
+/// The same of a long text.
+#[cold]
+fn first_far_place(text: &[u8], byte: u8) -> Option<usize>
+    ensures { IsFirstByte (is_byte byte) text.now result }
+{
+    memchr(byte, text)
 }
