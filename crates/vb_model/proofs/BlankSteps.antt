@@ -371,7 +371,7 @@ performs_blank (Scribble page offset bytes) g claims reply new h r s honest =
       | inr r ↦ subst IsBlank (sym r.2) h
     ]
 
-honest_blank : (g : Guest) (call : Call) (claims : List Claim) (reply : Reply) (new : Guest)
+pub honest_blank : (g : Guest) (call : Call) (claims : List Claim) (reply : Reply) (new : Guest)
     → IsBlank g → HonestStep g call claims reply new → new.rogue ≡ false → IsBlank new
 honest_blank g call claims reply new h s honest =
     elim (match_cases (refusal_of g call) (Performs call g claims reply new)
@@ -380,7 +380,7 @@ honest_blank g call claims reply new h s honest =
       | inr r ↦ subst IsBlank (sym r.2.2) h
     ]
 
-fresh_blank : (config : Config) (target : ℕ) → IsBlank (fresh config target)
+pub fresh_blank : (config : Config) (target : ℕ) → IsBlank (fresh config target)
 fresh_blank config target =
     record {
       framed = length-replicate config.pages None;

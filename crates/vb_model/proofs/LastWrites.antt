@@ -71,12 +71,12 @@ within g page offset len e =
     let parts = or_parts (nat_le g.config.pages page) (nat_lt page_size (offset + len)) e in
     (leb-false _ _ parts.0, ltb-false _ _ parts.1)
 
-record Wrote (g : Guest) (page offset : ℕ) (bytes : List ℕ) (new : Guest) : Type 0 where
-  there : page < g.config.pages
-  inside : offset + length bytes ≤ page_size
-  contents : contents_of new page ≡ overwritten offset bytes (contents_of g page)
+pub record Wrote (g : Guest) (page offset : ℕ) (bytes : List ℕ) (new : Guest) : Type 0 where
+  pub there : page < g.config.pages
+  pub inside : offset + length bytes ≤ page_size
+  pub contents : contents_of new page ≡ overwritten offset bytes (contents_of g page)
 
-write_step : (g : Guest) (page offset : ℕ) (bytes : List ℕ) (claims : List Claim) (new : Guest)
+pub write_step : (g : Guest) (page offset : ℕ) (bytes : List ℕ) (claims : List Claim) (new : Guest)
     → IsBlank g → HonestStep g (Write page offset bytes) claims Done new
     → Wrote g page offset bytes new
 write_step g page offset bytes claims new blank s =
@@ -105,7 +105,7 @@ write_step g page offset bytes claims new blank s =
     ]
 
 -- a byte of what was overwritten
-overwritten_byte : (at offset : ℕ) (bytes old : List ℕ) → offset + length bytes ≤ length old
+pub overwritten_byte : (at offset : ℕ) (bytes old : List ℕ) → offset + length bytes ≤ length old
     → get_or (overwritten offset bytes old) at 0 ≡ byte_written at offset bytes (get_or old at 0)
 overwritten_byte at offset bytes old fits =
     by (nat_le offset at) (nat_lt at (offset + length bytes)) refl refl
@@ -277,12 +277,12 @@ bytes_are frames spares h r n page at i (suc k) g new holds here there =
 
 -- ---- a read
 
-record WasRead (g : Guest) (page offset len : ℕ) (bytes : List ℕ) : Type 0 where
-  there : page < g.config.pages
-  inside : offset + len ≤ page_size
-  bytes_are : bytes ≡ take len (drop offset (contents_of g page))
+pub record WasRead (g : Guest) (page offset len : ℕ) (bytes : List ℕ) : Type 0 where
+  pub there : page < g.config.pages
+  pub inside : offset + len ≤ page_size
+  pub bytes_are : bytes ≡ take len (drop offset (contents_of g page))
 
-read_step : (g : Guest) (page offset len : ℕ) (bytes : List ℕ) (claims : List Claim) (new : Guest)
+pub read_step : (g : Guest) (page offset len : ℕ) (bytes : List ℕ) (claims : List Claim) (new : Guest)
     → HonestStep g (Read page offset len) claims (ReadBytes bytes) new
     → WasRead g page offset len bytes
 read_step g page offset len bytes claims new s =

@@ -16,8 +16,9 @@ ghost use Rattle.vb_model.specs.StepLaws.{RefusedEventsChangeNothing, NoMemoryIs
 ghost use Rattle.vb_model.specs.StepLaws.{WantsChangeNothing};
 ghost use Rattle.vb_model.specs.LastWrites.{ContentsStay, ReadsGiveLastWrites};
 ghost use Rattle.vb_model.specs.HonestRuns.{HonestStay, HonestAreIdleUnlessReady};
+ghost use Rattle.vb_model.specs.Histories.{IsSafeHistory};
 ghost use Rattle.vb_model.specs.Determined.{HonestStepsAgree};
-ghost use Rattle.vb_model.specs.GuestRun.{InOneLife, Alone};
+ghost use Rattle.vb_model.specs.GuestRun.{Alone, Entry, InOneLife, IsHistory};
 ghost use Rattle.vb_model.specs.HostLaws.{HostStepsAgree, CallsLeaveTheHost};
 ghost use Rattle.vb_model.specs.Telling.{ToldStepsAgree};
 ghost use Rattle.vb_model.specs.Sizes.{HasSmallShape, SmallConfigsAreConfigs};
@@ -26,7 +27,7 @@ ghost use Rattle.vb_model.specs.declared.replies.Reply.{Reply};
 ghost use Rattle.vb_model.specs.declared.replies.Reply.TheVariants.{Plugged, Ready, Page, Done};
 ghost use Rattle.vb_model.specs.declared.replies.Reply.TheVariants.{Posted, Taken, Finished};
 ghost use Rattle.vb_model.specs.declared.replies.Reply.TheVariants.{Reaped};
-ghost use Rattle.vb_model.specs.Guest.{Guest};
+ghost use Rattle.vb_model.specs.Guest.{Config, Guest};
 ghost use Rattle.vb_model.specs.World.{World, guest_at};
 
 /// Every run is safe, whatever events come in whatever order.
@@ -206,4 +207,13 @@ pub fn guests_that_tell_are_as_ever()
 pub fn small_guests_are_as_ever()
     ensures shape { (size : ℕ) → size ≤ 128 → HasSmallShape size }
     ensures configs { SmallConfigsAreConfigs }
+{}
+
+/// Every history of a guest is safe, whatever its claims were given: its entries lead from state to
+/// state, and in these a used page keeps its frame, a read gives what was last written, a page that
+/// was offered is handed out again only after it was asked back, driver and device agree, and no
+/// ring is broken.
+pub fn every_history_is_safe()
+    ensures safe { (config : Config) (target : ℕ) (entries : List Entry) (last : Guest)
+        → IsHistory config target entries last → IsSafeHistory config target entries last }
 {}
