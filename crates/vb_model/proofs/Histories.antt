@@ -1,11 +1,10 @@
 -- Every history of a guest is safe.
 use Rattle.std.proofs.Common.{◌≡◌, ℕ, zero, suc, ◌+◌, ◌-◌, ◌<◌, ◌≤◌, Bool, true, false, List, []}
 use Rattle.std.proofs.Common.{◌∷◌, refl, sym, ap, subst, ◌∙◌, ◌⊎◌, inl, inr, arith, ◌≢◌, length, get_or}
-use Rattle.std.proofs.Common.{take, drop, cond}
-use Rattle.std.specs.Prelude.{Option, Some, None, IsTrue, slice_get, MatchBool, ◌==◌, is_some}
+use Rattle.std.proofs.Common.{drop, cond}
+use Rattle.std.specs.Prelude.{Option, Some, None, slice_get, MatchBool, ◌==◌, is_some}
 use Rattle.std.proofs.lemmas.Bool.{eqb-true, eq-eqb}
 use Rattle.std.proofs.lemmas.List.{get_or-take, get_or-drop, length-take-le, length-drop}
-use Rattle.vb_model.specs.declared.places.Place.{Place}
 use Rattle.vb_model.specs.declared.places.Place.TheVariants.{Free as FreePlace, Used, Giving, Lent}
 use Rattle.vb_model.specs.declared.places.Place.TheVariants.{Taking}
 use Rattle.vb_model.specs.declared.calls.Actor.{Actor}
@@ -102,10 +101,10 @@ fresh_fit config target =
       orderly = fresh_order config target;
       blank = fresh_blank config target;
       attentive = record {
-          inflating = λ other. refl;
-          deflating = λ other. refl;
-          reporting = λ other. refl;
-          buffered = refl;
+        inflating = λ other. refl;
+        deflating = λ other. refl;
+        reporting = λ other. refl;
+        buffered = refl;
       };
     }
 

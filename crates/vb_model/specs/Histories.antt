@@ -2,7 +2,7 @@
 -- the entries of one guest. A history stands by itself: no world is in it, and so nothing is said of
 -- frames that two guests have.
 use Rattle.std.specs.Prelude.{◌≡◌, ◌≢◌, ℕ, ◌+◌, ◌<◌, ◌≤◌, List, [], ◌∷◌, ◌++◌, ⊤, Option, Some}
-use Rattle.std.specs.Prelude.{slice_get, slice_index_or, length, IsTrue, ◌↔◌, Bool, ◌==◌, zero, suc}
+use Rattle.std.specs.Prelude.{slice_get, slice_index_or, length, IsTrue, ◌↔◌, ◌==◌, zero, suc}
 use Rattle.std.specs.Prelude.{if◌then◌else◌}
 use Rattle.vb_model.specs.declared.places.Place.{Place}
 use Rattle.vb_model.specs.declared.places.Place.TheVariants.{Used, Giving, Lent}
@@ -18,7 +18,6 @@ use Rattle.vb_model.specs.Requests.{Request, names, all_requests, Kind, Inflatin
 use Rattle.vb_model.specs.Requests.{queue_of, given_away}
 use Rattle.vb_model.specs.Guest.{Guest, Config, fresh, requests, frame_of, is_ballooned, is_ready}
 use Rattle.vb_model.specs.Guest.{tells_host}
-use Rattle.vb_model.specs.Driver.{contents_of}
 use Rattle.vb_model.specs.Orderly.{AreAgreed}
 use Rattle.vb_model.specs.Safe.{IsAt, asks_back, BothAgree}
 use Rattle.vb_model.specs.LastWrites.{byte_of, byte_written}
