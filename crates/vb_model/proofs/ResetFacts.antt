@@ -1,15 +1,13 @@
 -- Worked facts of a life that goes on over a reset: what is promised of one life holds behind it too.
-use Rattle.std.proofs.Common.{◌≡◌, ℕ, zero, suc, ◌≤◌, List, [], ◌∷◌, ◌++◌, refl, sym, ap, subst}
+use Rattle.std.proofs.Common.{◌≡◌, ℕ, zero, suc, ◌≤◌, List, [], ◌∷◌, ◌++◌, refl, ap, subst}
 use Rattle.std.proofs.Common.{◌∙◌, arith}
 use Rattle.std.specs.Prelude.{Some, None, slice_get}
 use Rattle.vb_model.specs.declared.places.Place.TheVariants.{Used, Giving, Stranded}
 use Rattle.vb_model.specs.declared.calls.Actor.{Actor}
 use Rattle.vb_model.specs.declared.calls.Claim.{Claim}
 use Rattle.vb_model.specs.declared.calls.Call.TheVariants.{Alloc, Inflate, Init, Reap, Reset, Work}
-use Rattle.vb_model.specs.declared.calls.Event.{Event}
 use Rattle.vb_model.specs.declared.calls.Event.TheVariants.{Guest as OnGuest, Restart}
 use Rattle.vb_model.specs.declared.replies.Refusal.TheVariants.{NotReady}
-use Rattle.vb_model.specs.declared.replies.Reply.{Reply}
 use Rattle.vb_model.specs.declared.replies.Reply.TheVariants.{Done, Page, Posted, Reaped, Refused}
 use Rattle.vb_model.specs.Guest.{Guest}
 use Rattle.vb_model.specs.Life.{after_reset}
@@ -118,7 +116,7 @@ reset_then_work w v last new a = by a.entries a.are a.run
   where
     by : (entries : List Entry)
         → AreEntriesOf 0 w (OnGuest 0 Reset ∷ OnGuest 0 Work ∷ []) (Done ∷ Done ∷ [])
-            (v ∷ last ∷ []) entries
+        (v ∷ last ∷ []) entries
         → GuestRun ready entries new → ⊥
     by entries (own, later, reset, (next, rest, work, none, more), all) run =
         let two : entries ≡ Called reset.0 Reset reset.1 Done
