@@ -163,8 +163,8 @@ its_last_scribble none = none 1 20 4 (7 ∷ []) (omega arith) refl
 
 -- ---- the last write to a byte
 
--- two bytes of the page; one of another guest's page, and one of another page; one that is refused;
--- the second byte once more
+-- two bytes of the page; one of another guest's page, and one of another page; one that is
+-- refused; the second byte once more
 abbrev writes : History
 writes = record {
   first = at (holding ready);
@@ -206,7 +206,8 @@ with_page frame bytes =
     record (page_16_at Used ready)
     { frames = replicate 16 None ++ (frame ∷ []); contents = replicate 16 [] ++ (bytes ∷ []) }
 
-bytes_of_it : map (λ byte. byte_of (with_page (Some 5) (1 ∷ 2 ∷ [])) 16 byte) (0 ∷ 1 ∷ 2 ∷ []) ≡ 1 ∷ 2 ∷ 0 ∷ []
+bytes_of_it : map (λ byte. byte_of (with_page (Some 5) (1 ∷ 2 ∷ [])) 16 byte) (0 ∷ 1 ∷ 2 ∷ [])
+    ≡ 1 ∷ 2 ∷ 0 ∷ []
 bytes_of_it = refl
 
 abbrev SameBytes : List ℕ → List ℕ → Type 0
@@ -240,13 +241,16 @@ abbrev failed : Guest
 failed = record down { status = 131; features = 0x27 }
 
 inflate_out : IsAttentive (record down { inflate = posted }) → ⊥
-inflate_out a = let e : Same 1 0 = ap outstanding (a.inflating (λ e. omega (arith, e))) in omega arith
+inflate_out a =
+    let e : Same 1 0 = ap outstanding (a.inflating (λ e. omega (arith, e))) in omega arith
 
 deflate_out : IsAttentive (record failed { deflate = used }) → ⊥
-deflate_out a = let e : Same 1 0 = ap outstanding (a.deflating (λ e. omega (arith, e))) in omega arith
+deflate_out a =
+    let e : Same 1 0 = ap outstanding (a.deflating (λ e. omega (arith, e))) in omega arith
 
 report_out : IsAttentive (record failed { report = posted }) → ⊥
-report_out a = let e : Same 1 0 = ap outstanding (a.reporting (λ e. omega (arith, e))) in omega arith
+report_out a =
+    let e : Same 1 0 = ap outstanding (a.reporting (λ e. omega (arith, e))) in omega arith
 
 abbrev figures : Figures
 figures = record { free = 0; total = 0 }
@@ -262,7 +266,8 @@ unaccepted_buffer a = let e : true ≡ false = a.buffered in cc
 
 -- while it is ready anything may be out
 busy : IsAttentive
-    (record ready { inflate = used; deflate = posted; report = used; buffer = BufferPosted figures })
+    (record ready
+    { inflate = used; deflate = posted; report = used; buffer = BufferPosted figures })
 busy = record {
   inflating = λ down. absurd (down refl);
   deflating = λ down. absurd (down refl);

@@ -1,4 +1,5 @@
--- Worked facts of a life that goes on over a reset: what is promised of one life holds behind it too.
+-- Worked facts of a life that goes on over a reset: what is promised of one life holds behind it
+-- too.
 use Rattle.std.proofs.Common.{◌≡◌, ℕ, zero, suc, ◌≤◌, List, [], ◌∷◌, ◌++◌, refl, ap, subst}
 use Rattle.std.proofs.Common.{◌∙◌, arith}
 use Rattle.std.specs.Prelude.{Some, None, slice_get}
