@@ -1,12 +1,13 @@
 -- Worked facts of a life that goes on over a reset: what is promised of one life holds behind it
 -- too.
-use Rattle.std.proofs.Common.{◌≡◌, ℕ, zero, suc, ◌≤◌, List, [], ◌∷◌, ◌++◌, refl, ap, subst}
-use Rattle.std.proofs.Common.{◌∙◌, arith}
-use Rattle.std.specs.Prelude.{Some, None, slice_get}
+use Rattle.std.proofs.Common.{◌≡◌, ℕ, zero, suc, ◌≤◌, List, [], ◌∷◌, ◌++◌, refl, ap}
+use Rattle.std.proofs.Common.{replicate, subst, ◌∙◌, arith}
+use Rattle.std.specs.Prelude.{Option, Some, None, slice_get}
 use Rattle.vb_model.specs.declared.places.Place.TheVariants.{Used, Giving, Stranded}
 use Rattle.vb_model.specs.declared.calls.Actor.{Actor}
 use Rattle.vb_model.specs.declared.calls.Claim.{Claim}
 use Rattle.vb_model.specs.declared.calls.Call.TheVariants.{Alloc, Inflate, Init, Reap, Reset, Work}
+use Rattle.vb_model.specs.declared.calls.Call.TheVariants.{Write}
 use Rattle.vb_model.specs.declared.calls.Event.TheVariants.{Guest as OnGuest, Restart}
 use Rattle.vb_model.specs.declared.replies.Refusal.TheVariants.{NotReady}
 use Rattle.vb_model.specs.declared.replies.Reply.TheVariants.{Done, Page, Posted, Reaped, Refused}
@@ -75,21 +76,50 @@ handed_out_behind_a_reset : Safe over_a_reset → ⊥
 handed_out_behind_a_reset s = not_asked_since
     (s.told_first 0 16 0 3 (omega arith) one_life brought_to_giving brought_to_used)
 
+-- ---- a used page keeps its frame and what it holds over a reset
+
+abbrev resets : Guest → Guest → History
+resets before new =
+    record {
+      first = at before;
+      events = OnGuest 0 Reset ∷ [];
+      replies = Done ∷ [];
+      after = at new ∷ [];
+    }
+
+abbrev used_with : Option ℕ → List ℕ → Guest → Guest
+used_with frame bytes g =
+    record (handed_out g)
+    { frames = replicate 16 None ++ (frame ∷ []); contents = replicate 16 [] ++ (bytes ∷ []) }
+
+abbrev SameFrame : Option ℕ → Option ℕ → Type 0
+SameFrame a b = a ≡ b
+
+frame_lost : Safe (resets (used_with (Some 5) [] ready) (used_with None [] down)) → ⊥
+frame_lost s = let e : SameFrame None (Some 5) =
+    s.keeps_frame 0 0 16 5 (used_with (Some 5) [] ready) (used_with None [] down) (refl, refl)
+    (refl, refl) refl refl refl in cc
+
+abbrev one_byte : ℕ → List ℕ
+one_byte byte = byte ∷ []
+
+bytes_changed : Safe
+    (resets (used_with (Some 5) (one_byte 1) ready) (used_with (Some 5) (one_byte 0) down)) → ⊥
+bytes_changed s =
+    let e : one_byte 0 ≡ one_byte 1 =
+    s.keeps_contents 0 0 16 (used_with (Some 5) (one_byte 1) ready)
+    (used_with (Some 5) (one_byte 0) down) (refl, refl) (refl, refl) refl refl
+    (λ own. let q : Some (OnGuest 0 Reset) ≡ Some (OnGuest 0 (Write 16 own.0 own.1)) = own.2 in
+    cc) in
+    cc
+
 -- ---- a reset and what comes behind it are one run of the guest's own
 
 a_reset_is_no_end : InOneLife 1 (OnGuest 1 Reset ∷ OnGuest 1 (Init 0) ∷ [])
 a_reset_is_no_end = ((λ e. cc), (λ e. cc), ((λ e. cc), (λ e. cc), tt))
 
 -- a reset that is done leaves the guest ready
-abbrev reset_in_name : History
-reset_in_name = record {
-  first = at ready;
-  events = OnGuest 0 Reset ∷ [];
-  replies = Done ∷ [];
-  after = at ready ∷ [];
-}
-
-reset_but_ready : Safe reset_in_name → ⊥
+reset_but_ready : Safe (resets ready ready) → ⊥
 reset_but_ready s =
     let a = s.alone 0 0 1 (at ready) ready ready refl refl (refl, refl)
     ((λ e. cc), (λ e. cc), tt) in
