@@ -50,6 +50,15 @@ becomes g = record {
 
 -- ---- one state
 
+-- ready with features that it may not have
+version_lost : Safe (becomes (record ready { features = 0x27 })) → ⊥
+version_lost s = let e : false ≡ true =
+    (s.agreed 1 1 (record ready { features = 0x27 }) (refl, refl) refl).version in cc
+
+bit_3_gained : Safe (becomes (record ready { features = 0x10000002f })) → ⊥
+bit_3_gained s = let e : false ≡ true =
+    (s.agreed 1 1 (record ready { features = 0x10000002f }) (refl, refl) refl).offered in cc
+
 -- of a rogue guest too no frame backs two pages
 abbrev rogue : Guest
 rogue = record down { frames = Some 5 ∷ None ∷ Some 5 ∷ []; rogue = true }

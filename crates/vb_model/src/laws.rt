@@ -26,7 +26,7 @@ ghost use Rattle.vb_model.specs.declared.calls.Event.{Event};
 ghost use Rattle.vb_model.specs.declared.replies.Reply.{Reply};
 ghost use Rattle.vb_model.specs.declared.replies.Reply.TheVariants.{Plugged, Ready, Page, Done};
 ghost use Rattle.vb_model.specs.declared.replies.Reply.TheVariants.{Posted, Taken, Finished};
-ghost use Rattle.vb_model.specs.declared.replies.Reply.TheVariants.{Reaped};
+ghost use Rattle.vb_model.specs.declared.replies.Reply.TheVariants.{ReadBytes, Reaped};
 ghost use Rattle.vb_model.specs.Guest.{Config, Guest};
 ghost use Rattle.vb_model.specs.World.{World, guest_at};
 
@@ -36,8 +36,12 @@ pub fn every_run_is_safe()
 {}
 
 /// In every state of a run an honest guest's parts agree: each used page lies in one held block,
-/// and each giving, taking or reporting page is named by one request of the kind, and no other page
-/// is; a page is ballooned where it is lent, or named by a used inflate or by a deflate on its way.
+/// and no other page in any; each giving or reporting page is named by one request of the kind, and
+/// no other page by any; a page that a deflate names is named by it alone, and neither giving, lent
+/// nor reserved, and in a guest that tells the host the taking pages are just these, while in one
+/// that doesn't no page is taking. A page is ballooned just where it is lent, or named by a used
+/// inflate or by a deflate that isn't used yet, and `actual` is the number of lent pages and of
+/// those that deflates name.
 pub fn honest_guests_are_consistent()
     ensures consistent { (frames : ℕ) (spares : List Bool) (h : History) → Run frames spares h
         → (n i : ℕ) (g : Guest) → IsHonest h n i g → IsConsistent g }
@@ -47,7 +51,7 @@ pub fn honest_guests_are_consistent()
 /// and distinct pages, no more pages are visited than named, no more requests are outstanding than
 /// may be, just the first pages are reserved, each held block is aligned, of order 9 at most and
 /// inside, the status is 0, 15 or 131, and at 15 the accepted features are among those that the
-/// device offers, with MUST_TELL_HOST and VERSION_1.
+/// device offers, with VERSION_1.
 pub fn honest_guests_are_in_order()
     ensures orderly { (frames : ℕ) (spares : List Bool) (h : History) → Run frames spares h
         → (n i : ℕ) (g : Guest) → IsHonest h n i g → IsOrderly g }
@@ -173,11 +177,11 @@ pub fn honest_guests_are_idle_unless_ready()
 {}
 
 /// A run that is one, so that what is promised of runs is promised of something: a guest is plugged
-/// in and initialised, writes to a page of its own, and gives four pages to the host.
+/// in and initialised, writes to a page of its own and reads it, and gives four pages to the host.
 pub fn a_run_is_there()
     ensures run { (h : History) × Run 64 (false ∷ []) h
-        × (h.replies ≡ Plugged 0 ∷ Ready ∷ Page 16 ∷ Done ∷ Done ∷ Posted 0 4 ∷ Taken 0 ∷ Finished 0
-        ∷ Reaped 0 4 ∷ []) }
+        × (h.replies ≡ Plugged 0 ∷ Ready ∷ Page 16 ∷ Done ∷ ReadBytes (171 ∷ 205 ∷ 0 ∷ 0 ∷ [])
+        ∷ Done ∷ Posted 0 4 ∷ Taken 0 ∷ Finished 0 ∷ Reaped 0 4 ∷ []) }
 {}
 
 /// A step of the host is determined by the world and the event, but for the number of a new guest
