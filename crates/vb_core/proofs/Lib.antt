@@ -10,3 +10,4 @@ pub mod ChainAgreement
 pub mod CopyLaws
 pub mod CountLemmas
 pub mod MarkLemmas
+mod SettingFacts
