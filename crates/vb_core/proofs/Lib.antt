@@ -3,6 +3,7 @@ pub mod RingLemmas
 pub mod DenialLemmas
 pub mod NextLemmas
 pub mod RunLemmas
+pub mod OneTelling
 pub mod NameLemmas
 pub mod Chains
 pub mod NamedLaws
@@ -11,3 +12,4 @@ pub mod CopyLaws
 pub mod CountLemmas
 pub mod MarkLemmas
 mod SettingFacts
+mod RunFacts
