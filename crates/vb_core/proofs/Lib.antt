@@ -3,6 +3,7 @@ pub mod RingLemmas
 pub mod DenialLemmas
 pub mod NextLemmas
 pub mod RunLemmas
+pub mod OneTelling
 pub mod NameLemmas
 pub mod Chains
 pub mod NamedLaws
@@ -10,3 +11,5 @@ pub mod ChainAgreement
 pub mod CopyLaws
 pub mod CountLemmas
 pub mod MarkLemmas
+mod SettingFacts
+mod RunFacts

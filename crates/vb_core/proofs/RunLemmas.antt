@@ -1,7 +1,8 @@
 -- How often a page stands in runs.
 use Rattle.std.proofs.Common.{◌≡◌, ◌∙◌, ℕ, zero, suc, ◌+◌, ◌-◌, ◌<◌, List, [], ◌∷◌, ◌++◌, refl}
 use Rattle.std.proofs.Common.{length, get_or, set, take, sym, ap, arith, subst, append_assoc, ◌≤◌, length-append}
-use Rattle.std.specs.Prelude.{◌==◌}
+use Rattle.std.specs.Prelude.{◌==◌, if◌then◌else◌, Bool, true, false, Some, None}
+use Rattle.std.proofs.lemmas.Bool.{eqb-true, eq-eqb, ne_eqb}
 use Rattle.std.specs.List.{range_with_len}
 use Rattle.std.proofs.lemmas.Grind.{take-set_at}
 use Rattle.std.proofs.lemmas.List.{append-nil, take_more}
@@ -14,7 +15,7 @@ use Rattle.vb_request.specs.Report.{pages_of_piece, pages_of_pieces}
 use Rattle.vb_core.specs.Report.{run_of}
 use Rattle.vb_core.specs.declared.runs.Run.{Run}
 use Rattle.vb_core.specs.Runs.{pages_of_run, pages_of_runs, IsApartFrom, IsApart}
-use Rattle.vb_core.specs.Runs.{IsPart, Tell, IsAlone, Joins}
+use Rattle.vb_core.specs.Runs.{joined, Grows, one_page, IsPart, Tell}
 
 pub times-one : (p x : ℕ) → times p (x ∷ []) ≡ one_if (x == p)
 times-one p x = let e = times-cons p x [] in omega (arith, e)
@@ -70,6 +71,133 @@ joined_down p page run new e f g =
     one : (n : ℕ) → n + 1 ≡ suc n
     one n = omega arith
 
+-- ---- a run that takes a number in
+
+-- at its end, and at its front
+abbrev pub longer : Run → Run
+longer run = record { first = run.first; count = run.count + 1 }
+
+abbrev pub longer_from : ℕ → Run → Run
+longer_from n run = record { first = n; count = run.count + 1 }
+
+pub joins_up : (run : Run) (n : ℕ) → run.first + run.count ≡ n →
+    joined run n ≡ Some (longer run)
+joins_up run n e = inside (n == run.first + run.count) (eq-eqb n (run.first + run.count) (sym e))
+  where
+    inside : (up : Bool) → up ≡ true →
+        (if up then Some (longer run)
+        else if n + 1 == run.first then Some (longer_from n run)
+        else None) ≡ Some (longer run)
+    inside true is = refl
+    inside false is = absurd cc
+
+pub joins_down : (run : Run) (n : ℕ) → n + 1 ≡ run.first →
+    joined run n ≡ Some (longer_from n run)
+joins_down run n e =
+    inside (n == run.first + run.count) (n + 1 == run.first)
+    (ne_eqb n (run.first + run.count) (λ q. absurd (omega (arith, q, e))))
+    (eq-eqb (n + 1) run.first e)
+  where
+    inside : (up down : Bool) → up ≡ false → down ≡ true →
+        (if up then Some (longer run)
+        else if down then Some (longer_from n run)
+        else None) ≡ Some (longer_from n run)
+    inside false true up down = refl
+    inside true down up is = absurd cc
+    inside false false up down = absurd cc
+
+-- it has one page more, and that is the number
+record HasOneMore (old new : Run) (n : ℕ) : Type 0 where
+  pages : (p : ℕ) → times p (pages_of_run new) ≡ times p (pages_of_run old) + one_if (n == p)
+  count : new.count ≡ old.count + 1
+
+one_more : (old new : Run) (n : ℕ) → joined old n ≡ Some new → HasOneMore old new n
+one_more old new n e =
+    inside (n == old.first + old.count) (n + 1 == old.first) (eqb-true n (old.first + old.count))
+    (eqb-true (n + 1) old.first) e
+  where
+    same : (x : Run) → Some x ≡ Some new → x ≡ new
+    same x is = cc
+
+    inside : (up down : Bool) → (up ≡ true → n ≡ old.first + old.count) →
+        (down ≡ true → n + 1 ≡ old.first) →
+        (if up then Some (longer old)
+        else if down then Some (longer_from n old)
+        else None) ≡ Some new → HasOneMore old new n
+    inside true down follows stands is =
+        let now : longer old ≡ new = same _ is in
+        let first : new.first ≡ old.first = ap (λ (r : Run). r.first) (sym now) in
+        let count : new.count ≡ old.count + 1 = ap (λ (r : Run). r.count) (sym now) in
+        record {
+          pages = λ p. joined_up p n old new (sym (follows refl)) first count;
+          count = count;
+        }
+    inside false true follows stands is =
+        let now : longer_from n old ≡ new = same _ is in
+        let first : new.first ≡ n = ap (λ (r : Run). r.first) (sym now) in
+        let count : new.count ≡ old.count + 1 = ap (λ (r : Run). r.count) (sym now) in
+        record {
+          pages = λ p. joined_down p n old new (stands refl) first count;
+          count = count;
+        }
+    inside false false follows stands is = absurd cc
+
+-- one that takes numbers in has their pages more
+grown_times : (p : ℕ) (old new : Run) (ns : List ℕ) → Grows old ns new →
+    times p (pages_of_run new) ≡ times p (pages_of_run old) + times p ns
+grown_times p old new [] g =
+    let same : times p (pages_of_run new) ≡ times p (pages_of_run old) =
+    ap (λ (r : Run). times p (pages_of_run r)) g in
+    omega (arith, same)
+grown_times p old new (n ∷ ns) g =
+    let one : HasOneMore old g.0 n = one_more old g.0 n g.1.0 in
+    omega (arith, grown_times p g.0 new ns g.1.1, one.pages p, times-cons p n ns)
+
+grown_count : (old new : Run) (ns : List ℕ) → Grows old ns new →
+    new.count ≡ old.count + length ns
+grown_count old new [] g =
+    let same : new.count ≡ old.count = ap (λ (r : Run). r.count) g in
+    omega (arith, same)
+grown_count old new (n ∷ ns) g =
+    let one : HasOneMore old g.0 n = one_more old g.0 n g.1.0 in
+    omega (arith, grown_count g.0 new ns g.1.1, one.count)
+
+-- and takes one more in
+grown_more : (old mid new : Run) (ns : List ℕ) (n : ℕ) → Grows old ns mid →
+    joined mid n ≡ Some new → Grows old (ns ++ n ∷ []) new
+grown_more old mid new [] n g e =
+    (new, (subst (λ (r : Run). joined r n ≡ Some new) g e, refl))
+grown_more old mid new (m ∷ ns) n g e =
+    (g.0, (g.1.0, grown_more g.0 mid new ns n g.1.1 e))
+
+-- a part has the pages of its run, in some order
+part_pages : (run : Run) (ns part rest : List ℕ) (p : ℕ) → IsPart run ns part rest →
+    times p part ≡ times p (pages_of_run run)
+part_pages run ns part rest p is =
+    let n : ℕ = is.grows.0 in
+    let more : List ℕ = is.grows.1.0 in
+    let all : times p part ≡ times p (n ∷ more) = ap (times p) is.grows.1.1.0 in
+    omega (
+      arith,
+      all,
+      times-cons p n more,
+      times-one p n,
+      grown_times p (one_page n) run more is.grows.1.1.1,
+    )
+
+part_size : (run : Run) (ns part rest : List ℕ) → IsPart run ns part rest →
+    length part ≡ run.count
+part_size run ns part rest is =
+    let n : ℕ = is.grows.0 in
+    let more : List ℕ = is.grows.1.0 in
+    let all : length part ≡ length (n ∷ more) =
+    ap (λ (xs : List ℕ). length xs) is.grows.1.1.0 in
+    omega (arith, all, grown_count (one_page n) run more is.grows.1.1.1)
+
+part_some : (run : Run) (ns part rest : List ℕ) → IsPart run ns part rest → 0 < run.count
+part_some run ns part rest is =
+    omega (arith, grown_count (one_page is.grows.0) run is.grows.1.0 is.grows.1.1.1)
+
 -- ---- the numbers that runs tell
 
 -- how often a number stands among them
@@ -86,7 +214,7 @@ tell_times (run ∷ runs) ns t p =
     omega (
       arith,
       times-append p (pages_of_run run) (pages_of_runs runs),
-      is.pages_are p,
+      part_pages run ns part rest p is,
       more,
       all,
     )
@@ -97,17 +225,17 @@ part_length : (run : Run) (ns part rest : List ℕ) → IsPart run ns part rest 
 part_length run ns part rest is =
     let all : length ns ≡ length part + length rest =
     ap (λ (xs : List ℕ). length xs) is.whole ∙ length-append part rest in
-    omega (arith, all, is.size)
+    omega (arith, all, part_size run ns part rest is)
 
 -- runs tell some numbers, as many as the last of them has at least
 some_told : (first : List Run) (last : Run) (ns : List ℕ) → Tell (first ++ last ∷ []) ns →
     0 < length ns
 some_told [] last ns t =
     let is : IsPart last ns t.0 t.1.0 = t.1.1.0 in
-    omega (arith, part_length last ns t.0 t.1.0 is, is.some)
+    omega (arith, part_length last ns t.0 t.1.0 is, part_some last ns t.0 t.1.0 is)
 some_told (run ∷ first) last ns t =
     let is : IsPart run ns t.0 t.1.0 = t.1.1.0 in
-    omega (arith, part_length run ns t.0 t.1.0 is, is.some)
+    omega (arith, part_length run ns t.0 t.1.0 is, part_some run ns t.0 t.1.0 is)
 
 last_few : (first : List Run) (last : Run) (ns : List ℕ) → Tell (first ++ last ∷ []) ns →
     last.count ≤ length ns
@@ -128,13 +256,12 @@ part_more : (run : Run) (ns part rest : List ℕ) (n : ℕ) → IsPart run ns pa
     IsPart run (ns ++ n ∷ []) part (rest ++ n ∷ [])
 part_more run ns part rest n is = record {
   whole = ap (λ (xs : List ℕ). xs ++ n ∷ []) is.whole ∙ append_assoc part rest (n ∷ []);
-  pages_are = is.pages_are;
-  size = is.size;
-  some = is.some;
+  grows = is.grows;
 }
 
 -- the last run takes one more number in
-tell_last : (first : List Run) (old new : Run) (ns : List ℕ) (n : ℕ) → Joins old new n →
+tell_last : (first : List Run) (old new : Run) (ns : List ℕ) (n : ℕ) →
+    joined old n ≡ Some new →
     Tell (first ++ old ∷ []) ns → Tell (first ++ new ∷ []) (ns ++ n ∷ [])
 tell_last [] old new ns n more t =
     let part : List ℕ = t.0 in
@@ -147,16 +274,16 @@ tell_last [] old new ns n more t =
     ∙ sym (append-nil (part ++ n ∷ [])) in
     let last : IsPart new (ns ++ n ∷ []) (part ++ n ∷ []) [] = record {
       whole = whole;
-      pages_are = λ p.
-          omega (
-            arith,
-            times-append p part (n ∷ []),
-            is.pages_are p,
-            more.pages_are p,
-            times-one p n,
-          );
-      size = omega (arith, length-append part (n ∷ []), is.size, more.count);
-      some = omega (arith, more.count);
+      grows = (
+        is.grows.0,
+        (
+          is.grows.1.0 ++ n ∷ [],
+          (
+            ap (λ (xs : List ℕ). xs ++ n ∷ []) is.grows.1.1.0,
+            grown_more (one_page is.grows.0) old new is.grows.1.0 n is.grows.1.1.1 more,
+          ),
+        ),
+      );
     } in
     (part ++ n ∷ [], ([], (last, (tt, refl))))
 tell_last (run ∷ first) old new ns n more t =
@@ -177,25 +304,19 @@ tell_last (run ∷ first) old new ns n more t =
     )
 
 -- a run of one number tells it
-alone_tells : (run : Run) (n : ℕ) → IsAlone run n → Tell (run ∷ []) (n ∷ [])
-alone_tells run n alone =
-    let one : (p : ℕ) → times p (pages_of_run run) ≡ one_if (n == p) =
-    λ p.
-    ap (λ (m : ℕ). times p (range_with_len m run.count)) alone.first
-    ∙ (ap (λ (m : ℕ). times p (range_with_len n m)) alone.count ∙ times-one p n) in
-    let is : IsPart run (n ∷ []) (n ∷ []) [] = record {
+alone_tells : (n : ℕ) → Tell (one_page n ∷ []) (n ∷ [])
+alone_tells n =
+    let is : IsPart (one_page n) (n ∷ []) (n ∷ []) [] = record {
       whole = refl;
-      pages_are = λ p. times-one p n ∙ sym (one p);
-      size = sym alone.count;
-      some = omega (arith, alone.count);
+      grows = (n, ([], (refl, refl)));
     } in
     (n ∷ [], ([], (is, (tt, refl))))
 
 -- one more run, of one number that doesn't join the last one
-tell_new : (first : List Run) (last new : Run) (ns : List ℕ) (n : ℕ) → IsAlone new n →
-    IsApartFrom last n → Tell (first ++ last ∷ []) ns →
-    Tell ((first ++ last ∷ []) ++ new ∷ []) (ns ++ n ∷ [])
-tell_new [] last new ns n alone away t =
+tell_new : (first : List Run) (last : Run) (ns : List ℕ) (n : ℕ) → IsApartFrom last n →
+    Tell (first ++ last ∷ []) ns →
+    Tell ((first ++ last ∷ []) ++ one_page n ∷ []) (ns ++ n ∷ [])
+tell_new [] last ns n away t =
     let part : List ℕ = t.0 in
     let rest : List ℕ = t.1.0 in
     let is : IsPart last ns part rest = t.1.1.0 in
@@ -204,12 +325,10 @@ tell_new [] last new ns n alone away t =
       whole =
           ap (λ (xs : List ℕ). xs ++ n ∷ [])
           (is.whole ∙ (ap (λ (xs : List ℕ). part ++ xs) none ∙ append-nil part));
-      pages_are = is.pages_are;
-      size = is.size;
-      some = is.some;
+      grows = is.grows;
     } in
-    (part, (n ∷ [], (here, (away, alone_tells new n alone))))
-tell_new (run ∷ first) last new ns n alone away t =
+    (part, (n ∷ [], (here, (away, alone_tells n))))
+tell_new (run ∷ first) last ns n away t =
     let part : List ℕ = t.0 in
     let rest : List ℕ = t.1.0 in
     let is : IsPart run ns part rest = t.1.1.0 in
@@ -221,7 +340,7 @@ tell_new (run ∷ first) last new ns n alone away t =
         rest ++ n ∷ [],
         (
           part_more run ns part rest n is,
-          (apart, tell_new first last new rest n alone away behind),
+          (apart, tell_new first last rest n away behind),
         ),
       ),
     )
@@ -236,7 +355,7 @@ first_are used runs d some few =
 
 -- the last of them takes a page in
 pub last_joined : (page used : ℕ) (runs : List Run) (d new : Run) → 0 < used →
-    used ≤ length runs → Joins (get_or runs (used - 1) d) new page →
+    used ≤ length runs → joined (get_or runs (used - 1) d) page ≡ Some new →
     (ns : List ℕ) → Tell (take used runs) ns →
     Tell (take used (set runs (used - 1) new)) (ns ++ page ∷ [])
 last_joined page used runs d new some few joined ns t =
@@ -248,30 +367,30 @@ last_joined page used runs d new some few joined ns t =
     (subst (λ (rs : List Run). Tell rs ns) (first_are used runs d some few) t))
 
 -- none of them takes it in
-pub last_apart : (page used : ℕ) (runs : List Run) (d new : Run) → 0 < used →
+pub last_apart : (page used : ℕ) (runs : List Run) (d : Run) → 0 < used →
     used ≤ length runs →
     ((get_or runs (used - 1) d).count < 4294967295 →
     IsApartFrom (get_or runs (used - 1) d) page) →
-    (ns : List ℕ) → length ns < 4294967295 → Tell (take used runs) ns → IsAlone new page →
-    Tell (take used runs ++ new ∷ []) (ns ++ page ∷ [])
-last_apart page used runs d new some few apart ns short t alone =
+    (ns : List ℕ) → length ns < 4294967295 → Tell (take used runs) ns →
+    Tell (take used runs ++ one_page page ∷ []) (ns ++ page ∷ [])
+last_apart page used runs d some few apart ns short t =
     let is = first_are used runs d some few in
     let there : Tell (take (used - 1) runs ++ get_or runs (used - 1) d ∷ []) ns =
     subst (λ (rs : List Run). Tell rs ns) is t in
     let count : (get_or runs (used - 1) d).count ≤ length ns =
     last_few (take (used - 1) runs) (get_or runs (used - 1) d) ns there in
-    subst (λ (rs : List Run). Tell (rs ++ new ∷ []) (ns ++ page ∷ [])) (sym is)
-    (tell_new (take (used - 1) runs) (get_or runs (used - 1) d) new ns page alone
+    subst (λ (rs : List Run). Tell (rs ++ one_page page ∷ []) (ns ++ page ∷ [])) (sym is)
+    (tell_new (take (used - 1) runs) (get_or runs (used - 1) d) ns page
     (apart (omega (arith, count, short))) there)
 
-pub none_apart : (page used : ℕ) (runs : List Run) (new : Run) → used ≡ 0 →
-    (ns : List ℕ) → Tell (take used runs) ns → IsAlone new page →
-    Tell (take used runs ++ new ∷ []) (ns ++ page ∷ [])
-none_apart page used runs new e ns t alone =
+pub none_apart : (page used : ℕ) (runs : List Run) → used ≡ 0 →
+    (ns : List ℕ) → Tell (take used runs) ns →
+    Tell (take used runs ++ one_page page ∷ []) (ns ++ page ∷ [])
+none_apart page used runs e ns t =
     let none : ns ≡ [] = subst (λ (n : ℕ). Tell (take n runs) ns) e t in
-    subst (λ (n : ℕ). Tell (take n runs ++ new ∷ []) (ns ++ page ∷ [])) (sym e)
-    (subst (λ (xs : List ℕ). Tell (new ∷ []) (xs ++ page ∷ [])) (sym none)
-    (alone_tells new page alone))
+    subst (λ (n : ℕ). Tell (take n runs ++ one_page page ∷ []) (ns ++ page ∷ [])) (sym e)
+    (subst (λ (xs : List ℕ). Tell (one_page page ∷ []) (xs ++ page ∷ [])) (sym none)
+    (alone_tells page))
 
 -- a run of one page is put behind them
 pub run_added : (used : ℕ) (runs now : List Run) (new : Run) (ms : List ℕ) → now ≡ runs →

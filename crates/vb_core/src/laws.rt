@@ -68,6 +68,13 @@ pub fn runs_are_the_pages_of_the_request()
         IsOkAnd result (λ named. Tell (take named.runs runs) pages) }
 {}
 
+/// Just one list of runs tells given numbers: a number that follows the last run, or stands right
+/// before it, joins it, and any other begins one.
+pub fn numbers_are_told_by_one_list_of_runs()
+    ensures { (runs others : List Run) (ns : List ℕ) → Tell runs ns → Tell others ns →
+        runs ≡ others }
+{}
+
 /// The runs of a report are its pages, in their order.
 pub fn runs_are_the_pages_of_the_report()
     ensures { (pieces : List Piece) →

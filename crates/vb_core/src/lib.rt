@@ -31,7 +31,8 @@ pub use ballooned::{count_ballooned, is_ballooned, mark};
 pub use device::{Denial, Device};
 pub use kinds::Kind;
 pub use laws::{
-    a_used_entry_is_the_rings_next, copies_say_what_memory_says, runs_are_the_pages_of_the_report,
+    a_used_entry_is_the_rings_next, copies_say_what_memory_says,
+    numbers_are_told_by_one_list_of_runs, runs_are_the_pages_of_the_report,
     runs_are_the_pages_of_the_request,
 };
 pub use name::Named;

@@ -1,9 +1,8 @@
 //! Pages as runs of neighbours.
 
 ghost use Rattle.std.specs.Prelude.{◌≡◌, ℕ, ◌+◌, ◌<◌, ◌≤◌, ◌==◌, ◌++◌, ◌∷◌, [], true, false, List};
-ghost use Rattle.std.specs.Prelude.{length, take};
-ghost use Rattle.vb_core.specs.declared.runs.Run.{Run};
-ghost use Rattle.vb_core.specs.Runs.{IsApartFrom, Tell, IsAlone, Joins};
+ghost use Rattle.std.specs.Prelude.{Some, length, take};
+ghost use Rattle.vb_core.specs.Runs.{IsApartFrom, Tell, joined, one_page};
 
 /// Pages whose numbers rise by one.
 #[repr(C)]
@@ -22,7 +21,7 @@ impl Run {
     /// Takes a page in where it follows the run's pages, or stands right before them; says whether
     /// it was taken in.
     fn join(&mut self, page: u32) -> bool
-        ensures joined { result ≡ true → Joins self.old self.new page }
+        ensures joined { result ≡ true → joined self.old page ≡ Some self.new }
         ensures apart { result ≡ false → self.old.count < 4294967295 →
             IsApartFrom self.old page }
         ensures same { result ≡ false → self.new ≡ self.old }
@@ -51,8 +50,8 @@ fn join_last(runs: &mut [Run], used: usize, page: u32) -> bool
     ensures joined { result ≡ true → (ns : List ℕ) → Tell (take used runs.old) ns →
         Tell (take used runs.new) (ns ++ page ∷ []) }
     ensures apart { result ≡ false → (ns : List ℕ) → length ns < 4294967295 →
-        Tell (take used runs.old) ns → (run : Run) → IsAlone run page →
-        Tell (take used runs.old ++ run ∷ []) (ns ++ page ∷ []) }
+        Tell (take used runs.old) ns →
+        Tell (take used runs.old ++ one_page page ∷ []) (ns ++ page ∷ []) }
     ensures same { result ≡ false → runs.new ≡ runs.old }
 {
     if used == 0 {

@@ -183,7 +183,7 @@ struct Request {
 
 /// Memory ends at page 131,072, and page 0 is reserved. The first two are the beginnings of real
 /// requests.
-static REQUESTS: [Request; 8] = [
+static REQUESTS: [Request; 9] = [
     Request {
         numbers: [49_995, 49_994, 49_993, 49_992],
         skips: 0,
@@ -209,6 +209,13 @@ static REQUESTS: [Request; 8] = [
         numbers: [20, 20, 21, 19],
         skips: 0,
         firsts: [20, 19],
+        counts: [1, 3],
+        answer: Ok(0),
+    },
+    Request {
+        numbers: [20, 22, 21, 23],
+        skips: 0,
+        firsts: [20, 21],
         counts: [1, 3],
         answer: Ok(0),
     },

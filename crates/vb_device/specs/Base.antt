@@ -3,7 +3,7 @@ use Rattle.std.specs.Prelude.{◌≡◌, ℕ, ◌<◌, ◌≤◌, Bool, true, fa
 use Rattle.std.specs.Prelude.{slice_index_or, if◌then◌else◌, ◌==◌}
 use Rattle.vb_model.specs.declared.layout.TheConstants.{INFLATE_QUEUE, DEFLATE_QUEUE}
 use Rattle.vb_model.specs.declared.layout.TheConstants.{STATISTICS_QUEUE, REPORT_QUEUE}
-use Rattle.vb_model.specs.declared.limits.TheConstants.{MIN_GUEST_PAGES}
+use Rattle.vb_model.specs.declared.limits.TheConstants.{MIN_GUEST_PAGES, MAX_QUEUE_SIZE}
 use Rattle.vb_model.specs.Layout.{ring_page}
 use Rattle.vb_model.specs.Guest.{LastStatistics}
 use Rattle.vb_model.specs.Tables.{has_chains}
@@ -12,6 +12,7 @@ use Rattle.vb_ram.specs.Pages.{Page, Pages}
 use Rattle.vb_ram.specs.Part.{Part, no_part}
 use Rattle.vb_ring.specs.Layout.{IsSize, layout_of}
 use Rattle.vb_device.specs.QueueState.{QueueState, part_of, new_queue, no_ring}
+use Rattle.vb_device.specs.State.{DeviceState}
 
 abbrev pub numbers_of_frames : List Page → List ℕ
 numbers_of_frames frames = map (λ frame. frame.number) frames
@@ -67,6 +68,12 @@ pub record IsBase (mem : Pages) (status queue_size : ℕ) (queues : List QueueSt
       IsDeviceQueue mem status queue_size q (queue_at q queues)
   pub large : 0 < length mem → MIN_GUEST_PAGES ≤ length mem
   pub room : length mem ≤ capacity
+
+-- A device of this pace that no guest has yet: it has no memory and no frame, its status, features
+-- and target are 0, nothing was ever taken, and its queues are of the greatest size.
+abbrev pub fresh_device : Bool → DeviceState
+fresh_device paced =
+    record { mem = []; part = record no_part { queue_size = MAX_QUEUE_SIZE; paced = paced } }
 
 -- The part of a device of this pace.
 abbrev pub with_pace : Bool → Part → Part

@@ -5,7 +5,7 @@ ghost use Rattle.vb_model.specs.Status.{contains, driver_ok};
 ghost use Rattle.vb_ring.specs.Layout.{IsBacked};
 ghost use Rattle.vb_device.specs.Queues.{queue_layout};
 ghost use Rattle.vb_model.specs.Requests.{Request};
-ghost use Rattle.vb_device.specs.Base.{with_pace};
+ghost use Rattle.vb_device.specs.Base.{fresh_device, with_pace};
 ghost use Rattle.vb_device.specs.BaseCalls.{SettlesBy, CanUse, flags_after, refusal_in};
 ghost use Rattle.vb_device.specs.Conditions.{finish_refusal, taken_at};
 ghost use Rattle.vb_device.specs.Calls.{IsUnused};
@@ -80,6 +80,7 @@ fn mark_taken(
 impl<P: Pace> BalloonDevice<P> {
     /// A device of this pace that no guest has yet.
     pub(crate) fn of_pace(alloc: Global) -> Self
+        ensures new { result ≡ fresh_device P.IS_PACED }
         ensures unused { IsUnused result.mem result.part }
         ensures paced { result.part.paced ≡ P.IS_PACED }
         ensures keeps { result.part.keeps ≡ false }
@@ -119,6 +120,7 @@ impl<P: Pace> BalloonDevice<P> {
 impl ImmediateDevice {
     /// An immediate device that no guest has yet.
     pub fn new(alloc: Global) -> ImmediateDevice
+        ensures new { result ≡ fresh_device false }
         ensures unused { IsUnused result.mem result.part }
         ensures paced { result.part.paced ≡ false }
         ensures keeps { result.part.keeps ≡ false }
@@ -131,6 +133,7 @@ impl ImmediateDevice {
 impl PacedDevice {
     /// A paced device that no guest has yet.
     pub fn new(alloc: Global) -> PacedDevice
+        ensures new { result ≡ fresh_device true }
         ensures unused { IsUnused result.mem result.part }
         ensures paced { result.part.paced ≡ true }
         ensures keeps { result.part.keeps ≡ false }

@@ -13,7 +13,7 @@ ghost use Rattle.vb_status.specs.After.{part_after_reset};
 ghost use Rattle.vb_status.specs.Bits.{status_bits};
 ghost use Rattle.vb_ring.specs.Layout.{IsBacked};
 ghost use Rattle.vb_device.specs.Queues.{queue_layout};
-ghost use Rattle.vb_device.specs.Base.{IsPlain, with_pace};
+ghost use Rattle.vb_device.specs.Base.{IsPlain, fresh_device, with_pace};
 ghost use Rattle.vb_device.specs.BaseCalls.{TakesOut, UsesChain, CanUse};
 ghost use Rattle.vb_device.specs.BaseCalls.{refusal_in};
 ghost use Rattle.vb_device.specs.Conditions.{finish_refusal, taken_at};
@@ -104,9 +104,7 @@ fn visits_first(paced: bool, queue: u32) -> bool
 impl DeviceBase {
     /// A device that isn't attached.
     pub(crate) fn new(alloc: Global) -> DeviceBase
-        ensures mem { result.mem ≡ [] }
-        ensures loose { result.part.loose ≡ [] }
-        ensures plain { IsPlain result.part }
+        ensures { result ≡ fresh_device false }
     {
         DeviceBase {
             ram: Ram::empty(alloc),

@@ -1,7 +1,7 @@
 //! A flag for each page, with the count of those that are set.
 
 ghost use Rattle.std.specs.Prelude.{◌≡◌, ◌<◌, ◌^◌, ◌≤◌, false, IfOk, count_by, length, replicate};
-ghost use Rattle.std.specs.Prelude.{slice_set};
+ghost use Rattle.std.specs.Prelude.{slice_set, []};
 ghost use Rattle.vb_model.specs.Guest.{is_ballooned};
 ghost use Rattle.vb_model.specs.Tests.{one_if};
 ghost use Rattle.vb_device.specs.BaseCalls.{flags_after};
@@ -42,7 +42,7 @@ fn bit(flag: bool) -> u32
 impl PageFlags {
     /// Flags of no pages.
     pub(crate) fn empty(alloc: Global) -> PageFlags
-        ensures { length result ≡ 0 }
+        ensures { result ≡ [] }
     {
         PageFlags {
             flags: Vec::new(alloc),

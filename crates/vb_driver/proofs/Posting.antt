@@ -52,6 +52,8 @@ one_piece m1 m2 m3 r r2 h a l end next keeps adds =
           adds.links.others i lt out ∙ descriptor_apart m1 m2 T i keeps.table;
       others = λ p table avail. adds.publishes.rest.others p (table, (avail, (avail, tt)));
       announces = record {
+        entry = adds.publishes.entry;
+        index = adds.publishes.index;
         entries = λ heads elems counted shows. adds.entries heads elems counted
             (entries_apart m1 m2 r.layout r.size heads elems end.fits.size keeps.avail keeps.used
             shows);

@@ -100,7 +100,12 @@ module _ (m1 m2 : Pages) (side : ReportSide) (r2 : DriverEnd) (pieces : List Pie
         };
         descriptors = λ i lt past. added.links.others i lt
             (ap (is_in i) path_is ∙ not_first i (length blocks) past);
-        announces = record { entries = added.entries; shown = added.shown };
+        announces = record {
+          entry = added.publishes.entry;
+          index = added.publishes.index;
+          entries = added.entries;
+          shown = added.shown;
+        };
         rest = record {
           others = λ p table avail same. added.publishes.rest.others p
               (table, (avail, (avail, tt)));

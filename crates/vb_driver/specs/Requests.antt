@@ -15,12 +15,13 @@ use Rattle.vb_model.specs.Driver.{AllDistinct}
 use Rattle.vb_model.specs.Limits.{max_outstanding}
 use Rattle.vb_model.specs.Layout.{buffers_page, buffer_page, buffer_offset}
 use Rattle.vb_model.specs.Refusals.{first_refusal}
-use Rattle.vb_ram.specs.Pages.{Pages}
+use Rattle.vb_ram.specs.Pages.{Pages, field}
 use Rattle.vb_ram.specs.Part.{Part}
 use Rattle.vb_pages.specs.FreePages.{FreePages, drained}
 use Rattle.vb_pages.specs.PageState.{TakesFree}
 use Rattle.vb_chain.specs.Table.{descriptor_at}
 use Rattle.vb_ring.specs.Ends.{DriverEnd, after_add, next_head}
+use Rattle.vb_ring.specs.Entries.{avail_index, avail_place}
 use Rattle.vb_ring.specs.Meaning.{UsedElem, ShowsEntries, Shows, Tracks}
 use Rattle.vb_ring.specs.Calls.{table_extent, avail_entry, avail_counter}
 use Rattle.vb_ring.specs.Frame.{Extent, SameOutside}
@@ -34,8 +35,13 @@ use Rattle.vb_driver.specs.Answers.{inflate_tests, deflate_tests, oom_tests, rep
 use Rattle.vb_driver.specs.Answers.{blocks_to_report}
 use Rattle.vb_driver.specs.Unchanged.{Unchanged}
 
--- One more head is published, and stands last in what the ring shows.
+-- One more head is published: whatever bytes stood there, it is the available entry of the
+-- driver's own count, and the available index is one more than that count. On a ring that shows
+-- lists, it stands last in what the ring shows.
 pub record Announces (m1 m2 : Pages) (r1 r2 : DriverEnd) (head : ℕ) : Type 0 where
+  pub entry : field 2 m2 r1.layout.avail.page (avail_place r1.layout r1.size r1.published) ≡ head
+  pub index : field 2 m2 r1.layout.avail.page (avail_index r1.layout)
+      ≡ (r1.published + 1) % index_values
   pub entries : (heads : List ℕ) (elems : List UsedElem)
       → length heads % index_values ≡ r1.published
       → ShowsEntries m1 r1.layout r1.size heads elems
