@@ -6,3 +6,4 @@ pub mod Gathered
 pub mod Distinct
 pub mod Closing
 pub mod Starting
+mod PlanFacts
