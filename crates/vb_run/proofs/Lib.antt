@@ -7,3 +7,4 @@ pub mod Distinct
 pub mod Closing
 pub mod Starting
 mod PlanFacts
+mod RoundFacts
