@@ -8,3 +8,4 @@ pub mod Closing
 pub mod Starting
 mod PlanFacts
 mod RoundFacts
+mod EntryFacts
