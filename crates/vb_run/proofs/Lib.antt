@@ -9,3 +9,4 @@ pub mod Starting
 mod PlanFacts
 mod RoundFacts
 mod EntryFacts
+mod ServiceFacts
