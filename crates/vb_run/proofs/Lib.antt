@@ -10,3 +10,4 @@ mod PlanFacts
 mod RoundFacts
 mod EntryFacts
 mod ServiceFacts
+mod ReportFacts
