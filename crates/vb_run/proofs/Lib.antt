@@ -11,3 +11,4 @@ mod RoundFacts
 mod EntryFacts
 mod ServiceFacts
 mod ReportFacts
+mod StartFacts
