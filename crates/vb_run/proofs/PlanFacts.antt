@@ -1,5 +1,6 @@
 -- Worked facts of plans.
-use Rattle.std.proofs.Common.{◌≡◌, ℕ, ◌∷◌, [], List, Bool, true, false, map, replicate, refl, length}
+use Rattle.std.proofs.Common.{◌≡◌, ℕ, ◌∷◌, [], List, Bool, true, false, map, replicate, refl}
+use Rattle.std.proofs.Common.{length}
 use Rattle.std.specs.List.{list_all}
 use Rattle.std.specs.declared.vec.Vec.{Vec}
 use Rattle.std.specs.declared.alloc.Global.{Global}
@@ -13,8 +14,8 @@ use Rattle.vb_run.specs.declared.plan.Plan.{Plan}
 use Rattle.vb_run.specs.declared.plan.TheConstants.{MAX_SCRIPT_CALLS}
 use Rattle.vb_run.specs.Plans.{config_of, may_stand, is_script, are_scripts, is_guest_plan, is_plan}
 
--- ---- which calls may stand in the script of processor 1: its own, and none of a starter, a worker,
--- a balancer or a host
+-- ---- which calls may stand in the script of processor 1: its own, and none of a starter, a
+-- worker, a balancer or a host
 
 who_may_stand : map (may_stand 1)
     (Alloc 1 0 ∷ Alloc 0 0 ∷ Free 1 16 0 ∷ Free 0 16 0 ∷ Read 16 0 1 ∷ Write 16 0 [] ∷ Inflate 1
@@ -59,8 +60,10 @@ second_not_its_own first second a b = rw (a, b) refl
 
 -- ---- a guest as large as its plan says
 
-config_of_sizes : config_of (record { pages = 64; queue_size = 8; processors = 2 }) true
+config_of_sizes : map (config_of (record { pages = 64; queue_size = 8; processors = 2 }))
+    (true ∷ false ∷ [])
     ≡ record { pages = 64; queue_size = 8; processors = 2; paced = true }
+    ∷ record { pages = 64; queue_size = 8; processors = 2; paced = false } ∷ []
 config_of_sizes = refl
 
 -- a guest of this plan, with so many scripts of no call

@@ -170,11 +170,13 @@ both a b frame first second of_first of_second apart =
 
 frame_of_both : OfTwo (5 ∷ 3 ∷ []) (7 ∷ 3 ∷ []) ⊥
 frame_of_both first second a b apart =
-    let l : 2 ≤ 1 = both (5 ∷ 3 ∷ []) (7 ∷ 3 ∷ []) 3 first second a b apart in absurd (omega (arith, l))
+    let l : 2 ≤ 1 = both (5 ∷ 3 ∷ []) (7 ∷ 3 ∷ []) 3 first second a b apart in
+    absurd (omega (arith, l))
 
 frame_twice_of_one : OfTwo [] (4 ∷ 5 ∷ 4 ∷ []) ⊥
 frame_twice_of_one first second a b apart =
-    let l : 2 ≤ 1 = both [] (4 ∷ 5 ∷ 4 ∷ []) 4 first second a b apart in absurd (omega (arith, l))
+    let l : 2 ≤ 1 = both [] (4 ∷ 5 ∷ 4 ∷ []) 4 first second a b apart in
+    absurd (omega (arith, l))
 
 different_frames : (first second : GuestReport) → first.frames.items ≡ 3 ∷ 7 ∷ []
     → second.frames.items ≡ 8 ∷ [] → AreApart (first ∷ second ∷ [])

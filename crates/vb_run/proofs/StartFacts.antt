@@ -28,7 +28,8 @@ Is g new = new ≡ g
 paced_device : (plan : GuestPlan) → plan.config ≡ sizes → IsFresh (Is down) plan
 paced_device plan e = (true, rw e refl)
 
-unpaced_device : (plan : GuestPlan) → plan.config ≡ sizes → IsFresh (Is (fresh (config false) 0)) plan
+unpaced_device : (plan : GuestPlan) → plan.config ≡ sizes
+    → IsFresh (Is (fresh (config false) 0)) plan
 unpaced_device plan e = (false, rw e refl)
 
 -- it has no target yet, isn't initialised, and is as large as the plan says
