@@ -6,3 +6,9 @@ pub mod Gathered
 pub mod Distinct
 pub mod Closing
 pub mod Starting
+mod PlanFacts
+mod RoundFacts
+mod EntryFacts
+mod ServiceFacts
+mod ReportFacts
+mod StartFacts

@@ -1,0 +1,444 @@
+-- Worked facts of what a run answers.
+use Rattle.std.proofs.Common.{◌≡◌, ℕ, zero, suc, ◌+◌, ◌≤◌, List, [], ◌∷◌, true, map, refl}
+use Rattle.std.proofs.Common.{sym, ap, subst, ◌∙◌, arith, length, All}
+use Rattle.std.specs.Prelude.{Option, Some, None, slice_get, slice_index_or, ◌-◌}
+use Rattle.std.specs.Prelude.{filter_map}
+use Rattle.std.specs.declared.vec.Vec.{Vec}
+use Rattle.std.specs.declared.alloc.Global.{Global}
+use Rattle.vb_model.specs.declared.calls.Actor.{Actor}
+use Rattle.vb_model.specs.declared.calls.Actor.TheVariants.{Processor, Worker, Balancer}
+use Rattle.vb_model.specs.declared.calls.Call.{Call}
+use Rattle.vb_model.specs.declared.calls.Call.TheVariants.{Alloc, Stats, Work, SetTarget}
+use Rattle.vb_model.specs.declared.calls.Claim.{Claim}
+use Rattle.vb_model.specs.declared.replies.Refusal.TheVariants.{Short}
+use Rattle.vb_model.specs.declared.replies.Reply.{Reply}
+use Rattle.vb_model.specs.declared.replies.Reply.TheVariants.{Done, Page, Filled, Idle, NotUsed}
+use Rattle.vb_model.specs.declared.replies.Reply.TheVariants.{Targets, Refused}
+use Rattle.vb_model.specs.Requests.{Request}
+use Rattle.vb_model.specs.Guest.{Guest, Config, fresh}
+use Rattle.vb_model.specs.Balance.{Need, spare}
+use Rattle.vb_model.specs.Layout.{reserved_pages}
+use Rattle.vb_model.specs.Tests.{times}
+use Rattle.vb_model.specs.GuestRun.{Entry, Called, Looked, IsHistory}
+use Rattle.vb_model.proofs.Unchanged.{step_keeps}
+use Rattle.vb_ram.specs.declared.config.Config.{Config as Sizes}
+use Rattle.vb_run.specs.declared.plan.GuestPlan.{GuestPlan}
+use Rattle.vb_run.specs.declared.plan.Plan.{Plan}
+use Rattle.vb_run.specs.declared.report.GuestReport.{GuestReport}
+use Rattle.vb_run.specs.declared.report.Report.{Report}
+use Rattle.vb_run.specs.Plans.{config_of}
+use Rattle.vb_run.specs.Entries.{calls_by, replies_by, entries_by}
+use Rattle.vb_run.specs.Rounds.{Rounded, IsAnswer, round_entries}
+use Rattle.vb_run.specs.Rising.{IsRising}
+use Rattle.vb_run.specs.Reports.{frames_behind, Plays, IsGuestReport, IsRound, AreApart, IsReport}
+use Rattle.vb_run.proofs.Distinct.{rising_once, times_append}
+
+abbrev Same : ℕ → ℕ → Type 0
+Same a b = a ≡ b
+
+abbrev SameList : List ℕ → List ℕ → Type 0
+SameList a b = a ≡ b
+
+-- 64 pages, queues of 8, two processors, a paced device
+abbrev config : Config
+config = record { pages = 64; queue_size = 8; processors = 2; paced = true }
+
+abbrev down : Guest
+down = fresh config 0
+
+abbrev ready : Guest
+ready = record down { status = 15; features = 0x100000027 }
+
+-- ---- frames behind a guest's pages, by rising page
+
+frames_by_page : frames_behind
+    (record ready { frames = None ∷ Some 5 ∷ None ∷ Some 3 ∷ Some 9 ∷ None ∷ [] })
+    ≡ 5 ∷ 3 ∷ 9 ∷ []
+frames_by_page = refl
+
+no_frames : frames_behind down ≡ []
+no_frames = refl
+
+-- ---- histories: from plug on, with no target
+
+of_nothing : IsHistory config 0 [] down
+of_nothing = refl
+
+to_a_ready_guest : IsHistory config 0 [] ready → ⊥
+to_a_ready_guest run = let e : Same 15 0 = ap (λ (g : Guest). g.status) run in omega arith
+
+from_another_target : IsHistory config 7 [] down → ⊥
+from_another_target run = let e : Same 0 7 = ap (λ (g : Guest). g.target) run in omega arith
+
+-- ---- what a processor of guest 1 plays: its script, whole and in order, with these replies
+
+abbrev made : ℕ → Call → Reply → Entry
+made cpu call reply = Called (Processor 1 cpu) call [] reply
+
+-- a guest of one processor
+abbrev Accepts : List Call → List Entry → List Reply → Type 0
+Accepts script entries replied =
+    (plan : GuestPlan) (report : GuestReport) (calls : Vec Call Global) (replies : Vec Reply Global)
+    → plan.scripts.items ≡ calls ∷ [] → calls.items ≡ script
+    → report.replies.items ≡ replies ∷ [] → replies.items ≡ replied
+    → report.history.items ≡ entries → Plays 1 plan report
+
+-- whatever the other processors do
+abbrev Refuses : ℕ → List Call → List Entry → List Reply → Type 0
+Refuses cpu script entries replied =
+    (plan : GuestPlan) (report : GuestReport) (calls : Vec Call Global) (replies : Vec Reply Global)
+    → slice_get plan.scripts.items cpu ≡ Some calls → calls.items ≡ script
+    → slice_get report.replies.items cpu ≡ Some replies → replies.items ≡ replied
+    → report.history.items ≡ entries → Plays 1 plan report → ⊥
+
+by_calls : (cpu : ℕ) (script : List Call) (entries : List Entry) (replied : List Reply)
+    → (calls_by (Processor 1 cpu) entries ≡ script → ⊥) → Refuses cpu script entries replied
+by_calls cpu script entries replied wrong plan report calls replies at of_calls at_replies
+    of_replies history plays =
+    wrong (ap (calls_by (Processor 1 cpu)) (sym history) ∙ (plays cpu calls replies at at_replies).0
+    ∙ of_calls)
+
+by_replies : (cpu : ℕ) (script : List Call) (entries : List Entry) (replied : List Reply)
+    → (replies_by (Processor 1 cpu) entries ≡ replied → ⊥) → Refuses cpu script entries replied
+by_replies cpu script entries replied wrong plan report calls replies at of_calls at_replies
+    of_replies history plays =
+    wrong (ap (replies_by (Processor 1 cpu)) (sym history)
+    ∙ (plays cpu calls replies at at_replies).1 ∙ of_replies)
+
+-- between the entries of others
+whole_script : Accepts (Stats ∷ Alloc 0 0 ∷ [])
+    (Looked 16 32 ∷ made 0 Stats Filled ∷ Called (Worker 1) Work [] Idle
+    ∷ made 0 (Alloc 0 0) (Page 20) ∷ []) (Filled ∷ Page 20 ∷ [])
+whole_script plan report calls replies scripts of_calls all of_replies history = plays
+  where
+    plays : (cpu : ℕ) (c : Vec Call Global) (r : Vec Reply Global)
+        → slice_get plan.scripts.items cpu ≡ Some c → slice_get report.replies.items cpu ≡ Some r
+        → (calls_by (Processor 1 cpu) report.history.items ≡ c.items)
+        × (replies_by (Processor 1 cpu) report.history.items ≡ r.items)
+    plays zero c r at at_replies =
+        let first : Some calls ≡ Some c = sym (ap (λ l. slice_get l 0) scripts) ∙ at in
+        let same : calls ≡ c = cc in
+        let second : Some replies ≡ Some r = sym (ap (λ l. slice_get l 0) all) ∙ at_replies in
+        let equal : replies ≡ r = cc in (
+          ap (calls_by (Processor 1 0)) history ∙ sym of_calls ∙ ap (λ v. v.items) same,
+          ap (replies_by (Processor 1 0)) history ∙ sym of_replies ∙ ap (λ v. v.items) equal,
+        )
+    plays (suc cpu) c r at at_replies =
+        let e : None ≡ Some c = sym (ap (λ l. slice_get l (suc cpu)) scripts) ∙ at in
+        absurd cc
+
+call_left_out : Refuses 0 (Stats ∷ Alloc 0 0 ∷ []) (made 0 Stats Filled ∷ []) (Filled ∷ [])
+call_left_out =
+    by_calls 0 (Stats ∷ Alloc 0 0 ∷ []) (made 0 Stats Filled ∷ []) (Filled ∷ []) (λ e. cc)
+
+call_of_another_processor : Refuses 1 (Stats ∷ []) (made 0 Stats Filled ∷ []) (Filled ∷ [])
+call_of_another_processor =
+    by_calls 1 (Stats ∷ []) (made 0 Stats Filled ∷ []) (Filled ∷ []) (λ e. cc)
+
+call_that_no_script_has : Refuses 1 [] (made 1 Stats Filled ∷ []) (Filled ∷ [])
+call_that_no_script_has = by_calls 1 [] (made 1 Stats Filled ∷ []) (Filled ∷ []) (λ e. cc)
+
+another_order : Refuses 0 (Stats ∷ Alloc 0 0 ∷ [])
+    (made 0 (Alloc 0 0) (Page 20) ∷ made 0 Stats Filled ∷ []) (Page 20 ∷ Filled ∷ [])
+another_order =
+    by_calls 0 (Stats ∷ Alloc 0 0 ∷ [])
+    (made 0 (Alloc 0 0) (Page 20) ∷ made 0 Stats Filled ∷ []) (Page 20 ∷ Filled ∷ [])
+    (λ e. cc)
+
+another_reply : Refuses 0 (Stats ∷ []) (made 0 Stats Filled ∷ []) (NotUsed ∷ [])
+another_reply = by_replies 0 (Stats ∷ []) (made 0 Stats Filled ∷ []) (NotUsed ∷ []) (λ e. cc)
+
+reply_left_out : Refuses 1 (Stats ∷ []) (made 1 Stats Filled ∷ []) []
+reply_left_out = by_replies 1 (Stats ∷ []) (made 1 Stats Filled ∷ []) [] (λ e. cc)
+
+-- ---- frames of guests that are apart
+
+-- the frames of two guests
+abbrev OfTwo : List ℕ → List ℕ → Type 0 → Type 0
+OfTwo a b answer =
+    (first second : GuestReport) → first.frames.items ≡ a → second.frames.items ≡ b
+    → AreApart (first ∷ second ∷ []) → answer
+
+-- how often the frame stands among those of both
+both : (a b : List ℕ) (frame : ℕ) → OfTwo a b (times frame a + times frame b ≤ 1)
+both a b frame first second of_first of_second apart =
+    let l : (0 + times frame first.frames.items) + times frame second.frames.items ≤ 1 =
+    apart frame in
+    let e : times frame first.frames.items ≡ times frame a = ap (times frame) of_first in
+    let f : times frame second.frames.items ≡ times frame b = ap (times frame) of_second in
+    omega (arith, l, e, f)
+
+frame_of_both : OfTwo (5 ∷ 3 ∷ []) (7 ∷ 3 ∷ []) ⊥
+frame_of_both first second a b apart =
+    let l : 2 ≤ 1 = both (5 ∷ 3 ∷ []) (7 ∷ 3 ∷ []) 3 first second a b apart in
+    absurd (omega (arith, l))
+
+frame_twice_of_one : OfTwo [] (4 ∷ 5 ∷ 4 ∷ []) ⊥
+frame_twice_of_one first second a b apart =
+    let l : 2 ≤ 1 = both [] (4 ∷ 5 ∷ 4 ∷ []) 4 first second a b apart in
+    absurd (omega (arith, l))
+
+different_frames : (first second : GuestReport) → first.frames.items ≡ 3 ∷ 7 ∷ []
+    → second.frames.items ≡ 8 ∷ [] → AreApart (first ∷ second ∷ [])
+different_frames first second a b frame =
+    let e : times frame first.frames.items ≡ times frame (3 ∷ 7 ∷ []) = ap (times frame) a in
+    let f : times frame second.frames.items ≡ times frame (8 ∷ []) = ap (times frame) b in
+    let once : times frame (3 ∷ 7 ∷ 8 ∷ []) ≤ 1 = rising_once (3 ∷ 7 ∷ 8 ∷ []) rising frame in
+    let parts : times frame (3 ∷ 7 ∷ 8 ∷ []) ≡ times frame (3 ∷ 7 ∷ []) + times frame (8 ∷ []) =
+    times_append frame (3 ∷ 7 ∷ []) (8 ∷ []) in
+    let goal : (0 + times frame first.frames.items) + times frame second.frames.items ≤ 1 =
+    omega (arith, e, f, once, parts) in
+    goal
+  where
+    rising : IsRising (3 ∷ 7 ∷ 8 ∷ [])
+    rising zero l = omega arith
+    rising (suc zero) l = omega arith
+    rising (suc (suc i)) l = absurd (omega (arith, l))
+
+-- ---- rounds: over all guests of the plan, for its frames
+
+-- two guests of 64 pages: the first can spare 40, the second 30
+abbrev needs : List Need
+needs = record { pages = 64; spare = 40 } ∷ record { pages = 64; spare = 30 } ∷ []
+
+-- 40 frames, to which 18 pages stay missing
+abbrev round : Rounded
+round = record { frames = 40; needs = needs; answer = Refused (Short 18) }
+
+-- a plan of two guests with so many frames
+abbrev OfPlan : (pages more frames : ℕ) → (Plan → Type 0) → Type 0
+OfPlan pages more frames Holds =
+    (plan : Plan) (g h : GuestPlan) → plan.guests.items ≡ g ∷ h ∷ [] → g.config.pages ≡ pages
+    → h.config.pages ≡ more → plan.frames ≡ frames → Holds plan
+
+round_of_the_plan : OfPlan 64 64 40 (λ plan. IsRound plan round)
+round_of_the_plan plan g h guests pages more frames = record {
+  sizes = sym (ap (map (λ g. g.config.pages)) guests ∙ ap (λ n. n ∷ h.config.pages ∷ []) pages
+      ∙ ap (λ n. 64 ∷ n ∷ []) more);
+  frames = sym frames;
+  answer = rw frames refl;
+}
+
+another_number_of_frames : OfPlan 64 64 41 (λ plan. IsRound plan round → ⊥)
+another_number_of_frames plan g h guests pages more frames r =
+    let e : Same 40 41 = r.frames ∙ frames in omega arith
+
+guest_of_another_size : OfPlan 64 80 40 (λ plan. IsRound plan round → ⊥)
+guest_of_another_size plan g h guests pages more frames r =
+    let e : SameList (64 ∷ 64 ∷ []) (64 ∷ 80 ∷ []) =
+    r.sizes ∙ ap (map (λ g. g.config.pages)) guests ∙ ap (λ n. n ∷ h.config.pages ∷ []) pages
+    ∙ ap (λ n. 64 ∷ n ∷ []) more in
+    let second : Same 64 80 = ap (λ (l : List ℕ). slice_index_or l 1 0) e in
+    omega (arith, second)
+
+guest_that_was_not_seen : (plan : Plan) (g h i : GuestPlan)
+    → plan.guests.items ≡ g ∷ h ∷ i ∷ [] → IsRound plan round → ⊥
+guest_that_was_not_seen plan g h i guests r =
+    let e : Same 2 3 =
+    ap (λ (l : List ℕ). length l) (r.sizes ∙ ap (map (λ g. g.config.pages)) guests) in
+    omega arith
+
+guest_that_no_plan_has : (plan : Plan) (g : GuestPlan) → plan.guests.items ≡ g ∷ []
+    → IsRound plan round → ⊥
+guest_that_no_plan_has plan g guests r =
+    let e : Same 2 1 =
+    ap (λ (l : List ℕ). length l) (r.sizes ∙ ap (map (λ g. g.config.pages)) guests) in
+    omega arith
+
+another_answer : OfPlan 64 64 40
+    (λ plan. IsRound plan (record round { answer = Refused (Short 17) }) → ⊥)
+another_answer plan g h guests pages more frames r =
+    let answer : IsAnswer 40 needs (Refused (Short 17)) =
+    subst (λ (n : ℕ). IsAnswer n needs (Refused (Short 17))) frames r.answer in
+    cc
+
+-- ---- a guest's report: guest 1, and balances that leave 16 pages
+
+-- what no such report has
+abbrev NoReport : GuestPlan → List Rounded → GuestReport → Type 0
+NoReport plan rounds report = IsGuestReport 16 1 plan rounds report → ⊥
+
+-- It plays its scripts.
+plays_scripts : (plan : GuestPlan) (rounds : List Rounded) (report : GuestReport)
+    → IsGuestReport 16 1 plan rounds report → Plays 1 plan report
+plays_scripts plan rounds report is = is.plays
+
+-- replies for each script
+script_without_replies : (plan : GuestPlan) (rounds : List Rounded) (report : GuestReport)
+    (calls : Vec Call Global) → plan.scripts.items ≡ calls ∷ [] → report.replies.items ≡ []
+    → NoReport plan rounds report
+script_without_replies plan rounds report calls scripts replies is =
+    let e : Same 0 1 =
+    ap (λ l. length l) (sym replies) ∙ is.scripts ∙ ap (λ l. length l) scripts in
+    omega arith
+
+replies_without_a_script : (plan : GuestPlan) (rounds : List Rounded) (report : GuestReport)
+    (replies : Vec Reply Global) → plan.scripts.items ≡ [] → report.replies.items ≡ replies ∷ []
+    → NoReport plan rounds report
+replies_without_a_script plan rounds report replies scripts all is =
+    let e : Same 1 0 = ap (λ l. length l) (sym all) ∙ is.scripts ∙ ap (λ l. length l) scripts in
+    omega arith
+
+-- Its history is that of a guest as it is plugged in, as large as the plan says, with no target.
+runs_from_plug_on : (plan : GuestPlan) (rounds : List Rounded) (report : GuestReport)
+    (is : IsGuestReport 16 1 plan rounds report)
+    → plan.config ≡ record { pages = 64; queue_size = 8; processors = 2 }
+    → IsHistory (record config { paced = is.paced }) 0 report.history.items is.last
+runs_from_plug_on plan rounds report is sizes =
+    subst (λ (s : Sizes). IsHistory (config_of s is.paced) 0 report.history.items is.last) sizes
+    is.run
+
+-- A guest of 64 pages, of which 16 are reserved, can't spare 49: whatever its first call, no look
+-- sees that.
+look_that_saw_too_much : (plan : GuestPlan) (rounds : List Rounded) (report : GuestReport)
+    (actor : Actor) (call : Call) (claims : List Claim) (reply : Reply) (rest : List Entry)
+    → plan.config ≡ record { pages = 64; queue_size = 8; processors = 2 }
+    → report.history.items ≡ Called actor call claims reply ∷ Looked 16 49 ∷ rest
+    → NoReport plan rounds report
+look_that_saw_too_much plan rounds report actor call claims reply rest sizes history is =
+    by (subst (λ (l : List Entry). IsHistory (config_of plan.config is.paced) 0 l is.last) history
+    is.run)
+  where
+    by : IsHistory (config_of plan.config is.paced) 0
+        (Called actor call claims reply ∷ Looked 16 49 ∷ rest) is.last → ⊥
+    by (mid, step, (next, look, later)) =
+        let kept : mid.config ≡ config_of plan.config is.paced =
+        (step_keeps (fresh (config_of plan.config is.paced) 0) call claims reply mid step.1).config
+        in
+        let unreserved : mid.config.pages - reserved_pages mid.config.queue_size ≡ 48 =
+        ap (λ (c : Config). c.pages - reserved_pages c.queue_size) kept
+        ∙ ap (λ (s : Sizes). s.pages - reserved_pages s.queue_size) sizes in
+        let seen : 49 ≡ spare 16 mid = look.0 in
+        omega (arith, unreserved, seen)
+
+-- The balancer's entries are those of the rounds.
+abbrev Unbalanced : List Rounded → List Entry → Type 0
+Unbalanced rounds entries =
+    (plan : GuestPlan) (report : GuestReport) → report.history.items ≡ entries
+    → NoReport plan rounds report
+
+by_entries : (rounds : List Rounded) (entries : List Entry)
+    → (entries_by Balancer entries ≡ round_entries 16 1 rounds → ⊥) → Unbalanced rounds entries
+by_entries rounds entries wrong plan report history is =
+    wrong (ap (entries_by Balancer) (sym history) ∙ is.balanced)
+
+-- 28 of the missing pages, which the first guest gives; guest 1 gives none
+abbrev shared : Rounded
+shared = record { frames = 100; needs = needs; answer = Targets (28 ∷ 0 ∷ []) }
+
+abbrev aimed : ℕ → Entry
+aimed target = Called Balancer (SetTarget target) [] Done
+
+look_left_out : Unbalanced (shared ∷ []) (made 0 Stats Filled ∷ aimed 0 ∷ [])
+look_left_out = by_entries (shared ∷ []) (made 0 Stats Filled ∷ aimed 0 ∷ []) (λ e. cc)
+
+target_left_out : Unbalanced (shared ∷ []) (made 0 Stats Filled ∷ Looked 16 30 ∷ [])
+target_left_out =
+    by_entries (shared ∷ []) (made 0 Stats Filled ∷ Looked 16 30 ∷ []) (λ e. cc)
+
+target_of_the_other_guest : Unbalanced (shared ∷ []) (Looked 16 30 ∷ aimed 28 ∷ [])
+target_of_the_other_guest =
+    by_entries (shared ∷ []) (Looked 16 30 ∷ aimed 28 ∷ []) (λ e. cc)
+
+look_of_another_floor : Unbalanced (shared ∷ []) (Looked 15 30 ∷ aimed 0 ∷ [])
+look_of_another_floor = by_entries (shared ∷ []) (Looked 15 30 ∷ aimed 0 ∷ []) (λ e. cc)
+
+target_though_short : Unbalanced (round ∷ []) (Looked 16 30 ∷ aimed 0 ∷ [])
+target_though_short = by_entries (round ∷ []) (Looked 16 30 ∷ aimed 0 ∷ []) (λ e. cc)
+
+target_of_no_round : Unbalanced [] (made 0 Stats Filled ∷ aimed 5 ∷ [])
+target_of_no_round = by_entries [] (made 0 Stats Filled ∷ aimed 5 ∷ []) (λ e. cc)
+
+round_left_out : Unbalanced (shared ∷ round ∷ []) (Looked 16 30 ∷ aimed 0 ∷ [])
+round_left_out = by_entries (shared ∷ round ∷ []) (Looked 16 30 ∷ aimed 0 ∷ []) (λ e. cc)
+
+-- Nothing waits for the device at the end.
+request_at_the_end : (plan : GuestPlan) (rounds : List Rounded) (report : GuestReport)
+    (is : IsGuestReport 16 1 plan rounds report) (r : Request)
+    → is.last.deflate.posted ≡ r ∷ [] → ⊥
+request_at_the_end plan rounds report is r posted =
+    let e : Same 1 0 = ap (λ l. length l) (sym posted ∙ is.served.deflate.0) in omega arith
+
+-- Its frames are those behind the guest's pages.
+abbrev Frames : List (Option ℕ) → List ℕ → Type 0 → Type 0
+Frames behind reported answer =
+    (plan : GuestPlan) (rounds : List Rounded) (report : GuestReport)
+    (is : IsGuestReport 16 1 plan rounds report)
+    → is.last.frames ≡ behind → report.frames.items ≡ reported → answer
+
+frames_are : (behind : List (Option ℕ)) (reported : List ℕ)
+    → Frames behind reported (reported ≡ filter_map (λ f. f) behind)
+frames_are behind reported plan rounds report is e f =
+    sym f ∙ is.frames ∙ ap (filter_map (λ f. f)) e
+
+frame_left_out : Frames (Some 5 ∷ None ∷ Some 3 ∷ []) (5 ∷ []) ⊥
+frame_left_out plan rounds report is e f =
+    let same : SameList (5 ∷ []) (5 ∷ 3 ∷ []) =
+    frames_are (Some 5 ∷ None ∷ Some 3 ∷ []) (5 ∷ []) plan rounds report is e f in
+    let long : Same 1 2 = ap (λ (l : List ℕ). length l) same in
+    omega arith
+
+frame_of_no_page : Frames (None ∷ Some 3 ∷ []) (3 ∷ 4 ∷ []) ⊥
+frame_of_no_page plan rounds report is e f =
+    let same : SameList (3 ∷ 4 ∷ []) (3 ∷ []) =
+    frames_are (None ∷ Some 3 ∷ []) (3 ∷ 4 ∷ []) plan rounds report is e f in
+    let long : Same 2 1 = ap (λ (l : List ℕ). length l) same in
+    omega arith
+
+frames_of_pages_that_fall : Frames (Some 5 ∷ Some 3 ∷ []) (3 ∷ 5 ∷ []) ⊥
+frames_of_pages_that_fall plan rounds report is e f =
+    let same : SameList (3 ∷ 5 ∷ []) (5 ∷ 3 ∷ []) =
+    frames_are (Some 5 ∷ Some 3 ∷ []) (3 ∷ 5 ∷ []) plan rounds report is e f in
+    let first : Same 3 5 = ap (λ (l : List ℕ). slice_index_or l 0 0) same in
+    omega arith
+
+-- ---- the report of a run
+
+abbrev NotOf : Plan → Report → Type 0
+NotOf plan report = IsReport plan report → ⊥
+
+guest_left_out : (plan : Plan) (report : Report) (g : GuestPlan) → plan.guests.items ≡ g ∷ []
+    → report.guests.items ≡ [] → NotOf plan report
+guest_left_out plan report g guests reports is =
+    let e : Same 0 1 =
+    ap (λ l. length l) (sym reports) ∙ is.guests ∙ ap (λ l. length l) guests in
+    omega arith
+
+report_of_no_guest : (plan : Plan) (report : Report) (r : GuestReport) → plan.guests.items ≡ []
+    → report.guests.items ≡ r ∷ [] → NotOf plan report
+report_of_no_guest plan report r guests reports is =
+    let e : Same 1 0 =
+    ap (λ l. length l) (sym reports) ∙ is.guests ∙ ap (λ l. length l) guests in
+    omega arith
+
+-- each is the report of its guest: by its number, by the plan's floor and for these rounds
+second_is_none : (plan : Plan) (report : Report) (g h : GuestPlan) (first second : GuestReport)
+    → plan.guests.items ≡ g ∷ h ∷ [] → report.guests.items ≡ first ∷ second ∷ []
+    → (IsGuestReport plan.floor 1 h report.rounds.items second → ⊥) → NotOf plan report
+second_is_none plan report g h first second guests reports none_of_it is =
+    none_of_it (is.each 1 second h (ap (λ l. slice_get l 1) reports)
+    (ap (λ l. slice_get l 1) guests))
+
+one_frame_of_two : (plan : Plan) (report : Report) (first second : GuestReport)
+    → report.guests.items ≡ first ∷ second ∷ [] → first.frames.items ≡ 5 ∷ 3 ∷ []
+    → second.frames.items ≡ 7 ∷ 3 ∷ [] → NotOf plan report
+one_frame_of_two plan report first second reports a b is =
+    frame_of_both first second a b
+    (subst (λ (l : List GuestReport). AreApart l) reports is.apart)
+
+round_too_few : (plan : Plan) (report : Report) (r : Rounded) → plan.rounds ≡ 2
+    → report.rounds.items ≡ r ∷ [] → NotOf plan report
+round_too_few plan report r many rounds is =
+    let e : Same 1 2 = ap (λ l. length l) (sym rounds) ∙ is.rounds ∙ many in omega arith
+
+round_too_many : (plan : Plan) (report : Report) (r : Rounded) → plan.rounds ≡ 0
+    → report.rounds.items ≡ r ∷ [] → NotOf plan report
+round_too_many plan report r many rounds is =
+    let e : Same 1 0 = ap (λ l. length l) (sym rounds) ∙ is.rounds ∙ many in omega arith
+
+-- each round, the last as well
+second_round_is_none : (plan : Plan) (report : Report) (r s : Rounded)
+    → report.rounds.items ≡ r ∷ s ∷ [] → (IsRound plan s → ⊥) → NotOf plan report
+second_round_is_none plan report r s rounds none_of_it is =
+    none_of_it ((subst (λ (l : List Rounded). All (IsRound plan) l) rounds is.answers) 1 s
+    (omega arith))

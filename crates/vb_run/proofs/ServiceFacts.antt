@@ -1,0 +1,141 @@
+-- Worked facts of what a guest's worker does, and of when nothing waits for it.
+use Rattle.std.proofs.Common.{◌≡◌, ℕ, [], ◌∷◌, true, false, map, refl, ap, sym, ◌∙◌, arith}
+use Rattle.std.specs.Prelude.{length}
+use Rattle.vb_model.specs.declared.calls.Call.TheVariants.{Take, Work, Finish, Ask}
+use Rattle.vb_model.specs.declared.calls.Call.TheVariants.{SetTarget}
+use Rattle.vb_model.specs.declared.replies.Refusal.TheVariants.{NotReady, NotTaken}
+use Rattle.vb_model.specs.declared.replies.Reply.TheVariants.{Done, Taken, Empty, Worked, Idle}
+use Rattle.vb_model.specs.declared.replies.Reply.TheVariants.{Finished, Asked, Refused}
+use Rattle.vb_model.specs.Requests.{Request, Requests, no_requests}
+use Rattle.vb_model.specs.Requests.{NoBuffer, BufferPosted, BufferTaken}
+use Rattle.vb_model.specs.Requests.{BufferDone, Figures}
+use Rattle.vb_model.specs.Guest.{Guest, Config, fresh, offered_features}
+use Rattle.vb_run.specs.Services.{default_features, services, found_nothing, IsServed, is_waiting}
+use Rattle.vb_run.specs.Services.{IsTended, IsQuiet}
+
+abbrev Same : ℕ → ℕ → Type 0
+Same a b = a ≡ b
+
+-- 64 pages, queues of 8, two processors, a paced device
+abbrev config : Config
+config = record { pages = 64; queue_size = 8; processors = 2; paced = true }
+
+abbrev ready : Guest
+ready = record (fresh config 0) { status = 15; features = 0x100000027 }
+
+-- ---- features, and a worker's calls
+
+features_of_a_driver : default_features ∷ offered_features ∷ []
+    ≡ 0x100000027 ∷ 0x100000027 ∷ []
+features_of_a_driver = refl
+
+-- it takes from each queue, visits a page, uses the first request taken of each queue, and asks
+calls_of_a_worker : services
+    ≡ Take 0 ∷ Take 1 ∷ Take 2 ∷ Take 4 ∷ Work ∷ Finish 0 0 ∷ Finish 1 0 ∷ Finish 4 0 ∷ Ask ∷ []
+calls_of_a_worker = refl
+
+replies_to_a_worker : map found_nothing
+    (Empty ∷ Idle ∷ Refused NotReady ∷ Refused NotTaken ∷ Taken 0 ∷ Worked 16 true
+    ∷ Worked 16 false ∷ Finished 0 ∷ Asked ∷ Done ∷ [])
+    ≡ true ∷ true ∷ true ∷ true ∷ false ∷ false ∷ false ∷ false ∷ false ∷ false ∷ []
+replies_to_a_worker = refl
+
+-- ---- what waits for the device
+
+abbrev request : Request
+request = record { head = 0; pages = 16 ∷ []; visited = 0 }
+
+abbrev posted : Requests
+posted = record no_requests { posted = request ∷ [] }
+
+abbrev taken : Requests
+taken = record no_requests { taken = request ∷ [] }
+
+abbrev done : Requests
+done = record no_requests { done = request ∷ [] }
+
+abbrev figures : Figures
+figures = record { free = 196608; total = 262144 }
+
+buffers_that_wait : map is_waiting
+    (NoBuffer ∷ BufferPosted figures ∷ BufferTaken figures ∷ BufferDone figures ∷ [])
+    ≡ false ∷ true ∷ true ∷ false ∷ []
+buffers_that_wait = refl
+
+nothing_waits : IsServed ready
+nothing_waits = record {
+  inflate = (refl, refl);
+  deflate = (refl, refl);
+  report = (refl, refl);
+  buffer = refl;
+}
+
+-- what the device has used waits for the driver
+all_is_used : IsServed
+    (record ready {
+      inflate = done;
+      deflate = done;
+      report = done;
+      buffer = BufferDone figures;
+    })
+all_is_used = record {
+  inflate = (refl, refl);
+  deflate = (refl, refl);
+  report = (refl, refl);
+  buffer = refl;
+}
+
+posted_inflate : IsServed (record ready { inflate = posted }) → ⊥
+posted_inflate s = let e : Same 1 0 = ap length s.inflate.0 in omega arith
+
+taken_inflate : IsServed (record ready { inflate = taken }) → ⊥
+taken_inflate s = let e : Same 1 0 = ap length s.inflate.1 in omega arith
+
+posted_deflate : IsServed (record ready { deflate = posted }) → ⊥
+posted_deflate s = let e : Same 1 0 = ap length s.deflate.0 in omega arith
+
+taken_deflate : IsServed (record ready { deflate = taken }) → ⊥
+taken_deflate s = let e : Same 1 0 = ap length s.deflate.1 in omega arith
+
+posted_report : IsServed (record ready { report = posted }) → ⊥
+posted_report s = let e : Same 1 0 = ap length s.report.0 in omega arith
+
+taken_report : IsServed (record ready { report = taken }) → ⊥
+taken_report s = let e : Same 1 0 = ap length s.report.1 in omega arith
+
+posted_buffer : IsServed (record ready { buffer = BufferPosted figures }) → ⊥
+posted_buffer s = let e : true ≡ false = s.buffer in cc
+
+taken_buffer : IsServed (record ready { buffer = BufferTaken figures }) → ⊥
+taken_buffer s = let e : true ≡ false = s.buffer in cc
+
+-- ---- a call that finds nothing leaves the guest as it is
+
+nothing_to_work_on : IsQuiet ready Work
+nothing_to_work_on = record {
+  claims = [];
+  reply = Idle;
+  nothing = refl;
+  step = (refl, (refl, refl));
+}
+
+-- not one that is done, though the target is as it was
+target_set_again : IsQuiet ready (SetTarget 0) → ⊥
+target_set_again q = let e : true ≡ false = sym q.nothing ∙ ap found_nothing q.step.1 in cc
+
+another_target_set : IsQuiet ready (SetTarget 3) → ⊥
+another_target_set q = let e : Same 0 3 = ap (λ (g : Guest). g.target) q.step.2 in omega arith
+
+-- ---- a tended guest is honest, and a ready one has its buffer and all of a driver's own features
+
+abbrev buffered : Guest
+buffered = record ready { buffer = BufferDone figures }
+
+rogue_guest : IsTended (record buffered { rogue = true }) → ⊥
+rogue_guest t = let e : true ≡ false = t.honest in cc
+
+no_buffer : IsTended ready → ⊥
+no_buffer t = let e : false ≡ true = t.attentive.buffered in cc
+
+fewer_features : IsTended (record buffered { features = 0x100000026 }) → ⊥
+fewer_features t = let e : Same 0x100000026 0x100000027 = t.features refl in omega arith
