@@ -42,8 +42,8 @@ Follows p =
     (cpu : ℕ) (s : Progress) → slice_get p.scripts cpu ≡ Some s
     → calls_by (Processor p.guest cpu) p.history ≡ take s.place s.calls
 
--- An entry of a guest that was started: a call of one of its processors, a call of its worker that is
--- one of the services and found something to do, or one of the balancer.
+-- An entry of a guest that was started: a call of one of its processors, a call of its worker that
+-- is one of the services and found something to do, or one of the balancer.
 abbrev pub IsMade : ℕ → ℕ → Entry → Type 0
 IsMade guest processors (Called Starter call claims reply) = ⊥
 IsMade guest processors (Called (Processor g cpu) call claims reply) =

@@ -153,8 +153,8 @@ impl<S: GuestSlot> Kept<S> {
     }
 
     /// Makes the next call of a processor's script; none where no call is left. Refused for want of
-    /// memory alone: then either nothing was done, or the call was made and noted and only its reply
-    /// isn't given here.
+    /// memory alone: then either nothing was done, or the call was made and noted and only its
+    /// reply isn't given here.
     pub fn next(&mut self, alloc: Global, cpu: u32) -> Result<Option<Reply>, AllocError>
         ensures noted { IfOk result (λ answer. MatchOption answer (self.new ≡ self.old)
             (λ reply. NotesNext cpu reply self.old self.new)) }
