@@ -10,17 +10,17 @@ use Rattle.std.proofs.lemmas.Option.{slice_get_within}
 use Rattle.vb_model.specs.declared.calls.Actor.TheVariants.{Processor, Balancer}
 use Rattle.vb_model.specs.declared.calls.Call.{Call}
 use Rattle.vb_model.specs.declared.replies.Reply.{Reply}
-use Rattle.vb_model.specs.Guest.{Guest, fresh}
-use Rattle.vb_model.specs.GuestRun.{Entry, IsHistory}
+use Rattle.vb_model.specs.Guest.{Guest}
+use Rattle.vb_model.specs.GuestRun.{IsHistory}
 use Rattle.vb_ram.specs.declared.config.Config.{Config as Sizes}
 use Rattle.vb_run.specs.declared.plan.Plan.{Plan}
 use Rattle.vb_run.specs.declared.plan.GuestPlan.{GuestPlan}
 use Rattle.vb_run.specs.declared.report.GuestReport.{GuestReport}
 use Rattle.vb_run.specs.declared.report.Report.{Report}
-use Rattle.vb_run.specs.Entries.{actor_of, calls_by, replies_by, entries_by}
+use Rattle.vb_run.specs.Entries.{calls_by, replies_by, entries_by}
 use Rattle.vb_run.specs.Plans.{config_of}
-use Rattle.vb_run.specs.Services.{services, IsQuiet}
-use Rattle.vb_run.specs.Past.{Past, IsKept, IsOwn, AreScripts, AllEnded}
+use Rattle.vb_run.specs.Services.{services}
+use Rattle.vb_run.specs.Past.{Past, IsKept, AreScripts, AllEnded}
 use Rattle.vb_run.specs.Rounds.{Rounded, round_entries}
 use Rattle.vb_run.specs.Reports.{IsGuestReport, IsReport, IsRound, AreApart, frames_behind}
 use Rattle.vb_run.proofs.Lists.{take_whole}
@@ -79,7 +79,7 @@ closes Is own p floor guest plan rounds report k is sizes quiet scripts ended ba
       last = k.now;
       run = rw history (subst (λ (s : Sizes). IsHistory (config_of s k.paced) 0 p.history k.now) sizes
           k.run);
-      begins = rw history k.begins;
+      made = rw (history, sym is, sym scripts.0) k.made;
       scripts = count;
       plays = λ cpu calls got here answers.
           let s = there p.scripts plan.scripts.items cpu calls scripts.0 here in (
@@ -90,7 +90,6 @@ closes Is own p floor guest plan rounds report k is sizes quiet scripts ended ba
                 ∙ scripts.1 cpu s.0 calls s.1 here,
             ap (replies_by (Processor guest cpu)) history ∙ sym (replies cpu got answers),
           );
-      owned = rw (history, sym is, sym scripts.0) k.owned;
       balanced = rw history balanced;
       served = served k.now k.tended
           (λ n call at. k.hushed n call (quiet n (few_services n call at)) at);

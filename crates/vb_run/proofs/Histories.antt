@@ -1,8 +1,7 @@
 -- One entry more in a guest's history.
 use Rattle.std.proofs.Common.{◌≡◌, refl, sym, ◌∙◌, ap, subst, ℕ, ◌+◌, Bool, true, false, List, []}
 use Rattle.std.proofs.Common.{◌∷◌, ◌++◌, length, take, Some, slice_get, slice_set, arith, ◌≢◌, ⊎_elim}
-use Rattle.std.proofs.Common.{All}
-use Rattle.std.specs.Prelude.{slice_index_or, filter, filter_map, ⊤}
+use Rattle.std.specs.Prelude.{slice_index_or, filter_map}
 use Rattle.std.proofs.lemmas.Option.{slice_get_within}
 use Rattle.std.proofs.lemmas.Bool.Decides.{nat_tests}
 use Rattle.std.proofs.lemmas.List.{append-nil}
@@ -13,12 +12,12 @@ use Rattle.vb_model.specs.declared.calls.Call.{Call}
 use Rattle.vb_model.specs.declared.calls.Claim.{Claim}
 use Rattle.vb_model.specs.declared.replies.Reply.{Reply}
 use Rattle.vb_model.specs.Guest.{Guest, fresh}
-use Rattle.vb_model.specs.GuestRun.{Entry, Called, Looked, EntryStep, GuestRun}
+use Rattle.vb_model.specs.GuestRun.{Entry, Called, EntryStep, GuestRun}
 use Rattle.vb_slot.specs.Alone.{AreBehind}
 use Rattle.vb_run.specs.Entries.{is_same, actor_of, call_of, entries_by, calls_by}
 use Rattle.vb_run.specs.Plans.{config_of}
 use Rattle.vb_run.specs.Services.{IsTended, IsQuiet, services}
-use Rattle.vb_run.specs.Past.{Past, Progress, IsKept, Begins, Follows, IsOwn, IsAside, IsScript}
+use Rattle.vb_run.specs.Past.{Past, Progress, IsKept, IsMade, AreMade, IsAside, IsScript}
 use Rattle.vb_run.proofs.Lists.{get_set, length_set, take_next}
 
 pub run_push : (a b c : Guest) (entries : List Entry) (e : Entry) → GuestRun a entries b
@@ -50,9 +49,16 @@ calls_own a entries call claims reply b h =
     ap (filter_map call_of) (entries_own a entries (Called b call claims reply) h)
     ∙ filter_map-append call_of (entries_by a entries) (Called b call claims reply ∷ [])
 
-pub begins_push : (entries : List Entry) (e : Entry) → Begins entries → Begins (entries ++ e ∷ [])
-begins_push entries e (claims, reply, rest, h) =
-    (claims, reply, rest ++ e ∷ [], ap (λ l. l ++ e ∷ []) h)
+pub made_push : (guest processors : ℕ) (entries : List Entry) (e : Entry)
+    → AreMade guest processors entries → IsMade guest processors e
+    → AreMade guest processors (entries ++ e ∷ [])
+made_push guest processors entries e (claims, reply, rest, h, all) own = (
+  claims,
+  reply,
+  rest ++ e ∷ [],
+  ap (λ l. l ++ e ∷ []) h,
+  All-push (IsMade guest processors) rest e all own,
+)
 
 pub aside_other : (a : Actor) (guest cpu : ℕ) → IsAside a → is_same (Processor guest cpu) a ≡ false
 aside_other Starter guest cpu h = refl
@@ -63,7 +69,7 @@ aside_other Balancer guest cpu h = refl
 -- an entry of none of the processors
 pub kept_aside : (Is Is' : Guest → Type 0) (own own' : List ℕ) (p : Past) (e : Entry) (new : Guest)
     (quiet : List Bool) (k : IsKept Is own p) → IsAside (actor_of e)
-    → IsOwn p.guest (length p.scripts) (actor_of e) → Is' new → AreBehind own' new
+    → IsMade p.guest (length p.scripts) e → Is' new → AreBehind own' new
     → EntryStep k.now e new → IsTended new
     → ((n : ℕ) (call : Call) → slice_index_or quiet n false ≡ true
     → slice_get services n ≡ Some call → IsQuiet new call)
@@ -75,11 +81,10 @@ kept_aside Is Is' own own' p e new quiet k aside mine stands behind step tended 
   run = run_push (fresh (config_of p.sizes k.paced) 0) k.now new p.history e k.run step;
   tended = tended;
   behind = behind;
-  begins = begins_push p.history e k.begins;
+  made = made_push p.guest (length p.scripts) p.history e k.made mine;
   follows = λ cpu s at.
       calls_other (Processor p.guest cpu) p.history e (aside_other (actor_of e) p.guest cpu aside)
       ∙ k.follows cpu s at;
-  owned = All-push (λ x. IsOwn p.guest (length p.scripts) (actor_of x)) p.history e k.owned mine;
   hushed = hushed;
   scripted = k.scripted;
 }
@@ -111,16 +116,15 @@ kept_next Is Is' own own' p cpu s call claims reply new quiet k here next stands
       run = run_push (fresh (config_of p.sizes k.paced) 0) k.now new p.history e k.run step;
       tended = tended;
       behind = behind;
-      begins = begins_push p.history e k.begins;
+      made = subst (λ (n : ℕ). AreMade p.guest n (p.history ++ e ∷ []))
+          (sym (length_set p.scripts cpu after))
+          (made_push p.guest (length p.scripts) p.history e k.made
+          (refl, slice_get_within p.scripts cpu s here));
       follows = λ cpu' s' at. ⊎_elim (λ same. own_follows cpu' s' same.0 same.1)
           (λ other.
           calls_other (Processor p.guest cpu') p.history e (is_not p.guest cpu' cpu other.0)
           ∙ k.follows cpu' s' other.1)
           (get_set p.scripts cpu cpu' after s' at);
-      owned = subst (λ (n : ℕ). All (λ x. IsOwn p.guest n (actor_of x)) (p.history ++ e ∷ []))
-          (sym (length_set p.scripts cpu after))
-          (All-push (λ x. IsOwn p.guest (length p.scripts) (actor_of x)) p.history e k.owned
-          (refl, slice_get_within p.scripts cpu s here));
       hushed = hushed;
       scripted = λ cpu' s' at. ⊎_elim (λ same. own_scripted cpu' s' same.0 same.1)
           (λ other. k.scripted cpu' s' other.1)

@@ -1,13 +1,14 @@
 -- What a call or a look leaves behind a guest's lock.
-use Rattle.std.proofs.Common.{◌≡◌, refl, sym, ◌∙◌, ap, subst, ℕ, zero, suc, ◌+◌, ◌<◌, Bool, true}
+use Rattle.std.proofs.Common.{◌≡◌, refl, sym, ◌∙◌, ap, subst, ℕ, zero, suc, ◌+◌, Bool, true}
 use Rattle.std.proofs.Common.{false, List, [], ◌∷◌, ◌++◌, length, Some, slice_get, slice_set, ⊎_elim}
-use Rattle.std.proofs.Common.{All, ◌≢◌, ◌⊎◌, inl, inr, arith}
+use Rattle.std.proofs.Common.{◌⊎◌, inl, inr}
 use Rattle.std.proofs.Common.{take}
-use Rattle.std.specs.Prelude.{slice_index_or, ⊤, Result, Ok, Err, IfOk, MatchBool}
+use Rattle.std.specs.Prelude.{slice_index_or, Result, Ok, Err, IfOk, IsOkAnd, MatchBool}
+use Rattle.std.specs.Prelude.{MatchResult, MatchOption, Option}
 use Rattle.std.specs.declared.alloc.AllocError.{AllocError}
-use Rattle.std.proofs.lemmas.List.Elements.{All-push}
+use Rattle.std.proofs.lemmas.List.Elements.{All-nil}
 use Rattle.vb_model.specs.declared.calls.Actor.{Actor}
-use Rattle.vb_model.specs.declared.calls.Actor.TheVariants.{Starter, Processor, Worker, Balancer}
+use Rattle.vb_model.specs.declared.calls.Actor.TheVariants.{Starter, Processor, Balancer}
 use Rattle.vb_model.specs.declared.calls.Call.{Call}
 use Rattle.vb_model.specs.declared.calls.Call.TheVariants.{Init}
 use Rattle.vb_model.specs.declared.calls.Claim.{Claim}
@@ -15,14 +16,12 @@ use Rattle.vb_model.specs.declared.replies.Reply.{Reply}
 use Rattle.vb_model.specs.Limits.{is_config}
 use Rattle.vb_model.specs.Guest.{Guest, fresh}
 use Rattle.vb_model.specs.Balance.{spare}
-use Rattle.vb_model.specs.Step.{HonestStep}
-use Rattle.vb_model.specs.GuestRun.{Entry, Called, Looked, EntryStep, GuestRun}
+use Rattle.vb_model.specs.GuestRun.{Called, Looked}
 use Rattle.vb_ram.specs.declared.config.Config.{Config as Sizes}
 use Rattle.vb_slot.specs.Alone.{AreBehind, StepsTo}
-use Rattle.vb_run.specs.Entries.{is_same, actor_of, calls_by}
 use Rattle.vb_run.specs.Plans.{config_of, is_plain, may_stand}
-use Rattle.vb_run.specs.Services.{IsTended, IsQuiet, services, found_nothing, default_features}
-use Rattle.vb_run.specs.Past.{Past, Progress, IsKept, IsOwn, IsAside, IsScript, AreBegun}
+use Rattle.vb_run.specs.Services.{IsQuiet, services, found_nothing, default_features}
+use Rattle.vb_run.specs.Past.{Past, Progress, IsKept, IsMade, IsAside, AreBegun}
 use Rattle.vb_run.proofs.Tended.{plain_entry, service_plain, is_quiet, started, stands_plain}
 use Rattle.vb_run.proofs.Lists.{passes_at, some_same}
 use Rattle.vb_run.proofs.Histories.{kept_aside, kept_next}
@@ -45,7 +44,7 @@ not_known (suc (suc (suc (suc (suc (suc (suc (suc (suc n))))))))) h = cc
 
 pub call_aside : (Is Is' : Guest → Type 0) (own own' : List ℕ) (p : Past) (actor : Actor)
     (call : Call) (claims : List Claim) (reply : Reply) (k : IsKept Is own p) → IsAside actor
-    → IsOwn p.guest (length p.scripts) actor → is_plain call ≡ true
+    → IsMade p.guest (length p.scripts) (Called actor call claims reply) → is_plain call ≡ true
     → StepsTo Is' claims k.now call reply → ((g : Guest) → Is' g → AreBehind own' g)
     → IsKept Is' own' (record p {
       history = p.history ++ Called actor call claims reply ∷ [];
@@ -107,9 +106,8 @@ served_quiet Is Is' own own' p n call claims reply k at nothing s behind =
       run = k.run;
       tended = k.tended;
       behind = behind k.now stands;
-      begins = k.begins;
+      made = k.made;
       follows = k.follows;
-      owned = k.owned;
       hushed = λ m c known there. ⊎_elim
           (λ e. subst (IsQuiet k.now)
           (some_same call c (sym at ∙ ap (slice_get services) (sym e) ∙ there)) quiet)
@@ -125,6 +123,16 @@ copied_noted (Err fault) reply A P same something holds = tt
 copied_noted (Ok copy) reply A P same something holds =
     subst (λ (r : Reply). MatchBool (found_nothing r) A (P r)) (sym same)
     (subst (λ (b : Bool). MatchBool b A (P reply)) (sym something) holds)
+
+-- what holds of a reply holds of its copy, which is the answer
+pub copied_next : (copied : Result Reply AllocError) (answer : Result (Option Reply) AllocError)
+    (reply : Reply) (A : Type 0) (P : Reply → Type 0) → IfOk copied (λ copy. copy ≡ reply)
+    → MatchResult copied (λ copy. IsOkAnd answer (λ next. next ≡ Some copy)) (λ e. answer ≡ Err e)
+    → P reply → IfOk answer (λ next. MatchOption next A P)
+copied_next copied (Err fault) reply A P same is holds = tt
+copied_next (Err fault) (Ok next) reply A P same is holds = cc
+copied_next (Ok copy) (Ok next) reply A P same is holds =
+    subst (λ (o : Option Reply). MatchOption o A P) (sym is) (subst P (sym same) holds)
 
 -- a guest that was just started
 pub kept_start : (Is' : Guest → Type 0) (own' : List ℕ) (guest : ℕ) (sizes : Sizes)
@@ -149,10 +157,8 @@ kept_start Is' own' guest sizes paced scripts claims reply fits begun s behind =
       run = (s.new, step, refl);
       tended = tended;
       behind = behind s.new s.stands;
-      begins = (claims, reply, [], refl);
+      made = (claims, reply, [], refl, All-nil (IsMade guest (length scripts)));
       follows = λ cpu t at. ap (λ n. take n t.calls) (sym (begun cpu t at).0);
-      owned = All-push (λ e. IsOwn guest (length scripts) (actor_of e)) []
-          (Called Starter (Init default_features) claims reply) (λ k d l. absurd (omega (arith, l))) tt;
       hushed = λ n c known at. absurd (not_known n known);
       scripted = λ cpu t at. (begun cpu t at).1;
     }

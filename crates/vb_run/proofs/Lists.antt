@@ -1,8 +1,8 @@
 -- Lists of one element more, and lists that are changed at a place.
 use Rattle.std.proofs.Common.{◌≡◌, refl, ap, ◌∙◌, subst, ℕ, zero, suc, ◌+◌, ◌<◌, ◌≤◌, List, [], ◌∷◌}
-use Rattle.std.proofs.Common.{◌++◌, length, Some, None, slice_get, slice_set, ◌⊎◌, inl, inr, ⊎_elim}
+use Rattle.std.proofs.Common.{◌++◌, length, Some, slice_get, slice_set, ◌⊎◌, inl, inr, ⊎_elim}
 use Rattle.std.proofs.Common.{arith, take, All, add-one, take-suc, take_all, get_or, ◌≢◌, true, Bool}
-use Rattle.std.specs.List.{list_all}
+use Rattle.std.specs.List.{list_all, Contains}
 use Rattle.std.proofs.lemmas.Bool.{and_parts}
 use Rattle.std.proofs.Math.Seq.{take-length}
 use Rattle.std.proofs.lemmas.Option.{slice_get_within, get_or_from_slice_get}
@@ -74,6 +74,11 @@ passes_at test (y ∷ ys) zero x e h =
     subst (λ (z : _). test z ≡ true) same (and_parts (test y) (list_all test ys) h).0
 passes_at test (y ∷ ys) (suc n) x e h =
     passes_at test ys n x e (and_parts (test y) (list_all test ys) h).1
+
+-- what stands at a place of a list is in it
+pub contains_at : {X : Type 0} (xs : List X) (n : ℕ) (x : X) → slice_get xs n ≡ Some x
+    → Contains xs x
+contains_at xs n x at = (n, slice_get_within xs n x at, get_or_from_slice_get xs n x x at)
 
 -- what holds of all of a list holds of its first element, and of all behind it
 pub first_of : {X : Type 0} (P : X → Type 0) (xs : List X) (x : X) (rest : List X)

@@ -1,6 +1,6 @@
 -- From a plan and its slots to guests that are started.
-use Rattle.std.proofs.Common.{◌≡◌, refl, sym, ◌∙◌, ap, subst, ℕ, zero, suc, ◌+◌, ◌<◌, Bool, true, false}
-use Rattle.std.proofs.Common.{List, [], ◌∷◌, ◌++◌, length, Some, None, slice_get, arith, drop}
+use Rattle.std.proofs.Common.{◌≡◌, refl, sym, ◌∙◌, ap, subst, ℕ, zero, suc, ◌+◌, Bool, true}
+use Rattle.std.proofs.Common.{List, [], ◌∷◌, ◌++◌, length, Some, slice_get, arith, drop}
 use Rattle.std.specs.List.{list_all}
 use Rattle.std.specs.declared.vec.Vec.{Vec}
 use Rattle.std.specs.declared.alloc.Global.{Global}
@@ -10,9 +10,9 @@ use Rattle.vb_model.specs.declared.calls.Call.{Call}
 use Rattle.vb_model.specs.Limits.{is_config}
 use Rattle.vb_run.specs.declared.plan.GuestPlan.{GuestPlan}
 use Rattle.vb_run.specs.declared.plan.TheConstants.{MAX_SCRIPT_CALLS}
-use Rattle.vb_model.specs.Guest.{Guest}
-use Rattle.vb_run.specs.Starts.{AreFresh, IsFresh}
-use Rattle.vb_run.specs.Plans.{are_scripts, is_script, is_guest_plan, may_stand}
+use Rattle.vb_model.specs.Guest.{Guest, fresh}
+use Rattle.vb_run.specs.Starts.{AreFresh, ArePlaced, IsFresh}
+use Rattle.vb_run.specs.Plans.{config_of, are_scripts, is_script, is_guest_plan, may_stand}
 use Rattle.vb_run.specs.declared.report.GuestReport.{GuestReport}
 use Rattle.vb_run.specs.Past.{Progress, AreBegun, IsScript}
 use Rattle.vb_run.specs.Rounds.{Rounded}
@@ -96,6 +96,22 @@ fresh_push Is plans slots s p fresh at own g t q there planned =
     each_push (λ n x. (r : GuestPlan) → slice_get plans n ≡ Some r → IsFresh (Is x) r) slots s
     (λ n x here r is. fresh n x r here is)
     (λ r is. subst (IsFresh (Is s)) (some_same p r (sym at ∙ is)) own) g t there q planned
+
+-- the guest at the next place of the plan, on the device of its place
+pub placed_push : {S D : Type 0} (Is : S → Guest → Type 0) (paced : D → Bool)
+    (plans : List GuestPlan) (devices : List D) (slots : List S) (s : S) (p : GuestPlan) (d : D)
+    → ArePlaced Is paced plans devices slots → slice_get plans (length slots) ≡ Some p
+    → slice_get devices (length slots) ≡ Some d → Is s (fresh (config_of p.config (paced d)) 0)
+    → ArePlaced Is paced plans devices (slots ++ s ∷ [])
+placed_push {S} {D} Is paced plans devices slots s p d placed at under own g t q e there planned
+    here =
+    each_push (λ n x. (r : GuestPlan) (c : D) → slice_get plans n ≡ Some r
+    → slice_get devices n ≡ Some c → Is x (fresh (config_of r.config (paced c)) 0)) slots s
+    (λ n x seen r c is beneath. placed n x r c seen is beneath)
+    (λ r c is beneath. subst (λ (x : GuestPlan). Is s (fresh (config_of x.config (paced c)) 0))
+    (some_same p r (sym at ∙ is))
+    (subst (λ (x : D). Is s (fresh (config_of p.config (paced x)) 0))
+    (some_same d c (sym under ∙ beneath)) own)) g t there q e planned here
 
 pub fresh_none : {S : Type 0} (Is : S → Guest → Type 0) (plans : List GuestPlan)
     → AreFresh Is plans []

@@ -1,7 +1,7 @@
 -- What a guest's lock keeps.
-use Rattle.std.specs.Prelude.{◌≡◌, ℕ, ◌<◌, ◌≤◌, Bool, true, false, List, [], ◌∷◌, ◌++◌, length}
+use Rattle.std.specs.Prelude.{◌≡◌, ℕ, ◌<◌, Bool, true, false, List, [], ◌∷◌, ◌++◌, length}
 use Rattle.std.specs.Prelude.{take, Some}
-use Rattle.std.specs.Prelude.{slice_get, slice_index_or, ⊤, All}
+use Rattle.std.specs.Prelude.{slice_get, slice_index_or, ⊤, All, Contains}
 use Rattle.std.specs.List.{list_all}
 use Rattle.std.specs.declared.vec.Vec.{Vec}
 use Rattle.std.specs.declared.alloc.Global.{Global}
@@ -12,12 +12,12 @@ use Rattle.vb_model.specs.declared.calls.Call.TheVariants.{Init}
 use Rattle.vb_model.specs.declared.calls.Claim.{Claim}
 use Rattle.vb_model.specs.declared.replies.Reply.{Reply}
 use Rattle.vb_model.specs.Guest.{Guest}
-use Rattle.vb_model.specs.GuestRun.{Entry, Called, IsHistory}
+use Rattle.vb_model.specs.GuestRun.{Entry, Called, Looked, IsHistory}
 use Rattle.vb_slot.specs.Alone.{AreBehind}
-use Rattle.vb_run.specs.Entries.{actor_of, calls_by}
+use Rattle.vb_run.specs.Entries.{calls_by}
 use Rattle.vb_ram.specs.declared.config.Config.{Config as Sizes}
 use Rattle.vb_run.specs.Plans.{may_stand, config_of}
-use Rattle.vb_run.specs.Services.{IsTended, IsQuiet, services, default_features}
+use Rattle.vb_run.specs.Services.{IsTended, IsQuiet, services, found_nothing, default_features}
 
 -- a processor's script, and how many of its calls were made
 pub record Progress : Type 0 where
@@ -36,24 +36,30 @@ pub record Past : Type 0 where
   -- some growth was refused
   pub short : Bool
 
--- the first entry is the starter's initialisation, with the features that a driver wants by itself
-abbrev pub Begins : List Entry → Type 0
-Begins entries =
-    (claims : List Claim) × (reply : Reply) × (rest : List Entry)
-    × (entries ≡ Called Starter (Init default_features) claims reply ∷ rest)
-
 -- what each processor called is its script up to its place
 abbrev pub Follows : Past → Type 0
 Follows p =
     (cpu : ℕ) (s : Progress) → slice_get p.scripts cpu ≡ Some s
     → calls_by (Processor p.guest cpu) p.history ≡ take s.place s.calls
 
--- an actor of this guest
-abbrev pub IsOwn : ℕ → ℕ → Actor → Type 0
-IsOwn guest processors Starter = ⊤
-IsOwn guest processors (Processor g cpu) = (g ≡ guest) × (cpu < processors)
-IsOwn guest processors (Worker g) = g ≡ guest
-IsOwn guest processors Balancer = ⊤
+-- An entry of a guest that was started: a call of one of its processors, a call of its worker that
+-- is one of the services and found something to do, or one of the balancer.
+abbrev pub IsMade : ℕ → ℕ → Entry → Type 0
+IsMade guest processors (Called Starter call claims reply) = ⊥
+IsMade guest processors (Called (Processor g cpu) call claims reply) =
+    (g ≡ guest) × (cpu < processors)
+IsMade guest processors (Called (Worker g) call claims reply) =
+    (g ≡ guest) × Contains services call × (found_nothing reply ≡ false)
+IsMade guest processors (Called Balancer call claims reply) = ⊤
+IsMade guest processors (Looked floor spare) = ⊤
+
+-- The first entry is the starter's initialisation, with the features that a driver wants by itself,
+-- and each one behind it is an entry of a guest that was started.
+abbrev pub AreMade : ℕ → ℕ → List Entry → Type 0
+AreMade guest processors entries =
+    (claims : List Claim) × (reply : Reply) × (rest : List Entry)
+    × (entries ≡ Called Starter (Init default_features) claims reply ∷ rest)
+    × All (IsMade guest processors) rest
 
 -- the processor's script has only calls that may stand there
 abbrev pub IsScript : ℕ → List Call → Type 0
@@ -68,9 +74,8 @@ pub record IsKept (Is : Guest → Type 0) (own : List ℕ) (p : Past) : Type 0 w
   pub run : IsHistory (config_of p.sizes paced) 0 p.history now
   pub tended : IsTended now
   pub behind : AreBehind own now
-  pub begins : Begins p.history
+  pub made : AreMade p.guest (length p.scripts) p.history
   pub follows : Follows p
-  pub owned : All (λ e. IsOwn p.guest (length p.scripts) (actor_of e)) p.history
   pub hushed : (n : ℕ) (call : Call) → slice_index_or p.quiet n false ≡ true
       → slice_get services n ≡ Some call → IsQuiet now call
   pub scripted : (cpu : ℕ) (s : Progress) → slice_get p.scripts cpu ≡ Some s → IsScript cpu s.calls
@@ -80,6 +85,12 @@ abbrev pub Notes : Actor → Call → Past → Past → Type 0
 Notes actor call old new =
     (claims : List Claim) × (reply : Reply)
     × (new.history ≡ old.history ++ Called actor call claims reply ∷ [])
+
+-- the processor's call with this reply is the last entry, and the only new one
+abbrev pub NotesNext : ℕ → Reply → Past → Past → Type 0
+NotesNext cpu reply old new =
+    (call : Call) × (claims : List Claim)
+    × (new.history ≡ old.history ++ Called (Processor old.guest cpu) call claims reply ∷ [])
 
 -- the worker's call of this number is the last entry, with this reply, and the only new one
 abbrev pub NotesService : ℕ → Reply → Past → Past → Type 0

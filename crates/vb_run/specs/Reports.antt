@@ -1,18 +1,18 @@
 -- What a run answers.
-use Rattle.std.specs.Prelude.{◌≡◌, ◌≢◌, ℕ, ◌≤◌, Bool, true, false, List, [], length, Some}
+use Rattle.std.specs.Prelude.{◌≡◌, ℕ, ◌≤◌, Bool, List, length, Some}
 use Rattle.std.specs.Prelude.{slice_get, map}
 use Rattle.std.specs.Prelude.{filter_map, All, sum_by}
 use Rattle.vb_model.specs.declared.calls.Actor.TheVariants.{Processor, Balancer}
 use Rattle.vb_model.specs.Guest.{Guest}
 use Rattle.vb_model.specs.Tests.{times}
-use Rattle.vb_model.specs.GuestRun.{Entry, IsHistory}
+use Rattle.vb_model.specs.GuestRun.{IsHistory}
 use Rattle.vb_run.specs.declared.plan.Plan.{Plan}
 use Rattle.vb_run.specs.declared.plan.GuestPlan.{GuestPlan}
 use Rattle.vb_run.specs.declared.report.GuestReport.{GuestReport}
 use Rattle.vb_run.specs.declared.report.Report.{Report}
 use Rattle.vb_run.specs.Plans.{config_of}
-use Rattle.vb_run.specs.Entries.{actor_of, calls_by, replies_by, entries_by}
-use Rattle.vb_run.specs.Past.{Begins, IsOwn}
+use Rattle.vb_run.specs.Entries.{calls_by, replies_by, entries_by}
+use Rattle.vb_run.specs.Past.{AreMade}
 use Rattle.vb_run.specs.Services.{IsServed}
 use Rattle.vb_run.specs.Rounds.{Rounded, IsAnswer, round_entries}
 
@@ -33,10 +33,9 @@ pub record IsGuestReport (floor guest : ℕ) (plan : GuestPlan) (rounds : List R
   pub paced : Bool
   pub last : Guest
   pub run : IsHistory (config_of plan.config paced) 0 report.history.items last
-  pub begins : Begins report.history.items
+  pub made : AreMade guest (length plan.scripts.items) report.history.items
   pub scripts : length report.replies.items ≡ length plan.scripts.items
   pub plays : Plays guest plan report
-  pub owned : All (λ e. IsOwn guest (length plan.scripts.items) (actor_of e)) report.history.items
   pub balanced : entries_by Balancer report.history.items ≡ round_entries floor guest rounds
   pub served : IsServed last
   pub frames : report.frames.items ≡ frames_behind last

@@ -13,3 +13,12 @@ abbrev pub AreFresh : {S : Type 0} → (S → Guest → Type 0) → List GuestPl
 AreFresh {S} Is plans slots =
     (g : ℕ) (s : S) (p : GuestPlan) → slice_get slots g ≡ Some s → slice_get plans g ≡ Some p
     → IsFresh (Is s) p
+
+-- each of these is the guest of its place in the plan, as it is plugged in on the device of its
+-- place, with that device's pace
+abbrev pub ArePlaced : {S D : Type 0} → (S → Guest → Type 0) → (D → Bool) → List GuestPlan → List D
+    → List S → Type 0
+ArePlaced {S} {D} Is paced plans devices slots =
+    (g : ℕ) (s : S) (p : GuestPlan) (d : D) → slice_get slots g ≡ Some s
+    → slice_get plans g ≡ Some p → slice_get devices g ≡ Some d
+    → Is s (fresh (config_of p.config (paced d)) 0)

@@ -2,14 +2,14 @@
 
 ghost use Rattle.std.specs.Prelude.{◌≡◌, ◌≤◌, ◌<◌, ℕ, Bool, true, false, [], ◌∷◌, ◌++◌, length};
 ghost use Rattle.std.specs.Prelude.{slice_get, slice_index_or, IfOk, OnOk, Some, IfSome, IfNone};
-ghost use Rattle.std.specs.Prelude.{MatchBool};
+ghost use Rattle.std.specs.Prelude.{MatchBool, MatchOption};
 ghost use Rattle.std.specs.Prelude.{vec_capacity};
 ghost use Rattle.vb_model.specs.declared.calls.Actor.TheVariants.{Balancer};
 ghost use Rattle.vb_model.specs.declared.calls.Call.TheVariants.{SetTarget};
 ghost use Rattle.vb_model.specs.Guest.{Guest, fresh};
 ghost use Rattle.vb_model.specs.Limits.{is_config};
 ghost use Rattle.vb_model.specs.GuestRun.{Looked};
-ghost use Rattle.vb_run.specs.Past.{Past, IsKept, IsSame, AreBegun, Notes, NotesService};
+ghost use Rattle.vb_run.specs.Past.{Past, IsKept, IsSame, AreBegun, Notes, NotesNext, NotesService};
 ghost use Rattle.vb_run.specs.Plans.{config_of};
 ghost use Rattle.vb_run.specs.Reports.{IsGuestReport, frames_behind};
 ghost use Rattle.vb_run.specs.Services.{found_nothing, services};
@@ -152,9 +152,13 @@ impl<S: GuestSlot> Kept<S> {
         self.short = true;
     }
 
-    /// Makes the next call of a processor's script. Refused for want of memory alone: then either
-    /// nothing was done, or the call was made and noted and only its reply isn't given here.
-    pub fn next(&mut self, alloc: Global, cpu: u32) -> Result<Option<Reply>, AllocError> {
+    /// Makes the next call of a processor's script; none where no call is left. Refused for want of
+    /// memory alone: then either nothing was done, or the call was made and noted and only its
+    /// reply isn't given here.
+    pub fn next(&mut self, alloc: Global, cpu: u32) -> Result<Option<Reply>, AllocError>
+        ensures noted { IfOk result (λ answer. MatchOption answer (self.new ≡ self.old)
+            (λ reply. NotesNext cpu reply self.old self.new)) }
+    {
         let Some(script) = self.scripts.get(cpu as usize) else {
             return Ok(None);
         };

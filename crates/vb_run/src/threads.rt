@@ -121,7 +121,8 @@ fn make_pass<S: GuestSlot, G: Gate, R: Wait>(
     number
 }
 
-/// A pass at the start, one for each doorbell, and one once the guest's processors have ended.
+/// A pass at the start, one whenever the doorbell was rung since the last was begun, however often,
+/// and one once the guest's processors have ended.
 fn run_worker<S: GuestSlot, G: Gate, R: Wait>(rt: &R, alloc: Global, seat: &Seat<S>, gate: &G) {
     let mut number = make_pass(rt, alloc, seat, gate, 0);
     let mut seen = 0;

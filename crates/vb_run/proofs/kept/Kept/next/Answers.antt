@@ -1,6 +1,6 @@
 use Rattle.std.proofs.Common.{rules, ◌+◌, sym, ◌∙◌, ◌≡◌, slice_get, Some, ap}
 use Rattle.std.proofs.lemmas.Option.{slice_get-get_or, get_or_from_slice_get}
-use Rattle.vb_run.proofs.Keeping.{call_next}
+use Rattle.vb_run.proofs.Keeping.{call_next, copied_next}
 use Rattle.vb_run.proofs.kept.Kept.next.Goals as goal
 
 pub invariant_of-self-2 : goal.invariant_of-self-2
@@ -32,3 +32,9 @@ invariant_of-self-2 g c =
     c.self.invariant here call
     (c.call-reply.ensures.step c.self.invariant.now c.self.invariant.stands)
     c.call-reply.ensures.frames)
+
+pub returns : goal.returns
+returns g c = record {
+  noted = copied_next _ _ _ _ _ c.copy-answer.ensures c.map.ensures.cases
+      (c.in_ok-call.call, c.claims_in-claims.result.items, search rules);
+}

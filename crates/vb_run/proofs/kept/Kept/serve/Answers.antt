@@ -1,6 +1,8 @@
 use Rattle.std.proofs.Common.{rules, refl, sym, ◌∙◌}
 use Rattle.vb_model.specs.declared.calls.Actor.TheVariants.{Worker}
 use Rattle.vb_run.proofs.Keeping.{call_aside, copied_noted, served_quiet}
+use Rattle.vb_run.specs.Services.{services}
+use Rattle.vb_run.proofs.Lists.{contains_at}
 use Rattle.vb_run.proofs.Tended.{service_plain}
 use Rattle.vb_run.proofs.kept.Kept.serve.Goals as goal
 
@@ -21,8 +23,12 @@ invariant_of-self-2 g c =
       c.claims_in-claims.ensures,
     )
     (call_aside _ _ _ _ _ (Worker c.self.inside.guest) c.service-call.result _ c.call-reply.result
-    c.self.invariant tt refl (service_plain c.args.number c.service-call.result
-    c.service-call.ensures)
+    c.self.invariant tt (
+      refl,
+      contains_at services c.args.number c.service-call.result c.service-call.ensures,
+      sym c.found_nothing.ensures ∙ c.if-found_nothing.false,
+    )
+    (service_plain c.args.number c.service-call.result c.service-call.ensures)
     (c.call-reply.ensures.step c.self.invariant.now c.self.invariant.stands)
     c.call-reply.ensures.frames)
 
