@@ -13,6 +13,7 @@ use Rattle.vb_model.specs.declared.replies.Reply.{Reply}
 use Rattle.vb_model.specs.Guest.{Guest}
 use Rattle.vb_model.specs.GuestRun.{IsHistory}
 use Rattle.vb_ram.specs.declared.config.Config.{Config as Sizes}
+use Rattle.vb_model.proofs.Histories.{history_is_safe}
 use Rattle.vb_run.specs.declared.plan.Plan.{Plan}
 use Rattle.vb_run.specs.declared.plan.GuestPlan.{GuestPlan}
 use Rattle.vb_run.specs.declared.report.GuestReport.{GuestReport}
@@ -74,11 +75,15 @@ pub closes : (Is : Guest → Type 0) (own : List ℕ) (p : Past) (floor guest : 
     → ((g : Guest) → Is g → report.frames.items ≡ frames_behind g)
     → IsGuestReport floor guest plan rounds report
 closes Is own p floor guest plan rounds report k is sizes quiet scripts ended balanced history
-    count replies frames = record {
+    count replies frames =
+    let run : IsHistory (config_of plan.config k.paced) 0 report.history.items k.now =
+    rw history (subst (λ (s : Sizes). IsHistory (config_of s k.paced) 0 p.history k.now) sizes k.run)
+    in
+    record {
       paced = k.paced;
       last = k.now;
-      run = rw history (subst (λ (s : Sizes). IsHistory (config_of s k.paced) 0 p.history k.now) sizes
-          k.run);
+      run = run;
+      safe = history_is_safe (config_of plan.config k.paced) 0 report.history.items k.now run;
       made = rw (history, sym is, sym scripts.0) k.made;
       scripts = count;
       plays = λ cpu calls got here answers.

@@ -6,6 +6,7 @@ use Rattle.vb_model.specs.declared.calls.Actor.TheVariants.{Processor, Balancer}
 use Rattle.vb_model.specs.Guest.{Guest}
 use Rattle.vb_model.specs.Tests.{times}
 use Rattle.vb_model.specs.GuestRun.{IsHistory}
+use Rattle.vb_model.specs.Histories.{IsSafeHistory}
 use Rattle.vb_run.specs.declared.plan.Plan.{Plan}
 use Rattle.vb_run.specs.declared.plan.GuestPlan.{GuestPlan}
 use Rattle.vb_run.specs.declared.report.GuestReport.{GuestReport}
@@ -33,6 +34,7 @@ pub record IsGuestReport (floor guest : ℕ) (plan : GuestPlan) (rounds : List R
   pub paced : Bool
   pub last : Guest
   pub run : IsHistory (config_of plan.config paced) 0 report.history.items last
+  pub safe : IsSafeHistory (config_of plan.config paced) 0 report.history.items last
   pub made : AreMade guest (length plan.scripts.items) report.history.items
   pub scripts : length report.replies.items ≡ length plan.scripts.items
   pub plays : Plays guest plan report
