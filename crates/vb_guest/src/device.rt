@@ -80,8 +80,8 @@ pub fn finish<D: Device, K: FrameKeeper>(
 }
 
 /// The host discards what it still has of a ballooned page; answers whether it had a frame, which
-/// goes back to where it came from. Refused with `NotReady`, `NeedsReset` and `NotBallooned`,
-/// tested in this order.
+/// goes back to where it came from. Refused with `NotReady`, `NeedsReset`, `NoFeature` without
+/// MUST_TELL_HOST, and `NotBallooned`, tested in this order.
 pub fn sweep<D: Device, K: FrameKeeper>(
     device: &mut D,
     keeper: &mut K,

@@ -184,7 +184,8 @@ impl Slot {
     }
 
     /// The driver offers up to this many pages to the host (VIRTIO 1.1, 5.5.6). Refused with
-    /// `NotReady`, `QueueFull` and `Nothing`, tested in this order.
+    /// `NotReady`, `QueueFull`, without MUST_TELL_HOST `DeflatePending` while a deflate request is
+    /// out, and `Nothing`, tested in this order.
     pub fn inflate(&mut self, pages: u32) -> Result<Posted, Refusal>
         requires { HasGuest mem part self.old }
         ensures step { SlotStepsAlone mem part self.old self.new (Call.Inflate pages)
@@ -338,7 +339,8 @@ impl Slot {
     }
 
     /// The host discards what it still has of a ballooned page; answers whether it had a frame.
-    /// Refused with `NotReady`, `NeedsReset` and `NotBallooned`, tested in this order.
+    /// Refused with `NotReady`, `NeedsReset`, `NoFeature` without MUST_TELL_HOST, and
+    /// `NotBallooned`, tested in this order.
     pub fn sweep<K: FrameKeeper>(&mut self, keeper: &mut K, page: u32) -> Result<bool, Refusal>
         requires { HasGuestOut mem part self.old (K.out keeper.old) }
         ensures step { SlotSteps K.answers mem part self.old (K.out keeper.old) self.new
@@ -412,6 +414,7 @@ impl Slot {
         ensures mem { memory_of mem self.new
             ≡ replicate (length (memory_of mem self.old)) None }
         ensures part { IsReset (part_of part self.old) (part_of part self.new) }
+        ensures driver { driver_of self.new ≡ driver_of self.old }
     {
         forget(&mut self.claims);
         vb_guest::empty(&mut self.device, keeper);
