@@ -1,7 +1,7 @@
 //! A guest behind one type: how it is made, and its calls and questions told apart by their names.
 
 ghost use Rattle.std.specs.Prelude.{◌≡◌, true, []};
-ghost use Rattle.vb_guest.specs.Dispatch.{CallsBy};
+ghost use Rattle.vb_guest.specs.Dispatch.{CallsBy, LeavesAlone};
 ghost use Rattle.vb_slot.specs.Slots.{stands_for, claims_of, moment_of, HasGuest, HasGuestOut};
 ghost use Rattle.vb_slot.specs.Slots.{SlotAnswers, SlotSteps};
 
@@ -42,6 +42,7 @@ impl Slot {
             (K.out keeper.new) call.now result }
         ensures exact { CallsBy K.answers (moment_of mem part self.old (K.out keeper.old))
             (moment_of mem part self.new (K.out keeper.new)) (claims_of self.new) call.now result }
+        ensures quiet { LeavesAlone (keeper.new ≡ keeper.old) (claims_of self.new) call.now result }
     {
         vb_guest::call(
             alloc,
