@@ -120,7 +120,7 @@ take_kept q m1 m2 p1 p2 result did = by result did.means
     by (Err why) means = as_it_was p1 p2 means.1
 
 -- a finish that isn't refused is one of a taken request
-there_is : (a b c d : Bool) (o : Option Request)
+pub there_is : (a b c d : Bool) (o : Option Request)
     → first_refusal ((a ⇒ NoQueue) ∷ (b ⇒ NotReady) ∷ (c ⇒ NeedsReset) ∷ (is_none o ⇒ NotTaken)
     ∷ (d ⇒ NotWorked) ∷ []) ≡ None → (r : Request) × (o ≡ Some r)
 there_is true b c d o e = absurd cc

@@ -1,6 +1,7 @@
 -- What a call does that is told apart by its name, whether or not its guest wrote past its driver:
 -- just what the driver's or the device's own call does, whose answer is the reply.
-use Rattle.std.specs.Prelude.{◌≡◌, ℕ, Bool, true, false, List, Option, Result, Err}
+use Rattle.std.specs.Prelude.{◌≡◌, ◌≢◌, ℕ, Bool, true, false, List, [], Option, Result, Ok}
+use Rattle.std.specs.Prelude.{Err, OnErr}
 use Rattle.vb_model.specs.declared.calls.Call.{Call}
 use Rattle.vb_model.specs.declared.calls.Call.TheVariants.{Init, Reset, Alloc, Free, Read, Write}
 use Rattle.vb_model.specs.declared.calls.Call.TheVariants.{Scribble, Inflate, Deflate, Oom, Report}
@@ -18,7 +19,7 @@ use Rattle.vb_driver.specs.Calls.{AllocatesBy, FreesBy, InflatesBy, DeflatesBy, 
 use Rattle.vb_driver.specs.Calls.{ReportsBy, FillsBy, ReapsBy, ResetsBy}
 use Rattle.vb_driver.specs.declared.answers.Posted.{Posted}
 use Rattle.vb_driver.specs.declared.answers.Reaped.{Reaped}
-use Rattle.vb_guest.specs.Exact.{InitialisesBy, IsHandedBack, IsQuiet, PutsBy, ReadsBy}
+use Rattle.vb_guest.specs.Exact.{InitialisesBy, IsHandedBack, IsQuiet, PutsBy, ReadsBy, TookNone}
 use Rattle.vb_guest.specs.Promises.{Moment}
 use Rattle.vb_guest.specs.Replies.{ready_reply, page_reply, done_reply, bytes_reply}
 use Rattle.vb_guest.specs.Replies.{posted_reply, reaped_reply, taken_reply, finished_reply}
@@ -103,3 +104,17 @@ CallsBy Answers a b claims Ask reply =
 CallsBy Answers a b claims (SetTarget n) reply =
     (reply ≡ Done) × (b.mem ≡ a.mem) × (b.part ≡ record (a.part) { target = n })
     × (b.driver ≡ a.driver)
+
+-- What a call may do to the keeper in silence: nothing, where it notes no claim and takes no frame
+-- from a page. Same says that the keeper is as it was.
+abbrev pub LeavesAlone : Type 0 → List Claim → Call → Reply → Type 0
+LeavesAlone Same claims (Init wanted) reply = claims ≡ [] → Same
+LeavesAlone Same claims (Write page offset bytes) reply = claims ≡ [] → Same
+LeavesAlone Same claims (Scribble page offset bytes) reply = claims ≡ [] → Same
+LeavesAlone Same claims Work reply =
+    (r : Result (Option Worked) Refusal) × (reply ≡ worked_reply r) × (TookNone r → Same)
+LeavesAlone Same claims (Finish q i) reply =
+    (r : Result ℕ Refusal) × (reply ≡ finished_reply r) × OnErr r Same
+LeavesAlone Same claims (Sweep page) reply =
+    (r : Result Bool Refusal) × (reply ≡ swept_reply r) × (r ≢ Ok true → Same)
+LeavesAlone Same claims call reply = Same

@@ -1,6 +1,7 @@
 //! Calls on a guest and questions about it, told apart by their names.
 
-ghost use Rattle.vb_guest.specs.Dispatch.{CallsBy};
+ghost use Rattle.std.specs.Prelude.{◌≡◌};
+ghost use Rattle.vb_guest.specs.Dispatch.{CallsBy, LeavesAlone};
 ghost use Rattle.vb_guest.specs.Promises.{EachAnswers, EachSteps, SomeGuest, SomeGuestOut, moment};
 
 use crate::device::{ask, finish, set_target, sweep, take, work};
@@ -42,6 +43,7 @@ pub fn call<D: Device, K: FrameKeeper>(
         (moment (D.mem device.old) (D.part device.old) driver.old (K.out keeper.old))
         (moment (D.mem device.new) (D.part device.new) driver.new (K.out keeper.new))
         claims.new.items call.now result }
+    ensures quiet { LeavesAlone (keeper.new ≡ keeper.old) claims.new.items call.now result }
 {
     claims.clear();
     match call {

@@ -1,11 +1,11 @@
 //! What the host does to a guest's device.
 
-ghost use Rattle.std.specs.Prelude.{◌≡◌, Bool, []};
+ghost use Rattle.std.specs.Prelude.{◌≡◌, ◌≢◌, Bool, true, [], OnErr};
 ghost use Rattle.vb_model.specs.declared.replies.Reply.TheVariants.{Done};
 ghost use Rattle.vb_model.specs.Guest.{Guest};
 ghost use Rattle.vb_driver.specs.State.{DriverState};
 ghost use Rattle.vb_device.specs.Calls.{TakesBy, WorksBy, FinishesBy, SweepsBy, AsksBy};
-ghost use Rattle.vb_guest.specs.Exact.{IsHandedBack};
+ghost use Rattle.vb_guest.specs.Exact.{IsHandedBack, TookNone};
 ghost use Rattle.vb_guest.specs.Promises.{EachSteps, EachStepsAlone, SomeGuest, SomeGuestOut};
 ghost use Rattle.vb_guest.specs.Promises.{moment};
 ghost use Rattle.vb_guest.specs.Replies.{taken_reply, worked_reply, finished_reply, swept_reply};
@@ -48,6 +48,7 @@ pub fn work<D: Device, K: FrameKeeper>(
         (worked_reply result) }
     ensures exact { IsHandedBack (λ part. WorksBy (D.mem device.old) (D.mem device.new)
         (D.part device.old) part result) (D.part device.new) }
+    ensures quiet { TookNone result → keeper.new ≡ keeper.old }
 {
     let answer = device.work();
     return_loose(device, keeper);
@@ -73,6 +74,7 @@ pub fn finish<D: Device, K: FrameKeeper>(
     ensures exact { IsHandedBack
         (λ part. FinishesBy queue index (D.mem device.old) (D.mem device.new)
         (D.part device.old) part result) (D.part device.new) }
+    ensures quiet { OnErr result (keeper.new ≡ keeper.old) }
 {
     let answer = device.finish(queue, index);
     return_loose(device, keeper);
@@ -80,8 +82,8 @@ pub fn finish<D: Device, K: FrameKeeper>(
 }
 
 /// The host discards what it still has of a ballooned page; answers whether it had a frame, which
-/// goes back to where it came from. Refused with `NotReady`, `NeedsReset` and `NotBallooned`,
-/// tested in this order.
+/// goes back to where it came from. Refused with `NotReady`, `NeedsReset`, `NoFeature` without
+/// MUST_TELL_HOST, and `NotBallooned`, tested in this order.
 pub fn sweep<D: Device, K: FrameKeeper>(
     device: &mut D,
     keeper: &mut K,
@@ -95,6 +97,7 @@ pub fn sweep<D: Device, K: FrameKeeper>(
         (swept_reply result) }
     ensures exact { IsHandedBack (λ part. SweepsBy page (D.mem device.old) (D.mem device.new)
         (D.part device.old) part result) (D.part device.new) }
+    ensures quiet { result ≢ Ok true → keeper.new ≡ keeper.old }
 {
     let answer = device.sweep(page);
     return_loose(device, keeper);

@@ -36,7 +36,8 @@ pub fn free(driver: &mut Driver, cpu: u32, start: u32, order: u32) -> Result<(),
 }
 
 /// The driver offers up to this many pages to the host (VIRTIO 1.1, 5.5.6). Refused with
-/// `NotReady`, `QueueFull` and `Nothing`, tested in this order.
+/// `NotReady`, `QueueFull`, without MUST_TELL_HOST `DeflatePending` while a deflate request is out,
+/// and `Nothing`, tested in this order.
 pub fn inflate<D: Device>(
     driver: &mut Driver,
     device: &mut D,

@@ -100,6 +100,7 @@ pub(crate) fn return_loose<D: Device, K: FrameKeeper>(device: &mut D, keeper: &m
     ensures moves { Moves (supply_of (D.part device.old) (K.out keeper.old))
         (supply_of (D.part device.new) (K.out keeper.new)) nothing
         (λ n. times n (D.part device.old).loose) }
+    ensures quiet { (D.part device.old).loose ≡ [] → keeper.new ≡ keeper.old }
 {
     while let Some(frame) = device.hand_back() {
         return_frame(device, keeper, frame);

@@ -52,6 +52,7 @@ fn supply_from<D: Device, K: FrameKeeper>(
         (D.mem device.old) (D.mem device.new) result }
     ensures part { D.part device.new ≡
         record (D.part device.old) { own = (D.part device.new).own } }
+    ensures quiet { claims.new.items ≡ claims.old.items → keeper.new ≡ keeper.old }
 {
     if page >= shape.reserved_pages() {
         return Ok(());
@@ -91,6 +92,7 @@ pub fn init<D: Device, K: FrameKeeper>(
     ensures exact { InitialisesBy K.answers (supply_of (D.part device.old) (K.out keeper.old))
         (K.out keeper.new) (D.mem device.old) (D.mem device.new) (D.part device.old)
         (D.part device.new) driver.old driver.new claims.new.items wanted result }
+    ensures quiet { claims.new.items ≡ [] → keeper.new ≡ keeper.old }
 {
     claims.clear();
     if device.status().bits() != 0 {

@@ -94,6 +94,7 @@ fn put_bytes<D: Device, K: FrameKeeper>(
     ensures exact { PutsBy K.answers (supply_of (D.part device.old) (K.out keeper.old))
         (supply_of (D.part device.new) (K.out keeper.new)) (D.mem device.old) (D.mem device.new)
         (D.part device.old) (D.part device.new) claims.new.items page offset bytes.now result }
+    ensures quiet { claims.new.items ≡ [] → keeper.new ≡ keeper.old }
 {
     match device.write(page, offset as usize, bytes.as_slice()) {
         Ok(()) => Ok(()),
@@ -131,6 +132,7 @@ pub fn write<D: Device, K: FrameKeeper>(
         → PutsBy K.answers (supply_of (D.part device.old) (K.out keeper.old))
         (supply_of (D.part device.new) (K.out keeper.new)) (D.mem device.old) (D.mem device.new)
         (D.part device.old) (D.part device.new) claims.new.items page offset bytes.now result }
+    ensures quiet { claims.new.items ≡ [] → keeper.new ≡ keeper.old }
 {
     claims.clear();
     if !driver.held(page) {
@@ -160,6 +162,7 @@ pub fn scribble<D: Device, K: FrameKeeper>(
     ensures exact { PutsBy K.answers (supply_of (D.part device.old) (K.out keeper.old))
         (supply_of (D.part device.new) (K.out keeper.new)) (D.mem device.old) (D.mem device.new)
         (D.part device.old) (D.part device.new) claims.new.items page offset bytes.now result }
+    ensures quiet { claims.new.items ≡ [] → keeper.new ≡ keeper.old }
 {
     claims.clear();
     put_bytes(device, keeper, claims, page, offset, bytes)

@@ -1,6 +1,7 @@
 //! Questions about a guest.
 
-ghost use Rattle.std.specs.Prelude.{◌≡◌, ◌≤◌, ℕ, List, [], ◌∷◌, ◌++◌, length, IfOk, OnOk};
+ghost use Rattle.std.specs.Prelude.{◌≡◌, ◌≤◌, ℕ, List, [], ◌∷◌, ◌++◌, length, count_by};
+ghost use Rattle.std.specs.Prelude.{IfOk, OnOk};
 ghost use Rattle.vb_model.specs.Balance.{spare};
 ghost use Rattle.vb_model.specs.Tests.{pages_where};
 ghost use Rattle.vb_model.specs.Queries.{is_place, runs};
@@ -8,6 +9,7 @@ ghost use Rattle.vb_model.specs.declared.limits.TheConstants.{MAX_GUEST_PAGES};
 ghost use Rattle.vb_model.specs.declared.replies.Reply.TheVariants.{Places};
 ghost use Rattle.vb_ram.specs.Pages.{Pages};
 ghost use Rattle.vb_ram.specs.Part.{Part};
+ghost use Rattle.vb_driver.specs.Calls.{AreCountsOf};
 ghost use Rattle.vb_driver.specs.State.{DriverState};
 ghost use Rattle.vb_guest.specs.Promises.{EachAnswers, OfEach, SomeGuest};
 ghost use Rattle.vb_guest.specs.Replies.{runs_reply, balloon_reply, statistics_reply};
@@ -34,16 +36,22 @@ pub struct BalloonState {
 
 /// How many pages each place has.
 pub fn places(driver: &Driver) -> PlaceCounts
-    ensures { (mem : Pages) (part : Part) → EachAnswers mem part driver.now Query.Places
+    ensures answer { (mem : Pages) (part : Part) → EachAnswers mem part driver.now Query.Places
         (Places result) }
+    ensures counts { AreCountsOf result driver.now.places }
 {
     driver.places()
 }
 
 /// The count of ballooned pages, the configuration's two numbers and the status.
 pub fn balloon<D: Device>(driver: &Driver, device: &D) -> BalloonState
-    ensures { EachAnswers (D.mem device.now) (D.part device.now) driver.now Query.Balloon
+    ensures answer { EachAnswers (D.mem device.now) (D.part device.now) driver.now Query.Balloon
         (balloon_reply result) }
+    ensures ballooned { result.ballooned
+        ≡ count_by (λ flag. flag) (D.part device.now).ballooned }
+    ensures actual { result.actual ≡ driver.now.actual }
+    ensures target { result.target ≡ (D.part device.now).target }
+    ensures status { result.status ≡ (D.part device.now).status }
 {
     BalloonState {
         ballooned: device.ballooned_count(),
@@ -56,16 +64,19 @@ pub fn balloon<D: Device>(driver: &Driver, device: &D) -> BalloonState
 /// What the last statistics buffer that the device took says of the guest's memory, in bytes
 /// (VIRTIO 1.1, 5.5.6.4).
 pub fn statistics<D: Device>(device: &D) -> Statistics
-    ensures { (d : DriverState) → EachAnswers (D.mem device.now) (D.part device.now) d Query.Memory
-        (statistics_reply result) }
+    ensures answer { (d : DriverState) → EachAnswers (D.mem device.now) (D.part device.now) d
+        Query.Memory (statistics_reply result) }
+    ensures free { result.free ≡ (D.part device.now).last.free }
+    ensures total { result.total ≡ (D.part device.now).last.total }
 {
     device.stats()
 }
 
 /// How many pages the guest has.
 pub fn pages<D: Device>(device: &D) -> u32
-    ensures { (d : DriverState) → OfEach (D.mem device.now) (D.part device.now) d
+    ensures answer { (d : DriverState) → OfEach (D.mem device.now) (D.part device.now) d
         (λ g. result ≡ g.config.pages) }
+    ensures exact { result ≡ length (D.mem device.now) }
 {
     device.pages()
 }
@@ -141,8 +152,10 @@ fn ballooned_runs<D: Device>(alloc: Global, device: &D, count: u32) -> Result<Pa
 
 /// Which pages are at a place, as runs by rising page. Want of memory is the only refusal.
 pub fn pages_at(alloc: Global, driver: &Driver, place: Place) -> Result<PageRuns, AllocError>
-    ensures { (mem : Pages) (part : Part) → EachAnswers mem part driver.now (Query.PagesAt place)
-        (runs_reply result) }
+    ensures answer { (mem : Pages) (part : Part) → EachAnswers mem part driver.now
+        (Query.PagesAt place) (runs_reply result) }
+    ensures exact { IfOk result
+        (λ found. found ≡ runs (pages_where (is_place place) driver.now.places)) }
 {
     runs_at(alloc, driver.places_by_page(), place)
 }

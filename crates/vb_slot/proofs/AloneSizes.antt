@@ -1,5 +1,5 @@
 -- How many pages a guest that is there has.
-use Rattle.std.proofs.Common.{◌≡◌, Bool, true, false, sym, ◌∙◌}
+use Rattle.std.proofs.Common.{◌≡◌, Bool, true, false}
 use Rattle.std.specs.Prelude.{length}
 use Rattle.vb_model.specs.Guest.{Guest}
 use Rattle.vb_ram.specs.Pages.{Pages}

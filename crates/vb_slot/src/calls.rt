@@ -1,16 +1,19 @@
 //! The calls on a guest and the questions about it, each with an answer of its own type.
 
-ghost use Rattle.std.specs.Prelude.{◌≡◌, ◌≤◌, Bool, None, [], false, length, replicate, true};
+ghost use Rattle.std.specs.Prelude.{◌≡◌, ◌≢◌, ◌≤◌, Bool, None, [], false, length, replicate};
+ghost use Rattle.std.specs.Prelude.{count_by, true, IfOk, OnErr};
 ghost use Rattle.vb_model.specs.declared.replies.Reply.TheVariants.{Done, Places, Backing};
 ghost use Rattle.vb_model.specs.Balance.{spare};
 ghost use Rattle.vb_model.specs.Guest.{Guest};
 ghost use Rattle.vb_model.specs.Pages.{place_of, is_used};
+ghost use Rattle.vb_model.specs.Queries.{is_place, runs};
+ghost use Rattle.vb_model.specs.Tests.{pages_where};
 ghost use Rattle.vb_device.specs.Calls.{TakesBy, WorksBy, FinishesBy, SweepsBy, AsksBy};
-ghost use Rattle.vb_driver.specs.Calls.{AllocatesBy, FreesBy, InflatesBy, DeflatesBy};
+ghost use Rattle.vb_driver.specs.Calls.{AreCountsOf, AllocatesBy, FreesBy, InflatesBy, DeflatesBy};
 ghost use Rattle.vb_driver.specs.Calls.{DeflatesOnOomBy, ReportsBy, FillsBy, ReapsBy, ResetsBy};
 ghost use Rattle.vb_driver.specs.State.{fresh_driver};
 ghost use Rattle.vb_guest.specs.Exact.{InitialisesBy, IsHandedBack, IsQuiet, IsReset, PutsBy};
-ghost use Rattle.vb_guest.specs.Exact.{ReadsBy};
+ghost use Rattle.vb_guest.specs.Exact.{ReadsBy, TookNone};
 ghost use Rattle.vb_guest.specs.Promises.{EachRestarts};
 ghost use Rattle.vb_guest.specs.Replies.{ready_reply, page_reply, done_reply, bytes_reply};
 ghost use Rattle.vb_guest.specs.Replies.{posted_reply, reaped_reply, taken_reply, finished_reply};
@@ -106,6 +109,7 @@ impl Slot {
             (part_of part self.old) (part_of part self.new) (claims_of self.new)
             page offset bytes.now result }
         ensures driver { driver_of self.new ≡ driver_of self.old }
+        ensures quiet { claims_of self.new ≡ [] → keeper.new ≡ keeper.old }
     {
         vb_guest::write(
             &self.driver,
@@ -138,6 +142,7 @@ impl Slot {
             (part_of part self.old) (part_of part self.new) (claims_of self.new)
             page offset bytes.now result }
         ensures driver { driver_of self.new ≡ driver_of self.old }
+        ensures quiet { claims_of self.new ≡ [] → keeper.new ≡ keeper.old }
     {
         vb_guest::scribble(
             &mut self.device,
@@ -161,6 +166,7 @@ impl Slot {
             (part_of part self.old) (part_of part self.new)
             (driver_of self.old) (driver_of self.new)
             (claims_of self.new) wanted result }
+        ensures quiet { claims_of self.new ≡ [] → keeper.new ≡ keeper.old }
     {
         vb_guest::init(
             &mut self.driver,
@@ -184,7 +190,8 @@ impl Slot {
     }
 
     /// The driver offers up to this many pages to the host (VIRTIO 1.1, 5.5.6). Refused with
-    /// `NotReady`, `QueueFull` and `Nothing`, tested in this order.
+    /// `NotReady`, `QueueFull`, without MUST_TELL_HOST `DeflatePending` while a deflate request is
+    /// out, and `Nothing`, tested in this order.
     pub fn inflate(&mut self, pages: u32) -> Result<Posted, Refusal>
         requires { HasGuest mem part self.old }
         ensures step { SlotStepsAlone mem part self.old self.new (Call.Inflate pages)
@@ -311,6 +318,7 @@ impl Slot {
             (λ after. WorksBy (memory_of mem self.old) (memory_of mem self.new)
             (part_of part self.old) after result) (part_of part self.new) }
         ensures driver { driver_of self.new ≡ driver_of self.old }
+        ensures quiet { TookNone result → keeper.new ≡ keeper.old }
     {
         forget(&mut self.claims);
         vb_guest::work(&mut self.device, keeper)
@@ -332,13 +340,15 @@ impl Slot {
             (λ after. FinishesBy queue index (memory_of mem self.old) (memory_of mem self.new)
             (part_of part self.old) after result) (part_of part self.new) }
         ensures driver { driver_of self.new ≡ driver_of self.old }
+        ensures quiet { OnErr result (keeper.new ≡ keeper.old) }
     {
         forget(&mut self.claims);
         vb_guest::finish(&mut self.device, keeper, queue, index)
     }
 
     /// The host discards what it still has of a ballooned page; answers whether it had a frame.
-    /// Refused with `NotReady`, `NeedsReset` and `NotBallooned`, tested in this order.
+    /// Refused with `NotReady`, `NeedsReset`, `NoFeature` without MUST_TELL_HOST, and
+    /// `NotBallooned`, tested in this order.
     pub fn sweep<K: FrameKeeper>(&mut self, keeper: &mut K, page: u32) -> Result<bool, Refusal>
         requires { HasGuestOut mem part self.old (K.out keeper.old) }
         ensures step { SlotSteps K.answers mem part self.old (K.out keeper.old) self.new
@@ -347,6 +357,7 @@ impl Slot {
             (λ after. SweepsBy page (memory_of mem self.old) (memory_of mem self.new)
             (part_of part self.old) after result) (part_of part self.new) }
         ensures driver { driver_of self.new ≡ driver_of self.old }
+        ensures quiet { result ≢ Ok true → keeper.new ≡ keeper.old }
     {
         forget(&mut self.claims);
         vb_guest::sweep(&mut self.device, keeper, page)
@@ -412,6 +423,7 @@ impl Slot {
         ensures mem { memory_of mem self.new
             ≡ replicate (length (memory_of mem self.old)) None }
         ensures part { IsReset (part_of part self.old) (part_of part self.new) }
+        ensures driver { driver_of self.new ≡ driver_of self.old }
     {
         forget(&mut self.claims);
         vb_guest::empty(&mut self.device, keeper);
@@ -419,7 +431,8 @@ impl Slot {
 
     /// How many pages the guest has.
     pub fn pages(&self) -> u32
-        ensures { OfItsGuest mem part self.now (λ g. result ≡ g.config.pages) }
+        ensures answer { OfItsGuest mem part self.now (λ g. result ≡ g.config.pages) }
+        ensures exact { result ≡ length (memory_of mem self.now) }
     {
         vb_guest::pages(&self.device)
     }
@@ -445,6 +458,7 @@ impl Slot {
     /// How many pages each place has.
     pub fn places(&self) -> PlaceCounts
         ensures answer { SlotAnswers mem part self.now (Query.Places) (Places result) }
+        ensures counts { AreCountsOf result (driver_of self.now).places }
     {
         vb_guest::places(&self.driver)
     }
@@ -452,6 +466,8 @@ impl Slot {
     /// Which pages are at a place, as runs by rising page. Want of memory is the only refusal.
     pub fn pages_at(&self, alloc: Global, place: Place) -> Result<PageRuns, AllocError>
         ensures answer { SlotAnswers mem part self.now (Query.PagesAt place) (runs_reply result) }
+        ensures exact { IfOk result
+            (λ found. found ≡ runs (pages_where (is_place place) (driver_of self.now).places)) }
     {
         vb_guest::pages_at(alloc, &self.driver, place)
     }
@@ -469,6 +485,11 @@ impl Slot {
     /// status.
     pub fn balloon(&self) -> BalloonState
         ensures answer { SlotAnswers mem part self.now (Query.Balloon) (balloon_reply result) }
+        ensures ballooned { result.ballooned
+            ≡ count_by (λ flag. flag) (part_of part self.now).ballooned }
+        ensures actual { result.actual ≡ (driver_of self.now).actual }
+        ensures target { result.target ≡ (part_of part self.now).target }
+        ensures status { result.status ≡ (part_of part self.now).status }
     {
         vb_guest::balloon(&self.driver, &self.device)
     }
@@ -477,6 +498,8 @@ impl Slot {
     /// 5.5.6.4).
     pub fn statistics(&self) -> Statistics
         ensures answer { SlotAnswers mem part self.now (Query.Memory) (statistics_reply result) }
+        ensures free { result.free ≡ (part_of part self.now).last.free }
+        ensures total { result.total ≡ (part_of part self.now).last.total }
     {
         vb_guest::statistics(&self.device)
     }

@@ -1,6 +1,6 @@
 //! A guest by itself: its frames come from its device alone.
 
-ghost use Rattle.std.specs.Prelude.{◌≡◌, IfOk, IfErr, true};
+ghost use Rattle.std.specs.Prelude.{◌≡◌, IfOk, IfErr, true, []};
 ghost use Rattle.vb_model.specs.Guest.{Guest, fresh};
 ghost use Rattle.vb_model.specs.Limits.{is_config};
 ghost use Rattle.vb_model.specs.Queries.{Answers};
@@ -83,6 +83,7 @@ impl LoneSlot {
               processors = config.processors;
               paced = (part device).paced;
             }) 0)) }
+        ensures claimed { IfOk result (λ slot. ⟦<LoneSlot as GuestSlot>⟧.claimed slot ≡ []) }
         ensures refused { IfErr result
             (λ refused. (mem refused.device ≡ mem device) × (part refused.device ≡ part device)) }
     {

@@ -1,7 +1,7 @@
 //! A guest behind one type: how it is made, and its calls and questions told apart by their names.
 
 ghost use Rattle.std.specs.Prelude.{◌≡◌, true, []};
-ghost use Rattle.vb_guest.specs.Dispatch.{CallsBy};
+ghost use Rattle.vb_guest.specs.Dispatch.{CallsBy, LeavesAlone};
 ghost use Rattle.vb_slot.specs.Slots.{stands_for, claims_of, moment_of, HasGuest, HasGuestOut};
 ghost use Rattle.vb_slot.specs.Slots.{SlotAnswers, SlotSteps};
 
@@ -42,6 +42,7 @@ impl Slot {
             (K.out keeper.new) call.now result }
         ensures exact { CallsBy K.answers (moment_of mem part self.old (K.out keeper.old))
             (moment_of mem part self.new (K.out keeper.new)) (claims_of self.new) call.now result }
+        ensures quiet { LeavesAlone (keeper.new ≡ keeper.old) (claims_of self.new) call.now result }
     {
         vb_guest::call(
             alloc,
@@ -63,11 +64,12 @@ impl Slot {
 }
 
 impl Slot {
-    ghost use Rattle.std.specs.Prelude.{◌≡◌, true, false, IfOk, IfErr, []};
+    ghost use Rattle.std.specs.Prelude.{◌≡◌, true, false, IfOk, IfErr, [], None, replicate};
     ghost use Rattle.vb_model.specs.Guest.{fresh};
     ghost use Rattle.vb_model.specs.Limits.{is_config};
-    ghost use Rattle.vb_device.specs.Calls.{IsUnused};
-    ghost use Rattle.vb_slot.specs.Slots.{claims_of};
+    ghost use Rattle.vb_device.specs.Calls.{IsUnused, attached};
+    ghost use Rattle.vb_driver.specs.State.{fresh_driver};
+    ghost use Rattle.vb_slot.specs.Slots.{claims_of, driver_of, memory_of, part_of};
 
     /// A guest of this size as it is plugged in, on a device that no guest has yet, and of whose
     /// own frames, if it keeps such, none is out. Refused for want of memory alone.
@@ -88,6 +90,10 @@ impl Slot {
               paced = (part device).paced;
             }) 0)) }
         ensures claimed { IfOk result (λ slot. claims_of slot ≡ []) }
+        ensures driver { IfOk result (λ slot. driver_of slot
+            ≡ fresh_driver config.pages config.queue_size config.processors) }
+        ensures device { IfOk result (λ slot. (memory_of mem slot ≡ replicate config.pages None)
+            × (part_of part slot ≡ attached config (part device))) }
         ensures refused { IfErr result
             (λ refused. (mem refused.device ≡ mem device) × (part refused.device ≡ part device)) }
     {

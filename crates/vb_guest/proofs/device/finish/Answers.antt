@@ -4,6 +4,7 @@ use Rattle.vb_guest.proofs.RogueDevice.{finish_rogue}
 use Rattle.vb_guest.proofs.Freed.{freed_as, freed_rogue}
 use Rattle.vb_guest.proofs.Kept.{finish_kept}
 use Rattle.vb_guest.proofs.Asked.{has_ring}
+use Rattle.vb_guest.proofs.Quiet.{finish_quiet}
 use Rattle.vb_guest.proofs.Standing.{none_loose, freed_loose, lost_by, steps_freed}
 use Rattle.vb_guest.proofs.device.finish.Goals as goal
 
@@ -44,3 +45,9 @@ pub returns-clause-exact : goal.returns-clause-exact
 returns-clause-exact g c =
     let back = c.return_loose.ensures in
     rw (back.mem) (g.D.GuestBytes.part c.finish-answer.new.self, c.finish-answer.ensures, back.part)
+
+pub returns-clause-quiet : goal.returns-clause-quiet
+returns-clause-quiet g c =
+    let (d, (keeps, guest, stands, held)) = c.requires in
+    finish_quiet _ _ _ _ _ _ _ c.finish-answer.ensures (none_loose keeps _ _ d guest stands)
+    c.return_loose.ensures.quiet

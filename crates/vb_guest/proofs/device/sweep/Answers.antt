@@ -3,6 +3,7 @@ use Rattle.vb_guest.proofs.SweepStep.{sweep_step}
 use Rattle.vb_guest.proofs.RogueDevice.{sweep_rogue}
 use Rattle.vb_guest.proofs.Freed.{freed_as, freed_rogue}
 use Rattle.vb_guest.proofs.Kept.{sweep_kept}
+use Rattle.vb_guest.proofs.Quiet.{sweep_quiet}
 use Rattle.vb_guest.proofs.Standing.{none_loose, freed_loose, lost_by, steps_freed}
 use Rattle.vb_guest.proofs.device.sweep.Goals as goal
 
@@ -40,3 +41,9 @@ pub returns-clause-exact : goal.returns-clause-exact
 returns-clause-exact g c =
     let back = c.return_loose.ensures in
     rw (back.mem) (g.D.GuestBytes.part c.sweep-answer.new.self, c.sweep-answer.ensures, back.part)
+
+pub returns-clause-quiet : goal.returns-clause-quiet
+returns-clause-quiet g c = λ none.
+    let (d, (keeps, guest, stands, held)) = c.requires in
+    c.return_loose.ensures.quiet
+    (sweep_quiet _ _ _ _ _ _ c.sweep-answer.ensures (none_loose keeps _ _ d guest stands) none)

@@ -3,6 +3,7 @@ use Rattle.vb_guest.proofs.WorkStep.{work_step}
 use Rattle.vb_guest.proofs.RogueDevice.{work_rogue}
 use Rattle.vb_guest.proofs.Freed.{freed_as, freed_rogue}
 use Rattle.vb_guest.proofs.Kept.{work_kept}
+use Rattle.vb_guest.proofs.Quiet.{work_quiet}
 use Rattle.vb_guest.proofs.Standing.{none_loose, freed_loose, lost_by, steps_freed}
 use Rattle.vb_guest.proofs.device.work.Goals as goal
 
@@ -40,3 +41,9 @@ pub returns-clause-exact : goal.returns-clause-exact
 returns-clause-exact g c =
     let back = c.return_loose.ensures in
     rw (back.mem) (g.D.GuestBytes.part c.work-answer.new.self, c.work-answer.ensures, back.part)
+
+pub returns-clause-quiet : goal.returns-clause-quiet
+returns-clause-quiet g c = λ none.
+    let (d, (keeps, guest, stands, held)) = c.requires in
+    c.return_loose.ensures.quiet
+    (work_quiet _ _ _ _ _ c.work-answer.ensures (none_loose keeps _ _ d guest stands) none)

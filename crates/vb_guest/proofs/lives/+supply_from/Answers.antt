@@ -9,6 +9,7 @@ use Rattle.vb_guest.proofs.Claiming.{bare_skips, bare_takes}
 use Rattle.vb_guest.proofs.Claiming.{err_is, still_inside, still_bare, still_used}
 use Rattle.vb_guest.proofs.Claiming.{supplies_none, supplies_rest}
 use Rattle.vb_guest.proofs.Claiming.{supplies_refused, supplies_all, supplies_back}
+use Rattle.vb_guest.proofs.Quiet.{noted_one, noted_more}
 use Rattle.vb_guest.proofs.lives.+supply_from.Goals as goal
 
 pub returns-then-page-reserved_pages-clause-supplies :
@@ -143,3 +144,14 @@ returns-in-Err-clause-supplies g t c =
     (sym c.is_bare.ensures ∙ c.if-not-is_bare.false) c.in_ok-frame.ensures.claimed
     c.in_ok-frame.ensures.noted c.in_ok-frame.ensures.mem
     c.in-Err.ensures.supplies c.return_frame.ensures.mem c.return_frame.ensures.moves
+
+pub returns-in_err-frame-clause-quiet : goal.returns-in_err-frame-clause-quiet
+returns-in_err-frame-clause-quiet g t c = noted_one _ _ _ c.in_err-frame.ensures.noted
+
+pub returns-in-Ok-clause-quiet : goal.returns-in-Ok-clause-quiet
+returns-in-Ok-clause-quiet g t c =
+    noted_more _ _ _ _ _ c.in_ok-frame.ensures.noted c.in-Ok.ensures.supplies.noted
+
+pub returns-in-Err-clause-quiet : goal.returns-in-Err-clause-quiet
+returns-in-Err-clause-quiet g t c =
+    noted_more _ _ _ _ _ c.in_ok-frame.ensures.noted c.in-Err.ensures.supplies.noted

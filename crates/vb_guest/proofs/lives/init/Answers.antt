@@ -25,6 +25,7 @@ returns-then-bits-ne0 g c = record {
       (λ e. c.if-bits-ne0.true (c.bits.ensures tt ∙ c.status.ensures ∙ e)) honest)
       (λ rogue. init_up_rogue _ _ _ guest c.args.wanted
       (λ e. c.if-bits-ne0.true (c.bits.ensures tt ∙ c.status.ensures ∙ e)) rogue)));
+  quiet = λ none. refl;
 }
 
 pub supply_from-requires : goal.supply_from-requires
@@ -68,6 +69,7 @@ returns-in-Ok g c =
           c.args.wanted _ _ (c.from_bits_retain.ensures tt) new
           (first_noted g.K.FrameKeeper.answers _ _ _ _ _ _ _ _ c.clear.ensures did)
           c.in-Ok.ensures.part c.init.ensures rogue);
+      quiet = λ none. c.in-Ok.ensures.quiet (none ∙ sym c.clear.ensures);
     }
 
 pub returns-in-Err-NoFrame : goal.returns-in-Err-NoFrame
@@ -90,6 +92,7 @@ returns-in-Err-NoFrame g c =
           (λ rogue. init_unsupplied_rogue g.K.FrameKeeper.answers _ _ _ _ _ _ _ _ guest c.args.wanted
           NoFrame NoFrameLeft refl new (first_noted g.K.FrameKeeper.answers _ _ _ _ _ _ _ _ c.clear.ensures did)
           c.supply_from.ensures.part rogue);
+      quiet = λ none. c.supply_from.ensures.quiet (none ∙ sym c.clear.ensures);
     }
 
 pub returns-in-Err-Memory : goal.returns-in-Err-Memory
@@ -112,4 +115,5 @@ returns-in-Err-Memory g c =
           (λ rogue. init_unsupplied_rogue g.K.FrameKeeper.answers _ _ _ _ _ _ _ _ guest c.args.wanted
           Memory NoMemory refl new (first_noted g.K.FrameKeeper.answers _ _ _ _ _ _ _ _ c.clear.ensures did)
           c.supply_from.ensures.part rogue);
+      quiet = λ none. c.supply_from.ensures.quiet (none ∙ sym c.clear.ensures);
     }

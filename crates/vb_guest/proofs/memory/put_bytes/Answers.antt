@@ -38,6 +38,7 @@ returns-in-Ok g c =
           did.none_written did.part
           (ap (λ (p : Part). supply_of p (g.K.FrameKeeper.out c.args.keeper.now)) did.part)
           c.requires.none);
+      quiet = λ none. refl;
     }
 
 pub put_fresh-requires : goal.put_fresh-requires
@@ -76,6 +77,7 @@ returns-in-Err-NeedsFrame g c =
       exact = puts_bare g.K.FrameKeeper.answers _ _ _ _ _ _ _ _ _ _ _ _ _
           (rw (← c.as_slice.ensures) found.0) (rw (← c.as_slice.ensures) found.1) found.2
           c.in-Err-NeedsFrame.ensures.unwritten did.part c.put_fresh.ensures.exact;
+      quiet = λ none. (let noted = c.put_fresh.ensures.exact.noted in cc);
     }
 
 pub returns-in-Err-OutOfRam : goal.returns-in-Err-OutOfRam
@@ -103,4 +105,5 @@ returns-in-Err-OutOfRam g c =
             supply = ap (λ (p : Part). supply_of p (g.K.FrameKeeper.out c.args.keeper.now)) did.part;
             none = c.requires.none;
           }));
+      quiet = λ none. refl;
     }

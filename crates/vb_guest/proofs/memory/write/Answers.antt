@@ -13,6 +13,7 @@ returns-then-not-held g c = record {
       (λ rogue. write_unheld_rogue _ _ _ guest _ _ _ (sym c.if-not-held.ensures) rogue)));
   refused = λ _. (refl, record { mem = refl; part = refl; supply = refl; none = c.clear.ensures });
   exact = λ used. (let unused = sym c.if-not-held.ensures in cc);
+  quiet = λ none. refl;
 }
 
 pub put_bytes-requires-clause-stands : goal.put_bytes-requires-clause-stands
@@ -24,4 +25,5 @@ returns g c = record {
   step = c.put_bytes.ensures.writes _ (sym c.if-not-held.ensures);
   refused = λ unused. (let used = sym c.if-not-held.ensures in cc);
   exact = λ _. c.put_bytes.ensures.exact;
+  quiet = c.put_bytes.ensures.quiet;
 }

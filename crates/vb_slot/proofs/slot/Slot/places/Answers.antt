@@ -1,4 +1,4 @@
 use Rattle.vb_slot.proofs.slot.Slot.places.Goals as goal
 
-pub returns : goal.returns
-returns g c = record { answer = c.places.ensures _ _ }
+pub returns-clause-answer : goal.returns-clause-answer
+returns-clause-answer g c = c.places.ensures.answer _ _

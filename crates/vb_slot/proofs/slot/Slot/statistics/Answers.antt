@@ -1,4 +1,4 @@
 use Rattle.vb_slot.proofs.slot.Slot.statistics.Goals as goal
 
-pub returns : goal.returns
-returns g c = record { answer = c.statistics.ensures _ }
+pub returns-clause-answer : goal.returns-clause-answer
+returns-clause-answer g c = c.statistics.ensures.answer _

@@ -33,7 +33,7 @@ loop-key-preserved g c = elim c.match-get.branch [
         c.loop-key.needs.items _ host (sym some.in-Some.ensures)
         (c.loop-key.invariant.found w host)
         (λ guest stands. rw (
-          some.pages.ensures false guest stands,
+          some.pages.ensures.answer false guest stands,
           some.spare.ensures false guest stands,
         ) refl));
   }
