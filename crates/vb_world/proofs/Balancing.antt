@@ -6,7 +6,7 @@ use Rattle.std.proofs.Common.{refl, sym, ap, subst, ◌∙◌, inl, inr, arith, 
 use Rattle.std.proofs.Common.{is_some, count_by}
 use Rattle.std.proofs.lemmas.List.{append-nil, get_or_past, length-append}
 use Rattle.std.proofs.lemmas.Bool.Decides.{eqb_tells}
-use Rattle.slab.specs.Slab.{Slab, get, slab_len, with_value}
+use Rattle.slab.specs.Slab.{Slab, get, with_value}
 use Rattle.vb_model.specs.declared.calls.Event.TheVariants.{Balance}
 use Rattle.vb_model.specs.declared.replies.Reply.TheVariants.{Targets, Refused}
 use Rattle.vb_model.specs.declared.replies.Refusal.TheVariants.{Short}
@@ -19,7 +19,7 @@ use Rattle.vb_model.specs.HostRefusals.{plugged_count}
 use Rattle.vb_model.proofs.Tables.{count_by-cons}
 use Rattle.vb_slot.proofs.Standing.{KeeperMoves}
 use Rattle.vb_world.specs.Hosts.{IsHost}
-use Rattle.vb_world.proofs.Calls.{HasGuest, guest_of, no_guest, host_with}
+use Rattle.vb_world.proofs.Calls.{guest_of, no_guest, host_with}
 use Rattle.vb_world.proofs.Aiming.{nobody, first_of, first_more, need_of, need_at, first_few, all_needs}
 use Rattle.vb_world.proofs.Aiming.{rank, rank_more, rank_same, rank_below, aimed, aimed_at}
 use Rattle.vb_world.proofs.Aiming.{aimed_more, aimed_same, all_aimed}

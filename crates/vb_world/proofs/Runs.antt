@@ -2,6 +2,7 @@
 use Rattle.std.proofs.Common.{◌≡◌, ℕ, zero, suc, ◌≤◌, Bool, List, [], ◌∷◌, ◌++◌, length, take, refl}
 use Rattle.std.proofs.Common.{sym, ap, subst, arith, get_or, ◌∙◌, ◌+◌, ◌<◌}
 use Rattle.std.proofs.Common.{Result, Ok, Err, OnErr}
+use Rattle.std.specs.Prelude.{IsOk}
 use Rattle.std.proofs.lemmas.List.{append-nil, append_assoc, take_more}
 use Rattle.vb_model.specs.declared.calls.Event.{Event}
 use Rattle.vb_model.specs.declared.replies.Reply.{Reply}
@@ -94,3 +95,13 @@ take_next xs i x lt is = take_more xs i x lt ∙ ap (λ y. take i xs ++ y ∷ []
 pub on_err : {T E P : Type 0} (r : Result T E) → P → OnErr r P
 on_err (Ok x) p = tt
 on_err (Err e) p = p
+
+refused_none : {T E : Type 0} (r : Result T E) (e : E) → IsOk r → r ≡ Err e → ⊥
+refused_none (Ok x) e ok is = cc
+refused_none (Err f) e ok is = cc
+
+-- a recorder that refused a reply had no room
+pub no_room : {T E : Type 0} (room : ℕ) (r : Result T E) (e : E) → (0 < room → IsOk r) → r ≡ Err e
+    → room ≡ 0
+no_room zero r e fits is = refl
+no_room (suc n) r e fits is = absurd (refused_none r e (fits (omega arith)) is)

@@ -2,7 +2,7 @@
 
 ghost use Rattle.std.specs.Prelude.{◌≡◌, ◌<◌, ◌≤◌, ◌^◌, ℕ, true, All, IfOk, IfErr, OnErr, OnOk};
 ghost use Rattle.std.specs.Prelude.{map, ◌++◌, [], vec_len, vec_capacity, ◌∷◌, List, Bool, IsTrue};
-ghost use Rattle.std.specs.Prelude.{length, take, IsOk};
+ghost use Rattle.std.specs.Prelude.{length, take, IsOk, ◌+◌};
 ghost use Rattle.vb_model.specs.declared.replies.Reply.{Reply as AnyReply};
 ghost use Rattle.vb_model.specs.Safe.{IsSafeRun};
 ghost use Rattle.vb_model.specs.World.{World as Model, made};
@@ -45,7 +45,7 @@ pub struct World {
 }
 
 /// Adds a device behind the spare ones. Refused for want of memory alone, which there isn't where
-/// the list has room; the device is gone then.
+/// the list has room; the list is as it was then, and the device gone.
 pub fn add_spare(
     spares: &mut Vec<Box<dyn Device + Send>>,
     device: Box<dyn Device + Send>,
@@ -54,6 +54,7 @@ pub fn add_spare(
     requires device { IsSpare (mem device) (part device) }
     ensures spares { All (λ d. IsSpare (mem d) (part d)) spares.new.items }
     ensures added { OnOk result (spares.new.items ≡ spares.old.items ++ device ∷ []) }
+    ensures kept { OnErr result (spares.new.items ≡ spares.old.items) }
     ensures room { vec_len spares.old < vec_capacity spares.old → IsOk result }
 {
     spares.push(device)?;
@@ -303,7 +304,8 @@ impl World {
     /// Lets events happen, one after the other, and records what each is answered.
     ///
     /// Refused only where the recorder has no memory for a reply, which isn't so while it has room.
-    /// Then the events up to that one have happened, and no more.
+    /// It had the replies of the events before then, and the events up to that one have happened,
+    /// and no more.
     pub fn run_into<R: Recorder>(
         &mut self,
         alloc: Global,
@@ -321,8 +323,11 @@ impl World {
         ensures stopped { (frames : ℕ) (spares : List Bool) →
             IsWorld mem part self.old (made frames spares)
             → OnErr result ((last : Model) × (count : ℕ) × (replies : List AnyReply) ×
-            IsWorld mem part self.new last ×
-            IsSafeRun (made frames spares) (take count events.now) replies last) }
+            (reply : AnyReply) × (full : R) × IsWorld mem part self.new last ×
+            (count < length events.now) ×
+            IsSafeRun (made frames spares) (take (count + 1) events.now)
+            (replies ++ reply ∷ []) last ×
+            Adds R.holds recorder.old full replies × (R.room full ≡ 0)) }
         ensures fits { length events.now ≤ R.room recorder.old → IsOk result }
     {
         for event in events {

@@ -1,4 +1,4 @@
-use Rattle.std.proofs.Common.{◌∙◌, sym, ap, List, length, arith}
+use Rattle.std.proofs.Common.{◌∙◌, sym, ap, List, length}
 use Rattle.vb_model.specs.Balance.{Need}
 use Rattle.vb_model.specs.HostEvents.{with_targets}
 use Rattle.vb_world.proofs.Balancing.{balanced, short, as_many_needs}

@@ -1,8 +1,8 @@
-use Rattle.std.proofs.Common.{◌++◌, ◌∷◌, [], ◌+◌, take, arith, subst, sym}
+use Rattle.std.proofs.Common.{◌++◌, ◌∷◌, [], take, arith, rules, subst, sym}
 use Rattle.std.proofs.lemmas.List.{take_more}
 use Rattle.vb_model.specs.Safe.{IsSafeRun}
 use Rattle.vb_model.specs.World.{made}
-use Rattle.vb_world.proofs.Runs.{adds_none, adds_on, on_err, ran_none, ran_on, safe_run}
+use Rattle.vb_world.proofs.Runs.{adds_none, adds_on, on_err, ran_none, ran_on, safe_run, no_room}
 use Rattle.vb_world.proofs.Runs.{take_next, take_whole}
 use Rattle.vb_world.proofs.world.World.run_into.Goals as goal
 
@@ -51,14 +51,19 @@ returns-in_err-record-clause-stopped g c = λ frames spares host.
     c.event-item.result c.step-reply.result ran c.step-reply.ensures in
     let (last, holds, safe) = safe_run frames spares _ _ on in
     let all = replies ++ c.step-reply.result ∷ [] in
-    let count = c.loop-event.event-index + 1 in
     let events = take_next c.args.events.now c.loop-event.event-index c.event-item.result
     c.loop-event-test.true c.event-item.is in
     on_err c.from_residual.result (
       last,
-      count,
-      all,
+      c.loop-event.event-index,
+      replies,
+      c.step-reply.result,
+      c.loop-event.recorder,
       holds,
+      c.loop-event-test.true,
       subst (λ es. IsSafeRun (made frames spares) es all last) (sym events)
           safe,
+      adds,
+      no_room (g.R.Recorder.room c.loop-event.recorder) c.record.result c.in_err-record.field-0.0
+          c.record.ensures.fits (search rules),
     )
