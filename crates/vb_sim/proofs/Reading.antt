@@ -1,8 +1,17 @@
 -- What is known of a text that was read from an input.
 use Rattle.std.proofs.Common.{◌≡◌, ℕ, ◌+◌, ◌≤◌, min, List, length, take, Option, Some, None, IfSome}
 use Rattle.std.proofs.Common.{IfOk, MatchResult, Result, Ok, Err, ap, subst, ◌∙◌, arith, OnOk}
+use Rattle.std.specs.Prelude.{IfErr}
 use Rattle.std.specs.Option.{option_map}
 use Rattle.std.proofs.lemmas.List.{length-take, take_all}
+use Rattle.vb_script.specs.Plans.{threads_script_of}
+use Rattle.vb_script.specs.Texts.{script_of}
+use Rattle.vb_sim.specs.Ends.{IsWithinBound}
+use Rattle.vb_sim.specs.Faults.{IfBadLine, IfRead}
+use Rattle.vb_sim.specs.Threads.{IsTextFault, IsThreadsFault}
+use Rattle.vb_sim.specs.declared.fault.ProgramFault.{ProgramFault}
+use Rattle.vb_sim.specs.declared.fault.ProgramFault.TheVariants.{BadLine, BadPlan, Memory, Audit}
+use Rattle.vb_sim.specs.declared.fault.ProgramFault.TheVariants.{Stream}
 
 -- where no more is read than fits, a text that isn't longer is the whole one
 whole_text : (most : ℕ) (known : Option (List ℕ)) (text : List ℕ)
@@ -30,3 +39,36 @@ pub said_of_whole : {T E : Type 0} (P : List ℕ → Type 0) (known : Option (Li
 said_of_whole P None text (Ok x) is ok = tt
 said_of_whole P (Some whole) text (Ok x) is ok = subst P is ok
 said_of_whole P known text (Err fault) is ok = tt
+
+-- what holds anyway holds of a fault that shows that the text was read
+if_read : {P : Type 0} (fault : ProgramFault) → P → IfRead fault P
+if_read (BadLine number) p = p
+if_read BadPlan p = p
+if_read Memory p = tt
+if_read Audit p = p
+if_read Stream p = tt
+
+-- a fault of the text that was read is one of the whole input
+pub fault_of_whole : {T : Type 0} (known : Option (List ℕ)) (text : List ℕ)
+    (r : Result T ProgramFault) → IfSome known (λ whole. text ≡ whole) → IsWithinBound text
+    → IfErr r (λ fault. IsThreadsFault (threads_script_of text) fault)
+    → IfErr r (λ fault. IfSome known (λ whole. IsTextFault whole fault))
+fault_of_whole known text (Ok x) is few bad = tt
+fault_of_whole None text (Err fault) is few bad = tt
+fault_of_whole (Some whole) text (Err fault) is few bad =
+    subst (λ t. IsTextFault t fault) is (bad, if_read fault few)
+
+-- so is a bad line
+pub bad_of_whole : {T : Type 0} (known : Option (List ℕ)) (text : List ℕ)
+    (r : Result T ProgramFault) → IfSome known (λ whole. text ≡ whole) → IsWithinBound text
+    → IfErr r (λ fault. IfBadLine fault (λ number. script_of text ≡ Err number))
+    → IfErr r (λ fault. IfBadLine fault (λ number. IfSome known (λ whole. IsWithinBound whole
+    × (script_of whole ≡ Err number))))
+bad_of_whole known text (Ok x) is few bad = tt
+bad_of_whole None text (Err (BadLine number)) is few bad = tt
+bad_of_whole (Some whole) text (Err (BadLine number)) is few bad =
+    subst (λ t. IsWithinBound t × (script_of t ≡ Err number)) is (few, bad)
+bad_of_whole known text (Err BadPlan) is few bad = bad
+bad_of_whole known text (Err Memory) is few bad = tt
+bad_of_whole known text (Err Audit) is few bad = bad
+bad_of_whole known text (Err Stream) is few bad = tt

@@ -1,7 +1,10 @@
 -- How a command ends.
-use Rattle.std.specs.Prelude.{◌⊎◌, ℕ, List, Option, Some, None}
+use Rattle.std.specs.Prelude.{◌≡◌, ◌⊎◌, ℕ, List, Option, Some, None, Result, IfErr}
 use Rattle.std.specs.Io.KnownBytes.{Keeps}
-use Rattle.vb_sim.specs.Arguments.{refusal_line, refusal_status}
+use Rattle.std.specs.declared.alloc.Global.{Global}
+use Rattle.std.specs.declared.string.String.{String}
+use Rattle.std.specs.declared.vec.Vec.{Vec}
+use Rattle.vb_sim.specs.Arguments.{asked_by, refusal_line, refusal_status}
 use Rattle.vb_sim.specs.Ends.{Ends, Says}
 use Rattle.vb_sim.specs.Plays.{RunsSafely}
 use Rattle.vb_sim.specs.Threads.{ThreadsEnds}
@@ -18,10 +21,11 @@ EndsAs (Some Run) input output written errors said status =
 EndsAs (Some (Threads bells)) input output written errors said status =
     ThreadsEnds bells input output written errors said status
 
--- as what it asks for ends; or nothing is printed, and a line says why
-abbrev pub CommandEnds : Option Asked → Option (List ℕ) → Option (List ℕ) → Option (List ℕ)
-    → Option (List ℕ) → Option (List ℕ) → ℕ → Type 0
-CommandEnds asked input output written errors said status =
-    EndsAs asked input output written errors said status
-    ⊎ ((fault : ArgumentsFault) × Keeps output written
+-- As what the words ask for ends; or nothing is printed, and a line says why: where the words
+-- couldn't be had, by the fault of that.
+abbrev pub CommandEnds : Result (Vec (String Global) Global) ArgumentsFault → Option (List ℕ)
+    → Option (List ℕ) → Option (List ℕ) → Option (List ℕ) → Option (List ℕ) → ℕ → Type 0
+CommandEnds words input output written errors said status =
+    EndsAs (asked_by words) input output written errors said status
+    ⊎ ((fault : ArgumentsFault) × IfErr words (λ given. fault ≡ given) × Keeps output written
     × Says (refusal_line fault) (refusal_status fault) errors said status)

@@ -53,3 +53,11 @@ UnlessStream BadPlan P = P
 UnlessStream NoMemory P = P
 UnlessStream Audit P = P
 UnlessStream Stream P = ⊤
+
+-- where the fault shows that all of the text was read
+abbrev pub IfRead : ProgramFault → Type 0 → Type 0
+IfRead (BadLineOf number) P = P
+IfRead BadPlan P = P
+IfRead NoMemory P = ⊤
+IfRead Audit P = P
+IfRead Stream P = ⊤

@@ -1,6 +1,6 @@
 -- How a run of guests on threads ends: what is written where, and the exit status.
-use Rattle.std.specs.Prelude.{◌≡◌, ◌⊎◌, ⊤, ℕ, suc, Bool, true, false, List, [], ◌∷◌, ◌++◌, length}
-use Rattle.std.specs.Prelude.{sum_by}
+use Rattle.std.specs.Prelude.{◌≡◌, ◌<◌, ◌⊎◌, ⊤, ℕ, suc, Bool, true, false, List, [], ◌∷◌, ◌++◌, length}
+use Rattle.std.specs.Prelude.{sum_by, All}
 use Rattle.std.specs.Prelude.{Option, Some, Result, Ok, Err, IfSome, codes}
 use Rattle.std.specs.Fmt.{decimal}
 use Rattle.std.specs.Io.KnownBytes.{Appends, Keeps}
@@ -11,8 +11,8 @@ use Rattle.vb_run.specs.declared.plan.GuestPlan.{GuestPlan}
 use Rattle.vb_run.specs.declared.plan.Plan.{Plan}
 use Rattle.vb_run.specs.declared.report.GuestReport.{GuestReport}
 use Rattle.vb_run.specs.declared.report.Report.{Report}
-use Rattle.vb_sim.specs.Ends.{Says, fault_line}
-use Rattle.vb_sim.specs.Faults.{UnlessStream, status_of}
+use Rattle.vb_sim.specs.Ends.{IsWithinBound, Says, fault_line}
+use Rattle.vb_sim.specs.Faults.{IfRead, UnlessStream, status_of}
 use Rattle.vb_sim.specs.Plans.{IsPlanOf, can_run, lacks_plan, makes_plan}
 use Rattle.vb_sim.specs.declared.fault.ProgramFault.{ProgramFault}
 use Rattle.vb_sim.specs.declared.fault.ProgramFault.TheVariants.{BadLine, BadPlan, Memory, Audit}
@@ -41,12 +41,17 @@ abbrev pub report_lines : Plan → Report → List ℕ
 report_lines plan report =
     guest_lines 0 plan.guests.items report.guests.items ++ (codes "disjoint" ++ 10 ∷ [])
 
--- a report of a run of just this plan, which can be run
+-- each frame of these guests is one of the first so many
+abbrev pub AreWithin : ℕ → List GuestReport → Type 0
+AreWithin frames reports = All (λ report. All (λ f. f < frames) report.frames.items) reports
+
+-- a report of a run of just this plan, which can be run, on the frames of its host
 pub record IsRunOf (planned : Planned) (bells : Bells) (plan : Plan) (report : Report) : Type 0
   where
     pub runs : can_run planned ≡ true
     pub plan_is : IsPlanOf planned bells plan
     pub report_is : IsReport plan report
+    pub within : AreWithin planned.frames report.guests.items
 
 -- of the plan that a text makes
 abbrev pub IsRunOfText : Result (Option Planned) ℕ → Bells → Plan → Report → Type 0
@@ -61,13 +66,18 @@ PrintsReport bells script old new =
     × Appends old new (report_lines plan report)
 
 -- Why there is no report: a bad line, which is the first; a text that makes no plan that can be
--- run; want of memory; guests that had a frame in common, of a plan that can be run; or a stream.
+-- run; want of memory; an audit that failed, of a plan that can be run; or a stream.
 abbrev pub IsThreadsFault : Result (Option Planned) ℕ → ProgramFault → Type 0
 IsThreadsFault script (BadLine number) = script ≡ Err number
 IsThreadsFault script BadPlan = lacks_plan script ≡ true
 IsThreadsFault script Memory = ⊤
 IsThreadsFault script Audit = makes_plan script ≡ true
 IsThreadsFault script Stream = ⊤
+
+-- The same of a text, which is within the bound where it has a bad line, makes no plan or was run.
+abbrev pub IsTextFault : List ℕ → ProgramFault → Type 0
+IsTextFault text fault =
+    IsThreadsFault (threads_script_of text) fault × IfRead fault (IsWithinBound text)
 
 -- the same of a plan, by whether it can be run
 abbrev pub IsPlanFault : Bool → ProgramFault → Type 0
@@ -83,9 +93,10 @@ abbrev pub ThreadsEnds : Bells → Option (List ℕ) → Option (List ℕ) → O
     → Option (List ℕ) → Option (List ℕ) → ℕ → Type 0
 ThreadsEnds bells input output written errors said status =
     ((status ≡ 0)
-    × IfSome input (λ text. PrintsReport bells (threads_script_of text) output written)
+    × IfSome input (λ text. IsWithinBound text
+    × PrintsReport bells (threads_script_of text) output written)
     × Keeps errors said)
     ⊎ ((fault : ProgramFault)
-    × IfSome input (λ text. IsThreadsFault (threads_script_of text) fault)
+    × IfSome input (λ text. IsTextFault text fault)
     × UnlessStream fault (Keeps output written)
     × Says (fault_line fault) (status_of fault) errors said status)

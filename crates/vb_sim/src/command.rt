@@ -1,6 +1,6 @@
 //! What a command line asks for, from its words to the exit status.
 
-ghost use Rattle.std.specs.Prelude.{◌≡◌, IfOk, OnOk, Some};
+ghost use Rattle.std.specs.Prelude.{◌≡◌, IfErr, IfOk, OnOk, Some};
 ghost use Rattle.std.specs.Io.KnownBytes.{Appends};
 ghost use Rattle.vb_sim.specs.Arguments.{asked_by, refusal_line, refusal_status};
 ghost use Rattle.vb_sim.specs.Ends.{Says};
@@ -32,7 +32,7 @@ where
     R: Read + Drop,
     O: Write,
     E: Write,
-    ensures { CommandEnds (asked_by words)
+    ensures { CommandEnds words
         (R.remaining input) (O.contents output.old) (O.contents output.new)
         (E.contents errors.old) (E.contents errors.new) result }
 {
@@ -45,7 +45,8 @@ where
 
 /// What the words ask for, if they could be had.
 fn ask(alloc: Global, words: Result<Vec<String>, ArgumentsFault>) -> Result<Asked, ArgumentsFault>
-    ensures { IfOk result (λ asked. asked_by words ≡ Some asked) }
+    ensures asked { IfOk result (λ asked. asked_by words ≡ Some asked) }
+    ensures given { IfErr words (λ fault. result ≡ Err fault) }
 {
     let words = words?;
     read_arguments(alloc, words.as_slice())

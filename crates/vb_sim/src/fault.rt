@@ -27,7 +27,8 @@ pub const NO_MEMORY: u8 = 3;
 /// Exit status: reading or writing failed.
 pub const BROKEN_STREAM: u8 = 4;
 
-/// Exit status: guests on threads had a frame in common at their end.
+/// Exit status: guests on threads had a frame in common at their end, or one that isn't the host's,
+/// or their report isn't the plan's.
 pub const FAILED_AUDIT: u8 = 5;
 
 /// Why a script's output isn't there, or not all of it.
@@ -40,7 +41,8 @@ pub enum ProgramFault {
     /// There was no memory before anything could run or for the lines of the replies, or guests on
     /// threads found none, or no thread could be made for one.
     Memory,
-    /// Guests on threads had a frame in common at their end, which no run meets.
+    /// Guests on threads had a frame in common at their end, or one that isn't the host's, or their
+    /// report isn't the plan's.
     Audit,
     /// Reading or writing failed, or the script is too long. Nothing is said of it.
     Stream,

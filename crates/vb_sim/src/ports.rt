@@ -1,20 +1,21 @@
 //! A run of guests on threads, each on a device of its own that leases its frames from one table.
 
-ghost use Rattle.std.specs.Prelude.{◌≡◌, ◌≤◌, true, length, MatchResult};
+ghost use Rattle.std.specs.Prelude.{◌≡◌, ◌≤◌, ◌<◌, true, length, All, MatchResult};
 ghost use Rattle.vb_run.specs.Plans.{is_plan};
 ghost use Rattle.vb_run.specs.Reports.{IsReport};
-ghost use Rattle.vb_sim.specs.Threads.{IsPlanFault};
+ghost use Rattle.vb_sim.specs.Threads.{AreWithin, IsPlanFault};
 
 use crate::fault::ProgramFault;
 use std::alloc::Global;
 use std::sync::Wait;
 use std::thread::Threads;
 use vb_device::{Device, ImmediateDevice, PacedDevice};
-use vb_run::{OpenGate, Plan, Report, add_port, plug_in, run_threads};
+use vb_run::{GuestReport, OpenGate, Plan, Report, add_port, plug_in, run_threads};
 use vb_script::Pace;
 use vb_shared::{Leased, SharedFrames};
 
-/// Runs a plan, each guest on a device of its pace in this list.
+/// Runs a plan, each guest on a device of its pace in this list. A report with a frame that isn't
+/// the host's is a failed audit.
 pub fn run_plan<T: Threads + Wait + Sync>(
     rt: &T,
     alloc: Global,
@@ -28,7 +29,7 @@ pub fn run_plan<T: Threads + Wait + Sync>(
     requires paces { length paces.now ≡ length plan.now.guests.items }
     ensures { MatchResult result
         (λ report. (is_plan plan.now (length plan.now.guests.items) ≡ true)
-        × IsReport plan.now report)
+        × IsReport plan.now report × AreWithin plan.now.frames report.guests.items)
         (λ fault. IsPlanFault (is_plan plan.now (length plan.now.guests.items)) fault) }
 {
     let (_frames, passes) = SharedFrames::open(alloc, plan.frames, paces.len() as u32)?;
@@ -56,5 +57,33 @@ pub fn run_plan<T: Threads + Wait + Sync>(
         }
     }
     let slots = plug_in(alloc, plan, ports)?;
-    Ok(run_threads(rt, alloc, plan, slots, &OpenGate)?)
+    let report = run_threads(rt, alloc, plan, slots, &OpenGate)?;
+    if !are_within(plan.frames, report.guests.as_slice()) {
+        return Err(ProgramFault::Audit);
+    }
+    Ok(report)
+}
+
+/// Whether each frame of these guests is one of the first so many.
+fn are_within(frames: u32, reports: &[GuestReport]) -> bool
+    ensures { result ≡ true → AreWithin frames reports.now }
+{
+    for report in reports {
+        if !are_below(frames, report.frames.as_slice()) {
+            return false;
+        }
+    }
+    true
+}
+
+/// Whether each of these numbers is below the first.
+fn are_below(bound: u32, numbers: &[u32]) -> bool
+    ensures { result ≡ true → All (λ n. n < bound) numbers.now }
+{
+    for number in numbers {
+        if *number >= bound {
+            return false;
+        }
+    }
+    true
 }

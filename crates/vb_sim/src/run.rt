@@ -8,7 +8,7 @@ ghost use Rattle.vb_reply.specs.Replies.{line_of};
 ghost use Rattle.std.specs.Option.{option_map};
 ghost use Rattle.vb_script.specs.Scripts.{IfBadLine as IfBadScript, said_by};
 ghost use Rattle.vb_script.specs.Texts.{begins_with_host, script_of};
-ghost use Rattle.vb_sim.specs.Ends.{Ends};
+ghost use Rattle.vb_sim.specs.Ends.{Ends, IsWithinBound};
 ghost use Rattle.vb_sim.specs.Faults.{IfBadLine, UnlessStream};
 ghost use Rattle.vb_sim.specs.Plays.{MayGet, Prints, RunsSafely};
 ghost use Rattle.vb_sim.specs.declared.fault.ProgramFault.TheVariants.{Memory as NoMemory, Stream};
@@ -66,10 +66,10 @@ fn answer<P: Play, R: Read + Drop, O: Write>(
     input: R,
     output: &mut O,
 ) -> Result<(), ProgramFault>
-    ensures ok { OnOk result (IfSome (R.remaining input) (λ text.
-        Prints P.played (script_of text) (O.contents output.old) (O.contents output.new))) }
-    ensures bad { IfErr result (λ fault. IfBadLine fault
-        (λ number. IfSome (R.remaining input) (λ text. script_of text ≡ Err number))) }
+    ensures ok { OnOk result (IfSome (R.remaining input) (λ text. IsWithinBound text
+        × Prints P.played (script_of text) (O.contents output.old) (O.contents output.new))) }
+    ensures bad { IfErr result (λ fault. IfBadLine fault (λ number. IfSome (R.remaining input)
+        (λ text. IsWithinBound text × (script_of text ≡ Err number)))) }
     ensures nothing { IfErr result
         (λ fault. UnlessStream fault (Keeps (O.contents output.old) (O.contents output.new))) }
 {

@@ -5,8 +5,9 @@ ghost use Rattle.std.specs.Io.KnownBytes.{Keeps};
 ghost use Rattle.std.specs.Option.{option_map};
 ghost use Rattle.vb_script.specs.Plans.{planned_by, threads_script_of};
 ghost use Rattle.vb_script.specs.Scripts.{IfBadLine as IfBadScript};
+ghost use Rattle.vb_sim.specs.Ends.{IsWithinBound};
 ghost use Rattle.vb_sim.specs.Faults.{UnlessStream};
-ghost use Rattle.vb_sim.specs.Threads.{IsRunOf, IsRunOfText, IsThreadsFault};
+ghost use Rattle.vb_sim.specs.Threads.{IsRunOf, IsRunOfText, IsTextFault, IsThreadsFault};
 ghost use Rattle.vb_sim.specs.Threads.{PrintsReport, ThreadsEnds};
 
 use crate::fault::{ProgramFault, SUCCESS, report};
@@ -55,11 +56,11 @@ fn answer<T: Threads + Wait + Sync, R: Read + Drop, O: Write>(
     input: R,
     output: &mut O,
 ) -> Result<(), ProgramFault>
-    ensures ok { OnOk result (IfSome (R.remaining input) (λ text.
-        PrintsReport bells (threads_script_of text) (O.contents output.old)
+    ensures ok { OnOk result (IfSome (R.remaining input) (λ text. IsWithinBound text
+        × PrintsReport bells (threads_script_of text) (O.contents output.old)
         (O.contents output.new))) }
     ensures fault { IfErr result (λ fault. IfSome (R.remaining input)
-        (λ text. IsThreadsFault (threads_script_of text) fault)) }
+        (λ text. IsTextFault text fault)) }
     ensures nothing { IfErr result
         (λ fault. UnlessStream fault (Keeps (O.contents output.old) (O.contents output.new))) }
 {

@@ -372,6 +372,19 @@ fn the_first_bad_line_is_named(rt: HostRuntime) {
     }
 }
 
+/// How long a comment is, what is said of a script that has it alone, and the exit statuses.
+static LENGTHS: [(usize, &str, u8); 2] = [(67_108_864, "run: bad plan\n", 1), (67_108_865, "", 4)];
+
+#[test]
+fn a_byte_too_many_is_status_4(rt: HostRuntime) -> Result<(), AllocError> {
+    for (length, errors, status) in &LENGTHS {
+        let script = vec![in rt.alloc(); b'#'; *length]?;
+        let outcome = run(&rt, rt.alloc(), Bells::Plain, script.as_slice());
+        assert!(rt; outcome.shows(b"", errors.as_bytes(), *status));
+    }
+    Ok(())
+}
+
 /// A reader that fails.
 #[derive(Drop)]
 struct Broken {

@@ -1,5 +1,6 @@
 use Rattle.std.proofs.Common.{rules, ◌≡◌, Err, ◌∙◌, sym, Result, MatchResult, subst}
 use Rattle.vb_script.specs.Plans.{planned_by}
+use Rattle.vb_sim.specs.Threads.{AreWithin}
 use Rattle.vb_sim.proofs.Planning.{fault_of_plan, plans_alike}
 use Rattle.vb_sim.proofs.threads.run_planned.Goals as goal
 
@@ -20,4 +21,6 @@ returns g c =
           ∙ c.in_ok-report.ensures.0;
       plan_is = is;
       report_is = c.in_ok-report.ensures.1;
+      within = subst (λ n. AreWithin n c.in_ok-report.report.guests.items) is.frames
+          c.in_ok-report.ensures.2;
     }
