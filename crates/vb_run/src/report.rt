@@ -38,7 +38,7 @@ pub enum RunFault {
     #[error("bad plan")]
     BadPlan,
     /// Two guests have one frame, which ports of two tables of frames bring about; or what the
-    /// locks kept isn't the plan's or the rounds', which no run meets.
+    /// locks kept isn't the plan's or the rounds', which no test met.
     #[error("audit")]
     Audit,
 }
