@@ -22,8 +22,6 @@ mod runs;
 mod settings;
 mod statistics;
 mod status;
-#[cfg(test)]
-mod tests;
 mod using;
 
 pub use asked::read_chain_into;

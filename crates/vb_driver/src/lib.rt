@@ -13,8 +13,6 @@ mod reporting;
 mod reports;
 mod requests;
 mod statistics;
-#[cfg(test)]
-mod tests;
 
 pub use answers::{Posted, Reaped};
 pub use driver::Driver;

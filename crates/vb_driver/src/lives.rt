@@ -8,7 +8,7 @@ ghost use Rattle.vb_ram.specs.Pages.{byte_at};
 ghost use Rattle.vb_status.specs.After.{part_after_reset, with_new_queues};
 ghost use Rattle.vb_status.specs.Answers.{refusal_of_fault};
 ghost use Rattle.vb_status.specs.Bits.{feature_bits};
-ghost use Rattle.vb_driver.specs.Answers.{HaveRingFrames, IsLargeEnough};
+ghost use Rattle.vb_driver.specs.Answers.{HaveRingFrames, IsLargeEnough, has_frames};
 ghost use Rattle.vb_driver.specs.State.{IsDriver, fresh_driver, fresh_statistics};
 ghost use Rattle.vb_driver.specs.Calls.{IsNewRing, FirstBuffer, InitsBy, NegotiatesBy, ResetsBy};
 ghost use Rattle.vb_driver.specs.Calls.{with_nothing_out};
@@ -19,6 +19,7 @@ use crate::reaping::give_up;
 use bitflags::Flags;
 use vb_model::Refusal;
 use vb_model::layout::{DEFLATE_QUEUE, INFLATE_QUEUE};
+use vb_ram::GuestBytes;
 use vb_status::{Features, Port, Status, StatusFault};
 
 /// A refusal in the words of the driver's calls.
@@ -100,6 +101,19 @@ impl Driver {
         self.fill_first(port);
         let ready = port.status().union(Status::DRIVER_OK);
         let _ = port.write_status(ready);
+    }
+
+    /// Whether all pages of rings and buffers have frames: `init` wants it, and of a device that is up
+    /// so do the calls that post. One byte of each such page is written in its own place; nothing is
+    /// changed.
+    pub fn has_frames<G: GuestBytes>(&self, memory: &mut G) -> bool
+        requires { IsLargeEnough (G.mem memory.old) }
+        ensures value { result ≡ has_frames self.now.queue_size (G.mem memory.old) }
+        ensures backed { result ≡ true → HaveRingFrames self.now.queue_size (G.mem memory.old) }
+        ensures mem { G.mem memory.new ≡ G.mem memory.old }
+        ensures part { G.part memory.new ≡ G.part memory.old }
+    {
+        all_backed(memory, self.config.shape())
     }
 
     /// Initialises the device with these features (VIRTIO 1.1, 3.1.1 and 5.5.5): the rings' pages

@@ -13,8 +13,6 @@ mod held;
 mod lists;
 mod pages;
 mod table;
-#[cfg(test)]
-mod tests;
 
 pub use block::FreeBlock;
 pub use fault::PageFault;

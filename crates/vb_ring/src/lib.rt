@@ -17,6 +17,3 @@ pub use laws::{
     single_heads_stay_low, zeroed_pages_show_nothing,
 };
 pub use layout::{Layout, MAX_QUEUE_SIZE, MIN_QUEUE_SIZE, RingArea};
-
-#[cfg(test)]
-mod tests;

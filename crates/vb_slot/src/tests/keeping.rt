@@ -32,6 +32,13 @@ fn take_away(numbers: &mut Vec<u32>, number: u32)
     numbers.retain(|other| *other != number);
 }
 
+/// No numbers, and room for so many.
+fn room_for(alloc: Global, limit: u32) -> Result<Vec<u32>, AllocError>
+    ensures { IfOk result (λ numbers. (numbers.items ≡ []) × (limit ≤ vec_capacity numbers)) }
+{
+    Vec::with_capacity(alloc, limit as usize)
+}
+
 /// The frames of a device, by their numbers from 0 on.
 #[derive(Drop)]
 struct Pool {
@@ -52,19 +59,28 @@ struct Pool {
 }
 
 impl Pool {
-    /// All frames of a device that has so many: none is out.
-    fn new(alloc: Global, limit: u32) -> Result<Pool, AllocError>
-        ensures { IfOk result (λ pool. pool.out.items ≡ []) }
+    /// All frames of a device that has so many, with room for their numbers: none is out.
+    fn of(alloc: Global, limit: u32, out: Vec<u32>, free: Vec<u32>) -> Pool
+        requires empty { (out.items ≡ []) × (free.items ≡ []) }
+        requires room { (limit ≤ vec_capacity out) × (limit ≤ vec_capacity free) }
+        ensures { result.out.items ≡ [] }
     {
-        let out = Vec::with_capacity(alloc, limit as usize)?;
-        let free = Vec::with_capacity(alloc, limit as usize)?;
-        Ok(Pool {
+        Pool {
             alloc,
             next: 0,
             limit,
             out,
             free,
-        })
+        }
+    }
+
+    /// All frames of a device that has so many: none is out.
+    fn new(alloc: Global, limit: u32) -> Result<Pool, AllocError>
+        ensures { IfOk result (λ pool. pool.out.items ≡ []) }
+    {
+        let out = room_for(alloc, limit)?;
+        let free = room_for(alloc, limit)?;
+        Ok(Pool::of(alloc, limit, out, free))
     }
 
     /// Gives out a frame that was never given out.

@@ -69,22 +69,29 @@ static NO_FRAMES: [Row; 5] = [
     (Step::Read(16), Answer::Bytes([0, 0, 0, 0]), &[]),
 ];
 
-/// The call that a step makes; none where it asks, or isn't for such a guest.
-fn call_at(rt: &impl Abort, alloc: Global, step: Step) -> Option<Call> {
-    match step {
-        Step::Init => Some(Call::Init { features: FEATURES }),
-        Step::Write(page) => Some(Call::Write {
-            page,
-            offset: 0,
-            bytes: two_bytes(rt, alloc),
-        }),
-        Step::Read(page) => Some(Call::Read {
-            page,
-            offset: 0,
-            len: 4,
-        }),
-        Step::Do(plain) => Some(call_of(plain)),
-        _ => None,
+/// What a call is answered.
+fn make(alloc: Global, slot: &mut LoneSlot, call: Call) -> Answer
+    requires { (g : Guest) × ⟦<LoneSlot as GuestSlot>⟧.stands slot.old g }
+    ensures { (g : Guest) × ⟦<LoneSlot as GuestSlot>⟧.stands slot.new g }
+{
+    answer_of(&slot.call(alloc, &call))
+}
+
+/// The call that writes two bytes to the beginning of a page.
+fn write_at(rt: &impl Abort, alloc: Global, page: u32) -> Call {
+    Call::Write {
+        page,
+        offset: 0,
+        bytes: two_bytes(rt, alloc),
+    }
+}
+
+/// The call that reads four bytes from there.
+fn read_at(page: u32) -> Call {
+    Call::Read {
+        page,
+        offset: 0,
+        len: 4,
     }
 }
 
@@ -106,9 +113,12 @@ fn play_step(rt: &impl Abort, alloc: Global, slot: &mut LoneSlot, step: Step) ->
     requires { (g : Guest) × ⟦<LoneSlot as GuestSlot>⟧.stands slot.old g }
     ensures { (g : Guest) × ⟦<LoneSlot as GuestSlot>⟧.stands slot.new g }
 {
-    match call_at(rt, alloc, step) {
-        Some(call) => answer_of(&slot.call(alloc, &call)),
-        None => ask(alloc, slot, step),
+    match step {
+        Step::Init => make(alloc, slot, Call::Init { features: FEATURES }),
+        Step::Write(page) => make(alloc, slot, write_at(rt, alloc, page)),
+        Step::Read(page) => make(alloc, slot, read_at(page)),
+        Step::Do(plain) => make(alloc, slot, call_of(plain)),
+        _ => ask(alloc, slot, step),
     }
 }
 

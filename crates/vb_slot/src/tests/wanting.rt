@@ -77,7 +77,7 @@ fn has_no_frames(slot: &Slot) -> bool {
 }
 
 /// The driver initialises the device.
-fn init(slot: &mut Slot, keeper: &mut Wanting) -> Result<(), Refusal>
+fn init<K: FrameKeeper>(slot: &mut Slot, keeper: &mut K) -> Result<(), Refusal>
     requires { (keeps : Bool) × (g : Guest) × stands_for keeps mem part slot.old g }
     ensures { (keeps : Bool) × (g : Guest) × stands_for keeps mem part slot.new g }
 {
@@ -85,7 +85,12 @@ fn init(slot: &mut Slot, keeper: &mut Wanting) -> Result<(), Refusal>
 }
 
 /// Bytes are written to page 16, which an allocation holds, or past the driver.
-fn put(slot: &mut Slot, keeper: &mut Wanting, held: bool, bytes: &Bytes) -> Result<(), Refusal>
+fn put<K: FrameKeeper>(
+    slot: &mut Slot,
+    keeper: &mut K,
+    held: bool,
+    bytes: &Bytes,
+) -> Result<(), Refusal>
     requires { (keeps : Bool) × (g : Guest) × stands_for keeps mem part slot.old g }
     ensures { (keeps : Bool) × (g : Guest) × stands_for keeps mem part slot.new g }
 {

@@ -5,7 +5,6 @@ ghost use Rattle.vb_pages.specs.PageState.{IsGuestSize};
 mod sizes;
 mod walk;
 
-use crate::{FreeBlock, PageFault, Pages};
 use Answer::{Block, Count, Done, Is, NoBlock, Page, Refused, Three, Words};
 use PageFault::{BadCpu, BadOrder, NoPages, NotHeld};
 use Step::{Alloc, Bits, Free, FreeCount, Held, Isolate, Renew, TakeThree};
@@ -13,6 +12,7 @@ use arrayvec::ArrayVec;
 use std::alloc::{AllocError, Global};
 use std::test::Fail;
 use vb_model::limits::MAX_ORDER;
+use vb_pages::{FreeBlock, PageFault, Pages};
 
 /// One call of an example.
 enum Step {

@@ -4,11 +4,11 @@
 mod order;
 mod random_rings;
 
-use crate::{DriverRing, Full, Layout, Queue, RingArea, RingBroken, Taken};
 use std::alloc::Global;
 use std::process::Abort;
 use vb_chain::{ChainFault, Piece};
 use vb_ram::{Frame, GuestBytes, Ram, RamFault};
+use vb_ring::{DriverRing, Full, Layout, Queue, RingArea, RingBroken, Taken};
 
 /// A request of four page numbers.
 const REQUEST: Piece = Piece {

@@ -2,7 +2,6 @@
 
 ghost use Rattle.vb_pages.specs.PageState.{IsGuestSize};
 
-use crate::{PageFault, Pages};
 use arrayvec::ArrayVec;
 use rand_core::Rng;
 use rand_pcg::Pcg32;
@@ -10,6 +9,7 @@ use std::alloc::{AllocError, Global};
 use std::collections::BTreeSet;
 use std::process::Abort;
 use std::test::Fail;
+use vb_pages::{PageFault, Pages};
 
 /// A number below this one, or 0.
 fn below(numbers: &mut Pcg32, end: u32) -> u32 {

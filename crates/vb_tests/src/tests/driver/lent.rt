@@ -5,11 +5,9 @@ ghost use Rattle.std.specs.Prelude.{◌≡◌, true};
 ghost use Rattle.vb_model.specs.Limits.{is_config};
 
 use super::{ALL, Answer, Guest, Request, Table, small_queues};
-use crate::Driver;
-use crate::places::PlaceTable;
 use std::alloc::Global;
 use std::process::Abort;
-use std::test::Fail;
+use vb_driver::Driver;
 use vb_model::{Place, Refusal};
 use vb_status::Port;
 
@@ -331,43 +329,42 @@ fn has_many_words_of_lent_pages(rt: HostRuntime) {
     expect(&rt, rt.alloc(), 16_384, 256, &MANY_WORDS);
 }
 
-/// A page that moves to a place, and the words of lent pages then.
-type Move = (u32, Place, [u64; 2]);
+/// Pages 64 and 96 to 111, of which the last one is the last of all.
+const LAST_PART: &[(usize, u64)] = &[(1, 0xffff_0000_0001)];
 
-/// The last word of 100 pages has bits for 36 of them.
-static MOVES: [Move; 11] = [
-    (16, Place::Lent, [0x0001_0000, 0]),
-    (63, Place::Lent, [0x8000_0000_0001_0000, 0]),
-    (99, Place::Lent, [0x8000_0000_0001_0000, 0x0008_0000_0000]),
-    (64, Place::Lent, [0x8000_0000_0001_0000, 0x0008_0000_0001]),
-    (64, Place::Lent, [0x8000_0000_0001_0000, 0x0008_0000_0001]),
-    (63, Place::Taking, [0x0001_0000, 0x0008_0000_0001]),
-    (99, Place::Stranded, [0x0001_0000, 1]),
-    (98, Place::Giving, [0x0001_0000, 1]),
-    (99, Place::Lent, [0x0001_0000, 0x0008_0000_0001]),
-    (16, Place::Stranded, [0, 0x0008_0000_0001]),
-    (64, Place::Free, [0, 0x0008_0000_0000]),
+/// The last word of 112 pages has bits for 48 of them. The smallest free blocks are pages 16 to 31
+/// and 96 to 111.
+static A_WORD_IN_PART: [Line; 18] = [
+    (Step::Init(96), &[]),
+    (Step::Inflate(16), &[]),
+    (Step::Reap(0, 1), &[(0, 0xffff_0000)]),
+    (Step::Inflate(16), &[(0, 0xffff_0000)]),
+    (Step::Reap(0, 2), &[(0, 0xffff_0000), (1, 0xffff_0000_0000)]),
+    (
+        Step::Inflate(33),
+        &[(0, 0xffff_0000), (1, 0xffff_0000_0000)],
+    ),
+    (
+        Step::Reap(0, 3),
+        &[(0, ALL_UNRESERVED), (1, 0xffff_0000_0001)],
+    ),
+    (
+        Step::SetTarget(0),
+        &[(0, ALL_UNRESERVED), (1, 0xffff_0000_0001)],
+    ),
+    (Step::Deflate(48), LAST_PART),
+    (Step::Reap(1, 1), LAST_PART),
+    (Step::Deflate(16), &[(1, 0x8000_0000_0000)]),
+    (Step::Reap(1, 2), &[(1, 0x8000_0000_0000)]),
+    (Step::Reset, &[]),
+    (Step::Init(0), &[]),
+    (Step::Inflate(1), &[]),
+    (Step::Reap(0, 1), &[(1, 0x8000_0000_0000)]),
+    (Step::Restart, &[]),
+    (Step::Init(0), &[]),
 ];
 
-/// The number of the first move after which other pages are lent.
-fn first_wrong_move(table: &mut PlaceTable, moves: &[Move]) -> Option<usize> {
-    for at in 0..moves.len() {
-        let (page, place, wanted) = moves[at];
-        if page >= table.pages() {
-            return Some(at);
-        }
-        table.set(page, place);
-        let words = table.lent_bits();
-        if words.len() != 2 || words[0] != wanted[0] || words[1] != wanted[1] {
-            return Some(at);
-        }
-    }
-    None
-}
-
 #[test]
-fn has_a_last_word_in_part(rt: HostRuntime) -> Result<(), Fail> {
-    let mut table = PlaceTable::new(rt.alloc(), 100, 16)?;
-    assert_eq!(rt; first_wrong_move(&mut table, &MOVES), None);
-    Ok(())
+fn has_a_last_word_in_part(rt: HostRuntime) {
+    expect(&rt, rt.alloc(), 112, 2, &A_WORD_IN_PART);
 }

@@ -2,10 +2,10 @@
 //! does (VIRTIO 1.1, 2.6.8 and 2.6.13).
 
 use super::{FIRST_BLOCK, SECOND_BLOCK, memory, ready_queue};
-use crate::{DriverRing, Queue};
 use arrayvec::ArrayVec;
 use std::test::Fail;
 use vb_ram::{GuestBytes, Ram, RamFault};
+use vb_ring::{DriverRing, Queue};
 
 /// Memory that keeps at which offsets it was written, in order.
 #[derive(Drop)]

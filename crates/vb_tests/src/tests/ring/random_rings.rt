@@ -4,7 +4,6 @@
 ghost use Rattle.std.specs.Prelude.{◌<◌, ◌≤◌};
 
 use super::{Ends, both_ends, pop};
-use crate::Taken;
 use byteorder::{ByteOrder, LittleEndian};
 use rand_core::Rng;
 use rand_pcg::Pcg32;
@@ -12,6 +11,7 @@ use std::alloc::Global;
 use std::process::Abort;
 use vb_chain::{ChainFault, Piece};
 use vb_ram::GuestBytes;
+use vb_ring::Taken;
 
 /// A number below this one, or 0.
 fn below(numbers: &mut Pcg32, end: u32) -> u32 {

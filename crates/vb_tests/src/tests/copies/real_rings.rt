@@ -2,7 +2,7 @@
 //! descriptors a queue, and of one of QEMU, with 128. What each chain gives is what the drivers
 //! meant.
 
-use crate::Kind;
+use vb_core::Kind;
 
 /// A queue's ring at the moment when its driver told the device.
 pub(super) struct RealRing {

@@ -5,10 +5,10 @@ ghost use Rattle.vb_pages.specs.PageState.{IsGuestSize};
 use super::Answer::{Block, Count, Done, Is, NoBlock, Page, Refused, Words};
 use super::Step::{Alloc, Bits, Free, FreeCount, Held, Isolate, Renew};
 use super::{Answer, Step, first_wrong_line};
-use crate::PageFault::{BadCpu, NoPages};
-use crate::Pages;
 use std::alloc::{AllocError, Global};
 use std::test::Fail;
+use vb_pages::PageFault::{BadCpu, NoPages};
+use vb_pages::Pages;
 
 /// The smallest block comes first, and no block goes past the pages.
 const THIRTY_TWO_RESERVED: [(Step, Answer); 20] = [

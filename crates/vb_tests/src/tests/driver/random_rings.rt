@@ -1,8 +1,7 @@
 //! Used rings of random bytes: a driver answers as a second reading of the same bytes has it, which
 //! is written from the rules alone.
 
-use super::{ALL, Answer, Guest, Step, Table, small_queues};
-use crate::requests::is_up;
+use super::{ALL, Answer, Guest, Step, Table, is_up, small_queues};
 use bitflags::Flags;
 use byteorder::{ByteOrder, LittleEndian};
 use rand_core::Rng;

@@ -3,6 +3,7 @@
 
 ghost use Rattle.std.specs.Prelude.{◌≡◌, true};
 ghost use Rattle.vb_model.specs.Limits.{is_config};
+ghost use Rattle.vb_model.specs.Tables.{is_up};
 
 mod blocks;
 mod lent;
@@ -15,16 +16,14 @@ mod sizes;
 mod statistics;
 mod untold;
 
-use crate::memory::all_backed;
-use crate::requests::is_up;
-use crate::{Driver, Posted, Reaped};
 use bitflags::Flags;
 use order_of_writes::{Awaited, Deed, Recorder};
 use std::alloc::Global;
 use std::process::Abort;
+use vb_driver::{Driver, Posted, Reaped};
 use vb_model::{Place, PlaceCounts, Refusal};
 use vb_ram::{Config, Frame, GuestBytes, Ram};
-use vb_status::{Features, MemoryPort, Port};
+use vb_status::{Features, MemoryPort, Port, Status};
 
 /// What is done with a guest.
 #[derive(Clone, Copy)]
@@ -161,6 +160,15 @@ fn driver_of(rt: &impl Abort, alloc: Global, config: Config) -> Driver
     driver
 }
 
+/// Whether the device is initialised, and neither it nor its driver has failed.
+fn is_up<P: Port>(port: &P) -> bool
+    ensures { result ≡ is_up (P.part port.now).status }
+{
+    let status = port.status();
+    status.contains(Status::DRIVER_OK)
+        && !(status.contains(Status::DEVICE_NEEDS_RESET) || status.contains(Status::FAILED))
+}
+
 /// A call that posts a request.
 #[derive(Clone, Copy)]
 enum Request {
@@ -251,8 +259,7 @@ impl Guest {
     /// Posts a request for so many pages, or a report from a page on; a device that is up needs
     /// frames for its rings and buffers.
     fn post(&mut self, request: Request, pages: u32) -> Result<Answer, Refusal> {
-        let shape = self.driver.shape();
-        if self.port.pages() < 64 || is_up(&self.port) && !all_backed(&mut self.port, shape) {
+        if self.port.pages() < 64 || is_up(&self.port) && !self.driver.has_frames(&mut self.port) {
             return Err(Refusal::OutOfRam);
         }
         let Posted { head, pages } = match request {
@@ -275,8 +282,7 @@ impl Guest {
     }
 
     fn stats(&mut self) -> Result<Answer, Refusal> {
-        let shape = self.driver.shape();
-        if self.port.pages() < 64 || is_up(&self.port) && !all_backed(&mut self.port, shape) {
+        if self.port.pages() < 64 || is_up(&self.port) && !self.driver.has_frames(&mut self.port) {
             return Err(Refusal::OutOfRam);
         }
         Ok(Answer::Is(self.driver.stats(&mut self.port)?))

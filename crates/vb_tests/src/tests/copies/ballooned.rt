@@ -1,7 +1,7 @@
 //! Calls on one set of four words, one after the other, and what they answer.
 
-use crate::{Denial, Kind, Run, count_ballooned, is_ballooned, mark};
 use std::process::Abort;
+use vb_core::{Denial, Kind, Run, count_ballooned, is_ballooned, mark};
 
 /// A call, and what it answers.
 struct Row {

@@ -3,11 +3,11 @@
 mod ballooned;
 mod real_rings;
 
-use crate::{Buffer, Denial, Device, Kind, Ring, Run, Settings, Statistic};
 use bitflags::Flags;
 use real_rings::{RINGS, RealRing};
 use std::process::Abort;
 use vb_chain::ChainFault;
+use vb_core::{Buffer, Denial, Device, Kind, Ring, Run, Settings, Statistic};
 use vb_status::Features;
 
 /// A guest of 512 MiB, and all features.
@@ -41,7 +41,12 @@ fn ready(settings: Settings, kind: Kind, ring: Ring) -> Device {
     let mut device = Device::new(settings);
     device.features = settings.offered;
     device.status = 15;
-    device.set_ring(kind, ring);
+    match kind {
+        Kind::Inflate => device.inflate = ring,
+        Kind::Deflate => device.deflate = ring,
+        Kind::Statistics => device.statistics = ring,
+        Kind::Report => device.report = ring,
+    }
     device
 }
 
