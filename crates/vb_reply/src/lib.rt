@@ -6,7 +6,5 @@
 
 mod held;
 mod replies;
-#[cfg(test)]
-mod tests;
 
 pub use replies::{write_replies, write_reply};

@@ -12,3 +12,4 @@ mod EntryFacts
 mod ServiceFacts
 mod ReportFacts
 mod StartFacts
+mod MadeFacts

@@ -13,8 +13,6 @@ mod names;
 mod plans;
 mod reading;
 mod script;
-#[cfg(test)]
-mod tests;
 mod texts;
 mod threads;
 mod values;

@@ -3,4 +3,6 @@
 mod copies;
 mod driver;
 mod pages;
+mod reply;
 mod ring;
+mod script;

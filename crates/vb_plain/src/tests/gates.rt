@@ -184,12 +184,16 @@ impl Row {
 
     /// Whether each hold is met, and there is a report.
     fn is_run<R: Threads + Wait + Sync>(&self, rt: &R, alloc: Global) -> Result<bool, AllocError> {
-        let ended = self.run(rt, alloc)?;
-        match &ended {
-            Some(ended) => Ok(ended.result.is_ok() && ended.is_clean()),
+        match self.run(rt, alloc)? {
+            Some(ended) => Ok(has_report(&ended)),
             None => Ok(false),
         }
     }
+}
+
+/// Whether there is a report, and no frame is out afterwards.
+fn has_report(ended: &Ended) -> bool {
+    ended.result.is_ok() && ended.is_clean()
 }
 
 /// Whether the pages are offered, and reaped, by the calls of the script.

@@ -186,24 +186,58 @@ fn is_script(
     Ok(made.as_slice() == said.as_slice() && calls.len() == replies.len())
 }
 
-/// Whether what each processor called and was replied is its script with the reported replies.
+/// The script of a processor.
+fn script_in(plan: &GuestPlan, cpu: u32) -> &[Call] {
+    match plan.scripts.get(cpu as usize) {
+        Some(calls) => calls.as_slice(),
+        None => &[],
+    }
+}
+
+/// What a processor was replied.
+fn replies_in(report: &GuestReport, cpu: u32) -> &[Reply] {
+    match report.replies.get(cpu as usize) {
+        Some(replies) => replies.as_slice(),
+        None => &[],
+    }
+}
+
+/// Whether what a processor called and was replied is its script with the reported replies.
+fn is_script_of(
+    alloc: Global,
+    rows: &[Row<'_>],
+    report: &GuestReport,
+    case: &Case<'_>,
+    cpu: u32,
+) -> Result<bool, AllocError> {
+    let actor = Actor::Processor {
+        guest: case.guest,
+        cpu,
+    };
+    is_script(
+        alloc,
+        rows,
+        actor,
+        script_in(case.plan, cpu),
+        replies_in(report, cpu),
+    )
+}
+
+/// Whether it is so of each processor, and there are no other scripts and replies.
 fn are_scripts(
     alloc: Global,
     rows: &[Row<'_>],
     report: &GuestReport,
     case: &Case<'_>,
 ) -> Result<bool, AllocError> {
-    let guest = case.guest;
-    let scripts = case.plan.scripts.as_slice();
-    let mut cpu = 0u32;
-    for (calls, replies) in scripts.iter().zip(report.replies.iter()) {
-        let actor = Actor::Processor { guest, cpu };
-        if !is_script(alloc, rows, actor, calls.as_slice(), replies.as_slice())? {
+    let processors = case.plan.config.processors;
+    for cpu in 0..processors {
+        if !is_script_of(alloc, rows, report, case, cpu)? {
             return Ok(false);
         }
-        cpu = cpu.saturating_add(1);
     }
-    Ok(scripts.len() == report.replies.len())
+    let count = processors as usize;
+    Ok(case.plan.scripts.len() == count && report.replies.len() == count)
 }
 
 /// What the rounds do at the guest: a look each, and the target that it got.

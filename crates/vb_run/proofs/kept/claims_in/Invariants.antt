@@ -1,5 +1,5 @@
-use Rattle.std.proofs.Common.{◌≡◌, ◌≤◌, length, take}
-use Rattle.std.specs.Prelude.{vec_capacity, vec_len}
+use Rattle.std.proofs.Common.{◌≡◌, ◌≤◌, take}
+use Rattle.std.specs.Prelude.{vec_capacity}
 use Rattle.vb_run.proofs.kept.claims_in.Given as goal
 
 abbrev pub invariant-loop-claim : goal.invariant-loop-claim

@@ -1,4 +1,4 @@
-use Rattle.std.proofs.Common.{◌≡◌, true, drop}
+use Rattle.std.proofs.Common.{◌≡◌, drop}
 use Rattle.vb_run.specs.Plans.{are_scripts}
 use Rattle.vb_run.proofs.plan.are_scripts.Given as goal
 

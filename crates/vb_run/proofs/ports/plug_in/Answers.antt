@@ -1,4 +1,4 @@
-use Rattle.std.proofs.Common.{rules, sym}
+use Rattle.std.proofs.Common.{sym}
 use Rattle.vb_run.proofs.ports.plug_in.Goals as goal
 
 pub returns-clause-fresh : goal.returns-clause-fresh

@@ -1,4 +1,4 @@
-use Rattle.std.proofs.Common.{rules, ◌≡◌, ◌∷◌, [], ◌++◌, ◌+◌, All, Some, slice_get, ap, ◌∙◌, length, arith, sym, drop}
+use Rattle.std.proofs.Common.{rules, ◌≡◌, ◌∷◌, [], ◌++◌, Some, slice_get, ap, ◌∙◌, length, sym, drop}
 use Rattle.std.proofs.lemmas.Option.{slice_get-get_or}
 use Rattle.vb_slot.specs.Spare.{IsNew}
 use Rattle.vb_slot.specs.contracts.lone.LoneSlotGuestSlot.TheImpl.{ghosts}

@@ -1,8 +1,5 @@
-use Rattle.std.proofs.Common.{rules, ◌≡◌, Some, slice_get, [], ◌∷◌, ◌++◌, sym, ◌∙◌, subst}
+use Rattle.std.proofs.Common.{rules, ◌≡◌, [], ◌∷◌, ◌++◌, sym, ◌∙◌}
 use Rattle.std.proofs.lemmas.Option.{get_or_from_slice_get}
-use Rattle.vb_run.specs.declared.plan.GuestPlan.{GuestPlan}
-use Rattle.vb_run.specs.Reports.{IsGuestReport}
-use Rattle.vb_run.proofs.Lists.{each_push}
 use Rattle.vb_run.proofs.Starting.{swapped}
 use Rattle.vb_run.proofs.run.reports_of.Goals as goal
 

@@ -1,4 +1,3 @@
-use Rattle.std.proofs.Common.{rules, sym}
 use Rattle.vb_run.proofs.Starting.{guest_parts}
 use Rattle.vb_run.proofs.run.seat_of.Goals as goal
 

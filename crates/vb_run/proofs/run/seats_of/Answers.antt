@@ -1,4 +1,4 @@
-use Rattle.std.proofs.Common.{rules, ◌≡◌, ◌∷◌, Some, slice_get, get_or, ap, ◌∙◌, sym, drop, ◌+◌}
+use Rattle.std.proofs.Common.{rules, ◌≡◌, ◌∷◌, Some, slice_get, ap, ◌∙◌, sym, drop}
 use Rattle.std.proofs.lemmas.Option.{slice_get-get_or}
 use Rattle.vb_run.specs.Plans.{is_guest_plan}
 use Rattle.vb_run.proofs.Lists.{passes_at}

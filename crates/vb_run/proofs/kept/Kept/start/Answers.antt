@@ -1,4 +1,3 @@
-use Rattle.std.proofs.Common.{refl}
 use Rattle.vb_run.proofs.Keeping.{kept_start}
 use Rattle.vb_run.proofs.kept.Kept.start.Goals as goal
 

@@ -1,11 +1,8 @@
 //! Each line of the format, and each way to be none.
 
-use crate::events::event;
-use crate::lines::{LineFault, Pace, host, spare};
-use crate::values::{features, number};
-use crate::words::Words;
-use std::alloc::Global;
+use std::alloc::{AllocError, Global};
 use vb_model::{Call, Event, Place, Query};
+use vb_script::{Pace, Script, ScriptFault, parse};
 
 /// Lines of events, each with its numbers in order, and its bytes. Numbers that a line lacks are 0.
 static EVENTS: [(&str, [u32; 4], &[u8]); 24] = [
@@ -107,7 +104,7 @@ fn shown_small(call: &Call) -> (&'static str, u32) {
 
 /// Whether a line was read to an event that shows these numbers and bytes.
 fn shows(
-    found: Result<Event, LineFault>,
+    found: Result<Event, ScriptFault>,
     line: &str,
     expected: [u32; 4],
     expected_bytes: &[u8],
@@ -121,16 +118,42 @@ fn shows(
     }
 }
 
-/// The event of a line.
-fn event_of(alloc: Global, line: &[u8]) -> Result<Event, LineFault> {
-    let mut words = Words::of(line);
-    let word = words.next().ok_or(LineFault::Bad)?;
-    event(alloc, word, &mut words)
+/// A text of two lines: a host of one frame, and this one, which begins so and ends so.
+fn text_of(alloc: Global, start: &[u8], end: &[u8]) -> Result<Vec<u8>, AllocError> {
+    let mut text = Vec::from_slice(alloc, b"host 1\n")?;
+    text.extend_from_slice(start)?;
+    text.extend_from_slice(end)?;
+    Ok(text)
 }
 
-/// Whether what a line was read to is a fault of the line.
-fn is_bad(found: Result<Event, LineFault>) -> bool {
-    matches!(found, Err(LineFault::Bad))
+/// What a script has that begins so and has this end, or its fault.
+fn script_of(alloc: Global, start: &[u8], end: &[u8]) -> Result<Option<Script>, ScriptFault> {
+    match text_of(alloc, start, end) {
+        Ok(text) => parse(alloc, text.as_slice()),
+        Err(_) => Err(ScriptFault::Memory),
+    }
+}
+
+/// The last event of a script.
+fn last_event(script: Script) -> Result<Event, ScriptFault> {
+    let mut events = script.events;
+    match events.pop() {
+        Some(event) => Ok(event),
+        None => Err(ScriptFault::BadLine(0)),
+    }
+}
+
+/// The event of a line.
+fn event_of(alloc: Global, line: &[u8]) -> Result<Event, ScriptFault> {
+    match script_of(alloc, line, b"")? {
+        Some(script) => last_event(script),
+        None => Err(ScriptFault::BadLine(0)),
+    }
+}
+
+/// Whether the second line is bad.
+fn is_bad(found: Result<Event, ScriptFault>) -> bool {
+    matches!(found, Err(ScriptFault::BadLine(2)))
 }
 
 #[test]
@@ -148,7 +171,7 @@ static INITS: [(&[u8], u64); 2] = [
 ];
 
 /// The features of such a line.
-fn wanted(found: Result<Event, LineFault>) -> Option<u64> {
+fn wanted(found: Result<Event, ScriptFault>) -> Option<u64> {
     match found {
         Ok(
             Event::Guest {
@@ -184,7 +207,7 @@ static QUESTIONS: [(&str, Query); 12] = [
 ];
 
 /// Whether a line was read to this question about guest 7.
-fn asks(found: Result<Event, LineFault>, expected: Query) -> bool {
+fn asks(found: Result<Event, ScriptFault>, expected: Query) -> bool {
     matches!(found, Ok(Event::Query { guest: 7, query }) if query == expected)
 }
 
@@ -275,10 +298,21 @@ static NUMBERS: [(&[u8], Option<u32>); 8] = [
     (b"1_0", None),
 ];
 
+/// The number that a word shows, as that of a guest.
+fn number_of(alloc: Global, word: &[u8]) -> Option<u32> {
+    match script_of(alloc, b"unplug ", word) {
+        Ok(Some(script)) => match last_event(script) {
+            Ok(Event::Unplug { guest }) => Some(guest),
+            _ => None,
+        },
+        _ => None,
+    }
+}
+
 #[test]
 fn numbers(rt: HostRuntime) {
     for (word, expected) in &NUMBERS {
-        assert!(rt; number(word) == *expected);
+        assert!(rt; number_of(rt.alloc(), word) == *expected);
     }
 }
 
@@ -291,10 +325,18 @@ static FEATURES: [(&[u8], Option<u64>); 5] = [
     (b"00000000100000027", None),
 ];
 
+/// The features that a word shows, as those of a start.
+fn features_of(alloc: Global, word: &[u8]) -> Option<u64> {
+    match script_of(alloc, b"init 7 ", word) {
+        Ok(Some(script)) => wanted(last_event(script)),
+        _ => None,
+    }
+}
+
 #[test]
 fn features_as_digits(rt: HostRuntime) {
     for (word, expected) in &FEATURES {
-        assert!(rt; features(word) == *expected);
+        assert!(rt; features_of(rt.alloc(), word) == *expected);
     }
 }
 
@@ -315,40 +357,46 @@ static HOSTS: [(&[u8], Option<u32>); 13] = [
     (b"frames", None),
 ];
 
-#[test]
-fn hosts(rt: HostRuntime) {
-    for (line, expected) in &HOSTS {
-        assert!(rt; host(line) == *expected);
+/// The frames that a first line brings.
+fn frames_of(alloc: Global, line: &[u8]) -> Option<u32> {
+    match parse(alloc, line) {
+        Ok(Some(script)) => Some(script.frames),
+        _ => None,
     }
 }
 
-/// Lines, and the spare devices that they bring.
-static SPARES: [(&[u8], Result<Option<Pace>, LineFault>); 10] = [
+#[test]
+fn hosts(rt: HostRuntime) {
+    for (line, expected) in &HOSTS {
+        assert!(rt; frames_of(rt.alloc(), line) == *expected);
+    }
+}
+
+/// Lines behind that of the host, and the spare devices that they bring.
+static SPARES: [(&[u8], Result<Option<Pace>, ScriptFault>); 10] = [
     (b"spare immediate", Ok(Some(Pace::Immediate))),
     (b"spare paced", Ok(Some(Pace::Paced))),
     (b"frames", Ok(None)),
-    (b"spare", Err(LineFault::Bad)),
-    (b"spare ", Err(LineFault::Bad)),
-    (b"spare fast", Err(LineFault::Bad)),
-    (b"spare immediate 1", Err(LineFault::Bad)),
-    (b"spare  immediate", Err(LineFault::Bad)),
-    (b"spare immediate ", Err(LineFault::Bad)),
-    (b"Spare immediate", Ok(None)),
+    (b"spare", Err(ScriptFault::BadLine(2))),
+    (b"spare ", Err(ScriptFault::BadLine(2))),
+    (b"spare fast", Err(ScriptFault::BadLine(2))),
+    (b"spare immediate 1", Err(ScriptFault::BadLine(2))),
+    (b"spare  immediate", Err(ScriptFault::BadLine(2))),
+    (b"spare immediate ", Err(ScriptFault::BadLine(2))),
+    (b"Spare immediate", Err(ScriptFault::BadLine(2))),
 ];
 
-/// The spare device that a line brings, if its first word says that it brings one.
-fn spare_of(line: &[u8]) -> Result<Option<Pace>, LineFault> {
-    let mut words = Words::of(line);
-    if words.next() != Some(b"spare".as_slice()) {
-        return Ok(None);
+/// The spare device that a line brings, if it brings one.
+fn spare_of(alloc: Global, line: &[u8]) -> Result<Option<Pace>, ScriptFault> {
+    match script_of(alloc, line, b"")? {
+        Some(script) => Ok(script.spares.first().copied()),
+        None => Ok(None),
     }
-    let pace = spare(&mut words).ok_or(LineFault::Bad)?;
-    Ok(Some(pace))
 }
 
 #[test]
 fn spares(rt: HostRuntime) {
     for (line, expected) in &SPARES {
-        assert!(rt; spare_of(line) == *expected);
+        assert!(rt; spare_of(rt.alloc(), line) == *expected);
     }
 }

@@ -1,9 +1,7 @@
 //! Whole scripts.
 
-use crate::lines::Pace;
-use crate::reading::{ScriptFault, parse};
-use crate::script::Script;
 use std::alloc::{AllocError, Global};
+use vb_script::{Pace, Script, ScriptFault, parse};
 
 /// What a text was read to: the frames, the number of spare devices and that of events, or nothing
 /// where it has no lines.

@@ -1,10 +1,8 @@
 //! Scripts for guests on threads.
 
 use super::lines::{Shown, shown_on};
-use crate::lines::Pace;
-use crate::reading::{ScriptFault, parse_threads};
-use crate::script::{ThreadsGuest, ThreadsScript};
 use std::alloc::Global;
+use vb_script::{Pace, ScriptFault, ThreadsGuest, ThreadsScript, parse_threads};
 
 /// What a text was read to: the frames, the number of guests, the floor and the rounds, or nothing
 /// where it makes no plan.

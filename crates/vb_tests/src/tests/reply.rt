@@ -1,12 +1,12 @@
 //! Each reply's line, as docs/SCRIPTS.md has it.
 
-use crate::replies::{write_replies, write_reply};
 use arrayvec::ArrayVec;
 use std::alloc::{AllocError, Global};
 use std::io;
 use std::io::{ErrorKind, Write};
 use std::process::Abort;
 use vb_model::{Bytes, Numbers, PageRun, PageRuns, PlaceCounts, Refusal, Reply};
+use vb_reply::{write_replies, write_reply};
 
 /// The text that is written of a reply.
 fn written(alloc: Global, reply: &Reply) -> Vec<u8> {
