@@ -3,6 +3,7 @@
 ghost use Rattle.std.specs.Prelude.{◌≡◌, ◌≤◌, ◌<◌, true, length, All, MatchResult};
 ghost use Rattle.vb_run.specs.Plans.{is_plan};
 ghost use Rattle.vb_run.specs.Reports.{IsReport};
+ghost use Rattle.vb_run.specs.Starts.{AreFresh};
 ghost use Rattle.vb_sim.specs.Threads.{AreWithin, IsPlanFault};
 
 use crate::fault::ProgramFault;
@@ -10,7 +11,7 @@ use std::alloc::Global;
 use std::sync::Wait;
 use std::thread::Threads;
 use vb_device::{Device, ImmediateDevice, PacedDevice};
-use vb_run::{GuestReport, OpenGate, Plan, Report, add_port, plug_in, run_threads};
+use vb_run::{GuestReport, GuestSlot, OpenGate, Plan, Report, add_port, plug_in, run_threads};
 use vb_script::Pace;
 use vb_shared::{Leased, SharedFrames};
 
@@ -57,6 +58,23 @@ pub fn run_plan<T: Threads + Wait + Sync>(
         }
     }
     let slots = plug_in(alloc, plan, ports)?;
+    run_within(rt, alloc, plan, slots)
+}
+
+/// Runs a plan on slots that have its guests, and audits whether the frames of its report are the
+/// host's.
+fn run_within<T: Threads + Wait + Sync, S: GuestSlot + Send>(
+    rt: &T,
+    alloc: Global,
+    plan: &Plan,
+    slots: Vec<S>,
+) -> Result<Report, ProgramFault>
+    requires { AreFresh S.stands plan.now.guests.items slots.items }
+    ensures { MatchResult result
+        (λ report. (is_plan plan.now (length slots.items) ≡ true)
+        × IsReport plan.now report × AreWithin plan.now.frames report.guests.items)
+        (λ fault. IsPlanFault (is_plan plan.now (length slots.items)) fault) }
+{
     let report = run_threads(rt, alloc, plan, slots, &OpenGate)?;
     if !are_within(plan.frames, report.guests.as_slice()) {
         return Err(ProgramFault::Audit);

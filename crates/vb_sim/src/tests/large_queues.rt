@@ -3,6 +3,7 @@
 
 use super::{Example, check_all, repeated, run};
 use crate::fault::SUCCESS;
+use std::alloc::{AllocError, Global};
 use std::test::Fail;
 
 static LARGE: [Example; 6] = [
@@ -386,15 +387,25 @@ page 512
 ",
 );
 
+/// A text that repeats its second and its fourth part 255 times.
+fn given_and_back(alloc: Global, parts: [&str; 5]) -> Result<Vec<u8>, AllocError> {
+    let [start, inflate, given, deflate, back] = parts;
+    let mut text = repeated(alloc, start, inflate, 255, given)?;
+    text.extend_from_slice(&repeated(alloc, "", deflate, 255, back)?)?;
+    Ok(text)
+}
+
+/// Whether a script writes these replies.
+fn writes(alloc: Global, script: &[u8], replies: &[u8]) -> bool {
+    run(alloc, script).shows(replies, b"", SUCCESS)
+}
+
 #[test]
 fn the_largest_guest_gives_all_it_has_and_takes_it_back(rt: HostRuntime) -> Result<(), Fail> {
-    let mut script = repeated(rt.alloc(), START.0, INFLATE.0, 255, GIVEN.0)?;
-    let mut replies = repeated(rt.alloc(), START.1, INFLATE.1, 255, GIVEN.1)?;
-    let back = repeated(rt.alloc(), "", DEFLATE.0, 255, BACK.0)?;
-    let answers = repeated(rt.alloc(), "", DEFLATE.1, 255, BACK.1)?;
-    script.extend_from_slice(&back)?;
-    replies.extend_from_slice(&answers)?;
-    let outcome = run(rt.alloc(), &script);
-    assert!(rt; outcome.shows(&replies, b"", SUCCESS));
+    let parts = [START.0, INFLATE.0, GIVEN.0, DEFLATE.0, BACK.0];
+    let script = given_and_back(rt.alloc(), parts)?;
+    let answers = [START.1, INFLATE.1, GIVEN.1, DEFLATE.1, BACK.1];
+    let replies = given_and_back(rt.alloc(), answers)?;
+    assert!(rt; writes(rt.alloc(), &script, &replies));
     Ok(())
 }

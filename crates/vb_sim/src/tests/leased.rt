@@ -4,7 +4,9 @@
 mod calls;
 mod rings;
 
-ghost use Rattle.std.specs.Prelude.{◌≡◌, ⊤, true, IfOk, IfSome, MatchOption, length, vec_len};
+ghost use Rattle.std.specs.Prelude.{◌≡◌, ◌<◌, ◌≤◌, ⊤, [], true, IfOk, IfSome, MatchOption, length};
+ghost use Rattle.std.specs.Prelude.{vec_len};
+ghost use Rattle.vb_model.specs.declared.limits.TheConstants.{MAX_FRAMES};
 ghost use Rattle.vb_model.specs.Guest.{Guest};
 ghost use Rattle.vb_model.specs.Limits.{is_config};
 ghost use Rattle.vb_slot.specs.Spare.{IsNew};
@@ -20,7 +22,7 @@ use vb_device::{Device, ImmediateDevice, PacedDevice};
 use vb_model::{Call, Event, Query, Refusal, Reply};
 use vb_ram::Config;
 use vb_script::{Pace, Script};
-use vb_shared::{Leased, SharedFrames};
+use vb_shared::{FramePass, Leased, SharedFrames};
 use vb_slot::{GuestSlot, LoneSlot};
 
 /// A script behind the lines of its host, and its replies with a device of either pace.
@@ -96,6 +98,19 @@ impl Table {
             _ => Reply::Plugged { guest: 0 },
         }
     }
+
+    /// What events are answered, one after the other.
+    fn answer_each(&mut self, alloc: Global, events: &[Event]) -> Result<Vec<Reply>, AllocError>
+        requires { MatchOption self.old.guest ⊤
+            (λ slot. (g : Guest) × ⟦<LoneSlot as GuestSlot>⟧.stands slot g) }
+        ensures { IfOk result (λ replies. vec_len replies ≡ length events.now) }
+    {
+        let mut replies = Vec::with_capacity(alloc, events.len())?;
+        for event in events {
+            replies.push(self.answer(alloc, event))?;
+        }
+        Ok(replies)
+    }
 }
 
 /// The sizes that the first event plugs a guest in with.
@@ -135,17 +150,12 @@ fn play_on(
     let Ok(slot) = LoneSlot::new(alloc, device, sizes) else {
         return Err(AllocError);
     };
-    let guest = Some(slot);
     let mut table = Table {
         frames,
         count,
-        guest,
+        guest: Some(slot),
     };
-    let mut replies = Vec::with_capacity(alloc, events.len())?;
-    for event in events {
-        replies.push(table.answer(alloc, event))?;
-    }
-    Ok(replies)
+    table.answer_each(alloc, events)
 }
 
 /// A host with one guest, whose device has a pass over a table of the host's frames.
@@ -166,16 +176,27 @@ impl Play for Leasing {
     }
 }
 
+/// A table of so many frames, and a pass over it that holds nothing.
+fn open_one(alloc: Global, frames: u32) -> Result<(SharedFrames, FramePass), AllocError>
+    requires { (0 < frames) × (frames ≤ MAX_FRAMES) }
+    ensures { IfOk result (λ opened. opened.1.held ≡ []) }
+{
+    let (frames, mut passes) = SharedFrames::open(alloc, frames, 1)?;
+    match passes.pop() {
+        Some(mut pass) => {
+            // A new pass holds nothing; with this call that is known here.
+            pass.give_back_all();
+            Ok((frames, pass))
+        }
+        None => Err(AllocError),
+    }
+}
+
 /// What a script's events are answered on a host with one guest, whose device leases its frames.
 fn answer_all(alloc: Global, script: &Script) -> Result<Vec<Reply>, AllocError>
     ensures { IfOk result (λ replies. vec_len replies ≡ vec_len script.now.events) }
 {
-    let (frames, mut passes) = SharedFrames::open(alloc, script.frames, 1)?;
-    let Some(mut pass) = passes.pop() else {
-        return Err(AllocError);
-    };
-    // A new pass holds nothing; with this call that is known here.
-    pass.give_back_all();
+    let (frames, pass) = open_one(alloc, script.frames)?;
     match script.spares.first() {
         Some(Pace::Paced) => {
             let device = Leased::new(PacedDevice::new(alloc), pass);

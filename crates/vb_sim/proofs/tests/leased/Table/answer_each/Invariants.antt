@@ -2,11 +2,11 @@ use Rattle.std.proofs.Common.{◌≡◌, vec_len, MatchOption}
 use Rattle.std.specs.Bool.{⊤}
 use Rattle.vb_model.specs.Guest.{Guest}
 use Rattle.vb_slot.specs.contracts.lone.LoneSlotGuestSlot.TheImpl.{ghosts}
-use Rattle.vb_sim.proofs.tests.leased.play_on.Given as goal
+use Rattle.vb_sim.proofs.tests.leased.Table.answer_each.Given as goal
 
 abbrev pub invariant-loop-event : goal.invariant-loop-event
 invariant-loop-event g l = record {
-  guest : MatchOption l.table.guest ⊤
+  guest : MatchOption l.self.guest ⊤
       (λ slot. (guest : Guest) × (ghosts g.dyn-1).stands slot guest);
   count : vec_len l.replies ≡ l.event-index;
 }
