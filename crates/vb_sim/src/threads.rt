@@ -2,9 +2,7 @@
 
 ghost use Rattle.std.specs.Prelude.{◌≡◌, Ok, Err, Some, IfErr, IfOk, IfSome, OnOk, MatchResult};
 ghost use Rattle.std.specs.Io.KnownBytes.{Keeps};
-ghost use Rattle.std.specs.Option.{option_map};
 ghost use Rattle.vb_script.specs.Plans.{planned_by, threads_script_of};
-ghost use Rattle.vb_script.specs.Scripts.{IfBadLine as IfBadScript};
 ghost use Rattle.vb_sim.specs.Ends.{IsWithinBound};
 ghost use Rattle.vb_sim.specs.Faults.{UnlessStream};
 ghost use Rattle.vb_sim.specs.Threads.{IsRunOf, IsRunOfText, IsTextFault, IsThreadsFault};
@@ -21,7 +19,7 @@ use std::sync::Wait;
 use std::thread::Threads;
 use vb_model::limits::MAX_GUESTS;
 use vb_run::{Bells, Plan, Report};
-use vb_script::{ScriptFault, ThreadsScript, parse_threads};
+use vb_script::{ThreadsScript, parse_threads};
 
 /// Reads a script from `input`, runs its guests on threads, with doorbells rung in this mode, and
 /// once all have ended writes a line for each to `output` and last `disjoint`. Answers the exit
@@ -103,20 +101,21 @@ fn run_text<T: Threads + Wait + Sync>(
     ensures fault { IfErr result
         (λ fault. IsThreadsFault (threads_script_of text.items) fault) }
 {
-    match read_script(alloc, text)? {
-        None => Err(ProgramFault::BadPlan),
-        Some(script) => run_planned(rt, alloc, bells, script),
-    }
+    let script = read_script(alloc, text)?;
+    run_planned(rt, alloc, bells, script)
 }
 
-/// Reads a script from its text, which is let go before anything runs.
-fn read_script(alloc: Global, text: Vec<u8>) -> Result<Option<ThreadsScript>, ScriptFault>
+/// Reads a script that makes a plan from its text, which is let go before anything runs.
+fn read_script(alloc: Global, text: Vec<u8>) -> Result<ThreadsScript, ProgramFault>
     ensures ok { IfOk result
-        (λ script. threads_script_of text.items ≡ Ok (option_map planned_by script)) }
-    ensures bad { IfErr result
-        (λ fault. IfBadScript fault (λ number. threads_script_of text.items ≡ Err number)) }
+        (λ script. threads_script_of text.items ≡ Ok (Some (planned_by script))) }
+    ensures fault { IfErr result
+        (λ fault. IsThreadsFault (threads_script_of text.items) fault) }
 {
-    parse_threads(alloc, text.as_slice())
+    match parse_threads(alloc, text.as_slice())? {
+        Some(script) => Ok(script),
+        None => Err(ProgramFault::BadPlan),
+    }
 }
 
 /// Runs the plan of a script, each guest on a device of its pace: the plan and the report.
