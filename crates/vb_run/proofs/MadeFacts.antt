@@ -119,23 +119,22 @@ features_in _ = 0
 -- ---- whole histories: a start, whatever it was answered, and such entries behind it
 
 made : AreMade 1 2 (
-  Called Starter (Init 0x100000027) (Gave 5 ∷ []) Ready ∷ Looked 16 32
-  ∷ Called (Processor 1 1) Stats [] Filled ∷ []
-)
-made =
-    (
-      Gave 5 ∷ [],
-      Ready,
-      Looked 16 32 ∷ Called (Processor 1 1) Stats [] Filled ∷ [],
-      refl,
-      All-cons (IsMade 1 2) (Looked 16 32) (Called (Processor 1 1) Stats [] Filled ∷ []) tt
+    Called Starter (Init 0x100000027) (Gave 5 ∷ []) Ready ∷ Looked 16 32
+    ∷ Called (Processor 1 1) Stats [] Filled ∷ []
+    )
+made = (
+  Gave 5 ∷ [],
+  Ready,
+  Looked 16 32 ∷ Called (Processor 1 1) Stats [] Filled ∷ [],
+  refl,
+  All-cons (IsMade 1 2) (Looked 16 32) (Called (Processor 1 1) Stats [] Filled ∷ []) tt
       (All-cons (IsMade 1 2) (Called (Processor 1 1) Stats [] Filled) [] last_processor
       (All-nil (IsMade 1 2))),
-    )
+)
 
 refused_start : AreMade 1 2 (
-  Called Starter (Init 0x100000027) (GaveNoFrame ∷ []) (Refused NoFrame) ∷ []
-)
+    Called Starter (Init 0x100000027) (GaveNoFrame ∷ []) (Refused NoFrame) ∷ []
+    )
 refused_start = (GaveNoFrame ∷ [], Refused NoFrame, [], refl, All-nil (IsMade 1 2))
 
 no_start : AreMade 1 2 [] → ⊥
@@ -153,9 +152,9 @@ begun_by_a_look (claims, reply, rest, is, all) = absurd cc
 
 -- the last of several entries counts as the first does
 second_start : AreMade 1 2 (
-  Called Starter (Init 0x100000027) [] Ready ∷ Looked 16 32
-  ∷ Called Starter (Init 0x100000027) [] Ready ∷ []
-) → ⊥
+    Called Starter (Init 0x100000027) [] Ready ∷ Looked 16 32
+    ∷ Called Starter (Init 0x100000027) [] Ready ∷ []
+    ) → ⊥
 second_start (claims, reply, rest, is, all) =
     let behind : Looked 16 32 ∷ Called Starter (Init 0x100000027) [] Ready ∷ [] ≡ rest = cc in
     let last = rw (sym behind) at all in

@@ -5,7 +5,7 @@ ghost use Rattle.std.specs.Prelude.{◌≡◌, ◌≤◌, length, IfSome};
 use crate::bell::Bell;
 use crate::gate::Gate;
 use crate::kept::Kept;
-use crate::plan::{Bells, Plan};
+use crate::plan::{Bells, GuestPlan, Plan};
 use crate::round::Round;
 use crate::served::{SERVICES, found_nothing};
 use std::alloc::Global;
@@ -45,13 +45,20 @@ fn ring<R: Wait>(rt: &R, bell: &Bell, bells: Bells, is_first: bool) {
     }
 }
 
+/// How many calls the script of a guest's processor has.
+fn calls_in(guest: &GuestPlan, cpu: u32) -> u64 {
+    match guest.scripts.get(cpu as usize) {
+        Some(calls) => calls.len() as u64,
+        None => 0,
+    }
+}
+
 /// How many calls the processor's script has.
 fn calls_of(plan: &Plan, guest: u32, cpu: u32) -> u64 {
-    let script = plan
-        .guests
-        .get(guest as usize)
-        .and_then(|own| own.scripts.get(cpu as usize));
-    script.map_or(0, |calls| calls.len() as u64)
+    match plan.guests.get(guest as usize) {
+        Some(guest) => calls_in(guest, cpu),
+        None => 0,
+    }
 }
 
 /// The calls of one processor, in order.
