@@ -147,13 +147,18 @@ fn bells_joined(option: &str) -> Option<Bells>
 
 /// What the program understands. A call for help is refused like any other word.
 fn command<'a>(alloc: Global) -> Result<Command<'a>, AllocError> {
+    let threads = threads_command(alloc)?;
+    command_to_run(alloc)?.subcommand(threads)
+}
+
+/// The program with the command that runs a script of events.
+fn command_to_run<'a>(alloc: Global) -> Result<Command<'a>, AllocError> {
     let run = Command::new(alloc, "run").disable_help_flag(true);
     Command::new(alloc, "vb_sim")
         .disable_help_flag(true)
         .disable_version_flag(true)
         .disable_help_subcommand(true)
-        .subcommand(run)?
-        .subcommand(threads_command(alloc)?)
+        .subcommand(run)
 }
 
 /// The command that runs guests on threads.

@@ -48,8 +48,10 @@ fn ask(alloc: Global, words: Result<Vec<String>, ArgumentsFault>) -> Result<Aske
     ensures asked { IfOk result (λ asked. asked_by words ≡ Some asked) }
     ensures given { IfErr words (λ fault. result ≡ Err fault) }
 {
-    let words = words?;
-    read_arguments(alloc, words.as_slice())
+    match words {
+        Ok(words) => read_arguments(alloc, words.as_slice()),
+        Err(fault) => Err(fault),
+    }
 }
 
 /// Writes why a command line asks for nothing, and answers its exit status, or where that can't be

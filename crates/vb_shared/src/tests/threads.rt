@@ -19,11 +19,8 @@ fn claim_all(pass: &mut FramePass, held: &mut Vec<u32>) -> Result<(), AllocError
     Ok(())
 }
 
-/// Claims all that it can, puts every second frame back and claims again.
-fn claim_twice(alloc: Global, mut pass: FramePass) -> Result<Vec<u32>, AllocError> {
-    let mut first = Vec::new(alloc);
-    claim_all(&mut pass, &mut first)?;
-    let mut held = Vec::new(alloc);
+/// Puts every second of these frames back, and keeps the others' numbers.
+fn keep_half(pass: &mut FramePass, first: &[u32], held: &mut Vec<u32>) -> Result<(), AllocError> {
     for (place, frame) in first.iter().enumerate() {
         if place % 2 == 0 {
             held.push(*frame)?;
@@ -31,8 +28,21 @@ fn claim_twice(alloc: Global, mut pass: FramePass) -> Result<Vec<u32>, AllocErro
             pass.put_back(*frame);
         }
     }
-    claim_all(&mut pass, &mut held)?;
+    Ok(())
+}
+
+/// Claims all that it can, puts every second frame back and claims again.
+fn claim_again(pass: &mut FramePass, alloc: Global) -> Result<Vec<u32>, AllocError> {
+    let (mut first, mut held) = (Vec::new(alloc), Vec::new(alloc));
+    claim_all(pass, &mut first)?;
+    keep_half(pass, &first, &mut held)?;
+    claim_all(pass, &mut held)?;
     Ok(held)
+}
+
+/// The same with a pass that is dropped then.
+fn claim_twice(alloc: Global, mut pass: FramePass) -> Result<Vec<u32>, AllocError> {
+    claim_again(&mut pass, alloc)
 }
 
 /// A thread a pass; what each holds at its end.
