@@ -103,9 +103,9 @@ impl Driver {
         let _ = port.write_status(ready);
     }
 
-    /// Whether all pages of rings and buffers have frames: `init` wants it, and of a device that is up
-    /// so do the calls that post. One byte of each such page is written in its own place; nothing is
-    /// changed.
+    /// Whether all pages of rings and buffers have frames: `init` wants it, and of a device that is
+    /// up so do the calls that post. One byte of each such page is written in its own place, so
+    /// nothing is changed.
     pub fn has_frames<G: GuestBytes>(&self, memory: &mut G) -> bool
         requires { IsLargeEnough (G.mem memory.old) }
         ensures value { result ≡ has_frames self.now.queue_size (G.mem memory.old) }

@@ -1,6 +1,6 @@
--- What holds of every history of a guest, whatever its claims were given: the words of Safe, said of
--- the entries of one guest. A history stands by itself: no world is in it, and so nothing is said of
--- frames that two guests have.
+-- What holds of every history of a guest, whatever its claims were given: the words of Safe, said
+-- of the entries of one guest. A history stands by itself: no world is in it, and so nothing is
+-- said of frames that two guests have.
 use Rattle.std.specs.Prelude.{◌≡◌, ◌≢◌, ℕ, ◌+◌, ◌<◌, ◌≤◌, List, [], ◌∷◌, ◌++◌, ⊤, Option, Some}
 use Rattle.std.specs.Prelude.{slice_get, slice_index_or, length, IsTrue, ◌↔◌, ◌==◌, zero, suc}
 use Rattle.std.specs.Prelude.{if◌then◌else◌}
@@ -121,8 +121,8 @@ pub record IsSafeCourse (c : Course) : Type 0 where
   pub keeps_frame : (i page frame : ℕ) (g g' : Guest) → guest_after c i ≡ Some g
       → guest_after c (i + 1) ≡ Some g' → IsAt g page Used → IsAt g' page Used
       → frame_of g.frames page ≡ Some frame → frame_of g'.frames page ≡ Some frame
-  -- a read of a page that was used since state i gives, byte by byte, what the last write since then
-  -- put there, else the byte of the page in state i
+  -- a read of a page that was used since state i gives, byte by byte, what the last write since
+  -- then put there, else the byte of the page in state i
   pub reads : (page i k offset len : ℕ) (bytes : List ℕ) (g : Guest) (actor : Actor)
       (claims : List Claim) → StaysHeld c page i k → guest_after c i ≡ Some g
       → slice_get c.entries (i + k)

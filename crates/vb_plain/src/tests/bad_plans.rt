@@ -25,7 +25,7 @@ const ONE: Guests = Guests {
     rounds: 1,
 };
 
-static ROWS: [Row; 12] = [
+static ROWS: [Row; 13] = [
     Row {
         name: "one guest",
         guests: ONE,
@@ -58,6 +58,13 @@ static ROWS: [Row; 12] = [
         name: "a port too few",
         guests: Guests { count: 2, ..ONE },
         ports: 1,
+        tables: Tables::Shared,
+        fault: Some(RunFault::BadPlan),
+    },
+    Row {
+        name: "a port too many",
+        guests: ONE,
+        ports: 2,
         tables: Tables::Shared,
         fault: Some(RunFault::BadPlan),
     },

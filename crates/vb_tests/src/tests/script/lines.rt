@@ -151,9 +151,9 @@ fn event_of(alloc: Global, line: &[u8]) -> Result<Event, ScriptFault> {
     }
 }
 
-/// Whether the second line is bad.
-fn is_bad(found: Result<Event, ScriptFault>) -> bool {
-    matches!(found, Err(ScriptFault::BadLine(2)))
+/// Why a line has no event, if it has none.
+fn fault_of(alloc: Global, line: &[u8]) -> Option<ScriptFault> {
+    event_of(alloc, line).err()
 }
 
 #[test]
@@ -282,7 +282,7 @@ static BAD_LINES: [&[u8]; 56] = [
 #[test]
 fn bad_lines(rt: HostRuntime) {
     for line in &BAD_LINES {
-        assert!(rt; is_bad(event_of(rt.alloc(), line)));
+        assert!(rt; fault_of(rt.alloc(), line) == Some(ScriptFault::BadLine(2)));
     }
 }
 
