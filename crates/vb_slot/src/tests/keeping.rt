@@ -34,7 +34,8 @@ fn take_away(numbers: &mut Vec<u32>, number: u32)
 
 /// No numbers, and room for so many.
 fn room_for(alloc: Global, limit: u32) -> Result<Vec<u32>, AllocError>
-    ensures { IfOk result (λ numbers. (numbers.items ≡ []) × (limit ≤ vec_capacity numbers)) }
+    ensures none { IfOk result (λ numbers. numbers.items ≡ []) }
+    ensures room { IfOk result (λ numbers. limit ≤ vec_capacity numbers) }
 {
     Vec::with_capacity(alloc, limit as usize)
 }
