@@ -86,7 +86,7 @@ guests_by_number = refl
 ends_with_the_last : last_world (world 64) (at down ∷ at ready ∷ []) ≡ at ready
 ends_with_the_last = refl
 
--- ---- entries of one guest
+-- ---- whose entries an event makes
 
 -- the balancer's look answers what the guest can spare, and changes nothing
 abbrev known : Guest
@@ -220,3 +220,23 @@ restarted l = l.2.0 refl
 
 unplugged : InOneLife 1 (Unplug 1 ∷ []) → ⊥
 unplugged l = l.1 refl
+
+-- ---- whose entries an event makes
+
+abbrev both : World
+both = record { frames = 64; guests = Some ready ∷ Some ready ∷ []; spares = []; given_up = None }
+
+anothers_call : AreOwnEntries 1 both (OnGuest 0 Work) Idle both
+    (Called (Processor 1 0) Work [] Idle ∷ []) → ⊥
+anothers_call e = cc
+
+anothers_count : AreOwnEntries 1 both CountFrames (Frames 0 64) both
+    (Called (Processor 1 0) Work [] Idle ∷ []) → ⊥
+anothers_count e = cc
+
+balanced_by_a_processor : AreOwnEntries 1 both (Balance 16) (Targets (0 ∷ 0 ∷ [])) both
+    (Called (Processor 1 0) (SetTarget 0) [] Done ∷ []) → ⊥
+balanced_by_a_processor e = cc
+
+a_balance_in_a_life : InOneLife 1 (Balance 0 ∷ [])
+a_balance_in_a_life = ((λ e. cc), (λ e. cc), tt)
