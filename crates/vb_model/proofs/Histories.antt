@@ -34,7 +34,7 @@ use Rattle.vb_model.specs.Courses.{Course, guest_after, IsCall, IsAt, BringsTo, 
 use Rattle.vb_model.specs.Courses.{DeflatePostedAt, WasAskedBack, IsWriteTo, StaysOrLoses, byte_of}
 use Rattle.vb_model.specs.Courses.{byte_written, byte_after, last_put, StaysHeld}
 use Rattle.vb_model.specs.Histories.{IsNamed, BothAgree, IsSafeCourse, IsSafeHistory}
-use Rattle.vb_model.specs.SafeLaws.{UsedPagesStay, QuietAgree}
+use Rattle.vb_model.specs.SafeLaws.{UsedPagesStay}
 use Rattle.vb_model.proofs.PageSteps.{lent_is, naming-all, one_if-true, one_if-le}
 use Rattle.vb_model.proofs.CallSteps.{match_cases, supplying_cases, honest_keeps}
 use Rattle.vb_model.proofs.GuestSteps.{fresh_consistent}
@@ -98,9 +98,10 @@ both_agree g c page =
 pub quiet_agree : (g : Guest) → BothAgree g → all_requests g.inflate ≡ []
     → all_requests g.deflate ≡ [] → (page : ℕ)
     → IsTrue (is_ballooned g.ballooned page) ↔ IsAt g page Lent
-quiet_agree g both a b page =
-    ((λ t. forward ((both page).0 t)),
-    (λ e. (both page).1 (inl (ap (λ (x : Place). is_lent x) e))))
+quiet_agree g both a b page = (
+  (λ t. forward ((both page).0 t)),
+  (λ e. (both page).1 (inl (ap (λ (x : Place). is_lent x) e))),
+)
   where
     na : naming page (all_requests g.inflate) ≡ 0
     na = ap (naming page) a

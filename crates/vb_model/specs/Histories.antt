@@ -65,7 +65,7 @@ pub record IsSafeHistory (config : Config) (target : ℕ) (entries : List Entry)
   pub leads : Leads (fresh config target) (all_entries entries) after
   pub ends : last_guest (fresh config target) after ≡ last
   pub safe : IsSafeCourse (record {
-      first = fresh config target;
-      entries = all_entries entries;
-      after = after;
-    })
+    first = fresh config target;
+    entries = all_entries entries;
+    after = after;
+  })
