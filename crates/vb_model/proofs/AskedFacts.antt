@@ -36,7 +36,7 @@ offering g entries guests =
 
 -- it is offered, and the request is used already; it is lent; it is asked back, and then that
 -- request is used; it can be handed out; it is handed out
-abbrev giving : Guest → Guest
+abbrev pub giving : Guest → Guest
 giving g = record (page_16_at Giving g) { inflate = used request_16 }
 
 abbrev lent : Guest → Guest
@@ -48,10 +48,10 @@ asked place g = record (page_16_at place g) { deflate = posted request_16 }
 abbrev coming_back : Place → Guest → Guest
 coming_back place g = record (page_16_at place g) { deflate = used request_16 }
 
-abbrev back : Guest → Guest
+abbrev pub back : Guest → Guest
 back g = page_16_at FreePlace g
 
-abbrev handed_out : Guest → Guest
+abbrev pub handed_out : Guest → Guest
 handed_out g = page_16_at Used g
 
 -- where the guest tells the host: lent, asked back, reaped, handed out

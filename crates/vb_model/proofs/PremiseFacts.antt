@@ -5,6 +5,8 @@ use Rattle.std.proofs.Common.{replicate, refl, sym, ap, ◌∙◌, inl, inr, ari
 use Rattle.std.specs.Prelude.{Option, Some, None}
 use Rattle.vb_model.specs.declared.places.Place.{Place}
 use Rattle.vb_model.specs.declared.places.Place.TheVariants.{Reserved, Free as FreePlace, Used}
+use Rattle.vb_model.specs.declared.calls.Actor.TheVariants.{Worker}
+use Rattle.vb_model.specs.declared.calls.Claim.TheVariants.{Gave}
 use Rattle.vb_model.specs.declared.calls.Call.TheVariants.{Write, Scribble, Reset, Sweep, Work}
 use Rattle.vb_model.specs.declared.calls.Event.{Event}
 use Rattle.vb_model.specs.declared.calls.Event.TheVariants.{Guest as OnGuest, Restart, Unplug}
@@ -16,8 +18,9 @@ use Rattle.vb_model.specs.Requests.{BufferDone}
 use Rattle.vb_model.specs.Guest.{Guest}
 use Rattle.vb_model.specs.World.{World}
 use Rattle.vb_model.specs.Run.{History}
-use Rattle.vb_model.specs.GuestRun.{Looked}
-use Rattle.vb_model.specs.Courses.{Course, guest_after, StaysHeld, StaysOrLoses, byte_of, last_put}
+use Rattle.vb_model.specs.GuestRun.{Called, Looked}
+use Rattle.vb_model.specs.Courses.{Course, guest_after, IsWriteTo, StaysHeld, StaysOrLoses}
+use Rattle.vb_model.specs.Courses.{byte_of, last_put}
 use Rattle.vb_model.specs.HonestRuns.{IsThere, MakesNoScribble, IsAttentive}
 use Rattle.vb_model.proofs.Samples.{ready, down, without_stats_vq, page_16_at, request}
 use Rattle.vb_model.proofs.SafeFacts.{made, stands}
@@ -169,6 +172,17 @@ writes = record {
       ∷ made Reset Done ∷ Some (Looked 16 32) ∷ made (Sweep 16) (Swept true) ∷ [];
   after = replicate 8 (page_16_at Used ready);
 }
+
+-- a write counts whoever makes it, and whatever its claims were given
+abbrev written_by_the_worker : Course
+written_by_the_worker = record {
+  first = page_16_at Used ready;
+  entries = Some (Called (Worker 0) (Write 16 2 (5 ∷ [])) (Gave 7 ∷ []) Done) ∷ [];
+  after = page_16_at Used ready ∷ [];
+}
+
+its_byte : (last_put written_by_the_worker 16 2 0 1 100 ≡ 5) × IsWriteTo written_by_the_worker 16 0
+its_byte = (refl, (2, 5 ∷ [], (Worker 0, Gave 7 ∷ [], refl)))
 
 -- byte 3 among more and more of the entries, from the first one on, from the second, and from the
 -- last

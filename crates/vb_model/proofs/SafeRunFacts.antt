@@ -3,12 +3,13 @@ use Rattle.std.proofs.Common.{◌≡◌, ℕ, true, false, List, [], ◌∷◌, 
 use Rattle.std.proofs.Common.{subst, arith, ◌≢◌, ◌∙◌, inl}
 use Rattle.std.specs.Prelude.{Option, Some, None}
 use Rattle.vb_model.specs.declared.places.Place.TheVariants.{Used, Lent}
-use Rattle.vb_model.specs.declared.calls.Call.TheVariants.{Init, Reset, Sweep, Work}
+use Rattle.vb_model.specs.declared.calls.Call.TheVariants.{Alloc, Inflate, Init, Reset, Sweep, Work}
 use Rattle.vb_model.specs.declared.calls.Event.{Event}
 use Rattle.vb_model.specs.declared.calls.Event.TheVariants.{Guest as OnGuest, Restart, Unplug}
 use Rattle.vb_model.specs.declared.calls.Event.TheVariants.{Frames as CountFrames}
 use Rattle.vb_model.specs.declared.replies.Reply.{Reply}
-use Rattle.vb_model.specs.declared.replies.Reply.TheVariants.{Done, Frames, Idle, Refused, Swept}
+use Rattle.vb_model.specs.declared.replies.Reply.TheVariants.{Done, Frames, Idle, Page, Posted, Refused}
+use Rattle.vb_model.specs.declared.replies.Reply.TheVariants.{Swept}
 use Rattle.vb_model.specs.declared.replies.Refusal.TheVariants.{NotReady}
 use Rattle.vb_model.specs.Guest.{Guest, unbacked}
 use Rattle.vb_model.specs.World.{World, made, guest_at}
@@ -18,7 +19,8 @@ use Rattle.vb_model.specs.GuestRun.{Entry, OwnStep, Leads, IsOwnEntry, AreOwn, I
 use Rattle.vb_model.specs.Histories.{IsSafeCourse}
 use Rattle.vb_model.specs.Safe.{Safe, IsSafeRun, NoFrameTwice, part}
 use Rattle.vb_model.proofs.Changes.{same_some}
-use Rattle.vb_model.proofs.Samples.{ready, down, page_16_at, request}
+use Rattle.vb_model.proofs.Samples.{ready, down, untold, page_16_at, request}
+use Rattle.vb_model.proofs.AskedFacts.{back, giving, handed_out}
 
 -- ---- a run of no events ends where it began
 
@@ -283,6 +285,45 @@ isnt_safe s =
     let e : SameFrame None (Some 5) =
     o.safe.keeps_frame 0 16 5 named (unbacked (16 ∷ []) named) refl refl refl refl refl in
     cc
+
+-- ---- over more events, of another guest
+
+abbrev beside : Guest → World
+beside g = record { frames = 64; guests = Some ready ∷ Some g ∷ []; spares = []; given_up = None }
+
+-- a page is offered behind another's event, and handed out by the next event
+abbrev at_once : History
+at_once = record {
+  first = beside (back untold);
+  events = Restart 0 ∷ OnGuest 1 (Inflate 1) ∷ OnGuest 1 (Alloc 0 0) ∷ [];
+  replies = Done ∷ Posted 0 1 ∷ Page 16 ∷ [];
+  after = beside (back untold) ∷ beside (giving untold) ∷ beside (handed_out untold) ∷ [];
+}
+
+handed_out_at_once : Safe at_once → ⊥
+handed_out_at_once s = by own.0.entries own.0.guests own.0.are own.1
+  where
+    own : (own : Alone 1 (beside (back untold)) at_once.events at_once.replies at_once.after
+        (back untold))
+        × IsSafeCourse
+        (record { first = back untold; entries = own.entries; after = own.guests })
+    own = s.lives 1 0 3 (beside (back untold)) (back untold) (handed_out untold) refl refl
+        (refl, refl) ((λ e. cc), (λ e. cc), ((λ e. cc), (λ e. cc), ((λ e. cc), (λ e. cc), tt)))
+
+    by : (entries : List (Option Entry)) (guests : List Guest)
+        → AreOwn 1 (beside (back untold)) at_once.events at_once.replies at_once.after entries guests
+        → IsSafeCourse (record { first = back untold; entries = entries; after = guests }) → ⊥
+    by [] guests are safe = absurd are
+    by (o ∷ entries) [] are safe = absurd are
+    by (o ∷ []) (x ∷ guests) are safe = absurd are.2
+    by (o ∷ p ∷ entries) (x ∷ []) are safe = absurd are.2
+    by (o ∷ p ∷ []) (x ∷ y ∷ guests) are safe = absurd are.2.2
+    by (o ∷ p ∷ q ∷ entries) (x ∷ y ∷ []) are safe = absurd are.2.2
+    by (o ∷ p ∷ q ∷ entries) (x ∷ y ∷ z ∷ guests) are safe =
+        let a = safe.told_first 16 1 2 (omega arith)
+        (back untold, giving untold, sym are.1, sym are.2.1, (λ e. cc), refl)
+        (giving untold, handed_out untold, sym are.2.1, sym are.2.2.1, (λ e. cc), refl) in
+        omega (arith, a.since, a.later, a.before)
 
 -- so many entries of a list, from one on
 part_of_five : part {A = ℕ} 1 3 (5 ∷ 6 ∷ 7 ∷ 8 ∷ 9 ∷ []) ∷ part {A = ℕ} 3 4 (5 ∷ 6 ∷ 7 ∷ 8 ∷ 9 ∷ [])
