@@ -70,7 +70,8 @@ ToldReaps kind (r ∷ rest) g reply new =
     (reply ≡ Reaped r.head (length r.pages)) × (new ≡ told_reaped kind r rest g)
 
 abbrev pub ToldPerforms : Call → Guest → List Claim → Reply → Guest → Type 0
-ToldPerforms (Deflate n) g claims reply new = (claims ≡ []) × CallsBack (deflate_count g n) g reply new
+ToldPerforms (Deflate n) g claims reply new =
+    (claims ≡ []) × CallsBack (deflate_count g n) g reply new
 ToldPerforms (Oom n) g claims reply new = (claims ≡ []) × CallsBack (oom_count g n) g reply new
 ToldPerforms (Reap q) g claims reply new =
     (claims ≡ []) × MatchOption (kind_of_queue q) ⊥
