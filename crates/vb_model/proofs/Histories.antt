@@ -1,54 +1,43 @@
--- Every history of a guest is safe.
-use Rattle.std.proofs.Common.{◌≡◌, ℕ, zero, suc, ◌+◌, ◌-◌, ◌<◌, ◌≤◌, Bool, true, false, List, []}
+-- Every course of a guest is safe, and so is every history.
+use Rattle.std.proofs.Common.{◌≡◌, ℕ, zero, suc, ◌+◌, ◌<◌, Bool, true, false, List, []}
 use Rattle.std.proofs.Common.{◌∷◌, refl, sym, ap, subst, ◌∙◌, ◌⊎◌, inl, inr, arith, ◌≢◌, length, get_or}
 use Rattle.std.proofs.Common.{drop, cond}
-use Rattle.std.specs.Prelude.{Option, Some, None, slice_get, MatchBool, ◌==◌, is_some, IsTrue, ◌↔◌}
+use Rattle.std.specs.Prelude.{Option, Some, None, slice_get, ◌==◌, is_some, IsTrue, ◌↔◌}
 use Rattle.std.proofs.lemmas.Bool.{cases_lt, eqb-true, eq-eqb}
 use Rattle.std.proofs.lemmas.List.{get_or-take, get_or-drop, length-take-le, length-drop}
 use Rattle.vb_model.specs.declared.places.Place.{Place}
-use Rattle.vb_model.specs.declared.places.Place.TheVariants.{Free as FreePlace, Used, Giving, Lent}
-use Rattle.vb_model.specs.declared.places.Place.TheVariants.{Taking, Stranded, Reserved}
+use Rattle.vb_model.specs.declared.places.Place.TheVariants.{Used, Lent}
+use Rattle.vb_model.specs.declared.places.Place.TheVariants.{Reserved}
 use Rattle.vb_model.specs.declared.calls.Actor.{Actor}
 use Rattle.vb_model.specs.declared.calls.Call.{Call}
-use Rattle.vb_model.specs.declared.calls.Call.TheVariants.{Read, Write, Scribble, Reap}
+use Rattle.vb_model.specs.declared.calls.Call.TheVariants.{Read, Write}
 use Rattle.vb_model.specs.declared.calls.Claim.{Claim}
 use Rattle.vb_model.specs.declared.replies.Refusal.TheVariants.{RingBroken, Broken}
 use Rattle.vb_model.specs.declared.replies.Reply.{Reply}
 use Rattle.vb_model.specs.declared.replies.Reply.TheVariants.{Done, ReadBytes, Refused}
 use Rattle.vb_model.specs.Tests.{one_if}
 use Rattle.vb_model.specs.Pages.{place_of, is_lent}
-use Rattle.vb_model.specs.Requests.{Kind, Inflating, Deflating, place_posted, all_requests, naming}
-use Rattle.vb_model.specs.Requests.{queue_of}
-use Rattle.vb_model.specs.Guest.{Guest, Config, fresh, frame_of, tells_host, is_ballooned}
-use Rattle.vb_model.specs.Driver.{contents_of, pages_needed}
-use Rattle.vb_model.specs.Refusals.{refusal_of}
-use Rattle.vb_model.specs.Rogue.{RogueStep, Scribbled, IsRogueAfter}
-use Rattle.vb_model.specs.Step.{Performs, HonestStep, GuestStep}
+use Rattle.vb_model.specs.Requests.{all_requests, naming}
+use Rattle.vb_model.specs.Guest.{Guest, Config, fresh, frame_of, is_ballooned}
+use Rattle.vb_model.specs.Driver.{contents_of}
+use Rattle.vb_model.specs.Step.{HonestStep}
 use Rattle.vb_model.specs.Consistent.{IsConsistent}
-use Rattle.vb_model.specs.Orderly.{IsOrderly}
-use Rattle.vb_model.specs.Blank.{IsBlank}
-use Rattle.vb_model.specs.HonestRuns.{IsAttentive}
 use Rattle.vb_model.specs.GuestRun.{Entry, Called, Looked, EntryStep, OwnStep, Leads, IsHistory}
-use Rattle.vb_model.specs.GuestRun.{is_scribbled, all_entries}
-use Rattle.vb_model.specs.Courses.{Course, guest_after, IsCall, IsAt, BringsTo, ReapedAt}
-use Rattle.vb_model.specs.Courses.{DeflatePostedAt, WasAskedBack, IsWriteTo, StaysOrLoses, byte_of}
+use Rattle.vb_model.specs.GuestRun.{all_entries}
+use Rattle.vb_model.specs.Courses.{Course, guest_after, IsCall, IsAt}
+use Rattle.vb_model.specs.Courses.{IsWriteTo, StaysOrLoses, byte_of}
 use Rattle.vb_model.specs.Courses.{byte_written, byte_after, last_put, StaysHeld}
 use Rattle.vb_model.specs.Histories.{IsNamed, BothAgree, IsSafeCourse, IsSafeHistory}
 use Rattle.vb_model.specs.SafeLaws.{UsedPagesStay}
 use Rattle.vb_model.proofs.PageSteps.{lent_is, naming-all, one_if-true, one_if-le}
-use Rattle.vb_model.proofs.CallSteps.{match_cases, supplying_cases, honest_keeps}
-use Rattle.vb_model.proofs.GuestSteps.{fresh_consistent}
-use Rattle.vb_model.proofs.OrderlySteps.{honest_order, fresh_order}
-use Rattle.vb_model.proofs.BlankSteps.{honest_blank, fresh_blank}
-use Rattle.vb_model.proofs.AttentiveSteps.{honest_attentive, not_down}
-use Rattle.vb_model.proofs.Unchanged.{step_keeps, MayBeRogue}
+use Rattle.vb_model.proofs.Unchanged.{step_keeps}
 use Rattle.vb_model.proofs.Kept.{honest_keeps_frame, used_page}
 use Rattle.vb_model.proofs.Contents.{honest_same}
 use Rattle.vb_model.proofs.Faults.{honest_no_fault, is_fault}
 use Rattle.vb_model.proofs.LastWrites.{write_step, read_step, overwritten_byte}
 use Rattle.vb_model.proofs.Changes.{same_some}
-use Rattle.vb_model.proofs.Offered.{Offered, is_offered, Only, only_done, Reaping, PageMove, Stays}
-use Rattle.vb_model.proofs.Offered.{Strands, Gives, Lends, Asks, Frees, honest_moves}
+use Rattle.vb_model.proofs.Courses.{IsFit, fresh_fit, EntryAt, Positions, positions, as_guest, some_own}
+use Rattle.vb_model.proofs.Asked.{told_first}
 
 -- ---- driver and device
 
@@ -118,178 +107,6 @@ quiet_agree g both a b page = (
     forward (inr (inr (inl n))) = absurd (omega (arith, nb, n, naming-all page g.deflate))
     forward (inr (inr (inr n))) = absurd (omega (arith, nb, n, naming-all page g.deflate))
 
--- ---- a step of an honest guest that isn't a scribble
-
-as_guest : (g : Guest) (call : Call) (claims : List Claim) (reply : Reply) (new : Guest)
-    → g.rogue ≡ false → HonestStep g call claims reply new → GuestStep g call claims reply new
-as_guest g call claims reply new honest s = subst
-    (λ (b : Bool). MatchBool b (RogueStep g call claims reply new) (HonestStep g call claims reply new))
-    (sym honest) s
-
-still_honest : (g : Guest) (call : Call) (claims : List Claim) (reply : Reply) (new : Guest)
-    → g.rogue ≡ false → is_scribbled call reply ≡ false → HonestStep g call claims reply new
-    → new.rogue ≡ false
-still_honest g call claims reply new honest none s = cases (step_keeps g call claims reply new step).rogue
-  where
-    step : GuestStep g call claims reply new
-    step = as_guest g call claims reply new honest s
-
-    scribble : (page offset : ℕ) (bytes : List ℕ)
-        → HonestStep g (Scribble page offset bytes) claims reply new
-        → is_scribbled (Scribble page offset bytes) reply ≡ false → new.rogue ≡ false
-    scribble page offset bytes s none =
-        elim (match_cases (refusal_of g (Scribble page offset bytes))
-        (Performs (Scribble page offset bytes) g claims reply new)
-        (λ refusal. (claims ≡ []) × (reply ≡ Refused refusal) × (new ≡ g)) s) [
-          | inr r ↦ ap (λ (x : Guest). x.rogue) r.2.2 ∙ honest
-          | inl p ↦
-              elim (supplying_cases (pages_needed page bytes g) g claims reply new
-              (λ m. Scribbled m reply new) p.1) [
-                | inr r ↦ ap (λ (x : Guest). x.rogue) r.2 ∙ honest
-                | inl m ↦ absurd (let wrong : true ≡ false =
-                    sym (ap (λ (r : Reply). is_scribbled (Scribble page offset bytes) r) m.answered)
-                    ∙ none in cc)
-              ]
-        ]
-
-    cases : (new.rogue ≡ g.rogue) ⊎ (MayBeRogue g call × IsRogueAfter g new) → new.rogue ≡ false
-    cases (inl same) = same ∙ honest
-    cases (inr (inl rogue, after)) =
-        absurd (let wrong : true ≡ false = sym rogue ∙ honest in cc)
-    cases (inr (inr is, after)) =
-        scribble is.0 is.1 is.2 (subst (λ (c : Call). HonestStep g c claims reply new) is.3 s)
-        (subst (λ (c : Call). is_scribbled c reply ≡ false) is.3 none)
-
--- what holds of each state
-pub record IsFit (g : Guest) : Type 0 where
-  pub honest : g.rogue ≡ false
-  pub consistent : IsConsistent g
-  pub orderly : IsOrderly g
-  pub blank : IsBlank g
-  pub attentive : IsAttentive g
-
-pub fresh_fit : (config : Config) (target : ℕ) → IsFit (fresh config target)
-fresh_fit config target =
-    record {
-      honest = refl;
-      consistent = fresh_consistent config target;
-      orderly = fresh_order config target;
-      blank = fresh_blank config target;
-      attentive = record {
-        inflating = λ other. refl;
-        deflating = λ other. refl;
-        reporting = λ other. refl;
-        buffered = refl;
-      };
-    }
-
-pub call_fit : (g : Guest) (call : Call) (claims : List Claim) (reply : Reply) (new : Guest)
-    → IsFit g → HonestStep g call claims reply new → new.rogue ≡ false → IsFit new
-call_fit g call claims reply new f s honest =
-    record {
-      honest = honest;
-      consistent = honest_keeps g call claims reply new f.consistent
-          (λ down. f.attentive.deflating (not_down g.status down)) s honest;
-      orderly = honest_order g call claims reply new f.consistent f.orderly s honest;
-      blank = honest_blank g call claims reply new f.blank s honest;
-      attentive = honest_attentive g call claims reply new f.orderly f.attentive s honest;
-    }
-
-entry_fit : (g : Guest) (entry : Entry) (new : Guest) → IsFit g → EntryStep g entry new → IsFit new
-entry_fit g (Looked floor answer) new f s = subst IsFit (sym s.1) f
-entry_fit g (Called actor call claims reply) new f s =
-    call_fit g call claims reply new f s.1 (still_honest g call claims reply new f.honest s.0 s.1)
-
-own_fit : (g : Guest) (own : Option Entry) (new : Guest) → IsFit g → OwnStep g own new → IsFit new
-own_fit g None new f s = subst IsFit (sym s) f
-own_fit g (Some entry) new f s = entry_fit g entry new f s
-
--- ---- states and entries of a course
-
-every_fit : (g : Guest) (entries : List (Option Entry)) (after : List Guest) → IsFit g
-    → Leads g entries after → (i : ℕ) (x : Guest) → slice_get (g ∷ after) i ≡ Some x → IsFit x
-every_fit g entries after f s zero x at = subst IsFit (same_some g x at) f
-every_fit g [] [] f s (suc i) x at = absurd cc
-every_fit g (own ∷ entries) (new ∷ after) f s (suc i) x at =
-    every_fit new entries after (own_fit g own new f s.0) s.1 i x at
-every_fit g [] (new ∷ after) f s (suc i) x at = absurd s
-every_fit g (own ∷ entries) [] f s (suc i) x at = absurd s
-
--- entry i leads from state i to the next
-record EntryAt (entries : List (Option Entry)) (i : ℕ) (before after : Guest) : Type 0 where
-  own : Option Entry
-  own_is : slice_get entries i ≡ Some own
-  step : OwnStep before own after
-
-every_step : (g : Guest) (entries : List (Option Entry)) (after : List Guest)
-    → Leads g entries after → (i : ℕ) (a b : Guest) → slice_get (g ∷ after) i ≡ Some a
-    → slice_get after i ≡ Some b → EntryAt entries i a b
-every_step g [] [] s i a b ha hb = absurd cc
-every_step g (own ∷ entries) (new ∷ after) s zero a b ha hb =
-    record {
-      own = own;
-      own_is = refl;
-      step = subst (λ (x : Guest). OwnStep x own b) (same_some g a ha)
-          (subst (λ (x : Guest). OwnStep g own x) (same_some new b hb) s.0);
-    }
-every_step g (own ∷ entries) (new ∷ after) s (suc i) a b ha hb =
-    let r = every_step new entries after s.1 i a b ha hb in
-    record { own = r.own; own_is = r.own_is; step = r.step }
-every_step g [] (new ∷ after) s i a b ha hb = absurd s
-every_step g (own ∷ entries) [] s i a b ha hb = absurd s
-
--- an entry is made in a state, and leads on
-record MadeIn (g : Guest) (after : List Guest) (i : ℕ) (entry : Entry) : Type 0 where
-  before : Guest
-  next : Guest
-  is_there : slice_get (g ∷ after) i ≡ Some before
-  step : EntryStep before entry next
-
-every_entry : (g : Guest) (entries : List (Option Entry)) (after : List Guest)
-    → Leads g entries after → (i : ℕ) (entry : Entry) → slice_get entries i ≡ Some (Some entry)
-    → MadeIn g after i entry
-every_entry g [] [] s i entry at = absurd cc
-every_entry g (own ∷ entries) (new ∷ after) s zero entry at =
-    let e : own ≡ Some entry = cc in
-    record {
-      before = g;
-      next = new;
-      is_there = refl;
-      step = subst (λ (x : Option Entry). OwnStep g x new) e s.0;
-    }
-every_entry g (own ∷ entries) (new ∷ after) s (suc i) entry at =
-    let r = every_entry new entries after s.1 i entry at in
-    record { before = r.before; next = r.next; is_there = r.is_there; step = r.step }
-every_entry g [] (new ∷ after) s i entry at = absurd s
-every_entry g (own ∷ entries) [] s i entry at = absurd s
-
--- what a course gives at each position
-record Positions (c : Course) : Type 0 where
-  fit : (i : ℕ) (g : Guest) → guest_after c i ≡ Some g → IsFit g
-  step : (i : ℕ) (a b : Guest) → guest_after c i ≡ Some a → guest_after c (i + 1) ≡ Some b
-      → EntryAt c.entries i a b
-  made : (i : ℕ) (entry : Entry) → slice_get c.entries i ≡ Some (Some entry)
-      → MadeIn c.first c.after i entry
-
-positions : (c : Course) → IsFit c.first → Leads c.first c.entries c.after → Positions c
-positions c f s =
-    record {
-      fit = λ i g at. every_fit c.first c.entries c.after f s i g at;
-      step = λ i a b ha hb.
-          let e : i + 1 ≡ suc i = omega arith in
-          every_step c.first c.entries c.after s i a b ha
-          (subst (λ (k : ℕ). guest_after c k ≡ Some b) e hb);
-      made = λ i entry at. every_entry c.first c.entries c.after s i entry at;
-    }
-
--- where there is a state, there are all before it
-there_below : {A : Type 0} (xs : List A) (i j : ℕ) (x : A) → i ≤ j → slice_get xs j ≡ Some x
-    → (y : A) × (slice_get xs i ≡ Some y)
-there_below [] i j x le at = absurd cc
-there_below (first ∷ xs) zero j x le at = (first, refl)
-there_below (first ∷ xs) (suc i) zero x le at = absurd (omega (arith, le))
-there_below (first ∷ xs) (suc i) (suc j) x le at = there_below xs i j x (omega (arith, le)) at
-
 -- ---- frames, contents, faults
 
 keeps_frame : (c : Course) → Positions c → (i page frame : ℕ) (g new : Guest)
@@ -315,9 +132,6 @@ not_broken c p i fault call reply (actor, claims, at) =
       λ e. let t : is_fault reply ≡ true = ap is_fault e in cc,
       λ e. let t : is_fault reply ≡ true = ap is_fault e in cc,
     )
-
-abbrev some_own : Option Entry → Option (Option Entry)
-some_own x = Some x
 
 keeps_contents : (c : Course) → Positions c → (i page : ℕ) (g new : Guest)
     → guest_after c i ≡ Some g → guest_after c (i + 1) ≡ Some new → ¬ IsWriteTo c page i
@@ -542,274 +356,6 @@ reads c p page i k offset len bytes g holds here (actor, claims, entry) =
           ∙ get_or-drop offset (contents_of last.0 page) j 0
           ∙ bytes_are c p page (offset + j) i k g last.0 holds here last.1,
     )
-
--- ---- handed out again
-
--- offered, or stranded by a reset since
-abbrev pub is_away : Place → Bool
-is_away Giving = true
-is_away Stranded = true
-is_away _ = false
-
--- a page that isn't back yet is offered
-pub away_offered : (place : Place) → is_away place ≡ true → is_offered place ≡ true
-away_offered Giving e = refl
-away_offered Stranded e = refl
-away_offered _ e = absurd cc
-
--- what event m did to a page that was offered
-data Turn (c : Course) (page m : ℕ) (g new : Guest) : Type 0 where
-  Kept : place_of new.places page ≡ place_of g.places page
-      → ((head : ℕ) (pages : List ℕ) → Only page head pages g.deflate
-      → Only page head pages new.deflate)
-      → Turn c page m g new
-  Gone : is_away (place_of new.places page) ≡ true → Turn c page m g new
-  Given : place_of new.places page ≡ Lent → ReapedAt Inflating c page m → Turn c page m g new
-  Wanted : place_of g.places page ≡ Lent
-      → place_of new.places page ≡ place_posted (tells_host g) Deflating
-      → (posts : DeflatePostedAt c page m) → posts.before ≡ g
-      → Only page posts.request.head posts.request.pages new.deflate
-      → Turn c page m g new
-  Returned : place_of g.places page ≡ Taking → place_of new.places page ≡ FreePlace
-      → (reaps : ReapedAt Deflating c page m)
-      → ((head : ℕ) (pages : List ℕ) → Only page head pages g.deflate
-      → (reaps.request.head ≡ head) × (reaps.request.pages ≡ pages))
-      → Turn c page m g new
-
-abbrev reaped_at : (kind : Kind) (c : Course) (page m : ℕ) (g : Guest) (actor : Actor) (call : Call)
-    (claims : List Claim) (reply : Reply) → guest_after c m ≡ Some g
-    → slice_get c.entries m ≡ Some (Some (Called actor call claims reply))
-    → Reaping kind page g call reply → ReapedAt kind c page m
-reaped_at kind c page m g actor call claims reply here at r =
-    record {
-      guest = g;
-      request = r.request;
-      others = r.others;
-      called = (
-        actor,
-        claims,
-        at ∙ ap (λ (x : Call). some_own (Some (Called actor x claims reply))) r.call_is
-            ∙ ap (λ (x : Reply). some_own (Some (Called actor (Reap (queue_of kind)) claims x)))
-            r.reply_is,
-      );
-      is_there = here;
-      done = r.done;
-      named = r.named;
-    }
-
-call_turns : (c : Course) (page m : ℕ) (g new : Guest) (actor : Actor) (call : Call)
-    (claims : List Claim) (reply : Reply) → guest_after c m ≡ Some g
-    → guest_after c (m + 1) ≡ Some new
-    → slice_get c.entries m ≡ Some (Some (Called actor call claims reply))
-    → PageMove page g new call reply → Turn c page m g new
-call_turns c page m g new actor call claims reply here next at (Stays e keeps) = Kept e keeps
-call_turns c page m g new actor call claims reply here next at (Strands e) = Gone (ap is_away e)
-call_turns c page m g new actor call claims reply here next at (Gives e) = Gone (ap is_away e)
-call_turns c page m g new actor call claims reply here next at (Lends e r) =
-    Given e (reaped_at Inflating c page m g actor call claims reply here at r)
-call_turns c page m g new actor call claims reply here next at (Asks was e a) =
-    Wanted was e (record {
-      before = g;
-      after = new;
-      call = call;
-      request = a.request;
-      called = (
-        actor,
-        claims,
-        at ∙ ap (λ (x : Reply). some_own (Some (Called actor call claims x))) a.reply_is,
-      );
-      asks = a.asks;
-      is_there = here;
-      follows = next;
-      posted = a.posted;
-      named = a.named;
-    }) refl a.only
-call_turns c page m g new actor call claims reply here next at (Frees was e r) =
-    Returned was e (reaped_at Deflating c page m g actor call claims reply here at r)
-    (λ head pages o. only_done page head pages r.request r.others g.deflate r.done r.named o)
-
--- one entry
-turns : (c : Course) (page m : ℕ) (g new : Guest) → Positions c → guest_after c m ≡ Some g
-    → guest_after c (m + 1) ≡ Some new → Offered page g → Turn c page m g new
-turns c page m g new p here next offered = by s.own s.own_is s.step
-  where
-    s : EntryAt c.entries m g new
-    s = p.step m g new here next
-
-    same : new ≡ g → Turn c page m g new
-    same e =
-        Kept (ap (λ (x : Guest). place_of x.places page) e)
-        (λ head pages o. subst (λ (x : Guest). Only page head pages x.deflate) (sym e) o)
-
-    by : (own : Option Entry) → slice_get c.entries m ≡ Some own → OwnStep g own new
-        → Turn c page m g new
-    by None at s = same s
-    by (Some (Looked floor answer)) at s = same s.1
-    by (Some (Called actor call claims reply)) at s =
-        call_turns c page m g new actor call claims reply here next at
-        (honest_moves call page g claims reply new (p.fit m g here).consistent s.1
-        (p.fit (m + 1) new next).honest offered)
-
--- where the page is in state m, and what happened since event i offered it
-data Since (c : Course) (page i m : ℕ) : Type 0 where
-  Away : (g : Guest) → guest_after c m ≡ Some g → is_away (place_of g.places page) ≡ true
-      → Since c page i m
-  AtHost : (g : Guest) → guest_after c m ≡ Some g → place_of g.places page ≡ Lent
-      → (lent : ℕ) → i < lent → lent < m → ReapedAt Inflating c page lent → Since c page i m
-  OnTheWay : (g : Guest) → guest_after c m ≡ Some g → place_of g.places page ≡ Taking
-      → (lent asked : ℕ) → i < lent → lent < asked → asked < m → ReapedAt Inflating c page lent
-      → (posts : DeflatePostedAt c page asked)
-      → Only page posts.request.head posts.request.pages g.deflate
-      → Since c page i m
-  CameBack : WasAskedBack c page i m → Since c page i m
-
--- a later event comes after all that happened
-longer : (c : Course) (page i m : ℕ) → WasAskedBack c page i m → WasAskedBack c page i (m + 1)
-longer c page i m b =
-    record {
-      lent = b.lent;
-      asked = b.asked;
-      since = b.since;
-      later = b.later;
-      before = omega (arith, b.before);
-      inflate = b.inflate;
-      deflate = b.deflate;
-      told = λ t. let r = b.told t in (r.0, r.1, omega (arith, r.2), r.3, r.4, r.5);
-    }
-
--- from one state to the next
-away_turns : (c : Course) (page i m : ℕ) (g new : Guest) → i < m
-    → guest_after c (m + 1) ≡ Some new → is_away (place_of g.places page) ≡ true
-    → Turn c page m g new → Since c page i (m + 1)
-away_turns c page i m g new lt next at (Kept e keeps) = Away new next (ap is_away e ∙ at)
-away_turns c page i m g new lt next at (Gone e) = Away new next e
-away_turns c page i m g new lt next at (Given e reaps) =
-    AtHost new next e m lt (omega arith) reaps
-away_turns c page i m g new lt next at (Wanted was e posts q only) =
-    absurd (let bad : false ≡ true = sym (ap is_away was) ∙ at in cc)
-away_turns c page i m g new lt next at (Returned was e reaps same) =
-    absurd (let bad : false ≡ true = sym (ap is_away was) ∙ at in cc)
-
-host_turns : (c : Course) (page i m : ℕ) (g new : Guest) → i < m
-    → guest_after c (m + 1) ≡ Some new → place_of g.places page ≡ Lent
-    → (lent : ℕ) → i < lent → lent < m → ReapedAt Inflating c page lent
-    → Turn c page m g new → Since c page i (m + 1)
-host_turns c page i m g new lt next at lent a b reaped (Kept e keeps) =
-    AtHost new next (e ∙ at) lent a (omega (arith, b)) reaped
-host_turns c page i m g new lt next at lent a b reaped (Gone e) = Away new next e
-host_turns c page i m g new lt next at lent a b reaped (Given e reaps) =
-    AtHost new next e m lt (omega arith) reaps
-host_turns c page i m g new lt next at lent a b reaped (Wanted was e posts q only) =
-    cases (tells_host g) refl
-  where
-    cases : (told : Bool) → tells_host g ≡ told → Since c page i (m + 1)
-    cases true u = OnTheWay new next
-        (e ∙ ap (λ (v : Bool). place_posted v Deflating) u) lent m a b (omega arith) reaped posts only
-    cases false u = CameBack (record {
-      lent = lent;
-      asked = m;
-      since = a;
-      later = b;
-      before = omega arith;
-      inflate = reaped;
-      deflate = posts;
-      told = λ t. absurd (let bad : true ≡ false =
-          sym t ∙ ap (λ (x : Guest). tells_host x) q ∙ u in cc);
-    })
-host_turns c page i m g new lt next at lent a b reaped (Returned was e reaps same) =
-    absurd (let bad : Lent ≡ Taking = sym at ∙ was in cc)
-
-way_turns : (c : Course) (page i m : ℕ) (g new : Guest) → i < m
-    → guest_after c (m + 1) ≡ Some new → place_of g.places page ≡ Taking
-    → (lent asked : ℕ) → i < lent → lent < asked → asked < m → ReapedAt Inflating c page lent
-    → (posts : DeflatePostedAt c page asked)
-    → Only page posts.request.head posts.request.pages g.deflate
-    → Turn c page m g new → Since c page i (m + 1)
-way_turns c page i m g new lt next at lent asked a b o reaped posts only (Kept e keeps) =
-    OnTheWay new next (e ∙ at) lent asked a b (omega (arith, o)) reaped posts
-    (keeps posts.request.head posts.request.pages only)
-way_turns c page i m g new lt next at lent asked a b o reaped posts only (Gone e) =
-    Away new next e
-way_turns c page i m g new lt next at lent asked a b o reaped posts only (Given e reaps) =
-    AtHost new next e m lt (omega arith) reaps
-way_turns c page i m g new lt next at lent asked a b o reaped posts only (Wanted was e other q u)
-    = absurd (let bad : Lent ≡ Taking = sym was ∙ at in cc)
-way_turns c page i m g new lt next at lent asked a b o reaped posts only
-    (Returned was e reaps same) =
-    let r = same posts.request.head posts.request.pages only in
-    CameBack (record {
-      lent = lent;
-      asked = asked;
-      since = a;
-      later = b;
-      before = omega (arith, o);
-      inflate = reaped;
-      deflate = posts;
-      told = λ t. (m, o, omega arith, reaps, r.0, r.1);
-    })
-
-since_step : (c : Course) (page i m : ℕ) (new : Guest) → Positions c → i < m
-    → guest_after c (m + 1) ≡ Some new → Since c page i m → Since c page i (m + 1)
-since_step c page i m new p lt next (CameBack b) = CameBack (longer c page i m b)
-since_step c page i m new p lt next (Away g here at) =
-    away_turns c page i m g new lt next at
-    (turns c page m g new p here next (away_offered (place_of g.places page) at))
-since_step c page i m new p lt next (AtHost g here at lent a b reaped) =
-    host_turns c page i m g new lt next at lent a b reaped
-    (turns c page m g new p here next (ap is_offered at))
-since_step c page i m new p lt next (OnTheWay g here at lent asked a b o reaped posts only) =
-    way_turns c page i m g new lt next at lent asked a b o reaped posts only
-    (turns c page m g new p here next (ap is_offered at))
-
-since_until : (c : Course) (page i k : ℕ) (last : Guest) → Positions c
-    → guest_after c (k + 1) ≡ Some last → BringsTo c page Giving i → (d m : ℕ) → m ≡ i + 1 + d
-    → m ≤ k → Since c page i m
-since_until c page i k last p end giving zero m e hi =
-    let q : i + 1 ≡ m = omega arith in
-    Away giving.1 (subst (λ (x : ℕ). guest_after c x ≡ Some giving.1) q giving.3)
-    (ap is_away giving.5)
-since_until c page i k last p end giving (suc d) m e hi =
-    let q : (i + 1 + d) + 1 ≡ m = omega arith in
-    let new = there_below (c.first ∷ c.after) (i + 1 + d + 1) (k + 1) last (omega (arith, e, hi)) end in
-    subst (λ (x : ℕ). Since c page i x) q
-    (since_step c page i (i + 1 + d) new.0 p (omega arith) new.1
-    (since_until c page i k last p end giving d (i + 1 + d) refl (omega arith)))
-
--- no turn hands an offered page out
-never_used : (c : Course) (page m : ℕ) (g new : Guest) → Offered page g → Turn c page m g new
-    → place_of new.places page ≢ Used
-never_used c page m g new offered (Kept e keeps) used =
-    let bad : false ≡ true = sym (ap is_offered used) ∙ (ap is_offered e ∙ offered) in
-    absurd cc
-never_used c page m g new offered (Gone e) used =
-    let bad : false ≡ true = sym (ap is_away used) ∙ e in absurd cc
-never_used c page m g new offered (Given e reaps) used =
-    let bad : Used ≡ Lent = sym used ∙ e in absurd cc
-never_used c page m g new offered (Wanted was e posts q only) used =
-    posted_unused (tells_host g) (sym e ∙ used)
-  where
-    posted_unused : (told : Bool) → place_posted told Deflating ≡ Used → ⊥
-    posted_unused true k = cc
-    posted_unused false k = cc
-never_used c page m g new offered (Returned was e reaps same) used =
-    let bad : Used ≡ FreePlace = sym used ∙ e in absurd cc
-
-told_first : (c : Course) → Positions c → (page i k : ℕ) → i < k → BringsTo c page Giving i
-    → BringsTo c page Used k → WasAskedBack c page i k
-told_first c p page i k lt giving used =
-    cases (since_until c page i k used.1 p used.3 giving (k - (i + 1)) k (omega arith) (omega arith))
-  where
-    refused : (g : Guest) → guest_after c k ≡ Some g → Offered page g → WasAskedBack c page i k
-    refused g here offered =
-        absurd (never_used c page k g used.1 offered (turns c page k g used.1 p here used.3 offered)
-        used.5)
-
-    cases : Since c page i k → WasAskedBack c page i k
-    cases (CameBack b) = b
-    cases (Away g here at) = refused g here (away_offered (place_of g.places page) at)
-    cases (AtHost g here at lent a b reaped) = refused g here (ap is_offered at)
-    cases (OnTheWay g here at lent asked a b o reaped posts only) =
-        refused g here (ap is_offered at)
 
 -- ---- a history
 
